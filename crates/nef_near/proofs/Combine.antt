@@ -3,7 +3,7 @@ use Rattle.std.proofs.Common.{◌≡◌, ℕ, zero, suc, ◌+◌, ◌*◌, ◌<�
 use Rattle.std.proofs.lemmas.Int.{ints}
 use Rattle.nef_exact.proofs.Order.{mul_le_right}
 use Rattle.nef_exact.specs.Signs.{Lies}
-use Rattle.nef_near.specs.Cones.{slide, FlatCone, label_and, label_or, label_not}
+use Rattle.nef_near.specs.Cones.{slide, FlatCone, label_and, label_or, label_not, label_less, label_one_of}
 use Rattle.nef_near.specs.Cells.{sign_at, frame, carriers, SameSigns}
 use Rattle.nef_space.specs.Place.{Place, Form, form_at, Ratio, step, Within, InFrame}
 use Rattle.nef_space.specs.Vectors.{Vector, IsDirection}
@@ -34,6 +34,32 @@ or-label a b p In In h i = (h.0, inl h.1)
 or-label a b p Not Out h i = i
 or-label a b p Not Not h i = (h.0, ⊎_elim h.1 i.1)
 or-label a b p Not In h i = (h.0, inr i.1)
+
+pub not-label : (a : Set) (p : Place) (m : Label) → HasLabel a p m → HasLabel (Set.other a) p (label_not m)
+unfolding Holds
+not-label a p Out h = h
+not-label a p Not h = h
+not-label a p In h = (h.0, λ n. n h.1)
+
+pub less-label : (a b : Set) (p : Place) (m k : Label) → HasLabel a p m → HasLabel b p k → HasLabel (Set.less a b) p (label_less m k)
+unfolding Holds
+less-label a b p Out k h i = h
+less-label a b p Not Out h i = i
+less-label a b p Not Not h i = (h.0, λ x. h.1 x.0)
+less-label a b p Not In h i = (h.0, λ x. h.1 x.0)
+less-label a b p In Out h i = i
+less-label a b p In Not h i = (h.0, (h.1, i.1))
+less-label a b p In In h i = (h.0, λ x. x.1 i.1)
+
+pub one_of-label : (a b : Set) (p : Place) (m k : Label) → HasLabel a p m → HasLabel b p k → HasLabel (Set.one_of a b) p (label_one_of m k)
+unfolding Holds
+one_of-label a b p Out k h i = h
+one_of-label a b p Not Out h i = i
+one_of-label a b p Not Not h i = (h.0, ⊎_elim (λ x. h.1 x.0) (λ x. i.1 x.1))
+one_of-label a b p Not In h i = (h.0, inr (h.1, i.1))
+one_of-label a b p In Out h i = i
+one_of-label a b p In Not h i = (h.0, inl (h.1, i.1))
+one_of-label a b p In In h i = (h.0, ⊎_elim (λ x. x.1 i.1) (λ x. x.0 h.1))
 
 pub shorter : (m n : ℕ) (t : Ratio) → m ≤ n → IsShort n t → IsShort m t
 shorter m n t l h =
