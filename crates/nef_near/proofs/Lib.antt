@@ -10,6 +10,7 @@ pub mod Frames
 pub mod NearGerms
 pub mod Decisions
 pub mod Topology
+pub mod FlatOperations
 pub mod Meets
 pub mod Segment
 pub mod FirstHit
