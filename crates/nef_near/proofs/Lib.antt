@@ -15,3 +15,4 @@ pub mod Meets
 pub mod Segment
 pub mod FirstHit
 pub mod Between
+pub mod FirstChange
