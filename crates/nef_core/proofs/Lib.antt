@@ -1,0 +1,4 @@
+pub mod Places
+pub mod Schedules
+pub mod Counting
+pub mod Deposits
