@@ -3,7 +3,7 @@ use Rattle.std.proofs.Common.{◌≡◌, ℕ, zero, suc, ◌+◌, ◌<◌, ◌�
 use Rattle.std.proofs.lemmas.Int.{ints}
 use Rattle.nef_exact.proofs.Ring.{ring, value, at, num, ◌⊕◌, ◌⊖◌, ◌⊗◌}
 use Rattle.nef_space.specs.Place.{Place, Form, Ratio, step, toward, Within, InFrame}
-use Rattle.nef_space.specs.Vectors.{Vector, zero_vector, blend}
+use Rattle.nef_space.specs.Vectors.{Vector, IsZero, zero_vector, blend}
 use Rattle.nef_space.specs.Sets.{Set, Holds, Interior, Closure}
 use Rattle.nef_space.specs.Local.{IsShort, HasLabel, Germ}
 use Rattle.nef_space.specs.declared.label.Label.{Label}
@@ -152,13 +152,17 @@ border-toward a p d = (
   λ h. (label-ahead (Set.border a) p d In).1 ((border-at a (ahead a p d)).1 ((somewhere-ahead a p d In).0 h.0, (somewhere-ahead a p d Not).0 h.1, (in-frame_ahead a p d).0 h.2)),
 )
 
+-- near d toward the zero vector is d itself
+pub near-germ_zero : (s : Set) (p : Place) (d e : Vector) (l : Label) → IsZero e → NearGerm s p d e l ↔ Germ s p d l
+near-germ_zero s p d e l z = (
+  λ g. (label-ahead s p d l).1 ((Germ-zero s (ahead s p d) e l z).0 ((near-ahead s p d e l).1 g)),
+  λ g. (near-ahead s p d e l).0 ((Germ-zero s (ahead s p d) e l z).1 ((label-ahead s p d l).0 g)),
+)
+
 -- ---- the regularisation
 -- the interior is In toward d where all germs near d are In
 pub inside-near : (a : Set) (p : Place) (d : Vector) → Germ (Set.inside a) p d In ↔ ((e : Vector) → NearGerm a p d e In)
-inside-near a p d = (λ g. ((inside-toward a p d).0 g).1, λ f. (inside-toward a p d).1 (near-zero (f zero_vector), f))
-  where
-    near-zero : NearGerm a p d zero_vector In → Germ a p d In
-    near-zero g = (label-ahead a p d In).1 ((Germ-zero a (ahead a p d) zero_vector In (refl, refl, refl)).0 ((near-ahead a p d zero_vector In).1 g))
+inside-near a p d = (λ g. ((inside-toward a p d).0 g).1, λ f. (inside-toward a p d).1 ((near-germ_zero a p d zero_vector In (refl, refl, refl)).0 (f zero_vector), f))
 
 pub regular-at : (a : Set) (p : Place) → HasLabel (Set.regular a) p In ↔ (InFrame p × ((d : Vector) × ((e : Vector) → NearGerm a p d e In)))
 regular-at a p = (λ h. let k = (closed-at (Set.inside a) p).0 ((regular-label a p In).0 h) in (k.0, there k.1), λ h. (regular-label a p In).1 ((closed-at (Set.inside a) p).1 (h.0, inr (h.1.0, (inside-near a p h.1.0).1 h.1.1))))
