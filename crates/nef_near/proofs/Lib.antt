@@ -16,3 +16,4 @@ pub mod Segment
 pub mod FirstHit
 pub mod Between
 pub mod FirstChange
+pub mod Examples

@@ -1,5 +1,6 @@
 //! The laws, grouped by their subject.
 
+ghost use Rattle.nef_near.specs.Examples.{HalvesDisjoint, TwoHalves, Wall, WallPart, Edge, PointAlone};
 ghost use Rattle.nef_near.specs.Laws.{HoldsByCell, LabelByCell, GermByCell, FlatByCell, FlatDimByCell, SignsAtSamePlace, HoldsAtSamePlace, LabelAtSamePlace, GermAtSamePlace, FlatDimAtSamePlace, LabelExists, LabelIsUnique, GermExists, GermIsUnique, SetIsItsCone, LabelAlongRay, GermBySlopes, GermTowardZero, NoGermOutInFrame, GermOutForAll, GermOnRay, NearGermExists, NearGermIsUnique, NearGermTowardZero, HoldsIsDecided, LabelIsDecided, GermIsDecided, NearGermIsDecided, Representatives, GermRepresentatives, AllGermsAreDecided, AllDirectionsAreDecided, AllNearGermsAreDecided, SameConeIsDecided, FlatIsFlatCone, FlatInCarriers, FlatCombination, FlatOutside, FlatDimOutside, FlatDimIsUnique, VertexIsMeet, LabelOfCombination, GermOfCombination, NearGermOfCombination, FlatOfTwo, FlatOfOne, InsideAt, ClosedAt, BorderAt, RegularAt, InsideToward, ClosedToward, BorderToward, RegularToward, SameSetBySameCones, SameConeIsSameNear, FlatBySameCone, FlatDimBySameCone, NearGermBySameCone, JoinedBySameSet, LabelAlongSegment, FlatDimAlongSegment, LabelChangesFirst};
 
 /// A set is constant on the cells of its carriers, which are the planes of its halves at any depth and
@@ -113,4 +114,15 @@ pub fn segment_laws()
     ensures label_along_segment { LabelAlongSegment }
     ensures flat_dim_along_segment { FlatDimAlongSegment }
     ensures label_changes_first { LabelChangesFirst }
+{}
+
+/// Closed examples at the origin: the union of two open half-spaces, a wall and a part of one, an edge
+/// where two planes meet, and a point.
+pub fn cone_examples()
+    ensures halves_disjoint { HalvesDisjoint }
+    ensures two_halves { TwoHalves }
+    ensures wall { Wall }
+    ensures wall_part { WallPart }
+    ensures edge { Edge }
+    ensures point { PointAlone }
 {}
