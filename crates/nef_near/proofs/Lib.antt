@@ -17,3 +17,4 @@ pub mod FirstHit
 pub mod Between
 pub mod FirstChange
 pub mod Examples
+pub mod FlatDecided

@@ -19,11 +19,11 @@ use Rattle.nef_near.proofs.Flats.{slope-slide, germ-toward}
 use Rattle.nef_near.proofs.Decided.{label_of}
 use Rattle.nef_near.proofs.Combine.{shorter}
 
-abbrev steep : List Form → Vector → ℕ
+abbrev pub steep : List Form → Vector → ℕ
 steep [] e = 1
 steep (h ∷ hs) e = nat_abs (slope h e) + steep hs e
 
-steep-one : (hs : List Form) (h : Form) (e : Vector) → Lies hs h → nat_abs (slope h e) < steep hs e
+pub steep-one : (hs : List Form) (h : Form) (e : Vector) → Lies hs h → nat_abs (slope h e) < steep hs e
 steep-one [] h e l = absurd l
 steep-one (k ∷ ks) h e (inl i) = subst (λ (g : Form). nat_abs (slope g e) < steep (k ∷ ks) e) i (omega (arith, steep-some ks))
   where
@@ -33,7 +33,7 @@ steep-one (k ∷ ks) h e (inl i) = subst (λ (g : Form). nat_abs (slope g e) < s
 steep-one (k ∷ ks) h e (inr l) = let i = steep-one ks h e l in omega arith
 
 -- a large multiple decides
-sign-large : (x y : ℤ) (k : ℕ) → nat_abs y < k → (sign x ≡ nought → ⊥) → sign (pos k *ℤ x +ℤ pos 1 *ℤ y) ≡ sign x
+pub sign-large : (x y : ℤ) (k : ℕ) → nat_abs y < k → (sign x ≡ nought → ⊥) → sign (pos k *ℤ x +ℤ pos 1 *ℤ y) ≡ sign x
 sign-large (pos zero) y k h n = absurd (n refl)
 sign-large (pos (suc x)) y k h n = let a = mul_le_right (pos 1) (pos (suc x)) (pos k) (omega (arith, ints)) (omega (arith, ints)) in let b = ring (pos k ∷ pos (suc x) ∷ []) (at 0 ⊗ at 1) (at 1 ⊗ at 0) tt in
     sign-plus (pos k *ℤ pos (suc x) +ℤ pos 1 *ℤ y) (omega (arith, ints))
