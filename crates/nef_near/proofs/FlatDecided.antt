@@ -1,7 +1,7 @@
 -- The flat directions of a point are decided, and so is how many independent ones there are.
 use Rattle.std.proofs.Common.{◌≡◌, ℕ, zero, suc, ◌+◌, ◌*◌, ◌<◌, ◌≤◌, ℤ, pos, negsuc, ◌+ℤ◌, ◌-ℤ◌, ◌*ℤ◌, neg_ℤ, ◌≤ℤ◌, ◌<ℤ◌, nat_abs, arith, refl, ap, sym, ◌∙◌, ◌⊎◌, inl, inr, ⊎_elim, ◌↔◌, List, [], ◌∷◌, ◌++◌, subst}
 use Rattle.std.proofs.lemmas.Int.{ints}
-use Rattle.std.proofs.Math.Nat.{le-mul_of_pos_right}
+use Rattle.std.proofs.lemmas.Bool.{cases_order}
 use Rattle.nef_exact.specs.Signs.{Sign, minus, nought, plus, sign, sign_times, Lies}
 use Rattle.nef_exact.proofs.Ring.{ring, value, at, num, neg, ◌⊕◌, ◌⊖◌, ◌⊗◌}
 use Rattle.nef_exact.proofs.Combination.{given, none, follows, follows_times}
@@ -18,6 +18,7 @@ use Rattle.nef_near.proofs.Germs.{Germ-unique}
 use Rattle.nef_near.proofs.Flats.{Flat-from_cone, FlatCone-from_flat, Germ-by_signs, slope-slide, vector-same}
 use Rattle.nef_near.proofs.Decided.{Decided, germ_of, every, decided-both, decided-not}
 use Rattle.nef_near.proofs.Rays.{zero-or, square-some}
+use Rattle.nef_near.proofs.Alike.{FlatDim-one}
 use Rattle.nef_near.proofs.NearGerms.{steep, steep-one, sign-large}
 use Rattle.nef_near.proofs.Decisions.{representatives, ahead, near-ahead, near-germ_of, near-germ_one, same-label_or}
 use Rattle.nef_near.proofs.Between.{parallel-x, parallel-y, parallel-z, cross-of_multiples}
@@ -215,7 +216,7 @@ triple-dot d e f = ring (d.x ∷ d.y ∷ d.z ∷ e.x ∷ e.y ∷ e.z ∷ f.x ∷
     (at 0 ⊗ (at 4 ⊗ at 8 ⊖ at 5 ⊗ at 7) ⊕ at 1 ⊗ (at 5 ⊗ at 6 ⊖ at 3 ⊗ at 8) ⊕ at 2 ⊗ (at 3 ⊗ at 7 ⊖ at 4 ⊗ at 6))
     ((at 1 ⊗ at 5 ⊖ at 2 ⊗ at 4) ⊗ at 6 ⊕ (at 2 ⊗ at 3 ⊖ at 0 ⊗ at 5) ⊗ at 7 ⊕ (at 0 ⊗ at 4 ⊖ at 1 ⊗ at 3) ⊗ at 8) tt
 
-cross-turned : (d e : Vector) → IsZero (cross d e) → IsZero (cross e d)
+pub cross-turned : (d e : Vector) → IsZero (cross d e) → IsZero (cross e d)
 cross-turned d e z = (one d.y d.z e.y e.z z.0, one d.z d.x e.z e.x z.1, one d.x d.y e.x e.y z.2)
   where
     one : (a b c f : ℤ) → a *ℤ f -ℤ b *ℤ c ≡ pos 0 → c *ℤ b -ℤ f *ℤ a ≡ pos 0
@@ -261,3 +262,11 @@ flat_dim-of s p = first (find-flat s p numbers)
     first : ((d : Vector) × FlatCone s p d × (AllZero numbers d → ⊥)) ⊎ ((d : Vector) → FlatCone s p d → AllZero numbers d) → (k : ℕ) × FlatDim s p k
     first (inl (d, g, n)) = second d (λ z. n ((numbers-zero d).1 z)) g (find-flat s p (crosses d))
     first (inr all) = (0, (tt, λ o. o.1 ((numbers-zero o.0).0 (all o.0 (cone o.0 o.2)))))
+
+pub flat_dim-decided : (s : Set) (p : Place) (k : ℕ) → Decided (FlatDim s p k)
+flat_dim-decided s p k =
+    let j = flat_dim-of s p in
+    ⊎_elim (λ e. inl (subst (FlatDim s p) e j.1)) (λ n. inr (λ f. n (FlatDim-one s p j.0 k j.1 f))) (same-or j.0 k)
+  where
+    same-or : (m n : ℕ) → (m ≡ n) ⊎ (m ≡ n → ⊥)
+    same-or m n = ⊎_elim (λ e. inl e) (λ d. inr (λ e. ⊎_elim (λ l. omega arith) (λ l. omega arith) d)) (cases_order m n)

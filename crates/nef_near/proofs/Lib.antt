@@ -18,3 +18,5 @@ pub mod Between
 pub mod FirstChange
 pub mod Examples
 pub mod FlatDecided
+pub mod Even
+pub mod Generic
