@@ -1,0 +1,9 @@
+pub mod Limits
+pub mod Numbers
+pub mod Lists
+pub mod Vectors
+pub mod Place
+pub mod Sets
+pub mod Local
+pub mod Labels
+pub mod Laws
