@@ -38,3 +38,14 @@ query_weight_limit = 2 ^ 32
 -- the size of a whole number that a script's word may spell
 abbrev pub number_limit : ℕ
 number_limit = 2 ^ 62
+
+-- the numbers of the upward direction (up_x, up_y, 1): each is larger than all that the later ones add up to against normals within normal_limit
+abbrev pub up_x : ℕ
+up_x = 2 ^ 26
+
+abbrev pub up_y : ℕ
+up_y = 2 ^ 13
+
+-- how often the axis of a plane goes into its second direction: more than the product of any two normals' numbers
+abbrev pub axis_factor : ℕ
+axis_factor = 2 ^ 24

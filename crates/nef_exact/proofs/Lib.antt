@@ -1,0 +1,9 @@
+pub mod Products
+pub mod Ring
+pub mod Order
+pub mod Combination
+pub mod Fractions
+pub mod Sizes
+pub mod Machine
+pub mod Samples
+pub mod Examples

@@ -1,0 +1,5 @@
+pub mod Polynomial
+pub mod Machine
+pub mod Signs
+pub mod Linear
+pub mod Laws
