@@ -25,7 +25,7 @@ pub record Strictly (p q r : Place) : Type 0 where
   pub is_z : pos k *ℤ r.z ≡ pos i *ℤ p.z +ℤ pos j *ℤ q.z
   pub is_w : pos k *ℤ pos r.w ≡ pos i *ℤ pos p.w +ℤ pos j *ℤ pos q.w
 
-form-strictly : (h : Form) (p q r : Place) (s : Strictly p q r) → pos s.k *ℤ form_at h r ≡ pos s.i *ℤ form_at h p +ℤ pos s.j *ℤ form_at h q
+pub form-strictly : (h : Form) (p q r : Place) (s : Strictly p q r) → pos s.k *ℤ form_at h r ≡ pos s.i *ℤ form_at h p +ℤ pos s.j *ℤ form_at h q
 form-strictly h p q r s =
     let a = at 0 in let b = at 1 in let c = at 2 in let d = at 3 in
     let k = at 16 in let i = at 17 in let j = at 18 in
@@ -40,7 +40,7 @@ form-strictly h p q r s =
 sign-scaled : (k : ℕ) (x : ℤ) → 0 < k → sign (pos k *ℤ x) ≡ sign x
 sign-scaled k x h = sign_of_product (pos k) x ∙ ap (λ r. sign_times r (sign x)) (sign-plus (pos k) (omega (arith, ints)))
 
-sign-strictly : (h : Form) (p q r : Place) → Strictly p q r → crosses h p q ≡ false → sign_at h r ≡ joint (sign_at h p) (sign_at h q)
+pub sign-strictly : (h : Form) (p q r : Place) → Strictly p q r → crosses h p q ≡ false → sign_at h r ≡ joint (sign_at h p) (sign_at h q)
 sign-strictly h p q r s c = sym (sign-scaled s.k (form_at h r) s.some_k) ∙ ap sign (form-strictly h p q r s) ∙ sign-inside (form_at h p) (form_at h q) s.i s.j s.some_i s.some_j c
 
 -- ---- where s lies, with r0 strictly between p and q
@@ -76,7 +76,7 @@ part-same x y u v k i j k0 i0 j0 e f g =
 
 module _ (p q r s : Place) (a : Strictly p q r) (b : Strictly p q s) where
   -- s is before r, at r or after r
-  before-at-after : Strictly p r s ⊎ ((h : Form) → sign_at h s ≡ sign_at h r) ⊎ Strictly r q s
+  pub before-at-after : Strictly p r s ⊎ ((h : Form) → sign_at h s ≡ sign_at h r) ⊎ Strictly r q s
   before-at-after = by (cases_order (b.j * a.i) (a.j * b.i))
     where
       by : (b.j * a.i ≡ a.j * b.i) ⊎ ((b.j * a.i < a.j * b.i) ⊎ (a.j * b.i < b.j * a.i)) → Strictly p r s ⊎ ((h : Form) → sign_at h s ≡ sign_at h r) ⊎ Strictly r q s
@@ -109,7 +109,7 @@ module _ (p q r s : Place) (a : Strictly p q r) (b : Strictly p q s) where
       }))
 
 -- strictly between, through a point strictly between
-strictly-mix : (i : ℕ) (p : Place) (j : ℕ) (q : Place) (s : 0 < i + j) → 0 < i → 0 < j → Strictly p q (mix i p j q s)
+pub strictly-mix : (i : ℕ) (p : Place) (j : ℕ) (q : Place) (s : 0 < i + j) → 0 < i → 0 < j → Strictly p q (mix i p j q s)
 strictly-mix i p j q s a b = record { k = 1; i = i; j = j; some_k = omega arith; some_i = a; some_j = b; is_x = omega (arith, ints); is_y = omega (arith, ints); is_z = omega (arith, ints); is_w = omega (arith, ints) }
 
 inner-one : (x y u v : ℤ) (k i j l m n : ℕ) → pos k *ℤ u ≡ pos i *ℤ x +ℤ pos j *ℤ y → pos l *ℤ v ≡ pos m *ℤ x +ℤ pos n *ℤ u → pos (l * k) *ℤ v ≡ pos (m * k + n * i) *ℤ x +ℤ pos (n * j) *ℤ y

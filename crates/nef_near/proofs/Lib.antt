@@ -5,7 +5,9 @@ pub mod Flats
 pub mod Decided
 pub mod Rays
 pub mod Combine
+pub mod Alike
 pub mod NearGerms
 pub mod Meets
 pub mod Segment
 pub mod FirstHit
+pub mod Between

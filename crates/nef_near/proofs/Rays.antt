@@ -5,10 +5,10 @@ use Rattle.std.proofs.Math.Nat.{mul-pos}
 use Rattle.nef_exact.specs.Signs.{Sign, minus, nought, plus, sign, sign_times, Lies}
 use Rattle.nef_exact.proofs.Ring.{ring, value, at, num, ◌⊕◌, ◌⊖◌, ◌⊗◌}
 use Rattle.nef_exact.proofs.Combination.{given, none, follows}
-use Rattle.nef_exact.proofs.Order.{sign-plus, sign_of_product, by_order}
-use Rattle.nef_space.specs.Place.{Place, Form, form_at, slope, Ratio, step, Within, SamePlace, InFrame, toward}
-use Rattle.nef_space.specs.Vectors.{Vector, IsZero, IsDirection, SameDirection}
-use Rattle.nef_space.specs.Sets.{Set, Holds}
+use Rattle.nef_exact.proofs.Order.{sign-plus, plus-is, sign_of_product, by_order, square_nonneg, mul_pos}
+use Rattle.nef_space.specs.Place.{Place, Form, form, form_at, slope, Ratio, step, Within, SamePlace, InFrame, toward}
+use Rattle.nef_space.specs.Vectors.{Vector, dot, IsZero, IsDirection, IsParallel, SameDirection}
+use Rattle.nef_space.specs.Sets.{Set, Holds, halves}
 use Rattle.nef_space.specs.Local.{IsShort, HasLabel, Germ}
 use Rattle.nef_space.specs.declared.label.Label.{Label}
 use Rattle.nef_space.specs.declared.label.Label.TheVariants.{Out, Not, In}
@@ -99,3 +99,60 @@ Germ-cells s p q d e l same slopes (n, some, f) =
         (λ n. keeps-all (carriers s) p (step p t d) (step-within (reach_all (carriers s) p) p d t short) g i n ∙ same g i
         ∙ sym (keeps-all (carriers s) q (step q u e) (step-within (reach_all (carriers s) q) q e u h) g i (λ o. n (same g i ∙ o))))
         (is_nought (sign_at g p))
+
+-- ---- equal directions
+zero-or_positive : (x : ℤ) → pos 0 ≤ℤ x → (x ≡ pos 0) ⊎ pos 0 <ℤ x
+zero-or_positive x h = by_order x (pos 0) (λ b. absurd (omega (arith, ints))) (λ e. inl e) (λ b. inr b)
+
+pub square-least : (e : Vector) → pos 0 ≤ℤ dot e e
+square-least e = let x = square_nonneg e.x in let y = square_nonneg e.y in let z = square_nonneg e.z in omega (arith, ints)
+
+-- a factor of a positive product is positive where the other one is
+pub positive-factor : (k x : ℤ) → pos 0 <ℤ k → pos 0 <ℤ (k *ℤ x) → pos 0 <ℤ x
+positive-factor k x h g = plus-is x (sym (sign_of_product k x ∙ ap (λ r. sign_times r (sign x)) (sign-plus k h)) ∙ sign-plus (k *ℤ x) g)
+
+-- the square of a direction is positive
+pub square-some : (e : Vector) → IsDirection e → pos 0 <ℤ dot e e
+square-some e some = ⊎_elim (λ z. absurd (some (parts z))) (λ h. h) (zero-or_positive (dot e e) (square-least e))
+  where
+    root : (x : ℤ) → x *ℤ x ≡ pos 0 → x ≡ pos 0
+    root (pos zero) h = refl
+    root (pos (suc n)) h = let a = mul_pos (pos (suc n)) (pos (suc n)) (omega (arith, ints)) (omega (arith, ints)) in absurd (omega (arith, ints))
+    root (negsuc n) h = let a = mul_pos (pos (suc n)) (pos (suc n)) (omega (arith, ints)) (omega (arith, ints)) in absurd (omega (arith, ints))
+
+    parts : dot e e ≡ pos 0 → IsZero e
+    parts z = let x = square_nonneg e.x in let y = square_nonneg e.y in let w = square_nonneg e.z in
+        (root e.x (omega (arith, ints)), root e.y (omega (arith, ints)), root e.z (omega (arith, ints)))
+
+-- the square of a vector that has a positive product with another one
+pub square-positive : (d e : Vector) → SameDirection d e → pos 0 <ℤ dot e e
+square-positive d e s = square-some e (λ z. let f = s.forward in let g = slope-zero (form d.x d.y d.z (pos 0)) e z in nothing (dot d e) f g)
+  where
+    nothing : (x : ℤ) → pos 0 <ℤ x → x ≡ pos 0 → ⊥
+    nothing x h k = omega (arith, ints)
+
+-- (e.e)(h.d) = (d.e)(h.e)
+slopes-match : (h : Form) (d e : Vector) → IsParallel d e → dot e e *ℤ slope h d ≡ dot d e *ℤ slope h e
+slopes-match h d e c = let x = at 0 in let y = at 1 in let z = at 2 in let u = at 3 in let v = at 4 in let w = at 5 in
+    let a = at 6 in let b = at 7 in let f = at 8 in
+    follows (d.x ∷ d.y ∷ d.z ∷ e.x ∷ e.y ∷ e.z ∷ h.a ∷ h.b ∷ h.c ∷ [])
+    ((u ⊗ u ⊕ v ⊗ v ⊕ w ⊗ w) ⊗ (a ⊗ x ⊕ b ⊗ y ⊕ f ⊗ z)) ((x ⊗ u ⊕ y ⊗ v ⊕ z ⊗ w) ⊗ (a ⊗ u ⊕ b ⊗ v ⊕ f ⊗ w))
+    (given (b ⊗ w ⊖ f ⊗ v) (y ⊗ w ⊖ z ⊗ v) (num (pos 0)) c.0
+    (given (f ⊗ u ⊖ a ⊗ w) (z ⊗ u ⊖ x ⊗ w) (num (pos 0)) c.1
+    (given (a ⊗ v ⊖ b ⊗ u) (x ⊗ v ⊖ y ⊗ u) (num (pos 0)) c.2 none))) tt
+
+sign-positive : (k x : ℤ) → pos 0 <ℤ k → sign (k *ℤ x) ≡ sign x
+sign-positive k x h = sign_of_product k x ∙ ap (λ r. sign_times r (sign x)) (sign-plus k h)
+
+pub slope-same : (h : Form) (d e : Vector) → SameDirection d e → sign (slope h d) ≡ sign (slope h e)
+slope-same h d e s = sym (sign-positive (dot e e) (slope h d) (square-positive d e s)) ∙ ap sign (slopes-match h d e s.parallel) ∙ sign-positive (dot d e) (slope h e) s.forward
+
+-- ---- equal points and equal directions
+pub signs-same : (hs : List Form) (p q : Place) → SamePlace p q → SameSigns hs p q
+signs-same hs p q s h l = sign-same h p q s
+
+pub Holds-same : (s : Set) (p q : Place) → SameSigns (carriers s) p q → Holds s p → Holds s q
+Holds-same s = Holds-cells (carriers s) (λ h l. lies-left frame (halves s) h l) s (λ h l. lies-right frame (halves s) h l)
+
+pub Germ-same : (s : Set) (p q : Place) (d e : Vector) (l : Label) → SamePlace p q → SameDirection d e → Germ s p d l → Germ s q e l
+Germ-same s p q d e l same way = Germ-cells s p q d e l (signs-same (carriers s) p q same) (λ h i o. slope-same h d e way)

@@ -43,8 +43,21 @@ form-mix h i p j q s = ring (h.a ∷ h.b ∷ h.c ∷ h.d ∷ p.x ∷ p.y ∷ p.z
     (at 0 ⊗ (at 12 ⊗ at 4 ⊕ at 13 ⊗ at 8) ⊕ at 1 ⊗ (at 12 ⊗ at 5 ⊕ at 13 ⊗ at 9) ⊕ at 2 ⊗ (at 12 ⊗ at 6 ⊕ at 13 ⊗ at 10) ⊕ at 3 ⊗ (at 12 ⊗ at 7 ⊕ at 13 ⊗ at 11))
     (at 12 ⊗ (at 0 ⊗ at 4 ⊕ at 1 ⊗ at 5 ⊕ at 2 ⊗ at 6 ⊕ at 3 ⊗ at 7) ⊕ at 13 ⊗ (at 0 ⊗ at 8 ⊕ at 1 ⊗ at 9 ⊕ at 2 ⊗ at 10 ⊕ at 3 ⊗ at 11)) tt
 
-between-mix : (i : ℕ) (p : Place) (j : ℕ) (q : Place) (s : 0 < i + j) → Between p q (mix i p j q s)
+pub between-mix : (i : ℕ) (p : Place) (j : ℕ) (q : Place) (s : 0 < i + j) → Between p q (mix i p j q s)
 between-mix i p j q s = record { k = 1; i = i; j = j; some_k = omega arith; some = s; is_x = omega (arith, ints); is_y = omega (arith, ints); is_z = omega (arith, ints); is_w = omega arith }
+
+pub between-turned : (p q r : Place) → Between p q r → Between q p r
+between-turned p q r a = record {
+  k = a.k;
+  i = a.j;
+  j = a.i;
+  some_k = a.some_k;
+  some = (let h = a.some in omega arith);
+  is_x = omega (arith, ints, a.is_x);
+  is_y = omega (arith, ints, a.is_y);
+  is_z = omega (arith, ints, a.is_z);
+  is_w = omega (arith, a.is_w);
+}
 
 -- a mix that is mostly p is close to p
 mix-close-one : (n m v : ℕ) (x y : ℤ) (w : ℕ) → 0 < v → n * nat_abs (gap y w x v) < m → n * nat_abs (gap (pos m *ℤ x +ℤ pos 1 *ℤ y) (m * v + 1 * w) x v) < (m * v + 1 * w) * v
@@ -100,9 +113,9 @@ abbrev pub crossings : List Form → Place → Place → ℕ
 crossings [] p q = 0
 crossings (h ∷ hs) p q = weight (crosses h p q) + crossings hs p q
 
--- the truth of P does not change near r
-abbrev pub Settled : (Place → Type 0) → Place → Type 0
-Settled P r = (n : ℕ) × (0 < n) × ((s : Place) → Within n r s → P r ↔ P s)
+-- the truth of P does not change near r, along the segment from p to q
+abbrev pub Settled : (Place → Type 0) → Place → Place → Place → Type 0
+Settled P p q r = (n : ℕ) × (0 < n) × ((s : Place) → Between p q s → Within n r s → P r ↔ P s)
 
 module _ (p q : Place) where
   pub find-crossing : (hs : List Form) → ((h : Form) → Lies hs h → crosses h p q ≡ false) ⊎ ((h : Form) × Lies hs h × (crosses h p q ≡ true))
@@ -223,23 +236,23 @@ between-right p q s i j t a b c = record {
 
 module _ (hs : List Form) (P : Place → Type 0) (C : Cells hs P) where
   -- no carrier crosses
-  open-segment : (p q : Place) → Settled P p → Settled P q → ((h : Form) → Lies hs h → crosses h p q ≡ false) → P p → P q
+  open-segment : (p q : Place) → Settled P p q p → Settled P p q q → ((h : Form) → Lies hs h → crosses h p q ≡ false) → P p → P q
   open-segment p q (n, a, f) (m, b, g) none x =
       let k = n * far p q + 1 in
       let l = m * far q p + 1 in
       let s : 0 < k + 1 = omega arith in
       let t : 0 < l + 1 = omega arith in
       let u : 0 < 1 + l = omega arith in
-      let y = (f (mix k p 1 q s) (mix-close n k p q s (omega arith))).0 x in
+      let y = (f (mix k p 1 q s) (between-mix k p 1 q s) (mix-close n k p q s (omega arith))).0 x in
       let z = C (mix k p 1 q s) (mix 1 p l q u) (inside-same hs p q k 1 1 l s u (omega arith) (omega arith) (omega arith) (omega arith) none) y in
       let w = C (mix 1 p l q u) (mix l q 1 p t) (λ h i. ap sign (form-mix h 1 p l q u ∙ swap h ∙ sym (form-mix h l q 1 p t))) z in
-      (g (mix l q 1 p t) (mix-close m l q p t (omega arith))).1 w
+      (g (mix l q 1 p t) (between-turned q p (mix l q 1 p t) (between-mix l q 1 p t)) (mix-close m l q p t (omega arith))).1 w
     where
       swap : (h : Form) → pos 1 *ℤ form_at h p +ℤ pos (m * far q p + 1) *ℤ form_at h q ≡ pos (m * far q p + 1) *ℤ form_at h q +ℤ pos 1 *ℤ form_at h p
       swap h = omega (arith, ints)
 
   -- WHAT IS SETTLED ALONG A SEGMENT IS THE SAME AT BOTH ENDS
-  pub settled-segment : (n : ℕ) (p q : Place) → crossings hs p q < n → ((r : Place) → Between p q r → Settled P r) → P p → P q
+  pub settled-segment : (n : ℕ) (p q : Place) → crossings hs p q < n → ((r : Place) → Between p q r → Settled P p q r) → P p → P q
   settled-segment zero p q l S x = absurd (omega arith)
   settled-segment (suc n) p q l S x = by (λ r s k T y. settled-segment n r s k T y) (find-crossing p q hs)
     where
@@ -249,7 +262,7 @@ module _ (hs : List Form) (P : Place → Type 0) (C : Cells hs P) where
       end-q : Between p q q
       end-q = record { k = 1; i = 0; j = 1; some_k = omega arith; some = omega arith; is_x = omega (arith, ints); is_y = omega (arith, ints); is_z = omega (arith, ints); is_w = omega arith }
 
-      by : ((r s : Place) → crossings hs r s < n → ((t : Place) → Between r s t → Settled P t) → P r → P s)
+      by : ((r s : Place) → crossings hs r s < n → ((t : Place) → Between r s t → Settled P r s t) → P r → P s)
           → ((h : Form) → Lies hs h → crosses h p q ≡ false) ⊎ ((h : Form) × Lies hs h × (crosses h p q ≡ true)) → P q
       by again (inl none) = open-segment p q (S p end-p) (S q end-q) none x
       by again (inr (h, m, c)) =
@@ -264,9 +277,13 @@ module _ (hs : List Form) (P : Place → Type 0) (C : Cells hs P) where
           let next : Fewer p q r q hs = λ k v e. ap (λ (z : Sign). opposite z (sign_at k q)) (signs k e) ∙ opposite-right (sign_at k p) (sign_at k q) e in
           let first = crossings-less p q p r hs near h m c (ap (opposite (sign_at h p)) zero-at ∙ to-nought (sign_at h p)) in
           let second = crossings-less p q r q hs next h m c (ap (λ (z : Sign). opposite z (sign_at h q)) zero-at) in
-          again r q (omega arith) (λ u w. S u (between-right p q u i j t b.1 b.0 w))
-          (again p r (omega arith) (λ u w. S u (between-left p q r u i j t b.1 b.0 w)) x)
+          again r q (omega arith) (λ u w. narrow u (S u (between-right p q u i j t b.1 b.0 w)) r q (λ v k. between-right p q v i j t b.1 b.0 k))
+          (again p r (omega arith) (λ u w. narrow u (S u (between-left p q r u i j t b.1 b.0 w)) p r (λ v k. between-left p q r v i j t b.1 b.0 k)) x)
         where
+          -- what is settled along the segment is settled along a part of it
+          narrow : (u : Place) → Settled P p q u → (r s : Place) → ((v : Place) → Between r s v → Between p q v) → Settled P r s u
+          narrow u (n, a, f) r s g = (n, a, λ v k c. f v (g v k) c)
+
           to-nought : (s : Sign) → opposite s nought ≡ false
           to-nought minus = refl
           to-nought nought = refl

@@ -2,3 +2,7 @@
 //!
 //! A law is a function with an empty body: its clauses are the law's statements, which stand in specs/Laws.antt.
 #![tactic(auto)]
+
+mod laws;
+
+pub use laws::cell_laws;
