@@ -1,22 +1,22 @@
 -- A point between two others is a positive combination of them, and the other way round; rays near a point.
-use Rattle.std.proofs.Common.{◌≡◌, ℕ, zero, suc, ◌+◌, ◌*◌, ◌<◌, ◌≤◌, ℤ, pos, negsuc, ◌+ℤ◌, ◌-ℤ◌, ◌*ℤ◌, ◌≤ℤ◌, ◌<ℤ◌, nat_abs, arith, refl, ap, sym, ◌∙◌, ◌⊎◌, inl, inr, ⊎_elim, ◌↔◌, List, [], ◌∷◌, subst, false}
+use Rattle.std.proofs.Common.{◌≡◌, ℕ, zero, suc, ◌+◌, ◌*◌, ◌<◌, ℤ, pos, negsuc, ◌+ℤ◌, ◌-ℤ◌, ◌*ℤ◌, ◌<ℤ◌, arith, refl, ap, sym, ◌∙◌, ◌⊎◌, inl, inr, ⊎_elim, ◌↔◌, List, [], ◌∷◌, subst, false}
 use Rattle.std.proofs.lemmas.Int.{ints}
 use Rattle.std.proofs.Math.Nat.{mul-pos}
-use Rattle.nef_exact.specs.Signs.{Sign, minus, nought, plus, sign, Lies}
-use Rattle.nef_exact.proofs.Ring.{ring, value, at, num, ◌⊕◌, ◌⊖◌, ◌⊗◌, Poly}
+use Rattle.nef_exact.specs.Signs.{Sign, minus, nought, plus}
+use Rattle.nef_exact.proofs.Ring.{ring, at, num, ◌⊕◌, ◌⊖◌, ◌⊗◌}
 use Rattle.nef_exact.proofs.Combination.{given, none, follows, follows_times}
-use Rattle.nef_exact.proofs.Order.{mul_pos, square_nonneg, lt_by}
-use Rattle.nef_space.specs.Place.{Place, Form, form_at, Within, SamePlace, toward, IsBetween}
+use Rattle.nef_exact.proofs.Order.{mul_pos}
+use Rattle.nef_space.specs.Place.{Place, Form, Within, SamePlace, toward, IsBetween}
 use Rattle.nef_space.specs.Vectors.{Vector, dot, IsZero, IsDirection, IsParallel, SameDirection}
 use Rattle.nef_space.specs.Sets.{Set}
 use Rattle.nef_space.specs.Local.{HasLabel}
 use Rattle.nef_space.specs.declared.label.Label.{Label}
 use Rattle.nef_near.specs.Cells.{sign_at, carriers, SameSigns}
 use Rattle.nef_near.specs.Cones.{IsOnSegment}
-use Rattle.nef_near.proofs.Cells.{same-sym, reach_all, reach-some, keeps-all, is_nought}
+use Rattle.nef_near.proofs.Cells.{same-sym, reach_all, keeps-all, is_nought}
 use Rattle.nef_near.proofs.Germs.{Label-cells}
 use Rattle.nef_near.proofs.Rays.{square-positive, square-some, positive-factor, toward-same, same-place_sym, decided-zero}
-use Rattle.nef_near.proofs.Segment.{Between, crosses, opposite, joint}
+use Rattle.nef_near.proofs.Segment.{Between, opposite, joint}
 use Rattle.nef_near.proofs.FirstHit.{Strictly, sign-strictly}
 
 -- ---- from IsBetween to a combination

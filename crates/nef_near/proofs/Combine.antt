@@ -1,14 +1,12 @@
 -- The germ of a combination is the combination of the germs, so it is flat where both operands are.
-use Rattle.std.proofs.Common.{◌≡◌, ℕ, zero, suc, ◌+◌, ◌*◌, ◌<◌, ◌≤◌, ℤ, pos, negsuc, ◌+ℤ◌, ◌-ℤ◌, ◌*ℤ◌, neg_ℤ, ◌≤ℤ◌, ◌<ℤ◌, nat_abs, arith, refl, ap, sym, ◌∙◌, ◌⊎◌, inl, inr, ⊎_elim, ◌↔◌, List, [], ◌∷◌, ◌++◌, subst}
+use Rattle.std.proofs.Common.{ℕ, ◌+◌, ◌≤◌, pos, ◌*ℤ◌, ◌<ℤ◌, arith, inl, inr, ⊎_elim, subst}
 use Rattle.std.proofs.lemmas.Int.{ints}
 use Rattle.nef_exact.proofs.Order.{mul_le_right}
-use Rattle.nef_exact.specs.Signs.{Lies}
 use Rattle.nef_near.specs.Laws.{LabelsCombine}
 use Rattle.nef_near.specs.Cones.{slide, NearGerm, FlatCone, label_and, label_or, label_not, label_less, label_one_of}
-use Rattle.nef_near.specs.Cells.{sign_at, frame, carriers, SameSigns}
-use Rattle.nef_space.specs.Place.{Place, Form, form_at, Ratio, step, Within, InFrame}
+use Rattle.nef_space.specs.Place.{Place, Ratio, step}
 use Rattle.nef_space.specs.Vectors.{Vector, IsDirection, blend}
-use Rattle.nef_space.specs.Sets.{Set, Holds, Interior, Closure, InHalf}
+use Rattle.nef_space.specs.Sets.{Set, Holds}
 use Rattle.nef_space.specs.Local.{IsShort, HasLabel, Germ, Flat, IsVertex}
 use Rattle.nef_space.specs.declared.label.Label.{Label}
 use Rattle.nef_space.specs.declared.label.Label.TheVariants.{Out, Not, In}

@@ -1,26 +1,26 @@
 -- Along a segment whose points have equally many flat directions the cone doesn't change.
-use Rattle.std.proofs.Common.{◌≡◌, ℕ, zero, suc, ◌+◌, ◌*◌, ◌<◌, ◌≤◌, ℤ, pos, negsuc, ◌+ℤ◌, ◌-ℤ◌, ◌*ℤ◌, neg_ℤ, ◌≤ℤ◌, ◌<ℤ◌, nat_abs, arith, refl, ap, sym, ◌∙◌, ◌⊎◌, inl, inr, ⊎_elim, ◌↔◌, List, [], ◌∷◌, ◌++◌, subst}
+use Rattle.std.proofs.Common.{◌≡◌, ℕ, zero, suc, ◌+◌, ◌*◌, ◌<◌, ◌≤◌, ℤ, pos, negsuc, ◌+ℤ◌, ◌-ℤ◌, ◌*ℤ◌, ◌<ℤ◌, arith, refl, ap, sym, ◌∙◌, inl, inr, ⊎_elim, ◌↔◌, List, [], ◌∷◌, ◌++◌, subst}
 use Rattle.std.proofs.lemmas.Int.{ints}
 use Rattle.std.proofs.Math.Nat.{le-mul_of_pos_right}
-use Rattle.nef_exact.specs.Signs.{Sign, minus, nought, plus, sign, sign_times, Lies}
-use Rattle.nef_exact.proofs.Ring.{ring, value, at, num, neg, ◌⊕◌, ◌⊖◌, ◌⊗◌, Poly}
-use Rattle.nef_exact.proofs.Combination.{given, none, follows, follows_times}
+use Rattle.nef_exact.specs.Signs.{sign, sign_times}
+use Rattle.nef_exact.proofs.Ring.{ring, at, num, ◌⊕◌, ◌⊖◌, ◌⊗◌, Poly}
+use Rattle.nef_exact.proofs.Combination.{given, none, follows}
 use Rattle.nef_exact.proofs.Order.{nought-is, sign-plus, sign_of_product, by_order}
-use Rattle.nef_space.specs.Place.{Place, Form, form, form_at, slope, Ratio, step, Within, SamePlace, toward, IsBetween}
-use Rattle.nef_space.specs.Vectors.{Vector, zero_vector, blend, dot, cross, triple, IsZero, IsDirection, SameDirection}
+use Rattle.nef_space.specs.Place.{Place, Form, slope, Within, SamePlace, toward, IsBetween}
+use Rattle.nef_space.specs.Vectors.{Vector, zero_vector, blend, dot, cross, triple, IsZero, IsDirection}
 use Rattle.nef_space.specs.Sets.{Set}
-use Rattle.nef_space.specs.Local.{HasLabel, Germ, Flat, HasFlat, FlatDim, IsEven, IsEvenPath, Joined}
+use Rattle.nef_space.specs.Local.{HasLabel, Germ, Flat, FlatDim, IsEven, IsEvenPath, Joined}
 use Rattle.nef_space.specs.declared.label.Label.{Label}
-use Rattle.nef_near.specs.Cells.{sign_at, carriers, SameSigns, SameSlopesAt}
+use Rattle.nef_near.specs.Cells.{sign_at, carriers, SameSigns}
 use Rattle.nef_near.specs.Cones.{slide, combination, NearGerm, FlatCone, IsOnSegment}
 use Rattle.nef_near.specs.Laws.{IsSettled, SameGerms}
 use Rattle.nef_near.proofs.Near.{step-within}
-use Rattle.nef_near.proofs.Cells.{same-sym, reach_all, reach-some, keeps-all, is_nought, Cells}
-use Rattle.nef_near.proofs.Germs.{Germ-unique, near-same, sign-along, sample, sample-short, short_enough}
+use Rattle.nef_near.proofs.Cells.{reach_all, reach-some, keeps-all, is_nought, Cells}
+use Rattle.nef_near.proofs.Germs.{Germ-unique, near-same, sign-along, sample, sample-short}
 use Rattle.nef_near.proofs.Flats.{Flat-from_cone, FlatCone-from_flat, FlatCone-from_carriers, vector-same, sign-toward}
 use Rattle.nef_near.proofs.Rays.{zero-or, decided-zero, square-some, toward-same, toward-self, same-place_sym, signs-same, Germ-zero}
 use Rattle.nef_near.proofs.Alike.{germs-by_cell, FlatDim-by_germs, FlatDim-one}
-use Rattle.nef_near.proofs.Decisions.{ahead, near-ahead, near-germ_of, near-germ_one}
+use Rattle.nef_near.proofs.Decisions.{ahead, near-ahead, near-germ_of}
 use Rattle.nef_near.proofs.FlatOperations.{flat-combination}
 use Rattle.nef_near.proofs.FlatDecided.{near-of_flat, flat-by_signs, cross-turned, flat_dim-of}
 use Rattle.nef_near.proofs.Between.{parallel-x, parallel-y, parallel-z, strictly-from_between, strictly-same}
@@ -171,9 +171,9 @@ same-cone_near : (s : Set) (k : ℕ) (p q : Place) → FlatDim s p k → FlatDim
 same-cone_near s k p q f g c v l = ⊎_elim
     (λ z. germs-by_cell s p q (signs-same (carriers s) p q (toward-same p q z)) v l)
     (λ i.
-        let a = near-of_flat s p (toward p q) (FlatCone-from_flat s p (toward p q) (flat-way s k p q f g c i)) v l in
-        let b = germ-nearby s p q c v l in
-        (λ h. b.1 (a.0 h), λ h. a.1 (b.0 h)))
+    let a = near-of_flat s p (toward p q) (FlatCone-from_flat s p (toward p q) (flat-way s k p q f g c i)) v l in
+    let b = germ-nearby s p q c v l in
+    (λ h. b.1 (a.0 h), λ h. a.1 (b.0 h)))
     (decided-zero (toward p q))
 
 -- ---- along even segments and paths
@@ -185,11 +185,15 @@ pub even-germs : (s : Set) (k : ℕ) (p q : Place) → IsEven s k p q → SameGe
 even-germs s k p q even = settled-along (carriers s) (SameGerms s p) (germs-cells s p) p q settled (λ v l. (λ h. h, λ h. h))
   where
     settled : IsSettled (SameGerms s p) p q
-    settled r on = (reach_all (carriers s) r, reach-some (carriers s) r, λ t there c.
-        let e = same-cone_near s k r t (even r on) (even t there) c in (
-          λ f v l. let g = f v l in let i = e v l in (λ h. i.0 (g.0 h), λ h. g.1 (i.1 h)),
-          λ f v l. let g = f v l in let i = e v l in (λ h. i.1 (g.0 h), λ h. g.1 (i.0 h)),
-        ))
+    settled r on = (
+      reach_all (carriers s) r,
+      reach-some (carriers s) r,
+      λ t there c.
+          let e = same-cone_near s k r t (even r on) (even t there) c in (
+            λ f v l. let g = f v l in let i = e v l in (λ h. i.0 (g.0 h), λ h. g.1 (i.1 h)),
+            λ f v l. let g = f v l in let i = e v l in (λ h. i.1 (g.0 h), λ h. g.1 (i.0 h)),
+          ),
+    )
 
 pub path-germs : (s : Set) (k : ℕ) (p : Place) (rs : List Place) (q : Place) → IsEvenPath s k p rs q → SameGerms s p q
 path-germs s k p [] q f = even-germs s k p q f

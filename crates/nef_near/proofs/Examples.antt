@@ -1,22 +1,21 @@
 -- The closed examples.
-use Rattle.std.proofs.Common.{◌≡◌, ℕ, zero, suc, ◌+◌, ◌*◌, ◌<◌, ◌≤◌, ℤ, pos, negsuc, ◌+ℤ◌, ◌-ℤ◌, ◌*ℤ◌, neg_ℤ, ◌≤ℤ◌, ◌<ℤ◌, nat_abs, arith, refl, ap, sym, ◌∙◌, ◌⊎◌, inl, inr, ⊎_elim, ◌↔◌, List, [], ◌∷◌, ◌++◌, subst, Bool, true, false, cond, IsTrue, ◌&&◌}
+use Rattle.std.proofs.Common.{◌≡◌, zero, suc, ◌+◌, ◌*◌, ◌<◌, ℤ, pos, negsuc, ◌+ℤ◌, ◌-ℤ◌, ◌*ℤ◌, neg_ℤ, ◌≤ℤ◌, ◌<ℤ◌, nat_abs, arith, refl, ap, ◌∙◌, inl, inr, ⊎_elim, List, [], ◌∷◌, subst, Bool, true, false, cond}
 use Rattle.std.proofs.lemmas.Int.{ints}
-use Rattle.nef_exact.specs.Signs.{Sign, minus, nought, plus, sign, Lies}
-use Rattle.nef_exact.proofs.Ring.{ring, value, at, num, ◌⊕◌, ◌⊖◌, ◌⊗◌}
+use Rattle.nef_exact.specs.Signs.{nought, sign}
+use Rattle.nef_exact.proofs.Ring.{ring, at, num, ◌⊕◌, ◌⊖◌, ◌⊗◌}
 use Rattle.nef_exact.proofs.Combination.{given, none, follows}
 use Rattle.nef_exact.proofs.Order.{by_order}
 use Rattle.nef_space.specs.Laws.{origin}
 use Rattle.nef_space.specs.Place.{Place, Form, form_at, slope, Ratio, step, InFrame}
-use Rattle.nef_space.specs.Vectors.{Vector, vector, opposite, zero_vector, blend, IsZero, IsDirection, cross, triple}
+use Rattle.nef_space.specs.Vectors.{Vector, vector, zero_vector, blend, IsZero, cross, triple}
 use Rattle.nef_space.specs.Sets.{Set, Holds}
-use Rattle.nef_space.specs.Local.{IsShort, HasLabel, SameSet, Germ, Flat, HasFlat, FlatDim, IsVertex}
+use Rattle.nef_space.specs.Local.{HasLabel, Germ, Flat}
 use Rattle.nef_space.specs.declared.label.Label.{Label}
 use Rattle.nef_space.specs.declared.label.Label.TheVariants.{Out, Not, In}
 use Rattle.nef_near.specs.Cells.{sign_at, carriers, IsInAllAt}
-use Rattle.nef_near.specs.Cones.{slide, NearGerm, FlatCone}
+use Rattle.nef_near.specs.Cones.{slide, NearGerm}
 use Rattle.nef_near.specs.Examples.{x_below, x_above, y_below, y_above, z_below, z_above, x_axis, y_axis, z_axis, two_halves, wall, wall_part, wedge, point, HalvesDisjoint, TwoHalves, Wall, WallPart, Edge, PointAlone}
 use Rattle.nef_near.proofs.Near.{form-step}
-use Rattle.nef_near.proofs.Germs.{Germ-unique, label-one}
 use Rattle.nef_near.proofs.Flats.{Flat-from_cone, FlatCone-from_flat, FlatCone-from_carriers, vector-same}
 use Rattle.nef_near.proofs.Rays.{Germ-zero}
 use Rattle.nef_near.proofs.Decided.{germ_of}
@@ -214,16 +213,22 @@ pub wall-part : WallPart
 unfolding Holds
 wall-part = record {
   label = (here, λ h. let k = h.1 in omega (arith, ints));
-  of_closure = (closed-at wall_part origin).1 (here, inr (vector (pos 0) (negsuc 0) (pos 0), (
-    1,
-    omega arith,
-    λ t short.
-        let a = short.0 in
-        let b = short.1 in
-        let x : nat_abs (pos 0 *ℤ pos t.b +ℤ t.a *ℤ pos 1 *ℤ pos 0) < 2048 * (1 * t.b) = omega (arith, ints) in
-        let y : nat_abs (pos 0 *ℤ pos t.b +ℤ t.a *ℤ pos 1 *ℤ negsuc 0) < 2048 * (1 * t.b) = omega (arith, ints) in
-        (record { along_x = x; along_y = y; along_z = x }, ((omega (arith, ints), omega (arith, ints)), omega (arith, ints))),
-  )));
+  of_closure = (closed-at wall_part origin).1 (
+    here,
+    inr (
+      vector (pos 0) (negsuc 0) (pos 0),
+      (
+        1,
+        omega arith,
+        λ t short.
+            let a = short.0 in
+            let b = short.1 in
+            let x : nat_abs (pos 0 *ℤ pos t.b +ℤ t.a *ℤ pos 1 *ℤ pos 0) < 2048 * (1 * t.b) = omega (arith, ints) in
+            let y : nat_abs (pos 0 *ℤ pos t.b +ℤ t.a *ℤ pos 1 *ℤ negsuc 0) < 2048 * (1 * t.b) = omega (arith, ints) in
+            (record { along_x = x; along_y = y; along_z = x }, ((omega (arith, ints), omega (arith, ints)), omega (arith, ints))),
+      ),
+    ),
+  );
 }
 
 -- ---- an edge
@@ -302,8 +307,11 @@ unfolding Holds
 point-facts = record {
   label = point-in;
   of_boundary = (border-at point origin).1 (inl point-in, inr (x_axis, point-not), here);
-  of_regularisation = (here, λ i.
-      let r = ((regular-at point origin).0 (here, i)).1 in
-      wall-thin r.0 (λ e. let g = r.1 e in (g.0, λ k h. (both-germs wall (Set.both (Set.both (Set.half y_below true) (Set.half y_above true)) (Set.both (Set.half z_below true) (Set.half z_above true))) origin (blend k r.0 1 e) (g.1 k h)).0)));
+  of_regularisation = (
+    here,
+    λ i.
+        let r = ((regular-at point origin).0 (here, i)).1 in
+        wall-thin r.0 (λ e. let g = r.1 e in (g.0, λ k h. (both-germs wall (Set.both (Set.both (Set.half y_below true) (Set.half y_above true)) (Set.both (Set.half z_below true) (Set.half z_above true))) origin (blend k r.0 1 e) (g.1 k h)).0)),
+  );
   is_vertex = (tt, λ h. h.1 (point-germ h.0 (flat-germ point origin h.0 In h.2 point-in)));
 }

@@ -1,15 +1,14 @@
 -- The first point of a segment from which on a decided predicate doesn't hold any more.
-use Rattle.std.proofs.Common.{◌≡◌, ℕ, zero, suc, ◌+◌, ◌<◌, ◌≤◌, ℤ, pos, arith, refl, ap, sym, ◌∙◌, ◌⊎◌, inl, inr, ⊎_elim, ◌↔◌, List, [], ◌∷◌, true, false}
-use Rattle.nef_exact.specs.Signs.{sign, Lies}
-use Rattle.nef_space.specs.Place.{Place, Form, Within, SamePlace, toward, IsBetween}
-use Rattle.nef_space.specs.Vectors.{Vector, IsZero, IsDirection, SameDirection}
-use Rattle.nef_near.specs.Cells.{sign_at, SameSigns}
+use Rattle.std.proofs.Common.{◌≡◌, ℕ, zero, suc, ◌<◌, arith, refl, sym, ◌∙◌, ◌⊎◌, inl, inr, ⊎_elim, List, true, false}
+use Rattle.nef_exact.specs.Signs.{Lies}
+use Rattle.nef_space.specs.Place.{Place, Form, Within, toward, IsBetween}
+use Rattle.nef_space.specs.Vectors.{IsZero, IsDirection}
+use Rattle.nef_near.specs.Cells.{SameSigns}
 use Rattle.nef_near.specs.Laws.{IsSettled, FirstChange}
-use Rattle.nef_near.specs.Cones.{IsOnSegment}
 use Rattle.nef_near.proofs.Cells.{Cells}
-use Rattle.nef_near.proofs.Rays.{decided-zero, square-positive, signs-same, same-place_sym, toward-self, direction-of_same}
+use Rattle.nef_near.proofs.Rays.{decided-zero, signs-same, same-place_sym, toward-self, direction-of_same}
 use Rattle.nef_near.proofs.Segment.{mix, crosses, crossings, find-crossing, settled-segment}
-use Rattle.nef_near.proofs.FirstHit.{Strictly, sign-strictly, strictly-mix, strictly-left, strictly-right, strictly-turned, nearer, before-at-after, split, Split, First, first-hit}
+use Rattle.nef_near.proofs.FirstHit.{Strictly, sign-strictly, strictly-mix, strictly-left, strictly-right, strictly-turned, nearer, before-at-after, split, First, first-hit}
 use Rattle.nef_near.proofs.Between.{strictly-from_between, between-from_strictly, strictly-same, on-segment_of}
 
 -- P stands at p. It fails right after p, or it stands up to x and fails at x or right after x

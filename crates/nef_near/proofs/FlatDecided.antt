@@ -1,15 +1,15 @@
 -- The flat directions of a point are decided, and so is how many independent ones there are.
-use Rattle.std.proofs.Common.{◌≡◌, ℕ, zero, suc, ◌+◌, ◌*◌, ◌<◌, ◌≤◌, ℤ, pos, negsuc, ◌+ℤ◌, ◌-ℤ◌, ◌*ℤ◌, neg_ℤ, ◌≤ℤ◌, ◌<ℤ◌, nat_abs, arith, refl, ap, sym, ◌∙◌, ◌⊎◌, inl, inr, ⊎_elim, ◌↔◌, List, [], ◌∷◌, ◌++◌, subst}
+use Rattle.std.proofs.Common.{◌≡◌, ℕ, ◌+◌, ◌<◌, ◌≤◌, ℤ, pos, negsuc, ◌+ℤ◌, ◌-ℤ◌, ◌*ℤ◌, neg_ℤ, nat_abs, arith, refl, ap, sym, ◌∙◌, ◌⊎◌, inl, inr, ⊎_elim, ◌↔◌, List, [], ◌∷◌, ◌++◌, subst}
 use Rattle.std.proofs.lemmas.Int.{ints}
 use Rattle.std.proofs.lemmas.Bool.{cases_order}
-use Rattle.nef_exact.specs.Signs.{Sign, minus, nought, plus, sign, sign_times, Lies}
-use Rattle.nef_exact.proofs.Ring.{ring, value, at, num, neg, ◌⊕◌, ◌⊖◌, ◌⊗◌}
+use Rattle.nef_exact.specs.Signs.{nought, sign, sign_times, Lies}
+use Rattle.nef_exact.proofs.Ring.{ring, at, num, neg, ◌⊕◌, ◌⊖◌, ◌⊗◌}
 use Rattle.nef_exact.proofs.Combination.{given, none, follows, follows_times}
 use Rattle.nef_exact.proofs.Order.{nought-is, sign-plus, sign_of_product}
 use Rattle.nef_space.specs.Place.{Place, Form, form, slope}
-use Rattle.nef_space.specs.Vectors.{Vector, blend, dot, cross, triple, IsZero, IsDirection, IsParallel}
+use Rattle.nef_space.specs.Vectors.{Vector, blend, dot, cross, triple, IsZero, IsDirection}
 use Rattle.nef_space.specs.Sets.{Set}
-use Rattle.nef_space.specs.Local.{Germ, Flat, HasFlat, FlatDim}
+use Rattle.nef_space.specs.Local.{Germ, Flat, FlatDim}
 use Rattle.nef_space.specs.declared.label.Label.{Label}
 use Rattle.nef_near.specs.Cells.{sign_at, carriers, SameSlopes, SameSlopesAt}
 use Rattle.nef_near.specs.Cones.{slide, NearGerm, FlatCone}
@@ -20,7 +20,7 @@ use Rattle.nef_near.proofs.Decided.{Decided, germ_of, every, decided-both, decid
 use Rattle.nef_near.proofs.Rays.{zero-or, square-some}
 use Rattle.nef_near.proofs.Alike.{FlatDim-one}
 use Rattle.nef_near.proofs.NearGerms.{steep, steep-one, sign-large}
-use Rattle.nef_near.proofs.Decisions.{representatives, ahead, near-ahead, near-germ_of, near-germ_one, same-label_or}
+use Rattle.nef_near.proofs.Decisions.{representatives, near-germ_of, near-germ_one, same-label_or}
 use Rattle.nef_near.proofs.Between.{parallel-x, parallel-y, parallel-z, cross-of_multiples}
 
 -- ---- what decides the germs near a direction
@@ -115,17 +115,17 @@ flat-decided s p d = by (representatives (carriers s))
     by (vs, r) = ⊎_elim
         (λ c. inr (λ f. let v = c.0 in let g = germ_of s p v in let h = near-germ_of s p d v in c.2 (near-germ_one s p d v g.0 h.0 ((near-of_flat s p d f v g.0).0 g.1) h.1)))
         (λ all. inl (flat-of_near s p d (λ v l.
-            let w = r v in
-            let g = germ_of s p w.0 in
-            let h = near-germ_of s p d w.0 in
-            let e = all w.0 w.1 in (
-              λ i.
-                  let j = Germ-unique s p w.0 g.0 l g.1 (Germ-by_signs s p v w.0 (λ k m o. w.2 k m) l i) in
-                  near-by_signs s p d d w.0 v l (λ k m o. refl) (λ k m o z. sym (w.2 k m)) (subst (NearGerm s p d w.0) (sym e ∙ j) h.1),
-              λ i.
-                  let j = near-germ_one s p d w.0 h.0 l h.1 (near-by_signs s p d d v w.0 l (λ k m o. refl) (λ k m o z. w.2 k m) i) in
-                  Germ-by_signs s p w.0 v (λ k m o. sym (w.2 k m)) l (subst (Germ s p w.0) (e ∙ j) g.1),
-            ))))
+        let w = r v in
+        let g = germ_of s p w.0 in
+        let h = near-germ_of s p d w.0 in
+        let e = all w.0 w.1 in (
+          λ i.
+              let j = Germ-unique s p w.0 g.0 l g.1 (Germ-by_signs s p v w.0 (λ k m o. w.2 k m) l i) in
+              near-by_signs s p d d w.0 v l (λ k m o. refl) (λ k m o z. sym (w.2 k m)) (subst (NearGerm s p d w.0) (sym e ∙ j) h.1),
+          λ i.
+              let j = near-germ_one s p d w.0 h.0 l h.1 (near-by_signs s p d d v w.0 l (λ k m o. refl) (λ k m o z. w.2 k m) i) in
+              Germ-by_signs s p w.0 v (λ k m o. sym (w.2 k m)) l (subst (Germ s p w.0) (e ∙ j) g.1),
+        ))))
         (every vs (λ v. (germ_of s p v).0 ≡ (near-germ_of s p d v).0) (λ v. same-label_or (germ_of s p v).0 (near-germ_of s p d v).0))
 
 -- ---- a flat direction at which some form of a list isn't zero
@@ -145,10 +145,10 @@ find-flat s p gs = by (representatives (carriers s ++ gs))
     by (vs, r) = ⊎_elim
         (λ c. inl (found c.0 c.2 (flat-decided s p c.0) (all-zero_decided gs c.0)))
         (λ all. inr (λ e f.
-            let w = r e in
-            let g = flat-by_signs s p e w.0 (λ h i o. w.2 h (lies-left (carriers s) gs h i)) f in
-            let same : SameSlopes gs e w.0 = λ h i. w.2 h (lies-right (carriers s) gs h i) in
-            ⊎_elim (λ z. all-zero_same gs e w.0 same z) (λ n. absurd (all w.0 w.1 (g, n))) (all-zero_decided gs w.0)))
+        let w = r e in
+        let g = flat-by_signs s p e w.0 (λ h i o. w.2 h (lies-left (carriers s) gs h i)) f in
+        let same : SameSlopes gs e w.0 = λ h i. w.2 h (lies-right (carriers s) gs h i) in
+        ⊎_elim (λ z. all-zero_same gs e w.0 same z) (λ n. absurd (all w.0 w.1 (g, n))) (all-zero_decided gs w.0)))
         (every vs (λ v. FlatCone s p v × (AllZero gs v → ⊥) → ⊥) (λ v. decided-not (decided-both (flat-decided s p v) (decided-not (all-zero_decided gs v)))))
       where
         found : (v : Vector) → ((FlatCone s p v × (AllZero gs v → ⊥) → ⊥) → ⊥) → Decided (FlatCone s p v) → Decided (AllZero gs v) → (e : Vector) × FlatCone s p e × (AllZero gs e → ⊥)

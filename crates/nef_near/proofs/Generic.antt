@@ -1,15 +1,14 @@
 -- Directions in general position.
-use Rattle.std.proofs.Common.{◌≡◌, ℕ, zero, suc, ◌+◌, ◌<◌, ◌≤◌, ℤ, pos, ◌+ℤ◌, ◌*ℤ◌, ◌<ℤ◌, nat_abs, arith, refl, ap, sym, ◌∙◌, ◌⊎◌, inl, inr, ⊎_elim, List, [], ◌∷◌, subst}
-use Rattle.std.proofs.lemmas.Int.{ints}
-use Rattle.nef_exact.specs.Signs.{Sign, minus, nought, plus, sign, Lies}
-use Rattle.nef_exact.proofs.Ring.{ring, value, at, num, ◌⊕◌, ◌⊗◌}
+use Rattle.std.proofs.Common.{◌≡◌, ℕ, ◌<◌, pos, ◌+ℤ◌, ◌*ℤ◌, nat_abs, refl, ap, sym, ◌∙◌, inl, inr, ⊎_elim, List, [], ◌∷◌, subst}
+use Rattle.nef_exact.specs.Signs.{Sign, nought, plus, sign, Lies}
+use Rattle.nef_exact.proofs.Ring.{ring, at, num, ◌⊕◌, ◌⊗◌}
 use Rattle.nef_exact.proofs.Order.{nought-is, sign-plus}
 use Rattle.nef_space.specs.Place.{Form, slope, normal_of}
-use Rattle.nef_space.specs.Vectors.{Vector, zero_vector, blend, dot, IsDirection}
+use Rattle.nef_space.specs.Vectors.{Vector, zero_vector, blend, IsDirection}
 use Rattle.nef_near.proofs.Cells.{is_nought}
 use Rattle.nef_near.proofs.Flats.{slope-slide}
 use Rattle.nef_near.proofs.NearGerms.{steep, steep-one, sign-large}
-use Rattle.nef_near.proofs.Rays.{zero-or, square-some}
+use Rattle.nef_near.proofs.Rays.{square-some}
 
 -- k v + g, for large k: the sign at v, and where that is nought, the sign at g
 sign-beside : (h : Form) (k : ℕ) (v g : Vector) → nat_abs (slope h g) < k → (sign (slope h v) ≡ nought → ⊥) → sign (slope h (blend k v 1 g)) ≡ sign (slope h v)
@@ -29,11 +28,13 @@ off-all (k ∷ ks) some = by (off-all ks (λ h l. some h (inr l)))
     by : (g : Vector) × ((h : Form) → Lies ks h → sign (slope h g) ≡ nought → ⊥) → (g : Vector) × ((h : Form) → Lies (k ∷ ks) h → sign (slope h g) ≡ nought → ⊥)
     by (g, f) = ⊎_elim
         (λ z.
-            let n = normal_of k in
-            let m = steep ks n in
-            (blend m g 1 n, λ h l. ⊎_elim
-                (λ e. subst (λ (x : Form). sign (slope x (blend m g 1 n)) ≡ nought → ⊥) e (λ o. up (sign (slope k n)) (sign-plus (slope k n) (square-some n (some k (inl refl)))) (sym (sign-within k m g n z) ∙ o)))
-                (λ i o. f h i (sym (sign-beside h m g n (steep-one ks h n i) (f h i)) ∙ o)) l))
+        let n = normal_of k in
+        let m = steep ks n in (
+          blend m g 1 n,
+          λ h l. ⊎_elim
+              (λ e. subst (λ (x : Form). sign (slope x (blend m g 1 n)) ≡ nought → ⊥) e (λ o. up (sign (slope k n)) (sign-plus (slope k n) (square-some n (some k (inl refl)))) (sym (sign-within k m g n z) ∙ o)))
+              (λ i o. f h i (sym (sign-beside h m g n (steep-one ks h n i) (f h i)) ∙ o)) l,
+        ))
         (λ n. (g, λ h l. ⊎_elim (λ e. subst (λ (x : Form). sign (slope x g) ≡ nought → ⊥) e n) (f h) l))
         (is_nought (sign (slope k g)))
       where

@@ -1,20 +1,20 @@
 -- The germ at a point of a ray is the germ near the ray's direction; so the interior is read off the germs.
-use Rattle.std.proofs.Common.{◌≡◌, ℕ, zero, suc, ◌+◌, ◌*◌, ◌<◌, ◌≤◌, ℤ, pos, negsuc, ◌+ℤ◌, ◌-ℤ◌, ◌*ℤ◌, neg_ℤ, ◌≤ℤ◌, ◌<ℤ◌, nat_abs, arith, refl, ap, sym, ◌∙◌, ◌⊎◌, inl, inr, ⊎_elim, ◌↔◌, List, [], ◌∷◌, subst}
-use Rattle.std.proofs.lemmas.Int.{ints, unsigned_abs-mul}
-use Rattle.nef_exact.proofs.Ring.{ring, value, at, num, ◌⊕◌, ◌⊖◌, ◌⊗◌}
-use Rattle.nef_exact.proofs.Order.{Sign, minus, nought, plus, sign, sign_times, sign-plus, sign-minus, plus-is, minus-is, nought-is, mul_le_right}
+use Rattle.std.proofs.Common.{◌≡◌, ℕ, zero, suc, ◌+◌, ◌<◌, ◌≤◌, ℤ, pos, negsuc, ◌+ℤ◌, ◌*ℤ◌, nat_abs, arith, refl, ap, sym, ◌∙◌, inl, inr, ⊎_elim, List, [], ◌∷◌, subst}
+use Rattle.std.proofs.lemmas.Int.{ints}
+use Rattle.nef_exact.proofs.Ring.{ring, at, num, ◌⊕◌, ◌⊗◌}
+use Rattle.nef_exact.proofs.Order.{nought, sign, sign-plus, sign-minus, nought-is, mul_le_right}
 use Rattle.nef_exact.specs.Signs.{Lies}
 use Rattle.nef_near.specs.Cones.{NearGerm}
-use Rattle.nef_near.specs.Cells.{sign_at, frame, carriers, SameSigns}
-use Rattle.nef_space.specs.Place.{Place, Form, form_at, slope, Ratio, step, Within, InFrame, toward}
+use Rattle.nef_near.specs.Cells.{sign_at, carriers, SameSigns}
+use Rattle.nef_space.specs.Place.{Place, Form, slope, Ratio, step, Within, InFrame, toward}
 use Rattle.nef_space.specs.Vectors.{Vector, blend}
-use Rattle.nef_space.specs.Sets.{Set, Holds, Interior, Closure}
+use Rattle.nef_space.specs.Sets.{Set, Holds}
 use Rattle.nef_space.specs.Local.{IsShort, HasLabel, Germ}
 use Rattle.nef_space.specs.declared.label.Label.{Label}
 use Rattle.nef_space.specs.declared.label.Label.TheVariants.{Out, Not, In}
-use Rattle.nef_near.proofs.Near.{weaken, stride, step-within}
+use Rattle.nef_near.proofs.Near.{step-within}
 use Rattle.nef_near.proofs.Cells.{same-sym, reach_all, reach-some, keeps-all, is_nought}
-use Rattle.nef_near.proofs.Germs.{Label-cells, locality, sign-along, short_enough, Germ-unique, label-one}
+use Rattle.nef_near.proofs.Germs.{Label-cells, sign-along, short_enough}
 use Rattle.nef_near.proofs.Flats.{slope-slide, germ-toward}
 use Rattle.nef_near.proofs.Decided.{label_of}
 use Rattle.nef_near.proofs.Combine.{shorter}

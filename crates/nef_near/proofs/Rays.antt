@@ -1,23 +1,20 @@
 -- A cone does not tell apart equal points and equal directions; toward the zero vector the germ is the label.
-use Rattle.std.proofs.Common.{◌≡◌, ℕ, zero, suc, ◌+◌, ◌*◌, ◌<◌, ◌≤◌, ℤ, pos, negsuc, ◌+ℤ◌, ◌-ℤ◌, ◌*ℤ◌, neg_ℤ, ◌≤ℤ◌, ◌<ℤ◌, nat_abs, arith, refl, ap, sym, ◌∙◌, ◌⊎◌, inl, inr, ⊎_elim, ◌↔◌, List, [], ◌∷◌, subst}
+use Rattle.std.proofs.Common.{◌≡◌, ℕ, zero, suc, ◌+◌, ◌*◌, ◌<◌, ℤ, pos, negsuc, ◌+ℤ◌, ◌-ℤ◌, ◌*ℤ◌, ◌≤ℤ◌, ◌<ℤ◌, nat_abs, arith, refl, ap, sym, ◌∙◌, ◌⊎◌, inl, inr, ⊎_elim, ◌↔◌, List, [], ◌∷◌}
 use Rattle.std.proofs.lemmas.Int.{ints}
 use Rattle.std.proofs.Math.Nat.{mul-pos}
-use Rattle.nef_exact.specs.Signs.{Sign, minus, nought, plus, sign, sign_times, Lies}
-use Rattle.nef_exact.proofs.Ring.{ring, value, at, num, ◌⊕◌, ◌⊖◌, ◌⊗◌}
+use Rattle.nef_exact.specs.Signs.{sign, sign_times, Lies}
+use Rattle.nef_exact.proofs.Ring.{ring, at, num, ◌⊕◌, ◌⊖◌, ◌⊗◌}
 use Rattle.nef_exact.proofs.Combination.{given, none, follows}
 use Rattle.nef_exact.proofs.Order.{sign-plus, plus-is, sign_of_product, by_order, square_nonneg, mul_pos}
-use Rattle.nef_space.specs.Place.{Place, Form, form, form_at, slope, Ratio, step, Within, SamePlace, InFrame, toward}
+use Rattle.nef_space.specs.Place.{Place, Form, form, form_at, slope, Ratio, step, Within, SamePlace, toward}
 use Rattle.nef_space.specs.Vectors.{Vector, dot, IsZero, IsDirection, IsParallel, SameDirection}
 use Rattle.nef_space.specs.Sets.{Set, Holds, halves}
 use Rattle.nef_space.specs.Local.{IsShort, HasLabel, Germ}
 use Rattle.nef_space.specs.declared.label.Label.{Label}
-use Rattle.nef_space.specs.declared.label.Label.TheVariants.{Out, Not, In}
 use Rattle.nef_near.specs.Cells.{sign_at, frame, carriers, SameSigns, SameSlopesAt}
 use Rattle.nef_near.proofs.Near.{step-within}
 use Rattle.nef_near.proofs.Cells.{reach_all, keeps-all, is_nought, lies-left, lies-right, Holds-cells}
 use Rattle.nef_near.proofs.Germs.{Label-cells, locality, short_enough, sign-along}
-use Rattle.nef_near.proofs.Flats.{Germ-by_signs}
-use Rattle.nef_near.proofs.Decided.{germ_of}
 
 -- ---- the zero vector
 pub zero-or : (z : ℤ) → (z ≡ pos 0) ⊎ (z ≡ pos 0 → ⊥)

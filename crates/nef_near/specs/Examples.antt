@@ -1,5 +1,5 @@
 -- Closed examples at the origin: two half-spaces, a wall, an edge and a point.
-use Rattle.std.specs.Prelude.{◌≡◌, pos, negsuc, false, true}
+use Rattle.std.specs.Prelude.{pos, negsuc, false, true}
 use Rattle.nef_space.specs.Laws.{origin}
 use Rattle.nef_space.specs.Local.{HasLabel, SameSet, Germ, Flat, FlatDim, IsVertex}
 use Rattle.nef_space.specs.Place.{Form, form}
