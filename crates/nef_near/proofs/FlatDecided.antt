@@ -61,15 +61,12 @@ near-of_flat s p d f v l = (onward v l, back)
     back g = let m = germ_of s p v in subst (Germ s p v) (near-germ_one s p d v m.0 l (onward v m.0 m.1) g) m.1
 
 pub flat-of_near : (s : Set) (p : Place) (d : Vector) → ((v : Vector) (l : Label) → Germ s p v l ↔ NearGerm s p d v l) → FlatCone s p d
-flat-of_near s p d f v b a some l = (onward v l, back)
+flat-of_near s p d f v b a some l = (onward l, back)
   where
     -- (k + |a| + a) d + b v = (k + |a|) d + (b v + a d)
     shift : (a : ℤ) → (m : ℕ) × (pos (nat_abs a) +ℤ a ≡ pos m)
     shift (pos n) = (n + n, omega (arith, ints))
     shift (negsuc n) = (0, omega (arith, ints))
-
-    u : Vector
-    u = slide b v a d
 
     stretched : (w : Vector) (m : Label) → Germ s p w m → Germ s p (slide b w (pos 0) d) m
     stretched w m g = Germ-by_signs s p w (slide b w (pos 0) d) (λ h i o.
@@ -84,8 +81,8 @@ flat-of_near s p d f v b a some l = (onward v l, back)
             ((at 4 ⊕ at 6) ⊗ at 0 ⊕ num (pos 1) ⊗ (at 3 ⊗ at 1 ⊕ num (pos 0) ⊗ at 0)) ((at 4 ⊕ at 5) ⊗ at 0 ⊕ num (pos 1) ⊗ (at 3 ⊗ at 1 ⊕ at 2 ⊗ at 0))
             (given (num (pos 0) ⊖ at 0) (at 5 ⊕ at 2) (at 6) (shift a).1 none) tt
 
-    onward : (w : Vector) (m : Label) → Germ s p v m → Germ s p (slide b v a d) m
-    onward w m g =
+    onward : (m : Label) → Germ s p v m → Germ s p (slide b v a d) m
+    onward m g =
         let c = (f (slide b v (pos 0) d) m).0 (stretched v m g) in
         (f (slide b v a d) m).1 (shifted m c)
       where
@@ -98,7 +95,7 @@ flat-of_near s p d f v b a some l = (onward v l, back)
                 subst (NearGerm s p d (slide b v a d)) (Germ-unique s p (blend (n + o.1.0 + nat_abs a) d 1 (slide b v a d)) o.0 m (o.1.1 (n + o.1.0 + nat_abs a) (omega arith)) (g (n + o.1.0) (omega arith))) o.1
 
     back : Germ s p (slide b v a d) l → Germ s p v l
-    back g = let m = germ_of s p v in subst (Germ s p v) (Germ-unique s p (slide b v a d) m.0 l (onward v m.0 m.1) g) m.1
+    back g = let m = germ_of s p v in subst (Germ s p v) (Germ-unique s p (slide b v a d) m.0 l (onward m.0 m.1) g) m.1
 
 -- a flat direction's cell is flat
 pub flat-by_signs : (s : Set) (p : Place) (d d' : Vector) → SameSlopesAt (carriers s) p d d' → FlatCone s p d → FlatCone s p d'
@@ -194,9 +191,6 @@ crosses-zero d e = (
   λ z. three (form (pos 0) (neg_ℤ d.z) d.y (pos 0)) (form d.z (pos 0) (neg_ℤ d.x) (pos 0)) (form (neg_ℤ d.y) d.x (pos 0) (pos 0)) e (of_x ∙ z.0) (of_y ∙ z.1) (of_z ∙ z.2),
 )
   where
-    xs : List ℤ
-    xs = d.x ∷ d.y ∷ d.z ∷ e.x ∷ e.y ∷ e.z ∷ []
-
     of_x : slope (form (pos 0) (neg_ℤ d.z) d.y (pos 0)) e ≡ (cross d e).x
     of_x = ring (d.x ∷ d.y ∷ d.z ∷ e.x ∷ e.y ∷ e.z ∷ []) (num (pos 0) ⊗ at 3 ⊕ neg (at 2) ⊗ at 4 ⊕ at 1 ⊗ at 5) (at 1 ⊗ at 5 ⊖ at 2 ⊗ at 4) tt
 

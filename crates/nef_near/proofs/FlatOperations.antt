@@ -53,9 +53,6 @@ flat-by_in : (a t : Set) (p : Place) (d : Vector) → FlatCone a p d → ((v : V
     → ((v : Vector) (b : ℕ) (s : ℤ) → 0 < b → Germ t p v In ↔ Germ t p (slide b v s d) In) → FlatCone t p d
 flat-by_in a t p d f out in_same v b s some = by
   where
-    w : Vector
-    w = slide b v s d
-
     out_same : Germ t p v Out ↔ Germ t p (slide b v s d) Out
     out_same = (λ g. (out (slide b v s d)).1 ((f v b s some Out).0 ((out v).0 g)), λ g. (out v).1 ((f v b s some Out).1 ((out (slide b v s d)).0 g)))
 

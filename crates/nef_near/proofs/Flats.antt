@@ -105,7 +105,7 @@ slope-slide h b e a d = ring (h.a ∷ h.b ∷ h.c ∷ pos b ∷ a ∷ e.x ∷ e.
     (at 0 ⊗ (at 3 ⊗ at 5 ⊕ at 4 ⊗ at 8) ⊕ at 1 ⊗ (at 3 ⊗ at 6 ⊕ at 4 ⊗ at 9) ⊕ at 2 ⊗ (at 3 ⊗ at 7 ⊕ at 4 ⊗ at 10))
     (at 3 ⊗ (at 0 ⊗ at 5 ⊕ at 1 ⊗ at 6 ⊕ at 2 ⊗ at 7) ⊕ at 4 ⊗ (at 0 ⊗ at 8 ⊕ at 1 ⊗ at 9 ⊕ at 2 ⊗ at 10)) tt
 
--- a direction in all halves through p is flat
+-- a direction in all carriers through p is flat
 pub FlatCone-from_carriers : (s : Set) (p : Place) (d : Vector) → ((h : Form) → Lies (carriers s) h → sign_at h p ≡ nought → slope h d ≡ pos 0) → FlatCone s p d
 FlatCone-from_carriers s p d flat e b a some m =
     (Germ-by_signs s p e (slide b e a d) (λ h l o. sym (same h l o)) m, Germ-by_signs s p (slide b e a d) e same m)

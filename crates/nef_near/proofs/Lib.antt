@@ -20,3 +20,4 @@ pub mod Examples
 pub mod FlatDecided
 pub mod Even
 pub mod Generic
+pub mod Skeleton

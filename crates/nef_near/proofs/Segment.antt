@@ -1,4 +1,4 @@
--- What is settled at each point of a segment is the same at both ends: between two halves nothing happens, and there are finitely many.
+-- What is settled at each point of a segment is the same at both ends: between two carriers nothing happens, and there are finitely many.
 use Rattle.std.proofs.Common.{◌≡◌, ℕ, zero, suc, ◌+◌, ◌*◌, ◌<◌, ◌≤◌, ℤ, pos, negsuc, ◌+ℤ◌, ◌-ℤ◌, ◌*ℤ◌, nat_abs, arith, refl, ap, sym, ◌∙◌, ◌⊎◌, inl, inr, ⊎_elim, ◌↔◌, List, [], ◌∷◌, subst, Bool, true, false}
 use Rattle.std.proofs.lemmas.Int.{ints}
 use Rattle.std.proofs.Math.Nat.{mul-pos, le-mul_of_pos_right}

@@ -1,5 +1,5 @@
 -- The laws on what a set looks like near a point. Each is cited by a clause of a public function.
-use Rattle.std.specs.Prelude.{◌≡◌, ℕ, ◌<◌, ℤ, pos, List, ◌⊎◌, ◌↔◌}
+use Rattle.std.specs.Prelude.{◌≡◌, ℕ, ◌<◌, ◌≤◌, ℤ, pos, List, ◌⊎◌, ◌↔◌}
 use Rattle.nef_exact.specs.Signs.{nought, sign, Lies}
 use Rattle.nef_space.specs.Local.{HasLabel, SameSet, IsShort, Germ, Flat, FlatDim, IsVertex, IsEven, Joined}
 use Rattle.nef_space.specs.Place.{Place, Form, normal_of, slope, Ratio, step, Within, SamePlace, InFrame, InClosedFrame, toward, IsBetween}
@@ -331,6 +331,25 @@ LabelChangesFirst = (s : Set) (l : Label) (p q : Place) → HasLabel s p l → (
 -- the number of flat directions likewise
 abbrev pub FlatDimChangesFirst : Type 0
 FlatDimChangesFirst = (s : Set) (k : ℕ) (p q : Place) → FlatDim s p k → ((r : Place) → IsBetween p r q → FlatDim s r k) ⊎ FirstChange (λ r. FlatDim s r k) p q
+
+-- fewer than k independent directions are flat
+abbrev pub IsFlatBelow : Set → ℕ → Place → Type 0
+IsFlatBelow s k p = (j : ℕ) × (j < k) × FlatDim s p j
+
+-- close to p no point has fewer
+abbrev pub FlatDimNearby : Type 0
+FlatDimNearby = (s : Set) (p : Place) (k : ℕ) → FlatDim s p k → (n : ℕ) × (0 < n) × ((q : Place) → Within n p q → (j : ℕ) → FlatDim s q j → k ≤ j)
+
+-- the first point strictly between p and q at which Has holds
+pub record FirstPoint (Has : Place → Type 0) (p q : Place) : Type 0 where
+  pub at_place : Place
+  pub between : IsBetween p at_place q
+  pub holds : Has at_place
+  pub none_before : (r : Place) → IsBetween p r at_place → Has r → ⊥
+
+-- from a point with k flat directions or more, either all points up to q have as many or there is a first one with fewer
+abbrev pub FlatBelowFirst : Type 0
+FlatBelowFirst = (s : Set) (k : ℕ) (p q : Place) → (IsFlatBelow s k p → ⊥) → ((r : Place) → IsBetween p r q → IsFlatBelow s k r → ⊥) ⊎ FirstPoint (IsFlatBelow s k) p q
 
 -- ---- joined points
 -- the germs at p and q agree
