@@ -82,14 +82,14 @@ strictly-from_between p q r s =
 
 -- ---- from a combination to IsBetween
 -- k (x_r w_p - x_p w_r) = j (x_q w_p - x_p w_q), and k (x_q w_r - x_r w_q) = i (x_q w_p - x_p w_q)
-from-p : (x y z u v w k i j : ℤ) → k *ℤ z ≡ i *ℤ x +ℤ j *ℤ y → k *ℤ w ≡ i *ℤ u +ℤ j *ℤ v → k *ℤ (z *ℤ u -ℤ x *ℤ w) ≡ j *ℤ (y *ℤ u -ℤ x *ℤ v)
+pub from-p : (x y z u v w k i j : ℤ) → k *ℤ z ≡ i *ℤ x +ℤ j *ℤ y → k *ℤ w ≡ i *ℤ u +ℤ j *ℤ v → k *ℤ (z *ℤ u -ℤ x *ℤ w) ≡ j *ℤ (y *ℤ u -ℤ x *ℤ v)
 from-p x y z u v w k i j e f =
     follows (x ∷ y ∷ z ∷ u ∷ v ∷ w ∷ k ∷ i ∷ j ∷ [])
     (at 6 ⊗ (at 2 ⊗ at 3 ⊖ at 0 ⊗ at 5)) (at 8 ⊗ (at 1 ⊗ at 3 ⊖ at 0 ⊗ at 4))
     (given (at 3) (at 6 ⊗ at 2) (at 7 ⊗ at 0 ⊕ at 8 ⊗ at 1) e
     (given (num (pos 0) ⊖ at 0) (at 6 ⊗ at 5) (at 7 ⊗ at 3 ⊕ at 8 ⊗ at 4) f none)) tt
 
-to-q : (x y z u v w k i j : ℤ) → k *ℤ z ≡ i *ℤ x +ℤ j *ℤ y → k *ℤ w ≡ i *ℤ u +ℤ j *ℤ v → k *ℤ (y *ℤ w -ℤ z *ℤ v) ≡ i *ℤ (y *ℤ u -ℤ x *ℤ v)
+pub to-q : (x y z u v w k i j : ℤ) → k *ℤ z ≡ i *ℤ x +ℤ j *ℤ y → k *ℤ w ≡ i *ℤ u +ℤ j *ℤ v → k *ℤ (y *ℤ w -ℤ z *ℤ v) ≡ i *ℤ (y *ℤ u -ℤ x *ℤ v)
 to-q x y z u v w k i j e f =
     follows (x ∷ y ∷ z ∷ u ∷ v ∷ w ∷ k ∷ i ∷ j ∷ [])
     (at 6 ⊗ (at 1 ⊗ at 5 ⊖ at 2 ⊗ at 4)) (at 7 ⊗ (at 1 ⊗ at 3 ⊖ at 0 ⊗ at 4))

@@ -73,7 +73,7 @@ flat-toward s p q c = FlatCone-from_carriers s q (toward p q) (λ h l o. ⊎_eli
 
 -- ---- what is in the span of flat directions is flat
 -- a vector of which a positive multiple is flat
-flat-divided : (s : Set) (p : Place) (k : ℤ) (d e : Vector) → pos 0 <ℤ k → k *ℤ e.x ≡ d.x → k *ℤ e.y ≡ d.y → k *ℤ e.z ≡ d.z → Flat s p d → Flat s p e
+pub flat-divided : (s : Set) (p : Place) (k : ℤ) (d e : Vector) → pos 0 <ℤ k → k *ℤ e.x ≡ d.x → k *ℤ e.y ≡ d.y → k *ℤ e.z ≡ d.z → Flat s p d → Flat s p e
 flat-divided s p k d e some i j l f = Flat-from_cone s p e (flat-by_signs s p d e (λ h m o. ap sign (one h) ∙ sign_of_product k (slope h e) ∙ ap (λ r. sign_times r (sign (slope h e))) (sign-plus k some)) (FlatCone-from_flat s p d f))
   where
     one : (h : Form) → slope h d ≡ k *ℤ slope h e
@@ -151,7 +151,7 @@ span-3 s p d c f e some fd fc ff = by_order (triple d c f) (pos 0)
     turned x y h e = omega (arith, ints)
 
 -- ---- close to p, where there are as many flat directions, the way from p is flat at p
-flat-way : (s : Set) (k : ℕ) (p q : Place) → FlatDim s p k → FlatDim s q k → Within (reach_all (carriers s) p) p q → IsDirection (toward p q) → Flat s p (toward p q)
+pub flat-way : (s : Set) (k : ℕ) (p q : Place) → FlatDim s p k → FlatDim s q k → Within (reach_all (carriers s) p) p q → IsDirection (toward p q) → Flat s p (toward p q)
 flat-way s k p q f g c i = by k f g
   where
     way : Flat s q (toward p q)
@@ -210,7 +210,7 @@ labels-by_germs s p q same l =
     (λ h. b.0 (c.0 (a.1 h)), λ h. a.0 (c.1 (b.1 h)))
 
 -- ---- being joined is an equivalence
-between-turned : (p q r : Place) → IsBetween p r q → IsBetween q r p
+pub between-turned : (p q r : Place) → IsBetween p r q → IsBetween q r p
 between-turned p q r s = record {
   parallel = (one p.y r.y q.y p.z r.z q.z s.parallel.0, one p.z r.z q.z p.x r.x q.x s.parallel.1, one p.x r.x q.x p.y r.y q.y s.parallel.2);
   forward = subst (λ (z : ℤ). pos 0 <ℤ z) product s.forward;

@@ -21,3 +21,4 @@ pub mod FlatDecided
 pub mod Even
 pub mod Generic
 pub mod Skeleton
+pub mod Edges

@@ -140,6 +140,12 @@ direction-of_same d e s z = let f = square-positive d e s in let g = slope-zero 
     nothing : (x : ℤ) → pos 0 <ℤ x → x ≡ pos 0 → ⊥
     nothing x h k = omega (arith, ints)
 
+pub direction-first : (d e : Vector) → SameDirection d e → IsDirection d
+direction-first d e s z = let f = s.forward in let g = slope-zero (form e.x e.y e.z (pos 0)) d z in nothing (dot d e) (dot e d) f g (ring (d.x ∷ d.y ∷ d.z ∷ e.x ∷ e.y ∷ e.z ∷ []) (at 0 ⊗ at 3 ⊕ at 1 ⊗ at 4 ⊕ at 2 ⊗ at 5) (at 3 ⊗ at 0 ⊕ at 4 ⊗ at 1 ⊕ at 5 ⊗ at 2) tt)
+  where
+    nothing : (x y : ℤ) → pos 0 <ℤ x → y ≡ pos 0 → x ≡ y → ⊥
+    nothing x y h k e = omega (arith, ints)
+
 -- (e.e)(h.d) = (d.e)(h.e)
 slopes-match : (h : Form) (d e : Vector) → IsParallel d e → dot e e *ℤ slope h d ≡ dot d e *ℤ slope h e
 slopes-match h d e c = let x = at 0 in let y = at 1 in let z = at 2 in let u = at 3 in let v = at 4 in let w = at 5 in

@@ -351,6 +351,30 @@ pub record FirstPoint (Has : Place → Type 0) (p q : Place) : Type 0 where
 abbrev pub FlatBelowFirst : Type 0
 FlatBelowFirst = (s : Set) (k : ℕ) (p q : Place) → (IsFlatBelow s k p → ⊥) → ((r : Place) → IsBetween p r q → IsFlatBelow s k r → ⊥) ⊎ FirstPoint (IsFlatBelow s k) p q
 
+-- up to a point before q the number of flat directions is k, and there it is smaller
+pub record Drop (s : Set) (k : ℕ) (p q : Place) : Type 0 where
+  pub at_place : Place
+  pub between : IsBetween p at_place q
+  pub even_before : (r : Place) → IsBetween p r at_place → FlatDim s r k
+  pub drops : IsFlatBelow s k at_place
+
+-- along a flat way the number of flat directions stays until it drops: it never rises
+abbrev pub EvenUntilDrop : Type 0
+EvenUntilDrop = (s : Set) (k : ℕ) (p q : Place) → FlatDim s p k → Flat s p (toward p q) → ((r : Place) → IsBetween p r q → FlatDim s r k) ⊎ Drop s k p q
+
+-- p lies strictly on an edge: between two vertices between which all points have one flat direction
+pub record EdgeAround (s : Set) (p : Place) : Type 0 where
+  pub source : Place
+  pub target : Place
+  pub source_is_vertex : IsVertex s source
+  pub target_is_vertex : IsVertex s target
+  pub between : IsBetween source p target
+  pub even : (r : Place) → IsBetween source r target → FlatDim s r 1
+
+-- each point with one flat direction lies strictly on an edge
+abbrev pub EdgeHasEnds : Type 0
+EdgeHasEnds = (s : Set) (p : Place) → FlatDim s p 1 → EdgeAround s p
+
 -- ---- joined points
 -- the germs at p and q agree
 abbrev pub SameGerms : Set → Place → Place → Type 0
