@@ -15,7 +15,7 @@ use Rattle.nef_space.specs.Local.{Germ, Flat, FlatDim, IsVertex}
 use Rattle.nef_space.specs.declared.label.Label.{Label}
 use Rattle.nef_near.specs.Cells.{carriers}
 use Rattle.nef_near.specs.Cones.{combination}
-use Rattle.nef_near.specs.Laws.{FirstChange, IsFlatBelow, Drop, EdgeAround}
+use Rattle.nef_near.specs.Laws.{FirstChange, IsFlatBelow, Drop, WayEnd, EdgeAround}
 use Rattle.nef_near.proofs.Cells.{reach_all, reach-some}
 use Rattle.nef_near.proofs.Flats.{Flat-from_cone, FlatCone-from_flat, vector-same}
 use Rattle.nef_near.proofs.Rays.{direction-first, direction-of_same, zero-or, signs-same, slope-same, same-place_sym, decided-zero, toward-same}
@@ -171,6 +171,9 @@ beyond p d = step p (record { a = pos (2 * (nat_abs p.x + nat_abs p.y + nat_abs 
 abbrev halfway : Place → Vector → Place
 halfway p d = mix 1 p 1 (beyond p d) (omega arith)
 
+halfway-between : (p : Place) (d : Vector) → Strictly p (beyond p d) (halfway p d)
+halfway-between p d = strictly-mix 1 p 1 (beyond p d) _ (omega arith) (omega arith)
+
 halfway-outside : (p : Place) (d : Vector) → IsDirection d → InClosedFrame (halfway p d) → ⊥
 halfway-outside p d some c = by (zero-or d.x) (zero-or d.y) (zero-or d.z)
   where
@@ -180,19 +183,19 @@ halfway-outside p d some c = by (zero-or d.x) (zero-or d.y) (zero-or d.z)
     by (inl x) (inl y) (inr n) = too-far p.z d.z p.w (nat_abs p.x + nat_abs p.y + nat_abs p.z + half_side + 1) p.proper n (omega arith) c.along_z
     by (inl x) (inl y) (inl z) = some (x, y, z)
 
--- ---- the end of an edge
--- a vertex x ahead of p, k (x - p) = j d, before which there is one flat direction
-record End (s : Set) (p : Place) (d : Vector) : Type 0 where
+-- ---- the end of a flat way
+-- a point x ahead of p, n (x - p) = j d, before which there are k flat directions, and fewer there
+record End (s : Set) (k : ℕ) (p : Place) (d : Vector) : Type 0 where
   pub at_place : Place
-  pub is_vertex : IsVertex s at_place
-  pub k : ℕ
+  pub drops : IsFlatBelow s k at_place
+  pub n : ℕ
   pub j : ℕ
-  pub some_k : 0 < k
+  pub some_n : 0 < n
   pub some_j : 0 < j
-  pub ahead : IsMultiple (pos k) (pos j) (toward p at_place) d
-  pub even : (r : Place) → IsBetween p r at_place → FlatDim s r 1
+  pub ahead : IsMultiple (pos n) (pos j) (toward p at_place) d
+  pub even : (r : Place) → IsBetween p r at_place → FlatDim s r k
 
-module _ (s : Set) (p : Place) (d : Vector) (one : FlatDim s p 1) (some : IsDirection d) (flat : Flat s p d) where
+module _ (s : Set) (k : ℕ) (few : k < 3) (p : Place) (d : Vector) (dim : FlatDim s p k) (some : IsDirection d) (flat : Flat s p d) where
   abbrev q : Place
   q = beyond p d
 
@@ -215,27 +218,25 @@ module _ (s : Set) (p : Place) (d : Vector) (one : FlatDim s p 1) (some : IsDire
       each : (e : ℤ) → pos m *ℤ e +ℤ pos 0 *ℤ e ≡ pos 0 → e ≡ pos 0
       each e h = follows_times (e ∷ pos m ∷ []) (at 1) (at 0) (num (pos 0)) (given (num (pos 1)) (at 1 ⊗ at 0 ⊕ num (pos 0) ⊗ at 0) (num (pos 0)) h none) (let l = large in omega (arith, ints)) tt
 
-  edge-end : End s p d
-  edge-end = by (even-until s 1 p q one (subst (Flat s p) (sym leads) (flat-combination s p d d (pos m) (pos 0) flat flat)))
+  way-end : End s k p d
+  way-end = by (even-until s k p q dim (subst (Flat s p) (sym leads) (flat-combination s p d d (pos m) (pos 0) flat flat)))
     where
       large : 0 < m
       large = mul-pos (mul-pos {m = 2 * (nat_abs p.x + nat_abs p.y + nat_abs p.z + half_side + 1)} {n = p.w} (omega arith) p.proper) p.proper
 
-      by : ((r : Place) → IsBetween p r q → FlatDim s r 1) ⊎ Drop s 1 p q → End s p d
+      by : ((r : Place) → IsBetween p r q → FlatDim s r k) ⊎ Drop s k p q → End s k p d
       by (inl all) =
           let r = halfway p d in
-          let e = FlatDim-one s r 1 3 (all r (between-from_strictly p q r (strictly-mix 1 p 1 q (omega arith) (omega arith) (omega arith)) leads-somewhere)) (flat_dim-outside s r (halfway-outside p d some)) in
+          let e = FlatDim-one s r k 3 (all r (between-from_strictly p q r (halfway-between p d) leads-somewhere)) (flat_dim-outside s r (halfway-outside p d some)) in
           absurd (omega arith)
       by (inr c) =
           let b = strictly-from_between p q c.at_place c.between in
-          let j = c.drops in
-          let z : j.0 ≡ 0 = (let l = j.1 in omega arith) in
           record {
             at_place = c.at_place;
-            is_vertex = subst (FlatDim s c.at_place) z j.2;
-            k = b.k;
+            drops = c.drops;
+            n = b.k;
             j = b.j * m;
-            some_k = b.some_k;
+            some_n = b.some_k;
             some_j = mul-pos b.some_j large;
             ahead = record {
               of_x = from-p p.x q.x c.at_place.x (pos p.w) (pos q.w) (pos c.at_place.w) (pos b.k) (pos b.i) (pos b.j) b.is_x b.is_w ∙ ap (λ (v : Vector). pos b.j *ℤ v.x) leads ∙ each b.j d.x;
@@ -248,12 +249,22 @@ module _ (s : Set) (p : Place) (d : Vector) (one : FlatDim s p 1) (some : IsDire
           each : (j : ℕ) (e : ℤ) → pos j *ℤ (pos m *ℤ e +ℤ pos 0 *ℤ e) ≡ pos (j * m) *ℤ e
           each j e = ring (pos j ∷ pos m ∷ e ∷ []) (at 0 ⊗ (at 1 ⊗ at 2 ⊕ num (pos 0) ⊗ at 2)) (at 0 ⊗ at 1 ⊗ at 2) tt
 
+pub flat_way-end : (s : Set) (k : ℕ) (p : Place) (d : Vector) → k < 3 → FlatDim s p k → IsDirection d → Flat s p d → WayEnd s k p d
+flat_way-end s k p d few dim some flat =
+    let e = way-end s k few p d dim some flat in
+    record {
+      at_place = e.at_place;
+      is_ahead = same-direction_of (pos e.n) (pos e.n) (pos e.j) (toward p e.at_place) d d (let h = e.some_n in omega (arith, ints)) (let h = e.some_n in omega (arith, ints)) (let h = e.some_j in omega (arith, ints)) e.ahead (record { of_x = refl; of_y = refl; of_z = refl }) some;
+      even_before = e.even;
+      drops = e.drops;
+    }
+
 -- ---- both ends
 pub edge-around : (s : Set) (p : Place) → FlatDim s p 1 → EdgeAround s p
 edge-around s p one = by one.0
   where
     by : (d : Vector) × IsDirection d × Flat s p d → EdgeAround s p
-    by (d, some, flat) = ends (edge-end s p d one some flat) (edge-end s p (opposite d) one (λ z. some (zero-back d.x z.0, zero-back d.y z.1, zero-back d.z z.2)) (flat-back flat))
+    by (d, some, flat) = ends (way-end s 1 (omega arith) p d one some flat) (way-end s 1 (omega arith) p (opposite d) one (λ z. some (zero-back d.x z.0, zero-back d.y z.1, zero-back d.z z.2)) (flat-back flat))
       where
         zero-back : (x : ℤ) → neg_ℤ x ≡ pos 0 → x ≡ pos 0
         zero-back x e = omega (arith, ints)
@@ -264,9 +275,12 @@ edge-around s p one = by one.0
             turned : (x : ℤ) → negsuc 0 *ℤ x +ℤ pos 0 *ℤ x ≡ neg_ℤ x
             turned x = omega (arith, ints)
 
-        ends : End s p d → End s p (opposite d) → EdgeAround s p
-        ends a b = record { source = b.at_place; target = a.at_place; source_is_vertex = b.is_vertex; target_is_vertex = a.is_vertex; between = middle; even = even }
+        ends : End s 1 p d → End s 1 p (opposite d) → EdgeAround s p
+        ends a b = record { source = b.at_place; target = a.at_place; source_is_vertex = vertex b; target_is_vertex = vertex a; between = middle; even = even }
           where
+            vertex : {e : Vector} → (x : End s 1 p e) → IsVertex s x.at_place
+            vertex x = let z : x.drops.0 ≡ 0 = (let l = x.drops.1 in omega arith) in subst (FlatDim s x.at_place) z x.drops.2
+
             -- (x_p w_b - x_b w_p) is (j/k) d
             turned : (x y u v k j e : ℤ) → k *ℤ (y *ℤ u -ℤ x *ℤ v) ≡ j *ℤ neg_ℤ e → k *ℤ (x *ℤ v -ℤ y *ℤ u) ≡ j *ℤ e
             turned x y u v k j e h = follows (x ∷ y ∷ u ∷ v ∷ k ∷ j ∷ e ∷ []) (at 4 ⊗ (at 0 ⊗ at 3 ⊖ at 1 ⊗ at 2)) (at 5 ⊗ at 6) (given (num (negsuc 0)) (at 4 ⊗ (at 1 ⊗ at 2 ⊖ at 0 ⊗ at 3)) (at 5 ⊗ neg (at 6)) h none) tt
@@ -278,19 +292,19 @@ edge-around s p one = by one.0
             times-right k l i x e h = follows (k ∷ l ∷ i ∷ x ∷ e ∷ []) (at 0 ⊗ at 1 ⊗ at 3) (at 0 ⊗ at 2 ⊗ at 4) (given (at 0) (at 1 ⊗ at 3) (at 2 ⊗ at 4) h none) tt
 
             middle : IsBetween b.at_place p a.at_place
-            middle = same-direction_of (pos b.k *ℤ pos a.k) (pos b.k *ℤ pos a.j) (pos a.k *ℤ pos b.j) (toward b.at_place p) (toward p a.at_place) d
-                (mul_pos (pos b.k) (pos a.k) (let h = b.some_k in omega (arith, ints)) (let h = a.some_k in omega (arith, ints)))
-                (mul_pos (pos b.k) (pos a.j) (let h = b.some_k in omega (arith, ints)) (let h = a.some_j in omega (arith, ints)))
-                (mul_pos (pos a.k) (pos b.j) (let h = a.some_k in omega (arith, ints)) (let h = b.some_j in omega (arith, ints)))
+            middle = same-direction_of (pos b.n *ℤ pos a.n) (pos b.n *ℤ pos a.j) (pos a.n *ℤ pos b.j) (toward b.at_place p) (toward p a.at_place) d
+                (mul_pos (pos b.n) (pos a.n) (let h = b.some_n in omega (arith, ints)) (let h = a.some_n in omega (arith, ints)))
+                (mul_pos (pos b.n) (pos a.j) (let h = b.some_n in omega (arith, ints)) (let h = a.some_j in omega (arith, ints)))
+                (mul_pos (pos a.n) (pos b.j) (let h = a.some_n in omega (arith, ints)) (let h = b.some_j in omega (arith, ints)))
                 (record {
-                  of_x = times (pos b.k) (pos a.k) (pos b.j) (toward b.at_place p).x d.x (turned p.x b.at_place.x (pos p.w) (pos b.at_place.w) (pos b.k) (pos b.j) d.x b.ahead.of_x);
-                  of_y = times (pos b.k) (pos a.k) (pos b.j) (toward b.at_place p).y d.y (turned p.y b.at_place.y (pos p.w) (pos b.at_place.w) (pos b.k) (pos b.j) d.y b.ahead.of_y);
-                  of_z = times (pos b.k) (pos a.k) (pos b.j) (toward b.at_place p).z d.z (turned p.z b.at_place.z (pos p.w) (pos b.at_place.w) (pos b.k) (pos b.j) d.z b.ahead.of_z);
+                  of_x = times (pos b.n) (pos a.n) (pos b.j) (toward b.at_place p).x d.x (turned p.x b.at_place.x (pos p.w) (pos b.at_place.w) (pos b.n) (pos b.j) d.x b.ahead.of_x);
+                  of_y = times (pos b.n) (pos a.n) (pos b.j) (toward b.at_place p).y d.y (turned p.y b.at_place.y (pos p.w) (pos b.at_place.w) (pos b.n) (pos b.j) d.y b.ahead.of_y);
+                  of_z = times (pos b.n) (pos a.n) (pos b.j) (toward b.at_place p).z d.z (turned p.z b.at_place.z (pos p.w) (pos b.at_place.w) (pos b.n) (pos b.j) d.z b.ahead.of_z);
                 })
                 (record {
-                  of_x = times-right (pos b.k) (pos a.k) (pos a.j) (toward p a.at_place).x d.x a.ahead.of_x;
-                  of_y = times-right (pos b.k) (pos a.k) (pos a.j) (toward p a.at_place).y d.y a.ahead.of_y;
-                  of_z = times-right (pos b.k) (pos a.k) (pos a.j) (toward p a.at_place).z d.z a.ahead.of_z;
+                  of_x = times-right (pos b.n) (pos a.n) (pos a.j) (toward p a.at_place).x d.x a.ahead.of_x;
+                  of_y = times-right (pos b.n) (pos a.n) (pos a.j) (toward p a.at_place).y d.y a.ahead.of_y;
+                  of_z = times-right (pos b.n) (pos a.n) (pos a.j) (toward p a.at_place).z d.z a.ahead.of_z;
                 })
                 some
 

@@ -2,7 +2,7 @@
 use Rattle.std.specs.Prelude.{◌≡◌, ℕ, ◌<◌, ◌≤◌, ℤ, pos, List, ◌⊎◌, ◌↔◌}
 use Rattle.nef_exact.specs.Signs.{nought, sign, Lies}
 use Rattle.nef_space.specs.Local.{HasLabel, SameSet, IsShort, Germ, Flat, FlatDim, IsVertex, IsEven, Joined}
-use Rattle.nef_space.specs.Place.{Place, Form, normal_of, slope, Ratio, step, Within, SamePlace, InFrame, InClosedFrame, toward, IsBetween}
+use Rattle.nef_space.specs.Place.{Place, Form, normal_of, slope, Ratio, step, Within, SamePlace, InFrame, InClosedFrame, toward, IsAhead, IsBetween}
 use Rattle.nef_space.specs.Sets.{Set, Holds}
 use Rattle.nef_space.specs.Vectors.{Vector, IsZero, IsDirection, SameDirection}
 use Rattle.nef_space.specs.declared.label.Label.{Label}
@@ -361,6 +361,17 @@ pub record Drop (s : Set) (k : ℕ) (p q : Place) : Type 0 where
 -- along a flat way the number of flat directions stays until it drops: it never rises
 abbrev pub EvenUntilDrop : Type 0
 EvenUntilDrop = (s : Set) (k : ℕ) (p q : Place) → FlatDim s p k → Flat s p (toward p q) → ((r : Place) → IsBetween p r q → FlatDim s r k) ⊎ Drop s k p q
+
+-- the point ahead of p in the direction d at which the number of flat directions drops below k, which it is before
+pub record WayEnd (s : Set) (k : ℕ) (p : Place) (d : Vector) : Type 0 where
+  pub at_place : Place
+  pub is_ahead : IsAhead p d at_place
+  pub even_before : (r : Place) → IsBetween p r at_place → FlatDim s r k
+  pub drops : IsFlatBelow s k at_place
+
+-- where not all directions are flat, each flat way ends, since the frame does
+abbrev pub FlatWayEnds : Type 0
+FlatWayEnds = (s : Set) (k : ℕ) (p : Place) (d : Vector) → k < 3 → FlatDim s p k → IsDirection d → Flat s p d → WayEnd s k p d
 
 -- p lies strictly on an edge: between two vertices between which all points have one flat direction
 pub record EdgeAround (s : Set) (p : Place) : Type 0 where
