@@ -22,3 +22,4 @@ pub mod Even
 pub mod Generic
 pub mod Skeleton
 pub mod Edges
+pub mod Vertices

@@ -358,6 +358,10 @@ pub record Drop (s : Set) (k : ℕ) (p q : Place) : Type 0 where
   pub even_before : (r : Place) → IsBetween p r at_place → FlatDim s r k
   pub drops : IsFlatBelow s k at_place
 
+-- a set has finitely many vertices, and each is equal to one of a list of them
+abbrev pub FiniteVertices : Type 0
+FiniteVertices = (s : Set) → (ps : List Place) × ((q : Place) → Lies ps q → IsVertex s q) × ((p : Place) → IsVertex s p → (q : Place) × Lies ps q × SamePlace q p)
+
 -- along a flat way the number of flat directions stays until it drops: it never rises
 abbrev pub EvenUntilDrop : Type 0
 EvenUntilDrop = (s : Set) (k : ℕ) (p q : Place) → FlatDim s p k → Flat s p (toward p q) → ((r : Place) → IsBetween p r q → FlatDim s r k) ⊎ Drop s k p q

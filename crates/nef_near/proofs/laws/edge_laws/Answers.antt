@@ -1,3 +1,4 @@
+use Rattle.nef_near.proofs.Vertices.{all-vertices}
 use Rattle.nef_near.proofs.Edges.{even-until, flat_way-end, edge-around}
 use Rattle.nef_near.proofs.laws.edge_laws.Goals as goal
 
@@ -9,3 +10,6 @@ returns-clause-flat_way_ends c = flat_way-end
 
 pub returns-clause-edge_has_ends : goal.returns-clause-edge_has_ends
 returns-clause-edge_has_ends c = edge-around
+
+pub returns-clause-finite_vertices : goal.returns-clause-finite_vertices
+returns-clause-finite_vertices c = all-vertices
