@@ -1,24 +1,23 @@
 -- Along a flat direction the number of flat directions stays until it drops; so each edge ends at two vertices.
-use Rattle.std.proofs.Common.{◌≡◌, ℕ, zero, suc, ◌+◌, ◌*◌, ◌<◌, ◌≤◌, ℤ, pos, negsuc, ◌+ℤ◌, ◌-ℤ◌, ◌*ℤ◌, neg_ℤ, ◌≤ℤ◌, ◌<ℤ◌, nat_abs, arith, refl, ap, sym, ◌∙◌, ◌⊎◌, inl, inr, ⊎_elim, List, [], ◌∷◌, subst}
+use Rattle.std.proofs.Common.{◌≡◌, ℕ, zero, suc, ◌+◌, ◌*◌, ◌<◌, ◌≤◌, ℤ, pos, negsuc, ◌+ℤ◌, ◌-ℤ◌, ◌*ℤ◌, neg_ℤ, nat_abs, arith, refl, ap, sym, ◌∙◌, ◌⊎◌, inl, inr, ⊎_elim, [], ◌∷◌, subst}
 use Rattle.std.proofs.lemmas.Int.{ints, unsigned_abs-mul}
 use Rattle.std.proofs.lemmas.Bool.{cases_order}
 use Rattle.std.proofs.lemmas.Nat.{mul-le}
 use Rattle.nef_exact.proofs.Order.{mul_pos}
-use Rattle.std.proofs.Math.Nat.{mul-pos, le-mul_of_pos_right, mul-le-mul_left}
-use Rattle.nef_exact.proofs.Ring.{ring, value, at, num, neg, ◌⊕◌, ◌⊖◌, ◌⊗◌}
+use Rattle.std.proofs.Math.Nat.{mul-pos, le-mul_of_pos_right}
+use Rattle.nef_exact.proofs.Ring.{ring, at, num, neg, ◌⊕◌, ◌⊖◌, ◌⊗◌}
 use Rattle.nef_exact.proofs.Combination.{given, none, follows, follows_times}
 use Rattle.nef_space.specs.Limits.{half_side}
-use Rattle.nef_space.specs.Place.{Place, Form, Ratio, step, Within, SamePlace, InClosedFrame, toward, IsBetween}
+use Rattle.nef_space.specs.Place.{Place, step, Within, SamePlace, InClosedFrame, toward, IsBetween}
 use Rattle.nef_space.specs.Vectors.{Vector, opposite, IsZero, IsDirection, SameDirection}
 use Rattle.nef_space.specs.Sets.{Set}
-use Rattle.nef_space.specs.Local.{Germ, Flat, FlatDim, IsVertex}
-use Rattle.nef_space.specs.declared.label.Label.{Label}
+use Rattle.nef_space.specs.Local.{Flat, FlatDim, IsVertex}
 use Rattle.nef_near.specs.Cells.{carriers}
 use Rattle.nef_near.specs.Cones.{combination}
 use Rattle.nef_near.specs.Laws.{FirstChange, IsFlatBelow, Drop, WayEnd, EdgeAround}
-use Rattle.nef_near.proofs.Cells.{reach_all, reach-some}
+use Rattle.nef_near.proofs.Cells.{reach_all}
 use Rattle.nef_near.proofs.Flats.{Flat-from_cone, FlatCone-from_flat, vector-same}
-use Rattle.nef_near.proofs.Rays.{direction-first, direction-of_same, zero-or, signs-same, slope-same, same-place_sym, decided-zero, toward-same}
+use Rattle.nef_near.proofs.Rays.{direction-first, direction-of_same, zero-or, signs-same, slope-same, same-place_sym, decided-zero}
 use Rattle.nef_near.proofs.Alike.{germs-by_cell, Flat-by_germs, FlatDim-by_germs, FlatDim-one}
 use Rattle.nef_near.proofs.Frames.{flat_dim-outside}
 use Rattle.nef_near.proofs.FlatOperations.{flat-combination}
@@ -31,17 +30,17 @@ use Rattle.nef_near.proofs.Even.{germ-nearby, flat-way, flat-divided, between-tu
 use Rattle.nef_near.proofs.Skeleton.{flat_dim-nearby}
 
 -- ---- a point on the way from x to y that is close to x
-abbrev start : ℕ → Place → Place → Place
+abbrev pub start : ℕ → Place → Place → Place
 start n x y = mix (n * far x y + 1) x 1 y (omega arith)
 
-start-close : (n : ℕ) (x y : Place) → Within n x (start n x y)
+pub start-close : (n : ℕ) (x y : Place) → Within n x (start n x y)
 start-close n x y = mix-close n (n * far x y + 1) x y (omega arith) (omega arith)
 
-start-strictly : (n : ℕ) (x y : Place) → Strictly x y (start n x y)
+pub start-strictly : (n : ℕ) (x y : Place) → Strictly x y (start n x y)
 start-strictly n x y = strictly-mix (n * far x y + 1) x 1 y (omega arith) (omega arith) (omega arith)
 
 -- it lies in the direction of y
-start-toward : (n : ℕ) (x y : Place) → toward x (start n x y) ≡ toward x y
+pub start-toward : (n : ℕ) (x y : Place) → toward x (start n x y) ≡ toward x y
 start-toward n x y = vector-same (toward x (start n x y)) (toward x y) (one (n * far x y + 1) x.x y.x) (one (n * far x y + 1) x.y y.y) (one (n * far x y + 1) x.z y.z)
   where
     one : (m : ℕ) (a b : ℤ) → (pos m *ℤ a +ℤ pos 1 *ℤ b) *ℤ pos x.w -ℤ a *ℤ pos (m * x.w + 1 * y.w) ≡ b *ℤ pos x.w -ℤ a *ℤ pos y.w
@@ -121,9 +120,9 @@ even-until s k p q f way = ⊎_elim (λ all. inl all) (λ c. by c c.on_segment c
         let r = back x b in
         let h = flat-way s k x r g (c.stands_before r (back-between x b)) (start-close (reach_all (carriers s) x) x p) in
         flat-onward s p x q b (⊎_elim
-            (λ z. absurd (direction-first (toward x r) (toward r p) (between-turned p x r (back-between x b)) z))
-            (λ i. subst (Flat s x) (start-toward (reach_all (carriers s) x) x p) (h i))
-            (decided-zero (toward x r)))
+        (λ z. absurd (direction-first (toward x r) (toward r p) (between-turned p x r (back-between x b)) z))
+        (λ i. subst (Flat s x) (start-toward (reach_all (carriers s) x) x p) (h i))
+        (decided-zero (toward x r)))
 
     by : (c : FirstChange (λ r. FlatDim s r k) p q) → SamePlace c.at_place p ⊎ IsBetween p c.at_place q
         → ((FlatDim s c.at_place k → ⊥) × IsBetween p c.at_place q) ⊎ (FlatDim s c.at_place k × ((next : Place) × IsBetween c.at_place next q × ((r : Place) → IsBetween c.at_place r next → FlatDim s r k → ⊥)))
@@ -164,17 +163,17 @@ too-far x e w a some n big h =
     too-large : (x m : ℤ) (c b : ℕ) → nat_abs (pos 2 *ℤ x +ℤ pos 2 *ℤ m) ≤ half_side * (1 * w + 1 * (w * 1)) → half_side * (1 * w + 1 * (w * 1)) ≡ 2 * b → nat_abs m ≡ c → nat_abs x + b < c → ⊥
     too-large x m c b h e g l = omega (arith, ints)
 
-abbrev beyond : Place → Vector → Place
+abbrev pub beyond : Place → Vector → Place
 beyond p d = step p (record { a = pos (2 * (nat_abs p.x + nat_abs p.y + nat_abs p.z + half_side + 1)); b = 1; proper = omega arith }) d
 
 -- halfway there it is outside too
-abbrev halfway : Place → Vector → Place
+abbrev pub halfway : Place → Vector → Place
 halfway p d = mix 1 p 1 (beyond p d) (omega arith)
 
-halfway-between : (p : Place) (d : Vector) → Strictly p (beyond p d) (halfway p d)
+pub halfway-between : (p : Place) (d : Vector) → Strictly p (beyond p d) (halfway p d)
 halfway-between p d = strictly-mix 1 p 1 (beyond p d) _ (omega arith) (omega arith)
 
-halfway-outside : (p : Place) (d : Vector) → IsDirection d → InClosedFrame (halfway p d) → ⊥
+pub halfway-outside : (p : Place) (d : Vector) → IsDirection d → InClosedFrame (halfway p d) → ⊥
 halfway-outside p d some c = by (zero-or d.x) (zero-or d.y) (zero-or d.z)
   where
     by : (d.x ≡ pos 0) ⊎ (d.x ≡ pos 0 → ⊥) → (d.y ≡ pos 0) ⊎ (d.y ≡ pos 0 → ⊥) → (d.z ≡ pos 0) ⊎ (d.z ≡ pos 0 → ⊥) → ⊥
@@ -182,6 +181,26 @@ halfway-outside p d some c = by (zero-or d.x) (zero-or d.y) (zero-or d.z)
     by (inl x) (inr n) z = too-far p.y d.y p.w (nat_abs p.x + nat_abs p.y + nat_abs p.z + half_side + 1) p.proper n (omega arith) c.along_y
     by (inl x) (inl y) (inr n) = too-far p.z d.z p.w (nat_abs p.x + nat_abs p.y + nat_abs p.z + half_side + 1) p.proper n (omega arith) c.along_z
     by (inl x) (inl y) (inl z) = some (x, y, z)
+
+-- how many times d the way to that point is
+abbrev way_factor : Place → ℕ
+way_factor p = 2 * (nat_abs p.x + nat_abs p.y + nat_abs p.z + half_side + 1) * p.w * p.w
+
+way_factor-some : (p : Place) → 0 < way_factor p
+way_factor-some p = mul-pos (mul-pos {m = 2 * (nat_abs p.x + nat_abs p.y + nat_abs p.z + half_side + 1)} {n = p.w} (omega arith) p.proper) p.proper
+
+leads : (p : Place) (d : Vector) → toward p (beyond p d) ≡ combination (pos (way_factor p)) d (pos 0) d
+leads p d = vector-same (toward p (beyond p d)) (combination (pos (way_factor p)) d (pos 0) d) (each p.x d.x) (each p.y d.y) (each p.z d.z)
+  where
+    each : (x e : ℤ) → (x *ℤ pos 1 +ℤ pos (2 * (nat_abs p.x + nat_abs p.y + nat_abs p.z + half_side + 1)) *ℤ pos p.w *ℤ e) *ℤ pos p.w -ℤ x *ℤ pos (p.w * 1) ≡ pos (way_factor p) *ℤ e +ℤ pos 0 *ℤ e
+    each x e = ring (x ∷ pos (2 * (nat_abs p.x + nat_abs p.y + nat_abs p.z + half_side + 1)) ∷ pos p.w ∷ e ∷ [])
+        ((at 0 ⊗ num (pos 1) ⊕ at 1 ⊗ at 2 ⊗ at 3) ⊗ at 2 ⊖ at 0 ⊗ (at 2 ⊗ num (pos 1))) (at 1 ⊗ at 2 ⊗ at 2 ⊗ at 3 ⊕ num (pos 0) ⊗ at 3) tt
+
+pub leads-somewhere : (p : Place) (d : Vector) → IsDirection d → IsDirection (toward p (beyond p d))
+leads-somewhere p d some z = some (each d.x (sym (ap (λ (v : Vector). v.x) (leads p d)) ∙ z.0), each d.y (sym (ap (λ (v : Vector). v.y) (leads p d)) ∙ z.1), each d.z (sym (ap (λ (v : Vector). v.z) (leads p d)) ∙ z.2))
+  where
+    each : (e : ℤ) → pos (way_factor p) *ℤ e +ℤ pos 0 *ℤ e ≡ pos 0 → e ≡ pos 0
+    each e h = follows_times (e ∷ pos (way_factor p) ∷ []) (at 1) (at 0) (num (pos 0)) (given (num (pos 1)) (at 1 ⊗ at 0 ⊕ num (pos 0) ⊗ at 0) (num (pos 0)) h none) (let l = way_factor-some p in omega (arith, ints)) tt
 
 -- ---- the end of a flat way
 -- a point x ahead of p, n (x - p) = j d, before which there are k flat directions, and fewer there
@@ -200,34 +219,15 @@ module _ (s : Set) (k : ℕ) (few : k < 3) (p : Place) (d : Vector) (dim : FlatD
   q = beyond p d
 
   abbrev m : ℕ
-  m = 2 * (nat_abs p.x + nat_abs p.y + nat_abs p.z + half_side + 1) * p.w * p.w
-
-  leads : toward p q ≡ combination (pos m) d (pos 0) d
-  leads = vector-same (toward p q) (combination (pos m) d (pos 0) d) (each p.x d.x) (each p.y d.y) (each p.z d.z)
-    where
-      each : (x e : ℤ) → (x *ℤ pos 1 +ℤ pos (2 * (nat_abs p.x + nat_abs p.y + nat_abs p.z + half_side + 1)) *ℤ pos p.w *ℤ e) *ℤ pos p.w -ℤ x *ℤ pos (p.w * 1) ≡ pos m *ℤ e +ℤ pos 0 *ℤ e
-      each x e = ring (x ∷ pos (2 * (nat_abs p.x + nat_abs p.y + nat_abs p.z + half_side + 1)) ∷ pos p.w ∷ e ∷ [])
-          ((at 0 ⊗ num (pos 1) ⊕ at 1 ⊗ at 2 ⊗ at 3) ⊗ at 2 ⊖ at 0 ⊗ (at 2 ⊗ num (pos 1))) (at 1 ⊗ at 2 ⊗ at 2 ⊗ at 3 ⊕ num (pos 0) ⊗ at 3) tt
-
-  leads-somewhere : IsDirection (toward p q)
-  leads-somewhere z = some (each d.x (sym (ap (λ (v : Vector). v.x) leads) ∙ z.0), each d.y (sym (ap (λ (v : Vector). v.y) leads) ∙ z.1), each d.z (sym (ap (λ (v : Vector). v.z) leads) ∙ z.2))
-    where
-      large : 0 < m
-      large = mul-pos (mul-pos {m = 2 * (nat_abs p.x + nat_abs p.y + nat_abs p.z + half_side + 1)} {n = p.w} (omega arith) p.proper) p.proper
-
-      each : (e : ℤ) → pos m *ℤ e +ℤ pos 0 *ℤ e ≡ pos 0 → e ≡ pos 0
-      each e h = follows_times (e ∷ pos m ∷ []) (at 1) (at 0) (num (pos 0)) (given (num (pos 1)) (at 1 ⊗ at 0 ⊕ num (pos 0) ⊗ at 0) (num (pos 0)) h none) (let l = large in omega (arith, ints)) tt
+  m = way_factor p
 
   way-end : End s k p d
-  way-end = by (even-until s k p q dim (subst (Flat s p) (sym leads) (flat-combination s p d d (pos m) (pos 0) flat flat)))
+  way-end = by (even-until s k p q dim (subst (Flat s p) (sym (leads p d)) (flat-combination s p d d (pos m) (pos 0) flat flat)))
     where
-      large : 0 < m
-      large = mul-pos (mul-pos {m = 2 * (nat_abs p.x + nat_abs p.y + nat_abs p.z + half_side + 1)} {n = p.w} (omega arith) p.proper) p.proper
-
       by : ((r : Place) → IsBetween p r q → FlatDim s r k) ⊎ Drop s k p q → End s k p d
       by (inl all) =
           let r = halfway p d in
-          let e = FlatDim-one s r k 3 (all r (between-from_strictly p q r (halfway-between p d) leads-somewhere)) (flat_dim-outside s r (halfway-outside p d some)) in
+          let e = FlatDim-one s r k 3 (all r (between-from_strictly p q r (halfway-between p d) (leads-somewhere p d some))) (flat_dim-outside s r (halfway-outside p d some)) in
           absurd (omega arith)
       by (inr c) =
           let b = strictly-from_between p q c.at_place c.between in
@@ -237,11 +237,11 @@ module _ (s : Set) (k : ℕ) (few : k < 3) (p : Place) (d : Vector) (dim : FlatD
             n = b.k;
             j = b.j * m;
             some_n = b.some_k;
-            some_j = mul-pos b.some_j large;
+            some_j = mul-pos b.some_j (way_factor-some p);
             ahead = record {
-              of_x = from-p p.x q.x c.at_place.x (pos p.w) (pos q.w) (pos c.at_place.w) (pos b.k) (pos b.i) (pos b.j) b.is_x b.is_w ∙ ap (λ (v : Vector). pos b.j *ℤ v.x) leads ∙ each b.j d.x;
-              of_y = from-p p.y q.y c.at_place.y (pos p.w) (pos q.w) (pos c.at_place.w) (pos b.k) (pos b.i) (pos b.j) b.is_y b.is_w ∙ ap (λ (v : Vector). pos b.j *ℤ v.y) leads ∙ each b.j d.y;
-              of_z = from-p p.z q.z c.at_place.z (pos p.w) (pos q.w) (pos c.at_place.w) (pos b.k) (pos b.i) (pos b.j) b.is_z b.is_w ∙ ap (λ (v : Vector). pos b.j *ℤ v.z) leads ∙ each b.j d.z;
+              of_x = from-p p.x q.x c.at_place.x (pos p.w) (pos q.w) (pos c.at_place.w) (pos b.k) (pos b.i) (pos b.j) b.is_x b.is_w ∙ ap (λ (v : Vector). pos b.j *ℤ v.x) (leads p d) ∙ each b.j d.x;
+              of_y = from-p p.y q.y c.at_place.y (pos p.w) (pos q.w) (pos c.at_place.w) (pos b.k) (pos b.i) (pos b.j) b.is_y b.is_w ∙ ap (λ (v : Vector). pos b.j *ℤ v.y) (leads p d) ∙ each b.j d.y;
+              of_z = from-p p.z q.z c.at_place.z (pos p.w) (pos q.w) (pos c.at_place.w) (pos b.k) (pos b.i) (pos b.j) b.is_z b.is_w ∙ ap (λ (v : Vector). pos b.j *ℤ v.z) (leads p d) ∙ each b.j d.z;
             };
             even = c.even_before;
           }
@@ -315,6 +315,6 @@ edge-around s p one = by one.0
                 ⊎_elim
                 (λ l. b.even r (between-turned b.at_place p r (between-from_strictly b.at_place p r l (direction-first (toward b.at_place p) (toward p a.at_place) middle))))
                 (λ l. ⊎_elim
-                    (λ e. FlatDim-by_germs s s p r (germs-by_cell s p r (λ h i. sym (e h))) 1 one)
-                    (λ l. a.even r (between-from_strictly p a.at_place r l (direction-of_same (toward b.at_place p) (toward p a.at_place) middle))) l)
+                (λ e. FlatDim-by_germs s s p r (germs-by_cell s p r (λ h i. sym (e h))) 1 one)
+                (λ l. a.even r (between-from_strictly p a.at_place r l (direction-of_same (toward b.at_place p) (toward p a.at_place) middle))) l)
                 (before-at-after b.at_place a.at_place p r t u)

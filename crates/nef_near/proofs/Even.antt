@@ -180,7 +180,7 @@ same-cone_near s k p q f g c v l = ⊎_elim
 germs-cells : (s : Set) (p : Place) → Cells (carriers s) (SameGerms s p)
 germs-cells s p q r same f v l = let e = germs-by_cell s q r same v l in let g = f v l in (λ h. e.0 (g.0 h), λ h. g.1 (e.1 h))
 
--- ALONG AN EVEN SEGMENT THE CONE IS ONE
+-- along an even segment there is one cone
 pub even-germs : (s : Set) (k : ℕ) (p q : Place) → IsEven s k p q → SameGerms s p q
 even-germs s k p q even = settled-along (carriers s) (SameGerms s p) (germs-cells s p) p q settled (λ v l. (λ h. h, λ h. h))
   where

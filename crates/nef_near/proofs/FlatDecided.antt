@@ -235,7 +235,7 @@ triple-in_plane n a b c some h k l =
     (given (at 0 ⊗ (at 10 ⊗ at 5 ⊖ at 11 ⊗ at 4) ⊕ at 1 ⊗ (at 11 ⊗ at 3 ⊖ at 9 ⊗ at 5) ⊕ at 2 ⊗ (at 9 ⊗ at 4 ⊖ at 10 ⊗ at 3)) (at 0 ⊗ at 6 ⊕ at 1 ⊗ at 7 ⊕ at 2 ⊗ at 8) (num (pos 0)) k
     (given (at 0 ⊗ (at 4 ⊗ at 8 ⊖ at 5 ⊗ at 7) ⊕ at 1 ⊗ (at 5 ⊗ at 6 ⊖ at 3 ⊗ at 8) ⊕ at 2 ⊗ (at 3 ⊗ at 7 ⊖ at 4 ⊗ at 6)) (at 0 ⊗ at 9 ⊕ at 1 ⊗ at 10 ⊕ at 2 ⊗ at 11) (num (pos 0)) l none))) (square-some n some) tt
 
--- EACH POINT HAS A NUMBER OF INDEPENDENT FLAT DIRECTIONS
+-- each point has a number of independent flat directions
 pub flat_dim-of : (s : Set) (p : Place) → (k : ℕ) × FlatDim s p k
 flat_dim-of s p = first (find-flat s p numbers)
   where

@@ -23,3 +23,4 @@ pub mod Generic
 pub mod Skeleton
 pub mod Edges
 pub mod Vertices
+pub mod Determined

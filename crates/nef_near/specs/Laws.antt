@@ -390,6 +390,10 @@ pub record EdgeAround (s : Set) (p : Place) : Type 0 where
 abbrev pub EdgeHasEnds : Type 0
 EdgeHasEnds = (s : Set) (p : Place) → FlatDim s p 1 → EdgeAround s p
 
+-- sets with equal cones at the vertices of both are equal: the vertices and the cones there determine the set
+abbrev pub SameSetByVertices : Type 0
+SameSetByVertices = (s t : Set) → ((p : Place) → IsVertex s p → SameCone s t p) → ((p : Place) → IsVertex t p → SameCone s t p) → SameSet s t
+
 -- ---- joined points
 -- the germs at p and q agree
 abbrev pub SameGerms : Set → Place → Place → Type 0
