@@ -1,0 +1,3 @@
+/// x
+pub fn arc_laws()
+{}

@@ -1,0 +1,5 @@
+//! x
+#![tactic(auto)]
+
+mod laws;
+pub use laws::arc_laws;
