@@ -1,3 +1,4 @@
 pub mod Signs
 pub mod Planar
 pub mod StrictlyOn
+pub mod Cyclic
