@@ -1,74 +1,115 @@
--- The cyclic order of directions about an axis n: any test on the signs of three or four of them is decided by computing it at all
--- signs that they can have. b is passed from a to c where `passes_test n a b c` holds, which says the same as `IsStrictlyOn n a c b`.
-use Rattle.std.proofs.Common.{◌≡◌, zero, suc, ℤ, neg_ℤ, Bool, true, false, cond, List, [], ◌∷◌, arith, refl, ap, ◌∙◌, subst, inl, inr, ◌⊎◌}
+-- The cyclic order of directions about an axis n. Any test on the signs of the products of three or four of them is decided by
+-- computing it at all signs that they can have, and each law of the order is such a test.
+use Rattle.std.proofs.Common.{◌≡◌, zero, suc, ℤ, neg_ℤ, Bool, true, false, cond, List, [], ◌∷◌, arith, refl, ap, ◌∙◌, inl, inr, ◌⊎◌}
 use Rattle.std.specs.List.{All}
 use lib.Dec.{T}
 use Rattle.nef_case.specs.Keys.{IsSign}
 use Rattle.nef_case.proofs.Rows.{every_key, passes_at}
 use Rattle.nef_space.specs.Vectors.{Vector, dot, triple, IsDirection, SameDirection}
-use Rattle.nef_cyclic.specs.Arcs.{IsOnCircle, IsStrictlyOn}
-use Rattle.nef_cyclic.proofs.Signs.{sgn, is_not, both, one_of, same_bool, same_bool_is, rule, consistent, every_three, ThreeTest, holds_at_signs, sgn_is_sign, use_test, related_consistent, sgn-neg_ℤ, both_of, both_left, both_right, not_of, either_of}
+use Rattle.nef_cyclic.specs.Arcs.{IsOnCircle, Passes, AboutThree, AboutFour}
+use Rattle.nef_cyclic.specs.Laws.{OneIsFirst, NeverBothWays, OrderIsTransitive, SameInPlace, OrderIsCyclic, WaysGlue, WaysSplit, NearerOnes, SeenFromLater, SeenFromBetween, SeenFromAfter, NextRises, InSector, SectorHolds, NoRayBetween}
+use Rattle.nef_cyclic.proofs.Signs.{sgn, is_not, both, one_of, rule, consistent, every_three, ThreeTest, holds_at_signs, sgn_is_sign, use_test, related_consistent, sgn-neg_ℤ, both_of, both_left, both_right, one_of_left, one_of_right, either_of, not_of, not_is}
 use Rattle.nef_cyclic.proofs.Planar.{triple-back, dot_comm}
 use Rattle.nef_cyclic.proofs.StrictlyOn.{Setting, related, passes_test, same_test, is_same, same_is, is_same_if, strict_from_rule, rule_from_strict}
 
--- directions about the axis
-pub record Three (n a b c : Vector) : Type 0 where
-  pub axis : IsDirection n
-  pub first : IsOnCircle n a
-  pub second : IsOnCircle n b
-  pub third : IsOnCircle n c
+-- ---- a fact that a test decides
+pub record Says (P : Type 0) (t : Bool) : Type 0 where
+  pub test : P → T t
+  pub fact : T t → P
 
-pub record Four (n a b c d : Vector) : Type 0 where
-  pub three : Three n a b c
-  pub fourth : IsOnCircle n d
+pub says_both : {P Q : Type 0} {s t : Bool} → Says P s → Says Q t → Says (P × Q) (both s t)
+says_both {P} {Q} {s} {t} p q = record { test = λ h. both_of s t (p.test h.0) (q.test h.1); fact = λ h. (p.fact (both_left s t h), q.fact (both_right s t h)) }
 
-pub setting : (n a b c : Vector) → Three n a b c → Setting n a c b
+pub says_one : {P Q : Type 0} {s t : Bool} → Says P s → Says Q t → Says (P ⊎ Q) (one_of s t)
+says_one {P} {Q} {s} {t} p q = record { test = λ h. elim h [ inl x ↦ one_of_left s t (p.test x) | inr y ↦ one_of_right s t (q.test y) ]; fact = λ h. either_of s t p.fact q.fact h }
+
+pub says_not : {P : Type 0} {s : Bool} → Says P s → Says (P → ⊥) (is_not s)
+says_not {P} {s} p = record { test = λ f. not_of s (λ x. f (p.fact x)); fact = λ h x. not_is s h (p.test x) }
+
+pub says_never : Says ⊥ false
+says_never = record { test = λ h. h; fact = λ h. h }
+
+pub implied : {P Q : Type 0} {s t : Bool} → Says P s → Says Q t → T (cond s t true) → P → Q
+implied {P} {Q} {s} {t} p q c h = q.fact (use_test s t (p.test h) c)
+
+-- ---- what the tests on directions say
+setting : (n a b c : Vector) → AboutThree n a b c → Setting n a c b
 setting n a b c g = record { normal = g.axis; source = g.first; target = g.third; passed = g.second }
 
-pub tested : (n a b c : Vector) → Three n a b c → IsStrictlyOn n a c b → T (passes_test n a b c)
-tested n a b c g h = rule_from_strict n a c b (setting n a b c g) h
+pub says_passes : (n a b c : Vector) → AboutThree n a b c → Says (Passes n a b c) (passes_test n a b c)
+says_passes n a b c g = record { test = rule_from_strict n a c b (setting n a b c g); fact = strict_from_rule n a c b (setting n a b c g) }
 
-pub passed : (n a b c : Vector) → Three n a b c → T (passes_test n a b c) → IsStrictlyOn n a c b
-passed n a b c g h = strict_from_rule n a c b (setting n a b c g) h
+pub says_same : (n a b : Vector) → IsDirection n → IsOnCircle n a → IsOnCircle n b → Says (SameDirection a b) (is_same n a b)
+says_same n a b h p q = record { test = is_same_if n a b; fact = same_is n a b h p q }
 
--- ---- a test on the turn and the dot product of ac, ab and bc
-pub holds_at_three : (test : ThreeTest) → T (every_three test) → (n a b c : Vector) → Three n a b c
+sgn-triple-back : (n a b : Vector) → sgn (triple n b a) ≡ neg_ℤ (sgn (triple n a b))
+sgn-triple-back n a b = ap sgn (triple-back n a b) ∙ sgn-neg_ℤ (triple n a b)
+
+acb : (n a b c : Vector) → AboutThree n a b c → AboutThree n a c b
+acb n a b c g = record { axis = g.axis; first = g.first; second = g.third; third = g.second }
+
+bca : (n a b c : Vector) → AboutThree n a b c → AboutThree n b c a
+bca n a b c g = record { axis = g.axis; first = g.second; second = g.third; third = g.first }
+
+bac : (n a b c : Vector) → AboutThree n a b c → AboutThree n b a c
+bac n a b c g = record { axis = g.axis; first = g.second; second = g.first; third = g.third }
+
+-- c passed from a to b, by the signs of the pairs of a, b and c in this order
+says_acb : (n a b c : Vector) → AboutThree n a b c → Says (Passes n a c b) (rule (sgn (triple n a b)) (sgn (dot a b)) (sgn (triple n a c)) (sgn (dot a c)) (neg_ℤ (sgn (triple n b c))) (sgn (dot b c)))
+says_acb n a b c g = rw (← sgn-triple-back n b c, dot_comm b c) (says_passes n a c b (acb n a b c g))
+
+-- c passed from b to a
+says_bca : (n a b c : Vector) → AboutThree n a b c → Says (Passes n b c a) (rule (neg_ℤ (sgn (triple n a b))) (sgn (dot a b)) (sgn (triple n b c)) (sgn (dot b c)) (neg_ℤ (sgn (triple n a c))) (sgn (dot a c)))
+says_bca n a b c g = rw (← sgn-triple-back n a b, dot_comm a b, ← sgn-triple-back n a c, dot_comm a c) (says_passes n b c a (bca n a b c g))
+
+-- a passed from b to c
+says_bac : (n a b c : Vector) → AboutThree n a b c → Says (Passes n b a c) (rule (sgn (triple n b c)) (sgn (dot b c)) (neg_ℤ (sgn (triple n a b))) (sgn (dot a b)) (sgn (triple n a c)) (sgn (dot a c)))
+says_bac n a b c g = rw (← sgn-triple-back n a b, dot_comm a b) (says_passes n b a c (bac n a b c g))
+
+-- ---- tests on the turn and the dot product of the pairs ac, ab and bc
+pub holds_at_three : (test : ThreeTest) → T (every_three test) → (n a b c : Vector) → AboutThree n a b c
     → T (test (sgn (triple n a c)) (sgn (dot a c)) (sgn (triple n a b)) (sgn (dot a b)) (sgn (triple n b c)) (sgn (dot b c)))
 holds_at_three test t n a b c g = holds_at_signs test t _ _ _ _ _ _ _ _ (related n a c b (setting n a b c g))
 
-pub sgn-triple-back : (n a b : Vector) → sgn (triple n b a) ≡ neg_ℤ (sgn (triple n a b))
-sgn-triple-back n a b = ap sgn (triple-back n a b) ∙ sgn-neg_ℤ (triple n a b)
+abbrev one_is_first_test : ThreeTest
+one_is_first_test ac ac' ab ab' bc bc' = cond (both (is_not (same_test ab ab')) (is_not (same_test ac ac'))) (one_of (same_test bc bc') (one_of (rule ac ac' ab ab' bc bc') (rule ab ab' ac ac' (neg_ℤ bc) bc'))) true
 
--- the test of a way whose last pair stands in the other order
-pub passes_test-back : (n a b c : Vector) → rule (sgn (triple n a b)) (sgn (dot a b)) (sgn (triple n a c)) (sgn (dot a c)) (neg_ℤ (sgn (triple n b c))) (sgn (dot b c)) ≡ passes_test n a c b
-passes_test-back n a b c = rw (sgn-triple-back n b c, dot_comm c b) refl
+all_one_is_first : T (every_three one_is_first_test)
+all_one_is_first = tt
 
--- ---- b passed from a to c: then c passed from b to a, unless a and c are the same
-abbrev pub cycle_test : ThreeTest
-cycle_test ac_t ac_d ab_t ab_d bc_t bc_d =
-    cond (both (rule ac_t ac_d ab_t ab_d bc_t bc_d) (is_not (same_test ac_t ac_d)))
-    (rule (neg_ℤ ab_t) ab_d bc_t bc_d (neg_ℤ ac_t) ac_d) true
+pub one_is_first : OneIsFirst
+one_is_first n a b c g h k =
+    implied (says_both (says_not (says_same n a b g.axis g.first g.second)) (says_not (says_same n a c g.axis g.first g.third))) (says_one (says_same n b c g.axis g.second g.third) (says_one (says_passes n a b c g) (says_acb n a b c g))) (holds_at_three one_is_first_test all_one_is_first n a b c g) (h, k)
 
-pub all_cycle : T (every_three cycle_test)
-all_cycle = tt
+abbrev never_both_ways_test : ThreeTest
+never_both_ways_test ac ac' ab ab' bc bc' = cond (both (rule ac ac' ab ab' bc bc') (rule ab ab' ac ac' (neg_ℤ bc) bc')) false true
 
--- ---- two directions other than a are the same, or one is passed before the other
-abbrev pub either_test : ThreeTest
-either_test ac_t ac_d ab_t ab_d bc_t bc_d =
-    cond (one_of (same_test ac_t ac_d) (same_test ab_t ab_d)) true
-    (one_of (same_test bc_t bc_d) (one_of (rule ac_t ac_d ab_t ab_d bc_t bc_d) (rule ab_t ab_d ac_t ac_d (neg_ℤ bc_t) bc_d)))
+all_never_both_ways : T (every_three never_both_ways_test)
+all_never_both_ways = tt
 
-pub all_either : T (every_three either_test)
-all_either = tt
+pub never_both_ways : NeverBothWays
+never_both_ways n a b c g h k =
+    implied (says_both (says_passes n a b c g) (says_acb n a b c g)) says_never (holds_at_three never_both_ways_test all_never_both_ways n a b c g) (h, k)
 
--- ---- not both ways
-abbrev pub never_test : ThreeTest
-never_test ac_t ac_d ab_t ab_d bc_t bc_d =
-    cond (one_of (same_test ac_t ac_d) (same_test ab_t ab_d)) true
-    (is_not (both (rule ac_t ac_d ab_t ab_d bc_t bc_d) (rule ab_t ab_d ac_t ac_d (neg_ℤ bc_t) bc_d)))
+abbrev order_is_cyclic_test : ThreeTest
+order_is_cyclic_test ac ac' ab ab' bc bc' = cond (both (is_not (same_test ac ac')) (rule ac ac' ab ab' bc bc')) (rule (neg_ℤ ab) ab' bc bc' (neg_ℤ ac) ac') true
 
-pub all_never : T (every_three never_test)
-all_never = tt
+all_order_is_cyclic : T (every_three order_is_cyclic_test)
+all_order_is_cyclic = tt
+
+pub order_is_cyclic : OrderIsCyclic
+order_is_cyclic n a b c g h k =
+    implied (says_both (says_not (says_same n a c g.axis g.first g.third)) (says_passes n a b c g)) (says_bca n a b c g) (holds_at_three order_is_cyclic_test all_order_is_cyclic n a b c g) (h, k)
+
+abbrev next_rises_test : ThreeTest
+next_rises_test ac ac' ab ab' bc bc' = cond (both (is_not (same_test ac ac')) (both (is_not (same_test ab ab')) (both (is_not (same_test bc bc')) (is_not (rule bc bc' (neg_ℤ ab) ab' ac ac'))))) (rule ac ac' ab ab' bc bc') true
+
+all_next_rises : T (every_three next_rises_test)
+all_next_rises = tt
+
+pub next_rises : NextRises
+next_rises n a b c g h k l m =
+    implied (says_both (says_not (says_same n a c g.axis g.first g.third)) (says_both (says_not (says_same n a b g.axis g.first g.second)) (says_both (says_not (says_same n b c g.axis g.second g.third)) (says_not (says_bac n a b c g))))) (says_passes n a b c g) (holds_at_three next_rises_test all_next_rises n a b c g) (h, (k, (l, m)))
 
 -- ---- four directions: the signs of the six pairs, tried pair by pair, and only where they are consistent so far
 abbrev pub at_two : (ℤ → ℤ → Bool) → List ℤ → Bool
@@ -114,10 +155,10 @@ stage_ab test ab ab' = every_pair (stage_ac test ab ab')
 abbrev pub every_four : FourTest → Bool
 every_four test = every_pair (stage_ab test)
 
-pub holds_at_four : (test : FourTest) → T (every_four test) → (n a b c d : Vector) → Four n a b c d
+pub holds_at_four : (test : FourTest) → T (every_four test) → (n a b c d : Vector) → AboutFour n a b c d
     → T (test (sgn (triple n a b)) (sgn (dot a b)) (sgn (triple n a c)) (sgn (dot a c)) (sgn (triple n a d)) (sgn (dot a d)) (sgn (triple n b c)) (sgn (dot b c)) (sgn (triple n b d)) (sgn (dot b d)) (sgn (triple n c d)) (sgn (dot c d)))
 holds_at_four test t n a b c d g =
-    let p = g.three.first in let q = g.three.second in let r = g.three.third in let s = g.fourth in let h = g.three.axis in
+    let p = g.first in let q = g.second in let r = g.third in let s = g.fourth in let h = g.axis in
     let ab = sgn (triple n a b) in let ab' = sgn (dot a b) in let ac = sgn (triple n a c) in let ac' = sgn (dot a c) in
     let ad = sgn (triple n a d) in let ad' = sgn (dot a d) in let bc = sgn (triple n b c) in let bc' = sgn (dot b c) in
     let bd = sgn (triple n b d) in let bd' = sgn (dot b d) in let cd = sgn (triple n c d) in let cd' = sgn (dot c d) in
@@ -136,104 +177,125 @@ holds_at_four test t n a b c d g =
     let all = test ab ab' ac ac' ad ad' bc bc' bd bd' cd cd' in
     use_test (consistent bd bd' bc bc' cd cd') all bcd (use_test (consistent ad ad' ac ac' cd cd') (cond (consistent bd bd' bc bc' cd cd') all true) acd at_cd)
 
--- ---- b before c and c before d, on the way from a: then b before d
-abbrev pub transitive_test : FourTest
-transitive_test ab ab' ac ac' ad ad' bc bc' bd bd' cd cd' =
-    cond (both (rule ac ac' ab ab' bc bc') (rule ad ad' ac ac' cd cd')) (rule ad ad' ab ab' bd bd') true
+-- ---- the laws that are tests on four
+abc : (n a b c d : Vector) → AboutFour n a b c d → AboutThree n a b c
+abc n a b c d g = record { axis = g.axis; first = g.first; second = g.second; third = g.third }
 
-pub all_transitive : T (every_four transitive_test)
-all_transitive = tt
+abd : (n a b c d : Vector) → AboutFour n a b c d → AboutThree n a b d
+abd n a b c d g = record { axis = g.axis; first = g.first; second = g.second; third = g.fourth }
 
--- ---- b passed from a to d, and c passed from b to d: then c passed from a to d, and b before c
-abbrev pub glue_test : FourTest
-glue_test ab ab' ac ac' ad ad' bc bc' bd bd' cd cd' =
-    cond (both (rule ad ad' ab ab' bd bd') (rule bd bd' bc bc' cd cd')) (rule ad ad' ac ac' cd cd') true
+acd : (n a b c d : Vector) → AboutFour n a b c d → AboutThree n a c d
+acd n a b c d g = record { axis = g.axis; first = g.first; second = g.third; third = g.fourth }
 
-pub all_glue : T (every_four glue_test)
-all_glue = tt
+bcd : (n a b c d : Vector) → AboutFour n a b c d → AboutThree n b c d
+bcd n a b c d g = record { axis = g.axis; first = g.second; second = g.third; third = g.fourth }
 
--- ---- b and c passed from a to d: the same, or one is passed before the other, and the other from it to d
-abbrev pub split_test : FourTest
-split_test ab ab' ac ac' ad ad' bc bc' bd bd' cd cd' =
-    cond (both (rule ad ad' ab ab' bd bd') (rule ad ad' ac ac' cd cd'))
-    (one_of (same_test bc bc') (one_of (both (rule ac ac' ab ab' bc bc') (rule bd bd' bc bc' cd cd')) (both (rule ab ab' ac ac' (neg_ℤ bc) bc') (rule cd cd' (neg_ℤ bc) bc' bd bd')))) true
+abbrev order_is_transitive_test : FourTest
+order_is_transitive_test ab ab' ac ac' ad ad' bc bc' bd bd' cd cd' = cond (both (rule ac ac' ab ab' bc bc') (rule ad ad' ac ac' cd cd')) (rule ad ad' ab ab' bd bd') true
 
-pub all_split : T (every_four split_test)
-all_split = tt
+all_order_is_transitive : T (every_four order_is_transitive_test)
+all_order_is_transitive = tt
 
--- ---- c passed from a to b, and d not passed from a to b, nor the same as a: then c passed from a to d
-abbrev pub nearer_test : FourTest
-nearer_test ab ab' ac ac' ad ad' bc bc' bd bd' cd cd' =
-    cond (both (rule ab ab' ac ac' (neg_ℤ bc) bc') (both (is_not (rule ab ab' ad ad' (neg_ℤ bd) bd')) (is_not (same_test ad ad')))) (rule ad ad' ac ac' cd cd') true
+pub order_is_transitive : OrderIsTransitive
+order_is_transitive n a b c d g h k =
+    implied (says_both (says_passes n a b c (abc n a b c d g)) (says_passes n a c d (acd n a b c d g))) (says_passes n a b d (abd n a b c d g)) (holds_at_four order_is_transitive_test all_order_is_transitive n a b c d g) (h, k)
 
-pub all_nearer : T (every_four nearer_test)
-all_nearer = tt
+abbrev same_in_place_test : FourTest
+same_in_place_test ab ab' ac ac' ad ad' bc bc' bd bd' cd cd' = cond (both (same_test bc bc') (rule ad ad' ab ab' bd bd')) (rule ad ad' ac ac' cd cd') true
 
--- ---- the facts on directions
-acb : (n a b c : Vector) → Three n a b c → Three n a c b
-acb n a b c g = record { axis = g.axis; first = g.first; second = g.third; third = g.second }
+all_same_in_place : T (every_four same_in_place_test)
+all_same_in_place = tt
 
-abd : (n a b c d : Vector) → Four n a b c d → Three n a b d
-abd n a b c d g = record { axis = g.three.axis; first = g.three.first; second = g.three.second; third = g.fourth }
+pub same_in_place : SameInPlace
+same_in_place n a b c d g h k =
+    implied (says_both (says_same n b c g.axis g.second g.third) (says_passes n a b d (abd n a b c d g))) (says_passes n a c d (acd n a b c d g)) (holds_at_four same_in_place_test all_same_in_place n a b c d g) (h, k)
 
-acd : (n a b c d : Vector) → Four n a b c d → Three n a c d
-acd n a b c d g = record { axis = g.three.axis; first = g.three.first; second = g.three.third; third = g.fourth }
+abbrev ways_glue_test : FourTest
+ways_glue_test ab ab' ac ac' ad ad' bc bc' bd bd' cd cd' = cond (both (rule ad ad' ab ab' bd bd') (rule bd bd' bc bc' cd cd')) (rule ad ad' ac ac' cd cd') true
 
-bcd : (n a b c d : Vector) → Four n a b c d → Three n b c d
-bcd n a b c d g = record { axis = g.three.axis; first = g.three.second; second = g.three.third; third = g.fourth }
+all_ways_glue : T (every_four ways_glue_test)
+all_ways_glue = tt
 
-cycled_test : (n a b c : Vector) → rule (neg_ℤ (sgn (triple n a b))) (sgn (dot a b)) (sgn (triple n b c)) (sgn (dot b c)) (neg_ℤ (sgn (triple n a c))) (sgn (dot a c)) ≡ passes_test n b c a
-cycled_test n a b c = rw (sgn-triple-back n a b, dot_comm b a, sgn-triple-back n a c, dot_comm c a) refl
+pub ways_glue : WaysGlue
+ways_glue n a b c d g h k =
+    implied (says_both (says_passes n a b d (abd n a b c d g)) (says_passes n b c d (bcd n a b c d g))) (says_passes n a c d (acd n a b c d g)) (holds_at_four ways_glue_test all_ways_glue n a b c d g) (h, k)
 
-pub passes_transitive : (n a b c d : Vector) → Four n a b c d → IsStrictlyOn n a c b → IsStrictlyOn n a d c → IsStrictlyOn n a d b
-passes_transitive n a b c d g h k =
-    passed n a b d (abd n a b c d g)
-    (use_test (both (passes_test n a b c) (passes_test n a c d)) (passes_test n a b d) (both_of (passes_test n a b c) (passes_test n a c d) (tested n a b c g.three h) (tested n a c d (acd n a b c d g) k))
-    (holds_at_four transitive_test all_transitive n a b c d g))
+abbrev ways_split_test : FourTest
+ways_split_test ab ab' ac ac' ad ad' bc bc' bd bd' cd cd' = cond (both (rule ad ad' ab ab' bd bd') (rule ad ad' ac ac' cd cd')) (one_of (same_test bc bc') (one_of (both (rule ac ac' ab ab' bc bc') (rule bd bd' bc bc' cd cd')) (both (rule ab ab' ac ac' (neg_ℤ bc) bc') (rule cd cd' (neg_ℤ bc) bc' bd bd')))) true
 
-pub passes_glued : (n a b c d : Vector) → Four n a b c d → IsStrictlyOn n a d b → IsStrictlyOn n b d c → IsStrictlyOn n a d c
-passes_glued n a b c d g h k =
-    passed n a c d (acd n a b c d g)
-    (use_test (both (passes_test n a b d) (passes_test n b c d)) (passes_test n a c d) (both_of (passes_test n a b d) (passes_test n b c d) (tested n a b d (abd n a b c d g) h) (tested n b c d (bcd n a b c d g) k))
-    (holds_at_four glue_test all_glue n a b c d g))
+all_ways_split : T (every_four ways_split_test)
+all_ways_split = tt
 
-pub passes_cycled : (n a b c : Vector) → Three n a b c → (SameDirection a c → ⊥) → IsStrictlyOn n a c b → IsStrictlyOn n b a c
-passes_cycled n a b c g apart h =
-    passed n b c a (record { axis = g.axis; first = g.second; second = g.third; third = g.first })
-    (subst T (cycled_test n a b c)
-    (use_test (both (passes_test n a b c) (is_not (is_same n a c))) _ (both_of (passes_test n a b c) _ (tested n a b c g h) (not_of _ (λ k. apart (same_is n a c g.axis g.first g.third k))))
-    (holds_at_three cycle_test all_cycle n a b c g)))
+pub ways_split : WaysSplit
+ways_split n a b c d g h k =
+    implied (says_both (says_passes n a b d (abd n a b c d g)) (says_passes n a c d (acd n a b c d g))) (says_one (says_same n b c g.axis g.second g.third) (says_one (says_both (says_passes n a b c (abc n a b c d g)) (says_passes n b c d (bcd n a b c d g))) (says_both (says_acb n a b c (abc n a b c d g)) (says_bac n b c d (bcd n a b c d g))))) (holds_at_four ways_split_test all_ways_split n a b c d g) (h, k)
 
-pub passes_never_both : (n a b c : Vector) → Three n a b c → IsStrictlyOn n a c b → IsStrictlyOn n a b c → ⊥
-passes_never_both n a b c g h k =
-    never (is_same n a c) (is_same n a b) (passes_test n a b c) (passes_test n a c b)
-    (λ t. k.not_source (same_is n a c g.axis g.first g.third t)) (λ t. h.not_source (same_is n a b g.axis g.first g.second t))
-    (tested n a b c g h) (tested n a c b (acb n a b c g) k)
-    (subst (λ (t : Bool). T (cond (one_of (is_same n a c) (is_same n a b)) true (is_not (both (passes_test n a b c) t)))) (passes_test-back n a b c)
-    (holds_at_three never_test all_never n a b c g))
-  where
-    never : (u v x y : Bool) → ¬ (T u) → ¬ (T v) → T x → T y → T (cond (one_of u v) true (is_not (both x y))) → ⊥
-    never true v x y f g p q t = f tt
-    never false true x y f g p q t = g tt
-    never false false true true f g p q t = t
-    never false false true false f g p q t = q
-    never false false false y f g p q t = p
+abbrev nearer_ones_test : FourTest
+nearer_ones_test ab ab' ac ac' ad ad' bc bc' bd bd' cd cd' = cond (both (rule ab ab' ac ac' (neg_ℤ bc) bc') (both (is_not (rule ab ab' ad ad' (neg_ℤ bd) bd')) (is_not (same_test ad ad')))) (rule ad ad' ac ac' cd cd') true
 
-pub passes_either : (n a b c : Vector) → Three n a b c → (SameDirection a b → ⊥) → (SameDirection a c → ⊥) → SameDirection b c ⊎ IsStrictlyOn n a c b ⊎ IsStrictlyOn n a b c
-passes_either n a b c g not_b not_c =
-    meant (sort (is_same n a c) (is_same n a b) (is_same n b c) (passes_test n a b c) (passes_test n a c b)
-    (λ t. not_c (same_is n a c g.axis g.first g.third t)) (λ t. not_b (same_is n a b g.axis g.first g.second t))
-    (subst (λ (t : Bool). T (cond (one_of (is_same n a c) (is_same n a b)) true (one_of (is_same n b c) (one_of (passes_test n a b c) t)))) (passes_test-back n a b c)
-    (holds_at_three either_test all_either n a b c g)))
-  where
-    sort : (u v x y z : Bool) → ¬ (T u) → ¬ (T v) → T (cond (one_of u v) true (one_of x (one_of y z))) → T x ⊎ T y ⊎ T z
-    sort true v x y z f g h = absurd (f tt)
-    sort false true x y z f g h = absurd (g tt)
-    sort false false true y z f g h = inl tt
-    sort false false false true z f g h = inr (inl tt)
-    sort false false false false z f g h = inr (inr h)
+all_nearer_ones : T (every_four nearer_ones_test)
+all_nearer_ones = tt
 
-    meant : T (is_same n b c) ⊎ T (passes_test n a b c) ⊎ T (passes_test n a c b) → SameDirection b c ⊎ IsStrictlyOn n a c b ⊎ IsStrictlyOn n a b c
-    meant (inl x) = inl (same_is n b c g.axis g.second g.third x)
-    meant (inr (inl y)) = inr (inl (passed n a b c g y))
-    meant (inr (inr z)) = inr (inr (passed n a c b (acb n a b c g) z))
+pub nearer_ones : NearerOnes
+nearer_ones n a b c d g h k l =
+    implied (says_both (says_acb n a b c (abc n a b c d g)) (says_both (says_not (says_acb n a b d (abd n a b c d g))) (says_not (says_same n a d g.axis g.first g.fourth)))) (says_passes n a c d (acd n a b c d g)) (holds_at_four nearer_ones_test all_nearer_ones n a b c d g) (h, (k, l))
+
+abbrev seen_from_later_test : FourTest
+seen_from_later_test ab ab' ac ac' ad ad' bc bc' bd bd' cd cd' = cond (both (rule ac ac' ab ab' bc bc') (rule ad ad' ac ac' cd cd')) (rule bd bd' bc bc' cd cd') true
+
+all_seen_from_later : T (every_four seen_from_later_test)
+all_seen_from_later = tt
+
+pub seen_from_later : SeenFromLater
+seen_from_later n a b c d g h k =
+    implied (says_both (says_passes n a b c (abc n a b c d g)) (says_passes n a c d (acd n a b c d g))) (says_passes n b c d (bcd n a b c d g)) (holds_at_four seen_from_later_test all_seen_from_later n a b c d g) (h, k)
+
+abbrev seen_from_between_test : FourTest
+seen_from_between_test ab ab' ac ac' ad ad' bc bc' bd bd' cd cd' = cond (both (is_not (same_test ac ac')) (both (rule ac ac' ab ab' bc bc') (one_of (same_test ad ad') (rule ab ab' ad ad' (neg_ℤ bd) bd')))) (rule bd bd' bc bc' cd cd') true
+
+all_seen_from_between : T (every_four seen_from_between_test)
+all_seen_from_between = tt
+
+pub seen_from_between : SeenFromBetween
+seen_from_between n a b c d g h k l =
+    implied (says_both (says_not (says_same n a c g.axis g.first g.third)) (says_both (says_passes n a b c (abc n a b c d g)) (says_one (says_same n a d g.axis g.first g.fourth) (says_acb n a b d (abd n a b c d g))))) (says_passes n b c d (bcd n a b c d g)) (holds_at_four seen_from_between_test all_seen_from_between n a b c d g) (h, (k, l))
+
+abbrev seen_from_after_test : FourTest
+seen_from_after_test ab ab' ac ac' ad ad' bc bc' bd bd' cd cd' = cond (both (is_not (same_test ab ab')) (both (rule ab ab' ac ac' (neg_ℤ bc) bc') (one_of (same_test ad ad') (rule ac ac' ad ad' (neg_ℤ cd) cd')))) (rule bc bc' bd bd' (neg_ℤ cd) cd') true
+
+all_seen_from_after : T (every_four seen_from_after_test)
+all_seen_from_after = tt
+
+pub seen_from_after : SeenFromAfter
+seen_from_after n a b c d g h k l =
+    implied (says_both (says_not (says_same n a b g.axis g.first g.second)) (says_both (says_acb n a b c (abc n a b c d g)) (says_one (says_same n a d g.axis g.first g.fourth) (says_acb n a c d (acd n a b c d g))))) (says_acb n b c d (bcd n a b c d g)) (holds_at_four seen_from_after_test all_seen_from_after n a b c d g) (h, (k, l))
+
+abbrev in_sector_test : FourTest
+in_sector_test ab ab' ac ac' ad ad' bc bc' bd bd' cd cd' = cond (both (one_of (same_test ab ab') (both (rule ac ac' ab ab' bc bc') (rule ad ad' ab ab' bd bd'))) (rule ac ac' ad ad' (neg_ℤ cd) cd')) (rule bc bc' bd bd' (neg_ℤ cd) cd') true
+
+all_in_sector : T (every_four in_sector_test)
+all_in_sector = tt
+
+pub in_sector : InSector
+in_sector n a b c d g h k =
+    implied (says_both (says_one (says_same n a b g.axis g.first g.second) (says_both (says_passes n a b c (abc n a b c d g)) (says_passes n a b d (abd n a b c d g)))) (says_acb n a c d (acd n a b c d g))) (says_acb n b c d (bcd n a b c d g)) (holds_at_four in_sector_test all_in_sector n a b c d g) (h, k)
+
+abbrev sector_holds_test : FourTest
+sector_holds_test ab ab' ac ac' ad ad' bc bc' bd bd' cd cd' = cond (both (one_of (same_test ab ab') (rule ac ac' ab ab' bc bc')) (rule bc bc' bd bd' (neg_ℤ cd) cd')) (both (rule ac ac' ad ad' (neg_ℤ cd) cd') (one_of (same_test ab ab') (rule ad ad' ab ab' bd bd'))) true
+
+all_sector_holds : T (every_four sector_holds_test)
+all_sector_holds = tt
+
+pub sector_holds : SectorHolds
+sector_holds n a b c d g h k =
+    implied (says_both (says_one (says_same n a b g.axis g.first g.second) (says_passes n a b c (abc n a b c d g))) (says_acb n b c d (bcd n a b c d g))) (says_both (says_acb n a c d (acd n a b c d g)) (says_one (says_same n a b g.axis g.first g.second) (says_passes n a b d (abd n a b c d g)))) (holds_at_four sector_holds_test all_sector_holds n a b c d g) (h, k)
+
+abbrev no_ray_between_test : FourTest
+no_ray_between_test ab ab' ac ac' ad ad' bc bc' bd bd' cd cd' = cond (both (one_of (same_test ab ab') (rule ac ac' ab ab' bc bc')) (one_of (same_test bd bd') (one_of (same_test cd cd') (one_of (same_test ad ad') (one_of (both (is_not (same_test ab ab')) (rule ab ab' ad ad' (neg_ℤ bd) bd')) (both (is_not (same_test ac ac')) (rule ad ad' ac ac' cd cd'))))))) (is_not (rule bc bc' bd bd' (neg_ℤ cd) cd')) true
+
+all_no_ray_between : T (every_four no_ray_between_test)
+all_no_ray_between = tt
+
+pub no_ray_between : NoRayBetween
+no_ray_between n a b c d g h k =
+    implied (says_both (says_one (says_same n a b g.axis g.first g.second) (says_passes n a b c (abc n a b c d g))) (says_one (says_same n b d g.axis g.second g.fourth) (says_one (says_same n c d g.axis g.third g.fourth) (says_one (says_same n a d g.axis g.first g.fourth) (says_one (says_both (says_not (says_same n a b g.axis g.first g.second)) (says_acb n a b d (abd n a b c d g))) (says_both (says_not (says_same n a c g.axis g.first g.third)) (says_passes n a c d (acd n a b c d g)))))))) (says_not (says_acb n b c d (bcd n a b c d g))) (holds_at_four no_ray_between_test all_no_ray_between n a b c d g) (h, k)

@@ -2,3 +2,4 @@ pub mod Signs
 pub mod Planar
 pub mod StrictlyOn
 pub mod Cyclic
+pub mod Directions

@@ -75,9 +75,9 @@ flat_given n a b i j k flat to_a to_b = given (at i) (triple_poly 0 3 6) (num (p
 
 pub parallel_from_turn : (n a b : Vector) → pos 0 <ℤ dot n n → dot n a ≡ pos 0 → dot n b ≡ pos 0 → triple n a b ≡ pos 0 → IsParallel a b
 parallel_from_turn n a b h to_a to_b flat = (
-    follows_times (numbers n a b n) (dot_poly 0 0) (minor_poly 3 6 1 2) (num (pos 0)) (flat_given n a b 0 1 2 flat to_a to_b) h tt,
-    follows_times (numbers n a b n) (dot_poly 0 0) (minor_poly 3 6 2 0) (num (pos 0)) (flat_given n a b 1 2 0 flat to_a to_b) h tt,
-    follows_times (numbers n a b n) (dot_poly 0 0) (minor_poly 3 6 0 1) (num (pos 0)) (flat_given n a b 2 0 1 flat to_a to_b) h tt,
+  follows_times (numbers n a b n) (dot_poly 0 0) (minor_poly 3 6 1 2) (num (pos 0)) (flat_given n a b 0 1 2 flat to_a to_b) h tt,
+  follows_times (numbers n a b n) (dot_poly 0 0) (minor_poly 3 6 2 0) (num (pos 0)) (flat_given n a b 1 2 0 flat to_a to_b) h tt,
+  follows_times (numbers n a b n) (dot_poly 0 0) (minor_poly 3 6 0 1) (num (pos 0)) (flat_given n a b 2 0 1 flat to_a to_b) h tt,
 )
 
 pub turn_from_parallel : (n a b : Vector) → IsParallel a b → triple n a b ≡ pos 0

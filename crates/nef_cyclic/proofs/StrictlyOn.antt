@@ -4,7 +4,7 @@ use lib.Dec.{T}
 use Rattle.nef_case.specs.Between.{between_signs}
 use Rattle.nef_space.specs.Vectors.{Vector, dot, triple, IsDirection, SameDirection}
 use Rattle.nef_cyclic.specs.Arcs.{IsOnCircle, IsStrictlyOn}
-use Rattle.nef_cyclic.proofs.Signs.{sgn, is_zero, is_plus, is_not, both, rule, Cases, cases_from_test, test_from_cases, plus_is, is_plus_if, zero_is, is_zero_if, both_left, both_right, both_of, not_of, not_is, Related, between_is_rule}
+use Rattle.nef_cyclic.proofs.Signs.{sgn, is_zero, is_plus, is_not, both, rule, cases_from_test, test_from_cases, plus_is, is_plus_if, zero_is, is_zero_if, both_left, both_right, both_of, not_of, not_is, Related, between_is_rule}
 use Rattle.nef_cyclic.proofs.Planar.{self_positive, turn_law, along_law, parallel_from_turn, turn_from_parallel, parallel-sym, dot_comm, turn_or_dot}
 
 -- a normal and three directions on its circle
