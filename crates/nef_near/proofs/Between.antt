@@ -153,7 +153,7 @@ between-from_strictly p q r s some = same-direction_of (pos s.k) (pos s.i) (pos 
     some
 
 -- a combination of two equal points is equal to them
-strictly-same : (p q r : Place) → Strictly p q r → IsZero (toward p q) → SamePlace r p
+pub strictly-same : (p q r : Place) → Strictly p q r → IsZero (toward p q) → SamePlace r p
 strictly-same p q r s z = same-place_sym p r (toward-same p r (
   one (toward p q).x (toward p r).x z.0 (from-p p.x q.x r.x (pos p.w) (pos q.w) (pos r.w) (pos s.k) (pos s.i) (pos s.j) s.is_x s.is_w),
   one (toward p q).y (toward p r).y z.1 (from-p p.y q.y r.y (pos p.w) (pos q.w) (pos r.w) (pos s.k) (pos s.i) (pos s.j) s.is_y s.is_w),

@@ -88,7 +88,7 @@ abbrev pub Cells : List Form → (Place → Type 0) → Type 0
 Cells hs P = (p q : Place) → SameSigns hs p q → P p → P q
 
 -- a coordinate is in the frame where two of the forms are negative
-coordinate-in : (f g : Form) (x : ℤ) (p : Place) → form_at f p ≡ x -ℤ pos (half_side * p.w) → form_at g p ≡ neg_ℤ x -ℤ pos (half_side * p.w) → (nat_abs x < half_side * p.w) ↔ ((sign_at f p ≡ minus) × (sign_at g p ≡ minus))
+pub coordinate-in : (f g : Form) (x : ℤ) (p : Place) → form_at f p ≡ x -ℤ pos (half_side * p.w) → form_at g p ≡ neg_ℤ x -ℤ pos (half_side * p.w) → (nat_abs x < half_side * p.w) ↔ ((sign_at f p ≡ minus) × (sign_at g p ≡ minus))
 coordinate-in f g x p e e' = (
   λ h. (sign-minus (form_at f p) (omega (arith, ints)), sign-minus (form_at g p) (omega (arith, ints))),
   λ h. let a = minus-is (form_at f p) h.0 in let b = minus-is (form_at g p) h.1 in omega (arith, ints),

@@ -42,7 +42,7 @@ label-toward s m p q c (n, some, f) =
     locality s m p (step p t (toward p q)) q (step-within (reach_all (carriers s) p) p (toward p q) t short) c
     (λ f l e. sign-along f p t (toward p q) e short.0 ∙ sym (sign-toward f p q e)) (f t (omega (arith, ints), omega (arith, ints)))
 
-vector-same : (d e : Vector) → d.x ≡ e.x → d.y ≡ e.y → d.z ≡ e.z → d ≡ e
+pub vector-same : (d e : Vector) → d.x ≡ e.x → d.y ≡ e.y → d.z ≡ e.z → d ≡ e
 vector-same d e i j k = ap (λ u. vector u d.y d.z) i ∙ ap (λ u. vector e.x u d.z) j ∙ ap (λ u. vector e.x e.y u) k
 
 toward-one : (x : ℤ) (v : ℕ) (u : ℤ) (w : ℕ) (t : Ratio) (d : ℤ) → (x *ℤ pos t.b +ℤ t.a *ℤ pos v *ℤ d) *ℤ pos w -ℤ u *ℤ pos (v * t.b) ≡ pos t.b *ℤ (x *ℤ pos w -ℤ u *ℤ pos v) +ℤ t.a *ℤ pos v *ℤ pos w *ℤ d

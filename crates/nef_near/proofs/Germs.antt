@@ -58,7 +58,7 @@ along-same s m p d t u h k = locality s m p (step p t d) (step p u d) (step-with
 abbrev pub sample : Set → Place → Vector → Ratio
 sample s p d = record { a = pos 1; b = short_enough s p d + 1; proper = omega arith }
 
-sample-short : (s : Set) (p : Place) (d : Vector) → IsShort (short_enough s p d) (sample s p d)
+pub sample-short : (s : Set) (p : Place) (d : Vector) → IsShort (short_enough s p d) (sample s p d)
 sample-short s p d = (omega (arith, ints), omega (arith, ints))
 
 -- the label of one short step is the germ

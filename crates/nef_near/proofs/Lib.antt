@@ -6,8 +6,13 @@ pub mod Decided
 pub mod Rays
 pub mod Combine
 pub mod Alike
+pub mod Frames
 pub mod NearGerms
+pub mod Decisions
+pub mod Topology
+pub mod FlatOperations
 pub mod Meets
 pub mod Segment
 pub mod FirstHit
 pub mod Between
+pub mod FirstChange

@@ -80,6 +80,12 @@ toward-same p q z = record { along_x = one q.x p.w p.x q.w z.0; along_y = one q.
     one : (a : ℤ) (b : ℕ) (c : ℤ) (d : ℕ) → a *ℤ pos b -ℤ c *ℤ pos d ≡ pos 0 → c *ℤ pos d ≡ a *ℤ pos b
     one a b c d e = omega (arith, ints)
 
+pub toward-self : (p : Place) → IsZero (toward p p)
+toward-self p = (one p.x p.w, one p.y p.w, one p.z p.w)
+  where
+    one : (x : ℤ) (w : ℕ) → x *ℤ pos w -ℤ x *ℤ pos w ≡ pos 0
+    one x w = omega (arith, ints)
+
 -- ---- the germ by the signs alone
 -- equal signs at p and q, and equal signs of the slopes where those are nought
 pub Germ-cells : (s : Set) (p q : Place) (d e : Vector) (l : Label) → SameSigns (carriers s) p q → SameSlopesAt (carriers s) p d e → Germ s p d l → Germ s q e l
@@ -127,6 +133,12 @@ square-some e some = ⊎_elim (λ z. absurd (some (parts z))) (λ h. h) (zero-or
 -- the square of a vector that has a positive product with another one
 pub square-positive : (d e : Vector) → SameDirection d e → pos 0 <ℤ dot e e
 square-positive d e s = square-some e (λ z. let f = s.forward in let g = slope-zero (form d.x d.y d.z (pos 0)) e z in nothing (dot d e) f g)
+  where
+    nothing : (x : ℤ) → pos 0 <ℤ x → x ≡ pos 0 → ⊥
+    nothing x h k = omega (arith, ints)
+
+pub direction-of_same : (d e : Vector) → SameDirection d e → IsDirection e
+direction-of_same d e s z = let f = square-positive d e s in let g = slope-zero (form e.x e.y e.z (pos 0)) e z in nothing (dot e e) f g
   where
     nothing : (x : ℤ) → pos 0 <ℤ x → x ≡ pos 0 → ⊥
     nothing x h k = omega (arith, ints)
