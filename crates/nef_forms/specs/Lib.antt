@@ -1,0 +1,2 @@
+pub mod Homogeneous
+pub mod Near

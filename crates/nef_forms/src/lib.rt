@@ -1,0 +1,4 @@
+//! The laws of homogeneous vectors.
+#![tactic(auto)]
+
+pub fn placeholder() {}
