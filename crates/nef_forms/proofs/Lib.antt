@@ -6,3 +6,5 @@ pub mod Far
 pub mod Near
 pub mod Directions
 pub mod Between
+pub mod Generic
+pub mod Representatives
