@@ -13,6 +13,15 @@ pub record Change (P : Homogeneous → Type 0) (p q : Homogeneous) : Type 0 wher
   pub before : (r : Homogeneous) → IsMixed p r vector → P r
   pub change : (P vector → ⊥) ⊎ (P vector × ((z : Homogeneous) × OnSegment p z q × OnSegment p vector z × ((r : Homogeneous) → IsMixed vector r z → P r → ⊥)))
 
+-- the same of a given vector
+pub record ChangeAt (P : Homogeneous → Type 0) (p v q : Homogeneous) : Type 0 where
+  pub on : OnSegment p v q
+  pub before : (r : Homogeneous) → IsMixed p r v → P r
+  pub change : (P v → ⊥) ⊎ (P v × ((z : Homogeneous) × OnSegment p z q × OnSegment p v z × ((r : Homogeneous) → IsMixed v r z → P r → ⊥)))
+
+pub change-at : (P : Homogeneous → Type 0) (p q : Homogeneous) (d : Change P p q) → ChangeAt P p d.vector q
+change-at P p q d = record { on = d.on; before = d.before; change = d.change }
+
 module _ (hs : List Form) (P : Homogeneous → Type 0) where
   -- P is decided on the segment
   abbrev pub Decided : Homogeneous → Homogeneous → Type 0

@@ -8,3 +8,5 @@ pub mod Directions
 pub mod Between
 pub mod Generic
 pub mod Representatives
+pub mod Places
+pub mod Tests

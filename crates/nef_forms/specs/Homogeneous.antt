@@ -76,6 +76,13 @@ pub record OnSegment (p r q : Homogeneous) : Type 0 where
 abbrev pub OnPlaces : Place → Place → Place → Type 0
 OnPlaces p r q = SamePlace r p ⊎ IsBetween p r q ⊎ SamePlace r q
 
+-- and for directions: r is passed on the way from d to e along a great circle
+abbrev pub IsPassed : Vector → Vector → Vector → Type 0
+IsPassed d r e = IsMixed (of_direction d) (of_direction r) (of_direction e)
+
+abbrev pub OnWay : Vector → Vector → Vector → Type 0
+OnWay d r e = OnSegment (of_direction d) (of_direction r) (of_direction e)
+
 -- the forms of the list have the same signs at both
 abbrev pub SameSigns : List Form → Homogeneous → Homogeneous → Type 0
 SameSigns hs u v = (h : Form) → Lies hs h → sign (form_on h u) ≡ sign (form_on h v)
