@@ -1,15 +1,13 @@
 -- Points that are the same, and points strictly between two others, as sums of homogeneous vectors.
-use Rattle.std.proofs.Common.{◌≡◌, ℕ, ◌+◌, ◌*◌, ◌<◌, ℤ, pos, ◌+ℤ◌, ◌-ℤ◌, ◌*ℤ◌, ◌<ℤ◌, nat_abs, arith, refl, ap, sym, ◌∙◌, ◌⊎◌, inl, inr, ⊎_elim, List, [], ◌∷◌, ◌↔◌, subst}
+use Rattle.std.proofs.Common.{◌≡◌, ◌+◌, ◌*◌, ℤ, pos, ◌+ℤ◌, ◌-ℤ◌, ◌*ℤ◌, arith, ◌⊎◌, inl, inr, ⊎_elim, List, [], ◌∷◌, ◌↔◌}
 use Rattle.std.proofs.lemmas.Int.{ints}
 use Rattle.std.proofs.Math.Nat.{mul-pos}
 use Rattle.nef_exact.proofs.Ring.{ring, at, num, ◌⊕◌, ◌⊖◌, ◌⊗◌}
 use Rattle.nef_exact.proofs.Combination.{follows, follows_times, given, none}
-use Rattle.nef_exact.proofs.Order.{cancel_eq, cancel_lt, mul_pos}
-use Rattle.nef_space.specs.Vectors.{Vector, vector, dot, cross, IsZero, IsDirection, SameDirection}
+use Rattle.nef_space.specs.Vectors.{IsZero}
 use Rattle.nef_space.specs.Place.{Place, SamePlace, toward, IsBetween}
 pub use Rattle.nef_forms.specs.Homogeneous.{of_place, of_direction, OnPlaces}
-use Rattle.nef_forms.proofs.Sums.{Homogeneous, SameUpToFactor, IsMixed, IsSum, OnSegment, some-pos, same-sym, same-refl, same-trans, mixed-same, mixed-itself, on-cases, on-same, on-start, on-end, on-mixed}
-use Rattle.nef_forms.proofs.Far.{nought-or}
+use Rattle.nef_forms.proofs.Sums.{SameUpToFactor, IsMixed, OnSegment, some-pos, same-sym, same-refl, same-trans, mixed-same, mixed-itself, on-cases, on-same, on-start, on-end, on-mixed}
 use Rattle.nef_forms.proofs.Directions.{same-factor, factor-same, zero-dot, zero-decided}
 
 -- ---- the same point
@@ -141,8 +139,10 @@ between-same p r q p' r' q' a c b m =
     let t = (between-is p r q).0 m in
     let f = place-factor p p' a in
     let g = place-factor q q' b in
-    (between-is p' r' q').1 (mixed-same (of_place p) (of_place r) (of_place q) (of_place p') (of_place r') (of_place q') f (place-factor r r' c) g t.0,
-     λ s. t.1 (factor-place p q (same-trans (of_place p) (of_place p') (of_place q) f (same-trans (of_place p') (of_place q') (of_place q) (place-factor p' q' s) (same-sym (of_place q) (of_place q') g)))))
+    (between-is p' r' q').1 (
+      mixed-same (of_place p) (of_place r) (of_place q) (of_place p') (of_place r') (of_place q') f (place-factor r r' c) g t.0,
+      λ s. t.1 (factor-place p q (same-trans (of_place p) (of_place p') (of_place q) f (same-trans (of_place p') (of_place q') (of_place q) (place-factor p' q' s) (same-sym (of_place q) (of_place q') g)))),
+    )
 
 -- ---- the closed segment between two points
 pub places-on : (p r q : Place) → OnPlaces p r q → OnSegment (of_place p) (of_place r) (of_place q)

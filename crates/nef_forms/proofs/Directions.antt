@@ -1,10 +1,10 @@
 -- Products of vectors of three numbers, and directions that are the same up to a positive factor.
-use Rattle.std.proofs.Common.{◌≡◌, ℕ, ◌+◌, ◌*◌, ◌<◌, ℤ, pos, negsuc, ◌+ℤ◌, ◌-ℤ◌, ◌*ℤ◌, ◌≤ℤ◌, ◌<ℤ◌, nat_abs, arith, ap, sym, ◌∙◌, ◌⊎◌, inl, inr, ⊎_elim, [], ◌∷◌, subst, ◌↔◌}
+use Rattle.std.proofs.Common.{◌≡◌, ◌<◌, ℤ, pos, ◌-ℤ◌, ◌*ℤ◌, ◌<ℤ◌, nat_abs, arith, ap, sym, ◌∙◌, ◌⊎◌, inl, inr, ⊎_elim, [], ◌∷◌, ◌↔◌}
 use Rattle.std.proofs.lemmas.Int.{ints}
 use Rattle.nef_exact.proofs.Ring.{ring, at, num, ◌⊕◌, ◌⊖◌, ◌⊗◌}
-use Rattle.nef_exact.proofs.Combination.{follows, follows_times, given, none}
+use Rattle.nef_exact.proofs.Combination.{follows, given, none}
 use Rattle.nef_exact.proofs.Order.{by_order, mul_pos, square_nonneg, cancel_lt, cancel_eq}
-use Rattle.nef_space.specs.Vectors.{Vector, vector, dot, cross, IsZero, IsDirection, SameDirection}
+use Rattle.nef_space.specs.Vectors.{Vector, dot, IsZero, IsDirection, SameDirection}
 use Rattle.nef_forms.specs.Homogeneous.{SameUpToFactor, of_direction}
 use Rattle.nef_forms.proofs.Sums.{some-pos}
 use Rattle.nef_forms.proofs.Far.{nought-or}
@@ -99,7 +99,7 @@ module _ (a b : Vector) (s : SameUpToFactor (of_direction a) (of_direction b)) (
       let z = follows xs (l ⊗ (at 0 ⊗ at 4 ⊖ at 1 ⊗ at 3)) o (given (o ⊖ at 0) (k ⊗ at 1) (l ⊗ at 4) s.is_y (given (at 1) (k ⊗ at 0) (l ⊗ at 3) s.is_x none)) tt in
       -- l (a.b) = k (a.a)
       let f = follows xs ((at 0 ⊗ at 3 ⊕ at 1 ⊗ at 4 ⊕ at 2 ⊗ at 5) ⊗ l) (k ⊗ (at 0 ⊗ at 0 ⊕ at 1 ⊗ at 1 ⊕ at 2 ⊗ at 2))
-          (given (o ⊖ at 0) (k ⊗ at 0) (l ⊗ at 3) s.is_x (given (o ⊖ at 1) (k ⊗ at 1) (l ⊗ at 4) s.is_y (given (o ⊖ at 2) (k ⊗ at 2) (l ⊗ at 5) s.is_z none))) tt in
+      (given (o ⊖ at 0) (k ⊗ at 0) (l ⊗ at 3) s.is_x (given (o ⊖ at 1) (k ⊗ at 1) (l ⊗ at 4) s.is_y (given (o ⊖ at 2) (k ⊗ at 2) (l ⊗ at 5) s.is_z none))) tt in
       let g = mul_pos (pos s.k) (dot a a) (some-pos s.k s.some_k) (self-pos a n) in
       record {
         parallel = (factor-zero _ x, factor-zero _ y, factor-zero _ z);

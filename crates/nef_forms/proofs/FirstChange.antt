@@ -1,8 +1,8 @@
 -- The first vector of a segment at which a decided predicate changes.
-use Rattle.std.proofs.Common.{◌≡◌, ℕ, zero, suc, ◌+◌, ◌<◌, ◌≤◌, arith, ◌⊎◌, inl, inr, ⊎_elim, List, true}
+use Rattle.std.proofs.Common.{◌≡◌, ℕ, zero, suc, ◌+◌, ◌<◌, arith, ◌⊎◌, inl, inr, ⊎_elim, List, true}
 use Rattle.nef_exact.proofs.Order.{Lies}
 use Rattle.nef_space.specs.Place.{Form}
-use Rattle.nef_forms.proofs.Sums.{Homogeneous, mix, SameUpToFactor, IsMixed, OnSegment, SameSigns, same-sym, signs-same, mixed-mix, mixed-turned, mixed-itself, on-start, on-end, on-mixed, on-same, on-convex, past-mixed, past-on, past-nearer, before-at-after}
+use Rattle.nef_forms.proofs.Sums.{Homogeneous, mix, SameUpToFactor, IsMixed, OnSegment, same-sym, signs-same, mixed-mix, mixed-turned, mixed-itself, on-start, on-end, on-mixed, on-same, on-convex, past-mixed, past-on, past-nearer, before-at-after}
 use Rattle.nef_forms.proofs.Crossings.{crosses, crossings, IsClear, clear-same, find-crossing, split, Split}
 use Rattle.nef_forms.proofs.Segment.{Cells, cells-part, SettledToward}
 

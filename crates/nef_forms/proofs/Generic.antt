@@ -1,12 +1,12 @@
 -- Vectors in general position: with the signs of a given vector, and with no form of a list nought.
 use Rattle.std.proofs.Common.{◌≡◌, ℕ, ◌+◌, ◌*◌, ◌<◌, ◌≤◌, ℤ, pos, ◌+ℤ◌, ◌-ℤ◌, ◌*ℤ◌, ◌<ℤ◌, nat_abs, arith, refl, ap, sym, ◌∙◌, ◌⊎◌, inl, inr, ⊎_elim, List, [], ◌∷◌, subst}
 use Rattle.std.proofs.lemmas.Int.{ints}
-use Rattle.std.proofs.Math.Nat.{mul-pos, le-mul_of_pos_right, mul-le-mul_left}
+use Rattle.std.proofs.Math.Nat.{le-mul_of_pos_right, mul-le-mul_left}
 use Rattle.nef_exact.proofs.Ring.{ring, at, num, ◌⊕◌, ◌⊖◌, ◌⊗◌}
 use Rattle.nef_exact.proofs.Combination.{follows, given, none}
-use Rattle.nef_exact.proofs.Order.{Sign, sign, sign-plus, plus-is, square_nonneg, Lies}
+use Rattle.nef_exact.proofs.Order.{sign, sign-plus, plus-is, square_nonneg, Lies}
 use Rattle.nef_exact.proofs.Samples.{each, lies-each}
-use Rattle.nef_space.specs.Vectors.{Vector, vector, dot, blend, IsZero, IsDirection}
+use Rattle.nef_space.specs.Vectors.{Vector, vector, dot, blend, IsDirection}
 use Rattle.nef_space.specs.Place.{Place, Form, form, form_at, Near, Within}
 use Rattle.nef_forms.specs.Homogeneous.{of_place, of_direction, direction_form, IsZeroForm, Avoids, homogeneous}
 use Rattle.nef_forms.proofs.Sums.{Homogeneous, form_on, mix}
@@ -46,13 +46,14 @@ generic (h ∷ hs) = by (generic hs)
         (λ z. (e, λ g l n. ⊎_elim (λ (q : h ≡ g). λ x. n (subst IsZeroForm q z)) (λ m. f g m n) l))
         (λ n. ⊎_elim
         (λ z.
-            let u = numbers_of h in
-            let k = amount hs u in
-            let s = form-self h n in
-            (mix k e 1 u,
-             λ g l i. ⊎_elim
-                 (λ (q : h ≡ g). λ y. same-off (form_on h u) (form_on h (mix k e 1 u)) (far-level hs e u k (omega arith) h z) (λ x. omega (arith, ints)) (subst (λ (r : Form). form_on r (mix k e 1 u) ≡ pos 0) (sym q) y))
-                 (λ m. same-off (form_on g e) (form_on g (mix k e 1 u)) (far-keeps hs e u k (omega arith) g m (f g m i)) (f g m i)) l))
+        let u = numbers_of h in
+        let k = amount hs u in
+        let s = form-self h n in (
+          mix k e 1 u,
+          λ g l i. ⊎_elim
+              (λ (q : h ≡ g). λ y. same-off (form_on h u) (form_on h (mix k e 1 u)) (far-level hs e u k (omega arith) h z) (λ x. omega (arith, ints)) (subst (λ (r : Form). form_on r (mix k e 1 u) ≡ pos 0) (sym q) y))
+              (λ m. same-off (form_on g e) (form_on g (mix k e 1 u)) (far-keeps hs e u k (omega arith) g m (f g m i)) (f g m i)) l,
+        ))
         (λ z. (e, λ g l i. ⊎_elim (λ (q : h ≡ g). subst (λ (r : Form). form_on r e ≡ pos 0 → ⊥) q z) (λ m. f g m i) l))
         (nought-or (form_on h e)))
         (zero-form h)
@@ -98,9 +99,10 @@ module _ (ns : List Vector) where
       let m = lies-each direction_form ns n l in
       let v = mix k (of_direction d) 1 chosen in
       let e = dot-form n v in
-      let i = dot-form n (of_direction d) in
-      (λ f. ap sign (sym e) ∙ g.0 (direction_form n) m (λ z. f (sym i ∙ z)) ∙ ap sign i,
-       λ f z. g.1 (direction_form n) m (nonzero n f) (e ∙ z))
+      let i = dot-form n (of_direction d) in (
+        λ f. ap sign (sym e) ∙ g.0 (direction_form n) m (λ z. f (sym i ∙ z)) ∙ ap sign i,
+        λ f z. g.1 (direction_form n) m (nonzero n f) (e ∙ z),
+      )
 
 -- ---- points
 abbrev pub weight_form : Form
@@ -125,7 +127,7 @@ close-one : (n k v : ℕ) (x y w u : ℤ) (s : pos 0 <ℤ u) → u ≡ pos k *�
 close-one n k v x y w u s e p h =
     let a : pos (nat_abs u) ≡ u = omega (arith, ints) in
     let i = follows (pos k ∷ pos v ∷ x ∷ y ∷ w ∷ u ∷ pos (nat_abs u) ∷ []) ((at 0 ⊗ at 2 ⊕ num (pos 1) ⊗ at 3) ⊗ at 1 ⊖ at 2 ⊗ at 6) (at 3 ⊗ at 1 ⊖ at 2 ⊗ at 4)
-        (given (num (pos 0) ⊖ at 2) (at 6) (at 5) a (given (num (pos 0) ⊖ at 2) (at 5) (at 0 ⊗ at 1 ⊕ num (pos 1) ⊗ at 4) e none)) tt in
+    (given (num (pos 0) ⊖ at 2) (at 6) (at 5) a (given (num (pos 0) ⊖ at 2) (at 5) (at 0 ⊗ at 1 ⊕ num (pos 1) ⊗ at 4) e none)) tt in
     let j = ap (λ (r : ℤ). n * nat_abs r) i in
     let f = le-mul_of_pos_right {m = v} k p in
     let g = le-mul_of_pos_right {m = v} (nat_abs u) p in
@@ -153,7 +155,7 @@ generic_place hs p m =
     let s : pos 0 <ℤ v.w = plus-is v.w (ap sign (sym (weight-form v)) ∙ f ∙ ap sign (weight-form (of_place p)) ∙ sign-plus (pos p.w) (let w = p.proper in omega (arith, ints))) in
     let n = generic-near hs e (of_place p) k g.1 (omega arith) in
     let near : (x y : ℤ) → gap x y ≤ gap p.x e.x + gap p.y e.y + gap p.z e.z → Near m (pos k *ℤ x +ℤ pos 1 *ℤ y) (nat_abs v.w) x p.w = λ x y l.
-        close-one m k p.w x y e.w v.w s refl p.proper (let c = mul-le-mul_left {m = gap x y} {n = gap p.x e.x + gap p.y e.y + gap p.z e.z} m l in omega arith) in
+    close-one m k p.w x y e.w v.w s refl p.proper (let c = mul-le-mul_left {m = gap x y} {n = gap p.x e.x + gap p.y e.y + gap p.z e.z} m l in omega arith) in
     record {
       place = place_of v s;
       near = record { along_x = near p.x e.x (omega arith); along_y = near p.y e.y (omega arith); along_z = near p.z e.z (omega arith) };

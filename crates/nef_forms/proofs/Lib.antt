@@ -10,3 +10,4 @@ pub mod Generic
 pub mod Representatives
 pub mod Places
 pub mod Tests
+pub mod Examples

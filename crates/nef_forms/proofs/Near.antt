@@ -1,12 +1,12 @@
 -- Close to a point the sign of a form that isn't nought there stays; short steps stay close; rays and differences of points.
-use Rattle.std.proofs.Common.{◌≡◌, ℕ, zero, suc, ◌+◌, ◌*◌, ◌<◌, ◌≤◌, ℤ, pos, negsuc, ◌+ℤ◌, ◌-ℤ◌, ◌*ℤ◌, ◌≤ℤ◌, ◌<ℤ◌, nat_abs, arith, refl, ap, sym, ◌∙◌, inl, inr, ⊎_elim, List, [], ◌∷◌, subst}
+use Rattle.std.proofs.Common.{◌≡◌, ℕ, ◌+◌, ◌*◌, ◌<◌, ◌≤◌, ℤ, pos, negsuc, ◌+ℤ◌, ◌-ℤ◌, ◌*ℤ◌, ◌<ℤ◌, nat_abs, arith, refl, ap, sym, ◌∙◌, inl, inr, ⊎_elim, List, [], ◌∷◌, subst}
 use Rattle.std.proofs.lemmas.Int.{ints, unsigned_abs-mul}
 use Rattle.std.proofs.lemmas.Nat.{mul-le}
 use Rattle.std.proofs.lemmas.Bool.{cases_lt}
-use Rattle.std.proofs.Math.Nat.{mul-le-mul_left, mul-pos, mul-lt-mul_of_pos_right, lt_of_mul-lt-mul_right, le-mul_of_pos_right}
+use Rattle.std.proofs.Math.Nat.{mul-le-mul_left, mul-pos, mul-lt-mul_of_pos_right, lt_of_mul-lt-mul_right}
 use Rattle.nef_exact.proofs.Ring.{ring, at, num, ◌⊕◌, ◌⊖◌, ◌⊗◌}
 use Rattle.nef_exact.proofs.Combination.{follows, given, none}
-use Rattle.nef_exact.proofs.Order.{Sign, minus, nought, plus, sign, sign-plus, sign-minus, sign-scaled, plus-is, minus-is, nought-is, by_order, abs_plus, abs_times, mul_nonneg, mul_pos, mul_le_right, mul_lt_right, cancel_lt, cancel_eq, Lies}
+use Rattle.nef_exact.proofs.Order.{Sign, minus, nought, plus, sign, sign-plus, sign-minus, sign-scaled, plus-is, minus-is, nought-is, abs_plus, abs_times, mul_nonneg, mul_pos, mul_le_right, cancel_lt, Lies}
 use Rattle.nef_space.specs.Vectors.{Vector}
 use Rattle.nef_space.specs.Place.{Place, Form, form_at, slope, Ratio, step, Near, Within, SamePlace, toward}
 use Rattle.nef_space.specs.Local.{IsShort}
@@ -166,9 +166,9 @@ difference p q = record { along_x = one p.x q.x; along_y = one p.y q.y; along_z 
 within-one : (n : ℕ) (x x' y y' : ℤ) (v v' w w' : ℕ) → 0 < v → 0 < w → 0 < v' → 0 < w' → x *ℤ pos v' ≡ x' *ℤ pos v → y *ℤ pos w' ≡ y' *ℤ pos w → Near n x v y w → Near n x' v' y' w'
 within-one n x x' y y' v v' w w' a b a' b' e f h =
     let i = follows (x ∷ x' ∷ y ∷ y' ∷ pos v ∷ pos v' ∷ pos w ∷ pos w' ∷ [])
-        (at 4 ⊗ at 6 ⊗ (at 1 ⊗ at 7 ⊖ at 3 ⊗ at 5)) (at 5 ⊗ at 7 ⊗ (at 0 ⊗ at 6 ⊖ at 2 ⊗ at 4))
-        (given (num (pos 0) ⊖ at 6 ⊗ at 7) (at 0 ⊗ at 5) (at 1 ⊗ at 4) e
-        (given (at 4 ⊗ at 5) (at 2 ⊗ at 7) (at 3 ⊗ at 6) f none)) tt in
+    (at 4 ⊗ at 6 ⊗ (at 1 ⊗ at 7 ⊖ at 3 ⊗ at 5)) (at 5 ⊗ at 7 ⊗ (at 0 ⊗ at 6 ⊖ at 2 ⊗ at 4))
+    (given (num (pos 0) ⊖ at 6 ⊗ at 7) (at 0 ⊗ at 5) (at 1 ⊗ at 4) e
+    (given (at 4 ⊗ at 5) (at 2 ⊗ at 7) (at 3 ⊗ at 6) f none)) tt in
     let j = sym (unsigned_abs-mul (pos (v * w)) (x' *ℤ pos w' -ℤ y' *ℤ pos v')) ∙ ap nat_abs i ∙ unsigned_abs-mul (pos (v' * w')) (x *ℤ pos w -ℤ y *ℤ pos v) in
     let k = ap (λ (r : ℕ). n * r) j in
     let l = mul-lt-mul_of_pos_right {k = v' * w'} h (mul-pos a' b') in

@@ -1,19 +1,19 @@
 -- Segments of points and of directions: what is settled along them, and the first change.
-use Rattle.std.proofs.Common.{◌≡◌, ℕ, zero, suc, ◌+◌, ◌*◌, ◌<◌, ◌≤◌, ℤ, pos, ◌+ℤ◌, ◌-ℤ◌, ◌*ℤ◌, ◌<ℤ◌, ◌≤ℤ◌, nat_abs, arith, refl, ap, sym, ◌∙◌, ◌⊎◌, inl, inr, ⊎_elim, ◌↔◌, List, [], ◌∷◌, subst}
+use Rattle.std.proofs.Common.{◌≡◌, ℕ, zero, suc, ◌+◌, ◌*◌, ◌<◌, ◌≤◌, ℤ, pos, ◌+ℤ◌, ◌-ℤ◌, ◌*ℤ◌, ◌<ℤ◌, nat_abs, arith, refl, ap, sym, ◌∙◌, ◌⊎◌, inl, inr, ⊎_elim, ◌↔◌, List, [], ◌∷◌, subst}
 use Rattle.std.proofs.lemmas.Int.{ints}
-use Rattle.std.proofs.Math.Nat.{mul-pos, le-mul_of_pos_right, mul-le-mul_left}
+use Rattle.std.proofs.Math.Nat.{mul-pos, le-mul_of_pos_right}
 use Rattle.nef_exact.proofs.Ring.{ring, at, num, ◌⊕◌, ◌⊖◌, ◌⊗◌}
 use Rattle.nef_exact.proofs.Combination.{follows, given, none}
-use Rattle.nef_exact.proofs.Order.{sign, cancel_lt, cancel_eq, mul_nonneg, mul_pos, Lies}
+use Rattle.nef_exact.proofs.Order.{sign, cancel_lt, cancel_eq, Lies}
 use Rattle.nef_exact.proofs.Lists.{each, lies-each}
 use Rattle.nef_space.specs.Vectors.{Vector, vector, dot, blend}
-use Rattle.nef_space.specs.Place.{Place, Form, form_at, Near, Within, SamePlace, IsBetween}
+use Rattle.nef_space.specs.Place.{Place, Form, Near, Within, SamePlace, IsBetween}
 use Rattle.nef_forms.specs.Homogeneous.{of_place, of_direction, direction_form, homogeneous, OnPlaces, OnWay, IsPassed}
-use Rattle.nef_forms.proofs.Sums.{Homogeneous, form_on, mix, SameUpToFactor, IsMixed, IsSum, OnSegment, SameSigns, some-pos, same-refl, same-sym, same-trans, sign-same, signs-same, mixed-same, mixed-mix, mixed-itself, on-same, on-start, on-end, on-mixed, on-convex}
-use Rattle.nef_forms.proofs.Between.{between-is, place-factor, factor-place, places-on, on-places}
-use Rattle.nef_forms.proofs.Near.{sign_at, weaken, within-same}
+use Rattle.nef_forms.proofs.Sums.{Homogeneous, form_on, SameUpToFactor, IsMixed, OnSegment, some-pos, same-refl, same-sym, sign-same, mixed-same, on-same, on-start, on-mixed, on-convex}
+use Rattle.nef_forms.proofs.Between.{between-is, place-factor, factor-place, on-places}
+use Rattle.nef_forms.proofs.Near.{sign_at}
 use Rattle.nef_forms.proofs.Segment.{SettledToward, Cells, Settled, settled-segment}
-use Rattle.nef_forms.proofs.FirstChange.{Change, ChangeAt, change-at, Decided, first-change}
+use Rattle.nef_forms.proofs.FirstChange.{ChangeAt, change-at, Decided, first-change}
 
 -- ---- vectors of a segment of points are points
 weight-one : (x y : ℕ) (i j : ℕ) → 0 < x → 0 < y → 0 < i + j → 0 < i * x + j * y
@@ -110,14 +110,15 @@ module _ (hs : List Form) (P : Place → Type 0) (p q : Place) where
 
     settled-places : PlaceSettled → (r t : Place) → On (of_place r) → On (of_place t) → SettledToward Q (of_place r) (of_place t)
     settled-places S r t a b =
-        let n = S r (on-places p r q a) in
-        (n.0 * far r t + 1,
-         λ k l.
-             let m = mix_place k r t in
-             let c = mix-close n.0 k r t (omega arith) in
-             let o = on-mix k r t a b in
-             let i = n.2 m (on-places p m q o) c in
-             (λ f. p-to-q m o (i.0 (q-to-p r f)), λ f. p-to-q r a (i.1 (q-to-p m f))))
+        let n = S r (on-places p r q a) in (
+          n.0 * far r t + 1,
+          λ k l.
+              let m = mix_place k r t in
+              let c = mix-close n.0 k r t (omega arith) in
+              let o = on-mix k r t a b in
+              let i = n.2 m (on-places p m q o) c in
+              (λ f. p-to-q m o (i.0 (q-to-p r f)), λ f. p-to-q r a (i.1 (q-to-p m f))),
+        )
       where
         on-mix : (k : ℕ) (r t : Place) → On (of_place r) → On (of_place t) → On (of_place (mix_place k r t))
         on-mix k r t a b = on-convex (of_place p) (of_place q) (of_place r) (of_place t) (of_place (mix_place k r t)) a b
@@ -179,8 +180,11 @@ module _ (hs : List Form) (P : Place → Type 0) (p q : Place) (C : PlaceCells h
         let t = g.1 in
         let z = place-is t.0 (weight-of p q t.0 t.1) in
         let x = q-to-p hs P p q C r g.0 in
-        inr (x, later r z.0 c.on x (subst (On hs P p q) (sym z.1) t.1) (subst (λ (v : Homogeneous). OnSegment (of_place p) (of_place r) v) (sym z.1) t.2)
-        (subst (λ (v : Homogeneous). (s : Homogeneous) → IsMixed (of_place r) s v → R s → ⊥) (sym z.1) t.3))) c.change;
+        inr (
+          x,
+          later r z.0 c.on x (subst (On hs P p q) (sym z.1) t.1) (subst (λ (v : Homogeneous). OnSegment (of_place p) (of_place r) v) (sym z.1) t.2)
+              (subst (λ (v : Homogeneous). (s : Homogeneous) → IsMixed (of_place r) s v → R s → ⊥) (sym z.1) t.3),
+        )) c.change;
   }
 
   -- THE FIRST CHANGE ALONG A SEGMENT OF POINTS
@@ -245,8 +249,15 @@ module _ (ns : List Vector) (P : Vector → Type 0) (d e : Vector) (C : WayCells
         (λ g.
         let t = g.1 in
         let z = homogeneous-same (of_direction (vector_of t.0)) t.0 refl refl refl (sym (weightless t.0 t.1)) in
-        inr (g.0, (vector_of t.0, subst (λ (u : Homogeneous). OnSegment (of_direction d) u (of_direction e)) (sym z) t.1, subst (λ (u : Homogeneous). OnSegment (of_direction d) (of_direction v) u) (sym z) t.2,
-        λ r b x. subst (λ (u : Homogeneous). (s : Homogeneous) → IsMixed (of_direction v) s u → W' s → ⊥) (sym z) t.3 (of_direction r) b x))) c.change;
+        inr (
+          g.0,
+          (
+            vector_of t.0,
+            subst (λ (u : Homogeneous). OnSegment (of_direction d) u (of_direction e)) (sym z) t.1,
+            subst (λ (u : Homogeneous). OnSegment (of_direction d) (of_direction v) u) (sym z) t.2,
+            λ r b x. subst (λ (u : Homogeneous). (s : Homogeneous) → IsMixed (of_direction v) s u → W' s → ⊥) (sym z) t.3 (of_direction r) b x,
+          ),
+        )) c.change;
   }
 
   -- THE FIRST CHANGE ALONG A WAY

@@ -1,15 +1,13 @@
 -- Finitely many vectors that have all signs that vectors have on finitely many forms.
-use Rattle.std.proofs.Common.{◌≡◌, ℕ, zero, suc, ◌<◌, ℤ, pos, negsuc, ◌+ℤ◌, ◌*ℤ◌, ◌<ℤ◌, arith, refl, ap, sym, ◌∙◌, inl, inr, List, [], ◌∷◌, ◌++◌, length, subst}
+use Rattle.std.proofs.Common.{◌≡◌, zero, suc, ℤ, pos, negsuc, ◌+ℤ◌, ◌*ℤ◌, arith, refl, ap, sym, ◌∙◌, inl, inr, List, [], ◌∷◌, ◌++◌, subst}
 use Rattle.std.proofs.lemmas.Int.{ints}
 use Rattle.nef_exact.specs.Linear.{IsPoint}
 use Rattle.nef_exact.proofs.Ring.{ring, at, num, ◌⊕◌, ◌⊗◌, entry}
-use Rattle.nef_exact.proofs.Order.{Sign, sign, plus-is, sign-plus, nought-is, Lies}
+use Rattle.nef_exact.proofs.Order.{sign, Lies}
 use Rattle.nef_exact.proofs.Samples.{each, lies-each, lies-left, lies-right, samples, sample_of, vectors, vector_of}
 use Rattle.nef_exact.specs.Linear.{dot as dot_lists}
-use Rattle.nef_space.specs.Vectors.{Vector, vector, dot, IsZero, IsDirection}
+use Rattle.nef_space.specs.Vectors.{Vector, vector, dot, IsDirection}
 use Rattle.nef_space.specs.Place.{Place, Form, form_at}
-use Rattle.nef_forms.specs.Homogeneous.{of_place, homogeneous}
-use Rattle.nef_forms.proofs.Sums.{Homogeneous, form_on, SameSigns}
 use Rattle.nef_forms.proofs.Far.{same-nought}
 
 -- ---- directions
@@ -42,10 +40,10 @@ unfolding representative_directions
 representative ns d =
     let s = vector_of 3 (each numbers (ns ++ axes)) (numbers d) refl in
     let same : (n : Vector) → Lies (ns ++ axes) n → sign (dot n d) ≡ sign (dot n (to_vector s.vector)) = λ n l.
-        ap sign (sym (dot-numbers n (numbers d))) ∙ s.same (numbers n) (lies-each numbers (ns ++ axes) n l) ∙ ap sign (dot-numbers n s.vector) in
+    ap sign (sym (dot-numbers n (numbers d))) ∙ s.same (numbers n) (lies-each numbers (ns ++ axes) n l) ∙ ap sign (dot-numbers n s.vector) in
     let r = to_vector s.vector in
     let along : (n : Vector) (x y : ℤ) → Lies axes n → dot n d ≡ x → dot n r ≡ y → y ≡ pos 0 → x ≡ pos 0 = λ n x y l e f z.
-        sym e ∙ same-nought (dot n r) (dot n d) (same n (lies-right ns axes n l)) (f ∙ z) in
+    sym e ∙ same-nought (dot n r) (dot n d) (same n (lies-right ns axes n l)) (f ∙ z) in
     record {
       direction = r;
       listed = lies-each to_vector (vectors 3 (each numbers (ns ++ axes))) s.vector s.listed;

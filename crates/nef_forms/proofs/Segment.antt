@@ -2,8 +2,8 @@
 use Rattle.std.proofs.Common.{◌≡◌, ℕ, zero, suc, ◌+◌, ◌<◌, ◌≤◌, arith, ◌⊎◌, inl, inr, ◌↔◌, List, true}
 use Rattle.nef_exact.proofs.Order.{Lies}
 use Rattle.nef_space.specs.Place.{Form}
-use Rattle.nef_forms.proofs.Sums.{Homogeneous, mix, IsMixed, OnSegment, SameSigns, mixed-mix, mixed-turned, on-start, on-end, on-mixed, on-convex, on-turned}
-use Rattle.nef_forms.proofs.Crossings.{crosses, crossings, IsClear, clear-same, find-crossing, split, Split}
+use Rattle.nef_forms.proofs.Sums.{Homogeneous, mix, OnSegment, SameSigns, mixed-mix, mixed-turned, on-start, on-end, on-mixed, on-convex}
+use Rattle.nef_forms.proofs.Crossings.{crosses, crossings, IsClear, clear-same, find-crossing, split}
 
 -- the truth of P is the same at x and from some k on at k x + y
 abbrev pub SettledToward : (Homogeneous → Type 0) → Homogeneous → Homogeneous → Type 0

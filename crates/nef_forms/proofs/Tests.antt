@@ -1,5 +1,5 @@
 -- The laws of segments for tests, from the lemmas for predicates.
-use Rattle.std.proofs.Common.{◌≡◌, ℕ, ◌≤◌, ◌<◌, refl, ap, sym, ◌∙◌, ◌⊎◌, inl, inr, ⊎_elim, Bool, true, false, List}
+use Rattle.std.proofs.Common.{◌≡◌, refl, sym, ◌∙◌, ◌⊎◌, inl, inr, ⊎_elim, Bool, true, false}
 use Rattle.nef_forms.specs.Laws.{SegmentLaw, SegmentOfPoints, SegmentOfDirections, FirstChangeLaw, FirstChangeAtPoints, FirstChangeAtDirections}
 use Rattle.nef_forms.proofs.Segment.{settled-segment}
 use Rattle.nef_forms.proofs.FirstChange.{first-change, change-unsettled}

@@ -1,5 +1,5 @@
 -- Homogeneous vectors (x, y, z, w): the point (x/w, y/w, z/w) where w is positive, and the direction (x, y, z) where w is nought. Points, rays, directions and segments, also those of great circles, share them.
-use Rattle.std.specs.Prelude.{◌≡◌, ℕ, ◌+◌, ◌<◌, ◌≤◌, ℤ, pos, ◌+ℤ◌, ◌*ℤ◌, nat_abs, List, [], ◌∷◌, ◌⊎◌}
+use Rattle.std.specs.Prelude.{◌≡◌, ℕ, ◌+◌, ◌<◌, ℤ, pos, ◌+ℤ◌, ◌*ℤ◌, nat_abs, List, [], ◌∷◌, ◌⊎◌}
 use Rattle.nef_exact.specs.Signs.{sign, Lies}
 use Rattle.nef_space.specs.Vectors.{Vector}
 use Rattle.nef_space.specs.Place.{Place, Form, form, SamePlace, IsBetween}

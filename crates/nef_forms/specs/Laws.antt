@@ -1,5 +1,5 @@
 -- The laws of homogeneous vectors, linear forms and signs. Each is a clause of a public function of this crate.
-use Rattle.std.specs.Prelude.{◌≡◌, ℕ, ◌+◌, ◌*◌, ◌<◌, ◌≤◌, ℤ, pos, ◌+ℤ◌, ◌-ℤ◌, ◌*ℤ◌, ◌<ℤ◌, List, ◌⊎◌, ◌↔◌, Bool, true, false}
+use Rattle.std.specs.Prelude.{◌≡◌, ℕ, ◌<◌, ◌≤◌, pos, ◌+ℤ◌, ◌-ℤ◌, ◌*ℤ◌, ◌<ℤ◌, List, ◌⊎◌, ◌↔◌, Bool, true, false}
 use Rattle.nef_exact.specs.Signs.{sign, Lies}
 use Rattle.nef_space.specs.Vectors.{Vector, dot, blend, IsDirection, SameDirection}
 use Rattle.nef_space.specs.Place.{Place, Form, form_at, slope, Ratio, step, Within, SamePlace, toward, IsBetween}

@@ -1,5 +1,5 @@
 -- How near to a point a form keeps its sign, and how far along a ray.
-use Rattle.std.specs.Prelude.{ℕ, ◌+◌, ◌*◌, ◌<◌, ℤ, pos, nat_abs, List, [], ◌∷◌}
+use Rattle.std.specs.Prelude.{ℕ, ◌+◌, ◌*◌, pos, nat_abs, List, [], ◌∷◌}
 use Rattle.std.proofs.Math.Nat.{mul-pos}
 use Rattle.nef_space.specs.Vectors.{Vector}
 use Rattle.nef_space.specs.Place.{Place, Form, slope, Ratio}

@@ -1,4 +1,4 @@
-use Rattle.nef_exact.proofs.Order.{sign, nought-is}
+use Rattle.nef_exact.proofs.Order.{nought-is}
 use Rattle.nef_space.specs.Place.{form_at}
 use Rattle.nef_forms.proofs.Near.{keeps, keeps-all, form-step, ray-keeps, ray-level, difference, slope-toward}
 use Rattle.nef_forms.proofs.Far.{far-keeps, far-level}
