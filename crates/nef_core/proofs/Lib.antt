@@ -2,3 +2,4 @@ pub mod Places
 pub mod Schedules
 pub mod Counting
 pub mod Deposits
+pub mod Accounts

@@ -5,3 +5,4 @@ pub mod Machine
 pub mod Counts
 pub mod Laws
 pub mod Results
+pub mod Accounts

@@ -6,15 +6,19 @@
 
 mod adapters;
 mod gate;
+mod memory;
 mod reading;
 mod sure;
+#[cfg(test)]
+mod tests;
 mod traits;
 mod writing;
 
 pub use adapters::{FromReader, IntoWriter};
 pub use gate::OpenGate;
+pub use memory::{MemSink, MemSource};
 pub use reading::{INPUT_LIMIT, ReadAll, read_all};
 pub use std::alloc::AllocError as OutOfMemory;
-pub use sure::{SureSink, SureSource};
+pub use sure::{SureSink, SureSource, sure_counts};
 pub use traits::{Failed, Gate, Sink, Source};
 pub use writing::put_all;

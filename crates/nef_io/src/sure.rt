@@ -1,5 +1,8 @@
 //! A source and a sink that never fail.
 ghost use Rattle.std.specs.Prelude.{◌≡◌, ◌-◌, ◌<◌, ◌≤◌, ◌++◌, true, false, [], IfOk, length, min, take, drop};
+ghost use Rattle.std.specs.Prelude.{ℕ, List};
+ghost use Rattle.nef_io.specs.Bytes.{Rose};
+ghost use Rattle.nef_io.specs.Kept.{Kept};
 
 use crate::OutOfMemory;
 use crate::traits::{Failed, Sink, Source};
@@ -59,6 +62,7 @@ impl Source for SureSource {
 ///
 /// A piece that fits into the rest of the buffer is kept. Another is taken and not kept, and from then
 /// on the sink doesn't tell what was written.
+#[derive(Drop)]
 pub struct SureSink<'a> {
     buffer: &'a mut [u8],
     at: usize,
@@ -119,3 +123,10 @@ impl Sink for SureSink<'_> {
         Ok(piece.len())
     }
 }
+
+/// The counts of a [`SureSource`] and of a [`SureSink`] never rise. So where a fault comes only with a
+/// count that rose, it comes of neither.
+pub fn sure_counts()
+    ensures source { (old new : List ℕ) → ¬ (Rose (⟦<SureSource as Source>⟧.faults old) (⟦<SureSource as Source>⟧.faults new)) }
+    ensures sink { (old new : Kept) → ¬ (Rose (⟦<SureSink<'static> as Sink>⟧.faults old) (⟦<SureSink<'static> as Sink>⟧.faults new)) }
+{}
