@@ -4,7 +4,6 @@ use Rattle.std.specs.Borrow.{Bor}
 use Rattle.clap.specs.Words.{Text, Kinds, fault_of}
 use Rattle.nef_core.specs.declared.how.BoardKind.{BoardKind}
 use Rattle.nef_core.specs.declared.how.BoardKind.TheVariants.{Lock, Free}
-use Rattle.nef_words.specs.declared.options.TheConstants.{DEFAULT_WORKERS, MOST_WORKERS}
 use Rattle.nef_words.specs.declared.options.Options.{Options}
 use Rattle.nef_words.specs.Usage.{usage, given}
 
@@ -28,10 +27,17 @@ from_one_to most value = if nat_le 1 value && nat_le value most then Some value 
 abbrev pub number_to : ℕ → List ℕ → Option ℕ
 number_to most text = option_and_then (from_one_to most) (value_of text)
 
--- the number of workers that a value gives, and 1 where none is given
+-- the number of workers where none is given, and the greatest one
+abbrev pub default_workers : ℕ
+default_workers = 1
+
+abbrev pub most_workers : ℕ
+most_workers = 64
+
+-- the number of workers that a value gives
 abbrev pub workers_of : Option Text → Option ℕ
-workers_of None = Some DEFAULT_WORKERS
-workers_of (Some text) = number_to MOST_WORKERS text
+workers_of None = Some default_workers
+workers_of (Some text) = number_to most_workers text
 
 -- the board that a value names, and the lock board where none is given
 abbrev pub board_of : Option Text → Option BoardKind
