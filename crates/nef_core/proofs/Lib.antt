@@ -1,0 +1,5 @@
+pub mod Places
+pub mod Schedules
+pub mod Counting
+pub mod Deposits
+pub mod Accounts

@@ -1,0 +1,15 @@
+//! Jobs, the boards that hand them out, and the plain machine that every board follows.
+#![tactic(auto)]
+
+mod board;
+mod how;
+mod job;
+mod laws;
+mod machine;
+
+pub use board::{Board, Claim, Receipt};
+pub use how::{BoardKind, How};
+pub use job::Job;
+pub use laws::{every_claim_is_accounted_for, every_schedule};
+pub use machine::{Event, Machine, Slot};
+pub use std::alloc::AllocError as OutOfMemory;

@@ -1,0 +1,97 @@
+//! The board as a plain machine, one event after another.
+ghost use Rattle.std.specs.Prelude.{◌≡◌, IfOk};
+ghost use Rattle.nef_core.specs.Machine.{start, after, reply, HoldsItsJob};
+
+use crate::OutOfMemory;
+use crate::board::Claim;
+use std::alloc::Global;
+use std::marker::Model;
+
+/// What a job is: not handed out or given back, in the hand of a pass, or done by a pass.
+#[derive(Debug, Clone, Copy, PartialEq, Eq)]
+pub enum Slot {
+    /// Not handed out yet, or given back.
+    Open,
+    /// In the hand of the pass of this number.
+    InHand(u64),
+    /// Done by the pass of this number.
+    Done(u64),
+}
+
+/// What a pass does at a board. The first number is the pass, the second the job.
+#[derive(Debug, Clone, Copy, PartialEq, Eq)]
+pub enum Event {
+    /// The pass asks for the next job.
+    Claim(u64),
+    /// The pass hands in the result of the job.
+    Deposit(u64, u64),
+    /// The pass gives up the job.
+    GiveBack(u64, u64),
+}
+
+/// The number to be handed out next, and what each job is.
+#[derive(Drop)]
+pub struct Machine {
+    next: u64,
+    slots: Vec<Slot>,
+}
+
+impl Model for Machine {
+    ghost use Rattle.nef_core.specs.State.{State};
+    ghost use Rattle.std.specs.Prelude.{length, ◌≤◌};
+
+    ghost Value = { State };
+
+    ghost view = { λ m. record { next = m.next; slots = m.slots.items } };
+
+    ghost invariant = { λ m. m.next ≤ length m.slots.items };
+}
+
+impl Machine {
+    /// Returns the machine with this many jobs, all open.
+    ///
+    /// `OutOfMemory` says that memory was wanted and not found.
+    pub fn new(alloc: Global, jobs: u64) -> Result<Machine, OutOfMemory>
+        ensures { IfOk result (λ m. m ≡ start jobs) }
+    {
+        let slots = Vec::from_elem(alloc, Slot::Open, jobs as usize)?;
+        Ok(Machine { next: 0, slots })
+    }
+
+    /// Returns what each job is, in the order of the jobs.
+    pub fn slots(&self) -> &[Slot]
+        ensures { result.now ≡ self.now.slots }
+    {
+        self.slots.as_slice()
+    }
+
+    /// Makes one event and returns the job that it is about; for a claim, the one handed out.
+    ///
+    /// `NoneLeft` comes exactly for a claim after every number was handed out, which changes
+    /// nothing. A job that was given back isn't handed out again. Takes no memory.
+    pub fn step(&mut self, event: Event) -> Claim
+        requires { HoldsItsJob self.old event }
+        ensures state { self.new ≡ after self.old event }
+        ensures reply { result ≡ reply self.old event }
+    {
+        match event {
+            Event::Claim(pass) => {
+                if self.next as usize >= self.slots.len() {
+                    return Claim::NoneLeft;
+                }
+                let job = self.next;
+                self.slots[job as usize] = Slot::InHand(pass);
+                self.next += 1;
+                Claim::Got(job)
+            }
+            Event::Deposit(pass, job) => {
+                self.slots[job as usize] = Slot::Done(pass);
+                Claim::Got(job)
+            }
+            Event::GiveBack(_, job) => {
+                self.slots[job as usize] = Slot::Open;
+                Claim::Got(job)
+            }
+        }
+    }
+}

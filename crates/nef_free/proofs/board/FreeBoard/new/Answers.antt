@@ -1,0 +1,7 @@
+use Rattle.std.proofs.Common.{arith}
+use Rattle.nef_free.proofs.Ends.{opens}
+use Rattle.nef_free.proofs.board.FreeBoard.new.Goals as goal
+
+pub vacant-requires : goal.vacant-requires
+vacant-requires g c =
+    rw (c.as_slice.ensures.value, c.in_ok-words.ensures) (opens _ _ _ (let a = c.if-jobs-ge-TOO_MANY_JOBS.false in let b = c.ranges.seats.fits in omega arith) c.requires)

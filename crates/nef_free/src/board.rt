@@ -1,0 +1,169 @@
+//! The board and its passes.
+ghost use Rattle.std.specs.Prelude.{◌≡◌, ℕ, Bool, true, false, ◌+◌, ◌<◌, ◌≤◌, IfOk, Some, None, List, [], ◌∷◌, ◌++◌, ◌==◌, if◌then◌else◌, replicate, vec_len, vec_capacity, slice_get};
+ghost use Rattle.std.specs.Mem.Slots.{slots_items, slots_len, IsFull};
+ghost use mathlib.Core.Option.{some};
+ghost use lib.ListN.{get_elem?};
+ghost use Rattle.nef_free.specs.Views.{carried, first_view, is_below};
+
+use crate::rule::{Claims, Cut, Deposits, FreeRule, GivesBack, Order};
+use crate::view::View;
+use atomic_table::{Closed, Seat, Table};
+use nef_core::{Board, Claim, Job, OutOfMemory, Receipt};
+use std::alloc::Global;
+
+/// From this many jobs on a board answers `OutOfMemory` without trying, so that the first word
+/// never wraps.
+const TOO_MANY_JOBS: u64 = 1 << 60;
+
+/// A board whose passes wait for nobody.
+///
+/// The first word is the next number. Each job has a word, 0 while it isn't settled, 1 once it is
+/// done and 2 once it was given back, and a slot for its result.
+#[derive(Drop)]
+pub struct FreeBoard<'a, J: Job> {
+    jobs: u64,
+    table: Table<Option<J::Out>, View, Order<'a, J>, FreeRule, Global>,
+    ghost jobs_are: { jobs ≡ table.shared.key.jobs },
+    ghost word_count: { table.shared.table_id.words ≡ jobs + 1 },
+    ghost slot_count: { table.shared.table_id.slots ≡ jobs },
+}
+
+/// A pass of a [`FreeBoard`].
+#[derive(Drop)]
+pub struct FreePass<J: Job> {
+    seat: Seat<Option<J::Out>, View>,
+    ended: bool,
+    ghost live: { seat.me.0.live ≡ true },
+    ghost same_end: { seat.me.0.ended ≡ ended },
+    ghost held: { seat.me.1 ≡ carried seat.me.0.hand },
+    ghost below: { is_below seat.me.0.jobs seat.me.0.hand ≡ true },
+}
+
+impl<'a, J: Job> FreeBoard<'a, J> {
+    /// Returns a board for this job value, and its first pass, which may make one pass fewer than
+    /// there are seats.
+    ///
+    /// `OutOfMemory` says that memory was wanted and not found.
+    pub fn new(
+        alloc: Global,
+        job: &'a J,
+        seats: u32,
+    ) -> Result<(FreeBoard<'a, J>, FreePass<J>), OutOfMemory>
+        requires { 0 < seats }
+        ensures board { IfOk result (λ b. (b.0.table.shared.key.job.now ≡ job.now) × (b.0.jobs ≡ J.count job.now)) }
+        ensures pass { IfOk result (λ b. (b.1.seat.table_id ≡ b.0.table.shared.table_id) × (b.1.seat.me.0 ≡ first_view (J.count job.now) seats)) }
+    {
+        let jobs = job.jobs();
+        if jobs >= TOO_MANY_JOBS {
+            return Err(OutOfMemory);
+        }
+        let words = zeros(alloc, jobs as usize + 1)?;
+        let order = Order { job, jobs, seats };
+        let (table, seat) = Table::vacant(alloc, words.as_slice(), jobs as usize, &order)?;
+        Ok((FreeBoard { jobs, table }, FreePass { seat, ended: false }))
+    }
+}
+
+impl<'a, J: Job> Board<J> for FreeBoard<'a, J> {
+    const FREE: bool = true;
+
+    type Pass = FreePass<J>;
+
+    ghost made_for = { λ b. b.table.shared.key.job.now };
+
+    ghost belongs = { λ b p. (p.seat.table_id ≡ b.table.shared.table_id) × (p.seat.me.0.jobs ≡ b.jobs) × (b.jobs ≡ J.count b.table.shared.key.job.now) };
+
+    ghost number = { λ p. p.seat.me.0.number };
+
+    ghost spare = { λ p. p.seat.me.0.spare };
+
+    ghost hand = { λ p. p.seat.me.0.hand };
+
+    ghost ended = { λ p. p.seat.me.0.ended };
+
+    ghost deposits = { λ p. p.seat.me.0.deposits };
+
+    fn split(&self, pass: &mut FreePass<J>) -> FreePass<J> {
+        let seat = self.table.shared.split_seat::<Cut>(&mut pass.seat);
+        FreePass { seat, ended: false }
+    }
+
+    fn join(&self, pass: &mut FreePass<J>, other: FreePass<J>) {
+        let FreePass { seat, ended: _ } = other;
+        self.table.shared.join_seat::<Cut>(&mut pass.seat, seat);
+    }
+
+    fn claim(&self, pass: &mut FreePass<J>) -> Claim {
+        if pass.ended {
+            return Claim::NoneLeft;
+        }
+        let found = self.table.shared.fetch_add::<Claims>(&mut pass.seat, 0, 1);
+        if found < self.jobs {
+            Claim::Got(found)
+        } else {
+            pass.ended = true;
+            Claim::NoneLeft
+        }
+    }
+
+    fn deposit(&self, pass: &mut FreePass<J>, job: u64, out: J::Out) -> Receipt {
+        let place = job as usize;
+        self.table.shared.exchange(&mut pass.seat, place, Some(out));
+        self.table
+            .shared
+            .store::<Deposits>(&mut pass.seat, place + 1, 1);
+        Receipt { job }
+    }
+
+    fn give_back(&self, pass: &mut FreePass<J>, job: u64) {
+        let place = job as usize;
+        self.table
+            .shared
+            .store::<GivesBack>(&mut pass.seat, place + 1, 2);
+    }
+
+    fn close(self, alloc: Global, pass: FreePass<J>) -> Result<Vec<Option<J::Out>>, OutOfMemory> {
+        let mut results = Vec::with_capacity(alloc, self.jobs as usize)?;
+        let FreeBoard { jobs, table } = self;
+        let FreePass { seat, ended: _ } = pass;
+        let closed = table.close_with(seat);
+        let _ = jobs;
+        Ok(gathered(closed, results))
+    }
+}
+
+fn zeros(alloc: Global, count: usize) -> Result<Vec<u64>, OutOfMemory>
+    ensures { IfOk result (λ v. v.items ≡ replicate count 0) }
+{
+    Vec::from_elem(alloc, 0, count)
+}
+
+// What is kept of a slot.
+fn kept<T: Drop>(word: u64, out: Option<T>) -> Option<T>
+    ensures { result ≡ (if word == 1 then out else None) }
+{
+    if word == 1 { out } else { None }
+}
+
+// The slots whose word is 1.
+fn gathered<T: Drop>(
+    mut closed: Closed<Option<T>, Global>,
+    mut results: Vec<Option<T>>,
+) -> Vec<Option<T>>
+    requires empty { results.items ≡ [] }
+    requires room { slots_len closed.slots ≤ vec_capacity results }
+    requires full { IsFull closed.words × IsFull closed.slots }
+    requires words { slots_len closed.words ≡ slots_len closed.slots + 1 }
+    ensures len { vec_len result ≡ slots_len closed.slots }
+    ensures each { (i n : ℕ) (y : _) → get_elem? (slots_items closed.words) (i + 1) ≡ some n → get_elem? (slots_items closed.slots) i ≡ some y → slice_get result.items i ≡ Some (if n == 1 then y else None) }
+{
+    let mut next = 0;
+    while next < closed.slot_count() {
+        let word = closed.word(next + 1);
+        let out = closed.take(next);
+        results.push_reserved(kept(word, out));
+        next += 1;
+    }
+    closed.free();
+    results
+}

@@ -1,0 +1,28 @@
+-- What a source and a sink in memory have left, and which of their calls fail.
+use Rattle.std.specs.Prelude.{ℕ, ◌+◌, ◌-◌, ◌^◌, List, min}
+
+-- the last value of a counter
+abbrev pub last_count : ℕ
+last_count = 2 ^ 64 - 1
+
+-- a counter of n after one more, which stops at the last value
+abbrev pub counted : ℕ → ℕ
+counted n = min (n + 1) last_count
+
+-- the bytes that are left, the most bytes for one call, the numbers of the calls that fail (the first
+-- call has the number 1), the calls so far, and those of them that failed
+pub record SourceState : Type 0 where
+  pub rest : List ℕ
+  pub most : ℕ
+  pub fails : List ℕ
+  pub calls : ℕ
+  pub faults : ℕ
+
+-- the same for a sink, with the bytes that it took and the number of bytes that still fit
+pub record SinkState : Type 0 where
+  pub taken : List ℕ
+  pub free : ℕ
+  pub most : ℕ
+  pub fails : List ℕ
+  pub calls : ℕ
+  pub faults : ℕ

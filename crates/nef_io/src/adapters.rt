@@ -1,0 +1,76 @@
+//! Std's readers and writers as a source and a sink. What standard input gave and what standard
+//! output took is told by nobody, so these few lines are trusted for it.
+ghost use Rattle.std.specs.Prelude.{◌≡◌};
+
+use crate::traits::{Failed, Sink, Source};
+use std::io::{Read, Write};
+
+/// A reader as a source. It tells what the reader tells, and counts each error of it.
+#[derive(Drop)]
+pub struct FromReader<R> {
+    reader: R,
+    faults: u64,
+}
+
+impl<R: Read> FromReader<R> {
+    /// A source over `reader`, with no fault so far.
+    pub fn new(reader: R) -> FromReader<R>
+        ensures rest { ⟦<FromReader<R> as Source>⟧.rest result ≡ R.remaining reader }
+        ensures faults { ⟦<FromReader<R> as Source>⟧.faults result ≡ 0 }
+    {
+        FromReader { reader, faults: 0 }
+    }
+}
+
+impl<R: Read> Source for FromReader<R> {
+    ghost rest = { λ s. R.remaining s.reader };
+
+    ghost faults = { λ s. s.faults };
+
+    fn read(&mut self, buf: &mut [u8]) -> Result<usize, Failed> {
+        match self.reader.read(buf) {
+            Ok(taken) => Ok(taken),
+            Err(_) => {
+                self.faults = self.faults.saturating_add(1);
+                Err(Failed)
+            }
+        }
+    }
+}
+
+/// A writer as a sink. It counts each error, and each write that took nothing of a piece that isn't
+/// empty. It doesn't tell what was written.
+#[derive(Drop)]
+pub struct IntoWriter<W> {
+    writer: W,
+    faults: u64,
+}
+
+impl<W: Write> IntoWriter<W> {
+    /// A sink over `writer`, with no fault so far.
+    pub fn new(writer: W) -> IntoWriter<W>
+        ensures faults { ⟦<IntoWriter<W> as Sink>⟧.faults result ≡ 0 }
+    {
+        IntoWriter { writer, faults: 0 }
+    }
+}
+
+impl<W: Write> Sink for IntoWriter<W> {
+    ghost use Rattle.std.specs.Prelude.{None};
+
+    // Where std's writer tells before a write it tells after it, and a sink that tells after a call
+    // told before it. So a writer that began to tell would be no sink.
+    ghost written = { λ s. None };
+
+    ghost faults = { λ s. s.faults };
+
+    fn write(&mut self, piece: &[u8]) -> Result<usize, Failed> {
+        match self.writer.write(piece) {
+            Ok(taken) if taken > 0 => Ok(taken),
+            _ => {
+                self.faults = self.faults.saturating_add(1);
+                Err(Failed)
+            }
+        }
+    }
+}

@@ -1,0 +1,13 @@
+pub mod Near
+pub mod Cells
+pub mod Germs
+pub mod Flats
+pub mod Decided
+pub mod Rays
+pub mod Combine
+pub mod Alike
+pub mod NearGerms
+pub mod Meets
+pub mod Segment
+pub mod FirstHit
+pub mod Between

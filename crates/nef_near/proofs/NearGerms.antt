@@ -1,0 +1,127 @@
+-- The germ at a point of a ray is the germ near the ray's direction; so the interior is read off the germs.
+use Rattle.std.proofs.Common.{◌≡◌, ℕ, zero, suc, ◌+◌, ◌*◌, ◌<◌, ◌≤◌, ℤ, pos, negsuc, ◌+ℤ◌, ◌-ℤ◌, ◌*ℤ◌, neg_ℤ, ◌≤ℤ◌, ◌<ℤ◌, nat_abs, arith, refl, ap, sym, ◌∙◌, ◌⊎◌, inl, inr, ⊎_elim, ◌↔◌, List, [], ◌∷◌, subst}
+use Rattle.std.proofs.lemmas.Int.{ints, unsigned_abs-mul}
+use Rattle.nef_exact.proofs.Ring.{ring, value, at, num, ◌⊕◌, ◌⊖◌, ◌⊗◌}
+use Rattle.nef_exact.proofs.Order.{Sign, minus, nought, plus, sign, sign_times, sign-plus, sign-minus, plus-is, minus-is, nought-is, mul_le_right}
+use Rattle.nef_exact.specs.Signs.{Lies}
+use Rattle.nef_near.specs.Cones.{NearGerm}
+use Rattle.nef_near.specs.Cells.{sign_at, frame, carriers, SameSigns}
+use Rattle.nef_space.specs.Place.{Place, Form, form_at, slope, Ratio, step, Within, InFrame, toward}
+use Rattle.nef_space.specs.Vectors.{Vector, blend}
+use Rattle.nef_space.specs.Sets.{Set, Holds, Interior, Closure}
+use Rattle.nef_space.specs.Local.{IsShort, HasLabel, Germ}
+use Rattle.nef_space.specs.declared.label.Label.{Label}
+use Rattle.nef_space.specs.declared.label.Label.TheVariants.{Out, Not, In}
+use Rattle.nef_near.proofs.Near.{weaken, stride, step-within}
+use Rattle.nef_near.proofs.Cells.{same-sym, reach_all, reach-some, keeps-all, is_nought}
+use Rattle.nef_near.proofs.Germs.{Label-cells, locality, sign-along, short_enough, Germ-unique, label-one}
+use Rattle.nef_near.proofs.Flats.{slope-slide, germ-toward}
+use Rattle.nef_near.proofs.Decided.{label_of}
+use Rattle.nef_near.proofs.Combine.{shorter}
+
+abbrev steep : List Form → Vector → ℕ
+steep [] e = 1
+steep (h ∷ hs) e = nat_abs (slope h e) + steep hs e
+
+steep-one : (hs : List Form) (h : Form) (e : Vector) → Lies hs h → nat_abs (slope h e) < steep hs e
+steep-one [] h e l = absurd l
+steep-one (k ∷ ks) h e (inl i) = subst (λ (g : Form). nat_abs (slope g e) < steep (k ∷ ks) e) i (omega (arith, steep-some ks))
+  where
+    steep-some : (hs : List Form) → 0 < steep hs e
+    steep-some [] = omega arith
+    steep-some (h ∷ hs) = let i = steep-some hs in omega arith
+steep-one (k ∷ ks) h e (inr l) = let i = steep-one ks h e l in omega arith
+
+-- a large multiple decides
+sign-large : (x y : ℤ) (k : ℕ) → nat_abs y < k → (sign x ≡ nought → ⊥) → sign (pos k *ℤ x +ℤ pos 1 *ℤ y) ≡ sign x
+sign-large (pos zero) y k h n = absurd (n refl)
+sign-large (pos (suc x)) y k h n = let a = mul_le_right (pos 1) (pos (suc x)) (pos k) (omega (arith, ints)) (omega (arith, ints)) in let b = ring (pos k ∷ pos (suc x) ∷ []) (at 0 ⊗ at 1) (at 1 ⊗ at 0) tt in
+    sign-plus (pos k *ℤ pos (suc x) +ℤ pos 1 *ℤ y) (omega (arith, ints))
+sign-large (negsuc x) y k h n = let a = mul_le_right (negsuc x) (negsuc 0) (pos k) (omega (arith, ints)) (omega (arith, ints)) in let b = ring (pos k ∷ negsuc x ∷ []) (at 0 ⊗ at 1) (at 1 ⊗ at 0) tt in
+    sign-minus (pos k *ℤ negsuc x +ℤ pos 1 *ℤ y) (omega (arith, ints))
+
+module _ (s : Set) (p : Place) (d e : Vector) (t : Ratio) (short : IsShort (short_enough s p d) t) where
+  abbrev there : Place
+  there = step p t d
+
+  abbrev forms : List Form
+  forms = carriers s
+
+  there-close : Within (reach_all forms p) p there
+  there-close = step-within (reach_all forms p) p d t short
+
+  -- a short step from there along e, and a short step from p along k d + e
+  same-there : (u v : Ratio) (k : ℕ) → steep forms e ≤ k → IsShort (short_enough s there e) u → IsShort (short_enough s p (blend k d 1 e)) v
+      → SameSigns forms (step there u e) (step p v (blend k d 1 e))
+  same-there u v k big su sv h l = ⊎_elim through (λ n. off n) (is_nought (sign_at h p))
+    where
+      close-r : Within (reach_all forms there) there (step there u e)
+      close-r = step-within (reach_all forms there) there e u su
+
+      close-y : Within (reach_all forms p) p (step p v (blend k d 1 e))
+      close-y = step-within (reach_all forms p) p (blend k d 1 e) v sv
+
+      off : (sign_at h p ≡ nought → ⊥) → sign_at h (step there u e) ≡ sign_at h (step p v (blend k d 1 e))
+      off n =
+          let a = keeps-all forms p there there-close h l n in
+          let b = keeps-all forms there (step there u e) close-r h l (λ z. n (sym a ∙ z)) in
+          b ∙ a ∙ sym (keeps-all forms p (step p v (blend k d 1 e)) close-y h l n)
+
+      through : sign_at h p ≡ nought → sign_at h (step there u e) ≡ sign_at h (step p v (blend k d 1 e))
+      through o =
+          let a = sign-along h p t d o short.0 in
+          let y = sign-along h p v (blend k d 1 e) o sv.0 ∙ ap sign (slope-slide h k d (pos 1) e) in
+          ⊎_elim
+          (λ z. sign-along h there u e (a ∙ z) su.0 ∙ ap sign (flat z) ∙ sym y)
+          (λ n. keeps-all forms there (step there u e) close-r h l (λ z. n (sym a ∙ z)) ∙ a
+          ∙ sym (y ∙ sign-large (slope h d) (slope h e) k (let q = steep-one forms h e l in omega arith) n))
+          (is_nought (sign (slope h d)))
+        where
+          flat : sign (slope h d) ≡ nought → slope h e ≡ pos k *ℤ slope h d +ℤ pos 1 *ℤ slope h e
+          flat z = ring (slope h e ∷ pos k ∷ []) (at 0) (at 1 ⊗ num (pos 0) ⊕ num (pos 1) ⊗ at 0) tt ∙ ap (λ r. pos k *ℤ r +ℤ pos 1 *ℤ slope h e) (sym (nought-is (slope h d) z))
+
+  pub near-from_there : (m : Label) → Germ s there e m → NearGerm s p d e m
+  near-from_there m (n, some, f) = (
+    steep forms e,
+    λ k big. (
+      short_enough s p (blend k d 1 e),
+      omega arith,
+      λ v sv.
+          let j = short_enough s there e in
+          let u : Ratio = record { a = pos 1; b = n + j + 1; proper = omega arith } in
+          let su : IsShort j u = (omega (arith, ints), omega (arith, ints)) in
+          Label-cells s m (step there u e) (step p v (blend k d 1 e)) (same-there u v k big su sv) (f u (omega (arith, ints), omega (arith, ints))),
+    ),
+  )
+
+  pub there-from_near : (m : Label) → NearGerm s p d e m → Germ s there e m
+  there-from_near m (n, g) =
+      let k = n + steep forms e in
+      let w = blend k d 1 e in
+      let y = g k (omega arith) in (
+        short_enough s there e,
+        omega arith,
+        λ u su.
+            let j = short_enough s p w in
+            let v : Ratio = record { a = pos 1; b = y.0 + j + 1; proper = omega arith } in
+            let sv : IsShort j v = (omega (arith, ints), omega (arith, ints)) in
+            Label-cells s m (step p v w) (step there u e) (same-sym forms (step there u e) (step p v w) (same-there u v k (omega arith) su sv)) (y.2 v (omega (arith, ints), omega (arith, ints))),
+      )
+
+-- INTERIOR: where no germ near d is Not, the interior's germ along d is In
+pub inside-germ : (s : Set) (p : Place) (d : Vector) → Germ s p d In → ((e : Vector) → NearGerm s p d e Not → ⊥) → Germ (Set.inside s) p d In
+unfolding Holds
+inside-germ s p d (n, some, f) none = (
+  n + short_enough s p d,
+  omega arith,
+  λ t h.
+      let q = step p t d in
+      let short = shorter (short_enough s p d) (n + short_enough s p d) t (omega arith) h in
+      let here = f t (shorter n (n + short_enough s p d) t (omega arith) h) in
+      (here.0, (reach_all (carriers s) q, reach-some (carriers s) q, λ r i c. by q r i c (label_of s r) (λ g. none (toward q r) (near-from_there s p d (toward q r) t short Not g)))),
+)
+  where
+    by : (q r : Place) → InFrame r → Within (reach_all (carriers s) q) q r → (m : Label) × HasLabel s r m → (Germ s q (toward q r) Not → ⊥) → Holds s r
+    by q r i c (Out, h) z = absurd (h i)
+    by q r i c (Not, h) z = absurd (z (germ-toward s Not q r c h))
+    by q r i c (In, h) z = h.1

@@ -1,0 +1,291 @@
+-- The laws on what a set looks like near a point. Each is cited by a clause of a public function.
+use Rattle.std.specs.Prelude.{◌≡◌, ℕ, ◌<◌, ℤ, pos, List, ◌⊎◌, ◌↔◌}
+use Rattle.nef_exact.specs.Signs.{Lies}
+use Rattle.nef_space.specs.Local.{HasLabel, SameSet, IsShort, Germ, Flat, FlatDim, IsVertex, IsEven, Joined}
+use Rattle.nef_space.specs.Place.{Place, Form, Ratio, step, Within, SamePlace, InFrame, InClosedFrame, toward, IsBetween}
+use Rattle.nef_space.specs.Sets.{Set, Holds}
+use Rattle.nef_space.specs.Vectors.{Vector, IsZero, IsDirection, SameDirection}
+use Rattle.nef_space.specs.declared.label.Label.{Label}
+use Rattle.nef_space.specs.declared.label.Label.TheVariants.{Out, Not, In}
+use Rattle.nef_near.specs.Cells.{carriers, SameSigns, SameSlopes, SameSlopesAt, IsInAllAt}
+use Rattle.nef_near.specs.Cones.{combination, NearGerm, FlatCone, SameCone, SameNear, IsMeet, IsOnSegment, label_and, label_or, label_not, label_less, label_one_of}
+
+-- ---- cells
+-- where two points lie on the same sides of all carriers, the set holds at both or at neither
+abbrev pub HoldsByCell : Type 0
+HoldsByCell = (s : Set) (p q : Place) → SameSigns (carriers s) p q → Holds s p → Holds s q
+
+-- and they have the same label
+abbrev pub LabelByCell : Type 0
+LabelByCell = (s : Set) (p q : Place) (l : Label) → SameSigns (carriers s) p q → HasLabel s p l → HasLabel s q l
+
+-- and the same germs
+abbrev pub GermByCell : Type 0
+GermByCell = (s : Set) (p q : Place) (d : Vector) (l : Label) → SameSigns (carriers s) p q → Germ s p d l → Germ s q d l
+
+-- and the same flat directions
+abbrev pub FlatByCell : Type 0
+FlatByCell = (s : Set) (p q : Place) (d : Vector) → SameSigns (carriers s) p q → Flat s p d → Flat s q d
+
+-- and as many of them
+abbrev pub FlatDimByCell : Type 0
+FlatDimByCell = (s : Set) (p q : Place) (k : ℕ) → SameSigns (carriers s) p q → FlatDim s p k → FlatDim s q k
+
+-- equal points lie on the same sides of all planes
+abbrev pub SignsAtSamePlace : Type 0
+SignsAtSamePlace = (hs : List Form) (p q : Place) → SamePlace p q → SameSigns hs p q
+
+-- a set holds at both of two equal points or at neither
+abbrev pub HoldsAtSamePlace : Type 0
+HoldsAtSamePlace = (s : Set) (p q : Place) → SamePlace p q → Holds s p → Holds s q
+
+-- equal points have the same label
+abbrev pub LabelAtSamePlace : Type 0
+LabelAtSamePlace = (s : Set) (p q : Place) (l : Label) → SamePlace p q → HasLabel s p l → HasLabel s q l
+
+-- equal points have the same germs in equal directions
+abbrev pub GermAtSamePlace : Type 0
+GermAtSamePlace = (s : Set) (p q : Place) (d e : Vector) (l : Label) → SamePlace p q → SameDirection d e → Germ s p d l → Germ s q e l
+
+-- equal points have as many independent flat directions
+abbrev pub FlatDimAtSamePlace : Type 0
+FlatDimAtSamePlace = (s : Set) (p q : Place) (k : ℕ) → SamePlace p q → FlatDim s p k → FlatDim s q k
+
+-- ---- cones
+-- each point has a label
+abbrev pub LabelExists : Type 0
+LabelExists = (s : Set) (p : Place) → (l : Label) × HasLabel s p l
+
+-- and one only
+abbrev pub LabelIsUnique : Type 0
+LabelIsUnique = (s : Set) (p : Place) (l m : Label) → HasLabel s p l → HasLabel s p m → l ≡ m
+
+-- each direction has a germ
+abbrev pub GermExists : Type 0
+GermExists = (s : Set) (p : Place) (d : Vector) → (l : Label) × Germ s p d l
+
+-- and one only
+abbrev pub GermIsUnique : Type 0
+GermIsUnique = (s : Set) (p : Place) (d : Vector) (l m : Label) → Germ s p d l → Germ s p d m → l ≡ m
+
+-- close to p the set is its cone: the label at q is the germ toward q
+abbrev pub SetIsItsCone : Type 0
+SetIsItsCone = (s : Set) (p : Place) → (n : ℕ) × (0 < n) × ((q : Place) → Within n p q → (l : Label) → HasLabel s q l ↔ Germ s p (toward p q) l)
+
+-- close to p the label is the same all along a ray from p
+abbrev pub LabelAlongRay : Type 0
+LabelAlongRay = (s : Set) (p : Place) → (n : ℕ) × (0 < n) × ((q r : Place) → Within n p q → IsBetween p r q → (l : Label) → HasLabel s q l ↔ HasLabel s r l)
+
+-- the germ is decided by the sides of the carriers through p to which the direction leads
+abbrev pub GermBySlopes : Type 0
+GermBySlopes = (s : Set) (p : Place) (d e : Vector) (l : Label) → SameSlopesAt (carriers s) p d e → Germ s p d l → Germ s p e l
+
+-- the germ toward the zero vector is the label
+abbrev pub GermTowardZero : Type 0
+GermTowardZero = (s : Set) (p : Place) (d : Vector) (l : Label) → IsZero d → Germ s p d l ↔ HasLabel s p l
+
+-- a point of the frame has no germ Out
+abbrev pub NoGermOutInFrame : Type 0
+NoGermOutInFrame = (s : Set) (p : Place) (d : Vector) → InFrame p → Germ s p d Out → ⊥
+
+-- where the germ is Out doesn't depend on the set
+abbrev pub GermOutForAll : Type 0
+GermOutForAll = (s t : Set) (p : Place) (d : Vector) → Germ s p d Out → Germ t p d Out
+
+-- ---- near directions
+-- the germ at p + t d in the direction e, for small t, is the germ at p in the direction n d + e, for large n
+abbrev pub GermOnRay : Type 0
+GermOnRay = (s : Set) (p : Place) (d : Vector) → (n : ℕ) × (0 < n) × ((t : Ratio) → IsShort n t → (e : Vector) (l : Label) → Germ s (step p t d) e l ↔ NearGerm s p d e l)
+
+-- each direction near d has a germ
+abbrev pub NearGermExists : Type 0
+NearGermExists = (s : Set) (p : Place) (d e : Vector) → (l : Label) × NearGerm s p d e l
+
+-- and one only
+abbrev pub NearGermIsUnique : Type 0
+NearGermIsUnique = (s : Set) (p : Place) (d e : Vector) (l m : Label) → NearGerm s p d e l → NearGerm s p d e m → l ≡ m
+
+-- near d toward the zero vector is d itself
+abbrev pub NearGermTowardZero : Type 0
+NearGermTowardZero = (s : Set) (p : Place) (d e : Vector) (l : Label) → IsZero e → NearGerm s p d e l ↔ Germ s p d l
+
+-- ---- decisions
+-- a set holds or doesn't hold
+abbrev pub HoldsIsDecided : Type 0
+HoldsIsDecided = (s : Set) (p : Place) → Holds s p ⊎ (Holds s p → ⊥)
+
+abbrev pub LabelIsDecided : Type 0
+LabelIsDecided = (s : Set) (p : Place) (l : Label) → HasLabel s p l ⊎ (HasLabel s p l → ⊥)
+
+abbrev pub GermIsDecided : Type 0
+GermIsDecided = (s : Set) (p : Place) (d : Vector) (l : Label) → Germ s p d l ⊎ (Germ s p d l → ⊥)
+
+abbrev pub NearGermIsDecided : Type 0
+NearGermIsDecided = (s : Set) (p : Place) (d e : Vector) (l : Label) → NearGerm s p d e l ⊎ (NearGerm s p d e l → ⊥)
+
+-- for finitely many planes there are finitely many vectors such that each vector leads to the same sides as one of them
+abbrev pub Representatives : Type 0
+Representatives = (hs : List Form) → (vs : List Vector) × ((d : Vector) → (v : Vector) × Lies vs v × SameSlopes hs d v)
+
+-- so finitely many vectors show all germs
+abbrev pub GermRepresentatives : Type 0
+GermRepresentatives = (s : Set) (p : Place) → (vs : List Vector) × ((d : Vector) → (v : Vector) × Lies vs v × ((l : Label) → Germ s p d l ↔ Germ s p v l))
+
+-- either all germs are l or there is one that isn't
+abbrev pub AllGermsAreDecided : Type 0
+AllGermsAreDecided = (s : Set) (p : Place) (l : Label) → ((d : Vector) → Germ s p d l) ⊎ ((d : Vector) × (Germ s p d l → ⊥))
+
+-- the same without the zero vector
+abbrev pub AllDirectionsAreDecided : Type 0
+AllDirectionsAreDecided = (s : Set) (p : Place) (l : Label) → ((d : Vector) → IsDirection d → Germ s p d l) ⊎ ((d : Vector) × IsDirection d × (Germ s p d l → ⊥))
+
+-- either all germs near d are l or there is one that isn't
+abbrev pub AllNearGermsAreDecided : Type 0
+AllNearGermsAreDecided = (s : Set) (p : Place) (d : Vector) (l : Label) → ((e : Vector) → NearGerm s p d e l) ⊎ ((e : Vector) × (NearGerm s p d e l → ⊥))
+
+-- two sets have equal cones at p or haven't
+abbrev pub SameConeIsDecided : Type 0
+SameConeIsDecided = (s t : Set) (p : Place) → SameCone s t p ⊎ (SameCone s t p → ⊥)
+
+-- ---- flat directions
+-- a direction is flat exactly where the germs don't change along it
+abbrev pub FlatIsFlatCone : Type 0
+FlatIsFlatCone = (s : Set) (p : Place) (d : Vector) → Flat s p d ↔ FlatCone s p d
+
+-- a direction that lies in each carrier through p is flat
+abbrev pub FlatInCarriers : Type 0
+FlatInCarriers = (s : Set) (p : Place) (d : Vector) → IsInAllAt (carriers s) p d → Flat s p d
+
+-- sums and multiples of flat directions are flat
+abbrev pub FlatCombination : Type 0
+FlatCombination = (s : Set) (p : Place) (d e : Vector) (j k : ℤ) → Flat s p d → Flat s p e → Flat s p (combination j d k e)
+
+-- outside the closed frame all directions are flat
+abbrev pub FlatOutside : Type 0
+FlatOutside = (s : Set) (p : Place) (d : Vector) → (InClosedFrame p → ⊥) → Flat s p d
+
+abbrev pub FlatDimOutside : Type 0
+FlatDimOutside = (s : Set) (p : Place) → (InClosedFrame p → ⊥) → FlatDim s p 3
+
+-- the number of independent flat directions is one number
+abbrev pub FlatDimIsUnique : Type 0
+FlatDimIsUnique = (s : Set) (p : Place) (j k : ℕ) → FlatDim s p j → FlatDim s p k → j ≡ k
+
+-- a vertex is a meet of three carriers with independent normals
+abbrev pub VertexIsMeet : Type 0
+VertexIsMeet = (s : Set) (p : Place) → IsVertex s p → IsMeet (carriers s) p
+
+-- ---- combinations
+-- labels, and germs likewise, combine as the sets do
+pub record LabelsCombine (a b : Set) (l m : Label) (Has : Set → Label → Type 0) : Type 0 where
+  pub both : Has (Set.both a b) (label_and l m)
+  pub either : Has (Set.either a b) (label_or l m)
+  pub less : Has (Set.less a b) (label_less l m)
+  pub one_of : Has (Set.one_of a b) (label_one_of l m)
+  pub other : Has (Set.other a) (label_not l)
+
+abbrev pub LabelOfCombination : Type 0
+LabelOfCombination = (a b : Set) (p : Place) (l m : Label) → HasLabel a p l → HasLabel b p m → LabelsCombine a b l m (λ s. HasLabel s p)
+
+abbrev pub GermOfCombination : Type 0
+GermOfCombination = (a b : Set) (p : Place) (d : Vector) (l m : Label) → Germ a p d l → Germ b p d m → LabelsCombine a b l m (λ s. Germ s p d)
+
+abbrev pub NearGermOfCombination : Type 0
+NearGermOfCombination = (a b : Set) (p : Place) (d e : Vector) (l m : Label) → NearGerm a p d e l → NearGerm b p d e m → LabelsCombine a b l m (λ s. NearGerm s p d e)
+
+-- a direction that is flat for both operands is flat for what is made of them
+pub record IsFlatForBoth (a b : Set) (p : Place) (d : Vector) : Type 0 where
+  pub both : Flat (Set.both a b) p d
+  pub either : Flat (Set.either a b) p d
+  pub less : Flat (Set.less a b) p d
+  pub one_of : Flat (Set.one_of a b) p d
+
+abbrev pub FlatOfTwo : Type 0
+FlatOfTwo = (a b : Set) (p : Place) (d : Vector) → Flat a p d → Flat b p d → IsFlatForBoth a b p d
+
+pub record IsFlatForOne (a : Set) (p : Place) (d : Vector) : Type 0 where
+  pub other : Flat (Set.other a) p d
+  pub inside : Flat (Set.inside a) p d
+  pub closed : Flat (Set.closed a) p d
+  pub border : Flat (Set.border a) p d
+  pub regular : Flat (Set.regular a) p d
+
+abbrev pub FlatOfOne : Type 0
+FlatOfOne = (a : Set) (p : Place) (d : Vector) → Flat a p d → IsFlatForOne a p d
+
+-- ---- interior, closure, boundary and regularisation in terms of cones
+-- the interior holds at p where the cone is In throughout
+abbrev pub InsideAt : Type 0
+InsideAt = (a : Set) (p : Place) → HasLabel (Set.inside a) p In ↔ (HasLabel a p In × ((d : Vector) → Germ a p d In))
+
+-- the closure, where the cone is In somewhere
+abbrev pub ClosedAt : Type 0
+ClosedAt = (a : Set) (p : Place) → HasLabel (Set.closed a) p In ↔ (InFrame p × (HasLabel a p In ⊎ ((d : Vector) × Germ a p d In)))
+
+-- the boundary, where it is In somewhere and Not somewhere
+abbrev pub BorderAt : Type 0
+BorderAt = (a : Set) (p : Place) → HasLabel (Set.border a) p In ↔ ((HasLabel a p In ⊎ ((d : Vector) × Germ a p d In)) × (HasLabel a p Not ⊎ ((d : Vector) × Germ a p d Not)) × InFrame p)
+
+-- the regularisation, where it is In in all directions near some direction
+abbrev pub RegularAt : Type 0
+RegularAt = (a : Set) (p : Place) → HasLabel (Set.regular a) p In ↔ (InFrame p × ((d : Vector) × ((e : Vector) → NearGerm a p d e In)))
+
+-- the same toward a direction, by the directions near it
+abbrev pub InsideToward : Type 0
+InsideToward = (a : Set) (p : Place) (d : Vector) → Germ (Set.inside a) p d In ↔ (Germ a p d In × ((e : Vector) → NearGerm a p d e In))
+
+abbrev pub ClosedToward : Type 0
+ClosedToward = (a : Set) (p : Place) (d : Vector) → Germ (Set.closed a) p d In ↔ ((Germ a p d Out → ⊥) × (Germ a p d In ⊎ ((e : Vector) × NearGerm a p d e In)))
+
+abbrev pub BorderToward : Type 0
+BorderToward = (a : Set) (p : Place) (d : Vector) → Germ (Set.border a) p d In ↔ ((Germ a p d In ⊎ ((e : Vector) × NearGerm a p d e In)) × (Germ a p d Not ⊎ ((e : Vector) × NearGerm a p d e Not)) × (Germ a p d Out → ⊥))
+
+abbrev pub RegularToward : Type 0
+RegularToward = (a : Set) (p : Place) (d : Vector) → Germ (Set.regular a) p d In ↔ ((Germ a p d Out → ⊥) × ((e : Vector) × NearGerm (Set.inside a) p d e In))
+
+-- ---- equal sets
+-- sets are equal exactly where they have equal cones at all points
+abbrev pub SameSetBySameCones : Type 0
+SameSetBySameCones = (s t : Set) → SameSet s t ↔ ((p : Place) → SameCone s t p)
+
+-- two sets have equal cones at p exactly where they agree close to p
+abbrev pub SameConeIsSameNear : Type 0
+SameConeIsSameNear = (s t : Set) (p : Place) → SameCone s t p ↔ SameNear s t p
+
+-- a cone decides the flat directions
+abbrev pub FlatBySameCone : Type 0
+FlatBySameCone = (s t : Set) (p : Place) (d : Vector) → SameCone s t p → Flat s p d ↔ Flat t p d
+
+abbrev pub FlatDimBySameCone : Type 0
+FlatDimBySameCone = (s t : Set) (p : Place) (k : ℕ) → SameCone s t p → FlatDim s p k ↔ FlatDim t p k
+
+abbrev pub NearGermBySameCone : Type 0
+NearGermBySameCone = (s t : Set) (p : Place) (d e : Vector) (l : Label) → SameCone s t p → NearGerm s p d e l ↔ NearGerm t p d e l
+
+-- equal sets join the same points
+abbrev pub JoinedBySameSet : Type 0
+JoinedBySameSet = (s t : Set) (p q : Place) → SameSet s t → Joined s p q → Joined t p q
+
+-- ---- along a segment
+-- at each point of the segment, what Has says is true or false alike at the points of the segment close to it
+abbrev pub IsSettled : (Place → Type 0) → Place → Place → Type 0
+IsSettled Has p q = (r : Place) → IsOnSegment p r q → (n : ℕ) × (0 < n) × ((s : Place) → IsOnSegment p s q → Within n r s → Has r ↔ Has s)
+
+-- a label that nowhere on a segment changes nearby is the same at both ends
+abbrev pub LabelAlongSegment : Type 0
+LabelAlongSegment = (s : Set) (l : Label) (p q : Place) → IsSettled (λ r. HasLabel s r l) p q → HasLabel s p l → HasLabel s q l
+
+-- the number of flat directions likewise
+abbrev pub FlatDimAlongSegment : Type 0
+FlatDimAlongSegment = (s : Set) (k : ℕ) (p q : Place) → IsSettled (λ r. FlatDim s r k) p q → FlatDim s p k → FlatDim s q k
+
+-- Has stands at p and up to a point before q, and there it changes: either it fails at that point, which isn't p, or it stands there and fails from there on as far as next
+pub record FirstChange (Has : Place → Type 0) (p q : Place) : Type 0 where
+  pub at_place : Place
+  pub on_segment : SamePlace at_place p ⊎ IsBetween p at_place q
+  pub stands_before : (r : Place) → IsBetween p r at_place → Has r
+  pub change : ((Has at_place → ⊥) × IsBetween p at_place q) ⊎ (Has at_place × ((next : Place) × IsBetween at_place next q × ((r : Place) → IsBetween at_place r next → Has r → ⊥)))
+
+-- either the label stays all the way from p to q, the end left out, or there is a first point where it changes
+abbrev pub LabelChangesFirst : Type 0
+LabelChangesFirst = (s : Set) (l : Label) (p q : Place) → HasLabel s p l → ((r : Place) → IsBetween p r q → HasLabel s r l) ⊎ FirstChange (λ r. HasLabel s r l) p q
