@@ -8,9 +8,9 @@ use Rattle.std.proofs.Math.ListN.{get_or-append}
 use Rattle.std.proofs.Math.Seq.{get_or-append_seam}
 use Rattle.nef_space.specs.Place.{Place, Form, form_at}
 use Rattle.nef_space.specs.Sets.{Set, Holds, InHalf}
-use Rattle.nef_geo.specs.Sign.{sign_of}
+use Rattle.nef_geo.specs.Signs.{sign_of}
 use Rattle.nef_geo.specs.declared.sign.Sign.TheVariants.{Minus, Zero, Plus}
-use Rattle.nef_geo.specs.declared.shapes.Oriented.{Oriented}
+use Rattle.nef_geo.specs.declared.plane.Oriented.{Oriented}
 use Rattle.nef_geo.specs.Shapes.{given_form}
 use Rattle.nef_expr.specs.declared.nodes.Node.TheVariants as node
 use Rattle.nef_expr.specs.Nodes.{operand, node_set, sets_after, NamesBelow}

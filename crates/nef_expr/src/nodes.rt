@@ -84,9 +84,10 @@ impl Nodes {
         &self.list[k]
     }
 
-    /// How many nodes there are.
+    /// How many nodes there are. Each names earlier nodes only.
     pub fn len(&self) -> usize
         ensures count { result ≡ length self.now }
+        ensures ordered { IsOrdered self.now }
     {
         self.list.len()
     }

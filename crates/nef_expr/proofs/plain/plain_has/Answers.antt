@@ -5,9 +5,6 @@ use Rattle.nef_expr.specs.Nodes.{sets_after}
 use Rattle.nef_expr.proofs.Holding.{tells_each-push, told-in_list}
 use Rattle.nef_expr.proofs.plain.plain_has.Goals as goal
 
-pub in_frame-requires : goal.in_frame-requires
-in_frame-requires c = ?
-
 pub loop-i-preserved : goal.loop-i-preserved
 loop-i-preserved c =
     let old = c.loop-i.invariant in
@@ -23,10 +20,10 @@ pub returns-then-node_holds : goal.returns-then-node_holds
 returns-then-node_holds c =
     let told = rw c.deref-2.ensures.value at c.node_holds.ensures.told in
     let here = told-in_list c.args.nodes.now c.args.k _ c.loop-i.holding.items _ (place_of c.args.p.now) c.get-2.ensures.node c.get-2.ensures.operands c.loop-i.invariant.told told c.requires.plain in
-    record { label = (c.in_frame.ensures.0 c.if-not-in_frame.false, here.0 c.if-node_holds.true) }
+    record { label = (c.in_frame.ensures.in_frame.0 c.if-not-in_frame.false, here.0 c.if-node_holds.true) }
 
 pub returns : goal.returns
 returns c =
     let told = rw c.deref-2.ensures.value at c.node_holds.ensures.told in
     let here = told-in_list c.args.nodes.now c.args.k _ c.loop-i.holding.items _ (place_of c.args.p.now) c.get-2.ensures.node c.get-2.ensures.operands c.loop-i.invariant.told told c.requires.plain in
-    record { label = (c.in_frame.ensures.0 c.if-not-in_frame.false, λ holds. false≢true (sym c.if-node_holds.false ∙ here.1 holds)) }
+    record { label = (c.in_frame.ensures.in_frame.0 c.if-not-in_frame.false, λ holds. false≢true (sym c.if-node_holds.false ∙ here.1 holds)) }
