@@ -184,7 +184,7 @@ InHalf-decided h false p = by_lt_z (form_at h p) (pos 0) (λ l. inl l) (λ l. in
 InHalf-decided h true p = by_lt_z (pos 0) (form_at h p) (λ l. inr (λ m. omega (arith, ints))) (λ l. inl l)
 
 module _ (hs : List Form) (wide : Inside frame hs) where
-  -- EACH SET HOLDS OR DOES NOT HOLD AT EACH POINT
+  -- each set holds or does not hold at each point
   pub Holds-decided : (s : Set) → Inside (halves s) hs → (p : Place) → Decided (Holds s p)
   unfolding Holds
   Holds-decided (Set.half h c) sub = InHalf-decided h c

@@ -82,7 +82,7 @@ flat-divided s p k d e some i j l f = Flat-from_cone s p e (flat-by_signs s p d 
         (given (num (pos 0) ⊖ at 0) (at 9 ⊗ at 6) (at 3) i (given (num (pos 0) ⊖ at 1) (at 9 ⊗ at 7) (at 4) j (given (num (pos 0) ⊖ at 2) (at 9 ⊗ at 8) (at 5) l none))) tt
 
 -- a multiple of a flat direction
-span-1 : (s : Set) (p : Place) (d e : Vector) → IsDirection d → Flat s p d → IsZero (cross d e) → Flat s p e
+pub span-1 : (s : Set) (p : Place) (d e : Vector) → IsDirection d → Flat s p d → IsZero (cross d e) → Flat s p e
 span-1 s p d e some f z =
     let i = cross-turned d e z in
     flat-divided s p (dot d d) (combination (dot e d) d (pos 0) d) e (square-some d some)
@@ -116,7 +116,7 @@ of_c = (at 1 ⊗ at 8 ⊖ at 2 ⊗ at 7) ⊗ nx ⊕ (at 2 ⊗ at 6 ⊖ at 0 ⊗ 
 abbrev determinant : Poly
 determinant = at 0 ⊗ (at 4 ⊗ at 8 ⊖ at 5 ⊗ at 7) ⊕ at 1 ⊗ (at 5 ⊗ at 6 ⊖ at 3 ⊗ at 8) ⊕ at 2 ⊗ (at 3 ⊗ at 7 ⊖ at 4 ⊗ at 6)
 
-span-2 : (s : Set) (p : Place) (d c e : Vector) → IsDirection (cross d c) → Flat s p d → Flat s p c → triple d c e ≡ pos 0 → Flat s p e
+pub span-2 : (s : Set) (p : Place) (d c e : Vector) → IsDirection (cross d c) → Flat s p d → Flat s p c → triple d c e ≡ pos 0 → Flat s p e
 span-2 s p d c e some f g z =
     flat-divided s p (dot (cross d c) (cross d c)) (combination (dot (cross e c) (cross d c)) d (dot (cross d e) (cross d c)) c) e (square-some (cross d c) some)
     (follows (nine d c e) (square ⊗ at 6) (of_d ⊗ at 0 ⊕ of_c ⊗ at 3) (given nx determinant (num (pos 0)) z none) tt)

@@ -208,7 +208,7 @@ pub record First (P : Place → Type 0) (p q : Place) : Type 0 where
 
 module _ (hs : List Form) (P : Place → Type 0) (C : Cells hs P) (D : (r : Place) → P r ⊎ (P r → ⊥))
     (open-not : (r : Place) → (P r → ⊥) → (n : ℕ) × (0 < n) × ((s : Place) → Within n r s → P s → ⊥)) where
-  -- THE FIRST HIT
+  -- the first hit
   pub first-hit : (n : ℕ) (p q : Place) → crossings hs p q < n → (P p → ⊥) → ((s : Place) → Strictly p q s → P s → ⊥) ⊎ First P p q
   first-hit zero p q l z = absurd (omega arith)
   first-hit (suc n) p q l z = by (λ r s k y. first-hit n r s k y) (find-crossing p q hs)

@@ -205,7 +205,7 @@ normal-zero n e z h (inl o) = subst (λ (x : Form). slope x e ≡ pos 0) o z
 normal-zero n e z h (inr o) = absurd o
 
 -- [d e f] is (d x e).f
-triple-dot : (d e f : Vector) → triple d e f ≡ dot (cross d e) f
+pub triple-dot : (d e f : Vector) → triple d e f ≡ dot (cross d e) f
 triple-dot d e f = ring (d.x ∷ d.y ∷ d.z ∷ e.x ∷ e.y ∷ e.z ∷ f.x ∷ f.y ∷ f.z ∷ [])
     (at 0 ⊗ (at 4 ⊗ at 8 ⊖ at 5 ⊗ at 7) ⊕ at 1 ⊗ (at 5 ⊗ at 6 ⊖ at 3 ⊗ at 8) ⊕ at 2 ⊗ (at 3 ⊗ at 7 ⊖ at 4 ⊗ at 6))
     ((at 1 ⊗ at 5 ⊖ at 2 ⊗ at 4) ⊗ at 6 ⊕ (at 2 ⊗ at 3 ⊖ at 0 ⊗ at 5) ⊗ at 7 ⊕ (at 0 ⊗ at 4 ⊖ at 1 ⊗ at 3) ⊗ at 8) tt

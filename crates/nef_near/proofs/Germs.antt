@@ -35,7 +35,7 @@ Label-cells s m = by m
     by Not p q same n = (inner p q same n.0, λ i. n.1 (holds q p (same-sym (carriers s) p q same) i))
     by In p q same n = (inner p q same n.0, holds p q same n.1)
 
--- LOCALITY: close to p the label depends only on the signs at the carriers through p
+-- close to p the label depends only on the signs at the carriers through p
 pub locality : (s : Set) (m : Label) (p q r : Place) → Within (reach_all (carriers s) p) p q → Within (reach_all (carriers s) p) p r → SameThrough (carriers s) p q r → HasLabel s q m → HasLabel s r m
 locality s m p q r c d same = Label-cells s m q r (near-same (carriers s) p q r c d same)
 

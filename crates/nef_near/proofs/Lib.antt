@@ -24,3 +24,4 @@ pub mod Skeleton
 pub mod Edges
 pub mod Vertices
 pub mod Determined
+pub mod Supports

@@ -38,7 +38,7 @@ slope-second h n m e = ring (six n m (normal_of h))
     (at 6 ⊗ (at 1 ⊗ at 5 ⊖ at 2 ⊗ at 4) ⊕ at 7 ⊗ (at 2 ⊗ at 3 ⊖ at 0 ⊗ at 5) ⊕ at 8 ⊗ (at 0 ⊗ at 4 ⊖ at 1 ⊗ at 3))
     (at 0 ⊗ (at 4 ⊗ at 8 ⊖ at 5 ⊗ at 7) ⊕ at 1 ⊗ (at 5 ⊗ at 6 ⊖ at 3 ⊗ at 8) ⊕ at 2 ⊗ (at 3 ⊗ at 7 ⊖ at 4 ⊗ at 6)) tt ∙ e
 
-slope-none : (h : Form) (d : Vector) → IsZero (normal_of h) → slope h d ≡ pos 0
+pub slope-none : (h : Form) (d : Vector) → IsZero (normal_of h) → slope h d ≡ pos 0
 slope-none h d z =
     ap (λ r. r *ℤ d.x +ℤ h.b *ℤ d.y +ℤ h.c *ℤ d.z) z.0 ∙ ap (λ r. pos 0 *ℤ d.x +ℤ r *ℤ d.y +ℤ h.c *ℤ d.z) z.1 ∙ ap (λ r. pos 0 *ℤ d.x +ℤ pos 0 *ℤ d.y +ℤ r *ℤ d.z) z.2
     ∙ ring (d.x ∷ d.y ∷ d.z ∷ []) (num (pos 0) ⊗ at 0 ⊕ num (pos 0) ⊗ at 1 ⊕ num (pos 0) ⊗ at 2) (num (pos 0)) tt
@@ -56,7 +56,7 @@ cross-none n m z = (one n.y n.z m.z m.y z.2 z.1, one n.z n.x m.x m.z z.0 z.2, on
     one : (a b x y : ℤ) → x ≡ pos 0 → y ≡ pos 0 → a *ℤ x -ℤ b *ℤ y ≡ pos 0
     one a b x y e f = let i = ap (λ r. a *ℤ r) e ∙ *ℤ-zero a in let j = ap (λ r. b *ℤ r) f ∙ *ℤ-zero b in omega (arith, ints)
 
-cross-self : (n : Vector) → IsZero (cross n n)
+pub cross-self : (n : Vector) → IsZero (cross n n)
 cross-self n = (ring (n.x ∷ n.y ∷ n.z ∷ []) (at 1 ⊗ at 2 ⊖ at 2 ⊗ at 1) (num (pos 0)) tt, ring (n.x ∷ n.y ∷ n.z ∷ []) (at 2 ⊗ at 0 ⊖ at 0 ⊗ at 2) (num (pos 0)) tt, ring (n.x ∷ n.y ∷ n.z ∷ []) (at 0 ⊗ at 1 ⊖ at 1 ⊗ at 0) (num (pos 0)) tt)
 
 triple-same : (n m : Vector) → triple n m m ≡ pos 0

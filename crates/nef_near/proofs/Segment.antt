@@ -249,7 +249,7 @@ module _ (hs : List Form) (P : Place → Type 0) (C : Cells hs P) where
       swap : (h : Form) → pos 1 *ℤ form_at h p +ℤ pos (m * far q p + 1) *ℤ form_at h q ≡ pos (m * far q p + 1) *ℤ form_at h q +ℤ pos 1 *ℤ form_at h p
       swap h = omega (arith, ints)
 
-  -- WHAT IS SETTLED ALONG A SEGMENT IS THE SAME AT BOTH ENDS
+  -- what is settled along a segment is the same at both ends
   pub settled-segment : (n : ℕ) (p q : Place) → crossings hs p q < n → ((r : Place) → Between p q r → Settled P p q r) → P p → P q
   settled-segment zero p q l S x = absurd (omega arith)
   settled-segment (suc n) p q l S x = by (λ r s k T y. settled-segment n r s k T y) (find-crossing p q hs)

@@ -4,7 +4,7 @@ use Rattle.nef_exact.specs.Signs.{nought, sign, Lies}
 use Rattle.nef_space.specs.Local.{HasLabel, SameSet, IsShort, Germ, Flat, FlatDim, IsVertex, IsEven, Joined}
 use Rattle.nef_space.specs.Place.{Place, Form, normal_of, slope, Ratio, step, Within, SamePlace, InFrame, InClosedFrame, toward, IsAhead, IsBetween}
 use Rattle.nef_space.specs.Sets.{Set, Holds}
-use Rattle.nef_space.specs.Vectors.{Vector, IsZero, IsDirection, SameDirection}
+use Rattle.nef_space.specs.Vectors.{Vector, dot, cross, IsZero, IsDirection, IsParallel, SameDirection}
 use Rattle.nef_space.specs.declared.label.Label.{Label}
 use Rattle.nef_space.specs.declared.label.Label.TheVariants.{Out, Not, In}
 use Rattle.nef_near.specs.Cells.{sign_at, carriers, SameSigns, SameSlopes, SameSlopesAt, IsInAllAt}
@@ -212,6 +212,49 @@ FlatDimIsUnique = (s : Set) (p : Place) (j k : ℕ) → FlatDim s p j → FlatDi
 -- a vertex is a meet of three carriers with independent normals
 abbrev pub VertexIsMeet : Type 0
 VertexIsMeet = (s : Set) (p : Place) → IsVertex s p → IsMeet (carriers s) p
+
+-- e lies in each carrier through p that d lies in
+abbrev pub IsHeldBy : Set → Place → Vector → Vector → Type 0
+IsHeldBy s p d e = (h : Form) → Lies (carriers s) h → sign_at h p ≡ nought → slope h d ≡ pos 0 → slope h e ≡ pos 0
+
+-- a direction that lies in each carrier through p that a flat direction lies in is flat
+abbrev pub FlatWhereHeld : Type 0
+FlatWhereHeld = (s : Set) (p : Place) (d e : Vector) → Flat s p d → IsHeldBy s p d e → Flat s p e
+
+-- where one direction is flat, its multiples are, and no other
+abbrev pub FlatLine : Type 0
+FlatLine = (s : Set) (p : Place) → FlatDim s p 1 → (d : Vector) × IsDirection d × ((v : Vector) → Flat s p v ↔ IsParallel d v)
+
+-- where two are flat, those of their plane are, and no other
+abbrev pub FlatPlane : Type 0
+FlatPlane = (s : Set) (p : Place) → FlatDim s p 2 → (n : Vector) × IsDirection n × ((v : Vector) → Flat s p v ↔ (dot n v ≡ pos 0))
+
+-- two carriers through p in which the flat directions lie, and no other
+pub record EdgeSupport (s : Set) (p : Place) : Type 0 where
+  pub first : Form
+  pub second : Form
+  pub first_listed : Lies (carriers s) first
+  pub second_listed : Lies (carriers s) second
+  pub first_passes : sign_at first p ≡ nought
+  pub second_passes : sign_at second p ≡ nought
+  pub independent : IsDirection (cross (normal_of first) (normal_of second))
+  pub flat_in : (v : Vector) → Flat s p v ↔ ((slope first v ≡ pos 0) × (slope second v ≡ pos 0))
+
+-- an edge lies in two carriers
+abbrev pub EdgeInCarriers : Type 0
+EdgeInCarriers = (s : Set) (p : Place) → FlatDim s p 1 → EdgeSupport s p
+
+-- a carrier through p in which the flat directions lie, and no other
+pub record FacetSupport (s : Set) (p : Place) : Type 0 where
+  pub plane : Form
+  pub listed : Lies (carriers s) plane
+  pub passes : sign_at plane p ≡ nought
+  pub has_normal : IsDirection (normal_of plane)
+  pub flat_in : (v : Vector) → Flat s p v ↔ (slope plane v ≡ pos 0)
+
+-- a facet lies in a carrier
+abbrev pub FacetInCarrier : Type 0
+FacetInCarrier = (s : Set) (p : Place) → FlatDim s p 2 → FacetSupport s p
 
 -- ---- combinations
 -- labels, and germs likewise, combine as the sets do
