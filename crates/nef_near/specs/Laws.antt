@@ -123,12 +123,15 @@ ConeNearby = (s : Set) (p : Place) → (n : ℕ) × (0 < n) × ((q : Place) → 
 abbrev pub HoldsIsDecided : Type 0
 HoldsIsDecided = (s : Set) (p : Place) → Holds s p ⊎ (Holds s p → ⊥)
 
+-- a point has a label or hasn't
 abbrev pub LabelIsDecided : Type 0
 LabelIsDecided = (s : Set) (p : Place) (l : Label) → HasLabel s p l ⊎ (HasLabel s p l → ⊥)
 
+-- a direction has a germ or hasn't
 abbrev pub GermIsDecided : Type 0
 GermIsDecided = (s : Set) (p : Place) (d : Vector) (l : Label) → Germ s p d l ⊎ (Germ s p d l → ⊥)
 
+-- the germ near d toward e is l or isn't
 abbrev pub NearGermIsDecided : Type 0
 NearGermIsDecided = (s : Set) (p : Place) (d e : Vector) (l : Label) → NearGerm s p d e l ⊎ (NearGerm s p d e l → ⊥)
 
@@ -202,6 +205,7 @@ AllFlat = (s : Set) (p : Place) (d : Vector) → FlatDim s p 3 → Flat s p d
 abbrev pub FlatOutside : Type 0
 FlatOutside = (s : Set) (p : Place) (d : Vector) → (InClosedFrame p → ⊥) → Flat s p d
 
+-- so there are three independent ones
 abbrev pub FlatDimOutside : Type 0
 FlatDimOutside = (s : Set) (p : Place) → (InClosedFrame p → ⊥) → FlatDim s p 3
 
@@ -265,12 +269,15 @@ pub record LabelsCombine (a b : Set) (l m : Label) (Has : Set → Label → Type
   pub one_of : Has (Set.one_of a b) (label_one_of l m)
   pub other : Has (Set.other a) (label_not l)
 
+-- the label of a combination is the combination of the labels
 abbrev pub LabelOfCombination : Type 0
 LabelOfCombination = (a b : Set) (p : Place) (l m : Label) → HasLabel a p l → HasLabel b p m → LabelsCombine a b l m (λ s. HasLabel s p)
 
+-- the germ of a combination is the combination of the germs
 abbrev pub GermOfCombination : Type 0
 GermOfCombination = (a b : Set) (p : Place) (d : Vector) (l m : Label) → Germ a p d l → Germ b p d m → LabelsCombine a b l m (λ s. Germ s p d)
 
+-- and so is the germ near a direction
 abbrev pub NearGermOfCombination : Type 0
 NearGermOfCombination = (a b : Set) (p : Place) (d e : Vector) (l m : Label) → NearGerm a p d e l → NearGerm b p d e m → LabelsCombine a b l m (λ s. NearGerm s p d e)
 
@@ -281,6 +288,7 @@ pub record IsFlatForBoth (a b : Set) (p : Place) (d : Vector) : Type 0 where
   pub less : Flat (Set.less a b) p d
   pub one_of : Flat (Set.one_of a b) p d
 
+-- what is flat for both operands is flat for intersection, union, difference and symmetric difference
 abbrev pub FlatOfTwo : Type 0
 FlatOfTwo = (a b : Set) (p : Place) (d : Vector) → Flat a p d → Flat b p d → IsFlatForBoth a b p d
 
@@ -291,6 +299,7 @@ pub record IsFlatForOne (a : Set) (p : Place) (d : Vector) : Type 0 where
   pub border : Flat (Set.border a) p d
   pub regular : Flat (Set.regular a) p d
 
+-- what is flat for the operand is flat for complement, interior, closure, boundary and regularisation
 abbrev pub FlatOfOne : Type 0
 FlatOfOne = (a : Set) (p : Place) (d : Vector) → Flat a p d → IsFlatForOne a p d
 
@@ -315,12 +324,15 @@ RegularAt = (a : Set) (p : Place) → HasLabel (Set.regular a) p In ↔ (InFrame
 abbrev pub InsideToward : Type 0
 InsideToward = (a : Set) (p : Place) (d : Vector) → Germ (Set.inside a) p d In ↔ (Germ a p d In × ((e : Vector) → NearGerm a p d e In))
 
+-- the closure is In toward d where the operand is In toward d or somewhere near it, and not Out toward d
 abbrev pub ClosedToward : Type 0
 ClosedToward = (a : Set) (p : Place) (d : Vector) → Germ (Set.closed a) p d In ↔ ((Germ a p d Out → ⊥) × (Germ a p d In ⊎ ((e : Vector) × NearGerm a p d e In)))
 
+-- the boundary, where the operand is In at or near d, and Not at or near d
 abbrev pub BorderToward : Type 0
 BorderToward = (a : Set) (p : Place) (d : Vector) → Germ (Set.border a) p d In ↔ ((Germ a p d In ⊎ ((e : Vector) × NearGerm a p d e In)) × (Germ a p d Not ⊎ ((e : Vector) × NearGerm a p d e Not)) × (Germ a p d Out → ⊥))
 
+-- the regularisation, where the interior is In somewhere near d
 abbrev pub RegularToward : Type 0
 RegularToward = (a : Set) (p : Place) (d : Vector) → Germ (Set.regular a) p d In ↔ ((Germ a p d Out → ⊥) × ((e : Vector) × NearGerm (Set.inside a) p d e In))
 
@@ -337,9 +349,11 @@ SameConeIsSameNear = (s t : Set) (p : Place) → SameCone s t p ↔ SameNear s t
 abbrev pub FlatBySameCone : Type 0
 FlatBySameCone = (s t : Set) (p : Place) (d : Vector) → SameCone s t p → Flat s p d ↔ Flat t p d
 
+-- and how many there are
 abbrev pub FlatDimBySameCone : Type 0
 FlatDimBySameCone = (s t : Set) (p : Place) (k : ℕ) → SameCone s t p → FlatDim s p k ↔ FlatDim t p k
 
+-- and the germs near a direction
 abbrev pub NearGermBySameCone : Type 0
 NearGermBySameCone = (s t : Set) (p : Place) (d e : Vector) (l : Label) → SameCone s t p → NearGerm s p d e l ↔ NearGerm t p d e l
 
@@ -375,6 +389,7 @@ LabelChangesFirst = (s : Set) (l : Label) (p q : Place) → HasLabel s p l → (
 abbrev pub FlatDimChangesFirst : Type 0
 FlatDimChangesFirst = (s : Set) (k : ℕ) (p q : Place) → FlatDim s p k → ((r : Place) → IsBetween p r q → FlatDim s r k) ⊎ FirstChange (λ r. FlatDim s r k) p q
 
+-- ---- edges and the ends of flat ways
 -- fewer than k independent directions are flat
 abbrev pub IsFlatBelow : Set → ℕ → Place → Type 0
 IsFlatBelow s k p = (j : ℕ) × (j < k) × FlatDim s p j
@@ -400,10 +415,6 @@ pub record Drop (s : Set) (k : ℕ) (p q : Place) : Type 0 where
   pub between : IsBetween p at_place q
   pub even_before : (r : Place) → IsBetween p r at_place → FlatDim s r k
   pub drops : IsFlatBelow s k at_place
-
--- a set has finitely many vertices, and each is equal to one of a list of them
-abbrev pub FiniteVertices : Type 0
-FiniteVertices = (s : Set) → (ps : List Place) × ((q : Place) → Lies ps q → IsVertex s q) × ((p : Place) → IsVertex s p → (q : Place) × Lies ps q × SamePlace q p)
 
 -- along a flat way the number of flat directions stays until it drops: it never rises
 abbrev pub EvenUntilDrop : Type 0
@@ -433,6 +444,10 @@ pub record EdgeAround (s : Set) (p : Place) : Type 0 where
 abbrev pub EdgeHasEnds : Type 0
 EdgeHasEnds = (s : Set) (p : Place) → FlatDim s p 1 → EdgeAround s p
 
+-- a set has finitely many vertices, and each is equal to one of a list of them
+abbrev pub FiniteVertices : Type 0
+FiniteVertices = (s : Set) → (ps : List Place) × ((q : Place) → Lies ps q → IsVertex s q) × ((p : Place) → IsVertex s p → (q : Place) × Lies ps q × SamePlace q p)
+
 -- sets with equal cones at the vertices of both are equal: the vertices and the cones there determine the set
 abbrev pub SameSetByVertices : Type 0
 SameSetByVertices = (s t : Set) → ((p : Place) → IsVertex s p → SameCone s t p) → ((p : Place) → IsVertex t p → SameCone s t p) → SameSet s t
@@ -454,12 +469,14 @@ OneConeOfJoined = (s : Set) (p q : Place) → Joined s p q → SameGerms s p q
 abbrev pub OneLabelOfJoined : Type 0
 OneLabelOfJoined = (s : Set) (p q : Place) (l : Label) → Joined s p q → HasLabel s p l → HasLabel s q l
 
--- to be joined is an equivalence
+-- to be joined is an equivalence: each point is joined to itself
 abbrev pub JoinedToItself : Type 0
 JoinedToItself = (s : Set) (p : Place) → Joined s p p
 
+-- to be joined goes both ways
 abbrev pub JoinedTurned : Type 0
 JoinedTurned = (s : Set) (p q : Place) → Joined s p q → Joined s q p
 
+-- to be joined goes on through a third point
 abbrev pub JoinedThrough : Type 0
 JoinedThrough = (s : Set) (p q r : Place) → Joined s p q → Joined s q r → Joined s p r
