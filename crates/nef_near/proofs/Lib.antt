@@ -19,7 +19,6 @@ pub mod FirstChange
 pub mod Examples
 pub mod FlatDecided
 pub mod Even
-pub mod Generic
 pub mod Skeleton
 pub mod Edges
 pub mod Vertices

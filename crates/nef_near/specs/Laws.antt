@@ -167,11 +167,6 @@ FlatIsDecided = (s : Set) (p : Place) (d : Vector) → Flat s p d ⊎ (Flat s p 
 abbrev pub FlatDimExists : Type 0
 FlatDimExists = (s : Set) (p : Place) → (k : ℕ) × FlatDim s p k
 
--- finitely many planes don't hold all directions: each vector has a neighbour that lies in none of them
-abbrev pub GenericDirection : Type 0
-GenericDirection = (hs : List Form) → ((h : Form) → Lies hs h → IsDirection (normal_of h)) → (v : Vector)
-    → (g : Vector) × ((h : Form) → Lies hs h → (slope h g ≡ pos 0 → ⊥) × ((slope h v ≡ pos 0 → ⊥) → sign (slope h g) ≡ sign (slope h v)))
-
 -- ---- flat directions
 -- a direction is flat exactly where the germs don't change along it
 abbrev pub FlatIsFlatCone : Type 0
