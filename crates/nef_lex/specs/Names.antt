@@ -17,6 +17,6 @@ abbrev pub continues_name : ℕ → Bool
 continues_name b = is_ascii_alphanumeric b || b == underscore
 
 -- a letter or an underscore, then letters, digits and underscores, within the limit
-abbrev pub spells_name : List ℕ → Bool
-spells_name [] = false
-spells_name (b ∷ bs) = begins_name b && list_all continues_name bs && nat_le (length (b ∷ bs)) name_limit
+abbrev pub is_name : List ℕ → Bool
+is_name [] = false
+is_name (b ∷ bs) = begins_name b && list_all continues_name bs && nat_le (length (b ∷ bs)) name_limit

@@ -1,8 +1,7 @@
 -- Whole numbers as words.
-use Rattle.std.specs.Prelude.{ℕ, ◌+◌, ◌-◌, ◌*◌, ◌^◌, ◌==◌, ◌<◌, ◌&&◌, ℤ, pos, neg_ℤ, nat_abs, Bool, true, false, cond, List, [], ◌∷◌, length, Option, Some, None}
+use Rattle.std.specs.Prelude.{ℕ, ◌+◌, ◌-◌, ◌*◌, ◌^◌, ◌==◌, ◌<◌, ◌&&◌, ℤ, pos, neg_ℤ, nat_abs, Bool, false, cond, List, [], ◌∷◌, length, Option, Some, None}
 use Rattle.std.specs.List.{list_all}
 use Rattle.std.specs.Char.{is_ascii_digit}
-use Rattle.std.specs.Option.{IsSomeAnd}
 use Rattle.nef_space.specs.Limits.{number_limit}
 use Rattle.nef_lex.specs.Words.{is_filled}
 

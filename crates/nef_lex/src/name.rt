@@ -2,7 +2,7 @@
 
 ghost use Rattle.std.specs.Prelude.{◌≡◌};
 ghost use Rattle.std.specs.List.{list_all};
-ghost use Rattle.nef_lex.specs.Names.{spells_name, begins_name, continues_name};
+ghost use Rattle.nef_lex.specs.Names.{is_name, begins_name, continues_name};
 
 // The most bytes of a name.
 const LIMIT: usize = 32;
@@ -10,7 +10,7 @@ const LIMIT: usize = 32;
 /// Whether a word is a name: 1 to 32 bytes, of which the first is an ASCII letter or an underscore
 /// and the others are ASCII letters, digits or underscores.
 pub fn is_name(word: &[u8]) -> bool
-    ensures name { result ≡ spells_name word.now }
+    ensures name { result ≡ is_name word.now }
 {
     match word {
         [first, rest @ ..] => begins(*first) && all_continue(rest) && word.len() <= LIMIT,

@@ -1,16 +1,15 @@
 -- Points and sets with the same germs have the same flat directions.
-use Rattle.std.proofs.Common.{◌≡◌, ℕ, zero, suc, ◌+◌, ◌-◌, ◌<◌, ◌≤◌, ℤ, pos, ◌+ℤ◌, ◌-ℤ◌, ◌*ℤ◌, ◌<ℤ◌, arith, refl, ap, sym, ◌∙◌, ◌⊎◌, inl, inr, ⊎_elim, ◌↔◌, List, [], ◌∷◌, subst}
-use Rattle.std.proofs.lemmas.Int.{ints}
+use Rattle.std.proofs.Common.{◌≡◌, ℕ, zero, suc, ◌+◌, ◌-◌, ◌<◌, ℤ, pos, ◌-ℤ◌, ◌*ℤ◌, arith, refl, ◌∙◌, ◌⊎◌, inl, inr, ◌↔◌, List, [], ◌∷◌, subst}
 use Rattle.std.proofs.lemmas.Bool.{cases_order}
-use Rattle.nef_exact.proofs.Ring.{ring, value, at, num, ◌⊕◌, ◌⊖◌, ◌⊗◌}
+use Rattle.nef_exact.proofs.Ring.{ring, at, num, ◌⊕◌, ◌⊖◌, ◌⊗◌}
 use Rattle.nef_exact.proofs.Combination.{given, none, follows}
-use Rattle.nef_space.specs.Place.{Place, Form, form, Ratio, step, Within, SamePlace, toward}
-use Rattle.nef_space.specs.Vectors.{Vector, blend, IsZero, IsDirection, cross, triple}
+use Rattle.nef_space.specs.Place.{Place, form, step, toward}
+use Rattle.nef_space.specs.Vectors.{Vector, blend, IsZero, cross, triple}
 use Rattle.nef_space.specs.Sets.{Set}
-use Rattle.nef_space.specs.Local.{IsShort, HasLabel, SameSet, Germ, Flat, HasFlat, FlatDim, IsEven, IsEvenPath, Joined}
+use Rattle.nef_space.specs.Local.{SameSet, Germ, Flat, HasFlat, FlatDim, IsEven, IsEvenPath, Joined}
 use Rattle.nef_space.specs.declared.label.Label.{Label}
 use Rattle.nef_near.specs.Cells.{carriers, SameSigns}
-use Rattle.nef_near.specs.Cones.{slide, NearGerm, FlatCone, SameCone, SameNear, IsOnSegment}
+use Rattle.nef_near.specs.Cones.{slide, NearGerm, SameCone, SameNear}
 use Rattle.nef_near.proofs.Near.{weaken, stride, step-within}
 use Rattle.nef_near.proofs.Cells.{same-sym, reach_all, reach-some}
 use Rattle.nef_near.proofs.Flats.{germ-toward, label-toward, Flat-from_cone, FlatCone-from_flat}

@@ -1,19 +1,17 @@
 -- The germ of a combination is the combination of the germs, so it is flat where both operands are.
-use Rattle.std.proofs.Common.{◌≡◌, ℕ, zero, suc, ◌+◌, ◌*◌, ◌<◌, ◌≤◌, ℤ, pos, negsuc, ◌+ℤ◌, ◌-ℤ◌, ◌*ℤ◌, neg_ℤ, ◌≤ℤ◌, ◌<ℤ◌, nat_abs, arith, refl, ap, sym, ◌∙◌, ◌⊎◌, inl, inr, ⊎_elim, ◌↔◌, List, [], ◌∷◌, ◌++◌, subst}
+use Rattle.std.proofs.Common.{ℕ, ◌+◌, ◌≤◌, pos, ◌*ℤ◌, ◌<ℤ◌, arith, inl, inr, ⊎_elim, subst}
 use Rattle.std.proofs.lemmas.Int.{ints}
 use Rattle.nef_exact.proofs.Order.{mul_le_right}
-use Rattle.nef_exact.specs.Signs.{Lies}
-use Rattle.nef_near.specs.Cones.{slide, FlatCone, label_and, label_or, label_not}
-use Rattle.nef_near.specs.Cells.{sign_at, frame, carriers, SameSigns}
-use Rattle.nef_space.specs.Place.{Place, Form, form_at, Ratio, step, Within, InFrame}
-use Rattle.nef_space.specs.Vectors.{Vector, IsDirection}
-use Rattle.nef_space.specs.Sets.{Set, Holds, Interior, Closure, InHalf}
-use Rattle.nef_space.specs.Local.{IsShort, HasLabel, Germ, Flat, IsVertex}
+use Rattle.nef_near.specs.Laws.{LabelsCombine}
+use Rattle.nef_near.specs.Cones.{slide, NearGerm, FlatCone, label_and, label_or, label_not, label_less, label_one_of}
+use Rattle.nef_space.specs.Place.{Place, Ratio, step}
+use Rattle.nef_space.specs.Vectors.{Vector, blend}
+use Rattle.nef_space.specs.Sets.{Set, Holds}
+use Rattle.nef_space.specs.Local.{IsShort, HasLabel, Germ}
 use Rattle.nef_space.specs.declared.label.Label.{Label}
 use Rattle.nef_space.specs.declared.label.Label.TheVariants.{Out, Not, In}
 use Rattle.nef_near.proofs.Germs.{Germ-unique}
 use Rattle.nef_near.proofs.Decided.{germ_of}
-use Rattle.nef_near.proofs.Flats.{Flat-from_cone, FlatCone-from_flat}
 
 pub and-label : (a b : Set) (p : Place) (m k : Label) → HasLabel a p m → HasLabel b p k → HasLabel (Set.both a b) p (label_and m k)
 unfolding Holds
@@ -34,6 +32,32 @@ or-label a b p In In h i = (h.0, inl h.1)
 or-label a b p Not Out h i = i
 or-label a b p Not Not h i = (h.0, ⊎_elim h.1 i.1)
 or-label a b p Not In h i = (h.0, inr i.1)
+
+pub not-label : (a : Set) (p : Place) (m : Label) → HasLabel a p m → HasLabel (Set.other a) p (label_not m)
+unfolding Holds
+not-label a p Out h = h
+not-label a p Not h = h
+not-label a p In h = (h.0, λ n. n h.1)
+
+pub less-label : (a b : Set) (p : Place) (m k : Label) → HasLabel a p m → HasLabel b p k → HasLabel (Set.less a b) p (label_less m k)
+unfolding Holds
+less-label a b p Out k h i = h
+less-label a b p Not Out h i = i
+less-label a b p Not Not h i = (h.0, λ x. h.1 x.0)
+less-label a b p Not In h i = (h.0, λ x. h.1 x.0)
+less-label a b p In Out h i = i
+less-label a b p In Not h i = (h.0, (h.1, i.1))
+less-label a b p In In h i = (h.0, λ x. x.1 i.1)
+
+pub one_of-label : (a b : Set) (p : Place) (m k : Label) → HasLabel a p m → HasLabel b p k → HasLabel (Set.one_of a b) p (label_one_of m k)
+unfolding Holds
+one_of-label a b p Out k h i = h
+one_of-label a b p Not Out h i = i
+one_of-label a b p Not Not h i = (h.0, ⊎_elim (λ x. h.1 x.0) (λ x. i.1 x.1))
+one_of-label a b p Not In h i = (h.0, inr (h.1, i.1))
+one_of-label a b p In Out h i = i
+one_of-label a b p In Not h i = (h.0, inl (h.1, i.1))
+one_of-label a b p In In h i = (h.0, ⊎_elim (λ x. x.1 i.1) (λ x. x.0 h.1))
 
 pub shorter : (m n : ℕ) (t : Ratio) → m ≤ n → IsShort n t → IsShort m t
 shorter m n t l h =
@@ -65,6 +89,24 @@ module _ (node : Set → Set → Set) (op : Label → Label → Label) (by : ByL
         λ h. subst (Germ (node a b) p e) (Germ-unique (node a b) p (slide c e k d) (op i.0 j.0) m there h) here,
       )
 
-  -- a vertex of the result at which both operands have a common flat direction there is none
-  pub no-vertex : (a b : Set) (p : Place) (d : Vector) → IsDirection d → Flat a p d → Flat b p d → IsVertex (node a b) p → ⊥
-  no-vertex a b p d i f g v = v.1 (d, i, Flat-from_cone (node a b) p d (flat-by a b p d (FlatCone-from_flat a p d f) (FlatCone-from_flat b p d g)))
+-- ---- the labels, germs and near germs of a combination
+pub germ-not : (a : Set) (p : Place) (d : Vector) (m : Label) → Germ a p d m → Germ (Set.other a) p d (label_not m)
+germ-not a p d m (n, some, f) = (n, some, λ t h. not-label a (step p t d) m (f t h))
+
+pub germ-combines : (a b : Set) (p : Place) (d : Vector) (l m : Label) → Germ a p d l → Germ b p d m → LabelsCombine a b l m (λ s. Germ s p d)
+germ-combines a b p d l m g h = record {
+  both = germ-by Set.both label_and and-label a b p d l m g h;
+  either = germ-by Set.either label_or or-label a b p d l m g h;
+  less = germ-by Set.less label_less less-label a b p d l m g h;
+  one_of = germ-by Set.one_of label_one_of one_of-label a b p d l m g h;
+  other = germ-not a p d l g;
+}
+
+pub near_germ-combines : (a b : Set) (p : Place) (d e : Vector) (l m : Label) → NearGerm a p d e l → NearGerm b p d e m → LabelsCombine a b l m (λ s. NearGerm s p d e)
+near_germ-combines a b p d e l m (n, f) (n', g) = record {
+  both = (n + n', λ k h. (germ-combines a b p (blend k d 1 e) l m (f k (omega arith)) (g k (omega arith))).both);
+  either = (n + n', λ k h. (germ-combines a b p (blend k d 1 e) l m (f k (omega arith)) (g k (omega arith))).either);
+  less = (n + n', λ k h. (germ-combines a b p (blend k d 1 e) l m (f k (omega arith)) (g k (omega arith))).less);
+  one_of = (n + n', λ k h. (germ-combines a b p (blend k d 1 e) l m (f k (omega arith)) (g k (omega arith))).one_of);
+  other = (n, λ k h. germ-not a p (blend k d 1 e) l (f k h));
+}

@@ -1,31 +1,31 @@
 -- Each set holds or does not hold at each point: no axiom is needed, since finitely many directions decide an interior.
-use Rattle.std.proofs.Common.{◌≡◌, ℕ, zero, suc, ◌+◌, ◌*◌, ◌<◌, ◌≤◌, ℤ, pos, negsuc, ◌+ℤ◌, ◌-ℤ◌, ◌*ℤ◌, neg_ℤ, ◌≤ℤ◌, ◌<ℤ◌, nat_abs, arith, refl, ap, sym, ◌∙◌, ◌⊎◌, inl, inr, ⊎_elim, ◌↔◌, List, [], ◌∷◌, ◌++◌, subst, Bool, true, false}
+use Rattle.std.proofs.Common.{◌≡◌, ℕ, ◌+◌, ◌*◌, ◌<◌, ◌≤◌, ℤ, pos, nat_abs, arith, refl, ap, sym, ◌∙◌, ◌⊎◌, inl, inr, ⊎_elim, List, [], ◌∷◌, subst, Bool, true, false}
 use Rattle.std.proofs.lemmas.Int.{ints, by_lt_z}
 use Rattle.std.proofs.lemmas.Bool.{cases_lt}
-use Rattle.nef_exact.proofs.Ring.{ring, is_zero, IsNought, value, at, num, ◌⊕◌, ◌⊖◌, ◌⊗◌, Poly}
-use Rattle.nef_exact.proofs.Order.{Sign, minus, nought, plus, sign, by_order}
+use Rattle.nef_exact.proofs.Ring.{ring, at, num, ◌⊕◌, ◌⊗◌}
+use Rattle.nef_exact.proofs.Order.{sign}
 use Rattle.nef_exact.proofs.Samples as S
 use Rattle.nef_space.specs.Limits.{half_side}
 use Rattle.nef_exact.specs.Signs.{Lies}
-use Rattle.nef_near.specs.Cells.{sign_at, frame, carriers, SameSigns}
-use Rattle.nef_space.specs.Place.{Place, Form, form_at, slope, Ratio, step, Near, Within, InFrame, toward}
+use Rattle.nef_near.specs.Cells.{frame, carriers, SameSigns}
+use Rattle.nef_space.specs.Place.{Place, Form, form_at, slope, Ratio, step, Within, InFrame, toward}
 use Rattle.nef_space.specs.Vectors.{Vector}
 use Rattle.nef_space.specs.Sets.{Set, Holds, Interior, Closure, InHalf, halves}
-use Rattle.nef_space.specs.Local.{IsShort, HasLabel, Germ, Flat}
+use Rattle.nef_space.specs.Local.{IsShort, HasLabel, Germ}
 use Rattle.nef_space.specs.declared.label.Label.{Label}
 use Rattle.nef_space.specs.declared.label.Label.TheVariants.{Out, Not, In}
-use Rattle.nef_near.proofs.Near.{form-step, slope-toward, weaken, reach, keeps, stride, step-within}
-use Rattle.nef_near.proofs.Cells.{Keeps, same-sym, reach_all, reach-some, keeps-all, Cells, Inside, InFrame-cells, Holds-cells, Interior-cells, Closure-cells, is_nought, lies-left, lies-right}
-use Rattle.nef_near.proofs.Germs.{SameThrough, near-same, sign-along, Germ-from_sample, sample}
+use Rattle.nef_near.proofs.Near.{stride, step-within}
+use Rattle.nef_near.proofs.Cells.{same-sym, reach_all, reach-some, Cells, Inside, InFrame-cells, Holds-cells, Interior-cells, lies-left, lies-right}
+use Rattle.nef_near.proofs.Germs.{near-same, sign-along, Germ-from_sample, sample}
 use Rattle.nef_near.proofs.Flats.{sign-toward}
 
 abbrev pub Decided : Type 0 → Type 0
 Decided A = A ⊎ (A → ⊥)
 
-abbrev of_form : Form → List ℤ
+abbrev pub of_form : Form → List ℤ
 of_form h = h.a ∷ h.b ∷ h.c ∷ pos 0 ∷ []
 
-abbrev of_forms : List Form → List (List ℤ)
+abbrev pub of_forms : List Form → List (List ℤ)
 of_forms [] = []
 of_forms (h ∷ hs) = of_form h ∷ of_forms hs
 
@@ -34,7 +34,7 @@ lies-of [] h l = l
 lies-of (k ∷ ks) h (inl e) = inl (ap of_form e)
 lies-of (k ∷ ks) h (inr l) = inr (lies-of ks h l)
 
-abbrev to_vector : List ℤ → Vector
+abbrev pub to_vector : List ℤ → Vector
 to_vector v = record { x = S.head v; y = S.head (S.tail v); z = S.head (S.tail (S.tail v)) }
 
 dot-is : (h : Form) (v : List ℤ) → S.IsPoint 3 v → S.dot (of_form h) v ≡ slope h (to_vector v)
@@ -47,15 +47,15 @@ dot-is h (x ∷ y ∷ z ∷ w ∷ []) p = ring (h.a ∷ h.b ∷ h.c ∷ x ∷ y 
 dot-is h (x ∷ y ∷ z ∷ w ∷ r ∷ rs) p = absurd p
 
 -- the directions that decide
-abbrev ways : List Form → List (List ℤ)
+abbrev pub ways : List Form → List (List ℤ)
 ways hs = S.samples 3 (of_forms hs)
 
-record Way (hs : List Form) (d : Vector) : Type 0 where
+pub record Way (hs : List Form) (d : Vector) : Type 0 where
   pub way : List ℤ
   pub listed : S.Lies (ways hs) way
   pub same : (h : Form) → Lies hs h → sign (slope h d) ≡ sign (slope h (to_vector way))
 
-way_of : (hs : List Form) (d : Vector) → Way hs d
+pub way_of : (hs : List Form) (d : Vector) → Way hs d
 way_of hs d =
     let r = S.sample_of 3 (of_forms hs) (d.x ∷ d.y ∷ d.z ∷ pos 1 ∷ []) (omega (arith, ints)) in
     record {
@@ -94,7 +94,7 @@ spot-of hs q r c =
     (λ h i e. sign-toward h q r e ∙ w.same h i ∙ sym (sign-along h q (part_of (size hs q d)) d e (omega (arith, ints))))
 
 -- ---- deciding over a list
-every : {A : Type 0} (xs : List A) (Q : A → Type 0) → ((x : A) → Decided (Q x)) → ((x : A) × S.Lies xs x × (Q x → ⊥)) ⊎ ((x : A) → S.Lies xs x → Q x)
+pub every : {A : Type 0} (xs : List A) (Q : A → Type 0) → ((x : A) → Decided (Q x)) → ((x : A) × S.Lies xs x × (Q x → ⊥)) ⊎ ((x : A) → S.Lies xs x → Q x)
 every [] Q f = inr (λ x l. absurd l)
 every {A} (y ∷ ys) Q f = by (f y) (every ys Q f)
   where
@@ -103,26 +103,26 @@ every {A} (y ∷ ys) Q f = by (f y) (every ys Q f)
     by (inl h) (inl (x, l, n)) = inl (x, inr l, n)
     by (inl h) (inr g) = inr (λ x l. ⊎_elim (λ e. subst Q e h) (g x) l)
 
-decided-not : {A : Type 0} → Decided A → Decided (A → ⊥)
+pub decided-not : {A : Type 0} → Decided A → Decided (A → ⊥)
 decided-not (inl a) = inr (λ f. f a)
 decided-not (inr n) = inl n
 
-decided-to : {A B : Type 0} → Decided A → Decided B → Decided (A → B)
+pub decided-to : {A B : Type 0} → Decided A → Decided B → Decided (A → B)
 decided-to d (inl b) = inl (λ a. b)
 decided-to (inl a) (inr n) = inr (λ f. n (f a))
 decided-to (inr m) (inr n) = inl (λ a. absurd (m a))
 
-decided-both : {A B : Type 0} → Decided A → Decided B → Decided (A × B)
+pub decided-both : {A B : Type 0} → Decided A → Decided B → Decided (A × B)
 decided-both (inl a) (inl b) = inl (a, b)
 decided-both (inl a) (inr n) = inr (λ p. n p.1)
 decided-both (inr m) d = inr (λ p. m p.0)
 
-decided-or : {A B : Type 0} → Decided A → Decided B → Decided (A ⊎ B)
+pub decided-or : {A B : Type 0} → Decided A → Decided B → Decided (A ⊎ B)
 decided-or (inl a) d = inl (inl a)
 decided-or (inr m) (inl b) = inl (inr b)
 decided-or (inr m) (inr n) = inr (λ p. ⊎_elim m n p)
 
-decided-lt : (a b : ℕ) → Decided (a < b)
+pub decided-lt : (a b : ℕ) → Decided (a < b)
 decided-lt a b = ⊎_elim (λ h. inl h) (λ h. inr (λ k. omega arith)) (cases_lt a b)
 
 pub InFrame-decided : (p : Place) → Decided (InFrame p)

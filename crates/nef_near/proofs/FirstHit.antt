@@ -1,15 +1,15 @@
 -- The first point of a segment at which a closed predicate holds.
-use Rattle.std.proofs.Common.{◌≡◌, ℕ, zero, suc, ◌+◌, ◌-◌, ◌*◌, ◌<◌, ◌≤◌, ℤ, pos, negsuc, ◌+ℤ◌, ◌-ℤ◌, ◌*ℤ◌, ◌≤ℤ◌, ◌<ℤ◌, nat_abs, arith, refl, ap, sym, ◌∙◌, ◌⊎◌, inl, inr, ⊎_elim, List, [], ◌∷◌, subst, Bool, true, false}
+use Rattle.std.proofs.Common.{◌≡◌, ℕ, zero, suc, ◌+◌, ◌-◌, ◌*◌, ◌<◌, ℤ, pos, ◌+ℤ◌, ◌*ℤ◌, nat_abs, arith, refl, ap, sym, ◌∙◌, ◌⊎◌, inl, inr, ⊎_elim, List, [], ◌∷◌, true, false}
 use Rattle.std.proofs.lemmas.Int.{ints}
 use Rattle.std.proofs.lemmas.Bool.{cases_order}
 use Rattle.std.proofs.Math.Nat.{mul-pos}
-use Rattle.nef_exact.proofs.Ring.{ring, value, at, num, ◌⊕◌, ◌⊖◌, ◌⊗◌, Poly}
-use Rattle.nef_exact.proofs.Combination.{Given, none, given, follows}
+use Rattle.nef_exact.proofs.Ring.{at, num, ◌⊕◌, ◌⊖◌, ◌⊗◌}
+use Rattle.nef_exact.proofs.Combination.{none, given, follows}
 use Rattle.nef_exact.proofs.Order.{Sign, minus, nought, plus, sign, sign_times, sign-plus, sign_of_product}
 use Rattle.nef_exact.specs.Signs.{Lies}
-use Rattle.nef_near.specs.Cells.{sign_at, frame, carriers, SameSigns}
+use Rattle.nef_near.specs.Cells.{sign_at}
 use Rattle.nef_space.specs.Place.{Place, Form, form_at, Within}
-use Rattle.nef_near.proofs.Cells.{same-sym, Cells}
+use Rattle.nef_near.proofs.Cells.{Cells}
 use Rattle.nef_near.proofs.Segment.{mix, form-mix, mix-close, far, crosses, crossings, find-crossing, crossings-less, opposite, opposite-left, opposite-right, joint, sign-inside, balance}
 
 -- r lies strictly between p and q: k r = i p + j q

@@ -1,21 +1,20 @@
 -- Near a point a set is a cone, and its flat directions are a space.
-use Rattle.std.proofs.Common.{◌≡◌, ℕ, zero, suc, ◌+◌, ◌*◌, ◌<◌, ◌≤◌, ℤ, pos, negsuc, ◌+ℤ◌, ◌-ℤ◌, ◌*ℤ◌, neg_ℤ, ◌≤ℤ◌, ◌<ℤ◌, nat_abs, arith, refl, ap, sym, ◌∙◌, ◌⊎◌, inl, inr, ⊎_elim, ◌↔◌, List, [], ◌∷◌, ◌++◌, subst, Bool, true, false}
-use Rattle.std.proofs.lemmas.Int.{ints, unsigned_abs-mul, by_lt_z}
-use Rattle.std.proofs.Math.Nat.{mul-pos, mul-lt-mul_of_pos_left, lt_of_mul-lt-mul_left}
-use Rattle.nef_exact.proofs.Ring.{ring, is_zero, IsNought, value, at, num, ◌⊕◌, ◌⊖◌, ◌⊗◌, Poly}
-use Rattle.nef_exact.proofs.Order.{Sign, minus, nought, plus, sign, sign_times, sign-plus, sign-minus, plus-is, minus-is, nought-is, sign_of_product, mul_pos}
+use Rattle.std.proofs.Common.{◌≡◌, ℕ, ◌+◌, ◌*◌, ◌<◌, ℤ, pos, ◌+ℤ◌, ◌-ℤ◌, ◌*ℤ◌, ◌<ℤ◌, nat_abs, arith, ap, sym, ◌∙◌, [], ◌∷◌, subst}
+use Rattle.std.proofs.lemmas.Int.{ints, unsigned_abs-mul}
+use Rattle.std.proofs.Math.Nat.{mul-pos, mul-lt-mul_of_pos_left}
+use Rattle.nef_exact.proofs.Ring.{ring, at, num, ◌⊕◌, ◌⊖◌, ◌⊗◌}
+use Rattle.nef_exact.proofs.Order.{nought, sign, sign_times, sign-plus, nought-is, sign_of_product, mul_pos}
 use Rattle.nef_exact.specs.Signs.{Lies}
 use Rattle.nef_near.specs.Cones.{slide, FlatCone}
-use Rattle.nef_near.specs.Cells.{sign_at, frame, carriers, SameSigns}
-use Rattle.nef_space.specs.Place.{Place, Form, form_at, slope, Ratio, step, Near, Within, InFrame, toward}
+use Rattle.nef_near.specs.Cells.{sign_at, carriers}
+use Rattle.nef_space.specs.Place.{Place, Form, form_at, slope, Ratio, step, Within, toward}
 use Rattle.nef_space.specs.Vectors.{Vector, vector}
-use Rattle.nef_space.specs.Sets.{Set, Holds, Interior, Closure, InHalf, halves}
+use Rattle.nef_space.specs.Sets.{Set}
 use Rattle.nef_space.specs.Local.{IsShort, HasLabel, Germ, Flat}
 use Rattle.nef_space.specs.declared.label.Label.{Label}
-use Rattle.nef_space.specs.declared.label.Label.TheVariants.{Out, Not, In}
-use Rattle.nef_near.proofs.Near.{form-step, slope-toward, weaken, reach, keeps, stride, step-within}
-use Rattle.nef_near.proofs.Cells.{Keeps, same-sym, reach_all, reach-some, keeps-all, Cells, Inside, InFrame-cells, Holds-cells, is_nought, lies-left, lies-right}
-use Rattle.nef_near.proofs.Germs.{SameThrough, locality, sign-along, short_enough, along-same}
+use Rattle.nef_near.proofs.Near.{form-step, slope-toward, weaken, stride, step-within}
+use Rattle.nef_near.proofs.Cells.{reach_all, reach-some}
+use Rattle.nef_near.proofs.Germs.{locality, sign-along, short_enough}
 
 -- a form through p has at q the sign of its slope toward q
 pub sign-toward : (h : Form) (p q : Place) → sign_at h p ≡ nought → sign_at h q ≡ sign (slope h (toward p q))
@@ -42,7 +41,7 @@ label-toward s m p q c (n, some, f) =
     locality s m p (step p t (toward p q)) q (step-within (reach_all (carriers s) p) p (toward p q) t short) c
     (λ f l e. sign-along f p t (toward p q) e short.0 ∙ sym (sign-toward f p q e)) (f t (omega (arith, ints), omega (arith, ints)))
 
-vector-same : (d e : Vector) → d.x ≡ e.x → d.y ≡ e.y → d.z ≡ e.z → d ≡ e
+pub vector-same : (d e : Vector) → d.x ≡ e.x → d.y ≡ e.y → d.z ≡ e.z → d ≡ e
 vector-same d e i j k = ap (λ u. vector u d.y d.z) i ∙ ap (λ u. vector e.x u d.z) j ∙ ap (λ u. vector e.x e.y u) k
 
 toward-one : (x : ℤ) (v : ℕ) (u : ℤ) (w : ℕ) (t : Ratio) (d : ℤ) → (x *ℤ pos t.b +ℤ t.a *ℤ pos v *ℤ d) *ℤ pos w -ℤ u *ℤ pos (v * t.b) ≡ pos t.b *ℤ (x *ℤ pos w -ℤ u *ℤ pos v) +ℤ t.a *ℤ pos v *ℤ pos w *ℤ d
@@ -106,7 +105,7 @@ slope-slide h b e a d = ring (h.a ∷ h.b ∷ h.c ∷ pos b ∷ a ∷ e.x ∷ e.
     (at 0 ⊗ (at 3 ⊗ at 5 ⊕ at 4 ⊗ at 8) ⊕ at 1 ⊗ (at 3 ⊗ at 6 ⊕ at 4 ⊗ at 9) ⊕ at 2 ⊗ (at 3 ⊗ at 7 ⊕ at 4 ⊗ at 10))
     (at 3 ⊗ (at 0 ⊗ at 5 ⊕ at 1 ⊗ at 6 ⊕ at 2 ⊗ at 7) ⊕ at 4 ⊗ (at 0 ⊗ at 8 ⊕ at 1 ⊗ at 9 ⊕ at 2 ⊗ at 10)) tt
 
--- a direction in all halves through p is flat
+-- a direction in all carriers through p is flat
 pub FlatCone-from_carriers : (s : Set) (p : Place) (d : Vector) → ((h : Form) → Lies (carriers s) h → sign_at h p ≡ nought → slope h d ≡ pos 0) → FlatCone s p d
 FlatCone-from_carriers s p d flat e b a some m =
     (Germ-by_signs s p e (slide b e a d) (λ h l o. sym (same h l o)) m, Germ-by_signs s p (slide b e a d) e same m)

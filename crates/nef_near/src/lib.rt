@@ -5,4 +5,7 @@
 
 mod laws;
 
-pub use laws::cell_laws;
+pub use laws::{
+    cell_laws, combination_laws, cone_examples, cone_laws, decision_laws, flat_laws, joined_laws,
+    near_laws, same_set_laws, segment_laws, topology_laws,
+};

@@ -1,5 +1,4 @@
-use Rattle.std.proofs.Common.{◌<◌, ◌≡◌, ◌+◌, ◌-◌, ◌*◌, ◌≤◌, take, get_or, length, arith}
-use Rattle.nef_lex.specs.Numbers.{decimal_value, zero_digit}
+use Rattle.std.proofs.Common.{◌+◌, arith}
 use Rattle.nef_lex.proofs.Decimal.{decimal_value-more, decimal_value-take}
 use Rattle.nef_lex.proofs.number.magnitude.Goals as goal
 

@@ -1,4 +1,4 @@
-use Rattle.std.proofs.Common.{rules, nat_eq, ◌||◌, List, ℕ, ap, ◌∙◌}
+use Rattle.std.proofs.Common.{rules}
 use Rattle.std.proofs.lemmas.Iterator.Splits.{YieldsList-from_slice_split}
 use Rattle.std.proofs.lemmas.Iterator.Consumers.{YieldsList-from_filter, map_from_collect}
 use Rattle.nef_lex.specs.Words.{is_gap, is_filled, without_comment}

@@ -1,0 +1,4 @@
+pub mod Sounds
+pub mod Turns
+pub mod Opens
+pub mod Runs

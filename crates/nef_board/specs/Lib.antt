@@ -1,0 +1,4 @@
+pub mod Sound
+pub mod Views
+pub mod Rule
+pub mod Laws

@@ -1,0 +1,198 @@
+//! The board.
+ghost use Rattle.std.specs.Prelude.{◌≡◌, ℕ, Bool, true, false, ◌+◌, ◌<◌, ◌≤◌, IfOk, Some, None, List, [], ◌∷◌, ◌++◌, ◌==◌, replicate};
+ghost use Rattle.nef_board.specs.Rule.{Found, Took};
+ghost use Rattle.atomic_table.specs.Table.{Allows, step};
+ghost use mathlib.Core.Option.{none};
+ghost use prog.Atomic.{either};
+ghost use Rattle.nef_board.specs.Views.{seeing, first_view};
+
+use crate::pass::LockPass;
+use crate::rule::{Claims, Cut, Deposits, Ends, GivesBack, LockRule, Order, Takes};
+use crate::state::BoardState;
+use crate::view::View;
+use atomic_table::{Seat, Shared, Table, TableRule};
+use nef_core::{Board, Claim, Job, OutOfMemory, Receipt};
+use std::alloc::Global;
+use std::sync::Wait;
+use std::thread;
+
+/// From this many jobs on a board answers `OutOfMemory` without trying, so that the room for
+/// their events can be counted.
+const TOO_MANY_JOBS: u64 = 1 << 60;
+
+/// A board whose passes take turns.
+///
+/// One word is the turn, 0 while it is free and 1 while a pass has it. One slot has the state.
+/// The calls wait for the turn by the runtime that the board keeps.
+#[derive(Drop)]
+pub struct LockBoard<'a, R, J: Job> {
+    rt: &'a R,
+    table: Table<Option<BoardState<J::Out>>, View<J::Out>, Order<'a, J>, LockRule, Global>,
+    ghost word_count: { table.shared.table_id.words ≡ 1 },
+    ghost slot_count: { table.shared.table_id.slots ≡ 1 },
+}
+
+impl<'a, R: Wait + Sync, J: Job> LockBoard<'a, R, J> {
+    /// Returns a board for this job value, and its first pass, which may make one pass fewer than
+    /// there are seats.
+    ///
+    /// `OutOfMemory` says that memory was wanted and not found.
+    pub fn new(
+        rt: &'a R,
+        alloc: Global,
+        job: &'a J,
+        seats: u32,
+    ) -> Result<(LockBoard<'a, R, J>, LockPass<J>), OutOfMemory>
+        requires { 0 < seats }
+        ensures board { IfOk result (λ b. (b.0.table.shared.key.job.now ≡ job.now) × (b.0.table.shared.key.jobs ≡ J.count job.now)) }
+        ensures pass { IfOk result (λ b. (b.1.seat.table_id ≡ b.0.table.shared.table_id) × (b.1.seat.me.0 ≡ first_view (J.count job.now) seats)) }
+    {
+        let jobs = job.jobs();
+        if jobs >= TOO_MANY_JOBS {
+            return Err(OutOfMemory);
+        }
+        let state = BoardState::new(alloc, jobs)?;
+        let mut slots = Vec::with_capacity(alloc, 1)?;
+        slots.push_reserved(Some(state));
+        let words = [0u64];
+        let order = Order { job, jobs, seats };
+        match Table::new(alloc, words.as_slice(), slots, &order) {
+            Ok((table, seat)) => Ok((
+                LockBoard { rt, table },
+                LockPass {
+                    seat,
+                    number: 0,
+                    made: 1,
+                    ended: false,
+                },
+            )),
+            Err(_) => Err(OutOfMemory),
+        }
+    }
+}
+
+// Takes the turn, and the state out of its slot.
+fn take_turn<R: Wait, T, K, P: TableRule<Option<BoardState<T>>, View<T>, K>>(
+    rt: &R,
+    shared: &Shared<Option<BoardState<T>>, View<T>, K, P>,
+    seat: &mut Seat<Option<BoardState<T>>, View<T>>,
+) -> BoardState<T>
+    requires of { seat.old.table_id ≡ shared.now.table_id }
+    requires word { 0 < shared.now.table_id.words }
+    requires free { seat.old.me.1 ≡ [] }
+    requires rule { Allows (P.holds shared.now.key) shared.now.table_id.slots seat.old.id seat.old.me 0 (λ n. either (n == 0) 1 n) (Took (step shared.now.table_id.slots 0 0 1 none) seat.old.me) }
+    ensures of { (seat.new.table_id ≡ seat.old.table_id) × (seat.new.id ≡ seat.old.id) }
+    ensures found { Found seat.old.me.0 result × (seat.new.me ≡ (seeing seat.old.me.0 result, (0, None) ∷ [])) }
+{
+    for _ in rt.forever() {
+        if shared.compare_exchange::<Takes>(seat, 0, 0, 1) == 0 {
+            let Some(state) = shared.exchange(seat, 0, None) else {
+                unreachable!()
+            };
+            return state;
+        }
+        thread::yield_now();
+    }
+    unreachable!()
+}
+
+impl<'a, R: Wait + Sync, J: Job> Board<J> for LockBoard<'a, R, J> {
+    const FREE: bool = false;
+
+    type Pass = LockPass<J>;
+
+    ghost made_for = { λ b. b.table.shared.key.job.now };
+
+    ghost belongs = { λ b p. (p.seat.table_id ≡ b.table.shared.table_id) × (p.seat.me.0.jobs ≡ b.table.shared.key.jobs) × (b.table.shared.key.jobs ≡ J.count b.table.shared.key.job.now) };
+
+    ghost number = { λ p. p.seat.me.0.number };
+
+    ghost spare = { λ p. p.seat.me.0.spare };
+
+    ghost hand = { λ p. p.seat.me.0.hand };
+
+    ghost ended = { λ p. p.seat.me.0.ended };
+
+    ghost deposits = { λ p. p.seat.me.0.deposits };
+
+    fn split(&self, pass: &mut LockPass<J>) -> LockPass<J> {
+        let number = pass.made;
+        let seat = self.table.shared.split_seat::<Cut>(&mut pass.seat);
+        pass.made += 1;
+        LockPass {
+            seat,
+            number,
+            made: 0,
+            ended: false,
+        }
+    }
+
+    fn join(&self, pass: &mut LockPass<J>, other: LockPass<J>) {
+        let LockPass {
+            seat,
+            number: _,
+            made: _,
+            ended: _,
+        } = other;
+        self.table.shared.join_seat::<Cut>(&mut pass.seat, seat);
+    }
+
+    fn claim(&self, pass: &mut LockPass<J>) -> Claim {
+        if pass.ended {
+            return Claim::NoneLeft;
+        }
+        let mut state = take_turn(self.rt, &self.table.shared, &mut pass.seat);
+        let claim = state.claim(pass.number);
+        self.table.shared.exchange(&mut pass.seat, 0, Some(state));
+        match claim {
+            Claim::Got(job) => {
+                self.table.shared.store::<Claims>(&mut pass.seat, 0, 0);
+                Claim::Got(job)
+            }
+            Claim::NoneLeft => {
+                self.table.shared.store::<Ends>(&mut pass.seat, 0, 0);
+                pass.ended = true;
+                Claim::NoneLeft
+            }
+        }
+    }
+
+    fn deposit(&self, pass: &mut LockPass<J>, job: u64, out: J::Out) -> Receipt {
+        let mut state = take_turn(self.rt, &self.table.shared, &mut pass.seat);
+        let receipt = state.deposit(pass.number, job, out);
+        self.table.shared.exchange(&mut pass.seat, 0, Some(state));
+        self.table.shared.store::<Deposits>(&mut pass.seat, 0, 0);
+        receipt
+    }
+
+    fn give_back(&self, pass: &mut LockPass<J>, job: u64) {
+        let mut state = take_turn(self.rt, &self.table.shared, &mut pass.seat);
+        state.give_back(pass.number, job);
+        self.table.shared.exchange(&mut pass.seat, 0, Some(state));
+        self.table.shared.store::<GivesBack>(&mut pass.seat, 0, 0);
+    }
+
+    fn close(
+        self,
+        _alloc: Global,
+        mut pass: LockPass<J>,
+    ) -> Result<Vec<Option<J::Out>>, OutOfMemory> {
+        let state = take_turn(self.rt, &self.table.shared, &mut pass.seat);
+        let LockBoard { rt: _, table } = self;
+        let LockPass {
+            seat,
+            number: _,
+            made: _,
+            ended: _,
+        } = pass;
+        let mut closed = table.close_with(seat);
+        drop(closed.take(0));
+        closed.free();
+        let BoardState {
+            machine: _,
+            history: _,
+            results,
+        } = state;
+        Ok(results)
+    }
+}

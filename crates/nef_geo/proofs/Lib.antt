@@ -1,0 +1,4 @@
+pub mod Divisors
+pub mod Places
+pub mod Normals
+pub mod Signs

@@ -1,0 +1,66 @@
+-- The first nonzero number of a normal, and positive multiples of forms.
+use Rattle.std.proofs.Common.{◌≡◌, zero, suc, ℤ, pos, negsuc, neg_ℤ, ◌-ℤ◌, ◌*ℤ◌, ◌<ℤ◌, nat_abs, ◌≤◌, arith, refl, ◌∙◌, [], ◌∷◌, to_z, of_z, w64}
+use Rattle.std.proofs.lemmas.Int.{ints}
+use Rattle.nef_space.specs.Limits.{offset_limit}
+use Rattle.nef_space.specs.Place.{Place, Form, form_at}
+use Rattle.nef_space.specs.Vectors.{vector, opposite, IsDirection, IsNormal}
+use Rattle.nef_exact.proofs.Machine.{load, const, wrap, ◌⊟◌, exact_of}
+use Rattle.nef_exact.proofs.Ring.{at, neg, ◌⊕◌, ◌⊗◌, ring}
+use Rattle.nef_geo.specs.Shapes.{turned_form}
+use Rattle.nef_geo.specs.Reading.{IsPositiveMultiple}
+use Rattle.nef_geo.proofs.Divisors.{part_not_negative, part_positive, whole_zero}
+
+pub IsNormal-parts : (g a b c a' b' c' : ℤ) → pos 0 <ℤ g → a ≡ g *ℤ a' → b ≡ g *ℤ b' → c ≡ g *ℤ c' → IsNormal (vector a b c) → IsNormal (vector a' b' c')
+IsNormal-parts g a b c a' b' c' p ea eb ec h = record {
+  first = part_not_negative g a a' p h.first ea;
+  second = λ z. part_not_negative g b b' p (h.second (whole_zero g a a' ea z)) eb;
+  third = λ z z'. part_positive g c c' p (h.third (whole_zero g a a' ea z) (whole_zero g b b' eb z')) ec;
+}
+
+-- a normal leads with a positive number, or its opposite does
+pub IsNormal-opposite : (a b c : ℤ) → IsDirection (vector a b c) → ¬ IsNormal (vector a b c) → IsNormal (opposite (vector a b c))
+IsNormal-opposite (negsuc n) b c some not = record { first = omega (arith, ints); second = λ z. absurd (omega (arith, ints)); third = λ z. absurd (omega (arith, ints)) }
+IsNormal-opposite (pos (suc n)) b c some not =
+    absurd (not (record { first = omega (arith, ints); second = λ z. absurd (omega (arith, ints)); third = λ z. absurd (omega (arith, ints)) }))
+IsNormal-opposite (pos zero) (negsuc n) c some not = record { first = omega (arith, ints); second = λ z. omega (arith, ints); third = λ z z'. absurd (omega (arith, ints)) }
+IsNormal-opposite (pos zero) (pos (suc n)) c some not =
+    absurd (not (record { first = omega (arith, ints); second = λ z. omega (arith, ints); third = λ z z'. absurd (omega (arith, ints)) }))
+IsNormal-opposite (pos zero) (pos zero) (negsuc n) some not = record { first = omega (arith, ints); second = λ z. omega (arith, ints); third = λ z z'. omega (arith, ints) }
+IsNormal-opposite (pos zero) (pos zero) (pos zero) some not = absurd (some (refl, refl, refl))
+IsNormal-opposite (pos zero) (pos zero) (pos (suc n)) some not =
+    absurd (not (record { first = omega (arith, ints); second = λ z. omega (arith, ints); third = λ z z'. omega (arith, ints) }))
+
+pub IsNormal-not_both : (a b c : ℤ) → IsNormal (vector a b c) → IsNormal (opposite (vector a b c)) → ⊥
+IsNormal-not_both a b c h k =
+    let h1 = h.first in let k1 = k.first in
+    let a0 : a ≡ pos 0 = omega (arith, ints) in let a1 : neg_ℤ a ≡ pos 0 = omega (arith, ints) in
+    let h2 = h.second a0 in let k2 = k.second a1 in
+    let b0 : b ≡ pos 0 = omega (arith, ints) in let b1 : neg_ℤ b ≡ pos 0 = omega (arith, ints) in
+    let h3 = h.third a0 b0 in let k3 = k.third a1 b1 in
+    omega (arith, ints)
+
+-- the negation that the machine computes
+pub negated : (n : ℤ) → nat_abs n ≤ offset_limit → to_z w64 (of_z w64 (pos 0 -ℤ to_z w64 (of_z w64 n))) ≡ neg_ℤ n
+negated n h = exact_of (offset_limit ∷ []) (n ∷ []) (wrap w64 (const (pos 0) ⊟ wrap w64 (load 0))) (h, tt) tt ∙ minus_is n
+  where
+    minus_is : (n : ℤ) → pos 0 -ℤ n ≡ neg_ℤ n
+    minus_is n = omega (arith, ints)
+
+pub IsPositiveMultiple-turned : (h g : Form) → IsPositiveMultiple (turned_form h) g → IsPositiveMultiple h (turned_form g)
+IsPositiveMultiple-turned h g m = record {
+  factor = m.factor;
+  positive = m.positive;
+  a_is = turned h.a m.factor g.a m.a_is;
+  b_is = turned h.b m.factor g.b m.b_is;
+  c_is = turned h.c m.factor g.c m.c_is;
+  d_is = turned h.d m.factor g.d m.d_is;
+}
+  where
+    turned : (x f x' : ℤ) → neg_ℤ x ≡ f *ℤ x' → x ≡ f *ℤ neg_ℤ x'
+    turned x f x' e = let h : x ≡ neg_ℤ (f *ℤ x') = omega (arith, ints) in h ∙ ring (f ∷ x' ∷ []) (neg (at 0 ⊗ at 1)) (at 0 ⊗ neg (at 1)) tt
+
+pub form_at-turned : (h : Form) (p : Place) → form_at (turned_form h) p ≡ neg_ℤ (form_at h p)
+form_at-turned h p =
+    ring (h.a ∷ h.b ∷ h.c ∷ h.d ∷ p.x ∷ p.y ∷ p.z ∷ pos p.w ∷ [])
+    (neg (at 0) ⊗ at 4 ⊕ neg (at 1) ⊗ at 5 ⊕ neg (at 2) ⊗ at 6 ⊕ neg (at 3) ⊗ at 7)
+    (neg (at 0 ⊗ at 4 ⊕ at 1 ⊗ at 5 ⊕ at 2 ⊗ at 6 ⊕ at 3 ⊗ at 7)) tt

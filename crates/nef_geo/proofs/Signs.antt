@@ -1,0 +1,41 @@
+-- Signs of products, of sums and of forms.
+use Rattle.std.proofs.Common.{◌≡◌, zero, suc, ℤ, pos, negsuc, neg_ℤ, ◌*ℤ◌, ◌<ℤ◌, true, arith, refl, ap, ◌∙◌, [], ◌∷◌}
+use Rattle.std.proofs.lemmas.Int.{ints}
+use Rattle.nef_space.specs.Place.{Place, Form, form_at}
+use Rattle.nef_exact.proofs.Ring.{at, ◌⊕◌, ◌⊗◌, ring}
+use Rattle.nef_geo.specs.declared.plane.Oriented.{Oriented}
+use Rattle.nef_geo.specs.declared.sign.Sign.TheVariants.{Minus, Plus}
+use Rattle.nef_geo.specs.Reading.{IsPositiveMultiple}
+use Rattle.nef_geo.specs.Shapes.{form_of, given_form}
+use Rattle.nef_geo.specs.Signs.{sign_of}
+use Rattle.nef_geo.proofs.Normals.{form_at-turned}
+
+pub sign_of-positive : (z : ℤ) → pos 0 <ℤ z → sign_of z ≡ Plus
+sign_of-positive (pos zero) h = absurd (omega (arith, ints))
+sign_of-positive (pos (suc n)) h = refl
+sign_of-positive (negsuc n) h = absurd (omega (arith, ints))
+
+pub sign_of-negative : (z : ℤ) → z <ℤ pos 0 → sign_of z ≡ Minus
+sign_of-negative (pos n) h = absurd (omega (arith, ints))
+sign_of-negative (negsuc n) h = refl
+
+pub sign_of-scaled : (k z : ℤ) → pos 0 <ℤ k → sign_of (k *ℤ z) ≡ sign_of z
+sign_of-scaled (pos zero) z p = absurd (omega (arith, ints))
+sign_of-scaled (negsuc k) z p = absurd (omega (arith, ints))
+sign_of-scaled (pos (suc k)) (pos zero) p = let e : pos (suc k) *ℤ pos 0 ≡ pos 0 = omega (arith, ints) in ap sign_of e
+sign_of-scaled (pos (suc k)) (pos (suc n)) p = sign_of-positive (pos (suc k) *ℤ pos (suc n)) (omega (arith, ints))
+sign_of-scaled (pos (suc k)) (negsuc n) p = sign_of-negative (pos (suc k) *ℤ negsuc n) (omega (arith, ints))
+
+-- a form and its positive multiples have the same sides
+form_at-multiple : (h g : Form) (m : IsPositiveMultiple h g) (p : Place) → form_at h p ≡ m.factor *ℤ form_at g p
+form_at-multiple h g m p =
+    rw (m.a_is, m.b_is, m.c_is, m.d_is)
+    (ring (m.factor ∷ g.a ∷ g.b ∷ g.c ∷ g.d ∷ p.x ∷ p.y ∷ p.z ∷ pos p.w ∷ [])
+    (at 0 ⊗ at 1 ⊗ at 5 ⊕ at 0 ⊗ at 2 ⊗ at 6 ⊕ at 0 ⊗ at 3 ⊗ at 7 ⊕ at 0 ⊗ at 4 ⊗ at 8)
+    (at 0 ⊗ (at 1 ⊗ at 5 ⊕ at 2 ⊗ at 6 ⊕ at 3 ⊗ at 7 ⊕ at 4 ⊗ at 8)) tt)
+
+pub sign_of-multiple : (h g : Form) → IsPositiveMultiple h g → (p : Place) → sign_of (form_at h p) ≡ sign_of (form_at g p)
+sign_of-multiple h g m p = ap sign_of (form_at-multiple h g m p) ∙ sign_of-scaled m.factor (form_at g p) m.positive
+
+pub form_at-flipped : (o : Oriented) (p : Place) → o.flipped ≡ true → form_at (given_form o) p ≡ neg_ℤ (form_at (form_of o.plane) p)
+form_at-flipped o p e = rw e (form_at-turned (form_of o.plane) p)

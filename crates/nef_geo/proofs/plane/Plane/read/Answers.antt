@@ -1,0 +1,21 @@
+use Rattle.std.proofs.Common.{rules, ◌≡◌, true, w64}
+use Rattle.std.proofs.lemmas.Int.{to_z-of_z}
+use Rattle.nef_space.specs.Place.{form}
+use Rattle.nef_geo.specs.Reading.{IsInRange}
+use Rattle.nef_geo.specs.Shapes.{given_form}
+use Rattle.nef_geo.proofs.Signs.{sign_of-multiple}
+use Rattle.nef_geo.proofs.plane.Plane.read.Goals as goal
+
+pub returns-clause-out_of_range : goal.returns-clause-out_of_range
+returns-clause-out_of_range c =
+    let yes : c.is_in_range.result ≡ true = search rules in
+    let i : IsInRange (form c.args.a c.args.b c.args.c c.args.d) = rw (to_z-of_z w64 c.args.a c.ranges.a, to_z-of_z w64 c.args.b c.ranges.b, to_z-of_z w64 c.args.c c.ranges.c, to_z-of_z w64 c.args.d c.ranges.d) at (c.is_in_range.ensures.in_range.0 yes) in
+    (λ e. absurd (cc), λ not. absurd (not i))
+
+pub returns-clause-flipped : goal.returns-clause-flipped
+returns-clause-flipped c = rw (to_z-of_z w64 c.args.a c.ranges.a, to_z-of_z w64 c.args.b c.ranges.b, to_z-of_z w64 c.args.c c.ranges.c) at c.oriented.ensures.flipped
+
+pub returns-clause-sides : goal.returns-clause-sides
+returns-clause-sides c =
+    sign_of-multiple (form c.args.a c.args.b c.args.c c.args.d) (given_form c.oriented.result)
+    (rw (to_z-of_z w64 c.args.a c.ranges.a, to_z-of_z w64 c.args.b c.ranges.b, to_z-of_z w64 c.args.c c.ranges.c, to_z-of_z w64 c.args.d c.ranges.d) at c.oriented.ensures.multiple)

@@ -1,0 +1,63 @@
+//! Greatest common divisors, and numbers in lowest terms.
+
+ghost use Rattle.std.specs.Prelude.{◌≡◌, pos, ◌<ℤ◌, ◌*ℤ◌, nat_abs};
+ghost use Rattle.std.specs.Int.{◌∣◌, IsGcd};
+ghost use Rattle.nef_space.specs.Limits.{point_limit};
+ghost use Rattle.nef_geo.specs.Numbers.{IsAtMostFour, IsSomeOfFour, IsGcdOfFour, IsReduced};
+
+// Four numbers, of which three may be a direction's.
+#[derive(Clone, Copy)]
+pub(crate) struct Four {
+    pub(crate) x: i64,
+    pub(crate) y: i64,
+    pub(crate) z: i64,
+    pub(crate) w: i64,
+}
+
+// Euclid's algorithm.
+fn gcd(a: u64, b: u64) -> u64
+    ensures gcd { IsGcd a b result }
+{
+    let mut x = a;
+    let mut y = b;
+    while y != 0 {
+        let rest = x % y;
+        x = y;
+        y = rest;
+    }
+    x
+}
+
+fn gcd_of_four(x: i64, y: i64, z: i64, w: i64) -> i64
+    requires small { IsAtMostFour point_limit x y z w }
+    requires some { IsSomeOfFour x y z w }
+    ensures gcd { IsGcdOfFour x y z w result }
+{
+    let of_two = gcd(x.unsigned_abs(), y.unsigned_abs());
+    let of_three = gcd(of_two, z.unsigned_abs());
+    gcd(of_three, w.unsigned_abs()) as i64
+}
+
+// The quotient by a number that divides x.
+fn part(x: i64, divisor: i64) -> i64
+    requires positive { pos 0 <ℤ divisor }
+    requires divides { nat_abs divisor ∣ nat_abs x }
+    ensures whole { x ≡ divisor *ℤ result }
+{
+    x / divisor
+}
+
+// The four numbers divided by their greatest common divisor.
+pub(crate) fn lowest_terms(x: i64, y: i64, z: i64, w: i64) -> Four
+    requires small { IsAtMostFour point_limit x y z w }
+    requires some { IsSomeOfFour x y z w }
+    ensures reduced { IsReduced x y z w result.x result.y result.z result.w }
+{
+    let divisor = gcd_of_four(x, y, z, w);
+    Four {
+        x: part(x, divisor),
+        y: part(y, divisor),
+        z: part(z, divisor),
+        w: part(w, divisor),
+    }
+}

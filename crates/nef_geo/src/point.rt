@@ -1,0 +1,91 @@
+//! Points in normal form.
+
+ghost use Rattle.std.specs.Prelude.{◌≡◌, ◌↔◌, ◌<◌, ◌≤◌, pos, ◌<ℤ◌, nat_abs, IsTrue, [], ◌∷◌};
+ghost use Rattle.nef_space.specs.Limits.{point_limit, weight_limit};
+ghost use Rattle.nef_space.specs.Numbers.{IsLowest};
+
+use crate::gcd::lowest_terms;
+
+/// The point `(x/w, y/w, z/w)`. The four numbers have no common divisor but 1, w is positive, and
+/// `|x|, |y|, |z| <= 3*2^45`, `w <= 3*2^34`: each common point of three planes has such numbers.
+#[derive(Debug, Clone, Copy, PartialEq, Eq)]
+pub struct Point {
+    pub(crate) x: i64,
+    pub(crate) y: i64,
+    pub(crate) z: i64,
+    pub(crate) w: i64,
+    pub ghost x_small: { nat_abs x ≤ point_limit },
+    pub ghost y_small: { nat_abs y ≤ point_limit },
+    pub ghost z_small: { nat_abs z ≤ point_limit },
+    pub ghost w_small: { nat_abs w ≤ weight_limit },
+    pub ghost proper: { pos 0 <ℤ w },
+    pub ghost lowest: { IsLowest (x ∷ y ∷ z ∷ w ∷ []) },
+}
+
+// Half the length of the frame's sides.
+const HALF_SIDE: u64 = 2048;
+
+fn is_below(n: i64, limit: u64) -> bool
+    ensures below { IsTrue result ↔ (nat_abs n < limit) }
+{
+    n.unsigned_abs() < limit
+}
+
+impl Point {
+    ghost use Rattle.nef_space.specs.Place.{SamePlace, InFrame};
+    ghost use Rattle.nef_geo.specs.Shapes.{place_at, place_of};
+
+    /// The point `(x/w, y/w, z/w)`.
+    pub fn of(x: i64, y: i64, z: i64, w: i64) -> Point
+        requires x_small { nat_abs x ≤ point_limit }
+        requires y_small { nat_abs y ≤ point_limit }
+        requires z_small { nat_abs z ≤ point_limit }
+        requires w_small { nat_abs w ≤ weight_limit }
+        requires positive { pos 0 <ℤ w }
+        ensures same { (positive : pos 0 <ℤ w) → SamePlace (place_at x y z w positive) (place_of result) }
+    {
+        let lowest = lowest_terms(x, y, z, w);
+        Point {
+            x: lowest.x,
+            y: lowest.y,
+            z: lowest.z,
+            w: lowest.w,
+        }
+    }
+
+    /// Whether the point lies in the frame, the open cube `|x|, |y|, |z| < 2048`.
+    pub fn in_frame(&self) -> bool
+        ensures in_frame { IsTrue result ↔ InFrame (place_of self.now) }
+    {
+        let limit = HALF_SIDE * self.w.unsigned_abs();
+        is_below(self.x, limit) && is_below(self.y, limit) && is_below(self.z, limit)
+    }
+
+    /// The first number.
+    pub fn x(&self) -> i64
+        ensures x { result ≡ self.now.x }
+    {
+        self.x
+    }
+
+    /// The second number.
+    pub fn y(&self) -> i64
+        ensures y { result ≡ self.now.y }
+    {
+        self.y
+    }
+
+    /// The third number.
+    pub fn z(&self) -> i64
+        ensures z { result ≡ self.now.z }
+    {
+        self.z
+    }
+
+    /// The number that the other three are divided by.
+    pub fn w(&self) -> i64
+        ensures w { result ≡ self.now.w }
+    {
+        self.w
+    }
+}
