@@ -1,5 +1,5 @@
 -- Where plain sets hold.
-use Rattle.std.proofs.Common.{◌≡◌, ℕ, zero, suc, ◌<◌, ℤ, pos, negsuc, ◌<ℤ◌, ◌≤ℤ◌, arith, refl, Bool, true, false, ◌&&◌, ◌||◌, not, List, [], ◌∷◌, ◌++◌, length, get_or, Some, inl, inr, length-append}
+use Rattle.std.proofs.Common.{◌≡◌, ℕ, zero, suc, ◌<◌, ℤ, pos, negsuc, ◌<ℤ◌, arith, refl, Bool, true, false, ◌&&◌, ◌||◌, not, List, [], ◌∷◌, ◌++◌, length, get_or, Some, inl, inr, length-append}
 use mathlib.Core.Bool.{beq}
 use Rattle.std.specs.Prelude.{◌↔◌, IsTrue, slice_get}
 use Rattle.std.proofs.lemmas.Int.{ints}
@@ -109,9 +109,9 @@ pub tells_each-push : (bs : List Bool) (r : Bool) (ss : List Set) (p : Place) �
 tells_each-push bs r ss p each here k below plain = elim (cases_lt k (length bs)) [
   | inl earlier ↦ let same : get_or (bs ++ r ∷ []) k false ≡ get_or bs k false = get_or-append bs (r ∷ []) false k earlier in rw same (each k earlier plain)
   | inr past ↦
-    let last : k ≡ length bs = omega (arith, length-append {A = Bool}) in
-    let value_is : get_or (bs ++ r ∷ []) (length bs) false ≡ r = get_or-append_seam bs r [] false in
-    rw (last, value_is) (here (rw last at plain))
+      let last : k ≡ length bs = omega (arith, length-append {A = Bool}) in
+      let value_is : get_or (bs ++ r ∷ []) (length bs) false ≡ r = get_or-append_seam bs r [] false in
+      rw (last, value_is) (here (rw last at plain))
 ]
 
 -- what is told of a node is told of its set in the list

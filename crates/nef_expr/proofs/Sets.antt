@@ -1,13 +1,13 @@
 -- The sets of the nodes of a list: a node added later doesn't change them, and each is made by its node of the others.
-use Rattle.std.proofs.Common.{◌≡◌, ℕ, zero, suc, ◌+◌, ◌-◌, ◌<◌, ◌≤◌, arith, refl, ap, sym, ◌∙◌, List, [], ◌∷◌, ◌++◌, length, Option, Some, None, append_assoc, length-append}
-use Rattle.std.specs.Prelude.{slice_get, slice_index_or}
+use Rattle.std.proofs.Common.{◌≡◌, ℕ, zero, suc, ◌+◌, ◌<◌, arith, refl, ap, sym, ◌∙◌, List, [], ◌∷◌, ◌++◌, length, Some, length-append}
+use Rattle.std.specs.Prelude.{slice_get}
 use Rattle.std.proofs.Math.ListN.{get_or-append}
 use Rattle.std.proofs.Math.Seq.{get_or-append_seam}
 use Rattle.std.proofs.lemmas.Option.{slice_get_within}
 use Rattle.nef_space.specs.Sets.{Set}
 use Rattle.nef_expr.specs.declared.nodes.Node.{Node}
 use Rattle.nef_expr.specs.declared.nodes.Node.TheVariants as node
-use Rattle.nef_expr.specs.Nodes.{operand, set_of, sets_after, node_set, NamesBelow}
+use Rattle.nef_expr.specs.Nodes.{operand, set_of, sets_after, NamesBelow}
 use Rattle.nef_expr.specs.Laws.{EarlierSetsStay, NewSetIsOfItsNode, EachSetIsOfItsNode}
 
 pub sets_after-length : (ss : List Set) (ns : List Node) → length (sets_after ss ns) ≡ length ss + length ns
@@ -39,7 +39,6 @@ new-set ns n =
     let e = sets_after-length [] ns in
     let f : length ns ≡ length (sets_after [] ns) = omega arith in
     ap (λ ss. operand ss (length ns)) (sets_after-append [] ns (n ∷ [])) ∙ ap (operand (sets_after [] ns ++ set_of (sets_after [] ns) n ∷ [])) f ∙ operand-last (sets_after [] ns) (set_of (sets_after [] ns) n)
-
 
 -- a node makes the same set of operands that are the same
 set_of-same : (k : ℕ) (ss ts : List Set) (n : Node) → ((i : ℕ) → i < k → operand ss i ≡ operand ts i) → NamesBelow k n → set_of ss n ≡ set_of ts n

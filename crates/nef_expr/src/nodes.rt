@@ -14,10 +14,7 @@ use std::marker::Model;
 #[derive(Debug, Clone, Copy)]
 pub enum Node {
     /// The side where the given `a x + b y + c z + d` is negative, with its boundary if `closed`.
-    Half {
-        oriented: Oriented,
-        closed: bool,
-    },
+    Half { oriented: Oriented, closed: bool },
     Empty,
     Full,
     And(usize, usize),

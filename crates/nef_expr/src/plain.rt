@@ -7,8 +7,8 @@ ghost use Rattle.nef_geo.specs.Shapes.{given_form, place_of};
 ghost use Rattle.nef_expr.specs.Nodes.{NamesBelow, node_set};
 ghost use Rattle.nef_expr.specs.Plain.{IsPlain, TellsNext};
 
-use crate::nodes::{Node, Nodes};
 use crate::OutOfMemory;
+use crate::nodes::{Node, Nodes};
 use nef_geo::{Label, Oriented, Point, Sign};
 use std::alloc::Global;
 

@@ -1,7 +1,6 @@
-use Rattle.std.proofs.Common.{[], length, arith, sym, ap, ◌∙◌, length-append}
+use Rattle.std.proofs.Common.{arith, sym, ◌∙◌}
 use Rattle.std.proofs.lemmas.Bool.{false≢true}
 use Rattle.nef_geo.specs.Shapes.{place_of}
-use Rattle.nef_expr.specs.Nodes.{sets_after}
 use Rattle.nef_expr.proofs.Holding.{tells_each-push, told-in_list}
 use Rattle.nef_expr.proofs.plain.plain_has.Goals as goal
 
