@@ -1,0 +1,41 @@
+//! Tables over keys of signs or labels, three rows for each number of the key to the next, and the tables of the
+//! kernel: whether a direction is strictly passed on an arc, the labels of combinations, and the labels of an arc in
+//! the interior and in the closure.
+//!
+//! Every row is proved to be the value of a plain definition in specs/.
+#![tactic(auto)]
+
+// How the rows of a table are written: T and F for a truth value; O, N and I for the labels Out, Not and In as numbers.
+macro_rules! row {
+    (T) => {
+        true
+    };
+    (F) => {
+        false
+    };
+    (O) => {
+        -1
+    };
+    (N) => {
+        0
+    };
+    (I) => {
+        1
+    };
+}
+
+macro_rules! rows {
+    ($($row:ident)*) => {
+        [$(row!($row)),*]
+    };
+}
+
+mod labels;
+mod passing;
+mod table;
+#[cfg(test)]
+mod tests;
+
+pub use labels::{arc_closure, arc_interior, op_and, op_diff, op_or, op_xor};
+pub use passing::between;
+pub use table::CaseTable;

@@ -1,0 +1,5 @@
+pub mod Signs
+pub mod Planar
+pub mod StrictlyOn
+pub mod Cyclic
+pub mod Directions
