@@ -5,5 +5,6 @@ pub mod Combination
 pub mod Fractions
 pub mod Sizes
 pub mod Machine
+pub mod Lists
 pub mod Samples
 pub mod Examples

@@ -5,6 +5,7 @@ use Rattle.std.proofs.Math.Nat.{mul-pos}
 use lib.IntN.{*ℤ-zero, zero-*ℤ}
 use Rattle.nef_exact.proofs.Ring.{ring, at, num, ◌⊕◌, ◌⊖◌, ◌⊗◌}
 pub use Rattle.nef_exact.specs.Signs.{Lies}
+pub use Rattle.nef_exact.proofs.Lists.{each, pairs, lies-left, lies-right, lies-each, lies-pairs, lies-append}
 pub use Rattle.nef_exact.specs.Linear.{dot, IsPoint}
 use Rattle.nef_exact.proofs.Products.{neg-*ℤ}
 use Rattle.nef_exact.proofs.Order.{sign, sign_times, sign-plus, sign-minus, sign_of_product, mul_pos, mul_nonneg, mul_lt_right, by_order, sign-scaled, sign-turned}
@@ -208,35 +209,8 @@ fewer n s = record { over = s.over; form = comb (pos 1) s.form (neg_ℤ (pos s.o
 abbrev pub middle : Spot → Spot → Spot
 middle s t = record { over = 2 * s.over * t.over; form = comb (pos t.over) s.form (pos s.over) t.form }
 
-abbrev pub each : {A B : Type 0} → (A → B) → List A → List B
-each f [] = []
-each f (x ∷ xs) = f x ∷ each f xs
-
-abbrev pub pairs : {A B C : Type 0} → (A → B → C) → List A → List B → List C
-pairs f [] ys = []
-pairs f (x ∷ xs) ys = each (f x) ys ++ pairs f xs ys
-
 abbrev pub candidates : ℕ → List Spot → List Spot
 candidates n ss = record { over = 1; form = [] } ∷ (ss ++ (each (more n) ss ++ (each (fewer n) ss ++ pairs middle ss ss)))
-
-lies-left : {A : Type 0} (ks ls : List A) (h : A) → Lies ks h → Lies (ks ++ ls) h
-lies-left [] ls h l = absurd l
-lies-left (k ∷ ks) ls h (inl e) = inl e
-lies-left (k ∷ ks) ls h (inr l) = inr (lies-left ks ls h l)
-
-lies-right : {A : Type 0} (ks ls : List A) (h : A) → Lies ls h → Lies (ks ++ ls) h
-lies-right [] ls h l = l
-lies-right (k ∷ ks) ls h l = inr (lies-right ks ls h l)
-
-lies-each : {A B : Type 0} (f : A → B) (xs : List A) (x : A) → Lies xs x → Lies (each f xs) (f x)
-lies-each f [] x l = l
-lies-each f (y ∷ ys) x (inl e) = inl (ap f e)
-lies-each f (y ∷ ys) x (inr l) = inr (lies-each f ys x l)
-
-lies-pairs : {A B C : Type 0} (f : A → B → C) (xs : List A) (ys : List B) (x : A) (y : B) → Lies xs x → Lies ys y → Lies (pairs f xs ys) (f x y)
-lies-pairs f [] ys x y l m = absurd l
-lies-pairs {A} {B} {C} f (z ∷ zs) ys x y (inl e) m = lies-left (each (f z) ys) (pairs f zs ys) (f x y) (subst (λ (a : A). Lies (each (f z) ys) (f a y)) e (lies-each (f z) ys y m))
-lies-pairs f (z ∷ zs) ys x y (inr l) m = lies-right (each (f z) ys) (pairs f zs ys) (f x y) (lies-pairs f zs ys x y l m)
 
 -- m is on the same side of all spots as z
 pub record SameSide (n : ℕ) (ss : List Spot) (u : List ℤ) (z : ℤ) : Type 0 where
@@ -339,11 +313,6 @@ lies-roots : (ks : List (List ℤ)) (k : List ℤ) (s : Spot) → Lies ks k → 
 lies-roots [] k s l m = absurd l
 lies-roots (j ∷ ks) k s (inl e) m = lies-left (root_of (head j) (tail j)) (roots ks) s (subst (λ (x : List ℤ). Lies (root_of (head x) (tail x)) s) (sym e) m)
 lies-roots (j ∷ ks) k s (inr l) m = lies-right (root_of (head j) (tail j)) (roots ks) s (lies-roots ks k s l m)
-
-lies-append : {A : Type 0} (ks ls : List A) (x : A) → Lies (ks ++ ls) x → Lies ks x ⊎ Lies ls x
-lies-append [] ls x l = inr l
-lies-append (k ∷ ks) ls x (inl e) = inl (inl e)
-lies-append (k ∷ ks) ls x (inr l) = ⊎_elim (λ m. inl (inr m)) (λ m. inr m) (lies-append ks ls x l)
 
 root-proper : (c : ℤ) (f : List ℤ) → Proper (root_of c f)
 root-proper (pos zero) f s l = absurd l

@@ -4,6 +4,8 @@
 mod board;
 mod laws;
 mod rule;
+#[cfg(test)]
+mod tests;
 mod view;
 
 pub use board::{FreeBoard, FreePass};

@@ -1,7 +1,7 @@
 //! Reads a source to its end.
 ghost use Rattle.std.specs.Prelude.{◌≡◌, ℕ, ◌+◌, ◌≤◌, IfOk, List, length, vec_len};
 ghost use Rattle.std.specs.Io.KnownBytes.{Consumes, IsAtEnd};
-ghost use Rattle.nef_io.specs.Bytes.{Rose};
+ghost use Rattle.nef_io.specs.Bytes.{Rose, input_limit};
 
 use crate::traits::{Failed, Source};
 use std::alloc::{AllocError, Global};
@@ -52,11 +52,11 @@ impl From<Failed> for ReadAll {
 /// value. Each read but the last takes at least one byte, so the call returns.
 pub fn read_all<S: Source>(alloc: Global, source: &mut S) -> Result<Vec<u8>, ReadAll>
     ensures bytes { IfOk result (λ v. Consumes (S.rest source.old) (S.rest source.new) v.items × IsAtEnd (S.rest source.new)) }
-    ensures most { IfOk result (λ v. vec_len v ≤ INPUT_LIMIT) }
-    ensures long { result ≡ Err ReadAll.TooLong → (bs : List ℕ) × Consumes (S.rest source.old) (S.rest source.new) bs × (length bs ≡ INPUT_LIMIT + 1) }
+    ensures most { IfOk result (λ v. vec_len v ≤ input_limit) }
+    ensures long { result ≡ Err ReadAll.TooLong → (bs : List ℕ) × Consumes (S.rest source.old) (S.rest source.new) bs × (length bs ≡ input_limit + 1) }
     ensures fault { result ≡ Err ReadAll.ReadFault → Rose (S.faults source.old) (S.faults source.new) }
-    ensures before_fault { result ≡ Err ReadAll.ReadFault → (bs : List ℕ) × Consumes (S.rest source.old) (S.rest source.new) bs × (length bs ≤ INPUT_LIMIT) }
-    ensures before_memory { result ≡ Err ReadAll.OutOfMemory → (bs : List ℕ) × Consumes (S.rest source.old) (S.rest source.new) bs × (length bs ≤ INPUT_LIMIT + 1) }
+    ensures before_fault { result ≡ Err ReadAll.ReadFault → (bs : List ℕ) × Consumes (S.rest source.old) (S.rest source.new) bs × (length bs ≤ input_limit) }
+    ensures before_memory { result ≡ Err ReadAll.OutOfMemory → (bs : List ℕ) × Consumes (S.rest source.old) (S.rest source.new) bs × (length bs ≤ input_limit + 1) }
     ensures count { S.faults source.old ≤ S.faults source.new }
 {
     let mut all = Vec::new(alloc);

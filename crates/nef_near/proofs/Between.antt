@@ -1,22 +1,22 @@
 -- A point between two others is a positive combination of them, and the other way round; rays near a point.
-use Rattle.std.proofs.Common.{◌≡◌, ℕ, zero, suc, ◌+◌, ◌*◌, ◌<◌, ◌≤◌, ℤ, pos, negsuc, ◌+ℤ◌, ◌-ℤ◌, ◌*ℤ◌, ◌≤ℤ◌, ◌<ℤ◌, nat_abs, arith, refl, ap, sym, ◌∙◌, ◌⊎◌, inl, inr, ⊎_elim, ◌↔◌, List, [], ◌∷◌, subst, false}
+use Rattle.std.proofs.Common.{◌≡◌, ℕ, zero, suc, ◌+◌, ◌*◌, ◌<◌, ℤ, pos, negsuc, ◌+ℤ◌, ◌-ℤ◌, ◌*ℤ◌, ◌<ℤ◌, arith, refl, ap, sym, ◌∙◌, ◌⊎◌, inl, inr, ⊎_elim, ◌↔◌, List, [], ◌∷◌, subst, false}
 use Rattle.std.proofs.lemmas.Int.{ints}
 use Rattle.std.proofs.Math.Nat.{mul-pos}
-use Rattle.nef_exact.specs.Signs.{Sign, minus, nought, plus, sign, Lies}
-use Rattle.nef_exact.proofs.Ring.{ring, value, at, num, ◌⊕◌, ◌⊖◌, ◌⊗◌, Poly}
+use Rattle.nef_exact.specs.Signs.{Sign, minus, nought, plus}
+use Rattle.nef_exact.proofs.Ring.{ring, at, num, ◌⊕◌, ◌⊖◌, ◌⊗◌}
 use Rattle.nef_exact.proofs.Combination.{given, none, follows, follows_times}
-use Rattle.nef_exact.proofs.Order.{mul_pos, square_nonneg, lt_by}
-use Rattle.nef_space.specs.Place.{Place, Form, form_at, Within, SamePlace, toward, IsBetween}
+use Rattle.nef_exact.proofs.Order.{mul_pos}
+use Rattle.nef_space.specs.Place.{Place, Form, Within, SamePlace, toward, IsBetween}
 use Rattle.nef_space.specs.Vectors.{Vector, dot, IsZero, IsDirection, IsParallel, SameDirection}
 use Rattle.nef_space.specs.Sets.{Set}
 use Rattle.nef_space.specs.Local.{HasLabel}
 use Rattle.nef_space.specs.declared.label.Label.{Label}
 use Rattle.nef_near.specs.Cells.{sign_at, carriers, SameSigns}
 use Rattle.nef_near.specs.Cones.{IsOnSegment}
-use Rattle.nef_near.proofs.Cells.{same-sym, reach_all, reach-some, keeps-all, is_nought}
+use Rattle.nef_near.proofs.Cells.{same-sym, reach_all, keeps-all, is_nought}
 use Rattle.nef_near.proofs.Germs.{Label-cells}
 use Rattle.nef_near.proofs.Rays.{square-positive, square-some, positive-factor, toward-same, same-place_sym, decided-zero}
-use Rattle.nef_near.proofs.Segment.{Between, crosses, opposite, joint}
+use Rattle.nef_near.proofs.Segment.{Between, opposite, joint}
 use Rattle.nef_near.proofs.FirstHit.{Strictly, sign-strictly}
 
 -- ---- from IsBetween to a combination
@@ -26,21 +26,21 @@ positive (pos n) h = (n, omega (arith, ints), refl)
 positive (negsuc n) h = absurd (omega (arith, ints))
 
 -- parallel vectors: (v.v) u = (u.v) v
-parallel-x : (u v : Vector) → IsParallel u v → dot v v *ℤ u.x ≡ dot u v *ℤ v.x
+pub parallel-x : (u v : Vector) → IsParallel u v → dot v v *ℤ u.x ≡ dot u v *ℤ v.x
 parallel-x u v c =
     follows (u.x ∷ u.y ∷ u.z ∷ v.x ∷ v.y ∷ v.z ∷ [])
     ((at 3 ⊗ at 3 ⊕ at 4 ⊗ at 4 ⊕ at 5 ⊗ at 5) ⊗ at 0) ((at 0 ⊗ at 3 ⊕ at 1 ⊗ at 4 ⊕ at 2 ⊗ at 5) ⊗ at 3)
     (given (num (pos 0) ⊖ at 5) (at 2 ⊗ at 3 ⊖ at 0 ⊗ at 5) (num (pos 0)) c.1
     (given (at 4) (at 0 ⊗ at 4 ⊖ at 1 ⊗ at 3) (num (pos 0)) c.2 none)) tt
 
-parallel-y : (u v : Vector) → IsParallel u v → dot v v *ℤ u.y ≡ dot u v *ℤ v.y
+pub parallel-y : (u v : Vector) → IsParallel u v → dot v v *ℤ u.y ≡ dot u v *ℤ v.y
 parallel-y u v c =
     follows (u.x ∷ u.y ∷ u.z ∷ v.x ∷ v.y ∷ v.z ∷ [])
     ((at 3 ⊗ at 3 ⊕ at 4 ⊗ at 4 ⊕ at 5 ⊗ at 5) ⊗ at 1) ((at 0 ⊗ at 3 ⊕ at 1 ⊗ at 4 ⊕ at 2 ⊗ at 5) ⊗ at 4)
     (given (at 5) (at 1 ⊗ at 5 ⊖ at 2 ⊗ at 4) (num (pos 0)) c.0
     (given (num (pos 0) ⊖ at 3) (at 0 ⊗ at 4 ⊖ at 1 ⊗ at 3) (num (pos 0)) c.2 none)) tt
 
-parallel-z : (u v : Vector) → IsParallel u v → dot v v *ℤ u.z ≡ dot u v *ℤ v.z
+pub parallel-z : (u v : Vector) → IsParallel u v → dot v v *ℤ u.z ≡ dot u v *ℤ v.z
 parallel-z u v c =
     follows (u.x ∷ u.y ∷ u.z ∷ v.x ∷ v.y ∷ v.z ∷ [])
     ((at 3 ⊗ at 3 ⊕ at 4 ⊗ at 4 ⊕ at 5 ⊗ at 5) ⊗ at 2) ((at 0 ⊗ at 3 ⊕ at 1 ⊗ at 4 ⊕ at 2 ⊗ at 5) ⊗ at 5)
@@ -82,14 +82,14 @@ strictly-from_between p q r s =
 
 -- ---- from a combination to IsBetween
 -- k (x_r w_p - x_p w_r) = j (x_q w_p - x_p w_q), and k (x_q w_r - x_r w_q) = i (x_q w_p - x_p w_q)
-from-p : (x y z u v w k i j : ℤ) → k *ℤ z ≡ i *ℤ x +ℤ j *ℤ y → k *ℤ w ≡ i *ℤ u +ℤ j *ℤ v → k *ℤ (z *ℤ u -ℤ x *ℤ w) ≡ j *ℤ (y *ℤ u -ℤ x *ℤ v)
+pub from-p : (x y z u v w k i j : ℤ) → k *ℤ z ≡ i *ℤ x +ℤ j *ℤ y → k *ℤ w ≡ i *ℤ u +ℤ j *ℤ v → k *ℤ (z *ℤ u -ℤ x *ℤ w) ≡ j *ℤ (y *ℤ u -ℤ x *ℤ v)
 from-p x y z u v w k i j e f =
     follows (x ∷ y ∷ z ∷ u ∷ v ∷ w ∷ k ∷ i ∷ j ∷ [])
     (at 6 ⊗ (at 2 ⊗ at 3 ⊖ at 0 ⊗ at 5)) (at 8 ⊗ (at 1 ⊗ at 3 ⊖ at 0 ⊗ at 4))
     (given (at 3) (at 6 ⊗ at 2) (at 7 ⊗ at 0 ⊕ at 8 ⊗ at 1) e
     (given (num (pos 0) ⊖ at 0) (at 6 ⊗ at 5) (at 7 ⊗ at 3 ⊕ at 8 ⊗ at 4) f none)) tt
 
-to-q : (x y z u v w k i j : ℤ) → k *ℤ z ≡ i *ℤ x +ℤ j *ℤ y → k *ℤ w ≡ i *ℤ u +ℤ j *ℤ v → k *ℤ (y *ℤ w -ℤ z *ℤ v) ≡ i *ℤ (y *ℤ u -ℤ x *ℤ v)
+pub to-q : (x y z u v w k i j : ℤ) → k *ℤ z ≡ i *ℤ x +ℤ j *ℤ y → k *ℤ w ≡ i *ℤ u +ℤ j *ℤ v → k *ℤ (y *ℤ w -ℤ z *ℤ v) ≡ i *ℤ (y *ℤ u -ℤ x *ℤ v)
 to-q x y z u v w k i j e f =
     follows (x ∷ y ∷ z ∷ u ∷ v ∷ w ∷ k ∷ i ∷ j ∷ [])
     (at 6 ⊗ (at 1 ⊗ at 5 ⊖ at 2 ⊗ at 4)) (at 7 ⊗ (at 1 ⊗ at 3 ⊖ at 0 ⊗ at 4))
@@ -102,14 +102,11 @@ pub record IsMultiple (k j : ℤ) (u d : Vector) : Type 0 where
   pub of_y : k *ℤ u.y ≡ j *ℤ d.y
   pub of_z : k *ℤ u.z ≡ j *ℤ d.z
 
--- two positive multiples of one direction have the same direction
-pub same-direction_of : (k i j : ℤ) (u v d : Vector) → pos 0 <ℤ k → pos 0 <ℤ i → pos 0 <ℤ j → IsMultiple k j u d → IsMultiple k i v d → IsDirection d → SameDirection u v
-same-direction_of k i j u v d sk si sj m n some = record {
-  parallel = (one u.y u.z v.y v.z d.y d.z m.of_y m.of_z n.of_y n.of_z, one u.z u.x v.z v.x d.z d.x m.of_z m.of_x n.of_z n.of_x, one u.x u.y v.x v.y d.x d.y m.of_x m.of_y n.of_x n.of_y);
-  forward = forward;
-}
+-- two multiples of one vector are parallel: u = j d / k and v = i d / k
+pub cross-of_multiples : (k i j : ℤ) (u v d : Vector) → pos 0 <ℤ k → IsMultiple k j u d → IsMultiple k i v d → IsParallel u v
+cross-of_multiples k i j u v d sk m n =
+    (one u.y u.z v.y v.z d.y d.z m.of_y m.of_z n.of_y n.of_z, one u.z u.x v.z v.x d.z d.x m.of_z m.of_x n.of_z n.of_x, one u.x u.y v.x v.y d.x d.y m.of_x m.of_y n.of_x n.of_y)
   where
-    -- u = j d / k and v = i d / k, so u x v is zero
     one : (a b c e x y : ℤ) → k *ℤ a ≡ j *ℤ x → k *ℤ b ≡ j *ℤ y → k *ℤ c ≡ i *ℤ x → k *ℤ e ≡ i *ℤ y → a *ℤ e -ℤ b *ℤ c ≡ pos 0
     one a b c e x y f g h l =
         let o = mul_pos k k sk sk in
@@ -119,6 +116,10 @@ same-direction_of k i j u v d sk si sj m n some = record {
         (given (num (pos 0) ⊖ at 8 ⊗ at 5) (at 6 ⊗ at 2) (at 7 ⊗ at 4) h
         (given (at 8 ⊗ at 4) (at 6 ⊗ at 3) (at 7 ⊗ at 5) l none)))) o tt
 
+-- two positive multiples of one direction have the same direction
+pub same-direction_of : (k i j : ℤ) (u v d : Vector) → pos 0 <ℤ k → pos 0 <ℤ i → pos 0 <ℤ j → IsMultiple k j u d → IsMultiple k i v d → IsDirection d → SameDirection u v
+same-direction_of k i j u v d sk si sj m n some = record { parallel = cross-of_multiples k i j u v d sk m n; forward = forward }
+  where
     square : pos 0 <ℤ dot d d
     square = square-some d some
 

@@ -1,13 +1,11 @@
 -- Points at which all carriers have the same signs lie in the same sets.
-use Rattle.std.proofs.Common.{◌≡◌, ℕ, zero, suc, ◌+◌, ◌*◌, ◌<◌, ◌≤◌, ℤ, pos, negsuc, ◌+ℤ◌, ◌-ℤ◌, ◌*ℤ◌, neg_ℤ, ◌≤ℤ◌, ◌<ℤ◌, nat_abs, arith, refl, ap, sym, ◌∙◌, ◌⊎◌, inl, inr, ⊎_elim, ◌↔◌, List, [], ◌∷◌, ◌++◌, subst, Bool, true, false}
-use Rattle.std.proofs.lemmas.Int.{ints, unsigned_abs-mul, by_lt_z}
-use Rattle.std.proofs.Math.Nat.{mul-pos}
-use Rattle.nef_exact.proofs.Ring.{ring, is_zero, IsNought, value, at, num, ◌⊕◌, ◌⊖◌, ◌⊗◌, Poly}
+use Rattle.std.proofs.Common.{◌≡◌, ℕ, ◌+◌, ◌*◌, ◌<◌, ℤ, pos, negsuc, ◌+ℤ◌, ◌-ℤ◌, ◌*ℤ◌, neg_ℤ, ◌≤ℤ◌, ◌<ℤ◌, nat_abs, arith, refl, ap, sym, ◌∙◌, ◌⊎◌, inl, inr, ⊎_elim, ◌↔◌, List, [], ◌∷◌, ◌++◌, subst, Bool, true, false}
+use Rattle.std.proofs.lemmas.Int.{ints}
+use Rattle.nef_exact.proofs.Ring.{ring, at, num, ◌⊕◌, ◌⊖◌, ◌⊗◌}
 use Rattle.nef_exact.proofs.Order.{Sign, minus, nought, plus, sign, sign_times, sign-plus, sign-minus, plus-is, minus-is, nought-is, sign_of_product, mul_pos}
-use Rattle.nef_space.specs.Place.{Place, Form, form_at, slope, Ratio, step, toward, Near, Within, InFrame}
+use Rattle.nef_space.specs.Place.{Place, Form, form_at, slope, Ratio, step, toward, Within, InFrame}
 use Rattle.nef_space.specs.Vectors.{Vector}
 use Rattle.nef_space.specs.Sets.{Set, Holds, Interior, Closure, InHalf, halves}
-use Rattle.nef_space.specs.Local.{IsShort}
 use Rattle.nef_space.specs.Limits.{half_side}
 use Rattle.nef_exact.specs.Signs.{Lies}
 use Rattle.nef_near.specs.Cells.{sign_at, side, frame, SameSigns}

@@ -1,20 +1,17 @@
 -- The germ of a combination is the combination of the germs, so it is flat where both operands are.
-use Rattle.std.proofs.Common.{◌≡◌, ℕ, zero, suc, ◌+◌, ◌*◌, ◌<◌, ◌≤◌, ℤ, pos, negsuc, ◌+ℤ◌, ◌-ℤ◌, ◌*ℤ◌, neg_ℤ, ◌≤ℤ◌, ◌<ℤ◌, nat_abs, arith, refl, ap, sym, ◌∙◌, ◌⊎◌, inl, inr, ⊎_elim, ◌↔◌, List, [], ◌∷◌, ◌++◌, subst}
+use Rattle.std.proofs.Common.{ℕ, ◌+◌, ◌≤◌, pos, ◌*ℤ◌, ◌<ℤ◌, arith, inl, inr, ⊎_elim, subst}
 use Rattle.std.proofs.lemmas.Int.{ints}
 use Rattle.nef_exact.proofs.Order.{mul_le_right}
-use Rattle.nef_exact.specs.Signs.{Lies}
 use Rattle.nef_near.specs.Laws.{LabelsCombine}
 use Rattle.nef_near.specs.Cones.{slide, NearGerm, FlatCone, label_and, label_or, label_not, label_less, label_one_of}
-use Rattle.nef_near.specs.Cells.{sign_at, frame, carriers, SameSigns}
-use Rattle.nef_space.specs.Place.{Place, Form, form_at, Ratio, step, Within, InFrame}
-use Rattle.nef_space.specs.Vectors.{Vector, IsDirection, blend}
-use Rattle.nef_space.specs.Sets.{Set, Holds, Interior, Closure, InHalf}
-use Rattle.nef_space.specs.Local.{IsShort, HasLabel, Germ, Flat, IsVertex}
+use Rattle.nef_space.specs.Place.{Place, Ratio, step}
+use Rattle.nef_space.specs.Vectors.{Vector, blend}
+use Rattle.nef_space.specs.Sets.{Set, Holds}
+use Rattle.nef_space.specs.Local.{IsShort, HasLabel, Germ}
 use Rattle.nef_space.specs.declared.label.Label.{Label}
 use Rattle.nef_space.specs.declared.label.Label.TheVariants.{Out, Not, In}
 use Rattle.nef_near.proofs.Germs.{Germ-unique}
 use Rattle.nef_near.proofs.Decided.{germ_of}
-use Rattle.nef_near.proofs.Flats.{Flat-from_cone, FlatCone-from_flat}
 
 pub and-label : (a b : Set) (p : Place) (m k : Label) → HasLabel a p m → HasLabel b p k → HasLabel (Set.both a b) p (label_and m k)
 unfolding Holds
@@ -91,10 +88,6 @@ module _ (node : Set → Set → Set) (op : Label → Label → Label) (by : ByL
         λ h. subst (Germ (node a b) p (slide c e k d)) (Germ-unique (node a b) p e (op i.0 j.0) m here h) there,
         λ h. subst (Germ (node a b) p e) (Germ-unique (node a b) p (slide c e k d) (op i.0 j.0) m there h) here,
       )
-
-  -- a vertex of the result at which both operands have a common flat direction there is none
-  pub no-vertex : (a b : Set) (p : Place) (d : Vector) → IsDirection d → Flat a p d → Flat b p d → IsVertex (node a b) p → ⊥
-  no-vertex a b p d i f g v = v.1 (d, i, Flat-from_cone (node a b) p d (flat-by a b p d (FlatCone-from_flat a p d f) (FlatCone-from_flat b p d g)))
 
 -- ---- the labels, germs and near germs of a combination
 pub germ-not : (a : Set) (p : Place) (d : Vector) (m : Label) → Germ a p d m → Germ (Set.other a) p d (label_not m)

@@ -1,22 +1,22 @@
 -- Each set holds or does not hold at each point: no axiom is needed, since finitely many directions decide an interior.
-use Rattle.std.proofs.Common.{◌≡◌, ℕ, zero, suc, ◌+◌, ◌*◌, ◌<◌, ◌≤◌, ℤ, pos, negsuc, ◌+ℤ◌, ◌-ℤ◌, ◌*ℤ◌, neg_ℤ, ◌≤ℤ◌, ◌<ℤ◌, nat_abs, arith, refl, ap, sym, ◌∙◌, ◌⊎◌, inl, inr, ⊎_elim, ◌↔◌, List, [], ◌∷◌, ◌++◌, subst, Bool, true, false}
+use Rattle.std.proofs.Common.{◌≡◌, ℕ, ◌+◌, ◌*◌, ◌<◌, ◌≤◌, ℤ, pos, nat_abs, arith, refl, ap, sym, ◌∙◌, ◌⊎◌, inl, inr, ⊎_elim, List, [], ◌∷◌, subst, Bool, true, false}
 use Rattle.std.proofs.lemmas.Int.{ints, by_lt_z}
 use Rattle.std.proofs.lemmas.Bool.{cases_lt}
-use Rattle.nef_exact.proofs.Ring.{ring, is_zero, IsNought, value, at, num, ◌⊕◌, ◌⊖◌, ◌⊗◌, Poly}
-use Rattle.nef_exact.proofs.Order.{Sign, minus, nought, plus, sign, by_order}
+use Rattle.nef_exact.proofs.Ring.{ring, at, num, ◌⊕◌, ◌⊗◌}
+use Rattle.nef_exact.proofs.Order.{sign}
 use Rattle.nef_exact.proofs.Samples as S
 use Rattle.nef_space.specs.Limits.{half_side}
 use Rattle.nef_exact.specs.Signs.{Lies}
-use Rattle.nef_near.specs.Cells.{sign_at, frame, carriers, SameSigns}
-use Rattle.nef_space.specs.Place.{Place, Form, form_at, slope, Ratio, step, Near, Within, InFrame, toward}
+use Rattle.nef_near.specs.Cells.{frame, carriers, SameSigns}
+use Rattle.nef_space.specs.Place.{Place, Form, form_at, slope, Ratio, step, Within, InFrame, toward}
 use Rattle.nef_space.specs.Vectors.{Vector}
 use Rattle.nef_space.specs.Sets.{Set, Holds, Interior, Closure, InHalf, halves}
-use Rattle.nef_space.specs.Local.{IsShort, HasLabel, Germ, Flat}
+use Rattle.nef_space.specs.Local.{IsShort, HasLabel, Germ}
 use Rattle.nef_space.specs.declared.label.Label.{Label}
 use Rattle.nef_space.specs.declared.label.Label.TheVariants.{Out, Not, In}
-use Rattle.nef_near.proofs.Near.{form-step, slope-toward, weaken, reach, keeps, stride, step-within}
-use Rattle.nef_near.proofs.Cells.{Keeps, same-sym, reach_all, reach-some, keeps-all, Cells, Inside, InFrame-cells, Holds-cells, Interior-cells, Closure-cells, is_nought, lies-left, lies-right}
-use Rattle.nef_near.proofs.Germs.{SameThrough, near-same, sign-along, Germ-from_sample, sample}
+use Rattle.nef_near.proofs.Near.{stride, step-within}
+use Rattle.nef_near.proofs.Cells.{same-sym, reach_all, reach-some, Cells, Inside, InFrame-cells, Holds-cells, Interior-cells, lies-left, lies-right}
+use Rattle.nef_near.proofs.Germs.{near-same, sign-along, Germ-from_sample, sample}
 use Rattle.nef_near.proofs.Flats.{sign-toward}
 
 abbrev pub Decided : Type 0 → Type 0
@@ -184,7 +184,7 @@ InHalf-decided h false p = by_lt_z (form_at h p) (pos 0) (λ l. inl l) (λ l. in
 InHalf-decided h true p = by_lt_z (pos 0) (form_at h p) (λ l. inr (λ m. omega (arith, ints))) (λ l. inl l)
 
 module _ (hs : List Form) (wide : Inside frame hs) where
-  -- EACH SET HOLDS OR DOES NOT HOLD AT EACH POINT
+  -- each set holds or does not hold at each point
   pub Holds-decided : (s : Set) → Inside (halves s) hs → (p : Place) → Decided (Holds s p)
   unfolding Holds
   Holds-decided (Set.half h c) sub = InHalf-decided h c

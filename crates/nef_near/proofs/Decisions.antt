@@ -1,21 +1,20 @@
 -- Finitely many vectors show all germs, so what is said of all directions is decided.
-use Rattle.std.proofs.Common.{◌≡◌, ℕ, zero, suc, ◌+◌, ◌<◌, ◌≤◌, ℤ, pos, ◌+ℤ◌, ◌*ℤ◌, arith, refl, ap, sym, ◌∙◌, ◌⊎◌, inl, inr, ⊎_elim, ◌↔◌, List, [], ◌∷◌, ◌++◌, subst}
-use Rattle.std.proofs.lemmas.Int.{ints}
-use Rattle.nef_exact.specs.Signs.{Sign, minus, nought, plus, sign, Lies}
-use Rattle.nef_exact.proofs.Ring.{ring, value, at, num, ◌⊕◌, ◌⊖◌, ◌⊗◌}
+use Rattle.std.proofs.Common.{◌≡◌, ℤ, pos, ◌+ℤ◌, ◌*ℤ◌, refl, ap, sym, ◌∙◌, ◌⊎◌, inl, inr, ⊎_elim, ◌↔◌, List, [], ◌∷◌, ◌++◌, subst}
+use Rattle.nef_exact.specs.Signs.{sign, Lies}
+use Rattle.nef_exact.proofs.Ring.{ring, at, num, ◌⊕◌, ◌⊗◌}
 use Rattle.nef_exact.proofs.Order.{nought-is}
-use Rattle.nef_space.specs.Place.{Place, Form, form, slope, Ratio, step}
-use Rattle.nef_space.specs.Vectors.{Vector, IsZero, IsDirection}
+use Rattle.nef_space.specs.Place.{Place, Form, form, step}
+use Rattle.nef_space.specs.Vectors.{Vector, IsDirection}
 use Rattle.nef_space.specs.Sets.{Set, Holds, halves}
-use Rattle.nef_space.specs.Local.{IsShort, HasLabel, Germ}
+use Rattle.nef_space.specs.Local.{HasLabel, Germ}
 use Rattle.nef_space.specs.declared.label.Label.{Label}
 use Rattle.nef_space.specs.declared.label.Label.TheVariants.{Out, Not, In}
 use Rattle.nef_near.specs.Cells.{frame, carriers, SameSlopes}
 use Rattle.nef_near.specs.Cones.{NearGerm, SameCone}
 use Rattle.nef_near.proofs.Cells.{lies-left, lies-right}
-use Rattle.nef_near.proofs.Germs.{Germ-unique, label-one, short_enough, sample, sample-short}
+use Rattle.nef_near.proofs.Germs.{Germ-unique, label-one, sample, sample-short}
 use Rattle.nef_near.proofs.Flats.{Germ-by_signs}
-use Rattle.nef_near.proofs.Decided.{Decided, Holds-decided, InFrame-decided, label_of, germ_of, every, decided-both, decided-not, decided-to, ways, way_of, to_vector}
+use Rattle.nef_near.proofs.Decided.{Decided, Holds-decided, label_of, germ_of, every, decided-not, decided-to, ways, way_of, to_vector}
 use Rattle.nef_near.proofs.Rays.{decided-zero}
 use Rattle.nef_near.proofs.NearGerms.{near-from_there, there-from_near}
 
@@ -106,8 +105,8 @@ all-directions s p l = by (representatives (axes ++ carriers s))
     by (vs, f) = ⊎_elim
         (λ c. inr (found c.0 c.2))
         (λ g. inl (λ d i.
-            let v = f d in
-            Germ-by_signs s p v.0 d (λ h m o. sym (v.2 h (lies-right axes (carriers s) h m))) l (g v.0 v.1 (still-direction (carriers s) d v.0 v.2 i))))
+        let v = f d in
+        Germ-by_signs s p v.0 d (λ h m o. sym (v.2 h (lies-right axes (carriers s) h m))) l (g v.0 v.1 (still-direction (carriers s) d v.0 v.2 i))))
         (every vs (λ v. IsDirection v → Germ s p v l) (λ v. decided-to (decided-not (⊎_elim (λ z. inl z) (λ i. inr i) (decided-zero v))) (germ-decided s p v l)))
 
 -- ---- near directions

@@ -1,15 +1,14 @@
 -- The first point of a segment from which on a decided predicate doesn't hold any more.
-use Rattle.std.proofs.Common.{◌≡◌, ℕ, zero, suc, ◌+◌, ◌<◌, ◌≤◌, ℤ, pos, arith, refl, ap, sym, ◌∙◌, ◌⊎◌, inl, inr, ⊎_elim, ◌↔◌, List, [], ◌∷◌, true, false}
-use Rattle.nef_exact.specs.Signs.{sign, Lies}
-use Rattle.nef_space.specs.Place.{Place, Form, Within, SamePlace, toward, IsBetween}
-use Rattle.nef_space.specs.Vectors.{Vector, IsZero, IsDirection, SameDirection}
-use Rattle.nef_near.specs.Cells.{sign_at, SameSigns}
-use Rattle.nef_near.specs.Laws.{IsSettled, FirstChange}
-use Rattle.nef_near.specs.Cones.{IsOnSegment}
+use Rattle.std.proofs.Common.{◌≡◌, ℕ, zero, suc, ◌<◌, arith, refl, sym, ◌∙◌, ◌⊎◌, inl, inr, ⊎_elim, List, true, false}
+use Rattle.nef_exact.specs.Signs.{Lies}
+use Rattle.nef_space.specs.Place.{Place, Form, Within, toward, IsBetween}
+use Rattle.nef_space.specs.Vectors.{IsZero, IsDirection}
+use Rattle.nef_near.specs.Cells.{SameSigns}
+use Rattle.nef_near.specs.Laws.{IsSettled, FirstChange, FirstPoint}
 use Rattle.nef_near.proofs.Cells.{Cells}
-use Rattle.nef_near.proofs.Rays.{decided-zero, square-positive, signs-same, same-place_sym, toward-self, direction-of_same}
+use Rattle.nef_near.proofs.Rays.{decided-zero, signs-same, same-place_sym, toward-self, direction-of_same}
 use Rattle.nef_near.proofs.Segment.{mix, crosses, crossings, find-crossing, settled-segment}
-use Rattle.nef_near.proofs.FirstHit.{Strictly, sign-strictly, strictly-mix, strictly-left, strictly-right, strictly-turned, nearer, before-at-after, split, Split, First, first-hit}
+use Rattle.nef_near.proofs.FirstHit.{Strictly, sign-strictly, strictly-mix, strictly-left, strictly-right, strictly-turned, nearer, before-at-after, split, First, first-hit}
 use Rattle.nef_near.proofs.Between.{strictly-from_between, between-from_strictly, strictly-same, on-segment_of}
 
 -- P stands at p. It fails right after p, or it stands up to x and fails at x or right after x
@@ -75,7 +74,7 @@ module _ (hs : List Form) (P : Place → Type 0) (C : Cells hs P) (D : (r : Plac
   at-itself : (p r : Place) → P p → IsBetween p r p → P r
   at-itself p r h b = C p r (signs-same hs p r (same-place_sym r p (strictly-same p p r (strictly-from_between p p r b) (toward-self p)))) h
 
-  -- THE FIRST CHANGE
+  -- the first change
   pub first-change : (p q : Place) → P p → ((r : Place) → IsBetween p r q → P r) ⊎ FirstChange P p q
   first-change p q h = by (decided-zero (toward p q)) (change-strictly (suc (crossings hs p q)) p q (omega arith) h)
     where
@@ -102,25 +101,18 @@ module _ (hs : List Form) (P : Place → Type 0) (C : Cells hs P) (D : (r : Plac
       })
 
 module _ (hs : List Form) (P : Place → Type 0) (C : Cells hs P) where
-  -- WHAT IS SETTLED ALONG A SEGMENT IS THE SAME AT BOTH ENDS
+  -- what is settled along a segment is the same at both ends
   pub settled-along : (p q : Place) → IsSettled P p q → P p → P q
   settled-along p q S h = settled-segment hs P C (suc (crossings hs p q)) p q (omega arith)
       (λ r b. let k = S r (on-segment_of p q r b) in (k.0, k.1, λ s c w. k.2 s (on-segment_of p q s c) w)) h
 
--- r is the first point between p and q at which P holds
-pub record FirstBetween (P : Place → Type 0) (p q : Place) : Type 0 where
-  pub at_place : Place
-  pub between : IsBetween p at_place q
-  pub holds : P at_place
-  pub none_before : (s : Place) → IsBetween p s at_place → P s → ⊥
-
 module _ (hs : List Form) (P : Place → Type 0) (C : Cells hs P) (D : (r : Place) → P r ⊎ (P r → ⊥))
     (open-not : (r : Place) → (P r → ⊥) → (n : ℕ) × (0 < n) × ((s : Place) → Within n r s → P s → ⊥)) where
-  -- THE FIRST HIT
-  pub first-between : (p q : Place) → (P p → ⊥) → ((r : Place) → IsBetween p r q → P r → ⊥) ⊎ FirstBetween P p q
+  -- the first hit
+  pub first-between : (p q : Place) → (P p → ⊥) → ((r : Place) → IsBetween p r q → P r → ⊥) ⊎ FirstPoint P p q
   first-between p q z = by (decided-zero (toward p q)) (first-hit hs P C D open-not (suc (crossings hs p q)) p q (omega arith) z)
     where
-      by : IsZero (toward p q) ⊎ IsDirection (toward p q) → ((s : Place) → Strictly p q s → P s → ⊥) ⊎ First P p q → ((r : Place) → IsBetween p r q → P r → ⊥) ⊎ FirstBetween P p q
+      by : IsZero (toward p q) ⊎ IsDirection (toward p q) → ((s : Place) → Strictly p q s → P s → ⊥) ⊎ First P p q → ((r : Place) → IsBetween p r q → P r → ⊥) ⊎ FirstPoint P p q
       by (inl o) c = inl (λ r b x. z (C r p (signs-same hs r p (strictly-same p q r (strictly-from_between p q r b) o)) x))
       by (inr d) (inl f) = inl (λ r b. f r (strictly-from_between p q r b))
       by (inr d) (inr f) = inr (record {

@@ -1,15 +1,15 @@
 -- The first point of a segment at which a closed predicate holds.
-use Rattle.std.proofs.Common.{◌≡◌, ℕ, zero, suc, ◌+◌, ◌-◌, ◌*◌, ◌<◌, ◌≤◌, ℤ, pos, negsuc, ◌+ℤ◌, ◌-ℤ◌, ◌*ℤ◌, ◌≤ℤ◌, ◌<ℤ◌, nat_abs, arith, refl, ap, sym, ◌∙◌, ◌⊎◌, inl, inr, ⊎_elim, List, [], ◌∷◌, subst, Bool, true, false}
+use Rattle.std.proofs.Common.{◌≡◌, ℕ, zero, suc, ◌+◌, ◌-◌, ◌*◌, ◌<◌, ℤ, pos, ◌+ℤ◌, ◌*ℤ◌, nat_abs, arith, refl, ap, sym, ◌∙◌, ◌⊎◌, inl, inr, ⊎_elim, List, [], ◌∷◌, true, false}
 use Rattle.std.proofs.lemmas.Int.{ints}
 use Rattle.std.proofs.lemmas.Bool.{cases_order}
 use Rattle.std.proofs.Math.Nat.{mul-pos}
-use Rattle.nef_exact.proofs.Ring.{ring, value, at, num, ◌⊕◌, ◌⊖◌, ◌⊗◌, Poly}
-use Rattle.nef_exact.proofs.Combination.{Given, none, given, follows}
+use Rattle.nef_exact.proofs.Ring.{at, num, ◌⊕◌, ◌⊖◌, ◌⊗◌}
+use Rattle.nef_exact.proofs.Combination.{none, given, follows}
 use Rattle.nef_exact.proofs.Order.{Sign, minus, nought, plus, sign, sign_times, sign-plus, sign_of_product}
 use Rattle.nef_exact.specs.Signs.{Lies}
-use Rattle.nef_near.specs.Cells.{sign_at, frame, carriers, SameSigns}
+use Rattle.nef_near.specs.Cells.{sign_at}
 use Rattle.nef_space.specs.Place.{Place, Form, form_at, Within}
-use Rattle.nef_near.proofs.Cells.{same-sym, Cells}
+use Rattle.nef_near.proofs.Cells.{Cells}
 use Rattle.nef_near.proofs.Segment.{mix, form-mix, mix-close, far, crosses, crossings, find-crossing, crossings-less, opposite, opposite-left, opposite-right, joint, sign-inside, balance}
 
 -- r lies strictly between p and q: k r = i p + j q
@@ -208,7 +208,7 @@ pub record First (P : Place → Type 0) (p q : Place) : Type 0 where
 
 module _ (hs : List Form) (P : Place → Type 0) (C : Cells hs P) (D : (r : Place) → P r ⊎ (P r → ⊥))
     (open-not : (r : Place) → (P r → ⊥) → (n : ℕ) × (0 < n) × ((s : Place) → Within n r s → P s → ⊥)) where
-  -- THE FIRST HIT
+  -- the first hit
   pub first-hit : (n : ℕ) (p q : Place) → crossings hs p q < n → (P p → ⊥) → ((s : Place) → Strictly p q s → P s → ⊥) ⊎ First P p q
   first-hit zero p q l z = absurd (omega arith)
   first-hit (suc n) p q l z = by (λ r s k y. first-hit n r s k y) (find-crossing p q hs)

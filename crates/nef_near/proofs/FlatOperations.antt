@@ -1,19 +1,18 @@
 -- A direction that is flat for the operands is flat for what is made of them.
-use Rattle.std.proofs.Common.{◌≡◌, ℕ, zero, suc, ◌+◌, ◌*◌, ◌<◌, ◌≤◌, ℤ, pos, ◌+ℤ◌, ◌*ℤ◌, arith, refl, ap, sym, ◌∙◌, ◌⊎◌, inl, inr, ⊎_elim, ◌↔◌, List, [], ◌∷◌, subst}
-use Rattle.std.proofs.lemmas.Int.{ints}
+use Rattle.std.proofs.Common.{◌≡◌, ℕ, ◌*◌, ◌<◌, ◌≤◌, ℤ, pos, ◌+ℤ◌, ◌*ℤ◌, arith, inl, inr, ⊎_elim, ◌↔◌, [], ◌∷◌, subst}
 use Rattle.std.proofs.Math.Nat.{le-mul_of_pos_right}
-use Rattle.nef_exact.proofs.Ring.{ring, value, at, num, ◌⊕◌, ◌⊖◌, ◌⊗◌}
+use Rattle.nef_exact.proofs.Ring.{ring, at, num, ◌⊕◌, ◌⊗◌}
 use Rattle.nef_space.specs.Place.{Place}
 use Rattle.nef_space.specs.Vectors.{Vector, blend}
 use Rattle.nef_space.specs.Sets.{Set}
-use Rattle.nef_space.specs.Local.{HasLabel, Germ, Flat}
+use Rattle.nef_space.specs.Local.{Germ, Flat}
 use Rattle.nef_space.specs.declared.label.Label.{Label}
 use Rattle.nef_space.specs.declared.label.Label.TheVariants.{Out, Not, In}
-use Rattle.nef_near.specs.Cones.{slide, combination, NearGerm, FlatCone, label_and, label_or, label_not, label_less, label_one_of}
+use Rattle.nef_near.specs.Cones.{slide, combination, NearGerm, FlatCone, label_not}
 use Rattle.nef_near.proofs.Germs.{Germ-unique}
 use Rattle.nef_near.proofs.Flats.{Flat-from_cone, FlatCone-from_flat, FlatCone-add, FlatCone-scale, scaled, vector-same}
 use Rattle.nef_near.proofs.Decided.{germ_of}
-use Rattle.nef_near.proofs.Combine.{and-label, or-label, not-label, less-label, one_of-label, ByLabels, flat-by}
+use Rattle.nef_near.proofs.Combine.{not-label, ByLabels, flat-by}
 use Rattle.nef_near.proofs.Decisions.{near-germ_of, near-germ_one}
 use Rattle.nef_near.proofs.Topology.{SomewhereNear, inside-toward, closed-toward, border-toward, regular-toward}
 
@@ -54,9 +53,6 @@ flat-by_in : (a t : Set) (p : Place) (d : Vector) → FlatCone a p d → ((v : V
     → ((v : Vector) (b : ℕ) (s : ℤ) → 0 < b → Germ t p v In ↔ Germ t p (slide b v s d) In) → FlatCone t p d
 flat-by_in a t p d f out in_same v b s some = by
   where
-    w : Vector
-    w = slide b v s d
-
     out_same : Germ t p v Out ↔ Germ t p (slide b v s d) Out
     out_same = (λ g. (out (slide b v s d)).1 ((f v b s some Out).0 ((out v).0 g)), λ g. (out v).1 ((f v b s some Out).1 ((out (slide b v s d)).0 g)))
 

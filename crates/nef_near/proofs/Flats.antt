@@ -1,21 +1,20 @@
 -- Near a point a set is a cone, and its flat directions are a space.
-use Rattle.std.proofs.Common.{◌≡◌, ℕ, zero, suc, ◌+◌, ◌*◌, ◌<◌, ◌≤◌, ℤ, pos, negsuc, ◌+ℤ◌, ◌-ℤ◌, ◌*ℤ◌, neg_ℤ, ◌≤ℤ◌, ◌<ℤ◌, nat_abs, arith, refl, ap, sym, ◌∙◌, ◌⊎◌, inl, inr, ⊎_elim, ◌↔◌, List, [], ◌∷◌, ◌++◌, subst, Bool, true, false}
-use Rattle.std.proofs.lemmas.Int.{ints, unsigned_abs-mul, by_lt_z}
-use Rattle.std.proofs.Math.Nat.{mul-pos, mul-lt-mul_of_pos_left, lt_of_mul-lt-mul_left}
-use Rattle.nef_exact.proofs.Ring.{ring, is_zero, IsNought, value, at, num, ◌⊕◌, ◌⊖◌, ◌⊗◌, Poly}
-use Rattle.nef_exact.proofs.Order.{Sign, minus, nought, plus, sign, sign_times, sign-plus, sign-minus, plus-is, minus-is, nought-is, sign_of_product, mul_pos}
+use Rattle.std.proofs.Common.{◌≡◌, ℕ, ◌+◌, ◌*◌, ◌<◌, ℤ, pos, ◌+ℤ◌, ◌-ℤ◌, ◌*ℤ◌, ◌<ℤ◌, nat_abs, arith, ap, sym, ◌∙◌, [], ◌∷◌, subst}
+use Rattle.std.proofs.lemmas.Int.{ints, unsigned_abs-mul}
+use Rattle.std.proofs.Math.Nat.{mul-pos, mul-lt-mul_of_pos_left}
+use Rattle.nef_exact.proofs.Ring.{ring, at, num, ◌⊕◌, ◌⊖◌, ◌⊗◌}
+use Rattle.nef_exact.proofs.Order.{nought, sign, sign_times, sign-plus, nought-is, sign_of_product, mul_pos}
 use Rattle.nef_exact.specs.Signs.{Lies}
 use Rattle.nef_near.specs.Cones.{slide, FlatCone}
-use Rattle.nef_near.specs.Cells.{sign_at, frame, carriers, SameSigns}
-use Rattle.nef_space.specs.Place.{Place, Form, form_at, slope, Ratio, step, Near, Within, InFrame, toward}
+use Rattle.nef_near.specs.Cells.{sign_at, carriers}
+use Rattle.nef_space.specs.Place.{Place, Form, form_at, slope, Ratio, step, Within, toward}
 use Rattle.nef_space.specs.Vectors.{Vector, vector}
-use Rattle.nef_space.specs.Sets.{Set, Holds, Interior, Closure, InHalf, halves}
+use Rattle.nef_space.specs.Sets.{Set}
 use Rattle.nef_space.specs.Local.{IsShort, HasLabel, Germ, Flat}
 use Rattle.nef_space.specs.declared.label.Label.{Label}
-use Rattle.nef_space.specs.declared.label.Label.TheVariants.{Out, Not, In}
-use Rattle.nef_near.proofs.Near.{form-step, slope-toward, weaken, reach, keeps, stride, step-within}
-use Rattle.nef_near.proofs.Cells.{Keeps, same-sym, reach_all, reach-some, keeps-all, Cells, Inside, InFrame-cells, Holds-cells, is_nought, lies-left, lies-right}
-use Rattle.nef_near.proofs.Germs.{SameThrough, locality, sign-along, short_enough, along-same}
+use Rattle.nef_near.proofs.Near.{form-step, slope-toward, weaken, stride, step-within}
+use Rattle.nef_near.proofs.Cells.{reach_all, reach-some}
+use Rattle.nef_near.proofs.Germs.{locality, sign-along, short_enough}
 
 -- a form through p has at q the sign of its slope toward q
 pub sign-toward : (h : Form) (p q : Place) → sign_at h p ≡ nought → sign_at h q ≡ sign (slope h (toward p q))
@@ -106,7 +105,7 @@ slope-slide h b e a d = ring (h.a ∷ h.b ∷ h.c ∷ pos b ∷ a ∷ e.x ∷ e.
     (at 0 ⊗ (at 3 ⊗ at 5 ⊕ at 4 ⊗ at 8) ⊕ at 1 ⊗ (at 3 ⊗ at 6 ⊕ at 4 ⊗ at 9) ⊕ at 2 ⊗ (at 3 ⊗ at 7 ⊕ at 4 ⊗ at 10))
     (at 3 ⊗ (at 0 ⊗ at 5 ⊕ at 1 ⊗ at 6 ⊕ at 2 ⊗ at 7) ⊕ at 4 ⊗ (at 0 ⊗ at 8 ⊕ at 1 ⊗ at 9 ⊕ at 2 ⊗ at 10)) tt
 
--- a direction in all halves through p is flat
+-- a direction in all carriers through p is flat
 pub FlatCone-from_carriers : (s : Set) (p : Place) (d : Vector) → ((h : Form) → Lies (carriers s) h → sign_at h p ≡ nought → slope h d ≡ pos 0) → FlatCone s p d
 FlatCone-from_carriers s p d flat e b a some m =
     (Germ-by_signs s p e (slide b e a d) (λ h l o. sym (same h l o)) m, Germ-by_signs s p (slide b e a d) e same m)

@@ -1,13 +1,13 @@
 -- The frame is open, and outside its closure nothing changes.
-use Rattle.std.proofs.Common.{◌≡◌, ℕ, zero, suc, ◌+◌, ◌*◌, ◌<◌, ◌≤◌, ℤ, pos, negsuc, ◌+ℤ◌, ◌-ℤ◌, ◌*ℤ◌, neg_ℤ, ◌≤ℤ◌, ◌<ℤ◌, nat_abs, arith, refl, ap, sym, ◌∙◌, ◌⊎◌, inl, inr, ⊎_elim, ◌↔◌, List, [], ◌∷◌, subst}
+use Rattle.std.proofs.Common.{◌≡◌, ◌+◌, ◌*◌, ℤ, pos, negsuc, neg_ℤ, ◌≤ℤ◌, ◌<ℤ◌, arith, refl, sym, inl, inr, ◌↔◌, subst}
 use Rattle.std.proofs.lemmas.Int.{ints, by_lt_z}
-use Rattle.nef_exact.specs.Signs.{Sign, minus, nought, plus, sign, Lies}
+use Rattle.nef_exact.specs.Signs.{Sign, minus, nought, plus, Lies}
 use Rattle.nef_exact.proofs.Order.{sign-plus}
 use Rattle.nef_space.specs.Limits.{half_side}
 use Rattle.nef_space.specs.Place.{Place, Form, form_at, Ratio, step, Within, InFrame, InClosedFrame}
-use Rattle.nef_space.specs.Vectors.{Vector, vector, triple}
-use Rattle.nef_space.specs.Sets.{Set, Holds}
-use Rattle.nef_space.specs.Local.{IsShort, HasLabel, Germ, Flat, FlatDim}
+use Rattle.nef_space.specs.Vectors.{Vector, vector}
+use Rattle.nef_space.specs.Sets.{Set}
+use Rattle.nef_space.specs.Local.{HasLabel, Germ, Flat, FlatDim}
 use Rattle.nef_space.specs.declared.label.Label.{Label}
 use Rattle.nef_space.specs.declared.label.Label.TheVariants.{Out, Not, In}
 use Rattle.nef_near.specs.Cells.{sign_at, side, frame}
@@ -63,14 +63,14 @@ beyond p n =
     (λ h. record { side_of = side (pos 1) (pos 0) (pos 0); listed = inl refl; above = sign-plus (form_at (side (pos 1) (pos 0) (pos 0)) p) (omega (arith, ints)) })
     (λ h. record { side_of = side (negsuc 0) (pos 0) (pos 0); listed = inr (inl refl); above = sign-plus (form_at (side (negsuc 0) (pos 0) (pos 0)) p) (omega (arith, ints)) })
     (λ x0 x1.
-        far p.y (pos (half_side * p.w))
-        (λ h. record { side_of = side (pos 0) (pos 1) (pos 0); listed = inr (inr (inl refl)); above = sign-plus (form_at (side (pos 0) (pos 1) (pos 0)) p) (omega (arith, ints)) })
-        (λ h. record { side_of = side (pos 0) (negsuc 0) (pos 0); listed = inr (inr (inr (inl refl))); above = sign-plus (form_at (side (pos 0) (negsuc 0) (pos 0)) p) (omega (arith, ints)) })
-        (λ y0 y1.
-            far p.z (pos (half_side * p.w))
-            (λ h. record { side_of = side (pos 0) (pos 0) (pos 1); listed = inr (inr (inr (inr (inl refl)))); above = sign-plus (form_at (side (pos 0) (pos 0) (pos 1)) p) (omega (arith, ints)) })
-            (λ h. record { side_of = side (pos 0) (pos 0) (negsuc 0); listed = inr (inr (inr (inr (inr (inl refl))))); above = sign-plus (form_at (side (pos 0) (pos 0) (negsuc 0)) p) (omega (arith, ints)) })
-            (λ z0 z1. absurd (n (record { along_x = omega (arith, ints); along_y = omega (arith, ints); along_z = omega (arith, ints) })))))
+    far p.y (pos (half_side * p.w))
+    (λ h. record { side_of = side (pos 0) (pos 1) (pos 0); listed = inr (inr (inl refl)); above = sign-plus (form_at (side (pos 0) (pos 1) (pos 0)) p) (omega (arith, ints)) })
+    (λ h. record { side_of = side (pos 0) (negsuc 0) (pos 0); listed = inr (inr (inr (inl refl))); above = sign-plus (form_at (side (pos 0) (negsuc 0) (pos 0)) p) (omega (arith, ints)) })
+    (λ y0 y1.
+    far p.z (pos (half_side * p.w))
+    (λ h. record { side_of = side (pos 0) (pos 0) (pos 1); listed = inr (inr (inr (inr (inl refl)))); above = sign-plus (form_at (side (pos 0) (pos 0) (pos 1)) p) (omega (arith, ints)) })
+    (λ h. record { side_of = side (pos 0) (pos 0) (negsuc 0); listed = inr (inr (inr (inr (inr (inl refl))))); above = sign-plus (form_at (side (pos 0) (pos 0) (negsuc 0)) p) (omega (arith, ints)) })
+    (λ z0 z1. absurd (n (record { along_x = omega (arith, ints); along_y = omega (arith, ints); along_z = omega (arith, ints) })))))
   where
     far : (x b : ℤ) → (b <ℤ x → Beyond p) → (x <ℤ neg_ℤ b → Beyond p) → (x ≤ℤ b → neg_ℤ b ≤ℤ x → Beyond p) → Beyond p
     far x b f g h = by_lt_z b x f (λ k. by_lt_z x (neg_ℤ b) g (h k))

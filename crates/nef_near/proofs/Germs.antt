@@ -1,18 +1,18 @@
--- Near a point only the halves through it matter; along a ray the label settles at once.
-use Rattle.std.proofs.Common.{◌≡◌, ℕ, zero, suc, ◌+◌, ◌*◌, ◌<◌, ◌≤◌, ℤ, pos, negsuc, ◌+ℤ◌, ◌-ℤ◌, ◌*ℤ◌, neg_ℤ, ◌≤ℤ◌, ◌<ℤ◌, nat_abs, arith, refl, ap, sym, ◌∙◌, ◌⊎◌, inl, inr, ⊎_elim, ◌↔◌, List, [], ◌∷◌, ◌++◌, subst, Bool, true, false}
-use Rattle.std.proofs.lemmas.Int.{ints, unsigned_abs-mul, by_lt_z}
-use Rattle.nef_exact.proofs.Ring.{ring, is_zero, IsNought, value, at, num, ◌⊕◌, ◌⊖◌, ◌⊗◌, Poly}
-use Rattle.nef_exact.proofs.Order.{Sign, minus, nought, plus, sign, sign_times, sign-plus, sign-minus, plus-is, minus-is, nought-is, sign_of_product, mul_pos}
+-- Near a point only the carriers through it matter; along a ray the label settles at once.
+use Rattle.std.proofs.Common.{◌≡◌, ℕ, ◌+◌, pos, ◌+ℤ◌, ◌*ℤ◌, ◌<ℤ◌, arith, refl, ap, sym, ◌∙◌, ⊎_elim, List, [], ◌∷◌}
+use Rattle.std.proofs.lemmas.Int.{ints}
+use Rattle.nef_exact.proofs.Ring.{ring, at, num, ◌⊕◌, ◌⊗◌}
+use Rattle.nef_exact.proofs.Order.{nought, sign, sign_times, sign-plus, nought-is, sign_of_product, mul_pos}
 use Rattle.nef_exact.specs.Signs.{Lies}
 use Rattle.nef_near.specs.Cells.{sign_at, frame, carriers, SameSigns}
-use Rattle.nef_space.specs.Place.{Place, Form, form_at, slope, Ratio, step, Near, Within, InFrame, toward}
+use Rattle.nef_space.specs.Place.{Place, Form, form_at, slope, Ratio, step, Within, InFrame}
 use Rattle.nef_space.specs.Vectors.{Vector}
-use Rattle.nef_space.specs.Sets.{Set, Holds, Interior, Closure, InHalf, halves}
-use Rattle.nef_space.specs.Local.{IsShort, HasLabel, Germ, Flat}
+use Rattle.nef_space.specs.Sets.{Set, Holds, halves}
+use Rattle.nef_space.specs.Local.{IsShort, HasLabel, Germ}
 use Rattle.nef_space.specs.declared.label.Label.{Label}
 use Rattle.nef_space.specs.declared.label.Label.TheVariants.{Out, Not, In}
-use Rattle.nef_near.proofs.Near.{form-step, slope-toward, weaken, reach, keeps, stride, step-within}
-use Rattle.nef_near.proofs.Cells.{Keeps, same-sym, reach_all, reach-some, keeps-all, Cells, Inside, InFrame-cells, Holds-cells, is_nought, lies-left, lies-right}
+use Rattle.nef_near.proofs.Near.{form-step, stride, step-within}
+use Rattle.nef_near.proofs.Cells.{same-sym, reach_all, keeps-all, Cells, InFrame-cells, Holds-cells, is_nought, lies-left, lies-right}
 
 -- q and r have the same signs at the forms through p
 abbrev pub SameThrough : List Form → Place → Place → Place → Type 0
@@ -35,7 +35,7 @@ Label-cells s m = by m
     by Not p q same n = (inner p q same n.0, λ i. n.1 (holds q p (same-sym (carriers s) p q same) i))
     by In p q same n = (inner p q same n.0, holds p q same n.1)
 
--- LOCALITY: close to p the label depends only on the signs at the halves through p
+-- close to p the label depends only on the signs at the carriers through p
 pub locality : (s : Set) (m : Label) (p q r : Place) → Within (reach_all (carriers s) p) p q → Within (reach_all (carriers s) p) p r → SameThrough (carriers s) p q r → HasLabel s q m → HasLabel s r m
 locality s m p q r c d same = Label-cells s m q r (near-same (carriers s) p q r c d same)
 

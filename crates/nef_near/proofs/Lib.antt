@@ -16,3 +16,12 @@ pub mod Segment
 pub mod FirstHit
 pub mod Between
 pub mod FirstChange
+pub mod Examples
+pub mod FlatDecided
+pub mod Even
+pub mod Generic
+pub mod Skeleton
+pub mod Edges
+pub mod Vertices
+pub mod Determined
+pub mod Supports

@@ -1,25 +1,22 @@
--- A vertex is the common point of three halves with independent normals.
-use Rattle.std.proofs.Common.{◌≡◌, ℕ, zero, suc, ◌+◌, ℤ, pos, negsuc, ◌+ℤ◌, ◌-ℤ◌, ◌*ℤ◌, ◌≤ℤ◌, ◌<ℤ◌, arith, refl, ap, sym, ◌∙◌, ◌⊎◌, inl, inr, ⊎_elim, List, [], ◌∷◌, subst}
+-- A vertex is the common point of three carriers with independent normals.
+use Rattle.std.proofs.Common.{◌≡◌, ℤ, pos, ◌+ℤ◌, ◌-ℤ◌, ◌*ℤ◌, arith, refl, ap, ◌∙◌, ◌⊎◌, inl, inr, ⊎_elim, List, [], ◌∷◌, subst}
 use Rattle.std.proofs.lemmas.Int.{ints}
 use lib.IntN.{*ℤ-zero}
-use Rattle.nef_exact.proofs.Ring.{ring, value, at, num, ◌⊕◌, ◌⊖◌, ◌⊗◌, Poly}
-use Rattle.nef_exact.proofs.Order.{Sign, nought, sign, by_order}
+use Rattle.nef_exact.proofs.Ring.{ring, at, num, ◌⊕◌, ◌⊖◌, ◌⊗◌}
+use Rattle.nef_exact.proofs.Order.{nought}
 use Rattle.nef_exact.specs.Signs.{Lies}
 use Rattle.nef_near.specs.Cones.{IsMeet}
-use Rattle.nef_near.specs.Cells.{sign_at, frame, carriers, SameSigns}
-use Rattle.nef_space.specs.Place.{Place, Form, form_at, slope, normal_of}
+use Rattle.nef_near.specs.Cells.{sign_at, carriers}
+use Rattle.nef_space.specs.Place.{Place, Form, slope, normal_of}
 use Rattle.nef_space.specs.Vectors.{Vector, IsDirection, IsZero, cross, triple}
-use Rattle.nef_space.specs.Sets.{Set, halves}
-use Rattle.nef_space.specs.Local.{IsVertex, Flat}
+use Rattle.nef_space.specs.Sets.{Set}
+use Rattle.nef_space.specs.Local.{IsVertex}
 use Rattle.nef_near.proofs.Rays.{zero-or, decided-zero}
 use Rattle.nef_near.proofs.Cells.{is_nought}
 use Rattle.nef_near.proofs.Flats.{Flat-from_cone, FlatCone-from_carriers}
 
 abbrev six : Vector → Vector → Vector → List ℤ
 six a b c = a.x ∷ a.y ∷ a.z ∷ b.x ∷ b.y ∷ b.z ∷ c.x ∷ c.y ∷ c.z ∷ []
-
-abbrev dot-p : ℕ → ℕ → Poly
-dot-p a b = at a ⊗ at b ⊕ at (a + 1) ⊗ at (b + 1) ⊕ at (a + 2) ⊗ at (b + 2)
 
 -- b.(a x c) with a x b nought
 slope-first : (h : Form) (n e : Vector) → IsZero (cross n (normal_of h)) → slope h (cross n e) ≡ pos 0
@@ -41,7 +38,7 @@ slope-second h n m e = ring (six n m (normal_of h))
     (at 6 ⊗ (at 1 ⊗ at 5 ⊖ at 2 ⊗ at 4) ⊕ at 7 ⊗ (at 2 ⊗ at 3 ⊖ at 0 ⊗ at 5) ⊕ at 8 ⊗ (at 0 ⊗ at 4 ⊖ at 1 ⊗ at 3))
     (at 0 ⊗ (at 4 ⊗ at 8 ⊖ at 5 ⊗ at 7) ⊕ at 1 ⊗ (at 5 ⊗ at 6 ⊖ at 3 ⊗ at 8) ⊕ at 2 ⊗ (at 3 ⊗ at 7 ⊖ at 4 ⊗ at 6)) tt ∙ e
 
-slope-none : (h : Form) (d : Vector) → IsZero (normal_of h) → slope h d ≡ pos 0
+pub slope-none : (h : Form) (d : Vector) → IsZero (normal_of h) → slope h d ≡ pos 0
 slope-none h d z =
     ap (λ r. r *ℤ d.x +ℤ h.b *ℤ d.y +ℤ h.c *ℤ d.z) z.0 ∙ ap (λ r. pos 0 *ℤ d.x +ℤ r *ℤ d.y +ℤ h.c *ℤ d.z) z.1 ∙ ap (λ r. pos 0 *ℤ d.x +ℤ pos 0 *ℤ d.y +ℤ r *ℤ d.z) z.2
     ∙ ring (d.x ∷ d.y ∷ d.z ∷ []) (num (pos 0) ⊗ at 0 ⊕ num (pos 0) ⊗ at 1 ⊕ num (pos 0) ⊗ at 2) (num (pos 0)) tt
@@ -59,7 +56,7 @@ cross-none n m z = (one n.y n.z m.z m.y z.2 z.1, one n.z n.x m.x m.z z.0 z.2, on
     one : (a b x y : ℤ) → x ≡ pos 0 → y ≡ pos 0 → a *ℤ x -ℤ b *ℤ y ≡ pos 0
     one a b x y e f = let i = ap (λ r. a *ℤ r) e ∙ *ℤ-zero a in let j = ap (λ r. b *ℤ r) f ∙ *ℤ-zero b in omega (arith, ints)
 
-cross-self : (n : Vector) → IsZero (cross n n)
+pub cross-self : (n : Vector) → IsZero (cross n n)
 cross-self n = (ring (n.x ∷ n.y ∷ n.z ∷ []) (at 1 ⊗ at 2 ⊖ at 2 ⊗ at 1) (num (pos 0)) tt, ring (n.x ∷ n.y ∷ n.z ∷ []) (at 2 ⊗ at 0 ⊖ at 0 ⊗ at 2) (num (pos 0)) tt, ring (n.x ∷ n.y ∷ n.z ∷ []) (at 0 ⊗ at 1 ⊖ at 1 ⊗ at 0) (num (pos 0)) tt)
 
 triple-same : (n m : Vector) → triple n m m ≡ pos 0
@@ -125,6 +122,6 @@ module _ (hs : List Form) (p : Place) where
       by (rank_2 a b l o m q d f) = inr (cross (normal_of a) (normal_of b), d, λ h i r. slope-second h (normal_of a) (normal_of b) (f h i r))
       by (rank_3 m) = inl m
 
--- A VERTEX IS A MEET OF THREE CARRIERS
+-- a vertex is a meet of three carriers
 pub vertex-meets : (s : Set) (p : Place) → IsVertex s p → IsMeet (carriers s) p
 vertex-meets s p v = ⊎_elim (λ m. m) (λ w. absurd (v.1 (w.0, w.1, Flat-from_cone s p w.0 (FlatCone-from_carriers s p w.0 w.2)))) (meet_or_way (carriers s) p)

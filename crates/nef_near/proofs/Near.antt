@@ -1,12 +1,12 @@
 -- Close to a point the sign of a form that isn't nought there stays, and short steps stay close.
-use Rattle.std.proofs.Common.{◌≡◌, ℕ, zero, suc, ◌+◌, ◌*◌, ◌<◌, ◌≤◌, ℤ, pos, negsuc, ◌+ℤ◌, ◌-ℤ◌, ◌*ℤ◌, neg_ℤ, ◌≤ℤ◌, ◌<ℤ◌, nat_abs, arith, refl, ap, sym, ◌∙◌, ◌⊎◌, inl, inr, ⊎_elim, List, [], ◌∷◌, subst}
-use Rattle.std.proofs.lemmas.Int.{ints, unsigned_abs-mul, by_lt_z}
+use Rattle.std.proofs.Common.{◌≡◌, ℕ, ◌+◌, ◌*◌, ◌<◌, ◌≤◌, ℤ, pos, negsuc, ◌+ℤ◌, ◌-ℤ◌, ◌*ℤ◌, ◌<ℤ◌, nat_abs, arith, refl, ap, sym, ◌∙◌, ⊎_elim, [], ◌∷◌}
+use Rattle.std.proofs.lemmas.Int.{ints, unsigned_abs-mul}
 use Rattle.std.proofs.lemmas.Nat.{mul-le}
 use Rattle.std.proofs.lemmas.Bool.{cases_lt}
 use Rattle.std.proofs.Math.Nat.{mul-le-mul_left, mul-pos, mul-lt-mul_of_pos_right}
-use Rattle.nef_exact.proofs.Ring.{ring, is_zero, IsNought, value, at, num, ◌⊕◌, ◌⊖◌, ◌⊗◌, Poly}
-use Rattle.nef_exact.proofs.Order.{Sign, minus, nought, plus, sign, sign_times, sign-plus, sign-minus, plus-is, minus-is, nought-is, sign_of_product, abs_plus, abs_times, abs_minus, mul_pos, mul_nonneg, mul_le_right, cancel_lt}
-use Rattle.nef_space.specs.Place.{Place, Form, form_at, slope, Ratio, step, toward, Near, Within, InFrame}
+use Rattle.nef_exact.proofs.Ring.{ring, at, ◌⊕◌, ◌⊖◌, ◌⊗◌}
+use Rattle.nef_exact.proofs.Order.{Sign, minus, nought, plus, sign-plus, sign-minus, plus-is, minus-is, abs_plus, abs_times, mul_nonneg, mul_le_right, cancel_lt}
+use Rattle.nef_space.specs.Place.{Place, Form, form_at, slope, Ratio, step, toward, Within}
 use Rattle.nef_space.specs.Vectors.{Vector}
 use Rattle.nef_space.specs.Local.{IsShort}
 use Rattle.nef_near.specs.Cells.{sign_at}

@@ -1,29 +1,26 @@
--- The germ at a point of a ray is the germ near the ray's direction; so the interior is read off the germs.
-use Rattle.std.proofs.Common.{◌≡◌, ℕ, zero, suc, ◌+◌, ◌*◌, ◌<◌, ◌≤◌, ℤ, pos, negsuc, ◌+ℤ◌, ◌-ℤ◌, ◌*ℤ◌, neg_ℤ, ◌≤ℤ◌, ◌<ℤ◌, nat_abs, arith, refl, ap, sym, ◌∙◌, ◌⊎◌, inl, inr, ⊎_elim, ◌↔◌, List, [], ◌∷◌, subst}
-use Rattle.std.proofs.lemmas.Int.{ints, unsigned_abs-mul}
-use Rattle.nef_exact.proofs.Ring.{ring, value, at, num, ◌⊕◌, ◌⊖◌, ◌⊗◌}
-use Rattle.nef_exact.proofs.Order.{Sign, minus, nought, plus, sign, sign_times, sign-plus, sign-minus, plus-is, minus-is, nought-is, mul_le_right}
+-- The germ at a point of a ray is the germ near the ray's direction.
+use Rattle.std.proofs.Common.{◌≡◌, ℕ, zero, suc, ◌+◌, ◌<◌, ◌≤◌, ℤ, pos, negsuc, ◌+ℤ◌, ◌*ℤ◌, nat_abs, arith, refl, ap, sym, ◌∙◌, inl, inr, ⊎_elim, List, [], ◌∷◌, subst}
+use Rattle.std.proofs.lemmas.Int.{ints}
+use Rattle.nef_exact.proofs.Ring.{ring, at, num, ◌⊕◌, ◌⊗◌}
+use Rattle.nef_exact.proofs.Order.{nought, sign, sign-plus, sign-minus, nought-is, mul_le_right}
 use Rattle.nef_exact.specs.Signs.{Lies}
 use Rattle.nef_near.specs.Cones.{NearGerm}
-use Rattle.nef_near.specs.Cells.{sign_at, frame, carriers, SameSigns}
-use Rattle.nef_space.specs.Place.{Place, Form, form_at, slope, Ratio, step, Within, InFrame, toward}
+use Rattle.nef_near.specs.Cells.{sign_at, carriers, SameSigns}
+use Rattle.nef_space.specs.Place.{Place, Form, slope, Ratio, step, Within}
 use Rattle.nef_space.specs.Vectors.{Vector, blend}
-use Rattle.nef_space.specs.Sets.{Set, Holds, Interior, Closure}
-use Rattle.nef_space.specs.Local.{IsShort, HasLabel, Germ}
+use Rattle.nef_space.specs.Sets.{Set}
+use Rattle.nef_space.specs.Local.{IsShort, Germ}
 use Rattle.nef_space.specs.declared.label.Label.{Label}
-use Rattle.nef_space.specs.declared.label.Label.TheVariants.{Out, Not, In}
-use Rattle.nef_near.proofs.Near.{weaken, stride, step-within}
-use Rattle.nef_near.proofs.Cells.{same-sym, reach_all, reach-some, keeps-all, is_nought}
-use Rattle.nef_near.proofs.Germs.{Label-cells, locality, sign-along, short_enough, Germ-unique, label-one}
-use Rattle.nef_near.proofs.Flats.{slope-slide, germ-toward}
-use Rattle.nef_near.proofs.Decided.{label_of}
-use Rattle.nef_near.proofs.Combine.{shorter}
+use Rattle.nef_near.proofs.Near.{step-within}
+use Rattle.nef_near.proofs.Cells.{same-sym, reach_all, keeps-all, is_nought}
+use Rattle.nef_near.proofs.Germs.{Label-cells, sign-along, short_enough}
+use Rattle.nef_near.proofs.Flats.{slope-slide}
 
-abbrev steep : List Form → Vector → ℕ
+abbrev pub steep : List Form → Vector → ℕ
 steep [] e = 1
 steep (h ∷ hs) e = nat_abs (slope h e) + steep hs e
 
-steep-one : (hs : List Form) (h : Form) (e : Vector) → Lies hs h → nat_abs (slope h e) < steep hs e
+pub steep-one : (hs : List Form) (h : Form) (e : Vector) → Lies hs h → nat_abs (slope h e) < steep hs e
 steep-one [] h e l = absurd l
 steep-one (k ∷ ks) h e (inl i) = subst (λ (g : Form). nat_abs (slope g e) < steep (k ∷ ks) e) i (omega (arith, steep-some ks))
   where
@@ -33,7 +30,7 @@ steep-one (k ∷ ks) h e (inl i) = subst (λ (g : Form). nat_abs (slope g e) < s
 steep-one (k ∷ ks) h e (inr l) = let i = steep-one ks h e l in omega arith
 
 -- a large multiple decides
-sign-large : (x y : ℤ) (k : ℕ) → nat_abs y < k → (sign x ≡ nought → ⊥) → sign (pos k *ℤ x +ℤ pos 1 *ℤ y) ≡ sign x
+pub sign-large : (x y : ℤ) (k : ℕ) → nat_abs y < k → (sign x ≡ nought → ⊥) → sign (pos k *ℤ x +ℤ pos 1 *ℤ y) ≡ sign x
 sign-large (pos zero) y k h n = absurd (n refl)
 sign-large (pos (suc x)) y k h n = let a = mul_le_right (pos 1) (pos (suc x)) (pos k) (omega (arith, ints)) (omega (arith, ints)) in let b = ring (pos k ∷ pos (suc x) ∷ []) (at 0 ⊗ at 1) (at 1 ⊗ at 0) tt in
     sign-plus (pos k *ℤ pos (suc x) +ℤ pos 1 *ℤ y) (omega (arith, ints))
@@ -107,21 +104,3 @@ module _ (s : Set) (p : Place) (d e : Vector) (t : Ratio) (short : IsShort (shor
             let sv : IsShort j v = (omega (arith, ints), omega (arith, ints)) in
             Label-cells s m (step p v w) (step there u e) (same-sym forms (step there u e) (step p v w) (same-there u v k (omega arith) su sv)) (y.2 v (omega (arith, ints), omega (arith, ints))),
       )
-
--- INTERIOR: where no germ near d is Not, the interior's germ along d is In
-pub inside-germ : (s : Set) (p : Place) (d : Vector) → Germ s p d In → ((e : Vector) → NearGerm s p d e Not → ⊥) → Germ (Set.inside s) p d In
-unfolding Holds
-inside-germ s p d (n, some, f) none = (
-  n + short_enough s p d,
-  omega arith,
-  λ t h.
-      let q = step p t d in
-      let short = shorter (short_enough s p d) (n + short_enough s p d) t (omega arith) h in
-      let here = f t (shorter n (n + short_enough s p d) t (omega arith) h) in
-      (here.0, (reach_all (carriers s) q, reach-some (carriers s) q, λ r i c. by q r i c (label_of s r) (λ g. none (toward q r) (near-from_there s p d (toward q r) t short Not g)))),
-)
-  where
-    by : (q r : Place) → InFrame r → Within (reach_all (carriers s) q) q r → (m : Label) × HasLabel s r m → (Germ s q (toward q r) Not → ⊥) → Holds s r
-    by q r i c (Out, h) z = absurd (h i)
-    by q r i c (Not, h) z = absurd (z (germ-toward s Not q r c h))
-    by q r i c (In, h) z = h.1

@@ -1,23 +1,20 @@
 -- A cone does not tell apart equal points and equal directions; toward the zero vector the germ is the label.
-use Rattle.std.proofs.Common.{◌≡◌, ℕ, zero, suc, ◌+◌, ◌*◌, ◌<◌, ◌≤◌, ℤ, pos, negsuc, ◌+ℤ◌, ◌-ℤ◌, ◌*ℤ◌, neg_ℤ, ◌≤ℤ◌, ◌<ℤ◌, nat_abs, arith, refl, ap, sym, ◌∙◌, ◌⊎◌, inl, inr, ⊎_elim, ◌↔◌, List, [], ◌∷◌, subst}
+use Rattle.std.proofs.Common.{◌≡◌, ℕ, zero, suc, ◌+◌, ◌*◌, ◌<◌, ℤ, pos, negsuc, ◌+ℤ◌, ◌-ℤ◌, ◌*ℤ◌, ◌≤ℤ◌, ◌<ℤ◌, nat_abs, arith, refl, ap, sym, ◌∙◌, ◌⊎◌, inl, inr, ⊎_elim, ◌↔◌, List, [], ◌∷◌}
 use Rattle.std.proofs.lemmas.Int.{ints}
 use Rattle.std.proofs.Math.Nat.{mul-pos}
-use Rattle.nef_exact.specs.Signs.{Sign, minus, nought, plus, sign, sign_times, Lies}
-use Rattle.nef_exact.proofs.Ring.{ring, value, at, num, ◌⊕◌, ◌⊖◌, ◌⊗◌}
+use Rattle.nef_exact.specs.Signs.{sign, sign_times, Lies}
+use Rattle.nef_exact.proofs.Ring.{ring, at, num, ◌⊕◌, ◌⊖◌, ◌⊗◌}
 use Rattle.nef_exact.proofs.Combination.{given, none, follows}
 use Rattle.nef_exact.proofs.Order.{sign-plus, plus-is, sign_of_product, by_order, square_nonneg, mul_pos}
-use Rattle.nef_space.specs.Place.{Place, Form, form, form_at, slope, Ratio, step, Within, SamePlace, InFrame, toward}
+use Rattle.nef_space.specs.Place.{Place, Form, form, form_at, slope, Ratio, step, Within, SamePlace, toward}
 use Rattle.nef_space.specs.Vectors.{Vector, dot, IsZero, IsDirection, IsParallel, SameDirection}
 use Rattle.nef_space.specs.Sets.{Set, Holds, halves}
 use Rattle.nef_space.specs.Local.{IsShort, HasLabel, Germ}
 use Rattle.nef_space.specs.declared.label.Label.{Label}
-use Rattle.nef_space.specs.declared.label.Label.TheVariants.{Out, Not, In}
 use Rattle.nef_near.specs.Cells.{sign_at, frame, carriers, SameSigns, SameSlopesAt}
 use Rattle.nef_near.proofs.Near.{step-within}
 use Rattle.nef_near.proofs.Cells.{reach_all, keeps-all, is_nought, lies-left, lies-right, Holds-cells}
 use Rattle.nef_near.proofs.Germs.{Label-cells, locality, short_enough, sign-along}
-use Rattle.nef_near.proofs.Flats.{Germ-by_signs}
-use Rattle.nef_near.proofs.Decided.{germ_of}
 
 -- ---- the zero vector
 pub zero-or : (z : ℤ) → (z ≡ pos 0) ⊎ (z ≡ pos 0 → ⊥)
@@ -142,6 +139,12 @@ direction-of_same d e s z = let f = square-positive d e s in let g = slope-zero 
   where
     nothing : (x : ℤ) → pos 0 <ℤ x → x ≡ pos 0 → ⊥
     nothing x h k = omega (arith, ints)
+
+pub direction-first : (d e : Vector) → SameDirection d e → IsDirection d
+direction-first d e s z = let f = s.forward in let g = slope-zero (form e.x e.y e.z (pos 0)) d z in nothing (dot d e) (dot e d) f g (ring (d.x ∷ d.y ∷ d.z ∷ e.x ∷ e.y ∷ e.z ∷ []) (at 0 ⊗ at 3 ⊕ at 1 ⊗ at 4 ⊕ at 2 ⊗ at 5) (at 3 ⊗ at 0 ⊕ at 4 ⊗ at 1 ⊕ at 5 ⊗ at 2) tt)
+  where
+    nothing : (x y : ℤ) → pos 0 <ℤ x → y ≡ pos 0 → x ≡ y → ⊥
+    nothing x y h k e = omega (arith, ints)
 
 -- (e.e)(h.d) = (d.e)(h.e)
 slopes-match : (h : Form) (d e : Vector) → IsParallel d e → dot e e *ℤ slope h d ≡ dot d e *ℤ slope h e

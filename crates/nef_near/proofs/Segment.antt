@@ -1,16 +1,14 @@
--- What is settled at each point of a segment is the same at both ends: between two halves nothing happens, and there are finitely many.
-use Rattle.std.proofs.Common.{◌≡◌, ℕ, zero, suc, ◌+◌, ◌*◌, ◌<◌, ◌≤◌, ℤ, pos, negsuc, ◌+ℤ◌, ◌-ℤ◌, ◌*ℤ◌, neg_ℤ, ◌≤ℤ◌, ◌<ℤ◌, nat_abs, arith, refl, ap, sym, ◌∙◌, ◌⊎◌, inl, inr, ⊎_elim, ◌↔◌, List, [], ◌∷◌, ◌++◌, subst, Bool, true, false, cond}
-use Rattle.std.proofs.lemmas.Int.{ints, by_lt_z}
-use Rattle.std.proofs.Math.Nat.{mul-pos, mul-le-mul_left, le-mul_of_pos_right}
-use lib.IntN.{*ℤ_comm}
-use Rattle.nef_exact.proofs.Ring.{ring, is_zero, IsNought, value, at, num, ◌⊕◌, ◌⊖◌, ◌⊗◌, Poly}
-use Rattle.nef_exact.proofs.Order.{Sign, minus, nought, plus, sign, sign_times, sign-plus, sign-minus, plus-is, minus-is, nought-is, sign_of_product, mul_pos, mul_nonneg, cancel_lt}
+-- What is settled at each point of a segment is the same at both ends: between two carriers nothing happens, and there are finitely many.
+use Rattle.std.proofs.Common.{◌≡◌, ℕ, zero, suc, ◌+◌, ◌*◌, ◌<◌, ◌≤◌, ℤ, pos, negsuc, ◌+ℤ◌, ◌-ℤ◌, ◌*ℤ◌, nat_abs, arith, refl, ap, sym, ◌∙◌, ◌⊎◌, inl, inr, ⊎_elim, ◌↔◌, List, [], ◌∷◌, subst, Bool, true, false}
+use Rattle.std.proofs.lemmas.Int.{ints}
+use Rattle.std.proofs.Math.Nat.{mul-pos, le-mul_of_pos_right}
+use Rattle.nef_exact.proofs.Ring.{ring, at, num, ◌⊕◌, ◌⊖◌, ◌⊗◌}
+use Rattle.nef_exact.proofs.Order.{Sign, minus, nought, plus, sign, sign_times, sign-plus, sign-minus, sign_of_product, mul_pos, mul_nonneg}
 use Rattle.nef_exact.specs.Signs.{Lies}
-use Rattle.nef_near.specs.Cells.{sign_at, frame, carriers, SameSigns}
-use Rattle.nef_space.specs.Place.{Place, Form, form_at, slope, Ratio, step, Near, Within, InFrame}
-use Rattle.nef_space.specs.Vectors.{Vector}
+use Rattle.nef_near.specs.Cells.{sign_at, SameSigns}
+use Rattle.nef_space.specs.Place.{Place, Form, form_at, Within}
 use Rattle.nef_near.proofs.Near.{gap}
-use Rattle.nef_near.proofs.Cells.{same-sym, Cells}
+use Rattle.nef_near.proofs.Cells.{Cells}
 
 -- r lies on the segment from p to q: k r = i p + j q
 pub record Between (p q r : Place) : Type 0 where
@@ -251,7 +249,7 @@ module _ (hs : List Form) (P : Place → Type 0) (C : Cells hs P) where
       swap : (h : Form) → pos 1 *ℤ form_at h p +ℤ pos (m * far q p + 1) *ℤ form_at h q ≡ pos (m * far q p + 1) *ℤ form_at h q +ℤ pos 1 *ℤ form_at h p
       swap h = omega (arith, ints)
 
-  -- WHAT IS SETTLED ALONG A SEGMENT IS THE SAME AT BOTH ENDS
+  -- what is settled along a segment is the same at both ends
   pub settled-segment : (n : ℕ) (p q : Place) → crossings hs p q < n → ((r : Place) → Between p q r → Settled P p q r) → P p → P q
   settled-segment zero p q l S x = absurd (omega arith)
   settled-segment (suc n) p q l S x = by (λ r s k T y. settled-segment n r s k T y) (find-crossing p q hs)

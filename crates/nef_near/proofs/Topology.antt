@@ -1,24 +1,23 @@
 -- Interior, closure, boundary and regularisation in terms of cones.
-use Rattle.std.proofs.Common.{◌≡◌, ℕ, zero, suc, ◌+◌, ◌<◌, ◌≤◌, ℤ, pos, ◌+ℤ◌, ◌*ℤ◌, ◌<ℤ◌, arith, refl, ap, sym, ◌∙◌, ◌⊎◌, inl, inr, ⊎_elim, ◌↔◌, List, [], ◌∷◌, subst}
+use Rattle.std.proofs.Common.{◌+◌, pos, arith, refl, ◌⊎◌, inl, inr, ⊎_elim, ◌↔◌, subst}
 use Rattle.std.proofs.lemmas.Int.{ints}
-use Rattle.nef_exact.proofs.Ring.{ring, value, at, num, ◌⊕◌, ◌⊖◌, ◌⊗◌}
-use Rattle.nef_space.specs.Place.{Place, Form, Ratio, step, toward, Within, InFrame}
+use Rattle.nef_space.specs.Place.{Place, Ratio, step, toward, InFrame}
 use Rattle.nef_space.specs.Vectors.{Vector, IsZero, zero_vector, blend}
 use Rattle.nef_space.specs.Sets.{Set, Holds, Interior, Closure}
-use Rattle.nef_space.specs.Local.{IsShort, HasLabel, Germ}
+use Rattle.nef_space.specs.Local.{HasLabel, Germ}
 use Rattle.nef_space.specs.declared.label.Label.{Label}
 use Rattle.nef_space.specs.declared.label.Label.TheVariants.{Out, Not, In}
 use Rattle.nef_near.specs.Cells.{frame, carriers}
-use Rattle.nef_near.specs.Cones.{NearGerm, label_less}
+use Rattle.nef_near.specs.Cones.{NearGerm}
 use Rattle.nef_near.proofs.Near.{stride, step-within}
 use Rattle.nef_near.proofs.Cells.{reach_all, reach-some}
-use Rattle.nef_near.proofs.Germs.{Germ-unique, label-one, short_enough, sample, sample-short, Germ-from_sample}
+use Rattle.nef_near.proofs.Germs.{Germ-unique, Germ-from_sample}
 use Rattle.nef_near.proofs.Flats.{germ-toward, label-toward}
 use Rattle.nef_near.proofs.Decided.{label_of, germ_of, InFrame-decided}
 use Rattle.nef_near.proofs.Rays.{within-self, Germ-zero}
 use Rattle.nef_near.proofs.Combine.{shorter}
 use Rattle.nef_near.proofs.Frames.{frame-near, no-germ_out}
-use Rattle.nef_near.proofs.Decisions.{ahead, near-ahead, near-germ_of, near-germ_one, all-germs}
+use Rattle.nef_near.proofs.Decisions.{ahead, near-ahead, all-germs}
 
 -- the cone at p is l somewhere
 abbrev pub Somewhere : Set → Place → Label → Type 0
@@ -99,16 +98,6 @@ unfolding Holds
 regular-label a p Out = (λ h. h, λ h. h)
 regular-label a p Not = (λ h. h, λ h. h)
 regular-label a p In = (λ h. h, λ h. h)
-
-pub border-label : (a : Set) (p : Place) (m k : Label) → HasLabel (Set.closed a) p m → HasLabel (Set.inside a) p k → HasLabel (Set.border a) p (label_less m k)
-unfolding Holds
-border-label a p Out k h i = h
-border-label a p Not Out h i = i
-border-label a p Not Not h i = (h.0, λ x. h.1 x.0)
-border-label a p Not In h i = (h.0, λ x. h.1 x.0)
-border-label a p In Out h i = i
-border-label a p In Not h i = (h.0, (h.1, i.1))
-border-label a p In In h i = (h.0, λ x. x.1 i.1)
 
 -- ---- toward a direction
 pub label-ahead : (s : Set) (p : Place) (d : Vector) (l : Label) → Germ s p d l ↔ HasLabel s (ahead s p d) l

@@ -1,3 +1,4 @@
 pub mod Cells
 pub mod Cones
 pub mod Laws
+pub mod Examples

@@ -1,6 +1,7 @@
 //! The laws, grouped by their subject.
 
-ghost use Rattle.nef_near.specs.Laws.{HoldsByCell, LabelByCell, GermByCell, FlatByCell, FlatDimByCell, SignsAtSamePlace, HoldsAtSamePlace, LabelAtSamePlace, GermAtSamePlace, FlatDimAtSamePlace, LabelExists, LabelIsUnique, GermExists, GermIsUnique, SetIsItsCone, LabelAlongRay, GermBySlopes, GermTowardZero, NoGermOutInFrame, GermOutForAll, GermOnRay, NearGermExists, NearGermIsUnique, NearGermTowardZero, HoldsIsDecided, LabelIsDecided, GermIsDecided, NearGermIsDecided, Representatives, GermRepresentatives, AllGermsAreDecided, AllDirectionsAreDecided, AllNearGermsAreDecided, SameConeIsDecided, FlatIsFlatCone, FlatInCarriers, FlatCombination, FlatOutside, FlatDimOutside, FlatDimIsUnique, VertexIsMeet, LabelOfCombination, GermOfCombination, NearGermOfCombination, FlatOfTwo, FlatOfOne, InsideAt, ClosedAt, BorderAt, RegularAt, InsideToward, ClosedToward, BorderToward, RegularToward, SameSetBySameCones, SameConeIsSameNear, FlatBySameCone, FlatDimBySameCone, NearGermBySameCone, JoinedBySameSet, LabelAlongSegment, FlatDimAlongSegment, LabelChangesFirst};
+ghost use Rattle.nef_near.specs.Examples.{HalvesDisjoint, TwoHalves, Wall, WallPart, Edge, PointAlone};
+ghost use Rattle.nef_near.specs.Laws.{HoldsByCell, LabelByCell, GermByCell, FlatByCell, FlatDimByCell, SignsAtSamePlace, HoldsAtSamePlace, LabelAtSamePlace, GermAtSamePlace, FlatDimAtSamePlace, LabelExists, LabelIsUnique, GermExists, GermIsUnique, SetIsItsCone, LabelAlongRay, GermBySlopes, GermTowardZero, NoGermOutInFrame, GermOutForAll, GermOnRay, NearGermExists, NearGermIsUnique, NearGermTowardZero, NearGermBySlopes, ConeNearby, HoldsIsDecided, LabelIsDecided, GermIsDecided, NearGermIsDecided, Representatives, GermRepresentatives, AllGermsAreDecided, AllDirectionsAreDecided, AllNearGermsAreDecided, SameConeIsDecided, FlatIsDecided, FlatDimExists, GenericDirection, FlatIsFlatCone, FlatInCarriers, FlatCombination, FlatIsNearCone, FlatBySlopes, FlatNearby, AllFlat, FlatOutside, FlatDimOutside, FlatDimIsUnique, FlatWhereHeld, FlatLine, FlatPlane, VertexIsMeet, EdgeInCarriers, FacetInCarrier, LabelOfCombination, GermOfCombination, NearGermOfCombination, FlatOfTwo, FlatOfOne, InsideAt, ClosedAt, BorderAt, RegularAt, InsideToward, ClosedToward, BorderToward, RegularToward, SameSetBySameCones, SameConeIsSameNear, FlatBySameCone, FlatDimBySameCone, NearGermBySameCone, JoinedBySameSet, SameSetByVertices, LabelAlongSegment, FlatDimAlongSegment, LabelChangesFirst, FlatDimChangesFirst, FlatDimNearby, FlatBelowFirst, EvenUntilDrop, FlatWayEnds, EdgeHasEnds, FiniteVertices, OneConeAlongEven, OneConeOfJoined, OneLabelOfJoined, JoinedToItself, JoinedTurned, JoinedThrough};
 
 /// A set is constant on the cells of its carriers, which are the planes of its halves at any depth and
 /// the sides of the frame: on which side of each carrier a point lies decides whether the set holds
@@ -41,6 +42,8 @@ pub fn near_laws()
     ensures near_germ_exists { NearGermExists }
     ensures near_germ_is_unique { NearGermIsUnique }
     ensures near_germ_toward_zero { NearGermTowardZero }
+    ensures near_germ_by_slopes { NearGermBySlopes }
+    ensures cone_nearby { ConeNearby }
 {}
 
 /// Whether a set holds, which label and germ it has, and what is said of all directions or of all
@@ -56,19 +59,31 @@ pub fn decision_laws()
     ensures all_directions { AllDirectionsAreDecided }
     ensures all_near_germs { AllNearGermsAreDecided }
     ensures same_cone { SameConeIsDecided }
+    ensures flat_is_decided { FlatIsDecided }
+    ensures flat_dim_exists { FlatDimExists }
+    ensures generic_direction { GenericDirection }
 {}
 
 /// A direction is flat exactly where the germs don't change along it. The flat directions are a space,
 /// with the directions that lie in all carriers through the point; so a vertex is a meet of three
-/// carriers. Outside the closed frame all directions are flat.
+/// carriers, an edge lies in two and a facet in one. Outside the closed frame all directions are flat.
 pub fn flat_laws()
     ensures flat_is_flat_cone { FlatIsFlatCone }
     ensures flat_in_carriers { FlatInCarriers }
     ensures flat_combination { FlatCombination }
+    ensures flat_is_near_cone { FlatIsNearCone }
+    ensures flat_by_slopes { FlatBySlopes }
+    ensures flat_nearby { FlatNearby }
+    ensures all_flat { AllFlat }
     ensures flat_outside { FlatOutside }
     ensures flat_dim_outside { FlatDimOutside }
     ensures flat_dim_is_unique { FlatDimIsUnique }
+    ensures flat_where_held { FlatWhereHeld }
+    ensures flat_line { FlatLine }
+    ensures flat_plane { FlatPlane }
     ensures vertex_is_meet { VertexIsMeet }
+    ensures edge_in_carriers { EdgeInCarriers }
+    ensures facet_in_carrier { FacetInCarrier }
 {}
 
 /// The labels and germs of a combination are the combination of the operands' labels and germs. A
@@ -96,7 +111,7 @@ pub fn topology_laws()
 
 /// Sets are equal exactly where their cones are equal at all points, and cones are equal exactly where
 /// the sets agree close by. Equal cones have the same flat directions, and equal sets join the same
-/// points.
+/// points. The vertices of a set and the cones there determine the set.
 pub fn same_set_laws()
     ensures same_set_by_same_cones { SameSetBySameCones }
     ensures same_cone_is_same_near { SameConeIsSameNear }
@@ -104,6 +119,7 @@ pub fn same_set_laws()
     ensures flat_dim_by_same_cone { FlatDimBySameCone }
     ensures near_germ_by_same_cone { NearGermBySameCone }
     ensures joined_by_same_set { JoinedBySameSet }
+    ensures same_set_by_vertices { SameSetByVertices }
 {}
 
 /// What doesn't change close to any point of a segment is the same at both ends; and a label that
@@ -113,4 +129,40 @@ pub fn segment_laws()
     ensures label_along_segment { LabelAlongSegment }
     ensures flat_dim_along_segment { FlatDimAlongSegment }
     ensures label_changes_first { LabelChangesFirst }
+    ensures flat_dim_changes_first { FlatDimChangesFirst }
+    ensures flat_dim_nearby { FlatDimNearby }
+    ensures flat_below_first { FlatBelowFirst }
+{}
+
+/// Along a flat direction the number of independent flat directions stays until it drops, and where it
+/// is below three it drops before the frame ends. So each point with one flat direction lies strictly
+/// on an edge between two vertices. A set has finitely many vertices.
+pub fn edge_laws()
+    ensures even_until_drop { EvenUntilDrop }
+    ensures flat_way_ends { FlatWayEnds }
+    ensures edge_has_ends { EdgeHasEnds }
+    ensures finite_vertices { FiniteVertices }
+{}
+
+/// Along a segment whose points have equally many flat directions the cone doesn't change. So joined
+/// points, those of one edge, one facet or one volume, have one cone and one label. To be joined is an
+/// equivalence.
+pub fn joined_laws()
+    ensures one_cone_along_even { OneConeAlongEven }
+    ensures one_cone_of_joined { OneConeOfJoined }
+    ensures one_label_of_joined { OneLabelOfJoined }
+    ensures joined_to_itself { JoinedToItself }
+    ensures joined_turned { JoinedTurned }
+    ensures joined_through { JoinedThrough }
+{}
+
+/// Closed examples at the origin: the union of two open half-spaces, a wall and a part of one, an edge
+/// where two planes meet, and a point.
+pub fn cone_examples()
+    ensures halves_disjoint { HalvesDisjoint }
+    ensures two_halves { TwoHalves }
+    ensures wall { Wall }
+    ensures wall_part { WallPart }
+    ensures edge { Edge }
+    ensures point { PointAlone }
 {}

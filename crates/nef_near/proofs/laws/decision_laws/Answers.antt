@@ -1,4 +1,8 @@
 use Rattle.nef_near.proofs.Decisions.{holds-decided, label-decided, germ-decided, near-germ_decided, representatives, germ-representatives, all-germs, all-directions, all-near_germs, same-cone_decided}
+use Rattle.std.proofs.Common.{inl, inr, ⊎_elim}
+use Rattle.nef_near.proofs.Flats.{Flat-from_cone, FlatCone-from_flat}
+use Rattle.nef_near.proofs.FlatDecided.{flat-decided, flat_dim-of}
+use Rattle.nef_near.proofs.Generic.{generic}
 use Rattle.nef_near.proofs.laws.decision_laws.Goals as goal
 
 pub returns-clause-holds_is_decided : goal.returns-clause-holds_is_decided
@@ -30,3 +34,12 @@ returns-clause-all_near_germs c = all-near_germs
 
 pub returns-clause-same_cone : goal.returns-clause-same_cone
 returns-clause-same_cone c = same-cone_decided
+
+pub returns-clause-flat_is_decided : goal.returns-clause-flat_is_decided
+returns-clause-flat_is_decided c = λ s p d. ⊎_elim (λ f. inl (Flat-from_cone s p d f)) (λ n. inr (λ f. n (FlatCone-from_flat s p d f))) (flat-decided s p d)
+
+pub returns-clause-flat_dim_exists : goal.returns-clause-flat_dim_exists
+returns-clause-flat_dim_exists c = flat_dim-of
+
+pub returns-clause-generic_direction : goal.returns-clause-generic_direction
+returns-clause-generic_direction c = generic

@@ -3,6 +3,10 @@ use Rattle.nef_near.proofs.Germs.{short_enough}
 use Rattle.nef_near.proofs.NearGerms.{near-from_there, there-from_near}
 use Rattle.nef_near.proofs.Decisions.{near-germ_of, near-germ_one}
 use Rattle.nef_near.proofs.Topology.{near-germ_zero}
+use Rattle.nef_near.specs.Cells.{carriers}
+use Rattle.nef_near.proofs.Cells.{reach_all, reach-some}
+use Rattle.nef_near.proofs.FlatDecided.{near-by_signs}
+use Rattle.nef_near.proofs.Even.{germ-nearby}
 use Rattle.nef_near.proofs.laws.near_laws.Goals as goal
 
 pub returns-clause-germ_on_ray : goal.returns-clause-germ_on_ray
@@ -16,3 +20,9 @@ returns-clause-near_germ_is_unique c = near-germ_one
 
 pub returns-clause-near_germ_toward_zero : goal.returns-clause-near_germ_toward_zero
 returns-clause-near_germ_toward_zero c = near-germ_zero
+
+pub returns-clause-near_germ_by_slopes : goal.returns-clause-near_germ_by_slopes
+returns-clause-near_germ_by_slopes c = near-by_signs
+
+pub returns-clause-cone_nearby : goal.returns-clause-cone_nearby
+returns-clause-cone_nearby c = λ s p. (reach_all (carriers s) p, reach-some (carriers s) p, germ-nearby s p)

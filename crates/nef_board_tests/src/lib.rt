@@ -1,0 +1,11 @@
+//! Tests of the machine, both boards and the pool together.
+#![tactic(auto)]
+
+#[cfg(test)]
+mod counted;
+#[cfg(test)]
+mod gates;
+#[cfg(test)]
+mod jobs;
+#[cfg(test)]
+mod tests;

@@ -1,0 +1,67 @@
+//! The label of a point for a node without topology.
+
+ghost use Rattle.std.specs.Prelude.{◌≡◌, ◌<◌, ◌↔◌, length, IfOk, IsTrue};
+ghost use Rattle.nef_space.specs.Sets.{InHalf};
+ghost use Rattle.nef_space.specs.Local.{HasLabel};
+ghost use Rattle.nef_geo.specs.Shapes.{given_form, place_of};
+ghost use Rattle.nef_expr.specs.Nodes.{NamesBelow, node_set};
+ghost use Rattle.nef_expr.specs.Plain.{IsPlain, TellsNext};
+
+use crate::nodes::{Node, Nodes};
+use crate::OutOfMemory;
+use nef_geo::{Label, Oriented, Point, Sign};
+use std::alloc::Global;
+
+// Whether the point is in the half-space.
+fn half_holds(oriented: &Oriented, closed: bool, p: &Point) -> bool
+    ensures half { IsTrue result ↔ InHalf (given_form oriented.now) closed (place_of p.now) }
+{
+    match oriented.side(p) {
+        Sign::Minus => true,
+        Sign::Zero => closed,
+        Sign::Plus => false,
+    }
+}
+
+// Whether the node's set holds at the point, where `holding` tells it of the earlier nodes' sets.
+// Of a node with topology it tells nothing.
+fn node_holds(node: &Node, holding: &[bool], p: &Point) -> bool
+    requires operands { NamesBelow (length holding.now) node.now }
+    ensures told { TellsNext holding.now node.now result (place_of p.now) }
+{
+    match *node {
+        Node::Half { oriented, closed } => half_holds(&oriented, closed, p),
+        Node::Empty => false,
+        Node::Full => true,
+        Node::And(i, j) => holding[i] && holding[j],
+        Node::Or(i, j) => holding[i] || holding[j],
+        Node::Diff(i, j) => holding[i] && !holding[j],
+        Node::Xor(i, j) => holding[i] != holding[j],
+        Node::Not(i) => !holding[i],
+        Node::Int(_) | Node::Cl(_) | Node::Bd(_) | Node::Reg(_) => false,
+    }
+}
+
+/// The label of `p` for the node `k`, which uses no interior, closure, boundary or regularisation
+/// at any depth: `Out` where `p` isn't in the frame, `In` where the set holds there, `Not`
+/// otherwise. The nodes up to `k` are worked once each, from the first on. `OutOfMemory` says that
+/// memory was wanted and not found.
+pub fn plain_has(alloc: Global, nodes: &Nodes, k: usize, p: &Point) -> Result<Label, OutOfMemory>
+    requires existing { k < length nodes.now }
+    requires plain { IsPlain (node_set nodes.now k) }
+    ensures label { IfOk result (HasLabel (node_set nodes.now k) (place_of p.now)) }
+{
+    if !p.in_frame() {
+        return Ok(Label::Out);
+    }
+    let mut holding = Vec::with_capacity(alloc, k)?;
+    for i in 0..k {
+        let holds = node_holds(nodes.get(i), &holding, p);
+        holding.push(holds)?;
+    }
+    if node_holds(nodes.get(k), &holding, p) {
+        Ok(Label::In)
+    } else {
+        Ok(Label::Not)
+    }
+}

@@ -1,0 +1,13 @@
+pub mod Sums
+pub mod Crossings
+pub mod Segment
+pub mod FirstChange
+pub mod Far
+pub mod Near
+pub mod Directions
+pub mod Between
+pub mod Generic
+pub mod Representatives
+pub mod Places
+pub mod Tests
+pub mod Examples

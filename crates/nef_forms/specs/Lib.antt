@@ -1,0 +1,3 @@
+pub mod Homogeneous
+pub mod Near
+pub mod Laws

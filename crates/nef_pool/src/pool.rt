@@ -1,0 +1,131 @@
+//! The workers, and the caller that finishes what they leave.
+ghost use Rattle.std.specs.Prelude.{◌≡◌, ℕ, ◌≤◌, IfOk, Some, None, slice_get, All, vec_len};
+
+use nef_core::{Board, Claim, Job, OutOfMemory};
+use nef_io::Gate;
+use std::alloc::Global;
+use std::thread;
+use std::thread::Threads;
+
+// Works jobs until none is left or memory runs out.
+fn work_all<J: Job, B: Board<J>, G: Gate>(
+    alloc: Global,
+    board: &B,
+    mut pass: B::Pass,
+    job: &J,
+    gate: &G,
+) -> B::Pass
+    requires job { B.made_for board.now ≡ job.now }
+    requires pass { B.belongs board.now pass × (B.hand pass ≡ None) }
+    ensures pass { B.belongs board.now result × (B.hand result ≡ None) }
+{
+    // A worker claims each job once at most, so this many rounds are enough.
+    for _ in 0..job.jobs() {
+        let Claim::Got(number) = board.claim(&mut pass) else {
+            break;
+        };
+        gate.before(number, B::FREE);
+        match job.work(alloc, number) {
+            Ok(out) => {
+                board.deposit(&mut pass, number, out);
+            }
+            Err(OutOfMemory) => {
+                board.give_back(&mut pass, number);
+                break;
+            }
+        }
+    }
+    pass
+}
+
+// Makes a pass for each worker.
+fn passes_of<J: Job, B: Board<J>>(
+    alloc: Global,
+    board: &B,
+    pass: &mut B::Pass,
+    workers: u32,
+) -> Result<Vec<B::Pass>, OutOfMemory>
+    requires of { B.belongs board.now pass.old }
+    requires spare { workers ≤ B.spare pass.old }
+    requires free { B.hand pass.old ≡ None }
+    ensures of { B.belongs board.now pass.new × (B.hand pass.new ≡ None) }
+    ensures each { IfOk result (λ v. All (λ p. B.belongs board.now p × (B.hand p ≡ None)) v.items) }
+    ensures len { IfOk result (λ v. vec_len v ≡ workers) }
+{
+    let mut passes = Vec::with_capacity(alloc, workers as usize)?;
+    for _ in 0..workers {
+        passes.push(board.split(pass))?;
+    }
+    Ok(passes)
+}
+
+// Takes the workers' passes in.
+fn join_all<J: Job, B: Board<J>>(board: &B, pass: &mut B::Pass, mut others: Vec<B::Pass>)
+    requires of { B.belongs board.now pass.old × (B.hand pass.old ≡ None) }
+    requires each { All (λ p. B.belongs board.now p × (B.hand p ≡ None)) others.items }
+    ensures of { B.belongs board.now pass.new × (B.hand pass.new ≡ None) }
+{
+    while let Some(other) = others.pop() {
+        board.join(pass, other);
+    }
+}
+
+// The results, with each job that isn't done worked now.
+fn filled<J: Job>(
+    alloc: Global,
+    job: &J,
+    slots: Vec<Option<J::Out>>,
+) -> Result<Vec<J::Out>, OutOfMemory>
+    requires len { vec_len slots ≡ J.count job.now }
+    requires right { (i : ℕ) (out : _) → slice_get slots.items i ≡ Some (Some out) → J.right job.now i out }
+    ensures len { IfOk result (λ v. vec_len v ≡ J.count job.now) }
+    ensures right { IfOk result (λ v. (i : ℕ) (out : _) → slice_get v.items i ≡ Some out → J.right job.now i out) }
+{
+    let mut outs = Vec::with_capacity(alloc, slots.len())?;
+    for slot in slots {
+        let out = match slot {
+            Some(out) => out,
+            None => job.work(alloc, outs.len() as u64)?,
+        };
+        outs.push(out)?;
+    }
+    Ok(outs)
+}
+
+/// Works every job of the board, and returns one right result for each, in the order of the jobs.
+///
+/// The board was made for this job value. The pass is its first one, holds nothing, and may make
+/// one for each worker. A worker claims a job, tells the gate, works the job and deposits the
+/// result; where it finds no memory it gives the job back and ends. Then the caller works what
+/// isn't done itself.
+///
+/// `OutOfMemory` says that the caller wanted memory and found none; the results are gone then.
+pub fn finish<R: Threads + Sync, J: Job, B: Board<J>, G: Gate + Sync>(
+    rt: &R,
+    alloc: Global,
+    board: B,
+    mut pass: B::Pass,
+    job: &J,
+    workers: u32,
+    gate: &G,
+) -> Result<Vec<J::Out>, OutOfMemory>
+    requires job { B.made_for board ≡ job.now }
+    requires pass { B.belongs board pass × (B.hand pass ≡ None) }
+    requires workers { workers ≤ B.spare pass }
+    ensures len { IfOk result (λ v. vec_len v ≡ J.count job.now) }
+    ensures right { IfOk result (λ v. (i : ℕ) (out : _) → slice_get v.items i ≡ Some out → J.right job.now i out) }
+{
+    let passes = passes_of(alloc, &board, &mut pass, workers)?;
+    let shared = &board;
+    let done = thread::map_vec(
+        rt,
+        passes,
+        &|mine: B::Pass| -> B::Pass
+            requires { (B.made_for shared.now ≡ job.now) × B.belongs shared.now mine × (B.hand mine ≡ None) }
+            ensures { B.belongs shared.entry.now result × (B.hand result ≡ None) }
+        { work_all(alloc, shared, mine, job, gate) },
+    )?;
+    join_all(&board, &mut pass, done);
+    let slots = board.close(alloc, pass)?;
+    filled(alloc, job, slots)
+}

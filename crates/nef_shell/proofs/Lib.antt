@@ -1,0 +1,5 @@
+pub mod Nodes
+pub mod Meaning
+pub mod Refusals
+pub mod Outputs
+pub mod Statuses

@@ -1,0 +1,6 @@
+pub mod Status
+pub mod Built
+pub mod Output
+pub mod Answers
+pub mod Commands
+pub mod Stops

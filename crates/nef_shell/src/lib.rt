@@ -1,0 +1,20 @@
+//! The top call of the program: reads the words and the script, checks them, works the commands in
+//! order and writes their answers.
+//!
+//! The definitions stand in specs/: `Output` says what each command writes, `Built` which commands
+//! are worked so far, `Answers` what each status says.
+#![tactic(auto)]
+
+mod answer;
+mod built;
+mod line;
+mod status;
+mod stop;
+mod top;
+mod work;
+
+pub use status::{Status, code};
+pub use top::run;
+
+#[cfg(test)]
+mod tests;

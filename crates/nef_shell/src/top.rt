@@ -1,0 +1,134 @@
+//! The top call.
+
+ghost use Rattle.std.specs.Prelude.{◌≡◌, ◌⊎◌, ℕ, List, Some, None, map, string_bytes};
+ghost use Rattle.nef_io.specs.Bytes.{Rose, Grows, GrowsWithin};
+ghost use Rattle.nef_script.specs.Refusal.{IsAccepted};
+ghost use Rattle.nef_script.specs.declared.fault.ScriptKind.{ScriptKind as Kind};
+ghost use Rattle.nef_shell.specs.Status.{MatchStatus, IfDone, IfRefused, IfWords, IfReadFault, IfWriteFault, IfOutOfMemory, EndsDone, EndsRefused, EndsWords};
+ghost use Rattle.nef_shell.specs.Built.{first_unbuilt};
+ghost use Rattle.nef_shell.specs.Output.{refusal_line, words_line};
+ghost use Rattle.nef_shell.specs.Answers.{AreAccepted, IsRefused, HasOutput, HasRefusal, HasFront, HasDefinedFront};
+
+use crate::built::first_unbuilt;
+use crate::line::refusal_line;
+use crate::status::Status;
+use crate::stop::Stop;
+use crate::work::work;
+use nef_io::{Gate, ReadAll, Sink, Source, put_all, read_all};
+use nef_script::{ScriptFault, ScriptKind, parse};
+use nef_words::{WordsFault, read_words};
+use std::alloc::Global;
+use std::sync::Wait;
+use std::thread::Threads;
+
+// Writes the refusal's line.
+fn refuse<K: Sink>(alloc: Global, sink: &mut K, line: u64, kind: ScriptKind) -> Status
+    ensures status { MatchStatus result
+        ⊥
+        (λ l k. (l ≡ line) × (k ≡ kind) × Grows (K.written sink.old) (K.written sink.new) (refusal_line line kind))
+        ⊥
+        ⊥
+        (Rose (K.faults sink.old) (K.faults sink.new) × GrowsWithin (K.written sink.old) (K.written sink.new) (refusal_line line kind))
+        (K.written sink.new ≡ K.written sink.old) }
+{
+    let Ok(text) = refusal_line(alloc, line, kind) else {
+        return Status::OutOfMemory;
+    };
+    match put_all(sink, &text) {
+        Ok(()) => Status::Refused { line, kind },
+        Err(_) => Status::WriteFault,
+    }
+}
+
+// Writes the line of refused words.
+fn refuse_words<K: Sink>(sink: &mut K) -> Status
+    ensures status { MatchStatus result
+        ⊥
+        (λ l k. ⊥)
+        (Grows (K.written sink.old) (K.written sink.new) words_line)
+        ⊥
+        (Rose (K.faults sink.old) (K.faults sink.new) × GrowsWithin (K.written sink.old) (K.written sink.new) words_line)
+        ⊥ }
+{
+    match put_all(sink, b"words refused\n") {
+        Ok(()) => Status::Words,
+        Err(_) => Status::WriteFault,
+    }
+}
+
+// Reads the script, checks it, and works it.
+fn run_script<S: Source, K: Sink>(alloc: Global, source: &mut S, sink: &mut K) -> Status
+    ensures status { MatchStatus result
+        (HasOutput (S.rest source.old) (S.rest source.new) (K.written sink.old) (K.written sink.new))
+        (λ line kind. HasRefusal (S.rest source.old) (S.rest source.new) (K.written sink.old) (K.written sink.new) line kind)
+        ⊥
+        (Rose (S.faults source.old) (S.faults source.new) × (K.written sink.new ≡ K.written sink.old))
+        (Rose (K.faults sink.old) (K.faults sink.new) × HasFront (S.rest source.old) (S.rest source.new) (K.written sink.old) (K.written sink.new))
+        ((K.written sink.new ≡ K.written sink.old) ⊎ HasFront (S.rest source.old) (S.rest source.new) (K.written sink.old) (K.written sink.new)) }
+{
+    let bytes = match read_all(alloc, source) {
+        Ok(bytes) => bytes,
+        Err(ReadAll::ReadFault) => return Status::ReadFault,
+        Err(ReadAll::TooLong) => return refuse(alloc, sink, 0, ScriptKind::ScriptTooLong),
+        Err(ReadAll::OutOfMemory) => return Status::OutOfMemory,
+    };
+    let script = match parse(alloc, &bytes) {
+        Ok(script) => script,
+        Err(ScriptFault::Refused { line, kind }) => return refuse(alloc, sink, line, kind),
+        Err(ScriptFault::OutOfMemory) => return Status::OutOfMemory,
+    };
+    if let Some(line) = first_unbuilt(&script) {
+        return refuse(alloc, sink, line, ScriptKind::NotBuilt);
+    }
+    match work(alloc, &script, sink) {
+        Ok(()) => Status::Done,
+        Err(Stop::WriteFault) => Status::WriteFault,
+        Err(Stop::OutOfMemory) => Status::OutOfMemory,
+    }
+}
+
+/// Runs the program: reads the words and then the script, checks the whole script, and works its
+/// commands in order. What a command answers is handed to the sink when it is worked.
+///
+/// `words` are those after the program's name. The number of workers and the kind of board that they
+/// choose have no effect yet, as no operation runs in parallel so far, and the gate isn't called.
+/// Sets mean what the CGAL manual, "3D Boolean Operations on Nef Polyhedra", says, within the frame.
+///
+/// * `Done`: the sink took the output of the script and nothing else; the source is at its end.
+/// * `Refused`: the script is refused, or one of its commands isn't built yet; nothing was worked,
+///   and the sink took exactly `line L: TEXT` and LF.
+/// * `Words`: the words are refused, and the sink took exactly `words refused` and LF. The source
+///   wasn't looked at.
+/// * `ReadFault`: the source's count of faults rose, or stands at its last value; nothing was written.
+/// * `WriteFault`: the sink's count of faults rose, or stands at its last value; the sink took some
+///   front of what the words and the script define.
+/// * `OutOfMemory`: memory was wanted and not found; the sink took some front of it.
+pub fn run<R: Threads + Wait + Sync, S: Source, K: Sink, G: Gate + Sync>(
+    _rt: &R,
+    alloc: Global,
+    words: &[String],
+    source: &mut S,
+    sink: &mut K,
+    _gate: &G,
+) -> Status
+    ensures done { IfDone result (AreAccepted (map string_bytes words.now) × HasOutput (S.rest source.old) (S.rest source.new) (K.written sink.old) (K.written sink.new)) }
+    ensures refused { IfRefused result (λ line kind. AreAccepted (map string_bytes words.now) × HasRefusal (S.rest source.old) (S.rest source.new) (K.written sink.old) (K.written sink.new) line kind) }
+    ensures words { IfWords result (¬ AreAccepted (map string_bytes words.now) × Grows (K.written sink.old) (K.written sink.new) words_line) }
+    ensures read_fault { IfReadFault result (AreAccepted (map string_bytes words.now) × Rose (S.faults source.old) (S.faults source.new) × (K.written sink.new ≡ K.written sink.old)) }
+    ensures write_fault { IfWriteFault result (Rose (K.faults sink.old) (K.faults sink.new) × HasDefinedFront (map string_bytes words.now) (S.rest source.old) (S.rest source.new) (K.written sink.old) (K.written sink.new)) }
+    ensures out_of_memory { IfOutOfMemory result ((K.written sink.new ≡ K.written sink.old) ⊎ HasDefinedFront (map string_bytes words.now) (S.rest source.old) (S.rest source.new) (K.written sink.old) (K.written sink.new)) }
+
+    // Refused words are looked at first, and alone.
+    ensures unread { ¬ AreAccepted (map string_bytes words.now) → (S.rest source.new ≡ S.rest source.old) × (S.faults source.new ≡ S.faults source.old) }
+
+    // Where no count rises, each status comes where its cause holds, unless memory is wanted.
+    ensures finishes { AreAccepted (map string_bytes words.now) → (bytes : List ℕ) → S.rest source.old ≡ Some bytes → IsAccepted bytes → first_unbuilt bytes ≡ None → ¬ Rose (S.faults source.old) (S.faults source.new) → ¬ Rose (K.faults sink.old) (K.faults sink.new) → EndsDone result }
+    ensures refuses { AreAccepted (map string_bytes words.now) → (bytes : List ℕ) (line : ℕ) (kind : Kind) → S.rest source.old ≡ Some bytes → IsRefused bytes line kind → ¬ Rose (S.faults source.old) (S.faults source.new) → ¬ Rose (K.faults sink.old) (K.faults sink.new) → EndsRefused result line kind }
+    ensures refuses_words { ¬ AreAccepted (map string_bytes words.now) → ¬ Rose (K.faults sink.old) (K.faults sink.new) → EndsWords result }
+{
+    match read_words(alloc, words) {
+        Ok(_) => run_script(alloc, source, sink),
+        Err(WordsFault::Refused) => refuse_words(sink),
+        Err(WordsFault::OutOfMemory) => Status::OutOfMemory,
+    }
+}

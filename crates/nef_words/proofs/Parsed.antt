@@ -1,0 +1,53 @@
+-- What clap says of the one command, and what the words then choose.
+use Rattle.std.proofs.Common.{◌≡◌, List, [], ◌∷◌, Option, Result, Ok, Err, IfOk, IfErr, None, refl, true, subst, sym, ap, ◌∙◌, inl, inr, codes}
+use Rattle.clap.specs.Words.{App, Text, Kinds, IsAmong, is_simple, is_simple_and_free, fault_of, found_of, matches_of, rows_of, first_of, first_value, kind_of, HasKind, FailsBy, HasMatchesOf}
+use Rattle.clap.specs.declared.ArgMatches.{ArgMatches}
+use Rattle.clap.specs.declared.Error.{Error}
+use Rattle.clap.specs.declared.error.ErrorKind.{ErrorKind}
+use Rattle.clap.specs.declared.error.ErrorKind.TheVariants.{OutOfMemory}
+use Rattle.clap.proofs.OnLiterals.{clap_on_literals}
+use Rattle.clap.proofs.WalkLemmas.{first_value-rows}
+use Rattle.nef_words.specs.declared.options.Options.{Options}
+use Rattle.nef_words.specs.Usage.{usage, given}
+use Rattle.nef_words.specs.Chosen.{if_taken, options_of, options_of_values}
+
+pub usage_simple : is_simple usage ≡ true
+unfolding clap_on_literals
+usage_simple = refl
+
+pub usage_free : is_simple_and_free usage ≡ true
+unfolding clap_on_literals
+usage_free = refl
+
+took_here : (r : Result ArgMatches Error) (u : App) (ws : List Text) → (is_simple_and_free u ≡ true → FailsBy (fault_of u ws) r) → IfOk r (HasMatchesOf u ws) → is_simple u ≡ true → is_simple_and_free u ≡ true
+    → IfOk r (λ m. (fault_of u ws ≡ []) × (rows_of (found_of m) ≡ matches_of u ws)) × IfErr r (HasKind (fault_of u ws))
+took_here (Ok m) u ws k h s f = ((k f, (h s).0), tt)
+took_here (Err e) u ws k h s f = (tt, k f)
+
+-- the command that was made is the one that was meant
+pub took : (r : Result ArgMatches Error) (a u : App) (ws : List Text) → a ≡ u → (is_simple_and_free a ≡ true → FailsBy (fault_of a ws) r) → IfOk r (HasMatchesOf a ws) → is_simple u ≡ true → is_simple_and_free u ≡ true
+    → IfOk r (λ m. (fault_of u ws ≡ []) × (rows_of (found_of m) ≡ matches_of u ws)) × IfErr r (HasKind (fault_of u ws))
+took r a u ws e k h = took_here r u ws (subst (λ (z : App). is_simple_and_free z ≡ true → FailsBy (fault_of z ws) r) e k) (subst (λ (z : App). IfOk r (HasMatchesOf z ws)) e h)
+
+-- words with a fault choose nothing
+no_option : (k : ErrorKind) (ks : Kinds) (o : Option Options) → IsAmong k ks → if_taken ks o ≡ None
+no_option k [] o h = absurd h
+no_option k (x ∷ xs) o h = refl
+
+-- an error of another kind than memory is a fault of the words
+pub refuses : (ws : List Text) (e : Error) → HasKind (fault_of usage ws) e → (kind_of e ≡ OutOfMemory → ⊥) → options_of ws ≡ None
+unfolding options_of
+refuses ws e h n = elim h [ inl m ↦ absurd (n m) | inr among ↦ no_option (kind_of e) (fault_of usage ws) _ among ]
+
+takes_them : (ws : List Text) → fault_of usage ws ≡ [] → options_of ws ≡ options_of_values (given (codes "workers") ws) (given (codes "board") ws)
+unfolding options_of
+takes_them ws e = ap (λ (ks : Kinds). if_taken ks (options_of_values (given (codes "workers") ws) (given (codes "board") ws))) e
+
+value_is : (m : ArgMatches) (ws : List Text) (id : Text) → rows_of (found_of m) ≡ matches_of usage ws → first_value (found_of m) id ≡ given id ws
+value_is m ws id e = first_value-rows (found_of m) id ∙ ap (first_of id) e
+
+-- words without a fault choose what their two values choose
+pub chosen_is : (m : ArgMatches) (ws : List Text) (a b : Option Text) (r : Option Options) → (fault_of usage ws ≡ []) × (rows_of (found_of m) ≡ matches_of usage ws) → a ≡ first_value (found_of m) (codes "workers") → b ≡ first_value (found_of m) (codes "board") → r ≡ options_of_values a b → options_of ws ≡ r
+chosen_is m ws a b r is p q e =
+    takes_them ws is.0
+    ∙ sym (e ∙ rw (p, q, value_is m ws (codes "workers") is.1, value_is m ws (codes "board") is.1) refl)

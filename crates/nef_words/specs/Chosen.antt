@@ -1,0 +1,67 @@
+-- What words choose.
+use Rattle.std.specs.Prelude.{ℕ, Bool, ◌+◌, ◌-◌, ◌*◌, ◌&&◌, List, [], ◌∷◌, Some, None, Option, codes, nat_le, if◌then◌else◌, option_and_then, option_map, bytes_eq}
+use Rattle.std.specs.Borrow.{Bor}
+use Rattle.clap.specs.Words.{Text, Kinds, fault_of}
+use Rattle.nef_core.specs.declared.how.BoardKind.{BoardKind}
+use Rattle.nef_core.specs.declared.how.BoardKind.TheVariants.{Lock, Free}
+use Rattle.nef_words.specs.declared.options.Options.{Options}
+use Rattle.nef_words.specs.Usage.{usage, given}
+
+abbrev pub is_digit : ℕ → Bool
+is_digit c = nat_le 48 c && nat_le c 57
+
+-- the number that a value and the digits behind it spell
+abbrev pub value_from : ℕ → List ℕ → Option ℕ
+value_from value [] = Some value
+value_from value (c ∷ cs) = if is_digit c then value_from (10 * value + (c - 48)) cs else None
+
+-- the number that one digit or more spell
+abbrev pub value_of : List ℕ → Option ℕ
+value_of [] = None
+value_of (c ∷ cs) = value_from 0 (c ∷ cs)
+
+abbrev pub from_one_to : ℕ → ℕ → Option ℕ
+from_one_to most value = if nat_le 1 value && nat_le value most then Some value else None
+
+-- the number from 1 to most that a text spells
+abbrev pub number_to : ℕ → List ℕ → Option ℕ
+number_to most text = option_and_then (from_one_to most) (value_of text)
+
+-- the number of workers where none is given, and the greatest one
+abbrev pub default_workers : ℕ
+default_workers = 1
+
+abbrev pub most_workers : ℕ
+most_workers = 64
+
+-- the number of workers that a value gives
+abbrev pub workers_of : Option Text → Option ℕ
+workers_of None = Some default_workers
+workers_of (Some text) = number_to most_workers text
+
+-- the board that a value names, and the lock board where none is given
+abbrev pub board_of : Option Text → Option BoardKind
+board_of None = Some Lock
+board_of (Some text) = if bytes_eq text (codes "lock") then Some Lock else (if bytes_eq text (codes "free") then Some Free else None)
+
+-- the options, where both values have their form
+abbrev pub options_from : Option ℕ → Option BoardKind → Option Options
+options_from None board = None
+options_from (Some workers) None = None
+options_from (Some workers) (Some board) = Some (record { how = record { workers = workers; board = board }; stairs = None })
+
+abbrev pub options_of_values : Option Text → Option Text → Option Options
+options_of_values workers board = options_from (workers_of workers) (board_of board)
+
+-- the options, where the words have no fault
+abbrev pub if_taken : Kinds → Option Options → Option Options
+if_taken [] options = options
+if_taken (k ∷ ks) options = None
+
+-- the options that the words choose: where the command takes the words, and each value has its form
+unfoldable pub options_of : List Text → Option Options
+options_of words = if_taken (fault_of usage words) (options_of_values (given (codes "workers") words) (given (codes "board") words))
+
+-- the text behind an optional reference
+abbrev pub text_in : Option (Bor (List ℕ)) → Option Text
+text_in option = option_map (λ s. s.now) option

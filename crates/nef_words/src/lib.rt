@@ -1,0 +1,14 @@
+//! The words of the command line.
+//!
+//! They are read as one simple command with two options, each of which takes one value. The options
+//! are a function of the words.
+#![tactic(auto)]
+
+mod number;
+mod options;
+#[cfg(test)]
+mod tests;
+mod words;
+
+pub use options::{DEFAULT_WORKERS, MOST_WORKERS, Options, WordsFault};
+pub use words::read_words;

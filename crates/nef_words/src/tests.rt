@@ -1,0 +1,84 @@
+use crate::{Options, WordsFault, read_words};
+use nef_core::{BoardKind, How};
+use std::alloc::{AllocError, Global};
+use std::test::Fail;
+
+fn read(alloc: Global, words: &[&str]) -> Result<Result<Options, WordsFault>, AllocError> {
+    let mut owned = Vec::new(alloc);
+    for word in words {
+        owned.push(String::from_str(alloc, word)?)?;
+    }
+    Ok(read_words(alloc, owned.as_slice()))
+}
+
+fn options(workers: u32, board: BoardKind) -> Result<Options, WordsFault> {
+    Ok(Options {
+        how: How { workers, board },
+        stairs: None,
+    })
+}
+
+#[test]
+fn accepted_words(rt: HostRuntime) -> Result<(), Fail> {
+    let alloc = rt.alloc();
+    let lock = BoardKind::Lock;
+    assert_eq!(rt; read(alloc, &[])?, options(1, lock));
+    assert_eq!(rt; read(alloc, &["--workers", "2"])?, options(2, lock));
+    assert_eq!(rt; read(alloc, &["--workers=2"])?, options(2, lock));
+    assert_eq!(rt; read(alloc, &["--workers", "1"])?, options(1, lock));
+    assert_eq!(rt; read(alloc, &["--workers", "64"])?, options(64, lock));
+    assert_eq!(rt; read(alloc, &["--workers", "007"])?, options(7, lock));
+    assert_eq!(rt; read(alloc, &["--board", "lock"])?, options(1, lock));
+    assert_eq!(rt;
+        read(alloc, &["--board", "free"])?,
+        options(1, BoardKind::Free)
+    );
+    let both = ["--board=free", "--workers", "3"];
+    assert_eq!(rt; read(alloc, &both)?, options(3, BoardKind::Free));
+    Ok(())
+}
+
+#[test]
+fn refused_numbers(rt: HostRuntime) -> Result<(), Fail> {
+    let huge = "340282366920938463463374607431768211457";
+    for number in [
+        "0", "000", "65", huge, "two", "", "-1", "+1", "1.0", " 1", "0x1",
+    ] {
+        let words = ["--workers", number];
+        assert_eq!(rt;
+            read(rt.alloc(), &words)?,
+            Err(WordsFault::Refused),
+            "{number}"
+        );
+    }
+    Ok(())
+}
+
+#[test]
+fn refused_words(rt: HostRuntime) -> Result<(), Fail> {
+    let alloc = rt.alloc();
+    let refused = Err(WordsFault::Refused);
+    for word in [
+        "--help",
+        "-h",
+        "--version",
+        "-V",
+        "--workers=",
+        "--board=",
+        "--workers",
+        "x",
+        "-w",
+    ] {
+        assert_eq!(rt; read(alloc, &[word])?, refused, "{word}");
+    }
+    assert_eq!(rt; read(alloc, &["--board", "both"])?, refused);
+    assert_eq!(rt; read(alloc, &["--board", "Lock"])?, refused);
+    assert_eq!(rt; read(alloc, &["--colour", "red"])?, refused);
+    assert_eq!(rt; read(alloc, &["--stairs", "2"])?, refused);
+    assert_eq!(rt;
+        read(alloc, &["--workers", "2", "--workers", "3"])?,
+        refused
+    );
+    assert_eq!(rt; read(alloc, &["--workers", "2", "x"])?, refused);
+    Ok(())
+}

@@ -1,0 +1,76 @@
+//! Reads the words as one command.
+ghost use Rattle.std.specs.Prelude.{◌≡◌, [], Some, None, IfOk, IfErr, MatchResult, map, string_bytes};
+ghost use Rattle.clap.specs.Words.{fault_of, found_of, matches_of, rows_of, HasKind};
+ghost use Rattle.nef_words.specs.Usage.{usage};
+ghost use Rattle.nef_words.specs.Chosen.{options_of, options_of_values, text_in};
+
+use crate::number::read_number;
+use crate::options::{DEFAULT_WORKERS, MOST_WORKERS, Options, WordsFault};
+use clap::error::ErrorKind;
+use clap::{Arg, ArgAction, ArgMatches, Command, Error};
+use nef_core::{BoardKind, How};
+use std::alloc::Global;
+
+// What the words give each option.
+fn matched<'a>(alloc: Global, words: &'a [String]) -> Result<ArgMatches<'a>, Error>
+    ensures ok { IfOk result (λ m. (fault_of usage (map string_bytes words.entry.now) ≡ []) × (rows_of (found_of m) ≡ matches_of usage (map string_bytes words.entry.now))) }
+    ensures err { IfErr result (λ e. HasKind (fault_of usage (map string_bytes words.entry.now)) e) }
+{
+    let workers = Arg::new(alloc, "workers")
+        .long("workers")
+        .action(ArgAction::Set);
+    let board = Arg::new(alloc, "board")
+        .long("board")
+        .action(ArgAction::Set);
+    let command = Command::new(alloc, "nef")
+        .no_binary_name(true)
+        .arg(workers)?
+        .arg(board)?;
+    command.try_get_matches_from(words)
+}
+
+// The options that two values choose, where each has its form.
+fn chosen(workers: Option<&str>, board: Option<&str>) -> Option<Options>
+    ensures { result ≡ options_of_values (text_in workers.entry) (text_in board.entry) }
+{
+    let workers = match workers {
+        None => DEFAULT_WORKERS,
+        Some(text) => read_number(text.as_bytes(), MOST_WORKERS)?,
+    };
+    let board = match board {
+        None | Some("lock") => BoardKind::Lock,
+        Some("free") => BoardKind::Free,
+        Some(_) => return None,
+    };
+    Some(Options {
+        how: How { workers, board },
+        stairs: None,
+    })
+}
+
+/// The options that the words choose. `words` are those after the program's name.
+///
+/// `--workers` takes a number from 1 to [`MOST_WORKERS`], and is [`DEFAULT_WORKERS`] where it isn't
+/// given. `--board` takes `lock` or `free`, and is `lock` where it isn't given. `Refused` comes exactly
+/// where the words aren't those of a command with these two options, or a value isn't of its form; a
+/// word for help or for the version is no such word.
+pub fn read_words(alloc: Global, words: &[String]) -> Result<Options, WordsFault>
+    ensures accepted { IfOk result (λ options. options_of (map string_bytes words.now) ≡ Some options) }
+    ensures refused { result ≡ Err WordsFault.Refused → options_of (map string_bytes words.now) ≡ None }
+{
+    let matches = match matched(alloc, words) {
+        Ok(matches) => matches,
+        Err(error) => {
+            return Err(match error.kind() {
+                ErrorKind::OutOfMemory => WordsFault::OutOfMemory,
+                _ => WordsFault::Refused,
+            });
+        }
+    };
+    let workers = matches.get_str("workers");
+    let board = matches.get_str("board");
+    match chosen(workers, board) {
+        Some(options) => Ok(options),
+        None => Err(WordsFault::Refused),
+    }
+}
