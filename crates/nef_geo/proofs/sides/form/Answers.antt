@@ -1,12 +1,13 @@
 use Rattle.std.proofs.Common.{ℕ, ℤ, List, [], ◌∷◌, w64, sym, ◌∙◌}
 use mir.Syntax.{w128}
 use Rattle.nef_space.specs.Limits.{normal_limit, offset_limit, point_limit, weight_limit}
-use Rattle.nef_exact.proofs.Machine.{Code, load, wrap, ◌⊞◌, ◌⊠◌, Limited, exact_of, fits_of}
+use Rattle.nef_exact.proofs.Machine.{Code, load, wrap, ◌⊞◌, ◌⊠◌, Limited, exact_of, fits_of, size_of}
 use Rattle.nef_geo.specs.Shapes.{form_of}
+use Rattle.nef_geo.specs.Widths.{point_form_limit}
 use Rattle.nef_geo.specs.declared.plane.Plane.{Plane}
 use Rattle.nef_geo.specs.declared.point.Point.{Point}
 use Rattle.nef_geo.proofs.Places.{form_at-place_of}
-use Rattle.nef_geo.proofs.side.form.Goals as goal
+use Rattle.nef_geo.proofs.sides.form.Goals as goal
 
 -- the bounds of a, b, c, d, x, y, z, w
 abbrev sizes : List ℕ
@@ -40,8 +41,10 @@ overflow_add-result-2 c = fits_of sizes (numbers c.args.h.now c.args.p.now) w128
 pub overflow_add-result-3 : goal.overflow_add-result-3
 overflow_add-result-3 c = fits_of sizes (numbers c.args.h.now c.args.p.now) w128 four (limits c.args.h.now c.args.p.now) tt
 
-pub returns : goal.returns
-returns c = record {
-  value = exact_of sizes (numbers c.args.h.now c.args.p.now) (wrap w128 four) (limits c.args.h.now c.args.p.now) tt
-      ∙ sym (form_at-place_of (form_of c.args.h.now) c.args.p.now);
-}
+pub returns-clause-value : goal.returns-clause-value
+returns-clause-value c =
+    exact_of sizes (numbers c.args.h.now c.args.p.now) (wrap w128 four) (limits c.args.h.now c.args.p.now) tt
+    ∙ sym (form_at-place_of (form_of c.args.h.now) c.args.p.now)
+
+pub returns-clause-width : goal.returns-clause-width
+returns-clause-width c = size_of sizes (numbers c.args.h.now c.args.p.now) point_form_limit (wrap w128 four) (limits c.args.h.now c.args.p.now) tt tt
