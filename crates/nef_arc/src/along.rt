@@ -28,11 +28,13 @@ pub fn next_along(arc: &Arc, d: &Dir, e: &Dir) -> Ordering
     ensures equal { (result ≡ Ordering.Equal) ↔ SameDirection (vector_of d.now) (vector_of e.now) }
     ensures greater { (result ≡ Ordering.Greater) ↔ IsOnBefore arc.now (vector_of d.now) (vector_of e.now) }
 {
-    if strictly_on(&Arc::of(arc.source, *e, arc.normal), d) {
+    if d == e {
+        return Ordering::Equal;
+    }
+    let way = Arc::of(arc.source, *e, arc.normal);
+    if strictly_on(&way, d) {
         Ordering::Less
-    } else if strictly_on(&Arc::of(arc.source, *d, arc.normal), e) {
-        Ordering::Greater
     } else {
-        Ordering::Equal
+        Ordering::Greater
     }
 }

@@ -23,7 +23,11 @@ fn in_order(d: Dir, e: Dir) -> Crossing
     requires apart { vector_of d ≢ vector_of e }
     ensures in_order { ((result ≡ Two d e) × IsBelow (triple_of (vector_of d)) (triple_of (vector_of e))) ⊎ ((result ≡ Two e d) × IsBelow (triple_of (vector_of e)) (triple_of (vector_of d))) }
 {
-    if d < e { Crossing::Two(d, e) } else { Crossing::Two(e, d) }
+    if d < e {
+        Crossing::Two(d, e)
+    } else {
+        Crossing::Two(e, d)
+    }
 }
 
 /// The directions strictly on both arcs, whose normals aren't parallel and have entries of at most `2^11` in size.

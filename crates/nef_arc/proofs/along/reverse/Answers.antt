@@ -1,6 +1,5 @@
 use Rattle.std.proofs.Common.{◌≡◌, pos, sym, subst, rules}
 use Rattle.nef_space.specs.Vectors.{Vector, dot, opposite}
-use Rattle.nef_geo.specs.Shapes.{vector_of}
 use Rattle.nef_cyclic.proofs.Directions.{level-opposite}
 use Rattle.nef_arc.specs.Arcs.{normal_vector, source_vector, target_vector}
 use Rattle.nef_arc.proofs.Ends.{source_on, target_on}

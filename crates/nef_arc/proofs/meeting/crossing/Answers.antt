@@ -1,7 +1,6 @@
 use Rattle.std.proofs.Common.{refl, sym, subst, inl, inr}
 use Rattle.nef_geo.specs.Shapes.{vector_of}
 use Rattle.nef_arc.specs.Arcs.{IsCrossing}
-use Rattle.nef_arc.specs.declared.common.Crossing.{Crossing}
 use Rattle.nef_arc.proofs.SignNumbers.{not_true}
 use Rattle.nef_arc.proofs.Candidates.{Candidates, none_on, first_on, second_on, both_on, both_on_turned}
 use Rattle.nef_arc.proofs.meeting.crossing.Goals as goal
@@ -11,10 +10,12 @@ returns-in-true-true c =
     let a = c.args.a.now in let b = c.args.b.now in let x = vector_of c.in-Some.ahead in let y = vector_of c.back-behind.result in
     let pair : Candidates a b x y = record { apart = c.requires.apart; crossed = c.in-Some.ensures.cross; opposed = c.back-behind.ensures.back } in
     let n = c.in-true-true.ensures.on.0 refl in let m = c.in-true-true.ensures'.on.0 refl in
-    record { crossing = elim c.in_order.ensures.in_order [
-      inl h ↦ subst (IsCrossing a b) (sym h.0) (both_on a b x y pair n m h.1)
-      | inr h ↦ subst (IsCrossing a b) (sym h.0) (both_on_turned a b x y pair n m h.1)
-    ] }
+    record {
+      crossing = elim c.in_order.ensures.in_order [
+        | inl h ↦ subst (IsCrossing a b) (sym h.0) (both_on a b x y pair n m h.1)
+        | inr h ↦ subst (IsCrossing a b) (sym h.0) (both_on_turned a b x y pair n m h.1)
+      ];
+    }
 
 pub returns-in-true-false : goal.returns-in-true-false
 returns-in-true-false c =
