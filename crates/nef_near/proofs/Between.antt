@@ -13,7 +13,8 @@ use Rattle.nef_space.specs.Local.{HasLabel}
 use Rattle.nef_space.specs.declared.label.Label.{Label}
 use Rattle.nef_near.specs.Cells.{sign_at, carriers, SameSigns}
 use Rattle.nef_near.specs.Cones.{IsOnSegment}
-use Rattle.nef_near.proofs.Cells.{same-sym, reach_all, keeps-all, is_nought}
+use Rattle.nef_near.proofs.Cells.{same-sym, keeps-all, is_nought}
+use Rattle.nef_forms.proofs.Near.{reach_all}
 use Rattle.nef_near.proofs.Germs.{Label-cells}
 use Rattle.nef_near.proofs.Rays.{square-positive, square-some, positive-factor, toward-same, same-place_sym, decided-zero}
 use Rattle.nef_near.proofs.Segment.{Between, opposite, joint}

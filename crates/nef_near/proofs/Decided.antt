@@ -14,8 +14,9 @@ use Rattle.nef_space.specs.Sets.{Set, Holds, Interior, Closure, InHalf, halves}
 use Rattle.nef_space.specs.Local.{IsShort, HasLabel, Germ}
 use Rattle.nef_space.specs.declared.label.Label.{Label}
 use Rattle.nef_space.specs.declared.label.Label.TheVariants.{Out, Not, In}
-use Rattle.nef_near.proofs.Near.{stride, step-within}
-use Rattle.nef_near.proofs.Cells.{same-sym, reach_all, reach-some, Cells, Inside, InFrame-cells, Holds-cells, Interior-cells, lies-left, lies-right}
+use Rattle.nef_forms.proofs.Near.{stride, step-within, reach_all}
+use Rattle.nef_near.proofs.Cells.{same-sym, reach-some, Cells, Inside, InFrame-cells, Holds-cells, Interior-cells}
+use Rattle.nef_exact.proofs.Lists.{lies-left, lies-right}
 use Rattle.nef_near.proofs.Germs.{near-same, sign-along, Germ-from_sample, sample}
 use Rattle.nef_near.proofs.Flats.{sign-toward}
 

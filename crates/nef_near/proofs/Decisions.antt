@@ -11,7 +11,7 @@ use Rattle.nef_space.specs.declared.label.Label.{Label}
 use Rattle.nef_space.specs.declared.label.Label.TheVariants.{Out, Not, In}
 use Rattle.nef_near.specs.Cells.{frame, carriers, SameSlopes}
 use Rattle.nef_near.specs.Cones.{NearGerm, SameCone}
-use Rattle.nef_near.proofs.Cells.{lies-left, lies-right}
+use Rattle.nef_exact.proofs.Lists.{lies-left, lies-right}
 use Rattle.nef_near.proofs.Germs.{Germ-unique, label-one, sample, sample-short}
 use Rattle.nef_near.proofs.Flats.{Germ-by_signs}
 use Rattle.nef_near.proofs.Decided.{Decided, Holds-decided, label_of, germ_of, every, decided-not, decided-to, ways, way_of, to_vector}

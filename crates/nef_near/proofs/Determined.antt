@@ -11,8 +11,7 @@ use Rattle.nef_space.specs.declared.label.Label.TheVariants.{Out}
 use Rattle.nef_near.specs.Cells.{carriers}
 use Rattle.nef_near.specs.Cones.{SameCone, IsOnSegment}
 use Rattle.nef_near.specs.Laws.{IsFlatBelow, Drop, SameGerms}
-use Rattle.nef_near.proofs.Near.{weaken}
-use Rattle.nef_near.proofs.Cells.{reach_all}
+use Rattle.nef_forms.proofs.Near.{weaken, reach_all}
 use Rattle.nef_near.proofs.Germs.{Germ-unique}
 use Rattle.nef_near.proofs.Decided.{InFrame-decided}
 use Rattle.nef_near.proofs.Rays.{Germ-zero, signs-same, same-place_sym, direction-first, direction-of_same}

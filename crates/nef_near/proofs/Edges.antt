@@ -15,7 +15,7 @@ use Rattle.nef_space.specs.Local.{Flat, FlatDim, IsVertex}
 use Rattle.nef_near.specs.Cells.{carriers}
 use Rattle.nef_near.specs.Cones.{combination}
 use Rattle.nef_near.specs.Laws.{FirstChange, IsFlatBelow, Drop, WayEnd, EdgeAround}
-use Rattle.nef_near.proofs.Cells.{reach_all}
+use Rattle.nef_forms.proofs.Near.{reach_all}
 use Rattle.nef_near.proofs.Flats.{Flat-from_cone, FlatCone-from_flat, vector-same}
 use Rattle.nef_near.proofs.Rays.{direction-first, direction-of_same, zero-or, signs-same, slope-same, same-place_sym, decided-zero}
 use Rattle.nef_near.proofs.Alike.{germs-by_cell, Flat-by_germs, FlatDim-by_germs, FlatDim-one}

@@ -14,8 +14,8 @@ use Rattle.nef_space.specs.declared.label.Label.{Label}
 use Rattle.nef_near.specs.Cells.{sign_at, carriers, SameSigns}
 use Rattle.nef_near.specs.Cones.{slide, combination, NearGerm, FlatCone, IsOnSegment}
 use Rattle.nef_near.specs.Laws.{IsSettled, SameGerms}
-use Rattle.nef_near.proofs.Near.{step-within}
-use Rattle.nef_near.proofs.Cells.{reach_all, reach-some, keeps-all, is_nought, Cells}
+use Rattle.nef_forms.proofs.Near.{step-within, reach_all}
+use Rattle.nef_near.proofs.Cells.{reach-some, keeps-all, is_nought, Cells}
 use Rattle.nef_near.proofs.Germs.{Germ-unique, near-same, sign-along, sample, sample-short}
 use Rattle.nef_near.proofs.Flats.{Flat-from_cone, FlatCone-from_flat, FlatCone-from_carriers, vector-same, sign-toward}
 use Rattle.nef_near.proofs.Rays.{zero-or, decided-zero, square-some, toward-same, toward-self, same-place_sym, signs-same, Germ-zero}

@@ -13,7 +13,8 @@ use Rattle.nef_space.specs.Local.{Germ, Flat, FlatDim}
 use Rattle.nef_space.specs.declared.label.Label.{Label}
 use Rattle.nef_near.specs.Cells.{sign_at, carriers, SameSlopes, SameSlopesAt}
 use Rattle.nef_near.specs.Cones.{slide, NearGerm, FlatCone}
-use Rattle.nef_near.proofs.Cells.{lies-left, lies-right, is_nought}
+use Rattle.nef_near.proofs.Cells.{is_nought}
+use Rattle.nef_exact.proofs.Lists.{lies-left, lies-right}
 use Rattle.nef_near.proofs.Germs.{Germ-unique}
 use Rattle.nef_near.proofs.Flats.{Flat-from_cone, FlatCone-from_flat, Germ-by_signs, slope-slide, vector-same}
 use Rattle.nef_near.proofs.Decided.{Decided, germ_of, every, decided-both, decided-not}

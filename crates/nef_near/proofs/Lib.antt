@@ -1,4 +1,3 @@
-pub mod Near
 pub mod Cells
 pub mod Germs
 pub mod Flats

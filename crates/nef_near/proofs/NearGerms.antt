@@ -11,8 +11,8 @@ use Rattle.nef_space.specs.Vectors.{Vector, blend}
 use Rattle.nef_space.specs.Sets.{Set}
 use Rattle.nef_space.specs.Local.{IsShort, Germ}
 use Rattle.nef_space.specs.declared.label.Label.{Label}
-use Rattle.nef_near.proofs.Near.{step-within}
-use Rattle.nef_near.proofs.Cells.{same-sym, reach_all, keeps-all, is_nought}
+use Rattle.nef_forms.proofs.Near.{step-within, reach_all}
+use Rattle.nef_near.proofs.Cells.{same-sym, keeps-all, is_nought}
 use Rattle.nef_near.proofs.Germs.{Label-cells, sign-along, short_enough}
 use Rattle.nef_near.proofs.Flats.{slope-slide}
 

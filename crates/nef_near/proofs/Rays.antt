@@ -12,8 +12,9 @@ use Rattle.nef_space.specs.Sets.{Set, Holds, halves}
 use Rattle.nef_space.specs.Local.{IsShort, HasLabel, Germ}
 use Rattle.nef_space.specs.declared.label.Label.{Label}
 use Rattle.nef_near.specs.Cells.{sign_at, frame, carriers, SameSigns, SameSlopesAt}
-use Rattle.nef_near.proofs.Near.{step-within}
-use Rattle.nef_near.proofs.Cells.{reach_all, keeps-all, is_nought, lies-left, lies-right, Holds-cells}
+use Rattle.nef_forms.proofs.Near.{step-within, reach_all}
+use Rattle.nef_near.proofs.Cells.{keeps-all, is_nought, Holds-cells}
+use Rattle.nef_exact.proofs.Lists.{lies-left, lies-right}
 use Rattle.nef_near.proofs.Germs.{Label-cells, locality, short_enough, sign-along}
 
 -- ---- the zero vector

@@ -7,7 +7,7 @@ use Rattle.nef_exact.proofs.Order.{Sign, minus, nought, plus, sign, sign_times, 
 use Rattle.nef_exact.specs.Signs.{Lies}
 use Rattle.nef_near.specs.Cells.{sign_at, SameSigns}
 use Rattle.nef_space.specs.Place.{Place, Form, form_at, Within}
-use Rattle.nef_near.proofs.Near.{gap}
+use Rattle.nef_forms.proofs.Near.{gap}
 use Rattle.nef_near.proofs.Cells.{Cells}
 
 -- r lies on the segment from p to q: k r = i p + j q

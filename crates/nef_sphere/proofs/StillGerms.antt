@@ -10,8 +10,7 @@ use Rattle.nef_space.specs.Sets.{Set}
 use Rattle.nef_space.specs.Local.{HasLabel, Germ, IsShort}
 use Rattle.nef_space.specs.declared.label.Label.{Label}
 use Rattle.nef_near.specs.Cells.{carriers}
-use Rattle.nef_near.proofs.Near.{step-within}
-use Rattle.nef_near.proofs.Cells.{reach_all}
+use Rattle.nef_forms.proofs.Near.{step-within, reach_all}
 use Rattle.nef_near.proofs.Germs.{locality, short_enough, sign-along}
 
 pub germ-nought : (s : Set) (p : Place) (e : Vector) (m : Label) → IsZero e → Germ s p e m → HasLabel s p m
