@@ -15,7 +15,7 @@ use Rattle.nef_exact.proofs.Lists.{lies-left, lies-right}
 use Rattle.nef_near.proofs.Germs.{Germ-unique, label-one, sample, sample-short}
 use Rattle.nef_near.proofs.Flats.{Germ-by_signs}
 use Rattle.nef_near.proofs.Decided.{Decided, Holds-decided, label_of, germ_of, every, decided-not, decided-to, ways, way_of, to_vector}
-use Rattle.nef_near.proofs.Rays.{decided-zero}
+use Rattle.nef_forms.proofs.Directions.{zero-decided}
 use Rattle.nef_near.proofs.NearGerms.{near-from_there, there-from_near}
 
 -- ---- representatives
@@ -99,7 +99,7 @@ pub all-directions : (s : Set) (p : Place) (l : Label) → ((d : Vector) → IsD
 all-directions s p l = by (representatives (axes ++ carriers s))
   where
     found : (v : Vector) → ((IsDirection v → Germ s p v l) → ⊥) → (d : Vector) × IsDirection d × (Germ s p d l → ⊥)
-    found v n = (v, ⊎_elim (λ z. absurd (n (λ i. absurd (i z)))) (λ i. i) (decided-zero v), λ g. n (λ i. g))
+    found v n = (v, ⊎_elim (λ z. absurd (n (λ i. absurd (i z)))) (λ i. i) (zero-decided v), λ g. n (λ i. g))
 
     by : ((vs : List Vector) × ((d : Vector) → (v : Vector) × Lies vs v × SameSlopes (axes ++ carriers s) d v)) → ((d : Vector) → IsDirection d → Germ s p d l) ⊎ ((d : Vector) × IsDirection d × (Germ s p d l → ⊥))
     by (vs, f) = ⊎_elim
@@ -107,7 +107,7 @@ all-directions s p l = by (representatives (axes ++ carriers s))
         (λ g. inl (λ d i.
         let v = f d in
         Germ-by_signs s p v.0 d (λ h m o. sym (v.2 h (lies-right axes (carriers s) h m))) l (g v.0 v.1 (still-direction (carriers s) d v.0 v.2 i))))
-        (every vs (λ v. IsDirection v → Germ s p v l) (λ v. decided-to (decided-not (⊎_elim (λ z. inl z) (λ i. inr i) (decided-zero v))) (germ-decided s p v l)))
+        (every vs (λ v. IsDirection v → Germ s p v l) (λ v. decided-to (decided-not (⊎_elim (λ z. inl z) (λ i. inr i) (zero-decided v))) (germ-decided s p v l)))
 
 -- ---- near directions
 -- a short step along d, at which the germs are the germs near d

@@ -11,8 +11,6 @@ pub mod Decisions
 pub mod Topology
 pub mod FlatOperations
 pub mod Meets
-pub mod Segment
-pub mod FirstHit
 pub mod Between
 pub mod FirstChange
 pub mod Examples

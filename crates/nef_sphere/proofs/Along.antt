@@ -7,7 +7,7 @@ use Rattle.nef_exact.proofs.Order.{Sign, sign, sign-plus, sign-minus}
 use Rattle.nef_exact.specs.Signs.{Lies}
 use Rattle.nef_space.specs.Vectors.{Vector, IsDirection, cross, dot, blend}
 use Rattle.nef_space.specs.declared.label.Label.{Label}
-use Rattle.nef_near.proofs.Segment.{opposite, sign-inside, opposite-left, opposite-right, balance}
+use Rattle.nef_forms.proofs.Crossings.{opposite, sign-inside, opposite-left, opposite-right, balance}
 use Rattle.nef_sphere.specs.Vectors.{comb}
 use Rattle.nef_sphere.specs.Forms.{SameSigns}
 use Rattle.nef_sphere.specs.Least.{by_side}

@@ -6,7 +6,7 @@ use Rattle.nef_exact.proofs.Order.{Sign, minus, nought, plus, sign}
 use Rattle.nef_exact.specs.Signs.{Lies}
 use Rattle.nef_space.specs.Vectors.{Vector, IsDirection, cross, dot, IsZero, IsOpposite, blend}
 use Rattle.nef_space.specs.declared.label.Label.{Label}
-use Rattle.nef_near.proofs.Segment.{opposite, sign-inside, opposite-left, opposite-right, balance, weight}
+use Rattle.nef_forms.proofs.Crossings.{opposite, sign-inside, opposite-left, opposite-right, balance, weight}
 use Rattle.nef_sphere.specs.Forms.{SameSigns}
 use Rattle.nef_sphere.specs.Labelling.{Labelling, Plain}
 use Rattle.nef_sphere.proofs.Vectors.{dot-comb, dot-nought, nought-decided}
