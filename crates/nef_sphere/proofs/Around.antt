@@ -7,7 +7,8 @@ use Rattle.nef_exact.proofs.Order.{by_order, mul_pos}
 use Rattle.nef_space.specs.Vectors.{Vector, IsDirection, triple, cross, dot, IsZero, SameDirection, IsOpposite}
 use Rattle.nef_sphere.specs.Maps.{At, StrictlyOn, Svertex, Map, Item, arc_item, loop_item, items, item_normal, way_of, OnItem, IsFree, Shaped}
 use Rattle.nef_sphere.specs.Forms.{Keeps, arc_forms, forms}
-use Rattle.nef_sphere.proofs.Vectors.{normal-is, triple-last, triple-middle, self-pos, nought-if, same-plus, same-minus}
+use Rattle.nef_sphere.proofs.Vectors.{normal-is, triple-last, triple-middle, nought-if, same-plus, same-minus}
+use Rattle.nef_forms.proofs.Directions.{self-pos}
 use Rattle.nef_sphere.proofs.Lists.{at-one}
 use Rattle.nef_sphere.proofs.Places.{kept-nought, kept-minus, direction-stays, SameDirection-back}
 use Rattle.nef_sphere.proofs.Forms.{axes-forms, svertex-forms, item-forms, on-direction, on-level, OnItem-stays, OnItem-by_signs}

@@ -9,7 +9,8 @@ use Rattle.nef_sphere.specs.Maps.{At, StrictlyOn, Svertex, Arc, Loop, Map, Item,
 use Rattle.nef_sphere.specs.Least.{by_side}
 use Rattle.nef_sphere.specs.Labelling.{Labelling, Near, Plain, Agrees, StraightAt, IsSmooth, plain, straight}
 use Rattle.nef_sphere.specs.Builds.{StraightAfter, Proper, IsBuilt}
-use Rattle.nef_sphere.proofs.Vectors.{Decided, nought-or, normal-direction}
+use Rattle.nef_sphere.proofs.Vectors.{Decided, normal-direction}
+use Rattle.nef_forms.proofs.Far.{nought-or}
 use Rattle.nef_sphere.proofs.Generic.{amount}
 use Rattle.nef_sphere.proofs.Lists.{Found, search_list, at-one}
 use Rattle.nef_sphere.proofs.Places.{StrictlyOn-decided}

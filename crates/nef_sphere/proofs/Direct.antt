@@ -8,9 +8,12 @@ use Rattle.nef_space.specs.Vectors.{Vector, IsDirection, cross, dot, IsZero, Sam
 use Rattle.nef_space.specs.declared.label.Label.{Label}
 use Rattle.nef_sphere.specs.Vectors.{comb}
 use Rattle.nef_sphere.specs.Maps.{At, Svertex, Map, Item, items, item_normal, item_above, item_below, OnItem, IsFree, Side, above_item, below_item, HasSide, IsClear, Reaches, Shaped}
-use Rattle.nef_sphere.proofs.Vectors.{normal-is, dot-comb, comb-dot, nought-or, square_pos, direction-by}
+use Rattle.nef_sphere.proofs.Vectors.{normal-is, dot-comb, comb-dot, direction-by}
+use Rattle.nef_forms.proofs.Far.{nought-or}
+use Rattle.nef_forms.proofs.Directions.{square_pos}
 use Rattle.nef_sphere.proofs.Generic.{Keeps, Generic, generic}
-use Rattle.nef_sphere.proofs.Lists.{lies-left, lies-right, gather, gather-has}
+use Rattle.nef_sphere.proofs.Lists.{gather, gather-has}
+use Rattle.nef_exact.proofs.Lists.{lies-left, lies-right}
 use Rattle.nef_sphere.proofs.Forms.{item_forms, on-direction, on-level, OnItem-stays}
 use Rattle.nef_sphere.proofs.Parallel.{apart, miss}
 use Rattle.nef_sphere.proofs.Shot.{times-sign, product-off, item-point, Target, Shot, shoot}

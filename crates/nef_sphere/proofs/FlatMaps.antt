@@ -11,7 +11,9 @@ use Rattle.nef_sphere.specs.Maps.{At, Svertex, Map, MapLabel, NearLabel, Valid}
 use Rattle.nef_sphere.specs.Forms.{SameSigns, forms}
 use Rattle.nef_sphere.specs.Least.{by_side, NearStraight, Least}
 use Rattle.nef_sphere.specs.Kinds.{Full, FlatMap}
-use Rattle.nef_sphere.proofs.Vectors.{dot-comb, dot-comm, nought-or, self-pos, nought-decided}
+use Rattle.nef_sphere.proofs.Vectors.{dot-comb}
+use Rattle.nef_forms.proofs.Far.{nought-or}
+use Rattle.nef_forms.proofs.Directions.{dot-comm, self-pos, zero-decided}
 use Rattle.nef_sphere.proofs.Generic.{amount, amount-above, far-keeps, far-level}
 use Rattle.nef_sphere.proofs.Forms.{direction-by_signs}
 use Rattle.nef_sphere.proofs.Parallel.{vector-same, apart}
@@ -215,4 +217,4 @@ module _ (M : Map) (V : Valid M) (d : Vector) (F : FlatMap M d) (v : Vector) (of
 -- ---- least maps
 module _ (M : Map) (V : Valid M) (L : Least M) (d : Vector) (F : FlatMap M d) where
   pub flat-svertex : (k : ℕ) (v : Svertex) → At M.svertices k v → IsZero (cross v.way d)
-  flat-svertex k v a = ⊎_elim (λ z. z) (λ f. absurd (L.no_straight k v a (flat-straight M V d F v.way f))) (nought-decided (cross v.way d))
+  flat-svertex k v a = ⊎_elim (λ z. z) (λ f. absurd (L.no_straight k v a (flat-straight M V d F v.way f))) (zero-decided (cross v.way d))

@@ -8,7 +8,9 @@ use Rattle.nef_exact.specs.Signs.{Lies}
 use Rattle.nef_space.specs.Vectors.{Vector, IsDirection, dot, SameDirection, IsOpposite, blend}
 use Rattle.nef_space.specs.declared.label.Label.{Label}
 use Rattle.nef_sphere.specs.Maps.{At, Svertex, Map, Item, items, item_mark, OnItem, IsFree, IsClear, Sees, directly, by_way_of, SeenAs, MapLabel, at_svertex, on_item, seen, NearLabel, Valid}
-use Rattle.nef_sphere.proofs.Vectors.{dot-comb, same-plus, same-minus, same-nought, self-pos, dot-nought}
+use Rattle.nef_sphere.proofs.Vectors.{dot-comb, same-plus, same-minus}
+use Rattle.nef_forms.proofs.Far.{same-nought}
+use Rattle.nef_forms.proofs.Directions.{self-pos, dot-zero}
 use Rattle.nef_sphere.proofs.Generic.{SameSigns, amount, far-keeps, far-same}
 use Rattle.nef_sphere.proofs.Lists.{at-one}
 use Rattle.nef_sphere.proofs.Places.{axes, axis_x, axis_y, axis_z, axis_x-is, axis_y-is, axis_z-is, direction-stays}
@@ -32,7 +34,7 @@ way-signs v d g h w =
     sym (times-sign (dot v v) (dot g d) (self-pos v h)) ∙ ap sign e ∙ times-sign (dot v d) (dot g v) w.forward
 
 pub way-direction : (v d : Vector) → SameDirection v d → IsDirection d
-way-direction v d w z = let e = dot-nought v d z in let h = w.forward in omega (arith, ints)
+way-direction v d w z = let e = dot-zero v d z in let h = w.forward in omega (arith, ints)
 
 -- two that go the way of d
 pub way-joined : (v u d : Vector) → SameDirection v d → SameDirection u d → SameDirection v u

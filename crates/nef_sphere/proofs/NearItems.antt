@@ -9,7 +9,9 @@ use Rattle.nef_sphere.specs.Maps.{At, Map, Item, items, item_normal, item_above,
 use Rattle.nef_sphere.specs.Forms.{Keeps, axes, forms}
 use Rattle.nef_sphere.specs.Least.{by_side, NearPlain, NearStraight}
 use Rattle.nef_sphere.proofs.Parallel.{cross-turned}
-use Rattle.nef_sphere.proofs.Vectors.{normal-is, dot-comm, dot-comb, nought-or}
+use Rattle.nef_sphere.proofs.Vectors.{normal-is, dot-comb}
+use Rattle.nef_forms.proofs.Far.{nought-or}
+use Rattle.nef_forms.proofs.Directions.{dot-comm}
 use Rattle.nef_sphere.proofs.Generic.{amount, far-keeps, far-level}
 use Rattle.nef_sphere.proofs.Places.{axis_x, axis_y, axis_z, axis_x-is, axis_y-is, axis_z-is}
 use Rattle.nef_sphere.proofs.Forms.{axes-forms, on-direction, on-level}

@@ -6,7 +6,9 @@ use Rattle.nef_exact.proofs.Combination.{follows, follows_times, given, none}
 use Rattle.nef_exact.proofs.Order.{sign, nought-is}
 use Rattle.nef_space.specs.Vectors.{Vector, IsDirection, triple, cross, vector, dot, IsZero, SameDirection, blend}
 use Rattle.nef_sphere.specs.Maps.{OnCircle, StrictlyOn}
-use Rattle.nef_sphere.proofs.Vectors.{Decided, dot-comb, dot-comm, triple-last, triple-middle, nought-or, same-plus, same-off, square_pos, nought-decided, dot-nought, self-pos, nought-if}
+use Rattle.nef_sphere.proofs.Vectors.{Decided, dot-comb, triple-last, triple-middle, same-plus, nought-if}
+use Rattle.nef_forms.proofs.Far.{nought-or, same-off}
+use Rattle.nef_forms.proofs.Directions.{dot-comm, square_pos, zero-decided, dot-zero, self-pos}
 use Rattle.nef_sphere.proofs.Generic.{amount, far-keeps, far-level}
 use Rattle.nef_sphere.proofs.Places.{row_x, row_y, row_z}
 
@@ -88,7 +90,7 @@ row-level n =
     )
 
 pub circle-point : (n : Vector) → IsDirection n → (y : Vector) × OnCircle n y
-circle-point n h = by (nought-decided (row_x n)) (nought-decided (row_y n)) (nought-decided (row_z n))
+circle-point n h = by (zero-decided (row_x n)) (zero-decided (row_y n)) (zero-decided (row_z n))
   where
     by : Decided (IsZero (row_x n)) → Decided (IsZero (row_y n)) → Decided (IsZero (row_z n)) → (y : Vector) × OnCircle n y
     by (inr f) b c = (row_x n, record { direction = f; level = (row-level n).0 })
@@ -131,7 +133,7 @@ module _ (n s t : Vector) (hn : IsDirection n) (hs : IsDirection s) (ht : IsDire
 
   there-off_target : SameDirection t there → ⊥
   there-off_target w =
-      let z : dot back there ≡ pos 0 = sym (triple-middle n there t) ∙ dot-nought n (cross there t) (cross-turned t there w.parallel) in
+      let z : dot back there ≡ pos 0 = sym (triple-middle n there t) ∙ dot-zero n (cross there t) (cross-turned t there w.parallel) in
       ⊎_elim
       (λ y.
       let f = far-level (back ∷ []) s beside number large back y in
@@ -147,8 +149,8 @@ module _ (n s t : Vector) (hn : IsDirection n) (hs : IsDirection s) (ht : IsDire
 
   pub arc-point : StrictlyOn n s t there
   arc-point = record {
-    on_circle = record { direction = λ z. let h = there-ahead in let e = triple-last n s there ∙ dot-nought beside there z in omega (arith, ints); level = there-level };
-    not_source = λ w. let h = there-ahead in let e = dot-nought n (cross s there) w.parallel in omega (arith, ints);
+    on_circle = record { direction = λ z. let h = there-ahead in let e = triple-last n s there ∙ dot-zero beside there z in omega (arith, ints); level = there-level };
+    not_source = λ w. let h = there-ahead in let e = dot-zero n (cross s there) w.parallel in omega (arith, ints);
     not_target = there-off_target;
     less_than_half = λ h. (there-ahead, there-behind h);
     more_than_half = λ h. inl there-ahead;
@@ -159,5 +161,5 @@ module _ (n s t : Vector) (hn : IsDirection n) (hs : IsDirection s) (ht : IsDire
 pub miss : (d v w : Vector) → IsDirection v → (IsDirection (cross d v) → dot (cross d v) w ≡ pos 0 → ⊥) → IsDirection (cross d w) → SameDirection v w → ⊥
 miss d v w h off f m = ⊎_elim
     (λ z. f (parallel-trans d v w h z m.parallel))
-    (λ g. off g (sym (triple-last d v w) ∙ dot-nought d (cross v w) m.parallel))
-    (nought-decided (cross d v))
+    (λ g. off g (sym (triple-last d v w) ∙ dot-zero d (cross v w) m.parallel))
+    (zero-decided (cross d v))

@@ -5,10 +5,12 @@ use Rattle.nef_exact.proofs.Ring.{ring, at, num, ◌⊕◌, ◌⊖◌, ◌⊗◌
 use Rattle.nef_exact.proofs.Order.{sign, by_order}
 use Rattle.nef_exact.specs.Signs.{Lies}
 use Rattle.nef_space.specs.Vectors.{Vector, IsDirection, triple, cross, vector, dot, IsZero, SameDirection, IsOpposite}
-use Rattle.nef_sphere.proofs.Lists.{lies-left, lies-right}
+use Rattle.nef_exact.proofs.Lists.{lies-left, lies-right}
 use Rattle.nef_sphere.specs.Maps.{OnCircle, StrictlyOn}
 pub use Rattle.nef_sphere.specs.Forms.{axis_x, axis_y, axis_z, axes, row_x, row_y, row_z, point_forms, arc_forms}
-use Rattle.nef_sphere.proofs.Vectors.{Decided, triple-last, triple-middle, nought-or, positive-or, negative-or, same-plus, same-minus, same-off, nought-decided, nought-if, nought-dot}
+use Rattle.nef_sphere.proofs.Vectors.{Decided, triple-last, triple-middle, positive-or, negative-or, same-plus, same-minus, nought-if}
+use Rattle.nef_forms.proofs.Far.{nought-or, same-off}
+use Rattle.nef_forms.proofs.Directions.{zero-decided, zero-dot}
 use Rattle.nef_sphere.proofs.Generic.{SameSigns, Keeps}
 
 -- ---- decisions
@@ -32,10 +34,10 @@ if-decided (inl a) (inr n) = inr (λ f. n (f a))
 if-decided (inr n) b = inl (λ a. absurd (n a))
 
 pub direction-decided : (d : Vector) → Decided (IsDirection d)
-direction-decided d = not-decided (nought-decided d)
+direction-decided d = not-decided (zero-decided d)
 
 pub SameDirection-decided : (s d : Vector) → Decided (SameDirection s d)
-SameDirection-decided s d = by (nought-decided (cross s d)) (positive-or (dot s d))
+SameDirection-decided s d = by (zero-decided (cross s d)) (positive-or (dot s d))
   where
     by : Decided (IsZero (cross s d)) → Decided (pos 0 <ℤ dot s d) → Decided (SameDirection s d)
     by (inl p) (inl f) = inl (record { parallel = p; forward = f })
@@ -43,7 +45,7 @@ SameDirection-decided s d = by (nought-decided (cross s d)) (positive-or (dot s 
     by (inr n) f = inr (λ w. n w.parallel)
 
 pub IsOpposite-decided : (s d : Vector) → Decided (IsOpposite s d)
-IsOpposite-decided s d = by (nought-decided (cross s d)) (negative-or (dot s d))
+IsOpposite-decided s d = by (zero-decided (cross s d)) (negative-or (dot s d))
   where
     by : Decided (IsZero (cross s d)) → Decided (dot s d <ℤ pos 0) → Decided (IsOpposite s d)
     by (inl p) (inl f) = inl (record { parallel = p; backward = f })
@@ -130,7 +132,7 @@ module _ (v d e : Vector) (k : Keeps (point_forms v) d e) where
   pub SameDirection-back : IsDirection d → SameDirection v e → SameDirection v d
   SameDirection-back f w = let p = parallel-back w.parallel in by_order (dot v d) (pos 0)
       (λ l. let m = kept-minus v d e (k v (inl refl)) l in let h = w.forward in absurd (omega (arith, ints)))
-      (λ z. absurd (f (nought-if v d (λ y. let a = nought-dot v e y in let h = w.forward in omega (arith, ints)) p z)))
+      (λ z. absurd (f (nought-if v d (λ y. let a = zero-dot v e y in let h = w.forward in omega (arith, ints)) p z)))
       (λ l. record { parallel = p; forward = l })
 
 -- an arc goes on being met in its plane

@@ -6,7 +6,8 @@ use Rattle.nef_exact.proofs.Ring.{ring, at, num, ◌⊕◌, ◌⊖◌, ◌⊗◌
 use Rattle.nef_exact.proofs.Order.{sign, sign_times, sign_of_product, sign-plus, nought-is, by_order}
 use Rattle.nef_space.specs.Vectors.{Vector, IsDirection, cross, dot, blend}
 use Rattle.nef_sphere.specs.Maps.{At, Svertex, Arc, Loop, Map, Item, arc_item, loop_item, items, items_then, item_normal, way_of, OnItem, Shaped}
-use Rattle.nef_sphere.proofs.Vectors.{normal-is, dot-comb, nought-or}
+use Rattle.nef_sphere.proofs.Vectors.{normal-is, dot-comb}
+use Rattle.nef_forms.proofs.Far.{nought-or}
 use Rattle.nef_sphere.proofs.Generic.{SameSigns, amount}
 use Rattle.nef_sphere.proofs.Forms.{item_forms, on-level, OnItem-decided, OnItem-by_signs}
 use Rattle.nef_sphere.proofs.Parallel.{vector-same, circle-point, past_source, arc-point}

@@ -6,7 +6,9 @@ use Rattle.nef_exact.proofs.Order.{sign}
 use Rattle.nef_space.specs.Vectors.{Vector, cross, dot, IsZero, SameDirection, blend}
 use Rattle.nef_space.specs.declared.label.Label.{Label}
 use Rattle.nef_sphere.specs.Maps.{At, Svertex, Arc, Loop, Map, Item, arc_item, loop_item, items, items_then, item_normal, IsFree, Side, around_svertex, whole, HasSide, IsClear, Sees, directly, by_way_of, SeenAs, Shaped, Valid, here, link}
-use Rattle.nef_sphere.proofs.Vectors.{normal-is, dot-comb, nought-or, self-pos}
+use Rattle.nef_sphere.proofs.Vectors.{normal-is, dot-comb}
+use Rattle.nef_forms.proofs.Far.{nought-or}
+use Rattle.nef_forms.proofs.Directions.{self-pos}
 use Rattle.nef_sphere.proofs.Generic.{SameSigns}
 use Rattle.nef_sphere.proofs.Lists.{Found, search_list}
 use Rattle.nef_sphere.proofs.Places.{not-decided}

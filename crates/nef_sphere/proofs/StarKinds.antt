@@ -10,7 +10,8 @@ use Rattle.nef_sphere.specs.Maps.{At, Map, StrictlyOn, NearLabel}
 use Rattle.nef_sphere.specs.Least.{by_side, NearPlain, NearStraight}
 use Rattle.nef_sphere.specs.Stars.{Ray, Star, ray_way, across, OnRay, NextRay, StarLabel, on_ray, in_sector, in_only_sector, StarOf, IsPlain, IsStraight}
 use Rattle.nef_sphere.proofs.Parallel.{cross-turned}
-use Rattle.nef_sphere.proofs.Vectors.{dot-comm, self-pos, normal-direction}
+use Rattle.nef_sphere.proofs.Vectors.{normal-direction}
+use Rattle.nef_forms.proofs.Directions.{dot-comm, self-pos}
 use Rattle.nef_sphere.proofs.Shot.{times-sign}
 use Rattle.nef_sphere.proofs.Labels.{way-signs}
 use Rattle.nef_sphere.proofs.Turn.{way-directed}

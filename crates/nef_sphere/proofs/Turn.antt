@@ -6,7 +6,9 @@ use Rattle.nef_exact.proofs.Order.{sign, by_order}
 use Rattle.nef_space.specs.Vectors.{Vector, IsDirection, triple, cross, dot, SameDirection, IsOpposite}
 use Rattle.nef_sphere.specs.Maps.{StrictlyOn}
 use Rattle.nef_sphere.specs.Forms.{Keeps, arc_forms}
-use Rattle.nef_sphere.proofs.Vectors.{Decided, dot-comm, triple-last, triple-middle, self-pos, dot-nought, same-plus, same-minus, same-nought}
+use Rattle.nef_sphere.proofs.Vectors.{Decided, triple-last, triple-middle, same-plus, same-minus}
+use Rattle.nef_forms.proofs.Far.{same-nought}
+use Rattle.nef_forms.proofs.Directions.{dot-comm, self-pos, dot-zero}
 use Rattle.nef_sphere.proofs.Places.{SameDirection-decided, kept-minus}
 use Rattle.nef_sphere.proofs.Parallel.{parallel-trans, parallel-in_plane, cross-turned}
 use Rattle.nef_sphere.proofs.Labels.{way-signs, way-direction}
@@ -74,10 +76,10 @@ module _ (n s t u : Vector) (hn : IsDirection n) (hs : IsDirection s) (ht : IsDi
   on-by a b e f g = record { on_circle = record { direction = hu; level = lu }; not_source = a; not_target = b; less_than_half = e; more_than_half = f; just_half = g }
 
   opposite-level : IsOpposite s t → triple n s t ≡ pos 0
-  opposite-level o = dot-nought n (cross s t) o.parallel
+  opposite-level o = dot-zero n (cross s t) o.parallel
 
   same-level : SameDirection s t → triple n s t ≡ pos 0
-  same-level o = dot-nought n (cross s t) o.parallel
+  same-level o = dot-zero n (cross s t) o.parallel
 
   -- the whole circle passes all but its end
   pub whole-passes : SameDirection s t → (SameDirection t u → ⊥) → StrictlyOn n s t u
@@ -97,7 +99,7 @@ module _ (n s t u : Vector) (hn : IsDirection n) (hs : IsDirection s) (ht : IsDi
       not_target = λ w. off (SameDirection-turned u t w);
       less_than_half = λ h. (e h, b);
       more_than_half = λ h. inr b;
-      just_half = λ o. d (dot-nought n (cross s u) o.parallel);
+      just_half = λ o. d (dot-zero n (cross s u) o.parallel);
     }
 
     -- beyond the source

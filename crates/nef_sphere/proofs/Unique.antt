@@ -6,7 +6,9 @@ use Rattle.nef_space.specs.Vectors.{Vector, IsDirection, cross, dot, IsZero, Sam
 use Rattle.nef_space.specs.declared.label.Label.{Label}
 use Rattle.nef_sphere.specs.Maps.{At, Svertex, Loop, Map, Item, arc_item, loop_item, items, way_of, IsFree, whole, directly, MapLabel, seen, HasArc, Valid}
 use Rattle.nef_sphere.specs.Least.{NearPlain, NearStraight, Least, SameLabels, MatchedArc, MatchedSvertex, Within}
-use Rattle.nef_sphere.proofs.Vectors.{Decided, same-nought, self-pos}
+use Rattle.nef_sphere.proofs.Vectors.{Decided}
+use Rattle.nef_forms.proofs.Far.{same-nought}
+use Rattle.nef_forms.proofs.Directions.{self-pos}
 use Rattle.nef_sphere.proofs.Lists.{search_list, at-one}
 use Rattle.nef_sphere.proofs.Places.{axis_x, either-decided}
 use Rattle.nef_sphere.proofs.Forms.{PlaceOf, svertex_place, item_place, free_place, place_of}

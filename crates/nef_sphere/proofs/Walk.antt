@@ -9,7 +9,8 @@ use Rattle.nef_space.specs.declared.label.Label.{Label}
 use Rattle.nef_forms.proofs.Crossings.{opposite, sign-inside, opposite-left, opposite-right, balance, weight}
 use Rattle.nef_sphere.specs.Forms.{SameSigns}
 use Rattle.nef_sphere.specs.Labelling.{Labelling, Plain}
-use Rattle.nef_sphere.proofs.Vectors.{dot-comb, dot-nought, nought-decided}
+use Rattle.nef_sphere.proofs.Vectors.{dot-comb}
+use Rattle.nef_forms.proofs.Directions.{dot-zero, zero-decided}
 use Rattle.nef_sphere.proofs.Places.{row_x, row_y, row_z, row_x-is, row_y-is, row_z-is}
 use Rattle.nef_sphere.proofs.Parallel.{vector-same, cross-turned}
 use Rattle.nef_sphere.proofs.Direct.{cross-between}
@@ -19,9 +20,9 @@ use Rattle.nef_sphere.proofs.Around.{Beside, same_way, other_way, beside}
 
 pub cross-nought_right : (d e : Vector) → IsZero e → IsZero (cross d e)
 cross-nought_right d e z = (
-  sym (row_x-is d e) ∙ dot-nought (row_x d) e z,
-  sym (row_y-is d e) ∙ dot-nought (row_y d) e z,
-  sym (row_z-is d e) ∙ dot-nought (row_z d) e z,
+  sym (row_x-is d e) ∙ dot-zero (row_x d) e z,
+  sym (row_y-is d e) ∙ dot-zero (row_y d) e z,
+  sym (row_z-is d e) ∙ dot-zero (row_z d) e z,
 )
 
 pub cross-direction_right : (d e : Vector) → IsDirection (cross d e) → IsDirection e
@@ -153,7 +154,7 @@ module _ (gs : List Vector) (F : Vector → Label → Type 0) (L : Labelling gs 
   carried d e hd he off P Q W m a = ⊎_elim
       (λ z. along (beside d e hd he z))
       (λ f. walk (crossings gs d e + 1) d e (omega arith) f P Q W m a)
-      (nought-decided (cross d e))
+      (zero-decided (cross d e))
     where
       along : Beside d e → F e m
       along (same_way w) = L.cells d e m hd he (λ g l. way-signs d e g hd w) a
