@@ -51,7 +51,7 @@ data Rank (hs ks : List Form) (p : Place) : Type 0 where
   rank_2 : (n m : Form) → Lies hs n → sign_at n p ≡ nought → Lies hs m → sign_at m p ≡ nought → IsDirection (cross (normal_of n) (normal_of m)) → ((h : Form) → Lies ks h → sign_at h p ≡ nought → triple (normal_of n) (normal_of m) (normal_of h) ≡ pos 0) → Rank hs ks p
   rank_3 : IsMeet hs p → Rank hs ks p
 
-cross-none : (n m : Vector) → IsZero m → IsZero (cross n m)
+pub cross-none : (n m : Vector) → IsZero m → IsZero (cross n m)
 cross-none n m z = (one n.y n.z m.z m.y z.2 z.1, one n.z n.x m.x m.z z.0 z.2, one n.x n.y m.y m.x z.1 z.0)
   where
     one : (a b x y : ℤ) → x ≡ pos 0 → y ≡ pos 0 → a *ℤ x -ℤ b *ℤ y ≡ pos 0

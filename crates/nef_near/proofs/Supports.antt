@@ -99,7 +99,7 @@ square-to_parallel a b v some z e =
     (given (at 0 ⊗ at 3 ⊕ at 1 ⊗ at 4 ⊕ at 2 ⊗ at 5) (at 3 ⊗ at 6 ⊕ at 4 ⊗ at 7 ⊕ at 5 ⊗ at 8) (num (pos 0)) e none)))) (self-pos b some) tt
 
 -- n x d is at right angles to n
-square-cross : (n d : Vector) → dot n (cross n d) ≡ pos 0
+pub square-cross : (n d : Vector) → dot n (cross n d) ≡ pos 0
 square-cross n d = ring (n.x ∷ n.y ∷ n.z ∷ d.x ∷ d.y ∷ d.z ∷ [])
     (at 0 ⊗ (at 1 ⊗ at 5 ⊖ at 2 ⊗ at 4) ⊕ at 1 ⊗ (at 2 ⊗ at 3 ⊖ at 0 ⊗ at 5) ⊕ at 2 ⊗ (at 0 ⊗ at 4 ⊖ at 1 ⊗ at 3)) (num (pos 0)) tt
 

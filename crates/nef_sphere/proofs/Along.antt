@@ -12,7 +12,8 @@ use Rattle.nef_sphere.specs.Vectors.{comb}
 use Rattle.nef_sphere.specs.Forms.{SameSigns}
 use Rattle.nef_sphere.specs.Least.{by_side}
 use Rattle.nef_sphere.specs.Labelling.{Labelling, Near, StraightAt, IsSmooth, plain, straight}
-use Rattle.nef_sphere.proofs.Vectors.{Decided, dot-comb}
+use Rattle.nef_sphere.proofs.Vectors.{dot-comb}
+use Rattle.nef_near.proofs.Decided.{Decided}
 use Rattle.nef_forms.proofs.Far.{nought-or, same-off, same-nought}
 use Rattle.nef_forms.proofs.Directions.{self-pos}
 use Rattle.nef_sphere.proofs.Generic.{amount, far-keeps, far-level}

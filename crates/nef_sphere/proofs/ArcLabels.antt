@@ -8,10 +8,11 @@ use Rattle.nef_space.specs.declared.label.Label.{Label}
 use Rattle.nef_sphere.specs.Maps.{StrictlyOn}
 use Rattle.nef_sphere.specs.Forms.{SameSigns}
 use Rattle.nef_sphere.specs.Labelling.{Labelling, StraightAt, IsSmooth}
-use Rattle.nef_sphere.proofs.Vectors.{dot-comb, triple-last, triple-middle, direction-by, same-plus, nought-if}
+use Rattle.nef_sphere.proofs.Vectors.{dot-comb, triple-middle, direction-by, same-plus, nought-if}
 use Rattle.nef_forms.proofs.Directions.{dot-comm, self-pos, dot-zero, zero-decided}
 use Rattle.nef_sphere.proofs.Generic.{amount}
-use Rattle.nef_sphere.proofs.Parallel.{past_source, arc-point, there-ahead, cross-turned, parallel-in_plane, parallel-trans}
+use Rattle.nef_sphere.proofs.Parallel.{past_source, arc-point, there-ahead, parallel-in_plane, parallel-trans}
+use Rattle.nef_near.proofs.FlatDecided.{cross-turned, triple-dot}
 use Rattle.nef_sphere.proofs.Shot.{product-off}
 use Rattle.nef_sphere.proofs.Labels.{way-signs}
 use Rattle.nef_sphere.proofs.Around.{Beside, same_way, other_way, beside, opposites, triple-turned, opposite-triple, turn-plus}
@@ -22,7 +23,7 @@ use Rattle.nef_sphere.proofs.Walk.{crossings}
 use Rattle.nef_sphere.proofs.Along.{along, cells}
 
 pub triple-blend : (n s d e : Vector) (i j : ℕ) → triple n s (blend i d j e) ≡ pos i *ℤ triple n s d +ℤ pos j *ℤ triple n s e
-triple-blend n s d e i j = triple-last n s (blend i d j e) ∙ dot-comb (cross n s) (pos i) d (pos j) e ∙ ap (λ r. pos i *ℤ r +ℤ pos j *ℤ dot (cross n s) e) (sym (triple-last n s d)) ∙ ap (λ r. pos i *ℤ triple n s d +ℤ pos j *ℤ r) (sym (triple-last n s e))
+triple-blend n s d e i j = triple-dot n s (blend i d j e) ∙ dot-comb (cross n s) (pos i) d (pos j) e ∙ ap (λ r. pos i *ℤ r +ℤ pos j *ℤ dot (cross n s) e) (sym (triple-dot n s d)) ∙ ap (λ r. pos i *ℤ triple n s d +ℤ pos j *ℤ r) (sym (triple-dot n s e))
 
 pub blend-triple : (n t d e : Vector) (i j : ℕ) → triple n (blend i d j e) t ≡ pos i *ℤ triple n d t +ℤ pos j *ℤ triple n e t
 blend-triple n t d e i j = triple-middle n (blend i d j e) t ∙ dot-comb (cross t n) (pos i) d (pos j) e ∙ ap (λ r. pos i *ℤ r +ℤ pos j *ℤ dot (cross t n) e) (sym (triple-middle n d t)) ∙ ap (λ r. pos i *ℤ triple n d t +ℤ pos j *ℤ r) (sym (triple-middle n e t))
@@ -37,7 +38,7 @@ module _ (n s t : Vector) (hn : IsDirection n) (hs : IsDirection s) (ht : IsDire
   -- on the first half
   on-ahead : (w : Vector) → dot n w ≡ pos 0 → pos 0 <ℤ triple n s w → (pos 0 <ℤ triple n s t → pos 0 <ℤ triple n w t) → StrictlyOn n s t w
   on-ahead w l h g = record {
-    on_circle = record { direction = direction-by (cross n s) w (λ z. let e = triple-last n s w in omega (arith, ints)); level = l };
+    on_circle = record { direction = direction-by (cross n s) w (λ z. let e = triple-dot n s w in omega (arith, ints)); level = l };
     not_source = λ x. let e = dot-zero n (cross s w) x.parallel in omega (arith, ints);
     not_target = λ x. let p = g (same-plus (triple n s w) (triple n s t) (sym (turn-last n s t w x)) h) in let e = dot-zero n (cross w t) (cross-turned t w x.parallel) in omega (arith, ints);
     less_than_half = λ p. (h, g p);
@@ -133,7 +134,7 @@ module _ (gs : List Vector) (F : Vector → Label → Type 0) (L : Labelling gs 
     quarter-direction z = hs (nought-if n s hn z ls)
 
     quarter-ahead : pos 0 <ℤ triple n s quarter
-    quarter-ahead = subst (λ (r : ℤ). pos 0 <ℤ r) (sym (triple-last n s quarter)) (self-pos quarter quarter-direction)
+    quarter-ahead = subst (λ (r : ℤ). pos 0 <ℤ r) (sym (triple-dot n s quarter)) (self-pos quarter quarter-direction)
 
     on-quarter : StrictlyOn n s t quarter
     on-quarter = on-ahead n s t hn hs ht ls lt quarter quarter-level quarter-ahead (λ p. absurd (not-less p))
@@ -184,7 +185,7 @@ module _ (gs : List Vector) (F : Vector → Label → Type 0) (L : Labelling gs 
         not-opposite q = o.not_source (opposites half s d half-direction (record { parallel = cross-turned s half (let w = half-opposite in w.parallel); backward = let e = dot-comm half s in let w = half-opposite in let k = w.backward in omega (arith, ints) }) q)
 
         between : IsDirection (cross half d) → (i j : ℕ) → 0 < i → 0 < j → StrictlyOn n s t (blend i half j d)
-        between f i j si sj = on-behind n s t hn hs ht ls lt (blend i half j d) (direction-by (cross n s) (blend i half j d) (λ z. off (triple-last n s (blend i half j d) ∙ z)))
+        between f i j si sj = on-behind n s t hn hs ht ls lt (blend i half j d) (direction-by (cross n s) (blend i half j d) (λ z. off (triple-dot n s (blend i half j d) ∙ z)))
             (level-blend half d i j half-level o.on_circle.level) not-less not-half (λ w. off (dot-zero n (cross s (blend i half j d)) w.parallel))
             (λ p. subst (λ (r : ℤ). pos 0 <ℤ r) (sym (blend-triple n t half d i j)) (plus-plus (triple n half t) (triple n d t) i j si sj (let e = half-turn in omega (arith, ints)) (far-side p)))
           where

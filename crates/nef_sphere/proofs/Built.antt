@@ -8,12 +8,13 @@ use Rattle.nef_space.specs.declared.label.Label.{Label}
 use Rattle.nef_sphere.specs.Maps.{Svertex, Map, items, item_normal, item_above, item_mark, item_below, IsFree, Side, around_svertex, above_item, below_item, whole, HasSide, IsClear, Reaches, Sees, directly, by_way_of, MapLabel, at_svertex, on_item, seen, InOneSface, here, link, Shaped, Valid}
 use Rattle.nef_sphere.specs.Least.{by_side}
 use Rattle.nef_sphere.specs.Labelling.{Labelling, Near, Agrees}
-use Rattle.nef_sphere.proofs.Vectors.{Decided}
+use Rattle.nef_near.proofs.Decided.{Decided}
 use Rattle.nef_forms.proofs.Directions.{dot-comm, zero-decided}
 use Rattle.nef_sphere.proofs.Generic.{amount}
 use Rattle.nef_sphere.proofs.Lists.{at-one}
 use Rattle.nef_sphere.proofs.Forms.{on-level}
-use Rattle.nef_sphere.proofs.Parallel.{apart, parallel-trans, cross-turned}
+use Rattle.nef_sphere.proofs.Parallel.{apart, parallel-trans}
+use Rattle.nef_near.proofs.FlatDecided.{cross-turned}
 use Rattle.nef_sphere.proofs.Direct.{cross-between}
 use Rattle.nef_sphere.proofs.StepOff.{blend-turned}
 use Rattle.nef_sphere.proofs.Labels.{way-signs, way-direction, label-exists}

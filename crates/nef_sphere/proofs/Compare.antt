@@ -9,7 +9,7 @@ use Rattle.nef_space.specs.declared.label.Label.{Label}
 use Rattle.nef_sphere.specs.Vectors.{comb}
 use Rattle.nef_sphere.specs.Maps.{At, Svertex, Map, Item, items, item_normal, item_above, item_mark, item_below, OnItem, IsFree, MapLabel, at_svertex, on_item, NearLabel, Valid}
 use Rattle.nef_sphere.specs.Least.{by_side, NearPlain, NearStraight, Least, SameLabels}
-use Rattle.nef_sphere.proofs.Parallel.{cross-turned}
+use Rattle.nef_near.proofs.FlatDecided.{cross-turned}
 use Rattle.nef_sphere.proofs.Shot.{product-off}
 use Rattle.nef_sphere.proofs.Vectors.{normal-is, normal-direction, dot-comb}
 use Rattle.nef_forms.proofs.Far.{nought-or}

@@ -18,7 +18,8 @@ use Rattle.nef_sphere.specs.Least.{Least, Cone}
 use Rattle.nef_sphere.specs.Kinds.{Full, FlatMap, IsInVolume, IsInFacet, IsOnEdge}
 use Rattle.nef_sphere.proofs.Vectors.{normal-is}
 use Rattle.nef_forms.proofs.Directions.{zero-decided, self-pos, dot-comm, dot-zero}
-use Rattle.nef_sphere.proofs.Parallel.{apart, parallel-trans, cross-turned, circle-point}
+use Rattle.nef_sphere.proofs.Parallel.{apart, parallel-trans, circle-point}
+use Rattle.nef_near.proofs.FlatDecided.{cross-turned}
 use Rattle.nef_sphere.proofs.Direct.{cross-self}
 use Rattle.nef_sphere.proofs.Labels.{label-direction, label-unique}
 use Rattle.nef_sphere.proofs.Arcs.{at-loop}

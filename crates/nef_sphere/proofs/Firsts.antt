@@ -6,10 +6,12 @@ use Rattle.nef_exact.proofs.Order.{by_order, mul_pos, mul_nonneg}
 use Rattle.nef_space.specs.Vectors.{Vector, IsDirection, cross, triple, dot, SameDirection, IsOpposite}
 use Rattle.nef_sphere.proofs.Turning.{turns}
 use Rattle.nef_sphere.specs.Maps.{At, StrictlyOn}
-use Rattle.nef_sphere.proofs.Vectors.{Decided, same-plus, same-minus}
+use Rattle.nef_sphere.proofs.Vectors.{same-plus, same-minus}
+use Rattle.nef_near.proofs.Decided.{Decided}
 use Rattle.nef_forms.proofs.Directions.{dot-comm, self-pos, dot-zero}
 use Rattle.nef_sphere.proofs.Places.{StrictlyOn-decided, SameDirection-decided}
-use Rattle.nef_sphere.proofs.Parallel.{cross-turned, parallel-in_plane}
+use Rattle.nef_sphere.proofs.Parallel.{parallel-in_plane}
+use Rattle.nef_near.proofs.FlatDecided.{cross-turned}
 use Rattle.nef_sphere.proofs.Around.{Beside, same_way, other_way, beside, opposites, triple-turned, opposite-triple, turn-minus}
 use Rattle.nef_sphere.proofs.Compare.{SameDirection-turned, SameDirection-trans, way-self}
 use Rattle.nef_sphere.proofs.Turn.{turn-last, ends-together}

@@ -11,10 +11,12 @@ use Rattle.nef_sphere.specs.Maps.{OnCircle, StrictlyOn}
 use Rattle.nef_sphere.specs.Forms.{SameSigns, axes}
 use Rattle.nef_sphere.specs.Least.{by_side}
 use Rattle.nef_sphere.specs.Labelling.{Labelling, Near, StraightAt, IsSmooth}
-use Rattle.nef_sphere.proofs.Vectors.{Decided, dot-comb, comb-dot, nought-if}
+use Rattle.nef_sphere.proofs.Vectors.{dot-comb, comb-dot, nought-if}
+use Rattle.nef_near.proofs.Decided.{Decided}
 use Rattle.nef_forms.proofs.Far.{same-nought}
 use Rattle.nef_forms.proofs.Directions.{dot-comm, self-pos, zero-decided, zero-dot}
-use Rattle.nef_sphere.proofs.Parallel.{cross-turned, apart, parallel-trans}
+use Rattle.nef_sphere.proofs.Parallel.{apart, parallel-trans}
+use Rattle.nef_near.proofs.FlatDecided.{cross-turned}
 use Rattle.nef_sphere.proofs.Generic.{amount, far-keeps}
 use Rattle.nef_sphere.proofs.Places.{direction-stays}
 use Rattle.nef_sphere.proofs.Labels.{way-signs}

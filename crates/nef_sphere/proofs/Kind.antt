@@ -14,7 +14,8 @@ use Rattle.nef_sphere.proofs.Vectors.{normal-is, dot-comb}
 use Rattle.nef_forms.proofs.Far.{nought-or}
 use Rattle.nef_forms.proofs.Directions.{self-pos, dot-zero}
 use Rattle.nef_sphere.proofs.Forms.{direction-by_signs, on-direction, on-level}
-use Rattle.nef_sphere.proofs.Parallel.{vector-same, apart, circle-point}
+use Rattle.nef_sphere.proofs.Parallel.{apart, circle-point}
+use Rattle.nef_near.proofs.Flats.{vector-same}
 use Rattle.nef_sphere.proofs.Shot.{product-off}
 use Rattle.nef_sphere.proofs.Labels.{label-by_signs, near-unique}
 use Rattle.nef_sphere.proofs.NearItems.{near-item}

@@ -3,7 +3,7 @@ use Rattle.std.proofs.Common.{◌≡◌, ℕ, zero, suc, ◌+◌, ◌*◌, ◌<�
 use Rattle.std.proofs.lemmas.Int.{ints}
 use Rattle.nef_exact.proofs.Ring.{ring, at, num, ◌⊕◌, ◌⊖◌, ◌⊗◌}
 use Rattle.nef_exact.proofs.Combination.{follows, given, none}
-use Rattle.nef_exact.proofs.Order.{sign, mul_neg}
+use Rattle.nef_exact.proofs.Order.{sign, mul_neg, sign-scaled}
 use Rattle.nef_space.specs.Vectors.{Vector, IsDirection, cross, triple, dot, IsZero, SameDirection, IsOpposite, blend}
 use Rattle.nef_space.specs.declared.label.Label.{Label}
 use Rattle.nef_sphere.specs.Vectors.{comb}
@@ -14,8 +14,9 @@ use Rattle.nef_sphere.proofs.Vectors.{dot-comb, triple-middle, same-minus}
 use Rattle.nef_forms.proofs.Directions.{dot-comm, self-pos, dot-zero, zero-decided}
 use Rattle.nef_sphere.proofs.Lists.{search_list, at-one}
 use Rattle.nef_sphere.proofs.Forms.{PlaceOf, svertex_place, item_place, free_place, place_of, OnItem-by_signs}
-use Rattle.nef_sphere.proofs.Parallel.{vector-same, cross-turned, parallel-trans}
-use Rattle.nef_sphere.proofs.Shot.{times-sign}
+use Rattle.nef_sphere.proofs.Parallel.{parallel-trans}
+use Rattle.nef_near.proofs.FlatDecided.{cross-turned}
+use Rattle.nef_near.proofs.Flats.{vector-same}
 use Rattle.nef_sphere.proofs.Labels.{label-direction, label-exists, label-unique, way-signs, clear-label}
 use Rattle.nef_sphere.proofs.Around.{Beside, same_way, other_way, beside, opposites, opposite-triple, turn-plus}
 use Rattle.nef_sphere.proofs.NearItems.{free-plain, item-straight}
@@ -62,7 +63,7 @@ module _ (M : Map) (V : Valid M) (d : Vector) (K : IsOnEdge M d) where
       where
         same : (g : Vector) → sign (dot g (comb (pos 1) (comb (pos b) e a u) (pos 0 -ℤ a) u)) ≡ sign (dot g e)
         same g = ap sign (dot-comb g (pos 1) (comb (pos b) e a u) (pos 0 -ℤ a) u ∙ ap (λ r. pos 1 *ℤ r +ℤ (pos 0 -ℤ a) *ℤ dot g u) (dot-comb g (pos b) e a u)
-            ∙ ring (pos b ∷ dot g e ∷ a ∷ dot g u ∷ []) (num (pos 1) ⊗ (at 0 ⊗ at 1 ⊕ at 2 ⊗ at 3) ⊕ (num (pos 0) ⊖ at 2) ⊗ at 3) (at 0 ⊗ at 1) tt) ∙ times-sign (pos b) (dot g e) (omega (arith, ints))
+            ∙ ring (pos b ∷ dot g e ∷ a ∷ dot g u ∷ []) (num (pos 1) ⊗ (at 0 ⊗ at 1 ⊕ at 2 ⊗ at 3) ⊕ (num (pos 0) ⊖ at 2) ⊗ at 3) (at 0 ⊗ at 1) tt) ∙ sign-scaled (pos b) (dot g e) (omega (arith, ints))
 
     moved-not_opposite : (b : ℕ) (a : ℤ) → 0 < b → IsOpposite e (comb (pos b) e a u) → ⊥
     moved-not_opposite b a sb o =

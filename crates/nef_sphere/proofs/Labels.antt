@@ -3,7 +3,7 @@ use Rattle.std.proofs.Common.{◌≡◌, ℕ, ◌+◌, ◌<◌, ◌≤◌, ℤ, 
 use Rattle.std.proofs.lemmas.Int.{ints}
 use Rattle.nef_exact.proofs.Ring.{ring, at, num, ◌⊕◌, ◌⊖◌, ◌⊗◌}
 use Rattle.nef_exact.proofs.Combination.{follows, given, none}
-use Rattle.nef_exact.proofs.Order.{sign, sign-plus, sign-minus, by_order, mul_pos, mul_neg, cancel_lt}
+use Rattle.nef_exact.proofs.Order.{sign, sign-plus, sign-minus, by_order, mul_pos, mul_neg, cancel_lt, sign-scaled}
 use Rattle.nef_exact.specs.Signs.{Lies}
 use Rattle.nef_space.specs.Vectors.{Vector, IsDirection, dot, SameDirection, IsOpposite, blend}
 use Rattle.nef_space.specs.declared.label.Label.{Label}
@@ -15,8 +15,8 @@ use Rattle.nef_sphere.proofs.Generic.{SameSigns, amount, far-keeps, far-same}
 use Rattle.nef_sphere.proofs.Lists.{at-one}
 use Rattle.nef_sphere.proofs.Places.{axes, axis_x, axis_y, axis_z, axis_x-is, axis_y-is, axis_z-is, direction-stays}
 use Rattle.nef_sphere.proofs.Forms.{forms, axes-forms, on-direction, direction-by_signs, at_svertex-by_signs, on_item-by_signs, free-by_signs, OnItem-by_signs, PlaceOf, svertex_place, item_place, free_place, place_of}
-use Rattle.nef_sphere.proofs.Parallel.{parallel-trans, cross-turned}
-use Rattle.nef_sphere.proofs.Shot.{times-sign}
+use Rattle.nef_sphere.proofs.Parallel.{parallel-trans}
+use Rattle.nef_near.proofs.FlatDecided.{cross-turned}
 use Rattle.nef_sphere.proofs.Sight.{free-seen, clear-one_label, free-one_label}
 
 -- ---- the same way
@@ -31,7 +31,7 @@ way-signs v d g h w =
     (given (gz ⊗ vy ⊖ gy ⊗ vz) (vy ⊗ dz ⊖ vz ⊗ dy) o w.parallel.0
     (given (gx ⊗ vz ⊖ gz ⊗ vx) (vz ⊗ dx ⊖ vx ⊗ dz) o w.parallel.1
     (given (gy ⊗ vx ⊖ gx ⊗ vy) (vx ⊗ dy ⊖ vy ⊗ dx) o w.parallel.2 none))) tt in
-    sym (times-sign (dot v v) (dot g d) (self-pos v h)) ∙ ap sign e ∙ times-sign (dot v d) (dot g v) w.forward
+    sym (sign-scaled (dot v v) (dot g d) (self-pos v h)) ∙ ap sign e ∙ sign-scaled (dot v d) (dot g v) w.forward
 
 pub way-direction : (v d : Vector) → SameDirection v d → IsDirection d
 way-direction v d w z = let e = dot-zero v d z in let h = w.forward in omega (arith, ints)

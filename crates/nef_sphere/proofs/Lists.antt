@@ -4,7 +4,7 @@ use Rattle.nef_exact.specs.Signs.{Lies}
 use Rattle.nef_exact.proofs.Lists.{lies-left, lies-right}
 use Rattle.nef_sphere.specs.Maps.{At}
 pub use Rattle.nef_sphere.specs.Forms.{gather}
-use Rattle.nef_sphere.proofs.Vectors.{Decided}
+use Rattle.nef_near.proofs.Decided.{Decided}
 
 pub record Found {A : Type 0} (xs : List A) (P : ℕ → A → Type 0) : Type 0 where
   pub number : ℕ

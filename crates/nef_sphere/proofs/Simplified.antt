@@ -13,7 +13,8 @@ use Rattle.nef_sphere.proofs.Vectors.{normal-direction, nought-if}
 use Rattle.nef_forms.proofs.Far.{nought-or}
 use Rattle.nef_forms.proofs.Directions.{self-pos, dot-comm}
 use Rattle.nef_sphere.proofs.Generic.{amount, far-keeps}
-use Rattle.nef_sphere.proofs.Parallel.{vector-same, past_source, arc-point, apart}
+use Rattle.nef_sphere.proofs.Parallel.{past_source, arc-point, apart}
+use Rattle.nef_near.proofs.Flats.{vector-same}
 use Rattle.nef_sphere.proofs.Labels.{near-unique}
 use Rattle.nef_sphere.proofs.Compare.{way-self}
 use Rattle.nef_sphere.proofs.Turn.{StrictlyOn-same}

@@ -4,15 +4,19 @@ use Rattle.std.proofs.lemmas.Int.{ints}
 use Rattle.nef_exact.proofs.Ring.{ring, at, num, ◌⊖◌, ◌⊗◌}
 use Rattle.nef_exact.specs.Signs.{Lies}
 use Rattle.nef_space.specs.Vectors.{Vector, IsDirection, cross, dot, IsZero, SameDirection, blend}
+use Rattle.nef_near.proofs.Meets.{cross-none}
 use Rattle.nef_sphere.specs.Maps.{At, Svertex, Map, Item, items, item_normal, IsFree, IsClear, Shaped}
-use Rattle.nef_sphere.proofs.Vectors.{Decided, normal-is}
+use Rattle.nef_sphere.proofs.Vectors.{normal-is}
+use Rattle.nef_near.proofs.Decided.{Decided}
 use Rattle.nef_forms.proofs.Directions.{zero-decided, dot-zero}
 use Rattle.nef_sphere.proofs.Generic.{Generic, generic}
 use Rattle.nef_sphere.proofs.Lists.{gather, gather-has}
 use Rattle.nef_exact.proofs.Lists.{lies-left, lies-right}
 use Rattle.nef_sphere.proofs.Places.{point_forms, row_x, row_y, row_z, row_x-is, row_y-is, row_z-is}
 use Rattle.nef_sphere.proofs.Forms.{on-level}
-use Rattle.nef_sphere.proofs.Parallel.{cross-turned, miss, vector-same}
+use Rattle.nef_sphere.proofs.Parallel.{miss}
+use Rattle.nef_near.proofs.FlatDecided.{cross-turned}
+use Rattle.nef_near.proofs.Flats.{vector-same}
 use Rattle.nef_sphere.proofs.Direct.{between-off, miss-between, cross-between}
 
 -- not parallel to v, where a form of v isn't nought
@@ -55,13 +59,7 @@ module _ (M : Map) (ds : List Vector) where
 
   module _ (V : Shaped M) (x : Outlook) (k : ℕ) (d : Vector) (here : At ds k d) (h : IsDirection d) where
     pub outlook-direction : IsDirection x.vector
-    outlook-direction z = x.apart k d here h (cross-nought d x.vector z)
-      where
-        cross-nought : (u v : Vector) → IsZero v → IsZero (cross u v)
-        cross-nought u v z = (one u.y v.z u.z v.y z.2 z.1, one u.z v.x u.x v.z z.0 z.2, one u.x v.y u.y v.x z.1 z.0)
-          where
-            one : (a b c e : ℤ) → b ≡ pos 0 → e ≡ pos 0 → a *ℤ b -ℤ c *ℤ e ≡ pos 0
-            one a b c e p q = ap (λ r. a *ℤ r -ℤ c *ℤ e) p ∙ ap (λ r. a *ℤ pos 0 -ℤ c *ℤ r) q ∙ ring (a ∷ c ∷ []) (at 0 ⊗ num (pos 0) ⊖ at 1 ⊗ num (pos 0)) (num (pos 0)) tt
+    outlook-direction z = x.apart k d here h (cross-none d x.vector z)
 
     pub outlook-free : IsFree M x.vector
     outlook-free = record {

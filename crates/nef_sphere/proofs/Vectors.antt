@@ -6,11 +6,9 @@ use Rattle.nef_exact.proofs.Combination.{follows, follows_times, given, none}
 use Rattle.nef_exact.proofs.Order.{sign, sign-plus, sign-minus, plus-is, minus-is, nought-is, by_order, mul_pos, square_nonneg}
 use Rattle.nef_space.specs.Vectors.{Vector, IsDirection, triple, cross, dot, IsZero, IsNormal}
 use Rattle.nef_forms.proofs.Directions.{dot-zero, self-pos}
+use Rattle.nef_near.proofs.Decided.{Decided}
 use Rattle.nef_sphere.specs.Vectors.{comb}
 use Rattle.nef_sphere.specs.Maps.{At, Map, Item, items, item_normal, Shaped}
-
-abbrev pub Decided : Type 0 → Type 0
-Decided A = A ⊎ (A → ⊥)
 
 -- ---- linear
 pub dot-comb : (g : Vector) (a : ℤ) (u : Vector) (b : ℤ) (v : Vector) → dot g (comb a u b v) ≡ a *ℤ dot g u +ℤ b *ℤ dot g v
@@ -23,12 +21,7 @@ comb-dot a u b v g = ring (g.x ∷ g.y ∷ g.z ∷ a ∷ u.x ∷ u.y ∷ u.z ∷
     ((at 3 ⊗ at 4 ⊕ at 7 ⊗ at 8) ⊗ at 0 ⊕ (at 3 ⊗ at 5 ⊕ at 7 ⊗ at 9) ⊗ at 1 ⊕ (at 3 ⊗ at 6 ⊕ at 7 ⊗ at 10) ⊗ at 2)
     (at 3 ⊗ (at 4 ⊗ at 0 ⊕ at 5 ⊗ at 1 ⊕ at 6 ⊗ at 2) ⊕ at 7 ⊗ (at 8 ⊗ at 0 ⊕ at 9 ⊗ at 1 ⊕ at 10 ⊗ at 2)) tt
 
--- the triple product as a form in its last and in its middle vector
-pub triple-last : (n s d : Vector) → triple n s d ≡ dot (cross n s) d
-triple-last n s d = ring (n.x ∷ n.y ∷ n.z ∷ s.x ∷ s.y ∷ s.z ∷ d.x ∷ d.y ∷ d.z ∷ [])
-    (at 0 ⊗ (at 4 ⊗ at 8 ⊖ at 5 ⊗ at 7) ⊕ at 1 ⊗ (at 5 ⊗ at 6 ⊖ at 3 ⊗ at 8) ⊕ at 2 ⊗ (at 3 ⊗ at 7 ⊖ at 4 ⊗ at 6))
-    ((at 1 ⊗ at 5 ⊖ at 2 ⊗ at 4) ⊗ at 6 ⊕ (at 2 ⊗ at 3 ⊖ at 0 ⊗ at 5) ⊗ at 7 ⊕ (at 0 ⊗ at 4 ⊖ at 1 ⊗ at 3) ⊗ at 8) tt
-
+-- the triple product as a form in its middle vector
 pub triple-middle : (n d t : Vector) → triple n d t ≡ dot (cross t n) d
 triple-middle n d t = ring (n.x ∷ n.y ∷ n.z ∷ d.x ∷ d.y ∷ d.z ∷ t.x ∷ t.y ∷ t.z ∷ [])
     (at 0 ⊗ (at 4 ⊗ at 8 ⊖ at 5 ⊗ at 7) ⊕ at 1 ⊗ (at 5 ⊗ at 6 ⊖ at 3 ⊗ at 8) ⊕ at 2 ⊗ (at 3 ⊗ at 7 ⊖ at 4 ⊗ at 6))
