@@ -11,8 +11,8 @@ use Rattle.nef_space.specs.Local.{HasLabel, SameSet, Germ, Flat, HasFlat, FlatDi
 use Rattle.nef_space.specs.declared.label.Label.{Label}
 use Rattle.nef_near.specs.Cells.{carriers, SameSigns}
 use Rattle.nef_near.specs.Cones.{slide, NearGerm, SameCone, SameNear}
-use Rattle.nef_near.proofs.Near.{weaken, stride, step-within}
-use Rattle.nef_near.proofs.Cells.{same-sym, reach_all, reach-some}
+use Rattle.nef_forms.proofs.Near.{weaken, stride, step-within, reach_all}
+use Rattle.nef_near.proofs.Cells.{same-sym, reach-some}
 use Rattle.nef_near.proofs.Flats.{germ-toward, label-toward, Flat-from_cone, FlatCone-from_flat, vector-same}
 use Rattle.nef_near.proofs.Rays.{Germ-cells, within-self, slope-zero, Germ-zero}
 use Rattle.nef_near.proofs.Combine.{shorter}

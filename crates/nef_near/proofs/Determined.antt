@@ -11,18 +11,17 @@ use Rattle.nef_space.specs.declared.label.Label.TheVariants.{Out}
 use Rattle.nef_near.specs.Cells.{carriers}
 use Rattle.nef_near.specs.Cones.{SameCone, IsOnSegment}
 use Rattle.nef_near.specs.Laws.{IsFlatBelow, Drop, SameGerms}
-use Rattle.nef_near.proofs.Near.{weaken}
-use Rattle.nef_near.proofs.Cells.{reach_all}
+use Rattle.nef_forms.proofs.Near.{weaken, reach_all}
 use Rattle.nef_near.proofs.Germs.{Germ-unique}
 use Rattle.nef_near.proofs.Decided.{InFrame-decided}
-use Rattle.nef_near.proofs.Rays.{Germ-zero, signs-same, same-place_sym, direction-first, direction-of_same}
+use Rattle.nef_near.proofs.Rays.{Germ-zero, signs-same, same-place_sym}
+use Rattle.nef_forms.proofs.Directions.{direction-left, direction-right}
 use Rattle.nef_near.proofs.Alike.{germs-by_cell, FlatDim-by_germs, FlatDim-by_cone, FlatDim-one, HasFlat-fewer, Flat-by_cone, NearGerm-by_cone, flat-germ}
-use Rattle.nef_near.proofs.Between.{strictly-from_between, between-from_strictly}
-use Rattle.nef_near.proofs.FirstHit.{strictly-left, strictly-turned}
+use Rattle.nef_near.proofs.Between.{between-turned, between-inner}
 use Rattle.nef_near.proofs.FlatDecided.{flat_dim-of}
-use Rattle.nef_near.proofs.Even.{germ-nearby, flat-way, between-turned, even-germs, labels-by_germs, span-3}
+use Rattle.nef_near.proofs.Even.{germ-nearby, flat-way, even-germs, labels-by_germs, span-3}
 use Rattle.nef_near.proofs.Skeleton.{flat_dim-nearby}
-use Rattle.nef_near.proofs.Edges.{start, start-close, start-strictly, start-toward, flat_way-end, even-until, beyond, halfway, halfway-between, halfway-outside, leads-somewhere}
+use Rattle.nef_near.proofs.Edges.{start, start-close, start-between, start-toward, flat_way-end, even-until, beyond, halfway, halfway-between, halfway-outside, leads-somewhere}
 
 -- ---- cones that agree
 cone-of_germs : (s t : Set) (p : Place) → ((v : Vector) (l : Label) → Germ s p v l ↔ Germ t p v l) → SameCone s t p
@@ -59,7 +58,7 @@ descent s k p some few f = by (let e : k ≡ (k - 1) + 1 = omega arith in HasFla
     by : (d : Vector) × IsDirection d × Flat s p d → Descent s k p
     by (d, i, flat) =
         let e = flat_way-end s k p d few f i flat in
-        record { at_place = e.at_place; leads = direction-first (toward p e.at_place) d e.is_ahead; even_before = e.even_before; drops = e.drops }
+        record { at_place = e.at_place; leads = direction-left (toward p e.at_place) d e.is_ahead; even_before = e.even_before; drops = e.drops }
 
 not-closed : (r : Place) → InFrame r → InClosedFrame r
 not-closed r i = record {
@@ -85,19 +84,19 @@ descent-3 s p i f = by (even-until s 3 p (beyond p x_way) f (let h = f.0 in span
     by (inl all) =
         let q = beyond p x_way in
         let r = halfway p x_way in
-        let b = between-from_strictly p (beyond p x_way) r (halfway-between p x_way) leads-on in
+        let b = halfway-between p x_way leads-on in
         let even : IsEven s 3 p r = λ u on. at-point r b u on in
         absurd (halfway-outside p x_way is-one (not-closed r (in-there r (even-germs s 3 p r even))))
       where
         at-point : (r : Place) → IsBetween p r (beyond p x_way) → (u : Place) → IsOnSegment p u r → FlatDim s u 3
         at-point r b u (inl e) = FlatDim-by_germs s s p u (germs-by_cell s p u (signs-same (carriers s) p u (same-place_sym u p e))) 3 f
-        at-point r b u (inr (inl c)) = all u (between-from_strictly p (beyond p x_way) u (strictly-left p (beyond p x_way) r u (strictly-from_between p (beyond p x_way) r b) (strictly-from_between p r u c)) leads-on)
+        at-point r b u (inr (inl c)) = all u (between-inner p r (beyond p x_way) u b c)
         at-point r b u (inr (inr e)) = FlatDim-by_germs s s r u (germs-by_cell s r u (signs-same (carriers s) r u (same-place_sym u r e))) 3 (all r b)
 
         -- a point with the germs of p is in the frame
         in-there : (r : Place) → SameGerms s p r → InFrame r
         in-there r same = ⊎_elim (λ j. j) (λ o. absurd ((labels-by_germs s p r same Out).1 o i)) (InFrame-decided r)
-    by (inr c) = record { at_place = c.at_place; leads = direction-first (toward p c.at_place) (toward c.at_place (beyond p x_way)) c.between; even_before = c.even_before; drops = c.drops }
+    by (inr c) = record { at_place = c.at_place; leads = direction-left (toward p c.at_place) (toward c.at_place (beyond p x_way)) c.between; even_before = c.even_before; drops = c.drops }
 
 -- ---- where the cones agree at points with fewer flat directions, they agree
 module _ (s t : Set) (k : ℕ) (below_s : (x : Place) → IsFlatBelow s k x → SameCone s t x) (below_t : (x : Place) → IsFlatBelow t k x → SameCone t s x) where
@@ -134,7 +133,7 @@ module _ (s t : Set) (k : ℕ) (below_s : (x : Place) → IsFlatBelow s k x → 
       r-close = start-close (reach_all (carriers s) c.at_place + reach_all (carriers t) c.at_place) c.at_place p
 
       r-between : IsBetween p r c.at_place
-      r-between = between-turned c.at_place p r (between-from_strictly c.at_place p r (start-strictly (reach_all (carriers s) c.at_place + reach_all (carriers t) c.at_place) c.at_place p) back)
+      r-between = between-turned c.at_place p r (start-between (reach_all (carriers s) c.at_place + reach_all (carriers t) c.at_place) c.at_place p back)
 
       cone_r : SameCone s t r
       cone_r = cone-nearby s t c.at_place r (below_s c.at_place c.drops)
@@ -146,19 +145,19 @@ module _ (s t : Set) (k : ℕ) (below_s : (x : Place) → IsFlatBelow s k x → 
 
       -- from r to p
       onward : IsDirection (toward r p)
-      onward = direction-of_same (toward c.at_place r) (toward r p) (between-turned p c.at_place r r-between)
+      onward = direction-right (toward c.at_place r) (toward r p) (between-turned p c.at_place r r-between)
 
       even_s : IsEven s k r p
       even_s u (inl e) = FlatDim-by_germs s s r u (germs-by_cell s r u (signs-same (carriers s) r u (same-place_sym u r e))) k dim_r
-      even_s u (inr (inl b)) = c.even_before u (between-from_strictly p c.at_place u (strictly-left p c.at_place r u (strictly-from_between p c.at_place r r-between) (strictly-turned r p u (strictly-from_between r p u b))) c.leads)
+      even_s u (inr (inl b)) = c.even_before u (between-inner p r c.at_place u r-between (between-turned r p u b))
       even_s u (inr (inr e)) = FlatDim-by_germs s s p u (germs-by_cell s p u (signs-same (carriers s) p u (same-place_sym u p e))) k f
 
       flat_r : Flat t r (toward r p)
       flat_r =
           let m = reach_all (carriers s) r in
           let u = start m r p in
-          let b = between-from_strictly r p u (start-strictly m r p) onward in
-          let w = flat-way s k r u dim_r (even_s u (inr (inl b))) (start-close m r p) (direction-first (toward r u) (toward u p) b) in
+          let b = start-between m r p onward in
+          let w = flat-way s k r u dim_r (even_s u (inr (inl b))) (start-close m r p) (direction-left (toward r u) (toward u p) b) in
           (Flat-by_cone s t r (toward r p) cone_r).0 (subst (Flat s r) (start-toward m r p) w)
 
       between_t : (u : Place) → IsBetween r u p → FlatDim t u k
@@ -173,7 +172,7 @@ module _ (s t : Set) (k : ℕ) (below_s : (x : Place) → IsFlatBelow s k x → 
           let g = flat_dim-of t p in
           let m = reach_all (carriers t) p in
           let u = start m p r in
-          let b = between-turned p r u (between-from_strictly p r u (start-strictly m p r) (direction-first (toward p r) (toward r c.at_place) r-between)) in
+          let b = between-turned p r u (start-between m p r (direction-left (toward p r) (toward r c.at_place) r-between)) in
           let low = no-fewer p f g.0 g.1 in
           let high = flat_dim-nearby t p u (start-close m p r) k g.0 g.1 (between_t u b) in
           let e : g.0 ≡ k = omega arith in

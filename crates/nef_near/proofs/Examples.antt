@@ -15,7 +15,7 @@ use Rattle.nef_space.specs.declared.label.Label.TheVariants.{Out, Not, In}
 use Rattle.nef_near.specs.Cells.{sign_at, carriers, IsInAllAt}
 use Rattle.nef_near.specs.Cones.{slide, NearGerm}
 use Rattle.nef_near.specs.Examples.{x_below, x_above, y_below, y_above, z_below, z_above, x_axis, y_axis, z_axis, two_halves, wall, wall_part, wedge, point, HalvesDisjoint, TwoHalves, Wall, WallPart, Edge, PointAlone}
-use Rattle.nef_near.proofs.Near.{form-step}
+use Rattle.nef_forms.proofs.Near.{form-step}
 use Rattle.nef_near.proofs.Flats.{Flat-from_cone, FlatCone-from_flat, FlatCone-from_carriers, vector-same}
 use Rattle.nef_near.proofs.Alike.{flat-germ}
 use Rattle.nef_near.proofs.Rays.{Germ-zero}

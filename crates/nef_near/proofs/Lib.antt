@@ -1,4 +1,3 @@
-pub mod Near
 pub mod Cells
 pub mod Germs
 pub mod Flats
@@ -12,8 +11,6 @@ pub mod Decisions
 pub mod Topology
 pub mod FlatOperations
 pub mod Meets
-pub mod Segment
-pub mod FirstHit
 pub mod Between
 pub mod FirstChange
 pub mod Examples

@@ -15,7 +15,8 @@ use Rattle.nef_near.specs.Laws.{IsHeldBy, EdgeSupport, FacetSupport}
 use Rattle.nef_near.proofs.Cells.{is_nought}
 use Rattle.nef_near.proofs.Flats.{Flat-from_cone, FlatCone-from_flat, slope-slide}
 use Rattle.nef_near.proofs.Decided.{Decided, every, decided-both, decided-not}
-use Rattle.nef_near.proofs.Rays.{zero-or, decided-zero, square-some}
+use Rattle.nef_forms.proofs.Directions.{zero-decided, self-pos}
+use Rattle.nef_forms.proofs.Far.{nought-or}
 use Rattle.nef_near.proofs.NearGerms.{steep, steep-one, sign-large}
 use Rattle.nef_near.proofs.FlatOperations.{flat-combination}
 use Rattle.nef_near.proofs.FlatDecided.{near-of_flat, near-by_signs, parallel-both, triple-dot, cross-turned}
@@ -44,7 +45,7 @@ flat-line s p ((d, i, f), n) = (
   d,
   i,
   λ v. (
-    λ g. ⊎_elim (λ z. z) (λ m. absurd (n (d, v, m, f, g))) (decided-zero (cross d v)),
+    λ g. ⊎_elim (λ z. z) (λ m. absurd (n (d, v, m, f, g))) (zero-decided (cross d v)),
     λ z. span-1 s p d v i f z,
   ),
 )
@@ -54,7 +55,7 @@ flat-plane s p ((d, e, i, f, g), n) = (
   cross d e,
   i,
   λ v. (
-    λ h. ⊎_elim (λ z. sym (triple-dot d e v) ∙ z) (λ m. absurd (n (d, e, v, m, f, g, h))) (zero-or (triple d e v)),
+    λ h. ⊎_elim (λ z. sym (triple-dot d e v) ∙ z) (λ m. absurd (n (d, e, v, m, f, g, h))) (nought-or (triple d e v)),
     λ z. span-2 s p d e v i f g (triple-dot d e v ∙ z),
   ),
 )
@@ -95,10 +96,10 @@ square-to_parallel a b v some z e =
     (given (at 6) ((at 3 ⊗ at 3 ⊕ at 4 ⊗ at 4 ⊕ at 5 ⊗ at 5) ⊗ at 0) ((at 0 ⊗ at 3 ⊕ at 1 ⊗ at 4 ⊕ at 2 ⊗ at 5) ⊗ at 3) (parallel-x a b z)
     (given (at 7) ((at 3 ⊗ at 3 ⊕ at 4 ⊗ at 4 ⊕ at 5 ⊗ at 5) ⊗ at 1) ((at 0 ⊗ at 3 ⊕ at 1 ⊗ at 4 ⊕ at 2 ⊗ at 5) ⊗ at 4) (parallel-y a b z)
     (given (at 8) ((at 3 ⊗ at 3 ⊕ at 4 ⊗ at 4 ⊕ at 5 ⊗ at 5) ⊗ at 2) ((at 0 ⊗ at 3 ⊕ at 1 ⊗ at 4 ⊕ at 2 ⊗ at 5) ⊗ at 5) (parallel-z a b z)
-    (given (at 0 ⊗ at 3 ⊕ at 1 ⊗ at 4 ⊕ at 2 ⊗ at 5) (at 3 ⊗ at 6 ⊕ at 4 ⊗ at 7 ⊕ at 5 ⊗ at 8) (num (pos 0)) e none)))) (square-some b some) tt
+    (given (at 0 ⊗ at 3 ⊕ at 1 ⊗ at 4 ⊕ at 2 ⊗ at 5) (at 3 ⊗ at 6 ⊕ at 4 ⊗ at 7 ⊕ at 5 ⊗ at 8) (num (pos 0)) e none)))) (self-pos b some) tt
 
 -- n x d is at right angles to n
-square-cross : (n d : Vector) → dot n (cross n d) ≡ pos 0
+pub square-cross : (n d : Vector) → dot n (cross n d) ≡ pos 0
 square-cross n d = ring (n.x ∷ n.y ∷ n.z ∷ d.x ∷ d.y ∷ d.z ∷ [])
     (at 0 ⊗ (at 1 ⊗ at 5 ⊖ at 2 ⊗ at 4) ⊕ at 1 ⊗ (at 2 ⊗ at 3 ⊖ at 0 ⊗ at 5) ⊕ at 2 ⊗ (at 0 ⊗ at 4 ⊖ at 1 ⊗ at 3)) (num (pos 0)) tt
 
@@ -120,9 +121,9 @@ right = at 0 ⊗ at 3 ⊕ at 1 ⊗ at 4 ⊕ at 2 ⊗ at 5
 -- d x (n x d) is (d.d) n where n is at right angles to d
 twice-cross : (n d : Vector) → IsDirection d → dot n d ≡ pos 0 → IsZero (cross d (cross n d)) → IsZero n
 twice-cross n d some e z = (
-  follows_times (n.x ∷ n.y ∷ n.z ∷ d.x ∷ d.y ∷ d.z ∷ []) square (at 0) (num (pos 0)) (given (num (pos 1)) (at 4 ⊗ cz ⊖ at 5 ⊗ cy) (num (pos 0)) z.0 (given (at 3) right (num (pos 0)) e none)) (square-some d some) tt,
-  follows_times (n.x ∷ n.y ∷ n.z ∷ d.x ∷ d.y ∷ d.z ∷ []) square (at 1) (num (pos 0)) (given (num (pos 1)) (at 5 ⊗ cx ⊖ at 3 ⊗ cz) (num (pos 0)) z.1 (given (at 4) right (num (pos 0)) e none)) (square-some d some) tt,
-  follows_times (n.x ∷ n.y ∷ n.z ∷ d.x ∷ d.y ∷ d.z ∷ []) square (at 2) (num (pos 0)) (given (num (pos 1)) (at 3 ⊗ cy ⊖ at 4 ⊗ cx) (num (pos 0)) z.2 (given (at 5) right (num (pos 0)) e none)) (square-some d some) tt,
+  follows_times (n.x ∷ n.y ∷ n.z ∷ d.x ∷ d.y ∷ d.z ∷ []) square (at 0) (num (pos 0)) (given (num (pos 1)) (at 4 ⊗ cz ⊖ at 5 ⊗ cy) (num (pos 0)) z.0 (given (at 3) right (num (pos 0)) e none)) (self-pos d some) tt,
+  follows_times (n.x ∷ n.y ∷ n.z ∷ d.x ∷ d.y ∷ d.z ∷ []) square (at 1) (num (pos 0)) (given (num (pos 1)) (at 5 ⊗ cx ⊖ at 3 ⊗ cz) (num (pos 0)) z.1 (given (at 4) right (num (pos 0)) e none)) (self-pos d some) tt,
+  follows_times (n.x ∷ n.y ∷ n.z ∷ d.x ∷ d.y ∷ d.z ∷ []) square (at 2) (num (pos 0)) (given (num (pos 1)) (at 3 ⊗ cy ⊖ at 4 ⊗ cx) (num (pos 0)) z.2 (given (at 5) right (num (pos 0)) e none)) (self-pos d some) tt,
 )
 
 -- ---- searching the carriers
@@ -136,8 +137,8 @@ record Held (hs : List Form) (p : Place) (d : Vector) (Q : Form → Type 0) : Ty
 
 find-held : (hs : List Form) (p : Place) (d : Vector) (Q : Form → Type 0) → ((h : Form) → Decided (Q h))
     → Held hs p d Q ⊎ ((h : Form) → Lies hs h → sign_at h p ≡ nought → slope h d ≡ pos 0 → Q h → ⊥)
-find-held hs p d Q D = ⊎_elim (λ c. inl (found c.0 c.1 c.2 (is_nought (sign_at c.0 p)) (zero-or (slope c.0 d)) (D c.0))) (λ clear. inr (λ h l o z q. clear h l (o, (z, q))))
-    (every hs (λ h. (sign_at h p ≡ nought) × ((slope h d ≡ pos 0) × Q h) → ⊥) (λ h. decided-not (decided-both (is_nought (sign_at h p)) (decided-both (zero-or (slope h d)) (D h)))))
+find-held hs p d Q D = ⊎_elim (λ c. inl (found c.0 c.1 c.2 (is_nought (sign_at c.0 p)) (nought-or (slope c.0 d)) (D c.0))) (λ clear. inr (λ h l o z q. clear h l (o, (z, q))))
+    (every hs (λ h. (sign_at h p ≡ nought) × ((slope h d ≡ pos 0) × Q h) → ⊥) (λ h. decided-not (decided-both (is_nought (sign_at h p)) (decided-both (nought-or (slope h d)) (D h)))))
   where
     found : (h : Form) → Lies hs h → (((sign_at h p ≡ nought) × ((slope h d ≡ pos 0) × Q h) → ⊥) → ⊥) → Decided (sign_at h p ≡ nought) → Decided (slope h d ≡ pos 0) → Decided (Q h) → Held hs p d Q
     found h l n (inl o) (inl z) (inl q) = record { plane = h; listed = l; passes = o; holds = z; more = q }
@@ -146,11 +147,11 @@ find-held hs p d Q D = ⊎_elim (λ c. inl (found c.0 c.1 c.2 (is_nought (sign_a
     found h l n (inl o) (inl z) (inr m) = absurd (n (λ c. m c.1.1))
 
 has-normal : (h : Form) → Decided (IsDirection (normal_of h))
-has-normal h = ⊎_elim (λ z. inr (λ i. i z)) (λ i. inl i) (decided-zero (normal_of h))
+has-normal h = ⊎_elim (λ z. inr (λ i. i z)) (λ i. inl i) (zero-decided (normal_of h))
 
 -- where no form through p that is zero along d has a normal, all is held
 held-without : (s : Set) (p : Place) (d v : Vector) → ((h : Form) → Lies (carriers s) h → sign_at h p ≡ nought → slope h d ≡ pos 0 → IsDirection (normal_of h) → ⊥) → IsHeldBy s p d v
-held-without s p d v clear h l o z = ⊎_elim (λ e. slope-none h v e) (λ i. absurd (clear h l o z i)) (decided-zero (normal_of h))
+held-without s p d v clear h l o z = ⊎_elim (λ e. slope-none h v e) (λ i. absurd (clear h l o z i)) (zero-decided (normal_of h))
 
 -- ---- the carrier of a facet
 pub facet-support : (s : Set) (p : Place) → FlatDim s p 2 → FacetSupport s p
@@ -162,7 +163,7 @@ facet-support s p ((d, e, i, f, g), few) = by (find-held (carriers s) p (blend (
 
     plane : (v : Vector) → Flat s p v ↔ (dot (cross d e) v ≡ pos 0)
     plane v = (
-      λ h. ⊎_elim (λ z. sym (triple-dot d e v) ∙ z) (λ n. absurd (few (d, e, v, n, f, g, h))) (zero-or (triple d e v)),
+      λ h. ⊎_elim (λ z. sym (triple-dot d e v) ∙ z) (λ n. absurd (few (d, e, v, n, f, g, h))) (nought-or (triple d e v)),
       λ z. span-2 s p d e v i f g (triple-dot d e v ∙ z),
     )
 
@@ -179,7 +180,7 @@ facet-support s p ((d, e, i, f, g), few) = by (find-held (carriers s) p (blend (
     by (inr clear) =
         let n = cross d e in
         let a = flat-held s p (blend (steep (carriers s) e) d 1 e) n flat-w (held-without s p (blend (steep (carriers s) e) d 1 e) n clear) in
-        absurd (square-not (dot n n) (square-some n i) ((plane n).0 a))
+        absurd (square-not (dot n n) (self-pos n i) ((plane n).0 a))
       where
         square-not : (x : ℤ) → pos 0 <ℤ x → x ≡ pos 0 → ⊥
         square-not x h e = omega (arith, ints)
@@ -233,11 +234,11 @@ edge-support s p one = by (flat-line s p one)
             let e = cross n d in
             let held : IsHeldBy s p d e = λ h l o z. ⊎_elim
             (λ c. square-to_parallel (normal_of h) n e a.more (cross-turned n (normal_of h) c) (square-cross n d))
-            (λ c. absurd (clear h l o z c)) (decided-zero (cross n (normal_of h))) in
+            (λ c. absurd (clear h l o z c)) (zero-decided (cross n (normal_of h))) in
             absurd (a.more (twice-cross n d i a.holds ((line e).0 (flat-held s p d e f held))))
 
         first : Held (carriers s) p d (λ h. IsDirection (normal_of h)) ⊎ ((h : Form) → Lies (carriers s) h → sign_at h p ≡ nought → slope h d ≡ pos 0 → IsDirection (normal_of h) → ⊥) → EdgeSupport s p
-        first (inl a) = second a (find-held (carriers s) p d (λ h. IsDirection (cross (normal_of a.plane) (normal_of h))) (λ h. ⊎_elim (λ z. inr (λ c. c z)) (λ c. inl c) (decided-zero (cross (normal_of a.plane) (normal_of h)))))
+        first (inl a) = second a (find-held (carriers s) p d (λ h. IsDirection (cross (normal_of a.plane) (normal_of h))) (λ h. ⊎_elim (λ z. inr (λ c. c z)) (λ c. inl c) (zero-decided (cross (normal_of a.plane) (normal_of h)))))
         first (inr clear) =
             let all : (v : Vector) → IsParallel d v = λ v. (line v).0 (flat-held s p d v f (held-without s p d v clear)) in
             let z = parallel-both d (vector (pos 1) (pos 0) (pos 0)) (vector (pos 0) (pos 1) (pos 0)) i (all (vector (pos 1) (pos 0) (pos 0))) (all (vector (pos 0) (pos 1) (pos 0))) in

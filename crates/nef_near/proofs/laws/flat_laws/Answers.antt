@@ -5,7 +5,8 @@ use Rattle.nef_near.proofs.Alike.{FlatDim-one}
 use Rattle.nef_near.proofs.Meets.{vertex-meets}
 use Rattle.nef_space.specs.Place.{toward}
 use Rattle.nef_near.specs.Cells.{carriers}
-use Rattle.nef_near.proofs.Cells.{reach_all, reach-some}
+use Rattle.nef_near.proofs.Cells.{reach-some}
+use Rattle.nef_forms.proofs.Near.{reach_all}
 use Rattle.nef_near.proofs.FlatDecided.{near-of_flat, flat-of_near, flat-by_signs}
 use Rattle.nef_near.proofs.Even.{flat-toward, flat-nearby, span-3}
 use Rattle.nef_near.proofs.Supports.{flat-held, flat-line, flat-plane, edge-support, facet-support}
