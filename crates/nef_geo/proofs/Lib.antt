@@ -8,3 +8,7 @@ pub mod Cramer
 pub mod Euclid
 pub mod Unique
 pub mod Orders
+pub mod Sizes
+pub mod Crossings
+pub mod InPlane
+pub mod Rays

@@ -6,3 +6,6 @@ pub mod Shapes
 pub mod Reading
 pub mod Meet
 pub mod Laws
+pub mod Hits
+pub mod Steps
+pub mod Ways

@@ -8,6 +8,8 @@ use Rattle.nef_geo.specs.declared.plane.Plane.{Plane}
 use Rattle.nef_geo.specs.declared.plane.Oriented.{Oriented}
 use Rattle.nef_geo.specs.declared.point.Point.{Point}
 use Rattle.nef_geo.specs.declared.dir.Dir.{Dir}
+use Rattle.nef_geo.specs.declared.hit.Hit.{Hit}
+use Rattle.nef_geo.specs.declared.hit.FarHit.{FarHit}
 
 abbrev pub vector_of : Dir → Vector
 vector_of d = vector d.x d.y d.z
@@ -31,3 +33,9 @@ place_at x y z w positive = record { x = x; y = y; z = z; w = nat_abs w; proper 
 
 abbrev pub place_of : Point → Place
 place_of p = place_at p.x p.y p.z p.w p.proper
+
+abbrev pub hit_place : Hit → Place
+hit_place q = place_at q.x q.y q.z q.w q.proper
+
+abbrev pub far_place : FarHit → Place
+far_place q = place_at q.x q.y q.z q.w q.proper

@@ -28,7 +28,7 @@ impl Dir {
     ghost use Rattle.nef_geo.specs.Shapes.{vector_of};
 
     // The direction of numbers that aren't all zero.
-    fn reduced(x: i64, y: i64, z: i64) -> Dir
+    pub(crate) fn reduced(x: i64, y: i64, z: i64) -> Dir
         requires small { IsAtMost direction_limit (vector x y z) }
         requires some { IsDirection (vector x y z) }
         ensures stretched { IsStretched (vector x y z) (vector_of result) }

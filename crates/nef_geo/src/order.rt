@@ -1,13 +1,15 @@
 //! The orders of points and of planes.
 
-ghost use Rattle.std.specs.Prelude.{◌≡◌, ◌*ℤ◌};
+ghost use Rattle.std.specs.Prelude.{◌≡◌, ◌≤◌, ◌*ℤ◌, ◌<ℤ◌, nat_abs};
 ghost use Rattle.std.specs.Ordering.{int_cmp, MatchOrdering};
 ghost use Rattle.nef_space.specs.Numbers.{IsBelow};
 ghost use Rattle.nef_space.specs.Place.{form_numbers, SamePlace, IsPlaceBelow};
 ghost use Rattle.nef_space.specs.Vectors.{triple_of};
 ghost use Rattle.nef_geo.specs.Shapes.{form_of, place_of, vector_of};
+ghost use Rattle.nef_geo.specs.Widths.{far_product_limit};
 
 use crate::dir::Dir;
+use crate::hit::{FarHit, Hit};
 use crate::plane::Plane;
 use crate::point::Point;
 use std::cmp::Ordering;
@@ -51,4 +53,19 @@ pub fn plane_cmp(g: &Plane, h: &Plane) -> Ordering
     ensures order { MatchOrdering result (IsBelow (form_numbers (form_of g.now)) (form_numbers (form_of h.now))) (g.now ≡ h.now) (IsBelow (form_numbers (form_of h.now)) (form_numbers (form_of g.now))) }
 {
     g.cmp(h)
+}
+
+/// Compares the steps of two hits from one start along one direction: on the ray, which is nearer.
+pub fn hit_order(p: &Hit, q: &Hit) -> Ordering
+    ensures steps { MatchOrdering result ((p.now.num *ℤ q.now.den) <ℤ (q.now.num *ℤ p.now.den)) (p.now.num *ℤ q.now.den ≡ q.now.num *ℤ p.now.den) ((q.now.num *ℤ p.now.den) <ℤ (p.now.num *ℤ q.now.den)) }
+{
+    (p.num * q.den).cmp(&(q.num * p.den))
+}
+
+/// Compares the steps of two far hits from one start along one direction: on the ray, which is nearer.
+pub fn far_order(p: &FarHit, q: &FarHit) -> Ordering
+    ensures steps { MatchOrdering result ((p.now.num *ℤ q.now.den) <ℤ (q.now.num *ℤ p.now.den)) (p.now.num *ℤ q.now.den ≡ q.now.num *ℤ p.now.den) ((q.now.num *ℤ p.now.den) <ℤ (p.now.num *ℤ q.now.den)) }
+    ensures width { nat_abs (p.now.num *ℤ q.now.den) ≤ far_product_limit }
+{
+    (p.num * q.den).cmp(&(q.num * p.den))
 }

@@ -44,12 +44,19 @@ fn wide_normal(h: &Plane) -> Wide
     }
 }
 
+// The product of the plane's normal with the direction.
+pub(crate) fn slope(h: &Plane, d: &Dir) -> i128
+    ensures value { result ≡ slope (form_of h.now) (vector_of d.now) }
+{
+    dot_wide(&wide_normal(h), &wide(d))
+}
+
 /// The sign of the product of the plane's normal with the direction.
 pub fn dir_side(h: &Plane, d: &Dir) -> Sign
     ensures side { result ≡ sign_of (slope (form_of h.now) (vector_of d.now)) }
     ensures width { nat_abs (slope (form_of h.now) (vector_of d.now)) ≤ slope_limit }
 {
-    Sign::of(dot_wide(&wide_normal(h), &wide(d)))
+    Sign::of(slope(h, d))
 }
 
 /// The sign of the dot product `a.b`.

@@ -2,16 +2,18 @@
 
 ghost use Rattle.std.specs.Prelude.{◌≡◌, ◌≤◌, nat_abs};
 ghost use Rattle.nef_space.specs.Place.{form_at};
-ghost use Rattle.nef_geo.specs.Shapes.{form_of, given_form, place_of};
+ghost use Rattle.nef_geo.specs.Shapes.{form_of, given_form, place_of, hit_place, far_place};
+ghost use Rattle.nef_geo.specs.Hits.{IsPlaceAtMost};
 ghost use Rattle.nef_geo.specs.Signs.{sign_of};
-ghost use Rattle.nef_geo.specs.Widths.{point_form_limit};
+ghost use Rattle.nef_geo.specs.Widths.{point_form_limit, hit_form_limit, upright_limit, upright_weight_limit, upright_form_limit, far_form_limit};
 
+use crate::hit::{FarHit, Hit};
 use crate::plane::{Oriented, Plane};
 use crate::point::Point;
 use crate::sign::Sign;
 
 // The plane's form at the point.
-fn form(h: &Plane, p: &Point) -> i128
+pub(crate) fn form(h: &Plane, p: &Point) -> i128
     ensures value { result ≡ form_at (form_of h.now) (place_of p.now) }
     ensures width { nat_abs result ≤ point_form_limit }
 {
@@ -19,6 +21,36 @@ fn form(h: &Plane, p: &Point) -> i128
         + h.b as i128 * p.y as i128
         + h.c as i128 * p.z as i128
         + h.d as i128 * p.w as i128
+}
+
+// The plane's form at the hit.
+pub(crate) fn hit_form(h: &Plane, p: &Hit) -> i128
+    ensures value { result ≡ form_at (form_of h.now) (hit_place p.now) }
+{
+    h.a as i128 * p.x + h.b as i128 * p.y + h.c as i128 * p.z + h.d as i128 * p.w
+}
+
+fn far_form(h: &Plane, p: &FarHit) -> i128
+    ensures value { result ≡ form_at (form_of h.now) (far_place p.now) }
+{
+    h.a as i128 * p.x + h.b as i128 * p.y + h.c as i128 * p.z + h.d as i128 * p.w
+}
+
+/// The sign of the plane's form at the hit.
+pub fn hit_side(h: &Plane, p: &Hit) -> Sign
+    ensures side { result ≡ sign_of (form_at (form_of h.now) (hit_place p.now)) }
+    ensures width { nat_abs (form_at (form_of h.now) (hit_place p.now)) ≤ hit_form_limit }
+    ensures upright_width { IsPlaceAtMost upright_limit upright_weight_limit (hit_place p.now) → nat_abs (form_at (form_of h.now) (hit_place p.now)) ≤ upright_form_limit }
+{
+    Sign::of(hit_form(h, p))
+}
+
+/// The sign of the plane's form at the far hit.
+pub fn far_side(h: &Plane, p: &FarHit) -> Sign
+    ensures side { result ≡ sign_of (form_at (form_of h.now) (far_place p.now)) }
+    ensures width { nat_abs (form_at (form_of h.now) (far_place p.now)) ≤ far_form_limit }
+{
+    Sign::of(far_form(h, p))
 }
 
 /// The sign of the plane's form at the point.

@@ -1,0 +1,115 @@
+//! Where rays cross planes.
+
+ghost use Rattle.std.specs.Prelude.{◌≡◌, ◌≢◌, ◌↔◌, ◌≤◌, pos, ◌+ℤ◌, ◌*ℤ◌, ◌<ℤ◌, nat_abs, IsNone, IfSome};
+ghost use Rattle.nef_space.specs.Limits.{normal_limit};
+ghost use Rattle.nef_space.specs.Place.{Place, form_at, slope, SamePlace};
+ghost use Rattle.nef_space.specs.Vectors.{Vector, vector, IsAtMost};
+ghost use Rattle.nef_geo.specs.Hits.{IsCrossing, IsReached, IsUpright, IsPlaneDirSized, IsPlaceAtMost};
+ghost use Rattle.nef_geo.specs.Shapes.{form_of, vector_of, place_of, hit_place, far_place};
+ghost use Rattle.nef_geo.specs.declared.plane.Plane.{Plane};
+ghost use Rattle.nef_geo.specs.Widths.{point_form_limit, ray_limit, ray_slope_limit, upright_limit, upright_weight_limit, plane_dir_hit_limit, plane_dir_form_limit, far_limit, far_weight_limit, far_num_limit, far_den_limit};
+
+use crate::dir::Dir;
+use crate::hit::{FarHit, Hit};
+use crate::plane::Plane;
+use crate::point::Point;
+use crate::product::slope;
+use crate::sides::{form, hit_form};
+use crate::step::zero_step;
+
+// The point at the step num/den from p.
+fn reached(p: &Point, d: &Dir, num: i128, den: i128) -> Hit
+    requires d_small { IsAtMost ray_limit (vector_of d.now) }
+    requires num_small { nat_abs num ≤ point_form_limit }
+    requires den_small { nat_abs den ≤ ray_slope_limit }
+    requires num_positive { pos 0 <ℤ num }
+    requires den_positive { pos 0 <ℤ den }
+    ensures x { result.x ≡ p.now.x *ℤ den +ℤ num *ℤ d.now.x }
+    ensures y { result.y ≡ p.now.y *ℤ den +ℤ num *ℤ d.now.y }
+    ensures z { result.z ≡ p.now.z *ℤ den +ℤ num *ℤ d.now.z }
+    ensures w { result.w ≡ p.now.w *ℤ den }
+    ensures num { result.num ≡ num }
+    ensures den { result.den ≡ den }
+{
+    Hit {
+        x: p.x as i128 * den + num * d.x as i128,
+        y: p.y as i128 * den + num * d.y as i128,
+        z: p.z as i128 * den + num * d.z as i128,
+        w: p.w as i128 * den,
+        num,
+        den,
+    }
+}
+
+// The same from a hit.
+fn reached_far(p: &Hit, d: &Dir, num: i128, den: i128) -> FarHit
+    requires p_small { IsPlaceAtMost upright_limit upright_weight_limit (hit_place p.now) }
+    requires d_small { IsAtMost normal_limit (vector_of d.now) }
+    requires num_small { nat_abs num ≤ far_num_limit }
+    requires den_small { nat_abs den ≤ far_den_limit }
+    requires num_positive { pos 0 <ℤ num }
+    requires den_positive { pos 0 <ℤ den }
+    ensures x { result.x ≡ p.now.x *ℤ den +ℤ num *ℤ d.now.x }
+    ensures y { result.y ≡ p.now.y *ℤ den +ℤ num *ℤ d.now.y }
+    ensures z { result.z ≡ p.now.z *ℤ den +ℤ num *ℤ d.now.z }
+    ensures w { result.w ≡ p.now.w *ℤ den }
+    ensures num { result.num ≡ num }
+    ensures den { result.den ≡ den }
+{
+    FarHit {
+        x: p.x * den + num * d.x as i128,
+        y: p.y * den + num * d.y as i128,
+        z: p.z * den + num * d.z as i128,
+        w: p.w * den,
+        num,
+        den,
+    }
+}
+
+/// Where the ray from p along d crosses the plane strictly ahead of p, for entries of d of at most
+/// `2^36` in size. `None` comes exactly where it doesn't, which includes a ray that lies in the plane.
+pub fn ray_hit(p: &Point, d: &Dir, h: &Plane) -> Option<Hit>
+    requires d_small { IsAtMost ray_limit (vector_of d.now) }
+    ensures none { IsNone result ↔ ((q : Place) → ¬ IsCrossing (place_of p.now) (vector_of d.now) (form_of h.now) q) }
+    ensures crossing { IfSome result (λ q. IsCrossing (place_of p.now) (vector_of d.now) (form_of h.now) (hit_place q)) }
+    ensures step { IfSome result (λ q. IsReached (place_of p.now) (vector_of d.now) q.num q.den q.den_sign (hit_place q)) }
+    ensures ahead { IfSome result (λ q. pos 0 <ℤ q.num) }
+    ensures upright_width { IsUpright (vector_of d.now) → IfSome result (λ q. IsPlaceAtMost upright_limit upright_weight_limit (hit_place q)) }
+    ensures plane_dir_width { IsPlaneDirSized (vector_of d.now) → IfSome result (λ q. IsAtMost plane_dir_hit_limit (vector q.x q.y q.z)) }
+    ensures plane_dir_form_width { IsPlaneDirSized (vector_of d.now) → IfSome result (λ q. (g : Plane) → nat_abs (form_at (form_of g) (hit_place q)) ≤ plane_dir_form_limit) }
+{
+    let step = zero_step(form(h, p), slope(h, d))?;
+    Some(reached(p, d, step.num, step.den))
+}
+
+/// Where the ray from the hit p along d crosses the plane strictly ahead of p. The first three numbers
+/// of p are at most `2^86` in size, its w is at most `2^73`, and the entries of d are at most `2^11` in
+/// size. `None` comes exactly where the ray doesn't cross the plane.
+pub fn far_hit(p: &Hit, d: &Dir, h: &Plane) -> Option<FarHit>
+    requires p_small { IsPlaceAtMost upright_limit upright_weight_limit (hit_place p.now) }
+    requires d_small { IsAtMost normal_limit (vector_of d.now) }
+    ensures none { IsNone result ↔ ((q : Place) → ¬ IsCrossing (hit_place p.now) (vector_of d.now) (form_of h.now) q) }
+    ensures crossing { IfSome result (λ q. IsCrossing (hit_place p.now) (vector_of d.now) (form_of h.now) (far_place q)) }
+    ensures step { IfSome result (λ q. IsReached (hit_place p.now) (vector_of d.now) q.num q.den q.den_sign (far_place q)) }
+    ensures width { IfSome result (λ q. IsPlaceAtMost far_limit far_weight_limit (far_place q)) }
+{
+    let step = zero_step(hit_form(h, p), slope(h, d))?;
+    Some(reached_far(p, d, step.num, step.den))
+}
+
+/// The point itself, as a hit at the step 0.
+pub fn hit_at(p: &Point) -> Hit
+    ensures same { SamePlace (hit_place result) (place_of p.now) }
+    ensures step { result.num ≡ pos 0 }
+    ensures reached { (d : Vector) → IsReached (place_of p.now) d result.num result.den result.den_sign (hit_place result) }
+    ensures upright_width { IsPlaceAtMost upright_limit upright_weight_limit (hit_place result) }
+{
+    Hit {
+        x: p.x as i128,
+        y: p.y as i128,
+        z: p.z as i128,
+        w: p.w as i128,
+        num: 0,
+        den: 1,
+    }
+}
