@@ -1,5 +1,5 @@
 -- Along a circle, between directions that are neither plain nor straight, the labels beside the circle stay.
-use Rattle.std.proofs.Common.{◌≡◌, ℕ, zero, suc, ◌+◌, ◌*◌, ◌<◌, ◌≤◌, pos, negsuc, ◌+ℤ◌, ◌-ℤ◌, ◌*ℤ◌, nat_abs, arith, refl, ap, sym, ◌∙◌, ◌⊎◌, inl, inr, ⊎_elim, List, [], ◌∷◌, subst, true, false}
+use Rattle.std.proofs.Common.{◌≡◌, ℕ, zero, suc, ◌+◌, ◌*◌, ◌<◌, ◌≤◌, pos, negsuc, ◌+ℤ◌, ◌-ℤ◌, ◌*ℤ◌, arith, refl, ap, sym, ◌∙◌, ◌⊎◌, inl, inr, ⊎_elim, List, [], ◌∷◌, subst, true, false}
 use Rattle.std.proofs.lemmas.Int.{ints}
 use Rattle.std.proofs.Math.Nat.{mul-pos}
 use Rattle.nef_exact.proofs.Ring.{ring, at, num, ◌⊕◌, ◌⊖◌, ◌⊗◌}
@@ -18,7 +18,7 @@ use Rattle.nef_forms.proofs.Directions.{self-pos}
 use Rattle.nef_sphere.proofs.Generic.{amount, far-keeps, far-level}
 use Rattle.nef_sphere.proofs.Direct.{cross-between}
 use Rattle.nef_sphere.proofs.StepOff.{blend-turned}
-use Rattle.nef_sphere.proofs.Walk.{left-of, right-of, between-direction, cross-direction_turned, cross-direction_left, cross-direction_right, crosses, crossings, find-crossing, uncrossed-same, Cut, cut, cross-onward}
+use Rattle.nef_sphere.proofs.Walk.{left-of, right-of, between-direction, cross-direction_left, cross-direction_right, crosses, crossings, find-crossing, uncrossed-same, cut, cross-onward}
 
 -- z, then w, then e: the two ways to write it have the same signs
 far-far : (gs : List Vector) (z w e : Vector) (k j i l : ℕ) → amount gs w ≤ k → amount gs e ≤ j → amount gs e ≤ i → amount gs (blend i w 1 e) ≤ l

@@ -1,10 +1,10 @@
 -- Labels that nothing changes along a way are the same at both ends.
-use Rattle.std.proofs.Common.{◌≡◌, ℕ, zero, suc, ◌+◌, ◌*◌, ◌<◌, ◌≤◌, ℤ, pos, ◌+ℤ◌, ◌*ℤ◌, nat_abs, arith, refl, ap, sym, ◌∙◌, ◌⊎◌, inl, inr, ⊎_elim, List, [], ◌∷◌, subst, Bool, true, false}
+use Rattle.std.proofs.Common.{◌≡◌, ℕ, zero, suc, ◌+◌, ◌*◌, ◌<◌, ℤ, pos, ◌+ℤ◌, ◌*ℤ◌, nat_abs, arith, ap, sym, ◌∙◌, ◌⊎◌, inl, inr, ⊎_elim, List, [], ◌∷◌, subst, Bool, true, false}
 use Rattle.std.proofs.Math.Nat.{mul-pos}
 use Rattle.nef_exact.proofs.Ring.{ring, at, ◌⊕◌, ◌⊗◌}
-use Rattle.nef_exact.proofs.Order.{Sign, minus, nought, plus, sign}
+use Rattle.nef_exact.proofs.Order.{sign}
 use Rattle.nef_exact.specs.Signs.{Lies}
-use Rattle.nef_space.specs.Vectors.{Vector, IsDirection, cross, dot, IsZero, IsOpposite, blend}
+use Rattle.nef_space.specs.Vectors.{Vector, IsDirection, cross, dot, IsOpposite, blend}
 use Rattle.nef_space.specs.declared.label.Label.{Label}
 use Rattle.nef_forms.proofs.Counting.{count, find-passing, count-less}
 use Rattle.nef_forms.proofs.Crossings.{opposite, sign-inside, opposite-left, opposite-right, to-nought, balance}
@@ -12,8 +12,7 @@ use Rattle.nef_near.proofs.Meets.{cross-none}
 use Rattle.nef_sphere.specs.Forms.{SameSigns}
 use Rattle.nef_sphere.specs.Labelling.{Labelling, Plain}
 use Rattle.nef_sphere.proofs.Vectors.{dot-comb}
-use Rattle.nef_forms.proofs.Directions.{dot-zero, zero-decided}
-use Rattle.nef_sphere.proofs.Places.{row_x, row_y, row_z, row_x-is, row_y-is, row_z-is}
+use Rattle.nef_forms.proofs.Directions.{zero-decided}
 use Rattle.nef_near.proofs.FlatDecided.{cross-turned}
 use Rattle.nef_near.proofs.Flats.{vector-same}
 use Rattle.nef_sphere.proofs.Direct.{cross-between}
