@@ -1,9 +1,10 @@
 -- How many forms of a list cross a segment: forms with strictly opposite signs at its ends.
-use Rattle.std.proofs.Common.{◌≡◌, ℕ, zero, suc, ◌+◌, ◌<◌, ◌≤◌, ℤ, pos, negsuc, ◌+ℤ◌, ◌-ℤ◌, ◌*ℤ◌, nat_abs, arith, refl, ap, sym, ◌∙◌, ◌⊎◌, inl, inr, ⊎_elim, List, [], ◌∷◌, subst, Bool, true, false}
+use Rattle.std.proofs.Common.{◌≡◌, ℕ, zero, suc, ◌<◌, ℤ, pos, negsuc, ◌+ℤ◌, ◌-ℤ◌, ◌*ℤ◌, nat_abs, arith, refl, ap, sym, ◌∙◌, ◌⊎◌, List, [], ◌∷◌, Bool, true, false}
 use Rattle.std.proofs.lemmas.Int.{ints}
 use Rattle.nef_exact.proofs.Ring.{ring, at, num, ◌⊕◌, ◌⊖◌, ◌⊗◌}
 use Rattle.nef_exact.proofs.Order.{Sign, minus, nought, plus, sign, sign_times, sign-plus, sign-minus, sign-scaled, sign_of_product, mul_pos, mul_nonneg, Lies}
 use Rattle.nef_space.specs.Place.{Form}
+use Rattle.nef_forms.proofs.Counting.{count, find-passing, count-less}
 use Rattle.nef_forms.proofs.Sums.{Homogeneous, form_on, mix, IsMixed, SameSigns, form-mix, form-sum, mixed-mix, some-pos}
 
 -- ---- signs along a segment
@@ -53,51 +54,19 @@ pub clear-same : (hs : List Form) (p q r s : Homogeneous) → IsClear hs p q →
 clear-same hs p q r s c a b h l = sign-mixed h p r q a (c h l) ∙ sym (sign-mixed h p s q b (c h l))
 
 -- ---- counting
-abbrev pub weight : Bool → ℕ
-weight true = 1
-weight false = 0
-
 abbrev pub crossings : List Form → Homogeneous → Homogeneous → ℕ
-crossings [] p q = 0
-crossings (h ∷ hs) p q = weight (crosses h p q) + crossings hs p q
+crossings hs p q = count (λ h. crosses h p q) hs
 
 module _ (p q : Homogeneous) where
   pub find-crossing : (hs : List Form) → IsClear hs p q ⊎ ((h : Form) × Lies hs h × (crosses h p q ≡ true))
-  find-crossing [] = inl (λ h l. absurd l)
-  find-crossing (k ∷ ks) = by (crosses k p q) refl (find-crossing ks)
-    where
-      by : (b : Bool) → crosses k p q ≡ b → IsClear ks p q ⊎ ((h : Form) × Lies ks h × (crosses h p q ≡ true)) → IsClear (k ∷ ks) p q ⊎ ((h : Form) × Lies (k ∷ ks) h × (crosses h p q ≡ true))
-      by true c r = inr (k, inl refl, c)
-      by false c (inl f) = inl (λ h l. ⊎_elim (λ e. subst (λ (g : Form). crosses g p q ≡ false) e c) (f h) l)
-      by false c (inr (h, l, d)) = inr (h, inr l, d)
+  find-crossing hs = find-passing (λ h. crosses h p q) hs
 
   module _ (r s : Homogeneous) where
     abbrev pub Fewer : List Form → Type 0
     Fewer hs = (h : Form) → Lies hs h → crosses h p q ≡ false → crosses h r s ≡ false
 
-    one-less : (b c : Bool) → (b ≡ false → c ≡ false) → weight c ≤ weight b
-    one-less true true f = omega arith
-    one-less true false f = omega arith
-    one-less false c f = let e : weight c ≡ 0 = ap weight (f refl) in omega arith
-
-    crossings-at_most : (hs : List Form) → Fewer hs → crossings hs r s ≤ crossings hs p q
-    crossings-at_most [] f = omega arith
-    crossings-at_most (k ∷ ks) f =
-        let a = one-less (crosses k p q) (crosses k r s) (f k (inl refl)) in
-        let b = crossings-at_most ks (λ h l. f h (inr l)) in
-        omega arith
-
     pub crossings-less : (hs : List Form) → Fewer hs → (h : Form) → Lies hs h → crosses h p q ≡ true → crosses h r s ≡ false → crossings hs r s < crossings hs p q
-    crossings-less [] f h l c d = absurd l
-    crossings-less (k ∷ ks) f h (inl e) c d =
-        let b = crossings-at_most ks (λ h l. f h (inr l)) in
-        let i : weight (crosses k p q) ≡ 1 = ap weight (subst (λ (g : Form). crosses g p q ≡ true) (sym e) c) in
-        let j : weight (crosses k r s) ≡ 0 = ap weight (subst (λ (g : Form). crosses g r s ≡ false) (sym e) d) in
-        omega arith
-    crossings-less (k ∷ ks) f h (inr l) c d =
-        let a = one-less (crosses k p q) (crosses k r s) (f k (inl refl)) in
-        let b = crossings-less ks (λ h l. f h (inr l)) h l c d in
-        omega arith
+    crossings-less hs f h l c d = count-less (λ h. crosses h p q) (λ h. crosses h r s) hs f h l c d
 
 pub opposite-left : (s t : Sign) → opposite s (joint s t) ≡ false
 opposite-left minus t = refl
@@ -113,7 +82,7 @@ opposite-right nought nought o = refl
 opposite-right nought plus o = refl
 opposite-right plus t o = o
 
-to-nought : (s : Sign) → opposite s nought ≡ false
+pub to-nought : (s : Sign) → opposite s nought ≡ false
 to-nought minus = refl
 to-nought nought = refl
 to-nought plus = refl

@@ -1,4 +1,5 @@
 pub mod Sums
+pub mod Counting
 pub mod Crossings
 pub mod Segment
 pub mod FirstChange

@@ -1,5 +1,5 @@
 -- Along a circle, between directions that are neither plain nor straight, the labels beside the circle stay.
-use Rattle.std.proofs.Common.{◌≡◌, ℕ, zero, suc, ◌+◌, ◌*◌, ◌<◌, ◌≤◌, pos, negsuc, ◌+ℤ◌, ◌-ℤ◌, ◌*ℤ◌, nat_abs, arith, refl, ap, sym, ◌∙◌, ◌⊎◌, inl, inr, ⊎_elim, List, [], ◌∷◌, subst, true, false}
+use Rattle.std.proofs.Common.{◌≡◌, ℕ, zero, suc, ◌+◌, ◌*◌, ◌<◌, ◌≤◌, pos, negsuc, ◌+ℤ◌, ◌-ℤ◌, ◌*ℤ◌, arith, refl, ap, sym, ◌∙◌, ◌⊎◌, inl, inr, ⊎_elim, List, [], ◌∷◌, subst, true, false}
 use Rattle.std.proofs.lemmas.Int.{ints}
 use Rattle.std.proofs.Math.Nat.{mul-pos}
 use Rattle.nef_exact.proofs.Ring.{ring, at, num, ◌⊕◌, ◌⊖◌, ◌⊗◌}
@@ -7,7 +7,6 @@ use Rattle.nef_exact.proofs.Order.{Sign, sign, sign-plus, sign-minus}
 use Rattle.nef_exact.specs.Signs.{Lies}
 use Rattle.nef_space.specs.Vectors.{Vector, IsDirection, cross, dot, blend}
 use Rattle.nef_space.specs.declared.label.Label.{Label}
-use Rattle.nef_forms.proofs.Crossings.{opposite, sign-inside, opposite-left, opposite-right, balance}
 use Rattle.nef_sphere.specs.Vectors.{comb}
 use Rattle.nef_sphere.specs.Forms.{SameSigns}
 use Rattle.nef_sphere.specs.Least.{by_side}
@@ -19,7 +18,7 @@ use Rattle.nef_forms.proofs.Directions.{self-pos}
 use Rattle.nef_sphere.proofs.Generic.{amount, far-keeps, far-level}
 use Rattle.nef_sphere.proofs.Direct.{cross-between}
 use Rattle.nef_sphere.proofs.StepOff.{blend-turned}
-use Rattle.nef_sphere.proofs.Walk.{left-of, right-of, between-direction, cross-direction_turned, cross-direction_left, cross-direction_right, crosses, crossings, find-crossing, Fewer, crossings-less, nought-left, nought-right}
+use Rattle.nef_sphere.proofs.Walk.{left-of, right-of, between-direction, cross-direction_left, cross-direction_right, crosses, crossings, find-crossing, uncrossed-same, cut, cross-onward}
 
 -- z, then w, then e: the two ways to write it have the same signs
 far-far : (gs : List Vector) (z w e : Vector) (k j i l : ℕ) → amount gs w ≤ k → amount gs e ≤ j → amount gs e ≤ i → amount gs (blend i w 1 e) ≤ l
@@ -163,13 +162,8 @@ module _ (gs : List Vector) (F : Vector → Label → Type 0) (L : Labelling gs 
         back hn e d (cross-direction_right d e f) le p.level se (
           1,
           λ l sl. subst P (blend-turned 1 l d e)
-              (cells (blend k d 1 e) (blend 1 d l e) (between-direction d e k 1 (omega arith) f) (between-direction d e 1 l sl f) (same k l (omega arith) sl) (level-between d e 1 l p.level le) (r.1 k (omega arith))),
+              (cells (blend k d 1 e) (blend 1 d l e) (between-direction d e k 1 (omega arith) f) (between-direction d e 1 l sl f) (uncrossed-same gs d e none k l (omega arith) sl) (level-between d e 1 l p.level le) (r.1 k (omega arith))),
         )
-      where
-        same : (k l : ℕ) → 0 < k → 0 < l → SameSigns gs (blend k d 1 e) (blend 1 d l e)
-        same k l sk sl g m =
-            ap sign (dot-comb g (pos 1) d (pos l) e) ∙ sign-inside (dot g d) (dot g e) 1 l (omega arith) sl (none g m)
-            ∙ sym (sign-inside (dot g d) (dot g e) k 1 sk (omega arith) (none g m)) ∙ sym (ap sign (dot-comb g (pos k) d (pos 1) e))
 
     -- along the circle of n from d to e, over plain and straight directions alone
     pub along : (f : ℕ) (d e : Vector) → crossings gs d e < f → IsDirection (cross d e) → dot n e ≡ pos 0 → IsSmooth F e → ((i j : ℕ) → 0 < i → 0 < j → IsSmooth F (blend i d j e)) → P d → P e
@@ -180,18 +174,12 @@ module _ (gs : List Vector) (F : Vector → Label → Type 0) (L : Labelling gs 
             → ((g : Vector) → Lies gs g → crosses g d e ≡ false) ⊎ ((g : Vector) × Lies gs g × (crosses g d e ≡ true)) → P e
         by go (inl none) = on-cell d e f none le se p
         by go (inr (g, l, c)) =
-            let s = balance (dot g d) (dot g e) c in
-            let x = nat_abs (dot g e) in
-            let y = nat_abs (dot g d) in
+            let s = cut gs d e g l c in
+            let x = s.i in
+            let y = s.j in
             let z = blend x d y e in
-            let o : dot g z ≡ pos 0 = dot-comb g (pos x) d (pos y) e ∙ s.2 in
-            let inside = λ (k : Vector) (q : crosses k d e ≡ false). ap sign (dot-comb k (pos x) d (pos y) e) ∙ sign-inside (dot k d) (dot k e) x y s.1 s.0 q in
-            let fl : Fewer gs d z d e = λ k j q. ap (opposite (sign (dot k d))) (inside k q) ∙ opposite-left (sign (dot k d)) (sign (dot k e)) in
-            let fr : Fewer gs z e d e = λ k j q. ap (λ r. opposite r (sign (dot k e))) (inside k q) ∙ opposite-right (sign (dot k d)) (sign (dot k e)) q in
-            let cl = crossings-less gs d z d e fl g l c (ap (λ r. opposite (sign (dot g d)) (sign r)) o ∙ nought-right (sign (dot g d))) in
-            let cr = crossings-less gs z e d e fr g l c (ap (λ r. opposite (sign r) (sign (dot g e))) o ∙ nought-left (sign (dot g e))) in
             let lz = level-between d e x y p.level le in
-            let left = go d z (omega arith) (cross-between d e x y s.0 f) lz (W x y s.1 s.0)
-            (λ i j si sj. let u = mul-pos sj s.1 in subst (IsSmooth F) (left-of i j x y d e) (W (i + j * x) (j * y) (omega arith) (mul-pos sj s.0))) p in
-            go z e (omega arith) (cross-direction_turned e z (subst (λ (r : Vector). IsDirection (cross e r)) (blend-turned y x e d) (cross-between e d y x s.1 (cross-direction_turned d e f)))) le se
-            (λ i j si sj. subst (IsSmooth F) (right-of i j x y d e) (W (i * x) (i * y + j) (mul-pos si s.1) (omega arith))) left
+            let left = go d z (let q = s.fewer_left in omega arith) (cross-between d e x y s.some_j f) lz (W x y s.some_i s.some_j)
+            (λ i j si sj. let u = mul-pos sj s.some_i in subst (IsSmooth F) (left-of i j x y d e) (W (i + j * x) (j * y) (omega arith) (mul-pos sj s.some_j))) p in
+            go z e (let q = s.fewer_right in omega arith) (cross-onward d e x y s.some_i f) le se
+            (λ i j si sj. subst (IsSmooth F) (right-of i j x y d e) (W (i * x) (i * y + j) (mul-pos si s.some_i) (omega arith))) left

@@ -1,7 +1,6 @@
 -- A map that is built of a labelling is well shaped, and agrees with it; so it is valid and has its labels.
 use Rattle.std.proofs.Common.{◌≡◌, ℕ, zero, suc, ◌+◌, pos, arith, refl, ap, sym, ◌∙◌, ◌⊎◌, inl, inr, ⊎_elim, List, [], ◌∷◌, subst, Option, Some, None}
 use Rattle.std.proofs.lemmas.Int.{ints}
-use Rattle.nef_exact.proofs.Ring.{ring, at, num, ◌⊕◌, ◌⊖◌, ◌⊗◌}
 use Rattle.nef_exact.proofs.Order.{Sign, minus, nought, plus, sign, by_order}
 use Rattle.nef_space.specs.Vectors.{Vector, IsDirection, cross, dot, SameDirection, IsNormal}
 use Rattle.nef_space.specs.declared.label.Label.{Label}

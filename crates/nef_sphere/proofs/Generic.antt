@@ -1,19 +1,15 @@
 -- A vector with given signs that is nought on no form; and the signs of k d + e for large k. Both are those of the forms of the planes through the origin.
-use Rattle.std.proofs.Common.{◌≡◌, ℕ, ◌+◌, ◌<◌, ◌≤◌, ℤ, pos, ◌+ℤ◌, ◌-ℤ◌, ◌*ℤ◌, nat_abs, arith, refl, ap, sym, ◌∙◌, inl, inr, ⊎_elim, List, [], ◌∷◌, subst}
-use Rattle.std.proofs.lemmas.Int.{ints}
-use Rattle.nef_exact.proofs.Ring.{ring, at, num, ◌⊕◌, ◌⊖◌, ◌⊗◌}
-use Rattle.nef_exact.proofs.Order.{sign, sign-plus, sign-minus, by_order, mul_le_right}
+use Rattle.std.proofs.Common.{◌≡◌, ℕ, ◌<◌, ◌≤◌, ℤ, pos, nat_abs, arith, ap, sym, ◌∙◌, ⊎_elim, List, subst}
+use Rattle.nef_exact.proofs.Order.{sign}
 use Rattle.nef_exact.specs.Signs.{Lies}
-use Rattle.nef_space.specs.Vectors.{Vector, IsDirection, dot, IsZero, blend}
+use Rattle.nef_space.specs.Vectors.{Vector, IsDirection, dot, blend}
 use Rattle.nef_exact.proofs.Lists.{each, lies-each}
 use Rattle.nef_forms.specs.Homogeneous.{form_on, mix, of_direction, direction_form, amount as amount-on}
 use Rattle.nef_forms.proofs.Far.{amount-above as above-on, far-keeps as keeps-on, far-level as level-on}
 use Rattle.nef_forms.proofs.Places.{form-direction}
 use Rattle.nef_forms.proofs.Generic.{generic_direction, direction_bound, direction-near}
 pub use Rattle.nef_sphere.specs.Forms.{SameSigns, Keeps}
-use Rattle.nef_sphere.proofs.Vectors.{dot-comb}
-use Rattle.nef_forms.proofs.Far.{same-off, nought-or}
-use Rattle.nef_forms.proofs.Directions.{zero-decided, self-pos}
+use Rattle.nef_forms.proofs.Far.{nought-or}
 
 -- from this k on, the signs of k d + e on the forms stay
 abbrev pub amount : List Vector → Vector → ℕ

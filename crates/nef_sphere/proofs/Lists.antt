@@ -1,5 +1,5 @@
 -- Elements of lists: searching, joining, gathering.
-use Rattle.std.proofs.Common.{◌≡◌, ℕ, zero, suc, refl, sym, ◌∙◌, ◌⊎◌, inl, inr, List, [], ◌∷◌, ◌++◌, subst}
+use Rattle.std.proofs.Common.{◌≡◌, ℕ, zero, suc, refl, sym, ◌∙◌, ◌⊎◌, inl, inr, List, [], ◌∷◌, subst}
 use Rattle.nef_exact.specs.Signs.{Lies}
 use Rattle.nef_exact.proofs.Lists.{lies-left, lies-right}
 use Rattle.nef_sphere.specs.Maps.{At}

@@ -4,8 +4,7 @@ use Rattle.std.proofs.lemmas.Int.{ints}
 use Rattle.nef_exact.proofs.Ring.{ring, at, num, ◌⊕◌, ◌⊖◌, ◌⊗◌}
 use Rattle.nef_exact.proofs.Combination.{follows, follows_times, given, none}
 use Rattle.nef_exact.proofs.Order.{sign, nought-is}
-use Rattle.nef_space.specs.Vectors.{Vector, IsDirection, triple, cross, vector, dot, IsZero, SameDirection, blend}
-use Rattle.nef_near.proofs.Flats.{vector-same}
+use Rattle.nef_space.specs.Vectors.{Vector, IsDirection, triple, cross, dot, IsZero, SameDirection, blend}
 use Rattle.nef_sphere.specs.Maps.{OnCircle, StrictlyOn}
 use Rattle.nef_sphere.proofs.Vectors.{dot-comb, triple-middle, same-plus, nought-if}
 use Rattle.nef_near.proofs.Decided.{Decided}

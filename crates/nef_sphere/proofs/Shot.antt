@@ -3,7 +3,7 @@ use Rattle.std.proofs.Common.{◌≡◌, ℕ, zero, suc, ◌+◌, ◌*◌, ◌<�
 use Rattle.std.proofs.lemmas.Int.{ints, unsigned_abs-mul}
 use Rattle.std.proofs.Math.Nat.{mul-pos}
 use Rattle.nef_exact.proofs.Ring.{ring, at, num, ◌⊕◌, ◌⊖◌, ◌⊗◌}
-use Rattle.nef_exact.proofs.Order.{sign, sign_times, sign_of_product, sign-plus, nought-is, by_order}
+use Rattle.nef_exact.proofs.Order.{sign, nought-is, by_order}
 use Rattle.nef_space.specs.Vectors.{Vector, IsDirection, cross, dot, blend}
 use Rattle.nef_exact.proofs.Order.{sign-scaled}
 use Rattle.nef_sphere.specs.Maps.{At, Svertex, Arc, Loop, Map, Item, arc_item, loop_item, items, items_then, item_normal, way_of, OnItem, Shaped}

@@ -1,9 +1,9 @@
 -- Products of vectors, and what follows from their signs.
-use Rattle.std.proofs.Common.{◌≡◌, ℕ, ℤ, pos, ◌+ℤ◌, ◌-ℤ◌, ◌*ℤ◌, ◌<ℤ◌, arith, ap, sym, ◌∙◌, ◌⊎◌, inl, inr, ⊎_elim, [], ◌∷◌}
+use Rattle.std.proofs.Common.{◌≡◌, ℕ, ℤ, pos, ◌+ℤ◌, ◌*ℤ◌, ◌<ℤ◌, arith, ◌∙◌, inl, inr, [], ◌∷◌}
 use Rattle.std.proofs.lemmas.Int.{ints}
 use Rattle.nef_exact.proofs.Ring.{ring, at, num, ◌⊕◌, ◌⊖◌, ◌⊗◌}
-use Rattle.nef_exact.proofs.Combination.{follows, follows_times, given, none}
-use Rattle.nef_exact.proofs.Order.{sign, sign-plus, sign-minus, plus-is, minus-is, nought-is, by_order, mul_pos, square_nonneg}
+use Rattle.nef_exact.proofs.Combination.{follows_times, given, none}
+use Rattle.nef_exact.proofs.Order.{sign, sign-plus, sign-minus, plus-is, minus-is, by_order}
 use Rattle.nef_space.specs.Vectors.{Vector, IsDirection, triple, cross, dot, IsZero, IsNormal}
 use Rattle.nef_forms.proofs.Directions.{dot-zero, self-pos}
 use Rattle.nef_near.proofs.Decided.{Decided}
