@@ -1,10 +1,10 @@
 //! The board.
-ghost use Rattle.std.specs.Prelude.{◌≡◌, ℕ, Bool, true, false, ◌+◌, ◌<◌, ◌≤◌, IfOk, Some, None, List, [], ◌∷◌, ◌++◌, ◌==◌, replicate};
+ghost use Rattle.std.specs.Prelude.{◌≡◌, true, false, ◌+◌, ◌<◌, IfOk, Some, None, [], ◌∷◌, ◌==◌};
 ghost use Rattle.nef_board.specs.Rule.{Found, Took};
 ghost use Rattle.atomic_table.specs.Table.{Allows, step};
 ghost use mathlib.Core.Option.{none};
 ghost use prog.Atomic.{either};
-ghost use Rattle.nef_board.specs.Views.{seeing, first_view};
+ghost use Rattle.nef_board.specs.Views.{seeing};
 
 use crate::pass::LockPass;
 use crate::rule::{Claims, Cut, Deposits, Ends, GivesBack, LockRule, Order, Takes};
@@ -44,8 +44,10 @@ impl<'a, R: Wait + Sync, J: Job> LockBoard<'a, R, J> {
         seats: u32,
     ) -> Result<(LockBoard<'a, R, J>, LockPass<J>), OutOfMemory>
         requires { 0 < seats }
-        ensures board { IfOk result (λ b. (b.0.table.shared.key.job.now ≡ job.now) × (b.0.table.shared.key.jobs ≡ J.count job.now)) }
-        ensures pass { IfOk result (λ b. (b.1.seat.table_id ≡ b.0.table.shared.table_id) × (b.1.seat.me.0 ≡ first_view (J.count job.now) seats)) }
+        ensures made_for { IfOk result (λ b. ⟦<LockBoard<'a, R, J> as Board<J>>⟧.made_for b.0 ≡ job.now) }
+        ensures first { IfOk result (λ b. ⟦<LockBoard<'a, R, J> as Board<J>>⟧.belongs b.0 b.1 × (⟦<LockBoard<'a, R, J> as Board<J>>⟧.number b.1 ≡ 0)) }
+        ensures spare { IfOk result (λ b. ⟦<LockBoard<'a, R, J> as Board<J>>⟧.spare b.1 + 1 ≡ seats) }
+        ensures idle { IfOk result (λ b. (⟦<LockBoard<'a, R, J> as Board<J>>⟧.hand b.1 ≡ None) × (⟦<LockBoard<'a, R, J> as Board<J>>⟧.ended b.1 ≡ false) × (⟦<LockBoard<'a, R, J> as Board<J>>⟧.deposits b.1 ≡ [])) }
     {
         let jobs = job.jobs();
         if jobs >= TOO_MANY_JOBS {

@@ -23,6 +23,12 @@ same-first d e h z = let e' = zero_dot d e z in let p = h.forward in omega (arit
 pub same-second : (d e : Vector) → SameDirection d e → IsDirection e
 same-second d e h = same-first e d (same-sym d e h)
 
+self_crossed : (a b : ℤ) → a *ℤ b -ℤ b *ℤ a ≡ pos 0
+self_crossed a b = ring (a ∷ b ∷ []) (at 0 ⊗ at 1 ⊖ at 1 ⊗ at 0) (num (pos 0)) tt
+
+pub same-refl : (d : Vector) → IsDirection d → SameDirection d d
+same-refl d h = record { parallel = (self_crossed d.y d.z, self_crossed d.z d.x, self_crossed d.x d.y); forward = self_positive d h }
+
 -- d.d f.e = d.e f.d, but for d x e
 dot_scaled : (f d e : Vector) → IsParallel d e → dot d d *ℤ dot f e ≡ dot d e *ℤ dot f d
 dot_scaled f d e h =

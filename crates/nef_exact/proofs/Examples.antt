@@ -30,7 +30,7 @@ cramer a b c d e f g h i p q r =
     (num (pos 0)) tt
 
 -- ---- an equation from equations
--- s, t and d are square to n: then [s,t,n] d = [d,t,n] s + [s,d,n] t, here its first coordinate, times n.n
+-- s, t and d are at right angles to n: then they lie in one plane, and their determinant s.(t x d) is nought
 pub in_plane : (nx ny nz sx sy sz tx ty tz dx dy dz : ℤ) → pos 0 <ℤ (nx *ℤ nx +ℤ ny *ℤ ny +ℤ nz *ℤ nz)
     → nx *ℤ sx +ℤ ny *ℤ sy +ℤ nz *ℤ sz ≡ pos 0 → nx *ℤ tx +ℤ ny *ℤ ty +ℤ nz *ℤ tz ≡ pos 0 → nx *ℤ dx +ℤ ny *ℤ dy +ℤ nz *ℤ dz ≡ pos 0
     → (sx *ℤ (ty *ℤ dz -ℤ tz *ℤ dy) +ℤ sy *ℤ (tz *ℤ dx -ℤ tx *ℤ dz) +ℤ sz *ℤ (tx *ℤ dy -ℤ ty *ℤ dx)) ≡ pos 0
@@ -40,7 +40,7 @@ in_plane nx ny nz sx sy sz tx ty tz dx dy dz p hs ht hd =
     let t = at 6 in let t' = at 7 in let t'' = at 8 in
     let d = at 9 in let d' = at 10 in let d'' = at 11 in
     let o = num (pos 0) in
-    -- [s,t,d] n.n = (n.s) n.(t x d) + (n.t) n.(d x s) + (n.d) n.(s x t)
+    -- s.(t x d) n.n = (n.s) n.(t x d) + (n.t) n.(d x s) + (n.d) n.(s x t)
     follows_times (nx ∷ ny ∷ nz ∷ sx ∷ sy ∷ sz ∷ tx ∷ ty ∷ tz ∷ dx ∷ dy ∷ dz ∷ []) (a ⊗ a ⊕ b ⊗ b ⊕ c ⊗ c)
     (s ⊗ (t' ⊗ d'' ⊖ t'' ⊗ d') ⊕ s' ⊗ (t'' ⊗ d ⊖ t ⊗ d'') ⊕ s'' ⊗ (t ⊗ d' ⊖ t' ⊗ d)) o
     (given (a ⊗ (t' ⊗ d'' ⊖ t'' ⊗ d') ⊕ b ⊗ (t'' ⊗ d ⊖ t ⊗ d'') ⊕ c ⊗ (t ⊗ d' ⊖ t' ⊗ d)) (a ⊗ s ⊕ b ⊗ s' ⊕ c ⊗ s'') o hs

@@ -79,7 +79,7 @@ module _ (p r q : Place) (m : IsMixed (of_place p) (of_place r) (of_place q)) wh
   abbrev numbers : ℤ → ℤ → ℤ → List ℤ
   numbers x y u = x ∷ y ∷ u ∷ pos p.w ∷ pos q.w ∷ pos r.w ∷ pos m.k ∷ pos m.i ∷ pos m.j ∷ []
 
-  from-start : (x y u : ℤ) → pos m.k *ℤ u ≡ pos m.i *ℤ x +ℤ pos m.j *ℤ y → pos m.k *ℤ (u *ℤ pos p.w -ℤ x *ℤ pos r.w) ≡ pos m.j *ℤ (y *ℤ pos p.w -ℤ x *ℤ pos q.w)
+  pub from-start : (x y u : ℤ) → pos m.k *ℤ u ≡ pos m.i *ℤ x +ℤ pos m.j *ℤ y → pos m.k *ℤ (u *ℤ pos p.w -ℤ x *ℤ pos r.w) ≡ pos m.j *ℤ (y *ℤ pos p.w -ℤ x *ℤ pos q.w)
   from-start x y u e = follows (numbers x y u) (at 6 ⊗ (at 2 ⊗ at 3 ⊖ at 0 ⊗ at 5)) (at 8 ⊗ (at 1 ⊗ at 3 ⊖ at 0 ⊗ at 4))
       (given (at 3) (at 6 ⊗ at 2) (at 7 ⊗ at 0 ⊕ at 8 ⊗ at 1) e (given (num (pos 0) ⊖ at 0) (at 6 ⊗ at 5) (at 7 ⊗ at 3 ⊕ at 8 ⊗ at 4) m.sum.is_w none)) tt
 
@@ -116,7 +116,7 @@ module _ (p r q : Place) (m : IsMixed (of_place p) (of_place r) (of_place q)) wh
           (given (num (pos 0) ⊖ num (pos 1)) (at 2 ⊗ at 0) (at 3 ⊗ at 1) (from-start x y u e) (given (at 2) (at 0) (num (pos 0)) z none)) (some-pos m.j m.some_j) tt
 
   -- and if q is p, so is r
-  end-zero : IsZero (toward p q) → IsZero (toward p r)
+  pub end-zero : IsZero (toward p q) → IsZero (toward p r)
   end-zero z = (one p.x q.x r.x m.sum.is_x z.0, one p.y q.y r.y m.sum.is_y z.1, one p.z q.z r.z m.sum.is_z z.2)
     where
       one : (x y u : ℤ) → pos m.k *ℤ u ≡ pos m.i *ℤ x +ℤ pos m.j *ℤ y → y *ℤ pos p.w -ℤ x *ℤ pos q.w ≡ pos 0 → u *ℤ pos p.w -ℤ x *ℤ pos r.w ≡ pos 0

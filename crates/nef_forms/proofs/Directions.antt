@@ -49,10 +49,10 @@ abs-pos z h = omega (arith, ints)
 
 -- parallel vectors: (b.b) a = (a.b) b
 module _ (a b : Vector) (s : SameDirection a b) where
-  direction-left : IsDirection a
+  pub direction-left : IsDirection a
   direction-left z = let e = zero-dot a b z in let f = s.forward in omega (arith, ints)
 
-  direction-right : IsDirection b
+  pub direction-right : IsDirection b
   direction-right z = let e = dot-zero a b z in let f = s.forward in omega (arith, ints)
 
   pub same-factor : SameUpToFactor (of_direction a) (of_direction b)

@@ -13,7 +13,7 @@ use Rattle.nef_forms.proofs.Sums.{Homogeneous, form_on, SameUpToFactor, IsMixed,
 use Rattle.nef_forms.proofs.Between.{between-is, place-factor, factor-place, on-places}
 use Rattle.nef_forms.proofs.Near.{sign_at}
 use Rattle.nef_forms.proofs.Segment.{SettledToward, Cells, Settled, settled-segment}
-use Rattle.nef_forms.proofs.FirstChange.{ChangeAt, change-at, Decided, first-change}
+use Rattle.nef_forms.proofs.FirstChange.{Change, ChangeAt, change-at, Decided, first-change_or, first-change}
 
 -- ---- vectors of a segment of points are points
 weight-one : (x y : ℕ) (i j : ℕ) → 0 < x → 0 < y → 0 < i + j → 0 < i * x + j * y
@@ -187,12 +187,22 @@ module _ (hs : List Form) (P : Place → Type 0) (p q : Place) (C : PlaceCells h
         )) c.change;
   }
 
+  placed : Change R (of_place p) (of_place q) → PlaceChange P p q
+  placed d =
+      let u = place-is d.vector (weight-of p q d.vector d.on) in
+      made u.0 (subst (λ (z : Homogeneous). ChangeAt R (of_place p) z (of_place q)) (sym u.1) (change-at R (of_place p) (of_place q) d))
+
+  -- P holds strictly between p and q, or there is a first point at which it changes
+  pub first-change_or_places : P p → ((r : Place) → IsBetween p r q → P r) ⊎ PlaceChange P p q
+  first-change_or_places x = ⊎_elim
+      (λ f. inl (λ r b. q-to-p hs P p q C r (f (of_place r) ((between-is p r q).0 b).0)))
+      (λ d. inr (placed d))
+      (first-change_or hs R (of_place p) (of_place q) (decided-q hs P p q C D) (cells-q hs P p q C) (p-to-q hs P p q C p (on-start (of_place p) (of_place q)) x))
+
   -- THE FIRST CHANGE ALONG A SEGMENT OF POINTS
   pub first-change_places : P p → (P q → ⊥) → PlaceChange P p q
   first-change_places x f =
-      let d = first-change hs R (of_place p) (of_place q) (decided-q hs P p q C D) (cells-q hs P p q C) (p-to-q hs P p q C p (on-start (of_place p) (of_place q)) x) (λ g. f (q-to-p hs P p q C q g)) in
-      let u = place-is d.vector (weight-of p q d.vector d.on) in
-      made u.0 (subst (λ (z : Homogeneous). ChangeAt R (of_place p) z (of_place q)) (sym u.1) (change-at R (of_place p) (of_place q) d))
+      placed (first-change hs R (of_place p) (of_place q) (decided-q hs P p q C D) (cells-q hs P p q C) (p-to-q hs P p q C p (on-start (of_place p) (of_place q)) x) (λ g. f (q-to-p hs P p q C q g)))
 
 -- ---- predicates on directions: the segment from d to e is the way along the great circle, i d + j e
 abbrev pub vector_of : Homogeneous → Vector

@@ -262,6 +262,68 @@ past-nearer p r q x a b = record {
   };
 }
 
+-- what is on the segment and isn't its start is past the start
+pub on-past : (p r q : Homogeneous) → OnSegment p r q → (SameUpToFactor r p → ⊥) → IsPast p r q
+on-past p r q m f = by m.k m.i m.j m.some_k m.some m.sum
+  where
+    by : (k i j : ℕ) → 0 < k → 0 < i + j → IsSum k r i p j q → IsPast p r q
+    by k zero zero a b s = absurd (omega arith)
+    by k (suc i) zero a b s = absurd (f (same-sum k r (suc i) p q a (omega arith) s))
+    by k i (suc j) a b s = record { k = k; i = i; j = suc j; some_k = a; some_j = omega arith; sum = s }
+
+-- r past p on the way to q, and s between p and r: s is between p and q
+inner-one : (x y u v : ℤ) (k i j l m n : ℕ) → pos k *ℤ u ≡ pos i *ℤ x +ℤ pos j *ℤ y → pos l *ℤ v ≡ pos m *ℤ x +ℤ pos n *ℤ u → pos (l * k) *ℤ v ≡ pos (m * k + n * i) *ℤ x +ℤ pos (n * j) *ℤ y
+inner-one x y u v k i j l m n e f =
+    follows (x ∷ y ∷ u ∷ v ∷ pos k ∷ pos i ∷ pos j ∷ pos l ∷ pos m ∷ pos n ∷ []) (at 7 ⊗ at 4 ⊗ at 3) ((at 8 ⊗ at 4 ⊕ at 9 ⊗ at 5) ⊗ at 0 ⊕ at 9 ⊗ at 6 ⊗ at 1)
+    (given (at 9) (at 4 ⊗ at 2) (at 5 ⊗ at 0 ⊕ at 6 ⊗ at 1) e
+    (given (at 4) (at 7 ⊗ at 3) (at 8 ⊗ at 0 ⊕ at 9 ⊗ at 2) f none)) tt
+
+pub mixed-inner : (p r q s : Homogeneous) → IsPast p r q → IsMixed p s r → IsMixed p s q
+mixed-inner p r q s a b = record {
+  k = b.k * a.k;
+  i = b.i * a.k + b.j * a.i;
+  j = b.j * a.j;
+  some_k = mul-pos b.some_k a.some_k;
+  some_i = omega (arith, mul-pos b.some_i a.some_k);
+  some_j = mul-pos b.some_j a.some_j;
+  sum = record {
+    is_x = inner-one p.x q.x r.x s.x a.k a.i a.j b.k b.i b.j a.sum.is_x b.sum.is_x;
+    is_y = inner-one p.y q.y r.y s.y a.k a.i a.j b.k b.i b.j a.sum.is_y b.sum.is_y;
+    is_z = inner-one p.z q.z r.z s.z a.k a.i a.j b.k b.i b.j a.sum.is_z b.sum.is_z;
+    is_w = inner-one p.w q.w r.w s.w a.k a.i a.j b.k b.i b.j a.sum.is_w b.sum.is_w;
+  };
+}
+
+-- r on the segment from p to z, and z on the one from p to q: z is on the segment from r to q
+after-one : (x y u v : ℤ) (k i j l m n : ℕ) → pos k *ℤ u ≡ pos i *ℤ x +ℤ pos j *ℤ v → pos l *ℤ v ≡ pos m *ℤ x +ℤ pos n *ℤ y → pos (i * l + m * j) *ℤ v ≡ pos (m * k) *ℤ u +ℤ pos (n * i) *ℤ y
+after-one x y u v k i j l m n e f =
+    follows (x ∷ y ∷ u ∷ v ∷ pos k ∷ pos i ∷ pos j ∷ pos l ∷ pos m ∷ pos n ∷ []) ((at 5 ⊗ at 7 ⊕ at 8 ⊗ at 6) ⊗ at 3) (at 8 ⊗ at 4 ⊗ at 2 ⊕ at 9 ⊗ at 5 ⊗ at 1)
+    (given (num (pos 0) ⊖ at 8) (at 4 ⊗ at 2) (at 5 ⊗ at 0 ⊕ at 6 ⊗ at 3) e
+    (given (at 5) (at 7 ⊗ at 3) (at 8 ⊗ at 0 ⊕ at 9 ⊗ at 1) f none)) tt
+
+some-after : (m n k i : ℕ) → 0 < m + n → 0 < k → 0 < i → 0 < m * k + n * i
+some-after zero n k i a b c = let e = mul-pos {m = n} {n = i} (omega arith) c in omega arith
+some-after (suc m) n k i a b c = let e = mul-pos {m = suc m} {n = k} (omega arith) b in omega arith
+
+pub on-after : (p r z q : Homogeneous) → OnSegment p r z → OnSegment p z q → OnSegment r z q
+on-after p r z q a b = by a.k a.i a.j a.some_k a.some a.sum
+  where
+    by : (k i j : ℕ) → 0 < k → 0 < i + j → IsSum k r i p j z → OnSegment r z q
+    by k zero j c d s = on-same r r q z (same-sym r z (same-sum k r j z p c (omega arith) (sum-turned k r 0 p j z s))) (on-start r q)
+    by k (suc i) j c d s = record {
+      k = suc i * b.k + b.i * j;
+      i = b.i * k;
+      j = b.j * suc i;
+      some_k = let e = mul-pos {m = suc i} {n = b.k} (omega arith) b.some_k in omega arith;
+      some = some-after b.i b.j k (suc i) b.some c (omega arith);
+      sum = record {
+        is_x = after-one p.x q.x r.x z.x k (suc i) j b.k b.i b.j s.is_x b.sum.is_x;
+        is_y = after-one p.y q.y r.y z.y k (suc i) j b.k b.i b.j s.is_y b.sum.is_y;
+        is_z = after-one p.z q.z r.z z.z k (suc i) j b.k b.i b.j s.is_z b.sum.is_z;
+        is_w = after-one p.w q.w r.w z.w k (suc i) j b.k b.i b.j s.is_w b.sum.is_w;
+      };
+    }
+
 -- ---- where s lies, with r past p on the way to q
 sub-one : (a b : ℕ) → a < b → (d : ℕ) × (0 < d) × (a + d ≡ b)
 sub-one a b h = (b - a, omega arith, omega arith)

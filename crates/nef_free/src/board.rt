@@ -1,9 +1,9 @@
 //! The board and its passes.
-ghost use Rattle.std.specs.Prelude.{◌≡◌, ℕ, Bool, true, false, ◌+◌, ◌<◌, ◌≤◌, IfOk, Some, None, List, [], ◌∷◌, ◌++◌, ◌==◌, if◌then◌else◌, replicate, vec_len, vec_capacity, slice_get};
+ghost use Rattle.std.specs.Prelude.{◌≡◌, ℕ, true, false, ◌+◌, ◌<◌, ◌≤◌, IfOk, Some, None, [], ◌==◌, if◌then◌else◌, replicate, vec_len, vec_capacity, slice_get};
 ghost use Rattle.std.specs.Mem.Slots.{slots_items, slots_len, IsFull};
 ghost use mathlib.Core.Option.{some};
 ghost use lib.ListN.{get_elem?};
-ghost use Rattle.nef_free.specs.Views.{carried, first_view, is_below};
+ghost use Rattle.nef_free.specs.Views.{carried, is_below};
 
 use crate::rule::{Claims, Cut, Deposits, FreeRule, GivesBack, Order};
 use crate::view::View;
@@ -50,8 +50,10 @@ impl<'a, J: Job> FreeBoard<'a, J> {
         seats: u32,
     ) -> Result<(FreeBoard<'a, J>, FreePass<J>), OutOfMemory>
         requires { 0 < seats }
-        ensures board { IfOk result (λ b. (b.0.table.shared.key.job.now ≡ job.now) × (b.0.jobs ≡ J.count job.now)) }
-        ensures pass { IfOk result (λ b. (b.1.seat.table_id ≡ b.0.table.shared.table_id) × (b.1.seat.me.0 ≡ first_view (J.count job.now) seats)) }
+        ensures made_for { IfOk result (λ b. ⟦<FreeBoard<'a, J> as Board<J>>⟧.made_for b.0 ≡ job.now) }
+        ensures first { IfOk result (λ b. ⟦<FreeBoard<'a, J> as Board<J>>⟧.belongs b.0 b.1 × (⟦<FreeBoard<'a, J> as Board<J>>⟧.number b.1 ≡ 0)) }
+        ensures spare { IfOk result (λ b. ⟦<FreeBoard<'a, J> as Board<J>>⟧.spare b.1 + 1 ≡ seats) }
+        ensures idle { IfOk result (λ b. (⟦<FreeBoard<'a, J> as Board<J>>⟧.hand b.1 ≡ None) × (⟦<FreeBoard<'a, J> as Board<J>>⟧.ended b.1 ≡ false) × (⟦<FreeBoard<'a, J> as Board<J>>⟧.deposits b.1 ≡ [])) }
     {
         let jobs = job.jobs();
         if jobs >= TOO_MANY_JOBS {

@@ -32,10 +32,10 @@ fn nobody_waits(rt: HostRuntime) -> Result<(), Fail> {
     let (board, mut zero) = FreeBoard::new(rt.alloc(), &job, 2)?;
     let mut one = board.split(&mut zero);
     let Claim::Got(first) = board.claim(&mut zero) else {
-        unreachable!(rt; "no job was handed out yet")
+        panic!(rt; "no job was handed out yet")
     };
     let Claim::Got(second) = board.claim(&mut one) else {
-        unreachable!(rt; "one job was handed out")
+        panic!(rt; "one job was handed out")
     };
     assert_eq!(rt; (first, second), (0, 1));
     assert_eq!(rt;

@@ -3,10 +3,10 @@ use Rattle.std.proofs.Common.{◌≡◌, ℕ, zero, suc, ◌*◌, ◌/◌, ◌<�
 use Rattle.std.specs.Int.{◌∣◌, IsGcd}
 use Rattle.std.specs.Int.RustNames.{int_div}
 use Rattle.std.proofs.lemmas.Int.{ints, unsigned_abs-mul, to_z-of_z}
-use Rattle.std.proofs.lemmas.Nat.Gcd.{dvd_trans, le_of_dvd}
+use Rattle.std.proofs.lemmas.Nat.Gcd.{dvd_trans, dvd-zero, le_of_dvd}
 use Rattle.std.proofs.lemmas.Nat.{mul-le}
 use native.Mathlib.Nat.{dvd-one, mul-dvd-mul_left, dvd_of_mul-dvd-mul_left, mul-one, pos_of_dvd_of_pos, mul-div_cancel'}
-use Rattle.nef_space.specs.Numbers.{DividesAll}
+use Rattle.nef_space.specs.Numbers.{DividesAll, IsLowest}
 use Rattle.nef_exact.proofs.Ring.{at, neg, ◌⊗◌, ring}
 use Rattle.nef_geo.specs.Numbers.{IsAtMostFour, IsSomeOfFour, IsGcdOfFour, IsReduced}
 
@@ -110,3 +110,22 @@ pub IsReduced-kept : (x y z w x' y' z' w' : ℤ) → FitsSigned w64 x → FitsSi
 IsReduced-kept x y z w x' y' z' w' fx fy fz fw fx' fy' fz' fw' h =
     rw (to_z-of_z w64 x' fx', to_z-of_z w64 y' fy', to_z-of_z w64 z' fz', to_z-of_z w64 w' fw')
     (rw (to_z-of_z w64 x fx, to_z-of_z w64 y fy, to_z-of_z w64 z fz, to_z-of_z w64 w fw) at h)
+
+-- three numbers in lowest terms, of which the fourth is zero
+pub lowest_three : (x y z x' y' z' w' : ℤ) → IsReduced x y z (pos 0) x' y' z' w' → IsLowest (x' ∷ y' ∷ z' ∷ [])
+lowest_three x y z x' y' z' w' h = λ k d. h.lowest k (d.0, (d.1.0, (d.1.1.0, (subst (λ (n : ℕ). k ∣ n) (sym (no_size w' (no_part h.factor w' h.positive h.w_is))) (divides_zero k), tt))))
+  where
+    no_part : (g n : ℤ) → pos 0 <ℤ g → pos 0 ≡ g *ℤ n → n ≡ pos 0
+    no_part g (pos zero) p e = refl
+    no_part (pos zero) (pos (suc n)) p e = absurd (omega (arith, ints))
+    no_part (pos (suc g)) (pos (suc n)) p e = absurd (omega (arith, ints))
+    no_part (negsuc g) (pos (suc n)) p e = absurd (omega (arith, ints))
+    no_part (pos zero) (negsuc n) p e = absurd (omega (arith, ints))
+    no_part (pos (suc g)) (negsuc n) p e = absurd (omega (arith, ints))
+    no_part (negsuc g) (negsuc n) p e = absurd (omega (arith, ints))
+
+    no_size : (n : ℤ) → n ≡ pos 0 → nat_abs n ≡ 0
+    no_size n e = omega (arith, ints)
+
+    divides_zero : (k : ℕ) → k ∣ 0
+    divides_zero k = dvd-zero k

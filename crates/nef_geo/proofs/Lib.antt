@@ -2,3 +2,9 @@ pub mod Divisors
 pub mod Places
 pub mod Normals
 pub mod Signs
+pub mod Products
+pub mod Directions
+pub mod Cramer
+pub mod Euclid
+pub mod Unique
+pub mod Orders

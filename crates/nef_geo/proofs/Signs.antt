@@ -1,6 +1,8 @@
 -- Signs of products, of sums and of forms.
-use Rattle.std.proofs.Common.{◌≡◌, zero, suc, ℤ, pos, negsuc, neg_ℤ, ◌*ℤ◌, ◌<ℤ◌, true, arith, refl, ap, ◌∙◌, [], ◌∷◌}
-use Rattle.std.proofs.lemmas.Int.{ints}
+use Rattle.std.proofs.Common.{◌≡◌, zero, suc, ℤ, pos, negsuc, neg_ℤ, ◌*ℤ◌, ◌<ℤ◌, true, arith, refl, ap, ◌∙◌, [], ◌∷◌, FitsSigned, to_z, of_z}
+use Rattle.std.proofs.lemmas.Int.{ints, to_z-of_z}
+use mir.Syntax.{w128}
+use Rattle.nef_geo.specs.declared.sign.Sign.{Sign}
 use Rattle.nef_space.specs.Place.{Place, Form, form_at}
 use Rattle.nef_exact.proofs.Ring.{at, ◌⊕◌, ◌⊗◌, ring}
 use Rattle.nef_geo.specs.declared.plane.Oriented.{Oriented}
@@ -39,3 +41,7 @@ sign_of-multiple h g m p = ap sign_of (form_at-multiple h g m p) ∙ sign_of-sca
 
 pub form_at-flipped : (o : Oriented) (p : Place) → o.flipped ≡ true → form_at (given_form o) p ≡ neg_ℤ (form_at (form_of o.plane) p)
 form_at-flipped o p e = rw e (form_at-turned (form_of o.plane) p)
+
+-- the sign of a number that passed through the machine's type
+pub sign_through : (s : Sign) (r v : ℤ) → FitsSigned w128 r → s ≡ sign_of (to_z w128 (of_z w128 r)) → r ≡ v → s ≡ sign_of v
+sign_through s r v f e h = e ∙ ap sign_of (to_z-of_z w128 r f ∙ h)

@@ -29,3 +29,9 @@ pub record IsReduced (x y z w x' y' z' w' : ℤ) : Type 0 where
   pub z_is : z ≡ factor *ℤ z'
   pub w_is : w ≡ factor *ℤ w'
   pub lowest : IsLowest (x' ∷ y' ∷ z' ∷ w' ∷ [])
+
+-- x/w is x'/w', and so on
+pub record IsSameRatios (x y z w x' y' z' w' : ℤ) : Type 0 where
+  pub along_x : x *ℤ w' ≡ x' *ℤ w
+  pub along_y : y *ℤ w' ≡ y' *ℤ w
+  pub along_z : z *ℤ w' ≡ z' *ℤ w

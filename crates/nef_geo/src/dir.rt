@@ -5,9 +5,11 @@ ghost use Rattle.nef_space.specs.Limits.{direction_limit};
 ghost use Rattle.nef_space.specs.Numbers.{IsLowest};
 ghost use Rattle.nef_space.specs.Vectors.{vector, IsDirection};
 
+use crate::gcd::lowest_terms;
+
 /// The direction `(x, y, z)`. The three numbers aren't all zero, have no common divisor but 1, and are
 /// at most `2^37` in size.
-#[derive(Debug, Clone, Copy, PartialEq, Eq)]
+#[derive(Debug, Clone, Copy, PartialEq, Eq, PartialOrd, Ord)]
 pub struct Dir {
     pub(crate) x: i64,
     pub(crate) y: i64,
@@ -20,6 +22,50 @@ pub struct Dir {
 }
 
 impl Dir {
+    ghost use Rattle.std.specs.Prelude.{◌↔◌, ℕ, IsNone, IfSome};
+    ghost use Rattle.nef_space.specs.Vectors.{opposite, IsAtMost, IsZero, SameDirection};
+    ghost use Rattle.nef_geo.specs.Meet.{IsStretched};
+    ghost use Rattle.nef_geo.specs.Shapes.{vector_of};
+
+    // The direction of numbers that aren't all zero.
+    fn reduced(x: i64, y: i64, z: i64) -> Dir
+        requires small { IsAtMost direction_limit (vector x y z) }
+        requires some { IsDirection (vector x y z) }
+        ensures stretched { IsStretched (vector x y z) (vector_of result) }
+    {
+        let lowest = lowest_terms(x, y, z, 0);
+        Dir {
+            x: lowest.x,
+            y: lowest.y,
+            z: lowest.z,
+        }
+    }
+
+    /// The direction `(x, y, z)`, for numbers of at most `2^37` in size. `None` comes exactly where all
+    /// three are zero.
+    pub fn of(x: i64, y: i64, z: i64) -> Option<Dir>
+        requires small { IsAtMost direction_limit (vector x y z) }
+        ensures none { IsNone result ↔ IsZero (vector x y z) }
+        ensures same { IfSome result (λ d. SameDirection (vector x y z) (vector_of d)) }
+        ensures size { IfSome result (λ d. (k : ℕ) → IsAtMost k (vector x y z) → IsAtMost k (vector_of d)) }
+    {
+        if x == 0 && y == 0 && z == 0 {
+            return None;
+        }
+        Some(Dir::reduced(x, y, z))
+    }
+
+    /// The opposite direction.
+    pub fn back(&self) -> Dir
+        ensures back { vector_of result ≡ opposite (vector_of self.now) }
+    {
+        Dir {
+            x: -self.x,
+            y: -self.y,
+            z: -self.z,
+        }
+    }
+
     /// The first number.
     pub fn x(&self) -> i64
         ensures x { result ≡ self.now.x }

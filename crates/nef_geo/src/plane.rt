@@ -7,7 +7,7 @@ ghost use Rattle.nef_space.specs.Vectors.{vector, IsNormal};
 
 /// The plane where `a x + b y + c z + d = 0`. The four numbers have no common divisor but 1, the
 /// first nonzero one of a, b and c is positive, and `|a|, |b|, |c| <= 2048`, `|d| <= 4194304`.
-#[derive(Debug, Clone, Copy, PartialEq, Eq)]
+#[derive(Debug, Clone, Copy, PartialEq, Eq, PartialOrd, Ord)]
 pub struct Plane {
     pub(crate) a: i64,
     pub(crate) b: i64,

@@ -1,6 +1,8 @@
 //! Std's readers and writers as a source and a sink. What standard input gave and what standard
 //! output took is told by nobody, so these few lines are trusted for it.
-ghost use Rattle.std.specs.Prelude.{◌≡◌};
+ghost use Rattle.std.specs.Prelude.{◌≡◌, ◌<◌, ◌≤◌, IfOk, OnErr, length, take};
+ghost use Rattle.std.specs.Io.KnownBytes.{Appends, Keeps};
+ghost use Rattle.nef_io.specs.Bytes.{Rose};
 
 use crate::traits::{Failed, Sink, Source};
 use std::io::{Read, Write};
@@ -64,7 +66,14 @@ impl<W: Write> Sink for IntoWriter<W> {
 
     ghost faults = { λ s. s.faults };
 
-    fn write(&mut self, piece: &[u8]) -> Result<usize, Failed> {
+    /// Where the writer tells what it holds, that grows by what was taken.
+    fn write(&mut self, piece: &[u8]) -> Result<usize, Failed>
+        ensures within { IfOk result (λ n. (0 < n) × (n ≤ length piece.now)) }
+        ensures holds { IfOk result (λ n. Appends (W.contents self.old.writer) (W.contents self.new.writer) (take n piece.now)) }
+        ensures keeps { OnErr result (Keeps (W.contents self.old.writer) (W.contents self.new.writer)) }
+        ensures failed { OnErr result (Rose self.old.faults self.new.faults) }
+        ensures count { self.old.faults ≤ self.new.faults }
+    {
         match self.writer.write(piece) {
             Ok(taken) if taken > 0 => Ok(taken),
             _ => {

@@ -1,19 +1,20 @@
 -- Points and sets with the same germs have the same flat directions.
-use Rattle.std.proofs.Common.{◌≡◌, ℕ, zero, suc, ◌+◌, ◌-◌, ◌<◌, ℤ, pos, ◌-ℤ◌, ◌*ℤ◌, arith, refl, ◌∙◌, ◌⊎◌, inl, inr, ◌↔◌, List, [], ◌∷◌, subst}
+use Rattle.std.proofs.Common.{◌+ℤ◌, ◌≡◌, ℕ, zero, suc, ◌+◌, ◌-◌, ◌<◌, ℤ, pos, ◌-ℤ◌, ◌*ℤ◌, arith, refl, ◌∙◌, ◌⊎◌, inl, inr, ◌↔◌, List, [], ◌∷◌, subst}
+use Rattle.std.proofs.lemmas.Int.{ints}
 use Rattle.std.proofs.lemmas.Bool.{cases_order}
 use Rattle.nef_exact.proofs.Ring.{ring, at, num, ◌⊕◌, ◌⊖◌, ◌⊗◌}
 use Rattle.nef_exact.proofs.Combination.{given, none, follows}
 use Rattle.nef_space.specs.Place.{Place, form, step, toward}
-use Rattle.nef_space.specs.Vectors.{Vector, blend, IsZero, cross, triple}
+use Rattle.nef_space.specs.Vectors.{Vector, blend, IsZero, cross, triple, zero_vector}
 use Rattle.nef_space.specs.Sets.{Set}
-use Rattle.nef_space.specs.Local.{SameSet, Germ, Flat, HasFlat, FlatDim, IsEven, IsEvenPath, Joined}
+use Rattle.nef_space.specs.Local.{HasLabel, SameSet, Germ, Flat, HasFlat, FlatDim, IsEven, IsEvenPath, Joined}
 use Rattle.nef_space.specs.declared.label.Label.{Label}
 use Rattle.nef_near.specs.Cells.{carriers, SameSigns}
 use Rattle.nef_near.specs.Cones.{slide, NearGerm, SameCone, SameNear}
-use Rattle.nef_near.proofs.Near.{weaken, stride, step-within}
-use Rattle.nef_near.proofs.Cells.{same-sym, reach_all, reach-some}
-use Rattle.nef_near.proofs.Flats.{germ-toward, label-toward, Flat-from_cone, FlatCone-from_flat}
-use Rattle.nef_near.proofs.Rays.{Germ-cells, within-self, slope-zero}
+use Rattle.nef_forms.proofs.Near.{weaken, stride, step-within, reach_all}
+use Rattle.nef_near.proofs.Cells.{same-sym, reach-some}
+use Rattle.nef_near.proofs.Flats.{germ-toward, label-toward, Flat-from_cone, FlatCone-from_flat, vector-same}
+use Rattle.nef_near.proofs.Rays.{Germ-cells, within-self, slope-zero, Germ-zero}
 use Rattle.nef_near.proofs.Combine.{shorter}
 
 -- ---- flat directions by the germs
@@ -136,3 +137,12 @@ FlatDim-one s p j k f g = by (cases_order j k)
     by (inl e) = e
     by (inr (inl l)) = absurd (none j k f g l)
     by (inr (inr l)) = absurd (none k j g f l)
+
+-- along a flat direction the germ is the label
+pub flat-germ : (s : Set) (p : Place) (d : Vector) (l : Label) → Flat s p d → HasLabel s p l → Germ s p d l
+flat-germ s p d l f h =
+    let g = (FlatCone-from_flat s p d f zero_vector 1 (pos 1) (omega arith) l).0 ((Germ-zero s p zero_vector l (refl, refl, refl)).1 h) in
+    subst (λ (v : Vector). Germ s p v l) (vector-same (slide 1 zero_vector (pos 1) d) d (one d.x) (one d.y) (one d.z)) g
+  where
+    one : (x : ℤ) → pos 1 *ℤ pos 0 +ℤ pos 1 *ℤ x ≡ x
+    one x = omega (arith, ints)

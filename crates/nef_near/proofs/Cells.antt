@@ -1,15 +1,17 @@
 -- Points at which all carriers have the same signs lie in the same sets.
-use Rattle.std.proofs.Common.{◌≡◌, ℕ, ◌+◌, ◌*◌, ◌<◌, ℤ, pos, negsuc, ◌+ℤ◌, ◌-ℤ◌, ◌*ℤ◌, neg_ℤ, ◌≤ℤ◌, ◌<ℤ◌, nat_abs, arith, refl, ap, sym, ◌∙◌, ◌⊎◌, inl, inr, ⊎_elim, ◌↔◌, List, [], ◌∷◌, ◌++◌, subst, Bool, true, false}
+use Rattle.std.proofs.Common.{◌≡◌, ℕ, ◌+◌, ◌*◌, ◌<◌, ℤ, pos, negsuc, ◌-ℤ◌, ◌*ℤ◌, neg_ℤ, ◌≤ℤ◌, nat_abs, arith, refl, ap, sym, ◌∙◌, ◌⊎◌, inl, inr, ⊎_elim, ◌↔◌, List, [], ◌∷◌, Bool, true, false}
 use Rattle.std.proofs.lemmas.Int.{ints}
-use Rattle.nef_exact.proofs.Ring.{ring, at, num, ◌⊕◌, ◌⊖◌, ◌⊗◌}
-use Rattle.nef_exact.proofs.Order.{Sign, minus, nought, plus, sign, sign_times, sign-plus, sign-minus, plus-is, minus-is, nought-is, sign_of_product, mul_pos}
+use Rattle.nef_exact.proofs.Ring.{ring, at, num, ◌⊖◌, ◌⊗◌}
+use Rattle.nef_exact.proofs.Order.{Sign, minus, nought, plus, sign, sign-minus, plus-is, minus-is, nought-is, sign-scaled}
 use Rattle.nef_space.specs.Place.{Place, Form, form_at, slope, Ratio, step, toward, Within, InFrame}
 use Rattle.nef_space.specs.Vectors.{Vector}
 use Rattle.nef_space.specs.Sets.{Set, Holds, Interior, Closure, InHalf, halves}
 use Rattle.nef_space.specs.Limits.{half_side}
 use Rattle.nef_exact.specs.Signs.{Lies}
 use Rattle.nef_near.specs.Cells.{sign_at, side, frame, SameSigns}
-use Rattle.nef_near.proofs.Near.{form-step, slope-toward, weaken, reach, keeps, stride, step-within}
+use Rattle.nef_exact.proofs.Lists.{lies-left, lies-right}
+use Rattle.nef_forms.proofs.Sums.{some-pos}
+use Rattle.nef_forms.proofs.Near.{reach_all, keeps-all as keeps-form, slope-toward, weaken, stride, step-within, ray-level}
 
 -- q keeps the signs of those forms that are not nought at p
 abbrev pub Keeps : List Form → Place → Place → Type 0
@@ -18,20 +20,12 @@ Keeps hs p q = (h : Form) → Lies hs h → (sign_at h p ≡ nought → ⊥) →
 pub same-sym : (hs : List Form) (p q : Place) → SameSigns hs p q → SameSigns hs q p
 same-sym hs p q f h l = sym (f h l)
 
--- a number n such that all forms keep their signs within 1/n of p
-abbrev pub reach_all : List Form → Place → ℕ
-reach_all [] p = 1
-reach_all (h ∷ hs) p = reach h p + reach_all hs p
-
 pub reach-some : (hs : List Form) (p : Place) → 0 < reach_all hs p
 reach-some [] p = omega arith
 reach-some (h ∷ hs) p = omega arith
 
 pub keeps-all : (hs : List Form) (p q : Place) → Within (reach_all hs p) p q → Keeps hs p q
-keeps-all [] p q c h l n = absurd l
-keeps-all (k ∷ ks) p q c h l n = ⊎_elim
-    (λ e. subst (λ (g : Form). (sign_at g p ≡ nought → ⊥) → sign_at g q ≡ sign_at g p) e (keeps k p q (weaken (reach k p) (reach_all (k ∷ ks) p) p q (omega arith) c)) n)
-    (λ m. keeps-all ks p q (weaken (reach_all ks p) (reach_all (k ∷ ks) p) p q (omega arith) c) h m n) l
+keeps-all hs p q c h l n = keeps-form hs p q c h l (λ z. n (ap sign z))
 
 -- ---- a small copy of the way from q' to r', laid at q
 pub is_nought : (s : Sign) → (s ≡ nought) ⊎ (s ≡ nought → ⊥)
@@ -39,14 +33,10 @@ is_nought minus = inr (λ e. cc)
 is_nought nought = inl refl
 is_nought plus = inr (λ e. cc)
 
--- where the form is nought at q and q', it has the sign at q + t d that it has at r'
-sign-copied : (f f' g' r s a : ℤ) (b w v u : ℕ) → 0 < w → 0 < v → pos 0 <ℤ a → f ≡ pos 0 → f' ≡ pos 0 → s ≡ pos v *ℤ g' -ℤ pos u *ℤ f' → r ≡ pos b *ℤ f +ℤ a *ℤ pos w *ℤ s → sign r ≡ sign g'
-sign-copied f f' g' r s a b w v u pw pv pa e e' es er =
-    let q : pos 0 <ℤ (a *ℤ pos w *ℤ pos v) = mul_pos (a *ℤ pos w) (pos v) (mul_pos a (pos w) pa (omega (arith, ints))) (omega (arith, ints)) in
-    let i = ring (pos b ∷ a ∷ pos w ∷ pos v ∷ g' ∷ pos u ∷ [])
-    (at 0 ⊗ num (pos 0) ⊕ at 1 ⊗ at 2 ⊗ (at 3 ⊗ at 4 ⊖ at 5 ⊗ num (pos 0))) (at 1 ⊗ at 2 ⊗ at 3 ⊗ at 4) tt in
-    let j = er ∙ ap (λ z. pos b *ℤ z +ℤ a *ℤ pos w *ℤ s) e ∙ ap (λ z. pos b *ℤ pos 0 +ℤ a *ℤ pos w *ℤ z) (es ∙ ap (λ z. pos v *ℤ g' -ℤ pos u *ℤ z) e') ∙ i in
-    ap sign j ∙ sign_of_product (a *ℤ pos w *ℤ pos v) g' ∙ ap (λ z. sign_times z (sign g')) (sign-plus (a *ℤ pos w *ℤ pos v) q)
+-- toward q the slope of a form that is nought at p has the sign of the form at q
+slope-level : (h : Form) (p q : Place) → form_at h p ≡ pos 0 → sign (slope h (toward p q)) ≡ sign_at h q
+slope-level h p q z = ap sign (slope-toward h p q ∙ ap (λ r. pos p.w *ℤ form_at h q -ℤ pos q.w *ℤ r) z ∙ ring (pos p.w ∷ form_at h q ∷ pos q.w ∷ []) (at 0 ⊗ at 1 ⊖ at 2 ⊗ num (pos 0)) (at 0 ⊗ at 1) tt)
+    ∙ sign-scaled (pos p.w) (form_at h q) (some-pos p.w p.proper)
 
 pub record Copy (hs : List Form) (n : ℕ) (q r' : Place) : Type 0 where
   pub at_place : Place
@@ -74,8 +64,7 @@ module _ (hs : List Form) (n : ℕ) (q q' r' : Place) where
 
   there-signs : SameSigns hs q q' → Keeps hs q' r' → SameSigns hs there r'
   there-signs same keep h l = ⊎_elim
-      (λ e. sign-copied (form_at h q) (form_at h q') (form_at h r') (form_at h there) (slope h way) (pos 1) part.b q.w q'.w r'.w q.proper q'.proper (omega (arith, ints))
-      (nought-is (form_at h q) e) (nought-is (form_at h q') (sym (same h l) ∙ e)) (slope-toward h q' r') (form-step h q part way))
+      (λ e. ray-level h q part way (omega (arith, ints)) (nought-is (form_at h q) e) ∙ slope-level h q' r' (nought-is (form_at h q') (sym (same h l) ∙ e)))
       (λ e. there-keeps h l e ∙ same h l ∙ sym (keep h l (λ f. e (same h l ∙ f)))) (is_nought (sign_at h q))
 
   pub copied : SameSigns hs q q' → Keeps hs q' r' → Copy hs n q r'
@@ -123,15 +112,6 @@ Closure-cells hs P F C p q same f n some =
 -- ---- every set
 abbrev pub Inside : List Form → List Form → Type 0
 Inside ks hs = (h : Form) → Lies ks h → Lies hs h
-
-pub lies-left : (ks ls : List Form) (h : Form) → Lies ks h → Lies (ks ++ ls) h
-lies-left [] ls h l = absurd l
-lies-left (k ∷ ks) ls h (inl e) = inl e
-lies-left (k ∷ ks) ls h (inr l) = inr (lies-left ks ls h l)
-
-pub lies-right : (ks ls : List Form) (h : Form) → Lies ls h → Lies (ks ++ ls) h
-lies-right [] ls h l = l
-lies-right (k ∷ ks) ls h l = inr (lies-right ks ls h l)
 
 InHalf-cells : (hs : List Form) (h : Form) (c : Bool) → Lies hs h → Cells hs (InHalf h c)
 InHalf-cells hs h false l p q same i = minus-is (form_at h q) (sym (same h l) ∙ sign-minus (form_at h p) i)

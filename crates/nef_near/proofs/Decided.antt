@@ -1,69 +1,35 @@
 -- Each set holds or does not hold at each point: no axiom is needed, since finitely many directions decide an interior.
-use Rattle.std.proofs.Common.{◌≡◌, ℕ, ◌+◌, ◌*◌, ◌<◌, ◌≤◌, ℤ, pos, nat_abs, arith, refl, ap, sym, ◌∙◌, ◌⊎◌, inl, inr, ⊎_elim, List, [], ◌∷◌, subst, Bool, true, false}
+use Rattle.std.proofs.Common.{ℕ, ◌+◌, ◌*◌, ◌<◌, ◌≤◌, pos, nat_abs, arith, refl, sym, ◌∙◌, ◌⊎◌, inl, inr, ⊎_elim, List, [], ◌∷◌, subst, Bool, true, false}
 use Rattle.std.proofs.lemmas.Int.{ints, by_lt_z}
 use Rattle.std.proofs.lemmas.Bool.{cases_lt}
-use Rattle.nef_exact.proofs.Ring.{ring, at, num, ◌⊕◌, ◌⊗◌}
-use Rattle.nef_exact.proofs.Order.{sign}
-use Rattle.nef_exact.proofs.Samples as S
 use Rattle.nef_space.specs.Limits.{half_side}
 use Rattle.nef_exact.specs.Signs.{Lies}
-use Rattle.nef_near.specs.Cells.{frame, carriers, SameSigns}
-use Rattle.nef_space.specs.Place.{Place, Form, form_at, slope, Ratio, step, Within, InFrame, toward}
+use Rattle.nef_near.specs.Cells.{frame, carriers, SameSigns, SameSlopes}
+use Rattle.nef_space.specs.Place.{Place, Form, form_at, normal_of, Ratio, step, Within, InFrame, toward}
 use Rattle.nef_space.specs.Vectors.{Vector}
 use Rattle.nef_space.specs.Sets.{Set, Holds, Interior, Closure, InHalf, halves}
 use Rattle.nef_space.specs.Local.{IsShort, HasLabel, Germ}
 use Rattle.nef_space.specs.declared.label.Label.{Label}
 use Rattle.nef_space.specs.declared.label.Label.TheVariants.{Out, Not, In}
-use Rattle.nef_near.proofs.Near.{stride, step-within}
-use Rattle.nef_near.proofs.Cells.{same-sym, reach_all, reach-some, Cells, Inside, InFrame-cells, Holds-cells, Interior-cells, lies-left, lies-right}
+use Rattle.nef_forms.proofs.Representatives.{representative_directions, Representative, representative}
+use Rattle.nef_forms.proofs.Near.{stride, step-within, reach_all}
+use Rattle.nef_near.proofs.Cells.{same-sym, reach-some, Cells, Inside, InFrame-cells, Holds-cells, Interior-cells}
+use Rattle.nef_exact.proofs.Lists.{each, lies-each, lies-left, lies-right}
 use Rattle.nef_near.proofs.Germs.{near-same, sign-along, Germ-from_sample, sample}
 use Rattle.nef_near.proofs.Flats.{sign-toward}
 
 abbrev pub Decided : Type 0 → Type 0
 Decided A = A ⊎ (A → ⊥)
 
-abbrev pub of_form : Form → List ℤ
-of_form h = h.a ∷ h.b ∷ h.c ∷ pos 0 ∷ []
-
-abbrev pub of_forms : List Form → List (List ℤ)
-of_forms [] = []
-of_forms (h ∷ hs) = of_form h ∷ of_forms hs
-
-lies-of : (hs : List Form) (h : Form) → Lies hs h → S.Lies (of_forms hs) (of_form h)
-lies-of [] h l = l
-lies-of (k ∷ ks) h (inl e) = inl (ap of_form e)
-lies-of (k ∷ ks) h (inr l) = inr (lies-of ks h l)
-
-abbrev pub to_vector : List ℤ → Vector
-to_vector v = record { x = S.head v; y = S.head (S.tail v); z = S.head (S.tail (S.tail v)) }
-
-dot-is : (h : Form) (v : List ℤ) → S.IsPoint 3 v → S.dot (of_form h) v ≡ slope h (to_vector v)
-dot-is h [] p = absurd p
-dot-is h (x ∷ []) p = absurd p
-dot-is h (x ∷ y ∷ []) p = absurd p
-dot-is h (x ∷ y ∷ z ∷ []) p = absurd p
-dot-is h (x ∷ y ∷ z ∷ w ∷ []) p = ring (h.a ∷ h.b ∷ h.c ∷ x ∷ y ∷ z ∷ w ∷ [])
-    (at 0 ⊗ at 3 ⊕ (at 1 ⊗ at 4 ⊕ (at 2 ⊗ at 5 ⊕ (num (pos 0) ⊗ at 6 ⊕ num (pos 0))))) (at 0 ⊗ at 3 ⊕ at 1 ⊗ at 4 ⊕ at 2 ⊗ at 5) tt
-dot-is h (x ∷ y ∷ z ∷ w ∷ r ∷ rs) p = absurd p
-
 -- the directions that decide
-abbrev pub ways : List Form → List (List ℤ)
-ways hs = S.samples 3 (of_forms hs)
+abbrev pub ways : List Form → List Vector
+ways hs = representative_directions (each normal_of hs)
 
-pub record Way (hs : List Form) (d : Vector) : Type 0 where
-  pub way : List ℤ
-  pub listed : S.Lies (ways hs) way
-  pub same : (h : Form) → Lies hs h → sign (slope h d) ≡ sign (slope h (to_vector way))
+abbrev pub way_of : (hs : List Form) (d : Vector) → Representative (each normal_of hs) d
+way_of hs d = representative (each normal_of hs) d
 
-pub way_of : (hs : List Form) (d : Vector) → Way hs d
-way_of hs d =
-    let r = S.sample_of 3 (of_forms hs) (d.x ∷ d.y ∷ d.z ∷ pos 1 ∷ []) (omega (arith, ints)) in
-    record {
-      way = r.vector;
-      listed = r.listed;
-      same = λ h l.
-          ap sign (sym (dot-is h (d.x ∷ d.y ∷ d.z ∷ pos 1 ∷ []) (omega (arith, ints)))) ∙ r.same (of_form h) (lies-of hs h l) ∙ ap sign (dot-is h r.vector r.point);
-    }
+pub same-slopes : (hs : List Form) (d : Vector) → SameSlopes hs d (way_of hs d).direction
+same-slopes hs d h l = (way_of hs d).same (normal_of h) (lies-each normal_of hs h l)
 
 -- short steps along one direction, and the points that they lead to
 abbrev size : List Form → Place → Vector → ℕ
@@ -86,19 +52,19 @@ spot-same hs q d k l = near-same hs q (spot hs q d) (step q (part_of k) d)
     (λ h i e. sign-along h q (part_of (size hs q d)) d e (omega (arith, ints)) ∙ sym (sign-along h q (part_of k) d e (omega (arith, ints))))
 
 -- a close point lies in the cell of one of the deciding directions
-spot-of : (hs : List Form) (q r : Place) → Within (reach_all hs q) q r → SameSigns hs r (spot hs q (to_vector (way_of hs (toward q r)).way))
+spot-of : (hs : List Form) (q r : Place) → Within (reach_all hs q) q r → SameSigns hs r (spot hs q (way_of hs (toward q r)).direction)
 spot-of hs q r c =
     let w = way_of hs (toward q r) in
-    let d = to_vector w.way in
+    let d = w.direction in
     near-same hs q r (spot hs q d) c (step-within (reach_all hs q) q d (part_of (size hs q d)) (part-short (size hs q d) (size hs q d) (omega arith)))
-    (λ h i e. sign-toward h q r e ∙ w.same h i ∙ sym (sign-along h q (part_of (size hs q d)) d e (omega (arith, ints))))
+    (λ h i e. sign-toward h q r e ∙ same-slopes hs (toward q r) h i ∙ sym (sign-along h q (part_of (size hs q d)) d e (omega (arith, ints))))
 
 -- ---- deciding over a list
-pub every : {A : Type 0} (xs : List A) (Q : A → Type 0) → ((x : A) → Decided (Q x)) → ((x : A) × S.Lies xs x × (Q x → ⊥)) ⊎ ((x : A) → S.Lies xs x → Q x)
+pub every : {A : Type 0} (xs : List A) (Q : A → Type 0) → ((x : A) → Decided (Q x)) → ((x : A) × Lies xs x × (Q x → ⊥)) ⊎ ((x : A) → Lies xs x → Q x)
 every [] Q f = inr (λ x l. absurd l)
 every {A} (y ∷ ys) Q f = by (f y) (every ys Q f)
   where
-    by : Decided (Q y) → ((x : A) × S.Lies ys x × (Q x → ⊥)) ⊎ ((x : A) → S.Lies ys x → Q x) → ((x : A) × S.Lies (y ∷ ys) x × (Q x → ⊥)) ⊎ ((x : A) → S.Lies (y ∷ ys) x → Q x)
+    by : Decided (Q y) → ((x : A) × Lies ys x × (Q x → ⊥)) ⊎ ((x : A) → Lies ys x → Q x) → ((x : A) × Lies (y ∷ ys) x × (Q x → ⊥)) ⊎ ((x : A) → Lies (y ∷ ys) x → Q x)
     by (inr n) r = inl (y, inl refl, n)
     by (inl h) (inl (x, l, n)) = inl (x, inr l, n)
     by (inl h) (inr g) = inr (λ x l. ⊎_elim (λ e. subst Q e h) (g x) l)
@@ -136,21 +102,21 @@ InFrame-decided p = by (decided-lt (nat_abs p.x) (half_side * p.w)) (decided-lt 
 
 module _ (hs : List Form) (P : Place → Type 0) (F : Cells hs InFrame) (C : Cells hs P) (D : (p : Place) → Decided (P p)) where
   Interior-decided : (q : Place) → Decided (Interior P q)
-  Interior-decided q = by (every (ways hs) (λ v. InFrame (spot hs q (to_vector v)) → P (spot hs q (to_vector v)))
-      (λ v. decided-to (InFrame-decided (spot hs q (to_vector v))) (D (spot hs q (to_vector v)))))
+  Interior-decided q = by (every (ways hs) (λ v. InFrame (spot hs q v) → P (spot hs q v))
+      (λ v. decided-to (InFrame-decided (spot hs q v)) (D (spot hs q v))))
     where
-      by : ((v : List ℤ) × S.Lies (ways hs) v × ((InFrame (spot hs q (to_vector v)) → P (spot hs q (to_vector v))) → ⊥)) ⊎ ((v : List ℤ) → S.Lies (ways hs) v → InFrame (spot hs q (to_vector v)) → P (spot hs q (to_vector v))) → Decided (Interior P q)
+      by : ((v : Vector) × Lies (ways hs) v × ((InFrame (spot hs q v) → P (spot hs q v)) → ⊥)) ⊎ ((v : Vector) → Lies (ways hs) v → InFrame (spot hs q v) → P (spot hs q v)) → Decided (Interior P q)
       by (inr f) = inl (
         reach_all hs q,
         reach-some hs q,
         λ r i c.
             let w = way_of hs (toward q r) in
             let e = spot-of hs q r c in
-            let t = spot hs q (to_vector w.way) in
-            C t r (same-sym hs r t e) (f w.way w.listed (F r t e i)),
+            let t = spot hs q w.direction in
+            C t r (same-sym hs r t e) (f w.direction w.listed (F r t e i)),
       )
       by (inl (v, l, n)) = inr (λ h.
-          let d = to_vector v in
+          let d = v in
           let k = size hs q d + stride h.0 d in
           let r = step q (part_of k) d in
           let e = spot-same hs q d k (omega arith) in
@@ -158,21 +124,21 @@ module _ (hs : List Form) (P : Place → Type 0) (F : Cells hs InFrame) (C : Cel
           n (λ i. C r (spot hs q d) (same-sym hs (spot hs q d) r e) (h.2 r (F (spot hs q d) r e i) c)))
 
   Closure-decided : (q : Place) → Decided (Closure P q)
-  Closure-decided q = by (every (ways hs) (λ v. InFrame (spot hs q (to_vector v)) × P (spot hs q (to_vector v)) → ⊥)
-      (λ v. decided-not (decided-both (InFrame-decided (spot hs q (to_vector v))) (D (spot hs q (to_vector v))))))
+  Closure-decided q = by (every (ways hs) (λ v. InFrame (spot hs q v) × P (spot hs q v) → ⊥)
+      (λ v. decided-not (decided-both (InFrame-decided (spot hs q v)) (D (spot hs q v)))))
     where
-      stable : (v : List ℤ) → ((InFrame (spot hs q (to_vector v)) × P (spot hs q (to_vector v)) → ⊥) → ⊥) → InFrame (spot hs q (to_vector v)) × P (spot hs q (to_vector v))
-      stable v n = ⊎_elim (λ a. a) (λ b. absurd (n b)) (decided-both (InFrame-decided (spot hs q (to_vector v))) (D (spot hs q (to_vector v))))
+      stable : (v : Vector) → ((InFrame (spot hs q v) × P (spot hs q v) → ⊥) → ⊥) → InFrame (spot hs q v) × P (spot hs q v)
+      stable v n = ⊎_elim (λ a. a) (λ b. absurd (n b)) (decided-both (InFrame-decided (spot hs q v)) (D (spot hs q v)))
 
-      by : ((v : List ℤ) × S.Lies (ways hs) v × ((InFrame (spot hs q (to_vector v)) × P (spot hs q (to_vector v)) → ⊥) → ⊥)) ⊎ ((v : List ℤ) → S.Lies (ways hs) v → InFrame (spot hs q (to_vector v)) × P (spot hs q (to_vector v)) → ⊥) → Decided (Closure P q)
+      by : ((v : Vector) × Lies (ways hs) v × ((InFrame (spot hs q v) × P (spot hs q v) → ⊥) → ⊥)) ⊎ ((v : Vector) → Lies (ways hs) v → InFrame (spot hs q v) × P (spot hs q v) → ⊥) → Decided (Closure P q)
       by (inr f) = inr (λ h.
           let r = h (reach_all hs q) (reach-some hs q) in
           let w = way_of hs (toward q r.0) in
           let e = spot-of hs q r.0 r.2 in
-          let t = spot hs q (to_vector w.way) in
-          f w.way w.listed (F r.0 t e r.1, C r.0 t e r.3))
+          let t = spot hs q w.direction in
+          f w.direction w.listed (F r.0 t e r.1, C r.0 t e r.3))
       by (inl (v, l, n)) = inl (λ k some.
-          let d = to_vector v in
+          let d = v in
           let i = stable v n in
           let j = size hs q d + stride k d in
           let r = step q (part_of j) d in
@@ -184,7 +150,7 @@ InHalf-decided h false p = by_lt_z (form_at h p) (pos 0) (λ l. inl l) (λ l. in
 InHalf-decided h true p = by_lt_z (pos 0) (form_at h p) (λ l. inr (λ m. omega (arith, ints))) (λ l. inl l)
 
 module _ (hs : List Form) (wide : Inside frame hs) where
-  -- EACH SET HOLDS OR DOES NOT HOLD AT EACH POINT
+  -- each set holds or does not hold at each point
   pub Holds-decided : (s : Set) → Inside (halves s) hs → (p : Place) → Decided (Holds s p)
   unfolding Holds
   Holds-decided (Set.half h c) sub = InHalf-decided h c

@@ -1,9 +1,7 @@
 -- Finitely many vectors show all germs, so what is said of all directions is decided.
-use Rattle.std.proofs.Common.{◌≡◌, ℤ, pos, ◌+ℤ◌, ◌*ℤ◌, refl, ap, sym, ◌∙◌, ◌⊎◌, inl, inr, ⊎_elim, ◌↔◌, List, [], ◌∷◌, ◌++◌, subst}
-use Rattle.nef_exact.specs.Signs.{sign, Lies}
-use Rattle.nef_exact.proofs.Ring.{ring, at, num, ◌⊕◌, ◌⊗◌}
-use Rattle.nef_exact.proofs.Order.{nought-is}
-use Rattle.nef_space.specs.Place.{Place, Form, form, step}
+use Rattle.std.proofs.Common.{◌≡◌, refl, sym, ◌∙◌, ◌⊎◌, inl, inr, ⊎_elim, ◌↔◌, List, ◌++◌, subst}
+use Rattle.nef_exact.specs.Signs.{Lies}
+use Rattle.nef_space.specs.Place.{Place, Form, step}
 use Rattle.nef_space.specs.Vectors.{Vector, IsDirection}
 use Rattle.nef_space.specs.Sets.{Set, Holds, halves}
 use Rattle.nef_space.specs.Local.{HasLabel, Germ}
@@ -11,25 +9,16 @@ use Rattle.nef_space.specs.declared.label.Label.{Label}
 use Rattle.nef_space.specs.declared.label.Label.TheVariants.{Out, Not, In}
 use Rattle.nef_near.specs.Cells.{frame, carriers, SameSlopes}
 use Rattle.nef_near.specs.Cones.{NearGerm, SameCone}
-use Rattle.nef_near.proofs.Cells.{lies-left, lies-right}
+use Rattle.nef_exact.proofs.Lists.{lies-left, lies-right}
 use Rattle.nef_near.proofs.Germs.{Germ-unique, label-one, sample, sample-short}
 use Rattle.nef_near.proofs.Flats.{Germ-by_signs}
-use Rattle.nef_near.proofs.Decided.{Decided, Holds-decided, label_of, germ_of, every, decided-not, decided-to, ways, way_of, to_vector}
-use Rattle.nef_near.proofs.Rays.{decided-zero}
+use Rattle.nef_near.proofs.Decided.{Decided, Holds-decided, label_of, germ_of, every, decided-not, decided-to, ways, way_of, same-slopes}
+use Rattle.nef_forms.proofs.Directions.{zero-decided}
 use Rattle.nef_near.proofs.NearGerms.{near-from_there, there-from_near}
 
 -- ---- representatives
-abbrev vectors : List (List ℤ) → List Vector
-vectors [] = []
-vectors (v ∷ vs) = to_vector v ∷ vectors vs
-
-lies-vectors : (vs : List (List ℤ)) (v : List ℤ) → Lies vs v → Lies (vectors vs) (to_vector v)
-lies-vectors [] v l = absurd l
-lies-vectors (w ∷ ws) v (inl e) = inl (ap to_vector e)
-lies-vectors (w ∷ ws) v (inr l) = inr (lies-vectors ws v l)
-
 pub representatives : (hs : List Form) → (vs : List Vector) × ((d : Vector) → (v : Vector) × Lies vs v × SameSlopes hs d v)
-representatives hs = (vectors (ways hs), λ d. let w = way_of hs d in (to_vector w.way, lies-vectors (ways hs) w.way w.listed, w.same))
+representatives hs = (ways hs, λ d. let w = way_of hs d in (w.direction, w.listed, same-slopes hs d))
 
 -- ---- labels
 pub same-label_or : (l m : Label) → (l ≡ m) ⊎ (l ≡ m → ⊥)
@@ -75,39 +64,16 @@ all-germs s p l = by (germ-representatives s p)
     by : ((vs : List Vector) × ((d : Vector) → (v : Vector) × Lies vs v × ((l : Label) → Germ s p d l ↔ Germ s p v l))) → ((d : Vector) → Germ s p d l) ⊎ ((d : Vector) × (Germ s p d l → ⊥))
     by (vs, f) = ⊎_elim (λ c. inr (c.0, c.2)) (λ g. inl (λ d. let v = f d in (v.2 l).1 (g v.0 v.1))) (every vs (λ v. Germ s p v l) (λ v. germ-decided s p v l))
 
--- the planes x = 0, y = 0 and z = 0, which tell a direction from the zero vector
-abbrev axes : List Form
-axes = form (pos 1) (pos 0) (pos 0) (pos 0) ∷ form (pos 0) (pos 1) (pos 0) (pos 0) ∷ form (pos 0) (pos 0) (pos 1) (pos 0) ∷ []
-
-still-direction : (hs : List Form) (d v : Vector) → SameSlopes (axes ++ hs) d v → IsDirection d → IsDirection v
-still-direction hs d v same some z = some (
-  of_x d.x d.y d.z v.x v.y v.z (same (form (pos 1) (pos 0) (pos 0) (pos 0)) (inl refl)) z.0,
-  of_y d.x d.y d.z v.x v.y v.z (same (form (pos 0) (pos 1) (pos 0) (pos 0)) (inr (inl refl))) z.1,
-  of_z d.x d.y d.z v.x v.y v.z (same (form (pos 0) (pos 0) (pos 1) (pos 0)) (inr (inr (inl refl)))) z.2,
-)
-  where
-    of_x : (a b c x y z : ℤ) → sign (pos 1 *ℤ a +ℤ pos 0 *ℤ b +ℤ pos 0 *ℤ c) ≡ sign (pos 1 *ℤ x +ℤ pos 0 *ℤ y +ℤ pos 0 *ℤ z) → x ≡ pos 0 → a ≡ pos 0
-    of_x a b c x y z e f = nought-is a (ap sign (ring (a ∷ b ∷ c ∷ []) (at 0) (num (pos 1) ⊗ at 0 ⊕ num (pos 0) ⊗ at 1 ⊕ num (pos 0) ⊗ at 2) tt) ∙ e ∙ ap sign (ring (x ∷ y ∷ z ∷ []) (num (pos 1) ⊗ at 0 ⊕ num (pos 0) ⊗ at 1 ⊕ num (pos 0) ⊗ at 2) (at 0) tt) ∙ ap sign f)
-
-    of_y : (a b c x y z : ℤ) → sign (pos 0 *ℤ a +ℤ pos 1 *ℤ b +ℤ pos 0 *ℤ c) ≡ sign (pos 0 *ℤ x +ℤ pos 1 *ℤ y +ℤ pos 0 *ℤ z) → y ≡ pos 0 → b ≡ pos 0
-    of_y a b c x y z e f = nought-is b (ap sign (ring (a ∷ b ∷ c ∷ []) (at 1) (num (pos 0) ⊗ at 0 ⊕ num (pos 1) ⊗ at 1 ⊕ num (pos 0) ⊗ at 2) tt) ∙ e ∙ ap sign (ring (x ∷ y ∷ z ∷ []) (num (pos 0) ⊗ at 0 ⊕ num (pos 1) ⊗ at 1 ⊕ num (pos 0) ⊗ at 2) (at 1) tt) ∙ ap sign f)
-
-    of_z : (a b c x y z : ℤ) → sign (pos 0 *ℤ a +ℤ pos 0 *ℤ b +ℤ pos 1 *ℤ c) ≡ sign (pos 0 *ℤ x +ℤ pos 0 *ℤ y +ℤ pos 1 *ℤ z) → z ≡ pos 0 → c ≡ pos 0
-    of_z a b c x y z e f = nought-is c (ap sign (ring (a ∷ b ∷ c ∷ []) (at 2) (num (pos 0) ⊗ at 0 ⊕ num (pos 0) ⊗ at 1 ⊕ num (pos 1) ⊗ at 2) tt) ∙ e ∙ ap sign (ring (x ∷ y ∷ z ∷ []) (num (pos 0) ⊗ at 0 ⊕ num (pos 0) ⊗ at 1 ⊕ num (pos 1) ⊗ at 2) (at 2) tt) ∙ ap sign f)
-
 pub all-directions : (s : Set) (p : Place) (l : Label) → ((d : Vector) → IsDirection d → Germ s p d l) ⊎ ((d : Vector) × IsDirection d × (Germ s p d l → ⊥))
-all-directions s p l = by (representatives (axes ++ carriers s))
+all-directions s p l = ⊎_elim
+    (λ c. inr (found c.0 c.2))
+    (λ g. inl (λ d i.
+    let w = way_of (carriers s) d in
+    Germ-by_signs s p w.direction d (λ h m o. sym (same-slopes (carriers s) d h m)) l (g w.direction w.listed (w.directed i))))
+    (every (ways (carriers s)) (λ v. IsDirection v → Germ s p v l) (λ v. decided-to (decided-not (zero-decided v)) (germ-decided s p v l)))
   where
     found : (v : Vector) → ((IsDirection v → Germ s p v l) → ⊥) → (d : Vector) × IsDirection d × (Germ s p d l → ⊥)
-    found v n = (v, ⊎_elim (λ z. absurd (n (λ i. absurd (i z)))) (λ i. i) (decided-zero v), λ g. n (λ i. g))
-
-    by : ((vs : List Vector) × ((d : Vector) → (v : Vector) × Lies vs v × SameSlopes (axes ++ carriers s) d v)) → ((d : Vector) → IsDirection d → Germ s p d l) ⊎ ((d : Vector) × IsDirection d × (Germ s p d l → ⊥))
-    by (vs, f) = ⊎_elim
-        (λ c. inr (found c.0 c.2))
-        (λ g. inl (λ d i.
-        let v = f d in
-        Germ-by_signs s p v.0 d (λ h m o. sym (v.2 h (lies-right axes (carriers s) h m))) l (g v.0 v.1 (still-direction (carriers s) d v.0 v.2 i))))
-        (every vs (λ v. IsDirection v → Germ s p v l) (λ v. decided-to (decided-not (⊎_elim (λ z. inl z) (λ i. inr i) (decided-zero v))) (germ-decided s p v l)))
+    found v n = (v, ⊎_elim (λ z. absurd (n (λ i. absurd (i z)))) (λ i. i) (zero-decided v), λ g. n (λ i. g))
 
 -- ---- near directions
 -- a short step along d, at which the germs are the germs near d

@@ -1,12 +1,12 @@
 -- Along a segment whose points have equally many flat directions the cone doesn't change.
-use Rattle.std.proofs.Common.{◌≡◌, ℕ, zero, suc, ◌+◌, ◌*◌, ◌<◌, ◌≤◌, ℤ, pos, negsuc, ◌+ℤ◌, ◌-ℤ◌, ◌*ℤ◌, ◌<ℤ◌, arith, refl, ap, sym, ◌∙◌, inl, inr, ⊎_elim, ◌↔◌, List, [], ◌∷◌, ◌++◌, subst}
+use Rattle.std.proofs.Common.{◌≡◌, ℕ, zero, suc, ◌+◌, ◌*◌, ◌<◌, ◌≤◌, ℤ, pos, ◌+ℤ◌, ◌-ℤ◌, ◌*ℤ◌, ◌<ℤ◌, arith, refl, ap, sym, ◌∙◌, inl, inr, ⊎_elim, ◌↔◌, List, [], ◌∷◌, ◌++◌, subst}
 use Rattle.std.proofs.lemmas.Int.{ints}
 use Rattle.std.proofs.Math.Nat.{le-mul_of_pos_right}
 use Rattle.nef_exact.specs.Signs.{sign, sign_times}
 use Rattle.nef_exact.proofs.Ring.{ring, at, num, ◌⊕◌, ◌⊖◌, ◌⊗◌, Poly}
 use Rattle.nef_exact.proofs.Combination.{given, none, follows}
 use Rattle.nef_exact.proofs.Order.{nought-is, sign-plus, sign_of_product, by_order}
-use Rattle.nef_space.specs.Place.{Place, Form, slope, Within, SamePlace, toward, IsBetween}
+use Rattle.nef_space.specs.Place.{Place, Form, slope, Within, SamePlace, toward}
 use Rattle.nef_space.specs.Vectors.{Vector, zero_vector, blend, dot, cross, triple, IsZero, IsDirection}
 use Rattle.nef_space.specs.Sets.{Set}
 use Rattle.nef_space.specs.Local.{HasLabel, Germ, Flat, FlatDim, IsEven, IsEvenPath, Joined}
@@ -14,16 +14,19 @@ use Rattle.nef_space.specs.declared.label.Label.{Label}
 use Rattle.nef_near.specs.Cells.{sign_at, carriers, SameSigns}
 use Rattle.nef_near.specs.Cones.{slide, combination, NearGerm, FlatCone, IsOnSegment}
 use Rattle.nef_near.specs.Laws.{IsSettled, SameGerms}
-use Rattle.nef_near.proofs.Near.{step-within}
-use Rattle.nef_near.proofs.Cells.{reach_all, reach-some, keeps-all, is_nought, Cells}
+use Rattle.nef_forms.proofs.Near.{step-within, reach_all}
+use Rattle.nef_near.proofs.Cells.{reach-some, keeps-all, is_nought, Cells}
 use Rattle.nef_near.proofs.Germs.{Germ-unique, near-same, sign-along, sample, sample-short}
 use Rattle.nef_near.proofs.Flats.{Flat-from_cone, FlatCone-from_flat, FlatCone-from_carriers, vector-same, sign-toward}
-use Rattle.nef_near.proofs.Rays.{zero-or, decided-zero, square-some, toward-same, toward-self, same-place_sym, signs-same, Germ-zero}
+use Rattle.nef_near.proofs.Rays.{same-place_sym, signs-same, Germ-zero}
+use Rattle.nef_forms.proofs.Between.{toward-place, between-is}
+use Rattle.nef_forms.proofs.Directions.{zero-decided, self-pos}
+use Rattle.nef_forms.proofs.Far.{nought-or}
 use Rattle.nef_near.proofs.Alike.{germs-by_cell, FlatDim-by_germs, FlatDim-one}
 use Rattle.nef_near.proofs.Decisions.{ahead, near-ahead, near-germ_of}
 use Rattle.nef_near.proofs.FlatOperations.{flat-combination}
 use Rattle.nef_near.proofs.FlatDecided.{near-of_flat, flat-by_signs, cross-turned, flat_dim-of}
-use Rattle.nef_near.proofs.Between.{parallel-x, parallel-y, parallel-z, strictly-from_between, strictly-same}
+use Rattle.nef_near.proofs.Between.{parallel-x, parallel-y, parallel-z, between-turned}
 use Rattle.nef_near.proofs.Decided.{germ_of}
 use Rattle.nef_near.proofs.FirstChange.{settled-along}
 
@@ -82,10 +85,10 @@ flat-divided s p k d e some i j l f = Flat-from_cone s p e (flat-by_signs s p d 
         (given (num (pos 0) ⊖ at 0) (at 9 ⊗ at 6) (at 3) i (given (num (pos 0) ⊖ at 1) (at 9 ⊗ at 7) (at 4) j (given (num (pos 0) ⊖ at 2) (at 9 ⊗ at 8) (at 5) l none))) tt
 
 -- a multiple of a flat direction
-span-1 : (s : Set) (p : Place) (d e : Vector) → IsDirection d → Flat s p d → IsZero (cross d e) → Flat s p e
+pub span-1 : (s : Set) (p : Place) (d e : Vector) → IsDirection d → Flat s p d → IsZero (cross d e) → Flat s p e
 span-1 s p d e some f z =
     let i = cross-turned d e z in
-    flat-divided s p (dot d d) (combination (dot e d) d (pos 0) d) e (square-some d some)
+    flat-divided s p (dot d d) (combination (dot e d) d (pos 0) d) e (self-pos d some)
     (parallel-x e d i ∙ one d.x) (parallel-y e d i ∙ one d.y) (parallel-z e d i ∙ one d.z) (flat-combination s p d d (dot e d) (pos 0) f f)
   where
     one : (x : ℤ) → dot e d *ℤ x ≡ dot e d *ℤ x +ℤ pos 0 *ℤ x
@@ -116,9 +119,9 @@ of_c = (at 1 ⊗ at 8 ⊖ at 2 ⊗ at 7) ⊗ nx ⊕ (at 2 ⊗ at 6 ⊖ at 0 ⊗ 
 abbrev determinant : Poly
 determinant = at 0 ⊗ (at 4 ⊗ at 8 ⊖ at 5 ⊗ at 7) ⊕ at 1 ⊗ (at 5 ⊗ at 6 ⊖ at 3 ⊗ at 8) ⊕ at 2 ⊗ (at 3 ⊗ at 7 ⊖ at 4 ⊗ at 6)
 
-span-2 : (s : Set) (p : Place) (d c e : Vector) → IsDirection (cross d c) → Flat s p d → Flat s p c → triple d c e ≡ pos 0 → Flat s p e
+pub span-2 : (s : Set) (p : Place) (d c e : Vector) → IsDirection (cross d c) → Flat s p d → Flat s p c → triple d c e ≡ pos 0 → Flat s p e
 span-2 s p d c e some f g z =
-    flat-divided s p (dot (cross d c) (cross d c)) (combination (dot (cross e c) (cross d c)) d (dot (cross d e) (cross d c)) c) e (square-some (cross d c) some)
+    flat-divided s p (dot (cross d c) (cross d c)) (combination (dot (cross e c) (cross d c)) d (dot (cross d e) (cross d c)) c) e (self-pos (cross d c) some)
     (follows (nine d c e) (square ⊗ at 6) (of_d ⊗ at 0 ⊕ of_c ⊗ at 3) (given nx determinant (num (pos 0)) z none) tt)
     (follows (nine d c e) (square ⊗ at 7) (of_d ⊗ at 1 ⊕ of_c ⊗ at 4) (given ny determinant (num (pos 0)) z none) tt)
     (follows (nine d c e) (square ⊗ at 8) (of_d ⊗ at 2 ⊕ of_c ⊗ at 5) (given nz determinant (num (pos 0)) z none) tt)
@@ -162,25 +165,25 @@ flat-way s k p q f g c i = by k f g
 
     by : (k : ℕ) → FlatDim s p k → FlatDim s q k → Flat s p (toward p q)
     by zero f g = absurd (g.1 (toward p q, i, way))
-    by (suc zero) ((d, j, h), f) g = ⊎_elim (span-1 s p d (toward p q) j h) (λ n. absurd (g.1 (d, toward p q, n, also d h, way))) (decided-zero (cross d (toward p q)))
-    by (suc (suc zero)) ((d, e, j, h, l), f) g = ⊎_elim (span-2 s p d e (toward p q) j h l) (λ n. absurd (g.1 (d, e, toward p q, n, also d h, also e l, way))) (zero-or (triple d e (toward p q)))
+    by (suc zero) ((d, j, h), f) g = ⊎_elim (span-1 s p d (toward p q) j h) (λ n. absurd (g.1 (d, toward p q, n, also d h, way))) (zero-decided (cross d (toward p q)))
+    by (suc (suc zero)) ((d, e, j, h, l), f) g = ⊎_elim (span-2 s p d e (toward p q) j h l) (λ n. absurd (g.1 (d, e, toward p q, n, also d h, also e l, way))) (nought-or (triple d e (toward p q)))
     by (suc (suc (suc zero))) ((d, e, u, j, h, l, m), f) g = span-3 s p d e u (toward p q) j h l m
     by (suc (suc (suc (suc k)))) (h, f) g = absurd h
 
 same-cone_near : (s : Set) (k : ℕ) (p q : Place) → FlatDim s p k → FlatDim s q k → Within (reach_all (carriers s) p) p q → (v : Vector) (l : Label) → Germ s p v l ↔ Germ s q v l
 same-cone_near s k p q f g c v l = ⊎_elim
-    (λ z. germs-by_cell s p q (signs-same (carriers s) p q (toward-same p q z)) v l)
+    (λ z. germs-by_cell s p q (signs-same (carriers s) p q (toward-place p q z)) v l)
     (λ i.
     let a = near-of_flat s p (toward p q) (FlatCone-from_flat s p (toward p q) (flat-way s k p q f g c i)) v l in
     let b = germ-nearby s p q c v l in
     (λ h. b.1 (a.0 h), λ h. a.1 (b.0 h)))
-    (decided-zero (toward p q))
+    (zero-decided (toward p q))
 
 -- ---- along even segments and paths
 germs-cells : (s : Set) (p : Place) → Cells (carriers s) (SameGerms s p)
 germs-cells s p q r same f v l = let e = germs-by_cell s q r same v l in let g = f v l in (λ h. e.0 (g.0 h), λ h. g.1 (e.1 h))
 
--- ALONG AN EVEN SEGMENT THE CONE IS ONE
+-- along an even segment there is one cone
 pub even-germs : (s : Set) (k : ℕ) (p q : Place) → IsEven s k p q → SameGerms s p q
 even-germs s k p q even = settled-along (carriers s) (SameGerms s p) (germs-cells s p) p q settled (λ v l. (λ h. h, λ h. h))
   where
@@ -210,27 +213,6 @@ labels-by_germs s p q same l =
     (λ h. b.0 (c.0 (a.1 h)), λ h. a.0 (c.1 (b.1 h)))
 
 -- ---- being joined is an equivalence
-pub between-turned : (p q r : Place) → IsBetween p r q → IsBetween q r p
-between-turned p q r s = record {
-  parallel = (one p.y r.y q.y p.z r.z q.z s.parallel.0, one p.z r.z q.z p.x r.x q.x s.parallel.1, one p.x r.x q.x p.y r.y q.y s.parallel.2);
-  forward = subst (λ (z : ℤ). pos 0 <ℤ z) product s.forward;
-}
-  where
-    one : (a b c d e f : ℤ) → (b *ℤ pos p.w -ℤ a *ℤ pos r.w) *ℤ (f *ℤ pos r.w -ℤ e *ℤ pos q.w) -ℤ (e *ℤ pos p.w -ℤ d *ℤ pos r.w) *ℤ (c *ℤ pos r.w -ℤ b *ℤ pos q.w) ≡ pos 0
-        → (b *ℤ pos q.w -ℤ c *ℤ pos r.w) *ℤ (d *ℤ pos r.w -ℤ e *ℤ pos p.w) -ℤ (e *ℤ pos q.w -ℤ f *ℤ pos r.w) *ℤ (a *ℤ pos r.w -ℤ b *ℤ pos p.w) ≡ pos 0
-    one a b c d e f h =
-        let u = at 6 in let v = at 7 in let w = at 8 in
-        follows (a ∷ b ∷ c ∷ d ∷ e ∷ f ∷ pos p.w ∷ pos q.w ∷ pos r.w ∷ [])
-        ((at 1 ⊗ v ⊖ at 2 ⊗ w) ⊗ (at 3 ⊗ w ⊖ at 4 ⊗ u) ⊖ (at 4 ⊗ v ⊖ at 5 ⊗ w) ⊗ (at 0 ⊗ w ⊖ at 1 ⊗ u)) (num (pos 0))
-        (given (num (negsuc 0)) ((at 1 ⊗ u ⊖ at 0 ⊗ w) ⊗ (at 5 ⊗ w ⊖ at 4 ⊗ v) ⊖ (at 4 ⊗ u ⊖ at 3 ⊗ w) ⊗ (at 2 ⊗ w ⊖ at 1 ⊗ v)) (num (pos 0)) h none) tt
-
-    product : dot (toward p r) (toward r q) ≡ dot (toward q r) (toward r p)
-    product =
-        let u = at 9 in let v = at 10 in let w = at 11 in
-        ring (p.x ∷ p.y ∷ p.z ∷ q.x ∷ q.y ∷ q.z ∷ r.x ∷ r.y ∷ r.z ∷ pos p.w ∷ pos q.w ∷ pos r.w ∷ [])
-        ((at 6 ⊗ u ⊖ at 0 ⊗ w) ⊗ (at 3 ⊗ w ⊖ at 6 ⊗ v) ⊕ (at 7 ⊗ u ⊖ at 1 ⊗ w) ⊗ (at 4 ⊗ w ⊖ at 7 ⊗ v) ⊕ (at 8 ⊗ u ⊖ at 2 ⊗ w) ⊗ (at 5 ⊗ w ⊖ at 8 ⊗ v))
-        ((at 6 ⊗ v ⊖ at 3 ⊗ w) ⊗ (at 0 ⊗ w ⊖ at 6 ⊗ u) ⊕ (at 7 ⊗ v ⊖ at 4 ⊗ w) ⊗ (at 1 ⊗ w ⊖ at 7 ⊗ u) ⊕ (at 8 ⊗ v ⊖ at 5 ⊗ w) ⊗ (at 2 ⊗ w ⊖ at 8 ⊗ u)) tt
-
 even-turned : (s : Set) (k : ℕ) (p q : Place) → IsEven s k p q → IsEven s k q p
 even-turned s k p q f r (inl a) = f r (inr (inr a))
 even-turned s k p q f r (inr (inl b)) = f r (inr (inl (between-turned q p r b)))
@@ -259,5 +241,5 @@ joined-itself s p =
   where
     at-itself : (r : Place) → IsOnSegment p r p → SamePlace r p
     at-itself r (inl a) = a
-    at-itself r (inr (inl b)) = strictly-same p p r (strictly-from_between p p r b) (toward-self p)
+    at-itself r (inr (inl b)) = absurd (((between-is p r p).0 b).1 (record { along_x = refl; along_y = refl; along_z = refl }))
     at-itself r (inr (inr a)) = a

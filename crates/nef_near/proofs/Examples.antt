@@ -15,8 +15,9 @@ use Rattle.nef_space.specs.declared.label.Label.TheVariants.{Out, Not, In}
 use Rattle.nef_near.specs.Cells.{sign_at, carriers, IsInAllAt}
 use Rattle.nef_near.specs.Cones.{slide, NearGerm}
 use Rattle.nef_near.specs.Examples.{x_below, x_above, y_below, y_above, z_below, z_above, x_axis, y_axis, z_axis, two_halves, wall, wall_part, wedge, point, HalvesDisjoint, TwoHalves, Wall, WallPart, Edge, PointAlone}
-use Rattle.nef_near.proofs.Near.{form-step}
+use Rattle.nef_forms.proofs.Near.{form-step}
 use Rattle.nef_near.proofs.Flats.{Flat-from_cone, FlatCone-from_flat, FlatCone-from_carriers, vector-same}
+use Rattle.nef_near.proofs.Alike.{flat-germ}
 use Rattle.nef_near.proofs.Rays.{Germ-zero}
 use Rattle.nef_near.proofs.Decided.{germ_of}
 use Rattle.nef_near.proofs.Frames.{no-germ_out}
@@ -62,15 +63,6 @@ flat-here : (s : Set) (d : Vector) → in_all (carriers s) d ≡ true → Flat s
 flat-here s d e = Flat-from_cone s origin d (FlatCone-from_carriers s origin d (in_all-true (carriers s) d e))
 
 -- ---- directions that aren't flat
--- along a flat direction the germ is the label
-flat-germ : (s : Set) (p : Place) (d : Vector) (l : Label) → Flat s p d → HasLabel s p l → Germ s p d l
-flat-germ s p d l f h =
-    let g = (FlatCone-from_flat s p d f zero_vector 1 (pos 1) (omega arith) l).0 ((Germ-zero s p zero_vector l (refl, refl, refl)).1 h) in
-    subst (λ (v : Vector). Germ s p v l) (vector-same (slide 1 zero_vector (pos 1) d) d (one d.x) (one d.y) (one d.z)) g
-  where
-    one : (x : ℤ) → pos 1 *ℤ pos 0 +ℤ pos 1 *ℤ x ≡ x
-    one x = omega (arith, ints)
-
 -- a germ that is In in a closed half at the origin leads into it
 half-germ : (h : Form) (d : Vector) → form_at h origin ≡ pos 0 → Germ (Set.half h true) origin d In → slope h d ≤ℤ pos 0
 unfolding Holds

@@ -13,11 +13,13 @@ use Rattle.nef_space.specs.Local.{Germ, Flat, FlatDim}
 use Rattle.nef_space.specs.declared.label.Label.{Label}
 use Rattle.nef_near.specs.Cells.{sign_at, carriers, SameSlopes, SameSlopesAt}
 use Rattle.nef_near.specs.Cones.{slide, NearGerm, FlatCone}
-use Rattle.nef_near.proofs.Cells.{lies-left, lies-right, is_nought}
+use Rattle.nef_near.proofs.Cells.{is_nought}
+use Rattle.nef_exact.proofs.Lists.{lies-left, lies-right}
 use Rattle.nef_near.proofs.Germs.{Germ-unique}
 use Rattle.nef_near.proofs.Flats.{Flat-from_cone, FlatCone-from_flat, Germ-by_signs, slope-slide, vector-same}
 use Rattle.nef_near.proofs.Decided.{Decided, germ_of, every, decided-both, decided-not}
-use Rattle.nef_near.proofs.Rays.{zero-or, square-some}
+use Rattle.nef_forms.proofs.Directions.{self-pos}
+use Rattle.nef_forms.proofs.Far.{nought-or}
 use Rattle.nef_near.proofs.Alike.{FlatDim-one}
 use Rattle.nef_near.proofs.NearGerms.{steep, steep-one, sign-large}
 use Rattle.nef_near.proofs.Decisions.{representatives, near-germ_of, near-germ_one, same-label_or}
@@ -130,7 +132,7 @@ abbrev pub AllZero : List Form → Vector → Type 0
 AllZero gs e = (h : Form) → Lies gs h → slope h e ≡ pos 0
 
 all-zero_decided : (gs : List Form) (e : Vector) → Decided (AllZero gs e)
-all-zero_decided gs e = ⊎_elim (λ c. inr (λ f. c.2 (f c.0 c.1))) (λ f. inl f) (every gs (λ h. slope h e ≡ pos 0) (λ h. zero-or (slope h e)))
+all-zero_decided gs e = ⊎_elim (λ c. inr (λ f. c.2 (f c.0 c.1))) (λ f. inl f) (every gs (λ h. slope h e ≡ pos 0) (λ h. nought-or (slope h e)))
 
 all-zero_same : (gs : List Form) (d e : Vector) → SameSlopes gs d e → AllZero gs e → AllZero gs d
 all-zero_same gs d e same f h l = nought-is (slope h d) (same h l ∙ ap sign (f h l))
@@ -205,7 +207,7 @@ normal-zero n e z h (inl o) = subst (λ (x : Form). slope x e ≡ pos 0) o z
 normal-zero n e z h (inr o) = absurd o
 
 -- [d e f] is (d x e).f
-triple-dot : (d e f : Vector) → triple d e f ≡ dot (cross d e) f
+pub triple-dot : (d e f : Vector) → triple d e f ≡ dot (cross d e) f
 triple-dot d e f = ring (d.x ∷ d.y ∷ d.z ∷ e.x ∷ e.y ∷ e.z ∷ f.x ∷ f.y ∷ f.z ∷ [])
     (at 0 ⊗ (at 4 ⊗ at 8 ⊖ at 5 ⊗ at 7) ⊕ at 1 ⊗ (at 5 ⊗ at 6 ⊖ at 3 ⊗ at 8) ⊕ at 2 ⊗ (at 3 ⊗ at 7 ⊖ at 4 ⊗ at 6))
     ((at 1 ⊗ at 5 ⊖ at 2 ⊗ at 4) ⊗ at 6 ⊕ (at 2 ⊗ at 3 ⊖ at 0 ⊗ at 5) ⊗ at 7 ⊕ (at 0 ⊗ at 4 ⊖ at 1 ⊗ at 3) ⊗ at 8) tt
@@ -221,7 +223,7 @@ pub parallel-both : (d a b : Vector) → IsDirection d → IsZero (cross d a) �
 parallel-both d a b some h k =
     let i = cross-turned d a h in
     let j = cross-turned d b k in
-    cross-of_multiples (dot d d) (dot b d) (dot a d) a b d (square-some d some)
+    cross-of_multiples (dot d d) (dot b d) (dot a d) a b d (self-pos d some)
     (record { of_x = parallel-x a d i; of_y = parallel-y a d i; of_z = parallel-z a d i })
     (record { of_x = parallel-x b d j; of_y = parallel-y b d j; of_z = parallel-z b d j })
 
@@ -233,9 +235,9 @@ triple-in_plane n a b c some h k l =
     (at 3 ⊗ (at 7 ⊗ at 11 ⊖ at 8 ⊗ at 10) ⊕ at 4 ⊗ (at 8 ⊗ at 9 ⊖ at 6 ⊗ at 11) ⊕ at 5 ⊗ (at 6 ⊗ at 10 ⊖ at 7 ⊗ at 9)) (num (pos 0))
     (given (at 0 ⊗ (at 7 ⊗ at 11 ⊖ at 8 ⊗ at 10) ⊕ at 1 ⊗ (at 8 ⊗ at 9 ⊖ at 6 ⊗ at 11) ⊕ at 2 ⊗ (at 6 ⊗ at 10 ⊖ at 7 ⊗ at 9)) (at 0 ⊗ at 3 ⊕ at 1 ⊗ at 4 ⊕ at 2 ⊗ at 5) (num (pos 0)) h
     (given (at 0 ⊗ (at 10 ⊗ at 5 ⊖ at 11 ⊗ at 4) ⊕ at 1 ⊗ (at 11 ⊗ at 3 ⊖ at 9 ⊗ at 5) ⊕ at 2 ⊗ (at 9 ⊗ at 4 ⊖ at 10 ⊗ at 3)) (at 0 ⊗ at 6 ⊕ at 1 ⊗ at 7 ⊕ at 2 ⊗ at 8) (num (pos 0)) k
-    (given (at 0 ⊗ (at 4 ⊗ at 8 ⊖ at 5 ⊗ at 7) ⊕ at 1 ⊗ (at 5 ⊗ at 6 ⊖ at 3 ⊗ at 8) ⊕ at 2 ⊗ (at 3 ⊗ at 7 ⊖ at 4 ⊗ at 6)) (at 0 ⊗ at 9 ⊕ at 1 ⊗ at 10 ⊕ at 2 ⊗ at 11) (num (pos 0)) l none))) (square-some n some) tt
+    (given (at 0 ⊗ (at 4 ⊗ at 8 ⊖ at 5 ⊗ at 7) ⊕ at 1 ⊗ (at 5 ⊗ at 6 ⊖ at 3 ⊗ at 8) ⊕ at 2 ⊗ (at 3 ⊗ at 7 ⊖ at 4 ⊗ at 6)) (at 0 ⊗ at 9 ⊕ at 1 ⊗ at 10 ⊕ at 2 ⊗ at 11) (num (pos 0)) l none))) (self-pos n some) tt
 
--- EACH POINT HAS A NUMBER OF INDEPENDENT FLAT DIRECTIONS
+-- each point has a number of independent flat directions
 pub flat_dim-of : (s : Set) (p : Place) → (k : ℕ) × FlatDim s p k
 flat_dim-of s p = first (find-flat s p numbers)
   where

@@ -12,8 +12,8 @@ use Rattle.nef_space.specs.Vectors.{Vector, vector}
 use Rattle.nef_space.specs.Sets.{Set}
 use Rattle.nef_space.specs.Local.{IsShort, HasLabel, Germ, Flat}
 use Rattle.nef_space.specs.declared.label.Label.{Label}
-use Rattle.nef_near.proofs.Near.{form-step, slope-toward, weaken, stride, step-within}
-use Rattle.nef_near.proofs.Cells.{reach_all, reach-some}
+use Rattle.nef_forms.proofs.Near.{form-step, slope-toward, weaken, stride, step-within, reach_all}
+use Rattle.nef_near.proofs.Cells.{reach-some}
 use Rattle.nef_near.proofs.Germs.{locality, sign-along, short_enough}
 
 -- a form through p has at q the sign of its slope toward q

@@ -11,8 +11,8 @@ use Rattle.nef_space.specs.Local.{HasLabel, Germ, Flat, FlatDim}
 use Rattle.nef_space.specs.declared.label.Label.{Label}
 use Rattle.nef_space.specs.declared.label.Label.TheVariants.{Out, Not, In}
 use Rattle.nef_near.specs.Cells.{sign_at, side, frame}
-use Rattle.nef_near.proofs.Near.{stride, step-within}
-use Rattle.nef_near.proofs.Cells.{reach_all, reach-some, keeps-all, coordinate-in, InFrame-cells}
+use Rattle.nef_forms.proofs.Near.{stride, step-within, reach_all}
+use Rattle.nef_near.proofs.Cells.{reach-some, keeps-all, coordinate-in, InFrame-cells}
 
 -- ---- the sides at a point
 x-sides : (p : Place) → InFrame p → (sign_at (side (pos 1) (pos 0) (pos 0)) p ≡ minus) × (sign_at (side (negsuc 0) (pos 0) (pos 0)) p ≡ minus)

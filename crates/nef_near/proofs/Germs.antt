@@ -1,8 +1,7 @@
 -- Near a point only the carriers through it matter; along a ray the label settles at once.
-use Rattle.std.proofs.Common.{◌≡◌, ℕ, ◌+◌, pos, ◌+ℤ◌, ◌*ℤ◌, ◌<ℤ◌, arith, refl, ap, sym, ◌∙◌, ⊎_elim, List, [], ◌∷◌}
+use Rattle.std.proofs.Common.{◌≡◌, ℕ, ◌+◌, pos, ◌<ℤ◌, arith, refl, sym, ◌∙◌, ⊎_elim, List}
 use Rattle.std.proofs.lemmas.Int.{ints}
-use Rattle.nef_exact.proofs.Ring.{ring, at, num, ◌⊕◌, ◌⊗◌}
-use Rattle.nef_exact.proofs.Order.{nought, sign, sign_times, sign-plus, nought-is, sign_of_product, mul_pos}
+use Rattle.nef_exact.proofs.Order.{nought, sign, nought-is}
 use Rattle.nef_exact.specs.Signs.{Lies}
 use Rattle.nef_near.specs.Cells.{sign_at, frame, carriers, SameSigns}
 use Rattle.nef_space.specs.Place.{Place, Form, form_at, slope, Ratio, step, Within, InFrame}
@@ -11,8 +10,9 @@ use Rattle.nef_space.specs.Sets.{Set, Holds, halves}
 use Rattle.nef_space.specs.Local.{IsShort, HasLabel, Germ}
 use Rattle.nef_space.specs.declared.label.Label.{Label}
 use Rattle.nef_space.specs.declared.label.Label.TheVariants.{Out, Not, In}
-use Rattle.nef_near.proofs.Near.{form-step, stride, step-within}
-use Rattle.nef_near.proofs.Cells.{same-sym, reach_all, keeps-all, Cells, InFrame-cells, Holds-cells, is_nought, lies-left, lies-right}
+use Rattle.nef_forms.proofs.Near.{reach_all, ray-level, stride, step-within}
+use Rattle.nef_near.proofs.Cells.{same-sym, keeps-all, Cells, InFrame-cells, Holds-cells, is_nought}
+use Rattle.nef_exact.proofs.Lists.{lies-left, lies-right}
 
 -- q and r have the same signs at the forms through p
 abbrev pub SameThrough : List Form → Place → Place → Place → Type 0
@@ -35,17 +35,13 @@ Label-cells s m = by m
     by Not p q same n = (inner p q same n.0, λ i. n.1 (holds q p (same-sym (carriers s) p q same) i))
     by In p q same n = (inner p q same n.0, holds p q same n.1)
 
--- LOCALITY: close to p the label depends only on the signs at the carriers through p
+-- close to p the label depends only on the signs at the carriers through p
 pub locality : (s : Set) (m : Label) (p q r : Place) → Within (reach_all (carriers s) p) p q → Within (reach_all (carriers s) p) p r → SameThrough (carriers s) p q r → HasLabel s q m → HasLabel s r m
 locality s m p q r c d same = Label-cells s m q r (near-same (carriers s) p q r c d same)
 
 -- at a form through p, a step along d has the sign of the slope
 pub sign-along : (h : Form) (p : Place) (t : Ratio) (d : Vector) → sign_at h p ≡ nought → pos 0 <ℤ t.a → sign_at h (step p t d) ≡ sign (slope h d)
-sign-along h p t d e a =
-    let q : pos 0 <ℤ (t.a *ℤ pos p.w) = mul_pos t.a (pos p.w) a (let k = p.proper in omega (arith, ints)) in
-    let i = ring (pos t.b ∷ t.a ∷ pos p.w ∷ slope h d ∷ []) (at 0 ⊗ num (pos 0) ⊕ at 1 ⊗ at 2 ⊗ at 3) (at 1 ⊗ at 2 ⊗ at 3) tt in
-    let j = form-step h p t d ∙ ap (λ z. pos t.b *ℤ z +ℤ t.a *ℤ pos p.w *ℤ slope h d) (nought-is (form_at h p) e) ∙ i in
-    ap sign j ∙ sign_of_product (t.a *ℤ pos p.w) (slope h d) ∙ ap (λ z. sign_times z (sign (slope h d))) (sign-plus (t.a *ℤ pos p.w) q)
+sign-along h p t d e a = ray-level h p t d a (nought-is (form_at h p) e)
 
 -- how short a step along d must be
 abbrev pub short_enough : Set → Place → Vector → ℕ

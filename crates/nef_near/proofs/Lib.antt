@@ -1,4 +1,3 @@
-pub mod Near
 pub mod Cells
 pub mod Germs
 pub mod Flats
@@ -12,14 +11,13 @@ pub mod Decisions
 pub mod Topology
 pub mod FlatOperations
 pub mod Meets
-pub mod Segment
-pub mod FirstHit
 pub mod Between
 pub mod FirstChange
 pub mod Examples
 pub mod FlatDecided
 pub mod Even
-pub mod Generic
 pub mod Skeleton
 pub mod Edges
 pub mod Vertices
+pub mod Determined
+pub mod Supports

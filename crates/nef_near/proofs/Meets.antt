@@ -11,7 +11,8 @@ use Rattle.nef_space.specs.Place.{Place, Form, slope, normal_of}
 use Rattle.nef_space.specs.Vectors.{Vector, IsDirection, IsZero, cross, triple}
 use Rattle.nef_space.specs.Sets.{Set}
 use Rattle.nef_space.specs.Local.{IsVertex}
-use Rattle.nef_near.proofs.Rays.{zero-or, decided-zero}
+use Rattle.nef_forms.proofs.Directions.{zero-decided}
+use Rattle.nef_forms.proofs.Far.{nought-or}
 use Rattle.nef_near.proofs.Cells.{is_nought}
 use Rattle.nef_near.proofs.Flats.{Flat-from_cone, FlatCone-from_carriers}
 
@@ -38,7 +39,7 @@ slope-second h n m e = ring (six n m (normal_of h))
     (at 6 ⊗ (at 1 ⊗ at 5 ⊖ at 2 ⊗ at 4) ⊕ at 7 ⊗ (at 2 ⊗ at 3 ⊖ at 0 ⊗ at 5) ⊕ at 8 ⊗ (at 0 ⊗ at 4 ⊖ at 1 ⊗ at 3))
     (at 0 ⊗ (at 4 ⊗ at 8 ⊖ at 5 ⊗ at 7) ⊕ at 1 ⊗ (at 5 ⊗ at 6 ⊖ at 3 ⊗ at 8) ⊕ at 2 ⊗ (at 3 ⊗ at 7 ⊖ at 4 ⊗ at 6)) tt ∙ e
 
-slope-none : (h : Form) (d : Vector) → IsZero (normal_of h) → slope h d ≡ pos 0
+pub slope-none : (h : Form) (d : Vector) → IsZero (normal_of h) → slope h d ≡ pos 0
 slope-none h d z =
     ap (λ r. r *ℤ d.x +ℤ h.b *ℤ d.y +ℤ h.c *ℤ d.z) z.0 ∙ ap (λ r. pos 0 *ℤ d.x +ℤ r *ℤ d.y +ℤ h.c *ℤ d.z) z.1 ∙ ap (λ r. pos 0 *ℤ d.x +ℤ pos 0 *ℤ d.y +ℤ r *ℤ d.z) z.2
     ∙ ring (d.x ∷ d.y ∷ d.z ∷ []) (num (pos 0) ⊗ at 0 ⊕ num (pos 0) ⊗ at 1 ⊕ num (pos 0) ⊗ at 2) (num (pos 0)) tt
@@ -50,13 +51,13 @@ data Rank (hs ks : List Form) (p : Place) : Type 0 where
   rank_2 : (n m : Form) → Lies hs n → sign_at n p ≡ nought → Lies hs m → sign_at m p ≡ nought → IsDirection (cross (normal_of n) (normal_of m)) → ((h : Form) → Lies ks h → sign_at h p ≡ nought → triple (normal_of n) (normal_of m) (normal_of h) ≡ pos 0) → Rank hs ks p
   rank_3 : IsMeet hs p → Rank hs ks p
 
-cross-none : (n m : Vector) → IsZero m → IsZero (cross n m)
+pub cross-none : (n m : Vector) → IsZero m → IsZero (cross n m)
 cross-none n m z = (one n.y n.z m.z m.y z.2 z.1, one n.z n.x m.x m.z z.0 z.2, one n.x n.y m.y m.x z.1 z.0)
   where
     one : (a b x y : ℤ) → x ≡ pos 0 → y ≡ pos 0 → a *ℤ x -ℤ b *ℤ y ≡ pos 0
     one a b x y e f = let i = ap (λ r. a *ℤ r) e ∙ *ℤ-zero a in let j = ap (λ r. b *ℤ r) f ∙ *ℤ-zero b in omega (arith, ints)
 
-cross-self : (n : Vector) → IsZero (cross n n)
+pub cross-self : (n : Vector) → IsZero (cross n n)
 cross-self n = (ring (n.x ∷ n.y ∷ n.z ∷ []) (at 1 ⊗ at 2 ⊖ at 2 ⊗ at 1) (num (pos 0)) tt, ring (n.x ∷ n.y ∷ n.z ∷ []) (at 2 ⊗ at 0 ⊖ at 0 ⊗ at 2) (num (pos 0)) tt, ring (n.x ∷ n.y ∷ n.z ∷ []) (at 0 ⊗ at 1 ⊖ at 1 ⊗ at 0) (num (pos 0)) tt)
 
 triple-same : (n m : Vector) → triple n m m ≡ pos 0
@@ -94,15 +95,15 @@ module _ (hs : List Form) (p : Place) where
       through o (rank_0 f) = ⊎_elim
           (λ z. rank_0 (extend k ks (λ h. sign_at h p ≡ nought → IsZero (normal_of h)) (λ q. z) f))
           (λ d. rank_1 k (sub k (inl refl)) o d (extend k ks (λ h. sign_at h p ≡ nought → IsZero (cross (normal_of k) (normal_of h))) (λ q. cross-self (normal_of k)) (λ h l q. cross-none (normal_of k) (normal_of h) (f h l q))))
-          (decided-zero (normal_of k))
+          (zero-decided (normal_of k))
       through o (rank_1 a l q d f) = ⊎_elim
           (λ z. rank_1 a l q d (extend k ks (λ h. sign_at h p ≡ nought → IsZero (cross (normal_of a) (normal_of h))) (λ q. z) f))
           (λ e. rank_2 a k l q (sub k (inl refl)) o e (extend k ks (λ h. sign_at h p ≡ nought → triple (normal_of a) (normal_of k) (normal_of h) ≡ pos 0) (λ q. triple-same (normal_of a) (normal_of k)) (λ h l q. triple-parallel (normal_of a) (normal_of k) (normal_of h) (f h l q))))
-          (decided-zero (cross (normal_of a) (normal_of k)))
+          (zero-decided (cross (normal_of a) (normal_of k)))
       through o (rank_2 a b l q m r d f) = ⊎_elim
           (λ z. rank_2 a b l q m r d (extend k ks (λ h. sign_at h p ≡ nought → triple (normal_of a) (normal_of b) (normal_of h) ≡ pos 0) (λ q. z) f))
           (λ e. rank_3 (record { first = a; second = b; third = k; first_in = l; second_in = m; third_in = sub k (inl refl); first_at = q; second_at = r; third_at = o; independent = e }))
-          (zero-or (triple (normal_of a) (normal_of b) (normal_of k)))
+          (nought-or (triple (normal_of a) (normal_of b) (normal_of k)))
       through o (rank_3 m) = rank_3 m
 
   -- three independent forms through p, or a direction in all forms through p
@@ -115,7 +116,7 @@ module _ (hs : List Form) (p : Place) where
           (λ z. let e : Vector = record { x = pos 0; y = pos 1; z = pos 0 } in
           inr (cross (normal_of a) e, (λ w. d (other (normal_of a) z w)), λ h m q. slope-first h (normal_of a) e (f h m q)))
           (λ n. let e : Vector = record { x = pos 1; y = pos 0; z = pos 0 } in inr (cross (normal_of a) e, n, λ h m q. slope-first h (normal_of a) e (f h m q)))
-          (decided-zero (cross (normal_of a) (record { x = pos 1; y = pos 0; z = pos 0 })))
+          (zero-decided (cross (normal_of a) (record { x = pos 1; y = pos 0; z = pos 0 })))
         where
           other : (n : Vector) → IsZero (cross n (record { x = pos 1; y = pos 0; z = pos 0 })) → IsZero (cross n (record { x = pos 0; y = pos 1; z = pos 0 })) → IsZero n
           other n z w = let i = z.1 in let j = z.2 in let k = w.2 in (omega (arith, ints), omega (arith, ints), omega (arith, ints))

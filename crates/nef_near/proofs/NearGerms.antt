@@ -1,9 +1,11 @@
 -- The germ at a point of a ray is the germ near the ray's direction.
-use Rattle.std.proofs.Common.{◌≡◌, ℕ, zero, suc, ◌+◌, ◌<◌, ◌≤◌, ℤ, pos, negsuc, ◌+ℤ◌, ◌*ℤ◌, nat_abs, arith, refl, ap, sym, ◌∙◌, inl, inr, ⊎_elim, List, [], ◌∷◌, subst}
+use Rattle.std.proofs.Common.{◌≡◌, ℕ, ◌+◌, ◌<◌, ◌≤◌, ℤ, pos, ◌+ℤ◌, ◌*ℤ◌, nat_abs, arith, ap, sym, ◌∙◌, ⊎_elim, List, [], ◌∷◌, subst}
 use Rattle.std.proofs.lemmas.Int.{ints}
 use Rattle.nef_exact.proofs.Ring.{ring, at, num, ◌⊕◌, ◌⊗◌}
-use Rattle.nef_exact.proofs.Order.{nought, sign, sign-plus, sign-minus, nought-is, mul_le_right}
+use Rattle.nef_exact.proofs.Order.{nought, sign, nought-is}
 use Rattle.nef_exact.specs.Signs.{Lies}
+use Rattle.nef_forms.specs.Homogeneous.{form_on, of_direction, amount}
+use Rattle.nef_forms.proofs.Far.{amount-above, sign-large as sign-far}
 use Rattle.nef_near.specs.Cones.{NearGerm}
 use Rattle.nef_near.specs.Cells.{sign_at, carriers, SameSigns}
 use Rattle.nef_space.specs.Place.{Place, Form, slope, Ratio, step, Within}
@@ -11,31 +13,24 @@ use Rattle.nef_space.specs.Vectors.{Vector, blend}
 use Rattle.nef_space.specs.Sets.{Set}
 use Rattle.nef_space.specs.Local.{IsShort, Germ}
 use Rattle.nef_space.specs.declared.label.Label.{Label}
-use Rattle.nef_near.proofs.Near.{step-within}
-use Rattle.nef_near.proofs.Cells.{same-sym, reach_all, keeps-all, is_nought}
+use Rattle.nef_forms.proofs.Near.{step-within, reach_all}
+use Rattle.nef_near.proofs.Cells.{same-sym, keeps-all, is_nought}
 use Rattle.nef_near.proofs.Germs.{Label-cells, sign-along, short_enough}
 use Rattle.nef_near.proofs.Flats.{slope-slide}
 
+slope-on : (h : Form) (e : Vector) → form_on h (of_direction e) ≡ slope h e
+slope-on h e = ring (h.a ∷ h.b ∷ h.c ∷ h.d ∷ e.x ∷ e.y ∷ e.z ∷ []) (at 0 ⊗ at 4 ⊕ at 1 ⊗ at 5 ⊕ at 2 ⊗ at 6 ⊕ at 3 ⊗ num (pos 0)) (at 0 ⊗ at 4 ⊕ at 1 ⊗ at 5 ⊕ at 2 ⊗ at 6) tt
+
+-- all slopes along e are smaller than this
 abbrev pub steep : List Form → Vector → ℕ
-steep [] e = 1
-steep (h ∷ hs) e = nat_abs (slope h e) + steep hs e
+steep hs e = amount hs (of_direction e)
 
 pub steep-one : (hs : List Form) (h : Form) (e : Vector) → Lies hs h → nat_abs (slope h e) < steep hs e
-steep-one [] h e l = absurd l
-steep-one (k ∷ ks) h e (inl i) = subst (λ (g : Form). nat_abs (slope g e) < steep (k ∷ ks) e) i (omega (arith, steep-some ks))
-  where
-    steep-some : (hs : List Form) → 0 < steep hs e
-    steep-some [] = omega arith
-    steep-some (h ∷ hs) = let i = steep-some hs in omega arith
-steep-one (k ∷ ks) h e (inr l) = let i = steep-one ks h e l in omega arith
+steep-one hs h e l = subst (λ (z : ℤ). nat_abs z < steep hs e) (slope-on h e) (amount-above hs (of_direction e) h l)
 
 -- a large multiple decides
 pub sign-large : (x y : ℤ) (k : ℕ) → nat_abs y < k → (sign x ≡ nought → ⊥) → sign (pos k *ℤ x +ℤ pos 1 *ℤ y) ≡ sign x
-sign-large (pos zero) y k h n = absurd (n refl)
-sign-large (pos (suc x)) y k h n = let a = mul_le_right (pos 1) (pos (suc x)) (pos k) (omega (arith, ints)) (omega (arith, ints)) in let b = ring (pos k ∷ pos (suc x) ∷ []) (at 0 ⊗ at 1) (at 1 ⊗ at 0) tt in
-    sign-plus (pos k *ℤ pos (suc x) +ℤ pos 1 *ℤ y) (omega (arith, ints))
-sign-large (negsuc x) y k h n = let a = mul_le_right (negsuc x) (negsuc 0) (pos k) (omega (arith, ints)) (omega (arith, ints)) in let b = ring (pos k ∷ negsuc x ∷ []) (at 0 ⊗ at 1) (at 1 ⊗ at 0) tt in
-    sign-minus (pos k *ℤ negsuc x +ℤ pos 1 *ℤ y) (omega (arith, ints))
+sign-large x y k h n = sign-far k x y h (λ z. n (ap sign z))
 
 module _ (s : Set) (p : Place) (d e : Vector) (t : Ratio) (short : IsShort (short_enough s p d) t) where
   abbrev there : Place

@@ -6,7 +6,8 @@ use Rattle.nef_space.specs.Sets.{Set}
 use Rattle.nef_space.specs.Local.{HasFlat, FlatDim}
 use Rattle.nef_near.specs.Cells.{carriers}
 use Rattle.nef_near.specs.Laws.{IsFlatBelow, FirstPoint}
-use Rattle.nef_near.proofs.Cells.{reach_all, reach-some, Cells}
+use Rattle.nef_near.proofs.Cells.{reach-some, Cells}
+use Rattle.nef_forms.proofs.Near.{reach_all}
 use Rattle.nef_near.proofs.Flats.{Flat-from_cone, FlatCone-from_flat}
 use Rattle.nef_near.proofs.Alike.{HasFlat-by, HasFlat-fewer, FlatDim-one, FlatDim-by_germs, germs-by_cell}
 use Rattle.nef_near.proofs.FlatDecided.{flat_dim-of}

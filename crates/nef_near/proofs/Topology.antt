@@ -9,8 +9,8 @@ use Rattle.nef_space.specs.declared.label.Label.{Label}
 use Rattle.nef_space.specs.declared.label.Label.TheVariants.{Out, Not, In}
 use Rattle.nef_near.specs.Cells.{frame, carriers}
 use Rattle.nef_near.specs.Cones.{NearGerm}
-use Rattle.nef_near.proofs.Near.{stride, step-within}
-use Rattle.nef_near.proofs.Cells.{reach_all, reach-some}
+use Rattle.nef_forms.proofs.Near.{stride, step-within, reach_all}
+use Rattle.nef_near.proofs.Cells.{reach-some}
 use Rattle.nef_near.proofs.Germs.{Germ-unique, Germ-from_sample}
 use Rattle.nef_near.proofs.Flats.{germ-toward, label-toward}
 use Rattle.nef_near.proofs.Decided.{label_of, germ_of, InFrame-decided}

@@ -1,8 +1,8 @@
 -- A set has finitely many vertices: they are among the meets of three of its carriers.
-use Rattle.std.proofs.Common.{◌≡◌, ℕ, zero, suc, ◌+◌, ◌<◌, ℤ, pos, negsuc, ◌+ℤ◌, ◌-ℤ◌, ◌*ℤ◌, neg_ℤ, ◌<ℤ◌, arith, refl, ap, sym, ◌∙◌, ◌⊎◌, inl, inr, ⊎_elim, List, [], ◌∷◌, ◌++◌, subst}
+use Rattle.std.proofs.Common.{◌≡◌, ℕ, zero, suc, ◌+◌, ℤ, pos, negsuc, ◌+ℤ◌, ◌-ℤ◌, ◌*ℤ◌, neg_ℤ, arith, refl, ap, sym, ◌∙◌, ◌⊎◌, inl, inr, ⊎_elim, List, [], ◌∷◌, ◌++◌, subst}
 use Rattle.std.proofs.lemmas.Int.{ints}
 use Rattle.nef_exact.specs.Signs.{Lies}
-use Rattle.nef_exact.proofs.Ring.{ring, value, at, num, neg, ◌⊕◌, ◌⊖◌, ◌⊗◌, Poly}
+use Rattle.nef_exact.proofs.Ring.{at, num, neg, ◌⊕◌, ◌⊖◌, ◌⊗◌, Poly}
 use Rattle.nef_exact.proofs.Combination.{given, none, follows}
 use Rattle.nef_exact.proofs.Order.{nought-is}
 use Rattle.nef_space.specs.Place.{Place, Form, form_at, normal_of, SamePlace}
@@ -111,8 +111,8 @@ among-meets hs p m =
     let r = found (determinant f g h) (numerators f g h) p m.independent (cramer-x f g h p i j k) (cramer-y f g h p i j k) (cramer-z f g h p i j k) in (
       r.0,
       in-each hs (λ f. each hs (λ g. each hs (λ h. meet_at (determinant f g h) (numerators f g h)))) f r.0 m.first_in
-      (in-each hs (λ g. each hs (λ h. meet_at (determinant f g h) (numerators f g h))) g r.0 m.second_in
-      (in-each hs (λ h. meet_at (determinant f g h) (numerators f g h)) h r.0 m.third_in r.1)),
+          (in-each hs (λ g. each hs (λ h. meet_at (determinant f g h) (numerators f g h))) g r.0 m.second_in
+          (in-each hs (λ h. meet_at (determinant f g h) (numerators f g h)) h r.0 m.third_in r.1)),
       r.2,
     )
 
@@ -126,7 +126,7 @@ select s (p ∷ ps) = by (flat_dim-decided s p 0) (select s ps)
     by (inl v) (qs, f, g) = (p ∷ qs, λ q l. ⊎_elim (λ e. subst (IsVertex s) e v) (f q) l, λ q l w. ⊎_elim (λ e. inl e) (λ m. inr (g q m w)) l)
     by (inr n) (qs, f, g) = (qs, f, λ q l w. ⊎_elim (λ e. absurd (n (subst (IsVertex s) (sym e) w))) (λ m. g q m w) l)
 
--- A SET HAS FINITELY MANY VERTICES
+-- a set has finitely many vertices
 pub all-vertices : (s : Set) → (ps : List Place) × ((q : Place) → Lies ps q → IsVertex s q) × ((p : Place) → IsVertex s p → (q : Place) × Lies ps q × SamePlace q p)
 all-vertices s =
     let r = select s (meets (carriers s)) in (

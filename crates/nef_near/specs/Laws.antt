@@ -4,7 +4,7 @@ use Rattle.nef_exact.specs.Signs.{nought, sign, Lies}
 use Rattle.nef_space.specs.Local.{HasLabel, SameSet, IsShort, Germ, Flat, FlatDim, IsVertex, IsEven, Joined}
 use Rattle.nef_space.specs.Place.{Place, Form, normal_of, slope, Ratio, step, Within, SamePlace, InFrame, InClosedFrame, toward, IsAhead, IsBetween}
 use Rattle.nef_space.specs.Sets.{Set, Holds}
-use Rattle.nef_space.specs.Vectors.{Vector, IsZero, IsDirection, SameDirection}
+use Rattle.nef_space.specs.Vectors.{Vector, dot, cross, IsZero, IsDirection, IsParallel, SameDirection}
 use Rattle.nef_space.specs.declared.label.Label.{Label}
 use Rattle.nef_space.specs.declared.label.Label.TheVariants.{Out, Not, In}
 use Rattle.nef_near.specs.Cells.{sign_at, carriers, SameSigns, SameSlopes, SameSlopesAt, IsInAllAt}
@@ -123,12 +123,15 @@ ConeNearby = (s : Set) (p : Place) → (n : ℕ) × (0 < n) × ((q : Place) → 
 abbrev pub HoldsIsDecided : Type 0
 HoldsIsDecided = (s : Set) (p : Place) → Holds s p ⊎ (Holds s p → ⊥)
 
+-- a point has a label or hasn't
 abbrev pub LabelIsDecided : Type 0
 LabelIsDecided = (s : Set) (p : Place) (l : Label) → HasLabel s p l ⊎ (HasLabel s p l → ⊥)
 
+-- a direction has a germ or hasn't
 abbrev pub GermIsDecided : Type 0
 GermIsDecided = (s : Set) (p : Place) (d : Vector) (l : Label) → Germ s p d l ⊎ (Germ s p d l → ⊥)
 
+-- the germ near d toward e is l or isn't
 abbrev pub NearGermIsDecided : Type 0
 NearGermIsDecided = (s : Set) (p : Place) (d e : Vector) (l : Label) → NearGerm s p d e l ⊎ (NearGerm s p d e l → ⊥)
 
@@ -164,11 +167,6 @@ FlatIsDecided = (s : Set) (p : Place) (d : Vector) → Flat s p d ⊎ (Flat s p 
 abbrev pub FlatDimExists : Type 0
 FlatDimExists = (s : Set) (p : Place) → (k : ℕ) × FlatDim s p k
 
--- finitely many planes don't hold all directions: each vector has a neighbour that lies in none of them
-abbrev pub GenericDirection : Type 0
-GenericDirection = (hs : List Form) → ((h : Form) → Lies hs h → IsDirection (normal_of h)) → (v : Vector)
-    → (g : Vector) × ((h : Form) → Lies hs h → (slope h g ≡ pos 0 → ⊥) × ((slope h v ≡ pos 0 → ⊥) → sign (slope h g) ≡ sign (slope h v)))
-
 -- ---- flat directions
 -- a direction is flat exactly where the germs don't change along it
 abbrev pub FlatIsFlatCone : Type 0
@@ -202,6 +200,7 @@ AllFlat = (s : Set) (p : Place) (d : Vector) → FlatDim s p 3 → Flat s p d
 abbrev pub FlatOutside : Type 0
 FlatOutside = (s : Set) (p : Place) (d : Vector) → (InClosedFrame p → ⊥) → Flat s p d
 
+-- so there are three independent ones
 abbrev pub FlatDimOutside : Type 0
 FlatDimOutside = (s : Set) (p : Place) → (InClosedFrame p → ⊥) → FlatDim s p 3
 
@@ -213,6 +212,49 @@ FlatDimIsUnique = (s : Set) (p : Place) (j k : ℕ) → FlatDim s p j → FlatDi
 abbrev pub VertexIsMeet : Type 0
 VertexIsMeet = (s : Set) (p : Place) → IsVertex s p → IsMeet (carriers s) p
 
+-- e lies in each carrier through p that d lies in
+abbrev pub IsHeldBy : Set → Place → Vector → Vector → Type 0
+IsHeldBy s p d e = (h : Form) → Lies (carriers s) h → sign_at h p ≡ nought → slope h d ≡ pos 0 → slope h e ≡ pos 0
+
+-- a direction that lies in each carrier through p that a flat direction lies in is flat
+abbrev pub FlatWhereHeld : Type 0
+FlatWhereHeld = (s : Set) (p : Place) (d e : Vector) → Flat s p d → IsHeldBy s p d e → Flat s p e
+
+-- where one direction is flat, its multiples are, and no other
+abbrev pub FlatLine : Type 0
+FlatLine = (s : Set) (p : Place) → FlatDim s p 1 → (d : Vector) × IsDirection d × ((v : Vector) → Flat s p v ↔ IsParallel d v)
+
+-- where two are flat, those of their plane are, and no other
+abbrev pub FlatPlane : Type 0
+FlatPlane = (s : Set) (p : Place) → FlatDim s p 2 → (n : Vector) × IsDirection n × ((v : Vector) → Flat s p v ↔ (dot n v ≡ pos 0))
+
+-- two carriers through p in which the flat directions lie, and no other
+pub record EdgeSupport (s : Set) (p : Place) : Type 0 where
+  pub first : Form
+  pub second : Form
+  pub first_listed : Lies (carriers s) first
+  pub second_listed : Lies (carriers s) second
+  pub first_passes : sign_at first p ≡ nought
+  pub second_passes : sign_at second p ≡ nought
+  pub independent : IsDirection (cross (normal_of first) (normal_of second))
+  pub flat_in : (v : Vector) → Flat s p v ↔ ((slope first v ≡ pos 0) × (slope second v ≡ pos 0))
+
+-- an edge lies in two carriers
+abbrev pub EdgeInCarriers : Type 0
+EdgeInCarriers = (s : Set) (p : Place) → FlatDim s p 1 → EdgeSupport s p
+
+-- a carrier through p in which the flat directions lie, and no other
+pub record FacetSupport (s : Set) (p : Place) : Type 0 where
+  pub plane : Form
+  pub listed : Lies (carriers s) plane
+  pub passes : sign_at plane p ≡ nought
+  pub has_normal : IsDirection (normal_of plane)
+  pub flat_in : (v : Vector) → Flat s p v ↔ (slope plane v ≡ pos 0)
+
+-- a facet lies in a carrier
+abbrev pub FacetInCarrier : Type 0
+FacetInCarrier = (s : Set) (p : Place) → FlatDim s p 2 → FacetSupport s p
+
 -- ---- combinations
 -- labels, and germs likewise, combine as the sets do
 pub record LabelsCombine (a b : Set) (l m : Label) (Has : Set → Label → Type 0) : Type 0 where
@@ -222,12 +264,15 @@ pub record LabelsCombine (a b : Set) (l m : Label) (Has : Set → Label → Type
   pub one_of : Has (Set.one_of a b) (label_one_of l m)
   pub other : Has (Set.other a) (label_not l)
 
+-- the label of a combination is the combination of the labels
 abbrev pub LabelOfCombination : Type 0
 LabelOfCombination = (a b : Set) (p : Place) (l m : Label) → HasLabel a p l → HasLabel b p m → LabelsCombine a b l m (λ s. HasLabel s p)
 
+-- the germ of a combination is the combination of the germs
 abbrev pub GermOfCombination : Type 0
 GermOfCombination = (a b : Set) (p : Place) (d : Vector) (l m : Label) → Germ a p d l → Germ b p d m → LabelsCombine a b l m (λ s. Germ s p d)
 
+-- and so is the germ near a direction
 abbrev pub NearGermOfCombination : Type 0
 NearGermOfCombination = (a b : Set) (p : Place) (d e : Vector) (l m : Label) → NearGerm a p d e l → NearGerm b p d e m → LabelsCombine a b l m (λ s. NearGerm s p d e)
 
@@ -238,6 +283,7 @@ pub record IsFlatForBoth (a b : Set) (p : Place) (d : Vector) : Type 0 where
   pub less : Flat (Set.less a b) p d
   pub one_of : Flat (Set.one_of a b) p d
 
+-- what is flat for both operands is flat for intersection, union, difference and symmetric difference
 abbrev pub FlatOfTwo : Type 0
 FlatOfTwo = (a b : Set) (p : Place) (d : Vector) → Flat a p d → Flat b p d → IsFlatForBoth a b p d
 
@@ -248,6 +294,7 @@ pub record IsFlatForOne (a : Set) (p : Place) (d : Vector) : Type 0 where
   pub border : Flat (Set.border a) p d
   pub regular : Flat (Set.regular a) p d
 
+-- what is flat for the operand is flat for complement, interior, closure, boundary and regularisation
 abbrev pub FlatOfOne : Type 0
 FlatOfOne = (a : Set) (p : Place) (d : Vector) → Flat a p d → IsFlatForOne a p d
 
@@ -272,12 +319,15 @@ RegularAt = (a : Set) (p : Place) → HasLabel (Set.regular a) p In ↔ (InFrame
 abbrev pub InsideToward : Type 0
 InsideToward = (a : Set) (p : Place) (d : Vector) → Germ (Set.inside a) p d In ↔ (Germ a p d In × ((e : Vector) → NearGerm a p d e In))
 
+-- the closure is In toward d where the operand is In toward d or somewhere near it, and not Out toward d
 abbrev pub ClosedToward : Type 0
 ClosedToward = (a : Set) (p : Place) (d : Vector) → Germ (Set.closed a) p d In ↔ ((Germ a p d Out → ⊥) × (Germ a p d In ⊎ ((e : Vector) × NearGerm a p d e In)))
 
+-- the boundary, where the operand is In at or near d, and Not at or near d
 abbrev pub BorderToward : Type 0
 BorderToward = (a : Set) (p : Place) (d : Vector) → Germ (Set.border a) p d In ↔ ((Germ a p d In ⊎ ((e : Vector) × NearGerm a p d e In)) × (Germ a p d Not ⊎ ((e : Vector) × NearGerm a p d e Not)) × (Germ a p d Out → ⊥))
 
+-- the regularisation, where the interior is In somewhere near d
 abbrev pub RegularToward : Type 0
 RegularToward = (a : Set) (p : Place) (d : Vector) → Germ (Set.regular a) p d In ↔ ((Germ a p d Out → ⊥) × ((e : Vector) × NearGerm (Set.inside a) p d e In))
 
@@ -294,9 +344,11 @@ SameConeIsSameNear = (s t : Set) (p : Place) → SameCone s t p ↔ SameNear s t
 abbrev pub FlatBySameCone : Type 0
 FlatBySameCone = (s t : Set) (p : Place) (d : Vector) → SameCone s t p → Flat s p d ↔ Flat t p d
 
+-- and how many there are
 abbrev pub FlatDimBySameCone : Type 0
 FlatDimBySameCone = (s t : Set) (p : Place) (k : ℕ) → SameCone s t p → FlatDim s p k ↔ FlatDim t p k
 
+-- and the germs near a direction
 abbrev pub NearGermBySameCone : Type 0
 NearGermBySameCone = (s t : Set) (p : Place) (d e : Vector) (l : Label) → SameCone s t p → NearGerm s p d e l ↔ NearGerm t p d e l
 
@@ -332,6 +384,7 @@ LabelChangesFirst = (s : Set) (l : Label) (p q : Place) → HasLabel s p l → (
 abbrev pub FlatDimChangesFirst : Type 0
 FlatDimChangesFirst = (s : Set) (k : ℕ) (p q : Place) → FlatDim s p k → ((r : Place) → IsBetween p r q → FlatDim s r k) ⊎ FirstChange (λ r. FlatDim s r k) p q
 
+-- ---- edges and the ends of flat ways
 -- fewer than k independent directions are flat
 abbrev pub IsFlatBelow : Set → ℕ → Place → Type 0
 IsFlatBelow s k p = (j : ℕ) × (j < k) × FlatDim s p j
@@ -357,10 +410,6 @@ pub record Drop (s : Set) (k : ℕ) (p q : Place) : Type 0 where
   pub between : IsBetween p at_place q
   pub even_before : (r : Place) → IsBetween p r at_place → FlatDim s r k
   pub drops : IsFlatBelow s k at_place
-
--- a set has finitely many vertices, and each is equal to one of a list of them
-abbrev pub FiniteVertices : Type 0
-FiniteVertices = (s : Set) → (ps : List Place) × ((q : Place) → Lies ps q → IsVertex s q) × ((p : Place) → IsVertex s p → (q : Place) × Lies ps q × SamePlace q p)
 
 -- along a flat way the number of flat directions stays until it drops: it never rises
 abbrev pub EvenUntilDrop : Type 0
@@ -390,6 +439,14 @@ pub record EdgeAround (s : Set) (p : Place) : Type 0 where
 abbrev pub EdgeHasEnds : Type 0
 EdgeHasEnds = (s : Set) (p : Place) → FlatDim s p 1 → EdgeAround s p
 
+-- a set has finitely many vertices, and each is equal to one of a list of them
+abbrev pub FiniteVertices : Type 0
+FiniteVertices = (s : Set) → (ps : List Place) × ((q : Place) → Lies ps q → IsVertex s q) × ((p : Place) → IsVertex s p → (q : Place) × Lies ps q × SamePlace q p)
+
+-- sets with equal cones at the vertices of both are equal: the vertices and the cones there determine the set
+abbrev pub SameSetByVertices : Type 0
+SameSetByVertices = (s t : Set) → ((p : Place) → IsVertex s p → SameCone s t p) → ((p : Place) → IsVertex t p → SameCone s t p) → SameSet s t
+
 -- ---- joined points
 -- the germs at p and q agree
 abbrev pub SameGerms : Set → Place → Place → Type 0
@@ -407,12 +464,14 @@ OneConeOfJoined = (s : Set) (p q : Place) → Joined s p q → SameGerms s p q
 abbrev pub OneLabelOfJoined : Type 0
 OneLabelOfJoined = (s : Set) (p q : Place) (l : Label) → Joined s p q → HasLabel s p l → HasLabel s q l
 
--- to be joined is an equivalence
+-- to be joined is an equivalence: each point is joined to itself
 abbrev pub JoinedToItself : Type 0
 JoinedToItself = (s : Set) (p : Place) → Joined s p p
 
+-- to be joined goes both ways
 abbrev pub JoinedTurned : Type 0
 JoinedTurned = (s : Set) (p q : Place) → Joined s p q → Joined s q p
 
+-- to be joined goes on through a third point
 abbrev pub JoinedThrough : Type 0
 JoinedThrough = (s : Set) (p q r : Place) → Joined s p q → Joined s q r → Joined s p r

@@ -1,7 +1,7 @@
 //! The laws, grouped by their subject.
 
 ghost use Rattle.nef_near.specs.Examples.{HalvesDisjoint, TwoHalves, Wall, WallPart, Edge, PointAlone};
-ghost use Rattle.nef_near.specs.Laws.{HoldsByCell, LabelByCell, GermByCell, FlatByCell, FlatDimByCell, SignsAtSamePlace, HoldsAtSamePlace, LabelAtSamePlace, GermAtSamePlace, FlatDimAtSamePlace, LabelExists, LabelIsUnique, GermExists, GermIsUnique, SetIsItsCone, LabelAlongRay, GermBySlopes, GermTowardZero, NoGermOutInFrame, GermOutForAll, GermOnRay, NearGermExists, NearGermIsUnique, NearGermTowardZero, NearGermBySlopes, ConeNearby, HoldsIsDecided, LabelIsDecided, GermIsDecided, NearGermIsDecided, Representatives, GermRepresentatives, AllGermsAreDecided, AllDirectionsAreDecided, AllNearGermsAreDecided, SameConeIsDecided, FlatIsDecided, FlatDimExists, GenericDirection, FlatIsFlatCone, FlatInCarriers, FlatCombination, FlatIsNearCone, FlatBySlopes, FlatNearby, AllFlat, FlatOutside, FlatDimOutside, FlatDimIsUnique, VertexIsMeet, LabelOfCombination, GermOfCombination, NearGermOfCombination, FlatOfTwo, FlatOfOne, InsideAt, ClosedAt, BorderAt, RegularAt, InsideToward, ClosedToward, BorderToward, RegularToward, SameSetBySameCones, SameConeIsSameNear, FlatBySameCone, FlatDimBySameCone, NearGermBySameCone, JoinedBySameSet, LabelAlongSegment, FlatDimAlongSegment, LabelChangesFirst, FlatDimChangesFirst, FlatDimNearby, FlatBelowFirst, EvenUntilDrop, FlatWayEnds, EdgeHasEnds, FiniteVertices, OneConeAlongEven, OneConeOfJoined, OneLabelOfJoined, JoinedToItself, JoinedTurned, JoinedThrough};
+ghost use Rattle.nef_near.specs.Laws.{HoldsByCell, LabelByCell, GermByCell, FlatByCell, FlatDimByCell, SignsAtSamePlace, HoldsAtSamePlace, LabelAtSamePlace, GermAtSamePlace, FlatDimAtSamePlace, LabelExists, LabelIsUnique, GermExists, GermIsUnique, SetIsItsCone, LabelAlongRay, GermBySlopes, GermTowardZero, NoGermOutInFrame, GermOutForAll, GermOnRay, NearGermExists, NearGermIsUnique, NearGermTowardZero, NearGermBySlopes, ConeNearby, HoldsIsDecided, LabelIsDecided, GermIsDecided, NearGermIsDecided, Representatives, GermRepresentatives, AllGermsAreDecided, AllDirectionsAreDecided, AllNearGermsAreDecided, SameConeIsDecided, FlatIsDecided, FlatDimExists, FlatIsFlatCone, FlatInCarriers, FlatCombination, FlatIsNearCone, FlatBySlopes, FlatNearby, AllFlat, FlatOutside, FlatDimOutside, FlatDimIsUnique, FlatWhereHeld, FlatLine, FlatPlane, VertexIsMeet, EdgeInCarriers, FacetInCarrier, LabelOfCombination, GermOfCombination, NearGermOfCombination, FlatOfTwo, FlatOfOne, InsideAt, ClosedAt, BorderAt, RegularAt, InsideToward, ClosedToward, BorderToward, RegularToward, SameSetBySameCones, SameConeIsSameNear, FlatBySameCone, FlatDimBySameCone, NearGermBySameCone, JoinedBySameSet, SameSetByVertices, LabelAlongSegment, FlatDimAlongSegment, LabelChangesFirst, FlatDimChangesFirst, FlatDimNearby, FlatBelowFirst, EvenUntilDrop, FlatWayEnds, EdgeHasEnds, FiniteVertices, OneConeAlongEven, OneConeOfJoined, OneLabelOfJoined, JoinedToItself, JoinedTurned, JoinedThrough};
 
 /// A set is constant on the cells of its carriers, which are the planes of its halves at any depth and
 /// the sides of the frame: on which side of each carrier a point lies decides whether the set holds
@@ -61,12 +61,11 @@ pub fn decision_laws()
     ensures same_cone { SameConeIsDecided }
     ensures flat_is_decided { FlatIsDecided }
     ensures flat_dim_exists { FlatDimExists }
-    ensures generic_direction { GenericDirection }
 {}
 
 /// A direction is flat exactly where the germs don't change along it. The flat directions are a space,
 /// with the directions that lie in all carriers through the point; so a vertex is a meet of three
-/// carriers. Outside the closed frame all directions are flat.
+/// carriers, an edge lies in two and a facet in one. Outside the closed frame all directions are flat.
 pub fn flat_laws()
     ensures flat_is_flat_cone { FlatIsFlatCone }
     ensures flat_in_carriers { FlatInCarriers }
@@ -78,7 +77,12 @@ pub fn flat_laws()
     ensures flat_outside { FlatOutside }
     ensures flat_dim_outside { FlatDimOutside }
     ensures flat_dim_is_unique { FlatDimIsUnique }
+    ensures flat_where_held { FlatWhereHeld }
+    ensures flat_line { FlatLine }
+    ensures flat_plane { FlatPlane }
     ensures vertex_is_meet { VertexIsMeet }
+    ensures edge_in_carriers { EdgeInCarriers }
+    ensures facet_in_carrier { FacetInCarrier }
 {}
 
 /// The labels and germs of a combination are the combination of the operands' labels and germs. A
@@ -106,7 +110,7 @@ pub fn topology_laws()
 
 /// Sets are equal exactly where their cones are equal at all points, and cones are equal exactly where
 /// the sets agree close by. Equal cones have the same flat directions, and equal sets join the same
-/// points.
+/// points. The vertices of a set and the cones there determine the set.
 pub fn same_set_laws()
     ensures same_set_by_same_cones { SameSetBySameCones }
     ensures same_cone_is_same_near { SameConeIsSameNear }
@@ -114,6 +118,7 @@ pub fn same_set_laws()
     ensures flat_dim_by_same_cone { FlatDimBySameCone }
     ensures near_germ_by_same_cone { NearGermBySameCone }
     ensures joined_by_same_set { JoinedBySameSet }
+    ensures same_set_by_vertices { SameSetByVertices }
 {}
 
 /// What doesn't change close to any point of a segment is the same at both ends; and a label that

@@ -7,12 +7,15 @@ use Rattle.nef_exact.proofs.Order.{Sign, sign, sign-plus, sign-minus}
 use Rattle.nef_exact.specs.Signs.{Lies}
 use Rattle.nef_space.specs.Vectors.{Vector, IsDirection, cross, dot, blend}
 use Rattle.nef_space.specs.declared.label.Label.{Label}
-use Rattle.nef_near.proofs.Segment.{opposite, sign-inside, opposite-left, opposite-right, balance}
+use Rattle.nef_forms.proofs.Crossings.{opposite, sign-inside, opposite-left, opposite-right, balance}
 use Rattle.nef_sphere.specs.Vectors.{comb}
 use Rattle.nef_sphere.specs.Forms.{SameSigns}
 use Rattle.nef_sphere.specs.Least.{by_side}
 use Rattle.nef_sphere.specs.Labelling.{Labelling, Near, StraightAt, IsSmooth, plain, straight}
-use Rattle.nef_sphere.proofs.Vectors.{Decided, dot-comb, nought-or, same-off, same-nought, self-pos}
+use Rattle.nef_sphere.proofs.Vectors.{dot-comb}
+use Rattle.nef_near.proofs.Decided.{Decided}
+use Rattle.nef_forms.proofs.Far.{nought-or, same-off, same-nought}
+use Rattle.nef_forms.proofs.Directions.{self-pos}
 use Rattle.nef_sphere.proofs.Generic.{amount, far-keeps, far-level}
 use Rattle.nef_sphere.proofs.Direct.{cross-between}
 use Rattle.nef_sphere.proofs.StepOff.{blend-turned}

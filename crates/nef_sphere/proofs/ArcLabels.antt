@@ -8,9 +8,11 @@ use Rattle.nef_space.specs.declared.label.Label.{Label}
 use Rattle.nef_sphere.specs.Maps.{StrictlyOn}
 use Rattle.nef_sphere.specs.Forms.{SameSigns}
 use Rattle.nef_sphere.specs.Labelling.{Labelling, StraightAt, IsSmooth}
-use Rattle.nef_sphere.proofs.Vectors.{dot-comb, dot-comm, triple-last, triple-middle, self-pos, dot-nought, direction-by, nought-decided, same-plus, nought-if}
+use Rattle.nef_sphere.proofs.Vectors.{dot-comb, triple-middle, direction-by, same-plus, nought-if}
+use Rattle.nef_forms.proofs.Directions.{dot-comm, self-pos, dot-zero, zero-decided}
 use Rattle.nef_sphere.proofs.Generic.{amount}
-use Rattle.nef_sphere.proofs.Parallel.{past_source, arc-point, there-ahead, cross-turned, parallel-in_plane, parallel-trans}
+use Rattle.nef_sphere.proofs.Parallel.{past_source, arc-point, there-ahead, parallel-in_plane, parallel-trans}
+use Rattle.nef_near.proofs.FlatDecided.{cross-turned, triple-dot}
 use Rattle.nef_sphere.proofs.Shot.{product-off}
 use Rattle.nef_sphere.proofs.Labels.{way-signs}
 use Rattle.nef_sphere.proofs.Around.{Beside, same_way, other_way, beside, opposites, triple-turned, opposite-triple, turn-plus}
@@ -21,7 +23,7 @@ use Rattle.nef_sphere.proofs.Walk.{crossings}
 use Rattle.nef_sphere.proofs.Along.{along, cells}
 
 pub triple-blend : (n s d e : Vector) (i j : ℕ) → triple n s (blend i d j e) ≡ pos i *ℤ triple n s d +ℤ pos j *ℤ triple n s e
-triple-blend n s d e i j = triple-last n s (blend i d j e) ∙ dot-comb (cross n s) (pos i) d (pos j) e ∙ ap (λ r. pos i *ℤ r +ℤ pos j *ℤ dot (cross n s) e) (sym (triple-last n s d)) ∙ ap (λ r. pos i *ℤ triple n s d +ℤ pos j *ℤ r) (sym (triple-last n s e))
+triple-blend n s d e i j = triple-dot n s (blend i d j e) ∙ dot-comb (cross n s) (pos i) d (pos j) e ∙ ap (λ r. pos i *ℤ r +ℤ pos j *ℤ dot (cross n s) e) (sym (triple-dot n s d)) ∙ ap (λ r. pos i *ℤ triple n s d +ℤ pos j *ℤ r) (sym (triple-dot n s e))
 
 pub blend-triple : (n t d e : Vector) (i j : ℕ) → triple n (blend i d j e) t ≡ pos i *ℤ triple n d t +ℤ pos j *ℤ triple n e t
 blend-triple n t d e i j = triple-middle n (blend i d j e) t ∙ dot-comb (cross t n) (pos i) d (pos j) e ∙ ap (λ r. pos i *ℤ r +ℤ pos j *ℤ dot (cross t n) e) (sym (triple-middle n d t)) ∙ ap (λ r. pos i *ℤ triple n d t +ℤ pos j *ℤ r) (sym (triple-middle n e t))
@@ -36,9 +38,9 @@ module _ (n s t : Vector) (hn : IsDirection n) (hs : IsDirection s) (ht : IsDire
   -- on the first half
   on-ahead : (w : Vector) → dot n w ≡ pos 0 → pos 0 <ℤ triple n s w → (pos 0 <ℤ triple n s t → pos 0 <ℤ triple n w t) → StrictlyOn n s t w
   on-ahead w l h g = record {
-    on_circle = record { direction = direction-by (cross n s) w (λ z. let e = triple-last n s w in omega (arith, ints)); level = l };
-    not_source = λ x. let e = dot-nought n (cross s w) x.parallel in omega (arith, ints);
-    not_target = λ x. let p = g (same-plus (triple n s w) (triple n s t) (sym (turn-last n s t w x)) h) in let e = dot-nought n (cross w t) (cross-turned t w x.parallel) in omega (arith, ints);
+    on_circle = record { direction = direction-by (cross n s) w (λ z. let e = triple-dot n s w in omega (arith, ints)); level = l };
+    not_source = λ x. let e = dot-zero n (cross s w) x.parallel in omega (arith, ints);
+    not_target = λ x. let p = g (same-plus (triple n s w) (triple n s t) (sym (turn-last n s t w x)) h) in let e = dot-zero n (cross w t) (cross-turned t w x.parallel) in omega (arith, ints);
     less_than_half = λ p. (h, g p);
     more_than_half = λ p. inl h;
     just_half = λ o. h;
@@ -50,7 +52,7 @@ module _ (n s t : Vector) (hn : IsDirection n) (hs : IsDirection s) (ht : IsDire
     on_circle = record { direction = h; level = l };
     not_source = x;
     not_target = λ y. by_order (triple n s t) (pos 0)
-        (λ m. let q = g m in let e = dot-nought n (cross w t) (cross-turned t w y.parallel) in omega (arith, ints))
+        (λ m. let q = g m in let e = dot-zero n (cross w t) (cross-turned t w y.parallel) in omega (arith, ints))
         (λ z. by y (beside s t hs ht (parallel-in_plane n s t hn ls lt z)))
         p;
     less_than_half = λ q. absurd (p q);
@@ -75,7 +77,7 @@ module _ (gs : List Vector) (F : Vector → Label → Type 0) (L : Labelling gs 
   segment d e hd off o between p = ⊎_elim
       (λ z. same (beside d e hd o.on_circle.direction z))
       (λ f. along gs F L directed far_directed n a m b proper hn (crossings gs d e + 1) d e (omega arith) f o.on_circle.level (smooth e o) (λ i j si sj. smooth (blend i d j e) (between f i j si sj)) p)
-      (nought-decided (cross d e))
+      (zero-decided (cross d e))
     where
       same : Beside d e → P e
       same (same_way w) = cells gs F L directed far_directed n a m b proper d e hd o.on_circle.direction (λ g l. way-signs d e g hd w) o.on_circle.level p
@@ -132,7 +134,7 @@ module _ (gs : List Vector) (F : Vector → Label → Type 0) (L : Labelling gs 
     quarter-direction z = hs (nought-if n s hn z ls)
 
     quarter-ahead : pos 0 <ℤ triple n s quarter
-    quarter-ahead = subst (λ (r : ℤ). pos 0 <ℤ r) (sym (triple-last n s quarter)) (self-pos quarter quarter-direction)
+    quarter-ahead = subst (λ (r : ℤ). pos 0 <ℤ r) (sym (triple-dot n s quarter)) (self-pos quarter quarter-direction)
 
     on-quarter : StrictlyOn n s t quarter
     on-quarter = on-ahead n s t hn hs ht ls lt quarter quarter-level quarter-ahead (λ p. absurd (not-less p))
@@ -151,7 +153,7 @@ module _ (gs : List Vector) (F : Vector → Label → Type 0) (L : Labelling gs 
         )
 
     half-direction : IsDirection half
-    half-direction z = let q = half-opposite in let e = dot-nought s half z in let k = q.backward in omega (arith, ints)
+    half-direction z = let q = half-opposite in let e = dot-zero s half z in let k = q.backward in omega (arith, ints)
 
     half-level : dot n half ≡ pos 0
     half-level = let e = away-dot n s in omega (arith, ints)
@@ -165,7 +167,7 @@ module _ (gs : List Vector) (F : Vector → Label → Type 0) (L : Labelling gs 
     at-half : P half
     at-half = segment quarter half quarter-direction square-not on-half
         (λ f i j si sj. on-ahead n s t hn hs ht ls lt (blend i quarter j half) (level-blend quarter half i j quarter-level half-level)
-        (subst (λ (r : ℤ). pos 0 <ℤ r) (sym (triple-blend n s quarter half i j)) (plus-nought (triple n s quarter) (triple n s half) i j si quarter-ahead (let q = half-opposite in dot-nought n (cross s half) q.parallel)))
+        (subst (λ (r : ℤ). pos 0 <ℤ r) (sym (triple-blend n s quarter half i j)) (plus-nought (triple n s quarter) (triple n s half) i j si quarter-ahead (let q = half-opposite in dot-zero n (cross s half) q.parallel)))
         (λ p. absurd (not-less p))) at-quarter
       where
         -- quarter and half are at right angles
@@ -183,15 +185,15 @@ module _ (gs : List Vector) (F : Vector → Label → Type 0) (L : Labelling gs 
         not-opposite q = o.not_source (opposites half s d half-direction (record { parallel = cross-turned s half (let w = half-opposite in w.parallel); backward = let e = dot-comm half s in let w = half-opposite in let k = w.backward in omega (arith, ints) }) q)
 
         between : IsDirection (cross half d) → (i j : ℕ) → 0 < i → 0 < j → StrictlyOn n s t (blend i half j d)
-        between f i j si sj = on-behind n s t hn hs ht ls lt (blend i half j d) (direction-by (cross n s) (blend i half j d) (λ z. off (triple-last n s (blend i half j d) ∙ z)))
-            (level-blend half d i j half-level o.on_circle.level) not-less not-half (λ w. off (dot-nought n (cross s (blend i half j d)) w.parallel))
+        between f i j si sj = on-behind n s t hn hs ht ls lt (blend i half j d) (direction-by (cross n s) (blend i half j d) (λ z. off (triple-dot n s (blend i half j d) ∙ z)))
+            (level-blend half d i j half-level o.on_circle.level) not-less not-half (λ w. off (dot-zero n (cross s (blend i half j d)) w.parallel))
             (λ p. subst (λ (r : ℤ). pos 0 <ℤ r) (sym (blend-triple n t half d i j)) (plus-plus (triple n half t) (triple n d t) i j si sj (let e = half-turn in omega (arith, ints)) (far-side p)))
           where
             off : triple n s (blend i half j d) ≡ pos 0 → ⊥
             off z =
                 let e = triple-blend n s half d i j in
                 let q = half-opposite in
-                let u = ap (λ r. pos i *ℤ r) (dot-nought n (cross s half) q.parallel) in
+                let u = ap (λ r. pos i *ℤ r) (dot-zero n (cross s half) q.parallel) in
                 let v = ring (pos i ∷ []) (at 0 ⊗ num (pos 0)) (num (pos 0)) tt in
                 product-off (pos j) (triple n s d) (omega (arith, ints)) (λ x. f (parallel-trans half s d hs (cross-turned s half q.parallel) (parallel-in_plane n s d hn ls o.on_circle.level x))) (omega (arith, ints))
 

@@ -5,7 +5,10 @@ use Rattle.nef_space.specs.Vectors.{Vector, IsDirection, triple, cross, dot, Sam
 use Rattle.nef_sphere.specs.Maps.{At, StrictlyOn, Svertex, Arc, Loop, Map, Item, arc_item, loop_item, items, items_then, item_normal, item_above, item_mark, item_below, way_of, OnItem, Shaped, Valid}
 use Rattle.nef_sphere.specs.Forms.{Keeps, arc_forms, forms}
 use Rattle.nef_sphere.specs.Least.{Least, SameLabels, MatchedArc, MatchedLoop}
-use Rattle.nef_sphere.proofs.Vectors.{Decided, normal-is, dot-comm, same-plus, same-nought, same-off}
+use Rattle.nef_sphere.proofs.Vectors.{normal-is, same-plus}
+use Rattle.nef_near.proofs.Decided.{Decided}
+use Rattle.nef_forms.proofs.Far.{same-nought, same-off}
+use Rattle.nef_forms.proofs.Directions.{dot-comm}
 use Rattle.nef_sphere.proofs.Generic.{amount, far-keeps}
 use Rattle.nef_sphere.proofs.Places.{SameDirection-decided}
 use Rattle.nef_sphere.proofs.Forms.{item-forms}

@@ -3,16 +3,18 @@ use Rattle.std.proofs.Common.{◌≡◌, ℕ, ℤ, pos, ◌-ℤ◌, ◌*ℤ◌, 
 use Rattle.std.proofs.lemmas.Int.{ints}
 use Rattle.nef_exact.proofs.Ring.{ring, at, num, ◌⊕◌, ◌⊖◌, ◌⊗◌}
 use Rattle.nef_exact.proofs.Combination.{follows, given, none}
-use Rattle.nef_exact.proofs.Order.{by_order, mul_pos}
+use Rattle.nef_exact.proofs.Order.{by_order, mul_pos, sign-scaled}
 use Rattle.nef_space.specs.Vectors.{Vector, IsDirection, triple, cross, dot, IsZero, SameDirection, IsOpposite}
 use Rattle.nef_sphere.specs.Maps.{At, StrictlyOn, Svertex, Map, Item, arc_item, loop_item, items, item_normal, way_of, OnItem, IsFree, Shaped}
 use Rattle.nef_sphere.specs.Forms.{Keeps, arc_forms, forms}
-use Rattle.nef_sphere.proofs.Vectors.{normal-is, triple-last, triple-middle, self-pos, nought-if, same-plus, same-minus}
+use Rattle.nef_sphere.proofs.Vectors.{normal-is, triple-middle, nought-if, same-plus, same-minus}
+use Rattle.nef_forms.proofs.Directions.{self-pos}
 use Rattle.nef_sphere.proofs.Lists.{at-one}
 use Rattle.nef_sphere.proofs.Places.{kept-nought, kept-minus, direction-stays, SameDirection-back}
 use Rattle.nef_sphere.proofs.Forms.{axes-forms, svertex-forms, item-forms, on-direction, on-level, OnItem-stays, OnItem-by_signs}
-use Rattle.nef_sphere.proofs.Parallel.{parallel-in_plane, parallel-trans, cross-turned}
-use Rattle.nef_sphere.proofs.Shot.{times-sign, way-at, arc-at}
+use Rattle.nef_sphere.proofs.Parallel.{parallel-in_plane, parallel-trans}
+use Rattle.nef_near.proofs.FlatDecided.{cross-turned, triple-dot}
+use Rattle.nef_sphere.proofs.Shot.{way-at, arc-at}
 use Rattle.nef_sphere.proofs.Labels.{way-signs}
 
 -- ---- opposite to an end
@@ -49,10 +51,10 @@ pub beside : (s d : Vector) → IsDirection s → IsDirection d → IsZero (cros
 beside s d hs hd p = by_order (dot s d) (pos 0) (λ l. other_way (record { parallel = p; backward = l })) (λ z. absurd (hd (nought-if s d hs p z))) (λ l. same_way (record { parallel = p; forward = l }))
 
 pub turn-plus : (a b x y : ℤ) → pos 0 <ℤ a → a *ℤ x ≡ b *ℤ y → b <ℤ pos 0 → y <ℤ pos 0 → pos 0 <ℤ x
-turn-plus a b x y h e l m = same-plus (a *ℤ x) x (sym (times-sign a x h)) (let p = mul_pos (pos 0 -ℤ b) (pos 0 -ℤ y) (omega (arith, ints)) (omega (arith, ints)) in let q = ring (b ∷ y ∷ []) ((num (pos 0) ⊖ at 0) ⊗ (num (pos 0) ⊖ at 1)) (at 0 ⊗ at 1) tt in omega (arith, ints))
+turn-plus a b x y h e l m = same-plus (a *ℤ x) x (sym (sign-scaled a x h)) (let p = mul_pos (pos 0 -ℤ b) (pos 0 -ℤ y) (omega (arith, ints)) (omega (arith, ints)) in let q = ring (b ∷ y ∷ []) ((num (pos 0) ⊖ at 0) ⊗ (num (pos 0) ⊖ at 1)) (at 0 ⊗ at 1) tt in omega (arith, ints))
 
 pub turn-minus : (a b x y : ℤ) → pos 0 <ℤ a → a *ℤ x ≡ b *ℤ y → b <ℤ pos 0 → pos 0 <ℤ y → x <ℤ pos 0
-turn-minus a b x y h e l m = same-minus (a *ℤ x) x (sym (times-sign a x h)) (let p = mul_pos (pos 0 -ℤ b) y (omega (arith, ints)) m in let q = ring (b ∷ y ∷ []) ((num (pos 0) ⊖ at 0) ⊗ at 1) (num (pos 0) ⊖ at 0 ⊗ at 1) tt in omega (arith, ints))
+turn-minus a b x y h e l m = same-minus (a *ℤ x) x (sym (sign-scaled a x h)) (let p = mul_pos (pos 0 -ℤ b) y (omega (arith, ints)) m in let q = ring (b ∷ y ∷ []) ((num (pos 0) ⊖ at 0) ⊗ at 1) (num (pos 0) ⊖ at 0 ⊗ at 1) tt in omega (arith, ints))
 
 -- opposite to both
 pub opposites : (s t d : Vector) → IsDirection s → IsOpposite s t → IsOpposite s d → SameDirection t d
@@ -83,7 +85,7 @@ module _ (n s t d e : Vector) (hn : IsDirection n) (hs : IsDirection s) (ht : Is
   arc-level = kept-nought n d e (k n (inl refl)) o.on_circle.level
 
   last-kept : triple n s d <ℤ pos 0 → triple n s e <ℤ pos 0
-  last-kept h = subst (λ (r : ℤ). r <ℤ pos 0) (sym (triple-last n s e)) (kept-minus (cross n s) d e (k (cross n s) (inr (inl refl))) (subst (λ (r : ℤ). r <ℤ pos 0) (triple-last n s d) h))
+  last-kept h = subst (λ (r : ℤ). r <ℤ pos 0) (sym (triple-dot n s e)) (kept-minus (cross n s) d e (k (cross n s) (inr (inl refl))) (subst (λ (r : ℤ). r <ℤ pos 0) (triple-dot n s d) h))
 
   middle-kept : triple n d t <ℤ pos 0 → triple n e t <ℤ pos 0
   middle-kept h = subst (λ (r : ℤ). r <ℤ pos 0) (sym (triple-middle n e t)) (kept-minus (cross t n) d e (k (cross t n) (inr (inr (inl refl)))) (subst (λ (r : ℤ). r <ℤ pos 0) (triple-middle n d t) h))

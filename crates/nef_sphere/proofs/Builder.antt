@@ -5,11 +5,14 @@ use Rattle.nef_exact.proofs.Ring.{ring, at, num, ◌⊕◌, ◌⊖◌, ◌⊗◌
 use Rattle.nef_exact.proofs.Order.{Sign, minus, nought, plus, sign, by_order}
 use Rattle.nef_space.specs.Vectors.{Vector, IsDirection, cross, dot, SameDirection, IsNormal}
 use Rattle.nef_space.specs.declared.label.Label.{Label}
+use Rattle.nef_near.proofs.Supports.{square-cross}
 use Rattle.nef_sphere.specs.Maps.{At, StrictlyOn, Svertex, Arc, Loop, Map, Item, arc_item, loop_item, items, items_then, item_normal, item_above, item_mark, item_below, way_of, OnItem, IsFree, Shaped}
 use Rattle.nef_sphere.specs.Least.{by_side}
 use Rattle.nef_sphere.specs.Labelling.{Labelling, Near, Plain, Agrees, StraightAt, IsSmooth, plain, straight}
 use Rattle.nef_sphere.specs.Builds.{StraightAfter, Proper, IsBuilt}
-use Rattle.nef_sphere.proofs.Vectors.{Decided, nought-or, normal-direction}
+use Rattle.nef_sphere.proofs.Vectors.{normal-direction}
+use Rattle.nef_near.proofs.Decided.{Decided}
+use Rattle.nef_forms.proofs.Far.{nought-or}
 use Rattle.nef_sphere.proofs.Generic.{amount}
 use Rattle.nef_sphere.proofs.Lists.{Found, search_list, at-one}
 use Rattle.nef_sphere.proofs.Places.{StrictlyOn-decided}
@@ -199,13 +202,10 @@ module _ (gs : List Vector) (F : Vector → Label → Type 0) (L : Labelling gs 
       back-labels : (w : Vector) → StrictlyOn (away n) d s w → StraightAt F (away n) b m a w
       back-labels w o =
           let c = cross (away n) d in
-          let q : dot (away n) c ≡ pos 0 = square (away n) d in
+          let q : dot (away n) c ≡ pos 0 = square-cross (away n) d in
           let r = onward gs F L (directed-by gs axial) (far_directed-by gs axial) (away n) b m a proper_turned d c G.direction q (flipped F n a m b d p) in
           let K = amount (cross s (away n) ∷ []) c + r.0 in
           arc-along gs F L (directed-by gs axial) (far_directed-by gs axial) (away n) b m a proper_turned ha d s G.direction hs (level-away d p.level) (level-away s ls) back-smooth K (omega arith) (r.1 K (omega arith)) w o
-        where
-          square : (u w : Vector) → dot u (cross u w) ≡ pos 0
-          square u w = ring (u.x ∷ u.y ∷ u.z ∷ w.x ∷ w.y ∷ w.z ∷ []) (at 0 ⊗ (at 1 ⊗ at 5 ⊖ at 2 ⊗ at 4) ⊕ at 1 ⊗ (at 2 ⊗ at 3 ⊖ at 0 ⊗ at 5) ⊕ at 2 ⊗ (at 0 ⊗ at 4 ⊖ at 1 ⊗ at 3)) (num (pos 0)) tt
 
       after : StraightAfter F n a m b s
       after = (

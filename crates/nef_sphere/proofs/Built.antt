@@ -8,11 +8,13 @@ use Rattle.nef_space.specs.declared.label.Label.{Label}
 use Rattle.nef_sphere.specs.Maps.{Svertex, Map, items, item_normal, item_above, item_mark, item_below, IsFree, Side, around_svertex, above_item, below_item, whole, HasSide, IsClear, Reaches, Sees, directly, by_way_of, MapLabel, at_svertex, on_item, seen, InOneSface, here, link, Shaped, Valid}
 use Rattle.nef_sphere.specs.Least.{by_side}
 use Rattle.nef_sphere.specs.Labelling.{Labelling, Near, Agrees}
-use Rattle.nef_sphere.proofs.Vectors.{Decided, dot-comm, nought-decided}
+use Rattle.nef_near.proofs.Decided.{Decided}
+use Rattle.nef_forms.proofs.Directions.{dot-comm, zero-decided}
 use Rattle.nef_sphere.proofs.Generic.{amount}
 use Rattle.nef_sphere.proofs.Lists.{at-one}
 use Rattle.nef_sphere.proofs.Forms.{on-level}
-use Rattle.nef_sphere.proofs.Parallel.{apart, parallel-trans, cross-turned}
+use Rattle.nef_sphere.proofs.Parallel.{apart, parallel-trans}
+use Rattle.nef_near.proofs.FlatDecided.{cross-turned}
 use Rattle.nef_sphere.proofs.Direct.{cross-between}
 use Rattle.nef_sphere.proofs.StepOff.{blend-turned}
 use Rattle.nef_sphere.proofs.Labels.{way-signs, way-direction, label-exists}
@@ -81,7 +83,7 @@ module _ (gs : List Vector) (F : Vector → Label → Type 0) (L : Labelling gs 
       let q = at-one (items M) k z x b h in
       let f = apart (item_normal z) a y (λ w. omega (arith, ints)) (on-level M z y on) c.direction in
       from_near a y c f m (subst (Near F y a) (ap (by_side (item_above z) (item_mark z) (item_below z)) (sign-minus (dot (item_normal z) a) l) ∙ ap item_below q ∙ e) (A.beside k z y a b on (cross-direction_turned a y f)))
-  reached a y c (around_svertex k) m (v, h, e) (u, b, w) = by (nought-decided (cross a y))
+  reached a y c (around_svertex k) m (v, h, e) (u, b, w) = by (zero-decided (cross a y))
     where
       by : Decided (IsZero (cross a y)) → F a m
       by (inl z) = along (beside y a c.direction c.start.direction (cross-turned a y z))

@@ -13,9 +13,10 @@ use Rattle.nef_sphere.specs.Forms.{SameSigns, axes, forms}
 use Rattle.nef_sphere.specs.Least.{by_side, NearPlain, NearStraight, Least, Cone}
 use Rattle.nef_sphere.specs.Labelling.{Labelling, Near, IsSmooth, plain, straight, ByOp}
 use Rattle.nef_sphere.specs.Builds.{IsBuilt, Kept}
-use Rattle.nef_sphere.proofs.Vectors.{nought-or, nought-decided}
+use Rattle.nef_forms.proofs.Far.{nought-or}
+use Rattle.nef_forms.proofs.Directions.{zero-decided}
 use Rattle.nef_sphere.proofs.Generic.{amount, far-keeps, far-level}
-use Rattle.nef_sphere.proofs.Lists.{lies-left, lies-right}
+use Rattle.nef_exact.proofs.Lists.{lies-left, lies-right}
 use Rattle.nef_sphere.proofs.Forms.{axes-forms}
 use Rattle.nef_sphere.proofs.KindFlats.{in-span}
 use Rattle.nef_sphere.proofs.Built.{agrees-valid, agrees-label, label-agrees}
@@ -58,7 +59,7 @@ module _ (gs : List Vector) (F : Vector → Label → Type 0) (L : Labelling gs 
   plain-labels : (d : Vector) → IsDirection d → NearPlain M d → IsSmooth F d
   plain-labels d h P =
       let a = (built-labels d P.label h).0 P.at_d in
-      plain P.label (record { at_d = a; near = λ e. ⊎_elim (λ z. near-parallel d e P.label h z a) (λ f. near-labels d e P.label h (P.near e f)) (nought-decided (cross d e)) })
+      plain P.label (record { at_d = a; near = λ e. ⊎_elim (λ z. near-parallel d e P.label h z a) (λ f. near-labels d e P.label h (P.near e f)) (zero-decided (cross d e)) })
 
   straight-labels : (d : Vector) → IsDirection d → NearStraight M d → IsSmooth F d
   straight-labels d h P =
@@ -68,7 +69,7 @@ module _ (gs : List Vector) (F : Vector → Label → Type 0) (L : Labelling gs 
         at_d = a;
         near = λ e. ⊎_elim
             (λ z. subst (Near F d e) (ap (by_side P.above P.label P.below) (sym (ap sign (in-span P.normal d e h z P.level)))) (near-parallel d e P.label h z a))
-            (λ f. near-labels d e (by_side P.above P.label P.below (sign (dot P.normal e))) h (P.near e f)) (nought-decided (cross d e));
+            (λ f. near-labels d e (by_side P.above P.label P.below (sign (dot P.normal e))) h (P.near e f)) (zero-decided (cross d e));
       })
 
   pub built-least : ((k : ℕ) (v : Svertex) → At M.svertices k v → IsSmooth F v.way → ⊥) → Least M

@@ -9,9 +9,11 @@ use Rattle.nef_space.specs.declared.label.Label.{Label}
 use Rattle.nef_sphere.specs.Vectors.{comb}
 use Rattle.nef_sphere.specs.Maps.{At, Svertex, Map, Item, items, item_normal, item_above, item_mark, item_below, OnItem, IsFree, MapLabel, at_svertex, on_item, NearLabel, Valid}
 use Rattle.nef_sphere.specs.Least.{by_side, NearPlain, NearStraight, Least, SameLabels}
-use Rattle.nef_sphere.proofs.Parallel.{cross-turned}
+use Rattle.nef_near.proofs.FlatDecided.{cross-turned}
 use Rattle.nef_sphere.proofs.Shot.{product-off}
-use Rattle.nef_sphere.proofs.Vectors.{normal-is, normal-direction, dot-comb, dot-comm, nought-or, nought-decided, self-pos}
+use Rattle.nef_sphere.proofs.Vectors.{normal-is, normal-direction, dot-comb}
+use Rattle.nef_forms.proofs.Far.{nought-or}
+use Rattle.nef_forms.proofs.Directions.{dot-comm, zero-decided, self-pos}
 use Rattle.nef_sphere.proofs.Forms.{on-direction, PlaceOf, svertex_place, item_place, free_place, place_of}
 use Rattle.nef_sphere.proofs.Labels.{label-direction, way-joined, label-exists, label-unique, near-unique}
 use Rattle.nef_sphere.proofs.Around.{turn-minus, Beside, same_way, other_way, beside, on_item-off_svertices}
@@ -194,7 +196,7 @@ module _ (M N : Map) (V : Valid M) (W : Valid N) (L : Least M) (K : Least N) (s 
         let e = down-is n across in
         let z : dot m back ≡ pos 0 = omega (arith, ints) in
         let v = there-below back (item_mark y) (omega (arith, ints)) (near_there back nought (ap sign z)) in
-        L.items_differ i x a (u ∙ sym marks) (v ∙ sym marks))) (nought-decided (cross n m))
+        L.items_differ i x a (u ∙ sym marks) (v ∙ sym marks))) (zero-decided (cross n m))
 
     same-way : SameDirection n m
     same-way = by (beside n m (normal-is V.shaped i x a) (normal-is W.shaped j y b) parallel)

@@ -11,13 +11,15 @@ use Rattle.nef_space.specs.Local.{Germ, Flat, FlatDim, HasFlat}
 use Rattle.nef_near.proofs.Germs.{Germ-unique, label-one}
 use Rattle.nef_near.proofs.Decided.{germ_of}
 use Rattle.nef_near.proofs.Flats.{FlatCone-from_flat, Flat-from_cone}
-use Rattle.nef_sphere.proofs.StillGerms.{germ-nought}
+use Rattle.nef_near.proofs.Rays.{Germ-zero}
 use Rattle.nef_sphere.specs.Vectors.{comb}
 use Rattle.nef_sphere.specs.Maps.{Map, MapLabel}
 use Rattle.nef_sphere.specs.Least.{Least, Cone}
 use Rattle.nef_sphere.specs.Kinds.{Full, FlatMap, IsInVolume, IsInFacet, IsOnEdge}
-use Rattle.nef_sphere.proofs.Vectors.{nought-decided, self-pos, dot-comm, dot-nought, normal-is}
-use Rattle.nef_sphere.proofs.Parallel.{apart, parallel-trans, cross-turned, circle-point}
+use Rattle.nef_sphere.proofs.Vectors.{normal-is}
+use Rattle.nef_forms.proofs.Directions.{zero-decided, self-pos, dot-comm, dot-zero}
+use Rattle.nef_sphere.proofs.Parallel.{apart, parallel-trans, circle-point}
+use Rattle.nef_near.proofs.FlatDecided.{cross-turned}
 use Rattle.nef_sphere.proofs.Direct.{cross-self}
 use Rattle.nef_sphere.proofs.Labels.{label-direction, label-unique}
 use Rattle.nef_sphere.proofs.Arcs.{at-loop}
@@ -27,14 +29,14 @@ use Rattle.nef_sphere.proofs.KindLaws.{KindOf, flat-kind, edge-flat, edge-only}
 module _ (M : Map) (s : Set) (p : Place) (C : Cone M s p) where
   -- the map's labels are the germs, toward nought too
   germ-full : (e : Vector) (m : Label) → Full M e m → Germ s p e m
-  germ-full e m (inl z) = let g = germ_of s p e in subst (Germ s p e) (label-one s p g.0 M.mark (germ-nought s p e g.0 z.0 g.1) C.mark ∙ z.1) g.1
+  germ-full e m (inl z) = let g = germ_of s p e in subst (Germ s p e) (label-one s p g.0 M.mark ((Germ-zero s p e g.0 z.0).0 g.1) C.mark ∙ z.1) g.1
   germ-full e m (inr l) = let x = C.labels e (label-direction M e m l) in subst (Germ s p e) (label-unique M C.valid e x.0 m x.1 l) x.2
 
   full-germ : (e : Vector) (m : Label) → Germ s p e m → Full M e m
   full-germ e m g = ⊎_elim
-      (λ z. inl (z, label-one s p M.mark m C.mark (germ-nought s p e m z g)))
+      (λ z. inl (z, label-one s p M.mark m C.mark ((Germ-zero s p e m z).0 g)))
       (λ f. let x = C.labels e f in inr (subst (λ (r : Label). MapLabel M e r) (Germ-unique s p e x.0 m x.2 g) x.1))
-      (nought-decided e)
+      (zero-decided e)
 
   pub map-flat : (d : Vector) → Flat s p d → FlatMap M d
   map-flat d f e b a sb m =
@@ -87,7 +89,7 @@ module _ (M : Map) (s : Set) (p : Place) (C : Cone M s p) where
   edge-dimension L d K = ((d, hd, flat-map d (edge-flat M C.valid d K)), none)
     where
       hd : IsDirection d
-      hd z = let o = K.opposite in let b = o.backward in let e = dot-nought K.first.way K.second.way (subst IsZero (sym K.named) z) in omega (arith, ints)
+      hd z = let o = K.opposite in let b = o.backward in let e = dot-zero K.first.way K.second.way (subst IsZero (sym K.named) z) in omega (arith, ints)
 
       none : HasFlat s p 2 → ⊥
       none (e, f, t, x, y) = t (parallel-trans e d f hd (cross-turned d e (edge-only M C.valid L d K e (map-flat e x))) (edge-only M C.valid L d K f (map-flat f y)))

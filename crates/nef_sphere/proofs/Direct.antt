@@ -2,18 +2,21 @@
 use Rattle.std.proofs.Common.{◌≡◌, ℕ, ◌<◌, ℤ, pos, ◌+ℤ◌, ◌-ℤ◌, ◌*ℤ◌, ◌<ℤ◌, arith, refl, ap, sym, ◌∙◌, inl, inr, ⊎_elim, List, [], ◌∷◌, ◌++◌}
 use Rattle.std.proofs.lemmas.Int.{ints}
 use Rattle.nef_exact.proofs.Ring.{ring, at, num, ◌⊕◌, ◌⊖◌, ◌⊗◌}
-use Rattle.nef_exact.proofs.Order.{sign, by_order}
+use Rattle.nef_exact.proofs.Order.{sign, by_order, sign-scaled}
 use Rattle.nef_exact.specs.Signs.{Lies}
 use Rattle.nef_space.specs.Vectors.{Vector, IsDirection, cross, dot, IsZero, SameDirection, blend}
 use Rattle.nef_space.specs.declared.label.Label.{Label}
 use Rattle.nef_sphere.specs.Vectors.{comb}
 use Rattle.nef_sphere.specs.Maps.{At, Svertex, Map, Item, items, item_normal, item_above, item_below, OnItem, IsFree, Side, above_item, below_item, HasSide, IsClear, Reaches, Shaped}
-use Rattle.nef_sphere.proofs.Vectors.{normal-is, dot-comb, comb-dot, nought-or, square_pos, direction-by}
+use Rattle.nef_sphere.proofs.Vectors.{normal-is, dot-comb, comb-dot, direction-by}
+use Rattle.nef_forms.proofs.Far.{nought-or}
+use Rattle.nef_forms.proofs.Directions.{square_pos}
 use Rattle.nef_sphere.proofs.Generic.{Keeps, Generic, generic}
-use Rattle.nef_sphere.proofs.Lists.{lies-left, lies-right, gather, gather-has}
+use Rattle.nef_sphere.proofs.Lists.{gather, gather-has}
+use Rattle.nef_exact.proofs.Lists.{lies-left, lies-right}
 use Rattle.nef_sphere.proofs.Forms.{item_forms, on-direction, on-level, OnItem-stays}
 use Rattle.nef_sphere.proofs.Parallel.{apart, miss}
-use Rattle.nef_sphere.proofs.Shot.{times-sign, product-off, item-point, Target, Shot, shoot}
+use Rattle.nef_sphere.proofs.Shot.{product-off, item-point, Target, Shot, shoot}
 
 -- ---- between d and c
 pub IsZero-times : (k : ℤ) (d : Vector) → pos 0 <ℤ k → (k *ℤ d.x ≡ pos 0) → (k *ℤ d.y ≡ pos 0) → (k *ℤ d.z ≡ pos 0) → IsZero d
@@ -130,7 +133,7 @@ module _ (M : Map) (V : Shaped M) (d : Vector) (k : ℕ) (x : Item) (here : At (
       kept g l h =
           let a = slid_form-at n d g y (on-level M x y o) in
           ap sign (slid-is n d g e.vector) ∙ e.keeps (slid_form n d g) (slide-in g l) (λ z. product-off (dot n d *ℤ dot n d) (dot g y) square h (sym a ∙ z))
-          ∙ ap sign a ∙ times-sign (dot n d *ℤ dot n d) (dot g y) square
+          ∙ ap sign a ∙ sign-scaled (dot n d *ℤ dot n d) (dot g y) square
 
   shot : Shot M d (items M)
   shot = let y = item-point M V k x here in let e = generic avoided y.0 in

@@ -11,8 +11,8 @@ use Rattle.nef_near.proofs.Germs.{Germ-unique, label-one}
 use Rattle.nef_sphere.specs.Vectors.{IsPrimitive, VectorBelow}
 use Rattle.nef_sphere.specs.Maps.{At, Svertex, Arc, Loop, Map, arc_item, loop_item, way_of, MapLabel, Valid}
 use Rattle.nef_sphere.specs.Least.{Least, SameLabels, MatchedArc, Within, ArcBelow, InOrder, Ordered, Cone}
-use Rattle.nef_sphere.proofs.Vectors.{self-pos}
-use Rattle.nef_sphere.proofs.Parallel.{vector-same}
+use Rattle.nef_forms.proofs.Directions.{self-pos}
+use Rattle.nef_near.proofs.Flats.{vector-same}
 use Rattle.nef_sphere.proofs.Labels.{label-direction, label-unique, way-direction}
 use Rattle.nef_sphere.proofs.Compare.{scaled-coordinates, labels-turned, SameDirection-turned}
 use Rattle.nef_sphere.proofs.Arcs.{Ends, ends-of, at-arc, at-loop}

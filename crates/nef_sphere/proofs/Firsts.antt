@@ -6,9 +6,12 @@ use Rattle.nef_exact.proofs.Order.{by_order, mul_pos, mul_nonneg}
 use Rattle.nef_space.specs.Vectors.{Vector, IsDirection, cross, triple, dot, SameDirection, IsOpposite}
 use Rattle.nef_sphere.proofs.Turning.{turns}
 use Rattle.nef_sphere.specs.Maps.{At, StrictlyOn}
-use Rattle.nef_sphere.proofs.Vectors.{Decided, dot-comm, self-pos, dot-nought, same-plus, same-minus}
+use Rattle.nef_sphere.proofs.Vectors.{same-plus, same-minus}
+use Rattle.nef_near.proofs.Decided.{Decided}
+use Rattle.nef_forms.proofs.Directions.{dot-comm, self-pos, dot-zero}
 use Rattle.nef_sphere.proofs.Places.{StrictlyOn-decided, SameDirection-decided}
-use Rattle.nef_sphere.proofs.Parallel.{cross-turned, parallel-in_plane}
+use Rattle.nef_sphere.proofs.Parallel.{parallel-in_plane}
+use Rattle.nef_near.proofs.FlatDecided.{cross-turned}
 use Rattle.nef_sphere.proofs.Around.{Beside, same_way, other_way, beside, opposites, triple-turned, opposite-triple, turn-minus}
 use Rattle.nef_sphere.proofs.Compare.{SameDirection-turned, SameDirection-trans, way-self}
 use Rattle.nef_sphere.proofs.Turn.{turn-last, ends-together}
@@ -85,13 +88,13 @@ module _ (n s t : Vector) (hn : IsDirection n) (hs : IsDirection s) (ht : IsDire
 
       not_target : SameDirection t e → ⊥
       not_target w = by_order (triple n s t) (pos 0)
-          (λ l. let x = late l (let y = same-minus (triple n s t) (triple n s e) (turn-last n s t e w) l in omega (arith, ints)) in let y = dot-nought n (cross e t) (cross-turned t e w.parallel) in omega (arith, ints))
+          (λ l. let x = late l (let y = same-minus (triple n s t) (triple n s e) (turn-last n s t e w) l in omega (arith, ints)) in let y = dot-zero n (cross e t) (cross-turned t e w.parallel) in omega (arith, ints))
           (λ z. by (beside s t hs ht (parallel-in_plane n s t hn ls lt z)))
-          (λ l. let x = (less l).1 in let y = dot-nought n (cross e t) (cross-turned t e w.parallel) in omega (arith, ints))
+          (λ l. let x = (less l).1 in let y = dot-zero n (cross e t) (cross-turned t e w.parallel) in omega (arith, ints))
         where
           by : Beside s t → ⊥
           by (same_way v) = p.not_source (SameDirection-trans s t e v w)
-          by (other_way v) = let x = half v in let y = same-plus (triple n s e) (triple n s t) (sym (turn-last n s t e w)) x in let z = dot-nought n (cross s t) v.parallel in omega (arith, ints)
+          by (other_way v) = let x = half v in let y = same-plus (triple n s e) (triple n s t) (sym (turn-last n s t e w)) x in let z = dot-zero n (cross s t) v.parallel in omega (arith, ints)
 
 -- ---- the first of a list
 pub record First (n s : Vector) (xs : List Vector) : Type 0 where
@@ -161,7 +164,7 @@ module _ (n s u : Vector) (hn : IsDirection n) (hs : IsDirection s) (hu : IsDire
       half : IsOpposite u d → pos 0 <ℤ triple n u s
       half w = let f = triple-turned n u s in by_order (triple n s u) (pos 0) (λ l. omega (arith, ints))
           (λ z. let v = opp z in absurd (o.not_source (opposites u s d hu (record { parallel = cross-turned s u v.parallel; backward = let e = dot-comm u s in let b = v.backward in omega (arith, ints) }) w)))
-          (λ l. let x = (o.less_than_half l).1 in let y = dot-nought n (cross d u) (cross-turned u d w.parallel) in absurd (omega (arith, ints)))
+          (λ l. let x = (o.less_than_half l).1 in let y = dot-zero n (cross d u) (cross-turned u d w.parallel) in absurd (omega (arith, ints)))
 
 -- arcs of one circle that share a direction, where none holds the source of the other, begin together
 pub begin-together : (n s t u v d : Vector) → IsDirection n → IsDirection s → IsDirection t → IsDirection u → IsDirection v → dot n s ≡ pos 0 → dot n t ≡ pos 0 → dot n u ≡ pos 0 → dot n v ≡ pos 0

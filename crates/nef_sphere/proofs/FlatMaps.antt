@@ -3,7 +3,7 @@ use Rattle.std.proofs.Common.{◌≡◌, ℕ, ◌+◌, ◌*◌, ◌<◌, ◌≤�
 use Rattle.std.proofs.lemmas.Int.{ints, unsigned_abs-mul}
 use Rattle.std.proofs.lemmas.Nat.{mul-le}
 use Rattle.nef_exact.proofs.Ring.{ring, at, num, ◌⊕◌, ◌⊖◌, ◌⊗◌}
-use Rattle.nef_exact.proofs.Order.{sign, sign-plus, sign-minus, by_order, mul_le_right}
+use Rattle.nef_exact.proofs.Order.{sign, sign-plus, sign-minus, by_order, mul_le_right, sign-scaled}
 use Rattle.nef_space.specs.Vectors.{Vector, IsDirection, cross, dot, IsZero, blend}
 use Rattle.nef_space.specs.declared.label.Label.{Label}
 use Rattle.nef_sphere.specs.Vectors.{comb}
@@ -11,11 +11,13 @@ use Rattle.nef_sphere.specs.Maps.{At, Svertex, Map, MapLabel, NearLabel, Valid}
 use Rattle.nef_sphere.specs.Forms.{SameSigns, forms}
 use Rattle.nef_sphere.specs.Least.{by_side, NearStraight, Least}
 use Rattle.nef_sphere.specs.Kinds.{Full, FlatMap}
-use Rattle.nef_sphere.proofs.Vectors.{dot-comb, dot-comm, nought-or, self-pos, nought-decided}
+use Rattle.nef_sphere.proofs.Vectors.{dot-comb}
+use Rattle.nef_forms.proofs.Far.{nought-or}
+use Rattle.nef_forms.proofs.Directions.{dot-comm, self-pos, zero-decided}
 use Rattle.nef_sphere.proofs.Generic.{amount, amount-above, far-keeps, far-level}
 use Rattle.nef_sphere.proofs.Forms.{direction-by_signs}
-use Rattle.nef_sphere.proofs.Parallel.{vector-same, apart}
-use Rattle.nef_sphere.proofs.Shot.{times-sign}
+use Rattle.nef_sphere.proofs.Parallel.{apart}
+use Rattle.nef_near.proofs.Flats.{vector-same}
 use Rattle.nef_sphere.proofs.Direct.{cross-self}
 use Rattle.nef_sphere.proofs.Labels.{label-exists, label-unique, label-by_signs, near-from_far, far-from_near, near-exists, near-unique}
 use Rattle.nef_sphere.proofs.Walk.{cross-direction_left, between-direction}
@@ -33,14 +35,14 @@ flat-back M d F e b a sb m h l = full-label M e m h ((F e b a sb m).1 (inr l))
 
 -- a positive multiple
 pub scaled-signs : (gs : List Vector) (e : Vector) (k : ℕ) → 0 < k → SameSigns gs e (comb (pos k) e (pos 0) e)
-scaled-signs gs e k h g l = ap sign (dot-comb g (pos k) e (pos 0) e ∙ ring (pos k ∷ dot g e ∷ []) (at 0 ⊗ at 1 ⊕ num (pos 0) ⊗ at 1) (at 0 ⊗ at 1) tt) ∙ times-sign (pos k) (dot g e) (omega (arith, ints))
+scaled-signs gs e k h g l = ap sign (dot-comb g (pos k) e (pos 0) e ∙ ring (pos k ∷ dot g e ∷ []) (at 0 ⊗ at 1 ⊕ num (pos 0) ⊗ at 1) (at 0 ⊗ at 1) tt) ∙ sign-scaled (pos k) (dot g e) (omega (arith, ints))
 
 -- a v + c f for large a has the signs of v, and where those are nought of f
 module _ (gs : List Vector) (v f : Vector) (a c : ℕ) (sc : 0 < c) (large : c * amount gs f ≤ a) where
   far-scaled : SameSigns gs (blend (amount gs f) v 1 f) (blend a v c f)
   far-scaled g l = ⊎_elim
       (λ z. ap sign (dot-comb g (pos a) v (pos c) f ∙ ap (λ r. pos a *ℤ r +ℤ pos c *ℤ dot g f) z ∙ ring (pos a ∷ pos c ∷ dot g f ∷ []) (at 0 ⊗ num (pos 0) ⊕ at 1 ⊗ at 2) (at 1 ⊗ at 2) tt)
-      ∙ times-sign (pos c) (dot g f) (omega (arith, ints)) ∙ sym (far-level gs v f (amount gs f) (omega arith) g z))
+      ∙ sign-scaled (pos c) (dot g f) (omega (arith, ints)) ∙ sym (far-level gs v f (amount gs f) (omega arith) g z))
       (λ n. ap sign (dot-comb g (pos a) v (pos c) f) ∙ big n ∙ sym (far-keeps gs v f (amount gs f) (omega arith) g l n)) (nought-or (dot g v))
     where
       big : (dot g v ≡ pos 0 → ⊥) → sign (pos a *ℤ dot g v +ℤ pos c *ℤ dot g f) ≡ sign (dot g v)
@@ -164,7 +166,7 @@ module _ (M : Map) (V : Valid M) (d : Vector) (F : FlatMap M d) (v : Vector) (of
   near-level e z m a =
       let s = (total-is e e 0 split).1 in
       let t = total e e 0 split in
-      let same : SameSigns (forms M) v (blend t v 0 e) = λ g l. ap sign (dot-comb g (pos t) v (pos 0) e ∙ ring (pos t ∷ dot g v ∷ dot g e ∷ []) (at 0 ⊗ at 1 ⊕ num (pos 0) ⊗ at 2) (at 0 ⊗ at 1) tt) ∙ times-sign (pos t) (dot g v) (omega (arith, ints)) in
+      let same : SameSigns (forms M) v (blend t v 0 e) = λ g l. ap sign (dot-comb g (pos t) v (pos 0) e ∙ ring (pos t ∷ dot g v ∷ dot g e ∷ []) (at 0 ⊗ at 1 ⊕ num (pos 0) ⊗ at 2) (at 0 ⊗ at 1) tt) ∙ sign-scaled (pos t) (dot g v) (omega (arith, ints)) in
       let w = shifted e e 0 split m (direction-by_signs M v (blend t v 0 e) same hv) a in
       label-by_signs M V (blend t v 0 e) v (λ g l. sym (same g l)) m w
     where
@@ -215,4 +217,4 @@ module _ (M : Map) (V : Valid M) (d : Vector) (F : FlatMap M d) (v : Vector) (of
 -- ---- least maps
 module _ (M : Map) (V : Valid M) (L : Least M) (d : Vector) (F : FlatMap M d) where
   pub flat-svertex : (k : ℕ) (v : Svertex) → At M.svertices k v → IsZero (cross v.way d)
-  flat-svertex k v a = ⊎_elim (λ z. z) (λ f. absurd (L.no_straight k v a (flat-straight M V d F v.way f))) (nought-decided (cross v.way d))
+  flat-svertex k v a = ⊎_elim (λ z. z) (λ f. absurd (L.no_straight k v a (flat-straight M V d F v.way f))) (zero-decided (cross v.way d))

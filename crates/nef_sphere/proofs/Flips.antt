@@ -11,8 +11,12 @@ use Rattle.nef_sphere.specs.Maps.{OnCircle, StrictlyOn}
 use Rattle.nef_sphere.specs.Forms.{SameSigns, axes}
 use Rattle.nef_sphere.specs.Least.{by_side}
 use Rattle.nef_sphere.specs.Labelling.{Labelling, Near, StraightAt, IsSmooth}
-use Rattle.nef_sphere.proofs.Vectors.{Decided, dot-comb, comb-dot, dot-comm, self-pos, nought-decided, nought-if, nought-dot, same-nought}
-use Rattle.nef_sphere.proofs.Parallel.{cross-turned, apart, parallel-trans}
+use Rattle.nef_sphere.proofs.Vectors.{dot-comb, comb-dot, nought-if}
+use Rattle.nef_near.proofs.Decided.{Decided}
+use Rattle.nef_forms.proofs.Far.{same-nought}
+use Rattle.nef_forms.proofs.Directions.{dot-comm, self-pos, zero-decided, zero-dot}
+use Rattle.nef_sphere.proofs.Parallel.{apart, parallel-trans}
+use Rattle.nef_near.proofs.FlatDecided.{cross-turned}
 use Rattle.nef_sphere.proofs.Generic.{amount, far-keeps}
 use Rattle.nef_sphere.proofs.Places.{direction-stays}
 use Rattle.nef_sphere.proofs.Labels.{way-signs}
@@ -40,7 +44,7 @@ triple-away : (n a b : Vector) → triple (away n) a b ≡ triple n b a
 triple-away n a b = dot-away n (cross a b) ∙ sym (triple-turned n b a)
 
 pub away-direction : (n : Vector) → IsDirection n → IsDirection (away n)
-away-direction n h z = let e = dot-away n n in let p = self-pos n h in let q = nought-dot (away n) n z in omega (arith, ints)
+away-direction n h z = let e = dot-away n n in let p = self-pos n h in let q = zero-dot (away n) n z in omega (arith, ints)
 
 pub reversed : (n s t w : Vector) → IsDirection s → StrictlyOn n s t w → StrictlyOn (away n) t s w
 reversed n s t w hs o = record {
@@ -103,7 +107,7 @@ module _ (gs : List Vector) (axial : Axial gs) where
 module _ (gs : List Vector) (F : Vector → Label → Type 0) (L : Labelling gs F) (axial : Axial gs) (n : Vector) (a m b : Label) (proper : a ≡ m → b ≡ m → ⊥) (hn : IsDirection n) where
   -- two planes through d, of which one is needed, are parallel
   pub planes-parallel : (u : Vector) (c l g : Label) (d : Vector) → IsDirection d → StraightAt F n a m b d → StraightAt F u c l g d → IsZero (cross n u)
-  planes-parallel u c l g d hd p q = ⊎_elim (λ z. z) (λ f. absurd (by f)) (nought-decided (cross n u))
+  planes-parallel u c l g d hd p q = ⊎_elim (λ z. z) (λ f. absurd (by f)) (zero-decided (cross n u))
     where
       level : dot u (comb (dot u u) n (pos 0 -ℤ dot n u) u) ≡ pos 0
       level = dot-comb u (dot u u) n (pos 0 -ℤ dot n u) u ∙ ap (λ r. dot u u *ℤ r +ℤ (pos 0 -ℤ dot n u) *ℤ dot u u) (dot-comm u n) ∙ ring (dot u u ∷ dot n u ∷ []) (at 0 ⊗ at 1 ⊕ (num (pos 0) ⊖ at 1) ⊗ at 0) (num (pos 0)) tt
@@ -136,7 +140,7 @@ module _ (gs : List Vector) (F : Vector → Label → Type 0) (L : Labelling gs 
   pub loop-along : ((d : Vector) → OnCircle n d → IsSmooth F d) → (y : Vector) → IsDirection y → StraightAt F n a m b y → (d : Vector) → OnCircle n d → StraightAt F n a m b d
   loop-along smooth y hy p d o = ⊎_elim
       (λ z. by (beside y d hy o.direction z))
-      (λ f. go y d f o p) (nought-decided (cross y d))
+      (λ f. go y d f o p) (zero-decided (cross y d))
     where
       level-blend : (d e : Vector) (i j : ℕ) → dot n d ≡ pos 0 → dot n e ≡ pos 0 → dot n (blend i d j e) ≡ pos 0
       level-blend d e i j p q = dot-comb n (pos i) d (pos j) e ∙ ap (λ r. pos i *ℤ r +ℤ pos j *ℤ dot n e) p ∙ ap (λ r. pos i *ℤ pos 0 +ℤ pos j *ℤ r) q ∙ ring (pos i ∷ pos j ∷ []) (at 0 ⊗ num (pos 0) ⊕ at 1 ⊗ num (pos 0)) (num (pos 0)) tt

@@ -2,10 +2,12 @@
 use Rattle.std.proofs.Common.{◌≡◌, ℕ, pos, refl, sym, ◌⊎◌, inl, inr, List, ◌++◌}
 use Rattle.nef_exact.specs.Signs.{Lies}
 use Rattle.nef_space.specs.Vectors.{Vector, IsDirection, dot, SameDirection}
-use Rattle.nef_sphere.proofs.Lists.{lies-left, lies-right, Found, search_list, gather, gather-has}
+use Rattle.nef_sphere.proofs.Lists.{Found, search_list, gather, gather-has}
+use Rattle.nef_exact.proofs.Lists.{lies-left, lies-right}
 use Rattle.nef_sphere.specs.Maps.{At, Svertex, Map, Item, arc_item, loop_item, items, item_normal, way_of, OnItem, IsFree}
 pub use Rattle.nef_sphere.specs.Forms.{item_forms, forms}
-use Rattle.nef_sphere.proofs.Vectors.{Decided, same-nought}
+use Rattle.nef_near.proofs.Decided.{Decided}
+use Rattle.nef_forms.proofs.Far.{same-nought}
 use Rattle.nef_sphere.proofs.Generic.{SameSigns, Keeps}
 use Rattle.nef_sphere.proofs.Places.{direction-decided, SameDirection-decided, OnCircle-decided, StrictlyOn-decided, axes, point_forms, same-keeps, direction-stays, SameDirection-back, StrictlyOn-stays, OnCircle-stays}
 

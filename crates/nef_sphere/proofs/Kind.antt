@@ -10,9 +10,12 @@ use Rattle.nef_sphere.specs.Maps.{At, Loop, Map, Item, loop_item, items, item_no
 use Rattle.nef_sphere.specs.Forms.{SameSigns, forms}
 use Rattle.nef_sphere.specs.Least.{by_side, Least}
 use Rattle.nef_sphere.specs.Kinds.{Full, FlatMap}
-use Rattle.nef_sphere.proofs.Vectors.{normal-is, dot-comb, nought-or, self-pos, dot-nought}
+use Rattle.nef_sphere.proofs.Vectors.{normal-is, dot-comb}
+use Rattle.nef_forms.proofs.Far.{nought-or}
+use Rattle.nef_forms.proofs.Directions.{self-pos, dot-zero}
 use Rattle.nef_sphere.proofs.Forms.{direction-by_signs, on-direction, on-level}
-use Rattle.nef_sphere.proofs.Parallel.{vector-same, apart, circle-point}
+use Rattle.nef_sphere.proofs.Parallel.{apart, circle-point}
+use Rattle.nef_near.proofs.Flats.{vector-same}
 use Rattle.nef_sphere.proofs.Shot.{product-off}
 use Rattle.nef_sphere.proofs.Labels.{label-by_signs, near-unique}
 use Rattle.nef_sphere.proofs.NearItems.{near-item}
@@ -67,7 +70,7 @@ module _ (M : Map) (V : Valid M) (L : Least M) (d : Vector) (F : FlatMap M d) wh
   pub flat-mark : IsDirection d → MapLabel M d M.mark
   flat-mark h =
       let z : Vector = vector (pos 0) (pos 0) (pos 0) in
-      let s : SameSigns (forms M) d (comb (pos 1) z (pos 1) d) = λ g l. ap sign (dot-comb g (pos 1) z (pos 1) d ∙ ap (λ r. pos 1 *ℤ r +ℤ pos 1 *ℤ dot g d) (dot-nought g z (refl, refl, refl)) ∙ ring (dot g d ∷ []) (num (pos 1) ⊗ num (pos 0) ⊕ num (pos 1) ⊗ at 0) (at 0) tt) in
+      let s : SameSigns (forms M) d (comb (pos 1) z (pos 1) d) = λ g l. ap sign (dot-comb g (pos 1) z (pos 1) d ∙ ap (λ r. pos 1 *ℤ r +ℤ pos 1 *ℤ dot g d) (dot-zero g z (refl, refl, refl)) ∙ ring (dot g d ∷ []) (num (pos 1) ⊗ num (pos 0) ⊕ num (pos 1) ⊗ at 0) (at 0) tt) in
       let f = full-label M (comb (pos 1) z (pos 1) d) M.mark (direction-by_signs M d (comb (pos 1) z (pos 1) d) s h) ((F z 1 (pos 1) (omega arith) M.mark).0 (inl ((refl, refl, refl), refl))) in
       label-by_signs M V (comb (pos 1) z (pos 1) d) d (λ g l. sym (s g l)) M.mark f
 

@@ -2,17 +2,21 @@
 use Rattle.std.proofs.Common.{◌≡◌, ℕ, zero, suc, ◌<◌, ℤ, pos, ◌+ℤ◌, ◌-ℤ◌, ◌*ℤ◌, ◌<ℤ◌, arith, refl, ap, sym, ◌∙◌, ◌⊎◌, inl, inr, ⊎_elim, List, [], ◌∷◌, subst, Option, Some, None}
 use Rattle.std.proofs.lemmas.Int.{ints}
 use Rattle.nef_exact.proofs.Ring.{ring, at, num, ◌⊕◌, ◌⊖◌, ◌⊗◌}
-use Rattle.nef_exact.proofs.Order.{Sign, sign, sign-plus, sign-minus, by_order, mul_pos}
+use Rattle.nef_exact.proofs.Order.{Sign, sign, sign-plus, sign-minus, by_order, mul_pos, sign-scaled}
 use Rattle.nef_space.specs.Vectors.{Vector, IsDirection, cross, triple, dot, IsZero, SameDirection, IsOpposite, blend}
 use Rattle.nef_space.specs.declared.label.Label.{Label}
 use Rattle.nef_sphere.specs.Vectors.{comb}
 use Rattle.nef_sphere.specs.Maps.{At, OnCircle, Svertex, Arc, Loop, Map, Item, arc_item, loop_item, items, item_normal, way_of, OnItem, IsFree, above_item, below_item, IsClear, directly, MapLabel, at_svertex, on_item, seen, Valid}
 use Rattle.nef_sphere.specs.Least.{by_side, Least}
 use Rattle.nef_sphere.specs.Kinds.{Full, FlatMap, IsInVolume, IsInFacet, IsOnEdge}
-use Rattle.nef_sphere.proofs.Vectors.{Decided, normal-is, dot-comb, nought-or, direction-by, dot-nought, nought-decided, triple-last}
+use Rattle.nef_sphere.proofs.Vectors.{normal-is, dot-comb, direction-by}
+use Rattle.nef_near.proofs.Decided.{Decided}
+use Rattle.nef_forms.proofs.Far.{nought-or}
+use Rattle.nef_forms.proofs.Directions.{dot-zero, zero-decided}
 use Rattle.nef_sphere.proofs.Forms.{on-level}
-use Rattle.nef_sphere.proofs.Parallel.{apart, cross-turned, circle-point, parallel-trans}
-use Rattle.nef_sphere.proofs.Shot.{times-sign, arc-at}
+use Rattle.nef_sphere.proofs.Parallel.{apart, circle-point, parallel-trans}
+use Rattle.nef_near.proofs.FlatDecided.{cross-turned, triple-dot}
+use Rattle.nef_sphere.proofs.Shot.{arc-at}
 use Rattle.nef_sphere.proofs.Direct.{between-off_target, IsZero-times}
 use Rattle.nef_sphere.proofs.Labels.{label-direction, label-unique, way-joined}
 use Rattle.nef_sphere.proofs.Around.{Beside, same_way, other_way, beside, opposites}
@@ -31,7 +35,7 @@ pub in-span : (n s q : Vector) → IsDirection s → IsZero (cross s q) → dot 
 in-span n s q h p z = ⊎_elim (λ y. y) (λ f. absurd (h (level-out f))) (nought-or (dot n q))
   where
     level-out : (dot n q ≡ pos 0 → ⊥) → IsZero s
-    level-out f = by (nought-decided s)
+    level-out f = by (zero-decided s)
       where
         by : Decided (IsZero s) → IsZero s
         by (inl y) = y
@@ -46,7 +50,7 @@ volume-flat M V K d e b a sb m = (λ f. all (comb (pos b) e a d) (is_mark e f), 
     is_mark u (inr l) = label-unique M V u M.mark m (ground-label M V M.mark K.same_mark u (label-direction M u m l)) l
 
     all : (u : Vector) → M.mark ≡ m → Full M u m
-    all u q = ⊎_elim (λ z. inl (z, q)) (λ f. inr (subst (λ (r : Label). MapLabel M u r) q (ground-label M V M.mark K.same_mark u f))) (nought-decided u)
+    all u q = ⊎_elim (λ z. inl (z, q)) (λ f. inr (subst (λ (r : Label). MapLabel M u r) q (ground-label M V M.mark K.same_mark u f))) (zero-decided u)
 
 -- ---- facets
 module _ (M : Map) (V : Valid M) (l : Loop) (bare : M.svertices ≡ []) (has : M.loop ≡ Some l) where
@@ -105,16 +109,16 @@ facet-flat M V n K d level e b a sb m = (λ f. all (comb (pos b) e a d) (sym (is
 
     same : sign (dot K.loop.normal (comb (pos b) e a d)) ≡ sign (dot K.loop.normal e)
     same = ap sign (dot-comb K.loop.normal (pos b) e a d ∙ ap (λ r. pos b *ℤ dot K.loop.normal e +ℤ a *ℤ r) flat ∙ ring (pos b ∷ dot K.loop.normal e ∷ a ∷ []) (at 0 ⊗ at 1 ⊕ at 2 ⊗ num (pos 0)) (at 0 ⊗ at 1) tt)
-        ∙ times-sign (pos b) (dot K.loop.normal e) (omega (arith, ints))
+        ∙ sign-scaled (pos b) (dot K.loop.normal e) (omega (arith, ints))
 
     is_side : (u : Vector) → Full M u m → side (sign (dot K.loop.normal u)) ≡ m
-    is_side u (inl z) = ap side (ap sign (dot-nought K.loop.normal u z.0)) ∙ K.same_mark ∙ z.1
+    is_side u (inl z) = ap side (ap sign (dot-zero K.loop.normal u z.0)) ∙ K.same_mark ∙ z.1
     is_side u (inr l) = label-unique M V u _ m (loop-label M V K.loop K.no_svertex K.has_loop u (label-direction M u m l)) l
 
     all : (u : Vector) → m ≡ side (sign (dot K.loop.normal u)) → Full M u m
     all u q = ⊎_elim
-        (λ z. inl (z, sym K.same_mark ∙ ap side (sym (ap sign (dot-nought K.loop.normal u z))) ∙ sym q))
-        (λ f. inr (subst (λ (r : Label). MapLabel M u r) (sym q) (loop-label M V K.loop K.no_svertex K.has_loop u f))) (nought-decided u)
+        (λ z. inl (z, sym K.same_mark ∙ ap side (sym (ap sign (dot-zero K.loop.normal u z))) ∙ sym q))
+        (λ f. inr (subst (λ (r : Label). MapLabel M u r) (sym q) (loop-label M V K.loop K.no_svertex K.has_loop u f))) (zero-decided u)
 
 pub facet-only : (M : Map) → Valid M → Least M → (n : Vector) → IsInFacet M n → (d : Vector) → FlatMap M d → dot n d ≡ pos 0
 facet-only M V L n K d F = ap (λ r. dot r d) (sym K.normal) ∙ flat-loop M V L d F K.loop K.has_loop
@@ -208,8 +212,8 @@ module _ (M : Map) (V : Valid M) (d : Vector) (K : IsOnEdge M d) where
           on_circle = record { direction = cross-direction_right u moved off-moved; level = level };
           not_source = λ w. off-moved (parallel-trans u (way_of M.svertices c.source) moved r.source_direction us w.parallel);
           not_target = λ w. off-moved (parallel-trans u (way_of M.svertices c.target) moved r.target_direction ut w.parallel);
-          less_than_half = λ g. let z = dot-nought c.normal (cross (way_of M.svertices c.source) (way_of M.svertices c.target)) q.parallel in absurd (omega (arith, ints));
-          more_than_half = λ g. let z = dot-nought c.normal (cross (way_of M.svertices c.source) (way_of M.svertices c.target)) q.parallel in absurd (omega (arith, ints));
+          less_than_half = λ g. let z = dot-zero c.normal (cross (way_of M.svertices c.source) (way_of M.svertices c.target)) q.parallel in absurd (omega (arith, ints));
+          more_than_half = λ g. let z = dot-zero c.normal (cross (way_of M.svertices c.source) (way_of M.svertices c.target)) q.parallel in absurd (omega (arith, ints));
           just_half = λ g. half (o.just_half g);
         }
           where
@@ -229,8 +233,8 @@ module _ (M : Map) (V : Valid M) (d : Vector) (K : IsOnEdge M d) where
             half : pos 0 <ℤ triple c.normal (way_of M.svertices c.source) e → pos 0 <ℤ triple c.normal (way_of M.svertices c.source) moved
             half g =
                 let t = cross c.normal (way_of M.svertices c.source) in
-                let z : dot t u ≡ pos 0 = sym (triple-last c.normal (way_of M.svertices c.source) u) ∙ dot-nought c.normal (cross (way_of M.svertices c.source) u) (cross-turned u (way_of M.svertices c.source) us) in
-                let k = triple-last c.normal (way_of M.svertices c.source) moved ∙ dot-comb t (pos b) e a u ∙ ap (λ r. pos b *ℤ dot t e +ℤ a *ℤ r) z ∙ ring (pos b ∷ a ∷ dot t e ∷ []) (at 0 ⊗ at 2 ⊕ at 1 ⊗ num (pos 0)) (at 0 ⊗ at 2) tt ∙ ap (λ r. pos b *ℤ r) (sym (triple-last c.normal (way_of M.svertices c.source) e)) in
+                let z : dot t u ≡ pos 0 = sym (triple-dot c.normal (way_of M.svertices c.source) u) ∙ dot-zero c.normal (cross (way_of M.svertices c.source) u) (cross-turned u (way_of M.svertices c.source) us) in
+                let k = triple-dot c.normal (way_of M.svertices c.source) moved ∙ dot-comb t (pos b) e a u ∙ ap (λ r. pos b *ℤ dot t e +ℤ a *ℤ r) z ∙ ring (pos b ∷ a ∷ dot t e ∷ []) (at 0 ⊗ at 2 ⊕ at 1 ⊗ num (pos 0)) (at 0 ⊗ at 2) tt ∙ ap (λ r. pos b *ℤ r) (sym (triple-dot c.normal (way_of M.svertices c.source) e)) in
                 subst (λ (r : ℤ). pos 0 <ℤ r) (sym k) (mul_pos (pos b) (triple c.normal (way_of M.svertices c.source) e) (omega (arith, ints)) g)
 
     pub off-svertices : (k : ℕ) (v : Svertex) → At M.svertices k v → SameDirection v.way moved → ⊥

@@ -3,18 +3,20 @@ use Rattle.std.proofs.Common.{◌≡◌, ℕ, zero, suc, ◌+◌, ◌*◌, ◌<�
 use Rattle.std.proofs.lemmas.Int.{ints}
 use Rattle.nef_exact.proofs.Ring.{ring, at, num, ◌⊕◌, ◌⊖◌, ◌⊗◌}
 use Rattle.nef_exact.proofs.Combination.{follows, given, none}
-use Rattle.nef_exact.proofs.Order.{sign, mul_neg}
+use Rattle.nef_exact.proofs.Order.{sign, mul_neg, sign-scaled}
 use Rattle.nef_space.specs.Vectors.{Vector, IsDirection, cross, triple, dot, IsZero, SameDirection, IsOpposite, blend}
 use Rattle.nef_space.specs.declared.label.Label.{Label}
 use Rattle.nef_sphere.specs.Vectors.{comb}
 use Rattle.nef_sphere.specs.Maps.{At, Svertex, Loop, Map, loop_item, item_mark, IsFree, IsClear, MapLabel, at_svertex, on_item, NearLabel, Valid}
 use Rattle.nef_sphere.specs.Least.{by_side, NearPlain, NearStraight, Least}
 use Rattle.nef_sphere.specs.Kinds.{Full, FlatMap, IsInVolume, IsInFacet, IsOnEdge}
-use Rattle.nef_sphere.proofs.Vectors.{dot-comb, dot-comm, self-pos, dot-nought, nought-decided, triple-middle, same-minus}
+use Rattle.nef_sphere.proofs.Vectors.{dot-comb, triple-middle, same-minus}
+use Rattle.nef_forms.proofs.Directions.{dot-comm, self-pos, dot-zero, zero-decided}
 use Rattle.nef_sphere.proofs.Lists.{search_list, at-one}
 use Rattle.nef_sphere.proofs.Forms.{PlaceOf, svertex_place, item_place, free_place, place_of, OnItem-by_signs}
-use Rattle.nef_sphere.proofs.Parallel.{vector-same, cross-turned, parallel-trans}
-use Rattle.nef_sphere.proofs.Shot.{times-sign}
+use Rattle.nef_sphere.proofs.Parallel.{parallel-trans}
+use Rattle.nef_near.proofs.FlatDecided.{cross-turned}
+use Rattle.nef_near.proofs.Flats.{vector-same}
 use Rattle.nef_sphere.proofs.Labels.{label-direction, label-exists, label-unique, way-signs, clear-label}
 use Rattle.nef_sphere.proofs.Around.{Beside, same_way, other_way, beside, opposites, opposite-triple, turn-plus}
 use Rattle.nef_sphere.proofs.NearItems.{free-plain, item-straight}
@@ -35,7 +37,7 @@ full-one M V e m n (inr l) (inl z) = absurd (label-direction M e m l z.0)
 full-one M V e m n (inr l) (inr k) = label-unique M V e m n l k
 
 full-exists : (M : Map) → Valid M → (e : Vector) → (m : Label) × Full M e m
-full-exists M V e = ⊎_elim (λ z. (M.mark, inl (z, refl))) (λ f. let l = label-exists M V e f in (l.0, inr l.1)) (nought-decided e)
+full-exists M V e = ⊎_elim (λ z. (M.mark, inl (z, refl))) (λ f. let l = label-exists M V e f in (l.0, inr l.1)) (zero-decided e)
 
 flat-from_onward : (M : Map) → Valid M → (d : Vector) → ((e : Vector) (b : ℕ) (a : ℤ) → 0 < b → (m : Label) → Full M e m → Full M (comb (pos b) e a d) m) → FlatMap M d
 flat-from_onward M V d on e b a sb m = (
@@ -61,7 +63,7 @@ module _ (M : Map) (V : Valid M) (d : Vector) (K : IsOnEdge M d) where
       where
         same : (g : Vector) → sign (dot g (comb (pos 1) (comb (pos b) e a u) (pos 0 -ℤ a) u)) ≡ sign (dot g e)
         same g = ap sign (dot-comb g (pos 1) (comb (pos b) e a u) (pos 0 -ℤ a) u ∙ ap (λ r. pos 1 *ℤ r +ℤ (pos 0 -ℤ a) *ℤ dot g u) (dot-comb g (pos b) e a u)
-            ∙ ring (pos b ∷ dot g e ∷ a ∷ dot g u ∷ []) (num (pos 1) ⊗ (at 0 ⊗ at 1 ⊕ at 2 ⊗ at 3) ⊕ (num (pos 0) ⊖ at 2) ⊗ at 3) (at 0 ⊗ at 1) tt) ∙ times-sign (pos b) (dot g e) (omega (arith, ints))
+            ∙ ring (pos b ∷ dot g e ∷ a ∷ dot g u ∷ []) (num (pos 1) ⊗ (at 0 ⊗ at 1 ⊕ at 2 ⊗ at 3) ⊕ (num (pos 0) ⊖ at 2) ⊗ at 3) (at 0 ⊗ at 1) tt) ∙ sign-scaled (pos b) (dot g e) (omega (arith, ints))
 
     moved-not_opposite : (b : ℕ) (a : ℤ) → 0 < b → IsOpposite e (comb (pos b) e a u) → ⊥
     moved-not_opposite b a sb o =
@@ -106,9 +108,9 @@ module _ (M : Map) (V : Valid M) (d : Vector) (K : IsOnEdge M d) where
     where
       on : (e : Vector) (b : ℕ) (a : ℤ) → 0 < b → (m : Label) → Full M e m → Full M (comb (pos b) e a u) m
       on e b a sb m f = ⊎_elim
-          (λ z. let q = is_mark z f in ⊎_elim (λ y. inl (y, q)) (λ g. inr (subst (λ (r : Label). MapLabel M (comb (pos b) e a u) r) q (axis-label M V d K (comb (pos b) e a u) g (parallel z)))) (nought-decided (comb (pos b) e a u)))
+          (λ z. let q = is_mark z f in ⊎_elim (λ y. inl (y, q)) (λ g. inr (subst (λ (r : Label). MapLabel M (comb (pos b) e a u) r) q (axis-label M V d K (comb (pos b) e a u) g (parallel z)))) (zero-decided (comb (pos b) e a u)))
           (λ g. inr (moved-label e g b a sb m (full-label M e m (cross-direction_right u e g) f)))
-          (nought-decided (cross u e))
+          (zero-decided (cross u e))
         where
           is_mark : IsZero (cross u e) → Full M e m → M.mark ≡ m
           is_mark z (inl w) = w.1
@@ -197,7 +199,7 @@ module _ (M : Map) (V : Valid M) (L : Least M) (d : Vector) (h : IsDirection d) 
         )
 
     away-direction : IsDirection (away v.way)
-    away-direction z = let o = away-opposite in let e = dot-nought v.way (away v.way) z in let b = o.backward in omega (arith, ints)
+    away-direction z = let o = away-opposite in let e = dot-zero v.way (away v.way) z in let b = o.backward in omega (arith, ints)
 
     away-off : (e : Vector) → IsDirection (cross v.way e) → IsDirection (cross (away v.way) e)
     away-off e f z = f (parallel-trans v.way (away v.way) e away-direction (let o = away-opposite in o.parallel) z)

@@ -14,7 +14,7 @@ use Rattle.nef_sphere.specs.Maps.{Map, MapLabel, Shaped, Valid}
 use Rattle.nef_sphere.specs.Forms.{forms}
 use Rattle.nef_sphere.specs.Least.{Cone}
 use Rattle.nef_sphere.specs.Labelling.{Labelling, Agrees, ByOp}
-use Rattle.nef_sphere.proofs.Lists.{lies-left, lies-right}
+use Rattle.nef_exact.proofs.Lists.{lies-left, lies-right}
 use Rattle.nef_sphere.proofs.Labels.{label-exists, label-unique, label-by_signs}
 use Rattle.nef_sphere.proofs.Built.{agrees-valid, agrees-label, label-agrees}
 

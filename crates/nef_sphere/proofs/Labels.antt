@@ -3,18 +3,20 @@ use Rattle.std.proofs.Common.{◌≡◌, ℕ, ◌+◌, ◌<◌, ◌≤◌, ℤ, 
 use Rattle.std.proofs.lemmas.Int.{ints}
 use Rattle.nef_exact.proofs.Ring.{ring, at, num, ◌⊕◌, ◌⊖◌, ◌⊗◌}
 use Rattle.nef_exact.proofs.Combination.{follows, given, none}
-use Rattle.nef_exact.proofs.Order.{sign, sign-plus, sign-minus, by_order, mul_pos, mul_neg, cancel_lt}
+use Rattle.nef_exact.proofs.Order.{sign, sign-plus, sign-minus, by_order, mul_pos, mul_neg, cancel_lt, sign-scaled}
 use Rattle.nef_exact.specs.Signs.{Lies}
 use Rattle.nef_space.specs.Vectors.{Vector, IsDirection, dot, SameDirection, IsOpposite, blend}
 use Rattle.nef_space.specs.declared.label.Label.{Label}
 use Rattle.nef_sphere.specs.Maps.{At, Svertex, Map, Item, items, item_mark, OnItem, IsFree, IsClear, Sees, directly, by_way_of, SeenAs, MapLabel, at_svertex, on_item, seen, NearLabel, Valid}
-use Rattle.nef_sphere.proofs.Vectors.{dot-comb, same-plus, same-minus, same-nought, self-pos, dot-nought}
+use Rattle.nef_sphere.proofs.Vectors.{dot-comb, same-plus, same-minus}
+use Rattle.nef_forms.proofs.Far.{same-nought}
+use Rattle.nef_forms.proofs.Directions.{self-pos, dot-zero}
 use Rattle.nef_sphere.proofs.Generic.{SameSigns, amount, far-keeps, far-same}
 use Rattle.nef_sphere.proofs.Lists.{at-one}
 use Rattle.nef_sphere.proofs.Places.{axes, axis_x, axis_y, axis_z, axis_x-is, axis_y-is, axis_z-is, direction-stays}
 use Rattle.nef_sphere.proofs.Forms.{forms, axes-forms, on-direction, direction-by_signs, at_svertex-by_signs, on_item-by_signs, free-by_signs, OnItem-by_signs, PlaceOf, svertex_place, item_place, free_place, place_of}
-use Rattle.nef_sphere.proofs.Parallel.{parallel-trans, cross-turned}
-use Rattle.nef_sphere.proofs.Shot.{times-sign}
+use Rattle.nef_sphere.proofs.Parallel.{parallel-trans}
+use Rattle.nef_near.proofs.FlatDecided.{cross-turned}
 use Rattle.nef_sphere.proofs.Sight.{free-seen, clear-one_label, free-one_label}
 
 -- ---- the same way
@@ -29,10 +31,10 @@ way-signs v d g h w =
     (given (gz ⊗ vy ⊖ gy ⊗ vz) (vy ⊗ dz ⊖ vz ⊗ dy) o w.parallel.0
     (given (gx ⊗ vz ⊖ gz ⊗ vx) (vz ⊗ dx ⊖ vx ⊗ dz) o w.parallel.1
     (given (gy ⊗ vx ⊖ gx ⊗ vy) (vx ⊗ dy ⊖ vy ⊗ dx) o w.parallel.2 none))) tt in
-    sym (times-sign (dot v v) (dot g d) (self-pos v h)) ∙ ap sign e ∙ times-sign (dot v d) (dot g v) w.forward
+    sym (sign-scaled (dot v v) (dot g d) (self-pos v h)) ∙ ap sign e ∙ sign-scaled (dot v d) (dot g v) w.forward
 
 pub way-direction : (v d : Vector) → SameDirection v d → IsDirection d
-way-direction v d w z = let e = dot-nought v d z in let h = w.forward in omega (arith, ints)
+way-direction v d w z = let e = dot-zero v d z in let h = w.forward in omega (arith, ints)
 
 -- two that go the way of d
 pub way-joined : (v u d : Vector) → SameDirection v d → SameDirection u d → SameDirection v u

@@ -37,4 +37,3 @@ pub mod BuiltLeast
 pub mod Simplified
 pub mod StraightStars
 pub mod Turning
-pub mod StillGerms

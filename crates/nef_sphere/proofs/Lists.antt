@@ -1,18 +1,10 @@
 -- Elements of lists: searching, joining, gathering.
 use Rattle.std.proofs.Common.{◌≡◌, ℕ, zero, suc, refl, sym, ◌∙◌, ◌⊎◌, inl, inr, List, [], ◌∷◌, ◌++◌, subst}
 use Rattle.nef_exact.specs.Signs.{Lies}
+use Rattle.nef_exact.proofs.Lists.{lies-left, lies-right}
 use Rattle.nef_sphere.specs.Maps.{At}
 pub use Rattle.nef_sphere.specs.Forms.{gather}
-use Rattle.nef_sphere.proofs.Vectors.{Decided}
-
-pub lies-left : {A : Type 0} (ks ls : List A) (h : A) → Lies ks h → Lies (ks ++ ls) h
-lies-left [] ls h l = absurd l
-lies-left (k ∷ ks) ls h (inl e) = inl e
-lies-left (k ∷ ks) ls h (inr l) = inr (lies-left ks ls h l)
-
-pub lies-right : {A : Type 0} (ks ls : List A) (h : A) → Lies ls h → Lies (ks ++ ls) h
-lies-right [] ls h l = l
-lies-right (k ∷ ks) ls h l = inr (lies-right ks ls h l)
+use Rattle.nef_near.proofs.Decided.{Decided}
 
 pub record Found {A : Type 0} (xs : List A) (P : ℕ → A → Type 0) : Type 0 where
   pub number : ℕ

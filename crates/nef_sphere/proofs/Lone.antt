@@ -4,7 +4,8 @@ use Rattle.nef_space.specs.Vectors.{Vector, IsDirection, cross, dot, SameDirecti
 use Rattle.nef_space.specs.declared.label.Label.{Label}
 use Rattle.nef_sphere.specs.Maps.{At, Svertex, Map, Item, arc_item, loop_item, items, way_of, OnItem, IsFree, around_svertex, IsClear, directly, seen, NearLabel, HasArc, Shaped, Valid}
 use Rattle.nef_sphere.specs.Forms.{SameSigns, Keeps, forms}
-use Rattle.nef_sphere.proofs.Vectors.{normal-is, nought-or, same-nought, same-off}
+use Rattle.nef_sphere.proofs.Vectors.{normal-is}
+use Rattle.nef_forms.proofs.Far.{nought-or, same-nought, same-off}
 use Rattle.nef_sphere.proofs.Generic.{amount, far-keeps, far-level}
 use Rattle.nef_sphere.proofs.Lists.{at-one}
 use Rattle.nef_sphere.proofs.Places.{kept-nought}

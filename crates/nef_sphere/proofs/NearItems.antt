@@ -8,8 +8,10 @@ use Rattle.nef_space.specs.declared.label.Label.{Label}
 use Rattle.nef_sphere.specs.Maps.{At, Map, Item, items, item_normal, item_above, item_mark, item_below, OnItem, IsFree, above_item, below_item, IsClear, directly, MapLabel, on_item, seen, NearLabel, Shaped, Valid}
 use Rattle.nef_sphere.specs.Forms.{Keeps, axes, forms}
 use Rattle.nef_sphere.specs.Least.{by_side, NearPlain, NearStraight}
-use Rattle.nef_sphere.proofs.Parallel.{cross-turned}
-use Rattle.nef_sphere.proofs.Vectors.{normal-is, dot-comm, dot-comb, nought-or}
+use Rattle.nef_near.proofs.FlatDecided.{cross-turned}
+use Rattle.nef_sphere.proofs.Vectors.{normal-is, dot-comb}
+use Rattle.nef_forms.proofs.Far.{nought-or}
+use Rattle.nef_forms.proofs.Directions.{dot-comm}
 use Rattle.nef_sphere.proofs.Generic.{amount, far-keeps, far-level}
 use Rattle.nef_sphere.proofs.Places.{axis_x, axis_y, axis_z, axis_x-is, axis_y-is, axis_z-is}
 use Rattle.nef_sphere.proofs.Forms.{axes-forms, on-direction, on-level}

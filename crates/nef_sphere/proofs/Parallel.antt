@@ -5,13 +5,15 @@ use Rattle.nef_exact.proofs.Ring.{ring, at, num, ◌⊕◌, ◌⊖◌, ◌⊗◌
 use Rattle.nef_exact.proofs.Combination.{follows, follows_times, given, none}
 use Rattle.nef_exact.proofs.Order.{sign, nought-is}
 use Rattle.nef_space.specs.Vectors.{Vector, IsDirection, triple, cross, vector, dot, IsZero, SameDirection, blend}
+use Rattle.nef_near.proofs.Flats.{vector-same}
 use Rattle.nef_sphere.specs.Maps.{OnCircle, StrictlyOn}
-use Rattle.nef_sphere.proofs.Vectors.{Decided, dot-comb, dot-comm, triple-last, triple-middle, nought-or, same-plus, same-off, square_pos, nought-decided, dot-nought, self-pos, nought-if}
+use Rattle.nef_sphere.proofs.Vectors.{dot-comb, triple-middle, same-plus, nought-if}
+use Rattle.nef_near.proofs.Decided.{Decided}
+use Rattle.nef_near.proofs.FlatDecided.{cross-turned, triple-dot}
+use Rattle.nef_forms.proofs.Far.{nought-or, same-off}
+use Rattle.nef_forms.proofs.Directions.{dot-comm, square_pos, zero-decided, dot-zero, self-pos}
 use Rattle.nef_sphere.proofs.Generic.{amount, far-keeps, far-level}
 use Rattle.nef_sphere.proofs.Places.{row_x, row_y, row_z}
-
-pub vector-same : (u v : Vector) → u.x ≡ v.x → u.y ≡ v.y → u.z ≡ v.z → u ≡ v
-vector-same u v a b c = ap (λ r. vector r u.y u.z) a ∙ ap (λ r. vector v.x r u.z) b ∙ ap (λ r. vector v.x v.y r) c
 
 -- n.d isn't nought and n.c is: d and c aren't parallel
 pub apart : (n d c : Vector) → (dot n d ≡ pos 0 → ⊥) → dot n c ≡ pos 0 → IsDirection c → IsDirection (cross d c)
@@ -28,16 +30,6 @@ apart n d c f z h p =
       follows_times xs (nd ⊗ nd) (at 6) o (given (nd ⊗ at 3) nc o z (given (nd ⊗ (o ⊖ at 1)) ez o p.2 (given (nd ⊗ at 2) ey o p.1 none))) k tt,
       follows_times xs (nd ⊗ nd) (at 7) o (given (nd ⊗ at 4) nc o z (given (nd ⊗ (o ⊖ at 2)) ex o p.0 (given (nd ⊗ at 0) ez o p.2 none))) k tt,
       follows_times xs (nd ⊗ nd) (at 8) o (given (nd ⊗ at 5) nc o z (given (nd ⊗ (o ⊖ at 0)) ey o p.1 (given (nd ⊗ at 1) ex o p.0 none))) k tt,
-    )
-
-pub cross-turned : (a b : Vector) → IsZero (cross a b) → IsZero (cross b a)
-cross-turned a b z =
-    let xs = a.x ∷ a.y ∷ a.z ∷ b.x ∷ b.y ∷ b.z ∷ [] in
-    let o = num (pos 0) in
-    let m = num (negsuc 0) in (
-      follows xs (at 4 ⊗ at 2 ⊖ at 5 ⊗ at 1) o (given m (at 1 ⊗ at 5 ⊖ at 2 ⊗ at 4) o z.0 none) tt,
-      follows xs (at 5 ⊗ at 0 ⊖ at 3 ⊗ at 2) o (given m (at 2 ⊗ at 3 ⊖ at 0 ⊗ at 5) o z.1 none) tt,
-      follows xs (at 3 ⊗ at 1 ⊖ at 4 ⊗ at 0) o (given m (at 0 ⊗ at 4 ⊖ at 1 ⊗ at 3) o z.2 none) tt,
     )
 
 pub parallel-trans : (d v w : Vector) → IsDirection v → IsZero (cross d v) → IsZero (cross v w) → IsZero (cross d w)
@@ -88,7 +80,7 @@ row-level n =
     )
 
 pub circle-point : (n : Vector) → IsDirection n → (y : Vector) × OnCircle n y
-circle-point n h = by (nought-decided (row_x n)) (nought-decided (row_y n)) (nought-decided (row_z n))
+circle-point n h = by (zero-decided (row_x n)) (zero-decided (row_y n)) (zero-decided (row_z n))
   where
     by : Decided (IsZero (row_x n)) → Decided (IsZero (row_y n)) → Decided (IsZero (row_z n)) → (y : Vector) × OnCircle n y
     by (inr f) b c = (row_x n, record { direction = f; level = (row-level n).0 })
@@ -115,7 +107,7 @@ module _ (n s t : Vector) (hn : IsDirection n) (hs : IsDirection s) (ht : IsDire
 
   pub there-ahead : pos 0 <ℤ triple n s there
   there-ahead =
-      let e = triple-last n s there ∙ dot-comb beside (pos number) s (pos 1) beside in
+      let e = triple-dot n s there ∙ dot-comb beside (pos number) s (pos 1) beside in
       let o : dot beside s ≡ pos 0 = ring (n.x ∷ n.y ∷ n.z ∷ s.x ∷ s.y ∷ s.z ∷ []) ((at 1 ⊗ at 5 ⊖ at 2 ⊗ at 4) ⊗ at 3 ⊕ (at 2 ⊗ at 3 ⊖ at 0 ⊗ at 5) ⊗ at 4 ⊕ (at 0 ⊗ at 4 ⊖ at 1 ⊗ at 3) ⊗ at 5) (num (pos 0)) tt in
       let f = e ∙ ap (λ r. pos number *ℤ r +ℤ pos 1 *ℤ dot beside beside) o ∙ ring (pos number ∷ dot beside beside ∷ []) (at 0 ⊗ num (pos 0) ⊕ num (pos 1) ⊗ at 1) (at 1) tt in
       subst (λ (r : ℤ). pos 0 <ℤ r) (sym f) (self-pos beside beside-some)
@@ -131,7 +123,7 @@ module _ (n s t : Vector) (hn : IsDirection n) (hs : IsDirection s) (ht : IsDire
 
   there-off_target : SameDirection t there → ⊥
   there-off_target w =
-      let z : dot back there ≡ pos 0 = sym (triple-middle n there t) ∙ dot-nought n (cross there t) (cross-turned t there w.parallel) in
+      let z : dot back there ≡ pos 0 = sym (triple-middle n there t) ∙ dot-zero n (cross there t) (cross-turned t there w.parallel) in
       ⊎_elim
       (λ y.
       let f = far-level (back ∷ []) s beside number large back y in
@@ -147,8 +139,8 @@ module _ (n s t : Vector) (hn : IsDirection n) (hs : IsDirection s) (ht : IsDire
 
   pub arc-point : StrictlyOn n s t there
   arc-point = record {
-    on_circle = record { direction = λ z. let h = there-ahead in let e = triple-last n s there ∙ dot-nought beside there z in omega (arith, ints); level = there-level };
-    not_source = λ w. let h = there-ahead in let e = dot-nought n (cross s there) w.parallel in omega (arith, ints);
+    on_circle = record { direction = λ z. let h = there-ahead in let e = triple-dot n s there ∙ dot-zero beside there z in omega (arith, ints); level = there-level };
+    not_source = λ w. let h = there-ahead in let e = dot-zero n (cross s there) w.parallel in omega (arith, ints);
     not_target = there-off_target;
     less_than_half = λ h. (there-ahead, there-behind h);
     more_than_half = λ h. inl there-ahead;
@@ -159,5 +151,5 @@ module _ (n s t : Vector) (hn : IsDirection n) (hs : IsDirection s) (ht : IsDire
 pub miss : (d v w : Vector) → IsDirection v → (IsDirection (cross d v) → dot (cross d v) w ≡ pos 0 → ⊥) → IsDirection (cross d w) → SameDirection v w → ⊥
 miss d v w h off f m = ⊎_elim
     (λ z. f (parallel-trans d v w h z m.parallel))
-    (λ g. off g (sym (triple-last d v w) ∙ dot-nought d (cross v w) m.parallel))
-    (nought-decided (cross d v))
+    (λ g. off g (sym (triple-dot d v w) ∙ dot-zero d (cross v w) m.parallel))
+    (zero-decided (cross d v))

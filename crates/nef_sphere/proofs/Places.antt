@@ -5,37 +5,21 @@ use Rattle.nef_exact.proofs.Ring.{ring, at, num, ◌⊕◌, ◌⊖◌, ◌⊗◌
 use Rattle.nef_exact.proofs.Order.{sign, by_order}
 use Rattle.nef_exact.specs.Signs.{Lies}
 use Rattle.nef_space.specs.Vectors.{Vector, IsDirection, triple, cross, vector, dot, IsZero, SameDirection, IsOpposite}
-use Rattle.nef_sphere.proofs.Lists.{lies-left, lies-right}
+use Rattle.nef_exact.proofs.Lists.{lies-left, lies-right}
 use Rattle.nef_sphere.specs.Maps.{OnCircle, StrictlyOn}
 pub use Rattle.nef_sphere.specs.Forms.{axis_x, axis_y, axis_z, axes, row_x, row_y, row_z, point_forms, arc_forms}
-use Rattle.nef_sphere.proofs.Vectors.{Decided, triple-last, triple-middle, nought-or, positive-or, negative-or, same-plus, same-minus, same-off, nought-decided, nought-if, nought-dot}
+use Rattle.nef_sphere.proofs.Vectors.{triple-middle, positive-or, negative-or, same-plus, same-minus, nought-if}
+use Rattle.nef_near.proofs.Decided.{decided-not, decided-to, decided-both, decided-or, Decided}
+use Rattle.nef_near.proofs.FlatDecided.{triple-dot}
+use Rattle.nef_forms.proofs.Far.{nought-or, same-off}
+use Rattle.nef_forms.proofs.Directions.{zero-decided, zero-dot}
 use Rattle.nef_sphere.proofs.Generic.{SameSigns, Keeps}
 
--- ---- decisions
-pub not-decided : {A : Type 0} → Decided A → Decided (A → ⊥)
-not-decided (inl a) = inr (λ f. f a)
-not-decided (inr n) = inl n
-
-pub both-decided : {A B : Type 0} → Decided A → Decided B → Decided (A × B)
-both-decided (inl a) (inl b) = inl (a, b)
-both-decided (inl a) (inr n) = inr (λ c. n c.1)
-both-decided (inr n) b = inr (λ c. n c.0)
-
-pub either-decided : {A B : Type 0} → Decided A → Decided B → Decided (A ⊎ B)
-either-decided (inl a) b = inl (inl a)
-either-decided (inr n) (inl b) = inl (inr b)
-either-decided (inr n) (inr m) = inr (λ c. ⊎_elim n m c)
-
-pub if-decided : {A B : Type 0} → Decided A → Decided B → Decided (A → B)
-if-decided (inl a) (inl b) = inl (λ x. b)
-if-decided (inl a) (inr n) = inr (λ f. n (f a))
-if-decided (inr n) b = inl (λ a. absurd (n a))
-
 pub direction-decided : (d : Vector) → Decided (IsDirection d)
-direction-decided d = not-decided (nought-decided d)
+direction-decided d = decided-not (zero-decided d)
 
 pub SameDirection-decided : (s d : Vector) → Decided (SameDirection s d)
-SameDirection-decided s d = by (nought-decided (cross s d)) (positive-or (dot s d))
+SameDirection-decided s d = by (zero-decided (cross s d)) (positive-or (dot s d))
   where
     by : Decided (IsZero (cross s d)) → Decided (pos 0 <ℤ dot s d) → Decided (SameDirection s d)
     by (inl p) (inl f) = inl (record { parallel = p; forward = f })
@@ -43,7 +27,7 @@ SameDirection-decided s d = by (nought-decided (cross s d)) (positive-or (dot s 
     by (inr n) f = inr (λ w. n w.parallel)
 
 pub IsOpposite-decided : (s d : Vector) → Decided (IsOpposite s d)
-IsOpposite-decided s d = by (nought-decided (cross s d)) (negative-or (dot s d))
+IsOpposite-decided s d = by (zero-decided (cross s d)) (negative-or (dot s d))
   where
     by : Decided (IsZero (cross s d)) → Decided (dot s d <ℤ pos 0) → Decided (IsOpposite s d)
     by (inl p) (inl f) = inl (record { parallel = p; backward = f })
@@ -59,10 +43,10 @@ OnCircle-decided n d = by (direction-decided d) (nought-or (dot n d))
     by (inr n) f = inr (λ w. n w.direction)
 
 pub StrictlyOn-decided : (n s t d : Vector) → Decided (StrictlyOn n s t d)
-StrictlyOn-decided n s t d = by (OnCircle-decided n d) (not-decided (SameDirection-decided s d)) (not-decided (SameDirection-decided t d))
-    (if-decided (positive-or (triple n s t)) (both-decided (positive-or (triple n s d)) (positive-or (triple n d t))))
-    (if-decided (negative-or (triple n s t)) (either-decided (positive-or (triple n s d)) (positive-or (triple n d t))))
-    (if-decided (IsOpposite-decided s t) (positive-or (triple n s d)))
+StrictlyOn-decided n s t d = by (OnCircle-decided n d) (decided-not (SameDirection-decided s d)) (decided-not (SameDirection-decided t d))
+    (decided-to (positive-or (triple n s t)) (decided-both (positive-or (triple n s d)) (positive-or (triple n d t))))
+    (decided-to (negative-or (triple n s t)) (decided-or (positive-or (triple n s d)) (positive-or (triple n d t))))
+    (decided-to (IsOpposite-decided s t) (positive-or (triple n s d)))
   where
     by : Decided (OnCircle n d) → Decided (SameDirection s d → ⊥) → Decided (SameDirection t d → ⊥)
         → Decided (pos 0 <ℤ triple n s t → (pos 0 <ℤ triple n s d) × (pos 0 <ℤ triple n d t))
@@ -130,7 +114,7 @@ module _ (v d e : Vector) (k : Keeps (point_forms v) d e) where
   pub SameDirection-back : IsDirection d → SameDirection v e → SameDirection v d
   SameDirection-back f w = let p = parallel-back w.parallel in by_order (dot v d) (pos 0)
       (λ l. let m = kept-minus v d e (k v (inl refl)) l in let h = w.forward in absurd (omega (arith, ints)))
-      (λ z. absurd (f (nought-if v d (λ y. let a = nought-dot v e y in let h = w.forward in omega (arith, ints)) p z)))
+      (λ z. absurd (f (nought-if v d (λ y. let a = zero-dot v e y in let h = w.forward in omega (arith, ints)) p z)))
       (λ l. record { parallel = p; forward = l })
 
 -- an arc goes on being met in its plane
@@ -145,7 +129,7 @@ StrictlyOn-stays n s t d e k z o = record {
 }
   where
     last : pos 0 <ℤ triple n s d → pos 0 <ℤ triple n s e
-    last h = subst (λ (r : ℤ). pos 0 <ℤ r) (sym (triple-last n s e)) (kept-plus (cross n s) d e (k (cross n s) (inr (inl refl))) (subst (λ (r : ℤ). pos 0 <ℤ r) (triple-last n s d) h))
+    last h = subst (λ (r : ℤ). pos 0 <ℤ r) (sym (triple-dot n s e)) (kept-plus (cross n s) d e (k (cross n s) (inr (inl refl))) (subst (λ (r : ℤ). pos 0 <ℤ r) (triple-dot n s d) h))
 
     middle : pos 0 <ℤ triple n d t → pos 0 <ℤ triple n e t
     middle h = subst (λ (r : ℤ). pos 0 <ℤ r) (sym (triple-middle n e t)) (kept-plus (cross t n) d e (k (cross t n) (inr (inr (inl refl)))) (subst (λ (r : ℤ). pos 0 <ℤ r) (triple-middle n d t) h))

@@ -5,17 +5,17 @@ use Rattle.std.proofs.Math.Nat.{mul-pos}
 use Rattle.nef_exact.proofs.Ring.{ring, at, num, ◌⊕◌, ◌⊖◌, ◌⊗◌}
 use Rattle.nef_exact.proofs.Order.{sign, sign_times, sign_of_product, sign-plus, nought-is, by_order}
 use Rattle.nef_space.specs.Vectors.{Vector, IsDirection, cross, dot, blend}
+use Rattle.nef_exact.proofs.Order.{sign-scaled}
 use Rattle.nef_sphere.specs.Maps.{At, Svertex, Arc, Loop, Map, Item, arc_item, loop_item, items, items_then, item_normal, way_of, OnItem, Shaped}
-use Rattle.nef_sphere.proofs.Vectors.{normal-is, dot-comb, nought-or}
+use Rattle.nef_sphere.proofs.Vectors.{normal-is, dot-comb}
+use Rattle.nef_forms.proofs.Far.{nought-or}
 use Rattle.nef_sphere.proofs.Generic.{SameSigns, amount}
 use Rattle.nef_sphere.proofs.Forms.{item_forms, on-level, OnItem-decided, OnItem-by_signs}
-use Rattle.nef_sphere.proofs.Parallel.{vector-same, circle-point, past_source, arc-point}
-
-pub times-sign : (k x : ℤ) → pos 0 <ℤ k → sign (k *ℤ x) ≡ sign x
-times-sign k x h = sign_of_product k x ∙ ap (λ r. sign_times r (sign x)) (sign-plus k h)
+use Rattle.nef_sphere.proofs.Parallel.{circle-point, past_source, arc-point}
+use Rattle.nef_near.proofs.Flats.{vector-same}
 
 pub product-off : (k x : ℤ) → pos 0 <ℤ k → (x ≡ pos 0 → ⊥) → k *ℤ x ≡ pos 0 → ⊥
-product-off k x h f z = f (nought-is x (sym (times-sign k x h) ∙ ap sign z))
+product-off k x h f z = f (nought-is x (sym (sign-scaled k x h) ∙ ap sign z))
 
 -- ---- lists of a map
 pub way-at : (vs : List Svertex) (k : ℕ) (v : Svertex) → At vs k v → way_of vs k ≡ v.way
@@ -117,7 +117,7 @@ module _ (M : Map) (d : Vector) where
             let e : pos p *ℤ dot g (blend i d j c) ≡ pos j *ℤ dot g meet = u ∙ ring (pos i ∷ pos j ∷ pos p ∷ dot g d ∷ dot g c ∷ []) (at 2 ⊗ (at 0 ⊗ at 3 ⊕ at 1 ⊗ at 4)) (at 0 ⊗ at 2 ⊗ at 3 ⊕ at 1 ⊗ at 2 ⊗ at 4) tt
             ∙ ap (λ r. r +ℤ pos j *ℤ pos p *ℤ dot g c) w ∙ ring (pos q ∷ pos j ∷ pos p ∷ dot g d ∷ dot g c ∷ []) (at 1 ⊗ at 0 ⊗ at 3 ⊕ at 1 ⊗ at 2 ⊗ at 4) (at 1 ⊗ (at 0 ⊗ at 3 ⊕ at 2 ⊗ at 4)) tt ∙ sym v in
             let h = some-p f in
-            sym (times-sign (pos j) (dot g meet) (omega (arith, ints))) ∙ ap sign (sym e) ∙ times-sign (pos p) (dot g (blend i d j c)) (omega (arith, ints))
+            sym (sign-scaled (pos j) (dot g meet) (omega (arith, ints))) ∙ ap sign (sym e) ∙ sign-scaled (pos p) (dot g (blend i d j c)) (omega (arith, ints))
 
     -- aim at the meet
     target-meet : (dot n d ≡ pos 0 → ⊥) → OnItem M x meet → Target meet

@@ -2,17 +2,18 @@
 use Rattle.std.proofs.Common.{◌≡◌, ℕ, zero, suc, ◌+◌, ◌<◌, pos, ◌<ℤ◌, arith, refl, ap, ◌∙◌, ◌⊎◌, inl, inr, ⊎_elim, List, [], ◌∷◌, subst, Option, Some, None}
 use Rattle.std.proofs.lemmas.Int.{ints}
 use Rattle.nef_exact.proofs.Ring.{ring, at, num, ◌⊕◌, ◌⊖◌, ◌⊗◌}
-use Rattle.nef_exact.proofs.Order.{sign}
+use Rattle.nef_exact.proofs.Order.{sign, sign-scaled}
 use Rattle.nef_space.specs.Vectors.{Vector, cross, dot, IsZero, SameDirection, blend}
 use Rattle.nef_space.specs.declared.label.Label.{Label}
 use Rattle.nef_sphere.specs.Maps.{At, Svertex, Arc, Loop, Map, Item, arc_item, loop_item, items, items_then, item_normal, IsFree, Side, around_svertex, whole, HasSide, IsClear, Sees, directly, by_way_of, SeenAs, Shaped, Valid, here, link}
-use Rattle.nef_sphere.proofs.Vectors.{normal-is, dot-comb, nought-or, self-pos}
+use Rattle.nef_sphere.proofs.Vectors.{normal-is, dot-comb}
+use Rattle.nef_forms.proofs.Far.{nought-or}
+use Rattle.nef_forms.proofs.Directions.{self-pos}
 use Rattle.nef_sphere.proofs.Generic.{SameSigns}
 use Rattle.nef_sphere.proofs.Lists.{Found, search_list}
-use Rattle.nef_sphere.proofs.Places.{not-decided}
+use Rattle.nef_near.proofs.Decided.{decided-not}
 use Rattle.nef_sphere.proofs.Forms.{forms, free-by_signs}
-use Rattle.nef_sphere.proofs.Shot.{times-sign}
-use Rattle.nef_sphere.proofs.Parallel.{cross-turned}
+use Rattle.nef_near.proofs.FlatDecided.{cross-turned}
 use Rattle.nef_sphere.proofs.Direct.{direct}
 use Rattle.nef_sphere.proofs.StepOff.{outlook, outlook-free, outlook-clear, outlook-svertex, blend-turned}
 
@@ -37,7 +38,7 @@ clear-self M d F = record {
 }
   where
     same : (i j : ℕ) → 0 < i → SameSigns (forms M) d (blend i d j d)
-    same i j si g l = ap sign (dot-comb g (pos i) d (pos j) d ∙ ring (pos i ∷ pos j ∷ dot g d ∷ []) (at 0 ⊗ at 2 ⊕ at 1 ⊗ at 2) ((at 0 ⊕ at 1) ⊗ at 2) tt) ∙ times-sign (pos (i + j)) (dot g d) (omega (arith, ints))
+    same i j si g l = ap sign (dot-comb g (pos i) d (pos j) d ∙ ring (pos i ∷ pos j ∷ dot g d ∷ []) (at 0 ⊗ at 2 ⊕ at 1 ⊗ at 2) ((at 0 ⊕ at 1) ⊗ at 2) tt) ∙ sign-scaled (pos (i + j)) (dot g d) (omega (arith, ints))
 
 -- ---- one side sees both
 pub record SeesBoth (M : Map) (d e : Vector) : Type 0 where
@@ -59,7 +60,7 @@ Crosses d k x = dot (item_normal x) d ≡ pos 0 → ⊥
 -- an item whose plane doesn't hold d, or none
 level-or : (M : Map) (d : Vector) → Found (items M) (Crosses d) ⊎ AllLevel M d
 level-or M d = ⊎_elim (λ f. inl f) (λ n. inr (λ k x a. ⊎_elim (λ z. z) (λ g. absurd (n k x a g)) (nought-or (dot (item_normal x) d))))
-    (search_list (items M) (Crosses d) (λ k x. not-decided (nought-or (dot (item_normal x) d))))
+    (search_list (items M) (Crosses d) (λ k x. decided-not (nought-or (dot (item_normal x) d))))
 
 empty-arcs : (as' : List Arc) (o : Option Loop) → ((k : ℕ) (x : Item) → At (items_then as' o) k x → ⊥) → (k : ℕ) (a : Arc) → At as' k a → ⊥
 empty-arcs [] o n k a h = h

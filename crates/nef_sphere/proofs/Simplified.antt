@@ -9,9 +9,12 @@ use Rattle.nef_space.specs.declared.label.Label.{Label}
 use Rattle.nef_sphere.specs.Maps.{At, Map, StrictlyOn, NearLabel, Valid}
 use Rattle.nef_sphere.specs.Least.{by_side, NearPlain, NearStraight}
 use Rattle.nef_sphere.specs.Stars.{Ray, Star, ray_way, across, NextRay, on_ray, in_sector, IsRay, StarShows, Follows, IsSimplified}
-use Rattle.nef_sphere.proofs.Vectors.{self-pos, normal-direction, nought-or, nought-if, dot-comm}
+use Rattle.nef_sphere.proofs.Vectors.{normal-direction, nought-if}
+use Rattle.nef_forms.proofs.Far.{nought-or}
+use Rattle.nef_forms.proofs.Directions.{self-pos, dot-comm}
 use Rattle.nef_sphere.proofs.Generic.{amount, far-keeps}
-use Rattle.nef_sphere.proofs.Parallel.{vector-same, past_source, arc-point, apart}
+use Rattle.nef_sphere.proofs.Parallel.{past_source, arc-point, apart}
+use Rattle.nef_near.proofs.Flats.{vector-same}
 use Rattle.nef_sphere.proofs.Labels.{near-unique}
 use Rattle.nef_sphere.proofs.Compare.{way-self}
 use Rattle.nef_sphere.proofs.Turn.{StrictlyOn-same}

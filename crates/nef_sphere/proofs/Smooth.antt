@@ -6,7 +6,8 @@ use Rattle.nef_space.specs.declared.label.Label.{Label}
 use Rattle.nef_sphere.specs.Maps.{At, Svertex, Map, Item, items, item_normal, item_above, item_mark, item_below, OnItem, IsFree, on_item, NearLabel, Valid}
 use Rattle.nef_sphere.specs.Least.{by_side}
 use Rattle.nef_sphere.specs.Labelling.{Near, ByOp, IsSmooth, plain, straight}
-use Rattle.nef_sphere.proofs.Vectors.{normal-is, dot-comm}
+use Rattle.nef_sphere.proofs.Vectors.{normal-is}
+use Rattle.nef_forms.proofs.Directions.{dot-comm}
 use Rattle.nef_sphere.proofs.Forms.{on-level, PlaceOf, svertex_place, item_place, free_place, place_of}
 use Rattle.nef_sphere.proofs.Labels.{label-exists, way-signs}
 use Rattle.nef_sphere.proofs.Around.{Beside, same_way, other_way, beside}

@@ -3,15 +3,15 @@ use Rattle.std.proofs.Common.{◌≡◌, ℕ, zero, suc, pos, ◌-ℤ◌, ◌*�
 use Rattle.std.proofs.lemmas.Int.{ints}
 use Rattle.nef_exact.proofs.Ring.{ring, at, num, ◌⊕◌, ◌⊖◌, ◌⊗◌}
 use Rattle.nef_exact.proofs.Combination.{follows, given, none}
-use Rattle.nef_exact.proofs.Order.{minus, nought, plus, sign, sign-plus, sign-minus, mul_pos}
+use Rattle.nef_exact.proofs.Order.{minus, nought, plus, sign, sign-plus, sign-minus, mul_pos, sign-scaled}
 use Rattle.nef_space.specs.Vectors.{Vector, IsDirection, cross, triple, dot, IsZero, SameDirection, IsOpposite}
 use Rattle.nef_space.specs.declared.label.Label.{Label}
 use Rattle.nef_sphere.specs.Maps.{At, Map, StrictlyOn, NearLabel}
 use Rattle.nef_sphere.specs.Least.{by_side, NearPlain, NearStraight}
 use Rattle.nef_sphere.specs.Stars.{Ray, Star, ray_way, across, OnRay, NextRay, StarLabel, on_ray, in_sector, in_only_sector, StarOf, IsPlain, IsStraight}
-use Rattle.nef_sphere.proofs.Parallel.{cross-turned}
-use Rattle.nef_sphere.proofs.Vectors.{dot-comm, self-pos, normal-direction}
-use Rattle.nef_sphere.proofs.Shot.{times-sign}
+use Rattle.nef_near.proofs.FlatDecided.{cross-turned}
+use Rattle.nef_sphere.proofs.Vectors.{normal-direction}
+use Rattle.nef_forms.proofs.Directions.{dot-comm, self-pos}
 use Rattle.nef_sphere.proofs.Labels.{way-signs}
 use Rattle.nef_sphere.proofs.Turn.{way-directed}
 
@@ -92,7 +92,7 @@ module _ (t : Star) (M : Map) (S : StarOf t M t.axis) (K : IsStraight t) (axis :
 
   -- a plane's side, before and after the projection
   side-of : (e : Vector) → sign (dot n (across d e)) ≡ sign (dot n e)
-  side-of e = ap sign (across-side n d e n-level) ∙ times-sign (dot d d) (dot n e) dd
+  side-of e = ap sign (across-side n d e n-level) ∙ sign-scaled (dot d d) (dot n e) dd
 
   level-on : (w : Vector) (e : Vector) → dot n w ≡ pos 0 → SameDirection w (across d e) → sign (dot n e) ≡ nought
   level-on w e z s = sym (side-of e) ∙ way-signs w (across d e) n (way-directed w (across d e) s) s ∙ ap sign z
@@ -132,13 +132,13 @@ module _ (t : Star) (M : Map) (S : StarOf t M t.axis) (K : IsStraight t) (axis :
   past-first e s =
       let h = s.just_half opposite-ends in
       let k = turn-ahead n d (across d e) n-level in
-      sym (side-of e) ∙ sym (times-sign (dot d d) (dot n (across d e)) dd) ∙ ap sign (sym k) ∙ sign-plus (triple d (cross n d) (across d e)) h
+      sym (side-of e) ∙ sym (sign-scaled (dot d d) (dot n (across d e)) dd) ∙ ap sign (sym k) ∙ sign-plus (triple d (cross n d) (across d e)) h
 
   past-second : (e : Vector) → StrictlyOn d (cross d n) (cross n d) (across d e) → sign (dot n e) ≡ minus
   past-second e s =
       let h = s.just_half turned-ends in
       let k = turn-behind n d (across d e) n-level in
-      sym (side-of e) ∙ sym (times-sign (dot d d) (dot n (across d e)) dd) ∙ sign-minus (dot d d *ℤ dot n (across d e)) (omega (arith, ints))
+      sym (side-of e) ∙ sym (sign-scaled (dot d d) (dot n (across d e)) dd) ∙ sign-minus (dot d d *ℤ dot n (across d e)) (omega (arith, ints))
 
   ray-one : (k : ℕ) (r : Ray) → At (K.first ∷ K.second ∷ []) k r → ((k ≡ zero) × (K.first ≡ r)) ⊎ ((k ≡ suc zero) × (K.second ≡ r))
   ray-one zero r e = inl (refl, e)

@@ -4,18 +4,24 @@ use Rattle.std.proofs.lemmas.Int.{ints}
 use Rattle.nef_exact.proofs.Ring.{ring, at, num, ◌⊖◌, ◌⊗◌}
 use Rattle.nef_exact.specs.Signs.{Lies}
 use Rattle.nef_space.specs.Vectors.{Vector, IsDirection, cross, dot, IsZero, SameDirection, blend}
+use Rattle.nef_near.proofs.Meets.{cross-none}
 use Rattle.nef_sphere.specs.Maps.{At, Svertex, Map, Item, items, item_normal, IsFree, IsClear, Shaped}
-use Rattle.nef_sphere.proofs.Vectors.{Decided, normal-is, nought-decided, dot-nought}
+use Rattle.nef_sphere.proofs.Vectors.{normal-is}
+use Rattle.nef_near.proofs.Decided.{Decided}
+use Rattle.nef_forms.proofs.Directions.{zero-decided, dot-zero}
 use Rattle.nef_sphere.proofs.Generic.{Generic, generic}
-use Rattle.nef_sphere.proofs.Lists.{lies-left, lies-right, gather, gather-has}
+use Rattle.nef_sphere.proofs.Lists.{gather, gather-has}
+use Rattle.nef_exact.proofs.Lists.{lies-left, lies-right}
 use Rattle.nef_sphere.proofs.Places.{point_forms, row_x, row_y, row_z, row_x-is, row_y-is, row_z-is}
 use Rattle.nef_sphere.proofs.Forms.{on-level}
-use Rattle.nef_sphere.proofs.Parallel.{cross-turned, miss, vector-same}
+use Rattle.nef_sphere.proofs.Parallel.{miss}
+use Rattle.nef_near.proofs.FlatDecided.{cross-turned}
+use Rattle.nef_near.proofs.Flats.{vector-same}
 use Rattle.nef_sphere.proofs.Direct.{between-off, miss-between, cross-between}
 
 -- not parallel to v, where a form of v isn't nought
 pub apart-by_rows : (v x : Vector) → IsDirection v → ((g : Vector) → Lies (point_forms v) g → IsDirection g → dot g x ≡ pos 0 → ⊥) → IsDirection (cross v x)
-apart-by_rows v x h off z = by (nought-decided (row_x v)) (nought-decided (row_y v)) (nought-decided (row_z v))
+apart-by_rows v x h off z = by (zero-decided (row_x v)) (zero-decided (row_y v)) (zero-decided (row_z v))
   where
     by : Decided (IsZero (row_x v)) → Decided (IsZero (row_y v)) → Decided (IsZero (row_z v)) → ⊥
     by (inr f) b c = off (row_x v) (inr (inl refl)) f (row_x-is v x ∙ z.0)
@@ -53,13 +59,7 @@ module _ (M : Map) (ds : List Vector) where
 
   module _ (V : Shaped M) (x : Outlook) (k : ℕ) (d : Vector) (here : At ds k d) (h : IsDirection d) where
     pub outlook-direction : IsDirection x.vector
-    outlook-direction z = x.apart k d here h (cross-nought d x.vector z)
-      where
-        cross-nought : (u v : Vector) → IsZero v → IsZero (cross u v)
-        cross-nought u v z = (one u.y v.z u.z v.y z.2 z.1, one u.z v.x u.x v.z z.0 z.2, one u.x v.y u.y v.x z.1 z.0)
-          where
-            one : (a b c e : ℤ) → b ≡ pos 0 → e ≡ pos 0 → a *ℤ b -ℤ c *ℤ e ≡ pos 0
-            one a b c e p q = ap (λ r. a *ℤ r -ℤ c *ℤ e) p ∙ ap (λ r. a *ℤ pos 0 -ℤ c *ℤ r) q ∙ ring (a ∷ c ∷ []) (at 0 ⊗ num (pos 0) ⊖ at 1 ⊗ num (pos 0)) (num (pos 0)) tt
+    outlook-direction z = x.apart k d here h (cross-none d x.vector z)
 
     pub outlook-free : IsFree M x.vector
     outlook-free = record {
@@ -86,9 +86,9 @@ module _ (M : Map) (ds : List Vector) where
           where
             row : IsZero (blend i d j x.vector) → IsZero (cross d (blend i d j x.vector))
             row z = (
-              sym (row_x-is d (blend i d j x.vector)) ∙ dot-nought (row_x d) (blend i d j x.vector) z,
-              sym (row_y-is d (blend i d j x.vector)) ∙ dot-nought (row_y d) (blend i d j x.vector) z,
-              sym (row_z-is d (blend i d j x.vector)) ∙ dot-nought (row_z d) (blend i d j x.vector) z,
+              sym (row_x-is d (blend i d j x.vector)) ∙ dot-zero (row_x d) (blend i d j x.vector) z,
+              sym (row_y-is d (blend i d j x.vector)) ∙ dot-zero (row_y d) (blend i d j x.vector) z,
+              sym (row_z-is d (blend i d j x.vector)) ∙ dot-zero (row_z d) (blend i d j x.vector) z,
             )
 
 pub blend-turned : (i j : ℕ) (d e : Vector) → blend i d j e ≡ blend j e i d
@@ -113,7 +113,7 @@ outlook-svertex M ds V x F empty k v here h = record {
   where
     direction : (i j : ℕ) → 0 < j → IsDirection (blend i v j x.vector)
     direction i j sj z = cross-between v x.vector i j sj (x.apart k v here h) (
-      sym (row_x-is v (blend i v j x.vector)) ∙ dot-nought (row_x v) (blend i v j x.vector) z,
-      sym (row_y-is v (blend i v j x.vector)) ∙ dot-nought (row_y v) (blend i v j x.vector) z,
-      sym (row_z-is v (blend i v j x.vector)) ∙ dot-nought (row_z v) (blend i v j x.vector) z,
+      sym (row_x-is v (blend i v j x.vector)) ∙ dot-zero (row_x v) (blend i v j x.vector) z,
+      sym (row_y-is v (blend i v j x.vector)) ∙ dot-zero (row_y v) (blend i v j x.vector) z,
+      sym (row_z-is v (blend i v j x.vector)) ∙ dot-zero (row_z v) (blend i v j x.vector) z,
     )

@@ -9,8 +9,10 @@ use Rattle.nef_space.specs.declared.label.Label.{Label}
 use Rattle.nef_sphere.specs.Maps.{At, Map, NearLabel, Valid}
 use Rattle.nef_sphere.specs.Least.{by_side, NearStraight}
 use Rattle.nef_sphere.specs.Stars.{Ray, Star, ray_way, StarShows, IsSimplified}
-use Rattle.nef_sphere.proofs.Vectors.{self-pos, nought-if, dot-comm, same-minus}
-use Rattle.nef_sphere.proofs.Parallel.{cross-turned, parallel-trans}
+use Rattle.nef_sphere.proofs.Vectors.{nought-if, same-minus}
+use Rattle.nef_forms.proofs.Directions.{self-pos, dot-comm}
+use Rattle.nef_sphere.proofs.Parallel.{parallel-trans}
+use Rattle.nef_near.proofs.FlatDecided.{cross-turned}
 use Rattle.nef_sphere.proofs.Labels.{near-unique, label-unique, way-signs}
 use Rattle.nef_sphere.proofs.Around.{Beside, same_way, other_way, beside, opposites}
 use Rattle.nef_sphere.proofs.Compare.{way-self, SameDirection-turned, SameDirection-trans}

@@ -6,9 +6,13 @@ use Rattle.nef_exact.proofs.Order.{sign, by_order}
 use Rattle.nef_space.specs.Vectors.{Vector, IsDirection, triple, cross, dot, SameDirection, IsOpposite}
 use Rattle.nef_sphere.specs.Maps.{StrictlyOn}
 use Rattle.nef_sphere.specs.Forms.{Keeps, arc_forms}
-use Rattle.nef_sphere.proofs.Vectors.{Decided, dot-comm, triple-last, triple-middle, self-pos, dot-nought, same-plus, same-minus, same-nought}
+use Rattle.nef_sphere.proofs.Vectors.{triple-middle, same-plus, same-minus}
+use Rattle.nef_near.proofs.Decided.{Decided}
+use Rattle.nef_forms.proofs.Far.{same-nought}
+use Rattle.nef_forms.proofs.Directions.{dot-comm, self-pos, dot-zero}
 use Rattle.nef_sphere.proofs.Places.{SameDirection-decided, kept-minus}
-use Rattle.nef_sphere.proofs.Parallel.{parallel-trans, parallel-in_plane, cross-turned}
+use Rattle.nef_sphere.proofs.Parallel.{parallel-trans, parallel-in_plane}
+use Rattle.nef_near.proofs.FlatDecided.{cross-turned, triple-dot}
 use Rattle.nef_sphere.proofs.Labels.{way-signs, way-direction}
 use Rattle.nef_sphere.proofs.Around.{opposite-triple, triple-turned, turn-plus, turn-minus, opposites, Beside, same_way, other_way, beside}
 use Rattle.nef_sphere.proofs.Compare.{SameDirection-turned, SameDirection-trans}
@@ -21,7 +25,7 @@ turn-first : (n m a b : Vector) → SameDirection n m → sign (triple m a b) �
 turn-first n m a b w = ap sign (dot-comm m (cross a b)) ∙ way-signs n m (cross a b) (way-directed n m w) w ∙ ap sign (dot-comm (cross a b) n)
 
 pub turn-last : (n a b c : Vector) → SameDirection b c → sign (triple n a c) ≡ sign (triple n a b)
-turn-last n a b c w = ap sign (triple-last n a c) ∙ way-signs b c (cross n a) (way-directed b c w) w ∙ ap sign (sym (triple-last n a b))
+turn-last n a b c w = ap sign (triple-dot n a c) ∙ way-signs b c (cross n a) (way-directed b c w) w ∙ ap sign (sym (triple-dot n a b))
 
 turn-middle : (n a b c : Vector) → SameDirection b c → sign (triple n c a) ≡ sign (triple n b a)
 turn-middle n a b c w = ap sign (triple-middle n c a) ∙ way-signs b c (cross a n) (way-directed b c w) w ∙ ap sign (sym (triple-middle n b a))
@@ -54,7 +58,7 @@ module _ (n s t y : Vector) (hs : IsDirection s) (ht : IsDirection t) (ls : dot 
   pub after-target : SameDirection s t
   after-target = by_order (triple n s t) (pos 0)
       (λ l. absurd (⊎_elim
-      (λ r. let m = subst (λ (r : ℤ). r <ℤ pos 0) (sym (triple-last n s y)) (kept-minus (cross n s) t y (k (cross n s) (inr (inl refl))) (subst (λ (r : ℤ). r <ℤ pos 0) (triple-last n s t) l)) in omega (arith, ints))
+      (λ r. let m = subst (λ (r : ℤ). r <ℤ pos 0) (sym (triple-dot n s y)) (kept-minus (cross n s) t y (k (cross n s) (inr (inl refl))) (subst (λ (r : ℤ). r <ℤ pos 0) (triple-dot n s t) l)) in omega (arith, ints))
       (λ r. let e = triple-turned n y t in let a = after in omega (arith, ints)) (o.more_than_half l)))
       (λ z. by (beside s t hs ht (parallel-in_plane n s t hn ls lt z)))
       (λ l. let r = (o.less_than_half l).1 in let e = triple-turned n y t in let a = after in absurd (omega (arith, ints)))
@@ -74,10 +78,10 @@ module _ (n s t u : Vector) (hn : IsDirection n) (hs : IsDirection s) (ht : IsDi
   on-by a b e f g = record { on_circle = record { direction = hu; level = lu }; not_source = a; not_target = b; less_than_half = e; more_than_half = f; just_half = g }
 
   opposite-level : IsOpposite s t → triple n s t ≡ pos 0
-  opposite-level o = dot-nought n (cross s t) o.parallel
+  opposite-level o = dot-zero n (cross s t) o.parallel
 
   same-level : SameDirection s t → triple n s t ≡ pos 0
-  same-level o = dot-nought n (cross s t) o.parallel
+  same-level o = dot-zero n (cross s t) o.parallel
 
   -- the whole circle passes all but its end
   pub whole-passes : SameDirection s t → (SameDirection t u → ⊥) → StrictlyOn n s t u
@@ -97,7 +101,7 @@ module _ (n s t u : Vector) (hn : IsDirection n) (hs : IsDirection s) (ht : IsDi
       not_target = λ w. off (SameDirection-turned u t w);
       less_than_half = λ h. (e h, b);
       more_than_half = λ h. inr b;
-      just_half = λ o. d (dot-nought n (cross s u) o.parallel);
+      just_half = λ o. d (dot-zero n (cross s u) o.parallel);
     }
 
     -- beyond the source

@@ -6,11 +6,14 @@ use Rattle.nef_space.specs.Vectors.{Vector, IsDirection, cross, dot, IsZero, Sam
 use Rattle.nef_space.specs.declared.label.Label.{Label}
 use Rattle.nef_sphere.specs.Maps.{At, Svertex, Loop, Map, Item, arc_item, loop_item, items, way_of, IsFree, whole, directly, MapLabel, seen, HasArc, Valid}
 use Rattle.nef_sphere.specs.Least.{NearPlain, NearStraight, Least, SameLabels, MatchedArc, MatchedSvertex, Within}
-use Rattle.nef_sphere.proofs.Vectors.{Decided, same-nought, self-pos}
+use Rattle.nef_near.proofs.Decided.{Decided, decided-or}
+use Rattle.nef_forms.proofs.Far.{same-nought}
+use Rattle.nef_forms.proofs.Directions.{self-pos}
 use Rattle.nef_sphere.proofs.Lists.{search_list, at-one}
-use Rattle.nef_sphere.proofs.Places.{axis_x, either-decided}
+use Rattle.nef_sphere.proofs.Places.{axis_x}
 use Rattle.nef_sphere.proofs.Forms.{PlaceOf, svertex_place, item_place, free_place, place_of}
-use Rattle.nef_sphere.proofs.Parallel.{cross-turned, apart, parallel-trans, circle-point}
+use Rattle.nef_sphere.proofs.Parallel.{apart, parallel-trans, circle-point}
+use Rattle.nef_near.proofs.FlatDecided.{cross-turned}
 use Rattle.nef_sphere.proofs.Shot.{arc-at}
 use Rattle.nef_sphere.proofs.Sight.{clear-self}
 use Rattle.nef_sphere.proofs.Labels.{label-unique, near-unique, label-by_signs, way-signs}
@@ -25,7 +28,7 @@ eq-decided a b = ⊎_elim (λ l. inr (λ e. omega arith)) (λ l. ⊎_elim (λ m.
 
 pub HasArc-decided : (M : Map) (k : ℕ) → Decided (HasArc M k)
 HasArc-decided M k = ⊎_elim (λ f. inl (f.number, f.element, f.listed, f.holds)) (λ n. inr (λ h. n h.0 h.1 h.2 h.3))
-    (search_list M.arcs (λ i a. (a.source ≡ k) ⊎ (a.target ≡ k)) (λ i a. either-decided (eq-decided a.source k) (eq-decided a.target k)))
+    (search_list M.arcs (λ i a. (a.source ≡ k) ⊎ (a.target ≡ k)) (λ i a. decided-or (eq-decided a.source k) (eq-decided a.target k)))
 
 -- a direction that isn't parallel to d
 pub beside-d : (d : Vector) → IsDirection d → (e : Vector) × IsDirection (cross d e)

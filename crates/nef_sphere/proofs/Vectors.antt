@@ -5,11 +5,10 @@ use Rattle.nef_exact.proofs.Ring.{ring, at, num, ◌⊕◌, ◌⊖◌, ◌⊗◌
 use Rattle.nef_exact.proofs.Combination.{follows, follows_times, given, none}
 use Rattle.nef_exact.proofs.Order.{sign, sign-plus, sign-minus, plus-is, minus-is, nought-is, by_order, mul_pos, square_nonneg}
 use Rattle.nef_space.specs.Vectors.{Vector, IsDirection, triple, cross, dot, IsZero, IsNormal}
+use Rattle.nef_forms.proofs.Directions.{dot-zero, self-pos}
+use Rattle.nef_near.proofs.Decided.{Decided}
 use Rattle.nef_sphere.specs.Vectors.{comb}
 use Rattle.nef_sphere.specs.Maps.{At, Map, Item, items, item_normal, Shaped}
-
-abbrev pub Decided : Type 0 → Type 0
-Decided A = A ⊎ (A → ⊥)
 
 -- ---- linear
 pub dot-comb : (g : Vector) (a : ℤ) (u : Vector) (b : ℤ) (v : Vector) → dot g (comb a u b v) ≡ a *ℤ dot g u +ℤ b *ℤ dot g v
@@ -17,29 +16,18 @@ dot-comb g a u b v = ring (g.x ∷ g.y ∷ g.z ∷ a ∷ u.x ∷ u.y ∷ u.z ∷
     (at 0 ⊗ (at 3 ⊗ at 4 ⊕ at 7 ⊗ at 8) ⊕ at 1 ⊗ (at 3 ⊗ at 5 ⊕ at 7 ⊗ at 9) ⊕ at 2 ⊗ (at 3 ⊗ at 6 ⊕ at 7 ⊗ at 10))
     (at 3 ⊗ (at 0 ⊗ at 4 ⊕ at 1 ⊗ at 5 ⊕ at 2 ⊗ at 6) ⊕ at 7 ⊗ (at 0 ⊗ at 8 ⊕ at 1 ⊗ at 9 ⊕ at 2 ⊗ at 10)) tt
 
-pub dot-comm : (a b : Vector) → dot a b ≡ dot b a
-dot-comm a b = ring (a.x ∷ a.y ∷ a.z ∷ b.x ∷ b.y ∷ b.z ∷ []) (at 0 ⊗ at 3 ⊕ at 1 ⊗ at 4 ⊕ at 2 ⊗ at 5) (at 3 ⊗ at 0 ⊕ at 4 ⊗ at 1 ⊕ at 5 ⊗ at 2) tt
-
 pub comb-dot : (a : ℤ) (u : Vector) (b : ℤ) (v g : Vector) → dot (comb a u b v) g ≡ a *ℤ dot u g +ℤ b *ℤ dot v g
 comb-dot a u b v g = ring (g.x ∷ g.y ∷ g.z ∷ a ∷ u.x ∷ u.y ∷ u.z ∷ b ∷ v.x ∷ v.y ∷ v.z ∷ [])
     ((at 3 ⊗ at 4 ⊕ at 7 ⊗ at 8) ⊗ at 0 ⊕ (at 3 ⊗ at 5 ⊕ at 7 ⊗ at 9) ⊗ at 1 ⊕ (at 3 ⊗ at 6 ⊕ at 7 ⊗ at 10) ⊗ at 2)
     (at 3 ⊗ (at 4 ⊗ at 0 ⊕ at 5 ⊗ at 1 ⊕ at 6 ⊗ at 2) ⊕ at 7 ⊗ (at 8 ⊗ at 0 ⊕ at 9 ⊗ at 1 ⊕ at 10 ⊗ at 2)) tt
 
--- the triple product as a form in its last and in its middle vector
-pub triple-last : (n s d : Vector) → triple n s d ≡ dot (cross n s) d
-triple-last n s d = ring (n.x ∷ n.y ∷ n.z ∷ s.x ∷ s.y ∷ s.z ∷ d.x ∷ d.y ∷ d.z ∷ [])
-    (at 0 ⊗ (at 4 ⊗ at 8 ⊖ at 5 ⊗ at 7) ⊕ at 1 ⊗ (at 5 ⊗ at 6 ⊖ at 3 ⊗ at 8) ⊕ at 2 ⊗ (at 3 ⊗ at 7 ⊖ at 4 ⊗ at 6))
-    ((at 1 ⊗ at 5 ⊖ at 2 ⊗ at 4) ⊗ at 6 ⊕ (at 2 ⊗ at 3 ⊖ at 0 ⊗ at 5) ⊗ at 7 ⊕ (at 0 ⊗ at 4 ⊖ at 1 ⊗ at 3) ⊗ at 8) tt
-
+-- the triple product as a form in its middle vector
 pub triple-middle : (n d t : Vector) → triple n d t ≡ dot (cross t n) d
 triple-middle n d t = ring (n.x ∷ n.y ∷ n.z ∷ d.x ∷ d.y ∷ d.z ∷ t.x ∷ t.y ∷ t.z ∷ [])
     (at 0 ⊗ (at 4 ⊗ at 8 ⊖ at 5 ⊗ at 7) ⊕ at 1 ⊗ (at 5 ⊗ at 6 ⊖ at 3 ⊗ at 8) ⊕ at 2 ⊗ (at 3 ⊗ at 7 ⊖ at 4 ⊗ at 6))
     ((at 7 ⊗ at 2 ⊖ at 8 ⊗ at 1) ⊗ at 3 ⊕ (at 8 ⊗ at 0 ⊖ at 6 ⊗ at 2) ⊗ at 4 ⊕ (at 6 ⊗ at 1 ⊖ at 7 ⊗ at 0) ⊗ at 5) tt
 
 -- ---- signs
-pub nought-or : (z : ℤ) → Decided (z ≡ pos 0)
-nought-or z = by_order z (pos 0) (λ b. inr (λ e. omega (arith, ints))) (λ e. inl e) (λ b. inr (λ e. omega (arith, ints)))
-
 pub positive-or : (z : ℤ) → Decided (pos 0 <ℤ z)
 positive-or z = by_order z (pos 0) (λ b. inr (λ e. omega (arith, ints))) (λ e. inr (λ f. omega (arith, ints))) (λ b. inl b)
 
@@ -52,45 +40,10 @@ same-plus a b e h = plus-is b (e ∙ sign-plus a h)
 pub same-minus : (a b : ℤ) → sign b ≡ sign a → a <ℤ pos 0 → b <ℤ pos 0
 same-minus a b e h = minus-is b (e ∙ sign-minus a h)
 
-pub same-nought : (a b : ℤ) → sign b ≡ sign a → a ≡ pos 0 → b ≡ pos 0
-same-nought a b e h = nought-is b (e ∙ ap sign h)
-
-pub same-off : (a b : ℤ) → sign b ≡ sign a → (a ≡ pos 0 → ⊥) → b ≡ pos 0 → ⊥
-same-off a b e h z = h (nought-is a (sym e ∙ ap sign z))
-
-pub square_pos : (a : ℤ) → (a ≡ pos 0 → ⊥) → pos 0 <ℤ (a *ℤ a)
-square_pos a f = by_order a (pos 0)
-    (λ b. let p = mul_pos (pos 0 -ℤ a) (pos 0 -ℤ a) (omega (arith, ints)) (omega (arith, ints)) in let e = ring (a ∷ []) ((num (pos 0) ⊖ at 0) ⊗ (num (pos 0) ⊖ at 0)) (at 0 ⊗ at 0) tt in omega (arith, ints))
-    (λ e. absurd (f e)) (λ b. mul_pos a a b b)
-
 -- ---- noughts
-pub nought-decided : (e : Vector) → Decided (IsZero e)
-nought-decided e = by (nought-or e.x) (nought-or e.y) (nought-or e.z)
-  where
-    by : Decided (e.x ≡ pos 0) → Decided (e.y ≡ pos 0) → Decided (e.z ≡ pos 0) → Decided (IsZero e)
-    by (inr n) y z = inr (λ a. n a.0)
-    by (inl x) (inr n) z = inr (λ a. n a.1)
-    by (inl x) (inl y) (inr n) = inr (λ a. n a.2)
-    by (inl x) (inl y) (inl z) = inl (x, y, z)
-
-pub dot-nought : (g e : Vector) → IsZero e → dot g e ≡ pos 0
-dot-nought g e z = follows (g.x ∷ g.y ∷ g.z ∷ e.x ∷ e.y ∷ e.z ∷ []) (at 0 ⊗ at 3 ⊕ at 1 ⊗ at 4 ⊕ at 2 ⊗ at 5) (num (pos 0))
-    (given (at 0) (at 3) (num (pos 0)) z.0 (given (at 1) (at 4) (num (pos 0)) z.1 (given (at 2) (at 5) (num (pos 0)) z.2 none))) tt
-
-pub nought-dot : (e g : Vector) → IsZero e → dot e g ≡ pos 0
-nought-dot e g z = dot-comm e g ∙ dot-nought g e z
-
 -- a direction that some form does not vanish at
 pub direction-by : (g e : Vector) → (dot g e ≡ pos 0 → ⊥) → IsDirection e
-direction-by g e f z = f (dot-nought g e z)
-
-pub self-pos : (h : Vector) → IsDirection h → pos 0 <ℤ dot h h
-self-pos h f =
-    let a = square_nonneg h.x in let b = square_nonneg h.y in let c = square_nonneg h.z in
-    ⊎_elim (λ x. ⊎_elim (λ y. ⊎_elim (λ z. absurd (f (x, y, z)))
-    (λ z. let p = square_pos h.z z in omega (arith, ints)) (nought-or h.z))
-    (λ y. let p = square_pos h.y y in omega (arith, ints)) (nought-or h.y))
-    (λ x. let p = square_pos h.x x in omega (arith, ints)) (nought-or h.x)
+direction-by g e f z = f (dot-zero g e z)
 
 -- parallel and perpendicular to a direction at once
 pub nought-if : (v d : Vector) → IsDirection v → IsZero (cross v d) → dot v d ≡ pos 0 → IsZero d

@@ -6,26 +6,22 @@ use Rattle.nef_exact.proofs.Order.{Sign, minus, nought, plus, sign}
 use Rattle.nef_exact.specs.Signs.{Lies}
 use Rattle.nef_space.specs.Vectors.{Vector, IsDirection, cross, dot, IsZero, IsOpposite, blend}
 use Rattle.nef_space.specs.declared.label.Label.{Label}
-use Rattle.nef_near.proofs.Segment.{opposite, sign-inside, opposite-left, opposite-right, balance, weight}
+use Rattle.nef_forms.proofs.Crossings.{opposite, sign-inside, opposite-left, opposite-right, balance, weight}
+use Rattle.nef_near.proofs.Meets.{cross-none}
 use Rattle.nef_sphere.specs.Forms.{SameSigns}
 use Rattle.nef_sphere.specs.Labelling.{Labelling, Plain}
-use Rattle.nef_sphere.proofs.Vectors.{dot-comb, dot-nought, nought-decided}
+use Rattle.nef_sphere.proofs.Vectors.{dot-comb}
+use Rattle.nef_forms.proofs.Directions.{dot-zero, zero-decided}
 use Rattle.nef_sphere.proofs.Places.{row_x, row_y, row_z, row_x-is, row_y-is, row_z-is}
-use Rattle.nef_sphere.proofs.Parallel.{vector-same, cross-turned}
+use Rattle.nef_near.proofs.FlatDecided.{cross-turned}
+use Rattle.nef_near.proofs.Flats.{vector-same}
 use Rattle.nef_sphere.proofs.Direct.{cross-between}
 use Rattle.nef_sphere.proofs.StepOff.{blend-turned}
 use Rattle.nef_sphere.proofs.Labels.{way-signs}
 use Rattle.nef_sphere.proofs.Around.{Beside, same_way, other_way, beside}
 
-pub cross-nought_right : (d e : Vector) → IsZero e → IsZero (cross d e)
-cross-nought_right d e z = (
-  sym (row_x-is d e) ∙ dot-nought (row_x d) e z,
-  sym (row_y-is d e) ∙ dot-nought (row_y d) e z,
-  sym (row_z-is d e) ∙ dot-nought (row_z d) e z,
-)
-
 pub cross-direction_right : (d e : Vector) → IsDirection (cross d e) → IsDirection e
-cross-direction_right d e f z = f (cross-nought_right d e z)
+cross-direction_right d e f z = f (cross-none d e z)
 
 pub cross-direction_left : (d e : Vector) → IsDirection (cross d e) → IsDirection d
 cross-direction_left d e f = cross-direction_right e d (λ z. f (cross-turned e d z))
@@ -153,7 +149,7 @@ module _ (gs : List Vector) (F : Vector → Label → Type 0) (L : Labelling gs 
   carried d e hd he off P Q W m a = ⊎_elim
       (λ z. along (beside d e hd he z))
       (λ f. walk (crossings gs d e + 1) d e (omega arith) f P Q W m a)
-      (nought-decided (cross d e))
+      (zero-decided (cross d e))
     where
       along : Beside d e → F e m
       along (same_way w) = L.cells d e m hd he (λ g l. way-signs d e g hd w) a

@@ -1,5 +1,6 @@
 use Rattle.nef_near.specs.Cells.{carriers}
-use Rattle.nef_near.proofs.Cells.{reach_all, reach-some}
+use Rattle.nef_near.proofs.Cells.{reach-some}
+use Rattle.nef_forms.proofs.Near.{reach_all}
 use Rattle.nef_near.proofs.Germs.{label-one, Germ-unique}
 use Rattle.nef_near.proofs.Flats.{germ-toward, label-toward, Germ-by_signs}
 use Rattle.nef_near.proofs.Decided.{label_of, germ_of}

@@ -2,7 +2,6 @@ use Rattle.nef_near.proofs.Decisions.{holds-decided, label-decided, germ-decided
 use Rattle.std.proofs.Common.{inl, inr, ⊎_elim}
 use Rattle.nef_near.proofs.Flats.{Flat-from_cone, FlatCone-from_flat}
 use Rattle.nef_near.proofs.FlatDecided.{flat-decided, flat_dim-of}
-use Rattle.nef_near.proofs.Generic.{generic}
 use Rattle.nef_near.proofs.laws.decision_laws.Goals as goal
 
 pub returns-clause-holds_is_decided : goal.returns-clause-holds_is_decided
@@ -40,6 +39,3 @@ returns-clause-flat_is_decided c = λ s p d. ⊎_elim (λ f. inl (Flat-from_cone
 
 pub returns-clause-flat_dim_exists : goal.returns-clause-flat_dim_exists
 returns-clause-flat_dim_exists c = flat_dim-of
-
-pub returns-clause-generic_direction : goal.returns-clause-generic_direction
-returns-clause-generic_direction c = generic

@@ -5,9 +5,11 @@ use Rattle.nef_near.proofs.Alike.{FlatDim-one}
 use Rattle.nef_near.proofs.Meets.{vertex-meets}
 use Rattle.nef_space.specs.Place.{toward}
 use Rattle.nef_near.specs.Cells.{carriers}
-use Rattle.nef_near.proofs.Cells.{reach_all, reach-some}
+use Rattle.nef_near.proofs.Cells.{reach-some}
+use Rattle.nef_forms.proofs.Near.{reach_all}
 use Rattle.nef_near.proofs.FlatDecided.{near-of_flat, flat-of_near, flat-by_signs}
 use Rattle.nef_near.proofs.Even.{flat-toward, flat-nearby, span-3}
+use Rattle.nef_near.proofs.Supports.{flat-held, flat-line, flat-plane, edge-support, facet-support}
 use Rattle.nef_near.proofs.laws.flat_laws.Goals as goal
 
 pub returns-clause-flat_is_flat_cone : goal.returns-clause-flat_is_flat_cone
@@ -44,5 +46,20 @@ returns-clause-flat_dim_outside c = flat_dim-outside
 pub returns-clause-flat_dim_is_unique : goal.returns-clause-flat_dim_is_unique
 returns-clause-flat_dim_is_unique c = FlatDim-one
 
+pub returns-clause-flat_where_held : goal.returns-clause-flat_where_held
+returns-clause-flat_where_held c = flat-held
+
+pub returns-clause-flat_line : goal.returns-clause-flat_line
+returns-clause-flat_line c = flat-line
+
+pub returns-clause-flat_plane : goal.returns-clause-flat_plane
+returns-clause-flat_plane c = flat-plane
+
 pub returns-clause-vertex_is_meet : goal.returns-clause-vertex_is_meet
 returns-clause-vertex_is_meet c = vertex-meets
+
+pub returns-clause-edge_in_carriers : goal.returns-clause-edge_in_carriers
+returns-clause-edge_in_carriers c = edge-support
+
+pub returns-clause-facet_in_carrier : goal.returns-clause-facet_in_carrier
+returns-clause-facet_in_carrier c = facet-support

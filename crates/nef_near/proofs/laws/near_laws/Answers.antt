@@ -4,7 +4,8 @@ use Rattle.nef_near.proofs.NearGerms.{near-from_there, there-from_near}
 use Rattle.nef_near.proofs.Decisions.{near-germ_of, near-germ_one}
 use Rattle.nef_near.proofs.Topology.{near-germ_zero}
 use Rattle.nef_near.specs.Cells.{carriers}
-use Rattle.nef_near.proofs.Cells.{reach_all, reach-some}
+use Rattle.nef_near.proofs.Cells.{reach-some}
+use Rattle.nef_forms.proofs.Near.{reach_all}
 use Rattle.nef_near.proofs.FlatDecided.{near-by_signs}
 use Rattle.nef_near.proofs.Even.{germ-nearby}
 use Rattle.nef_near.proofs.laws.near_laws.Goals as goal

@@ -1,3 +1,4 @@
+use Rattle.nef_near.proofs.Determined.{same-set_of}
 use Rattle.nef_near.proofs.Alike.{cones-of_same, same-near, same-cone, Flat-by_cone, FlatDim-by_cone, NearGerm-by_cone, Joined-same}
 use Rattle.nef_near.proofs.laws.same_set_laws.Goals as goal
 
@@ -18,3 +19,6 @@ returns-clause-near_germ_by_same_cone c = NearGerm-by_cone
 
 pub returns-clause-joined_by_same_set : goal.returns-clause-joined_by_same_set
 returns-clause-joined_by_same_set c = Joined-same
+
+pub returns-clause-same_set_by_vertices : goal.returns-clause-same_set_by_vertices
+returns-clause-same_set_by_vertices c = same-set_of

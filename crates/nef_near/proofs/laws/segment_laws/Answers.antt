@@ -1,5 +1,6 @@
 use Rattle.nef_space.specs.Local.{HasLabel, FlatDim}
-use Rattle.nef_near.proofs.Cells.{reach_all, reach-some}
+use Rattle.nef_near.proofs.Cells.{reach-some}
+use Rattle.nef_forms.proofs.Near.{reach_all}
 use Rattle.nef_near.proofs.Skeleton.{flat_dim-nearby, flat-below_first}
 use Rattle.nef_near.specs.Cells.{carriers}
 use Rattle.nef_near.proofs.Germs.{Label-cells}

@@ -1,0 +1,4 @@
+pub mod SignNumbers
+pub mod Ends
+pub mod Candidates
+pub mod Ways

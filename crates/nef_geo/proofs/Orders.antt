@@ -1,0 +1,93 @@
+-- The order of points, coordinate by coordinate.
+use Rattle.std.proofs.Common.{◌≡◌, ◌≤◌, ℤ, pos, ◌*ℤ◌, ◌<ℤ◌, nat_abs, List, [], ◌∷◌, inl, inr, arith, ap, sym, subst, ◌∙◌, w64, to_z, of_z}
+use Rattle.std.proofs.Common.{Ordering, Less, Equal, Greater}
+use Rattle.std.specs.Cmp.{int_ranks}
+use Rattle.std.specs.Ordering.{MatchOrdering, int_cmp, ordering_then}
+use Rattle.std.proofs.lemmas.Cmp.{int_ranked}
+use Rattle.nef_space.specs.Limits.{point_limit, weight_limit}
+use Rattle.nef_space.specs.Numbers.{IsBelow}
+use Rattle.nef_space.specs.Place.{Place, form_numbers, SamePlace, IsPlaceBelow}
+use Rattle.nef_space.specs.Vectors.{triple_of}
+use Rattle.nef_geo.specs.declared.dir.Dir.{Dir}
+use Rattle.nef_geo.specs.declared.plane.Plane.{Plane}
+use Rattle.nef_geo.specs.declared.point.Point.{Point}
+use Rattle.nef_geo.specs.Shapes.{form_of, place_of, vector_of}
+use Rattle.nef_geo.proofs.Places.{pos_size}
+use Rattle.nef_geo.proofs.Products.{kept}
+use Rattle.nef_geo.proofs.Unique.{direction_equal, plane_equal}
+
+-- x over p's w against y over q's
+abbrev pub IsRanked : ℤ → Place → ℤ → Place → Ordering → Type 0
+IsRanked x p y q o = MatchOrdering o ((x *ℤ pos q.w) <ℤ (y *ℤ pos p.w)) (x *ℤ pos q.w ≡ y *ℤ pos p.w) ((y *ℤ pos p.w) <ℤ (x *ℤ pos q.w))
+
+pub IsRanked-from_cmp : (x : ℤ) (p : Point) (y : ℤ) (q : Point) (o : Ordering) → nat_abs x ≤ point_limit → nat_abs y ≤ point_limit
+    → o ≡ int_cmp (to_z w64 (of_z w64 x) *ℤ to_z w64 (of_z w64 q.w)) (to_z w64 (of_z w64 y) *ℤ to_z w64 (of_z w64 p.w)) → IsRanked x (place_of p) y (place_of q) o
+IsRanked-from_cmp x p y q o sx sy e =
+    let wide = λ (n : ℤ) (h : nat_abs n ≤ weight_limit). let k : nat_abs n ≤ point_limit = omega (arith, h) in k in
+    int_ranked _ _ o (e
+    ∙ ap (λ (n : ℤ). int_cmp n (to_z w64 (of_z w64 y) *ℤ to_z w64 (of_z w64 p.w))) (numbers x q.w sx (wide q.w q.w_small) q.proper)
+    ∙ ap (λ (n : ℤ). int_cmp (x *ℤ pos (nat_abs q.w)) n) (numbers y p.w sy (wide p.w p.w_small) p.proper))
+  where
+    numbers : (n w : ℤ) → nat_abs n ≤ point_limit → nat_abs w ≤ point_limit → pos 0 <ℤ w → to_z w64 (of_z w64 n) *ℤ to_z w64 (of_z w64 w) ≡ n *ℤ pos (nat_abs w)
+    numbers n w sn sw positive = ap (λ (m : ℤ). m *ℤ to_z w64 (of_z w64 w)) (kept n sn) ∙ ap (λ (m : ℤ). n *ℤ m) (kept w sw ∙ sym (pos_size w positive))
+
+-- points that agree in x and y are in the order of their z
+pub order-from_last : (p q : Place) (o : Ordering) → p.x *ℤ pos q.w ≡ q.x *ℤ pos p.w → p.y *ℤ pos q.w ≡ q.y *ℤ pos p.w → IsRanked p.z p q.z q o → MatchOrdering o (IsPlaceBelow p q) (SamePlace p q) (IsPlaceBelow q p)
+order-from_last p q Less ex ey h = inr (ex, inr (ey, inl h))
+order-from_last p q Equal ex ey h = record { along_x = ex; along_y = ey; along_z = h }
+order-from_last p q Greater ex ey h = inr (sym ex, inr (sym ey, inl h))
+
+-- ---- lists of numbers
+then-cons : (x y : ℤ) (xs ys : List ℤ) (k o : Ordering) → MatchOrdering k (x <ℤ y) (x ≡ y) (y <ℤ x) → MatchOrdering o (IsBelow xs ys) (xs ≡ ys) (IsBelow ys xs)
+    → MatchOrdering (ordering_then k o) (IsBelow (x ∷ xs) (y ∷ ys)) (x ∷ xs ≡ y ∷ ys) (IsBelow (y ∷ ys) (x ∷ xs))
+then-cons x y xs ys Less o h k = inl h
+then-cons x y xs ys Greater o h k = inl h
+then-cons x y xs ys Equal Less h k = inr (h, k)
+then-cons x y xs ys Equal Equal h k = cc
+then-cons x y xs ys Equal Greater h k = inr (sym h, k)
+
+-- o is the order of the lists
+pub record IsListOrder (o : Ordering) (xs ys : List ℤ) : Type 0 where
+  pub order : MatchOrdering o (IsBelow xs ys) (xs ≡ ys) (IsBelow ys xs)
+
+order-cons : (x y : ℤ) (xs ys : List ℤ) (o : Ordering) → IsListOrder o xs ys → IsListOrder (ordering_then (int_cmp x y) o) (x ∷ xs) (y ∷ ys)
+order-cons x y xs ys o h = record { order = then-cons x y xs ys (int_cmp x y) o (int_ranks x y) h.order }
+
+one-order : (x y : ℤ) (k : Ordering) → MatchOrdering k (x <ℤ y) (x ≡ y) (y <ℤ x) → MatchOrdering k (IsBelow (x ∷ []) (y ∷ [])) (x ∷ [] ≡ y ∷ []) (IsBelow (y ∷ []) (x ∷ []))
+one-order x y Less h = inl h
+one-order x y Equal h = cc
+one-order x y Greater h = inl h
+
+order-one : (x y : ℤ) → IsListOrder (int_cmp x y) (x ∷ []) (y ∷ [])
+order-one x y = record { order = one-order x y (int_cmp x y) (int_ranks x y) }
+
+order-map : (E : Type 0) (o : Ordering) (xs ys : List ℤ) → (xs ≡ ys → E) → IsListOrder o xs ys → MatchOrdering o (IsBelow xs ys) E (IsBelow ys xs)
+order-map E Less xs ys f h = h.order
+order-map E Equal xs ys f h = f h.order
+order-map E Greater xs ys f h = h.order
+
+dir-equal : (a b : Dir) → triple_of (vector_of a) ≡ triple_of (vector_of b) → a ≡ b
+dir-equal a b e =
+    direction_equal a.x a.y a.z (a.x_small, a.y_small, a.z_small, a.some, a.lowest) b.x b.y b.z (b.x_small, b.y_small, b.z_small, b.some, b.lowest) (cc) (cc) (cc)
+
+abbrev pub dir_order : Dir → Dir → Ordering
+dir_order a b = ordering_then (int_cmp a.x b.x) (ordering_then (int_cmp a.y b.y) (int_cmp a.z b.z))
+
+pub dir-ordered : (a b : Dir) (o : Ordering) → o ≡ dir_order a b → MatchOrdering o (IsBelow (triple_of (vector_of a)) (triple_of (vector_of b))) (a ≡ b) (IsBelow (triple_of (vector_of b)) (triple_of (vector_of a)))
+dir-ordered a b o e =
+    order-map (a ≡ b) o (triple_of (vector_of a)) (triple_of (vector_of b)) (dir-equal a b)
+    (subst (λ (k : Ordering). IsListOrder k (triple_of (vector_of a)) (triple_of (vector_of b))) (sym e)
+    (order-cons a.x b.x (a.y ∷ a.z ∷ []) (b.y ∷ b.z ∷ []) _ (order-cons a.y b.y (a.z ∷ []) (b.z ∷ []) _ (order-one a.z b.z))))
+
+plane-equal : (g h : Plane) → form_numbers (form_of g) ≡ form_numbers (form_of h) → g ≡ h
+plane-equal g h e =
+    plane_equal g.a g.b g.c g.d (g.a_small, g.b_small, g.c_small, g.d_small, g.lowest, g.normal) h.a h.b h.c h.d (h.a_small, h.b_small, h.c_small, h.d_small, h.lowest, h.normal) (cc) (cc) (cc) (cc)
+
+abbrev pub plane_order : Plane → Plane → Ordering
+plane_order g h = ordering_then (int_cmp g.a h.a) (ordering_then (int_cmp g.b h.b) (ordering_then (int_cmp g.c h.c) (int_cmp g.d h.d)))
+
+pub plane-ordered : (g h : Plane) (o : Ordering) → o ≡ plane_order g h → MatchOrdering o (IsBelow (form_numbers (form_of g)) (form_numbers (form_of h))) (g ≡ h) (IsBelow (form_numbers (form_of h)) (form_numbers (form_of g)))
+plane-ordered g h o e =
+    order-map (g ≡ h) o (form_numbers (form_of g)) (form_numbers (form_of h)) (plane-equal g h)
+    (subst (λ (k : Ordering). IsListOrder k (form_numbers (form_of g)) (form_numbers (form_of h))) (sym e)
+    (order-cons g.a h.a (g.b ∷ g.c ∷ g.d ∷ []) (h.b ∷ h.c ∷ h.d ∷ []) _ (order-cons g.b h.b (g.c ∷ g.d ∷ []) (h.c ∷ h.d ∷ []) _ (order-cons g.c h.c (g.d ∷ []) (h.d ∷ []) _ (order-one g.d h.d)))))

@@ -1,0 +1,33 @@
+use Rattle.std.proofs.Common.{rules, pos, w64, to_z, of_z, FitsSigned}
+use Rattle.nef_space.specs.Limits.{direction_limit}
+use Rattle.nef_space.specs.Vectors.{vector}
+use Rattle.nef_geo.specs.Meet.{IsStretched}
+use Rattle.nef_geo.proofs.Divisors.{IsReduced-kept, part_small, lowest_three}
+use Rattle.nef_geo.proofs.Directions.{IsDirection-part}
+use Rattle.nef_geo.proofs.dir.Dir.reduced.Goals as goal
+
+pub invariant_of-result : goal.invariant_of-result
+invariant_of-result c =
+    let r = c.lowest_terms-lowest.result in
+    let fx : FitsSigned w64 c.lowest_terms-lowest.result.x = search rules in let fy : FitsSigned w64 c.lowest_terms-lowest.result.y = search rules in
+    let fz : FitsSigned w64 c.lowest_terms-lowest.result.z = search rules in let fw : FitsSigned w64 c.lowest_terms-lowest.result.w = search rules in
+    let f0 : FitsSigned w64 (pos 0) = search rules in
+    let h = IsReduced-kept c.args.x c.args.y c.args.z (pos 0) r.x r.y r.z r.w c.ranges.x c.ranges.y c.ranges.z f0 fx fy fz fw c.lowest_terms-lowest.ensures.reduced in
+    let s : IsStretched (vector c.args.x c.args.y c.args.z) (vector (to_z w64 (of_z w64 r.x)) (to_z w64 (of_z w64 r.y)) (to_z w64 (of_z w64 r.z))) =
+    record { factor = h.factor; positive = h.positive; x_is = h.x_is; y_is = h.y_is; z_is = h.z_is } in
+    record {
+      x_small = part_small direction_limit h.factor c.args.x _ h.positive h.x_is c.requires.small.of_x;
+      y_small = part_small direction_limit h.factor c.args.y _ h.positive h.y_is c.requires.small.of_y;
+      z_small = part_small direction_limit h.factor c.args.z _ h.positive h.z_is c.requires.small.of_z;
+      some = IsDirection-part (vector c.args.x c.args.y c.args.z) _ s c.requires.some;
+      lowest = lowest_three c.args.x c.args.y c.args.z _ _ _ _ h;
+    }
+
+pub returns : goal.returns
+returns c =
+    let r = c.lowest_terms-lowest.result in
+    let fx : FitsSigned w64 c.lowest_terms-lowest.result.x = search rules in let fy : FitsSigned w64 c.lowest_terms-lowest.result.y = search rules in
+    let fz : FitsSigned w64 c.lowest_terms-lowest.result.z = search rules in let fw : FitsSigned w64 c.lowest_terms-lowest.result.w = search rules in
+    let f0 : FitsSigned w64 (pos 0) = search rules in
+    let h = IsReduced-kept c.args.x c.args.y c.args.z (pos 0) r.x r.y r.z r.w c.ranges.x c.ranges.y c.ranges.z f0 fx fy fz fw c.lowest_terms-lowest.ensures.reduced in
+    record { stretched = record { factor = h.factor; positive = h.positive; x_is = h.x_is; y_is = h.y_is; z_is = h.z_is } }

@@ -1,0 +1,50 @@
+use Rattle.std.proofs.Common.{ℕ, ℤ, List, [], ◌∷◌, w64, sym, ◌∙◌}
+use mir.Syntax.{w128}
+use Rattle.nef_space.specs.Limits.{normal_limit, offset_limit, point_limit, weight_limit}
+use Rattle.nef_exact.proofs.Machine.{Code, load, wrap, ◌⊞◌, ◌⊠◌, Limited, exact_of, fits_of, size_of}
+use Rattle.nef_geo.specs.Shapes.{form_of}
+use Rattle.nef_geo.specs.Widths.{point_form_limit}
+use Rattle.nef_geo.specs.declared.plane.Plane.{Plane}
+use Rattle.nef_geo.specs.declared.point.Point.{Point}
+use Rattle.nef_geo.proofs.Places.{form_at-place_of}
+use Rattle.nef_geo.proofs.sides.form.Goals as goal
+
+-- the bounds of a, b, c, d, x, y, z, w
+abbrev sizes : List ℕ
+sizes = normal_limit ∷ normal_limit ∷ normal_limit ∷ offset_limit ∷ point_limit ∷ point_limit ∷ point_limit ∷ weight_limit ∷ []
+
+abbrev numbers : Plane → Point → List ℤ
+numbers h p = h.a ∷ h.b ∷ h.c ∷ h.d ∷ p.x ∷ p.y ∷ p.z ∷ p.w ∷ []
+
+limits : (h : Plane) (p : Point) → Limited sizes (numbers h p)
+limits h p = (h.a_small, (h.b_small, (h.c_small, (h.d_small, (p.x_small, (p.y_small, (p.z_small, (p.w_small, tt))))))))
+
+-- the product of two fields, each cast to `i128`
+abbrev product : ℕ → ℕ → Code
+product i j = wrap w128 (wrap w128 (wrap w64 (load i)) ⊠ wrap w128 (wrap w64 (load j)))
+
+abbrev two : Code
+two = product 0 4 ⊞ product 1 5
+
+abbrev three : Code
+three = wrap w128 two ⊞ product 2 6
+
+abbrev four : Code
+four = wrap w128 three ⊞ product 3 7
+
+pub overflow_add-result : goal.overflow_add-result
+overflow_add-result c = fits_of sizes (numbers c.args.h.now c.args.p.now) w128 two (limits c.args.h.now c.args.p.now) tt
+
+pub overflow_add-result-2 : goal.overflow_add-result-2
+overflow_add-result-2 c = fits_of sizes (numbers c.args.h.now c.args.p.now) w128 three (limits c.args.h.now c.args.p.now) tt
+
+pub overflow_add-result-3 : goal.overflow_add-result-3
+overflow_add-result-3 c = fits_of sizes (numbers c.args.h.now c.args.p.now) w128 four (limits c.args.h.now c.args.p.now) tt
+
+pub returns-clause-value : goal.returns-clause-value
+returns-clause-value c =
+    exact_of sizes (numbers c.args.h.now c.args.p.now) (wrap w128 four) (limits c.args.h.now c.args.p.now) tt
+    ∙ sym (form_at-place_of (form_of c.args.h.now) c.args.p.now)
+
+pub returns-clause-width : goal.returns-clause-width
+returns-clause-width c = size_of sizes (numbers c.args.h.now c.args.p.now) point_form_limit (wrap w128 four) (limits c.args.h.now c.args.p.now) tt tt

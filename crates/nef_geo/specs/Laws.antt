@@ -1,0 +1,18 @@
+-- Normal forms are unique.
+use Rattle.std.specs.Prelude.{◌≡◌}
+use Rattle.nef_space.specs.Vectors.{SameDirection}
+use Rattle.nef_space.specs.Place.{SamePlace}
+use Rattle.nef_geo.specs.declared.plane.Plane.{Plane}
+use Rattle.nef_geo.specs.declared.point.Point.{Point}
+use Rattle.nef_geo.specs.declared.dir.Dir.{Dir}
+use Rattle.nef_geo.specs.Meet.{IsSamePlane}
+use Rattle.nef_geo.specs.Shapes.{form_of, place_of, vector_of}
+
+abbrev pub SamePlacesAreEqual : Type 0
+SamePlacesAreEqual = (p q : Point) → SamePlace (place_of p) (place_of q) → p ≡ q
+
+abbrev pub SameDirectionsAreEqual : Type 0
+SameDirectionsAreEqual = (a b : Dir) → SameDirection (vector_of a) (vector_of b) → a ≡ b
+
+abbrev pub SamePlanesAreEqual : Type 0
+SamePlanesAreEqual = (g h : Plane) → IsSamePlane (form_of g) (form_of h) → g ≡ h

@@ -1,0 +1,54 @@
+//! The orders of points and of planes.
+
+ghost use Rattle.std.specs.Prelude.{◌≡◌, ◌*ℤ◌};
+ghost use Rattle.std.specs.Ordering.{int_cmp, MatchOrdering};
+ghost use Rattle.nef_space.specs.Numbers.{IsBelow};
+ghost use Rattle.nef_space.specs.Place.{form_numbers, SamePlace, IsPlaceBelow};
+ghost use Rattle.nef_space.specs.Vectors.{triple_of};
+ghost use Rattle.nef_geo.specs.Shapes.{form_of, place_of, vector_of};
+
+use crate::dir::Dir;
+use crate::plane::Plane;
+use crate::point::Point;
+use std::cmp::Ordering;
+
+fn product(a: i64, b: i64) -> i128
+    ensures product { result ≡ a *ℤ b }
+{
+    a as i128 * b as i128
+}
+
+fn ratio_cmp(x: i64, w: i64, other_x: i64, other_w: i64) -> Ordering
+    ensures order { result ≡ int_cmp (x *ℤ other_w) (other_x *ℤ w) }
+{
+    product(x, other_w).cmp(&product(other_x, w))
+}
+
+/// Compares x/w, then y/w, then z/w.
+pub fn lex_cmp(p: &Point, q: &Point) -> Ordering
+    ensures order { MatchOrdering result (IsPlaceBelow (place_of p.now) (place_of q.now)) (SamePlace (place_of p.now) (place_of q.now)) (IsPlaceBelow (place_of q.now) (place_of p.now)) }
+{
+    match ratio_cmp(p.x, p.w, q.x, q.w) {
+        Ordering::Equal => match ratio_cmp(p.y, p.w, q.y, q.w) {
+            Ordering::Equal => ratio_cmp(p.z, p.w, q.z, q.w),
+            Ordering::Less => Ordering::Less,
+            Ordering::Greater => Ordering::Greater,
+        },
+        Ordering::Less => Ordering::Less,
+        Ordering::Greater => Ordering::Greater,
+    }
+}
+
+/// Compares two directions as triples of numbers.
+pub fn dir_cmp(a: &Dir, b: &Dir) -> Ordering
+    ensures order { MatchOrdering result (IsBelow (triple_of (vector_of a.now)) (triple_of (vector_of b.now))) (a.now ≡ b.now) (IsBelow (triple_of (vector_of b.now)) (triple_of (vector_of a.now))) }
+{
+    a.cmp(b)
+}
+
+/// Compares two planes by their four numbers.
+pub fn plane_cmp(g: &Plane, h: &Plane) -> Ordering
+    ensures order { MatchOrdering result (IsBelow (form_numbers (form_of g.now)) (form_numbers (form_of h.now))) (g.now ≡ h.now) (IsBelow (form_numbers (form_of h.now)) (form_numbers (form_of g.now))) }
+{
+    g.cmp(h)
+}

@@ -1,0 +1,40 @@
+//! On which side of a plane a point lies.
+
+ghost use Rattle.std.specs.Prelude.{◌≡◌, ◌≤◌, nat_abs};
+ghost use Rattle.nef_space.specs.Place.{form_at};
+ghost use Rattle.nef_geo.specs.Shapes.{form_of, given_form, place_of};
+ghost use Rattle.nef_geo.specs.Signs.{sign_of};
+ghost use Rattle.nef_geo.specs.Widths.{point_form_limit};
+
+use crate::plane::{Oriented, Plane};
+use crate::point::Point;
+use crate::sign::Sign;
+
+// The plane's form at the point.
+fn form(h: &Plane, p: &Point) -> i128
+    ensures value { result ≡ form_at (form_of h.now) (place_of p.now) }
+    ensures width { nat_abs result ≤ point_form_limit }
+{
+    h.a as i128 * p.x as i128
+        + h.b as i128 * p.y as i128
+        + h.c as i128 * p.z as i128
+        + h.d as i128 * p.w as i128
+}
+
+/// The sign of the plane's form at the point.
+pub fn side(h: &Plane, p: &Point) -> Sign
+    ensures side { result ≡ sign_of (form_at (form_of h.now) (place_of p.now)) }
+    ensures width { nat_abs (form_at (form_of h.now) (place_of p.now)) ≤ point_form_limit }
+{
+    Sign::of(form(h, p))
+}
+
+impl Oriented {
+    /// The sign of the given `a x + b y + c z + d w` at the point's numbers.
+    pub fn side(&self, p: &Point) -> Sign
+        ensures side { result ≡ sign_of (form_at (given_form self.now) (place_of p.now)) }
+    {
+        let sign = Sign::of(form(&self.plane, p));
+        if self.flipped { sign.opposite() } else { sign }
+    }
+}

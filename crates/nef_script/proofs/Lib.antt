@@ -1,0 +1,10 @@
+pub mod Positions
+pub mod Bound
+pub mod Failing
+pub mod ByCommand
+pub mod Shapes
+pub mod Values
+pub mod Nodes
+pub mod Questions
+pub mod Adding
+pub mod LineByLine

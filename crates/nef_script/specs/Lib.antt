@@ -1,0 +1,9 @@
+pub mod Table
+pub mod Tests
+pub mod Refusal
+pub mod Meaning
+pub mod Texts
+pub mod Names
+pub mod Checks
+pub mod Reading
+pub mod Progress

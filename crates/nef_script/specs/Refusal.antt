@@ -1,0 +1,63 @@
+-- The first refusal of a script: the first line for which some test holds, and the first such test.
+use Rattle.std.specs.Prelude.{◌≡◌, ℕ, ◌+◌, ◌<◌, ◌≤◌, Bool, true, false, List, [], ◌∷◌, ◌++◌, Option, Some, None, find, length, take, slice_get, if◌then◌else◌}
+use Rattle.nef_lex.specs.Lines.{lines_of}
+use Rattle.nef_lex.specs.Words.{words_of}
+use Rattle.nef_script.specs.Table.{verb_of, binds}
+use Rattle.nef_script.specs.Tests.{is_refused_for, on_verb}
+use Rattle.nef_script.specs.declared.table.Verb.{Verb}
+use Rattle.nef_script.specs.declared.fault.ScriptKind.{ScriptKind}
+use Rattle.nef_script.specs.declared.fault.ScriptKind.TheVariants as kind
+
+-- the most bytes of a script
+abbrev pub script_limit : ℕ
+script_limit = 1048576
+
+-- the kinds in the order of their tests
+abbrev pub kinds : List ScriptKind
+kinds =
+    kind.LineTooLong
+    ∷ kind.BadByte
+    ∷ kind.UnknownCommand
+    ∷ kind.WordCount
+    ∷ kind.BadName
+    ∷ kind.NameTaken
+    ∷ kind.UnknownName
+    ∷ kind.NotANumber
+    ∷ kind.OutOfRange
+    ∷ kind.ZeroNormal
+    ∷ kind.BadMode
+    ∷ kind.BadWeight
+    ∷ kind.TooManyNames
+    ∷ []
+
+-- the first kind that holds for a line, against the names bound before
+abbrev pub line_refusal : List (List ℕ) → List ℕ → Option ScriptKind
+line_refusal names line = find (λ k. is_refused_for k names line) kinds
+
+-- the name that a line binds, if it binds one
+abbrev pub bound_name : List (List ℕ) → List (List ℕ)
+bound_name [] = []
+bound_name (word ∷ []) = []
+bound_name (word ∷ name ∷ rest) = if on_verb binds (verb_of word) then name ∷ [] else []
+
+-- the names that lines bind, in order
+abbrev pub names_of : List (List ℕ) → List (List ℕ)
+names_of [] = []
+names_of (line ∷ lines) = bound_name (words_of line) ++ names_of lines
+
+-- the line with index n, counted from 0, has this first kind of refusal, or none; the names that count are those of the lines before it
+abbrev pub RefusalAt : List (List ℕ) → ℕ → Option ScriptKind → Type 0
+RefusalAt lines n r = (line : List ℕ) × (slice_get lines n ≡ Some line) × (line_refusal (names_of (take n lines)) line ≡ r)
+
+-- none of the first n lines is refused
+abbrev pub Passes : List (List ℕ) → ℕ → Type 0
+Passes lines n = (m : ℕ) → m < n → RefusalAt lines m None
+
+pub data FirstRefusal (bytes : List ℕ) : ℕ → ScriptKind → Type 0 where
+  too_long : script_limit < length bytes → FirstRefusal bytes 0 kind.ScriptTooLong
+  at_line : (n : ℕ) (k : ScriptKind) → length bytes ≤ script_limit → RefusalAt (lines_of bytes) n (Some k) → Passes (lines_of bytes) n → FirstRefusal bytes (n + 1) k
+
+-- the script isn't refused
+pub record IsAccepted (bytes : List ℕ) : Type 0 where
+  pub short : length bytes ≤ script_limit
+  pub passes : Passes (lines_of bytes) (length (lines_of bytes))

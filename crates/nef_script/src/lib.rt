@@ -1,0 +1,16 @@
+//! Scripts: what they mean, and the first refusal of one that is refused.
+#![tactic(auto)]
+
+mod checks;
+mod fault;
+mod meaning;
+mod names;
+mod parser;
+mod reader;
+mod refusal;
+mod script;
+mod table;
+
+pub use fault::{ScriptFault, ScriptKind};
+pub use parser::parse;
+pub use script::{Command, Name, Script};

@@ -1,0 +1,39 @@
+//! Reads a script.
+
+ghost use Rattle.std.specs.Prelude.{◌≡◌, ℕ, IfOk, length};
+ghost use Rattle.std.specs.List.{All};
+ghost use Rattle.nef_script.specs.Refusal.{FirstRefusal, IsAccepted};
+ghost use Rattle.nef_script.specs.Meaning.{MeansScript, IsWithin};
+ghost use Rattle.nef_script.specs.declared.fault.ScriptKind.{ScriptKind as Kind};
+
+use crate::fault::{ScriptFault, ScriptKind};
+use crate::reader::Reader;
+use crate::script::Script;
+use nef_lex::lines;
+use std::alloc::Global;
+
+// The most bytes of a script.
+const SCRIPT_LIMIT: usize = 1_048_576;
+
+/// The script that the bytes spell.
+///
+/// `Refused` says where the script is refused first, and for what: a script that is too long at
+/// line 0, and otherwise the first line for which some test holds, with the first such test in the
+/// order of `ScriptKind`. `OutOfMemory` says that memory was wanted and not found.
+pub fn parse(alloc: Global, bytes: &[u8]) -> Result<Script, ScriptFault>
+    ensures script { IfOk result (λ s. IsAccepted bytes.now × MeansScript bytes.now s.nodes s.commands) }
+    ensures in_range { IfOk result (λ s. All (IsWithin (length s.nodes)) s.commands) }
+    ensures refused { (line : ℕ) (kind : Kind) → result ≡ Err (ScriptFault.Refused line kind) → FirstRefusal bytes.now line kind }
+{
+    if bytes.len() > SCRIPT_LIMIT {
+        return Err(ScriptFault::Refused {
+            line: 0,
+            kind: ScriptKind::ScriptTooLong,
+        });
+    }
+    let mut reader = Reader::new(alloc);
+    for line in lines(bytes) {
+        reader.read_line(alloc, line)?;
+    }
+    Ok(reader.finish())
+}
