@@ -167,7 +167,7 @@ goes-on nodes before line lines done cs rest count h b e = by_words cs b e h
         let as_many : length (done ++ d ∷ []) ≡ length (filter has_words (before ++ line ∷ [])) = let f = filtered true is in omega (arith, length-append {A = Command}) in
         let after = rest (done ++ d ∷ []) es as_many (subst (λ z. MeansLines z nodes ((done ++ d ∷ []) ++ es)) regroup (subst (λ z. MeansLines (before ++ line ∷ lines) nodes z) (sym (append_assoc done (d ∷ []) es)) means)) in
         works (names_of before) (length before) line lines d es (subst (λ z. IsCommandOf nodes (names_of before) (length before + 1) (words_of line) z) same (words-facts nodes (names_of before) (length before + 1) (words_of line) c words_mean))
-            (subst (λ z. Goes nodes z (length before + 1) lines es) names_next (subst (λ z. Goes nodes (names_of (before ++ line ∷ [])) z lines es) length_next after))
+        (subst (λ z. Goes nodes z (length before + 1) lines es) names_next (subst (λ z. Goes nodes (names_of (before ++ line ∷ [])) z lines es) length_next after))
 
     by_words : (es : List Command) (t : Bool) → has_words line ≡ t → MeansLines (before ++ line ∷ lines) nodes (done ++ es) → Goes nodes (names_of before) (length before) (line ∷ lines) es
     by_words es false is means =
@@ -244,14 +244,14 @@ nodes-built nodes _ _ _ _ (works names n line more c ds is after) built k from t
       | inl none ↦ let zero_more : length bound ≡ 0 = ap length none in later (omega arith)
       | inr one ↦ elim (cases_lt k (length names + 1)) [
         | inl here ↦
-          let place : length names ≡ k = omega arith in
-          let b = one.1 in
-          record {
-            node = b.node;
-            is = subst (λ z. slice_get nodes z ≡ Some b.node) place b.is;
-            below = subst (λ z. NamesBelow z b.node) place b.below;
-            built = b.same ∙ command_built;
-          }
+            let place : length names ≡ k = omega arith in
+            let b = one.1 in
+            record {
+              node = b.node;
+              is = subst (λ z. slice_get nodes z ≡ Some b.node) place b.is;
+              below = subst (λ z. NamesBelow z b.node) place b.below;
+              built = b.same ∙ command_built;
+            }
         | inr past ↦ let one_more = one.0 in later (omega arith)
       ]
     ]

@@ -23,8 +23,8 @@ at-most-one bytes n m k l here before there before' = elim (cases_lt n m) [
   | inr more ↦ elim (cases_lt m n) [
     | inl less ↦ let e = refusal-same (lines_of bytes) m (Some l) None there (before m less) in cc
     | inr equal ↦
-      let same : n ≡ m = omega arith in
-      (same, some-injective k l (refusal-same (lines_of bytes) m (Some k) (Some l) (subst (λ z. RefusalAt (lines_of bytes) z (Some k)) same here) there))
+        let same : n ≡ m = omega arith in
+        (same, some-injective k l (refusal-same (lines_of bytes) m (Some k) (Some l) (subst (λ z. RefusalAt (lines_of bytes) z (Some k)) same here) there))
   ]
 ]
 

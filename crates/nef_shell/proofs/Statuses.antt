@@ -50,9 +50,9 @@ refused-whole : (bytes taken : List ℕ) (new : Option (List ℕ)) (line : ℕ) 
 refused-whole bytes taken new line kind read refused = elim read.whole [
   | inl end ↦ subst (λ z. IsRefused z line kind) (sym (taken-whole bytes taken new read.taken end)) refused
   | inr long ↦
-    let longer = taken-front bytes taken new read.taken in
-    let is = refused-long taken line kind (omega arith) refused in
-    subst (λ z. IsRefused bytes z kind) (sym is.0) (subst (IsRefused bytes 0) (sym is.1) (IsRefused.by_script 0 ScriptTooLong (FirstRefusal.too_long (omega arith))))
+      let longer = taken-front bytes taken new read.taken in
+      let is = refused-long taken line kind (omega arith) refused in
+      subst (λ z. IsRefused bytes z kind) (sym is.0) (subst (IsRefused bytes 0) (sym is.1) (IsRefused.by_script 0 ScriptTooLong (FirstRefusal.too_long (omega arith))))
 ]
 
 -- the facts of a script's run, at its status

@@ -6,6 +6,46 @@ use std::sync::Wait;
 use std::test::Fail;
 use std::thread::Threads;
 
+// A script with `/` between its lines, and what it writes, in the same form.
+const ANSWERS: &str = "half A 1 0 0 0 closed / has A 0 0 0 1 => in
+half A 1 0 0 0 open / has A 0 0 0 1 => not
+half A 1 0 0 0 closed / has A 2048 0 0 1 => frame
+half A 1 0 0 0 closed / has A 0 0 0 1 / half B 1 0 0 0 open / has B 0 0 0 1 => in / not
+half A 1 0 0 0 closed / has A 1 0 0 2 / has A -2 0 0 4 => not / in
+half A 1 0 0 0 closed / has A 2048 0 0 1 / has A 8796093022208 0 0 4294967296 => frame / frame
+half A 1 0 0 0 closed / has A 8796093022207 0 0 4294967296 => not
+full U / not N U / # nothing / has U 0 0 0 1 / has N 0 0 0 1 => in / not
+half A 1 0 0 0 closed / half B 0 1 0 0 closed / xor C A B / has C -1 1 0 1 / has C -1 -1 0 1 => in / not";
+
+// A refused script, and the line that it gives.
+const REFUSALS: &str = "ball A => line 1: unknown command
+half A 1 0 0 closed => line 1: wrong number of words
+empty 1A => line 1: bad name
+empty A / full A => line 2: name taken
+and C A B => line 1: unknown name
+half A 1 0 0 1.5 closed => line 1: not a number
+half A 0 0 0 5 closed => line 1: zero normal
+half A 1 0 0 0 shut => line 1: mode is not open or closed
+half A 2049 0 0 0 shut => line 1: coefficient out of range
+empty A / has A 0 0 0 0 => line 2: weight out of range
+empty A / has A 8796093022209 0 0 1 => line 2: coefficient out of range
+empty A \x07 => line 1: bad byte
+half A 2048 0 0 0 closed / has A 0 0 0 1 / half B 2049 0 0 0 closed => line 3: coefficient out of range
+half A 2049 0 0 0 closed / has A 0 0 0 1 => line 1: coefficient out of range
+empty E / count E => line 2: not built yet
+empty E / cl C E / has C 0 0 0 1 => line 2: not built yet
+full U / has U 0 0 0 1 / same U U / print U => line 3: not built yet";
+
+// The texts between the `/`, each with its line end.
+fn unfolded(alloc: Global, text: &str) -> Result<String, AllocError> {
+    let mut lines = String::new(alloc);
+    for line in text.split(" / ") {
+        lines.push_str(line)?;
+        lines.push('\n')?;
+    }
+    Ok(lines)
+}
+
 fn owned(alloc: Global, words: &[&str]) -> Result<Vec<String>, AllocError> {
     let mut owned = Vec::new(alloc);
     for word in words {
@@ -29,194 +69,152 @@ fn worked<R: Threads + Wait + Sync>(
     Ok((code(&status), written))
 }
 
-const NO_WORDS: [&str; 0] = [];
+// Whether a run ends with this status and writes this.
+fn gives<R: Threads + Wait + Sync>(
+    rt: &R,
+    alloc: Global,
+    script: &[u8],
+    status: u8,
+    output: &[u8],
+) -> Result<bool, AllocError> {
+    let (ended, written) = worked(rt, alloc, &[], script)?;
+    Ok(ended == status && written.as_slice() == output)
+}
+
+// Whether each row of the table comes out.
+fn fits<R: Threads + Wait + Sync>(
+    rt: &R,
+    alloc: Global,
+    table: &str,
+    status: u8,
+) -> Result<bool, AllocError> {
+    for row in table.split('\n') {
+        let Some((script, output)) = row.split_once(" => ") else {
+            return Ok(false);
+        };
+        let script = unfolded(alloc, script)?;
+        let output = unfolded(alloc, output)?;
+        if !gives(rt, alloc, script.as_bytes(), status, output.as_bytes())? {
+            return Ok(false);
+        }
+    }
+    Ok(true)
+}
 
 #[test]
 fn answers(rt: HostRuntime) -> Result<(), Fail> {
-    for (script, output) in [
-        ("", ""),
-        ("half A 1 0 0 0 closed\nhas A 0 0 0 1\n", "in\n"),
-        ("half A 1 0 0 0 open\nhas A 0 0 0 1", "not\n"),
-        ("half A 1 0 0 0 closed\nhas A 2048 0 0 1\n", "frame\n"),
-        (
-            "half A 1 0 0 0 closed\nhas A 0 0 0 1\nhalf B 1 0 0 0 open\nhas B 0 0 0 1\n",
-            "in\nnot\n",
-        ),
-        (
-            "half A 1 0 0 0 closed\nhas A 1 0 0 2\nhas A -2 0 0 4\n",
-            "not\nin\n",
-        ),
-        (
-            "half A 1 0 0 0 closed\nhas A 2048 0 0 1\nhas A 8796093022208 0 0 4294967296\nhas A 8796093022207 0 0 4294967296\n",
-            "frame\nframe\nnot\n",
-        ),
-        ("empty E\n# nothing\n", ""),
-        (
-            "full U\r\nnot N U\r\nhas U 0 0 0 1\r\nhas N 0 0 0 1\r\n",
-            "in\nnot\n",
-        ),
-        (
-            "half A 1 0 0 0 closed\nhalf B 0 1 0 0 closed\nxor C A B\nhas C -1 1 0 1\nhas C -1 -1 0 1\n",
-            "in\nnot\n",
-        ),
-    ] {
-        let (status, written) = worked(&rt, rt.alloc(), &NO_WORDS, script.as_bytes())?;
-        assert_eq!(rt; status, 0, "{script}");
-        assert_eq!(rt; written.as_slice(), output.as_bytes(), "{script}");
-    }
+    let alloc = rt.alloc();
+    assert!(rt; fits(&rt, alloc, ANSWERS, 0)?);
+    assert!(rt; gives(&rt, alloc, b"", 0, b"")?);
+    assert!(rt; gives(&rt, alloc, b"full U\r\nhas U 0 0 0 1", 0, b"in\n")?);
     Ok(())
 }
 
 #[test]
 fn refusals(rt: HostRuntime) -> Result<(), Fail> {
-    for (script, output) in [
-        ("ball A\n", "line 1: unknown command\n"),
-        ("half A 1 0 0 closed\n", "line 1: wrong number of words\n"),
-        ("empty 1A\n", "line 1: bad name\n"),
-        ("empty A\nfull A\n", "line 2: name taken\n"),
-        ("and C A B\n", "line 1: unknown name\n"),
-        ("half A 1 0 0 1.5 closed\n", "line 1: not a number\n"),
-        ("half A 0 0 0 5 closed\n", "line 1: zero normal\n"),
-        (
-            "half A 1 0 0 0 shut\n",
-            "line 1: mode is not open or closed\n",
-        ),
-        (
-            "half A 2049 0 0 0 shut\n",
-            "line 1: coefficient out of range\n",
-        ),
-        (
-            "empty A\nhas A 0 0 0 0\n",
-            "line 2: weight out of range\n",
-        ),
-        (
-            "empty A\nhas A 8796093022209 0 0 1\n",
-            "line 2: coefficient out of range\n",
-        ),
-        ("empty A \x07\n", "line 1: bad byte\n"),
-        (
-            "half A 2048 0 0 0 closed\nhas A 0 0 0 1\nhalf B 2049 0 0 0 closed\n",
-            "line 3: coefficient out of range\n",
-        ),
-        (
-            "half A 2049 0 0 0 closed\nhas A 0 0 0 1\n",
-            "line 1: coefficient out of range\n",
-        ),
-        ("empty E\ncount E\n", "line 2: not built yet\n"),
-        (
-            "empty E\ncl C E\nhas C 0 0 0 1\n",
-            "line 2: not built yet\n",
-        ),
-        (
-            "full U\nhas U 0 0 0 1\nsame U U\nprint U\n",
-            "line 3: not built yet\n",
-        ),
-    ] {
-        let (status, written) = worked(&rt, rt.alloc(), &NO_WORDS, script.as_bytes())?;
-        assert_eq!(rt; status, 1, "{script}");
-        assert_eq!(rt; written.as_slice(), output.as_bytes(), "{script}");
-    }
+    assert!(rt; fits(&rt, rt.alloc(), REFUSALS, 1)?);
     Ok(())
 }
 
-// The longest script and the longest line, the most names, and one more of each.
 #[test]
-fn limits(rt: HostRuntime) -> Result<(), Fail> {
+fn longest_script(rt: HostRuntime) -> Result<(), Fail> {
     let alloc = rt.alloc();
     let mut script = vec![in alloc; b'\n'; 1_048_576]?;
-    let (status, written) = worked(&rt, alloc, &NO_WORDS, &script)?;
-    assert_eq!(rt; (status, written.len()), (0, 0));
+    assert!(rt; gives(&rt, alloc, &script, 0, b"")?);
     script.push(b'\n')?;
-    let (status, written) = worked(&rt, alloc, &NO_WORDS, &script)?;
-    assert_eq!(rt; status, 1);
-    assert_eq!(rt; written.as_slice(), b"line 0: script too long\n".as_slice());
+    assert!(rt; gives(&rt, alloc, &script, 1, b"line 0: script too long\n")?);
+    Ok(())
+}
 
-    let mut line = vec![in alloc; b' '; 256]?;
-    line[0] = b'#';
-    let (status, written) = worked(&rt, alloc, &NO_WORDS, &line)?;
-    assert_eq!(rt; (status, written.len()), (0, 0));
+#[test]
+fn longest_line(rt: HostRuntime) -> Result<(), Fail> {
+    let alloc = rt.alloc();
+    let mut line = vec![in alloc; b'#'; 256]?;
+    assert!(rt; gives(&rt, alloc, &line, 0, b"")?);
     line.push(b' ')?;
-    let (status, written) = worked(&rt, alloc, &NO_WORDS, &line)?;
-    assert_eq!(rt; status, 1);
-    assert_eq!(rt; written.as_slice(), b"line 1: line too long\n".as_slice());
+    assert!(rt; gives(&rt, alloc, &line, 1, b"line 1: line too long\n")?);
+    Ok(())
+}
 
+#[test]
+fn most_names(rt: HostRuntime) -> Result<(), Fail> {
+    let alloc = rt.alloc();
     let mut names = String::new(alloc);
     for number in 1..=4096u32 {
         names.push_str(format!(in alloc; "full n{number}\n")?.as_str())?;
     }
-    let asked = format!(in alloc; "{}has n4096 0 0 0 1\n", names.as_str())?;
-    let (status, written) = worked(&rt, alloc, &NO_WORDS, asked.as_bytes())?;
-    assert_eq!(rt; status, 0);
-    assert_eq!(rt; written.as_slice(), b"in\n".as_slice());
+    let mut asked = names.clone()?;
+    asked.push_str("has n4096 0 0 0 1\n")?;
+    assert!(rt; gives(&rt, alloc, asked.as_bytes(), 0, b"in\n")?);
     names.push_str("full n4097\n")?;
-    let (status, written) = worked(&rt, alloc, &NO_WORDS, names.as_bytes())?;
-    assert_eq!(rt; status, 1);
-    assert_eq!(rt; written.as_slice(), b"line 4097: too many names\n".as_slice());
+    let output = b"line 4097: too many names\n";
+    assert!(rt; gives(&rt, alloc, names.as_bytes(), 1, output)?);
     Ok(())
 }
 
 #[test]
 fn words(rt: HostRuntime) -> Result<(), Fail> {
-    let alloc = rt.alloc();
-    let script = b"full U\nhas U 0 0 0 1\n";
-    for words in [
-        ["--workers", "2"].as_slice(),
-        ["--workers=2"].as_slice(),
-        ["--board", "free"].as_slice(),
+    for (words, accepted) in [
+        ("--workers 2", true),
+        ("--workers=2", true),
+        ("--board free", true),
+        ("--workers 0", false),
+        ("--workers 65", false),
+        ("--workers two", false),
+        ("--board both", false),
+        ("--colour red", false),
+        ("--help", false),
+        ("x", false),
     ] {
-        let (status, written) = worked(&rt, alloc, words, script)?;
-        assert_eq!(rt; status, 0);
-        assert_eq!(rt; written.as_slice(), b"in\n".as_slice());
-    }
-    for words in [
-        ["--workers", "0"].as_slice(),
-        ["--workers", "65"].as_slice(),
-        ["--workers", "two"].as_slice(),
-        ["--board", "both"].as_slice(),
-        ["--colour", "red"].as_slice(),
-        ["--help"].as_slice(),
-        ["x"].as_slice(),
-    ] {
-        let (status, written) = worked(&rt, alloc, words, script)?;
-        assert_eq!(rt; status, 2);
-        assert_eq!(rt; written.as_slice(), b"words refused\n".as_slice());
+        let list: Vec<&str> = words.split(' ').collect(rt.alloc())?;
+        let (status, written) = worked(&rt, rt.alloc(), &list, b"full U\nhas U 0 0 0 1\n")?;
+        let output = if accepted { "in\n" } else { "words refused\n" };
+        assert_eq!(rt; status, if accepted { 0 } else { 2 }, "{words}");
+        assert_eq!(rt; written.as_slice(), output.as_bytes(), "{words}");
     }
     Ok(())
 }
 
-// A read that fails, and writes that fail after some bytes.
+// The second read fails.
 #[test]
-fn faults(rt: HostRuntime) -> Result<(), Fail> {
+fn read_fault(rt: HostRuntime) -> Result<(), Fail> {
     let alloc = rt.alloc();
-    let script = b"half A 1 0 0 0 closed\nhas A 0 0 0 1\nhalf B 1 0 0 0 open\nhas B 0 0 0 1\n";
-    let none = owned(alloc, &NO_WORDS)?;
-    let mut source = MemSource::new(alloc, script, 10, &[2])?;
+    let words = owned(alloc, &[])?;
+    let mut source = MemSource::new(alloc, b"full U\nhas U 0 0 0 1\n", 10, &[2])?;
     let mut sink = MemSink::new(alloc, 64, 64, &[])?;
-    let status = run(&rt, alloc, &none, &mut source, &mut sink, &OpenGate);
+    let status = run(&rt, alloc, &words, &mut source, &mut sink, &OpenGate);
     assert_eq!(rt; status, Status::ReadFault);
     assert_eq!(rt; (code(&status), sink.taken().len()), (3, 0));
+    Ok(())
+}
 
+// The fourth write fails, each of at most two bytes.
+#[test]
+fn write_fault(rt: HostRuntime) -> Result<(), Fail> {
+    let alloc = rt.alloc();
+    let words = owned(alloc, &[])?;
+    let script = b"full U\nhas U 0 0 0 1\nnot N U\nhas N 0 0 0 1\n";
     let mut source = SureSource::new(alloc, script)?;
     let mut sink = MemSink::new(alloc, 64, 2, &[4])?;
-    let status = run(&rt, alloc, &none, &mut source, &mut sink, &OpenGate);
+    let status = run(&rt, alloc, &words, &mut source, &mut sink, &OpenGate);
     assert_eq!(rt; status, Status::WriteFault);
-    assert_eq!(rt; code(&status), 4);
+    assert_eq!(rt; (code(&status), code(&Status::OutOfMemory)), (4, 5));
     assert_eq!(rt; sink.taken(), b"in\nno".as_slice());
+    Ok(())
+}
 
-    let mut source = SureSource::new(alloc, b"ball A\n")?;
-    let mut sink = MemSink::new(alloc, 8, 8, &[])?;
-    let status = run(&rt, alloc, &none, &mut source, &mut sink, &OpenGate);
-    assert_eq!(rt; status, Status::WriteFault);
-    assert_eq!(rt; sink.taken(), b"line 1: ".as_slice());
-
-    let refused = owned(alloc, ["x"].as_slice())?;
+// Words that are refused leave the source as it was.
+#[test]
+fn unread(rt: HostRuntime) -> Result<(), Fail> {
+    let alloc = rt.alloc();
+    let refused = owned(alloc, &["x"])?;
+    let accepted = owned(alloc, &[])?;
     let mut source = SureSource::new(alloc, b"ball A\n")?;
     let mut sink = MemSink::new(alloc, 64, 64, &[])?;
     let status = run(&rt, alloc, &refused, &mut source, &mut sink, &OpenGate);
     assert_eq!(rt; status, Status::Words);
-    let status = run(&rt, alloc, &none, &mut source, &mut sink, &OpenGate);
+    let status = run(&rt, alloc, &accepted, &mut source, &mut sink, &OpenGate);
     let kind = ScriptKind::UnknownCommand;
     assert_eq!(rt; status, Status::Refused { line: 1, kind });
-    assert_eq!(rt; code(&Status::OutOfMemory), 5);
     Ok(())
 }

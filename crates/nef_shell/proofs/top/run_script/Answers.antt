@@ -37,17 +37,19 @@ returns-in-Ok-work g c =
     let parsed = c.in-Ok-parse.ensures.script in
     let built = first_unbuilt-agrees c.deref.result.now script.nodes script.commands parsed.1 ∙ sym c.in_default.ensures.first in
     let done = c.in-Ok-work.ensures.done in
-    record { status = record {
-      bytes = c.deref.result.now;
-      nodes = script.nodes;
-      commands = script.commands;
-      output = done.0;
-      taken = read.0;
-      at_end = read.1;
-      worked = record { accepted = parsed.0; built = built; means = parsed.1 };
-      is_output = done.1;
-      written = done.2;
-    } }
+    record {
+      status = record {
+        bytes = c.deref.result.now;
+        nodes = script.nodes;
+        commands = script.commands;
+        output = done.0;
+        taken = read.0;
+        at_end = read.1;
+        worked = record { accepted = parsed.0; built = built; means = parsed.1 };
+        is_output = done.1;
+        written = done.2;
+      };
+    }
 
 pub returns-in-Err-WriteFault : goal.returns-in-Err-WriteFault
 returns-in-Err-WriteFault g c =
