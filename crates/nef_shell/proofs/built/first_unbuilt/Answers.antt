@@ -13,7 +13,7 @@ returns-then-not-is_built c =
     let item = c.command-item.result in
     let at : slice_get commands c.loop-command.command-index ≡ Some item = slice_get_read commands _ c.loop-command.command-index item refl (omega arith) c.command-item.is in
     let found = find-at (unbuilt nodes) commands c.loop-command.command-index item c.loop-command.invariant at (ap not (sym c.is_built.ensures.built ∙ c.if-not-is_built.true)) in
-    record { first = rw c.line_of.ensures.line (sym (ap (option_map line_of) (rw (c.nodes-nodes.ensures, c.commands-command-items.ensures) at found))) }
+    record { first = rw c.line_of.ensures.line (sym (ap (option_map line_of) (rw (c.nodes-nodes.ensures.nodes, c.commands-command-items.ensures.commands) at found))) }
 
 pub loop-command-preserved : goal.loop-command-preserved
 loop-command-preserved c =

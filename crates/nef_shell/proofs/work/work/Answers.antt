@@ -15,7 +15,7 @@ returns-in_err-work_command-clause-front g c =
     let nodes = c.nodes-nodes.result.now in
     let commands = c.commands-command-items.result.now in
     let front = front-at _ nodes commands c.loop-command.command-index c.command-item.result _ _ _ _ _ so_far.0 (omega arith) c.command-item.is so_far.1 so_far.2 c.in_err-work_command.ensures.stopped in
-    rw p.1 (rw (c.nodes-nodes.ensures, c.commands-command-items.ensures) at front)
+    rw p.1 (rw (c.nodes-nodes.ensures.nodes, c.commands-command-items.ensures.commands) at front)
 
 pub loop-command-preserved : goal.loop-command-preserved
 loop-command-preserved g c =
