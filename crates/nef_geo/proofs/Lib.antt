@@ -12,3 +12,4 @@ pub mod Sizes
 pub mod Crossings
 pub mod InPlane
 pub mod Rays
+pub mod Along

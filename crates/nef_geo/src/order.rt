@@ -3,9 +3,10 @@
 ghost use Rattle.std.specs.Prelude.{◌≡◌, ◌≤◌, ◌*ℤ◌, ◌<ℤ◌, nat_abs};
 ghost use Rattle.std.specs.Ordering.{int_cmp, MatchOrdering};
 ghost use Rattle.nef_space.specs.Numbers.{IsBelow};
-ghost use Rattle.nef_space.specs.Place.{form_numbers, SamePlace, IsPlaceBelow};
-ghost use Rattle.nef_space.specs.Vectors.{triple_of};
-ghost use Rattle.nef_geo.specs.Shapes.{form_of, place_of, vector_of};
+ghost use Rattle.nef_space.specs.Place.{Place, IsAhead, form_numbers, SamePlace, IsPlaceBelow};
+ghost use Rattle.nef_space.specs.Vectors.{Vector, IsDirection, triple_of};
+ghost use Rattle.nef_geo.specs.Shapes.{form_of, place_of, vector_of, hit_place, far_place};
+ghost use Rattle.nef_geo.specs.Hits.{IsReached};
 ghost use Rattle.nef_geo.specs.Widths.{far_product_limit};
 
 use crate::dir::Dir;
@@ -58,6 +59,7 @@ pub fn plane_cmp(g: &Plane, h: &Plane) -> Ordering
 /// Compares the steps of two hits from one start along one direction: on the ray, which is nearer.
 pub fn hit_order(p: &Hit, q: &Hit) -> Ordering
     ensures steps { MatchOrdering result ((p.now.num *ℤ q.now.den) <ℤ (q.now.num *ℤ p.now.den)) (p.now.num *ℤ q.now.den ≡ q.now.num *ℤ p.now.den) ((q.now.num *ℤ p.now.den) <ℤ (p.now.num *ℤ q.now.den)) }
+    ensures along { (s : Place) (d : Vector) → IsDirection d → IsReached s d p.now.num p.now.den p.now.den_sign (hit_place p.now) → IsReached s d q.now.num q.now.den q.now.den_sign (hit_place q.now) → MatchOrdering result (IsAhead (hit_place p.now) d (hit_place q.now)) (SamePlace (hit_place p.now) (hit_place q.now)) (IsAhead (hit_place q.now) d (hit_place p.now)) }
 {
     (p.num * q.den).cmp(&(q.num * p.den))
 }
@@ -65,7 +67,8 @@ pub fn hit_order(p: &Hit, q: &Hit) -> Ordering
 /// Compares the steps of two far hits from one start along one direction: on the ray, which is nearer.
 pub fn far_order(p: &FarHit, q: &FarHit) -> Ordering
     ensures steps { MatchOrdering result ((p.now.num *ℤ q.now.den) <ℤ (q.now.num *ℤ p.now.den)) (p.now.num *ℤ q.now.den ≡ q.now.num *ℤ p.now.den) ((q.now.num *ℤ p.now.den) <ℤ (p.now.num *ℤ q.now.den)) }
-    ensures width { nat_abs (p.now.num *ℤ q.now.den) ≤ far_product_limit }
+    ensures width { (nat_abs (p.now.num *ℤ q.now.den) ≤ far_product_limit) × (nat_abs (q.now.num *ℤ p.now.den) ≤ far_product_limit) }
+    ensures along { (s : Place) (d : Vector) → IsDirection d → IsReached s d p.now.num p.now.den p.now.den_sign (far_place p.now) → IsReached s d q.now.num q.now.den q.now.den_sign (far_place q.now) → MatchOrdering result (IsAhead (far_place p.now) d (far_place q.now)) (SamePlace (far_place p.now) (far_place q.now)) (IsAhead (far_place q.now) d (far_place p.now)) }
 {
     (p.num * q.den).cmp(&(q.num * p.den))
 }

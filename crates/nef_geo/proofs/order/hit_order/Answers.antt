@@ -1,20 +1,29 @@
-use Rattle.std.proofs.Common.{◌≡◌, ◌≤◌, ℤ, ◌*ℤ◌, nat_abs, [], ◌∷◌, ap, ◌∙◌, to_z, of_z}
+use Rattle.std.proofs.Common.{◌≡◌, ◌≤◌, ℤ, ◌*ℤ◌, nat_abs, [], ◌∷◌, ap, ◌∙◌, to_z, of_z, ◌<ℤ◌, arith, Ordering}
 use mir.Syntax.{w128}
-use Rattle.std.specs.Ordering.{int_cmp}
+use Rattle.std.specs.Ordering.{MatchOrdering, int_cmp}
 use Rattle.std.proofs.lemmas.Cmp.{int_ranked}
 use Rattle.nef_exact.proofs.Machine.{load, wrap, ◌⊠◌, exact_of}
 use Rattle.nef_geo.specs.Widths.{point_form_limit, ray_slope_limit}
+use Rattle.nef_geo.specs.Shapes.{hit_place}
+use Rattle.nef_geo.specs.declared.hit.Hit.{Hit}
+use Rattle.nef_geo.proofs.Along.{along-ray}
 use Rattle.nef_geo.proofs.order.hit_order.Goals as goal
 
 -- the product that the machine computes
 product_is : (m k : ℤ) → nat_abs m ≤ point_form_limit → nat_abs k ≤ ray_slope_limit → to_z w128 (of_z w128 (to_z w128 (of_z w128 m) *ℤ to_z w128 (of_z w128 k))) ≡ m *ℤ k
 product_is m k s t = exact_of (point_form_limit ∷ ray_slope_limit ∷ []) (m ∷ k ∷ []) (wrap w128 (wrap w128 (load 0) ⊠ wrap w128 (load 1))) (s, (t, tt)) tt
 
-pub returns : goal.returns
-returns c =
+ranked : (p q : Hit) (o : Ordering) → o ≡ int_cmp (to_z w128 (of_z w128 (to_z w128 (of_z w128 p.num) *ℤ to_z w128 (of_z w128 q.den)))) (to_z w128 (of_z w128 (to_z w128 (of_z w128 q.num) *ℤ to_z w128 (of_z w128 p.den))))
+    → MatchOrdering o ((p.num *ℤ q.den) <ℤ (q.num *ℤ p.den)) (p.num *ℤ q.den ≡ q.num *ℤ p.den) ((q.num *ℤ p.den) <ℤ (p.num *ℤ q.den))
+ranked p q o e =
+    int_ranked _ _ o (e
+    ∙ ap (λ (i : ℤ). int_cmp i (to_z w128 (of_z w128 (to_z w128 (of_z w128 q.num) *ℤ to_z w128 (of_z w128 p.den))))) (product_is p.num q.den p.num_small q.den_small)
+    ∙ ap (λ (i : ℤ). int_cmp (p.num *ℤ q.den) i) (product_is q.num p.den q.num_small p.den_small))
+
+pub returns-clause-steps : goal.returns-clause-steps
+returns-clause-steps c = ranked c.args.p.now c.args.q.now c.cmp.result c.cmp.ensures
+
+pub returns-clause-along : goal.returns-clause-along
+returns-clause-along c s d some i j =
     let p = c.args.p.now in let q = c.args.q.now in
-    record {
-      steps = int_ranked _ _ c.cmp.result (c.cmp.ensures
-          ∙ ap (λ (i : ℤ). int_cmp i (to_z w128 (of_z w128 (to_z w128 (of_z w128 q.num) *ℤ to_z w128 (of_z w128 p.den))))) (product_is p.num q.den p.num_small q.den_small)
-          ∙ ap (λ (i : ℤ). int_cmp (p.num *ℤ q.den) i) (product_is q.num p.den q.num_small p.den_small));
-    }
+    along-ray s d p.num p.den (hit_place p) q.num q.den (hit_place q) c.cmp.result some p.den_sign q.den_sign i j (ranked p q c.cmp.result c.cmp.ensures)
