@@ -8,3 +8,5 @@ pub mod Nodes
 pub mod Questions
 pub mod Adding
 pub mod LineByLine
+pub mod RefusalLaws
+pub mod RefusalExamples

@@ -143,7 +143,7 @@ pub here_at : (lines done rest : List (List ℕ)) (text : List ℕ) (r : Option 
 here_at lines done rest text r split is = subst (λ l. RefusalAt l (length done) r) (sym split)
     (text, slice_get-seam done text rest, subst (λ l. line_refusal (names_of l) text ≡ r) (sym (take-append_seam done (text ∷ rest))) is)
 
-passes_more : (lines : List (List ℕ)) (n : ℕ) → Passes lines n → RefusalAt lines n None → Passes lines (n + 1)
+pub passes_more : (lines : List (List ℕ)) (n : ℕ) → Passes lines n → RefusalAt lines n None → Passes lines (n + 1)
 passes_more lines n before here m below = elim (cases_lt m n) [
   | inl earlier ↦ before m earlier
   | inr past ↦ (let same : n ≡ m = omega arith in subst (λ k. RefusalAt lines k None) same here)

@@ -7,3 +7,4 @@ pub mod Names
 pub mod Checks
 pub mod Reading
 pub mod Progress
+pub mod Laws

@@ -3,6 +3,7 @@
 ghost use Rattle.std.specs.Prelude.{◌≡◌};
 
 use std::alloc::AllocError;
+use std::fmt;
 
 /// What a script is refused for. The order is the order of the tests on one line; `ScriptTooLong`
 /// is tested before all of them, and `NotBuilt` after all of them, by the program alone.
@@ -46,8 +47,9 @@ impl From<AllocError> for ScriptFault {
 impl ScriptKind {
     ghost use Rattle.nef_script.specs.Texts.{kind_text};
 
+    /// The text of the refusal.
     pub fn text(self) -> &'static str
-        ensures { result.now ≡ kind_text self }
+        ensures text { result.now ≡ kind_text self }
     {
         match self {
             ScriptKind::LineTooLong => "line too long",
@@ -66,5 +68,11 @@ impl ScriptKind {
             ScriptKind::ScriptTooLong => "script too long",
             ScriptKind::NotBuilt => "not built yet",
         }
+    }
+}
+
+impl fmt::Display for ScriptKind {
+    fn fmt<W: fmt::Write>(&self, f: &mut fmt::Formatter<W>) -> fmt::Result {
+        f.write_str(self.text())
     }
 }

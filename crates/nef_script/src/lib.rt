@@ -3,6 +3,7 @@
 
 mod checks;
 mod fault;
+mod laws;
 mod meaning;
 mod names;
 mod parser;
@@ -12,5 +13,9 @@ mod script;
 mod table;
 
 pub use fault::{ScriptFault, ScriptKind};
+pub use laws::{refusal_examples, refusal_laws};
 pub use parser::parse;
 pub use script::{Command, Name, Script};
+
+#[cfg(test)]
+mod tests;

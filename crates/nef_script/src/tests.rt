@@ -1,0 +1,168 @@
+use super::*;
+use std::test::Fail;
+
+#[test]
+fn refusals(rt: HostRuntime) {
+    let rows: [(&[u8], u64, ScriptKind); 27] = [
+        (b"ball A", 1, ScriptKind::UnknownCommand),
+        (b"half A 1 0 0 closed", 1, ScriptKind::WordCount),
+        (b"empty 1A", 1, ScriptKind::BadName),
+        (b"empty A\nfull A", 2, ScriptKind::NameTaken),
+        (b"and C A B", 1, ScriptKind::UnknownName),
+        (b"half A 1 0 0 1.5 closed", 1, ScriptKind::NotANumber),
+        (b"half A 0 0 0 5 closed", 1, ScriptKind::ZeroNormal),
+        (b"half A 1 0 0 0 shut", 1, ScriptKind::BadMode),
+        (b"half A 2049 0 0 0 shut", 1, ScriptKind::OutOfRange),
+        (b"empty A\nhas A 0 0 0 0", 2, ScriptKind::BadWeight),
+        (
+            b"empty A\nhas A 8796093022209 0 0 1",
+            2,
+            ScriptKind::OutOfRange,
+        ),
+        (
+            b"half A 2048 0 0 0 closed\nhas A 0 0 0 1\nhalf B 2049 0 0 0 closed",
+            3,
+            ScriptKind::OutOfRange,
+        ),
+        // Two faults on one line, and a fault on an earlier line.
+        (b"ball\x07 A", 1, ScriptKind::BadByte),
+        (b"full A # \x7f", 1, ScriptKind::BadByte),
+        (b"empty 1A B", 1, ScriptKind::WordCount),
+        (b"empty A\nand A 1 2", 2, ScriptKind::BadName),
+        (b"empty A\nand A B C", 2, ScriptKind::NameTaken),
+        (b"not A A", 1, ScriptKind::UnknownName),
+        (b"has B x 0 0 1", 1, ScriptKind::UnknownName),
+        (b"half A 2049 0 0 +1 open", 1, ScriptKind::NotANumber),
+        (
+            b"half A 99999999999999999999 0 0 0 open",
+            1,
+            ScriptKind::OutOfRange,
+        ),
+        (b"half A 0 0 0 4194305 open", 1, ScriptKind::OutOfRange),
+        (b"half A 0 -0 00 0 shut", 1, ScriptKind::ZeroNormal),
+        (
+            b"empty A\nhas A 8796093022209 0 0 0",
+            2,
+            ScriptKind::OutOfRange,
+        ),
+        (b"empty A\nhas A 0 0 0 4294967297", 2, ScriptKind::BadWeight),
+        (b"half A 1 0 0 0 shut\nball A", 1, ScriptKind::BadMode),
+        (b"empty A\n\n# none\r\nempty A", 4, ScriptKind::NameTaken),
+    ];
+    for (script, line, kind) in rows {
+        let fault = parse(rt.alloc(), script).err();
+        assert_eq!(rt;
+            fault,
+            Some(ScriptFault::Refused { line, kind }),
+            "of {script:?}"
+        );
+    }
+}
+
+#[test]
+fn commands_of_a_script(rt: HostRuntime) -> Result<(), Fail> {
+    let text =
+        b"# a corner\r\nhalf a -1 0 0 0 open\nhalf b 0 2 0 -4 closed # two\r\n\nand\tC a b\nhas C 8796093022208 -0 007 4294967296\nsame C a\ncount C\nprint C";
+    let script = parse(rt.alloc(), text)?;
+    assert_eq!(rt; script.nodes().len(), 3);
+    let mut lines = Vec::new(rt.alloc());
+    for command in script.commands() {
+        lines.push(match command {
+            Command::Bind { line, node } => (*line, *node, 0),
+            Command::Has { line, node, point } => {
+                assert_eq!(rt;
+                    (point.x(), point.y(), point.z(), point.w()),
+                    (8796093022208, 0, 7, 4294967296)
+                );
+                (*line, *node, 1)
+            }
+            Command::Same { line, left, right } => {
+                assert_eq!(rt; *right, 0);
+                (*line, *left, 2)
+            }
+            Command::Count { line, node } => (*line, *node, 3),
+            Command::Print { line, node, name } => {
+                assert_eq!(rt; name.as_bytes(), b"C".as_slice());
+                (*line, *node, 4)
+            }
+        })?;
+    }
+    let want = [
+        (2, 0, 0),
+        (3, 1, 0),
+        (5, 2, 0),
+        (6, 2, 1),
+        (7, 2, 2),
+        (8, 2, 3),
+        (9, 2, 4),
+    ];
+    assert_eq!(rt; lines.as_slice(), want.as_slice());
+    Ok(())
+}
+
+#[test]
+fn longest_line(rt: HostRuntime) -> Result<(), Fail> {
+    let mut line = Vec::new(rt.alloc());
+    line.push(b'#')?;
+    for _ in 0..255 {
+        line.push(b' ')?;
+    }
+    line.push(b'\r')?;
+    assert!(rt; parse(rt.alloc(), &line).is_ok());
+    line.push(b'\r')?;
+    let fault = parse(rt.alloc(), &line).err();
+    assert_eq!(rt;
+        fault,
+        Some(ScriptFault::Refused {
+            line: 1,
+            kind: ScriptKind::LineTooLong
+        })
+    );
+    Ok(())
+}
+
+#[test]
+fn longest_script(rt: HostRuntime) -> Result<(), Fail> {
+    let mut script = Vec::new(rt.alloc());
+    for _ in 0..1_048_576 {
+        script.push(b'\n')?;
+    }
+    assert!(rt; parse(rt.alloc(), &script).is_ok());
+    script.push(b'\n')?;
+    let fault = parse(rt.alloc(), &script).err();
+    assert_eq!(rt;
+        fault,
+        Some(ScriptFault::Refused {
+            line: 0,
+            kind: ScriptKind::ScriptTooLong
+        })
+    );
+    Ok(())
+}
+
+#[test]
+fn most_names(rt: HostRuntime) -> Result<(), Fail> {
+    let mut script = Vec::new(rt.alloc());
+    for i in 1..4097u32 {
+        let line = format!(in rt.alloc(); "empty n{i}\n")?;
+        script.extend_from_slice(line.as_bytes())?;
+    }
+    assert!(rt; parse(rt.alloc(), &script).is_ok());
+    script.extend_from_slice(b"empty n4097")?;
+    let fault = parse(rt.alloc(), &script).err();
+    assert_eq!(rt;
+        fault,
+        Some(ScriptFault::Refused {
+            line: 4097,
+            kind: ScriptKind::TooManyNames
+        })
+    );
+    Ok(())
+}
+
+#[test]
+fn texts(rt: HostRuntime) -> Result<(), Fail> {
+    let text = format!(in rt.alloc(); "{}", ScriptKind::BadMode)?;
+    assert_eq!(rt; text.as_str(), "mode is not open or closed");
+    Ok(())
+}
