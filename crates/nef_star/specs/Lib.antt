@@ -1,0 +1,4 @@
+pub mod Ops
+pub mod Turning
+pub mod Stars
+pub mod Laws

@@ -1,0 +1,85 @@
+-- The program's stars as stars of any size, and what holds of each.
+use Rattle.std.specs.Prelude.{◌≡◌, ℕ, ◌<◌, pos, List, [], ◌∷◌, length, map, take, drop, ◌++◌, slice_index_or, true, false, cond, ◌⊎◌}
+use Rattle.std.specs.List.{All}
+use Rattle.nef_space.specs.Limits.{normal_limit, svertex_limit}
+use Rattle.nef_space.specs.Numbers.{IsBelow}
+use Rattle.nef_space.specs.Vectors.{Vector, zero_vector, opposite, dot, cross, triple_of, IsDirection, IsAtMost, IsNormal}
+use Rattle.nef_space.specs.declared.label.Label.{Label}
+use Rattle.nef_space.specs.declared.label.Label.TheVariants.{Out}
+use Rattle.nef_geo.specs.Shapes.{vector_of}
+use Rattle.nef_sphere.specs.Stars.{Ray as PlainRay, Star as PlainStar, StarLabel}
+use Rattle.nef_star.specs.declared.star.Ray.{Ray}
+use Rattle.nef_star.specs.declared.star.Star.{Star}
+use Rattle.nef_star.specs.Turning.{IsTurning, IsNext}
+
+abbrev pub ray_of : Ray → PlainRay
+ray_of r = record { normal = vector_of r.normal; ahead = r.ahead; mark = r.mark }
+
+abbrev pub star_of : Star → PlainStar
+star_of t = record { axis = vector_of t.axis; rays = map ray_of t.rays.items; sectors = t.sectors.items; mark = t.mark }
+
+-- the direction to the left of the ray, seen from outside: a quarter of a turn ahead of it, so that these turn as the rays do
+abbrev pub left_of : Ray → Vector
+left_of r = cond r.ahead (vector_of r.normal) (opposite (vector_of r.normal))
+
+abbrev pub left_at : List Ray → ℕ → Vector
+left_at rays k = slice_index_or (map left_of rays) k zero_vector
+
+abbrev pub mark_of : Ray → Label
+mark_of r = r.mark
+
+abbrev pub mark_at : List Ray → ℕ → Label
+mark_at rays k = slice_index_or (map mark_of rays) k Out
+
+abbrev pub sector_at : List Label → ℕ → Label
+sector_at sectors k = slice_index_or sectors k Out
+
+-- a ray leaves the axis, and its normal is in normal form
+pub record IsRay (axis : Vector) (r : Ray) : Type 0 where
+  pub level : dot (vector_of r.normal) axis ≡ pos 0
+  pub small : IsAtMost normal_limit (vector_of r.normal)
+  pub normal : IsNormal (vector_of r.normal)
+
+-- the order by normal, with a ray that goes ahead before its opposite
+abbrev pub IsRayBelow : Ray → Ray → Type 0
+IsRayBelow q r = IsBelow (triple_of (vector_of q.normal)) (triple_of (vector_of r.normal)) ⊎ ((q.normal ≡ r.normal) × (q.ahead ≡ true) × (r.ahead ≡ false))
+
+-- as many sectors as rays, and one where there is no ray
+abbrev pub sector_count : List Ray → ℕ
+sector_count [] = 1
+sector_count (r ∷ rs) = length (r ∷ rs)
+
+-- what holds of a star whose first ray may be any of its rays
+pub record IsTurned (t : Star) : Type 0 where
+  pub axis_small : IsAtMost svertex_limit (vector_of t.axis)
+  pub rays : All (IsRay (vector_of t.axis)) t.rays.items
+  pub counterclockwise : IsTurning (vector_of t.axis) (length t.rays.items) (left_at t.rays.items)
+  pub sectors : length t.sectors.items ≡ sector_count t.rays.items
+
+-- the first ray is the least
+pub record IsStar (t : Star) : Type 0 where
+  pub turned : IsTurned t
+  pub least_first : (k : ℕ) (q r : Ray) → k < length t.rays.items → slice_index_or t.rays.items 0 q ≡ q → slice_index_or t.rays.items k r ≡ r → IsRayBelow r q → ⊥
+
+-- two rays have one normal, and both have the mark l
+abbrev pub AreStraight : Ray → Ray → Label → Type 0
+AreStraight q r l = (q.normal ≡ r.normal) × (q.mark ≡ l) × (r.mark ≡ l)
+
+-- s has t's axis and mark, and gives each direction the label that t gives it
+pub record IsKept (t s : Star) : Type 0 where
+  pub axis : s.axis ≡ t.axis
+  pub mark : s.mark ≡ t.mark
+  pub labels : (e : Vector) (l : Label) → IsDirection (cross (vector_of t.axis) e) → StarLabel (star_of t) e l → StarLabel (star_of s) e l
+
+-- t with the rays and sectors counted from number m on
+pub record IsCountedFrom (m : ℕ) (t s : Star) : Type 0 where
+  pub rays : s.rays.items ≡ drop m t.rays.items ++ take m t.rays.items
+  pub sectors : s.sectors.items ≡ drop m t.sectors.items ++ take m t.sectors.items
+
+-- ray k has the label of both the sector after it and the one before, which lies after ray j
+abbrev pub IsNeedless : Star → ℕ → ℕ → Type 0
+IsNeedless t j k = (mark_at t.rays.items k ≡ sector_at t.sectors.items j) × (mark_at t.rays.items k ≡ sector_at t.sectors.items k)
+
+-- none of the first c rays is needless
+abbrev pub AreNeeded : ℕ → Star → Type 0
+AreNeeded c t = (j k : ℕ) → k < c → k < length t.rays.items → IsNext (length t.rays.items) j k → IsNeedless t j k → ⊥

@@ -1,0 +1,26 @@
+-- Directions in counterclockwise order about an axis, and what a star that has labels at them and between them gives a direction.
+use Rattle.std.specs.Prelude.{◌≡◌, ℕ, zero, suc, ◌<◌, ◌⊎◌}
+use Rattle.nef_space.specs.Vectors.{Vector, SameDirection}
+use Rattle.nef_space.specs.declared.label.Label.{Label}
+use Rattle.nef_cyclic.specs.Arcs.{IsOnCircle, Passes}
+
+-- the directions f 0 to f (n - 1) stand in counterclockwise order about the axis, and no two are the same
+pub record IsTurning (axis : Vector) (n : ℕ) (f : ℕ → Vector) : Type 0 where
+  pub circle : (k : ℕ) → k < n → IsOnCircle axis (f k)
+  pub apart : (k : ℕ) → 0 < k → k < n → SameDirection (f 0) (f k) → ⊥
+  pub rising : (i k : ℕ) → 0 < i → i < k → k < n → Passes axis (f 0) (f i) (f k)
+
+-- j is the number after k; the first one follows the last
+abbrev pub IsNext : ℕ → ℕ → ℕ → Type 0
+IsNext n k j = ((suc k ≡ j) × (j < n)) ⊎ ((suc k ≡ n) × (j ≡ 0))
+
+-- with the label marks k at f k and the label sectors k from f k to the next, or sectors 0 alone, d has the label l
+pub data Gives (axis : Vector) (n : ℕ) (f : ℕ → Vector) (marks sectors : ℕ → Label) (d : Vector) (l : Label) : Type 0 where
+  on_ray : (k : ℕ) → k < n → SameDirection (f k) d → marks k ≡ l → Gives axis n f marks sectors d l
+  in_sector : (k j : ℕ) → k < n → IsNext n k j → Passes axis (f k) d (f j) → sectors k ≡ l → Gives axis n f marks sectors d l
+  in_only_sector : n ≡ 0 → sectors 0 ≡ l → Gives axis n f marks sectors d l
+
+-- d is f k, or past it and before the next
+pub data IsUnder (axis : Vector) (n : ℕ) (f : ℕ → Vector) (d : Vector) (k : ℕ) : Type 0 where
+  at_ray : f k ≡ d → IsUnder axis n f d k
+  past_ray : (j : ℕ) → IsNext n k j → Passes axis (f k) d (f j) → IsUnder axis n f d k

@@ -1,0 +1,11 @@
+//! Stars: what a sphere map looks like near one of its directions, from one ray round to the next.
+#![tactic(auto)]
+
+mod laws;
+mod op;
+mod star;
+
+pub use laws::star_laws;
+pub use op::Op;
+pub use star::{Ray, Star, is_plain, is_straight};
+pub use std::alloc::AllocError as OutOfMemory;
