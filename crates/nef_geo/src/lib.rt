@@ -18,6 +18,8 @@ mod reading;
 mod sides;
 mod sign;
 mod step;
+#[cfg(test)]
+mod tests;
 mod vectors;
 mod ways;
 
