@@ -5,7 +5,7 @@ use Rattle.nef_exact.proofs.Ring.{ring, at, num, ◌⊕◌, ◌⊖◌, ◌⊗◌
 use Rattle.nef_exact.proofs.Order.{by_order, mul_pos}
 use Rattle.nef_space.specs.Vectors.{Vector, IsDirection, cross, triple, dot, IsZero, SameDirection, IsOpposite, blend}
 use Rattle.nef_space.specs.declared.label.Label.{Label}
-use Rattle.nef_sphere.specs.Maps.{StrictlyOn}
+use Rattle.nef_cyclic.specs.Arcs.{IsStrictlyOn}
 use Rattle.nef_sphere.specs.Forms.{SameSigns}
 use Rattle.nef_sphere.specs.Labelling.{Labelling, StraightAt, IsSmooth}
 use Rattle.nef_sphere.proofs.Vectors.{dot-comb, triple-middle, direction-by, same-plus, nought-if}
@@ -36,7 +36,7 @@ plus-nought a b i j si h z = let p = mul_pos (pos i) a (omega (arith, ints)) h i
 
 module _ (n s t : Vector) (hn : IsDirection n) (hs : IsDirection s) (ht : IsDirection t) (ls : dot n s ≡ pos 0) (lt : dot n t ≡ pos 0) where
   -- on the first half
-  on-ahead : (w : Vector) → dot n w ≡ pos 0 → pos 0 <ℤ triple n s w → (pos 0 <ℤ triple n s t → pos 0 <ℤ triple n w t) → StrictlyOn n s t w
+  on-ahead : (w : Vector) → dot n w ≡ pos 0 → pos 0 <ℤ triple n s w → (pos 0 <ℤ triple n s t → pos 0 <ℤ triple n w t) → IsStrictlyOn n s t w
   on-ahead w l h g = record {
     on_circle = record { direction = direction-by (cross n s) w (λ z. let e = triple-dot n s w in omega (arith, ints)); level = l };
     not_source = λ x. let e = dot-zero n (cross s w) x.parallel in omega (arith, ints);
@@ -47,7 +47,7 @@ module _ (n s t : Vector) (hn : IsDirection n) (hs : IsDirection s) (ht : IsDire
   }
 
   -- beyond the first half
-  on-behind : (w : Vector) → IsDirection w → dot n w ≡ pos 0 → (pos 0 <ℤ triple n s t → ⊥) → (IsOpposite s t → ⊥) → (SameDirection s w → ⊥) → (triple n s t <ℤ pos 0 → pos 0 <ℤ triple n w t) → StrictlyOn n s t w
+  on-behind : (w : Vector) → IsDirection w → dot n w ≡ pos 0 → (pos 0 <ℤ triple n s t → ⊥) → (IsOpposite s t → ⊥) → (SameDirection s w → ⊥) → (triple n s t <ℤ pos 0 → pos 0 <ℤ triple n w t) → IsStrictlyOn n s t w
   on-behind w h l p o x g = record {
     on_circle = record { direction = h; level = l };
     not_source = x;
@@ -68,12 +68,12 @@ module _ (gs : List Vector) (F : Vector → Label → Type 0) (L : Labelling gs 
     (far_directed : (d e : Vector) (k : ℕ) → amount gs e ≤ k → IsDirection d → IsDirection (blend k d 1 e))
     (n : Vector) (a m b : Label) (proper : a ≡ m → b ≡ m → ⊥) (hn : IsDirection n)
     (s t : Vector) (hs : IsDirection s) (ht : IsDirection t) (ls : dot n s ≡ pos 0) (lt : dot n t ≡ pos 0)
-    (smooth : (d : Vector) → StrictlyOn n s t d → IsSmooth F d)
+    (smooth : (d : Vector) → IsStrictlyOn n s t d → IsSmooth F d)
     (K : ℕ) (large : amount (cross t n ∷ []) (cross n s) ≤ K) (start : StraightAt F n a m b (past_source n s K)) where
   abbrev P : Vector → Type 0
   P d = StraightAt F n a m b d
 
-  segment : (d e : Vector) → IsDirection d → (IsOpposite d e → ⊥) → StrictlyOn n s t e → (IsDirection (cross d e) → (i j : ℕ) → 0 < i → 0 < j → StrictlyOn n s t (blend i d j e)) → P d → P e
+  segment : (d e : Vector) → IsDirection d → (IsOpposite d e → ⊥) → IsStrictlyOn n s t e → (IsDirection (cross d e) → (i j : ℕ) → 0 < i → 0 < j → IsStrictlyOn n s t (blend i d j e)) → P d → P e
   segment d e hd off o between p = ⊎_elim
       (λ z. same (beside d e hd o.on_circle.direction z))
       (λ f. along gs F L directed far_directed n a m b proper hn (crossings gs d e + 1) d e (omega arith) f o.on_circle.level (smooth e o) (λ i j si sj. smooth (blend i d j e) (between f i j si sj)) p)
@@ -89,7 +89,7 @@ module _ (gs : List Vector) (F : Vector → Label → Type 0) (L : Labelling gs 
   abbrev y : Vector
   y = past_source n s K
 
-  on-y : StrictlyOn n s t y
+  on-y : IsStrictlyOn n s t y
   on-y = arc-point n s t hn hs ht ls lt K large
 
   y-ahead : pos 0 <ℤ triple n s y
@@ -105,7 +105,7 @@ module _ (gs : List Vector) (F : Vector → Label → Type 0) (L : Labelling gs 
       omega (arith, ints)
 
   -- ahead of the source, on the first half
-  first-half : (d : Vector) → StrictlyOn n s t d → pos 0 <ℤ triple n s d → P d
+  first-half : (d : Vector) → IsStrictlyOn n s t d → pos 0 <ℤ triple n s d → P d
   first-half d o h = segment y d on-y.on_circle.direction (ahead-not_opposite y d on-y.on_circle.direction y-ahead h) o
       (λ f i j si sj. on-ahead n s t hn hs ht ls lt (blend i y j d) (level-blend y d i j on-y.on_circle.level o.on_circle.level)
       (subst (λ (r : ℤ). pos 0 <ℤ r) (sym (triple-blend n s y d i j)) (plus-plus (triple n s y) (triple n s d) i j si sj y-ahead h))
@@ -117,7 +117,7 @@ module _ (gs : List Vector) (F : Vector → Label → Type 0) (L : Labelling gs 
   abbrev half : Vector
   half = away s
 
-  module _ (d : Vector) (o : StrictlyOn n s t d) (h : pos 0 <ℤ triple n s d → ⊥) where
+  module _ (d : Vector) (o : IsStrictlyOn n s t d) (h : pos 0 <ℤ triple n s d → ⊥) where
     not-less : pos 0 <ℤ triple n s t → ⊥
     not-less p = let q = o.less_than_half p in h q.0
 
@@ -136,7 +136,7 @@ module _ (gs : List Vector) (F : Vector → Label → Type 0) (L : Labelling gs 
     quarter-ahead : pos 0 <ℤ triple n s quarter
     quarter-ahead = subst (λ (r : ℤ). pos 0 <ℤ r) (sym (triple-dot n s quarter)) (self-pos quarter quarter-direction)
 
-    on-quarter : StrictlyOn n s t quarter
+    on-quarter : IsStrictlyOn n s t quarter
     on-quarter = on-ahead n s t hn hs ht ls lt quarter quarter-level quarter-ahead (λ p. absurd (not-less p))
 
     at-quarter : P quarter
@@ -161,7 +161,7 @@ module _ (gs : List Vector) (F : Vector → Label → Type 0) (L : Labelling gs 
     half-turn : triple n half t ≡ pos 0 -ℤ triple n s t
     half-turn = triple-middle n half t ∙ away-dot (cross t n) s ∙ ap (λ r. pos 0 -ℤ r) (sym (triple-middle n s t))
 
-    on-half : StrictlyOn n s t half
+    on-half : IsStrictlyOn n s t half
     on-half = on-behind n s t hn hs ht ls lt half half-direction half-level not-less not-half (λ w. let q = half-opposite in let k = q.backward in let j = w.forward in omega (arith, ints)) (λ p. let e = half-turn in omega (arith, ints))
 
     at-half : P half
@@ -184,7 +184,7 @@ module _ (gs : List Vector) (F : Vector → Label → Type 0) (L : Labelling gs 
         not-opposite : IsOpposite half d → ⊥
         not-opposite q = o.not_source (opposites half s d half-direction (record { parallel = cross-turned s half (let w = half-opposite in w.parallel); backward = let e = dot-comm half s in let w = half-opposite in let k = w.backward in omega (arith, ints) }) q)
 
-        between : IsDirection (cross half d) → (i j : ℕ) → 0 < i → 0 < j → StrictlyOn n s t (blend i half j d)
+        between : IsDirection (cross half d) → (i j : ℕ) → 0 < i → 0 < j → IsStrictlyOn n s t (blend i half j d)
         between f i j si sj = on-behind n s t hn hs ht ls lt (blend i half j d) (direction-by (cross n s) (blend i half j d) (λ z. off (triple-dot n s (blend i half j d) ∙ z)))
             (level-blend half d i j half-level o.on_circle.level) not-less not-half (λ w. off (dot-zero n (cross s (blend i half j d)) w.parallel))
             (λ p. subst (λ (r : ℤ). pos 0 <ℤ r) (sym (blend-triple n t half d i j)) (plus-plus (triple n half t) (triple n d t) i j si sj (let e = half-turn in omega (arith, ints)) (far-side p)))
@@ -198,5 +198,5 @@ module _ (gs : List Vector) (F : Vector → Label → Type 0) (L : Labelling gs 
                 product-off (pos j) (triple n s d) (omega (arith, ints)) (λ x. f (parallel-trans half s d hs (cross-turned s half q.parallel) (parallel-in_plane n s d hn ls o.on_circle.level x))) (omega (arith, ints))
 
   -- everywhere on the arc the labels are those close to its source
-  pub arc-along : (d : Vector) → StrictlyOn n s t d → P d
+  pub arc-along : (d : Vector) → IsStrictlyOn n s t d → P d
   arc-along d o = by_order (triple n s d) (pos 0) (λ l. second-half d o (λ h. omega (arith, ints))) (λ z. second-half d o (λ h. omega (arith, ints))) (λ l. first-half d o l)

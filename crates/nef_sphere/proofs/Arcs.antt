@@ -2,7 +2,8 @@
 use Rattle.std.proofs.Common.{◌≡◌, ℕ, zero, suc, ◌+◌, pos, ◌<ℤ◌, arith, refl, ap, sym, ◌∙◌, inl, inr, List, [], ◌∷◌, subst, Option, Some, None}
 use Rattle.nef_exact.proofs.Order.{sign}
 use Rattle.nef_space.specs.Vectors.{Vector, IsDirection, triple, cross, dot, SameDirection}
-use Rattle.nef_sphere.specs.Maps.{At, StrictlyOn, Svertex, Arc, Loop, Map, Item, arc_item, loop_item, items, items_then, item_normal, item_above, item_mark, item_below, way_of, OnItem, Shaped, Valid}
+use Rattle.nef_sphere.specs.Maps.{At, Svertex, Arc, Loop, Map, Item, arc_item, loop_item, items, items_then, item_normal, item_above, item_mark, item_below, way_of, OnItem, Shaped, Valid}
+use Rattle.nef_cyclic.specs.Arcs.{IsStrictlyOn}
 use Rattle.nef_sphere.specs.Forms.{Keeps, arc_forms, forms}
 use Rattle.nef_sphere.specs.Least.{Least, SameLabels, MatchedArc, MatchedLoop}
 use Rattle.nef_sphere.proofs.Vectors.{normal-is, same-plus}
@@ -15,9 +16,9 @@ use Rattle.nef_sphere.proofs.Forms.{item-forms}
 use Rattle.nef_sphere.proofs.Parallel.{past_source, arc-point, there-ahead, circle-point}
 use Rattle.nef_sphere.proofs.Shot.{way-at, arc-at}
 use Rattle.nef_sphere.proofs.Labels.{way-signs}
-use Rattle.nef_sphere.proofs.Around.{StrictlyOn-back, on_item-off_svertices}
+use Rattle.nef_sphere.proofs.Around.{IsStrictlyOn-back, on_item-off_svertices}
 use Rattle.nef_sphere.proofs.Compare.{SameDirection-turned, SameDirection-trans, way-self, labels-turned, Matched, svertex-matched, MatchedItem, item-matched}
-use Rattle.nef_sphere.proofs.Turn.{way-directed, turn-same, StrictlyOn-same, after-target, ends-together}
+use Rattle.nef_sphere.proofs.Turn.{way-directed, turn-same, IsStrictlyOn-same, after-target, ends-together}
 
 -- ---- the ends of an arc
 pub record Ends (M : Map) (a : Arc) : Type 0 where
@@ -125,13 +126,13 @@ module _ (M N : Map) (V : Valid M) (W : Valid N) (L : Least M) (K : Least N) (s 
     hn : IsDirection n
     hn = normal-is V.shaped i (arc_item a) here
 
-    on-y : StrictlyOn n u w y
+    on-y : IsStrictlyOn n u w y
     on-y = arc-point n u w hn ends.source_direction ends.target_direction ends.source_level ends.target_level far (omega arith)
 
     ahead : pos 0 <ℤ triple n u y
     ahead = there-ahead n u w hn ends.source_direction ends.target_direction ends.source_level ends.target_level far (omega arith)
 
-    module _ (j : ℕ) (b : Arc) (l : At (items N) j (arc_item b)) (same : SameDirection n b.normal) (on : StrictlyOn b.normal (way_of N.svertices b.source) (way_of N.svertices b.target) y) where
+    module _ (j : ℕ) (b : Arc) (l : At (items N) j (arc_item b)) (same : SameDirection n b.normal) (on : IsStrictlyOn b.normal (way_of N.svertices b.source) (way_of N.svertices b.target) y) where
       abbrev bs : Vector
       bs = way_of N.svertices b.source
 
@@ -155,15 +156,15 @@ module _ (M N : Map) (V : Valid M) (W : Valid N) (L : Least M) (K : Least N) (s 
             where
               kept-t : Keeps (arc_forms b.normal bs bt) bt y
               kept-t g m f = let q = way-signs bt u g b_ends.target_direction e in kept g m (same-off (dot g bt) (dot g u) q f) ∙ q
-          by (inr f) (inr g) = absurd (off_item a.source ends.source ends.has_source j (arc_item b) l (subst (λ (r : Vector). StrictlyOn b.normal bs bt r) ends.source_is
-              (StrictlyOn-back b.normal bs bt u y (normal-is W.shaped j (arc_item b) l) b_ends.source_direction b_ends.target_direction b_ends.source_level b_ends.target_level kept ends.source_direction f g on)))
+          by (inr f) (inr g) = absurd (off_item a.source ends.source ends.has_source j (arc_item b) l (subst (λ (r : Vector). IsStrictlyOn b.normal bs bt r) ends.source_is
+              (IsStrictlyOn-back b.normal bs bt u y (normal-is W.shaped j (arc_item b) l) b_ends.source_direction b_ends.target_direction b_ends.source_level b_ends.target_level kept ends.source_direction f g on)))
 
       same-target : SameDirection w bt
       same-target = ends-together n u w bt hn ends.source_direction ends.target_direction b_ends.target_direction ends.source_level ends.target_level
           (level-same b.normal n bt bt (SameDirection-turned n b.normal same) (way-self bt b_ends.target_direction) b_ends.target_level)
-          (λ o. off_item_back b.target b_ends.target b_ends.has_target i (arc_item a) here (subst (λ (r : Vector). StrictlyOn n u w r) b_ends.target_is o))
-          (λ o. off_item a.target ends.target ends.has_target j (arc_item b) l (subst (λ (r : Vector). StrictlyOn b.normal bs bt r) ends.target_is
-          (StrictlyOn-same n b.normal u bs bt bt w w same (SameDirection-turned bs u same-source) (way-self bt b_ends.target_direction) (way-self w ends.target_direction) o)))
+          (λ o. off_item_back b.target b_ends.target b_ends.has_target i (arc_item a) here (subst (λ (r : Vector). IsStrictlyOn n u w r) b_ends.target_is o))
+          (λ o. off_item a.target ends.target ends.has_target j (arc_item b) l (subst (λ (r : Vector). IsStrictlyOn b.normal bs bt r) ends.target_is
+          (IsStrictlyOn-same n b.normal u bs bt bt w w same (SameDirection-turned bs u same-source) (way-self bt b_ends.target_direction) (way-self w ends.target_direction) o)))
 
     pub arc-matched : MatchedArc M N a
     arc-matched = by (item-matched M N V W L K s i (arc_item a) here y on-y)

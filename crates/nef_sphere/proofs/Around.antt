@@ -5,7 +5,8 @@ use Rattle.nef_exact.proofs.Ring.{ring, at, num, ◌⊕◌, ◌⊖◌, ◌⊗◌
 use Rattle.nef_exact.proofs.Combination.{follows, given, none}
 use Rattle.nef_exact.proofs.Order.{by_order, mul_pos, sign-scaled}
 use Rattle.nef_space.specs.Vectors.{Vector, IsDirection, triple, cross, dot, IsZero, SameDirection, IsOpposite}
-use Rattle.nef_sphere.specs.Maps.{At, StrictlyOn, Svertex, Map, Item, arc_item, loop_item, items, item_normal, way_of, OnItem, IsFree, Shaped}
+use Rattle.nef_sphere.specs.Maps.{At, Svertex, Map, Item, arc_item, loop_item, items, item_normal, way_of, OnItem, IsFree, Shaped}
+use Rattle.nef_cyclic.specs.Arcs.{IsStrictlyOn}
 use Rattle.nef_sphere.specs.Forms.{Keeps, arc_forms, forms}
 use Rattle.nef_sphere.proofs.Vectors.{normal-is, triple-middle, nought-if, same-plus, same-minus}
 use Rattle.nef_forms.proofs.Directions.{self-pos}
@@ -80,7 +81,7 @@ opposites s t d h w v = record {
 
 -- ---- an arc that is met close to d is met at d or has an end there
 module _ (n s t d e : Vector) (hn : IsDirection n) (hs : IsDirection s) (ht : IsDirection t) (ls : dot n s ≡ pos 0) (lt : dot n t ≡ pos 0)
-    (k : Keeps (arc_forms n s t) d e) (hd : IsDirection d) (off_s : SameDirection s d → ⊥) (off_t : SameDirection t d → ⊥) (o : StrictlyOn n s t e) where
+    (k : Keeps (arc_forms n s t) d e) (hd : IsDirection d) (off_s : SameDirection s d → ⊥) (off_t : SameDirection t d → ⊥) (o : IsStrictlyOn n s t e) where
   arc-level : dot n d ≡ pos 0
   arc-level = kept-nought n d e (k n (inl refl)) o.on_circle.level
 
@@ -130,8 +131,8 @@ module _ (n s t d e : Vector) (hn : IsDirection n) (hs : IsDirection s) (ht : Is
   target-minus : IsOpposite t d → pos 0 <ℤ triple n s t → triple n s d <ℤ pos 0
   target-minus w h = turn-minus (dot t t) (dot t d) (triple n s d) (triple n s t) (self-pos t ht) (target-eq w) w.backward h
 
-  pub StrictlyOn-back : StrictlyOn n s t d
-  StrictlyOn-back = record {
+  pub IsStrictlyOn-back : IsStrictlyOn n s t d
+  IsStrictlyOn-back = record {
     on_circle = record { direction = hd; level = arc-level };
     not_source = off_s;
     not_target = off_t;
@@ -182,7 +183,7 @@ module _ (M : Map) (V : Shaped M) (d e : Vector) (k : Keeps (forms M) d e) where
       let b = V.arcs_between i r (arc-at M.arcs M.loop i r a) in
       let s = sym (way-at M.svertices r.source b.source b.has_source) in
       let t = sym (way-at M.svertices r.target b.target b.has_target) in
-      StrictlyOn-back r.normal (way_of M.svertices r.source) (way_of M.svertices r.target) d e (normal-is V i (arc_item r) a)
+      IsStrictlyOn-back r.normal (way_of M.svertices r.source) (way_of M.svertices r.target) d e (normal-is V i (arc_item r) a)
       (subst IsDirection s (V.svertex_ways r.source b.source b.has_source)) (subst IsDirection t (V.svertex_ways r.target b.target b.has_target))
       (subst (λ (v : Vector). dot r.normal v ≡ pos 0) s b.level_source) (subst (λ (v : Vector). dot r.normal v ≡ pos 0) t b.level_target)
       (λ g l. k g (item-forms M i (arc_item r) g a l)) f

@@ -5,7 +5,8 @@ use Rattle.nef_exact.proofs.Order.{Sign, minus, nought, plus, sign, by_order}
 use Rattle.nef_space.specs.Vectors.{Vector, IsDirection, cross, dot, SameDirection, IsNormal}
 use Rattle.nef_space.specs.declared.label.Label.{Label}
 use Rattle.nef_near.proofs.Supports.{square-cross}
-use Rattle.nef_sphere.specs.Maps.{At, StrictlyOn, Svertex, Arc, Loop, Map, Item, arc_item, loop_item, items, items_then, item_normal, item_above, item_mark, item_below, way_of, OnItem, IsFree, Shaped}
+use Rattle.nef_sphere.specs.Maps.{At, Svertex, Arc, Loop, Map, Item, arc_item, loop_item, items, items_then, item_normal, item_above, item_mark, item_below, way_of, OnItem, IsFree, Shaped}
+use Rattle.nef_cyclic.specs.Arcs.{IsStrictlyOn}
 use Rattle.nef_sphere.specs.Least.{by_side}
 use Rattle.nef_sphere.specs.Labelling.{Labelling, Near, Plain, Agrees, StraightAt, IsSmooth, plain, straight}
 use Rattle.nef_sphere.specs.Builds.{StraightAfter, Proper, IsBuilt}
@@ -14,14 +15,14 @@ use Rattle.nef_near.proofs.Decided.{Decided}
 use Rattle.nef_forms.proofs.Far.{nought-or}
 use Rattle.nef_sphere.proofs.Generic.{amount}
 use Rattle.nef_sphere.proofs.Lists.{Found, search_list, at-one}
-use Rattle.nef_sphere.proofs.Places.{StrictlyOn-decided}
+use Rattle.nef_sphere.proofs.Places.{IsStrictlyOn-decided}
 use Rattle.nef_sphere.proofs.Forms.{on-direction, OnItem-by_signs}
 use Rattle.nef_sphere.proofs.Parallel.{past_source, arc-point}
 use Rattle.nef_sphere.proofs.Shot.{way-at, arc-at}
 use Rattle.nef_sphere.proofs.Labels.{way-signs}
 use Rattle.nef_sphere.proofs.Around.{Beside, same_way, other_way, beside}
 use Rattle.nef_sphere.proofs.Compare.{SameDirection-turned, way-self, normals-not_opposite}
-use Rattle.nef_sphere.proofs.Turn.{StrictlyOn-same, whole-passes, ends-together}
+use Rattle.nef_sphere.proofs.Turn.{IsStrictlyOn-same, whole-passes, ends-together}
 use Rattle.nef_sphere.proofs.Arcs.{Ends, at-arc, at-loop, loop-at, level-same}
 use Rattle.nef_sphere.proofs.Kind.{away}
 use Rattle.nef_sphere.proofs.Along.{onward}
@@ -149,10 +150,10 @@ module _ (gs : List Vector) (F : Vector → Label → Type 0) (L : Labelling gs 
       let self = λ (r : Vector) (h : IsDirection r). way-self r h in
       let q = begin-together x.normal s t s' t' d (b-normal i (arc_item x) a) e.source_direction e.target_direction f.source_direction f.target_direction e.source_level e.target_level
       (level-same y.normal x.normal s' s' wt (self s' f.source_direction) f.source_level) (level-same y.normal x.normal t' t' wt (self t' f.target_direction) f.target_level) o
-      (StrictlyOn-same y.normal x.normal s' s' t' t' d d wt (self s' f.source_direction) (self t' f.target_direction) (self d o.on_circle.direction) p)
-      (λ z. B.no_svertex_on_item y.source i f.source (arc_item x) f.has_source a (subst (λ (r : Vector). StrictlyOn x.normal s t r) f.source_is z))
-      (λ z. B.no_svertex_on_item x.source k e.source (arc_item y) e.has_source b (subst (λ (r : Vector). StrictlyOn y.normal s' t' r) e.source_is
-      (StrictlyOn-same x.normal y.normal s' s' t' t' s s w (self s' f.source_direction) (self t' f.target_direction) (self s e.source_direction) z))) in
+      (IsStrictlyOn-same y.normal x.normal s' s' t' t' d d wt (self s' f.source_direction) (self t' f.target_direction) (self d o.on_circle.direction) p)
+      (λ z. B.no_svertex_on_item y.source i f.source (arc_item x) f.has_source a (subst (λ (r : Vector). IsStrictlyOn x.normal s t r) f.source_is z))
+      (λ z. B.no_svertex_on_item x.source k e.source (arc_item y) e.has_source b (subst (λ (r : Vector). IsStrictlyOn y.normal s' t' r) e.source_is
+      (IsStrictlyOn-same x.normal y.normal s' s' t' t' s s w (self s' f.source_direction) (self t' f.target_direction) (self s e.source_direction) z))) in
       B.arcs_apart i k x y u v w (B.svertices_apart x.source y.source e.source f.source e.has_source f.has_source (subst (λ (r : Vector). SameDirection r f.source.way) e.source_is (subst (SameDirection s) f.source_is q)))
 
   pub built-shaped : Shaped M
@@ -187,18 +188,18 @@ module _ (gs : List Vector) (F : Vector → Label → Type 0) (L : Labelling gs 
     level-back w z = let e = dot-away n w in omega (arith, ints)
 
     -- s is the last svertex before d
-    module _ (k : ℕ) (v : Svertex) (h : At M.svertices k v) (ls : dot n v.way ≡ pos 0) (clear : (j : ℕ) (x : Vector) → At (ways M.svertices) j x → StrictlyOn (away n) d v.way x → ⊥) where
+    module _ (k : ℕ) (v : Svertex) (h : At M.svertices k v) (ls : dot n v.way ≡ pos 0) (clear : (j : ℕ) (x : Vector) → At (ways M.svertices) j x → IsStrictlyOn (away n) d v.way x → ⊥) where
       abbrev s : Vector
       s = v.way
 
       hs : IsDirection s
       hs = B.svertex_ways k v h
 
-      back-smooth : (w : Vector) → StrictlyOn (away n) d s w → IsSmooth F w
+      back-smooth : (w : Vector) → IsStrictlyOn (away n) d s w → IsSmooth F w
       back-smooth w o = B.smooth w o.on_circle.direction (λ j u c q. clear j u.way (at-ways M.svertices j u c)
-          (StrictlyOn-same (away n) (away n) d d s s w u.way (way-self (away n) ha) (way-self d G.direction) (way-self s hs) (SameDirection-turned u.way w q) o))
+          (IsStrictlyOn-same (away n) (away n) d d s s w u.way (way-self (away n) ha) (way-self d G.direction) (way-self s hs) (SameDirection-turned u.way w q) o))
 
-      back-labels : (w : Vector) → StrictlyOn (away n) d s w → StraightAt F (away n) b m a w
+      back-labels : (w : Vector) → IsStrictlyOn (away n) d s w → StraightAt F (away n) b m a w
       back-labels w o =
           let c = cross (away n) d in
           let q : dot (away n) c ≡ pos 0 = square-cross (away n) d in
@@ -218,7 +219,7 @@ module _ (gs : List Vector) (F : Vector → Label → Type 0) (L : Labelling gs 
       caught = by (B.arcs_all k v n a m b h normal ls proper after)
         where
           by : (i : ℕ) × (c : Arc) × At M.arcs i c × (c.source ≡ k) × SameDirection n c.normal → ⊥
-          by (i, c, ic, src, w) = cases (StrictlyOn-decided n s (way_of M.svertices c.target) d) (StrictlyOn-decided n s d (way_of M.svertices c.target))
+          by (i, c, ic, src, w) = cases (IsStrictlyOn-decided n s (way_of M.svertices c.target) d) (IsStrictlyOn-decided n s d (way_of M.svertices c.target))
             where
               e : Ends M c
               e = b-ends i c ic
@@ -229,9 +230,9 @@ module _ (gs : List Vector) (F : Vector → Label → Type 0) (L : Labelling gs 
               target-level : dot n (way_of M.svertices c.target) ≡ pos 0
               target-level = level-same c.normal n (way_of M.svertices c.target) (way_of M.svertices c.target) (SameDirection-turned n c.normal w) (way-self (way_of M.svertices c.target) e.target_direction) e.target_level
 
-              cases : Decided (StrictlyOn n s (way_of M.svertices c.target) d) → Decided (StrictlyOn n s d (way_of M.svertices c.target)) → ⊥
+              cases : Decided (IsStrictlyOn n s (way_of M.svertices c.target) d) → Decided (IsStrictlyOn n s d (way_of M.svertices c.target)) → ⊥
               cases (inl o) y = G.off_items i (arc_item c) (at-arc M.arcs M.loop i c ic)
-                  (StrictlyOn-same n c.normal s (way_of M.svertices c.source) (way_of M.svertices c.target) (way_of M.svertices c.target) d d w (subst (SameDirection s) (sym source-is) (way-self s hs))
+                  (IsStrictlyOn-same n c.normal s (way_of M.svertices c.source) (way_of M.svertices c.target) (way_of M.svertices c.target) d d w (subst (SameDirection s) (sym source-is) (way-self s hs))
                   (way-self (way_of M.svertices c.target) e.target_direction) (way-self d G.direction) o)
               cases (inr f) (inl o) = clear c.target (way_of M.svertices c.target) (subst (At (ways M.svertices) c.target) (sym e.target_is) (at-ways M.svertices c.target e.target e.has_target)) (reversed n s d (way_of M.svertices c.target) hs o)
               cases (inr f) (inr g) = G.off_svertices c.target e.target e.has_target (subst (λ (r : Vector). SameDirection r d) e.target_is
@@ -241,8 +242,8 @@ module _ (gs : List Vector) (F : Vector → Label → Type 0) (L : Labelling gs 
     straight-free : ⊥
     straight-free = by (search_list M.svertices (λ k v. dot n v.way ≡ pos 0) (λ k v. nought-or (dot n v.way)))
       where
-        at-listed : (s : Vector) → dot (away n) s ≡ pos 0 → ((j : ℕ) (x : Vector) → At (ways M.svertices) j x → StrictlyOn (away n) d s x → ⊥) → (k : ℕ) → (v : Svertex) × At M.svertices k v × (v.way ≡ s) → ⊥
-        at-listed s l none k (v, h, e) = caught k v h (level-back v.way (subst (λ (r : Vector). dot (away n) r ≡ pos 0) (sym e) l)) (λ j x c o. none j x c (subst (λ (r : Vector). StrictlyOn (away n) d r x) e o))
+        at-listed : (s : Vector) → dot (away n) s ≡ pos 0 → ((j : ℕ) (x : Vector) → At (ways M.svertices) j x → IsStrictlyOn (away n) d s x → ⊥) → (k : ℕ) → (v : Svertex) × At M.svertices k v × (v.way ≡ s) → ⊥
+        at-listed s l none k (v, h, e) = caught k v h (level-back v.way (subst (λ (r : Vector). dot (away n) r ≡ pos 0) (sym e) l)) (λ j x c o. none j x c (subst (λ (r : Vector). IsStrictlyOn (away n) d r x) e o))
 
         by : Found M.svertices (λ k v. dot n v.way ≡ pos 0) ⊎ ((k : ℕ) (v : Svertex) → At M.svertices k v → dot n v.way ≡ pos 0 → ⊥) → ⊥
         by (inr none) = loop (B.loop_all n d a m b normal G.direction none proper p)
@@ -253,7 +254,7 @@ module _ (gs : List Vector) (F : Vector → Label → Type 0) (L : Labelling gs 
           where
             first : First (away n) d (ways M.svertices) → ⊥
             first r = ⊎_elim
-                (λ e. r.none_before f.number f.element.way (at-ways M.svertices f.number f.element f.listed) (subst (λ (q : Vector). StrictlyOn (away n) d q f.element.way) e
+                (λ e. r.none_before f.number f.element.way (at-ways M.svertices f.number f.element f.listed) (subst (λ (q : Vector). IsStrictlyOn (away n) d q f.element.way) e
                 (whole-passes (away n) d d f.element.way ha G.direction G.direction (B.svertex_ways f.number f.element f.listed) (level-away d p.level) (level-away d p.level) (level-away f.element.way f.holds) (way-self d G.direction)
                 (λ w. G.off_svertices f.number f.element f.listed (SameDirection-turned d f.element.way w)))))
                 (λ k. at-listed r.target r.level r.none_before k.0 (ways-at M.svertices k.0 r.target k.1)) r.listed

@@ -5,11 +5,12 @@ use Rattle.nef_exact.proofs.Ring.{ring, at, num, ◌⊖◌, ◌⊗◌}
 use Rattle.nef_exact.proofs.Order.{by_order, mul_pos, mul_nonneg}
 use Rattle.nef_space.specs.Vectors.{Vector, IsDirection, cross, triple, dot, SameDirection, IsOpposite}
 use Rattle.nef_sphere.proofs.Turning.{turns}
-use Rattle.nef_sphere.specs.Maps.{At, StrictlyOn}
+use Rattle.nef_sphere.specs.Maps.{At}
+use Rattle.nef_cyclic.specs.Arcs.{IsStrictlyOn}
 use Rattle.nef_sphere.proofs.Vectors.{same-plus, same-minus}
 use Rattle.nef_near.proofs.Decided.{Decided}
 use Rattle.nef_forms.proofs.Directions.{dot-comm, self-pos, dot-zero}
-use Rattle.nef_sphere.proofs.Places.{StrictlyOn-decided, SameDirection-decided}
+use Rattle.nef_sphere.proofs.Places.{IsStrictlyOn-decided, SameDirection-decided}
 use Rattle.nef_sphere.proofs.Parallel.{parallel-in_plane}
 use Rattle.nef_near.proofs.FlatDecided.{cross-turned}
 use Rattle.nef_sphere.proofs.Around.{Beside, same_way, other_way, beside, opposites, triple-turned, opposite-triple, turn-minus}
@@ -39,7 +40,7 @@ product-signs_minus c g e b a d q hc he hb ha hd =
 
 module _ (n s t : Vector) (hn : IsDirection n) (hs : IsDirection s) (ht : IsDirection t) (ls : dot n s ≡ pos 0) (lt : dot n t ≡ pos 0) where
   -- what lies on the way to c, which lies on the way to t, lies on the way to t
-  pub nested : (c e : Vector) → StrictlyOn n s t c → StrictlyOn n s c e → StrictlyOn n s t e
+  pub nested : (c e : Vector) → IsStrictlyOn n s t c → IsStrictlyOn n s c e → IsStrictlyOn n s t e
   nested c e o p = record {
     on_circle = p.on_circle;
     not_source = p.not_source;
@@ -102,7 +103,7 @@ pub record First (n s : Vector) (xs : List Vector) : Type 0 where
   pub listed : (s ≡ target) ⊎ ((k : ℕ) × At xs k target)
   pub direction : IsDirection target
   pub level : dot n target ≡ pos 0
-  pub none_before : (k : ℕ) (x : Vector) → At xs k x → StrictlyOn n s target x → ⊥
+  pub none_before : (k : ℕ) (x : Vector) → At xs k x → IsStrictlyOn n s target x → ⊥
 
 module _ (n s : Vector) (hn : IsDirection n) (hs : IsDirection s) (ls : dot n s ≡ pos 0) where
   pub first-after : (xs : List Vector) → First n s xs
@@ -113,20 +114,20 @@ module _ (n s : Vector) (hn : IsDirection n) (hs : IsDirection s) (ls : dot n s 
       by r = ⊎_elim
           (λ o. record { target = x; listed = inr (zero, refl); direction = o.on_circle.direction; level = o.on_circle.level; none_before = shorter o })
           (λ f. record { target = r.target; listed = ⊎_elim (λ e. inl e) (λ k. inr (suc k.0, k.1)) r.listed; direction = r.direction; level = r.level; none_before = same f })
-          (StrictlyOn-decided n s r.target x)
+          (IsStrictlyOn-decided n s r.target x)
         where
-          shorter : StrictlyOn n s r.target x → (k : ℕ) (y : Vector) → At (x ∷ xs) k y → StrictlyOn n s x y → ⊥
+          shorter : IsStrictlyOn n s r.target x → (k : ℕ) (y : Vector) → At (x ∷ xs) k y → IsStrictlyOn n s x y → ⊥
           shorter o zero y e p = p.not_target (subst (SameDirection x) e (way-self x o.on_circle.direction))
           shorter o (suc k) y a p = r.none_before k y a (nested n s r.target hn hs r.direction ls r.level x y o p)
 
-          same : (StrictlyOn n s r.target x → ⊥) → (k : ℕ) (y : Vector) → At (x ∷ xs) k y → StrictlyOn n s r.target y → ⊥
-          same f zero y e p = f (subst (StrictlyOn n s r.target) (sym e) p)
+          same : (IsStrictlyOn n s r.target x → ⊥) → (k : ℕ) (y : Vector) → At (x ∷ xs) k y → IsStrictlyOn n s r.target y → ⊥
+          same f zero y e p = f (subst (IsStrictlyOn n s r.target) (sym e) p)
           same f (suc k) y a p = r.none_before k y a p
 
 -- ---- arcs that meet
 module _ (n s u : Vector) (hn : IsDirection n) (hs : IsDirection s) (hu : IsDirection u) (ls : dot n s ≡ pos 0) (lu : dot n u ≡ pos 0) (off : SameDirection s u → ⊥) where
   -- d on the way from s to u: s on the way from u to d
-  pub rotated : (d : Vector) → StrictlyOn n s u d → StrictlyOn n u d s
+  pub rotated : (d : Vector) → IsStrictlyOn n s u d → IsStrictlyOn n u d s
   rotated d o = record {
     on_circle = record { direction = hs; level = ls };
     not_source = λ w. off (SameDirection-turned u s w);
@@ -168,10 +169,10 @@ module _ (n s u : Vector) (hn : IsDirection n) (hs : IsDirection s) (hu : IsDire
 
 -- arcs of one circle that share a direction, where none holds the source of the other, begin together
 pub begin-together : (n s t u v d : Vector) → IsDirection n → IsDirection s → IsDirection t → IsDirection u → IsDirection v → dot n s ≡ pos 0 → dot n t ≡ pos 0 → dot n u ≡ pos 0 → dot n v ≡ pos 0
-    → StrictlyOn n s t d → StrictlyOn n u v d → (StrictlyOn n s t u → ⊥) → (StrictlyOn n u v s → ⊥) → SameDirection s u
-begin-together n s t u v d hn hs ht hu hv ls lt lu lv o p f g = by (SameDirection-decided s u) (StrictlyOn-decided n s d u) (StrictlyOn-decided n s u d)
+    → IsStrictlyOn n s t d → IsStrictlyOn n u v d → (IsStrictlyOn n s t u → ⊥) → (IsStrictlyOn n u v s → ⊥) → SameDirection s u
+begin-together n s t u v d hn hs ht hu hv ls lt lu lv o p f g = by (SameDirection-decided s u) (IsStrictlyOn-decided n s d u) (IsStrictlyOn-decided n s u d)
   where
-    by : Decided (SameDirection s u) → Decided (StrictlyOn n s d u) → Decided (StrictlyOn n s u d) → SameDirection s u
+    by : Decided (SameDirection s u) → Decided (IsStrictlyOn n s d u) → Decided (IsStrictlyOn n s u d) → SameDirection s u
     by (inl w) b c = w
     by (inr w) (inl b) c = absurd (f (nested n s t hn hs ht ls lt d u o b))
     by (inr w) (inr b) (inl c) = absurd (g (nested n u v hn hu hv lu lv d s p (rotated n s u hn hs hu ls lu w d c)))

@@ -7,7 +7,7 @@ use Rattle.nef_exact.specs.Signs.{Lies}
 use Rattle.nef_space.specs.Vectors.{Vector, IsDirection, cross, triple, dot, IsZero, SameDirection, IsOpposite, blend}
 use Rattle.nef_space.specs.declared.label.Label.{Label}
 use Rattle.nef_sphere.specs.Vectors.{comb}
-use Rattle.nef_sphere.specs.Maps.{OnCircle, StrictlyOn}
+use Rattle.nef_cyclic.specs.Arcs.{IsOnCircle, IsStrictlyOn}
 use Rattle.nef_sphere.specs.Forms.{SameSigns, axes}
 use Rattle.nef_sphere.specs.Least.{by_side}
 use Rattle.nef_sphere.specs.Labelling.{Labelling, Near, StraightAt, IsSmooth}
@@ -46,7 +46,7 @@ triple-away n a b = dot-away n (cross a b) ∙ sym (triple-turned n b a)
 pub away-direction : (n : Vector) → IsDirection n → IsDirection (away n)
 away-direction n h z = let e = dot-away n n in let p = self-pos n h in let q = zero-dot (away n) n z in omega (arith, ints)
 
-pub reversed : (n s t w : Vector) → IsDirection s → StrictlyOn n s t w → StrictlyOn (away n) t s w
+pub reversed : (n s t w : Vector) → IsDirection s → IsStrictlyOn n s t w → IsStrictlyOn (away n) t s w
 reversed n s t w hs o = record {
   on_circle = record { direction = o.on_circle.direction; level = let e = dot-away n w in let l = o.on_circle.level in omega (arith, ints) };
   not_source = o.not_target;
@@ -137,7 +137,7 @@ module _ (gs : List Vector) (F : Vector → Label → Type 0) (L : Labelling gs 
           proper (al ∙ sym ml) (bl ∙ sym ml)
 
   -- round a circle that is plain or straight everywhere
-  pub loop-along : ((d : Vector) → OnCircle n d → IsSmooth F d) → (y : Vector) → IsDirection y → StraightAt F n a m b y → (d : Vector) → OnCircle n d → StraightAt F n a m b d
+  pub loop-along : ((d : Vector) → IsOnCircle n d → IsSmooth F d) → (y : Vector) → IsDirection y → StraightAt F n a m b y → (d : Vector) → IsOnCircle n d → StraightAt F n a m b d
   loop-along smooth y hy p d o = ⊎_elim
       (λ z. by (beside y d hy o.direction z))
       (λ f. go y d f o p) (zero-decided (cross y d))
@@ -145,7 +145,7 @@ module _ (gs : List Vector) (F : Vector → Label → Type 0) (L : Labelling gs 
       level-blend : (d e : Vector) (i j : ℕ) → dot n d ≡ pos 0 → dot n e ≡ pos 0 → dot n (blend i d j e) ≡ pos 0
       level-blend d e i j p q = dot-comb n (pos i) d (pos j) e ∙ ap (λ r. pos i *ℤ r +ℤ pos j *ℤ dot n e) p ∙ ap (λ r. pos i *ℤ pos 0 +ℤ pos j *ℤ r) q ∙ ring (pos i ∷ pos j ∷ []) (at 0 ⊗ num (pos 0) ⊕ at 1 ⊗ num (pos 0)) (num (pos 0)) tt
 
-      go : (d e : Vector) → IsDirection (cross d e) → OnCircle n e → StraightAt F n a m b d → StraightAt F n a m b e
+      go : (d e : Vector) → IsDirection (cross d e) → IsOnCircle n e → StraightAt F n a m b d → StraightAt F n a m b e
       go d e f o p = along gs F L (directed-by gs axial) (far_directed-by gs axial) n a m b proper hn (crossings gs d e + 1) d e (omega arith) f o.level (smooth e o)
           (λ i j si sj. smooth (blend i d j e) (record { direction = between-direction d e i j sj f; level = level-blend d e i j p.level o.level })) p
 

@@ -9,7 +9,7 @@ pub use Rattle.nef_sphere.specs.Forms.{item_forms, forms}
 use Rattle.nef_near.proofs.Decided.{Decided}
 use Rattle.nef_forms.proofs.Far.{same-nought}
 use Rattle.nef_sphere.proofs.Generic.{SameSigns, Keeps}
-use Rattle.nef_sphere.proofs.Places.{direction-decided, SameDirection-decided, OnCircle-decided, StrictlyOn-decided, axes, point_forms, same-keeps, direction-stays, SameDirection-back, StrictlyOn-stays, OnCircle-stays}
+use Rattle.nef_sphere.proofs.Places.{direction-decided, SameDirection-decided, IsOnCircle-decided, IsStrictlyOn-decided, axes, point_forms, same-keeps, direction-stays, SameDirection-back, IsStrictlyOn-stays, IsOnCircle-stays}
 
 -- ---- the forms
 pub axes-forms : (M : Map) (g : Vector) → Lies axes g → Lies (forms M) g
@@ -35,13 +35,13 @@ on-level M (arc_item a) d o = o.on_circle.level
 on-level M (loop_item l) d o = o.level
 
 pub OnItem-decided : (M : Map) (x : Item) (d : Vector) → Decided (OnItem M x d)
-OnItem-decided M (arc_item a) d = StrictlyOn-decided a.normal (way_of M.svertices a.source) (way_of M.svertices a.target) d
-OnItem-decided M (loop_item l) d = OnCircle-decided l.normal d
+OnItem-decided M (arc_item a) d = IsStrictlyOn-decided a.normal (way_of M.svertices a.source) (way_of M.svertices a.target) d
+OnItem-decided M (loop_item l) d = IsOnCircle-decided l.normal d
 
 -- in its plane, a direction with the signs of one on the item is on the item
 pub OnItem-stays : (M : Map) (x : Item) (d e : Vector) → Keeps (item_forms M x) d e → dot (item_normal x) e ≡ pos 0 → OnItem M x d → OnItem M x e
-OnItem-stays M (arc_item a) d e k z o = StrictlyOn-stays a.normal (way_of M.svertices a.source) (way_of M.svertices a.target) d e k z o
-OnItem-stays M (loop_item l) d e k z o = OnCircle-stays l.normal d e k z o
+OnItem-stays M (arc_item a) d e k z o = IsStrictlyOn-stays a.normal (way_of M.svertices a.source) (way_of M.svertices a.target) d e k z o
+OnItem-stays M (loop_item l) d e k z o = IsOnCircle-stays l.normal d e k z o
 
 pub OnItem-by_signs : (M : Map) (x : Item) (d e : Vector) → SameSigns (item_forms M x) d e → OnItem M x d → OnItem M x e
 OnItem-by_signs M x d e s o = OnItem-stays M x d e (same-keeps (item_forms M x) d e s) (same-nought (dot (item_normal x) d) (dot (item_normal x) e) (s (item_normal x) (normal-form M x)) (on-level M x d o)) o

@@ -6,7 +6,8 @@ use Rattle.nef_exact.proofs.Order.{Sign, sign, sign-plus, sign-minus, by_order, 
 use Rattle.nef_space.specs.Vectors.{Vector, IsDirection, cross, triple, dot, IsZero, SameDirection, IsOpposite, blend}
 use Rattle.nef_space.specs.declared.label.Label.{Label}
 use Rattle.nef_sphere.specs.Vectors.{comb}
-use Rattle.nef_sphere.specs.Maps.{At, OnCircle, Svertex, Arc, Loop, Map, Item, arc_item, loop_item, items, item_normal, way_of, OnItem, IsFree, above_item, below_item, IsClear, directly, MapLabel, at_svertex, on_item, seen, Valid}
+use Rattle.nef_sphere.specs.Maps.{At, Svertex, Arc, Loop, Map, Item, arc_item, loop_item, items, item_normal, way_of, OnItem, IsFree, above_item, below_item, IsClear, directly, MapLabel, at_svertex, on_item, seen, Valid}
+use Rattle.nef_cyclic.specs.Arcs.{IsOnCircle}
 use Rattle.nef_sphere.specs.Least.{by_side, Least}
 use Rattle.nef_sphere.specs.Kinds.{Full, FlatMap, IsInVolume, IsInFacet, IsOnEdge}
 use Rattle.nef_sphere.proofs.Vectors.{normal-is, dot-comb, direction-by}
@@ -81,7 +82,7 @@ module _ (M : Map) (V : Valid M) (l : Loop) (bare : M.svertices ≡ []) (has : M
       side : Sign → Label
       side s = by_side l.above l.mark l.below s
 
-      by : (y : Vector) × OnCircle l.normal y → (i : ℕ) × At (items M) i (loop_item l) → MapLabel M e (by_side l.above l.mark l.below (sign (dot l.normal e)))
+      by : (y : Vector) × IsOnCircle l.normal y → (i : ℕ) × At (items M) i (loop_item l) → MapLabel M e (by_side l.above l.mark l.below (sign (dot l.normal e)))
       by (y, o) (i, a) = by_order (dot l.normal e) (pos 0)
           (λ g. subst (λ (s : Sign). MapLabel M e (by_side l.above l.mark l.below s)) (sym (sign-minus (dot l.normal e) g))
           (seen (record { side = below_item i; has = (loop_item l, a, refl); sees = directly y (clear (λ z. omega (arith, ints))) (loop_item l, a, o, g) })))

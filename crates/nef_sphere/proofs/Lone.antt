@@ -14,7 +14,7 @@ use Rattle.nef_sphere.proofs.Shot.{arc-at}
 use Rattle.nef_sphere.proofs.Direct.{cross-between}
 use Rattle.nef_sphere.proofs.StepOff.{blend-turned}
 use Rattle.nef_sphere.proofs.Labels.{way-signs, label-by_signs, near-from_far, far-from_near}
-use Rattle.nef_sphere.proofs.Around.{StrictlyOn-back, direction-around, svertex-around}
+use Rattle.nef_sphere.proofs.Around.{IsStrictlyOn-back, direction-around, svertex-around}
 use Rattle.nef_sphere.proofs.NearItems.{keeps-between, kept-not_opposite, opposite-turned}
 use Rattle.nef_sphere.proofs.Compare.{way-self}
 use Rattle.nef_sphere.proofs.Turn.{way-directed}
@@ -43,7 +43,7 @@ module _ (M : Map) (V : Shaped M) (k : ℕ) (v : Svertex) (a : At M.svertices k 
     off_item i (arc_item r) h o =
         let j = arc-at M.arcs M.loop i r h in
         let b = ends-of M V i r j in
-        StrictlyOn-back r.normal (way_of M.svertices r.source) (way_of M.svertices r.target) d w (normal-is V i (arc_item r) h)
+        IsStrictlyOn-back r.normal (way_of M.svertices r.source) (way_of M.svertices r.target) d w (normal-is V i (arc_item r) h)
         b.source_direction b.target_direction b.source_level b.target_level
         (λ g l. kept g (item-forms M i (arc_item r) g h l)) (V.svertex_ways k v a)
         (λ z. lone (i, r, j, inl (V.svertices_apart r.source k b.source v b.has_source a (subst (λ (q : Vector). SameDirection q d) b.source_is z))))

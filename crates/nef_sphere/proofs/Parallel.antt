@@ -5,7 +5,7 @@ use Rattle.nef_exact.proofs.Ring.{ring, at, num, ◌⊕◌, ◌⊖◌, ◌⊗◌
 use Rattle.nef_exact.proofs.Combination.{follows, follows_times, given, none}
 use Rattle.nef_exact.proofs.Order.{sign, nought-is}
 use Rattle.nef_space.specs.Vectors.{Vector, IsDirection, triple, cross, dot, IsZero, SameDirection, blend}
-use Rattle.nef_sphere.specs.Maps.{OnCircle, StrictlyOn}
+use Rattle.nef_cyclic.specs.Arcs.{IsOnCircle, IsStrictlyOn}
 use Rattle.nef_sphere.proofs.Vectors.{dot-comb, triple-middle, same-plus, nought-if}
 use Rattle.nef_near.proofs.Decided.{Decided}
 use Rattle.nef_near.proofs.FlatDecided.{cross-turned, triple-dot}
@@ -78,10 +78,10 @@ row-level n =
       ring xs (at 0 ⊗ (o ⊖ at 1) ⊕ at 1 ⊗ at 0 ⊕ at 2 ⊗ o) o tt,
     )
 
-pub circle-point : (n : Vector) → IsDirection n → (y : Vector) × OnCircle n y
+pub circle-point : (n : Vector) → IsDirection n → (y : Vector) × IsOnCircle n y
 circle-point n h = by (zero-decided (row_x n)) (zero-decided (row_y n)) (zero-decided (row_z n))
   where
-    by : Decided (IsZero (row_x n)) → Decided (IsZero (row_y n)) → Decided (IsZero (row_z n)) → (y : Vector) × OnCircle n y
+    by : Decided (IsZero (row_x n)) → Decided (IsZero (row_y n)) → Decided (IsZero (row_z n)) → (y : Vector) × IsOnCircle n y
     by (inr f) b c = (row_x n, record { direction = f; level = (row-level n).0 })
     by (inl a) (inr f) c = (row_y n, record { direction = f; level = (row-level n).1 })
     by (inl a) (inl b) (inr f) = (row_z n, record { direction = f; level = (row-level n).2 })
@@ -136,7 +136,7 @@ module _ (n s t : Vector) (hn : IsDirection n) (hs : IsDirection s) (ht : IsDire
       (λ f. same-off (dot back s) (dot back there) (far-keeps (back ∷ []) s beside number large back (inl refl) f) f z)
       (nought-or (dot back s))
 
-  pub arc-point : StrictlyOn n s t there
+  pub arc-point : IsStrictlyOn n s t there
   arc-point = record {
     on_circle = record { direction = λ z. let h = there-ahead in let e = triple-dot n s there ∙ dot-zero beside there z in omega (arith, ints); level = there-level };
     not_source = λ w. let h = there-ahead in let e = dot-zero n (cross s there) w.parallel in omega (arith, ints);

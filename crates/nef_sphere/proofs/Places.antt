@@ -6,7 +6,7 @@ use Rattle.nef_exact.proofs.Order.{sign, by_order}
 use Rattle.nef_exact.specs.Signs.{Lies}
 use Rattle.nef_space.specs.Vectors.{Vector, IsDirection, triple, cross, vector, dot, IsZero, SameDirection, IsOpposite}
 use Rattle.nef_exact.proofs.Lists.{lies-left, lies-right}
-use Rattle.nef_sphere.specs.Maps.{OnCircle, StrictlyOn}
+use Rattle.nef_cyclic.specs.Arcs.{IsOnCircle, IsStrictlyOn}
 pub use Rattle.nef_sphere.specs.Forms.{axis_x, axis_y, axis_z, axes, row_x, row_y, row_z, point_forms, arc_forms}
 use Rattle.nef_sphere.proofs.Vectors.{triple-middle, positive-or, negative-or, same-plus, same-minus, nought-if}
 use Rattle.nef_near.proofs.Decided.{decided-not, decided-to, decided-both, decided-or, Decided}
@@ -34,24 +34,24 @@ IsOpposite-decided s d = by (zero-decided (cross s d)) (negative-or (dot s d))
     by (inl p) (inr n) = inr (λ w. n w.backward)
     by (inr n) f = inr (λ w. n w.parallel)
 
-pub OnCircle-decided : (n d : Vector) → Decided (OnCircle n d)
-OnCircle-decided n d = by (direction-decided d) (nought-or (dot n d))
+pub IsOnCircle-decided : (n d : Vector) → Decided (IsOnCircle n d)
+IsOnCircle-decided n d = by (direction-decided d) (nought-or (dot n d))
   where
-    by : Decided (IsDirection d) → Decided (dot n d ≡ pos 0) → Decided (OnCircle n d)
+    by : Decided (IsDirection d) → Decided (dot n d ≡ pos 0) → Decided (IsOnCircle n d)
     by (inl p) (inl f) = inl (record { direction = p; level = f })
     by (inl p) (inr n) = inr (λ w. n w.level)
     by (inr n) f = inr (λ w. n w.direction)
 
-pub StrictlyOn-decided : (n s t d : Vector) → Decided (StrictlyOn n s t d)
-StrictlyOn-decided n s t d = by (OnCircle-decided n d) (decided-not (SameDirection-decided s d)) (decided-not (SameDirection-decided t d))
+pub IsStrictlyOn-decided : (n s t d : Vector) → Decided (IsStrictlyOn n s t d)
+IsStrictlyOn-decided n s t d = by (IsOnCircle-decided n d) (decided-not (SameDirection-decided s d)) (decided-not (SameDirection-decided t d))
     (decided-to (positive-or (triple n s t)) (decided-both (positive-or (triple n s d)) (positive-or (triple n d t))))
     (decided-to (negative-or (triple n s t)) (decided-or (positive-or (triple n s d)) (positive-or (triple n d t))))
     (decided-to (IsOpposite-decided s t) (positive-or (triple n s d)))
   where
-    by : Decided (OnCircle n d) → Decided (SameDirection s d → ⊥) → Decided (SameDirection t d → ⊥)
+    by : Decided (IsOnCircle n d) → Decided (SameDirection s d → ⊥) → Decided (SameDirection t d → ⊥)
         → Decided (pos 0 <ℤ triple n s t → (pos 0 <ℤ triple n s d) × (pos 0 <ℤ triple n d t))
         → Decided (triple n s t <ℤ pos 0 → (pos 0 <ℤ triple n s d) ⊎ (pos 0 <ℤ triple n d t))
-        → Decided (IsOpposite s t → pos 0 <ℤ triple n s d) → Decided (StrictlyOn n s t d)
+        → Decided (IsOpposite s t → pos 0 <ℤ triple n s d) → Decided (IsStrictlyOn n s t d)
     by (inl a) (inl b) (inl c) (inl e) (inl f) (inl g) = inl (record { on_circle = a; not_source = b; not_target = c; less_than_half = e; more_than_half = f; just_half = g })
     by (inr n) b c e f g = inr (λ o. n o.on_circle)
     by (inl a) (inr n) c e f g = inr (λ o. n o.not_source)
@@ -118,8 +118,8 @@ module _ (v d e : Vector) (k : Keeps (point_forms v) d e) where
       (λ l. record { parallel = p; forward = l })
 
 -- an arc goes on being met in its plane
-pub StrictlyOn-stays : (n s t d e : Vector) → Keeps (arc_forms n s t) d e → dot n e ≡ pos 0 → StrictlyOn n s t d → StrictlyOn n s t e
-StrictlyOn-stays n s t d e k z o = record {
+pub IsStrictlyOn-stays : (n s t d e : Vector) → Keeps (arc_forms n s t) d e → dot n e ≡ pos 0 → IsStrictlyOn n s t d → IsStrictlyOn n s t e
+IsStrictlyOn-stays n s t d e k z o = record {
   on_circle = record { direction = direction-stays d e (λ g l. k g (inr (inr (inr (lies-left axes (point_forms s ++ point_forms t) g l))))) o.on_circle.direction; level = z };
   not_source = λ w. o.not_source (SameDirection-back s d e (λ g l. k g (inr (inr (inr (lies-right axes (point_forms s ++ point_forms t) g (lies-left (point_forms s) (point_forms t) g l)))))) o.on_circle.direction w);
   not_target = λ w. o.not_target (SameDirection-back t d e (λ g l. k g (inr (inr (inr (lies-right axes (point_forms s ++ point_forms t) g (lies-right (point_forms s) (point_forms t) g l)))))) o.on_circle.direction w);
@@ -134,5 +134,5 @@ StrictlyOn-stays n s t d e k z o = record {
     middle : pos 0 <ℤ triple n d t → pos 0 <ℤ triple n e t
     middle h = subst (λ (r : ℤ). pos 0 <ℤ r) (sym (triple-middle n e t)) (kept-plus (cross t n) d e (k (cross t n) (inr (inr (inl refl)))) (subst (λ (r : ℤ). pos 0 <ℤ r) (triple-middle n d t) h))
 
-pub OnCircle-stays : (n d e : Vector) → Keeps (n ∷ axes) d e → dot n e ≡ pos 0 → OnCircle n d → OnCircle n e
-OnCircle-stays n d e k z o = record { direction = direction-stays d e (λ g l. k g (inr l)) o.direction; level = z }
+pub IsOnCircle-stays : (n d e : Vector) → Keeps (n ∷ axes) d e → dot n e ≡ pos 0 → IsOnCircle n d → IsOnCircle n e
+IsOnCircle-stays n d e k z o = record { direction = direction-stays d e (λ g l. k g (inr l)) o.direction; level = z }

@@ -6,7 +6,8 @@ use Rattle.nef_exact.proofs.Combination.{follows, given, none}
 use Rattle.nef_exact.proofs.Order.{sign, mul_pos}
 use Rattle.nef_space.specs.Vectors.{Vector, IsDirection, cross, dot, IsZero, SameDirection}
 use Rattle.nef_space.specs.declared.label.Label.{Label}
-use Rattle.nef_sphere.specs.Maps.{At, Map, StrictlyOn, NearLabel, Valid}
+use Rattle.nef_sphere.specs.Maps.{At, Map, NearLabel, Valid}
+use Rattle.nef_cyclic.specs.Arcs.{IsStrictlyOn}
 use Rattle.nef_sphere.specs.Least.{by_side, NearPlain, NearStraight}
 use Rattle.nef_sphere.specs.Stars.{Ray, Star, ray_way, across, NextRay, on_ray, in_sector, IsRay, StarShows, Follows, IsSimplified}
 use Rattle.nef_sphere.proofs.Vectors.{normal-direction, nought-if}
@@ -17,7 +18,7 @@ use Rattle.nef_sphere.proofs.Parallel.{past_source, arc-point, apart}
 use Rattle.nef_near.proofs.Flats.{vector-same}
 use Rattle.nef_sphere.proofs.Labels.{near-unique}
 use Rattle.nef_sphere.proofs.Compare.{way-self}
-use Rattle.nef_sphere.proofs.Turn.{StrictlyOn-same}
+use Rattle.nef_sphere.proofs.Turn.{IsStrictlyOn-same}
 use Rattle.nef_sphere.proofs.Kind.{away}
 use Rattle.nef_sphere.proofs.Flips.{away-direction, dot-away, reversed}
 
@@ -98,11 +99,11 @@ module _ (t : Star) (M : Map) (V : Valid M) (S : StarShows t M) (simple : IsSimp
   ray-label k r a = let w = way-level k r a in
       S.labels (ray_way t r) r.mark (off-axis (ray_way t r) w.1 w.0) (on_ray k r a (across-same d (ray_way t r) S.axis w.1 w.0) refl)
 
-  pub sector-label : (k : ℕ) (q r : Ray) (l : Label) → At t.rays k q → NextRay t.rays k r → At t.sectors k l → (e : Vector) → StrictlyOn d (ray_way t q) (ray_way t r) e → NearLabel M d e l
+  pub sector-label : (k : ℕ) (q r : Ray) (l : Label) → At t.rays k q → NextRay t.rays k r → At t.sectors k l → (e : Vector) → IsStrictlyOn d (ray_way t q) (ray_way t r) e → NearLabel M d e l
   sector-label k q r l a n s e o =
       let h = o.on_circle.direction in
       let z = o.on_circle.level in
-      S.labels e l (off-axis e h z) (in_sector k q r a n (StrictlyOn-same d d (ray_way t q) (ray_way t q) (ray_way t r) (ray_way t r) e (across d e)
+      S.labels e l (off-axis e h z) (in_sector k q r a n (IsStrictlyOn-same d d (ray_way t q) (ray_way t q) (ray_way t r) (ray_way t r) e (across d e)
       (way-self d S.axis) (way-self (ray_way t q) (let w = way-level k q a in w.1)) (way-self (ray_way t r) (next-direction n)) (across-same d e S.axis h z) o) s)
     where
       next-direction : NextRay t.rays k r → IsDirection (ray_way t r)
@@ -115,7 +116,7 @@ module _ (t : Star) (M : Map) (V : Valid M) (S : StarShows t M) (simple : IsSimp
     w = ray_way t r
 
     -- counterclockwise after the ray
-    after-ray : (q : Ray) (j : ℕ) → At t.rays j q → (e : Vector) × StrictlyOn d w (ray_way t q) e × (sign (dot u e) ≡ sign (dot u w))
+    after-ray : (q : Ray) (j : ℕ) → At t.rays j q → (e : Vector) × IsStrictlyOn d w (ray_way t q) e × (sign (dot u e) ≡ sign (dot u w))
     after-ray q j b =
         let x = way-level k r a in
         let y = way-level j q b in
@@ -124,7 +125,7 @@ module _ (t : Star) (M : Map) (V : Valid M) (S : StarShows t M) (simple : IsSimp
         (past_source d w K, arc-point d w (ray_way t q) S.axis x.1 y.1 x.0 y.0 K (omega arith), far-keeps (u ∷ []) w c K (omega arith) u (inl refl) f)
 
     -- and before it
-    before-ray : (q : Ray) (j : ℕ) → At t.rays j q → (e : Vector) × StrictlyOn d (ray_way t q) w e × (sign (dot u e) ≡ sign (dot u w))
+    before-ray : (q : Ray) (j : ℕ) → At t.rays j q → (e : Vector) × IsStrictlyOn d (ray_way t q) w e × (sign (dot u e) ≡ sign (dot u w))
     before-ray q j b =
         let x = way-level k r a in
         let y = way-level j q b in
@@ -137,7 +138,7 @@ module _ (t : Star) (M : Map) (V : Valid M) (S : StarShows t M) (simple : IsSimp
         let e = past_source m w K in
         let o = arc-point m w (ray_way t q) hm x.1 y.1 lx ly K (omega arith) in
         let p = reversed m w (ray_way t q) e x.1 o in
-        (e, StrictlyOn-same (away m) d (ray_way t q) (ray_way t q) w w e e (twice d S.axis) (way-self (ray_way t q) y.1) (way-self w x.1) (way-self e o.on_circle.direction) p, far-keeps (u ∷ []) w c K (omega arith) u (inl refl) f)
+        (e, IsStrictlyOn-same (away m) d (ray_way t q) (ray_way t q) w w e e (twice d S.axis) (way-self (ray_way t q) y.1) (way-self w x.1) (way-self e o.on_circle.direction) p, far-keeps (u ∷ []) w c K (omega arith) u (inl refl) f)
       where
         same-vector : (d : Vector) → away (away d) ≡ d
         same-vector d = vector-same (away (away d)) d (one d.x) (one d.y) (one d.z)

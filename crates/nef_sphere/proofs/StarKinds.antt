@@ -6,7 +6,8 @@ use Rattle.nef_exact.proofs.Combination.{follows, given, none}
 use Rattle.nef_exact.proofs.Order.{minus, nought, plus, sign, sign-plus, sign-minus, mul_pos, sign-scaled}
 use Rattle.nef_space.specs.Vectors.{Vector, IsDirection, cross, triple, dot, IsZero, SameDirection, IsOpposite}
 use Rattle.nef_space.specs.declared.label.Label.{Label}
-use Rattle.nef_sphere.specs.Maps.{At, Map, StrictlyOn, NearLabel}
+use Rattle.nef_sphere.specs.Maps.{At, Map, NearLabel}
+use Rattle.nef_cyclic.specs.Arcs.{IsStrictlyOn}
 use Rattle.nef_sphere.specs.Least.{by_side, NearPlain, NearStraight}
 use Rattle.nef_sphere.specs.Stars.{Ray, Star, ray_way, across, OnRay, NextRay, StarLabel, on_ray, in_sector, in_only_sector, StarOf, IsPlain, IsStraight}
 use Rattle.nef_near.proofs.FlatDecided.{cross-turned}
@@ -128,13 +129,13 @@ module _ (t : Star) (M : Map) (S : StarOf t M t.axis) (K : IsStraight t) (axis :
   turned-ends = record { parallel = cross-turned (cross n d) (cross d n) (let o = opposite-ends in o.parallel); backward = let e = dot-comm (cross d n) (cross n d) in let o = opposite-ends in let b = o.backward in omega (arith, ints) }
 
   -- past the first ray
-  past-first : (e : Vector) → StrictlyOn d (cross n d) (cross d n) (across d e) → sign (dot n e) ≡ plus
+  past-first : (e : Vector) → IsStrictlyOn d (cross n d) (cross d n) (across d e) → sign (dot n e) ≡ plus
   past-first e s =
       let h = s.just_half opposite-ends in
       let k = turn-ahead n d (across d e) n-level in
       sym (side-of e) ∙ sym (sign-scaled (dot d d) (dot n (across d e)) dd) ∙ ap sign (sym k) ∙ sign-plus (triple d (cross n d) (across d e)) h
 
-  past-second : (e : Vector) → StrictlyOn d (cross d n) (cross n d) (across d e) → sign (dot n e) ≡ minus
+  past-second : (e : Vector) → IsStrictlyOn d (cross d n) (cross n d) (across d e) → sign (dot n e) ≡ minus
   past-second e s =
       let h = s.just_half turned-ends in
       let k = turn-behind n d (across d e) n-level in
@@ -163,10 +164,10 @@ module _ (t : Star) (M : Map) (S : StarOf t M t.axis) (K : IsStraight t) (axis :
       rays-length = ap (length {A = Ray}) K.two_rays
 
       first-next : K.first ≡ q → K.second ≡ r → l ≡ K.above → l ≡ by_side K.above t.mark K.below (sign (dot n e))
-      first-next f g h = h ∙ ap (by_side K.above t.mark K.below) (sym (past-first e (subst (λ (w : Vector). StrictlyOn d w (cross d n) (across d e)) (ap (ray_way t) (sym f) ∙ ahead) (subst (λ (w : Vector). StrictlyOn d (ray_way t q) w (across d e)) (ap (ray_way t) (sym g) ∙ behind) o))))
+      first-next f g h = h ∙ ap (by_side K.above t.mark K.below) (sym (past-first e (subst (λ (w : Vector). IsStrictlyOn d w (cross d n) (across d e)) (ap (ray_way t) (sym f) ∙ ahead) (subst (λ (w : Vector). IsStrictlyOn d (ray_way t q) w (across d e)) (ap (ray_way t) (sym g) ∙ behind) o))))
 
       second-next : K.second ≡ q → K.first ≡ r → l ≡ K.below → l ≡ by_side K.above t.mark K.below (sign (dot n e))
-      second-next f g h = h ∙ ap (by_side K.above t.mark K.below) (sym (past-second e (subst (λ (w : Vector). StrictlyOn d w (cross n d) (across d e)) (ap (ray_way t) (sym f) ∙ behind) (subst (λ (w : Vector). StrictlyOn d (ray_way t q) w (across d e)) (ap (ray_way t) (sym g) ∙ ahead) o))))
+      second-next f g h = h ∙ ap (by_side K.above t.mark K.below) (sym (past-second e (subst (λ (w : Vector). IsStrictlyOn d w (cross n d) (across d e)) (ap (ray_way t) (sym f) ∙ behind) (subst (λ (w : Vector). IsStrictlyOn d (ray_way t q) w (across d e)) (ap (ray_way t) (sym g) ∙ ahead) o))))
 
       by : ((k ≡ zero) × (K.first ≡ q)) ⊎ ((k ≡ suc zero) × (K.second ≡ q)) → NextRay t.rays k r → l ≡ by_side K.above t.mark K.below (sign (dot n e))
       by (inl c) (inl y) = ⊎_elim (λ z. let p = z.0 in let u = c.0 in absurd (omega arith)) (λ z. first-next c.1 z.1 (sym (subst (λ (i : ℕ). At (K.above ∷ K.below ∷ []) i l) c.0 sector))) (listed-one (suc k) r y)

@@ -4,7 +4,7 @@ use Rattle.std.proofs.lemmas.Int.{ints}
 use Rattle.nef_exact.proofs.Ring.{ring, at, num, ◌⊖◌, ◌⊗◌}
 use Rattle.nef_exact.proofs.Order.{sign, by_order}
 use Rattle.nef_space.specs.Vectors.{Vector, IsDirection, triple, cross, dot, SameDirection, IsOpposite}
-use Rattle.nef_sphere.specs.Maps.{StrictlyOn}
+use Rattle.nef_cyclic.specs.Arcs.{IsStrictlyOn}
 use Rattle.nef_sphere.specs.Forms.{Keeps, arc_forms}
 use Rattle.nef_sphere.proofs.Vectors.{triple-middle, same-plus, same-minus}
 use Rattle.nef_near.proofs.Decided.{Decided}
@@ -40,8 +40,8 @@ IsOpposite-same s u t v a b o = record {
 }
 
 -- an arc with the same normal and ends has the same points
-pub StrictlyOn-same : (n m s u t v d e : Vector) → SameDirection n m → SameDirection s u → SameDirection t v → SameDirection d e → StrictlyOn n s t d → StrictlyOn m u v e
-StrictlyOn-same n m s u t v d e a b c w o = record {
+pub IsStrictlyOn-same : (n m s u t v d e : Vector) → SameDirection n m → SameDirection s u → SameDirection t v → SameDirection d e → IsStrictlyOn n s t d → IsStrictlyOn m u v e
+IsStrictlyOn-same n m s u t v d e a b c w o = record {
   on_circle = record { direction = way-direction d e w; level = same-nought (dot n d) (dot m e) (ap sign (dot-comm m e) ∙ way-signs n m e (way-directed n m a) a ∙ ap sign (dot-comm e n) ∙ way-signs d e n (way-directed d e w) w) o.on_circle.level };
   not_source = λ x. o.not_source (SameDirection-trans s u d b (SameDirection-trans u e d x (SameDirection-turned d e w)));
   not_target = λ x. o.not_target (SameDirection-trans t v d c (SameDirection-trans v e d x (SameDirection-turned d e w)));
@@ -54,7 +54,7 @@ StrictlyOn-same n m s u t v d e a b c w o = record {
 
 -- ---- close after its target an arc isn't met, unless it begins there too
 module _ (n s t y : Vector) (hs : IsDirection s) (ht : IsDirection t) (ls : dot n s ≡ pos 0) (lt : dot n t ≡ pos 0) (hn : IsDirection n)
-    (k : Keeps (arc_forms n s t) t y) (after : pos 0 <ℤ triple n t y) (o : StrictlyOn n s t y) where
+    (k : Keeps (arc_forms n s t) t y) (after : pos 0 <ℤ triple n t y) (o : IsStrictlyOn n s t y) where
   pub after-target : SameDirection s t
   after-target = by_order (triple n s t) (pos 0)
       (λ l. absurd (⊎_elim
@@ -74,7 +74,7 @@ module _ (n s t y : Vector) (hs : IsDirection s) (ht : IsDirection t) (ls : dot 
 module _ (n s t u : Vector) (hn : IsDirection n) (hs : IsDirection s) (ht : IsDirection t) (hu : IsDirection u) (ls : dot n s ≡ pos 0) (lt : dot n t ≡ pos 0) (lu : dot n u ≡ pos 0) where
   -- u lies on the way from s to t, where the turns say so
   on-by : (SameDirection s u → ⊥) → (SameDirection t u → ⊥)
-      → (pos 0 <ℤ triple n s t → (pos 0 <ℤ triple n s u) × (pos 0 <ℤ triple n u t)) → (triple n s t <ℤ pos 0 → (pos 0 <ℤ triple n s u) ⊎ (pos 0 <ℤ triple n u t)) → (IsOpposite s t → pos 0 <ℤ triple n s u) → StrictlyOn n s t u
+      → (pos 0 <ℤ triple n s t → (pos 0 <ℤ triple n s u) × (pos 0 <ℤ triple n u t)) → (triple n s t <ℤ pos 0 → (pos 0 <ℤ triple n s u) ⊎ (pos 0 <ℤ triple n u t)) → (IsOpposite s t → pos 0 <ℤ triple n s u) → IsStrictlyOn n s t u
   on-by a b e f g = record { on_circle = record { direction = hu; level = lu }; not_source = a; not_target = b; less_than_half = e; more_than_half = f; just_half = g }
 
   opposite-level : IsOpposite s t → triple n s t ≡ pos 0
@@ -84,7 +84,7 @@ module _ (n s t u : Vector) (hn : IsDirection n) (hs : IsDirection s) (ht : IsDi
   same-level o = dot-zero n (cross s t) o.parallel
 
   -- the whole circle passes all but its end
-  pub whole-passes : SameDirection s t → (SameDirection t u → ⊥) → StrictlyOn n s t u
+  pub whole-passes : SameDirection s t → (SameDirection t u → ⊥) → IsStrictlyOn n s t u
   whole-passes w b = let z = same-level w in on-by (λ v. b (SameDirection-trans t s u (SameDirection-turned s t w) v)) b
       (λ h. absurd (omega (arith, ints))) (λ h. absurd (omega (arith, ints))) (λ o. let p = o.backward in let q = w.forward in absurd (omega (arith, ints)))
 
@@ -94,7 +94,7 @@ module _ (n s t u : Vector) (hn : IsDirection n) (hs : IsDirection s) (ht : IsDi
     turned = let e = triple-turned n u t in omega (arith, ints)
 
     -- t on the way to u
-    t-first : (pos 0 <ℤ triple n s t) ⊎ (triple n s u <ℤ pos 0) → (triple n s u ≡ pos 0 → pos 0 <ℤ triple n s t) → (pos 0 <ℤ triple n s u → pos 0 <ℤ triple n s t) → StrictlyOn n s u t
+    t-first : (pos 0 <ℤ triple n s t) ⊎ (triple n s u <ℤ pos 0) → (triple n s u ≡ pos 0 → pos 0 <ℤ triple n s t) → (pos 0 <ℤ triple n s u → pos 0 <ℤ triple n s t) → IsStrictlyOn n s u t
     t-first c d e = record {
       on_circle = record { direction = ht; level = lt };
       not_source = off_t;
@@ -119,7 +119,7 @@ module _ (n s t u : Vector) (hn : IsDirection n) (hs : IsDirection s) (ht : IsDi
         by (same_way w) = absurd (off_u w)
         by (other_way w) = w
 
-    pub either-first : StrictlyOn n s t u ⊎ StrictlyOn n s u t
+    pub either-first : IsStrictlyOn n s t u ⊎ IsStrictlyOn n s u t
     either-first = by_order (triple n s t) (pos 0)
         (λ l. by_order (triple n s u) (pos 0)
         (λ m. inr (t-first (inr m) (λ z. absurd (omega (arith, ints))) (λ h. absurd (omega (arith, ints)))))
@@ -137,7 +137,7 @@ module _ (n s t u : Vector) (hn : IsDirection n) (hs : IsDirection s) (ht : IsDi
 
 -- where no one of two arcs from s ends on the other, they end together
 pub ends-together : (n s t u : Vector) → IsDirection n → IsDirection s → IsDirection t → IsDirection u → dot n s ≡ pos 0 → dot n t ≡ pos 0 → dot n u ≡ pos 0
-    → (StrictlyOn n s t u → ⊥) → (StrictlyOn n s u t → ⊥) → SameDirection t u
+    → (IsStrictlyOn n s t u → ⊥) → (IsStrictlyOn n s u t → ⊥) → SameDirection t u
 ends-together n s t u hn hs ht hu ls lt lu f g = by (SameDirection-decided t u) (SameDirection-decided s t) (SameDirection-decided s u)
   where
     by : Decided (SameDirection t u) → Decided (SameDirection s t) → Decided (SameDirection s u) → SameDirection t u

@@ -2,6 +2,7 @@
 use Rattle.std.specs.Prelude.{◌≡◌, ℕ, zero, suc, ◌<◌, ◌≤◌, pos, ◌<ℤ◌, List, [], ◌∷◌, ◌⊎◌, Option, Some, None}
 use Rattle.nef_space.specs.Vectors.{Vector, IsDirection, triple, vector, dot, SameDirection, IsOpposite, IsNormal, blend}
 use Rattle.nef_space.specs.declared.label.Label.{Label}
+use Rattle.nef_cyclic.specs.Arcs.{IsOnCircle, IsStrictlyOn}
 
 -- x stands at place k
 abbrev pub At : {X : Type 0} → List X → ℕ → X → Type 0
@@ -10,19 +11,6 @@ At (y ∷ ys) zero x = y ≡ x
 At (y ∷ ys) (suc k) x = At ys k x
 
 -- ---- places
-pub record OnCircle (n d : Vector) : Type 0 where
-  pub direction : IsDirection d
-  pub level : dot n d ≡ pos 0
-
--- d is strictly passed on the way counterclockwise about n from s to t. Where s and t are the same, the way is the whole circle
-pub record StrictlyOn (n s t d : Vector) : Type 0 where
-  pub on_circle : OnCircle n d
-  pub not_source : SameDirection s d → ⊥
-  pub not_target : SameDirection t d → ⊥
-  pub less_than_half : pos 0 <ℤ triple n s t → (pos 0 <ℤ triple n s d) × (pos 0 <ℤ triple n d t)
-  pub more_than_half : triple n s t <ℤ pos 0 → (pos 0 <ℤ triple n s d) ⊎ (pos 0 <ℤ triple n d t)
-  pub just_half : IsOpposite s t → pos 0 <ℤ triple n s d
-
 pub record Svertex : Type 0 where
   pub way : Vector
   pub mark : Label
@@ -89,8 +77,8 @@ way_of (v ∷ vs) (suc k) = way_of vs k
 
 -- d lies strictly on the arc, or on the sloop
 abbrev pub OnItem : Map → Item → Vector → Type 0
-OnItem M (arc_item a) d = StrictlyOn a.normal (way_of M.svertices a.source) (way_of M.svertices a.target) d
-OnItem M (loop_item l) d = OnCircle l.normal d
+OnItem M (arc_item a) d = IsStrictlyOn a.normal (way_of M.svertices a.source) (way_of M.svertices a.target) d
+OnItem M (loop_item l) d = IsOnCircle l.normal d
 
 -- d is a direction on no svertex and on no item
 pub record IsFree (M : Map) (d : Vector) : Type 0 where

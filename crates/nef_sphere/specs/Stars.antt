@@ -2,7 +2,8 @@
 use Rattle.std.specs.Prelude.{◌≡◌, ℕ, zero, suc, pos, List, [], ◌∷◌, length, Bool, true, false, cond, ◌⊎◌}
 use Rattle.nef_space.specs.Vectors.{Vector, IsDirection, cross, dot, SameDirection, IsNormal}
 use Rattle.nef_space.specs.declared.label.Label.{Label}
-use Rattle.nef_sphere.specs.Maps.{At, Map, StrictlyOn, MapLabel, NearLabel}
+use Rattle.nef_sphere.specs.Maps.{At, Map, MapLabel, NearLabel}
+use Rattle.nef_cyclic.specs.Arcs.{IsStrictlyOn}
 
 pub record Ray : Type 0 where
   pub normal : Vector
@@ -28,7 +29,7 @@ OnRay t r e = SameDirection (ray_way t r) (across t.axis e)
 
 -- e lies strictly between the rays q and r, counterclockwise; where they are the same ray, off it
 abbrev pub PastRay : Star → Ray → Ray → Vector → Type 0
-PastRay t q r e = StrictlyOn t.axis (ray_way t q) (ray_way t r) (across t.axis e)
+PastRay t q r e = IsStrictlyOn t.axis (ray_way t q) (ray_way t r) (across t.axis e)
 
 -- r is the ray after ray k; the first ray follows the last
 abbrev pub NextRay : List Ray → ℕ → Ray → Type 0

@@ -9,9 +9,10 @@ use Rattle.nef_space.specs.declared.label.Label.{Label}
 use Rattle.nef_geo.specs.Shapes.{vector_of}
 use Rattle.nef_cyclic.specs.Arcs.{IsOnCircle, IsStrictlyOn, Passes}
 use Rattle.nef_cyclic.proofs.Directions.{level_cross_first}
-use Rattle.nef_sphere.specs.Maps.{At, StrictlyOn}
+use Rattle.nef_sphere.specs.Maps.{At}
+use Rattle.nef_cyclic.specs.Arcs.{IsStrictlyOn}
 use Rattle.nef_sphere.specs.Stars.{Ray as PlainRay, Star as PlainStar, ray_way, NextRay, StarLabel, on_ray, in_sector, in_only_sector}
-use Rattle.nef_sphere.proofs.Parallel.{vector-same}
+use Rattle.nef_near.proofs.Flats.{vector-same}
 use Rattle.nef_star.specs.declared.star.Ray.{Ray}
 use Rattle.nef_star.specs.declared.star.Star.{Star}
 use Rattle.nef_star.specs.Laws.{EachHasOneLabel}
@@ -81,7 +82,7 @@ way-of t r = by r.ahead
     by true = refl
     by false = turned (vector_of r.normal) (vector_of t.axis)
 
-pub strictly : (n s t d : Vector) → Passes n s d t → StrictlyOn n s t d
+pub strictly : (n s t d : Vector) → Passes n s d t → IsStrictlyOn n s t d
 strictly n s t d h = record {
   on_circle = record { direction = h.on_circle.direction; level = h.on_circle.level };
   not_source = h.not_source;
@@ -91,7 +92,7 @@ strictly n s t d h = record {
   just_half = h.just_half;
 }
 
-pub passes : (n s t d : Vector) → StrictlyOn n s t d → Passes n s d t
+pub passes : (n s t d : Vector) → IsStrictlyOn n s t d → Passes n s d t
 passes n s t d h = record {
   on_circle = record { direction = h.on_circle.direction; level = h.on_circle.level };
   not_source = h.not_source;
@@ -106,7 +107,6 @@ abbrev pub LeftGives : Star → Vector → Label → Type 0
 LeftGives t d l = Gives (vector_of t.axis) (length t.rays.items) (left_at t.rays.items) (mark_at t.rays.items) (sector_at t.sectors.items) d l
 
 module _ (t : Star) (T : IsTurned t) (e : Vector) (off : IsDirection (cross (vector_of t.axis) e)) where
-
   axis : IsDirection (vector_of t.axis)
   axis = t.axis.some
 
@@ -123,7 +123,7 @@ module _ (t : Star) (T : IsTurned t) (e : Vector) (off : IsDirection (cross (vec
   length-rays = length-map t.rays.items ray_of
 
   from-sector : (k j : ℕ) (q r : PlainRay) (l : Label) → k < length t.rays.items → IsRayAt t.rays.items k q → IsNext (length t.rays.items) k j → j < length t.rays.items → IsRayAt t.rays.items j r
-      → StrictlyOn (vector_of t.axis) (ray_way (star_of t) q) (ray_way (star_of t) r) (way (vector_of t.axis) (cross (vector_of t.axis) e)) → At t.sectors.items k l → LeftGives t (cross (vector_of t.axis) e) l
+      → IsStrictlyOn (vector_of t.axis) (ray_way (star_of t) q) (ray_way (star_of t) r) (way (vector_of t.axis) (cross (vector_of t.axis) e)) → At t.sectors.items k l → LeftGives t (cross (vector_of t.axis) e) l
   from-sector k j q r l h qk x i rj p s =
       of_sector k j h x
       (passes-way (vector_of t.axis) axis _ _ _ (on-left k h) left-on (on-left j i) (rw (← at-way k q qk, ← at-way j r rj) (passes _ _ _ _ p)))
@@ -163,6 +163,8 @@ module _ (t : Star) (T : IsTurned t) (e : Vector) (off : IsDirection (cross (vec
 pub each_has_one_label : EachHasOneLabel
 each_has_one_label t T e off =
     let o = left-on t T e off in
-    let found = some_label (vector_of t.axis) t.axis.some (length t.rays.items) (left_at t.rays.items) T.counterclockwise (mark_at t.rays.items) (sector_at t.sectors.items) (cross (vector_of t.axis) e) o in
-    (found.0, to-star t T e off found.0 found.1,
-    λ m s. one_label (vector_of t.axis) t.axis.some (length t.rays.items) (left_at t.rays.items) T.counterclockwise (mark_at t.rays.items) (sector_at t.sectors.items) (cross (vector_of t.axis) e) m found.0 o (to-left t T e off m s) found.1)
+    let found = some_label (vector_of t.axis) t.axis.some (length t.rays.items) (left_at t.rays.items) T.counterclockwise (mark_at t.rays.items) (sector_at t.sectors.items) (cross (vector_of t.axis) e) o in (
+      found.0,
+      to-star t T e off found.0 found.1,
+      λ m s. one_label (vector_of t.axis) t.axis.some (length t.rays.items) (left_at t.rays.items) T.counterclockwise (mark_at t.rays.items) (sector_at t.sectors.items) (cross (vector_of t.axis) e) m found.0 o (to-left t T e off m s) found.1,
+    )

@@ -9,7 +9,9 @@ use Rattle.nef_cyclic.proofs.Planar.{self_positive, turn_from_parallel}
 use Rattle.nef_cyclic.proofs.StrictlyOn.{same-sym}
 use Rattle.nef_cyclic.proofs.Directions.{same-trans}
 use Rattle.nef_cyclic.proofs.Cyclic.{one_is_first, never_both_ways, order_is_transitive, same_in_place, order_is_cyclic, ways_glue, nearer_ones, sector_holds, in_sector, no_ray_between}
-use Rattle.nef_sphere.proofs.Vectors.{Decided, nought-decided, positive-or}
+use Rattle.nef_near.proofs.Decided.{Decided}
+use Rattle.nef_forms.proofs.Directions.{zero-decided}
+use Rattle.nef_sphere.proofs.Vectors.{positive-or}
 use Rattle.nef_star.specs.Turning.{IsTurning, IsNext, Gives, on_ray, in_sector as of_sector, in_only_sector, IsUnder, at_ray, past_ray}
 
 -- ---- directions about an axis
@@ -46,7 +48,7 @@ pub four : (a p q r s : Vector) → IsDirection a → IsOnCircle a p → IsOnCir
 four a p q r s h i j k l = record { axis = h; first = i; second = j; third = k; fourth = l }
 
 pub same_or : (d e : Vector) → SameDirection d e ⊎ (SameDirection d e → ⊥)
-same_or d e = by (nought-decided (cross d e)) (positive-or (dot d e))
+same_or d e = by (zero-decided (cross d e)) (positive-or (dot d e))
   where
     by : Decided (IsParallel d e) → Decided (pos 0 <ℤ dot d e) → SameDirection d e ⊎ (SameDirection d e → ⊥)
     by (inl p) (inl q) = inl (record { parallel = p; forward = q })
@@ -82,7 +84,6 @@ three_ways (suc i) (suc k) = by (three_ways i k)
 
 -- ---- directions that turn
 module _ (a : Vector) (axis : IsDirection a) (n : ℕ) (f : ℕ → Vector) (t : IsTurning a n f) where
-
   on : (k : ℕ) → k < n → IsOnCircle a (f k)
   on k h = t.circle k h
 
@@ -172,7 +173,6 @@ module _ (a : Vector) (axis : IsDirection a) (n : ℕ) (f : ℕ → Vector) (t :
 
   -- ---- what they give
   module _ (marks sectors : ℕ → Label) where
-
     given : (d : Vector) (k : ℕ) → k < n → Lies d k → (l : Label) × Gives a n f marks sectors d l
     given d k h (inl s) = (marks k, on_ray k h s refl)
     given d k h (inr (j, x, p)) = (sectors k, of_sector k j h x p refl)
