@@ -106,7 +106,6 @@ abbrev pub LeftGives : Star → Vector → Label → Type 0
 LeftGives t d l = Gives (vector_of t.axis) (length t.rays.items) (left_at t.rays.items) (mark_at t.rays.items) (sector_at t.sectors.items) d l
 
 module _ (t : Star) (T : IsTurned t) (e : Vector) (off : IsDirection (cross (vector_of t.axis) e)) where
-
   axis : IsDirection (vector_of t.axis)
   axis = t.axis.some
 
@@ -163,6 +162,8 @@ module _ (t : Star) (T : IsTurned t) (e : Vector) (off : IsDirection (cross (vec
 pub each_has_one_label : EachHasOneLabel
 each_has_one_label t T e off =
     let o = left-on t T e off in
-    let found = some_label (vector_of t.axis) t.axis.some (length t.rays.items) (left_at t.rays.items) T.counterclockwise (mark_at t.rays.items) (sector_at t.sectors.items) (cross (vector_of t.axis) e) o in
-    (found.0, to-star t T e off found.0 found.1,
-    λ m s. one_label (vector_of t.axis) t.axis.some (length t.rays.items) (left_at t.rays.items) T.counterclockwise (mark_at t.rays.items) (sector_at t.sectors.items) (cross (vector_of t.axis) e) m found.0 o (to-left t T e off m s) found.1)
+    let found = some_label (vector_of t.axis) t.axis.some (length t.rays.items) (left_at t.rays.items) T.counterclockwise (mark_at t.rays.items) (sector_at t.sectors.items) (cross (vector_of t.axis) e) o in (
+      found.0,
+      to-star t T e off found.0 found.1,
+      λ m s. one_label (vector_of t.axis) t.axis.some (length t.rays.items) (left_at t.rays.items) T.counterclockwise (mark_at t.rays.items) (sector_at t.sectors.items) (cross (vector_of t.axis) e) m found.0 o (to-left t T e off m s) found.1,
+    )

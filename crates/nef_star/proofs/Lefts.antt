@@ -16,9 +16,6 @@ use Rattle.nef_star.proofs.Turns.{three}
 abbrev pub way : Vector → Vector → Vector
 way a l = cross l a
 
-
-
-
 pub dot-ways : (a l m : Vector) → dot a l ≡ pos 0 → dot (way a l) (way a m) ≡ dot a a *ℤ dot l m
 dot-ways a l m e =
     follows (numbers a l m a) ((at 4 ⊗ at 2 ⊖ at 5 ⊗ at 1) ⊗ (at 7 ⊗ at 2 ⊖ at 8 ⊗ at 1) ⊕ (at 5 ⊗ at 0 ⊖ at 3 ⊗ at 2) ⊗ (at 8 ⊗ at 0 ⊖ at 6 ⊗ at 2) ⊕ (at 3 ⊗ at 1 ⊖ at 4 ⊗ at 0) ⊗ (at 6 ⊗ at 1 ⊖ at 7 ⊗ at 0))
@@ -36,7 +33,6 @@ way-level : (a l : Vector) → dot a (way a l) ≡ pos 0
 way-level a l = ring (numbers a l a a) (at 0 ⊗ (at 4 ⊗ at 2 ⊖ at 5 ⊗ at 1) ⊕ at 1 ⊗ (at 5 ⊗ at 0 ⊖ at 3 ⊗ at 2) ⊕ at 2 ⊗ (at 3 ⊗ at 1 ⊖ at 4 ⊗ at 0)) (num (pos 0)) tt
 
 module _ (a : Vector) (axis : IsDirection a) where
-
   square : pos 0 <ℤ dot a a
   square = self_positive a axis
 

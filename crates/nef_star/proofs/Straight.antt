@@ -54,8 +54,8 @@ straight_if t T q r e (same, m, m') =
     let l0 : left_at t.rays.items 0 ≡ left_of q = ap (λ (l : List Ray). left_at l 0) e in
     let l1 : left_at t.rays.items 1 ≡ left_of r = ap (λ (l : List Ray). left_at l 1) e in
     let turned = ahead_first q r (subst IsDirection l0 (turning.circle 0 (omega (arith, two))).direction)
-        (λ s. turning.apart 1 (omega arith) (omega (arith, two)) (rw (l0, l1) s))
-        (T.least_first 1 q r (omega (arith, two)) (ap (λ (l : List Ray). get_or l 0 q) e) (ap (λ (l : List Ray). get_or l 1 r) e)) same in
+    (λ s. turning.apart 1 (omega arith) (omega (arith, two)) (rw (l0, l1) s))
+    (T.least_first 1 q r (omega (arith, two)) (ap (λ (l : List Ray). get_or l 0 q) e) (ap (λ (l : List Ray). get_or l 1 r) e)) same in
     let s = some_two t.sectors.items (T.turned.sectors ∙ ap sector_count e) in
     record {
       first = ray_of q;
@@ -78,7 +78,8 @@ pub straight_then : (t : Star) → IsStraight (star_of t) → (q r : Ray) → t.
 straight_then t S q r e =
     let both : map ray_of (q ∷ r ∷ []) ≡ S.first ∷ S.second ∷ [] = sym (ap (map ray_of) e) ∙ S.two_rays in
     let one : ray_of q ≡ S.first = ap (λ (l : List PlainRay). get_or l 0 (ray_of q)) both in
-    let other : ray_of r ≡ S.second = ap (λ (l : List PlainRay). get_or l 1 (ray_of q)) both in
-    (dir_equal q.normal r.normal (ap (λ (p : PlainRay). p.normal) one ∙ S.one_normal ∙ sym (ap (λ (p : PlainRay). p.normal) other)),
-    ap (λ (p : PlainRay). p.mark) one ∙ S.first_mark,
-    ap (λ (p : PlainRay). p.mark) other ∙ S.second_mark)
+    let other : ray_of r ≡ S.second = ap (λ (l : List PlainRay). get_or l 1 (ray_of q)) both in (
+      dir_equal q.normal r.normal (ap (λ (p : PlainRay). p.normal) one ∙ S.one_normal ∙ sym (ap (λ (p : PlainRay). p.normal) other)),
+      ap (λ (p : PlainRay). p.mark) one ∙ S.first_mark,
+      ap (λ (p : PlainRay). p.mark) other ∙ S.second_mark,
+    )

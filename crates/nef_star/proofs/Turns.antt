@@ -82,7 +82,6 @@ three_ways (suc i) (suc k) = by (three_ways i k)
 
 -- ---- directions that turn
 module _ (a : Vector) (axis : IsDirection a) (n : ℕ) (f : ℕ → Vector) (t : IsTurning a n f) where
-
   on : (k : ℕ) → k < n → IsOnCircle a (f k)
   on k h = t.circle k h
 
@@ -172,7 +171,6 @@ module _ (a : Vector) (axis : IsDirection a) (n : ℕ) (f : ℕ → Vector) (t :
 
   -- ---- what they give
   module _ (marks sectors : ℕ → Label) where
-
     given : (d : Vector) (k : ℕ) → k < n → Lies d k → (l : Label) × Gives a n f marks sectors d l
     given d k h (inl s) = (marks k, on_ray k h s refl)
     given d k h (inr (j, x, p)) = (sectors k, of_sector k j h x p refl)
