@@ -3,3 +3,8 @@ pub mod Turns
 pub mod Lefts
 pub mod Labelled
 pub mod Straight
+pub mod Rotated
+pub mod Dropped
+pub mod RayOrder
+pub mod Counted
+pub mod Needed

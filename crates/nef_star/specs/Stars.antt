@@ -1,5 +1,5 @@
 -- The program's stars as stars of any size, and what holds of each.
-use Rattle.std.specs.Prelude.{◌≡◌, ℕ, ◌<◌, pos, List, [], ◌∷◌, length, map, take, drop, ◌++◌, slice_index_or, true, false, cond, ◌⊎◌}
+use Rattle.std.specs.Prelude.{◌≡◌, ℕ, ◌+◌, ◌<◌, pos, List, [], ◌∷◌, length, map, take, drop, ◌++◌, slice_index_or, true, false, cond, ◌⊎◌}
 use Rattle.std.specs.List.{All}
 use Rattle.nef_space.specs.Limits.{normal_limit, svertex_limit}
 use Rattle.nef_space.specs.Numbers.{IsBelow}
@@ -83,3 +83,7 @@ IsNeedless t j k = (mark_at t.rays.items k ≡ sector_at t.sectors.items j) × (
 -- none of the first c rays is needless
 abbrev pub AreNeeded : ℕ → Star → Type 0
 AreNeeded c t = (j k : ℕ) → k < c → k < length t.rays.items → IsNext (length t.rays.items) j k → IsNeedless t j k → ⊥
+
+-- s is t without its last ray, or with it passed: one more of the first rays isn't needless
+abbrev pub IsPassed : ℕ → Star → Star → Type 0
+IsPassed c t s = ((length s.rays.items + 1 ≡ length t.rays.items) × AreNeeded c s) ⊎ ((length s.rays.items ≡ length t.rays.items) × AreNeeded (c + 1) s)

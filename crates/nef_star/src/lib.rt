@@ -2,10 +2,12 @@
 #![tactic(auto)]
 
 mod laws;
+mod needless;
 mod op;
 mod star;
 
 pub use laws::star_laws;
+pub use needless::simplify;
 pub use op::Op;
 pub use star::{Ray, Star, is_plain, is_straight};
 pub use std::alloc::AllocError as OutOfMemory;

@@ -1,0 +1,15 @@
+use Rattle.std.proofs.Common.{◌≡◌, ◌-◌, ◌<◌, length, true, false, arith, refl, sym, ap, subst, ◌∙◌, inl}
+use Rattle.nef_star.specs.Stars.{IsCountedFrom, IsNeedless}
+use Rattle.nef_star.proofs.Needed.{passed-needed, true_or_false}
+use Rattle.nef_star.proofs.needless.pass_last.Goals as goal
+
+pub returns-then-is_last_needless-clause-passed : goal.returns-then-is_last_needless-clause-passed
+returns-then-is_last_needless-clause-passed c = λ n a. inl (c.drop_last.ensures.fewer, c.drop_last.ensures.needed n a)
+
+pub returns-clause-passed : goal.returns-clause-passed
+returns-clause-passed c =
+    let t = c.args.star.now in
+    let last : c.len-last.result - 1 ≡ length t.rays.items - 1 = omega (arith, c.len-last.ensures) in
+    passed-needed t c.count_from.new.star c.requires.turned c.count_from.ensures.kept.axis c.count_from.ensures.kept.mark c.requires.some
+    (subst (λ m. IsCountedFrom m t c.count_from.new.star) last c.count_from.ensures.counted)
+    (λ z. true_or_false (sym (c.is_last_needless.ensures.needless.1 z) ∙ c.if-is_last_needless.false))

@@ -1,0 +1,129 @@
+//! Stars counted from another ray on, and stars without needless rays.
+
+ghost use Rattle.std.specs.Prelude.{◌≡◌, ◌≤◌, ◌<◌, ◌+◌, ◌-◌, ◌↔◌, ◌⊎◌, ℕ, length, slice_index_or, IsTrue};
+ghost use Rattle.nef_sphere.specs.Stars.{IsSimplified};
+ghost use Rattle.nef_star.specs.Stars.{star_of, IsRayBelow, IsTurned, IsStar, IsKept, IsCountedFrom, IsNeedless, AreNeeded, IsPassed};
+
+use crate::star::{Ray, Star};
+use nef_geo::{Label, dir_cmp};
+use std::cmp::Ordering;
+
+fn is_below(a: &Ray, b: &Ray) -> bool
+    ensures below { IsTrue result ↔ IsRayBelow a.now b.now }
+{
+    match dir_cmp(&a.normal, &b.normal) {
+        Ordering::Less => true,
+        Ordering::Equal => a.ahead && !b.ahead,
+        Ordering::Greater => false,
+    }
+}
+
+// The number of the least ray.
+fn least_ray(rays: &[Ray]) -> usize
+    requires some { 0 < length rays.now }
+    ensures within { result < length rays.now }
+    ensures least { (k : ℕ) (q r : Ray) → k < length rays.now → slice_index_or rays.now result q ≡ q → slice_index_or rays.now k r ≡ r → IsRayBelow r q → ⊥ }
+{
+    let mut least = 0;
+    for (k, ray) in rays.iter().enumerate() {
+        if is_below(ray, &rays[least]) {
+            least = k;
+        }
+    }
+    least
+}
+
+// Counts the rays and sectors from number `first` on.
+fn count_from(star: &mut Star, first: usize)
+    requires turned { IsTurned star.old }
+    requires within { first < length star.old.rays.items }
+    ensures turned { IsTurned star.new }
+    ensures kept { IsKept star.old star.new }
+    ensures counted { IsCountedFrom first star.old star.new }
+{
+    star.rays.as_mut_slice().rotate_left(first);
+    star.sectors.as_mut_slice().rotate_left(first);
+}
+
+// Lets the star begin with its least ray.
+fn begin_with_least(star: &mut Star)
+    requires turned { IsTurned star.old }
+    ensures star { IsStar star.new }
+    ensures kept { IsKept star.old star.new }
+    ensures counted { (star.new ≡ star.old) ⊎ ((m : ℕ) × (m < length star.old.rays.items) × IsCountedFrom m star.old star.new) }
+{
+    if star.rays.is_empty() {
+        return;
+    }
+    let least = least_ray(star.rays.as_slice());
+    count_from(star, least);
+}
+
+fn are_one(a: Label, b: Label, c: Label) -> bool
+    ensures one { IsTrue result ↔ ((a ≡ b) × (a ≡ c)) }
+{
+    a == b && a == c
+}
+
+// Whether the last ray's mark is the label of both its sectors.
+fn is_last_needless(star: &Star) -> bool
+    requires turned { IsTurned star.now }
+    requires some { 0 < length star.now.rays.items }
+    ensures needless { IsTrue result ↔ IsNeedless star.now (length star.now.rays.items - 2) (length star.now.rays.items - 1) }
+{
+    let last = star.rays.len() - 1;
+    are_one(
+        star.rays[last].mark,
+        star.sectors[last.saturating_sub(1)],
+        star.sectors[last],
+    )
+}
+
+// Leaves the last ray out, whose mark is the label of both its sectors.
+fn drop_last(star: &mut Star)
+    requires turned { IsTurned star.old }
+    requires some { 0 < length star.old.rays.items }
+    requires needless { IsNeedless star.old (length star.old.rays.items - 2) (length star.old.rays.items - 1) }
+    ensures turned { IsTurned star.new }
+    ensures kept { IsKept star.old star.new }
+    ensures fewer { length star.new.rays.items + 1 ≡ length star.old.rays.items }
+    ensures needed { (c : ℕ) → AreNeeded c star.old → AreNeeded c star.new }
+{
+    let last = star.rays.len() - 1;
+    star.rays.truncate(last);
+    if last > 0 {
+        star.sectors.truncate(last);
+    }
+}
+
+// Leaves the last ray out if it is needless, else counts from it on.
+fn pass_last(star: &mut Star)
+    requires turned { IsTurned star.old }
+    requires some { 0 < length star.old.rays.items }
+    ensures turned { IsTurned star.new }
+    ensures kept { IsKept star.old star.new }
+    ensures passed { (c : ℕ) → AreNeeded c star.old → IsPassed c star.old star.new }
+{
+    if is_last_needless(star) {
+        drop_last(star);
+        return;
+    }
+    let last = star.rays.len() - 1;
+    count_from(star, last);
+}
+
+/// Removes every ray whose mark is the label of both its sectors. Each direction keeps its label, and so does the
+/// axis. It takes no memory.
+pub fn simplify(star: &mut Star)
+    requires star { IsStar star.old }
+    ensures star { IsStar star.new }
+    ensures kept { IsKept star.old star.new }
+    ensures simplified { IsSimplified (star_of star.new) }
+{
+    let mut unseen = star.rays.len();
+    while unseen > 0 {
+        pass_last(star);
+        unseen -= 1;
+    }
+    begin_with_least(star);
+}
