@@ -1,7 +1,7 @@
 //! What no clause says, and each call once.
 
 ghost use Rattle.std.specs.Prelude.{◌↔◌, IsTrue};
-ghost use Rattle.nef_space.specs.Vectors.{IsAtMost};
+ghost use Rattle.nef_space.specs.Vectors.{IsAtMost, vector};
 ghost use Rattle.nef_geo.specs.Hits.{IsPlaceAtMost};
 ghost use Rattle.nef_geo.specs.Shapes.{vector_of, hit_place};
 ghost use Rattle.nef_geo.specs.Widths.{upright_limit, upright_weight_limit};
@@ -28,13 +28,16 @@ fn is_at_most(d: &Dir, limit: u64) -> bool
     d.x().unsigned_abs() <= limit && d.y().unsigned_abs() <= limit && d.z().unsigned_abs() <= limit
 }
 
-fn is_upright(p: &Hit) -> bool
-    ensures small { IsTrue result ↔ IsPlaceAtMost upright_limit upright_weight_limit (hit_place p.now) }
+fn are_at_most(x: i128, y: i128, z: i128) -> bool
+    ensures small { IsTrue result ↔ IsAtMost upright_limit (vector x y z) }
 {
-    p.x().unsigned_abs() <= 1 << 86
-        && p.y().unsigned_abs() <= 1 << 86
-        && p.z().unsigned_abs() <= 1 << 86
-        && p.w().unsigned_abs() <= 1 << 73
+    x.unsigned_abs() <= 1 << 86 && y.unsigned_abs() <= 1 << 86 && z.unsigned_abs() <= 1 << 86
+}
+
+fn is_upright(p: &Hit) -> bool
+    ensures small { IsTrue result → IsPlaceAtMost upright_limit upright_weight_limit (hit_place p.now) }
+{
+    are_at_most(p.x(), p.y(), p.z()) && p.w().unsigned_abs() <= 1 << 73
 }
 
 // The calls where their conditions hold.
