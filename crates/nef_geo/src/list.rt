@@ -29,6 +29,20 @@ impl<T> List<T> {
         }
     }
 
+    /// The list of the elements of a `Vec`.
+    pub fn from_vec(items: Vec<T>) -> List<T>
+        ensures all { result ≡ items.items }
+    {
+        List { items }
+    }
+
+    /// The elements as a `Vec`.
+    pub fn into_vec(self) -> Vec<T>
+        ensures all { result.items ≡ self }
+    {
+        self.items
+    }
+
     /// How many elements the list has.
     pub fn len(&self) -> usize
         ensures len { result ≡ length self.now }
