@@ -27,7 +27,7 @@ pub record IsKeptRaw (R Q : RawMap) : Type 0 where
   pub mark : Q.mark ≡ R.mark
   pub stars : AreKept R.stars Q.stars
   pub loop : Q.loop ≡ R.loop
-  pub same_ground : Q.ground ≡ R.ground
+  pub same_ground : Q.face ≡ R.face
 
 -- no ray of a star has the mark of both its sectors
 abbrev pub AreSimplified : List Star → Type 0
@@ -76,7 +76,7 @@ pub data IsLoopFrom (R : RawMap) (kept : List Star) (l : Loop) : Type 0 where
 
 -- one of the labels of a raw map
 abbrev pub IsRawLabel : RawMap → Label → Type 0
-IsRawLabel R m = (R.ground ≡ Some m) ⊎ ((k : ℕ) × (t : Star) × At R.stars k t × (t.mark ≡ m)) ⊎ ((l : Loop) × (R.loop ≡ Some l) × (l.mark ≡ m))
+IsRawLabel R m = (R.face ≡ Some m) ⊎ ((k : ℕ) × (t : Star) × At R.stars k t × (t.mark ≡ m)) ⊎ ((l : Loop) × (R.loop ≡ Some l) × (l.mark ≡ m))
 
 -- M is made of the simplified stars of R: those that are neither plain nor straight become its svertices, their rays its arcs
 pub record IsBuiltFrom (R : RawMap) (M : Map) : Type 0 where
@@ -92,5 +92,5 @@ pub record IsBuiltFrom (R : RawMap) (M : Map) : Type 0 where
   pub arcs_ordered : InOrder ArcBelow M.arcs
   pub loop_from : (l : Loop) → M.loop ≡ Some l → IsLoopFrom R kept l
   pub loop_all : (l : Loop) → IsLoopFrom R kept l → (k : Loop) × (M.loop ≡ Some k)
-  pub ground_alone : kept ≡ [] → M.loop ≡ None → (m : Label) × (M.ground ≡ Some m) × IsRawLabel R m
-  pub ground_not : (m : Label) → M.ground ≡ Some m → (kept ≡ []) × (M.loop ≡ None)
+  pub ground_alone : kept ≡ [] → M.loop ≡ None → (m : Label) × (M.face ≡ Some m) × IsRawLabel R m
+  pub ground_not : (m : Label) → M.face ≡ Some m → (kept ≡ []) × (M.loop ≡ None)

@@ -57,7 +57,7 @@ pub record IsMergedLoop (A B : Map) (op : Label → Label → Label) (l : Loop) 
 
 -- op of both grounds
 abbrev pub IsMergedGround : Map → Map → (Label → Label → Label) → Label → Type 0
-IsMergedGround A B op m = (k : Label) × (l : Label) × (A.ground ≡ Some k) × (B.ground ≡ Some l) × (op k l ≡ m)
+IsMergedGround A B op m = (k : Label) × (l : Label) × (A.face ≡ Some k) × (B.face ≡ Some l) × (op k l ≡ m)
 
 -- the map has a svertex or a sloop
 abbrev pub HasItem : Map → Type 0
@@ -70,4 +70,4 @@ pub record Raw (R : RawMap) (A B : Map) (op : Label → Label → Label) : Type 
   pub complete : (d : Vector) → IsAxis A B d → (k : ℕ) × (t : Star) × At R.stars k t × SameDirection t.axis d
   pub ordered : InOrder (λ t u. VectorBelow t.axis u.axis) R.stars
   pub circle : MatchOption R.loop ((l : Loop) → IsLoneLoop A B l → ⊥) (IsMergedLoop A B op)
-  pub ground : MatchOption R.ground (HasItem A ⊎ HasItem B) (IsMergedGround A B op)
+  pub face : MatchOption R.face (HasItem A ⊎ HasItem B) (IsMergedGround A B op)

@@ -16,7 +16,7 @@ pub record RawMap : Type 0 where
   pub mark : Label
   pub stars : List Star
   pub loop : Option Loop
-  pub ground : Option Label
+  pub face : Option Label
 
 -- a label for each direction, as a relation
 abbrev pub Of : (Vector → Label) → Vector → Label → Type 0
@@ -56,7 +56,7 @@ pub record ShowsLabels (t : Star) (L : Vector → Label) : Type 0 where
 abbrev pub IsBare : List Star → Vector → Type 0
 IsBare ts n = (k : ℕ) (t : Star) → At ts k t → dot n t.axis ≡ pos 0 → ⊥
 
--- the stars, the circle and the ground show L: away from the axes L is plain or straight, and the circle has its labels all along
+-- the stars, the circle and the one face show L: away from the axes L is plain or straight, and the circle has its labels all along
 pub record IsRawOf (R : RawMap) (L : Vector → Label) : Type 0 where
   pub stars : (k : ℕ) (t : Star) → At R.stars k t → ShowsLabels t L
   pub ordered : InOrder (λ t u. VectorBelow t.axis u.axis) R.stars
@@ -67,6 +67,6 @@ pub record IsRawOf (R : RawMap) (L : Vector → Label) : Type 0 where
   pub loop_labels : (l : Loop) (y : Vector) → R.loop ≡ Some l → IsOnCircle l.normal y → StraightAt (Of L) l.normal l.above l.mark l.below y
   pub loop_all : (n y : Vector) (a m b : Label) → IsNormal n → IsBare R.stars n → IsOnCircle n y → Proper a m b → StraightAt (Of L) n a m b y
       → (l : Loop) × (R.loop ≡ Some l) × SameDirection n l.normal
-  pub ground_alone : R.stars ≡ [] → R.loop ≡ None → (m : Label) × (R.ground ≡ Some m)
-  pub ground_not : (m : Label) → R.ground ≡ Some m → (R.stars ≡ []) × (R.loop ≡ None)
-  pub ground_label : (m : Label) (d : Vector) → R.ground ≡ Some m → IsDirection d → L d ≡ m
+  pub ground_alone : R.stars ≡ [] → R.loop ≡ None → (m : Label) × (R.face ≡ Some m)
+  pub ground_not : (m : Label) → R.face ≡ Some m → (R.stars ≡ []) × (R.loop ≡ None)
+  pub ground_label : (m : Label) (d : Vector) → R.face ≡ Some m → IsDirection d → L d ≡ m

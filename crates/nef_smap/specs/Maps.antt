@@ -24,10 +24,10 @@ abbrev pub loop_of : SLoop → Loop
 loop_of l = record { normal = vector_of l.normal; above = l.pos; mark = l.mark; below = l.neg }
 
 abbrev pub map_of : SphereMap → Map
-map_of m = record { mark = m.mark; svertices = map svertex_of m.svertices; arcs = map arc_of m.arcs; loop = option_map loop_of m.sloop; ground = m.ground }
+map_of m = record { mark = m.mark; svertices = map svertex_of m.svertices; arcs = map arc_of m.arcs; loop = option_map loop_of m.sloop; face = m.ground }
 
 abbrev pub raw_of : RawStars → RawMap
-raw_of r = record { mark = r.mark; stars = map star_of r.stars; loop = option_map loop_of r.sloop; ground = r.ground }
+raw_of r = record { mark = r.mark; stars = map star_of r.stars; loop = option_map loop_of r.sloop; face = r.ground }
 
 -- the numbers of svertices and of normals are within their limits
 pub record IsSmall (M : Map) : Type 0 where

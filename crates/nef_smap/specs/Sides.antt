@@ -27,7 +27,7 @@ item_sides k (x ∷ xs) = (above_item k, item_above x) ∷ (below_item k, item_b
 
 -- the sides by their numbers: those of svertices without arcs, then both of each item, then the whole
 abbrev pub sides_of : Map → List LabelledSide
-sides_of M = svertex_sides 0 M.svertices ++ item_sides 0 (items M) ++ labelled whole M.ground
+sides_of M = svertex_sides 0 M.svertices ++ item_sides 0 (items M) ++ labelled whole M.face
 
 -- side s is this side, with this label
 abbrev pub IsSide : Map → ℕ → Side → Label → Type 0
