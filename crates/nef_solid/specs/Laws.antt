@@ -2,7 +2,7 @@
 use Rattle.std.specs.Prelude.{◌≡◌, ℕ, pos, ◌⊎◌, ◌↔◌}
 use Rattle.nef_exact.specs.Signs.{sign, Lies}
 use Rattle.nef_space.specs.Place.{Place, Form, form_at, normal_of, slope, SamePlace, InFrame, InClosedFrame, toward, IsBetween}
-use Rattle.nef_space.specs.Vectors.{Vector, IsDirection, IsZero, cross, dot, opposite, SameDirection, IsOpposite, plane_axis}
+use Rattle.nef_space.specs.Vectors.{Vector, IsDirection, IsNormal, IsZero, cross, dot, opposite, SameDirection, IsOpposite, plane_axis}
 use Rattle.nef_space.specs.Sets.{Set, Holds}
 use Rattle.nef_space.specs.declared.label.Label.{Label}
 use Rattle.nef_space.specs.Local.{HasLabel, Germ, Flat, FlatDim, IsVertex}
@@ -43,15 +43,15 @@ IsFlatIn s h y = FlatDim s y 2 × ((d : Vector) → Flat s y d ↔ (slope h d �
 
 -- a point with two flat directions has a corner; every direction of its plane leads to a first vertex or edge of the plane, and the item there, which lies in the plane, has the labels of the point
 abbrev pub FacetsComplete : Type 0
-FacetsComplete = (s : Set) (C : Complex) (h : Form) (y : Place) → Shows s C → IsDirection (normal_of h) → form_at h y ≡ pos 0 → IsFlatIn s h y → (k : Corner) × HasCorner C y k
+FacetsComplete = (s : Set) (C : Complex) (h : Form) (y : Place) → Shows s C → IsNormal (normal_of h) → form_at h y ≡ pos 0 → IsFlatIn s h y → (k : Corner) × HasCorner C y k
 
 abbrev pub FacetBehind : Type 0
-FacetBehind = (s : Set) (C : Complex) (h : Form) (y : Place) (d : Vector) → Shows s C → IsDirection (normal_of h) → form_at h y ≡ pos 0 → IsDirection d → slope h d ≡ pos 0 → IsFlatIn s h y
+FacetBehind = (s : Set) (C : Complex) (h : Form) (y : Place) (d : Vector) → Shows s C → IsNormal (normal_of h) → form_at h y ≡ pos 0 → IsDirection d → slope h d ≡ pos 0 → IsFlatIn s h y
     → (m : PlaneMeet) × IsFirstInPlane C h y d m × ((k : Corner) × IsCornerAt C h (opposite d) m k)
 
 -- and where a point of the plane, which is no vertex and on no edge, has such an item behind what it first meets, it lies in a facet of the plane
 abbrev pub FacetFromBehind : Type 0
-FacetFromBehind = (s : Set) (C : Complex) (h : Form) (y : Place) (d : Vector) (m : PlaneMeet) (k : Corner) → Shows s C → IsDirection (normal_of h) → form_at h y ≡ pos 0
+FacetFromBehind = (s : Set) (C : Complex) (h : Form) (y : Place) (d : Vector) (m : PlaneMeet) (k : Corner) → Shows s C → IsNormal (normal_of h) → form_at h y ≡ pos 0
     → (IsOnEdges C y → ⊥) → IsDirection d → slope h d ≡ pos 0 → IsFirstInPlane C h y d m → IsCornerAt C h (opposite d) m k
     → IsFlatIn s h y × ((v : Vertex) (x : Item) → IsCorner C k v x → HasLabel s y (item_mark x) × ((e : Vector) → Germ s y e (by_side (item_above x) (item_mark x) (item_below x) (sign (dot (item_normal x) e)))))
 
