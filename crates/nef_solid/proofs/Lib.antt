@@ -1,0 +1,4 @@
+pub mod Cones
+pub mod Ways
+pub mod Edges
+pub mod Joining

@@ -1,0 +1,9 @@
+//! The laws of complexes.
+
+ghost use Rattle.nef_solid.specs.Laws.{EdgePoints, EdgesComplete};
+
+/// The points of a set with one flat direction are those strictly between the ends of edges.
+pub fn edge_laws()
+    ensures points { EdgePoints }
+    ensures complete { EdgesComplete }
+{}
