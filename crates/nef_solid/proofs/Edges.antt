@@ -88,7 +88,7 @@ module _ (s : Set) (p : Place) where
   near-between y i = start-between (reach_all (carriers s) p) p y i
 
   module _ (d : Vector) (y : Place) (w : SameDirection (toward p y) d) where
-    way-near : SameDirection (toward p (near_point y)) d
+    pub way-near : SameDirection (toward p (near_point y)) d
     way-near = subst (λ (r : Vector). SameDirection r d) (sym (start-toward (reach_all (carriers s) p) p y)) w
 
     pub near-germs : (e : Vector) (l : Label) → Germ s (near_point y) e l ↔ NearGerm s p d e l
@@ -121,7 +121,7 @@ module _ (s : Set) (C : Complex) (S : Shows s C) where
     some : IsDirection u.way
     some = K.valid.shaped.svertex_ways k u b
 
-    near-one : (y : Place) → SameDirection (toward v.point y) u.way → FlatDim s (near_point s v.point y) 1
+    pub near-one : (y : Place) → SameDirection (toward v.point y) u.way → FlatDim s (near_point s v.point y) 1
     near-one y w = one-at v.map s v.point K u.way some (near_point s v.point y) (near-germs s v.point u.way y w) ((S.least i v a).no_plain k u b) ((S.least i v a).no_straight k u b) (near-flat s v.point u.way y w)
 
     -- up to the first vertex the cone is that near v

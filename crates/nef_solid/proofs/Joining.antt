@@ -10,14 +10,16 @@ use Rattle.nef_space.specs.Sets.{Set}
 use Rattle.nef_space.specs.Vectors.{Vector, dot, cross, opposite, IsZero, IsDirection, SameDirection, IsOpposite}
 use Rattle.nef_space.specs.declared.label.Label.{Label}
 use Rattle.nef_near.proofs.Decided.{label_of}
-use Rattle.nef_near.proofs.Alike.{FlatDim-one, flat-germ}
+use Rattle.nef_near.proofs.Alike.{FlatDim-one, FlatDim-by_germs, germs-by_cell, flat-germ}
 use Rattle.nef_near.proofs.Even.{span-1}
-use Rattle.nef_near.proofs.Between.{between-turned}
+use Rattle.nef_near.proofs.Between.{between-turned, ray-cell}
+use Rattle.nef_near.specs.Cells.{carriers}
+use Rattle.nef_forms.proofs.Near.{reach_all}
 use Rattle.nef_forms.proofs.Directions.{direction-left, direction-right, zero-decided, self-pos}
 use Rattle.nef_forms.proofs.Between.{between-same, toward-place, place-toward}
-use Rattle.nef_near.proofs.Rays.{same-place_sym}
-use Rattle.nef_near.proofs.Edges.{edge-around}
-use Rattle.nef_near.specs.Laws.{EdgeAround}
+use Rattle.nef_near.proofs.Rays.{same-place_sym, signs-same}
+use Rattle.nef_near.proofs.Edges.{start-close, flat_way-end, edge-around}
+use Rattle.nef_near.specs.Laws.{EdgeAround, WayEnd}
 use Rattle.nef_sphere.specs.Least.{by_side, NearPlain, NearStraight, Least, Cone}
 use Rattle.nef_sphere.specs.Maps.{At, Map, Svertex, MapLabel, way_of}
 use Rattle.nef_sphere.proofs.Compare.{SameDirection-turned, SameDirection-trans, way-self, Matched}
@@ -31,8 +33,8 @@ use Rattle.nef_solid.specs.Complexes.{Vertex, Edge, Complex, HasEnds, IsEdge}
 use Rattle.nef_solid.specs.Shows.{Shows}
 use Rattle.nef_solid.specs.Skeleton.{IsEdgePoint}
 use Rattle.nef_solid.proofs.Cones.{near-germ, sided-two}
-use Rattle.nef_solid.proofs.Ways.{between-way, between-rest, between-outer, between-start, between-ends, same-itself}
-use Rattle.nef_solid.proofs.Edges.{near_point, near-between, near-germs, near-flat, label-near, along-svertex}
+use Rattle.nef_solid.proofs.Ways.{between-way, between-rest, between-outer, between-start, between-ends, between-cases, same-itself, onward, onward-way}
+use Rattle.nef_solid.proofs.Edges.{near_point, near-between, near-germs, near-flat, way-near, near-one, label-near}
 
 -- ---- a direction of a map is a svertex where close to p one direction is flat
 module _ (s : Set) (p : Place) (M : Map) (K : Cone M s p) (L : Least M) (d : Vector) (y : Place) (w : SameDirection (toward p y) d) (one : FlatDim s (near_point s p y) 1) where
@@ -231,3 +233,50 @@ module _ (s : Set) (C : Complex) (S : Shows s C) where
           → (k : ℕ) × IsEdgePoint C k y
       point i j v w a b E h (inl c) = (E.edge.number, (E.edge.edge, v, w, E.edge.listed, record { low = subst (λ (k : ℕ). At C.vertices k v) (sym c.0) a; high = subst (λ (k : ℕ). At C.vertices k w) (sym c.2) b }, h))
       point i j v w a b E h (inr c) = (E.edge.number, (E.edge.edge, w, v, E.edge.listed, record { low = subst (λ (k : ℕ). At C.vertices k w) (sym c.0) b; high = subst (λ (k : ℕ). At C.vertices k v) (sym c.2) a }, between-turned v.point w.point y h))
+
+  -- ---- each svertex is an end of an edge
+  module _ (i k : ℕ) (v : Vertex) (u : Svertex) (a : At C.vertices i v) (b : At v.map.svertices k u) where
+    abbrev ahead_of : Place
+    ahead_of = onward v.point u.way
+
+    way_out : IsDirection u.way
+    way_out = (S.cones i v a).valid.shaped.svertex_ways k u b
+
+    ahead-way : SameDirection (toward v.point ahead_of) u.way
+    ahead-way = onward-way v.point u.way way_out
+
+    abbrev close : Place
+    close = near_point s v.point ahead_of
+
+    close-one : FlatDim s close 1
+    close-one = near-one s C S i k v u a b ahead_of ahead-way
+
+    -- the end of the flat way is a vertex
+    abbrev way_end : WayEnd s 1 close u.way
+    way_end = flat_way-end s 1 close u.way (omega arith) close-one way_out (near-flat s v.point u.way ahead_of ahead-way)
+
+    end-vertex : IsVertex s way_end.at_place
+    end-vertex = let l : way_end.drops.0 ≡ 0 = (let h = way_end.drops.1 in omega arith) in subst (FlatDim s way_end.at_place) l way_end.drops.2
+
+    -- the point close to v lies between v and that end
+    close-between : IsBetween v.point close way_end.at_place
+    close-between = SameDirection-trans (toward v.point close) u.way (toward close way_end.at_place) (way-near s v.point u.way ahead_of ahead-way) (SameDirection-turned (toward close way_end.at_place) u.way way_end.is_ahead)
+
+    all-one : (r : Place) → IsBetween v.point r way_end.at_place → FlatDim s r 1
+    all-one r h = by (between-cases v.point close way_end.at_place r close-between h)
+      where
+        by : IsBetween v.point r close ⊎ SamePlace r close ⊎ IsBetween close r way_end.at_place → FlatDim s r 1
+        by (inl c) = FlatDim-by_germs s s close r (germs-by_cell s close r (ray-cell (carriers s) v.point close r (start-close (reach_all (carriers s) v.point) v.point ahead_of) c)) 1 close-one
+        by (inr (inl e)) = FlatDim-by_germs s s close r (germs-by_cell s close r (signs-same (carriers s) close r (same-place_sym r close e))) 1 close-one
+        by (inr (inr c)) = way_end.even_before r c
+
+    pub svertex-edge : (n : ℕ) × (e : Edge) × At C.edges n e × (((e.low ≡ i) × (e.low_svertex ≡ k)) ⊎ ((e.high ≡ i) × (e.high_svertex ≡ k)))
+    svertex-edge =
+        let w = S.complete way_end.at_place end-vertex in
+        let x = way_end.at_place in
+        let t : IsBetween v.point close w.1.point = between-same v.point close x v.point close w.1.point (same-itself v.point) (same-itself close) (same-place_sym w.1.point x w.3) close-between in
+        let E = edge-between i w.0 v w.1 a w.2 (between-ends v.point close w.1.point t) (λ r h. all-one r (between-same v.point r w.1.point v.point r x (same-itself v.point) (same-itself r) w.3 h)) in
+        let way : SameDirection E.source_end.way u.way = SameDirection-trans E.source_end.way (toward v.point w.1.point) u.way E.ahead
+                (SameDirection-trans (toward v.point w.1.point) (toward v.point close) u.way (SameDirection-turned (toward v.point close) (toward v.point w.1.point) (between-way v.point close w.1.point t)) (way-near s v.point u.way ahead_of ahead-way)) in
+        let same : E.source ≡ k = (S.cones i v a).valid.shaped.svertices_apart E.source k E.source_end u E.leaves b way in
+        (E.edge.number, E.edge.edge, E.edge.listed, ⊎_elim (λ c. inl (c.0, c.1 ∙ same)) (λ c. inr (c.2, c.3 ∙ same)) E.edge.joins)

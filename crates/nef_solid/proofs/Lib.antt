@@ -2,3 +2,4 @@ pub mod Cones
 pub mod Ways
 pub mod Edges
 pub mod Joining
+pub mod Skeletons
