@@ -1,0 +1,6 @@
+pub mod Listing
+pub mod Lowest
+pub mod Signs
+pub mod Smooth
+pub mod SmoothDecided
+pub mod After

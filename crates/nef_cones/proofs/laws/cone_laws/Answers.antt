@@ -1,0 +1,6 @@
+-- The laws of maps of points, from the lemmas.
+use Rattle.nef_cones.proofs.Listing.{collect}
+use Rattle.nef_cones.proofs.Lowest.{lowest}
+use Rattle.nef_cones.proofs.SmoothDecided.{smooth-same}
+use Rattle.nef_cones.proofs.After.{after-one}
+use Rattle.nef_cones.proofs.laws.cone_laws.Goals as goal
