@@ -4,3 +4,5 @@ pub mod Signs
 pub mod Smooth
 pub mod SmoothDecided
 pub mod After
+pub mod Lone
+pub mod Ways

@@ -3,4 +3,6 @@ use Rattle.nef_cones.proofs.Listing.{collect}
 use Rattle.nef_cones.proofs.Lowest.{lowest}
 use Rattle.nef_cones.proofs.SmoothDecided.{smooth-same}
 use Rattle.nef_cones.proofs.After.{after-one}
+use Rattle.nef_cones.proofs.Lone.{lone-near}
+use Rattle.nef_cones.proofs.Ways.{ways}
 use Rattle.nef_cones.proofs.laws.cone_laws.Goals as goal
