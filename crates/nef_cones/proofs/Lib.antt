@@ -6,3 +6,5 @@ pub mod SmoothDecided
 pub mod After
 pub mod Lone
 pub mod Ways
+pub mod Rays
+pub mod Behind

@@ -1,6 +1,7 @@
 -- Lists of exactly the elements that are wanted, in order.
 use Rattle.std.proofs.Common.{◌≡◌, ℕ, zero, suc, ◌<◌, arith, refl, ap, sym, ◌∙◌, ◌⊎◌, inl, inr, ⊎_elim, List, [], ◌∷◌, subst}
 use Rattle.nef_exact.specs.Signs.{Lies}
+use Rattle.nef_exact.proofs.Lists.{each, lies-each}
 use Rattle.nef_sphere.specs.Maps.{At}
 use Rattle.nef_sphere.specs.Least.{InOrder}
 
@@ -14,6 +15,49 @@ pub at-lies : {A : Type 0} (xs : List A) (k : ℕ) (x : A) → At xs k x → Lie
 at-lies [] k x a = absurd a
 at-lies (y ∷ ys) zero x e = inl e
 at-lies (y ∷ ys) (suc k) x a = inr (at-lies ys k x a)
+
+pub at-or : {A : Type 0} (xs : List A) (k : ℕ) → ((x : A) × At xs k x) ⊎ ((x : A) → At xs k x → ⊥)
+at-or [] k = inr (λ x a. a)
+at-or (y ∷ ys) zero = inl (y, refl)
+at-or (y ∷ ys) (suc k) = at-or ys k
+
+pub none-empty : {A : Type 0} (xs : List A) → ((k : ℕ) (x : A) → At xs k x → ⊥) → xs ≡ []
+none-empty [] f = refl
+none-empty (y ∷ ys) f = absurd (f zero y refl)
+
+pub empty-none : {A : Type 0} (xs : List A) → xs ≡ [] → (k : ℕ) (x : A) → At xs k x → ⊥
+empty-none {A} xs e k x a = subst (λ (ys : List A). At ys k x) e a
+
+-- the numbers of the places of a list
+abbrev pub numbers : {A : Type 0} → List A → List ℕ
+numbers [] = []
+numbers (y ∷ ys) = zero ∷ each suc (numbers ys)
+
+pub at-number : {A : Type 0} (xs : List A) (k : ℕ) (x : A) → At xs k x → Lies (numbers xs) k
+at-number [] k x a = absurd a
+at-number (y ∷ ys) zero x e = inl refl
+at-number (y ∷ ys) (suc k) x a = inr (lies-each suc (numbers ys) k (at-number ys k x a))
+
+-- ---- one for each element, at the same place
+pub record Mapped {X A : Type 0} (xs : List X) (S : ℕ → X → A → Type 0) : Type 0 where
+  pub list : List A
+  pub sound : (k : ℕ) (a : A) → At list k a → (x : X) × At xs k x × S k x a
+  pub all : (k : ℕ) (x : X) → At xs k x → (a : A) × At list k a × S k x a
+
+pub map-list : {X A : Type 0} (xs : List X) (S : ℕ → X → A → Type 0) → ((k : ℕ) (x : X) → At xs k x → (a : A) × S k x a) → Mapped xs S
+map-list [] S f = record { list = []; sound = λ k a l. absurd l; all = λ k x l. absurd l }
+map-list {X} {A} (y ∷ ys) S f = by (f zero y refl) (map-list ys (λ k x a. S (suc k) x a) (λ k x l. f (suc k) x l))
+  where
+    by : ((a : A) × S zero y a) → Mapped ys (λ k x a. S (suc k) x a) → Mapped (y ∷ ys) S
+    by (b, s) r = record { list = b ∷ r.list; sound = sound; all = all }
+      where
+        sound : (k : ℕ) (a : A) → At (b ∷ r.list) k a → (x : X) × At (y ∷ ys) k x × S k x a
+        sound zero a e = (y, refl, subst (S zero y) e s)
+        sound (suc k) a l = r.sound k a l
+
+        all : (k : ℕ) (x : X) → At (y ∷ ys) k x → (a : A) × At (b ∷ r.list) k a × S k x a
+        all zero x e = (b, refl, subst (λ (z : X). S zero z b) e s)
+        all (suc k) x l = r.all k x l
 
 -- ---- what each element of a list gives, or doesn't
 pub record Collected {X A : Type 0} (xs : List X) (S : X → A → Type 0) (W : X → Type 0) : Type 0 where
