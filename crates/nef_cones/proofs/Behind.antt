@@ -89,9 +89,6 @@ module _ (gs : List Vector) (F : Vector → Label → Type 0) (L : Labelling gs 
               e : IsArc gs F L axial W c
               e = A.each i c ic
 
-              t : Vector
-              t = (A.each i c ic).target
-
               source-is : e.source ≡ s
               source-is = at-one W.list j e.source s (subst (λ (r : ℕ). At W.list r e.source) src e.has_source) g
 

@@ -8,3 +8,4 @@ pub mod Lone
 pub mod Ways
 pub mod Rays
 pub mod Behind
+pub mod Sloops

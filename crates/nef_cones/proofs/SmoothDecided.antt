@@ -63,14 +63,19 @@ module _ (gs : List Vector) (F : Vector → Label → Type 0) (L : Labelling gs 
     abbrev pub Straight : Vector → Type 0
     Straight n = StraightAt F n (beyond gs F L axial d n h) m (beyond gs F L axial d (away n) h) d
 
-    named : (n : Vector) (a c b : Label) → IsDirection n → StraightAt F n a c b d → Straight n
-    named n a c b hn p =
+    pub straight-named : (n : Vector) (a c b : Label) → IsDirection n → StraightAt F n a c b d → (a ≡ beyond gs F L axial d n h) × (c ≡ m) × (b ≡ beyond gs F L axial d (away n) h)
+    straight-named n a c b hn p =
         let q = self-pos n hn in
-        let w = away-dot n n in
-        let x = straight-above gs F L axial n a c b d n _ h p q (near-of gs F L axial d n h).1 in
-        let y = straight-below gs F L axial n a c b d (away n) _ h p (omega (arith, ints)) (near-of gs F L axial d (away n) h).1 in
-        let z = L.one d c m h p.at_d (L.exists d h).1 in
-        subst (λ r. StraightAt F n r m (beyond gs F L axial d (away n) h) d) x (subst (λ r. StraightAt F n a m r d) y (subst (λ r. StraightAt F n a r b d) z p))
+        let w = away-dot n n in (
+          straight-above gs F L axial n a c b d n _ h p q (near-of gs F L axial d n h).1,
+          L.one d c m h p.at_d (L.exists d h).1,
+          straight-below gs F L axial n a c b d (away n) _ h p (omega (arith, ints)) (near-of gs F L axial d (away n) h).1,
+        )
+
+    pub named : (n : Vector) (a c b : Label) → IsDirection n → StraightAt F n a c b d → Straight n
+    named n a c b hn p =
+        let e = straight-named n a c b hn p in
+        subst (λ r. StraightAt F n r m (beyond gs F L axial d (away n) h) d) e.0 (subst (λ r. StraightAt F n a m r d) e.2 (subst (λ r. StraightAt F n a r b d) e.1 p))
 
     flat-plain : (n : Vector) (a c b : Label) → a ≡ c → b ≡ c → StraightAt F n a c b d → PlainAt F d m
     flat-plain n a c b x y p =

@@ -7,4 +7,5 @@ use Rattle.nef_cones.proofs.Lone.{lone-near}
 use Rattle.nef_cones.proofs.Ways.{ways}
 use Rattle.nef_cones.proofs.Rays.{arcs}
 use Rattle.nef_cones.proofs.Behind.{lone-around}
+use Rattle.nef_cones.proofs.Sloops.{sloop}
 use Rattle.nef_cones.proofs.laws.cone_laws.Goals as goal
