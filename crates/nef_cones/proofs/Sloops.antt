@@ -1,5 +1,6 @@
 -- The sloop of a labelling: where a circle that is needed holds no svertex it is the only one.
 use Rattle.std.proofs.Common.{◌≡◌, ℕ, pos, refl, ap, sym, ◌∙◌, ◌⊎◌, inl, inr, ⊎_elim, List, subst, Option, Some, None}
+use Rattle.std.proofs.lemmas.Option.{none-some, same_Some}
 use Rattle.nef_exact.specs.Signs.{Lies}
 use Rattle.nef_space.specs.Vectors.{Vector, IsDirection, cross, dot, IsZero, SameDirection, IsNormal}
 use Rattle.nef_space.specs.declared.label.Label.{Label}
@@ -25,16 +26,6 @@ use Rattle.nef_cones.proofs.Listing.{lies-at}
 use Rattle.nef_cones.proofs.Smooth.{proper-form, proper-decided, label, beyond}
 use Rattle.nef_cones.proofs.SmoothDecided.{straight-decided, straight-named, named, smooth-decided}
 use Rattle.nef_cones.proofs.Ways.{Plane, plane-direction, Planes, planes, Ways}
-
-pub same-some : {A : Type 0} (x y : A) → ◌≡◌ {A = Option A} (Some x) (Some y) → x ≡ y
-same-some {A} x y e = ap (value x) e
-  where
-    value : A → Option A → A
-    value d None = d
-    value d (Some z) = z
-
-pub none-some : {A : Type 0} (x : A) → ◌≡◌ {A = Option A} None (Some x) → ⊥
-none-some x e = cc
 
 module _ (gs : List Vector) (F : Vector → Label → Type 0) (L : Labelling gs F) (axial : Axial gs) (W : Ways gs F L axial) where
   -- a circle without svertices that is needed at one of its directions
@@ -144,7 +135,7 @@ module _ (gs : List Vector) (F : Vector → Label → Type 0) (L : Labelling gs 
           let s : IsSloop l = record { normal = p.is_normal; primitive = p.primitive; clear = r.clear; point = r.point; direction = r.direction; labels = r.labels; proper = r.proper } in
           record {
             loop = Some l;
-            each = λ c e. subst IsSloop (same-some l c e) s;
+            each = λ c e. subst IsSloop (same_Some l c e) s;
             all = λ n h t. (l, refl, let q = round-plane ps n h t in SameDirection-trans n q.0.normal p.normal q.2 (round-one q.0.normal p.normal q.0.is_normal p.is_normal q.3 r));
           }
 
