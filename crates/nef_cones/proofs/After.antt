@@ -1,17 +1,16 @@
 -- Close after a direction on a circle the labels above, in and below the circle stay.
-use Rattle.std.proofs.Common.{◌≡◌, ℕ, ◌+◌, ◌≤◌, ℤ, pos, ◌-ℤ◌, ◌+ℤ◌, ◌*ℤ◌, ◌<ℤ◌, arith, refl, ap, sym, ◌∙◌, inl, inr, ⊎_elim, List, [], ◌∷◌, subst}
+use Rattle.std.proofs.Common.{◌≡◌, ℕ, ◌+◌, pos, ◌+ℤ◌, ◌*ℤ◌, ◌<ℤ◌, arith, ap, sym, ◌∙◌, List, [], ◌∷◌, subst}
 use Rattle.std.proofs.lemmas.Int.{ints}
 use Rattle.nef_exact.proofs.Ring.{ring, at, num, ◌⊕◌, ◌⊖◌, ◌⊗◌}
 use Rattle.nef_exact.proofs.Combination.{follows, given, none}
-use Rattle.nef_exact.proofs.Order.{Sign, sign, sign-plus, sign-minus, mul_pos}
+use Rattle.nef_exact.proofs.Order.{sign, sign-plus, sign-minus, mul_pos}
 use Rattle.nef_exact.specs.Signs.{Lies}
-use Rattle.nef_space.specs.Vectors.{Vector, IsDirection, cross, dot, IsZero, SameDirection, blend}
+use Rattle.nef_space.specs.Vectors.{Vector, IsDirection, cross, dot, SameDirection}
 use Rattle.nef_space.specs.declared.label.Label.{Label}
 use Rattle.nef_near.proofs.Supports.{square-cross}
-use Rattle.nef_forms.proofs.Directions.{dot-comm, self-pos}
-use Rattle.nef_sphere.specs.Forms.{SameSigns}
+use Rattle.nef_forms.proofs.Directions.{self-pos}
 use Rattle.nef_sphere.specs.Least.{by_side}
-use Rattle.nef_sphere.specs.Labelling.{Labelling, Near, StraightAt}
+use Rattle.nef_sphere.specs.Labelling.{Labelling, Near}
 use Rattle.nef_sphere.specs.Builds.{StraightAfter, Proper}
 use Rattle.nef_sphere.proofs.Vectors.{dot-comb, nought-if}
 use Rattle.nef_sphere.proofs.Generic.{amount, far-same}

@@ -1,18 +1,17 @@
 -- The map of a labelling, put together from its svertices, arcs and sloop.
-use Rattle.std.proofs.Common.{◌≡◌, ℕ, ◌<◌, pos, refl, ap, sym, ◌∙◌, ◌⊎◌, inl, inr, ⊎_elim, List, [], ◌∷◌, ◌++◌, subst, Option, Some, None}
+use Rattle.std.proofs.Common.{◌≡◌, ℕ, pos, refl, sym, ◌∙◌, ◌⊎◌, inl, inr, ⊎_elim, List, [], ◌++◌, subst, Option, Some, None}
 use Rattle.std.proofs.lemmas.Option.{none-some, same_Some}
 use Rattle.nef_exact.proofs.Lists.{lies-left, lies-right}
 use Rattle.nef_space.specs.Vectors.{Vector, IsDirection, cross, dot, SameDirection, IsNormal}
 use Rattle.nef_space.specs.declared.label.Label.{Label}
 use Rattle.nef_near.proofs.Decided.{Decided}
 use Rattle.nef_cyclic.specs.Arcs.{IsStrictlyOn}
-use Rattle.nef_sphere.specs.Vectors.{IsPrimitive, VectorBelow}
+use Rattle.nef_sphere.specs.Vectors.{IsPrimitive}
 use Rattle.nef_sphere.specs.Maps.{At, Svertex, Arc, Loop, Map, Item, arc_item, loop_item, items, item_normal, way_of, OnItem, ArcBetween, HasArc}
 use Rattle.nef_sphere.specs.Forms.{axes}
 use Rattle.nef_sphere.specs.Least.{Ordered}
-use Rattle.nef_sphere.specs.Labelling.{Labelling, Near, StraightAt, IsSmooth}
-use Rattle.nef_sphere.specs.Builds.{StraightAfter, Proper, IsBuilt, Kept}
-use Rattle.nef_sphere.proofs.Lists.{at-one}
+use Rattle.nef_sphere.specs.Labelling.{Labelling, Near}
+use Rattle.nef_sphere.specs.Builds.{StraightAfter, IsBuilt, Kept}
 use Rattle.nef_sphere.proofs.Shot.{way-at, arc-at}
 use Rattle.nef_sphere.proofs.Compare.{SameDirection-turned}
 use Rattle.nef_sphere.proofs.Equal.{lowest-same}

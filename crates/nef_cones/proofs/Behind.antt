@@ -1,10 +1,9 @@
 -- A circle that is needed close before a svertex has an arc to it; so a svertex without arcs has one label all around it.
-use Rattle.std.proofs.Common.{◌≡◌, ℕ, ◌+◌, ◌≤◌, ℤ, pos, negsuc, ◌-ℤ◌, ◌+ℤ◌, ◌*ℤ◌, ◌<ℤ◌, arith, refl, ap, sym, ◌∙◌, ◌⊎◌, inl, inr, ⊎_elim, List, [], ◌∷◌, subst}
+use Rattle.std.proofs.Common.{◌≡◌, ℕ, ◌+◌, ℤ, pos, negsuc, ◌+ℤ◌, ◌*ℤ◌, arith, sym, ◌⊎◌, inl, inr, ⊎_elim, List, [], ◌∷◌, subst}
 use Rattle.std.proofs.lemmas.Int.{ints}
 use Rattle.nef_exact.proofs.Ring.{ring, at, num, ◌⊕◌, ◌⊗◌}
 use Rattle.nef_space.specs.Vectors.{Vector, IsDirection, cross, dot, SameDirection, IsNormal}
 use Rattle.nef_space.specs.declared.label.Label.{Label}
-use Rattle.nef_near.proofs.Decided.{Decided}
 use Rattle.nef_near.proofs.Flats.{vector-same}
 use Rattle.nef_cyclic.specs.Arcs.{IsStrictlyOn}
 use Rattle.nef_sphere.specs.Maps.{At, Arc}
@@ -26,7 +25,7 @@ use Rattle.nef_cones.proofs.Smooth.{even-or}
 use Rattle.nef_cones.proofs.SmoothDecided.{smooth-decided}
 use Rattle.nef_cones.proofs.Lone.{lone-near}
 use Rattle.nef_cones.proofs.Ways.{Ways, ways-one}
-use Rattle.nef_cones.proofs.Rays.{IsArc, Needed, Arcs}
+use Rattle.nef_cones.proofs.Rays.{IsArc, Arcs}
 
 -- an arc of the list begins or ends at svertex k
 abbrev pub Arrives : List Arc → ℕ → Type 0

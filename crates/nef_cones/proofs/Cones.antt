@@ -13,7 +13,7 @@ use Rattle.nef_sphere.specs.Least.{Least, Ordered, Cone}
 use Rattle.nef_sphere.specs.Labelling.{ByOp}
 use Rattle.nef_sphere.proofs.Labellings.{normals_of, germ-labelling, op-labelling}
 use Rattle.nef_sphere.proofs.BuiltLeast.{op-build, set-build}
-use Rattle.nef_cones.proofs.Assembled.{BuiltMap, labelling-map}
+use Rattle.nef_cones.proofs.Assembled.{labelling-map}
 
 pub point-map : (s : Set) (p : Place) → (M : Map) × Cone M s p × Least M × Ordered M
 point-map s p = by (label_of s p)

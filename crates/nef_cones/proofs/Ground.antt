@@ -1,13 +1,12 @@
 -- Where there is no svertex and no sloop, all directions have one label.
-use Rattle.std.proofs.Common.{◌≡◌, ℕ, pos, ◌<ℤ◌, arith, refl, ap, sym, ◌∙◌, ◌⊎◌, inl, inr, ⊎_elim, List, [], ◌∷◌, subst, Option, Some, None}
+use Rattle.std.proofs.Common.{◌≡◌, arith, refl, sym, ◌∙◌, inl, inr, ⊎_elim, List, [], ◌∷◌, subst, Option, Some, None}
 use Rattle.std.proofs.lemmas.Int.{ints}
 use Rattle.std.proofs.lemmas.Option.{none-some, same_Some}
-use Rattle.nef_space.specs.Vectors.{Vector, IsDirection, cross, dot, IsOpposite, IsNormal, blend}
+use Rattle.nef_space.specs.Vectors.{Vector, IsDirection, IsOpposite, IsNormal, blend}
 use Rattle.nef_space.specs.declared.label.Label.{Label}
 use Rattle.nef_near.proofs.Decided.{Decided, decided-both}
 use Rattle.nef_forms.proofs.Directions.{dot-comm}
 use Rattle.nef_cyclic.specs.Arcs.{IsOnCircle}
-use Rattle.nef_sphere.specs.Maps.{Loop}
 use Rattle.nef_sphere.specs.Forms.{axis_x}
 use Rattle.nef_sphere.specs.Labelling.{Labelling, Near, Plain, StraightAt, IsSmooth, plain, straight}
 use Rattle.nef_sphere.specs.Builds.{Proper}
@@ -16,7 +15,7 @@ use Rattle.nef_sphere.proofs.Parallel.{circle-point}
 use Rattle.nef_sphere.proofs.KindFlats.{in-span}
 use Rattle.nef_sphere.proofs.Walk.{carried, cross-direction_left}
 use Rattle.nef_sphere.proofs.Kind.{away}
-use Rattle.nef_sphere.proofs.Flips.{away-direction, flipped, Axial}
+use Rattle.nef_sphere.proofs.Flips.{flipped, Axial}
 use Rattle.nef_sphere.proofs.Builder.{normal-or}
 use Rattle.nef_cones.proofs.Listing.{empty-none}
 use Rattle.nef_cones.proofs.Smooth.{even-side, even-or}

@@ -1,5 +1,5 @@
 -- Lists of exactly the elements that are wanted, in order.
-use Rattle.std.proofs.Common.{◌≡◌, ℕ, zero, suc, ◌<◌, arith, refl, ap, sym, ◌∙◌, ◌⊎◌, inl, inr, ⊎_elim, List, [], ◌∷◌, subst}
+use Rattle.std.proofs.Common.{◌≡◌, ℕ, zero, suc, arith, refl, sym, ◌⊎◌, inl, inr, ⊎_elim, List, [], ◌∷◌, subst}
 use Rattle.nef_exact.specs.Signs.{Lies}
 use Rattle.nef_exact.proofs.Lists.{each, lies-each}
 use Rattle.nef_sphere.specs.Maps.{At}

@@ -1,17 +1,16 @@
 -- Where no circle through a direction is needed close to it, there is one label all around it.
-use Rattle.std.proofs.Common.{◌≡◌, ℕ, ◌+◌, ◌<◌, ◌≤◌, ℤ, pos, negsuc, ◌-ℤ◌, ◌+ℤ◌, ◌*ℤ◌, ◌<ℤ◌, arith, refl, ap, sym, ◌∙◌, inl, inr, ⊎_elim, List, [], ◌∷◌, subst}
+use Rattle.std.proofs.Common.{◌≡◌, ℕ, ◌+◌, ◌<◌, pos, ◌*ℤ◌, arith, ap, sym, ◌∙◌, ⊎_elim, List, [], ◌∷◌, subst}
 use Rattle.std.proofs.lemmas.Int.{ints}
 use Rattle.nef_exact.proofs.Ring.{ring, at, num, ◌⊕◌, ◌⊖◌, ◌⊗◌}
 use Rattle.nef_exact.proofs.Combination.{follows, given, none}
-use Rattle.nef_exact.proofs.Order.{Sign, sign, sign-scaled}
+use Rattle.nef_exact.proofs.Order.{sign, sign-scaled}
 use Rattle.nef_exact.specs.Signs.{Lies}
-use Rattle.nef_space.specs.Vectors.{Vector, IsDirection, cross, triple, dot, IsZero, IsOpposite, blend}
+use Rattle.nef_space.specs.Vectors.{Vector, IsDirection, cross, triple, dot, IsZero, blend}
 use Rattle.nef_space.specs.declared.label.Label.{Label}
 use Rattle.nef_near.proofs.FlatDecided.{triple-dot}
 use Rattle.nef_near.proofs.Supports.{square-cross}
 use Rattle.nef_forms.proofs.Far.{nought-or}
 use Rattle.nef_forms.proofs.Directions.{self-pos, zero-dot, dot-zero}
-use Rattle.nef_sphere.specs.Least.{by_side}
 use Rattle.nef_sphere.specs.Labelling.{Labelling, Near, Plain}
 use Rattle.nef_sphere.specs.Builds.{StraightAfter}
 use Rattle.nef_sphere.proofs.Vectors.{nought-if}
@@ -67,22 +66,24 @@ module _ (gs : List Vector) (F : Vector → Label → Type 0) (L : Labelling gs 
     plain-near : Plain G y
     plain-near m f e out = by after
       where
-        by : After gs F L axial (cross d y) d → Near G y e m
+        by : After gs F L axial n d → Near G y e m
         by r =
-            let ev = even (cross d y) r.above r.mark r.below off level r.labels in
-            let i = r.labels.0 + amount gs (cross (cross d y) d) in
-            let z = past_source (cross d y) d i in
-            let hz = far-direction gs F L axial d (cross (cross d y) d) i (omega arith) hd in
+            let ev = even n r.above r.mark r.below off level r.labels in
+            let i = r.labels.0 + amount gs (cross n d) in
+            let z = past_source n d i in
+            let hz = far-direction gs F L axial d (cross n d) i (omega arith) hd in
             let p = r.labels.1 i (omega arith) in
-            let sz = λ (g : Vector) (l : Lies gs g). far-leading gs d (cross (cross d y) d) i (omega arith) g l ∙ leading-same (dot g d) (sign (dot g (cross (cross d y) d))) (sign (dot g y)) (λ w. across g w) in
+            let sz = λ (g : Vector) (l : Lies gs g). far-leading gs d (cross n d) i (omega arith) g l ∙ leading-same (dot g d) (sign (dot g (cross n d))) (sign (dot g y)) (λ w. across g w) in
             let mm = near-one gs F L axial d y r.mark m hd (near-at gs F L axial d y z r.mark hd hz sz p.at_d) f in
             let k = amount gs e in
             let u = blend k z 1 e in
             let hu = far-direction gs F L axial z e k (omega arith) hz in
             let su = λ (g : Vector) (l : Lies gs g). far-leading gs z e k (omega arith) g l in
-            let at_u = subst (F u) (even-side r.above r.mark r.below (sign (dot (cross d y) e)) ev.0 ev.1 ∙ mm) (near-back gs F L axial z e u _ hz hu su (p.near e)) in
-            (k, λ j l. near-at gs F L axial d (blend j y 1 e) u m hd hu
-                (λ g q. su g q ∙ ap (λ s. leading s (sign (dot g e))) (sz g q) ∙ leading-joined (sign (dot g d)) (sign (dot g y)) (sign (dot g e)) ∙ ap (leading (sign (dot g d))) (sym (far-leading gs y e j l g q))) at_u)
+            let at_u = subst (F u) (even-side r.above r.mark r.below (sign (dot n e)) ev.0 ev.1 ∙ mm) (near-back gs F L axial z e u _ hz hu su (p.near e)) in (
+              k,
+              λ j l. near-at gs F L axial d (blend j y 1 e) u m hd hu
+                  (λ g q. su g q ∙ ap (λ s. leading s (sign (dot g e))) (sz g q) ∙ leading-joined (sign (dot g d)) (sign (dot g y)) (sign (dot g e)) ∙ ap (leading (sign (dot g d))) (sym (far-leading gs y e j l g q))) at_u,
+            )
 
   -- from e to u, which don't lie in one plane with d
   step : (e u : Vector) → IsDirection (cross d e) → IsDirection (cross d u) → (triple d e u ≡ pos 0 → ⊥) → (m : Label) → G e m → G u m

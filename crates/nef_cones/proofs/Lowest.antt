@@ -1,10 +1,10 @@
 -- Every direction is a multiple of one in lowest terms; the order of vectors.
-use Rattle.std.proofs.Common.{◌≡◌, ℕ, zero, suc, ◌+◌, ◌≤◌, ℤ, pos, negsuc, ◌+ℤ◌, ◌-ℤ◌, ◌*ℤ◌, ◌≤ℤ◌, ◌<ℤ◌, nat_abs, arith, refl, ap, sym, ◌∙◌, ◌⊎◌, inl, inr, ⊎_elim, [], ◌∷◌, subst}
+use Rattle.std.proofs.Common.{◌≡◌, ℕ, zero, suc, ℤ, pos, negsuc, ◌+ℤ◌, ◌-ℤ◌, ◌*ℤ◌, ◌≤ℤ◌, ◌<ℤ◌, nat_abs, arith, ap, sym, ◌∙◌, ◌⊎◌, inl, inr, [], ◌∷◌, subst}
 use Rattle.std.proofs.lemmas.Int.{ints, by_lt_z}
 use Rattle.nef_exact.proofs.Ring.{ring, at, num, ◌⊕◌, ◌⊖◌, ◌⊗◌}
 use Rattle.nef_exact.proofs.Combination.{follows, given, none}
-use Rattle.nef_exact.proofs.Order.{by_order, cancel_eq, cancel_lt, mul_pos}
-use Rattle.nef_space.specs.Vectors.{Vector, IsDirection, cross, dot, vector, IsZero, SameDirection, IsNormal}
+use Rattle.nef_exact.proofs.Order.{by_order, cancel_eq, cancel_lt}
+use Rattle.nef_space.specs.Vectors.{Vector, IsDirection, cross, dot, vector, IsZero, SameDirection}
 use Rattle.nef_near.proofs.Flats.{vector-same}
 use Rattle.nef_forms.proofs.Directions.{self-pos}
 use Rattle.nef_sphere.specs.Vectors.{IsPrimitive, VectorBelow}

@@ -1,9 +1,8 @@
 -- The arcs of a labelling: one from each svertex along each circle that is needed close after it, to the first svertex; in order.
-use Rattle.std.proofs.Common.{◌≡◌, ℕ, ◌<◌, pos, arith, refl, ap, sym, ◌∙◌, ◌⊎◌, inl, inr, ⊎_elim, List, [], ◌∷◌, subst}
+use Rattle.std.proofs.Common.{◌≡◌, ℕ, pos, arith, refl, sym, ◌∙◌, ◌⊎◌, inl, inr, ⊎_elim, List, subst}
 use Rattle.std.proofs.lemmas.Bool.{cases_lt}
 use Rattle.nef_exact.proofs.Lists.{pairs, lies-pairs}
-use Rattle.nef_exact.specs.Signs.{Lies}
-use Rattle.nef_space.specs.Vectors.{Vector, IsDirection, dot, SameDirection, IsNormal}
+use Rattle.nef_space.specs.Vectors.{Vector, dot, SameDirection, IsNormal}
 use Rattle.nef_space.specs.declared.label.Label.{Label}
 use Rattle.nef_near.proofs.Decided.{Decided}
 use Rattle.nef_forms.proofs.Far.{nought-or}
@@ -130,7 +129,6 @@ module _ (gs : List Vector) (F : Vector → Label → Type 0) (L : Labelling gs 
   needed-decided : (p : Plane) (k : ℕ) → Decided (Needed p.normal k)
   needed-decided p k = by (at-or W.list k)
     where
-
       on : (w : Vector) → At W.list k w → (q : dot p.normal w ≡ pos 0) → After gs F L axial p.normal w → Decided (Needed p.normal k)
       on w h q r = ⊎_elim
           (λ x. inl (record { way = w; listed = h; level = q; above = r.above; mark = r.mark; below = r.below; labels = r.labels; proper = x }))

@@ -1,5 +1,5 @@
 -- The sloop of a labelling: where a circle that is needed holds no svertex it is the only one.
-use Rattle.std.proofs.Common.{◌≡◌, ℕ, pos, refl, ap, sym, ◌∙◌, ◌⊎◌, inl, inr, ⊎_elim, List, subst, Option, Some, None}
+use Rattle.std.proofs.Common.{◌≡◌, ℕ, pos, refl, sym, ◌∙◌, ◌⊎◌, inl, inr, ⊎_elim, List, subst, Option, Some, None}
 use Rattle.std.proofs.lemmas.Option.{none-some, same_Some}
 use Rattle.nef_exact.specs.Signs.{Lies}
 use Rattle.nef_space.specs.Vectors.{Vector, IsDirection, cross, dot, IsZero, SameDirection, IsNormal}

@@ -1,33 +1,28 @@
 -- A direction is plain or straight about it, or not: it is decided, and a plane that is needed there is that of a form.
-use Rattle.std.proofs.Common.{◌≡◌, ℕ, ◌+◌, ◌≤◌, ◌⊎◌, ℤ, pos, negsuc, ◌-ℤ◌, ◌+ℤ◌, ◌*ℤ◌, ◌<ℤ◌, arith, refl, ap, sym, ◌∙◌, inl, inr, ⊎_elim, List, [], ◌∷◌, subst}
+use Rattle.std.proofs.Common.{◌≡◌, ℕ, ◌≤◌, ◌⊎◌, pos, negsuc, ◌+ℤ◌, ◌*ℤ◌, arith, refl, ap, sym, ◌∙◌, inl, inr, ⊎_elim, List, [], ◌∷◌, subst}
 use Rattle.std.proofs.lemmas.Int.{ints}
 use Rattle.nef_exact.proofs.Ring.{ring, at, num, ◌⊕◌, ◌⊖◌, ◌⊗◌}
 use Rattle.nef_exact.proofs.Combination.{follows, given, none}
 use Rattle.nef_exact.proofs.Order.{Sign, minus, nought, plus, sign, sign-plus, sign-minus, by_order}
 use Rattle.nef_exact.specs.Signs.{Lies}
-use Rattle.nef_space.specs.Vectors.{Vector, IsDirection, cross, dot, IsZero, SameDirection, blend}
+use Rattle.nef_space.specs.Vectors.{Vector, IsDirection, cross, dot, IsZero, blend}
 use Rattle.nef_space.specs.declared.label.Label.{Label}
-use Rattle.nef_near.proofs.Decided.{Decided, every, decided-both}
-use Rattle.nef_near.proofs.FlatDecided.{cross-turned}
-use Rattle.nef_near.proofs.Meets.{cross-none}
+use Rattle.nef_near.proofs.Decided.{Decided, decided-both}
 use Rattle.nef_near.proofs.Supports.{square-cross}
 use Rattle.nef_forms.proofs.Far.{nought-or}
-use Rattle.nef_forms.proofs.Directions.{dot-comm, self-pos, zero-dot, zero-decided}
-use Rattle.nef_forms.proofs.Representatives.{representative_directions, representative}
+use Rattle.nef_forms.proofs.Directions.{self-pos, zero-dot, zero-decided}
 use Rattle.nef_sphere.specs.Maps.{At}
 use Rattle.nef_sphere.specs.Least.{by_side}
-use Rattle.nef_sphere.specs.Labelling.{Labelling, Near, PlainAt, StraightAt, IsSmooth, plain, straight}
+use Rattle.nef_sphere.specs.Labelling.{Labelling, Near, StraightAt, IsSmooth, plain, straight}
 use Rattle.nef_sphere.specs.Builds.{Proper}
 use Rattle.nef_sphere.proofs.Vectors.{dot-comb, nought-if}
 use Rattle.nef_sphere.proofs.Generic.{amount}
 use Rattle.nef_sphere.proofs.Lists.{Found, search_list}
 use Rattle.nef_sphere.proofs.Places.{direction-decided}
-use Rattle.nef_sphere.proofs.Labels.{way-signs, way-direction}
-use Rattle.nef_sphere.proofs.Around.{Beside, same_way, other_way, beside}
 use Rattle.nef_sphere.proofs.Kind.{away, away-dot}
-use Rattle.nef_sphere.proofs.Flips.{label-eq, dot-away, away-direction, flipped, Axial}
+use Rattle.nef_sphere.proofs.Flips.{label-eq, Axial}
 use Rattle.nef_cones.proofs.Listing.{lies-at, at-lies}
-use Rattle.nef_cones.proofs.Signs.{leading, leading-self, leading-same, leading-off, leading-level, far-leading, parallel-signs, near-of, near-at, near-by_signs, near-one, far-direction, straight-carried, straight-above, straight-below}
+use Rattle.nef_cones.proofs.Signs.{leading, leading-self, leading-same, leading-off, far-leading, parallel-signs, near-of, near-at, near-by_signs, straight-above, straight-below}
 
 -- where two planes meet in a line and a form is nought both there and across, it is a multiple of the first plane's
 pub parallel-by : (n d g : Vector) → IsDirection d → dot n d ≡ pos 0 → dot g d ≡ pos 0 → dot g (cross n d) ≡ pos 0 → IsZero (cross n g)

@@ -1,17 +1,16 @@
 -- The svertices of a labelling: in order, the directions in lowest terms that are neither plain nor straight; and the planes of the forms.
-use Rattle.std.proofs.Common.{◌≡◌, ℕ, ◌<◌, ℤ, pos, negsuc, ◌-ℤ◌, ◌+ℤ◌, ◌*ℤ◌, ◌<ℤ◌, neg_ℤ, arith, refl, ap, sym, ◌∙◌, ◌⊎◌, inl, inr, ⊎_elim, List, [], ◌∷◌, subst}
+use Rattle.std.proofs.Common.{◌≡◌, ℕ, ℤ, pos, negsuc, ◌-ℤ◌, ◌*ℤ◌, neg_ℤ, arith, refl, ◌⊎◌, inl, inr, ⊎_elim, List, [], ◌∷◌, subst}
 use Rattle.std.proofs.lemmas.Int.{ints}
 use Rattle.std.proofs.lemmas.Bool.{cases_lt}
 use Rattle.nef_exact.proofs.Ring.{ring, at, num, ◌⊕◌, ◌⊖◌, ◌⊗◌, neg}
 use Rattle.nef_exact.proofs.Combination.{follows, given, none}
 use Rattle.nef_exact.proofs.Lists.{pairs, lies-pairs}
 use Rattle.nef_exact.specs.Signs.{Lies}
-use Rattle.nef_space.specs.Vectors.{Vector, IsDirection, cross, dot, IsZero, SameDirection, IsOpposite, IsNormal, opposite}
+use Rattle.nef_space.specs.Vectors.{Vector, IsDirection, cross, dot, IsZero, SameDirection, IsNormal, opposite}
 use Rattle.nef_space.specs.declared.label.Label.{Label}
 use Rattle.nef_near.proofs.Decided.{Decided, decided-both}
 use Rattle.nef_near.proofs.Flats.{vector-same}
 use Rattle.nef_forms.proofs.Far.{nought-or}
-use Rattle.nef_forms.proofs.Directions.{self-pos}
 use Rattle.nef_sphere.specs.Vectors.{IsPrimitive, VectorBelow}
 use Rattle.nef_sphere.specs.Maps.{At}
 use Rattle.nef_sphere.specs.Least.{InOrder}
@@ -30,7 +29,7 @@ use Rattle.nef_sphere.proofs.Builder.{normal-or}
 use Rattle.nef_cyclic.proofs.Directions.{two_meets}
 use Rattle.nef_cones.proofs.Listing.{lies-at, at-lies, Collected, collect, Sorted, sort, chain-order}
 use Rattle.nef_cones.proofs.Lowest.{Lowest, lowest, below-trans, below-either, below-itself}
-use Rattle.nef_cones.proofs.Smooth.{FormOf, smooth-off, away-cross}
+use Rattle.nef_cones.proofs.Smooth.{FormOf, smooth-off}
 use Rattle.nef_cones.proofs.SmoothDecided.{smooth-decided, smooth-same}
 
 -- no direction of an ordered list stands twice
@@ -62,14 +61,17 @@ plane-of g h = by (lowest g h)
     by : Lowest g → (p : Plane) × IsZero (cross g p.normal)
     by l = ⊎_elim
         (λ n. (record { normal = l.direction; is_normal = n; primitive = l.primitive }, l.same.parallel))
-        (λ n. (record {
-          normal = away l.direction;
-          is_normal = n;
-          primitive = record {
-            by = away l.primitive.by;
-            one = let a = dot-away l.primitive.by (away l.direction) in let b = away-dot l.primitive.by l.direction in let c = l.primitive.one in omega (arith, ints);
-          };
-        }, turned l.direction l.same.parallel))
+        (λ n. (
+          record {
+            normal = away l.direction;
+            is_normal = n;
+            primitive = record {
+              by = away l.primitive.by;
+              one = let a = dot-away l.primitive.by (away l.direction) in let b = away-dot l.primitive.by l.direction in let c = l.primitive.one in omega (arith, ints);
+            };
+          },
+          turned l.direction l.same.parallel,
+        ))
         (normal-or l.direction (way-direction g l.direction l.same))
       where
         turned : (u : Vector) → IsZero (cross g u) → IsZero (cross g (away u))
