@@ -292,5 +292,5 @@ module _ (gs : List Vector) (F : Vector → Label → Type 0) (L : Labelling gs 
     beside = λ k x d e a o f. let r = everywhere k x a d o in r.near e;
     lone = λ k v m e a q f. B.around_near k v m e a q f;
     free = free-plain;
-    ground = B.ground_label;
+    face = B.ground_label;
   }
