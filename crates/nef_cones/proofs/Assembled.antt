@@ -26,7 +26,7 @@ use Rattle.nef_cones.proofs.Ways.{Ways, ways, ways-one}
 use Rattle.nef_cones.proofs.Rays.{IsArc, Arcs, arcs, arc-one}
 use Rattle.nef_cones.proofs.Behind.{Arrives, lone-around}
 use Rattle.nef_cones.proofs.Sloops.{IsSloop, Sloop, sloop}
-use Rattle.nef_cones.proofs.Ground.{Ground, ground}
+use Rattle.nef_cones.proofs.Face.{Face, face}
 
 -- a map that is built of the labelling, in order and with the mark
 pub record BuiltMap (F : Vector → Label → Type 0) (mark : Label) : Type 0 where
@@ -36,7 +36,7 @@ pub record BuiltMap (F : Vector → Label → Type 0) (mark : Label) : Type 0 wh
   pub ordered : Ordered map
   pub marked : map.mark ≡ mark
 
-module _ (gs : List Vector) (F : Vector → Label → Type 0) (L : Labelling gs F) (axial : Axial gs) (W : Ways gs F L axial) (A : Arcs gs F L axial W) (S : Sloop gs F L axial W) (G : Ground gs F L axial W S) (mark : Label) where
+module _ (gs : List Vector) (F : Vector → Label → Type 0) (L : Labelling gs F) (axial : Axial gs) (W : Ways gs F L axial) (A : Arcs gs F L axial W) (S : Sloop gs F L axial W) (K : Face gs F L axial W S) (mark : Label) where
   -- ---- svertices
   -- the label round a svertex without arcs
   record Lone (k : ℕ) (w : Vector) (o : Option Label) : Type 0 where
@@ -52,7 +52,7 @@ module _ (gs : List Vector) (F : Vector → Label → Type 0) (L : Labelling gs 
 
   -- the arcs alone
   abbrev bare : Map
-  bare = record { mark = mark; svertices = []; arcs = A.list; loop = None; ground = None }
+  bare = record { mark = mark; svertices = []; arcs = A.list; loop = None; face = None }
 
   shown : (k : ℕ) (w : Vector) → At W.list k w → (v : Svertex) × Shown k w v
   shown k w h = by (HasArc-decided bare k) (L.exists w hw) (beside-d w hw)
@@ -76,7 +76,7 @@ module _ (gs : List Vector) (F : Vector → Label → Type 0) (L : Labelling gs 
   svertices = map-list W.list Shown shown
 
   abbrev M : Map
-  M = record { mark = mark; svertices = svertices.list; arcs = A.list; loop = S.loop; ground = G.label }
+  M = record { mark = mark; svertices = svertices.list; arcs = A.list; loop = S.loop; face = K.label }
 
   shows : (k : ℕ) (v : Svertex) → At svertices.list k v → Shown k v.way v
   shows k v a = let r = svertices.sound k v a in subst (λ (w : Vector). Shown k w v) (sym r.2.way) r.2
@@ -168,9 +168,9 @@ module _ (gs : List Vector) (F : Vector → Label → Type 0) (L : Labelling gs 
     around_lone = around-lone;
     around_not = around-not;
     around_near = around-near;
-    ground_alone = λ e o. G.alone (none-empty W.list (λ k w h. let r = at-way k w h in empty-none svertices.list e k r.0 r.1)) o;
-    ground_not = λ m q. let r = G.only m q in (none-empty svertices.list (λ k v a. empty-none W.list r.0 k v.way (listed k v a)), r.1);
-    ground_label = λ m d q h. G.everywhere m d q h;
+    ground_alone = λ e o. K.alone (none-empty W.list (λ k w h. let r = at-way k w h in empty-none svertices.list e k r.0 r.1)) o;
+    ground_not = λ m q. let r = K.only m q in (none-empty svertices.list (λ k v a. empty-none W.list r.0 k v.way (listed k v a)), r.1);
+    ground_label = λ m d q h. K.everywhere m d q h;
   }
     where
       same-normals : (i k : ℕ) (a b : Arc) → At A.list i a → At A.list k b → SameDirection a.normal b.normal → a.normal ≡ b.normal
@@ -199,4 +199,4 @@ labelling-map gs F L mark =
     let W = ways hs F K axial in
     let A = arcs hs F K axial W in
     let S = sloop hs F K axial W in
-    assembled hs F K axial W A S (ground hs F K axial W S) mark
+    assembled hs F K axial W A S (face hs F K axial W S) mark

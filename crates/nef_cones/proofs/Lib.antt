@@ -9,6 +9,6 @@ pub mod Ways
 pub mod Rays
 pub mod Behind
 pub mod Sloops
-pub mod Ground
+pub mod Face
 pub mod Assembled
 pub mod Cones

@@ -61,7 +61,7 @@ module _ (gs : List Vector) (F : Vector → Label → Type 0) (L : Labelling gs 
 
   -- ---- the face of a map without items
   module _ (W : Ways gs F L axial) (S : Sloop gs F L axial W) where
-    pub record Ground : Type 0 where
+    pub record Face : Type 0 where
       pub label : Option Label
       pub alone : W.list ≡ [] → S.loop ≡ None → (m : Label) × (label ≡ Some m)
       pub only : (m : Label) → label ≡ Some m → (W.list ≡ []) × (S.loop ≡ None)
@@ -77,10 +77,10 @@ module _ (gs : List Vector) (F : Vector → Label → Type 0) (L : Labelling gs 
         let r = S.all n hn (record { clear = λ k w h z. empty-none W.list e k w h; point = y; direction = hy; above = a; mark = m; below = b; labels = p; proper = q }) in
         none-some r.0 (sym o ∙ r.1))
 
-    pub ground : Ground
-    ground = by (decided-both (empty-or W.list) (none-or S.loop)) (L.exists axis_x axis-direction)
+    pub face : Face
+    face = by (decided-both (empty-or W.list) (none-or S.loop)) (L.exists axis_x axis-direction)
       where
-        by : Decided ((W.list ≡ []) × (S.loop ≡ None)) → ((m : Label) × F axis_x m) → Ground
+        by : Decided ((W.list ≡ []) × (S.loop ≡ None)) → ((m : Label) × F axis_x m) → Face
         by (inl (e, o)) (m, f) = record {
           label = Some m;
           alone = λ x y. (m, refl);
