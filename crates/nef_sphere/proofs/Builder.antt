@@ -55,7 +55,7 @@ loops-one (x ∷ as') o (suc i) zero l c a b = cc
 loops-one (x ∷ as') o (suc i) (suc k) l c a b = ap suc (loops-one as' o i k l c a b)
 
 -- one of the two normals of a plane is in normal form
-normal-or : (n : Vector) → IsDirection n → IsNormal n ⊎ IsNormal (away n)
+pub normal-or : (n : Vector) → IsDirection n → IsNormal n ⊎ IsNormal (away n)
 normal-or n h = by_order n.x (pos 0)
     (λ l. inr (record { first = omega (arith, ints); second = λ z. absurd (omega (arith, ints)); third = λ z y. absurd (omega (arith, ints)) }))
     (λ x. by_order n.y (pos 0)
