@@ -17,7 +17,7 @@ use Rattle.nef_near.proofs.Rays.{Germ-zero, signs-same, same-place_sym, slope-sa
 use Rattle.nef_near.proofs.Alike.{germs-by_cell, Flat-by_germs, FlatDim-by_germs, FlatDim-one, flat-germ}
 use Rattle.nef_near.proofs.Supports.{flat-plane, flat-line}
 use Rattle.nef_near.proofs.Even.{germ-nearby, flat-toward, even-germs, labels-by_germs, span-1, span-3}
-use Rattle.nef_near.proofs.FlatDecided.{flat_dim-of, near-by_signs, flat-by_signs, parallel-both}
+use Rattle.nef_near.proofs.FlatDecided.{flat_dim-of, near-by_signs, flat-by_signs, parallel-both, cross-turned}
 use Rattle.nef_near.proofs.Between.{between-turned, between-inner}
 use Rattle.nef_near.proofs.Edges.{start, start-close, start-between, start-toward, even-until}
 use Rattle.nef_forms.proofs.Near.{reach_all}
@@ -206,3 +206,14 @@ edge-points s C k e v w y S a H b =
     let g = at-one C.vertices e.high E.high_vertex w E.is_high H.high in
     subst (λ (x : Vertex). IsAlongEdge s e x y) f (edge-points_of s C S e E y
     (subst (λ (x : Vertex). IsBetween E.low_vertex.point y x.point) (sym g) (subst (λ (x : Vertex). IsBetween x.point y w.point) (sym f) b)))
+
+-- the edge runs along its lower svertex
+pub edge-way : (s : Set) (C : Complex) (k : ℕ) (e : Edge) (v w : Vertex) → Shows s C → At C.edges k e → HasEnds C e v w → IsZero (cross (way_of v.map.svertices e.low_svertex) (toward v.point w.point))
+edge-way s C k e v w S a H =
+    let E = S.edges.edges k e a in
+    let f = at-one C.vertices e.low E.low_vertex v E.is_low H.low in
+    let g = at-one C.vertices e.high E.high_vertex w E.is_high H.high in
+    subst (λ (x : Vertex). IsZero (cross (way_of x.map.svertices e.low_svertex) (toward x.point w.point))) f
+    (subst (λ (x : Vertex). IsZero (cross (way_of E.low_vertex.map.svertices e.low_svertex) (toward E.low_vertex.point x.point))) g
+    (subst (λ (d : Vector). IsZero (cross d (toward E.low_vertex.point E.high_vertex.point))) (sym (svertex-way e E.low_vertex E.low_end E.leaves))
+    (cross-turned (toward E.low_vertex.point E.high_vertex.point) E.low_end.way E.ahead.parallel)))

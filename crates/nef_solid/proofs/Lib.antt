@@ -3,3 +3,5 @@ pub mod Ways
 pub mod Edges
 pub mod Joining
 pub mod Skeletons
+pub mod Planes
+pub mod Candidates

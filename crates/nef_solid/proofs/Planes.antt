@@ -2,11 +2,16 @@
 use Rattle.std.proofs.Common.{◌≡◌, ℤ, pos, ◌+ℤ◌, ◌*ℤ◌, refl, sym, ◌∙◌, ◌⊎◌, inl, inr, ⊎_elim, [], ◌∷◌}
 use Rattle.nef_exact.proofs.Ring.{ring, at, num, ◌⊕◌, ◌⊖◌, ◌⊗◌}
 use Rattle.nef_exact.proofs.Combination.{given, none, follows}
-use Rattle.nef_exact.proofs.Products.{nought-factor}
 use Rattle.nef_space.specs.Place.{Place, Form, form_at, slope, normal_of, toward}
 use Rattle.nef_space.specs.Vectors.{Vector, IsDirection}
 use Rattle.nef_forms.proofs.Far.{nought-or}
+use Rattle.nef_forms.proofs.Directions.{square_pos}
+use Rattle.nef_sphere.proofs.Shot.{product-off}
 use Rattle.nef_solid.specs.Shows.{SamePlane}
+
+nought-factor : (a x : ℤ) → (x ≡ pos 0 → ⊥) → a *ℤ x ≡ pos 0 → a ≡ pos 0
+nought-factor a x f e = ⊎_elim (λ z. z) (λ n. absurd (product-off (x *ℤ x) a (square_pos x f) n
+    (follows (a ∷ x ∷ []) (at 1 ⊗ at 1 ⊗ at 0) (num (pos 0)) (given (at 1) (at 0 ⊗ at 1) (num (pos 0)) e none) tt))) (nought-or a)
 
 -- where the one plane's form is nought in x, y, z, w, so is the other's
 same-nought : (g h : Form) → SamePlane g h → (x y z w : ℤ) → g.a *ℤ x +ℤ g.b *ℤ y +ℤ g.c *ℤ z +ℤ g.d *ℤ w ≡ pos 0 → h.a *ℤ x +ℤ h.b *ℤ y +ℤ h.c *ℤ z +ℤ h.d *ℤ w ≡ pos 0

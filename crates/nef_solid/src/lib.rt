@@ -6,4 +6,4 @@
 
 mod laws;
 
-pub use laws::edge_laws;
+pub use laws::{candidate_laws, edge_laws};
