@@ -8,3 +8,4 @@ pub mod Dropped
 pub mod RayOrder
 pub mod Counted
 pub mod Needed
+pub mod Both
