@@ -9,3 +9,4 @@ pub mod RayOrder
 pub mod Counted
 pub mod Needed
 pub mod Both
+pub mod Added
