@@ -14,8 +14,8 @@ use Rattle.nef_sphere.specs.Stars.{StarLabel}
 use Rattle.nef_star.specs.declared.star.Ray.{Ray}
 use Rattle.nef_star.specs.declared.star.Star.{Star}
 use Rattle.nef_star.specs.Turning.{IsTurning, IsNext, Gives, in_only_sector}
-use Rattle.nef_star.specs.Stars.{left_of, left_at, mark_of, mark_at, sector_at, sector_count, IsRay, IsTurned, IsKept, IsCountedFrom, IsNeedless, AreNeeded}
-use Rattle.nef_star.proofs.Labelled.{LeftGives, left-on, to-left, to-star}
+use Rattle.nef_star.specs.Stars.{left_of, left_at, mark_of, mark_at, sector_at, sector_count, IsRay, IsTurned, IsKept, IsCountedFrom, IsNeedless, AreNeeded, LeftGives}
+use Rattle.nef_star.proofs.Labelled.{left-on, to-left, to-star}
 use Rattle.nef_star.proofs.Rotated.{IsRotated, rotated-gives, rotated-turning}
 use Rattle.nef_star.proofs.Dropped.{fewer-turning, dropped-gives, only-gives, only-label}
 

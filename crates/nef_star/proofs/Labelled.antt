@@ -17,7 +17,7 @@ use Rattle.nef_star.specs.declared.star.Ray.{Ray}
 use Rattle.nef_star.specs.declared.star.Star.{Star}
 use Rattle.nef_star.specs.Laws.{EachHasOneLabel}
 use Rattle.nef_star.specs.Turning.{IsTurning, IsNext, Gives, on_ray as at_ray, in_sector as of_sector, in_only_sector as of_only_sector}
-use Rattle.nef_star.specs.Stars.{ray_of, star_of, left_of, left_at, mark_of, mark_at, sector_at, sector_count, IsTurned}
+use Rattle.nef_star.specs.Stars.{ray_of, star_of, left_of, left_at, mark_of, mark_at, sector_at, sector_count, IsTurned, LeftGives}
 use Rattle.nef_star.proofs.Turns.{next_in, some_label, one_label}
 use Rattle.nef_star.proofs.Lefts.{way, way-same, same-way, way-passes, passes-way}
 
@@ -103,9 +103,6 @@ passes n s t d h = record {
 }
 
 -- ---- labels
-abbrev pub LeftGives : Star → Vector → Label → Type 0
-LeftGives t d l = Gives (vector_of t.axis) (length t.rays.items) (left_at t.rays.items) (mark_at t.rays.items) (sector_at t.sectors.items) d l
-
 module _ (t : Star) (T : IsTurned t) (e : Vector) (off : IsDirection (cross (vector_of t.axis) e)) where
   axis : IsDirection (vector_of t.axis)
   axis = t.axis.some

@@ -10,3 +10,4 @@ pub mod Counted
 pub mod Needed
 pub mod Both
 pub mod Added
+pub mod LastAt

@@ -10,7 +10,7 @@ use Rattle.nef_geo.specs.Shapes.{vector_of}
 use Rattle.nef_sphere.specs.Stars.{Ray as PlainRay, Star as PlainStar, StarLabel}
 use Rattle.nef_star.specs.declared.star.Ray.{Ray}
 use Rattle.nef_star.specs.declared.star.Star.{Star}
-use Rattle.nef_star.specs.Turning.{IsTurning, IsNext}
+use Rattle.nef_star.specs.Turning.{IsTurning, IsNext, Gives, IsPast, IsUnder, IsAfter}
 
 abbrev pub ray_of : Ray → PlainRay
 ray_of r = record { normal = vector_of r.normal; ahead = r.ahead; mark = r.mark }
@@ -65,6 +65,28 @@ pub record IsStar (t : Star) : Type 0 where
 abbrev pub AreStraight : Ray → Ray → Label → Type 0
 AreStraight q r l = (q.normal ≡ r.normal) × (q.mark ≡ l) × (r.mark ≡ l)
 
+-- ---- what a star says of the direction to the left of a ray
+-- the label on the ray
+abbrev pub LeftGives : Star → Vector → Label → Type 0
+LeftGives t d l = Gives (vector_of t.axis) (length t.rays.items) (left_at t.rays.items) (mark_at t.rays.items) (sector_at t.sectors.items) d l
+
+-- the label just after the ray
+abbrev pub LeftAfter : Star → Vector → Label → Type 0
+LeftAfter t d l = IsAfter (vector_of t.axis) (length t.rays.items) (left_at t.rays.items) (sector_at t.sectors.items) d l
+
+-- the ray is after ray k and before the next
+abbrev pub LeftPast : Star → Vector → ℕ → Type 0
+LeftPast t d k = IsPast (vector_of t.axis) (length t.rays.items) (left_at t.rays.items) d k
+
+-- ray k is the last at or before the ray
+abbrev pub LeftUnder : Star → Vector → ℕ → Type 0
+LeftUnder t d k = IsUnder (vector_of t.axis) (length t.rays.items) (left_at t.rays.items) d k
+
+-- the ray is one of the star's
+abbrev pub HasLeft : Star → Vector → Type 0
+HasLeft t d = (k : ℕ) × (k < length t.rays.items) × (left_at t.rays.items k ≡ d)
+
+-- ---- one star and another
 -- s has t's axis and mark, and gives each direction the label that t gives it
 pub record IsKept (t s : Star) : Type 0 where
   pub axis : s.axis ≡ t.axis

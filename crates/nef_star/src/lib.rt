@@ -1,6 +1,7 @@
 //! Stars: what a sphere map looks like near one of its directions, from one ray round to the next.
 #![tactic(auto)]
 
+mod cut;
 mod laws;
 mod needless;
 mod op;
