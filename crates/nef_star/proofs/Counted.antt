@@ -82,7 +82,7 @@ renamed s a n d l e f h =
     (subst (λ (k : ℕ). Gives (vector_of a) k (left_at s.rays.items) (mark_at s.rays.items) (sector_at s.sectors.items) d l) (sym f) h)
 
 module _ (t s : Star) (T : IsTurned t) (e : s.axis ≡ t.axis) (f : s.mark ≡ t.mark) where
-  turned-by : All (IsRay (vector_of t.axis)) s.rays.items → (n : ℕ) → length s.rays.items ≡ n → IsTurning (vector_of t.axis) n (left_at s.rays.items) → length s.sectors.items ≡ sector_count s.rays.items → IsTurned s
+  pub turned-by : All (IsRay (vector_of t.axis)) s.rays.items → (n : ℕ) → length s.rays.items ≡ n → IsTurning (vector_of t.axis) n (left_at s.rays.items) → length s.sectors.items ≡ sector_count s.rays.items → IsTurned s
   turned-by rays n k turning sectors = record {
     axis_small = subst (λ (x : Dir). IsAtMost svertex_limit (vector_of x)) (sym e) T.axis_small;
     rays = subst (λ (x : Dir). All (IsRay (vector_of x)) s.rays.items) (sym e) rays;
@@ -95,7 +95,7 @@ module _ (t s : Star) (T : IsTurned t) (e : s.axis ≡ t.axis) (f : s.mark ≡ t
     sectors_too : length t.sectors.items ≡ length t.rays.items
     sectors_too = T.sectors ∙ count-some t.rays.items (omega arith)
 
-    lefts : IsRotated (length t.rays.items) m (left_at t.rays.items) (left_at s.rays.items)
+    pub lefts : IsRotated (length t.rays.items) m (left_at t.rays.items) (left_at s.rays.items)
     lefts = rotated-map left_of zero_vector m t.rays.items s.rays.items (omega arith) c.rays
 
     pub marks : IsRotated (length t.rays.items) m (mark_at t.rays.items) (mark_at s.rays.items)

@@ -11,3 +11,5 @@ pub mod Needed
 pub mod Both
 pub mod Added
 pub mod LastAt
+pub mod Pushed
+pub mod Cuts

@@ -93,6 +93,13 @@ pub record IsKept (t s : Star) : Type 0 where
   pub mark : s.mark ≡ t.mark
   pub labels : (e : Vector) (l : Label) → IsDirection (cross (vector_of t.axis) e) → StarLabel (star_of t) e l → StarLabel (star_of s) e l
 
+-- s is t with one more ray, which has d to its left
+pub record IsCut (d : Vector) (t s : Star) : Type 0 where
+  pub turned : IsTurned s
+  pub kept : IsKept t s
+  pub has : HasLeft s d
+  pub still : (v : Vector) → HasLeft t v → HasLeft s v
+
 -- t with the rays and sectors counted from number m on
 pub record IsCountedFrom (m : ℕ) (t s : Star) : Type 0 where
   pub rays : s.rays.items ≡ drop m t.rays.items ++ take m t.rays.items

@@ -1,14 +1,17 @@
 //! Stars with one more ray.
 
-ghost use Rattle.std.specs.Prelude.{◌≡◌, ◌<◌, ◌↔◌, ◌-◌, length, IsTrue};
+ghost use Rattle.std.specs.Prelude.{◌≡◌, ◌<◌, ◌↔◌, ◌-◌, ℕ, length, IsTrue, OnOk};
+ghost use Rattle.std.specs.List.{All};
 ghost use Rattle.nef_cyclic.specs.Arcs.{IsOnCircle};
 ghost use Rattle.nef_geo.specs.Shapes.{vector_of};
 ghost use Rattle.nef_star.specs.Turning.{IsNext};
-ghost use Rattle.nef_star.specs.Stars.{left_at, IsTurned, LeftPast, LeftUnder};
+ghost use Rattle.nef_star.specs.Stars.{left_of, left_at, IsRay, IsTurned, LeftPast, LeftUnder, HasLeft, IsKept, IsCut};
 
-use crate::star::{Star, same_dir};
+use crate::OutOfMemory;
+use crate::needless::count_from;
+use crate::star::{Ray, Star, same_dir};
 use nef_arc::{Arc, strictly_on};
-use nef_geo::Dir;
+use nef_geo::{Dir, Label};
 
 // The direction to the left of ray `k`.
 pub(crate) fn left_of_ray(star: &Star, k: usize) -> Dir
@@ -61,4 +64,72 @@ pub(crate) fn place_of(star: &Star, left: &Dir) -> usize
         }
     }
     unreachable!()
+}
+
+// The ray with another mark.
+fn with_mark(ray: &Ray, mark: Label) -> Ray
+    ensures normal { result.normal ≡ ray.now.normal }
+    ensures ahead { result.ahead ≡ ray.now.ahead }
+    ensures mark { result.mark ≡ mark }
+{
+    Ray::of(ray.normal, ray.ahead, mark)
+}
+
+// Puts a ray into a star that has none. It has the label of the one sector.
+fn add_first(star: &mut Star, ray: &Ray) -> Result<(), OutOfMemory>
+    requires turned { IsTurned star.old }
+    requires ray { IsRay (vector_of star.old.axis) ray.now }
+    requires none { length star.old.rays.items ≡ 0 }
+    ensures cut { OnOk result (IsCut (left_of ray.now) star.old star.new) }
+{
+    let label = star.sectors[0];
+    star.rays.push(with_mark(ray, label))?;
+    Ok(())
+}
+
+// Puts a ray into the last sector. Both parts of the sector and the ray have the sector's label.
+fn add_last(star: &mut Star, ray: &Ray) -> Result<(), OutOfMemory>
+    requires turned { IsTurned star.old }
+    requires ray { IsRay (vector_of star.old.axis) ray.now }
+    requires some { 0 < length star.old.rays.items }
+    requires past { LeftPast star.old (left_of ray.now) (length star.old.rays.items - 1) }
+    ensures cut { OnOk result (IsCut (left_of ray.now) star.old star.new) }
+{
+    let label = star.sectors[star.rays.len() - 1];
+    star.rays.push(with_mark(ray, label))?;
+    star.sectors.push(label)?;
+    Ok(())
+}
+
+// Puts a ray in, unless the star has one with the same direction to its left. Each direction keeps its label.
+fn cut(star: &mut Star, ray: &Ray) -> Result<(), OutOfMemory>
+    requires turned { IsTurned star.old }
+    requires ray { IsRay (vector_of star.old.axis) ray.now }
+    ensures cut { OnOk result (IsCut (left_of ray.now) star.old star.new) }
+{
+    if star.rays.is_empty() {
+        return add_first(star, ray);
+    }
+    let left = ray.left();
+    let place = place_of(star, &left);
+    if same_dir(&left_of_ray(star, place), &left) {
+        return Ok(());
+    }
+    let next = next_of(star.rays.len(), place);
+    count_from(star, next);
+    add_last(star, ray)
+}
+
+// Puts each of the rays in that the star doesn't have. Each direction keeps its label.
+pub(crate) fn cut_by(star: &mut Star, rays: &[Ray]) -> Result<(), OutOfMemory>
+    requires turned { IsTurned star.old }
+    requires rays { All (IsRay (vector_of star.old.axis)) rays.now }
+    ensures turned { OnOk result (IsTurned star.new) }
+    ensures kept { OnOk result (IsKept star.old star.new) }
+    ensures all { OnOk result ((k : ℕ) → k < length rays.now → HasLeft star.new (left_at rays.now k)) }
+{
+    for ray in rays {
+        cut(star, ray)?;
+    }
+    Ok(())
 }

@@ -34,7 +34,7 @@ fn least_ray(rays: &[Ray]) -> usize
 }
 
 // Counts the rays and sectors from number `first` on.
-fn count_from(star: &mut Star, first: usize)
+pub(crate) fn count_from(star: &mut Star, first: usize)
     requires turned { IsTurned star.old }
     requires within { first < length star.old.rays.items }
     ensures turned { IsTurned star.new }
