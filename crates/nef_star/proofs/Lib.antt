@@ -13,3 +13,4 @@ pub mod Added
 pub mod LastAt
 pub mod Pushed
 pub mod Cuts
+pub mod Combined
