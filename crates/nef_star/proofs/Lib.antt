@@ -14,3 +14,4 @@ pub mod LastAt
 pub mod Pushed
 pub mod Cuts
 pub mod Combined
+pub mod Joined

@@ -67,7 +67,7 @@ pub(crate) fn place_of(star: &Star, left: &Dir) -> usize
 }
 
 // The ray with another mark.
-fn with_mark(ray: &Ray, mark: Label) -> Ray
+pub(crate) fn with_mark(ray: &Ray, mark: Label) -> Ray
     ensures normal { result.normal ≡ ray.now.normal }
     ensures ahead { result.ahead ≡ ray.now.ahead }
     ensures mark { result.mark ≡ mark }

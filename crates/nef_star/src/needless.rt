@@ -46,7 +46,7 @@ pub(crate) fn count_from(star: &mut Star, first: usize)
 }
 
 // Lets the star begin with its least ray.
-fn begin_with_least(star: &mut Star)
+pub(crate) fn begin_with_least(star: &mut Star)
     requires turned { IsTurned star.old }
     ensures star { IsStar star.new }
     ensures kept { IsKept star.old star.new }
