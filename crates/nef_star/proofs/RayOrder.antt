@@ -24,7 +24,7 @@ below-self [] h = h
 below-self (x ∷ xs) (inl p) = omega (arith, ints, p)
 below-self (x ∷ xs) (inr (e, p)) = below-self xs p
 
-true_not_false : (b : Bool) → b ≡ true → b ≡ false → ⊥
+pub true_not_false : (b : Bool) → b ≡ true → b ≡ false → ⊥
 true_not_false b e f = subst T (sym e ∙ f) tt
 
 pub ray-below-trans : (p q r : Ray) → IsRayBelow p q → IsRayBelow q r → IsRayBelow p r

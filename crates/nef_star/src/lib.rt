@@ -7,6 +7,8 @@ mod laws;
 mod needless;
 mod op;
 mod star;
+#[cfg(test)]
+mod tests;
 
 pub use combining::merge;
 pub use laws::star_laws;
