@@ -17,7 +17,7 @@ use Rattle.nef_star.specs.Ops.{op_label}
 use Rattle.nef_star.specs.Turning.{IsTurning, Gives, on_ray, in_sector, in_only_sector}
 use Rattle.nef_star.specs.Stars.{star_of, left_of, left_at, mark_of, mark_at, sector_at, sector_count, IsRay, IsTurned, IsStar, IsKept, HasLeft, LeftGives, LeftAfter, LeftUnder, LeftPast, IsCombined, IsLeftCombined, IsCombinedAt}
 use Rattle.nef_star.proofs.Turns.{first_or_later}
-use Rattle.nef_star.proofs.Labelled.{left-on, to-left, to-star, sectors-fill}
+use Rattle.nef_star.proofs.Labelled.{left-on, to-left, to-star, sectors-fill, sectors-none}
 use Rattle.nef_star.proofs.RayOrder.{one-value}
 use Rattle.nef_star.proofs.Added.{turning-same}
 use Rattle.nef_star.proofs.Counted.{turned-by, count-some}
@@ -131,3 +131,28 @@ copied-kept t s e r m f T =
 
 pub none-too : (t b : Star) → ((k : ℕ) → k < length b.rays.items → HasLeft t (left_at b.rays.items k)) → length t.rays.items ≡ 0 → length b.rays.items ≡ 0
 none-too t b all none = elim (first_or_later (length b.rays.items)) [ inl e ↦ e | inr h ↦ let w = all 0 h in let x = w.1 in absurd (omega (arith, x, none)) ]
+
+-- stars without rays
+module _ (op : Op) (b t s : Star) (B : IsTurned b) (T : IsTurned t) (none : length t.rays.items ≡ 0) (none' : length b.rays.items ≡ 0) (e : s.axis ≡ t.axis) (f : s.mark ≡ t.mark) (rays : s.rays.items ≡ t.rays.items)
+    (x y z : Label) (at_t : x ≡ get_or t.sectors.items 0 x) (at_b : y ≡ get_or b.sectors.items 0 y) (combined : z ≡ op_label op x y) (sectors : s.sectors.items ≡ set t.sectors.items 0 z) where
+  only-of : (r : Star) → IsTurned r → length r.rays.items ≡ 0 → (d : Vector) (k l : Label) → k ≡ get_or r.sectors.items 0 k → LeftGives r d l → k ≡ l
+  only-of r R n d k l h g =
+      let some = sectors-none r.rays.items (length r.sectors.items) R.sectors n in
+      h ∙ one-value r.sectors.items 0 k Out some
+          ∙ only-label (vector_of r.axis) (left_at r.rays.items) (mark_at r.rays.items) (sector_at r.sectors.items) d l (subst (λ (m : ℕ). Gives (vector_of r.axis) m (left_at r.rays.items) (mark_at r.rays.items) (sector_at r.sectors.items) d l) n g)
+
+  only-turned : IsTurned s
+  only-turned = turned-by t s T e f (subst (All (IsRay (vector_of t.axis))) (sym rays) T.rays) (length t.rays.items) (ap length rays)
+      (subst (λ (l : List Ray). IsTurning (vector_of t.axis) (length t.rays.items) (left_at l)) (sym rays) T.counterclockwise)
+      (ap length sectors ∙ length-set t.sectors.items 0 z ∙ T.sectors ∙ ap sector_count (sym rays))
+
+  pub only-combined : IsLeftCombined op b t s
+  only-combined = record {
+    turned = only-turned;
+    axis = e;
+    mark = f;
+    gives = λ d k l o g g'.
+        let some = sectors-none t.rays.items (length t.sectors.items) T.sectors none in
+        in_only_sector (ap length rays ∙ none)
+        (ap (λ (l : List Label). sector_at l 0) sectors ∙ get_or-set_same t.sectors.items 0 z Out some ∙ combined ∙ ap (λ (v : Label). op_label op v y) (only-of t T none d x k at_t g) ∙ ap (op_label op k) (only-of b B none' d y l at_b g'));
+  }
