@@ -1,5 +1,5 @@
 -- What directions that turn give where others that turn, and have all of them, lie.
-use Rattle.std.proofs.Common.{◌≡◌, ℕ, zero, suc, ◌<◌, arith, refl, sym, ap, subst, ◌∙◌, inl, inr, ◌⊎◌}
+use Rattle.std.proofs.Common.{◌≡◌, ℕ, ◌<◌, arith, sym, ap, subst, ◌∙◌, inl, inr, ◌⊎◌}
 use Rattle.nef_space.specs.Vectors.{Vector, IsDirection, SameDirection}
 use Rattle.nef_space.specs.declared.label.Label.{Label}
 use Rattle.nef_cyclic.specs.Arcs.{IsOnCircle, Passes}

@@ -1,19 +1,17 @@
 -- Two stars combined ray by ray.
-use Rattle.std.proofs.Common.{◌≡◌, ℕ, zero, suc, ◌+◌, ◌-◌, ◌<◌, ◌≤◌, List, length, get_or, arith, refl, sym, ap, subst, ◌∙◌, inl, inr, ◌⊎◌}
+use Rattle.std.proofs.Common.{◌≡◌, ℕ, ◌+◌, ◌<◌, ◌≤◌, length, arith, refl, sym, ap, subst, ◌∙◌, inl, inr}
 use Rattle.std.proofs.Math.Nat.{eq-or-lt_of_le}
-use Rattle.nef_space.specs.Vectors.{Vector, cross, IsDirection, SameDirection}
+use Rattle.nef_space.specs.Vectors.{Vector, IsDirection}
 use Rattle.nef_space.specs.declared.label.Label.{Label}
 use Rattle.nef_geo.specs.Shapes.{vector_of}
 use Rattle.nef_geo.specs.declared.dir.Dir.{Dir}
-use Rattle.nef_cyclic.specs.Arcs.{IsOnCircle, Passes}
-use Rattle.nef_sphere.specs.Stars.{StarLabel}
+use Rattle.nef_cyclic.specs.Arcs.{IsOnCircle}
 use Rattle.nef_star.specs.declared.op.Op.{Op}
 use Rattle.nef_star.specs.declared.star.Star.{Star}
 use Rattle.nef_star.specs.Ops.{op_label}
-use Rattle.nef_star.specs.Turning.{IsTurning, IsNext, Gives, on_ray, in_sector, in_only_sector, IsAfter}
-use Rattle.nef_star.specs.Stars.{star_of, left_at, mark_at, sector_at, IsTurned, IsKept, HasLeft, LeftGives, LeftAfter, IsCombined, IsLeftCombined, IsCombinedAt}
+use Rattle.nef_star.specs.Turning.{IsTurning, Gives, on_ray, in_sector, in_only_sector, IsAfter}
+use Rattle.nef_star.specs.Stars.{left_at, mark_at, sector_at, IsTurned, HasLeft, LeftGives, LeftAfter, IsLeftCombined, IsCombinedAt}
 use Rattle.nef_star.proofs.Turns.{one_label}
-use Rattle.nef_star.proofs.Labelled.{left-on, to-left, to-star}
 use Rattle.nef_star.proofs.Rotated.{rotated-gives}
 use Rattle.nef_star.proofs.Counted.{agreeing}
 use Rattle.nef_star.proofs.Both.{gives-same, after-label}
@@ -98,7 +96,7 @@ combined-more op b k t s u h new = record {
       | inr p ↦ let w = h.after i p in let other : i ≡ k → ⊥ = λ e. omega (arith, e, p) in (w.0, w.1, new.other_sectors i other ∙ w.2)
     ]
 
--- b about the axis x
+-- s is t with the labels on and after each ray combined with those that b gives there
 module _ (op : Op) (b t s : Star) (B : IsTurned b) (T : IsTurned t) (e : b.axis ≡ t.axis) (some : 0 < length t.rays.items) (all : (p : ℕ) → p < length b.rays.items → HasLeft t (left_at b.rays.items p)) (h : IsCombinedTo op b (length t.rays.items) t s) where
   other-turning : IsTurning (vector_of t.axis) (length b.rays.items) (left_at b.rays.items)
   other-turning = subst (λ (x : Dir). IsTurning (vector_of x) (length b.rays.items) (left_at b.rays.items)) e B.counterclockwise

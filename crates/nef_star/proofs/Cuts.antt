@@ -1,6 +1,5 @@
 -- A star with one more ray, from one whose rays are counted on.
-use Rattle.std.proofs.Common.{◌≡◌, ℕ, zero, suc, ◌+◌, ◌-◌, ◌<◌, ◌≤◌, List, [], ◌∷◌, ◌++◌, length, get_or, arith, refl, sym, ap, subst, ◌∙◌, inl, inr, ◌⊎◌}
-use Rattle.std.specs.List.{All}
+use Rattle.std.proofs.Common.{◌≡◌, ℕ, suc, ◌+◌, ◌-◌, ◌<◌, List, [], ◌∷◌, ◌++◌, length, get_or, arith, refl, sym, ap, subst, ◌∙◌, inl, inr}
 use Rattle.std.proofs.Math.Nat.{eq-or-lt_of_le}
 use Rattle.nef_space.specs.Vectors.{Vector, zero_vector, SameDirection}
 use Rattle.nef_space.specs.declared.label.Label.{Label}
@@ -11,8 +10,7 @@ use Rattle.nef_cyclic.specs.Arcs.{Passes}
 use Rattle.nef_star.specs.declared.star.Ray.{Ray}
 use Rattle.nef_star.specs.declared.star.Star.{Star}
 use Rattle.nef_star.specs.Turning.{IsNext}
-use Rattle.nef_star.specs.Stars.{left_of, left_at, sector_at, IsRay, IsTurned, IsKept, IsCountedFrom, HasLeft, LeftPast, LeftUnder, IsCut}
-use Rattle.nef_star.proofs.Turns.{next_in}
+use Rattle.nef_star.specs.Stars.{left_of, left_at, IsRay, IsTurned, IsKept, IsCountedFrom, HasLeft, LeftPast, LeftUnder, IsCut}
 use Rattle.nef_star.proofs.Labelled.{sectors-none}
 use Rattle.nef_star.proofs.Rotated.{Moved, moved, moved-value}
 use Rattle.nef_star.proofs.RayOrder.{one-value}
@@ -76,7 +74,7 @@ module _ (t s : Star) (T : IsTurned t) (k : IsKept t s) (m : ℕ) (h : m < lengt
         0,
         inr (omega (arith, as_many, h), refl),
         subst (λ (b : Dir). Passes (vector_of b) (left_at s.rays.items (length s.rays.items - 1)) d (left_at s.rays.items 0)) (sym k.axis)
-        (rw (last, end, first) q'),
+            (rw (last, end, first) q'),
       )
 
 -- ---- one ray after another

@@ -1,21 +1,21 @@
 -- What a star gives at one of its rays, one ray's labels changed, and two stars combined.
-use Rattle.std.proofs.Common.{◌≡◌, ℕ, zero, suc, ◌+◌, ◌-◌, ◌<◌, ◌≤◌, List, [], ◌∷◌, length, map, get_or, set, Bool, cond, arith, refl, sym, ap, subst, ◌∙◌, inl, inr, ◌⊎◌, length-set}
+use Rattle.std.proofs.Common.{◌≡◌, ℕ, zero, suc, ◌<◌, List, length, map, get_or, set, arith, refl, sym, ap, subst, ◌∙◌, inl, inr, ◌⊎◌, length-set}
 use Rattle.std.specs.List.{All}
 use Rattle.std.proofs.lemmas.List.{map-set, get_or-set_same, get_or-set_other, length-map}
 use Rattle.std.proofs.lemmas.List.Elements.{All-set}
-use Rattle.nef_space.specs.Vectors.{Vector, zero_vector, cross, opposite, IsDirection, SameDirection}
+use Rattle.nef_space.specs.Vectors.{Vector, zero_vector, cross, IsDirection, SameDirection}
 use Rattle.nef_space.specs.declared.label.Label.{Label}
 use Rattle.nef_space.specs.declared.label.Label.TheVariants.{Out}
 use Rattle.nef_geo.specs.Shapes.{vector_of}
 use Rattle.nef_geo.specs.declared.dir.Dir.{Dir}
-use Rattle.nef_cyclic.specs.Arcs.{IsOnCircle, Passes}
+use Rattle.nef_cyclic.specs.Arcs.{IsOnCircle}
 use Rattle.nef_sphere.specs.Stars.{StarLabel}
 use Rattle.nef_star.specs.declared.op.Op.{Op}
 use Rattle.nef_star.specs.declared.star.Ray.{Ray}
 use Rattle.nef_star.specs.declared.star.Star.{Star}
 use Rattle.nef_star.specs.Ops.{op_label}
 use Rattle.nef_star.specs.Turning.{IsTurning, Gives, on_ray, in_sector, in_only_sector}
-use Rattle.nef_star.specs.Stars.{star_of, left_of, left_at, mark_of, mark_at, sector_at, sector_count, IsRay, IsTurned, IsStar, IsKept, HasLeft, LeftGives, LeftAfter, LeftUnder, LeftPast, IsCombined, IsLeftCombined, IsCombinedAt}
+use Rattle.nef_star.specs.Stars.{star_of, left_of, left_at, mark_of, mark_at, sector_at, sector_count, IsRay, IsTurned, IsKept, HasLeft, LeftGives, LeftAfter, LeftPast, IsCombined, IsLeftCombined, IsCombinedAt}
 use Rattle.nef_star.proofs.Turns.{first_or_later}
 use Rattle.nef_star.proofs.Labelled.{left-on, to-left, to-star, sectors-fill, sectors-none}
 use Rattle.nef_star.proofs.RayOrder.{one-value}
@@ -139,7 +139,7 @@ module _ (op : Op) (b t s : Star) (B : IsTurned b) (T : IsTurned t) (none : leng
   only-of r R n d k l h g =
       let some = sectors-none r.rays.items (length r.sectors.items) R.sectors n in
       h ∙ one-value r.sectors.items 0 k Out some
-          ∙ only-label (vector_of r.axis) (left_at r.rays.items) (mark_at r.rays.items) (sector_at r.sectors.items) d l (subst (λ (m : ℕ). Gives (vector_of r.axis) m (left_at r.rays.items) (mark_at r.rays.items) (sector_at r.sectors.items) d l) n g)
+      ∙ only-label (vector_of r.axis) (left_at r.rays.items) (mark_at r.rays.items) (sector_at r.sectors.items) d l (subst (λ (m : ℕ). Gives (vector_of r.axis) m (left_at r.rays.items) (mark_at r.rays.items) (sector_at r.sectors.items) d l) n g)
 
   only-turned : IsTurned s
   only-turned = turned-by t s T e f (subst (All (IsRay (vector_of t.axis))) (sym rays) T.rays) (length t.rays.items) (ap length rays)

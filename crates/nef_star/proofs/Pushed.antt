@@ -1,10 +1,9 @@
 -- Stars with one more ray, which has the label of the sector that it cuts.
-use Rattle.std.proofs.Common.{◌≡◌, ℕ, zero, suc, ◌+◌, ◌-◌, ◌<◌, ◌≤◌, pos, List, [], ◌∷◌, ◌++◌, length, map, get_or, Bool, true, false, cond, arith, refl, sym, ap, subst, ◌∙◌, inl, inr, ◌⊎◌, length-append}
+use Rattle.std.proofs.Common.{◌≡◌, ℕ, zero, suc, ◌<◌, pos, List, [], ◌∷◌, ◌++◌, length, map, get_or, Bool, true, false, cond, arith, refl, sym, ap, subst, ◌∙◌, inl, inr, length-append}
 use Rattle.std.specs.List.{All}
 use Rattle.std.proofs.lemmas.List.Elements.{All-push}
 use Rattle.nef_space.specs.Limits.{normal_limit}
-use Rattle.nef_space.specs.Vectors.{Vector, dot, zero_vector, opposite, IsDirection, SameDirection, IsAtMost, IsNormal}
-use Rattle.nef_space.specs.declared.label.Label.{Label}
+use Rattle.nef_space.specs.Vectors.{Vector, dot, zero_vector, opposite, IsAtMost, IsNormal}
 use Rattle.nef_space.specs.declared.label.Label.TheVariants.{Out}
 use Rattle.nef_geo.specs.Shapes.{vector_of}
 use Rattle.nef_geo.specs.declared.dir.Dir.{Dir}
@@ -14,7 +13,7 @@ use Rattle.nef_cyclic.proofs.Directions.{direction-opposite, level-of_opposite}
 use Rattle.nef_star.specs.declared.star.Ray.{Ray}
 use Rattle.nef_star.specs.declared.star.Star.{Star}
 use Rattle.nef_star.specs.Turning.{IsTurning, IsNext, Gives}
-use Rattle.nef_star.specs.Stars.{left_of, left_at, mark_of, mark_at, sector_at, sector_count, IsRay, IsTurned, IsKept, HasLeft, LeftGives, LeftPast, IsCut}
+use Rattle.nef_star.specs.Stars.{left_of, left_at, mark_of, mark_at, sector_at, sector_count, IsRay, IsTurned, HasLeft, LeftPast, IsCut}
 use Rattle.nef_star.proofs.Rotated.{rotated-gives}
 use Rattle.nef_star.proofs.Added.{turning-same, added-turning, added-gives, first-gives}
 use Rattle.nef_star.proofs.Counted.{agreeing, count-some, kept-by, renamed, turned-by}

@@ -1,13 +1,12 @@
 -- Stars of two opposite rays.
-use Rattle.std.proofs.Common.{◌≡◌, ℕ, zero, suc, ◌<◌, pos, List, [], ◌∷◌, length, map, Bool, true, false, cond, arith, refl, sym, ap, subst, ◌∙◌, inl, inr, ◌⊎◌, get_or}
+use Rattle.std.proofs.Common.{◌≡◌, ℕ, zero, suc, ◌<◌, pos, List, [], ◌∷◌, length, map, Bool, true, false, cond, arith, refl, sym, ap, subst, ◌∙◌, inl, inr, get_or}
 use Rattle.std.specs.List.{All}
 use Rattle.std.proofs.lemmas.List.{length-map}
 use Rattle.std.proofs.lemmas.List.Elements.{All-cons, All-nil}
 use Rattle.std.proofs.lemmas.Int.{ints}
 use Rattle.nef_space.specs.Limits.{normal_limit, svertex_limit}
 use Rattle.nef_space.specs.Numbers.{IsBelow}
-use Rattle.nef_space.specs.Vectors.{Vector, zero_vector, dot, opposite, triple_of, IsDirection, IsAtMost, IsNormal, SameDirection}
-use Rattle.nef_space.specs.declared.label.Label.{Label}
+use Rattle.nef_space.specs.Vectors.{Vector, dot, opposite, triple_of, IsDirection, IsAtMost, IsNormal, SameDirection}
 use Rattle.nef_geo.specs.Shapes.{vector_of}
 use Rattle.nef_geo.specs.declared.dir.Dir.{Dir}
 use Rattle.nef_geo.proofs.Unique.{same_directions_equal}
@@ -17,7 +16,7 @@ use Rattle.nef_cyclic.proofs.Directions.{dot-opposite}
 use Rattle.nef_sphere.specs.Stars.{Ray as PlainRay, IsStraight}
 use Rattle.nef_star.specs.declared.star.Ray.{Ray}
 use Rattle.nef_star.specs.declared.star.Star.{Star}
-use Rattle.nef_star.specs.Stars.{ray_of, star_of, left_of, left_at, sector_count, IsRayBelow, AreStraight, IsRay, IsStar, IsTurned}
+use Rattle.nef_star.specs.Stars.{ray_of, star_of, left_of, left_at, sector_count, IsRayBelow, AreStraight, IsRay, IsStar}
 use Rattle.nef_star.specs.Turning.{IsTurning}
 use Rattle.nef_star.proofs.Turns.{self-same}
 use Rattle.nef_star.proofs.RayOrder.{ray-below-self, true_not_false}

@@ -1,14 +1,14 @@
 -- Directions in counterclockwise order about an axis: each direction is under one of them, and has one label.
-use Rattle.std.proofs.Common.{◌≡◌, ℕ, zero, suc, ◌+◌, ◌-◌, ◌<◌, ◌≤◌, ℤ, pos, ◌<ℤ◌, ◌*ℤ◌, ◌-ℤ◌, arith, refl, sym, ap, subst, ◌∙◌, inl, inr, ◌⊎◌}
+use Rattle.std.proofs.Common.{◌≡◌, ℕ, zero, suc, ◌-◌, ◌<◌, ◌≤◌, ℤ, pos, ◌<ℤ◌, ◌*ℤ◌, ◌-ℤ◌, arith, refl, sym, ap, subst, ◌∙◌, inl, inr, ◌⊎◌}
 use Rattle.std.proofs.lemmas.Int.{ints}
 use Rattle.std.proofs.Math.Nat.{eq-or-lt_of_le}
-use Rattle.nef_space.specs.Vectors.{Vector, dot, cross, triple, IsDirection, IsOpposite, IsParallel, SameDirection}
+use Rattle.nef_space.specs.Vectors.{Vector, dot, cross, triple, IsDirection, IsParallel, SameDirection}
 use Rattle.nef_space.specs.declared.label.Label.{Label}
-use Rattle.nef_cyclic.specs.Arcs.{IsOnCircle, IsStrictlyOn, Passes, AboutThree, AboutFour}
+use Rattle.nef_cyclic.specs.Arcs.{IsOnCircle, Passes, AboutThree, AboutFour}
 use Rattle.nef_cyclic.proofs.Planar.{self_positive, turn_from_parallel}
 use Rattle.nef_cyclic.proofs.StrictlyOn.{same-sym}
 use Rattle.nef_cyclic.proofs.Directions.{same-trans}
-use Rattle.nef_cyclic.proofs.Cyclic.{one_is_first, never_both_ways, order_is_transitive, same_in_place, order_is_cyclic, ways_glue, nearer_ones, sector_holds, in_sector, no_ray_between}
+use Rattle.nef_cyclic.proofs.Cyclic.{one_is_first, never_both_ways, order_is_transitive, same_in_place, order_is_cyclic, nearer_ones, in_sector, no_ray_between}
 use Rattle.nef_near.proofs.Decided.{Decided}
 use Rattle.nef_forms.proofs.Directions.{zero-decided}
 use Rattle.nef_sphere.proofs.Vectors.{positive-or}

@@ -125,7 +125,8 @@ IsPassed c t s = ((length s.rays.items + 1 ≡ length t.rays.items) × AreNeeded
 pub record IsCombined (op : Op) (a b t : Star) : Type 0 where
   pub axis : t.axis ≡ a.axis
   pub mark : t.mark ≡ op_label op a.mark b.mark
-  pub labels : (e : Vector) (k l : Label) → IsDirection (cross (vector_of a.axis) e) → StarLabel (star_of a) e k → StarLabel (star_of b) e l → StarLabel (star_of t) e (op_label op k l)
+  pub labels : (e : Vector) (k l : Label) → IsDirection (cross (vector_of a.axis) e) → StarLabel (star_of a) e k → StarLabel (star_of b) e l
+      → StarLabel (star_of t) e (op_label op k l)
 
 -- the same but for the mark, which is t's, of the directions to the left of rays
 pub record IsLeftCombined (op : Op) (b t s : Star) : Type 0 where

@@ -81,7 +81,15 @@ fn quarters(rt: HostRuntime) -> Result<(), Fail> {
 #[test]
 fn nothing_of_itself(rt: HostRuntime) -> Result<(), Fail> {
     let (axis, normal) = (dir(&rt, 0, 0, 1), dir(&rt, 1, 0, 0));
-    let half = plane_star(&rt, rt.alloc(), axis, normal, Label::In, Label::In, Label::Not)?;
+    let half = plane_star(
+        &rt,
+        rt.alloc(),
+        axis,
+        normal,
+        Label::In,
+        Label::In,
+        Label::Not,
+    )?;
     assert!(rt; is_straight(&half));
     let mut none = merge(rt.alloc(), &half, &half, Op::Xor)?;
     assert!(rt; is_straight(&none));
@@ -94,7 +102,15 @@ fn nothing_of_itself(rt: HostRuntime) -> Result<(), Fail> {
 #[test]
 fn wall_stays(rt: HostRuntime) -> Result<(), Fail> {
     let (axis, normal) = (dir(&rt, 0, 0, 1), dir(&rt, 1, 0, 0));
-    let mut wall = plane_star(&rt, rt.alloc(), axis, normal, Label::In, Label::Not, Label::Not)?;
+    let mut wall = plane_star(
+        &rt,
+        rt.alloc(),
+        axis,
+        normal,
+        Label::In,
+        Label::Not,
+        Label::Not,
+    )?;
     simplify(&mut wall);
     assert_eq!(rt; wall.rays().len(), 2);
     assert!(rt; !is_plain(&wall));

@@ -27,8 +27,8 @@ pub add_last-requires-clause-past : goal.add_last-requires-clause-past
 add_last-requires-clause-past c =
     let t = c.args.star.now in let k = c.place_of-place.result in let v = vector_of c.left-left.result in
     let past = only-past t v k
-        (λ s. true_or_false (sym (c.same_dir.ensures.same.1 (as-same (left_at t.rays.items k) c.left_of_ray.result c.left-left.result c.left_of_ray.ensures.left s)) ∙ c.if-same_dir.false))
-        c.place_of-place.ensures.under in
+    (λ s. true_or_false (sym (c.same_dir.ensures.same.1 (as-same (left_at t.rays.items k) c.left_of_ray.result c.left-left.result c.left_of_ray.ensures.left s)) ∙ c.if-same_dir.false))
+    c.place_of-place.ensures.under in
     let count : c.len.result ≡ length t.rays.items = omega (arith, c.len.ensures) in
     let next = subst (λ (n : ℕ). IsNext n k c.next_of-next.result) count c.next_of-next.ensures.next in
     let within : c.next_of-next.result < length t.rays.items = omega (arith, c.next_of-next.ensures.within, c.len.ensures) in

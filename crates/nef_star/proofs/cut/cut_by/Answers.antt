@@ -1,4 +1,4 @@
-use Rattle.std.proofs.Common.{◌<◌, length, arith, rules}
+use Rattle.std.proofs.Common.{rules}
 use Rattle.nef_star.proofs.Cuts.{cut-none, cut-more}
 use Rattle.nef_star.proofs.cut.cut_by.Goals as goal
 
