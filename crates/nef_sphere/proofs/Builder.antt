@@ -55,7 +55,7 @@ loops-one (x ∷ as') o (suc i) zero l c a b = cc
 loops-one (x ∷ as') o (suc i) (suc k) l c a b = ap suc (loops-one as' o i k l c a b)
 
 -- one of the two normals of a plane is in normal form
-normal-or : (n : Vector) → IsDirection n → IsNormal n ⊎ IsNormal (away n)
+pub normal-or : (n : Vector) → IsDirection n → IsNormal n ⊎ IsNormal (away n)
 normal-or n h = by_order n.x (pos 0)
     (λ l. inr (record { first = omega (arith, ints); second = λ z. absurd (omega (arith, ints)); third = λ z y. absurd (omega (arith, ints)) }))
     (λ x. by_order n.y (pos 0)
@@ -292,5 +292,5 @@ module _ (gs : List Vector) (F : Vector → Label → Type 0) (L : Labelling gs 
     beside = λ k x d e a o f. let r = everywhere k x a d o in r.near e;
     lone = λ k v m e a q f. B.around_near k v m e a q f;
     free = free-plain;
-    ground = B.ground_label;
+    face = B.ground_label;
   }

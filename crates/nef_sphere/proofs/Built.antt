@@ -96,7 +96,7 @@ module _ (gs : List Vector) (F : Vector → Label → Type 0) (L : Labelling gs 
           let g = cross-direction_turned a y f in
           let n = A.lone k u m a b (sym (ap (λ (r : Svertex). r.around) q) ∙ e) (λ z. g (parallel-trans y u.way a (way-direction y u.way (SameDirection-turned u.way y w)) (cross-turned u.way y w.parallel) z)) in
           from_near a y c f m (near-way y u.way a w g m n)
-  reached a y c whole m h t = A.ground m a h c.start.direction
+  reached a y c whole m h t = A.face m a h c.start.direction
 
   -- a side that sees d has the label of d
   pub side-label : (d : Vector) (o : Side) (m : Label) → HasSide M o m → Sees M o d → F d m

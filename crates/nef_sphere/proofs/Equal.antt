@@ -133,13 +133,13 @@ loop-equal a b n f m g =
     ∙ ap (λ r. record { normal = b.normal; above = b.above; mark = r; below = a.below }) m
     ∙ ap (λ r. record { normal = b.normal; above = b.above; mark = b.mark; below = r }) g
 
-map-equal : (M N : Map) → M.mark ≡ N.mark → M.svertices ≡ N.svertices → M.arcs ≡ N.arcs → M.loop ≡ N.loop → M.ground ≡ N.ground → M ≡ N
+map-equal : (M N : Map) → M.mark ≡ N.mark → M.svertices ≡ N.svertices → M.arcs ≡ N.arcs → M.loop ≡ N.loop → M.face ≡ N.face → M ≡ N
 map-equal M N a b c d e =
-    ap (λ r. record { mark = r; svertices = M.svertices; arcs = M.arcs; loop = M.loop; ground = M.ground }) a
-    ∙ ap (λ r. record { mark = N.mark; svertices = r; arcs = M.arcs; loop = M.loop; ground = M.ground }) b
-    ∙ ap (λ r. record { mark = N.mark; svertices = N.svertices; arcs = r; loop = M.loop; ground = M.ground }) c
-    ∙ ap (λ r. record { mark = N.mark; svertices = N.svertices; arcs = N.arcs; loop = r; ground = M.ground }) d
-    ∙ ap (λ r. record { mark = N.mark; svertices = N.svertices; arcs = N.arcs; loop = N.loop; ground = r }) e
+    ap (λ r. record { mark = r; svertices = M.svertices; arcs = M.arcs; loop = M.loop; face = M.face }) a
+    ∙ ap (λ r. record { mark = N.mark; svertices = r; arcs = M.arcs; loop = M.loop; face = M.face }) b
+    ∙ ap (λ r. record { mark = N.mark; svertices = N.svertices; arcs = r; loop = M.loop; face = M.face }) c
+    ∙ ap (λ r. record { mark = N.mark; svertices = N.svertices; arcs = N.arcs; loop = r; face = M.face }) d
+    ∙ ap (λ r. record { mark = N.mark; svertices = N.svertices; arcs = N.arcs; loop = N.loop; face = r }) e
 
 -- ---- maps that hold the same things
 module _ (M N : Map) (V : Valid M) (W : Valid N) (O : Ordered M) (P : Ordered N) where
@@ -187,7 +187,7 @@ module _ (M N : Map) (V : Valid M) (W : Valid N) (O : Ordered M) (P : Ordered N)
           e ∙ ap (λ (r : Loop). Some r) (loop-equal l m.loop n m.above m.mark m.below) ∙ sym m.listed
 
   pub maps-same : M.mark ≡ N.mark → M ≡ N
-  maps-same e = map-equal M N e svertices-same arcs-same loops-same w.ground
+  maps-same e = map-equal M N e svertices-same arcs-same loops-same w.face
 
 pub least-unique : (M N : Map) → Valid M → Valid N → Ordered M → Ordered N → Least M → Least N → M.mark ≡ N.mark → SameLabels M N → M ≡ N
 least-unique M N V W O P L K e s =

@@ -23,7 +23,7 @@ use Rattle.nef_sphere.proofs.Labels.{label-direction, label-unique, way-joined}
 use Rattle.nef_sphere.proofs.Around.{Beside, same_way, other_way, beside, opposites}
 use Rattle.nef_sphere.proofs.Compare.{SameDirection-turned, way-self}
 use Rattle.nef_sphere.proofs.Arcs.{Ends, ends-of, loop-at, at-loop}
-use Rattle.nef_sphere.proofs.Unique.{ground-label}
+use Rattle.nef_sphere.proofs.Unique.{face-label}
 use Rattle.nef_sphere.proofs.Kind.{flat-loop}
 use Rattle.nef_sphere.proofs.Turn.{whole-passes}
 use Rattle.nef_sphere.proofs.Walk.{cross-direction_right}
@@ -48,10 +48,10 @@ volume-flat M V K d e b a sb m = (λ f. all (comb (pos b) e a d) (is_mark e f), 
   where
     is_mark : (u : Vector) → Full M u m → M.mark ≡ m
     is_mark u (inl z) = z.1
-    is_mark u (inr l) = label-unique M V u M.mark m (ground-label M V M.mark K.same_mark u (label-direction M u m l)) l
+    is_mark u (inr l) = label-unique M V u M.mark m (face-label M V M.mark K.same_mark u (label-direction M u m l)) l
 
     all : (u : Vector) → M.mark ≡ m → Full M u m
-    all u q = ⊎_elim (λ z. inl (z, q)) (λ f. inr (subst (λ (r : Label). MapLabel M u r) q (ground-label M V M.mark K.same_mark u f))) (zero-decided u)
+    all u q = ⊎_elim (λ z. inl (z, q)) (λ f. inr (subst (λ (r : Label). MapLabel M u r) q (face-label M V M.mark K.same_mark u f))) (zero-decided u)
 
 -- ---- facets
 module _ (M : Map) (V : Valid M) (l : Loop) (bare : M.svertices ≡ []) (has : M.loop ≡ Some l) where

@@ -23,7 +23,7 @@ use Rattle.nef_sphere.proofs.NearItems.{free-plain, item-straight}
 use Rattle.nef_sphere.proofs.Compare.{SameDirection-turned, way-self}
 use Rattle.nef_sphere.proofs.Walk.{between-direction, cross-direction_right}
 use Rattle.nef_sphere.proofs.Arcs.{at-loop}
-use Rattle.nef_sphere.proofs.Unique.{ground-label}
+use Rattle.nef_sphere.proofs.Unique.{face-label}
 use Rattle.nef_sphere.proofs.FlatMaps.{full-label, flat-onward, flat-svertex}
 use Rattle.nef_sphere.proofs.Kind.{away, away-dot, flat-loop, flat-mark, flat-parallel}
 use Rattle.nef_sphere.proofs.KindFlats.{svertex-parallel, at-second, axis-label, arc-moved, off-moved, off-svertices, hu}
@@ -161,7 +161,7 @@ module _ (M : Map) (V : Valid M) (L : Least M) (d : Vector) (h : IsDirection d) 
     where
       by : (o : Option Loop) → M.loop ≡ o → KindOf M
       by None q = let g = V.shaped.ground_alone e q in
-          of_volume (record { no_svertex = e; no_loop = q; same_mark = g.1 ∙ ap (λ (r : Label). Some r) (label-unique M V d g.0 M.mark (ground-label M V g.0 g.1 d h) (flat-mark M V L d F h)) })
+          of_volume (record { no_svertex = e; no_loop = q; same_mark = g.1 ∙ ap (λ (r : Label). Some r) (label-unique M V d g.0 M.mark (face-label M V g.0 g.1 d h) (flat-mark M V L d F h)) })
       by (Some l) q = let i = at-loop M.arcs M.loop l q in
           of_facet l.normal (record {
             no_svertex = e;

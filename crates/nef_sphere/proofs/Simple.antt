@@ -12,10 +12,10 @@ use Rattle.nef_sphere.proofs.Built.{agrees-valid}
 
 -- ---- one label
 abbrev pub ground_map : Label → Label → Map
-ground_map k g = record { mark = k; svertices = []; arcs = []; loop = None; ground = Some g }
+ground_map k g = record { mark = k; svertices = []; arcs = []; loop = None; face = Some g }
 
-pub ground-shaped : (k g : Label) → Shaped (ground_map k g)
-ground-shaped k g = record {
+pub face-shaped : (k g : Label) → Shaped (ground_map k g)
+face-shaped k g = record {
   svertex_ways = λ i v a. absurd a;
   svertices_apart = λ i j u v a b w. absurd a;
   normals = λ i x a. absurd a;
@@ -28,14 +28,14 @@ ground-shaped k g = record {
   ground_not = λ m e. (refl, refl);
 }
 
-pub ground-agrees : (k g : Label) (F : Vector → Label → Type 0) → ((d : Vector) → IsDirection d → F d g) → ((d : Vector) (m n : Label) → IsDirection d → F d m → F d n → m ≡ n) → Agrees (ground_map k g) F
-ground-agrees k g F all one = record {
+pub face-agrees : (k g : Label) (F : Vector → Label → Type 0) → ((d : Vector) → IsDirection d → F d g) → ((d : Vector) (m n : Label) → IsDirection d → F d m → F d n → m ≡ n) → Agrees (ground_map k g) F
+face-agrees k g F all one = record {
   svertices = λ i v a. absurd a;
   marks = λ i x d a o. absurd a;
   beside = λ i x d e a o f. absurd a;
   lone = λ i v m e a q f. absurd a;
   free = λ d G m f e h. (1, λ i l. subst (F (blend i d 1 e)) (one d g m G.direction (all d G.direction) f) (all (blend i d 1 e) (between-direction d e i 1 (omega arith) h)));
-  ground = λ m d e h. subst (F d) (some-some g m e) (all d h);
+  face = λ m d e h. subst (F d) (some-some g m e) (all d h);
 }
   where
     some-some : (x y : Label) → ◌≡◌ {A = Option Label} (Some x) (Some y) → x ≡ y
@@ -47,7 +47,7 @@ ground-agrees k g F all one = record {
 
 -- ---- one plane
 abbrev pub loop_map : Label → Loop → Map
-loop_map k l = record { mark = k; svertices = []; arcs = []; loop = Some l; ground = None }
+loop_map k l = record { mark = k; svertices = []; arcs = []; loop = Some l; face = None }
 
 module _ (k : Label) (l : Loop) where
   only : (i : ℕ) (x : Item) → At (items (loop_map k l)) i x → (i ≡ zero) × (loop_item l ≡ x)
@@ -78,7 +78,7 @@ module _ (k : Label) (l : Loop) where
     beside = λ i x d e a o f. near i x d e (only i x a) o f;
     lone = λ i v m e a q f. absurd a;
     free = free;
-    ground = λ m d e h. cc;
+    face = λ m d e h. cc;
   }
     where
       mark : (i : ℕ) (x : Item) (d : Vector) → (i ≡ zero) × (loop_item l ≡ x) → OnItem (loop_map k l) x d → F d (item_mark x)

@@ -88,7 +88,7 @@ module _ (M N : Map) (V : Valid M) (W : Valid N) (L : Least M) (K : Least N) (s 
         around = around-same k m.number v m.svertex a m.listed w;
       }
 
--- ---- the ground
+-- ---- the face
 pub no-items : (M : Map) → Valid M → M.svertices ≡ [] → M.loop ≡ None → (k : ℕ) (x : Item) → At (items M) k x → ⊥
 no-items M V e f k (arc_item a) h = let b = V.shaped.arcs_between k a (arc-at M.arcs M.loop k a h) in subst (λ (r : List Svertex). At r a.source b.source) e b.has_source
 no-items M V e f k (loop_item l) h = let q = loop-at M.arcs M.loop k l h in cc
@@ -96,8 +96,8 @@ no-items M V e f k (loop_item l) h = let q = loop-at M.arcs M.loop k l h in cc
 empty-free : (M : Map) → Valid M → M.svertices ≡ [] → M.loop ≡ None → (d : Vector) → IsDirection d → IsFree M d
 empty-free M V e f d h = record { direction = h; off_svertices = λ k v a w. subst (λ (r : List Svertex). At r k v) e a; off_items = λ k x a o. no-items M V e f k x a }
 
-pub ground-label : (M : Map) → Valid M → (m : Label) → M.ground ≡ Some m → (d : Vector) → IsDirection d → MapLabel M d m
-ground-label M V m g d h =
+pub face-label : (M : Map) → Valid M → (m : Label) → M.face ≡ Some m → (d : Vector) → IsDirection d → MapLabel M d m
+face-label M V m g d h =
     let e = V.shaped.ground_not m g in
     let F = empty-free M V e.0 e.1 d h in
     seen (record { side = whole; has = g; sees = directly d (clear-self M d F) tt })
@@ -116,17 +116,17 @@ module _ (M N : Map) (V : Valid M) (W : Valid N) (L : Least M) (K : Least N) (s 
       no-loop (Some l) q = let r = loop-matched N M W V K L (labels-turned M N V W s) l q in let z = r.listed in cc
 
 module _ (M N : Map) (V : Valid M) (W : Valid N) (L : Least M) (K : Least N) (s : SameLabels M N) where
-  ground-same : M.ground ≡ N.ground
-  ground-same = by M.ground N.ground refl refl
+  face-same : M.face ≡ N.face
+  face-same = by M.face N.face refl refl
     where
       t : SameLabels N M
       t = labels-turned M N V W s
 
-      by : (o p : Option Label) → M.ground ≡ o → N.ground ≡ p → M.ground ≡ N.ground
+      by : (o p : Option Label) → M.face ≡ o → N.face ≡ p → M.face ≡ N.face
       by None None e f = e ∙ sym f
       by (Some m) (Some n) e f =
           let h : IsDirection axis_x = λ z. let q = z.0 in omega (arith, ints) in
-          e ∙ ap (λ (r : Label). Some r) (label-unique N W axis_x m n (s axis_x m (ground-label M V m e axis_x h)) (ground-label N W n f axis_x h)) ∙ sym f
+          e ∙ ap (λ (r : Label). Some r) (label-unique N W axis_x m n (s axis_x m (face-label M V m e axis_x h)) (face-label N W n f axis_x h)) ∙ sym f
       by (Some m) None e f =
           let q = V.shaped.ground_not m e in let r = empty-carried M N V W L K s q.0 q.1 in let z = (W.shaped.ground_alone r.0 r.1).1 in cc
       by None (Some n) e f =
@@ -138,7 +138,7 @@ module _ (M N : Map) (V : Valid M) (W : Valid N) (L : Least M) (K : Least N) (s 
     svertices = λ k v a. svertex-same M N V W L K s k v a;
     arcs = λ k a h. arc-matched M N V W L K s k a h;
     loop = λ l e. loop-matched M N V W L K s l e;
-    ground = ground-same;
+    face = face-same;
   }
 
 -- ---- svertices are read off the labels

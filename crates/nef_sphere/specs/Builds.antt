@@ -36,9 +36,9 @@ pub record IsBuilt (M : Map) (F : Vector → Label → Type 0) : Type 0 where
   pub around_lone : (k : ℕ) (v : Svertex) → At M.svertices k v → (HasArc M k → ⊥) → (m : Label) × (v.around ≡ Some m)
   pub around_not : (k : ℕ) (v : Svertex) → At M.svertices k v → HasArc M k → v.around ≡ None
   pub around_near : (k : ℕ) (v : Svertex) (m : Label) (e : Vector) → At M.svertices k v → v.around ≡ Some m → IsDirection (cross v.way e) → Near F v.way e m
-  pub ground_alone : M.svertices ≡ [] → M.loop ≡ None → (m : Label) × (M.ground ≡ Some m)
-  pub ground_not : (m : Label) → M.ground ≡ Some m → (M.svertices ≡ []) × (M.loop ≡ None)
-  pub ground_label : (m : Label) (d : Vector) → M.ground ≡ Some m → IsDirection d → F d m
+  pub ground_alone : M.svertices ≡ [] → M.loop ≡ None → (m : Label) × (M.face ≡ Some m)
+  pub ground_not : (m : Label) → M.face ≡ Some m → (M.svertices ≡ []) × (M.loop ≡ None)
+  pub ground_label : (m : Label) (d : Vector) → M.face ≡ Some m → IsDirection d → F d m
 
 -- no svertex is plain or straight
 abbrev pub Kept : Map → (Vector → Label → Type 0) → Type 0

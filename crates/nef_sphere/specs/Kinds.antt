@@ -16,7 +16,7 @@ FlatMap M d = (e : Vector) (b : ℕ) (a : ℤ) → 0 < b → (m : Label) → Ful
 pub record IsInVolume (M : Map) : Type 0 where
   pub no_svertex : M.svertices ≡ []
   pub no_loop : M.loop ≡ None
-  pub same_mark : M.ground ≡ Some M.mark
+  pub same_mark : M.face ≡ Some M.mark
 
 pub record IsInFacet (M : Map) (n : Vector) : Type 0 where
   pub no_svertex : M.svertices ≡ []

@@ -20,14 +20,14 @@ Near F d e m = (n : ℕ) × ((k : ℕ) → n ≤ k → F (blend k d 1 e) m)
 abbrev pub Plain : (Vector → Label → Type 0) → Vector → Type 0
 Plain F d = (m : Label) → F d m → (e : Vector) → IsDirection (cross d e) → Near F d e m
 
--- at each place of the map, and near it, the labels are those of the map's svertex, item, face or ground
+-- at each place of the map, and near it, the labels are those of the map's svertex, item, or face
 pub record Agrees (M : Map) (F : Vector → Label → Type 0) : Type 0 where
   pub svertices : (k : ℕ) (v : Svertex) → At M.svertices k v → F v.way v.mark
   pub marks : (k : ℕ) (x : Item) (d : Vector) → At (items M) k x → OnItem M x d → F d (item_mark x)
   pub beside : (k : ℕ) (x : Item) (d e : Vector) → At (items M) k x → OnItem M x d → IsDirection (cross d e) → Near F d e (by_side (item_above x) (item_mark x) (item_below x) (sign (dot (item_normal x) e)))
   pub lone : (k : ℕ) (v : Svertex) (m : Label) (e : Vector) → At M.svertices k v → v.around ≡ Some m → IsDirection (cross v.way e) → Near F v.way e m
   pub free : (d : Vector) → IsFree M d → Plain F d
-  pub ground : (m : Label) (d : Vector) → M.ground ≡ Some m → IsDirection d → F d m
+  pub face : (m : Label) (d : Vector) → M.face ≡ Some m → IsDirection d → F d m
 
 -- op of the labels of two maps
 abbrev pub ByOp : Map → Map → (Label → Label → Label) → Vector → Label → Type 0

@@ -75,7 +75,7 @@ pub record Within (M N : Map) : Type 0 where
   pub svertices : (k : ℕ) (v : Svertex) → At M.svertices k v → MatchedSvertex N v
   pub arcs : (k : ℕ) (a : Arc) → At M.arcs k a → MatchedArc M N a
   pub loop : (l : Loop) → M.loop ≡ Some l → MatchedLoop N l
-  pub ground : M.ground ≡ N.ground
+  pub face : M.face ≡ N.face
 
 -- the orders of the lists, and directions in lowest terms
 abbrev pub ArcBelow : Arc → Arc → Type 0

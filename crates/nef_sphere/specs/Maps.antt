@@ -35,7 +35,7 @@ pub record Map : Type 0 where
   pub svertices : List Svertex
   pub arcs : List Arc
   pub loop : Option Loop
-  pub ground : Option Label
+  pub face : Option Label
 
 -- an item is an arc or the sloop
 pub data Item : Type 0 where
@@ -87,7 +87,7 @@ pub record IsFree (M : Map) (d : Vector) : Type 0 where
   pub off_items : (k : ℕ) (x : Item) → At (items M) k x → OnItem M x d → ⊥
 
 -- ---- sides and sight
--- what a side is a side of: the svertex or the item with a number, or the ground
+-- what a side is a side of: the svertex or the item with a number, or the whole sphere
 pub data Side : Type 0 where
   around_svertex : ℕ → Side
   above_item : ℕ → Side
@@ -99,7 +99,7 @@ abbrev pub HasSide : Map → Side → Label → Type 0
 HasSide M (around_svertex k) m = (v : Svertex) × At M.svertices k v × (v.around ≡ Some m)
 HasSide M (above_item k) m = (x : Item) × At (items M) k x × (item_above x ≡ m)
 HasSide M (below_item k) m = (x : Item) × At (items M) k x × (item_below x ≡ m)
-HasSide M whole m = M.ground ≡ Some m
+HasSide M whole m = M.face ≡ Some m
 
 -- the short way from the free direction a to the direction b passes free directions alone
 pub record IsClear (M : Map) (a b : Vector) : Type 0 where
@@ -167,8 +167,8 @@ pub record Shaped (M : Map) : Type 0 where
   pub no_items_meet : (i k : ℕ) (x y : Item) (d : Vector) → At (items M) i x → At (items M) k y → OnItem M x d → OnItem M y d → i ≡ k
   pub around_lone : (k : ℕ) (v : Svertex) → At M.svertices k v → (HasArc M k → ⊥) → (m : Label) × (v.around ≡ Some m)
   pub around_not : (k : ℕ) (v : Svertex) → At M.svertices k v → HasArc M k → v.around ≡ None
-  pub ground_alone : M.svertices ≡ [] → M.loop ≡ None → (m : Label) × (M.ground ≡ Some m)
-  pub ground_not : (m : Label) → M.ground ≡ Some m → (M.svertices ≡ []) × (M.loop ≡ None)
+  pub ground_alone : M.svertices ≡ [] → M.loop ≡ None → (m : Label) × (M.face ≡ Some m)
+  pub ground_not : (m : Label) → M.face ≡ Some m → (M.svertices ≡ []) × (M.loop ≡ None)
 
 -- a valid map, but for the orders of the lists and the sizes of the numbers, which say nothing of directions
 pub record Valid (M : Map) : Type 0 where

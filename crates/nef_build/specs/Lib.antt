@@ -1,0 +1,4 @@
+pub mod Raw
+pub mod Overlays
+pub mod From
+pub mod Laws

@@ -1,0 +1,54 @@
+-- The sides of a map with their numbers, the place of a direction, and the faces of a map.
+use Rattle.std.specs.Prelude.{◌≡◌, ℕ, suc, ◌<◌, List, [], ◌∷◌, ◌++◌, length, Option, Some, None}
+use Rattle.nef_space.specs.Lists.{IsAt, NumbersClasses}
+use Rattle.nef_space.specs.Vectors.{Vector, SameDirection}
+use Rattle.nef_space.specs.declared.label.Label.{Label}
+use Rattle.nef_sphere.specs.Maps.{At, Svertex, Arc, Loop, Item, arc_item, loop_item, Map, items, item_above, item_below, OnItem, Side, around_svertex, above_item, below_item, whole, Sees}
+use Rattle.nef_smap.specs.declared.map.SPlace.{SPlace}
+use Rattle.nef_smap.specs.declared.map.SPlace.TheVariants as place
+
+-- a side with its label
+abbrev pub LabelledSide : Type 0
+LabelledSide = Side × Label
+
+abbrev pub labelled : Side → Option Label → List LabelledSide
+labelled o None = []
+labelled o (Some l) = (o, l) ∷ []
+
+-- the sides of svertices, from number k on
+abbrev pub svertex_sides : ℕ → List Svertex → List LabelledSide
+svertex_sides k [] = []
+svertex_sides k (v ∷ vs) = labelled (around_svertex k) v.around ++ svertex_sides (suc k) vs
+
+-- the sides of items, from number k on
+abbrev pub item_sides : ℕ → List Item → List LabelledSide
+item_sides k [] = []
+item_sides k (x ∷ xs) = (above_item k, item_above x) ∷ (below_item k, item_below x) ∷ item_sides (suc k) xs
+
+-- the sides by their numbers: those of svertices without arcs, then both of each item, then the whole
+abbrev pub sides_of : Map → List LabelledSide
+sides_of M = svertex_sides 0 M.svertices ++ item_sides 0 (items M) ++ labelled whole M.face
+
+-- side s is this side, with this label
+abbrev pub IsSide : Map → ℕ → Side → Label → Type 0
+IsSide M s o l = IsAt (sides_of M) s (o, l)
+
+-- side s sees d
+abbrev pub SideSees : Map → ℕ → Vector → Type 0
+SideSees M s d = (o : Side) × (l : Label) × IsSide M s o l × Sees M o d
+
+-- the direction d lies at this place of the map
+abbrev pub IsPlaceOf : Map → Vector → SPlace → Type 0
+IsPlaceOf M d (place.SVertex k) = (v : Svertex) × At M.svertices k v × SameDirection v.way d
+IsPlaceOf M d (place.Arc k) = (a : Arc) × At M.arcs k a × OnItem M (arc_item a) d
+IsPlaceOf M d place.Loop = (l : Loop) × (M.loop ≡ Some l) × OnItem M (loop_item l) d
+IsPlaceOf M d (place.Face s) = SideSees M s d
+
+-- sides s and t see one direction
+abbrev pub SeeOneWay : Map → ℕ → ℕ → Type 0
+SeeOneWay M s t = (d : Vector) × SideSees M s d × SideSees M t d
+
+-- each side's face, numbered by first appearance
+pub record AreSfaces (M : Map) (ns : List ℕ) : Type 0 where
+  pub as_many : length ns ≡ length (sides_of M)
+  pub numbered : NumbersClasses (SeeOneWay M) (λ s t. s < t) 0 (λ s n. IsAt ns s n)
