@@ -23,7 +23,7 @@ use Rattle.nef_sphere.proofs.Kind.{away}
 use Rattle.nef_sphere.proofs.Flips.{away-direction, dot-away, reversed}
 
 -- what is at right angles to the axis goes the way of its part across
-across-same : (d e : Vector) → IsDirection d → IsDirection e → dot d e ≡ pos 0 → SameDirection e (across d e)
+pub across-same : (d e : Vector) → IsDirection d → IsDirection e → dot d e ≡ pos 0 → SameDirection e (across d e)
 across-same d e hd he z = record { parallel = par; forward = subst (λ (r : ℤ). pos 0 <ℤ r) (sym fwd) (mul_pos (dot d d) (dot e e) (self-pos d hd) (self-pos e he)) }
   where
     par : IsZero (cross e (across d e))
@@ -47,7 +47,7 @@ across-same d e hd he z = record { parallel = par; forward = subst (λ (r : ℤ)
         ((dx ⊗ dx ⊕ dy ⊗ dy ⊕ dz ⊗ dz) ⊗ (ex ⊗ ex ⊕ ey ⊗ ey ⊕ ez ⊗ ez)) (given (num (pos 0) ⊖ de) de (num (pos 0)) z none) tt
 
 -- ---- the neighbours of a ray
-last-of : (rs : List Ray) (r : Ray) → At rs zero r → (j : ℕ) × (q : Ray) × At rs j q × (suc j ≡ length rs)
+pub last-of : (rs : List Ray) (r : Ray) → At rs zero r → (j : ℕ) × (q : Ray) × At rs j q × (suc j ≡ length rs)
 last-of [] r a = absurd a
 last-of (p ∷ []) r a = (zero, p, refl, refl)
 last-of (p ∷ q ∷ rs) r a = let x = last-of (q ∷ rs) q refl in (suc x.0, x.1, x.2, ap suc x.3)
@@ -56,7 +56,7 @@ first-of_ray : (rs : List Ray) (k : ℕ) (r : Ray) → At rs k r → (p : Ray) �
 first-of_ray [] k r a = absurd a
 first-of_ray (p ∷ rs) k r a = (p, refl)
 
-before : (rs : List Ray) (k : ℕ) (r : Ray) → At rs (suc k) r → (q : Ray) × At rs k q
+pub before : (rs : List Ray) (k : ℕ) (r : Ray) → At rs (suc k) r → (q : Ray) × At rs k q
 before [] k r a = absurd a
 before (p ∷ rs) zero r a = (p, refl)
 before (p ∷ rs) (suc k) r a = before rs k r a
@@ -67,10 +67,10 @@ after-or (p ∷ []) zero r a = inr refl
 after-or (p ∷ q ∷ rs) zero r a = inl (q, refl)
 after-or (p ∷ rs) (suc k) r a = ⊎_elim (λ x. inl x) (λ e. inr (ap suc e)) (after-or rs k r a)
 
-next-ray : (rs : List Ray) (k : ℕ) (r : Ray) → At rs k r → (q : Ray) × (j : ℕ) × At rs j q × NextRay rs k q
+pub next-ray : (rs : List Ray) (k : ℕ) (r : Ray) → At rs k r → (q : Ray) × (j : ℕ) × At rs j q × NextRay rs k q
 next-ray rs k r a = ⊎_elim (λ x. (x.0, suc k, x.1, inl x.1)) (λ e. let f = first-of_ray rs k r a in (f.0, zero, f.1, inr (e, f.1))) (after-or rs k r a)
 
-previous : (rs : List Ray) (k : ℕ) (r : Ray) → At rs k r → (j : ℕ) × (q : Ray) × At rs j q × Follows rs j k × NextRay rs j r
+pub previous : (rs : List Ray) (k : ℕ) (r : Ray) → At rs k r → (j : ℕ) × (q : Ray) × At rs j q × Follows rs j k × NextRay rs j r
 previous rs zero r a = let x = last-of rs r a in (x.0, x.1, x.2, inr (x.3, refl), inr (x.3, a))
 previous rs (suc k) r a = let x = before rs k r a in (k, x.0, x.1, inl refl, inl a)
 

@@ -1,0 +1,2 @@
+pub mod BuiltLabels
+pub mod KeptStars
