@@ -1,2 +1,4 @@
 pub mod BuiltLabels
 pub mod KeptStars
+pub mod RayClose
+pub mod RayStraight

@@ -74,22 +74,33 @@ pub previous : (rs : List Ray) (k : ℕ) (r : Ray) → At rs k r → (j : ℕ) �
 previous rs zero r a = let x = last-of rs r a in (x.0, x.1, x.2, inr (x.3, refl), inr (x.3, a))
 previous rs (suc k) r a = let x = before rs k r a in (k, x.0, x.1, inl refl, inl a)
 
+-- a ray leaves at right angles to the axis
+pub ray-level : (t : Star) → IsDirection t.axis → (r : Ray) → IsRay t r → (dot t.axis (ray_way t r) ≡ pos 0) × IsDirection (ray_way t r)
+ray-level t axis r = by r.ahead
+  where
+    by : (b : Bool) → IsRay t r → (dot t.axis (cond b (cross r.normal t.axis) (cross t.axis r.normal)) ≡ pos 0) × IsDirection (cond b (cross r.normal t.axis) (cross t.axis r.normal))
+    by true q = (
+      ring (t.axis.x ∷ t.axis.y ∷ t.axis.z ∷ r.normal.x ∷ r.normal.y ∷ r.normal.z ∷ []) (at 0 ⊗ (at 4 ⊗ at 2 ⊖ at 5 ⊗ at 1) ⊕ at 1 ⊗ (at 5 ⊗ at 0 ⊖ at 3 ⊗ at 2) ⊕ at 2 ⊗ (at 3 ⊗ at 1 ⊖ at 4 ⊗ at 0)) (num (pos 0)) tt,
+      λ z. axis (nought-if r.normal t.axis (normal-direction r.normal q.normal) z q.level),
+    )
+    by false q = (
+      ring (t.axis.x ∷ t.axis.y ∷ t.axis.z ∷ r.normal.x ∷ r.normal.y ∷ r.normal.z ∷ []) (at 0 ⊗ (at 1 ⊗ at 5 ⊖ at 2 ⊗ at 4) ⊕ at 1 ⊗ (at 2 ⊗ at 3 ⊖ at 0 ⊗ at 5) ⊕ at 2 ⊗ (at 0 ⊗ at 4 ⊖ at 1 ⊗ at 3)) (num (pos 0)) tt,
+      λ z. normal-direction r.normal q.normal (nought-if t.axis r.normal axis z (dot-comm t.axis r.normal ∙ q.level)),
+    )
+
+-- the other way round twice
+pub away-twice : (d : Vector) → away (away d) ≡ d
+away-twice d = vector-same (away (away d)) d (one d.x) (one d.y) (one d.z)
+  where
+    one : (x : ℤ) → negsuc 0 *ℤ (negsuc 0 *ℤ x +ℤ pos 0 *ℤ x) +ℤ pos 0 *ℤ (negsuc 0 *ℤ x +ℤ pos 0 *ℤ x) ≡ x
+    one x = ring (x ∷ []) (num (negsuc 0) ⊗ (num (negsuc 0) ⊗ at 0 ⊕ num (pos 0) ⊗ at 0) ⊕ num (pos 0) ⊗ (num (negsuc 0) ⊗ at 0 ⊕ num (pos 0) ⊗ at 0)) (at 0) tt
+
 module _ (t : Star) (M : Map) (V : Valid M) (S : StarShows t M) (simple : IsSimplified t) where
   abbrev d : Vector
   d = t.axis
 
   pub way-level : (k : ℕ) (r : Ray) → At t.rays k r → (dot d (ray_way t r) ≡ pos 0) × IsDirection (ray_way t r)
-  way-level k r a = by r.ahead (S.rays k r a)
-    where
-      by : (b : Bool) → IsRay t r → (dot d (cond b (cross r.normal d) (cross d r.normal)) ≡ pos 0) × IsDirection (cond b (cross r.normal d) (cross d r.normal))
-      by true q = (
-        ring (d.x ∷ d.y ∷ d.z ∷ r.normal.x ∷ r.normal.y ∷ r.normal.z ∷ []) (at 0 ⊗ (at 4 ⊗ at 2 ⊖ at 5 ⊗ at 1) ⊕ at 1 ⊗ (at 5 ⊗ at 0 ⊖ at 3 ⊗ at 2) ⊕ at 2 ⊗ (at 3 ⊗ at 1 ⊖ at 4 ⊗ at 0)) (num (pos 0)) tt,
-        λ z. S.axis (nought-if r.normal d (normal-direction r.normal q.normal) z q.level),
-      )
-      by false q = (
-        ring (d.x ∷ d.y ∷ d.z ∷ r.normal.x ∷ r.normal.y ∷ r.normal.z ∷ []) (at 0 ⊗ (at 1 ⊗ at 5 ⊖ at 2 ⊗ at 4) ⊕ at 1 ⊗ (at 2 ⊗ at 3 ⊖ at 0 ⊗ at 5) ⊕ at 2 ⊗ (at 0 ⊗ at 4 ⊖ at 1 ⊗ at 3)) (num (pos 0)) tt,
-        λ z. normal-direction r.normal q.normal (nought-if d r.normal S.axis z (dot-comm d r.normal ∙ q.level)),
-      )
+  way-level k r a = ray-level t S.axis r (S.rays k r a)
 
   pub off-axis : (e : Vector) → IsDirection e → dot d e ≡ pos 0 → IsDirection (cross d e)
   off-axis e h z = apart d d e (λ y. let p = self-pos d S.axis in omega (arith, ints)) z h
@@ -140,14 +151,8 @@ module _ (t : Star) (M : Map) (V : Valid M) (S : StarShows t M) (simple : IsSimp
         let p = reversed m w (ray_way t q) e x.1 o in
         (e, IsStrictlyOn-same (away m) d (ray_way t q) (ray_way t q) w w e e (twice d S.axis) (way-self (ray_way t q) y.1) (way-self w x.1) (way-self e o.on_circle.direction) p, far-keeps (u ∷ []) w c K (omega arith) u (inl refl) f)
       where
-        same-vector : (d : Vector) → away (away d) ≡ d
-        same-vector d = vector-same (away (away d)) d (one d.x) (one d.y) (one d.z)
-          where
-            one : (x : ℤ) → negsuc 0 *ℤ (negsuc 0 *ℤ x +ℤ pos 0 *ℤ x) +ℤ pos 0 *ℤ (negsuc 0 *ℤ x +ℤ pos 0 *ℤ x) ≡ x
-            one x = ring (x ∷ []) (num (negsuc 0) ⊗ (num (negsuc 0) ⊗ at 0 ⊕ num (pos 0) ⊗ at 0) ⊕ num (pos 0) ⊗ (num (negsuc 0) ⊗ at 0 ⊕ num (pos 0) ⊗ at 0)) (at 0) tt
-
         twice : (d : Vector) → IsDirection d → SameDirection (away (away d)) d
-        twice d h = subst (λ (v : Vector). SameDirection v d) (sym (same-vector d)) (way-self d h)
+        twice d h = subst (λ (v : Vector). SameDirection v d) (sym (away-twice d)) (way-self d h)
 
   -- one label on a ray and close to it on both sides: not in a simplified star
   not-even : (k : ℕ) (r : Ray) (a : At t.rays k r) (u : Vector) → (dot u (ray_way t r) ≡ pos 0 → ⊥) → (m : Label) → NearLabel M d (ray_way t r) m

@@ -1,6 +1,7 @@
 -- The laws of building, from the lemmas.
 use Rattle.nef_build.proofs.BuiltLabels.{labels-build}
 use Rattle.nef_build.proofs.KeptStars.{kept-show}
+use Rattle.nef_build.proofs.RayStraight.{ray-there}
 use Rattle.nef_build.proofs.building.building_laws.Goals as goal
 
 pub returns-clause-build : goal.returns-clause-build
