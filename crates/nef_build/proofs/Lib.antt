@@ -2,3 +2,4 @@ pub mod BuiltLabels
 pub mod KeptStars
 pub mod RayClose
 pub mod RayStraight
+pub mod StarSmooth

@@ -39,6 +39,10 @@ level-blend n z w i j p q = dot-comb n (pos i) z (pos j) w ∙ ap (λ r. pos i *
 pub off-axis : (d e : Vector) → IsDirection d → IsDirection e → dot d e ≡ pos 0 → IsDirection (cross d e)
 off-axis d e hd he z = apart d d e (λ y. let p = self-pos d hd in omega (arith, ints)) z he
 
+beside-level : (u d : Vector) → dot d (cross u d) ≡ pos 0
+beside-level u d = ring (u.x ∷ u.y ∷ u.z ∷ d.x ∷ d.y ∷ d.z ∷ [])
+    (at 3 ⊗ (at 1 ⊗ at 5 ⊖ at 2 ⊗ at 4) ⊕ at 4 ⊗ (at 2 ⊗ at 3 ⊖ at 0 ⊗ at 5) ⊕ at 5 ⊗ (at 0 ⊗ at 4 ⊖ at 1 ⊗ at 3)) (num (pos 0)) tt
+
 -- ---- sectors go on close to a direction
 across-swap : (d g y : Vector) → dot g (across d y) ≡ dot (across d g) y
 across-swap d g y =
@@ -93,18 +97,10 @@ module _ (gs : List Vector) (L : Vector → Label) (I : IsLabelling gs L) (t : S
       w = cross u d
 
       off : IsDirection (cross d (cross u d))
-      off = off-axis d (cross u d) S.star.axis hw (square-last u d)
-        where
-          square-last : (u d : Vector) → dot d (cross u d) ≡ pos 0
-          square-last u d = ring (u.x ∷ u.y ∷ u.z ∷ d.x ∷ d.y ∷ d.z ∷ [])
-              (at 3 ⊗ (at 1 ⊗ at 5 ⊖ at 2 ⊗ at 4) ⊕ at 4 ⊗ (at 2 ⊗ at 3 ⊖ at 0 ⊗ at 5) ⊕ at 5 ⊗ (at 0 ⊗ at 4 ⊖ at 1 ⊗ at 3)) (num (pos 0)) tt
+      off = off-axis d (cross u d) S.star.axis hw (beside-level u d)
 
       x : Near F d (cross u d) m
-      x = S.labels (cross u d) m off (on_ray k r h (subst (λ (v : Vector). SameDirection v (across d (cross u d))) (sym way) (across-same d (cross u d) S.star.axis hw (dot-comm d (cross u d) ∙ cross-last u d))) e)
-        where
-          cross-last : (u d : Vector) → dot (cross u d) d ≡ pos 0
-          cross-last u d = ring (u.x ∷ u.y ∷ u.z ∷ d.x ∷ d.y ∷ d.z ∷ [])
-              ((at 1 ⊗ at 5 ⊖ at 2 ⊗ at 4) ⊗ at 3 ⊕ (at 2 ⊗ at 3 ⊖ at 0 ⊗ at 5) ⊗ at 4 ⊕ (at 0 ⊗ at 4 ⊖ at 1 ⊗ at 3) ⊗ at 5) (num (pos 0)) tt
+      x = S.labels (cross u d) m off (on_ray k r h (subst (λ (v : Vector). SameDirection v (across d (cross u d))) (sym way) (across-same d (cross u d) S.star.axis hw (beside-level u d))) e)
 
       side : (v : Vector) → by_side a r.mark b (sign (triple d (ray_way t r) v)) ≡ by_side a m b (sign (dot u v))
       side v = ap (λ l. by_side a l b (sign (triple d (ray_way t r) v))) e
@@ -128,7 +124,7 @@ module _ (gs : List Vector) (L : Vector → Label) (I : IsLabelling gs L) (t : S
       hw z = S.star.axis (nought-if n d hn z ln)
 
       lw : dot d (cross n d) ≡ pos 0
-      lw = ring (n.x ∷ n.y ∷ n.z ∷ d.x ∷ d.y ∷ d.z ∷ []) (at 3 ⊗ (at 1 ⊗ at 5 ⊖ at 2 ⊗ at 4) ⊕ at 4 ⊗ (at 2 ⊗ at 3 ⊖ at 0 ⊗ at 5) ⊕ at 5 ⊗ (at 0 ⊗ at 4 ⊖ at 1 ⊗ at 3)) (num (pos 0)) tt
+      lw = beside-level n d
 
       off : IsDirection (cross d (cross n d))
       off = off-axis d (cross n d) S.star.axis hw lw
