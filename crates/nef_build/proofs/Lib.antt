@@ -3,3 +3,4 @@ pub mod KeptStars
 pub mod RayClose
 pub mod RayStraight
 pub mod StarSmooth
+pub mod BuiltAxes
