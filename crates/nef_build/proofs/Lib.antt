@@ -4,3 +4,4 @@ pub mod RayClose
 pub mod RayStraight
 pub mod StarSmooth
 pub mod BuiltAxes
+pub mod BuiltArcs
