@@ -27,12 +27,12 @@ pub record IsMade (gs : List Vector) (L : Vector → Label) (R : RawMap) (M : Ma
   pub simple : AreSimplified R.stars
   pub built : IsBuiltFrom R M
 
-at-map : {A B : Type 0} (f : A → B) (xs : List A) (k : ℕ) (y : B) → At (map f xs) k y → (x : A) × At xs k x × (f x ≡ y)
+pub at-map : {A B : Type 0} (f : A → B) (xs : List A) (k : ℕ) (y : B) → At (map f xs) k y → (x : A) × At xs k x × (f x ≡ y)
 at-map f [] k y a = absurd a
 at-map f (x ∷ xs) zero y e = (x, refl, e)
 at-map f (x ∷ xs) (suc k) y a = at-map f xs k y a
 
-map-at : {A B : Type 0} (f : A → B) (xs : List A) (k : ℕ) (x : A) → At xs k x → At (map f xs) k (f x)
+pub map-at : {A B : Type 0} (f : A → B) (xs : List A) (k : ℕ) (x : A) → At xs k x → At (map f xs) k (f x)
 map-at f [] k x a = absurd a
 map-at f (z ∷ xs) zero x e = ap f e
 map-at f (z ∷ xs) (suc k) x a = map-at f xs k x a

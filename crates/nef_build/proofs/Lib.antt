@@ -5,3 +5,4 @@ pub mod RayStraight
 pub mod StarSmooth
 pub mod BuiltAxes
 pub mod BuiltArcs
+pub mod BuiltAround

@@ -2,7 +2,7 @@
 use Rattle.nef_build.proofs.BuiltLabels.{labels-build}
 use Rattle.nef_build.proofs.KeptStars.{kept-show}
 use Rattle.nef_build.proofs.RayStraight.{ray-there}
-use Rattle.nef_build.proofs.BuiltArcs.{arcs-all}
+use Rattle.nef_build.proofs.BuiltAround.{around-near}
 use Rattle.nef_build.proofs.building.building_laws.Goals as goal
 
 pub returns-clause-build : goal.returns-clause-build
