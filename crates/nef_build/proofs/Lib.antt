@@ -6,3 +6,6 @@ pub mod StarSmooth
 pub mod BuiltAxes
 pub mod BuiltArcs
 pub mod BuiltAround
+pub mod BuiltLoops
+pub mod BuiltGround
+pub mod BuiltMap

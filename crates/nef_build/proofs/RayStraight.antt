@@ -39,7 +39,7 @@ level-blend n z w i j p q = dot-comb n (pos i) z (pos j) w ∙ ap (λ r. pos i *
 pub off-axis : (d e : Vector) → IsDirection d → IsDirection e → dot d e ≡ pos 0 → IsDirection (cross d e)
 off-axis d e hd he z = apart d d e (λ y. let p = self-pos d hd in omega (arith, ints)) z he
 
-beside-level : (u d : Vector) → dot d (cross u d) ≡ pos 0
+pub beside-level : (u d : Vector) → dot d (cross u d) ≡ pos 0
 beside-level u d = ring (u.x ∷ u.y ∷ u.z ∷ d.x ∷ d.y ∷ d.z ∷ [])
     (at 3 ⊗ (at 1 ⊗ at 5 ⊖ at 2 ⊗ at 4) ⊕ at 4 ⊗ (at 2 ⊗ at 3 ⊖ at 0 ⊗ at 5) ⊕ at 5 ⊗ (at 0 ⊗ at 4 ⊖ at 1 ⊗ at 3)) (num (pos 0)) tt
 

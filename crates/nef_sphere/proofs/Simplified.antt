@@ -155,7 +155,7 @@ module _ (t : Star) (M : Map) (V : Valid M) (S : StarShows t M) (simple : IsSimp
         twice d h = subst (λ (v : Vector). SameDirection v d) (sym (away-twice d)) (way-self d h)
 
   -- one label on a ray and close to it on both sides: not in a simplified star
-  not-even : (k : ℕ) (r : Ray) (a : At t.rays k r) (u : Vector) → (dot u (ray_way t r) ≡ pos 0 → ⊥) → (m : Label) → NearLabel M d (ray_way t r) m
+  pub not-even : (k : ℕ) (r : Ray) (a : At t.rays k r) (u : Vector) → (dot u (ray_way t r) ≡ pos 0 → ⊥) → (m : Label) → NearLabel M d (ray_way t r) m
       → ((e : Vector) → IsDirection (cross d e) → sign (dot u e) ≡ sign (dot u (ray_way t r)) → NearLabel M d e m) → ⊥
   not-even k r a u f m n all =
       let x = next-ray t.rays k r a in

@@ -2,7 +2,8 @@
 use Rattle.nef_build.proofs.BuiltLabels.{labels-build}
 use Rattle.nef_build.proofs.KeptStars.{kept-show}
 use Rattle.nef_build.proofs.RayStraight.{ray-there}
-use Rattle.nef_build.proofs.BuiltAround.{around-near}
+
+use Rattle.nef_build.proofs.BuiltMap.{made-built}
 use Rattle.nef_build.proofs.building.building_laws.Goals as goal
 
 pub returns-clause-build : goal.returns-clause-build
