@@ -9,3 +9,4 @@ pub mod BuiltAround
 pub mod BuiltLoops
 pub mod BuiltGround
 pub mod BuiltMap
+pub mod StarRays

@@ -45,7 +45,7 @@ straight-proper t K simple x y = simple (suc zero) zero K.second K.first K.below
 
 -- ---- normals
 -- where a and b are at right angles to d: (d.d) d.(a x b) = d.((a x d) x (b x d)), and (d.d)(a.b) = (a x d).(b x d)
-beside-turn : (d a b : Vector) → dot a d ≡ pos 0 → dot b d ≡ pos 0 → dot d d *ℤ triple d a b ≡ dot d (cross (cross a d) (cross b d))
+pub beside-turn : (d a b : Vector) → dot a d ≡ pos 0 → dot b d ≡ pos 0 → dot d d *ℤ triple d a b ≡ dot d (cross (cross a d) (cross b d))
 beside-turn d a b la lb =
     let dx = at 0 in let dy = at 1 in let dz = at 2 in let ax = at 3 in let ay = at 4 in let az = at 5 in let bx = at 6 in let by = at 7 in let bz = at 8 in
     let ux = ay ⊗ dz ⊖ az ⊗ dy in let uy = az ⊗ dx ⊖ ax ⊗ dz in let uz = ax ⊗ dy ⊖ ay ⊗ dx in

@@ -4,6 +4,7 @@ use Rattle.nef_build.proofs.KeptStars.{kept-show}
 use Rattle.nef_build.proofs.RayStraight.{ray-there}
 
 use Rattle.nef_build.proofs.BuiltMap.{made-built}
+use Rattle.nef_build.proofs.StarRays.{two-straight}
 use Rattle.nef_build.proofs.building.building_laws.Goals as goal
 
 pub returns-clause-build : goal.returns-clause-build
