@@ -1,5 +1,5 @@
 -- The arcs that a builder makes of the rays of kept stars.
-use Rattle.std.proofs.Common.{◌≡◌, ℕ, zero, suc, ◌<◌, pos, arith, refl, ap, sym, ◌∙◌, ◌⊎◌, inl, inr, ⊎_elim, List, [], ◌∷◌, subst, cond}
+use Rattle.std.proofs.Common.{◌≡◌, ℕ, pos, arith, ap, sym, ◌∙◌, inl, inr, List, subst, cond}
 use Rattle.nef_space.specs.Vectors.{Vector, IsDirection, cross, dot, SameDirection, IsNormal}
 use Rattle.nef_space.specs.declared.label.Label.{Label}
 use Rattle.nef_cyclic.specs.Arcs.{IsStrictlyOn}
@@ -7,7 +7,7 @@ use Rattle.nef_sphere.specs.Vectors.{IsPrimitive, VectorBelow}
 use Rattle.nef_sphere.specs.Maps.{At, Svertex, Arc, Map, way_of, ArcBetween}
 use Rattle.nef_sphere.specs.Least.{ArcBelow}
 use Rattle.nef_sphere.specs.Builds.{StraightAfter, Proper}
-use Rattle.nef_sphere.specs.Stars.{Ray, Star, ray_way, IsRay}
+use Rattle.nef_sphere.specs.Stars.{Star, ray_way, IsRay}
 use Rattle.nef_sphere.proofs.Vectors.{normal-direction, nought-if}
 use Rattle.nef_sphere.proofs.Compare.{SameDirection-turned}
 use Rattle.nef_sphere.proofs.Equal.{lowest-same}
@@ -16,7 +16,7 @@ use Rattle.nef_build.specs.From.{svertex_at, IsArcFrom}
 use Rattle.nef_build.proofs.RayClose.{follows-at}
 use Rattle.nef_build.proofs.RayStraight.{ray-after, ray-there}
 use Rattle.nef_build.proofs.StarSmooth.{ray-ahead}
-use Rattle.nef_build.proofs.BuiltAxes.{IsMade, vector-below_not, number-order, kept-shows, kept-simple, kept-axis, svertex-star, star-svertex, axis-at}
+use Rattle.nef_build.proofs.BuiltAxes.{IsMade, vector-below_not, number-order, kept-shows, kept-simple, svertex-star, star-svertex, axis-at}
 
 arc-below_not : (a b : Arc) → a.normal ≡ b.normal → a.source ≡ b.source → ArcBelow a b → ⊥
 arc-below_not a b e f (inl l) = vector-below_not b.normal (subst (λ (v : Vector). VectorBelow v b.normal) e l)

@@ -1,5 +1,5 @@
 -- A ray that goes back is the end of an arc; so a svertex without arcs has no ray, and one label round it.
-use Rattle.std.proofs.Common.{◌≡◌, ℕ, zero, suc, ◌+◌, ◌≤◌, pos, arith, refl, ap, sym, ◌∙◌, ◌⊎◌, inl, inr, ⊎_elim, List, [], ◌∷◌, map, length, subst, Option, Some, None, Bool, true, false, cond}
+use Rattle.std.proofs.Common.{◌≡◌, ℕ, zero, ◌+◌, pos, arith, refl, ap, sym, ◌∙◌, inl, inr, ⊎_elim, List, [], ◌∷◌, map, length, subst, Some, None, Bool, true, false, cond}
 use Rattle.std.proofs.lemmas.Int.{ints}
 use Rattle.nef_space.specs.Vectors.{Vector, IsDirection, cross, dot, IsZero, SameDirection, IsNormal}
 use Rattle.nef_space.specs.declared.label.Label.{Label}
@@ -20,8 +20,8 @@ use Rattle.nef_sphere.proofs.ArcLabels.{arc-along}
 use Rattle.nef_sphere.proofs.Firsts.{First, first-after}
 use Rattle.nef_sphere.proofs.Flips.{away-direction, reversed, flipped, unflipped, directed-by, far_directed-by, dot-away}
 use Rattle.nef_sphere.proofs.Simplified.{away-twice, previous}
-use Rattle.nef_build.specs.Raw.{RawMap, Of, sector_count, IsWellFormed, ShowsLabels}
-use Rattle.nef_build.specs.From.{around_of, svertex_at, IsArcFrom}
+use Rattle.nef_build.specs.Raw.{RawMap, Of, sector_count, ShowsLabels}
+use Rattle.nef_build.specs.From.{around_of, IsArcFrom}
 use Rattle.nef_build.proofs.BuiltLabels.{with_axes, labelling, axial}
 use Rattle.nef_build.proofs.KeptStars.{at-other}
 use Rattle.nef_build.proofs.RayStraight.{ray-after, ray-there}

@@ -1,19 +1,17 @@
 -- What a builder is given, and the svertices that it makes of the kept stars.
-use Rattle.std.proofs.Common.{◌≡◌, ℕ, zero, suc, ◌<◌, pos, ◌<ℤ◌, arith, refl, ap, sym, ◌∙◌, ◌⊎◌, inl, inr, ⊎_elim, List, [], ◌∷◌, map, subst}
+use Rattle.std.proofs.Common.{◌≡◌, ℕ, zero, suc, ◌<◌, pos, arith, refl, ap, sym, ◌⊎◌, inl, inr, List, [], ◌∷◌, map, subst}
 use Rattle.std.proofs.lemmas.Int.{ints}
 use Rattle.nef_exact.proofs.Order.{by_order}
-use Rattle.nef_space.specs.Vectors.{Vector, IsDirection, cross, dot, SameDirection, IsNormal}
+use Rattle.nef_space.specs.Vectors.{Vector, IsDirection, SameDirection}
 use Rattle.nef_space.specs.declared.label.Label.{Label}
-use Rattle.nef_near.proofs.Decided.{Decided}
-use Rattle.nef_sphere.specs.Vectors.{IsPrimitive, VectorBelow}
+use Rattle.nef_sphere.specs.Vectors.{VectorBelow}
 use Rattle.nef_sphere.specs.Maps.{At, Svertex, Map, way_of}
 use Rattle.nef_sphere.specs.Labelling.{IsSmooth, plain, straight}
 use Rattle.nef_sphere.specs.Stars.{Star, IsPlain, IsStraight, IsSimplified}
 use Rattle.nef_sphere.proofs.Vectors.{normal-direction}
-use Rattle.nef_sphere.proofs.Lists.{Found, search_list, at-one}
+use Rattle.nef_sphere.proofs.Lists.{Found, search_list}
 use Rattle.nef_sphere.proofs.Places.{SameDirection-decided}
 use Rattle.nef_sphere.proofs.Shot.{way-at}
-use Rattle.nef_sphere.proofs.Compare.{SameDirection-turned}
 use Rattle.nef_sphere.proofs.Equal.{lowest-same}
 use Rattle.nef_build.specs.Raw.{RawMap, Of, IsLabelling, ShowsLabels, IsRawOf}
 use Rattle.nef_build.specs.From.{AreSimplified, svertex_at, IsBuiltFrom}

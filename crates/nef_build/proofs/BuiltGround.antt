@@ -1,8 +1,8 @@
 -- Where a builder makes neither svertex nor sloop, all directions have one label.
-use Rattle.std.proofs.Common.{◌≡◌, ℕ, ◌<◌, pos, ◌<ℤ◌, arith, refl, ap, sym, ◌∙◌, ◌⊎◌, inl, inr, ⊎_elim, List, [], map, subst, Option, Some, None}
+use Rattle.std.proofs.Common.{◌≡◌, ℕ, ◌<◌, pos, arith, refl, ap, sym, ◌∙◌, inl, inr, ⊎_elim, List, [], map, subst, Option, Some, None}
 use Rattle.std.proofs.lemmas.Int.{ints}
 use Rattle.nef_exact.proofs.Order.{Sign, minus, nought, plus, sign, mul_pos}
-use Rattle.nef_space.specs.Vectors.{Vector, IsDirection, cross, dot, IsOpposite, IsNormal, blend}
+use Rattle.nef_space.specs.Vectors.{Vector, IsDirection, cross, dot, IsOpposite, blend}
 use Rattle.nef_space.specs.declared.label.Label.{Label}
 use Rattle.nef_forms.proofs.Directions.{dot-comm, dot-zero, self-pos, zero-decided}
 use Rattle.nef_near.proofs.Decided.{Decided}

@@ -1,5 +1,5 @@
 -- Labels that the signs of finitely many forms determine, as a labelling; where they are plain or straight.
-use Rattle.std.proofs.Common.{◌≡◌, ℕ, ◌+◌, ◌≤◌, pos, arith, refl, ap, sym, ◌∙◌, inl, inr, ⊎_elim, List, ◌++◌, subst}
+use Rattle.std.proofs.Common.{◌≡◌, ℕ, ◌+◌, ◌≤◌, pos, arith, refl, ap, sym, ◌∙◌, ⊎_elim, List, ◌++◌, subst}
 use Rattle.nef_exact.proofs.Order.{sign}
 use Rattle.nef_exact.proofs.Lists.{lies-left, lies-right}
 use Rattle.nef_space.specs.Vectors.{Vector, IsDirection, cross, dot, IsZero, SameDirection, blend}
@@ -19,7 +19,7 @@ use Rattle.nef_sphere.proofs.Labels.{way-direction}
 use Rattle.nef_sphere.proofs.Arcs.{level-same}
 use Rattle.nef_sphere.proofs.Lone.{near-same_signs}
 use Rattle.nef_sphere.proofs.KindFlats.{in-span}
-use Rattle.nef_sphere.proofs.Flips.{Axial, directed-by, far_directed-by}
+use Rattle.nef_sphere.proofs.Flips.{Axial, far_directed-by}
 use Rattle.nef_sphere.proofs.BuiltLeast.{built-valid, built-least, built-labels}
 use Rattle.nef_build.specs.Raw.{Of, IsLabelling}
 

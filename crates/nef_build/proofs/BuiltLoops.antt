@@ -1,5 +1,5 @@
 -- The sloop that a builder makes: a circle with other labels beside it that no kept axis lies on.
-use Rattle.std.proofs.Common.{◌≡◌, ℕ, zero, ◌+◌, pos, ◌-ℤ◌, ◌<ℤ◌, arith, refl, ap, sym, ◌∙◌, ◌⊎◌, inl, inr, ⊎_elim, List, [], ◌∷◌, subst, Option, Some, None}
+use Rattle.std.proofs.Common.{◌≡◌, ℕ, zero, pos, arith, refl, ap, sym, ◌∙◌, ◌⊎◌, inl, inr, ⊎_elim, List, subst, Some}
 use Rattle.std.proofs.lemmas.Int.{ints}
 use Rattle.nef_exact.proofs.Order.{sign, sign-plus, sign-minus}
 use Rattle.nef_space.specs.Vectors.{Vector, IsDirection, cross, dot, IsZero, SameDirection, IsNormal}
@@ -7,12 +7,11 @@ use Rattle.nef_space.specs.declared.label.Label.{Label}
 use Rattle.nef_cyclic.specs.Arcs.{IsOnCircle}
 use Rattle.nef_forms.proofs.Far.{nought-or}
 use Rattle.nef_forms.proofs.Directions.{self-pos, zero-decided}
-use Rattle.nef_near.proofs.Decided.{Decided}
 use Rattle.nef_near.proofs.Supports.{square-cross}
 use Rattle.nef_sphere.specs.Vectors.{IsPrimitive}
 use Rattle.nef_sphere.specs.Maps.{At, Svertex, Loop, Map}
 use Rattle.nef_sphere.specs.Least.{by_side}
-use Rattle.nef_sphere.specs.Labelling.{Near, PlainAt, StraightAt, IsSmooth}
+use Rattle.nef_sphere.specs.Labelling.{Near, StraightAt, IsSmooth}
 use Rattle.nef_sphere.specs.Builds.{Proper}
 use Rattle.nef_sphere.specs.Stars.{Star, IsPlain, IsStraight}
 use Rattle.nef_sphere.proofs.Vectors.{normal-direction}

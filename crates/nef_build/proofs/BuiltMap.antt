@@ -1,12 +1,11 @@
 -- What a builder makes of simplified stars is built of their labels, in order.
-use Rattle.std.proofs.Common.{◌≡◌, ℕ, zero, suc, ◌<◌, pos, refl, ap, sym, ◌∙◌, List, [], ◌∷◌, subst, Option, Some, None}
+use Rattle.std.proofs.Common.{◌≡◌, ℕ, pos, ap, sym, List, subst, Some}
 use Rattle.nef_space.specs.Vectors.{Vector, IsDirection, dot, SameDirection, IsNormal}
 use Rattle.nef_space.specs.declared.label.Label.{Label}
 use Rattle.nef_sphere.specs.Vectors.{IsPrimitive, VectorBelow}
-use Rattle.nef_sphere.specs.Maps.{At, Svertex, Arc, Loop, Map, Item, arc_item, loop_item, items, item_normal, OnItem}
+use Rattle.nef_sphere.specs.Maps.{At, Svertex, Loop, Map, Item, arc_item, loop_item, items, item_normal, OnItem}
 use Rattle.nef_sphere.specs.Least.{Ordered}
 use Rattle.nef_sphere.specs.Builds.{IsBuilt}
-use Rattle.nef_sphere.specs.Stars.{Star}
 use Rattle.nef_sphere.proofs.Shot.{arc-at}
 use Rattle.nef_sphere.proofs.Arcs.{loop-at}
 use Rattle.nef_build.specs.Raw.{RawMap, Of}

@@ -4,12 +4,10 @@ use Rattle.nef_space.specs.Vectors.{Vector, IsDirection, cross, dot, SameDirecti
 use Rattle.nef_space.specs.declared.label.Label.{Label}
 use Rattle.nef_sphere.specs.Vectors.{VectorBelow}
 use Rattle.nef_sphere.specs.Maps.{At}
-use Rattle.nef_sphere.specs.Least.{InOrder}
-use Rattle.nef_sphere.specs.Stars.{Star, StarLabel}
+use Rattle.nef_sphere.specs.Stars.{Star}
 use Rattle.nef_sphere.specs.Labelling.{Near}
-use Rattle.nef_sphere.specs.Builds.{Proper}
 use Rattle.nef_build.specs.Raw.{RawMap, Of, ShowsLabels, IsBare, IsRawOf}
-use Rattle.nef_build.specs.From.{IsKeptStar, AreKept, IsKeptRaw}
+use Rattle.nef_build.specs.From.{IsKeptStar, IsKeptRaw}
 
 -- lists of one length have elements at the same places
 pub at-other : {A B : Type 0} (xs : List A) (ys : List B) (k : ℕ) (x : A) → length xs ≡ length ys → At xs k x → (y : B) × At ys k y

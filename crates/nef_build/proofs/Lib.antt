@@ -10,3 +10,4 @@ pub mod BuiltLoops
 pub mod BuiltGround
 pub mod BuiltMap
 pub mod StarRays
+pub mod BuiltKept

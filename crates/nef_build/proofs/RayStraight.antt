@@ -1,33 +1,29 @@
 -- Close to a ray of a star that shows labels they are straight; where labels are straight close to an axis there is a ray.
-use Rattle.std.proofs.Common.{◌≡◌, ℕ, zero, ◌+◌, ◌≤◌, ℤ, pos, ◌+ℤ◌, ◌-ℤ◌, ◌*ℤ◌, ◌<ℤ◌, arith, refl, ap, sym, ◌∙◌, ◌⊎◌, inl, inr, ⊎_elim, List, [], ◌∷◌, subst, Bool, true, false, cond}
+use Rattle.std.proofs.Common.{◌≡◌, ℕ, ◌+◌, ◌≤◌, pos, ◌+ℤ◌, ◌*ℤ◌, arith, ap, sym, ◌∙◌, ◌⊎◌, inl, inr, ⊎_elim, List, [], ◌∷◌, subst}
 use Rattle.std.proofs.lemmas.Int.{ints}
 use Rattle.nef_exact.proofs.Ring.{ring, at, num, ◌⊕◌, ◌⊖◌, ◌⊗◌}
-use Rattle.nef_exact.proofs.Combination.{follows, given, none}
 use Rattle.nef_exact.proofs.Lists.{each, lies-each}
-use Rattle.nef_exact.proofs.Order.{sign, sign-scaled, nought-is}
-use Rattle.nef_space.specs.Vectors.{Vector, IsDirection, cross, triple, dot, IsZero, SameDirection, IsOpposite, IsNormal, blend}
+use Rattle.nef_exact.proofs.Order.{sign, sign-scaled}
+use Rattle.nef_space.specs.Vectors.{Vector, IsDirection, cross, triple, dot, SameDirection, blend}
 use Rattle.nef_space.specs.declared.label.Label.{Label}
-use Rattle.nef_forms.proofs.Directions.{self-pos, dot-comm, dot-zero}
-use Rattle.nef_near.proofs.Flats.{vector-same}
+use Rattle.nef_forms.proofs.Directions.{self-pos}
 use Rattle.nef_near.proofs.Supports.{square-cross}
-use Rattle.nef_cyclic.specs.Arcs.{IsStrictlyOn}
 use Rattle.nef_sphere.specs.Maps.{At}
 use Rattle.nef_sphere.specs.Forms.{Keeps, point_forms, arc_forms}
 use Rattle.nef_sphere.specs.Least.{by_side}
-use Rattle.nef_sphere.specs.Labelling.{Near, StraightAt}
+use Rattle.nef_sphere.specs.Labelling.{Near}
 use Rattle.nef_sphere.specs.Builds.{StraightAfter, Proper}
-use Rattle.nef_sphere.specs.Stars.{Ray, Star, ray_way, across, OnRay, NextRay, PastRay, StarLabel, on_ray, in_sector, in_only_sector, IsRay, Follows}
-use Rattle.nef_sphere.proofs.Vectors.{dot-comb, nought-if, same-plus, normal-direction}
+use Rattle.nef_sphere.specs.Stars.{Ray, Star, ray_way, across, OnRay, StarLabel, on_ray, in_sector, in_only_sector, Follows}
+use Rattle.nef_sphere.proofs.Vectors.{dot-comb, nought-if}
 use Rattle.nef_sphere.proofs.Generic.{amount, far-keeps}
 use Rattle.nef_sphere.proofs.Places.{parallel-back, IsStrictlyOn-stays}
-use Rattle.nef_sphere.proofs.Parallel.{parallel-in_plane, apart}
-use Rattle.nef_sphere.proofs.Compare.{SameDirection-turned, SameDirection-trans, normals-not_opposite}
-use Rattle.nef_sphere.proofs.Kind.{away}
+use Rattle.nef_sphere.proofs.Parallel.{apart}
+use Rattle.nef_sphere.proofs.Compare.{SameDirection-turned, SameDirection-trans}
 use Rattle.nef_sphere.proofs.Along.{near-near, not-even}
-use Rattle.nef_sphere.proofs.Flips.{dot-away, directed-by, far_directed-by}
+use Rattle.nef_sphere.proofs.Flips.{directed-by, far_directed-by}
 use Rattle.nef_sphere.proofs.StarKinds.{turn-ahead}
 use Rattle.nef_sphere.proofs.Simplified.{across-same}
-use Rattle.nef_build.specs.Raw.{Of, IsLabelling, IsWellFormed, ShowsLabels}
+use Rattle.nef_build.specs.Raw.{Of, IsLabelling, ShowsLabels}
 use Rattle.nef_build.proofs.BuiltLabels.{with_axes, labelling, axial}
 use Rattle.nef_build.proofs.RayClose.{Close, across-level, ray-close}
 

@@ -1,13 +1,13 @@
 -- At a straight direction the rays of a simplified star that is well formed go different ways, and two opposite ones make it a straight star.
-use Rattle.std.proofs.Common.{◌≡◌, ℕ, zero, suc, ◌<◌, ℤ, pos, ◌+ℤ◌, ◌-ℤ◌, ◌*ℤ◌, ◌<ℤ◌, arith, refl, ap, sym, ◌∙◌, ◌⊎◌, inl, inr, ⊎_elim, List, [], ◌∷◌, subst, length, Bool, true, false, cond}
+use Rattle.std.proofs.Common.{◌≡◌, ℕ, zero, suc, ◌<◌, pos, ◌-ℤ◌, ◌<ℤ◌, arith, refl, ap, sym, ◌∙◌, inl, ⊎_elim, List, [], ◌∷◌, subst, length, Bool, true, false, cond}
 use Rattle.std.proofs.lemmas.Int.{ints}
 use Rattle.nef_exact.proofs.Ring.{ring, at, num, ◌⊕◌, ◌⊖◌, ◌⊗◌}
-use Rattle.nef_exact.proofs.Order.{sign, sign-plus, plus-is, sign-scaled, nought-is}
-use Rattle.nef_space.specs.Vectors.{Vector, IsDirection, cross, triple, dot, IsZero, SameDirection, IsOpposite, IsNormal}
+use Rattle.nef_exact.proofs.Order.{sign, sign-scaled, nought-is}
+use Rattle.nef_space.specs.Vectors.{Vector, IsDirection, cross, triple, dot, IsZero, SameDirection, IsOpposite}
 use Rattle.nef_space.specs.declared.label.Label.{Label}
 use Rattle.nef_forms.proofs.Directions.{self-pos, dot-comm, dot-zero, zero-dot}
 use Rattle.nef_near.proofs.FlatDecided.{cross-turned}
-use Rattle.nef_sphere.specs.Vectors.{IsPrimitive, VectorBelow}
+use Rattle.nef_sphere.specs.Vectors.{VectorBelow}
 use Rattle.nef_sphere.specs.Maps.{At, Map, NearLabel, Valid}
 use Rattle.nef_sphere.specs.Least.{NearStraight}
 use Rattle.nef_sphere.specs.Stars.{Ray, Star, ray_way, across, in_sector, IsRay, StarShows, IsStraight, IsSimplified}
@@ -21,7 +21,7 @@ use Rattle.nef_sphere.proofs.Equal.{lowest-same}
 use Rattle.nef_sphere.proofs.StarKinds.{across-side}
 use Rattle.nef_sphere.proofs.Simplified.{ray-level, straight-level, not-even}
 use Rattle.nef_sphere.proofs.StraightStars.{RaysApart, TwoRays, along-meet}
-use Rattle.nef_build.specs.Raw.{sector_count, RayBelow, IsWellFormed}
+use Rattle.nef_build.specs.Raw.{sector_count, IsWellFormed}
 use Rattle.nef_build.proofs.RayClose.{across-level}
 use Rattle.nef_build.proofs.RayStraight.{off-axis}
 use Rattle.nef_build.proofs.StarSmooth.{beside-turn}
@@ -145,3 +145,87 @@ two-straight t W T = record {
 
     s : (a : Label) × (b : Label) × (t.sectors ≡ a ∷ b ∷ [])
     s = two t.sectors (W.as_many ∙ ap sector_count T.two_rays)
+
+-- ---- at a straight direction
+module _ (t : Star) (W : IsWellFormed t) (M : Map) (V : Valid M) (S : StarShows t M) (simple : IsSimplified t) (P : NearStraight M t.axis) where
+  abbrev d : Vector
+  d = t.axis
+
+  at-ray : (k : ℕ) (r : Ray) → At t.rays k r → (dot d (ray_way t r) ≡ pos 0) × IsDirection (ray_way t r)
+  at-ray k r a = ray-level t W.axis r (W.rays k r a)
+
+  -- all rays lie along one line
+  one-line : (i k : ℕ) (q r : Ray) → At t.rays i q → At t.rays k r → IsZero (cross (ray_way t q) (ray_way t r))
+  one-line i k q r a b = parallel-trans (ray_way t q) w (ray_way t r) (λ z. W.axis (nought-if n d P.direction z P.level)) (cross-turned w (ray_way t q) (along i q a)) (along k r b)
+    where
+      n : Vector
+      n = P.normal
+
+      w : Vector
+      w = cross P.normal d
+
+      along : (k : ℕ) (r : Ray) → At t.rays k r → IsZero (cross (cross P.normal d) (ray_way t r))
+      along k r a = let x = at-ray k r a in along-meet P.normal d (ray_way t r) x.0 (straight-level t M V S simple P k r a)
+
+  -- all other rays go the other way
+  other-rays : (k : ℕ) (q r : Ray) → At t.rays zero q → At t.rays (suc k) r → IsOpposite (ray_way t q) (ray_way t r)
+  other-rays k q r a b = by (beside (ray_way t q) (ray_way t r) (let x = at-ray zero q a in x.1) (let x = at-ray (suc k) r b in x.1) (one-line zero (suc k) q r a b))
+    where
+      by : Beside (ray_way t q) (ray_way t r) → IsOpposite (ray_way t q) (ray_way t r)
+      by (same_way w) = absurd (first-alone t W k q r a b w)
+      by (other_way o) = o
+
+  -- so there is only one other: the sector between two would go all round, and hold the first ray
+  no-third : (q r s : Ray) → At t.rays zero q → At t.rays (suc zero) r → At t.rays (suc (suc zero)) s → ⊥
+  no-third q r s a b c = not-even t M V S simple zero q a u (λ z. let p = self-pos u x.1 in omega (arith, ints)) l.0 (all u (off-axis d u W.axis x.1 x.0) refl) all
+    where
+      u : Vector
+      u = ray_way t q
+
+      x : (dot d (ray_way t q) ≡ pos 0) × IsDirection (ray_way t q)
+      x = at-ray zero q a
+
+      y : (dot d (ray_way t r) ≡ pos 0) × IsDirection (ray_way t r)
+      y = at-ray (suc zero) r b
+
+      z : (dot d (ray_way t s) ≡ pos 0) × IsDirection (ray_way t s)
+      z = at-ray (suc (suc zero)) s c
+
+      l : (m : Label) × At t.sectors (suc zero) m
+      l = sector-there t W.as_many (suc zero) r b
+
+      both : SameDirection (ray_way t r) (ray_way t s)
+      both = opposites (ray_way t q) (ray_way t r) (ray_way t s) x.1 (other-rays zero q r a b) (other-rays (suc zero) q s a c)
+
+      all : (e : Vector) → IsDirection (cross d e) → sign (dot (ray_way t q) e) ≡ sign (dot (ray_way t q) (ray_way t q)) → NearLabel M d e l.0
+      all e f g = S.labels e l.0 f (in_sector (suc zero) r s b (inl c) (whole-passes d (ray_way t r) (ray_way t s) v W.axis y.1 z.1 (direction-by u v (λ i. let h = front in omega (arith, ints))) y.0 z.0 (across-level d e) both off) l.1)
+        where
+          v : Vector
+          v = across d e
+
+          front : pos 0 <ℤ dot (ray_way t q) (across d e)
+          front = same-plus (dot u u) (dot u v) (ap sign (across-side u d e (dot-comm u d ∙ x.0)) ∙ sign-scaled (dot d d) (dot u e) (self-pos d W.axis) ∙ g) (self-pos u x.1)
+
+          off : SameDirection (ray_way t s) (across d e) → ⊥
+          off w =
+              let o = other-rays (suc zero) q s a c in
+              let h = same-plus (dot u v) (dot u (ray_way t s)) (sym (way-signs (ray_way t s) v u z.1 w)) front in
+              let k = o.backward in
+              omega (arith, ints)
+
+  pub rays-apart : RaysApart t
+  rays-apart zero zero q r a b w = refl
+  rays-apart zero (suc k) q r a b w = absurd (first-alone t W k q r a b w)
+  rays-apart (suc i) zero q r a b w = absurd (first-alone t W i r q b a (SameDirection-turned (ray_way t q) (ray_way t r) w))
+  rays-apart (suc i) (suc k) q r a b w = number-order i k (λ l. absurd (third t.rays k r l refl b)) (λ e. ap suc e) (λ l. absurd (third t.rays i q l refl a))
+    where
+      -- a list with a place beyond the second has three elements
+      third : {j : ℕ} (rs : List Ray) (k : ℕ) (r : Ray) → j < k → t.rays ≡ rs → At rs (suc k) r → ⊥
+      third [] k r l e c = c
+      third (p ∷ []) k r l e c = c
+      third (p ∷ q ∷ []) zero r l e c = absurd (omega arith)
+      third (p ∷ q ∷ []) (suc k) r l e c = c
+      third (p ∷ q ∷ s ∷ rs) k r l e c = no-third p q s (listed zero p refl) (listed (suc zero) q refl) (listed (suc (suc zero)) s refl)
+        where
+          listed : (i : ℕ) (x : Ray) → At (p ∷ q ∷ s ∷ rs) i x → At t.rays i x
+          listed i x h = subst (λ (xs : List Ray). At xs i x) (sym e) h

@@ -1,10 +1,10 @@
 -- Plain and straight stars that show labels, and the normals of rays.
-use Rattle.std.proofs.Common.{◌≡◌, ℕ, zero, suc, ℤ, pos, negsuc, ◌+ℤ◌, ◌-ℤ◌, ◌*ℤ◌, ◌<ℤ◌, arith, refl, ap, sym, ◌∙◌, inl, inr, List, [], ◌∷◌, subst, length, Bool, true, false, cond}
+use Rattle.std.proofs.Common.{◌≡◌, zero, suc, ℤ, pos, negsuc, ◌+ℤ◌, ◌-ℤ◌, ◌*ℤ◌, arith, refl, ap, sym, ◌∙◌, inr, List, [], ◌∷◌, subst, length, Bool, true, false, cond}
 use Rattle.std.proofs.lemmas.Int.{ints}
 use Rattle.nef_exact.proofs.Ring.{ring, at, num, ◌⊕◌, ◌⊖◌, ◌⊗◌}
 use Rattle.nef_exact.proofs.Combination.{follows, given, none}
 use Rattle.nef_exact.proofs.Order.{sign, sign-scaled, nought-is}
-use Rattle.nef_space.specs.Vectors.{Vector, IsDirection, cross, triple, dot, IsZero, SameDirection, IsOpposite, IsNormal}
+use Rattle.nef_space.specs.Vectors.{Vector, IsDirection, cross, triple, dot, SameDirection, IsOpposite, IsNormal}
 use Rattle.nef_space.specs.declared.label.Label.{Label}
 use Rattle.nef_forms.proofs.Directions.{self-pos, dot-comm, dot-zero}
 use Rattle.nef_near.proofs.Flats.{vector-same}
