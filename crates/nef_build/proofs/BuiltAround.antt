@@ -103,10 +103,15 @@ module _ (gs : List Vector) (L : Vector → Label) (R : RawMap) (M : Map) (C : I
       back-to = by (kept-arc gs L R M C j v n a m b g normal lv proper after-v)
         where
           by : (i : ℕ) × (c : Arc) × At M.arcs i c × (c.source ≡ j) × SameDirection n c.normal → (i : ℕ) × (c : Arc) × At M.arcs i c × (c.target ≡ k)
-          by (i, c, ic, src, w) = (i, c, ic, kept-apart gs L R M C c.target k A.target.first t A.target.listed h
-              (ends-together n v.axis A.target.first.axis s hn hv hf hs' lv lf lt
-              (λ o. A.target.none_before k t h (IsStrictlyOn-same n c.normal v.axis A.star.axis A.target.first.axis A.target.first.axis s s w star-is (way-self A.target.first.axis hf) (way-self s hs') o))
-              (λ o. clear c.target A.target.first A.target.listed (reversed n v.axis s A.target.first.axis hv o))))
+          by (i, c, ic, src, w) = (
+            i,
+            c,
+            ic,
+            kept-apart gs L R M C c.target k A.target.first t A.target.listed h
+                (ends-together n v.axis A.target.first.axis s hn hv hf hs' lv lf lt
+                (λ o. A.target.none_before k t h (IsStrictlyOn-same n c.normal v.axis A.star.axis A.target.first.axis A.target.first.axis s s w star-is (way-self A.target.first.axis hf) (way-self s hs') o))
+                (λ o. clear c.target A.target.first A.target.listed (reversed n v.axis s A.target.first.axis hv o))),
+          )
             where
               A : IsArcFrom kept c
               A = arc-from gs L R M C i c ic

@@ -149,7 +149,7 @@ module _ (gs : List Vector) (L : Vector → Label) (R : RawMap) (M : Map) (C : I
           let S = C.raw.stars k t h in
           let u = K.first.normal in
           let w = same-normal n a m b normal bare proper y hy p u (star-normal gs L C.labelling t S K)
-              (parallel-at n a m b normal bare proper y hy p u K.above t.mark K.below t.axis (record { direction = S.star.axis; level = z }) (star-straight gs L C.labelling t S K)) in
+          (parallel-at n a m b normal bare proper y hy p u K.above t.mark K.below t.axis (record { direction = S.star.axis; level = z }) (star-straight gs L C.labelling t S K)) in
           listed (loop_at t K) (straight_loop k t h K (λ i v c x. bare i v c (level-same u n v.axis v.axis (SameDirection-turned n u w) (way-self v.axis (let T = C.built.kept_from i v c in let V = C.raw.stars T.0 v T.1 in V.star.axis)) x)) refl)
       at-star k t h z (inr (inr j)) = absurd (bare j.0 t j.1 z)
 

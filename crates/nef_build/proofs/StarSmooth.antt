@@ -86,7 +86,7 @@ away-opposite u w s = record {
     one : (a b c d : ℤ) → (negsuc 0 *ℤ a +ℤ pos 0 *ℤ a) *ℤ d -ℤ (negsuc 0 *ℤ b +ℤ pos 0 *ℤ b) *ℤ c ≡ pos 0 → a *ℤ d -ℤ b *ℤ c ≡ pos 0
     one a b c d z =
         let e = ring (a ∷ b ∷ c ∷ d ∷ []) ((num (negsuc 0) ⊗ at 0 ⊕ num (pos 0) ⊗ at 0) ⊗ at 3 ⊖ (num (negsuc 0) ⊗ at 1 ⊕ num (pos 0) ⊗ at 1) ⊗ at 2)
-            (num (pos 0) ⊖ (at 0 ⊗ at 3 ⊖ at 1 ⊗ at 2)) tt in omega (arith, ints)
+        (num (pos 0) ⊖ (at 0 ⊗ at 3 ⊖ at 1 ⊗ at 2)) tt in omega (arith, ints)
 
 pub away-level : (n d : Vector) → dot n d ≡ pos 0 → dot (away n) d ≡ pos 0
 away-level n d z = let e = dot-away n d in omega (arith, ints)
