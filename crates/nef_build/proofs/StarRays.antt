@@ -156,11 +156,8 @@ module _ (t : Star) (W : IsWellFormed t) (M : Map) (V : Valid M) (S : StarShows 
 
   -- all rays lie along one line
   one-line : (i k : ℕ) (q r : Ray) → At t.rays i q → At t.rays k r → IsZero (cross (ray_way t q) (ray_way t r))
-  one-line i k q r a b = parallel-trans (ray_way t q) w (ray_way t r) (λ z. W.axis (nought-if n d P.direction z P.level)) (cross-turned w (ray_way t q) (along i q a)) (along k r b)
+  one-line i k q r a b = parallel-trans (ray_way t q) w (ray_way t r) (λ z. W.axis (nought-if P.normal d P.direction z P.level)) (cross-turned w (ray_way t q) (along i q a)) (along k r b)
     where
-      n : Vector
-      n = P.normal
-
       w : Vector
       w = cross P.normal d
 
