@@ -1,0 +1,6 @@
+//! The edges of a complex, from its vertices.
+#![tactic(auto)]
+
+mod pairing;
+
+pub use std::alloc::AllocError as OutOfMemory;
