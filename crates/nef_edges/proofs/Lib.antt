@@ -1,2 +1,3 @@
 pub mod Rays
 pub mod Existing
+pub mod Products
