@@ -1,3 +1,4 @@
 pub mod Rays
 pub mod Existing
 pub mod Products
+pub mod Lines
