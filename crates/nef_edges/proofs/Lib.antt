@@ -2,3 +2,6 @@ pub mod Rays
 pub mod Existing
 pub mod Products
 pub mod Lines
+pub mod Places
+pub mod Arrivals
+pub mod Next

@@ -5,11 +5,9 @@
 //! in the order of their points, and this is the order along every line.
 #![tactic(auto)]
 
-
+mod arriving;
 mod half;
 mod moment;
 mod order;
-
-
 
 pub use std::alloc::AllocError as OutOfMemory;
