@@ -14,6 +14,7 @@ use Rattle.nef_sphere.proofs.Lists.{Found, search_list, at-one}
 use Rattle.nef_sphere.proofs.Places.{SameDirection-decided, IsOpposite-decided}
 use Rattle.nef_cones.proofs.Listing.{numbers, at-number, at-or, at-lies, lies-at, Collected, Sorted, collect, sort, chain-order}
 use Rattle.nef_solid.specs.Complexes.{Vertex, Edge, IsEdge, IsEdgeBelow, Edges}
+use Rattle.nef_edges.specs.Pairs.{IsFrom}
 use Rattle.nef_edges.proofs.Rays.{ahead-normal, middle-between, opposites-same}
 
 -- ---- one edge from each svertex
@@ -24,10 +25,6 @@ edge-same e f h i j k l =
   where
     make : ℕ → ℕ → ℕ → ℕ → Label → Edge
     make a b c d m = record { low = a; low_svertex = b; high = c; high_svertex = d; mark = m }
-
--- the edge leaves svertex a of vertex i
-abbrev pub IsFrom : List Vertex → ℕ → ℕ → Edge → Type 0
-IsFrom vs i a e = IsEdge vs e × (e.low ≡ i) × (e.low_svertex ≡ a)
 
 module _ (vs : List Vertex) where
   abbrev pub InPlaces : Type 0

@@ -5,3 +5,4 @@ pub mod Lines
 pub mod Places
 pub mod Arrivals
 pub mod Next
+pub mod Partners
