@@ -18,7 +18,7 @@ use Rattle.nef_edges.specs.Pairs.{IsFrom}
 use Rattle.nef_edges.proofs.Rays.{ahead-normal, middle-between, opposites-same}
 
 -- ---- one edge from each svertex
-edge-same : (e f : Edge) → e.low ≡ f.low → e.low_svertex ≡ f.low_svertex → e.high ≡ f.high → e.high_svertex ≡ f.high_svertex → e.mark ≡ f.mark → e ≡ f
+pub edge-same : (e f : Edge) → e.low ≡ f.low → e.low_svertex ≡ f.low_svertex → e.high ≡ f.high → e.high_svertex ≡ f.high_svertex → e.mark ≡ f.mark → e ≡ f
 edge-same e f h i j k l =
     ap (λ n. make n e.low_svertex e.high e.high_svertex e.mark) h ∙ ap (λ n. make f.low n e.high e.high_svertex e.mark) i ∙ ap (λ n. make f.low f.low_svertex n e.high_svertex e.mark) j
     ∙ ap (λ n. make f.low f.low_svertex f.high n e.mark) k ∙ ap (λ n. make f.low f.low_svertex f.high f.high_svertex n) l

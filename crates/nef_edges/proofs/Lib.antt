@@ -6,3 +6,5 @@ pub mod Places
 pub mod Arrivals
 pub mod Next
 pub mod Partners
+pub mod Added
+pub mod Joined

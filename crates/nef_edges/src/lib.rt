@@ -9,5 +9,7 @@ mod arriving;
 mod half;
 mod moment;
 mod order;
+mod pairing;
 
+pub use pairing::pair;
 pub use std::alloc::AllocError as OutOfMemory;
