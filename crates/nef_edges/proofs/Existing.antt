@@ -1,13 +1,13 @@
 -- Vertices in order, each with at most one svertex in every direction, have a list of all their edges.
-use Rattle.std.proofs.Common.{◌≡◌, ℕ, zero, suc, ◌+◌, ◌<◌, pos, ◌<ℤ◌, arith, refl, ap, sym, ◌∙◌, ◌⊎◌, inl, inr, ⊎_elim, List, [], ◌∷◌, ◌++◌, subst}
+use Rattle.std.proofs.Common.{◌≡◌, ℕ, zero, suc, ◌<◌, pos, arith, refl, ap, sym, ◌∙◌, ◌⊎◌, inl, inr, ⊎_elim, List, [], ◌∷◌, ◌++◌, subst}
 use Rattle.std.proofs.lemmas.Bool.{cases_order}
 use Rattle.std.proofs.lemmas.Int.{ints}
 use Rattle.nef_exact.specs.Signs.{Lies}
 use Rattle.nef_exact.proofs.Lists.{each, lies-each, lies-left, lies-right}
-use Rattle.nef_space.specs.Place.{Place, toward, IsAhead, IsBetween, IsPlaceBelow}
-use Rattle.nef_space.specs.Vectors.{Vector, SameDirection, IsOpposite}
+use Rattle.nef_space.specs.Place.{toward, IsAhead, IsBetween, IsPlaceBelow}
+use Rattle.nef_space.specs.Vectors.{SameDirection, IsOpposite}
 use Rattle.nef_space.specs.declared.label.Label.{Label}
-use Rattle.nef_near.proofs.Decided.{Decided, decided-not, decided-both, decided-lt}
+use Rattle.nef_near.proofs.Decided.{Decided, decided-lt}
 use Rattle.nef_sphere.specs.Maps.{At, Svertex, Shaped}
 use Rattle.nef_sphere.specs.Least.{InOrder}
 use Rattle.nef_sphere.proofs.Lists.{Found, search_list, at-one}
@@ -91,7 +91,8 @@ module _ (vs : List Vertex) where
         make f =
             let g = f.holds in (
               record { low = i; low_svertex = a; high = f.number; high_svertex = g.number; mark = u.mark },
-              (record {
+              (
+                record {
                   low_vertex = v;
                   high_vertex = f.element;
                   low_end = u;
@@ -105,7 +106,10 @@ module _ (vs : List Vertex) where
                   first = g.holds.2;
                   back = g.holds.3;
                   mark = refl;
-                }, refl, refl),
+                },
+                refl,
+                refl,
+              ),
             )
 
         unmade : ((j : ℕ) (w : Vertex) → At vs j w → Found w.map.svertices (λ b t. Leads j w t) → ⊥) → (e : Edge) → IsEdge vs e → e.low ≡ i → e.low_svertex ≡ a → ⊥

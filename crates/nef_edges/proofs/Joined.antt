@@ -1,15 +1,14 @@
 -- The vertices of a set are joined: their svertices are halves of edges.
-use Rattle.std.proofs.Common.{◌≡◌, ℕ, ◌<◌, List, map, sym, subst}
+use Rattle.std.proofs.Common.{ℕ, List, map, subst}
 use Rattle.nef_space.specs.Place.{IsPlaceBelow}
 use Rattle.nef_space.specs.Sets.{Set}
 use Rattle.nef_geo.specs.Shapes.{form_of}
 use Rattle.nef_geo.specs.declared.plane.Plane.{Plane}
 use Rattle.nef_sphere.specs.Maps.{At, Shaped}
 use Rattle.nef_sphere.specs.Least.{InOrder}
-use Rattle.nef_solid.specs.Complexes.{Vertex as PlainVertex, Edge as PlainEdge, Edges}
+use Rattle.nef_solid.specs.Complexes.{Vertex as PlainVertex, Edges}
 use Rattle.nef_complex.specs.declared.complex.Vertex.{Vertex}
 use Rattle.nef_complex.specs.declared.complex.Edge.{Edge}
-use Rattle.nef_complex.specs.declared.complex.Complex.{Complex}
 use Rattle.nef_complex.specs.Complexes.{vertex_of, edge_of, AreVerticesOf, ShowsSet}
 use Rattle.nef_edges.specs.Pairs.{AreJoined}
 use Rattle.nef_edges.proofs.Existing.{edges-exist}

@@ -1,5 +1,5 @@
 -- The place where the sorted halves pass a half.
-use Rattle.std.proofs.Common.{◌≡◌, ℕ, ◌+◌, ◌<◌, ◌≤◌, List, length, get_or, Bool, true, false, Ordering, Less, Equal, Greater, arith, refl, sym, ap, ◌∙◌, ⊎_elim}
+use Rattle.std.proofs.Common.{◌≡◌, ℕ, ◌+◌, ◌<◌, ◌≤◌, List, length, get_or, true, false, Ordering, Less, Equal, Greater, arith, refl, sym, ap, ◌∙◌, ⊎_elim}
 use Rattle.std.specs.Cmp.{IsStrictWeakOrder, upto}
 use Rattle.std.specs.List.Sorted.{IsSortedBy, IsPermutation}
 use Rattle.std.specs.Ordering.{ordering_reverse, is_lt, is_gt}

@@ -1,19 +1,18 @@
 -- The next half that arrives is the partner of a half that leads on.
-use Rattle.std.proofs.Common.{◌≡◌, ℕ, zero, suc, ◌+◌, ◌<◌, ◌≤◌, List, [], ◌∷◌, ◌++◌, length, map, arith, refl, sym, ap, subst, ◌∙◌, inl, inr, ◌⊎◌, ⊎_elim, Ordering, Less, Equal, Greater}
+use Rattle.std.proofs.Common.{◌≡◌, ℕ, ◌<◌, List, length, map, arith, refl, sym, ap, subst, ◌∙◌, inl, inr, ◌⊎◌, ⊎_elim, Ordering, Less, Equal, Greater}
 use Rattle.std.proofs.lemmas.Bool.{cases_lt}
 use Rattle.std.specs.Ordering.{MatchOrdering, nat_cmp, ordering_then}
 use Rattle.std.specs.Cmp.{tied_back}
 use Rattle.std.proofs.lemmas.Cmp.{ranked}
-use Rattle.nef_space.specs.Place.{toward, IsBetween}
+use Rattle.nef_space.specs.Place.{toward}
 use Rattle.nef_space.specs.Sets.{Set}
-use Rattle.nef_space.specs.Vectors.{Vector, opposite, IsNormal, IsZero, IsDirection, cross, SameDirection, IsOpposite}
+use Rattle.nef_space.specs.Vectors.{opposite, IsNormal, IsZero, cross, SameDirection, IsOpposite}
 use Rattle.nef_geo.specs.Shapes.{place_of, vector_of}
 use Rattle.nef_geo.specs.declared.dir.Dir.{Dir}
-use Rattle.nef_geo.specs.declared.point.Point.{Point}
 use Rattle.nef_geo.proofs.Unique.{same_directions_equal}
 use Rattle.nef_sphere.specs.Maps.{At, Svertex}
 use Rattle.nef_sphere.proofs.Lists.{at-one}
-use Rattle.nef_sphere.proofs.Compare.{SameDirection-turned, SameDirection-trans, normals-not_opposite, way-self}
+use Rattle.nef_sphere.proofs.Compare.{normals-not_opposite, way-self}
 use Rattle.nef_solid.specs.Complexes.{Vertex as PlainVertex, Edge as PlainEdge, Complex as PlainComplex, IsEdge}
 use Rattle.nef_solid.specs.Shows.{Shows}
 use Rattle.nef_solid.proofs.Joining.{svertex-edge}
@@ -22,8 +21,8 @@ use Rattle.nef_smap.specs.Maps.{svertex_of}
 use Rattle.nef_complex.specs.declared.complex.Vertex.{Vertex}
 use Rattle.nef_complex.specs.Complexes.{vertex_of}
 use Rattle.nef_edges.specs.declared.half.Half.{Half}
-use Rattle.nef_edges.specs.Order.{half_order, line_order}
-use Rattle.nef_edges.specs.Halves.{IsBefore, IsArriving, IsLeading, AreArriving, IsAfter, IsNext}
+use Rattle.nef_edges.specs.Order.{line_order}
+use Rattle.nef_edges.specs.Halves.{IsBefore, IsArriving, AreArriving, IsAfter, IsNext}
 use Rattle.nef_edges.specs.Pairs.{IsFrom, AreJoined}
 use Rattle.nef_edges.proofs.Lines.{OnOneLine, tied-line, line-tied, StandsBetween, stands-between, line_total}
 use Rattle.nef_edges.proofs.Places.{at-within, at-map, map-at}
@@ -54,6 +53,16 @@ nat-greater x y h = by (nat_cmp x y) (ranked x y (nat_cmp x y) refl)
     by Greater m = refl
 
 -- ---- the partner of a half
+-- the half is a svertex along which an edge leads on to a later vertex
+pub record IsLeading (vs : List Vertex) (h : Half) : Type 0 where
+  pub vertex : Vertex
+  pub svertex : SVertex
+  pub has_vertex : At vs h.vertex vertex
+  pub has_svertex : At vertex.map.svertices h.svertex svertex
+  pub point : h.point ≡ vertex.point
+  pub dir : h.dir ≡ svertex.dir
+  pub up : IsNormal (vector_of h.dir)
+
 -- the edge from the half f to the half h
 pub record IsPair (vs : List Vertex) (f h : Half) : Type 0 where
   pub edge : PlainEdge
@@ -129,11 +138,11 @@ module _ (vs : List Vertex) (J : AreJoined (map vertex_of vs)) (hs : List Half) 
 
   tied : line_order g f ≡ Equal
   tied = tied_back line_total f g (line-tied f g (record {
-      same_dir = same-dir;
-      level = subst (λ d. IsZero (cross (toward (place_of f.point) (place_of g.point)) d)) (sym way-is)
-          (subst (λ p. IsZero (cross (toward p (place_of g.point)) E.low_end.way)) (sym start-is)
-          (subst (λ q. IsZero (cross (toward E.low_vertex.point q) E.low_end.way)) (sym stop-is) E.ahead.parallel));
-    }))
+    same_dir = same-dir;
+    level = subst (λ d. IsZero (cross (toward (place_of f.point) (place_of g.point)) d)) (sym way-is)
+        (subst (λ p. IsZero (cross (toward p (place_of g.point)) E.low_end.way)) (sym start-is)
+        (subst (λ q. IsZero (cross (toward E.low_vertex.point q) E.low_end.way)) (sym stop-is) E.ahead.parallel));
+  }))
 
   upward : f.vertex < g.vertex
   upward = subst (λ n. f.vertex < n) (sym met.3) (subst (λ n. n < edge.high) found.1.1 E.upward)
@@ -164,7 +173,7 @@ module _ (vs : List Vertex) (J : AreJoined (map vertex_of vs)) (hs : List Half) 
         let p = E.low_vertex.point in let u = place_of H.vertex.point in let v = E.high_vertex.point in let d = E.low_end.way in
         let low : At (map vertex_of vs) f.vertex E.low_vertex = subst (At (map vertex_of vs) f.vertex) (sym low-is) is-low in
         let level : IsZero (cross (toward p u) d) = subst (λ w. IsZero (cross (toward p u) w)) way-is
-                (subst (λ q. IsZero (cross (toward q u) (vector_of f.dir))) start-is (subst (λ q. IsZero (cross (toward (place_of f.point) (place_of q)) (vector_of f.dir))) H.point line.level)) in
+        (subst (λ q. IsZero (cross (toward q u) (vector_of f.dir))) start-is (subst (λ q. IsZero (cross (toward (place_of f.point) (place_of q)) (vector_of f.dir))) H.point line.level)) in
         E.first h.vertex (vertex_of H.vertex) is-vertex
         (middle-between p u v d (subst IsNormal way-is F.up) (J.ordered f.vertex h.vertex E.low_vertex (vertex_of H.vertex) between.after low is-vertex)
         (J.ordered h.vertex edge.high (vertex_of H.vertex) E.high_vertex (subst (λ n. h.vertex < n) met.3 l) is-vertex E.is_high) level E.ahead.parallel)

@@ -1,5 +1,5 @@
 -- Elements of lists by their places.
-use Rattle.std.proofs.Common.{◌≡◌, ℕ, zero, suc, ◌+◌, ◌<◌, ◌≤◌, List, [], ◌∷◌, ◌++◌, length, map, get_or, slice_get, Some, None, arith, refl, sym, ap, subst, ◌∙◌, inl, inr, ◌⊎◌}
+use Rattle.std.proofs.Common.{◌≡◌, ℕ, zero, suc, ◌<◌, List, [], ◌∷◌, ◌++◌, length, map, get_or, slice_get, Some, None, arith, refl, sym, ap, inl, inr, ◌⊎◌}
 use Rattle.nef_sphere.specs.Maps.{At}
 
 module _ {A : Type 0} where

@@ -1,5 +1,5 @@
 -- Halves that arrive at vertices and lead on from them, and the next half in order.
-use Rattle.std.specs.Prelude.{◌≡◌, ℕ, ◌<◌, ◌≤◌, List, Bool, false, ◌⊎◌}
+use Rattle.std.specs.Prelude.{◌≡◌, ℕ, ◌<◌, ◌≤◌, List, false, ◌⊎◌}
 use Rattle.std.specs.declared.cmp.Ordering.TheVariants.{Greater}
 use Rattle.std.specs.Ordering.{is_lt}
 use Rattle.nef_space.specs.Vectors.{opposite, IsNormal}
@@ -22,16 +22,6 @@ pub record IsArriving (vs : List Vertex) (h : Half) : Type 0 where
   pub has_svertex : At vertex.map.svertices h.svertex svertex
   pub point : h.point ≡ vertex.point
   pub back : vector_of h.dir ≡ opposite (vector_of svertex.dir)
-
--- the half is a svertex along which an edge leads on to a later vertex
-pub record IsLeading (vs : List Vertex) (h : Half) : Type 0 where
-  pub vertex : Vertex
-  pub svertex : SVertex
-  pub has_vertex : At vs h.vertex vertex
-  pub has_svertex : At vertex.map.svertices h.svertex svertex
-  pub point : h.point ≡ vertex.point
-  pub dir : h.dir ≡ svertex.dir
-  pub up : IsNormal (vector_of h.dir)
 
 -- the halves that arrive, of the svertices that count
 pub record AreArriving (vs : List Vertex) (Counts : ℕ → ℕ → Type 0) (hs : List Half) : Type 0 where

@@ -46,10 +46,7 @@ fn all_arriving(alloc: Global, vertices: &[Vertex]) -> Result<Vec<Half>, OutOfMe
 }
 
 /// The halves that arrive at any vertex, by their lines and vertices.
-pub(crate) fn sorted_arriving(
-    alloc: Global,
-    vertices: &[Vertex],
-) -> Result<Vec<Half>, OutOfMemory>
+pub(crate) fn sorted_arriving(alloc: Global, vertices: &[Vertex]) -> Result<Vec<Half>, OutOfMemory>
     ensures all { IfOk result (λ v. AreArriving vertices.now (IsBefore (length vertices.now) 0) v.items) }
     ensures sorted { IfOk result (λ v. IsSortedBy half_lt v.items) }
 {

@@ -1,4 +1,4 @@
-use Rattle.std.proofs.Common.{rules, ◌≡◌, ◌+◌, ◌<◌, ◌≤◌, length, List, [], ◌∷◌, ◌++◌, refl, sym, ap, subst, ◌∙◌, get_or, Vec, Global}
+use Rattle.std.proofs.Common.{◌≡◌, ◌+◌, ◌<◌, ◌≤◌, length, List, refl, sym, ap, subst, ◌∙◌, get_or, Vec, Global}
 use Rattle.nef_space.specs.Vectors.{opposite, IsNormal}
 use Rattle.nef_geo.specs.Shapes.{vector_of}
 use Rattle.nef_smap.specs.declared.map.SVertex.{SVertex}
@@ -21,11 +21,11 @@ loop-k-preserved c =
     let b = read-at v.map.svertices k s (subst (λ (ss : List SVertex). k < length ss) all c.loop-k-test.true) (subst (λ (ss : List SVertex). s ≡ get_or ss k s) all c.svertex-item.is) in
     record {
       added = elim c.if-leads_on.branch [
-        then-leads_on+in_ok-push w ↦
+        | then-leads_on+in_ok-push w ↦
             let h : Half = record { point = v.point; dir = c.back-dir.result; vertex = i; svertex = k } in
             subst (AreArriving vs (IsBefore i (k + 1))) (sym w.in_ok-push.ensures.items ∙ ap (λ (x : Vec Half Global). x.items) (sym w.halves-is))
             (arriving-add vs i k c.loop-k.halves.items h c.loop-k.invariant.added (record { vertex = v; svertex = s; has_vertex = a; has_svertex = b; point = refl; back = c.back-dir.ensures.back }) refl refl)
-      | else-leads_on w ↦
+        | else-leads_on w ↦
             let none = λ (n : IsNormal (opposite (vector_of s.dir))). IsTrue-false c.leads_on.result (c.leads_on.ensures.leads_on.1 (subst IsNormal (sym c.back-dir.ensures.back) n)) w.if-leads_on.false in
             subst (λ (x : Vec Half Global). AreArriving vs (IsBefore i (k + 1)) x.items) (sym w.halves-is) (arriving-pass vs i k c.loop-k.halves.items v s c.loop-k.invariant.added a b none)
       ];

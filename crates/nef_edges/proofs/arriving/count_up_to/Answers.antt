@@ -1,6 +1,5 @@
-use Rattle.std.proofs.Common.{◌≡◌, ◌+◌, ◌-◌, ◌<◌, ◌≤◌, ◌/◌, length, true, false, arith, ap, sym, ◌∙◌}
+use Rattle.std.proofs.Common.{◌+◌, ◌-◌, ◌<◌, ◌/◌, length, arith, ap, sym, ◌∙◌}
 use Rattle.std.specs.Ordering.{is_gt}
-use Rattle.nef_edges.specs.Order.{half_order}
 use Rattle.nef_edges.proofs.Next.{after-from, none-to}
 use Rattle.nef_edges.proofs.Places.{at-within, read-at}
 use Rattle.nef_edges.proofs.arriving.count_up_to.Goals as goal

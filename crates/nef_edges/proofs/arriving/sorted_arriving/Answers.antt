@@ -1,6 +1,5 @@
-use Rattle.std.proofs.Common.{rules, ap, length}
+use Rattle.std.proofs.Common.{rules, length}
 use Rattle.std.proofs.lemmas.List.Sorted.{answers_always}
-use Rattle.std.specs.Ordering.{is_lt}
 use Rattle.nef_edges.specs.Halves.{IsBefore}
 use Rattle.nef_edges.specs.Order.{half_lt}
 use Rattle.nef_edges.proofs.Next.{weak, sorted-kept}

@@ -1,4 +1,4 @@
-use Rattle.std.proofs.Common.{◌≡◌, ◌≤◌, ℕ, List, length, arith, subst}
+use Rattle.std.proofs.Common.{◌≡◌, ℕ, length, arith, subst}
 use Rattle.nef_edges.specs.Halves.{IsBefore}
 use Rattle.nef_edges.specs.Pairs.{AreEdges}
 use Rattle.nef_edges.proofs.Added.{edges-all}

@@ -1,6 +1,6 @@
 use Rattle.std.proofs.Common.{List, map, sym, subst}
 use Rattle.nef_solid.specs.Complexes.{Edges}
-use Rattle.nef_complex.specs.Complexes.{vertex_of, edge_of, ShowsSet}
+use Rattle.nef_complex.specs.Complexes.{vertex_of, edge_of}
 use Rattle.nef_complex.specs.declared.complex.Vertex.{Vertex}
 use Rattle.nef_complex.specs.declared.complex.Edge.{Edge}
 use Rattle.nef_edges.specs.Pairs.{AreJoined}
