@@ -1,2 +1,3 @@
 pub mod MapLists
 pub mod SideLists
+pub mod NearSvertex
