@@ -1,3 +1,5 @@
 pub mod MapLists
 pub mod SideLists
 pub mod NearSvertex
+pub mod FarWay
+pub mod SectorSees

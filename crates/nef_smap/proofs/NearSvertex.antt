@@ -1,25 +1,27 @@
 -- Close to a svertex: on a ray of an arc that begins or ends there, or free.
-use Rattle.std.proofs.Common.{◌≡◌, ℕ, ℤ, pos, neg_ℤ, ◌+ℤ◌, ◌*ℤ◌, ◌-ℤ◌, ◌<ℤ◌, arith, refl, ap, sym, ◌∙◌, ◌⊎◌, inl, inr, ⊎_elim, [], ◌∷◌, subst}
+use Rattle.std.proofs.Common.{◌≡◌, ℕ, ◌<◌, ℤ, pos, ◌*ℤ◌, ◌<ℤ◌, arith, refl, sym, ◌⊎◌, inl, inr, ⊎_elim, [], ◌∷◌, subst}
 use Rattle.std.proofs.lemmas.Int.{ints}
 use Rattle.nef_exact.proofs.Ring.{ring, at, num, ◌⊕◌, ◌⊖◌, ◌⊗◌}
 use Rattle.nef_exact.proofs.Combination.{follows, given, none}
-use Rattle.nef_exact.proofs.Order.{sign, by_order, mul_pos, mul_neg}
-use Rattle.nef_space.specs.Vectors.{Vector, IsDirection, triple, cross, dot, opposite, IsZero, SameDirection, IsOpposite}
+use Rattle.nef_exact.proofs.Order.{by_order, mul_pos, mul_neg}
+use Rattle.nef_space.specs.Vectors.{Vector, IsDirection, triple, cross, dot, opposite, IsZero, SameDirection, blend}
 use Rattle.nef_cyclic.specs.Arcs.{IsStrictlyOn}
-use Rattle.nef_cyclic.proofs.Directions.{dot-opposite, level-same}
+use Rattle.nef_cyclic.proofs.Directions.{dot-opposite, level-same, same-first}
 use Rattle.nef_near.proofs.Decided.{Decided}
 use Rattle.nef_near.proofs.FlatDecided.{triple-dot, cross-turned}
 use Rattle.nef_forms.proofs.Directions.{dot-comm, self-pos}
-use Rattle.nef_sphere.specs.Maps.{At, Svertex, Arc, Map, Item, arc_item, loop_item, items, way_of, OnItem, IsFree, Side, above_item, below_item, Shaped}
+use Rattle.nef_sphere.specs.Maps.{At, Svertex, Arc, Map, Item, arc_item, loop_item, items, way_of, OnItem, IsFree, IsClear, Side, above_item, below_item, Shaped}
 use Rattle.nef_sphere.specs.Forms.{Keeps, arc_forms, forms}
 use Rattle.nef_sphere.proofs.Vectors.{triple-middle, normal-is, same-plus, same-minus}
 use Rattle.nef_sphere.proofs.Places.{kept-nought, kept-minus, SameDirection-decided}
-use Rattle.nef_sphere.proofs.Forms.{item-forms, on-level}
+use Rattle.nef_sphere.proofs.Forms.{axes-forms, item-forms}
 use Rattle.nef_sphere.proofs.Parallel.{parallel-in_plane}
 use Rattle.nef_sphere.proofs.Lists.{at-one}
 use Rattle.nef_sphere.proofs.Shot.{arc-at}
 use Rattle.nef_sphere.proofs.Around.{opposite-triple, triple-turned, Beside, same_way, other_way, beside, IsStrictlyOn-back, direction-around, svertex-around}
 use Rattle.nef_sphere.proofs.Compare.{SameDirection-turned, SameDirection-trans}
+use Rattle.nef_sphere.proofs.StepOff.{blend-turned}
+use Rattle.nef_sphere.proofs.NearItems.{keeps-between, kept-not_opposite, opposite-turned}
 use Rattle.nef_sphere.proofs.Turn.{turn-last}
 use Rattle.nef_sphere.proofs.Arcs.{Ends, ends-of}
 
@@ -207,3 +209,42 @@ module _ (M : Map) (V : Shaped M) (k : ℕ) (v : Svertex) (a : At M.svertices k 
         off y.parallel;
     off_items = λ i x h o. n (near-ray i x h o);
   }
+
+-- no ray of the svertex runs along w
+abbrev pub Unrayed : Map → ℕ → Vector → Vector → Type 0
+Unrayed M k v w = (r : ArcRay M k) → SameDirection (ray_left r) (cross v w) → ⊥
+
+-- v x (i w + j v) = i (v x w)
+pub same-cross : (v w : Vector) (i j : ℕ) → 0 < i → IsDirection (cross v w) → SameDirection (cross v (blend i w j v)) (cross v w)
+same-cross v w i j si h =
+    let xs = v.x ∷ v.y ∷ v.z ∷ w.x ∷ w.y ∷ w.z ∷ pos i ∷ pos j ∷ [] in
+    let bx = at 6 ⊗ at 3 ⊕ at 7 ⊗ at 0 in
+    let by = at 6 ⊗ at 4 ⊕ at 7 ⊗ at 1 in
+    let bz = at 6 ⊗ at 5 ⊕ at 7 ⊗ at 2 in
+    let ax = at 1 ⊗ bz ⊖ at 2 ⊗ by in
+    let ay = at 2 ⊗ bx ⊖ at 0 ⊗ bz in
+    let az = at 0 ⊗ by ⊖ at 1 ⊗ bx in
+    let cx = at 1 ⊗ at 5 ⊖ at 2 ⊗ at 4 in
+    let cy = at 2 ⊗ at 3 ⊖ at 0 ⊗ at 5 in
+    let cz = at 0 ⊗ at 4 ⊖ at 1 ⊗ at 3 in
+    let o = num (pos 0) in
+    let e : dot (cross v (blend i w j v)) (cross v w) ≡ pos i *ℤ dot (cross v w) (cross v w) = ring xs (ax ⊗ cx ⊕ ay ⊗ cy ⊕ az ⊗ cz) (at 6 ⊗ (cx ⊗ cx ⊕ cy ⊗ cy ⊕ cz ⊗ cz)) tt in
+    let m = mul_pos (pos i) (dot (cross v w) (cross v w)) (omega (arith, ints)) (self-pos (cross v w) h) in
+    record {
+      parallel = (ring xs (ay ⊗ cz ⊖ az ⊗ cy) o tt, ring xs (az ⊗ cx ⊖ ax ⊗ cz) o tt, ring xs (ax ⊗ cy ⊖ ay ⊗ cx) o tt);
+      forward = omega (arith, ints);
+    }
+
+-- from close to the svertex the way to it is clear, off the rays
+pub near-clear : (M : Map) (V : Shaped M) (k : ℕ) (v : Svertex) (a : At M.svertices k v) (w : Vector) → Keeps (forms M) v.way w → IsDirection (cross v.way w) → Unrayed M k v.way w → IsClear M w v.way
+near-clear M V k v a w kept off free = record {
+  start = near-free M V k v a w kept off (λ r. free r.ray r.along);
+  direction = V.svertex_ways k v a;
+  short = λ q. kept-not_opposite v.way w (λ g l. kept g (axes-forms M g l)) (opposite-turned w v.way q);
+  between = λ i j si sj.
+      let q = same-cross v.way w i j si off in
+      near-free M V k v a (blend i w j v.way)
+      (subst (Keeps (forms M) v.way) (blend-turned j i v.way w) (keeps-between (forms M) v.way w j i sj si kept))
+      (same-first (cross v.way (blend i w j v.way)) (cross v.way w) q)
+      (λ r. free r.ray (SameDirection-trans (ray_left r.ray) (cross v.way (blend i w j v.way)) (cross v.way w) r.along q));
+}
