@@ -3,3 +3,4 @@ pub mod SideLists
 pub mod NearSvertex
 pub mod FarWay
 pub mod SectorSees
+pub mod FirstMet

@@ -1,5 +1,5 @@
 -- The svertices and items of the program's maps by their numbers.
-use Rattle.std.proofs.Common.{◌≡◌, ℕ, zero, suc, ◌+◌, List, [], ◌∷◌, length, map, Option, Some, None, option_map, is_some, arith, refl, ap, slice_get}
+use Rattle.std.proofs.Common.{◌≡◌, ℕ, zero, suc, ◌<◌, ◌+◌, List, [], ◌∷◌, length, map, Option, Some, None, option_map, is_some, arith, refl, ap, slice_get}
 use mir.Val.{bool_byte}
 use Rattle.nef_sphere.specs.Maps.{At, arc_item, loop_item, items_then}
 use Rattle.nef_smap.specs.declared.map.SArc.{SArc}
@@ -22,3 +22,8 @@ item-loop [] (Some m) zero l e f = let g : m ≡ l = cc in ap (λ (r : SLoop). l
 item-loop [] (Some m) (suc k) l e f = absurd (omega arith)
 item-loop (b ∷ as') o zero l e f = absurd (omega arith)
 item-loop (b ∷ as') o (suc k) l e f = item-loop as' o k l (omega arith) f
+
+pub at-within : {X : Type 0} (xs : List X) (k : ℕ) (x : X) → At xs k x → k < length xs
+at-within [] k x a = absurd a
+at-within (y ∷ ys) zero x a = omega arith
+at-within (y ∷ ys) (suc k) x a = let h = at-within ys k x a in omega arith
