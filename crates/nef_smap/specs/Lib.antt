@@ -3,3 +3,4 @@ pub mod Sides
 pub mod Stars
 pub mod Items
 pub mod Ways
+pub mod Linear

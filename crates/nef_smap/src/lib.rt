@@ -8,6 +8,7 @@
 
 mod duplicate;
 mod item;
+mod linear;
 mod map;
 mod side;
 
