@@ -4,4 +4,6 @@
 //! Nothing here runs. Each law is a clause of a function with an empty body.
 #![tactic(auto)]
 
-mod laws;
+mod overlays;
+
+pub use overlays::overlay_laws;
