@@ -1,3 +1,6 @@
 pub mod Said
 pub mod Made
 pub mod PlaceLabels
+pub mod BesideRays
+pub mod Listed
+pub mod StarMade

@@ -29,8 +29,28 @@ near-turned gs d e c k h i s g m = ⊎_elim
     (λ z. far-level gs d c k i g z ∙ s g m ∙ sym (far-level gs d e k h g z))
     (λ f. far-keeps gs d c k i g m f ∙ sym (far-keeps gs d e k h g m f)) (nought-or (dot g d))
 
+-- z, then w, then e: the two ways to write it have the same signs
+far-onward : (gs : List Vector) (z w e : Vector) (k j i l : ℕ) → amount gs w ≤ k → amount gs e ≤ j → amount gs e ≤ i → amount gs (blend i w 1 e) ≤ l
+    → SameSigns gs (blend l z 1 (blend i w 1 e)) (blend j (blend k z 1 w) 1 e)
+far-onward gs z w e k j i l hk hj hi hl g m = ⊎_elim
+    (λ a. let s = far-level gs z w k hk g a in ⊎_elim
+    (λ b. far-level gs (blend k z 1 w) e j hj g (same-nought (dot g w) (dot g (blend k z 1 w)) s b) ∙ sym (far-level gs w e i hi g b) ∙ sym (far-level gs z (blend i w 1 e) l hl g a))
+    (λ f. far-keeps gs (blend k z 1 w) e j hj g m (same-off (dot g w) (dot g (blend k z 1 w)) s f) ∙ s ∙ sym (far-keeps gs w e i hi g m f) ∙ sym (far-level gs z (blend i w 1 e) l hl g a))
+    (nought-or (dot g w)))
+    (λ f. let s = far-keeps gs z w k hk g m f in far-keeps gs (blend k z 1 w) e j hj g m (same-off (dot g z) (dot g (blend k z 1 w)) s f) ∙ s ∙ sym (far-keeps gs z (blend i w 1 e) l hl g m f))
+    (nought-or (dot g z))
+
 module _ (M : Map) (V : Valid M) where
   -- ---- near labels
+  -- what is near z toward w, and from there toward e
+  pub near-onward : (z w e : Vector) (l : Label) (k low : ℕ) → amount (forms M) w ≤ k → ((i : ℕ) → low ≤ i → NearLabel M z (blend i w 1 e) l) → NearLabel M (blend k z 1 w) e l
+  near-onward z w e l k low h f =
+      let i = low + amount (forms M) e in
+      let j = amount (forms M) e in
+      let n = amount (forms M) (blend i w 1 e) in
+      near-from_far M V (blend k z 1 w) e j (omega arith) l (label-by_signs M V (blend n z 1 (blend i w 1 e)) (blend j (blend k z 1 w) 1 e)
+      (far-onward (forms M) z w e k j i n h (omega arith) (omega arith) (omega arith)) l (far-from_near M V z (blend i w 1 e) n (omega arith) l (f i (omega arith))))
+
   near-toward_same : (d e c : Vector) (l : Label) → SameSigns (forms M) e c → NearLabel M d e l → NearLabel M d c l
   near-toward_same d e c l s a =
       let k = amount (forms M) e + amount (forms M) c in
