@@ -4,3 +4,5 @@ pub mod PlaceLabels
 pub mod BesideRays
 pub mod Listed
 pub mod StarMade
+pub mod RemarkedStars
+pub mod RawTopology
