@@ -6,3 +6,5 @@ pub mod Listed
 pub mod StarMade
 pub mod RemarkedStars
 pub mod RawTopology
+pub mod Cones
+pub mod MarkMade
