@@ -1,22 +1,21 @@
 -- What lies close to a ray: on it, or strictly after it, or strictly before it, by the side to which one goes.
-use Rattle.std.proofs.Common.{◌≡◌, ℕ, ◌+◌, ◌≤◌, ℤ, pos, negsuc, ◌+ℤ◌, ◌-ℤ◌, ◌*ℤ◌, ◌<ℤ◌, arith, refl, ap, sym, ◌∙◌, inl, inr, ⊎_elim, [], ◌∷◌, subst}
+use Rattle.std.proofs.Common.{◌≡◌, ℕ, ◌≤◌, ℤ, pos, negsuc, ◌+ℤ◌, ◌-ℤ◌, ◌*ℤ◌, ◌<ℤ◌, arith, refl, ap, sym, ◌∙◌, inl, [], ◌∷◌, subst}
 use Rattle.std.proofs.lemmas.Int.{ints}
 use Rattle.nef_exact.proofs.Ring.{ring, at, num, ◌⊕◌, ◌⊖◌, ◌⊗◌}
 use Rattle.nef_exact.proofs.Combination.{follows, given, none}
-use Rattle.nef_exact.proofs.Order.{sign, sign-plus, plus-is, mul_pos}
+use Rattle.nef_exact.proofs.Order.{sign-plus, plus-is, mul_pos}
 use Rattle.nef_space.specs.Vectors.{Vector, IsDirection, triple, cross, dot, IsZero, SameDirection, blend}
-use Rattle.nef_forms.proofs.Directions.{self-pos, dot-comm, dot-zero}
+use Rattle.nef_forms.proofs.Directions.{self-pos, dot-zero}
 use Rattle.nef_near.proofs.FlatDecided.{triple-dot, cross-turned}
 use Rattle.nef_near.proofs.Flats.{vector-same}
 use Rattle.nef_cyclic.specs.Arcs.{IsStrictlyOn}
 use Rattle.nef_sphere.specs.Vectors.{comb}
 use Rattle.nef_sphere.specs.Stars.{across}
-use Rattle.nef_sphere.proofs.Vectors.{dot-comb, triple-middle, direction-by}
+use Rattle.nef_sphere.proofs.Vectors.{dot-comb, triple-middle}
 use Rattle.nef_sphere.proofs.Generic.{amount, far-keeps}
 use Rattle.nef_sphere.proofs.Parallel.{parallel-in_plane, past_source, arc-point, there-ahead}
 use Rattle.nef_sphere.proofs.Labels.{way-signs}
 use Rattle.nef_sphere.proofs.Compare.{way-self}
-use Rattle.nef_sphere.proofs.Turn.{IsStrictlyOn-same}
 use Rattle.nef_sphere.proofs.Arcs.{level-same}
 use Rattle.nef_sphere.proofs.Kind.{away}
 use Rattle.nef_sphere.proofs.Flips.{away-direction, dot-away, reversed}

@@ -1,7 +1,7 @@
 -- What has the labels that a map of a set gets is a map of the node over the set.
-use Rattle.std.proofs.Common.{◌≡◌, ℕ, ◌+◌, ◌≤◌, arith, refl, ap, sym, ◌∙◌, ◌⊎◌, inl, inr, ⊎_elim, subst}
+use Rattle.std.proofs.Common.{◌≡◌, ℕ, ◌+◌, ◌≤◌, arith, ◌⊎◌, inl, inr, ⊎_elim, subst}
 use Rattle.nef_space.specs.Place.{Place, InFrame}
-use Rattle.nef_space.specs.Vectors.{Vector, IsDirection, IsZero, blend}
+use Rattle.nef_space.specs.Vectors.{Vector, IsDirection, blend}
 use Rattle.nef_space.specs.Sets.{Set}
 use Rattle.nef_space.specs.Local.{HasLabel, Germ}
 use Rattle.nef_space.specs.declared.label.Label.{Label}
@@ -23,7 +23,7 @@ use Rattle.nef_sphere.proofs.Generic.{amount}
 use Rattle.nef_sphere.proofs.Forms.{axes-forms}
 use Rattle.nef_sphere.proofs.Labels.{label-direction, label-unique}
 use Rattle.nef_sphere.proofs.Flips.{far_directed-by}
-use Rattle.nef_border.specs.Topology.{Topology, interior, closure, boundary, complement, set_by, IsInside, IsClosed, IsInBy, ByTopology, TopologyLabel, MarkLabel, IsTopologyMap}
+use Rattle.nef_border.specs.Topology.{Topology, interior, closure, boundary, complement, set_by, IsInside, IsClosed, IsInBy, ByTopology, TopologyLabel, MarkLabel}
 use Rattle.nef_border.specs.Laws.{TopologyCone, RegularCone}
 use Rattle.nef_border.proofs.Made.{by-carried}
 

@@ -8,3 +8,5 @@ pub mod RemarkedStars
 pub mod RawTopology
 pub mod Cones
 pub mod MarkMade
+pub mod Exchanged
+pub mod ExchangedLabels

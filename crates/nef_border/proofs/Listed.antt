@@ -1,9 +1,10 @@
--- Elements of lists by their places, lists of equal lengths, and the neighbours of a ray.
-use Rattle.std.proofs.Common.{◌≡◌, ℕ, zero, suc, pos, arith, refl, ap, sym, ◌∙◌, ◌⊎◌, inl, inr, ⊎_elim, List, [], ◌∷◌, ◌++◌, subst, length, map}
+-- Elements of lists by their places, lists of equal lengths, what an option was made of, and the neighbours of a ray.
+use Rattle.std.proofs.Common.{◌≡◌, ℕ, zero, suc, arith, refl, ap, ◌⊎◌, inl, inr, ⊎_elim, List, [], ◌∷◌, length, map, Option, Some, None}
+use Rattle.std.specs.Prelude.{option_map}
 use Rattle.nef_exact.specs.Signs.{Lies}
 use Rattle.nef_space.specs.declared.label.Label.{Label}
 use Rattle.nef_sphere.specs.Maps.{At}
-use Rattle.nef_sphere.specs.Stars.{Ray, Star, NextRay, Follows}
+use Rattle.nef_sphere.specs.Stars.{Ray, NextRay, Follows}
 use Rattle.nef_build.specs.Raw.{sector_count}
 
 pub at-lies : {A : Type 0} (xs : List A) (k : ℕ) (x : A) → At xs k x → Lies xs x
@@ -37,9 +38,6 @@ pub empty-beside : {A B : Type 0} (xs : List A) (ys : List B) → length ys ≡ 
 empty-beside xs [] e z = refl
 empty-beside {A} xs (y ∷ ys) e z = let n = ap (length {A = A}) z in absurd (omega arith)
 
-pub empty-at : {A : Type 0} (xs : List A) (k : ℕ) (x : A) → xs ≡ [] → At xs k x → ⊥
-empty-at {A} xs k x e a = subst (λ (r : List A). At r k x) e a
-
 pub count-same : (rs qs : List Ray) → length qs ≡ length rs → sector_count qs ≡ sector_count rs
 count-same [] [] e = refl
 count-same [] (q ∷ qs) e = absurd (omega arith)
@@ -56,6 +54,19 @@ pub sector-one : (rs : List Ray) (ls : List Label) → rs ≡ [] → length ls �
 sector-one [] [] z e = absurd (omega arith)
 sector-one [] (l ∷ ls) z e = (l, refl)
 sector-one (r ∷ rs) ls z e = cc
+
+-- ---- options
+pub option-was : {A B : Type 0} (f : A → B) (o : Option A) (y : B) → option_map f o ≡ Some y → (x : A) × (o ≡ Some x) × (f x ≡ y)
+option-was f None y e = cc
+option-was {A} {B} f (Some x) y e = (x, refl, ap (get y) e)
+  where
+    get : B → Option B → B
+    get d None = d
+    get d (Some z) = z
+
+pub none-was : {A B : Type 0} (f : A → B) (o : Option A) → option_map f o ≡ None → o ≡ None
+none-was f None e = refl
+none-was f (Some x) e = cc
 
 -- ---- the neighbours of a ray
 last-of : (rs : List Ray) (r : Ray) → At rs zero r → (j : ℕ) × (q : Ray) × At rs j q × (suc j ≡ length rs)

@@ -1,5 +1,5 @@
 -- The label that the tables give, from a list of the labels close by; there is one only, and it goes over to what has the same labels.
-use Rattle.std.proofs.Common.{◌≡◌, refl, sym, ◌∙◌, ◌⊎◌, inl, inr, ⊎_elim, List, [], ◌∷◌, subst, Bool, true, false, cond, not, ◌&&◌, ◌||◌}
+use Rattle.std.proofs.Common.{◌≡◌, refl, sym, ◌∙◌, ◌⊎◌, inl, inr, ⊎_elim, List, [], ◌∷◌, ◌++◌, subst, Bool, true, false, cond, not, ◌&&◌, ◌||◌}
 use Rattle.nef_exact.specs.Signs.{Lies}
 use Rattle.nef_space.specs.declared.label.Label.{Label}
 use Rattle.nef_space.specs.declared.label.Label.TheVariants.{Out, Not, In}
@@ -20,6 +20,12 @@ says-some (Out ∷ ls) = says-same (some_in ls) _ _ (λ a. inr a) (λ a. ⊎_eli
 says-some (Not ∷ ls) = says-same (some_in ls) _ _ (λ a. inr a) (λ a. ⊎_elim (λ e. cc) (λ b. b) a) (says-some ls)
 says-some (In ∷ ls) = inl refl
 
+pub lists-appended : (ks ls : List Label) → (all_in (ks ++ ls) ≡ (all_in ks && all_in ls)) × (some_in (ks ++ ls) ≡ (some_in ks || some_in ls))
+lists-appended [] ls = (refl, refl)
+lists-appended (Out ∷ ks) ls = (refl, (lists-appended ks ls).1)
+lists-appended (Not ∷ ks) ls = (refl, (lists-appended ks ls).1)
+lists-appended (In ∷ ks) ls = ((lists-appended ks ls).0, refl)
+
 -- a face has no other label close by
 pub face-table : (k : Topology) (l : Label) → label_from k l [] ≡ face_label k l
 face-table interior Out = refl
@@ -35,11 +41,6 @@ face-table complement Out = refl
 face-table complement Not = refl
 face-table complement In = refl
 
-pub exchange-table : (l : Label) (ls : List Label) → label_from complement l ls ≡ face_label complement l
-exchange-table Out ls = refl
-exchange-table Not ls = refl
-exchange-table In ls = refl
-
 -- ---- labels
 module _ {X : Type 0} (own : Label → Type 0) (near : X → Label → Type 0) (one : (k l : Label) → own k → own l → k ≡ l) where
   -- there is one label only
@@ -53,6 +54,12 @@ module _ {X : Type 0} (own : Label → Type 0) (near : X → Label → Type 0) (
   by-one k In Out x y = absurd (x.0 y)
   by-one k In Not x y = absurd (y.1 x.1)
   by-one k In In x y = refl
+
+  -- in the complement, whatever lies close by
+  pub exchange-made : (m : Label) → own m → ByTopology complement own near (face_label complement m)
+  exchange-made Out h = h
+  exchange-made Not h = (λ x. let e = one Not Out h x in cc, h)
+  exchange-made In h = (λ x. let e = one In Out h x in cc, λ x. let e = one In Not h x in cc)
 
   own-says : (m : Label) → own m → Says (is_in m) (own In)
   own-says Out h = λ x. let e = one Out In h x in cc

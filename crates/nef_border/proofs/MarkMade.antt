@@ -1,13 +1,13 @@
 -- The mark that a map gets, from the labels that the map lists.
-use Rattle.std.proofs.Common.{◌≡◌, ℕ, zero, suc, pos, ◌+◌, ◌≤◌, ◌<ℤ◌, ◌-ℤ◌, arith, refl, ap, sym, ◌∙◌, ◌⊎◌, inl, inr, ⊎_elim, List, [], ◌∷◌, ◌++◌, subst, Option, Some, None}
+use Rattle.std.proofs.Common.{◌≡◌, ℕ, zero, suc, pos, ◌<ℤ◌, arith, refl, ap, sym, ◌∙◌, ◌⊎◌, inl, inr, ⊎_elim, List, [], ◌∷◌, ◌++◌, subst, Option, Some, None}
 use Rattle.std.proofs.lemmas.Int.{ints}
 use Rattle.nef_exact.specs.Signs.{Lies}
 use Rattle.nef_exact.proofs.Lists.{lies-left, lies-right, lies-append}
 use Rattle.nef_exact.proofs.Order.{sign, sign-plus, sign-minus}
-use Rattle.nef_space.specs.Vectors.{Vector, IsDirection, cross, dot, IsZero, blend}
+use Rattle.nef_space.specs.Vectors.{Vector, IsDirection, dot, blend}
 use Rattle.nef_space.specs.declared.label.Label.{Label}
 use Rattle.nef_forms.proofs.Directions.{zero-decided, self-pos}
-use Rattle.nef_sphere.specs.Maps.{At, Svertex, Arc, Loop, Map, Item, arc_item, loop_item, items, item_normal, item_above, item_mark, item_below, OnItem, Side, around_svertex, above_item, below_item, whole, HasSide, MapLabel, at_svertex, on_item, seen, Valid}
+use Rattle.nef_sphere.specs.Maps.{At, Svertex, Loop, Map, Item, arc_item, loop_item, items, item_normal, item_above, item_mark, item_below, OnItem, Side, around_svertex, above_item, below_item, whole, HasSide, MapLabel, at_svertex, on_item, seen, Valid}
 use Rattle.nef_sphere.specs.Forms.{gather, axis_x}
 use Rattle.nef_sphere.specs.Least.{by_side}
 use Rattle.nef_sphere.specs.Kinds.{Full}
@@ -21,11 +21,10 @@ use Rattle.nef_sphere.proofs.Lone.{near-lone}
 use Rattle.nef_sphere.proofs.Compare.{way-self}
 use Rattle.nef_sphere.proofs.Arcs.{at-loop, loop-at, at-arc}
 use Rattle.nef_sphere.proofs.Kind.{away, away-dot}
-use Rattle.nef_build.proofs.RawFaces.{only-face}
+use Rattle.nef_build.proofs.RawFaces.{not-both, only-face}
 use Rattle.nef_border.specs.Topology.{Topology, MarkLabel}
 use Rattle.nef_border.specs.Marks.{label_from, option_labels, svertex_labels, arc_labels, loop_labels, map_labels}
 use Rattle.nef_border.specs.Laws.{TopologyMark}
-use Rattle.nef_border.proofs.Listed.{at-lies}
 use Rattle.nef_border.proofs.Made.{made}
 
 lies-gather : {A B : Type 0} (f : A → List B) (xs : List A) (y : B) → Lies (gather f xs) y → (k : ℕ) × (x : A) × At xs k x × Lies (f x) y
@@ -86,11 +85,8 @@ module _ (M : Map) (V : Valid M) where
       let y = circle-point v.way h in
       let o = y.1 in
       let r = lies-option v.around l m in
-      let n = near-lone M V k v a (λ x. none v.around (V.shaped.around_not k v a x) r) l r y.0 (apart v.way v.way y.0 (λ z. let p = self-pos v.way h in omega (arith, ints)) o.level o.direction) in
+      let n = near-lone M V k v a (λ x. not-both v.around l (V.shaped.around_not k v a x) r) l r y.0 (apart v.way v.way y.0 (λ z. let p = self-pos v.way h in omega (arith, ints)) o.level o.direction) in
       (blend n.0 v.way 1 y.0, n.1 n.0 (omega arith))
-    where
-      none : (o : Option Label) → o ≡ None → o ≡ Some l → ⊥
-      none o e f = cc
 
   item-found : (i : ℕ) (x : Item) (l : Label) → At (items M) i x → Lies (item_labels x) l → (d : Vector) × MapLabel M d l
   item-found i x l a m = by (item-point M V.shaped i x a) m

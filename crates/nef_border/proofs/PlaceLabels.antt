@@ -1,5 +1,5 @@
 -- The label that each direction of a valid map gets: there is one, the signs on the map's forms determine it, and on items and in faces the tables give it.
-use Rattle.std.proofs.Common.{◌≡◌, ℕ, ◌+◌, ◌≤◌, pos, ◌<ℤ◌, ◌-ℤ◌, arith, refl, ap, sym, ◌∙◌, ◌⊎◌, inl, inr, ⊎_elim, List, [], ◌∷◌, subst}
+use Rattle.std.proofs.Common.{◌≡◌, ℕ, ◌+◌, ◌≤◌, pos, ◌<ℤ◌, arith, refl, ap, sym, ◌∙◌, ◌⊎◌, inl, inr, ⊎_elim, List, [], ◌∷◌, subst}
 use Rattle.std.proofs.lemmas.Int.{ints}
 use Rattle.nef_exact.specs.Signs.{Lies}
 use Rattle.nef_exact.proofs.Order.{Sign, minus, nought, plus, sign, sign-plus, sign-minus}
@@ -120,11 +120,13 @@ module _ (M : Map) (V : Valid M) where
     pub topology-exists : (k : Topology) → (l : Label) × TopologyLabel k M d l
     topology-exists k =
         let m = label-exists M V d h in
-        let vs = representative_directions (forms M) in
-        (label_from k m.0 (near-list vs), made-at k d m.0 (near-list vs) m.1
-        (λ e. let r = representative (forms M) e in let n = near-exists M V d r.direction h in
-        (n.0, near-toward_same d r.direction e n.0 r.same n.1, inr (near-listed vs r.direction r.listed)))
-        (near-found vs))
+        let vs = representative_directions (forms M) in (
+          label_from k m.0 (near-list vs),
+          made-at k d m.0 (near-list vs) m.1
+              (λ e. let r = representative (forms M) e in let n = near-exists M V d r.direction h in
+              (n.0, near-toward_same d r.direction e n.0 r.same n.1, inr (near-listed vs r.direction r.listed)))
+              (near-found vs),
+        )
 
   pub topology-labels : (k : Topology) → Labelling (forms M) (TopologyLabel k M)
   topology-labels k = record {

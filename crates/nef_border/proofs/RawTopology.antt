@@ -1,5 +1,5 @@
 -- The remarked stars of a map, with its circle and its face, show the labels that directions get.
-use Rattle.std.proofs.Common.{◌≡◌, ℕ, ◌≤◌, pos, ◌<ℤ◌, arith, refl, ap, sym, ◌∙◌, inl, inr, List, [], ◌∷◌, subst, Option, Some, None}
+use Rattle.std.proofs.Common.{◌≡◌, ℕ, ◌≤◌, pos, arith, refl, ap, sym, ◌∙◌, [], ◌∷◌, subst, Some, None}
 use Rattle.std.proofs.lemmas.Int.{ints}
 use Rattle.std.specs.Prelude.{option_map}
 use Rattle.nef_exact.proofs.Order.{Sign, sign, sign-plus, sign-minus, by_order}
@@ -30,26 +30,13 @@ use Rattle.nef_build.specs.Overlays.{OnSvertex}
 use Rattle.nef_build.proofs.Chosen.{chosen, chosen-is, chosen-labelling}
 use Rattle.nef_build.proofs.SideLabels.{normals-same_way}
 use Rattle.nef_build.proofs.LoneLoops.{item-loop, loop-normal}
-use Rattle.nef_build.proofs.RawFaces.{no-item, only-face}
+use Rattle.nef_build.proofs.RawFaces.{none-at, no-item, only-face}
 use Rattle.nef_border.specs.Topology.{Topology, TopologyLabel}
 use Rattle.nef_border.specs.Marks.{label_from, face_label, loop_by, IsRemarkedAt, IsTopologyRaw}
 use Rattle.nef_border.specs.Laws.{TopologyLabelling, TopologyOneLabel, TopologyStars}
-use Rattle.nef_border.proofs.Listed.{at-beside, empty-beside, empty-at}
+use Rattle.nef_border.proofs.Listed.{at-beside, empty-beside, option-was, none-was}
 use Rattle.nef_border.proofs.PlaceLabels.{topology-one, free-made, item-made, topology-labels}
 use Rattle.nef_border.proofs.RemarkedStars.{is-by, near-by, remarked-shows}
-
--- ---- options
-option-was : {A B : Type 0} (f : A → B) (o : Option A) (y : B) → option_map f o ≡ Some y → (x : A) × (o ≡ Some x) × (f x ≡ y)
-option-was f None y e = cc
-option-was {A} {B} f (Some x) y e = (x, refl, ap (get y) e)
-  where
-    get : B → Option B → B
-    get d None = d
-    get d (Some z) = z
-
-none-was : {A B : Type 0} (f : A → B) (o : Option A) → option_map f o ≡ None → o ≡ None
-none-was f None e = refl
-none-was f (Some x) e = cc
 
 -- what an item's mark becomes
 abbrev pub item_label : Topology → Item → Label
@@ -220,7 +207,7 @@ module _ (K : Topology) (M : Map) (V : Valid M) (L : Vector → Label) (top : (d
           is-by K M V L top d h (face_label K c.0) (free-made M V K d c.0 (free g.0 g.1) b) ∙ c.2
         where
           free : M.svertices ≡ [] → M.loop ≡ None → IsFree M d
-          free z q = record { direction = h; off_svertices = λ k v a w. empty-at M.svertices k v z a; off_items = λ i x a o. no-item M V.shaped z q i x a }
+          free z q = record { direction = h; off_svertices = λ k v a w. none-at M.svertices k v z a; off_items = λ i x a o. no-item M V.shaped z q i x a }
 
       pub raw-topology : IsRawOf R L
       raw-topology = record {

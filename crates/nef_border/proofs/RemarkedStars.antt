@@ -1,6 +1,6 @@
 -- A star with the marks that it gets shows the labels that directions get.
-use Rattle.std.proofs.Common.{◌≡◌, ℕ, zero, suc, ◌+◌, ◌≤◌, pos, arith, refl, ap, sym, ◌∙◌, inl, inr, List, [], ◌∷◌, subst, length}
-use Rattle.nef_space.specs.Vectors.{Vector, IsDirection, cross, dot, blend}
+use Rattle.std.proofs.Common.{◌≡◌, ℕ, zero, suc, ◌+◌, ◌≤◌, arith, refl, ap, sym, ◌∙◌, inl, inr, [], ◌∷◌, subst}
+use Rattle.nef_space.specs.Vectors.{Vector, IsDirection, cross, blend}
 use Rattle.nef_space.specs.declared.label.Label.{Label}
 use Rattle.nef_sphere.specs.Vectors.{IsPrimitive}
 use Rattle.nef_sphere.specs.Maps.{At, Map, Valid}
@@ -13,7 +13,7 @@ use Rattle.nef_sphere.proofs.Forms.{axes-forms}
 use Rattle.nef_sphere.proofs.Flips.{far_directed-by}
 use Rattle.nef_build.specs.Raw.{Of, RayBelow, IsWellFormed, ShowsLabels}
 use Rattle.nef_border.specs.Topology.{Topology, TopologyLabel}
-use Rattle.nef_border.specs.Marks.{label_from, face_label, star_labels, marked, IsRemarked}
+use Rattle.nef_border.specs.Marks.{label_from, face_label, marked, IsRemarked}
 use Rattle.nef_border.proofs.Listed.{at-beside, empty-beside, count-same, sector-one}
 use Rattle.nef_border.proofs.PlaceLabels.{topology-one}
 use Rattle.nef_border.proofs.StarMade.{Sides, sides-of, ray-made, sector-made, only-made, axis-made}

@@ -1,5 +1,5 @@
 -- The labels that directions close to the axis of a star get: on the axis by all rays and sectors, on a ray by the two sectors beside it, in a sector by the sector alone.
-use Rattle.std.proofs.Common.{◌≡◌, ℕ, zero, suc, ◌+◌, ◌≤◌, ℤ, pos, ◌+ℤ◌, ◌-ℤ◌, ◌*ℤ◌, ◌<ℤ◌, arith, refl, ap, sym, ◌∙◌, ◌⊎◌, inl, inr, ⊎_elim, List, [], ◌∷◌, ◌++◌, subst, length, map, Bool, true, false, cond}
+use Rattle.std.proofs.Common.{◌≡◌, ℕ, zero, suc, ◌+◌, ◌≤◌, ℤ, pos, ◌-ℤ◌, ◌*ℤ◌, ◌<ℤ◌, arith, refl, ap, sym, ◌∙◌, ◌⊎◌, inl, inr, ⊎_elim, List, [], ◌∷◌, subst, length, map, Bool, true, false, cond}
 use Rattle.std.proofs.lemmas.Int.{ints}
 use Rattle.nef_exact.specs.Signs.{Lies}
 use Rattle.nef_exact.proofs.Lists.{lies-left, lies-right, lies-append}
@@ -9,7 +9,7 @@ use Rattle.nef_space.specs.Vectors.{Vector, IsDirection, triple, cross, dot, IsZ
 use Rattle.nef_space.specs.declared.label.Label.{Label}
 use Rattle.nef_forms.proofs.Far.{nought-or}
 use Rattle.nef_forms.proofs.Directions.{self-pos, dot-comm, zero-decided}
-use Rattle.nef_sphere.specs.Maps.{At, Map, MapLabel, NearLabel, Valid}
+use Rattle.nef_sphere.specs.Maps.{At, Map, NearLabel, Valid}
 use Rattle.nef_cyclic.specs.Arcs.{IsStrictlyOn}
 use Rattle.nef_sphere.specs.Forms.{SameSigns, axes, forms, arc_forms}
 use Rattle.nef_sphere.specs.Stars.{Ray, Star, ray_way, across, OnRay, PastRay, NextRay, StarLabel, on_ray, in_sector, in_only_sector, IsRay, StarShows, Follows}
@@ -26,7 +26,7 @@ use Rattle.nef_sphere.proofs.Flips.{far_directed-by}
 use Rattle.nef_build.specs.Raw.{IsWellFormed}
 use Rattle.nef_border.specs.Topology.{Topology, TopologyLabel}
 use Rattle.nef_border.specs.Marks.{label_from, face_label, ray_mark, star_labels}
-use Rattle.nef_border.proofs.Listed.{at-lies, lies-at, at-map, map-at, at-beside, empty-at, sectors-many, sector-one, next-of, previous-of, next-listed}
+use Rattle.nef_border.proofs.Listed.{at-lies, lies-at, at-map, map-at, at-beside, sectors-many, next-of, previous-of}
 use Rattle.nef_border.proofs.PlaceLabels.{near-onward, made-at, even-made}
 use Rattle.nef_border.proofs.BesideRays.{across-level, cross-blend, across-blend, across-way, turn-across, after_bound, on-way, after-way, before-way}
 

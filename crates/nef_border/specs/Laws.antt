@@ -1,5 +1,5 @@
 -- What is proved of interior, closure, boundary and complement of maps, each as one statement that a function's contract cites.
-use Rattle.std.specs.Prelude.{◌≡◌}
+use Rattle.std.specs.Prelude.{◌≡◌, List, ◌++◌, ◌&&◌, ◌||◌}
 use Rattle.nef_space.specs.Place.{Place}
 use Rattle.nef_space.specs.Vectors.{Vector, IsDirection}
 use Rattle.nef_space.specs.Sets.{Set}
@@ -9,7 +9,7 @@ use Rattle.nef_sphere.specs.Forms.{forms}
 use Rattle.nef_sphere.specs.Least.{Least, Ordered, Cone}
 use Rattle.nef_build.specs.Raw.{RawMap, IsLabelling, IsRawOf}
 use Rattle.nef_border.specs.Topology.{Topology, complement, set_by, TopologyLabel, MarkLabel, IsTopologyMap}
-use Rattle.nef_border.specs.Marks.{label_from, map_labels, IsTopologyRaw, exchanged_map}
+use Rattle.nef_border.specs.Marks.{all_in, some_in, label_from, map_labels, IsTopologyRaw, exchanged_map}
 
 -- the labels that a valid map's directions get are a labelling
 abbrev pub TopologyLabelling : Type 0
@@ -18,6 +18,10 @@ TopologyLabelling = (k : Topology) (M : Map) → Valid M → (L : Vector → Lab
 -- each direction gets one label only
 abbrev pub TopologyOneLabel : Type 0
 TopologyOneLabel = (k : Topology) (M : Map) (d : Vector) (l m : Label) → Valid M → TopologyLabel k M d l → TopologyLabel k M d m → l ≡ m
+
+-- lists that are put together: all are In where all of both are, some where some of one
+abbrev pub ListsAppended : Type 0
+ListsAppended = (ks ls : List Label) → (all_in (ks ++ ls) ≡ (all_in ks && all_in ls)) × (some_in (ks ++ ls) ≡ (some_in ks || some_in ls))
 
 -- the remarked stars of a map show these labels
 abbrev pub TopologyStars : Type 0

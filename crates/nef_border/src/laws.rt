@@ -1,12 +1,13 @@
 //! The laws of topology on sphere maps.
 
-ghost use Rattle.nef_border.specs.Laws.{TopologyLabelling, TopologyOneLabel, TopologyStars, TopologyMark, TopologyCone, RegularCone, ExchangedMap};
+ghost use Rattle.nef_border.specs.Laws.{TopologyLabelling, TopologyOneLabel, ListsAppended, TopologyStars, TopologyMark, TopologyCone, RegularCone, ExchangedMap};
 
 /// Each direction of a valid map gets one label in the interior, the closure, the boundary and the complement, and the
-/// signs on the map's forms determine it.
+/// signs on the map's forms determine it. It depends on whether all, and whether some, of the labels close by are In.
 pub fn label_laws()
     ensures labelling { TopologyLabelling }
     ensures one { TopologyOneLabel }
+    ensures lists { ListsAppended }
 {}
 
 /// The stars of a map with the marks that they get show these labels, and so does the mark of the map itself; for the

@@ -1,5 +1,5 @@
 -- A circle of overlaid stars without an axis, on which op of two maps is straight, is the lone circle.
-use Rattle.std.proofs.Common.{◌≡◌, ℕ, pos, ℤ, ◌-ℤ◌, refl, ap, sym, ◌∙◌, ◌⊎◌, inl, inr, ⊎_elim, List, [], ◌∷◌, ◌++◌, subst, Option, Some, None}
+use Rattle.std.proofs.Common.{◌≡◌, ℕ, pos, refl, ap, sym, ◌∙◌, ◌⊎◌, inl, inr, ⊎_elim, [], ◌∷◌, ◌++◌, subst, Option, Some, None}
 use Rattle.nef_exact.proofs.Ring.{ring, at, num, ◌⊕◌, ◌⊖◌, ◌⊗◌}
 use Rattle.nef_space.specs.Vectors.{Vector, IsDirection, cross, dot, IsZero, SameDirection, IsNormal}
 use Rattle.nef_space.specs.declared.label.Label.{Label}
@@ -7,7 +7,7 @@ use Rattle.nef_forms.proofs.Directions.{zero-decided}
 use Rattle.nef_near.proofs.FlatDecided.{cross-turned}
 use Rattle.nef_exact.proofs.Lists.{lies-left}
 use Rattle.nef_cyclic.specs.Arcs.{IsOnCircle}
-use Rattle.nef_sphere.specs.Maps.{At, Svertex, Loop, Map, Item, loop_item, items, item_normal, item_above, item_mark, item_below, OnItem, IsFree, Valid}
+use Rattle.nef_sphere.specs.Maps.{At, Loop, Map, Item, loop_item, items, item_normal, OnItem, IsFree, Valid}
 use Rattle.nef_sphere.specs.Forms.{forms}
 use Rattle.nef_sphere.specs.Labelling.{Labelling, StraightAt, ByOp}
 use Rattle.nef_sphere.specs.Builds.{Proper}
@@ -16,11 +16,11 @@ use Rattle.nef_sphere.proofs.Forms.{PlaceOf, svertex_place, item_place, free_pla
 use Rattle.nef_sphere.proofs.Compare.{way-self, SameDirection-turned, SameDirection-trans}
 use Rattle.nef_sphere.proofs.Arcs.{at-loop, level-same}
 use Rattle.nef_sphere.proofs.Labellings.{op-labelling}
-use Rattle.nef_sphere.proofs.Flips.{Axial, planes-parallel}
+use Rattle.nef_sphere.proofs.Flips.{planes-parallel}
 use Rattle.nef_build.specs.Raw.{RawMap, Of, IsBare}
-use Rattle.nef_build.specs.Overlays.{IsAxis, IsMergedLoop, IsLoneLoop, Raw}
+use Rattle.nef_build.specs.Overlays.{IsAxis, IsLoneLoop, Raw}
 use Rattle.nef_build.proofs.SideLabels.{normals-same_way, SidesAt, free-sides, item-sides, sides-at, joined-sides, free-joined}
-use Rattle.nef_build.proofs.Merged.{is-of, straight-of, straight-two, off-first, off-second, one-plane, bare-off_axes}
+use Rattle.nef_build.proofs.Merged.{is-of, straight-of, straight-two, off-second, one-plane, bare-off_axes}
 use Rattle.nef_build.proofs.LoneLoops.{item-loop, merged-loop, no-loop, lone-normal}
 
 -- the direction in which two planes meet

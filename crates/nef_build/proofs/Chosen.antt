@@ -1,5 +1,5 @@
 -- A label for each direction, chosen from a labelling.
-use Rattle.std.proofs.Common.{◌≡◌, inl, inr, List, ◌++◌}
+use Rattle.std.proofs.Common.{inl, inr, List, ◌++◌}
 use Rattle.nef_space.specs.Vectors.{Vector, IsDirection, IsZero}
 use Rattle.nef_space.specs.declared.label.Label.{Label}
 use Rattle.nef_forms.proofs.Directions.{zero-decided}

@@ -1,26 +1,20 @@
 -- The lone circle of overlaid stars: the labels along it, and that there is no other.
-use Rattle.std.proofs.Common.{◌≡◌, ℕ, pos, refl, ap, sym, ◌∙◌, ◌⊎◌, inl, inr, ⊎_elim, subst, Option, Some, None}
+use Rattle.std.proofs.Common.{◌≡◌, ℕ, pos, refl, ap, sym, ◌∙◌, ⊎_elim, subst, Option, Some, None}
 use Rattle.std.specs.Prelude.{MatchOption}
 use Rattle.nef_space.specs.Vectors.{Vector, IsDirection, cross, dot, IsZero, SameDirection, opposite, IsNormal}
 use Rattle.nef_space.specs.declared.label.Label.{Label}
-use Rattle.nef_exact.specs.Signs.{Lies}
-use Rattle.nef_forms.proofs.Directions.{zero-decided}
 use Rattle.nef_near.proofs.FlatDecided.{cross-turned}
-use Rattle.nef_near.proofs.Supports.{square-cross}
 use Rattle.nef_cyclic.specs.Arcs.{IsOnCircle}
-use Rattle.nef_sphere.specs.Maps.{At, Svertex, Loop, Map, Item, arc_item, loop_item, items, item_normal, way_of, OnItem, Shaped, Valid}
-use Rattle.nef_sphere.specs.Forms.{forms}
-use Rattle.nef_sphere.specs.Labelling.{Near, StraightAt, ByOp}
-use Rattle.nef_sphere.specs.Builds.{Proper}
+use Rattle.nef_sphere.specs.Maps.{At, Loop, Map, Item, arc_item, loop_item, items, item_normal, OnItem, Shaped, Valid}
+use Rattle.nef_sphere.specs.Labelling.{StraightAt, ByOp}
 use Rattle.nef_sphere.proofs.Vectors.{normal-direction}
 use Rattle.nef_sphere.proofs.Shot.{arc-at}
-use Rattle.nef_sphere.proofs.Forms.{PlaceOf, svertex_place, item_place, free_place, place_of}
-use Rattle.nef_sphere.proofs.Compare.{way-self, SameDirection-turned, SameDirection-trans}
+use Rattle.nef_sphere.proofs.Compare.{way-self, SameDirection-turned}
 use Rattle.nef_sphere.proofs.Arcs.{at-loop, loop-at, level-same, ends-of}
 use Rattle.nef_build.specs.Raw.{RawMap, Of, IsBare}
 use Rattle.nef_build.specs.Overlays.{OnSvertex, IsAxis, NearByOp, IsMergedLoop, IsLoneLoop, Raw}
-use Rattle.nef_build.proofs.SideLabels.{normals-same_way, SidesAt, free-sides, item-sides, sides-at, own-item, joined-sides}
-use Rattle.nef_build.proofs.Merged.{is-of, near-merged, straight-of, straight-one, near-one_of, off-first, off-second, one-plane, bare-off_axes}
+use Rattle.nef_build.proofs.SideLabels.{SidesAt, sides-at, own-item, joined-sides}
+use Rattle.nef_build.proofs.Merged.{is-of, near-merged, straight-of, straight-one, off-first, off-second, one-plane}
 
 -- the sloop's normal is in normal form
 pub loop-normal : (M : Map) → Shaped M → (l : Loop) → M.loop ≡ Some l → IsNormal l.normal

@@ -1,26 +1,23 @@
 -- Overlaid stars: what op of two maps' labels says of a label function with them; the axes, and the lone circle.
-use Rattle.std.proofs.Common.{◌≡◌, ℕ, ◌+◌, ℤ, pos, negsuc, ◌+ℤ◌, ◌-ℤ◌, ◌*ℤ◌, ◌<ℤ◌, neg_ℤ, arith, refl, ap, sym, ◌∙◌, ◌⊎◌, inl, inr, ⊎_elim, [], ◌∷◌, subst, Option, Some, None}
+use Rattle.std.proofs.Common.{◌≡◌, ℕ, ◌+◌, ℤ, pos, ◌+ℤ◌, ◌-ℤ◌, ◌*ℤ◌, ◌<ℤ◌, neg_ℤ, arith, ap, sym, ◌∙◌, inl, inr, ⊎_elim, [], ◌∷◌, subst}
 use Rattle.std.proofs.lemmas.Int.{ints}
-use Rattle.std.specs.Prelude.{MatchOption}
 use Rattle.nef_exact.proofs.Ring.{ring, at, num, ◌⊕◌, ◌⊖◌, ◌⊗◌}
-use Rattle.nef_exact.proofs.Order.{sign, sign-plus, sign-minus}
-use Rattle.nef_space.specs.Vectors.{Vector, IsDirection, cross, dot, IsZero, SameDirection, opposite, IsNormal, blend}
+use Rattle.nef_exact.proofs.Order.{sign-plus, sign-minus}
+use Rattle.nef_space.specs.Vectors.{Vector, IsDirection, cross, dot, IsZero, SameDirection, opposite, blend}
 use Rattle.nef_space.specs.declared.label.Label.{Label}
 use Rattle.nef_forms.proofs.Directions.{zero-decided, self-pos}
 use Rattle.nef_cyclic.specs.Arcs.{IsOnCircle}
-use Rattle.nef_sphere.specs.Maps.{At, Svertex, Loop, Map, Item, loop_item, items, item_normal, OnItem, Valid}
+use Rattle.nef_sphere.specs.Maps.{At, Svertex, Map, Item, items, item_normal, OnItem, Valid}
 use Rattle.nef_sphere.specs.Least.{by_side}
 use Rattle.nef_sphere.specs.Stars.{Star}
 use Rattle.nef_sphere.specs.Labelling.{Near, StraightAt, IsSmooth, plain, straight, ByOp}
-use Rattle.nef_sphere.proofs.Vectors.{normal-direction}
 use Rattle.nef_sphere.proofs.Labels.{label-direction}
 use Rattle.nef_sphere.proofs.Compare.{way-self, SameDirection-turned}
-use Rattle.nef_sphere.proofs.Arcs.{at-loop, level-same}
+use Rattle.nef_sphere.proofs.Arcs.{level-same}
 use Rattle.nef_sphere.proofs.Labellings.{op-labelling}
 use Rattle.nef_sphere.proofs.Smooth.{op-smooth}
 use Rattle.nef_build.specs.Raw.{RawMap, Of, ShowsLabels, IsBare}
-use Rattle.nef_build.specs.Overlays.{IsAxis, NearByOp, IsMerged, IsMergedLoop, IsLoneLoop, Raw}
-use Rattle.nef_build.proofs.SideLabels.{SidesAt, sides-at, own-item, joined-sides}
+use Rattle.nef_build.specs.Overlays.{IsAxis, NearByOp, Raw}
 
 -- the opposite of a direction lies behind it
 pub opposite-behind : (n : Vector) → IsDirection n → dot n (opposite n) <ℤ pos 0

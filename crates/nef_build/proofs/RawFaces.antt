@@ -9,17 +9,17 @@ use Rattle.nef_sphere.specs.Labelling.{ByOp}
 use Rattle.nef_sphere.proofs.Shot.{arc-at}
 use Rattle.nef_sphere.proofs.Compare.{way-self}
 use Rattle.nef_sphere.proofs.Arcs.{loop-at, ends-of}
-use Rattle.nef_build.specs.Raw.{RawMap, Of, IsRawOf}
-use Rattle.nef_build.specs.Overlays.{OnSvertex, IsAxis, IsLoneLoop, IsMergedGround, HasItem, Raw}
+use Rattle.nef_build.specs.Raw.{RawMap}
+use Rattle.nef_build.specs.Overlays.{OnSvertex, IsAxis, IsMergedGround, HasItem, Raw}
 use Rattle.nef_build.specs.Laws.{RawShowsOp}
 use Rattle.nef_build.proofs.Merged.{no-axis, raw-smooth, raw-shows}
 use Rattle.nef_build.proofs.LoneLoops.{merged-loop, no-loop, raw-loop_normal, raw-loop_bare, raw-loop_labels}
 use Rattle.nef_build.proofs.AllLoops.{raw-loop_all}
 
-none-at : {A : Type 0} (xs : List A) (k : ℕ) (x : A) → xs ≡ [] → At xs k x → ⊥
+pub none-at : {A : Type 0} (xs : List A) (k : ℕ) (x : A) → xs ≡ [] → At xs k x → ⊥
 none-at {A} xs k x e a = subst (λ (r : List A). At r k x) e a
 
-not-both : {A : Type 0} (o : Option A) (x : A) → o ≡ None → o ≡ Some x → ⊥
+pub not-both : {A : Type 0} (o : Option A) (x : A) → o ≡ None → o ≡ Some x → ⊥
 not-both o x e f = cc
 
 some-label : (k m : Label) → ◌≡◌ {A = Option Label} (Some k) (Some m) → k ≡ m

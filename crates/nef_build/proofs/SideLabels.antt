@@ -9,7 +9,7 @@ use Rattle.nef_sphere.specs.Maps.{At, Svertex, Loop, Map, Item, loop_item, items
 use Rattle.nef_sphere.specs.Least.{by_side}
 use Rattle.nef_sphere.specs.Labelling.{Near, StraightAt, ByOp}
 use Rattle.std.specs.Prelude.{Some}
-use Rattle.nef_sphere.proofs.Vectors.{normal-direction, normal-is}
+use Rattle.nef_sphere.proofs.Vectors.{normal-direction}
 use Rattle.nef_sphere.proofs.Lists.{at-one}
 use Rattle.nef_sphere.proofs.Forms.{PlaceOf, svertex_place, item_place, free_place, place_of}
 use Rattle.nef_sphere.proofs.Labels.{label-exists, way-signs}
