@@ -32,9 +32,6 @@ module _ (s : Set) (p : Place) where
   abbrev Inside : Type 0
   Inside = IsInside (HasLabel s p) (Germ s p)
 
-  abbrev Closed : Type 0
-  Closed = IsClosed (HasLabel s p) (Germ s p)
-
   in-frame : (HasLabel s p Out → ⊥) → InFrame p
   in-frame n = ⊎_elim (λ i. i) (λ o. absurd (n o)) (InFrame-decided p)
 

@@ -95,8 +95,3 @@ next-of rs k r a = ⊎_elim (λ x. (suc k, x.0, x.1, inl x.1)) (λ e. let f = fi
 pub previous-of : (rs : List Ray) (k : ℕ) (r : Ray) → At rs k r → (j : ℕ) × (q : Ray) × At rs j q × Follows rs j k × NextRay rs j r
 previous-of rs zero r a = let x = last-of rs r a in (x.0, x.1, x.2, inr (x.3, refl), inr (x.3, a))
 previous-of rs (suc k) r a = let x = one-before rs k r a in (k, x.0, x.1, inl refl, inl a)
-
--- the ray after another is one of the rays
-pub next-listed : (rs : List Ray) (k : ℕ) (r : Ray) → NextRay rs k r → (j : ℕ) × At rs j r
-next-listed rs k r (inl a) = (suc k, a)
-next-listed rs k r (inr x) = (zero, x.1)
