@@ -4,3 +4,16 @@ pub mod Merged
 pub mod LoneLoops
 pub mod AllLoops
 pub mod RawFaces
+pub mod BuiltLabels
+pub mod KeptStars
+pub mod RayClose
+pub mod RayStraight
+pub mod StarSmooth
+pub mod BuiltAxes
+pub mod BuiltArcs
+pub mod BuiltAround
+pub mod BuiltLoops
+pub mod BuiltGround
+pub mod BuiltMap
+pub mod StarRays
+pub mod BuiltKept

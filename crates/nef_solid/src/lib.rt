@@ -3,3 +3,7 @@
 //! Here a complex is plain data over points and vectors of any size; nothing runs. Each law is a clause of a
 //! function with an empty body. Source: Granados et al., "Boolean Operations on 3D Selective Nef Complexes", ESA 2003.
 #![tactic(auto)]
+
+mod laws;
+
+pub use laws::{candidate_laws, edge_laws};
