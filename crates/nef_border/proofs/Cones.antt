@@ -23,7 +23,7 @@ use Rattle.nef_sphere.proofs.Generic.{amount}
 use Rattle.nef_sphere.proofs.Forms.{axes-forms}
 use Rattle.nef_sphere.proofs.Labels.{label-direction, label-unique}
 use Rattle.nef_sphere.proofs.Flips.{far_directed-by}
-use Rattle.nef_border.specs.Topology.{Topology, interior, closure, boundary, complement, set_by, IsInside, IsClosed, IsInBy, ByTopology, TopologyLabel, MarkLabel}
+use Rattle.nef_border.specs.Topology.{Topology, interior, closure, boundary, complement, set_by, IsInside, IsInBy, ByTopology, TopologyLabel, MarkLabel}
 use Rattle.nef_border.specs.Laws.{TopologyCone, RegularCone}
 use Rattle.nef_border.proofs.Made.{by-carried}
 

@@ -1,4 +1,3 @@
-//! The laws of overlays and of building.
 //! The theory of overlays and of least maps: the stars of two maps overlaid show the combined labels, and
 //! what is made of simplified stars is the one least map with their labels.
 //!
