@@ -8,7 +8,8 @@ use Rattle.nef_cyclic.specs.Arcs.{IsStrictlyOn}
 use Rattle.nef_sphere.specs.Maps.{At, Svertex, Arc, Loop, Map, Item, arc_item, loop_item, items, items_then, item_normal, item_above, item_mark, item_below, way_of, OnItem, IsFree, HasArc, ArcBetween, Shaped}
 use Rattle.nef_sphere.specs.Least.{ArcBelow, Ordered}
 use Rattle.nef_border.specs.Marks.{exchanged, exchanged_svertex, exchanged_arc, exchanged_loop, exchanged_map}
-use Rattle.nef_border.proofs.Listed.{at-map, map-at, option-was, none-was}
+use Rattle.nef_border.proofs.Listed.{option-was, none-was}
+use Rattle.nef_build.proofs.BuiltAxes.{at-map, map-at, map-empty}
 
 pub twice : (l : Label) → exchanged (exchanged l) ≡ l
 twice Label.Out = refl
@@ -43,19 +44,15 @@ way-same [] k = refl
 way-same (v ∷ vs) zero = refl
 way-same (v ∷ vs) (suc k) = way-same vs k
 
-empty-was : {A B : Type 0} (f : A → B) (xs : List A) → map f xs ≡ [] → xs ≡ []
-empty-was f [] e = refl
-empty-was f (x ∷ xs) e = cc
-
 module _ (M : Map) where
   abbrev N : Map
   N = exchanged_map M
 
   pub svertex-was : (k : ℕ) (u : Svertex) → At N.svertices k u → (v : Svertex) × At M.svertices k v × (exchanged_svertex v ≡ u)
-  svertex-was k u a = map-at exchanged_svertex M.svertices k u a
+  svertex-was k u a = at-map exchanged_svertex M.svertices k u a
 
   pub arc-was : (k : ℕ) (b : Arc) → At N.arcs k b → (a : Arc) × At M.arcs k a × (exchanged_arc a ≡ b)
-  arc-was k b h = map-at exchanged_arc M.arcs k b h
+  arc-was k b h = at-map exchanged_arc M.arcs k b h
 
   pub item-was : (i : ℕ) (y : Item) → At (items N) i y → (x : Item) × At (items M) i x × (exchanged_item x ≡ y)
   item-was i y a = items-was M.arcs M.loop i y a
@@ -82,7 +79,7 @@ module _ (M : Map) where
   pub free-was : (d : Vector) → IsFree N d → IsFree M d
   free-was d F = record {
     direction = F.direction;
-    off_svertices = λ k v a w. F.off_svertices k (exchanged_svertex v) (at-map exchanged_svertex M.svertices k v a) w;
+    off_svertices = λ k v a w. F.off_svertices k (exchanged_svertex v) (map-at exchanged_svertex M.svertices k v a) w;
     off_items = λ i x a o. F.off_items i (exchanged_item x) (item-is i x a) (on-is x d o);
   }
 
@@ -90,7 +87,7 @@ module _ (M : Map) where
   has-arc_was k (i, b, h, e) = let a = arc-was i b h in (i, a.0, a.1, subst (λ (r : Arc). (r.source ≡ k) ⊎ (r.target ≡ k)) (sym a.2) e)
 
   has-arc_is : (k : ℕ) → HasArc M k → HasArc N k
-  has-arc_is k (i, a, h, e) = (i, exchanged_arc a, at-map exchanged_arc M.arcs i a h, e)
+  has-arc_is k (i, a, h, e) = (i, exchanged_arc a, map-at exchanged_arc M.arcs i a h, e)
 
   module _ (V : Shaped M) where
     svertex-of : (P : Svertex → Type 0) (k : ℕ) (u : Svertex) → At N.svertices k u → ((v : Svertex) → At M.svertices k v → P (exchanged_svertex v)) → P u
@@ -103,8 +100,8 @@ module _ (M : Map) where
     between k a h = let b = V.arcs_between k a h in record {
       source = exchanged_svertex b.source;
       target = exchanged_svertex b.target;
-      has_source = at-map exchanged_svertex M.svertices a.source b.source b.has_source;
-      has_target = at-map exchanged_svertex M.svertices a.target b.target b.has_target;
+      has_source = map-at exchanged_svertex M.svertices a.source b.source b.has_source;
+      has_target = map-at exchanged_svertex M.svertices a.target b.target b.has_target;
       level_source = b.level_source;
       level_target = b.level_target;
     }
@@ -119,7 +116,7 @@ module _ (M : Map) where
       no_items_meet = λ i k y z d a b. item-of (λ r. OnItem N r d → OnItem N z d → i ≡ k) i y a (λ x h. item-of (λ r. OnItem N (exchanged_item x) d → OnItem N r d → i ≡ k) k z b (λ w g o p. V.no_items_meet i k x w d h g (on-was x d o) (on-was w d p)));
       around_lone = λ k u a n. svertex-of (λ z. (m : Label) × (z.around ≡ Some m)) k u a (λ v h. let r = V.around_lone k v h (λ x. n (has-arc_is k x)) in (exchanged r.0, ap (option_map exchanged) r.1));
       around_not = λ k u a x. svertex-of (λ z. z.around ≡ None) k u a (λ v h. ap (option_map exchanged) (V.around_not k v h (has-arc_was k x)));
-      ground_alone = λ z e. let r = V.ground_alone (empty-was exchanged_svertex M.svertices z) (none-was exchanged_loop M.loop e) in (exchanged r.0, ap (option_map exchanged) r.1);
+      ground_alone = λ z e. let r = V.ground_alone (map-empty exchanged_svertex M.svertices z) (none-was exchanged_loop M.loop e) in (exchanged r.0, ap (option_map exchanged) r.1);
       ground_not = λ m e. let l = face-was m e in let g = V.ground_not l.0 l.1 in (ap (map exchanged_svertex) g.0, ap (option_map exchanged_loop) g.1);
     }
 

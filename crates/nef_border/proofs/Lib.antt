@@ -1,7 +1,7 @@
 pub mod Said
 pub mod Made
 pub mod PlaceLabels
-pub mod BesideRays
+pub mod Across
 pub mod Listed
 pub mod StarMade
 pub mod RemarkedStars

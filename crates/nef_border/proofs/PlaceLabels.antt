@@ -5,7 +5,7 @@ use Rattle.nef_exact.specs.Signs.{Lies}
 use Rattle.nef_exact.proofs.Order.{Sign, minus, nought, plus, sign, sign-plus, sign-minus}
 use Rattle.nef_space.specs.Vectors.{Vector, IsDirection, dot, blend}
 use Rattle.nef_space.specs.declared.label.Label.{Label}
-use Rattle.nef_forms.proofs.Far.{nought-or, same-nought, same-off}
+use Rattle.nef_forms.proofs.Far.{nought-or}
 use Rattle.nef_forms.proofs.Directions.{self-pos}
 use Rattle.nef_forms.proofs.Representatives.{representative, representative_directions}
 use Rattle.nef_sphere.specs.Maps.{At, Map, Item, items, item_normal, item_above, item_mark, item_below, OnItem, IsFree, MapLabel, on_item, NearLabel, Valid}
@@ -14,11 +14,13 @@ use Rattle.nef_sphere.specs.Least.{by_side}
 use Rattle.nef_sphere.specs.Labelling.{Labelling}
 use Rattle.nef_sphere.proofs.Vectors.{normal-is}
 use Rattle.nef_sphere.proofs.Generic.{amount, far-keeps, far-level}
-use Rattle.nef_sphere.proofs.Forms.{same-turned}
+use Rattle.nef_sphere.proofs.Forms.{axes-forms, same-turned}
 use Rattle.nef_sphere.proofs.Labels.{label-exists, label-unique, label-by_signs, near-exists, near-unique, near-from_far, far-from_near}
 use Rattle.nef_sphere.proofs.NearItems.{near-free, near-item}
 use Rattle.nef_sphere.proofs.Kind.{away, away-dot}
-use Rattle.nef_sphere.proofs.Along.{near-same_cell}
+use Rattle.nef_sphere.proofs.Along.{near-same_cell, near-near}
+use Rattle.nef_sphere.proofs.Flips.{directed-by, far_directed-by}
+use Rattle.nef_build.proofs.Chosen.{map-labels}
 use Rattle.nef_border.specs.Topology.{Topology, TopologyLabel}
 use Rattle.nef_border.specs.Marks.{label_from, face_label}
 use Rattle.nef_border.proofs.Made.{by-one, made, by-carried, face-table}
@@ -29,27 +31,12 @@ near-turned gs d e c k h i s g m = ⊎_elim
     (λ z. far-level gs d c k i g z ∙ s g m ∙ sym (far-level gs d e k h g z))
     (λ f. far-keeps gs d c k i g m f ∙ sym (far-keeps gs d e k h g m f)) (nought-or (dot g d))
 
--- z, then w, then e: the two ways to write it have the same signs
-far-onward : (gs : List Vector) (z w e : Vector) (k j i l : ℕ) → amount gs w ≤ k → amount gs e ≤ j → amount gs e ≤ i → amount gs (blend i w 1 e) ≤ l
-    → SameSigns gs (blend l z 1 (blend i w 1 e)) (blend j (blend k z 1 w) 1 e)
-far-onward gs z w e k j i l hk hj hi hl g m = ⊎_elim
-    (λ a. let s = far-level gs z w k hk g a in ⊎_elim
-    (λ b. far-level gs (blend k z 1 w) e j hj g (same-nought (dot g w) (dot g (blend k z 1 w)) s b) ∙ sym (far-level gs w e i hi g b) ∙ sym (far-level gs z (blend i w 1 e) l hl g a))
-    (λ f. far-keeps gs (blend k z 1 w) e j hj g m (same-off (dot g w) (dot g (blend k z 1 w)) s f) ∙ s ∙ sym (far-keeps gs w e i hi g m f) ∙ sym (far-level gs z (blend i w 1 e) l hl g a))
-    (nought-or (dot g w)))
-    (λ f. let s = far-keeps gs z w k hk g m f in far-keeps gs (blend k z 1 w) e j hj g m (same-off (dot g z) (dot g (blend k z 1 w)) s f) ∙ s ∙ sym (far-keeps gs z (blend i w 1 e) l hl g m f))
-    (nought-or (dot g z))
-
 module _ (M : Map) (V : Valid M) where
   -- ---- near labels
   -- what is near z toward w, and from there toward e
-  pub near-onward : (z w e : Vector) (l : Label) (k low : ℕ) → amount (forms M) w ≤ k → ((i : ℕ) → low ≤ i → NearLabel M z (blend i w 1 e) l) → NearLabel M (blend k z 1 w) e l
-  near-onward z w e l k low h f =
-      let i = low + amount (forms M) e in
-      let j = amount (forms M) e in
-      let n = amount (forms M) (blend i w 1 e) in
-      near-from_far M V (blend k z 1 w) e j (omega arith) l (label-by_signs M V (blend n z 1 (blend i w 1 e)) (blend j (blend k z 1 w) 1 e)
-      (far-onward (forms M) z w e k j i n h (omega arith) (omega arith) (omega arith)) l (far-from_near M V z (blend i w 1 e) n (omega arith) l (f i (omega arith))))
+  pub near-onward : (z w e : Vector) (l : Label) (k low : ℕ) → IsDirection z → amount (forms M) w ≤ k → ((i : ℕ) → low ≤ i → NearLabel M z (blend i w 1 e) l) → NearLabel M (blend k z 1 w) e l
+  near-onward z w e l k low hz h f =
+      near-near (forms M) (MapLabel M) (map-labels M V) (directed-by (forms M) (axes-forms M)) (far_directed-by (forms M) (axes-forms M)) z Label.In Label.Out Label.In (λ x y. cc) z w e k hz h l low f
 
   near-toward_same : (d e c : Vector) (l : Label) → SameSigns (forms M) e c → NearLabel M d e l → NearLabel M d c l
   near-toward_same d e c l s a =

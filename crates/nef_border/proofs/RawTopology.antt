@@ -5,14 +5,13 @@ use Rattle.std.specs.Prelude.{option_map}
 use Rattle.nef_exact.proofs.Order.{Sign, sign, sign-plus, sign-minus, by_order}
 use Rattle.nef_space.specs.Vectors.{Vector, IsDirection, dot, SameDirection, IsNormal, blend}
 use Rattle.nef_space.specs.declared.label.Label.{Label}
-use Rattle.nef_forms.proofs.Directions.{self-pos}
 use Rattle.nef_cyclic.specs.Arcs.{IsOnCircle}
 use Rattle.nef_sphere.specs.Vectors.{IsPrimitive, VectorBelow}
 use Rattle.nef_sphere.specs.Maps.{At, Svertex, Loop, Map, Item, loop_item, items, item_normal, item_above, item_mark, item_below, OnItem, IsFree, MapLabel, Valid}
 use Rattle.nef_sphere.specs.Forms.{forms, Keeps}
 use Rattle.nef_sphere.specs.Least.{by_side, InOrder, Ordered}
 use Rattle.nef_sphere.specs.Stars.{Star}
-use Rattle.nef_sphere.specs.Labelling.{Labelling, Near, PlainAt, StraightAt, IsSmooth, plain, straight}
+use Rattle.nef_sphere.specs.Labelling.{Labelling, PlainAt, StraightAt, IsSmooth, plain, straight}
 use Rattle.nef_sphere.specs.Builds.{Proper}
 use Rattle.nef_sphere.proofs.Vectors.{normal-direction, normal-is}
 use Rattle.nef_sphere.proofs.Generic.{amount, far-keeps, far-level}
@@ -22,8 +21,7 @@ use Rattle.nef_sphere.proofs.Around.{free-around, item-stays, free-beside}
 use Rattle.nef_sphere.proofs.NearItems.{label-beside, label-around}
 use Rattle.nef_sphere.proofs.Compare.{way-self, SameDirection-turned}
 use Rattle.nef_sphere.proofs.Arcs.{at-loop, level-same}
-use Rattle.nef_sphere.proofs.Kind.{away, away-dot}
-use Rattle.nef_sphere.proofs.Along.{near-one}
+use Rattle.nef_sphere.proofs.Along.{not-even}
 use Rattle.nef_sphere.proofs.Flips.{directed-by, far_directed-by, planes-parallel}
 use Rattle.nef_build.specs.Raw.{RawMap, Of, IsLabelling, ShowsLabels, IsBare, IsRawOf}
 use Rattle.nef_build.specs.Overlays.{OnSvertex}
@@ -34,7 +32,8 @@ use Rattle.nef_build.proofs.RawFaces.{none-at, no-item, only-face}
 use Rattle.nef_border.specs.Topology.{Topology, TopologyLabel}
 use Rattle.nef_border.specs.Marks.{label_from, face_label, loop_by, IsRemarkedAt, IsTopologyRaw}
 use Rattle.nef_border.specs.Laws.{TopologyLabelling, TopologyOneLabel, TopologyStars}
-use Rattle.nef_border.proofs.Listed.{at-beside, empty-beside, option-was, none-was}
+use Rattle.nef_border.proofs.Listed.{option-was, none-was}
+use Rattle.nef_build.proofs.KeptStars.{at-other, none-left}
 use Rattle.nef_border.proofs.PlaceLabels.{topology-one, free-made, item-made, topology-labels}
 use Rattle.nef_border.proofs.RemarkedStars.{is-by, near-by, remarked-shows}
 
@@ -99,13 +98,7 @@ module _ (K : Topology) (M : Map) (V : Valid M) (L : Vector → Label) (top : (d
     -- a plain direction isn't straight
     plain-not_proper : (n y : Vector) (a m b c : Label) → IsDirection n → IsDirection y → StraightAt (Of L) n a m b y → PlainAt (Of L) y c → Proper a m b → ⊥
     plain-not_proper n y a m b c hn hy p q proper =
-        let s = by_side a m b in
-        let e = away-dot n n in
-        let h = self-pos n hn in
-        let one = near-one (forms M) (Of L) of-labels (directed-by (forms M) (axes-forms M)) (far_directed-by (forms M) (axes-forms M)) n a m b proper y in
-        let o = sym p.at_d ∙ q.at_d in
-        proper (one n a c hy (subst (Near (Of L) y n) (ap s (sign-plus (dot n n) h)) (p.near n)) (q.near n) ∙ sym o)
-        (one (away n) b c hy (subst (Near (Of L) y (away n)) (ap s (sign-minus (dot n (away n)) (omega (arith, ints)))) (p.near (away n))) (q.near (away n)) ∙ sym o)
+        not-even (forms M) (Of L) of-labels (directed-by (forms M) (axes-forms M)) (far_directed-by (forms M) (axes-forms M)) n a m b proper hn y hy p c q.at_d q.near
 
     module _ (O : Ordered M) (R : RawMap) (T : IsTopologyRaw K M R) where
       -- ---- stars
@@ -117,14 +110,14 @@ module _ (K : Topology) (M : Map) (V : Valid M) (L : Vector → Label) (top : (d
 
       svertex-of : (k : ℕ) (u : Star) → At R.stars k u → Svertices k u
       svertex-of k u a =
-          let v = at-beside R.stars M.svertices (sym T.as_many) k u a in
+          let v = at-other R.stars M.svertices k u T.as_many a in
           let r = T.stars k v.0 u v.1 a in
           let m = r.remarked in
           record { svertex = v.0; listed = v.1; remarked = r; axis = m.axis ∙ r.axis }
 
       star-of : (k : ℕ) (v : Svertex) → At M.svertices k v → (u : Star) × At R.stars k u × (u.axis ≡ v.way)
       star-of k v a =
-          let u = at-beside M.svertices R.stars T.as_many k v a in
+          let u = at-other M.svertices R.stars k v (sym T.as_many) a in
           let r = T.stars k v u.0 a u.1 in
           let m = r.remarked in
           (u.0, u.1, m.axis ∙ r.axis)
@@ -189,14 +182,14 @@ module _ (K : Topology) (M : Map) (V : Valid M) (L : Vector → Label) (top : (d
       -- ---- the face
       raw-ground_alone : R.stars ≡ [] → R.loop ≡ None → (m : Label) × (R.face ≡ Some m)
       raw-ground_alone z e =
-          let r = V.shaped.ground_alone (empty-beside R.stars M.svertices (sym T.as_many) z) (none-was (loop_by K) M.loop (sym T.loop ∙ e)) in
+          let r = V.shaped.ground_alone (none-left R.stars M.svertices T.as_many z) (none-was (loop_by K) M.loop (sym T.loop ∙ e)) in
           (face_label K r.0, T.face ∙ ap (option_map (face_label K)) r.1)
 
       face-was : (m : Label) → R.face ≡ Some m → (c : Label) × (M.face ≡ Some c) × (face_label K c ≡ m)
       face-was m e = option-was (face_label K) M.face m (sym T.face ∙ e)
 
       raw-ground_not : (m : Label) → R.face ≡ Some m → (R.stars ≡ []) × (R.loop ≡ None)
-      raw-ground_not m e = let c = face-was m e in let g = V.shaped.ground_not c.0 c.1 in (empty-beside M.svertices R.stars T.as_many g.0, T.loop ∙ ap (option_map (loop_by K)) g.1)
+      raw-ground_not m e = let c = face-was m e in let g = V.shaped.ground_not c.0 c.1 in (none-left M.svertices R.stars (sym T.as_many) g.0, T.loop ∙ ap (option_map (loop_by K)) g.1)
 
       raw-ground_label : (m : Label) (d : Vector) → R.face ≡ Some m → IsDirection d → L d ≡ m
       raw-ground_label m d e h =

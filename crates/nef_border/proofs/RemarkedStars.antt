@@ -14,7 +14,8 @@ use Rattle.nef_sphere.proofs.Flips.{far_directed-by}
 use Rattle.nef_build.specs.Raw.{Of, RayBelow, IsWellFormed, ShowsLabels}
 use Rattle.nef_border.specs.Topology.{Topology, TopologyLabel}
 use Rattle.nef_border.specs.Marks.{label_from, face_label, marked, IsRemarked}
-use Rattle.nef_border.proofs.Listed.{at-beside, empty-beside, count-same, sector-one}
+use Rattle.nef_border.proofs.Listed.{count-same, sector-one}
+use Rattle.nef_build.proofs.KeptStars.{at-other, none-left}
 use Rattle.nef_border.proofs.PlaceLabels.{topology-one}
 use Rattle.nef_border.proofs.StarMade.{Sides, sides-of, ray-made, sector-made, only-made, axis-made}
 
@@ -53,7 +54,7 @@ module _ (K : Topology) (M : Map) (V : Valid M) (L : Vector → Label) (top : (d
 
     was : (j : ℕ) (r : Ray) → At u.rays j r → Was j r
     was j r a =
-        let x = at-beside u.rays t.rays (sym R.as_many_rays) j r a in
+        let x = at-other u.rays t.rays j r R.as_many_rays a in
         let D = sides-of t M V W S j x.0 x.1 in
         record {
           ray = x.0;
@@ -81,7 +82,7 @@ module _ (K : Topology) (M : Map) (V : Valid M) (L : Vector → Label) (top : (d
         let D = w.sides in
         let c = label_from K w.ray.mark (D.before ∷ D.after ∷ []) in
         let p : OnRay t w.ray e = subst (λ (z : Ray). OnRay v z e) w.same o in
-        subst (Near (Of L) d e) (sym (ap (λ (z : Ray). z.mark) w.same) ∙ q) (near-by d e c W.axis (λ i h. ray-made t M V W S j w.ray w.has_ray D e p f i h K))
+        subst (Near (Of L) d e) (sym (ap (λ (z : Ray). z.mark) w.same) ∙ q) (near-by d e c W.axis (λ i h. ray-made t M V W S j w.ray w.has_ray D e p i h K))
     star-labels e l f (in_sector j q r a n o s) =
         let w = was j q a in
         let x = next-was j r n in
@@ -90,7 +91,7 @@ module _ (K : Topology) (M : Map) (V : Valid M) (L : Vector → Label) (top : (d
         subst (Near (Of L) d e) (at-one u.sectors j (face_label K D.after) l (R.sectors j D.after D.has_after) s)
         (near-by d e (face_label K D.after) W.axis (λ i h. sector-made t M V W S K j w.ray x.0 D.after e w.has_ray x.1 p D.has_after f i h))
     star-labels e l f (in_only_sector z s) =
-        let y = empty-beside u.rays t.rays (sym R.as_many_rays) z in
+        let y = none-left u.rays t.rays R.as_many_rays z in
         let b = sector-one t.rays t.sectors y W.as_many in
         subst (Near (Of L) d e) (at-one u.sectors zero (face_label K b.0) l (R.sectors zero b.0 b.1) s)
         (near-by d e (face_label K b.0) W.axis (λ i h. only-made t M V W S K b.0 e y b.1 f i h))
@@ -99,7 +100,7 @@ module _ (K : Topology) (M : Map) (V : Valid M) (L : Vector → Label) (top : (d
     star-each : (e : Vector) → (l : Label) × StarLabel t e l → (l : Label) × StarLabel v e l
     star-each e (l, on_ray j r a o q) = let b = becomes j r a in (b.0, on_ray j (marked r b.0) b.1 o refl)
     star-each e (l, in_sector j q r a n o s) = let b = becomes j q a in let c = next-becomes j r n in (face_label K l, in_sector j (marked q b.0) (marked r c.0) b.1 c.1 o (R.sectors j l s))
-    star-each e (l, in_only_sector z s) = (face_label K l, in_only_sector (empty-beside t.rays u.rays R.as_many_rays z) (R.sectors zero l s))
+    star-each e (l, in_only_sector z s) = (face_label K l, in_only_sector (none-left t.rays u.rays (sym R.as_many_rays) z) (R.sectors zero l s))
 
     star-formed : IsWellFormed v
     star-formed = record {
