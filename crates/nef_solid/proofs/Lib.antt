@@ -5,3 +5,6 @@ pub mod Joining
 pub mod Skeletons
 pub mod Planes
 pub mod Candidates
+pub mod FacetSides
+pub mod FacetWays
+pub mod FacetCorners
