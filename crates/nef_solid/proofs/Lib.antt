@@ -8,3 +8,7 @@ pub mod Candidates
 pub mod FacetSides
 pub mod FacetWays
 pub mod FacetCorners
+pub mod FacetArcs
+pub mod FacetPoints
+pub mod FacetEdges
+pub mod FacetEnds
