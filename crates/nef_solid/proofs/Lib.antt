@@ -12,3 +12,4 @@ pub mod FacetArcs
 pub mod FacetPoints
 pub mod FacetEdges
 pub mod FacetEnds
+pub mod FacetAngles
