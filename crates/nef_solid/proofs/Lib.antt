@@ -13,3 +13,4 @@ pub mod FacetPoints
 pub mod FacetEdges
 pub mod FacetEnds
 pub mod FacetAngles
+pub mod FacetTriangle
