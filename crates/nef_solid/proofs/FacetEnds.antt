@@ -32,7 +32,7 @@ use Rattle.nef_solid.proofs.Ways.{between-way, between-start, between-ends, same
 use Rattle.nef_solid.proofs.Edges.{near_point, near-between, near-germs, edge-way}
 use Rattle.nef_solid.proofs.FacetSides.{IsSided, level-way, sided-carried, flats-carried}
 use Rattle.nef_solid.proofs.FacetWays.{plane-ahead, even-by, even-to, below-on, two-off, meets-on, end-meets}
-use Rattle.nef_solid.proofs.FacetCorners.{item-at}
+use Rattle.nef_solid.proofs.FacetCorners.{ItemAt, item-at}
 use Rattle.nef_solid.proofs.FacetPoints.{IsInFacetOf, in-facet, beside-vertex}
 use Rattle.nef_solid.proofs.FacetEdges.{ahead-back, ahead-same, low-end, way-is, arc-beside, sided-beside}
 
@@ -78,8 +78,9 @@ module _ (s : Set) (C : Complex) (S : Shows s C) (h : Form) (y : Place) (normal 
     same-until : (q : Place) → IsBetween y q z → SameGerms s y q
     same-until q b = even-germs s 2 y q (even-by s 2 y q F.0 (λ r c. all r (between-inner y q z r b c)) (all q b))
 
-    corner-at : (m : PlaneMeet) → Meets C h m z → (k : Corner) × IsCornerAt C h (opposite d) m k
-    corner-at (meets_vertex i) (v, a, e) =
+    -- the item of a vertex at z on which y lies
+    pub item-seen : (i : ℕ) (v : Vertex) → At C.vertices i v → SamePlace v.point z → ItemAt s v.map (opposite d) (near_point s v.point y) n
+    item-seen i v a e =
         let p = v.point in
         let to-y = ahead-back y p d (ahead-same y z p d e ahead) in
         let q = near_point s p y in
@@ -87,9 +88,11 @@ module _ (s : Set) (C : Complex) (S : Shows s C) (h : Form) (y : Place) (normal 
         let same = same-until q (between-turned z y q b) in
         let K = S.cones i v a in
         let back = direction-right (toward p y) (opposite d) to-y in
-        let x = item-at s v.map K.valid (S.least i v a) (opposite d) q (λ g l o. near-label v.map s p K (opposite d) g l back ((near-germs s p (opposite d) y to-y g l).0 o))
-                back n normal (flats-carried s y q n same F.1) (all q (between-turned z y q b)) level-back in
-        (record { vertex = i; item = x.number }, (v, x.item, refl, record { vertex = a; item = x.listed }, x.same, x.on))
+        item-at s v.map K.valid (S.least i v a) (opposite d) q (λ g l o. near-label v.map s p K (opposite d) g l back ((near-germs s p (opposite d) y to-y g l).0 o))
+            back n normal (flats-carried s y q n same F.1) (all q (between-turned z y q b)) level-back
+
+    corner-at : (m : PlaneMeet) → Meets C h m z → (k : Corner) × IsCornerAt C h (opposite d) m k
+    corner-at (meets_vertex i) (v, a, e) = let x = item-seen i v a e in (record { vertex = i; item = x.number }, (v, x.item, refl, record { vertex = a; item = x.listed }, x.same, x.on))
     corner-at (meets_edge i) ((e, v, w, a, H, b), lies) =
         let to-y = ahead-back y z d ahead in
         let q = near_point s z y in

@@ -122,12 +122,16 @@ module _ (s : Set) (C : Complex) (S : Shows s C) where
         let E = edge-points s C k e v w z S a H b in
         (flat (toward v.point w.point)).0 (flat-onto s 2 q z i dim all (toward v.point w.point) ((E.1 (toward v.point w.point)).1 (edge-way s C k e v w S a H)))
 
-    pub edge-lies : (k : ℕ) → IsEdgePoint C k z → LiesIn C h k
-    edge-lies k (e, v, w, a, H, b) =
+    -- both ends of its edge lie in the plane
+    pub ends-lie : (k : ℕ) (e : Edge) (v w : Vertex) → At C.edges k e → HasEnds C e v w → IsBetween v.point z w.point → (form_at h v.point ≡ pos 0) × (form_at h w.point ≡ pos 0)
+    ends-lie k e v w a H b =
         let l = edge-level k e v w a H b in
         let to-z = level-way (normal_of h) (toward v.point w.point) (toward v.point z) (SameDirection-turned (toward v.point z) (toward v.point w.point) (between-way v.point z w.point b)) l in
         let low = plane-back h v.point z to-z on in
-        (e, v, w, a, H, low, plane-onward h v.point w.point l low)
+        (low, plane-onward h v.point w.point l low)
+
+    edge-lies : (k : ℕ) → IsEdgePoint C k z → LiesIn C h k
+    edge-lies k (e, v, w, a, H, b) = let l = ends-lie k e v w a H b in (e, v, w, a, H, l.0, l.1)
 
     pub end-meets : IsFlatBelow s 2 z → (m : PlaneMeet) × Meets C h m z
     end-meets f = by (below-on z f)

@@ -14,3 +14,5 @@ pub mod FacetEdges
 pub mod FacetEnds
 pub mod FacetAngles
 pub mod FacetTriangle
+pub mod FacetSight
+pub mod FacetNames
