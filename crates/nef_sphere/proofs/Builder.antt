@@ -35,12 +35,12 @@ abbrev pub ways : List Svertex → List Vector
 ways [] = []
 ways (v ∷ vs) = v.way ∷ ways vs
 
-at-ways : (vs : List Svertex) (k : ℕ) (v : Svertex) → At vs k v → At (ways vs) k v.way
+pub at-ways : (vs : List Svertex) (k : ℕ) (v : Svertex) → At vs k v → At (ways vs) k v.way
 at-ways [] k v a = absurd a
 at-ways (u ∷ vs) zero v e = ap (λ (r : Svertex). r.way) e
 at-ways (u ∷ vs) (suc k) v a = at-ways vs k v a
 
-ways-at : (vs : List Svertex) (k : ℕ) (x : Vector) → At (ways vs) k x → (v : Svertex) × At vs k v × (v.way ≡ x)
+pub ways-at : (vs : List Svertex) (k : ℕ) (x : Vector) → At (ways vs) k x → (v : Svertex) × At vs k v × (v.way ≡ x)
 ways-at [] k x a = absurd a
 ways-at (u ∷ vs) zero x e = (u, refl, e)
 ways-at (u ∷ vs) (suc k) x a = ways-at vs k x a
