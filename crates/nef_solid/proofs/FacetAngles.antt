@@ -1,15 +1,14 @@
 -- Angles in a plane by the signs of triple products, as forms of points; where a form is nought on a segment.
-use Rattle.std.proofs.Common.{◌≡◌, ℕ, ◌+◌, ◌*◌, ◌<◌, ◌≤◌, ℤ, pos, ◌+ℤ◌, ◌-ℤ◌, ◌*ℤ◌, neg_ℤ, ◌<ℤ◌, ◌≤ℤ◌, nat_abs, arith, refl, ap, sym, ◌∙◌, List, [], ◌∷◌, subst}
+use Rattle.std.proofs.Common.{◌≡◌, ℕ, ◌+◌, ◌*◌, ◌<◌, ℤ, pos, ◌+ℤ◌, ◌-ℤ◌, ◌*ℤ◌, neg_ℤ, ◌<ℤ◌, ◌≤ℤ◌, nat_abs, arith, ap, sym, ◌∙◌, [], ◌∷◌}
 use Rattle.std.proofs.lemmas.Int.{ints}
 use Rattle.std.proofs.Math.Nat.{mul-pos}
 use Rattle.nef_exact.proofs.Ring.{ring, at, num, neg, ◌⊕◌, ◌⊖◌, ◌⊗◌, Poly}
 use Rattle.nef_exact.proofs.Combination.{given, none, follows, follows_times}
 use Rattle.nef_exact.proofs.Order.{mul_pos, mul_nonneg, cancel_lt, cancel_le}
-use Rattle.nef_space.specs.Place.{Place, Form, form_at, normal_of, slope, plane_through, SamePlace, toward, IsBetween}
+use Rattle.nef_space.specs.Place.{Place, Form, form_at, slope, plane_through, toward, IsBetween}
 use Rattle.nef_space.specs.Vectors.{Vector, opposite, dot, cross, triple, IsZero, IsDirection, SameDirection}
 use Rattle.nef_forms.specs.Homogeneous.{of_place, IsMixed}
 use Rattle.nef_forms.proofs.Sums.{form-mix, form-sum, mixed-mix}
-use Rattle.nef_forms.proofs.Near.{slope-toward}
 use Rattle.nef_forms.proofs.Directions.{self-pos, dot-zero}
 use Rattle.nef_near.proofs.FlatDecided.{triple-dot}
 use Rattle.nef_near.proofs.Between.{mixed-of, between-of}
@@ -202,7 +201,7 @@ module _ (h : Form) (p r q : Place) (b : IsBetween p r q) where
           let o = ring (pos k ∷ []) (num (pos 0) ⊗ at 0) (num (pos 0)) tt in
           cancel_lt c (pos 0) (pos k) (omega (arith, ints)) (omega (arith, ints))
 
-  -- where it is nought between, it is nought at both ends or positive at one and negative at the other
+  -- a form that is nought between and negative at the start is positive at the end
   pub between-level : form_at h r ≡ pos 0 → form_at h p <ℤ pos 0 → pos 0 <ℤ form_at h q
   between-level x y = let m = mixed-of p r q b in plain (form_at h p) (form_at h r) (form_at h q) m.k m.i m.j m.some_i m.some_j (sum-at m) x y
     where
@@ -215,7 +214,7 @@ module _ (h : Form) (p r q : Place) (b : IsBetween p r q) where
           let o = ring (pos j ∷ []) (num (pos 0) ⊗ at 0) (num (pos 0)) tt in
           cancel_lt (pos 0) d (pos j) (omega (arith, ints)) (omega (arith, ints))
 
-  -- a form that is positive at the end, and nought between, is negative at the start
+  -- and one that is positive at the start is negative at the end
   pub between-level_minus : form_at h r ≡ pos 0 → pos 0 <ℤ form_at h p → form_at h q <ℤ pos 0
   between-level_minus x y = let m = mixed-of p r q b in plain (form_at h p) (form_at h r) (form_at h q) m.k m.i m.j m.some_i m.some_j (sum-at m) x y
     where

@@ -1,16 +1,16 @@
 -- An arc that is met close to a svertex ends there, on the side on which it is met; and each arc that ends there is met close to it on its side.
-use Rattle.std.proofs.Common.{◌≡◌, ℕ, ◌≤◌, ℤ, pos, ◌-ℤ◌, ◌*ℤ◌, ◌+ℤ◌, ◌<ℤ◌, arith, refl, ap, sym, ◌∙◌, ◌⊎◌, inl, inr, ⊎_elim, List, [], ◌∷◌, subst}
+use Rattle.std.proofs.Common.{◌≡◌, ℕ, ◌≤◌, ℤ, pos, ◌<ℤ◌, arith, refl, ap, sym, ◌∙◌, inl, inr, ⊎_elim, [], ◌∷◌, subst}
 use Rattle.std.proofs.lemmas.Int.{ints}
-use Rattle.nef_exact.specs.Signs.{sign, Lies}
+use Rattle.nef_exact.specs.Signs.{sign}
 use Rattle.nef_exact.proofs.Ring.{ring, at, num, ◌⊕◌, ◌⊖◌, ◌⊗◌}
 use Rattle.nef_exact.proofs.Order.{by_order}
-use Rattle.nef_space.specs.Vectors.{Vector, blend, dot, cross, triple, IsZero, IsDirection, SameDirection, IsOpposite}
+use Rattle.nef_space.specs.Vectors.{Vector, blend, dot, cross, triple, IsDirection, SameDirection}
 use Rattle.nef_cyclic.specs.Arcs.{IsOnCircle, IsStrictlyOn}
 use Rattle.nef_near.proofs.FlatDecided.{triple-dot, cross-turned}
 use Rattle.nef_forms.proofs.Far.{same-nought}
 use Rattle.nef_forms.proofs.Directions.{self-pos, dot-zero, dot-comm, direction-left}
 use Rattle.nef_sphere.specs.Forms.{Keeps, arc_forms, forms}
-use Rattle.nef_sphere.specs.Maps.{At, Svertex, Arc, Map, Item, arc_item, items, item_normal, way_of, OnItem, Shaped}
+use Rattle.nef_sphere.specs.Maps.{At, Svertex, Arc, Map, arc_item, items, way_of, Shaped}
 use Rattle.nef_sphere.proofs.Vectors.{triple-middle, normal-is, same-plus, same-minus}
 use Rattle.nef_sphere.proofs.Generic.{amount, far-keeps}
 use Rattle.nef_sphere.proofs.Places.{kept-plus, kept-minus, SameDirection-decided}
@@ -60,8 +60,8 @@ module _ (M : Map) (V : Shaped M) (j : ℕ) (u : Svertex) (b : At M.svertices j 
   turn : (n : Vector) → triple n w c ≡ triple n w f
   turn n = ring (n.x ∷ n.y ∷ n.z ∷ w.x ∷ w.y ∷ w.z ∷ f.x ∷ f.y ∷ f.z ∷ pos K ∷ [])
       (at 0 ⊗ (at 4 ⊗ (at 9 ⊗ at 5 ⊕ num (pos 1) ⊗ at 8) ⊖ at 5 ⊗ (at 9 ⊗ at 4 ⊕ num (pos 1) ⊗ at 7))
-          ⊕ at 1 ⊗ (at 5 ⊗ (at 9 ⊗ at 3 ⊕ num (pos 1) ⊗ at 6) ⊖ at 3 ⊗ (at 9 ⊗ at 5 ⊕ num (pos 1) ⊗ at 8))
-          ⊕ at 2 ⊗ (at 3 ⊗ (at 9 ⊗ at 4 ⊕ num (pos 1) ⊗ at 7) ⊖ at 4 ⊗ (at 9 ⊗ at 3 ⊕ num (pos 1) ⊗ at 6)))
+      ⊕ at 1 ⊗ (at 5 ⊗ (at 9 ⊗ at 3 ⊕ num (pos 1) ⊗ at 6) ⊖ at 3 ⊗ (at 9 ⊗ at 5 ⊕ num (pos 1) ⊗ at 8))
+      ⊕ at 2 ⊗ (at 3 ⊗ (at 9 ⊗ at 4 ⊕ num (pos 1) ⊗ at 7) ⊖ at 4 ⊗ (at 9 ⊗ at 3 ⊕ num (pos 1) ⊗ at 6)))
       (at 0 ⊗ (at 4 ⊗ at 8 ⊖ at 5 ⊗ at 7) ⊕ at 1 ⊗ (at 5 ⊗ at 6 ⊖ at 3 ⊗ at 8) ⊕ at 2 ⊗ (at 3 ⊗ at 7 ⊖ at 4 ⊗ at 6)) tt
 
   apart : (n : Vector) → (triple n w f ≡ pos 0 → ⊥) → SameDirection w c → ⊥

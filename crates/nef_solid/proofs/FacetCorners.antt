@@ -1,7 +1,7 @@
 -- Where the labels near a direction of a least map are the germs of a facet point, an item of the facet's plane lies at that direction.
-use Rattle.std.proofs.Common.{◌≡◌, ℕ, ◌+◌, ◌<◌, ◌≤◌, ℤ, pos, ◌+ℤ◌, ◌*ℤ◌, arith, refl, ap, sym, ◌∙◌, ◌⊎◌, inl, inr, ⊎_elim, [], ◌∷◌, subst}
+use Rattle.std.proofs.Common.{◌≡◌, ℕ, ◌+◌, ◌≤◌, pos, ◌+ℤ◌, ◌*ℤ◌, arith, refl, ap, sym, ◌∙◌, inr, ⊎_elim, [], ◌∷◌, subst}
 use Rattle.std.proofs.lemmas.Int.{ints}
-use Rattle.nef_exact.specs.Signs.{sign, Lies}
+use Rattle.nef_exact.specs.Signs.{sign}
 use Rattle.nef_exact.proofs.Ring.{ring, at, num, ◌⊕◌, ◌⊗◌}
 use Rattle.nef_exact.proofs.Order.{sign-scaled}
 use Rattle.nef_space.specs.Local.{HasLabel, Germ, FlatDim}
@@ -15,7 +15,7 @@ use Rattle.nef_forms.proofs.Far.{nought-or, same-nought, same-off}
 use Rattle.nef_forms.proofs.Directions.{dot-zero}
 use Rattle.nef_sphere.specs.Forms.{SameSigns, forms}
 use Rattle.nef_sphere.specs.Least.{by_side, NearStraight, Least}
-use Rattle.nef_sphere.specs.Maps.{At, Svertex, Map, Item, items, item_normal, item_above, item_mark, item_below, OnItem, IsFree, MapLabel, NearLabel, Valid}
+use Rattle.nef_sphere.specs.Maps.{At, Map, Item, items, item_normal, item_above, item_mark, item_below, OnItem, MapLabel, NearLabel, Valid}
 use Rattle.nef_sphere.proofs.Vectors.{normal-direction, normal-is, dot-comb}
 use Rattle.nef_sphere.proofs.Generic.{amount, far-keeps, far-level}
 use Rattle.nef_sphere.proofs.Forms.{PlaceOf, svertex_place, item_place, free_place, place_of}

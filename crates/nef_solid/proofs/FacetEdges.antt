@@ -1,5 +1,5 @@
 -- Beside an edge point: the labels of its lower end near the edge are the germs close to it; and turned ways.
-use Rattle.std.proofs.Common.{◌≡◌, ℕ, ◌≤◌, ℤ, pos, ◌-ℤ◌, ◌*ℤ◌, ◌+ℤ◌, neg_ℤ, ◌<ℤ◌, arith, refl, ap, sym, ◌∙◌, ◌⊎◌, inl, inr, ⊎_elim, ◌↔◌, [], ◌∷◌, subst}
+use Rattle.std.proofs.Common.{◌≡◌, ℕ, ℤ, pos, ◌-ℤ◌, ◌*ℤ◌, ◌+ℤ◌, neg_ℤ, ◌<ℤ◌, arith, sym, ◌∙◌, inl, inr, ⊎_elim, [], ◌∷◌, subst}
 use Rattle.std.proofs.lemmas.Int.{ints}
 use Rattle.nef_exact.specs.Signs.{sign}
 use Rattle.nef_exact.proofs.Ring.{ring, at, num, neg, ◌⊕◌, ◌⊖◌, ◌⊗◌}
@@ -10,16 +10,13 @@ use Rattle.nef_space.specs.Place.{Place, SamePlace, toward, IsBetween}
 use Rattle.nef_space.specs.Sets.{Set}
 use Rattle.nef_space.specs.Vectors.{Vector, opposite, blend, dot, cross, triple, IsZero, IsDirection, IsNormal, SameDirection}
 use Rattle.nef_space.specs.declared.label.Label.{Label}
-use Rattle.nef_near.specs.Cones.{NearGerm}
 use Rattle.nef_near.specs.Laws.{SameGerms}
 use Rattle.nef_near.proofs.Alike.{FlatDim-by_germs, FlatDim-one}
 use Rattle.nef_near.proofs.Flats.{FlatCone-from_flat, vector-same}
-use Rattle.nef_near.proofs.FlatDecided.{near-of_flat, cross-turned}
-use Rattle.nef_forms.specs.Homogeneous.{SameUpToFactor, of_direction}
+use Rattle.nef_near.proofs.FlatDecided.{near-of_flat}
 use Rattle.nef_forms.proofs.Directions.{factor-same, direction-left, direction-right}
 use Rattle.nef_sphere.specs.Forms.{forms}
-use Rattle.nef_sphere.specs.Least.{Least}
-use Rattle.nef_sphere.specs.Maps.{At, Svertex, Arc, Item, arc_item, loop_item, items, item_normal, item_above, item_mark, item_below, way_of, OnItem, NearLabel, Valid}
+use Rattle.nef_sphere.specs.Maps.{At, Svertex, Arc, Item, arc_item, loop_item, items, item_normal, way_of, OnItem, NearLabel, Valid}
 use Rattle.nef_sphere.proofs.Vectors.{normal-direction, dot-comb, same-plus, same-minus}
 use Rattle.nef_sphere.proofs.Generic.{amount, far-keeps}
 use Rattle.nef_sphere.proofs.Lists.{at-one}
@@ -34,7 +31,7 @@ use Rattle.nef_solid.specs.Shows.{Shows}
 use Rattle.nef_solid.specs.Skeleton.{IsArcOnSide}
 use Rattle.nef_solid.proofs.Cones.{FlatAre}
 use Rattle.nef_solid.proofs.Edges.{edge-points, near_point, near-germs}
-use Rattle.nef_solid.proofs.FacetSides.{IsSided, level-way}
+use Rattle.nef_solid.proofs.FacetSides.{IsSided}
 use Rattle.nef_solid.proofs.FacetCorners.{near-near, item-sided, item-at}
 use Rattle.nef_solid.proofs.FacetArcs.{source-met, target-met, source-meets, target-meets}
 
@@ -54,19 +51,28 @@ ahead-back p q d w = subst (λ (e : Vector). SameDirection e (opposite d)) (vect
 -- an equal point lies the same way
 pub ahead-same : (y z p : Place) (d : Vector) → SamePlace p z → SameDirection (toward y z) d → SameDirection (toward y p) d
 ahead-same y z p d e w = SameDirection-trans (toward y p) (toward y z) d (SameDirection-turned (toward y z) (toward y p) (factor-same (toward y z) (toward y p) (record {
-    k = p.w;
-    l = z.w;
-    some_k = p.proper;
-    some_l = z.proper;
-    is_x = each y.x z.x p.x e.along_x;
-    is_y = each y.y z.y p.y e.along_y;
-    is_z = each y.z z.z p.z e.along_z;
-    is_w = ring (pos p.w ∷ pos z.w ∷ []) (at 0 ⊗ num (pos 0)) (at 1 ⊗ num (pos 0)) tt;
-  }) (direction-left (toward y z) d w))) w
+  k = p.w;
+  l = z.w;
+  some_k = p.proper;
+  some_l = z.proper;
+  is_x = each y.x z.x p.x e.along_x;
+  is_y = each y.y z.y p.y e.along_y;
+  is_z = each y.z z.z p.z e.along_z;
+  is_w = ring (pos p.w ∷ pos z.w ∷ []) (at 0 ⊗ num (pos 0)) (at 1 ⊗ num (pos 0)) tt;
+}) (direction-left (toward y z) d w))) w
   where
     each : (a b c : ℤ) → c *ℤ pos z.w ≡ b *ℤ pos p.w → pos p.w *ℤ (b *ℤ pos y.w -ℤ a *ℤ pos z.w) ≡ pos z.w *ℤ (c *ℤ pos y.w -ℤ a *ℤ pos p.w)
     each a b c f = follows (a ∷ b ∷ c ∷ pos y.w ∷ pos z.w ∷ pos p.w ∷ []) (at 5 ⊗ (at 1 ⊗ at 3 ⊖ at 0 ⊗ at 4)) (at 4 ⊗ (at 2 ⊗ at 3 ⊖ at 0 ⊗ at 5))
         (given (neg (at 3)) (at 2 ⊗ at 4) (at 1 ⊗ at 5) f none) tt
+
+-- a way on which two directions are flat doesn't begin along an edge
+pub not-along : (s : Set) (t y : Place) (f : Vector) → SameDirection (toward t y) f → FlatDim s t 1 → FlatDim s (near_point s t y) 2 → Flat s t f → ⊥
+not-along s t y f w one two flat =
+    let same : SameGerms s t (near_point s t y) = λ g l.
+    let k = near-of_flat s t f (FlatCone-from_flat s t f flat) g l in
+    let m = near-germs s t f y w g l in
+    (λ h. m.1 (k.0 h), λ h. k.1 (m.0 h)) in
+    let e = FlatDim-one s (near_point s t y) 1 2 (FlatDim-by_germs s s t (near_point s t y) same 1 one) two in cc
 
 -- ---- beside an edge
 module _ (s : Set) (C : Complex) (S : Shows s C) (i : ℕ) (e : Edge) (v w : Vertex) (z : Place) (a : At C.edges i e) (H : HasEnds C e v w) (b : IsBetween v.point z w.point) where
@@ -109,12 +115,7 @@ module _ (s : Set) (C : Complex) (S : Shows s C) (i : ℕ) (e : Edge) (v w : Ver
     across two n j x o r =
         let E = edge-points s C i e v w z S a H b in
         let c = parallel-in_plane n u.way f j x o r in
-        let flat = (E.1 f).1 (subst (λ (d : Vector). IsZero (cross d f)) (sym way-is) c) in
-        let same : SameGerms s z q = λ g l.
-                let k = near-of_flat s z f (FlatCone-from_flat s z f flat) g l in
-                let m = near-germs s z f y t g l in
-                (λ h. m.1 (k.0 h), λ h. k.1 (m.0 h)) in
-        let k = FlatDim-one s q 1 2 (FlatDim-by_germs s s z q same 1 E.0) two in cc
+        not-along s z y f t E.0 two ((E.1 f).1 (subst (λ (d : Vector). IsZero (cross d f)) (sym way-is) c))
 
     module _ (n : Vector) (normal : IsNormal n) (level : dot n u.way ≡ pos 0) (along : dot n f ≡ pos 0) where
       beside-direction : IsDirection (beside f)
@@ -133,11 +134,15 @@ module _ (s : Set) (C : Complex) (S : Shows s C) (i : ℕ) (e : Edge) (v w : Ver
         where
           arc : (c : Arc) (k : ℕ) → At (items v.map) k (arc_item c) → OnItem v.map (arc_item c) (beside f) → SameDirection c.normal n → IsArcOnSide v e.low_svertex n f c
           arc c k l o r = by_order (triple n u.way f) (pos 0)
-              (λ h. inr (target-met v.map V.shaped e.low_svertex u low-end.1 f (amount (forms v.map) f) (omega arith) k c l o (same-minus (triple n u.way f) (triple c.normal u.way f) (same-turn c.normal r) h),
-              subst (λ (d : Vector). triple n d f <ℤ pos 0) (sym way-is) h))
+              (λ h. inr (
+                target-met v.map V.shaped e.low_svertex u low-end.1 f (amount (forms v.map) f) (omega arith) k c l o (same-minus (triple n u.way f) (triple c.normal u.way f) (same-turn c.normal r) h),
+                subst (λ (d : Vector). triple n d f <ℤ pos 0) (sym way-is) h,
+              ))
               (λ h. absurd (across two n (normal-direction n normal) level along h))
-              (λ h. inl (source-met v.map V.shaped e.low_svertex u low-end.1 f (amount (forms v.map) f) (omega arith) k c l o (same-plus (triple n u.way f) (triple c.normal u.way f) (same-turn c.normal r) h),
-              subst (λ (d : Vector). pos 0 <ℤ triple n d f) (sym way-is) h))
+              (λ h. inl (
+                source-met v.map V.shaped e.low_svertex u low-end.1 f (amount (forms v.map) f) (omega arith) k c l o (same-plus (triple n u.way f) (triple c.normal u.way f) (same-turn c.normal r) h),
+                subst (λ (d : Vector). pos 0 <ℤ triple n d f) (sym way-is) h,
+              ))
 
           by : (x : Item) (k : ℕ) → At (items v.map) k x → OnItem v.map x (beside f) → SameDirection (item_normal x) n → (k : ℕ) × (c : Arc) × At v.map.arcs k c × SameDirection c.normal n × IsArcOnSide v e.low_svertex n f c
           by (arc_item c) k l o r = (k, c, arc-at v.map.arcs v.map.loop k c l, r, arc c k l o r)

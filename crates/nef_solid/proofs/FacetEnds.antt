@@ -1,36 +1,34 @@
 -- What a ray within a facet first meets has an item of the facet's plane on the ray's side; and where such an item lies behind what is first met, the point lies in a facet.
-use Rattle.std.proofs.Common.{◌≡◌, ℕ, pos, neg_ℤ, arith, refl, sym, ◌∙◌, ◌↔◌, [], ◌∷◌, subst}
+use Rattle.std.proofs.Common.{◌≡◌, ℕ, pos, neg_ℤ, arith, refl, sym, ◌∙◌, [], ◌∷◌, subst}
 use Rattle.std.proofs.lemmas.Int.{ints}
 use Rattle.nef_exact.specs.Signs.{sign}
 use Rattle.nef_exact.proofs.Ring.{ring, at, neg, ◌⊕◌, ◌⊗◌}
 use Rattle.nef_space.specs.Local.{HasLabel, Germ, Flat, FlatDim}
 use Rattle.nef_space.specs.Place.{Place, Form, form_at, normal_of, slope, SamePlace, toward, IsBetween}
 use Rattle.nef_space.specs.Sets.{Set}
-use Rattle.nef_space.specs.Vectors.{Vector, opposite, dot, cross, IsZero, IsDirection, IsNormal, SameDirection}
-use Rattle.nef_space.specs.declared.label.Label.{Label}
-use Rattle.nef_near.specs.Laws.{IsFlatBelow, Drop, WayEnd, SameGerms}
-use Rattle.nef_near.proofs.Rays.{same-place_sym}
+use Rattle.nef_space.specs.Vectors.{Vector, opposite, dot, IsDirection, IsNormal, SameDirection}
+use Rattle.nef_near.specs.Laws.{Drop, SameGerms}
 use Rattle.nef_near.proofs.FlatDecided.{cross-turned}
 use Rattle.nef_near.proofs.Even.{even-germs}
 use Rattle.nef_near.proofs.Between.{between-turned, between-inner}
 use Rattle.nef_near.proofs.Edges.{flat_way-end}
 use Rattle.nef_forms.proofs.Between.{between-same}
 use Rattle.nef_forms.proofs.Directions.{dot-comm, direction-left, direction-right}
-use Rattle.nef_sphere.specs.Least.{by_side, Least, Cone}
-use Rattle.nef_sphere.specs.Maps.{At, Arc, Item, arc_item, items, item_normal, item_above, item_mark, item_below, way_of, OnItem}
+use Rattle.nef_sphere.specs.Least.{by_side}
+use Rattle.nef_sphere.specs.Maps.{At, Item, arc_item, items, item_normal, item_above, item_mark, item_below, way_of}
 use Rattle.nef_sphere.proofs.Lists.{at-one}
 use Rattle.nef_sphere.proofs.KindFlats.{in-span}
-use Rattle.nef_sphere.proofs.Compare.{SameDirection-turned, SameDirection-trans, way-self}
+use Rattle.nef_sphere.proofs.Compare.{SameDirection-turned, SameDirection-trans}
 use Rattle.nef_sphere.proofs.Arcs.{at-arc, level-same}
 use Rattle.nef_solid.specs.Complexes.{Vertex, Edge, Complex, Corner, HasEnds, IsCorner}
 use Rattle.nef_solid.specs.Shows.{Shows}
-use Rattle.nef_solid.specs.Skeleton.{IsVertexPoint, IsEdgePoint, IsOnEdges, PlaneMeet, meets_vertex, meets_edge, Meets, LiesIn, IsFirstInPlane, IsArcOnSide, IsCornerAt}
+use Rattle.nef_solid.specs.Skeleton.{IsVertexPoint, IsEdgePoint, IsOnEdges, PlaneMeet, meets_vertex, meets_edge, Meets, LiesIn, IsFirstInPlane, IsCornerAt}
 use Rattle.nef_solid.specs.Laws.{IsFlatIn}
 use Rattle.nef_solid.proofs.Cones.{FlatAre, near-label}
 use Rattle.nef_solid.proofs.Planes.{plane-way}
 use Rattle.nef_solid.proofs.Ways.{between-way, between-start, between-ends, same-itself}
 use Rattle.nef_solid.proofs.Edges.{near_point, near-between, near-germs, edge-way}
-use Rattle.nef_solid.proofs.FacetSides.{IsSided, level-way, sided-carried, flats-carried}
+use Rattle.nef_solid.proofs.FacetSides.{level-way, sided-carried, flats-carried}
 use Rattle.nef_solid.proofs.FacetWays.{plane-ahead, even-by, even-to, below-on, two-off, meets-on, end-meets}
 use Rattle.nef_solid.proofs.FacetCorners.{ItemAt, item-at}
 use Rattle.nef_solid.proofs.FacetPoints.{IsInFacetOf, in-facet, beside-vertex}
@@ -89,7 +87,7 @@ module _ (s : Set) (C : Complex) (S : Shows s C) (h : Form) (y : Place) (normal 
         let K = S.cones i v a in
         let back = direction-right (toward p y) (opposite d) to-y in
         item-at s v.map K.valid (S.least i v a) (opposite d) q (λ g l o. near-label v.map s p K (opposite d) g l back ((near-germs s p (opposite d) y to-y g l).0 o))
-            back n normal (flats-carried s y q n same F.1) (all q (between-turned z y q b)) level-back
+        back n normal (flats-carried s y q n same F.1) (all q (between-turned z y q b)) level-back
 
     corner-at : (m : PlaneMeet) → Meets C h m z → (k : Corner) × IsCornerAt C h (opposite d) m k
     corner-at (meets_vertex i) (v, a, e) = let x = item-seen i v a e in (record { vertex = i; item = x.number }, (v, x.item, refl, record { vertex = a; item = x.listed }, x.same, x.on))

@@ -1,21 +1,21 @@
 -- Each point with two flat directions is a facet point of an item of a vertex that it sees, and has a corner.
-use Rattle.std.proofs.Common.{◌≡◌, ℕ, ℤ, pos, ◌*ℤ◌, ◌+ℤ◌, neg_ℤ, ◌<ℤ◌, ◌≤ℤ◌, arith, refl, ap, sym, ◌∙◌, ◌⊎◌, inl, inr, ⊎_elim, ◌↔◌, [], ◌∷◌, subst, Bool, true, false, cond, ◌&&◌, Decides}
+use Rattle.std.proofs.Common.{◌≡◌, ℤ, pos, ◌*ℤ◌, ◌<ℤ◌, arith, refl, ap, sym, ◌∙◌, ⊎_elim, ◌↔◌, [], ◌∷◌, subst, Bool, true, false, cond, ◌&&◌, Decides}
 use Rattle.std.proofs.lemmas.Int.{ints}
 use Rattle.std.specs.Ordering.{int_eq}
 use Rattle.std.proofs.lemmas.Bool.Decides.{Decides-int_eq}
-use Rattle.nef_exact.proofs.Ring.{ring, at, num, neg, ◌⊕◌, ◌⊖◌, ◌⊗◌}
-use Rattle.nef_exact.proofs.Order.{mul_nonneg, mul_pos, cancel_eq}
+use Rattle.nef_exact.proofs.Ring.{ring, at, num, neg, ◌⊕◌, ◌⊗◌}
+use Rattle.nef_exact.proofs.Order.{mul_nonneg, mul_pos}
 use Rattle.nef_space.specs.Local.{Flat, FlatDim}
-use Rattle.nef_space.specs.Place.{Place, Form, form_at, normal_of, slope, plane_through, toward, IsBetween}
+use Rattle.nef_space.specs.Place.{Place, Form, form_at, normal_of, slope, plane_through, toward}
 use Rattle.nef_space.specs.Sets.{Set}
-use Rattle.nef_space.specs.Vectors.{Vector, vector, opposite, dot, IsZero, IsDirection, IsNormal, plane_axis, beside_x, beside_y}
+use Rattle.nef_space.specs.Vectors.{Vector, vector, opposite, dot, IsDirection, IsNormal, plane_axis, beside_x, beside_y}
 use Rattle.nef_near.proofs.Flats.{vector-same}
 use Rattle.nef_near.proofs.Supports.{flat-plane}
 use Rattle.nef_near.proofs.Between.{between-turned}
 use Rattle.nef_forms.proofs.Far.{nought-or}
 use Rattle.nef_forms.proofs.Directions.{dot-zero}
 use Rattle.nef_forms.proofs.Between.{place-toward}
-use Rattle.nef_sphere.specs.Maps.{At, Item, items, item_normal, OnItem}
+use Rattle.nef_sphere.specs.Maps.{Item, item_normal, OnItem}
 use Rattle.nef_sphere.proofs.Vectors.{normal-direction}
 use Rattle.nef_sphere.proofs.Forms.{on-level}
 use Rattle.nef_sphere.proofs.Shot.{product-off}
@@ -27,6 +27,7 @@ use Rattle.nef_solid.specs.Complexes.{Vertex, Complex, Corner, IsCorner}
 use Rattle.nef_solid.specs.Shows.{Shows}
 use Rattle.nef_solid.specs.Skeleton.{IsFacetPoint, item_plane, RayNames, HasCorner}
 use Rattle.nef_solid.specs.Laws.{IsFlatIn}
+use Rattle.nef_solid.proofs.Cones.{FlatAre}
 use Rattle.nef_solid.proofs.Planes.{plane-way}
 use Rattle.nef_solid.proofs.Ways.{same-itself}
 use Rattle.nef_solid.proofs.FacetWays.{two-off}
@@ -39,12 +40,25 @@ use Rattle.nef_solid.proofs.FacetSight.{sees-vertex}
 scaled-nought : (k x : ℤ) → pos 0 <ℤ k → x *ℤ k ≡ pos 0 → x ≡ pos 0
 scaled-nought k x h e = ⊎_elim (λ z. z) (λ f. absurd (product-off k x h f (ring (k ∷ x ∷ []) (at 0 ⊗ at 1) (at 1 ⊗ at 0) tt ∙ e))) (nought-or x)
 
+weight : (p : Place) → pos 0 <ℤ pos p.w
+weight p = let l = p.proper in omega (arith, ints)
+
 normal-scaled : (n : Vector) (k : ℤ) → pos 0 <ℤ k → IsNormal n → IsNormal (vector (n.x *ℤ k) (n.y *ℤ k) (n.z *ℤ k))
 normal-scaled n k h N = record {
   first = mul_nonneg n.x k N.first (omega (arith, ints));
   second = λ e. mul_nonneg n.y k (N.second (scaled-nought k n.x h e)) (omega (arith, ints));
   third = λ e f. mul_pos n.z k (N.third (scaled-nought k n.x h e) (scaled-nought k n.y h f)) h;
 }
+
+-- its directions are those of the normal
+through-level : (n d : Vector) (p : Place) → (dot n d ≡ pos 0) ↔ (slope (plane_through n p) d ≡ pos 0)
+through-level n d p = (
+  λ e. through-slope n p d ∙ ap (λ r. pos p.w *ℤ r) e ∙ ring (pos p.w ∷ []) (at 0 ⊗ num (pos 0)) (num (pos 0)) tt,
+  λ e. scaled-nought (pos p.w) (dot n d) (weight p) (ring (dot n d ∷ pos p.w ∷ []) (at 0 ⊗ at 1) (at 1 ⊗ at 0) tt ∙ sym (through-slope n p d) ∙ e),
+)
+
+flats-through : (s : Set) (y p : Place) (n : Vector) → FlatAre s y n → (d : Vector) → Flat s y d ↔ (slope (plane_through n p) d ≡ pos 0)
+flats-through s y p n flat d = let l = through-level n d p in let f = flat d in ((λ g. l.0 (f.0 g)), (λ e. f.1 (l.1 e)))
 
 -- the axis of a plane is a direction of it
 axis-in : (n : Vector) → IsDirection n → IsDirection (plane_axis n) × (dot n (plane_axis n) ≡ pos 0)
@@ -101,14 +115,11 @@ module _ (s : Set) (C : Complex) (S : Shows s C) where
       let n = item_normal x in
       let h = item_plane v x in
       let p = v.point in
-      let w : pos 0 <ℤ pos p.w = (let l = p.proper in omega (arith, ints)) in
       let N = (S.cones k.vertex v c.vertex).valid.shaped.normals k.item x c.item in
       let F = facet-point s C S k v x y c P in
       let axis = axis-in n (normal-direction n N) in
-      let level : (d : Vector) → dot n d ≡ pos 0 → slope h d ≡ pos 0 = λ d e. through-slope n p d ∙ ap (λ r. pos p.w *ℤ r) e ∙ ring (pos p.w ∷ []) (at 0 ⊗ num (pos 0)) (num (pos 0)) tt in
-      let back : (d : Vector) → slope h d ≡ pos 0 → dot n d ≡ pos 0 = λ d e. scaled-nought (pos p.w) (dot n d) w (ring (dot n d ∷ pos p.w ∷ []) (at 0 ⊗ at 1) (at 1 ⊗ at 0) tt ∙ sym (through-slope n p d) ∙ e) in
-      let m = facet-behind s C S h y (normal-scaled n (pos p.w) w N) (through-at n p y ∙ on-level v.map x (toward p y) P.on_item) (plane_axis n) axis.0 (level (plane_axis n) axis.1)
-              (F.dim, λ d. ((λ f. level d ((F.flat d).0 f)), (λ e. (F.flat d).1 (back d e)))) in
+      let m = facet-behind s C S h y (normal-scaled n (pos p.w) (weight p) N) (through-at n p y ∙ on-level v.map x (toward p y) P.on_item) (plane_axis n) axis.0 ((through-level n (plane_axis n) p).0 axis.1)
+      (F.dim, flats-through s y p n F.flat) in
       (m.2.0, (m.0, m.1, m.2.1))
 
   pub facets-complete : (h : Form) (y : Place) → IsNormal (normal_of h) → form_at h y ≡ pos 0 → IsFlatIn s h y → (k : Corner) × HasCorner C y k
@@ -126,12 +137,9 @@ module _ (s : Set) (C : Complex) (S : Shows s C) where
       turned : {A : Type 0} (n d : Vector) → A ↔ (dot n d ≡ pos 0) → A ↔ (dot (away n) d ≡ pos 0)
       turned n d e = ((λ a. let z = e.0 a in let q = dot-away n d in omega (arith, ints)), (λ z. e.1 (let q = dot-away n d in omega (arith, ints))))
 
-      found : (n : Vector) → IsNormal n → ((d : Vector) → Flat s y d ↔ (dot n d ≡ pos 0)) → (k : Corner) × (v : Vertex) × (x : Item) × IsCorner C k v x × IsFacetPoint C v x y
+      found : (n : Vector) → IsNormal n → FlatAre s y n → (k : Corner) × (v : Vertex) × (x : Item) × IsCorner C k v x × IsFacetPoint C v x y
       found n N flat =
           let h = plane_through n y in
-          let w : pos 0 <ℤ pos y.w = (let l = y.proper in omega (arith, ints)) in
-          let level : (d : Vector) → dot n d ≡ pos 0 → slope h d ≡ pos 0 = λ d e. through-slope n y d ∙ ap (λ r. pos y.w *ℤ r) e ∙ ring (pos y.w ∷ []) (at 0 ⊗ num (pos 0)) (num (pos 0)) tt in
-          let back : (d : Vector) → slope h d ≡ pos 0 → dot n d ≡ pos 0 = λ d e. scaled-nought (pos y.w) (dot n d) w (ring (dot n d ∷ pos y.w ∷ []) (at 0 ⊗ at 1) (at 1 ⊗ at 0) tt ∙ sym (through-slope n y d) ∙ e) in
           let on = through-at n y y ∙ dot-zero n (toward y y) (place-toward y y (same-itself y)) in
-          let B = beside h (normal-scaled n (pos y.w) w N) y on (f, λ d. ((λ g. level d ((flat d).0 g)), (λ e. (flat d).1 (back d e)))) in
+          let B = beside h (normal-scaled n (pos y.w) (weight y) N) y on (f, flats-through s y y n flat) in
           (B.corner, B.vertex, B.item, B.is_corner, B.facet_point)

@@ -1,24 +1,21 @@
 -- The points of a facet: from the item beside it on, two directions are flat, and the labels are those of the item.
-use Rattle.std.proofs.Common.{◌≡◌, ℕ, pos, arith, refl, inl, inr, subst}
 use Rattle.nef_exact.specs.Signs.{sign}
-use Rattle.nef_space.specs.Local.{HasLabel, Germ, Flat, FlatDim}
+use Rattle.nef_space.specs.Local.{HasLabel, Flat, FlatDim}
 use Rattle.nef_space.specs.Place.{Place, toward, IsBetween}
 use Rattle.nef_space.specs.Sets.{Set}
 use Rattle.nef_space.specs.Vectors.{Vector, dot, IsDirection, SameDirection}
-use Rattle.nef_space.specs.declared.label.Label.{Label}
-use Rattle.nef_near.specs.Laws.{SameGerms, IsFlatBelow, Drop}
+use Rattle.nef_near.specs.Laws.{SameGerms, Drop}
 use Rattle.nef_near.proofs.Even.{even-germs}
-use Rattle.nef_near.proofs.Between.{between-inner}
 use Rattle.nef_forms.proofs.Directions.{direction-right}
-use Rattle.nef_sphere.specs.Least.{by_side, Least, Cone}
-use Rattle.nef_sphere.specs.Maps.{At, Item, items, item_normal, item_above, item_mark, item_below, OnItem}
+use Rattle.nef_sphere.specs.Least.{by_side}
+use Rattle.nef_sphere.specs.Maps.{Item, item_normal, item_above, item_mark, item_below, OnItem}
 use Rattle.nef_sphere.proofs.Vectors.{normal-is}
 use Rattle.nef_sphere.proofs.Forms.{on-direction, on-level}
 use Rattle.nef_sphere.proofs.NearItems.{near-item}
 use Rattle.nef_sphere.proofs.Compare.{SameDirection-turned, SameDirection-trans, way-self}
 use Rattle.nef_solid.specs.Complexes.{Vertex, Complex, Corner, IsCorner}
 use Rattle.nef_solid.specs.Shows.{Shows}
-use Rattle.nef_solid.specs.Skeleton.{IsOnEdges, IsFacetPoint}
+use Rattle.nef_solid.specs.Skeleton.{IsFacetPoint}
 use Rattle.nef_solid.proofs.Cones.{FlatAre, near-germ}
 use Rattle.nef_solid.proofs.Ways.{between-outer}
 use Rattle.nef_solid.proofs.Edges.{near_point, near-between, near-germs, way-near}

@@ -1,13 +1,13 @@
 -- Each facet point sees a vertex: of the vertices in the triangle with a point of an edge that it sees and an end of the edge, it sees that of the least angle or one before it.
-use Rattle.std.proofs.Common.{◌≡◌, ℕ, zero, suc, ◌<◌, ℤ, pos, ◌-ℤ◌, ◌<ℤ◌, ◌≤ℤ◌, arith, refl, ap, sym, ◌∙◌, ◌⊎◌, inl, inr, ⊎_elim, List, [], ◌∷◌, subst}
+use Rattle.std.proofs.Common.{◌≡◌, ℕ, zero, suc, ℤ, pos, ◌<ℤ◌, ◌≤ℤ◌, arith, refl, ap, sym, ◌∙◌, ◌⊎◌, inl, inr, ⊎_elim, List, [], ◌∷◌, subst}
 use Rattle.std.proofs.lemmas.Int.{ints}
 use Rattle.nef_exact.specs.Signs.{sign}
 use Rattle.nef_exact.proofs.Order.{by_order, nought-is}
-use Rattle.nef_space.specs.Local.{Flat, FlatDim}
-use Rattle.nef_space.specs.Place.{Place, Form, form_at, normal_of, slope, SamePlace, toward, IsBetween}
+use Rattle.nef_space.specs.Local.{FlatDim}
+use Rattle.nef_space.specs.Place.{Place, Form, form_at, normal_of, SamePlace, toward, IsBetween}
 use Rattle.nef_space.specs.Sets.{Set}
-use Rattle.nef_space.specs.Vectors.{Vector, dot, cross, triple, IsZero, IsDirection, SameDirection}
-use Rattle.nef_near.specs.Laws.{IsFlatBelow, Drop, WayEnd}
+use Rattle.nef_space.specs.Vectors.{Vector, cross, IsDirection}
+use Rattle.nef_near.specs.Laws.{Drop}
 use Rattle.nef_near.proofs.Decided.{Decided, decided-both}
 use Rattle.nef_near.proofs.Rays.{sign-same, same-place_sym}
 use Rattle.nef_near.proofs.FlatDecided.{cross-turned, triple-dot}
@@ -22,17 +22,17 @@ use Rattle.nef_sphere.proofs.Vectors.{positive-or, same-plus}
 use Rattle.nef_sphere.proofs.Parallel.{parallel-in_plane, circle-point}
 use Rattle.nef_sphere.proofs.Compare.{way-self}
 use Rattle.nef_sphere.proofs.Turn.{turn-last}
-use Rattle.nef_solid.specs.Complexes.{Vertex, Edge, Complex, HasEnds}
+use Rattle.nef_solid.specs.Complexes.{Vertex, Complex}
 use Rattle.nef_solid.specs.Shows.{Shows}
-use Rattle.nef_solid.specs.Skeleton.{IsVertexPoint, IsEdgePoint, IsOnEdges}
+use Rattle.nef_solid.specs.Skeleton.{IsEdgePoint, IsOnEdges}
 use Rattle.nef_solid.specs.Laws.{IsFlatIn}
 use Rattle.nef_solid.proofs.Planes.{plane-way}
 use Rattle.nef_solid.proofs.Ways.{between-way, between-start, same-itself}
 use Rattle.nef_solid.proofs.Edges.{near_point, near-between}
 use Rattle.nef_solid.proofs.FacetWays.{plane-ahead, below-on, ends-lie}
-use Rattle.nef_solid.proofs.FacetEdges.{ahead-same}
-use Rattle.nef_solid.proofs.FacetAngles.{cross-back, aligned, angle, turn_form, turn-at, angle-turned, angle-self, angle-start, angle-inside, angle-trans, between-plus, between-level, between-level_minus}
-use Rattle.nef_solid.proofs.FacetTriangle.{HalfEdge, below-or, edge-halves, not-along, plane-between, ends-inside}
+use Rattle.nef_solid.proofs.FacetEdges.{ahead-same, not-along}
+use Rattle.nef_solid.proofs.FacetAngles.{cross-back, aligned, angle, turn_form, turn-at, angle-turned, angle-self, angle-inside, angle-trans, between-plus, between-level, between-level_minus}
+use Rattle.nef_solid.proofs.FacetTriangle.{HalfEdge, below-or, edge-halves, plane-between, ends-inside}
 
 -- a vertex of the plane that y sees within its facet
 pub record Visible (s : Set) (C : Complex) (h : Form) (y : Place) : Type 0 where
@@ -68,7 +68,7 @@ module _ (s : Set) (C : Complex) (S : Shows s C) (h : Form) (hn : IsDirection (n
       let a = cross-back (toward y t) c t (aligned y t c o) in
       let b = cross-back (toward t c) y t (cross-turned (toward y t) (toward t c) a) in
       let back : IsDirection (toward t y) = λ z. i (place-toward y t (same-place_sym t y (toward-place t y z))) in
-      not-along s t y back E.one (all (near_point s t y) (between-turned t y (near_point s t y) (near-between s t y back))) (span-1 s t (toward t c) (toward t y) E.leads E.flat b)
+      not-along s t y (toward t y) (way-self (toward t y) back) E.one (all (near_point s t y) (between-turned t y (near_point s t y) (near-between s t y back))) (span-1 s t (toward t c) (toward t y) E.leads E.flat b)
 
   -- ---- from a point z of an edge that y sees, with the end w of the edge to the left
   module _ (z : Place) (j : ℕ) (w : Vertex) (listed : At C.vertices j w) (on-z : form_at h z ≡ pos 0) (on-w : form_at h w.point ≡ pos 0)
@@ -119,7 +119,7 @@ module _ (s : Set) (C : Complex) (S : Shows s C) (h : Form) (hn : IsDirection (n
           by r zero v e q =
               let d = subst Candidate (sym e) q in
               let l : pos 0 ≤ℤ angle n y a.point x.point = by_order (angle n y x.point a.point) (pos 0)
-                      (λ l. let g = angle-turned n y a.point x.point in omega (arith, ints)) (λ l. let g = angle-turned n y a.point x.point in omega (arith, ints)) (λ l. absurd (other (d, l))) in
+              (λ l. let g = angle-turned n y a.point x.point in omega (arith, ints)) (λ l. let g = angle-turned n y a.point x.point in omega (arith, ints)) (λ l. absurd (other (d, l))) in
               subst (λ (u : Vertex). pos 0 ≤ℤ angle n y r.vertex.point u.point) e (trans a x r.vertex c d r.candidate r.from l)
           by r (suc k) v e q = r.least k v e q
 

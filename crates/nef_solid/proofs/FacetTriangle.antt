@@ -1,18 +1,16 @@
 -- No edge enters the triangle of a facet point, a point of an edge that it sees and an end of that edge, unless it has an end in the triangle.
-use Rattle.std.proofs.Common.{◌≡◌, ℕ, ◌<◌, ◌≤◌, ℤ, pos, ◌-ℤ◌, ◌*ℤ◌, ◌<ℤ◌, ◌≤ℤ◌, arith, refl, ap, sym, ◌∙◌, ◌⊎◌, inl, inr, ⊎_elim, [], ◌∷◌, subst}
+use Rattle.std.proofs.Common.{◌≡◌, ℕ, ℤ, pos, ◌-ℤ◌, ◌*ℤ◌, ◌<ℤ◌, ◌≤ℤ◌, arith, ap, sym, ◌∙◌, ◌⊎◌, inl, inr, ⊎_elim, [], ◌∷◌, subst}
 use Rattle.std.proofs.lemmas.Int.{ints}
 use Rattle.nef_exact.proofs.Ring.{ring, at, num, ◌⊖◌, ◌⊗◌}
 use Rattle.nef_exact.proofs.Order.{mul_pos, by_order}
 use Rattle.nef_space.specs.Local.{Flat, FlatDim}
 use Rattle.nef_space.specs.Place.{Place, Form, form_at, normal_of, slope, SamePlace, toward, IsBetween}
 use Rattle.nef_space.specs.Sets.{Set}
-use Rattle.nef_space.specs.Vectors.{Vector, dot, cross, triple, IsZero, IsDirection, SameDirection}
+use Rattle.nef_space.specs.Vectors.{Vector, dot, cross, IsZero, IsDirection}
 use Rattle.nef_near.specs.Cells.{carriers}
-use Rattle.nef_near.specs.Laws.{SameGerms}
 use Rattle.nef_near.proofs.Rays.{signs-same, same-place_sym}
-use Rattle.nef_near.proofs.Alike.{germs-by_cell, FlatDim-by_germs, FlatDim-one, Flat-by_germs}
-use Rattle.nef_near.proofs.Flats.{FlatCone-from_flat}
-use Rattle.nef_near.proofs.FlatDecided.{near-of_flat, triple-dot}
+use Rattle.nef_near.proofs.Alike.{germs-by_cell, FlatDim-one, Flat-by_germs}
+use Rattle.nef_near.proofs.FlatDecided.{triple-dot}
 use Rattle.nef_near.proofs.Even.{even-germs, span-1}
 use Rattle.nef_near.proofs.Between.{between-turned, between-inner}
 use Rattle.nef_forms.proofs.Near.{slope-toward}
@@ -20,15 +18,15 @@ use Rattle.nef_forms.proofs.Between.{toward-place}
 use Rattle.nef_forms.proofs.Directions.{dot-zero, zero-decided, direction-right}
 use Rattle.nef_sphere.specs.Maps.{At}
 use Rattle.nef_sphere.proofs.Parallel.{parallel-in_plane}
-use Rattle.nef_sphere.proofs.Compare.{SameDirection-turned, SameDirection-trans, way-self}
+use Rattle.nef_sphere.proofs.Compare.{SameDirection-turned, SameDirection-trans}
 use Rattle.nef_solid.specs.Complexes.{Vertex, Edge, Complex, HasEnds}
 use Rattle.nef_solid.specs.Shows.{Shows}
 use Rattle.nef_solid.proofs.Planes.{plane-way}
 use Rattle.nef_solid.proofs.Ways.{between-way, between-outer, between-start, between-ends}
-use Rattle.nef_solid.proofs.Edges.{near_point, near-germs, edge-points, edge-way}
+use Rattle.nef_solid.proofs.Edges.{edge-points, edge-way}
 use Rattle.nef_solid.proofs.FacetSides.{level-way}
 use Rattle.nef_solid.proofs.FacetWays.{dim-same, even-by, plane-onward, plane-back}
-use Rattle.nef_solid.proofs.FacetAngles.{same-by, same-by-minus, zero-by, cross-back, aligned, through-slope, angle, turn_form, turn-at, angle-turned, angle-self, angle-start, angle-inside, angle-before, between-plus, between-minus, Cut, cut-at}
+use Rattle.nef_solid.proofs.FacetAngles.{same-by, same-by-minus, zero-by, cross-back, aligned, through-slope, angle, turn_form, turn-at, angle-turned, angle-self, angle-start, angle-inside, angle-before, between-plus, between-minus, cut-at}
 
 pub below-or : (x : ℤ) → (x <ℤ pos 0) ⊎ (pos 0 ≤ℤ x)
 below-or x = by_order x (pos 0) (λ l. inl l) (λ e. inr (omega (arith, ints))) (λ l. inr (omega (arith, ints)))
@@ -46,9 +44,9 @@ half-of s p t q b all flat = record {
   one = all t b;
   all = λ r c. all r (between-outer p t r q b c);
   flat = (
-    let w = SameDirection-trans (toward p q) (toward p t) (toward t q) (SameDirection-turned (toward p t) (toward p q) (between-way p t q b)) b in
-    span-1 s t (toward p q) (toward t q) (between-ends p t q b) flat w.parallel
-  );
+      let w = SameDirection-trans (toward p q) (toward p t) (toward t q) (SameDirection-turned (toward p t) (toward p q) (between-way p t q b)) b in
+      span-1 s t (toward p q) (toward t q) (between-ends p t q b) flat w.parallel
+      );
 }
 
 pub edge-halves : (s : Set) (C : Complex) (S : Shows s C) (k : ℕ) (e : Edge) (v w : Vertex) (t : Place) → At C.edges k e → HasEnds C e v w → IsBetween v.point t w.point → HalfEdge s t v.point × HalfEdge s t w.point
@@ -66,15 +64,6 @@ half-flat s t c r E b = Flat-by_germs s s t r (even-germs s 1 t r (even-by s 1 t
 
 parallel-at : (s : Set) (r : Place) (d e : Vector) → FlatDim s r 1 → Flat s r d → Flat s r e → IsZero (cross d e)
 parallel-at s r d e one f g = ⊎_elim (λ z. z) (λ n. absurd (one.1 (d, e, n, f, g))) (zero-decided (cross d e))
-
--- a way on which two directions are flat doesn't begin along an edge
-pub not-along : (s : Set) (t y : Place) → IsDirection (toward t y) → FlatDim s t 1 → FlatDim s (near_point s t y) 2 → Flat s t (toward t y) → ⊥
-not-along s t y i one two flat =
-    let same : SameGerms s t (near_point s t y) = λ g l.
-            let k = near-of_flat s t (toward t y) (FlatCone-from_flat s t (toward t y) flat) g l in
-            let m = near-germs s t (toward t y) y (way-self (toward t y) i) g l in
-            (λ h. m.1 (k.0 h), λ h. k.1 (m.0 h)) in
-    let e = FlatDim-one s (near_point s t y) 1 2 (FlatDim-by_germs s s t (near_point s t y) same 1 one) two in cc
 
 -- ---- the slope of a form along a way
 module _ (F : Form) (p q : Place) where

@@ -1,5 +1,5 @@
 -- Ways within a plane: a flat way within a facet ends at a vertex or at an edge of the plane, and up to its end there is one cone.
-use Rattle.std.proofs.Common.{◌≡◌, ℕ, zero, suc, ◌<◌, ◌≤◌, ℤ, pos, ◌-ℤ◌, ◌*ℤ◌, arith, refl, ap, sym, ◌∙◌, ◌⊎◌, inl, inr, ⊎_elim, ◌↔◌, [], ◌∷◌, subst}
+use Rattle.std.proofs.Common.{◌≡◌, ℕ, zero, suc, ℤ, pos, ◌-ℤ◌, ◌*ℤ◌, arith, sym, ◌∙◌, inl, inr, ⊎_elim, [], ◌∷◌, subst}
 use Rattle.std.proofs.lemmas.Int.{ints}
 use Rattle.std.proofs.lemmas.Bool.{cases_order}
 use Rattle.nef_exact.proofs.Ring.{at, num, ◌⊖◌, ◌⊗◌}
@@ -7,10 +7,9 @@ use Rattle.nef_exact.proofs.Combination.{given, none, follows_times}
 use Rattle.nef_space.specs.Local.{Flat, FlatDim, IsEven}
 use Rattle.nef_space.specs.Place.{Place, Form, form_at, normal_of, slope, SamePlace, toward, IsBetween}
 use Rattle.nef_space.specs.Sets.{Set}
-use Rattle.nef_space.specs.Vectors.{Vector, dot, IsDirection, SameDirection}
+use Rattle.nef_space.specs.Vectors.{Vector, IsDirection, SameDirection}
 use Rattle.nef_near.specs.Cells.{carriers}
-use Rattle.nef_near.specs.Cones.{IsOnSegment}
-use Rattle.nef_near.specs.Laws.{IsFlatBelow, Drop, SameGerms}
+use Rattle.nef_near.specs.Laws.{IsFlatBelow, Drop}
 use Rattle.nef_near.proofs.Rays.{signs-same, same-place_sym}
 use Rattle.nef_near.proofs.Alike.{germs-by_cell, FlatDim-by_germs, FlatDim-one, Flat-by_germs}
 use Rattle.nef_near.proofs.Flats.{Flat-from_cone, FlatCone-from_flat}
@@ -21,14 +20,13 @@ use Rattle.nef_near.proofs.Between.{between-turned, between-inner}
 use Rattle.nef_near.proofs.Edges.{start, start-close, start-between, even-until}
 use Rattle.nef_forms.proofs.Near.{reach_all, slope-toward}
 use Rattle.nef_forms.proofs.Between.{toward-place, place-toward}
-use Rattle.nef_forms.proofs.Directions.{direction-left, direction-right}
 use Rattle.nef_sphere.specs.Maps.{At}
 use Rattle.nef_sphere.proofs.Compare.{SameDirection-turned}
 use Rattle.nef_solid.specs.Complexes.{Vertex, Edge, Complex, HasEnds}
 use Rattle.nef_solid.specs.Shows.{Shows}
-use Rattle.nef_solid.specs.Skeleton.{IsVertexPoint, IsEdgePoint, IsOnEdges, PlaneMeet, meets_vertex, meets_edge, Meets, LiesIn}
+use Rattle.nef_solid.specs.Skeleton.{IsEdgePoint, IsOnEdges, PlaneMeet, meets_vertex, meets_edge, Meets, LiesIn}
 use Rattle.nef_solid.proofs.Cones.{FlatAre}
-use Rattle.nef_solid.proofs.Ways.{between-way, same-itself}
+use Rattle.nef_solid.proofs.Ways.{between-way}
 use Rattle.nef_solid.proofs.Edges.{edge-points, edge-way}
 use Rattle.nef_solid.proofs.Joining.{edges-complete}
 use Rattle.nef_solid.proofs.FacetSides.{level-way}
