@@ -1,0 +1,4 @@
+pub mod OneKind
+pub mod Places
+pub mod Simple
+pub mod Parting
