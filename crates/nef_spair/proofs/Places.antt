@@ -33,6 +33,10 @@ module _ {A : Type 0} where
   some-at (z ∷ zs) zero x e = let i : Some z ≡ Some x = e in cc
   some-at (z ∷ zs) (suc k) x e = some-at zs k x e
 
+  -- what indexing gives
+  pub index-at : (xs : List A) (k : ℕ) (x : A) → k < length xs → x ≡ get_or xs k x → At xs k x
+  index-at xs k x h e = subst (At xs k) (sym e) (get-at xs k x h)
+
   -- ---- those of a list that P holds of
   module _ (P : A → Type 0) where
     pub those-keep : (xs ys : List A) (x : A) → AreThose P xs ys → P x → AreThose P (xs ++ x ∷ []) (ys ++ x ∷ [])

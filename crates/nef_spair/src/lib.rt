@@ -1,6 +1,7 @@
 //! The least map of the stars of a sphere map, and the kind of a least map.
 #![tactic(auto)]
 
+mod along;
 mod answer;
 mod dimension;
 mod parts;
