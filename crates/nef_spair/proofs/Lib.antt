@@ -4,3 +4,4 @@ pub mod Simple
 pub mod Parting
 pub mod Firsts
 pub mod Leaving
+pub mod ArcOrder

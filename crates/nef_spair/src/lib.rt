@@ -4,6 +4,7 @@
 mod along;
 mod answer;
 mod dimension;
+mod order;
 mod parts;
 mod sorting;
 
