@@ -1,9 +1,8 @@
 -- Directions that turn, counted from another one of them, turn and give the same.
-use Rattle.std.proofs.Common.{◌≡◌, ℕ, zero, suc, ◌+◌, ◌-◌, ◌<◌, ◌≤◌, arith, refl, sym, ap, subst, ◌∙◌, inl, inr, ◌⊎◌}
+use Rattle.std.proofs.Common.{◌≡◌, ℕ, zero, suc, ◌+◌, ◌-◌, ◌<◌, ◌≤◌, arith, sym, ap, subst, ◌∙◌, inl, inr, ◌⊎◌}
 use Rattle.nef_space.specs.Vectors.{Vector, IsDirection, SameDirection}
 use Rattle.nef_space.specs.declared.label.Label.{Label}
 use Rattle.nef_cyclic.specs.Arcs.{IsOnCircle, Passes}
-use Rattle.nef_cyclic.proofs.StrictlyOn.{same-sym}
 use Rattle.nef_cyclic.proofs.Cyclic.{seen_from_later, seen_from_between, seen_from_after}
 use Rattle.nef_star.specs.Turning.{IsTurning, IsNext, Gives, on_ray, in_sector, in_only_sector}
 use Rattle.nef_star.proofs.Turns.{same-self, four, next_in, has_next, first_or_later, distinct}

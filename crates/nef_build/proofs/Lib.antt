@@ -1,0 +1,13 @@
+pub mod BuiltLabels
+pub mod KeptStars
+pub mod RayClose
+pub mod RayStraight
+pub mod StarSmooth
+pub mod BuiltAxes
+pub mod BuiltArcs
+pub mod BuiltAround
+pub mod BuiltLoops
+pub mod BuiltGround
+pub mod BuiltMap
+pub mod StarRays
+pub mod BuiltKept
