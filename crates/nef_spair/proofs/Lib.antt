@@ -5,3 +5,5 @@ pub mod Parting
 pub mod Firsts
 pub mod Leaving
 pub mod ArcOrder
+pub mod Circles
+pub mod Sorted

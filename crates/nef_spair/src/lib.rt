@@ -3,7 +3,9 @@
 
 mod along;
 mod answer;
+mod circle;
 mod dimension;
+mod making;
 mod order;
 mod parts;
 mod sorting;
