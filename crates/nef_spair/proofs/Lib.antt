@@ -7,3 +7,4 @@ pub mod Leaving
 pub mod ArcOrder
 pub mod Circles
 pub mod Sorted
+pub mod Built

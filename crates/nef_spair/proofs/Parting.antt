@@ -15,7 +15,7 @@ use Rattle.nef_star.specs.declared.star.Star.{Star}
 use Rattle.nef_star.specs.Stars.{ray_of, star_of}
 use Rattle.nef_smap.specs.declared.map.SLoop.{SLoop}
 use Rattle.nef_smap.specs.Maps.{loop_of}
-use Rattle.nef_spair.specs.Parts.{IsNeeded, IsCircleOf, AreCircles}
+use Rattle.nef_spair.specs.Parts.{IsDropped, IsCircleOf, AreCircles}
 use Rattle.nef_spair.proofs.Places.{at-before, at-last, at-more, all-at, at-all}
 
 -- ---- the circle of a straight star
@@ -36,9 +36,9 @@ circle-is t s r c e n m p q =
     loop-same (loop_of c) (loop_at (star_of t) s) (ap vector_of n ∙ ap (λ (x : PlainRay). x.normal) (first-ray t.rays.items r s.first s.second s.two_rays e)) (p ∙ ap (λ (l : List Label). get_or l 0 Out) s.two_sectors) m
     (q ∙ ap (λ (l : List Label). get_or l 1 Out) s.two_sectors)
 
-pub needed-if : (t : Star) → (IsPlain (star_of t) → ⊥) → (IsStraight (star_of t) → ⊥) → IsNeeded t
-needed-if t n m (inl p) = n p
-needed-if t n m (inr s) = m s
+pub not-dropped : (t : Star) → (IsPlain (star_of t) → ⊥) → (IsStraight (star_of t) → ⊥) → IsDropped t → ⊥
+not-dropped t n m (inl p) = n p
+not-dropped t n m (inr s) = m s
 
 -- ---- the circles of more stars
 pub circles-none : AreCircles [] []

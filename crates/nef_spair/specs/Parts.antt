@@ -27,14 +27,14 @@ pub record AreSimple (ts us : List Star) : Type 0 where
   pub as_many : length us ≡ length ts
   pub each : (k : ℕ) (t s : Star) → At ts k t → At us k s → IsSimple t s
 
--- the star is neither plain nor straight
-abbrev pub IsNeeded : Star → Type 0
-IsNeeded t = IsPlain (star_of t) ⊎ IsStraight (star_of t) → ⊥
+-- the star becomes no svertex
+abbrev pub IsDropped : Star → Type 0
+IsDropped t = IsPlain (star_of t) ⊎ IsStraight (star_of t)
 
--- ys has those of xs that P holds of, in their order
-abbrev pub AreThose : {A : Type 0} → (A → Type 0) → List A → List A → Type 0
-AreThose P [] ys = ys ≡ []
-AreThose {A} P (x ∷ xs) ys = (P x × (zs : List A) × (ys ≡ x ∷ zs) × AreThose P xs zs) ⊎ ((P x → ⊥) × AreThose P xs ys)
+-- ys has those of xs that P doesn't hold of, in their order
+abbrev pub AreOthers : {A : Type 0} → (A → Type 0) → List A → List A → Type 0
+AreOthers P [] ys = ys ≡ []
+AreOthers {A} P (x ∷ xs) ys = ((P x → ⊥) × (zs : List A) × (ys ≡ x ∷ zs) × AreOthers P xs zs) ⊎ (P x × AreOthers P xs ys)
 
 -- the circle of a straight star
 abbrev pub IsCircleOf : PlainStar → Loop → Type 0
@@ -52,7 +52,7 @@ IsFaceOf r o = MatchOption o ((r.ground ≡ None) × (r.stars ≡ []) × (r.sloo
 
 pub record ArePartsOf (r : RawStars) (p : Parts) : Type 0 where
   pub mark : p.mark ≡ r.mark
-  pub kept : AreThose IsNeeded r.stars p.kept.items
+  pub kept : AreOthers IsDropped r.stars p.kept.items
   pub circles : AreCircles r.stars p.circles.items
   pub sloop : p.sloop ≡ r.sloop
   pub face : IsFaceOf r p.face

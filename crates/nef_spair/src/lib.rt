@@ -3,6 +3,7 @@
 
 mod along;
 mod answer;
+mod building;
 mod circle;
 mod dimension;
 mod making;
@@ -11,5 +12,6 @@ mod parts;
 mod sorting;
 
 pub use answer::Kind;
+pub use building::build;
 pub use dimension::kind;
 pub use std::alloc::AllocError as OutOfMemory;

@@ -9,7 +9,7 @@ ghost use Rattle.nef_space.specs.Vectors.{IsAtMost};
 ghost use Rattle.nef_geo.specs.Shapes.{vector_of};
 ghost use Rattle.nef_star.specs.Stars.{star_of, IsStar};
 ghost use Rattle.nef_smap.specs.Maps.{loop_of, raw_of, IsRawStars};
-ghost use Rattle.nef_spair.specs.Parts.{IsNeeded, AreThose, IsCircleOf, AreCircles, AreSimple, IsFaceOf, ArePartsOf};
+ghost use Rattle.nef_spair.specs.Parts.{IsDropped, AreOthers, IsCircleOf, AreCircles, AreSimple, IsFaceOf, ArePartsOf};
 
 use crate::parts::Parts;
 use nef_geo::{Label, List};
@@ -18,7 +18,7 @@ use nef_star::{Star, is_plain, is_straight, simplify};
 use std::alloc::{AllocError, Global};
 
 // The stars without needless rays.
-fn simplified(stars: List<Star>) -> List<Star>
+pub(crate) fn simplified(stars: List<Star>) -> List<Star>
     requires stars { All IsStar stars }
     ensures simple { AreSimple stars result }
 {
@@ -60,7 +60,7 @@ fn some_label(raw: &RawStars) -> Option<Label>
 // The stars that are needed, and the circles of the straight ones.
 fn parted(alloc: Global, stars: List<Star>) -> Result<(Vec<Star>, Vec<SLoop>), AllocError>
     requires stars { All IsStar stars }
-    ensures kept { IfOk result (λ p. AreThose IsNeeded stars p.0.items) }
+    ensures kept { IfOk result (λ p. AreOthers IsDropped stars p.0.items) }
     ensures circles { IfOk result (λ p. AreCircles stars p.1.items) }
 {
     let mut kept = Vec::new(alloc);
