@@ -63,11 +63,11 @@ module _ (r q : RawStars) (mark : q.mark ≡ r.mark) (sloop : q.sloop ≡ r.sloo
   all-simplified k t a = let s = at-map star_of q.stars k t a in subst IsSimplified s.2 (let i = simple-at k s.0 s.1 in i.simplified)
 
 -- ---- the map that is made of the parts
-map-none : {A B : Type 0} (f : A → B) (xs : List A) → map f xs ≡ [] → xs ≡ []
+pub map-none : {A B : Type 0} (f : A → B) (xs : List A) → map f xs ≡ [] → xs ≡ []
 map-none f [] e = refl
 map-none f (x ∷ xs) e = let i : f x ∷ map f xs ≡ [] = e in absurd (cc)
 
-first-same : (t : PlainStar) (s u : IsStraight t) → s.first ≡ u.first
+pub first-same : (t : PlainStar) (s u : IsStraight t) → s.first ≡ u.first
 first-same t s u = let e : s.first ∷ s.second ∷ [] ≡ u.first ∷ u.second ∷ [] = sym s.two_rays ∙ u.two_rays in cc
 
 module _ (q : RawStars) (p : Parts) (parts : ArePartsOf q p) where
@@ -80,13 +80,13 @@ module _ (q : RawStars) (p : Parts) (parts : ArePartsOf q p) where
   pub kept-stars : All IsStar q.stars → All IsStar p.kept.items
   kept-stars all = at-all IsStar p.kept.items (λ k t a. let f = from-raw k t a in all-at IsStar q.stars all f.0 t f.1)
 
-  plain-from : (k : ℕ) (t : PlainStar) → At K k t → (j : ℕ) × At (map star_of q.stars) j t
+  pub plain-from : (k : ℕ) (t : PlainStar) → At K k t → (j : ℕ) × At (map star_of q.stars) j t
   plain-from k t a = let u = at-map star_of p.kept.items k t a in let f = from-raw k u.0 u.1 in (f.0, subst (At (map star_of q.stars) f.0) u.2 (map-at star_of q.stars f.0 u.0 f.1))
 
-  plain-needed : (k : ℕ) (t : PlainStar) → At K k t → IsPlain t ⊎ IsStraight t → ⊥
+  pub plain-needed : (k : ℕ) (t : PlainStar) → At K k t → IsPlain t ⊎ IsStraight t → ⊥
   plain-needed k t a d = let u = at-map star_of p.kept.items k t a in let f = from-raw k u.0 u.1 in f.2 (subst (λ (x : PlainStar). IsPlain x ⊎ IsStraight x) (sym u.2) d)
 
-  plain-all : (j : ℕ) (t : PlainStar) → At (map star_of q.stars) j t → IsPlain t ⊎ IsStraight t ⊎ ((k : ℕ) × At K k t)
+  pub plain-all : (j : ℕ) (t : PlainStar) → At (map star_of q.stars) j t → IsPlain t ⊎ IsStraight t ⊎ ((k : ℕ) × At K k t)
   plain-all j t a =
       let u = at-map star_of q.stars j t a in
       subst (λ (x : PlainStar). IsPlain x ⊎ IsStraight x ⊎ ((k : ℕ) × At K k x)) u.2
@@ -95,7 +95,7 @@ module _ (q : RawStars) (p : Parts) (parts : ArePartsOf q p) where
         | inr f ↦ inr (inr (f.0, map-at star_of p.kept.items f.0 u.0 f.1))
       ])
 
-  plain-ordered : InOrder (λ (t u : PlainStar). VectorBelow t.axis u.axis) (map star_of q.stars) → InOrder (λ (t u : PlainStar). VectorBelow t.axis u.axis) K
+  pub plain-ordered : InOrder (λ (t u : PlainStar). VectorBelow t.axis u.axis) (map star_of q.stars) → InOrder (λ (t u : PlainStar). VectorBelow t.axis u.axis) K
   plain-ordered o i k x y l a b =
       let u = at-map star_of p.kept.items i x a in let v = at-map star_of p.kept.items k y b in
       let f = others-in_order IsDropped q.stars p.kept.items parts.kept i k u.0 v.0 l u.1 v.1 in

@@ -8,3 +8,5 @@ pub mod ArcOrder
 pub mod Circles
 pub mod Sorted
 pub mod Built
+pub mod FromParts
+pub mod Answered
