@@ -1,5 +1,5 @@
 -- What is built of raw stars is the one least map with their mark and labels.
-use Rattle.std.proofs.Common.{◌≡◌, ◌↔◌, List, ◌++◌, map, Some, refl, sym, ap, subst, ◌∙◌}
+use Rattle.std.proofs.Common.{◌≡◌, ◌↔◌, List, ◌++◌, sym, ap, subst, ◌∙◌}
 use Rattle.nef_space.specs.Vectors.{Vector, IsDirection}
 use Rattle.nef_space.specs.declared.label.Label.{Label}
 use Rattle.nef_sphere.specs.Maps.{Map, MapLabel, Valid}

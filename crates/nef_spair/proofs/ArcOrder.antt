@@ -1,6 +1,6 @@
 -- The order of arcs: arcs that are apart are in order once they are sorted.
-use Rattle.std.proofs.Common.{◌≡◌, ℕ, zero, suc, ◌+◌, ◌<◌, ◌≤◌, ℤ, ◌<ℤ◌, List, [], ◌∷◌, length, get_or, Bool, true, false, Ordering, Less, Equal, Greater, arith, refl, sym, ap, subst, ◌∙◌, inl, inr, ◌⊎◌}
-use Rattle.std.specs.List.{IsDistinct, AllByRecursion, Contains}
+use Rattle.std.proofs.Common.{◌≡◌, ℕ, zero, suc, ◌<◌, ℤ, ◌<ℤ◌, List, [], ◌∷◌, get_or, Bool, false, Ordering, Less, Equal, Greater, arith, refl, sym, ap, subst, ◌∙◌, inl, inr}
+use Rattle.std.specs.List.{IsDistinct, AllByRecursion}
 use Rattle.std.specs.List.Sorted.{IsPermutation, IsSortedBy}
 use Rattle.std.specs.Ordering.{MatchOrdering, int_cmp, nat_cmp, ordering_then, ordering_reverse, on, then_cmp, is_lt, is_eq}
 use Rattle.std.specs.Cmp.{IsTotalOrder, IsStrictWeakOrder, int_ranks}

@@ -1,34 +1,20 @@
 -- What is made of the parts of simplified stars is built from these stars.
-use Rattle.std.proofs.Common.{◌≡◌, ℕ, zero, suc, ◌<◌, List, [], ◌∷◌, length, map, get_or, Option, Some, None, option_map, MatchOption, true, arith, refl, sym, ap, subst, ◌∙◌, inl, inr, ◌⊎◌}
+use Rattle.std.proofs.Common.{◌≡◌, ℕ, suc, List, [], ◌∷◌, length, map, get_or, option_map, arith, refl, sym, ap, subst, ◌∙◌, inl, inr, ◌⊎◌}
 use Rattle.std.specs.List.{All}
-use Rattle.nef_space.specs.Limits.{normal_limit, svertex_limit}
-use Rattle.nef_space.specs.Vectors.{Vector, IsAtMost}
-use Rattle.nef_space.specs.declared.label.Label.{Label}
 use Rattle.nef_geo.specs.Shapes.{vector_of}
-use Rattle.nef_geo.specs.declared.dir.Dir.{Dir}
 use Rattle.nef_sphere.specs.Vectors.{VectorBelow}
-use Rattle.nef_sphere.specs.Maps.{At, Svertex, Arc, Loop, Item, items, item_normal, arc_item, loop_item}
-use Rattle.nef_sphere.specs.Least.{InOrder, ArcBelow}
-use Rattle.nef_sphere.specs.Stars.{Ray as PlainRay, Star as PlainStar, IsPlain, IsStraight, IsSimplified}
-use Rattle.nef_sphere.proofs.Lists.{at-one}
-use Rattle.nef_build.specs.Raw.{RawMap, IsBare, IsRawOf}
-use Rattle.nef_build.specs.From.{IsKeptStar, AreKept, IsKeptRaw, AreSimplified, svertex_at, IsArcFrom, loop_at, IsLoopFrom, raw_loop, straight_loop, IsRawLabel, IsBuiltFrom}
-use Rattle.nef_star.specs.declared.star.Ray.{Ray}
+use Rattle.nef_sphere.specs.Maps.{At}
+use Rattle.nef_sphere.specs.Least.{InOrder}
+use Rattle.nef_sphere.specs.Stars.{Star as PlainStar, IsPlain, IsStraight, IsSimplified}
+use Rattle.nef_build.specs.From.{IsKeptStar, IsKeptRaw, AreSimplified}
 use Rattle.nef_star.specs.declared.star.Star.{Star}
-use Rattle.nef_star.specs.Stars.{ray_of, star_of, IsStar}
-use Rattle.nef_smap.specs.declared.map.SArc.{SArc}
-use Rattle.nef_smap.specs.declared.map.SLoop.{SLoop}
-use Rattle.nef_smap.specs.declared.map.SVertex.{SVertex}
+use Rattle.nef_star.specs.Stars.{star_of, IsStar}
 use Rattle.nef_smap.specs.declared.map.RawStars.{RawStars}
-use Rattle.nef_smap.specs.declared.map.SphereMap.{SphereMap}
-use Rattle.nef_smap.specs.Maps.{svertex_of, arc_of, loop_of, map_of, raw_of, IsSmall, IsRawStars}
+use Rattle.nef_smap.specs.Maps.{loop_of, raw_of}
 use Rattle.nef_smap.proofs.Lists.{at-map, map-at, at-within, get-at}
 use Rattle.nef_smap.proofs.WellFormed.{star-well_formed}
 use Rattle.nef_spair.specs.declared.parts.Parts.{Parts}
-use Rattle.nef_spair.specs.Arcs.{IsArcBelow, AreArcs}
-use Rattle.nef_spair.specs.Made.{IsMadeOf}
-use Rattle.nef_spair.specs.Parts.{IsSimple, AreSimple, IsDropped, AreOthers, IsCircleOf, AreCircles, IsFaceOf, ArePartsOf, IsBareCircle, IsProperCircle, IsChosen}
-use Rattle.nef_spair.proofs.OneKind.{no-loop-was, loop-was, none-was}
+use Rattle.nef_spair.specs.Parts.{IsSimple, AreSimple, IsDropped, ArePartsOf}
 use Rattle.nef_spair.proofs.Places.{others-from, others-all, others-in_order, all-at, at-all}
 
 -- ---- stars that have been simplified

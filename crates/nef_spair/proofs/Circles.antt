@@ -1,5 +1,5 @@
 -- Circles that no star has its axis on, star by star and circle by circle.
-use Rattle.std.proofs.Common.{◌≡◌, ℕ, ◌+◌, ◌<◌, ◌≤◌, pos, List, length, map, arith, refl, sym, ap, subst, ◌∙◌, inl, inr, ◌⊎◌}
+use Rattle.std.proofs.Common.{◌≡◌, ℕ, ◌+◌, ◌<◌, ◌≤◌, pos, List, length, map, arith, sym, subst, inl, inr}
 use Rattle.std.proofs.Math.Nat.{eq-or-lt_of_le}
 use Rattle.nef_space.specs.Vectors.{Vector, dot}
 use Rattle.nef_geo.specs.Shapes.{vector_of}

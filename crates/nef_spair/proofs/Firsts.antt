@@ -1,10 +1,10 @@
 -- The first axis after another on a circle, found star by star.
-use Rattle.std.proofs.Common.{◌≡◌, ℕ, ◌+◌, ◌<◌, ◌≤◌, pos, List, length, map, arith, refl, sym, ap, subst, ◌∙◌, inl, inr, ◌⊎◌}
+use Rattle.std.proofs.Common.{◌≡◌, ℕ, ◌+◌, ◌<◌, ◌≤◌, pos, List, length, map, arith, sym, subst, inl, inr, ◌⊎◌}
 use Rattle.std.proofs.Math.Nat.{eq-or-lt_of_le}
 use Rattle.nef_space.specs.Vectors.{dot, SameDirection}
 use Rattle.nef_geo.specs.Shapes.{vector_of}
 use Rattle.nef_geo.specs.declared.dir.Dir.{Dir}
-use Rattle.nef_cyclic.specs.Arcs.{IsOnCircle, IsStrictlyOn, Passes, AboutFour}
+use Rattle.nef_cyclic.specs.Arcs.{IsStrictlyOn, AboutFour}
 use Rattle.nef_cyclic.proofs.Cyclic.{order_is_transitive}
 use Rattle.nef_sphere.specs.Maps.{At}
 use Rattle.nef_sphere.proofs.Lists.{at-one}
@@ -56,7 +56,7 @@ module _ (kept : List Star) (n s : Dir) (k j : ℕ) (t u : Star) (w : IsFirstOf 
           let e : v ≡ u = at-one kept k v u c b in
           let o' : IsStrictlyOn (vector_of n) (vector_of s) (vector_of u.axis) (vector_of x.axis) = subst (λ (y : Star). IsStrictlyOn (vector_of n) (vector_of s) (vector_of y.axis) (vector_of x.axis)) e o in
           let about : AboutFour (vector_of n) (vector_of s) (vector_of x.axis) (vector_of u.axis) (vector_of t.axis) = four (vector_of n) (vector_of s) (vector_of x.axis) (vector_of u.axis) (vector_of t.axis) n.some
-              (record { direction = s.some; level = source }) o.on_circle on.on_circle (record { direction = t.axis.some; level = w.level t a }) in
+          (record { direction = s.some; level = source }) o.on_circle on.on_circle (record { direction = t.axis.some; level = w.level t a }) in
           w.none_before i t x l a d (strictly _ _ _ _ (order_is_transitive (vector_of n) (vector_of s) (vector_of x.axis) (vector_of u.axis) (vector_of t.axis) about (passes _ _ _ _ o') (passes _ _ _ _ on)))
 
 -- after all stars it is the first of all

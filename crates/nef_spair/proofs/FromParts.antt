@@ -1,16 +1,15 @@
 -- The map that is made of the parts of simplified stars is built from these stars, and its numbers are small.
-use Rattle.std.proofs.Common.{◌≡◌, ℕ, zero, suc, ◌<◌, List, [], ◌∷◌, length, map, Option, Some, None, option_map, MatchOption, true, arith, refl, sym, ap, subst, ◌∙◌, inl, inr, ◌⊎◌}
+use Rattle.std.proofs.Common.{◌≡◌, ℕ, zero, suc, List, [], ◌∷◌, map, Option, Some, None, option_map, MatchOption, true, refl, sym, ap, subst, ◌∙◌, inl, inr}
 use Rattle.std.specs.List.{All}
 use Rattle.nef_space.specs.Limits.{normal_limit, svertex_limit}
 use Rattle.nef_space.specs.Vectors.{Vector, IsAtMost}
 use Rattle.nef_space.specs.declared.label.Label.{Label}
 use Rattle.nef_geo.specs.Shapes.{vector_of}
-use Rattle.nef_sphere.specs.Maps.{At, Svertex, Arc, Loop, Item, items_then, item_normal, arc_item, loop_item}
+use Rattle.nef_sphere.specs.Maps.{At, Svertex, Arc, Loop, Item, items_then, item_normal}
 use Rattle.nef_sphere.specs.Least.{InOrder, ArcBelow}
 use Rattle.nef_sphere.specs.Stars.{Ray as PlainRay, Star as PlainStar, IsStraight}
 use Rattle.nef_build.specs.Raw.{IsBare, IsRawOf}
-use Rattle.nef_build.specs.From.{svertex_at, IsArcFrom, loop_at, IsLoopFrom, raw_loop, straight_loop, IsRawLabel, IsBuiltFrom}
-use Rattle.nef_star.specs.declared.star.Star.{Star}
+use Rattle.nef_build.specs.From.{svertex_at, IsArcFrom, IsLoopFrom, raw_loop, straight_loop, IsRawLabel, IsBuiltFrom}
 use Rattle.nef_star.specs.Stars.{ray_of, star_of, IsStar}
 use Rattle.nef_smap.specs.declared.map.SArc.{SArc}
 use Rattle.nef_smap.specs.declared.map.SLoop.{SLoop}
@@ -19,7 +18,6 @@ use Rattle.nef_smap.specs.declared.map.SphereMap.{SphereMap}
 use Rattle.nef_smap.specs.Maps.{svertex_of, arc_of, loop_of, map_of, raw_of, IsSmall}
 use Rattle.nef_smap.proofs.Lists.{at-map, map-at, at-within}
 use Rattle.nef_spair.specs.declared.parts.Parts.{Parts}
-use Rattle.nef_spair.specs.Arcs.{IsArcBelow}
 use Rattle.nef_spair.specs.Made.{IsMadeOf}
 use Rattle.nef_spair.specs.Parts.{ArePartsOf, IsChosen}
 use Rattle.nef_spair.proofs.OneKind.{no-loop-was, loop-was, none-was}

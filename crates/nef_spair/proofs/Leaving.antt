@@ -1,10 +1,9 @@
 -- The arcs that leave stars, one ray after another.
-use Rattle.std.proofs.Common.{◌≡◌, ℕ, zero, suc, ◌+◌, ◌<◌, ◌≤◌, pos, List, [], ◌∷◌, ◌++◌, length, map, get_or, true, false, Bool, cond, arith, refl, sym, ap, subst, ◌∙◌, inl, inr, ◌⊎◌}
+use Rattle.std.proofs.Common.{◌≡◌, ℕ, zero, suc, ◌+◌, ◌<◌, ◌≤◌, List, [], ◌∷◌, ◌++◌, length, map, get_or, true, Bool, cond, arith, sym, ap, subst, ◌∙◌, inl, inr, ◌⊎◌}
 use Rattle.std.proofs.Math.Nat.{eq-or-lt_of_le}
 use Rattle.std.proofs.lemmas.List.{length-map}
-use Rattle.std.specs.List.{All}
 use Rattle.nef_space.specs.Limits.{normal_limit}
-use Rattle.nef_space.specs.Vectors.{Vector, dot, opposite, IsAtMost, IsDirection, SameDirection}
+use Rattle.nef_space.specs.Vectors.{opposite, IsAtMost, SameDirection}
 use Rattle.nef_space.specs.declared.label.Label.{Label}
 use Rattle.nef_space.specs.declared.label.Label.TheVariants.{Out}
 use Rattle.nef_geo.specs.Shapes.{vector_of}
@@ -16,12 +15,12 @@ use Rattle.nef_sphere.proofs.Lists.{at-one}
 use Rattle.nef_build.specs.From.{IsArcFrom, IsFirstAfter}
 use Rattle.nef_star.specs.declared.star.Ray.{Ray}
 use Rattle.nef_star.specs.declared.star.Star.{Star}
-use Rattle.nef_star.specs.Stars.{ray_of, star_of, left_of, left_at, IsRay, IsTurned, IsStar}
+use Rattle.nef_star.specs.Stars.{ray_of, star_of, left_of, left_at, IsRay, IsTurned}
 use Rattle.nef_star.proofs.Turns.{self-same, three_ways}
 use Rattle.nef_star.proofs.Counted.{count-some}
 use Rattle.nef_smap.specs.declared.map.SArc.{SArc}
 use Rattle.nef_smap.specs.Maps.{arc_of}
-use Rattle.nef_smap.proofs.Lists.{map-at, at-within, at-get, get-at}
+use Rattle.nef_smap.proofs.Lists.{map-at, at-within, get-at}
 use Rattle.nef_spair.specs.Arcs.{IsEarlier, IsAlong, IsTwin, AreApart, AreArcs}
 use Rattle.nef_spair.proofs.Places.{at-before, at-last, at-more, all-at}
 

@@ -1,12 +1,11 @@
 -- A map has one kind, and what its fields say of it.
-use Rattle.std.proofs.Common.{◌≡◌, ℕ, ℤ, pos, negsuc, neg_ℤ, List, [], ◌∷◌, length, map, slice_get, Option, Some, None, option_map, arith, refl, sym, ap, subst, ◌∙◌, inl, inr, ◌⊎◌}
+use Rattle.std.proofs.Common.{◌≡◌, ℤ, pos, negsuc, neg_ℤ, List, [], ◌∷◌, length, map, slice_get, Option, Some, None, option_map, arith, refl, sym, ap, subst, ◌∙◌}
 use Rattle.std.proofs.lemmas.Int.{ints}
 use Rattle.nef_exact.proofs.Ring.{ring, at, num, neg, ◌⊕◌, ◌⊖◌, ◌⊗◌}
 use Rattle.nef_exact.proofs.Combination.{follows, given, none}
 use Rattle.nef_space.specs.Place.{Place}
 use Rattle.nef_space.specs.Sets.{Set}
-use Rattle.nef_space.specs.Vectors.{Vector, cross, dot, opposite, IsZero, IsDirection, SameDirection, IsOpposite}
-use Rattle.nef_space.specs.declared.label.Label.{Label}
+use Rattle.nef_space.specs.Vectors.{Vector, dot, opposite, IsDirection, SameDirection, IsOpposite}
 use Rattle.nef_geo.specs.Shapes.{vector_of}
 use Rattle.nef_geo.specs.declared.dir.Dir.{Dir}
 use Rattle.nef_geo.proofs.Directions.{dot-itself}

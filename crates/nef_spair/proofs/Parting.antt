@@ -1,13 +1,11 @@
 -- Circles of straight stars, one star after another, and what they and the kept stars are made of.
-use Rattle.std.proofs.Common.{◌≡◌, ℕ, zero, suc, ◌+◌, ◌<◌, List, [], ◌∷◌, ◌++◌, length, map, get_or, arith, refl, sym, ap, subst, ◌∙◌, inl, inr, ◌⊎◌}
-use Rattle.std.specs.List.{All}
+use Rattle.std.proofs.Common.{◌≡◌, List, [], ◌∷◌, ◌++◌, length, map, get_or, arith, sym, ap, subst, ◌∙◌, inl, inr}
 use Rattle.nef_space.specs.Limits.{normal_limit}
 use Rattle.nef_space.specs.Vectors.{Vector, IsAtMost}
 use Rattle.nef_space.specs.declared.label.Label.{Label}
 use Rattle.nef_space.specs.declared.label.Label.TheVariants.{Out}
 use Rattle.nef_geo.specs.Shapes.{vector_of}
-use Rattle.nef_geo.specs.declared.dir.Dir.{Dir}
-use Rattle.nef_sphere.specs.Maps.{At, Loop}
+use Rattle.nef_sphere.specs.Maps.{Loop}
 use Rattle.nef_sphere.specs.Stars.{Ray as PlainRay, IsPlain, IsStraight}
 use Rattle.nef_build.specs.From.{loop_at}
 use Rattle.nef_star.specs.declared.star.Ray.{Ray}

@@ -1,7 +1,6 @@
 -- Arcs that have been put in order are the same arcs.
-use Rattle.std.proofs.Common.{◌≡◌, ℕ, List, map, true, refl, sym, subst}
+use Rattle.std.proofs.Common.{ℕ, List}
 use Rattle.std.specs.List.Sorted.{IsPermutation}
-use Rattle.nef_sphere.specs.Maps.{At}
 use Rattle.nef_star.specs.declared.star.Star.{Star}
 use Rattle.nef_smap.specs.declared.map.SArc.{SArc}
 use Rattle.nef_spair.specs.Arcs.{AreArcs}

@@ -10,11 +10,12 @@ ghost use Rattle.nef_star.specs.Stars.{star_of, IsStar};
 ghost use Rattle.nef_smap.specs.Maps.{arc_of};
 ghost use Rattle.nef_spair.specs.Arcs.{IsAlong, AreArcs};
 
+use crate::OutOfMemory;
 use nef_arc::{Arc, strictly_on};
 use nef_geo::Dir;
 use nef_smap::SArc;
 use nef_star::{Ray, Star};
-use std::alloc::{AllocError, Global};
+use std::alloc::Global;
 
 // The number of the first star whose axis comes after that of number `from`, counterclockwise about the normal; its own
 // axis comes last.
@@ -67,7 +68,7 @@ fn arc_along(kept: &[Star], from: usize, number: usize, ray: &Ray) -> SArc
 }
 
 // Adds the arcs of star number `from`.
-fn push_arcs(arcs: &mut Vec<SArc>, kept: &[Star], from: usize) -> Result<(), AllocError>
+fn push_arcs(arcs: &mut Vec<SArc>, kept: &[Star], from: usize) -> Result<(), OutOfMemory>
     requires stars { All IsStar kept.now }
     requires within { from < length kept.now }
     requires arcs { AreArcs kept.now from 0 arcs.old.items }
@@ -82,7 +83,7 @@ fn push_arcs(arcs: &mut Vec<SArc>, kept: &[Star], from: usize) -> Result<(), All
 }
 
 // The arcs of all stars, star by star.
-pub(crate) fn arcs_of(alloc: Global, kept: &[Star]) -> Result<Vec<SArc>, AllocError>
+pub(crate) fn arcs_of(alloc: Global, kept: &[Star]) -> Result<Vec<SArc>, OutOfMemory>
     requires stars { All IsStar kept.now }
     ensures arcs { IfOk result (λ arcs. AreArcs kept.now (length kept.now) 0 arcs.items) }
 {

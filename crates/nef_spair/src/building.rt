@@ -9,16 +9,17 @@ ghost use Rattle.nef_build.specs.Raw.{IsLabelling, IsRawOf};
 ghost use Rattle.nef_build.specs.Overlays.{Raw};
 ghost use Rattle.nef_smap.specs.Maps.{map_of, raw_of, IsLeastMap, IsRawStars};
 
+use crate::OutOfMemory;
 use crate::making::map_of_parts;
 use crate::sorting::{parts_of, simplified};
 use nef_geo::Label;
 use nef_smap::{RawStars, SphereMap};
-use std::alloc::{AllocError, Global};
+use std::alloc::Global;
 
 /// The least map with the mark and the labels that the raw stars show. Stars with one label all around, or with one
-/// great circle through the axis and one label on each side of it, become no svertex. `AllocError` comes where no
+/// great circle through the axis and one label on each side of it, become no svertex. `OutOfMemory` comes where no
 /// memory is left.
-pub fn build(alloc: Global, raw: RawStars) -> Result<SphereMap, AllocError>
+pub fn build(alloc: Global, raw: RawStars) -> Result<SphereMap, OutOfMemory>
     requires raw { IsRawStars raw }
     requires labels { (gs : List Vector) × (L : Vector → Label) × IsLabelling gs L × IsRawOf (raw_of raw) L }
     ensures least { IfOk result (λ m. IsLeastMap m) }

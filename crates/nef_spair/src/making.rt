@@ -7,6 +7,7 @@ ghost use Rattle.nef_star.specs.Stars.{star_of, IsStar};
 ghost use Rattle.nef_smap.specs.Maps.{svertex_of};
 ghost use Rattle.nef_spair.specs.Made.{IsMadeOf};
 
+use crate::OutOfMemory;
 use crate::along::arcs_of;
 use crate::circle::sloop_of;
 use crate::order::sort_arcs;
@@ -14,7 +15,7 @@ use crate::parts::Parts;
 use nef_geo::{Label, List};
 use nef_smap::{SLoop, SVertex, SphereMap};
 use nef_star::Star;
-use std::alloc::{AllocError, Global};
+use std::alloc::Global;
 
 // The label round a star without rays.
 fn around(star: &Star) -> Option<Label>
@@ -39,7 +40,7 @@ fn svertex(star: &Star) -> SVertex
     }
 }
 
-fn svertices_of(alloc: Global, kept: &[Star]) -> Result<Vec<SVertex>, AllocError>
+fn svertices_of(alloc: Global, kept: &[Star]) -> Result<Vec<SVertex>, OutOfMemory>
     requires stars { All IsStar kept.now }
     ensures svertices { IfOk result (λ v. map svertex_of v.items ≡ map svertex_at (map star_of kept.now)) }
 {
@@ -51,11 +52,7 @@ fn svertices_of(alloc: Global, kept: &[Star]) -> Result<Vec<SVertex>, AllocError
 }
 
 // The label of the one face, where there is neither svertex nor sloop.
-fn ground_of(
-    svertices: &[SVertex],
-    sloop: Option<SLoop>,
-    face: Option<Label>,
-) -> Option<Label>
+fn ground_of(svertices: &[SVertex], sloop: Option<SLoop>, face: Option<Label>) -> Option<Label>
     ensures alone { svertices.now ≡ [] → sloop ≡ None → result ≡ face }
     ensures only { (l : Label) → result ≡ Some l → (svertices.now ≡ []) × (sloop ≡ None) }
 {
@@ -67,7 +64,7 @@ fn ground_of(
 }
 
 // The svertices of the kept stars, the arcs along their rays, the sloop, and the one face where there is neither.
-pub(crate) fn map_of_parts(alloc: Global, parts: Parts) -> Result<SphereMap, AllocError>
+pub(crate) fn map_of_parts(alloc: Global, parts: Parts) -> Result<SphereMap, OutOfMemory>
     requires stars { All IsStar parts.kept.items }
     ensures made { IfOk result (IsMadeOf parts) }
 {

@@ -11,11 +11,12 @@ ghost use Rattle.nef_star.specs.Stars.{star_of, IsStar};
 ghost use Rattle.nef_smap.specs.Maps.{loop_of, raw_of, IsRawStars};
 ghost use Rattle.nef_spair.specs.Parts.{IsDropped, AreOthers, IsCircleOf, AreCircles, AreSimple, IsFaceOf, ArePartsOf};
 
+use crate::OutOfMemory;
 use crate::parts::Parts;
 use nef_geo::{Label, List};
 use nef_smap::{RawStars, SLoop};
 use nef_star::{Star, is_plain, is_straight, simplify};
-use std::alloc::{AllocError, Global};
+use std::alloc::Global;
 
 // The stars without needless rays.
 pub(crate) fn simplified(stars: List<Star>) -> List<Star>
@@ -58,7 +59,7 @@ fn some_label(raw: &RawStars) -> Option<Label>
 }
 
 // The stars that are needed, and the circles of the straight ones.
-fn parted(alloc: Global, stars: List<Star>) -> Result<(Vec<Star>, Vec<SLoop>), AllocError>
+fn parted(alloc: Global, stars: List<Star>) -> Result<(Vec<Star>, Vec<SLoop>), OutOfMemory>
     requires stars { All IsStar stars }
     ensures kept { IfOk result (λ p. AreOthers IsDropped stars p.0.items) }
     ensures circles { IfOk result (λ p. AreCircles stars p.1.items) }
@@ -76,7 +77,7 @@ fn parted(alloc: Global, stars: List<Star>) -> Result<(Vec<Star>, Vec<SLoop>), A
 }
 
 // What the map of simplified stars is made of.
-pub(crate) fn parts_of(alloc: Global, raw: RawStars) -> Result<Parts, AllocError>
+pub(crate) fn parts_of(alloc: Global, raw: RawStars) -> Result<Parts, OutOfMemory>
     requires stars { All IsStar raw.stars }
     ensures parts { IfOk result (ArePartsOf raw) }
 {

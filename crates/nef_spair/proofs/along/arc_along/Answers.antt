@@ -1,13 +1,10 @@
-use Rattle.std.proofs.Common.{◌≡◌, ℕ, ◌+◌, ◌<◌, pos, List, length, map, get_or, true, arith, refl, sym, ap, subst, ◌∙◌, ◌⊎◌}
-use Rattle.nef_space.specs.Vectors.{Vector, dot}
+use Rattle.std.proofs.Common.{◌≡◌, ◌+◌, pos, List, length, map, get_or, arith, sym, ap, subst, ◌∙◌, ◌⊎◌}
+use Rattle.nef_space.specs.Vectors.{dot}
 use Rattle.nef_space.specs.declared.label.Label.{Label}
 use Rattle.nef_space.specs.declared.label.Label.TheVariants.{Out}
 use Rattle.nef_geo.specs.Shapes.{vector_of}
 use Rattle.nef_geo.specs.declared.dir.Dir.{Dir}
-use Rattle.nef_sphere.specs.Maps.{At}
-use Rattle.nef_sphere.proofs.Lists.{at-one}
 use Rattle.nef_build.specs.From.{IsFirstAfter}
-use Rattle.nef_star.specs.declared.star.Star.{Star}
 use Rattle.nef_star.specs.Stars.{star_of, IsStar}
 use Rattle.nef_smap.proofs.Lists.{at-within}
 use Rattle.nef_spair.proofs.Places.{index-at, all-at}
@@ -26,8 +23,8 @@ pub first_after-requires-clause-level : goal.first_after-requires-clause-level
 first_after-requires-clause-level c =
     let kept = c.args.kept.now in
     λ t a.
-        let T = all-at IsStar kept c.requires.stars c.args.from t a in let l = ray-leaves t T.turned c.args.number c.args.ray.now (c.requires.ray t a) in
-        subst (λ (d : Dir). dot (vector_of d) (vector_of t.axis) ≡ pos 0) (sym c.normal.ensures.normal) l.level
+    let T = all-at IsStar kept c.requires.stars c.args.from t a in let l = ray-leaves t T.turned c.args.number c.args.ray.now (c.requires.ray t a) in
+    subst (λ (d : Dir). dot (vector_of d) (vector_of t.axis) ≡ pos 0) (sym c.normal.ensures.normal) l.level
 
 pub bounds-sectors-number : goal.bounds-sectors-number
 bounds-sectors-number c =

@@ -1,8 +1,7 @@
-use Rattle.std.proofs.Common.{◌≡◌, ℕ, ◌+◌, ◌<◌, pos, length, true, false, arith, rules, refl, sym, ap, subst, ◌∙◌}
+use Rattle.std.proofs.Common.{◌≡◌, ℕ, ◌+◌, ◌<◌, pos, length, sym, ap, subst, ◌∙◌}
 use Rattle.nef_space.specs.Vectors.{dot}
 use Rattle.nef_geo.specs.Shapes.{vector_of}
 use Rattle.nef_geo.specs.declared.dir.Dir.{Dir}
-use Rattle.nef_sphere.specs.Maps.{At}
 use Rattle.nef_sphere.proofs.Lists.{at-one}
 use Rattle.nef_star.specs.declared.star.Star.{Star}
 use Rattle.nef_star.proofs.Needed.{true_or_false}
@@ -45,5 +44,5 @@ pub returns-clause-first : goal.returns-clause-first
 returns-clause-first c =
     let kept = c.args.kept.now in let w = c.loop-k.invariant in let v = c.index-kept-from.result in
     λ t a. let f = get-at kept c.loop-k.first v w.within in
-        let e = at-one kept c.args.from t v a (index-at kept c.args.from v c.requires.within c.index-kept-from.is) in
-        first-all kept c.args.normal.now c.axis-source.result.now c.loop-k.k c.loop-k.first _ c.loop-k-test.false w f t (ap (λ (x : Star). x.axis) e ∙ sym c.axis-source.ensures.axis)
+    let e = at-one kept c.args.from t v a (index-at kept c.args.from v c.requires.within c.index-kept-from.is) in
+    first-all kept c.args.normal.now c.axis-source.result.now c.loop-k.k c.loop-k.first _ c.loop-k-test.false w f t (ap (λ (x : Star). x.axis) e ∙ sym c.axis-source.ensures.axis)

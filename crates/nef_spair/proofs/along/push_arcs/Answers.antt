@@ -1,4 +1,4 @@
-use Rattle.std.proofs.Common.{◌≡◌, ℕ, ◌+◌, ◌<◌, List, [], ◌∷◌, ◌++◌, length, get_or, true, Vec, Global, arith, refl, sym, ap, subst, ◌∙◌}
+use Rattle.std.proofs.Common.{◌+◌, List, length, Vec, Global, arith, sym, ap, subst, ◌∙◌}
 use Rattle.nef_sphere.specs.Maps.{At}
 use Rattle.nef_sphere.proofs.Lists.{at-one}
 use Rattle.nef_star.specs.declared.star.Ray.{Ray}
@@ -17,8 +17,8 @@ arc_along-requires-clause-ray c =
     let kept = c.args.kept.now in let s = c.index-kept-from.result in let r = c.ray-item.result in let n = c.loop-number.number in
     let ray = index-at c.rays-ray-items.result.now n r c.loop-number-test.true c.ray-item.is in
     λ t a.
-        let e = at-one kept c.args.from s t (index-at kept c.args.from s c.requires.within c.index-kept-from.is) a in
-        subst (λ (x : Star). At x.rays.items n r) e (subst (λ (l : List Ray). At l n r) c.rays-ray-items.ensures.rays ray)
+    let e = at-one kept c.args.from s t (index-at kept c.args.from s c.requires.within c.index-kept-from.is) a in
+    subst (λ (x : Star). At x.rays.items n r) e (subst (λ (l : List Ray). At l n r) c.rays-ray-items.ensures.rays ray)
 
 pub loop-number-preserved : goal.loop-number-preserved
 loop-number-preserved c =

@@ -1,4 +1,4 @@
-use Rattle.std.proofs.Common.{refl, sym, ◌∙◌, rules}
+use Rattle.std.proofs.Common.{refl, sym, ◌∙◌}
 use Rattle.nef_geo.specs.Shapes.{vector_of}
 use Rattle.nef_star.proofs.Needed.{true_or_false}
 use Rattle.nef_spair.proofs.Places.{index-at}

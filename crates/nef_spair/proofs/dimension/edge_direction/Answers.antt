@@ -1,7 +1,5 @@
-use Rattle.std.proofs.Common.{◌≡◌, [], ◌∷◌, Some, None, rules, refl}
-use Rattle.nef_space.specs.Vectors.{IsOpposite}
-use Rattle.nef_geo.specs.Shapes.{vector_of}
-use Rattle.nef_spair.proofs.OneKind.{edge-if, edge-then, two-listed, edge-fields}
+use Rattle.std.proofs.Common.{◌≡◌, [], ◌∷◌, rules}
+use Rattle.nef_spair.proofs.OneKind.{edge-if, two-listed, edge-fields}
 use Rattle.nef_spair.proofs.dimension.edge_direction.Goals as goal
 use Rattle.nef_spair.proofs.dimension.edge_direction.Goals.{else-eq-via-then-eq+then-eq-2+else-are_opposite, else-eq-via-then-eq+else-eq-2, else-eq-via-else-eq}
 

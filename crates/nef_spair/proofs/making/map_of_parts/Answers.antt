@@ -1,10 +1,9 @@
-use Rattle.std.proofs.Common.{◌≡◌, List, [], length, map, refl, sym, ap, subst, ◌∙◌}
+use Rattle.std.proofs.Common.{List, length, map, refl, sym, ap, subst, ◌∙◌}
 use Rattle.nef_sphere.specs.Least.{InOrder}
 use Rattle.nef_build.specs.From.{svertex_at}
 use Rattle.nef_star.specs.declared.star.Star.{Star}
 use Rattle.nef_star.specs.Stars.{star_of}
 use Rattle.nef_smap.specs.declared.map.SArc.{SArc}
-use Rattle.nef_smap.specs.declared.map.SVertex.{SVertex}
 use Rattle.nef_smap.specs.Maps.{svertex_of}
 use Rattle.nef_spair.specs.Arcs.{AreArcs, IsArcBelow}
 use Rattle.nef_spair.proofs.Sorted.{sorted-arcs}

@@ -20,7 +20,7 @@ loop-star-preserved-in-Continue-branch-2 c =
     let ts = c.loop-star.yielded in let t = c.in-Some.star in let w = c.loop-star.invariant in
     record {
       kept = subst (AreOthers IsDropped (ts ++ t ∷ [])) (sym {A = List Star} c.in_ok-push-2.ensures.items) (others-keep IsDropped ts c.loop-star.kept.items t w.kept
-      (not-dropped t (λ p. true_or_false (sym (c.is_plain.ensures.plain.1 p) ∙ c.if-not-is_plain.true)) (λ s. true_or_false (sym (c.is_straight.ensures.straight.1 s) ∙ c.if-is_straight.false))));
+          (not-dropped t (λ p. true_or_false (sym (c.is_plain.ensures.plain.1 p) ∙ c.if-not-is_plain.true)) (λ s. true_or_false (sym (c.is_straight.ensures.straight.1 s) ∙ c.if-is_straight.false))));
       circles = circles-same ts c.loop-star.circles.items t w.circles (λ s. true_or_false (sym (c.is_straight.ensures.straight.1 s) ∙ c.if-is_straight.false));
     }
 

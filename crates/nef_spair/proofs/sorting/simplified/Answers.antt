@@ -1,5 +1,4 @@
-use Rattle.std.proofs.Common.{◌≡◌, ◌<◌, List, length, arith, sym, subst, ◌∙◌}
-use Rattle.nef_star.specs.declared.star.Star.{Star}
+use Rattle.std.proofs.Common.{◌≡◌, ◌<◌, length, arith, sym, subst, ◌∙◌}
 use Rattle.nef_star.proofs.Counted.{refilled}
 use Rattle.nef_spair.specs.Parts.{AreSimple}
 use Rattle.nef_spair.proofs.Simple.{simple-current, simple-more, simple-all}

@@ -1,5 +1,4 @@
-use Rattle.std.proofs.Common.{inl, inr, sym, ap}
-use Rattle.nef_star.specs.declared.star.Star.{Star}
+use Rattle.std.proofs.Common.{inl, inr, sym}
 use Rattle.nef_star.specs.Stars.{star_of}
 use Rattle.nef_smap.proofs.Lists.{map-at}
 use Rattle.nef_spair.proofs.Places.{some-at}
