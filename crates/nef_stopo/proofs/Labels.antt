@@ -5,7 +5,8 @@ use Rattle.std.proofs.Math.Seq.{take-suc}
 use Rattle.nef_space.specs.declared.label.Label.{Label}
 use Rattle.nef_sphere.specs.Forms.{gather}
 use Rattle.nef_sphere.specs.Stars.{Ray as PlainRay}
-use Rattle.nef_border.specs.Marks.{is_in, all_in, some_in, ray_mark}
+use Rattle.nef_border.specs.Topology.{Topology}
+use Rattle.nef_border.specs.Marks.{is_in, all_in, some_in, label_by, label_from, ray_mark}
 use Rattle.nef_star.specs.declared.star.Ray.{Ray}
 use Rattle.nef_star.specs.Stars.{ray_of}
 use Rattle.nef_stopo.specs.declared.nearby.Nearby.{Nearby}
@@ -38,6 +39,10 @@ both-append m n xs ys e f =
 
 pub both-as : (m n : Nearby) (a b : Bool) → a ≡ (m.all && n.all) → b ≡ (m.some || n.some) → (xs ys : List Label) → m ≡ nearby_of xs → n ≡ nearby_of ys → record { all = a; some = b } ≡ nearby_of (xs ++ ys)
 both-as m n a b p q xs ys e f = ap (λ (x : Bool). record { all = x; some = b }) p ∙ ap (λ (x : Bool). record { all = m.all && n.all; some = x }) q ∙ both-append m n xs ys e f
+
+-- a label by what is known of the labels close by is one by these labels
+pub label-near : (k : Topology) (own l : Label) (n : Nearby) (ls : List Label) → l ≡ label_by k own n.all n.some → n ≡ nearby_of ls → l ≡ label_from k own ls
+label-near k own l n ls e f = e ∙ ap (λ (x : Nearby). label_by k own x.all x.some) f
 
 -- ---- one more element
 pub gather-append : {A B : Type 0} (f : A → List B) (xs ys : List A) → gather f (xs ++ ys) ≡ gather f xs ++ gather f ys

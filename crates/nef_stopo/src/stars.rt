@@ -25,7 +25,8 @@ fn remarked_rays(alloc: Global, star: &Star, topology: Topology) -> Result<Vec<R
     for (k, ray) in star.rays().iter().enumerate() {
         let after = sectors[k];
         let mark = topology.label(ray.mark(), Nearby::of(before).and(Nearby::of(after)));
-        rays.push(Ray::of(*ray.normal(), ray.ahead(), mark))?;
+        let marked = Ray::of(*ray.normal(), ray.ahead(), mark);
+        rays.push(marked)?;
         before = after;
     }
     Ok(rays)
