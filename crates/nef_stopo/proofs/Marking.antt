@@ -90,7 +90,3 @@ module _ (k : Topology) (t : Star) (T : IsStar t) where
       let ray : At t.rays.items n r = subst (At t.rays.items n) (sym (is ∙ ap (λ (qs : List Ray). get_or qs n r) e)) (get-at t.rays.items n r in_rays) in
       let sector : At t.sectors.items n m = subst (λ (ls : List Label). At t.sectors.items n (get_or ls n Out)) (sym f) (get-at t.sectors.items n Out (sectors-fill t.rays.items (length t.sectors.items) n T.turned.sectors in_rays)) in
       subst (λ (ws : List Ray). IsMarkedUpTo k t (n + 1) ws m) (sym g) (marked-more n us r u l m M ray sector new)
-
--- a sector for each ray
-pub sector-at : (t : Star) → IsStar t → (n : ℕ) → n < length t.rays.items → n < length t.sectors.items
-sector-at t T n h = sectors-fill t.rays.items (length t.sectors.items) n T.turned.sectors h

@@ -1,7 +1,7 @@
 //! The stars of a map with the marks that they get.
 
-ghost use Rattle.std.specs.Prelude.{◌≡◌, length, IfOk};
-ghost use Rattle.nef_border.specs.Marks.{IsRemarked};
+ghost use Rattle.std.specs.Prelude.{◌≡◌, length, map, IfOk};
+ghost use Rattle.nef_border.specs.Marks.{IsRemarked, face_label};
 ghost use Rattle.nef_star.specs.Stars.{star_of, IsStar};
 ghost use Rattle.nef_smap.specs.Maps.{IsSphereMap};
 ghost use Rattle.nef_stopo.specs.Labels.{topology_of};
@@ -32,6 +32,13 @@ fn remarked_rays(alloc: Global, star: &Star, topology: Topology) -> Result<Vec<R
     Ok(rays)
 }
 
+// What the labels of the sectors become.
+fn remarked_sectors(alloc: Global, sectors: &[Label], topology: Topology) -> Result<Vec<Label>, AllocError>
+    ensures sectors { IfOk result (λ labels. labels.items ≡ map (face_label (topology_of topology)) sectors.now) }
+{
+    sectors.iter().map(|label| topology.face_label(*label)).collect(alloc)
+}
+
 // The star with what its marks and its sectors become.
 fn remarked(alloc: Global, star: &Star, topology: Topology) -> Result<Star, AllocError>
     requires star { IsStar star.now }
@@ -39,7 +46,7 @@ fn remarked(alloc: Global, star: &Star, topology: Topology) -> Result<Star, Allo
     ensures remarked { IfOk result (λ u. IsRemarked (topology_of topology) (star_of star.now) (star_of u)) }
 {
     let rays = remarked_rays(alloc, star, topology)?;
-    let sectors: Vec<Label> = star.sectors().iter().map(|label| topology.face_label(*label)).collect(alloc)?;
+    let sectors = remarked_sectors(alloc, star.sectors(), topology)?;
     let mark = topology.label(star.mark(), near_star(star));
     Ok(Star::of(*star.axis(), rays, sectors, mark))
 }
