@@ -26,8 +26,8 @@ fn relabelled(alloc: Global, map: &SphereMap, topology: Topology) -> Result<RawS
     Ok(RawStars {
         mark: topology.label(map.mark, near_map(map)),
         stars: remarked_stars(alloc, map, topology)?,
-        sloop: map.sloop.map(|circle| topology.circle(circle)),
-        ground: map.ground.map(|label| topology.face_label(label)),
+        sloop: topology.sloop(map.sloop),
+        ground: topology.ground(map.ground),
     })
 }
 

@@ -1,6 +1,6 @@
 //! The operations of topology, and what each makes of labels.
 
-ghost use Rattle.std.specs.Prelude.{◌≡◌};
+ghost use Rattle.std.specs.Prelude.{◌≡◌, option_map};
 ghost use Rattle.nef_border.specs.Marks.{in_by, label_by, face_label, loop_by};
 ghost use Rattle.nef_smap.specs.Maps.{loop_of};
 ghost use Rattle.nef_stopo.specs.Labels.{topology_of};
@@ -55,9 +55,8 @@ impl Topology {
         self.label(own, Nearby::none())
     }
 
-    /// The circle with what its labels become.
-    pub(crate) fn circle(self, circle: SLoop) -> SLoop
-        ensures normal { result.normal ≡ circle.normal }
+    // The circle with what its labels become.
+    fn circle(self, circle: SLoop) -> SLoop
         ensures circle { loop_of result ≡ loop_by (topology_of self) (loop_of circle) }
     {
         let near = Nearby::of(circle.pos).and(Nearby::of(circle.neg));
@@ -67,5 +66,19 @@ impl Topology {
             pos: self.face_label(circle.pos),
             neg: self.face_label(circle.neg),
         }
+    }
+
+    /// The sloop, if there is one, with what its labels become.
+    pub(crate) fn sloop(self, sloop: Option<SLoop>) -> Option<SLoop>
+        ensures sloop { option_map loop_of result ≡ option_map (loop_by (topology_of self)) (option_map loop_of sloop) }
+    {
+        sloop.map(|circle| self.circle(circle))
+    }
+
+    /// The label of the one face, if there is one, with what it becomes.
+    pub(crate) fn ground(self, ground: Option<Label>) -> Option<Label>
+        ensures ground { result ≡ option_map (face_label (topology_of self)) ground }
+    {
+        ground.map(|label| self.face_label(label))
     }
 }
