@@ -1,5 +1,5 @@
 -- Rays with what their marks become, one after another.
-use Rattle.std.proofs.Common.{◌≡◌, ℕ, zero, suc, ◌+◌, ◌-◌, ◌<◌, List, [], ◌∷◌, ◌++◌, length, get_or, arith, refl, sym, ap, subst, ◌∙◌, inl, inr, ◌⊎◌}
+use Rattle.std.proofs.Common.{◌≡◌, ℕ, ◌+◌, ◌-◌, ◌<◌, List, [], ◌∷◌, ◌++◌, length, get_or, arith, refl, sym, ap, subst, ◌∙◌, inl, inr}
 use Rattle.std.proofs.lemmas.List.{length_push}
 use Rattle.nef_space.specs.declared.label.Label.{Label}
 use Rattle.nef_space.specs.declared.label.Label.TheVariants.{Out}
@@ -12,7 +12,7 @@ use Rattle.nef_star.specs.Stars.{sector_count, IsStar}
 use Rattle.nef_star.specs.Turning.{IsNext}
 use Rattle.nef_star.proofs.Labelled.{sectors-fill}
 use Rattle.nef_star.proofs.Counted.{count-some}
-use Rattle.nef_smap.proofs.Lists.{at-within, at-get, get-at}
+use Rattle.nef_smap.proofs.Lists.{get-at}
 use Rattle.nef_spair.proofs.Places.{at-more}
 use Rattle.nef_stopo.specs.Stars.{IsMarked, AreMarked}
 

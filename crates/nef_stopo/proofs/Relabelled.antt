@@ -2,14 +2,13 @@
 use Rattle.std.proofs.Common.{◌≡◌, ℕ, List, length, map, Option, Some, None, Result, Ok, Err, IfOk, refl, sym, ap, subst, ◌∙◌}
 use Rattle.std.proofs.lemmas.List.{length-map}
 use Rattle.std.specs.Prelude.{option_map}
-use Rattle.std.specs.List.{All}
 use Rattle.nef_space.specs.Limits.{normal_limit}
 use Rattle.nef_space.specs.Place.{Place}
 use Rattle.nef_space.specs.Sets.{Set}
 use Rattle.nef_space.specs.Vectors.{Vector, IsDirection, IsAtMost}
 use Rattle.nef_space.specs.declared.label.Label.{Label}
 use Rattle.nef_geo.specs.Shapes.{vector_of}
-use Rattle.nef_sphere.specs.Maps.{At, Svertex, Loop, Map, MapLabel, loop_item}
+use Rattle.nef_sphere.specs.Maps.{At, Svertex, Loop, MapLabel, loop_item}
 use Rattle.nef_sphere.specs.Forms.{forms}
 use Rattle.nef_sphere.specs.Least.{Cone}
 use Rattle.nef_sphere.specs.Stars.{Star as PlainStar}
@@ -23,7 +22,6 @@ use Rattle.nef_border.proofs.MarkMade.{topology-mark}
 use Rattle.nef_border.proofs.Cones.{topology-cone}
 use Rattle.nef_star.specs.declared.star.Star.{Star}
 use Rattle.nef_star.specs.Stars.{star_of, IsStar}
-use Rattle.nef_smap.specs.declared.map.SVertex.{SVertex}
 use Rattle.nef_smap.specs.declared.map.SLoop.{SLoop}
 use Rattle.nef_smap.specs.declared.map.SphereMap.{SphereMap}
 use Rattle.nef_smap.specs.declared.map.RawStars.{RawStars}

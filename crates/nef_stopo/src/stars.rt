@@ -33,10 +33,17 @@ fn remarked_rays(alloc: Global, star: &Star, topology: Topology) -> Result<Vec<R
 }
 
 // What the labels of the sectors become.
-fn remarked_sectors(alloc: Global, sectors: &[Label], topology: Topology) -> Result<Vec<Label>, AllocError>
+fn remarked_sectors(
+    alloc: Global,
+    sectors: &[Label],
+    topology: Topology,
+) -> Result<Vec<Label>, AllocError>
     ensures sectors { IfOk result (λ labels. labels.items ≡ map (face_label (topology_of topology)) sectors.now) }
 {
-    sectors.iter().map(|label| topology.face_label(*label)).collect(alloc)
+    sectors
+        .iter()
+        .map(|label| topology.face_label(*label))
+        .collect(alloc)
 }
 
 // The star with what its marks and its sectors become.
@@ -52,7 +59,11 @@ fn remarked(alloc: Global, star: &Star, topology: Topology) -> Result<Star, Allo
 }
 
 /// The stars of the map's svertices with what their marks and their sectors become.
-pub(crate) fn remarked_stars(alloc: Global, map: &SphereMap, topology: Topology) -> Result<List<Star>, AllocError>
+pub(crate) fn remarked_stars(
+    alloc: Global,
+    map: &SphereMap,
+    topology: Topology,
+) -> Result<List<Star>, AllocError>
     requires map { IsSphereMap map.now }
     ensures stars { IfOk result (λ stars. AreRemarked (topology_of topology) map.now (length map.now.svertices) stars) }
 {

@@ -1,4 +1,4 @@
-use Rattle.std.proofs.Common.{◌≡◌, List, [], ◌∷◌, take, map, arith, subst, ap, ◌∙◌}
+use Rattle.std.proofs.Common.{List, [], ◌∷◌, take, map, arith, ap, ◌∙◌}
 use Rattle.nef_space.specs.declared.label.Label.{Label}
 use Rattle.nef_star.specs.declared.star.Ray.{Ray}
 use Rattle.nef_border.specs.Marks.{ray_mark}

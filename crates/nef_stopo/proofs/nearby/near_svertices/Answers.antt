@@ -1,4 +1,4 @@
-use Rattle.std.proofs.Common.{◌≡◌, List, [], ◌∷◌, ◌++◌, take, map, arith, sym, ap, ◌∙◌}
+use Rattle.std.proofs.Common.{List, [], ◌∷◌, ◌++◌, take, map, arith, ◌∙◌}
 use Rattle.nef_sphere.specs.Forms.{gather}
 use Rattle.nef_border.specs.Marks.{option_labels, svertex_labels}
 use Rattle.nef_smap.specs.declared.map.SVertex.{SVertex}

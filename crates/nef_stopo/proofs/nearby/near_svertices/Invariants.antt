@@ -1,8 +1,7 @@
 use Rattle.std.proofs.Common.{◌≡◌, take, map}
 use Rattle.nef_sphere.specs.Forms.{gather}
-use Rattle.nef_border.specs.Marks.{ray_mark, svertex_labels, arc_labels}
-use Rattle.nef_star.specs.Stars.{ray_of}
-use Rattle.nef_smap.specs.Maps.{svertex_of, arc_of}
+use Rattle.nef_border.specs.Marks.{svertex_labels}
+use Rattle.nef_smap.specs.Maps.{svertex_of}
 use Rattle.nef_stopo.specs.Labels.{nearby_of}
 use Rattle.nef_stopo.proofs.nearby.near_svertices.Given as goal
 

@@ -1,4 +1,3 @@
-use Rattle.std.proofs.Common.{◌≡◌}
 use Rattle.nef_border.specs.Marks.{map_labels}
 use Rattle.nef_smap.specs.Maps.{map_of}
 use Rattle.nef_stopo.specs.Labels.{topology_of}

@@ -1,4 +1,4 @@
-use Rattle.std.proofs.Common.{◌≡◌, List, length, map, sym, ap, subst, ◌∙◌}
+use Rattle.std.proofs.Common.{List, length, map, sym, ap, subst, ◌∙◌}
 use Rattle.nef_space.specs.declared.label.Label.{Label}
 use Rattle.nef_border.specs.Marks.{face_label, label_from, star_labels}
 use Rattle.nef_star.specs.declared.star.Ray.{Ray}

@@ -1,6 +1,5 @@
-use Rattle.std.proofs.Common.{◌≡◌, [], ◌∷◌, ap, ◌∙◌}
+use Rattle.std.proofs.Common.{[], ◌∷◌, ap, ◌∙◌}
 use Rattle.nef_space.specs.declared.label.Label.{Label}
-use Rattle.nef_sphere.specs.Maps.{Loop}
 use Rattle.nef_border.specs.Marks.{face_label, label_from}
 use Rattle.nef_geo.specs.Shapes.{vector_of}
 use Rattle.nef_stopo.specs.Labels.{topology_of}
