@@ -16,7 +16,7 @@ use Rattle.nef_sphere.proofs.Arcs.{at-loop}
 use Rattle.nef_build.specs.Raw.{IsLabelling, IsRawOf}
 use Rattle.nef_border.specs.Topology.{Topology, set_by, IsTopologyMap, MarkLabel}
 use Rattle.nef_border.specs.Marks.{label_from, face_label, loop_by, map_labels, IsRemarkedAt, IsTopologyRaw}
-use Rattle.nef_border.proofs.Listed.{at-beside}
+use Rattle.nef_build.proofs.KeptStars.{at-other}
 use Rattle.nef_border.proofs.RawTopology.{topology-stars}
 use Rattle.nef_border.proofs.MarkMade.{topology-mark}
 use Rattle.nef_border.proofs.Cones.{topology-cone}
@@ -43,7 +43,7 @@ loop-was k (Some q) (Some c) l e f =
 module _ (k : Topology) (m : SphereMap) (S : IsSphereMap m) (r : RawStars) (mark : r.mark ≡ label_from k m.mark (map_labels (map_of m))) (M : AreRemarked k m (length m.svertices) r.stars)
     (sloop : option_map loop_of r.sloop ≡ option_map (loop_by k) (option_map loop_of m.sloop)) (ground : r.ground ≡ option_map (face_label k) m.ground) where
   is-star : (i : ℕ) (u : Star) → At r.stars i u → IsStar u
-  is-star i u a = let v = at-beside r.stars m.svertices (sym M.as_many) i u a in (M.stars i v.0 u v.1 a).0
+  is-star i u a = let v = at-other r.stars m.svertices i u M.as_many a in (M.stars i v.0 u v.1 a).0
 
   circle-small : (l : SLoop) → r.sloop ≡ Some l → IsAtMost normal_limit (vector_of l.normal)
   circle-small l e =

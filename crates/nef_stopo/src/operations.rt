@@ -10,15 +10,16 @@ ghost use Rattle.nef_border.specs.Marks.{IsTopologyRaw};
 ghost use Rattle.nef_smap.specs.Maps.{map_of, raw_of, IsSphereMap, IsLeastMap, IsRawStars};
 ghost use Rattle.nef_stopo.specs.Labels.{topology_of};
 
+use crate::OutOfMemory;
 use crate::nearby::near_map;
 use crate::stars::remarked_stars;
 use crate::topology::Topology;
 use nef_smap::{RawStars, SphereMap};
 use nef_spair::build;
-use std::alloc::{AllocError, Global};
+use std::alloc::Global;
 
 // The map's stars, its mark, its sloop and its one face with what they become.
-fn relabelled(alloc: Global, map: &SphereMap, topology: Topology) -> Result<RawStars, AllocError>
+fn relabelled(alloc: Global, map: &SphereMap, topology: Topology) -> Result<RawStars, OutOfMemory>
     requires map { IsSphereMap map.now }
     ensures raw { IfOk result IsRawStars }
     ensures topology { IfOk result (λ raw. IsTopologyRaw (topology_of topology) (map_of map.now) (raw_of raw)) }
@@ -31,7 +32,7 @@ fn relabelled(alloc: Global, map: &SphereMap, topology: Topology) -> Result<RawS
     })
 }
 
-fn made(alloc: Global, map: &SphereMap, topology: Topology) -> Result<SphereMap, AllocError>
+fn made(alloc: Global, map: &SphereMap, topology: Topology) -> Result<SphereMap, OutOfMemory>
     requires map { IsSphereMap map.now }
     ensures least { IfOk result IsLeastMap }
     ensures cone { IfOk result (λ m. (s : Set) (p : Place) → Cone (map_of map.now) s p → Cone (map_of m) (set_by (topology_of topology) s) p) }
@@ -43,7 +44,7 @@ fn made(alloc: Global, map: &SphereMap, topology: Topology) -> Result<SphereMap,
 /// The least map of the interior: what is In, and has only In close to it. An item is In exactly where it and every
 /// item of higher dimension that it borders, svertices, arcs and faces, is In; `Out` stays `Out`. It fails only where
 /// no memory is left.
-pub fn interior(alloc: Global, map: &SphereMap) -> Result<SphereMap, AllocError>
+pub fn interior(alloc: Global, map: &SphereMap) -> Result<SphereMap, OutOfMemory>
     requires map { IsSphereMap map.now }
     ensures least { IfOk result IsLeastMap }
     ensures cone { IfOk result (λ m. (s : Set) (p : Place) → Cone (map_of map.now) s p → Cone (map_of m) (Set.inside s) p) }
@@ -55,7 +56,7 @@ pub fn interior(alloc: Global, map: &SphereMap) -> Result<SphereMap, AllocError>
 /// The least map of the closure: what is In, or has some In close to it. An item is In exactly where it or some item of
 /// higher dimension that it borders, a svertex, an arc or a face, is In; `Out` stays `Out`. It fails only where no
 /// memory is left.
-pub fn closure(alloc: Global, map: &SphereMap) -> Result<SphereMap, AllocError>
+pub fn closure(alloc: Global, map: &SphereMap) -> Result<SphereMap, OutOfMemory>
     requires map { IsSphereMap map.now }
     ensures least { IfOk result IsLeastMap }
     ensures cone { IfOk result (λ m. (s : Set) (p : Place) → Cone (map_of map.now) s p → Cone (map_of m) (Set.closed s) p) }
@@ -66,7 +67,7 @@ pub fn closure(alloc: Global, map: &SphereMap) -> Result<SphereMap, AllocError>
 
 /// The least map of the boundary, which is the closure without the interior; `Out` stays `Out`. It fails only where no
 /// memory is left.
-pub fn boundary(alloc: Global, map: &SphereMap) -> Result<SphereMap, AllocError>
+pub fn boundary(alloc: Global, map: &SphereMap) -> Result<SphereMap, OutOfMemory>
     requires map { IsSphereMap map.now }
     ensures least { IfOk result IsLeastMap }
     ensures cone { IfOk result (λ m. (s : Set) (p : Place) → Cone (map_of map.now) s p → Cone (map_of m) (Set.border s) p) }
@@ -76,7 +77,7 @@ pub fn boundary(alloc: Global, map: &SphereMap) -> Result<SphereMap, AllocError>
 }
 
 /// The least map of the complement: In and `Not` exchanged; `Out` stays `Out`. It fails only where no memory is left.
-pub fn complement(alloc: Global, map: &SphereMap) -> Result<SphereMap, AllocError>
+pub fn complement(alloc: Global, map: &SphereMap) -> Result<SphereMap, OutOfMemory>
     requires map { IsSphereMap map.now }
     ensures least { IfOk result IsLeastMap }
     ensures cone { IfOk result (λ m. (s : Set) (p : Place) → Cone (map_of map.now) s p → Cone (map_of m) (Set.other s) p) }

@@ -7,15 +7,16 @@ ghost use Rattle.nef_smap.specs.Maps.{IsSphereMap};
 ghost use Rattle.nef_stopo.specs.Labels.{topology_of};
 ghost use Rattle.nef_stopo.specs.Stars.{AreMarked, AreRemarked};
 
+use crate::OutOfMemory;
 use crate::nearby::{Nearby, near_star};
 use crate::topology::Topology;
 use nef_geo::{Label, List};
 use nef_smap::{SphereMap, star_at};
 use nef_star::{Ray, Star};
-use std::alloc::{AllocError, Global};
+use std::alloc::Global;
 
 // The rays with what their marks become between the sectors on their two sides.
-fn remarked_rays(alloc: Global, star: &Star, topology: Topology) -> Result<Vec<Ray>, AllocError>
+fn remarked_rays(alloc: Global, star: &Star, topology: Topology) -> Result<Vec<Ray>, OutOfMemory>
     requires star { IsStar star.now }
     ensures rays { IfOk result (λ rays. AreMarked (topology_of topology) star.now (length star.now.rays.items) rays.items) }
 {
@@ -37,7 +38,7 @@ fn remarked_sectors(
     alloc: Global,
     sectors: &[Label],
     topology: Topology,
-) -> Result<Vec<Label>, AllocError>
+) -> Result<Vec<Label>, OutOfMemory>
     ensures sectors { IfOk result (λ labels. labels.items ≡ map (face_label (topology_of topology)) sectors.now) }
 {
     sectors
@@ -47,7 +48,7 @@ fn remarked_sectors(
 }
 
 // The star with what its marks and its sectors become.
-fn remarked(alloc: Global, star: &Star, topology: Topology) -> Result<Star, AllocError>
+fn remarked(alloc: Global, star: &Star, topology: Topology) -> Result<Star, OutOfMemory>
     requires star { IsStar star.now }
     ensures star { IfOk result IsStar }
     ensures remarked { IfOk result (λ u. IsRemarked (topology_of topology) (star_of star.now) (star_of u)) }
@@ -63,7 +64,7 @@ pub(crate) fn remarked_stars(
     alloc: Global,
     map: &SphereMap,
     topology: Topology,
-) -> Result<List<Star>, AllocError>
+) -> Result<List<Star>, OutOfMemory>
     requires map { IsSphereMap map.now }
     ensures stars { IfOk result (λ stars. AreRemarked (topology_of topology) map.now (length map.now.svertices) stars) }
 {
