@@ -17,9 +17,7 @@ use Rattle.nef_build.proofs.RawFaces.{raw-shows_op}
 use Rattle.nef_smap.specs.declared.map.RawStars.{RawStars}
 use Rattle.nef_smap.specs.declared.map.SphereMap.{SphereMap}
 use Rattle.nef_smap.specs.Maps.{map_of, raw_of, IsLeastMap, IsRawStars}
-use Rattle.nef_spair.specs.declared.parts.Parts.{Parts}
 use Rattle.nef_spair.specs.Made.{IsMadeFrom}
-use Rattle.nef_spair.specs.Parts.{AreSimple, ArePartsOf}
 use Rattle.nef_spair.proofs.Built.{kept-raw, all-stars, all-simplified}
 use Rattle.nef_spair.proofs.FromParts.{built-from, small}
 

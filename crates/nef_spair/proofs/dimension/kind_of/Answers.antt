@@ -1,7 +1,7 @@
 use Rattle.std.proofs.Common.{rules}
 use Rattle.nef_smap.specs.Maps.{map_of}
 use Rattle.nef_spair.specs.Kinds.{IsVertex}
-use Rattle.nef_spair.specs.declared.answer.Kind.TheVariants.{Vertex, OnEdge, InFacet, InVolume}
+use Rattle.nef_spair.specs.declared.answer.Kind.TheVariants.{Vertex, OnEdge, InFacet}
 use Rattle.nef_spair.proofs.OneKind.{exactly}
 use Rattle.nef_spair.proofs.dimension.kind_of.Goals as goal
 
