@@ -1,3 +1,11 @@
+pub mod MapLists
+pub mod SideLists
+pub mod NearSvertex
+pub mod FarWay
+pub mod SectorSees
+pub mod FirstMet
+pub mod LargeNumbers
 pub mod Lists
 pub mod Primitive
 pub mod WellFormed
+pub mod SimpleMaps

@@ -6,7 +6,15 @@
 //! al., "Boolean Operations on 3D Selective Nef Complexes", ESA 2003.
 #![tactic(auto)]
 
+mod duplicate;
+mod item;
+mod linear;
 mod map;
+mod side;
+mod simple;
 
+pub use duplicate::copy;
 pub use map::{RawStars, SArc, SLoop, SPlace, SVertex, SphereMap};
+pub use side::{side_label, sides};
+pub use simple::{face_map, plane_map};
 pub use std::alloc::AllocError as OutOfMemory;
