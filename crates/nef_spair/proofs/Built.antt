@@ -18,13 +18,13 @@ use Rattle.nef_spair.specs.Parts.{IsSimple, AreSimple, IsDropped, ArePartsOf}
 use Rattle.nef_spair.proofs.Places.{others-from, others-all, others-in_order, all-at, at-all}
 
 -- ---- stars that have been simplified
-module _ (r q : RawStars) (mark : q.mark ≡ r.mark) (sloop : q.sloop ≡ r.sloop) (ground : q.ground ≡ r.ground) (w : AreSimple r.stars q.stars) where
+module _ (r q : RawStars) (w : AreSimple r.stars q.stars) where
   lengths : {A B : Type 0} (f : A → B) (xs : List A) → length (map f xs) ≡ length xs
   lengths f [] = refl
   lengths f (x ∷ xs) = ap suc (lengths f xs)
 
-  pub kept-raw : IsKeptRaw (raw_of r) (raw_of q)
-  kept-raw = record {
+  pub kept-raw : q.mark ≡ r.mark → q.sloop ≡ r.sloop → q.ground ≡ r.ground → IsKeptRaw (raw_of r) (raw_of q)
+  kept-raw mark sloop ground = record {
     mark = mark;
     stars = record {
       as_many = lengths star_of q.stars ∙ w.as_many ∙ sym (lengths star_of r.stars);

@@ -26,9 +26,6 @@ pub record IsFirstOf (kept : List Star) (n s : Dir) (k j : ℕ) : Type 0 where
   pub level : (t : Star) → At kept j t → dot (vector_of n) (vector_of t.axis) ≡ pos 0
   pub none_before : (i : ℕ) (t u : Star) → i < k → At kept j t → At kept i u → IsStrictlyOn (vector_of n) (vector_of s) (vector_of t.axis) (vector_of u.axis) → ⊥
 
-pub first-none : (kept : List Star) (n s : Dir) (j : ℕ) → j < length kept → ((t : Star) → At kept j t → dot (vector_of n) (vector_of t.axis) ≡ pos 0) → IsFirstOf kept n s 0 j
-first-none kept n s j h l = record { within = h; level = l; none_before = λ i t u k. absurd (omega (arith, k)) }
-
 module _ (kept : List Star) (n s : Dir) (k j : ℕ) (t u : Star) (w : IsFirstOf kept n s k j) (a : At kept j t) (b : At kept k u) (kh : k < length kept) where
   -- star k isn't on the way
   pub first-stays : (IsStrictlyOn (vector_of n) (vector_of s) (vector_of t.axis) (vector_of u.axis) → ⊥) → IsFirstOf kept n s (k + 1) j

@@ -24,7 +24,7 @@ use Rattle.nef_spair.proofs.OneKind.{no-loop-was, loop-was, none-was}
 use Rattle.nef_spair.proofs.Places.{all-at}
 use Rattle.nef_spair.proofs.Built.{map-none, first-same, kept-stars, plain-from, plain-needed, plain-all, plain-ordered}
 
-none-some : {A : Type 0} (o : Option A) (x : A) → o ≡ None → o ≡ Some x → ⊥
+pub none-some : {A : Type 0} (o : Option A) (x : A) → o ≡ None → o ≡ Some x → ⊥
 none-some o x e f = let i : None ≡ Some x = sym e ∙ f in cc
 
 module _ (q : RawStars) (p : Parts) (m : SphereMap) (parts : ArePartsOf q p) (made : IsMadeOf p m) where

@@ -96,14 +96,6 @@ module _ (t : Star) (T : IsTurned t) where
       ]
 
 -- ---- arcs of more rays
-pub arcs-none : (kept : List Star) → AreArcs kept 0 0 []
-arcs-none kept = record {
-  from = λ k a h. absurd h;
-  small = λ k a h. absurd h;
-  apart = λ j k a b h. absurd h;
-  along = λ k a h. absurd h;
-  all = λ j m t r h i f e. absurd (elim e [ inl l ↦ omega (arith, l) | inr l ↦ omega (arith, l.1) ]);
-}
 
 module _ (kept : List Star) (i n : ℕ) (arcs : List SArc) (w : AreArcs kept i n arcs) where
   earlier : (j m : ℕ) → IsEarlier i n j m → IsEarlier i (n + 1) j m

@@ -10,3 +10,4 @@ pub mod Sorted
 pub mod Built
 pub mod FromParts
 pub mod Answered
+pub mod Samples

@@ -108,14 +108,8 @@ loop-was None l e = let i : None ≡ Some l = e in absurd (cc)
 loop-was (Some c) l e = let i : Some (loop_of c) ≡ Some l = e in (c, refl, cc)
 
 module _ (m : SphereMap) where
-  pub volume-if : m.svertices ≡ [] → m.sloop ≡ None → m.ground ≡ Some m.mark → IsInVolume (map_of m)
-  volume-if e f g = record { no_svertex = none-made m.svertices e; no_loop = ap (option_map loop_of) f; same_mark = g }
-
   pub volume-then : IsInVolume (map_of m) → (m.svertices ≡ []) × (m.sloop ≡ None) × (m.ground ≡ Some m.mark)
   volume-then v = (none-was m.svertices v.no_svertex, no-loop-was m.sloop v.no_loop, v.same_mark)
-
-  pub facet-if : (l : SLoop) → m.svertices ≡ [] → m.sloop ≡ Some l → l.mark ≡ m.mark → IsInFacet (map_of m) (vector_of l.normal)
-  facet-if l e f g = record { no_svertex = none-made m.svertices e; loop = loop_of l; has_loop = ap (option_map loop_of) f; same_mark = g; normal = refl }
 
   pub facet-then : (n : Vector) → IsInFacet (map_of m) n → (l : SLoop) × (m.svertices ≡ []) × (m.sloop ≡ Some l) × (l.mark ≡ m.mark)
   facet-then n f = let l = loop-was m.sloop f.loop f.has_loop in (l.0, none-was m.svertices f.no_svertex, l.1, ap (λ (c : Loop). c.mark) l.2 ∙ f.same_mark)
@@ -164,7 +158,7 @@ two-listed (x ∷ y ∷ z ∷ xs) a b n e f = absurd (omega (arith, n))
 abbrev both : Vector → Vector → List ℤ
 both u v = u.x ∷ u.y ∷ u.z ∷ v.x ∷ v.y ∷ v.z ∷ []
 
-back-opposite : (v : Vector) → IsDirection v → IsOpposite v (opposite v)
+pub back-opposite : (v : Vector) → IsDirection v → IsOpposite v (opposite v)
 back-opposite v h = record {
   parallel = (
     ring (both v v) (at 1 ⊗ neg (at 2) ⊖ at 2 ⊗ neg (at 1)) (num (pos 0)) tt,

@@ -1,5 +1,5 @@
 -- Circles of straight stars, one star after another, and what they and the kept stars are made of.
-use Rattle.std.proofs.Common.{◌≡◌, List, [], ◌∷◌, ◌++◌, length, map, get_or, arith, sym, ap, subst, ◌∙◌, inl, inr}
+use Rattle.std.proofs.Common.{◌≡◌, List, [], ◌∷◌, ◌++◌, length, map, get_or, sym, ap, subst, ◌∙◌, inl, inr}
 use Rattle.nef_space.specs.Limits.{normal_limit}
 use Rattle.nef_space.specs.Vectors.{Vector, IsAtMost}
 use Rattle.nef_space.specs.declared.label.Label.{Label}
@@ -39,8 +39,6 @@ not-dropped t n m (inl p) = n p
 not-dropped t n m (inr s) = m s
 
 -- ---- the circles of more stars
-pub circles-none : AreCircles [] []
-circles-none = record { from = λ k c h. absurd h; all = λ j t h. absurd h; small = λ k d h. absurd (omega (arith, h)) }
 
 module _ (ts : List Star) (cs : List SLoop) (t : Star) (w : AreCircles ts cs) where
   pub circles-more : (c : SLoop) → IsCircleOf (star_of t) (loop_of c) → IsAtMost normal_limit (vector_of c.normal) → AreCircles (ts ++ t ∷ []) (cs ++ c ∷ [])

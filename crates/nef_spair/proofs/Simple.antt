@@ -1,5 +1,5 @@
 -- Stars made simple one after another.
-use Rattle.std.proofs.Common.{◌≡◌, ℕ, zero, suc, ◌+◌, ◌<◌, ◌≤◌, List, [], ◌∷◌, length, get_or, slice_set, get_or-set_other, get_or-set_same, length-set, ◌≢◌, arith, refl, sym, subst, ◌∙◌, inl, inr, ◌⊎◌}
+use Rattle.std.proofs.Common.{◌≡◌, ℕ, zero, suc, ◌+◌, ◌<◌, ◌≤◌, List, [], ◌∷◌, length, get_or, slice_set, get_or-set_other, get_or-set_same, length-set, ◌≢◌, arith, sym, subst, ◌∙◌, inl, inr, ◌⊎◌}
 use Rattle.std.specs.List.{All}
 use Rattle.std.proofs.Math.Nat.{eq-or-lt_of_le}
 use Rattle.nef_sphere.specs.Maps.{At}
@@ -15,9 +15,6 @@ pub record IsSimpleUpTo (n : ℕ) (ts us : List Star) : Type 0 where
   pub as_many : length us ≡ length ts
   pub done : (k : ℕ) (t s : Star) → k < n → At ts k t → At us k s → IsSimple t s
   pub left : (k : ℕ) (s : Star) → n ≤ k → At us k s → At ts k s
-
-pub simple-none : (ts : List Star) → IsSimpleUpTo 0 ts ts
-simple-none ts = record { as_many = refl; done = λ k t s h. absurd (omega (arith, h)); left = λ k s h a. a }
 
 pub simple-all : (n : ℕ) (ts us : List Star) → length us ≤ n → IsSimpleUpTo n ts us → AreSimple ts us
 simple-all n ts us h w = record { as_many = w.as_many; each = λ k t s a b. w.done k t s (omega (arith, h, within us k s b)) a b }

@@ -59,13 +59,9 @@ fn edge_direction(map: &SphereMap) -> Option<Dir>
     }
 }
 
-/// The kind of a least map. A point in a volume has the label of all directions, a point in a facet that of the
-/// sloop, and a point on an edge that of the edge's two svertices, which are all that the map has. Otherwise the point
-/// is a vertex. It takes no memory.
-pub fn kind(map: &SphereMap) -> Kind
-    requires least { IsLeastMap map.now }
+// The kind of a map, whether it is least or not.
+pub(crate) fn kind_of(map: &SphereMap) -> Kind
     ensures exactly { (k : Kind) → IsKind (map_of map.now) k ↔ (result ≡ k) }
-    ensures dimension { (s : Set) (p : Place) → Cone (map_of map.now) s p → KindFits result s p }
 {
     if is_in_volume(map) {
         return Kind::InVolume;
@@ -77,4 +73,15 @@ pub fn kind(map: &SphereMap) -> Kind
         Some(direction) => Kind::OnEdge(direction),
         None => Kind::Vertex,
     }
+}
+
+/// The kind of a least map. A point in a volume has the label of all directions, a point in a facet that of the
+/// sloop, and a point on an edge that of the edge's two svertices, which are all that the map has. Otherwise the point
+/// is a vertex. It takes no memory.
+pub fn kind(map: &SphereMap) -> Kind
+    requires least { IsLeastMap map.now }
+    ensures exactly { (k : Kind) → IsKind (map_of map.now) k ↔ (result ≡ k) }
+    ensures dimension { (s : Set) (p : Place) → Cone (map_of map.now) s p → KindFits result s p }
+{
+    kind_of(map)
 }

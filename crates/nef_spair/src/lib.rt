@@ -10,6 +10,8 @@ mod making;
 mod order;
 mod parts;
 mod sorting;
+#[cfg(test)]
+mod tests;
 
 pub use answer::Kind;
 pub use building::build;
