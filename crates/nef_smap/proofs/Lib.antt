@@ -5,3 +5,6 @@ pub mod FarWay
 pub mod SectorSees
 pub mod FirstMet
 pub mod LargeNumbers
+pub mod Lists
+pub mod Primitive
+pub mod WellFormed

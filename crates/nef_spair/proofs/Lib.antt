@@ -1,0 +1,9 @@
+pub mod OneKind
+pub mod Places
+pub mod Simple
+pub mod Parting
+pub mod Firsts
+pub mod Leaving
+pub mod ArcOrder
+pub mod Circles
+pub mod Sorted
