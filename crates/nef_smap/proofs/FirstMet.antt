@@ -30,8 +30,8 @@ ratios-trans na nb ma mb la lb f p q =
     let second = na *ℤ (ma *ℤ (ma *ℤ nb -ℤ mb *ℤ na)) in
     let whole = na *ℤ (la *ℤ (la *ℤ nb -ℤ lb *ℤ na)) in
     let e : (ma *ℤ ma) *ℤ whole ≡ (la *ℤ la) *ℤ second +ℤ (na *ℤ na) *ℤ first = ring (na ∷ nb ∷ ma ∷ mb ∷ la ∷ lb ∷ [])
-        ((at 2 ⊗ at 2) ⊗ (at 0 ⊗ (at 4 ⊗ (at 4 ⊗ at 1 ⊖ at 5 ⊗ at 0))))
-        ((at 4 ⊗ at 4) ⊗ (at 0 ⊗ (at 2 ⊗ (at 2 ⊗ at 1 ⊖ at 3 ⊗ at 0))) ⊕ (at 0 ⊗ at 0) ⊗ (at 2 ⊗ (at 4 ⊗ (at 4 ⊗ at 3 ⊖ at 5 ⊗ at 2)))) tt in
+    ((at 2 ⊗ at 2) ⊗ (at 0 ⊗ (at 4 ⊗ (at 4 ⊗ at 1 ⊖ at 5 ⊗ at 0))))
+    ((at 4 ⊗ at 4) ⊗ (at 0 ⊗ (at 2 ⊗ (at 2 ⊗ at 1 ⊖ at 3 ⊗ at 0))) ⊕ (at 0 ⊗ at 0) ⊗ (at 2 ⊗ (at 4 ⊗ (at 4 ⊗ at 3 ⊖ at 5 ⊗ at 2)))) tt in
     let some : na ≡ pos 0 → ⊥ = λ z. let g = ap (λ r. r *ℤ (ma *ℤ (ma *ℤ nb -ℤ mb *ℤ na))) z in let o = ring ((ma *ℤ (ma *ℤ nb -ℤ mb *ℤ na)) ∷ []) (num (pos 0) ⊗ at 0) (num (pos 0)) tt in omega (arith, ints) in
     let u = mul_pos (na *ℤ na) first (square_pos na some) p in
     let w = mul_nonneg (la *ℤ la) second (square_nonneg la) (omega (arith, ints)) in

@@ -8,3 +8,4 @@ pub mod LargeNumbers
 pub mod Lists
 pub mod Primitive
 pub mod WellFormed
+pub mod SimpleMaps

@@ -11,8 +11,10 @@ mod item;
 mod linear;
 mod map;
 mod side;
+mod simple;
 
 pub use duplicate::copy;
 pub use map::{RawStars, SArc, SLoop, SPlace, SVertex, SphereMap};
 pub use side::{side_label, sides};
+pub use simple::{face_map, plane_map};
 pub use std::alloc::AllocError as OutOfMemory;
