@@ -1,14 +1,13 @@
 -- The labels near a svertex: on a ray, and in the sector after it.
 use Rattle.std.proofs.Common.{◌≡◌, ℕ, ◌+◌, ◌≤◌, List, pos, arith, refl, sym, ap, subst, ◌∙◌, ⊎_elim}
-use Rattle.nef_exact.specs.Signs.{Lies}
 use Rattle.nef_exact.proofs.Order.{sign, sign-scaled}
 use Rattle.nef_space.specs.Vectors.{Vector, IsDirection, cross, dot, SameDirection, blend}
 use Rattle.nef_space.specs.declared.label.Label.{Label}
 use Rattle.nef_cyclic.specs.Arcs.{IsOnCircle, IsStrictlyOn}
 use Rattle.nef_cyclic.proofs.Directions.{level_cross_first, same-first}
-use Rattle.nef_forms.proofs.Directions.{dot-comm, self-pos}
+use Rattle.nef_forms.proofs.Directions.{self-pos}
 use Rattle.nef_forms.proofs.Far.{nought-or}
-use Rattle.nef_sphere.specs.Maps.{At, Svertex, Map, arc_item, items, HasSide, Sees, IsClear, on_item, seen, NearLabel, Shaped, Valid}
+use Rattle.nef_sphere.specs.Maps.{At, Svertex, Map, arc_item, HasSide, Sees, IsClear, on_item, seen, NearLabel, Valid}
 use Rattle.nef_sphere.specs.Forms.{SameSigns, forms}
 use Rattle.nef_sphere.specs.Stars.{across}
 use Rattle.nef_sphere.proofs.Arcs.{at-arc}

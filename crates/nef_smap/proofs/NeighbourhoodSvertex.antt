@@ -1,9 +1,8 @@
 -- The star of a svertex with arcs shows the map: its rays are the ends of the arcs there.
-use Rattle.std.proofs.Common.{◌≡◌, ℕ, zero, suc, ◌+◌, ◌<◌, pos, ◌-ℤ◌, List, [], ◌∷◌, length, map, Option, Some, None, Result, Ok, Err, IfOk, ◌⊎◌, inl, inr, arith, refl, sym, ap, subst, ◌∙◌, slice_get}
+use Rattle.std.proofs.Common.{◌≡◌, ℕ, zero, suc, ◌+◌, ◌<◌, pos, List, [], ◌∷◌, length, Option, Some, None, Result, Ok, Err, IfOk, ◌⊎◌, inl, inr, arith, refl, sym, ap, subst, ◌∙◌}
 use Rattle.std.proofs.lemmas.Int.{ints}
-use Rattle.nef_space.specs.Limits.{normal_limit}
 use Rattle.nef_space.specs.Lists.{IsAt}
-use Rattle.nef_space.specs.Vectors.{Vector, IsDirection, cross, dot, opposite, SameDirection, IsAtMost, IsNormal, blend}
+use Rattle.nef_space.specs.Vectors.{Vector, IsDirection, cross, dot, opposite, SameDirection, blend}
 use Rattle.nef_space.specs.declared.label.Label.{Label}
 use Rattle.nef_cyclic.specs.Arcs.{IsOnCircle, IsStrictlyOn, Passes}
 use Rattle.nef_cyclic.proofs.Cyclic.{order_is_transitive}
@@ -11,10 +10,10 @@ use Rattle.nef_cyclic.proofs.Directions.{dot-opposite, level_cross_first}
 use Rattle.nef_forms.proofs.Directions.{dot-comm, self-pos}
 use Rattle.nef_geo.specs.Shapes.{vector_of}
 use Rattle.nef_geo.specs.declared.dir.Dir.{Dir}
-use Rattle.nef_sphere.specs.Maps.{At, Svertex, Arc, Map, arc_item, items, OnItem, HasArc, HasSide, MapLabel, at_svertex, NearLabel, Valid}
-use Rattle.nef_sphere.specs.Stars.{StarLabel, StarShows}
-use Rattle.nef_sphere.proofs.Arcs.{Ends, ends-of, at-arc}
-use Rattle.nef_sphere.proofs.Compare.{SameDirection-turned, way-self}
+use Rattle.nef_sphere.specs.Maps.{At, Svertex, Arc, Map, arc_item, items, OnItem, HasArc, HasSide, at_svertex, NearLabel, Valid}
+use Rattle.nef_sphere.specs.Stars.{StarShows}
+use Rattle.nef_sphere.proofs.Arcs.{at-arc}
+use Rattle.nef_sphere.proofs.Compare.{way-self}
 use Rattle.nef_sphere.proofs.Lists.{at-one}
 use Rattle.nef_star.specs.Rounds.{IsRound}
 use Rattle.nef_star.specs.Turning.{IsTurning, IsNext, on_ray as at_ray, in_sector as of_sector, in_only_sector as of_only_sector}

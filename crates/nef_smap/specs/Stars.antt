@@ -4,7 +4,7 @@ use Rattle.nef_space.specs.Lists.{IsAt}
 use Rattle.nef_space.specs.Vectors.{Vector}
 use Rattle.nef_space.specs.declared.label.Label.{Label}
 use Rattle.nef_sphere.specs.Maps.{Map, Item, item_normal, item_above, item_mark, item_below}
-use Rattle.nef_sphere.specs.Stars.{Star, Ray as PlainRay, StarOf, StarShows}
+use Rattle.nef_sphere.specs.Stars.{Star, StarOf, StarShows}
 use Rattle.nef_star.specs.declared.star.Ray.{Ray}
 use Rattle.nef_smap.specs.declared.map.SArc.{SArc}
 

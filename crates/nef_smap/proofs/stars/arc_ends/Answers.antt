@@ -23,8 +23,8 @@ loop-arc-preserved c =
     let listed = get-from_at arcs n a (subst (At arcs n) (sym c.arc-item.is) (get-at arcs n a c.loop-arc-test.true)) in
     let here = subst (λ (x : List SArc). IsAt x n a) c.as_slice-arc-items.ensures.all listed in
     rw (c.in_ok-push_if-2.ensures.pushed, c.in_ok-push_if.ensures.pushed, ray-is c.of-ahead.result a.normal true a.mark x.normal x.ahead x.mark, ray-is c.of-back.result a.normal false a.mark y.normal y.ahead y.mark)
-        (ends-more c.args.map.now.arcs c.loop-arc.arc-index k c.loop-arc.ends.items a (eqb a.source k) (eqb a.target k) here c.loop-arc.invariant
-        (eqb-true a.source k, eq-eqb a.source k) (eqb-true a.target k, eq-eqb a.target k))
+    (ends-more c.args.map.now.arcs c.loop-arc.arc-index k c.loop-arc.ends.items a (eqb a.source k) (eqb a.target k) here c.loop-arc.invariant
+    (eqb-true a.source k, eq-eqb a.source k) (eqb-true a.target k, eq-eqb a.target k))
 
 pub returns : goal.returns
 returns c = let l = c.loop-arc-test.false in record { ends = ends-all c.args.map.now.arcs c.loop-arc.arc-index c.args.svertex c.loop-arc.ends.items (rw c.as_slice-arc-items.ensures.all at l) c.loop-arc.invariant }

@@ -1,4 +1,3 @@
-use Rattle.std.proofs.Common.{length}
 use Rattle.std.proofs.lemmas.List.{length-map}
 use Rattle.nef_smap.specs.Maps.{svertex_of, map_of}
 use Rattle.nef_smap.proofs.MapLists.{at-within}
@@ -17,7 +16,7 @@ returns-in-Some-clause-shows c =
     let s = c.at-svertex.result.now in
     let e = c.star_without_rays.ensures in
     lone-ok c.star_without_rays.result (map_of m) c.args.number s.mark c.in-Some.around s.around c.args.d.now c.requires.map.valid (svertex-here m c.args.number s c.args.d.now c.at-svertex.ensures.element c.requires.at) c.in-Some.is
-        e.star e.axis e.rays e.sectors e.mark
+    e.star e.axis e.rays e.sectors e.mark
 
 pub round-requires-clause-some : goal.round-requires-clause-some
 round-requires-clause-some c =
