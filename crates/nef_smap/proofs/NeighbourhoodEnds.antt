@@ -4,6 +4,7 @@ use Rattle.std.proofs.Math.Nat.{eq-or-lt_of_le}
 use Rattle.nef_space.specs.Lists.{IsAt}
 use Rattle.nef_space.specs.declared.label.Label.{Label}
 use Rattle.nef_geo.specs.declared.dir.Dir.{Dir}
+use Rattle.nef_star.specs.Rounds.{End}
 use Rattle.nef_star.specs.declared.star.Ray.{Ray}
 use Rattle.nef_smap.specs.declared.map.SArc.{SArc}
 use Rattle.nef_smap.specs.Stars.{IsArcEnd, AreArcEnds}
@@ -12,9 +13,6 @@ get-within : {X : Type 0} (xs : List X) (k : ℕ) (x : X) → IsAt xs k x → k 
 get-within [] k x h = cc
 get-within (y ∷ ys) zero x h = omega arith
 get-within (y ∷ ys) (suc k) x h = let r = get-within ys k x h in omega arith
-
-abbrev pub End : Type 0
-End = Ray × Label
 
 -- the list has the end
 abbrev pub Has : List End → End → Type 0

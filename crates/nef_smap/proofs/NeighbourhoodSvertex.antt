@@ -15,7 +15,7 @@ use Rattle.nef_sphere.specs.Stars.{StarShows}
 use Rattle.nef_sphere.proofs.Arcs.{at-arc}
 use Rattle.nef_sphere.proofs.Compare.{way-self}
 use Rattle.nef_sphere.proofs.Lists.{at-one}
-use Rattle.nef_star.specs.Rounds.{IsRound}
+use Rattle.nef_star.specs.Rounds.{End, AreApart, IsRound}
 use Rattle.nef_star.specs.Turning.{IsTurning, IsNext, on_ray as at_ray, in_sector as of_sector, in_only_sector as of_only_sector}
 use Rattle.nef_star.specs.declared.star.Ray.{Ray}
 use Rattle.nef_star.specs.declared.star.Star.{Star}
@@ -30,7 +30,7 @@ use Rattle.nef_smap.proofs.Lists.{map-at, at-map}
 use Rattle.nef_smap.proofs.SideLists.{at-from_get, get-from_at}
 use Rattle.nef_smap.proofs.NearSvertex.{ArcRay, end_left, ray_left, ray_side, Unrayed}
 use Rattle.nef_smap.proofs.SectorSees.{left-on, on-end}
-use Rattle.nef_smap.proofs.NeighbourhoodEnds.{End, ahead, back}
+use Rattle.nef_smap.proofs.NeighbourhoodEnds.{ahead, back}
 use Rattle.nef_smap.proofs.NeighbourhoodRays.{ray-label, after-label}
 use Rattle.nef_smap.proofs.Neighbourhood.{neighbourhood-of, sector-of}
 use Rattle.nef_smap.proofs.WellFormed.{star-well_formed}
@@ -162,7 +162,7 @@ module _ (m : SphereMap) (V : Valid (map_of m)) (k : ℕ) (v : Svertex) (a : At 
     one-end b e f (inl s) (inr t) l = absurd (back-apart (vector_of b.normal) b.normal.some (sym (ap (λ (x : End). left_of x.0) s.1) ∙ l ∙ ap (λ (x : End). left_of x.0) t.1))
     one-end b e f (inr s) (inl t) l = absurd (back-apart (vector_of b.normal) b.normal.some (sym (ap (λ (x : End). left_of x.0) t.1) ∙ sym l ∙ ap (λ (x : End). left_of x.0) s.1))
 
-    pub ends-apart : (i j : ℕ) (e f : End) → IsAt ends i e → IsAt ends j f → left_of e.0 ≡ left_of f.0 → e ≡ f
+    pub ends-apart : AreApart ends
     ends-apart i j e f h g l =
         let r = A.each i e h in
         let s = A.each j f g in
