@@ -9,3 +9,7 @@ pub mod Lists
 pub mod Primitive
 pub mod WellFormed
 pub mod SimpleMaps
+pub mod Neighbourhood
+pub mod NeighbourhoodRays
+pub mod NeighbourhoodEnds
+pub mod NeighbourhoodSvertex

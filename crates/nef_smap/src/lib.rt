@@ -12,6 +12,7 @@ mod linear;
 mod map;
 mod side;
 mod simple;
+mod stars;
 
 pub use duplicate::copy;
 pub use map::{RawStars, SArc, SLoop, SPlace, SVertex, SphereMap};
