@@ -6,13 +6,13 @@ ghost use Rattle.nef_space.specs.Vectors.{Vector, vector, IsAtMost, SameDirectio
 ghost use Rattle.nef_geo.specs.Shapes.{vector_of};
 ghost use Rattle.nef_build.specs.Raw.{IsLabelling, IsRawOf};
 ghost use Rattle.nef_star.specs.Stars.{IsStar};
-ghost use Rattle.nef_smap.specs.Maps.{raw_of, IsRawStars};
+ghost use Rattle.nef_smap.specs.Maps.{raw_of, IsLeastMap, IsRawStars};
 
 use crate::building::{build, made_of};
 use crate::dimension::{kind, kind_of};
 use crate::{Kind, OutOfMemory};
 use nef_geo::{Dir, Label, List, Sign, dot};
-use nef_smap::{RawStars, SLoop, SVertex, SphereMap};
+use nef_smap::{RawStars, SLoop, SVertex, SphereMap, face_map, plane_map};
 use nef_star::{Ray, Star};
 use std::alloc::Global;
 use std::process::Abort;
@@ -83,44 +83,48 @@ fn stars_left_out(rt: HostRuntime) -> Result<(), Fail> {
     Ok(())
 }
 
-fn map_with(
-    alloc: Global,
-    ends: &[SVertex],
-    sloop: Option<SLoop>,
-    ground: Option<Label>,
-) -> Result<SphereMap, OutOfMemory> {
-    let svertices = Vec::from_slice(alloc, ends)?;
-    Ok(SphereMap {
-        mark: Label::In,
-        svertices: List::from_vec(svertices),
-        arcs: List::new(alloc),
-        sloop,
-        ground,
-    })
+// The map of the plane z = 0 without what lies beside it.
+fn plane(rt: &impl Abort, alloc: Global) -> SphereMap
+    ensures least { IsLeastMap result }
+{
+    plane_map(
+        alloc,
+        SLoop {
+            normal: dir(rt, 0, 0, 1),
+            mark: Label::In,
+            pos: Label::Not,
+            neg: Label::Not,
+        },
+    )
 }
 
-#[test]
-fn kinds(rt: HostRuntime) -> Result<(), Fail> {
-    let point = map_with(rt.alloc(), &[], None, Some(Label::Not))?;
-    assert_eq!(rt; kind_of(&point), Kind::Vertex);
-    let (left, right, up) = (dir(&rt, -1, 0, 0), dir(&rt, 1, 0, 0), dir(&rt, 0, 0, 1));
+// The map of a line along x without what lies beside it.
+fn line(rt: &impl Abort, alloc: Global) -> Result<SphereMap, OutOfMemory> {
     let end = |dir| SVertex {
         dir,
         mark: Label::In,
         around: Some(Label::Not),
     };
-    let edge = map_with(rt.alloc(), &[end(left), end(right)], None, None)?;
-    assert_eq!(rt; kind_of(&edge), Kind::OnEdge(right));
-    let circle = SLoop {
-        normal: up,
+    let ends = vec![in alloc; end(dir(rt, -1, 0, 0)), end(dir(rt, 1, 0, 0))]?;
+    Ok(SphereMap {
         mark: Label::In,
-        pos: Label::Not,
-        neg: Label::Not,
-    };
-    let facet = map_with(rt.alloc(), &[], Some(circle), None)?;
-    assert_eq!(rt; kind_of(&facet), Kind::InFacet(up));
-    let volume = map_with(rt.alloc(), &[], None, Some(Label::In))?;
-    assert_eq!(rt; kind_of(&volume), Kind::InVolume);
+        svertices: List::from_vec(ends),
+        arcs: List::new(alloc),
+        sloop: None,
+        ground: None,
+    })
+}
+
+#[test]
+fn kinds(rt: HostRuntime) -> Result<(), Fail> {
+    let point = face_map(rt.alloc(), Label::In, Label::Not);
+    assert_eq!(rt; kind(&point), Kind::Vertex);
+    let edge = line(&rt, rt.alloc())?;
+    assert_eq!(rt; kind_of(&edge), Kind::OnEdge(dir(&rt, 1, 0, 0)));
+    let facet = plane(&rt, rt.alloc());
+    assert_eq!(rt; kind(&facet), Kind::InFacet(dir(&rt, 0, 0, 1)));
+    let volume = face_map(rt.alloc(), Label::In, Label::In);
+    assert_eq!(rt; kind(&volume), Kind::InVolume);
     Ok(())
 }
 
