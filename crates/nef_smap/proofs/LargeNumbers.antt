@@ -130,8 +130,8 @@ turn-read n g N G s l both one m1 m2 m3 m4 fl fb fo f1 f2 f3 f4 es el eb eo e1 e
     let small = λ (x y : ℤ) (e : x ≡ y) (f : FitsSigned w128 x). subst (λ (r : ℤ). nat_abs r < 2 ^ 128) e (fits-small x f) in
     let t = turn-sign n g j k large (small m2 _ d2 f2) (small m3 _ d3 f3) (small m4 _ d4 f4) in
     let c = kept l fl ∙ leading-kept l both one fb fo el
-        ∙ ap (λ (x : ℤ). leading_of x one) (leading-kept both m1 m2 f1 f2 eb ∙ ap (λ (x : ℤ). leading_of x m2) d1 ∙ ap (leading_of (both_large n g j k large)) d2)
-        ∙ ap (leading_of (leading_of (both_large n g j k large) (end_large n g j k large))) (leading-kept one m3 m4 f3 f4 eo ∙ ap (λ (x : ℤ). leading_of x m4) d3 ∙ ap (leading_of (start_large n g j k large)) d4) in
+    ∙ ap (λ (x : ℤ). leading_of x one) (leading-kept both m1 m2 f1 f2 eb ∙ ap (λ (x : ℤ). leading_of x m2) d1 ∙ ap (leading_of (both_large n g j k large)) d2)
+    ∙ ap (leading_of (leading_of (both_large n g j k large) (end_large n g j k large))) (leading-kept one m3 m4 f3 f4 eo ∙ ap (λ (x : ℤ). leading_of x m4) d3 ∙ ap (leading_of (start_large n g j k large)) d4) in
     es ∙ ap sign_of c ∙ sym (signs-same _ _ t)
 
 -- a product with a number of known sign

@@ -5,3 +5,5 @@ pub mod FarWay
 pub mod SectorSees
 pub mod FirstMet
 pub mod LargeNumbers
+pub mod ArcEnds
+pub mod MeetSigns

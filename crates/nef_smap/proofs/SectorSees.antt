@@ -186,18 +186,26 @@ module _ (M : Map) (V : Shaped M) (k : ℕ) (v : Svertex) (a : At M.svertices k 
       hn = normal-is V r.number (arc_item r.arc) listed
 
       by : (q : (r.arc.source ≡ k) ⊎ (r.arc.target ≡ k)) → pos 0 <ℤ dot (end_left r.arc q) d → (n : ℕ) × ((number : ℕ) → n ≤ number → Reaches M (end_side r.number q) d (blend number p 1 (cross (end_left r.arc q) p)))
-      by (inl e) l = (amount (cross t n ∷ []) (cross n s), λ number large. (
-        arc_item r.arc, listed,
-        subst (λ (x : Vector). IsStrictlyOn n s t (past_source n x number)) (here r.arc.source e) (arc-point n s t hn b.source_direction b.target_direction b.source_level b.target_level number large),
-        l,
-      ))
-      by (inr e) l = (amount (cross s (opposite n) ∷ []) (cross (opposite n) t), λ number large. (
-        arc_item r.arc, listed,
-        (way_back_passes_the_same n s t (past_source (opposite n) p number) hn (record { direction = b.source_direction; level = b.source_level }) (record { direction = b.target_direction; level = b.target_level })).0
-            (subst (λ (x : Vector). IsStrictlyOn (opposite n) t s (past_source (opposite n) x number)) (here r.arc.target e)
-            (arc-point (opposite n) t s (direction-opposite n hn) b.target_direction b.source_direction (level-opposite n t b.target_level) (level-opposite n s b.source_level) number large)),
-        let f = dot-opposite n d in omega (arith, ints),
-      ))
+      by (inl e) l = (
+        amount (cross t n ∷ []) (cross n s),
+        λ number large. (
+          arc_item r.arc,
+          listed,
+          subst (λ (x : Vector). IsStrictlyOn n s t (past_source n x number)) (here r.arc.source e) (arc-point n s t hn b.source_direction b.target_direction b.source_level b.target_level number large),
+          l,
+        ),
+      )
+      by (inr e) l = (
+        amount (cross s (opposite n) ∷ []) (cross (opposite n) t),
+        λ number large. (
+          arc_item r.arc,
+          listed,
+          (way_back_passes_the_same n s t (past_source (opposite n) p number) hn (record { direction = b.source_direction; level = b.source_level }) (record { direction = b.target_direction; level = b.target_level })).0
+              (subst (λ (x : Vector). IsStrictlyOn (opposite n) t s (past_source (opposite n) x number)) (here r.arc.target e)
+              (arc-point (opposite n) t s (direction-opposite n hn) b.target_direction b.source_direction (level-opposite n t b.target_level) (level-opposite n s b.source_level) number large)),
+          let f = dot-opposite n d in omega (arith, ints),
+        ),
+      )
 
   module _ (r : ArcRay M k) where
     abbrev m : Vector

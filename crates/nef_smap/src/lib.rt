@@ -10,7 +10,9 @@ mod duplicate;
 mod item;
 mod linear;
 mod map;
+mod meets;
 mod side;
+mod way;
 
 pub use duplicate::copy;
 pub use map::{RawStars, SArc, SLoop, SPlace, SVertex, SphereMap};

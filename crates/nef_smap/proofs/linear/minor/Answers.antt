@@ -3,7 +3,6 @@ use mir.Syntax.{w128}
 use Rattle.nef_exact.proofs.Machine.{Code, Limited, load, wrap, ◌⊟◌, ◌⊠◌, exact_of, fits_of}
 use Rattle.nef_smap.proofs.linear.minor.Goals as goal
 
-
 pub overflow_sub-result : goal.overflow_sub-result
 overflow_sub-result c = fits_of (2 ^ 50 ∷ 2 ^ 74 ∷ 2 ^ 50 ∷ 2 ^ 74 ∷ []) (c.args.a ∷ c.args.b ∷ c.args.c ∷ c.args.d ∷ []) w128
     (wrap w128 (wrap w128 (load 0) ⊠ wrap w128 (load 1)) ⊟ wrap w128 (wrap w128 (load 2) ⊠ wrap w128 (load 3)))
