@@ -7,3 +7,5 @@ pub mod FirstMet
 pub mod LargeNumbers
 pub mod ArcEnds
 pub mod MeetSigns
+pub mod MeetTests
+pub mod FirstSoFar

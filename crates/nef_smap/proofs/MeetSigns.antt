@@ -1,5 +1,6 @@
 -- The signs of forms where a way meets a plane, from their values at its ends.
-use Rattle.std.proofs.Common.{◌≡◌, ℕ, ◌^◌, ℤ, pos, neg_ℤ, ◌+ℤ◌, ◌-ℤ◌, ◌*ℤ◌, ◌<ℤ◌, refl, ap, sym, ◌∙◌, [], ◌∷◌, subst}
+use Rattle.std.proofs.Common.{◌≡◌, ℕ, ◌^◌, ℤ, pos, neg_ℤ, ◌+ℤ◌, ◌-ℤ◌, ◌*ℤ◌, ◌<ℤ◌, refl, ap, sym, ◌∙◌, [], ◌∷◌, ◌↔◌, arith}
+use Rattle.std.proofs.lemmas.Int.{ints}
 use Rattle.nef_exact.proofs.Ring.{ring, at, num, neg, ◌⊕◌, ◌⊖◌, ◌⊗◌}
 use Rattle.nef_space.specs.Vectors.{Vector, triple, cross, dot, blend}
 use Rattle.nef_geo.specs.Signs.{sign_of, sign_number}
@@ -45,3 +46,9 @@ pub turn-target : (n t p : Vector) → neg_ℤ (dot (cross n t) p) ≡ triple n 
 turn-target n t p = ring (n.x ∷ n.y ∷ n.z ∷ t.x ∷ t.y ∷ t.z ∷ p.x ∷ p.y ∷ p.z ∷ [])
     (neg ((at 1 ⊗ at 5 ⊖ at 2 ⊗ at 4) ⊗ at 6 ⊕ (at 2 ⊗ at 3 ⊖ at 0 ⊗ at 5) ⊗ at 7 ⊕ (at 0 ⊗ at 4 ⊖ at 1 ⊗ at 3) ⊗ at 8))
     (at 0 ⊗ (at 7 ⊗ at 5 ⊖ at 8 ⊗ at 4) ⊕ at 1 ⊗ (at 8 ⊗ at 3 ⊖ at 6 ⊗ at 5) ⊕ at 2 ⊗ (at 6 ⊗ at 4 ⊖ at 7 ⊗ at 3)) tt
+
+pub turned-less : (p q : ℤ) → ((neg_ℤ p *ℤ q) <ℤ pos 0) ↔ (pos 0 <ℤ (p *ℤ q))
+turned-less p q = let e = ring (p ∷ q ∷ []) (neg (at 0) ⊗ at 1) (num (pos 0) ⊖ at 0 ⊗ at 1) tt in (λ h. omega (arith, ints), λ h. omega (arith, ints))
+
+pub parted-by : (w : Way) (g : Vector) (v : Values) (j k : ℕ) → AreValues w g v → linear_at v.start j *ℤ linear_at v.end k ≡ dot g (start_at w j) *ℤ dot g (end_at w k)
+parted-by w g v j k h = ap (λ (x : ℤ). x *ℤ linear_at v.end k) (start-value w g v j h) ∙ ap (λ (x : ℤ). dot g (start_at w j) *ℤ x) (end-value w g v k h)

@@ -52,3 +52,59 @@ fn is_on_arc(map: &SphereMap, way: &Way, arc: &SArc, n: &Values) -> bool
         past_target.opposite().number(),
     ])
 }
+
+fn item_values(way: &Way, item: &Item) -> Values
+    requires way { IsWithin way.now }
+    requires normal { IsAtMost normal_limit (item_normal (item_of item.now)) }
+    ensures values { AreValues way.now (item_normal (item_of item.now)) result }
+    ensures small { AreAtMost (2 ^ 50) result }
+{
+    values(way, &widened(item.normal()))
+}
+
+// Whether the way meets the item, which has the values n.
+fn is_met(map: &SphereMap, way: &Way, item: &Item, n: &Values) -> bool
+    requires map { IsSphereMap map.now }
+    requires item { (i : ℕ) × At (items (map_of map.now)) i (item_of item.now) }
+    requires way { IsWithin way.now }
+    requires values { AreValues way.now (item_normal (item_of item.now)) n.now }
+    requires small { AreAtMost (2 ^ 50) n.now }
+    ensures met { (j k : ℕ) → IsLarge j k → IsFair (map_of map.now) (start_at way.now j) (end_at way.now k) → IsTrue result ↔ IsMet (map_of map.now) (start_at way.now j) (end_at way.now k) (item_of item.now) }
+{
+    if !are_opposite(n.start.sign(), n.end.sign()) {
+        return false;
+    }
+    match item {
+        Item::Arc(arc) => is_on_arc(map, way, arc, n),
+        Item::Loop(_) => true,
+    }
+}
+
+// Whether the plane with the values n is met before the one with the values `first`.
+fn is_before(n: &Values, first: &Values) -> bool
+    requires n_small { AreAtMost (2 ^ 50) n.now }
+    requires first_small { AreAtMost (2 ^ 50) first.now }
+    ensures before { (j k : ℕ) → IsLarge j k → IsTrue result ↔ pos 0 <ℤ (linear_at first.now.start j *ℤ (linear_at n.now.start j *ℤ turn_value n.now first.now j k)) }
+{
+    are_opposite(first.start.sign().opposite(), sign_at_meet(n, first))
+}
+
+// The number of the item that the way meets first. It leads to the first item.
+pub(crate) fn first_met(map: &SphereMap, way: &Way) -> usize
+    requires map { IsSphereMap map.now }
+    requires some { 0 < length (items (map_of map.now)) }
+    requires way { IsWithin way.now }
+    ensures first { (x : PlainItem) × At (items (map_of map.now)) result x × ((j k : ℕ) → IsLarge j k → IsFair (map_of map.now) (start_at way.now j) (end_at way.now k) → IsFirstMet (map_of map.now) (start_at way.now j) (end_at way.now k) (length (items (map_of map.now))) x) }
+{
+    let mut first = 0;
+    let mut first_values = item_values(way, &item_at(map, 0));
+    for number in 1..item_count(map) {
+        let item = item_at(map, number);
+        let n = item_values(way, &item);
+        if is_before(&n, &first_values) && is_met(map, way, &item, &n) {
+            first = number;
+            first_values = n;
+        }
+    }
+    first
+}
