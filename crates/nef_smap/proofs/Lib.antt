@@ -9,3 +9,4 @@ pub mod ArcEnds
 pub mod MeetSigns
 pub mod MeetTests
 pub mod FirstSoFar
+pub mod FreeSeen

@@ -53,7 +53,7 @@ fn is_on_arc(map: &SphereMap, way: &Way, arc: &SArc, n: &Values) -> bool
     ])
 }
 
-fn item_values(way: &Way, item: &Item) -> Values
+pub(crate) fn item_values(way: &Way, item: &Item) -> Values
     requires way { IsWithin way.now }
     requires normal { IsAtMost normal_limit (item_normal (item_of item.now)) }
     ensures values { AreValues way.now (item_normal (item_of item.now)) result }
@@ -94,6 +94,7 @@ pub(crate) fn first_met(map: &SphereMap, way: &Way) -> usize
     requires map { IsSphereMap map.now }
     requires some { 0 < length (items (map_of map.now)) }
     requires way { IsWithin way.now }
+    ensures small { result < 2 ^ 60 }
     ensures first { (x : PlainItem) × At (items (map_of map.now)) result x × ((j k : ℕ) → IsLarge j k → IsFair (map_of map.now) (start_at way.now j) (end_at way.now k) → IsFirstMet (map_of map.now) (start_at way.now j) (end_at way.now k) (length (items (map_of map.now))) x) }
 {
     let mut first = 0;

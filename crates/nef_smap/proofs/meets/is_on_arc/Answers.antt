@@ -52,29 +52,31 @@ between-requires c = record {
 }
 
 pub returns : goal.returns
-returns c = record { on = λ j k large some.
-  let m = c.args.map.now in
-  let a = c.args.arc.now in
-  let s = source-end m c.requires.map c.requires.arc.0 a c.requires.arc.1 c.at.result.now c.at.ensures.element in
-  let t = target-end m c.requires.map c.requires.arc.0 a c.requires.arc.1 c.at-2.result.now c.at-2.ensures.element in
-  let n = vector_of a.normal in
-  let from = vector_of c.at.result.now.dir in
-  let to = vector_of c.at-2.result.now.dir in
-  let p = meet_of n (start_at c.args.way.now j) (end_at c.args.way.now k) in
-  let hn = normal-direction m c.requires.map c.requires.arc.0 a c.requires.arc.1 in
-  let law = classes_are_arcs n from to p hn s.on t.on (record { direction = some; level = slid-level n (start_at c.args.way.now j) (end_at c.args.way.now k) }) in
-  let x = c.sign_where_met-past_source.ensures.sign n j k c.requires.values large
+returns c = record {
+  on = λ j k large some.
+      let m = c.args.map.now in
+      let a = c.args.arc.now in
+      let s = source-end m c.requires.map c.requires.arc.0 a c.requires.arc.1 c.at.result.now c.at.ensures.element in
+      let t = target-end m c.requires.map c.requires.arc.0 a c.requires.arc.1 c.at-2.result.now c.at-2.ensures.element in
+      let n = vector_of a.normal in
+      let from = vector_of c.at.result.now.dir in
+      let to = vector_of c.at-2.result.now.dir in
+      let p = meet_of n (start_at c.args.way.now j) (end_at c.args.way.now k) in
+      let hn = normal-direction m c.requires.map c.requires.arc.0 a c.requires.arc.1 in
+      let law = classes_are_arcs n from to p hn s.on t.on (record { direction = some; level = slid-level n (start_at c.args.way.now j) (end_at c.args.way.now k) }) in
+      let x = c.sign_where_met-past_source.ensures.sign n j k c.requires.values large
       ∙ ap sign_of (ap (λ (v : Vector). dot v p) (cross_is n from _ _ _ c.widened-normal.ensures.wide c.widened-from.ensures.wide c.cross.ensures.cross) ∙ sym (triple-dot n from p)) in
-  let y = c.sign_where_met.ensures.sign n j k c.requires.values large ∙ ap sign_of (ap (λ (v : Vector). dot v p) c.widened-from.ensures.wide) in
-  let z = c.opposite.ensures.opposite _ (c.sign_where_met-past_target.ensures.sign n j k c.requires.values large
+      let y = c.sign_where_met.ensures.sign n j k c.requires.values large ∙ ap sign_of (ap (λ (v : Vector). dot v p) c.widened-from.ensures.wide) in
+      let z = c.opposite.ensures.opposite _ (c.sign_where_met-past_target.ensures.sign n j k c.requires.values large
       ∙ ap sign_of (ap (λ (v : Vector). dot v p) (cross_is n to _ _ _ c.widened-normal.ensures.wide c.widened-to.ensures.wide c.cross-2.ensures.cross))) ∙ ap sign_of (turn-target n to p) in
-  let answer = between_read c.between.result _ _ _ _ _ _ _ _ _ _
+      let answer = between_read c.between.result _ _ _ _ _ _ _ _ _ _
       (read_sign c.number.result c.triple.result _ c.number.type_inv c.number.ensures.number c.triple.ensures.triple)
       (read_sign c.number-2.result c.dot.result _ c.number-2.type_inv c.number-2.ensures.number c.dot.ensures.dot)
       (read_sign c.number-3.result c.sign_where_met-past_source.result _ c.number-3.type_inv c.number-3.ensures.number x)
       (read_sign c.number-4.result c.sign_where_met.result _ c.number-4.type_inv c.number-4.ensures.number y)
       (read_sign c.number-5.result c.opposite.result _ c.number-5.type_inv c.number-5.ensures.number z)
       c.between.ensures.value in
-  subst (λ (u : Vector). IsTrue c.between.result ↔ IsStrictlyOn n u (way_of (map_of m).svertices a.target) p) (sym s.way)
-  (subst (λ (u : Vector). IsTrue c.between.result ↔ IsStrictlyOn n from u p) (sym t.way)
-  (rw answer (λ h. law.0 (test_of h), λ h. true_of _ (law.1 h)))) }
+      subst (λ (u : Vector). IsTrue c.between.result ↔ IsStrictlyOn n u (way_of (map_of m).svertices a.target) p) (sym s.way)
+      (subst (λ (u : Vector). IsTrue c.between.result ↔ IsStrictlyOn n from u p) (sym t.way)
+      (rw answer (λ h. law.0 (test_of h), λ h. true_of _ (law.1 h))));
+}
