@@ -9,12 +9,17 @@
 mod duplicate;
 mod item;
 mod linear;
+mod locate;
 mod map;
+mod meets;
 mod side;
 mod simple;
 mod stars;
+mod sight;
+mod way;
 
 pub use duplicate::copy;
+pub use locate::{at, label_at};
 pub use map::{RawStars, SArc, SLoop, SPlace, SVertex, SphereMap};
 pub use side::{side_label, sides};
 pub use simple::{face_map, plane_map};
