@@ -13,9 +13,9 @@ mod locate;
 mod map;
 mod meets;
 mod side;
+mod sight;
 mod simple;
 mod stars;
-mod sight;
 mod way;
 
 pub use duplicate::copy;
@@ -23,4 +23,5 @@ pub use locate::{at, label_at};
 pub use map::{RawStars, SArc, SLoop, SPlace, SVertex, SphereMap};
 pub use side::{side_label, sides};
 pub use simple::{face_map, plane_map};
+pub use stars::star_at;
 pub use std::alloc::AllocError as OutOfMemory;
