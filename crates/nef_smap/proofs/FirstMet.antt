@@ -57,9 +57,9 @@ before-self a b x p =
 module _ (M : Map) (V : Shaped M) (a b : Vector) (F : IsFree M a)
     (planes : (l : ℕ) (x : Item) → At (items M) l x → dot (item_normal x) a ≡ pos 0 → ⊥)
     (off : (l : ℕ) (v : Svertex) → At M.svertices l v → IsDirection (cross a v.way) → dot (cross a v.way) b ≡ pos 0 → ⊥)
-    (k : ℕ) (f : IsFirstMet M a b (length (items M)) k) where
+    (k : ℕ) (first : Item) (listed : At (items M) k first) (f : IsFirstMet M a b (length (items M)) first) where
   abbrev n : Vector
-  n = item_normal f.item
+  n = item_normal first
 
   abbrev start : ℤ
   start = dot n a
@@ -71,13 +71,13 @@ module _ (M : Map) (V : Shaped M) (a b : Vector) (F : IsFree M a)
   c = meet_of n a b
 
   u : start ≡ pos 0 → ⊥
-  u = planes k f.item f.listed
+  u = planes k first listed
 
   level : dot n c ≡ pos 0
-  level = on-level M f.item c f.on
+  level = on-level M first c f.on
 
   apart-c : IsDirection (cross a c)
-  apart-c = apart n a c u level (on-direction M f.item c f.on)
+  apart-c = apart n a c u level (on-direction M first c f.on)
 
   off_c : (l : ℕ) (v : Svertex) → At M.svertices l v → IsDirection (cross a v.way) → dot (cross a v.way) c ≡ pos 0 → ⊥
   off_c l v h g z = product-off (start *ℤ start) (dot (cross a v.way) b) (square_pos start u) (off l v h g) (sym (slid-square n a (cross a v.way) b (cross-self a v.way)) ∙ z)
@@ -131,7 +131,7 @@ module _ (M : Map) (V : Shaped M) (a b : Vector) (F : IsFree M a)
         let q = mul_pos i' (dot m a *ℤ dot m a) some-i (square_pos (dot m a) m-off) in omega (arith, ints))
 
     -- n.w = i n.a, so y is met on a's side of the plane of n
-    earlier : IsMetBefore a b y f.item
+    earlier : IsMetBefore a b y first
     earlier =
         let e = dot-comb n (pos i) a (pos j) c ∙ ap (λ r. pos i *ℤ start +ℤ pos j *ℤ r) level ∙ ring (pos i ∷ pos j ∷ start ∷ []) (at 0 ⊗ at 2 ⊕ at 1 ⊗ num (pos 0)) (at 0 ⊗ at 2) tt in
         let s = signs n ∙ ap sign e ∙ sign-scaled (pos i) start (omega (arith, ints)) in
@@ -147,10 +147,10 @@ module _ (M : Map) (V : Shaped M) (a b : Vector) (F : IsFree M a)
     unmet = f.none_before l y (at-within (items M) l y h) h (record { parted = parted; on = OnItem-by_signs M y w (meet_of m a b) (λ g x. signs g) o }) earlier
 
   -- the way to where it is met is clear
-  pub first-clear : IsClear M a (meet_of (item_normal f.item) a b)
+  pub first-clear : IsClear M a (meet_of (item_normal first) a b)
   first-clear = record {
     start = F;
-    direction = on-direction M f.item c f.on;
+    direction = on-direction M first c f.on;
     short = λ o. apart-c o.parallel;
     between = λ i j si sj. record {
       direction = direction-by n (blend i a j c) (between-off_target n a c i j si level u);

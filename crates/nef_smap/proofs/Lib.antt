@@ -13,3 +13,8 @@ pub mod Neighbourhood
 pub mod NeighbourhoodRays
 pub mod NeighbourhoodEnds
 pub mod NeighbourhoodSvertex
+pub mod ArcEnds
+pub mod MeetSigns
+pub mod MeetTests
+pub mod FirstSoFar
+pub mod FreeSeen

@@ -4,3 +4,4 @@ pub mod Stars
 pub mod Items
 pub mod Ways
 pub mod Linear
+pub mod Wide

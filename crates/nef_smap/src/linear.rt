@@ -48,6 +48,15 @@ pub(crate) fn are_opposite(a: Sign, b: Sign) -> bool
     }
 }
 
+pub(crate) fn is_plus(sign: Sign) -> bool
+    ensures plus { (x : ℤ) → sign ≡ sign_of x → IsTrue result ↔ pos 0 <ℤ x }
+{
+    match sign {
+        Sign::Plus => true,
+        _ => false,
+    }
+}
+
 // `a b - c d`, for a and c of at most 2^50 in size and b and d of at most 2^74.
 fn minor(a: i128, b: i128, c: i128, d: i128) -> i128
     requires a_small { nat_abs a ≤ 2 ^ 50 }

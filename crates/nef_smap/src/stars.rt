@@ -13,6 +13,7 @@ ghost use Rattle.nef_smap.specs.Stars.{AreArcEnds, IsStarAlong, IsNeighbourhood}
 
 use crate::OutOfMemory;
 use crate::item::{Item, item_at};
+use crate::locate::at;
 use crate::map::{SPlace, SphereMap};
 use crate::side::side_label;
 use nef_geo::{Dir, Label};
@@ -142,12 +143,7 @@ fn star_at_svertex(
 }
 
 // The star of a direction that lies at this place.
-pub(crate) fn star_in(
-    alloc: Global,
-    map: &SphereMap,
-    d: &Dir,
-    place: SPlace,
-) -> Result<Star, OutOfMemory>
+fn star_in(alloc: Global, map: &SphereMap, d: &Dir, place: SPlace) -> Result<Star, OutOfMemory>
     requires map { IsSphereMap map.now }
     requires small { IsAtMost svertex_limit (vector_of d.now) }
     requires place { IsPlaceOf (map_of map.now) (vector_of d.now) place }
@@ -161,4 +157,16 @@ pub(crate) fn star_in(
         SPlace::Loop => star_on_item(alloc, map, d, map.arcs.len()),
         SPlace::Face(side) => star_in_face(alloc, map, d, side),
     }
+}
+
+/// The star of any direction of the map: each direction close to it has the label that the star gives it.
+/// `OutOfMemory` says that memory was wanted and not found.
+pub fn star_at(alloc: Global, map: &SphereMap, d: &Dir) -> Result<Star, OutOfMemory>
+    requires map { IsSphereMap map.now }
+    requires small { IsAtMost svertex_limit (vector_of d.now) }
+    ensures star { IfOk result (λ t. IsStar t) }
+    ensures axis { IfOk result (λ t. t.axis ≡ d.now) }
+    ensures shows { IfOk result (λ t. IsNeighbourhood (star_of t) (map_of map.now) (vector_of d.now)) }
+{
+    star_in(alloc, map, d, at(map, d))
 }
