@@ -10,3 +10,4 @@ pub mod MeetSigns
 pub mod MeetTests
 pub mod FirstSoFar
 pub mod FreeSeen
+pub mod Found
