@@ -1,11 +1,11 @@
 -- The ends of the program's arcs.
-use Rattle.std.proofs.Common.{◌≡◌, ℕ, zero, suc, ◌<◌, pos, List, [], ◌∷◌, length, map, Some, arith, refl, ap, sym, ◌∙◌, subst, slice_get}
+use Rattle.std.proofs.Common.{◌≡◌, ℕ, zero, suc, ◌<◌, pos, List, [], ◌∷◌, length, map, Some, arith, refl, ap, subst, slice_get}
 use Rattle.std.proofs.lemmas.List.{length-map}
 use Rattle.nef_space.specs.Limits.{normal_limit, svertex_limit}
 use Rattle.nef_space.specs.Vectors.{Vector, IsDirection, IsAtMost, dot}
 use Rattle.nef_cyclic.specs.Arcs.{IsOnCircle}
 use Rattle.nef_geo.specs.Shapes.{vector_of}
-use Rattle.nef_sphere.specs.Maps.{At, Svertex, Arc, Map, Item, arc_item, items, item_normal, way_of}
+use Rattle.nef_sphere.specs.Maps.{At, arc_item, items, way_of}
 use Rattle.nef_sphere.proofs.Vectors.{normal-is}
 use Rattle.nef_sphere.proofs.Shot.{way-at}
 use Rattle.nef_sphere.proofs.Arcs.{Ends, ends-of, at-arc}

@@ -1,22 +1,19 @@
 -- The way to the first item that is met is clear; and of three meets, the first is before the last.
-use Rattle.std.proofs.Common.{◌≡◌, ℕ, ◌+◌, ◌*◌, ◌<◌, ℤ, pos, nat_abs, ◌+ℤ◌, ◌*ℤ◌, ◌-ℤ◌, ◌<ℤ◌, ◌≤ℤ◌, arith, refl, ap, sym, ◌∙◌, inl, inr, ⊎_elim, [], ◌∷◌, length, subst}
+use Rattle.std.proofs.Common.{◌≡◌, ℕ, ◌<◌, ℤ, pos, ◌+ℤ◌, ◌*ℤ◌, ◌-ℤ◌, ◌<ℤ◌, arith, ap, sym, ◌∙◌, [], ◌∷◌, length, subst}
 use Rattle.std.proofs.lemmas.Int.{ints}
 use Rattle.nef_exact.proofs.Ring.{ring, at, num, ◌⊕◌, ◌⊖◌, ◌⊗◌}
 use Rattle.nef_exact.proofs.Combination.{follows, given, none}
 use Rattle.nef_exact.proofs.Order.{sign, by_order, mul_pos, mul_nonneg, square_nonneg, sign-scaled}
 use Rattle.nef_space.specs.Vectors.{Vector, IsDirection, cross, dot, blend}
-use Rattle.nef_near.proofs.Meets.{cross-none}
 use Rattle.nef_forms.proofs.Directions.{square_pos}
-use Rattle.nef_forms.proofs.Far.{nought-or, same-off, same-nought}
-use Rattle.nef_sphere.specs.Maps.{At, Svertex, Map, Item, items, item_normal, OnItem, IsFree, IsClear, above_item, below_item, Reaches, Shaped}
-use Rattle.nef_sphere.specs.Forms.{SameSigns}
+use Rattle.nef_sphere.specs.Maps.{At, Svertex, Map, Item, items, item_normal, OnItem, IsFree, IsClear, Shaped}
 use Rattle.nef_sphere.proofs.Vectors.{dot-comb, direction-by, same-plus, same-minus}
-use Rattle.nef_sphere.proofs.Forms.{item_forms, on-level, on-direction, OnItem-by_signs}
+use Rattle.nef_sphere.proofs.Forms.{on-level, on-direction, OnItem-by_signs}
 use Rattle.nef_sphere.proofs.Parallel.{apart}
 use Rattle.nef_sphere.proofs.Shot.{product-off}
-use Rattle.nef_sphere.proofs.Direct.{slid, slid-level, slid-square, cross-self, miss-between, between-off_target}
+use Rattle.nef_sphere.proofs.Direct.{slid-level, slid-square, cross-self, miss-between, between-off_target}
 use Rattle.nef_smap.proofs.MapLists.{at-within}
-use Rattle.nef_smap.specs.Ways.{meet_of, IsMet, IsMetBefore, IsFirstMet}
+use Rattle.nef_smap.specs.Ways.{meet_of, IsMetBefore, IsFirstMet}
 
 -- ---- the order of meets
 pub meet-is : (n g a b : Vector) → dot g (meet_of n a b) ≡ dot n a *ℤ (dot n a *ℤ dot g b -ℤ dot n b *ℤ dot g a)

@@ -1,16 +1,15 @@
 -- The item that a way meets first, of the first n items of the program's map.
-use Rattle.std.proofs.Common.{◌≡◌, ℕ, ◌+◌, ◌*◌, ◌^◌, ◌≤◌, ℤ, pos, ◌*ℤ◌, ◌<ℤ◌, arith, sym, ap, ◌∙◌, subst, Bool, true, false, ◌↔◌}
+use Rattle.std.proofs.Common.{◌≡◌, ℕ, ◌+◌, ◌^◌, ℤ, pos, ◌*ℤ◌, ◌<ℤ◌, sym, ap, ◌∙◌, subst, Bool, ◌↔◌}
 use Rattle.std.specs.Bool.{IsTrue}
 use Rattle.nef_space.specs.Vectors.{dot}
 use Rattle.nef_sphere.specs.Maps.{At, Item, items, item_normal}
-use Rattle.nef_sphere.proofs.Lists.{at-one}
 use Rattle.nef_smap.specs.declared.linear.Values.{Values}
 use Rattle.nef_smap.specs.declared.map.SphereMap.{SphereMap}
 use Rattle.nef_smap.specs.declared.way.Way.{Way}
 use Rattle.nef_smap.specs.Linear.{linear_at, turn_value, AreAtMost, IsLarge}
 use Rattle.nef_smap.specs.Maps.{map_of}
 use Rattle.nef_smap.specs.Wide.{start_at, end_at, AreValues}
-use Rattle.nef_smap.specs.Ways.{meet_of, IsMet, IsMetBefore, IsFair, IsFirstMet}
+use Rattle.nef_smap.specs.Ways.{meet_of, IsMet, IsFair, IsFirstMet}
 use Rattle.nef_smap.proofs.MeetSigns.{start-value, meet-value}
 use Rattle.nef_smap.proofs.MeetTests.{first-begins, first-stays, first-changes}
 

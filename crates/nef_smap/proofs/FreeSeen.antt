@@ -1,13 +1,12 @@
 -- The side that sees a free direction: that of the item which a way close to it meets first, or the only one.
-use Rattle.std.proofs.Common.{◌≡◌, ℕ, zero, suc, ◌+◌, ◌*◌, ◌^◌, ◌<◌, ◌≤◌, ℤ, pos, ◌+ℤ◌, ◌-ℤ◌, ◌*ℤ◌, ◌<ℤ◌, arith, refl, ap, sym, ◌∙◌, inl, inr, ⊎_elim, List, [], ◌∷◌, ◌++◌, length, Option, Some, None, subst, slice_get, negsuc, nat_abs, ◌≤ℤ◌, Bool, true, false, cond, ◌↔◌}
+use Rattle.std.proofs.Common.{◌≡◌, ℕ, zero, suc, ◌+◌, ◌*◌, ◌^◌, ◌≤◌, ℤ, pos, ◌-ℤ◌, ◌*ℤ◌, ◌<ℤ◌, arith, refl, ap, sym, ◌∙◌, inl, ⊎_elim, List, [], ◌∷◌, ◌++◌, length, Option, Some, None, subst, slice_get, negsuc, nat_abs, ◌≤ℤ◌, Bool, true, false, cond, ◌↔◌}
 use Rattle.std.specs.Bool.{IsTrue}
 use Rattle.nef_arc.proofs.SignNumbers.{not_true}
 use Rattle.nef_space.specs.Limits.{normal_limit}
 use Rattle.std.proofs.lemmas.Int.{ints}
 use Rattle.nef_exact.proofs.Ring.{ring, at, num, ◌⊕◌, ◌⊖◌, ◌⊗◌}
 use Rattle.nef_exact.proofs.Combination.{follows, given, none}
-use Rattle.nef_exact.proofs.Order.{sign, nought-is, sign-plus, by_order, mul_pos}
-use Rattle.nef_exact.specs.Signs.{Lies}
+use Rattle.nef_exact.proofs.Order.{sign, nought-is, by_order, mul_pos}
 use Rattle.nef_space.specs.Vectors.{Vector, vector, IsDirection, IsNormal, IsAtMost, triple, cross, dot, blend, up as upward}
 use Rattle.nef_space.specs.declared.label.Label.{Label}
 use Rattle.nef_near.proofs.FlatDecided.{triple-in_plane}
@@ -15,7 +14,7 @@ use Rattle.nef_near.proofs.Meets.{cross-none}
 use Rattle.nef_space.specs.Lists.{IsAt}
 use Rattle.nef_forms.proofs.Directions.{self-pos, square_pos}
 use Rattle.nef_forms.proofs.Far.{nought-or, same-off}
-use Rattle.nef_sphere.specs.Maps.{At, Svertex, Arc, Loop, Map, Item, arc_item, loop_item, items, items_then, item_normal, item_above, item_below, way_of, OnItem, IsFree, IsClear, Side, around_svertex, above_item, below_item, whole, Sees, directly, by_way_of, HasArc, Shaped}
+use Rattle.nef_sphere.specs.Maps.{At, Svertex, Arc, Loop, Map, Item, arc_item, loop_item, items, items_then, item_normal, way_of, OnItem, IsFree, IsClear, around_svertex, above_item, below_item, whole, Sees, directly, by_way_of, HasArc, Shaped}
 use Rattle.nef_sphere.specs.Forms.{Keeps, forms, gather}
 use Rattle.nef_sphere.proofs.Vectors.{normal-is, direction-by}
 use Rattle.nef_sphere.proofs.Generic.{amount, far-keeps, far-level}
@@ -31,7 +30,7 @@ use Rattle.nef_sphere.proofs.StepOff.{Outlook, outlook, outlook-free, outlook-cl
 use Rattle.nef_sphere.proofs.Sight.{clear-self}
 use Rattle.nef_sphere.proofs.Compare.{way-self}
 use Rattle.nef_smap.specs.Linear.{IsLarge}
-use Rattle.nef_smap.specs.Sides.{IsSide, SideSees, labelled, svertex_sides, item_sides}
+use Rattle.nef_smap.specs.Sides.{SideSees, labelled, svertex_sides, item_sides}
 use Rattle.nef_smap.specs.Ways.{meet_of, IsFair, IsFirstMet}
 use Rattle.nef_smap.proofs.FirstMet.{first-clear}
 

@@ -18,3 +18,4 @@ pub mod MeetSigns
 pub mod MeetTests
 pub mod FirstSoFar
 pub mod FreeSeen
+pub mod Found

@@ -1,8 +1,8 @@
 -- The signs of forms where a way meets a plane, from their values at its ends.
-use Rattle.std.proofs.Common.{◌≡◌, ℕ, ◌^◌, ℤ, pos, neg_ℤ, ◌+ℤ◌, ◌-ℤ◌, ◌*ℤ◌, ◌<ℤ◌, refl, ap, sym, ◌∙◌, [], ◌∷◌, ◌↔◌, arith}
+use Rattle.std.proofs.Common.{◌≡◌, ℕ, ℤ, pos, neg_ℤ, ◌+ℤ◌, ◌-ℤ◌, ◌*ℤ◌, ◌<ℤ◌, refl, ap, sym, ◌∙◌, [], ◌∷◌, ◌↔◌, arith}
 use Rattle.std.proofs.lemmas.Int.{ints}
 use Rattle.nef_exact.proofs.Ring.{ring, at, num, neg, ◌⊕◌, ◌⊖◌, ◌⊗◌}
-use Rattle.nef_space.specs.Vectors.{Vector, triple, cross, dot, blend}
+use Rattle.nef_space.specs.Vectors.{Vector, triple, cross, dot}
 use Rattle.nef_geo.specs.Signs.{sign_of, sign_number}
 use Rattle.nef_geo.specs.declared.sign.Sign.{Sign}
 use Rattle.nef_geo.specs.declared.sign.Sign.TheVariants.{Minus, Zero, Plus}

@@ -7,14 +7,15 @@ ghost use Rattle.nef_geo.specs.Shapes.{vector_of};
 ghost use Rattle.nef_smap.specs.Maps.{arc_of, map_of, IsSphereMap};
 ghost use Rattle.nef_smap.specs.Sides.{IsPlaceOf};
 
+use crate::linear::is_zero;
 use crate::map::{SArc, SPlace, SphereMap};
 use crate::side::side_label;
 use crate::sight::side_seen;
 use nef_arc::{Arc, strictly_on};
-use nef_geo::{Dir, Label, Sign, dot};
+use nef_geo::{Dir, Label, dot};
 
 fn same_dir(a: &Dir, b: &Dir) -> bool
-    ensures same { IsTrue result ↔ SameDirection (vector_of a.now) (vector_of b.now) }
+    ensures same { IsTrue result ↔ (a.now ≡ b.now) }
 {
     a == b
 }
@@ -58,7 +59,7 @@ fn is_on_loop(map: &SphereMap, d: &Dir) -> bool
     ensures on { IsTrue result ↔ ((l : PlainLoop) × ((map_of map.now).loop ≡ Some l) × OnItem (map_of map.now) (loop_item l) (vector_of d.now)) }
 {
     match &map.sloop {
-        Some(circle) => dot(&circle.normal, d) == Sign::Zero,
+        Some(circle) => is_zero(dot(&circle.normal, d)),
         None => false,
     }
 }

@@ -1,4 +1,4 @@
-use Rattle.std.proofs.Common.{◌≡◌, ℕ, ◌+◌, ◌≤◌, arith, refl, sym, ◌∙◌, subst, true, false}
+use Rattle.std.proofs.Common.{◌≡◌, ℕ, arith, sym, ◌∙◌, subst, true}
 use Rattle.nef_arc.proofs.SignNumbers.{not_true}
 use Rattle.nef_smap.specs.Items.{item_of}
 use Rattle.nef_smap.specs.Maps.{map_of}
@@ -6,7 +6,7 @@ use Rattle.nef_smap.specs.Wide.{start_at, end_at}
 use Rattle.nef_smap.specs.Ways.{IsFirstMet}
 use Rattle.nef_sphere.specs.Maps.{items}
 use Rattle.nef_smap.proofs.MapLists.{at-within}
-use Rattle.nef_smap.proofs.FirstSoFar.{FirstSoFar, so_far-begins, so_far-stays, so_far-changes}
+use Rattle.nef_smap.proofs.FirstSoFar.{so_far-begins, so_far-stays, so_far-changes}
 use Rattle.nef_smap.proofs.meets.first_met.Goals as goal
 use Rattle.nef_smap.proofs.meets.first_met.Goals.{then-is_before+then-is_met, else-is_before, else-is_before-via-then-is_before+else-is_met, else-is_before-via-else-is_before}
 

@@ -1,17 +1,15 @@
-use Rattle.std.proofs.Common.{◌≡◌, ℕ, ◌≤◌, ◌*◌, ◌+◌, ℤ, ◌*ℤ◌, ◌<ℤ◌, pos, arith, refl, sym, ◌∙◌, subst, ◌↔◌, true, false}
+use Rattle.std.proofs.Common.{ℤ, ◌*ℤ◌, ◌<ℤ◌, pos, arith, refl, sym, ◌∙◌, subst, ◌↔◌, true}
 use Rattle.std.specs.Bool.{IsTrue}
 use Rattle.nef_arc.proofs.SignNumbers.{not_true}
 use Rattle.nef_space.specs.Vectors.{dot, IsDirection}
 use Rattle.nef_geo.specs.Shapes.{vector_of}
-use Rattle.nef_sphere.specs.Maps.{At, items, item_normal, arc_item, loop_item}
+use Rattle.nef_sphere.specs.Maps.{At, items, item_normal}
 use Rattle.nef_sphere.proofs.Shot.{arc-at}
 use Rattle.nef_sphere.proofs.Direct.{slid-level}
 use Rattle.nef_smap.specs.declared.item.Item.{Item}
-use Rattle.nef_smap.specs.declared.item.Item.TheVariants as item
 use Rattle.nef_smap.specs.Items.{item_of}
-use Rattle.nef_smap.specs.Linear.{IsLarge}
 use Rattle.nef_smap.specs.Maps.{map_of}
-use Rattle.nef_smap.specs.Wide.{start_at, end_at, AreValues}
+use Rattle.nef_smap.specs.Wide.{start_at, end_at}
 use Rattle.nef_smap.specs.Ways.{meet_of, IsMet}
 use Rattle.nef_smap.proofs.MeetSigns.{parted-by}
 use Rattle.nef_smap.proofs.MeetTests.{met-direction}

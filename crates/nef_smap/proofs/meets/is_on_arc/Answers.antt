@@ -1,19 +1,19 @@
-use Rattle.std.proofs.Common.{◌≡◌, ◌^◌, ◌≤◌, ℕ, arith, ap, sym, ◌∙◌, subst, ◌↔◌}
+use Rattle.std.proofs.Common.{◌^◌, arith, ap, sym, ◌∙◌, subst, ◌↔◌}
 use Rattle.std.specs.Bool.{IsTrue}
 use Rattle.nef_space.specs.Limits.{normal_limit, svertex_limit}
-use Rattle.nef_space.specs.Vectors.{Vector, dot, cross, triple, IsDirection, IsAtMost}
+use Rattle.nef_space.specs.Vectors.{Vector, dot, IsAtMost}
 use Rattle.nef_cyclic.specs.Arcs.{IsStrictlyOn}
 use Rattle.nef_cyclic.proofs.Directions.{classes_are_arcs}
 use Rattle.nef_near.proofs.FlatDecided.{triple-dot}
 use Rattle.nef_arc.proofs.SignNumbers.{read_sign, five_signs, between_read, test_of, true_of}
 use Rattle.nef_geo.specs.Shapes.{vector_of}
-use Rattle.nef_geo.specs.Signs.{sign_of, sign_number}
+use Rattle.nef_geo.specs.Signs.{sign_of}
 use Rattle.nef_geo.proofs.Products.{IsAtMost-weaken, cross_is}
 use Rattle.nef_sphere.specs.Maps.{way_of}
 use Rattle.nef_sphere.proofs.Direct.{slid-level}
 use Rattle.nef_smap.specs.Maps.{map_of}
 use Rattle.nef_smap.specs.Ways.{meet_of}
-use Rattle.nef_smap.specs.Wide.{wide_vector, start_at, end_at}
+use Rattle.nef_smap.specs.Wide.{start_at, end_at}
 use Rattle.nef_smap.proofs.ArcEnds.{source-within, target-within, source-end, target-end, normal-direction, normal-small}
 use Rattle.nef_smap.proofs.MeetSigns.{own-sign, turn-target}
 use Rattle.nef_smap.proofs.meets.is_on_arc.Goals as goal

@@ -1,4 +1,4 @@
-use Rattle.std.proofs.Common.{◌≡◌, ◌^◌, ◌≤◌, ◌*◌, arith, ap, ◌∙◌}
+use Rattle.std.proofs.Common.{◌^◌, ap, ◌∙◌}
 use Rattle.nef_geo.specs.Signs.{sign_of}
 use Rattle.nef_smap.specs.Wide.{wide_vector}
 use Rattle.nef_smap.proofs.MeetSigns.{meet-value}

@@ -1,4 +1,4 @@
-use Rattle.std.proofs.Common.{◌≡◌, ◌+◌, ◌*◌, ap, ◌∙◌}
+use Rattle.std.proofs.Common.{◌+◌, ◌*◌}
 use Rattle.nef_smap.proofs.SideLists.{side-of}
 use Rattle.nef_smap.proofs.side.item_side.Goals as goal
 

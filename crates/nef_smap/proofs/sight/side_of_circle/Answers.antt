@@ -1,8 +1,8 @@
-use Rattle.std.proofs.Common.{◌≡◌, ℕ, ◌+◌, ◌<◌, arith, ap, sym, length, is_some, Some, List, [], ◌∷◌}
+use Rattle.std.proofs.Common.{◌≡◌, ℕ, ◌+◌, arith, ap, sym, length, is_some}
 use mir.Val.{bool_byte}
 use Rattle.nef_space.specs.Vectors.{dot}
 use Rattle.nef_geo.specs.Shapes.{vector_of}
-use Rattle.nef_sphere.specs.Maps.{At, Item, loop_item, items}
+use Rattle.nef_sphere.specs.Maps.{At, Item, items}
 use Rattle.nef_smap.specs.Maps.{map_of, loop_of}
 use Rattle.nef_smap.proofs.MapLists.{length-items, item-loop, at-within}
 use Rattle.nef_smap.proofs.FreeSeen.{circle-off, circle-above, circle-below, side-chosen}

@@ -1,15 +1,15 @@
-use Rattle.std.proofs.Common.{◌≡◌, ℕ, ◌+◌, ◌^◌, ◌<◌, ◌≤◌, arith, ap, sym, ◌∙◌, length, subst}
+use Rattle.std.proofs.Common.{ℕ, ◌+◌, ◌^◌, arith, ap, sym, ◌∙◌, length}
 use Rattle.nef_space.specs.Vectors.{Vector, dot, cross, blend, up}
 use Rattle.nef_geo.specs.Shapes.{vector_of}
 use Rattle.nef_geo.specs.Signs.{sign_of}
-use Rattle.nef_sphere.specs.Maps.{At, Item, Arc, items, item_normal, way_of}
+use Rattle.nef_sphere.specs.Maps.{At, Item, items, item_normal, way_of}
 use Rattle.nef_sphere.specs.Forms.{forms}
 use Rattle.nef_sphere.proofs.Generic.{amount}
 use Rattle.nef_sphere.proofs.Lists.{at-one}
 use Rattle.nef_smap.specs.Items.{item_of}
 use Rattle.nef_smap.specs.Maps.{map_of, arc_of}
 use Rattle.nef_smap.specs.Wide.{wide_vector}
-use Rattle.nef_smap.proofs.ArcEnds.{at-map, EndOf, source-within, source-end, normal-small}
+use Rattle.nef_smap.proofs.ArcEnds.{at-map, source-within, source-end, normal-small}
 use Rattle.nef_smap.proofs.MapLists.{length-items, at-within}
 use Rattle.nef_smap.proofs.MeetSigns.{start-value}
 use Rattle.nef_smap.proofs.FreeSeen.{first-above, first-below, first-parts, up-leads, side-chosen, firsts-carried}

@@ -1,4 +1,4 @@
-use Rattle.std.proofs.Common.{◌≡◌, map, option_map, ap}
+use Rattle.std.proofs.Common.{map, option_map, ap}
 use Rattle.nef_geo.specs.Shapes.{vector_of}
 use Rattle.nef_smap.specs.Maps.{map_of, arc_of, loop_of}
 use Rattle.nef_smap.proofs.FreeSeen.{bare-seen}

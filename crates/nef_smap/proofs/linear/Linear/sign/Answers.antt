@@ -1,4 +1,4 @@
-use Rattle.std.proofs.Common.{rules, ◌≡◌, ◌^◌, ◌≤◌, ℕ, FitsSigned, arith, sym, ◌∙◌}
+use Rattle.std.proofs.Common.{rules, FitsSigned}
 use mir.Syntax.{w128}
 use Rattle.nef_smap.proofs.LargeNumbers.{linear-read}
 use Rattle.nef_smap.proofs.linear.Linear.sign.Goals as goal
