@@ -16,7 +16,7 @@ at-other (x ∷ xs) [] k z e a = absurd (omega arith)
 at-other (x ∷ xs) (y ∷ ys) zero z e a = (y, refl)
 at-other (x ∷ xs) (y ∷ ys) (suc k) z e a = at-other xs ys k z (omega arith) a
 
-none-left : {A B : Type 0} (xs : List A) (ys : List B) → length xs ≡ length ys → xs ≡ [] → ys ≡ []
+pub none-left : {A B : Type 0} (xs : List A) (ys : List B) → length xs ≡ length ys → xs ≡ [] → ys ≡ []
 none-left {A} xs [] e z = refl
 none-left {A} xs (y ∷ ys) e z = let l = ap (length {A = A}) z in absurd (omega arith)
 

@@ -1,3 +1,9 @@
+pub mod Chosen
+pub mod SideLabels
+pub mod Merged
+pub mod LoneLoops
+pub mod AllLoops
+pub mod RawFaces
 pub mod BuiltLabels
 pub mod KeptStars
 pub mod RayClose

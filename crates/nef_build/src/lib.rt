@@ -1,4 +1,3 @@
-//! The laws of overlays and of building.
 //! The theory of overlays and of least maps: the stars of two maps overlaid show the combined labels, and
 //! what is made of simplified stars is the one least map with their labels.
 //!
@@ -6,6 +5,7 @@
 #![tactic(auto)]
 
 mod building;
-mod laws;
+mod overlays;
 
 pub use building::building_laws;
+pub use overlays::overlay_laws;

@@ -1,10 +1,11 @@
 -- The program's complexes as complexes of any size, and which of them show a set.
-use Rattle.std.specs.Prelude.{ℕ, ◌<◌, List, map}
+use Rattle.std.specs.Prelude.{ℕ, ◌<◌, ◌≤◌, List, map}
 use Rattle.nef_space.specs.Lists.{IsAt}
 use Rattle.nef_space.specs.Place.{IsPlaceBelow}
 use Rattle.nef_space.specs.Sets.{Set}
 use Rattle.nef_geo.specs.Shapes.{place_of, form_of}
 use Rattle.nef_geo.specs.declared.plane.Plane.{Plane}
+use Rattle.nef_geo.specs.declared.point.Point.{Point}
 use Rattle.nef_smap.specs.Maps.{map_of, IsLeastMap}
 use Rattle.nef_solid.specs.Complexes.{Vertex as PlainVertex, Edge as PlainEdge, Complex as PlainComplex, Corner as PlainCorner, Edges}
 use Rattle.nef_solid.specs.Shows.{Shows}
@@ -46,3 +47,11 @@ pub record AreVerticesOf (s : Set) (carriers : List Plane) (vertices : List Vert
   pub sorted : AreSorted vertices
   pub maps : (k : ℕ) (v : Vertex) → IsAt vertices k v → IsLeastMap v.map
   pub shown : (es : List PlainEdge) → Edges (map vertex_of vertices) es → Shows s (record { carriers = map form_of carriers; vertices = map vertex_of vertices; edges = es })
+
+-- the vertices before number k are below the point
+abbrev pub AreBelow : List Vertex → ℕ → Point → Type 0
+AreBelow vs k p = (i : ℕ) (v : Vertex) → i < k → IsAt vs i v → IsPlaceBelow (place_of v.point) (place_of p)
+
+-- those from number k on are above it
+abbrev pub AreAbove : List Vertex → ℕ → Point → Type 0
+AreAbove vs k p = (i : ℕ) (v : Vertex) → k ≤ i → IsAt vs i v → IsPlaceBelow (place_of p) (place_of v.point)

@@ -6,7 +6,22 @@
 //! al., "Boolean Operations on 3D Selective Nef Complexes", ESA 2003.
 #![tactic(auto)]
 
+mod duplicate;
+mod item;
+mod linear;
+mod locate;
 mod map;
+mod meets;
+mod side;
+mod sight;
+mod simple;
+mod stars;
+mod way;
 
+pub use duplicate::copy;
+pub use locate::{at, label_at};
 pub use map::{RawStars, SArc, SLoop, SPlace, SVertex, SphereMap};
+pub use side::{side_label, sides};
+pub use simple::{face_map, plane_map};
+pub use stars::star_at;
 pub use std::alloc::AllocError as OutOfMemory;

@@ -5,3 +5,14 @@ pub mod Joining
 pub mod Skeletons
 pub mod Planes
 pub mod Candidates
+pub mod FacetSides
+pub mod FacetWays
+pub mod FacetCorners
+pub mod FacetArcs
+pub mod FacetPoints
+pub mod FacetEdges
+pub mod FacetEnds
+pub mod FacetAngles
+pub mod FacetTriangle
+pub mod FacetSight
+pub mod FacetNames

@@ -4,6 +4,8 @@
 //! function with an empty body. Source: Granados et al., "Boolean Operations on 3D Selective Nef Complexes", ESA 2003.
 #![tactic(auto)]
 
+mod facets;
 mod laws;
 
-pub use laws::{candidate_laws, edge_laws};
+pub use facets::facet_laws;
+pub use laws::{candidate_laws, edge_laws, skeleton_laws};

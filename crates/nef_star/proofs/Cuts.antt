@@ -1,5 +1,5 @@
 -- A star with one more ray, from one whose rays are counted on.
-use Rattle.std.proofs.Common.{◌≡◌, ℕ, suc, ◌+◌, ◌-◌, ◌<◌, List, [], ◌∷◌, ◌++◌, length, get_or, arith, refl, sym, ap, subst, ◌∙◌, inl, inr}
+use Rattle.std.proofs.Common.{◌≡◌, ℕ, suc, ◌+◌, ◌-◌, ◌<◌, List, [], ◌∷◌, ◌++◌, length, get_or, arith, refl, sym, ap, subst, ◌∙◌, inl, inr, ⊎_elim}
 use Rattle.std.proofs.Math.Nat.{eq-or-lt_of_le}
 use Rattle.nef_space.specs.Vectors.{Vector, zero_vector, SameDirection}
 use Rattle.nef_space.specs.declared.label.Label.{Label}
@@ -12,7 +12,7 @@ use Rattle.nef_star.specs.declared.star.Star.{Star}
 use Rattle.nef_star.specs.Turning.{IsNext}
 use Rattle.nef_star.specs.Stars.{left_of, left_at, IsRay, IsTurned, IsKept, IsCountedFrom, HasLeft, LeftPast, LeftUnder, IsCut}
 use Rattle.nef_star.proofs.Labelled.{sectors-none}
-use Rattle.nef_star.proofs.Rotated.{Moved, moved, moved-value}
+use Rattle.nef_star.proofs.Rotated.{Moved, moved, moved-from, moved-value}
 use Rattle.nef_star.proofs.RayOrder.{one-value}
 use Rattle.nef_star.proofs.Counted.{lefts, counted-length, count-some}
 use Rattle.nef_star.proofs.Needed.{kept-self, kept-trans}
@@ -55,8 +55,11 @@ module _ (t s : Star) (T : IsTurned t) (k : IsKept t s) (m : ℕ) (h : m < lengt
   counted-has : (v : Vector) → HasLeft t v → HasLeft s v
   counted-has v (i, p, e) = let j = moved (length t.rays.items) m i h p in let b = j.1 in (j.0, omega (arith, as_many, b), there i j.0 p j.1 j.2 ∙ e)
 
+  pub counted-only : (v : Vector) → HasLeft s v → HasLeft t v
+  counted-only v (j, q, e) = let i = moved-from (length t.rays.items) m j h (omega (arith, as_many, q)) in (i.0, i.1, sym (there i.0 j i.1 (omega (arith, as_many, q)) i.2) ∙ e)
+
   pub counted-cut : (d : Vector) (r : Star) → IsCut d s r → IsCut d t r
-  counted-cut d r C = record { turned = C.turned; kept = kept-trans t s r k C.kept; has = C.has; still = λ v x. C.still v (counted-has v x) }
+  counted-cut d r C = record { turned = C.turned; kept = kept-trans t s r k C.kept; has = C.has; still = λ v x. C.still v (counted-has v x); only = λ v x. ⊎_elim (λ y. inl (counted-only v y)) (λ y. inr y) (C.only v x) }
 
   -- what is after ray i, before ray m, is now after the last
   last_moved : (i : ℕ) → i < length t.rays.items → IsNext (length t.rays.items) i m → Moved (length t.rays.items) m i (length t.rays.items - 1)
@@ -83,7 +86,7 @@ only-past t d k n (inl s) = absurd (n s)
 only-past t d k n (inr p) = p
 
 pub uncut : (t : Star) → IsTurned t → (d : Vector) → HasLeft t d → IsCut d t t
-uncut t T d h = record { turned = T; kept = kept-self t; has = h; still = λ v x. x }
+uncut t T d h = record { turned = T; kept = kept-self t; has = h; still = λ v x. x; only = λ v x. inl x }
 
 -- the rays are cut in up to number k
 pub record IsCutTo (rays : List Ray) (k : ℕ) (t s : Star) : Type 0 where

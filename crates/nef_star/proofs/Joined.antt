@@ -44,7 +44,7 @@ set-here g d xs k x h = let n = length-map xs g in ap (λ l. get_or l k d) (map-
 pub set-other : {X Y : Type 0} (g : X → Y) (d : Y) (xs : List X) (k : ℕ) (x : X) (i : ℕ) → (i ≡ k → ⊥) → get_or (map g (set xs k x)) i d ≡ get_or (map g xs) i d
 set-other g d xs k x i n = ap (λ l. get_or l i d) (map-set g xs k x) ∙ get_or-set_other (map g xs) k i (g x) d n
 
-nat-is : (i k : ℕ) → (i ≡ k) ⊎ (i ≡ k → ⊥)
+pub nat-is : (i k : ℕ) → (i ≡ k) ⊎ (i ≡ k → ⊥)
 nat-is zero zero = inl refl
 nat-is zero (suc k) = inr (λ e. omega (arith, e))
 nat-is (suc i) zero = inr (λ e. omega (arith, e))
@@ -53,7 +53,7 @@ nat-is (suc i) (suc k) = elim (nat-is i k) [ inl e ↦ inl (ap suc e) | inr n �
 -- ray k of t is q, and that of s is r
 module _ (op : Op) (b t s : Star) (T : IsTurned t) (k : ℕ) (q r : Ray) (h : k < length t.rays.items) (at_k : q ≡ get_or t.rays.items k q) (normal : r.normal ≡ q.normal) (ahead : r.ahead ≡ q.ahead)
     (e : s.axis ≡ t.axis) (f : s.mark ≡ t.mark) (p l : Label) (rays : s.rays.items ≡ set t.rays.items k r) (sectors : s.sectors.items ≡ set t.sectors.items k p) where
-  changed-count : length s.rays.items ≡ length t.rays.items
+  pub changed-count : length s.rays.items ≡ length t.rays.items
   changed-count = ap length rays ∙ length-set t.rays.items k r
 
   old-left : left_at t.rays.items k ≡ left_of q
@@ -62,14 +62,14 @@ module _ (op : Op) (b t s : Star) (T : IsTurned t) (k : ℕ) (q r : Ray) (h : k 
   old-mark : mark_at t.rays.items k ≡ q.mark
   old-mark = at-item mark_of Out t.rays.items k q h ∙ ap mark_of (sym at_k)
 
-  same-lefts : (i : ℕ) → left_at s.rays.items i ≡ left_at t.rays.items i
+  pub same-lefts : (i : ℕ) → left_at s.rays.items i ≡ left_at t.rays.items i
   same-lefts i = ap (λ (l : List Ray). left_at l i) rays ∙ by (nat-is i k)
     where
       by : (i ≡ k) ⊎ (i ≡ k → ⊥) → left_at (set t.rays.items k r) i ≡ left_at t.rays.items i
       by (inl z) = subst (λ (j : ℕ). left_at (set t.rays.items k r) j ≡ left_at t.rays.items j) (sym z) (set-here left_of zero_vector t.rays.items k r h ∙ marked-left q r normal ahead ∙ sym old-left)
       by (inr n) = set-other left_of zero_vector t.rays.items k r i n
 
-  changed-turned : IsTurned s
+  pub changed-turned : IsTurned s
   changed-turned =
       let m = ap length sectors ∙ length-set t.sectors.items k p in let some : 0 < length s.rays.items = omega (arith, changed-count, h) in
       turned-by t s T e f

@@ -15,3 +15,4 @@ pub mod Pushed
 pub mod Cuts
 pub mod Combined
 pub mod Joined
+pub mod RoundStars

@@ -1,5 +1,6 @@
 -- Stars with one more ray, which has the label of the sector that it cuts.
-use Rattle.std.proofs.Common.{◌≡◌, ℕ, zero, suc, ◌<◌, pos, List, [], ◌∷◌, ◌++◌, length, map, get_or, Bool, true, false, cond, arith, refl, sym, ap, subst, ◌∙◌, inl, inr, length-append}
+use Rattle.std.proofs.Common.{◌≡◌, ℕ, zero, suc, ◌<◌, pos, List, [], ◌∷◌, ◌++◌, length, map, get_or, Bool, true, false, cond, arith, refl, sym, ap, subst, ◌∙◌, inl, inr, ◌⊎◌, length-append}
+use Rattle.std.proofs.Math.Nat.{eq-or-lt_of_le}
 use Rattle.std.specs.List.{All}
 use Rattle.std.proofs.lemmas.List.Elements.{All-push}
 use Rattle.nef_space.specs.Limits.{normal_limit}
@@ -92,6 +93,12 @@ module _ (t s : Star) (T : IsTurned t) (r : Ray) (R : IsRay (vector_of t.axis) r
   still : (v : Vector) → HasLeft t v → HasLeft s v
   still v (k, h, z) = (k, omega (arith, longer, h), same-left k h ∙ z)
 
+  only : (v : Vector) → HasLeft s v → HasLeft t v ⊎ (v ≡ left_of r)
+  only v (k, h, z) = elim (eq-or-lt_of_le {n = k} {m = length t.rays.items} (omega (arith, longer, h))) [
+    | inl e ↦ inr (sym z ∙ ap (left_at s.rays.items) e ∙ new-left)
+    | inr p ↦ inl (k, p, sym (same-left k p) ∙ z)
+  ]
+
   all-rays : All (IsRay (vector_of t.axis)) s.rays.items
   all-rays = subst (All (IsRay (vector_of t.axis))) (sym rays) (All-push (IsRay (vector_of t.axis)) t.rays.items r T.rays R)
 
@@ -124,6 +131,7 @@ module _ (t s : Star) (T : IsTurned t) (r : Ray) (R : IsRay (vector_of t.axis) r
       turned = first-turned;
       has = has;
       still = still;
+      only = only;
       kept = kept-by t s T first-turned e f (λ d o l g. renamed s t.axis 1 d l e (longer ∙ ap suc none)
           (first-gives (vector_of t.axis) (left_at t.rays.items) (left_at s.rays.items) (mark_at t.rays.items) (sector_at t.sectors.items) (mark_at s.rays.items) (sector_at s.sectors.items)
           (at-none (λ (n : ℕ). IsOnCircle (vector_of t.axis) (left_at s.rays.items n)) new-on)
@@ -166,6 +174,7 @@ module _ (t s : Star) (T : IsTurned t) (r : Ray) (R : IsRay (vector_of t.axis) r
       turned = last-turned;
       has = has;
       still = still;
+      only = only;
       kept = kept-by t s T last-turned e f (λ d o l g. renamed s t.axis (suc (suc k)) d l e (longer ∙ ap suc n)
           (added-gives (vector_of t.axis) t.axis.some k (left_at s.rays.items)
           (at-last (λ (m : ℕ). IsTurning (vector_of t.axis) m (left_at s.rays.items)) old-turning)

@@ -102,6 +102,7 @@ pub record IsCut (d : Vector) (t s : Star) : Type 0 where
   pub kept : IsKept t s
   pub has : HasLeft s d
   pub still : (v : Vector) → HasLeft t v → HasLeft s v
+  pub only : (v : Vector) → HasLeft s v → HasLeft t v ⊎ (v ≡ d)
 
 -- t with the rays and sectors counted from number m on
 pub record IsCountedFrom (m : ℕ) (t s : Star) : Type 0 where

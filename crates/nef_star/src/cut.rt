@@ -102,7 +102,7 @@ fn add_last(star: &mut Star, ray: &Ray) -> Result<(), OutOfMemory>
 }
 
 // Puts a ray in, unless the star has one with the same direction to its left. Each direction keeps its label.
-fn cut(star: &mut Star, ray: &Ray) -> Result<(), OutOfMemory>
+pub(crate) fn cut(star: &mut Star, ray: &Ray) -> Result<(), OutOfMemory>
     requires turned { IsTurned star.old }
     requires ray { IsRay (vector_of star.old.axis) ray.now }
     ensures cut { OnOk result (IsCut (left_of ray.now) star.old star.new) }

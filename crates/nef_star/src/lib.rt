@@ -6,6 +6,7 @@ mod cut;
 mod laws;
 mod needless;
 mod op;
+mod rounds;
 mod star;
 #[cfg(test)]
 mod tests;
@@ -14,5 +15,6 @@ pub use combining::merge;
 pub use laws::star_laws;
 pub use needless::simplify;
 pub use op::Op;
+pub use rounds::round;
 pub use star::{Ray, Star, is_plain, is_straight};
 pub use std::alloc::AllocError as OutOfMemory;
