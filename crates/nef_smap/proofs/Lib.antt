@@ -11,3 +11,7 @@ pub mod MeetTests
 pub mod FirstSoFar
 pub mod FreeSeen
 pub mod Found
+pub mod Lists
+pub mod Primitive
+pub mod WellFormed
+pub mod SimpleMaps

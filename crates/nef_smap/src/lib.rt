@@ -14,10 +14,12 @@ mod map;
 mod meets;
 mod side;
 mod sight;
+mod simple;
 mod way;
 
 pub use duplicate::copy;
 pub use locate::{at, label_at};
 pub use map::{RawStars, SArc, SLoop, SPlace, SVertex, SphereMap};
 pub use side::{side_label, sides};
+pub use simple::{face_map, plane_map};
 pub use std::alloc::AllocError as OutOfMemory;
