@@ -15,6 +15,8 @@ mod meets;
 mod side;
 mod sight;
 mod simple;
+#[cfg(test)]
+mod tests;
 mod way;
 
 pub use duplicate::copy;
