@@ -15,6 +15,7 @@ mod meets;
 mod side;
 mod sight;
 mod simple;
+mod stars;
 #[cfg(test)]
 mod tests;
 mod way;
@@ -24,4 +25,5 @@ pub use locate::{at, label_at};
 pub use map::{RawStars, SArc, SLoop, SPlace, SVertex, SphereMap};
 pub use side::{side_label, sides};
 pub use simple::{face_map, plane_map};
+pub use stars::star_at;
 pub use std::alloc::AllocError as OutOfMemory;
