@@ -16,6 +16,8 @@ mod side;
 mod sight;
 mod simple;
 mod stars;
+#[cfg(test)]
+mod tests;
 mod way;
 
 pub use duplicate::copy;
