@@ -1,0 +1,90 @@
+//! The line of an edge, and where a plane crosses the edge.
+
+ghost use Rattle.std.specs.Prelude.{◌≡◌, ℕ, ◌↔◌, IsTrue};
+ghost use Rattle.std.specs.Option.{MatchOption};
+ghost use Rattle.nef_space.specs.Place.{Place, SamePlace, form_at, toward};
+ghost use Rattle.nef_space.specs.Vectors.{IsDirection};
+ghost use Rattle.nef_geo.specs.Shapes.{place_of, form_of};
+ghost use Rattle.nef_geo.specs.Steps.{HasOppositeSigns};
+ghost use Rattle.nef_geo.specs.declared.plane.Plane.{Plane as PlaneValue};
+ghost use Rattle.nef_sphere.specs.Maps.{At};
+ghost use Rattle.nef_cand.specs.Points.{HoldsBoth, AreHeldByTwo, IsLineThrough, IsCrossing};
+
+use nef_geo::{Plane, Point, Sign, meet, side};
+
+/// Two planes that meet in a line.
+#[derive(Debug, Clone, Copy)]
+pub(crate) struct Line {
+    pub first: Plane,
+    pub second: Plane,
+}
+
+fn holds_both(h: &Plane, p: &Point, q: &Point) -> bool
+    ensures holds { IsTrue result ↔ HoldsBoth (form_of h.now) (place_of p.now) (place_of q.now) }
+{
+    side(h, p) == Sign::Zero && side(h, q) == Sign::Zero
+}
+
+// The first of the planes that holds both points.
+fn holder(planes: &[Plane], p: &Point, q: &Point) -> Option<Plane>
+    ensures holder { MatchOption result ((k : ℕ) (h : PlaneValue) → At planes.now k h → HoldsBoth (form_of h) (place_of p.now) (place_of q.now) → ⊥) (λ h. HoldsBoth (form_of h) (place_of p.now) (place_of q.now)) }
+{
+    for h in planes {
+        if holds_both(h, p, q) {
+            return Some(*h);
+        }
+    }
+    None
+}
+
+// The first of the planes that holds both points and isn't `besides`.
+fn other_holder(planes: &[Plane], p: &Point, q: &Point, besides: &Plane) -> Option<Plane>
+    ensures holder { MatchOption result ((k : ℕ) (h : PlaneValue) → At planes.now k h → HoldsBoth (form_of h) (place_of p.now) (place_of q.now) → h ≡ besides.now) (λ h. HoldsBoth (form_of h) (place_of p.now) (place_of q.now) × (h ≡ besides.now → ⊥)) }
+{
+    for h in planes {
+        if holds_both(h, p, q) && *h != *besides {
+            return Some(*h);
+        }
+    }
+    None
+}
+
+/// The line through two different points that two of the planes hold.
+pub(crate) fn line_through(planes: &[Plane], p: &Point, q: &Point) -> Line
+    requires apart { IsDirection (toward (place_of p.now) (place_of q.now)) }
+    requires held { AreHeldByTwo planes.now (place_of p.now) (place_of q.now) }
+    ensures line { IsLineThrough result (place_of p.now) (place_of q.now) }
+{
+    let Some(first) = holder(planes, p, q) else {
+        unreachable!()
+    };
+    let Some(second) = other_holder(planes, p, q, &first) else {
+        unreachable!()
+    };
+    Line { first, second }
+}
+
+// Whether the points lie strictly on different sides of the plane.
+fn parts(h: &Plane, p: &Point, q: &Point) -> bool
+    ensures parts { IsTrue result ↔ HasOppositeSigns (form_at (form_of h.now) (place_of p.now)) (form_at (form_of h.now) (place_of q.now)) }
+{
+    match side(h, p) {
+        Sign::Minus => side(h, q) == Sign::Plus,
+        Sign::Zero => false,
+        Sign::Plus => side(h, q) == Sign::Minus,
+    }
+}
+
+/// The point strictly between p and q, on their line, where the plane crosses it. `None` comes where the plane doesn't
+/// part p and q.
+pub(crate) fn crossing(line: &Line, p: &Point, q: &Point, h: &Plane) -> Option<Point>
+    requires apart { IsDirection (toward (place_of p.now) (place_of q.now)) }
+    requires line { IsLineThrough line.now (place_of p.now) (place_of q.now) }
+    ensures crossing { MatchOption result ((y : Place) → IsCrossing (form_of h.now) (place_of p.now) (place_of q.now) y → ⊥) (λ m. IsCrossing (form_of h.now) (place_of p.now) (place_of q.now) (place_of m) × ((y : Place) → IsCrossing (form_of h.now) (place_of p.now) (place_of q.now) y → SamePlace (place_of m) y)) }
+{
+    if parts(h, p, q) {
+        meet(&line.first, &line.second, h)
+    } else {
+        None
+    }
+}
