@@ -2,9 +2,8 @@
 
 ghost use Rattle.std.specs.Prelude.{◌↔◌, OnOk};
 ghost use Rattle.std.specs.List.{Contains};
-ghost use Rattle.nef_space.specs.Place.{IsPlaceBelow, toward};
+ghost use Rattle.nef_space.specs.Place.{IsPlaceBelow};
 ghost use Rattle.nef_space.specs.Sets.{Set};
-ghost use Rattle.nef_space.specs.Vectors.{IsDirection};
 ghost use Rattle.nef_geo.specs.Shapes.{place_of};
 ghost use Rattle.nef_geo.specs.declared.point.Point.{Point as PointValue};
 ghost use Rattle.nef_sphere.specs.Least.{InOrder};
@@ -35,7 +34,6 @@ fn add_crossings(
     q: &Point,
     planes: &[Plane],
 ) -> Result<(), OutOfMemory>
-    requires apart { IsDirection (toward (place_of p.now) (place_of q.now)) }
     requires line { IsLineThrough line.now (place_of p.now) (place_of q.now) }
     ensures added { OnOk result (Adds (CrossesOne planes.now (place_of p.now) (place_of q.now)) points.old.items points.new.items) }
 {

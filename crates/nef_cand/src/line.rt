@@ -2,8 +2,7 @@
 
 ghost use Rattle.std.specs.Prelude.{◌≡◌, ℕ, ◌↔◌, IsTrue};
 ghost use Rattle.std.specs.Option.{MatchOption};
-ghost use Rattle.nef_space.specs.Place.{Place, SamePlace, form_at, toward};
-ghost use Rattle.nef_space.specs.Vectors.{IsDirection};
+ghost use Rattle.nef_space.specs.Place.{Place, SamePlace, form_at};
 ghost use Rattle.nef_geo.specs.Shapes.{place_of, form_of};
 ghost use Rattle.nef_geo.specs.Steps.{HasOppositeSigns};
 ghost use Rattle.nef_geo.specs.declared.plane.Plane.{Plane as PlaneValue};
@@ -49,9 +48,8 @@ fn other_holder(planes: &[Plane], p: &Point, q: &Point, besides: &Plane) -> Opti
     None
 }
 
-/// The line through two different points that two of the planes hold.
+/// The line in which two of the planes that hold both points meet.
 pub(crate) fn line_through(planes: &[Plane], p: &Point, q: &Point) -> Line
-    requires apart { IsDirection (toward (place_of p.now) (place_of q.now)) }
     requires held { AreHeldByTwo planes.now (place_of p.now) (place_of q.now) }
     ensures line { IsLineThrough result (place_of p.now) (place_of q.now) }
 {
@@ -78,7 +76,6 @@ fn parts(h: &Plane, p: &Point, q: &Point) -> bool
 /// The point strictly between p and q, on their line, where the plane crosses it. `None` comes where the plane doesn't
 /// part p and q.
 pub(crate) fn crossing(line: &Line, p: &Point, q: &Point, h: &Plane) -> Option<Point>
-    requires apart { IsDirection (toward (place_of p.now) (place_of q.now)) }
     requires line { IsLineThrough line.now (place_of p.now) (place_of q.now) }
     ensures crossing { MatchOption result ((y : Place) → IsCrossing (form_of h.now) (place_of p.now) (place_of q.now) y → ⊥) (λ m. IsCrossing (form_of h.now) (place_of p.now) (place_of q.now) (place_of m) × ((y : Place) → IsCrossing (form_of h.now) (place_of p.now) (place_of q.now) y → SamePlace (place_of m) y)) }
 {
