@@ -1,3 +1,6 @@
 pub mod Signs
 pub mod Crossing
 pub mod Adding
+pub mod Planes
+pub mod Held
+pub mod Order

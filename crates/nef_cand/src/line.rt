@@ -36,12 +36,24 @@ fn holder(planes: &[Plane], p: &Point, q: &Point) -> Option<Plane>
     None
 }
 
+fn is_other(g: &Plane, h: &Plane) -> bool
+    ensures other { IsTrue result ↔ (g.now ≡ h.now → ⊥) }
+{
+    *g != *h
+}
+
+fn is_other_holder(h: &Plane, p: &Point, q: &Point, besides: &Plane) -> bool
+    ensures holds { IsTrue result ↔ (HoldsBoth (form_of h.now) (place_of p.now) (place_of q.now) × (h.now ≡ besides.now → ⊥)) }
+{
+    holds_both(h, p, q) && is_other(h, besides)
+}
+
 // The first of the planes that holds both points and isn't `besides`.
 fn other_holder(planes: &[Plane], p: &Point, q: &Point, besides: &Plane) -> Option<Plane>
-    ensures holder { MatchOption result ((k : ℕ) (h : PlaneValue) → At planes.now k h → HoldsBoth (form_of h) (place_of p.now) (place_of q.now) → h ≡ besides.now) (λ h. HoldsBoth (form_of h) (place_of p.now) (place_of q.now) × (h ≡ besides.now → ⊥)) }
+    ensures holder { MatchOption result ((k : ℕ) (h : PlaneValue) → At planes.now k h → HoldsBoth (form_of h) (place_of p.now) (place_of q.now) × (h ≡ besides.now → ⊥) → ⊥) (λ h. HoldsBoth (form_of h) (place_of p.now) (place_of q.now) × (h ≡ besides.now → ⊥)) }
 {
     for h in planes {
-        if holds_both(h, p, q) && *h != *besides {
+        if is_other_holder(h, p, q, besides) {
             return Some(*h);
         }
     }
