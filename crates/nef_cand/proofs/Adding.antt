@@ -76,12 +76,9 @@ module _ {X : Type 0} (P : X → Place → Type 0) (xs : List X) where
   pub any-none : (ps : List Point) → Adds (AnyFirst P xs 0) ps ps
   any-none ps = adds-none (AnyFirst P xs 0) ps (λ y a. let l = a.2 in omega (arith, l))
 
-  pub any-more : (i : ℕ) (x : X) (ps qs rs : List Point) → i < length xs → x ≡ get_or xs i x → Adds (AnyFirst P xs i) ps qs → Adds (P x) qs rs → Adds (AnyFirst P xs (i + 1)) ps rs
-  any-more i x ps qs rs l e f g = adds-both (AnyFirst P xs i) (P x) (AnyFirst P xs (i + 1)) ps qs rs f g forth back
+  pub any-next : (i : ℕ) (x : X) (ps qs rs : List Point) → At xs i x → Adds (AnyFirst P xs i) ps qs → Adds (P x) qs rs → Adds (AnyFirst P xs (i + 1)) ps rs
+  any-next i x ps qs rs here f g = adds-both (AnyFirst P xs i) (P x) (AnyFirst P xs (i + 1)) ps qs rs f g forth back
     where
-      here : At xs i x
-      here = read-at xs i x l e
-
       forth : (y : Place) → AnyFirst P xs i y ⊎ P x y → AnyFirst P xs (i + 1) y
       forth y (inl (k, z, h, a, r)) = (k, z, omega (arith, h), a, r)
       forth y (inr r) = (i, x, omega arith, here, r)
@@ -92,6 +89,9 @@ module _ {X : Type 0} (P : X → Place → Type 0) (xs : List X) where
 
       back : (y : Place) → AnyFirst P xs (i + 1) y → AnyFirst P xs i y ⊎ P x y
       back y (k, z, h, a, r) = split y k z (eq-or-lt_of_le {n = k} {m = i} (omega (arith, h))) a r
+
+  pub any-more : (i : ℕ) (x : X) (ps qs rs : List Point) → i < length xs → x ≡ get_or xs i x → Adds (AnyFirst P xs i) ps qs → Adds (P x) qs rs → Adds (AnyFirst P xs (i + 1)) ps rs
+  any-more i x ps qs rs l e = any-next i x ps qs rs (read-at xs i x l e)
 
   pub any-all : (i : ℕ) (ps qs : List Point) → length xs ≤ i → Adds (AnyFirst P xs i) ps qs → Adds (AnyAt P xs) ps qs
   any-all i ps qs l f = adds-as (AnyFirst P xs i) (AnyAt P xs) ps qs

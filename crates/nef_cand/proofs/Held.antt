@@ -1,5 +1,5 @@
 -- Two carriers hold each edge, and where planes cut edges.
-use Rattle.std.proofs.Common.{◌≡◌, ℕ, zero, suc, ◌<◌, ℤ, pos, ◌+ℤ◌, ◌-ℤ◌, ◌*ℤ◌, ◌<ℤ◌, List, [], ◌∷◌, map, length, slice_get, Some, None, arith, refl, ap, sym, subst, ◌∙◌, ◌⊎◌, inl, inr, ⊎_elim}
+use Rattle.std.proofs.Common.{◌≡◌, ℕ, zero, suc, ◌<◌, ℤ, pos, ◌+ℤ◌, ◌-ℤ◌, ◌*ℤ◌, ◌<ℤ◌, List, [], ◌∷◌, map, length, get_or, slice_get, Some, None, arith, refl, ap, sym, subst, ◌∙◌, ◌⊎◌, inl, inr, ⊎_elim}
 use Rattle.std.proofs.lemmas.Int.{ints}
 use Rattle.nef_exact.specs.Signs.{nought, sign, Lies}
 use Rattle.nef_exact.proofs.Ring.{ring, at, num, ◌⊕◌, ◌⊖◌, ◌⊗◌}
@@ -21,7 +21,7 @@ use Rattle.nef_near.proofs.FlatDecided.{parallel-both}
 use Rattle.nef_near.proofs.Supports.{edge-support}
 use Rattle.nef_sphere.specs.Maps.{At, way_of}
 use Rattle.nef_sphere.proofs.Lists.{at-one}
-use Rattle.nef_smap.proofs.Lists.{map-at, at-map, at-within}
+use Rattle.nef_smap.proofs.Lists.{map-at, at-map, at-within, get-at}
 use Rattle.nef_solid.specs.Complexes.{HasEnds}
 use Rattle.nef_solid.specs.Complexes.{Vertex as PlainVertex, Edge as PlainEdge, Complex as PlainComplex}
 use Rattle.nef_solid.specs.Shows.{Shows, SamePlane}
@@ -152,3 +152,21 @@ pub vertices-all : (c : Complex) (ps qs : List Point) → Adds (AnyAt (λ (u : V
 vertices-all c ps qs = adds-as (AnyAt (λ (u : Vertex) (y : Place). SamePlace (place_of u.point) y) c.vertices) (IsVertexOf (complex_of c)) ps qs
     (λ y a. (a.0, (vertex_of a.1, map-at vertex_of c.vertices a.0 a.1 a.2, a.3)))
     (λ y a. let v = at-map vertex_of c.vertices a.0 a.1.0 a.1.1 in (a.0, v.0, v.1, subst (λ (r : PlainVertex). SamePlace r.point y) (sym v.2) a.1.2))
+
+-- ---- the edge with number i, as it is read
+module _ (s : Set) (c : Complex) (S : ShowsSet s c) (es : List Edge) (all : es ≡ c.edges) (i : ℕ) (d : Edge) (l : i < length es) where
+  pub edge-at : At c.edges i (get_or es i d)
+  edge-at = subst (λ (r : List Edge). At r i (get_or es i d)) all (get-at es i d l)
+
+  pub low-read : (get_or es i d).low < length c.vertices
+  low-read = low-within s c S i (get_or es i d) edge-at
+
+  pub high-read : (get_or es i d).high < length c.vertices
+  high-read = high-within s c S i (get_or es i d) edge-at
+
+  module _ (u v : Vertex) (a : slice_get c.vertices (get_or es i d).low ≡ Some u) (b : slice_get c.vertices (get_or es i d).high ≡ Some v) where
+    pub held-read : AreHeldByTwo c.carriers (place_of u.point) (place_of v.point)
+    held-read = edge-held s c S i (get_or es i d) edge-at u v (got-at c.vertices (get_or es i d).low u a) (got-at c.vertices (get_or es i d).high v b)
+
+    pub cuts-read : (hs : List Plane) (ps qs : List Point) → Adds (CrossesOne hs (place_of u.point) (place_of v.point)) ps qs → Adds (CutsEdge c hs (get_or es i d)) ps qs
+    cuts-read hs = edge-cuts c hs (get_or es i d) u v (got-at c.vertices (get_or es i d).low u a) (got-at c.vertices (get_or es i d).high v b)

@@ -4,3 +4,4 @@ pub mod Adding
 pub mod Planes
 pub mod Held
 pub mod Order
+pub mod Complete
