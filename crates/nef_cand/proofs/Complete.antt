@@ -51,7 +51,7 @@ added-exactly P ps qs a o same = record {
 
 -- ---- all vertices of the combinations
 -- where a direction is flat there is no vertex
-never-flat : (s : Set) (y : Place) (d : Vector) → IsDirection d → Flat s y d → IsVertex s y → ⊥
+pub never-flat : (s : Set) (y : Place) (d : Vector) → IsDirection d → Flat s y d → IsVertex s y → ⊥
 never-flat s y d i f v = v.1 (d, i, f)
 
 combined-flat : (s t : Set) (y : Place) (d : Vector) → IsDirection d → Flat s y d → Flat t y d → IsVertexOfBoth s t y → ⊥
@@ -60,7 +60,7 @@ combined-flat s t y d i f g (inr (inl v)) = never-flat (Set.either s t) y d i (f
 combined-flat s t y d i f g (inr (inr (inl v))) = never-flat (Set.less s t) y d i (flat-of_two Set.less label_less less-label s t y d f g) v
 combined-flat s t y d i f g (inr (inr (inr v))) = never-flat (Set.one_of s t) y d i (flat-of_two Set.one_of label_one_of one_of-label s t y d f g) v
 
-vertex-of : (s : Set) (C : Complex) (y : Place) → Shows s C → IsVertex s y → IsVertexOf C y
+pub vertex-of : (s : Set) (C : Complex) (y : Place) → Shows s C → IsVertex s y → IsVertexOf C y
 vertex-of s C y S v = let f = S.complete y v in (f.0, (f.1, f.2, f.3))
 
 pub vertices-listed : (s t : Set) (C D : Complex) (ps : List Point) (y : Place) → AreCandidates C D ps → Shows s C → Shows t D → IsVertexOfBoth s t y → IsListed ps y

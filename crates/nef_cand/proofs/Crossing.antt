@@ -38,7 +38,7 @@ times-pos k c x h = by_order c (pos 0) (λ l. let u = mul_neg k c x l in absurd 
 times-neg : (k c : ℤ) → pos 0 <ℤ k → (k *ℤ c) <ℤ pos 0 → c <ℤ pos 0
 times-neg k c x h = by_order c (pos 0) (λ l. l) (λ o. let u = times-none k c o in absurd (omega (arith, ints))) (λ l. let u = mul_pos k c x l in absurd (omega (arith, ints)))
 
-times-nought : (k c : ℤ) → pos 0 <ℤ k → k *ℤ c ≡ pos 0 → c ≡ pos 0
+pub times-nought : (k c : ℤ) → pos 0 <ℤ k → k *ℤ c ≡ pos 0 → c ≡ pos 0
 times-nought k c x h = by_order c (pos 0) (λ l. let u = mul_neg k c x l in absurd (omega (arith, ints))) (λ o. o) (λ l. let u = mul_pos k c x l in absurd (omega (arith, ints)))
 
 -- ---- the sides of the two points

@@ -5,3 +5,4 @@ pub mod Planes
 pub mod Held
 pub mod Order
 pub mod Complete
+pub mod Halves
