@@ -1,7 +1,7 @@
 -- What is listed, and that all vertices of a combination are.
-use Rattle.std.proofs.Common.{◌≡◌, ℕ, zero, suc, ◌+◌, ◌<◌, ℤ, pos, neg_ℤ, ◌+ℤ◌, ◌-ℤ◌, ◌*ℤ◌, ◌<ℤ◌, ◌≤ℤ◌, Bool, true, false, List, [], ◌∷◌, map, arith, refl, ap, sym, subst, ◌∙◌, ◌⊎◌, inl, inr, ⊎_elim, ◌↔◌}
+use Rattle.std.proofs.Common.{◌≡◌, ℕ, pos, List, [], map, arith, sym, subst, ◌⊎◌, inl, inr, ⊎_elim, ◌↔◌}
 use Rattle.std.specs.List.{Contains}
-use Rattle.nef_space.specs.Local.{Flat, HasFlat, FlatDim, IsVertex}
+use Rattle.nef_space.specs.Local.{Flat, IsVertex}
 use Rattle.nef_space.specs.Place.{Place, Form, form_at, SamePlace, IsBetween}
 use Rattle.nef_space.specs.Sets.{Set}
 use Rattle.nef_space.specs.Vectors.{Vector, IsDirection}
@@ -13,7 +13,6 @@ use Rattle.nef_near.specs.Cones.{label_and, label_or, label_less, label_one_of}
 use Rattle.nef_near.proofs.Combine.{and-label, or-label, less-label, one_of-label}
 use Rattle.nef_near.proofs.FlatOperations.{flat-of_two}
 use Rattle.nef_sphere.specs.Maps.{At}
-use Rattle.nef_sphere.specs.Least.{InOrder}
 use Rattle.nef_sphere.proofs.Lists.{search_list, Found}
 use Rattle.nef_smap.proofs.Lists.{at-within, at-get, map-at, at-map}
 use Rattle.nef_solid.specs.Complexes.{Vertex, Edge, Complex, HasEnds}
@@ -22,7 +21,7 @@ use Rattle.nef_solid.specs.Laws.{IsCut, HoldsEdge}
 use Rattle.nef_solid.proofs.Candidates.{candidates-suffice}
 use Rattle.nef_complex.specs.declared.complex.Complex.{Complex as ProgramComplex}
 use Rattle.nef_complex.specs.Complexes.{complex_of}
-use Rattle.nef_cand.specs.Candidates.{IsListed, AreExactly, IsVertexOf, IsCutBy, AreCandidates, AreCutCandidates, IsVertexOfBoth}
+use Rattle.nef_cand.specs.Candidates.{IsListed, AreExactly, IsVertexOf, AreCandidates, IsVertexOfBoth}
 use Rattle.nef_cand.specs.Points.{Adds, CutsOne}
 use Rattle.nef_cand.proofs.Adding.{read-at, adds-both, adds-as}
 use Rattle.nef_cand.proofs.Order.{ArePlacesInOrder}
@@ -69,7 +68,7 @@ vertices-listed s t C D ps y A S T v = ⊎_elim (λ h. h) (λ n. absurd (off n))
     off : (IsListed ps y → ⊥) → ⊥
     off n =
         let d = candidates-suffice s t C D y S T (λ u. n (A.all y (inl (vertex-of s C y S u)))) (λ u. n (A.all y (inr (inl (vertex-of t D y T u)))))
-            (λ u. n (A.all y (inr (inr (inl u))))) (λ u. n (A.all y (inr (inr (inr u))))) in
+        (λ u. n (A.all y (inr (inr (inl u))))) (λ u. n (A.all y (inr (inr (inr u))))) in
         combined-flat s t y d.0 d.1 d.2 d.3 v
 
 -- ---- what the program collects

@@ -1,5 +1,5 @@
 -- Where a plane parts two points, it crosses the line between them in one point strictly between.
-use Rattle.std.proofs.Common.{◌≡◌, ℕ, ◌<◌, ℤ, pos, ◌+ℤ◌, ◌-ℤ◌, ◌*ℤ◌, ◌<ℤ◌, ◌≤ℤ◌, arith, refl, ap, sym, ◌∙◌, ◌⊎◌, inl, inr, ⊎_elim, ◌↔◌, [], ◌∷◌, Option, Some, None}
+use Rattle.std.proofs.Common.{◌≡◌, ℕ, ◌<◌, ℤ, pos, ◌+ℤ◌, ◌-ℤ◌, ◌*ℤ◌, ◌<ℤ◌, arith, refl, ap, sym, ◌∙◌, inl, inr, ⊎_elim, ◌↔◌, [], ◌∷◌, Option, Some, None}
 use Rattle.std.proofs.lemmas.Int.{ints}
 use Rattle.std.specs.Option.{MatchOption}
 use Rattle.std.specs.Prelude.{IsNone, IfSome}
@@ -7,7 +7,7 @@ use Rattle.nef_exact.proofs.Ring.{ring, Poly, at, num, ◌⊕◌, ◌⊖◌, ◌
 use Rattle.nef_exact.proofs.Combination.{given, none, follows, follows_times}
 use Rattle.nef_exact.proofs.Order.{mul_pos, mul_neg, by_order}
 use Rattle.nef_space.specs.Place.{Place, Form, form_at, slope, normal_of, toward, SamePlace, IsBetween}
-use Rattle.nef_space.specs.Vectors.{Vector, dot, cross, triple, IsZero, IsDirection, IsParallel}
+use Rattle.nef_space.specs.Vectors.{Vector, dot, cross, triple, IsZero, IsDirection}
 use Rattle.nef_geo.specs.Meet.{HasDependentNormals, IsOnlyCommon}
 use Rattle.nef_geo.specs.Shapes.{place_of, form_of}
 use Rattle.nef_geo.specs.Steps.{HasOppositeSigns}
@@ -16,7 +16,6 @@ use Rattle.nef_geo.specs.declared.point.Point.{Point}
 use Rattle.nef_forms.specs.Homogeneous.{IsMixed, of_place}
 use Rattle.nef_forms.proofs.Sums.{form-sum}
 use Rattle.nef_forms.proofs.Near.{slope-toward}
-use Rattle.nef_forms.proofs.Far.{nought-or}
 use Rattle.nef_forms.proofs.Between.{between-same}
 use Rattle.nef_near.proofs.Between.{mixed-of, between-turned}
 use Rattle.nef_near.proofs.Rays.{same-place_sym, slope-zero}
@@ -24,7 +23,7 @@ use Rattle.nef_near.proofs.FlatDecided.{cross-turned}
 use Rattle.nef_sphere.proofs.KindFlats.{in-span}
 use Rattle.nef_solid.proofs.Planes.{plane-way}
 use Rattle.nef_solid.proofs.Ways.{same-itself}
-use Rattle.nef_solid.proofs.FacetAngles.{Cut, cut-at}
+use Rattle.nef_solid.proofs.FacetAngles.{cut-at}
 use Rattle.nef_cand.specs.declared.line.Line.{Line}
 use Rattle.nef_cand.specs.Points.{HoldsBoth, IsLineThrough, IsCrossing}
 
@@ -144,9 +143,10 @@ module _ (l : Line) (h : Plane) (p q : Place) (L : IsLineThrough l p q) (s : Has
 
     pub meet-crosses : IsCrossing (form_of h) p q m × ((y : Place) → IsCrossing (form_of h) p q y → SamePlace m y)
     meet-crosses =
-        let y = parted-cut (form_of h) p q s in
-        (record { between = between-same p y.0 q p m q (same-itself p) (only-crossing y.0 y.1) (same-itself q) y.1.between; on = M.on_r; parts = y.1.parts },
-          λ y c. same-place_sym y m (only-crossing y c))
+        let y = parted-cut (form_of h) p q s in (
+          record { between = between-same p y.0 q p m q (same-itself p) (only-crossing y.0 y.1) (same-itself q) y.1.between; on = M.on_r; parts = y.1.parts },
+          λ y c. same-place_sym y m (only-crossing y c),
+        )
 
 -- what the meet of the line with the plane answers
 pub meet-answers : (l : Line) (h : Plane) (p q : Place) (o : Option Point) → IsLineThrough l p q → HasOppositeSigns (form_at (form_of h) p) (form_at (form_of h) q)

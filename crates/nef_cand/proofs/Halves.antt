@@ -1,15 +1,15 @@
 -- The vertices of a half are vertices of the frame, or points where its plane crosses an edge of the frame.
-use Rattle.std.proofs.Common.{◌≡◌, ℕ, zero, suc, ◌+◌, ◌<◌, ℤ, pos, neg_ℤ, ◌+ℤ◌, ◌-ℤ◌, ◌*ℤ◌, ◌<ℤ◌, ◌≤ℤ◌, Bool, true, false, List, [], ◌∷◌, arith, refl, ap, sym, subst, ◌∙◌, ◌⊎◌, inl, inr, ⊎_elim, ◌↔◌}
+use Rattle.std.proofs.Common.{◌≡◌, ℕ, zero, suc, ◌+◌, ◌<◌, ℤ, pos, neg_ℤ, ◌+ℤ◌, ◌-ℤ◌, ◌*ℤ◌, Bool, true, false, List, [], ◌∷◌, arith, refl, ap, sym, subst, ◌∙◌, ◌⊎◌, inl, inr, ⊎_elim, ◌↔◌}
 use Rattle.std.proofs.lemmas.Int.{ints}
 use Rattle.std.specs.List.{Contains}
-use Rattle.nef_exact.specs.Signs.{sign, nought, plus, minus}
+use Rattle.nef_exact.specs.Signs.{sign}
 use Rattle.nef_exact.proofs.Ring.{ring, Poly, at, num, neg, ◌⊕◌, ◌⊖◌, ◌⊗◌}
 use Rattle.nef_exact.proofs.Combination.{given, none, follows}
 use Rattle.nef_exact.proofs.Order.{by_order, sign-minus, minus-is, sign-plus, plus-is, sign-scaled, nought-is}
 use Rattle.nef_space.specs.Local.{HasLabel, Flat, HasFlat, FlatDim, IsVertex}
 use Rattle.nef_space.specs.Place.{Place, Form, Ratio, step, Within, form_at, slope, toward, InFrame}
 use Rattle.nef_space.specs.Sets.{Set, Holds, InHalf}
-use Rattle.nef_space.specs.Vectors.{Vector, cross, IsZero, IsDirection}
+use Rattle.nef_space.specs.Vectors.{Vector, cross, IsDirection}
 use Rattle.nef_space.specs.declared.label.Label.{Label}
 use Rattle.nef_space.specs.declared.label.Label.TheVariants.{Out, Not, In}
 use Rattle.nef_geo.specs.Shapes.{form_of}
@@ -23,8 +23,7 @@ use Rattle.nef_near.specs.Cones.{combination}
 use Rattle.nef_near.proofs.Alike.{HasFlat-fewer}
 use Rattle.nef_near.proofs.FlatDecided.{flat_dim-of}
 use Rattle.nef_near.proofs.FlatOperations.{flat-combination}
-use Rattle.nef_sphere.specs.Maps.{At}
-use Rattle.nef_solid.specs.Complexes.{Vertex, Edge, Complex, HasEnds}
+use Rattle.nef_solid.specs.Complexes.{Complex}
 use Rattle.nef_solid.specs.Shows.{Shows, SamePlane}
 use Rattle.nef_solid.specs.Skeleton.{IsEdgePoint}
 use Rattle.nef_solid.specs.Laws.{HoldsEdge}
@@ -110,9 +109,11 @@ combined-some d e j k some n z = some (one d.y d.z e.y e.z z.1 z.2, one d.z d.x 
 two-flat : (f : Form) (c : Bool) (y : Place) → HasFlat Set.full y 2 → (d : Vector) × IsDirection d × Flat (Set.half f c) y d
 two-flat f c y (d, e, some, g, h) = ⊎_elim
     (λ z. (d, first d e some, half-flat f c y d g (λ o. z)))
-    (λ n. (combination (slope f e) d (neg_ℤ (slope f d)) e,
+    (λ n. (
+      combination (slope f e) d (neg_ℤ (slope f d)) e,
       combined-some d e (slope f e) (neg_ℤ (slope f d)) some (λ z. n (omega (arith, ints, z))),
-      half-flat f c y (combination (slope f e) d (neg_ℤ (slope f d)) e) (flat-combination Set.full y d e (slope f e) (neg_ℤ (slope f d)) g h) (λ o. combined-level f d e)))
+      half-flat f c y (combination (slope f e) d (neg_ℤ (slope f d)) e) (flat-combination Set.full y d e (slope f e) (neg_ℤ (slope f d)) g h) (λ o. combined-level f d e),
+    ))
     (nought-or (slope f d))
   where
     first : (d e : Vector) → IsDirection (cross d e) → IsDirection d

@@ -1,37 +1,37 @@
 -- Two carriers hold each edge, and where planes cut edges.
-use Rattle.std.proofs.Common.{◌≡◌, ℕ, zero, suc, ◌<◌, ℤ, pos, ◌+ℤ◌, ◌-ℤ◌, ◌*ℤ◌, ◌<ℤ◌, List, [], ◌∷◌, map, length, get_or, slice_get, Some, None, arith, refl, ap, sym, subst, ◌∙◌, ◌⊎◌, inl, inr, ⊎_elim}
+use Rattle.std.proofs.Common.{◌≡◌, ℕ, zero, suc, ◌<◌, ℤ, pos, ◌-ℤ◌, ◌*ℤ◌, ◌<ℤ◌, List, [], ◌∷◌, length, get_or, slice_get, Some, None, arith, ap, sym, subst, ◌∙◌}
 use Rattle.std.proofs.lemmas.Int.{ints}
-use Rattle.nef_exact.specs.Signs.{nought, sign, Lies}
-use Rattle.nef_exact.proofs.Ring.{ring, at, num, ◌⊕◌, ◌⊖◌, ◌⊗◌}
+use Rattle.nef_exact.specs.Signs.{Lies}
+use Rattle.nef_exact.proofs.Ring.{at, num, ◌⊖◌, ◌⊗◌}
 use Rattle.nef_exact.proofs.Combination.{given, none, follows_times}
 use Rattle.nef_exact.proofs.Order.{nought-is}
 use Rattle.nef_space.specs.Local.{Flat}
 use Rattle.nef_space.specs.Place.{Place, Form, form_at, slope, normal_of, toward, SamePlace, IsBetween}
 use Rattle.nef_space.specs.Sets.{Set}
-use Rattle.nef_space.specs.Vectors.{Vector, cross, IsZero, IsDirection}
+use Rattle.nef_space.specs.Vectors.{cross, IsZero, IsDirection}
 use Rattle.nef_geo.specs.Shapes.{place_of, form_of}
 use Rattle.nef_geo.specs.declared.plane.Plane.{Plane}
 use Rattle.nef_geo.specs.declared.point.Point.{Point}
 use Rattle.nef_forms.proofs.Directions.{direction-left}
 use Rattle.nef_forms.proofs.Near.{slope-toward}
-use Rattle.nef_near.specs.Cells.{sign_at, carriers}
+use Rattle.nef_near.specs.Cells.{carriers}
 use Rattle.nef_near.specs.Laws.{EdgeSupport}
 use Rattle.nef_near.proofs.Edges.{start, start-between, start-toward}
 use Rattle.nef_near.proofs.FlatDecided.{parallel-both}
 use Rattle.nef_near.proofs.Supports.{edge-support}
-use Rattle.nef_sphere.specs.Maps.{At, way_of}
+use Rattle.nef_sphere.specs.Maps.{At}
 use Rattle.nef_sphere.proofs.Lists.{at-one}
 use Rattle.nef_smap.proofs.Lists.{map-at, at-map, at-within, get-at}
 use Rattle.nef_solid.specs.Complexes.{HasEnds}
-use Rattle.nef_solid.specs.Complexes.{Vertex as PlainVertex, Edge as PlainEdge, Complex as PlainComplex}
-use Rattle.nef_solid.specs.Shows.{Shows, SamePlane}
+use Rattle.nef_solid.specs.Complexes.{Vertex as PlainVertex, Edge as PlainEdge}
+use Rattle.nef_solid.specs.Shows.{SamePlane}
 use Rattle.nef_solid.proofs.Edges.{edge-points, edge-way}
 use Rattle.nef_solid.proofs.Planes.{plane-turned, plane-point}
 use Rattle.nef_complex.specs.declared.complex.Vertex.{Vertex}
 use Rattle.nef_complex.specs.declared.complex.Edge.{Edge}
 use Rattle.nef_complex.specs.declared.complex.Complex.{Complex}
 use Rattle.nef_complex.specs.Complexes.{vertex_of, edge_of, complex_of, ShowsSet}
-use Rattle.nef_cand.specs.Candidates.{IsVertexOf, IsCutBy}
+use Rattle.nef_cand.specs.Candidates.{IsVertexOf}
 use Rattle.nef_cand.specs.Points.{HoldsBoth, AreHeldByTwo, IsCrossing, CrossesOne, CutsOne, Adds}
 use Rattle.nef_cand.proofs.Adding.{adds-as, AnyAt}
 
@@ -109,9 +109,18 @@ module _ (s : Set) (c : Complex) (S : ShowsSet s c) (k : ℕ) (e : Edge) (a : At
         let E = support in
         let z = (E.flat_in (toward (place_of u.point) (place_of v.point))).0 along in
         let g = plane-of E.first E.first_listed (through-both E.first (place_of u.point) (place_of v.point) apart (nought-is (form_at E.first (start 1 (place_of u.point) (place_of v.point))) E.first_passes) z.0) in
-        let h = plane-of E.second E.second_listed (through-both E.second (place_of u.point) (place_of v.point) apart (nought-is (form_at E.second (start 1 (place_of u.point) (place_of v.point))) E.second_passes) z.1) in
-        (g.0, h.0, g.1, h.1, g.2, h.2, g.4, h.4, λ o. E.independent (parallel-both (normal_of (form_of g.1)) (normal_of E.first) (normal_of E.second) g.3.is_plane (same-parallel (form_of g.1) E.first g.3)
-        (same-parallel (form_of g.1) E.second (subst (λ (r : Plane). SamePlane (form_of r) E.second) (sym o) h.3))))
+        let h = plane-of E.second E.second_listed (through-both E.second (place_of u.point) (place_of v.point) apart (nought-is (form_at E.second (start 1 (place_of u.point) (place_of v.point))) E.second_passes) z.1) in (
+          g.0,
+          h.0,
+          g.1,
+          h.1,
+          g.2,
+          h.2,
+          g.4,
+          h.4,
+          λ o. E.independent (parallel-both (normal_of (form_of g.1)) (normal_of E.first) (normal_of E.second) g.3.is_plane (same-parallel (form_of g.1) E.first g.3)
+              (same-parallel (form_of g.1) E.second (subst (λ (r : Plane). SamePlane (form_of r) E.second) (sym o) h.3))),
+        )
 
 -- ---- the cuts of an edge
 -- one of the planes crosses the edge at y
@@ -143,9 +152,24 @@ cuts-all c hs ps qs = adds-as (AnyAt (CutsEdge c hs) c.edges) (CutsOne (complex_
             → form_at (form_of h) y ≡ pos 0 → (HoldsBoth (form_of h) v.point w.point → ⊥) → AnyAt (CutsEdge c hs) c.edges y
         from y i h b k e a v w H m o n =
             let u = at-map vertex_of c.vertices e.low v H.low in
-            let t = at-map vertex_of c.vertices e.high w H.high in
-            (k, e, a, (u.0, t.0, u.1, t.1, (i, h, b, subst (λ (r : PlainVertex). IsCrossing (form_of h) r.point (place_of t.0.point) y) (sym u.2)
-            (subst (λ (r : PlainVertex). IsCrossing (form_of h) v.point r.point y) (sym t.2) (record { between = m; on = o; parts = n })))))
+            let t = at-map vertex_of c.vertices e.high w H.high in (
+              k,
+              e,
+              a,
+              (
+                u.0,
+                t.0,
+                u.1,
+                t.1,
+                (
+                  i,
+                  h,
+                  b,
+                  subst (λ (r : PlainVertex). IsCrossing (form_of h) r.point (place_of t.0.point) y) (sym u.2)
+                      (subst (λ (r : PlainVertex). IsCrossing (form_of h) v.point r.point y) (sym t.2) (record { between = m; on = o; parts = n })),
+                ),
+              ),
+            )
 
 -- ---- the vertices
 pub vertices-all : (c : Complex) (ps qs : List Point) → Adds (AnyAt (λ (u : Vertex) (y : Place). SamePlace (place_of u.point) y) c.vertices) ps qs → Adds (IsVertexOf (complex_of c)) ps qs

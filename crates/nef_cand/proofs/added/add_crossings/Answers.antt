@@ -1,4 +1,4 @@
-use Rattle.std.proofs.Common.{◌≡◌, sym, subst, rules, ◌∙◌, ap}
+use Rattle.std.proofs.Common.{sym, subst, ◌∙◌, ap}
 use Rattle.nef_space.specs.Place.{Place}
 use Rattle.nef_geo.specs.Shapes.{place_of, form_of}
 use Rattle.nef_geo.specs.declared.plane.Plane.{Plane}
@@ -14,9 +14,9 @@ loop-h-preserved c =
       added = any-more (λ (g : Plane) (y : Place). IsCrossing (form_of g) p q y) c.args.planes.now c.loop-h.h-index h c.args.points.now.items c.loop-h.points.items c.match-crossing.points.items
           c.loop-h-test.true c.h-item.is c.loop-h.invariant.added
           (elim c.match-crossing.branch [
-            in-Some+in_ok-push w ↦ subst (Adds (IsCrossing (form_of h) p q) c.loop-h.points.items) (sym (ap (λ v. v.items) w.points-is ∙ w.in_ok-push.ensures.items))
+            | in-Some+in_ok-push w ↦ subst (Adds (IsCrossing (form_of h) p q) c.loop-h.points.items) (sym (ap (λ v. v.items) w.points-is ∙ w.in_ok-push.ensures.items))
                 (adds-one (IsCrossing (form_of h) p q) c.loop-h.points.items w.in-Some.point w.in-Some.ensures.crossing.0 w.in-Some.ensures.crossing.1)
-          | in_default w ↦ subst (Adds (IsCrossing (form_of h) p q) c.loop-h.points.items) (sym (ap (λ v. v.items) w.points-is))
+            | in_default w ↦ subst (Adds (IsCrossing (form_of h) p q) c.loop-h.points.items) (sym (ap (λ v. v.items) w.points-is))
                 (adds-none (IsCrossing (form_of h) p q) c.loop-h.points.items w.in_default.ensures.crossing)
           ]);
     }

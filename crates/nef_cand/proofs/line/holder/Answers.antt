@@ -1,4 +1,4 @@
-use Rattle.std.proofs.Common.{◌≡◌, arith, rules}
+use Rattle.std.proofs.Common.{arith, rules}
 use Rattle.nef_geo.specs.Shapes.{place_of, form_of}
 use Rattle.nef_smap.proofs.Lists.{at-within}
 use Rattle.nef_cand.specs.Points.{HoldsBoth}

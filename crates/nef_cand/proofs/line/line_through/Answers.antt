@@ -1,5 +1,5 @@
 use Rattle.nef_geo.specs.Shapes.{place_of}
-use Rattle.nef_cand.proofs.Planes.{line-of, never-none, never-one}
+use Rattle.nef_cand.proofs.Planes.{line-of}
 use Rattle.nef_cand.proofs.line.line_through.Goals as goal
 
 pub returns : goal.returns

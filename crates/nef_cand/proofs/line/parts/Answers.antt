@@ -1,7 +1,7 @@
-use Rattle.std.proofs.Common.{◌≡◌, IsTrue, ℤ, pos, ◌<ℤ◌, rules, sym, ◌∙◌}
+use Rattle.std.proofs.Common.{◌≡◌, IsTrue, rules, sym, ◌∙◌}
 use Rattle.nef_space.specs.Place.{form_at}
 use Rattle.nef_geo.specs.Shapes.{form_of, place_of}
-use Rattle.nef_geo.specs.declared.sign.Sign.TheVariants.{Minus, Zero, Plus}
+use Rattle.nef_geo.specs.declared.sign.Sign.TheVariants.{Minus, Plus}
 use Rattle.nef_arc.proofs.SignNumbers.{not_true}
 use Rattle.nef_cand.proofs.Signs.{parted-below, below-parted, parted-level, parted-above, above-parted}
 use Rattle.nef_cand.proofs.line.parts.Goals as goal

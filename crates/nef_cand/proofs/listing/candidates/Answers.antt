@@ -1,9 +1,8 @@
-use Rattle.std.proofs.Common.{List, [], sym, subst}
-use Rattle.nef_geo.specs.declared.plane.Plane.{Plane}
+use Rattle.std.proofs.Common.{List, subst}
 use Rattle.nef_geo.specs.declared.point.Point.{Point}
 use Rattle.nef_complex.specs.Complexes.{complex_of}
 use Rattle.nef_cand.specs.Candidates.{IsVertexOf}
-use Rattle.nef_cand.specs.Points.{Adds, CutsOne}
+use Rattle.nef_cand.specs.Points.{Adds}
 use Rattle.nef_cand.proofs.Complete.{listed-all, vertices-listed}
 use Rattle.nef_cand.proofs.listing.candidates.Goals as goal
 
