@@ -161,7 +161,8 @@ one-cuts : (C : Complex) (h : Plane) (y : Place) → CutsOne C (h ∷ []) y → 
 one-cuts C h y (zero, g, a, x) = subst (λ (r : Plane). IsCutBy C (form_of r) y) (sym a) x
 one-cuts C h y (suc i, g, a, x) = absurd a
 
-pub cut-all : (C : Complex) (h : Plane) (hs : List Plane) → hs ≡ h ∷ [] → (ps qs rs : List Point) → Adds (IsVertexOf C) [] ps → Adds (CutsOne C hs) ps qs → ArePlacesInOrder rs → ((p : Point) → Contains qs p ↔ Contains rs p) → AreCutCandidates C (form_of h) rs
+pub cut-all : (C : Complex) (h : Plane) (hs : List Plane) → hs ≡ h ∷ [] → (ps qs rs : List Point) → Adds (IsVertexOf C) [] ps → Adds (CutsOne C hs) ps qs
+    → ArePlacesInOrder rs → ((p : Point) → Contains qs p ↔ Contains rs p) → AreCutCandidates C (form_of h) rs
 cut-all C h hs one ps qs rs first second order same =
     added-exactly (λ y. IsVertexOf C y ⊎ IsCutBy C (form_of h) y) qs rs
     (adds-both (IsVertexOf C) (IsCutBy C (form_of h)) (λ y. IsVertexOf C y ⊎ IsCutBy C (form_of h) y) [] ps qs first

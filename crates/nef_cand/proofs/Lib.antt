@@ -6,3 +6,4 @@ pub mod Held
 pub mod Order
 pub mod Complete
 pub mod Halves
+pub mod Framed

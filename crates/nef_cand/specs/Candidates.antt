@@ -1,7 +1,7 @@
 -- The points that may be vertices of a combination of two sets, and of a half.
 use Rattle.std.specs.Prelude.{◌≡◌, ℕ, pos, ◌⊎◌, List}
 use Rattle.std.specs.List.{Contains}
-use Rattle.nef_space.specs.Place.{Place, Form, form_at, SamePlace, IsPlaceBelow, IsBetween}
+use Rattle.nef_space.specs.Place.{Place, Form, form_at, SamePlace, InClosedFrame, IsPlaceBelow, IsBetween}
 use Rattle.nef_space.specs.Sets.{Set}
 use Rattle.nef_space.specs.Local.{IsVertex}
 use Rattle.nef_geo.specs.Shapes.{place_of}
@@ -22,13 +22,18 @@ pub record AreExactly (P : Place → Type 0) (ps : List Point) : Type 0 where
   pub each : (p : Point) → Contains ps p → P (place_of p)
   pub all : (y : Place) → P y → IsListed ps y
 
+-- the points lie in the closed frame
+abbrev pub AreFramed : List Point → Type 0
+AreFramed ps = (p : Point) → Contains ps p → InClosedFrame (place_of p)
+
 -- y is a vertex of the complex
 abbrev pub IsVertexOf : Complex → Place → Type 0
 IsVertexOf C y = (k : ℕ) × IsVertexPoint C k y
 
 -- y lies strictly inside an edge of the complex and on the plane h, which doesn't hold the edge
 abbrev pub IsCutBy : Complex → Form → Place → Type 0
-IsCutBy C h y = (k : ℕ) × (e : Edge) × (v : Vertex) × (w : Vertex) × At C.edges k e × HasEnds C e v w × IsBetween v.point y w.point × (form_at h y ≡ pos 0) × (HoldsEdge h v w → ⊥)
+IsCutBy C h y = (k : ℕ) × (e : Edge) × (v : Vertex) × (w : Vertex) × At C.edges k e × HasEnds C e v w × IsBetween v.point y w.point
+    × (form_at h y ≡ pos 0) × (HoldsEdge h v w → ⊥)
 
 -- the vertices of both complexes, and the points where an edge of the one crosses a carrier of the other
 abbrev pub AreCandidates : Complex → Complex → List Point → Type 0

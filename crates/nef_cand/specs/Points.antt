@@ -1,7 +1,7 @@
 -- Points added to a list, and where a plane parts an edge.
 use Rattle.std.specs.Prelude.{◌≡◌, ℕ, pos, ◌⊎◌, List}
 use Rattle.std.specs.List.{Contains}
-use Rattle.nef_space.specs.Place.{Place, Form, form_at, normal_of, IsBetween}
+use Rattle.nef_space.specs.Place.{Place, Form, form_at, normal_of, SamePlace, IsBetween}
 use Rattle.nef_space.specs.Vectors.{IsDirection, cross}
 use Rattle.nef_geo.specs.Shapes.{place_of, form_of}
 use Rattle.nef_geo.specs.declared.plane.Plane.{Plane}
@@ -21,9 +21,18 @@ pub record Adds (P : Place → Type 0) (ps qs : List Point) : Type 0 where
 abbrev pub HoldsBoth : Form → Place → Place → Type 0
 HoldsBoth h p q = (form_at h p ≡ pos 0) × (form_at h q ≡ pos 0)
 
+-- none of the planes has P
+abbrev pub HasNone : (Plane → Type 0) → List Plane → Type 0
+HasNone P hs = (k : ℕ) (h : Plane) → At hs k h → P h → ⊥
+
+-- the plane holds both points and is another than g
+abbrev pub IsOtherHolder : Plane → Place → Place → Plane → Type 0
+IsOtherHolder g p q h = HoldsBoth (form_of h) p q × (h ≡ g → ⊥)
+
 -- two different planes of the list hold both points
 abbrev pub AreHeldByTwo : List Plane → Place → Place → Type 0
-AreHeldByTwo hs p q = (i : ℕ) × (k : ℕ) × (g : Plane) × (h : Plane) × At hs i g × At hs k h × HoldsBoth (form_of g) p q × HoldsBoth (form_of h) p q × (g ≡ h → ⊥)
+AreHeldByTwo hs p q = (i : ℕ) × (k : ℕ) × (g : Plane) × (h : Plane) × At hs i g × At hs k h
+    × HoldsBoth (form_of g) p q × HoldsBoth (form_of h) p q × (g ≡ h → ⊥)
 
 -- the planes of the line hold both points, and their normals aren't parallel
 pub record IsLineThrough (l : Line) (p q : Place) : Type 0 where
@@ -36,6 +45,10 @@ pub record IsCrossing (h : Form) (p q y : Place) : Type 0 where
   pub between : IsBetween p y q
   pub on : form_at h y ≡ pos 0
   pub parts : HoldsBoth h p q → ⊥
+
+-- y is the one point where the plane crosses the segment from p to q
+abbrev pub IsOnlyCrossing : Form → Place → Place → Place → Type 0
+IsOnlyCrossing h p q y = IsCrossing h p q y × ((z : Place) → IsCrossing h p q z → SamePlace y z)
 
 -- one of the planes crosses the segment from p to q at y
 abbrev pub CrossesOne : List Plane → Place → Place → Place → Type 0

@@ -1,13 +1,11 @@
 //! The line of an edge, and where a plane crosses the edge.
 
-ghost use Rattle.std.specs.Prelude.{◌≡◌, ℕ, ◌↔◌, IsTrue};
+ghost use Rattle.std.specs.Prelude.{◌≡◌, ◌↔◌, IsTrue};
 ghost use Rattle.std.specs.Option.{MatchOption};
-ghost use Rattle.nef_space.specs.Place.{Place, SamePlace, form_at};
+ghost use Rattle.nef_space.specs.Place.{Place, form_at};
 ghost use Rattle.nef_geo.specs.Shapes.{place_of, form_of};
 ghost use Rattle.nef_geo.specs.Steps.{HasOppositeSigns};
-ghost use Rattle.nef_geo.specs.declared.plane.Plane.{Plane as PlaneValue};
-ghost use Rattle.nef_sphere.specs.Maps.{At};
-ghost use Rattle.nef_cand.specs.Points.{HoldsBoth, AreHeldByTwo, IsLineThrough, IsCrossing};
+ghost use Rattle.nef_cand.specs.Points.{HoldsBoth, HasNone, IsOtherHolder, AreHeldByTwo, IsLineThrough, IsCrossing, IsOnlyCrossing};
 
 use nef_geo::{Plane, Point, Sign, meet, side};
 
@@ -26,7 +24,7 @@ fn holds_both(h: &Plane, p: &Point, q: &Point) -> bool
 
 // The first of the planes that holds both points.
 fn holder(planes: &[Plane], p: &Point, q: &Point) -> Option<Plane>
-    ensures holder { MatchOption result ((k : ℕ) (h : PlaneValue) → At planes.now k h → HoldsBoth (form_of h) (place_of p.now) (place_of q.now) → ⊥) (λ h. HoldsBoth (form_of h) (place_of p.now) (place_of q.now)) }
+    ensures holder { MatchOption result (HasNone (λ h. HoldsBoth (form_of h) (place_of p.now) (place_of q.now)) planes.now) (λ h. HoldsBoth (form_of h) (place_of p.now) (place_of q.now)) }
 {
     for h in planes {
         if holds_both(h, p, q) {
@@ -43,14 +41,14 @@ fn is_other(g: &Plane, h: &Plane) -> bool
 }
 
 fn is_other_holder(h: &Plane, p: &Point, q: &Point, besides: &Plane) -> bool
-    ensures holds { IsTrue result ↔ (HoldsBoth (form_of h.now) (place_of p.now) (place_of q.now) × (h.now ≡ besides.now → ⊥)) }
+    ensures holds { IsTrue result ↔ IsOtherHolder besides.now (place_of p.now) (place_of q.now) h.now }
 {
     holds_both(h, p, q) && is_other(h, besides)
 }
 
 // The first of the planes that holds both points and isn't `besides`.
 fn other_holder(planes: &[Plane], p: &Point, q: &Point, besides: &Plane) -> Option<Plane>
-    ensures holder { MatchOption result ((k : ℕ) (h : PlaneValue) → At planes.now k h → HoldsBoth (form_of h) (place_of p.now) (place_of q.now) × (h ≡ besides.now → ⊥) → ⊥) (λ h. HoldsBoth (form_of h) (place_of p.now) (place_of q.now) × (h ≡ besides.now → ⊥)) }
+    ensures holder { MatchOption result (HasNone (IsOtherHolder besides.now (place_of p.now) (place_of q.now)) planes.now) (IsOtherHolder besides.now (place_of p.now) (place_of q.now)) }
 {
     for h in planes {
         if is_other_holder(h, p, q, besides) {
@@ -89,7 +87,7 @@ fn parts(h: &Plane, p: &Point, q: &Point) -> bool
 /// part p and q.
 pub(crate) fn crossing(line: &Line, p: &Point, q: &Point, h: &Plane) -> Option<Point>
     requires line { IsLineThrough line.now (place_of p.now) (place_of q.now) }
-    ensures crossing { MatchOption result ((y : Place) → IsCrossing (form_of h.now) (place_of p.now) (place_of q.now) y → ⊥) (λ m. IsCrossing (form_of h.now) (place_of p.now) (place_of q.now) (place_of m) × ((y : Place) → IsCrossing (form_of h.now) (place_of p.now) (place_of q.now) y → SamePlace (place_of m) y)) }
+    ensures crossing { MatchOption result ((y : Place) → IsCrossing (form_of h.now) (place_of p.now) (place_of q.now) y → ⊥) (λ m. IsOnlyCrossing (form_of h.now) (place_of p.now) (place_of q.now) (place_of m)) }
 {
     if parts(h, p, q) {
         meet(&line.first, &line.second, h)

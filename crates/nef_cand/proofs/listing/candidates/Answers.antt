@@ -4,6 +4,7 @@ use Rattle.nef_complex.specs.Complexes.{complex_of}
 use Rattle.nef_cand.specs.Candidates.{IsVertexOf}
 use Rattle.nef_cand.specs.Points.{Adds}
 use Rattle.nef_cand.proofs.Complete.{listed-all, vertices-listed}
+use Rattle.nef_cand.proofs.Framed.{candidates-framed}
 use Rattle.nef_cand.proofs.listing.candidates.Goals as goal
 
 pub returns-clause-exactly : goal.returns-clause-exactly
@@ -16,3 +17,8 @@ returns-clause-exactly c =
 
 pub returns-clause-complete : goal.returns-clause-complete
 returns-clause-complete c = λ s t y S T v. vertices-listed s t (complex_of c.args.a.now) (complex_of c.args.b.now) c.sort_once.new.points.items y (returns-clause-exactly c) S.shows T.shows v
+
+pub returns-clause-framed : goal.returns-clause-framed
+returns-clause-framed c =
+    let S = c.requires.first in let T = c.requires.second in
+    candidates-framed S.0 T.0 c.args.a.now c.args.b.now c.sort_once.new.points.items S.1.shows T.1.shows (returns-clause-exactly c)

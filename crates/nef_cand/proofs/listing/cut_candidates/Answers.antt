@@ -5,6 +5,7 @@ use Rattle.nef_complex.specs.Complexes.{complex_of}
 use Rattle.nef_cand.specs.Candidates.{IsVertexOf}
 use Rattle.nef_cand.specs.Points.{Adds}
 use Rattle.nef_cand.proofs.Halves.{cut-all, half-listed}
+use Rattle.nef_cand.proofs.Framed.{cuts-framed}
 use Rattle.nef_cand.proofs.listing.cut_candidates.Goals as goal
 
 pub returns-clause-exactly : goal.returns-clause-exactly
@@ -16,3 +17,6 @@ returns-clause-exactly c =
 
 pub returns-clause-frame : goal.returns-clause-frame
 returns-clause-frame c = λ f closed y P S v. half-listed (complex_of c.args.c.now) S.shows (form_of c.args.h.now) f P closed y c.sort_once.new.points.items (returns-clause-exactly c) v
+
+pub returns-clause-framed : goal.returns-clause-framed
+returns-clause-framed c = let S = c.requires.shows in cuts-framed S.0 c.args.c.now (form_of c.args.h.now) c.sort_once.new.points.items S.1.shows (returns-clause-exactly c)
