@@ -73,9 +73,6 @@ abbrev pub AnyAt : {X : Type 0} → (X → Place → Type 0) → List X → Plac
 AnyAt {X} P xs y = (k : ℕ) × (x : X) × At xs k x × P x y
 
 module _ {X : Type 0} (P : X → Place → Type 0) (xs : List X) where
-  pub any-none : (ps : List Point) → Adds (AnyFirst P xs 0) ps ps
-  any-none ps = adds-none (AnyFirst P xs 0) ps (λ y a. let l = a.2 in omega (arith, l))
-
   pub any-next : (i : ℕ) (x : X) (ps qs rs : List Point) → At xs i x → Adds (AnyFirst P xs i) ps qs → Adds (P x) qs rs → Adds (AnyFirst P xs (i + 1)) ps rs
   any-next i x ps qs rs here f g = adds-both (AnyFirst P xs i) (P x) (AnyFirst P xs (i + 1)) ps qs rs f g forth back
     where

@@ -18,7 +18,7 @@ use Rattle.nef_geo.proofs.Unique.{same_planes_equal}
 use Rattle.nef_arc.proofs.SignNumbers.{not_true}
 use Rattle.nef_sphere.specs.Maps.{At}
 use Rattle.nef_sphere.proofs.Lists.{at-one}
-use Rattle.nef_cand.specs.Points.{HoldsBoth, AreHeldByTwo, IsLineThrough}
+use Rattle.nef_cand.specs.Points.{HoldsBoth, IsLineThrough}
 use Rattle.nef_cand.proofs.Adding.{read-at}
 
 -- ---- the program's test of equality
@@ -59,6 +59,13 @@ tested-other g h e same =
     let equal : false ≡ true = e ∙ ap (plane_test g) (sym same) ∙ rw (itself g.a, itself g.b, itself g.c, itself g.d) refl in
     subst T (sym equal) tt
 
+pub other-tested : (g h : Plane) (r : Bool) → r ≡ not (plane_test g h) → IsTrue r ↔ (g ≡ h → ⊥)
+other-tested g h r e = by (plane_test g h) refl
+  where
+    by : (b : Bool) → plane_test g h ≡ b → IsTrue r ↔ (g ≡ h → ⊥)
+    by true q = (λ t. absurd (not_true (sym (e ∙ ap not q) ∙ t)), λ n. absurd (n (tested-equal g h (sym q))))
+    by false q = (λ t. tested-other g h (sym q), λ n. e ∙ ap not q)
+
 -- ---- two planes that hold one point and have parallel normals are one
 abbrev gp : Poly
 gp = at 0 ⊗ at 8 ⊕ at 1 ⊗ at 9 ⊕ at 2 ⊗ at 10 ⊕ at 3 ⊗ at 11
@@ -97,17 +104,3 @@ pub none-more : (P : Plane → Type 0) (hs : List Plane) (i : ℕ) (g : Plane) �
 none-more P hs i g l e f n k h m a = ⊎_elim
     (λ o. λ p. n (subst P (at-one hs i h g (subst (λ (j : ℕ). At hs j h) o a) (read-at hs i g l e)) p)) (λ o. f k h o a)
     (eq-or-lt_of_le {n = k} {m = i} (omega (arith, m)))
-
--- the first is one of two, and the other isn't the first
-pub never-none : (hs : List Plane) (p q : Place) → AreHeldByTwo hs p q → ((k : ℕ) (h : Plane) → At hs k h → HoldsBoth (form_of h) p q → ⊥) → ⊥
-never-none hs p q (i, k, g, h, a, b, x, y, n) f = f i g a x
-
-pub never-one : (hs : List Plane) (p q : Place) (g : Plane) → AreHeldByTwo hs p q → ((k : ℕ) (h : Plane) → At hs k h → HoldsBoth (form_of h) p q × (h ≡ g → ⊥) → ⊥) → ⊥
-never-one hs p q r (i, k, g, h, a, b, x, y, n) f = f i g a (x, λ e. f k h b (y, λ o. n (e ∙ sym o)))
-
-pub other-tested : (g h : Plane) (r : Bool) → r ≡ not (plane_test g h) → IsTrue r ↔ (g ≡ h → ⊥)
-other-tested g h r e = by (plane_test g h) refl
-  where
-    by : (b : Bool) → plane_test g h ≡ b → IsTrue r ↔ (g ≡ h → ⊥)
-    by true q = (λ t. absurd (not_true (sym (e ∙ ap not q) ∙ t)), λ n. absurd (n (tested-equal g h (sym q))))
-    by false q = (λ t. tested-other g h (sym q), λ n. e ∙ ap not q)
