@@ -11,7 +11,6 @@ use Rattle.nef_sphere.specs.Least.{by_side}
 use Rattle.nef_solid.specs.Complexes.{Vertex, Edge, Complex, Corner, HasEnds, IsCorner}
 use Rattle.nef_solid.specs.Shows.{Shows}
 use Rattle.nef_solid.specs.Skeleton.{IsVertexPoint, IsEdgePoint, IsOnEdges, IsFacetPoint, Spot, IsSpot, IsSkeletonPoint, PlaneMeet, Meets, IsFirstInPlane, IsCornerAt, HasCorner}
-use Rattle.nef_solid.specs.Rays.{VertexSide, HasSideLabel, RayDown, HasVolumeSide}
 use Rattle.nef_solid.specs.Belongs.{SpotMark, Towards, SeesSpot, Belongs}
 
 -- ---- edges
@@ -69,14 +68,6 @@ SpotLabels = (s : Set) (C : Complex) (o : Spot) (y : Place) → Shows s C → Is
 abbrev pub FreeWay : Type 0
 FreeWay = (s : Set) (C : Complex) (p y : Place) (l : Label) → Shows s C → (IsSkeletonPoint C p → ⊥) → (SamePlace p y → ⊥)
     → ((q : Place) → IsBetween p q y → IsSkeletonPoint C q → ⊥) → HasLabel s p l → Germ s y (toward y p) l
-
--- a point of the frame off the skeleton has a side below it
-abbrev pub SideBelow : Type 0
-SideBelow = (s : Set) (C : Complex) (p : Place) → Shows s C → InFrame p → (IsSkeletonPoint C p → ⊥) → (x : VertexSide) × RayDown C p x
-
--- and each side that it has has its label
-abbrev pub SideLabel : Type 0
-SideLabel = (s : Set) (C : Complex) (p : Place) (x : VertexSide) (l : Label) → Shows s C → HasVolumeSide C p x → HasSideLabel C x l → HasLabel s p l
 
 -- a point belongs to a complex exactly where the set holds that the complex shows
 abbrev pub BelongsHolds : Type 0
