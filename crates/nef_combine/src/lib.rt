@@ -16,12 +16,11 @@ ghost use Rattle.nef_combine.specs.Sets.{op_set};
 #[cfg(test)]
 mod tests;
 
-pub use std::alloc::AllocError as OutOfMemory;
-
 use nef_smap::SphereMap;
 use nef_sover::overlay;
 use nef_spair::build;
 use nef_star::Op;
+pub use std::alloc::AllocError as OutOfMemory;
 use std::alloc::Global;
 
 /// The least map whose mark and labels are those of the operation on the marks and labels of two maps. Where the maps
@@ -41,5 +40,6 @@ pub fn combine(
     ensures cone { IfOk result (λ m. (s t : Set) (p : Place) → Cone (map_of a.now) s p → Cone (map_of b.now) t p → Cone (map_of m) (op_set op s t) p) }
 {
     let raw = overlay(alloc, a, b, op)?;
-    build(alloc, raw)
+    let map = build(alloc, raw)?;
+    Ok(map)
 }

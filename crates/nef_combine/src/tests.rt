@@ -16,6 +16,7 @@ use std::process::Abort;
 use std::test::Fail;
 
 const NOT: Label = Label::Not;
+
 const IN: Label = Label::In;
 
 fn dir(rt: &impl Abort, d: (i8, i8, i8)) -> Dir
@@ -181,7 +182,10 @@ fn quarter(rt: HostRuntime) -> Result<(), Fail> {
     let b = below(&rt, rt.alloc(), (0, 1, 0), true);
     let m = combine(rt.alloc(), &a, &b, Op::And)?;
     assert_eq!(rt; m.mark, IN);
-    let ends = [svertex(&rt, (0, 0, -1), IN, None), svertex(&rt, (0, 0, 1), IN, None)];
+    let ends = [
+        svertex(&rt, (0, 0, -1), IN, None),
+        svertex(&rt, (0, 0, 1), IN, None),
+    ];
     assert_eq!(rt; m.svertices.as_slice(), ends.as_slice());
     let arcs = [
         arc(&rt, 0, 1, (0, 1, 0), (IN, NOT, IN)),
@@ -301,7 +305,12 @@ fn agrees(rt: &impl Abort, alloc: Global, k: u8) -> Result<bool, OutOfMemory> {
     let (a, b, c) = (normal_of(k), normal_of(k / 2 + 5), normal_of(k / 3 + 7));
     let (first, second) = (op_of(k), op_of(k / 4));
     let (closed, open) = (k % 2 == 0, k % 3 == 0);
-    let two = combine(alloc, &below(rt, alloc, a, closed), &below(rt, alloc, b, open), first)?;
+    let two = combine(
+        alloc,
+        &below(rt, alloc, a, closed),
+        &below(rt, alloc, b, open),
+        first,
+    )?;
     let map = combine(alloc, &two, &below(rt, alloc, c, true), second)?;
     for n in 0..27_u8 {
         if n == 13 {

@@ -42,10 +42,11 @@ pub record ShowsSet (s : Set) (c : Complex) : Type 0 where
   pub shows : Shows s (complex_of c)
   pub maps : (k : ℕ) (v : Vertex) → IsAt c.vertices k v → IsLeastMap v.map
 
--- with their edges these vertices, and these carriers, are a complex that shows the set
+-- sorted vertices with least maps, which with their edges and these carriers are a complex that shows the set
 pub record AreVerticesOf (s : Set) (carriers : List Plane) (vertices : List Vertex) : Type 0 where
-  pub shown : (es : List PlainEdge) → Edges (map vertex_of vertices) es → Shows s (record { carriers = map form_of carriers; vertices = map vertex_of vertices; edges = es })
+  pub sorted : AreSorted vertices
   pub maps : (k : ℕ) (v : Vertex) → IsAt vertices k v → IsLeastMap v.map
+  pub shown : (es : List PlainEdge) → Edges (map vertex_of vertices) es → Shows s (record { carriers = map form_of carriers; vertices = map vertex_of vertices; edges = es })
 
 -- the vertices before number k are below the point
 abbrev pub AreBelow : List Vertex → ℕ → Point → Type 0

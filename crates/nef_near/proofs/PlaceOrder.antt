@@ -13,11 +13,11 @@ weight p = let h = p.proper in omega (arith, ints)
 less_equal : (a b c d e f : ℤ) → pos 0 <ℤ d → pos 0 <ℤ f → (a *ℤ d) <ℤ (c *ℤ b) → c *ℤ f ≡ e *ℤ d → (a *ℤ f) <ℤ (e *ℤ b)
 less_equal a b c d e f hd hf h k =
     cancel_lt (a *ℤ f) (e *ℤ b) d hd (
-        let p = mul_lt_right (a *ℤ d) (c *ℤ b) f hf h in
-        let xs = a ∷ b ∷ c ∷ d ∷ e ∷ f ∷ [] in
-        let i = ring xs (at 0 ⊗ at 3 ⊗ at 5) (at 0 ⊗ at 5 ⊗ at 3) tt in
-        let j : c *ℤ b *ℤ f ≡ e *ℤ b *ℤ d = ring xs (at 2 ⊗ at 1 ⊗ at 5) (at 2 ⊗ at 5 ⊗ at 1) tt ∙ ap_right k ∙ ring xs (at 4 ⊗ at 3 ⊗ at 1) (at 4 ⊗ at 1 ⊗ at 3) tt in
-        omega (arith, ints))
+    let p = mul_lt_right (a *ℤ d) (c *ℤ b) f hf h in
+    let xs = a ∷ b ∷ c ∷ d ∷ e ∷ f ∷ [] in
+    let i = ring xs (at 0 ⊗ at 3 ⊗ at 5) (at 0 ⊗ at 5 ⊗ at 3) tt in
+    let j : c *ℤ b *ℤ f ≡ e *ℤ b *ℤ d = ring xs (at 2 ⊗ at 1 ⊗ at 5) (at 2 ⊗ at 5 ⊗ at 1) tt ∙ ap_right k ∙ ring xs (at 4 ⊗ at 3 ⊗ at 1) (at 4 ⊗ at 1 ⊗ at 3) tt in
+    omega (arith, ints))
   where
     ap_right : c *ℤ f ≡ e *ℤ d → c *ℤ f *ℤ b ≡ e *ℤ d *ℤ b
     ap_right q = ap (λ r. r *ℤ b) q
@@ -26,11 +26,11 @@ less_equal a b c d e f hd hf h k =
 equal_less : (a b c d e f : ℤ) → pos 0 <ℤ b → pos 0 <ℤ d → a *ℤ d ≡ c *ℤ b → (c *ℤ f) <ℤ (e *ℤ d) → (a *ℤ f) <ℤ (e *ℤ b)
 equal_less a b c d e f hb hd k h =
     cancel_lt (a *ℤ f) (e *ℤ b) d hd (
-        let p = mul_lt_right (c *ℤ f) (e *ℤ d) b hb h in
-        let xs = a ∷ b ∷ c ∷ d ∷ e ∷ f ∷ [] in
-        let i : a *ℤ f *ℤ d ≡ c *ℤ f *ℤ b = ring xs (at 0 ⊗ at 5 ⊗ at 3) (at 0 ⊗ at 3 ⊗ at 5) tt ∙ ap (λ r. r *ℤ f) k ∙ ring xs (at 2 ⊗ at 1 ⊗ at 5) (at 2 ⊗ at 5 ⊗ at 1) tt in
-        let j = ring xs (at 4 ⊗ at 3 ⊗ at 1) (at 4 ⊗ at 1 ⊗ at 3) tt in
-        omega (arith, ints))
+    let p = mul_lt_right (c *ℤ f) (e *ℤ d) b hb h in
+    let xs = a ∷ b ∷ c ∷ d ∷ e ∷ f ∷ [] in
+    let i : a *ℤ f *ℤ d ≡ c *ℤ f *ℤ b = ring xs (at 0 ⊗ at 5 ⊗ at 3) (at 0 ⊗ at 3 ⊗ at 5) tt ∙ ap (λ r. r *ℤ f) k ∙ ring xs (at 2 ⊗ at 1 ⊗ at 5) (at 2 ⊗ at 5 ⊗ at 1) tt in
+    let j = ring xs (at 4 ⊗ at 3 ⊗ at 1) (at 4 ⊗ at 1 ⊗ at 3) tt in
+    omega (arith, ints))
 
 module _ (p q r : Place) where
   less : (a c e : ℤ) → (a *ℤ pos q.w) <ℤ (c *ℤ pos p.w) → (c *ℤ pos r.w) <ℤ (e *ℤ pos q.w) → (a *ℤ pos r.w) <ℤ (e *ℤ pos p.w)

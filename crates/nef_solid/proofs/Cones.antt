@@ -127,9 +127,9 @@ independent : (n d : Vector) → IsDirection n → IsDirection d → dot n d ≡
 independent n d i j e = direction-by n (cross d (cross n d)) (λ z.
     let h = mul_pos (dot d d) (dot n n) (self-pos d j) (self-pos n i) in
     let q = follows (n.x ∷ n.y ∷ n.z ∷ d.x ∷ d.y ∷ d.z ∷ [])
-        (at 0 ⊗ (at 4 ⊗ (at 0 ⊗ at 4 ⊖ at 1 ⊗ at 3) ⊖ at 5 ⊗ (at 2 ⊗ at 3 ⊖ at 0 ⊗ at 5)) ⊕ at 1 ⊗ (at 5 ⊗ (at 1 ⊗ at 5 ⊖ at 2 ⊗ at 4) ⊖ at 3 ⊗ (at 0 ⊗ at 4 ⊖ at 1 ⊗ at 3)) ⊕ at 2 ⊗ (at 3 ⊗ (at 2 ⊗ at 3 ⊖ at 0 ⊗ at 5) ⊖ at 4 ⊗ (at 1 ⊗ at 5 ⊖ at 2 ⊗ at 4)))
-        ((at 3 ⊗ at 3 ⊕ at 4 ⊗ at 4 ⊕ at 5 ⊗ at 5) ⊗ (at 0 ⊗ at 0 ⊕ at 1 ⊗ at 1 ⊕ at 2 ⊗ at 2))
-        (given (neg (at 0 ⊗ at 3 ⊕ at 1 ⊗ at 4 ⊕ at 2 ⊗ at 5)) (at 0 ⊗ at 3 ⊕ at 1 ⊗ at 4 ⊕ at 2 ⊗ at 5) (num (pos 0)) e none) tt in
+    (at 0 ⊗ (at 4 ⊗ (at 0 ⊗ at 4 ⊖ at 1 ⊗ at 3) ⊖ at 5 ⊗ (at 2 ⊗ at 3 ⊖ at 0 ⊗ at 5)) ⊕ at 1 ⊗ (at 5 ⊗ (at 1 ⊗ at 5 ⊖ at 2 ⊗ at 4) ⊖ at 3 ⊗ (at 0 ⊗ at 4 ⊖ at 1 ⊗ at 3)) ⊕ at 2 ⊗ (at 3 ⊗ (at 2 ⊗ at 3 ⊖ at 0 ⊗ at 5) ⊖ at 4 ⊗ (at 1 ⊗ at 5 ⊖ at 2 ⊗ at 4)))
+    ((at 3 ⊗ at 3 ⊕ at 4 ⊗ at 4 ⊕ at 5 ⊗ at 5) ⊗ (at 0 ⊗ at 0 ⊕ at 1 ⊗ at 1 ⊕ at 2 ⊗ at 2))
+    (given (neg (at 0 ⊗ at 3 ⊕ at 1 ⊗ at 4 ⊕ at 2 ⊗ at 5)) (at 0 ⊗ at 3 ⊕ at 1 ⊗ at 4 ⊕ at 2 ⊗ at 5) (num (pos 0)) e none) tt in
     omega (arith, ints, sym q ∙ z))
 
 -- so there are two independent ones

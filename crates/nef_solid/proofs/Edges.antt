@@ -134,7 +134,7 @@ module _ (s : Set) (C : Complex) (S : Shows s C) where
         let d : IsBetween q y w = between-rest v.point q y w c on in
         let f = near-one y to_y in
         let to_w : SameDirection u.way (toward q w) = SameDirection-trans u.way (toward v.point y) (toward q w) (SameDirection-turned (toward v.point y) u.way to_y)
-                (SameDirection-trans (toward v.point y) (toward y w) (toward q w) on (SameDirection-turned (toward q w) (toward y w) (way-end q y w d))) in
+        (SameDirection-trans (toward v.point y) (toward y w) (toward q w) on (SameDirection-turned (toward q w) (toward y w) (way-end q y w d))) in
         let even = go w q f (between-outer-of w y q c on) none (Flat-from_cone s q (toward q w) (flat-by_signs s q u.way (toward q w) (λ h _ _. slope-same h u.way (toward q w) to_w) (FlatCone-from_flat s q u.way (near-flat s v.point u.way y to_y)))) in
         let e : IsEven s 1 q y = λ r h. at-point w q y f even d r h in
         let same = even-germs s 1 q y e in
@@ -144,7 +144,8 @@ module _ (s : Set) (C : Complex) (S : Shows s C) where
           (labels-by_germs s q y same u.mark).0 (near-mark y to_y),
           λ g l. (
             λ h. near-label v.map s v.point K u.way g l some ((near-germs s v.point u.way y to_y g l).0 ((same g l).1 h)),
-            λ h. (same g l).0 ((near-germs s v.point u.way y to_y g l).1 (near-germ v.map s v.point K u.way g l h))),
+            λ h. (same g l).0 ((near-germs s v.point u.way y to_y g l).1 (near-germ v.map s v.point K u.way g l h)),
+          ),
         )
       where
         -- direction from q to w when y is between

@@ -73,8 +73,8 @@ module _ (s : Set) (p : Place) (M : Map) (K : Cone M s p) (L : Least M) (d : Vec
   not-smooth (inr P) =
       one.1 (sided-two s q P.normal d P.above P.label P.below
       (sided P.normal P.above P.label P.below P.level P.at_d (λ e i.
-          let l = by_side P.above P.label P.below (sign (dot P.normal e)) in
-          (near-germs s p d y w e l).1 (near-germ M s p K d e l (P.near e i))))
+      let l = by_side P.above P.label P.below (sign (dot P.normal e)) in
+      (near-germs s p d y w e l).1 (near-germ M s p K d e l (P.near e i))))
       P.direction some P.level)
 
   pub svertex-toward : Matched M d
@@ -152,8 +152,8 @@ module _ (s : Set) (C : Complex) (S : Shows s C) where
       backward =
           let h = self-pos (toward p q) i in
           let r : dot (toward p q) (toward q p) ≡ neg_ℤ (dot (toward p q) (toward p q)) = ring (p.x ∷ p.y ∷ p.z ∷ q.x ∷ q.y ∷ q.z ∷ pos p.w ∷ pos q.w ∷ [])
-                  ((at 3 ⊗ at 6 ⊖ at 0 ⊗ at 7) ⊗ (at 0 ⊗ at 7 ⊖ at 3 ⊗ at 6) ⊕ (at 4 ⊗ at 6 ⊖ at 1 ⊗ at 7) ⊗ (at 1 ⊗ at 7 ⊖ at 4 ⊗ at 6) ⊕ (at 5 ⊗ at 6 ⊖ at 2 ⊗ at 7) ⊗ (at 2 ⊗ at 7 ⊖ at 5 ⊗ at 6))
-                  (neg ((at 3 ⊗ at 6 ⊖ at 0 ⊗ at 7) ⊗ (at 3 ⊗ at 6 ⊖ at 0 ⊗ at 7) ⊕ (at 4 ⊗ at 6 ⊖ at 1 ⊗ at 7) ⊗ (at 4 ⊗ at 6 ⊖ at 1 ⊗ at 7) ⊕ (at 5 ⊗ at 6 ⊖ at 2 ⊗ at 7) ⊗ (at 5 ⊗ at 6 ⊖ at 2 ⊗ at 7))) tt in
+          ((at 3 ⊗ at 6 ⊖ at 0 ⊗ at 7) ⊗ (at 0 ⊗ at 7 ⊖ at 3 ⊗ at 6) ⊕ (at 4 ⊗ at 6 ⊖ at 1 ⊗ at 7) ⊗ (at 1 ⊗ at 7 ⊖ at 4 ⊗ at 6) ⊕ (at 5 ⊗ at 6 ⊖ at 2 ⊗ at 7) ⊗ (at 2 ⊗ at 7 ⊖ at 5 ⊗ at 6))
+          (neg ((at 3 ⊗ at 6 ⊖ at 0 ⊗ at 7) ⊗ (at 3 ⊗ at 6 ⊖ at 0 ⊗ at 7) ⊕ (at 4 ⊗ at 6 ⊖ at 1 ⊗ at 7) ⊗ (at 4 ⊗ at 6 ⊖ at 1 ⊗ at 7) ⊕ (at 5 ⊗ at 6 ⊖ at 2 ⊗ at 7) ⊗ (at 5 ⊗ at 6 ⊖ at 2 ⊗ at 7))) tt in
           omega (arith, ints);
     }
       where
@@ -277,6 +277,6 @@ module _ (s : Set) (C : Complex) (S : Shows s C) where
         let t : IsBetween v.point close w.1.point = between-same v.point close x v.point close w.1.point (same-itself v.point) (same-itself close) (same-place_sym w.1.point x w.3) close-between in
         let E = edge-between i w.0 v w.1 a w.2 (between-ends v.point close w.1.point t) (λ r h. all-one r (between-same v.point r w.1.point v.point r x (same-itself v.point) (same-itself r) w.3 h)) in
         let way : SameDirection E.source_end.way u.way = SameDirection-trans E.source_end.way (toward v.point w.1.point) u.way E.ahead
-                (SameDirection-trans (toward v.point w.1.point) (toward v.point close) u.way (SameDirection-turned (toward v.point close) (toward v.point w.1.point) (between-way v.point close w.1.point t)) (way-near s v.point u.way ahead_of ahead-way)) in
+        (SameDirection-trans (toward v.point w.1.point) (toward v.point close) u.way (SameDirection-turned (toward v.point close) (toward v.point w.1.point) (between-way v.point close w.1.point t)) (way-near s v.point u.way ahead_of ahead-way)) in
         let same : E.source ≡ k = (S.cones i v a).valid.shaped.svertices_apart E.source k E.source_end u E.leaves b way in
         (E.edge.number, E.edge.edge, E.edge.listed, ⊎_elim (λ c. inl (c.0, c.1 ∙ same)) (λ c. inr (c.2, c.3 ∙ same)) E.edge.joins)

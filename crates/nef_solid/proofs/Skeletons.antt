@@ -176,15 +176,15 @@ module _ (s : Set) (C : Complex) (S : Shows s C) (facet-at : FacetAt s C) (facet
 
   beyond-way : (p : Place) (d : Vector) → IsDirection d → SameDirection (toward p (beyond p d)) d
   beyond-way p d i = factor-same (toward p (beyond p d)) d (record {
-      k = 1;
-      l = way_factor p;
-      some_k = omega arith;
-      some_l = way_factor-some p;
-      is_x = each (toward p (beyond p d)).x d.x (ap (λ (v : Vector). v.x) (leads p d));
-      is_y = each (toward p (beyond p d)).y d.y (ap (λ (v : Vector). v.y) (leads p d));
-      is_z = each (toward p (beyond p d)).z d.z (ap (λ (v : Vector). v.z) (leads p d));
-      is_w = ring (pos (way_factor p) ∷ []) (num (pos 1) ⊗ num (pos 0)) (at 0 ⊗ num (pos 0)) tt;
-    }) (leads-somewhere p d i)
+    k = 1;
+    l = way_factor p;
+    some_k = omega arith;
+    some_l = way_factor-some p;
+    is_x = each (toward p (beyond p d)).x d.x (ap (λ (v : Vector). v.x) (leads p d));
+    is_y = each (toward p (beyond p d)).y d.y (ap (λ (v : Vector). v.y) (leads p d));
+    is_z = each (toward p (beyond p d)).z d.z (ap (λ (v : Vector). v.z) (leads p d));
+    is_w = ring (pos (way_factor p) ∷ []) (num (pos 1) ⊗ num (pos 0)) (at 0 ⊗ num (pos 0)) tt;
+  }) (leads-somewhere p d i)
     where
       each : (x e : ℤ) → x ≡ pos (way_factor p) *ℤ e +ℤ pos 0 *ℤ e → pos 1 *ℤ x ≡ pos (way_factor p) *ℤ e
       each x e h = ap (λ r. pos 1 *ℤ r) h ∙ ring (pos (way_factor p) ∷ e ∷ []) (num (pos 1) ⊗ (at 0 ⊗ at 1 ⊕ num (pos 0) ⊗ at 1)) (at 0 ⊗ at 1) tt

@@ -68,15 +68,15 @@ onward p d = step p (record { a = pos 1; b = 1; proper = omega arith }) d
 
 pub onward-way : (p : Place) (d : Vector) → IsDirection d → SameDirection (toward p (onward p d)) d
 onward-way p d i = SameDirection-turned d (toward p (onward p d)) (factor-same d (toward p (onward p d)) (record {
-    k = p.w * p.w;
-    l = 1;
-    some_k = mul-pos p.proper p.proper;
-    some_l = omega arith;
-    is_x = each p.x d.x;
-    is_y = each p.y d.y;
-    is_z = each p.z d.z;
-    is_w = ring (pos p.w ∷ []) (at 0 ⊗ at 0 ⊗ num (pos 0)) (num (pos 1) ⊗ num (pos 0)) tt;
-  }) i)
+  k = p.w * p.w;
+  l = 1;
+  some_k = mul-pos p.proper p.proper;
+  some_l = omega arith;
+  is_x = each p.x d.x;
+  is_y = each p.y d.y;
+  is_z = each p.z d.z;
+  is_w = ring (pos p.w ∷ []) (at 0 ⊗ at 0 ⊗ num (pos 0)) (num (pos 1) ⊗ num (pos 0)) tt;
+}) i)
   where
     each : (x e : ℤ) → pos (p.w * p.w) *ℤ e ≡ pos 1 *ℤ ((x *ℤ pos 1 +ℤ pos 1 *ℤ pos p.w *ℤ e) *ℤ pos p.w -ℤ x *ℤ pos (p.w * 1))
     each x e = ring (pos p.w ∷ x ∷ e ∷ []) (at 0 ⊗ at 0 ⊗ at 2) (num (pos 1) ⊗ ((at 1 ⊗ num (pos 1) ⊕ num (pos 1) ⊗ at 0 ⊗ at 2) ⊗ at 0 ⊖ at 1 ⊗ (at 0 ⊗ num (pos 1)))) tt
