@@ -256,6 +256,46 @@ fn corner(rt: HostRuntime) -> Result<(), Fail> {
     Ok(())
 }
 
+// x <= 0 with the closed octant where no coordinate is negative: an arc of three quarters.
+#[test]
+fn three_quarters(rt: HostRuntime) -> Result<(), Fail> {
+    let x = above(&rt, rt.alloc(), (1, 0, 0), true);
+    let y = above(&rt, rt.alloc(), (0, 1, 0), true);
+    let z = above(&rt, rt.alloc(), (0, 0, 1), true);
+    let two = combine(rt.alloc(), &x, &y, Op::And)?;
+    let octant = combine(rt.alloc(), &two, &z, Op::And)?;
+    let behind = below(&rt, rt.alloc(), (1, 0, 0), true);
+    let m = combine(rt.alloc(), &behind, &octant, Op::Or)?;
+    assert_eq!(rt; m.mark, IN);
+    let ends = [
+        svertex(&rt, (0, 0, 1), IN, None),
+        svertex(&rt, (0, 1, 0), IN, None),
+        svertex(&rt, (1, 0, 0), IN, None),
+    ];
+    assert_eq!(rt; m.svertices.as_slice(), ends.as_slice());
+    let arcs = [
+        arc(&rt, 2, 1, (0, 0, 1), (IN, IN, NOT)),
+        arc(&rt, 0, 2, (0, 1, 0), (IN, IN, NOT)),
+        arc(&rt, 0, 1, (1, 0, 0), (IN, NOT, IN)),
+    ];
+    assert_eq!(rt; m.arcs.as_slice(), arcs.as_slice());
+    Ok(())
+}
+
+// A point by itself.
+#[test]
+fn point(rt: HostRuntime) -> Result<(), Fail> {
+    let axis = line(&rt, rt.alloc(), (1, 0, 0), (0, 1, 0))?;
+    let level = plane(&rt, rt.alloc(), (0, 0, 1))?;
+    let m = combine(rt.alloc(), &axis, &level, Op::And)?;
+    assert_eq!(rt; m.mark, IN);
+    assert_eq!(rt; m.svertices.len(), 0);
+    assert_eq!(rt; m.sloop, None);
+    assert_eq!(rt; m.ground, Some(NOT));
+    assert_eq!(rt; kind(&m), Kind::Vertex);
+    Ok(())
+}
+
 fn coordinate(k: u8) -> i8 {
     match k % 3 {
         0 => -1,
