@@ -1,3 +1,4 @@
 pub mod Maps
 pub mod Sides
 pub mod Stars
+pub mod Above

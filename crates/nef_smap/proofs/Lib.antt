@@ -1,0 +1,2 @@
+pub mod Rise
+pub mod Over
