@@ -1,2 +1,3 @@
 pub mod Rise
 pub mod Over
+pub mod Lowest
