@@ -1,3 +1,5 @@
 pub mod Rise
 pub mod Over
 pub mod Lowest
+pub mod Stands
+pub mod Close

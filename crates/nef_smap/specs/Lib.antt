@@ -2,3 +2,4 @@ pub mod Maps
 pub mod Sides
 pub mod Stars
 pub mod Above
+pub mod Joined
