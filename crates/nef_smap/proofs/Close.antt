@@ -62,7 +62,7 @@ turn-self u d =
       ring xs ((dy ⊗ lz ⊖ dz ⊗ ly) ⊗ ux ⊕ (dz ⊗ lx ⊖ dx ⊗ lz) ⊗ uy ⊕ (dx ⊗ ly ⊖ dy ⊗ lx) ⊗ uz) (lx ⊗ lx ⊕ ly ⊗ ly ⊕ lz ⊗ lz) tt,
     )
 
-cross-last : (a b : Vector) → dot (cross a b) b ≡ pos 0
+pub cross-last : (a b : Vector) → dot (cross a b) b ≡ pos 0
 cross-last a b = ring (a.x ∷ a.y ∷ a.z ∷ b.x ∷ b.y ∷ b.z ∷ []) ((at 1 ⊗ at 5 ⊖ at 2 ⊗ at 4) ⊗ at 3 ⊕ (at 2 ⊗ at 3 ⊖ at 0 ⊗ at 5) ⊗ at 4 ⊕ (at 0 ⊗ at 4 ⊖ at 1 ⊗ at 3) ⊗ at 5) (num (pos 0)) tt
 
 -- a direction along the meet lies over d

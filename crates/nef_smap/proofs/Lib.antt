@@ -3,3 +3,4 @@ pub mod Over
 pub mod Lowest
 pub mod Stands
 pub mod Close
+pub mod Common
