@@ -4,3 +4,4 @@ pub mod Lowest
 pub mod Stands
 pub mod Close
 pub mod Common
+pub mod Labelled

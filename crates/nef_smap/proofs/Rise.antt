@@ -52,7 +52,7 @@ meridian-level M u m l = append-each (λ (m : Vector). dot m u ≡ pos 0) (gathe
     one n z m (inl e) = subst (λ (m : Vector). dot m u ≡ pos 0) e z
     one n z m (inr l) = absurd l
 
-lies-at : {A B : Type 0} (f : A → B) (xs : List A) (x : A) → Lies xs x → Lies (gather (λ (y : A). f y ∷ []) xs) (f x)
+pub lies-at : {A B : Type 0} (f : A → B) (xs : List A) (x : A) → Lies xs x → Lies (gather (λ (y : A). f y ∷ []) xs) (f x)
 lies-at f [] x l = absurd l
 lies-at f (y ∷ xs) x (inl e) = inl (ap f e)
 lies-at f (y ∷ xs) x (inr l) = inr (lies-at f xs x l)
