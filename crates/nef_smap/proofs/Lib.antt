@@ -5,3 +5,4 @@ pub mod Stands
 pub mod Close
 pub mod Common
 pub mod Labelled
+pub mod Clean
