@@ -6,3 +6,4 @@ pub mod Close
 pub mod Common
 pub mod Labelled
 pub mod Clean
+pub mod Settled
