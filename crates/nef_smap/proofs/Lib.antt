@@ -7,3 +7,4 @@ pub mod Common
 pub mod Labelled
 pub mod Clean
 pub mod Settled
+pub mod Pole
