@@ -8,3 +8,4 @@ pub mod Labelled
 pub mod Clean
 pub mod Settled
 pub mod Pole
+pub mod Upper
