@@ -9,3 +9,5 @@ pub mod Clean
 pub mod Settled
 pub mod Pole
 pub mod Upper
+pub mod Reached
+pub mod OneSface
