@@ -11,3 +11,9 @@ pub mod Pole
 pub mod Upper
 pub mod Reached
 pub mod OneSface
+pub mod MapLists
+pub mod SideLists
+pub mod NearSvertex
+pub mod FarWay
+pub mod SectorSees
+pub mod FirstMet

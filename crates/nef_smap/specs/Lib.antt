@@ -3,3 +3,5 @@ pub mod Sides
 pub mod Stars
 pub mod Above
 pub mod Joined
+pub mod Items
+pub mod Ways

@@ -6,7 +6,12 @@
 //! al., "Boolean Operations on 3D Selective Nef Complexes", ESA 2003.
 #![tactic(auto)]
 
+mod duplicate;
+mod item;
 mod map;
+mod side;
 
+pub use duplicate::copy;
 pub use map::{RawStars, SArc, SLoop, SPlace, SVertex, SphereMap};
+pub use side::{side_label, sides};
 pub use std::alloc::AllocError as OutOfMemory;

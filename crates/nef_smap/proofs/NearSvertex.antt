@@ -1,0 +1,250 @@
+-- Close to a svertex: on a ray of an arc that begins or ends there, or free.
+use Rattle.std.proofs.Common.{◌≡◌, ℕ, ◌<◌, ℤ, pos, ◌*ℤ◌, ◌<ℤ◌, arith, refl, sym, ◌⊎◌, inl, inr, ⊎_elim, [], ◌∷◌, subst}
+use Rattle.std.proofs.lemmas.Int.{ints}
+use Rattle.nef_exact.proofs.Ring.{ring, at, num, ◌⊕◌, ◌⊖◌, ◌⊗◌}
+use Rattle.nef_exact.proofs.Combination.{follows, given, none}
+use Rattle.nef_exact.proofs.Order.{by_order, mul_pos, mul_neg}
+use Rattle.nef_space.specs.Vectors.{Vector, IsDirection, triple, cross, dot, opposite, IsZero, SameDirection, blend}
+use Rattle.nef_cyclic.specs.Arcs.{IsStrictlyOn}
+use Rattle.nef_cyclic.proofs.Directions.{dot-opposite, level-same, same-first}
+use Rattle.nef_near.proofs.Decided.{Decided}
+use Rattle.nef_near.proofs.FlatDecided.{triple-dot, cross-turned}
+use Rattle.nef_forms.proofs.Directions.{dot-comm, self-pos}
+use Rattle.nef_sphere.specs.Maps.{At, Svertex, Arc, Map, Item, arc_item, loop_item, items, way_of, OnItem, IsFree, IsClear, Side, above_item, below_item, Shaped}
+use Rattle.nef_sphere.specs.Forms.{Keeps, arc_forms, forms}
+use Rattle.nef_sphere.proofs.Vectors.{triple-middle, normal-is, same-plus, same-minus}
+use Rattle.nef_sphere.proofs.Places.{kept-nought, kept-minus, SameDirection-decided}
+use Rattle.nef_sphere.proofs.Forms.{axes-forms, item-forms}
+use Rattle.nef_sphere.proofs.Parallel.{parallel-in_plane}
+use Rattle.nef_sphere.proofs.Lists.{at-one}
+use Rattle.nef_sphere.proofs.Shot.{arc-at}
+use Rattle.nef_sphere.proofs.Around.{opposite-triple, triple-turned, Beside, same_way, other_way, beside, IsStrictlyOn-back, direction-around, svertex-around}
+use Rattle.nef_sphere.proofs.Compare.{SameDirection-turned, SameDirection-trans}
+use Rattle.nef_sphere.proofs.StepOff.{blend-turned}
+use Rattle.nef_sphere.proofs.NearItems.{keeps-between, kept-not_opposite, opposite-turned}
+use Rattle.nef_sphere.proofs.Turn.{turn-last}
+use Rattle.nef_sphere.proofs.Arcs.{Ends, ends-of}
+
+-- ---- rays
+-- an arc that begins or ends at svertex k, seen from there
+pub record ArcRay (M : Map) (k : ℕ) : Type 0 where
+  pub number : ℕ
+  pub arc : Arc
+  pub listed : At M.arcs number arc
+  pub end : (arc.source ≡ k) ⊎ (arc.target ≡ k)
+
+abbrev pub end_left : {A B : Type 0} → Arc → A ⊎ B → Vector
+end_left a (inl e) = a.normal
+end_left a (inr e) = opposite a.normal
+
+abbrev pub end_side : {A B : Type 0} → ℕ → A ⊎ B → Side
+end_side i (inl e) = above_item i
+end_side i (inr e) = below_item i
+
+-- the direction to the left of the ray, and the arc's side there
+abbrev pub ray_left : {M : Map} {k : ℕ} → ArcRay M k → Vector
+ray_left r = end_left r.arc r.end
+
+abbrev pub ray_side : {M : Map} {k : ℕ} → ArcRay M k → Side
+ray_side r = end_side r.number r.end
+
+-- what lies in the plane of n through d, ahead, has n to its left
+pub left-ahead : (n d w : Vector) → dot n d ≡ pos 0 → dot n w ≡ pos 0 → pos 0 <ℤ triple n d w → SameDirection n (cross d w)
+left-ahead n d w a b h = record { parallel = by; forward = h }
+  where
+    -- n x (d x w) = d (n.w) - w (n.d)
+    by : IsZero (cross n (cross d w))
+    by =
+        let xs = n.x ∷ n.y ∷ n.z ∷ d.x ∷ d.y ∷ d.z ∷ w.x ∷ w.y ∷ w.z ∷ [] in
+        let o = num (pos 0) in
+        let nd = at 0 ⊗ at 3 ⊕ at 1 ⊗ at 4 ⊕ at 2 ⊗ at 5 in
+        let nw = at 0 ⊗ at 6 ⊕ at 1 ⊗ at 7 ⊕ at 2 ⊗ at 8 in
+        let x = at 4 ⊗ at 8 ⊖ at 5 ⊗ at 7 in
+        let y = at 5 ⊗ at 6 ⊖ at 3 ⊗ at 8 in
+        let z = at 3 ⊗ at 7 ⊖ at 4 ⊗ at 6 in (
+          follows xs (at 1 ⊗ z ⊖ at 2 ⊗ y) o (given (at 3) nw o b (given (o ⊖ at 6) nd o a none)) tt,
+          follows xs (at 2 ⊗ x ⊖ at 0 ⊗ z) o (given (at 4) nw o b (given (o ⊖ at 7) nd o a none)) tt,
+          follows xs (at 0 ⊗ y ⊖ at 1 ⊗ x) o (given (at 5) nw o b (given (o ⊖ at 8) nd o a none)) tt,
+        )
+
+opposite-level : (n d : Vector) → dot n d ≡ pos 0 → dot (opposite n) d ≡ pos 0
+opposite-level n d e = let f = dot-opposite n d in omega (arith, ints)
+
+-- ---- an arc close to one of its ends
+module _ (n s t d w : Vector) (hn : IsDirection n) (hs : IsDirection s) (ht : IsDirection t) (ls : dot n s ≡ pos 0) (lt : dot n t ≡ pos 0)
+    (k : Keeps (arc_forms n s t) d w) (ld : dot n d ≡ pos 0) (off : IsZero (cross d w) → ⊥) (o : IsStrictlyOn n s t w) where
+  not_level : triple n d w ≡ pos 0 → ⊥
+  not_level z = off (parallel-in_plane n d w hn ld o.on_circle.level z)
+
+  last-kept : triple n s d <ℤ pos 0 → triple n s w <ℤ pos 0
+  last-kept h = subst (λ (r : ℤ). r <ℤ pos 0) (sym (triple-dot n s w)) (kept-minus (cross n s) d w (k (cross n s) (inr (inl refl))) (subst (λ (r : ℤ). r <ℤ pos 0) (triple-dot n s d) h))
+
+  middle-kept : triple n d t <ℤ pos 0 → triple n w t <ℤ pos 0
+  middle-kept h = subst (λ (r : ℤ). r <ℤ pos 0) (sym (triple-middle n w t)) (kept-minus (cross t n) d w (k (cross t n) (inr (inr (inl refl)))) (subst (λ (r : ℤ). r <ℤ pos 0) (triple-middle n d t) h))
+
+  turned-minus : (a b : Vector) → triple n a b <ℤ pos 0 → pos 0 <ℤ triple n b a
+  turned-minus a b h = let e = triple-turned n b a in omega (arith, ints)
+
+  turned-plus : (a b : Vector) → pos 0 <ℤ triple n a b → triple n b a <ℤ pos 0
+  turned-plus a b h = let e = triple-turned n b a in omega (arith, ints)
+
+  -- the sign of a turn goes over to the same way, in front and behind
+  first-minus : (a b c : Vector) → SameDirection a b → triple n a c <ℤ pos 0 → triple n b c <ℤ pos 0
+  first-minus a b c q h = turned-plus c b (same-plus (triple n c a) (triple n c b) (turn-last n c a b q) (turned-minus a c h))
+
+  last-minus : (a b c : Vector) → SameDirection a b → triple n c a <ℤ pos 0 → triple n c b <ℤ pos 0
+  last-minus a b c q h = same-minus (triple n c a) (triple n c b) (turn-last n c a b q) h
+
+  -- behind the source is only the target
+  behind-source : SameDirection d s → triple n d w <ℤ pos 0 → SameDirection s t
+  behind-source q h = by_order (triple n s t) (pos 0)
+      (λ l. absurd (⊎_elim (λ u. let b = below in omega (arith, ints)) (λ u. let m = middle-kept (first-minus s d t (SameDirection-turned d s q) l) in omega (arith, ints)) (o.more_than_half l)))
+      (λ z. by (beside s t hs ht (parallel-in_plane n s t hn ls lt z)))
+      (λ l. let u = (o.less_than_half l).0 in let b = below in absurd (omega (arith, ints)))
+    where
+      below : triple n s w <ℤ pos 0
+      below = first-minus d s w q h
+
+      by : Beside s t → SameDirection s t
+      by (same_way z) = z
+      by (other_way z) = let u = o.just_half z in let b = below in absurd (omega (arith, ints))
+
+  -- an arc that ends at d, and doesn't begin there, is behind it
+  before-target : SameDirection d t → (SameDirection s d → ⊥) → triple n w d <ℤ pos 0 → ⊥
+  before-target q f h = by_order (triple n s t) (pos 0)
+      (λ l. ⊎_elim (λ u. let m = last-kept (last-minus t d s (SameDirection-turned d t q) l) in omega (arith, ints)) (λ u. let b = below in omega (arith, ints)) (o.more_than_half l))
+      (λ z. by (beside s t hs ht (parallel-in_plane n s t hn ls lt z)))
+      (λ l. let u = (o.less_than_half l).1 in let b = below in omega (arith, ints))
+    where
+      below : triple n w t <ℤ pos 0
+      below = last-minus d t w q h
+
+      by : Beside s t → ⊥
+      by (same_way z) = f (SameDirection-trans s t d z (SameDirection-turned d t q))
+      by (other_way z) =
+          let e = opposite-triple n t w s ht (cross-turned s t z.parallel) in
+          let c = dot-comm t s in
+          let b = z.backward in
+          let u = mul_pos (dot t t) (triple n s w) (self-pos t ht) (o.just_half z) in
+          let m = mul_neg (triple n t w) (dot t s) (turned-minus w t below) (omega (arith, ints)) in
+          omega (arith, ints)
+
+-- ---- close to svertex k
+module _ (M : Map) (V : Shaped M) (k : ℕ) (v : Svertex) (a : At M.svertices k v) (w : Vector) (kept : Keeps (forms M) v.way w) (off : IsDirection (cross v.way w)) where
+  abbrev d : Vector
+  d = v.way
+
+  -- w lies along a ray of the svertex
+  pub record AlongRay : Type 0 where
+    pub ray : ArcRay M k
+    pub along : SameDirection (ray_left ray) (cross d w)
+
+  module _ (i : ℕ) (r : Arc) (h : At (items M) i (arc_item r)) (o : OnItem M (arc_item r) w) where
+    abbrev n : Vector
+    n = r.normal
+
+    abbrev s : Vector
+    s = way_of M.svertices r.source
+
+    abbrev t : Vector
+    t = way_of M.svertices r.target
+
+    j : At M.arcs i r
+    j = arc-at M.arcs M.loop i r h
+
+    b : Ends M r
+    b = ends-of M V i r j
+
+    hn : IsDirection n
+    hn = normal-is V i (arc_item r) h
+
+    near : Keeps (arc_forms n s t) d w
+    near g l = kept g (item-forms M i (arc_item r) g h l)
+
+    begins : SameDirection s d → dot n d ≡ pos 0 → pos 0 <ℤ triple n d w → AlongRay
+    begins q ld p = record {
+      ray = record { number = i; arc = r; listed = j; end = inl (V.svertices_apart r.source k b.source v b.has_source a (subst (λ (x : Vector). SameDirection x d) b.source_is q)) };
+      along = left-ahead n d w ld o.on_circle.level p;
+    }
+
+    ends : SameDirection t d → dot n d ≡ pos 0 → triple n d w <ℤ pos 0 → AlongRay
+    ends q ld p = record {
+      ray = record { number = i; arc = r; listed = j; end = inr (V.svertices_apart r.target k b.target v b.has_target a (subst (λ (x : Vector). SameDirection x d) b.target_is q)) };
+      along = left-ahead (opposite n) d w (opposite-level n d ld) (opposite-level n w o.on_circle.level) (let e = dot-opposite n (cross d w) in omega (arith, ints));
+    }
+
+    level_at : (x : Vector) → SameDirection x d → dot n x ≡ pos 0 → dot n d ≡ pos 0
+    level_at x q z = level-same n x d q z
+
+    by : Decided (SameDirection s d) → Decided (SameDirection t d) → AlongRay
+    by (inl q) e = let ld = level_at s q b.source_level in by_order (triple n d w) (pos 0)
+        (λ l. ends (SameDirection-trans t s d (SameDirection-turned s t (behind-source n s t d w hn b.source_direction b.target_direction b.source_level b.target_level near ld off o (SameDirection-turned s d q) l)) q) ld l)
+        (λ z. absurd (off (parallel-in_plane n d w hn ld o.on_circle.level z)))
+        (λ l. begins q ld l)
+    by (inr f) (inl q) = let ld = level_at t q b.target_level in by_order (triple n d w) (pos 0)
+        (λ l. ends q ld l)
+        (λ z. absurd (off (parallel-in_plane n d w hn ld o.on_circle.level z)))
+        (λ l. absurd (before-target n s t d w hn b.source_direction b.target_direction b.source_level b.target_level near ld off o (SameDirection-turned t d q) f (let e = triple-turned n w d in omega (arith, ints))))
+    by (inr f) (inr g) = absurd (V.no_svertex_on_item k i v (arc_item r) a h
+        (IsStrictlyOn-back n s t d w hn b.source_direction b.target_direction b.source_level b.target_level near (V.svertex_ways k v a) f g o))
+
+    on_arc : AlongRay
+    on_arc = by (SameDirection-decided s d) (SameDirection-decided t d)
+
+  -- an item close to a svertex lies along one of its rays
+  pub near-ray : (i : ℕ) (x : Item) → At (items M) i x → OnItem M x w → AlongRay
+  near-ray i (arc_item r) h o = on_arc i r h o
+  near-ray i (loop_item l) h o = absurd (V.no_svertex_on_item k i v (loop_item l) a h
+      (record { direction = V.svertex_ways k v a; level = kept-nought l.normal d w (kept l.normal (item-forms M i (loop_item l) l.normal h (inl refl))) o.level }))
+
+  -- off the rays all is free
+  pub near-free : (AlongRay → ⊥) → IsFree M w
+  near-free n = record {
+    direction = direction-around M V d w kept (V.svertex_ways k v a);
+    off_svertices = λ i u b z.
+        let q = svertex-around M V d w kept i u b (V.svertex_ways k v a) z in
+        let e = V.svertices_apart i k u v b a q in
+        let f = at-one M.svertices k u v (subst (λ (r : ℕ). At M.svertices r u) e b) a in
+        let y = subst (λ (r : Svertex). SameDirection r.way w) f z in
+        off y.parallel;
+    off_items = λ i x h o. n (near-ray i x h o);
+  }
+
+-- no ray of the svertex runs along w
+abbrev pub Unrayed : Map → ℕ → Vector → Vector → Type 0
+Unrayed M k v w = (r : ArcRay M k) → SameDirection (ray_left r) (cross v w) → ⊥
+
+-- v x (i w + j v) = i (v x w)
+pub same-cross : (v w : Vector) (i j : ℕ) → 0 < i → IsDirection (cross v w) → SameDirection (cross v (blend i w j v)) (cross v w)
+same-cross v w i j si h =
+    let xs = v.x ∷ v.y ∷ v.z ∷ w.x ∷ w.y ∷ w.z ∷ pos i ∷ pos j ∷ [] in
+    let bx = at 6 ⊗ at 3 ⊕ at 7 ⊗ at 0 in
+    let by = at 6 ⊗ at 4 ⊕ at 7 ⊗ at 1 in
+    let bz = at 6 ⊗ at 5 ⊕ at 7 ⊗ at 2 in
+    let ax = at 1 ⊗ bz ⊖ at 2 ⊗ by in
+    let ay = at 2 ⊗ bx ⊖ at 0 ⊗ bz in
+    let az = at 0 ⊗ by ⊖ at 1 ⊗ bx in
+    let cx = at 1 ⊗ at 5 ⊖ at 2 ⊗ at 4 in
+    let cy = at 2 ⊗ at 3 ⊖ at 0 ⊗ at 5 in
+    let cz = at 0 ⊗ at 4 ⊖ at 1 ⊗ at 3 in
+    let o = num (pos 0) in
+    let e : dot (cross v (blend i w j v)) (cross v w) ≡ pos i *ℤ dot (cross v w) (cross v w) = ring xs (ax ⊗ cx ⊕ ay ⊗ cy ⊕ az ⊗ cz) (at 6 ⊗ (cx ⊗ cx ⊕ cy ⊗ cy ⊕ cz ⊗ cz)) tt in
+    let m = mul_pos (pos i) (dot (cross v w) (cross v w)) (omega (arith, ints)) (self-pos (cross v w) h) in
+    record {
+      parallel = (ring xs (ay ⊗ cz ⊖ az ⊗ cy) o tt, ring xs (az ⊗ cx ⊖ ax ⊗ cz) o tt, ring xs (ax ⊗ cy ⊖ ay ⊗ cx) o tt);
+      forward = omega (arith, ints);
+    }
+
+-- from close to the svertex the way to it is clear, off the rays
+pub near-clear : (M : Map) (V : Shaped M) (k : ℕ) (v : Svertex) (a : At M.svertices k v) (w : Vector) → Keeps (forms M) v.way w → IsDirection (cross v.way w) → Unrayed M k v.way w → IsClear M w v.way
+near-clear M V k v a w kept off free = record {
+  start = near-free M V k v a w kept off (λ r. free r.ray r.along);
+  direction = V.svertex_ways k v a;
+  short = λ q. kept-not_opposite v.way w (λ g l. kept g (axes-forms M g l)) (opposite-turned w v.way q);
+  between = λ i j si sj.
+      let q = same-cross v.way w i j si off in
+      near-free M V k v a (blend i w j v.way)
+      (subst (Keeps (forms M) v.way) (blend-turned j i v.way w) (keeps-between (forms M) v.way w j i sj si kept))
+      (same-first (cross v.way (blend i w j v.way)) (cross v.way w) q)
+      (λ r. free r.ray (SameDirection-trans (ray_left r.ray) (cross v.way (blend i w j v.way)) (cross v.way w) r.along q));
+}

@@ -1,0 +1,189 @@
+-- The sides of a map by their numbers: how many there are, where each stands, and that the map has it.
+use Rattle.std.proofs.Common.{◌≡◌, ℕ, zero, suc, ◌+◌, ◌*◌, ◌/◌, ◌%◌, ◌≤◌, ◌⊎◌, inl, inr, ⊎_elim, List, [], ◌∷◌, ◌++◌, length, map, Option, Some, None, cond, is_some, arith, add-zero, zero-add, length-append, refl, sym, ◌∙◌, ap, subst, slice_get}
+use lib.Dec.{eqb}
+use mir.Val.{bool_byte}
+use Rattle.std.specs.List.{filter_map, cons_option}
+use Rattle.nef_space.specs.Lists.{IsAt}
+use Rattle.nef_space.specs.declared.label.Label.{Label}
+use Rattle.nef_sphere.specs.Maps.{At, Svertex, Item, Map, items, item_above, item_below, Side, around_svertex, above_item, below_item, whole, HasSide}
+use Rattle.nef_smap.specs.declared.map.SVertex.{SVertex}
+use Rattle.nef_smap.specs.declared.map.SphereMap.{SphereMap}
+use Rattle.nef_smap.specs.Maps.{svertex_of, map_of}
+use Rattle.nef_smap.specs.Sides.{LabelledSide, labelled, svertex_sides, item_sides, sides_of, IsSide}
+
+-- ---- places in lists
+pub at-from_get : {X : Type 0} (xs : List X) (k : ℕ) (x : X) → slice_get xs k ≡ Some x → At xs k x
+at-from_get [] k x e = cc
+at-from_get (y ∷ ys) zero x e = cc
+at-from_get (y ∷ ys) (suc k) x e = at-from_get ys k x e
+
+pub get-from_at : {X : Type 0} (xs : List X) (k : ℕ) (x : X) → At xs k x → slice_get xs k ≡ Some x
+get-from_at [] k x a = absurd a
+get-from_at (y ∷ ys) zero x e = ap Some e
+get-from_at (y ∷ ys) (suc k) x a = get-from_at ys k x a
+
+pub at-left : {X : Type 0} (xs ys : List X) (k : ℕ) (x : X) → At xs k x → At (xs ++ ys) k x
+at-left [] ys k x a = absurd a
+at-left (z ∷ zs) ys zero x a = a
+at-left (z ∷ zs) ys (suc k) x a = at-left zs ys k x a
+
+pub at-right : {X : Type 0} (xs ys : List X) (k n : ℕ) (x : X) → n ≡ length xs + k → At ys k x → At (xs ++ ys) n x
+at-right [] ys k n x e a = subst (λ (r : ℕ). At ys r x) (let d : k ≡ n = omega arith in d) a
+at-right (z ∷ zs) ys k zero x e a = absurd (omega arith)
+at-right (z ∷ zs) ys k (suc n) x e a = at-right zs ys k n x (omega arith) a
+
+-- ---- how many
+pub length-item_sides : (k : ℕ) (xs : List Item) → length (item_sides k xs) ≡ 2 * length xs
+length-item_sides k [] = omega arith
+length-item_sides k (x ∷ xs) = let e = length-item_sides (suc k) xs in omega arith
+
+pub length-labelled : (o : Side) (f : Option Label) → length (labelled o f) ≡ cond (is_some f) 1 0
+length-labelled o None = refl
+length-labelled o (Some l) = refl
+
+pub length-svertex_sides : (k : ℕ) (vs : List SVertex) → length (svertex_sides k (map svertex_of vs)) ≡ length (filter_map (λ v. v.around) vs)
+length-svertex_sides k [] = refl
+length-svertex_sides k (v ∷ vs) = by v.around (length-svertex_sides (suc k) vs)
+  where
+    by : (f : Option Label) → length (svertex_sides (suc k) (map svertex_of vs)) ≡ length (filter_map (λ (v : SVertex). v.around) vs)
+        → length (labelled (around_svertex k) f ++ svertex_sides (suc k) (map svertex_of vs)) ≡ length (cons_option f (filter_map (λ (v : SVertex). v.around) vs))
+    by None e = e
+    by (Some l) e = omega arith
+
+pub length-sides : (m : SphereMap) → length (sides_of (map_of m)) ≡ length (filter_map (λ v. v.around) m.svertices) + 2 * length (items (map_of m)) + bool_byte (is_some m.ground)
+length-sides m =
+    let vs = svertex_sides 0 (map svertex_of m.svertices) in
+    let xs = item_sides 0 (items (map_of m)) in
+    let e = length-append (vs ++ xs) (labelled whole m.ground) in
+    let f = length-append vs xs in
+    let g = length-svertex_sides 0 m.svertices in
+    let h = length-item_sides 0 (items (map_of m)) in
+    let i : length (labelled whole m.ground) ≡ bool_byte (is_some m.ground) = by m.ground in omega arith
+  where
+    by : (f : Option Label) → length (labelled whole f) ≡ bool_byte (is_some f)
+    by None = refl
+    by (Some l) = refl
+
+-- ---- which one
+pub around-side : (k : ℕ) (vs : List SVertex) (s : ℕ) (l : Label) → slice_get (filter_map (λ v. v.around) vs) s ≡ Some l → (o : Side) × At (svertex_sides k (map svertex_of vs)) s (o, l)
+around-side k [] s l e = cc
+around-side k (v ∷ vs) s l e = by v.around s e (around-side (suc k) vs)
+  where
+    by : (f : Option Label) (s : ℕ) → slice_get (cons_option f (filter_map (λ (v : SVertex). v.around) vs)) s ≡ Some l
+        → ((s : ℕ) (l : Label) → slice_get (filter_map (λ (v : SVertex). v.around) vs) s ≡ Some l → (o : Side) × At (svertex_sides (suc k) (map svertex_of vs)) s (o, l))
+        → (o : Side) × At (labelled (around_svertex k) f ++ svertex_sides (suc k) (map svertex_of vs)) s (o, l)
+    by None s e go = go s l e
+    by (Some m) zero e go = (around_svertex k, let f : m ≡ l = cc in ap (λ (r : Label). (around_svertex k, r)) f)
+    by (Some m) (suc s) e go = go s l e
+
+pub item-side : (n : ℕ) (xs : List Item) (k : ℕ) (x : Item) → At xs k x
+    → At (item_sides n xs) (2 * k) (above_item (n + k), item_above x) × At (item_sides n xs) (2 * k + 1) (below_item (n + k), item_below x)
+item-side n [] k x a = absurd a
+item-side n (y ∷ xs) zero x a = rw (add-zero n) (ap (λ (r : Item). (above_item n, item_above r)) a, ap (λ (r : Item). (below_item n, item_below r)) a)
+item-side n (y ∷ xs) (suc k) x a =
+    let r = item-side (suc n) xs k x a in
+    let e : suc n + k ≡ n + suc k = omega arith in
+    let f : 2 * suc k ≡ suc (suc (2 * k)) = omega arith in
+    let g : 2 * suc k + 1 ≡ suc (suc (2 * k + 1)) = omega arith in (
+      rw f (subst (λ (i : ℕ). At (item_sides (suc n) xs) (2 * k) (above_item i, item_above x)) e r.0),
+      rw g (subst (λ (i : ℕ). At (item_sides (suc n) xs) (2 * k + 1) (below_item i, item_below x)) e r.1),
+    )
+
+-- ---- the sides of the program's maps
+module _ (m : SphereMap) where
+  abbrev arounds : List LabelledSide
+  arounds = svertex_sides 0 (map svertex_of m.svertices)
+
+  abbrev of_items : List LabelledSide
+  of_items = item_sides 0 (items (map_of m))
+
+  abbrev arounds_count : ℕ
+  arounds_count = length (filter_map (λ (v : SVertex). v.around) m.svertices)
+
+  pub side-around : (s : ℕ) (l : Label) → slice_get (filter_map (λ (v : SVertex). v.around) m.svertices) s ≡ Some l → (o : Side) × IsSide (map_of m) s o l
+  side-around s l e =
+      let r = around-side 0 m.svertices s l e in
+      (r.0, get-from_at (sides_of (map_of m)) s (r.0, l) (at-left (arounds ++ of_items) (labelled whole m.ground) s (r.0, l) (at-left arounds of_items s (r.0, l) r.1)))
+
+  of-items : (s i : ℕ) (y : LabelledSide) → s ≡ arounds_count + i → At of_items i y → IsAt (sides_of (map_of m)) s y
+  of-items s i y e a = get-from_at (sides_of (map_of m)) s y (at-left (arounds ++ of_items) (labelled whole m.ground) s y (at-right arounds of_items i s y (let f = length-svertex_sides 0 m.svertices in omega arith) a))
+
+  pub side-above : (s k : ℕ) (x : Item) → s ≡ arounds_count + 2 * k → At (items (map_of m)) k x → IsSide (map_of m) s (above_item k) (item_above x)
+  side-above s k x e a = of-items s (2 * k) (above_item k, item_above x) e (subst (λ (i : ℕ). At of_items (2 * k) (above_item i, item_above x)) (zero-add k) (item-side 0 (items (map_of m)) k x a).0)
+
+  pub side-below : (s k : ℕ) (x : Item) → s ≡ arounds_count + (2 * k + 1) → At (items (map_of m)) k x → IsSide (map_of m) s (below_item k) (item_below x)
+  side-below s k x e a = of-items s (2 * k + 1) (below_item k, item_below x) e (subst (λ (i : ℕ). At of_items (2 * k + 1) (below_item i, item_below x)) (zero-add k) (item-side 0 (items (map_of m)) k x a).1)
+
+  pub side-whole : (s : ℕ) (l : Label) → s ≡ arounds_count + 2 * length (items (map_of m)) → m.ground ≡ Some l → IsSide (map_of m) s whole l
+  side-whole s l e f =
+      let g = length-svertex_sides 0 m.svertices in
+      let h = length-item_sides 0 (items (map_of m)) in
+      let i = length-append arounds of_items in
+      get-from_at (sides_of (map_of m)) s (whole, l) (at-right (arounds ++ of_items) (labelled whole m.ground) 0 s (whole, l) (omega arith) (by m.ground f))
+    where
+      by : (g : Option Label) → g ≡ Some l → At (labelled whole g) 0 (whole, l)
+      by None e = cc
+      by (Some k) e = let f : k ≡ l = cc in ap (λ (r : Label). (whole, r)) f
+
+  pub side-item : (s n : ℕ) (x : Item) (l : Label) → s ≡ arounds_count + n → At (items (map_of m)) (n / 2) x → l ≡ cond (eqb (n % 2) 0) (item_above x) (item_below x) → (o : Side) × IsSide (map_of m) s o l
+  side-item s n x l e a f = by (n % 2) refl f
+    where
+      by : (r : ℕ) → r ≡ n % 2 → l ≡ cond (eqb r 0) (item_above x) (item_below x) → (o : Side) × IsSide (map_of m) s o l
+      by zero h g = (above_item (n / 2), subst (IsSide (map_of m) s (above_item (n / 2))) (sym g) (side-above s (n / 2) x (omega arith) a))
+      by (suc zero) h g = (below_item (n / 2), subst (IsSide (map_of m) s (below_item (n / 2))) (sym g) (side-below s (n / 2) x (omega arith) a))
+      by (suc (suc r)) h g = absurd (omega arith)
+
+pub get-past : {X : Type 0} (xs : List X) (s : ℕ) → slice_get xs s ≡ None → length xs ≤ s
+get-past [] s e = omega arith
+get-past (x ∷ xs) zero e = cc
+get-past (x ∷ xs) (suc s) e = let h = get-past xs s e in omega arith
+
+-- ---- what a numbered side is
+labelled-has : (p : Side) (f : Option Label) (s : ℕ) (o : Side) (l : Label) → At (labelled p f) s (o, l) → (o ≡ p) × (f ≡ Some l)
+labelled-has p None s o l a = absurd a
+labelled-has p (Some m) zero o l a = (sym (ap (λ (y : LabelledSide). y.0) a), ap (λ (y : LabelledSide). Some y.1) a)
+labelled-has p (Some m) (suc s) o l a = absurd a
+
+either-at : {X : Type 0} (xs ys : List X) (k : ℕ) (x : X) → At (xs ++ ys) k x → At xs k x ⊎ ((j : ℕ) × At ys j x)
+either-at [] ys k x a = inr (k, a)
+either-at (z ∷ zs) ys zero x a = inl a
+either-at (z ∷ zs) ys (suc k) x a = either-at zs ys k x a
+
+svertex-has : (n : ℕ) (vs : List Svertex) (s : ℕ) (o : Side) (l : Label) → At (svertex_sides n vs) s (o, l) → (i : ℕ) × (v : Svertex) × At vs i v × (v.around ≡ Some l) × (o ≡ around_svertex (n + i))
+svertex-has n [] s o l a = absurd a
+svertex-has n (v ∷ vs) s o l a = by (λ s' b. svertex-has (suc n) vs s' o l b) (either-at (labelled (around_svertex n) v.around) (svertex_sides (suc n) vs) s (o, l) a)
+  where
+    by : ((s : ℕ) → At (svertex_sides (suc n) vs) s (o, l) → (i : ℕ) × (w : Svertex) × At vs i w × (w.around ≡ Some l) × (o ≡ around_svertex (suc n + i)))
+        → At (labelled (around_svertex n) v.around) s (o, l) ⊎ ((j : ℕ) × At (svertex_sides (suc n) vs) j (o, l))
+        → (i : ℕ) × (w : Svertex) × At (v ∷ vs) i w × (w.around ≡ Some l) × (o ≡ around_svertex (n + i))
+    by go (inl b) = let r = labelled-has (around_svertex n) v.around s o l b in (zero, v, refl, r.1, r.0 ∙ ap around_svertex (let e : n ≡ n + zero = omega arith in e))
+    by go (inr (j, b)) = let r = go j b in (suc r.0, r.1, r.2, r.3, r.4 ∙ ap around_svertex (let e : suc n + r.0 ≡ n + suc r.0 = omega arith in e))
+
+item-has : (n : ℕ) (xs : List Item) (s : ℕ) (o : Side) (l : Label) → At (item_sides n xs) s (o, l)
+    → (i : ℕ) × (x : Item) × At xs i x × (((o ≡ above_item (n + i)) × (item_above x ≡ l)) ⊎ ((o ≡ below_item (n + i)) × (item_below x ≡ l)))
+item-has n [] s o l a = absurd a
+item-has n (x ∷ xs) zero o l a = (zero, x, refl, inl (sym (ap (λ (y : LabelledSide). y.0) a) ∙ ap above_item (let e : n ≡ n + zero = omega arith in e), ap (λ (y : LabelledSide). y.1) a))
+item-has n (x ∷ xs) (suc zero) o l a = (zero, x, refl, inr (sym (ap (λ (y : LabelledSide). y.0) a) ∙ ap below_item (let e : n ≡ n + zero = omega arith in e), ap (λ (y : LabelledSide). y.1) a))
+item-has n (x ∷ xs) (suc (suc s)) o l a =
+    let r = item-has (suc n) xs s o l a in
+    let e : suc n + r.0 ≡ n + suc r.0 = omega arith in
+    (suc r.0, r.1, r.2, ⊎_elim (λ q. inl (q.0 ∙ ap above_item e, q.1)) (λ q. inr (q.0 ∙ ap below_item e, q.1)) r.3)
+
+-- a map has each of its numbered sides
+pub side-has : (M : Map) (s : ℕ) (o : Side) (l : Label) → IsSide M s o l → HasSide M o l
+side-has M s o l g = by (either-at (svertex_sides 0 M.svertices ++ item_sides 0 (items M)) (labelled whole M.face) s (o, l) (at-from_get (sides_of M) s (o, l) g))
+  where
+    around : ((i : ℕ) × (v : Svertex) × At M.svertices i v × (v.around ≡ Some l) × (o ≡ around_svertex (0 + i))) → HasSide M o l
+    around (i, v, a, e, f) = subst (λ (p : Side). HasSide M p l) (sym (f ∙ ap around_svertex (zero-add i))) (v, a, e)
+
+    of_item : ((i : ℕ) × (x : Item) × At (items M) i x × (((o ≡ above_item (0 + i)) × (item_above x ≡ l)) ⊎ ((o ≡ below_item (0 + i)) × (item_below x ≡ l)))) → HasSide M o l
+    of_item (i, x, a, inl q) = subst (λ (p : Side). HasSide M p l) (sym (q.0 ∙ ap above_item (zero-add i))) (x, a, q.1)
+    of_item (i, x, a, inr q) = subst (λ (p : Side). HasSide M p l) (sym (q.0 ∙ ap below_item (zero-add i))) (x, a, q.1)
+
+    part : At (svertex_sides 0 M.svertices) s (o, l) ⊎ ((j : ℕ) × At (item_sides 0 (items M)) j (o, l)) → HasSide M o l
+    part (inl a) = around (svertex-has 0 M.svertices s o l a)
+    part (inr (j, a)) = of_item (item-has 0 (items M) j o l a)
+
+    by : At (svertex_sides 0 M.svertices ++ item_sides 0 (items M)) s (o, l) ⊎ ((j : ℕ) × At (labelled whole M.face) j (o, l)) → HasSide M o l
+    by (inl a) = part (either-at (svertex_sides 0 M.svertices) (item_sides 0 (items M)) s (o, l) a)
+    by (inr (j, a)) = let r = labelled-has whole M.face j o l a in subst (λ (p : Side). HasSide M p l) (sym r.0) r.1

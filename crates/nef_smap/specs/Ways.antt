@@ -1,0 +1,26 @@
+-- The way from a direction to an item's point, and which item it meets first.
+use Rattle.std.specs.Prelude.{◌≡◌, ℕ, ◌<◌, pos, ◌-ℤ◌, ◌*ℤ◌, ◌<ℤ◌, ◌≤ℤ◌}
+use Rattle.nef_space.specs.Vectors.{Vector, dot}
+use Rattle.nef_sphere.specs.Vectors.{comb}
+use Rattle.nef_sphere.specs.Maps.{At, Item, Map, items, item_normal, OnItem}
+
+-- (n.a)^2 b - (n.a)(n.b) a, which lies in the plane of n; it is on the way from a to b where the plane parts them
+abbrev pub meet_of : Vector → Vector → Vector → Vector
+meet_of n a b = comb (dot n a *ℤ dot n a) b (pos 0 -ℤ dot n a *ℤ dot n b) a
+
+-- the item is met strictly between a and b
+pub record IsMet (M : Map) (a b : Vector) (x : Item) : Type 0 where
+  pub parted : (dot (item_normal x) a *ℤ dot (item_normal x) b) <ℤ pos 0
+  pub on : OnItem M x (meet_of (item_normal x) a b)
+
+-- y is met before x: where it is met is on a's side of the plane of x
+abbrev pub IsMetBefore : Vector → Vector → Item → Item → Type 0
+IsMetBefore a b y x = pos 0 <ℤ (dot (item_normal x) a *ℤ dot (item_normal x) (meet_of (item_normal y) a b))
+
+-- item k is met, or b lies on it, and of the first n items none is met before it
+pub record IsFirstMet (M : Map) (a b : Vector) (n k : ℕ) : Type 0 where
+  pub item : Item
+  pub listed : At (items M) k item
+  pub not_past : (dot (item_normal item) a *ℤ dot (item_normal item) b) ≤ℤ pos 0
+  pub on : OnItem M item (meet_of (item_normal item) a b)
+  pub none_before : (i : ℕ) (y : Item) → i < n → At (items M) i y → IsMet M a b y → IsMetBefore a b y item → ⊥

@@ -1,0 +1,61 @@
+//! The sides of a sphere map, and their labels.
+
+ghost use Rattle.std.specs.Prelude.{◌≡◌, ◌<◌, ◌≤◌, ◌^◌, length, IfOk, slice_get};
+ghost use Rattle.std.specs.List.{filter_map};
+ghost use Rattle.nef_sphere.specs.Maps.{Side};
+ghost use Rattle.nef_smap.specs.Maps.{map_of};
+ghost use Rattle.nef_smap.specs.Sides.{IsSide, sides_of};
+
+use crate::item::{item_at, item_count};
+use crate::map::SphereMap;
+use nef_geo::Label;
+
+// How many svertices have a label round them.
+fn around_sides(map: &SphereMap) -> usize
+    ensures count { result ≡ length (filter_map (λ v. v.around) map.now.svertices) }
+    ensures small { result < 2 ^ 60 }
+{
+    map.svertices
+        .as_slice()
+        .iter()
+        .filter_map(|v| v.around)
+        .count()
+}
+
+// The label round the svertex with this number among those that have one.
+fn around_label(map: &SphereMap, side: usize) -> Option<Label>
+    ensures label { result ≡ slice_get (filter_map (λ v. v.around) map.now.svertices) side }
+{
+    map.svertices
+        .as_slice()
+        .iter()
+        .filter_map(|v| v.around)
+        .nth(side)
+}
+
+/// How many sides the map has: one for each svertex without arcs, two for each arc and for the sloop, and one for the
+/// face of a map that has nothing else.
+pub fn sides(map: &SphereMap) -> usize
+    ensures count { result ≡ length (sides_of (map_of map.now)) }
+{
+    around_sides(map) + 2 * item_count(map) + usize::from(map.ground.is_some())
+}
+
+/// The label of the side with this number. The sides of svertices without arcs stand first; then those of the arcs and
+/// of the sloop, for each the one to which the normal points and then the other; then that of a map without items.
+pub fn side_label(map: &SphereMap, side: usize) -> Label
+    requires within { side < length (sides_of (map_of map.now)) }
+    ensures label { (o : Side) × IsSide (map_of map.now) side o result }
+{
+    if let Some(label) = around_label(map, side) {
+        return label;
+    }
+    let of_items = side - around_sides(map);
+    if of_items < 2 * item_count(map) {
+        return item_at(map, of_items / 2).label(of_items % 2 == 0);
+    }
+    match map.ground {
+        Some(label) => label,
+        None => unreachable!(),
+    }
+}
