@@ -18,7 +18,7 @@ use Rattle.nef_sphere.proofs.Forms.{item-forms, normal-form}
 use Rattle.nef_sphere.proofs.Direct.{cross-self}
 use Rattle.nef_sphere.proofs.Labels.{way-signs}
 use Rattle.nef_smap.specs.Above.{rise, meridians, over_forms, IsOver, IsFirst, IsFirstItem, first_sign, Stands}
-use Rattle.nef_smap.specs.Joined.{met, FirstNear, JoinsBelow}
+use Rattle.nef_smap.specs.Joined.{met, FirstNear, BelowFirsts}
 use Rattle.nef_smap.proofs.Rise.{rise-is, rise_form-value, meridian-level, form-over, meridian-over, svertex-meridian, meridians-same}
 use Rattle.nef_smap.proofs.Over.{Touches, meets, ends, touches-level, Alike, one_side, over_none, moved, first-one}
 use Rattle.nef_smap.proofs.Lowest.{Least, least_or, first-exists, share_d, share_u, LiesOver, over-value, lies_over-decided}
@@ -226,7 +226,7 @@ module _ (M : Map) (V : Shaped M) (u : Vector) (ahead : (k : ℕ) (x : Item) →
       same-side t q x = moved M u e o (meridians-same (meridians M u) u d e o f (meridian-level M u) (λ m i. near m (meridian-over M u m i)) near-o (t ∙ sym side-o)) alike q x
 
   -- ---- all that lies over directions close to d
-  module _ (G : Side → Label) (top : Label) (joins : (k : ℕ) (v : Svertex) → At M.svertices k v → JoinsBelow M u G top v.way) where
+  module _ (G : Side → Label) (top : Label) (firsts : (k : ℕ) (v : Svertex) → At M.svertices k v → BelowFirsts M u v.way) (joins : (k : ℕ) (v : Svertex) (a : At M.svertices k v) → (let j = firsts k v a in met G top j.left ≡ met G top j.right)) where
     abbrev pub AllMeet : Label → Type 0
     AllMeet c = (e : Vector) → Keeps (over_forms M u) d e → Clean M V u ahead d f e → (dot l e ≡ pos 0 → ⊥) → (q : Option ℕ) → IsFirst M u e q → met G top q ≡ c
 
@@ -237,8 +237,8 @@ module _ (M : Map) (V : Shaped M) (u : Vector) (ahead : (k : ℕ) (x : Item) →
         at-svertex : (r : Option ℕ) (F : IsFirst M u d r) → Lowest r F → (c : Label) × AllMeet c
         at-svertex r F w = (met G top j.left, λ e near clean g q x. one e near clean g q x)
           where
-            j : JoinsBelow M u G top w.element.way
-            j = joins w.number w.element w.listed
+            j : BelowFirsts M u w.element.way
+            j = firsts w.number w.element w.listed
 
             m : Vector
             m = cross u w.element.way
@@ -259,7 +259,7 @@ module _ (M : Map) (V : Shaped M) (u : Vector) (ahead : (k : ℕ) (x : Item) →
             one : (e : Vector) → Keeps (over_forms M u) d e → Clean M V u ahead d f e → (dot l e ≡ pos 0 → ⊥) → (q : Option ℕ) → IsFirst M u e q → met G top q ≡ met G top j.left
             one e near clean g q x = ⊎_elim
                 (λ t. met-at e near clean j.aside t j.left j.left_first q x)
-                (λ t. met-at e near clean (opposite j.aside) (t ∙ ap sign (sym (dot-opposite m j.aside))) j.right j.right_first q x ∙ sym j.one_label)
+                (λ t. met-at e near clean (opposite j.aside) (t ∙ ap sign (sym (dot-opposite m j.aside))) j.right j.right_first q x ∙ sym (joins w.number w.element w.listed))
                 (sides (dot l e) (dot m j.aside) g j.off)
 
         -- no svertex is first

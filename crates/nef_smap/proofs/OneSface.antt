@@ -26,7 +26,7 @@ use Rattle.nef_sphere.proofs.Arcs.{loop-at}
 use Rattle.nef_sphere.proofs.Flips.{Axial, directed-by, far_directed-by, loop-along}
 use Rattle.nef_sphere.proofs.ArcLabels.{arc-along}
 use Rattle.nef_smap.specs.Above.{over_forms, IsFirst, Stands}
-use Rattle.nef_smap.specs.Joined.{met, JoinsBelow, Joins}
+use Rattle.nef_smap.specs.Joined.{met, BelowFirsts, Firsts, Joins}
 use Rattle.nef_smap.proofs.Rise.{form-over}
 use Rattle.nef_smap.proofs.Stands.{stand, stands, stands-keeps, stands-third, dot-opposite}
 use Rattle.nef_smap.proofs.Close.{cross-last}
@@ -39,7 +39,7 @@ use Rattle.nef_smap.proofs.Upper.{upper-arc, upper-loop}
 use Rattle.nef_smap.proofs.Reached.{Sided, sides-agree}
 
 module _ (M : Map) (V : Shaped M) (u : Vector) (ahead : (k : ℕ) (x : Item) → At (items M) k x → pos 0 <ℤ dot (item_normal x) u)
-    (across : (k : ℕ) (v : Svertex) → At M.svertices k v → IsDirection (cross u v.way)) (G : Side → Label) (top : Label) (J : Joins M u G top)
+    (across : (k : ℕ) (v : Svertex) → At M.svertices k v → IsDirection (cross u v.way)) (G : Side → Label) (top : Label) (Z : Firsts M u) (J : Joins M u G top Z)
     (e : Vector) (general : (g : Vector) → Lies (over_forms M u) g → IsDirection g → dot g e ≡ pos 0 → ⊥) (off_u : IsDirection (cross u e)) where
   abbrev gs : List Vector
   gs = above_forms M u e G top
@@ -57,7 +57,7 @@ module _ (M : Map) (V : Shaped M) (u : Vector) (ahead : (k : ℕ) (x : Item) →
   hu = cross-direction_left u e off_u
 
   abbrev over_label : (d : Vector) → IsDirection (cross u d) → Label
-  over_label d f = let c = all-meet M V u ahead d f G top J.svertices in c.0
+  over_label d f = let c = all-meet M V u ahead d f G top Z.svertices J.below in c.0
 
   plain-by : (d : Vector) (c : Label) → IsFree M d → PlainAt F d c → Plain F d
   plain-by d c D p m a w h = subst (Near F d w) (L.one d c m D.direction p.at_d a) (p.near w)
@@ -65,12 +65,12 @@ module _ (M : Map) (V : Shaped M) (u : Vector) (ahead : (k : ℕ) (x : Item) →
   plain : (d : Vector) → IsFree M d → Plain F d
   plain d D = ⊎_elim
       (λ p. at_pole p (beside u d hu D.direction p))
-      (λ f. plain-by d (over_label d f) D (plain-free M V u ahead G top J.svertices e d f D))
+      (λ f. plain-by d (over_label d f) D (plain-free M V u ahead G top Z.svertices J.below e d f D))
       (zero-decided (cross u d))
     where
       at_pole : IsZero (cross u d) → Beside u d → Plain F d
-      at_pole p (same_way w) = plain-by d top D (plain-up M V u ahead G top J.svertices e general off_u d D w hu)
-      at_pole p (other_way w) = λ m a x h. plain-down M V u ahead G top J.svertices e general off_u d D p m a x (λ z. h (parallel-trans d u x hu (cross-turned u d p) z))
+      at_pole p (same_way w) = plain-by d top D (plain-up M V u ahead G top Z.svertices J.below e general off_u d D w hu)
+      at_pole p (other_way w) = λ m a x h. plain-down M V u ahead G top Z.svertices J.below e general off_u d D p m a x (λ z. h (parallel-trans d u x hu (cross-turned u d p) z))
 
   -- ---- items
   module _ (k : ℕ) (x : Item) (a : At (items M) k x) where
@@ -81,7 +81,7 @@ module _ (M : Map) (V : Shaped M) (u : Vector) (ahead : (k : ℕ) (x : Item) →
     off-meridian d o = apart n u d (λ z. let h = ahead k x a in omega (arith, ints)) (on-level M x d o) (on-direction M x d o)
 
     some-straight : (d : Vector) (o : OnItem M x d) → StraightAt F n (over_label d (off-meridian d o)) Out (G (below_item k)) d
-    some-straight d o = straight-on M V u ahead G top J.svertices e d (off-meridian d o) k x a o
+    some-straight d o = straight-on M V u ahead G top Z.svertices J.below e d (off-meridian d o) k x a o
 
     smooth : (d : Vector) → OnItem M x d → IsSmooth F d
     smooth d o = straight n (over_label d (off-meridian d o)) Out (G (below_item k)) (normal-is V k x a) (some-straight d o)
@@ -128,20 +128,20 @@ module _ (M : Map) (V : Shaped M) (u : Vector) (ahead : (k : ℕ) (x : Item) →
 
       start : StraightAt F m (G (above_item k)) Out (G (below_item k)) z
       start = subst (λ (c : Label). StraightAt F m c Out (G (below_item k)) z)
-          (upper-arc M V u ahead G top J.svertices k r a (J.arcs k r (arc-at M.arcs M.loop k r a)) hs ls K (omega arith) on-z (off-meridian k (arc_item r) a z on-z) (over_label z (off-meridian k (arc_item r) a z on-z))
-          (let c = all-meet M V u ahead z (off-meridian k (arc_item r) a z on-z) G top J.svertices in c.1))
+          (upper-arc M V u ahead G top Z.svertices J.below k r a (Z.arcs k r (arc-at M.arcs M.loop k r a)) (J.arcs k r (arc-at M.arcs M.loop k r a)) hs ls K (omega arith) on-z (off-meridian k (arc_item r) a z on-z) (over_label z (off-meridian k (arc_item r) a z on-z))
+          (let c = all-meet M V u ahead z (off-meridian k (arc_item r) a z on-z) G top Z.svertices J.below in c.1))
           (some-straight k (arc_item r) a z on-z)
   straight-everywhere k (loop_item r) a d o =
-      let j = J.loops k r a in
+      let j = Z.loops k r a in
       let f = off-meridian k (loop_item r) a j.point j.on in
       loop-along gs F L axial r.normal (G (above_item k)) Out (G (below_item k)) (proper k (loop_item r) a) (normal-is V k (loop_item r) a) (λ w p. smooth k (loop_item r) a w p) j.point j.on.direction
       (subst (λ (c : Label). StraightAt F r.normal c Out (G (below_item k)) j.point)
-      (upper-loop M V u ahead G top J.svertices k r a j f (over_label j.point f) (let c = all-meet M V u ahead j.point f G top J.svertices in c.1))
+      (upper-loop M V u ahead G top Z.svertices J.below k r a j (J.loops k r a) f (over_label j.point f) (let c = all-meet M V u ahead j.point f G top Z.svertices J.below in c.1))
       (some-straight k (loop_item r) a j.point j.on)) d o
 
   -- ---- svertices without arcs
   round : (k : ℕ) (v : Svertex) (m : Label) (w : Vector) → At M.svertices k v → v.around ≡ Some m → IsDirection (cross v.way w) → Near F v.way w (G (around_svertex k))
-  round k v m w a q h = subst (Near F v.way w) (sym meets ∙ sym (J.around k v a m q)) (round-lone M V u ahead G top J.svertices e v.way f k v a refl lone w h)
+  round k v m w a q h = subst (Near F v.way w) (sym meets ∙ sym (J.around k v a m q)) (round-lone M V u ahead G top Z.svertices J.below e v.way f k v a refl lone w h)
     where
       f : IsDirection (cross u v.way)
       f = across k v a
@@ -152,8 +152,8 @@ module _ (M : Map) (V : Shaped M) (u : Vector) (ahead : (k : ℕ) (x : Item) →
           none-some : ◌≡◌ {A = Option Label} None (Some m) → ⊥
           none-some e = absurd cc
 
-      j : JoinsBelow M u G top v.way
-      j = J.svertices k v a
+      j : BelowFirsts M u v.way
+      j = Z.svertices k v a
 
       l : Vector
       l = cross u v.way
@@ -174,7 +174,7 @@ module _ (M : Map) (V : Shaped M) (u : Vector) (ahead : (k : ℕ) (x : Item) →
       meets : met G top j.left ≡ over_label v.way f
       meets =
           let near = stands-keeps (over_forms M u) v.way (opposite u) j.aside y s in
-          let c = all-meet M V u ahead v.way f G top J.svertices in
+          let c = all-meet M V u ahead v.way f G top Z.svertices J.below in
           c.1 y near (lone-clean M V u ahead v.way y near f k v a refl lone) off j.left (j.left_first y s)
 
   -- ---- a map without items

@@ -21,7 +21,7 @@ use Rattle.nef_sphere.proofs.Around.{free-around}
 use Rattle.nef_sphere.proofs.Walk.{carried, cross-direction_left}
 use Rattle.nef_sphere.proofs.Direct.{cross-self}
 use Rattle.nef_smap.specs.Above.{over_forms, IsOver, IsFirst, first_sign, Stands}
-use Rattle.nef_smap.specs.Joined.{met, JoinsBelow}
+use Rattle.nef_smap.specs.Joined.{met, BelowFirsts}
 use Rattle.nef_smap.proofs.Rise.{form-over}
 use Rattle.nef_smap.proofs.Over.{first-one}
 use Rattle.nef_smap.proofs.Lowest.{first-exists}
@@ -47,7 +47,7 @@ keeps-mixed : (gs : List Vector) (d y z : Vector) (i j : ℕ) → 0 < i → 0 < 
 keeps-mixed gs d y z i j si sj k h g l f = ap sign (dot-comb g (pos i) y (pos j) z) ∙ mixed-sign (dot g y) (dot g z) i j si sj (h g l f ∙ sym (k g l f)) ∙ k g l f
 
 module _ (M : Map) (V : Shaped M) (u : Vector) (ahead : (k : ℕ) (x : Item) → At (items M) k x → pos 0 <ℤ dot (item_normal x) u)
-    (G : Side → Label) (top : Label) (joins : (k : ℕ) (v : Svertex) → At M.svertices k v → JoinsBelow M u G top v.way)
+    (G : Side → Label) (top : Label) (firsts : (k : ℕ) (v : Svertex) → At M.svertices k v → BelowFirsts M u v.way) (joins : (k : ℕ) (v : Svertex) (a : At M.svertices k v) → (let j = firsts k v a in met G top j.left ≡ met G top j.right))
     (e : Vector) (general : (g : Vector) → Lies (over_forms M u) g → IsDirection g → dot g e ≡ pos 0 → ⊥) (apart : IsDirection (cross u e)) where
   abbrev F : Vector → Label → Type 0
   F = LabelAbove M u e G top
@@ -88,7 +88,7 @@ module _ (M : Map) (V : Shaped M) (u : Vector) (ahead : (k : ℕ) (x : Item) →
 
     plain-near : (z : Vector) → Keeps (over_forms M u) d z → IsDirection (cross u z) → Plain F z
     plain-near z k f m a w h =
-        let q = plain-free M V u ahead G top joins e z f (free-near z k) in
+        let q = plain-free M V u ahead G top firsts joins e z f (free-near z k) in
         subst (Near F z w) (L.one z _ m (let Z = free-near z k in Z.direction) q.at_d a) (q.near w)
 
     -- from one close direction to another

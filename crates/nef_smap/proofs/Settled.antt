@@ -19,7 +19,7 @@ use Rattle.nef_sphere.proofs.Generic.{amount, far-keeps, far-level}
 use Rattle.nef_sphere.proofs.Direct.{cross-between}
 use Rattle.nef_sphere.proofs.Around.{direction-around, svertex-around, free-around, item-stays, free-beside}
 use Rattle.nef_smap.specs.Above.{over_forms, IsFirst, first_sign, Stands}
-use Rattle.nef_smap.specs.Joined.{met, JoinsBelow}
+use Rattle.nef_smap.specs.Joined.{met, BelowFirsts}
 use Rattle.nef_smap.proofs.Rise.{form-over, keeps-then}
 use Rattle.nef_smap.proofs.Over.{touches-back, first-one}
 use Rattle.nef_smap.proofs.Stands.{stand, stands, stands-keeps}
@@ -34,7 +34,7 @@ first-none nought t e = (refl, e)
 first-none plus t e = absurd cc
 
 module _ (M : Map) (V : Shaped M) (u : Vector) (ahead : (k : ℕ) (x : Item) → At (items M) k x → pos 0 <ℤ dot (item_normal x) u)
-    (G : Side → Label) (top : Label) (joins : (k : ℕ) (v : Svertex) → At M.svertices k v → JoinsBelow M u G top v.way) (e : Vector) where
+    (G : Side → Label) (top : Label) (firsts : (k : ℕ) (v : Svertex) → At M.svertices k v → BelowFirsts M u v.way) (joins : (k : ℕ) (v : Svertex) (a : At M.svertices k v) → (let j = firsts k v a in met G top j.left ≡ met G top j.right)) (e : Vector) where
   abbrev F : Vector → Label → Type 0
   F = LabelAbove M u e G top
 
@@ -47,10 +47,10 @@ module _ (M : Map) (V : Shaped M) (u : Vector) (ahead : (k : ℕ) (x : Item) →
 
     -- what is over all directions close to d
     abbrev over_label : Label
-    over_label = let c = all-meet M V u ahead d f G top joins in c.0
+    over_label = let c = all-meet M V u ahead d f G top firsts joins in c.0
 
-    over-all : AllMeet M V u ahead d f G top joins over_label
-    over-all = let c = all-meet M V u ahead d f G top joins in c.1
+    over-all : AllMeet M V u ahead d f G top firsts joins over_label
+    over-all = let c = all-meet M V u ahead d f G top firsts joins in c.1
 
     -- a direction close to z, to one side of the meridian of z, and off that of d
     abbrev viewer : Vector → Vector

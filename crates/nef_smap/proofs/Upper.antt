@@ -18,7 +18,7 @@ use Rattle.nef_sphere.proofs.Forms.{item-forms, normal-form, on-level}
 use Rattle.nef_sphere.proofs.Generic.{amount}
 use Rattle.nef_sphere.proofs.Direct.{cross-self}
 use Rattle.nef_smap.specs.Above.{over_forms, IsFirst, first_sign, Stands}
-use Rattle.nef_smap.specs.Joined.{met, FirstNear, JoinsBelow, JoinsArc, JoinsLoop}
+use Rattle.nef_smap.specs.Joined.{met, FirstNear, BelowFirsts, ArcFirst, LoopFirst}
 use Rattle.nef_smap.proofs.Rise.{form-over}
 use Rattle.nef_smap.proofs.Stands.{far-first, stand, stands, stands-keeps, stands-second, stands-third}
 use Rattle.nef_smap.proofs.Close.{Clean, cross-last}
@@ -82,9 +82,9 @@ level-nought n s u g x hn hs h p q r z =
     nought-is (dot g x) (sym (sign-scaled (dot n n *ℤ dot s s) (dot g x) a) ∙ ap sign y)
 
 module _ (M : Map) (V : Shaped M) (u : Vector) (ahead : (k : ℕ) (x : Item) → At (items M) k x → pos 0 <ℤ dot (item_normal x) u)
-    (G : Side → Label) (top : Label) (joins : (k : ℕ) (v : Svertex) → At M.svertices k v → JoinsBelow M u G top v.way) where
+    (G : Side → Label) (top : Label) (firsts : (k : ℕ) (v : Svertex) → At M.svertices k v → BelowFirsts M u v.way) (joins : (k : ℕ) (v : Svertex) (a : At M.svertices k v) → (let j = firsts k v a in met G top j.left ≡ met G top j.right)) where
   -- a direction close above one of an item, off its meridian
-  module _ (k : ℕ) (x : Item) (a : At (items M) k x) (d : Vector) (o : OnItem M x d) (f : IsDirection (cross u d)) (c : Label) (all : AllMeet M V u ahead d f G top joins c) where
+  module _ (k : ℕ) (x : Item) (a : At (items M) k x) (d : Vector) (o : OnItem M x d) (f : IsDirection (cross u d)) (c : Label) (all : AllMeet M V u ahead d f G top firsts joins c) where
     upper-by : (y e : Vector) → Stands (over_forms M u) d u e y → (dot (cross u d) y ≡ pos 0 → ⊥) → (q : Option ℕ) → IsFirst M u y q → met G top q ≡ c
     upper-by y e s off q g =
         let n = item_normal x in
@@ -94,10 +94,10 @@ module _ (M : Map) (V : Shaped M) (u : Vector) (ahead : (k : ℕ) (x : Item) →
         all y near (item-clean M V u ahead d y near f k x a o (plus-is (dot n y) h)) off q g
 
   -- close to the source of an arc
-  pub upper-arc : (k : ℕ) (r : Arc) (a : At (items M) k (arc_item r)) → JoinsArc M u G top k r → IsDirection (way_of M.svertices r.source) → dot r.normal (way_of M.svertices r.source) ≡ pos 0
+  pub upper-arc : (k : ℕ) (r : Arc) (a : At (items M) k (arc_item r)) → (j : ArcFirst M u r) → met G top j.first ≡ G (above_item k) → IsDirection (way_of M.svertices r.source) → dot r.normal (way_of M.svertices r.source) ≡ pos 0
       → (K : ℕ) → amount (over_forms M u) (cross r.normal (way_of M.svertices r.source)) ≤ K → (o : OnItem M (arc_item r) (blend K (way_of M.svertices r.source) 1 (cross r.normal (way_of M.svertices r.source))))
-      → (f : IsDirection (cross u (blend K (way_of M.svertices r.source) 1 (cross r.normal (way_of M.svertices r.source))))) → (c : Label) → AllMeet M V u ahead (blend K (way_of M.svertices r.source) 1 (cross r.normal (way_of M.svertices r.source))) f G top joins c → c ≡ G (above_item k)
-  upper-arc k r a j hs ls K large o f c all = sym (upper-by k (arc_item r) a z o f c all y l (λ g i. stands (l ∷ over_forms M u) z u l g (inr i)) off j.first (j.is_first y same)) ∙ j.one_label
+      → (f : IsDirection (cross u (blend K (way_of M.svertices r.source) 1 (cross r.normal (way_of M.svertices r.source))))) → (c : Label) → AllMeet M V u ahead (blend K (way_of M.svertices r.source) 1 (cross r.normal (way_of M.svertices r.source))) f G top firsts joins c → c ≡ G (above_item k)
+  upper-arc k r a j label hs ls K large o f c all = sym (upper-by k (arc_item r) a z o f c all y l (λ g i. stands (l ∷ over_forms M u) z u l g (inr i)) off j.first (j.is_first y same)) ∙ label
     where
       n : Vector
       n = r.normal
@@ -164,8 +164,8 @@ module _ (M : Map) (V : Shaped M) (u : Vector) (ahead : (k : ℕ) (x : Item) →
                   by nought nought e w = ap sign (level-nought n s u g l hn hs (ahead k (arc_item r) a) ls h (nought-is (dot g (cross n s)) (sym along ∙ e)) (nought-is (dot g u) w))
 
   -- at one direction of a sloop
-  pub upper-loop : (k : ℕ) (r : Loop) (a : At (items M) k (loop_item r)) (j : JoinsLoop M u G top k r) → (f : IsDirection (cross u j.point)) → (c : Label) → AllMeet M V u ahead j.point f G top joins c → c ≡ G (above_item k)
-  upper-loop k r a j f c all = sym (upper-by k (loop_item r) a j.point j.on f c all y j.aside (λ g i. stands gs j.point u j.aside g (inr i)) off j.first (j.is_first y (λ g i. stands gs j.point u j.aside g (inr i)))) ∙ j.one_label
+  pub upper-loop : (k : ℕ) (r : Loop) (a : At (items M) k (loop_item r)) (j : LoopFirst M u r) → met G top j.first ≡ G (above_item k) → (f : IsDirection (cross u j.point)) → (c : Label) → AllMeet M V u ahead j.point f G top firsts joins c → c ≡ G (above_item k)
+  upper-loop k r a j label f c all = sym (upper-by k (loop_item r) a j.point j.on f c all y j.aside (λ g i. stands gs j.point u j.aside g (inr i)) off j.first (j.is_first y (λ g i. stands gs j.point u j.aside g (inr i)))) ∙ label
     where
       l : Vector
       l = cross u j.point

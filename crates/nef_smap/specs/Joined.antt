@@ -16,39 +16,43 @@ met G top (Some k) = G (below_item k)
 abbrev pub FirstNear : Map → Vector → Vector → Vector → Vector → Option ℕ → Type 0
 FirstNear M u a b c r = (d : Vector) → Stands (over_forms M u) a b c d → IsFirst M u d r
 
--- just below w, what lies over the directions to one side and to the other has one label
-pub record JoinsBelow (M : Map) (u : Vector) (G : Side → Label) (top : Label) (w : Vector) : Type 0 where
+-- what lies over the directions just below w, to one side of its meridian and to the other
+pub record BelowFirsts (M : Map) (u w : Vector) : Type 0 where
   pub aside : Vector
   pub off : dot (cross u w) aside ≡ pos 0 → ⊥
   pub left : Option ℕ
   pub right : Option ℕ
   pub left_first : FirstNear M u w (opposite u) aside left
   pub right_first : FirstNear M u w (opposite u) (opposite aside) right
-  pub one_label : met G top left ≡ met G top right
 
--- the label above an arc is that of what lies over it close to its source: along it, and then up
-pub record JoinsArc (M : Map) (u : Vector) (G : Side → Label) (top : Label) (k : ℕ) (a : Arc) : Type 0 where
+-- what lies over the directions close to the source of an arc: along it, and then up
+pub record ArcFirst (M : Map) (u : Vector) (a : Arc) : Type 0 where
   pub along : Vector
   pub level : dot a.normal along ≡ pos 0
   pub forward : pos 0 <ℤ triple a.normal (way_of M.svertices a.source) along
   pub first : Option ℕ
   pub is_first : FirstNear M u (way_of M.svertices a.source) along u first
-  pub one_label : met G top first ≡ G (above_item k)
 
--- the label above a sloop is that of what lies over one of its directions
-pub record JoinsLoop (M : Map) (u : Vector) (G : Side → Label) (top : Label) (k : ℕ) (l : Loop) : Type 0 where
+-- what lies over one of the directions of a sloop
+pub record LoopFirst (M : Map) (u : Vector) (l : Loop) : Type 0 where
   pub point : Vector
   pub on : IsOnCircle l.normal point
   pub aside : Vector
   pub off : dot (cross u point) aside ≡ pos 0 → ⊥
   pub first : Option ℕ
   pub is_first : FirstNear M u point u aside first
-  pub one_label : met G top first ≡ G (above_item k)
 
-pub record Joins (M : Map) (u : Vector) (G : Side → Label) (top : Label) : Type 0 where
-  pub svertices : (k : ℕ) (v : Svertex) → At M.svertices k v → JoinsBelow M u G top v.way
-  pub around : (k : ℕ) (v : Svertex) (a : At M.svertices k v) (m : Label) → v.around ≡ Some m → G (around_svertex k) ≡ (let j = svertices k v a in met G top j.left)
-  pub arcs : (k : ℕ) (a : Arc) → At M.arcs k a → JoinsArc M u G top k a
-  pub loops : (k : ℕ) (l : Loop) → At (items M) k (loop_item l) → JoinsLoop M u G top k l
+-- what the sides of a map are joined with
+pub record Firsts (M : Map) (u : Vector) : Type 0 where
+  pub svertices : (k : ℕ) (v : Svertex) → At M.svertices k v → BelowFirsts M u v.way
+  pub arcs : (k : ℕ) (a : Arc) → At M.arcs k a → ArcFirst M u a
+  pub loops : (k : ℕ) (l : Loop) → At (items M) k (loop_item l) → LoopFirst M u l
+
+-- the labels agree at the joins: on both sides just below each svertex, and round it where it has no arc; above each item, and over it
+pub record Joins (M : Map) (u : Vector) (G : Side → Label) (top : Label) (F : Firsts M u) : Type 0 where
+  pub below : (k : ℕ) (v : Svertex) (a : At M.svertices k v) → (let j = F.svertices k v a in met G top j.left ≡ met G top j.right)
+  pub around : (k : ℕ) (v : Svertex) (a : At M.svertices k v) (m : Label) → v.around ≡ Some m → (let j = F.svertices k v a in G (around_svertex k) ≡ met G top j.left)
+  pub arcs : (k : ℕ) (a : Arc) (h : At M.arcs k a) → (let j = F.arcs k a h in met G top j.first ≡ G (above_item k))
+  pub loops : (k : ℕ) (l : Loop) (h : At (items M) k (loop_item l)) → (let j = F.loops k l h in met G top j.first ≡ G (above_item k))
   pub ground : (m : Label) → M.face ≡ Some m → G whole ≡ top
   pub never_out : (o : Side) → G o ≡ Out → ⊥
