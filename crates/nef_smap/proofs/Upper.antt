@@ -81,6 +81,74 @@ level-nought n s u g x hn hs h p q r z =
     let y : (dot n n *ℤ dot s s) *ℤ dot g x ≡ pos 0 = omega (arith, ints) in
     nought-is (dot g x) (sym (sign-scaled (dot n n *ℤ dot s s) (dot g x) a) ∙ ap sign y)
 
+-- a direction close above an arc, and close to its source, off the meridian of z
+module _ (M : Map) (V : Shaped M) (u : Vector) (ahead : (k : ℕ) (x : Item) → At (items M) k x → pos 0 <ℤ dot (item_normal x) u)
+    (k : ℕ) (r : Arc) (a : At (items M) k (arc_item r)) (j : ArcFirst M u r) (hs : IsDirection (way_of M.svertices r.source)) (ls : dot r.normal (way_of M.svertices r.source) ≡ pos 0)
+    (K : ℕ) (large : amount (over_forms M u) (cross r.normal (way_of M.svertices r.source)) ≤ K) where
+  abbrev n : Vector
+  n = r.normal
+
+  abbrev s : Vector
+  s = way_of M.svertices r.source
+
+  abbrev z : Vector
+  z = blend K s 1 (cross n s)
+
+  abbrev l : Vector
+  l = cross u z
+
+  abbrev pub arc-viewer : Vector
+  arc-viewer = stand (l ∷ over_forms M u) z u l
+
+  pub arc-viewer_off : IsDirection (cross u z) → dot l arc-viewer ≡ pos 0 → ⊥
+  arc-viewer_off f q =
+      let e = stands-third (l ∷ over_forms M u) z u l arc-viewer l (stands (l ∷ over_forms M u) z u l) (inl refl) (cross-last u z) (cross-self u z) in
+      let p = sign-plus (dot l l) (self-pos l f) in
+      let w = plus-is (dot l arc-viewer) (e ∙ p) in omega (arith, ints)
+
+  hn : IsDirection n
+  hn = normal-is V k (arc_item r) a
+
+  pub arc-viewer_stands : Stands (over_forms M u) s j.along u arc-viewer
+  arc-viewer_stands g i = stands (l ∷ over_forms M u) z u l g (inr i) ∙ ap (λ t. first_sign t (first_sign (sign (dot g u)) (sign (dot g l)))) (far-first (over_forms M u) s (cross n s) K large g i)
+      ∙ ⊎_elim at-nought at-off (nought-or (dot g s))
+    where
+      S : Sign
+      S = sign (dot g s)
+
+      at-off : (dot g s ≡ pos 0 → ⊥) → first_sign (first_sign (sign (dot g s)) (sign (dot g (cross n s)))) (first_sign (sign (dot g u)) (sign (dot g l))) ≡ first_sign (sign (dot g s)) (first_sign (sign (dot g j.along)) (sign (dot g u)))
+      at-off h = skip (sign (dot g s)) (λ q. h (nought-is (dot g s) q))
+        where
+          skip : (t : Sign) → (t ≡ nought → ⊥) → first_sign (first_sign t (sign (dot g (cross n s)))) (first_sign (sign (dot g u)) (sign (dot g l))) ≡ first_sign t (first_sign (sign (dot g j.along)) (sign (dot g u)))
+          skip minus h = refl
+          skip nought h = absurd (h refl)
+          skip plus h = refl
+
+      at-nought : dot g s ≡ pos 0 → first_sign (first_sign (sign (dot g s)) (sign (dot g (cross n s)))) (first_sign (sign (dot g u)) (sign (dot g l))) ≡ first_sign (sign (dot g s)) (first_sign (sign (dot g j.along)) (sign (dot g u)))
+      at-nought h =
+          let t = ap sign h in
+          ap (λ t. first_sign (first_sign t (sign (dot g (cross n s)))) (first_sign (sign (dot g u)) (sign (dot g l)))) t
+          ∙ ap (λ t. first_sign t (first_sign (sign (dot g u)) (sign (dot g l)))) (sym along)
+          ∙ rest
+          ∙ sym (ap (λ t. first_sign t (first_sign (sign (dot g j.along)) (sign (dot g u)))) t)
+        where
+          along : sign (dot g j.along) ≡ sign (dot g (cross n s))
+          along =
+              let p = mul_pos (dot n n) (dot s s) (self-pos n hn) (self-pos s hs) in
+              let v = along-value n s j.along g ls j.level ∙ ap (λ t. (dot n n *ℤ dot s j.along) *ℤ t +ℤ triple n s j.along *ℤ dot g (cross n s)) h
+              ∙ ring (dot n n ∷ dot s j.along ∷ triple n s j.along ∷ dot g (cross n s) ∷ []) ((at 0 ⊗ at 1) ⊗ num (pos 0) ⊕ at 2 ⊗ at 3) (at 2 ⊗ at 3) tt in
+              sym (sign-scaled (dot n n *ℤ dot s s) (dot g j.along) p) ∙ ap sign v ∙ sign-scaled (triple n s j.along) (dot g (cross n s)) j.forward
+
+          rest : first_sign (sign (dot g j.along)) (first_sign (sign (dot g u)) (sign (dot g l))) ≡ first_sign (sign (dot g j.along)) (sign (dot g u))
+          rest = by (sign (dot g j.along)) (sign (dot g u)) refl refl
+            where
+              by : (p q : Sign) → sign (dot g j.along) ≡ p → sign (dot g u) ≡ q → first_sign p (first_sign q (sign (dot g l))) ≡ first_sign p q
+              by minus q e w = refl
+              by plus q e w = refl
+              by nought minus e w = refl
+              by nought plus e w = refl
+              by nought nought e w = ap sign (level-nought n s u g l hn hs (ahead k (arc_item r) a) ls h (nought-is (dot g (cross n s)) (sym along ∙ e)) (nought-is (dot g u) w))
+
 module _ (M : Map) (V : Shaped M) (u : Vector) (ahead : (k : ℕ) (x : Item) → At (items M) k x → pos 0 <ℤ dot (item_normal x) u)
     (G : Side → Label) (top : Label) (firsts : (k : ℕ) (v : Svertex) → At M.svertices k v → BelowFirsts M u v.way) (joins : (k : ℕ) (v : Svertex) (a : At M.svertices k v) → (let j = firsts k v a in met G top j.left ≡ met G top j.right)) where
   -- a direction close above one of an item, off its meridian
@@ -97,71 +165,16 @@ module _ (M : Map) (V : Shaped M) (u : Vector) (ahead : (k : ℕ) (x : Item) →
   pub upper-arc : (k : ℕ) (r : Arc) (a : At (items M) k (arc_item r)) → (j : ArcFirst M u r) → met G top j.first ≡ G (above_item k) → IsDirection (way_of M.svertices r.source) → dot r.normal (way_of M.svertices r.source) ≡ pos 0
       → (K : ℕ) → amount (over_forms M u) (cross r.normal (way_of M.svertices r.source)) ≤ K → (o : OnItem M (arc_item r) (blend K (way_of M.svertices r.source) 1 (cross r.normal (way_of M.svertices r.source))))
       → (f : IsDirection (cross u (blend K (way_of M.svertices r.source) 1 (cross r.normal (way_of M.svertices r.source))))) → (c : Label) → AllMeet M V u ahead (blend K (way_of M.svertices r.source) 1 (cross r.normal (way_of M.svertices r.source))) f G top firsts joins c → c ≡ G (above_item k)
-  upper-arc k r a j label hs ls K large o f c all = sym (upper-by k (arc_item r) a z o f c all y l (λ g i. stands (l ∷ over_forms M u) z u l g (inr i)) off j.first (j.is_first y same)) ∙ label
+  upper-arc k r a j label hs ls K large o f c all = sym (upper-by k (arc_item r) a z o f c all y l (λ g i. stands (l ∷ over_forms M u) z u l g (inr i)) (arc-viewer_off M V u ahead k r a j hs ls K large f) j.first (j.is_first y (arc-viewer_stands M V u ahead k r a j hs ls K large))) ∙ label
     where
-      n : Vector
-      n = r.normal
-
-      s : Vector
-      s = way_of M.svertices r.source
-
       z : Vector
-      z = blend K s 1 (cross n s)
+      z = blend K (way_of M.svertices r.source) 1 (cross r.normal (way_of M.svertices r.source))
 
       l : Vector
       l = cross u z
 
       y : Vector
-      y = stand (l ∷ over_forms M u) z u l
-
-      off : dot l y ≡ pos 0 → ⊥
-      off q =
-          let e = stands-third (l ∷ over_forms M u) z u l y l (stands (l ∷ over_forms M u) z u l) (inl refl) (cross-last u z) (cross-self u z) in
-          let p = sign-plus (dot l l) (self-pos l f) in
-          let w = plus-is (dot l y) (e ∙ p) in omega (arith, ints)
-
-      hn : IsDirection n
-      hn = normal-is V k (arc_item r) a
-
-      same : Stands (over_forms M u) s j.along u y
-      same g i = stands (l ∷ over_forms M u) z u l g (inr i) ∙ ap (λ t. first_sign t (first_sign (sign (dot g u)) (sign (dot g l)))) (far-first (over_forms M u) s (cross n s) K large g i)
-          ∙ ⊎_elim at-nought at-off (nought-or (dot g s))
-        where
-          S : Sign
-          S = sign (dot g s)
-
-          at-off : (dot g s ≡ pos 0 → ⊥) → first_sign (first_sign (sign (dot g s)) (sign (dot g (cross n s)))) (first_sign (sign (dot g u)) (sign (dot g l))) ≡ first_sign (sign (dot g s)) (first_sign (sign (dot g j.along)) (sign (dot g u)))
-          at-off h = skip (sign (dot g s)) (λ q. h (nought-is (dot g s) q))
-            where
-              skip : (t : Sign) → (t ≡ nought → ⊥) → first_sign (first_sign t (sign (dot g (cross n s)))) (first_sign (sign (dot g u)) (sign (dot g l))) ≡ first_sign t (first_sign (sign (dot g j.along)) (sign (dot g u)))
-              skip minus h = refl
-              skip nought h = absurd (h refl)
-              skip plus h = refl
-
-          at-nought : dot g s ≡ pos 0 → first_sign (first_sign (sign (dot g s)) (sign (dot g (cross n s)))) (first_sign (sign (dot g u)) (sign (dot g l))) ≡ first_sign (sign (dot g s)) (first_sign (sign (dot g j.along)) (sign (dot g u)))
-          at-nought h =
-              let t = ap sign h in
-              ap (λ t. first_sign (first_sign t (sign (dot g (cross n s)))) (first_sign (sign (dot g u)) (sign (dot g l)))) t
-              ∙ ap (λ t. first_sign t (first_sign (sign (dot g u)) (sign (dot g l)))) (sym along)
-              ∙ rest
-              ∙ sym (ap (λ t. first_sign t (first_sign (sign (dot g j.along)) (sign (dot g u)))) t)
-            where
-              along : sign (dot g j.along) ≡ sign (dot g (cross n s))
-              along =
-                  let p = mul_pos (dot n n) (dot s s) (self-pos n hn) (self-pos s hs) in
-                  let v = along-value n s j.along g ls j.level ∙ ap (λ t. (dot n n *ℤ dot s j.along) *ℤ t +ℤ triple n s j.along *ℤ dot g (cross n s)) h
-                  ∙ ring (dot n n ∷ dot s j.along ∷ triple n s j.along ∷ dot g (cross n s) ∷ []) ((at 0 ⊗ at 1) ⊗ num (pos 0) ⊕ at 2 ⊗ at 3) (at 2 ⊗ at 3) tt in
-                  sym (sign-scaled (dot n n *ℤ dot s s) (dot g j.along) p) ∙ ap sign v ∙ sign-scaled (triple n s j.along) (dot g (cross n s)) j.forward
-
-              rest : first_sign (sign (dot g j.along)) (first_sign (sign (dot g u)) (sign (dot g l))) ≡ first_sign (sign (dot g j.along)) (sign (dot g u))
-              rest = by (sign (dot g j.along)) (sign (dot g u)) refl refl
-                where
-                  by : (p q : Sign) → sign (dot g j.along) ≡ p → sign (dot g u) ≡ q → first_sign p (first_sign q (sign (dot g l))) ≡ first_sign p q
-                  by minus q e w = refl
-                  by plus q e w = refl
-                  by nought minus e w = refl
-                  by nought plus e w = refl
-                  by nought nought e w = ap sign (level-nought n s u g l hn hs (ahead k (arc_item r) a) ls h (nought-is (dot g (cross n s)) (sym along ∙ e)) (nought-is (dot g u) w))
+      y = arc-viewer M V u ahead k r a j hs ls K large
 
   -- at one direction of a sloop
   pub upper-loop : (k : ℕ) (r : Loop) (a : At (items M) k (loop_item r)) (j : LoopFirst M u r) → met G top j.first ≡ G (above_item k) → (f : IsDirection (cross u j.point)) → (c : Label) → AllMeet M V u ahead j.point f G top firsts joins c → c ≡ G (above_item k)
