@@ -17,3 +17,4 @@ pub mod NearSvertex
 pub mod FarWay
 pub mod SectorSees
 pub mod FirstMet
+pub mod FirstSees
