@@ -18,3 +18,4 @@ pub mod FarWay
 pub mod SectorSees
 pub mod FirstMet
 pub mod FirstSees
+pub mod SideNumbers

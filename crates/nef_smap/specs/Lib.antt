@@ -5,3 +5,4 @@ pub mod Above
 pub mod Joined
 pub mod Items
 pub mod Ways
+pub mod SideNumbers
