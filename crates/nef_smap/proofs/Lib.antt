@@ -19,3 +19,4 @@ pub mod SectorSees
 pub mod FirstMet
 pub mod FirstSees
 pub mod SideNumbers
+pub mod Chains

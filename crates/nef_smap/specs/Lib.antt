@@ -6,3 +6,4 @@ pub mod Joined
 pub mod Items
 pub mod Ways
 pub mod SideNumbers
+pub mod Links
