@@ -20,3 +20,4 @@ pub mod FirstMet
 pub mod FirstSees
 pub mod SideNumbers
 pub mod Chains
+pub mod Sound
