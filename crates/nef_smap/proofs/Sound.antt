@@ -2,6 +2,7 @@
 use Rattle.std.proofs.Common.{◌≡◌, ℕ, zero, suc, ◌+◌, ◌<◌, ◌≤◌, ℤ, pos, ◌+ℤ◌, ◌-ℤ◌, ◌*ℤ◌, ◌<ℤ◌, neg_ℤ, arith, refl, ap, sym, ◌∙◌, ◌⊎◌, inl, inr, ⊎_elim, List, [], ◌∷◌, length, subst, Option, Some, None}
 use Rattle.std.proofs.lemmas.Int.{ints}
 use Rattle.nef_exact.proofs.Ring.{ring, at, num, neg, ◌⊕◌, ◌⊖◌, ◌⊗◌}
+use Rattle.nef_exact.proofs.Combination.{follows, given, none}
 use Rattle.nef_exact.proofs.Order.{Sign, minus, nought, plus, sign, sign-plus, plus-is, nought-is, mul_pos, sign-scaled}
 use Rattle.nef_exact.specs.Signs.{Lies}
 use Rattle.nef_space.specs.Lists.{IsAt, Chained}
@@ -48,6 +49,21 @@ less_or : (s n : ℕ) → (s < n) ⊎ (n ≤ s)
 less_or s zero = inr (omega arith)
 less_or zero (suc n) = inl (omega arith)
 less_or (suc s) (suc n) = ⊎_elim (λ h. inl (omega arith)) (λ h. inr (omega arith)) (less_or s n)
+
+-- the turn from s to r, both in the plane of n
+along-turn : (n s r u : Vector) → dot n s ≡ pos 0 → dot n r ≡ pos 0 → dot n n *ℤ dot (cross u s) r ≡ triple n s r *ℤ dot n u
+along-turn n s r u p q =
+    let nx = at 0 in let ny = at 1 in let nz = at 2 in
+    let sx = at 3 in let sy = at 4 in let sz = at 5 in
+    let rx = at 6 in let ry = at 7 in let rz = at 8 in
+    let ux = at 9 in let uy = at 10 in let uz = at 11 in
+    let o = num (pos 0) in
+    -- n x (s x r) = s (n.r) - r (n.s)
+    follows (n.x ∷ n.y ∷ n.z ∷ s.x ∷ s.y ∷ s.z ∷ r.x ∷ r.y ∷ r.z ∷ u.x ∷ u.y ∷ u.z ∷ [])
+    ((nx ⊗ nx ⊕ ny ⊗ ny ⊕ nz ⊗ nz) ⊗ ((uy ⊗ sz ⊖ uz ⊗ sy) ⊗ rx ⊕ (uz ⊗ sx ⊖ ux ⊗ sz) ⊗ ry ⊕ (ux ⊗ sy ⊖ uy ⊗ sx) ⊗ rz))
+    ((nx ⊗ (sy ⊗ rz ⊖ sz ⊗ ry) ⊕ ny ⊗ (sz ⊗ rx ⊖ sx ⊗ rz) ⊕ nz ⊗ (sx ⊗ ry ⊖ sy ⊗ rx)) ⊗ (nx ⊗ ux ⊕ ny ⊗ uy ⊕ nz ⊗ uz))
+    (given (o ⊖ (ux ⊗ (ny ⊗ sz ⊖ nz ⊗ sy) ⊕ uy ⊗ (nz ⊗ sx ⊖ nx ⊗ sz) ⊕ uz ⊗ (nx ⊗ sy ⊖ ny ⊗ sx))) (nx ⊗ rx ⊕ ny ⊗ ry ⊕ nz ⊗ rz) o q
+    (given (ux ⊗ (ny ⊗ rz ⊖ nz ⊗ ry) ⊕ uy ⊗ (nz ⊗ rx ⊖ nx ⊗ rz) ⊕ uz ⊗ (nx ⊗ ry ⊖ ny ⊗ rx)) (nx ⊗ sx ⊕ ny ⊗ sy ⊕ nz ⊗ sz) o p none)) tt
 
 module _ (M : Map) (V : Shaped M) (u : Vector) (ahead : (k : ℕ) (x : Item) → At (items M) k x → pos 0 <ℤ dot (item_normal x) u)
     (across : (k : ℕ) (v : Svertex) → At M.svertices k v → IsDirection (cross u v.way)) (hu : IsDirection u) where
@@ -353,7 +369,81 @@ module _ (M : Map) (V : Shaped M) (u : Vector) (ahead : (k : ℕ) (x : Item) →
 
   -- ---- above an arc
   arc-joined : (k : ℕ) (r : Arc) (a : At (items M) k (arc_item r)) (j : ArcFirst M u r) → Together (root (number_of M (above_item k))) (root (met_number M j.first))
-  arc-joined k r a j = ?
+  arc-joined k r a j = one-direction y sees.1 (number_of M (above_item k)) (met_number M j.first) sees.0 (met-sees y sees.1 generic j.first (j.is_first y y-stands))
+    where
+      n : Vector
+      n = r.normal
+
+      s : Vector
+      s = way_of M.svertices r.source
+
+      t : Vector
+      t = way_of M.svertices r.target
+
+      hn : IsDirection r.normal
+      hn = normal-is V k (arc_item r) a
+
+      hs : IsDirection (way_of M.svertices r.source)
+      hs = let b = V.arcs_between k r (arc-at M.arcs M.loop k r a) in subst IsDirection (sym (way-at M.svertices r.source b.source b.has_source)) (V.svertex_ways r.source b.source b.has_source)
+
+      ht : IsDirection (way_of M.svertices r.target)
+      ht = let b = V.arcs_between k r (arc-at M.arcs M.loop k r a) in subst IsDirection (sym (way-at M.svertices r.target b.target b.has_target)) (V.svertex_ways r.target b.target b.has_target)
+
+      ls : dot r.normal (way_of M.svertices r.source) ≡ pos 0
+      ls = let b = V.arcs_between k r (arc-at M.arcs M.loop k r a) in subst (λ (v : Vector). dot r.normal v ≡ pos 0) (sym (way-at M.svertices r.source b.source b.has_source)) b.level_source
+
+      lt : dot r.normal (way_of M.svertices r.target) ≡ pos 0
+      lt = let b = V.arcs_between k r (arc-at M.arcs M.loop k r a) in subst (λ (v : Vector). dot r.normal v ≡ pos 0) (sym (way-at M.svertices r.target b.target b.has_target)) b.level_target
+
+      K : ℕ
+      K = amount (cross t n ∷ []) (cross n s) + amount (over_forms M u) (cross n s)
+
+      z : Vector
+      z = blend K s 1 (cross n s)
+
+      l : Vector
+      l = cross u z
+
+      on-z : OnItem M (arc_item r) z
+      on-z = arc-point n s t hn hs ht ls lt K (omega arith)
+
+      off-z : IsDirection (cross u z)
+      off-z = apart n u z (λ e. let h = ahead k (arc_item r) a in omega (arith, ints)) (on-level M (arc_item r) z on-z) (on-direction M (arc_item r) z on-z)
+
+      y : Vector
+      y = arc-viewer M V u ahead k r a j hs ls K (omega arith)
+
+      near-z : Stands (over_forms M u) z u l y
+      near-z g i = stands (l ∷ over_forms M u) z u l g (inr i)
+
+      y-stands : Stands (over_forms M u) s j.along u y
+      y-stands = arc-viewer_stands M V u ahead k r a j hs ls K (omega arith)
+
+      above : pos 0 <ℤ dot n y
+      above = plus-is (dot n y) (stands-second (over_forms M u) z u l y n near-z (form-over M u n (item-forms M k (arc_item r) n a (normal-form M (arc_item r)))) (on-level M (arc_item r) z on-z)
+          ∙ ap (λ t. first_sign t (sign (dot n l))) (sign-plus (dot n u) (ahead k (arc_item r) a)))
+
+      sees : ElementSees (number_of M (above_item k)) y × IsFree M y
+      sees = upper-sees k (arc_item r) a z y on-z (forms-kept z y (stands-keeps (over_forms M u) z u l y near-z)) above
+
+      first-last : (t : Sign) → first_sign t nought ≡ t
+      first-last minus = refl
+      first-last nought = refl
+      first-last plus = refl
+
+      aside : (m : Vector) → Lies (meridians M u) m → sign (dot m y) ≡ first_sign (sign (dot m s)) (sign (dot m j.along))
+      aside m i = y-stands m (meridian-over M u m i) ∙ ap (λ t. first_sign (sign (dot m s)) (first_sign (sign (dot m j.along)) t)) (ap sign (meridian-level M u m i)) ∙ ap (first_sign (sign (dot m s))) (first-last (sign (dot m j.along)))
+
+      off : dot (cross u s) j.along ≡ pos 0 → ⊥
+      off e =
+          let i = along-turn n s j.along u ls j.level in
+          let q = ap (λ x. dot n n *ℤ x) e in
+          let o = ring (dot n n ∷ []) (at 0 ⊗ num (pos 0)) (num (pos 0)) tt in
+          let h = mul_pos (triple n s j.along) (dot n u) j.forward (ahead k (arc_item r) a) in
+          omega (arith, ints)
+
+      generic : Generic M u y
+      generic = generic-by s j.along y off aside l (cross-self u z) (arc-viewer_off M V u ahead k r a j hs ls K (omega arith) off-z)
 
   -- ---- all joins
   pub sound : (F : Firsts M u) (s t : ℕ) → IsJoin M u F s t → Together (root s) (root t)
