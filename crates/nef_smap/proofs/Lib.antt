@@ -21,3 +21,4 @@ pub mod FirstSees
 pub mod SideNumbers
 pub mod Chains
 pub mod Sound
+pub mod Sfaces
