@@ -22,3 +22,4 @@ pub mod SideNumbers
 pub mod Chains
 pub mod Sound
 pub mod Sfaces
+pub mod ClassLists

@@ -7,3 +7,4 @@ pub mod Items
 pub mod Ways
 pub mod SideNumbers
 pub mod Links
+pub mod Classes

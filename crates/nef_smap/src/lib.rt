@@ -6,11 +6,13 @@
 //! al., "Boolean Operations on 3D Selective Nef Complexes", ESA 2003.
 #![tactic(auto)]
 
+mod classes;
 mod duplicate;
 mod item;
 mod map;
 mod side;
 
+pub use classes::{Link, class_numbers, class_of_each};
 pub use duplicate::copy;
 pub use map::{RawStars, SArc, SLoop, SPlace, SVertex, SphereMap};
 pub use side::{side_label, sides};
