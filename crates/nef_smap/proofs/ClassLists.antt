@@ -1,6 +1,10 @@
 -- One more link joins two classes; one more element has its class's number.
-use Rattle.std.proofs.Common.{◌≡◌, ◌≢◌, ℕ, zero, suc, ◌+◌, ◌<◌, ◌≤◌, ◌⊎◌, inl, inr, ⊎_elim, List, [], ◌∷◌, ◌++◌, length, Option, Some, None, cond, arith, length-append, refl, ap, sym, ◌∙◌, subst, slice_get, ◌↔◌}
+use Rattle.std.proofs.Common.{◌≡◌, ◌≢◌, ℕ, zero, suc, ◌+◌, ◌<◌, ◌≤◌, ◌⊎◌, inl, inr, ⊎_elim, List, [], ◌∷◌, ◌++◌, length, Option, Some, None, cond, arith, length-append, take, drop, get_or, set, get_or-set_same, get_or-set_other, refl, ap, sym, ◌∙◌, subst, slice_get, ◌↔◌}
 use Rattle.std.proofs.lemmas.Bool.Decides.{eqb_tells}
+use Rattle.std.proofs.lemmas.List.{append-nil, take_all, length-take, get_or-take}
+use Rattle.std.proofs.lemmas.Option.{slice_get-get_or, get_or_from_slice_get}
+use Rattle.std.proofs.Math.ListN.{drop_of_length-le, length-set}
+use Rattle.std.proofs.Math.Seq.{take-suc}
 use Rattle.nef_space.specs.Lists.{IsAt, Chained}
 use Rattle.nef_smap.specs.declared.classes.Link.{Link}
 use Rattle.nef_smap.specs.Classes.{AreLinked, AreWithin, AreClasses, renamed_to, AreJoined, AreNumbered}
@@ -229,3 +233,66 @@ module _ (cs ns : List ℕ) (next : ℕ) (N : IsNumberedTo cs ns next) (x : ℕ)
 
 pub none-numbered : IsNumberedTo [] [] 0
 none-numbered = record { numbered = record { as_many = refl; same = λ s t c d m n p. cc; by_appearance = λ s m n a. cc }; below = λ s n a. cc; each = λ m h. absurd (omega arith); few = omega arith }
+
+-- ---- the loops
+pub is-at_get : {X : Type 0} (xs : List X) (k : ℕ) (d : X) → k < length xs → IsAt xs k (get_or xs k d)
+is-at_get xs k d h = slice_get-get_or xs k d h
+
+pub is-at_is : {X : Type 0} (xs : List X) (k : ℕ) (x d : X) → IsAt xs k x → get_or xs k d ≡ x
+is-at_is xs k x d a = get_or_from_slice_get xs k x d a
+
+pub is-at_take : {X : Type 0} (n : ℕ) (xs : List X) (k : ℕ) (x : X) → IsAt (take n xs) k x → IsAt xs k x
+is-at_take n xs k x a =
+    let h = is-at_within (take n xs) k x a in
+    let l = length-take n xs in
+    let p : k < n = omega (arith, l) in
+    let q : k < length xs = omega (arith, l) in
+    subst (IsAt xs k) (sym (get_or-take n xs k x p) ∙ is-at_is (take n xs) k x x a) (is-at_get xs k x q)
+
+pub take-more : {X : Type 0} (xs : List X) (k : ℕ) (d : X) → k < length xs → take (k + 1) xs ≡ take k xs ++ get_or xs k d ∷ []
+take-more xs k d h = ap (λ (n : ℕ). take n xs) (let e : k + 1 ≡ suc k = omega arith in e) ∙ take-suc xs k d h
+
+-- what renaming keeps: the first i are renamed
+abbrev pub RenamedTo : ℕ → ℕ → ℕ → List ℕ → List ℕ → Type 0
+RenamedTo from to i start cs = (k c : ℕ) → IsAt start k c → (k < i → IsAt cs k (renamed_to from to c)) × (i ≤ k → IsAt cs k c)
+
+pub rename-next : (from to i v : ℕ) (start cs : List ℕ) → i < length start → length cs ≡ length start → v ≡ renamed_to from to (get_or cs i 0) → RenamedTo from to i start cs → RenamedTo from to (i + 1) start (set cs i v)
+rename-next from to i v start cs h l e R k c a = (
+  λ p. ⊎_elim (λ q. other (λ z. absurd (omega arith)) (renamed_to from to c) ((R k c a).0 q)) (λ q. here q) (below k i p),
+  λ p. other (λ z. absurd (omega arith)) c ((R k c a).1 (omega arith)),
+)
+  where
+    below : (k i : ℕ) → k < i + 1 → (k < i) ⊎ (k ≡ i)
+    below zero zero h = inr refl
+    below zero (suc i) h = inl (omega arith)
+    below (suc k) zero h = absurd (omega arith)
+    below (suc k) (suc i) h = ⊎_elim (λ a. inl (omega arith)) (λ a. inr (ap suc a)) (below k i (omega arith))
+
+    other : k ≢ i → (x : ℕ) → IsAt cs k x → IsAt (set cs i v) k x
+    other n x b =
+        let w = is-at_within cs k x b in
+        let m = length-set cs i v in
+        subst (IsAt (set cs i v) k) (get_or-set_other cs i k v x n ∙ is-at_is cs k x x b) (is-at_get (set cs i v) k x (omega (arith, m)))
+
+    here : k ≡ i → IsAt (set cs i v) k (renamed_to from to c)
+    here q =
+        let b = (R k c a).1 (omega arith) in
+        let m = length-set cs i v in
+        let x : get_or (set cs i v) k 0 ≡ v = ap (λ (j : ℕ). get_or (set cs i v) j 0) q ∙ get_or-set_same cs i v 0 (omega arith) in
+        let y : get_or cs i 0 ≡ c = ap (λ (j : ℕ). get_or cs j 0) (sym q) ∙ is-at_is cs k c 0 b in
+        subst (IsAt (set cs i v) k) (x ∙ e ∙ ap (renamed_to from to) y) (is-at_get (set cs i v) k 0 (omega (arith, m)))
+
+pub rename-all : (start cs : List ℕ) (link : Link) (i : ℕ) → link.first < length start → link.second < length start → length start ≤ i
+    → RenamedTo (get_or start link.second 0) (get_or start link.first 0) i start cs → AreJoined link start cs
+rename-all start cs link i p q h R = record {
+  kept = get_or start link.first 0;
+  renamed = get_or start link.second 0;
+  of_first = is-at_get start link.first 0 p;
+  of_second = is-at_get start link.second 0 q;
+  each = λ k c a. let w = is-at_within start k c a in (R k c a).0 (omega arith);
+}
+
+-- the vector with its elements written
+pub refilled : (ds xs : List ℕ) (n : ℕ) → length xs ≡ n → length ds ≡ length xs → take n (ds ++ drop (length ds) xs) ≡ ds
+refilled ds xs n e f =
+    ap (λ (ys : List ℕ). take n (ds ++ ys)) (drop_of_length-le xs {i = length ds} (omega arith)) ∙ ap (take n) (append-nil ds) ∙ take_all n ds (omega arith)
