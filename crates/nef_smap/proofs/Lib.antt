@@ -23,3 +23,4 @@ pub mod Chains
 pub mod Sound
 pub mod Sfaces
 pub mod ClassLists
+pub mod CloseSigns

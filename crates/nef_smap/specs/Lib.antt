@@ -8,3 +8,4 @@ pub mod Ways
 pub mod SideNumbers
 pub mod Links
 pub mod Classes
+pub mod Close

@@ -6,6 +6,7 @@
 //! al., "Boolean Operations on 3D Selective Nef Complexes", ESA 2003.
 #![tactic(auto)]
 
+mod above;
 mod classes;
 mod duplicate;
 mod item;

@@ -1,0 +1,77 @@
+//! What lies over directions of a sphere map: what the way from them to the upward direction meets first.
+
+ghost use Rattle.std.specs.Prelude.{◌≡◌, ◌<◌, ℕ, pos, ◌<ℤ◌, ◌↔◌, IsTrue, length, slice_get, Some};
+ghost use Rattle.nef_space.specs.Limits.{normal_limit, svertex_limit};
+ghost use Rattle.nef_exact.specs.Signs.{Sign as Signum, minus, plus, sign};
+ghost use Rattle.nef_space.specs.Vectors.{Vector, dot, cross, triple, up, IsAtMost};
+ghost use Rattle.nef_geo.specs.Shapes.{vector_of};
+ghost use Rattle.nef_sphere.specs.Maps.{At, Item, items};
+ghost use Rattle.nef_smap.specs.Maps.{map_of, IsSphereMap};
+ghost use Rattle.nef_smap.specs.Above.{first_sign, rise_form, IsOver, IsFirst};
+ghost use Rattle.nef_smap.specs.Close.{geo_sign, close_sign, IsClose, ArcPasses};
+
+use crate::item::{Item, item_at, item_count};
+use crate::map::{SArc, SphereMap};
+use nef_geo::{Dir, Sign, dot, quad, triple, up};
+
+// How directions lie close to one.
+#[derive(Clone, Copy)]
+pub(crate) enum Lean {
+    // Below it, and there a little aside.
+    Down,
+    // Over it, and there a little aside.
+    Up,
+    // Aside, and there a little over.
+    Along,
+}
+
+// The directions close to one, all of which have the same sign on each of a map's forms. They lie toward `aside`, and
+// also down or up.
+#[derive(Clone, Copy)]
+pub(crate) struct Close {
+    pub(crate) at: Dir,
+    pub(crate) aside: Dir,
+    pub(crate) lean: Lean,
+}
+
+// The first sign that isn't zero.
+fn first_of(first: Sign, second: Sign) -> Sign
+    ensures first { (s t : Signum) → first ≡ geo_sign s → second ≡ geo_sign t → result ≡ geo_sign (first_sign s t) }
+{
+    if first == Sign::Zero { second } else { first }
+}
+
+impl Close {
+    // The side of the normal's plane on which they lie.
+    fn side(&self, normal: &Dir) -> Sign
+        requires ahead { pos 0 <ℤ dot (vector_of normal.now) up }
+        ensures side { result ≡ geo_sign (close_sign (vector_of normal.now) self.now) }
+    {
+        let beyond = match self.lean {
+            Lean::Down => Sign::Minus,
+            Lean::Up => Sign::Plus,
+            Lean::Along => first_of(dot(normal, &self.aside), Sign::Plus),
+        };
+        first_of(dot(normal, &self.at), beyond)
+    }
+
+    // On which side of the plane of the upward direction and d they lie.
+    fn turn(&self, d: &Dir) -> Sign
+        ensures turn { result ≡ geo_sign (close_sign (cross up (vector_of d.now)) self.now) }
+    {
+        let up = up();
+        first_of(triple(d, &self.at, &up), triple(d, &self.aside, &up))
+    }
+
+    // On which side of the second normal's plane the way up from them meets the first normal's.
+    fn meeting(&self, first: &Dir, second: &Dir) -> Sign
+        requires at_small { IsAtMost svertex_limit (vector_of self.now.at) }
+        requires aside_small { IsAtMost svertex_limit (vector_of self.now.aside) }
+        requires first_small { IsAtMost normal_limit (vector_of first.now) }
+        requires second_small { IsAtMost normal_limit (vector_of second.now) }
+        ensures meeting { result ≡ geo_sign (close_sign (rise_form up (vector_of first.now) (vector_of second.now)) self.now) }
+    {
+        let up = up();
+        first_of(quad(&up, &self.at, first, second), quad(&up, &self.aside, first, second))
+    }
+}
