@@ -1,5 +1,5 @@
 -- The signs of directions close to one on the forms that say what lies over them, as the program computes them.
-use Rattle.std.proofs.Common.{◌≡◌, ℕ, ◌≤◌, zero, suc, ℤ, pos, negsuc, ◌+ℤ◌, ◌-ℤ◌, ◌*ℤ◌, ◌<ℤ◌, arith, refl, ap, sym, ◌∙◌, [], ◌∷◌}
+use Rattle.std.proofs.Common.{◌≡◌, ℕ, ◌≤◌, zero, suc, ℤ, pos, negsuc, ◌+ℤ◌, ◌-ℤ◌, ◌*ℤ◌, ◌<ℤ◌, arith, refl, ap, sym, ◌∙◌, ◌⊎◌, inl, inr, ⊎_elim, List, [], ◌∷◌, map, slice_get, Some, ◌↔◌}
 use Rattle.std.proofs.lemmas.Int.{ints}
 use Rattle.nef_exact.proofs.Ring.{ring, at, num, neg, ◌⊕◌, ◌⊖◌, ◌⊗◌}
 use Rattle.nef_exact.proofs.Order.{Sign, minus, nought, plus, sign, sign-plus, sign-minus}
@@ -12,7 +12,10 @@ use Rattle.nef_smap.specs.declared.above.Close.{Close}
 use Rattle.nef_smap.specs.declared.above.Lean.{Lean}
 use Rattle.nef_smap.specs.declared.above.Lean.TheVariants.{Down, Up, Along}
 use Rattle.nef_smap.specs.Above.{rise_form, first_sign}
-use Rattle.nef_smap.specs.Close.{geo_sign, toward, then_toward, close_sign}
+use Rattle.nef_smap.specs.Close.{geo_sign, toward, then_toward, close_sign, ArcPasses}
+use Rattle.nef_sphere.specs.Maps.{way_of}
+use Rattle.nef_smap.specs.declared.map.SVertex.{SVertex}
+use Rattle.nef_smap.specs.Maps.{svertex_of}
 use Rattle.nef_smap.proofs.Rise.{rise_form-level, rise_form-value}
 use Rattle.nef_smap.proofs.Stands.{dot-opposite}
 use Rattle.nef_sphere.proofs.Direct.{cross-self}
@@ -86,3 +89,28 @@ beyond-up n a l b h e f = f ∙ sym (ap geo_sign (ap (λ (k : Lean). beyond_sign
 
 pub beyond-along : (n a : Vector) (l : Lean) (b : GeoSign) → pos 0 <ℤ dot n up → l ≡ Along → b ≡ geo_sign (first_sign (sign (dot n a)) plus) → b ≡ geo_sign (beyond_sign n l a)
 beyond-along n a l b h e f = f ∙ sym (ap geo_sign (ap (λ (k : Lean). beyond_sign n k a) e ∙ side-along n a h))
+
+pub geo-one : (s t : Sign) → geo_sign s ≡ geo_sign t → s ≡ t
+geo-one minus minus e = refl
+geo-one minus nought e = absurd cc
+geo-one minus plus e = absurd cc
+geo-one nought minus e = absurd cc
+geo-one nought nought e = refl
+geo-one nought plus e = absurd cc
+geo-one plus minus e = absurd cc
+geo-one plus nought e = absurd cc
+geo-one plus plus e = refl
+
+pub passes-alike : (s : Sign) (A A' B B' C C' : Type 0) → (A ↔ A') → (B ↔ B') → (C ↔ C') → ArcPasses s A B C ↔ ArcPasses s A' B' C'
+passes-alike plus A A' B B' C C' a b c = (λ p. (a.0 p.0, b.0 p.1), λ p. (a.1 p.0, b.1 p.1))
+passes-alike minus A A' B B' C C' a b c = (λ p. ⊎_elim (λ x. inl (a.0 x)) (λ x. inr (b.0 x)) p, λ p. ⊎_elim (λ x. inl (a.1 x)) (λ x. inr (b.1 x)) p)
+passes-alike nought A A' B B' C C' a b c = (λ p. ⊎_elim (λ x. inl (c.0 x)) (λ x. inr (a.0 x)) p, λ p. ⊎_elim (λ x. inl (c.1 x)) (λ x. inr (a.1 x)) p)
+
+-- a test of a sign
+pub sign-test : (T : Type 0) (r : GeoSign) (s t : Sign) → (T ↔ (r ≡ geo_sign t)) → r ≡ geo_sign s → T ↔ (s ≡ t)
+sign-test T r s t d e = (λ h. geo-one s t (sym e ∙ d.0 h), λ h. d.1 (e ∙ ap geo_sign h))
+
+pub way-from_get : (vs : List SVertex) (k : ℕ) (v : SVertex) → slice_get vs k ≡ Some v → way_of (map svertex_of vs) k ≡ vector_of v.dir
+way-from_get [] k v e = cc
+way-from_get (w ∷ vs) zero v e = let f : w ≡ v = cc in ap (λ (r : SVertex). vector_of r.dir) f
+way-from_get (w ∷ vs) (suc k) v e = way-from_get vs k v e

@@ -24,3 +24,4 @@ pub mod Sound
 pub mod Sfaces
 pub mod ClassLists
 pub mod CloseSigns
+pub mod Passing

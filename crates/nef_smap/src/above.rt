@@ -5,7 +5,7 @@ ghost use Rattle.nef_space.specs.Limits.{normal_limit, svertex_limit};
 ghost use Rattle.nef_exact.specs.Signs.{Sign as Signum, minus, plus, sign};
 ghost use Rattle.nef_space.specs.Vectors.{Vector, dot, cross, triple, up, IsAtMost};
 ghost use Rattle.nef_geo.specs.Shapes.{vector_of};
-ghost use Rattle.nef_sphere.specs.Maps.{At, Item, items};
+ghost use Rattle.nef_sphere.specs.Maps.{At, Item as PlainItem, items, way_of};
 ghost use Rattle.nef_smap.specs.Maps.{map_of, IsSphereMap};
 ghost use Rattle.nef_smap.specs.Above.{first_sign, rise_form, IsOver, IsFirst};
 ghost use Rattle.nef_smap.specs.Close.{geo_sign, close_sign, IsClose, ArcPasses};
@@ -74,4 +74,30 @@ impl Close {
         let up = up();
         first_of(quad(&up, &self.at, first, second), quad(&up, &self.aside, first, second))
     }
+}
+
+// Whether a direction on an arc's circle is strictly on it: by the turn from its source to its target, whether its source
+// is passed before the direction and its target after, each on less than half a circle, and whether the two are the same.
+fn is_passed(turn: Sign, past_source: bool, before_target: bool, whole: bool) -> bool
+    ensures passed { (s : Signum) → turn ≡ geo_sign s → IsTrue result ↔ ArcPasses s (IsTrue past_source) (IsTrue before_target) (IsTrue whole) }
+{
+    match turn {
+        Sign::Plus => past_source && before_target,
+        Sign::Minus => past_source || before_target,
+        Sign::Zero => whole || past_source,
+    }
+}
+
+// Whether the way up from the directions, which crosses the arc's circle, passes the arc.
+fn passes(map: &SphereMap, arc: &SArc, way: &Close) -> bool
+    requires source { arc.now.source < length map.now.svertices }
+    requires target { arc.now.target < length map.now.svertices }
+    ensures passes { let vs = (map_of map.now).svertices in IsTrue result ↔ ArcPasses (sign (triple (vector_of arc.now.normal) (way_of vs arc.now.source) (way_of vs arc.now.target))) (close_sign (cross up (way_of vs arc.now.source)) way.now ≡ plus) (close_sign (cross up (way_of vs arc.now.target)) way.now ≡ minus) (arc.now.source ≡ arc.now.target) }
+{
+    let source = map.svertices.at(arc.source).dir;
+    let target = map.svertices.at(arc.target).dir;
+    let past_source = way.turn(&source) == Sign::Plus;
+    let before_target = way.turn(&target) == Sign::Minus;
+    let turn = triple(&arc.normal, &source, &target);
+    is_passed(turn, past_source, before_target, arc.source == arc.target)
 }
