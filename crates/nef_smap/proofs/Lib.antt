@@ -25,3 +25,5 @@ pub mod Sfaces
 pub mod ClassLists
 pub mod CloseSigns
 pub mod Passing
+pub mod Upward
+pub mod FirstOf

@@ -1,5 +1,5 @@
 -- What lies over a direction: what the way from it to a fixed direction u meets first.
-use Rattle.std.specs.Prelude.{◌≡◌, ℕ, pos, ◌-ℤ◌, ◌≤ℤ◌, ◌<ℤ◌, List, [], ◌∷◌, ◌++◌, Option, Some, None}
+use Rattle.std.specs.Prelude.{◌≡◌, ℕ, ◌<◌, pos, ◌-ℤ◌, ◌≤ℤ◌, ◌<ℤ◌, List, [], ◌∷◌, ◌++◌, Option, Some, None}
 use Rattle.nef_exact.specs.Signs.{Sign, minus, nought, plus, sign, Lies}
 use Rattle.nef_space.specs.Vectors.{Vector, dot, cross}
 use Rattle.nef_sphere.specs.Vectors.{comb}
@@ -30,6 +30,11 @@ pub record IsFirstItem (M : Map) (u d : Vector) (k : ℕ) : Type 0 where
 abbrev pub IsFirst : Map → Vector → Vector → Option ℕ → Type 0
 IsFirst M u d None = (k : ℕ) (x : Item) → At (items M) k x → IsOver M u x d → ⊥
 IsFirst M u d (Some k) = IsFirstItem M u d k
+
+-- the same among the first n items
+abbrev pub IsFirstOf : Map → Vector → Vector → ℕ → Option ℕ → Type 0
+IsFirstOf M u d n None = (k : ℕ) (x : Item) → k < n → At (items M) k x → IsOver M u x d → ⊥
+IsFirstOf M u d n (Some k) = (x : Item) × At (items M) k x × IsOver M u x d × ((l : ℕ) (y : Item) → l < n → At (items M) l y → IsOver M u y d → pos 0 ≤ℤ dot (item_normal x) (rise u (item_normal y) d))
 
 -- the forms whose signs say what lies over a direction
 abbrev pub rise_forms : Map → Vector → List Vector

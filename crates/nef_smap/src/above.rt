@@ -1,13 +1,14 @@
 //! What lies over directions of a sphere map: what the way from them to the upward direction meets first.
 
-ghost use Rattle.std.specs.Prelude.{◌≡◌, ◌<◌, ℕ, pos, ◌<ℤ◌, ◌↔◌, IsTrue, length, slice_get, Some};
+ghost use Rattle.std.specs.Prelude.{◌≡◌, ◌+◌, ◌<◌, ℕ, IfSome, pos, ◌<ℤ◌, ◌↔◌, IsTrue, length, slice_get, Some};
 ghost use Rattle.nef_space.specs.Limits.{normal_limit, svertex_limit};
 ghost use Rattle.nef_exact.specs.Signs.{Sign as Signum, minus, plus, sign};
 ghost use Rattle.nef_space.specs.Vectors.{Vector, dot, cross, triple, up, IsAtMost};
 ghost use Rattle.nef_geo.specs.Shapes.{vector_of};
 ghost use Rattle.nef_sphere.specs.Maps.{At, Item as PlainItem, items, way_of};
 ghost use Rattle.nef_smap.specs.Maps.{map_of, IsSphereMap};
-ghost use Rattle.nef_smap.specs.Above.{first_sign, rise_form, IsOver, IsFirst};
+ghost use Rattle.nef_smap.specs.Items.{item_of};
+ghost use Rattle.nef_smap.specs.Above.{first_sign, rise_form, IsOver, IsFirst, IsFirstOf};
 ghost use Rattle.nef_smap.specs.Close.{geo_sign, close_sign, IsClose, ArcPasses};
 
 use crate::item::{Item, item_at, item_count};
@@ -100,4 +101,61 @@ fn passes(map: &SphereMap, arc: &SArc, way: &Close) -> bool
     let before_target = way.turn(&target) == Sign::Minus;
     let turn = triple(&arc.normal, &source, &target);
     is_passed(turn, past_source, before_target, arc.source == arc.target)
+}
+
+// Whether the way up from the directions meets the item.
+fn is_over(map: &SphereMap, item: &Item, way: &Close) -> bool
+    requires map { IsSphereMap map.now }
+    requires listed { (k : ℕ) × At (items (map_of map.now)) k (item_of item.now) }
+    requires off { dot (cross up (vector_of way.now.at)) (vector_of way.now.aside) ≡ pos 0 → ⊥ }
+    ensures over { (d : Vector) → IsClose map.now way.now d → IsTrue result ↔ IsOver (map_of map.now) up (item_of item.now) d }
+{
+    if way.side(item.normal()) != Sign::Minus {
+        return false;
+    }
+    match item {
+        Item::Arc(arc) => passes(map, arc, way),
+        Item::Loop(_) => true,
+    }
+}
+
+// The first that is met of the items before `number`, which is `earlier` if one of them is met, and of the item with this
+// number.
+fn first_met(map: &SphereMap, earlier: Option<usize>, number: usize, way: &Close) -> Option<usize>
+    requires map { IsSphereMap map.now }
+    requires earlier { IfSome earlier (λ k. k < length (items (map_of map.now))) }
+    requires number { number < length (items (map_of map.now)) }
+    requires off { dot (cross up (vector_of way.now.at)) (vector_of way.now.aside) ≡ pos 0 → ⊥ }
+    requires at_small { IsAtMost svertex_limit (vector_of way.now.at) }
+    requires aside_small { IsAtMost svertex_limit (vector_of way.now.aside) }
+    ensures within { IfSome result (λ k. k < length (items (map_of map.now))) }
+    ensures first { (d : Vector) → IsClose map.now way.now d → IsFirstOf (map_of map.now) up d number earlier → IsFirstOf (map_of map.now) up d (number + 1) result }
+{
+    let item = item_at(map, number);
+    if !is_over(map, &item, way) {
+        return earlier;
+    }
+    match earlier {
+        None => Some(number),
+        Some(best) => {
+            let lower = way.meeting(item.normal(), item_at(map, best).normal()) == Sign::Minus;
+            if lower { Some(number) } else { earlier }
+        }
+    }
+}
+
+// The item that the way up from the directions meets first.
+pub(crate) fn above(map: &SphereMap, way: &Close) -> Option<usize>
+    requires map { IsSphereMap map.now }
+    requires off { dot (cross up (vector_of way.now.at)) (vector_of way.now.aside) ≡ pos 0 → ⊥ }
+    requires at_small { IsAtMost svertex_limit (vector_of way.now.at) }
+    requires aside_small { IsAtMost svertex_limit (vector_of way.now.aside) }
+    ensures within { IfSome result (λ k. k < length (items (map_of map.now))) }
+    ensures first { (d : Vector) → IsClose map.now way.now d → IsFirst (map_of map.now) up d result }
+{
+    let mut first = None;
+    for number in 0..item_count(map) {
+        first = first_met(map, first, number, way);
+    }
+    first
 }
