@@ -135,6 +135,13 @@ module _ (m : SphereMap) (S : IsSphereMap m) where
         let e = close n (form-over M up n (item-forms M k x n a (normal-form M x))) in
         (λ h. minus-is (dot n d) (e ∙ h), λ h. sym e ∙ sign-minus (dot n d) h)
 
+    -- where the meet with one item's plane lies at another's
+    pub rise-sign : (k l : ℕ) (x y : Item) → At (items M) k x → At (items M) l y → sign (dot (item_normal y) (rise up (item_normal x) d)) ≡ close_sign (rise_form up (item_normal x) (item_normal y)) w
+    rise-sign k l x y a b =
+        let n = item_normal x in
+        let g = item_normal y in
+        ap sign (rise-is up n g d) ∙ close (rise_form up n g) (meridian-over M up (rise_form up n g) (rise-meridian M up k x g a (item-forms M l y g b (normal-form M y))))
+
     pub loop-over : (k : ℕ) (l : Loop) → At (items M) k (loop_item l) → close_sign l.normal w ≡ minus ↔ IsOver M up (loop_item l) d
     loop-over k l a = let b = below-is k (loop_item l) a in (
       λ h. record { below = b.0 h; on = record { direction = some-rise k (loop_item l) a; level = rise-level up l.normal d } },
