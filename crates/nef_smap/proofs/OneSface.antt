@@ -26,7 +26,7 @@ use Rattle.nef_sphere.proofs.Arcs.{loop-at}
 use Rattle.nef_sphere.proofs.Flips.{Axial, directed-by, far_directed-by, loop-along}
 use Rattle.nef_sphere.proofs.ArcLabels.{arc-along}
 use Rattle.nef_smap.specs.Above.{over_forms, IsFirst, Stands}
-use Rattle.nef_smap.specs.Joined.{met, BelowFirsts, Firsts, Joins}
+use Rattle.nef_smap.specs.Joined.{met, BelowFirst, Firsts, Joins}
 use Rattle.nef_smap.proofs.Rise.{form-over}
 use Rattle.nef_smap.proofs.Stands.{stand, stands, stands-keeps, stands-third, dot-opposite}
 use Rattle.nef_smap.proofs.Close.{cross-last}
@@ -141,7 +141,7 @@ module _ (M : Map) (V : Shaped M) (u : Vector) (ahead : (k : ℕ) (x : Item) →
 
   -- ---- svertices without arcs
   round : (k : ℕ) (v : Svertex) (m : Label) (w : Vector) → At M.svertices k v → v.around ≡ Some m → IsDirection (cross v.way w) → Near F v.way w (G (around_svertex k))
-  round k v m w a q h = subst (Near F v.way w) (sym meets ∙ sym (J.around k v a m q)) (round-lone M V u ahead G top Z.svertices J.below e v.way f k v a refl lone w h)
+  round k v m w a q h = subst (Near F v.way w) (sym meets ∙ J.around k v m a q) (round-lone M V u ahead G top Z.svertices J.below e v.way f k v a refl lone w h)
     where
       f : IsDirection (cross u v.way)
       f = across k v a
@@ -152,8 +152,8 @@ module _ (M : Map) (V : Shaped M) (u : Vector) (ahead : (k : ℕ) (x : Item) →
           none-some : ◌≡◌ {A = Option Label} None (Some m) → ⊥
           none-some e = absurd cc
 
-      j : BelowFirsts M u v.way
-      j = Z.svertices k v a
+      j : BelowFirst M u v.way
+      j = Z.arounds k v m a q
 
       l : Vector
       l = cross u v.way
@@ -171,11 +171,11 @@ module _ (M : Map) (V : Shaped M) (u : Vector) (ahead : (k : ℕ) (x : Item) →
           let t = stands-third (l ∷ over_forms M u) v.way (opposite u) j.aside y l (stands (l ∷ over_forms M u) v.way (opposite u) j.aside) (inl refl) (cross-last u v.way) (omega (arith, ints)) in
           j.off (nought-is (dot l j.aside) (sym t ∙ ap sign z))
 
-      meets : met G top j.left ≡ over_label v.way f
+      meets : met G top j.first ≡ over_label v.way f
       meets =
           let near = stands-keeps (over_forms M u) v.way (opposite u) j.aside y s in
           let c = all-meet M V u ahead v.way f G top Z.svertices J.below in
-          c.1 y near (lone-clean M V u ahead v.way y near f k v a refl lone) off j.left (j.left_first y s)
+          c.1 y near (lone-clean M V u ahead v.way y near f k v a refl lone) off j.first (j.is_first y s)
 
   -- ---- a map without items
   no_items : (m : Label) → M.face ≡ Some m → (k : ℕ) (x : Item) → At (items M) k x → ⊥

@@ -16,8 +16,8 @@ use Rattle.nef_sphere.proofs.Arcs.{at-arc}
 use Rattle.nef_smap.specs.Sides.{sides_of, IsSide, SideSees, SeeOneWay}
 use Rattle.nef_smap.specs.SideNumbers.{number_of}
 use Rattle.nef_smap.specs.Above.{over_forms, IsFirst}
-use Rattle.nef_smap.specs.Joined.{met, FirstNear, BelowFirsts, Firsts, Joins}
-use Rattle.nef_smap.specs.Links.{met_number, IsJoin, join_below, join_around, join_arc, join_loop, join_ground}
+use Rattle.nef_smap.specs.Joined.{met, FirstNear, Firsts, Joins}
+use Rattle.nef_smap.specs.Links.{met_number, AreJoins, IsJoin, join_below, join_around, join_arc, join_loop, join_ground}
 use Rattle.nef_smap.proofs.MapLists.{at-within}
 use Rattle.nef_smap.proofs.SideLists.{at-from_get, side-has}
 use Rattle.nef_smap.proofs.SideNumbers.{side-number, number-one}
@@ -40,7 +40,7 @@ in_if-one true false e q = absurd cc
 in_if-one false c e q = absurd cc
 
 module _ (M : Map) (V : Shaped M) (u : Vector) (ahead : (k : ℕ) (x : Item) → At (items M) k x → pos 0 <ℤ dot (item_normal x) u)
-    (across : (k : ℕ) (v : Svertex) → At M.svertices k v → IsDirection (cross u v.way)) (hu : IsDirection u) (F : Firsts M u) where
+    (across : (k : ℕ) (v : Svertex) → At M.svertices k v → IsDirection (cross u v.way)) (hu : IsDirection u) where
   abbrev count : ℕ
   count = length (sides_of M)
 
@@ -54,27 +54,28 @@ module _ (M : Map) (V : Shaped M) (u : Vector) (ahead : (k : ℕ) (x : Item) →
       let x = f (stand (over_forms M u) a b c) (stands (over_forms M u) a b c) in
       number-within (below_item k) (item_below x.item) (x.item, x.listed, refl)
 
-  pub join-within : (s t : ℕ) → IsJoin M u F s t → (s < count + 1) × (t < count + 1)
-  join-within s t (join_below k v a e) =
-      let j = F.svertices k v a in
-      let p = met-within v.way (opposite u) j.aside j.left j.left_first in
-      let q = met-within v.way (opposite u) (opposite j.aside) j.right j.right_first in
-      (subst (λ (r : ℕ). r < count + 1) (sym e.0) p, subst (λ (r : ℕ). r < count + 1) (sym e.1) q)
-  join-within s t (join_around k v a m q e f) =
-      let j = F.svertices k v a in
-      (subst (λ (r : ℕ). r < count + 1) (sym e) (number-within (around_svertex k) m (v, a, q)), subst (λ (r : ℕ). r < count + 1) (sym f) (met-within v.way (opposite u) j.aside j.left j.left_first))
-  join-within s t (join_arc k r h e f) =
-      let j = F.arcs k r h in
-      (subst (λ (r : ℕ). r < count + 1) (sym e) (number-within (above_item k) r.above (arc_item r, at-arc M.arcs M.loop k r h, refl)), subst (λ (r : ℕ). r < count + 1) (sym f) (met-within (way_of M.svertices r.source) j.along u j.first j.is_first))
-  join-within s t (join_loop k r h e f) =
-      let j = F.loops k r h in
-      (subst (λ (r : ℕ). r < count + 1) (sym e) (number-within (above_item k) r.above (loop_item r, h, refl)), subst (λ (r : ℕ). r < count + 1) (sym f) (met-within j.point u j.aside j.first j.is_first))
-  join-within s t (join_ground m q e f) = (subst (λ (r : ℕ). r < count + 1) (sym e) (number-within whole m q), subst (λ (r : ℕ). r < count + 1) (sym f) (omega arith))
+  both : (s t : ℕ) {a b : ℕ} → s ≡ a → t ≡ b → a < count + 1 → b < count + 1 → (s < count + 1) × (t < count + 1)
+  both s t e f p q = (subst (λ (r : ℕ). r < count + 1) (sym e) p, subst (λ (r : ℕ). r < count + 1) (sym f) q)
 
-  -- ---- a number for each class of joins
-  module _ (class : ℕ → ℕ) (same : (s t : ℕ) → s < count + 1 → t < count + 1 → (class s ≡ class t) ↔ Chained (IsJoin M u F) s t) where
-    linked : (s t : ℕ) → IsJoin M u F s t → class s ≡ class t
-    linked s t j = let w = join-within s t j in let q = same s t w.0 w.1 in q.1 (chain-link (IsJoin M u F) s t j)
+  pub join-within : (s t : ℕ) → IsJoin M u s t → (s < count + 1) × (t < count + 1)
+  join-within s t (join_below k v a j e f) = both s t e f (met-within v.way (opposite u) j.aside j.left j.left_first) (met-within v.way (opposite u) (opposite j.aside) j.right j.right_first)
+  join-within s t (join_around k v m a q j e f) = both s t e f (number-within (around_svertex k) m (v, a, q)) (met-within v.way (opposite u) j.aside j.first j.is_first)
+  join-within s t (join_arc k r h j e f) = both s t e f (number-within (above_item k) r.above (arc_item r, at-arc M.arcs M.loop k r h, refl)) (met-within (way_of M.svertices r.source) j.along u j.first j.is_first)
+  join-within s t (join_loop k r h j e f) = both s t e f (number-within (above_item k) r.above (loop_item r, h, refl)) (met-within j.point u j.aside j.first j.is_first)
+  join-within s t (join_ground m q e f) = both s t e f (number-within whole m q) (omega arith)
+
+  -- ---- a number for each class of links
+  module _ (Linked : ℕ → ℕ → Type 0) (A : AreJoins M u Linked) (class : ℕ → ℕ) (same : (s t : ℕ) → s < count + 1 → t < count + 1 → (class s ≡ class t) ↔ Chained Linked s t) where
+    linked : (s t : ℕ) → Linked s t → class s ≡ class t
+    linked s t j = let w = join-within s t (A.only s t j) in let q = same s t w.0 w.1 in q.1 (chain-link Linked s t j)
+
+    F : Firsts M u
+    F = record {
+      svertices = λ k v a. let r = A.svertices k v a in r.0;
+      arounds = λ k v m a q. let r = A.arounds k v m a q in r.0;
+      arcs = λ k r h. let x = A.arcs k r h in x.0;
+      loops = λ k r h. let x = A.loops k r h in x.0;
+    }
 
     -- ---- sides that see one direction are of one class
     module _ (c : ℕ) where
@@ -88,16 +89,17 @@ module _ (M : Map) (V : Shaped M) (u : Vector) (ahead : (k : ℕ) (x : Item) →
       met-is None = refl
       met-is (Some k) = refl
 
-      label-same : (s t : ℕ) → IsJoin M u F s t → in_if (eqb (class s) c) ≡ in_if (eqb (class t) c)
+      label-same : (s t : ℕ) → Linked s t → in_if (eqb (class s) c) ≡ in_if (eqb (class t) c)
       label-same s t j = ap (λ (r : ℕ). in_if (eqb r c)) (linked s t j)
 
       joins : Joins M u G top F
+      unfolding F
       joins = record {
-        below = λ k v a. let j = F.svertices k v a in sym (met-is j.left) ∙ label-same (met_number M j.left) (met_number M j.right) (join_below k v a (refl, refl)) ∙ met-is j.right;
-        around = λ k v a m q. let j = F.svertices k v a in label-same (number_of M (around_svertex k)) (met_number M j.left) (join_around k v a m q refl refl) ∙ met-is j.left;
-        arcs = λ k r h. let j = F.arcs k r h in sym (met-is j.first) ∙ sym (label-same (number_of M (above_item k)) (met_number M j.first) (join_arc k r h refl refl));
-        loops = λ k r h. let j = F.loops k r h in sym (met-is j.first) ∙ sym (label-same (number_of M (above_item k)) (met_number M j.first) (join_loop k r h refl refl));
-        ground = λ m q. label-same (number_of M whole) count (join_ground m q refl refl);
+        below = λ k v a. let r = A.svertices k v a in let j = r.0 in sym (met-is j.left) ∙ label-same (met_number M j.left) (met_number M j.right) r.1 ∙ met-is j.right;
+        around = λ k v m a q. let r = A.arounds k v m a q in let j = r.0 in sym (met-is j.first) ∙ sym (label-same (number_of M (around_svertex k)) (met_number M j.first) r.1);
+        arcs = λ k x h. let r = A.arcs k x h in let j = r.0 in sym (met-is j.first) ∙ sym (label-same (number_of M (above_item k)) (met_number M j.first) r.1);
+        loops = λ k x h. let r = A.loops k x h in let j = r.0 in sym (met-is j.first) ∙ sym (label-same (number_of M (above_item k)) (met_number M j.first) r.1);
+        ground = λ m q. label-same (number_of M whole) count (A.ground m q);
         never_out = λ o. in_if-some (eqb (class (number_of M o)) c);
       }
 
@@ -134,6 +136,6 @@ module _ (M : Map) (V : Shaped M) (u : Vector) (ahead : (k : ℕ) (x : Item) →
           let q = same s t (omega arith) (omega arith) in
           subst (λ (r : ℕ). Chained (SeeOneWay M) r t) (root-side M V u ahead across hu s hs)
               (subst (λ (r : ℕ). Chained (SeeOneWay M) (root M V u ahead across hu s) r) (root-side M V u ahead across hu t ht)
-              (chain-map (IsJoin M u F) (SeeOneWay M) (root M V u ahead across hu) (sound M V u ahead across hu F) s t (q.0 e))),
+              (chain-map Linked (SeeOneWay M) (root M V u ahead across hu) (λ x y j. sound M V u ahead across hu x y (A.only x y j)) s t (q.0 e))),
       λ h. chain-keeps (SeeOneWay M) class one-class s t h,
     )

@@ -30,7 +30,7 @@ use Rattle.nef_sphere.proofs.Sight.{clear-self, clear-turned, sees_both, free-se
 use Rattle.nef_smap.specs.Sides.{sides_of, IsSide, SideSees, SeeOneWay}
 use Rattle.nef_smap.specs.SideNumbers.{number_of}
 use Rattle.nef_smap.specs.Above.{meridians, over_forms, IsFirst, first_sign, Stands}
-use Rattle.nef_smap.specs.Joined.{FirstNear, BelowFirsts, ArcFirst, LoopFirst, Firsts}
+use Rattle.nef_smap.specs.Joined.{FirstNear, BelowFirsts, BelowFirst, ArcFirst, LoopFirst}
 use Rattle.nef_smap.specs.Links.{met_number, IsJoin, join_below, join_around, join_arc, join_loop, join_ground}
 use Rattle.nef_smap.proofs.Rise.{form-over, meridian-over, meridian-level, svertex-meridian, meridian-turn}
 use Rattle.nef_smap.proofs.Over.{Touches, touches-back, touches-level}
@@ -303,9 +303,9 @@ module _ (M : Map) (V : Shaped M) (u : Vector) (ahead : (k : ℕ) (x : Item) →
         near-one (d j.aside j.off) (d (opposite j.aside) q) c (d-clear j.aside j.off) (d-free j.aside j.off) (d-clear (opposite j.aside) q) (d-free (opposite j.aside) q)
         (met_number M j.left) (met_number M j.right) (sees-d j.aside j.off j.left j.left_first) (sees-d (opposite j.aside) q j.right j.right_first)
 
-    around-joined : (m : Label) → v.around ≡ Some m → (j : BelowFirsts M u w) → Together (root (number_of M (around_svertex k))) (root (met_number M j.left))
-    around-joined m q j = near-one c (d j.aside j.off) c (clear-self M c c-free) c-free (d-clear j.aside j.off) (d-free j.aside j.off) (number_of M (around_svertex k)) (met_number M j.left)
-        (inl (side-sees (around_svertex k) m c (v, a, q) (directly w clear (v, a, way-self w hw)))) (sees-d j.aside j.off j.left j.left_first)
+    around-joined : (m : Label) → v.around ≡ Some m → (j : BelowFirst M u w) → Together (root (number_of M (around_svertex k))) (root (met_number M j.first))
+    around-joined m q j = near-one c (d j.aside j.off) c (clear-self M c c-free) c-free (d-clear j.aside j.off) (d-free j.aside j.off) (number_of M (around_svertex k)) (met_number M j.first)
+        (inl (side-sees (around_svertex k) m c (v, a, q) (directly w clear (v, a, way-self w hw)))) (sees-d j.aside j.off j.first j.is_first)
       where
         lone : HasArc M k → ⊥
         lone t = none-some (sym (V.around_not k v a t) ∙ q)
@@ -446,10 +446,12 @@ module _ (M : Map) (V : Shaped M) (u : Vector) (ahead : (k : ℕ) (x : Item) →
       generic = generic-by s j.along y off aside l (cross-self u z) (arc-viewer_off M V u ahead k r a j hs ls K (omega arith) off-z)
 
   -- ---- all joins
-  pub sound : (F : Firsts M u) (s t : ℕ) → IsJoin M u F s t → Together (root s) (root t)
-  sound F s t (join_below k v a e) = let j = F.svertices k v a in subst (λ (x : ℕ). Together (root x) (root t)) (sym e.0) (subst (λ (x : ℕ). Together (root (met_number M j.left)) (root x)) (sym e.1) (below-joined k v a j))
-  sound F s t (join_around k v a m q e f) = let j = F.svertices k v a in subst (λ (x : ℕ). Together (root x) (root t)) (sym e) (subst (λ (x : ℕ). Together (root (number_of M (around_svertex k))) (root x)) (sym f) (around-joined k v a m q j))
-  sound F s t (join_arc k r h e f) = let j = F.arcs k r h in subst (λ (x : ℕ). Together (root x) (root t)) (sym e) (subst (λ (x : ℕ). Together (root (number_of M (above_item k))) (root x)) (sym f) (arc-joined k r (at-arc M.arcs M.loop k r h) j))
-  sound F s t (join_loop k r h e f) = let j = F.loops k r h in subst (λ (x : ℕ). Together (root x) (root t)) (sym e) (subst (λ (x : ℕ). Together (root (number_of M (above_item k))) (root x)) (sym f) (loop-joined k r h j))
-  sound F s t (join_ground m q e f) = subst (λ (x : ℕ). Together (root x) (root t)) (sym e) (subst (λ (x : ℕ). Together (root (number_of M whole)) (root x)) (sym f)
-      (one-direction u U (number_of M whole) (length (sides_of M)) (inl (side-sees whole m u q (directly u (clear-self M u U) tt))) (inr (refl, clear-self M u U))))
+  between : (s t : ℕ) {a b : ℕ} → s ≡ a → t ≡ b → Together (root a) (root b) → Together (root s) (root t)
+  between s t {a} {b} e f c = subst (λ (x : ℕ). Together (root x) (root t)) (sym e) (subst (λ (x : ℕ). Together (root a) (root x)) (sym f) c)
+
+  pub sound : (s t : ℕ) → IsJoin M u s t → Together (root s) (root t)
+  sound s t (join_below k v a j e f) = between s t e f (below-joined k v a j)
+  sound s t (join_around k v m a q j e f) = between s t e f (around-joined k v a m q j)
+  sound s t (join_arc k r h j e f) = between s t e f (arc-joined k r (at-arc M.arcs M.loop k r h) j)
+  sound s t (join_loop k r h j e f) = between s t e f (loop-joined k r h j)
+  sound s t (join_ground m q e f) = between s t e f (one-direction u U (number_of M whole) (length (sides_of M)) (inl (side-sees whole m u q (directly u (clear-self M u U) tt))) (inr (refl, clear-self M u U)))

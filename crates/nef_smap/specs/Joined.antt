@@ -25,6 +25,13 @@ pub record BelowFirsts (M : Map) (u w : Vector) : Type 0 where
   pub left_first : FirstNear M u w (opposite u) aside left
   pub right_first : FirstNear M u w (opposite u) (opposite aside) right
 
+-- what lies over the directions just below w, to one side
+pub record BelowFirst (M : Map) (u w : Vector) : Type 0 where
+  pub aside : Vector
+  pub off : dot (cross u w) aside ≡ pos 0 → ⊥
+  pub first : Option ℕ
+  pub is_first : FirstNear M u w (opposite u) aside first
+
 -- what lies over the directions close to the source of an arc: along it, and then up
 pub record ArcFirst (M : Map) (u : Vector) (a : Arc) : Type 0 where
   pub along : Vector
@@ -45,13 +52,14 @@ pub record LoopFirst (M : Map) (u : Vector) (l : Loop) : Type 0 where
 -- what the sides of a map are joined with
 pub record Firsts (M : Map) (u : Vector) : Type 0 where
   pub svertices : (k : ℕ) (v : Svertex) → At M.svertices k v → BelowFirsts M u v.way
+  pub arounds : (k : ℕ) (v : Svertex) (m : Label) → At M.svertices k v → v.around ≡ Some m → BelowFirst M u v.way
   pub arcs : (k : ℕ) (a : Arc) → At M.arcs k a → ArcFirst M u a
   pub loops : (k : ℕ) (l : Loop) → At (items M) k (loop_item l) → LoopFirst M u l
 
 -- the labels agree at the joins: on both sides just below each svertex, and round it where it has no arc; above each item, and over it
 pub record Joins (M : Map) (u : Vector) (G : Side → Label) (top : Label) (F : Firsts M u) : Type 0 where
   pub below : (k : ℕ) (v : Svertex) (a : At M.svertices k v) → (let j = F.svertices k v a in met G top j.left ≡ met G top j.right)
-  pub around : (k : ℕ) (v : Svertex) (a : At M.svertices k v) (m : Label) → v.around ≡ Some m → (let j = F.svertices k v a in G (around_svertex k) ≡ met G top j.left)
+  pub around : (k : ℕ) (v : Svertex) (m : Label) (a : At M.svertices k v) (q : v.around ≡ Some m) → (let j = F.arounds k v m a q in met G top j.first ≡ G (around_svertex k))
   pub arcs : (k : ℕ) (a : Arc) (h : At M.arcs k a) → (let j = F.arcs k a h in met G top j.first ≡ G (above_item k))
   pub loops : (k : ℕ) (l : Loop) (h : At (items M) k (loop_item l)) → (let j = F.loops k l h in met G top j.first ≡ G (above_item k))
   pub ground : (m : Label) → M.face ≡ Some m → G whole ≡ top
