@@ -27,3 +27,4 @@ pub mod CloseSigns
 pub mod Passing
 pub mod Upward
 pub mod FirstOf
+pub mod Axes

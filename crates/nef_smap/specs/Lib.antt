@@ -9,3 +9,4 @@ pub mod SideNumbers
 pub mod Links
 pub mod Classes
 pub mod Close
+pub mod JoinLinks

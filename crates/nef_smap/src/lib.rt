@@ -10,6 +10,7 @@ mod above;
 mod classes;
 mod duplicate;
 mod item;
+mod join;
 mod map;
 mod side;
 
