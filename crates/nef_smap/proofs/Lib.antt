@@ -28,3 +28,4 @@ pub mod Passing
 pub mod Upward
 pub mod FirstOf
 pub mod Axes
+pub mod Joining

@@ -51,7 +51,7 @@ less_or zero (suc n) = inl (omega arith)
 less_or (suc s) (suc n) = ⊎_elim (λ h. inl (omega arith)) (λ h. inr (omega arith)) (less_or s n)
 
 -- the turn from s to r, both in the plane of n
-along-turn : (n s r u : Vector) → dot n s ≡ pos 0 → dot n r ≡ pos 0 → dot n n *ℤ dot (cross u s) r ≡ triple n s r *ℤ dot n u
+pub along-turn : (n s r u : Vector) → dot n s ≡ pos 0 → dot n r ≡ pos 0 → dot n n *ℤ dot (cross u s) r ≡ triple n s r *ℤ dot n u
 along-turn n s r u p q =
     let nx = at 0 in let ny = at 1 in let nz = at 2 in
     let sx = at 3 in let sy = at 4 in let sz = at 5 in

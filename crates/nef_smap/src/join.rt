@@ -4,14 +4,17 @@ ghost use Rattle.std.specs.Prelude.{◌≡◌, ◌<◌, ◌≤ℤ◌, ◌<ℤ◌
 ghost use Rattle.nef_space.specs.Limits.{normal_limit, svertex_limit};
 ghost use Rattle.nef_space.specs.Vectors.{Vector, vector, dot, cross, triple, up, opposite, IsAtMost, IsDirection, SameDirection};
 ghost use Rattle.nef_geo.specs.Shapes.{vector_of};
-ghost use Rattle.nef_sphere.specs.Maps.{items};
+ghost use Rattle.nef_space.specs.declared.label.Label.{Label};
+ghost use Rattle.nef_sphere.specs.Maps.{At, Svertex as PlainSvertex, items, around_svertex, above_item};
+ghost use Rattle.nef_smap.specs.SideNumbers.{number_of};
 ghost use Rattle.nef_smap.specs.Maps.{map_of, loop_of, IsSphereMap};
 ghost use Rattle.nef_smap.specs.Joined.{BelowFirst, FirstNear};
 ghost use Rattle.nef_smap.specs.Links.{met_number};
-ghost use Rattle.nef_smap.specs.JoinLinks.{JoinsBelow, JoinsArc, JoinsLoop};
+ghost use Rattle.nef_smap.specs.JoinLinks.{JoinsBelow, JoinsAround, JoinsArc, JoinsLoop};
 
 use crate::above::{Close, Lean, above};
 use crate::classes::Link;
+use crate::item::item_count;
 use crate::map::{SLoop, SphereMap};
 use crate::side::{around_sides, sides};
 use nef_geo::{Dir, Sign, cross, dot, triple, up};
@@ -101,7 +104,11 @@ fn met_number(map: &SphereMap, met: Option<usize>) -> usize
     ensures number { result ≡ met_number (map_of map.now) met }
 {
     match met {
-        Some(item) => around_sides(map) + 2 * item + 1,
+        Some(item) => {
+            let within = item < item_count(map);
+            prove!(within);
+            around_sides(map) + (2 * item + 1)
+        }
         None => sides(map),
     }
 }
@@ -133,5 +140,85 @@ pub(crate) fn join_below(map: &SphereMap, number: usize) -> Link
     Link {
         first: number_below(map, at, aside),
         second: number_below(map, at, aside.back()),
+    }
+}
+
+// Joins the side round the svertex, whose number is `side`, with what lies over the directions just below it.
+pub(crate) fn join_around(map: &SphereMap, number: usize, side: usize) -> Link
+    requires map { IsSphereMap map.now }
+    requires around { (v : PlainSvertex) × (m : Label) × At (map_of map.now).svertices number v × (v.around ≡ Some m) }
+    requires side { side ≡ number_of (map_of map.now) (around_svertex number) }
+    ensures joins { JoinsAround (map_of map.now) number result }
+{
+    let at = map.svertices.at(number).dir;
+    let aside = beside(&at);
+    Link {
+        first: side,
+        second: number_below(map, at, aside),
+    }
+}
+
+// The number of the side above an item.
+fn upper_side(map: &SphereMap, item: usize) -> usize
+    requires within { item < length (items (map_of map.now)) }
+    ensures side { result ≡ number_of (map_of map.now) (above_item item) }
+{
+    let within = item < item_count(map);
+    prove!(within);
+    around_sides(map) + 2 * item
+}
+
+// Joins the side above the arc with what lies over directions close to its source: along the arc, and there up.
+pub(crate) fn join_arc(map: &SphereMap, number: usize) -> Link
+    requires map { IsSphereMap map.now }
+    requires number { number < length map.now.arcs }
+    ensures joins { JoinsArc (map_of map.now) number result }
+{
+    let arc = map.arcs.at(number);
+    let at = map.svertices.at(arc.source).dir;
+    let Some(aside) = cross(&arc.normal, &axis_along(&at)) else {
+        unreachable!()
+    };
+    let way = Close {
+        at,
+        aside,
+        lean: Lean::Along,
+    };
+    Link {
+        first: upper_side(map, number),
+        second: met_number(map, above(map, &way)),
+    }
+}
+
+// A direction in the plane of the normal.
+fn in_plane(normal: &Dir) -> Dir
+    requires small { IsAtMost normal_limit (vector_of normal.now) }
+    ensures level { dot (vector_of normal.now) (vector_of result) ≡ pos 0 }
+    ensures small { IsAtMost svertex_limit (vector_of result) }
+{
+    if let Some(d) = cross(normal, &axis_x()) {
+        return d;
+    }
+    match cross(normal, &axis_y()) {
+        Some(d) => d,
+        None => unreachable!(),
+    }
+}
+
+// Joins the side above the sloop, the last of the items, with what lies over one of its directions.
+pub(crate) fn join_loop(map: &SphereMap, circle: &SLoop) -> Link
+    requires map { IsSphereMap map.now }
+    requires circle { map.now.sloop ≡ Some circle.now }
+    ensures joins { JoinsLoop (map_of map.now) (length map.now.arcs) result }
+{
+    let at = in_plane(&circle.normal);
+    let way = Close {
+        at,
+        aside: beside(&at),
+        lean: Lean::Up,
+    };
+    Link {
+        first: upper_side(map, map.arcs.len()),
+        second: met_number(map, above(map, &way)),
     }
 }
