@@ -114,14 +114,14 @@ module _ (m : SphereMap) (S : IsSphereMap m) where
   pub normal-small : (k : ℕ) (x : Item) → At (items (map_of m)) k x → IsAtMost normal_limit (item_normal x)
   normal-small k x a = let s = S.small in s.normals k x a
 
+  pub arc-item_listed : (k : ℕ) (r : SArc) → slice_get m.arcs k ≡ Some r → At (items (map_of m)) k (arc_item (arc_of r))
+  arc-item_listed k r a = at-arc (map_of m).arcs (map_of m).loop k (arc_of r) (arc-listed m.arcs k r a)
+
   -- a direction in the plane of an item isn't parallel to the upward direction
   pub plane-across : (k : ℕ) (x : Item) → At (items (map_of m)) k x → (d : Vector) → IsDirection d → dot (item_normal x) d ≡ pos 0 → IsDirection (cross up d)
   plane-across k x a d h z = apart (item_normal x) up d (λ e. let p = map-ahead m S k x a in omega (arith, ints)) z h
 
   module _ (k : ℕ) (r : SArc) (a : slice_get m.arcs k ≡ Some r) (v : SVertex) (b : slice_get m.svertices r.source ≡ Some v) where
-    pub arc-item_listed : At (items (map_of m)) k (arc_item (arc_of r))
-    arc-item_listed = at-arc (map_of m).arcs (map_of m).loop k (arc_of r) (arc-listed m.arcs k r a)
-
     pub source-level : dot (vector_of r.normal) (vector_of v.dir) ≡ pos 0
     source-level =
         let w = S.valid in
