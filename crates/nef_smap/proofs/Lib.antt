@@ -21,7 +21,7 @@ pub mod FirstSees
 pub mod SideNumbers
 pub mod Chains
 pub mod Sound
-pub mod Sfaces
+pub mod SameSface
 pub mod ClassLists
 pub mod CloseSigns
 pub mod Passing
@@ -29,3 +29,4 @@ pub mod Upward
 pub mod FirstOf
 pub mod Axes
 pub mod Joining
+pub mod LinkLists

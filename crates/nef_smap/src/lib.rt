@@ -12,10 +12,12 @@ mod duplicate;
 mod item;
 mod join;
 mod map;
+mod sface;
 mod side;
 
 pub use classes::{Link, class_numbers, class_of_each};
 pub use duplicate::copy;
 pub use map::{RawStars, SArc, SLoop, SPlace, SVertex, SphereMap};
+pub use sface::sfaces;
 pub use side::{side_label, sides};
 pub use std::alloc::AllocError as OutOfMemory;
