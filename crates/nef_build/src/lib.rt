@@ -4,4 +4,8 @@
 //! Nothing here runs. Each law is a clause of a function with an empty body.
 #![tactic(auto)]
 
-mod laws;
+mod building;
+mod overlays;
+
+pub use building::building_laws;
+pub use overlays::overlay_laws;

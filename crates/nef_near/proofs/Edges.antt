@@ -177,13 +177,13 @@ halfway-outside p d some c = by (nought-or d.x) (nought-or d.y) (nought-or d.z)
     by (inl x) (inl y) (inl z) = some (x, y, z)
 
 -- how many times d the way to that point is
-abbrev way_factor : Place → ℕ
+abbrev pub way_factor : Place → ℕ
 way_factor p = 2 * (nat_abs p.x + nat_abs p.y + nat_abs p.z + half_side + 1) * p.w * p.w
 
-way_factor-some : (p : Place) → 0 < way_factor p
+pub way_factor-some : (p : Place) → 0 < way_factor p
 way_factor-some p = mul-pos (mul-pos {m = 2 * (nat_abs p.x + nat_abs p.y + nat_abs p.z + half_side + 1)} {n = p.w} (omega arith) p.proper) p.proper
 
-leads : (p : Place) (d : Vector) → toward p (beyond p d) ≡ combination (pos (way_factor p)) d (pos 0) d
+pub leads : (p : Place) (d : Vector) → toward p (beyond p d) ≡ combination (pos (way_factor p)) d (pos 0) d
 leads p d = vector-same (toward p (beyond p d)) (combination (pos (way_factor p)) d (pos 0) d) (each p.x d.x) (each p.y d.y) (each p.z d.z)
   where
     each : (x e : ℤ) → (x *ℤ pos 1 +ℤ pos (2 * (nat_abs p.x + nat_abs p.y + nat_abs p.z + half_side + 1)) *ℤ pos p.w *ℤ e) *ℤ pos p.w -ℤ x *ℤ pos (p.w * 1) ≡ pos (way_factor p) *ℤ e +ℤ pos 0 *ℤ e

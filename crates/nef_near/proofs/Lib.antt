@@ -21,3 +21,4 @@ pub mod Edges
 pub mod Vertices
 pub mod Determined
 pub mod Supports
+pub mod PlaceOrder

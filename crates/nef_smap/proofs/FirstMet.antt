@@ -1,22 +1,19 @@
 -- The way to the first item that is met is clear; and of three meets, the first is before the last.
-use Rattle.std.proofs.Common.{◌≡◌, ℕ, ◌+◌, ◌*◌, ◌<◌, ℤ, pos, nat_abs, ◌+ℤ◌, ◌*ℤ◌, ◌-ℤ◌, ◌<ℤ◌, ◌≤ℤ◌, arith, refl, ap, sym, ◌∙◌, inl, inr, ⊎_elim, [], ◌∷◌, length, subst}
+use Rattle.std.proofs.Common.{◌≡◌, ℕ, ◌<◌, ℤ, pos, ◌+ℤ◌, ◌*ℤ◌, ◌-ℤ◌, ◌<ℤ◌, arith, ap, sym, ◌∙◌, [], ◌∷◌, length, subst}
 use Rattle.std.proofs.lemmas.Int.{ints}
 use Rattle.nef_exact.proofs.Ring.{ring, at, num, ◌⊕◌, ◌⊖◌, ◌⊗◌}
 use Rattle.nef_exact.proofs.Combination.{follows, given, none}
 use Rattle.nef_exact.proofs.Order.{sign, by_order, mul_pos, mul_nonneg, square_nonneg, sign-scaled}
 use Rattle.nef_space.specs.Vectors.{Vector, IsDirection, cross, dot, blend}
-use Rattle.nef_near.proofs.Meets.{cross-none}
 use Rattle.nef_forms.proofs.Directions.{square_pos}
-use Rattle.nef_forms.proofs.Far.{nought-or, same-off, same-nought}
-use Rattle.nef_sphere.specs.Maps.{At, Svertex, Map, Item, items, item_normal, OnItem, IsFree, IsClear, above_item, below_item, Reaches, Shaped}
-use Rattle.nef_sphere.specs.Forms.{SameSigns}
+use Rattle.nef_sphere.specs.Maps.{At, Svertex, Map, Item, items, item_normal, OnItem, IsFree, IsClear, Shaped}
 use Rattle.nef_sphere.proofs.Vectors.{dot-comb, direction-by, same-plus, same-minus}
-use Rattle.nef_sphere.proofs.Forms.{item_forms, on-level, on-direction, OnItem-by_signs}
+use Rattle.nef_sphere.proofs.Forms.{on-level, on-direction, OnItem-by_signs}
 use Rattle.nef_sphere.proofs.Parallel.{apart}
 use Rattle.nef_sphere.proofs.Shot.{product-off}
-use Rattle.nef_sphere.proofs.Direct.{slid, slid-level, slid-square, cross-self, miss-between, between-off_target}
+use Rattle.nef_sphere.proofs.Direct.{slid-level, slid-square, cross-self, miss-between, between-off_target}
 use Rattle.nef_smap.proofs.MapLists.{at-within}
-use Rattle.nef_smap.specs.Ways.{meet_of, IsMet, IsMetBefore, IsFirstMet}
+use Rattle.nef_smap.specs.Ways.{meet_of, IsMetBefore, IsFirstMet}
 
 -- ---- the order of meets
 pub meet-is : (n g a b : Vector) → dot g (meet_of n a b) ≡ dot n a *ℤ (dot n a *ℤ dot g b -ℤ dot n b *ℤ dot g a)
@@ -30,8 +27,8 @@ ratios-trans na nb ma mb la lb f p q =
     let second = na *ℤ (ma *ℤ (ma *ℤ nb -ℤ mb *ℤ na)) in
     let whole = na *ℤ (la *ℤ (la *ℤ nb -ℤ lb *ℤ na)) in
     let e : (ma *ℤ ma) *ℤ whole ≡ (la *ℤ la) *ℤ second +ℤ (na *ℤ na) *ℤ first = ring (na ∷ nb ∷ ma ∷ mb ∷ la ∷ lb ∷ [])
-        ((at 2 ⊗ at 2) ⊗ (at 0 ⊗ (at 4 ⊗ (at 4 ⊗ at 1 ⊖ at 5 ⊗ at 0))))
-        ((at 4 ⊗ at 4) ⊗ (at 0 ⊗ (at 2 ⊗ (at 2 ⊗ at 1 ⊖ at 3 ⊗ at 0))) ⊕ (at 0 ⊗ at 0) ⊗ (at 2 ⊗ (at 4 ⊗ (at 4 ⊗ at 3 ⊖ at 5 ⊗ at 2)))) tt in
+    ((at 2 ⊗ at 2) ⊗ (at 0 ⊗ (at 4 ⊗ (at 4 ⊗ at 1 ⊖ at 5 ⊗ at 0))))
+    ((at 4 ⊗ at 4) ⊗ (at 0 ⊗ (at 2 ⊗ (at 2 ⊗ at 1 ⊖ at 3 ⊗ at 0))) ⊕ (at 0 ⊗ at 0) ⊗ (at 2 ⊗ (at 4 ⊗ (at 4 ⊗ at 3 ⊖ at 5 ⊗ at 2)))) tt in
     let some : na ≡ pos 0 → ⊥ = λ z. let g = ap (λ r. r *ℤ (ma *ℤ (ma *ℤ nb -ℤ mb *ℤ na))) z in let o = ring ((ma *ℤ (ma *ℤ nb -ℤ mb *ℤ na)) ∷ []) (num (pos 0) ⊗ at 0) (num (pos 0)) tt in omega (arith, ints) in
     let u = mul_pos (na *ℤ na) first (square_pos na some) p in
     let w = mul_nonneg (la *ℤ la) second (square_nonneg la) (omega (arith, ints)) in
@@ -57,9 +54,9 @@ before-self a b x p =
 module _ (M : Map) (V : Shaped M) (a b : Vector) (F : IsFree M a)
     (planes : (l : ℕ) (x : Item) → At (items M) l x → dot (item_normal x) a ≡ pos 0 → ⊥)
     (off : (l : ℕ) (v : Svertex) → At M.svertices l v → IsDirection (cross a v.way) → dot (cross a v.way) b ≡ pos 0 → ⊥)
-    (k : ℕ) (f : IsFirstMet M a b (length (items M)) k) where
+    (k : ℕ) (first : Item) (listed : At (items M) k first) (f : IsFirstMet M a b (length (items M)) first) where
   abbrev n : Vector
-  n = item_normal f.item
+  n = item_normal first
 
   abbrev start : ℤ
   start = dot n a
@@ -71,13 +68,13 @@ module _ (M : Map) (V : Shaped M) (a b : Vector) (F : IsFree M a)
   c = meet_of n a b
 
   u : start ≡ pos 0 → ⊥
-  u = planes k f.item f.listed
+  u = planes k first listed
 
   level : dot n c ≡ pos 0
-  level = on-level M f.item c f.on
+  level = on-level M first c f.on
 
   apart-c : IsDirection (cross a c)
-  apart-c = apart n a c u level (on-direction M f.item c f.on)
+  apart-c = apart n a c u level (on-direction M first c f.on)
 
   off_c : (l : ℕ) (v : Svertex) → At M.svertices l v → IsDirection (cross a v.way) → dot (cross a v.way) c ≡ pos 0 → ⊥
   off_c l v h g z = product-off (start *ℤ start) (dot (cross a v.way) b) (square_pos start u) (off l v h g) (sym (slid-square n a (cross a v.way) b (cross-self a v.way)) ∙ z)
@@ -131,7 +128,7 @@ module _ (M : Map) (V : Shaped M) (a b : Vector) (F : IsFree M a)
         let q = mul_pos i' (dot m a *ℤ dot m a) some-i (square_pos (dot m a) m-off) in omega (arith, ints))
 
     -- n.w = i n.a, so y is met on a's side of the plane of n
-    earlier : IsMetBefore a b y f.item
+    earlier : IsMetBefore a b y first
     earlier =
         let e = dot-comb n (pos i) a (pos j) c ∙ ap (λ r. pos i *ℤ start +ℤ pos j *ℤ r) level ∙ ring (pos i ∷ pos j ∷ start ∷ []) (at 0 ⊗ at 2 ⊕ at 1 ⊗ num (pos 0)) (at 0 ⊗ at 2) tt in
         let s = signs n ∙ ap sign e ∙ sign-scaled (pos i) start (omega (arith, ints)) in
@@ -147,10 +144,10 @@ module _ (M : Map) (V : Shaped M) (a b : Vector) (F : IsFree M a)
     unmet = f.none_before l y (at-within (items M) l y h) h (record { parted = parted; on = OnItem-by_signs M y w (meet_of m a b) (λ g x. signs g) o }) earlier
 
   -- the way to where it is met is clear
-  pub first-clear : IsClear M a (meet_of (item_normal f.item) a b)
+  pub first-clear : IsClear M a (meet_of (item_normal first) a b)
   first-clear = record {
     start = F;
-    direction = on-direction M f.item c f.on;
+    direction = on-direction M first c f.on;
     short = λ o. apart-c o.parallel;
     between = λ i j si sj. record {
       direction = direction-by n (blend i a j c) (between-off_target n a c i j si level u);

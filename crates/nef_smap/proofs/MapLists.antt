@@ -1,7 +1,7 @@
 -- The svertices and items of the program's maps by their numbers.
 use Rattle.std.proofs.Common.{◌≡◌, ℕ, zero, suc, ◌<◌, ◌+◌, List, [], ◌∷◌, length, map, Option, Some, None, option_map, is_some, arith, refl, ap, slice_get}
 use mir.Val.{bool_byte}
-use Rattle.nef_sphere.specs.Maps.{At, arc_item, loop_item, items_then}
+use Rattle.nef_sphere.specs.Maps.{At, Loop, arc_item, loop_item, items_then}
 use Rattle.nef_smap.specs.declared.map.SArc.{SArc}
 use Rattle.nef_smap.specs.declared.map.SLoop.{SLoop}
 use Rattle.nef_smap.specs.Maps.{arc_of, loop_of}
@@ -27,3 +27,9 @@ pub at-within : {X : Type 0} (xs : List X) (k : ℕ) (x : X) → At xs k x → k
 at-within [] k x a = absurd a
 at-within (y ∷ ys) zero x a = omega arith
 at-within (y ∷ ys) (suc k) x a = let h = at-within ys k x a in omega arith
+
+-- the sloop stands after the arcs
+pub loop-listed : (as' : List SArc) (o : Option SLoop) (l : Loop) → option_map loop_of o ≡ Some l → At (items_then (map arc_of as') (option_map loop_of o)) (length as') (loop_item l)
+loop-listed [] None l e = cc
+loop-listed [] (Some m) l e = let f : loop_of m ≡ l = cc in ap loop_item f
+loop-listed (a ∷ as') o l e = loop-listed as' o l e

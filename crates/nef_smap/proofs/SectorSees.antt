@@ -10,7 +10,7 @@ use Rattle.nef_cyclic.proofs.Directions.{dot-opposite, direction-opposite, level
 use Rattle.nef_near.proofs.FlatDecided.{triple-dot, cross-turned}
 use Rattle.nef_near.proofs.Meets.{cross-none}
 use Rattle.nef_forms.proofs.Directions.{dot-comm, dot-zero, zero-dot, self-pos}
-use Rattle.nef_sphere.specs.Maps.{At, Svertex, Map, arc_item, items, way_of, IsClear, Reaches, Sees, directly, by_way_of, Shaped}
+use Rattle.nef_sphere.specs.Maps.{At, Svertex, Map, arc_item, items, way_of, OnItem, IsClear, Reaches, Sees, directly, by_way_of, Shaped}
 use Rattle.nef_sphere.specs.Forms.{forms}
 use Rattle.nef_sphere.proofs.Vectors.{dot-comb, normal-is, same-plus}
 use Rattle.nef_sphere.proofs.Generic.{amount, far-keeps}
@@ -163,9 +163,9 @@ module _ (M : Map) (V : Shaped M) (k : ℕ) (v : Svertex) (a : At M.svertices k 
   pub left-on : (r : ArcRay M k) → IsOnCircle p (ray_left r)
   left-on r = record { direction = left-direction r; level = dot-comm p (ray_left r) ∙ left-level r }
 
-  -- the arc's points close to the svertex are reached from the left on its side there
-  at_end : (r : ArcRay M k) (d : Vector) → pos 0 <ℤ dot (ray_left r) d → (n : ℕ) × ((number : ℕ) → n ≤ number → Reaches M (ray_side r) d (blend number p 1 (cross (ray_left r) p)))
-  at_end r d h = by r.end h
+  -- close to the svertex the arc goes along its ray
+  pub on-end : (r : ArcRay M k) → (n : ℕ) × ((number : ℕ) → n ≤ number → OnItem M (arc_item r.arc) (blend number p 1 (cross (ray_left r) p)))
+  on-end r = by r.end
     where
       n : Vector
       n = r.arc.normal
@@ -179,25 +179,32 @@ module _ (M : Map) (V : Shaped M) (k : ℕ) (v : Svertex) (a : At M.svertices k 
       b : Ends M r.arc
       b = ends-of M V r.number r.arc r.listed
 
+      hn : IsDirection n
+      hn = normal-is V r.number (arc_item r.arc) (at-arc M.arcs M.loop r.number r.arc r.listed)
+
+      by : (q : (r.arc.source ≡ k) ⊎ (r.arc.target ≡ k)) → (n : ℕ) × ((number : ℕ) → n ≤ number → OnItem M (arc_item r.arc) (blend number p 1 (cross (end_left r.arc q) p)))
+      by (inl e) = (
+        amount (cross t n ∷ []) (cross n s),
+        λ number large. subst (λ (x : Vector). IsStrictlyOn n s t (past_source n x number)) (here r.arc.source e) (arc-point n s t hn b.source_direction b.target_direction b.source_level b.target_level number large),
+      )
+      by (inr e) = (
+        amount (cross s (opposite n) ∷ []) (cross (opposite n) t),
+        λ number large.
+            (way_back_passes_the_same n s t (past_source (opposite n) p number) hn (record { direction = b.source_direction; level = b.source_level }) (record { direction = b.target_direction; level = b.target_level })).0
+            (subst (λ (x : Vector). IsStrictlyOn (opposite n) t s (past_source (opposite n) x number)) (here r.arc.target e)
+            (arc-point (opposite n) t s (direction-opposite n hn) b.target_direction b.source_direction (level-opposite n t b.target_level) (level-opposite n s b.source_level) number large)),
+      )
+
+  -- and its points there are reached from the left on its side
+  at_end : (r : ArcRay M k) (d : Vector) → pos 0 <ℤ dot (ray_left r) d → (n : ℕ) × ((number : ℕ) → n ≤ number → Reaches M (ray_side r) d (blend number p 1 (cross (ray_left r) p)))
+  at_end r d h = let f = on-end r in (f.0, λ number large. by r.end h (blend number p 1 (cross (ray_left r) p)) (f.1 number large))
+    where
       listed : At (items M) r.number (arc_item r.arc)
       listed = at-arc M.arcs M.loop r.number r.arc r.listed
 
-      hn : IsDirection n
-      hn = normal-is V r.number (arc_item r.arc) listed
-
-      by : (q : (r.arc.source ≡ k) ⊎ (r.arc.target ≡ k)) → pos 0 <ℤ dot (end_left r.arc q) d → (n : ℕ) × ((number : ℕ) → n ≤ number → Reaches M (end_side r.number q) d (blend number p 1 (cross (end_left r.arc q) p)))
-      by (inl e) l = (amount (cross t n ∷ []) (cross n s), λ number large. (
-        arc_item r.arc, listed,
-        subst (λ (x : Vector). IsStrictlyOn n s t (past_source n x number)) (here r.arc.source e) (arc-point n s t hn b.source_direction b.target_direction b.source_level b.target_level number large),
-        l,
-      ))
-      by (inr e) l = (amount (cross s (opposite n) ∷ []) (cross (opposite n) t), λ number large. (
-        arc_item r.arc, listed,
-        (way_back_passes_the_same n s t (past_source (opposite n) p number) hn (record { direction = b.source_direction; level = b.source_level }) (record { direction = b.target_direction; level = b.target_level })).0
-            (subst (λ (x : Vector). IsStrictlyOn (opposite n) t s (past_source (opposite n) x number)) (here r.arc.target e)
-            (arc-point (opposite n) t s (direction-opposite n hn) b.target_direction b.source_direction (level-opposite n t b.target_level) (level-opposite n s b.source_level) number large)),
-        let f = dot-opposite n d in omega (arith, ints),
-      ))
+      by : (q : (r.arc.source ≡ k) ⊎ (r.arc.target ≡ k)) → pos 0 <ℤ dot (end_left r.arc q) d → (y : Vector) → OnItem M (arc_item r.arc) y → Reaches M (end_side r.number q) d y
+      by (inl e) l y o = (arc_item r.arc, listed, o, l)
+      by (inr e) l y o = (arc_item r.arc, listed, o, let f = dot-opposite r.arc.normal d in omega (arith, ints))
 
   module _ (r : ArcRay M k) where
     abbrev m : Vector

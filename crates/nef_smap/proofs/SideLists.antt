@@ -1,5 +1,5 @@
 -- The sides of a map by their numbers: how many there are, where each stands, and that the map has it.
-use Rattle.std.proofs.Common.{◌≡◌, ℕ, zero, suc, ◌+◌, ◌*◌, ◌/◌, ◌%◌, ◌≤◌, ◌⊎◌, inl, inr, ⊎_elim, List, [], ◌∷◌, ◌++◌, length, map, Option, Some, None, cond, is_some, arith, add-zero, zero-add, length-append, refl, sym, ◌∙◌, ap, subst, slice_get}
+use Rattle.std.proofs.Common.{◌≡◌, ℕ, zero, suc, ◌+◌, ◌*◌, ◌/◌, ◌%◌, ◌≤◌, ◌⊎◌, inl, inr, ⊎_elim, List, [], ◌∷◌, ◌++◌, length, map, Option, Some, None, cond, is_some, arith, add-zero, zero-add, length-append, refl, sym, ◌∙◌, ap, subst, slice_get, ◌<◌, Bool, true, false, not}
 use lib.Dec.{eqb}
 use mir.Val.{bool_byte}
 use Rattle.std.specs.List.{filter_map, cons_option}
@@ -31,6 +31,11 @@ pub at-right : {X : Type 0} (xs ys : List X) (k n : ℕ) (x : X) → n ≡ lengt
 at-right [] ys k n x e a = subst (λ (r : ℕ). At ys r x) (let d : k ≡ n = omega arith in d) a
 at-right (z ∷ zs) ys k zero x e a = absurd (omega arith)
 at-right (z ∷ zs) ys k (suc n) x e a = at-right zs ys k n x (omega arith) a
+
+pub at-some : {X : Type 0} (xs : List X) (k : ℕ) → k < length xs → (x : X) × At xs k x
+at-some [] k h = absurd (omega arith)
+at-some (x ∷ xs) zero h = (x, refl)
+at-some (x ∷ xs) (suc k) h = at-some xs k (omega arith)
 
 -- ---- how many
 pub length-item_sides : (k : ℕ) (xs : List Item) → length (item_sides k xs) ≡ 2 * length xs
@@ -132,6 +137,11 @@ module _ (m : SphereMap) where
       by zero h g = (above_item (n / 2), subst (IsSide (map_of m) s (above_item (n / 2))) (sym g) (side-above s (n / 2) x (omega arith) a))
       by (suc zero) h g = (below_item (n / 2), subst (IsSide (map_of m) s (below_item (n / 2))) (sym g) (side-below s (n / 2) x (omega arith) a))
       by (suc (suc r)) h g = absurd (omega arith)
+
+  pub side-of : (s k : ℕ) (above : Bool) → k < length (items (map_of m)) → s ≡ arounds_count + 2 * k + bool_byte (not above)
+      → (x : Item) × At (items (map_of m)) k x × IsSide (map_of m) s (cond above (above_item k) (below_item k)) (cond above (item_above x) (item_below x))
+  side-of s k true h e = let r = at-some (items (map_of m)) k h in (r.0, r.1, side-above s k r.0 (omega arith) r.1)
+  side-of s k false h e = let r = at-some (items (map_of m)) k h in (r.0, r.1, side-below s k r.0 (omega arith) r.1)
 
 pub get-past : {X : Type 0} (xs : List X) (s : ℕ) → slice_get xs s ≡ None → length xs ≤ s
 get-past [] s e = omega arith

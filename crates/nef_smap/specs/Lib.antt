@@ -10,3 +10,5 @@ pub mod Links
 pub mod Classes
 pub mod Close
 pub mod JoinLinks
+pub mod Linear
+pub mod Wide

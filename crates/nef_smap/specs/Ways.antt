@@ -1,6 +1,6 @@
 -- The way from a direction to an item's point, and which item it meets first.
 use Rattle.std.specs.Prelude.{◌≡◌, ℕ, ◌<◌, pos, ◌-ℤ◌, ◌*ℤ◌, ◌<ℤ◌, ◌≤ℤ◌}
-use Rattle.nef_space.specs.Vectors.{Vector, dot}
+use Rattle.nef_space.specs.Vectors.{Vector, IsDirection, dot, cross}
 use Rattle.nef_sphere.specs.Vectors.{comb}
 use Rattle.nef_sphere.specs.Maps.{At, Item, Map, items, item_normal, OnItem}
 
@@ -17,10 +17,16 @@ pub record IsMet (M : Map) (a b : Vector) (x : Item) : Type 0 where
 abbrev pub IsMetBefore : Vector → Vector → Item → Item → Type 0
 IsMetBefore a b y x = pos 0 <ℤ (dot (item_normal x) a *ℤ dot (item_normal x) (meet_of (item_normal y) a b))
 
--- item k is met, or b lies on it, and of the first n items none is met before it
-pub record IsFirstMet (M : Map) (a b : Vector) (n k : ℕ) : Type 0 where
-  pub item : Item
-  pub listed : At (items M) k item
-  pub not_past : (dot (item_normal item) a *ℤ dot (item_normal item) b) ≤ℤ pos 0
-  pub on : OnItem M item (meet_of (item_normal item) a b)
-  pub none_before : (i : ℕ) (y : Item) → i < n → At (items M) i y → IsMet M a b y → IsMetBefore a b y item → ⊥
+-- x is met, or b lies on it, and of the first n items none is met before it
+pub record IsFirstMet (M : Map) (a b : Vector) (n : ℕ) (x : Item) : Type 0 where
+  pub not_past : (dot (item_normal x) a *ℤ dot (item_normal x) b) ≤ℤ pos 0
+  pub on : OnItem M x (meet_of (item_normal x) a b)
+  pub none_before : (i : ℕ) (y : Item) → i < n → At (items M) i y → IsMet M a b y → IsMetBefore a b y x → ⊥
+
+-- the plane of no item holds a, b isn't parallel to a, and lies on the first item
+pub record IsFair (M : Map) (a b : Vector) : Type 0 where
+  pub planes : (k : ℕ) (x : Item) → At (items M) k x → dot (item_normal x) a ≡ pos 0 → ⊥
+  pub apart : IsDirection (cross a b)
+  pub first : Item
+  pub listed : At (items M) 0 first
+  pub on : OnItem M first b

@@ -1,7 +1,7 @@
 //! Arcs and the sloop, which together are the items of a sphere map.
 
 ghost use Rattle.std.specs.Prelude.{◌≡◌, ◌<◌, ◌^◌, length, cond};
-ghost use Rattle.nef_sphere.specs.Maps.{At, items, item_normal, item_above, item_below};
+ghost use Rattle.nef_sphere.specs.Maps.{At, items, item_normal, item_above, item_mark, item_below};
 ghost use Rattle.nef_geo.specs.Shapes.{vector_of};
 ghost use Rattle.nef_smap.specs.Maps.{map_of};
 ghost use Rattle.nef_smap.specs.Items.{item_of};
@@ -23,6 +23,16 @@ impl Item {
         match self {
             Item::Arc(arc) => &arc.normal,
             Item::Loop(circle) => &circle.normal,
+        }
+    }
+
+    // The label of the directions on it.
+    pub(crate) fn mark(&self) -> Label
+        ensures mark { result ≡ item_mark (item_of self.now) }
+    {
+        match self {
+            Item::Arc(arc) => arc.mark,
+            Item::Loop(circle) => circle.mark,
         }
     }
 

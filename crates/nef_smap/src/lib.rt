@@ -11,13 +11,25 @@ mod classes;
 mod duplicate;
 mod item;
 mod join;
+mod linear;
+mod locate;
 mod map;
+mod meets;
 mod sface;
 mod side;
+mod sight;
+mod simple;
+mod stars;
+#[cfg(test)]
+mod tests;
+mod way;
 
 pub use classes::{Link, class_numbers, class_of_each};
 pub use duplicate::copy;
+pub use locate::{at, label_at};
 pub use map::{RawStars, SArc, SLoop, SPlace, SVertex, SphereMap};
 pub use sface::sfaces;
 pub use side::{side_label, sides};
+pub use simple::{face_map, plane_map};
+pub use stars::star_at;
 pub use std::alloc::AllocError as OutOfMemory;

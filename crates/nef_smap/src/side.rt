@@ -1,8 +1,8 @@
 //! The sides of a sphere map, and their labels.
 
-ghost use Rattle.std.specs.Prelude.{◌≡◌, ◌<◌, ◌≤◌, ◌^◌, length, IfOk, slice_get};
+ghost use Rattle.std.specs.Prelude.{◌≡◌, ◌<◌, ◌≤◌, ◌^◌, length, slice_get, cond};
 ghost use Rattle.std.specs.List.{filter_map};
-ghost use Rattle.nef_sphere.specs.Maps.{Side};
+ghost use Rattle.nef_sphere.specs.Maps.{At, Item, Side, above_item, below_item, items, item_above, item_below};
 ghost use Rattle.nef_smap.specs.Maps.{map_of};
 ghost use Rattle.nef_smap.specs.Sides.{IsSide, sides_of};
 
@@ -31,6 +31,15 @@ fn around_label(map: &SphereMap, side: usize) -> Option<Label>
         .iter()
         .filter_map(|v| v.around)
         .nth(side)
+}
+
+// The number of a side of the item with this number: of that to which its normal points, or of the other.
+pub(crate) fn item_side(map: &SphereMap, number: usize, above: bool) -> usize
+    requires within { number < length (items (map_of map.now)) }
+    requires small { number < 2 ^ 60 }
+    ensures side { (x : Item) × At (items (map_of map.now)) number x × IsSide (map_of map.now) result (cond above (above_item number) (below_item number)) (cond above (item_above x) (item_below x)) }
+{
+    around_sides(map) + 2 * number + usize::from(!above)
 }
 
 /// How many sides the map has: one for each svertex without arcs, two for each arc and for the sloop, and one for the

@@ -53,7 +53,7 @@ module _ (gs : List Vector) (F : Vector → Label → Type 0) (L : Labelling gs 
   one-of d k l h f g = L.one d k l h f g
 
   -- what is near z toward w, and from there toward e
-  near-near : (z w e : Vector) (k : ℕ) → IsDirection z → amount gs w ≤ k → (l : Label) (low : ℕ) → ((i : ℕ) → low ≤ i → Near F z (blend i w 1 e) l) → Near F (blend k z 1 w) e l
+  pub near-near : (z w e : Vector) (k : ℕ) → IsDirection z → amount gs w ≤ k → (l : Label) (low : ℕ) → ((i : ℕ) → low ≤ i → Near F z (blend i w 1 e) l) → Near F (blend k z 1 w) e l
   near-near z w e k h hk l low f = (
     amount gs e,
     λ j hj.
@@ -105,7 +105,7 @@ module _ (gs : List Vector) (F : Vector → Label → Type 0) (L : Labelling gs 
   near-one y e k l hy (i, f) (j, g) = let t = i + j + amount gs e in one-of (blend t y 1 e) k l (far_directed y e t (omega arith) hy) (f t (omega arith)) (g t (omega arith))
 
   -- one label all around a straight direction: then it isn't proper
-  not-even : IsDirection n → (y : Vector) → IsDirection y → P y → (l : Label) → F y l → ((e : Vector) → Near F y e l) → ⊥
+  pub not-even : IsDirection n → (y : Vector) → IsDirection y → P y → (l : Label) → F y l → ((e : Vector) → Near F y e l) → ⊥
   not-even hn y hy p l f g =
       let h = self-pos n hn in
       let o = one-of y m l hy p.at_d f in

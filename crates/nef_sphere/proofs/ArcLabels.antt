@@ -36,7 +36,7 @@ plus-nought a b i j si h z = let p = mul_pos (pos i) a (omega (arith, ints)) h i
 
 module _ (n s t : Vector) (hn : IsDirection n) (hs : IsDirection s) (ht : IsDirection t) (ls : dot n s ≡ pos 0) (lt : dot n t ≡ pos 0) where
   -- on the first half
-  on-ahead : (w : Vector) → dot n w ≡ pos 0 → pos 0 <ℤ triple n s w → (pos 0 <ℤ triple n s t → pos 0 <ℤ triple n w t) → IsStrictlyOn n s t w
+  pub on-ahead : (w : Vector) → dot n w ≡ pos 0 → pos 0 <ℤ triple n s w → (pos 0 <ℤ triple n s t → pos 0 <ℤ triple n w t) → IsStrictlyOn n s t w
   on-ahead w l h g = record {
     on_circle = record { direction = direction-by (cross n s) w (λ z. let e = triple-dot n s w in omega (arith, ints)); level = l };
     not_source = λ x. let e = dot-zero n (cross s w) x.parallel in omega (arith, ints);

@@ -35,12 +35,12 @@ abbrev pub ways : List Svertex → List Vector
 ways [] = []
 ways (v ∷ vs) = v.way ∷ ways vs
 
-at-ways : (vs : List Svertex) (k : ℕ) (v : Svertex) → At vs k v → At (ways vs) k v.way
+pub at-ways : (vs : List Svertex) (k : ℕ) (v : Svertex) → At vs k v → At (ways vs) k v.way
 at-ways [] k v a = absurd a
 at-ways (u ∷ vs) zero v e = ap (λ (r : Svertex). r.way) e
 at-ways (u ∷ vs) (suc k) v a = at-ways vs k v a
 
-ways-at : (vs : List Svertex) (k : ℕ) (x : Vector) → At (ways vs) k x → (v : Svertex) × At vs k v × (v.way ≡ x)
+pub ways-at : (vs : List Svertex) (k : ℕ) (x : Vector) → At (ways vs) k x → (v : Svertex) × At vs k v × (v.way ≡ x)
 ways-at [] k x a = absurd a
 ways-at (u ∷ vs) zero x e = (u, refl, e)
 ways-at (u ∷ vs) (suc k) x a = ways-at vs k x a
@@ -55,7 +55,7 @@ loops-one (x ∷ as') o (suc i) zero l c a b = cc
 loops-one (x ∷ as') o (suc i) (suc k) l c a b = ap suc (loops-one as' o i k l c a b)
 
 -- one of the two normals of a plane is in normal form
-normal-or : (n : Vector) → IsDirection n → IsNormal n ⊎ IsNormal (away n)
+pub normal-or : (n : Vector) → IsDirection n → IsNormal n ⊎ IsNormal (away n)
 normal-or n h = by_order n.x (pos 0)
     (λ l. inr (record { first = omega (arith, ints); second = λ z. absurd (omega (arith, ints)); third = λ z y. absurd (omega (arith, ints)) }))
     (λ x. by_order n.y (pos 0)

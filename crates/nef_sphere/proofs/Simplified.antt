@@ -23,7 +23,7 @@ use Rattle.nef_sphere.proofs.Kind.{away}
 use Rattle.nef_sphere.proofs.Flips.{away-direction, dot-away, reversed}
 
 -- what is at right angles to the axis goes the way of its part across
-across-same : (d e : Vector) → IsDirection d → IsDirection e → dot d e ≡ pos 0 → SameDirection e (across d e)
+pub across-same : (d e : Vector) → IsDirection d → IsDirection e → dot d e ≡ pos 0 → SameDirection e (across d e)
 across-same d e hd he z = record { parallel = par; forward = subst (λ (r : ℤ). pos 0 <ℤ r) (sym fwd) (mul_pos (dot d d) (dot e e) (self-pos d hd) (self-pos e he)) }
   where
     par : IsZero (cross e (across d e))
@@ -47,7 +47,7 @@ across-same d e hd he z = record { parallel = par; forward = subst (λ (r : ℤ)
         ((dx ⊗ dx ⊕ dy ⊗ dy ⊕ dz ⊗ dz) ⊗ (ex ⊗ ex ⊕ ey ⊗ ey ⊕ ez ⊗ ez)) (given (num (pos 0) ⊖ de) de (num (pos 0)) z none) tt
 
 -- ---- the neighbours of a ray
-last-of : (rs : List Ray) (r : Ray) → At rs zero r → (j : ℕ) × (q : Ray) × At rs j q × (suc j ≡ length rs)
+pub last-of : (rs : List Ray) (r : Ray) → At rs zero r → (j : ℕ) × (q : Ray) × At rs j q × (suc j ≡ length rs)
 last-of [] r a = absurd a
 last-of (p ∷ []) r a = (zero, p, refl, refl)
 last-of (p ∷ q ∷ rs) r a = let x = last-of (q ∷ rs) q refl in (suc x.0, x.1, x.2, ap suc x.3)
@@ -56,7 +56,7 @@ first-of_ray : (rs : List Ray) (k : ℕ) (r : Ray) → At rs k r → (p : Ray) �
 first-of_ray [] k r a = absurd a
 first-of_ray (p ∷ rs) k r a = (p, refl)
 
-before : (rs : List Ray) (k : ℕ) (r : Ray) → At rs (suc k) r → (q : Ray) × At rs k q
+pub before : (rs : List Ray) (k : ℕ) (r : Ray) → At rs (suc k) r → (q : Ray) × At rs k q
 before [] k r a = absurd a
 before (p ∷ rs) zero r a = (p, refl)
 before (p ∷ rs) (suc k) r a = before rs k r a
@@ -67,29 +67,40 @@ after-or (p ∷ []) zero r a = inr refl
 after-or (p ∷ q ∷ rs) zero r a = inl (q, refl)
 after-or (p ∷ rs) (suc k) r a = ⊎_elim (λ x. inl x) (λ e. inr (ap suc e)) (after-or rs k r a)
 
-next-ray : (rs : List Ray) (k : ℕ) (r : Ray) → At rs k r → (q : Ray) × (j : ℕ) × At rs j q × NextRay rs k q
+pub next-ray : (rs : List Ray) (k : ℕ) (r : Ray) → At rs k r → (q : Ray) × (j : ℕ) × At rs j q × NextRay rs k q
 next-ray rs k r a = ⊎_elim (λ x. (x.0, suc k, x.1, inl x.1)) (λ e. let f = first-of_ray rs k r a in (f.0, zero, f.1, inr (e, f.1))) (after-or rs k r a)
 
-previous : (rs : List Ray) (k : ℕ) (r : Ray) → At rs k r → (j : ℕ) × (q : Ray) × At rs j q × Follows rs j k × NextRay rs j r
+pub previous : (rs : List Ray) (k : ℕ) (r : Ray) → At rs k r → (j : ℕ) × (q : Ray) × At rs j q × Follows rs j k × NextRay rs j r
 previous rs zero r a = let x = last-of rs r a in (x.0, x.1, x.2, inr (x.3, refl), inr (x.3, a))
 previous rs (suc k) r a = let x = before rs k r a in (k, x.0, x.1, inl refl, inl a)
+
+-- a ray leaves at right angles to the axis
+pub ray-level : (t : Star) → IsDirection t.axis → (r : Ray) → IsRay t r → (dot t.axis (ray_way t r) ≡ pos 0) × IsDirection (ray_way t r)
+ray-level t axis r = by r.ahead
+  where
+    by : (b : Bool) → IsRay t r → (dot t.axis (cond b (cross r.normal t.axis) (cross t.axis r.normal)) ≡ pos 0) × IsDirection (cond b (cross r.normal t.axis) (cross t.axis r.normal))
+    by true q = (
+      ring (t.axis.x ∷ t.axis.y ∷ t.axis.z ∷ r.normal.x ∷ r.normal.y ∷ r.normal.z ∷ []) (at 0 ⊗ (at 4 ⊗ at 2 ⊖ at 5 ⊗ at 1) ⊕ at 1 ⊗ (at 5 ⊗ at 0 ⊖ at 3 ⊗ at 2) ⊕ at 2 ⊗ (at 3 ⊗ at 1 ⊖ at 4 ⊗ at 0)) (num (pos 0)) tt,
+      λ z. axis (nought-if r.normal t.axis (normal-direction r.normal q.normal) z q.level),
+    )
+    by false q = (
+      ring (t.axis.x ∷ t.axis.y ∷ t.axis.z ∷ r.normal.x ∷ r.normal.y ∷ r.normal.z ∷ []) (at 0 ⊗ (at 1 ⊗ at 5 ⊖ at 2 ⊗ at 4) ⊕ at 1 ⊗ (at 2 ⊗ at 3 ⊖ at 0 ⊗ at 5) ⊕ at 2 ⊗ (at 0 ⊗ at 4 ⊖ at 1 ⊗ at 3)) (num (pos 0)) tt,
+      λ z. normal-direction r.normal q.normal (nought-if t.axis r.normal axis z (dot-comm t.axis r.normal ∙ q.level)),
+    )
+
+-- the other way round twice
+pub away-twice : (d : Vector) → away (away d) ≡ d
+away-twice d = vector-same (away (away d)) d (one d.x) (one d.y) (one d.z)
+  where
+    one : (x : ℤ) → negsuc 0 *ℤ (negsuc 0 *ℤ x +ℤ pos 0 *ℤ x) +ℤ pos 0 *ℤ (negsuc 0 *ℤ x +ℤ pos 0 *ℤ x) ≡ x
+    one x = ring (x ∷ []) (num (negsuc 0) ⊗ (num (negsuc 0) ⊗ at 0 ⊕ num (pos 0) ⊗ at 0) ⊕ num (pos 0) ⊗ (num (negsuc 0) ⊗ at 0 ⊕ num (pos 0) ⊗ at 0)) (at 0) tt
 
 module _ (t : Star) (M : Map) (V : Valid M) (S : StarShows t M) (simple : IsSimplified t) where
   abbrev d : Vector
   d = t.axis
 
   pub way-level : (k : ℕ) (r : Ray) → At t.rays k r → (dot d (ray_way t r) ≡ pos 0) × IsDirection (ray_way t r)
-  way-level k r a = by r.ahead (S.rays k r a)
-    where
-      by : (b : Bool) → IsRay t r → (dot d (cond b (cross r.normal d) (cross d r.normal)) ≡ pos 0) × IsDirection (cond b (cross r.normal d) (cross d r.normal))
-      by true q = (
-        ring (d.x ∷ d.y ∷ d.z ∷ r.normal.x ∷ r.normal.y ∷ r.normal.z ∷ []) (at 0 ⊗ (at 4 ⊗ at 2 ⊖ at 5 ⊗ at 1) ⊕ at 1 ⊗ (at 5 ⊗ at 0 ⊖ at 3 ⊗ at 2) ⊕ at 2 ⊗ (at 3 ⊗ at 1 ⊖ at 4 ⊗ at 0)) (num (pos 0)) tt,
-        λ z. S.axis (nought-if r.normal d (normal-direction r.normal q.normal) z q.level),
-      )
-      by false q = (
-        ring (d.x ∷ d.y ∷ d.z ∷ r.normal.x ∷ r.normal.y ∷ r.normal.z ∷ []) (at 0 ⊗ (at 1 ⊗ at 5 ⊖ at 2 ⊗ at 4) ⊕ at 1 ⊗ (at 2 ⊗ at 3 ⊖ at 0 ⊗ at 5) ⊕ at 2 ⊗ (at 0 ⊗ at 4 ⊖ at 1 ⊗ at 3)) (num (pos 0)) tt,
-        λ z. normal-direction r.normal q.normal (nought-if d r.normal S.axis z (dot-comm d r.normal ∙ q.level)),
-      )
+  way-level k r a = ray-level t S.axis r (S.rays k r a)
 
   pub off-axis : (e : Vector) → IsDirection e → dot d e ≡ pos 0 → IsDirection (cross d e)
   off-axis e h z = apart d d e (λ y. let p = self-pos d S.axis in omega (arith, ints)) z h
@@ -140,17 +151,11 @@ module _ (t : Star) (M : Map) (V : Valid M) (S : StarShows t M) (simple : IsSimp
         let p = reversed m w (ray_way t q) e x.1 o in
         (e, IsStrictlyOn-same (away m) d (ray_way t q) (ray_way t q) w w e e (twice d S.axis) (way-self (ray_way t q) y.1) (way-self w x.1) (way-self e o.on_circle.direction) p, far-keeps (u ∷ []) w c K (omega arith) u (inl refl) f)
       where
-        same-vector : (d : Vector) → away (away d) ≡ d
-        same-vector d = vector-same (away (away d)) d (one d.x) (one d.y) (one d.z)
-          where
-            one : (x : ℤ) → negsuc 0 *ℤ (negsuc 0 *ℤ x +ℤ pos 0 *ℤ x) +ℤ pos 0 *ℤ (negsuc 0 *ℤ x +ℤ pos 0 *ℤ x) ≡ x
-            one x = ring (x ∷ []) (num (negsuc 0) ⊗ (num (negsuc 0) ⊗ at 0 ⊕ num (pos 0) ⊗ at 0) ⊕ num (pos 0) ⊗ (num (negsuc 0) ⊗ at 0 ⊕ num (pos 0) ⊗ at 0)) (at 0) tt
-
         twice : (d : Vector) → IsDirection d → SameDirection (away (away d)) d
-        twice d h = subst (λ (v : Vector). SameDirection v d) (sym (same-vector d)) (way-self d h)
+        twice d h = subst (λ (v : Vector). SameDirection v d) (sym (away-twice d)) (way-self d h)
 
   -- one label on a ray and close to it on both sides: not in a simplified star
-  not-even : (k : ℕ) (r : Ray) (a : At t.rays k r) (u : Vector) → (dot u (ray_way t r) ≡ pos 0 → ⊥) → (m : Label) → NearLabel M d (ray_way t r) m
+  pub not-even : (k : ℕ) (r : Ray) (a : At t.rays k r) (u : Vector) → (dot u (ray_way t r) ≡ pos 0 → ⊥) → (m : Label) → NearLabel M d (ray_way t r) m
       → ((e : Vector) → IsDirection (cross d e) → sign (dot u e) ≡ sign (dot u (ray_way t r)) → NearLabel M d e m) → ⊥
   not-even k r a u f m n all =
       let x = next-ray t.rays k r a in

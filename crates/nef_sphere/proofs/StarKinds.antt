@@ -4,19 +4,19 @@ use Rattle.std.proofs.lemmas.Int.{ints}
 use Rattle.nef_exact.proofs.Ring.{ring, at, num, ◌⊕◌, ◌⊖◌, ◌⊗◌}
 use Rattle.nef_exact.proofs.Combination.{follows, given, none}
 use Rattle.nef_exact.proofs.Order.{minus, nought, plus, sign, sign-plus, sign-minus, mul_pos, sign-scaled}
-use Rattle.nef_space.specs.Vectors.{Vector, IsDirection, cross, triple, dot, IsZero, SameDirection, IsOpposite}
+use Rattle.nef_space.specs.Vectors.{Vector, IsDirection, cross, triple, dot, IsZero, SameDirection, IsOpposite, IsNormal}
 use Rattle.nef_space.specs.declared.label.Label.{Label}
 use Rattle.nef_sphere.specs.Maps.{At, Map, NearLabel}
 use Rattle.nef_cyclic.specs.Arcs.{IsStrictlyOn}
 use Rattle.nef_sphere.specs.Least.{by_side, NearPlain, NearStraight}
-use Rattle.nef_sphere.specs.Stars.{Ray, Star, ray_way, across, OnRay, NextRay, StarLabel, on_ray, in_sector, in_only_sector, StarOf, IsPlain, IsStraight}
+use Rattle.nef_sphere.specs.Stars.{Ray, Star, ray_way, across, OnRay, NextRay, StarLabel, on_ray, in_sector, in_only_sector, IsRay, StarOf, IsPlain, IsStraight}
 use Rattle.nef_near.proofs.FlatDecided.{cross-turned}
 use Rattle.nef_sphere.proofs.Vectors.{normal-direction}
 use Rattle.nef_forms.proofs.Directions.{dot-comm, self-pos}
 use Rattle.nef_sphere.proofs.Labels.{way-signs}
 use Rattle.nef_sphere.proofs.Turn.{way-directed}
 
-none-at : {A : Type 0} (xs : List A) (k : ℕ) (x : A) → xs ≡ [] → At xs k x → ⊥
+pub none-at : {A : Type 0} (xs : List A) (k : ℕ) (x : A) → xs ≡ [] → At xs k x → ⊥
 none-at {A} xs k x e a = subst (λ (r : List A). At r k x) e a
 
 pub plain-star : (t : Star) (M : Map) (d : Vector) → StarOf t M d → IsPlain t → NearPlain M d
@@ -42,7 +42,7 @@ star-plain M d P = (
 
 -- ---- the sides of a straight star
 -- where n is at right angles to d: n.across(d, e) = (d.d)(n.e)
-across-side : (n d e : Vector) → dot n d ≡ pos 0 → dot n (across d e) ≡ dot d d *ℤ dot n e
+pub across-side : (n d e : Vector) → dot n d ≡ pos 0 → dot n (across d e) ≡ dot d d *ℤ dot n e
 across-side n d e z =
     let nx = at 0 in let ny = at 1 in let nz = at 2 in let dx = at 3 in let dy = at 4 in let dz = at 5 in let ex = at 6 in let ey = at 7 in let ez = at 8 in
     let cx = dy ⊗ ez ⊖ dz ⊗ ey in let cy = dz ⊗ ex ⊖ dx ⊗ ez in let cz = dx ⊗ ey ⊖ dy ⊗ ex in
@@ -51,7 +51,7 @@ across-side n d e z =
     (given (num (pos 0) ⊖ (dx ⊗ ex ⊕ dy ⊗ ey ⊕ dz ⊗ ez)) (nx ⊗ dx ⊕ ny ⊗ dy ⊕ nz ⊗ dz) (num (pos 0)) z none) tt
 
 -- the turn from n x d to E about d: d.((n x d) x E) = (d.d)(n.E) - (d.n)(d.E)
-turn-ahead : (n d e : Vector) → dot n d ≡ pos 0 → triple d (cross n d) e ≡ dot d d *ℤ dot n e
+pub turn-ahead : (n d e : Vector) → dot n d ≡ pos 0 → triple d (cross n d) e ≡ dot d d *ℤ dot n e
 turn-ahead n d e z =
     let nx = at 0 in let ny = at 1 in let nz = at 2 in let dx = at 3 in let dy = at 4 in let dz = at 5 in let ex = at 6 in let ey = at 7 in let ez = at 8 in
     let sx = ny ⊗ dz ⊖ nz ⊗ dy in let sy = nz ⊗ dx ⊖ nx ⊗ dz in let sz = nx ⊗ dy ⊖ ny ⊗ dx in
@@ -69,7 +69,7 @@ turn-behind n d e z =
     (num (pos 0) ⊖ (dx ⊗ (sy ⊗ ez ⊖ sz ⊗ ey) ⊕ dy ⊗ (sz ⊗ ex ⊖ sx ⊗ ez) ⊕ dz ⊗ (sx ⊗ ey ⊖ sy ⊗ ex))) tt
     ∙ ap (λ r. pos 0 -ℤ r) (turn-ahead n d e z)
 
-module _ (t : Star) (M : Map) (S : StarOf t M t.axis) (K : IsStraight t) (axis : IsDirection t.axis) where
+module _ (t : Star) (rays : (k : ℕ) (r : Ray) → At t.rays k r → IsRay t r) (K : IsStraight t) (axis : IsDirection t.axis) where
   abbrev d : Vector
   d = t.axis
 
@@ -79,8 +79,11 @@ module _ (t : Star) (M : Map) (S : StarOf t M t.axis) (K : IsStraight t) (axis :
   first-at : At t.rays zero K.first
   first-at = subst (λ (r : List Ray). At r zero K.first) (sym K.two_rays) refl
 
-  n-level : dot n d ≡ pos 0
-  n-level = let r = S.rays zero K.first first-at in r.level
+  pub straight_star-level : dot n d ≡ pos 0
+  straight_star-level = let r = rays zero K.first first-at in r.level
+
+  pub straight_star-normal : IsNormal n
+  straight_star-normal = let r = rays zero K.first first-at in r.normal
 
   ahead : ray_way t K.first ≡ cross n d
   ahead = ap (λ b. cond b (cross K.first.normal d) (cross d K.first.normal)) K.first_ahead
@@ -93,7 +96,7 @@ module _ (t : Star) (M : Map) (S : StarOf t M t.axis) (K : IsStraight t) (axis :
 
   -- a plane's side, before and after the projection
   side-of : (e : Vector) → sign (dot n (across d e)) ≡ sign (dot n e)
-  side-of e = ap sign (across-side n d e n-level) ∙ sign-scaled (dot d d) (dot n e) dd
+  side-of e = ap sign (across-side n d e straight_star-level) ∙ sign-scaled (dot d d) (dot n e) dd
 
   level-on : (w : Vector) (e : Vector) → dot n w ≡ pos 0 → SameDirection w (across d e) → sign (dot n e) ≡ nought
   level-on w e z s = sym (side-of e) ∙ way-signs w (across d e) n (way-directed w (across d e) s) s ∙ ap sign z
@@ -117,12 +120,12 @@ module _ (t : Star) (M : Map) (S : StarOf t M t.axis) (K : IsStraight t) (axis :
       back : dot (cross n d) (cross d n) <ℤ pos 0
       back =
           let nx = at 0 in let ny = at 1 in let nz = at 2 in let dx = at 3 in let dy = at 4 in let dz = at 5 in
-          let hn = self-pos n (normal-direction n (let r = S.rays zero K.first first-at in r.normal)) in
+          let hn = self-pos n (normal-direction n straight_star-normal) in
           let p = mul_pos (dot n n) (dot d d) hn dd in
           let e : dot (cross n d) (cross d n) ≡ pos 0 -ℤ dot n n *ℤ dot d d = follows (n.x ∷ n.y ∷ n.z ∷ d.x ∷ d.y ∷ d.z ∷ [])
           ((ny ⊗ dz ⊖ nz ⊗ dy) ⊗ (dy ⊗ nz ⊖ dz ⊗ ny) ⊕ (nz ⊗ dx ⊖ nx ⊗ dz) ⊗ (dz ⊗ nx ⊖ dx ⊗ nz) ⊕ (nx ⊗ dy ⊖ ny ⊗ dx) ⊗ (dx ⊗ ny ⊖ dy ⊗ nx))
           (num (pos 0) ⊖ (nx ⊗ nx ⊕ ny ⊗ ny ⊕ nz ⊗ nz) ⊗ (dx ⊗ dx ⊕ dy ⊗ dy ⊕ dz ⊗ dz))
-          (given (nx ⊗ dx ⊕ ny ⊗ dy ⊕ nz ⊗ dz) (nx ⊗ dx ⊕ ny ⊗ dy ⊕ nz ⊗ dz) (num (pos 0)) n-level none) tt in
+          (given (nx ⊗ dx ⊕ ny ⊗ dy ⊕ nz ⊗ dz) (nx ⊗ dx ⊕ ny ⊗ dy ⊕ nz ⊗ dz) (num (pos 0)) straight_star-level none) tt in
           omega (arith, ints)
 
   turned-ends : IsOpposite (cross d n) (cross n d)
@@ -132,13 +135,13 @@ module _ (t : Star) (M : Map) (S : StarOf t M t.axis) (K : IsStraight t) (axis :
   past-first : (e : Vector) → IsStrictlyOn d (cross n d) (cross d n) (across d e) → sign (dot n e) ≡ plus
   past-first e s =
       let h = s.just_half opposite-ends in
-      let k = turn-ahead n d (across d e) n-level in
+      let k = turn-ahead n d (across d e) straight_star-level in
       sym (side-of e) ∙ sym (sign-scaled (dot d d) (dot n (across d e)) dd) ∙ ap sign (sym k) ∙ sign-plus (triple d (cross n d) (across d e)) h
 
   past-second : (e : Vector) → IsStrictlyOn d (cross d n) (cross n d) (across d e) → sign (dot n e) ≡ minus
   past-second e s =
       let h = s.just_half turned-ends in
-      let k = turn-behind n d (across d e) n-level in
+      let k = turn-behind n d (across d e) straight_star-level in
       sym (side-of e) ∙ sym (sign-scaled (dot d d) (dot n (across d e)) dd) ∙ sign-minus (dot d d *ℤ dot n (across d e)) (omega (arith, ints))
 
   ray-one : (k : ℕ) (r : Ray) → At (K.first ∷ K.second ∷ []) k r → ((k ≡ zero) × (K.first ≡ r)) ⊎ ((k ≡ suc zero) × (K.second ≡ r))
@@ -150,12 +153,12 @@ module _ (t : Star) (M : Map) (S : StarOf t M t.axis) (K : IsStraight t) (axis :
   listed-one k r a = ray-one k r (subst (λ (q : List Ray). At q k r) K.two_rays a)
 
   -- the star's label is that of the side
-  side-label : (e : Vector) (l : Label) → StarLabel t e l → l ≡ by_side K.above t.mark K.below (sign (dot n e))
-  side-label e l (on_ray k r a o q) = ⊎_elim
+  pub straight_star-label : (e : Vector) (l : Label) → StarLabel t e l → l ≡ by_side K.above t.mark K.below (sign (dot n e))
+  straight_star-label e l (on_ray k r a o q) = ⊎_elim
       (λ c. sym q ∙ ap (λ (x : Ray). x.mark) (sym c.1) ∙ K.first_mark ∙ ap (by_side K.above t.mark K.below) (sym (level-on (cross n d) e ahead-level (subst (λ (w : Vector). SameDirection w (across d e)) ahead (subst (λ (x : Ray). OnRay t x e) (sym c.1) o)))))
       (λ c. sym q ∙ ap (λ (x : Ray). x.mark) (sym c.1) ∙ K.second_mark ∙ ap (by_side K.above t.mark K.below) (sym (level-on (cross d n) e behind-level (subst (λ (w : Vector). SameDirection w (across d e)) behind (subst (λ (x : Ray). OnRay t x e) (sym c.1) o))))) (listed-one k r a)
-  side-label e l (in_only_sector z s) = absurd (none-at t.rays zero K.first z first-at)
-  side-label e l (in_sector k q r a x o s) = by (listed-one k q a) x
+  straight_star-label e l (in_only_sector z s) = absurd (none-at t.rays zero K.first z first-at)
+  straight_star-label e l (in_sector k q r a x o s) = by (listed-one k q a) x
     where
       sector : At (K.above ∷ K.below ∷ []) k l
       sector = subst (λ (w : List Label). At w k l) K.two_sectors s
@@ -175,17 +178,17 @@ module _ (t : Star) (M : Map) (S : StarOf t M t.axis) (K : IsStraight t) (axis :
       by (inr c) (inl y) = ⊎_elim (λ z. let p = z.0 in let u = c.0 in absurd (omega arith)) (λ z. let p = z.0 in let u = c.0 in absurd (omega arith)) (listed-one (suc k) r y)
       by (inr c) (inr y) = ⊎_elim (λ z. second-next c.1 z.1 (sym (subst (λ (i : ℕ). At (K.above ∷ K.below ∷ []) i l) c.0 sector))) (λ z. let p = z.0 in absurd (omega arith)) (listed-one zero r y.1)
 
-  pub straight-star_axis : NearStraight M d
-  straight-star_axis = record {
-    normal = n;
-    direction = normal-direction n (let r = S.rays zero K.first first-at in r.normal);
-    level = n-level;
-    above = K.above;
-    label = t.mark;
-    below = K.below;
-    at_d = S.mark;
-    near = λ e f. let x = S.labels e f in subst (NearLabel M d e) (side-label e x.0 x.1) x.2;
-  }
-
 pub straight-star : (t : Star) (M : Map) (d : Vector) → IsDirection d → StarOf t M d → IsStraight t → NearStraight M d
-straight-star t M d h S K = subst (NearStraight M) S.axis (straight-star_axis t M (subst (StarOf t M) (sym S.axis) S) K (subst IsDirection (sym S.axis) h))
+straight-star t M d h S K = record {
+  normal = K.first.normal;
+  direction = normal-direction K.first.normal (straight_star-normal t S.rays K axis);
+  level = subst (λ (r : Vector). dot K.first.normal r ≡ pos 0) S.axis (straight_star-level t S.rays K axis);
+  above = K.above;
+  label = t.mark;
+  below = K.below;
+  at_d = S.mark;
+  near = λ e f. let x = S.labels e f in subst (NearLabel M d e) (straight_star-label t S.rays K axis e x.0 x.1) x.2;
+}
+  where
+    axis : IsDirection t.axis
+    axis = subst IsDirection (sym S.axis) h

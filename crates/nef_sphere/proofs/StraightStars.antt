@@ -33,6 +33,19 @@ pub record TwoRays (t : Star) : Type 0 where
   pub first_mark : first.mark ≡ t.mark
   pub second_mark : second.mark ≡ t.mark
 
+-- what is at right angles to n and d lies along n x d: (n x d) x w = d (n.w) - n (d.w)
+pub along-meet : (n d w : Vector) → dot d w ≡ pos 0 → dot n w ≡ pos 0 → IsZero (cross (cross n d) w)
+along-meet n d w p q =
+    let nx = at 0 in let ny = at 1 in let nz = at 2 in let dx = at 3 in let dy = at 4 in let dz = at 5 in let wx = at 6 in let wy = at 7 in let wz = at 8 in
+    let cx = ny ⊗ dz ⊖ nz ⊗ dy in let cy = nz ⊗ dx ⊖ nx ⊗ dz in let cz = nx ⊗ dy ⊖ ny ⊗ dx in
+    let xs = n.x ∷ n.y ∷ n.z ∷ d.x ∷ d.y ∷ d.z ∷ w.x ∷ w.y ∷ w.z ∷ [] in
+    let o = num (pos 0) in
+    let dw = dx ⊗ wx ⊕ dy ⊗ wy ⊕ dz ⊗ wz in let nw = nx ⊗ wx ⊕ ny ⊗ wy ⊕ nz ⊗ wz in (
+      follows xs (cy ⊗ wz ⊖ cz ⊗ wy) o (given dx nw o q (given (o ⊖ nx) dw o p none)) tt,
+      follows xs (cz ⊗ wx ⊖ cx ⊗ wz) o (given dy nw o q (given (o ⊖ ny) dw o p none)) tt,
+      follows xs (cx ⊗ wy ⊖ cy ⊗ wx) o (given dz nw o q (given (o ⊖ nz) dw o p none)) tt,
+    )
+
 module _ (t : Star) (M : Map) (V : Valid M) (S : StarShows t M) (simple : IsSimplified t) (apart-rays : RaysApart t) (P : NearStraight M t.axis) where
   abbrev d : Vector
   d = t.axis
@@ -53,20 +66,7 @@ module _ (t : Star) (M : Map) (V : Valid M) (S : StarShows t M) (simple : IsSimp
   along-plane : (k : ℕ) (r : Ray) → At t.rays k r → Beside w0 (ray_way t r)
   along-plane k r a =
       let x = way-level t M V S simple k r a in
-      beside w0 (ray_way t r) w0-direction x.1 (par (ray_way t r) x.0 (straight-level t M V S simple P k r a))
-    where
-      -- (n x d) x w = d (n.w) - n (d.w)
-      par : (w : Vector) → dot d w ≡ pos 0 → dot n w ≡ pos 0 → IsZero (cross w0 w)
-      par w p q =
-          let nx = at 0 in let ny = at 1 in let nz = at 2 in let dx = at 3 in let dy = at 4 in let dz = at 5 in let wx = at 6 in let wy = at 7 in let wz = at 8 in
-          let cx = ny ⊗ dz ⊖ nz ⊗ dy in let cy = nz ⊗ dx ⊖ nx ⊗ dz in let cz = nx ⊗ dy ⊖ ny ⊗ dx in
-          let xs = n.x ∷ n.y ∷ n.z ∷ d.x ∷ d.y ∷ d.z ∷ w.x ∷ w.y ∷ w.z ∷ [] in
-          let o = num (pos 0) in
-          let dw = dx ⊗ wx ⊕ dy ⊗ wy ⊕ dz ⊗ wz in let nw = nx ⊗ wx ⊕ ny ⊗ wy ⊕ nz ⊗ wz in (
-            follows xs (cy ⊗ wz ⊖ cz ⊗ wy) o (given dx nw o q (given (o ⊖ nx) dw o p none)) tt,
-            follows xs (cz ⊗ wx ⊖ cx ⊗ wz) o (given dy nw o q (given (o ⊖ ny) dw o p none)) tt,
-            follows xs (cx ⊗ wy ⊖ cy ⊗ wx) o (given dz nw o q (given (o ⊖ nz) dw o p none)) tt,
-          )
+      beside w0 (ray_way t r) w0-direction x.1 (along-meet n d (ray_way t r) x.0 (straight-level t M V S simple P k r a))
 
   ray-mark : (k : ℕ) (r : Ray) → At t.rays k r → r.mark ≡ P.label
   ray-mark k r a =

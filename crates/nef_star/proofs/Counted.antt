@@ -1,5 +1,5 @@
 -- Stars whose rays are counted from another one on, and stars without their last ray.
-use Rattle.std.proofs.Common.{◌≡◌, ℕ, zero, suc, ◌+◌, ◌-◌, ◌<◌, ◌≤◌, List, [], ◌∷◌, ◌++◌, length, map, take, drop, get_or, arith, refl, sym, ap, subst, ◌∙◌, inl, inr, ◌⊎◌, length-append}
+use Rattle.std.proofs.Common.{◌≡◌, ℕ, suc, ◌+◌, ◌-◌, ◌<◌, ◌≤◌, List, [], ◌∷◌, ◌++◌, length, map, take, drop, get_or, arith, refl, sym, ap, subst, ◌∙◌, inl, inr, length-append}
 use Rattle.std.specs.List.{All}
 use Rattle.std.proofs.lemmas.List.{drop-map, take-map, map-append, get_or-drop, get_or-take, get_or_append_left, get_or-append_right, length-drop, length-take-le, length-map}
 use Rattle.std.proofs.lemmas.List.Elements.{All-append, All-take, All-drop}
@@ -10,12 +10,11 @@ use Rattle.nef_space.specs.declared.label.Label.TheVariants.{Out}
 use Rattle.nef_geo.specs.Shapes.{vector_of}
 use Rattle.nef_geo.specs.declared.dir.Dir.{Dir}
 use Rattle.nef_cyclic.specs.Arcs.{IsOnCircle}
-use Rattle.nef_sphere.specs.Stars.{StarLabel}
 use Rattle.nef_star.specs.declared.star.Ray.{Ray}
 use Rattle.nef_star.specs.declared.star.Star.{Star}
 use Rattle.nef_star.specs.Turning.{IsTurning, IsNext, Gives, in_only_sector}
-use Rattle.nef_star.specs.Stars.{left_of, left_at, mark_of, mark_at, sector_at, sector_count, IsRay, IsTurned, IsKept, IsCountedFrom, IsNeedless, AreNeeded}
-use Rattle.nef_star.proofs.Labelled.{LeftGives, left-on, to-left, to-star}
+use Rattle.nef_star.specs.Stars.{left_of, left_at, mark_of, mark_at, sector_at, sector_count, IsRay, IsTurned, IsKept, IsCountedFrom, IsNeedless, AreNeeded, LeftGives}
+use Rattle.nef_star.proofs.Labelled.{left-on, to-left, to-star}
 use Rattle.nef_star.proofs.Rotated.{IsRotated, rotated-gives, rotated-turning}
 use Rattle.nef_star.proofs.Dropped.{fewer-turning, dropped-gives, only-gives, only-label}
 
@@ -82,7 +81,7 @@ renamed s a n d l e f h =
     (subst (λ (k : ℕ). Gives (vector_of a) k (left_at s.rays.items) (mark_at s.rays.items) (sector_at s.sectors.items) d l) (sym f) h)
 
 module _ (t s : Star) (T : IsTurned t) (e : s.axis ≡ t.axis) (f : s.mark ≡ t.mark) where
-  turned-by : All (IsRay (vector_of t.axis)) s.rays.items → (n : ℕ) → length s.rays.items ≡ n → IsTurning (vector_of t.axis) n (left_at s.rays.items) → length s.sectors.items ≡ sector_count s.rays.items → IsTurned s
+  pub turned-by : All (IsRay (vector_of t.axis)) s.rays.items → (n : ℕ) → length s.rays.items ≡ n → IsTurning (vector_of t.axis) n (left_at s.rays.items) → length s.sectors.items ≡ sector_count s.rays.items → IsTurned s
   turned-by rays n k turning sectors = record {
     axis_small = subst (λ (x : Dir). IsAtMost svertex_limit (vector_of x)) (sym e) T.axis_small;
     rays = subst (λ (x : Dir). All (IsRay (vector_of x)) s.rays.items) (sym e) rays;
@@ -95,7 +94,7 @@ module _ (t s : Star) (T : IsTurned t) (e : s.axis ≡ t.axis) (f : s.mark ≡ t
     sectors_too : length t.sectors.items ≡ length t.rays.items
     sectors_too = T.sectors ∙ count-some t.rays.items (omega arith)
 
-    lefts : IsRotated (length t.rays.items) m (left_at t.rays.items) (left_at s.rays.items)
+    pub lefts : IsRotated (length t.rays.items) m (left_at t.rays.items) (left_at s.rays.items)
     lefts = rotated-map left_of zero_vector m t.rays.items s.rays.items (omega arith) c.rays
 
     pub marks : IsRotated (length t.rays.items) m (mark_at t.rays.items) (mark_at s.rays.items)

@@ -1,9 +1,8 @@
 -- What a star gives a direction e is what its left directions give axis x e.
-use Rattle.std.proofs.Common.{◌≡◌, ℕ, zero, suc, ◌<◌, pos, neg_ℤ, ◌*ℤ◌, ◌-ℤ◌, List, [], ◌∷◌, length, map, true, false, cond, arith, refl, sym, ap, subst, ◌∙◌, inl, inr, ◌⊎◌}
+use Rattle.std.proofs.Common.{◌≡◌, ℕ, zero, suc, ◌<◌, neg_ℤ, ◌*ℤ◌, ◌-ℤ◌, List, [], ◌∷◌, length, map, true, false, cond, arith, refl, sym, ap, subst, ◌∙◌, inl, inr}
 use Rattle.std.proofs.lemmas.List.{length-map}
-use Rattle.std.proofs.lemmas.Int.{ints}
-use Rattle.nef_exact.proofs.Ring.{ring, at, num, neg, ◌⊖◌, ◌⊗◌}
-use Rattle.nef_space.specs.Vectors.{Vector, dot, cross, opposite, IsDirection, SameDirection}
+use Rattle.nef_exact.proofs.Ring.{ring, at, neg, ◌⊖◌, ◌⊗◌}
+use Rattle.nef_space.specs.Vectors.{Vector, cross, opposite, IsDirection}
 use Rattle.std.proofs.Common.{ℤ, Bool}
 use Rattle.nef_space.specs.declared.label.Label.{Label}
 use Rattle.nef_geo.specs.Shapes.{vector_of}
@@ -11,13 +10,13 @@ use Rattle.nef_cyclic.specs.Arcs.{IsOnCircle, IsStrictlyOn, Passes}
 use Rattle.nef_cyclic.proofs.Directions.{level_cross_first}
 use Rattle.nef_sphere.specs.Maps.{At}
 use Rattle.nef_cyclic.specs.Arcs.{IsStrictlyOn}
-use Rattle.nef_sphere.specs.Stars.{Ray as PlainRay, Star as PlainStar, ray_way, NextRay, StarLabel, on_ray, in_sector, in_only_sector}
+use Rattle.nef_sphere.specs.Stars.{Ray as PlainRay, ray_way, NextRay, StarLabel, on_ray, in_sector, in_only_sector}
 use Rattle.nef_near.proofs.Flats.{vector-same}
 use Rattle.nef_star.specs.declared.star.Ray.{Ray}
 use Rattle.nef_star.specs.declared.star.Star.{Star}
 use Rattle.nef_star.specs.Laws.{EachHasOneLabel}
-use Rattle.nef_star.specs.Turning.{IsTurning, IsNext, Gives, on_ray as at_ray, in_sector as of_sector, in_only_sector as of_only_sector}
-use Rattle.nef_star.specs.Stars.{ray_of, star_of, left_of, left_at, mark_of, mark_at, sector_at, sector_count, IsTurned}
+use Rattle.nef_star.specs.Turning.{IsNext, on_ray as at_ray, in_sector as of_sector, in_only_sector as of_only_sector}
+use Rattle.nef_star.specs.Stars.{ray_of, star_of, left_of, left_at, mark_of, mark_at, sector_at, sector_count, IsTurned, LeftGives}
 use Rattle.nef_star.proofs.Turns.{next_in, some_label, one_label}
 use Rattle.nef_star.proofs.Lefts.{way, way-same, same-way, way-passes, passes-way}
 
@@ -103,9 +102,6 @@ passes n s t d h = record {
 }
 
 -- ---- labels
-abbrev pub LeftGives : Star → Vector → Label → Type 0
-LeftGives t d l = Gives (vector_of t.axis) (length t.rays.items) (left_at t.rays.items) (mark_at t.rays.items) (sector_at t.sectors.items) d l
-
 module _ (t : Star) (T : IsTurned t) (e : Vector) (off : IsDirection (cross (vector_of t.axis) e)) where
   axis : IsDirection (vector_of t.axis)
   axis = t.axis.some

@@ -1,14 +1,14 @@
 -- The directions that rays leave the axis in turn as their left ones do.
-use Rattle.std.proofs.Common.{◌≡◌, ℕ, ◌+◌, ℤ, pos, ◌<ℤ◌, ◌*ℤ◌, [], ◌∷◌, refl, sym, ap, subst, ◌∙◌}
+use Rattle.std.proofs.Common.{◌≡◌, ℕ, ◌+◌, pos, ◌<ℤ◌, ◌*ℤ◌, refl, sym, ap, subst, ◌∙◌}
 use lib.Dec.{T}
-use Rattle.nef_exact.proofs.Ring.{ring, Poly, at, num, ◌⊕◌, ◌⊖◌, ◌⊗◌}
+use Rattle.nef_exact.proofs.Ring.{ring, at, num, ◌⊕◌, ◌⊖◌, ◌⊗◌}
 use Rattle.nef_exact.proofs.Combination.{follows, given, none}
 use Rattle.nef_space.specs.Vectors.{Vector, dot, cross, triple, IsDirection, IsZero, SameDirection}
-use Rattle.nef_cyclic.specs.Arcs.{IsOnCircle, Passes, AboutThree}
-use Rattle.nef_cyclic.proofs.Signs.{sgn, sgn-scaled, rule}
-use Rattle.nef_cyclic.proofs.Planar.{dot_comm, dot_poly, triple_poly, numbers, self_positive, parallel_from_turn}
-use Rattle.nef_cyclic.proofs.StrictlyOn.{is_same, passes_test}
-use Rattle.nef_cyclic.proofs.Cyclic.{Says, says_same, says_passes}
+use Rattle.nef_cyclic.specs.Arcs.{IsOnCircle, Passes}
+use Rattle.nef_cyclic.proofs.Signs.{sgn, sgn-scaled}
+use Rattle.nef_cyclic.proofs.Planar.{dot_comm, dot_poly, triple_poly, numbers, self_positive}
+use Rattle.nef_cyclic.proofs.StrictlyOn.{passes_test}
+use Rattle.nef_cyclic.proofs.Cyclic.{says_same, says_passes}
 use Rattle.nef_sphere.proofs.Vectors.{nought-if}
 use Rattle.nef_star.proofs.Turns.{three}
 

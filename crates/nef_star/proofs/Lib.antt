@@ -8,3 +8,11 @@ pub mod Dropped
 pub mod RayOrder
 pub mod Counted
 pub mod Needed
+pub mod Both
+pub mod Added
+pub mod LastAt
+pub mod Pushed
+pub mod Cuts
+pub mod Combined
+pub mod Joined
+pub mod RoundStars

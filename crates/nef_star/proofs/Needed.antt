@@ -1,19 +1,18 @@
 -- Rays that aren't needless stay so when the rays are counted from another one on.
 use lib.Dec.{T}
-use Rattle.std.proofs.Common.{◌≡◌, ℕ, zero, suc, ◌+◌, ◌-◌, ◌<◌, ◌≤◌, List, length, get_or, true, false, arith, refl, sym, ap, subst, ◌∙◌, inl, inr, ◌⊎◌}
-use Rattle.nef_space.specs.Vectors.{Vector, cross, IsDirection}
-use Rattle.nef_space.specs.declared.label.Label.{Label}
+use Rattle.std.proofs.Common.{◌≡◌, ℕ, ◌+◌, ◌-◌, ◌<◌, ◌≤◌, length, get_or, true, false, arith, refl, sym, ap, subst, ◌∙◌, inl, inr, ◌⊎◌}
+use Rattle.nef_space.specs.Vectors.{cross, IsDirection}
 use Rattle.nef_geo.specs.Shapes.{vector_of}
 use Rattle.nef_geo.specs.declared.dir.Dir.{Dir}
 use Rattle.nef_sphere.specs.Stars.{Ray as PlainRay, IsSimplified, Follows}
 use Rattle.nef_star.specs.declared.star.Ray.{Ray}
 use Rattle.nef_star.specs.declared.star.Star.{Star}
 use Rattle.nef_star.specs.Turning.{IsNext}
-use Rattle.nef_star.specs.Stars.{ray_of, star_of, mark_at, sector_at, IsRayBelow, IsTurned, IsStar, IsKept, IsCountedFrom, IsNeedless, AreNeeded, IsPassed}
+use Rattle.nef_star.specs.Stars.{ray_of, star_of, mark_at, sector_at, IsRayBelow, IsTurned, IsKept, IsCountedFrom, IsNeedless, AreNeeded, IsPassed}
 use Rattle.nef_star.proofs.Labelled.{at-ray, at-sector}
 use Rattle.nef_star.proofs.Rotated.{Moved, moved-value, lt-or-le}
 use Rattle.nef_star.proofs.RayOrder.{LeastOf}
-use Rattle.nef_star.proofs.Counted.{rotated-list, counted-length, counted-turned, marks, sectors}
+use Rattle.nef_star.proofs.Counted.{rotated-list, counted-length, marks, sectors}
 use Rattle.std.proofs.lemmas.List.{length-map}
 
 unmoved : (n m k : ℕ) → m < n → k < n → (i : ℕ) × (i < n) × Moved n m i k

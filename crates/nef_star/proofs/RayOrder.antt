@@ -1,5 +1,5 @@
 -- The order of rays.
-use Rattle.std.proofs.Common.{◌≡◌, ℕ, zero, suc, ◌+◌, ◌<◌, ◌≤◌, ℤ, ◌<ℤ◌, List, [], ◌∷◌, length, get_or, Bool, true, false, arith, refl, sym, subst, ◌∙◌, inl, inr, ◌⊎◌}
+use Rattle.std.proofs.Common.{◌≡◌, ℕ, zero, suc, ◌+◌, ◌<◌, ℤ, List, [], ◌∷◌, length, get_or, Bool, true, false, arith, refl, sym, subst, ◌∙◌, inl, inr, ◌⊎◌}
 use Rattle.std.proofs.Math.Nat.{eq-or-lt_of_le}
 use Rattle.std.proofs.lemmas.Int.{ints}
 use lib.Dec.{T}
@@ -24,7 +24,7 @@ below-self [] h = h
 below-self (x ∷ xs) (inl p) = omega (arith, ints, p)
 below-self (x ∷ xs) (inr (e, p)) = below-self xs p
 
-true_not_false : (b : Bool) → b ≡ true → b ≡ false → ⊥
+pub true_not_false : (b : Bool) → b ≡ true → b ≡ false → ⊥
 true_not_false b e f = subst T (sym e ∙ f) tt
 
 pub ray-below-trans : (p q r : Ray) → IsRayBelow p q → IsRayBelow q r → IsRayBelow p r

@@ -3,7 +3,6 @@ use Rattle.std.proofs.Common.{◌≡◌, ℕ, zero, suc, ◌+◌, ◌-◌, ◌<�
 use Rattle.nef_space.specs.Vectors.{Vector, IsDirection, SameDirection}
 use Rattle.nef_space.specs.declared.label.Label.{Label}
 use Rattle.nef_cyclic.specs.Arcs.{IsOnCircle, Passes}
-use Rattle.nef_cyclic.proofs.StrictlyOn.{same-sym}
 use Rattle.nef_cyclic.proofs.Cyclic.{seen_from_later, seen_from_between, seen_from_after}
 use Rattle.nef_star.specs.Turning.{IsTurning, IsNext, Gives, on_ray, in_sector, in_only_sector}
 use Rattle.nef_star.proofs.Turns.{same-self, four, next_in, has_next, first_or_later, distinct}
@@ -28,6 +27,14 @@ moved n m i h k = by (lt-or-le i m)
     by : (i < m) ⊎ (m ≤ i) → (j : ℕ) × (j < n) × Moved n m i j
     by (inl p) = (i + n - m, omega arith, inr (omega arith))
     by (inr p) = (i - m, omega arith, inl (omega arith))
+
+-- what stands in place j came from place i
+pub moved-from : (n m j : ℕ) → m < n → j < n → (i : ℕ) × (i < n) × Moved n m i j
+moved-from n m j h k = by (lt-or-le (j + m) n)
+  where
+    by : (j + m < n) ⊎ (n ≤ j + m) → (i : ℕ) × (i < n) × Moved n m i j
+    by (inl p) = (j + m, p, inl refl)
+    by (inr p) = (j + m - n, omega (arith, p, h, k), inr (omega (arith, p)))
 
 pub moved-value : {X : Type 0} (n m : ℕ) (f g : ℕ → X) → IsRotated n m f g → m < n → (i j : ℕ) → i < n → j < n → Moved n m i j → g j ≡ f i
 moved-value n m f g r h i j k l (inl e) = let low : j + m < n = omega (arith, e) in r.low j low ∙ ap f e

@@ -1,17 +1,26 @@
 -- Stars of two opposite rays.
-use Rattle.std.proofs.Common.{◌≡◌, ℕ, zero, suc, ◌<◌, List, [], ◌∷◌, length, map, Bool, true, false, cond, arith, refl, sym, ap, subst, ◌∙◌, inl, inr, ◌⊎◌, get_or}
+use Rattle.std.proofs.Common.{◌≡◌, ℕ, zero, suc, ◌<◌, pos, List, [], ◌∷◌, length, map, Bool, true, false, cond, arith, refl, sym, ap, subst, ◌∙◌, inl, inr, get_or}
+use Rattle.std.specs.List.{All}
 use Rattle.std.proofs.lemmas.List.{length-map}
-use Rattle.nef_space.specs.Vectors.{Vector, zero_vector, opposite, IsDirection, SameDirection}
-use Rattle.nef_space.specs.declared.label.Label.{Label}
+use Rattle.std.proofs.lemmas.List.Elements.{All-cons, All-nil}
+use Rattle.std.proofs.lemmas.Int.{ints}
+use Rattle.nef_space.specs.Limits.{normal_limit, svertex_limit}
+use Rattle.nef_space.specs.Numbers.{IsBelow}
+use Rattle.nef_space.specs.Vectors.{Vector, dot, opposite, triple_of, IsDirection, IsAtMost, IsNormal, SameDirection}
 use Rattle.nef_geo.specs.Shapes.{vector_of}
 use Rattle.nef_geo.specs.declared.dir.Dir.{Dir}
 use Rattle.nef_geo.proofs.Unique.{same_directions_equal}
 use Rattle.nef_cyclic.specs.Arcs.{IsOnCircle}
+use Rattle.nef_cyclic.proofs.Planar.{dot_comm, self_positive}
+use Rattle.nef_cyclic.proofs.Directions.{dot-opposite}
 use Rattle.nef_sphere.specs.Stars.{Ray as PlainRay, IsStraight}
 use Rattle.nef_star.specs.declared.star.Ray.{Ray}
 use Rattle.nef_star.specs.declared.star.Star.{Star}
-use Rattle.nef_star.specs.Stars.{ray_of, star_of, left_of, left_at, sector_count, IsRayBelow, AreStraight, IsStar, IsTurned}
+use Rattle.nef_star.specs.Stars.{ray_of, star_of, left_of, left_at, sector_count, IsRayBelow, AreStraight, IsRay, IsStar}
+use Rattle.nef_star.specs.Turning.{IsTurning}
 use Rattle.nef_star.proofs.Turns.{self-same}
+use Rattle.nef_star.proofs.RayOrder.{ray-below-self, true_not_false}
+use Rattle.nef_star.proofs.Pushed.{left-on_circle}
 
 pub two_items : {X : Type 0} (xs : List X) (q r : X) → length xs ≡ 2 → q ≡ get_or xs 0 q → r ≡ get_or xs 1 r → xs ≡ q ∷ r ∷ []
 two_items [] q r n e f = absurd (omega (arith, n))
@@ -83,3 +92,72 @@ straight_then t S q r e =
       ap (λ (p : PlainRay). p.mark) one ∙ S.first_mark,
       ap (λ (p : PlainRay). p.mark) other ∙ S.second_mark,
     )
+
+-- ---- the star of a plane: its two rays
+module _ (a : Vector) (axis : IsDirection a) (q r : Ray) (Q : IsRay a q) (R : IsRay a r) (one : q.normal ≡ r.normal) (ahead : q.ahead ≡ true) (behind : r.ahead ≡ false) where
+  first-left : left_of q ≡ vector_of q.normal
+  first-left = ap (left q.normal) ahead
+
+  second-left : left_of r ≡ opposite (vector_of q.normal)
+  second-left = ap (left r.normal) behind ∙ ap (λ (n : Dir). opposite (vector_of n)) (sym one)
+
+  back-apart : SameDirection (vector_of q.normal) (opposite (vector_of q.normal)) → ⊥
+  back-apart s =
+      let v = vector_of q.normal in
+      let p = self_positive v q.normal.some in let f = s.forward in let e = dot_comm v (opposite v) in let z = dot-opposite v v in
+      omega (arith, ints, p, f, e, z)
+
+  pub plane-turning : IsTurning a 2 (left_at (q ∷ r ∷ []))
+  plane-turning = record { circle = circle; apart = apart; rising = λ i k x y z. absurd (omega (arith, x, y, z)) }
+    where
+      circle : (k : ℕ) → k < 2 → IsOnCircle a (left_at (q ∷ r ∷ []) k)
+      circle zero h = left-on_circle a q Q
+      circle (suc zero) h = left-on_circle a r R
+      circle (suc (suc k)) h = absurd (omega (arith, h))
+
+      apart : (k : ℕ) → 0 < k → k < 2 → SameDirection (left_of q) (left_at (q ∷ r ∷ []) k) → ⊥
+      apart zero p h s = absurd (omega (arith, p))
+      apart (suc zero) p h s = back-apart (subst (λ (v : Vector). SameDirection v (opposite (vector_of q.normal))) first-left (subst (SameDirection (left_of q)) second-left s))
+      apart (suc (suc k)) p h s = absurd (omega (arith, h))
+
+  none_below : (k : ℕ) (x y : Ray) → k < 2 → q ≡ x → get_or (q ∷ r ∷ []) k y ≡ y → IsRayBelow y x → ⊥
+  none_below zero x y h e f b = ray-below-self q (subst (λ (z : Ray). IsRayBelow z q) (sym f) (subst (IsRayBelow y) (sym e) b))
+  none_below (suc zero) x y h e f b = not-below (subst (λ (z : Ray). IsRayBelow z q) (sym f) (subst (IsRayBelow y) (sym e) b))
+    where
+      not-below : IsRayBelow r q → ⊥
+      not-below (inl z) = ray-below-self q (inl (subst (λ (n : Dir). IsBelow (triple_of (vector_of n)) (triple_of (vector_of q.normal))) (sym one) z))
+      not-below (inr (z, w, v)) = true_not_false r.ahead w behind
+  none_below (suc (suc k)) x y h e f b = absurd (omega (arith, h))
+
+pub plane-star : (t : Star) (q r : Ray) → t.rays.items ≡ q ∷ r ∷ [] → length t.sectors.items ≡ 2 → IsAtMost svertex_limit (vector_of t.axis) → IsRay (vector_of t.axis) q → IsRay (vector_of t.axis) r
+    → q.normal ≡ r.normal → q.ahead ≡ true → r.ahead ≡ false → IsStar t
+plane-star t q r e m small Q R one ahead behind =
+    let a = vector_of t.axis in
+    record {
+      turned = record {
+        axis_small = small;
+        rays = subst (All (IsRay a)) (sym e) (All-cons (IsRay a) q (r ∷ []) Q (All-cons (IsRay a) r [] R (All-nil (IsRay a))));
+        counterclockwise = subst (λ (l : List Ray). IsTurning a (length l) (left_at l)) (sym e) (plane-turning a t.axis.some q r Q R one ahead behind);
+        sectors = subst (λ (l : List Ray). length t.sectors.items ≡ sector_count l) (sym e) m;
+      };
+      least_first = subst (λ (l : List Ray). (k : ℕ) (x y : Ray) → k < length l → get_or l 0 x ≡ x → get_or l k y ≡ y → IsRayBelow y x → ⊥) (sym e)
+          (none_below a t.axis.some q r Q R one ahead behind);
+    }
+
+at-most-more : (v : Vector) → IsAtMost normal_limit v → IsAtMost svertex_limit v
+at-most-more v h = let x = h.of_x in let y = h.of_y in let z = h.of_z in record { of_x = omega (arith, x); of_y = omega (arith, y); of_z = omega (arith, z) }
+
+ray-along : (a : Dir) (n : Dir) (r : Ray) → r.normal ≡ n → dot (vector_of n) (vector_of a) ≡ pos 0 → IsAtMost normal_limit (vector_of n) → IsNormal (vector_of n) → IsRay (vector_of a) r
+ray-along a n r e level small normal = record {
+  level = subst (λ (d : Dir). dot (vector_of d) (vector_of a) ≡ pos 0) (sym e) level;
+  small = subst (λ (d : Dir). IsAtMost normal_limit (vector_of d)) (sym e) small;
+  normal = subst (λ (d : Dir). IsNormal (vector_of d)) (sym e) normal;
+}
+
+-- the same with the axis a and the normal n
+pub plane-star-of : (t : Star) (q r : Ray) (a n : Dir) → t.axis ≡ a → t.rays.items ≡ q ∷ r ∷ [] → length t.sectors.items ≡ 2 → IsAtMost normal_limit (vector_of a)
+    → dot (vector_of n) (vector_of a) ≡ pos 0 → IsAtMost normal_limit (vector_of n) → IsNormal (vector_of n) → q.normal ≡ n → r.normal ≡ n → q.ahead ≡ true → r.ahead ≡ false → IsStar t
+plane-star-of t q r a n e rays m small level slight normal f h ahead behind =
+    plane-star t q r rays m (subst (λ (d : Dir). IsAtMost svertex_limit (vector_of d)) (sym e) (at-most-more (vector_of a) small))
+    (subst (λ (d : Dir). IsRay (vector_of d) q) (sym e) (ray-along a n q f level slight normal))
+    (subst (λ (d : Dir). IsRay (vector_of d) r) (sym e) (ray-along a n r h level slight normal)) (f ∙ sym h) ahead behind

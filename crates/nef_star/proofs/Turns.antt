@@ -1,18 +1,18 @@
 -- Directions in counterclockwise order about an axis: each direction is under one of them, and has one label.
-use Rattle.std.proofs.Common.{◌≡◌, ℕ, zero, suc, ◌+◌, ◌-◌, ◌<◌, ◌≤◌, ℤ, pos, ◌<ℤ◌, ◌*ℤ◌, ◌-ℤ◌, arith, refl, sym, ap, subst, ◌∙◌, inl, inr, ◌⊎◌}
+use Rattle.std.proofs.Common.{◌≡◌, ℕ, zero, suc, ◌-◌, ◌<◌, ◌≤◌, ℤ, pos, ◌<ℤ◌, ◌*ℤ◌, ◌-ℤ◌, arith, refl, sym, ap, subst, ◌∙◌, inl, inr, ◌⊎◌}
 use Rattle.std.proofs.lemmas.Int.{ints}
 use Rattle.std.proofs.Math.Nat.{eq-or-lt_of_le}
-use Rattle.nef_space.specs.Vectors.{Vector, dot, cross, triple, IsDirection, IsOpposite, IsParallel, SameDirection}
+use Rattle.nef_space.specs.Vectors.{Vector, dot, cross, triple, IsDirection, IsParallel, SameDirection}
 use Rattle.nef_space.specs.declared.label.Label.{Label}
-use Rattle.nef_cyclic.specs.Arcs.{IsOnCircle, IsStrictlyOn, Passes, AboutThree, AboutFour}
+use Rattle.nef_cyclic.specs.Arcs.{IsOnCircle, Passes, AboutThree, AboutFour}
 use Rattle.nef_cyclic.proofs.Planar.{self_positive, turn_from_parallel}
 use Rattle.nef_cyclic.proofs.StrictlyOn.{same-sym}
 use Rattle.nef_cyclic.proofs.Directions.{same-trans}
-use Rattle.nef_cyclic.proofs.Cyclic.{one_is_first, never_both_ways, order_is_transitive, same_in_place, order_is_cyclic, ways_glue, nearer_ones, sector_holds, in_sector, no_ray_between}
+use Rattle.nef_cyclic.proofs.Cyclic.{one_is_first, never_both_ways, order_is_transitive, same_in_place, order_is_cyclic, nearer_ones, in_sector, no_ray_between}
 use Rattle.nef_near.proofs.Decided.{Decided}
 use Rattle.nef_forms.proofs.Directions.{zero-decided}
 use Rattle.nef_sphere.proofs.Vectors.{positive-or}
-use Rattle.nef_star.specs.Turning.{IsTurning, IsNext, Gives, on_ray, in_sector as of_sector, in_only_sector, IsUnder, at_ray, past_ray}
+use Rattle.nef_star.specs.Turning.{IsTurning, IsNext, Gives, on_ray, in_sector as of_sector, in_only_sector, IsUnder}
 
 -- ---- directions about an axis
 pub self-same : (d : Vector) → IsDirection d → SameDirection d d
@@ -132,7 +132,7 @@ module _ (a : Vector) (axis : IsDirection a) (n : ℕ) (f : ℕ → Vector) (t :
 
   -- ---- each direction is on one of them, or between one and the next
   abbrev pub Lies : Vector → ℕ → Type 0
-  Lies d k = SameDirection (f k) d ⊎ ((j : ℕ) × IsNext n k j × Passes a (f k) d (f j))
+  Lies d k = IsUnder a n f d k
 
   -- all those from k on come after d, seen from the first
   abbrev pub Later : Vector → ℕ → Type 0
@@ -171,6 +171,38 @@ module _ (a : Vector) (axis : IsDirection a) (n : ℕ) (f : ℕ → Vector) (t :
       by g (inr (inl p)) = (suc k, h, lies_at d (suc k) h o (inr p) u l)
       by g (inr (inr p)) = g p
 
+  pub some_place : (d : Vector) → 0 < n → IsOnCircle a d → (k : ℕ) × (k < n) × Lies d k
+  some_place d h o = by (same_or (f 0) d)
+    where
+      by : SameDirection (f 0) d ⊎ (SameDirection (f 0) d → ⊥) → (k : ℕ) × (k < n) × Lies d k
+      by (inl s) = (0, h, inl s)
+      by (inr u) = find d (n - 1) (omega arith) o u (λ i p q. absurd (omega arith))
+
+  -- ---- but not on two, nor between two pairs
+  pub not_both : (d : Vector) (k i j : ℕ) → k < n → i < n → IsOnCircle a d → SameDirection (f k) d → IsNext n i j → Passes a (f i) d (f j) → ⊥
+  not_both d k i j h m o s x p =
+      none_between i j k m x h (same_in_place a (f i) d (f k) (f j) (four a (f i) d (f k) (f j) axis (on i m) o (on k h) (on j (next_in n i j m x))) (same-sym (f k) d s) p)
+
+  pub one_sector : (d : Vector) (k j k' j' : ℕ) → k < n → IsNext n k j → Passes a (f k) d (f j) → k' < n → IsNext n k' j' → Passes a (f k') d (f j') → IsOnCircle a d → (SameDirection (f k) (f k') → ⊥) → ⊥
+  one_sector d k j k' j' h x p h' x' p' o u =
+      let u' = λ (s : SameDirection (f k') (f k)). u (same-sym (f k') (f k) s) in
+      let there = nearer_ones a (f k) (f j) d (f k') (four a (f k) (f j) d (f k') axis (on k h) (on j (next_in n k j h x)) o (on k' h')) p (none_between k j k' h x h') u in
+      let back = nearer_ones a (f k') (f j') d (f k) (four a (f k') (f j') d (f k) axis (on k' h') (on j' (next_in n k' j' h' x')) o (on k h)) p' (none_between k' j' k h' x' h) u' in
+      never_both_ways a d (f k) (f k') (three a d (f k) (f k') axis o (on k h) (on k' h'))
+      (order_is_cyclic a (f k') d (f k) (three a (f k') d (f k) axis (on k' h') o (on k h)) u' back)
+      (order_is_cyclic a (f k) d (f k') (three a (f k) d (f k') axis (on k h) o (on k' h')) u there)
+
+  pub one_place : (d : Vector) (k i : ℕ) → k < n → i < n → IsOnCircle a d → Lies d k → Lies d i → k ≡ i
+  one_place d k i h l o (inl s) (inl s') = distinct k i h l (same-trans (f k) d (f i) s (same-sym (f i) d s'))
+  one_place d k i h l o (inl s) (inr (j, x, p)) = absurd (not_both d k i j h l o s x p)
+  one_place d k i h l o (inr (j, x, p)) (inl s) = absurd (not_both d i k j l h o s x p)
+  one_place d k i h l o (inr (j, x, p)) (inr (j', x', p')) = by (three_ways k i)
+    where
+      by : (k < i) ⊎ (k ≡ i) ⊎ (i < k) → k ≡ i
+      by (inl w) = absurd (one_sector d k j i j' h x p l x' p' o (distinct_up k i w l))
+      by (inr (inl w)) = w
+      by (inr (inr w)) = absurd (one_sector d i j' k j l x' p' h x p o (distinct_up i k w h))
+
   -- ---- what they give
   module _ (marks sectors : ℕ → Label) where
     given : (d : Vector) (k : ℕ) → k < n → Lies d k → (l : Label) × Gives a n f marks sectors d l
@@ -180,38 +212,16 @@ module _ (a : Vector) (axis : IsDirection a) (n : ℕ) (f : ℕ → Vector) (t :
     pub some_label : (d : Vector) → IsOnCircle a d → (l : Label) × Gives a n f marks sectors d l
     some_label d o = by (first_or_later n)
       where
-        at_first : 0 < n → SameDirection (f 0) d ⊎ (SameDirection (f 0) d → ⊥) → (l : Label) × Gives a n f marks sectors d l
-        at_first h (inl s) = given d 0 h (inl s)
-        at_first h (inr u) = let r = find d (n - 1) (omega arith) o u (λ i p q. absurd (omega arith)) in given d r.0 r.1 r.2
-
         by : (n ≡ 0) ⊎ (0 < n) → (l : Label) × Gives a n f marks sectors d l
         by (inl e) = (sectors 0, in_only_sector e refl)
-        by (inr h) = at_first h (same_or (f 0) d)
-
-    not_both : (d : Vector) (k i j : ℕ) → k < n → i < n → IsOnCircle a d → SameDirection (f k) d → IsNext n i j → Passes a (f i) d (f j) → ⊥
-    not_both d k i j h m o s x p =
-        none_between i j k m x h (same_in_place a (f i) d (f k) (f j) (four a (f i) d (f k) (f j) axis (on i m) o (on k h) (on j (next_in n i j m x))) (same-sym (f k) d s) p)
-
-    one_sector : (d : Vector) (k j k' j' : ℕ) → k < n → IsNext n k j → Passes a (f k) d (f j) → k' < n → IsNext n k' j' → Passes a (f k') d (f j') → IsOnCircle a d → (SameDirection (f k) (f k') → ⊥) → ⊥
-    one_sector d k j k' j' h x p h' x' p' o u =
-        let u' = λ (s : SameDirection (f k') (f k)). u (same-sym (f k') (f k) s) in
-        let there = nearer_ones a (f k) (f j) d (f k') (four a (f k) (f j) d (f k') axis (on k h) (on j (next_in n k j h x)) o (on k' h')) p (none_between k j k' h x h') u in
-        let back = nearer_ones a (f k') (f j') d (f k) (four a (f k') (f j') d (f k) axis (on k' h') (on j' (next_in n k' j' h' x')) o (on k h)) p' (none_between k' j' k h' x' h) u' in
-        never_both_ways a d (f k) (f k') (three a d (f k) (f k') axis o (on k h) (on k' h'))
-        (order_is_cyclic a (f k') d (f k) (three a (f k') d (f k) axis (on k' h') o (on k h)) u' back)
-        (order_is_cyclic a (f k) d (f k') (three a (f k) d (f k') axis (on k h) o (on k' h')) u there)
+        by (inr h) = let r = some_place d h o in given d r.0 r.1 r.2
 
     pub one_label : (d : Vector) (l m : Label) → IsOnCircle a d → Gives a n f marks sectors d l → Gives a n f marks sectors d m → l ≡ m
     one_label d l m o (on_ray k h s e) (on_ray i h' s' e') = sym e ∙ ap marks (distinct k i h h' (same-trans (f k) d (f i) s (same-sym (f i) d s'))) ∙ e'
     one_label d l m o (on_ray k h s e) (of_sector i j h' x p e') = absurd (not_both d k i j h h' o s x p)
     one_label d l m o (on_ray k h s e) (in_only_sector z e') = absurd (omega arith)
     one_label d l m o (of_sector i j h' x p e) (on_ray k h s e') = absurd (not_both d k i j h h' o s x p)
-    one_label d l m o (of_sector k j h x p e) (of_sector k' j' h' x' p' e') = by (three_ways k k')
-      where
-        by : (k < k') ⊎ (k ≡ k') ⊎ (k' < k) → l ≡ m
-        by (inl w) = absurd (one_sector d k j k' j' h x p h' x' p' o (distinct_up k k' w h'))
-        by (inr (inl w)) = sym e ∙ ap sectors w ∙ e'
-        by (inr (inr w)) = absurd (one_sector d k' j' k j h' x' p' h x p o (distinct_up k' k w h))
+    one_label d l m o (of_sector k j h x p e) (of_sector k' j' h' x' p' e') = sym e ∙ ap sectors (one_place d k k' h h' o (inr (j, x, p)) (inr (j', x', p'))) ∙ e'
     one_label d l m o (of_sector k j h x p e) (in_only_sector z e') = absurd (omega arith)
     one_label d l m o (in_only_sector z e) (on_ray k h s e') = absurd (omega arith)
     one_label d l m o (in_only_sector z e) (of_sector k j h x p e') = absurd (omega arith)

@@ -2,3 +2,4 @@ pub mod Ops
 pub mod Turning
 pub mod Stars
 pub mod Laws
+pub mod Rounds

@@ -1,5 +1,4 @@
 -- The operations on two sets, and the label of a combination.
-use Rattle.std.specs.Prelude.{ℤ, zero, suc, pos, negsuc}
 use Rattle.nef_space.specs.declared.label.Label.{Label}
 use Rattle.nef_space.specs.declared.label.Label.TheVariants.{Out, Not, In}
 use Rattle.nef_star.specs.declared.op.Op.{Op}

@@ -7,10 +7,13 @@ use Rattle.nef_space.specs.Vectors.{Vector, zero_vector, opposite, dot, cross, t
 use Rattle.nef_space.specs.declared.label.Label.{Label}
 use Rattle.nef_space.specs.declared.label.Label.TheVariants.{Out}
 use Rattle.nef_geo.specs.Shapes.{vector_of}
+use Rattle.nef_cyclic.specs.Arcs.{IsOnCircle}
 use Rattle.nef_sphere.specs.Stars.{Ray as PlainRay, Star as PlainStar, StarLabel}
 use Rattle.nef_star.specs.declared.star.Ray.{Ray}
 use Rattle.nef_star.specs.declared.star.Star.{Star}
-use Rattle.nef_star.specs.Turning.{IsTurning, IsNext}
+use Rattle.nef_star.specs.declared.op.Op.{Op}
+use Rattle.nef_star.specs.Ops.{op_label}
+use Rattle.nef_star.specs.Turning.{IsTurning, IsNext, Gives, IsPast, IsUnder, IsAfter}
 
 abbrev pub ray_of : Ray → PlainRay
 ray_of r = record { normal = vector_of r.normal; ahead = r.ahead; mark = r.mark }
@@ -65,11 +68,41 @@ pub record IsStar (t : Star) : Type 0 where
 abbrev pub AreStraight : Ray → Ray → Label → Type 0
 AreStraight q r l = (q.normal ≡ r.normal) × (q.mark ≡ l) × (r.mark ≡ l)
 
+-- ---- what a star says of the direction to the left of a ray
+-- the label on the ray
+abbrev pub LeftGives : Star → Vector → Label → Type 0
+LeftGives t d l = Gives (vector_of t.axis) (length t.rays.items) (left_at t.rays.items) (mark_at t.rays.items) (sector_at t.sectors.items) d l
+
+-- the label just after the ray
+abbrev pub LeftAfter : Star → Vector → Label → Type 0
+LeftAfter t d l = IsAfter (vector_of t.axis) (length t.rays.items) (left_at t.rays.items) (sector_at t.sectors.items) d l
+
+-- the ray is after ray k and before the next
+abbrev pub LeftPast : Star → Vector → ℕ → Type 0
+LeftPast t d k = IsPast (vector_of t.axis) (length t.rays.items) (left_at t.rays.items) d k
+
+-- ray k is the last at or before the ray
+abbrev pub LeftUnder : Star → Vector → ℕ → Type 0
+LeftUnder t d k = IsUnder (vector_of t.axis) (length t.rays.items) (left_at t.rays.items) d k
+
+-- the ray is one of the star's
+abbrev pub HasLeft : Star → Vector → Type 0
+HasLeft t d = (k : ℕ) × (k < length t.rays.items) × (left_at t.rays.items k ≡ d)
+
+-- ---- one star and another
 -- s has t's axis and mark, and gives each direction the label that t gives it
 pub record IsKept (t s : Star) : Type 0 where
   pub axis : s.axis ≡ t.axis
   pub mark : s.mark ≡ t.mark
   pub labels : (e : Vector) (l : Label) → IsDirection (cross (vector_of t.axis) e) → StarLabel (star_of t) e l → StarLabel (star_of s) e l
+
+-- s is t with one more ray, which has d to its left
+pub record IsCut (d : Vector) (t s : Star) : Type 0 where
+  pub turned : IsTurned s
+  pub kept : IsKept t s
+  pub has : HasLeft s d
+  pub still : (v : Vector) → HasLeft t v → HasLeft s v
+  pub only : (v : Vector) → HasLeft s v → HasLeft t v ⊎ (v ≡ d)
 
 -- t with the rays and sectors counted from number m on
 pub record IsCountedFrom (m : ℕ) (t s : Star) : Type 0 where
@@ -87,3 +120,30 @@ AreNeeded c t = (j k : ℕ) → k < c → k < length t.rays.items → IsNext (le
 -- s is t without its last ray, or with it passed: one more of the first rays isn't needless
 abbrev pub IsPassed : ℕ → Star → Star → Type 0
 IsPassed c t s = ((length s.rays.items + 1 ≡ length t.rays.items) × AreNeeded c s) ⊎ ((length s.rays.items ≡ length t.rays.items) × AreNeeded (c + 1) s)
+
+-- ---- a star of two stars
+-- t has the axis of a and b, and gives the axis and each direction the label of the operation on what a and b give
+pub record IsCombined (op : Op) (a b t : Star) : Type 0 where
+  pub axis : t.axis ≡ a.axis
+  pub mark : t.mark ≡ op_label op a.mark b.mark
+  pub labels : (e : Vector) (k l : Label) → IsDirection (cross (vector_of a.axis) e) → StarLabel (star_of a) e k → StarLabel (star_of b) e l
+      → StarLabel (star_of t) e (op_label op k l)
+
+-- the same but for the mark, which is t's, of the directions to the left of rays
+pub record IsLeftCombined (op : Op) (b t s : Star) : Type 0 where
+  pub turned : IsTurned s
+  pub axis : s.axis ≡ t.axis
+  pub mark : s.mark ≡ t.mark
+  pub gives : (d : Vector) (k l : Label) → IsOnCircle (vector_of t.axis) d → LeftGives t d k → LeftGives b d l → LeftGives s d (op_label op k l)
+
+-- s is t with the labels on ray k and after it combined with those that b gives there
+pub record IsCombinedAt (op : Op) (b : Star) (k : ℕ) (t s : Star) : Type 0 where
+  pub turned : IsTurned s
+  pub axis : s.axis ≡ t.axis
+  pub mark : s.mark ≡ t.mark
+  pub count : length s.rays.items ≡ length t.rays.items
+  pub lefts : (i : ℕ) → left_at s.rays.items i ≡ left_at t.rays.items i
+  pub on : (l : Label) × LeftGives b (left_at t.rays.items k) l × (mark_at s.rays.items k ≡ op_label op (mark_at t.rays.items k) l)
+  pub after : (l : Label) × LeftAfter b (left_at t.rays.items k) l × (sector_at s.sectors.items k ≡ op_label op (sector_at t.sectors.items k) l)
+  pub other_marks : (i : ℕ) → (i ≡ k → ⊥) → mark_at s.rays.items i ≡ mark_at t.rays.items i
+  pub other_sectors : (i : ℕ) → (i ≡ k → ⊥) → sector_at s.sectors.items i ≡ sector_at t.sectors.items i

@@ -1,5 +1,5 @@
 -- Directions in counterclockwise order about an axis, and what a star that has labels at them and between them gives a direction.
-use Rattle.std.specs.Prelude.{◌≡◌, ℕ, zero, suc, ◌<◌, ◌⊎◌}
+use Rattle.std.specs.Prelude.{◌≡◌, ℕ, suc, ◌<◌, ◌⊎◌}
 use Rattle.nef_space.specs.Vectors.{Vector, SameDirection}
 use Rattle.nef_space.specs.declared.label.Label.{Label}
 use Rattle.nef_cyclic.specs.Arcs.{IsOnCircle, Passes}
@@ -20,7 +20,14 @@ pub data Gives (axis : Vector) (n : ℕ) (f : ℕ → Vector) (marks sectors : �
   in_sector : (k j : ℕ) → k < n → IsNext n k j → Passes axis (f k) d (f j) → sectors k ≡ l → Gives axis n f marks sectors d l
   in_only_sector : n ≡ 0 → sectors 0 ≡ l → Gives axis n f marks sectors d l
 
--- d is f k, or past it and before the next
-pub data IsUnder (axis : Vector) (n : ℕ) (f : ℕ → Vector) (d : Vector) (k : ℕ) : Type 0 where
-  at_ray : f k ≡ d → IsUnder axis n f d k
-  past_ray : (j : ℕ) → IsNext n k j → Passes axis (f k) d (f j) → IsUnder axis n f d k
+-- d is past f k and before the next
+abbrev pub IsPast : Vector → ℕ → (ℕ → Vector) → Vector → ℕ → Type 0
+IsPast axis n f d k = (j : ℕ) × IsNext n k j × Passes axis (f k) d (f j)
+
+-- d is the same direction as f k, or past it and before the next
+abbrev pub IsUnder : Vector → ℕ → (ℕ → Vector) → Vector → ℕ → Type 0
+IsUnder axis n f d k = SameDirection (f k) d ⊎ IsPast axis n f d k
+
+-- just past d the label is l: sectors k where d is under f k, or sectors 0 alone
+abbrev pub IsAfter : Vector → ℕ → (ℕ → Vector) → (ℕ → Label) → Vector → Label → Type 0
+IsAfter axis n f sectors d l = ((k : ℕ) × (k < n) × IsUnder axis n f d k × (sectors k ≡ l)) ⊎ ((n ≡ 0) × (sectors 0 ≡ l))

@@ -34,7 +34,7 @@ fn least_ray(rays: &[Ray]) -> usize
 }
 
 // Counts the rays and sectors from number `first` on.
-fn count_from(star: &mut Star, first: usize)
+pub(crate) fn count_from(star: &mut Star, first: usize)
     requires turned { IsTurned star.old }
     requires within { first < length star.old.rays.items }
     ensures turned { IsTurned star.new }
@@ -46,7 +46,7 @@ fn count_from(star: &mut Star, first: usize)
 }
 
 // Lets the star begin with its least ray.
-fn begin_with_least(star: &mut Star)
+pub(crate) fn begin_with_least(star: &mut Star)
     requires turned { IsTurned star.old }
     ensures star { IsStar star.new }
     ensures kept { IsKept star.old star.new }

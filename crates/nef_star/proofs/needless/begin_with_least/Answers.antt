@@ -1,4 +1,4 @@
-use Rattle.std.proofs.Common.{◌<◌, subst, sym, List, length, rules}
+use Rattle.std.proofs.Common.{◌<◌, subst, List, length}
 use Rattle.nef_star.specs.declared.star.Ray.{Ray}
 use Rattle.nef_star.proofs.RayOrder.{LeastOf}
 use Rattle.nef_star.proofs.Needed.{counted-least}

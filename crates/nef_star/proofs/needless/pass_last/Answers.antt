@@ -1,5 +1,5 @@
-use Rattle.std.proofs.Common.{◌≡◌, ◌-◌, ◌<◌, length, true, false, arith, refl, sym, ap, subst, ◌∙◌, inl}
-use Rattle.nef_star.specs.Stars.{IsCountedFrom, IsNeedless}
+use Rattle.std.proofs.Common.{◌≡◌, ◌-◌, length, arith, sym, subst, ◌∙◌, inl}
+use Rattle.nef_star.specs.Stars.{IsCountedFrom}
 use Rattle.nef_star.proofs.Needed.{passed-needed, true_or_false}
 use Rattle.nef_star.proofs.needless.pass_last.Goals as goal
 

@@ -1,6 +1,4 @@
-use Rattle.std.proofs.Common.{◌≡◌, ℕ, ◌+◌, ◌-◌, ◌<◌, ◌≤◌, length, arith, refl, sym, ap, subst, ◌∙◌, inl, inr, ◌⊎◌}
-use Rattle.nef_star.specs.declared.star.Star.{Star}
-use Rattle.nef_star.specs.Stars.{AreNeeded, IsKept, IsTurned, IsCountedFrom}
+use Rattle.std.proofs.Common.{◌≡◌, ◌+◌, ◌-◌, length, arith}
 use Rattle.nef_star.proofs.Needed.{kept-self, kept-trans, seen-first, seen-more, seen-all, still-needed, simplified}
 use Rattle.nef_star.proofs.needless.simplify.Goals as goal
 

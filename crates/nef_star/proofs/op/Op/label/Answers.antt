@@ -1,7 +1,5 @@
-use Rattle.std.proofs.Common.{◌≡◌, ℤ, pos, [], ◌∷◌, w8, to_z, of_z, ap, ◌∙◌, rules}
-use Rattle.std.proofs.lemmas.Int.{to_z-of_z}
+use Rattle.std.proofs.Common.{◌∙◌}
 use Rattle.nef_case.specs.Labels.{diff_label, xor_label}
-use Rattle.nef_space.specs.Labels.{label_number}
 use Rattle.nef_star.proofs.Labels.{diff_number, xor_number, label_of_two}
 use Rattle.nef_star.specs.Ops.{op_label}
 use Rattle.nef_star.specs.declared.op.Op.TheVariants.{Diff, Xor}

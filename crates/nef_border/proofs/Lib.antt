@@ -1,0 +1,12 @@
+pub mod Said
+pub mod Made
+pub mod PlaceLabels
+pub mod Across
+pub mod Listed
+pub mod StarMade
+pub mod RemarkedStars
+pub mod RawTopology
+pub mod Cones
+pub mod MarkMade
+pub mod Exchanged
+pub mod ExchangedLabels

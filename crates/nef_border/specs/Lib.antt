@@ -1,0 +1,3 @@
+pub mod Topology
+pub mod Marks
+pub mod Laws

@@ -1,0 +1,95 @@
+-- Points added to a list of points.
+use Rattle.std.proofs.Common.{◌≡◌, ℕ, zero, suc, ◌+◌, ◌<◌, ◌≤◌, List, [], ◌∷◌, ◌++◌, length, get_or, arith, sym, subst, inl, inr, ◌⊎◌}
+use Rattle.std.specs.List.{Contains}
+use Rattle.std.proofs.Math.Nat.{eq-or-lt_of_le}
+use Rattle.std.proofs.lemmas.List.Elements.{Contains-append_left, Contains-push, Contains-push_cases}
+use Rattle.nef_space.specs.Place.{Place, SamePlace}
+use Rattle.nef_geo.specs.Shapes.{place_of}
+use Rattle.nef_geo.specs.declared.point.Point.{Point}
+use Rattle.nef_sphere.specs.Maps.{At}
+use Rattle.nef_sphere.proofs.Lists.{at-one}
+use Rattle.nef_smap.proofs.Lists.{at-within}
+use Rattle.nef_cand.specs.Candidates.{IsListed}
+use Rattle.nef_cand.specs.Points.{Adds}
+
+pub read-at : {X : Type 0} (xs : List X) (k : ℕ) (x : X) → k < length xs → x ≡ get_or xs k x → At xs k x
+read-at [] k x l e = absurd (omega arith)
+read-at (y ∷ ys) zero x l e = sym e
+read-at (y ∷ ys) (suc k) x l e = read-at ys k x (omega arith) e
+
+listed-more : (ps qs : List Point) → ((p : Point) → Contains ps p → Contains qs p) → (y : Place) → IsListed ps y → IsListed qs y
+listed-more ps qs f y (p, h, s) = (p, f p h, s)
+
+-- nothing has P
+pub adds-none : (P : Place → Type 0) (ps : List Point) → ((y : Place) → P y → ⊥) → Adds P ps ps
+adds-none P ps n = record { kept = λ p h. h; added = λ p h. inl h; all = λ y h. absurd (n y h) }
+
+-- one point has P
+pub adds-one : (P : Place → Type 0) (ps : List Point) (p : Point) → P (place_of p) → ((y : Place) → P y → SamePlace (place_of p) y) → Adds P ps (ps ++ p ∷ [])
+adds-one P ps p h one = record {
+  kept = λ q i. Contains-append_left ps (p ∷ []) q i;
+  added = λ q i. by q (Contains-push_cases ps p q i);
+  all = λ y i. (p, Contains-push ps p, one y i);
+}
+  where
+    by : (q : Point) → Contains ps q ⊎ (p ≡ q) → Contains ps q ⊎ P (place_of q)
+    by q (inl i) = inl i
+    by q (inr e) = inr (subst (λ (r : Point). P (place_of r)) e h)
+
+-- the points with P are added and then those with Q
+module _ (P Q R : Place → Type 0) (ps qs rs : List Point) (f : Adds P ps qs) (g : Adds Q qs rs) where
+  pub adds-both : ((y : Place) → P y ⊎ Q y → R y) → ((y : Place) → R y → P y ⊎ Q y) → Adds R ps rs
+  adds-both to from = record {
+    kept = λ p h. g.kept p (f.kept p h);
+    added = λ p h. by p (g.added p h);
+    all = λ y r. found y (from y r);
+  }
+    where
+      first : (p : Point) → Contains ps p ⊎ P (place_of p) → Contains ps p ⊎ R (place_of p)
+      first p (inl h) = inl h
+      first p (inr a) = inr (to (place_of p) (inl a))
+
+      by : (p : Point) → Contains qs p ⊎ Q (place_of p) → Contains ps p ⊎ R (place_of p)
+      by p (inl h) = first p (f.added p h)
+      by p (inr b) = inr (to (place_of p) (inr b))
+
+      found : (y : Place) → P y ⊎ Q y → IsListed rs y
+      found y (inl a) = listed-more qs rs g.kept y (f.all y a)
+      found y (inr b) = g.all y b
+
+pub adds-as : (P Q : Place → Type 0) (ps qs : List Point) → ((y : Place) → P y → Q y) → ((y : Place) → Q y → P y) → Adds P ps qs → Adds Q ps qs
+adds-as P Q ps qs f g a = record { kept = a.kept; added = λ p h. by p (a.added p h); all = λ y q. a.all y (g y q) }
+  where
+    by : (p : Point) → Contains ps p ⊎ P (place_of p) → Contains ps p ⊎ Q (place_of p)
+    by p (inl h) = inl h
+    by p (inr a) = inr (f (place_of p) a)
+
+-- ---- one element after another
+-- one of the first i elements has P with y
+abbrev pub AnyFirst : {X : Type 0} → (X → Place → Type 0) → List X → ℕ → Place → Type 0
+AnyFirst {X} P xs i y = (k : ℕ) × (x : X) × (k < i) × At xs k x × P x y
+
+abbrev pub AnyAt : {X : Type 0} → (X → Place → Type 0) → List X → Place → Type 0
+AnyAt {X} P xs y = (k : ℕ) × (x : X) × At xs k x × P x y
+
+module _ {X : Type 0} (P : X → Place → Type 0) (xs : List X) where
+  pub any-next : (i : ℕ) (x : X) (ps qs rs : List Point) → At xs i x → Adds (AnyFirst P xs i) ps qs → Adds (P x) qs rs → Adds (AnyFirst P xs (i + 1)) ps rs
+  any-next i x ps qs rs here f g = adds-both (AnyFirst P xs i) (P x) (AnyFirst P xs (i + 1)) ps qs rs f g forth back
+    where
+      forth : (y : Place) → AnyFirst P xs i y ⊎ P x y → AnyFirst P xs (i + 1) y
+      forth y (inl (k, z, h, a, r)) = (k, z, omega (arith, h), a, r)
+      forth y (inr r) = (i, x, omega arith, here, r)
+
+      split : (y : Place) (k : ℕ) (z : X) → (k ≡ i) ⊎ (k < i) → At xs k z → P z y → AnyFirst P xs i y ⊎ P x y
+      split y k z (inl o) a r = inr (subst (λ w. P w y) (at-one xs i z x (subst (λ (j : ℕ). At xs j z) o a) here) r)
+      split y k z (inr h) a r = inl (k, z, h, a, r)
+
+      back : (y : Place) → AnyFirst P xs (i + 1) y → AnyFirst P xs i y ⊎ P x y
+      back y (k, z, h, a, r) = split y k z (eq-or-lt_of_le {n = k} {m = i} (omega (arith, h))) a r
+
+  pub any-more : (i : ℕ) (x : X) (ps qs rs : List Point) → i < length xs → x ≡ get_or xs i x → Adds (AnyFirst P xs i) ps qs → Adds (P x) qs rs → Adds (AnyFirst P xs (i + 1)) ps rs
+  any-more i x ps qs rs l e = any-next i x ps qs rs (read-at xs i x l e)
+
+  pub any-all : (i : ℕ) (ps qs : List Point) → length xs ≤ i → Adds (AnyFirst P xs i) ps qs → Adds (AnyAt P xs) ps qs
+  any-all i ps qs l f = adds-as (AnyFirst P xs i) (AnyAt P xs) ps qs
+      (λ y a. (a.0, a.1, a.3, a.4)) (λ y a. let h = at-within xs a.0 a.1 a.2 in (a.0, a.1, omega (arith, h), a.2, a.3)) f

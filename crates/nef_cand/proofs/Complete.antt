@@ -1,0 +1,107 @@
+-- What is listed, and that all vertices of a combination are.
+use Rattle.std.proofs.Common.{◌≡◌, ℕ, pos, List, [], map, arith, sym, subst, ◌⊎◌, inl, inr, ⊎_elim, ◌↔◌}
+use Rattle.std.specs.List.{Contains}
+use Rattle.nef_space.specs.Local.{Flat, IsVertex}
+use Rattle.nef_space.specs.Place.{Place, Form, form_at, SamePlace, IsBetween}
+use Rattle.nef_space.specs.Sets.{Set}
+use Rattle.nef_space.specs.Vectors.{Vector, IsDirection}
+use Rattle.nef_geo.specs.Shapes.{place_of, form_of}
+use Rattle.nef_geo.specs.declared.plane.Plane.{Plane}
+use Rattle.nef_geo.specs.declared.point.Point.{Point}
+use Rattle.nef_forms.proofs.Between.{place-decided}
+use Rattle.nef_near.specs.Cones.{label_and, label_or, label_less, label_one_of}
+use Rattle.nef_near.proofs.Combine.{and-label, or-label, less-label, one_of-label}
+use Rattle.nef_near.proofs.FlatOperations.{flat-of_two}
+use Rattle.nef_sphere.specs.Maps.{At}
+use Rattle.nef_sphere.proofs.Lists.{search_list, Found}
+use Rattle.nef_smap.proofs.Lists.{at-within, at-get, map-at, at-map}
+use Rattle.nef_solid.specs.Complexes.{Vertex, Edge, Complex, HasEnds}
+use Rattle.nef_solid.specs.Shows.{Shows}
+use Rattle.nef_solid.specs.Laws.{IsCut, HoldsEdge}
+use Rattle.nef_solid.proofs.Candidates.{candidates-suffice}
+use Rattle.nef_complex.specs.declared.complex.Complex.{Complex as ProgramComplex}
+use Rattle.nef_complex.specs.Complexes.{complex_of}
+use Rattle.nef_cand.specs.Candidates.{IsListed, AreExactly, IsVertexOf, AreCandidates, IsVertexOfBoth}
+use Rattle.nef_cand.specs.Points.{Adds, CutsOne}
+use Rattle.nef_cand.proofs.Adding.{read-at, adds-both, adds-as}
+use Rattle.nef_cand.proofs.Order.{ArePlacesInOrder}
+
+-- ---- whether a place is listed is decided
+pub listed-decided : (ps : List Point) (y : Place) → IsListed ps y ⊎ (IsListed ps y → ⊥)
+listed-decided ps y = ⊎_elim (λ f. inl (found f)) (λ n. inr (none n)) (search_list ps (λ k p. SamePlace (place_of p) y) (λ k p. place-decided (place_of p) y))
+  where
+    found : Found ps (λ k p. SamePlace (place_of p) y) → IsListed ps y
+    found f = (f.element, (f.number, at-within ps f.number f.element f.listed, at-get ps f.number f.element f.element f.listed), f.holds)
+
+    none : ((k : ℕ) (p : Point) → At ps k p → SamePlace (place_of p) y → ⊥) → IsListed ps y → ⊥
+    none n (p, (k, l, e), s) = n k p (read-at ps k p l (sym e)) s
+
+-- ---- what was added to nothing and then sorted
+pub added-exactly : (P : Place → Type 0) (ps qs : List Point) → Adds P [] ps → ArePlacesInOrder qs → ((p : Point) → Contains ps p ↔ Contains qs p) → AreExactly P qs
+added-exactly P ps qs a o same = record {
+  ordered = o;
+  each = λ p h. by p (a.added p ((same p).1 h));
+  all = λ y h. let f = a.all y h in (f.0, (same f.0).0 f.1, f.2);
+}
+  where
+    by : (p : Point) → Contains [] p ⊎ P (place_of p) → P (place_of p)
+    by p (inl (k, l, e)) = absurd (omega (arith, l))
+    by p (inr h) = h
+
+-- ---- all vertices of the combinations
+-- where a direction is flat there is no vertex
+pub never-flat : (s : Set) (y : Place) (d : Vector) → IsDirection d → Flat s y d → IsVertex s y → ⊥
+never-flat s y d i f v = v.1 (d, i, f)
+
+combined-flat : (s t : Set) (y : Place) (d : Vector) → IsDirection d → Flat s y d → Flat t y d → IsVertexOfBoth s t y → ⊥
+combined-flat s t y d i f g (inl v) = never-flat (Set.both s t) y d i (flat-of_two Set.both label_and and-label s t y d f g) v
+combined-flat s t y d i f g (inr (inl v)) = never-flat (Set.either s t) y d i (flat-of_two Set.either label_or or-label s t y d f g) v
+combined-flat s t y d i f g (inr (inr (inl v))) = never-flat (Set.less s t) y d i (flat-of_two Set.less label_less less-label s t y d f g) v
+combined-flat s t y d i f g (inr (inr (inr v))) = never-flat (Set.one_of s t) y d i (flat-of_two Set.one_of label_one_of one_of-label s t y d f g) v
+
+pub vertex-of : (s : Set) (C : Complex) (y : Place) → Shows s C → IsVertex s y → IsVertexOf C y
+vertex-of s C y S v = let f = S.complete y v in (f.0, (f.1, f.2, f.3))
+
+pub vertices-listed : (s t : Set) (C D : Complex) (ps : List Point) (y : Place) → AreCandidates C D ps → Shows s C → Shows t D → IsVertexOfBoth s t y → IsListed ps y
+vertices-listed s t C D ps y A S T v = ⊎_elim (λ h. h) (λ n. absurd (off n)) (listed-decided ps y)
+  where
+    off : (IsListed ps y → ⊥) → ⊥
+    off n =
+        let d = candidates-suffice s t C D y S T (λ u. n (A.all y (inl (vertex-of s C y S u)))) (λ u. n (A.all y (inr (inl (vertex-of t D y T u)))))
+        (λ u. n (A.all y (inr (inr (inl u))))) (λ u. n (A.all y (inr (inr (inr u))))) in
+        combined-flat s t y d.0 d.1 d.2 d.3 v
+
+-- ---- what the program collects
+-- y lies strictly inside an edge of C, on one of these planes, which doesn't hold the edge
+abbrev IsCutByAny : Complex → List Form → Place → Type 0
+IsCutByAny C hs y = (k : ℕ) × (e : Edge) × (v : Vertex) × (w : Vertex) × (i : ℕ) × (h : Form) × At C.edges k e × HasEnds C e v w × IsBetween v.point y w.point
+    × At hs i h × (form_at h y ≡ pos 0) × (HoldsEdge h v w → ⊥)
+
+cuts-any : (C : Complex) (hs : List Plane) (y : Place) → CutsOne C hs y → IsCutByAny C (map form_of hs) y
+cuts-any C hs y (i, h, a, (k, e, v, w, b, H, m, o, n)) = (k, e, v, w, i, form_of h, b, H, m, map-at form_of hs i h a, o, n)
+
+any-cuts : (C : Complex) (hs : List Plane) (y : Place) → IsCutByAny C (map form_of hs) y → CutsOne C hs y
+any-cuts C hs y (k, e, v, w, i, h, b, H, m, a, o, n) =
+    let g = at-map form_of hs i h a in
+    (i, g.0, g.1, (k, e, v, w, b, H, m, subst (λ (f : Form). form_at f y ≡ pos 0) (sym g.2) o, subst (λ (f : Form). HoldsEdge f v w → ⊥) (sym g.2) n))
+
+-- the planes of one are the carriers of the other
+cuts-added : (C : Complex) (hs gs : List Plane) → hs ≡ gs → (ps qs : List Point) → Adds (CutsOne C hs) ps qs → Adds (IsCutByAny C (map form_of gs)) ps qs
+cuts-added C hs gs e ps qs a = adds-as (CutsOne C gs) (IsCutByAny C (map form_of gs)) ps qs (cuts-any C gs) (any-cuts C gs) (subst (λ (r : List Plane). Adds (CutsOne C r) ps qs) e a)
+
+module _ (a b : ProgramComplex) (hs gs : List Plane) (of_b : hs ≡ b.carriers) (of_a : gs ≡ a.carriers) (ps qs rs ts us : List Point)
+    (first : Adds (IsVertexOf (complex_of a)) [] ps) (second : Adds (IsVertexOf (complex_of b)) ps qs) (third : Adds (CutsOne (complex_of a) hs) qs rs) (fourth : Adds (CutsOne (complex_of b) gs) rs ts)
+    (order : ArePlacesInOrder us) (same : (p : Point) → Contains ts p ↔ Contains us p) where
+  vertices-added : Adds (λ y. IsVertexOf (complex_of a) y ⊎ IsVertexOf (complex_of b) y) [] qs
+  vertices-added = adds-both (IsVertexOf (complex_of a)) (IsVertexOf (complex_of b)) (λ y. IsVertexOf (complex_of a) y ⊎ IsVertexOf (complex_of b) y) [] ps qs first second (λ y h. h) (λ y h. h)
+
+  crossings-added : Adds (λ y. IsCut (complex_of a) (complex_of b) y ⊎ IsCut (complex_of b) (complex_of a) y) qs ts
+  crossings-added = adds-both (IsCut (complex_of a) (complex_of b)) (IsCut (complex_of b) (complex_of a)) (λ y. IsCut (complex_of a) (complex_of b) y ⊎ IsCut (complex_of b) (complex_of a) y) qs rs ts
+      (cuts-added (complex_of a) hs b.carriers of_b qs rs third) (cuts-added (complex_of b) gs a.carriers of_a rs ts fourth) (λ y h. h) (λ y h. h)
+
+  pub listed-all : AreCandidates (complex_of a) (complex_of b) us
+  listed-all =
+      added-exactly (λ y. IsVertexOf (complex_of a) y ⊎ IsVertexOf (complex_of b) y ⊎ IsCut (complex_of a) (complex_of b) y ⊎ IsCut (complex_of b) (complex_of a) y) ts us
+      (adds-both (λ y. IsVertexOf (complex_of a) y ⊎ IsVertexOf (complex_of b) y) (λ y. IsCut (complex_of a) (complex_of b) y ⊎ IsCut (complex_of b) (complex_of a) y)
+      (λ y. IsVertexOf (complex_of a) y ⊎ IsVertexOf (complex_of b) y ⊎ IsCut (complex_of a) (complex_of b) y ⊎ IsCut (complex_of b) (complex_of a) y) [] qs ts vertices-added crossings-added
+      (λ y. ⊎_elim (⊎_elim (λ h. inl h) (λ h. inr (inl h))) (λ h. inr (inr h))) (λ y. ⊎_elim (λ h. inl (inl h)) (⊎_elim (λ h. inl (inr h)) (λ h. inr h)))) order same

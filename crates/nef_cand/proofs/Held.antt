@@ -1,0 +1,196 @@
+-- Two carriers hold each edge, and where planes cut edges.
+use Rattle.std.proofs.Common.{◌≡◌, ℕ, zero, suc, ◌<◌, ℤ, pos, ◌-ℤ◌, ◌*ℤ◌, ◌<ℤ◌, List, [], ◌∷◌, length, get_or, slice_get, Some, None, arith, ap, sym, subst, ◌∙◌}
+use Rattle.std.proofs.lemmas.Int.{ints}
+use Rattle.nef_exact.specs.Signs.{Lies}
+use Rattle.nef_exact.proofs.Ring.{at, num, ◌⊖◌, ◌⊗◌}
+use Rattle.nef_exact.proofs.Combination.{given, none, follows_times}
+use Rattle.nef_exact.proofs.Order.{nought-is}
+use Rattle.nef_space.specs.Local.{Flat}
+use Rattle.nef_space.specs.Place.{Place, Form, form_at, slope, normal_of, toward, SamePlace, IsBetween}
+use Rattle.nef_space.specs.Sets.{Set}
+use Rattle.nef_space.specs.Vectors.{cross, IsZero, IsDirection}
+use Rattle.nef_geo.specs.Shapes.{place_of, form_of}
+use Rattle.nef_geo.specs.declared.plane.Plane.{Plane}
+use Rattle.nef_geo.specs.declared.point.Point.{Point}
+use Rattle.nef_forms.proofs.Directions.{direction-left}
+use Rattle.nef_forms.proofs.Near.{slope-toward}
+use Rattle.nef_near.specs.Cells.{carriers}
+use Rattle.nef_near.specs.Laws.{EdgeSupport}
+use Rattle.nef_near.proofs.Edges.{start, start-between, start-toward}
+use Rattle.nef_near.proofs.FlatDecided.{parallel-both}
+use Rattle.nef_near.proofs.Supports.{edge-support}
+use Rattle.nef_sphere.specs.Maps.{At}
+use Rattle.nef_sphere.proofs.Lists.{at-one}
+use Rattle.nef_smap.proofs.Lists.{map-at, at-map, at-within, get-at}
+use Rattle.nef_solid.specs.Complexes.{HasEnds}
+use Rattle.nef_solid.specs.Complexes.{Vertex as PlainVertex, Edge as PlainEdge}
+use Rattle.nef_solid.specs.Shows.{SamePlane}
+use Rattle.nef_solid.proofs.Edges.{edge-points, edge-way}
+use Rattle.nef_solid.proofs.Planes.{plane-turned, plane-point}
+use Rattle.nef_complex.specs.declared.complex.Vertex.{Vertex}
+use Rattle.nef_complex.specs.declared.complex.Edge.{Edge}
+use Rattle.nef_complex.specs.declared.complex.Complex.{Complex}
+use Rattle.nef_complex.specs.Complexes.{vertex_of, edge_of, complex_of, ShowsSet}
+use Rattle.nef_cand.specs.Candidates.{IsVertexOf}
+use Rattle.nef_cand.specs.Points.{HoldsBoth, AreHeldByTwo, IsCrossing, CrossesOne, CutsOne, Adds}
+use Rattle.nef_cand.proofs.Adding.{adds-as, AnyAt}
+
+pub got-at : {X : Type 0} (xs : List X) (k : ℕ) (x : X) → slice_get xs k ≡ Some x → At xs k x
+got-at [] k x e = let f : None ≡ Some x = e in cc
+got-at (y ∷ ys) zero x e = let f : Some y ≡ Some x = e in cc
+got-at (y ∷ ys) (suc k) x e = got-at ys k x e
+
+-- ---- the planes of a segment
+-- a plane through a point between two others, which holds the direction from the one to the other, holds both
+through-both : (h : Form) (p q : Place) → IsDirection (toward p q) → form_at h (start 1 p q) ≡ pos 0 → slope h (toward p q) ≡ pos 0 → HoldsBoth h p q
+through-both h p q d e f = (first, second)
+  where
+    weight : (r : Place) → pos 0 <ℤ pos r.w
+    weight r = let m = r.proper in omega (arith, ints)
+
+    first : form_at h p ≡ pos 0
+    first = follows_times (form_at h p ∷ form_at h (start 1 p q) ∷ slope h (toward p (start 1 p q)) ∷ pos p.w ∷ pos (start 1 p q).w ∷ []) (at 4) (at 0) (num (pos 0))
+        (given (num (pos 1)) (at 2) (at 3 ⊗ at 1 ⊖ at 4 ⊗ at 0) (slope-toward h p (start 1 p q))
+        (given (at 3) (at 1) (num (pos 0)) e (given (num (pos 0) ⊖ num (pos 1)) (at 2) (num (pos 0)) (ap (slope h) (start-toward 1 p q) ∙ f) none))) (weight (start 1 p q)) tt
+
+    second : form_at h q ≡ pos 0
+    second = follows_times (form_at h p ∷ form_at h q ∷ slope h (toward p q) ∷ pos p.w ∷ pos q.w ∷ []) (at 3) (at 1) (num (pos 0))
+        (given (num (pos 0) ⊖ num (pos 1)) (at 2) (at 3 ⊗ at 1 ⊖ at 4 ⊗ at 0) (slope-toward h p q)
+        (given (at 4) (at 0) (num (pos 0)) first (given (num (pos 1)) (at 2) (num (pos 0)) f none))) (weight p) tt
+
+-- forms of one plane have parallel normals
+same-parallel : (g h : Form) → SamePlane g h → IsZero (cross (normal_of g) (normal_of h))
+same-parallel g h S = (one (g.b *ℤ h.c) (g.c *ℤ h.b) S.bc, one (g.c *ℤ h.a) (g.a *ℤ h.c) (sym S.ac), one (g.a *ℤ h.b) (g.b *ℤ h.a) S.ab)
+  where
+    one : (a b : ℤ) → a ≡ b → a -ℤ b ≡ pos 0
+    one a b e = omega (arith, ints)
+
+module _ (s : Set) (c : Complex) (S : ShowsSet s c) (k : ℕ) (e : Edge) (a : At c.edges k e) where
+  listed : At (complex_of c).edges k (edge_of e)
+  listed = map-at edge_of c.edges k e a
+
+  pub low-within : e.low < length c.vertices
+  low-within = let E = S.shows.edges.edges k (edge_of e) listed in let v = at-map vertex_of c.vertices e.low E.low_vertex E.is_low in at-within c.vertices e.low v.0 v.1
+
+  pub high-within : e.high < length c.vertices
+  high-within = let E = S.shows.edges.edges k (edge_of e) listed in let v = at-map vertex_of c.vertices e.high E.high_vertex E.is_high in at-within c.vertices e.high v.0 v.1
+
+  module _ (u v : Vertex) (b : At c.vertices e.low u) (d : At c.vertices e.high v) where
+    pub ends : HasEnds (complex_of c) (edge_of e) (vertex_of u) (vertex_of v)
+    ends = record { low = map-at vertex_of c.vertices e.low u b; high = map-at vertex_of c.vertices e.high v d }
+
+    apart : IsDirection (toward (place_of u.point) (place_of v.point))
+    apart =
+        let E = S.shows.edges.edges k (edge_of e) listed in
+        let f = at-one (complex_of c).vertices e.low E.low_vertex (vertex_of u) E.is_low ends.low in
+        let g = at-one (complex_of c).vertices e.high E.high_vertex (vertex_of v) E.is_high ends.high in
+        subst (λ (w : PlainVertex). IsDirection (toward (place_of u.point) w.point)) g (subst (λ (w : PlainVertex). IsDirection (toward w.point E.high_vertex.point)) f
+        (direction-left (toward E.low_vertex.point E.high_vertex.point) E.low_end.way E.ahead))
+
+    support : EdgeSupport s (start 1 (place_of u.point) (place_of v.point))
+    support = edge-support s (start 1 (place_of u.point) (place_of v.point))
+        (edge-points s (complex_of c) k (edge_of e) (vertex_of u) (vertex_of v) (start 1 (place_of u.point) (place_of v.point)) S.shows listed ends (start-between 1 (place_of u.point) (place_of v.point) apart)).0
+
+    along : Flat s (start 1 (place_of u.point) (place_of v.point)) (toward (place_of u.point) (place_of v.point))
+    along =
+        let E = edge-points s (complex_of c) k (edge_of e) (vertex_of u) (vertex_of v) (start 1 (place_of u.point) (place_of v.point)) S.shows listed ends (start-between 1 (place_of u.point) (place_of v.point) apart) in
+        (E.1 (toward (place_of u.point) (place_of v.point))).1 (edge-way s (complex_of c) k (edge_of e) (vertex_of u) (vertex_of v) S.shows listed ends)
+
+    -- a carrier of the set is a plane of the complex
+    plane-of : (f : Form) → Lies (carriers s) f → HoldsBoth f (place_of u.point) (place_of v.point) → (i : ℕ) × (h : Plane) × At c.carriers i h × SamePlane (form_of h) f × HoldsBoth (form_of h) (place_of u.point) (place_of v.point)
+    plane-of f l (x, y) =
+        let r = S.shows.carriers.all f l in
+        let h = at-map form_of c.carriers r.0 r.1 r.2 in
+        let same : SamePlane (form_of h.0) f = subst (λ (g : Form). SamePlane g f) (sym h.2) r.3 in
+        (r.0, h.0, h.1, same, (plane-point f (form_of h.0) (place_of u.point) (plane-turned (form_of h.0) f same) x, plane-point f (form_of h.0) (place_of v.point) (plane-turned (form_of h.0) f same) y))
+
+    pub edge-held : AreHeldByTwo c.carriers (place_of u.point) (place_of v.point)
+    edge-held =
+        let E = support in
+        let z = (E.flat_in (toward (place_of u.point) (place_of v.point))).0 along in
+        let g = plane-of E.first E.first_listed (through-both E.first (place_of u.point) (place_of v.point) apart (nought-is (form_at E.first (start 1 (place_of u.point) (place_of v.point))) E.first_passes) z.0) in
+        let h = plane-of E.second E.second_listed (through-both E.second (place_of u.point) (place_of v.point) apart (nought-is (form_at E.second (start 1 (place_of u.point) (place_of v.point))) E.second_passes) z.1) in (
+          g.0,
+          h.0,
+          g.1,
+          h.1,
+          g.2,
+          h.2,
+          g.4,
+          h.4,
+          λ o. E.independent (parallel-both (normal_of (form_of g.1)) (normal_of E.first) (normal_of E.second) g.3.is_plane (same-parallel (form_of g.1) E.first g.3)
+              (same-parallel (form_of g.1) E.second (subst (λ (r : Plane). SamePlane (form_of r) E.second) (sym o) h.3))),
+        )
+
+-- ---- the cuts of an edge
+-- one of the planes crosses the edge at y
+abbrev pub CutsEdge : Complex → List Plane → Edge → Place → Type 0
+CutsEdge c hs e y = (u : Vertex) × (v : Vertex) × At c.vertices e.low u × At c.vertices e.high v × CrossesOne hs (place_of u.point) (place_of v.point) y
+
+pub edge-cuts : (c : Complex) (hs : List Plane) (e : Edge) (u v : Vertex) → At c.vertices e.low u → At c.vertices e.high v
+    → (ps qs : List Point) → Adds (CrossesOne hs (place_of u.point) (place_of v.point)) ps qs → Adds (CutsEdge c hs e) ps qs
+edge-cuts c hs e u v a b ps qs = adds-as (CrossesOne hs (place_of u.point) (place_of v.point)) (CutsEdge c hs e) ps qs (λ y x. (u, v, a, b, x)) back
+  where
+    back : (y : Place) → CutsEdge c hs e y → CrossesOne hs (place_of u.point) (place_of v.point) y
+    back y (r, t, f, g, x) =
+        subst (λ (w : Vertex). CrossesOne hs (place_of w.point) (place_of v.point) y) (at-one c.vertices e.low r u f a)
+        (subst (λ (w : Vertex). CrossesOne hs (place_of r.point) (place_of w.point) y) (at-one c.vertices e.high t v g b) x)
+
+pub cuts-all : (c : Complex) (hs : List Plane) (ps qs : List Point) → Adds (AnyAt (CutsEdge c hs) c.edges) ps qs → Adds (CutsOne (complex_of c) hs) ps qs
+cuts-all c hs ps qs = adds-as (AnyAt (CutsEdge c hs) c.edges) (CutsOne (complex_of c) hs) ps qs forth back
+  where
+    forth : (y : Place) → AnyAt (CutsEdge c hs) c.edges y → CutsOne (complex_of c) hs y
+    forth y (k, e, a, (u, v, f, g, (i, h, b, x))) =
+        (i, h, b, (k, edge_of e, vertex_of u, vertex_of v, map-at edge_of c.edges k e a, record { low = map-at vertex_of c.vertices e.low u f; high = map-at vertex_of c.vertices e.high v g }, x.between, x.on, x.parts))
+
+    back : (y : Place) → CutsOne (complex_of c) hs y → AnyAt (CutsEdge c hs) c.edges y
+    back y (i, h, b, (k, e, v, w, a, H, m, o, n)) =
+        let d = at-map edge_of c.edges k e a in
+        from y i h b k d.0 d.1 v w (subst (λ (r : PlainEdge). HasEnds (complex_of c) r v w) (sym d.2) H) m o n
+      where
+        from : (y : Place) (i : ℕ) (h : Plane) → At hs i h → (k : ℕ) (e : Edge) → At c.edges k e → (v w : PlainVertex) → HasEnds (complex_of c) (edge_of e) v w → IsBetween v.point y w.point
+            → form_at (form_of h) y ≡ pos 0 → (HoldsBoth (form_of h) v.point w.point → ⊥) → AnyAt (CutsEdge c hs) c.edges y
+        from y i h b k e a v w H m o n =
+            let u = at-map vertex_of c.vertices e.low v H.low in
+            let t = at-map vertex_of c.vertices e.high w H.high in (
+              k,
+              e,
+              a,
+              (
+                u.0,
+                t.0,
+                u.1,
+                t.1,
+                (
+                  i,
+                  h,
+                  b,
+                  subst (λ (r : PlainVertex). IsCrossing (form_of h) r.point (place_of t.0.point) y) (sym u.2)
+                      (subst (λ (r : PlainVertex). IsCrossing (form_of h) v.point r.point y) (sym t.2) (record { between = m; on = o; parts = n })),
+                ),
+              ),
+            )
+
+-- ---- the vertices
+pub vertices-all : (c : Complex) (ps qs : List Point) → Adds (AnyAt (λ (u : Vertex) (y : Place). SamePlace (place_of u.point) y) c.vertices) ps qs → Adds (IsVertexOf (complex_of c)) ps qs
+vertices-all c ps qs = adds-as (AnyAt (λ (u : Vertex) (y : Place). SamePlace (place_of u.point) y) c.vertices) (IsVertexOf (complex_of c)) ps qs
+    (λ y a. (a.0, (vertex_of a.1, map-at vertex_of c.vertices a.0 a.1 a.2, a.3)))
+    (λ y a. let v = at-map vertex_of c.vertices a.0 a.1.0 a.1.1 in (a.0, v.0, v.1, subst (λ (r : PlainVertex). SamePlace r.point y) (sym v.2) a.1.2))
+
+-- ---- the edge with number i, as it is read
+module _ (s : Set) (c : Complex) (S : ShowsSet s c) (es : List Edge) (all : es ≡ c.edges) (i : ℕ) (d : Edge) (l : i < length es) where
+  pub edge-at : At c.edges i (get_or es i d)
+  edge-at = subst (λ (r : List Edge). At r i (get_or es i d)) all (get-at es i d l)
+
+  pub low-read : (get_or es i d).low < length c.vertices
+  low-read = low-within s c S i (get_or es i d) edge-at
+
+  pub high-read : (get_or es i d).high < length c.vertices
+  high-read = high-within s c S i (get_or es i d) edge-at
+
+  module _ (u v : Vertex) (a : slice_get c.vertices (get_or es i d).low ≡ Some u) (b : slice_get c.vertices (get_or es i d).high ≡ Some v) where
+    pub held-read : AreHeldByTwo c.carriers (place_of u.point) (place_of v.point)
+    held-read = edge-held s c S i (get_or es i d) edge-at u v (got-at c.vertices (get_or es i d).low u a) (got-at c.vertices (get_or es i d).high v b)
+
+    pub cuts-read : (hs : List Plane) (ps qs : List Point) → Adds (CrossesOne hs (place_of u.point) (place_of v.point)) ps qs → Adds (CutsEdge c hs (get_or es i d)) ps qs
+    cuts-read hs = edge-cuts c hs (get_or es i d) u v (got-at c.vertices (get_or es i d).low u a) (got-at c.vertices (get_or es i d).high v b)

@@ -1,0 +1,9 @@
+pub mod Signs
+pub mod Crossing
+pub mod Adding
+pub mod Planes
+pub mod Held
+pub mod Order
+pub mod Complete
+pub mod Halves
+pub mod Framed

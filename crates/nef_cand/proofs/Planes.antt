@@ -1,0 +1,106 @@
+-- Planes that are tested for equality, and two that hold one point.
+use Rattle.std.proofs.Common.{◌≡◌, ℕ, ◌<◌, ◌+◌, ℤ, pos, ◌-ℤ◌, ◌*ℤ◌, ◌<ℤ◌, Bool, true, false, List, [], ◌∷◌, get_or, length, arith, refl, ap, sym, subst, ◌∙◌, ⊎_elim}
+use Rattle.std.proofs.lemmas.Int.{ints}
+use Rattle.std.proofs.Math.Nat.{eq-or-lt_of_le}
+use Rattle.std.specs.Bool.{IsTrue}
+use Rattle.std.specs.Ordering.{int_eq}
+use Rattle.std.specs.Prelude.{◌&&◌, not, ◌↔◌}
+use Rattle.std.proofs.lemmas.Bool.Decides.{Decides-int_eq}
+use lib.Dec.{T}
+use Rattle.nef_exact.proofs.Ring.{ring, Poly, at, num, ◌⊕◌, ◌⊖◌, ◌⊗◌}
+use Rattle.nef_exact.proofs.Combination.{given, none, follows_times}
+use Rattle.nef_space.specs.Place.{Place, Form, form_at, normal_of}
+use Rattle.nef_space.specs.Vectors.{cross, IsZero}
+use Rattle.nef_geo.specs.Meet.{IsSamePlane}
+use Rattle.nef_geo.specs.Shapes.{form_of}
+use Rattle.nef_geo.specs.declared.plane.Plane.{Plane}
+use Rattle.nef_geo.proofs.Unique.{same_planes_equal}
+use Rattle.nef_arc.proofs.SignNumbers.{not_true}
+use Rattle.nef_sphere.specs.Maps.{At}
+use Rattle.nef_sphere.proofs.Lists.{at-one}
+use Rattle.nef_cand.specs.Points.{HoldsBoth, IsLineThrough}
+use Rattle.nef_cand.proofs.Adding.{read-at}
+
+-- ---- the program's test of equality
+abbrev pub plane_test : Plane → Plane → Bool
+plane_test g h = int_eq g.a h.a && (int_eq g.b h.b && (int_eq g.c h.c && int_eq g.d h.d))
+
+all_four : (p q r s : Bool) → true ≡ (p && (q && (r && s))) → IsTrue p × IsTrue q × IsTrue r × IsTrue s
+all_four true true true true h = (refl, refl, refl, refl)
+all_four true true true false h = absurd (subst T h tt)
+all_four true true false s h = absurd (subst T h tt)
+all_four true false r s h = absurd (subst T h tt)
+all_four false q r s h = absurd (subst T h tt)
+
+pub tested-equal : (g h : Plane) → true ≡ plane_test g h → g ≡ h
+tested-equal g h e =
+    let t = all_four (int_eq g.a h.a) (int_eq g.b h.b) (int_eq g.c h.c) (int_eq g.d h.d) e in
+    same_planes_equal g h (same (form_of g) (form_of h) ((Decides-int_eq g.a h.a).0 t.0) ((Decides-int_eq g.b h.b).0 t.1) ((Decides-int_eq g.c h.c).0 t.2) ((Decides-int_eq g.d h.d).0 t.3))
+  where
+    turned : (a b c d : ℤ) → a ≡ c → b ≡ d → a *ℤ d -ℤ b *ℤ c ≡ pos 0
+    turned a b c d e f = ap (λ r. r *ℤ d -ℤ b *ℤ c) e ∙ ap (λ r. c *ℤ d -ℤ r *ℤ c) f ∙ ring (c ∷ d ∷ []) (at 0 ⊗ at 1 ⊖ at 1 ⊗ at 0) (num (pos 0)) tt
+
+    across : (a b c d : ℤ) → a ≡ c → b ≡ d → a *ℤ d ≡ c *ℤ b
+    across a b c d e f = ap (λ r. r *ℤ d) e ∙ ap (λ r. c *ℤ r) (sym f)
+
+    same : (f k : Form) → f.a ≡ k.a → f.b ≡ k.b → f.c ≡ k.c → f.d ≡ k.d → IsSamePlane f k
+    same f k a b c d = record {
+      parallel = (turned f.b f.c k.b k.c b c, turned f.c f.a k.c k.a c a, turned f.a f.b k.a k.b a b);
+      along_a = across f.a f.d k.a k.d a d;
+      along_b = across f.b f.d k.b k.d b d;
+      along_c = across f.c f.d k.c k.d c d;
+    }
+
+itself : (x : ℤ) → int_eq x x ≡ true
+itself x = (Decides-int_eq x x).1 refl
+
+pub tested-other : (g h : Plane) → false ≡ plane_test g h → g ≡ h → ⊥
+tested-other g h e same =
+    let equal : false ≡ true = e ∙ ap (plane_test g) (sym same) ∙ rw (itself g.a, itself g.b, itself g.c, itself g.d) refl in
+    subst T (sym equal) tt
+
+pub other-tested : (g h : Plane) (r : Bool) → r ≡ not (plane_test g h) → IsTrue r ↔ (g ≡ h → ⊥)
+other-tested g h r e = by (plane_test g h) refl
+  where
+    by : (b : Bool) → plane_test g h ≡ b → IsTrue r ↔ (g ≡ h → ⊥)
+    by true q = (λ t. absurd (not_true (sym (e ∙ ap not q) ∙ t)), λ n. absurd (n (tested-equal g h (sym q))))
+    by false q = (λ t. tested-other g h (sym q), λ n. e ∙ ap not q)
+
+-- ---- two planes that hold one point and have parallel normals are one
+abbrev gp : Poly
+gp = at 0 ⊗ at 8 ⊕ at 1 ⊗ at 9 ⊕ at 2 ⊗ at 10 ⊕ at 3 ⊗ at 11
+
+abbrev hp : Poly
+hp = at 4 ⊗ at 8 ⊕ at 5 ⊗ at 9 ⊕ at 6 ⊗ at 10 ⊕ at 7 ⊗ at 11
+
+parallel-same : (g h : Form) (p : Place) → IsZero (cross (normal_of g) (normal_of h)) → form_at g p ≡ pos 0 → form_at h p ≡ pos 0 → IsSamePlane g h
+parallel-same g h p z e f = record {
+  parallel = z;
+  along_a = follows_times (g.a ∷ g.b ∷ g.c ∷ g.d ∷ h.a ∷ h.b ∷ h.c ∷ h.d ∷ p.x ∷ p.y ∷ p.z ∷ pos p.w ∷ []) (at 11) (at 0 ⊗ at 7) (at 4 ⊗ at 3)
+      (given (at 0) hp (num (pos 0)) f (given (num (pos 0) ⊖ at 4) gp (num (pos 0)) e
+      (given (num (pos 0) ⊖ at 9) (at 0 ⊗ at 5 ⊖ at 1 ⊗ at 4) (num (pos 0)) z.2 (given (at 10) (at 2 ⊗ at 4 ⊖ at 0 ⊗ at 6) (num (pos 0)) z.1 none)))) weight tt;
+  along_b = follows_times (g.a ∷ g.b ∷ g.c ∷ g.d ∷ h.a ∷ h.b ∷ h.c ∷ h.d ∷ p.x ∷ p.y ∷ p.z ∷ pos p.w ∷ []) (at 11) (at 1 ⊗ at 7) (at 5 ⊗ at 3)
+      (given (at 1) hp (num (pos 0)) f (given (num (pos 0) ⊖ at 5) gp (num (pos 0)) e
+      (given (at 8) (at 0 ⊗ at 5 ⊖ at 1 ⊗ at 4) (num (pos 0)) z.2 (given (num (pos 0) ⊖ at 10) (at 1 ⊗ at 6 ⊖ at 2 ⊗ at 5) (num (pos 0)) z.0 none)))) weight tt;
+  along_c = follows_times (g.a ∷ g.b ∷ g.c ∷ g.d ∷ h.a ∷ h.b ∷ h.c ∷ h.d ∷ p.x ∷ p.y ∷ p.z ∷ pos p.w ∷ []) (at 11) (at 2 ⊗ at 7) (at 6 ⊗ at 3)
+      (given (at 2) hp (num (pos 0)) f (given (num (pos 0) ⊖ at 6) gp (num (pos 0)) e
+      (given (num (pos 0) ⊖ at 8) (at 2 ⊗ at 4 ⊖ at 0 ⊗ at 6) (num (pos 0)) z.1 (given (at 9) (at 1 ⊗ at 6 ⊖ at 2 ⊗ at 5) (num (pos 0)) z.0 none)))) weight tt;
+}
+  where
+    weight : pos 0 <ℤ pos p.w
+    weight = let m = p.proper in omega (arith, ints)
+
+pub line-of : (g h : Plane) (p q : Place) → HoldsBoth (form_of g) p q → HoldsBoth (form_of h) p q → (h ≡ g → ⊥) → IsLineThrough (record { first = g; second = h }) p q
+line-of g h p q i k n = record {
+  first = i;
+  second = k;
+  independent = λ z. n (sym (same_planes_equal g h (parallel-same (form_of g) (form_of h) p z i.0 k.0)));
+}
+
+-- ---- searching the planes
+-- with none of the first k elements, and not the next, none of the first k + 1
+pub none-more : (P : Plane → Type 0) (hs : List Plane) (i : ℕ) (g : Plane) → i < length hs → g ≡ get_or hs i g → ((k : ℕ) (h : Plane) → k < i → At hs k h → P h → ⊥) → (P g → ⊥)
+    → (k : ℕ) (h : Plane) → k < i + 1 → At hs k h → P h → ⊥
+none-more P hs i g l e f n k h m a = ⊎_elim
+    (λ o. λ p. n (subst P (at-one hs i h g (subst (λ (j : ℕ). At hs j h) o a) (read-at hs i g l e)) p)) (λ o. f k h o a)
+    (eq-or-lt_of_le {n = k} {m = i} (omega (arith, m)))

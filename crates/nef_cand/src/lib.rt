@@ -1,0 +1,12 @@
+//! The candidates of an operation: the points that may be vertices of what is made of two sets, or of a half.
+//!
+//! A vertex of a combination is a vertex of one of the sets, or a point where an edge of the one crosses a carrier of
+//! the other: at every other point some direction is flat for both.
+#![tactic(auto)]
+
+mod added;
+mod line;
+mod listing;
+
+pub use listing::{candidates, cut_candidates};
+pub use nef_complex::OutOfMemory;

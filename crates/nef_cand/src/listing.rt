@@ -1,0 +1,53 @@
+//! The candidates of a combination of two sets, and of a half.
+
+ghost use Rattle.std.specs.Prelude.{IfOk, Bool};
+ghost use Rattle.nef_space.specs.Place.{Place, Form};
+ghost use Rattle.nef_space.specs.Sets.{Set};
+ghost use Rattle.nef_space.specs.Local.{IsVertex};
+ghost use Rattle.nef_geo.specs.Shapes.{form_of};
+ghost use Rattle.nef_solid.specs.Shows.{SamePlane};
+ghost use Rattle.nef_complex.specs.Complexes.{complex_of, ShowsSet};
+ghost use Rattle.nef_cand.specs.Candidates.{IsListed, AreCandidates, AreCutCandidates, AreFramed, IsVertexOfBoth};
+
+use crate::OutOfMemory;
+use crate::added::{add_cuts, add_vertices, sort_once};
+use nef_complex::Complex;
+use nef_geo::{Plane, Point};
+use std::alloc::Global;
+use std::slice;
+
+/// The vertices of both complexes, and the points strictly inside an edge of the one that lie on a carrier of the other
+/// which doesn't hold the edge, in increasing order, once each. All lie in the closed frame. All vertices of the
+/// intersection, the union, the difference and the symmetric difference of the sets are among them. The one error is
+/// that memory ran out.
+pub fn candidates(alloc: Global, a: &Complex, b: &Complex) -> Result<Vec<Point>, OutOfMemory>
+    requires first { (s : Set) × ShowsSet s a.now }
+    requires second { (t : Set) × ShowsSet t b.now }
+    ensures exactly { IfOk result (λ v. AreCandidates (complex_of a.now) (complex_of b.now) v.items) }
+    ensures framed { IfOk result (λ v. AreFramed v.items) }
+    ensures complete { IfOk result (λ v. (s t : Set) (y : Place) → ShowsSet s a.now → ShowsSet t b.now → IsVertexOfBoth s t y → IsListed v.items y) }
+{
+    let mut points = Vec::new(alloc);
+    add_vertices(&mut points, a)?;
+    add_vertices(&mut points, b)?;
+    add_cuts(&mut points, a, b.carriers.as_slice())?;
+    add_cuts(&mut points, b, a.carriers.as_slice())?;
+    sort_once(&mut points);
+    Ok(points)
+}
+
+/// The vertices of the complex, and the points strictly inside an edge of it that lie on the plane, which doesn't hold
+/// the edge, in increasing order, once each. All lie in the closed frame. Where the complex shows the whole frame, all
+/// vertices of a half that the plane bounds are among them. The one error is that memory ran out.
+pub fn cut_candidates(alloc: Global, c: &Complex, h: &Plane) -> Result<Vec<Point>, OutOfMemory>
+    requires shows { (s : Set) × ShowsSet s c.now }
+    ensures exactly { IfOk result (λ v. AreCutCandidates (complex_of c.now) (form_of h.now) v.items) }
+    ensures framed { IfOk result (λ v. AreFramed v.items) }
+    ensures frame { IfOk result (λ v. (f : Form) (closed : Bool) (y : Place) → SamePlane (form_of h.now) f → ShowsSet Set.full c.now → IsVertex (Set.half f closed) y → IsListed v.items y) }
+{
+    let mut points = Vec::new(alloc);
+    add_vertices(&mut points, c)?;
+    add_cuts(&mut points, c, slice::from_ref(h))?;
+    sort_once(&mut points);
+    Ok(points)
+}

@@ -1,0 +1,57 @@
+-- The program's complexes as complexes of any size, and which of them show a set.
+use Rattle.std.specs.Prelude.{ℕ, ◌<◌, ◌≤◌, List, map}
+use Rattle.nef_space.specs.Lists.{IsAt}
+use Rattle.nef_space.specs.Place.{IsPlaceBelow}
+use Rattle.nef_space.specs.Sets.{Set}
+use Rattle.nef_geo.specs.Shapes.{place_of, form_of}
+use Rattle.nef_geo.specs.declared.plane.Plane.{Plane}
+use Rattle.nef_geo.specs.declared.point.Point.{Point}
+use Rattle.nef_smap.specs.Maps.{map_of, IsLeastMap}
+use Rattle.nef_solid.specs.Complexes.{Vertex as PlainVertex, Edge as PlainEdge, Complex as PlainComplex, Corner as PlainCorner, Edges}
+use Rattle.nef_solid.specs.Shows.{Shows}
+use Rattle.nef_solid.specs.Skeleton.{PlaneMeet as PlainMeet, meets_vertex, meets_edge}
+use Rattle.nef_complex.specs.declared.complex.Vertex.{Vertex}
+use Rattle.nef_complex.specs.declared.complex.Edge.{Edge}
+use Rattle.nef_complex.specs.declared.complex.Complex.{Complex}
+use Rattle.nef_complex.specs.declared.complex.Corner.{Corner}
+use Rattle.nef_complex.specs.declared.complex.PlaneMeet.{PlaneMeet}
+use Rattle.nef_complex.specs.declared.complex.PlaneMeet.TheVariants.{AtVertex, AtEdge}
+
+abbrev pub vertex_of : Vertex → PlainVertex
+vertex_of v = record { point = place_of v.point; map = map_of v.map }
+
+abbrev pub edge_of : Edge → PlainEdge
+edge_of e = record { low = e.low; low_svertex = e.low_svertex; high = e.high; high_svertex = e.high_svertex; mark = e.mark }
+
+abbrev pub complex_of : Complex → PlainComplex
+complex_of c = record { carriers = map form_of c.carriers; vertices = map vertex_of c.vertices; edges = map edge_of c.edges }
+
+abbrev pub corner_of : Corner → PlainCorner
+corner_of k = record { vertex = k.vertex; item = k.item }
+
+abbrev pub meet_of : PlaneMeet → PlainMeet
+meet_of (AtVertex k) = meets_vertex k
+meet_of (AtEdge k) = meets_edge k
+
+-- vertices in increasing order of their points
+abbrev pub AreSorted : List Vertex → Type 0
+AreSorted vs = (i k : ℕ) (u v : Vertex) → i < k → IsAt vs i u → IsAt vs k v → IsPlaceBelow (place_of u.point) (place_of v.point)
+
+-- the complex shows the set, with maps within their limits
+pub record ShowsSet (s : Set) (c : Complex) : Type 0 where
+  pub shows : Shows s (complex_of c)
+  pub maps : (k : ℕ) (v : Vertex) → IsAt c.vertices k v → IsLeastMap v.map
+
+-- sorted vertices with least maps, which with their edges and these carriers are a complex that shows the set
+pub record AreVerticesOf (s : Set) (carriers : List Plane) (vertices : List Vertex) : Type 0 where
+  pub sorted : AreSorted vertices
+  pub maps : (k : ℕ) (v : Vertex) → IsAt vertices k v → IsLeastMap v.map
+  pub shown : (es : List PlainEdge) → Edges (map vertex_of vertices) es → Shows s (record { carriers = map form_of carriers; vertices = map vertex_of vertices; edges = es })
+
+-- the vertices before number k are below the point
+abbrev pub AreBelow : List Vertex → ℕ → Point → Type 0
+AreBelow vs k p = (i : ℕ) (v : Vertex) → i < k → IsAt vs i v → IsPlaceBelow (place_of v.point) (place_of p)
+
+-- those from number k on are above it
+abbrev pub AreAbove : List Vertex → ℕ → Point → Type 0
+AreAbove vs k p = (i : ℕ) (v : Vertex) → k ≤ i → IsAt vs i v → IsPlaceBelow (place_of p) (place_of v.point)

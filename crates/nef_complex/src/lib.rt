@@ -1,0 +1,12 @@
+//! Complexes: the vertices of a set with their sphere maps, and the edges between them.
+//!
+//! A complex shows a set where its vertices are the points of the set without a flat direction, each with the least
+//! map of the set there. Source: Granados et al., "Boolean Operations on 3D Selective Nef Complexes", ESA 2003.
+#![tactic(auto)]
+
+mod complex;
+mod vertices;
+
+pub use complex::{Complex, Corner, Edge, PlaneMeet, Vertex};
+pub use std::alloc::AllocError as OutOfMemory;
+pub use vertices::vertex_at;

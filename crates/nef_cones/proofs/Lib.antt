@@ -1,0 +1,14 @@
+pub mod Listing
+pub mod Lowest
+pub mod Signs
+pub mod Smooth
+pub mod SmoothDecided
+pub mod After
+pub mod Lone
+pub mod Ways
+pub mod Rays
+pub mod Behind
+pub mod Sloops
+pub mod Face
+pub mod Assembled
+pub mod Cones

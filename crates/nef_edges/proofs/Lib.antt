@@ -1,0 +1,10 @@
+pub mod Rays
+pub mod Existing
+pub mod Products
+pub mod Lines
+pub mod Places
+pub mod Arrivals
+pub mod Next
+pub mod Partners
+pub mod Added
+pub mod Joined

@@ -1,0 +1,78 @@
+-- The place where the sorted halves pass a half.
+use Rattle.std.proofs.Common.{◌≡◌, ℕ, ◌+◌, ◌<◌, ◌≤◌, List, length, get_or, true, false, Ordering, Less, Equal, Greater, arith, refl, sym, ap, ◌∙◌, ⊎_elim}
+use Rattle.std.specs.Cmp.{IsStrictWeakOrder, upto}
+use Rattle.std.specs.List.Sorted.{IsSortedBy, IsPermutation}
+use Rattle.std.specs.Ordering.{ordering_reverse, is_lt, is_gt}
+use Rattle.std.proofs.lemmas.Bool.{false≢true, cases_lt}
+use Rattle.std.proofs.lemmas.List.Sorted.{ranks_by, sorted_far, Contains-permutation, IsPermutation-sym}
+use Rattle.nef_sphere.specs.Maps.{At}
+use Rattle.nef_complex.specs.declared.complex.Vertex.{Vertex}
+use Rattle.nef_edges.specs.declared.half.Half.{Half}
+use Rattle.nef_edges.specs.Order.{half_order, half_lt}
+use Rattle.nef_edges.specs.Halves.{AreArriving, IsAfter, NoneAfter, AllAfter, IsNext}
+use Rattle.nef_edges.proofs.Lines.{half_total}
+use Rattle.nef_edges.proofs.Places.{at-within, at-read, read-at}
+
+pub weak : IsStrictWeakOrder half_lt
+weak = ranks_by half_total (λ (h : Half). h)
+
+turned : (o : Ordering) → is_lt (ordering_reverse o) ≡ false → is_gt o ≡ false
+turned Less e = refl
+turned Equal e = refl
+turned Greater e = e
+
+module _ (hs : List Half) (sorted : IsSortedBy half_lt hs) where
+  -- of two sorted halves the later isn't less
+  pub not-less : (i k : ℕ) (g h : Half) → At hs i g → At hs k h → i ≤ k → half_lt h g ≡ false
+  not-less i k g h a b l =
+      let far = sorted_far half_lt weak hs sorted i k g l (at-within hs k h b) in
+      ap (λ r. half_lt r g) (sym (at-read hs k g h b)) ∙ ap (half_lt (get_or hs k g)) (sym (at-read hs i g g a)) ∙ far
+
+  rising : (i k : ℕ) (g h : Half) → At hs i g → At hs k h → i ≤ k → is_gt (half_order g h) ≡ false
+  rising i k g h a b l = turned (half_order g h) (ap is_lt (sym (half_total.antisymm h g)) ∙ not-less i k g h a b l)
+
+  module _ (f : Half) where
+    -- one that stands after f, and all later ones do
+    pub later-after : (i k : ℕ) (g h : Half) → At hs i g → At hs k h → i ≤ k → is_gt (half_order g f) ≡ true → IsAfter f h
+    later-after i k g h a b l e = by (half_order h f) refl
+      where
+        no : is_gt (half_order h f) ≡ false → ⊥
+        no n = false≢true (sym (upto half_total g h f (rising i k g h a b l) n) ∙ e)
+
+        by : (o : Ordering) → half_order h f ≡ o → half_order h f ≡ Greater
+        by Less q = absurd (no (ap is_gt q))
+        by Equal q = absurd (no (ap is_gt q))
+        by Greater q = q
+
+    -- one that doesn't, and no earlier one does
+    pub earlier-not : (i k : ℕ) (g h : Half) → At hs i g → At hs k h → i ≤ k → is_gt (half_order h f) ≡ false → IsAfter f g → ⊥
+    earlier-not i k g h a b l e q = false≢true (sym (upto half_total g h f (rising i k g h a b l) e) ∙ ap is_gt q)
+
+    pub after-from : (m : ℕ) (h : Half) → At hs m h → is_gt (half_order h f) ≡ true → AllAfter hs f m
+    after-from m h a e k g b l = later-after m k h g a b l e
+
+    pub none-to : (m : ℕ) (h : Half) → At hs m h → is_gt (half_order h f) ≡ false → NoneAfter hs f (m + 1)
+    none-to m h a e k g b l = earlier-not k m g h b a (omega arith) e
+
+    module _ (p : ℕ) (none : NoneAfter hs f p) (all : AllAfter hs f p) where
+      pub next-within : (k : ℕ) (g : Half) → At hs k g → IsAfter f g → p < length hs
+      next-within k g a t = ⊎_elim (λ l. absurd (none k g a l t)) (λ l. let m = at-within hs k g a in omega arith) (cases_lt k p)
+
+      pub next-is : (h : Half) → At hs p h → IsNext hs f h
+      next-is h a = record {
+        listed = (p, a);
+        after = all p h a (omega arith);
+        first = λ k g b t. ⊎_elim (λ l. absurd (none k g b l t)) (λ l. not-less p k h g a b l) (cases_lt k p);
+      }
+
+-- ---- a sort keeps the halves
+pub sorted-kept : (vs : List Vertex) (P : ℕ → ℕ → Type 0) (hs gs : List Half) → IsPermutation hs gs → AreArriving vs P hs → AreArriving vs P gs
+sorted-kept vs P hs gs moved a = record {
+  each = λ k h b.
+      let c = Contains-permutation gs hs h (IsPermutation-sym hs gs moved) (k, at-within gs k h b, at-read gs k h h b) in
+      a.each c.0 h (read-at hs c.0 h c.1 (sym c.2));
+  all = λ j m v s b c up q.
+      let r = a.all j m v s b c up q in
+      let d = Contains-permutation hs gs r.1 moved (r.0, at-within hs r.0 r.1 r.2, at-read hs r.0 r.1 r.1 r.2) in
+      (d.0, r.1, read-at gs d.0 r.1 d.1 (sym d.2), r.3, r.4);
+}

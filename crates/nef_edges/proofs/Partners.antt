@@ -1,0 +1,195 @@
+-- The next half that arrives is the partner of a half that leads on.
+use Rattle.std.proofs.Common.{◌≡◌, ℕ, ◌<◌, List, length, map, arith, refl, sym, ap, subst, ◌∙◌, inl, inr, ◌⊎◌, ⊎_elim, Ordering, Less, Equal, Greater}
+use Rattle.std.proofs.lemmas.Bool.{cases_lt}
+use Rattle.std.specs.Ordering.{MatchOrdering, nat_cmp, ordering_then}
+use Rattle.std.specs.Cmp.{tied_back}
+use Rattle.std.proofs.lemmas.Cmp.{ranked}
+use Rattle.nef_space.specs.Place.{toward}
+use Rattle.nef_space.specs.Sets.{Set}
+use Rattle.nef_space.specs.Vectors.{opposite, IsNormal, IsZero, cross, SameDirection, IsOpposite}
+use Rattle.nef_geo.specs.Shapes.{place_of, vector_of}
+use Rattle.nef_geo.specs.declared.dir.Dir.{Dir}
+use Rattle.nef_geo.proofs.Unique.{same_directions_equal}
+use Rattle.nef_sphere.specs.Maps.{At, Svertex}
+use Rattle.nef_sphere.proofs.Lists.{at-one}
+use Rattle.nef_sphere.proofs.Compare.{normals-not_opposite, way-self}
+use Rattle.nef_solid.specs.Complexes.{Vertex as PlainVertex, Edge as PlainEdge, Complex as PlainComplex, IsEdge}
+use Rattle.nef_solid.specs.Shows.{Shows}
+use Rattle.nef_solid.proofs.Joining.{svertex-edge}
+use Rattle.nef_smap.specs.declared.map.SVertex.{SVertex}
+use Rattle.nef_smap.specs.Maps.{svertex_of}
+use Rattle.nef_complex.specs.declared.complex.Vertex.{Vertex}
+use Rattle.nef_complex.specs.Complexes.{vertex_of}
+use Rattle.nef_edges.specs.declared.half.Half.{Half}
+use Rattle.nef_edges.specs.Order.{line_order}
+use Rattle.nef_edges.specs.Halves.{IsBefore, IsArriving, AreArriving, IsAfter, IsNext}
+use Rattle.nef_edges.specs.Pairs.{IsFrom, AreJoined}
+use Rattle.nef_edges.proofs.Lines.{OnOneLine, tied-line, line-tied, StandsBetween, stands-between, line_total}
+use Rattle.nef_edges.proofs.Places.{at-within, at-map, map-at}
+use Rattle.nef_edges.proofs.Rays.{normal-kept, ahead-normal, middle-between, to_opposite, from_opposite, opposites-same}
+
+-- ---- in a complex that shows a set a svertex that leads to later points is the lower end of an edge
+pub partner : (s : Set) (C : PlainComplex) → Shows s C → (i a : ℕ) (v : PlainVertex) (u : Svertex) → At C.vertices i v → At v.map.svertices a u → IsNormal u.way → (e : PlainEdge) × IsFrom C.vertices i a e
+partner s C S i a v u l m up = by (svertex-edge s C S i a v u l m)
+  where
+    -- an edge arrives from before
+    higher : (e : PlainEdge) → IsEdge C.vertices e → e.high ≡ i → e.high_svertex ≡ a → ⊥
+    higher e E h k =
+        let w = at-one C.vertices i E.high_vertex v (subst (λ n. At C.vertices n E.high_vertex) h E.is_high) l in
+        let t = at-one v.map.svertices a E.high_end u (subst (λ (x : PlainVertex). At x.map.svertices a E.high_end) w (subst (λ n. At E.high_vertex.map.svertices n E.high_end) k E.arrives)) m in
+        let n = ahead-normal E.low_vertex.point E.high_vertex.point E.low_end.way (S.ordered e.low e.high E.low_vertex E.high_vertex E.upward E.is_low E.is_high) E.ahead in
+        normals-not_opposite E.low_end.way u.way n up (subst (λ (x : Svertex). IsOpposite E.low_end.way x.way) t E.back)
+
+    by : (n : ℕ) × (e : PlainEdge) × At C.edges n e × (((e.low ≡ i) × (e.low_svertex ≡ a)) ⊎ ((e.high ≡ i) × (e.high_svertex ≡ a))) → (e : PlainEdge) × IsFrom C.vertices i a e
+    by (n, e, b, inl c) = (e, (S.edges.edges n e b, c.0, c.1))
+    by (n, e, b, inr c) = absurd (higher e (S.edges.edges n e b) c.0 c.1)
+
+nat-greater : (x y : ℕ) → y < x → nat_cmp x y ≡ Greater
+nat-greater x y h = by (nat_cmp x y) (ranked x y (nat_cmp x y) refl)
+  where
+    by : (o : Ordering) → MatchOrdering o (x < y) (x ≡ y) (y < x) → o ≡ Greater
+    by Less m = absurd (omega (arith, m, h))
+    by Equal m = absurd (omega (arith, m, h))
+    by Greater m = refl
+
+-- ---- the partner of a half
+-- the half is a svertex along which an edge leads on to a later vertex
+pub record IsLeading (vs : List Vertex) (h : Half) : Type 0 where
+  pub vertex : Vertex
+  pub svertex : SVertex
+  pub has_vertex : At vs h.vertex vertex
+  pub has_svertex : At vertex.map.svertices h.svertex svertex
+  pub point : h.point ≡ vertex.point
+  pub dir : h.dir ≡ svertex.dir
+  pub up : IsNormal (vector_of h.dir)
+
+-- the edge from the half f to the half h
+pub record IsPair (vs : List Vertex) (f h : Half) : Type 0 where
+  pub edge : PlainEdge
+  pub from : IsFrom (map vertex_of vs) f.vertex f.svertex edge
+  pub high : edge.high ≡ h.vertex
+  pub high_svertex : edge.high_svertex ≡ h.svertex
+
+module _ (vs : List Vertex) (J : AreJoined (map vertex_of vs)) (hs : List Half) (all : AreArriving vs (IsBefore (length vs) 0) hs) (f : Half) (F : IsLeading vs f) where
+  abbrev plain : List PlainVertex
+  plain = map vertex_of vs
+
+  is-low : At (map vertex_of vs) f.vertex (vertex_of F.vertex)
+  is-low = at-map vertex_of vs f.vertex F.vertex F.has_vertex
+
+  leaves : At (vertex_of F.vertex).map.svertices f.svertex (svertex_of F.svertex)
+  leaves = at-map svertex_of F.vertex.map.svertices f.svertex F.svertex F.has_svertex
+
+  found : (e : PlainEdge) × IsFrom (map vertex_of vs) f.vertex f.svertex e
+  found = J.joined f.vertex f.svertex (vertex_of F.vertex) (svertex_of F.svertex) is-low leaves (subst (λ (d : Dir). IsNormal (vector_of d)) F.dir F.up)
+
+  abbrev edge : PlainEdge
+  edge = found.0
+
+  abbrev E : IsEdge (map vertex_of vs) found.0
+  E = found.1.0
+
+  low-is : E.low_vertex ≡ vertex_of F.vertex
+  low-is = at-one (map vertex_of vs) f.vertex E.low_vertex (vertex_of F.vertex) (subst (λ n. At (map vertex_of vs) n E.low_vertex) found.1.1 E.is_low) is-low
+
+  end-is : E.low_end ≡ svertex_of F.svertex
+  end-is = at-one (vertex_of F.vertex).map.svertices f.svertex E.low_end (svertex_of F.svertex)
+      (subst (λ (x : PlainVertex). At x.map.svertices f.svertex E.low_end) low-is (subst (λ n. At E.low_vertex.map.svertices n E.low_end) found.1.2 E.leaves)) leaves
+
+  -- the higher end as the program has it
+  high : (w : Vertex) × At vs edge.high w × (vertex_of w ≡ E.high_vertex)
+  high = map-at vertex_of vs edge.high E.high_vertex E.is_high
+
+  end : (t : SVertex) × At high.0.map.svertices edge.high_svertex t × (svertex_of t ≡ E.high_end)
+  end = map-at svertex_of high.0.map.svertices edge.high_svertex E.high_end (subst (λ (x : PlainVertex). At x.map.svertices edge.high_svertex E.high_end) (sym high.2) E.arrives)
+
+  along : SameDirection (vector_of f.dir) (opposite (vector_of end.0.dir))
+  along = subst (λ (d : Dir). SameDirection (vector_of d) (opposite (vector_of end.0.dir))) (sym F.dir)
+      (subst (λ (x : Svertex). SameDirection x.way (opposite (vector_of end.0.dir))) end-is (subst (λ (x : Svertex). SameDirection E.low_end.way (opposite x.way)) (sym end.2) (to_opposite E.low_end.way E.high_end.way E.back)))
+
+  -- it is a half that arrives, on the line of f
+  met : (k : ℕ) × (g : Half) × At hs k g × (g.vertex ≡ edge.high) × (g.svertex ≡ edge.high_svertex)
+  met = all.all edge.high edge.high_svertex high.0 end.0 high.1 end.1 (normal-kept (vector_of f.dir) (opposite (vector_of end.0.dir)) along F.up) (inl (at-within vs edge.high high.0 high.1))
+
+  abbrev g : Half
+  g = met.1
+
+  abbrev G : IsArriving vs met.1
+  G = all.each met.0 met.1 met.2
+
+  same-vertex : G.vertex ≡ high.0
+  same-vertex = at-one vs edge.high G.vertex high.0 (subst (λ n. At vs n G.vertex) met.3 G.has_vertex) high.1
+
+  same-end : G.svertex ≡ end.0
+  same-end = at-one high.0.map.svertices edge.high_svertex G.svertex end.0
+      (subst (λ (x : Vertex). At x.map.svertices edge.high_svertex G.svertex) same-vertex (subst (λ n. At G.vertex.map.svertices n G.svertex) met.4 G.has_svertex)) end.1
+
+  same-dir : f.dir ≡ g.dir
+  same-dir = same_directions_equal f.dir g.dir (subst (SameDirection (vector_of f.dir)) (sym (G.back ∙ ap (λ (x : SVertex). opposite (vector_of x.dir)) same-end)) along)
+
+  start-is : place_of f.point ≡ E.low_vertex.point
+  start-is = ap place_of F.point ∙ ap (λ (x : PlainVertex). x.point) (sym low-is)
+
+  stop-is : place_of g.point ≡ E.high_vertex.point
+  stop-is = ap place_of (G.point ∙ ap (λ (x : Vertex). x.point) same-vertex) ∙ ap (λ (x : PlainVertex). x.point) high.2
+
+  way-is : vector_of f.dir ≡ E.low_end.way
+  way-is = ap vector_of F.dir ∙ ap (λ (x : Svertex). x.way) (sym end-is)
+
+  tied : line_order g f ≡ Equal
+  tied = tied_back line_total f g (line-tied f g (record {
+    same_dir = same-dir;
+    level = subst (λ d. IsZero (cross (toward (place_of f.point) (place_of g.point)) d)) (sym way-is)
+        (subst (λ p. IsZero (cross (toward p (place_of g.point)) E.low_end.way)) (sym start-is)
+        (subst (λ q. IsZero (cross (toward E.low_vertex.point q) E.low_end.way)) (sym stop-is) E.ahead.parallel));
+  }))
+
+  upward : f.vertex < g.vertex
+  upward = subst (λ n. f.vertex < n) (sym met.3) (subst (λ n. n < edge.high) found.1.1 E.upward)
+
+  after : IsAfter f g
+  after = ap (λ o. ordering_then o (nat_cmp g.vertex f.vertex)) tied ∙ nat-greater g.vertex f.vertex upward
+
+  -- so that there is a half after f
+  pub some-after : (k : ℕ) × (h : Half) × At hs k h × IsAfter f h
+  some-after = (met.0, met.1, met.2, after)
+
+  -- and the first one is that half
+  module _ (h : Half) (N : IsNext hs f h) where
+    between : StandsBetween f h g
+    between = stands-between f h g N.after (N.first met.0 g met.2 after) tied
+
+    H : IsArriving vs h
+    H = all.each N.listed.0 h N.listed.1
+
+    line : OnOneLine f h
+    line = tied-line f h (tied_back line_total h f between.line)
+
+    is-vertex : At (map vertex_of vs) h.vertex (vertex_of H.vertex)
+    is-vertex = at-map vertex_of vs h.vertex H.vertex H.has_vertex
+
+    not-between : h.vertex < g.vertex → ⊥
+    not-between l =
+        let p = E.low_vertex.point in let u = place_of H.vertex.point in let v = E.high_vertex.point in let d = E.low_end.way in
+        let low : At (map vertex_of vs) f.vertex E.low_vertex = subst (At (map vertex_of vs) f.vertex) (sym low-is) is-low in
+        let level : IsZero (cross (toward p u) d) = subst (λ w. IsZero (cross (toward p u) w)) way-is
+        (subst (λ q. IsZero (cross (toward q u) (vector_of f.dir))) start-is (subst (λ q. IsZero (cross (toward (place_of f.point) (place_of q)) (vector_of f.dir))) H.point line.level)) in
+        E.first h.vertex (vertex_of H.vertex) is-vertex
+        (middle-between p u v d (subst IsNormal way-is F.up) (J.ordered f.vertex h.vertex E.low_vertex (vertex_of H.vertex) between.after low is-vertex)
+        (J.ordered h.vertex edge.high (vertex_of H.vertex) E.high_vertex (subst (λ n. h.vertex < n) met.3 l) is-vertex E.is_high) level E.ahead.parallel)
+
+    is-high : edge.high ≡ h.vertex
+    is-high = ⊎_elim (λ l. absurd (not-between l)) (λ l. sym met.3 ∙ (let b = between.before in omega arith)) (cases_lt h.vertex g.vertex)
+
+    is-end : edge.high_svertex ≡ h.svertex
+    is-end =
+        let w = at-one vs edge.high H.vertex high.0 (subst (λ n. At vs n H.vertex) (sym is-high) H.has_vertex) high.1 in
+        let t = at-map svertex_of high.0.map.svertices h.svertex H.svertex (subst (λ (x : Vertex). At x.map.svertices h.svertex H.svertex) w H.has_svertex) in
+        let r = at-map svertex_of high.0.map.svertices edge.high_svertex end.0 end.1 in
+        let d = vector_of f.dir in
+        let back : SameDirection d (opposite (vector_of H.svertex.dir)) = subst (SameDirection d) (ap vector_of line.same_dir ∙ H.back) (way-self d f.dir.some) in
+        let same = opposites-same d (vector_of end.0.dir) (vector_of H.svertex.dir) (from_opposite d (vector_of end.0.dir) along) (from_opposite d (vector_of H.svertex.dir) back) in
+        (J.shaped edge.high (vertex_of high.0) (at-map vertex_of vs edge.high high.0 high.1)).svertices_apart edge.high_svertex h.svertex (svertex_of end.0) (svertex_of H.svertex) r t same
+
+    pub pair-is : IsPair vs f h
+    pair-is = record { edge = edge; from = found.1; high = is-high; high_svertex = is-end }

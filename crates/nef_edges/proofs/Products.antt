@@ -1,0 +1,59 @@
+-- The machine's products are the exact ones.
+use Rattle.std.proofs.Common.{◌≡◌, ℕ, ◌≤◌, ℤ, ◌-ℤ◌, ◌*ℤ◌, nat_abs, List, [], ◌∷◌, w64, to_z, of_z, FitsSigned, ap, ◌∙◌, Ordering}
+use mir.Syntax.{w128}
+use Rattle.std.specs.Ordering.{int_cmp}
+use Rattle.nef_space.specs.Limits.{direction_limit, point_limit, weight_limit}
+use Rattle.nef_exact.proofs.Machine.{Code, load, wrap, run, ◌⊟◌, ◌⊠◌, Limited, fits_of, exact_of, size_of}
+use Rattle.nef_edges.specs.declared.half.Half.{Half}
+use Rattle.nef_edges.specs.Widths.{moment_limit}
+use Rattle.nef_edges.specs.Order.{ratio_order}
+
+-- ---- `a as i128 * f as i128 - b as i128 * e as i128`
+abbrev wide : ℕ → Code
+wide i = wrap w128 (wrap w64 (load i))
+
+abbrev pub difference : Code
+difference = wrap w128 (wide 0 ⊠ wide 3) ⊟ wrap w128 (wide 1 ⊠ wide 2)
+
+abbrev sizes : List ℕ
+sizes = point_limit ∷ point_limit ∷ direction_limit ∷ direction_limit ∷ []
+
+module _ (a b e f : ℤ) (ha : nat_abs a ≤ point_limit) (hb : nat_abs b ≤ point_limit) (he : nat_abs e ≤ direction_limit) (hf : nat_abs f ≤ direction_limit) where
+  abbrev four : List ℤ
+  four = a ∷ b ∷ e ∷ f ∷ []
+
+  limited : Limited sizes (a ∷ b ∷ e ∷ f ∷ [])
+  limited = (ha, (hb, (he, (hf, tt))))
+
+  pub difference-fits : FitsSigned w128 (run four difference)
+  difference-fits = fits_of sizes (a ∷ b ∷ e ∷ f ∷ []) w128 difference limited tt
+
+  pub difference-exact : run four (wrap w128 difference) ≡ a *ℤ f -ℤ b *ℤ e
+  difference-exact = exact_of sizes (a ∷ b ∷ e ∷ f ∷ []) (wrap w128 difference) limited tt
+
+  pub difference-small : nat_abs (run four (wrap w128 difference)) ≤ moment_limit
+  difference-small = size_of sizes (a ∷ b ∷ e ∷ f ∷ []) moment_limit (wrap w128 difference) limited tt tt
+
+-- ---- `n * v as i128`
+abbrev pub scaled : Code
+scaled = wrap w128 (wrap w128 (load 0) ⊠ wrap w128 (wrap w64 (load 1)))
+
+pub scaled-exact : (n v : ℤ) → nat_abs n ≤ moment_limit → nat_abs v ≤ weight_limit → run (n ∷ v ∷ []) scaled ≡ n *ℤ v
+scaled-exact n v h k = exact_of (moment_limit ∷ weight_limit ∷ []) (n ∷ v ∷ []) scaled (h, (k, tt)) tt
+
+pub cmp-exact : (n w m v : ℤ) (o : Ordering) → nat_abs n ≤ moment_limit → nat_abs m ≤ moment_limit → nat_abs w ≤ weight_limit → nat_abs v ≤ weight_limit
+    → o ≡ int_cmp (run (n ∷ v ∷ []) scaled) (run (m ∷ w ∷ []) scaled) → o ≡ int_cmp (n *ℤ v) (m *ℤ w)
+cmp-exact n w m v o hn hm hw hv e = e ∙ ap (λ x. int_cmp x (run (m ∷ w ∷ []) scaled)) (scaled-exact n v hn hv) ∙ ap (λ x. int_cmp (n *ℤ v) x) (scaled-exact m w hm hw)
+
+-- ---- numbers that pass through their types
+kept : (n v : ℤ) → nat_abs n ≤ moment_limit → nat_abs v ≤ weight_limit → to_z w128 (of_z w128 n) *ℤ to_z w64 (of_z w64 v) ≡ n *ℤ v
+kept n v h k = exact_of (moment_limit ∷ weight_limit ∷ []) (n ∷ v ∷ []) (wrap w128 (load 0) ⊠ wrap w64 (load 1)) (h, (k, tt)) tt
+
+pub ratio-is : (a b : Half) (part : Half → ℤ) (x w y v : ℤ) (o : Ordering) → x ≡ part a → y ≡ part b → w ≡ a.point.w → v ≡ b.point.w → nat_abs x ≤ moment_limit → nat_abs y ≤ moment_limit
+    → o ≡ int_cmp (to_z w128 (of_z w128 x) *ℤ to_z w64 (of_z w64 v)) (to_z w128 (of_z w128 y) *ℤ to_z w64 (of_z w64 w)) → o ≡ ratio_order part a b
+ratio-is a b part x w y v o ex ey ew ev hx hy e =
+    e ∙ ap (λ z. int_cmp z (to_z w128 (of_z w128 y) *ℤ to_z w64 (of_z w64 w))) (kept x v hx (small v b.point.w ev b.point.w_small)) ∙ ap (int_cmp (x *ℤ v)) (kept y w hy (small w a.point.w ew a.point.w_small))
+    ∙ ap (λ z. int_cmp (z *ℤ v) (y *ℤ w)) ex ∙ ap (λ z. int_cmp (part a *ℤ z) (y *ℤ w)) ev ∙ ap (λ z. int_cmp (part a *ℤ b.point.w) (z *ℤ w)) ey ∙ ap (λ z. int_cmp (part a *ℤ b.point.w) (part b *ℤ z)) ew
+  where
+    small : (n m : ℤ) → n ≡ m → nat_abs m ≤ weight_limit → nat_abs n ≤ weight_limit
+    small n m e h = rw e h

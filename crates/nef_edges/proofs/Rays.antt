@@ -1,0 +1,109 @@
+-- Points on one line: those that come later in the order of points lie ahead.
+use Rattle.std.proofs.Common.{◌≡◌, ℕ, ◌<◌, ℤ, pos, ◌-ℤ◌, ◌*ℤ◌, neg_ℤ, ◌≤ℤ◌, ◌<ℤ◌, arith, ap, ◌∙◌, inl, inr, [], ◌∷◌}
+use Rattle.std.proofs.lemmas.Int.{ints}
+use Rattle.nef_exact.proofs.Ring.{ring, at, num, neg, ◌⊕◌, ◌⊖◌, ◌⊗◌}
+use Rattle.nef_exact.proofs.Combination.{follows_times, given, none}
+use Rattle.nef_exact.proofs.Order.{by_order, mul_pos, mul_neg, mul_nonneg, cancel_eq}
+use Rattle.nef_forms.proofs.Directions.{same-factor}
+use Rattle.nef_forms.proofs.Sums.{some-pos}
+use Rattle.nef_space.specs.Place.{Place, toward, IsAhead, IsBetween, IsPlaceBelow}
+use Rattle.nef_space.specs.Vectors.{Vector, dot, cross, opposite, IsZero, IsNormal, SameDirection, IsOpposite}
+use Rattle.nef_sphere.proofs.Compare.{SameDirection-turned, SameDirection-trans, normals-not_opposite}
+use Rattle.nef_sphere.proofs.Vectors.{normal-direction, nought-if}
+
+-- q - p for a later point q begins with a positive number
+pub toward-normal : (p q : Place) → IsPlaceBelow p q → IsNormal (toward p q)
+toward-normal p q (inl h) = record { first = omega (arith, ints); second = λ e. absurd (omega (arith, ints)); third = λ e f. absurd (omega (arith, ints)) }
+toward-normal p q (inr (e, inl h)) = record { first = omega (arith, ints); second = λ z. omega (arith, ints); third = λ z w. absurd (omega (arith, ints)) }
+toward-normal p q (inr (e, inr (f, inl h))) = record { first = omega (arith, ints); second = λ z. omega (arith, ints); third = λ z w. omega (arith, ints) }
+toward-normal p q (inr (e, inr (f, inr h))) = absurd h.1
+
+-- with u and v on the line through p along d, so is the way from u to v
+pub on_line : (p u v : Place) (d : Vector) → IsZero (cross (toward p u) d) → IsZero (cross (toward p v) d) → IsZero (cross (toward u v) d)
+on_line p u v d g h = (each p.y p.z u.y u.z v.y v.z d.y d.z g.0 h.0, each p.z p.x u.z u.x v.z v.x d.z d.x g.1 h.1, each p.x p.y u.x u.y v.x v.y d.x d.y g.2 h.2)
+  where
+    each : (a b u' u'' v' v'' e f : ℤ) → (u' *ℤ pos p.w -ℤ a *ℤ pos u.w) *ℤ f -ℤ (u'' *ℤ pos p.w -ℤ b *ℤ pos u.w) *ℤ e ≡ pos 0 → (v' *ℤ pos p.w -ℤ a *ℤ pos v.w) *ℤ f -ℤ (v'' *ℤ pos p.w -ℤ b *ℤ pos v.w) *ℤ e ≡ pos 0
+        → (v' *ℤ pos u.w -ℤ u' *ℤ pos v.w) *ℤ f -ℤ (v'' *ℤ pos u.w -ℤ u'' *ℤ pos v.w) *ℤ e ≡ pos 0
+    each a b u' u'' v' v'' e f g h =
+        let n = pos p.w in let k = pos u.w in let l = pos v.w in
+        follows_times (a ∷ b ∷ u' ∷ u'' ∷ v' ∷ v'' ∷ e ∷ f ∷ pos p.w ∷ pos u.w ∷ pos v.w ∷ []) (at 8)
+        ((at 4 ⊗ at 9 ⊖ at 2 ⊗ at 10) ⊗ at 7 ⊖ (at 5 ⊗ at 9 ⊖ at 3 ⊗ at 10) ⊗ at 6) (num (pos 0))
+        (given (at 9) ((at 4 ⊗ at 8 ⊖ at 0 ⊗ at 10) ⊗ at 7 ⊖ (at 5 ⊗ at 8 ⊖ at 1 ⊗ at 10) ⊗ at 6) (num (pos 0)) h
+        (given (num (pos 0) ⊖ at 10) ((at 2 ⊗ at 8 ⊖ at 0 ⊗ at 9) ⊗ at 7 ⊖ (at 3 ⊗ at 8 ⊖ at 1 ⊗ at 9) ⊗ at 6) (num (pos 0)) g none))
+        (let w = p.proper in omega (arith, ints)) tt
+
+-- ---- normal forms of directions
+-- k x = l y
+module _ (k l : ℕ) (some_k : 0 < k) (some_l : 0 < l) (x y : ℤ) (e : pos k *ℤ x ≡ pos l *ℤ y) where
+  zero-before : y ≡ pos 0 → x ≡ pos 0
+  zero-before z =
+      cancel_eq x (pos 0) (pos k) (some-pos k some_k)
+      (ring (x ∷ pos k ∷ []) (at 0 ⊗ at 1) (at 1 ⊗ at 0) tt ∙ e ∙ ap (λ r. pos l *ℤ r) z ∙ ring (pos k ∷ pos l ∷ []) (at 1 ⊗ num (pos 0)) (num (pos 0) ⊗ at 0) tt)
+
+  nonnegative-after : pos 0 ≤ℤ x → pos 0 ≤ℤ y
+  nonnegative-after h = by_order y (pos 0)
+      (λ b. let m = mul_neg (pos l) y (some-pos l some_l) b in let n = mul_nonneg (pos k) x (omega (arith, ints)) h in absurd (omega (arith, ints)))
+      (λ z. omega (arith, ints)) (λ b. omega (arith, ints))
+
+  positive-after : pos 0 <ℤ x → pos 0 <ℤ y
+  positive-after h = by_order y (pos 0)
+      (λ b. let m = mul_neg (pos l) y (some-pos l some_l) b in let n = mul_pos (pos k) x (some-pos k some_k) h in absurd (omega (arith, ints)))
+      (λ z. let x-is = zero-before z in absurd (omega (arith, ints))) (λ b. b)
+
+pub normal-kept : (a b : Vector) → SameDirection a b → IsNormal a → IsNormal b
+normal-kept a b s n =
+    let f = same-factor a b s in record {
+      first = nonnegative-after f.k f.l f.some_k f.some_l a.x b.x f.is_x n.first;
+      second = λ x. nonnegative-after f.k f.l f.some_k f.some_l a.y b.y f.is_y (n.second (zero-before f.k f.l f.some_k f.some_l a.x b.x f.is_x x));
+      third = λ x y. positive-after f.k f.l f.some_k f.some_l a.z b.z f.is_z (n.third (zero-before f.k f.l f.some_k f.some_l a.x b.x f.is_x x) (zero-before f.k f.l f.some_k f.some_l a.y b.y f.is_y y));
+    }
+
+pub normals-same : (a b : Vector) → IsNormal a → IsNormal b → IsZero (cross a b) → SameDirection a b
+normals-same a b h k z = by_order (dot a b) (pos 0)
+    (λ l. absurd (normals-not_opposite a b h k (record { parallel = z; backward = l })))
+    (λ e. absurd (normal-direction b k (nought-if a b (normal-direction a h) z e)))
+    (λ l. record { parallel = z; forward = l })
+
+neg-dot : (d e : Vector) → dot d (opposite e) ≡ neg_ℤ (dot d e)
+neg-dot d e = ring (d.x ∷ d.y ∷ d.z ∷ e.x ∷ e.y ∷ e.z ∷ []) (at 0 ⊗ neg (at 3) ⊕ at 1 ⊗ neg (at 4) ⊕ at 2 ⊗ neg (at 5)) (neg (at 0 ⊗ at 3 ⊕ at 1 ⊗ at 4 ⊕ at 2 ⊗ at 5)) tt
+
+pub to_opposite : (d e : Vector) → IsOpposite d e → SameDirection d (opposite e)
+to_opposite d e o =
+    let z = o.parallel in
+    record { parallel = (each d.y d.z e.y e.z z.0, each d.z d.x e.z e.x z.1, each d.x d.y e.x e.y z.2); forward = let h = o.backward in let r = neg-dot d e in omega (arith, ints) }
+  where
+    each : (a b c d : ℤ) → a *ℤ d -ℤ b *ℤ c ≡ pos 0 → a *ℤ neg_ℤ d -ℤ b *ℤ neg_ℤ c ≡ pos 0
+    each a b c d e = ring (a ∷ b ∷ c ∷ d ∷ []) (at 0 ⊗ neg (at 3) ⊖ at 1 ⊗ neg (at 2)) (neg (at 0 ⊗ at 3 ⊖ at 1 ⊗ at 2)) tt ∙ ap neg_ℤ e
+
+pub from_opposite : (d e : Vector) → SameDirection d (opposite e) → IsOpposite d e
+from_opposite d e w = record { parallel = (each d.y d.z e.y e.z w.parallel.0, each d.z d.x e.z e.x w.parallel.1, each d.x d.y e.x e.y w.parallel.2); backward = let h = w.forward in let r = neg-dot d e in omega (arith, ints) }
+  where
+    each : (a b c d : ℤ) → a *ℤ neg_ℤ d -ℤ b *ℤ neg_ℤ c ≡ pos 0 → a *ℤ d -ℤ b *ℤ c ≡ pos 0
+    each a b c d e = ring (a ∷ b ∷ c ∷ d ∷ []) (at 0 ⊗ at 3 ⊖ at 1 ⊗ at 2) (neg (at 0 ⊗ neg (at 3) ⊖ at 1 ⊗ neg (at 2))) tt ∙ ap neg_ℤ e
+
+-- two directions opposite to one are the same
+pub opposites-same : (d a b : Vector) → IsOpposite d a → IsOpposite d b → SameDirection a b
+opposites-same d a b g h = turned (SameDirection-trans (opposite a) d (opposite b) (SameDirection-turned d (opposite a) (to_opposite d a g)) (to_opposite d b h))
+  where
+    turned : SameDirection (opposite a) (opposite b) → SameDirection a b
+    turned w = record { parallel = (each a.y a.z b.y b.z w.parallel.0, each a.z a.x b.z b.x w.parallel.1, each a.x a.y b.x b.y w.parallel.2); forward = let f = w.forward in let r = both in omega (arith, ints) }
+      where
+        both : dot (opposite a) (opposite b) ≡ dot a b
+        both = ring (a.x ∷ a.y ∷ a.z ∷ b.x ∷ b.y ∷ b.z ∷ []) (neg (at 0) ⊗ neg (at 3) ⊕ neg (at 1) ⊗ neg (at 4) ⊕ neg (at 2) ⊗ neg (at 5)) (at 0 ⊗ at 3 ⊕ at 1 ⊗ at 4 ⊕ at 2 ⊗ at 5) tt
+
+        each : (a b c d : ℤ) → neg_ℤ a *ℤ neg_ℤ d -ℤ neg_ℤ b *ℤ neg_ℤ c ≡ pos 0 → a *ℤ d -ℤ b *ℤ c ≡ pos 0
+        each a b c d e = ring (a ∷ b ∷ c ∷ d ∷ []) (at 0 ⊗ at 3 ⊖ at 1 ⊗ at 2) (neg (at 0) ⊗ neg (at 3) ⊖ neg (at 1) ⊗ neg (at 2)) tt ∙ e
+
+-- ---- points on one line, in order
+-- a later point on the line through p along a normal d lies ahead
+pub later-ahead : (p q : Place) (d : Vector) → IsNormal d → IsPlaceBelow p q → IsZero (cross (toward p q) d) → IsAhead p d q
+later-ahead p q d n h z = normals-same (toward p q) d (toward-normal p q h) n z
+
+-- and what lies ahead of p, later, lies along a normal
+pub ahead-normal : (p q : Place) (d : Vector) → IsPlaceBelow p q → IsAhead p d q → IsNormal d
+ahead-normal p q d h a = normal-kept (toward p q) d a (toward-normal p q h)
+
+-- of three points in order on one line the second lies between the others
+pub middle-between : (p u v : Place) (d : Vector) → IsNormal d → IsPlaceBelow p u → IsPlaceBelow u v → IsZero (cross (toward p u) d) → IsZero (cross (toward p v) d) → IsBetween p u v
+middle-between p u v d n h k y z =
+    SameDirection-trans (toward p u) d (toward u v) (later-ahead p u d n h y) (SameDirection-turned (toward u v) d (later-ahead u v d n k (on_line p u v d y z)))

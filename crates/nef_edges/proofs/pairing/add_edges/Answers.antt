@@ -1,0 +1,55 @@
+use Rattle.std.proofs.Common.{◌≡◌, ◌+◌, ◌<◌, ◌≤◌, length, List, refl, sym, ap, subst, ◌∙◌, get_or, Vec, Global}
+use Rattle.nef_space.specs.Vectors.{IsNormal}
+use Rattle.nef_geo.specs.Shapes.{vector_of}
+use Rattle.nef_smap.specs.declared.map.SVertex.{SVertex}
+use Rattle.nef_complex.specs.declared.complex.Edge.{Edge}
+use Rattle.nef_edges.specs.declared.half.Half.{Half}
+use Rattle.nef_edges.specs.Halves.{IsBefore}
+use Rattle.nef_edges.specs.Pairs.{AreEdges}
+use Rattle.nef_edges.proofs.Added.{edges-row, edges-pass, edges-add}
+use Rattle.nef_edges.proofs.Arrivals.{IsTrue-false}
+use Rattle.nef_edges.proofs.Partners.{IsLeading, some-after, pair-is}
+use Rattle.nef_edges.proofs.Places.{read-at}
+use Rattle.nef_edges.proofs.pairing.add_edges.Goals.{then-leads_on+in_ok-push, else-leads_on}
+use Rattle.nef_edges.proofs.pairing.add_edges.Goals as goal
+
+pub next_after-next-requires-clause-some : goal.next_after-next-requires-clause-some
+next_after-next-requires-clause-some c =
+    let vs = c.args.vertices.now in let i = c.args.i in let k = c.loop-k.k in
+    let v = c.index-vertices-i.result in let s = c.svertex-item.result in
+    let a = read-at vs i v c.requires.within c.index-vertices-i.is in
+    let all = c.as_slice-svertex-items.ensures.all in
+    let b = read-at v.map.svertices k s (subst (λ (ss : List SVertex). k < length ss) all c.loop-k-test.true) (subst (λ (ss : List SVertex). s ≡ get_or ss k s) all c.svertex-item.is) in
+    let f : Half = record { point = v.point; dir = s.dir; vertex = i; svertex = k } in
+    some-after vs c.requires.joined c.args.arriving.now c.requires.arriving f
+    (record { vertex = v; svertex = s; has_vertex = a; has_svertex = b; point = refl; dir = refl; up = c.leads_on.ensures.leads_on.0 c.if-leads_on.true })
+
+pub loop-k-preserved : goal.loop-k-preserved
+loop-k-preserved c =
+    let vs = c.args.vertices.now in let i = c.args.i in let k = c.loop-k.k in
+    let v = c.index-vertices-i.result in let s = c.svertex-item.result in
+    let a = read-at vs i v c.requires.within c.index-vertices-i.is in
+    let all = c.as_slice-svertex-items.ensures.all in
+    let b = read-at v.map.svertices k s (subst (λ (ss : List SVertex). k < length ss) all c.loop-k-test.true) (subst (λ (ss : List SVertex). s ≡ get_or ss k s) all c.svertex-item.is) in
+    record {
+      added = elim c.if-leads_on.branch [
+        | then-leads_on+in_ok-push w ↦
+            let f : Half = record { point = v.point; dir = s.dir; vertex = i; svertex = k } in
+            let up = c.leads_on.ensures.leads_on.0 w.if-leads_on.true in
+            let leads : IsLeading vs f = record { vertex = v; svertex = s; has_vertex = a; has_svertex = b; point = refl; dir = refl; up = up } in
+            let pair = pair-is vs c.requires.joined c.args.arriving.now c.requires.arriving f leads w.next_after-next.result w.next_after-next.ensures.next in
+            subst (AreEdges vs (IsBefore i (k + 1))) (sym w.in_ok-push.ensures.items ∙ ap (λ (x : Vec Edge Global). x.items) (sym w.edges-is))
+            (edges-add vs c.requires.joined i k c.loop-k.edges.items v s a b c.loop-k.invariant.added f w.next_after-next.result refl refl pair)
+        | else-leads_on w ↦
+            let none = λ (n : IsNormal (vector_of s.dir)). IsTrue-false c.leads_on.result (c.leads_on.ensures.leads_on.1 n) w.if-leads_on.false in
+            subst (λ (x : Vec Edge Global). AreEdges vs (IsBefore i (k + 1)) x.items) (sym w.edges-is) (edges-pass vs c.requires.joined i k c.loop-k.edges.items v s a b none c.loop-k.invariant.added)
+      ];
+    }
+
+pub returns : goal.returns
+returns c =
+    let vs = c.args.vertices.now in let i = c.args.i in let k = c.loop-k.k in
+    let v = c.index-vertices-i.result in
+    let a = read-at vs i v c.requires.within c.index-vertices-i.is in
+    let l = subst (λ (ss : List SVertex). length ss ≤ k) c.as_slice-svertex-items.ensures.all c.loop-k-test.false in
+    record { added = edges-row vs c.requires.joined i k c.loop-k.edges.items v a l c.loop-k.invariant.added }

@@ -1,0 +1,6 @@
+use Rattle.nef_edges.specs.Halves.{IsBefore}
+use Rattle.nef_edges.specs.Pairs.{AreEdges}
+use Rattle.nef_edges.proofs.pairing.add_edges.Given as goal
+
+abbrev pub invariant-loop-k : goal.invariant-loop-k
+invariant-loop-k l = record { added : AreEdges l.vertices (IsBefore l.i l.k) l.edges.items }

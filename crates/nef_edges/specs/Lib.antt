@@ -1,0 +1,4 @@
+pub mod Widths
+pub mod Order
+pub mod Halves
+pub mod Pairs

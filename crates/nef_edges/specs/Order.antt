@@ -1,0 +1,37 @@
+-- The order of halves of edges: by their lines, then by their vertices.
+use Rattle.std.specs.Prelude.{ℤ, ◌*ℤ◌, Bool}
+use Rattle.std.specs.declared.cmp.Ordering.{Ordering}
+use Rattle.std.specs.Ordering.{int_cmp, nat_cmp, ordering_then, on, then_cmp, is_lt}
+use Rattle.nef_space.specs.Vectors.{Vector, vector, cross}
+use Rattle.nef_geo.specs.Shapes.{vector_of}
+use Rattle.nef_geo.specs.declared.dir.Dir.{Dir}
+use Rattle.nef_edges.specs.declared.half.Half.{Half}
+use Rattle.nef_edges.specs.declared.moment.Moment.{Moment}
+
+abbrev pub moment_vector : Moment → Vector
+moment_vector m = vector m.x m.y m.z
+
+-- w times the product of the half's point (x/w, y/w, z/w) and its direction
+abbrev pub moment_of : Half → Vector
+moment_of h = cross (vector h.point.x h.point.y h.point.z) (vector_of h.dir)
+
+-- the order of the products' first numbers, and so on
+abbrev pub ratio_order : (Half → ℤ) → Half → Half → Ordering
+ratio_order part a b = int_cmp (part a *ℤ b.point.w) (part b *ℤ a.point.w)
+
+abbrev pub moment_order : Half → Half → Ordering
+moment_order = then_cmp (then_cmp (ratio_order (λ h. (moment_of h).x)) (ratio_order (λ h. (moment_of h).y))) (ratio_order (λ h. (moment_of h).z))
+
+abbrev pub dir_order : Dir → Dir → Ordering
+dir_order a b = ordering_then (int_cmp a.x b.x) (ordering_then (int_cmp a.y b.y) (int_cmp a.z b.z))
+
+-- the order of the halves' lines
+abbrev pub line_order : Half → Half → Ordering
+line_order = then_cmp (on (λ h. h.dir) dir_order) moment_order
+
+-- by the line, then by the vertex
+abbrev pub half_order : Half → Half → Ordering
+half_order = then_cmp line_order (on (λ h. h.vertex) nat_cmp)
+
+abbrev pub half_lt : Half → Half → Bool
+half_lt a b = is_lt (half_order a b)

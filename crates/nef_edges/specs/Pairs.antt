@@ -1,0 +1,26 @@
+-- Vertices whose svertices are halves of edges, and the edges from some of them.
+use Rattle.std.specs.Prelude.{◌≡◌, ℕ, List, map}
+use Rattle.nef_space.specs.Place.{IsPlaceBelow}
+use Rattle.nef_space.specs.Vectors.{IsNormal}
+use Rattle.nef_sphere.specs.Maps.{At, Svertex, Shaped}
+use Rattle.nef_sphere.specs.Least.{InOrder}
+use Rattle.nef_solid.specs.Complexes.{Vertex as PlainVertex, Edge as PlainEdge, IsEdge, IsEdgeBelow}
+use Rattle.nef_complex.specs.declared.complex.Vertex.{Vertex}
+use Rattle.nef_complex.specs.declared.complex.Edge.{Edge}
+use Rattle.nef_complex.specs.Complexes.{vertex_of, edge_of}
+
+-- the edge leaves svertex a of vertex i
+abbrev pub IsFrom : List PlainVertex → ℕ → ℕ → PlainEdge → Type 0
+IsFrom vs i a e = IsEdge vs e × (e.low ≡ i) × (e.low_svertex ≡ a)
+
+-- sorted vertices, each svertex of which that leads to later points is the lower end of an edge
+pub record AreJoined (vs : List PlainVertex) : Type 0 where
+  pub ordered : InOrder (λ u v. IsPlaceBelow u.point v.point) vs
+  pub shaped : (k : ℕ) (v : PlainVertex) → At vs k v → Shaped v.map
+  pub joined : (i a : ℕ) (v : PlainVertex) (u : Svertex) → At vs i v → At v.map.svertices a u → IsNormal u.way → (e : PlainEdge) × IsFrom vs i a e
+
+-- the edges from the svertices that count, in order
+pub record AreEdges (vs : List Vertex) (Counts : ℕ → ℕ → Type 0) (es : List Edge) : Type 0 where
+  pub edges : (k : ℕ) (e : Edge) → At es k e → IsEdge (map vertex_of vs) (edge_of e) × Counts e.low e.low_svertex
+  pub complete : (e : PlainEdge) → IsEdge (map vertex_of vs) e → Counts e.low e.low_svertex → (k : ℕ) × (f : Edge) × At es k f × (edge_of f ≡ e)
+  pub ordered : InOrder (λ e f. IsEdgeBelow (edge_of e) (edge_of f)) es

@@ -1,0 +1,84 @@
+//! The halves that arrive at vertices, in order.
+
+ghost use Rattle.std.specs.Prelude.{◌<◌, ◌+◌, ℕ, length, IfOk, OnOk};
+ghost use Rattle.std.specs.List.Sorted.{IsSortedBy};
+ghost use Rattle.nef_sphere.specs.Maps.{At};
+ghost use Rattle.nef_edges.specs.declared.half.Half.{Half};
+ghost use Rattle.nef_edges.specs.Order.{half_lt};
+ghost use Rattle.nef_edges.specs.Halves.{IsBefore, AreArriving, IsAfter, NoneAfter, AllAfter, IsNext};
+
+use crate::OutOfMemory;
+use crate::half::{Half, leads_on};
+use crate::order::half_cmp;
+use nef_complex::Vertex;
+use std::alloc::Global;
+
+// Adds the halves that arrive at vertex number i.
+fn add_arriving(halves: &mut Vec<Half>, vertices: &[Vertex], i: usize) -> Result<(), OutOfMemory>
+    requires within { i < length vertices.now }
+    requires before { AreArriving vertices.now (IsBefore i 0) halves.old.items }
+    ensures added { OnOk result (AreArriving vertices.now (IsBefore (i + 1) 0) halves.new.items) }
+{
+    let vertex = &vertices[i];
+    for (k, svertex) in vertex.map.svertices.as_slice().iter().enumerate() {
+        let dir = svertex.dir.back();
+        if leads_on(&dir) {
+            halves.push(Half {
+                point: vertex.point,
+                dir,
+                vertex: i,
+                svertex: k,
+            })?;
+        }
+    }
+    Ok(())
+}
+
+// The halves that arrive at any vertex.
+fn all_arriving(alloc: Global, vertices: &[Vertex]) -> Result<Vec<Half>, OutOfMemory>
+    ensures all { IfOk result (λ v. AreArriving vertices.now (IsBefore (length vertices.now) 0) v.items) }
+{
+    let mut halves = Vec::new(alloc);
+    for i in 0..vertices.len() {
+        add_arriving(&mut halves, vertices, i)?;
+    }
+    Ok(halves)
+}
+
+/// The halves that arrive at any vertex, by their lines and vertices.
+pub(crate) fn sorted_arriving(alloc: Global, vertices: &[Vertex]) -> Result<Vec<Half>, OutOfMemory>
+    ensures all { IfOk result (λ v. AreArriving vertices.now (IsBefore (length vertices.now) 0) v.items) }
+    ensures sorted { IfOk result (λ v. IsSortedBy half_lt v.items) }
+{
+    let mut halves = all_arriving(alloc, vertices)?;
+    halves.sort_unstable_by(half_cmp);
+    Ok(halves)
+}
+
+// How many of the sorted halves don't stand after `from`, by halving.
+fn count_up_to(halves: &[Half], from: &Half) -> usize
+    requires sorted { IsSortedBy half_lt halves.now }
+    ensures before { NoneAfter halves.now from.now result }
+    ensures after { AllAfter halves.now from.now result }
+{
+    let mut low = 0;
+    let mut high = halves.len();
+    while low < high {
+        let middle = low + (high - low) / 2;
+        if half_cmp(&halves[middle], from).is_gt() {
+            high = middle;
+        } else {
+            low = middle + 1;
+        }
+    }
+    low
+}
+
+/// The first of the sorted halves that stands after `from`.
+pub(crate) fn next_after(halves: &[Half], from: &Half) -> Half
+    requires sorted { IsSortedBy half_lt halves.now }
+    requires some { (k : ℕ) × (h : Half) × At halves.now k h × IsAfter from.now h }
+    ensures next { IsNext halves.now from.now result }
+{
+    halves[count_up_to(halves, from)]
+}

@@ -1,0 +1,30 @@
+//! Halves of edges.
+
+ghost use Rattle.std.specs.Prelude.{◌↔◌, IsTrue};
+ghost use Rattle.nef_geo.specs.Shapes.{vector_of};
+ghost use Rattle.nef_space.specs.Vectors.{IsNormal};
+
+use nef_geo::{Dir, Point};
+
+/// Half of an edge: a svertex of a vertex. The direction leads along the edge toward the later of its ends, so it is
+/// that of the svertex where the edge leads on from the vertex, and the opposite one where it arrives there.
+#[derive(Debug, Clone, Copy, PartialEq, Eq)]
+pub(crate) struct Half {
+    pub(crate) point: Point,
+    pub(crate) dir: Dir,
+    pub(crate) vertex: usize,
+    pub(crate) svertex: usize,
+}
+
+/// Whether the direction leads to later points.
+pub(crate) fn leads_on(d: &Dir) -> bool
+    ensures leads_on { IsTrue result ↔ IsNormal (vector_of d.now) }
+{
+    if d.x() != 0 {
+        return d.x() > 0;
+    }
+    if d.y() != 0 {
+        return d.y() > 0;
+    }
+    d.z() > 0
+}

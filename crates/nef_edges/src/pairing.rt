@@ -1,0 +1,86 @@
+//! The edges from all svertices that lead on.
+
+ghost use Rattle.std.specs.Prelude.{◌≡◌, ◌<◌, ◌+◌, ℕ, length, map, IfOk, OnOk};
+ghost use Rattle.std.specs.List.Sorted.{IsSortedBy};
+ghost use Rattle.nef_space.specs.Sets.{Set};
+ghost use Rattle.nef_solid.specs.Complexes.{Edges};
+ghost use Rattle.nef_complex.specs.Complexes.{vertex_of, edge_of, AreVerticesOf, ShowsSet};
+ghost use Rattle.nef_edges.specs.Order.{half_lt};
+ghost use Rattle.nef_edges.specs.Halves.{IsBefore, AreArriving};
+ghost use Rattle.nef_edges.specs.Pairs.{AreJoined, AreEdges};
+
+use crate::OutOfMemory;
+use crate::arriving::{next_after, sorted_arriving};
+use crate::half::{Half, leads_on};
+use nef_complex::{Complex, Edge, Vertex};
+use nef_geo::{List, Plane};
+use std::alloc::Global;
+
+// Adds the edges that lead on from vertex number i.
+fn add_edges(
+    edges: &mut Vec<Edge>,
+    vertices: &[Vertex],
+    i: usize,
+    arriving: &[Half],
+) -> Result<(), OutOfMemory>
+    requires within { i < length vertices.now }
+    requires joined { AreJoined (map vertex_of vertices.now) }
+    requires arriving { AreArriving vertices.now (IsBefore (length vertices.now) 0) arriving.now }
+    requires sorted { IsSortedBy half_lt arriving.now }
+    requires before { AreEdges vertices.now (IsBefore i 0) edges.old.items }
+    ensures added { OnOk result (AreEdges vertices.now (IsBefore (i + 1) 0) edges.new.items) }
+{
+    let vertex = &vertices[i];
+    for (k, svertex) in vertex.map.svertices.as_slice().iter().enumerate() {
+        if leads_on(&svertex.dir) {
+            let from = Half {
+                point: vertex.point,
+                dir: svertex.dir,
+                vertex: i,
+                svertex: k,
+            };
+            let next = next_after(arriving, &from);
+            edges.push(Edge {
+                low: i,
+                low_svertex: k,
+                high: next.vertex,
+                high_svertex: next.svertex,
+                mark: svertex.mark,
+            })?;
+        }
+    }
+    Ok(())
+}
+
+// All edges of the vertices, in order.
+fn edges_of(alloc: Global, vertices: &[Vertex]) -> Result<Vec<Edge>, OutOfMemory>
+    requires joined { AreJoined (map vertex_of vertices.now) }
+    ensures edges { IfOk result (λ v. Edges (map vertex_of vertices.now) (map edge_of v.items)) }
+{
+    let arriving = sorted_arriving(alloc, vertices)?;
+    let mut edges = Vec::new(alloc);
+    for i in 0..vertices.len() {
+        add_edges(&mut edges, vertices, i, arriving.as_slice())?;
+    }
+    Ok(edges)
+}
+
+/// The complex with these carriers and vertices, and with all edges between the vertices. Some set has exactly these
+/// carriers and exactly these vertices with their least maps, all in order.
+pub fn pair(
+    alloc: Global,
+    carriers: List<Plane>,
+    vertices: List<Vertex>,
+) -> Result<Complex, OutOfMemory>
+    requires vertices { (s : Set) × AreVerticesOf s carriers vertices }
+    ensures kept { IfOk result (λ c. (c.carriers ≡ carriers) × (c.vertices ≡ vertices)) }
+    ensures edges { IfOk result (λ c. Edges (map vertex_of c.vertices) (map edge_of c.edges)) }
+    ensures shows { IfOk result (λ c. (s : Set) → AreVerticesOf s carriers vertices → ShowsSet s c) }
+{
+    let edges = edges_of(alloc, vertices.as_slice())?;
+    Ok(Complex {
+        carriers,
+        vertices,
+        edges: List::from_vec(edges),
+    })
+}

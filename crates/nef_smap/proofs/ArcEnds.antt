@@ -1,0 +1,67 @@
+-- The ends of the program's arcs.
+use Rattle.std.proofs.Common.{◌≡◌, ℕ, zero, suc, ◌<◌, pos, List, [], ◌∷◌, length, map, Some, arith, refl, ap, subst, slice_get}
+use Rattle.std.proofs.lemmas.List.{length-map}
+use Rattle.nef_space.specs.Limits.{normal_limit, svertex_limit}
+use Rattle.nef_space.specs.Vectors.{Vector, IsDirection, IsAtMost, dot}
+use Rattle.nef_cyclic.specs.Arcs.{IsOnCircle}
+use Rattle.nef_geo.specs.Shapes.{vector_of}
+use Rattle.nef_sphere.specs.Maps.{At, arc_item, items, way_of}
+use Rattle.nef_sphere.proofs.Vectors.{normal-is}
+use Rattle.nef_sphere.proofs.Shot.{way-at}
+use Rattle.nef_sphere.proofs.Arcs.{Ends, ends-of, at-arc}
+use Rattle.nef_smap.specs.declared.map.SVertex.{SVertex}
+use Rattle.nef_smap.specs.declared.map.SArc.{SArc}
+use Rattle.nef_smap.specs.declared.map.SphereMap.{SphereMap}
+use Rattle.nef_smap.specs.Maps.{svertex_of, arc_of, map_of, IsSphereMap}
+use Rattle.nef_smap.proofs.MapLists.{at-within}
+
+pub at-map : {X Y : Type 0} (f : X → Y) (xs : List X) (k : ℕ) (x : X) → slice_get xs k ≡ Some x → At (map f xs) k (f x)
+at-map f [] k x e = cc
+at-map f (y ∷ ys) zero x e = let g : y ≡ x = cc in ap f g
+at-map f (y ∷ ys) (suc k) x e = at-map f ys k x e
+
+pub map-at : {X Y : Type 0} (f : X → Y) (xs : List X) (k : ℕ) (y : Y) → At (map f xs) k y → (x : X) × (slice_get xs k ≡ Some x) × (f x ≡ y)
+map-at f [] k y a = absurd a
+map-at f (x ∷ xs) zero y a = (x, refl, a)
+map-at f (x ∷ xs) (suc k) y a = map-at f xs k y a
+
+-- what holds of the svertex at an end of an arc
+pub record EndOf (m : SphereMap) (a : SArc) (k : ℕ) (v : SVertex) : Type 0 where
+  pub way : way_of (map_of m).svertices k ≡ vector_of v.dir
+  pub on : IsOnCircle (vector_of a.normal) (vector_of v.dir)
+  pub small : IsAtMost svertex_limit (vector_of v.dir)
+
+module _ (m : SphereMap) (S : IsSphereMap m) (i : ℕ) (a : SArc) (h : At (map_of m).arcs i (arc_of a)) where
+  ends : Ends (map_of m) (arc_of a)
+  ends = ends-of (map_of m) S.valid.shaped i (arc_of a) h
+
+  listed : At (items (map_of m)) i (arc_item (arc_of a))
+  listed = at-arc (map_of m).arcs (map_of m).loop i (arc_of a) h
+
+  pub normal-direction : IsDirection (vector_of a.normal)
+  normal-direction = normal-is S.valid.shaped i (arc_item (arc_of a)) listed
+
+  pub normal-small : IsAtMost normal_limit (vector_of a.normal)
+  normal-small = S.small.normals i (arc_item (arc_of a)) listed
+
+  pub source-within : a.source < length m.svertices
+  source-within = let b = ends in let q = at-within (map svertex_of m.svertices) a.source b.source b.has_source in let e = length-map m.svertices svertex_of in omega arith
+
+  pub target-within : a.target < length m.svertices
+  target-within = let b = ends in let q = at-within (map svertex_of m.svertices) a.target b.target b.has_target in let e = length-map m.svertices svertex_of in omega arith
+
+  end-of : (k : ℕ) (v : SVertex) → slice_get m.svertices k ≡ Some v → dot (vector_of a.normal) (way_of (map_of m).svertices k) ≡ pos 0 → EndOf m a k v
+  end-of k v e l =
+      let b = at-map svertex_of m.svertices k v e in
+      let w = way-at (map svertex_of m.svertices) k (svertex_of v) b in
+      record {
+        way = w;
+        on = record { direction = S.valid.shaped.svertex_ways k (svertex_of v) b; level = subst (λ (x : Vector). dot (vector_of a.normal) x ≡ pos 0) w l };
+        small = S.small.svertices k (svertex_of v) b;
+      }
+
+  pub source-end : (v : SVertex) → slice_get m.svertices a.source ≡ Some v → EndOf m a a.source v
+  source-end v e = let b = ends in end-of a.source v e b.source_level
+
+  pub target-end : (v : SVertex) → slice_get m.svertices a.target ≡ Some v → EndOf m a a.target v
+  target-end v e = let b = ends in end-of a.target v e b.target_level

@@ -1,0 +1,101 @@
+-- Searching the lists of the program's maps, and where a direction lies.
+use Rattle.std.proofs.Common.{◌≡◌, ℕ, zero, suc, ◌+◌, ◌<◌, ◌≤◌, arith, refl, ap, sym, ◌∙◌, ⊎_elim, List, [], ◌∷◌, length, map, Option, Some, None, option_map, subst, slice_get, get_or, ◌↔◌}
+use Rattle.std.proofs.lemmas.Option.{slice_get_read}
+use Rattle.std.proofs.lemmas.List.{length-map}
+use Rattle.std.proofs.Math.Nat.{eq-or-lt_of_le}
+use Rattle.nef_space.specs.Vectors.{Vector, IsDirection, SameDirection}
+use Rattle.nef_space.specs.declared.label.Label.{Label}
+use Rattle.nef_geo.specs.Shapes.{vector_of}
+use Rattle.nef_geo.specs.declared.dir.Dir.{Dir}
+use Rattle.nef_geo.proofs.Unique.{same_directions_equal}
+use Rattle.nef_sphere.specs.Maps.{At, Svertex, Arc, Loop, Map, Item, arc_item, loop_item, items, OnItem, IsFree, MapLabel, at_svertex, on_item, seen, Side, whole, Sees}
+use Rattle.nef_sphere.proofs.Lists.{at-one}
+use Rattle.nef_sphere.proofs.Arcs.{loop-at, at-loop, at-arc}
+use Rattle.nef_sphere.proofs.Shot.{arc-at}
+use Rattle.nef_sphere.proofs.Compare.{way-self}
+use Rattle.nef_smap.specs.Sides.{LabelledSide, sides_of, IsSide, SideSees, IsPlaceOf}
+use Rattle.nef_smap.specs.Maps.{svertex_of, arc_of, loop_of, map_of}
+use Rattle.nef_smap.specs.declared.map.SVertex.{SVertex}
+use Rattle.nef_smap.specs.declared.map.SArc.{SArc}
+use Rattle.nef_smap.specs.declared.map.SLoop.{SLoop}
+use Rattle.nef_smap.specs.declared.map.SphereMap.{SphereMap}
+use Rattle.nef_smap.specs.declared.map.SPlace.TheVariants as place
+use Rattle.nef_smap.proofs.ArcEnds.{at-map}
+use Rattle.nef_smap.proofs.MapLists.{at-within}
+use Rattle.nef_smap.proofs.SideLists.{side-has}
+
+-- ---- searching
+module _ {X Y : Type 0} (f : X → Y) (xs : List X) (P : Y → Type 0) where
+  pub next-none : (n : ℕ) (x : X) → slice_get xs n ≡ Some x → ((k : ℕ) → k < n → (y : Y) → At (map f xs) k y → P y → ⊥) → (P (f x) → ⊥) → (k : ℕ) → k < n + 1 → (y : Y) → At (map f xs) k y → P y → ⊥
+  next-none n x e before here k h y a p = ⊎_elim
+      (λ z. here (subst P (at-one (map f xs) n y (f x) (subst (λ (r : ℕ). At (map f xs) r y) z a) (at-map f xs n x e)) p))
+      (λ l. before k l y a p)
+      (eq-or-lt_of_le {n = k} {m = n} (omega arith))
+
+  pub all-none : (n : ℕ) → length xs ≤ n → ((k : ℕ) → k < n → (y : Y) → At (map f xs) k y → P y → ⊥) → (k : ℕ) (y : Y) → At (map f xs) k y → P y → ⊥
+  all-none n h before k y a p = before k (let w = at-within (map f xs) k y a in let e = length-map xs f in omega arith) y a p
+
+-- the element that a loop over a slice is at
+pub read : {X : Type 0} (xs ys : List X) (n : ℕ) (x : X) → ys ≡ xs → n < length ys → x ≡ get_or ys n x → slice_get xs n ≡ Some x
+read {X} xs ys n x e h q = subst (λ (zs : List X). slice_get zs n ≡ Some x) e (slice_get_read ys (length ys) n x refl h q)
+
+-- directions in normal form are the same where they are equal
+pub dir-same : (a b : Dir) → (a ≡ b) ↔ SameDirection (vector_of a) (vector_of b)
+dir-same a b = (λ e. subst (λ (x : Dir). SameDirection (vector_of a) (vector_of x)) e (way-self (vector_of a) a.some), λ s. same_directions_equal a b s)
+
+-- ---- a direction on no svertex, arc or loop
+pub free-if : (M : Map) (d : Vector) → IsDirection d → ((k : ℕ) (v : Svertex) → At M.svertices k v → SameDirection v.way d → ⊥)
+    → ((k : ℕ) (a : Arc) → At M.arcs k a → OnItem M (arc_item a) d → ⊥) → (((l : Loop) × (M.loop ≡ Some l) × OnItem M (loop_item l) d) → ⊥) → IsFree M d
+free-if M d h no_svertex no_arc no_loop = record { direction = h; off_svertices = no_svertex; off_items = by }
+  where
+    by : (k : ℕ) (x : Item) → At (items M) k x → OnItem M x d → ⊥
+    by k (arc_item a) b o = no_arc k a (arc-at M.arcs M.loop k a b) o
+    by k (loop_item l) b o = no_loop (l, loop-at M.arcs M.loop k l b, o)
+
+-- ---- the label of a side that sees
+pub side-within : (M : Map) (s : ℕ) (d : Vector) → SideSees M s d → s < length (sides_of M)
+side-within M s d (o, l, i, q) = get-within (sides_of M) s (o, l) i
+  where
+    get-within : {X : Type 0} (xs : List X) (k : ℕ) (x : X) → slice_get xs k ≡ Some x → k < length xs
+    get-within [] k x e = cc
+    get-within (y ∷ ys) zero x e = omega arith
+    get-within (y ∷ ys) (suc k) x e = let h = get-within ys k x e in omega arith
+
+option_side : Option LabelledSide → Side
+option_side None = whole
+option_side (Some y) = y.0
+
+pub label-by_side : (M : Map) (s : ℕ) (d : Vector) (m : Label) → SideSees M s d → ((o : Side) × IsSide M s o m) → MapLabel M d m
+unfolding option_side
+label-by_side M s d m (o, l, i, q) (p, j) =
+    let e : Some (o, l) ≡ Some (p, m) = sym i ∙ j in
+    let f : o ≡ p = ap (λ (y : Option LabelledSide). option_side y) e in
+    seen (record { side = p; has = side-has M s p m j; sees = subst (λ (r : Side). Sees M r d) f q })
+
+-- ---- the label of what a direction lies on
+map-within : {X Y : Type 0} (f : X → Y) (xs : List X) (k : ℕ) (y : Y) → At (map f xs) k y → k < length xs
+map-within f xs k y a = let w = at-within (map f xs) k y a in let e = length-map xs f in omega arith
+
+module _ (m : SphereMap) (d : Vector) where
+  pub svertex-within : (k : ℕ) → IsPlaceOf (map_of m) d (place.SVertex k) → k < length m.svertices
+  svertex-within k (v, a, s) = map-within svertex_of m.svertices k v a
+
+  pub arc-within : (k : ℕ) → IsPlaceOf (map_of m) d (place.Arc k) → k < length m.arcs
+  arc-within k (v, a, o) = map-within arc_of m.arcs k v a
+
+  pub label-svertex : (k : ℕ) (w : SVertex) → slice_get m.svertices k ≡ Some w → IsPlaceOf (map_of m) d (place.SVertex k) → MapLabel (map_of m) d w.mark
+  label-svertex k w e (v, a, s) = let b = at-map svertex_of m.svertices k w e in
+      at_svertex k (svertex_of w) b (subst (λ (r : Svertex). SameDirection r.way d) (at-one (map svertex_of m.svertices) k v (svertex_of w) a b) s) refl
+
+  pub label-arc : (k : ℕ) (w : SArc) → slice_get m.arcs k ≡ Some w → IsPlaceOf (map_of m) d (place.Arc k) → MapLabel (map_of m) d w.mark
+  label-arc k w e (a, h, o) = let b = at-map arc_of m.arcs k w e in
+      on_item k (arc_item (arc_of w)) (at-arc (map_of m).arcs (map_of m).loop k (arc_of w) b) (subst (λ (r : Arc). OnItem (map_of m) (arc_item r) d) (at-one (map arc_of m.arcs) k a (arc_of w) h b) o) refl
+
+  pub label-loop : (w : SLoop) → m.sloop ≡ Some w → IsPlaceOf (map_of m) d place.Loop → MapLabel (map_of m) d w.mark
+  label-loop w e (l, h, o) =
+      let f : Some l ≡ Some (loop_of w) = sym h ∙ ap (option_map loop_of) e in
+      let r = at-loop (map_of m).arcs (map_of m).loop (loop_of w) (ap (option_map loop_of) e) in
+      on_item r.0 (loop_item (loop_of w)) r.1 (subst (λ (k : Loop). OnItem (map_of m) (loop_item k) d) (some-one l (loop_of w) f) o) refl
+    where
+      some-one : (a b : Loop) → Some a ≡ Some b → a ≡ b
+      some-one a b e = cc

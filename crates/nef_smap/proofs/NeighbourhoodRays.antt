@@ -1,0 +1,79 @@
+-- The labels near a svertex: on a ray, and in the sector after it.
+use Rattle.std.proofs.Common.{◌≡◌, ℕ, ◌+◌, ◌≤◌, List, pos, arith, refl, sym, ap, subst, ◌∙◌, ⊎_elim}
+use Rattle.nef_exact.proofs.Order.{sign, sign-scaled}
+use Rattle.nef_space.specs.Vectors.{Vector, IsDirection, cross, dot, SameDirection, blend}
+use Rattle.nef_space.specs.declared.label.Label.{Label}
+use Rattle.nef_cyclic.specs.Arcs.{IsOnCircle, IsStrictlyOn}
+use Rattle.nef_cyclic.proofs.Directions.{level_cross_first, same-first}
+use Rattle.nef_forms.proofs.Directions.{self-pos}
+use Rattle.nef_forms.proofs.Far.{nought-or}
+use Rattle.nef_sphere.specs.Maps.{At, Svertex, Map, arc_item, HasSide, Sees, IsClear, on_item, seen, NearLabel, Valid}
+use Rattle.nef_sphere.specs.Forms.{SameSigns, forms}
+use Rattle.nef_sphere.specs.Stars.{across}
+use Rattle.nef_sphere.proofs.Arcs.{at-arc}
+use Rattle.nef_sphere.proofs.Compare.{SameDirection-trans, SameDirection-turned, way-self}
+use Rattle.nef_sphere.proofs.Generic.{amount, far-keeps, far-level}
+use Rattle.nef_sphere.proofs.Labels.{way-signs, label-by_signs, near-from_far}
+use Rattle.nef_sphere.proofs.StarKinds.{across-side}
+use Rattle.nef_sphere.proofs.StepOff.{blend-turned}
+use Rattle.nef_sphere.proofs.Turn.{way-directed, IsStrictlyOn-same}
+use Rattle.nef_star.proofs.Lefts.{way-same}
+use Rattle.nef_smap.proofs.NearSvertex.{ArcRay, ray_left, ray_side, Unrayed, same-cross, near-clear}
+use Rattle.nef_smap.proofs.SectorSees.{left-on, on-end, sector-sees}
+
+-- close to p, what lies half a plane off p along m x p has the signs of that
+beside-signs : (gs : List Vector) (p m e : Vector) (k : ℕ) → IsDirection p → IsOnCircle p m → SameDirection m (cross p e) → amount gs e ≤ k → amount gs (cross m p) ≤ k
+    → SameSigns gs (blend k p 1 (cross m p)) (blend k p 1 e)
+beside-signs gs p m e k hp on s h i g l = ⊎_elim level off (nought-or (dot g p))
+  where
+    turned : SameDirection (cross m p) (across p e)
+    turned = way-same p hp m (cross p e) on (record { direction = same-first (cross p e) m (SameDirection-turned m (cross p e) s); level = level_cross_first p e }) s
+
+    level : dot g p ≡ pos 0 → sign (dot g (blend k p 1 e)) ≡ sign (dot g (blend k p 1 (cross m p)))
+    level z =
+        far-level gs p e k h g z
+        ∙ sym (ap sign (across-side g p e z) ∙ sign-scaled (dot p p) (dot g e) (self-pos p hp))
+        ∙ way-signs (cross m p) (across p e) g (way-directed (cross m p) (across p e) turned) turned
+        ∙ sym (far-level gs p (cross m p) k i g z)
+
+    off : (dot g p ≡ pos 0 → ⊥) → sign (dot g (blend k p 1 e)) ≡ sign (dot g (blend k p 1 (cross m p)))
+    off f = far-keeps gs p e k h g l f ∙ sym (far-keeps gs p (cross m p) k i g l f)
+
+module _ (M : Map) (V : Valid M) (k : ℕ) (v : Svertex) (a : At M.svertices k v) where
+  abbrev p : Vector
+  p = v.way
+
+  hp : IsDirection p
+  hp = V.shaped.svertex_ways k v a
+
+  -- on a ray there is the arc's mark
+  pub ray-label : (q : ArcRay M k) (e : Vector) → SameDirection (ray_left q) (cross p e) → NearLabel M p e q.arc.mark
+  ray-label q e s =
+      let along = cross (ray_left q) p in
+      let o = on-end M V.shaped k v a q in
+      let n = amount (forms M) e + amount (forms M) along + o.0 in
+      near-from_far M V p e n (omega arith) q.arc.mark
+      (label-by_signs M V (blend n p 1 along) (blend n p 1 e) (beside-signs (forms M) p (ray_left q) e n hp (left-on M V.shaped k v a q) s (omega arith) (omega arith)) q.arc.mark
+      (on_item q.number (arc_item q.arc) (at-arc M.arcs M.loop q.number q.arc q.listed) (o.1 n (omega arith)) refl))
+
+  -- in the sector after a ray there is the label of its side
+  pub after-label : (q : ArcRay M k) (e : Vector) (l : Label) → IsDirection (cross p e) → HasSide M (ray_side q) l → Unrayed M k p e → ((r : ArcRay M k) → IsStrictlyOn p (ray_left q) (cross p e) (ray_left r) → ⊥) → NearLabel M p e l
+  after-label q e l off has free none = near-from_far M V p e n (omega arith) l (seen (record { side = ray_side q; has = has; sees = sees }))
+    where
+      n : ℕ
+      n = amount (forms M) e
+
+      w : Vector
+      w = blend n p 1 e
+
+      same : SameDirection (cross p w) (cross p e)
+      same = subst (λ (x : Vector). SameDirection (cross p x) (cross p e)) (blend-turned 1 n e p) (same-cross p e 1 n (omega arith) off)
+
+      way : IsClear M w p
+      way = near-clear M V.shaped k v a w (far-keeps (forms M) p e n (omega arith)) (way-directed (cross p w) (cross p e) same) (λ r z. free r (SameDirection-trans (ray_left r) (cross p w) (cross p e) z same))
+
+      circle : (r : ArcRay M k) → SameDirection (ray_left r) (ray_left r)
+      circle r = let o = left-on M V.shaped k v a r in way-self (ray_left r) o.direction
+
+      sees : Sees M (ray_side q) w
+      sees = sector-sees M V.shaped k v a q w way (λ r o. none r (IsStrictlyOn-same p p (ray_left q) (ray_left q) (cross p w) (cross p e) (ray_left r) (ray_left r) (way-self p hp) (circle q) same (circle r) o))

@@ -1,0 +1,66 @@
+-- The maps of one label and of one plane, as the program's.
+use Rattle.std.proofs.Common.{◌≡◌, ℕ, zero, suc, List, [], ◌∷◌, Some, None, refl, sym, ap, ◌∙◌, inl, inr, subst}
+use Rattle.nef_exact.specs.Signs.{sign}
+use Rattle.nef_space.specs.Limits.{normal_limit}
+use Rattle.nef_space.specs.Vectors.{Vector, dot, IsDirection, IsNormal, IsAtMost}
+use Rattle.nef_space.specs.declared.label.Label.{Label}
+use Rattle.nef_geo.specs.Shapes.{vector_of}
+use Rattle.nef_sphere.specs.Vectors.{IsPrimitive}
+use Rattle.nef_sphere.specs.Maps.{At, Loop, Item, loop_item, items, item_normal, Map, MapLabel, Valid}
+use Rattle.nef_sphere.specs.Least.{by_side, Least, Ordered}
+use Rattle.nef_sphere.specs.Labelling.{Labelling}
+use Rattle.nef_sphere.proofs.Simple.{ground_map, face-shaped, face-agrees, loop_map, loop-shaped, loop-agrees, loop-valid, loop-least}
+use Rattle.nef_sphere.proofs.Built.{agrees-valid, agrees-label, label-agrees}
+use Rattle.nef_smap.specs.declared.map.SLoop.{SLoop}
+use Rattle.nef_smap.specs.Maps.{loop_of, IsSmall}
+use Rattle.nef_smap.proofs.Primitive.{dir-primitive}
+
+-- ---- one label
+module _ (k g : Label) where
+  one-labelling : Labelling [] (λ d m. g ≡ m)
+  one-labelling = record { exists = λ d f. (g, refl); one = λ d m n f x y. sym x ∙ y; cells = λ d e m f h s x. x }
+
+  pub face-valid : Valid (ground_map k g)
+  face-valid = agrees-valid [] (λ d m. g ≡ m) one-labelling (ground_map k g) (face-shaped k g) (face-agrees k g (λ d m. g ≡ m) (λ d f. refl) (λ d m n f x y. sym x ∙ y))
+
+  pub face-labels : (d : Vector) → IsDirection d → MapLabel (ground_map k g) d g
+  face-labels d f = label-agrees [] (λ d m. g ≡ m) one-labelling (ground_map k g) (face-shaped k g) (face-agrees k g (λ d m. g ≡ m) (λ d f. refl) (λ d m n f x y. sym x ∙ y)) d g f refl
+
+  pub face-least : Least (ground_map k g)
+  face-least = record { no_plain = λ i v a p. a; no_straight = λ i v a p. a; items_differ = λ i x a. absurd a }
+
+  pub face-ordered : Ordered (ground_map k g)
+  face-ordered = record { ways_lowest = λ i v a. absurd a; normals_lowest = λ i x a. absurd a; svertices = λ i j u v l a b. absurd a; arcs = λ i j u v l a b. absurd a }
+
+  pub face-small : IsSmall (ground_map k g)
+  face-small = record { svertices = λ i v a. absurd a; normals = λ i x a. absurd a }
+
+-- ---- one plane
+module _ (l : SLoop) where
+  abbrev p : Loop
+  p = loop_of l
+
+  only : (i : ℕ) (x : Item) → At (items (loop_map l.mark p)) i x → loop_item p ≡ x
+  only zero x e = e
+  only (suc i) x e = absurd e
+
+  abbrev side : Vector → Label
+  side d = by_side l.pos l.mark l.neg (sign (dot (vector_of l.normal) d))
+
+  side-labelling : Labelling (vector_of l.normal ∷ []) (λ d m. side d ≡ m)
+  side-labelling = record { exists = λ d f. (side d, refl); one = λ d m n f x y. sym x ∙ y; cells = λ d e m f g s x. ap (by_side l.pos l.mark l.neg) (s (vector_of l.normal) (inl refl)) ∙ x }
+
+  pub plane-labels : IsNormal (vector_of l.normal) → (d : Vector) → IsDirection d → MapLabel (loop_map l.mark p) d (side d)
+  plane-labels h d f = label-agrees (vector_of l.normal ∷ []) (λ d m. side d ≡ m) side-labelling (loop_map l.mark p) (loop-shaped l.mark p h)
+      (loop-agrees l.mark p (λ d m. side d ≡ m) (λ d f. refl) (λ d m n f x y. sym x ∙ y)) d (side d) f refl
+
+  pub plane-ordered : Ordered (loop_map l.mark p)
+  plane-ordered = record {
+    ways_lowest = λ i v a. absurd a;
+    normals_lowest = λ i x a. subst (λ (y : Item). IsPrimitive (item_normal y)) (only i x a) (dir-primitive l.normal);
+    svertices = λ i j u v l a b. absurd a;
+    arcs = λ i j u v l a b. absurd a;
+  }
+
+  pub plane-small : IsAtMost normal_limit (vector_of l.normal) → IsSmall (loop_map l.mark p)
+  plane-small h = record { svertices = λ i v a. absurd a; normals = λ i x a. subst (λ (y : Item). IsAtMost normal_limit (item_normal y)) (only i x a) h }

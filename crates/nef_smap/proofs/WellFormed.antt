@@ -1,0 +1,112 @@
+-- The program's stars are well formed.
+use Rattle.std.proofs.Common.{◌≡◌, ℕ, zero, suc, List, [], ◌∷◌, length, map, Bool, true, false, cond, arith, refl, sym, ap, subst, ◌∙◌, inl, inr, ◌⊎◌}
+use Rattle.nef_exact.proofs.Order.{by_order}
+use Rattle.nef_space.specs.Numbers.{IsBelow}
+use Rattle.nef_space.specs.Vectors.{Vector, opposite, triple_of, IsDirection, SameDirection}
+use Rattle.nef_near.proofs.Flats.{vector-same}
+use Rattle.nef_geo.specs.Shapes.{vector_of}
+use Rattle.nef_geo.specs.declared.dir.Dir.{Dir}
+use Rattle.nef_geo.proofs.Unique.{same_directions_equal}
+use Rattle.nef_sphere.specs.Vectors.{IsPrimitive, VectorBelow}
+use Rattle.nef_sphere.specs.Maps.{At}
+use Rattle.nef_sphere.specs.Stars.{Ray as PlainRay, IsRay as IsPlainRay}
+use Rattle.nef_build.specs.Raw.{IsWellFormed, RayBelow, sector_count as plain_count}
+use Rattle.nef_star.specs.declared.star.Ray.{Ray}
+use Rattle.nef_star.specs.declared.star.Star.{Star}
+use Rattle.nef_star.specs.Stars.{ray_of, star_of, left_of, left_at, sector_count, IsRayBelow, IsRay, IsStar}
+use Rattle.nef_star.proofs.Turns.{self-same}
+use Rattle.nef_star.proofs.Labelled.{each_has_one_label}
+use Rattle.nef_smap.proofs.Lists.{at-map, at-within, at-get}
+use Rattle.nef_smap.proofs.Primitive.{dir-primitive}
+
+-- ---- the order of directions
+pub below-vectors : (u v : Vector) → IsBelow (triple_of u) (triple_of v) → VectorBelow u v
+below-vectors u v (inl h) = inl h
+below-vectors u v (inr (e, inl h)) = inr (inl (e, h))
+below-vectors u v (inr (e, inr (f, inl h))) = inr (inr (e, f, h))
+below-vectors u v (inr (e, inr (f, inr (g, h)))) = absurd h
+
+pub vectors-below : (u v : Vector) → VectorBelow u v → IsBelow (triple_of u) (triple_of v)
+vectors-below u v (inl h) = inl h
+vectors-below u v (inr (inl (e, h))) = inr (e, inl h)
+vectors-below u v (inr (inr (e, f, h))) = inr (e, inr (f, inl h))
+
+pub vector-order : (u v : Vector) → VectorBelow u v ⊎ (u ≡ v) ⊎ VectorBelow v u
+vector-order u v =
+    by_order u.x v.x (λ h. inl (inl h))
+    (λ e. by_order u.y v.y (λ h. inl (inr (inl (e, h))))
+    (λ f. by_order u.z v.z (λ h. inl (inr (inr (e, f, h)))) (λ g. inr (inl (vector-same u v e f g))) (λ h. inr (inr (inr (inr (sym e, sym f, h))))))
+    (λ h. inr (inr (inr (inl (sym e, h))))))
+    (λ h. inr (inr (inl h)))
+
+pub dir-equal : (a b : Dir) → vector_of a ≡ vector_of b → a ≡ b
+dir-equal a b e = same_directions_equal a b (subst (λ (v : Vector). SameDirection (vector_of a) v) e (self-same (vector_of a) a.some))
+
+-- ---- rays
+plain-counts : (rays : List Ray) → sector_count rays ≡ plain_count (map ray_of rays)
+plain-counts [] = refl
+plain-counts (r ∷ rs) = lengths (r ∷ rs)
+  where
+    lengths : (rs : List Ray) → length rs ≡ length (map ray_of rs)
+    lengths [] = refl
+    lengths (r ∷ rs) = ap suc (lengths rs)
+
+abbrev left : Dir → Bool → Vector
+left n b = cond b (vector_of n) (opposite (vector_of n))
+
+-- of two rays with one normal that leave in different directions, one goes ahead
+one_ahead : (q r : Ray) → IsDirection (left_of q) → (SameDirection (left_of q) (left_of r) → ⊥) → (IsRayBelow r q → ⊥) → q.normal ≡ r.normal → (q.ahead ≡ true) × (r.ahead ≡ false)
+one_ahead q r d apart least e = by q.ahead r.ahead refl refl
+  where
+    alike : q.ahead ≡ r.ahead → ⊥
+    alike f = apart (subst (SameDirection (left_of q)) (ap (λ (n : Dir). left n q.ahead) e ∙ ap (left r.normal) f) (self-same (left_of q) d))
+
+    by : (b c : Bool) → q.ahead ≡ b → r.ahead ≡ c → (q.ahead ≡ true) × (r.ahead ≡ false)
+    by true true f g = absurd (alike (f ∙ sym g))
+    by true false f g = (f, g)
+    by false true f g = absurd (least (inr (sym e, g, f)))
+    by false false f g = absurd (alike (f ∙ sym g))
+
+left-at : (rays : List Ray) (k : ℕ) (r : Ray) → At rays k r → left_at rays k ≡ left_of r
+left-at [] k r h = absurd h
+left-at (q ∷ qs) zero r h = ap left_of h
+left-at (q ∷ qs) (suc k) r h = left-at qs k r h
+
+module _ (t : Star) (T : IsStar t) where
+  rays : List Ray
+  rays = t.rays.items
+
+  leaves : (k : ℕ) (r : Ray) → At t.rays.items k r → IsRay (vector_of t.axis) r
+  leaves k r h = subst (IsRay (vector_of t.axis)) (at-get t.rays.items k r r h) (T.turned.rays k r (at-within t.rays.items k r h))
+
+  pub star-ray : (k : ℕ) (r : Ray) → At t.rays.items k r → IsPlainRay (star_of t) (ray_of r)
+  star-ray k r h = let i = leaves k r h in record { level = i.level; normal = i.normal }
+
+  first-below : (k : ℕ) (q r : Ray) → At t.rays.items 0 q → At t.rays.items (suc k) r → RayBelow (ray_of q) (ray_of r)
+  first-below k q r h i =
+      let within = at-within t.rays.items (suc k) r i in let turning = T.turned.counterclockwise in
+      let least = T.least_first (suc k) q r within (at-get t.rays.items 0 q q h) (at-get t.rays.items (suc k) r r i) in
+      let l0 = left-at t.rays.items 0 q h in let l1 = left-at t.rays.items (suc k) r i in
+      let direction : IsDirection (left_of q) = subst IsDirection l0 (turning.circle 0 (omega (arith, within))).direction in
+      let apart : SameDirection (left_of q) (left_of r) → ⊥ = λ s. turning.apart (suc k) (omega arith) within (rw (l0, l1) s) in
+      elim (vector-order (vector_of q.normal) (vector_of r.normal)) [
+        | inl b ↦ inl b
+        | inr s ↦ elim s [
+          | inl e ↦ let a = one_ahead q r direction apart least (dir-equal q.normal r.normal e) in inr (e, a.0, a.1)
+          | inr b ↦ absurd (least (inl (vectors-below (vector_of r.normal) (vector_of q.normal) b)))
+        ]
+      ]
+
+  pub star-well_formed : IsWellFormed (star_of t)
+  star-well_formed = record {
+    axis = t.axis.some;
+    axis_lowest = dir-primitive t.axis;
+    rays = λ k p h. let r = at-map ray_of t.rays.items k p h in subst (IsPlainRay (star_of t)) r.2 (star-ray k r.0 r.1);
+    rays_lowest = λ k p h. let r = at-map ray_of t.rays.items k p h in subst (λ (p : PlainRay). IsPrimitive p.normal) r.2 (dir-primitive r.0.normal);
+    least_first = λ k p s h i.
+        let q = at-map ray_of t.rays.items 0 p h in let r = at-map ray_of t.rays.items (suc k) s i in
+        subst (λ (p : PlainRay). RayBelow p s) q.2 (subst (λ (s : PlainRay). RayBelow (ray_of q.0) s) r.2 (first-below k q.0 r.0 q.1 r.1));
+    as_many = T.turned.sectors ∙ plain-counts t.rays.items;
+    each = λ e off. let l = each_has_one_label t T.turned e off in (l.0, l.1);
+    one = λ e l m off p q. let w = each_has_one_label t T.turned e off in w.2 l p ∙ sym (w.2 m q);
+  }

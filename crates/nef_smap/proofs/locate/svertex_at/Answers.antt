@@ -1,0 +1,28 @@
+use Rattle.std.proofs.Common.{length, arith, ap, sym, ◌∙◌}
+use Rattle.nef_arc.proofs.SignNumbers.{not_true}
+use Rattle.nef_geo.specs.Shapes.{vector_of}
+use Rattle.nef_sphere.specs.Maps.{Svertex}
+use Rattle.nef_space.specs.Vectors.{SameDirection}
+use Rattle.nef_smap.specs.Maps.{svertex_of}
+use Rattle.nef_smap.proofs.ArcEnds.{at-map}
+use Rattle.nef_smap.proofs.Found.{read, dir-same, next-none, all-none}
+use Rattle.nef_smap.proofs.locate.svertex_at.Goals as goal
+
+pub returns-then-same_dir : goal.returns-then-same_dir
+returns-then-same_dir c = record {
+  svertex = (
+    svertex_of c.svertex-item.result,
+    at-map svertex_of c.args.map.now.svertices c.loop-number.number c.svertex-item.result (read c.args.map.now.svertices c.as_slice-svertex-items.result.now c.loop-number.number c.svertex-item.result c.as_slice-svertex-items.ensures.all c.loop-number-test.true c.svertex-item.is),
+    (dir-same c.svertex-item.result.dir c.args.d.now).0 (c.same_dir.ensures.same.0 c.if-same_dir.true),
+  );
+}
+
+pub loop-number-preserved : goal.loop-number-preserved
+loop-number-preserved c = next-none svertex_of c.args.map.now.svertices (λ (v : Svertex). SameDirection v.way (vector_of c.args.d.now)) c.loop-number.number c.svertex-item.result (read c.args.map.now.svertices c.as_slice-svertex-items.result.now c.loop-number.number c.svertex-item.result c.as_slice-svertex-items.ensures.all c.loop-number-test.true c.svertex-item.is) c.loop-number.invariant
+    (λ s. not_true (sym c.if-same_dir.false ∙ c.same_dir.ensures.same.1 ((dir-same c.svertex-item.result.dir c.args.d.now).1 s)))
+
+pub returns : goal.returns
+returns c = record {
+  svertex = all-none svertex_of c.args.map.now.svertices (λ (v : Svertex). SameDirection v.way (vector_of c.args.d.now)) c.loop-number.number
+      (let e = ap length c.as_slice-svertex-items.ensures.all in let f = c.loop-number-test.false in omega arith) c.loop-number.invariant;
+}

@@ -1,0 +1,8 @@
+use Rattle.std.proofs.Common.{sym, subst}
+use Rattle.nef_space.specs.Limits.{normal_limit}
+use Rattle.nef_space.specs.Vectors.{IsAtMost}
+use Rattle.std.proofs.Common.{◌∙◌}
+use Rattle.nef_smap.proofs.meets.item_values.Goals as goal
+
+pub returns-clause-small : goal.returns-clause-small
+returns-clause-small c = c.values.ensures.small normal_limit (subst (IsAtMost normal_limit) (sym (c.widened.ensures.wide ∙ c.normal.ensures.normal)) c.requires.normal)

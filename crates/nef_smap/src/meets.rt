@@ -1,0 +1,111 @@
+//! The first item that a way meets.
+
+ghost use Rattle.std.specs.Prelude.{◌≡◌, ℕ, ◌^◌, ◌<◌, pos, ◌*ℤ◌, ◌<ℤ◌, ◌↔◌, length, IsTrue};
+ghost use Rattle.nef_space.specs.Limits.{normal_limit};
+ghost use Rattle.nef_space.specs.Vectors.{Vector, dot, IsAtMost, IsDirection};
+ghost use Rattle.nef_cyclic.specs.Arcs.{IsStrictlyOn};
+ghost use Rattle.nef_sphere.specs.Maps.{At, Item as PlainItem, items, item_normal, way_of};
+ghost use Rattle.nef_geo.specs.Shapes.{vector_of};
+ghost use Rattle.nef_geo.specs.Signs.{sign_of};
+ghost use Rattle.nef_smap.specs.Maps.{arc_of, map_of, IsSphereMap};
+ghost use Rattle.nef_smap.specs.Items.{item_of};
+ghost use Rattle.nef_smap.specs.Linear.{linear_at, turn_value, AreAtMost, IsLarge};
+ghost use Rattle.nef_smap.specs.Wide.{wide_vector, start_at, end_at, IsWithin, AreValues};
+ghost use Rattle.nef_smap.specs.Ways.{meet_of, IsMet, IsFair, IsFirstMet};
+
+use crate::item::{Item, item_at, item_count};
+use crate::linear::{Values, are_opposite, sign_at_meet};
+use crate::map::{SArc, SphereMap};
+use crate::way::{Way, Wide, cross, values, widened};
+use nef_case::between;
+use nef_geo::{Sign, dot, triple};
+
+// The sign of the form g where the way meets a plane whose form has the values n.
+fn sign_where_met(way: &Way, n: &Values, g: &Wide) -> Sign
+    requires way { IsWithin way.now }
+    requires n_small { AreAtMost (2 ^ 50) n.now }
+    requires g_small { IsAtMost (2 ^ 35) (wide_vector g.now) }
+    ensures sign { (m : Vector) (j k : ℕ) → AreValues way.now m n.now → IsLarge j k → result ≡ sign_of (dot (wide_vector g.now) (meet_of m (start_at way.now j) (end_at way.now k))) }
+{
+    sign_at_meet(n, &values(way, g))
+}
+
+// Whether the way meets the plane of the arc, which has the values n, on the arc, where it meets it at all.
+fn is_on_arc(map: &SphereMap, way: &Way, arc: &SArc, n: &Values) -> bool
+    requires map { IsSphereMap map.now }
+    requires arc { (i : ℕ) × At (map_of map.now).arcs i (arc_of arc.now) }
+    requires way { IsWithin way.now }
+    requires values { AreValues way.now (vector_of arc.now.normal) n.now }
+    requires small { AreAtMost (2 ^ 50) n.now }
+    ensures on { (j k : ℕ) → IsLarge j k → let p = meet_of (vector_of arc.now.normal) (start_at way.now j) (end_at way.now k) in IsDirection p → IsTrue result ↔ IsStrictlyOn (vector_of arc.now.normal) (way_of (map_of map.now).svertices arc.now.source) (way_of (map_of map.now).svertices arc.now.target) p }
+{
+    let source = &map.svertices.at(arc.source).dir;
+    let target = &map.svertices.at(arc.target).dir;
+    let (normal, from, to) = (widened(&arc.normal), widened(source), widened(target));
+    let past_source = sign_where_met(way, n, &cross(&normal, &from));
+    let past_target = sign_where_met(way, n, &cross(&normal, &to));
+    between(&[
+        triple(&arc.normal, source, target).number(),
+        dot(source, target).number(),
+        past_source.number(),
+        sign_where_met(way, n, &from).number(),
+        past_target.opposite().number(),
+    ])
+}
+
+pub(crate) fn item_values(way: &Way, item: &Item) -> Values
+    requires way { IsWithin way.now }
+    requires normal { IsAtMost normal_limit (item_normal (item_of item.now)) }
+    ensures values { AreValues way.now (item_normal (item_of item.now)) result }
+    ensures small { AreAtMost (2 ^ 50) result }
+{
+    values(way, &widened(item.normal()))
+}
+
+// Whether the way meets the item, which has the values n.
+fn is_met(map: &SphereMap, way: &Way, item: &Item, n: &Values) -> bool
+    requires map { IsSphereMap map.now }
+    requires item { (i : ℕ) × At (items (map_of map.now)) i (item_of item.now) }
+    requires way { IsWithin way.now }
+    requires values { AreValues way.now (item_normal (item_of item.now)) n.now }
+    requires small { AreAtMost (2 ^ 50) n.now }
+    ensures met { (j k : ℕ) → IsLarge j k → IsFair (map_of map.now) (start_at way.now j) (end_at way.now k) → IsTrue result ↔ IsMet (map_of map.now) (start_at way.now j) (end_at way.now k) (item_of item.now) }
+{
+    if !are_opposite(n.start.sign(), n.end.sign()) {
+        return false;
+    }
+    match item {
+        Item::Arc(arc) => is_on_arc(map, way, arc, n),
+        Item::Loop(_) => true,
+    }
+}
+
+// Whether the plane with the values n is met before the one with the values `first`.
+fn is_before(n: &Values, first: &Values) -> bool
+    requires n_small { AreAtMost (2 ^ 50) n.now }
+    requires first_small { AreAtMost (2 ^ 50) first.now }
+    ensures before { (j k : ℕ) → IsLarge j k → IsTrue result ↔ pos 0 <ℤ (linear_at first.now.start j *ℤ (linear_at n.now.start j *ℤ turn_value n.now first.now j k)) }
+{
+    are_opposite(first.start.sign().opposite(), sign_at_meet(n, first))
+}
+
+// The number of the item that the way meets first. It leads to the first item.
+pub(crate) fn first_met(map: &SphereMap, way: &Way) -> usize
+    requires map { IsSphereMap map.now }
+    requires some { 0 < length (items (map_of map.now)) }
+    requires way { IsWithin way.now }
+    ensures small { result < 2 ^ 60 }
+    ensures first { (x : PlainItem) × At (items (map_of map.now)) result x × ((j k : ℕ) → IsLarge j k → IsFair (map_of map.now) (start_at way.now j) (end_at way.now k) → IsFirstMet (map_of map.now) (start_at way.now j) (end_at way.now k) (length (items (map_of map.now))) x) }
+{
+    let mut first = 0;
+    let mut first_values = item_values(way, &item_at(map, 0));
+    for number in 1..item_count(map) {
+        let item = item_at(map, number);
+        let n = item_values(way, &item);
+        if is_before(&n, &first_values) && is_met(map, way, &item, &n) {
+            first = number;
+            first_values = n;
+        }
+    }
+    first
+}

@@ -1,0 +1,138 @@
+//! The sides of a map made by hand, a copy of it, and where directions lie on the maps of a plane and of one face.
+
+ghost use Rattle.std.specs.Prelude.{◌↔◌, IsTrue};
+ghost use Rattle.nef_space.specs.Limits.{normal_limit};
+ghost use Rattle.nef_space.specs.Vectors.{IsAtMost, IsNormal};
+ghost use Rattle.nef_geo.specs.Shapes.{vector_of};
+ghost use Rattle.nef_smap.specs.Maps.{IsSphereMap};
+
+use super::*;
+use nef_geo::{Dir, Label, List};
+use std::alloc::Global;
+use std::process::Abort;
+use std::test::Fail;
+
+fn dir(rt: &impl Abort, x: i8, y: i8, z: i8) -> Dir
+    ensures small { IsAtMost normal_limit (vector_of result) }
+{
+    match Dir::of(i64::from(x), i64::from(y), i64::from(z)) {
+        Some(dir) => dir,
+        None => panic!(rt; "zero is no direction"),
+    }
+}
+
+fn is_normal(d: &Dir) -> bool
+    ensures normal { IsTrue result ↔ IsNormal (vector_of d.now) }
+{
+    if d.x() != 0 {
+        d.x() > 0
+    } else if d.y() != 0 {
+        d.y() > 0
+    } else {
+        d.z() > 0
+    }
+}
+
+// In on the plane, Out on the side to which the normal points, Not on the other.
+fn plane(rt: &impl Abort, alloc: Global, normal: Dir) -> SphereMap
+    requires small { IsAtMost normal_limit (vector_of normal) }
+    ensures map { IsSphereMap result }
+{
+    let upright = is_normal(&normal);
+    assert!(rt; upright);
+    let sloop = SLoop {
+        normal,
+        mark: Label::In,
+        pos: Label::Out,
+        neg: Label::Not,
+    };
+    plane_map(alloc, sloop)
+}
+
+// An svertex without arcs below, and an arc from one svertex to another above a sloop.
+fn by_hand(rt: &impl Abort, alloc: Global) -> Result<SphereMap, OutOfMemory> {
+    let mut svertices = List::new(alloc);
+    for (d, around) in [
+        ((0, 0, -1), Some(Label::Out)),
+        ((0, 1, 1), None),
+        ((1, 0, 1), None),
+    ] {
+        let (x, y, z) = d;
+        svertices.push(SVertex {
+            dir: dir(rt, x, y, z),
+            mark: Label::In,
+            around,
+        })?;
+    }
+    let mut arcs = List::new(alloc);
+    arcs.push(SArc {
+        source: 1,
+        target: 2,
+        normal: dir(rt, 1, 1, -1),
+        mark: Label::Not,
+        pos: Label::In,
+        neg: Label::Not,
+    })?;
+    Ok(SphereMap {
+        mark: Label::In,
+        svertices,
+        arcs,
+        sloop: Some(SLoop {
+            normal: dir(rt, 0, 0, 1),
+            mark: Label::In,
+            pos: Label::Not,
+            neg: Label::Out,
+        }),
+        ground: None,
+    })
+}
+
+#[test]
+fn sides_by_number(rt: HostRuntime) -> Result<(), Fail> {
+    let map = by_hand(&rt, rt.alloc())?;
+    let mut labels = Vec::new(rt.alloc());
+    for side in 0..sides(&map) {
+        labels.push(side_label(&map, side))?;
+    }
+    let (out, not, within) = (Label::Out, Label::Not, Label::In);
+    assert_eq!(rt; labels.as_slice(), [out, within, not, not, out].as_slice());
+    let second = copy(rt.alloc(), &map)?;
+    assert_eq!(rt; second.svertices.as_slice(), map.svertices.as_slice());
+    assert_eq!(rt; second.arcs.as_slice(), map.arcs.as_slice());
+    assert_eq!(rt; second.sloop, map.sloop);
+    Ok(())
+}
+
+#[test]
+fn neighbours_of_a_plane(rt: HostRuntime) {
+    let map = plane(&rt, rt.alloc(), dir(&rt, 1, 1, -1));
+    for (d, side) in [
+        ((0, 0, 1), -1),
+        ((0, 0, -1), 1),
+        ((1, 0, 1), 0),
+        ((0, 1, 1), 0),
+        ((1, -1, 0), 0),
+        ((1, 1, 1), 1),
+        ((-1, -1, -1), -1),
+        ((-1, 1, 1), -1),
+    ] {
+        let (x, y, z) = d;
+        let d = dir(&rt, x, y, z);
+        let (place, label) = match side {
+            0 => (SPlace::Loop, Label::In),
+            1 => (SPlace::Face(0), Label::Out),
+            _ => (SPlace::Face(1), Label::Not),
+        };
+        assert_eq!(rt; at(&map, &d), place, "{d:?}");
+        assert_eq!(rt; label_at(&map, &d), label, "{d:?}");
+    }
+}
+
+#[test]
+fn one_face(rt: HostRuntime) {
+    let map = face_map(rt.alloc(), Label::In, Label::Not);
+    let d = dir(&rt, -1, 2, 3);
+    assert_eq!(rt; sides(&map), 1);
+    assert_eq!(rt; at(&map, &d), SPlace::Face(0));
+    assert_eq!(rt; label_at(&map, &d), Label::Not);
+}

@@ -1,0 +1,6 @@
+pub mod Complexes
+pub mod Shows
+pub mod Skeleton
+pub mod Belongs
+pub mod Rays
+pub mod Laws

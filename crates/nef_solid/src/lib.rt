@@ -1,0 +1,11 @@
+//! The theory of complexes: vertices with their sphere maps, edges between them, and how they show a set.
+//!
+//! Here a complex is plain data over points and vectors of any size; nothing runs. Each law is a clause of a
+//! function with an empty body. Source: Granados et al., "Boolean Operations on 3D Selective Nef Complexes", ESA 2003.
+#![tactic(auto)]
+
+mod facets;
+mod laws;
+
+pub use facets::facet_laws;
+pub use laws::{candidate_laws, edge_laws, skeleton_laws};

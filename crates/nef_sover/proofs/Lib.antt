@@ -1,0 +1,11 @@
+pub mod Places
+pub mod Pieces
+pub mod Sorted
+pub mod Adding
+pub mod Meets
+pub mod Crossed
+pub mod Bare
+pub mod Lone
+pub mod StarsMerged
+pub mod Sloops
+pub mod SloopMaps

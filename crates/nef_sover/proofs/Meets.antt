@@ -1,0 +1,80 @@
+-- The directions in which two items meet.
+use Rattle.std.proofs.Common.{◌≡◌, ℕ, ◌+◌, ◌<◌, ◌≤◌, List, [], ◌∷◌, ◌++◌, length, get_or, sym, ap, subst, inl, inr, ◌⊎◌}
+use Rattle.nef_space.specs.Limits.{svertex_limit}
+use Rattle.nef_space.specs.Vectors.{Vector, IsAtMost, IsParallel, SameDirection, cross, opposite}
+use Rattle.nef_geo.specs.Shapes.{vector_of}
+use Rattle.nef_geo.specs.declared.dir.Dir.{Dir}
+use Rattle.nef_geo.proofs.Directions.{small-neg}
+use Rattle.nef_cyclic.specs.Arcs.{IsOnCircle}
+use Rattle.nef_cyclic.proofs.StrictlyOn.{same-sym}
+use Rattle.nef_cyclic.proofs.Directions.{same-refl, same-second, level-same, arcs_are_of_directions, two_meets_at}
+use Rattle.nef_arc.proofs.Ends.{source_on, target_on}
+use Rattle.nef_build.specs.Overlays.{OnSvertex}
+use Rattle.nef_smap.specs.declared.map.SVertex.{SVertex}
+use Rattle.nef_smap.specs.declared.map.SphereMap.{SphereMap}
+use Rattle.nef_smap.proofs.Lists.{map-at, at-map}
+use Rattle.nef_smap.specs.Maps.{svertex_of, map_of, IsSphereMap}
+use Rattle.nef_sover.specs.declared.items.Item.{Item}
+use Rattle.nef_sover.specs.declared.items.Item.TheVariants.{Arc, Sloop}
+use Rattle.nef_sover.specs.Items.{normal_of, LiesOn}
+use Rattle.nef_sover.specs.Axes.{Adds, IsCommon, IsMeetAlong, IsMeet}
+use Rattle.nef_sover.proofs.Places.{read-at}
+use Rattle.nef_sover.proofs.Adding.{adds-none, adds-one, adds-both, adds-as, AnyFirst, AnyAt, any-more, any-all}
+
+on-same : (x : Item) (d e : Vector) → SameDirection d e → LiesOn x d → LiesOn x e
+on-same (Arc a) d e s o = arcs_are_of_directions (vector_of a.normal) (vector_of a.source) (vector_of a.target) d e a.normal.some (source_on a) (target_on a) s o
+on-same (Sloop n) d e s o = record { direction = same-second d e s; level = level-same (vector_of n) d e s o.level }
+
+on-circle : (x : Item) (d : Vector) → LiesOn x d → IsOnCircle (normal_of x) d
+on-circle (Arc a) d o = o.on_circle
+on-circle (Sloop n) d o = o
+
+module _ (x y : Item) where
+  pub common-adds : (xs : List Dir) (d : Dir) → IsAtMost svertex_limit (vector_of d) → IsCommon x y (vector_of d) → Adds (IsMeetAlong x y (vector_of d)) xs (xs ++ d ∷ [])
+  common-adds xs d s b = adds-one (IsMeetAlong x y (vector_of d)) xs d s (b, same-refl (vector_of d) d.some) (λ e q. q.1)
+
+  pub apart-adds : (xs : List Dir) (d : Vector) → (IsCommon x y d → ⊥) → Adds (IsMeetAlong x y d) xs xs
+  apart-adds xs d n = adds-none (IsMeetAlong x y d) xs (λ e q. let s = same-sym d e q.1 in n (on-same x e d s (let b = q.0 in b.0), on-same y e d s (let b = q.0 in b.1)))
+
+  pub parallel-adds : (xs : List Dir) → IsParallel (normal_of x) (normal_of y) → Adds (IsMeet x y) xs xs
+  parallel-adds xs p = adds-none (IsMeet x y) xs (λ e q. q.1 p)
+
+  pub meets-add : (xs ys zs : List Dir) (d e : Vector) → (IsParallel (normal_of x) (normal_of y) → ⊥) → SameDirection (cross (normal_of x) (normal_of y)) d → e ≡ opposite d
+      → Adds (IsMeetAlong x y d) xs ys → Adds (IsMeetAlong x y e) ys zs → Adds (IsMeet x y) xs zs
+  meets-add xs ys zs d e n s o p q = adds-both (IsMeetAlong x y d) (IsMeetAlong x y e) (IsMeet x y) xs ys zs p q forth back
+    where
+      forth : (f : Vector) → IsMeetAlong x y d f ⊎ IsMeetAlong x y e f → IsMeet x y f
+      forth f (inl (b, w)) = (b, n)
+      forth f (inr (b, w)) = (b, n)
+
+      on : (f : Vector) → IsCommon x y f → SameDirection d f ⊎ SameDirection (opposite d) f → IsMeetAlong x y d f ⊎ IsMeetAlong x y e f
+      on f b (inl w) = inl (b, w)
+      on f b (inr w) = inr (b, subst (λ (g : Vector). SameDirection g f) (sym o) w)
+
+      back : (f : Vector) → IsMeet x y f → IsMeetAlong x y d f ⊎ IsMeetAlong x y e f
+      back f (b, a) = on f b (two_meets_at (normal_of x) (normal_of y) d f n (same-sym (cross (normal_of x) (normal_of y)) d s) (on-circle x f b.0) (on-circle y f b.1))
+
+pub back-small : (k : ℕ) (d e : Vector) → e ≡ opposite d → IsAtMost k d → IsAtMost k e
+back-small k d e q s = record {
+  of_x = small-neg k d.x e.x (ap (λ (v : Vector). v.x) q) s.of_x;
+  of_y = small-neg k d.y e.y (ap (λ (v : Vector). v.y) q) s.of_y;
+  of_z = small-neg k d.z e.z (ap (λ (v : Vector). v.z) q) s.of_z;
+}
+
+-- ---- svertices
+abbrev pub IsAlong : SVertex → Vector → Type 0
+IsAlong v d = SameDirection (vector_of v.dir) d
+
+module _ (m : SphereMap) (S : IsSphereMap m) where
+  pub svertex-more : (i : ℕ) (v : SVertex) (ds es fs : List Dir) → i < length m.svertices → v ≡ get_or m.svertices i v → Adds (AnyFirst IsAlong m.svertices i) ds es → fs ≡ es ++ v.dir ∷ []
+      → Adds (AnyFirst IsAlong m.svertices (i + 1)) ds fs
+  svertex-more i v ds es fs l e p q =
+      let s = S.small.svertices i (svertex_of v) (map-at svertex_of m.svertices i v (read-at m.svertices i v l e)) in
+      any-more IsAlong m.svertices i v ds es fs l e p
+      (subst (Adds (IsAlong v) es) (sym q) (adds-one (IsAlong v) es v.dir s (same-refl (vector_of v.dir) v.dir.some) (λ f w. w)))
+
+  pub svertices-all : (i : ℕ) (ds es : List Dir) → length m.svertices ≤ i → Adds (AnyFirst IsAlong m.svertices i) ds es → Adds (OnSvertex (map_of m)) ds es
+  svertices-all i ds es l p = adds-as (AnyAt IsAlong m.svertices) (OnSvertex (map_of m)) ds es
+      (λ d a. (a.0, svertex_of a.1, map-at svertex_of m.svertices a.0 a.1 a.2, a.3))
+      (λ d a. let v = at-map svertex_of m.svertices a.0 a.1 a.2 in (a.0, v.0, v.1, subst (λ w. SameDirection w d) (ap (λ u. u.way) (sym v.2)) a.3))
+      (any-all IsAlong m.svertices i ds es l p)

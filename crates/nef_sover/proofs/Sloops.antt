@@ -1,0 +1,160 @@
+-- The sloop of an overlay.
+use Rattle.std.proofs.Common.{◌≡◌, ◌≤◌, ℤ, pos, ◌-ℤ◌, neg_ℤ, nat_abs, w64, to_z, of_z, List, Option, Some, None, option_map, arith, refl, sym, ap, subst, ◌∙◌, inl, inr, ◌⊎◌, [], ◌∷◌}
+use Rattle.nef_exact.proofs.Ring.{ring, at, num, neg, ◌⊕◌, ◌⊗◌}
+use Rattle.nef_space.specs.Limits.{normal_limit, direction_limit, svertex_limit, point_limit}
+use Rattle.nef_space.specs.Vectors.{Vector, vector, IsAtMost, IsNormal, SameDirection, dot, opposite}
+use Rattle.nef_space.specs.declared.label.Label.{Label}
+use Rattle.nef_geo.specs.Shapes.{vector_of}
+use Rattle.nef_geo.specs.declared.dir.Dir.{Dir}
+use Rattle.nef_geo.proofs.Directions.{small-neg, negated}
+use Rattle.nef_geo.proofs.Products.{kept}
+use Rattle.nef_cyclic.specs.Arcs.{IsOnCircle}
+use Rattle.nef_cyclic.proofs.StrictlyOn.{same-sym}
+use Rattle.nef_cyclic.proofs.Directions.{level-same}
+use Rattle.nef_sphere.specs.Maps.{Loop, loop_item, Map, IsFree, MapLabel, NearLabel}
+use Rattle.nef_sphere.proofs.Arcs.{at-loop}
+use Rattle.nef_build.specs.Overlays.{IsAxis, IsLoneLoop, IsMergedLoop}
+use Rattle.nef_smap.specs.declared.map.SLoop.{SLoop}
+use Rattle.nef_smap.specs.declared.map.SphereMap.{SphereMap}
+use Rattle.nef_smap.specs.Maps.{loop_of, map_of, IsSphereMap}
+use Rattle.nef_smap.proofs.Primitive.{dir-primitive}
+use Rattle.nef_smap.proofs.WellFormed.{dir-equal}
+use Rattle.nef_sover.specs.Axes.{AreAxes}
+use Rattle.nef_sover.specs.Circles.{AreOff, IsUncrossed, HasLabels, HasOpLabels, IsLoneNormal}
+use Rattle.nef_sover.proofs.Bare.{one-label, near-circle, free-circle, loop-mark, loop-above, loop-below}
+use Rattle.nef_sover.proofs.Lone.{uncrossed-a, uncrossed-b}
+
+loop-from : (o : Option SLoop) (l : Loop) → option_map loop_of o ≡ Some l → (s : SLoop) × (o ≡ Some s) × (loop_of s ≡ l)
+loop-from None l e = cc
+loop-from (Some s) l e = (s, refl, some_is e)
+  where
+    get : Loop → Option Loop → Loop
+    get d None = d
+    get d (Some x) = x
+
+    some_is : {x y : Loop} → ◌≡◌ {A = Option Loop} (Some x) (Some y) → x ≡ y
+    some_is {x} e = ap (get x) e
+
+-- ---- the lone normal
+module _ (a b : SphereMap) (ds : List Dir) (X : AreAxes (map_of a) (map_of b) ds) where
+  abbrev A : Map
+  A = map_of a
+
+  abbrev B : Map
+  B = map_of b
+
+  off-axes : (n : Vector) → AreOff ds n → (d : Vector) → IsOnCircle n d → IsAxis A B d → ⊥
+  off-axes n off d o x = let e = X.all d x in off e.0 e.1 (level-same n d (vector_of e.0) (same-sym (vector_of e.0) d e.2) o.level)
+
+  axes-off : (n : Vector) → ((d : Vector) → IsOnCircle n d → IsAxis A B d → ⊥) → AreOff ds n
+  axes-off n off e c z = off (vector_of e) (record { direction = e.some; level = z }) (X.axis e c)
+
+  lone-of : (m : SphereMap) → IsSphereMap m → (s : SLoop) (n : Dir) → m.sloop ≡ Some s → s.normal ≡ n → AreOff ds (vector_of n)
+      → ((map_of m).loop ≡ Some (loop_of s) → (A.loop ≡ Some (loop_of s)) ⊎ (B.loop ≡ Some (loop_of s))) → IsLoneNormal A B n
+  lone-of m S s n e q off side =
+      let f = ap (option_map loop_of) e in let r = at-loop (map_of m).arcs (map_of m).loop (loop_of s) f in
+      record {
+        lone = loop_of s;
+        is_lone = (side f, off-axes (vector_of s.normal) (subst (λ (d : Dir). AreOff ds (vector_of d)) (sym q) off));
+        is_normal = ap vector_of (sym q);
+        small = subst (λ (d : Dir). IsAtMost normal_limit (vector_of d)) q (S.small.normals r.0 (loop_item (loop_of s)) r.1);
+        normal = subst (λ (d : Dir). IsNormal (vector_of d)) q (S.valid.shaped.normals r.0 (loop_item (loop_of s)) r.1);
+      }
+
+  pub lone-first : IsSphereMap a → (s : SLoop) (n : Dir) → a.sloop ≡ Some s → s.normal ≡ n → AreOff ds (vector_of n) → IsLoneNormal A B n
+  lone-first S s n e q off = lone-of a S s n e q off (λ f. inl f)
+
+  pub lone-second : IsSphereMap b → (s : SLoop) (n : Dir) → b.sloop ≡ Some s → s.normal ≡ n → AreOff ds (vector_of n) → IsLoneNormal A B n
+  lone-second S s n e q off = lone-of b S s n e q off (λ f. inr f)
+
+  pub lone-none : ((s : SLoop) → a.sloop ≡ Some s → AreOff ds (vector_of s.normal) → ⊥) → ((s : SLoop) → b.sloop ≡ Some s → AreOff ds (vector_of s.normal) → ⊥) → (l : Loop) → IsLoneLoop A B l → ⊥
+  lone-none f g l h = by h.0
+    where
+      by : (A.loop ≡ Some l) ⊎ (B.loop ≡ Some l) → ⊥
+      by (inl e) = let s = loop-from a.sloop l e in f s.0 s.1 (axes-off (vector_of s.0.normal) (subst (λ (k : Loop). (d : Vector) → IsOnCircle k.normal d → IsAxis A B d → ⊥) (sym s.2) h.1))
+      by (inr e) = let s = loop-from b.sloop l e in g s.0 s.1 (axes-off (vector_of s.0.normal) (subst (λ (k : Loop). (d : Vector) → IsOnCircle k.normal d → IsAxis A B d → ⊥) (sym s.2) h.1))
+
+-- ---- a map's labels along a circle
+module _ (m : SphereMap) (S : IsSphereMap m) (n : Dir) where
+  pub along-sloop : (s : SLoop) → m.sloop ≡ Some s → s.normal ≡ n → HasLabels (map_of m) (vector_of n) s
+  along-sloop s e q = let f = ap (option_map loop_of) e in subst (λ (d : Dir). HasLabels (map_of m) (vector_of d) s) q (record {
+    mark = loop-mark (map_of m) S.valid (loop_of s) f;
+    above = loop-above (map_of m) S.valid (loop_of s) f;
+    below = loop-below (map_of m) S.valid (loop_of s) f;
+  })
+
+  pub along-face : IsNormal (vector_of n) → IsUncrossed (map_of m) (vector_of n) → ((s : SLoop) → m.sloop ≡ Some s → s.normal ≡ n → ⊥)
+      → (d : Vector) (k : Label) → IsOnCircle (vector_of n) d → MapLabel (map_of m) d k → (l : SLoop) → l.mark ≡ k → l.pos ≡ k → l.neg ≡ k → HasLabels (map_of m) (vector_of n) l
+  along-face N U absent d k o a l em ep en = record {
+    mark = λ e p. subst (MapLabel (map_of m) e) (sym em) (one-label (map_of m) S.valid (vector_of n) n.some free d e k o p a);
+    above = λ e p. subst (NearLabel (map_of m) e (vector_of n)) (sym ep) (near-circle (map_of m) S.valid (vector_of n) n.some free d e (vector_of n) k o p a);
+    below = λ e p. subst (NearLabel (map_of m) e (opposite (vector_of n))) (sym en) (near-circle (map_of m) S.valid (vector_of n) n.some free d e (opposite (vector_of n)) k o p a);
+  }
+    where
+      none-there : (c : Loop) → (map_of m).loop ≡ Some c → c.normal ≡ vector_of n → ⊥
+      none-there c e q = let s = loop-from m.sloop c e in absent s.0 s.1 (dir-equal s.0.normal n (ap (λ (x : Loop). x.normal) s.2 ∙ q))
+
+      free : (e : Vector) → IsOnCircle (vector_of n) e → IsFree (map_of m) e
+      free = free-circle (map_of m) S.valid S.ordered (vector_of n) N (dir-primitive n) U none-there
+
+-- ---- both maps' labels
+module _ (A B : Map) (op : Label → Label → Label) (n : Dir) where
+  pub along-both : (p q l : SLoop) → HasLabels A (vector_of n) p → HasLabels B (vector_of n) q → l.mark ≡ op p.mark q.mark → l.pos ≡ op p.pos q.pos → l.neg ≡ op p.neg q.neg → HasOpLabels A B op (vector_of n) l
+  along-both p q l P Q em ep en = record {
+    mark = λ d o. (p.mark, q.mark, P.mark d o, Q.mark d o, sym em);
+    above = λ d o. (p.pos, q.pos, P.above d o, Q.above d o, sym ep);
+    below = λ d o. (p.neg, q.neg, P.below d o, Q.below d o, sym en);
+  }
+
+  pub merged-loop : (l : SLoop) → IsLoneNormal A B n → l.normal ≡ n → HasOpLabels A B op (vector_of n) l → IsMergedLoop A B op (loop_of l)
+  merged-loop l L q H = let G = subst (λ (d : Dir). HasOpLabels A B op (vector_of d) l) (sym q) H in record {
+    lone = L.lone;
+    is_lone = L.is_lone;
+    normal = ap vector_of q ∙ L.is_normal;
+    lowest = dir-primitive l.normal;
+    mark = G.mark;
+    above = G.above;
+    below = G.below;
+  }
+
+module _ (a b : SphereMap) (S : IsSphereMap a) (T : IsSphereMap b) (n : Dir) (L : IsLoneNormal (map_of a) (map_of b) n) where
+  pub lone-uncrossed_a : IsUncrossed (map_of a) (vector_of n)
+  lone-uncrossed_a = let h = L.is_lone in subst (IsUncrossed (map_of a)) (sym L.is_normal) (uncrossed-a (map_of a) (map_of b) S.valid T.valid L.lone h.1 h.0)
+
+  pub lone-uncrossed_b : IsUncrossed (map_of b) (vector_of n)
+  lone-uncrossed_b = let h = L.is_lone in subst (IsUncrossed (map_of b)) (sym L.is_normal) (uncrossed-b (map_of a) (map_of b) S.valid T.valid L.lone h.1 h.0)
+
+-- ---- a direction on a circle
+beside-level : (n : Vector) → dot n (vector (pos 0) n.z (neg_ℤ n.y)) ≡ pos 0
+beside-level n = ring (n.x ∷ n.y ∷ n.z ∷ []) (at 0 ⊗ num (pos 0) ⊕ at 1 ⊗ at 2 ⊕ at 2 ⊗ neg (at 1)) (num (pos 0)) tt
+
+across-level : (n : Vector) → dot n (vector (neg_ℤ n.z) (pos 0) n.x) ≡ pos 0
+across-level n = ring (n.x ∷ n.y ∷ n.z ∷ []) (at 0 ⊗ neg (at 2) ⊕ at 1 ⊗ num (pos 0) ⊕ at 2 ⊗ at 0) (num (pos 0)) tt
+
+level-on : (n d : Vector) (e : Dir) → dot n d ≡ pos 0 → SameDirection d (vector_of e) → IsOnCircle n (vector_of e)
+level-on n d e z s = record { direction = e.some; level = level-same n d (vector_of e) s z }
+
+pub beside-on : (n : Vector) (z y : ℤ) (e : Dir) → z ≡ n.z → y ≡ neg_ℤ n.y → SameDirection (vector (pos 0) z y) (vector_of e) → IsOnCircle n (vector_of e)
+beside-on n z y e p q s = level-on n (vector (pos 0) z y) e (ap (λ r. dot n (vector (pos 0) r y)) p ∙ ap (λ r. dot n (vector (pos 0) n.z r)) q ∙ beside-level n) s
+
+pub across-on : (n : Vector) (z x : ℤ) (e : Dir) → z ≡ neg_ℤ n.z → x ≡ n.x → SameDirection (vector z (pos 0) x) (vector_of e) → IsOnCircle n (vector_of e)
+across-on n z x e p q s = level-on n (vector z (pos 0) x) e (ap (λ r. dot n (vector r (pos 0) x)) p ∙ ap (λ r. dot n (vector (neg_ℤ n.z) (pos 0) r)) q ∙ across-level n) s
+
+still-small : (x y : ℤ) → y ≡ x → nat_abs x ≤ normal_limit → nat_abs y ≤ svertex_limit
+still-small x y e h = subst (λ r. nat_abs r ≤ svertex_limit) (sym e) (omega (arith, h))
+
+turned-small : (x y : ℤ) → y ≡ neg_ℤ x → nat_abs x ≤ normal_limit → nat_abs y ≤ svertex_limit
+turned-small x y e h = let k = small-neg normal_limit x y e h in omega (arith, k)
+
+pub beside-small : (n : Vector) (z y : ℤ) → IsAtMost normal_limit n → z ≡ n.z → y ≡ neg_ℤ n.y → IsAtMost svertex_limit (vector (pos 0) z y)
+beside-small n z y s p q = record { of_x = omega arith; of_y = still-small n.z z p s.of_z; of_z = turned-small n.y y q s.of_y }
+
+pub across-small : (n : Vector) (z x : ℤ) → IsAtMost normal_limit n → z ≡ neg_ℤ n.z → x ≡ n.x → IsAtMost svertex_limit (vector z (pos 0) x)
+across-small n z x s p q = record { of_x = turned-small n.z z p s.of_z; of_y = omega arith; of_z = still-small n.x x q s.of_x }
+
+-- what the machine makes of a direction's number, and of its negation
+pub number-read : (r x : ℤ) → r ≡ x → nat_abs x ≤ direction_limit → to_z w64 (of_z w64 r) ≡ x
+number-read r x e h = kept r (subst (λ i. nat_abs i ≤ point_limit) (sym e) (omega (arith, h))) ∙ e
+
+pub number-turned : (r x : ℤ) → r ≡ x → nat_abs x ≤ direction_limit → to_z w64 (of_z w64 (pos 0 -ℤ to_z w64 (of_z w64 r))) ≡ neg_ℤ x
+number-turned r x e h = negated r (subst (λ i. nat_abs i ≤ direction_limit) (sym e) h) ∙ ap neg_ℤ e

@@ -1,0 +1,33 @@
+-- The items of a map as the program has them, without labels.
+use Rattle.std.specs.Prelude.{◌≡◌, ◌↔◌, ℕ, List}
+use Rattle.std.specs.List.{AllZip}
+use Rattle.nef_space.specs.Limits.{normal_limit}
+use Rattle.nef_space.specs.Vectors.{Vector, IsAtMost}
+use Rattle.nef_cyclic.specs.Arcs.{IsOnCircle}
+use Rattle.nef_geo.specs.Shapes.{vector_of}
+use Rattle.nef_arc.specs.Arcs.{normal_vector, IsOn}
+use Rattle.nef_sphere.specs.Maps.{At, Map, Item as PlainItem, items, item_normal, OnItem}
+use Rattle.nef_sover.specs.declared.items.Item.{Item}
+use Rattle.nef_sover.specs.declared.items.Item.TheVariants.{Arc, Sloop}
+
+abbrev pub normal_of : Item → Vector
+normal_of (Arc a) = normal_vector a
+normal_of (Sloop n) = vector_of n
+
+-- the direction is strictly on the arc, or on the sloop
+abbrev pub LiesOn : Item → Vector → Type 0
+LiesOn (Arc a) d = IsOn a d
+LiesOn (Sloop n) d = IsOnCircle (vector_of n) d
+
+-- i has the normal and the directions of the item x of the map
+pub record IsItemOf (M : Map) (i : Item) (x : PlainItem) : Type 0 where
+  pub normal : normal_of i ≡ item_normal x
+  pub on : (d : Vector) → LiesOn i d ↔ OnItem M x d
+
+-- the items of the map by their numbers
+abbrev pub AreItems : Map → List Item → Type 0
+AreItems M is = AllZip (IsItemOf M) is (items M)
+
+-- the normals are within their limit
+abbrev pub AreSmall : List Item → Type 0
+AreSmall is = (k : ℕ) (i : Item) → At is k i → IsAtMost normal_limit (normal_of i)

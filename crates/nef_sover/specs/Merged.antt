@@ -1,0 +1,24 @@
+-- The stars of two maps, merged.
+use Rattle.std.specs.Prelude.{◌≡◌, List}
+use Rattle.std.specs.List.{AllZip}
+use Rattle.nef_space.specs.Vectors.{Vector, IsDirection, cross}
+use Rattle.nef_space.specs.declared.label.Label.{Label}
+use Rattle.nef_geo.specs.Shapes.{vector_of}
+use Rattle.nef_geo.specs.declared.dir.Dir.{Dir}
+use Rattle.nef_sphere.specs.Maps.{Map}
+use Rattle.nef_sphere.specs.Stars.{StarLabel}
+use Rattle.nef_sphere.specs.Labelling.{ByOp}
+use Rattle.nef_build.specs.Overlays.{NearByOp}
+use Rattle.nef_star.specs.declared.star.Star.{Star}
+use Rattle.nef_star.specs.Stars.{star_of, IsStar}
+
+-- t has the axis d, and op of both maps' labels on it and near it
+pub record IsMergedAt (A B : Map) (op : Label → Label → Label) (d : Dir) (t : Star) : Type 0 where
+  pub star : IsStar t
+  pub axis : t.axis ≡ d
+  pub mark : ByOp A B op (vector_of d) t.mark
+  pub labels : (e : Vector) (l : Label) → IsDirection (cross (vector_of d) e) → StarLabel (star_of t) e l → NearByOp A B op (vector_of d) e l
+
+-- one star for each direction, in the same order
+abbrev pub AreMerged : Map → Map → (Label → Label → Label) → List Dir → List Star → Type 0
+AreMerged A B op ds ts = AllZip (λ (t : Star) (d : Dir). IsMergedAt A B op d t) ts ds

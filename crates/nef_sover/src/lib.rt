@@ -1,0 +1,13 @@
+//! Two sphere maps overlaid: the stars of all directions that may be svertices of a combination of the two.
+#![tactic(auto)]
+
+mod axes;
+mod circle;
+mod items;
+mod overlaid;
+mod stars;
+#[cfg(test)]
+mod tests;
+
+pub use nef_smap::OutOfMemory;
+pub use overlaid::overlay;

@@ -1,0 +1,57 @@
+-- What is built of raw stars is the one least map with their mark and labels.
+use Rattle.std.proofs.Common.{◌≡◌, ◌↔◌, List, ◌++◌, sym, ap, subst, ◌∙◌}
+use Rattle.nef_space.specs.Vectors.{Vector, IsDirection}
+use Rattle.nef_space.specs.declared.label.Label.{Label}
+use Rattle.nef_sphere.specs.Maps.{Map, MapLabel, Valid}
+use Rattle.nef_sphere.specs.Least.{Least, SameLabels, Ordered}
+use Rattle.nef_sphere.specs.Forms.{forms}
+use Rattle.nef_sphere.specs.Labelling.{ByOp}
+use Rattle.nef_sphere.proofs.Labels.{label-unique}
+use Rattle.nef_sphere.proofs.Equal.{least-unique}
+use Rattle.nef_build.specs.Raw.{IsLabelling, IsRawOf}
+use Rattle.nef_build.specs.Overlays.{Raw}
+use Rattle.nef_build.proofs.KeptStars.{kept-show}
+use Rattle.nef_build.proofs.BuiltKept.{from-stars}
+use Rattle.nef_build.proofs.Chosen.{op-labels}
+use Rattle.nef_build.proofs.RawFaces.{raw-shows_op}
+use Rattle.nef_smap.specs.declared.map.RawStars.{RawStars}
+use Rattle.nef_smap.specs.declared.map.SphereMap.{SphereMap}
+use Rattle.nef_smap.specs.Maps.{map_of, raw_of, IsLeastMap, IsRawStars}
+use Rattle.nef_spair.specs.Made.{IsMadeFrom}
+use Rattle.nef_spair.proofs.Built.{kept-raw, all-stars, all-simplified}
+use Rattle.nef_spair.proofs.FromParts.{built-from, small}
+
+-- some labels that the raw stars show
+abbrev pub HasLabels : RawStars → Type 0
+HasLabels r = (gs : List Vector) × (L : Vector → Label) × IsLabelling gs L × IsRawOf (raw_of r) L
+
+module _ (r : RawStars) (m : SphereMap) (w : IsMadeFrom r m) where
+  built : (gs : List Vector) (L : Vector → Label) → IsLabelling gs L → IsRawOf (raw_of r) L → Valid (map_of m) × Least (map_of m) × Ordered (map_of m) × ((d : Vector) → IsDirection d → MapLabel (map_of m) d (L d))
+  built gs L l raw =
+      let shown = kept-show (raw_of r) (raw_of w.simple) L raw (kept-raw r w.simple w.stars w.mark w.sloop w.ground) in
+      from-stars gs L (raw_of w.simple) (map_of m) l shown (all-simplified r w.simple w.stars) (built-from w.simple w.parts m w.are_parts w.made shown)
+
+  pub built-labels : (gs : List Vector) (L : Vector → Label) → IsLabelling gs L → IsRawOf (raw_of r) L → (d : Vector) → IsDirection d → MapLabel (map_of m) d (L d)
+  built-labels gs L l raw = let b = built gs L l raw in b.3
+
+  module _ (h : HasLabels r) where
+    pub built-least : IsRawStars r → IsLeastMap m
+    built-least raw =
+        let b = built h.0 h.1 h.2 h.3 in
+        record {
+          sphere_map = record { valid = b.0; ordered = b.2; small = small w.simple w.parts m w.are_parts w.made (all-stars r w.simple w.stars) (λ l e. raw.circle_small l (sym w.sloop ∙ e)) };
+          least = b.1;
+        }
+
+    pub built-only : (N : Map) → Valid N → Least N → Ordered N → N.mark ≡ r.mark → SameLabels (map_of m) N → map_of m ≡ N
+    built-only N V L O e s = let b = built h.0 h.1 h.2 h.3 in least-unique (map_of m) N b.0 V b.2 O b.1 L (let made = w.made in let parts = w.are_parts in made.mark ∙ parts.mark ∙ w.mark ∙ sym e) s
+
+  pub built-op : (A B : Map) (op : Label → Label → Label) → Valid A → Valid B → Raw (raw_of r) A B op → (d : Vector) (l : Label) → IsDirection d → MapLabel (map_of m) d l ↔ ByOp A B op d l
+  built-op A B op V W raw d l h =
+      let o = op-labels A B op V W in
+      let b = built (forms A ++ forms B) o.0 o.1 (raw-shows_op A B op (raw_of r) o.0 V W raw o.2) in let here = b.3 d h in let by = o.2 d h in (
+        λ x. subst (ByOp A B op d) (label-unique (map_of m) b.0 d (o.0 d) l here x) by,
+        λ y.
+            let k = label-unique A V d by.0 y.0 by.2 y.2 in let j = label-unique B W d by.1 y.1 by.3 y.3 in
+            subst (MapLabel (map_of m) d) (sym by.4 ∙ ap (λ (x : Label). op x by.1) k ∙ ap (op y.0) j ∙ y.4) here,
+      )

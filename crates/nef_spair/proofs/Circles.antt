@@ -1,0 +1,38 @@
+-- Circles that no star has its axis on, star by star and circle by circle.
+use Rattle.std.proofs.Common.{◌≡◌, ℕ, ◌+◌, ◌<◌, ◌≤◌, pos, List, length, map, arith, sym, subst, inl, inr}
+use Rattle.std.proofs.Math.Nat.{eq-or-lt_of_le}
+use Rattle.nef_space.specs.Vectors.{Vector, dot}
+use Rattle.nef_geo.specs.Shapes.{vector_of}
+use Rattle.nef_sphere.specs.Maps.{At}
+use Rattle.nef_sphere.specs.Stars.{Star as PlainStar}
+use Rattle.nef_sphere.proofs.Lists.{at-one}
+use Rattle.nef_build.specs.Raw.{IsBare}
+use Rattle.nef_star.specs.declared.star.Star.{Star}
+use Rattle.nef_star.specs.Stars.{star_of}
+use Rattle.nef_smap.proofs.Lists.{at-map, map-at, at-within}
+
+-- P fails at each of the first k elements
+abbrev pub NoneUpTo : {A : Type 0} → (A → Type 0) → List A → ℕ → Type 0
+NoneUpTo {A} P xs k = (i : ℕ) (x : A) → i < k → At xs i x → P x → ⊥
+
+pub none-more : {A : Type 0} (P : A → Type 0) (xs : List A) (k : ℕ) (x : A) → At xs k x → NoneUpTo P xs k → (P x → ⊥) → NoneUpTo P xs (k + 1)
+none-more P xs k x a w n i y h b p =
+    elim (eq-or-lt_of_le {n = i} {m = k} (omega (arith, h))) [
+      | inl e ↦ n (subst P (at-one xs k y x (subst (λ (j : ℕ). At xs j y) e b) a) p)
+      | inr l ↦ w i y l b p
+    ]
+
+pub none-all : {A : Type 0} (P : A → Type 0) (xs : List A) (k : ℕ) → length xs ≤ k → NoneUpTo P xs k → (i : ℕ) (x : A) → At xs i x → P x → ⊥
+none-all P xs k h w i x a p = w i x (omega (arith, h, at-within xs i x a)) a p
+
+-- ---- stars on a circle
+abbrev pub IsLevel : Vector → Star → Type 0
+IsLevel n t = dot n (vector_of t.axis) ≡ pos 0
+
+pub bare-all : (kept : List Star) (n : Vector) (k : ℕ) → length kept ≤ k → NoneUpTo (IsLevel n) kept k → IsBare (map star_of kept) n
+bare-all kept n k h w i s a e =
+    let t = at-map star_of kept i s a in
+    none-all (IsLevel n) kept k h w i t.0 t.1 (subst (λ (x : PlainStar). dot n x.axis ≡ pos 0) (sym t.2) e)
+
+pub not-bare : (kept : List Star) (n : Vector) (k : ℕ) (t : Star) → At kept k t → IsLevel n t → IsBare (map star_of kept) n → ⊥
+not-bare kept n k t a e b = b k (star_of t) (map-at star_of kept k t a) e

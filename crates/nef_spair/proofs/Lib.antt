@@ -1,0 +1,13 @@
+pub mod OneKind
+pub mod Places
+pub mod Simple
+pub mod Parting
+pub mod Firsts
+pub mod Leaving
+pub mod ArcOrder
+pub mod Circles
+pub mod Sorted
+pub mod Built
+pub mod FromParts
+pub mod Answered
+pub mod Samples

@@ -1,0 +1,191 @@
+-- A map has one kind, and what its fields say of it.
+use Rattle.std.proofs.Common.{◌≡◌, ℤ, pos, negsuc, neg_ℤ, List, [], ◌∷◌, length, map, slice_get, Option, Some, None, option_map, arith, refl, sym, ap, subst, ◌∙◌}
+use Rattle.std.proofs.lemmas.Int.{ints}
+use Rattle.nef_exact.proofs.Ring.{ring, at, num, neg, ◌⊕◌, ◌⊖◌, ◌⊗◌}
+use Rattle.nef_exact.proofs.Combination.{follows, given, none}
+use Rattle.nef_space.specs.Place.{Place}
+use Rattle.nef_space.specs.Sets.{Set}
+use Rattle.nef_space.specs.Vectors.{Vector, dot, opposite, IsDirection, SameDirection, IsOpposite}
+use Rattle.nef_geo.specs.Shapes.{vector_of}
+use Rattle.nef_geo.specs.declared.dir.Dir.{Dir}
+use Rattle.nef_geo.proofs.Directions.{dot-itself}
+use Rattle.nef_geo.proofs.Unique.{same_directions_equal}
+use Rattle.nef_sphere.specs.Maps.{Map, Svertex, Loop}
+use Rattle.nef_sphere.specs.Least.{Least, Cone}
+use Rattle.nef_sphere.specs.Kinds.{IsInVolume, IsInFacet, IsOnEdge}
+use Rattle.nef_sphere.proofs.Kind.{flat-parallel}
+use Rattle.nef_sphere.proofs.KindFlats.{facet-flat, facet-only}
+use Rattle.nef_sphere.proofs.KindLaws.{KindOf, of_volume, of_facet, of_edge, edge-flat, edge-only, edge-direction}
+use Rattle.nef_sphere.proofs.Dimensions.{map-flat, flat-map, volume-dimension, facet-dimension, edge-dimension, vertex-dimension}
+use Rattle.nef_smap.specs.declared.map.SVertex.{SVertex}
+use Rattle.nef_smap.specs.declared.map.SLoop.{SLoop}
+use Rattle.nef_smap.specs.declared.map.SphereMap.{SphereMap}
+use Rattle.nef_smap.specs.Maps.{svertex_of, loop_of, map_of}
+use Rattle.nef_smap.proofs.WellFormed.{dir-equal}
+use Rattle.nef_spair.specs.declared.answer.Kind.{Kind}
+use Rattle.nef_spair.specs.declared.answer.Kind.TheVariants.{Vertex, OnEdge, InFacet, InVolume}
+use Rattle.nef_spair.specs.Kinds.{IsVertex, IsKind, KindFits}
+
+-- ---- no two kinds
+module _ (M : Map) where
+  volume-facet : (n : Vector) → IsInVolume M → IsInFacet M n → ⊥
+  volume-facet n v f = let e : None ≡ Some f.loop = sym v.no_loop ∙ f.has_loop in cc
+
+  volume-edge : (d : Vector) → IsInVolume M → IsOnEdge M d → ⊥
+  volume-edge d v e = let i : [] ≡ e.first ∷ e.second ∷ [] = sym v.no_svertex ∙ e.two_svertices in cc
+
+  facet-edge : (n d : Vector) → IsInFacet M n → IsOnEdge M d → ⊥
+  facet-edge n d f e = let i : [] ≡ e.first ∷ e.second ∷ [] = sym f.no_svertex ∙ e.two_svertices in cc
+
+  one-facet : (n m : Vector) → IsInFacet M n → IsInFacet M m → n ≡ m
+  one-facet n m f g = let i : Some f.loop ≡ Some g.loop = sym f.has_loop ∙ g.has_loop in let l : f.loop ≡ g.loop = cc in sym f.normal ∙ ap (λ (l : Loop). l.normal) l ∙ g.normal
+
+  one-edge : (d e : Vector) → IsOnEdge M d → IsOnEdge M e → d ≡ e
+  one-edge d e f g =
+      let i : f.first ∷ f.second ∷ [] ≡ g.first ∷ g.second ∷ [] = sym f.two_svertices ∙ g.two_svertices in let s : f.second ≡ g.second = cc in
+      sym f.named ∙ ap (λ (v : Svertex). v.way) s ∙ g.named
+
+  pub one-kind : (k l : Kind) → IsKind M k → IsKind M l → k ≡ l
+  one-kind Vertex Vertex h i = refl
+  one-kind Vertex (OnEdge d) h i = absurd (h.no_edge (vector_of d) i)
+  one-kind Vertex (InFacet n) h i = absurd (h.no_facet (vector_of n) i)
+  one-kind Vertex InVolume h i = absurd (h.no_volume i)
+  one-kind (OnEdge d) Vertex h i = absurd (i.no_edge (vector_of d) h)
+  one-kind (OnEdge d) (OnEdge e) h i = ap OnEdge (dir-equal d e (one-edge (vector_of d) (vector_of e) h i))
+  one-kind (OnEdge d) (InFacet n) h i = absurd (facet-edge (vector_of n) (vector_of d) i h)
+  one-kind (OnEdge d) InVolume h i = absurd (volume-edge (vector_of d) i h)
+  one-kind (InFacet n) Vertex h i = absurd (i.no_facet (vector_of n) h)
+  one-kind (InFacet n) (OnEdge d) h i = absurd (facet-edge (vector_of n) (vector_of d) h i)
+  one-kind (InFacet n) (InFacet m) h i = ap InFacet (dir-equal n m (one-facet (vector_of n) (vector_of m) h i))
+  one-kind (InFacet n) InVolume h i = absurd (volume-facet (vector_of n) i h)
+  one-kind InVolume Vertex h i = absurd (i.no_volume h)
+  one-kind InVolume (OnEdge d) h i = absurd (volume-edge (vector_of d) h i)
+  one-kind InVolume (InFacet n) h i = absurd (volume-facet (vector_of n) h i)
+  one-kind InVolume InVolume h i = refl
+
+  -- k is the kind, and the only one
+  pub exactly : (k : Kind) → IsKind M k → (l : Kind) → (IsKind M l → k ≡ l) × (k ≡ l → IsKind M l)
+  exactly k h l = (one-kind k l h, λ e. subst (IsKind M) e h)
+
+  -- ---- what each kind says of the flat directions
+  neither : IsVertex M → KindOf M → ⊥
+  neither v (of_volume h) = v.no_volume h
+  neither v (of_facet n h) = v.no_facet n h
+  neither v (of_edge d h) = v.no_edge d h
+
+  pub fits : (k : Kind) → IsKind M k → Least M → (s : Set) (p : Place) → Cone M s p → KindFits k s p
+  fits Vertex h L s p C = vertex-dimension M s p C L (neither h)
+  fits (OnEdge d) h L s p C = (
+    edge-dimension M s p C L (vector_of d) h,
+    λ e. (λ f. edge-only M C.valid L (vector_of d) h e (map-flat M s p C e f), λ z. flat-map M s p C e (flat-parallel M C.valid (vector_of d) e (edge-direction M C.valid (vector_of d) h) z (edge-flat M C.valid (vector_of d) h))),
+  )
+  fits (InFacet n) h L s p C = (
+    facet-dimension M s p C L (vector_of n) h,
+    λ d. (λ f. facet-only M C.valid L (vector_of n) h d (map-flat M s p C d f), λ z. flat-map M s p C d (facet-flat M C.valid (vector_of n) h d z)),
+  )
+  fits InVolume h L s p C = volume-dimension M s p C h
+
+-- ---- what the fields of a map say
+pub none-made : (vs : List SVertex) → vs ≡ [] → map svertex_of vs ≡ []
+none-made vs e = ap (map svertex_of) e
+
+pub none-was : (vs : List SVertex) → map svertex_of vs ≡ [] → vs ≡ []
+none-was [] e = refl
+none-was (v ∷ vs) e = let i : svertex_of v ∷ map svertex_of vs ≡ [] = e in absurd (cc)
+
+pub two-were : (vs : List SVertex) (v w : Svertex) → map svertex_of vs ≡ v ∷ w ∷ [] → (a : SVertex) × (b : SVertex) × (vs ≡ a ∷ b ∷ []) × (svertex_of a ≡ v) × (svertex_of b ≡ w)
+two-were [] v w e = absurd (cc)
+two-were (a ∷ []) v w e = let i : svertex_of a ∷ [] ≡ v ∷ w ∷ [] = e in absurd (cc)
+two-were (a ∷ b ∷ []) v w e = let i : svertex_of a ∷ svertex_of b ∷ [] ≡ v ∷ w ∷ [] = e in (a, b, refl, cc, cc)
+two-were (a ∷ b ∷ c ∷ vs) v w e = let i : svertex_of a ∷ svertex_of b ∷ svertex_of c ∷ map svertex_of vs ≡ v ∷ w ∷ [] = e in absurd (cc)
+
+pub no-loop-was : (o : Option SLoop) → option_map loop_of o ≡ None → o ≡ None
+no-loop-was None e = refl
+no-loop-was (Some l) e = let i : Some (loop_of l) ≡ None = e in absurd (cc)
+
+pub loop-was : (o : Option SLoop) (l : Loop) → option_map loop_of o ≡ Some l → (c : SLoop) × (o ≡ Some c) × (loop_of c ≡ l)
+loop-was None l e = let i : None ≡ Some l = e in absurd (cc)
+loop-was (Some c) l e = let i : Some (loop_of c) ≡ Some l = e in (c, refl, cc)
+
+module _ (m : SphereMap) where
+  pub volume-then : IsInVolume (map_of m) → (m.svertices ≡ []) × (m.sloop ≡ None) × (m.ground ≡ Some m.mark)
+  volume-then v = (none-was m.svertices v.no_svertex, no-loop-was m.sloop v.no_loop, v.same_mark)
+
+  pub facet-then : (n : Vector) → IsInFacet (map_of m) n → (l : SLoop) × (m.svertices ≡ []) × (m.sloop ≡ Some l) × (l.mark ≡ m.mark)
+  facet-then n f = let l = loop-was m.sloop f.loop f.has_loop in (l.0, none-was m.svertices f.no_svertex, l.1, ap (λ (c : Loop). c.mark) l.2 ∙ f.same_mark)
+
+  pub edge-if : (a b : SVertex) → m.svertices ≡ a ∷ b ∷ [] → m.sloop ≡ None → a.mark ≡ m.mark → b.mark ≡ m.mark → IsOpposite (vector_of a.dir) (vector_of b.dir) → IsOnEdge (map_of m) (vector_of b.dir)
+  edge-if a b e f g h o = record {
+    first = svertex_of a;
+    second = svertex_of b;
+    two_svertices = ap (map svertex_of) e;
+    opposite = o;
+    first_mark = g;
+    second_mark = h;
+    no_loop = ap (option_map loop_of) f;
+    named = refl;
+  }
+
+  pub edge-then : (d : Vector) → IsOnEdge (map_of m) d → (a : SVertex) × (b : SVertex) × (m.svertices ≡ a ∷ b ∷ []) × (m.sloop ≡ None) × (a.mark ≡ m.mark) × (b.mark ≡ m.mark) × IsOpposite (vector_of a.dir) (vector_of b.dir)
+  edge-then d e =
+      let t = two-were m.svertices e.first e.second e.two_svertices in (
+        t.0,
+        t.1,
+        t.2,
+        no-loop-was m.sloop e.no_loop,
+        ap (λ (v : Svertex). v.mark) t.3 ∙ e.first_mark,
+        ap (λ (v : Svertex). v.mark) t.4 ∙ e.second_mark,
+        subst (λ (v : Svertex). IsOpposite (vector_of t.0.dir) v.way) (sym t.4) (subst (λ (v : Svertex). IsOpposite v.way e.second.way) (sym t.3) e.opposite),
+      )
+
+  pub edge-fields : (d : Vector) → IsOnEdge (map_of m) d → (a b : SVertex) → m.svertices ≡ a ∷ b ∷ [] → (a.mark ≡ m.mark) × (b.mark ≡ m.mark) × IsOpposite (vector_of a.dir) (vector_of b.dir)
+  edge-fields d e a b two =
+      let t = edge-then d e in
+      let both : a ∷ b ∷ [] ≡ t.0 ∷ t.1 ∷ [] = sym two ∙ t.2 in
+      let i : a ≡ t.0 = cc in let j : b ≡ t.1 = cc in (
+        ap (λ (v : SVertex). v.mark) i ∙ t.4,
+        ap (λ (v : SVertex). v.mark) j ∙ t.5,
+        subst (λ (v : SVertex). IsOpposite (vector_of a.dir) (vector_of v.dir)) (sym j) (subst (λ (v : SVertex). IsOpposite (vector_of v.dir) (vector_of t.1.dir)) (sym i) t.6),
+      )
+
+pub two-listed : {A : Type 0} (xs : List A) (a b : A) → length xs ≡ 2 → slice_get xs 0 ≡ Some a → slice_get xs 1 ≡ Some b → xs ≡ a ∷ b ∷ []
+two-listed [] a b n e f = absurd (omega (arith, n))
+two-listed (x ∷ []) a b n e f = absurd (omega (arith, n))
+two-listed (x ∷ y ∷ []) a b n e f = let g : Some x ≡ Some a = e in let h : Some y ≡ Some b = f in let i : x ≡ a = cc in let j : y ≡ b = cc in rw (i, j) refl
+two-listed (x ∷ y ∷ z ∷ xs) a b n e f = absurd (omega (arith, n))
+
+-- ---- opposite directions
+abbrev both : Vector → Vector → List ℤ
+both u v = u.x ∷ u.y ∷ u.z ∷ v.x ∷ v.y ∷ v.z ∷ []
+
+pub back-opposite : (v : Vector) → IsDirection v → IsOpposite v (opposite v)
+back-opposite v h = record {
+  parallel = (
+    ring (both v v) (at 1 ⊗ neg (at 2) ⊖ at 2 ⊗ neg (at 1)) (num (pos 0)) tt,
+    ring (both v v) (at 2 ⊗ neg (at 0) ⊖ at 0 ⊗ neg (at 2)) (num (pos 0)) tt,
+    ring (both v v) (at 0 ⊗ neg (at 1) ⊖ at 1 ⊗ neg (at 0)) (num (pos 0)) tt,
+  );
+  backward =
+      let e : dot v (opposite v) ≡ neg_ℤ (dot v v) = ring (both v v) (at 0 ⊗ neg (at 0) ⊕ at 1 ⊗ neg (at 1) ⊕ at 2 ⊗ neg (at 2)) (neg (at 0 ⊗ at 0 ⊕ at 1 ⊗ at 1 ⊕ at 2 ⊗ at 2)) tt in
+      let p = dot-itself v h in omega (arith, ints, e, p);
+}
+
+back-same : (v e : Vector) → IsOpposite v e → SameDirection (opposite v) e
+back-same v e o =
+    let x = o.parallel.0 in let y = o.parallel.1 in let z = o.parallel.2 in let b = o.backward in
+    record {
+      parallel = (
+        follows (both v e) (neg (at 1) ⊗ at 5 ⊖ neg (at 2) ⊗ at 4) (num (pos 0)) (given (num (negsuc 0)) (at 1 ⊗ at 5 ⊖ at 2 ⊗ at 4) (num (pos 0)) x none) tt,
+        follows (both v e) (neg (at 2) ⊗ at 3 ⊖ neg (at 0) ⊗ at 5) (num (pos 0)) (given (num (negsuc 0)) (at 2 ⊗ at 3 ⊖ at 0 ⊗ at 5) (num (pos 0)) y none) tt,
+        follows (both v e) (neg (at 0) ⊗ at 4 ⊖ neg (at 1) ⊗ at 3) (num (pos 0)) (given (num (negsuc 0)) (at 0 ⊗ at 4 ⊖ at 1 ⊗ at 3) (num (pos 0)) z none) tt,
+      );
+      forward =
+          let f : dot (opposite v) e ≡ neg_ℤ (dot v e) = ring (both v e) (neg (at 0) ⊗ at 3 ⊕ neg (at 1) ⊗ at 4 ⊕ neg (at 2) ⊗ at 5) (neg (at 0 ⊗ at 3 ⊕ at 1 ⊗ at 4 ⊕ at 2 ⊗ at 5)) tt in
+          omega (arith, ints, f, b);
+    }
+
+pub opposite-if : (d b e : Dir) → vector_of b ≡ opposite (vector_of d) → b ≡ e → IsOpposite (vector_of d) (vector_of e)
+opposite-if d b e h i = subst (IsOpposite (vector_of d)) (sym h ∙ ap vector_of i) (back-opposite (vector_of d) d.some)
+
+pub opposite-then : (d b e : Dir) → vector_of b ≡ opposite (vector_of d) → IsOpposite (vector_of d) (vector_of e) → b ≡ e
+opposite-then d b e h o = same_directions_equal b e (subst (λ (v : Vector). SameDirection v (vector_of e)) (sym h) (back-same (vector_of d) (vector_of e) o))

@@ -1,0 +1,68 @@
+-- Circles of straight stars, one star after another, and what they and the kept stars are made of.
+use Rattle.std.proofs.Common.{◌≡◌, List, [], ◌∷◌, ◌++◌, length, map, get_or, sym, ap, subst, ◌∙◌, inl, inr}
+use Rattle.nef_space.specs.Limits.{normal_limit}
+use Rattle.nef_space.specs.Vectors.{Vector, IsAtMost}
+use Rattle.nef_space.specs.declared.label.Label.{Label}
+use Rattle.nef_space.specs.declared.label.Label.TheVariants.{Out}
+use Rattle.nef_geo.specs.Shapes.{vector_of}
+use Rattle.nef_sphere.specs.Maps.{Loop}
+use Rattle.nef_sphere.specs.Stars.{Ray as PlainRay, IsPlain, IsStraight}
+use Rattle.nef_build.specs.From.{loop_at}
+use Rattle.nef_star.specs.declared.star.Ray.{Ray}
+use Rattle.nef_star.specs.declared.star.Star.{Star}
+use Rattle.nef_star.specs.Stars.{ray_of, star_of}
+use Rattle.nef_smap.specs.declared.map.SLoop.{SLoop}
+use Rattle.nef_smap.specs.Maps.{loop_of}
+use Rattle.nef_spair.specs.Parts.{IsDropped, IsCircleOf, AreCircles}
+use Rattle.nef_spair.proofs.Places.{at-before, at-last, at-more, all-at, at-all}
+
+-- ---- the circle of a straight star
+loop-same : (l k : Loop) → l.normal ≡ k.normal → l.above ≡ k.above → l.mark ≡ k.mark → l.below ≡ k.below → l ≡ k
+loop-same l k a b c d =
+    ap (λ (x : Vector). let r : Loop = record { normal = x; above = l.above; mark = l.mark; below = l.below } in r) a
+    ∙ ap (λ (x : Label). let r : Loop = record { normal = k.normal; above = x; mark = l.mark; below = l.below } in r) b
+    ∙ ap (λ (x : Label). let r : Loop = record { normal = k.normal; above = k.above; mark = x; below = l.below } in r) c
+    ∙ ap (λ (x : Label). let r : Loop = record { normal = k.normal; above = k.above; mark = k.mark; below = x } in r) d
+
+first-ray : (rays : List Ray) (r : Ray) (p q : PlainRay) → map ray_of rays ≡ p ∷ q ∷ [] → r ≡ get_or rays 0 r → ray_of r ≡ p
+first-ray [] r p q e f = absurd (cc)
+first-ray (s ∷ rays) r p q e f = let i : ray_of s ∷ map ray_of rays ≡ p ∷ q ∷ [] = e in let j : ray_of s ≡ p = cc in ap ray_of f ∙ j
+
+pub circle-is : (t : Star) (s : IsStraight (star_of t)) (r : Ray) (c : SLoop) → r ≡ get_or t.rays.items 0 r → c.normal ≡ r.normal → c.mark ≡ t.mark
+    → c.pos ≡ get_or t.sectors.items 0 Out → c.neg ≡ get_or t.sectors.items 1 Out → loop_of c ≡ loop_at (star_of t) s
+circle-is t s r c e n m p q =
+    loop-same (loop_of c) (loop_at (star_of t) s) (ap vector_of n ∙ ap (λ (x : PlainRay). x.normal) (first-ray t.rays.items r s.first s.second s.two_rays e)) (p ∙ ap (λ (l : List Label). get_or l 0 Out) s.two_sectors) m
+    (q ∙ ap (λ (l : List Label). get_or l 1 Out) s.two_sectors)
+
+pub not-dropped : (t : Star) → (IsPlain (star_of t) → ⊥) → (IsStraight (star_of t) → ⊥) → IsDropped t → ⊥
+not-dropped t n m (inl p) = n p
+not-dropped t n m (inr s) = m s
+
+-- ---- the circles of more stars
+
+module _ (ts : List Star) (cs : List SLoop) (t : Star) (w : AreCircles ts cs) where
+  pub circles-more : (c : SLoop) → IsCircleOf (star_of t) (loop_of c) → IsAtMost normal_limit (vector_of c.normal) → AreCircles (ts ++ t ∷ []) (cs ++ c ∷ [])
+  circles-more c i small = record {
+    from = λ k d h.
+        elim (at-more cs c k d h) [
+          | inl a ↦ let f = w.from k d a in (f.0, f.1, at-before ts (t ∷ []) f.0 f.1 f.2, f.3)
+          | inr a ↦ (length ts, t, at-last ts t, subst (λ (x : SLoop). IsCircleOf (star_of t) (loop_of x)) a.1 i)
+        ];
+    all = λ j u h s.
+        elim (at-more ts t j u h) [
+          | inl a ↦ let f = w.all j u a s in (f.0, f.1, at-before cs (c ∷ []) f.0 f.1 f.2, f.3)
+          | inr a ↦ (length cs, c, at-last cs c, subst (λ (x : Star). IsCircleOf (star_of x) (loop_of c)) a.1 i)
+        ];
+    small = at-all (λ (x : SLoop). IsAtMost normal_limit (vector_of x.normal)) (cs ++ c ∷ []) (λ k d h.
+        elim (at-more cs c k d h) [
+          | inl a ↦ all-at (λ (x : SLoop). IsAtMost normal_limit (vector_of x.normal)) cs w.small k d a
+          | inr a ↦ subst (λ (x : SLoop). IsAtMost normal_limit (vector_of x.normal)) a.1 small
+        ]);
+  }
+
+  pub circles-same : (IsStraight (star_of t) → ⊥) → AreCircles (ts ++ t ∷ []) cs
+  circles-same n = record {
+    from = λ k d h. let f = w.from k d h in (f.0, f.1, at-before ts (t ∷ []) f.0 f.1 f.2, f.3);
+    all = λ j u h s. elim (at-more ts t j u h) [ inl a ↦ w.all j u a s | inr a ↦ absurd (n (subst (λ (x : Star). IsStraight (star_of x)) (sym a.1) s)) ];
+    small = w.small;
+  }

@@ -1,0 +1,76 @@
+-- Elements by their places in longer lists, and what is left of a list without some.
+use Rattle.std.proofs.Common.{◌≡◌, ℕ, zero, suc, ◌<◌, List, [], ◌∷◌, ◌++◌, length, get_or, slice_get, Some, None, arith, refl, sym, ap, subst, inl, inr, ◌⊎◌}
+use Rattle.std.specs.List.{All}
+use Rattle.nef_sphere.specs.Maps.{At}
+use Rattle.nef_smap.proofs.Lists.{at-within, at-get, get-at}
+use Rattle.nef_spair.specs.Parts.{AreOthers}
+
+module _ {A : Type 0} where
+  pub at-before : (xs ys : List A) (k : ℕ) (x : A) → At xs k x → At (xs ++ ys) k x
+  at-before [] ys k x h = absurd h
+  at-before (z ∷ zs) ys zero x h = h
+  at-before (z ∷ zs) ys (suc k) x h = at-before zs ys k x h
+
+  pub at-last : (xs : List A) (x : A) → At (xs ++ x ∷ []) (length xs) x
+  at-last [] x = refl
+  at-last (z ∷ zs) x = at-last zs x
+
+  pub at-more : (xs : List A) (y : A) (k : ℕ) (x : A) → At (xs ++ y ∷ []) k x → At xs k x ⊎ ((k ≡ length xs) × (y ≡ x))
+  at-more [] y zero x h = inr (refl, h)
+  at-more [] y (suc k) x h = absurd h
+  at-more (z ∷ zs) y zero x h = inl h
+  at-more (z ∷ zs) y (suc k) x h =
+      elim (at-more zs y k x h) as (λ u. At zs k x ⊎ ((suc k ≡ length (z ∷ zs)) × (y ≡ x))) [ inl i ↦ inl i | inr i ↦ inr (ap suc i.0, i.1) ]
+
+  pub all-at : (P : A → Type 0) (xs : List A) → All P xs → (k : ℕ) (x : A) → At xs k x → P x
+  all-at P xs a k x h = subst P (at-get xs k x x h) (a k x (at-within xs k x h))
+
+  pub at-all : (P : A → Type 0) (xs : List A) → ((k : ℕ) (x : A) → At xs k x → P x) → All P xs
+  at-all P xs a k d h = a k (get_or xs k d) (get-at xs k d h)
+
+  pub some-at : (xs : List A) (k : ℕ) (x : A) → slice_get xs k ≡ Some x → At xs k x
+  some-at [] k x e = let i : None ≡ Some x = e in absurd (cc)
+  some-at (z ∷ zs) zero x e = let i : Some z ≡ Some x = e in cc
+  some-at (z ∷ zs) (suc k) x e = some-at zs k x e
+
+  -- what indexing gives
+  pub index-at : (xs : List A) (k : ℕ) (x : A) → k < length xs → x ≡ get_or xs k x → At xs k x
+  index-at xs k x h e = subst (At xs k) (sym e) (get-at xs k x h)
+
+  -- ---- those of a list that P doesn't hold of
+  module _ (P : A → Type 0) where
+    pub others-keep : (xs ys : List A) (x : A) → AreOthers P xs ys → (P x → ⊥) → AreOthers P (xs ++ x ∷ []) (ys ++ x ∷ [])
+    others-keep [] ys x e n = inl (n, [], ap (λ (l : List A). l ++ x ∷ []) e, refl)
+    others-keep (z ∷ xs) ys x (inl (m, zs, e, r)) n = inl (m, zs ++ x ∷ [], ap (λ (l : List A). l ++ x ∷ []) e, others-keep xs zs x r n)
+    others-keep (z ∷ xs) ys x (inr (q, r)) n = inr (q, others-keep xs ys x r n)
+
+    pub others-leave : (xs ys : List A) (x : A) → AreOthers P xs ys → P x → AreOthers P (xs ++ x ∷ []) ys
+    others-leave [] ys x e p = inr (p, e)
+    others-leave (z ∷ xs) ys x (inl (m, zs, e, r)) p = inl (m, zs, e, others-leave xs zs x r p)
+    others-leave (z ∷ xs) ys x (inr (q, r)) p = inr (q, others-leave xs ys x r p)
+
+    pub others-from : (xs ys : List A) → AreOthers P xs ys → (k : ℕ) (y : A) → At ys k y → (j : ℕ) × At xs j y × (P y → ⊥)
+    others-from [] ys e k y h = absurd (subst (λ (l : List A). At l k y) e h)
+    others-from (x ∷ xs) ys (inl (n, zs, e, r)) zero y h = let i : x ≡ y = subst (λ (l : List A). At l 0 y) e h in (0, i, λ p. n (subst P (sym i) p))
+    others-from (x ∷ xs) ys (inl (n, zs, e, r)) (suc k) y h = let f = others-from xs zs r k y (subst (λ (l : List A). At l (suc k) y) e h) in (suc f.0, f.1, f.2)
+    others-from (x ∷ xs) ys (inr (p, r)) k y h = let f = others-from xs ys r k y h in (suc f.0, f.1, f.2)
+
+    pub others-all : (xs ys : List A) → AreOthers P xs ys → (j : ℕ) (x : A) → At xs j x → P x ⊎ ((k : ℕ) × At ys k x)
+    others-all [] ys e j x h = absurd h
+    others-all (z ∷ xs) ys (inl (n, zs, e, r)) zero x h = inr (0, subst (λ (l : List A). At l 0 x) (sym e) h)
+    others-all (z ∷ xs) ys (inl (n, zs, e, r)) (suc j) x h =
+        elim (others-all xs zs r j x h) [ inl p ↦ inl p | inr f ↦ inr (suc f.0, subst (λ (l : List A). At l (suc f.0) x) (sym e) f.1) ]
+    others-all (z ∷ xs) ys (inr (p, r)) zero x h = inl (subst P h p)
+    others-all (z ∷ xs) ys (inr (p, r)) (suc j) x h = others-all xs ys r j x h
+
+    -- two of them stand in the same order in both lists
+    pub others-in_order : (xs ys : List A) → AreOthers P xs ys → (i k : ℕ) (x y : A) → i < k → At ys i x → At ys k y → (j : ℕ) × (l : ℕ) × (j < l) × At xs j x × At xs l y
+    others-in_order [] ys e i k x y h a b = absurd (subst (λ (l : List A). At l i x) e a)
+    others-in_order (z ∷ xs) ys (inl (n, zs, e, r)) i zero x y h a b = absurd (omega arith)
+    others-in_order (z ∷ xs) ys (inl (n, zs, e, r)) zero (suc k) x y h a b =
+        let f = others-from xs zs r k y (subst (λ (l : List A). At l (suc k) y) e b) in
+        let first : z ≡ x = subst (λ (l : List A). At l 0 x) e a in (0, suc f.0, omega arith, first, f.1)
+    others-in_order (z ∷ xs) ys (inl (n, zs, e, r)) (suc i) (suc k) x y h a b =
+        let f = others-in_order xs zs r i k x y (omega arith) (subst (λ (l : List A). At l (suc i) x) e a) (subst (λ (l : List A). At l (suc k) y) e b) in
+        let up : suc f.0 < suc f.1 = omega (arith, f.2) in (suc f.0, suc f.1, up, f.3, f.4)
+    others-in_order (z ∷ xs) ys (inr (p, r)) i k x y h a b = let f = others-in_order xs ys r i k x y h a b in let up : suc f.0 < suc f.1 = omega (arith, f.2) in (suc f.0, suc f.1, up, f.3, f.4)

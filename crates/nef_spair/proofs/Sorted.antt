@@ -1,0 +1,16 @@
+-- Arcs that have been put in order are the same arcs.
+use Rattle.std.proofs.Common.{ℕ, List}
+use Rattle.std.specs.List.Sorted.{IsPermutation}
+use Rattle.nef_star.specs.declared.star.Star.{Star}
+use Rattle.nef_smap.specs.declared.map.SArc.{SArc}
+use Rattle.nef_spair.specs.Arcs.{AreArcs}
+use Rattle.nef_spair.proofs.ArcOrder.{still-apart, was-listed, still-listed}
+
+pub sorted-arcs : (kept : List Star) (i n : ℕ) (xs ys : List SArc) → IsPermutation xs ys → AreArcs kept i n xs → AreArcs kept i n ys
+sorted-arcs kept i n xs ys moved w = record {
+  from = λ k a h. let o = was-listed xs ys moved k a h in w.from o.0 a o.1;
+  small = λ k a h. let o = was-listed xs ys moved k a h in w.small o.0 a o.1;
+  apart = still-apart xs ys moved w.apart;
+  along = λ k a h. let o = was-listed xs ys moved k a h in w.along o.0 a o.1;
+  all = λ j m t r h b f e. let o = w.all j m t r h b f e in let p = still-listed xs ys moved o.0 o.1 o.2 in (p.0, o.1, p.1, o.3, o.4);
+}

@@ -1,0 +1,8 @@
+use Rattle.std.proofs.Common.{◌≡◌, map, take}
+use Rattle.nef_build.specs.From.{svertex_at}
+use Rattle.nef_star.specs.Stars.{star_of}
+use Rattle.nef_smap.specs.Maps.{svertex_of}
+use Rattle.nef_spair.proofs.making.svertices_of.Given as goal
+
+abbrev pub invariant-loop-star : goal.invariant-loop-star
+invariant-loop-star l = map svertex_of l.svertices.items ≡ map svertex_at (map star_of (take l.star-index l.kept))

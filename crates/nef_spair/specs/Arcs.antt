@@ -1,0 +1,44 @@
+-- The arcs of stars, star by star and ray by ray, and their order.
+use Rattle.std.specs.Prelude.{◌≡◌, ℕ, ◌<◌, List, map, true, ◌⊎◌}
+use Rattle.nef_space.specs.Limits.{normal_limit}
+use Rattle.nef_space.specs.Vectors.{IsAtMost}
+use Rattle.nef_geo.specs.Shapes.{vector_of}
+use Rattle.nef_sphere.specs.Maps.{At}
+use Rattle.nef_sphere.specs.Least.{ArcBelow}
+use Rattle.nef_build.specs.From.{IsArcFrom}
+use Rattle.nef_star.specs.declared.star.Ray.{Ray}
+use Rattle.nef_star.specs.declared.star.Star.{Star}
+use Rattle.nef_star.specs.Stars.{star_of}
+use Rattle.nef_smap.specs.declared.map.SArc.{SArc}
+use Rattle.nef_smap.specs.Maps.{arc_of}
+
+-- a ray of star j is one of the first stars', of star i one of the first n
+abbrev pub IsEarlier : ℕ → ℕ → ℕ → ℕ → Type 0
+IsEarlier i n j m = (j < i) ⊎ ((j ≡ i) × (m < n))
+
+-- ray m of star j goes ahead, and the arc leaves along it
+pub record IsAlong (kept : List Star) (a : SArc) (m : ℕ) : Type 0 where
+  pub star : Star
+  pub ray : Ray
+  pub has_star : At kept a.source star
+  pub has_ray : At star.rays.items m ray
+  pub ahead : ray.ahead ≡ true
+  pub normal : a.normal ≡ ray.normal
+
+-- arcs with one normal and one source
+abbrev pub IsTwin : SArc → SArc → Type 0
+IsTwin a b = (a.normal ≡ b.normal) × (a.source ≡ b.source)
+
+abbrev pub AreApart : List SArc → Type 0
+AreApart arcs = (j k : ℕ) (a b : SArc) → At arcs j a → At arcs k b → IsTwin a b → j ≡ k
+
+-- the arcs of the stars before number i, and of the first n rays of star i
+pub record AreArcs (kept : List Star) (i n : ℕ) (arcs : List SArc) : Type 0 where
+  pub from : (k : ℕ) (a : SArc) → At arcs k a → IsArcFrom (map star_of kept) (arc_of a)
+  pub small : (k : ℕ) (a : SArc) → At arcs k a → IsAtMost normal_limit (vector_of a.normal)
+  pub apart : AreApart arcs
+  pub along : (k : ℕ) (a : SArc) → At arcs k a → (m : ℕ) × IsAlong kept a m × IsEarlier i n a.source m
+  pub all : (j m : ℕ) (t : Star) (r : Ray) → At kept j t → At t.rays.items m r → r.ahead ≡ true → IsEarlier i n j m → (k : ℕ) × (a : SArc) × At arcs k a × (a.source ≡ j) × (a.normal ≡ r.normal)
+
+abbrev pub IsArcBelow : SArc → SArc → Type 0
+IsArcBelow a b = ArcBelow (arc_of a) (arc_of b)

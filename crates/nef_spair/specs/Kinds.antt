@@ -1,0 +1,30 @@
+-- The kind of a least map, and what each kind says of the set's flat directions.
+use Rattle.std.specs.Prelude.{◌≡◌, ◌↔◌, pos}
+use Rattle.nef_space.specs.Local.{Flat, FlatDim}
+use Rattle.nef_space.specs.Place.{Place}
+use Rattle.nef_space.specs.Sets.{Set}
+use Rattle.nef_space.specs.Vectors.{Vector, IsParallel, dot}
+use Rattle.nef_geo.specs.Shapes.{vector_of}
+use Rattle.nef_sphere.specs.Maps.{Map}
+use Rattle.nef_sphere.specs.Kinds.{IsInVolume, IsInFacet, IsOnEdge}
+use Rattle.nef_spair.specs.declared.answer.Kind.{Kind}
+use Rattle.nef_spair.specs.declared.answer.Kind.TheVariants.{Vertex, OnEdge, InFacet, InVolume}
+
+-- the map is of no other kind
+pub record IsVertex (M : Map) : Type 0 where
+  pub no_volume : IsInVolume M → ⊥
+  pub no_facet : (n : Vector) → IsInFacet M n → ⊥
+  pub no_edge : (d : Vector) → IsOnEdge M d → ⊥
+
+abbrev pub IsKind : Map → Kind → Type 0
+IsKind M Vertex = IsVertex M
+IsKind M (OnEdge d) = IsOnEdge M (vector_of d)
+IsKind M (InFacet n) = IsInFacet M (vector_of n)
+IsKind M InVolume = IsInVolume M
+
+-- the number of independent flat directions, and which they are
+abbrev pub KindFits : Kind → Set → Place → Type 0
+KindFits Vertex s p = FlatDim s p 0
+KindFits (OnEdge d) s p = FlatDim s p 1 × ((e : Vector) → Flat s p e ↔ IsParallel (vector_of d) e)
+KindFits (InFacet n) s p = FlatDim s p 2 × ((d : Vector) → Flat s p d ↔ (dot (vector_of n) d ≡ pos 0))
+KindFits InVolume s p = FlatDim s p 3

@@ -1,0 +1,95 @@
+//! The arcs that leave stars.
+
+ghost use Rattle.std.specs.Prelude.{◌≡◌, ◌<◌, ◌+◌, ◌⊎◌, length, map, pos, true, IfOk, OnOk};
+ghost use Rattle.std.specs.List.{All};
+ghost use Rattle.nef_space.specs.Vectors.{dot};
+ghost use Rattle.nef_geo.specs.Shapes.{vector_of};
+ghost use Rattle.nef_sphere.specs.Maps.{At};
+ghost use Rattle.nef_build.specs.From.{IsFirstAfter, IsArcFrom};
+ghost use Rattle.nef_star.specs.Stars.{star_of, IsStar};
+ghost use Rattle.nef_smap.specs.Maps.{arc_of};
+ghost use Rattle.nef_spair.specs.Arcs.{IsAlong, AreArcs};
+
+use crate::OutOfMemory;
+use nef_arc::{Arc, strictly_on};
+use nef_geo::Dir;
+use nef_smap::SArc;
+use nef_star::{Ray, Star};
+use std::alloc::Global;
+
+// The number of the first star whose axis comes after that of number `from`, counterclockwise about the normal; its own
+// axis comes last.
+fn first_after(kept: &[Star], from: usize, normal: &Dir) -> usize
+    requires within { from < length kept.now }
+    requires level { (t : Star) → At kept.now from t → dot (vector_of normal.now) (vector_of t.axis) ≡ pos 0 }
+    ensures within { result < length kept.now }
+    ensures first { (t : Star) → At kept.now from t → IsFirstAfter (map star_of kept.now) (vector_of normal.now) (star_of t) result }
+{
+    let source = *kept[from].axis();
+    let mut first = from;
+    for (k, star) in kept.iter().enumerate() {
+        let way = Arc::of(source, *kept[first].axis(), *normal);
+        if strictly_on(&way, star.axis()) {
+            first = k;
+        }
+    }
+    first
+}
+
+// The number before `number` of `count` that stand round in a circle.
+fn number_before(number: usize, count: usize) -> usize
+    requires within { number < count }
+    ensures within { result < count }
+    ensures before { (result + 1 ≡ number) ⊎ ((result + 1 ≡ count) × (number ≡ 0)) }
+{
+    if number > 0 { number - 1 } else { count - 1 }
+}
+
+// The arc along ray number `number` of star number `from`, which goes ahead.
+fn arc_along(kept: &[Star], from: usize, number: usize, ray: &Ray) -> SArc
+    requires stars { All IsStar kept.now }
+    requires within { from < length kept.now }
+    requires ray { (t : Star) → At kept.now from t → At t.rays.items number ray.now }
+    requires ahead { ray.now.ahead ≡ true }
+    ensures arc { IsArcFrom (map star_of kept.now) (arc_of result) }
+    ensures source { result.source ≡ from }
+    ensures along { IsAlong kept.now result number }
+{
+    let sectors = kept[from].sectors();
+    let before = number_before(number, sectors.len());
+    SArc {
+        source: from,
+        target: first_after(kept, from, ray.normal()),
+        normal: *ray.normal(),
+        mark: ray.mark(),
+        pos: sectors[number],
+        neg: sectors[before],
+    }
+}
+
+// Adds the arcs of star number `from`.
+fn push_arcs(arcs: &mut Vec<SArc>, kept: &[Star], from: usize) -> Result<(), OutOfMemory>
+    requires stars { All IsStar kept.now }
+    requires within { from < length kept.now }
+    requires arcs { AreArcs kept.now from 0 arcs.old.items }
+    ensures arcs { OnOk result (AreArcs kept.now (from + 1) 0 arcs.new.items) }
+{
+    for (number, ray) in kept[from].rays().iter().enumerate() {
+        if ray.ahead() {
+            arcs.push(arc_along(kept, from, number, ray))?;
+        }
+    }
+    Ok(())
+}
+
+// The arcs of all stars, star by star.
+pub(crate) fn arcs_of(alloc: Global, kept: &[Star]) -> Result<Vec<SArc>, OutOfMemory>
+    requires stars { All IsStar kept.now }
+    ensures arcs { IfOk result (λ arcs. AreArcs kept.now (length kept.now) 0 arcs.items) }
+{
+    let mut arcs = Vec::new(alloc);
+    for from in 0..kept.len() {
+        push_arcs(&mut arcs, kept, from)?;
+    }
+    Ok(arcs)
+}

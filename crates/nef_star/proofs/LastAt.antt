@@ -1,0 +1,30 @@
+-- The last ray of a star at or before another.
+use Rattle.std.proofs.Common.{◌≡◌, ℕ, ◌+◌, ◌<◌, ◌≤◌, length, arith, sym, subst, inl, inr}
+use Rattle.std.proofs.Math.Nat.{eq-or-lt_of_le}
+use Rattle.nef_space.specs.Vectors.{Vector, SameDirection}
+use Rattle.nef_geo.specs.Shapes.{vector_of}
+use Rattle.nef_geo.specs.declared.dir.Dir.{Dir}
+use Rattle.nef_geo.proofs.Unique.{same_directions_equal}
+use Rattle.nef_cyclic.specs.Arcs.{IsOnCircle}
+use Rattle.nef_star.specs.declared.star.Star.{Star}
+use Rattle.nef_star.specs.Stars.{left_at, IsTurned, LeftUnder}
+use Rattle.nef_star.proofs.Turns.{self-same, some_place}
+
+-- ---- the place of a ray
+pub same-as : (v : Vector) (d e : Dir) → vector_of d ≡ v → d ≡ e → SameDirection v (vector_of e)
+same-as v d e h s = subst (λ (w : Vector). SameDirection w (vector_of e)) h (subst (λ (b : Dir). SameDirection (vector_of d) (vector_of b)) s (self-same (vector_of d) d.some))
+
+pub as-same : (v : Vector) (d e : Dir) → vector_of d ≡ v → SameDirection v (vector_of e) → d ≡ e
+as-same v d e h s = same_directions_equal d e (subst (λ (w : Vector). SameDirection w (vector_of e)) (sym h) s)
+
+-- d is under none of the first k rays
+abbrev pub NoneUnder : Star → Vector → ℕ → Type 0
+NoneUnder t d k = (i : ℕ) → i < k → LeftUnder t d i → ⊥
+
+pub none-more : (t : Star) (d : Vector) (k : ℕ) → NoneUnder t d k → (LeftUnder t d k → ⊥) → NoneUnder t d (k + 1)
+none-more t d k h n i l u = elim (eq-or-lt_of_le {n = i} {m = k} (omega (arith, l))) [ inl e ↦ n (subst (LeftUnder t d) e u) | inr p ↦ h i p u ]
+
+pub none-under : (t : Star) → IsTurned t → 0 < length t.rays.items → (d : Vector) → IsOnCircle (vector_of t.axis) d → (k : ℕ) → length t.rays.items ≤ k → NoneUnder t d k → ⊥
+none-under t T h d o k l n =
+    let p = some_place (vector_of t.axis) t.axis.some (length t.rays.items) (left_at t.rays.items) T.counterclockwise d h o in
+    let i = p.1 in n p.0 (omega (arith, i, l)) p.2

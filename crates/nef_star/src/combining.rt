@@ -1,0 +1,123 @@
+//! Two stars combined.
+
+ghost use Rattle.std.specs.Prelude.{◌≡◌, ◌<◌, ℕ, length, IfOk, OnOk};
+ghost use Rattle.nef_cyclic.specs.Arcs.{IsOnCircle};
+ghost use Rattle.nef_geo.specs.Shapes.{vector_of};
+ghost use Rattle.nef_star.specs.Stars.{left_at, IsTurned, IsStar, LeftGives, LeftAfter, HasLeft, IsCombined, IsLeftCombined, IsCombinedAt};
+
+use crate::OutOfMemory;
+use crate::cut::{cut_by, left_of_ray, place_of, with_mark};
+use crate::needless::begin_with_least;
+use crate::op::Op;
+use crate::star::{Star, same_dir};
+use nef_geo::{Dir, Label};
+use std::alloc::Global;
+
+// The labels that the star gives a ray with this direction to its left, and just after it.
+fn labels_at(star: &Star, left: &Dir) -> (Label, Label)
+    requires turned { IsTurned star.now }
+    requires circle { IsOnCircle (vector_of star.now.axis) (vector_of left.now) }
+    ensures on { LeftGives star.now (vector_of left.now) result.0 }
+    ensures after { LeftAfter star.now (vector_of left.now) result.1 }
+{
+    if star.rays.is_empty() {
+        return (star.sectors[0], star.sectors[0]);
+    }
+    let place = place_of(star, left);
+    let after = star.sectors[place];
+    if same_dir(&left_of_ray(star, place), left) {
+        return (star.rays[place].mark, after);
+    }
+    (after, after)
+}
+
+// Combines the labels on ray `k` and after it with those that the other star gives there.
+fn combine_at(star: &mut Star, k: usize, other: &Star, op: Op)
+    requires turned { IsTurned star.old }
+    requires other { IsTurned other.now }
+    requires one_axis { other.now.axis ≡ star.old.axis }
+    requires within { k < length star.old.rays.items }
+    ensures combined { IsCombinedAt op other.now k star.old star.new }
+{
+    let ray = star.rays[k];
+    let (on, after) = labels_at(other, &ray.left());
+    star.rays[k] = with_mark(&ray, op.label(ray.mark, on));
+    star.sectors[k] = op.label(star.sectors[k], after);
+}
+
+// Combines the labels on each ray and after it with those that the other star gives there. Each ray of the other star
+// is one of this star's.
+fn combine_rays(star: &mut Star, other: &Star, op: Op)
+    requires turned { IsTurned star.old }
+    requires other { IsTurned other.now }
+    requires one_axis { other.now.axis ≡ star.old.axis }
+    requires some { 0 < length star.old.rays.items }
+    requires all { (k : ℕ) → k < length other.now.rays.items → HasLeft star.old (left_at other.now.rays.items k) }
+    ensures combined { IsLeftCombined op other.now star.old star.new }
+{
+    for k in 0..star.rays.len() {
+        combine_at(star, k, other, op);
+    }
+}
+
+// Combines the only sectors of two stars without rays.
+fn combine_sector(star: &mut Star, other: &Star, op: Op)
+    requires turned { IsTurned star.old }
+    requires other { IsTurned other.now }
+    requires none { length star.old.rays.items ≡ 0 }
+    requires other_none { length other.now.rays.items ≡ 0 }
+    ensures combined { IsLeftCombined op other.now star.old star.new }
+{
+    star.sectors[0] = op.label(star.sectors[0], other.sectors[0]);
+}
+
+// Combines the star with another one, whose rays it has.
+fn combine(star: &mut Star, other: &Star, op: Op)
+    requires turned { IsTurned star.old }
+    requires other { IsTurned other.now }
+    requires one_axis { other.now.axis ≡ star.old.axis }
+    requires all { (k : ℕ) → k < length other.now.rays.items → HasLeft star.old (left_at other.now.rays.items k) }
+    ensures turned { IsTurned star.new }
+    ensures combined { IsCombined op star.old other.now star.new }
+{
+    star.mark = op.label(star.mark, other.mark);
+    if star.rays.is_empty() {
+        combine_sector(star, other, op);
+        return;
+    }
+    combine_rays(star, other, op);
+}
+
+fn copy(alloc: Global, star: &Star) -> Result<Star, OutOfMemory>
+    ensures axis { IfOk result (λ t. t.axis ≡ star.now.axis) }
+    ensures rays { IfOk result (λ t. t.rays.items ≡ star.now.rays.items) }
+    ensures sectors { IfOk result (λ t. t.sectors.items ≡ star.now.sectors.items) }
+    ensures mark { IfOk result (λ t. t.mark ≡ star.now.mark) }
+{
+    let mut rays = Vec::with_capacity(alloc, star.rays.len())?;
+    let mut sectors = Vec::with_capacity(alloc, star.sectors.len())?;
+    rays.extend_from_slice(star.rays.as_slice())?;
+    sectors.extend_from_slice(star.sectors.as_slice())?;
+    Ok(Star {
+        axis: star.axis,
+        rays,
+        sectors,
+        mark: star.mark,
+    })
+}
+
+/// Combines two stars with one axis: the axis and each direction that isn't parallel to it have the label of the
+/// operation on their labels in the two stars. `OutOfMemory` says that memory was wanted and not found.
+pub fn merge(alloc: Global, a: &Star, b: &Star, op: Op) -> Result<Star, OutOfMemory>
+    requires star_a { IsStar a.now }
+    requires star_b { IsStar b.now }
+    requires one_axis { a.now.axis ≡ b.now.axis }
+    ensures star { IfOk result (λ t. IsStar t) }
+    ensures combined { IfOk result (λ t. IsCombined op a.now b.now t) }
+{
+    let mut star = copy(alloc, a)?;
+    cut_by(&mut star, b.rays.as_slice())?;
+    combine(&mut star, b, op);
+    begin_with_least(&mut star);
+    Ok(star)
+}

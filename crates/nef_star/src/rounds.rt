@@ -1,0 +1,110 @@
+//! Stars put together from their rays.
+
+ghost use Rattle.std.specs.Prelude.{◌≡◌, ◌<◌, ◌+◌, ℕ, length, IfOk, OnOk};
+ghost use Rattle.nef_space.specs.Limits.{svertex_limit};
+ghost use Rattle.nef_space.specs.Lists.{IsAt};
+ghost use Rattle.nef_space.specs.Vectors.{IsAtMost};
+ghost use Rattle.nef_geo.specs.Shapes.{vector_of};
+ghost use Rattle.nef_star.specs.Rounds.{End, AreApart, IsRound, HasWays, IsEnded};
+ghost use Rattle.nef_star.specs.Stars.{left_of, IsRay, IsTurned, IsStar};
+ghost use Rattle.nef_star.specs.declared.star.Star.{Star};
+
+use crate::OutOfMemory;
+use crate::cut::{cut, left_of_ray, with_mark};
+use crate::needless::begin_with_least;
+use crate::star::{Ray, Star, same_dir};
+use nef_geo::{Dir, Label};
+use std::alloc::Global;
+
+// The star without rays whose only sector has the label of the axis.
+fn bare(alloc: Global, axis: Dir, mark: Label) -> Result<Star, OutOfMemory>
+    requires small { IsAtMost svertex_limit (vector_of axis) }
+    ensures turned { IfOk result (λ t. IsTurned t) }
+    ensures axis { IfOk result (λ t. t.axis ≡ axis) }
+    ensures mark { IfOk result (λ t. t.mark ≡ mark) }
+    ensures none { IfOk result (λ t. length t.rays.items ≡ 0) }
+{
+    let mut sectors = Vec::with_capacity(alloc, 1)?;
+    sectors.push(mark)?;
+    Ok(Star {
+        axis,
+        rays: Vec::new(alloc),
+        sectors,
+        mark,
+    })
+}
+
+// Puts the rays into a star that has none.
+fn cut_ways(star: &mut Star, ends: &[(Ray, Label)]) -> Result<(), OutOfMemory>
+    requires turned { IsTurned star.old }
+    requires none { length star.old.rays.items ≡ 0 }
+    requires rays { (k : ℕ) (e : End) → IsAt ends.now k e → IsRay (vector_of star.old.axis) e.0 }
+    ensures ways { OnOk result (HasWays ends.now (length ends.now) star.new) }
+    ensures axis { OnOk result (star.new.axis ≡ star.old.axis) }
+    ensures mark { OnOk result (star.new.mark ≡ star.old.mark) }
+{
+    for end in ends {
+        cut(star, &end.0)?;
+    }
+    Ok(())
+}
+
+// The end that goes the way with this direction to its left.
+fn end_with(ends: &[(Ray, Label)], left: &Dir) -> (Ray, Label)
+    requires some { (i : ℕ) × (e : End) × IsAt ends.now i e × (left_of e.0 ≡ vector_of left.now) }
+    ensures listed { (i : ℕ) × IsAt ends.now i result }
+    ensures left { left_of result.0 ≡ vector_of left.now }
+{
+    for end in ends {
+        if same_dir(&end.0.left(), left) {
+            return *end;
+        }
+    }
+    unreachable!()
+}
+
+// Gives ray `k` the mark of its end, and the sector after it the end's label.
+fn end_ray(star: &mut Star, k: usize, ends: &[(Ray, Label)])
+    requires ended { (t : Star) × HasWays ends.now (length ends.now) t × IsEnded ends.now k t star.old }
+    requires within { k < length star.old.rays.items }
+    ensures ended { (t : Star) → HasWays ends.now (length ends.now) t → IsEnded ends.now k t star.old → IsEnded ends.now (k + 1) t star.new }
+{
+    let ray = star.rays[k];
+    let (end, after) = end_with(ends, &ray.left());
+    star.rays[k] = with_mark(&ray, end.mark);
+    star.sectors[k] = after;
+}
+
+// Gives each ray the mark of its end, and the sector after it the end's label.
+fn end_rays(star: &mut Star, ends: &[(Ray, Label)])
+    requires ways { HasWays ends.now (length ends.now) star.old }
+    ensures ended { IsEnded ends.now (length star.old.rays.items) star.old star.new }
+{
+    for k in 0..star.rays.len() {
+        end_ray(star, k, ends);
+    }
+}
+
+/// The star with this axis and these rays, in whatever order they are given, each with the label of the sector after
+/// it, counterclockwise. `OutOfMemory` says that memory was wanted and not found.
+pub fn round(
+    alloc: Global,
+    axis: Dir,
+    mark: Label,
+    ends: &[(Ray, Label)],
+) -> Result<Star, OutOfMemory>
+    requires small { IsAtMost svertex_limit (vector_of axis) }
+    requires some { 0 < length ends.now }
+    requires rays { (k : ℕ) (e : End) → IsAt ends.now k e → IsRay (vector_of axis) e.0 }
+    requires apart { AreApart ends.now }
+    ensures star { IfOk result (λ t. IsStar t) }
+    ensures axis { IfOk result (λ t. t.axis ≡ axis) }
+    ensures mark { IfOk result (λ t. t.mark ≡ mark) }
+    ensures round { IfOk result (λ t. IsRound ends.now t) }
+{
+    let mut star = bare(alloc, axis, mark)?;
+    cut_ways(&mut star, ends)?;
+    end_rays(&mut star, ends);
+    begin_with_least(&mut star);
+    Ok(star)
+}

@@ -1,0 +1,5 @@
+pub mod Labels
+pub mod Marking
+pub mod Remarked
+pub mod MapStars
+pub mod Relabelled

@@ -1,0 +1,101 @@
+-- The raw stars of a map with what its labels become, and the map that is built of them.
+use Rattle.std.proofs.Common.{◌≡◌, ℕ, List, length, map, Option, Some, None, Result, Ok, Err, IfOk, refl, sym, ap, subst, ◌∙◌}
+use Rattle.std.proofs.lemmas.List.{length-map}
+use Rattle.std.specs.Prelude.{option_map}
+use Rattle.nef_space.specs.Limits.{normal_limit}
+use Rattle.nef_space.specs.Place.{Place}
+use Rattle.nef_space.specs.Sets.{Set}
+use Rattle.nef_space.specs.Vectors.{Vector, IsDirection, IsAtMost}
+use Rattle.nef_space.specs.declared.label.Label.{Label}
+use Rattle.nef_geo.specs.Shapes.{vector_of}
+use Rattle.nef_sphere.specs.Maps.{At, Svertex, Loop, MapLabel, loop_item}
+use Rattle.nef_sphere.specs.Forms.{forms}
+use Rattle.nef_sphere.specs.Least.{Cone}
+use Rattle.nef_sphere.specs.Stars.{Star as PlainStar}
+use Rattle.nef_sphere.proofs.Arcs.{at-loop}
+use Rattle.nef_build.specs.Raw.{IsLabelling, IsRawOf}
+use Rattle.nef_border.specs.Topology.{Topology, set_by, IsTopologyMap, MarkLabel}
+use Rattle.nef_border.specs.Marks.{label_from, face_label, loop_by, map_labels, IsRemarkedAt, IsTopologyRaw}
+use Rattle.nef_build.proofs.KeptStars.{at-other}
+use Rattle.nef_border.proofs.RawTopology.{topology-stars}
+use Rattle.nef_border.proofs.MarkMade.{topology-mark}
+use Rattle.nef_border.proofs.Cones.{topology-cone}
+use Rattle.nef_star.specs.declared.star.Star.{Star}
+use Rattle.nef_star.specs.Stars.{star_of, IsStar}
+use Rattle.nef_smap.specs.declared.map.SLoop.{SLoop}
+use Rattle.nef_smap.specs.declared.map.SphereMap.{SphereMap}
+use Rattle.nef_smap.specs.declared.map.RawStars.{RawStars}
+use Rattle.nef_smap.specs.Maps.{svertex_of, loop_of, map_of, raw_of, IsSphereMap, IsLeastMap, IsRawStars}
+use Rattle.nef_smap.proofs.Lists.{at-map}
+use Rattle.nef_spair.proofs.Places.{at-all}
+use Rattle.nef_stopo.specs.Stars.{AreRemarked}
+
+-- a circle was one with the same normal
+loop-was : (k : Topology) (r s : Option SLoop) (l : SLoop) → option_map loop_of r ≡ option_map (loop_by k) (option_map loop_of s) → r ≡ Some l
+    → (c : SLoop) × (s ≡ Some c) × (vector_of l.normal ≡ vector_of c.normal)
+loop-was k None s l e f = cc
+loop-was k (Some q) None l e f = cc
+loop-was k (Some q) (Some c) l e f =
+    let g : q ≡ l = cc in
+    let h : loop_of q ≡ loop_by k (loop_of c) = cc in
+    (c, refl, subst (λ (x : SLoop). vector_of x.normal ≡ vector_of c.normal) g (ap (λ (x : Loop). x.normal) h))
+
+module _ (k : Topology) (m : SphereMap) (S : IsSphereMap m) (r : RawStars) (mark : r.mark ≡ label_from k m.mark (map_labels (map_of m))) (M : AreRemarked k m (length m.svertices) r.stars)
+    (sloop : option_map loop_of r.sloop ≡ option_map (loop_by k) (option_map loop_of m.sloop)) (ground : r.ground ≡ option_map (face_label k) m.ground) where
+  is-star : (i : ℕ) (u : Star) → At r.stars i u → IsStar u
+  is-star i u a = let v = at-other r.stars m.svertices i u M.as_many a in (M.stars i v.0 u v.1 a).0
+
+  circle-small : (l : SLoop) → r.sloop ≡ Some l → IsAtMost normal_limit (vector_of l.normal)
+  circle-small l e =
+      let c = loop-was k r.sloop m.sloop l sloop e in
+      let N = map_of m in
+      let i = at-loop N.arcs N.loop (loop_of c.0) (ap (option_map loop_of) c.1) in
+      subst (IsAtMost normal_limit) (sym c.2) (S.small.normals i.0 (loop_item (loop_of c.0)) i.1)
+
+  pub raw-stars : IsRawStars r
+  raw-stars = record { stars = at-all IsStar r.stars is-star; circle_small = circle-small }
+
+  star-remarked : (i : ℕ) (v : Svertex) (u : PlainStar) → At (map svertex_of m.svertices) i v → At (map star_of r.stars) i u → IsRemarkedAt k (map_of m) v.way u
+  star-remarked i v u a b =
+      let w = at-map svertex_of m.svertices i v a in
+      let x = at-map star_of r.stars i u b in
+      subst (λ (y : Svertex). IsRemarkedAt k (map_of m) y.way u) w.2
+      (subst (IsRemarkedAt k (map_of m) (vector_of w.0.dir)) x.2 (M.stars i w.0 x.0 w.1 x.1).1)
+
+  pub topology-raw : IsTopologyRaw k (map_of m) (raw_of r)
+  topology-raw = record {
+    mark = mark;
+    as_many = length-map r.stars star_of ∙ M.as_many ∙ sym (length-map m.svertices svertex_of);
+    stars = star-remarked;
+    loop = sloop;
+    face = ground;
+  }
+
+-- ---- what is built
+pub is-labelled : (k : Topology) (m : SphereMap) (r : RawStars) → IsSphereMap m → IsTopologyRaw k (map_of m) (raw_of r) → (gs : List Vector) × (L : Vector → Label) × IsLabelling gs L × IsRawOf (raw_of r) L
+is-labelled k m r S T = let t = topology-stars k (map_of m) (raw_of r) S.valid S.ordered T in (forms (map_of m), t.0, t.1, t.2)
+
+abbrev pub HasLabels : RawStars → SphereMap → Type 0
+HasLabels r n = (gs : List Vector) (L : Vector → Label) → IsLabelling gs L → IsRawOf (raw_of r) L → (d : Vector) → IsDirection d → MapLabel (map_of n) d (L d)
+
+pub topology-map : (k : Topology) (m : SphereMap) (r : RawStars) (n : SphereMap) → IsSphereMap m → IsTopologyRaw k (map_of m) (raw_of r) → n.mark ≡ r.mark → HasLabels r n → IsTopologyMap k (map_of m) (map_of n)
+topology-map k m r n S T e h =
+    let t = topology-stars k (map_of m) (raw_of r) S.valid S.ordered T in
+    record {
+      mark = subst (MarkLabel k (map_of m)) (sym (e ∙ T.mark)) (topology-mark k (map_of m) S.valid);
+      labels = λ d f. (t.0 d, h (forms (map_of m)) t.0 t.1 t.2 d f, t.3 d f);
+    }
+
+pub topology-set : (k : Topology) (m n : SphereMap) → IsLeastMap n → IsTopologyMap k (map_of m) (map_of n) → (s : Set) (p : Place) → Cone (map_of m) s p → Cone (map_of n) (set_by k s) p
+topology-set k m n N T s p C = topology-cone k (map_of m) (map_of n) s p C N.sphere_map.valid T
+
+-- where there is a map, by what building says of it
+pub map-if_ok : {E : Type 0} (k : Topology) (m : SphereMap) (r : RawStars) (o : Result SphereMap E) → IsSphereMap m → IsTopologyRaw k (map_of m) (raw_of r) → IfOk o (λ n. n.mark ≡ r.mark) → IfOk o (HasLabels r)
+    → IfOk o (λ n. IsTopologyMap k (map_of m) (map_of n))
+map-if_ok k m r (Ok n) S T e h = topology-map k m r n S T e h
+map-if_ok k m r (Err e) S T f h = tt
+
+pub set-if_ok : {E : Type 0} (k : Topology) (m : SphereMap) (o : Result SphereMap E) → IfOk o IsLeastMap → IfOk o (λ n. IsTopologyMap k (map_of m) (map_of n))
+    → IfOk o (λ n. (s : Set) (p : Place) → Cone (map_of m) s p → Cone (map_of n) (set_by k s) p)
+set-if_ok k m (Ok n) N T = topology-set k m n N T
+set-if_ok k m (Err e) N T = tt

@@ -1,0 +1,18 @@
+-- The operations of topology as those of the theory, and what is known of the labels close to something.
+use Rattle.std.specs.Prelude.{List}
+use Rattle.nef_space.specs.declared.label.Label.{Label}
+use Rattle.nef_border.specs.Topology.{Topology as SetTopology, interior, closure, boundary, complement}
+use Rattle.nef_border.specs.Marks.{all_in, some_in}
+use Rattle.nef_stopo.specs.declared.topology.Topology.{Topology}
+use Rattle.nef_stopo.specs.declared.topology.Topology.TheVariants.{Interior, Closure, Boundary, Complement}
+use Rattle.nef_stopo.specs.declared.nearby.Nearby.{Nearby}
+
+abbrev pub topology_of : Topology → SetTopology
+topology_of Interior = interior
+topology_of Closure = closure
+topology_of Boundary = boundary
+topology_of Complement = complement
+
+-- whether all and whether some of the labels are In
+abbrev pub nearby_of : List Label → Nearby
+nearby_of ls = record { all = all_in ls; some = some_in ls }

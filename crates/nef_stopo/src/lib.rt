@@ -1,0 +1,12 @@
+//! Interior, closure, boundary and complement of the set that a sphere map shows.
+#![tactic(auto)]
+
+mod nearby;
+mod operations;
+mod stars;
+#[cfg(test)]
+mod tests;
+mod topology;
+
+pub use operations::{boundary, closure, complement, interior};
+pub use std::alloc::AllocError as OutOfMemory;
