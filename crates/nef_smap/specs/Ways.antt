@@ -1,8 +1,11 @@
 -- The way from a direction to an item's point, and which item it meets first.
-use Rattle.std.specs.Prelude.{◌≡◌, ℕ, ◌<◌, pos, ◌-ℤ◌, ◌*ℤ◌, ◌<ℤ◌, ◌≤ℤ◌}
+use Rattle.std.specs.Prelude.{◌≡◌, ℕ, ◌<◌, pos, ◌-ℤ◌, ◌*ℤ◌, ◌<ℤ◌, ◌≤ℤ◌, length}
 use Rattle.nef_space.specs.Vectors.{Vector, IsDirection, dot, cross}
 use Rattle.nef_sphere.specs.Vectors.{comb}
 use Rattle.nef_sphere.specs.Maps.{At, Item, Map, items, item_normal, OnItem}
+use Rattle.nef_smap.specs.declared.way.Way.{Way}
+use Rattle.nef_smap.specs.Linear.{IsLarge}
+use Rattle.nef_smap.specs.Wide.{start_at, end_at}
 
 -- (n.a)^2 b - (n.a)(n.b) a, which lies in the plane of n; it is on the way from a to b where the plane parts them
 abbrev pub meet_of : Vector → Vector → Vector → Vector
@@ -30,3 +33,15 @@ pub record IsFair (M : Map) (a b : Vector) : Type 0 where
   pub first : Item
   pub listed : At (items M) 0 first
   pub on : OnItem M first b
+
+-- P holds of the ends of the way, wherever they are fair to the map
+abbrev pub OnFairWays : Map → Way → (Vector → Vector → Type 0) → Type 0
+OnFairWays M w P = (j k : ℕ) → IsLarge j k → IsFair M (start_at w j) (end_at w k) → P (start_at w j) (end_at w k)
+
+-- where the way meets the plane of n
+abbrev pub met_at : Way → Vector → ℕ → ℕ → Vector
+met_at w n j k = meet_of n (start_at w j) (end_at w k)
+
+-- item k is met first by the way, whatever large numbers it is taken at
+abbrev pub MeetsFirst : Map → Way → ℕ → Type 0
+MeetsFirst M w k = (x : Item) × At (items M) k x × OnFairWays M w (λ a b. IsFirstMet M a b (length (items M)) x)

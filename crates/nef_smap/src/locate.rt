@@ -2,7 +2,7 @@
 
 ghost use Rattle.std.specs.Prelude.{◌≡◌, ℕ, ◌<◌, pos, ◌↔◌, IsTrue, MatchOption};
 ghost use Rattle.nef_space.specs.Vectors.{SameDirection};
-ghost use Rattle.nef_sphere.specs.Maps.{At, Svertex, Arc as PlainArc, Loop as PlainLoop, arc_item, loop_item, OnItem, MapLabel};
+ghost use Rattle.nef_sphere.specs.Maps.{At, arc_item, OnItem, MapLabel};
 ghost use Rattle.nef_geo.specs.Shapes.{vector_of};
 ghost use Rattle.nef_smap.specs.Maps.{arc_of, map_of, IsSphereMap};
 ghost use Rattle.nef_smap.specs.Sides.{IsPlaceOf};
@@ -22,7 +22,7 @@ fn same_dir(a: &Dir, b: &Dir) -> bool
 
 // The number of the svertex in this direction.
 fn svertex_at(map: &SphereMap, d: &Dir) -> Option<usize>
-    ensures svertex { MatchOption result ((k : ℕ) (v : Svertex) → At (map_of map.now).svertices k v → SameDirection v.way (vector_of d.now) → ⊥) (λ k. (v : Svertex) × At (map_of map.now).svertices k v × SameDirection v.way (vector_of d.now)) }
+    ensures svertex { MatchOption result ((k : ℕ) → IsPlaceOf (map_of map.now) (vector_of d.now) (SPlace.SVertex k) → ⊥) (λ k. IsPlaceOf (map_of map.now) (vector_of d.now) (SPlace.SVertex k)) }
 {
     for (number, svertex) in map.svertices.as_slice().iter().enumerate() {
         if same_dir(&svertex.dir, d) {
@@ -45,7 +45,7 @@ fn is_on_arc(map: &SphereMap, arc: &SArc, d: &Dir) -> bool
 // The number of the arc on which the direction lies.
 fn arc_at(map: &SphereMap, d: &Dir) -> Option<usize>
     requires map { IsSphereMap map.now }
-    ensures arc { MatchOption result ((k : ℕ) (a : PlainArc) → At (map_of map.now).arcs k a → OnItem (map_of map.now) (arc_item a) (vector_of d.now) → ⊥) (λ k. (a : PlainArc) × At (map_of map.now).arcs k a × OnItem (map_of map.now) (arc_item a) (vector_of d.now)) }
+    ensures arc { MatchOption result ((k : ℕ) → IsPlaceOf (map_of map.now) (vector_of d.now) (SPlace.Arc k) → ⊥) (λ k. IsPlaceOf (map_of map.now) (vector_of d.now) (SPlace.Arc k)) }
 {
     for (number, arc) in map.arcs.as_slice().iter().enumerate() {
         if is_on_arc(map, arc, d) {
@@ -56,7 +56,7 @@ fn arc_at(map: &SphereMap, d: &Dir) -> Option<usize>
 }
 
 fn is_on_loop(map: &SphereMap, d: &Dir) -> bool
-    ensures on { IsTrue result ↔ ((l : PlainLoop) × ((map_of map.now).loop ≡ Some l) × OnItem (map_of map.now) (loop_item l) (vector_of d.now)) }
+    ensures on { IsTrue result ↔ IsPlaceOf (map_of map.now) (vector_of d.now) SPlace.Loop }
 {
     match &map.sloop {
         Some(circle) => is_zero(dot(&circle.normal, d)),

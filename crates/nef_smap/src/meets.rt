@@ -3,15 +3,14 @@
 ghost use Rattle.std.specs.Prelude.{◌≡◌, ℕ, ◌^◌, ◌<◌, pos, ◌*ℤ◌, ◌<ℤ◌, ◌↔◌, length, IsTrue};
 ghost use Rattle.nef_space.specs.Limits.{normal_limit};
 ghost use Rattle.nef_space.specs.Vectors.{Vector, dot, IsAtMost, IsDirection};
-ghost use Rattle.nef_cyclic.specs.Arcs.{IsStrictlyOn};
-ghost use Rattle.nef_sphere.specs.Maps.{At, Item as PlainItem, items, item_normal, way_of};
+ghost use Rattle.nef_sphere.specs.Maps.{At, arc_item, items, item_normal, OnItem};
 ghost use Rattle.nef_geo.specs.Shapes.{vector_of};
 ghost use Rattle.nef_geo.specs.Signs.{sign_of};
 ghost use Rattle.nef_smap.specs.Maps.{arc_of, map_of, IsSphereMap};
 ghost use Rattle.nef_smap.specs.Items.{item_of};
 ghost use Rattle.nef_smap.specs.Linear.{linear_at, turn_value, AreAtMost, IsLarge};
-ghost use Rattle.nef_smap.specs.Wide.{wide_vector, start_at, end_at, IsWithin, AreValues};
-ghost use Rattle.nef_smap.specs.Ways.{meet_of, IsMet, IsFair, IsFirstMet};
+ghost use Rattle.nef_smap.specs.Wide.{wide_vector, IsWithin, AreValues};
+ghost use Rattle.nef_smap.specs.Ways.{met_at, IsMet, OnFairWays, MeetsFirst};
 
 use crate::item::{Item, item_at, item_count};
 use crate::linear::{Values, are_opposite, sign_at_meet};
@@ -25,7 +24,7 @@ fn sign_where_met(way: &Way, n: &Values, g: &Wide) -> Sign
     requires way { IsWithin way.now }
     requires n_small { AreAtMost (2 ^ 50) n.now }
     requires g_small { IsAtMost (2 ^ 35) (wide_vector g.now) }
-    ensures sign { (m : Vector) (j k : ℕ) → AreValues way.now m n.now → IsLarge j k → result ≡ sign_of (dot (wide_vector g.now) (meet_of m (start_at way.now j) (end_at way.now k))) }
+    ensures sign { (m : Vector) (j k : ℕ) → AreValues way.now m n.now → IsLarge j k → result ≡ sign_of (dot (wide_vector g.now) (met_at way.now m j k)) }
 {
     sign_at_meet(n, &values(way, g))
 }
@@ -37,7 +36,7 @@ fn is_on_arc(map: &SphereMap, way: &Way, arc: &SArc, n: &Values) -> bool
     requires way { IsWithin way.now }
     requires values { AreValues way.now (vector_of arc.now.normal) n.now }
     requires small { AreAtMost (2 ^ 50) n.now }
-    ensures on { (j k : ℕ) → IsLarge j k → let p = meet_of (vector_of arc.now.normal) (start_at way.now j) (end_at way.now k) in IsDirection p → IsTrue result ↔ IsStrictlyOn (vector_of arc.now.normal) (way_of (map_of map.now).svertices arc.now.source) (way_of (map_of map.now).svertices arc.now.target) p }
+    ensures on { (j k : ℕ) → IsLarge j k → IsDirection (met_at way.now (vector_of arc.now.normal) j k) → IsTrue result ↔ OnItem (map_of map.now) (arc_item (arc_of arc.now)) (met_at way.now (vector_of arc.now.normal) j k) }
 {
     let source = &map.svertices.at(arc.source).dir;
     let target = &map.svertices.at(arc.target).dir;
@@ -69,7 +68,7 @@ fn is_met(map: &SphereMap, way: &Way, item: &Item, n: &Values) -> bool
     requires way { IsWithin way.now }
     requires values { AreValues way.now (item_normal (item_of item.now)) n.now }
     requires small { AreAtMost (2 ^ 50) n.now }
-    ensures met { (j k : ℕ) → IsLarge j k → IsFair (map_of map.now) (start_at way.now j) (end_at way.now k) → IsTrue result ↔ IsMet (map_of map.now) (start_at way.now j) (end_at way.now k) (item_of item.now) }
+    ensures met { OnFairWays (map_of map.now) way.now (λ a b. IsTrue result ↔ IsMet (map_of map.now) a b (item_of item.now)) }
 {
     if !are_opposite(n.start.sign(), n.end.sign()) {
         return false;
@@ -95,7 +94,7 @@ pub(crate) fn first_met(map: &SphereMap, way: &Way) -> usize
     requires some { 0 < length (items (map_of map.now)) }
     requires way { IsWithin way.now }
     ensures small { result < 2 ^ 60 }
-    ensures first { (x : PlainItem) × At (items (map_of map.now)) result x × ((j k : ℕ) → IsLarge j k → IsFair (map_of map.now) (start_at way.now j) (end_at way.now k) → IsFirstMet (map_of map.now) (start_at way.now j) (end_at way.now k) (length (items (map_of map.now))) x) }
+    ensures first { MeetsFirst (map_of map.now) way.now result }
 {
     let mut first = 0;
     let mut first_values = item_values(way, &item_at(map, 0));

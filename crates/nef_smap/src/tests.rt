@@ -129,6 +129,15 @@ fn neighbours_of_a_plane(rt: HostRuntime) {
 }
 
 #[test]
+fn star_on_a_plane(rt: HostRuntime) -> Result<(), Fail> {
+    let map = plane(&rt, rt.alloc(), dir(&rt, 1, 1, -1));
+    let star = star_at(rt.alloc(), &map, &dir(&rt, 1, -1, 0))?;
+    assert_eq!(rt; star.sectors(), [Label::Out, Label::Not].as_slice());
+    assert_eq!(rt; star.mark(), Label::In);
+    Ok(())
+}
+
+#[test]
 fn one_face(rt: HostRuntime) {
     let map = face_map(rt.alloc(), Label::In, Label::Not);
     let d = dir(&rt, -1, 2, 3);

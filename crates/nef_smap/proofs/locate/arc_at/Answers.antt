@@ -18,4 +18,7 @@ loop-number-preserved c = next-none arc_of c.args.map.now.arcs (λ (a : Arc). On
     (λ o. not_true (sym c.if-is_on_arc.false ∙ c.is_on_arc.ensures.on.1 o))
 
 pub returns : goal.returns
-returns c = record { arc = all-none arc_of c.args.map.now.arcs (λ (a : Arc). OnItem (map_of c.args.map.now) (arc_item a) (vector_of c.args.d.now)) c.loop-number.number (let e = ap length c.as_slice-arc-items.ensures.all in let f = c.loop-number-test.false in omega arith) c.loop-number.invariant }
+returns c = record {
+  arc = λ k (v, a, o). all-none arc_of c.args.map.now.arcs (λ (a : Arc). OnItem (map_of c.args.map.now) (arc_item a) (vector_of c.args.d.now)) c.loop-number.number
+      (let e = ap length c.as_slice-arc-items.ensures.all in let f = c.loop-number-test.false in omega arith) c.loop-number.invariant k v a o;
+}

@@ -23,6 +23,6 @@ loop-number-preserved c = next-none svertex_of c.args.map.now.svertices (λ (v :
 
 pub returns : goal.returns
 returns c = record {
-  svertex = all-none svertex_of c.args.map.now.svertices (λ (v : Svertex). SameDirection v.way (vector_of c.args.d.now)) c.loop-number.number
-      (let e = ap length c.as_slice-svertex-items.ensures.all in let f = c.loop-number-test.false in omega arith) c.loop-number.invariant;
+  svertex = λ k (v, a, s). all-none svertex_of c.args.map.now.svertices (λ (v : Svertex). SameDirection v.way (vector_of c.args.d.now)) c.loop-number.number
+      (let e = ap length c.as_slice-svertex-items.ensures.all in let f = c.loop-number-test.false in omega arith) c.loop-number.invariant k v a s;
 }
