@@ -1,11 +1,11 @@
 //! Which sides of a sphere map are joined with what.
 
-ghost use Rattle.std.specs.Prelude.{◌≡◌, ◌<◌, ◌≤ℤ◌, ◌<ℤ◌, ◌↔◌, ℕ, pos, length, IfSome, MatchOption, Option, Some, slice_get};
+ghost use Rattle.std.specs.Prelude.{◌≡◌, ◌<◌, ◌≤ℤ◌, ◌<ℤ◌, ◌↔◌, ℕ, pos, length, IfSome, MatchOption, Option, Some, slice_get, cond};
 ghost use Rattle.nef_space.specs.Limits.{normal_limit, svertex_limit};
 ghost use Rattle.nef_space.specs.Vectors.{Vector, vector, dot, cross, triple, up, opposite, IsAtMost, IsDirection, SameDirection};
 ghost use Rattle.nef_geo.specs.Shapes.{vector_of};
 ghost use Rattle.nef_space.specs.declared.label.Label.{Label};
-ghost use Rattle.nef_sphere.specs.Maps.{At, Svertex as PlainSvertex, items, around_svertex, above_item};
+ghost use Rattle.nef_sphere.specs.Maps.{At, Svertex as PlainSvertex, items, around_svertex, above_item, below_item};
 ghost use Rattle.nef_smap.specs.SideNumbers.{number_of};
 ghost use Rattle.nef_smap.specs.Maps.{map_of, loop_of, IsSphereMap};
 ghost use Rattle.nef_smap.specs.Joined.{BelowFirst, FirstNear};
@@ -16,7 +16,7 @@ use crate::above::{Close, Lean, above};
 use crate::classes::Link;
 use crate::item::item_count;
 use crate::map::{SLoop, SphereMap};
-use crate::side::{around_sides, sides};
+use crate::side::{item_side, sides};
 use nef_geo::{Dir, Sign, cross, dot, triple, up};
 
 // The directions along the coordinate axes.
@@ -98,17 +98,23 @@ fn beside(d: &Dir) -> Dir
     axis_z()
 }
 
+// The number of a side of the item with this number: of that to which its normal points, or of the other.
+fn side_number(map: &SphereMap, item: usize, above: bool) -> usize
+    requires within { item < length (items (map_of map.now)) }
+    ensures side { result ≡ number_of (map_of map.now) (cond above (above_item item) (below_item item)) }
+{
+    let within = item < item_count(map);
+    prove!(within);
+    item_side(map, item, above)
+}
+
 // The number of what is met first: of the lower side of the item, or of the upward direction, which comes after the sides.
 fn met_number(map: &SphereMap, met: Option<usize>) -> usize
     requires within { IfSome met (λ k. k < length (items (map_of map.now))) }
     ensures number { result ≡ met_number (map_of map.now) met }
 {
     match met {
-        Some(item) => {
-            let within = item < item_count(map);
-            prove!(within);
-            around_sides(map) + (2 * item + 1)
-        }
+        Some(item) => side_number(map, item, false),
         None => sides(map),
     }
 }
@@ -158,16 +164,6 @@ pub(crate) fn join_around(map: &SphereMap, number: usize, side: usize) -> Link
     }
 }
 
-// The number of the side above an item.
-fn upper_side(map: &SphereMap, item: usize) -> usize
-    requires within { item < length (items (map_of map.now)) }
-    ensures side { result ≡ number_of (map_of map.now) (above_item item) }
-{
-    let within = item < item_count(map);
-    prove!(within);
-    around_sides(map) + 2 * item
-}
-
 // Joins the side above the arc with what lies over directions close to its source: along the arc, and there up.
 pub(crate) fn join_arc(map: &SphereMap, number: usize) -> Link
     requires map { IsSphereMap map.now }
@@ -185,7 +181,7 @@ pub(crate) fn join_arc(map: &SphereMap, number: usize) -> Link
         lean: Lean::Along,
     };
     Link {
-        first: upper_side(map, number),
+        first: side_number(map, number, true),
         second: met_number(map, above(map, &way)),
     }
 }
@@ -218,7 +214,7 @@ pub(crate) fn join_loop(map: &SphereMap, circle: &SLoop) -> Link
         lean: Lean::Up,
     };
     Link {
-        first: upper_side(map, map.arcs.len()),
+        first: side_number(map, map.arcs.len(), true),
         second: met_number(map, above(map, &way)),
     }
 }

@@ -11,7 +11,7 @@ use crate::map::SphereMap;
 use nef_geo::Label;
 
 // How many svertices have a label round them.
-pub(crate) fn around_sides(map: &SphereMap) -> usize
+fn around_sides(map: &SphereMap) -> usize
     ensures count { result ≡ length (filter_map (λ v. v.around) map.now.svertices) }
     ensures small { result < 2 ^ 60 }
 {

@@ -21,8 +21,8 @@ beside-requires c =
           (vector_of c.in_plane-at.result) c.in_plane-at.result.some c.in_plane-at.ensures.level;
     }
 
-pub upper_side-requires : goal.upper_side-requires
-upper_side-requires c =
+pub side_number-requires : goal.side_number-requires
+side_number-requires c =
     let m = c.args.map.now in
     let h = at-within (items (map_of m)) (length m.arcs) (loop_item (loop_of c.args.circle.now)) (item-loop m.arcs m.sloop (length m.arcs) c.args.circle.now refl c.requires.circle) in
     record { within = omega (arith, c.len.ensures.len) }
@@ -43,6 +43,6 @@ returns c =
           off = c.beside.ensures.off;
           first = c.above.result;
           is_first = c.above.ensures.first;
-        }, c.upper_side.ensures.side ∙ ap (λ (k : ℕ). number_of M (above_item k)) c.len.ensures.len, c.met_number.ensures.number),
+        }, c.side_number.ensures.side ∙ ap (λ (k : ℕ). number_of M (above_item k)) c.len.ensures.len, c.met_number.ensures.number),
       );
     }
