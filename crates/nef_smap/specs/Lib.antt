@@ -1,7 +1,14 @@
 pub mod Maps
 pub mod Sides
 pub mod Stars
+pub mod Above
+pub mod Joined
 pub mod Items
 pub mod Ways
+pub mod SideNumbers
+pub mod Links
+pub mod Classes
+pub mod Close
+pub mod JoinLinks
 pub mod Linear
 pub mod Wide

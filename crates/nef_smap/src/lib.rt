@@ -6,12 +6,16 @@
 //! al., "Boolean Operations on 3D Selective Nef Complexes", ESA 2003.
 #![tactic(auto)]
 
+mod above;
+mod classes;
 mod duplicate;
 mod item;
+mod join;
 mod linear;
 mod locate;
 mod map;
 mod meets;
+mod sface;
 mod side;
 mod sight;
 mod simple;
@@ -20,9 +24,11 @@ mod stars;
 mod tests;
 mod way;
 
+pub use classes::{Link, class_numbers, class_of_each};
 pub use duplicate::copy;
 pub use locate::{at, label_at};
 pub use map::{RawStars, SArc, SLoop, SPlace, SVertex, SphereMap};
+pub use sface::sfaces;
 pub use side::{side_label, sides};
 pub use simple::{face_map, plane_map};
 pub use stars::star_at;

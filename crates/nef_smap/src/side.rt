@@ -46,6 +46,7 @@ pub(crate) fn item_side(map: &SphereMap, number: usize, above: bool) -> usize
 /// face of a map that has nothing else.
 pub fn sides(map: &SphereMap) -> usize
     ensures count { result ≡ length (sides_of (map_of map.now)) }
+    ensures small { result < 2 ^ 62 }
 {
     around_sides(map) + 2 * item_count(map) + usize::from(map.ground.is_some())
 }

@@ -1,0 +1,54 @@
+-- Signs of the program's products, and directions along the coordinate axes.
+use Rattle.std.proofs.Common.{◌≡◌, ◌≢◌, ℤ, pos, ◌+ℤ◌, ◌-ℤ◌, ◌*ℤ◌, ◌<ℤ◌, arith, refl, ap, sym, ◌∙◌, subst}
+use Rattle.std.proofs.lemmas.Int.{ints}
+use Rattle.nef_exact.proofs.Order.{Sign, minus, nought, plus, sign, plus-is, minus-is, nought-is}
+use Rattle.nef_space.specs.Vectors.{Vector, vector, IsDirection, IsZero, cross, triple, dot, up, opposite, SameDirection}
+use Rattle.nef_near.proofs.FlatDecided.{triple-dot}
+use Rattle.nef_forms.proofs.Far.{same-nought}
+use Rattle.nef_geo.specs.Signs.{sign_of}
+use Rattle.nef_geo.specs.declared.sign.Sign.{Sign as GeoSign}
+use Rattle.nef_geo.specs.declared.sign.Sign.TheVariants.{Minus, Zero, Plus}
+use Rattle.nef_sphere.proofs.Labels.{way-signs}
+use Rattle.nef_smap.specs.Close.{geo_sign}
+use Rattle.nef_smap.proofs.CloseSigns.{geo-of, geo-one}
+use Rattle.nef_smap.proofs.Stands.{dot-opposite}
+
+pub plus-of : (r : GeoSign) (z : ℤ) → r ≡ sign_of z → r ≡ Plus → pos 0 <ℤ z
+plus-of r z e f = plus-is z (geo-one (sign z) plus (sym (geo-of z) ∙ sym e ∙ f))
+
+pub minus-of : (r : GeoSign) (z : ℤ) → r ≡ sign_of z → r ≡ Minus → z <ℤ pos 0
+minus-of r z e f = minus-is z (geo-one (sign z) minus (sym (geo-of z) ∙ sym e ∙ f))
+
+pub zero-of : (r : GeoSign) (z : ℤ) → r ≡ sign_of z → r ≡ Zero → z ≡ pos 0
+zero-of r z e f = nought-is z (geo-one (sign z) nought (sym (geo-of z) ∙ sym e ∙ f))
+
+pub off-of : (r : GeoSign) (z : ℤ) → r ≡ sign_of z → r ≢ Zero → z ≢ pos 0
+off-of r z e f h = f (e ∙ ap sign_of h)
+
+pub back-along : (d a b : Vector) → b ≡ opposite a → dot d a <ℤ pos 0 → pos 0 <ℤ dot d b
+back-along d a b e h = let q = dot-opposite d a in subst (λ (r : Vector). pos 0 <ℤ dot d r) (sym e) (omega (arith, ints))
+
+-- ---- the axes
+abbrev x_axis : Vector
+x_axis = vector (pos 1) (pos 0) (pos 0)
+
+abbrev y_axis : Vector
+y_axis = vector (pos 0) (pos 1) (pos 0)
+
+abbrev z_axis : Vector
+z_axis = vector (pos 0) (pos 0) (pos 1)
+
+axis-nought : (e a d : Vector) → IsDirection e → SameDirection e a → dot d a ≡ pos 0 → dot d e ≡ pos 0
+axis-nought e a d h w z = same-nought (dot d a) (dot d e) (sym (way-signs e a d h w)) z
+
+-- a form that is nought along all axes is nought
+pub axes-nought : (d x y z : Vector) → SameDirection x_axis x → SameDirection y_axis y → SameDirection z_axis z → dot d x ≡ pos 0 → dot d y ≡ pos 0 → dot d z ≡ pos 0 → IsZero d
+axes-nought d x y z a b c p q r =
+    let i = axis-nought x_axis x d (λ h. let e = h.0 in omega (arith, ints)) a p in
+    let j = axis-nought y_axis y d (λ h. let e = h.1 in omega (arith, ints)) b q in
+    let k = axis-nought z_axis z d (λ h. let e = h.2 in omega (arith, ints)) c r in
+    (omega (arith, ints), omega (arith, ints), omega (arith, ints))
+
+-- the triple product with the upward direction
+pub up-triple : (r : GeoSign) (u d a : Vector) → r ≡ sign_of (triple u d a) → u ≡ up → r ≡ sign_of (dot (cross up d) a)
+up-triple r u d a e f = e ∙ ap sign_of (triple-dot u d a ∙ ap (λ (v : Vector). dot (cross v d) a) f)

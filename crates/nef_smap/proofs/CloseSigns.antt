@@ -1,0 +1,116 @@
+-- The signs of directions close to one on the forms that say what lies over them, as the program computes them.
+use Rattle.std.proofs.Common.{◌≡◌, ℕ, ◌≤◌, zero, suc, ℤ, pos, negsuc, ◌+ℤ◌, ◌-ℤ◌, ◌*ℤ◌, ◌<ℤ◌, arith, refl, ap, sym, ◌∙◌, ◌⊎◌, inl, inr, ⊎_elim, List, [], ◌∷◌, map, slice_get, Some, ◌↔◌}
+use Rattle.std.proofs.lemmas.Int.{ints}
+use Rattle.nef_exact.proofs.Ring.{ring, at, num, neg, ◌⊕◌, ◌⊖◌, ◌⊗◌}
+use Rattle.nef_exact.proofs.Order.{Sign, minus, nought, plus, sign, sign-plus, sign-minus}
+use Rattle.nef_space.specs.Vectors.{Vector, dot, cross, triple, opposite, up, IsAtMost}
+use Rattle.nef_geo.specs.Signs.{sign_of}
+use Rattle.nef_geo.specs.Shapes.{vector_of}
+use Rattle.nef_geo.specs.declared.sign.Sign.{Sign as GeoSign}
+use Rattle.nef_geo.specs.declared.sign.Sign.TheVariants.{Minus, Zero, Plus}
+use Rattle.nef_smap.specs.declared.above.Close.{Close}
+use Rattle.nef_smap.specs.declared.above.Lean.{Lean}
+use Rattle.nef_smap.specs.declared.above.Lean.TheVariants.{Down, Up, Along}
+use Rattle.nef_smap.specs.Above.{rise_form, first_sign}
+use Rattle.nef_smap.specs.Close.{geo_sign, toward, then_toward, close_sign, ArcPasses}
+use Rattle.nef_sphere.specs.Maps.{way_of}
+use Rattle.nef_smap.specs.declared.map.SVertex.{SVertex}
+use Rattle.nef_smap.specs.Maps.{svertex_of}
+use Rattle.nef_smap.proofs.Rise.{rise_form-level, rise_form-value}
+use Rattle.nef_smap.proofs.Stands.{dot-opposite}
+use Rattle.nef_sphere.proofs.Direct.{cross-self}
+
+pub geo-of : (z : ℤ) → sign_of z ≡ geo_sign (sign z)
+geo-of (pos zero) = refl
+geo-of (pos (suc n)) = refl
+geo-of (negsuc n) = refl
+
+pub first-last : (s : Sign) → first_sign s nought ≡ s
+first-last minus = refl
+first-last nought = refl
+first-last plus = refl
+
+-- ---- a normal
+pub side-down : (n a : Vector) → pos 0 <ℤ dot n up → first_sign (sign (dot n (toward Down a))) (sign (dot n (then_toward Down a))) ≡ minus
+side-down n a h = let e = dot-opposite n up in ap (λ s. first_sign s (sign (dot n a))) (sign-minus (dot n (opposite up)) (omega (arith, ints)))
+
+pub side-up : (n a : Vector) → pos 0 <ℤ dot n up → first_sign (sign (dot n (toward Up a))) (sign (dot n (then_toward Up a))) ≡ plus
+side-up n a h = ap (λ s. first_sign s (sign (dot n a))) (sign-plus (dot n up) h)
+
+pub side-along : (n a : Vector) → pos 0 <ℤ dot n up → first_sign (sign (dot n (toward Along a))) (sign (dot n (then_toward Along a))) ≡ first_sign (sign (dot n a)) plus
+side-along n a h = ap (first_sign (sign (dot n a))) (sign-plus (dot n up) h)
+
+-- ---- a form that is nought at up
+pub level-sign : (m : Vector) (w : Close) → dot m up ≡ pos 0 → close_sign m w ≡ first_sign (sign (dot m (vector_of w.at))) (sign (dot m (vector_of w.aside)))
+level-sign m w z = ap (first_sign (sign (dot m (vector_of w.at)))) (by w.lean (vector_of w.aside))
+  where
+    by : (l : Lean) (a : Vector) → first_sign (sign (dot m (toward l a))) (sign (dot m (then_toward l a))) ≡ sign (dot m a)
+    by Down a = let e = dot-opposite m up in let f : dot m (opposite up) ≡ pos 0 = omega (arith, ints) in ap (λ s. first_sign s (sign (dot m a))) (ap sign f)
+    by Up a = ap (λ s. first_sign s (sign (dot m a))) (ap sign z)
+    by Along a = ap (first_sign (sign (dot m a))) (ap sign z) ∙ first-last (sign (dot m a))
+
+-- the turn as a form
+pub turn-form : (s d u : Vector) → triple s d u ≡ dot (cross u s) d
+turn-form s d u = ring (s.x ∷ s.y ∷ s.z ∷ d.x ∷ d.y ∷ d.z ∷ u.x ∷ u.y ∷ u.z ∷ [])
+    (at 0 ⊗ (at 4 ⊗ at 8 ⊖ at 5 ⊗ at 7) ⊕ at 1 ⊗ (at 5 ⊗ at 6 ⊖ at 3 ⊗ at 8) ⊕ at 2 ⊗ (at 3 ⊗ at 7 ⊖ at 4 ⊗ at 6))
+    ((at 7 ⊗ at 2 ⊖ at 8 ⊗ at 1) ⊗ at 3 ⊕ (at 8 ⊗ at 0 ⊖ at 6 ⊗ at 2) ⊗ at 4 ⊕ (at 6 ⊗ at 1 ⊖ at 7 ⊗ at 0) ⊗ at 5) tt
+
+-- and where two planes meet over d
+pub meeting-form : (u d n m : Vector) → dot (cross u d) (cross n m) ≡ dot (rise_form u n m) d
+meeting-form u d n m =
+    let ux = at 0 in let uy = at 1 in let uz = at 2 in let dx = at 3 in let dy = at 4 in let dz = at 5 in
+    let nx = at 6 in let ny = at 7 in let nz = at 8 in let mx = at 9 in let my = at 10 in let mz = at 11 in
+    ring (u.x ∷ u.y ∷ u.z ∷ d.x ∷ d.y ∷ d.z ∷ n.x ∷ n.y ∷ n.z ∷ m.x ∷ m.y ∷ m.z ∷ [])
+    ((uy ⊗ dz ⊖ uz ⊗ dy) ⊗ (ny ⊗ mz ⊖ nz ⊗ my) ⊕ (uz ⊗ dx ⊖ ux ⊗ dz) ⊗ (nz ⊗ mx ⊖ nx ⊗ mz) ⊕ (ux ⊗ dy ⊖ uy ⊗ dx) ⊗ (nx ⊗ my ⊖ ny ⊗ mx))
+    ((nx ⊗ ux ⊕ ny ⊗ uy ⊕ nz ⊗ uz) ⊗ (mx ⊗ dx ⊕ my ⊗ dy ⊕ mz ⊗ dz) ⊕ (num (pos 0) ⊖ (mx ⊗ ux ⊕ my ⊗ uy ⊕ mz ⊗ uz)) ⊗ (nx ⊗ dx ⊕ ny ⊗ dy ⊕ nz ⊗ dz)) tt
+    ∙ sym (rise_form-value u n m d)
+
+pub smaller : (k l : ℕ) (d : Vector) → k ≤ l → IsAtMost k d → IsAtMost l d
+smaller k l d h s = let a = s.of_x in let b = s.of_y in let c = s.of_z in record { of_x = omega arith; of_y = omega arith; of_z = omega arith }
+
+-- ---- signs as the program has them
+pub read-dot : (r : GeoSign) (z : ℤ) → r ≡ sign_of z → r ≡ geo_sign (sign z)
+read-dot r z e = e ∙ geo-of z
+
+pub read-turn : (r : GeoSign) (d a u : Vector) → r ≡ sign_of (triple d a u) → u ≡ up → r ≡ geo_sign (sign (dot (cross up d) a))
+read-turn r d a u e f = e ∙ geo-of (triple d a u) ∙ ap (λ (z : ℤ). geo_sign (sign z)) (ap (triple d a) f ∙ turn-form d a up)
+
+pub read-meeting : (r : GeoSign) (a n m u : Vector) → r ≡ sign_of (dot (cross u a) (cross n m)) → u ≡ up → r ≡ geo_sign (sign (dot (rise_form up n m) a))
+read-meeting r a n m u e f = e ∙ geo-of (dot (cross u a) (cross n m)) ∙ ap (λ (z : ℤ). geo_sign (sign z)) (ap (λ (v : Vector). dot (cross v a) (cross n m)) f ∙ meeting-form up a n m)
+
+abbrev beyond_sign : Vector → Lean → Vector → Sign
+beyond_sign n l a = first_sign (sign (dot n (toward l a))) (sign (dot n (then_toward l a)))
+
+pub beyond-down : (n a : Vector) (l : Lean) (b : GeoSign) → pos 0 <ℤ dot n up → l ≡ Down → b ≡ Minus → b ≡ geo_sign (beyond_sign n l a)
+beyond-down n a l b h e f = f ∙ sym (ap geo_sign (ap (λ (k : Lean). beyond_sign n k a) e ∙ side-down n a h))
+
+pub beyond-up : (n a : Vector) (l : Lean) (b : GeoSign) → pos 0 <ℤ dot n up → l ≡ Up → b ≡ Plus → b ≡ geo_sign (beyond_sign n l a)
+beyond-up n a l b h e f = f ∙ sym (ap geo_sign (ap (λ (k : Lean). beyond_sign n k a) e ∙ side-up n a h))
+
+pub beyond-along : (n a : Vector) (l : Lean) (b : GeoSign) → pos 0 <ℤ dot n up → l ≡ Along → b ≡ geo_sign (first_sign (sign (dot n a)) plus) → b ≡ geo_sign (beyond_sign n l a)
+beyond-along n a l b h e f = f ∙ sym (ap geo_sign (ap (λ (k : Lean). beyond_sign n k a) e ∙ side-along n a h))
+
+pub geo-one : (s t : Sign) → geo_sign s ≡ geo_sign t → s ≡ t
+geo-one minus minus e = refl
+geo-one minus nought e = absurd cc
+geo-one minus plus e = absurd cc
+geo-one nought minus e = absurd cc
+geo-one nought nought e = refl
+geo-one nought plus e = absurd cc
+geo-one plus minus e = absurd cc
+geo-one plus nought e = absurd cc
+geo-one plus plus e = refl
+
+pub passes-alike : (s : Sign) (A A' B B' C C' : Type 0) → (A ↔ A') → (B ↔ B') → (C ↔ C') → ArcPasses s A B C ↔ ArcPasses s A' B' C'
+passes-alike plus A A' B B' C C' a b c = (λ p. (a.0 p.0, b.0 p.1), λ p. (a.1 p.0, b.1 p.1))
+passes-alike minus A A' B B' C C' a b c = (λ p. ⊎_elim (λ x. inl (a.0 x)) (λ x. inr (b.0 x)) p, λ p. ⊎_elim (λ x. inl (a.1 x)) (λ x. inr (b.1 x)) p)
+passes-alike nought A A' B B' C C' a b c = (λ p. ⊎_elim (λ x. inl (c.0 x)) (λ x. inr (a.0 x)) p, λ p. ⊎_elim (λ x. inl (c.1 x)) (λ x. inr (a.1 x)) p)
+
+-- a test of a sign
+pub sign-test : (T : Type 0) (r : GeoSign) (s t : Sign) → (T ↔ (r ≡ geo_sign t)) → r ≡ geo_sign s → T ↔ (s ≡ t)
+sign-test T r s t d e = (λ h. geo-one s t (sym e ∙ d.0 h), λ h. d.1 (e ∙ ap geo_sign h))
+
+pub way-from_get : (vs : List SVertex) (k : ℕ) (v : SVertex) → slice_get vs k ≡ Some v → way_of (map svertex_of vs) k ≡ vector_of v.dir
+way-from_get [] k v e = cc
+way-from_get (w ∷ vs) zero v e = let f : w ≡ v = cc in ap (λ (r : SVertex). vector_of r.dir) f
+way-from_get (w ∷ vs) (suc k) v e = way-from_get vs k v e

@@ -1,0 +1,14 @@
+use Rattle.std.proofs.Common.{ℕ, ◌<◌, IfSome, length}
+use Rattle.nef_space.specs.Vectors.{Vector, up}
+use Rattle.nef_sphere.specs.Maps.{items}
+use Rattle.nef_smap.specs.Maps.{map_of}
+use Rattle.nef_smap.specs.Above.{IsFirstOf}
+use Rattle.nef_smap.specs.Close.{IsClose}
+use Rattle.nef_smap.proofs.above.above.Given as goal
+
+pub record IsFirstSoFar (within first : Type 0) : Type 0 where
+  pub is_within : within
+  pub is_first : first
+
+abbrev pub invariant-loop-number : goal.invariant-loop-number
+invariant-loop-number l = IsFirstSoFar (IfSome l.first (λ k. k < length (items (map_of l.map)))) ((d : Vector) → IsClose l.map l.way d → IsFirstOf (map_of l.map) up d l.number l.first)

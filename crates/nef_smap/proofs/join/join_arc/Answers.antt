@@ -1,0 +1,72 @@
+use Rattle.std.proofs.Common.{◌≡◌, ℕ, pos, ◌<ℤ◌, ◌<◌, length, arith, refl, sym, ap, ◌∙◌, subst, Option}
+use Rattle.nef_space.specs.Vectors.{Vector, dot, triple, up, SameDirection}
+use Rattle.nef_geo.specs.Shapes.{vector_of}
+use Rattle.nef_sphere.specs.Maps.{arc_item, items, way_of}
+use Rattle.nef_smap.specs.Maps.{map_of, svertex_of, arc_of}
+use Rattle.nef_smap.specs.Joined.{FirstNear}
+use Rattle.nef_smap.proofs.CloseSigns.{way-from_get}
+use Rattle.nef_smap.proofs.MapLists.{at-within}
+use Rattle.nef_smap.proofs.Upward.{ends-within, map-ahead}
+use Rattle.nef_smap.proofs.Joining.{arc-listed, arc-item_listed, source-level, normal-small, cross-level, along-some, along-forward, along-off, dir-small}
+use Rattle.nef_smap.proofs.join.join_arc.Goals as goal
+
+pub at-requires : goal.at-requires
+at-requires c =
+    let m = c.args.map.now in
+    let e = ends-within m c.requires.map c.args.number c.at-arc.result.now (arc-item_listed m c.requires.map c.args.number c.at-arc.result.now c.at-arc.ensures.element) in
+    record { within = e.0 }
+
+pub cross-requires-clause-a_small : goal.cross-requires-clause-a_small
+cross-requires-clause-a_small c =
+    let m = c.args.map.now in
+    normal-small m c.requires.map c.args.number (arc_item (arc_of c.at-arc.result.now)) (arc-item_listed m c.requires.map c.args.number c.at-arc.result.now c.at-arc.ensures.element)
+
+pub unreachable-requires : goal.unreachable-requires
+unreachable-requires c =
+    let m = c.args.map.now in
+    let l = source-level m c.requires.map c.args.number c.at-arc.result.now c.at-arc.ensures.element c.at.result.now c.at.ensures.element in
+    along-some (vector_of c.at-arc.result.now.normal) (vector_of c.at.result.now.dir) (vector_of c.axis_along.result) c.at-arc.result.now.normal.some l c.axis_along.ensures.along (c.in_default.ensures.none.0 refl)
+
+pub side_number-requires : goal.side_number-requires
+side_number-requires c =
+    let m = c.args.map.now in
+    record { within = at-within (items (map_of m)) c.args.number (arc_item (arc_of c.at-arc.result.now)) (arc-item_listed m c.requires.map c.args.number c.at-arc.result.now c.at-arc.ensures.element) }
+
+pub above-requires-clause-off : goal.above-requires-clause-off
+above-requires-clause-off c =
+    let m = c.args.map.now in
+    let r = c.at-arc.result.now in
+    let n = vector_of r.normal in
+    let s = vector_of c.at.result.now.dir in
+    let a = arc-item_listed m c.requires.map c.args.number r c.at-arc.ensures.element in
+    let l = source-level m c.requires.map c.args.number r c.at-arc.ensures.element c.at.result.now c.at.ensures.element in
+    along-off n s (vector_of c.in-Some.aside) up l (cross-level n (vector_of c.axis_along.result) (vector_of c.in-Some.aside) c.in-Some.ensures.cross)
+    (along-forward n s (vector_of c.axis_along.result) r.normal.some l c.axis_along.ensures.along (vector_of c.in-Some.aside) c.in-Some.ensures.cross)
+    (map-ahead m c.requires.map c.args.number (arc_item (arc_of r)) a)
+
+pub above-requires-clause-at_small : goal.above-requires-clause-at_small
+above-requires-clause-at_small c = dir-small c.args.map.now c.requires.map c.at-arc.result.now.source c.at.result.now c.at.ensures.element
+
+pub returns : goal.returns
+returns c =
+    let m = c.args.map.now in
+    let M = map_of m in
+    let r = c.at-arc.result.now in
+    let n = vector_of r.normal in
+    let s = vector_of c.at.result.now.dir in
+    let w = way-from_get m.svertices r.source c.at.result.now c.at.ensures.element in
+    let l = source-level m c.requires.map c.args.number r c.at-arc.ensures.element c.at.result.now c.at.ensures.element in
+    let y = vector_of c.in-Some.aside in
+    record {
+      joins = (
+        arc_of r,
+        arc-listed m.arcs c.args.number r c.at-arc.ensures.element,
+        (record {
+          along = y;
+          level = cross-level n (vector_of c.axis_along.result) y c.in-Some.ensures.cross;
+          forward = subst (λ (x : Vector). pos 0 <ℤ triple n x y) (sym w) (along-forward n s (vector_of c.axis_along.result) r.normal.some l c.axis_along.ensures.along y c.in-Some.ensures.cross);
+          first = c.above.result;
+          is_first = subst (λ (x : Vector). FirstNear M up x y up c.above.result) (sym w) c.above.ensures.first;
+        }, c.side_number.ensures.side, c.met_number.ensures.number),
+      );
+    }

@@ -1,0 +1,62 @@
+use Rattle.std.proofs.Common.{◌≡◌, ◌+◌, ◌≤◌, ℕ, List, [], arith, refl, sym, ap, ◌∙◌, subst, rules, Option, Some, None, is_some, true, false, Vec, Global}
+use Rattle.nef_space.specs.declared.label.Label.{Label}
+use Rattle.nef_smap.specs.declared.classes.Link.{Link}
+use Rattle.nef_smap.specs.Maps.{map_of, svertex_of}
+use Rattle.nef_smap.specs.SideNumbers.{one_if, arounds_before}
+use Rattle.nef_smap.specs.JoinLinks.{AreArounds}
+use Rattle.nef_smap.proofs.Joining.{svertex-listed}
+use Rattle.nef_smap.proofs.LinkLists.{arounds-none, arounds-more, arounds-pass, arounds-start, arounds-next}
+use Rattle.nef_smap.proofs.sface.around_links.Goals as goal
+use Rattle.nef_smap.proofs.sface.around_links.Goals.{then-is_some+in_ok-push, else-is_some}
+
+some-of : (o : Option Label) → is_some o ≡ true → (m : Label) × (o ≡ Some m)
+some-of None e = absurd cc
+some-of (Some m) e = (m, refl)
+
+none-of : (o : Option Label) → is_some o ≡ false → o ≡ None
+none-of None e = refl
+none-of (Some m) e = absurd cc
+
+pub loop-number-init : goal.loop-number-init
+loop-number-init c =
+    let M = map_of c.args.map.now in
+    record { all_links = subst (λ (ls : List Link). AreArounds M 0 ls) (sym c.new-links.ensures.items) (arounds-none M); side_number = sym (arounds-start M.svertices); few_sides = omega arith }
+
+pub join_around-requires-clause-around : goal.join_around-requires-clause-around
+join_around-requires-clause-around c =
+    let v = c.at.result.now in
+    let some : is_some v.around ≡ true = search rules in
+    let m = some-of v.around some in
+    (svertex_of v, m.0, svertex-listed c.args.map.now.svertices c.loop-number.number v c.at.ensures.element, m.1)
+
+pub loop-number-preserved : goal.loop-number-preserved
+loop-number-preserved c =
+    let M = map_of c.args.map.now in
+    let n = c.loop-number.number in
+    let v = c.at.result.now in
+    let a = svertex-listed c.args.map.now.svertices n v c.at.ensures.element in
+    let next = arounds-next M.svertices n (svertex_of v) a in
+    let side = c.loop-number.invariant.side_number in
+    let few = c.loop-number.invariant.few_sides in
+    elim c.if-is_some.branch [
+      | then-is_some+in_ok-push w ↦
+      let some : is_some v.around ≡ true = search rules in
+      let m = some-of v.around some in
+      let one : one_if v.around ≡ 1 = ap one_if m.1 in
+      let items = ap (λ (x : Vec Link Global). x.items) w.links-is ∙ w.in_ok-push.ensures.items in
+      record {
+        all_links = subst (λ (ls : List Link). AreArounds M (n + 1) ls) (sym items) (arounds-more M n c.loop-number.links.items w.join_around.result w.join_around.ensures.joins c.loop-number.invariant.all_links);
+        side_number = omega (arith, w.side-is, next, one, side);
+        few_sides = omega (arith, w.side-is, few);
+      }
+      | else-is_some w ↦
+      let none : is_some v.around ≡ false = search rules in
+      let m = none-of v.around none in
+      let zero_one : one_if v.around ≡ 0 = ap one_if m in
+      let items = ap (λ (x : Vec Link Global). x.items) w.links-is in
+      record {
+        all_links = subst (λ (ls : List Link). AreArounds M (n + 1) ls) (sym items) (arounds-pass M n c.loop-number.links.items (svertex_of v) a m c.loop-number.invariant.all_links);
+        side_number = omega (arith, w.side-is, next, zero_one, side);
+        few_sides = omega (arith, w.side-is, few);
+      }
+    ]

@@ -1,0 +1,57 @@
+-- What lies over a direction: what the way from it to a fixed direction u meets first.
+use Rattle.std.specs.Prelude.{◌≡◌, ℕ, ◌<◌, pos, ◌-ℤ◌, ◌≤ℤ◌, ◌<ℤ◌, List, [], ◌∷◌, ◌++◌, Option, Some, None}
+use Rattle.nef_exact.specs.Signs.{Sign, minus, nought, plus, sign, Lies}
+use Rattle.nef_space.specs.Vectors.{Vector, dot, cross}
+use Rattle.nef_sphere.specs.Vectors.{comb}
+use Rattle.nef_sphere.specs.Maps.{At, Map, Item, items, item_normal, OnItem}
+use Rattle.nef_sphere.specs.Forms.{gather, forms}
+
+-- where the way from d to u meets the plane of n, which parts them
+abbrev pub rise : Vector → Vector → Vector → Vector
+rise u n d = comb (dot n u) d (pos 0 -ℤ dot n d) u
+
+-- the form that takes on d the value that g takes on rise u n d
+abbrev pub rise_form : Vector → Vector → Vector → Vector
+rise_form u n g = comb (dot n u) g (pos 0 -ℤ dot g u) n
+
+-- the way from d, on the lower side of the item's plane, to u, on its upper side, meets the item
+pub record IsOver (M : Map) (u : Vector) (x : Item) (d : Vector) : Type 0 where
+  pub below : dot (item_normal x) d <ℤ pos 0
+  pub on : OnItem M x (rise u (item_normal x) d)
+
+-- the way from d to u meets item k, and no item before it
+pub record IsFirstItem (M : Map) (u d : Vector) (k : ℕ) : Type 0 where
+  pub item : Item
+  pub listed : At (items M) k item
+  pub over : IsOver M u item d
+  pub first : (l : ℕ) (y : Item) → At (items M) l y → IsOver M u y d → pos 0 ≤ℤ dot (item_normal item) (rise u (item_normal y) d)
+
+-- what the way from d to u meets first: an item, or none
+abbrev pub IsFirst : Map → Vector → Vector → Option ℕ → Type 0
+IsFirst M u d None = (k : ℕ) (x : Item) → At (items M) k x → IsOver M u x d → ⊥
+IsFirst M u d (Some k) = IsFirstItem M u d k
+
+-- the same among the first n items
+abbrev pub IsFirstOf : Map → Vector → Vector → ℕ → Option ℕ → Type 0
+IsFirstOf M u d n None = (k : ℕ) (x : Item) → k < n → At (items M) k x → IsOver M u x d → ⊥
+IsFirstOf M u d n (Some k) = (x : Item) × At (items M) k x × IsOver M u x d × ((l : ℕ) (y : Item) → l < n → At (items M) l y → IsOver M u y d → pos 0 ≤ℤ dot (item_normal x) (rise u (item_normal y) d))
+
+-- the forms whose signs say what lies over a direction
+abbrev pub rise_forms : Map → Vector → List Vector
+rise_forms M u = gather (λ (x : Item). gather (λ (g : Vector). rise_form u (item_normal x) g ∷ []) (forms M)) (items M)
+
+abbrev pub meridians : Map → Vector → List Vector
+meridians M u = gather (λ v. cross u v.way ∷ []) M.svertices ++ rise_forms M u
+
+abbrev pub over_forms : Map → Vector → List Vector
+over_forms M u = forms M ++ meridians M u
+
+-- the first sign that isn't nought
+abbrev pub first_sign : Sign → Sign → Sign
+first_sign minus s = minus
+first_sign nought s = s
+first_sign plus s = plus
+
+-- d has the signs of a on the forms, those of b where these are nought, and those of c where both are
+abbrev pub Stands : List Vector → Vector → Vector → Vector → Vector → Type 0
+Stands gs a b c d = (g : Vector) → Lies gs g → sign (dot g d) ≡ first_sign (sign (dot g a)) (first_sign (sign (dot g b)) (sign (dot g c)))

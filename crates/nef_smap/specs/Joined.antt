@@ -1,0 +1,66 @@
+-- What has to hold of labels of a map's sides so that two sides that see one direction have one label.
+use Rattle.std.specs.Prelude.{◌≡◌, ℕ, pos, ◌<ℤ◌, Option, Some, None}
+use Rattle.nef_space.specs.Vectors.{Vector, dot, cross, triple, opposite}
+use Rattle.nef_space.specs.declared.label.Label.{Label}
+use Rattle.nef_space.specs.declared.label.Label.TheVariants.{Out}
+use Rattle.nef_cyclic.specs.Arcs.{IsOnCircle}
+use Rattle.nef_sphere.specs.Maps.{At, Svertex, Arc, Loop, Map, loop_item, items, way_of, Side, around_svertex, above_item, below_item, whole}
+use Rattle.nef_smap.specs.Above.{IsFirst, over_forms, Stands}
+
+-- the label of what is met first: of the lower side of an item, or of u
+abbrev pub met : (Side → Label) → Label → Option ℕ → Label
+met G top None = top
+met G top (Some k) = G (below_item k)
+
+-- what lies over all directions that are close to a, toward b, and there toward c
+abbrev pub FirstNear : Map → Vector → Vector → Vector → Vector → Option ℕ → Type 0
+FirstNear M u a b c r = (d : Vector) → Stands (over_forms M u) a b c d → IsFirst M u d r
+
+-- what lies over the directions just below w, to one side of its meridian and to the other
+pub record BelowFirsts (M : Map) (u w : Vector) : Type 0 where
+  pub aside : Vector
+  pub off : dot (cross u w) aside ≡ pos 0 → ⊥
+  pub left : Option ℕ
+  pub right : Option ℕ
+  pub left_first : FirstNear M u w (opposite u) aside left
+  pub right_first : FirstNear M u w (opposite u) (opposite aside) right
+
+-- what lies over the directions just below w, to one side
+pub record BelowFirst (M : Map) (u w : Vector) : Type 0 where
+  pub aside : Vector
+  pub off : dot (cross u w) aside ≡ pos 0 → ⊥
+  pub first : Option ℕ
+  pub is_first : FirstNear M u w (opposite u) aside first
+
+-- what lies over the directions close to the source of an arc: along it, and then up
+pub record ArcFirst (M : Map) (u : Vector) (a : Arc) : Type 0 where
+  pub along : Vector
+  pub level : dot a.normal along ≡ pos 0
+  pub forward : pos 0 <ℤ triple a.normal (way_of M.svertices a.source) along
+  pub first : Option ℕ
+  pub is_first : FirstNear M u (way_of M.svertices a.source) along u first
+
+-- what lies over one of the directions of a sloop
+pub record LoopFirst (M : Map) (u : Vector) (l : Loop) : Type 0 where
+  pub point : Vector
+  pub on : IsOnCircle l.normal point
+  pub aside : Vector
+  pub off : dot (cross u point) aside ≡ pos 0 → ⊥
+  pub first : Option ℕ
+  pub is_first : FirstNear M u point u aside first
+
+-- what the sides of a map are joined with
+pub record Firsts (M : Map) (u : Vector) : Type 0 where
+  pub svertices : (k : ℕ) (v : Svertex) → At M.svertices k v → BelowFirsts M u v.way
+  pub arounds : (k : ℕ) (v : Svertex) (m : Label) → At M.svertices k v → v.around ≡ Some m → BelowFirst M u v.way
+  pub arcs : (k : ℕ) (a : Arc) → At M.arcs k a → ArcFirst M u a
+  pub loops : (k : ℕ) (l : Loop) → At (items M) k (loop_item l) → LoopFirst M u l
+
+-- the labels agree at the joins: on both sides just below each svertex, and round it where it has no arc; above each item, and over it
+pub record Joins (M : Map) (u : Vector) (G : Side → Label) (top : Label) (F : Firsts M u) : Type 0 where
+  pub below : (k : ℕ) (v : Svertex) (a : At M.svertices k v) → (let j = F.svertices k v a in met G top j.left ≡ met G top j.right)
+  pub around : (k : ℕ) (v : Svertex) (m : Label) (a : At M.svertices k v) (q : v.around ≡ Some m) → (let j = F.arounds k v m a q in met G top j.first ≡ G (around_svertex k))
+  pub arcs : (k : ℕ) (a : Arc) (h : At M.arcs k a) → (let j = F.arcs k a h in met G top j.first ≡ G (above_item k))
+  pub loops : (k : ℕ) (l : Loop) (h : At (items M) k (loop_item l)) → (let j = F.loops k l h in met G top j.first ≡ G (above_item k))
+  pub ground : (m : Label) → M.face ≡ Some m → G whole ≡ top
+  pub never_out : (o : Side) → G o ≡ Out → ⊥

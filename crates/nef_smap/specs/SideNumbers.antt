@@ -1,0 +1,21 @@
+-- The numbers of a map's sides.
+use Rattle.std.specs.Prelude.{ℕ, zero, suc, ◌+◌, ◌*◌, List, [], ◌∷◌, length, Option, Some, None}
+use Rattle.nef_space.specs.declared.label.Label.{Label}
+use Rattle.nef_sphere.specs.Maps.{Svertex, Map, items, Side, around_svertex, above_item, below_item, whole}
+use Rattle.nef_smap.specs.Sides.{svertex_sides}
+
+abbrev pub one_if : Option Label → ℕ
+one_if None = 0
+one_if (Some l) = 1
+
+-- how many of the first k svertices have a label round them
+abbrev pub arounds_before : List Svertex → ℕ → ℕ
+arounds_before [] k = 0
+arounds_before (v ∷ vs) zero = 0
+arounds_before (v ∷ vs) (suc k) = one_if v.around + arounds_before vs k
+
+abbrev pub number_of : Map → Side → ℕ
+number_of M (around_svertex k) = arounds_before M.svertices k
+number_of M (above_item k) = length (svertex_sides 0 M.svertices) + 2 * k
+number_of M (below_item k) = length (svertex_sides 0 M.svertices) + (2 * k + 1)
+number_of M whole = length (svertex_sides 0 M.svertices) + 2 * length (items M)

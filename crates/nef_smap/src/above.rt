@@ -1,0 +1,161 @@
+//! What lies over directions of a sphere map: what the way from them to the upward direction meets first.
+
+ghost use Rattle.std.specs.Prelude.{◌≡◌, ◌+◌, ◌<◌, ℕ, IfSome, pos, ◌<ℤ◌, ◌↔◌, IsTrue, length, slice_get, Some};
+ghost use Rattle.nef_space.specs.Limits.{normal_limit, svertex_limit};
+ghost use Rattle.nef_exact.specs.Signs.{Sign as Signum, minus, plus, sign};
+ghost use Rattle.nef_space.specs.Vectors.{Vector, dot, cross, triple, up, IsAtMost};
+ghost use Rattle.nef_geo.specs.Shapes.{vector_of};
+ghost use Rattle.nef_sphere.specs.Maps.{At, Item as PlainItem, items, way_of};
+ghost use Rattle.nef_smap.specs.Maps.{map_of, IsSphereMap};
+ghost use Rattle.nef_smap.specs.Items.{item_of};
+ghost use Rattle.nef_smap.specs.Above.{first_sign, rise_form, IsOver, IsFirst, IsFirstOf};
+ghost use Rattle.nef_smap.specs.Close.{geo_sign, close_sign, IsClose, ArcPasses};
+
+use crate::item::{Item, item_at, item_count};
+use crate::map::{SArc, SphereMap};
+use nef_geo::{Dir, Sign, dot, quad, triple, up};
+
+// How directions lie close to one.
+#[derive(Clone, Copy)]
+pub(crate) enum Lean {
+    // Below it, and there a little aside.
+    Down,
+    // Over it, and there a little aside.
+    Up,
+    // Aside, and there a little over.
+    Along,
+}
+
+// The directions close to one, all of which have the same sign on each of a map's forms. They lie toward `aside`, and
+// also down or up.
+#[derive(Clone, Copy)]
+pub(crate) struct Close {
+    pub(crate) at: Dir,
+    pub(crate) aside: Dir,
+    pub(crate) lean: Lean,
+}
+
+// The first sign that isn't zero.
+fn first_of(first: Sign, second: Sign) -> Sign
+    ensures first { (s t : Signum) → first ≡ geo_sign s → second ≡ geo_sign t → result ≡ geo_sign (first_sign s t) }
+{
+    if first == Sign::Zero { second } else { first }
+}
+
+impl Close {
+    // The side of the normal's plane on which they lie.
+    fn side(&self, normal: &Dir) -> Sign
+        requires ahead { pos 0 <ℤ dot (vector_of normal.now) up }
+        ensures side { result ≡ geo_sign (close_sign (vector_of normal.now) self.now) }
+    {
+        let beyond = match self.lean {
+            Lean::Down => Sign::Minus,
+            Lean::Up => Sign::Plus,
+            Lean::Along => first_of(dot(normal, &self.aside), Sign::Plus),
+        };
+        first_of(dot(normal, &self.at), beyond)
+    }
+
+    // On which side of the plane of the upward direction and d they lie.
+    fn turn(&self, d: &Dir) -> Sign
+        ensures turn { result ≡ geo_sign (close_sign (cross up (vector_of d.now)) self.now) }
+    {
+        let up = up();
+        first_of(triple(d, &self.at, &up), triple(d, &self.aside, &up))
+    }
+
+    // On which side of the second normal's plane the way up from them meets the first normal's.
+    fn meeting(&self, first: &Dir, second: &Dir) -> Sign
+        requires at_small { IsAtMost svertex_limit (vector_of self.now.at) }
+        requires aside_small { IsAtMost svertex_limit (vector_of self.now.aside) }
+        requires first_small { IsAtMost normal_limit (vector_of first.now) }
+        requires second_small { IsAtMost normal_limit (vector_of second.now) }
+        ensures meeting { result ≡ geo_sign (close_sign (rise_form up (vector_of first.now) (vector_of second.now)) self.now) }
+    {
+        let up = up();
+        first_of(quad(&up, &self.at, first, second), quad(&up, &self.aside, first, second))
+    }
+}
+
+// Whether a direction on an arc's circle is strictly on it: by the turn from its source to its target, whether its source
+// is passed before the direction and its target after, each on less than half a circle, and whether the two are the same.
+fn is_passed(turn: Sign, past_source: bool, before_target: bool, whole: bool) -> bool
+    ensures passed { (s : Signum) → turn ≡ geo_sign s → IsTrue result ↔ ArcPasses s (IsTrue past_source) (IsTrue before_target) (IsTrue whole) }
+{
+    match turn {
+        Sign::Plus => past_source && before_target,
+        Sign::Minus => past_source || before_target,
+        Sign::Zero => whole || past_source,
+    }
+}
+
+// Whether the way up from the directions, which crosses the arc's circle, passes the arc.
+fn passes(map: &SphereMap, arc: &SArc, way: &Close) -> bool
+    requires source { arc.now.source < length map.now.svertices }
+    requires target { arc.now.target < length map.now.svertices }
+    ensures passes { let vs = (map_of map.now).svertices in IsTrue result ↔ ArcPasses (sign (triple (vector_of arc.now.normal) (way_of vs arc.now.source) (way_of vs arc.now.target))) (close_sign (cross up (way_of vs arc.now.source)) way.now ≡ plus) (close_sign (cross up (way_of vs arc.now.target)) way.now ≡ minus) (arc.now.source ≡ arc.now.target) }
+{
+    let source = map.svertices.at(arc.source).dir;
+    let target = map.svertices.at(arc.target).dir;
+    let past_source = way.turn(&source) == Sign::Plus;
+    let before_target = way.turn(&target) == Sign::Minus;
+    let turn = triple(&arc.normal, &source, &target);
+    is_passed(turn, past_source, before_target, arc.source == arc.target)
+}
+
+// Whether the way up from the directions meets the item.
+fn is_over(map: &SphereMap, item: &Item, way: &Close) -> bool
+    requires map { IsSphereMap map.now }
+    requires listed { (k : ℕ) × At (items (map_of map.now)) k (item_of item.now) }
+    requires off { dot (cross up (vector_of way.now.at)) (vector_of way.now.aside) ≡ pos 0 → ⊥ }
+    ensures over { (d : Vector) → IsClose map.now way.now d → IsTrue result ↔ IsOver (map_of map.now) up (item_of item.now) d }
+{
+    if way.side(item.normal()) != Sign::Minus {
+        return false;
+    }
+    match item {
+        Item::Arc(arc) => passes(map, arc, way),
+        Item::Loop(_) => true,
+    }
+}
+
+// The first that is met of the items before `number`, which is `earlier` if one of them is met, and of the item with this
+// number.
+fn first_met(map: &SphereMap, earlier: Option<usize>, number: usize, way: &Close) -> Option<usize>
+    requires map { IsSphereMap map.now }
+    requires earlier { IfSome earlier (λ k. k < length (items (map_of map.now))) }
+    requires number { number < length (items (map_of map.now)) }
+    requires off { dot (cross up (vector_of way.now.at)) (vector_of way.now.aside) ≡ pos 0 → ⊥ }
+    requires at_small { IsAtMost svertex_limit (vector_of way.now.at) }
+    requires aside_small { IsAtMost svertex_limit (vector_of way.now.aside) }
+    ensures within { IfSome result (λ k. k < length (items (map_of map.now))) }
+    ensures first { (d : Vector) → IsClose map.now way.now d → IsFirstOf (map_of map.now) up d number earlier → IsFirstOf (map_of map.now) up d (number + 1) result }
+{
+    let item = item_at(map, number);
+    if !is_over(map, &item, way) {
+        return earlier;
+    }
+    match earlier {
+        None => Some(number),
+        Some(best) => {
+            let lower = way.meeting(item.normal(), item_at(map, best).normal()) == Sign::Minus;
+            if lower { Some(number) } else { earlier }
+        }
+    }
+}
+
+// The item that the way up from the directions meets first.
+pub(crate) fn above(map: &SphereMap, way: &Close) -> Option<usize>
+    requires map { IsSphereMap map.now }
+    requires off { dot (cross up (vector_of way.now.at)) (vector_of way.now.aside) ≡ pos 0 → ⊥ }
+    requires at_small { IsAtMost svertex_limit (vector_of way.now.at) }
+    requires aside_small { IsAtMost svertex_limit (vector_of way.now.aside) }
+    ensures within { IfSome result (λ k. k < length (items (map_of map.now))) }
+    ensures first { (d : Vector) → IsClose map.now way.now d → IsFirst (map_of map.now) up d result }
+{
+    let mut first = None;
+    for number in 0..item_count(map) {
+        first = first_met(map, first, number, way);
+    }
+    first
+}

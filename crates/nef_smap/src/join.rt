@@ -1,0 +1,220 @@
+//! Which sides of a sphere map are joined with what.
+
+ghost use Rattle.std.specs.Prelude.{◌≡◌, ◌<◌, ◌≤ℤ◌, ◌<ℤ◌, ◌↔◌, ℕ, pos, length, IfSome, MatchOption, Option, Some, slice_get, cond};
+ghost use Rattle.nef_space.specs.Limits.{normal_limit, svertex_limit};
+ghost use Rattle.nef_space.specs.Vectors.{Vector, vector, dot, cross, triple, up, opposite, IsAtMost, IsDirection, SameDirection};
+ghost use Rattle.nef_geo.specs.Shapes.{vector_of};
+ghost use Rattle.nef_space.specs.declared.label.Label.{Label};
+ghost use Rattle.nef_sphere.specs.Maps.{At, Svertex as PlainSvertex, items, around_svertex, above_item, below_item};
+ghost use Rattle.nef_smap.specs.SideNumbers.{number_of};
+ghost use Rattle.nef_smap.specs.Maps.{map_of, loop_of, IsSphereMap};
+ghost use Rattle.nef_smap.specs.Joined.{BelowFirst, FirstNear};
+ghost use Rattle.nef_smap.specs.Links.{met_number};
+ghost use Rattle.nef_smap.specs.JoinLinks.{JoinsBelow, JoinsAround, JoinsArc, JoinsLoop};
+
+use crate::above::{Close, Lean, above};
+use crate::classes::Link;
+use crate::item::item_count;
+use crate::map::{SLoop, SphereMap};
+use crate::side::{item_side, sides};
+use nef_geo::{Dir, Sign, cross, dot, triple, up};
+
+// The directions along the coordinate axes.
+fn axis_x() -> Dir
+    ensures same { SameDirection (vector (pos 1) (pos 0) (pos 0)) (vector_of result) }
+    ensures small { IsAtMost 1 (vector_of result) }
+{
+    match Dir::of(1, 0, 0) {
+        Some(d) => d,
+        None => unreachable!(),
+    }
+}
+
+fn axis_y() -> Dir
+    ensures same { SameDirection (vector (pos 0) (pos 1) (pos 0)) (vector_of result) }
+    ensures small { IsAtMost 1 (vector_of result) }
+{
+    match Dir::of(0, 1, 0) {
+        Some(d) => d,
+        None => unreachable!(),
+    }
+}
+
+fn axis_z() -> Dir
+    ensures same { SameDirection (vector (pos 0) (pos 0) (pos 1)) (vector_of result) }
+    ensures small { IsAtMost 1 (vector_of result) }
+{
+    match Dir::of(0, 0, 1) {
+        Some(d) => d,
+        None => unreachable!(),
+    }
+}
+
+// The axis or its opposite, whichever has a positive product with d; none where the product is zero.
+fn turned_along(axis: Dir, d: &Dir) -> Option<Dir>
+    requires small { IsAtMost 1 (vector_of axis) }
+    ensures along { MatchOption result (dot (vector_of d.now) (vector_of axis) ≡ pos 0) (λ a. pos 0 <ℤ dot (vector_of d.now) (vector_of a)) }
+    ensures small { IfSome result (λ a. IsAtMost 1 (vector_of a)) }
+{
+    match dot(d, &axis) {
+        Sign::Plus => Some(axis),
+        Sign::Minus => Some(axis.back()),
+        Sign::Zero => None,
+    }
+}
+
+// A direction along a coordinate axis whose product with d is positive.
+fn axis_along(d: &Dir) -> Dir
+    ensures along { pos 0 <ℤ dot (vector_of d.now) (vector_of result) }
+    ensures small { IsAtMost 1 (vector_of result) }
+{
+    if let Some(x) = turned_along(axis_x(), d) {
+        return x;
+    }
+    if let Some(y) = turned_along(axis_y(), d) {
+        return y;
+    }
+    match turned_along(axis_z(), d) {
+        Some(z) => z,
+        None => unreachable!(),
+    }
+}
+
+// A direction along a coordinate axis that isn't in the plane of the upward direction and d.
+fn beside(d: &Dir) -> Dir
+    requires apart { IsDirection (cross up (vector_of d.now)) }
+    ensures off { dot (cross up (vector_of d.now)) (vector_of result) ≡ pos 0 → ⊥ }
+    ensures small { IsAtMost 1 (vector_of result) }
+{
+    let up = up();
+    let x = axis_x();
+    if triple(&up, d, &x) != Sign::Zero {
+        return x;
+    }
+    let y = axis_y();
+    if triple(&up, d, &y) != Sign::Zero {
+        return y;
+    }
+    axis_z()
+}
+
+// The number of a side of the item with this number: of that to which its normal points, or of the other.
+fn side_number(map: &SphereMap, item: usize, above: bool) -> usize
+    requires within { item < length (items (map_of map.now)) }
+    ensures side { result ≡ number_of (map_of map.now) (cond above (above_item item) (below_item item)) }
+{
+    let within = item < item_count(map);
+    prove!(within);
+    item_side(map, item, above)
+}
+
+// The number of what is met first: of the lower side of the item, or of the upward direction, which comes after the sides.
+fn met_number(map: &SphereMap, met: Option<usize>) -> usize
+    requires within { IfSome met (λ k. k < length (items (map_of map.now))) }
+    ensures number { result ≡ met_number (map_of map.now) met }
+{
+    match met {
+        Some(item) => side_number(map, item, false),
+        None => sides(map),
+    }
+}
+
+// What lies over the directions just below `at`, toward `aside`: its number.
+fn number_below(map: &SphereMap, at: Dir, aside: Dir) -> usize
+    requires map { IsSphereMap map.now }
+    requires off { dot (cross up (vector_of at)) (vector_of aside) ≡ pos 0 → ⊥ }
+    requires at_small { IsAtMost svertex_limit (vector_of at) }
+    requires aside_small { IsAtMost 1 (vector_of aside) }
+    ensures number { (r : Option ℕ) × (result ≡ met_number (map_of map.now) r) × FirstNear (map_of map.now) up (vector_of at) (opposite up) (vector_of aside) r }
+{
+    let way = Close {
+        at,
+        aside,
+        lean: Lean::Down,
+    };
+    met_number(map, above(map, &way))
+}
+
+// Joins what lies over the directions just below the svertex on both sides of its meridian.
+pub(crate) fn join_below(map: &SphereMap, number: usize) -> Link
+    requires map { IsSphereMap map.now }
+    requires number { number < length map.now.svertices }
+    ensures joins { JoinsBelow (map_of map.now) number result }
+{
+    let at = map.svertices.at(number).dir;
+    let aside = beside(&at);
+    Link {
+        first: number_below(map, at, aside),
+        second: number_below(map, at, aside.back()),
+    }
+}
+
+// Joins the side round the svertex, whose number is `side`, with what lies over the directions just below it.
+pub(crate) fn join_around(map: &SphereMap, number: usize, side: usize) -> Link
+    requires map { IsSphereMap map.now }
+    requires around { (v : PlainSvertex) × (m : Label) × At (map_of map.now).svertices number v × (v.around ≡ Some m) }
+    requires side { side ≡ number_of (map_of map.now) (around_svertex number) }
+    ensures joins { JoinsAround (map_of map.now) number result }
+{
+    let at = map.svertices.at(number).dir;
+    let aside = beside(&at);
+    Link {
+        first: side,
+        second: number_below(map, at, aside),
+    }
+}
+
+// Joins the side above the arc with what lies over directions close to its source: along the arc, and there up.
+pub(crate) fn join_arc(map: &SphereMap, number: usize) -> Link
+    requires map { IsSphereMap map.now }
+    requires number { number < length map.now.arcs }
+    ensures joins { JoinsArc (map_of map.now) number result }
+{
+    let arc = map.arcs.at(number);
+    let at = map.svertices.at(arc.source).dir;
+    let Some(aside) = cross(&arc.normal, &axis_along(&at)) else {
+        unreachable!()
+    };
+    let way = Close {
+        at,
+        aside,
+        lean: Lean::Along,
+    };
+    Link {
+        first: side_number(map, number, true),
+        second: met_number(map, above(map, &way)),
+    }
+}
+
+// A direction in the plane of the normal.
+fn in_plane(normal: &Dir) -> Dir
+    requires small { IsAtMost normal_limit (vector_of normal.now) }
+    ensures level { dot (vector_of normal.now) (vector_of result) ≡ pos 0 }
+    ensures small { IsAtMost svertex_limit (vector_of result) }
+{
+    if let Some(d) = cross(normal, &axis_x()) {
+        return d;
+    }
+    match cross(normal, &axis_y()) {
+        Some(d) => d,
+        None => unreachable!(),
+    }
+}
+
+// Joins the side above the sloop, the last of the items, with what lies over one of its directions.
+pub(crate) fn join_loop(map: &SphereMap, circle: &SLoop) -> Link
+    requires map { IsSphereMap map.now }
+    requires circle { map.now.sloop ≡ Some circle.now }
+    ensures joins { JoinsLoop (map_of map.now) (length map.now.arcs) result }
+{
+    let at = in_plane(&circle.normal);
+    let way = Close {
+        at,
+        aside: beside(&at),
+        lean: Lean::Up,
+    };
+    Link {
+        first: side_number(map, map.arcs.len(), true),
+        second: met_number(map, above(map, &way)),
+    }
+}

@@ -1,0 +1,121 @@
+//! The sfaces of a sphere map.
+
+ghost use Rattle.std.specs.Prelude.{◌≡◌, ◌<◌, length, IfOk};
+ghost use Rattle.nef_space.specs.Vectors.{up};
+ghost use Rattle.nef_smap.specs.Maps.{map_of, IsSphereMap};
+ghost use Rattle.nef_smap.specs.Sides.{AreSfaces};
+ghost use Rattle.nef_smap.specs.Classes.{AreLinked};
+ghost use Rattle.nef_smap.specs.JoinLinks.{JoinsBelow, JoinsArc, AreEach, AreArounds, AreLoops, AreGrounds};
+ghost use Rattle.nef_smap.specs.Links.{AreJoins};
+
+use crate::OutOfMemory;
+use crate::classes::{Link, class_numbers, class_of_each};
+use crate::join::{join_arc, join_around, join_below, join_loop};
+use crate::map::SphereMap;
+use crate::side::sides;
+use std::alloc::Global;
+
+// A link for each svertex.
+fn below_links(alloc: Global, map: &SphereMap) -> Result<Vec<Link>, OutOfMemory>
+    requires map { IsSphereMap map.now }
+    ensures links { IfOk result (λ v. AreEach (JoinsBelow (map_of map.now)) (length map.now.svertices) v.items) }
+{
+    let mut links = Vec::new(alloc);
+    for number in 0..map.svertices.len() {
+        links.push(join_below(map, number))?;
+    }
+    Ok(links)
+}
+
+// A link for each arc.
+fn arc_links(alloc: Global, map: &SphereMap) -> Result<Vec<Link>, OutOfMemory>
+    requires map { IsSphereMap map.now }
+    ensures links { IfOk result (λ v. AreEach (JoinsArc (map_of map.now)) (length map.now.arcs) v.items) }
+{
+    let mut links = Vec::new(alloc);
+    for number in 0..map.arcs.len() {
+        links.push(join_arc(map, number))?;
+    }
+    Ok(links)
+}
+
+// A link for each svertex that has a side.
+fn around_links(alloc: Global, map: &SphereMap) -> Result<Vec<Link>, OutOfMemory>
+    requires map { IsSphereMap map.now }
+    ensures links { IfOk result (λ v. AreArounds (map_of map.now) (length map.now.svertices) v.items) }
+{
+    let mut links = Vec::new(alloc);
+    let mut side = 0;
+    for number in 0..map.svertices.len() {
+        if map.svertices.at(number).around.is_some() {
+            links.push(join_around(map, number, side))?;
+            side += 1;
+        }
+    }
+    Ok(links)
+}
+
+// A link for the sloop.
+fn loop_links(alloc: Global, map: &SphereMap) -> Result<Vec<Link>, OutOfMemory>
+    requires map { IsSphereMap map.now }
+    ensures links { IfOk result (λ v. AreLoops (map_of map.now) v.items) }
+{
+    let mut links = Vec::new(alloc);
+    let Some(circle) = &map.sloop else {
+        return Ok(links);
+    };
+    links.push(join_loop(map, circle))?;
+    Ok(links)
+}
+
+// A link for the side of a map without items.
+fn ground_links(alloc: Global, map: &SphereMap) -> Result<Vec<Link>, OutOfMemory>
+    requires map { IsSphereMap map.now }
+    ensures links { IfOk result (λ v. AreGrounds (map_of map.now) v.items) }
+{
+    let mut links = Vec::new(alloc);
+    if map.ground.is_none() {
+        return Ok(links);
+    }
+    let count = sides(map);
+    links.push(Link {
+        first: count - 1,
+        second: count,
+    })?;
+    Ok(links)
+}
+
+// All links. The upward direction has the number after those of the sides.
+fn links(alloc: Global, map: &SphereMap) -> Result<Vec<Link>, OutOfMemory>
+    requires map { IsSphereMap map.now }
+    ensures joins { IfOk result (λ v. AreJoins (map_of map.now) up (AreLinked v.items)) }
+{
+    let mut links = below_links(alloc, map)?;
+    let around = around_links(alloc, map)?;
+    links.extend_from_slice(around.as_slice())?;
+    let arcs = arc_links(alloc, map)?;
+    links.extend_from_slice(arcs.as_slice())?;
+    let loops = loop_links(alloc, map)?;
+    links.extend_from_slice(loops.as_slice())?;
+    let grounds = ground_links(alloc, map)?;
+    links.extend_from_slice(grounds.as_slice())?;
+    Ok(links)
+}
+
+/// For each side the number of its sface. Sides are of one sface where a chain of directions that two sides see leads
+/// from one to the other; sfaces are numbered by their first sides.
+///
+/// Every direction looks up: what it meets first on the way to the upward direction, which no circle of a map passes
+/// through, lies in the same sface. Between neighbouring directions that changes only where a svertex lies over them, so
+/// what is met on both sides just below each svertex is joined. Besides, the upper side of each arc is joined with what is
+/// met just over the arc's beginning, that of the sloop with what is met over one of its directions, and the side round a
+/// svertex with what is met just below it.
+pub fn sfaces(alloc: Global, map: &SphereMap) -> Result<Vec<usize>, OutOfMemory>
+    requires map { IsSphereMap map.now }
+    ensures faces { IfOk result (λ v. AreSfaces (map_of map.now) v.items) }
+{
+    let count = sides(map);
+    let joins = links(alloc, map)?;
+    let classes = class_of_each(alloc, count + 1, joins.as_slice())?;
+    class_numbers(alloc, &classes[..count])
+}
