@@ -1,0 +1,5 @@
+mod Walls
+mod CornerVertices
+mod CornerCones
+mod InOrder
+mod Shown
