@@ -8,6 +8,7 @@ use Rattle.nef_space.specs.Limits.{half_side}
 use Rattle.nef_space.specs.Sets.{Set, halves}
 use Rattle.nef_space.specs.Local.{IsVertex}
 use Rattle.nef_space.specs.declared.label.Label.{Label}
+use Rattle.nef_space.specs.declared.label.Label.TheVariants.{Out, Not, In}
 use Rattle.nef_geo.specs.Shapes.{place_of, form_of}
 use Rattle.nef_geo.specs.declared.plane.Plane.{Plane}
 use Rattle.nef_near.specs.Cells.{frame, carriers}
@@ -20,7 +21,7 @@ use Rattle.nef_complex.specs.Complexes.{vertex_of, AreVerticesOf}
 use Rattle.nef_complex.specs.declared.complex.Vertex.{Vertex}
 use Rattle.nef_frame.specs.Ends.{Ends, ends, all_ends, IsCornerPlace, IsCornerOf, AreCorners}
 use Rattle.nef_frame.specs.Planes.{sorted_sides}
-use Rattle.nef_frame.proofs.Walls.{Axis, on_x, on_y, on_z, wall, wall-listed, listed-wall, IsWhole}
+use Rattle.nef_frame.proofs.Walls.{Axis, on_x, on_y, on_z, wall, wall-listed, listed-wall, IsWhole, full-whole, empty-whole}
 use Rattle.nef_frame.proofs.CornerVertices.{corner-vertex, vertex-corner}
 use Rattle.nef_frame.proofs.CornerCones.{corner-cone}
 use Rattle.nef_frame.proofs.InOrder.{sides-order, same-corner, vertex-at, corner-at, listed, corners-sorted}
@@ -109,3 +110,9 @@ module _ (s : Set) (l : Label) (W : IsWhole s l) (hs : List Plane) (vs : List Ve
     maps = λ n v a. (vertex-at l all_ends vs V n v a).2.map;
     shown = shown;
   }
+
+-- the set of a label
+pub whole-set : (l : Label) → (l ≡ Out → ⊥) → (s : Set) × IsWhole s l
+whole-set Out n = absurd (n refl)
+whole-set Not n = (Set.empty, empty-whole)
+whole-set In n = (Set.full, full-whole)

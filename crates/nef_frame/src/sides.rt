@@ -29,20 +29,27 @@ pub(crate) fn wall(alloc: Global, axis: Dir, high: bool, label: Label) -> Sphere
     requires axis { Lies axes (vector_of axis) }
     ensures wall { IsWall (vector_of axis) high label result }
 {
-    let (pos, neg) = if high {
-        (Label::Out, label)
+    if high {
+        plane_map(
+            alloc,
+            SLoop {
+                normal: axis,
+                mark: Label::Out,
+                pos: Label::Out,
+                neg: label,
+            },
+        )
     } else {
-        (label, Label::Out)
-    };
-    plane_map(
-        alloc,
-        SLoop {
-            normal: axis,
-            mark: Label::Out,
-            pos,
-            neg,
-        },
-    )
+        plane_map(
+            alloc,
+            SLoop {
+                normal: axis,
+                mark: Label::Out,
+                pos: label,
+                neg: Label::Out,
+            },
+        )
+    }
 }
 
 /// The six planes of the frame in order of their four numbers, which is the reverse of the order of their sides.

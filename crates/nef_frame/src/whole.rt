@@ -22,5 +22,6 @@ pub fn frame(alloc: Global, label: Label) -> Result<Complex, OutOfMemory>
 {
     let planes = sorted_planes(alloc)?;
     let vertices = corners(alloc, label)?;
-    pair(alloc, planes, vertices)
+    let complex = pair(alloc, planes, vertices)?;
+    Ok(complex)
 }
