@@ -1,5 +1,5 @@
 -- The maps at the sides and the corners of the frame, from what their makers promise.
-use Rattle.std.proofs.Common.{◌≡◌, ℕ, zero, suc, ◌+◌, ◌-◌, ◌<◌, ℤ, pos, ◌*ℤ◌, ◌<ℤ◌, arith, refl, sym, ◌∙◌, ap, ◌↔◌, Bool, true, false, subst, List, [], ◌∷◌, ◌++◌, map, take, Some, None}
+use Rattle.std.proofs.Common.{◌≡◌, ℕ, zero, suc, ◌+◌, ◌-◌, ◌<◌, ℤ, pos, ◌*ℤ◌, ◌<ℤ◌, arith, refl, sym, ◌∙◌, ap, ◌↔◌, Bool, true, false, subst, List, [], ◌∷◌, ◌++◌, map, take, Some, None, w64, to_z, of_z}
 use Rattle.std.proofs.lemmas.Int.{ints}
 use Rattle.nef_exact.specs.Signs.{sign}
 use Rattle.nef_space.specs.Lists.{IsAt}
@@ -33,11 +33,20 @@ wall-low n l m h e f = record { map = h; mark = e; labels = f }
 abbrev pub IsBoth : SphereMap → SphereMap → SphereMap → Type 0
 IsBoth a b m = (d : Vector) (l : Label) → IsDirection d → MapLabel (map_of m) d l ↔ ByOp (map_of a) (map_of b) (op_label And) d l
 
-pub corner-place : (x y z : Bool) (i j k : ℤ) (p : Point) (h : pos 0 <ℤ pos 1) → i ≡ end_at x → j ≡ end_at y → k ≡ end_at z → SamePlace (place_at i j k (pos 1) h) (place_of p) → IsCornerPlace (ends x y z) (place_of p)
-corner-place x y z i j k p h e f g s = record { along_x = one i (end_at x) p.x _ e s.along_x; along_y = one j (end_at y) p.y _ f s.along_y; along_z = one k (end_at z) p.z _ g s.along_z }
+-- a number as the machine keeps it
+abbrev kept : ℤ → ℤ
+kept i = to_z w64 (of_z w64 i)
+
+kept-end : (x : Bool) → kept (end_at x) ≡ end_at x
+kept-end true = refl
+kept-end false = refl
+
+pub corner-place : (x y z : Bool) (i j k : ℤ) (p : Point) (h : pos 0 <ℤ pos 1) → i ≡ end_at x → j ≡ end_at y → k ≡ end_at z → SamePlace (place_at (kept i) (kept j) (kept k) (pos 1) h) (place_of p)
+    → IsCornerPlace (ends x y z) (place_of p)
+corner-place x y z i j k p h e f g s = record { along_x = one x i p.x _ e s.along_x; along_y = one y j p.y _ f s.along_y; along_z = one z k p.z _ g s.along_z }
   where
-    one : (i e x w : ℤ) → i ≡ e → i *ℤ w ≡ x *ℤ pos 1 → x ≡ e *ℤ w
-    one i e x w q r = let u : x ≡ x *ℤ pos 1 = omega (arith, ints) in u ∙ sym r ∙ ap (λ z. z *ℤ w) q
+    one : (b : Bool) (i x w : ℤ) → i ≡ end_at b → kept i *ℤ w ≡ x *ℤ pos 1 → x ≡ end_at b *ℤ w
+    one b i x w q r = let u : x ≡ x *ℤ pos 1 = omega (arith, ints) in u ∙ sym r ∙ ap (λ z. z *ℤ w) (ap kept q ∙ kept-end b)
 
 pub corner-of : (l : Label) (x y z : Bool) (A B C M N : SphereMap) (p : Point) → IsWall x_axis x l A → IsWall y_axis y l B → IsWall z_axis z l C → M.mark ≡ op_label And A.mark B.mark → IsBoth A B M
     → N.mark ≡ op_label And M.mark C.mark → IsBoth M C N → IsLeastMap N → IsCornerPlace (ends x y z) (place_of p) → IsCornerOf l (ends x y z) (record { point = p; map = N })
