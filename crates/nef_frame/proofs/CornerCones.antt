@@ -1,10 +1,10 @@
 -- The map of a corner shows the set there.
-use Rattle.std.proofs.Common.{◌≡◌, ◌*◌, ℤ, pos, negsuc, neg_ℤ, ◌+ℤ◌, ◌-ℤ◌, ◌*ℤ◌, arith, refl, sym, ◌∙◌, ap, ◌⊎◌, inl, inr, ⊎_elim, Bool, true, false, subst}
+use Rattle.std.proofs.Common.{◌≡◌, neg_ℤ, arith, refl, sym, ◌∙◌, ap, ◌⊎◌, inl, inr, Bool, true, false, subst}
 use Rattle.std.proofs.lemmas.Int.{ints}
 use Rattle.nef_exact.specs.Signs.{Sign, minus, nought, plus, sign}
 use Rattle.nef_exact.proofs.Order.{sign-neg, sign_turned}
 use Rattle.nef_space.specs.Place.{Place, slope}
-use Rattle.nef_space.specs.Vectors.{Vector, dot, IsDirection}
+use Rattle.nef_space.specs.Vectors.{Vector, dot}
 use Rattle.nef_space.specs.Sets.{Set}
 use Rattle.nef_space.specs.Local.{HasLabel, Germ}
 use Rattle.nef_space.specs.declared.label.Label.{Label}
@@ -13,7 +13,6 @@ use Rattle.nef_geo.specs.Shapes.{place_of}
 use Rattle.nef_near.specs.Cells.{sign_at}
 use Rattle.nef_near.proofs.Frames.{frame-minus}
 use Rattle.nef_sphere.specs.Least.{Cone}
-use Rattle.nef_sphere.specs.Maps.{MapLabel}
 use Rattle.nef_star.specs.Ops.{op_label}
 use Rattle.nef_star.specs.declared.op.Op.TheVariants.{And}
 use Rattle.nef_smap.specs.Maps.{map_of}

@@ -1,5 +1,5 @@
 -- The maps at the sides and the corners of the frame, from what their makers promise.
-use Rattle.std.proofs.Common.{◌≡◌, ℕ, zero, suc, ◌+◌, ◌-◌, ◌<◌, ℤ, pos, ◌*ℤ◌, ◌<ℤ◌, arith, refl, sym, ◌∙◌, ap, ◌↔◌, Bool, true, false, subst, List, [], ◌∷◌, ◌++◌, map, take, Some, None, w64, to_z, of_z}
+use Rattle.std.proofs.Common.{◌≡◌, ℕ, zero, suc, ◌+◌, ◌-◌, ◌<◌, ℤ, pos, ◌*ℤ◌, ◌<ℤ◌, arith, refl, sym, ◌∙◌, ap, ◌↔◌, Bool, true, false, List, [], ◌∷◌, ◌++◌, map, take, Some, w64, to_z, of_z}
 use Rattle.std.proofs.lemmas.Int.{ints}
 use Rattle.nef_exact.specs.Signs.{sign}
 use Rattle.nef_space.specs.Lists.{IsAt}
@@ -54,10 +54,13 @@ corner-of l x y z A B C M N p a b c m f n g h i = record {
   place = i;
   mark = n ∙ ap (λ o. op_label And o C.mark) (m ∙ ap (λ o. op_label And o B.mark) a.mark);
   map = h;
-  labels = λ d e. (g d (op_label And (op_label And (at_wall x l (sign (dot x_axis d))) (at_wall y l (sign (dot y_axis d)))) (at_wall z l (sign (dot z_axis d)))) e).1
-      (op_label And (at_wall x l (sign (dot x_axis d))) (at_wall y l (sign (dot y_axis d))), at_wall z l (sign (dot z_axis d)),
-      (f d (op_label And (at_wall x l (sign (dot x_axis d))) (at_wall y l (sign (dot y_axis d)))) e).1 (at_wall x l (sign (dot x_axis d)), at_wall y l (sign (dot y_axis d)), a.labels d e, b.labels d e, refl),
-      c.labels d e, refl);
+  labels = λ d e. (g d (op_label And (op_label And (at_wall x l (sign (dot x_axis d))) (at_wall y l (sign (dot y_axis d)))) (at_wall z l (sign (dot z_axis d)))) e).1 (
+    op_label And (at_wall x l (sign (dot x_axis d))) (at_wall y l (sign (dot y_axis d))),
+    at_wall z l (sign (dot z_axis d)),
+    (f d (op_label And (at_wall x l (sign (dot x_axis d))) (at_wall y l (sign (dot y_axis d)))) e).1 (at_wall x l (sign (dot x_axis d)), at_wall y l (sign (dot y_axis d)), a.labels d e, b.labels d e, refl),
+    c.labels d e,
+    refl,
+  );
 }
 
 -- ---- the planes

@@ -1,16 +1,15 @@
 -- The vertices of a set that holds all of the frame or nothing of it are the frame's corners.
-use Rattle.std.proofs.Common.{◌≡◌, ◌*◌, ℤ, pos, negsuc, neg_ℤ, ◌+ℤ◌, ◌-ℤ◌, ◌*ℤ◌, ◌<ℤ◌, arith, refl, sym, ◌∙◌, ap, ◌⊎◌, inl, inr, ⊎_elim, Bool, true, false, not, subst}
+use Rattle.std.proofs.Common.{◌≡◌, ℤ, pos, negsuc, neg_ℤ, ◌+ℤ◌, ◌*ℤ◌, ◌<ℤ◌, arith, refl, sym, ◌∙◌, ap, ◌⊎◌, inl, inr, ⊎_elim, Bool, true, false, not, subst}
 use Rattle.std.proofs.lemmas.Int.{ints}
-use Rattle.nef_exact.specs.Signs.{Sign, minus, nought, plus, sign, Lies}
-use Rattle.nef_exact.proofs.Order.{minus-is, nought-is, sign-minus, square_nonneg, mul_pos, by_order}
-use Rattle.nef_space.specs.Limits.{half_side}
+use Rattle.nef_exact.specs.Signs.{minus, nought, sign}
+use Rattle.nef_exact.proofs.Order.{minus-is, nought-is, sign-minus, mul_pos, by_order}
 use Rattle.nef_space.specs.Place.{Place, Form, form_at, slope}
 use Rattle.nef_space.specs.Vectors.{Vector, vector, IsDirection}
 use Rattle.nef_space.specs.Sets.{Set}
-use Rattle.nef_space.specs.Local.{Germ, Flat, IsVertex}
+use Rattle.nef_space.specs.Local.{Flat, IsVertex}
 use Rattle.nef_space.specs.declared.label.Label.{Label}
 use Rattle.nef_space.specs.declared.label.Label.TheVariants.{Out}
-use Rattle.nef_near.specs.Cells.{sign_at, frame, carriers}
+use Rattle.nef_near.specs.Cells.{sign_at}
 use Rattle.nef_near.specs.Cones.{slide, FlatCone}
 use Rattle.nef_near.proofs.Cells.{is_nought}
 use Rattle.nef_near.proofs.Germs.{Germ-unique}
@@ -120,7 +119,7 @@ module _ (s : Set) (l : Label) (W : IsWhole s l) (k : Ends) (p : Place) (c : IsC
       let v = inward_way k in
       let into = (f v 1 m (omega arith) l).0 (germ-inward s l W p v (leads-in k p c v (λ o. ap sign (inward-slope k o (end_of k o) refl)))) in
       let out = germ-outward s p (slide 1 v m d) a (end_of k a) (through k p c a) (λ e.
-          not-minus m n (sym (ap sign (slope-slide h 1 v m d ∙ ap (λ z. pos 1 *ℤ z +ℤ m *ℤ m) (inward-slope k a (end_of k a) refl))) ∙ e)) in
+      not-minus m n (sym (ap sign (slope-slide h 1 v m d ∙ ap (λ z. pos 1 *ℤ z +ℤ m *ℤ m) (inward-slope k a (end_of k a) refl))) ∙ e)) in
       W.some (Germ-unique s p (slide 1 v m d) l Out into out)
 
   -- a flat direction lies in all three sides: it would carry the inward direction outward

@@ -1,12 +1,12 @@
 -- The corners in order, and the planes of the frame in order.
-use Rattle.std.proofs.Common.{◌≡◌, ℕ, zero, suc, ◌+◌, ◌-◌, ◌<◌, ℤ, pos, negsuc, neg_ℤ, ◌+ℤ◌, ◌-ℤ◌, ◌*ℤ◌, ◌<ℤ◌, arith, refl, sym, ◌∙◌, ap, ◌⊎◌, inl, inr, Bool, true, false, subst, List, [], ◌∷◌, ◌++◌, map, Some, None, slice_get}
+use Rattle.std.proofs.Common.{◌≡◌, ℕ, zero, suc, ℤ, pos, ◌*ℤ◌, ◌<ℤ◌, arith, refl, ◌⊎◌, inl, inr, Bool, true, false, subst, List, [], ◌∷◌, ◌++◌, Some, None}
 use Rattle.std.proofs.lemmas.Int.{ints}
 use Rattle.nef_exact.proofs.Ring.{ring, at, num, ◌⊖◌, ◌⊗◌}
 use Rattle.nef_exact.proofs.Order.{lt_by, mul_pos}
 use Rattle.nef_space.specs.Lists.{IsAt}
 use Rattle.nef_space.specs.Limits.{half_side}
 use Rattle.nef_space.specs.Numbers.{IsBelow}
-use Rattle.nef_space.specs.Place.{Place, Form, form_numbers, IsPlaceBelow, SamePlace}
+use Rattle.nef_space.specs.Place.{Place, form_numbers, IsPlaceBelow, SamePlace}
 use Rattle.nef_space.specs.declared.label.Label.{Label}
 use Rattle.nef_geo.specs.Shapes.{place_of}
 use Rattle.nef_sphere.specs.Maps.{At}
@@ -45,11 +45,17 @@ positive p = let m = p.proper in omega (arith, ints)
 
 corner-below : (k j : Ends) (p q : Place) → IsEndsBelow k j → IsCornerPlace k p → IsCornerPlace j q → IsPlaceBelow p q
 corner-below k j p q (inl l) c d = inl (along-low k.x j.x p.x q.x (pos p.w) (pos q.w) l (positive p) (positive q) c.along_x d.along_x)
-corner-below k j p q (inr (e, inl l)) c d = inr (along-same k.x j.x p.x q.x (pos p.w) (pos q.w) e c.along_x d.along_x,
-    inl (along-low k.y j.y p.y q.y (pos p.w) (pos q.w) l (positive p) (positive q) c.along_y d.along_y))
-corner-below k j p q (inr (e, inr (f, l))) c d = inr (along-same k.x j.x p.x q.x (pos p.w) (pos q.w) e c.along_x d.along_x,
-    inr (along-same k.y j.y p.y q.y (pos p.w) (pos q.w) f c.along_y d.along_y,
-    inl (along-low k.z j.z p.z q.z (pos p.w) (pos q.w) l (positive p) (positive q) c.along_z d.along_z)))
+corner-below k j p q (inr (e, inl l)) c d = inr (
+  along-same k.x j.x p.x q.x (pos p.w) (pos q.w) e c.along_x d.along_x,
+  inl (along-low k.y j.y p.y q.y (pos p.w) (pos q.w) l (positive p) (positive q) c.along_y d.along_y),
+)
+corner-below k j p q (inr (e, inr (f, l))) c d = inr (
+  along-same k.x j.x p.x q.x (pos p.w) (pos q.w) e c.along_x d.along_x,
+  inr (
+    along-same k.y j.y p.y q.y (pos p.w) (pos q.w) f c.along_y d.along_y,
+    inl (along-low k.z j.z p.z q.z (pos p.w) (pos q.w) l (positive p) (positive q) c.along_z d.along_z),
+  ),
+)
 
 -- ---- lists in order
 -- x is before each of the list
@@ -74,26 +80,52 @@ in-order B (z ∷ zs) r (suc i) zero x y l a b = absurd (omega (arith, l))
 in-order B (z ∷ zs) r (suc i) (suc k) x y l a b = in-order B zs r.1 i k x y (omega arith) a b
 
 pub ends-order : InOrder IsEndsBelow all_ends
-ends-order = in-order IsEndsBelow all_ends
-  ((inr (refl, inr (refl, (refl, refl))), (inr (refl, inl (refl, refl)), (inr (refl, inl (refl, refl)), (inl (refl, refl), (inl (refl, refl), (inl (refl, refl), (inl (refl, refl), tt))))))),
-  ((inr (refl, inl (refl, refl)), (inr (refl, inl (refl, refl)), (inl (refl, refl), (inl (refl, refl), (inl (refl, refl), (inl (refl, refl), tt)))))),
-  ((inr (refl, inr (refl, (refl, refl))), (inl (refl, refl), (inl (refl, refl), (inl (refl, refl), (inl (refl, refl), tt))))),
-  ((inl (refl, refl), (inl (refl, refl), (inl (refl, refl), (inl (refl, refl), tt)))),
-  ((inr (refl, inr (refl, (refl, refl))), (inr (refl, inl (refl, refl)), (inr (refl, inl (refl, refl)), tt))),
-  ((inr (refl, inl (refl, refl)), (inr (refl, inl (refl, refl)), tt)),
-  ((inr (refl, inr (refl, (refl, refl))), tt),
-  (tt,
-  tt))))))))
+ends-order = in-order IsEndsBelow all_ends (
+  (inr (refl, inr (refl, (refl, refl))), (inr (refl, inl (refl, refl)), (inr (refl, inl (refl, refl)), (inl (refl, refl), (inl (refl, refl), (inl (refl, refl), (inl (refl, refl), tt))))))),
+  (
+    (inr (refl, inl (refl, refl)), (inr (refl, inl (refl, refl)), (inl (refl, refl), (inl (refl, refl), (inl (refl, refl), (inl (refl, refl), tt)))))),
+    (
+      (inr (refl, inr (refl, (refl, refl))), (inl (refl, refl), (inl (refl, refl), (inl (refl, refl), (inl (refl, refl), tt))))),
+      (
+        (inl (refl, refl), (inl (refl, refl), (inl (refl, refl), (inl (refl, refl), tt)))),
+        (
+          (inr (refl, inr (refl, (refl, refl))), (inr (refl, inl (refl, refl)), (inr (refl, inl (refl, refl)), tt))),
+          (
+            (inr (refl, inl (refl, refl)), (inr (refl, inl (refl, refl)), tt)),
+            (
+              (inr (refl, inr (refl, (refl, refl))), tt),
+              (
+                tt,
+                tt,
+              ),
+            ),
+          ),
+        ),
+      ),
+    ),
+  ),
+)
 
 pub sides-order : InOrder (λ g h. IsBelow (form_numbers g) (form_numbers h)) sorted_sides
-sides-order = in-order (λ g h. IsBelow (form_numbers g) (form_numbers h)) sorted_sides
-  ((inr (refl, inr (refl, inr (refl, inl (omega (arith, ints))))), (inr (refl, inl (omega (arith, ints))), (inr (refl, inl (omega (arith, ints))), (inl (omega (arith, ints)), (inl (omega (arith, ints)), tt))))),
-  ((inr (refl, inl (omega (arith, ints))), (inr (refl, inl (omega (arith, ints))), (inl (omega (arith, ints)), (inl (omega (arith, ints)), tt)))),
-  ((inr (refl, inr (refl, inr (refl, inl (omega (arith, ints))))), (inl (omega (arith, ints)), (inl (omega (arith, ints)), tt))),
-  ((inl (omega (arith, ints)), (inl (omega (arith, ints)), tt)),
-  ((inr (refl, inr (refl, inr (refl, inl (omega (arith, ints))))), tt),
-  (tt,
-  tt))))))
+sides-order = in-order (λ g h. IsBelow (form_numbers g) (form_numbers h)) sorted_sides (
+  (inr (refl, inr (refl, inr (refl, inl (omega (arith, ints))))), (inr (refl, inl (omega (arith, ints))), (inr (refl, inl (omega (arith, ints))), (inl (omega (arith, ints)), (inl (omega (arith, ints)), tt))))),
+  (
+    (inr (refl, inl (omega (arith, ints))), (inr (refl, inl (omega (arith, ints))), (inl (omega (arith, ints)), (inl (omega (arith, ints)), tt)))),
+    (
+      (inr (refl, inr (refl, inr (refl, inl (omega (arith, ints))))), (inl (omega (arith, ints)), (inl (omega (arith, ints)), tt))),
+      (
+        (inl (omega (arith, ints)), (inl (omega (arith, ints)), tt)),
+        (
+          (inr (refl, inr (refl, inr (refl, inl (omega (arith, ints))))), tt),
+          (
+            tt,
+            tt,
+          ),
+        ),
+      ),
+    ),
+  ),
+)
 
 -- ---- the vertices at the corners
 -- vertex number n is at corner number n

@@ -1,5 +1,5 @@
 -- The corners are the vertices of a set that holds all of the frame or nothing of it.
-use Rattle.std.proofs.Common.{◌≡◌, ℕ, zero, suc, ℤ, pos, negsuc, neg_ℤ, ◌*ℤ◌, arith, refl, sym, Bool, true, false, subst, List, map, inl, inr}
+use Rattle.std.proofs.Common.{◌≡◌, ℕ, zero, suc, pos, neg_ℤ, arith, refl, Bool, true, false, subst, List, map}
 use Rattle.std.proofs.lemmas.Int.{ints}
 use Rattle.nef_exact.specs.Signs.{Lies}
 use Rattle.nef_exact.proofs.Lists.{lies-left}
@@ -19,7 +19,7 @@ use Rattle.nef_solid.specs.Complexes.{Vertex as PlainVertex, Edge as PlainEdge, 
 use Rattle.nef_solid.specs.Shows.{SamePlane, Carriers, Shows}
 use Rattle.nef_complex.specs.Complexes.{vertex_of, AreVerticesOf}
 use Rattle.nef_complex.specs.declared.complex.Vertex.{Vertex}
-use Rattle.nef_frame.specs.Ends.{Ends, ends, all_ends, IsCornerPlace, IsCornerOf, AreCorners}
+use Rattle.nef_frame.specs.Ends.{Ends, ends, all_ends, IsCornerOf, AreCorners}
 use Rattle.nef_frame.specs.Planes.{sorted_sides}
 use Rattle.nef_frame.proofs.Walls.{Axis, on_x, on_y, on_z, wall, wall-listed, listed-wall, IsWhole, full-whole, empty-whole}
 use Rattle.nef_frame.proofs.CornerVertices.{corner-vertex, vertex-corner}

@@ -1,12 +1,10 @@
 -- The sides of the frame by their axis and end, and the germs of a set that holds all of the frame or nothing of it.
-use Rattle.std.proofs.Common.{◌≡◌, ◌*◌, ℤ, pos, negsuc, neg_ℤ, ◌+ℤ◌, ◌-ℤ◌, ◌*ℤ◌, arith, refl, sym, ◌∙◌, ap, ◌⊎◌, inl, inr, ⊎_elim, Bool, true, false, not, subst}
+use Rattle.std.proofs.Common.{◌≡◌, pos, negsuc, arith, refl, sym, ◌∙◌, ◌⊎◌, inl, inr, Bool, true, false}
 use Rattle.std.proofs.lemmas.Int.{ints}
-use Rattle.nef_exact.specs.Signs.{Sign, minus, nought, plus, sign, Lies}
-use Rattle.nef_exact.proofs.Order.{minus-is, nought-is}
+use Rattle.nef_exact.specs.Signs.{Sign, minus, nought, sign, Lies}
 use Rattle.nef_exact.proofs.Lists.{lies-left}
-use Rattle.nef_space.specs.Limits.{half_side}
-use Rattle.nef_space.specs.Place.{Place, Form, form_at, slope, step, Within, InFrame}
-use Rattle.nef_space.specs.Vectors.{Vector, vector}
+use Rattle.nef_space.specs.Place.{Place, Form, slope, step, InFrame}
+use Rattle.nef_space.specs.Vectors.{Vector}
 use Rattle.nef_space.specs.Sets.{Set, halves, Holds}
 use Rattle.nef_space.specs.Local.{HasLabel, Germ}
 use Rattle.nef_space.specs.declared.label.Label.{Label}

@@ -19,13 +19,7 @@ fn end(high: bool) -> i64
 }
 
 // The corner at these ends of the axes, with the map that has the label on the inward side of all three planes.
-fn corner(
-    alloc: Global,
-    label: Label,
-    x: bool,
-    y: bool,
-    z: bool,
-) -> Result<Vertex, OutOfMemory>
+fn corner(alloc: Global, label: Label, x: bool, y: bool, z: bool) -> Result<Vertex, OutOfMemory>
     ensures corner { IfOk result (IsCornerOf label (ends x y z)) }
 {
     let x_wall = wall(alloc, axis(1, 0, 0), x, label);
