@@ -15,6 +15,7 @@ use Rattle.nef_smap.specs.Maps.{map_of, IsSphereMap, IsLeastMap}
 use Rattle.nef_smap.specs.declared.map.SphereMap.{SphereMap}
 use Rattle.nef_complex.specs.declared.complex.Vertex.{Vertex}
 
+-- the directions of the three axes
 abbrev pub x_axis : Vector
 x_axis = vector (pos 1) (pos 0) (pos 0)
 
@@ -38,6 +39,7 @@ pub record Ends : Type 0 where
   pub y : Bool
   pub z : Bool
 
+-- the corner at these ends
 abbrev pub ends : Bool → Bool → Bool → Ends
 ends x y z = record { x = x; y = y; z = z }
 
@@ -63,7 +65,7 @@ pub record IsWall (axis : Vector) (high : Bool) (l : Label) (m : SphereMap) : Ty
   pub mark : m.mark ≡ Out
   pub labels : (d : Vector) → IsDirection d → MapLabel (map_of m) d (at_wall high l (sign (dot axis d)))
 
--- at the corner a direction has the label where it leads inward from all three sides
+-- at the corner a direction has the label where it leads inward from all three sides, and is Out elsewhere
 abbrev pub corner_label : Label → Ends → Vector → Label
 corner_label l k d = op_label And (op_label And (at_wall k.x l (sign (dot x_axis d))) (at_wall k.y l (sign (dot y_axis d)))) (at_wall k.z l (sign (dot z_axis d)))
 

@@ -3,6 +3,8 @@
 
 mod corner;
 mod sides;
+#[cfg(test)]
+mod tests;
 mod whole;
 
 pub use std::alloc::AllocError as OutOfMemory;
