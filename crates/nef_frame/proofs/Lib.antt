@@ -1,0 +1,6 @@
+mod Walls
+mod CornerVertices
+mod CornerCones
+mod CornerMaps
+mod InOrder
+mod Shown

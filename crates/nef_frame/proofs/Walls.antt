@@ -1,0 +1,91 @@
+-- The sides of the frame by their axis and end, and the germs of a set that holds all of the frame or nothing of it.
+use Rattle.std.proofs.Common.{◌≡◌, pos, negsuc, arith, refl, sym, ◌∙◌, ◌⊎◌, inl, inr, Bool, true, false}
+use Rattle.std.proofs.lemmas.Int.{ints}
+use Rattle.nef_exact.specs.Signs.{Sign, minus, nought, sign, Lies}
+use Rattle.nef_exact.proofs.Lists.{lies-left}
+use Rattle.nef_space.specs.Place.{Place, Form, slope, step, InFrame}
+use Rattle.nef_space.specs.Vectors.{Vector}
+use Rattle.nef_space.specs.Sets.{Set, halves, Holds}
+use Rattle.nef_space.specs.Local.{HasLabel, Germ}
+use Rattle.nef_space.specs.declared.label.Label.{Label}
+use Rattle.nef_space.specs.declared.label.Label.TheVariants.{Out, Not, In}
+use Rattle.nef_forms.proofs.Near.{reach_all, step-within}
+use Rattle.nef_near.specs.Cells.{sign_at, side, frame, carriers}
+use Rattle.nef_near.proofs.Cells.{keeps-all, coordinate-in}
+use Rattle.nef_near.proofs.Frames.{frame-minus}
+use Rattle.nef_near.proofs.Germs.{Germ-from_sample, sample, sample-short, sign-along}
+
+pub data Axis : Type 0 where
+  on_x : Axis
+  on_y : Axis
+  on_z : Axis
+
+abbrev pub wall : Axis → Bool → Form
+wall on_x true = side (pos 1) (pos 0) (pos 0)
+wall on_x false = side (negsuc 0) (pos 0) (pos 0)
+wall on_y true = side (pos 0) (pos 1) (pos 0)
+wall on_y false = side (pos 0) (negsuc 0) (pos 0)
+wall on_z true = side (pos 0) (pos 0) (pos 1)
+wall on_z false = side (pos 0) (pos 0) (negsuc 0)
+
+pub wall-listed : (a : Axis) (b : Bool) → Lies frame (wall a b)
+wall-listed on_x true = inl refl
+wall-listed on_x false = inr (inl refl)
+wall-listed on_y true = inr (inr (inl refl))
+wall-listed on_y false = inr (inr (inr (inl refl)))
+wall-listed on_z true = inr (inr (inr (inr (inl refl))))
+wall-listed on_z false = inr (inr (inr (inr (inr (inl refl)))))
+
+pub listed-wall : (h : Form) → Lies frame h → (a : Axis) × (b : Bool) × (wall a b ≡ h)
+listed-wall h (inl e) = (on_x, true, e)
+listed-wall h (inr (inl e)) = (on_x, false, e)
+listed-wall h (inr (inr (inl e))) = (on_y, true, e)
+listed-wall h (inr (inr (inr (inl e)))) = (on_y, false, e)
+listed-wall h (inr (inr (inr (inr (inl e))))) = (on_z, true, e)
+listed-wall h (inr (inr (inr (inr (inr (inl e)))))) = (on_z, false, e)
+listed-wall h (inr (inr (inr (inr (inr (inr e)))))) = absurd e
+
+-- a point on the inward side of all six is in the frame
+pub inside-all : (q : Place) → ((a : Axis) (b : Bool) → sign_at (wall a b) q ≡ minus) → InFrame q
+inside-all q f = record {
+  along_x = (coordinate-in (wall on_x true) (wall on_x false) q.x q (omega (arith, ints)) (omega (arith, ints))).1 (f on_x true, f on_x false);
+  along_y = (coordinate-in (wall on_y true) (wall on_y false) q.y q (omega (arith, ints)) (omega (arith, ints))).1 (f on_y true, f on_y false);
+  along_z = (coordinate-in (wall on_z true) (wall on_z false) q.z q (omega (arith, ints)) (omega (arith, ints))).1 (f on_z true, f on_z false);
+}
+
+-- a set with one label in all of the frame, and no carriers but the frame's sides
+pub record IsWhole (s : Set) (l : Label) : Type 0 where
+  pub inside : (p : Place) → InFrame p → HasLabel s p l
+  pub only : (h : Form) → Lies (carriers s) h → Lies frame h
+  pub some : l ≡ Out → ⊥
+
+pub full-whole : IsWhole Set.full In
+unfolding Holds
+full-whole = record { inside = λ p i. (i, tt); only = λ h l. l; some = λ e. cc }
+
+pub empty-whole : IsWhole Set.empty Not
+unfolding Holds
+empty-whole = record { inside = λ p i. (i, λ h. h); only = λ h l. l; some = λ e. cc }
+
+-- the point is on the inward side of the wall, or on the wall with the direction leading inward
+abbrev pub LeadsIn : Place → Vector → Axis → Bool → Type 0
+LeadsIn p d a b = (sign_at (wall a b) p ≡ minus) ⊎ ((sign_at (wall a b) p ≡ nought) × (sign (slope (wall a b) d) ≡ minus))
+
+-- one short step in the direction
+abbrev stepped : Set → Place → Vector → Place
+stepped s p d = step p (sample s p d) d
+
+pub germ-inward : (s : Set) (l : Label) → IsWhole s l → (p : Place) (d : Vector) → ((a : Axis) (b : Bool) → LeadsIn p d a b) → Germ s p d l
+germ-inward s l W p d f = Germ-from_sample s p d l (W.inside (stepped s p d) (inside-all (stepped s p d) (λ a b. by a b (f a b))))
+  where
+    differ : (t : Sign) → t ≡ minus → t ≡ nought → ⊥
+    differ t e f = cc
+
+    by : (a : Axis) (b : Bool) → LeadsIn p d a b → sign_at (wall a b) (stepped s p d) ≡ minus
+    by a b (inl e) = keeps-all (carriers s) p (stepped s p d) (step-within (reach_all (carriers s) p) p d (sample s p d) (sample-short s p d)) (wall a b)
+        (lies-left frame (halves s) (wall a b) (wall-listed a b)) (differ (sign_at (wall a b) p) e) ∙ e
+    by a b (inr (z, e)) = sign-along (wall a b) p (sample s p d) d z (sample-short s p d).0 ∙ e
+
+pub germ-outward : (s : Set) (p : Place) (d : Vector) (a : Axis) (b : Bool) → sign_at (wall a b) p ≡ nought → (sign (slope (wall a b) d) ≡ minus → ⊥) → Germ s p d Out
+germ-outward s p d a b z n = Germ-from_sample s p d Out (λ i.
+    n (sym (sign-along (wall a b) p (sample s p d) d z (sample-short s p d).0) ∙ frame-minus (stepped s p d) i (wall a b) (wall-listed a b)))

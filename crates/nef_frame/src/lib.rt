@@ -1,0 +1,11 @@
+//! The complexes of the empty set and of the whole frame: both have the frame's eight corners as vertices.
+#![tactic(auto)]
+
+mod corner;
+mod sides;
+#[cfg(test)]
+mod tests;
+mod whole;
+
+pub use std::alloc::AllocError as OutOfMemory;
+pub use whole::frame;
