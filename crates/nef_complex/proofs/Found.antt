@@ -1,5 +1,5 @@
 -- What is met at a vertex, inside an edge, and first of all.
-use Rattle.std.proofs.Common.{◌≡◌, ℕ, pos, List, None, refl, sym, ⊎_elim, ◌⊎◌, inl, inr, subst}
+use Rattle.std.proofs.Common.{◌≡◌, ℕ, ◌<◌, length, pos, List, None, refl, sym, ⊎_elim, ◌⊎◌, inl, inr, subst}
 use Rattle.nef_space.specs.Place.{Place, Form, form_at, slope, normal_of, toward, SamePlace, IsAhead, IsBetween}
 use Rattle.nef_space.specs.Sets.{Set}
 use Rattle.nef_space.specs.Vectors.{Vector, cross, IsZero, IsDirection}
@@ -15,7 +15,7 @@ use Rattle.nef_near.proofs.Rays.{same-place_sym}
 use Rattle.nef_sphere.specs.Maps.{At}
 use Rattle.nef_sphere.proofs.KindFlats.{in-span}
 use Rattle.nef_sphere.proofs.Lists.{at-one}
-use Rattle.nef_smap.proofs.Lists.{map-at}
+use Rattle.nef_smap.proofs.Lists.{map-at, at-map, at-within}
 use Rattle.nef_solid.specs.Complexes.{HasEnds}
 use Rattle.nef_solid.specs.Complexes.{Vertex as PlainVertex, Edge as PlainEdge}
 use Rattle.nef_solid.specs.Shows.{Shows}
@@ -129,7 +129,7 @@ module _ (s : Set) (c : Complex) (S : Shows s (complex_of c)) (h : Plane) (p : P
       }
 
   -- ---- all
-  abbrev Any : PlainMeet → Place → Type 0
+  abbrev pub Any : PlainMeet → Place → Type 0
   Any m q = ((k : ℕ) × AtVertexNumber (complex_of c) k m q) ⊎ ((k : ℕ) × AtEdgeNumber (complex_of c) (form_of h) d k m q)
 
   module _ (off : IsOffEdges (complex_of c) (form_of h) p) (no_svertex : HasNoSvertex (complex_of c) p d) where
@@ -163,3 +163,10 @@ module _ (s : Set) (c : Complex) (S : Shows s (complex_of c)) (h : Plane) (p : P
           (λ ((j, y, l, t) : Sooner q). N.first (meets_vertex j) y.point (between-inner p q (far_place r.at) y.point b t) (inl (j, (refl, (y, l, same-itself y.point)))))
           (met-as n q (between-ahead p q (far_place r.at) d b N.ahead) x);
     }
+
+-- ---- numbers of what is met
+pub vertex-within : (c : Complex) (k : ℕ) (m : PlainMeet) (q : Place) → AtVertexNumber (complex_of c) k m q → k < length c.vertices
+vertex-within c k m q (e, (x, l, o)) = let v = at-map vertex_of c.vertices k x l in at-within c.vertices k v.0 v.1
+
+pub edge-within : (c : Complex) (h : Form) (d : Vector) (k : ℕ) (m : PlainMeet) (q : Place) → AtEdgeNumber (complex_of c) h d k m q → k < length c.edges
+edge-within c h d k m q (o, e, v, w, a, H, b, i, n) = let f = at-map edge_of c.edges k e a in at-within c.edges k f.0 f.1
