@@ -1,9 +1,7 @@
 -- The axis of a plane: what lies in the plane and keeps the sweep coordinate is parallel to it.
-use Rattle.std.proofs.Common.{◌≡◌, ℤ, pos, neg_ℤ, ◌+ℤ◌, ◌-ℤ◌, ◌*ℤ◌, Bool, true, false, cond, ◌&&◌, sym, ap, ◌∙◌, subst, ⊎_elim, [], ◌∷◌, arith}
-use Rattle.std.proofs.lemmas.Int.{ints}
+use Rattle.std.proofs.Common.{◌≡◌, ℤ, pos, neg_ℤ, ◌-ℤ◌, ◌*ℤ◌, Bool, true, false, cond, ◌&&◌, ◌∙◌, subst, ⊎_elim, [], ◌∷◌}
 use Rattle.std.specs.Ordering.{int_eq}
 use Rattle.nef_exact.proofs.Ring.{ring, at, num, neg, ◌⊕◌, ◌⊖◌, ◌⊗◌}
-use Rattle.nef_exact.proofs.Combination.{given, none, follows}
 use Rattle.nef_space.specs.Place.{normal_of}
 use Rattle.nef_space.specs.Vectors.{Vector, vector, opposite, dot, cross, plane_axis, beside_x, beside_y, IsZero, IsDirection, SameDirection}
 use Rattle.nef_geo.specs.Shapes.{form_of}

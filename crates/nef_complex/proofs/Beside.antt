@@ -1,34 +1,30 @@
 -- An edge along the ray has an end between the ray's start and each of its points ahead.
-use Rattle.std.proofs.Common.{◌≡◌, ℕ, ℤ, pos, neg_ℤ, ◌+ℤ◌, ◌-ℤ◌, ◌*ℤ◌, ◌<ℤ◌, arith, sym, ap, ◌∙◌, ◌⊎◌, inl, inr, ⊎_elim, subst, refl, [], ◌∷◌}
+use Rattle.std.proofs.Common.{◌≡◌, ℕ, ℤ, pos, neg_ℤ, ◌-ℤ◌, ◌*ℤ◌, ◌<ℤ◌, arith, sym, ap, ◌∙◌, ◌⊎◌, inl, inr, ⊎_elim, subst, refl, [], ◌∷◌}
 use Rattle.std.proofs.lemmas.Int.{ints}
 use Rattle.nef_exact.proofs.Ring.{ring, at, num, neg, ◌⊕◌, ◌⊖◌, ◌⊗◌}
-use Rattle.nef_exact.proofs.Combination.{given, none, follows_times}
 use Rattle.nef_exact.proofs.Order.{by_order}
-use Rattle.nef_space.specs.Place.{Place, Form, form_at, slope, normal_of, toward, SamePlace, IsAhead, IsBetween}
+use Rattle.nef_space.specs.Place.{Place, form_at, toward, SamePlace, IsAhead, IsBetween}
 use Rattle.nef_space.specs.Sets.{Set}
-use Rattle.nef_space.specs.Vectors.{Vector, opposite, dot, cross, IsZero, IsDirection, SameDirection, IsOpposite}
+use Rattle.nef_space.specs.Vectors.{Vector, opposite, dot, cross, IsZero, SameDirection, IsOpposite}
 use Rattle.nef_geo.specs.Shapes.{form_of}
 use Rattle.nef_geo.specs.declared.plane.Plane.{Plane}
 use Rattle.nef_forms.proofs.Between.{between-same, toward-place}
 use Rattle.nef_forms.proofs.Directions.{zero-decided, dot-comm}
-use Rattle.nef_forms.proofs.Near.{slope-toward}
 use Rattle.nef_near.proofs.Between.{between-inner, between-turned}
 use Rattle.nef_near.proofs.FlatDecided.{cross-turned}
 use Rattle.nef_near.proofs.Flats.{vector-same}
 use Rattle.nef_near.proofs.Rays.{same-place_sym}
-use Rattle.nef_sphere.specs.Maps.{At, Svertex}
+use Rattle.nef_sphere.specs.Maps.{At}
 use Rattle.nef_sphere.proofs.Compare.{SameDirection-turned, SameDirection-trans}
-use Rattle.nef_sphere.proofs.KindFlats.{in-span}
 use Rattle.nef_sphere.proofs.Lists.{at-one}
 use Rattle.nef_sphere.proofs.Vectors.{nought-if}
 use Rattle.nef_solid.specs.Complexes.{Vertex, Edge, Complex, HasEnds, IsEdge}
 use Rattle.nef_solid.specs.Shows.{Shows}
-use Rattle.nef_solid.specs.Skeleton.{PlaneMeet, meets_edge, IsVertexPoint, IsEdgePoint, LiesIn}
-use Rattle.nef_solid.proofs.FacetAngles.{through-at, through-slope}
+use Rattle.nef_solid.specs.Skeleton.{meets_edge, IsVertexPoint}
 use Rattle.nef_solid.proofs.FacetEdges.{ahead-back}
 use Rattle.nef_solid.proofs.Ways.{between-way, between-ends, same-itself}
-use Rattle.nef_complex.specs.Meets.{IsAlongAxis, HasNoSvertex, IsOffEdges, sweep_form, HoldsBoth, AtEdgeNumber}
-use Rattle.nef_complex.proofs.Axes.{axis-some, axis-level, axis-keeps}
+use Rattle.nef_complex.specs.Meets.{IsAlongAxis, HasNoSvertex, IsOffEdges, HoldsBoth, AtEdgeNumber}
+use Rattle.nef_complex.proofs.Axes.{axis-some}
 use Rattle.nef_complex.proofs.Meeting.{line-way, ahead-kept, behind-kept, start-kept}
 
 -- ---- turned ways

@@ -2,7 +2,7 @@
 use Rattle.std.proofs.Common.{◌≡◌, ℕ, ◌<◌, pos, length, Option, Some, None, List, refl, sym, ◌∙◌, inl, inr, ◌↔◌, subst}
 use Rattle.std.specs.Option.{MatchOption}
 use Rattle.std.specs.Prelude.{IsNone, IfSome}
-use Rattle.nef_space.specs.Place.{Place, form_at, SamePlace}
+use Rattle.nef_space.specs.Place.{Place, form_at}
 use Rattle.nef_space.specs.Sets.{Set}
 use Rattle.nef_space.specs.Vectors.{Vector}
 use Rattle.nef_geo.specs.Hits.{IsCrossing, IsReached}

@@ -1,16 +1,15 @@
 -- Vertices and edges that a ray within a plane meets: some carrier that holds them crosses the ray.
-use Rattle.std.proofs.Common.{◌≡◌, ℕ, ℤ, pos, neg_ℤ, ◌+ℤ◌, ◌-ℤ◌, ◌*ℤ◌, ◌<ℤ◌, arith, sym, ap, ◌∙◌, ◌⊎◌, inl, inr, ⊎_elim, subst, [], ◌∷◌}
+use Rattle.std.proofs.Common.{◌≡◌, ℕ, pos, ◌<ℤ◌, arith, sym, ap, ◌∙◌, subst, [], ◌∷◌}
 use Rattle.std.proofs.lemmas.Int.{ints}
 use Rattle.nef_exact.specs.Signs.{Lies}
-use Rattle.nef_exact.proofs.Ring.{ring, at, num, neg, ◌⊕◌, ◌⊖◌, ◌⊗◌}
+use Rattle.nef_exact.proofs.Ring.{at, num, ◌⊖◌, ◌⊗◌}
 use Rattle.nef_exact.proofs.Combination.{given, none, follows_times}
 use Rattle.nef_exact.proofs.Order.{nought-is}
-use Rattle.nef_space.specs.Local.{IsVertex, Flat}
+use Rattle.nef_space.specs.Local.{Flat}
 use Rattle.nef_space.specs.Place.{Place, Form, form_at, slope, normal_of, toward, IsBetween}
 use Rattle.nef_space.specs.Sets.{Set}
-use Rattle.nef_space.specs.Vectors.{Vector, dot, cross, IsZero, IsDirection}
+use Rattle.nef_space.specs.Vectors.{Vector, cross, IsZero, IsDirection}
 use Rattle.nef_geo.specs.Shapes.{form_of}
-use Rattle.nef_geo.specs.declared.plane.Plane.{Plane}
 use Rattle.nef_forms.proofs.Directions.{dot-comm}
 use Rattle.nef_forms.proofs.Near.{slope-toward}
 use Rattle.nef_near.specs.Cells.{carriers}
@@ -32,7 +31,7 @@ use Rattle.nef_complex.specs.Meets.{HoldsBoth, AllHold}
 use Rattle.nef_complex.proofs.Parted.{along-cross}
 
 -- a plane through a point between two others, which holds the direction from the one to the other, holds both
-through-both : (h : Form) (p q : Place) → form_at h (start 1 p q) ≡ pos 0 → slope h (toward p q) ≡ pos 0 → HoldsBoth h p q
+pub through-both : (h : Form) (p q : Place) → form_at h (start 1 p q) ≡ pos 0 → slope h (toward p q) ≡ pos 0 → HoldsBoth h p q
 through-both h p q e f = (first, second)
   where
     weight : (r : Place) → pos 0 <ℤ pos r.w

@@ -1,13 +1,13 @@
 -- What is met at a vertex, inside an edge, and first of all.
-use Rattle.std.proofs.Common.{◌≡◌, ℕ, ◌<◌, length, pos, List, None, refl, sym, ⊎_elim, ◌⊎◌, inl, inr, subst}
-use Rattle.nef_space.specs.Place.{Place, Form, form_at, slope, normal_of, toward, SamePlace, IsAhead, IsBetween}
+use Rattle.std.proofs.Common.{◌≡◌, ℕ, ◌<◌, length, pos, None, refl, sym, ⊎_elim, ◌⊎◌, inl, inr, subst}
+use Rattle.nef_space.specs.Place.{Place, Form, form_at, normal_of, toward, SamePlace, IsAhead, IsBetween}
 use Rattle.nef_space.specs.Sets.{Set}
 use Rattle.nef_space.specs.Vectors.{Vector, cross, IsZero, IsDirection}
 use Rattle.nef_geo.specs.Shapes.{form_of, place_of, far_place}
 use Rattle.nef_geo.specs.declared.hit.FarHit.{FarHit}
 use Rattle.nef_geo.specs.declared.plane.Plane.{Plane}
 use Rattle.nef_forms.specs.Homogeneous.{of_place}
-use Rattle.nef_forms.proofs.Between.{between-same, place-toward, place-factor, factor-place}
+use Rattle.nef_forms.proofs.Between.{place-toward, place-factor, factor-place}
 use Rattle.nef_forms.proofs.Directions.{direction-left, direction-right}
 use Rattle.nef_forms.proofs.Sums.{same-trans}
 use Rattle.nef_near.proofs.Between.{between-inner}

@@ -1,5 +1,5 @@
 -- Where a ray along the axis of a plane meets a segment of the plane, or a point of it.
-use Rattle.std.proofs.Common.{◌≡◌, ℕ, zero, suc, ℤ, pos, negsuc, neg_ℤ, ◌-ℤ◌, ◌*ℤ◌, ◌<ℤ◌, List, ap, sym, ◌∙◌, arith, ◌⊎◌, inl, inr, ⊎_elim, refl, [], ◌∷◌}
+use Rattle.std.proofs.Common.{◌≡◌, zero, suc, ℤ, pos, negsuc, neg_ℤ, ◌*ℤ◌, ◌<ℤ◌, List, ap, sym, ◌∙◌, arith, ◌⊎◌, inl, inr, ⊎_elim, refl, [], ◌∷◌}
 use Rattle.std.proofs.lemmas.Int.{ints}
 use Rattle.nef_exact.specs.Signs.{sign}
 use Rattle.nef_exact.proofs.Ring.{ring, at, num, ◌⊖◌, ◌⊗◌}
@@ -23,7 +23,6 @@ use Rattle.nef_sphere.proofs.KindFlats.{in-span}
 use Rattle.nef_solid.proofs.FacetAngles.{through-at, through-slope}
 use Rattle.nef_solid.proofs.Planes.{plane-way}
 use Rattle.nef_solid.proofs.Ways.{same-itself}
-use Rattle.nef_sphere.specs.Maps.{At}
 use Rattle.nef_complex.specs.Meets.{IsAlongAxis, sweep_axis, sweep_form, HoldsBoth, AreOpposite, NoneCrosses, IsMet, AllHold}
 use Rattle.nef_complex.proofs.Axes.{axis-some, axis-level, axis-keeps, axis-parallel}
 use Rattle.nef_complex.proofs.Parted.{times-nought, parted-cut, held-between, crossed-parted}

@@ -1,9 +1,9 @@
 -- The nearest of what a ray meets.
-use Rattle.std.proofs.Common.{◌≡◌, ℕ, ◌<◌, ◌+◌, Option, Some, None, arith, refl, sym, ap, ◌∙◌, ◌⊎◌, inl, inr, ⊎_elim, subst}
+use Rattle.std.proofs.Common.{◌≡◌, ℕ, ◌<◌, ◌+◌, Option, Some, None, arith, refl, sym, ◌⊎◌, inl, inr, ⊎_elim, subst}
 use Rattle.std.specs.Prelude.{IfSome}
 use Rattle.std.proofs.Math.Nat.{eq-or-lt_of_le}
-use Rattle.nef_space.specs.Place.{Place, SamePlace, toward, IsAhead, IsBetween}
-use Rattle.nef_space.specs.Vectors.{Vector, SameDirection}
+use Rattle.nef_space.specs.Place.{Place, toward, IsAhead, IsBetween}
+use Rattle.nef_space.specs.Vectors.{Vector}
 use Rattle.nef_geo.specs.Shapes.{far_place}
 use Rattle.nef_forms.proofs.Between.{between-same}
 use Rattle.nef_near.proofs.Between.{between-inner}

@@ -46,6 +46,11 @@ module _ (h : Form) (p q : Place) where
   pub parted-way : HasOppositeSigns (form_at h p) (form_at h q) → IsDirection (toward p q)
   parted-way s z = parted-slope s (slope-zero h (toward p q) z)
 
+  -- and doesn't hold both
+  pub parted-apart : HasOppositeSigns (form_at h p) (form_at h q) → HoldsBoth h p q → ⊥
+  parted-apart s (e, f) = ⊎_elim (λ (m : (form_at h p <ℤ pos 0) × (pos 0 <ℤ form_at h q)). omega (arith, ints, m.0)) (λ (m : (pos 0 <ℤ form_at h p) × (form_at h q <ℤ pos 0)). omega (arith, ints, m.0)) s
+
+  -- but crosses the segment between them
   pub parted-cut : HasOppositeSigns (form_at h p) (form_at h q) → (y : Place) × IsBetween p y q × (form_at h y ≡ pos 0)
   parted-cut s = by s
     where

@@ -1,5 +1,5 @@
 -- What a ray along the axis of a plane meets there.
-use Rattle.std.specs.Prelude.{◌≡◌, ℕ, ◌<◌, pos, neg_ℤ, cond, ◌&&◌, ◌⊎◌, Option, Some, List}
+use Rattle.std.specs.Prelude.{◌≡◌, ℕ, pos, neg_ℤ, cond, ◌&&◌, ◌⊎◌, Option, Some, List}
 use Rattle.std.specs.Option.{MatchOption}
 use Rattle.std.specs.Ordering.{int_eq}
 use Rattle.nef_space.specs.Place.{Place, Form, form_at, slope, normal_of, plane_through, toward, SamePlace, IsAhead, IsBetween}
@@ -80,6 +80,7 @@ pub record IsNearestMet (p : Place) (d : Vector) (P : PlaneMeet → Place → Ty
   pub met : P (meet_of x.meet) (far_place x.at)
   pub first : (n : PlaneMeet) (q : Place) → IsBetween p q (far_place x.at) → P n q → ⊥
 
+-- the first of what has P, or none where the ray meets nothing that has it
 abbrev pub IsNearest : Place → Vector → (PlaneMeet → Place → Type 0) → Option Met → Type 0
 IsNearest p d P o = MatchOption o ((n : PlaneMeet) (q : Place) → IsAhead p d q → P n q → ⊥) (IsNearestMet p d P)
 
@@ -93,5 +94,6 @@ pub record IsNearer (d : Vector) (a b r : Option Met) : Type 0 where
   pub first : (x : Met) → a ≡ Some x → (y : Met) × (r ≡ Some y) × IsNotPast d y x
   pub second : (x : Met) → b ≡ Some x → (y : Met) × (r ≡ Some y) × IsNotPast d y x
 
+-- the hit stands at its step along the ray
 abbrev pub IsReachedMet : Place → Vector → Met → Type 0
 IsReachedMet p d x = IsReached p d x.at.num x.at.den x.at.den_sign (far_place x.at)

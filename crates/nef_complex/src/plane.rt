@@ -25,6 +25,7 @@ struct Met {
     at: FarHit,
 }
 
+// Whether the plane holds both points.
 fn holds_both(h: &Plane, a: &Point, b: &Point) -> bool
     ensures holds { IsTrue result ↔ HoldsBoth (form_of h.now) (place_of a.now) (place_of b.now) }
 {
@@ -123,7 +124,7 @@ fn nearer(one: Option<Met>, other: Option<Met>, p: &Hit, d: &Dir) -> Option<Met>
     }
 }
 
-// The vertex with this number, where the ray meets it.
+// The vertex with this number, where the ray meets it: there some carrier through it crosses the ray.
 fn vertex_met(c: &Complex, h: &Plane, p: &Hit, d: &Dir, number: usize) -> Option<Met>
     requires shows { (s : Set) × ShowsSet s c.now }
     requires on { form_at (form_of h.now) (hit_place p.now) ≡ pos 0 }
@@ -165,6 +166,7 @@ fn edge_met(c: &Complex, h: &Plane, p: &Hit, d: &Dir, number: usize) -> Option<M
     }
 }
 
+// The first vertex that the ray meets.
 fn nearest_vertex(c: &Complex, h: &Plane, p: &Hit, d: &Dir) -> Option<Met>
     requires shows { (s : Set) × ShowsSet s c.now }
     requires on { form_at (form_of h.now) (hit_place p.now) ≡ pos 0 }
@@ -180,6 +182,8 @@ fn nearest_vertex(c: &Complex, h: &Plane, p: &Hit, d: &Dir) -> Option<Met>
     best
 }
 
+// The first edge in the plane, not along the ray, that the ray meets. Where the ray meets an edge along it, it meets an
+// end of that edge sooner.
 fn nearest_edge(c: &Complex, h: &Plane, p: &Hit, d: &Dir) -> Option<Met>
     requires shows { (s : Set) × ShowsSet s c.now }
     requires on { form_at (form_of h.now) (hit_place p.now) ≡ pos 0 }

@@ -1,4 +1,4 @@
-use Rattle.std.proofs.Common.{ℕ, Some, None, subst}
+use Rattle.std.proofs.Common.{ℕ, subst}
 use Rattle.nef_geo.specs.Shapes.{form_of, hit_place, vector_of}
 use Rattle.nef_complex.specs.Complexes.{complex_of}
 use Rattle.nef_complex.specs.Meets.{AtVertexNumber, AtEdgeNumber, IsNearest}

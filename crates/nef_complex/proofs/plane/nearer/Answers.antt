@@ -1,4 +1,4 @@
-use Rattle.std.proofs.Common.{◌≡◌, Some, None, inl, inr, rules, sym}
+use Rattle.std.proofs.Common.{inl, inr, rules}
 use Rattle.nef_geo.specs.Shapes.{hit_place, vector_of}
 use Rattle.nef_complex.specs.Meets.{IsReachedMet}
 use Rattle.nef_complex.proofs.Choosing.{some-at, take-first, take-second, keep-first, keep-second}

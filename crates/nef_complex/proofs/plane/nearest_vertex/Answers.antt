@@ -1,5 +1,5 @@
 use Rattle.std.proofs.Common.{arith}
-use Rattle.nef_geo.specs.Shapes.{form_of, hit_place, vector_of}
+use Rattle.nef_geo.specs.Shapes.{hit_place, vector_of}
 use Rattle.nef_complex.specs.Complexes.{complex_of}
 use Rattle.nef_complex.specs.Meets.{AtVertexNumber}
 use Rattle.nef_complex.proofs.Found.{vertex-within}
