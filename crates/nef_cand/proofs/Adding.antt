@@ -9,13 +9,9 @@ use Rattle.nef_geo.specs.declared.point.Point.{Point}
 use Rattle.nef_sphere.specs.Maps.{At}
 use Rattle.nef_sphere.proofs.Lists.{at-one}
 use Rattle.nef_smap.proofs.Lists.{at-within}
+use Rattle.nef_complex.proofs.Reading.{read-at}
 use Rattle.nef_cand.specs.Candidates.{IsListed}
 use Rattle.nef_cand.specs.Points.{Adds}
-
-pub read-at : {X : Type 0} (xs : List X) (k : ℕ) (x : X) → k < length xs → x ≡ get_or xs k x → At xs k x
-read-at [] k x l e = absurd (omega arith)
-read-at (y ∷ ys) zero x l e = sym e
-read-at (y ∷ ys) (suc k) x l e = read-at ys k x (omega arith) e
 
 listed-more : (ps qs : List Point) → ((p : Point) → Contains ps p → Contains qs p) → (y : Place) → IsListed ps y → IsListed qs y
 listed-more ps qs f y (p, h, s) = (p, f p h, s)

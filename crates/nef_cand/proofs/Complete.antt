@@ -23,7 +23,8 @@ use Rattle.nef_complex.specs.declared.complex.Complex.{Complex as ProgramComplex
 use Rattle.nef_complex.specs.Complexes.{complex_of}
 use Rattle.nef_cand.specs.Candidates.{IsListed, AreExactly, IsVertexOf, AreCandidates, IsVertexOfBoth}
 use Rattle.nef_cand.specs.Points.{Adds, CutsOne}
-use Rattle.nef_cand.proofs.Adding.{read-at, adds-both, adds-as}
+use Rattle.nef_complex.proofs.Reading.{read-at}
+use Rattle.nef_cand.proofs.Adding.{adds-both, adds-as}
 use Rattle.nef_cand.proofs.Order.{ArePlacesInOrder}
 
 -- ---- whether a place is listed is decided

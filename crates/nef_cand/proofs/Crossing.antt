@@ -24,112 +24,12 @@ use Rattle.nef_sphere.proofs.KindFlats.{in-span}
 use Rattle.nef_solid.proofs.Planes.{plane-way}
 use Rattle.nef_solid.proofs.Ways.{same-itself}
 use Rattle.nef_solid.proofs.FacetAngles.{cut-at}
+use Rattle.nef_complex.proofs.Parted.{parted-slope, parted-cut, parted-apart, held-between, crossed-parted, independent}
 use Rattle.nef_cand.specs.declared.line.Line.{Line}
-use Rattle.nef_cand.specs.Points.{HoldsBoth, IsLineThrough, IsCrossing}
-
--- ---- signs of products
-times-none : (k c : ℤ) → c ≡ pos 0 → k *ℤ c ≡ pos 0
-times-none k c o = ap (λ r. k *ℤ r) o ∙ ring (k ∷ []) (at 0 ⊗ num (pos 0)) (num (pos 0)) tt
-
-times-pos : (k c : ℤ) → pos 0 <ℤ k → pos 0 <ℤ (k *ℤ c) → pos 0 <ℤ c
-times-pos k c x h = by_order c (pos 0) (λ l. let u = mul_neg k c x l in absurd (omega (arith, ints))) (λ o. let u = times-none k c o in absurd (omega (arith, ints))) (λ l. l)
-
-times-neg : (k c : ℤ) → pos 0 <ℤ k → (k *ℤ c) <ℤ pos 0 → c <ℤ pos 0
-times-neg k c x h = by_order c (pos 0) (λ l. l) (λ o. let u = times-none k c o in absurd (omega (arith, ints))) (λ l. let u = mul_pos k c x l in absurd (omega (arith, ints)))
-
-pub times-nought : (k c : ℤ) → pos 0 <ℤ k → k *ℤ c ≡ pos 0 → c ≡ pos 0
-times-nought k c x h = by_order c (pos 0) (λ l. let u = mul_neg k c x l in absurd (omega (arith, ints))) (λ o. o) (λ l. let u = mul_pos k c x l in absurd (omega (arith, ints)))
-
--- ---- the sides of the two points
-module _ (h : Form) (p q : Place) where
-  -- a plane that parts two points isn't parallel to the way from the one to the other
-  pub parted-slope : HasOppositeSigns (form_at h p) (form_at h q) → slope h (toward p q) ≡ pos 0 → ⊥
-  parted-slope s z = by (form_at h p) (form_at h q) (pos p.w) (pos q.w) (weight p) (weight q) s (sym (slope-toward h p q) ∙ z)
-    where
-      weight : (r : Place) → pos 0 <ℤ pos r.w
-      weight r = let m = r.proper in omega (arith, ints)
-
-      by : (a b k l : ℤ) → pos 0 <ℤ k → pos 0 <ℤ l → HasOppositeSigns a b → k *ℤ b -ℤ l *ℤ a ≡ pos 0 → ⊥
-      by a b k l x y (inl (m, n)) e = let i = mul_pos k b x n in let j = mul_neg l a y m in omega (arith, ints)
-      by a b k l x y (inr (m, n)) e = let i = mul_neg k b x n in let j = mul_pos l a y m in omega (arith, ints)
-
-  pub parted-way : HasOppositeSigns (form_at h p) (form_at h q) → IsDirection (toward p q)
-  parted-way s z = parted-slope s (slope-zero h (toward p q) z)
-
-  pub parted-cut : HasOppositeSigns (form_at h p) (form_at h q) → (y : Place) × IsCrossing h p q y
-  parted-cut s = by s
-    where
-      apart : HoldsBoth h p q → ⊥
-      apart (e, f) = ⊎_elim (λ (m : (form_at h p <ℤ pos 0) × (pos 0 <ℤ form_at h q)). omega (arith, ints, m.0)) (λ (m : (pos 0 <ℤ form_at h p) × (form_at h q <ℤ pos 0)). omega (arith, ints, m.0)) s
-
-      turned : IsDirection (toward p q) → IsDirection (toward q p)
-      turned d z = d (one q.x p.x z.0, one q.y p.y z.1, one q.z p.z z.2)
-        where
-          one : (x u : ℤ) → u *ℤ pos q.w -ℤ x *ℤ pos p.w ≡ pos 0 → x *ℤ pos p.w -ℤ u *ℤ pos q.w ≡ pos 0
-          one x u e = omega (arith, ints)
-
-      by : HasOppositeSigns (form_at h p) (form_at h q) → (y : Place) × IsCrossing h p q y
-      by (inl (m, n)) = let c = cut-at h q p (turned (parted-way s)) n m in (c.place, record { between = between-turned q p c.place c.between; on = c.level; parts = apart })
-      by (inr (m, n)) = let c = cut-at h p q (parted-way s) m n in (c.place, record { between = c.between; on = c.level; parts = apart })
-
-  module _ (y : Place) (b : IsBetween p y q) where
-    mixed : IsMixed (of_place p) (of_place y) (of_place q)
-    mixed = mixed-of p y q b
-
-    sum : pos mixed.k *ℤ form_at h y ≡ pos mixed.i *ℤ form_at h p +ℤ pos mixed.j *ℤ form_at h q
-    sum = form-sum h mixed.k (of_place y) mixed.i (of_place p) mixed.j (of_place q) mixed.sum
-
-    -- a plane that holds both points holds those between
-    pub held-between : HoldsBoth h p q → form_at h y ≡ pos 0
-    held-between (e, f) = follows_times (form_at h p ∷ form_at h q ∷ form_at h y ∷ pos mixed.k ∷ pos mixed.i ∷ pos mixed.j ∷ []) (at 3) (at 2) (num (pos 0))
-        (given (num (pos 1)) (at 3 ⊗ at 2) (at 4 ⊗ at 0 ⊕ at 5 ⊗ at 1) sum (given (at 4) (at 0) (num (pos 0)) e (given (at 5) (at 1) (num (pos 0)) f none))) (some mixed.k mixed.some_k) tt
-      where
-        some : (k : ℕ) → 0 < k → pos 0 <ℤ pos k
-        some k s = omega (arith, ints)
-
-    -- and one that passes between them and doesn't hold both parts them
-    pub crossed-parted : form_at h y ≡ pos 0 → (HoldsBoth h p q → ⊥) → HasOppositeSigns (form_at h p) (form_at h q)
-    crossed-parted e n =
-        by (form_at h p) (form_at h q) (pos mixed.i) (pos mixed.j) (let m = mixed.some_i in omega (arith, ints)) (let m = mixed.some_j in omega (arith, ints)) n
-        (sym sum ∙ ap (λ r. pos mixed.k *ℤ r) e ∙ ring (pos mixed.k ∷ []) (at 0 ⊗ num (pos 0)) (num (pos 0)) tt)
-      where
-        by : (a b i j : ℤ) → pos 0 <ℤ i → pos 0 <ℤ j → ((a ≡ pos 0) × (b ≡ pos 0) → ⊥) → i *ℤ a +ℤ j *ℤ b ≡ pos 0 → HasOppositeSigns a b
-        by a b i j x y n s = by_order a (pos 0)
-            (λ m. let u = mul_neg i a x m in inl (m, times-pos j b y (omega (arith, ints))))
-            (λ o. let u = times-none i a o in absurd (n (o, times-nought j b y (omega (arith, ints)))))
-            (λ m. let u = mul_pos i a x m in inr (m, times-neg j b y (omega (arith, ints))))
+use Rattle.nef_complex.specs.Meets.{HoldsBoth}
+use Rattle.nef_cand.specs.Points.{IsLineThrough, IsCrossing}
 
 -- ---- three planes
-abbrev cx : Poly
-cx = at 1 ⊗ at 5 ⊖ at 2 ⊗ at 4
-
-abbrev cy : Poly
-cy = at 2 ⊗ at 3 ⊖ at 0 ⊗ at 5
-
-abbrev cz : Poly
-cz = at 0 ⊗ at 4 ⊖ at 1 ⊗ at 3
-
-abbrev nd : Poly
-nd = at 0 ⊗ at 6 ⊕ at 1 ⊗ at 7 ⊕ at 2 ⊗ at 8
-
-abbrev md : Poly
-md = at 3 ⊗ at 6 ⊕ at 4 ⊗ at 7 ⊕ at 5 ⊗ at 8
-
--- a vector at right angles to n and m is parallel to n x m: d x (n x m) = n (d.m) - m (d.n)
-along-cross : (n m d : Vector) → dot n d ≡ pos 0 → dot m d ≡ pos 0 → IsZero (cross d (cross n m))
-along-cross n m d i j = (
-  follows (n.x ∷ n.y ∷ n.z ∷ m.x ∷ m.y ∷ m.z ∷ d.x ∷ d.y ∷ d.z ∷ []) (at 7 ⊗ cz ⊖ at 8 ⊗ cy) (num (pos 0)) (given (at 0) md (num (pos 0)) j (given (num (pos 0) ⊖ at 3) nd (num (pos 0)) i none)) tt,
-  follows (n.x ∷ n.y ∷ n.z ∷ m.x ∷ m.y ∷ m.z ∷ d.x ∷ d.y ∷ d.z ∷ []) (at 8 ⊗ cx ⊖ at 6 ⊗ cz) (num (pos 0)) (given (at 1) md (num (pos 0)) j (given (num (pos 0) ⊖ at 4) nd (num (pos 0)) i none)) tt,
-  follows (n.x ∷ n.y ∷ n.z ∷ m.x ∷ m.y ∷ m.z ∷ d.x ∷ d.y ∷ d.z ∷ []) (at 6 ⊗ cy ⊖ at 7 ⊗ cx) (num (pos 0)) (given (at 2) md (num (pos 0)) j (given (num (pos 0) ⊖ at 5) nd (num (pos 0)) i none)) tt,
-)
-
--- a plane that parts two points isn't parallel to the line between them
-independent : (n m k d : Vector) → IsDirection (cross n m) → dot n d ≡ pos 0 → dot m d ≡ pos 0 → triple n m k ≡ pos 0 → dot k d ≡ pos 0
-independent n m k d some i j t =
-    in-span k (cross n m) d some (cross-turned d (cross n m) (along-cross n m d i j))
-    (ring (n.x ∷ n.y ∷ n.z ∷ m.x ∷ m.y ∷ m.z ∷ k.x ∷ k.y ∷ k.z ∷ []) (at 6 ⊗ cx ⊕ at 7 ⊗ cy ⊕ at 8 ⊗ cz)
-    (at 0 ⊗ (at 4 ⊗ at 8 ⊖ at 5 ⊗ at 7) ⊕ at 1 ⊗ (at 5 ⊗ at 6 ⊖ at 3 ⊗ at 8) ⊕ at 2 ⊗ (at 3 ⊗ at 7 ⊖ at 4 ⊗ at 6)) tt ∙ t)
-
 module _ (l : Line) (h : Plane) (p q : Place) (L : IsLineThrough l p q) (s : HasOppositeSigns (form_at (form_of h) p) (form_at (form_of h) q)) where
   pub never-dependent : HasDependentNormals (form_of l.first) (form_of l.second) (form_of h) → ⊥
   never-dependent t =
@@ -143,8 +43,13 @@ module _ (l : Line) (h : Plane) (p q : Place) (L : IsLineThrough l p q) (s : Has
 
     pub meet-crosses : IsCrossing (form_of h) p q m × ((y : Place) → IsCrossing (form_of h) p q y → SamePlace m y)
     meet-crosses =
-        let y = parted-cut (form_of h) p q s in (
-          record { between = between-same p y.0 q p m q (same-itself p) (only-crossing y.0 y.1) (same-itself q) y.1.between; on = M.on_r; parts = y.1.parts },
+        let y = parted-cut (form_of h) p q s in
+        let apart = parted-apart (form_of h) p q s in (
+          record {
+            between = between-same p y.0 q p m q (same-itself p) (only-crossing y.0 (record { between = y.1; on = y.2; parts = apart })) (same-itself q) y.1;
+            on = M.on_r;
+            parts = apart;
+          },
           λ y c. same-place_sym y m (only-crossing y c),
         )
 

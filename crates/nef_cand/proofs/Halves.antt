@@ -34,7 +34,7 @@ use Rattle.nef_solid.proofs.Ways.{between-ends}
 use Rattle.nef_cand.specs.Candidates.{IsListed, IsVertexOf, IsCutBy, AreCutCandidates}
 use Rattle.nef_cand.specs.Points.{Adds, CutsOne}
 use Rattle.nef_cand.proofs.Adding.{adds-both, adds-as}
-use Rattle.nef_cand.proofs.Crossing.{times-nought}
+use Rattle.nef_complex.proofs.Parted.{times-nought}
 use Rattle.nef_cand.proofs.Order.{ArePlacesInOrder}
 use Rattle.nef_cand.proofs.Complete.{listed-decided, added-exactly, never-flat, vertex-of}
 

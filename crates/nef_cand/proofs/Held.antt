@@ -31,33 +31,15 @@ use Rattle.nef_complex.specs.declared.complex.Vertex.{Vertex}
 use Rattle.nef_complex.specs.declared.complex.Edge.{Edge}
 use Rattle.nef_complex.specs.declared.complex.Complex.{Complex}
 use Rattle.nef_complex.specs.Complexes.{vertex_of, edge_of, complex_of, ShowsSet}
+use Rattle.nef_complex.proofs.Choosing.{low-within, high-within}
+use Rattle.nef_complex.proofs.Ends.{through-both}
+use Rattle.nef_complex.proofs.Reading.{got-at}
 use Rattle.nef_cand.specs.Candidates.{IsVertexOf}
-use Rattle.nef_cand.specs.Points.{HoldsBoth, AreHeldByTwo, IsCrossing, CrossesOne, CutsOne, Adds}
+use Rattle.nef_complex.specs.Meets.{HoldsBoth}
+use Rattle.nef_cand.specs.Points.{AreHeldByTwo, IsCrossing, CrossesOne, CutsOne, Adds}
 use Rattle.nef_cand.proofs.Adding.{adds-as, AnyAt}
 
-pub got-at : {X : Type 0} (xs : List X) (k : ℕ) (x : X) → slice_get xs k ≡ Some x → At xs k x
-got-at [] k x e = let f : None ≡ Some x = e in cc
-got-at (y ∷ ys) zero x e = let f : Some y ≡ Some x = e in cc
-got-at (y ∷ ys) (suc k) x e = got-at ys k x e
-
 -- ---- the planes of a segment
--- a plane through a point between two others, which holds the direction from the one to the other, holds both
-through-both : (h : Form) (p q : Place) → IsDirection (toward p q) → form_at h (start 1 p q) ≡ pos 0 → slope h (toward p q) ≡ pos 0 → HoldsBoth h p q
-through-both h p q d e f = (first, second)
-  where
-    weight : (r : Place) → pos 0 <ℤ pos r.w
-    weight r = let m = r.proper in omega (arith, ints)
-
-    first : form_at h p ≡ pos 0
-    first = follows_times (form_at h p ∷ form_at h (start 1 p q) ∷ slope h (toward p (start 1 p q)) ∷ pos p.w ∷ pos (start 1 p q).w ∷ []) (at 4) (at 0) (num (pos 0))
-        (given (num (pos 1)) (at 2) (at 3 ⊗ at 1 ⊖ at 4 ⊗ at 0) (slope-toward h p (start 1 p q))
-        (given (at 3) (at 1) (num (pos 0)) e (given (num (pos 0) ⊖ num (pos 1)) (at 2) (num (pos 0)) (ap (slope h) (start-toward 1 p q) ∙ f) none))) (weight (start 1 p q)) tt
-
-    second : form_at h q ≡ pos 0
-    second = follows_times (form_at h p ∷ form_at h q ∷ slope h (toward p q) ∷ pos p.w ∷ pos q.w ∷ []) (at 3) (at 1) (num (pos 0))
-        (given (num (pos 0) ⊖ num (pos 1)) (at 2) (at 3 ⊗ at 1 ⊖ at 4 ⊗ at 0) (slope-toward h p q)
-        (given (at 4) (at 0) (num (pos 0)) first (given (num (pos 1)) (at 2) (num (pos 0)) f none))) (weight p) tt
-
 -- forms of one plane have parallel normals
 same-parallel : (g h : Form) → SamePlane g h → IsZero (cross (normal_of g) (normal_of h))
 same-parallel g h S = (one (g.b *ℤ h.c) (g.c *ℤ h.b) S.bc, one (g.c *ℤ h.a) (g.a *ℤ h.c) (sym S.ac), one (g.a *ℤ h.b) (g.b *ℤ h.a) S.ab)
@@ -68,12 +50,6 @@ same-parallel g h S = (one (g.b *ℤ h.c) (g.c *ℤ h.b) S.bc, one (g.c *ℤ h.a
 module _ (s : Set) (c : Complex) (S : ShowsSet s c) (k : ℕ) (e : Edge) (a : At c.edges k e) where
   listed : At (complex_of c).edges k (edge_of e)
   listed = map-at edge_of c.edges k e a
-
-  pub low-within : e.low < length c.vertices
-  low-within = let E = S.shows.edges.edges k (edge_of e) listed in let v = at-map vertex_of c.vertices e.low E.low_vertex E.is_low in at-within c.vertices e.low v.0 v.1
-
-  pub high-within : e.high < length c.vertices
-  high-within = let E = S.shows.edges.edges k (edge_of e) listed in let v = at-map vertex_of c.vertices e.high E.high_vertex E.is_high in at-within c.vertices e.high v.0 v.1
 
   module _ (u v : Vertex) (b : At c.vertices e.low u) (d : At c.vertices e.high v) where
     pub ends : HasEnds (complex_of c) (edge_of e) (vertex_of u) (vertex_of v)
@@ -108,8 +84,8 @@ module _ (s : Set) (c : Complex) (S : ShowsSet s c) (k : ℕ) (e : Edge) (a : At
     edge-held =
         let E = support in
         let z = (E.flat_in (toward (place_of u.point) (place_of v.point))).0 along in
-        let g = plane-of E.first E.first_listed (through-both E.first (place_of u.point) (place_of v.point) apart (nought-is (form_at E.first (start 1 (place_of u.point) (place_of v.point))) E.first_passes) z.0) in
-        let h = plane-of E.second E.second_listed (through-both E.second (place_of u.point) (place_of v.point) apart (nought-is (form_at E.second (start 1 (place_of u.point) (place_of v.point))) E.second_passes) z.1) in (
+        let g = plane-of E.first E.first_listed (through-both E.first (place_of u.point) (place_of v.point) (nought-is (form_at E.first (start 1 (place_of u.point) (place_of v.point))) E.first_passes) z.0) in
+        let h = plane-of E.second E.second_listed (through-both E.second (place_of u.point) (place_of v.point) (nought-is (form_at E.second (start 1 (place_of u.point) (place_of v.point))) E.second_passes) z.1) in (
           g.0,
           h.0,
           g.1,
@@ -183,10 +159,10 @@ module _ (s : Set) (c : Complex) (S : ShowsSet s c) (es : List Edge) (all : es �
   edge-at = subst (λ (r : List Edge). At r i (get_or es i d)) all (get-at es i d l)
 
   pub low-read : (get_or es i d).low < length c.vertices
-  low-read = low-within s c S i (get_or es i d) edge-at
+  low-read = low-within s c S.shows i (get_or es i d) edge-at
 
   pub high-read : (get_or es i d).high < length c.vertices
-  high-read = high-within s c S i (get_or es i d) edge-at
+  high-read = high-within s c S.shows i (get_or es i d) edge-at
 
   module _ (u v : Vertex) (a : slice_get c.vertices (get_or es i d).low ≡ Some u) (b : slice_get c.vertices (get_or es i d).high ≡ Some v) where
     pub held-read : AreHeldByTwo c.carriers (place_of u.point) (place_of v.point)

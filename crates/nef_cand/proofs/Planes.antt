@@ -18,8 +18,8 @@ use Rattle.nef_geo.proofs.Unique.{same_planes_equal}
 use Rattle.nef_arc.proofs.SignNumbers.{not_true}
 use Rattle.nef_sphere.specs.Maps.{At}
 use Rattle.nef_sphere.proofs.Lists.{at-one}
-use Rattle.nef_cand.specs.Points.{HoldsBoth, IsLineThrough}
-use Rattle.nef_cand.proofs.Adding.{read-at}
+use Rattle.nef_complex.specs.Meets.{HoldsBoth}
+use Rattle.nef_cand.specs.Points.{IsLineThrough}
 
 -- ---- the program's test of equality
 abbrev pub plane_test : Plane → Plane → Bool
@@ -96,11 +96,3 @@ line-of g h p q i k n = record {
   second = k;
   independent = λ z. n (sym (same_planes_equal g h (parallel-same (form_of g) (form_of h) p z i.0 k.0)));
 }
-
--- ---- searching the planes
--- with none of the first k elements, and not the next, none of the first k + 1
-pub none-more : (P : Plane → Type 0) (hs : List Plane) (i : ℕ) (g : Plane) → i < length hs → g ≡ get_or hs i g → ((k : ℕ) (h : Plane) → k < i → At hs k h → P h → ⊥) → (P g → ⊥)
-    → (k : ℕ) (h : Plane) → k < i + 1 → At hs k h → P h → ⊥
-none-more P hs i g l e f n k h m a = ⊎_elim
-    (λ o. λ p. n (subst P (at-one hs i h g (subst (λ (j : ℕ). At hs j h) o a) (read-at hs i g l e)) p)) (λ o. f k h o a)
-    (eq-or-lt_of_le {n = k} {m = i} (omega (arith, m)))

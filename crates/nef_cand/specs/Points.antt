@@ -8,6 +8,7 @@ use Rattle.nef_geo.specs.declared.plane.Plane.{Plane}
 use Rattle.nef_geo.specs.declared.point.Point.{Point}
 use Rattle.nef_sphere.specs.Maps.{At}
 use Rattle.nef_solid.specs.Complexes.{Complex}
+use Rattle.nef_complex.specs.Meets.{HoldsBoth}
 use Rattle.nef_cand.specs.declared.line.Line.{Line}
 use Rattle.nef_cand.specs.Candidates.{IsListed, IsCutBy}
 
@@ -16,10 +17,6 @@ pub record Adds (P : Place → Type 0) (ps qs : List Point) : Type 0 where
   pub kept : (p : Point) → Contains ps p → Contains qs p
   pub added : (p : Point) → Contains qs p → Contains ps p ⊎ P (place_of p)
   pub all : (y : Place) → P y → IsListed qs y
-
--- the plane holds both points
-abbrev pub HoldsBoth : Form → Place → Place → Type 0
-HoldsBoth h p q = (form_at h p ≡ pos 0) × (form_at h q ≡ pos 0)
 
 -- none of the planes has P
 abbrev pub HasNone : (Plane → Type 0) → List Plane → Type 0

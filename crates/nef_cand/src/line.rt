@@ -5,7 +5,8 @@ ghost use Rattle.std.specs.Option.{MatchOption};
 ghost use Rattle.nef_space.specs.Place.{Place, form_at};
 ghost use Rattle.nef_geo.specs.Shapes.{place_of, form_of};
 ghost use Rattle.nef_geo.specs.Steps.{HasOppositeSigns};
-ghost use Rattle.nef_cand.specs.Points.{HoldsBoth, HasNone, IsOtherHolder, AreHeldByTwo, IsLineThrough, IsCrossing, IsOnlyCrossing};
+ghost use Rattle.nef_complex.specs.Meets.{HoldsBoth};
+ghost use Rattle.nef_cand.specs.Points.{HasNone, IsOtherHolder, AreHeldByTwo, IsLineThrough, IsCrossing, IsOnlyCrossing};
 
 use nef_geo::{Plane, Point, Sign, meet, side};
 

@@ -1,4 +1,4 @@
-use Rattle.std.proofs.Common.{rules, ℕ, IsNone, IfSome, ◌≡◌, ◌+◌, ◌-◌, ◌*◌, ◌<◌, ◌≤◌, length, ◌/◌, arith, refl, sym, ap, ◌∙◌, subst, Some, slice_get, List}
+use Rattle.std.proofs.Common.{◌≡◌, ◌+◌, ◌-◌, ◌<◌, length, ◌/◌, arith, refl, sym, subst, Some, slice_get, List}
 use Rattle.std.proofs.lemmas.Option.{slice_get_within, slice_get_read}
 use Rattle.nef_space.specs.Place.{SamePlace, IsPlaceBelow}
 use Rattle.nef_geo.specs.Shapes.{place_of}

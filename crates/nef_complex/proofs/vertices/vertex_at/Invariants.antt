@@ -1,7 +1,5 @@
-use Rattle.std.proofs.Common.{◌-◌, ℕ, IsNone, IfSome, ◌≡◌, ◌+◌, ◌*◌, ◌<◌, ◌≤◌, length}
-use Rattle.nef_geo.specs.Shapes.{place_of}
-use Rattle.nef_solid.specs.Skeleton.{IsVertexPoint}
-use Rattle.nef_complex.specs.Complexes.{complex_of, AreSorted, AreBelow, AreAbove}
+use Rattle.std.proofs.Common.{◌-◌, ◌≤◌, length}
+use Rattle.nef_complex.specs.Complexes.{AreBelow, AreAbove}
 use Rattle.nef_complex.proofs.vertices.vertex_at.Given as goal
 
 abbrev pub invariant-loop-low : goal.invariant-loop-low
