@@ -11,6 +11,12 @@ use Rattle.nef_smap.specs.Classes.{AreLinked, AreWithin, AreClasses, renamed_to,
 use Rattle.nef_smap.proofs.Chains.{chain-link, chain-trans, chain-turned, chain-keeps, chain-map}
 
 -- ---- places
+pub less-or-last : (n k : ℕ) → n < k + 1 → (n < k) ⊎ (n ≡ k)
+less-or-last zero zero h = inr refl
+less-or-last zero (suc k) h = inl (omega arith)
+less-or-last (suc n) zero h = absurd (omega arith)
+less-or-last (suc n) (suc k) h = ⊎_elim (λ a. inl (omega arith)) (λ a. inr (ap suc a)) (less-or-last n k (omega arith))
+
 pub is-at_one : {X : Type 0} (xs : List X) (k : ℕ) (x y : X) → IsAt xs k x → IsAt xs k y → x ≡ y
 is-at_one xs k x y a b = let e : ◌≡◌ {A = Option _} (Some x) (Some y) = sym a ∙ b in cc
 
@@ -224,15 +230,6 @@ module _ (cs ns : List ℕ) (next : ℕ) (N : IsNumberedTo cs ns next) (x : ℕ)
       by : (s n : ℕ) → Either ns s n next → n < next + 1
       by s n (earlier a) = let h = N.below s n a in omega arith
       by s n (last f g) = omega arith
-
-      less-or-last : (n k : ℕ) → n < k + 1 → (n < k) ⊎ (n ≡ k)
-      less-or-last zero zero h = inr refl
-      less-or-last zero (suc k) h = inl (omega arith)
-      less-or-last (suc n) zero h = absurd (omega arith)
-      less-or-last (suc n) (suc k) h = ⊎_elim (λ a. inl (omega arith)) (λ a. inr (ap suc a)) (less-or-last n k (omega arith))
-
-pub none-numbered : IsNumberedTo [] [] 0
-none-numbered = record { numbered = record { as_many = refl; same = λ s t c d m n p. cc; by_appearance = λ s m n a. cc }; below = λ s n a. cc; each = λ m h. absurd (omega arith); few = omega arith }
 
 -- ---- the loops
 pub is-at_get : {X : Type 0} (xs : List X) (k : ℕ) (d : X) → k < length xs → IsAt xs k (get_or xs k d)

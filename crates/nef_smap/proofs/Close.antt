@@ -1,22 +1,21 @@
 -- What lies over directions close to d: what meets or ends over d.
-use Rattle.std.proofs.Common.{◌≡◌, ℕ, ℤ, pos, ◌+ℤ◌, ◌-ℤ◌, ◌*ℤ◌, ◌≤ℤ◌, ◌<ℤ◌, arith, refl, ap, sym, ◌∙◌, [], ◌∷◌, subst, Option, Some, None}
+use Rattle.std.proofs.Common.{◌≡◌, ℕ, ℤ, pos, ◌+ℤ◌, ◌-ℤ◌, ◌*ℤ◌, ◌≤ℤ◌, ◌<ℤ◌, arith, ap, sym, ◌∙◌, [], ◌∷◌, subst, None}
 use Rattle.std.proofs.lemmas.Int.{ints}
 use Rattle.nef_exact.proofs.Ring.{ring, at, num, ◌⊕◌, ◌⊖◌, ◌⊗◌}
 use Rattle.nef_exact.proofs.Combination.{follows, given, none}
 use Rattle.nef_exact.proofs.Order.{sign, by_order, mul_pos}
-use Rattle.nef_exact.specs.Signs.{Lies}
-use Rattle.nef_space.specs.Vectors.{Vector, IsDirection, IsZero, cross, dot, SameDirection}
+use Rattle.nef_space.specs.Vectors.{Vector, IsDirection, cross, dot, SameDirection}
 use Rattle.nef_forms.proofs.Directions.{self-pos}
 use Rattle.nef_forms.proofs.Far.{same-nought}
 use Rattle.nef_sphere.specs.Maps.{At, Svertex, Map, Item, items, item_normal, Shaped}
-use Rattle.nef_sphere.specs.Forms.{Keeps, forms}
+use Rattle.nef_sphere.specs.Forms.{Keeps}
 use Rattle.nef_sphere.proofs.Vectors.{same-plus, same-minus}
 use Rattle.nef_sphere.proofs.Lists.{at-one}
 use Rattle.nef_sphere.proofs.Places.{kept-plus, kept-minus}
 use Rattle.nef_sphere.proofs.Forms.{item-forms, normal-form, OnItem-stays, OnItem-by_signs}
 use Rattle.nef_sphere.proofs.Direct.{IsZero-times, cross-self}
 use Rattle.nef_sphere.proofs.Labels.{way-signs}
-use Rattle.nef_smap.specs.Above.{rise, meridians, over_forms, IsOver, IsFirst, IsFirstItem}
+use Rattle.nef_smap.specs.Above.{rise, over_forms, IsOver, IsFirst, IsFirstItem}
 use Rattle.nef_smap.proofs.Rise.{rise-is, rise-level, rise_form-value, rise-keeps, form-over, meridian-over}
 use Rattle.nef_smap.proofs.Over.{Touches, meets, ends, touches-back, touches-on, rises-together}
 use Rattle.nef_smap.proofs.Lowest.{share_d, share_u, LiesOver}
@@ -75,11 +74,11 @@ rise-over u n d v h l f hv w =
     let a = cross m u in
     let b = cross d m in
     let ra : dot a r ≡ dot n u *ℤ dot m m = value a ∙ ap (λ z. dot n u *ℤ z +ℤ (pos 0 -ℤ dot a u) *ℤ dot n d) ((turn-self u d).0) ∙ ap (λ z. dot n u *ℤ dot m m +ℤ (pos 0 -ℤ z) *ℤ dot n d) (cross-last m u)
-        ∙ ring (dot n u ∷ dot m m ∷ dot n d ∷ []) (at 0 ⊗ at 1 ⊕ (num (pos 0) ⊖ num (pos 0)) ⊗ at 2) (at 0 ⊗ at 1) tt in
+    ∙ ring (dot n u ∷ dot m m ∷ dot n d ∷ []) (at 0 ⊗ at 1 ⊕ (num (pos 0) ⊖ num (pos 0)) ⊗ at 2) (at 0 ⊗ at 1) tt in
     let rb : dot b r ≡ (pos 0 -ℤ dot n d) *ℤ dot m m = value b ∙ ap (λ z. dot n u *ℤ z +ℤ (pos 0 -ℤ dot b u) *ℤ dot n d) (cross-self d m) ∙ ap (λ z. dot n u *ℤ pos 0 +ℤ (pos 0 -ℤ z) *ℤ dot n d) ((turn-self u d).1)
-        ∙ ring (dot n u ∷ dot m m ∷ dot n d ∷ []) (at 0 ⊗ num (pos 0) ⊕ (num (pos 0) ⊖ at 1) ⊗ at 2) ((num (pos 0) ⊖ at 2) ⊗ at 1) tt in
+    ∙ ring (dot n u ∷ dot m m ∷ dot n d ∷ []) (at 0 ⊗ num (pos 0) ⊕ (num (pos 0) ⊖ at 1) ⊗ at 2) ((num (pos 0) ⊖ at 2) ⊗ at 1) tt in
     let rm : dot m r ≡ pos 0 = value m ∙ ap (λ z. dot n u *ℤ z +ℤ (pos 0 -ℤ dot m u) *ℤ dot n d) (cross-last u d) ∙ ap (λ z. dot n u *ℤ pos 0 +ℤ (pos 0 -ℤ z) *ℤ dot n d) (cross-self u d)
-        ∙ ring (dot n u ∷ dot n d ∷ []) (at 0 ⊗ num (pos 0) ⊕ (num (pos 0) ⊖ num (pos 0)) ⊗ at 1) (num (pos 0)) tt in
+    ∙ ring (dot n u ∷ dot n d ∷ []) (at 0 ⊗ num (pos 0) ⊕ (num (pos 0) ⊖ num (pos 0)) ⊗ at 1) (num (pos 0)) tt in
     let same = λ (g : Vector). way-signs v r g hv w in
     let pa = mul_pos (dot n u) (dot m m) h ll in
     let pb = mul_pos (pos 0 -ℤ dot n d) (dot m m) (omega (arith, ints)) ll in

@@ -1,13 +1,13 @@
 -- The signs of directions close to one on the forms that say what lies over them, as the program computes them.
-use Rattle.std.proofs.Common.{◌≡◌, ℕ, ◌≤◌, zero, suc, ℤ, pos, negsuc, ◌+ℤ◌, ◌-ℤ◌, ◌*ℤ◌, ◌<ℤ◌, arith, refl, ap, sym, ◌∙◌, ◌⊎◌, inl, inr, ⊎_elim, List, [], ◌∷◌, map, slice_get, Some, ◌↔◌}
+use Rattle.std.proofs.Common.{◌≡◌, ℕ, zero, suc, ℤ, pos, negsuc, ◌<ℤ◌, arith, refl, ap, sym, ◌∙◌, inl, inr, ⊎_elim, List, [], ◌∷◌, map, slice_get, Some, ◌↔◌}
 use Rattle.std.proofs.lemmas.Int.{ints}
-use Rattle.nef_exact.proofs.Ring.{ring, at, num, neg, ◌⊕◌, ◌⊖◌, ◌⊗◌}
+use Rattle.nef_exact.proofs.Ring.{ring, at, num, ◌⊕◌, ◌⊖◌, ◌⊗◌}
 use Rattle.nef_exact.proofs.Order.{Sign, minus, nought, plus, sign, sign-plus, sign-minus}
-use Rattle.nef_space.specs.Vectors.{Vector, dot, cross, triple, opposite, up, IsAtMost}
+use Rattle.nef_space.specs.Vectors.{Vector, dot, cross, triple, opposite, up}
 use Rattle.nef_geo.specs.Signs.{sign_of}
 use Rattle.nef_geo.specs.Shapes.{vector_of}
 use Rattle.nef_geo.specs.declared.sign.Sign.{Sign as GeoSign}
-use Rattle.nef_geo.specs.declared.sign.Sign.TheVariants.{Minus, Zero, Plus}
+use Rattle.nef_geo.specs.declared.sign.Sign.TheVariants.{Minus, Plus}
 use Rattle.nef_smap.specs.declared.above.Close.{Close}
 use Rattle.nef_smap.specs.declared.above.Lean.{Lean}
 use Rattle.nef_smap.specs.declared.above.Lean.TheVariants.{Down, Up, Along}
@@ -16,19 +16,13 @@ use Rattle.nef_smap.specs.Close.{geo_sign, toward, then_toward, close_sign, ArcP
 use Rattle.nef_sphere.specs.Maps.{way_of}
 use Rattle.nef_smap.specs.declared.map.SVertex.{SVertex}
 use Rattle.nef_smap.specs.Maps.{svertex_of}
-use Rattle.nef_smap.proofs.Rise.{rise_form-level, rise_form-value}
-use Rattle.nef_smap.proofs.Stands.{dot-opposite}
-use Rattle.nef_sphere.proofs.Direct.{cross-self}
+use Rattle.nef_smap.proofs.Rise.{rise_form-value}
+use Rattle.nef_smap.proofs.Stands.{first-last, dot-opposite}
 
 pub geo-of : (z : ℤ) → sign_of z ≡ geo_sign (sign z)
 geo-of (pos zero) = refl
 geo-of (pos (suc n)) = refl
 geo-of (negsuc n) = refl
-
-pub first-last : (s : Sign) → first_sign s nought ≡ s
-first-last minus = refl
-first-last nought = refl
-first-last plus = refl
 
 -- ---- a normal
 pub side-down : (n a : Vector) → pos 0 <ℤ dot n up → first_sign (sign (dot n (toward Down a))) (sign (dot n (then_toward Down a))) ≡ minus
@@ -64,9 +58,6 @@ meeting-form u d n m =
     ((uy ⊗ dz ⊖ uz ⊗ dy) ⊗ (ny ⊗ mz ⊖ nz ⊗ my) ⊕ (uz ⊗ dx ⊖ ux ⊗ dz) ⊗ (nz ⊗ mx ⊖ nx ⊗ mz) ⊕ (ux ⊗ dy ⊖ uy ⊗ dx) ⊗ (nx ⊗ my ⊖ ny ⊗ mx))
     ((nx ⊗ ux ⊕ ny ⊗ uy ⊕ nz ⊗ uz) ⊗ (mx ⊗ dx ⊕ my ⊗ dy ⊕ mz ⊗ dz) ⊕ (num (pos 0) ⊖ (mx ⊗ ux ⊕ my ⊗ uy ⊕ mz ⊗ uz)) ⊗ (nx ⊗ dx ⊕ ny ⊗ dy ⊕ nz ⊗ dz)) tt
     ∙ sym (rise_form-value u n m d)
-
-pub smaller : (k l : ℕ) (d : Vector) → k ≤ l → IsAtMost k d → IsAtMost l d
-smaller k l d h s = let a = s.of_x in let b = s.of_y in let c = s.of_z in record { of_x = omega arith; of_y = omega arith; of_z = omega arith }
 
 -- ---- signs as the program has them
 pub read-dot : (r : GeoSign) (z : ℤ) → r ≡ sign_of z → r ≡ geo_sign (sign z)

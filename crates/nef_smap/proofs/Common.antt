@@ -1,9 +1,8 @@
 -- What lies over the directions close to one direction has one label.
-use Rattle.std.proofs.Common.{◌≡◌, ℕ, ℤ, pos, ◌+ℤ◌, ◌-ℤ◌, ◌*ℤ◌, ◌≤ℤ◌, ◌<ℤ◌, arith, refl, ap, sym, ◌∙◌, ◌⊎◌, inl, inr, ⊎_elim, [], ◌∷◌, subst, Option, Some, None}
+use Rattle.std.proofs.Common.{◌≡◌, ℕ, ℤ, pos, ◌+ℤ◌, ◌-ℤ◌, ◌*ℤ◌, ◌≤ℤ◌, ◌<ℤ◌, arith, ap, sym, ◌∙◌, ◌⊎◌, inl, inr, ⊎_elim, [], ◌∷◌, subst, Option, Some, None}
 use Rattle.std.proofs.lemmas.Int.{ints}
 use Rattle.nef_exact.proofs.Ring.{ring, at, num, ◌⊕◌, ◌⊖◌, ◌⊗◌}
-use Rattle.nef_exact.proofs.Combination.{follows, given, none}
-use Rattle.nef_exact.proofs.Order.{minus, sign, sign-plus, sign-minus, by_order, mul_pos, mul_lt_right, cancel_lt, sign-scaled}
+use Rattle.nef_exact.proofs.Order.{minus, sign, sign-plus, sign-minus, by_order, mul_pos, cancel_lt, sign-scaled}
 use Rattle.nef_exact.specs.Signs.{Lies}
 use Rattle.nef_space.specs.Vectors.{Vector, IsDirection, cross, dot, SameDirection, opposite}
 use Rattle.nef_space.specs.declared.label.Label.{Label}
@@ -11,19 +10,18 @@ use Rattle.nef_near.proofs.Decided.{Decided}
 use Rattle.nef_forms.proofs.Directions.{self-pos}
 use Rattle.nef_forms.proofs.Far.{same-off, same-nought}
 use Rattle.nef_sphere.specs.Maps.{At, Svertex, Map, Item, items, item_normal, Side, Shaped}
-use Rattle.nef_sphere.specs.Forms.{Keeps, SameSigns}
+use Rattle.nef_sphere.specs.Forms.{Keeps}
 use Rattle.nef_sphere.proofs.Vectors.{same-plus, same-minus, negative-or}
-use Rattle.nef_sphere.proofs.Places.{kept-plus, kept-minus}
 use Rattle.nef_sphere.proofs.Forms.{item-forms, normal-form}
 use Rattle.nef_sphere.proofs.Direct.{cross-self}
 use Rattle.nef_sphere.proofs.Labels.{way-signs}
-use Rattle.nef_smap.specs.Above.{rise, meridians, over_forms, IsOver, IsFirst, IsFirstItem, first_sign, Stands}
+use Rattle.nef_smap.specs.Above.{rise, meridians, over_forms, IsFirst, IsFirstItem, first_sign, Stands}
 use Rattle.nef_smap.specs.Joined.{met, FirstNear, BelowFirsts}
 use Rattle.nef_smap.proofs.Rise.{rise-is, rise_form-value, meridian-level, form-over, meridian-over, svertex-meridian, meridians-same}
 use Rattle.nef_smap.proofs.Over.{Touches, meets, ends, touches-level, Alike, one_side, over_none, moved, first-one}
 use Rattle.nef_smap.proofs.Lowest.{Least, least_or, first-exists, share_d, share_u, LiesOver, over-value, lies_over-decided}
 use Rattle.nef_smap.proofs.Stands.{dot-opposite, stand, stands, stands-keeps, stands-second, stands-third}
-use Rattle.nef_smap.proofs.Close.{cross-last, Clean, end-over, over-below, over-touches, none-near, first-near}
+use Rattle.nef_smap.proofs.Close.{cross-last, Clean, end-over, over-touches, none-near, first-near}
 
 -- ---- signs at a direction w over d: p is the form at d, q at u
 at-over-plus : (l w a p b q : ℤ) → pos 0 <ℤ l → l *ℤ w ≡ a *ℤ p +ℤ b *ℤ q → pos 0 <ℤ (a *ℤ p +ℤ b *ℤ q) → pos 0 <ℤ w

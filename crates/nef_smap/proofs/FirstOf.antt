@@ -1,20 +1,15 @@
 -- The first item that is met, item by item.
-use Rattle.std.proofs.Common.{◌≡◌, ℕ, zero, suc, ◌+◌, ◌<◌, ℤ, pos, ◌+ℤ◌, ◌-ℤ◌, ◌*ℤ◌, ◌≤ℤ◌, ◌<ℤ◌, arith, refl, ap, sym, ◌∙◌, ◌⊎◌, inl, inr, ⊎_elim, length, [], ◌∷◌, subst, Option, Some, None}
+use Rattle.std.proofs.Common.{◌≡◌, ℕ, ◌+◌, pos, ◌-ℤ◌, ◌*ℤ◌, ◌≤ℤ◌, ◌<ℤ◌, arith, sym, ◌∙◌, ⊎_elim, length, [], ◌∷◌, subst, Option, Some, None}
 use Rattle.std.proofs.lemmas.Int.{ints}
 use Rattle.nef_exact.proofs.Ring.{ring, at, num, ◌⊕◌, ◌⊖◌, ◌⊗◌}
 use Rattle.nef_exact.proofs.Fractions.{fraction-le-trans}
 use Rattle.nef_space.specs.Vectors.{Vector, dot}
 use Rattle.nef_sphere.specs.Maps.{At, Map, Item, items, item_normal}
 use Rattle.nef_sphere.proofs.Lists.{at-one}
-use Rattle.nef_smap.specs.Above.{rise, IsOver, IsFirst, IsFirstItem, IsFirstOf}
+use Rattle.nef_smap.specs.Above.{rise, IsOver, IsFirst, IsFirstOf}
 use Rattle.nef_smap.proofs.Rise.{rise-is, rise-level, rise_form-value}
 use Rattle.nef_smap.proofs.MapLists.{at-within}
-
-less-or-last : (n k : ℕ) → n < k + 1 → (n < k) ⊎ (n ≡ k)
-less-or-last zero zero h = inr refl
-less-or-last zero (suc k) h = inl (omega arith)
-less-or-last (suc n) zero h = absurd (omega arith)
-less-or-last (suc n) (suc k) h = ⊎_elim (λ a. inl (omega arith)) (λ a. inr (ap suc a)) (less-or-last n k (omega arith))
+use Rattle.nef_smap.proofs.ClassLists.{less-or-last}
 
 -- heights compare as fractions
 height : (u n m d : Vector) → dot m (rise u n d) ≡ (pos 0 -ℤ dot n d) *ℤ dot m u -ℤ (pos 0 -ℤ dot m d) *ℤ dot n u
@@ -29,9 +24,6 @@ rise-trans u d x b y hx hb hy p q =
     omega (arith, ints)
 
 module _ (M : Map) (u : Vector) (ahead : (k : ℕ) (x : Item) → At (items M) k x → pos 0 <ℤ dot (item_normal x) u) (d : Vector) where
-  pub none-first : IsFirstOf M u d 0 None
-  none-first k x h a o = omega arith
-
   pub all-first : (n : ℕ) → n ≡ length (items M) → (r : Option ℕ) → IsFirstOf M u d n r → IsFirst M u d r
   all-first n e None f = λ k x a o. f k x (let h = at-within (items M) k x a in omega arith) a o
   all-first n e (Some b) f = record { item = f.0; listed = f.1; over = f.2; first = λ l y a o. f.3 l y (let h = at-within (items M) l y a in omega arith) a o }
@@ -40,8 +32,13 @@ module _ (M : Map) (u : Vector) (ahead : (k : ℕ) (x : Item) → At (items M) k
     -- the item isn't met
     pub pass-first : (IsOver M u x d → ⊥) → (r : Option ℕ) → IsFirstOf M u d n r → IsFirstOf M u d (n + 1) r
     pass-first off None f = λ k y h b o. ⊎_elim (λ l. f k y l b o) (λ e. off (subst (λ (z : Item). IsOver M u z d) (at-one (items M) n y x (subst (λ (j : ℕ). At (items M) j y) e b) a) o)) (less-or-last k n h)
-    pass-first off (Some m) f = (f.0, f.1, f.2, λ l y h b o. ⊎_elim (λ k. f.3 l y k b o)
-        (λ e. absurd (off (subst (λ (z : Item). IsOver M u z d) (at-one (items M) n y x (subst (λ (j : ℕ). At (items M) j y) e b) a) o))) (less-or-last l n h))
+    pass-first off (Some m) f = (
+      f.0,
+      f.1,
+      f.2,
+      λ l y h b o. ⊎_elim (λ k. f.3 l y k b o)
+          (λ e. absurd (off (subst (λ (z : Item). IsOver M u z d) (at-one (items M) n y x (subst (λ (j : ℕ). At (items M) j y) e b) a) o))) (less-or-last l n h),
+    )
 
     -- it is met, with a height of its own
     level : (l : ℕ) (y : Item) → At (items M) l y → l ≡ n → pos 0 ≤ℤ dot (item_normal x) (rise u (item_normal y) d)
@@ -53,15 +50,23 @@ module _ (M : Map) (u : Vector) (ahead : (k : ℕ) (x : Item) → At (items M) k
     -- and lower than the first so far
     pub lower-first : (k : ℕ) (z : Item) → At (items M) k z → dot (item_normal z) (rise u (item_normal x) d) <ℤ pos 0 → IsOver M u x d → IsFirstOf M u d n (Some k) → IsFirstOf M u d (n + 1) (Some n)
     lower-first k z c low o f =
-        let e = at-one (items M) k f.0 z f.1 c in
-        (x, a, o, λ l y h b p. ⊎_elim
-            (λ q. rise-trans u d (item_normal x) (item_normal z) (item_normal y) (ahead n x a) (ahead k z c) (ahead l y b) low (subst (λ (w : Item). pos 0 ≤ℤ dot (item_normal w) (rise u (item_normal y) d)) e (f.3 l y q b p)))
-            (λ q. level l y b q) (less-or-last l n h))
+        let e = at-one (items M) k f.0 z f.1 c in (
+          x,
+          a,
+          o,
+          λ l y h b p. ⊎_elim
+              (λ q. rise-trans u d (item_normal x) (item_normal z) (item_normal y) (ahead n x a) (ahead k z c) (ahead l y b) low (subst (λ (w : Item). pos 0 ≤ℤ dot (item_normal w) (rise u (item_normal y) d)) e (f.3 l y q b p)))
+              (λ q. level l y b q) (less-or-last l n h),
+        )
 
     -- or not lower
     pub higher-first : (k : ℕ) (z : Item) → At (items M) k z → pos 0 ≤ℤ dot (item_normal z) (rise u (item_normal x) d) → IsFirstOf M u d n (Some k) → IsFirstOf M u d (n + 1) (Some k)
     higher-first k z c high f =
-        let e = at-one (items M) k f.0 z f.1 c in
-        (f.0, f.1, f.2, λ l y h b p. ⊎_elim (λ q. f.3 l y q b p)
-            (λ q. subst (λ (w : Item). pos 0 ≤ℤ dot (item_normal f.0) (rise u (item_normal w) d)) (at-one (items M) n x y a (subst (λ (j : ℕ). At (items M) j y) q b))
-            (subst (λ (w : Item). pos 0 ≤ℤ dot (item_normal w) (rise u (item_normal x) d)) (sym e) high)) (less-or-last l n h))
+        let e = at-one (items M) k f.0 z f.1 c in (
+          f.0,
+          f.1,
+          f.2,
+          λ l y h b p. ⊎_elim (λ q. f.3 l y q b p)
+              (λ q. subst (λ (w : Item). pos 0 ≤ℤ dot (item_normal f.0) (rise u (item_normal w) d)) (at-one (items M) n x y a (subst (λ (j : ℕ). At (items M) j y) q b))
+              (subst (λ (w : Item). pos 0 ≤ℤ dot (item_normal w) (rise u (item_normal x) d)) (sym e) high)) (less-or-last l n h),
+        )

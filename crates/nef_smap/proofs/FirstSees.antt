@@ -1,20 +1,16 @@
 -- What is met first over a free direction sees it: the lower side of an item, or u.
-use Rattle.std.proofs.Common.{◌≡◌, ℕ, ◌+◌, ◌*◌, ◌<◌, ℤ, pos, ◌+ℤ◌, ◌-ℤ◌, ◌*ℤ◌, ◌≤ℤ◌, ◌<ℤ◌, nat_abs, arith, refl, ap, sym, ◌∙◌, inl, inr, [], ◌∷◌, subst, Option, Some, None}
+use Rattle.std.proofs.Common.{◌≡◌, ℕ, ◌+◌, ◌*◌, ◌<◌, ℤ, pos, ◌+ℤ◌, ◌-ℤ◌, ◌*ℤ◌, ◌<ℤ◌, nat_abs, arith, ap, sym, ◌∙◌, [], ◌∷◌, subst, None}
 use Rattle.std.proofs.lemmas.Int.{ints}
 use Rattle.std.proofs.Math.Nat.{mul-pos}
 use Rattle.nef_exact.proofs.Ring.{ring, at, num, ◌⊕◌, ◌⊖◌, ◌⊗◌}
 use Rattle.nef_exact.proofs.Combination.{follows, given, none}
-use Rattle.nef_exact.proofs.Order.{sign, by_order, mul_pos, mul_neg, sign-scaled, nought-is}
-use Rattle.nef_exact.specs.Signs.{Lies}
-use Rattle.nef_space.specs.Vectors.{Vector, IsDirection, IsZero, cross, dot, SameDirection, blend}
+use Rattle.nef_exact.proofs.Order.{sign, mul_pos, mul_neg, sign-scaled, nought-is}
+use Rattle.nef_space.specs.Vectors.{Vector, IsDirection, cross, dot, SameDirection, blend}
 use Rattle.nef_near.proofs.Flats.{vector-same}
 use Rattle.nef_near.proofs.FlatDecided.{cross-turned}
-use Rattle.nef_forms.proofs.Directions.{dot-zero}
-use Rattle.nef_forms.proofs.Far.{same-off}
-use Rattle.nef_sphere.specs.Maps.{At, Svertex, Map, Item, items, item_normal, OnItem, IsFree, Side, below_item, IsClear, Reaches, Sees, directly, Shaped}
-use Rattle.nef_sphere.specs.Forms.{SameSigns}
-use Rattle.nef_sphere.proofs.Vectors.{dot-comb, same-minus, direction-by}
-use Rattle.nef_sphere.proofs.Forms.{on-direction, on-level, item-forms, OnItem-by_signs}
+use Rattle.nef_sphere.specs.Maps.{At, Svertex, Map, Item, items, item_normal, OnItem, IsFree, below_item, IsClear, Sees, directly, Shaped}
+use Rattle.nef_sphere.proofs.Vectors.{dot-comb, same-minus}
+use Rattle.nef_sphere.proofs.Forms.{on-direction, on-level, OnItem-by_signs}
 use Rattle.nef_sphere.proofs.Parallel.{apart}
 use Rattle.nef_sphere.proofs.Direct.{cross-self, IsZero-times}
 use Rattle.nef_sphere.proofs.Shot.{product-off}

@@ -1,5 +1,5 @@
 -- What each link of the program joins.
-use Rattle.std.proofs.Common.{◌≡◌, ℕ, zero, suc, ◌+◌, ◌*◌, ◌<◌, ◌≤◌, ◌^◌, ℤ, pos, ◌-ℤ◌, ◌*ℤ◌, ◌<ℤ◌, arith, refl, ap, sym, ◌∙◌, List, [], ◌∷◌, length, map, slice_get, subst, Option, Some, None}
+use Rattle.std.proofs.Common.{◌≡◌, ℕ, zero, suc, ◌<◌, ℤ, pos, ◌*ℤ◌, ◌<ℤ◌, arith, ap, sym, ◌∙◌, List, [], ◌∷◌, length, map, slice_get, subst, Some}
 use Rattle.std.proofs.lemmas.Int.{ints}
 use Rattle.std.proofs.lemmas.List.{length-map}
 use Rattle.nef_exact.proofs.Ring.{ring, at, num, ◌⊕◌, ◌⊖◌, ◌⊗◌}
@@ -18,14 +18,10 @@ use Rattle.nef_sphere.proofs.Parallel.{apart, parallel-trans}
 use Rattle.nef_sphere.proofs.Shot.{way-at}
 use Rattle.nef_sphere.proofs.Labels.{way-signs}
 use Rattle.nef_sphere.proofs.Arcs.{at-arc}
-use Rattle.nef_smap.specs.declared.classes.Link.{Link}
 use Rattle.nef_smap.specs.declared.map.SArc.{SArc}
 use Rattle.nef_smap.specs.declared.map.SVertex.{SVertex}
 use Rattle.nef_smap.specs.declared.map.SphereMap.{SphereMap}
 use Rattle.nef_smap.specs.Maps.{svertex_of, arc_of, map_of, IsSphereMap}
-use Rattle.nef_smap.specs.Joined.{FirstNear, BelowFirsts}
-use Rattle.nef_smap.specs.Links.{met_number}
-use Rattle.nef_smap.specs.JoinLinks.{JoinsBelow}
 use Rattle.nef_smap.proofs.CloseSigns.{way-from_get}
 use Rattle.nef_smap.proofs.MapLists.{at-within}
 use Rattle.nef_smap.proofs.Sound.{along-turn}
@@ -47,12 +43,6 @@ module _ (m : SphereMap) (S : IsSphereMap m) (k : ℕ) (v : SVertex) (a : slice_
 
   pub dir-small : IsAtMost svertex_limit (vector_of v.dir)
   dir-small = let s = S.small in s.svertices k (svertex_of v) listed
-
-pub tiny : (d : Vector) → IsAtMost 1 d → IsAtMost svertex_limit d
-tiny d s = let a = s.of_x in let b = s.of_y in let c = s.of_z in record { of_x = omega arith; of_y = omega arith; of_z = omega arith }
-
-pub back-tiny : (d e : Vector) → e ≡ opposite d → IsAtMost 1 d → IsAtMost 1 e
-back-tiny d e q s = subst (IsAtMost 1) (sym q) (let a = s.of_x in let b = s.of_y in let c = s.of_z in record { of_x = omega (arith, ints); of_y = omega (arith, ints); of_z = omega (arith, ints) })
 
 pub back-off : (c d e : Vector) → e ≡ opposite d → (dot c d ≡ pos 0 → ⊥) → dot c e ≡ pos 0 → ⊥
 back-off c d e q f z = f (let g = dot-opposite c d in let h = subst (λ (r : Vector). dot c r ≡ pos 0) q z in omega (arith, ints))
@@ -108,9 +98,6 @@ along-off n s r u p q h k e =
     omega (arith, ints)
 
 module _ (m : SphereMap) (S : IsSphereMap m) where
-  pub normal-ahead_of : (k : ℕ) (x : Item) → At (items (map_of m)) k x → pos 0 <ℤ dot (item_normal x) up
-  normal-ahead_of = map-ahead m S
-
   pub normal-small : (k : ℕ) (x : Item) → At (items (map_of m)) k x → IsAtMost normal_limit (item_normal x)
   normal-small k x a = let s = S.small in s.normals k x a
 

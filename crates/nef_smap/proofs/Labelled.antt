@@ -1,30 +1,23 @@
 -- The label of a free direction: of what lies over it. It is a labelling, which the signs of finitely many forms determine.
-use Rattle.std.proofs.Common.{◌≡◌, ℕ, ◌+◌, ◌≤◌, ℤ, pos, ◌+ℤ◌, ◌-ℤ◌, ◌*ℤ◌, ◌<ℤ◌, nat_abs, arith, refl, ap, sym, ◌∙◌, ◌⊎◌, inl, inr, ⊎_elim, List, [], ◌∷◌, ◌++◌, subst, Option, Some, None}
-use Rattle.std.proofs.lemmas.Int.{ints}
-use Rattle.nef_exact.proofs.Ring.{ring, at, num, ◌⊕◌, ◌⊖◌, ◌⊗◌}
-use Rattle.nef_exact.proofs.Order.{Sign, sign, sign-plus, sign-minus, by_order, plus-is, minus-is, sign-scaled}
+use Rattle.std.proofs.Common.{◌≡◌, ℕ, pos, ◌<ℤ◌, refl, ap, sym, ◌∙◌, inl, inr, List, [], ◌∷◌, ◌++◌, Option}
+use Rattle.nef_exact.proofs.Ring.{ring, at, ◌⊕◌, ◌⊖◌, ◌⊗◌}
+use Rattle.nef_exact.proofs.Order.{sign}
 use Rattle.nef_exact.proofs.Lists.{lies-left, lies-right}
 use Rattle.nef_exact.specs.Signs.{Lies}
-use Rattle.nef_space.specs.Vectors.{Vector, IsDirection, cross, dot, SameDirection, blend}
+use Rattle.nef_space.specs.Vectors.{Vector, cross, dot}
 use Rattle.nef_space.specs.declared.label.Label.{Label}
 use Rattle.nef_space.specs.declared.label.Label.TheVariants.{Out}
 use Rattle.nef_near.proofs.Decided.{Decided}
-use Rattle.nef_forms.proofs.Directions.{self-pos}
-use Rattle.nef_forms.proofs.Far.{nought-or, same-off}
-use Rattle.nef_sphere.specs.Maps.{At, Svertex, Map, Item, items, item_normal, OnItem, IsFree, Side, Shaped}
-use Rattle.nef_sphere.specs.Forms.{SameSigns, Keeps, gather, forms}
+use Rattle.nef_sphere.specs.Maps.{At, Map, Item, items, item_normal, IsFree, Side, Shaped}
+use Rattle.nef_sphere.specs.Forms.{SameSigns, gather, forms}
 use Rattle.nef_sphere.specs.Labelling.{Labelling}
-use Rattle.nef_sphere.proofs.Vectors.{dot-comb, same-plus, same-minus}
-use Rattle.nef_sphere.proofs.Lists.{gather-has}
 use Rattle.nef_sphere.proofs.Forms.{item-forms, normal-form, IsFree-decided, free-by_signs}
-use Rattle.nef_sphere.proofs.Generic.{amount, far-keeps}
-use Rattle.nef_sphere.proofs.Direct.{cross-self}
-use Rattle.nef_smap.specs.Above.{meridians, over_forms, IsFirst, first_sign, Stands}
+use Rattle.nef_smap.specs.Above.{over_forms, IsFirst, first_sign, Stands}
 use Rattle.nef_smap.specs.Joined.{met}
-use Rattle.nef_smap.proofs.Rise.{lies-at, form-over, meridian-over, keeps-then}
+use Rattle.nef_smap.proofs.Rise.{lies-at, form-over, meridian-over}
 use Rattle.nef_smap.proofs.Over.{one_side, moved, first-one}
 use Rattle.nef_smap.proofs.Lowest.{first-exists}
-use Rattle.nef_smap.proofs.Stands.{stand, stands, stands-keeps, stands-second}
+use Rattle.nef_smap.proofs.Stands.{stand, stands}
 
 -- the product with u x d as a form in d
 pub turned-form : (g u d : Vector) → dot g (cross u d) ≡ dot (cross g u) d

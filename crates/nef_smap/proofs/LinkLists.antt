@@ -1,9 +1,9 @@
 -- Lists of links, link by link.
-use Rattle.std.proofs.Common.{◌≡◌, ℕ, zero, suc, ◌+◌, ◌*◌, ◌<◌, ◌≤◌, arith, length-append, refl, ap, sym, ◌∙◌, ◌⊎◌, inl, inr, ⊎_elim, List, [], ◌∷◌, ◌++◌, length, map, slice_get, subst, Option, Some, None}
+use Rattle.std.proofs.Common.{◌≡◌, ℕ, zero, suc, ◌+◌, ◌<◌, arith, length-append, refl, ap, sym, ◌∙◌, ◌⊎◌, inl, inr, ⊎_elim, List, [], ◌∷◌, ◌++◌, length, subst, Option, Some, None}
 use Rattle.nef_space.specs.Lists.{IsAt}
 use Rattle.nef_space.specs.Vectors.{up}
 use Rattle.nef_space.specs.declared.label.Label.{Label}
-use Rattle.nef_sphere.specs.Maps.{At, Svertex, Arc, Loop, Map, Item, arc_item, loop_item, items, items_then, around_svertex, above_item, whole}
+use Rattle.nef_sphere.specs.Maps.{At, Svertex, Arc, Loop, Map, loop_item, items, items_then, around_svertex, above_item, whole}
 use Rattle.nef_sphere.proofs.Lists.{at-one}
 use Rattle.nef_smap.specs.declared.classes.Link.{Link}
 use Rattle.nef_smap.specs.Sides.{labelled, svertex_sides, item_sides, sides_of}
@@ -14,18 +14,9 @@ use Rattle.nef_smap.specs.SideNumbers.{one_if, arounds_before, number_of}
 use Rattle.nef_smap.specs.JoinLinks.{JoinsBelow, JoinsAround, JoinsArc, JoinsLoop, JoinsGround, HasLink, AreEach, AreArounds, AreLoops, AreGrounds}
 use Rattle.nef_smap.proofs.MapLists.{at-within}
 use Rattle.nef_smap.proofs.SideLists.{length-item_sides}
-use Rattle.nef_smap.proofs.ClassLists.{Either, earlier, last, is-at_either, is-at_left, is-at_last, is-at_within, is-at_some}
-
-less-or-last : (n k : ℕ) → n < k + 1 → (n < k) ⊎ (n ≡ k)
-less-or-last zero zero h = inr refl
-less-or-last zero (suc k) h = inl (omega arith)
-less-or-last (suc n) zero h = absurd (omega arith)
-less-or-last (suc n) (suc k) h = ⊎_elim (λ a. inl (omega arith)) (λ a. inr (ap suc a)) (less-or-last n k (omega arith))
+use Rattle.nef_smap.proofs.ClassLists.{less-or-last, Either, earlier, last, is-at_either, is-at_left, is-at_last, is-at_some}
 
 -- ---- one link for each
-pub each-none : (P : ℕ → Link → Type 0) → AreEach P 0 []
-each-none P = record { as_many = refl; each = λ k l a. cc }
-
 pub each-more : (P : ℕ → Link → Type 0) (n : ℕ) (ls : List Link) (l : Link) → P n l → AreEach P n ls → AreEach P (n + 1) (ls ++ l ∷ [])
 each-more P n ls l p E = record { as_many = let a = length-append ls (l ∷ []) in let b = E.as_many in omega arith; each = λ k x a. by k x (is-at_either ls k x l a) }
   where
@@ -107,9 +98,6 @@ pub loops-none : (M : Map) → M.loop ≡ None → AreLoops M []
 loops-none M e = record { only = λ i x b. cc; each = λ n d b. absurd (loop-given M.arcs M.loop n d b e) }
 
 -- ---- and for the side of a map without items
-pub grounds-none : (M : Map) → M.face ≡ None → AreGrounds M []
-grounds-none M e = record { only = λ i x b. cc; each = λ m q. let r = sym e ∙ q in cc }
-
 pub grounds-some : (M : Map) (l : Link) → JoinsGround M l → AreGrounds M (l ∷ [])
 grounds-some M l j = record { only = λ i x b. subst (JoinsGround M) (only i x b) j; each = λ m q. (zero, l, refl, j) }
   where

@@ -1,17 +1,17 @@
 -- The lowest of what lies over a direction.
-use Rattle.std.proofs.Common.{◌≡◌, ℕ, zero, suc, ℤ, pos, negsuc, ◌+ℤ◌, ◌-ℤ◌, ◌*ℤ◌, ◌≤ℤ◌, ◌<ℤ◌, arith, refl, ap, sym, ◌∙◌, ◌⊎◌, inl, inr, ⊎_elim, List, [], ◌∷◌, subst, Option, Some, None}
+use Rattle.std.proofs.Common.{◌≡◌, ℕ, zero, suc, ℤ, pos, ◌+ℤ◌, ◌-ℤ◌, ◌*ℤ◌, ◌≤ℤ◌, ◌<ℤ◌, arith, refl, sym, ◌∙◌, ◌⊎◌, inl, inr, ⊎_elim, List, [], ◌∷◌, subst, Option, Some, None}
 use Rattle.std.proofs.lemmas.Int.{ints}
 use Rattle.nef_exact.proofs.Ring.{ring, at, num, ◌⊕◌, ◌⊖◌, ◌⊗◌}
 use Rattle.nef_exact.proofs.Combination.{follows, given, none}
 use Rattle.nef_exact.proofs.Order.{by_order}
 use Rattle.nef_exact.proofs.Fractions.{fraction-le-trans}
-use Rattle.nef_space.specs.Vectors.{Vector, IsDirection, cross, dot}
+use Rattle.nef_space.specs.Vectors.{Vector, cross, dot}
 use Rattle.nef_near.proofs.Decided.{Decided}
-use Rattle.nef_sphere.specs.Maps.{At, Svertex, Map, Item, items, item_normal, OnItem}
+use Rattle.nef_sphere.specs.Maps.{At, Map, Item, items, item_normal, OnItem}
 use Rattle.nef_sphere.proofs.Vectors.{positive-or, negative-or}
 use Rattle.nef_sphere.proofs.Forms.{OnItem-decided}
 use Rattle.nef_forms.proofs.Far.{nought-or}
-use Rattle.nef_smap.specs.Above.{rise, IsOver, IsFirst, IsFirstItem}
+use Rattle.nef_smap.specs.Above.{rise, IsOver, IsFirst}
 use Rattle.nef_smap.proofs.Rise.{rise-is, rise_form-value}
 
 -- ---- the least of a list of fractions
@@ -50,8 +50,14 @@ module _ {A : Type 0} (num den : A → ℤ) where
           none (suc k) y a p = m k y a p
       by (inl p) (inr m) = inl (record { number = zero; element = x; listed = refl; holds = p; least = λ l y a q. self p l y a q (λ k z b w. absurd (m k z b w)) })
       by (inl p) (inl r) = ⊎_elim
-          (λ le. inl (record { number = zero; element = x; listed = refl; holds = p; least = λ l y a q. self p l y a q
-          (λ k z b w. fraction-le-trans (num x) (den x) (num r.element) (den r.element) (num z) (den z) (h zero x refl p) (h (suc r.number) r.element r.listed r.holds) (h (suc k) z b w) le (r.least k z b w)) }))
+          (λ le. inl (record {
+            number = zero;
+            element = x;
+            listed = refl;
+            holds = p;
+            least = λ l y a q. self p l y a q
+                (λ k z b w. fraction-le-trans (num x) (den x) (num r.element) (den r.element) (num z) (den z) (h zero x refl p) (h (suc r.number) r.element r.listed r.holds) (h (suc k) z b w) le (r.least k z b w));
+          }))
           (λ ge. inl (rest r (λ q. ge)))
           (order (num x *ℤ den r.element) (num r.element *ℤ den x))
         where

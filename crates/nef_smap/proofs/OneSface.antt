@@ -1,20 +1,17 @@
 -- Labels of sides that agree at the joins are the same for all sides of one sface.
-use Rattle.std.proofs.Common.{◌≡◌, ℕ, ◌+◌, ◌≤◌, ℤ, pos, ◌<ℤ◌, arith, refl, ap, sym, ◌∙◌, ◌⊎◌, inl, inr, ⊎_elim, List, [], ◌∷◌, subst, Option, Some, None}
+use Rattle.std.proofs.Common.{◌≡◌, ℕ, ◌+◌, pos, ◌<ℤ◌, arith, refl, ap, sym, ◌∙◌, inl, inr, ⊎_elim, List, [], ◌∷◌, subst, Option, Some, None}
 use Rattle.std.proofs.lemmas.Int.{ints}
 use Rattle.nef_exact.proofs.Order.{sign, nought-is}
 use Rattle.nef_exact.specs.Signs.{Lies}
-use Rattle.nef_space.specs.Vectors.{Vector, IsDirection, IsZero, cross, dot, opposite, SameDirection}
+use Rattle.nef_space.specs.Vectors.{Vector, IsDirection, IsZero, cross, dot, opposite}
 use Rattle.nef_space.specs.declared.label.Label.{Label}
 use Rattle.nef_space.specs.declared.label.Label.TheVariants.{Out}
-use Rattle.nef_near.proofs.Decided.{Decided}
 use Rattle.nef_near.proofs.FlatDecided.{cross-turned}
 use Rattle.nef_forms.proofs.Directions.{zero-decided}
 use Rattle.nef_cyclic.specs.Arcs.{IsStrictlyOn}
-use Rattle.nef_sphere.specs.Maps.{At, Svertex, Arc, Loop, Map, Item, arc_item, loop_item, items, items_then, item_normal, way_of, OnItem, IsFree, Side, around_svertex, above_item, below_item, whole, HasArc, HasSide, Sees, Shaped}
-use Rattle.nef_sphere.specs.Forms.{SameSigns, Keeps, forms}
+use Rattle.nef_sphere.specs.Maps.{At, Svertex, Loop, Map, Item, arc_item, loop_item, items, item_normal, way_of, OnItem, IsFree, Side, around_svertex, above_item, below_item, whole, HasArc, HasSide, Sees, Shaped}
 use Rattle.nef_sphere.specs.Labelling.{Labelling, Near, Plain, PlainAt, StraightAt, IsSmooth, straight}
 use Rattle.nef_sphere.proofs.Vectors.{normal-is}
-use Rattle.nef_sphere.proofs.Lists.{at-one}
 use Rattle.nef_sphere.proofs.Forms.{on-direction, on-level, axes-forms}
 use Rattle.nef_sphere.proofs.Generic.{amount}
 use Rattle.nef_sphere.proofs.Parallel.{apart, parallel-trans, past_source, arc-point}

@@ -1,13 +1,11 @@
 -- Where a way to u meets a plane, and the signs of the forms that are nought at u.
-use Rattle.std.proofs.Common.{◌≡◌, ℕ, zero, suc, ℤ, pos, ◌+ℤ◌, ◌-ℤ◌, ◌*ℤ◌, ◌≤ℤ◌, ◌<ℤ◌, arith, refl, ap, sym, ◌∙◌, ◌⊎◌, inl, inr, ⊎_elim, List, [], ◌∷◌, ◌++◌, subst}
-use Rattle.std.proofs.lemmas.Int.{ints}
+use Rattle.std.proofs.Common.{◌≡◌, ℕ, zero, suc, pos, ◌+ℤ◌, ◌-ℤ◌, ◌*ℤ◌, refl, ap, sym, ◌∙◌, inl, inr, ⊎_elim, List, [], ◌∷◌, ◌++◌, subst}
 use Rattle.nef_exact.proofs.Ring.{ring, at, num, ◌⊕◌, ◌⊖◌, ◌⊗◌}
 use Rattle.nef_exact.proofs.Combination.{follows, given, none}
-use Rattle.nef_exact.proofs.Order.{Sign, sign, sign_times, sign_of_product, sign-scaled}
+use Rattle.nef_exact.proofs.Order.{sign, sign_times, sign_of_product, sign-scaled}
 use Rattle.nef_exact.proofs.Lists.{lies-left, lies-right}
 use Rattle.nef_exact.specs.Signs.{Lies}
 use Rattle.nef_space.specs.Vectors.{Vector, IsDirection, cross, dot}
-use Rattle.nef_sphere.specs.Vectors.{comb}
 use Rattle.nef_sphere.specs.Maps.{At, Svertex, Map, Item, items, item_normal}
 use Rattle.nef_sphere.specs.Forms.{SameSigns, Keeps, gather, forms}
 use Rattle.nef_sphere.proofs.Vectors.{dot-comb, comb-dot}

@@ -1,21 +1,20 @@
 -- Sides are of one sface exactly where joins lead from one to the other.
-use Rattle.std.proofs.Common.{◌≡◌, ℕ, ◌+◌, ◌<◌, ◌≤◌, pos, ◌<ℤ◌, Bool, true, false, arith, refl, ap, sym, ◌∙◌, inl, inr, ⊎_elim, List, [], ◌∷◌, ◌++◌, length, subst, Option, Some, None, ◌↔◌}
+use Rattle.std.proofs.Common.{◌≡◌, ℕ, ◌+◌, ◌<◌, pos, ◌<ℤ◌, Bool, true, false, arith, refl, ap, sym, ◌∙◌, ⊎_elim, List, ◌++◌, length, subst, Option, Some, None, ◌↔◌}
 use lib.Dec.{eqb}
 use Rattle.std.proofs.lemmas.Bool.Decides.{eqb_tells}
-use Rattle.nef_exact.specs.Signs.{Lies}
 use Rattle.nef_exact.proofs.Lists.{lies-left, lies-right}
-use Rattle.nef_space.specs.Lists.{IsAt, Chained}
+use Rattle.nef_space.specs.Lists.{Chained}
 use Rattle.nef_space.specs.Vectors.{Vector, IsDirection, cross, dot, opposite}
 use Rattle.nef_space.specs.declared.label.Label.{Label}
 use Rattle.nef_space.specs.declared.label.Label.TheVariants.{Out, Not, In}
-use Rattle.nef_sphere.specs.Maps.{At, Svertex, Arc, Loop, Map, Item, arc_item, loop_item, items, item_normal, item_above, item_below, way_of, Side, around_svertex, above_item, below_item, whole, HasSide, Sees, Shaped}
+use Rattle.nef_sphere.specs.Maps.{At, Svertex, Map, Item, arc_item, loop_item, items, item_normal, item_below, way_of, Side, around_svertex, above_item, below_item, whole, HasSide, Sees, Shaped}
 use Rattle.nef_sphere.proofs.Generic.{Generic, generic}
 use Rattle.nef_sphere.proofs.Places.{point_forms}
 use Rattle.nef_sphere.proofs.StepOff.{apart-by_rows}
 use Rattle.nef_sphere.proofs.Arcs.{at-arc}
-use Rattle.nef_smap.specs.Sides.{sides_of, IsSide, SideSees, SeeOneWay}
+use Rattle.nef_smap.specs.Sides.{sides_of, SeeOneWay}
 use Rattle.nef_smap.specs.SideNumbers.{number_of}
-use Rattle.nef_smap.specs.Above.{over_forms, IsFirst}
+use Rattle.nef_smap.specs.Above.{over_forms}
 use Rattle.nef_smap.specs.Joined.{met, FirstNear, Firsts, Joins}
 use Rattle.nef_smap.specs.Links.{met_number, AreJoins, IsJoin, join_below, join_around, join_arc, join_loop, join_ground}
 use Rattle.nef_smap.proofs.MapLists.{at-within}
@@ -135,7 +134,7 @@ module _ (M : Map) (V : Shaped M) (u : Vector) (ahead : (k : ℕ) (x : Item) →
       λ e.
           let q = same s t (omega arith) (omega arith) in
           subst (λ (r : ℕ). Chained (SeeOneWay M) r t) (root-side M V u ahead across hu s hs)
-              (subst (λ (r : ℕ). Chained (SeeOneWay M) (root M V u ahead across hu s) r) (root-side M V u ahead across hu t ht)
-              (chain-map Linked (SeeOneWay M) (root M V u ahead across hu) (λ x y j. sound M V u ahead across hu x y (A.only x y j)) s t (q.0 e))),
+          (subst (λ (r : ℕ). Chained (SeeOneWay M) (root M V u ahead across hu s) r) (root-side M V u ahead across hu t ht)
+          (chain-map Linked (SeeOneWay M) (root M V u ahead across hu) (λ x y j. sound M V u ahead across hu x y (A.only x y j)) s t (q.0 e))),
       λ h. chain-keeps (SeeOneWay M) class one-class s t h,
     )

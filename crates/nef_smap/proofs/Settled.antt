@@ -1,15 +1,15 @@
 -- By what lies over directions, free directions are plain and directions on items straight, and round a svertex without arcs there is one label.
-use Rattle.std.proofs.Common.{◌≡◌, ℕ, ◌+◌, ◌<◌, ◌≤◌, ℤ, pos, ◌+ℤ◌, ◌-ℤ◌, ◌*ℤ◌, ◌<ℤ◌, nat_abs, arith, refl, ap, sym, ◌∙◌, ◌⊎◌, inl, inr, ⊎_elim, List, [], ◌∷◌, subst, Option, Some, None}
+use Rattle.std.proofs.Common.{◌≡◌, ℕ, ◌+◌, ◌<◌, ◌≤◌, pos, ◌+ℤ◌, ◌*ℤ◌, ◌<ℤ◌, nat_abs, arith, refl, ap, sym, ◌∙◌, inl, inr, ◌∷◌, subst, Some}
 use Rattle.std.proofs.lemmas.Int.{ints}
-use Rattle.nef_exact.proofs.Order.{Sign, minus, nought, plus, sign, sign-plus, sign-minus, by_order, plus-is, nought-is}
+use Rattle.nef_exact.proofs.Order.{Sign, sign, sign-plus, sign-minus, by_order, nought-is}
 use Rattle.nef_exact.specs.Signs.{Lies}
 use Rattle.nef_space.specs.Vectors.{Vector, IsDirection, IsZero, cross, dot, SameDirection, blend}
 use Rattle.nef_space.specs.declared.label.Label.{Label}
 use Rattle.nef_space.specs.declared.label.Label.TheVariants.{Out}
 use Rattle.nef_forms.proofs.Directions.{self-pos}
-use Rattle.nef_forms.proofs.Far.{nought-or, same-off, sign-large}
+use Rattle.nef_forms.proofs.Far.{same-off, sign-large}
 use Rattle.nef_sphere.specs.Maps.{At, Svertex, Map, Item, items, item_normal, OnItem, IsFree, Side, below_item, HasArc, Shaped}
-use Rattle.nef_sphere.specs.Forms.{SameSigns, Keeps, forms}
+use Rattle.nef_sphere.specs.Forms.{Keeps, forms}
 use Rattle.nef_sphere.specs.Least.{by_side}
 use Rattle.nef_sphere.specs.Labelling.{Near, PlainAt, StraightAt}
 use Rattle.nef_sphere.proofs.Vectors.{dot-comb, same-plus, same-minus}
@@ -18,20 +18,15 @@ use Rattle.nef_sphere.proofs.Forms.{item-forms, normal-form, on-level}
 use Rattle.nef_sphere.proofs.Generic.{amount, far-keeps, far-level}
 use Rattle.nef_sphere.proofs.Direct.{cross-between}
 use Rattle.nef_sphere.proofs.Around.{direction-around, svertex-around, free-around, item-stays, free-beside}
-use Rattle.nef_smap.specs.Above.{over_forms, IsFirst, first_sign, Stands}
+use Rattle.nef_smap.specs.Above.{over_forms, first_sign, Stands}
 use Rattle.nef_smap.specs.Joined.{met, BelowFirsts}
 use Rattle.nef_smap.proofs.Rise.{form-over, keeps-then}
 use Rattle.nef_smap.proofs.Over.{touches-back, first-one}
-use Rattle.nef_smap.proofs.Stands.{stand, stands, stands-keeps}
-use Rattle.nef_smap.proofs.Close.{Clean, cross-last}
+use Rattle.nef_smap.proofs.Stands.{first-none, stand, stands, stands-keeps}
+use Rattle.nef_smap.proofs.Close.{Clean}
 use Rattle.nef_smap.proofs.Common.{all-meet, AllMeet}
 use Rattle.nef_smap.proofs.Labelled.{turned-form, LabelAbove, by_one, not_free}
 use Rattle.nef_smap.proofs.Clean.{free-clean, item-clean, lone-clean, lone-untouched, lower-first}
-
-first-none : (s t : Sign) → first_sign s t ≡ nought → (s ≡ nought) × (t ≡ nought)
-first-none minus t e = absurd cc
-first-none nought t e = (refl, e)
-first-none plus t e = absurd cc
 
 module _ (M : Map) (V : Shaped M) (u : Vector) (ahead : (k : ℕ) (x : Item) → At (items M) k x → pos 0 <ℤ dot (item_normal x) u)
     (G : Side → Label) (top : Label) (firsts : (k : ℕ) (v : Svertex) → At M.svertices k v → BelowFirsts M u v.way) (joins : (k : ℕ) (v : Svertex) (a : At M.svertices k v) → (let j = firsts k v a in met G top j.left ≡ met G top j.right)) (e : Vector) where

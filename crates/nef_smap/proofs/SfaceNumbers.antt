@@ -1,14 +1,14 @@
 -- Numbers of the classes that joins make are the numbers of sfaces.
-use Rattle.std.proofs.Common.{◌≡◌, ℕ, zero, suc, ◌+◌, ◌<◌, ◌≤◌, pos, ◌<ℤ◌, List, [], ◌∷◌, length, Option, Some, None, take, arith, refl, ap, sym, ◌∙◌, subst, slice_get, ◌↔◌}
+use Rattle.std.proofs.Common.{◌≡◌, ℕ, zero, suc, ◌+◌, ◌<◌, ◌≤◌, pos, ◌<ℤ◌, List, [], ◌∷◌, length, take, arith, refl, ◌∙◌, ◌↔◌}
 use Rattle.std.proofs.lemmas.List.{length-take-le}
-use Rattle.nef_space.specs.Lists.{IsAt, Chained, NumbersClasses}
+use Rattle.nef_space.specs.Lists.{IsAt, Chained}
 use Rattle.nef_space.specs.Vectors.{Vector, IsDirection, cross, dot}
 use Rattle.nef_sphere.specs.Maps.{At, Svertex, Map, Item, items, item_normal, Shaped}
 use Rattle.nef_smap.specs.declared.classes.Link.{Link}
-use Rattle.nef_smap.specs.Sides.{sides_of, SeeOneWay, AreSfaces}
+use Rattle.nef_smap.specs.Sides.{sides_of, AreSfaces}
 use Rattle.nef_smap.specs.Links.{AreJoins}
 use Rattle.nef_smap.specs.Classes.{AreLinked, AreWithin, AreClasses, AreNumbered}
-use Rattle.nef_smap.proofs.ClassLists.{is-at_within, is-at_some}
+use Rattle.nef_smap.proofs.ClassLists.{is-at_within}
 use Rattle.nef_smap.proofs.SameSface.{join-within, sface-class}
 
 -- what stands at a place, or zero
@@ -48,17 +48,17 @@ module _ (M : Map) (V : Shaped M) (u : Vector) (ahead : (k : ℕ) (x : Item) →
     -- NUMBERS OF CLASSES ARE NUMBERS OF SFACES
     pub sface-numbers : (ns : List ℕ) → AreNumbered (take count classes) ns → AreSfaces M ns
     sface-numbers ns N = record {
-        as_many = N.as_many ∙ as-sides;
-        numbered = record {
-          by_class = λ s t m n hs ht.
-              let i = numbered-within s m hs in
-              let j = numbered-within t n ht in
-              let q = N.same s t (at classes s) (at classes t) m n (place s i) (place t j) hs ht in
-              let r = sface-class M V u ahead across hu (AreLinked links) A (at classes) same s t i j in
-              (λ e. r.0 (q.0 e), λ h. q.1 (r.1 h));
-          by_appearance = λ s m n hs low h. let r = N.by_appearance s m n hs h in (r.0, r.1, r.2);
-        };
-      }
+      as_many = N.as_many ∙ as-sides;
+      numbered = record {
+        by_class = λ s t m n hs ht.
+            let i = numbered-within s m hs in
+            let j = numbered-within t n ht in
+            let q = N.same s t (at classes s) (at classes t) m n (place s i) (place t j) hs ht in
+            let r = sface-class M V u ahead across hu (AreLinked links) A (at classes) same s t i j in
+            (λ e. r.0 (q.0 e), λ h. q.1 (r.1 h));
+        by_appearance = λ s m n hs low h. let r = N.by_appearance s m n hs h in (r.0, r.1, r.2);
+      };
+    }
       where
         numbered-within : (s n : ℕ) → IsAt ns s n → s < count
         numbered-within s n h = let i = is-at_within ns s n h in let e = N.as_many in let f = as-sides in omega arith

@@ -1,15 +1,15 @@
 -- Joined sides are of one sface.
-use Rattle.std.proofs.Common.{◌≡◌, ℕ, zero, suc, ◌+◌, ◌<◌, ◌≤◌, ℤ, pos, ◌+ℤ◌, ◌-ℤ◌, ◌*ℤ◌, ◌<ℤ◌, neg_ℤ, arith, refl, ap, sym, ◌∙◌, ◌⊎◌, inl, inr, ⊎_elim, List, [], ◌∷◌, length, subst, Option, Some, None}
+use Rattle.std.proofs.Common.{◌≡◌, ℕ, zero, suc, ◌+◌, ◌<◌, ◌≤◌, ℤ, pos, ◌-ℤ◌, ◌*ℤ◌, ◌<ℤ◌, neg_ℤ, arith, refl, ap, sym, ◌∙◌, ◌⊎◌, inl, inr, ⊎_elim, [], ◌∷◌, length, subst, Option, Some, None}
 use Rattle.std.proofs.lemmas.Int.{ints}
 use Rattle.nef_exact.proofs.Ring.{ring, at, num, neg, ◌⊕◌, ◌⊖◌, ◌⊗◌}
 use Rattle.nef_exact.proofs.Combination.{follows, given, none}
-use Rattle.nef_exact.proofs.Order.{Sign, minus, nought, plus, sign, sign-plus, plus-is, nought-is, mul_pos, sign-scaled}
+use Rattle.nef_exact.proofs.Order.{sign, sign-plus, plus-is, nought-is, mul_pos, sign-scaled}
 use Rattle.nef_exact.specs.Signs.{Lies}
-use Rattle.nef_space.specs.Lists.{IsAt, Chained}
+use Rattle.nef_space.specs.Lists.{Chained}
 use Rattle.nef_space.specs.Vectors.{Vector, IsDirection, IsZero, cross, triple, dot, opposite, SameDirection, blend}
 use Rattle.nef_space.specs.declared.label.Label.{Label}
 use Rattle.nef_near.proofs.FlatDecided.{cross-turned}
-use Rattle.nef_forms.proofs.Directions.{self-pos, square_pos, dot-zero, zero-dot, dot-comm}
+use Rattle.nef_forms.proofs.Directions.{self-pos, square_pos, zero-dot}
 use Rattle.nef_forms.proofs.Far.{nought-or}
 use Rattle.nef_sphere.specs.Maps.{At, Svertex, Arc, Loop, Map, Item, arc_item, loop_item, items, item_normal, item_above, way_of, OnItem, IsFree, Side, around_svertex, above_item, below_item, whole, HasSide, IsClear, Sees, directly, HasArc, Shaped}
 use Rattle.nef_sphere.specs.Forms.{Keeps, forms}
@@ -19,22 +19,22 @@ use Rattle.nef_sphere.proofs.Forms.{item-forms, normal-form, on-direction, on-le
 use Rattle.nef_sphere.proofs.Generic.{amount, far-keeps}
 use Rattle.nef_sphere.proofs.Parallel.{apart, arc-point}
 use Rattle.nef_sphere.proofs.Direct.{cross-self, between-off_target, cross-between}
-use Rattle.nef_sphere.proofs.Shot.{way-at, arc-at, product-off}
+use Rattle.nef_sphere.proofs.Shot.{way-at, arc-at}
 use Rattle.nef_sphere.proofs.StepOff.{blend-turned}
 use Rattle.nef_sphere.proofs.Around.{direction-around, svertex-around, free-around, free-beside}
 use Rattle.nef_sphere.proofs.Compare.{way-self}
 use Rattle.nef_sphere.proofs.Arcs.{at-arc}
 use Rattle.nef_sphere.proofs.NearItems.{keeps-between, kept-not_opposite, opposite-turned, clear-around}
 use Rattle.nef_sphere.proofs.Forms.{axes-forms}
-use Rattle.nef_sphere.proofs.Sight.{clear-self, clear-turned, sees_both, free-seen}
-use Rattle.nef_smap.specs.Sides.{sides_of, IsSide, SideSees, SeeOneWay}
+use Rattle.nef_sphere.proofs.Sight.{clear-self, sees_both, free-seen}
+use Rattle.nef_smap.specs.Sides.{sides_of, SideSees, SeeOneWay}
 use Rattle.nef_smap.specs.SideNumbers.{number_of}
 use Rattle.nef_smap.specs.Above.{meridians, over_forms, IsFirst, first_sign, Stands}
 use Rattle.nef_smap.specs.Joined.{FirstNear, BelowFirsts, BelowFirst, ArcFirst, LoopFirst}
 use Rattle.nef_smap.specs.Links.{met_number, IsJoin, join_below, join_around, join_arc, join_loop, join_ground}
 use Rattle.nef_smap.proofs.Rise.{form-over, meridian-over, meridian-level, svertex-meridian, meridian-turn}
-use Rattle.nef_smap.proofs.Over.{Touches, touches-back, touches-level}
-use Rattle.nef_smap.proofs.Stands.{dot-opposite, far-stands, stand, stands, stands-keeps, stands-second, stands-third}
+use Rattle.nef_smap.proofs.Over.{touches-back, touches-level}
+use Rattle.nef_smap.proofs.Stands.{first-none, first-last, dot-opposite, far-stands, stand, stands, stands-keeps, stands-second, stands-third}
 use Rattle.nef_smap.proofs.Close.{cross-last}
 use Rattle.nef_smap.proofs.Clean.{lone-untouched}
 use Rattle.nef_smap.proofs.Upper.{arc-viewer, arc-viewer_off, arc-viewer_stands}
@@ -43,7 +43,7 @@ use Rattle.nef_smap.proofs.FirstSees.{Generic, none-clear, first-sees}
 use Rattle.nef_smap.proofs.MapLists.{at-within}
 use Rattle.nef_smap.proofs.SideLists.{at-from_get}
 use Rattle.nef_smap.proofs.SideNumbers.{side-number}
-use Rattle.nef_smap.proofs.Chains.{chain-here, chain-link, chain-trans, chain-turned}
+use Rattle.nef_smap.proofs.Chains.{chain-link, chain-trans, chain-turned}
 
 less_or : (s n : ℕ) → (s < n) ⊎ (n ≤ s)
 less_or s zero = inr (omega arith)
@@ -153,11 +153,6 @@ module _ (M : Map) (V : Shaped M) (u : Vector) (ahead : (k : ℕ) (x : Item) →
   -- ---- directions close to c, to one side of its meridian, lie under no svertex
   module _ (c a d : Vector) (off : dot (cross u c) a ≡ pos 0 → ⊥) (aside : (m : Vector) → Lies (meridians M u) m → sign (dot m d) ≡ first_sign (sign (dot m c)) (sign (dot m a)))
       (m : Vector) (level : dot m u ≡ pos 0) (some : dot m d ≡ pos 0 → ⊥) where
-    first-none : (s t : Sign) → first_sign s t ≡ nought → (s ≡ nought) × (t ≡ nought)
-    first-none minus t e = absurd cc
-    first-none nought t e = (refl, e)
-    first-none plus t e = absurd cc
-
     generic-by : Generic M u d
     generic-by = record { apart = λ z. some (by z); off = λ k v h z. none k v h z }
       where
@@ -425,11 +420,6 @@ module _ (M : Map) (V : Shaped M) (u : Vector) (ahead : (k : ℕ) (x : Item) →
 
       sees : ElementSees (number_of M (above_item k)) y × IsFree M y
       sees = upper-sees k (arc_item r) a z y on-z (forms-kept z y (stands-keeps (over_forms M u) z u l y near-z)) above
-
-      first-last : (t : Sign) → first_sign t nought ≡ t
-      first-last minus = refl
-      first-last nought = refl
-      first-last plus = refl
 
       aside : (m : Vector) → Lies (meridians M u) m → sign (dot m y) ≡ first_sign (sign (dot m s)) (sign (dot m j.along))
       aside m i = y-stands m (meridian-over M u m i) ∙ ap (λ t. first_sign (sign (dot m s)) (first_sign (sign (dot m j.along)) t)) (ap sign (meridian-level M u m i)) ∙ ap (first_sign (sign (dot m s))) (first-last (sign (dot m j.along)))

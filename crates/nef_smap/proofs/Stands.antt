@@ -1,10 +1,10 @@
 -- Directions close to a, toward b, and there toward c.
-use Rattle.std.proofs.Common.{◌≡◌, ℕ, ◌≤◌, ℤ, pos, ◌-ℤ◌, ◌+ℤ◌, ◌*ℤ◌, arith, refl, ap, sym, ◌∙◌, ⊎_elim, List, [], ◌∷◌, subst}
+use Rattle.std.proofs.Common.{◌≡◌, ℕ, ◌≤◌, pos, ◌-ℤ◌, arith, refl, ap, sym, ◌∙◌, ⊎_elim, List, [], ◌∷◌}
 use Rattle.nef_exact.proofs.Ring.{ring, at, num, neg, ◌⊕◌, ◌⊖◌, ◌⊗◌}
 use Rattle.nef_exact.proofs.Order.{Sign, minus, nought, plus, sign, nought-is}
 use Rattle.nef_exact.specs.Signs.{Lies}
 use Rattle.nef_space.specs.Vectors.{Vector, dot, opposite, blend}
-use Rattle.nef_forms.proofs.Far.{nought-or, same-nought}
+use Rattle.nef_forms.proofs.Far.{nought-or}
 use Rattle.nef_sphere.specs.Forms.{Keeps}
 use Rattle.nef_sphere.proofs.Generic.{amount, far-keeps, far-level}
 use Rattle.nef_smap.specs.Above.{first_sign, Stands}
@@ -16,6 +16,16 @@ first-skip : (s t : Sign) → (s ≡ nought → ⊥) → first_sign s t ≡ s
 first-skip minus t n = refl
 first-skip nought t n = absurd (n refl)
 first-skip plus t n = refl
+
+pub first-none : (s t : Sign) → first_sign s t ≡ nought → (s ≡ nought) × (t ≡ nought)
+first-none minus t e = absurd cc
+first-none nought t e = (refl, e)
+first-none plus t e = absurd cc
+
+pub first-last : (s : Sign) → first_sign s nought ≡ s
+first-last minus = refl
+first-last nought = refl
+first-last plus = refl
 
 first-three : (s t r : Sign) → first_sign (first_sign s t) r ≡ first_sign s (first_sign t r)
 first-three minus t r = refl

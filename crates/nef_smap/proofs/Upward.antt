@@ -1,19 +1,19 @@
 -- The upward direction lies on the upper side of every plane of a sphere map and is parallel to no svertex; and which items lie over close directions.
-use Rattle.std.proofs.Common.{◌≡◌, ℕ, zero, suc, ◌*◌, ◌^◌, ◌<◌, ◌≤◌, length, ℤ, pos, negsuc, ◌+ℤ◌, ◌-ℤ◌, ◌*ℤ◌, ◌≤ℤ◌, ◌<ℤ◌, nat_abs, arith, refl, ap, sym, ◌∙◌, ◌⊎◌, inl, inr, ⊎_elim, List, [], ◌∷◌, subst, ◌↔◌}
+use Rattle.std.proofs.Common.{◌≡◌, ℕ, zero, suc, ◌<◌, ◌≤◌, length, ℤ, pos, negsuc, ◌*ℤ◌, ◌≤ℤ◌, ◌<ℤ◌, nat_abs, arith, refl, ap, sym, ◌∙◌, inl, inr, ⊎_elim, [], ◌∷◌, subst, ◌↔◌}
 use Rattle.std.proofs.lemmas.Int.{ints}
 use Rattle.std.proofs.lemmas.List.{length-map}
 use Rattle.std.proofs.lemmas.Bool.Decides.{eqb_tells}
 use Rattle.nef_exact.proofs.Ring.{ring, at, num, ◌⊗◌}
-use Rattle.nef_exact.proofs.Order.{Sign, minus, nought, plus, sign, sign-minus, minus-is, nought-is, mul_pos}
+use Rattle.nef_exact.proofs.Order.{minus, plus, sign, sign-minus, minus-is, nought-is, mul_pos}
 use Rattle.nef_exact.specs.Signs.{Lies}
 use Rattle.nef_space.specs.Limits.{normal_limit, svertex_limit}
-use Rattle.nef_space.specs.Vectors.{Vector, vector, IsDirection, IsZero, IsNormal, IsAtMost, cross, triple, dot, up, SameDirection}
+use Rattle.nef_space.specs.Vectors.{Vector, vector, IsDirection, IsNormal, IsAtMost, cross, triple, dot, up, SameDirection}
 use Rattle.nef_near.proofs.Decided.{Decided}
-use Rattle.nef_forms.proofs.Directions.{self-pos, square_pos, zero-dot, dot-zero}
+use Rattle.nef_forms.proofs.Directions.{self-pos, square_pos, zero-dot}
 use Rattle.nef_forms.proofs.Far.{nought-or}
 use Rattle.nef_geo.specs.Shapes.{vector_of}
-use Rattle.nef_sphere.specs.Maps.{At, Svertex, Arc, Loop, Map, Item, arc_item, loop_item, items, item_normal, way_of, OnItem, ArcBetween, Shaped}
-use Rattle.nef_sphere.specs.Forms.{axis_x, axis_y, axis_z, forms}
+use Rattle.nef_sphere.specs.Maps.{At, Svertex, Arc, Loop, Map, Item, arc_item, loop_item, items, item_normal, way_of, ArcBetween, Shaped}
+use Rattle.nef_sphere.specs.Forms.{axis_x, axis_y, axis_z}
 use Rattle.nef_sphere.proofs.Vectors.{normal-is}
 use Rattle.nef_sphere.proofs.Places.{axis_x-is, axis_y-is, axis_z-is}
 use Rattle.nef_sphere.proofs.Forms.{item-forms, normal-form, axes-forms}
@@ -23,13 +23,14 @@ use Rattle.nef_smap.specs.declared.above.Close.{Close}
 use Rattle.nef_smap.specs.declared.map.SArc.{SArc}
 use Rattle.nef_smap.specs.declared.map.SphereMap.{SphereMap}
 use Rattle.nef_smap.specs.Maps.{svertex_of, arc_of, map_of, IsSphereMap}
-use Rattle.nef_smap.specs.Above.{rise, rise_form, over_forms, meridians, first_sign, IsOver}
+use Rattle.nef_smap.specs.Above.{rise, rise_form, IsOver}
 use Rattle.nef_smap.specs.Close.{close_sign, IsClose, ArcPasses}
-use Rattle.nef_smap.proofs.Rise.{rise-is, rise-level, form-over, meridian-over, meridian-turn, svertex-meridian, rise-meridian, rise_form-level}
+use Rattle.nef_smap.proofs.Rise.{rise-is, rise-level, form-over, meridian-over, meridian-turn, svertex-meridian, rise-meridian}
 use Rattle.nef_smap.proofs.MapLists.{at-within}
 use Rattle.nef_smap.proofs.Close.{rise-direction}
 use Rattle.nef_smap.proofs.CloseSigns.{level-sign, passes-alike}
 use Rattle.nef_smap.proofs.Passing.{passes-on, on-passes}
+use Rattle.nef_smap.proofs.Stands.{first-none}
 
 -- ---- upward
 pub normal-ahead : (n : Vector) → IsNormal n → IsAtMost normal_limit n → pos 0 <ℤ dot n up
@@ -86,11 +87,6 @@ module _ (m : SphereMap) (S : IsSphereMap m) where
 
   -- ---- what lies over directions close to one
   module _ (w : Close) (off : dot (cross up (vector_of w.at)) (vector_of w.aside) ≡ pos 0 → ⊥) (d : Vector) (close : IsClose m w d) where
-    first-none : (s t : Sign) → first_sign s t ≡ nought → (s ≡ nought) × (t ≡ nought)
-    first-none minus t e = absurd cc
-    first-none nought t e = (refl, e)
-    first-none plus t e = absurd cc
-
     some-l : IsDirection (cross up (vector_of w.at))
     some-l z = off (zero-dot (cross up (vector_of w.at)) (vector_of w.aside) z)
 

@@ -1,5 +1,5 @@
 -- Directions close to one, for the program: their signs on a form, and whether they have an arc over them.
-use Rattle.std.specs.Prelude.{◌≡◌, ◌⊎◌}
+use Rattle.std.specs.Prelude.{◌⊎◌}
 use Rattle.nef_exact.specs.Signs.{Sign, minus, nought, plus, sign}
 use Rattle.nef_space.specs.Vectors.{Vector, dot, opposite, up}
 use Rattle.nef_geo.specs.Shapes.{vector_of}

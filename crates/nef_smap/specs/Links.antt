@@ -1,5 +1,5 @@
 -- Which sides of a map are joined: those that what is met first at each join says.
-use Rattle.std.specs.Prelude.{◌≡◌, ℕ, List, length, Option, Some, None}
+use Rattle.std.specs.Prelude.{◌≡◌, ℕ, length, Option, Some, None}
 use Rattle.nef_space.specs.Vectors.{Vector}
 use Rattle.nef_space.specs.declared.label.Label.{Label}
 use Rattle.nef_sphere.specs.Maps.{At, Svertex, Arc, Loop, Map, loop_item, items, around_svertex, above_item, below_item, whole}

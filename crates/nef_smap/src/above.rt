@@ -73,7 +73,10 @@ impl Close {
         ensures meeting { result ≡ geo_sign (close_sign (rise_form up (vector_of first.now) (vector_of second.now)) self.now) }
     {
         let up = up();
-        first_of(quad(&up, &self.at, first, second), quad(&up, &self.aside, first, second))
+        first_of(
+            quad(&up, &self.at, first, second),
+            quad(&up, &self.aside, first, second),
+        )
     }
 }
 

@@ -1,4 +1,4 @@
-use Rattle.std.proofs.Common.{ℕ, ◌<◌, IfSome, length}
+use Rattle.std.proofs.Common.{◌<◌, IfSome, length}
 use Rattle.nef_space.specs.Vectors.{Vector, up}
 use Rattle.nef_sphere.specs.Maps.{items}
 use Rattle.nef_smap.specs.Maps.{map_of}

@@ -1,9 +1,8 @@
-use Rattle.std.proofs.Common.{◌≡◌, ◌≢◌, ℕ, ◌+◌, pos, ◌≤ℤ◌, ◌<ℤ◌, arith, sym, ap, ◌∙◌, subst, IsTrue, rules, Option, Some, None}
+use Rattle.std.proofs.Common.{◌≡◌, ◌≢◌, ℕ, pos, ◌≤ℤ◌, arith, sym, ap, ◌∙◌, subst, IsTrue, rules, Option}
 use Rattle.std.proofs.lemmas.Int.{ints}
-use Rattle.nef_exact.proofs.Order.{Sign, minus, sign, sign-minus, minus-is, by_order}
+use Rattle.nef_exact.proofs.Order.{minus, sign-minus, minus-is, by_order}
 use Rattle.nef_space.specs.Vectors.{Vector, dot, up}
 use Rattle.nef_geo.specs.Shapes.{vector_of}
-use Rattle.nef_geo.specs.declared.sign.Sign.{Sign as GeoSign}
 use Rattle.nef_geo.specs.declared.sign.Sign.TheVariants.{Minus}
 use Rattle.nef_sphere.specs.Maps.{item_normal}
 use Rattle.nef_smap.specs.Maps.{map_of}
@@ -20,15 +19,15 @@ returns-then-not-is_over-clause-first c =
     let m = c.args.map.now in
     let off : IsTrue c.is_over.result → ⊥ = search rules in
     λ d close f. let q = c.is_over.ensures.over d close in
-        pass-first (map_of m) up (map-ahead m c.requires.map) d c.args.number (item_of c.item_at-item.result) c.item_at-item.ensures.item (λ o. off (q.1 o)) c.args.earlier f
+    pass-first (map_of m) up (map-ahead m c.requires.map) d c.args.number (item_of c.item_at-item.result) c.item_at-item.ensures.item (λ o. off (q.1 o)) c.args.earlier f
 
 pub returns-in-None-clause-first : goal.returns-in-None-clause-first
 returns-in-None-clause-first c =
     let m = c.args.map.now in
     let on : IsTrue c.is_over.result = search rules in
     λ d close f. let q = c.is_over.ensures.over d close in
-        only-first (map_of m) up (map-ahead m c.requires.map) d c.args.number (item_of c.item_at-item.result) c.item_at-item.ensures.item (q.0 on)
-        (subst (λ (r : Option ℕ). IsFirstOf (map_of m) up d c.args.number r) c.in-None.is f)
+    only-first (map_of m) up (map-ahead m c.requires.map) d c.args.number (item_of c.item_at-item.result) c.item_at-item.ensures.item (q.0 on)
+    (subst (λ (r : Option ℕ). IsFirstOf (map_of m) up d c.args.number r) c.in-None.is f)
 
 pub returns-then-lower-clause-first : goal.returns-then-lower-clause-first
 returns-then-lower-clause-first c =
@@ -42,10 +41,10 @@ returns-then-lower-clause-first c =
     c.meeting.ensures.meeting ∙ ap (λ (n : Vector). geo_sign (close_sign (rise_form up n (vector_of c.normal-in-Some.result.now)) w)) c.normal.ensures.normal ∙ ap (λ (n : Vector). geo_sign (close_sign (rise_form up (item_normal x) n) w)) c.normal-in-Some.ensures.normal in
     let low = geo-one (close_sign (rise_form up (item_normal x) (item_normal y)) w) minus (sym read ∙ minus_sign) in
     λ d close f.
-        let q = c.is_over.ensures.over d close in
-        let s = rise-sign m c.requires.map w c.requires.off d close c.args.number c.in-Some.best x y c.item_at-item.ensures.item c.item_at.ensures.item in
-        lower-first (map_of m) up (map-ahead m c.requires.map) d c.args.number x c.item_at-item.ensures.item c.in-Some.best y c.item_at.ensures.item (minus-is (dot (item_normal y) (rise up (item_normal x) d)) (s ∙ low)) (q.0 on)
-        (subst (λ (r : Option ℕ). IsFirstOf (map_of m) up d c.args.number r) c.in-Some.is f)
+    let q = c.is_over.ensures.over d close in
+    let s = rise-sign m c.requires.map w c.requires.off d close c.args.number c.in-Some.best x y c.item_at-item.ensures.item c.item_at.ensures.item in
+    lower-first (map_of m) up (map-ahead m c.requires.map) d c.args.number x c.item_at-item.ensures.item c.in-Some.best y c.item_at.ensures.item (minus-is (dot (item_normal y) (rise up (item_normal x) d)) (s ∙ low)) (q.0 on)
+    (subst (λ (r : Option ℕ). IsFirstOf (map_of m) up d c.args.number r) c.in-Some.is f)
 
 pub returns-else-lower-clause-first : goal.returns-else-lower-clause-first
 returns-else-lower-clause-first c =
@@ -57,9 +56,9 @@ returns-else-lower-clause-first c =
     let read : c.meeting.result ≡ geo_sign (close_sign (rise_form up (item_normal x) (item_normal y)) w) =
     c.meeting.ensures.meeting ∙ ap (λ (n : Vector). geo_sign (close_sign (rise_form up n (vector_of c.normal-in-Some.result.now)) w)) c.normal.ensures.normal ∙ ap (λ (n : Vector). geo_sign (close_sign (rise_form up (item_normal x) n) w)) c.normal-in-Some.ensures.normal in
     λ d close f.
-        let s = rise-sign m c.requires.map w c.requires.off d close c.args.number c.in-Some.best x y c.item_at-item.ensures.item c.item_at.ensures.item in
-        let high : pos 0 ≤ℤ dot (item_normal y) (rise up (item_normal x) d) =
-        by_order (dot (item_normal y) (rise up (item_normal x) d)) (pos 0)
-        (λ l. absurd (other (read ∙ ap geo_sign (sym s ∙ sign-minus (dot (item_normal y) (rise up (item_normal x) d)) l)))) (λ z. omega (arith, ints)) (λ l. omega (arith, ints)) in
-        higher-first (map_of m) up (map-ahead m c.requires.map) d c.args.number x c.item_at-item.ensures.item c.in-Some.best y c.item_at.ensures.item high
-        (subst (λ (r : Option ℕ). IsFirstOf (map_of m) up d c.args.number r) c.in-Some.is f)
+    let s = rise-sign m c.requires.map w c.requires.off d close c.args.number c.in-Some.best x y c.item_at-item.ensures.item c.item_at.ensures.item in
+    let high : pos 0 ≤ℤ dot (item_normal y) (rise up (item_normal x) d) =
+    by_order (dot (item_normal y) (rise up (item_normal x) d)) (pos 0)
+    (λ l. absurd (other (read ∙ ap geo_sign (sym s ∙ sign-minus (dot (item_normal y) (rise up (item_normal x) d)) l)))) (λ z. omega (arith, ints)) (λ l. omega (arith, ints)) in
+    higher-first (map_of m) up (map-ahead m c.requires.map) d c.args.number x c.item_at-item.ensures.item c.in-Some.best y c.item_at.ensures.item high
+    (subst (λ (r : Option ℕ). IsFirstOf (map_of m) up d c.args.number r) c.in-Some.is f)

@@ -1,4 +1,4 @@
-use Rattle.std.proofs.Common.{◌≡◌, refl, sym, ap, ◌∙◌, subst, IsTrue, ◌↔◌, nat_eq, rules}
+use Rattle.std.proofs.Common.{◌≡◌, sym, ◌∙◌, subst, IsTrue, ◌↔◌, nat_eq, rules}
 use Rattle.nef_geo.specs.declared.sign.Sign.TheVariants.{Minus, Plus}
 use Rattle.nef_exact.specs.Signs.{Sign, minus, plus, sign}
 use Rattle.nef_space.specs.Vectors.{Vector, cross, triple, up}

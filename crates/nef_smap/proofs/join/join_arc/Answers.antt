@@ -1,8 +1,8 @@
-use Rattle.std.proofs.Common.{◌≡◌, ℕ, pos, ◌<ℤ◌, ◌<◌, length, arith, refl, sym, ap, ◌∙◌, subst, Option}
-use Rattle.nef_space.specs.Vectors.{Vector, dot, triple, up, SameDirection}
+use Rattle.std.proofs.Common.{pos, ◌<ℤ◌, refl, sym, subst}
+use Rattle.nef_space.specs.Vectors.{Vector, triple, up}
 use Rattle.nef_geo.specs.Shapes.{vector_of}
-use Rattle.nef_sphere.specs.Maps.{arc_item, items, way_of}
-use Rattle.nef_smap.specs.Maps.{map_of, svertex_of, arc_of}
+use Rattle.nef_sphere.specs.Maps.{arc_item, items}
+use Rattle.nef_smap.specs.Maps.{map_of, arc_of}
 use Rattle.nef_smap.specs.Joined.{FirstNear}
 use Rattle.nef_smap.proofs.CloseSigns.{way-from_get}
 use Rattle.nef_smap.proofs.MapLists.{at-within}
@@ -61,12 +61,16 @@ returns c =
       joins = (
         arc_of r,
         arc-listed m.arcs c.args.number r c.at-arc.ensures.element,
-        (record {
-          along = y;
-          level = cross-level n (vector_of c.axis_along.result) y c.in-Some.ensures.cross;
-          forward = subst (λ (x : Vector). pos 0 <ℤ triple n x y) (sym w) (along-forward n s (vector_of c.axis_along.result) r.normal.some l c.axis_along.ensures.along y c.in-Some.ensures.cross);
-          first = c.above.result;
-          is_first = subst (λ (x : Vector). FirstNear M up x y up c.above.result) (sym w) c.above.ensures.first;
-        }, c.side_number.ensures.side, c.met_number.ensures.number),
+        (
+          record {
+            along = y;
+            level = cross-level n (vector_of c.axis_along.result) y c.in-Some.ensures.cross;
+            forward = subst (λ (x : Vector). pos 0 <ℤ triple n x y) (sym w) (along-forward n s (vector_of c.axis_along.result) r.normal.some l c.axis_along.ensures.along y c.in-Some.ensures.cross);
+            first = c.above.result;
+            is_first = subst (λ (x : Vector). FirstNear M up x y up c.above.result) (sym w) c.above.ensures.first;
+          },
+          c.side_number.ensures.side,
+          c.met_number.ensures.number,
+        ),
       );
     }

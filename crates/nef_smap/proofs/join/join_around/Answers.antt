@@ -1,12 +1,12 @@
-use Rattle.std.proofs.Common.{◌≡◌, sym, ap, subst, ◌∙◌, ℕ}
-use Rattle.nef_space.specs.Vectors.{Vector, up, opposite}
+use Rattle.std.proofs.Common.{◌≡◌, subst}
+use Rattle.nef_space.specs.Vectors.{up}
 use Rattle.nef_geo.specs.Shapes.{vector_of}
 use Rattle.nef_sphere.specs.Maps.{Svertex, around_svertex}
 use Rattle.nef_smap.specs.SideNumbers.{number_of}
 use Rattle.nef_smap.specs.Links.{met_number}
-use Rattle.nef_smap.specs.Maps.{map_of, svertex_of}
+use Rattle.nef_smap.specs.Maps.{map_of}
 use Rattle.nef_smap.specs.Joined.{BelowFirst}
-use Rattle.nef_smap.proofs.Joining.{svertex-listed, dir-across, dir-small, around-get, svertex-within}
+use Rattle.nef_smap.proofs.Joining.{dir-across, dir-small, around-get, svertex-within}
 use Rattle.nef_smap.proofs.join.join_around.Goals as goal
 
 pub at-requires : goal.at-requires

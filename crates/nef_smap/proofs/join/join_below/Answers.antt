@@ -1,9 +1,9 @@
-use Rattle.std.proofs.Common.{◌≡◌, ◌∙◌, ap, sym, refl, subst, ℕ, Option}
+use Rattle.std.proofs.Common.{subst}
 use Rattle.nef_space.specs.Vectors.{Vector, cross, up, opposite}
 use Rattle.nef_geo.specs.Shapes.{vector_of}
 use Rattle.nef_smap.specs.Maps.{map_of, svertex_of}
 use Rattle.nef_smap.specs.Joined.{FirstNear}
-use Rattle.nef_smap.proofs.Joining.{svertex-listed, dir-across, dir-small, tiny, back-tiny, back-off}
+use Rattle.nef_smap.proofs.Joining.{svertex-listed, dir-across, dir-small, back-off}
 use Rattle.nef_smap.proofs.join.join_below.Goals as goal
 
 pub beside-aside-requires : goal.beside-aside-requires
@@ -28,13 +28,17 @@ returns c =
       joins = (
         svertex_of c.at.result.now,
         svertex-listed m.svertices c.args.number c.at.result.now c.at.ensures.element,
-        (record {
-          aside = a;
-          off = c.beside-aside.ensures.off;
-          left = l.0;
-          right = r.0;
-          left_first = l.2;
-          right_first = subst (λ (e : Vector). FirstNear (map_of m) up (vector_of c.at.result.now.dir) (opposite up) e r.0) c.back.ensures.back r.2;
-        }, l.1, r.1),
+        (
+          record {
+            aside = a;
+            off = c.beside-aside.ensures.off;
+            left = l.0;
+            right = r.0;
+            left_first = l.2;
+            right_first = subst (λ (e : Vector). FirstNear (map_of m) up (vector_of c.at.result.now.dir) (opposite up) e r.0) c.back.ensures.back r.2;
+          },
+          l.1,
+          r.1,
+        ),
       );
     }

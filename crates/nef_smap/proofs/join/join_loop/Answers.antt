@@ -1,5 +1,4 @@
-use Rattle.std.proofs.Common.{◌≡◌, ℕ, length, arith, refl, ap, ◌∙◌}
-use Rattle.nef_space.specs.Vectors.{Vector, dot, up}
+use Rattle.std.proofs.Common.{ℕ, length, arith, refl, ap, ◌∙◌}
 use Rattle.nef_geo.specs.Shapes.{vector_of}
 use Rattle.nef_sphere.specs.Maps.{loop_item, items, above_item}
 use Rattle.nef_smap.specs.SideNumbers.{number_of}
@@ -36,13 +35,17 @@ returns c =
       joins = (
         loop_of c.args.circle.now,
         l,
-        (record {
-          point = vector_of c.in_plane-at.result;
-          on = record { direction = c.in_plane-at.result.some; level = c.in_plane-at.ensures.level };
-          aside = vector_of c.beside.result;
-          off = c.beside.ensures.off;
-          first = c.above.result;
-          is_first = c.above.ensures.first;
-        }, c.side_number.ensures.side ∙ ap (λ (k : ℕ). number_of M (above_item k)) c.len.ensures.len, c.met_number.ensures.number),
+        (
+          record {
+            point = vector_of c.in_plane-at.result;
+            on = record { direction = c.in_plane-at.result.some; level = c.in_plane-at.ensures.level };
+            aside = vector_of c.beside.result;
+            off = c.beside.ensures.off;
+            first = c.above.result;
+            is_first = c.above.ensures.first;
+          },
+          c.side_number.ensures.side ∙ ap (λ (k : ℕ). number_of M (above_item k)) c.len.ensures.len,
+          c.met_number.ensures.number,
+        ),
       );
     }

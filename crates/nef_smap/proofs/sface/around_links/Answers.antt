@@ -1,8 +1,8 @@
-use Rattle.std.proofs.Common.{◌≡◌, ◌+◌, ◌≤◌, ℕ, List, [], arith, refl, sym, ap, ◌∙◌, subst, rules, Option, Some, None, is_some, true, false, Vec, Global}
+use Rattle.std.proofs.Common.{◌≡◌, ◌+◌, List, arith, refl, sym, ap, ◌∙◌, subst, rules, Option, Some, None, is_some, true, false, Vec, Global}
 use Rattle.nef_space.specs.declared.label.Label.{Label}
 use Rattle.nef_smap.specs.declared.classes.Link.{Link}
 use Rattle.nef_smap.specs.Maps.{map_of, svertex_of}
-use Rattle.nef_smap.specs.SideNumbers.{one_if, arounds_before}
+use Rattle.nef_smap.specs.SideNumbers.{one_if}
 use Rattle.nef_smap.specs.JoinLinks.{AreArounds}
 use Rattle.nef_smap.proofs.Joining.{svertex-listed}
 use Rattle.nef_smap.proofs.LinkLists.{arounds-none, arounds-more, arounds-pass, arounds-start, arounds-next}
@@ -40,23 +40,23 @@ loop-number-preserved c =
     let few = c.loop-number.invariant.few_sides in
     elim c.if-is_some.branch [
       | then-is_some+in_ok-push w ↦
-      let some : is_some v.around ≡ true = search rules in
-      let m = some-of v.around some in
-      let one : one_if v.around ≡ 1 = ap one_if m.1 in
-      let items = ap (λ (x : Vec Link Global). x.items) w.links-is ∙ w.in_ok-push.ensures.items in
-      record {
-        all_links = subst (λ (ls : List Link). AreArounds M (n + 1) ls) (sym items) (arounds-more M n c.loop-number.links.items w.join_around.result w.join_around.ensures.joins c.loop-number.invariant.all_links);
-        side_number = omega (arith, w.side-is, next, one, side);
-        few_sides = omega (arith, w.side-is, few);
-      }
+          let some : is_some v.around ≡ true = search rules in
+          let m = some-of v.around some in
+          let one : one_if v.around ≡ 1 = ap one_if m.1 in
+          let items = ap (λ (x : Vec Link Global). x.items) w.links-is ∙ w.in_ok-push.ensures.items in
+          record {
+            all_links = subst (λ (ls : List Link). AreArounds M (n + 1) ls) (sym items) (arounds-more M n c.loop-number.links.items w.join_around.result w.join_around.ensures.joins c.loop-number.invariant.all_links);
+            side_number = omega (arith, w.side-is, next, one, side);
+            few_sides = omega (arith, w.side-is, few);
+          }
       | else-is_some w ↦
-      let none : is_some v.around ≡ false = search rules in
-      let m = none-of v.around none in
-      let zero_one : one_if v.around ≡ 0 = ap one_if m in
-      let items = ap (λ (x : Vec Link Global). x.items) w.links-is in
-      record {
-        all_links = subst (λ (ls : List Link). AreArounds M (n + 1) ls) (sym items) (arounds-pass M n c.loop-number.links.items (svertex_of v) a m c.loop-number.invariant.all_links);
-        side_number = omega (arith, w.side-is, next, zero_one, side);
-        few_sides = omega (arith, w.side-is, few);
-      }
+          let none : is_some v.around ≡ false = search rules in
+          let m = none-of v.around none in
+          let zero_one : one_if v.around ≡ 0 = ap one_if m in
+          let items = ap (λ (x : Vec Link Global). x.items) w.links-is in
+          record {
+            all_links = subst (λ (ls : List Link). AreArounds M (n + 1) ls) (sym items) (arounds-pass M n c.loop-number.links.items (svertex_of v) a m c.loop-number.invariant.all_links);
+            side_number = omega (arith, w.side-is, next, zero_one, side);
+            few_sides = omega (arith, w.side-is, few);
+          }
     ]

@@ -1,11 +1,10 @@
-use Rattle.std.proofs.Common.{◌≡◌, ℕ, ◌+◌, ◌<◌, List, length, take, arith, refl, sym, ap, subst}
+use Rattle.std.proofs.Common.{◌≡◌, ℕ, ◌+◌, List, length, take, arith, sym, subst}
 use Rattle.std.proofs.lemmas.Result.{IfOk-weaker}
-use Rattle.nef_space.specs.Lists.{IsAt}
 use Rattle.nef_space.specs.Vectors.{up}
 use Rattle.nef_geo.proofs.InPlane.{up-direction}
 use Rattle.nef_smap.specs.declared.classes.Link.{Link}
 use Rattle.nef_smap.specs.Maps.{map_of}
-use Rattle.nef_smap.specs.Sides.{sides_of, AreSfaces}
+use Rattle.nef_smap.specs.Sides.{sides_of}
 use Rattle.nef_smap.specs.Classes.{AreWithin, AreClasses, AreNumbered}
 use Rattle.nef_smap.proofs.Upward.{map-ahead, map-across}
 use Rattle.nef_smap.proofs.SfaceNumbers.{links-within, sface-numbers}
@@ -34,7 +33,7 @@ returns c =
     let links = c.in_ok-joins.joins.items in
     let classes = c.in_ok-classes.classes.items in
     let C : AreClasses (length (sides_of M) + 1) links classes = subst (λ (n : ℕ). AreClasses (n + 1) links classes) c.sides-count.ensures.count
-        (subst (λ (ls : List Link). AreClasses (c.sides-count.result + 1) ls classes) c.as_slice.ensures.value c.in_ok-classes.ensures.classes) in
+    (subst (λ (ls : List Link). AreClasses (c.sides-count.result + 1) ls classes) c.as_slice.ensures.value c.in_ok-classes.ensures.classes) in
     let e : take c.sides-count.result c.deref.result.now ≡ take (length (sides_of M)) classes = ap2 c.sides-count.ensures.count c.deref.ensures.value in
     record {
       faces = IfOk-weaker c.class_numbers.result (λ v. AreNumbered (take c.sides-count.result c.deref.result.now) v.items) _

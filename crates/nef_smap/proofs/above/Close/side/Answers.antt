@@ -1,6 +1,6 @@
-use Rattle.std.proofs.Common.{◌≡◌, refl, sym, ap, ◌∙◌}
+use Rattle.std.proofs.Common.{◌≡◌, refl, ◌∙◌}
 use Rattle.nef_exact.specs.Signs.{Sign, plus, sign}
-use Rattle.nef_space.specs.Vectors.{dot, up}
+use Rattle.nef_space.specs.Vectors.{dot}
 use Rattle.nef_geo.specs.Shapes.{vector_of}
 use Rattle.nef_smap.specs.Above.{first_sign}
 use Rattle.nef_smap.specs.Close.{geo_sign, toward, then_toward}
