@@ -1,32 +1,19 @@
 -- Where a plane parts two points, it crosses the line between them in one point strictly between.
-use Rattle.std.proofs.Common.{◌≡◌, ℕ, ◌<◌, ℤ, pos, ◌+ℤ◌, ◌-ℤ◌, ◌*ℤ◌, ◌<ℤ◌, arith, refl, ap, sym, ◌∙◌, inl, inr, ⊎_elim, ◌↔◌, [], ◌∷◌, Option, Some, None}
-use Rattle.std.proofs.lemmas.Int.{ints}
+use Rattle.std.proofs.Common.{refl, ◌↔◌, Option, Some, None}
 use Rattle.std.specs.Option.{MatchOption}
 use Rattle.std.specs.Prelude.{IsNone, IfSome}
-use Rattle.nef_exact.proofs.Ring.{ring, Poly, at, num, ◌⊕◌, ◌⊖◌, ◌⊗◌}
-use Rattle.nef_exact.proofs.Combination.{given, none, follows, follows_times}
-use Rattle.nef_exact.proofs.Order.{mul_pos, mul_neg, by_order}
-use Rattle.nef_space.specs.Place.{Place, Form, form_at, slope, normal_of, toward, SamePlace, IsBetween}
-use Rattle.nef_space.specs.Vectors.{Vector, dot, cross, triple, IsZero, IsDirection}
+use Rattle.nef_space.specs.Place.{Place, Form, form_at, normal_of, toward, SamePlace}
 use Rattle.nef_geo.specs.Meet.{HasDependentNormals, IsOnlyCommon}
 use Rattle.nef_geo.specs.Shapes.{place_of, form_of}
 use Rattle.nef_geo.specs.Steps.{HasOppositeSigns}
 use Rattle.nef_geo.specs.declared.plane.Plane.{Plane}
 use Rattle.nef_geo.specs.declared.point.Point.{Point}
-use Rattle.nef_forms.specs.Homogeneous.{IsMixed, of_place}
-use Rattle.nef_forms.proofs.Sums.{form-sum}
-use Rattle.nef_forms.proofs.Near.{slope-toward}
 use Rattle.nef_forms.proofs.Between.{between-same}
-use Rattle.nef_near.proofs.Between.{mixed-of, between-turned}
-use Rattle.nef_near.proofs.Rays.{same-place_sym, slope-zero}
-use Rattle.nef_near.proofs.FlatDecided.{cross-turned}
-use Rattle.nef_sphere.proofs.KindFlats.{in-span}
+use Rattle.nef_near.proofs.Rays.{same-place_sym}
 use Rattle.nef_solid.proofs.Planes.{plane-way}
 use Rattle.nef_solid.proofs.Ways.{same-itself}
-use Rattle.nef_solid.proofs.FacetAngles.{cut-at}
 use Rattle.nef_complex.proofs.Parted.{parted-slope, parted-cut, parted-apart, held-between, crossed-parted, independent}
 use Rattle.nef_cand.specs.declared.line.Line.{Line}
-use Rattle.nef_complex.specs.Meets.{HoldsBoth}
 use Rattle.nef_cand.specs.Points.{IsLineThrough, IsCrossing}
 
 -- ---- three planes

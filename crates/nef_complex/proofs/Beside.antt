@@ -79,7 +79,7 @@ module _ (C : Complex) (h : Plane) (p : Place) (d : Vector) (A : IsAlongAxis (fo
     never-inside : IsBetween v.point p w.point → ⊥
     never-inside m = ⊎_elim
         (λ ((j, (x, l, o)) : (j : ℕ) × IsVertexPoint C j p). E.first j x l (subst (λ (y : Vertex). IsBetween y.point x.point E.high_vertex.point) (sym low-is) (subst (λ (y : Vertex). IsBetween v.point x.point y.point) (sym high-is)
-            (between-same v.point p w.point v.point x.point w.point (same-itself v.point) (same-place_sym x.point p o) (same-itself w.point) m))))
+        (between-same v.point p w.point v.point x.point w.point (same-itself v.point) (same-place_sym x.point p o) (same-itself w.point) m))))
         (λ f. f k (e, v, w, a, H, m) (e, v, w, a, H, i.0, i.1)) off
 
     leaves : SameDirection E.low_end.way (toward v.point w.point)
@@ -107,7 +107,7 @@ module _ (C : Complex) (h : Plane) (p : Place) (d : Vector) (A : IsAlongAxis (fo
     pub edge-or_end : Found
     edge-or_end = ⊎_elim
         (λ z. by_order (dot (toward v.point w.point) d) (pos 0)
-            (λ m. inr (e.high, w, H.high, high-first (turned-way v.point w.point d z m)))
-            (λ o. absurd (between-ends v.point q w.point b (nought-if d (toward v.point w.point) (axis-some h d A) (cross-turned (toward v.point w.point) d z) (dot-comm d (toward v.point w.point) ∙ o))))
-            (λ m. inr (e.low, v, H.low, low-first (record { parallel = z; forward = m }))))
+        (λ m. inr (e.high, w, H.high, high-first (turned-way v.point w.point d z m)))
+        (λ o. absurd (between-ends v.point q w.point b (nought-if d (toward v.point w.point) (axis-some h d A) (cross-turned (toward v.point w.point) d z) (dot-comm d (toward v.point w.point) ∙ o))))
+        (λ m. inr (e.low, v, H.low, low-first (record { parallel = z; forward = m }))))
         (λ n. inl (refl, e, v, w, a, H, b, i, n)) (zero-decided (cross (toward v.point w.point) d))

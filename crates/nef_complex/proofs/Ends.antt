@@ -63,9 +63,9 @@ module _ (s : Set) (c : Complex) (S : Shows s (complex_of c)) (d : Vector) where
       let m = vertex-meets s v.point (S.vertices k v a) in
       let z = (λ (f : Form) (l : Lies (carriers s) f) (e : form_at f v.point ≡ pos 0). dot-comm d (normal_of f) ∙ held v.point v.point H f l (e, e)) in
       m.independent (triple-in_plane d (normal_of m.first) (normal_of m.second) (normal_of m.third) some
-          (z m.first m.first_in (nought-is (form_at m.first v.point) m.first_at))
-          (z m.second m.second_in (nought-is (form_at m.second v.point) m.second_at))
-          (z m.third m.third_in (nought-is (form_at m.third v.point) m.third_at)))
+      (z m.first m.first_in (nought-is (form_at m.first v.point) m.first_at))
+      (z m.second m.second_in (nought-is (form_at m.second v.point) m.second_at))
+      (z m.third m.third_in (nought-is (form_at m.third v.point) m.third_at)))
 
   module _ (k : ℕ) (e : Edge) (v w : Vertex) (q : Place) (a : At (complex_of c).edges k e) (H : HasEnds (complex_of c) e v w) (b : IsBetween v.point q w.point) where
     abbrev t : Vector

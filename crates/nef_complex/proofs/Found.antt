@@ -125,7 +125,7 @@ module _ (s : Set) (c : Complex) (S : Shows s (complex_of c)) (h : Plane) (p : P
             let w = between-ahead p q (far_place at) d b M.ahead in
             let r = inside n q x in
             not-end p q (far_place at) b (one-point h p d A on (form_of T.plane) q (far_place at) (ahead-on h p d A on q w, ahead-on h p d A on (far_place at) M.ahead)
-                (ahead-kept h p d A on q w, ahead-kept h p d A on (far_place at) M.ahead) (held-between (form_of T.plane) low high q r.0 T.holds, T.crosses.on) T.crosses.passes);
+            (ahead-kept h p d A on q w, ahead-kept h p d A on (far_place at) M.ahead) (held-between (form_of T.plane) low high q r.0 T.holds, T.crosses.on) T.crosses.passes);
       }
 
   -- ---- all
@@ -158,7 +158,7 @@ module _ (s : Set) (c : Complex) (S : Shows s (complex_of c)) (h : Plane) (p : P
       meets = ⊎_elim
           (λ ((k, (e, x)) : (k : ℕ) × AtVertexNumber (complex_of c) k (meet_of r.meet) (far_place r.at)). subst (λ (m : PlainMeet). Meets (complex_of c) (form_of h) m (far_place r.at)) (sym e) x)
           (λ ((k, (o, e, v, w, a, H, b, i, n)) : (k : ℕ) × AtEdgeNumber (complex_of c) (form_of h) d k (meet_of r.meet) (far_place r.at)).
-              subst (λ (m : PlainMeet). Meets (complex_of c) (form_of h) m (far_place r.at)) (sym o) ((e, v, w, a, H, b), (e, v, w, a, H, i.0, i.1))) N.met;
+          subst (λ (m : PlainMeet). Meets (complex_of c) (form_of h) m (far_place r.at)) (sym o) ((e, v, w, a, H, b), (e, v, w, a, H, i.0, i.1))) N.met;
       first = λ q n b x. ⊎_elim (N.first n q b)
           (λ ((j, y, l, t) : Sooner q). N.first (meets_vertex j) y.point (between-inner p q (far_place r.at) y.point b t) (inl (j, (refl, (y, l, same-itself y.point)))))
           (met-as n q (between-ahead p q (far_place r.at) d b N.ahead) x);

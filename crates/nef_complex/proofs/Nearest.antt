@@ -1,6 +1,5 @@
 -- The nearest of what a ray meets.
 use Rattle.std.proofs.Common.{◌≡◌, ℕ, ◌<◌, ◌+◌, Option, Some, None, arith, refl, sym, ◌⊎◌, inl, inr, ⊎_elim, subst}
-use Rattle.std.specs.Prelude.{IfSome}
 use Rattle.std.proofs.Math.Nat.{eq-or-lt_of_le}
 use Rattle.nef_space.specs.Place.{Place, toward, IsAhead, IsBetween}
 use Rattle.nef_space.specs.Vectors.{Vector}
@@ -12,7 +11,7 @@ use Rattle.nef_solid.proofs.Ways.{between-way, same-itself}
 use Rattle.nef_solid.specs.Skeleton.{PlaneMeet}
 use Rattle.nef_complex.specs.declared.plane.Met.{Met}
 use Rattle.nef_complex.specs.Complexes.{meet_of}
-use Rattle.nef_complex.specs.Meets.{IsNearest, IsNearestMet, IsNearer, IsNotPast, IsReachedMet}
+use Rattle.nef_complex.specs.Meets.{IsNearest, IsNearestMet, IsNearer, IsNotPast}
 
 -- what lies between a point and one ahead of it is ahead
 pub between-ahead : (p q x : Place) (d : Vector) → IsBetween p q x → IsAhead p d x → IsAhead p d q
@@ -43,17 +42,17 @@ module _ (p : Place) (d : Vector) where
     nearest-either (Some x) (Some z) None N A B = let y = N.first x refl in let e : None ≡ Some y.0 = y.1 in cc
     nearest-either (Some x) None (Some r) N A B = ⊎_elim
         (λ (e : Some r ≡ Some x). let f : r ≡ x = cc in
-            left x r f A (λ n q b. B n q (between-ahead p q (far_place r.at) d b (subst (λ (v : Met). IsAhead p d (far_place v.at)) (sym f) A.ahead))))
+        left x r f A (λ n q b. B n q (between-ahead p q (far_place r.at) d b (subst (λ (v : Met). IsAhead p d (far_place v.at)) (sym f) A.ahead))))
         (λ (e : Some r ≡ None). absurd cc) N.one
     nearest-either None (Some x) (Some r) N A B = ⊎_elim
         (λ (e : Some r ≡ None). absurd cc)
         (λ (e : Some r ≡ Some x). let f : r ≡ x = cc in
-            right x r f B (λ n q b. A n q (between-ahead p q (far_place r.at) d b (subst (λ (v : Met). IsAhead p d (far_place v.at)) (sym f) B.ahead)))) N.one
+        right x r f B (λ n q b. A n q (between-ahead p q (far_place r.at) d b (subst (λ (v : Met). IsAhead p d (far_place v.at)) (sym f) B.ahead)))) N.one
     nearest-either (Some x) (Some z) (Some r) N A B = ⊎_elim
         (λ (e : Some r ≡ Some x). let f : r ≡ x = cc in let y = N.second z refl in let g : r ≡ y.0 = some-is r y.0 y.1 in
-            left x r f A (λ n q b. B.first n q (inner r z q (subst (λ (v : Met). IsAhead p d (far_place v.at)) (sym f) A.ahead) (subst (λ (v : Met). IsNotPast d v z) (sym g) y.2) b)))
+        left x r f A (λ n q b. B.first n q (inner r z q (subst (λ (v : Met). IsAhead p d (far_place v.at)) (sym f) A.ahead) (subst (λ (v : Met). IsNotPast d v z) (sym g) y.2) b)))
         (λ (e : Some r ≡ Some z). let f : r ≡ z = cc in let y = N.first x refl in let g : r ≡ y.0 = some-is r y.0 y.1 in
-            right z r f B (λ n q b. A.first n q (inner r x q (subst (λ (v : Met). IsAhead p d (far_place v.at)) (sym f) B.ahead) (subst (λ (v : Met). IsNotPast d v x) (sym g) y.2) b))) N.one
+        right z r f B (λ n q b. A.first n q (inner r x q (subst (λ (v : Met). IsAhead p d (far_place v.at)) (sym f) B.ahead) (subst (λ (v : Met). IsNotPast d v x) (sym g) y.2) b))) N.one
       where
         some-is : (r y : Met) → Some r ≡ Some y → r ≡ y
         some-is r y e = cc
@@ -63,10 +62,6 @@ module _ (p : Place) (d : Vector) where
     nearest-as None f g A = λ n q w x. A n q w (g n q x)
     nearest-as (Some x) f g A = record { reached = A.reached; ahead = A.ahead; met = f (meet_of x.meet) (far_place x.at) A.met; first = λ n q b y. A.first n q b (g n q y) }
 
-  pub nearest-reached : (P : PlaneMeet → Place → Type 0) (o : Option Met) → IsNearest p d P o → IfSome o (IsReachedMet p d)
-  nearest-reached P None A = tt
-  nearest-reached P (Some x) A = A.reached
-
   -- ---- of a list
   module _ (R : ℕ → PlaneMeet → Place → Type 0) where
     abbrev pub First : ℕ → PlaneMeet → Place → Type 0
@@ -74,9 +69,6 @@ module _ (p : Place) (d : Vector) where
 
     abbrev pub Any : PlaneMeet → Place → Type 0
     Any m q = (k : ℕ) × R k m q
-
-    pub nearest-none : IsNearest p d (First 0) None
-    nearest-none = λ n q w x. absurd (let l = x.1 in omega (arith, l))
 
     pub nearest-more : (i : ℕ) (a b r : Option Met) → IsNearer d a b r → IsNearest p d (First i) a → IsNearest p d (R i) b → IsNearest p d (First (i + 1)) r
     nearest-more i a b r N A B = nearest-as (λ m q. First i m q ⊎ R i m q) (First (i + 1)) r

@@ -15,7 +15,10 @@ returns-then-are_opposite-clause-none c = none-answers c.hit_through.result c.ar
 
 pub returns-else-holds_both-clause-none : goal.returns-else-holds_both-clause-none
 returns-else-holds_both-clause-none c = λ e y M. elim c.else-holds_both.branch [
-  | else-holds_both-via-then-holds_both+else-are_opposite w ↦ absurd (search (rules, w.if-are_opposite.false,
-      w.are_opposite.ensures.opposite.1 (met-opposite c.args.h.now (hit_place c.args.p.now) (vector_of c.args.d.now) c.requires.axis c.requires.on (place_of c.args.a.now) (place_of c.args.b.now) y M)))
+  | else-holds_both-via-then-holds_both+else-are_opposite w ↦ absurd (search (
+    rules,
+    w.if-are_opposite.false,
+    w.are_opposite.ensures.opposite.1 (met-opposite c.args.h.now (hit_place c.args.p.now) (vector_of c.args.d.now) c.requires.axis c.requires.on (place_of c.args.a.now) (place_of c.args.b.now) y M),
+  ))
   | else-holds_both-via-else-holds_both w ↦ absurd (search (rules, w.if-holds_both.false, c.holds_both.ensures.holds.1 M.holds))
 ]
