@@ -1,0 +1,15 @@
+//! Where a point lies in a complex, its label, and the least map of the set there.
+//!
+//! A point is a vertex, lies on an edge, in a facet, or in a volume. Source: Granados et al., "Boolean Operations on 3D
+//! Selective Nef Complexes", ESA 2003.
+#![tactic(auto)]
+
+mod label;
+mod maps;
+mod place;
+mod plane;
+
+pub use label::place_label;
+pub use maps::{facet_map, vertex_map, volume_map};
+pub use place::Place;
+pub use std::alloc::AllocError as OutOfMemory;
