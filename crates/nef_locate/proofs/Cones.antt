@@ -11,7 +11,8 @@ use Rattle.nef_near.proofs.Germs.{Label-cells}
 use Rattle.nef_near.proofs.Rays.{signs-same}
 use Rattle.nef_near.proofs.Alike.{germs-by_cell, flat-germ}
 use Rattle.nef_near.proofs.Even.{span-3}
-use Rattle.nef_sphere.specs.Maps.{Item, item_normal, item_above, item_mark, item_below, Map, MapLabel, Valid}
+use Rattle.nef_locate.specs.Places.{IsPlaneOf}
+use Rattle.nef_sphere.specs.Maps.{Loop, Item, item_normal, item_above, item_mark, item_below, Map, MapLabel, Valid}
 use Rattle.nef_sphere.specs.Least.{by_side, Cone}
 use Rattle.nef_sphere.proofs.Vectors.{normal-direction}
 use Rattle.nef_sphere.proofs.Forms.{on-level}
@@ -52,11 +53,20 @@ corner-labels s C S y k v x H c =
     (facet-from_behind s C S (item_plane H.vertex H.item) y (normal-scaled n (pos p.w) (weight p) N) (through-at n p y ∙ on-level H.vertex.map H.item (toward p y) H.facet_point.on_item)
     (plane_axis n) axis.0 ((through-level n (plane_axis n) p).0 axis.1) H.facet_point.off_edges r.0 k r.1 r.2).1 v x c
 
--- a map with these labels is one of the point
-pub cone-sided : (M : Map) (s : Set) (y : Place) (n : Vector) (a m b : Label) → Valid M → M.mark ≡ m → ((d : Vector) → IsDirection d → MapLabel M d (by_side a m b (sign (dot n d))))
-    → HasLabel s y m → ((d : Vector) → Germ s y d (by_side a m b (sign (dot n d)))) → Cone M s y
-cone-sided M s y n a m b valid mark all h g = record {
-  valid = valid;
-  mark = subst (HasLabel s y) (sym mark) h;
-  labels = λ d i. (by_side a m b (sign (dot n d)), all d i, g d);
-}
+-- a map with the labels of the corner's item is one of the point
+pub cone-of_corner : (M : Map) (s : Set) (C : Complex) → Shows s C → (y : Place) (k : Corner) (v : Vertex) (x : Item) → HasCorner C y k → IsCorner C k v x → (l : Loop) → IsPlaneOf x l
+    → Valid M → M.mark ≡ l.mark → ((d : Vector) → IsDirection d → MapLabel M d (by_side l.above l.mark l.below (sign (dot l.normal d)))) → Cone M s y
+cone-of_corner M s C S y k v x H c l P valid mark all =
+    let g = corner-labels s C S y k v x H c in
+    record {
+      valid = valid;
+      mark = subst (HasLabel s y) (P.mark ∙ sym mark) g.0;
+      labels = λ d i. (by_side l.above l.mark l.below (sign (dot l.normal d)), all d i, subst (Germ s y d) (same d) (g.1 d));
+    }
+  where
+    same : (d : Vector) → by_side (item_above x) (item_mark x) (item_below x) (sign (dot (item_normal x) d)) ≡ by_side l.above l.mark l.below (sign (dot l.normal d))
+    same d =
+        ap (λ r. by_side r (item_mark x) (item_below x) (sign (dot (item_normal x) d))) P.above
+        ∙ ap (λ r. by_side l.above r (item_below x) (sign (dot (item_normal x) d))) P.mark
+        ∙ ap (λ r. by_side l.above l.mark r (sign (dot (item_normal x) d))) P.below
+        ∙ ap (λ r. by_side l.above l.mark l.below (sign (dot r d))) P.normal
