@@ -1,2 +1,4 @@
 pub mod Cones
 pub mod Marks
+pub mod TwoStars
+pub mod EdgeEnds

@@ -4,7 +4,13 @@ use Rattle.nef_space.specs.Local.{HasLabel, FlatDim}
 use Rattle.nef_space.specs.Place.{Place as PlainPlace}
 use Rattle.nef_space.specs.Sets.{Set}
 use Rattle.nef_space.specs.declared.label.Label.{Label}
-use Rattle.nef_sphere.specs.Maps.{At, Loop, Item, item_normal, item_above, item_mark, item_below, Side}
+use Rattle.nef_sphere.specs.Maps.{At, Svertex, Loop, Item, item_normal, item_above, item_mark, item_below, Side}
+use Rattle.nef_geo.specs.Shapes.{vector_of}
+use Rattle.nef_sphere.specs.Stars.{StarShows}
+use Rattle.nef_star.specs.declared.star.Star.{Star}
+use Rattle.nef_star.specs.Stars.{star_of, IsStar}
+use Rattle.nef_smap.specs.declared.map.SphereMap.{SphereMap}
+use Rattle.nef_smap.specs.Maps.{map_of}
 use Rattle.nef_smap.specs.Sides.{IsSide}
 use Rattle.nef_solid.specs.Complexes.{Vertex, Edge, Complex, IsCorner}
 use Rattle.nef_solid.specs.Skeleton.{IsVertexPoint, IsEdgePoint, at_vertex, on_edge, in_facet, HasCorner}
@@ -52,3 +58,9 @@ pub record IsPlaneOf (x : Item) (l : Loop) : Type 0 where
   pub above : item_above x ≡ l.above
   pub mark : item_mark x ≡ l.mark
   pub below : item_below x ≡ l.below
+
+-- the star of the svertex with this number, which shows the map
+pub record IsEndStar (m : SphereMap) (k : ℕ) (t : Star) : Type 0 where
+  pub star : IsStar t
+  pub axis : (u : Svertex) → At (map_of m).svertices k u → vector_of t.axis ≡ u.way
+  pub shows : StarShows (star_of t) (map_of m)

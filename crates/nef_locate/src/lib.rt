@@ -4,11 +4,13 @@
 //! Selective Nef Complexes", ESA 2003.
 #![tactic(auto)]
 
+mod edge;
 mod label;
 mod maps;
 mod place;
 mod plane;
 
+pub use edge::edge_map;
 pub use label::place_label;
 pub use maps::{facet_map, vertex_map, volume_map};
 pub use place::Place;
