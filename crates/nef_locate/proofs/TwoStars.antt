@@ -105,7 +105,7 @@ module _ (N : Map) (V : Valid N) where
         let x = across t.axis F n y a m b on.direction st (bare 0 t refl) in
         let z = across u.axis G n y a m b on.direction st (bare 1 u refl) in
         let w = to_opposite t.axis u.axis O in
-        let q = both-sides a m b (dot n t.axis) (dot n u.axis) (way-signs t.axis (opposite u.axis) n T.axis w ∙ ap sign (dot-back n u.axis)) (bare 0 t refl) x z in
+        let q = both-sides a m b (dot n t.axis) (dot n u.axis) (sym (way-signs t.axis (opposite u.axis) n T.axis w) ∙ ap sign (dot-back n u.axis)) (bare 0 t refl) x z in
         absurd (P q.0 q.1);
     ground_alone = λ e f. cc;
     ground_not = λ m e. cc;

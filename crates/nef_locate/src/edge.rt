@@ -1,15 +1,9 @@
 //! The least map of the set at the points of an edge.
 
-ghost use Rattle.std.specs.Prelude.{◌≡◌, ◌<◌, length, IfOk};
-ghost use Rattle.nef_space.specs.Limits.{svertex_limit};
+ghost use Rattle.std.specs.Prelude.{◌<◌, length, IfOk};
 ghost use Rattle.nef_space.specs.Place.{Place as PlainPlace};
 ghost use Rattle.nef_space.specs.Sets.{Set};
-ghost use Rattle.nef_space.specs.Vectors.{IsAtMost};
-ghost use Rattle.nef_geo.specs.Shapes.{vector_of};
 ghost use Rattle.nef_sphere.specs.Least.{Cone};
-ghost use Rattle.nef_sphere.specs.Maps.{way_of};
-ghost use Rattle.nef_sphere.specs.Stars.{StarShows};
-ghost use Rattle.nef_star.specs.Stars.{star_of, IsStar};
 ghost use Rattle.nef_smap.specs.Maps.{map_of, IsSphereMap, IsLeastMap};
 ghost use Rattle.nef_complex.specs.Complexes.{complex_of, ShowsSet};
 ghost use Rattle.nef_locate.specs.declared.place.Place.TheVariants as place;
@@ -32,9 +26,8 @@ fn end_star(alloc: Global, map: &SphereMap, svertex: usize) -> Result<Star, OutO
     star_at(alloc, map, &map.svertices.at(svertex).dir)
 }
 
-/// The least map of the set at the points strictly inside the edge with this number. `OutOfMemory` comes where no memory is
-/// left.
-pub fn edge_map(alloc: Global, c: &Complex, number: usize) -> Result<SphereMap, OutOfMemory>
+// The least map of the set at the points strictly inside the edge with this number.
+pub(crate) fn edge_map(alloc: Global, c: &Complex, number: usize) -> Result<SphereMap, OutOfMemory>
     requires shows { (s : Set) × ShowsSet s c.now }
     requires place { IsPlaceIn (complex_of c.now) (place.OnEdge number) }
     ensures least { IfOk result (λ m. IsLeastMap m) }

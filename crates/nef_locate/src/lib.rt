@@ -10,8 +10,7 @@ mod maps;
 mod place;
 mod plane;
 
-pub use edge::edge_map;
 pub use label::place_label;
-pub use maps::{facet_map, vertex_map, volume_map};
+pub use maps::place_map;
 pub use place::Place;
 pub use std::alloc::AllocError as OutOfMemory;
