@@ -20,6 +20,8 @@ use Rattle.nef_solid.specs.Complexes.{Vertex, Complex, Corner, IsCorner}
 use Rattle.nef_solid.specs.Shows.{Shows}
 use Rattle.nef_solid.specs.Skeleton.{item_plane, HasCorner}
 use Rattle.nef_solid.proofs.FacetAngles.{through-at}
+use Rattle.nef_solid.proofs.FacetPoints.{facet-point}
+use Rattle.nef_solid.proofs.Skeletons.{FacetAt}
 use Rattle.nef_solid.proofs.FacetEnds.{facet-from_behind}
 use Rattle.nef_solid.proofs.FacetNames.{weight, normal-scaled, through-level, axis-in}
 
@@ -32,6 +34,10 @@ cone-same M s p q e K =
       mark = Label-cells s M.mark p q same K.mark;
       labels = λ d f. let l = K.labels d f in (l.0, l.1, (germs-by_cell s p q same d l.0).0 l.2);
     }
+
+-- the law of facet points
+pub facet-at : (s : Set) (C : Complex) → Shows s C → FacetAt s C
+facet-at s C S k v x y c F = let p = facet-point s C S k v x y c F in (p.dim, p.flat, p.label, p.sided)
 
 -- where all directions are flat there is one label
 pub cone-flat : (M : Map) (s : Set) (y : Place) (l : Label) → Valid M → M.mark ≡ l → ((d : Vector) → IsDirection d → MapLabel M d l) → HasLabel s y l → FlatDim s y 3 → Cone M s y

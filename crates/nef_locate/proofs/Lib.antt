@@ -1,4 +1,6 @@
+pub mod Upward
 pub mod Cones
+pub mod VolumeLabels
 pub mod Marks
 pub mod TwoStars
 pub mod EdgeEnds

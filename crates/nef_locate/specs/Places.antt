@@ -1,8 +1,6 @@
 -- Places of a complex, the points that lie there, and their labels.
 use Rattle.std.specs.Prelude.{◌≡◌, ℕ}
-use Rattle.nef_space.specs.Local.{HasLabel, FlatDim}
 use Rattle.nef_space.specs.Place.{Place as PlainPlace}
-use Rattle.nef_space.specs.Sets.{Set}
 use Rattle.nef_space.specs.declared.label.Label.{Label}
 use Rattle.nef_sphere.specs.Maps.{At, Svertex, Loop, Item, item_normal, item_above, item_mark, item_below, Side}
 use Rattle.nef_geo.specs.Shapes.{vector_of}
@@ -44,13 +42,6 @@ IsPlaceLabel C (place.Vertex k) l = SpotMark C (at_vertex k) l
 IsPlaceLabel C (place.OnEdge k) l = SpotMark C (on_edge k) l
 IsPlaceLabel C (place.InFacet k) l = SpotMark C (in_facet (corner_of k)) l
 IsPlaceLabel C (place.InVolume i j) l = (o : Side) × IsSideOf C i j o l
-
--- at y in a volume all directions are flat, and the label is that of the side; elsewhere nothing is asked
-abbrev pub IsSideSound : Complex → Set → PlainPlace → Place → Type 0
-IsSideSound C s y (place.Vertex k) = Unit {0}
-IsSideSound C s y (place.OnEdge k) = Unit {0}
-IsSideSound C s y (place.InFacet k) = Unit {0}
-IsSideSound C s y (place.InVolume i j) = FlatDim s y 3 × ((o : Side) (l : Label) → IsSideOf C i j o l → HasLabel s y l)
 
 -- the plane of the item, with its labels
 pub record IsPlaneOf (x : Item) (l : Loop) : Type 0 where

@@ -4,7 +4,7 @@ ghost use Rattle.nef_space.specs.Local.{HasLabel};
 ghost use Rattle.nef_space.specs.Place.{Place as PlainPlace};
 ghost use Rattle.nef_space.specs.Sets.{Set};
 ghost use Rattle.nef_complex.specs.Complexes.{complex_of, ShowsSet};
-ghost use Rattle.nef_locate.specs.Places.{IsPlaceIn, IsPlaceAt, IsPlaceLabel, IsSideSound};
+ghost use Rattle.nef_locate.specs.Places.{IsPlaceIn, IsPlaceAt, IsPlaceLabel};
 
 use crate::place::Place;
 use crate::plane::plane_of;
@@ -16,7 +16,7 @@ use nef_smap::side_label;
 pub fn place_label(c: &Complex, at: &Place) -> Label
     requires place { IsPlaceIn (complex_of c.now) at.now }
     ensures label { IsPlaceLabel (complex_of c.now) at.now result }
-    ensures set { (s : Set) (y : PlainPlace) → ShowsSet s c.now → IsPlaceAt (complex_of c.now) y at.now → IsSideSound (complex_of c.now) s y at.now → HasLabel s y result }
+    ensures set { (s : Set) (y : PlainPlace) → ShowsSet s c.now → IsPlaceAt (complex_of c.now) y at.now → HasLabel s y result }
 {
     match *at {
         Place::Vertex(number) => c.vertices.at(number).map.mark,

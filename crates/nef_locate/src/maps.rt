@@ -7,7 +7,7 @@ ghost use Rattle.nef_sphere.specs.Least.{Cone};
 ghost use Rattle.nef_smap.specs.Maps.{map_of, IsLeastMap};
 ghost use Rattle.nef_complex.specs.Complexes.{complex_of, ShowsSet};
 ghost use Rattle.nef_locate.specs.declared.place.Place.TheVariants as place;
-ghost use Rattle.nef_locate.specs.Places.{IsPlaceIn, IsPlaceAt, IsSideSound};
+ghost use Rattle.nef_locate.specs.Places.{IsPlaceIn, IsPlaceAt};
 
 use crate::OutOfMemory;
 use crate::edge::edge_map;
@@ -43,7 +43,7 @@ fn facet_map(alloc: Global, c: &Complex, corner: &Corner) -> SphereMap
 fn volume_map(alloc: Global, c: &Complex, vertex: usize, side: usize) -> SphereMap
     requires place { IsPlaceIn (complex_of c.now) (place.InVolume vertex side) }
     ensures least { IsLeastMap result }
-    ensures cone { (s : Set) (y : PlainPlace) → ShowsSet s c.now → IsPlaceAt (complex_of c.now) y (place.InVolume vertex side) → IsSideSound (complex_of c.now) s y (place.InVolume vertex side) → Cone (map_of result) s y }
+    ensures cone { (s : Set) (y : PlainPlace) → ShowsSet s c.now → IsPlaceAt (complex_of c.now) y (place.InVolume vertex side) → Cone (map_of result) s y }
 {
     let label = place_label(c, &Place::InVolume { vertex, side });
     face_map(alloc, label, label)
@@ -55,7 +55,7 @@ pub fn place_map(alloc: Global, c: &Complex, at: &Place) -> Result<SphereMap, Ou
     requires shows { (s : Set) × ShowsSet s c.now }
     requires place { IsPlaceIn (complex_of c.now) at.now }
     ensures least { IfOk result (λ m. IsLeastMap m) }
-    ensures cone { IfOk result (λ m. (s : Set) (y : PlainPlace) → ShowsSet s c.now → IsPlaceAt (complex_of c.now) y at.now → IsSideSound (complex_of c.now) s y at.now → Cone (map_of m) s y) }
+    ensures cone { IfOk result (λ m. (s : Set) (y : PlainPlace) → ShowsSet s c.now → IsPlaceAt (complex_of c.now) y at.now → Cone (map_of m) s y) }
 {
     match *at {
         Place::Vertex(number) => vertex_map(alloc, c, number),
