@@ -1,5 +1,5 @@
 -- The labels and the germs of a point by its place.
-use Rattle.std.proofs.Common.{◌≡◌, ℕ, pos, ap, sym, subst, ◌∙◌, refl}
+use Rattle.std.proofs.Common.{◌≡◌, pos, ap, sym, subst, ◌∙◌}
 use Rattle.nef_exact.specs.Signs.{sign}
 use Rattle.nef_space.specs.Local.{HasLabel, Germ, FlatDim}
 use Rattle.nef_space.specs.Place.{Place, SamePlace, toward}

@@ -1,12 +1,11 @@
 -- What is built of the stars at both ends of an edge is the map of each of its points.
-use Rattle.std.proofs.Common.{◌≡◌, ℕ, ℤ, pos, ◌≤ℤ◌, ◌<ℤ◌, neg_ℤ, arith, refl, sym, ap, ◌∙◌, [], ◌∷◌, None, inl, inr, subst}
+use Rattle.std.proofs.Common.{◌≡◌, ℕ, pos, neg_ℤ, arith, sym, ◌∙◌, [], ◌∷◌, None, inl, inr, subst}
 use Rattle.std.proofs.lemmas.Int.{ints}
 use Rattle.nef_exact.proofs.Order.{by_order}
 use Rattle.nef_space.specs.Local.{HasLabel}
 use Rattle.nef_space.specs.Place.{Place, toward, IsAhead, IsBetween}
 use Rattle.nef_space.specs.Sets.{Set}
 use Rattle.nef_space.specs.Vectors.{Vector, IsDirection, IsNormal, IsOpposite, SameDirection, opposite}
-use Rattle.nef_space.specs.declared.label.Label.{Label}
 use Rattle.nef_near.proofs.Between.{between-turned}
 use Rattle.nef_near.proofs.Flats.{vector-same}
 use Rattle.nef_forms.proofs.Directions.{direction-left}

@@ -1,12 +1,12 @@
 -- The program's stars at both ends of an edge, and what is built of them.
-use Rattle.std.proofs.Common.{◌≡◌, ℕ, ◌<◌, List, [], ◌∷◌, length, map, refl, sym, ap, subst, ◌∙◌, slice_get, Some, None, Result, Ok, Err, IfOk}
+use Rattle.std.proofs.Common.{◌≡◌, ℕ, ◌<◌, List, [], ◌∷◌, length, sym, ap, subst, ◌∙◌, slice_get, Some, None, Result, Ok, Err, IfOk}
 use Rattle.nef_space.specs.Place.{Place as PlainPlace, IsBetween}
 use Rattle.nef_space.specs.Sets.{Set}
 use Rattle.nef_space.specs.Vectors.{Vector, IsDirection}
 use Rattle.nef_space.specs.declared.label.Label.{Label}
 use Rattle.nef_geo.specs.Shapes.{vector_of}
 use Rattle.nef_geo.specs.declared.dir.Dir.{Dir}
-use Rattle.nef_sphere.specs.Maps.{At, Svertex as PlainSvertex, Map, MapLabel, Valid}
+use Rattle.nef_sphere.specs.Maps.{At, Svertex as PlainSvertex, MapLabel}
 use Rattle.nef_sphere.specs.Forms.{forms}
 use Rattle.nef_sphere.specs.Least.{Cone}
 use Rattle.nef_sphere.proofs.Lists.{at-one}
@@ -17,9 +17,8 @@ use Rattle.nef_star.specs.Stars.{star_of, IsStar}
 use Rattle.nef_smap.specs.declared.map.SVertex.{SVertex}
 use Rattle.nef_smap.specs.declared.map.SphereMap.{SphereMap}
 use Rattle.nef_smap.specs.declared.map.RawStars.{RawStars}
-use Rattle.nef_smap.specs.Maps.{map_of, svertex_of, raw_of, IsSphereMap, IsLeastMap}
+use Rattle.nef_smap.specs.Maps.{map_of, svertex_of, raw_of, IsLeastMap}
 use Rattle.nef_smap.specs.Stars.{IsNeighbourhood}
-use Rattle.nef_smap.proofs.Lists.{at-map, at-within}
 use Rattle.nef_smap.proofs.WellFormed.{star-well_formed}
 use Rattle.nef_solid.specs.Complexes.{Vertex as PlainVertex, Edge as PlainEdge}
 use Rattle.nef_complex.specs.declared.complex.Vertex.{Vertex}

@@ -4,14 +4,12 @@ use Rattle.nef_space.specs.Local.{HasLabel}
 use Rattle.nef_space.specs.Place.{Place as PlainPlace}
 use Rattle.nef_space.specs.Sets.{Set}
 use Rattle.nef_space.specs.declared.label.Label.{Label}
-use Rattle.nef_sphere.specs.Maps.{At, Item, items, Side}
+use Rattle.nef_sphere.specs.Maps.{At, Item, Side}
 use Rattle.nef_sphere.proofs.Lists.{at-one}
 use Rattle.nef_smap.proofs.Lists.{map-at, at-map, at-within}
 use Rattle.nef_smap.proofs.SideLists.{at-from_get, side-has}
-use Rattle.nef_smap.specs.Maps.{map_of}
 use Rattle.nef_smap.specs.Sides.{LabelledSide, IsSide, sides_of}
 use Rattle.nef_solid.specs.Complexes.{Vertex as PlainVertex, Complex as PlainComplex, Corner as PlainCorner, IsCorner}
-use Rattle.nef_solid.specs.Shows.{Shows}
 use Rattle.nef_solid.specs.Skeleton.{at_vertex, on_edge}
 use Rattle.nef_solid.proofs.FacetNames.{facet-of}
 use Rattle.nef_solid.proofs.Skeletons.{spot-mark}

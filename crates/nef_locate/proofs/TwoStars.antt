@@ -1,7 +1,6 @@
 -- Two stars with opposite axes, along which the labels of a map don't change, are all that shows the map.
-use Rattle.std.proofs.Common.{◌≡◌, ℕ, zero, suc, ◌≤◌, ◌<◌, ℤ, pos, negsuc, ◌+ℤ◌, ◌*ℤ◌, neg_ℤ, arith, refl, ap, sym, ◌∙◌, ⊎_elim, inl, inr, [], ◌∷◌, None, Some, subst}
-use Rattle.std.proofs.lemmas.Int.{ints}
-use Rattle.nef_exact.specs.Signs.{Sign, minus, nought, plus, sign}
+use Rattle.std.proofs.Common.{◌≡◌, ℕ, zero, suc, ℤ, pos, negsuc, ◌+ℤ◌, ◌*ℤ◌, neg_ℤ, arith, refl, ap, sym, ◌∙◌, ⊎_elim, [], ◌∷◌, None, Some, subst}
+use Rattle.nef_exact.specs.Signs.{minus, nought, plus, sign}
 use Rattle.nef_exact.proofs.Ring.{ring, at, num, neg, ◌⊕◌, ◌⊗◌}
 use Rattle.nef_exact.proofs.Order.{by_order}
 use Rattle.nef_space.specs.Vectors.{Vector, IsDirection, IsZero, IsOpposite, SameDirection, cross, dot, opposite, blend}
@@ -21,7 +20,7 @@ use Rattle.nef_sphere.proofs.FlatMaps.{flat-onward, flat-straight}
 use Rattle.nef_sphere.proofs.Labels.{label-direction, label-unique, way-signs}
 use Rattle.nef_sphere.proofs.Vectors.{dot-comb, direction-by, nought-if}
 use Rattle.nef_sphere.proofs.Walk.{cross-direction_left, between-direction}
-use Rattle.nef_build.specs.Raw.{RawMap, Of, IsLabelling, IsWellFormed, ShowsLabels, IsRawOf}
+use Rattle.nef_build.specs.Raw.{Of, IsLabelling, IsWellFormed, ShowsLabels, IsRawOf}
 use Rattle.nef_build.proofs.BuiltLabels.{straight-from}
 use Rattle.nef_build.proofs.Chosen.{chosen, chosen-is, chosen-labelling, map-labels}
 use Rattle.nef_edges.proofs.Rays.{to_opposite}

@@ -1,12 +1,11 @@
 -- A point that has a side has the side's label.
-use Rattle.std.proofs.Common.{◌≡◌, ℕ, ◌≤◌, ℤ, pos, ◌<ℤ◌, arith, ap, refl, sym, ◌∙◌, ⊎_elim, map, subst}
+use Rattle.std.proofs.Common.{◌≡◌, ℕ, arith, ap, sym, ◌∙◌, subst}
 use Rattle.std.proofs.lemmas.Int.{ints}
-use Rattle.nef_exact.specs.Signs.{sign}
 use Rattle.nef_exact.proofs.Order.{sign-plus}
 use Rattle.nef_space.specs.Local.{HasLabel, Germ, FlatDim}
 use Rattle.nef_space.specs.Place.{Place, SamePlace, toward}
 use Rattle.nef_space.specs.Sets.{Set}
-use Rattle.nef_space.specs.Vectors.{Vector, IsDirection, SameDirection, dot, opposite, up}
+use Rattle.nef_space.specs.Vectors.{SameDirection, dot, opposite, up}
 use Rattle.nef_space.specs.declared.label.Label.{Label}
 use Rattle.nef_forms.proofs.Between.{place-toward}
 use Rattle.nef_forms.proofs.Directions.{direction-left}
@@ -14,24 +13,22 @@ use Rattle.nef_near.proofs.Decided.{label_of}
 use Rattle.nef_near.proofs.Flats.{vector-same}
 use Rattle.nef_near.proofs.Germs.{Germ-unique}
 use Rattle.nef_near.proofs.Rays.{Germ-same}
-use Rattle.nef_sphere.specs.Maps.{At, Item, items, item_normal, item_above, item_mark, item_below, Map, MapLabel, seen, NearLabel, Side, above_item, HasSide, Sees}
+use Rattle.nef_sphere.specs.Maps.{At, item_normal, item_above, item_mark, item_below, seen, Side, HasSide}
 use Rattle.nef_sphere.specs.Least.{by_side}
 use Rattle.nef_sphere.proofs.Compare.{way-self}
 use Rattle.nef_sphere.proofs.Lists.{at-one}
 use Rattle.nef_smap.proofs.Lists.{at-map}
-use Rattle.nef_smap.proofs.SideLists.{side-has, get-from_at}
-use Rattle.nef_smap.specs.Maps.{map_of, IsSphereMap, IsSmall}
-use Rattle.nef_solid.specs.Complexes.{Vertex as PlainVertex, Complex as PlainComplex}
-use Rattle.nef_solid.specs.Skeleton.{Spot, at_vertex, on_edge, in_facet, IsSpot, IsSkeletonPoint, HasCorner}
-use Rattle.nef_solid.specs.Belongs.{Towards}
-use Rattle.nef_solid.specs.Rays.{VertexSide, IsAbove, RayDown, HasVolumeSide}
+use Rattle.nef_smap.proofs.SideLists.{get-from_at}
+use Rattle.nef_smap.specs.Maps.{IsSmall}
+use Rattle.nef_solid.specs.Complexes.{Vertex as PlainVertex}
+use Rattle.nef_solid.specs.Skeleton.{Spot, at_vertex, on_edge, in_facet, IsSpot, IsSkeletonPoint}
+use Rattle.nef_solid.specs.Rays.{IsAbove, HasVolumeSide}
 use Rattle.nef_solid.proofs.Ways.{same-itself}
 use Rattle.nef_edges.proofs.Rays.{from_opposite, opposites-same}
 use Rattle.nef_solid.proofs.FacetNames.{facet-of}
-use Rattle.nef_solid.proofs.Skeletons.{FacetAt, spot-toward, free-way, free-flat}
+use Rattle.nef_solid.proofs.Skeletons.{spot-toward, free-way, free-flat}
 use Rattle.nef_complex.specs.declared.complex.Complex.{Complex}
 use Rattle.nef_complex.specs.Complexes.{vertex_of, complex_of, ShowsSet}
-use Rattle.nef_locate.specs.Places.{IsSideOf}
 use Rattle.nef_locate.proofs.Cones.{corner-labels, facet-at}
 use Rattle.nef_locate.proofs.Upward.{up-above}
 

@@ -1,10 +1,4 @@
-use Rattle.std.proofs.Common.{◌≡◌, refl, sym, ap, subst, ◌∙◌, Result, Ok, Err, IfOk}
-use Rattle.nef_space.specs.Limits.{svertex_limit}
-use Rattle.nef_sphere.specs.Maps.{Svertex}
-use Rattle.nef_sphere.proofs.Lists.{at-one}
-use Rattle.nef_geo.specs.Shapes.{vector_of}
-use Rattle.nef_smap.specs.Maps.{map_of, svertex_of}
-use Rattle.nef_locate.specs.Places.{IsEndStar}
+use Rattle.nef_smap.specs.Maps.{svertex_of}
 use Rattle.nef_locate.proofs.Marks.{image-read}
 use Rattle.nef_locate.proofs.EdgeStars.{end-star}
 use Rattle.nef_locate.proofs.edge.end_star.Goals as goal

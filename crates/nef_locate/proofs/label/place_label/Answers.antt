@@ -1,5 +1,4 @@
 use Rattle.std.proofs.Common.{refl, sym, subst}
-use Rattle.nef_sphere.specs.Maps.{At, items}
 use Rattle.nef_smap.specs.Sides.{IsSide, sides_of}
 use Rattle.nef_smap.specs.Maps.{map_of}
 use Rattle.nef_sphere.proofs.Lists.{at-one}

@@ -1,4 +1,4 @@
-use Rattle.std.proofs.Common.{refl, arith, is_some, ap, sym, subst}
+use Rattle.std.proofs.Common.{refl, arith, is_some, ap, subst}
 use mir.Val.{bool_byte}
 use Rattle.nef_sphere.specs.Maps.{Item, items, arc_item, loop_item}
 use Rattle.nef_sphere.proofs.Lists.{at-one}
