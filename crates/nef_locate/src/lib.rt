@@ -9,6 +9,8 @@ mod label;
 mod maps;
 mod place;
 mod plane;
+#[cfg(test)]
+mod tests;
 
 pub use label::place_label;
 pub use maps::place_map;
