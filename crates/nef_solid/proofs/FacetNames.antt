@@ -40,10 +40,10 @@ use Rattle.nef_solid.proofs.FacetSight.{sees-vertex}
 scaled-nought : (k x : ℤ) → pos 0 <ℤ k → x *ℤ k ≡ pos 0 → x ≡ pos 0
 scaled-nought k x h e = ⊎_elim (λ z. z) (λ f. absurd (product-off k x h f (ring (k ∷ x ∷ []) (at 0 ⊗ at 1) (at 1 ⊗ at 0) tt ∙ e))) (nought-or x)
 
-weight : (p : Place) → pos 0 <ℤ pos p.w
+pub weight : (p : Place) → pos 0 <ℤ pos p.w
 weight p = let l = p.proper in omega (arith, ints)
 
-normal-scaled : (n : Vector) (k : ℤ) → pos 0 <ℤ k → IsNormal n → IsNormal (vector (n.x *ℤ k) (n.y *ℤ k) (n.z *ℤ k))
+pub normal-scaled : (n : Vector) (k : ℤ) → pos 0 <ℤ k → IsNormal n → IsNormal (vector (n.x *ℤ k) (n.y *ℤ k) (n.z *ℤ k))
 normal-scaled n k h N = record {
   first = mul_nonneg n.x k N.first (omega (arith, ints));
   second = λ e. mul_nonneg n.y k (N.second (scaled-nought k n.x h e)) (omega (arith, ints));
@@ -51,7 +51,7 @@ normal-scaled n k h N = record {
 }
 
 -- its directions are those of the normal
-through-level : (n d : Vector) (p : Place) → (dot n d ≡ pos 0) ↔ (slope (plane_through n p) d ≡ pos 0)
+pub through-level : (n d : Vector) (p : Place) → (dot n d ≡ pos 0) ↔ (slope (plane_through n p) d ≡ pos 0)
 through-level n d p = (
   λ e. through-slope n p d ∙ ap (λ r. pos p.w *ℤ r) e ∙ ring (pos p.w ∷ []) (at 0 ⊗ num (pos 0)) (num (pos 0)) tt,
   λ e. scaled-nought (pos p.w) (dot n d) (weight p) (ring (dot n d ∷ pos p.w ∷ []) (at 0 ⊗ at 1) (at 1 ⊗ at 0) tt ∙ sym (through-slope n p d) ∙ e),
@@ -61,7 +61,7 @@ flats-through : (s : Set) (y p : Place) (n : Vector) → FlatAre s y n → (d : 
 flats-through s y p n flat d = let l = through-level n d p in let f = flat d in ((λ g. l.0 (f.0 g)), (λ e. f.1 (l.1 e)))
 
 -- the axis of a plane is a direction of it
-axis-in : (n : Vector) → IsDirection n → IsDirection (plane_axis n) × (dot n (plane_axis n) ≡ pos 0)
+pub axis-in : (n : Vector) → IsDirection n → IsDirection (plane_axis n) × (dot n (plane_axis n) ≡ pos 0)
 axis-in n i = by (int_eq n.z (pos 0)) (int_eq n.y (pos 0)) (Decides-int_eq n.z (pos 0)) (Decides-int_eq n.y (pos 0))
   where
     level-y : dot n (beside_y n) ≡ pos 0

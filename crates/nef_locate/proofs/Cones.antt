@@ -1,0 +1,78 @@
+-- The labels and the germs of a point by its place.
+use Rattle.std.proofs.Common.{◌≡◌, pos, ap, sym, subst, ◌∙◌}
+use Rattle.nef_exact.specs.Signs.{sign}
+use Rattle.nef_space.specs.Local.{HasLabel, Germ, FlatDim}
+use Rattle.nef_space.specs.Place.{Place, SamePlace, toward}
+use Rattle.nef_space.specs.Sets.{Set}
+use Rattle.nef_space.specs.Vectors.{Vector, IsDirection, dot, plane_axis}
+use Rattle.nef_space.specs.declared.label.Label.{Label}
+use Rattle.nef_near.specs.Cells.{carriers}
+use Rattle.nef_near.proofs.Germs.{Label-cells}
+use Rattle.nef_near.proofs.Rays.{signs-same}
+use Rattle.nef_near.proofs.Alike.{germs-by_cell, flat-germ}
+use Rattle.nef_near.proofs.Even.{span-3}
+use Rattle.nef_locate.specs.Places.{IsPlaneOf}
+use Rattle.nef_sphere.specs.Maps.{Loop, Item, item_normal, item_above, item_mark, item_below, Map, MapLabel, Valid}
+use Rattle.nef_sphere.specs.Least.{by_side, Cone}
+use Rattle.nef_sphere.proofs.Vectors.{normal-direction}
+use Rattle.nef_sphere.proofs.Forms.{on-level}
+use Rattle.nef_solid.specs.Complexes.{Vertex, Complex, Corner, IsCorner}
+use Rattle.nef_solid.specs.Shows.{Shows}
+use Rattle.nef_solid.specs.Skeleton.{item_plane, HasCorner}
+use Rattle.nef_solid.proofs.FacetAngles.{through-at}
+use Rattle.nef_solid.proofs.FacetPoints.{facet-point}
+use Rattle.nef_solid.proofs.Skeletons.{FacetAt}
+use Rattle.nef_solid.proofs.FacetEnds.{facet-from_behind}
+use Rattle.nef_solid.proofs.FacetNames.{weight, normal-scaled, through-level, axis-in}
+
+-- a point that is the same has the same cone
+pub cone-same : (M : Map) (s : Set) (p q : Place) → SamePlace p q → Cone M s p → Cone M s q
+cone-same M s p q e K =
+    let same = signs-same (carriers s) p q e in
+    record {
+      valid = K.valid;
+      mark = Label-cells s M.mark p q same K.mark;
+      labels = λ d f. let l = K.labels d f in (l.0, l.1, (germs-by_cell s p q same d l.0).0 l.2);
+    }
+
+-- the law of facet points
+pub facet-at : (s : Set) (C : Complex) → Shows s C → FacetAt s C
+facet-at s C S k v x y c F = let p = facet-point s C S k v x y c F in (p.dim, p.flat, p.label, p.sided)
+
+-- where all directions are flat there is one label
+pub cone-flat : (M : Map) (s : Set) (y : Place) (l : Label) → Valid M → M.mark ≡ l → ((d : Vector) → IsDirection d → MapLabel M d l) → HasLabel s y l → FlatDim s y 3 → Cone M s y
+cone-flat M s y l valid mark all h f = record {
+  valid = valid;
+  mark = subst (HasLabel s y) (sym mark) h;
+  labels = λ d i. (l, all d i, flat-germ s y d l (let g = f.0 in span-3 s y g.0 g.1 g.2 d g.3 g.4 g.5 g.6) h);
+}
+
+-- the item of the corner has the labels of the point
+pub corner-labels : (s : Set) (C : Complex) → Shows s C → (y : Place) (k : Corner) (v : Vertex) (x : Item) → HasCorner C y k → IsCorner C k v x
+    → HasLabel s y (item_mark x) × ((d : Vector) → Germ s y d (by_side (item_above x) (item_mark x) (item_below x) (sign (dot (item_normal x) d))))
+corner-labels s C S y k v x H c =
+    let n = item_normal H.item in
+    let p = H.vertex.point in
+    let N = (S.cones H.beside.vertex H.vertex H.is_beside.vertex).valid.shaped.normals H.beside.item H.item H.is_beside.item in
+    let axis = axis-in n (normal-direction n N) in
+    let r = H.named in
+    (facet-from_behind s C S (item_plane H.vertex H.item) y (normal-scaled n (pos p.w) (weight p) N) (through-at n p y ∙ on-level H.vertex.map H.item (toward p y) H.facet_point.on_item)
+    (plane_axis n) axis.0 ((through-level n (plane_axis n) p).0 axis.1) H.facet_point.off_edges r.0 k r.1 r.2).1 v x c
+
+-- a map with the labels of the corner's item is one of the point
+pub cone-of_corner : (M : Map) (s : Set) (C : Complex) → Shows s C → (y : Place) (k : Corner) (v : Vertex) (x : Item) → HasCorner C y k → IsCorner C k v x → (l : Loop) → IsPlaneOf x l
+    → Valid M → M.mark ≡ l.mark → ((d : Vector) → IsDirection d → MapLabel M d (by_side l.above l.mark l.below (sign (dot l.normal d)))) → Cone M s y
+cone-of_corner M s C S y k v x H c l P valid mark all =
+    let g = corner-labels s C S y k v x H c in
+    record {
+      valid = valid;
+      mark = subst (HasLabel s y) (P.mark ∙ sym mark) g.0;
+      labels = λ d i. (by_side l.above l.mark l.below (sign (dot l.normal d)), all d i, subst (Germ s y d) (same d) (g.1 d));
+    }
+  where
+    same : (d : Vector) → by_side (item_above x) (item_mark x) (item_below x) (sign (dot (item_normal x) d)) ≡ by_side l.above l.mark l.below (sign (dot l.normal d))
+    same d =
+        ap (λ r. by_side r (item_mark x) (item_below x) (sign (dot (item_normal x) d))) P.above
+        ∙ ap (λ r. by_side l.above r (item_below x) (sign (dot (item_normal x) d))) P.mark
+        ∙ ap (λ r. by_side l.above l.mark r (sign (dot (item_normal x) d))) P.below
+        ∙ ap (λ r. by_side l.above l.mark l.below (sign (dot r d))) P.normal

@@ -1,0 +1,131 @@
+-- What is built of the stars at both ends of an edge is the map of each of its points.
+use Rattle.std.proofs.Common.{◌≡◌, ℕ, pos, neg_ℤ, arith, sym, ◌∙◌, [], ◌∷◌, None, inl, inr, subst}
+use Rattle.std.proofs.lemmas.Int.{ints}
+use Rattle.nef_exact.proofs.Order.{by_order}
+use Rattle.nef_space.specs.Local.{HasLabel}
+use Rattle.nef_space.specs.Place.{Place, toward, IsAhead, IsBetween}
+use Rattle.nef_space.specs.Sets.{Set}
+use Rattle.nef_space.specs.Vectors.{Vector, IsDirection, IsNormal, IsOpposite, SameDirection, opposite}
+use Rattle.nef_near.proofs.Between.{between-turned}
+use Rattle.nef_near.proofs.Flats.{vector-same}
+use Rattle.nef_forms.proofs.Directions.{direction-left}
+use Rattle.nef_cones.proofs.Cones.{point-map}
+use Rattle.nef_sphere.specs.Vectors.{VectorBelow}
+use Rattle.nef_sphere.specs.Maps.{At, Svertex, Map, MapLabel, Valid}
+use Rattle.nef_sphere.specs.Kinds.{FlatMap}
+use Rattle.nef_sphere.specs.Least.{Cone}
+use Rattle.nef_sphere.specs.Stars.{Star, StarShows}
+use Rattle.nef_sphere.proofs.Compare.{SameDirection-turned}
+use Rattle.nef_sphere.proofs.Lists.{at-one}
+use Rattle.nef_sphere.proofs.NearItems.{opposite-turned}
+use Rattle.nef_build.specs.Raw.{RawMap, IsWellFormed, IsRawOf}
+use Rattle.nef_solid.specs.Complexes.{Vertex, Edge, Complex, IsEdge}
+use Rattle.nef_solid.specs.Shows.{Shows}
+use Rattle.nef_solid.proofs.Cones.{label-germ}
+use Rattle.nef_solid.proofs.Edges.{IsAlongSvertex, along-svertex, near_point, near-between}
+use Rattle.nef_edges.proofs.Rays.{to_opposite, from_opposite, opposites-same, normal-kept, ahead-normal}
+use Rattle.nef_locate.proofs.TwoStars.{two-raw, labels_of, label-is}
+use Rattle.nef_locate.proofs.EdgeEnds.{end-shows, flat-end}
+
+-- the opposite of a normal is the lesser one
+opposite-below : (d e : Vector) → IsNormal d → IsOpposite d e → VectorBelow e d
+opposite-below d e N O = by (normal-kept d (opposite e) (to_opposite d e O) N)
+  where
+    by : IsNormal (opposite e) → VectorBelow e d
+    by K = by_order e.x d.x
+        (λ l. inl l)
+        (λ x. let dx : d.x ≡ pos 0 = (let g = N.first in let h = K.first in omega (arith, ints)) in let ex : neg_ℤ e.x ≡ pos 0 = omega (arith, ints) in
+          by_order e.y d.y
+          (λ l. inr (inl (x, l)))
+          (λ y. let dy : d.y ≡ pos 0 = (let g = N.second dx in let h = K.second ex in omega (arith, ints)) in let ey : neg_ℤ e.y ≡ pos 0 = omega (arith, ints) in
+            inr (inr (x, y, (let g = N.third dx dy in let h = K.third ex ey in omega (arith, ints)))))
+          (λ l. absurd (let g = N.second dx in let h = K.second ex in omega (arith, ints))))
+        (λ l. absurd (let g = N.first in let h = K.first in omega (arith, ints)))
+
+-- the svertices at both ends of an edge between these vertices
+pub record Ends (C : Complex) (e : Edge) (v w : Vertex) : Type 0 where
+  pub low_end : Svertex
+  pub high_end : Svertex
+  pub is_low : At C.vertices e.low v
+  pub is_high : At C.vertices e.high w
+  pub leaves : At v.map.svertices e.low_svertex low_end
+  pub arrives : At w.map.svertices e.high_svertex high_end
+  pub ahead : IsAhead v.point low_end.way w.point
+  pub first : (k : ℕ) (x : Vertex) → At C.vertices k x → IsBetween v.point x.point w.point → ⊥
+  pub back : IsOpposite low_end.way high_end.way
+  pub mark : e.mark ≡ low_end.mark
+  pub normal : IsNormal low_end.way
+
+pub ends-of : (s : Set) (C : Complex) → Shows s C → (e : Edge) → IsEdge C.vertices e → (v w : Vertex) → At C.vertices e.low v → At C.vertices e.high w → Ends C e v w
+ends-of s C S e E v w a b =
+    subst (λ (x : Vertex). Ends C e x w) (at-one C.vertices e.low E.low_vertex v E.is_low a) (subst (Ends C e E.low_vertex) (at-one C.vertices e.high E.high_vertex w E.is_high b) (record {
+      low_end = E.low_end;
+      high_end = E.high_end;
+      is_low = E.is_low;
+      is_high = E.is_high;
+      leaves = E.leaves;
+      arrives = E.arrives;
+      ahead = E.ahead;
+      first = E.first;
+      back = E.back;
+      mark = E.mark;
+      normal = ahead-normal E.low_vertex.point E.high_vertex.point E.low_end.way (S.ordered e.low e.high E.low_vertex E.high_vertex E.upward E.is_low E.is_high) E.ahead;
+    }))
+
+module _ (s : Set) (C : Complex) (S : Shows s C) (e : Edge) (v w : Vertex) (D : Ends C e v w) where
+  low-along : (y : Place) → IsBetween v.point y w.point → IsAlongSvertex s v D.low_end D.low_end.mark y
+  low-along y b = along-svertex s C S e.low e.low_svertex v D.low_end D.is_low D.leaves w.point y D.ahead b D.first
+
+  -- from the higher end the edge runs the other way
+  back-ahead : SameDirection (toward w.point v.point) D.high_end.way
+  back-ahead =
+      let p = w.point in let q = v.point in
+      let turned : opposite (toward p q) ≡ toward q p = vector-same (opposite (toward p q)) (toward q p) (omega (arith, ints)) (omega (arith, ints)) (omega (arith, ints)) in
+      opposites-same D.low_end.way (toward p q) D.high_end.way
+      (from_opposite D.low_end.way (toward p q) (subst (SameDirection D.low_end.way) (sym turned) (SameDirection-turned (toward q p) D.low_end.way D.ahead))) D.back
+
+  high-along : (y : Place) → IsBetween v.point y w.point → IsAlongSvertex s w D.high_end D.high_end.mark y
+  high-along y b = along-svertex s C S e.high e.high_svertex w D.high_end D.is_high D.arrives v.point y back-ahead (between-turned v.point w.point y b)
+      (λ k x a z. D.first k x a (between-turned w.point v.point x.point z))
+
+  module _ (t h : Star) (T : IsWellFormed t) (H : IsWellFormed h) (low : t.axis ≡ D.low_end.way) (high : h.axis ≡ D.high_end.way) (A : StarShows t v.map) (B : StarShows h w.map) where
+    abbrev raw : RawMap
+    raw = record { mark = e.mark; stars = h ∷ t ∷ []; loop = None; face = None }
+
+    below : VectorBelow h.axis t.axis
+    below = subst (λ (d : Vector). VectorBelow d t.axis) (sym high) (subst (VectorBelow D.high_end.way) (sym low) (opposite-below D.low_end.way D.high_end.way D.normal D.back))
+
+    against : IsOpposite h.axis t.axis
+    against = subst (λ (d : Vector). IsOpposite d t.axis) (sym high) (subst (IsOpposite D.high_end.way) (sym low) (opposite-turned D.low_end.way D.high_end.way D.back))
+
+    pub ends-raw : (y : Place) → IsBetween v.point y w.point → (N : Map) (K : Cone N s y) → IsRawOf raw (labels_of N K.valid)
+    ends-raw y b N K =
+        let V = (S.cones e.low v D.is_low).valid in
+        let W = (S.cones e.high w D.is_high).valid in
+        let l = low-along y b in
+        let k = high-along y b in
+        two-raw N K.valid e.mark h t H T
+        (end-shows s y N K w W e.high_svertex D.high_end D.arrives k h high B)
+        (end-shows s y N K v V e.low_svertex D.low_end D.leaves l t low A)
+        (subst (FlatMap N) (sym high) (flat-end s y N K w W e.high_svertex D.high_end D.arrives k))
+        (subst (FlatMap N) (sym low) (flat-end s y N K v V e.low_svertex D.low_end D.leaves l))
+        below against
+
+    -- what has the labels of the stars is a map of each point of the edge
+    pub ends-cone : (y : Place) → IsBetween v.point y w.point → (M : Map) → Valid M → M.mark ≡ e.mark
+        → ((N : Map) (V : Valid N) → IsRawOf raw (labels_of N V) → (d : Vector) → IsDirection d → MapLabel M d (labels_of N V d)) → Cone M s y
+    ends-cone y b M valid mark built =
+        let P = point-map s y in
+        let N = P.0 in let K = P.1 in
+        record {
+          valid = valid;
+          mark = subst (HasLabel s y) (sym (mark ∙ D.mark)) (low-along y b).2;
+          labels = λ d i. (labels_of N K.valid d, built N K.valid (ends-raw y b N K) d i, label-germ N s y K d (labels_of N K.valid d) (label-is N K.valid d i));
+        }
+
+  -- there is a point on the edge
+  abbrev pub inner : Place
+  inner = near_point s v.point w.point
+
+  pub inner-between : IsBetween v.point inner w.point
+  inner-between = near-between s v.point w.point (direction-left (toward v.point w.point) D.low_end.way D.ahead)

@@ -1,0 +1,56 @@
+-- The vertices, edges and items that a place names, and that their labels are those of its points.
+use Rattle.std.proofs.Common.{◌≡◌, ℕ, ◌<◌, List, map, length, Some, slice_get, sym, ap, subst, ◌∙◌}
+use Rattle.nef_space.specs.Local.{HasLabel}
+use Rattle.nef_space.specs.Place.{Place as PlainPlace}
+use Rattle.nef_space.specs.Sets.{Set}
+use Rattle.nef_space.specs.declared.label.Label.{Label}
+use Rattle.nef_sphere.specs.Maps.{At, Item, Side}
+use Rattle.nef_sphere.proofs.Lists.{at-one}
+use Rattle.nef_smap.proofs.Lists.{map-at, at-map, at-within}
+use Rattle.nef_smap.proofs.SideLists.{at-from_get, side-has}
+use Rattle.nef_smap.specs.Sides.{LabelledSide, IsSide, sides_of}
+use Rattle.nef_solid.specs.Complexes.{Vertex as PlainVertex, Complex as PlainComplex, Corner as PlainCorner, IsCorner}
+use Rattle.nef_solid.specs.Skeleton.{at_vertex, on_edge}
+use Rattle.nef_solid.proofs.FacetNames.{facet-of}
+use Rattle.nef_solid.proofs.Skeletons.{spot-mark}
+use Rattle.nef_complex.specs.declared.complex.Vertex.{Vertex}
+use Rattle.nef_complex.specs.declared.complex.Complex.{Complex}
+use Rattle.nef_complex.specs.Complexes.{vertex_of, complex_of, corner_of, ShowsSet}
+use Rattle.nef_locate.specs.declared.place.Place.{Place}
+use Rattle.nef_locate.specs.declared.place.Place.TheVariants as place
+use Rattle.nef_locate.specs.Places.{IsPlaceAt, IsPlaceLabel}
+use Rattle.nef_locate.proofs.Cones.{corner-labels, facet-at}
+use Rattle.nef_locate.proofs.VolumeLabels.{side-label}
+use Rattle.nef_solid.specs.Rays.{HasVolumeSide}
+
+-- ---- lists
+pub image-within : {A B : Type 0} (f : A → B) (xs : List A) (k : ℕ) (y : B) → At (map f xs) k y → k < length xs
+image-within f xs k y a = let x = at-map f xs k y a in at-within xs k x.0 x.1
+
+pub image-read : {A B : Type 0} (f : A → B) (xs : List A) (k : ℕ) (x : A) → slice_get xs k ≡ Some x → At (map f xs) k (f x)
+image-read f xs k x e = map-at f xs k x (at-from_get xs k x e)
+
+pub side-within : {X : Type 0} (xs : List X) (k : ℕ) (x : X) → slice_get xs k ≡ Some x → k < length xs
+side-within xs k x e = at-within xs k x (at-from_get xs k x e)
+
+-- the vertex of a corner is the one that was read
+pub corner-read : (vs : List Vertex) (C : PlainComplex) (k : PlainCorner) (u : Vertex) (x : Item) → C.vertices ≡ map vertex_of vs → slice_get vs k.vertex ≡ Some u
+    → (v : PlainVertex) → IsCorner C k v x → IsCorner C k (vertex_of u) x
+corner-read vs C k u x same e v c =
+    let f = at-one C.vertices k.vertex v (vertex_of u) c.vertex (subst (λ (ws : List PlainVertex). At ws k.vertex (vertex_of u)) (sym same) (image-read vertex_of vs k.vertex u e)) in
+    subst (λ (w : PlainVertex). IsCorner C k w x) f c
+
+-- ---- labels
+one-side : (x z : LabelledSide) → Some x ≡ Some z → x.0 ≡ z.0
+one-side x z e = let f : x ≡ z = cc in ap (λ (q : LabelledSide). q.0) f
+
+pub label-holds : (c : Complex) (p : Place) (l : Label) → IsPlaceLabel (complex_of c) p l → (s : Set) (y : PlainPlace) → ShowsSet s c → IsPlaceAt (complex_of c) y p → HasLabel s y l
+label-holds c (place.Vertex k) l m s y S a = spot-mark s (complex_of c) S.shows (facet-at s (complex_of c) S.shows) (facet-of s (complex_of c) S.shows) (at_vertex k) y a l m
+label-holds c (place.OnEdge k) l m s y S a = spot-mark s (complex_of c) S.shows (facet-at s (complex_of c) S.shows) (facet-of s (complex_of c) S.shows) (on_edge k) y a l m
+label-holds c (place.InFacet k) l (v, x, i, e) s y S a = subst (HasLabel s y) e (corner-labels s (complex_of c) S.shows y (corner_of k) v x a i).0
+label-holds c (place.InVolume i j) l (p, (v, b, m)) s y S (o, r, (u, d, n), H) =
+    let e = at-one (complex_of c).vertices i u v d b in
+    let k = subst (λ (w : PlainVertex). IsSide w.map j o r) e n in
+    let f : slice_get (sides_of v.map) j ≡ Some (p, l) = m in
+    let g = one-side (o, r) (p, l) (sym k ∙ f) in
+    side-label s c S i p l v b (side-has v.map j p l m) y (subst (λ (q : Side). HasVolumeSide (complex_of c) y (record { vertex = i; side = q })) g H)

@@ -1,0 +1,82 @@
+-- A point that has a side has the side's label.
+use Rattle.std.proofs.Common.{◌≡◌, ℕ, arith, ap, sym, ◌∙◌, subst}
+use Rattle.std.proofs.lemmas.Int.{ints}
+use Rattle.nef_exact.proofs.Order.{sign-plus}
+use Rattle.nef_space.specs.Local.{HasLabel, Germ, FlatDim}
+use Rattle.nef_space.specs.Place.{Place, SamePlace, toward}
+use Rattle.nef_space.specs.Sets.{Set}
+use Rattle.nef_space.specs.Vectors.{SameDirection, dot, opposite, up}
+use Rattle.nef_space.specs.declared.label.Label.{Label}
+use Rattle.nef_forms.proofs.Between.{place-toward}
+use Rattle.nef_forms.proofs.Directions.{direction-left}
+use Rattle.nef_near.proofs.Decided.{label_of}
+use Rattle.nef_near.proofs.Flats.{vector-same}
+use Rattle.nef_near.proofs.Germs.{Germ-unique}
+use Rattle.nef_near.proofs.Rays.{Germ-same}
+use Rattle.nef_sphere.specs.Maps.{At, item_normal, item_above, item_mark, item_below, seen, Side, HasSide}
+use Rattle.nef_sphere.specs.Least.{by_side}
+use Rattle.nef_sphere.proofs.Compare.{way-self}
+use Rattle.nef_sphere.proofs.Lists.{at-one}
+use Rattle.nef_smap.proofs.Lists.{at-map}
+use Rattle.nef_smap.proofs.SideLists.{get-from_at}
+use Rattle.nef_smap.specs.Maps.{IsSmall}
+use Rattle.nef_solid.specs.Complexes.{Vertex as PlainVertex}
+use Rattle.nef_solid.specs.Skeleton.{Spot, at_vertex, on_edge, in_facet, IsSpot, IsSkeletonPoint}
+use Rattle.nef_solid.specs.Rays.{IsAbove, HasVolumeSide}
+use Rattle.nef_solid.proofs.Ways.{same-itself}
+use Rattle.nef_edges.proofs.Rays.{from_opposite, opposites-same}
+use Rattle.nef_solid.proofs.FacetNames.{facet-of}
+use Rattle.nef_solid.proofs.Skeletons.{spot-toward, free-way, free-flat}
+use Rattle.nef_complex.specs.declared.complex.Complex.{Complex}
+use Rattle.nef_complex.specs.Complexes.{vertex_of, complex_of, ShowsSet}
+use Rattle.nef_locate.proofs.Cones.{corner-labels, facet-at}
+use Rattle.nef_locate.proofs.Upward.{up-above}
+
+module _ (s : Set) (c : Complex) (S : ShowsSet s c) where
+  -- off the skeleton all directions are flat
+  pub volume-flat : (y : Place) → (IsSkeletonPoint (complex_of c) y → ⊥) → FlatDim s y 3
+  volume-flat y off = free-flat s (complex_of c) S.shows (facet-at s (complex_of c) S.shows) (facet-of s (complex_of c) S.shows) y off
+
+  -- the maps of the vertices are those of the program, whose numbers are small
+  small : (i : ℕ) (v : PlainVertex) → At (complex_of c).vertices i v → IsSmall v.map
+  small i v a =
+      let u = at-map vertex_of c.vertices i v a in
+      subst (λ (w : PlainVertex). IsSmall w.map) u.2 (S.maps i u.0 (get-from_at c.vertices i u.0 u.1)).sphere_map.small
+
+  module _ (i : ℕ) (o : Side) (l : Label) (v : PlainVertex) (a : At (complex_of c).vertices i v) (has : HasSide v.map o l) where
+    -- the label above the point where the ray ends
+    above : (z : Place) (t : Spot) → IsSpot (complex_of c) t z → IsAbove (complex_of c) z t (record { vertex = i; side = o }) → Germ s z up l
+    above z (at_vertex k) on (u, b, e, sees) =
+        let f = at-one (complex_of c).vertices k v u (subst (λ (j : ℕ). At (complex_of c).vertices j v) e a) b in
+        let h = subst (λ (w : PlainVertex). HasSide w.map o l) f has in
+        spot-toward s (complex_of c) S.shows (facet-at s (complex_of c) S.shows) (facet-of s (complex_of c) S.shows) (at_vertex k) z on up l
+        (u, b, seen (record { side = o; has = h; sees = sees }))
+    above z (on_edge k) on (g, u, d, b, e, (n, sees)) =
+        let f = at-one (complex_of c).vertices g.low v u (subst (λ (j : ℕ). At (complex_of c).vertices j v) e a) b in
+        let h = subst (λ (w : PlainVertex). HasSide w.map o l) f has in
+        spot-toward s (complex_of c) S.shows (facet-at s (complex_of c) S.shows) (facet-of s (complex_of c) S.shows) (on_edge k) z on up l
+        (g, u, d, b, (n, λ m q. seen (record { side = o; has = h; sees = sees m q })))
+    above z (in_facet j) on (k, H, e, f) =
+        let h = subst (λ (p : Side). HasSide v.map p l) f has in
+        let b = subst (λ (q : ℕ). At (complex_of c).vertices q v) e a in
+        let x = h.0 in
+        let N = (S.shows.cones i v a).valid.shaped.normals k.item x h.1 in
+        let g = (corner-labels s (complex_of c) S.shows z k v x H (record { vertex = b; item = h.1 })).1 up in
+        let p = sign-plus (dot (item_normal x) up) (up-above (item_normal x) N ((small i v a).normals k.item x h.1)) in
+        subst (Germ s z up) (ap (by_side (item_above x) (item_mark x) (item_below x)) p ∙ h.2) g
+
+    pub side-label : (y : Place) → HasVolumeSide (complex_of c) y (record { vertex = i; side = o }) → HasLabel s y l
+    side-label y (off, R) =
+        let z = R.place in
+        let m = label_of s y in
+        let apart : SamePlace y z → ⊥ = λ e. direction-left (toward y z) (opposite up) R.ahead (place-toward y z e) in
+        let g = free-way s (complex_of c) S.shows (facet-at s (complex_of c) S.shows) (facet-of s (complex_of c) S.shows) y z m.0 off apart R.first m.1 in
+        let h = Germ-same s z z up (toward z y) l (same-itself z) upward (above z R.spot R.is_spot R.above) in
+        subst (HasLabel s y) (Germ-unique s z (toward z y) m.0 l g h) m.1
+      where
+        upward : SameDirection up (toward R.place y)
+        upward =
+            let d = toward y R.place in let e = toward R.place y in
+            let turned : opposite e ≡ d = vector-same (opposite e) d (omega (arith, ints)) (omega (arith, ints)) (omega (arith, ints)) in
+            let back = from_opposite d e (subst (SameDirection d) (sym turned) (way-self d (direction-left d (opposite up) R.ahead))) in
+            opposites-same d up e (from_opposite d up R.ahead) back

@@ -1,0 +1,24 @@
+use Rattle.std.proofs.Common.{◌≡◌, sym, subst}
+use Rattle.std.proofs.lemmas.Result.{IfOk-weaker}
+use Rattle.nef_sphere.specs.Least.{Cone}
+use Rattle.nef_sphere.proofs.Lists.{at-one}
+use Rattle.nef_smap.specs.declared.map.SphereMap.{SphereMap}
+use Rattle.nef_smap.specs.Maps.{map_of}
+use Rattle.nef_solid.specs.Complexes.{Vertex as PlainVertex}
+use Rattle.nef_complex.specs.Complexes.{vertex_of, complex_of}
+use Rattle.nef_locate.proofs.Marks.{image-within, image-read}
+use Rattle.nef_locate.proofs.Cones.{cone-same}
+use Rattle.nef_locate.proofs.maps.vertex_map.Goals as goal
+
+pub at-requires : goal.at-requires
+at-requires c = record { within = image-within vertex_of c.args.c.now.vertices c.args.number c.requires.place.0 c.requires.place.1 }
+
+pub returns-clause-cone : goal.returns-clause-cone
+returns-clause-cone c =
+    let u = c.at.result.now in
+    IfOk-weaker c.copy.result (λ m. m ≡ u.map) _
+    (λ m w s y S p.
+      let e = at-one (complex_of c.args.c.now).vertices c.args.number p.0 (vertex_of u) p.1 (image-read vertex_of c.args.c.now.vertices c.args.number u c.at.ensures.element) in
+      let K = subst (λ (v : PlainVertex). Cone v.map s p.0.point) e (S.shows.cones c.args.number p.0 p.1) in
+      cone-same (map_of m) s p.0.point y p.2 (subst (λ (n : SphereMap). Cone (map_of n) s p.0.point) (sym w) K))
+    c.copy.ensures.same

@@ -1,0 +1,57 @@
+-- Places of a complex, the points that lie there, and their labels.
+use Rattle.std.specs.Prelude.{◌≡◌, ℕ}
+use Rattle.nef_space.specs.Place.{Place as PlainPlace}
+use Rattle.nef_space.specs.declared.label.Label.{Label}
+use Rattle.nef_sphere.specs.Maps.{At, Svertex, Loop, Item, item_normal, item_above, item_mark, item_below, Side}
+use Rattle.nef_geo.specs.Shapes.{vector_of}
+use Rattle.nef_sphere.specs.Stars.{StarShows}
+use Rattle.nef_star.specs.declared.star.Star.{Star}
+use Rattle.nef_star.specs.Stars.{star_of, IsStar}
+use Rattle.nef_smap.specs.declared.map.SphereMap.{SphereMap}
+use Rattle.nef_smap.specs.Maps.{map_of}
+use Rattle.nef_smap.specs.Sides.{IsSide}
+use Rattle.nef_solid.specs.Complexes.{Vertex, Edge, Complex, IsCorner}
+use Rattle.nef_solid.specs.Skeleton.{IsVertexPoint, IsEdgePoint, at_vertex, on_edge, in_facet, HasCorner}
+use Rattle.nef_solid.specs.Belongs.{SpotMark}
+use Rattle.nef_solid.specs.Rays.{HasVolumeSide}
+use Rattle.nef_complex.specs.Complexes.{corner_of}
+use Rattle.nef_locate.specs.declared.place.Place.{Place}
+use Rattle.nef_locate.specs.declared.place.Place.TheVariants as place
+
+-- side number j of vertex i is this side, with this label
+abbrev pub IsSideOf : Complex → ℕ → ℕ → Side → Label → Type 0
+IsSideOf C i j o l = (v : Vertex) × At C.vertices i v × IsSide v.map j o l
+
+-- the complex has the vertex, the edge, the item or the side
+abbrev pub IsPlaceIn : Complex → Place → Type 0
+IsPlaceIn C (place.Vertex k) = (v : Vertex) × At C.vertices k v
+IsPlaceIn C (place.OnEdge k) = (e : Edge) × At C.edges k e
+IsPlaceIn C (place.InFacet k) = (v : Vertex) × (x : Item) × IsCorner C (corner_of k) v x
+IsPlaceIn C (place.InVolume i j) = (o : Side) × (l : Label) × IsSideOf C i j o l
+
+-- the point y lies there: it is the vertex, lies on the edge, has the corner, or has the side
+abbrev pub IsPlaceAt : Complex → PlainPlace → Place → Type 0
+IsPlaceAt C y (place.Vertex k) = IsVertexPoint C k y
+IsPlaceAt C y (place.OnEdge k) = IsEdgePoint C k y
+IsPlaceAt C y (place.InFacet k) = HasCorner C y (corner_of k)
+IsPlaceAt C y (place.InVolume i j) = (o : Side) × (l : Label) × IsSideOf C i j o l × HasVolumeSide C y (record { vertex = i; side = o })
+
+-- the mark of the vertex, edge or item, or the label of the side
+abbrev pub IsPlaceLabel : Complex → Place → Label → Type 0
+IsPlaceLabel C (place.Vertex k) l = SpotMark C (at_vertex k) l
+IsPlaceLabel C (place.OnEdge k) l = SpotMark C (on_edge k) l
+IsPlaceLabel C (place.InFacet k) l = SpotMark C (in_facet (corner_of k)) l
+IsPlaceLabel C (place.InVolume i j) l = (o : Side) × IsSideOf C i j o l
+
+-- the plane of the item, with its labels
+pub record IsPlaneOf (x : Item) (l : Loop) : Type 0 where
+  pub normal : item_normal x ≡ l.normal
+  pub above : item_above x ≡ l.above
+  pub mark : item_mark x ≡ l.mark
+  pub below : item_below x ≡ l.below
+
+-- the star of the svertex with this number, which shows the map
+pub record IsEndStar (m : SphereMap) (k : ℕ) (t : Star) : Type 0 where
+  pub star : IsStar t
+  pub axis : (u : Svertex) → At (map_of m).svertices k u → vector_of t.axis ≡ u.way
+  pub shows : StarShows (star_of t) (map_of m)

@@ -1,0 +1,18 @@
+//! Where a point lies in a complex, its label, and the least map of the set there.
+//!
+//! A point is a vertex, lies on an edge, in a facet, or in a volume. Source: Granados et al., "Boolean Operations on 3D
+//! Selective Nef Complexes", ESA 2003.
+#![tactic(auto)]
+
+mod edge;
+mod label;
+mod maps;
+mod place;
+mod plane;
+#[cfg(test)]
+mod tests;
+
+pub use label::place_label;
+pub use maps::place_map;
+pub use place::Place;
+pub use std::alloc::AllocError as OutOfMemory;
