@@ -35,11 +35,11 @@ opposite-below d e N O = by (normal-kept d (opposite e) (to_opposite d e O) N)
     by K = by_order e.x d.x
         (λ l. inl l)
         (λ x. let dx : d.x ≡ pos 0 = (let g = N.first in let h = K.first in omega (arith, ints)) in let ex : neg_ℤ e.x ≡ pos 0 = omega (arith, ints) in
-          by_order e.y d.y
-          (λ l. inr (inl (x, l)))
-          (λ y. let dy : d.y ≡ pos 0 = (let g = N.second dx in let h = K.second ex in omega (arith, ints)) in let ey : neg_ℤ e.y ≡ pos 0 = omega (arith, ints) in
-            inr (inr (x, y, (let g = N.third dx dy in let h = K.third ex ey in omega (arith, ints)))))
-          (λ l. absurd (let g = N.second dx in let h = K.second ex in omega (arith, ints))))
+        by_order e.y d.y
+        (λ l. inr (inl (x, l)))
+        (λ y. let dy : d.y ≡ pos 0 = (let g = N.second dx in let h = K.second ex in omega (arith, ints)) in let ey : neg_ℤ e.y ≡ pos 0 = omega (arith, ints) in
+        inr (inr (x, y, (let g = N.third dx dy in let h = K.third ex ey in omega (arith, ints)))))
+        (λ l. absurd (let g = N.second dx in let h = K.second ex in omega (arith, ints))))
         (λ l. absurd (let g = N.first in let h = K.first in omega (arith, ints)))
 
 -- the svertices at both ends of an edge between these vertices

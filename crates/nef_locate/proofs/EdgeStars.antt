@@ -73,11 +73,14 @@ module _ (s : Set) (c : Complex) (S : ShowsSet s c) (number : ℕ) (e : Edge) (r
     pub edge-labels : (gs : List Vector) × (L : Vector → Label) × IsLabelling gs L × IsRawOf raw L
     edge-labels =
         let y = inner s (complex_of c) S.shows (edge_of e) (vertex_of v) (vertex_of w) ends in
-        let P = point-map s y in
-        (forms P.0, labels_of P.0 P.1.valid, are-labelling P.0 P.1.valid,
+        let P = point-map s y in (
+          forms P.0,
+          labels_of P.0 P.1.valid,
+          are-labelling P.0 P.1.valid,
           ends-raw s (complex_of c) S.shows (edge_of e) (vertex_of v) (vertex_of w) ends (star_of t) (star_of h) (star-well_formed t T.star) (star-well_formed h H.star)
-          (T.axis ends.low_end ends.leaves) (H.axis ends.high_end ends.arrives) T.shows H.shows
-          y (inner-between s (complex_of c) S.shows (edge_of e) (vertex_of v) (vertex_of w) ends) P.0 P.1)
+              (T.axis ends.low_end ends.leaves) (H.axis ends.high_end ends.arrives) T.shows H.shows
+              y (inner-between s (complex_of c) S.shows (edge_of e) (vertex_of v) (vertex_of w) ends) P.0 P.1,
+        )
 
     -- what has them is a map of each point of the edge
     pub edge-cone : (y : PlainPlace) → IsEdgePoint (complex_of c) number y → (m : SphereMap) → IsLeastMap m → m.mark ≡ e.mark

@@ -44,8 +44,11 @@ dot-back n u = ring (n.x ∷ n.y ∷ n.z ∷ u.x ∷ u.y ∷ u.z ∷ []) (at 0 �
 
 -- where the labels don't change along w, the label of e is the one near w toward e
 pub near-along : (N : Map) (w : Vector) → FlatMap N w → (e : Vector) (l : Label) → IsDirection (cross w e) → MapLabel N e l → NearLabel N w e l
-near-along N w F e l f a = (0, λ k h. subst (λ (d : Vector). MapLabel N d l) (turned k)
-    (flat-onward N w F e 1 (pos k) (omega arith) l (subst IsDirection (sym (turned k)) (between-direction w e k 1 (omega arith) f)) a))
+near-along N w F e l f a = (
+  0,
+  λ k h. subst (λ (d : Vector). MapLabel N d l) (turned k)
+      (flat-onward N w F e 1 (pos k) (omega arith) l (subst IsDirection (sym (turned k)) (between-direction w e k 1 (omega arith) f)) a),
+)
   where
     turned : (k : ℕ) → comb (pos 1) e (pos k) w ≡ blend k w 1 e
     turned k = vector-same (comb (pos 1) e (pos k) w) (blend k w 1 e) (one e.x w.x) (one e.y w.y) (one e.z w.z)

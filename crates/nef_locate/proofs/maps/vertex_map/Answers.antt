@@ -18,7 +18,7 @@ returns-clause-cone c =
     let u = c.at.result.now in
     IfOk-weaker c.copy.result (λ m. m ≡ u.map) _
     (λ m w s y S p.
-      let e = at-one (complex_of c.args.c.now).vertices c.args.number p.0 (vertex_of u) p.1 (image-read vertex_of c.args.c.now.vertices c.args.number u c.at.ensures.element) in
-      let K = subst (λ (v : PlainVertex). Cone v.map s p.0.point) e (S.shows.cones c.args.number p.0 p.1) in
-      cone-same (map_of m) s p.0.point y p.2 (subst (λ (n : SphereMap). Cone (map_of n) s p.0.point) (sym w) K))
+    let e = at-one (complex_of c.args.c.now).vertices c.args.number p.0 (vertex_of u) p.1 (image-read vertex_of c.args.c.now.vertices c.args.number u c.at.ensures.element) in
+    let K = subst (λ (v : PlainVertex). Cone v.map s p.0.point) e (S.shows.cones c.args.number p.0 p.1) in
+    cone-same (map_of m) s p.0.point y p.2 (subst (λ (n : SphereMap). Cone (map_of n) s p.0.point) (sym w) K))
     c.copy.ensures.same

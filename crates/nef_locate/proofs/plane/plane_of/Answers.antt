@@ -14,9 +14,11 @@ returns-then-item-len c =
     let m = c.args.map.now in
     let a = c.at-arc.result.now in
     let l : SLoop = record { normal = a.normal; mark = a.mark; pos = a.pos; neg = a.neg } in
-    record { plane = λ x h.
-      let e = at-one (items (map_of m)) c.args.item (arc_item (arc_of a)) x (item-arc m.arcs m.sloop c.args.item a c.at-arc.ensures.element) h in
-      subst (λ (r : Item). IsPlaneOf r (loop_of l)) e (record { normal = refl; above = refl; mark = refl; below = refl }) }
+    record {
+      plane = λ x h.
+          let e = at-one (items (map_of m)) c.args.item (arc_item (arc_of a)) x (item-arc m.arcs m.sloop c.args.item a c.at-arc.ensures.element) h in
+          subst (λ (r : Item). IsPlaneOf r (loop_of l)) e (record { normal = refl; above = refl; mark = refl; below = refl });
+    }
 
 pub unreachable-requires : goal.unreachable-requires
 unreachable-requires c =
@@ -34,6 +36,8 @@ returns c =
     let f = ap (λ o. bool_byte (is_some o)) c.in-Some.is in
     let w = c.requires.within in
     let n = at-within (items (map_of m)) c.args.item w.0 w.1 in
-    record { plane = λ x h.
-      let g = at-one (items (map_of m)) c.args.item (loop_item (loop_of l)) x (item-loop m.arcs m.sloop c.args.item l (omega arith) c.in-Some.is) h in
-      subst (λ (r : Item). IsPlaneOf r (loop_of l)) g (record { normal = refl; above = refl; mark = refl; below = refl }) }
+    record {
+      plane = λ x h.
+          let g = at-one (items (map_of m)) c.args.item (loop_item (loop_of l)) x (item-loop m.arcs m.sloop c.args.item l (omega arith) c.in-Some.is) h in
+          subst (λ (r : Item). IsPlaneOf r (loop_of l)) g (record { normal = refl; above = refl; mark = refl; below = refl });
+    }
