@@ -40,9 +40,11 @@ IsFirstOf M u d n (Some k) = (x : Item) × At (items M) k x × IsOver M u x d ×
 abbrev pub rise_forms : Map → Vector → List Vector
 rise_forms M u = gather (λ (x : Item). gather (λ (g : Vector). rise_form u (item_normal x) g ∷ []) (forms M)) (items M)
 
+-- and those that say on which side of each svertex's meridian it is
 abbrev pub meridians : Map → Vector → List Vector
 meridians M u = gather (λ v. cross u v.way ∷ []) M.svertices ++ rise_forms M u
 
+-- all forms that matter for what lies over a direction
 abbrev pub over_forms : Map → Vector → List Vector
 over_forms M u = forms M ++ meridians M u
 

@@ -18,17 +18,19 @@ geo_sign minus = Minus
 geo_sign nought = Zero
 geo_sign plus = Plus
 
--- toward what the directions lie from the one to which they are close, and there toward what
+-- toward what the directions lie from the one to which they are close
 abbrev pub toward : Lean → Vector → Vector
 toward Down a = opposite up
 toward Up a = up
 toward Along a = a
 
+-- and, among the directions toward that, toward what
 abbrev pub then_toward : Lean → Vector → Vector
 then_toward Down a = a
 then_toward Up a = a
 then_toward Along a = up
 
+-- the sign that a form has on all of them
 abbrev pub close_sign : Vector → Close → Sign
 close_sign g w = first_sign (sign (dot g (vector_of w.at))) (first_sign (sign (dot g (toward w.lean (vector_of w.aside)))) (sign (dot g (then_toward w.lean (vector_of w.aside)))))
 
