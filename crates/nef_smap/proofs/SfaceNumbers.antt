@@ -1,18 +1,19 @@
 -- Numbers of the classes that joins make are the numbers of sfaces.
-use Rattle.std.proofs.Common.{◌≡◌, ℕ, zero, suc, ◌+◌, ◌<◌, ◌≤◌, pos, ◌<ℤ◌, List, [], ◌∷◌, length, take, arith, refl, ◌∙◌, ◌↔◌}
+use Rattle.std.proofs.Common.{◌≡◌, ℕ, zero, suc, ◌+◌, ◌<◌, pos, ◌<ℤ◌, List, [], ◌∷◌, length, take, arith, refl, sym, ◌∙◌, ◌↔◌}
 use Rattle.std.proofs.lemmas.List.{length-take-le}
 use Rattle.nef_space.specs.Lists.{IsAt, Chained}
 use Rattle.nef_space.specs.Vectors.{Vector, IsDirection, cross, dot}
 use Rattle.nef_sphere.specs.Maps.{At, Svertex, Map, Item, items, item_normal, Shaped}
 use Rattle.nef_smap.specs.declared.classes.Link.{Link}
-use Rattle.nef_smap.specs.Sides.{sides_of, AreSfaces}
+use Rattle.nef_smap.specs.Sides.{sides_of, SeeOneWay, AreSfaces}
 use Rattle.nef_smap.specs.Links.{AreJoins}
 use Rattle.nef_smap.specs.Classes.{AreLinked, AreWithin, AreClasses, AreNumbered}
 use Rattle.nef_smap.proofs.ClassLists.{is-at_within}
+use Rattle.nef_smap.proofs.Numbering.{numbers-classes}
 use Rattle.nef_smap.proofs.SameSface.{join-within, sface-class}
 
 -- what stands at a place, or zero
-abbrev pub at : List ℕ → ℕ → ℕ
+abbrev at : List ℕ → ℕ → ℕ
 at [] k = 0
 at (x ∷ xs) zero = x
 at (x ∷ xs) (suc k) = at xs k
@@ -22,11 +23,11 @@ at-is [] k h = absurd (omega arith)
 at-is (x ∷ xs) zero h = refl
 at-is (x ∷ xs) (suc k) h = at-is xs k (omega arith)
 
-at-take : (n : ℕ) (xs : List ℕ) (k : ℕ) → n ≤ length xs → k < n → IsAt (take n xs) k (at xs k)
-at-take zero xs k e h = absurd (omega arith)
-at-take (suc n) [] k e h = absurd (omega arith)
-at-take (suc n) (x ∷ xs) zero e h = refl
-at-take (suc n) (x ∷ xs) (suc k) e h = at-take n xs k (omega arith) (omega arith)
+at-taken : (n : ℕ) (xs : List ℕ) (k c : ℕ) → IsAt (take n xs) k c → c ≡ at xs k
+at-taken zero xs k c h = cc
+at-taken (suc n) [] k c h = cc
+at-taken (suc n) (x ∷ xs) zero c h = cc
+at-taken (suc n) (x ∷ xs) (suc k) c h = at-taken n xs k c h
 
 module _ (M : Map) (V : Shaped M) (u : Vector) (ahead : (k : ℕ) (x : Item) → At (items M) k x → pos 0 <ℤ dot (item_normal x) u)
     (across : (k : ℕ) (v : Svertex) → At M.svertices k v → IsDirection (cross u v.way)) (hu : IsDirection u)
@@ -42,26 +43,19 @@ module _ (M : Map) (V : Shaped M) (u : Vector) (ahead : (k : ℕ) (x : Item) →
     same : (s t : ℕ) → s < count + 1 → t < count + 1 → (at classes s ≡ at classes t) ↔ Chained (AreLinked links) s t
     same s t hs ht = C.same s t (at classes s) (at classes t) (at-is classes s (let e = C.as_many in omega arith)) (at-is classes t (let e = C.as_many in omega arith))
 
-    as-sides : length (take count classes) ≡ count
-    as-sides = let e = C.as_many in length-take-le count classes (omega arith)
+    of-sides : length (take count classes) ≡ count
+    of-sides = let e = C.as_many in length-take-le count classes (omega arith)
+
+    same-sface : (s t c d : ℕ) → IsAt (take count classes) s c → IsAt (take count classes) t d → (c ≡ d) ↔ Chained (SeeOneWay M) s t
+    same-sface s t c d hs ht =
+        let n = of-sides in
+        let i = is-at_within (take count classes) s c hs in
+        let j = is-at_within (take count classes) t d ht in
+        let e = at-taken count classes s c hs in
+        let f = at-taken count classes t d ht in
+        let r = sface-class M V u ahead across hu (AreLinked links) A (at classes) same s t (omega arith) (omega arith) in
+        (λ g. r.0 (sym e ∙ g ∙ f), λ h. e ∙ r.1 h ∙ sym f)
 
     -- NUMBERS OF CLASSES ARE NUMBERS OF SFACES
     pub sface-numbers : (ns : List ℕ) → AreNumbered (take count classes) ns → AreSfaces M ns
-    sface-numbers ns N = record {
-      as_many = N.as_many ∙ as-sides;
-      numbered = record {
-        by_class = λ s t m n hs ht.
-            let i = numbered-within s m hs in
-            let j = numbered-within t n ht in
-            let q = N.same s t (at classes s) (at classes t) m n (place s i) (place t j) hs ht in
-            let r = sface-class M V u ahead across hu (AreLinked links) A (at classes) same s t i j in
-            (λ e. r.0 (q.0 e), λ h. q.1 (r.1 h));
-        by_appearance = λ s m n hs low h. let r = N.by_appearance s m n hs h in (r.0, r.1, r.2);
-      };
-    }
-      where
-        numbered-within : (s n : ℕ) → IsAt ns s n → s < count
-        numbered-within s n h = let i = is-at_within ns s n h in let e = N.as_many in let f = as-sides in omega arith
-
-        place : (s : ℕ) → s < count → IsAt (take count classes) s (at classes s)
-        place s h = at-take count classes s (let e = C.as_many in omega arith) h
+    sface-numbers ns N = record { as_many = N.as_many ∙ of-sides; numbered = numbers-classes (SeeOneWay M) (take count classes) ns N same-sface }

@@ -34,15 +34,18 @@ IsFirst M u d (Some k) = IsFirstItem M u d k
 -- the same among the first n items
 abbrev pub IsFirstOf : Map → Vector → Vector → ℕ → Option ℕ → Type 0
 IsFirstOf M u d n None = (k : ℕ) (x : Item) → k < n → At (items M) k x → IsOver M u x d → ⊥
-IsFirstOf M u d n (Some k) = (x : Item) × At (items M) k x × IsOver M u x d × ((l : ℕ) (y : Item) → l < n → At (items M) l y → IsOver M u y d → pos 0 ≤ℤ dot (item_normal x) (rise u (item_normal y) d))
+IsFirstOf M u d n (Some k) = (x : Item) × At (items M) k x × IsOver M u x d
+    × ((l : ℕ) (y : Item) → l < n → At (items M) l y → IsOver M u y d → pos 0 ≤ℤ dot (item_normal x) (rise u (item_normal y) d))
 
 -- the forms whose signs say what lies over a direction
 abbrev pub rise_forms : Map → Vector → List Vector
 rise_forms M u = gather (λ (x : Item). gather (λ (g : Vector). rise_form u (item_normal x) g ∷ []) (forms M)) (items M)
 
+-- and those that say on which side of each svertex's meridian it is
 abbrev pub meridians : Map → Vector → List Vector
 meridians M u = gather (λ v. cross u v.way ∷ []) M.svertices ++ rise_forms M u
 
+-- all forms that matter for what lies over a direction
 abbrev pub over_forms : Map → Vector → List Vector
 over_forms M u = forms M ++ meridians M u
 

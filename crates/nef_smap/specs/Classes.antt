@@ -16,6 +16,7 @@ pub record AreClasses (count : ℕ) (ls : List Link) (cs : List ℕ) : Type 0 wh
   pub as_many : length cs ≡ count
   pub same : (s t c d : ℕ) → IsAt cs s c → IsAt cs t d → (c ≡ d) ↔ Chained (AreLinked ls) s t
 
+-- `to` in place of `from`, and any other number as it is
 abbrev pub renamed_to : ℕ → ℕ → ℕ → ℕ
 renamed_to from to c = if c == from then to else c
 

@@ -16,7 +16,8 @@ JoinsBelow M k l = (v : Svertex) × At M.svertices k v × ((j : BelowFirsts M up
 
 -- the side round svertex k with what lies over the directions just below it
 abbrev pub JoinsAround : Map → ℕ → Link → Type 0
-JoinsAround M k l = (v : Svertex) × (m : Label) × At M.svertices k v × (v.around ≡ Some m) × ((j : BelowFirst M up v.way) × (l.first ≡ number_of M (around_svertex k)) × (l.second ≡ met_number M j.first))
+JoinsAround M k l = (v : Svertex) × (m : Label) × At M.svertices k v × (v.around ≡ Some m)
+    × ((j : BelowFirst M up v.way) × (l.first ≡ number_of M (around_svertex k)) × (l.second ≡ met_number M j.first))
 
 -- the upper side of arc k with what lies over it
 abbrev pub JoinsArc : Map → ℕ → Link → Type 0

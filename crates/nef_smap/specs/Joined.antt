@@ -56,7 +56,7 @@ pub record Firsts (M : Map) (u : Vector) : Type 0 where
   pub arcs : (k : ℕ) (a : Arc) → At M.arcs k a → ArcFirst M u a
   pub loops : (k : ℕ) (l : Loop) → At (items M) k (loop_item l) → LoopFirst M u l
 
--- the labels agree at the joins: on both sides just below each svertex, and round it where it has no arc; above each item, and over it
+-- the labels agree at the joins: on both sides just below each svertex, and round it where it has no arc; above each item, and over it; and no label is Out
 pub record Joins (M : Map) (u : Vector) (G : Side → Label) (top : Label) (F : Firsts M u) : Type 0 where
   pub below : (k : ℕ) (v : Svertex) (a : At M.svertices k v) → (let j = F.svertices k v a in met G top j.left ≡ met G top j.right)
   pub around : (k : ℕ) (v : Svertex) (m : Label) (a : At M.svertices k v) (q : v.around ≡ Some m) → (let j = F.arounds k v m a q in met G top j.first ≡ G (around_svertex k))

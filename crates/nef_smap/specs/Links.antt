@@ -15,7 +15,8 @@ met_number M (Some k) = number_of M (below_item k)
 -- s and t are joined
 pub data IsJoin (M : Map) (u : Vector) (s t : ℕ) : Type 0 where
   join_below : (k : ℕ) (v : Svertex) → At M.svertices k v → (j : BelowFirsts M u v.way) → s ≡ met_number M j.left → t ≡ met_number M j.right → IsJoin M u s t
-  join_around : (k : ℕ) (v : Svertex) (m : Label) → At M.svertices k v → v.around ≡ Some m → (j : BelowFirst M u v.way) → s ≡ number_of M (around_svertex k) → t ≡ met_number M j.first → IsJoin M u s t
+  join_around : (k : ℕ) (v : Svertex) (m : Label) → At M.svertices k v → v.around ≡ Some m
+      → (j : BelowFirst M u v.way) → s ≡ number_of M (around_svertex k) → t ≡ met_number M j.first → IsJoin M u s t
   join_arc : (k : ℕ) (a : Arc) → At M.arcs k a → (j : ArcFirst M u a) → s ≡ number_of M (above_item k) → t ≡ met_number M j.first → IsJoin M u s t
   join_loop : (k : ℕ) (l : Loop) → At (items M) k (loop_item l) → (j : LoopFirst M u l) → s ≡ number_of M (above_item k) → t ≡ met_number M j.first → IsJoin M u s t
   join_ground : (m : Label) → M.face ≡ Some m → s ≡ number_of M whole → t ≡ length (sides_of M) → IsJoin M u s t
@@ -24,7 +25,8 @@ pub data IsJoin (M : Map) (u : Vector) (s t : ℕ) : Type 0 where
 pub record AreJoins (M : Map) (u : Vector) (Linked : ℕ → ℕ → Type 0) : Type 0 where
   pub only : (s t : ℕ) → Linked s t → IsJoin M u s t
   pub svertices : (k : ℕ) (v : Svertex) → At M.svertices k v → (j : BelowFirsts M u v.way) × Linked (met_number M j.left) (met_number M j.right)
-  pub arounds : (k : ℕ) (v : Svertex) (m : Label) → At M.svertices k v → v.around ≡ Some m → (j : BelowFirst M u v.way) × Linked (number_of M (around_svertex k)) (met_number M j.first)
+  pub arounds : (k : ℕ) (v : Svertex) (m : Label) → At M.svertices k v → v.around ≡ Some m
+      → (j : BelowFirst M u v.way) × Linked (number_of M (around_svertex k)) (met_number M j.first)
   pub arcs : (k : ℕ) (a : Arc) → At M.arcs k a → (j : ArcFirst M u a) × Linked (number_of M (above_item k)) (met_number M j.first)
   pub loops : (k : ℕ) (l : Loop) → At (items M) k (loop_item l) → (j : LoopFirst M u l) × Linked (number_of M (above_item k)) (met_number M j.first)
   pub ground : (m : Label) → M.face ≡ Some m → Linked (number_of M whole) (length (sides_of M))

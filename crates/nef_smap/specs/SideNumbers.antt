@@ -4,6 +4,7 @@ use Rattle.nef_space.specs.declared.label.Label.{Label}
 use Rattle.nef_sphere.specs.Maps.{Svertex, Map, items, Side, around_svertex, above_item, below_item, whole}
 use Rattle.nef_smap.specs.Sides.{svertex_sides}
 
+-- one if there is a label
 abbrev pub one_if : Option Label → ℕ
 one_if None = 0
 one_if (Some l) = 1
@@ -14,6 +15,7 @@ arounds_before [] k = 0
 arounds_before (v ∷ vs) zero = 0
 arounds_before (v ∷ vs) (suc k) = one_if v.around + arounds_before vs k
 
+-- the number of a side, by the order in which a map's sides are listed
 abbrev pub number_of : Map → Side → ℕ
 number_of M (around_svertex k) = arounds_before M.svertices k
 number_of M (above_item k) = length (svertex_sides 0 M.svertices) + 2 * k

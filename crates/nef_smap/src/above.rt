@@ -1,15 +1,15 @@
 //! What lies over directions of a sphere map: what the way from them to the upward direction meets first.
 
-ghost use Rattle.std.specs.Prelude.{◌≡◌, ◌+◌, ◌<◌, ℕ, IfSome, pos, ◌<ℤ◌, ◌↔◌, IsTrue, length, slice_get, Some};
+ghost use Rattle.std.specs.Prelude.{◌≡◌, ◌+◌, ◌<◌, ℕ, IfSome, pos, ◌<ℤ◌, ◌↔◌, IsTrue, length};
 ghost use Rattle.nef_space.specs.Limits.{normal_limit, svertex_limit};
-ghost use Rattle.nef_exact.specs.Signs.{Sign as Signum, minus, plus, sign};
-ghost use Rattle.nef_space.specs.Vectors.{Vector, dot, cross, triple, up, IsAtMost};
+ghost use Rattle.nef_exact.specs.Signs.{Sign as Signum};
+ghost use Rattle.nef_space.specs.Vectors.{Vector, dot, cross, up, IsAtMost};
 ghost use Rattle.nef_geo.specs.Shapes.{vector_of};
-ghost use Rattle.nef_sphere.specs.Maps.{At, Item as PlainItem, items, way_of};
+ghost use Rattle.nef_sphere.specs.Maps.{At, items};
 ghost use Rattle.nef_smap.specs.Maps.{map_of, IsSphereMap};
 ghost use Rattle.nef_smap.specs.Items.{item_of};
 ghost use Rattle.nef_smap.specs.Above.{first_sign, rise_form, IsOver, IsFirst, IsFirstOf};
-ghost use Rattle.nef_smap.specs.Close.{geo_sign, close_sign, IsClose, ArcPasses};
+ghost use Rattle.nef_smap.specs.Close.{geo_sign, close_sign, IsClose, ArcPasses, PassesArc};
 
 use crate::item::{Item, item_at, item_count};
 use crate::map::{SArc, SphereMap};
@@ -96,7 +96,7 @@ fn is_passed(turn: Sign, past_source: bool, before_target: bool, whole: bool) ->
 fn passes(map: &SphereMap, arc: &SArc, way: &Close) -> bool
     requires source { arc.now.source < length map.now.svertices }
     requires target { arc.now.target < length map.now.svertices }
-    ensures passes { let vs = (map_of map.now).svertices in IsTrue result ↔ ArcPasses (sign (triple (vector_of arc.now.normal) (way_of vs arc.now.source) (way_of vs arc.now.target))) (close_sign (cross up (way_of vs arc.now.source)) way.now ≡ plus) (close_sign (cross up (way_of vs arc.now.target)) way.now ≡ minus) (arc.now.source ≡ arc.now.target) }
+    ensures passes { IsTrue result ↔ PassesArc map.now arc.now way.now }
 {
     let source = map.svertices.at(arc.source).dir;
     let target = map.svertices.at(arc.target).dir;

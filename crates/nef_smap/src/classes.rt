@@ -1,6 +1,6 @@
 //! Classes of numbers that links join, and their numbering.
 
-ghost use Rattle.std.specs.Prelude.{◌≡◌, ◌<◌, ◌≤◌, ◌≢◌, ℕ, length, IfOk, MatchOption, slice_index};
+ghost use Rattle.std.specs.Prelude.{◌≡◌, ◌<◌, ◌≢◌, ℕ, length, IfOk, MatchOption};
 ghost use Rattle.nef_space.specs.Lists.{IsAt};
 ghost use Rattle.nef_smap.specs.Classes.{AreWithin, AreClasses, AreJoined, AreNumbered};
 

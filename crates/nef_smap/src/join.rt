@@ -1,14 +1,14 @@
 //! Which sides of a sphere map are joined with what.
 
-ghost use Rattle.std.specs.Prelude.{◌≡◌, ◌<◌, ◌≤ℤ◌, ◌<ℤ◌, ◌↔◌, ℕ, pos, length, IfSome, MatchOption, Option, Some, slice_get, cond};
+ghost use Rattle.std.specs.Prelude.{◌≡◌, ◌<◌, ◌<ℤ◌, ℕ, pos, length, IfSome, MatchOption, Option, Some, cond};
 ghost use Rattle.nef_space.specs.Limits.{normal_limit, svertex_limit};
-ghost use Rattle.nef_space.specs.Vectors.{Vector, vector, dot, cross, triple, up, opposite, IsAtMost, IsDirection, SameDirection};
+ghost use Rattle.nef_space.specs.Vectors.{vector, dot, cross, up, opposite, IsAtMost, IsDirection, SameDirection};
 ghost use Rattle.nef_geo.specs.Shapes.{vector_of};
 ghost use Rattle.nef_space.specs.declared.label.Label.{Label};
 ghost use Rattle.nef_sphere.specs.Maps.{At, Svertex as PlainSvertex, items, around_svertex, above_item, below_item};
 ghost use Rattle.nef_smap.specs.SideNumbers.{number_of};
-ghost use Rattle.nef_smap.specs.Maps.{map_of, loop_of, IsSphereMap};
-ghost use Rattle.nef_smap.specs.Joined.{BelowFirst, FirstNear};
+ghost use Rattle.nef_smap.specs.Maps.{map_of, IsSphereMap};
+ghost use Rattle.nef_smap.specs.Joined.{FirstNear};
 ghost use Rattle.nef_smap.specs.Links.{met_number};
 ghost use Rattle.nef_smap.specs.JoinLinks.{JoinsBelow, JoinsAround, JoinsArc, JoinsLoop};
 

@@ -1,6 +1,6 @@
 //! The sides of a sphere map, and their labels.
 
-ghost use Rattle.std.specs.Prelude.{◌≡◌, ◌<◌, ◌≤◌, ◌^◌, length, slice_get, cond};
+ghost use Rattle.std.specs.Prelude.{◌≡◌, ◌<◌, ◌^◌, length, slice_get, cond};
 ghost use Rattle.std.specs.List.{filter_map};
 ghost use Rattle.nef_sphere.specs.Maps.{At, Item, Side, above_item, below_item, items, item_above, item_below};
 ghost use Rattle.nef_smap.specs.Maps.{map_of};
