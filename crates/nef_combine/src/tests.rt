@@ -8,7 +8,7 @@ ghost use Rattle.nef_smap.specs.Maps.{IsSphereMap, IsLeastMap};
 
 use super::*;
 use nef_geo::{Dir, Label, Sign, dot};
-use nef_smap::{SArc, SLoop, SVertex, SphereMap, label_at, plane_map};
+use nef_smap::{SArc, SLoop, SVertex, SphereMap, label_at, plane_map, sfaces};
 use nef_spair::{Kind, kind};
 use nef_star::Op;
 use std::alloc::Global;
@@ -149,6 +149,8 @@ fn axis_and_half(rt: HostRuntime) -> Result<(), Fail> {
     assert_eq!(rt; either.svertices.as_slice(), [up].as_slice());
     assert_eq!(rt; either.sloop, Some(level(&rt, IN, NOT, IN)));
     assert_eq!(rt; kind(&either), Kind::Vertex);
+    let faces = sfaces(rt.alloc(), &either)?;
+    assert_eq!(rt; faces.as_slice(), [0, 0, 1].as_slice());
 
     let both = combine(rt.alloc(), &h, &z, Op::And)?;
     assert_eq!(rt; both.mark, IN);
