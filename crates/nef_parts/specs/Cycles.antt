@@ -1,6 +1,6 @@
 -- The next corner of a facet, and its cycles.
-use Rattle.std.specs.Prelude.{◌≡◌, ℕ, pos, List, [], ◌∷◌, ◌⊎◌, map}
-use Rattle.std.specs.List.{All, Contains}
+use Rattle.std.specs.Prelude.{◌≡◌, ℕ, pos, List, [], ◌∷◌, ◌⊎◌}
+use Rattle.std.specs.List.{All}
 use Rattle.nef_space.specs.Numbers.{IsBelow}
 use Rattle.nef_space.specs.Vectors.{SameDirection}
 use Rattle.nef_sphere.specs.Least.{InOrder}
