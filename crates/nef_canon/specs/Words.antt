@@ -1,7 +1,8 @@
 -- Words behind blanks.
-use Rattle.std.specs.Prelude.{ℕ, List, ◌∷◌, ◌++◌, decimal}
-use Rattle.nef_complex.specs.declared.complex.Corner.{Corner}
+use Rattle.std.specs.Prelude.{ℕ, List, [], ◌∷◌, ◌++◌}
+use Rattle.nef_parts.specs.Text.{Word}
 
--- the two numbers of a corner, each behind a blank
-abbrev pub corner_blanked : Corner → List ℕ
-corner_blanked k = 32 ∷ decimal k.vertex ++ 32 ∷ decimal k.item
+-- each word behind a blank
+abbrev pub blanked : List Word → List ℕ
+blanked [] = []
+blanked (w ∷ ws) = 32 ∷ (w ++ blanked ws)

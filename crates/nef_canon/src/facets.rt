@@ -1,16 +1,16 @@
 //! The lines of facets with their cycles.
 
 ghost use Rattle.std.specs.Prelude.{◌≡◌, ◌++◌, flat_map, OnOk};
-ghost use Rattle.nef_parts.specs.Text.{cycle_line, facet_line, facet_text};
-ghost use Rattle.nef_canon.specs.Words.{corner_blanked};
+ghost use Rattle.nef_parts.specs.Text.{corner_words, cycle_line, facet_line, facet_text};
+ghost use Rattle.nef_canon.specs.Words.{blanked};
 
 use crate::OutOfMemory;
-use crate::words::{add_count, add_label, add_number};
+use crate::words::{add_count, add_label, add_plane};
 use nef_complex::Corner;
 use nef_parts::{Cycle, Facet};
 
 fn add_corners(text: &mut Vec<u8>, corners: &[Corner]) -> Result<(), OutOfMemory>
-    ensures added { OnOk result (text.new.items ≡ text.old.items ++ flat_map corner_blanked corners.now) }
+    ensures added { OnOk result (text.new.items ≡ text.old.items ++ blanked (flat_map corner_words corners.now)) }
 {
     for k in corners {
         add_count(text, k.vertex)?;
@@ -37,14 +37,11 @@ fn add_cycles(text: &mut Vec<u8>, cycles: &[Cycle]) -> Result<(), OutOfMemory>
     Ok(())
 }
 
-fn add_plane(text: &mut Vec<u8>, f: &Facet) -> Result<(), OutOfMemory>
+fn add_head(text: &mut Vec<u8>, f: &Facet) -> Result<(), OutOfMemory>
     ensures added { OnOk result (text.new.items ≡ text.old.items ++ facet_line f.now) }
 {
     text.push(b'f')?;
-    add_number(text, f.plane.a())?;
-    add_number(text, f.plane.b())?;
-    add_number(text, f.plane.c())?;
-    add_number(text, f.plane.d())?;
+    add_plane(text, &f.plane)?;
     add_label(text, f.mark)?;
     add_count(text, f.pos)?;
     add_count(text, f.neg)?;
@@ -55,7 +52,7 @@ fn add_plane(text: &mut Vec<u8>, f: &Facet) -> Result<(), OutOfMemory>
 fn add_facet(text: &mut Vec<u8>, f: &Facet) -> Result<(), OutOfMemory>
     ensures added { OnOk result (text.new.items ≡ text.old.items ++ facet_text f.now) }
 {
-    add_plane(text, f)?;
+    add_head(text, f)?;
     add_cycles(text, f.cycles.as_slice())
 }
 

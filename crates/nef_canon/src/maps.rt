@@ -4,7 +4,7 @@ ghost use Rattle.std.specs.Prelude.{◌≡◌, ◌++◌, flat_map, option_to_lis
 ghost use Rattle.nef_parts.specs.Text.{svertex_line, arc_line, sloop_line, vertex_line, vertex_text};
 
 use crate::OutOfMemory;
-use crate::words::{add_count, add_dir, add_label, add_number, add_option};
+use crate::words::{add_count, add_dir, add_label, add_labels, add_option, add_point};
 use nef_complex::Vertex;
 use nef_smap::{SArc, SLoop, SVertex};
 
@@ -26,9 +26,7 @@ fn add_arc(text: &mut Vec<u8>, a: &SArc) -> Result<(), OutOfMemory>
     add_count(text, a.source)?;
     add_count(text, a.target)?;
     add_dir(text, &a.normal)?;
-    add_label(text, a.mark)?;
-    add_label(text, a.pos)?;
-    add_label(text, a.neg)?;
+    add_labels(text, a.mark, a.pos, a.neg)?;
     text.push(b'\n')?;
     Ok(())
 }
@@ -38,21 +36,16 @@ fn add_circle(text: &mut Vec<u8>, l: &SLoop) -> Result<(), OutOfMemory>
 {
     text.push(b'l')?;
     add_dir(text, &l.normal)?;
-    add_label(text, l.mark)?;
-    add_label(text, l.pos)?;
-    add_label(text, l.neg)?;
+    add_labels(text, l.mark, l.pos, l.neg)?;
     text.push(b'\n')?;
     Ok(())
 }
 
-fn add_point(text: &mut Vec<u8>, v: &Vertex) -> Result<(), OutOfMemory>
+fn add_apex(text: &mut Vec<u8>, v: &Vertex) -> Result<(), OutOfMemory>
     ensures added { OnOk result (text.new.items ≡ text.old.items ++ vertex_line v.now) }
 {
     text.push(b'v')?;
-    add_number(text, v.point.x())?;
-    add_number(text, v.point.y())?;
-    add_number(text, v.point.z())?;
-    add_number(text, v.point.w())?;
+    add_point(text, &v.point)?;
     add_label(text, v.map.mark)?;
     add_option(text, v.map.ground)?;
     text.push(b'\n')?;
@@ -89,7 +82,7 @@ fn add_sloop(text: &mut Vec<u8>, sloop: &Option<SLoop>) -> Result<(), OutOfMemor
 fn add_vertex(text: &mut Vec<u8>, v: &Vertex) -> Result<(), OutOfMemory>
     ensures added { OnOk result (text.new.items ≡ text.old.items ++ vertex_text v.now) }
 {
-    add_point(text, v)?;
+    add_apex(text, v)?;
     add_svertices(text, v.map.svertices.as_slice())?;
     add_arcs(text, v.map.arcs.as_slice())?;
     add_sloop(text, &v.map.sloop)

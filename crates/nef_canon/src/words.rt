@@ -1,15 +1,17 @@
 //! Words of a line, each behind a blank.
 
-ghost use Rattle.std.specs.Prelude.{◌≡◌, ◌++◌, ◌∷◌, [], decimal, signed_decimal, OnOk};
-ghost use Rattle.nef_parts.specs.Text.{label_word, option_word};
+ghost use Rattle.std.specs.Prelude.{◌≡◌, ◌++◌, ◌∷◌, [], decimal, OnOk};
+ghost use Rattle.std.specs.Fmt.{signed_decimal};
+ghost use Rattle.nef_parts.specs.Text.{label_word, option_word, dir_words, point_words, plane_words};
+ghost use Rattle.nef_canon.specs.Words.{blanked};
 
 use crate::OutOfMemory;
 use itoa::Buffer;
-use nef_geo::{Dir, Label};
+use nef_geo::{Dir, Label, Plane, Point};
 
 /// Adds a blank and the number.
 pub(crate) fn add_count(text: &mut Vec<u8>, n: usize) -> Result<(), OutOfMemory>
-    ensures added { OnOk result (text.new.items ≡ text.old.items ++ 32 ∷ decimal n) }
+    ensures added { OnOk result (text.new.items ≡ text.old.items ++ blanked (decimal n ∷ [])) }
 {
     let mut buffer = Buffer::new();
     text.push(b' ')?;
@@ -19,7 +21,7 @@ pub(crate) fn add_count(text: &mut Vec<u8>, n: usize) -> Result<(), OutOfMemory>
 
 /// Adds a blank and the number with its sign.
 pub(crate) fn add_number(text: &mut Vec<u8>, n: i64) -> Result<(), OutOfMemory>
-    ensures added { OnOk result (text.new.items ≡ text.old.items ++ 32 ∷ signed_decimal n) }
+    ensures added { OnOk result (text.new.items ≡ text.old.items ++ blanked (signed_decimal n ∷ [])) }
 {
     let mut buffer = Buffer::new();
     text.push(b' ')?;
@@ -39,7 +41,7 @@ fn label_letter(label: Label) -> u8
 
 /// Adds a blank and the label.
 pub(crate) fn add_label(text: &mut Vec<u8>, label: Label) -> Result<(), OutOfMemory>
-    ensures added { OnOk result (text.new.items ≡ text.old.items ++ 32 ∷ label_word label) }
+    ensures added { OnOk result (text.new.items ≡ text.old.items ++ blanked (label_word label ∷ [])) }
 {
     text.push(b' ')?;
     text.push(label_letter(label))?;
@@ -57,7 +59,7 @@ fn option_letter(label: Option<Label>) -> u8
 
 /// Adds a blank and the label, or a dash where none is given.
 pub(crate) fn add_option(text: &mut Vec<u8>, label: Option<Label>) -> Result<(), OutOfMemory>
-    ensures added { OnOk result (text.new.items ≡ text.old.items ++ 32 ∷ option_word label) }
+    ensures added { OnOk result (text.new.items ≡ text.old.items ++ blanked (option_word label ∷ [])) }
 {
     text.push(b' ')?;
     text.push(option_letter(label))?;
@@ -66,9 +68,38 @@ pub(crate) fn add_option(text: &mut Vec<u8>, label: Option<Label>) -> Result<(),
 
 /// Adds the three numbers of the direction, each behind a blank.
 pub(crate) fn add_dir(text: &mut Vec<u8>, d: &Dir) -> Result<(), OutOfMemory>
-    ensures added { OnOk result (text.new.items ≡ text.old.items ++ 32 ∷ signed_decimal d.now.x ++ 32 ∷ signed_decimal d.now.y ++ 32 ∷ signed_decimal d.now.z) }
+    ensures added { OnOk result (text.new.items ≡ text.old.items ++ blanked (dir_words d.now)) }
 {
     add_number(text, d.x())?;
     add_number(text, d.y())?;
     add_number(text, d.z())
+}
+
+/// Adds the four numbers of the point, each behind a blank.
+pub(crate) fn add_point(text: &mut Vec<u8>, p: &Point) -> Result<(), OutOfMemory>
+    ensures added { OnOk result (text.new.items ≡ text.old.items ++ blanked (point_words p.now)) }
+{
+    add_number(text, p.x())?;
+    add_number(text, p.y())?;
+    add_number(text, p.z())?;
+    add_number(text, p.w())
+}
+
+/// Adds the four numbers of the plane, each behind a blank.
+pub(crate) fn add_plane(text: &mut Vec<u8>, h: &Plane) -> Result<(), OutOfMemory>
+    ensures added { OnOk result (text.new.items ≡ text.old.items ++ blanked (plane_words h.now)) }
+{
+    add_number(text, h.a())?;
+    add_number(text, h.b())?;
+    add_number(text, h.c())?;
+    add_number(text, h.d())
+}
+
+/// Adds the labels of an item, each behind a blank: its mark, and those of its two sides.
+pub(crate) fn add_labels(text: &mut Vec<u8>, mark: Label, pos: Label, neg: Label) -> Result<(), OutOfMemory>
+    ensures added { OnOk result (text.new.items ≡ text.old.items ++ blanked (label_word mark ∷ label_word pos ∷ label_word neg ∷ [])) }
+{
+    add_label(text, mark)?;
+    add_label(text, pos)?;
+    add_label(text, neg)
 }

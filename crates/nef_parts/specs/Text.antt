@@ -6,6 +6,7 @@ use Rattle.std.specs.Fmt.{decimal, signed_decimal}
 use Rattle.nef_space.specs.declared.label.Label.{Label}
 use Rattle.nef_space.specs.declared.label.Label.TheVariants.{Out, Not, In}
 use Rattle.nef_geo.specs.declared.dir.Dir.{Dir}
+use Rattle.nef_geo.specs.declared.plane.Plane.{Plane}
 use Rattle.nef_geo.specs.declared.point.Point.{Point}
 use Rattle.nef_smap.specs.declared.map.SVertex.{SVertex}
 use Rattle.nef_smap.specs.declared.map.SArc.{SArc}
@@ -49,6 +50,9 @@ dir_words d = signed (d.x ∷ d.y ∷ d.z ∷ [])
 abbrev pub point_words : Point → List Word
 point_words p = signed (p.x ∷ p.y ∷ p.z ∷ p.w ∷ [])
 
+abbrev pub plane_words : Plane → List Word
+plane_words h = signed (h.a ∷ h.b ∷ h.c ∷ h.d ∷ [])
+
 abbrev pub svertex_line : SVertex → List ℕ
 svertex_line v = line (codes "s" ∷ [] ++ dir_words v.dir ++ label_word v.mark ∷ option_word v.around ∷ [])
 
@@ -75,7 +79,7 @@ abbrev pub cycle_line : Cycle → List ℕ
 cycle_line x = line (codes "c" ∷ [] ++ flat_map corner_words x.corners)
 
 abbrev pub facet_line : Facet → List ℕ
-facet_line f = line (codes "f" ∷ [] ++ signed (f.plane.a ∷ f.plane.b ∷ f.plane.c ∷ f.plane.d ∷ []) ++ label_word f.mark ∷ [] ++ numbers (f.pos ∷ f.neg ∷ []))
+facet_line f = line (codes "f" ∷ [] ++ plane_words f.plane ++ label_word f.mark ∷ [] ++ numbers (f.pos ∷ f.neg ∷ []))
 
 abbrev pub facet_text : Facet → List ℕ
 facet_text f = facet_line f ++ flat_map cycle_line f.cycles

@@ -1,0 +1,30 @@
+-- Lines written word by word.
+use Rattle.std.proofs.Common.{◌≡◌, List, ℕ, [], ◌∷◌, ◌++◌, refl, ap, sym, ◌∙◌, append_assoc}
+use Rattle.std.proofs.lemmas.List.{append-nil}
+use Rattle.std.specs.List.{join_with_byte}
+use Rattle.nef_parts.specs.Text.{Word, line}
+use Rattle.nef_canon.specs.Words.{blanked}
+
+pub blanked-append : (us vs : List Word) → blanked (us ++ vs) ≡ blanked us ++ blanked vs
+blanked-append [] vs = refl
+blanked-append (u ∷ us) vs = ap (λ (r : List ℕ). 32 ∷ (u ++ r)) (blanked-append us vs) ∙ ap (λ (r : List ℕ). 32 ∷ r) (sym (append_assoc u (blanked us) (blanked vs)))
+
+joined : (w : Word) (ws : List Word) → join_with_byte 32 (w ∷ ws) ≡ w ++ blanked ws
+joined w [] = sym (append-nil w)
+joined w (v ∷ ws) = ap (λ (r : List ℕ). w ++ 32 ∷ r) (joined v ws)
+
+-- more words are added to a line begun at o with the word w
+pub more-words : (o w t s : List ℕ) (us vs : List Word) → t ≡ o ++ (w ++ blanked us) → s ≡ t ++ blanked vs → s ≡ o ++ (w ++ blanked (us ++ vs))
+more-words o w t s us vs e f =
+    f ∙ ap (λ (r : List ℕ). r ++ blanked vs) e ∙ append_assoc o (w ++ blanked us) (blanked vs)
+    ∙ ap (λ (r : List ℕ). o ++ r) (append_assoc w (blanked us) (blanked vs) ∙ ap (λ (r : List ℕ). w ++ r) (sym (blanked-append us vs)))
+
+-- the line is ended
+pub line-ended : (o w t s : List ℕ) (us : List Word) → t ≡ o ++ (w ++ blanked us) → s ≡ t ++ 10 ∷ [] → s ≡ o ++ line (w ∷ us)
+line-ended o w t s us e f =
+    f ∙ ap (λ (r : List ℕ). r ++ 10 ∷ []) e ∙ append_assoc o (w ++ blanked us) (10 ∷ [])
+    ∙ ap (λ (r : List ℕ). o ++ (r ++ 10 ∷ [])) (sym (joined w us))
+
+-- its first word is written
+pub line-begun : (o w t : List ℕ) → t ≡ o ++ w → t ≡ o ++ (w ++ blanked [])
+line-begun o w t e = e ∙ ap (λ (r : List ℕ). o ++ r) (sym (append-nil w))
