@@ -1,0 +1,1 @@
+//! The frame's two complexes compared.
