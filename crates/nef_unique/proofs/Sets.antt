@@ -1,5 +1,5 @@
 -- Sets that are shown by the same vertices are one.
-use Rattle.std.proofs.Common.{◌≡◌, ℕ, refl, ap, sym, inl, inr, ◌⊎◌, ⊎_elim, ◌↔◌, List, subst}
+use Rattle.std.proofs.Common.{◌≡◌, ℕ, pos, refl, ap, sym, inl, inr, ◌⊎◌, ⊎_elim, ◌↔◌, List, subst}
 use Rattle.nef_space.specs.Local.{SameSet, HasLabel, Germ, IsVertex}
 use Rattle.nef_space.specs.Place.{Place, SamePlace}
 use Rattle.nef_space.specs.Sets.{Set}
@@ -9,7 +9,7 @@ use Rattle.nef_forms.proofs.Far.{nought-or}
 use Rattle.nef_near.specs.Cells.{carriers}
 use Rattle.nef_near.specs.Cones.{SameCone}
 use Rattle.nef_near.proofs.Alike.{germs-by_cell}
-use Rattle.nef_near.proofs.Decided.{Decided, decided-both}
+use Rattle.nef_near.proofs.Decided.{Decided}
 use Rattle.nef_near.proofs.Determined.{same-set_of}
 use Rattle.nef_near.proofs.Germs.{Label-cells, label-one}
 use Rattle.nef_near.proofs.Rays.{Germ-zero, signs-same, same-place_sym}
@@ -24,7 +24,13 @@ label-carried : (M : Map) (s t : Set) (p : Place) → Cone M s p → Cone M t p 
 label-carried M s t p C D l h = subst (HasLabel t p) (label-one s p M.mark l C.mark h) D.mark
 
 zero-decided : (d : Vector) → Decided (IsZero d)
-zero-decided d = decided-both (nought-or d.x) (decided-both (nought-or d.y) (nought-or d.z))
+zero-decided d = by (nought-or d.x) (nought-or d.y) (nought-or d.z)
+  where
+    by : Decided (d.x ≡ pos 0) → Decided (d.y ≡ pos 0) → Decided (d.z ≡ pos 0) → Decided (IsZero d)
+    by (inl a) (inl b) (inl c) = inl (a, b, c)
+    by (inr n) _ _ = inr (λ z. n z.0)
+    by _ (inr n) _ = inr (λ z. n z.1)
+    by _ _ (inr n) = inr (λ z. n z.2)
 
 germ-carried : (M : Map) (s t : Set) (p : Place) → Cone M s p → Cone M t p → (d : Vector) (l : Label) → Germ s p d l → Germ t p d l
 germ-carried M s t p C D d l g = ⊎_elim
