@@ -9,12 +9,11 @@ use Rattle.nef_space.specs.Vectors.{vector}
 use Rattle.nef_space.specs.declared.label.Label.{Label}
 use Rattle.nef_space.specs.declared.label.Label.TheVariants.{Out, Not, In}
 use Rattle.nef_space.specs.contracts.label.LabelPartialEq.TheImpl.{eq-value as label_eq}
-use Rattle.nef_geo.specs.Shapes.{vector_of, place_of}
 use Rattle.nef_geo.specs.declared.dir.Dir.{Dir}
 use Rattle.nef_geo.specs.declared.point.Point.{Point}
 use Rattle.nef_geo.specs.contracts.dir.DirPartialEq.TheImpl.{eq-value as dir_eq}
 use Rattle.nef_geo.specs.contracts.point.PointPartialEq.TheImpl.{eq-value as point_eq}
-use Rattle.nef_geo.proofs.Unique.{same_directions_equal, same_places_equal}
+use Rattle.nef_geo.proofs.Unique.{same_places_equal}
 use Rattle.nef_smap.specs.declared.map.SVertex.{SVertex}
 use Rattle.nef_smap.specs.declared.map.SArc.{SArc}
 use Rattle.nef_smap.specs.declared.map.SLoop.{SLoop}

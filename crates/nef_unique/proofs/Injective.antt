@@ -5,7 +5,6 @@ use Rattle.nef_space.specs.Vectors.{SameDirection}
 use Rattle.nef_space.specs.declared.label.Label.{Label}
 use Rattle.nef_geo.specs.Shapes.{vector_of}
 use Rattle.nef_geo.specs.declared.dir.Dir.{Dir}
-use Rattle.nef_geo.specs.declared.point.Point.{Point}
 use Rattle.nef_geo.proofs.Unique.{same_directions_equal}
 use Rattle.nef_sphere.specs.Maps.{Svertex, Arc, Loop, Map}
 use Rattle.nef_sphere.proofs.Compare.{way-self}

@@ -1,5 +1,5 @@
 -- Sets that are shown by the same vertices are one.
-use Rattle.std.proofs.Common.{◌≡◌, ℕ, pos, refl, ap, sym, inl, inr, ◌⊎◌, ⊎_elim, ◌↔◌, List, subst}
+use Rattle.std.proofs.Common.{◌≡◌, pos, sym, inl, inr, ⊎_elim, List, subst}
 use Rattle.nef_space.specs.Local.{SameSet, HasLabel, Germ, IsVertex}
 use Rattle.nef_space.specs.Place.{Place, SamePlace}
 use Rattle.nef_space.specs.Sets.{Set}

@@ -1,5 +1,5 @@
 -- Complexes that show one set have the same vertices and edges.
-use Rattle.std.proofs.Common.{◌≡◌, ℕ, pos, arith, refl, ap, sym, List, [], ◌∷◌, map, inl, inr, ◌⊎◌, subst}
+use Rattle.std.proofs.Common.{◌≡◌, ℕ, arith, refl, sym, List, map, inl, inr, subst}
 use Rattle.std.proofs.lemmas.Int.{ints}
 use Rattle.nef_space.specs.Local.{SameSet}
 use Rattle.nef_space.specs.Place.{Place, SamePlace, IsPlaceBelow}

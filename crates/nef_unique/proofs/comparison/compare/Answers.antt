@@ -1,4 +1,4 @@
-use Rattle.std.proofs.Common.{◌≡◌, List, ap, map}
+use Rattle.std.proofs.Common.{List, ap, map}
 use Rattle.nef_expr.specs.Nodes.{node_set}
 use Rattle.nef_complex.specs.declared.complex.Vertex.{Vertex}
 use Rattle.nef_complex.specs.Complexes.{vertex_of, complex_of}

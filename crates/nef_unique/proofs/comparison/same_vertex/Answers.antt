@@ -1,4 +1,4 @@
-use Rattle.std.proofs.Common.{◌≡◌, rules, IsTrue, ap, sym, ◌∙◌}
+use Rattle.std.proofs.Common.{ap, sym}
 use Rattle.nef_complex.specs.declared.complex.Vertex.{Vertex}
 use Rattle.nef_unique.proofs.Decides.{point-decides}
 use Rattle.nef_unique.proofs.Injective.{vertex-equal}
