@@ -47,14 +47,7 @@ pub fn same_vertices(a: &Complex, b: &Complex) -> bool
 
 /// Whether node `i` of the one list and node `j` of the other stand for the same set: the sets hold at the same points
 /// of the frame. `a` and `b` are complexes that show them. It takes no memory.
-pub fn compare(
-    left: &Nodes,
-    i: usize,
-    a: &Complex,
-    right: &Nodes,
-    j: usize,
-    b: &Complex,
-) -> bool
+pub fn compare(left: &Nodes, i: usize, a: &Complex, right: &Nodes, j: usize, b: &Complex) -> bool
     requires first_node { i < length left.now }
     requires first { ShowsSet (node_set left.now i) a.now }
     requires second_node { j < length right.now }
