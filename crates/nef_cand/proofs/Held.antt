@@ -28,11 +28,10 @@ use Rattle.nef_complex.specs.declared.complex.Vertex.{Vertex}
 use Rattle.nef_complex.specs.declared.complex.Edge.{Edge}
 use Rattle.nef_complex.specs.declared.complex.Complex.{Complex}
 use Rattle.nef_complex.specs.Complexes.{vertex_of, edge_of, complex_of, ShowsSet}
-use Rattle.nef_complex.proofs.Choosing.{low-within, high-within}
-use Rattle.nef_complex.proofs.Ends.{through-both}
+use Rattle.nef_complex.proofs.Ends.{through-both, low-within, high-within}
 use Rattle.nef_complex.proofs.Reading.{got-at}
 use Rattle.nef_cand.specs.Candidates.{IsVertexOf}
-use Rattle.nef_complex.specs.Meets.{HoldsBoth}
+use Rattle.nef_complex.specs.Planes.{HoldsBoth}
 use Rattle.nef_cand.specs.Points.{AreHeldByTwo, IsCrossing, CrossesOne, CutsOne, Adds}
 use Rattle.nef_cand.proofs.Adding.{adds-as, AnyAt}
 

@@ -15,7 +15,7 @@ use Rattle.nef_near.proofs.Rays.{slope-zero}
 use Rattle.nef_near.proofs.FlatDecided.{cross-turned}
 use Rattle.nef_sphere.proofs.KindFlats.{in-span}
 use Rattle.nef_solid.proofs.FacetAngles.{cut-at}
-use Rattle.nef_complex.specs.Meets.{HoldsBoth}
+use Rattle.nef_complex.specs.Planes.{HoldsBoth}
 
 -- ---- signs of products
 times-none : (k c : ℤ) → c ≡ pos 0 → k *ℤ c ≡ pos 0
