@@ -1,9 +1,6 @@
--- Vertices and edges that a ray within a plane meets: some carrier that holds them crosses the ray.
-use Rattle.std.proofs.Common.{◌≡◌, ℕ, pos, ◌<ℤ◌, arith, sym, ap, ◌∙◌, subst, [], ◌∷◌}
-use Rattle.std.proofs.lemmas.Int.{ints}
+-- Not all carriers that hold a vertex are along one direction, and those that hold an edge only where the edge is.
+use Rattle.std.proofs.Common.{◌≡◌, ℕ, pos, sym, ◌∙◌, subst}
 use Rattle.nef_exact.specs.Signs.{Lies}
-use Rattle.nef_exact.proofs.Ring.{at, num, ◌⊖◌, ◌⊗◌}
-use Rattle.nef_exact.proofs.Combination.{given, none, follows_times}
 use Rattle.nef_exact.proofs.Order.{nought-is}
 use Rattle.nef_space.specs.Local.{Flat}
 use Rattle.nef_space.specs.Place.{Place, Form, form_at, slope, normal_of, toward, IsBetween}
@@ -11,10 +8,9 @@ use Rattle.nef_space.specs.Sets.{Set}
 use Rattle.nef_space.specs.Vectors.{Vector, cross, IsZero, IsDirection}
 use Rattle.nef_geo.specs.Shapes.{form_of}
 use Rattle.nef_forms.proofs.Directions.{dot-comm}
-use Rattle.nef_forms.proofs.Near.{slope-toward}
 use Rattle.nef_near.specs.Cells.{carriers}
 use Rattle.nef_near.specs.Laws.{EdgeSupport}
-use Rattle.nef_near.proofs.Edges.{start, start-between, start-toward}
+use Rattle.nef_near.proofs.Edges.{start, start-between}
 use Rattle.nef_near.proofs.FlatDecided.{parallel-both, triple-in_plane, cross-turned}
 use Rattle.nef_near.proofs.Meets.{vertex-meets}
 use Rattle.nef_near.proofs.Supports.{edge-support}
@@ -24,12 +20,12 @@ use Rattle.nef_solid.specs.Complexes.{Vertex, Edge, HasEnds}
 use Rattle.nef_solid.specs.Shows.{Shows, SamePlane}
 use Rattle.nef_solid.proofs.Edges.{edge-points, edge-way}
 use Rattle.nef_solid.proofs.Planes.{plane-turned, plane-point, plane-slope}
-use Rattle.nef_solid.proofs.Ways.{between-ends}
 use Rattle.nef_complex.specs.declared.complex.Complex.{Complex}
 use Rattle.nef_complex.specs.Complexes.{complex_of}
 use Rattle.nef_complex.specs.Planes.{HoldsBoth}
-use Rattle.nef_plane.specs.Meets.{AllHold}
+use Rattle.nef_complex.proofs.Ends.{through-both}
 use Rattle.nef_complex.proofs.Parted.{along-cross}
+use Rattle.nef_plane.specs.Meets.{AllHold}
 
 module _ (s : Set) (c : Complex) (S : Shows s (complex_of c)) (d : Vector) where
   -- where all planes that hold two points are along d, so is each carrier of the set that holds them
@@ -51,7 +47,7 @@ module _ (s : Set) (c : Complex) (S : Shows s (complex_of c)) (d : Vector) where
       (z m.second m.second_in (nought-is (form_at m.second v.point) m.second_at))
       (z m.third m.third_in (nought-is (form_at m.third v.point) m.third_at)))
 
-  module _ (k : ℕ) (e : Edge) (v w : Vertex) (q : Place) (a : At (complex_of c).edges k e) (H : HasEnds (complex_of c) e v w) (b : IsBetween v.point q w.point) where
+  module _ (k : ℕ) (e : Edge) (v w : Vertex) (a : At (complex_of c).edges k e) (H : HasEnds (complex_of c) e v w) (apart : IsDirection (toward v.point w.point)) where
     abbrev t : Vector
     t = toward v.point w.point
 
@@ -59,7 +55,7 @@ module _ (s : Set) (c : Complex) (S : Shows s (complex_of c)) (d : Vector) where
     y = start 1 v.point w.point
 
     inside : IsBetween v.point y w.point
-    inside = start-between 1 v.point w.point (between-ends v.point q w.point b)
+    inside = start-between 1 v.point w.point apart
 
     support : EdgeSupport s y
     support = edge-support s y (edge-points s (complex_of c) k e v w y S a H inside).0

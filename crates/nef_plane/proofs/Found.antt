@@ -1,11 +1,9 @@
--- What is met at a vertex, inside an edge, and first of all.
-use Rattle.std.proofs.Common.{◌≡◌, ℕ, ◌<◌, length, pos, None, refl, sym, ⊎_elim, ◌⊎◌, inl, inr, subst}
-use Rattle.nef_space.specs.Place.{Place, Form, form_at, normal_of, toward, SamePlace, IsAhead, IsBetween}
+-- What a ray meets at a vertex, inside an edge, and first of all.
+use Rattle.std.proofs.Common.{◌≡◌, ℕ, ◌<◌, length, refl, sym, ⊎_elim, ◌⊎◌, inl, inr, subst, pos}
+use Rattle.nef_space.specs.Place.{Place, Form, form_at, slope, normal_of, toward, SamePlace, IsAhead, IsBetween}
 use Rattle.nef_space.specs.Sets.{Set}
 use Rattle.nef_space.specs.Vectors.{Vector, cross, IsZero, IsDirection}
-use Rattle.nef_geo.specs.Shapes.{form_of, place_of, far_place}
-use Rattle.nef_geo.specs.declared.hit.FarHit.{FarHit}
-use Rattle.nef_geo.specs.declared.plane.Plane.{Plane}
+use Rattle.nef_geo.specs.Shapes.{place_of}
 use Rattle.nef_forms.specs.Homogeneous.{of_place}
 use Rattle.nef_forms.proofs.Between.{place-toward, place-factor, factor-place}
 use Rattle.nef_forms.proofs.Directions.{direction-left, direction-right}
@@ -19,151 +17,157 @@ use Rattle.nef_smap.proofs.Lists.{map-at, at-map, at-within}
 use Rattle.nef_solid.specs.Complexes.{HasEnds}
 use Rattle.nef_solid.specs.Complexes.{Vertex as PlainVertex, Edge as PlainEdge}
 use Rattle.nef_solid.specs.Shows.{Shows}
-use Rattle.nef_solid.specs.Skeleton.{PlaneMeet as PlainMeet, meets_vertex, meets_edge, Meets, IsFirstInPlane}
+use Rattle.nef_solid.specs.Skeleton.{PlaneMeet as PlainMeet, meets_vertex, meets_edge, IsVertexPoint, IsEdgePoint, Meets, IsFirstInPlane}
 use Rattle.nef_solid.proofs.Planes.{plane-way}
-use Rattle.nef_solid.proofs.Ways.{between-ends, same-itself}
+use Rattle.nef_solid.proofs.Ways.{same-itself}
 use Rattle.nef_complex.specs.declared.complex.Vertex.{Vertex}
 use Rattle.nef_complex.specs.declared.complex.Edge.{Edge}
 use Rattle.nef_complex.specs.declared.complex.Complex.{Complex}
-use Rattle.nef_complex.specs.declared.complex.PlaneMeet.TheVariants.{AtVertex, AtEdge}
-use Rattle.nef_plane.specs.declared.plane.Met.{Met}
-use Rattle.nef_complex.specs.Complexes.{vertex_of, edge_of, complex_of, meet_of}
+use Rattle.nef_complex.specs.Complexes.{vertex_of, edge_of, complex_of}
 use Rattle.nef_complex.specs.Planes.{HoldsBoth}
-use Rattle.nef_plane.specs.Meets.{IsAlongAxis, HasNoSvertex, IsOffEdges, IsHitThrough, IsMet, AllHold, AtVertexNumber, AtEdgeNumber, IsNearest, IsNearestMet}
-use Rattle.nef_plane.proofs.Axes.{axis-some}
+use Rattle.nef_complex.proofs.Lines.{one-crossing}
+use Rattle.nef_complex.proofs.Parted.{held-between}
+use Rattle.nef_plane.specs.Meets.{Encounter, HasNoSvertex, IsOffEdges, AllHold, AtVertexNumber, AtEdgeNumber, IsReachedMet, IsNearestMet}
 use Rattle.nef_plane.proofs.Beside.{edge-or_end}
 use Rattle.nef_plane.proofs.Crossed.{vertex-crossed, edge-along}
-use Rattle.nef_plane.proofs.Meeting.{level-same, ahead-on, ahead-kept, one-point}
 use Rattle.nef_plane.proofs.Nearest.{between-ahead}
-use Rattle.nef_complex.proofs.Parted.{held-between}
 
 -- a point strictly between isn't the end
-not-end : (p q r : Place) → IsBetween p q r → SamePlace q r → ⊥
+pub not-end : (p q r : Place) → IsBetween p q r → SamePlace q r → ⊥
 not-end p q r b s = direction-right (toward p q) (toward q r) b (place-toward q r s)
 
-both-same : (a b q : Place) → SamePlace a q → SamePlace b q → SamePlace a b
+pub both-same : (a b q : Place) → SamePlace a q → SamePlace b q → SamePlace a b
 both-same a b q i j = factor-place a b (same-trans (of_place a) (of_place q) (of_place b) (place-factor a q i) (place-factor q b (same-place_sym b q j)))
 
-module _ (s : Set) (c : Complex) (S : Shows s (complex_of c)) (h : Plane) (p : Place) (d : Vector) (A : IsAlongAxis (form_of h) d) (on : form_at (form_of h) p ≡ pos 0) where
-  -- ---- a vertex
-  module _ (k : ℕ) (v : Vertex) (a : At c.vertices k v) where
-    abbrev y : Place
-    y = place_of v.point
+-- ---- the point of a vertex, and the ends of an edge
+pub vertex-same : (c : Complex) (k : ℕ) (v : Vertex) → At c.vertices k v → (y : Place) → IsVertexPoint (complex_of c) k y → SamePlace (place_of v.point) y
+vertex-same c k v a y (x, l, o) = subst (λ (r : PlainVertex). SamePlace r.point y) (at-one (complex_of c).vertices k x (vertex_of v) l (map-at vertex_of c.vertices k v a)) o
 
-    listed : At (complex_of c).vertices k (vertex_of v)
-    listed = map-at vertex_of c.vertices k v a
+module _ (s : Set) (c : Complex) (S : Shows s (complex_of c)) (k : ℕ) (e : Edge) (u v : Vertex) (l : At c.edges k e) (i : At c.vertices e.low u) (j : At c.vertices e.high v) where
+  abbrev low : Place
+  low = place_of u.point
 
-    at-same : (m : PlainMeet) (q : Place) → AtVertexNumber (complex_of c) k m q → SamePlace y q
-    at-same m q (e, (x, l, o)) = subst (λ (r : PlainVertex). SamePlace r.point q) (at-one (complex_of c).vertices k x (vertex_of v) l listed) o
+  abbrev high : Place
+  high = place_of v.point
 
-    pub vertex-none : ((q : Place) → IsMet (form_of h) p d y y q → AllHold c.carriers d y y) → IsNearest p d (AtVertexNumber (complex_of c) k) None
-    vertex-none N = λ n q w x.
-        let o = at-same n q x in
-        let z = level-same (form_of h) q y (same-place_sym y q o) (ahead-on h p d A on q w) in
-        vertex-crossed s c S d (axis-some h d A) k (vertex_of v) listed (N q (record { holds = (z, z); ahead = w; on = inr (o, o) }))
+  pub listed_edge : At (complex_of c).edges k (edge_of e)
+  listed_edge = map-at edge_of c.edges k e l
 
-    module _ (at : FarHit) (M : IsMet (form_of h) p d y y (far_place at)) (T : IsHitThrough p d y y at) where
-      same : SamePlace y (far_place at)
-      same = ⊎_elim (λ (b : IsBetween y (far_place at) y). absurd (between-ends y (far_place at) y b (place-toward y y (same-itself y)))) (λ (t : SamePlace y (far_place at) × SamePlace y (far_place at)). t.0) M.on
+  pub ends : HasEnds (complex_of c) (edge_of e) (vertex_of u) (vertex_of v)
+  ends = record { low = map-at vertex_of c.vertices e.low u i; high = map-at vertex_of c.vertices e.high v j }
 
-      pub vertex-some : IsNearestMet p d (AtVertexNumber (complex_of c) k) (record { meet = AtVertex k; at = at })
-      vertex-some = record {
-        reached = T.reached;
-        ahead = M.ahead;
-        met = (refl, (vertex_of v, listed, same));
-        first = λ n q b x. not-end p q (far_place at) b (both-same q (far_place at) y (same-place_sym y q (at-same n q x)) (same-place_sym y (far_place at) same));
-      }
+  pub apart : IsDirection (toward low high)
+  apart =
+      let E = S.edges.edges k (edge_of e) listed_edge in
+      let f = at-one (complex_of c).vertices e.low E.low_vertex (vertex_of u) E.is_low ends.low in
+      let g = at-one (complex_of c).vertices e.high E.high_vertex (vertex_of v) E.is_high ends.high in
+      subst (λ (w : PlainVertex). IsDirection (toward low w.point)) g (subst (λ (w : PlainVertex). IsDirection (toward w.point E.high_vertex.point)) f
+      (direction-left (toward E.low_vertex.point E.high_vertex.point) E.low_end.way E.ahead))
 
-  -- ---- an edge
-  module _ (k : ℕ) (e : Edge) (u v : Vertex) (l : At c.edges k e) (i : At c.vertices e.low u) (j : At c.vertices e.high v) where
-    abbrev low : Place
-    low = place_of u.point
+  -- what holds of the ends of the edge with this number
+  pub of-ends : (P : Place → Place → Type 0) (f : PlainEdge) (x z : PlainVertex) → At (complex_of c).edges k f → HasEnds (complex_of c) f x z → P x.point z.point → P low high
+  of-ends P f x z g H m =
+      let eq = at-one (complex_of c).edges k f (edge_of e) g listed_edge in
+      let first = at-one (complex_of c).vertices e.low x (vertex_of u) (subst (λ (r : PlainEdge). At (complex_of c).vertices r.low x) eq H.low) ends.low in
+      let second = at-one (complex_of c).vertices e.high z (vertex_of v) (subst (λ (r : PlainEdge). At (complex_of c).vertices r.high z) eq H.high) ends.high in
+      subst (λ (r : PlainVertex). P low r.point) second (subst (λ (r : PlainVertex). P r.point z.point) first m)
 
-    abbrev high : Place
-    high = place_of v.point
+  pub edge-inside : (y : Place) → IsEdgePoint (complex_of c) k y → IsBetween low y high
+  edge-inside y (f, x, z, g, H, m) = of-ends (λ r t. IsBetween r y t) f x z g H m
 
-    listed_edge : At (complex_of c).edges k (edge_of e)
-    listed_edge = map-at edge_of c.edges k e l
+-- ---- a vertex
+module _ (s : Set) (c : Complex) (S : Shows s (complex_of c)) (p : Place) (d : Vector) (some : IsDirection d) (k : ℕ) (v : Vertex) (a : At c.vertices k v) where
+  abbrev y : Place
+  y = place_of v.point
 
-    ends : HasEnds (complex_of c) (edge_of e) (vertex_of u) (vertex_of v)
-    ends = record { low = map-at vertex_of c.vertices e.low u i; high = map-at vertex_of c.vertices e.high v j }
+  listed : At (complex_of c).vertices k (vertex_of v)
+  listed = map-at vertex_of c.vertices k v a
 
-    apart : IsDirection (toward low high)
-    apart =
-        let E = S.edges.edges k (edge_of e) listed_edge in
-        let f = at-one (complex_of c).vertices e.low E.low_vertex (vertex_of u) E.is_low ends.low in
-        let g = at-one (complex_of c).vertices e.high E.high_vertex (vertex_of v) E.is_high ends.high in
-        subst (λ (w : PlainVertex). IsDirection (toward low w.point)) g (subst (λ (w : PlainVertex). IsDirection (toward w.point E.high_vertex.point)) f
-        (direction-left (toward E.low_vertex.point E.high_vertex.point) E.low_end.way E.ahead))
+  -- the ray doesn't meet it, where all planes that hold it would be along the ray
+  pub vertex-none : ((q : Place) → IsAhead p d q → SamePlace y q → AllHold c.carriers d y y) → (m : PlainMeet) (q : Place) → IsAhead p d q → AtVertexNumber (complex_of c) k m q → ⊥
+  vertex-none N m q w x = vertex-crossed s c S d some k (vertex_of v) listed (N q w (vertex-same c k v a q x.1))
 
-    -- what is inside the edge is so for its ends
-    inside : (m : PlainMeet) (q : Place) → AtEdgeNumber (complex_of c) (form_of h) d k m q → IsBetween low q high × HoldsBoth (form_of h) low high × (IsZero (cross (toward low high) d) → ⊥)
-    inside m q (o, f, x, z, a, H, b, n, t) =
-        let eq = at-one (complex_of c).edges k f (edge_of e) a listed_edge in
-        let first = at-one (complex_of c).vertices e.low x (vertex_of u) (subst (λ (r : PlainEdge). At (complex_of c).vertices r.low x) eq H.low) ends.low in
-        let second = at-one (complex_of c).vertices e.high z (vertex_of v) (subst (λ (r : PlainEdge). At (complex_of c).vertices r.high z) eq H.high) ends.high in
-        subst (λ (r : PlainVertex). IsBetween low q r.point × HoldsBoth (form_of h) low r.point × (IsZero (cross (toward low r.point) d) → ⊥)) second
-        (subst (λ (r : PlainVertex). IsBetween r.point q z.point × HoldsBoth (form_of h) r.point z.point × (IsZero (cross (toward r.point z.point) d) → ⊥)) first (b, n, t))
+  pub vertex-some : (x : Encounter) → x.meet ≡ meets_vertex k → SamePlace y x.at.place → IsAhead p d x.at.place → IsReachedMet p d x → IsNearestMet p d (AtVertexNumber (complex_of c) k) x
+  vertex-some x e same w r = record {
+    reached = r;
+    ahead = w;
+    met = (e, (vertex_of v, listed, same));
+    first = λ n q b m. not-end p q x.at.place b (both-same q x.at.place y (same-place_sym y q (vertex-same c k v a q m.1)) (same-place_sym y x.at.place same));
+  }
 
-    pub edge-none : ((q : Place) → IsMet (form_of h) p d low high q → AllHold c.carriers d low high) → IsNearest p d (AtEdgeNumber (complex_of c) (form_of h) d k) None
-    edge-none N = λ n q w x.
-        let b = inside n q x in
-        b.2 (edge-along s c S d k (edge_of e) (vertex_of u) (vertex_of v) q listed_edge ends b.0 (N q (record { holds = b.1; ahead = w; on = inl b.0 })))
+-- ---- an edge
+module _ (s : Set) (c : Complex) (S : Shows s (complex_of c)) (h : Form) (p : Place) (d : Vector) (some : IsDirection d) (k : ℕ) (e : Edge) (u v : Vertex) (l : At c.edges k e) (i : At c.vertices e.low u) (j : At c.vertices e.high v) where
+  abbrev a : Place
+  a = place_of u.point
 
-    module _ (at : FarHit) (M : IsMet (form_of h) p d low high (far_place at)) (T : IsHitThrough p d low high at) where
-      between : IsBetween low (far_place at) high
-      between = ⊎_elim (λ (b : IsBetween low (far_place at) high). b) (λ (t : SamePlace low (far_place at) × SamePlace high (far_place at)). absurd (apart (place-toward low high (both-same low high (far_place at) t.0 t.1)))) M.on
+  abbrev b : Place
+  b = place_of v.point
 
-      not-along : IsZero (cross (toward low high) d) → ⊥
-      not-along z = T.crosses.passes (in-span (normal_of (form_of T.plane)) (toward low high) d apart z (plane-way (form_of T.plane) low high T.holds.0 T.holds.1))
+  E : HasEnds (complex_of c) (edge_of e) (vertex_of u) (vertex_of v)
+  E = ends s c S k e u v l i j
 
-      pub edge-some : IsNearestMet p d (AtEdgeNumber (complex_of c) (form_of h) d k) (record { meet = AtEdge k; at = at })
-      edge-some = record {
-        reached = T.reached;
-        ahead = M.ahead;
-        met = (refl, edge_of e, vertex_of u, vertex_of v, listed_edge, ends, between, M.holds, not-along);
-        first = λ n q b x.
-            let w = between-ahead p q (far_place at) d b M.ahead in
-            let r = inside n q x in
-            not-end p q (far_place at) b (one-point h p d A on (form_of T.plane) q (far_place at) (ahead-on h p d A on q w, ahead-on h p d A on (far_place at) M.ahead)
-            (ahead-kept h p d A on q w, ahead-kept h p d A on (far_place at) M.ahead) (held-between (form_of T.plane) low high q r.0 T.holds, T.crosses.on) T.crosses.passes);
-      }
+  F : At (complex_of c).edges k (edge_of e)
+  F = listed_edge s c S k e u v l i j
 
-  -- ---- all
-  abbrev pub Any : PlainMeet → Place → Type 0
-  Any m q = ((k : ℕ) × AtVertexNumber (complex_of c) k m q) ⊎ ((k : ℕ) × AtEdgeNumber (complex_of c) (form_of h) d k m q)
+  -- what is inside the edge is so for its ends
+  inside : (m : PlainMeet) (q : Place) → AtEdgeNumber (complex_of c) h d k m q → IsBetween a q b × HoldsBoth h a b × (IsZero (cross (toward a b) d) → ⊥)
+  inside m q (o, f, x, z, g, H, w, n, t) = of-ends s c S k e u v l i j (λ r t. IsBetween r q t × HoldsBoth h r t × (IsZero (cross (toward r t) d) → ⊥)) f x z g H (w, n, t)
 
-  module _ (off : IsOffEdges (complex_of c) (form_of h) p) (no_svertex : HasNoSvertex (complex_of c) p d) where
-    abbrev Sooner : Place → Type 0
-    Sooner q = (j : ℕ) × (x : PlainVertex) × At (complex_of c).vertices j x × IsBetween p x.point q
+  -- the ray doesn't meet it, where all planes that hold it would be along the ray
+  pub edge-none : ((q : Place) → IsAhead p d q → IsBetween a q b → HoldsBoth h a b → AllHold c.carriers d a b) → (m : PlainMeet) (q : Place) → IsAhead p d q → AtEdgeNumber (complex_of c) h d k m q → ⊥
+  edge-none N m q w x =
+      let r = inside m q x in
+      r.2 (edge-along s c S d k (edge_of e) (vertex_of u) (vertex_of v) F E (apart s c S k e u v l i j) (N q w r.0 r.1))
 
-    -- what is met is a vertex or an edge that isn't along the ray, or lies past a vertex
-    met-as : (m : PlainMeet) (q : Place) → IsAhead p d q → Meets (complex_of c) (form_of h) m q → Any m q ⊎ Sooner q
-    met-as (meets_vertex k) q w x = inl (inl (k, (refl, x)))
-    met-as (meets_edge k) q w ((e, v, x, a, H, b), (f, t, z, l, K, i, j)) =
-        let eq = at-one (complex_of c).edges k f e l a in
-        let first = at-one (complex_of c).vertices e.low t v (subst (λ (r : PlainEdge). At (complex_of c).vertices r.low t) eq K.low) H.low in
-        let second = at-one (complex_of c).vertices e.high z x (subst (λ (r : PlainEdge). At (complex_of c).vertices r.high z) eq K.high) H.high in
-        let n : form_at (form_of h) v.point ≡ pos 0 = subst (λ (r : PlainVertex). form_at (form_of h) r.point ≡ pos 0) first i in
-        let o : form_at (form_of h) x.point ≡ pos 0 = subst (λ (r : PlainVertex). form_at (form_of h) r.point ≡ pos 0) second j in
-        ⊎_elim (λ r. inl (inr (k, r))) (λ r. inr r) (edge-or_end (complex_of c) h p d A on no_svertex s S off k e v x q a H b (n, o) w)
+  module _ (x : Encounter) (g : Form) (G : HoldsBoth g a b) (passes : slope g d ≡ pos 0 → ⊥) (m : IsBetween a x.at.place b) (w : IsAhead p d x.at.place) where
+    not-along : IsZero (cross (toward a b) d) → ⊥
+    not-along z = passes (in-span (normal_of g) (toward a b) d (apart s c S k e u v l i j) z (plane-way g a b G.0 G.1))
 
-    pub first-none : IsNearest p d Any None → (m : PlainMeet) (q : Place) → IsAhead p d q → Meets (complex_of c) (form_of h) m q → ⊥
-    first-none N m q w x = ⊎_elim (N m q w)
-        (λ ((j, y, l, b) : Sooner q). N (meets_vertex j) y.point (between-ahead p y.point q d b w) (inl (j, (refl, (y, l, same-itself y.point))))) (met-as m q w x)
-
-    pub first-some : (r : Met) → IsNearestMet p d Any r → IsFirstInPlane (complex_of c) (form_of h) p d (meet_of r.meet)
-    first-some r N = record {
-      place = far_place r.at;
-      ahead = N.ahead;
-      meets = ⊎_elim
-          (λ ((k, (e, x)) : (k : ℕ) × AtVertexNumber (complex_of c) k (meet_of r.meet) (far_place r.at)). subst (λ (m : PlainMeet). Meets (complex_of c) (form_of h) m (far_place r.at)) (sym e) x)
-          (λ ((k, (o, e, v, w, a, H, b, i, n)) : (k : ℕ) × AtEdgeNumber (complex_of c) (form_of h) d k (meet_of r.meet) (far_place r.at)).
-          subst (λ (m : PlainMeet). Meets (complex_of c) (form_of h) m (far_place r.at)) (sym o) ((e, v, w, a, H, b), (e, v, w, a, H, i.0, i.1))) N.met;
-      first = λ q n b x. ⊎_elim (N.first n q b)
-          (λ ((j, y, l, t) : Sooner q). N.first (meets_vertex j) y.point (between-inner p q (far_place r.at) y.point b t) (inl (j, (refl, (y, l, same-itself y.point)))))
-          (met-as n q (between-ahead p q (far_place r.at) d b N.ahead) x);
+    pub edge-some : x.meet ≡ meets_edge k → HoldsBoth h a b → IsReachedMet p d x → IsNearestMet p d (AtEdgeNumber (complex_of c) h d k) x
+    edge-some o H r = record {
+      reached = r;
+      ahead = w;
+      met = (o, edge_of e, vertex_of u, vertex_of v, F, E, m, H, not-along);
+      first = λ n q t f.
+          let z = inside n q f in
+          not-end p q x.at.place t (one-crossing g d p q x.at.place (between-ahead p q x.at.place d t w).parallel w.parallel (held-between g a b q z.0 G, held-between g a b x.at.place m G) passes);
     }
+
+-- ---- all
+abbrev pub Any : Complex → Form → Vector → PlainMeet → Place → Type 0
+Any c h d m q = ((k : ℕ) × AtVertexNumber (complex_of c) k m q) ⊎ ((k : ℕ) × AtEdgeNumber (complex_of c) h d k m q)
+
+module _ (s : Set) (c : Complex) (S : Shows s (complex_of c)) (h : Form) (p : Place) (d : Vector) (some : IsDirection d) (off : IsOffEdges (complex_of c) h p) (no_svertex : HasNoSvertex (complex_of c) p d) where
+  abbrev Sooner : Place → Type 0
+  Sooner q = (j : ℕ) × (x : PlainVertex) × At (complex_of c).vertices j x × IsBetween p x.point q
+
+  -- what is met is a vertex or an edge that isn't along the ray, or lies past a vertex
+  met-as : (m : PlainMeet) (q : Place) → IsAhead p d q → Meets (complex_of c) h m q → Any c h d m q ⊎ Sooner q
+  met-as (meets_vertex k) q w x = inl (inl (k, (refl, x)))
+  met-as (meets_edge k) q w ((e, v, x, a, H, b), (f, t, z, l, K, i, j)) =
+      let eq = at-one (complex_of c).edges k f e l a in
+      let first = at-one (complex_of c).vertices e.low t v (subst (λ (r : PlainEdge). At (complex_of c).vertices r.low t) eq K.low) H.low in
+      let second = at-one (complex_of c).vertices e.high z x (subst (λ (r : PlainEdge). At (complex_of c).vertices r.high z) eq K.high) H.high in
+      let n : form_at h v.point ≡ pos 0 = subst (λ (r : PlainVertex). form_at h r.point ≡ pos 0) first i in
+      let o : form_at h x.point ≡ pos 0 = subst (λ (r : PlainVertex). form_at h r.point ≡ pos 0) second j in
+      ⊎_elim (λ r. inl (inr (k, r))) (λ r. inr r) (edge-or_end (complex_of c) h p d some no_svertex s S off k e v x q a H b (n, o) w)
+
+  pub first-none : ((m : PlainMeet) (q : Place) → IsAhead p d q → Any c h d m q → ⊥) → (m : PlainMeet) (q : Place) → IsAhead p d q → Meets (complex_of c) h m q → ⊥
+  first-none N m q w x = ⊎_elim (N m q w)
+      (λ ((j, y, l, b) : Sooner q). N (meets_vertex j) y.point (between-ahead p y.point q d b w) (inl (j, (refl, (y, l, same-itself y.point))))) (met-as m q w x)
+
+  pub first-some : (r : Encounter) → IsNearestMet p d (Any c h d) r → IsFirstInPlane (complex_of c) h p d r.meet
+  first-some r N = record {
+    place = r.at.place;
+    ahead = N.ahead;
+    meets = ⊎_elim
+        (λ ((k, (e, x)) : (k : ℕ) × AtVertexNumber (complex_of c) k r.meet r.at.place). subst (λ (m : PlainMeet). Meets (complex_of c) h m r.at.place) (sym e) x)
+        (λ ((k, (o, e, v, w, a, H, b, i, n)) : (k : ℕ) × AtEdgeNumber (complex_of c) h d k r.meet r.at.place).
+        subst (λ (m : PlainMeet). Meets (complex_of c) h m r.at.place) (sym o) ((e, v, w, a, H, b), (e, v, w, a, H, i.0, i.1))) N.met;
+    first = λ q n b x. ⊎_elim (N.first n q b)
+        (λ ((j, y, l, t) : Sooner q). N.first (meets_vertex j) y.point (between-inner p q r.at.place y.point b t) (inl (j, (refl, (y, l, same-itself y.point)))))
+        (met-as n q (between-ahead p q r.at.place d b N.ahead) x);
+  }
 
 -- ---- numbers of what is met
 pub vertex-within : (c : Complex) (k : ℕ) (m : PlainMeet) (q : Place) → AtVertexNumber (complex_of c) k m q → k < length c.vertices

@@ -4,5 +4,8 @@ pub mod Nearest
 pub mod Crossed
 pub mod Beside
 pub mod Found
+pub mod Swept
 pub mod Sweep
 pub mod Choosing
+pub mod Amid
+pub mod Reached

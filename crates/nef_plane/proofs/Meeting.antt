@@ -62,12 +62,6 @@ ahead-level f p d y w some e z =
     (given (num (pos 0) ⊖ num (pos 1)) (at 2) (at 3 ⊗ at 1 ⊖ at 4 ⊗ at 0) (slope-toward f p y)
     (given (at 4) (at 0) (num (pos 0)) e (given (num (pos 1)) (at 2) (num (pos 0)) (in-span (normal_of f) d (toward p y) some (cross-turned (toward p y) d w.parallel) z) none))) (weight p) tt
 
-behind-level : (f : Form) (v : Place) (d : Vector) (q : Place) → IsAhead v d q → IsDirection d → form_at f q ≡ pos 0 → slope f d ≡ pos 0 → form_at f v ≡ pos 0
-behind-level f v d q w some e z =
-    follows_times (form_at f v ∷ form_at f q ∷ slope f (toward v q) ∷ pos v.w ∷ pos q.w ∷ []) (at 4) (at 0) (num (pos 0))
-    (given (num (pos 1)) (at 2) (at 3 ⊗ at 1 ⊖ at 4 ⊗ at 0) (slope-toward f v q)
-    (given (at 3) (at 1) (num (pos 0)) e (given (num (pos 0) ⊖ num (pos 1)) (at 2) (num (pos 0)) (in-span (normal_of f) d (toward v q) some (cross-turned (toward v q) d w.parallel) z) none))) (weight q) tt
-
 module _ (h : Plane) (p : Place) (d : Vector) (A : IsAlongAxis (form_of h) d) (on : form_at (form_of h) p ≡ pos 0) where
   abbrev e : Vector
   e = sweep_axis (form_of h)
@@ -78,7 +72,7 @@ module _ (h : Plane) (p : Place) (d : Vector) (A : IsAlongAxis (form_of h) d) (o
   pub ahead-on : (y : Place) → IsAhead p d y → form_at (form_of h) y ≡ pos 0
   ahead-on y w = ahead-level (form_of h) p d y w (axis-some h d A) on (axis-level h d A)
 
-  pub start-kept : form_at k p ≡ pos 0
+  start-kept : form_at k p ≡ pos 0
   start-kept = through-at e p p ∙ dot-zero e (toward p p) (place-toward p p (same-itself p))
 
   kept-slope : slope k d ≡ pos 0
@@ -87,12 +81,8 @@ module _ (h : Plane) (p : Place) (d : Vector) (A : IsAlongAxis (form_of h) d) (o
   pub ahead-kept : (y : Place) → IsAhead p d y → form_at k y ≡ pos 0
   ahead-kept y w = ahead-level k p d y w (axis-some h d A) start-kept kept-slope
 
-  -- what lies behind a point of the line
-  pub behind-kept : (v q : Place) → form_at k q ≡ pos 0 → SameDirection (toward v q) d → form_at k v ≡ pos 0
-  behind-kept v q o w = behind-level k v d q w (axis-some h d A) o kept-slope
-
   -- points of the plane with one sweep coordinate lie on a line along d
-  pub line-way : (y z : Place) → HoldsBoth (form_of h) y z → HoldsBoth k y z → IsZero (cross (toward y z) d)
+  line-way : (y z : Place) → HoldsBoth (form_of h) y z → HoldsBoth k y z → IsZero (cross (toward y z) d)
   line-way y z (i, j) (m, n) = axis-parallel h d A (toward y z) (plane-way (form_of h) y z i j)
       (times-nought (pos p.w) (dot e (toward y z)) (weight p) (sym (through-slope e p (toward y z)) ∙ plane-way k y z m n))
 

@@ -1,20 +1,22 @@
--- What a ray along the axis of a plane meets there.
-use Rattle.std.specs.Prelude.{◌≡◌, ℕ, pos, neg_ℤ, cond, ◌&&◌, ◌⊎◌, Option, Some, List}
+-- What a ray within a plane meets there.
+use Rattle.std.specs.Prelude.{◌≡◌, ℕ, ℤ, pos, ◌<ℤ◌, neg_ℤ, cond, ◌&&◌, ◌⊎◌, Option, Some, List}
 use Rattle.std.specs.Option.{MatchOption}
 use Rattle.std.specs.Ordering.{int_eq}
 use Rattle.nef_space.specs.Place.{Place, Form, form_at, slope, normal_of, plane_through, toward, SamePlace, IsAhead, IsBetween}
 use Rattle.nef_space.specs.Vectors.{Vector, vector, cross, opposite, plane_axis, IsZero, SameDirection}
 use Rattle.nef_geo.specs.Hits.{IsCrossing, IsReached}
-use Rattle.nef_geo.specs.Shapes.{form_of, far_place}
+use Rattle.nef_geo.specs.Shapes.{form_of, hit_place, far_place}
 use Rattle.nef_geo.specs.Signs.{sign_of}
 use Rattle.nef_geo.specs.declared.hit.FarHit.{FarHit}
+use Rattle.nef_geo.specs.declared.hit.Hit.{Hit}
 use Rattle.nef_geo.specs.declared.plane.Plane.{Plane}
 use Rattle.nef_sphere.specs.Maps.{At, Svertex}
 use Rattle.nef_solid.specs.Complexes.{Vertex, Edge, Complex, HasEnds}
 use Rattle.nef_solid.specs.Skeleton.{PlaneMeet, meets_vertex, meets_edge, IsVertexPoint, IsEdgePoint, LiesIn}
-use Rattle.nef_plane.specs.declared.plane.Met.{Met}
 use Rattle.nef_complex.specs.Complexes.{meet_of}
 use Rattle.nef_complex.specs.Planes.{HoldsBoth}
+use Rattle.nef_plane.specs.declared.along.Met.{Met}
+use Rattle.nef_plane.specs.declared.plane.FarMet.{FarMet}
 
 -- the direction is that of the plane's axis, or its opposite
 abbrev pub IsAlongAxis : Form → Vector → Type 0
@@ -40,26 +42,47 @@ sweep_form h p = plane_through (sweep_axis h) p
 abbrev pub AreOpposite : Form → Place → Place → Type 0
 AreOpposite k a b = sign_of (form_at k a) ≡ sign_of (neg_ℤ (form_at k b))
 
--- the ray crosses the plane, which holds both points, at the hit
-pub record IsHitThrough (p : Place) (d : Vector) (a b : Place) (q : FarHit) : Type 0 where
+-- a point of a ray, with the step at which it stands
+pub record Reach : Type 0 where
+  pub place : Place
+  pub num : ℤ
+  pub den : ℤ
+  pub den_sign : pos 0 <ℤ den
+
+abbrev pub reach_of : Hit → Reach
+reach_of q = record { place = hit_place q; num = q.num; den = q.den; den_sign = q.den_sign }
+
+abbrev pub far_reach_of : FarHit → Reach
+far_reach_of q = record { place = far_place q; num = q.num; den = q.den; den_sign = q.den_sign }
+
+-- the ray crosses the plane, which holds both points, there
+pub record IsHitThrough (p : Place) (d : Vector) (a b : Place) (q : Reach) : Type 0 where
   pub plane : Plane
   pub holds : HoldsBoth (form_of plane) a b
-  pub crosses : IsCrossing p d (form_of plane) (far_place q)
-  pub reached : IsReached p d q.num q.den q.den_sign (far_place q)
+  pub crosses : IsCrossing p d (form_of plane) q.place
+  pub reached : IsReached p d q.num q.den q.den_sign q.place
 
 -- none of the planes that hold both points crosses the ray
 abbrev pub NoneCrosses : List Plane → Place → Vector → Place → Place → Type 0
 NoneCrosses gs p d a b = (i : ℕ) (g : Plane) → At gs i g → HoldsBoth (form_of g) a b → (q : Place) → IsCrossing p d (form_of g) q → ⊥
 
+-- y lies strictly between two points, or is both
+abbrev pub IsWithin : Place → Place → Place → Type 0
+IsWithin a b y = IsBetween a y b ⊎ (SamePlace a y × SamePlace b y)
+
 -- the ray meets y, which lies strictly between two points of the plane, or is both
 pub record IsMet (h : Form) (p : Place) (d : Vector) (a b y : Place) : Type 0 where
   pub holds : HoldsBoth h a b
   pub ahead : IsAhead p d y
-  pub on : IsBetween a y b ⊎ (SamePlace a y × SamePlace b y)
+  pub on : IsWithin a b y
 
 -- all of the planes that hold both points hold the direction
 abbrev pub AllHold : List Plane → Vector → Place → Place → Type 0
 AllHold gs d a b = (i : ℕ) (g : Plane) → At gs i g → HoldsBoth (form_of g) a b → slope (form_of g) d ≡ pos 0
+
+-- the plane holds both points and isn't along the direction
+abbrev pub IsAcross : Vector → Place → Place → Plane → Type 0
+IsAcross d a b g = HoldsBoth (form_of g) a b × (slope (form_of g) d ≡ pos 0 → ⊥)
 
 -- what the ray meets is at the vertex with this number
 abbrev pub AtVertexNumber : Complex → ℕ → PlaneMeet → Place → Type 0
@@ -70,27 +93,42 @@ abbrev pub AtEdgeNumber : Complex → Form → Vector → ℕ → PlaneMeet → 
 AtEdgeNumber C h d k m q = (m ≡ meets_edge k) × (e : Edge) × (v : Vertex) × (w : Vertex) × At C.edges k e × HasEnds C e v w × IsBetween v.point q w.point
     × HoldsBoth h v.point w.point × (IsZero (cross (toward v.point w.point) d) → ⊥)
 
+-- what a ray meets, and where
+pub record Encounter : Type 0 where
+  pub meet : PlaneMeet
+  pub at : Reach
+
+abbrev pub met_of : Met → Encounter
+met_of x = record { meet = meet_of x.meet; at = reach_of x.at }
+
+abbrev pub far_met_of : FarMet → Encounter
+far_met_of x = record { meet = meet_of x.meet; at = far_reach_of x.at }
+
+-- what is met stands at its step along the ray
+abbrev pub IsReachedMet : Place → Vector → Encounter → Type 0
+IsReachedMet p d x = IsReached p d x.at.num x.at.den x.at.den_sign x.at.place
+
 -- of what has P the ray meets this first
-pub record IsNearestMet (p : Place) (d : Vector) (P : PlaneMeet → Place → Type 0) (x : Met) : Type 0 where
-  pub reached : IsReached p d x.at.num x.at.den x.at.den_sign (far_place x.at)
-  pub ahead : IsAhead p d (far_place x.at)
-  pub met : P (meet_of x.meet) (far_place x.at)
-  pub first : (n : PlaneMeet) (q : Place) → IsBetween p q (far_place x.at) → P n q → ⊥
+pub record IsNearestMet (p : Place) (d : Vector) (P : PlaneMeet → Place → Type 0) (x : Encounter) : Type 0 where
+  pub reached : IsReachedMet p d x
+  pub ahead : IsAhead p d x.at.place
+  pub met : P x.meet x.at.place
+  pub first : (n : PlaneMeet) (q : Place) → IsBetween p q x.at.place → P n q → ⊥
 
 -- the first of what has P, or none where the ray meets nothing that has it
-abbrev pub IsNearest : Place → Vector → (PlaneMeet → Place → Type 0) → Option Met → Type 0
-IsNearest p d P o = MatchOption o ((n : PlaneMeet) (q : Place) → IsAhead p d q → P n q → ⊥) (IsNearestMet p d P)
+abbrev pub IsNearest : {X : Type 0} → (X → Encounter) → Place → Vector → (PlaneMeet → Place → Type 0) → Option X → Type 0
+IsNearest met p d P o = MatchOption o ((n : PlaneMeet) (q : Place) → IsAhead p d q → P n q → ⊥) (λ x. IsNearestMet p d P (met x))
 
--- the hit isn't past the other one
-abbrev pub IsNotPast : Vector → Met → Met → Type 0
-IsNotPast d x y = SamePlace (far_place x.at) (far_place y.at) ⊎ IsAhead (far_place x.at) d (far_place y.at)
+-- the one isn't past the other
+abbrev pub IsNotPast : Vector → Encounter → Encounter → Type 0
+IsNotPast d x y = SamePlace x.at.place y.at.place ⊎ IsAhead x.at.place d y.at.place
 
 -- the option is one of the two, and not past either
-pub record IsNearer (d : Vector) (a b r : Option Met) : Type 0 where
+pub record IsNearer {X : Type 0} (met : X → Encounter) (d : Vector) (a b r : Option X) : Type 0 where
   pub one : (r ≡ a) ⊎ (r ≡ b)
-  pub first : (x : Met) → a ≡ Some x → (y : Met) × (r ≡ Some y) × IsNotPast d y x
-  pub second : (x : Met) → b ≡ Some x → (y : Met) × (r ≡ Some y) × IsNotPast d y x
+  pub first : (x : X) → a ≡ Some x → (y : X) × (r ≡ Some y) × IsNotPast d (met y) (met x)
+  pub second : (x : X) → b ≡ Some x → (y : X) × (r ≡ Some y) × IsNotPast d (met y) (met x)
 
--- the hit stands at its step along the ray
-abbrev pub IsReachedMet : Place → Vector → Met → Type 0
-IsReachedMet p d x = IsReached p d x.at.num x.at.den x.at.den_sign (far_place x.at)
+-- P of the point of the vertex with this number
+abbrev pub FromVertex : Complex → ℕ → (Place → Type 0) → Type 0
+FromVertex C k P = (v : Vertex) → At C.vertices k v → P v.point

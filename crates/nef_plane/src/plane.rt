@@ -13,7 +13,7 @@ ghost use Rattle.nef_geo.specs.Widths.{upright_limit, upright_weight_limit};
 ghost use Rattle.nef_solid.specs.Skeleton.{PlaneMeet as PlainMeet, Meets, IsFirstInPlane};
 ghost use Rattle.nef_complex.specs.Complexes.{complex_of, meet_of, ShowsSet};
 ghost use Rattle.nef_complex.specs.Planes.{HoldsBoth};
-ghost use Rattle.nef_plane.specs.Meets.{IsAlongAxis, HasNoSvertex, IsOffEdges, sweep_form, AreOpposite, IsHitThrough, NoneCrosses, IsMet, AllHold, AtVertexNumber, AtEdgeNumber, IsNearest, IsNearer, IsReachedMet};
+ghost use Rattle.nef_plane.specs.Meets.{IsAlongAxis, HasNoSvertex, IsOffEdges, sweep_form, AreOpposite, IsHitThrough, NoneCrosses, IsMet, AllHold, AtVertexNumber, AtEdgeNumber, IsNearest, IsNearer, IsReachedMet, far_met_of, far_reach_of};
 
 use nef_complex::{Complex, PlaneMeet, holds_both};
 use nef_geo::{Dir, FarHit, Hit, Plane, Point, Sign, far_hit, far_order};
@@ -21,7 +21,7 @@ use std::cmp::Ordering;
 
 // What a ray meets, and where.
 #[derive(Debug, Clone, Copy)]
-struct Met {
+struct FarMet {
     meet: PlaneMeet,
     at: FarHit,
 }
@@ -61,7 +61,7 @@ fn are_opposite(h: &Plane, p: &Hit, a: &Point, b: &Point) -> bool
 fn plane_hit(g: &Plane, a: &Point, b: &Point, p: &Hit, d: &Dir) -> Option<FarHit>
     requires numbers { IsPlaceAtMost upright_limit upright_weight_limit (hit_place p.now) }
     requires small { IsAtMost normal_limit (vector_of d.now) }
-    ensures hit { MatchOption result (HoldsBoth (form_of g.now) (place_of a.now) (place_of b.now) → (q : Place) → IsCrossing (hit_place p.now) (vector_of d.now) (form_of g.now) q → ⊥) (IsHitThrough (hit_place p.now) (vector_of d.now) (place_of a.now) (place_of b.now)) }
+    ensures hit { MatchOption result (HoldsBoth (form_of g.now) (place_of a.now) (place_of b.now) → (q : Place) → IsCrossing (hit_place p.now) (vector_of d.now) (form_of g.now) q → ⊥) (λ q. IsHitThrough (hit_place p.now) (vector_of d.now) (place_of a.now) (place_of b.now) (far_reach_of q)) }
 {
     if holds_both(g, a, b) {
         far_hit(p, d, g)
@@ -74,7 +74,7 @@ fn plane_hit(g: &Plane, a: &Point, b: &Point, p: &Hit, d: &Dir) -> Option<FarHit
 fn hit_through(planes: &[Plane], a: &Point, b: &Point, p: &Hit, d: &Dir) -> Option<FarHit>
     requires numbers { IsPlaceAtMost upright_limit upright_weight_limit (hit_place p.now) }
     requires small { IsAtMost normal_limit (vector_of d.now) }
-    ensures hit { MatchOption result (NoneCrosses planes.now (hit_place p.now) (vector_of d.now) (place_of a.now) (place_of b.now)) (IsHitThrough (hit_place p.now) (vector_of d.now) (place_of a.now) (place_of b.now)) }
+    ensures hit { MatchOption result (NoneCrosses planes.now (hit_place p.now) (vector_of d.now) (place_of a.now) (place_of b.now)) (λ q. IsHitThrough (hit_place p.now) (vector_of d.now) (place_of a.now) (place_of b.now) (far_reach_of q)) }
 {
     for g in planes {
         if let Some(q) = plane_hit(g, a, b, p, d) {
@@ -91,7 +91,7 @@ fn met_at(planes: &[Plane], h: &Plane, p: &Hit, d: &Dir, a: &Point, b: &Point) -
     requires axis { IsAlongAxis (form_of h.now) (vector_of d.now) }
     requires small { IsAtMost normal_limit (vector_of d.now) }
     ensures met { IfSome result (λ q. IsMet (form_of h.now) (hit_place p.now) (vector_of d.now) (place_of a.now) (place_of b.now) (far_place q)) }
-    ensures through { IfSome result (IsHitThrough (hit_place p.now) (vector_of d.now) (place_of a.now) (place_of b.now)) }
+    ensures through { IfSome result (λ q. IsHitThrough (hit_place p.now) (vector_of d.now) (place_of a.now) (place_of b.now) (far_reach_of q)) }
     ensures none { IsNone result → (y : Place) → IsMet (form_of h.now) (hit_place p.now) (vector_of d.now) (place_of a.now) (place_of b.now) y → AllHold planes.now (vector_of d.now) (place_of a.now) (place_of b.now) }
 {
     if holds_both(h, a, b) && are_opposite(h, p, a, b) {
@@ -102,10 +102,10 @@ fn met_at(planes: &[Plane], h: &Plane, p: &Hit, d: &Dir, a: &Point, b: &Point) -
 }
 
 // What the ray meets first of two.
-fn nearer(one: Option<Met>, other: Option<Met>, p: &Hit, d: &Dir) -> Option<Met>
-    requires one { IfSome one (IsReachedMet (hit_place p.now) (vector_of d.now)) }
-    requires other { IfSome other (IsReachedMet (hit_place p.now) (vector_of d.now)) }
-    ensures nearer { IsNearer (vector_of d.now) one other result }
+fn nearer(one: Option<FarMet>, other: Option<FarMet>, p: &Hit, d: &Dir) -> Option<FarMet>
+    requires one { IfSome one (λ x. IsReachedMet (hit_place p.now) (vector_of d.now) (far_met_of x)) }
+    requires other { IfSome other (λ x. IsReachedMet (hit_place p.now) (vector_of d.now) (far_met_of x)) }
+    ensures nearer { IsNearer far_met_of (vector_of d.now) one other result }
 {
     match (one, other) {
         (Some(x), Some(y)) => match far_order(&x.at, &y.at) {
@@ -119,18 +119,18 @@ fn nearer(one: Option<Met>, other: Option<Met>, p: &Hit, d: &Dir) -> Option<Met>
 }
 
 // The vertex with this number, where the ray meets it: there some carrier through it crosses the ray.
-fn vertex_met(c: &Complex, h: &Plane, p: &Hit, d: &Dir, number: usize) -> Option<Met>
+fn vertex_met(c: &Complex, h: &Plane, p: &Hit, d: &Dir, number: usize) -> Option<FarMet>
     requires shows { (s : Set) × ShowsSet s c.now }
     requires on { form_at (form_of h.now) (hit_place p.now) ≡ pos 0 }
     requires numbers { IsPlaceAtMost upright_limit upright_weight_limit (hit_place p.now) }
     requires axis { IsAlongAxis (form_of h.now) (vector_of d.now) }
     requires small { IsAtMost normal_limit (vector_of d.now) }
     requires within { number < length c.now.vertices }
-    ensures nearest { IsNearest (hit_place p.now) (vector_of d.now) (AtVertexNumber (complex_of c.now) number) result }
+    ensures nearest { IsNearest far_met_of (hit_place p.now) (vector_of d.now) (AtVertexNumber (complex_of c.now) number) result }
 {
     let point = &c.vertices.at(number).point;
     match met_at(c.carriers.as_slice(), h, p, d, point, point) {
-        Some(at) => Some(Met {
+        Some(at) => Some(FarMet {
             meet: PlaneMeet::AtVertex(number),
             at,
         }),
@@ -139,20 +139,20 @@ fn vertex_met(c: &Complex, h: &Plane, p: &Hit, d: &Dir, number: usize) -> Option
 }
 
 // The edge with this number, where the ray meets its inside.
-fn edge_met(c: &Complex, h: &Plane, p: &Hit, d: &Dir, number: usize) -> Option<Met>
+fn edge_met(c: &Complex, h: &Plane, p: &Hit, d: &Dir, number: usize) -> Option<FarMet>
     requires shows { (s : Set) × ShowsSet s c.now }
     requires on { form_at (form_of h.now) (hit_place p.now) ≡ pos 0 }
     requires numbers { IsPlaceAtMost upright_limit upright_weight_limit (hit_place p.now) }
     requires axis { IsAlongAxis (form_of h.now) (vector_of d.now) }
     requires small { IsAtMost normal_limit (vector_of d.now) }
     requires within { number < length c.now.edges }
-    ensures nearest { IsNearest (hit_place p.now) (vector_of d.now) (AtEdgeNumber (complex_of c.now) (form_of h.now) (vector_of d.now) number) result }
+    ensures nearest { IsNearest far_met_of (hit_place p.now) (vector_of d.now) (AtEdgeNumber (complex_of c.now) (form_of h.now) (vector_of d.now) number) result }
 {
     let edge = c.edges.at(number);
     let low = &c.vertices.at(edge.low).point;
     let high = &c.vertices.at(edge.high).point;
     match met_at(c.carriers.as_slice(), h, p, d, low, high) {
-        Some(at) => Some(Met {
+        Some(at) => Some(FarMet {
             meet: PlaneMeet::AtEdge(number),
             at,
         }),
@@ -161,13 +161,13 @@ fn edge_met(c: &Complex, h: &Plane, p: &Hit, d: &Dir, number: usize) -> Option<M
 }
 
 // The first vertex that the ray meets.
-fn nearest_vertex(c: &Complex, h: &Plane, p: &Hit, d: &Dir) -> Option<Met>
+fn nearest_vertex(c: &Complex, h: &Plane, p: &Hit, d: &Dir) -> Option<FarMet>
     requires shows { (s : Set) × ShowsSet s c.now }
     requires on { form_at (form_of h.now) (hit_place p.now) ≡ pos 0 }
     requires numbers { IsPlaceAtMost upright_limit upright_weight_limit (hit_place p.now) }
     requires axis { IsAlongAxis (form_of h.now) (vector_of d.now) }
     requires small { IsAtMost normal_limit (vector_of d.now) }
-    ensures nearest { IsNearest (hit_place p.now) (vector_of d.now) (λ m q. (k : ℕ) × AtVertexNumber (complex_of c.now) k m q) result }
+    ensures nearest { IsNearest far_met_of (hit_place p.now) (vector_of d.now) (λ m q. (k : ℕ) × AtVertexNumber (complex_of c.now) k m q) result }
 {
     let mut best = None;
     for number in 0..c.vertices.len() {
@@ -178,13 +178,13 @@ fn nearest_vertex(c: &Complex, h: &Plane, p: &Hit, d: &Dir) -> Option<Met>
 
 // The first edge in the plane, not along the ray, that the ray meets. Where the ray meets an edge along it, it meets an
 // end of that edge sooner.
-fn nearest_edge(c: &Complex, h: &Plane, p: &Hit, d: &Dir) -> Option<Met>
+fn nearest_edge(c: &Complex, h: &Plane, p: &Hit, d: &Dir) -> Option<FarMet>
     requires shows { (s : Set) × ShowsSet s c.now }
     requires on { form_at (form_of h.now) (hit_place p.now) ≡ pos 0 }
     requires numbers { IsPlaceAtMost upright_limit upright_weight_limit (hit_place p.now) }
     requires axis { IsAlongAxis (form_of h.now) (vector_of d.now) }
     requires small { IsAtMost normal_limit (vector_of d.now) }
-    ensures nearest { IsNearest (hit_place p.now) (vector_of d.now) (λ m q. (k : ℕ) × AtEdgeNumber (complex_of c.now) (form_of h.now) (vector_of d.now) k m q) result }
+    ensures nearest { IsNearest far_met_of (hit_place p.now) (vector_of d.now) (λ m q. (k : ℕ) × AtEdgeNumber (complex_of c.now) (form_of h.now) (vector_of d.now) k m q) result }
 {
     let mut best = None;
     for number in 0..c.edges.len() {

@@ -3,7 +3,7 @@ use Rattle.nef_geo.specs.Shapes.{place_of, hit_place, vector_of}
 use Rattle.nef_geo.specs.declared.plane.Plane.{Plane}
 use Rattle.nef_plane.specs.Meets.{AllHold}
 use Rattle.nef_complex.proofs.Ends.{low-within, high-within}
-use Rattle.nef_plane.proofs.Found.{edge-some, edge-none}
+use Rattle.nef_plane.proofs.Swept.{swept-edge, swept-no_edge}
 use Rattle.nef_complex.proofs.Reading.{got-at}
 use Rattle.nef_plane.proofs.plane.edge_met.Goals as goal
 
@@ -17,7 +17,7 @@ pub returns-in-Some : goal.returns-in-Some
 returns-in-Some c =
     let S = c.requires.shows in let e = c.at-edge.result.now in let u = c.at.result.now in let v = c.at-2.result.now in let C = c.args.c.now in
     record {
-      nearest = edge-some S.0 C S.1.shows c.args.h.now (hit_place c.args.p.now) (vector_of c.args.d.now) c.requires.axis c.requires.on c.args.number e u v
+      nearest = swept-edge S.0 C S.1.shows c.args.h.now (hit_place c.args.p.now) (vector_of c.args.d.now) c.requires.axis c.requires.on c.args.number e u v
           (got-at C.edges c.args.number e c.at-edge.ensures.element) (got-at C.vertices e.low u c.at.ensures.element) (got-at C.vertices e.high v c.at-2.ensures.element)
           c.in-Some.at c.in-Some.ensures.met c.in-Some.ensures.through;
     }
@@ -26,7 +26,7 @@ pub returns-in-None : goal.returns-in-None
 returns-in-None c =
     let S = c.requires.shows in let e = c.at-edge.result.now in let u = c.at.result.now in let v = c.at-2.result.now in let C = c.args.c.now in let d = vector_of c.args.d.now in
     record {
-      nearest = edge-none S.0 C S.1.shows c.args.h.now (hit_place c.args.p.now) d c.requires.axis c.requires.on c.args.number e u v
+      nearest = swept-no_edge S.0 C S.1.shows c.args.h.now (hit_place c.args.p.now) d c.requires.axis c.requires.on c.args.number e u v
           (got-at C.edges c.args.number e c.at-edge.ensures.element) (got-at C.vertices e.low u c.at.ensures.element) (got-at C.vertices e.high v c.at-2.ensures.element)
           (λ q M. subst (λ (gs : List Plane). AllHold gs d (place_of u.point) (place_of v.point)) c.as_slice.ensures.all (c.in-None.ensures.none refl q M));
     }
