@@ -27,7 +27,7 @@ use Rattle.nef_complex.specs.Complexes.{vertex_of, edge_of, complex_of}
 use Rattle.nef_complex.specs.Planes.{HoldsBoth}
 use Rattle.nef_complex.proofs.Lines.{one-crossing}
 use Rattle.nef_complex.proofs.Parted.{held-between}
-use Rattle.nef_plane.specs.Meets.{Encounter, HasNoSvertex, IsOffEdges, AllHold, AtVertexNumber, AtEdgeNumber, IsReachedMet, IsNearestMet}
+use Rattle.nef_plane.specs.Meets.{Encounter, FromVertex, HasNoSvertex, IsOffEdges, AllHold, AtVertexNumber, AtEdgeNumber, IsReachedMet, IsNearestMet}
 use Rattle.nef_plane.proofs.Beside.{edge-or_end}
 use Rattle.nef_plane.proofs.Crossed.{vertex-crossed, edge-along}
 use Rattle.nef_plane.proofs.Nearest.{between-ahead}
@@ -42,6 +42,9 @@ both-same a b q i j = factor-place a b (same-trans (of_place a) (of_place q) (of
 -- ---- the point of a vertex, and the ends of an edge
 pub vertex-same : (c : Complex) (k : ℕ) (v : Vertex) → At c.vertices k v → (y : Place) → IsVertexPoint (complex_of c) k y → SamePlace (place_of v.point) y
 vertex-same c k v a y (x, l, o) = subst (λ (r : PlainVertex). SamePlace r.point y) (at-one (complex_of c).vertices k x (vertex_of v) l (map-at vertex_of c.vertices k v a)) o
+
+pub from-vertex : (c : Complex) (k : ℕ) (v : Vertex) → At c.vertices k v → (P : Place → Type 0) → P (place_of v.point) → FromVertex (complex_of c) k P
+from-vertex c k v a P h x l = subst (λ (r : PlainVertex). P r.point) (at-one (complex_of c).vertices k (vertex_of v) x (map-at vertex_of c.vertices k v a) l) h
 
 module _ (s : Set) (c : Complex) (S : Shows s (complex_of c)) (k : ℕ) (e : Edge) (u v : Vertex) (l : At c.edges k e) (i : At c.vertices e.low u) (j : At c.vertices e.high v) where
   abbrev low : Place
