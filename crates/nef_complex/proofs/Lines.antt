@@ -3,7 +3,7 @@ use Rattle.std.proofs.Common.{◌≡◌, ℤ, pos, ◌-ℤ◌, ◌*ℤ◌, arith
 use Rattle.std.proofs.lemmas.Int.{ints}
 use Rattle.nef_exact.proofs.Ring.{at, num, ◌⊖◌, ◌⊗◌}
 use Rattle.nef_exact.proofs.Combination.{follows_times, given, none}
-use Rattle.nef_space.specs.Place.{Place, Form, form_at, slope, normal_of, toward, SamePlace}
+use Rattle.nef_space.specs.Place.{Place, Form, slope, normal_of, toward, SamePlace}
 use Rattle.nef_space.specs.Vectors.{Vector, cross, IsZero}
 use Rattle.nef_forms.proofs.Between.{toward-place}
 use Rattle.nef_forms.proofs.Directions.{zero-decided}

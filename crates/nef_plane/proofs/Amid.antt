@@ -1,16 +1,14 @@
 -- A point is strictly between the ends of an edge, or is a vertex, exactly where all carriers see it so.
-use Rattle.std.proofs.Common.{◌≡◌, ℕ, ◌<◌, ℤ, pos, ◌+ℤ◌, ◌-ℤ◌, ◌*ℤ◌, ◌<ℤ◌, arith, refl, ap, sym, ◌∙◌, ⊎_elim, subst, [], ◌∷◌}
+use Rattle.std.proofs.Common.{◌≡◌, ℕ, ◌<◌, ℤ, pos, ◌+ℤ◌, ◌-ℤ◌, ◌*ℤ◌, ◌<ℤ◌, arith, ap, sym, ◌∙◌, ⊎_elim, subst, [], ◌∷◌}
 use Rattle.std.proofs.lemmas.Int.{ints}
 use Rattle.nef_exact.proofs.Ring.{ring, at, num, ◌⊕◌, ◌⊖◌, ◌⊗◌}
 use Rattle.nef_exact.proofs.Order.{mul_pos, mul_neg, by_order}
 use Rattle.nef_space.specs.Place.{Place, Form, form_at, slope, normal_of, toward, SamePlace, IsBetween}
 use Rattle.nef_space.specs.Sets.{Set}
-use Rattle.nef_space.specs.Vectors.{Vector, opposite, dot, cross, IsZero, IsDirection, SameDirection}
+use Rattle.nef_space.specs.Vectors.{opposite, dot, cross, IsZero, IsDirection, SameDirection}
 use Rattle.nef_geo.specs.Shapes.{form_of, place_of}
 use Rattle.nef_geo.specs.Signs.{sign_of}
-use Rattle.nef_geo.specs.declared.sign.Sign.{Sign}
 use Rattle.nef_geo.specs.declared.sign.Sign.TheVariants.{Minus, Zero, Plus}
-use Rattle.nef_geo.specs.declared.plane.Plane.{Plane}
 use Rattle.nef_geo.proofs.Signs.{sign_of-positive, sign_of-negative}
 use Rattle.nef_arc.proofs.SignNumbers.{zero_sign}
 use Rattle.nef_forms.specs.Homogeneous.{of_place}
@@ -135,8 +133,12 @@ module _ (s : Set) (c : Complex) (S : Shows s (complex_of c)) where
       never n = vertex-crossed s c S (toward v.point b) t k v a (λ i g l m. ⊎_elim (λ e. e) (λ f. absurd (n (side-ahead (form_of g) v.point b y m.0 ((A i g l).0 m.0) f z).forward)) (nought-or (slope (form_of g) (toward v.point b))))
 
   pub vertex-amid : (k : ℕ) (v : Vertex) (y : Place) → At c.vertices k v → AreAmid c.carriers (place_of v.point) (place_of v.point) y → IsVertexPoint (complex_of c) k y
-  vertex-amid k v y a A = (vertex_of v, listed, ⊎_elim (toward-place (place_of v.point) y)
-      (λ t. absurd (vertex-crossed s c S (toward (place_of v.point) y) t k (vertex_of v) listed (both-held (place_of v.point) (place_of v.point) y A))) (zero-decided (toward (place_of v.point) y)))
+  vertex-amid k v y a A = (
+    vertex_of v,
+    listed,
+    ⊎_elim (toward-place (place_of v.point) y)
+        (λ t. absurd (vertex-crossed s c S (toward (place_of v.point) y) t k (vertex_of v) listed (both-held (place_of v.point) (place_of v.point) y A))) (zero-decided (toward (place_of v.point) y)),
+  )
     where
       listed : At (complex_of c).vertices k (vertex_of v)
       listed = map-at vertex_of c.vertices k v a

@@ -1,5 +1,5 @@
 -- What a crossing, a meeting and a comparison answer.
-use Rattle.std.proofs.Common.{◌≡◌, ℕ, ◌<◌, pos, length, Option, Some, None, List, refl, sym, ◌∙◌, inl, inr, ◌↔◌, subst}
+use Rattle.std.proofs.Common.{◌≡◌, pos, Option, Some, None, List, refl, sym, ◌∙◌, inl, inr, ◌↔◌, subst}
 use Rattle.std.specs.Option.{MatchOption}
 use Rattle.std.specs.Prelude.{IsNone, IfSome}
 use Rattle.nef_space.specs.Place.{Place, form_at}

@@ -6,7 +6,7 @@ use Rattle.nef_exact.proofs.Ring.{ring, at, num, ◌⊖◌, ◌⊗◌}
 use Rattle.nef_exact.proofs.Combination.{given, none, follows_times}
 use Rattle.nef_exact.proofs.Order.{nought-is}
 use Rattle.nef_space.specs.Place.{Place, Form, form_at, slope, normal_of, toward, SamePlace, IsAhead, IsBetween}
-use Rattle.nef_space.specs.Vectors.{Vector, dot, cross, IsZero, IsDirection, SameDirection}
+use Rattle.nef_space.specs.Vectors.{Vector, dot, cross, IsZero, IsDirection}
 use Rattle.nef_geo.specs.Hits.{IsCrossing}
 use Rattle.nef_geo.specs.Shapes.{form_of}
 use Rattle.nef_geo.specs.Signs.{sign_of}

@@ -91,8 +91,14 @@ module _ (s : Set) (c : Complex) (S : Shows s (complex_of c)) (p : Place) (d : V
       -- nor where one is crossed elsewhere
       pub missed-edge : (IsEdgePoint (complex_of c) k (hit_place at) → ⊥) → IsNearest met_of p d (AtEdgeNumber (complex_of c) (form_of h) d k) None
       missed-edge n = edge-none s c S (form_of h) p d some k e u v l i j
-          (λ q w b H. absurd (n (edge_of e, vertex_of u, vertex_of v, listed_edge s c S k e u v l i j, ends s c S k e u v l i j,
-          between-same low q high low (hit_place at) high (same-itself low) (through-one p d low high (reach_of at) T q w (inl b)) (same-itself high) b)))
+          (λ q w b H. absurd (n (
+            edge_of e,
+            vertex_of u,
+            vertex_of v,
+            listed_edge s c S k e u v l i j,
+            ends s c S k e u v l i j,
+            between-same low q high low (hit_place at) high (same-itself low) (through-one p d low high (reach_of at) T q w (inl b)) (same-itself high) b,
+          )))
 
       pub reached-edge : HoldsBoth (form_of h) low high → IsEdgePoint (complex_of c) k (hit_place at) → IsNearestMet p d (AtEdgeNumber (complex_of c) (form_of h) d k) (met_of (record { meet = AtEdge k; at = at }))
       reached-edge H x = edge-some s c S (form_of h) p d some k e u v l i j (met_of (record { meet = AtEdge k; at = at })) (form_of T.plane) T.holds T.crosses.passes

@@ -1,6 +1,6 @@
 -- What a ray along the axis of a plane meets at a vertex and inside an edge.
-use Rattle.std.proofs.Common.{◌≡◌, ℕ, None, pos, ◌⊎◌, inl, inr, ⊎_elim, refl}
-use Rattle.nef_space.specs.Place.{Place, form_at, toward, SamePlace, IsBetween}
+use Rattle.std.proofs.Common.{◌≡◌, ℕ, None, pos, inl, inr, ⊎_elim, refl}
+use Rattle.nef_space.specs.Place.{Place, form_at, SamePlace, IsBetween}
 use Rattle.nef_space.specs.Sets.{Set}
 use Rattle.nef_space.specs.Vectors.{Vector}
 use Rattle.nef_geo.specs.Shapes.{form_of, place_of, far_place}
