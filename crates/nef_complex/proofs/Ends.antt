@@ -1,15 +1,23 @@
 -- The ends of an edge, and the planes that hold both.
-use Rattle.std.proofs.Common.{◌≡◌, ℕ, ◌<◌, length, pos, ◌<ℤ◌, arith, ap, ◌∙◌, [], ◌∷◌}
+use Rattle.std.proofs.Common.{◌≡◌, ℕ, ◌<◌, length, pos, ◌<ℤ◌, arith, ap, ◌∙◌, subst, [], ◌∷◌}
 use Rattle.std.proofs.lemmas.Int.{ints}
 use Rattle.nef_exact.proofs.Ring.{at, num, ◌⊖◌, ◌⊗◌}
 use Rattle.nef_exact.proofs.Combination.{given, none, follows_times}
-use Rattle.nef_space.specs.Place.{Place, Form, form_at, slope, toward}
+use Rattle.nef_space.specs.Place.{Place, Form, form_at, slope, toward, SamePlace, IsBetween}
 use Rattle.nef_space.specs.Sets.{Set}
+use Rattle.nef_space.specs.Vectors.{IsDirection}
+use Rattle.nef_geo.specs.Shapes.{place_of}
+use Rattle.nef_forms.proofs.Directions.{direction-left}
 use Rattle.nef_forms.proofs.Near.{slope-toward}
 use Rattle.nef_near.proofs.Edges.{start, start-toward}
 use Rattle.nef_sphere.specs.Maps.{At}
+use Rattle.nef_sphere.proofs.Lists.{at-one}
 use Rattle.nef_smap.proofs.Lists.{map-at, at-map, at-within}
+use Rattle.nef_solid.specs.Complexes.{HasEnds}
+use Rattle.nef_solid.specs.Complexes.{Vertex as PlainVertex, Edge as PlainEdge}
 use Rattle.nef_solid.specs.Shows.{Shows}
+use Rattle.nef_solid.specs.Skeleton.{IsVertexPoint, IsEdgePoint}
+use Rattle.nef_complex.specs.declared.complex.Vertex.{Vertex}
 use Rattle.nef_complex.specs.declared.complex.Edge.{Edge}
 use Rattle.nef_complex.specs.declared.complex.Complex.{Complex}
 use Rattle.nef_complex.specs.Complexes.{vertex_of, edge_of, complex_of}
@@ -39,3 +47,39 @@ module _ (s : Set) (c : Complex) (S : Shows s (complex_of c)) (k : ℕ) (e : Edg
 
   pub high-within : e.high < length c.vertices
   high-within = let E = S.edges.edges k (edge_of e) (map-at edge_of c.edges k e a) in let v = at-map vertex_of c.vertices e.high E.high_vertex E.is_high in at-within c.vertices e.high v.0 v.1
+
+-- ---- the point of a vertex, and the ends of an edge
+pub vertex-same : (c : Complex) (k : ℕ) (v : Vertex) → At c.vertices k v → (y : Place) → IsVertexPoint (complex_of c) k y → SamePlace (place_of v.point) y
+vertex-same c k v a y (x, l, o) = subst (λ (r : PlainVertex). SamePlace r.point y) (at-one (complex_of c).vertices k x (vertex_of v) l (map-at vertex_of c.vertices k v a)) o
+
+module _ (s : Set) (c : Complex) (S : Shows s (complex_of c)) (k : ℕ) (e : Edge) (u v : Vertex) (l : At c.edges k e) (i : At c.vertices e.low u) (j : At c.vertices e.high v) where
+  abbrev low : Place
+  low = place_of u.point
+
+  abbrev high : Place
+  high = place_of v.point
+
+  pub listed_edge : At (complex_of c).edges k (edge_of e)
+  listed_edge = map-at edge_of c.edges k e l
+
+  pub ends : HasEnds (complex_of c) (edge_of e) (vertex_of u) (vertex_of v)
+  ends = record { low = map-at vertex_of c.vertices e.low u i; high = map-at vertex_of c.vertices e.high v j }
+
+  pub apart : IsDirection (toward low high)
+  apart =
+      let E = S.edges.edges k (edge_of e) listed_edge in
+      let f = at-one (complex_of c).vertices e.low E.low_vertex (vertex_of u) E.is_low ends.low in
+      let g = at-one (complex_of c).vertices e.high E.high_vertex (vertex_of v) E.is_high ends.high in
+      subst (λ (w : PlainVertex). IsDirection (toward low w.point)) g (subst (λ (w : PlainVertex). IsDirection (toward w.point E.high_vertex.point)) f
+      (direction-left (toward E.low_vertex.point E.high_vertex.point) E.low_end.way E.ahead))
+
+  -- what holds of the ends of the edge with this number
+  pub of-ends : (P : Place → Place → Type 0) (f : PlainEdge) (x z : PlainVertex) → At (complex_of c).edges k f → HasEnds (complex_of c) f x z → P x.point z.point → P low high
+  of-ends P f x z g H m =
+      let eq = at-one (complex_of c).edges k f (edge_of e) g listed_edge in
+      let first = at-one (complex_of c).vertices e.low x (vertex_of u) (subst (λ (r : PlainEdge). At (complex_of c).vertices r.low x) eq H.low) ends.low in
+      let second = at-one (complex_of c).vertices e.high z (vertex_of v) (subst (λ (r : PlainEdge). At (complex_of c).vertices r.high z) eq H.high) ends.high in
+      subst (λ (r : PlainVertex). P low r.point) second (subst (λ (r : PlainVertex). P r.point z.point) first m)
+
+  pub edge-inside : (y : Place) → IsEdgePoint (complex_of c) k y → IsBetween low y high
+  edge-inside y (f, x, z, g, H, m) = of-ends (λ r t. IsBetween r y t) f x z g H m

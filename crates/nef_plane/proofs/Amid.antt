@@ -34,11 +34,11 @@ use Rattle.nef_complex.specs.declared.complex.Vertex.{Vertex}
 use Rattle.nef_complex.specs.declared.complex.Edge.{Edge}
 use Rattle.nef_complex.specs.declared.complex.Complex.{Complex}
 use Rattle.nef_complex.specs.Complexes.{vertex_of, edge_of, complex_of}
+use Rattle.nef_complex.proofs.Ends.{vertex-same, listed_edge, ends, apart, edge-inside}
 use Rattle.nef_complex.proofs.Parted.{times-nought, times-pos, times-neg}
 use Rattle.nef_plane.specs.Amid.{SidesWith, IsAmid, AreAmid}
 use Rattle.nef_plane.specs.Meets.{AllHold}
 use Rattle.nef_plane.proofs.Crossed.{vertex-crossed, edge-along}
-use Rattle.nef_plane.proofs.Found.{vertex-same, listed_edge, ends, apart, edge-inside}
 use Rattle.nef_plane.proofs.Meeting.{level-same}
 
 -- ---- signs

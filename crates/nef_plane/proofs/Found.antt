@@ -6,7 +6,7 @@ use Rattle.nef_space.specs.Vectors.{Vector, cross, IsZero, IsDirection}
 use Rattle.nef_geo.specs.Shapes.{place_of}
 use Rattle.nef_forms.specs.Homogeneous.{of_place}
 use Rattle.nef_forms.proofs.Between.{place-toward, place-factor, factor-place}
-use Rattle.nef_forms.proofs.Directions.{direction-left, direction-right}
+use Rattle.nef_forms.proofs.Directions.{direction-right}
 use Rattle.nef_forms.proofs.Sums.{same-trans}
 use Rattle.nef_near.proofs.Between.{between-inner}
 use Rattle.nef_near.proofs.Rays.{same-place_sym}
@@ -25,6 +25,7 @@ use Rattle.nef_complex.specs.declared.complex.Edge.{Edge}
 use Rattle.nef_complex.specs.declared.complex.Complex.{Complex}
 use Rattle.nef_complex.specs.Complexes.{vertex_of, edge_of, complex_of}
 use Rattle.nef_complex.specs.Planes.{HoldsBoth}
+use Rattle.nef_complex.proofs.Ends.{vertex-same, listed_edge, ends, apart, of-ends}
 use Rattle.nef_complex.proofs.Lines.{one-crossing}
 use Rattle.nef_complex.proofs.Parted.{held-between}
 use Rattle.nef_plane.specs.Meets.{Encounter, FromVertex, HasNoSvertex, IsOffEdges, AllHold, AtVertexNumber, AtEdgeNumber, IsReachedMet, IsNearestMet}
@@ -39,44 +40,8 @@ not-end p q r b s = direction-right (toward p q) (toward q r) b (place-toward q 
 pub both-same : (a b q : Place) → SamePlace a q → SamePlace b q → SamePlace a b
 both-same a b q i j = factor-place a b (same-trans (of_place a) (of_place q) (of_place b) (place-factor a q i) (place-factor q b (same-place_sym b q j)))
 
--- ---- the point of a vertex, and the ends of an edge
-pub vertex-same : (c : Complex) (k : ℕ) (v : Vertex) → At c.vertices k v → (y : Place) → IsVertexPoint (complex_of c) k y → SamePlace (place_of v.point) y
-vertex-same c k v a y (x, l, o) = subst (λ (r : PlainVertex). SamePlace r.point y) (at-one (complex_of c).vertices k x (vertex_of v) l (map-at vertex_of c.vertices k v a)) o
-
 pub from-vertex : (c : Complex) (k : ℕ) (v : Vertex) → At c.vertices k v → (P : Place → Type 0) → P (place_of v.point) → FromVertex (complex_of c) k P
 from-vertex c k v a P h x l = subst (λ (r : PlainVertex). P r.point) (at-one (complex_of c).vertices k (vertex_of v) x (map-at vertex_of c.vertices k v a) l) h
-
-module _ (s : Set) (c : Complex) (S : Shows s (complex_of c)) (k : ℕ) (e : Edge) (u v : Vertex) (l : At c.edges k e) (i : At c.vertices e.low u) (j : At c.vertices e.high v) where
-  abbrev low : Place
-  low = place_of u.point
-
-  abbrev high : Place
-  high = place_of v.point
-
-  pub listed_edge : At (complex_of c).edges k (edge_of e)
-  listed_edge = map-at edge_of c.edges k e l
-
-  pub ends : HasEnds (complex_of c) (edge_of e) (vertex_of u) (vertex_of v)
-  ends = record { low = map-at vertex_of c.vertices e.low u i; high = map-at vertex_of c.vertices e.high v j }
-
-  pub apart : IsDirection (toward low high)
-  apart =
-      let E = S.edges.edges k (edge_of e) listed_edge in
-      let f = at-one (complex_of c).vertices e.low E.low_vertex (vertex_of u) E.is_low ends.low in
-      let g = at-one (complex_of c).vertices e.high E.high_vertex (vertex_of v) E.is_high ends.high in
-      subst (λ (w : PlainVertex). IsDirection (toward low w.point)) g (subst (λ (w : PlainVertex). IsDirection (toward w.point E.high_vertex.point)) f
-      (direction-left (toward E.low_vertex.point E.high_vertex.point) E.low_end.way E.ahead))
-
-  -- what holds of the ends of the edge with this number
-  pub of-ends : (P : Place → Place → Type 0) (f : PlainEdge) (x z : PlainVertex) → At (complex_of c).edges k f → HasEnds (complex_of c) f x z → P x.point z.point → P low high
-  of-ends P f x z g H m =
-      let eq = at-one (complex_of c).edges k f (edge_of e) g listed_edge in
-      let first = at-one (complex_of c).vertices e.low x (vertex_of u) (subst (λ (r : PlainEdge). At (complex_of c).vertices r.low x) eq H.low) ends.low in
-      let second = at-one (complex_of c).vertices e.high z (vertex_of v) (subst (λ (r : PlainEdge). At (complex_of c).vertices r.high z) eq H.high) ends.high in
-      subst (λ (r : PlainVertex). P low r.point) second (subst (λ (r : PlainVertex). P r.point z.point) first m)
-
-  pub edge-inside : (y : Place) → IsEdgePoint (complex_of c) k y → IsBetween low y high
-  edge-inside y (f, x, z, g, H, m) = of-ends (λ r t. IsBetween r y t) f x z g H m
 
 -- ---- a vertex
 module _ (s : Set) (c : Complex) (S : Shows s (complex_of c)) (p : Place) (d : Vector) (some : IsDirection d) (k : ℕ) (v : Vertex) (a : At c.vertices k v) where

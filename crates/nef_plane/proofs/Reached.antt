@@ -22,10 +22,11 @@ use Rattle.nef_complex.specs.declared.complex.Complex.{Complex}
 use Rattle.nef_complex.specs.declared.complex.PlaneMeet.TheVariants.{AtVertex, AtEdge}
 use Rattle.nef_complex.specs.Complexes.{vertex_of, edge_of, complex_of}
 use Rattle.nef_complex.specs.Planes.{HoldsBoth}
+use Rattle.nef_complex.proofs.Ends.{vertex-same, listed_edge, ends, edge-inside}
 use Rattle.nef_complex.proofs.Lines.{one-crossing}
 use Rattle.nef_complex.proofs.Parted.{held-between}
 use Rattle.nef_plane.specs.Meets.{Reach, reach_of, met_of, IsHitThrough, AllHold, IsAcross, IsWithin, AtVertexNumber, AtEdgeNumber, IsNearest, IsNearestMet}
-use Rattle.nef_plane.proofs.Found.{both-same, vertex-same, listed_edge, ends, edge-inside, vertex-some, vertex-none, edge-some, edge-none}
+use Rattle.nef_plane.proofs.Found.{both-same, vertex-some, vertex-none, edge-some, edge-none}
 use Rattle.nef_plane.proofs.Meeting.{level-same}
 
 -- a plane that holds both points holds what is within

@@ -16,9 +16,10 @@ use Rattle.nef_complex.specs.declared.complex.Edge.{Edge}
 use Rattle.nef_complex.specs.declared.complex.Complex.{Complex}
 use Rattle.nef_complex.specs.declared.complex.PlaneMeet.TheVariants.{AtVertex, AtEdge}
 use Rattle.nef_complex.specs.Complexes.{complex_of}
+use Rattle.nef_complex.proofs.Ends.{apart}
 use Rattle.nef_plane.specs.Meets.{IsAlongAxis, IsHitThrough, IsMet, AllHold, AtVertexNumber, AtEdgeNumber, IsNearest, IsNearestMet, far_met_of, far_reach_of}
 use Rattle.nef_plane.proofs.Axes.{axis-some}
-use Rattle.nef_plane.proofs.Found.{both-same, apart, vertex-some, vertex-none, edge-some, edge-none}
+use Rattle.nef_plane.proofs.Found.{both-same, vertex-some, vertex-none, edge-some, edge-none}
 use Rattle.nef_plane.proofs.Meeting.{level-same, ahead-on}
 
 module _ (s : Set) (c : Complex) (S : Shows s (complex_of c)) (h : Plane) (p : Place) (d : Vector) (A : IsAlongAxis (form_of h) d) (on : form_at (form_of h) p ≡ pos 0) where
