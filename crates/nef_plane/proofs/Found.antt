@@ -17,7 +17,7 @@ use Rattle.nef_smap.proofs.Lists.{map-at, at-map, at-within}
 use Rattle.nef_solid.specs.Complexes.{HasEnds}
 use Rattle.nef_solid.specs.Complexes.{Vertex as PlainVertex, Edge as PlainEdge}
 use Rattle.nef_solid.specs.Shows.{Shows}
-use Rattle.nef_solid.specs.Skeleton.{PlaneMeet as PlainMeet, meets_vertex, meets_edge, IsVertexPoint, IsEdgePoint, Meets, IsFirstInPlane}
+use Rattle.nef_solid.specs.Skeleton.{PlaneMeet as PlainMeet, meets_vertex, meets_edge, Meets, IsFirstInPlane}
 use Rattle.nef_solid.proofs.Planes.{plane-way}
 use Rattle.nef_solid.proofs.Ways.{same-itself}
 use Rattle.nef_complex.specs.declared.complex.Vertex.{Vertex}
