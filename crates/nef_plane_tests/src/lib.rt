@@ -1,0 +1,5 @@
+//! Tests of rays within a plane of the frame.
+#![tactic(auto)]
+
+#[cfg(test)]
+mod tests;
