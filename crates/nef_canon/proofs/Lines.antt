@@ -1,7 +1,8 @@
 -- Lines written word by word.
-use Rattle.std.proofs.Common.{◌≡◌, List, ℕ, [], ◌∷◌, ◌++◌, refl, ap, sym, ◌∙◌, append_assoc}
+use Rattle.std.proofs.Common.{◌≡◌, List, ℕ, ℤ, [], ◌∷◌, ◌++◌, refl, ap, sym, ◌∙◌, append_assoc}
 use Rattle.std.proofs.lemmas.List.{append-nil}
-use Rattle.std.specs.List.{join_with_byte}
+use Rattle.std.specs.Fmt.{signed_decimal}
+use Rattle.std.specs.List.{flat_map, join_with_byte}
 use Rattle.nef_parts.specs.Text.{Word, line}
 use Rattle.nef_canon.specs.Words.{blanked}
 
@@ -28,3 +29,19 @@ line-ended o w t s us e f =
 -- its first word is written
 pub line-begun : (o w t : List ℕ) → t ≡ o ++ w → t ≡ o ++ (w ++ blanked [])
 line-begun o w t e = e ∙ ap (λ (r : List ℕ). o ++ r) (sym (append-nil w))
+
+-- two numbers of one corner more
+pub more-corners : (o s t u : List ℕ) (us : List Word) (v w : Word) → s ≡ o ++ blanked us → t ≡ s ++ blanked (v ∷ []) → u ≡ t ++ blanked (w ∷ []) → u ≡ o ++ blanked (us ++ v ∷ w ∷ [])
+more-corners o s t u us v w e f g =
+    more-words o [] t u (us ++ v ∷ []) (w ∷ []) (more-words o [] s t us (v ∷ []) e f) g ∙ ap (λ (ws : List Word). o ++ blanked ws) (append_assoc us (v ∷ []) (w ∷ []))
+
+pub flat_map-last : {X Y : Type 0} (f : X → List Y) (xs : List X) (x : X) → flat_map f (xs ++ x ∷ []) ≡ flat_map f xs ++ f x
+flat_map-last f [] x = append-nil (f x)
+flat_map-last f (y ∷ xs) x = ap (λ (r : List _). f y ++ r) (flat_map-last f xs x) ∙ sym (append_assoc (f y) (flat_map f xs) (f x))
+
+-- two words and two more
+pub two_pairs : (o s t : List ℕ) (a b c d : Word) → s ≡ o ++ blanked (a ∷ b ∷ []) → t ≡ s ++ blanked (c ∷ d ∷ []) → t ≡ o ++ blanked (a ∷ b ∷ c ∷ d ∷ [])
+two_pairs o s t a b c d e f = more-words o [] s t (a ∷ b ∷ []) (c ∷ d ∷ []) e f
+
+pub paired : (o s : List ℕ) (m n k l : ℤ) → s ≡ o ++ blanked (signed_decimal m ∷ signed_decimal n ∷ []) → m ≡ k → n ≡ l → s ≡ o ++ blanked (signed_decimal k ∷ signed_decimal l ∷ [])
+paired o s m n k l e f g = e ∙ ap (λ (x : ℤ). o ++ blanked (signed_decimal x ∷ signed_decimal n ∷ [])) f ∙ ap (λ (x : ℤ). o ++ blanked (signed_decimal k ∷ signed_decimal x ∷ [])) g

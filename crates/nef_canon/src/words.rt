@@ -75,24 +75,30 @@ pub(crate) fn add_dir(text: &mut Vec<u8>, d: &Dir) -> Result<(), OutOfMemory>
     add_number(text, d.z())
 }
 
+// Adds two numbers, each behind a blank.
+fn add_pair(text: &mut Vec<u8>, m: i64, n: i64) -> Result<(), OutOfMemory>
+    ensures added { OnOk result (text.new.items ≡ text.old.items ++ blanked (signed_decimal m ∷ signed_decimal n ∷ [])) }
+{
+    add_number(text, m)?;
+    add_number(text, n)
+}
+
 /// Adds the four numbers of the point, each behind a blank.
 pub(crate) fn add_point(text: &mut Vec<u8>, p: &Point) -> Result<(), OutOfMemory>
     ensures added { OnOk result (text.new.items ≡ text.old.items ++ blanked (point_words p.now)) }
 {
-    add_number(text, p.x())?;
-    add_number(text, p.y())?;
-    add_number(text, p.z())?;
-    add_number(text, p.w())
+    add_pair(text, p.x(), p.y())?;
+    add_pair(text, p.z(), p.w())?;
+    Ok(())
 }
 
 /// Adds the four numbers of the plane, each behind a blank.
 pub(crate) fn add_plane(text: &mut Vec<u8>, h: &Plane) -> Result<(), OutOfMemory>
     ensures added { OnOk result (text.new.items ≡ text.old.items ++ blanked (plane_words h.now)) }
 {
-    add_number(text, h.a())?;
-    add_number(text, h.b())?;
-    add_number(text, h.c())?;
-    add_number(text, h.d())
+    add_pair(text, h.a(), h.b())?;
+    add_pair(text, h.c(), h.d())?;
+    Ok(())
 }
 
 /// Adds the labels of an item, each behind a blank: its mark, and those of its two sides.

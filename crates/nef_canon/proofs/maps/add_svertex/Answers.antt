@@ -1,7 +1,5 @@
-use Rattle.std.proofs.Common.{◌≡◌, List, ℕ, [], ◌∷◌, ◌++◌, codes, decimal}
-use Rattle.std.specs.Fmt.{signed_decimal}
-use Rattle.std.specs.List.{flat_map}
-use Rattle.nef_parts.specs.Text.{label_word, option_word, dir_words, point_words, plane_words, corner_words}
+use Rattle.std.proofs.Common.{List, ℕ, [], ◌∷◌, ◌++◌, codes}
+use Rattle.nef_parts.specs.Text.{label_word, option_word, dir_words}
 use Rattle.nef_canon.proofs.Lines.{line-begun, more-words, line-ended}
 use Rattle.nef_canon.proofs.maps.add_svertex.Goals as goal
 
