@@ -6,3 +6,5 @@ pub mod TwoStars
 pub mod EdgeEnds
 pub mod EdgeCones
 pub mod EdgeStars
+pub mod SamePlanes
+pub mod Behind
