@@ -27,9 +27,8 @@ use Rattle.nef_solid.proofs.FacetNames.{facets-complete}
 use Rattle.nef_solid.proofs.FacetPoints.{facet-point}
 use Rattle.nef_solid.proofs.FacetSides.{level-way, flats-one, flats-carried}
 use Rattle.nef_solid.proofs.FacetWays.{plane-ahead, end-meets, flat-onto, even-by}
-use Rattle.nef_solid.proofs.Planes.{plane-way}
 use Rattle.nef_solid.proofs.Ways.{between-way, between-start}
-use Rattle.nef_locate.proofs.SamePlanes.{scaled-same, opposite-same, axis-same, first-same, corner-same}
+use Rattle.nef_locate.proofs.SamePlanes.{level-back, scaled-same, opposite-same, axis-same, first-same, corner-same}
 
 module _ (s : Set) (C : Complex) (S : Shows s C) (h : Form) (y : Place) (normal : IsNormal (normal_of h)) (on : form_at h y ≡ pos 0) (d : Vector) (some : IsDirection d) (level : slope h d ≡ pos 0)
     (F : IsFlatIn s h y) (m : PlaneMeet) (I : IsFirstInPlane C h y d m) where
@@ -57,9 +56,6 @@ module _ (s : Set) (C : Complex) (S : Shows s C) (h : Form) (y : Place) (normal 
   to-y : SameDirection (toward z y) (opposite d)
   to-y = ahead-back y z d I.ahead
 
-  level-back : dot n (opposite d) ≡ pos 0
-  level-back = level-way n (toward z y) (opposite d) to-y (plane-way h z y (plane-ahead h y z d I.ahead level on) on)
-
   abbrev q : Place
   q = near_point s z y
 
@@ -78,7 +74,7 @@ module _ (s : Set) (C : Complex) (S : Shows s C) (h : Form) (y : Place) (normal 
       let leads : IsDirection way = subst IsDirection (sym is) ((S.cones e.low v H.low).valid.shaped.svertex_ways e.low_svertex u.0 u.1) in
       let along = ((edge-points s C i e v w z S a H b).1 way).1 (way-self way leads).parallel in
       let flat = (F.1 way).0 (flat-onto s 2 y z (direction-left (toward y z) d I.ahead) F.0 all way along) in
-      let x = arc-beside s C S i e v w z a H b (opposite d) y to-y n normal (subst (λ (g : Vector). dot n g ≡ pos 0) is flat) level-back (all q close) flat-close in
+      let x = arc-beside s C S i e v w z a H b (opposite d) y to-y n normal (subst (λ (g : Vector). dot n g ≡ pos 0) is flat) (level-back n d level) (all q close) flat-close in
       (record { vertex = e.low; item = x.0 }, (e, v, x.1, a, refl, H.low, x.2, x.3, x.4))
 
   by-meet : (t : PlaneMeet) → Meets C h t z → (k : Corner) × IsCornerAt C h (opposite d) t k

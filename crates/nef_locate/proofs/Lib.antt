@@ -8,3 +8,4 @@ pub mod EdgeCones
 pub mod EdgeStars
 pub mod SamePlanes
 pub mod Behind
+pub mod ItemsFound

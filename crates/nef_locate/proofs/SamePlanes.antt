@@ -5,10 +5,10 @@ use Rattle.std.specs.Bool.{one_answer}
 use Rattle.std.specs.Ordering.{int_eq}
 use Rattle.std.proofs.lemmas.Bool.Decides.{Decides-int_eq}
 use Rattle.nef_exact.specs.Signs.{sign}
-use Rattle.nef_exact.proofs.Ring.{ring, at, num, neg, ◌⊗◌}
+use Rattle.nef_exact.proofs.Ring.{ring, at, num, neg, ◌⊕◌, ◌⊗◌}
 use Rattle.nef_exact.proofs.Combination.{given, none, follows}
 use Rattle.nef_exact.proofs.Order.{cancel_eq}
-use Rattle.nef_space.specs.Place.{Place, Form, form_at, normal_of, slope, plane_through, toward, IsBetween}
+use Rattle.nef_space.specs.Place.{Place, Form, form_at, normal_of, plane_through, toward}
 use Rattle.nef_space.specs.Vectors.{Vector, opposite, dot, cross, triple, IsDirection, SameDirection, plane_axis, beside_x, beside_y}
 use Rattle.nef_forms.specs.Homogeneous.{SameUpToFactor, of_direction}
 use Rattle.nef_forms.proofs.Directions.{dot-comm, direction-left, same-factor, factor-same}
@@ -27,6 +27,14 @@ use Rattle.nef_solid.proofs.FacetWays.{plane-onward}
 use Rattle.nef_solid.proofs.Planes.{plane-way}
 
 -- ---- planes
+-- what lies in a plane lies in each plane with the same normal
+pub level-kept : (n m d : Vector) → SameDirection n m → dot n d ≡ pos 0 → dot m d ≡ pos 0
+level-kept n m d w z = dot-comm m d ∙ level-way d n m w (dot-comm d n ∙ z)
+
+pub level-back : (n d : Vector) → dot n d ≡ pos 0 → dot n (opposite d) ≡ pos 0
+level-back n d z = follows (n.x ∷ n.y ∷ n.z ∷ d.x ∷ d.y ∷ d.z ∷ []) (at 0 ⊗ neg (at 3) ⊕ at 1 ⊗ neg (at 4) ⊕ at 2 ⊗ neg (at 5)) (num (pos 0))
+    (given (neg (num (pos 1))) (at 0 ⊗ at 3 ⊕ at 1 ⊗ at 4 ⊕ at 2 ⊗ at 5) (num (pos 0)) z none) tt
+
 -- the plane through a point with a normal has that normal
 pub scaled-same : (n : Vector) (p : Place) → IsDirection n → SameDirection n (normal_of (plane_through n p))
 scaled-same n p i = factor-same n (normal_of (plane_through n p)) (record {
@@ -39,11 +47,8 @@ scaled-same n p i = factor-same n (normal_of (plane_through n p)) (record {
     scaled x = ring (x ∷ pos p.w ∷ []) (at 1 ⊗ at 0) (num (pos 1) ⊗ (at 0 ⊗ at 1)) tt
 
 module _ (g h : Form) (y : Place) (on_g : form_at g y ≡ pos 0) (on_h : form_at h y ≡ pos 0) (w : SameDirection (normal_of g) (normal_of h)) where
-  level-too : (d : Vector) → slope g d ≡ pos 0 → slope h d ≡ pos 0
-  level-too d z = dot-comm (normal_of h) d ∙ level-way d (normal_of g) (normal_of h) w (dot-comm d (normal_of g) ∙ z)
-
   on-too : (q : Place) → form_at g q ≡ pos 0 → form_at h q ≡ pos 0
-  on-too q e = plane-onward h y q (level-too (toward y q) (plane-way g y q on_g e)) on_h
+  on-too q e = plane-onward h y q (level-kept (normal_of g) (normal_of h) (toward y q) w (plane-way g y q on_g e)) on_h
 
   lies-too : (C : Complex) (k : ℕ) → LiesIn C g k → LiesIn C h k
   lies-too C k (e, v, u, a, H, i, j) = (e, v, u, a, H, on-too v.point i, on-too u.point j)

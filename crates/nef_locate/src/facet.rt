@@ -1,18 +1,17 @@
 //! The facet of a plane in which a point lies.
 
-ghost use Rattle.std.specs.Prelude.{◌≡◌, ℕ, ◌<◌, length, pos, ◌⊎◌, ◌↔◌, IsTrue, IsNone, IfSome, MatchOption};
+ghost use Rattle.std.specs.Prelude.{◌≡◌, ℕ, ◌<◌, length, pos, Some, ◌⊎◌, ◌↔◌, IsTrue, IsNone, IfSome, MatchOption};
 ghost use Rattle.nef_space.specs.Place.{form_at, normal_of, InClosedFrame};
 ghost use Rattle.nef_space.specs.Sets.{Set};
-ghost use Rattle.nef_space.specs.Vectors.{SameDirection, IsDirection, triple, dot};
-ghost use Rattle.nef_sphere.specs.Maps.{At, Item, arc_item, OnItem, way_of};
+ghost use Rattle.nef_space.specs.Vectors.{SameDirection, dot};
+ghost use Rattle.nef_sphere.specs.Maps.{At, Loop, Item, item_normal, arc_item, OnItem};
 ghost use Rattle.nef_geo.specs.Hits.{IsPlaceAtMost};
 ghost use Rattle.nef_geo.specs.Shapes.{form_of, vector_of, hit_place};
 ghost use Rattle.nef_geo.specs.Widths.{upright_limit, upright_weight_limit};
 ghost use Rattle.nef_smap.specs.Maps.{map_of, arc_of, IsSphereMap};
 ghost use Rattle.nef_solid.specs.Complexes.{Vertex as PlainVertex, Corner as PlainCorner, IsCorner};
 ghost use Rattle.nef_solid.specs.Laws.{IsFlatIn};
-ghost use Rattle.nef_solid.specs.Skeleton.{IsOnEdges, IsArcOnSide, IsCornerAt, HasCorner};
-ghost use Rattle.nef_sphere.specs.Maps.{item_normal};
+ghost use Rattle.nef_solid.specs.Skeleton.{IsOnEdges, IsCornerAt, HasCorner};
 ghost use Rattle.nef_complex.specs.Complexes.{complex_of, corner_of, meet_of, vertex_of, ShowsSet};
 ghost use Rattle.nef_locate.specs.Facets.{IsArcThrough, IsItemThrough, IsArcBeside, HasMet};
 
@@ -29,6 +28,12 @@ fn plane_normal(h: &Plane) -> Dir
         Some(normal) => normal,
         None => unreachable!(),
     }
+}
+
+fn same_dir(a: &Dir, b: &Dir) -> bool
+    ensures same { IsTrue result ↔ (a.now ≡ b.now) }
+{
+    a == b
 }
 
 // Whether the direction lies on the arc.
@@ -48,7 +53,7 @@ fn passes_in(map: &SphereMap, arc: &SArc, normal: &Dir, d: &Dir) -> bool
     requires arc { (i : ℕ) × At (map_of map.now).arcs i (arc_of arc.now) }
     ensures on { IsTrue result ↔ (SameDirection (vector_of arc.now.normal) (vector_of normal.now) × OnItem (map_of map.now) (arc_item (arc_of arc.now)) (vector_of d.now)) }
 {
-    arc.normal == *normal && passes(map, arc, d)
+    same_dir(&arc.normal, normal) && passes(map, arc, d)
 }
 
 // The number of the arc with the normal on which the direction lies.
@@ -64,8 +69,18 @@ fn arc_through(map: &SphereMap, normal: &Dir, d: &Dir) -> Option<usize>
     None
 }
 
+// Whether the map has a sloop with the normal.
+fn has_sloop(map: &SphereMap, normal: &Dir) -> bool
+    ensures sloop { IsTrue result ↔ ((l : Loop) × ((map_of map.now).loop ≡ Some l) × SameDirection l.normal (vector_of normal.now)) }
+{
+    match &map.sloop {
+        Some(circle) => same_dir(&circle.normal, normal),
+        None => false,
+    }
+}
+
 // The number of the item with the normal on which the direction lies. The direction is perpendicular to the normal, so
-// it lies on each circle with it.
+// it lies on a sloop with it.
 fn item_through(map: &SphereMap, normal: &Dir, d: &Dir) -> Option<usize>
     requires map { IsSphereMap map.now }
     requires level { dot (vector_of normal.now) (vector_of d.now) ≡ pos 0 }
@@ -74,17 +89,17 @@ fn item_through(map: &SphereMap, normal: &Dir, d: &Dir) -> Option<usize>
     if let Some(number) = arc_through(map, normal, d) {
         return Some(number);
     }
-    match map.sloop {
-        Some(circle) if circle.normal == *normal => Some(map.arcs.len()),
-        _ => None,
+    if has_sloop(map, normal) {
+        return Some(map.arcs.len());
     }
+    None
 }
 
 // Whether the arc has the normal and leaves the svertex on the side that the turn from the svertex to a direction tells.
 fn leaves_on(arc: &SArc, svertex: usize, normal: &Dir, turn: Sign) -> bool
     ensures leaves { IsTrue result ↔ (SameDirection (vector_of arc.now.normal) (vector_of normal.now) × (((arc.now.source ≡ svertex) × (turn ≡ Sign.Plus)) ⊎ ((arc.now.target ≡ svertex) × (turn ≡ Sign.Minus)))) }
 {
-    arc.normal == *normal
+    same_dir(&arc.normal, normal)
         && match turn {
             Sign::Plus => arc.source == svertex,
             Sign::Zero => false,

@@ -1,0 +1,39 @@
+use Rattle.std.proofs.Common.{◌≡◌, pos, inl, inr, sym, subst}
+use Rattle.nef_space.specs.Place.{normal_of}
+use Rattle.nef_space.specs.Vectors.{Vector, opposite, dot, plane_axis}
+use Rattle.nef_geo.specs.Shapes.{form_of, vector_of, hit_place}
+use Rattle.nef_sphere.proofs.Compare.{SameDirection-turned}
+use Rattle.nef_complex.specs.Complexes.{complex_of, meet_of}
+use Rattle.nef_locate.proofs.ItemsFound.{met-listed}
+use Rattle.nef_locate.proofs.SamePlanes.{level-back}
+use Rattle.nef_locate.proofs.facet.in_facet.Goals as goal
+
+pub first_in_plane-requires-clause-off : goal.first_in_plane-requires-clause-off
+first_in_plane-requires-clause-off c = inr (λ k e l. c.requires.off (k, inr e))
+
+pub first_in_plane-requires-clause-direction : goal.first_in_plane-requires-clause-direction
+first_in_plane-requires-clause-direction c = inl (SameDirection-turned (plane_axis (normal_of (form_of c.args.h.now))) (vector_of c.plane_axis-axis.result) c.plane_axis-axis.ensures.axis)
+
+pub first_in_plane-requires-clause-no_svertex : goal.first_in_plane-requires-clause-no_svertex
+first_in_plane-requires-clause-no_svertex c = λ k j v u a e b w. c.requires.off (k, inl (v, a, e))
+
+pub returns-in_err-met-clause-none : goal.returns-in_err-met-clause-none
+returns-in_err-met-clause-none c = ?
+
+pub corner_toward-requires-clause-met : goal.corner_toward-requires-clause-met
+corner_toward-requires-clause-met c = ?
+
+pub corner_toward-requires-clause-level : goal.corner_toward-requires-clause-level
+corner_toward-requires-clause-level c = subst (λ (v : Vector). dot (normal_of (form_of c.args.h.now)) v ≡ pos 0) (sym c.back.ensures.back) (level-back (normal_of (form_of c.args.h.now)) (vector_of c.plane_axis-axis.result) c.plane_axis-axis.ensures.in_plane)
+
+pub returns-clause-flat : goal.returns-clause-flat
+returns-clause-flat c = ?
+
+pub returns-clause-corner : goal.returns-clause-corner
+returns-clause-corner c = ?
+
+pub returns-clause-plane : goal.returns-clause-plane
+returns-clause-plane c = ?
+
+pub returns-clause-none : goal.returns-clause-none
+returns-clause-none c = ?
