@@ -9,3 +9,4 @@ pub mod EdgeStars
 pub mod SamePlanes
 pub mod Behind
 pub mod ItemsFound
+pub mod FacetFound
