@@ -107,8 +107,11 @@ corner-has s C S h y normal on d w F m k I c =
       item = x;
       is_beside = H.is_beside;
       facet_point = H.facet_point;
-      named = (m, first-same C h (item_plane v x) y on on-item to-plane d (plane_axis o) axis m I,
-      corner-same C h (item_plane v x) to-plane (opposite d) (opposite (plane_axis o)) (opposite-same d (plane_axis o) axis) m k c);
+      named = (
+        m,
+        first-same C h (item_plane v x) y on on-item to-plane d (plane_axis o) axis m I,
+        corner-same C h (item_plane v x) to-plane (opposite d) (opposite (plane_axis o)) (opposite-same d (plane_axis o) axis) m k c,
+      );
     }
 
 -- the item of such a corner has the normal of the plane

@@ -1,5 +1,5 @@
 -- What a first meet and the corner toward the point say of the point.
-use Rattle.std.proofs.Common.{◌≡◌, ℕ, pos, Option, Some, None, MatchOption, IfSome, subst, sym}
+use Rattle.std.proofs.Common.{◌≡◌, pos, Option, Some, None, MatchOption, IfSome, subst, sym}
 use Rattle.std.specs.Option.{IsNone}
 use Rattle.nef_space.specs.Place.{Place, form_at, normal_of, slope, IsAhead}
 use Rattle.nef_space.specs.Sets.{Set}

@@ -7,7 +7,7 @@ use Rattle.nef_geo.specs.Signs.{sign_of}
 use Rattle.nef_geo.specs.declared.sign.Sign.{Sign}
 use Rattle.nef_geo.specs.declared.sign.Sign.TheVariants.{Minus, Plus}
 use Rattle.nef_geo.proofs.Signs.{sign_of-positive, sign_of-negative}
-use Rattle.nef_sphere.specs.Maps.{At, Loop, Item, arc_item, loop_item, item_normal, items, way_of}
+use Rattle.nef_sphere.specs.Maps.{At, Loop, arc_item, loop_item, item_normal, items, way_of}
 use Rattle.nef_sphere.proofs.Arcs.{at-arc, loop-at, level-same}
 use Rattle.nef_sphere.proofs.Compare.{SameDirection-turned, SameDirection-trans, way-self}
 use Rattle.nef_sphere.proofs.Lists.{at-one}
@@ -86,9 +86,12 @@ module _ (m : SphereMap) (n d : Vector) where
 
   -- a sloop stands after the arcs
   pub sloop-item : IsDirection d → dot n d ≡ pos 0 → (k : ℕ) → k ≡ length m.arcs → (l : Loop) × ((map_of m).loop ≡ Some l) × SameDirection l.normal n → IsItemThrough (map_of m) n d k
-  sloop-item some level k e (l, is, s) =
-      (loop_item l, subst (λ (j : ℕ). At (items (map_of m)) j (loop_item l)) (sym e) (loop-listed m.arcs m.sloop l is), s,
-      record { direction = some; level = level-same n l.normal d d (SameDirection-turned l.normal n s) (way-self d some) level })
+  sloop-item some level k e (l, is, s) = (
+    loop_item l,
+    subst (λ (j : ℕ). At (items (map_of m)) j (loop_item l)) (sym e) (loop-listed m.arcs m.sloop l is),
+    s,
+    record { direction = some; level = level-same n l.normal d d (SameDirection-turned l.normal n s) (way-self d some) level },
+  )
 
   pub no-item : ((k : ℕ) → IsArcThrough (map_of m) n d k → ⊥) → ((l : Loop) × ((map_of m).loop ≡ Some l) × SameDirection l.normal n → ⊥) → (k : ℕ) → IsItemThrough (map_of m) n d k → ⊥
   no-item f g k (arc_item a, l, s, o) = f k (a, arc-at (map_of m).arcs (map_of m).loop k a l, s, o)

@@ -38,8 +38,13 @@ level-back n d z = follows (n.x ∷ n.y ∷ n.z ∷ d.x ∷ d.y ∷ d.z ∷ []) 
 -- the plane through a point with a normal has that normal
 pub scaled-same : (n : Vector) (p : Place) → IsDirection n → SameDirection n (normal_of (plane_through n p))
 scaled-same n p i = factor-same n (normal_of (plane_through n p)) (record {
-  k = p.w; l = 1; some_k = p.proper; some_l = omega arith;
-  is_x = scaled n.x; is_y = scaled n.y; is_z = scaled n.z;
+  k = p.w;
+  l = 1;
+  some_k = p.proper;
+  some_l = omega arith;
+  is_x = scaled n.x;
+  is_y = scaled n.y;
+  is_z = scaled n.z;
   is_w = ring (pos p.w ∷ []) (at 0 ⊗ num (pos 0)) (num (pos 1) ⊗ num (pos 0)) tt;
 }) i
   where
@@ -75,7 +80,10 @@ pub opposite-same : (d f : Vector) → SameDirection d f → SameDirection (oppo
 opposite-same d f w =
     let F = same-factor d f w in
     factor-same (opposite d) (opposite f) (record {
-      k = F.k; l = F.l; some_k = F.some_k; some_l = F.some_l;
+      k = F.k;
+      l = F.l;
+      some_k = F.some_k;
+      some_l = F.some_l;
       is_x = opposed F.k F.l d.x f.x F.is_x;
       is_y = opposed F.k F.l d.y f.y F.is_y;
       is_z = opposed F.k F.l d.z f.z F.is_z;

@@ -1,4 +1,4 @@
-use Rattle.std.proofs.Common.{◌≡◌, sym, subst}
+use Rattle.std.proofs.Common.{sym, subst}
 use Rattle.nef_space.specs.Place.{normal_of}
 use Rattle.nef_geo.specs.Shapes.{form_of, vector_of}
 use Rattle.nef_solid.specs.Skeleton.{IsCornerAt}

@@ -1,14 +1,13 @@
-use Rattle.std.proofs.Common.{◌≡◌, ℕ, pos, ◌*ℤ◌, nat_abs, ◌*◌, ◌<◌, ◌≤◌, ◌<ℤ◌, ℤ, arith, rules, refl, ap, sym, ◌∙◌, [], ◌∷◌, inl, inr, subst}
+use Rattle.std.proofs.Common.{◌≡◌, pos, ◌*ℤ◌, nat_abs, ◌*◌, ◌≤◌, ◌<ℤ◌, ℤ, arith, rules, refl, sym, inl, inr, subst}
 use Rattle.std.proofs.lemmas.Int.{ints, to_z-of_z}
 use mir.Syntax.{w64}
 use Rattle.nef_exact.specs.Signs.{nought, Lies}
-use Rattle.nef_exact.proofs.Ring.{ring, at, num, ◌⊗◌}
-use Rattle.nef_exact.proofs.Order.{nought-is, cancel_eq, abs_times}
+use Rattle.nef_exact.proofs.Order.{nought-is, abs_times}
 use Rattle.nef_space.specs.Limits.{half_side}
-use Rattle.nef_space.specs.Local.{Flat, HasFlat}
+use Rattle.nef_space.specs.Local.{Flat}
 use Rattle.nef_space.specs.Place.{Place, Form, form_at, slope, SamePlace, InClosedFrame}
 use Rattle.nef_space.specs.Sets.{Set}
-use Rattle.nef_space.specs.Vectors.{Vector, vector}
+use Rattle.nef_space.specs.Vectors.{vector}
 use Rattle.nef_geo.specs.Shapes.{place_at, place_of, hit_place, form_of}
 use Rattle.nef_geo.specs.declared.hit.Hit.{Hit}
 use Rattle.nef_geo.specs.declared.point.Point.{Point}
@@ -27,7 +26,6 @@ use Rattle.nef_solid.specs.Shows.{Shows}
 use Rattle.nef_solid.specs.Skeleton.{IsOnEdges}
 use Rattle.nef_solid.proofs.Edges.{edge-points}
 use Rattle.nef_solid.proofs.FacetWays.{dim-same}
-
 
 -- at a point of the x-axis the directions of the other two axes are flat
 module _ (p : Place) (y : p.y ≡ pos 0) (z : p.z ≡ pos 0) where
