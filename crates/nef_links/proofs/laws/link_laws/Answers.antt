@@ -1,0 +1,15 @@
+use Rattle.nef_links.specs.Components.{ItemsJoined, SidesJoined, ItemsHavePoints, SidesHavePoints}
+use Rattle.nef_links.proofs.laws.link_laws.Goals as goal
+use Rattle.nef_links.proofs.Ties.{tied-ray}
+
+pub returns-clause-items : goal.returns-clause-items
+returns-clause-items c = ?
+
+pub returns-clause-sides : goal.returns-clause-sides
+returns-clause-sides c = ?
+
+pub returns-clause-item_points : goal.returns-clause-item_points
+returns-clause-item_points c = ?
+
+pub returns-clause-side_points : goal.returns-clause-side_points
+returns-clause-side_points c = ?
