@@ -1,6 +1,6 @@
 use Rattle.nef_links.specs.Components.{ItemsJoined, SidesJoined, ItemsHavePoints, SidesHavePoints}
 use Rattle.nef_links.proofs.laws.link_laws.Goals as goal
-use Rattle.nef_links.proofs.Ties.{tied-ray}
+use Rattle.nef_links.proofs.NearVertex.{item-tied}
 
 pub returns-clause-items : goal.returns-clause-items
 returns-clause-items c = ?
