@@ -1,3 +1,5 @@
 pub mod Ties
 pub mod ItemWays
 pub mod NearVertex
+pub mod ItemPoints
+pub mod EdgeEnds

@@ -1,9 +1,9 @@
 -- Points that lie close to a point toward a direction, and what joins such points: one cell, an even segment, and even segments with what lies beside them.
-use Rattle.std.proofs.Common.{◌≡◌, ℕ, ◌+◌, ◌*◌, ◌<◌, ◌≤◌, ℤ, pos, ◌+ℤ◌, ◌*ℤ◌, arith, refl, ap, sym, ◌∙◌, ◌⊎◌, inl, inr, ⊎_elim, ◌↔◌, List, [], ◌∷◌, subst, false}
+use Rattle.std.proofs.Common.{◌≡◌, ℕ, ◌+◌, ◌*◌, ◌<◌, ◌≤◌, ℤ, pos, ◌+ℤ◌, ◌-ℤ◌, ◌*ℤ◌, arith, refl, ap, sym, ◌∙◌, ◌⊎◌, inl, inr, ⊎_elim, ◌↔◌, List, [], ◌∷◌, subst, false}
 use Rattle.std.proofs.lemmas.Int.{ints}
-use Rattle.std.proofs.Math.Nat.{le-mul_of_pos_right}
+use Rattle.std.proofs.Math.Nat.{mul-pos, le-mul_of_pos_right}
 use Rattle.nef_exact.specs.Signs.{Sign, minus, nought, plus, sign, Lies}
-use Rattle.nef_exact.proofs.Ring.{ring, at, num, ◌⊕◌, ◌⊗◌}
+use Rattle.nef_exact.proofs.Ring.{ring, at, num, ◌⊕◌, ◌⊖◌, ◌⊗◌}
 use Rattle.nef_exact.proofs.Order.{nought-is, sign-scaled, mul_pos}
 use Rattle.nef_space.specs.Local.{Germ, Flat, FlatDim, IsEven, Joined}
 use Rattle.nef_space.specs.Place.{Place, Form, form_at, slope, Within, SamePlace, toward, IsBetween}
@@ -22,7 +22,7 @@ use Rattle.nef_near.proofs.Decisions.{ahead, near-ahead, near-germ_of}
 use Rattle.nef_near.proofs.Decided.{germ_of}
 use Rattle.nef_near.proofs.Alike.{germs-by_cell, FlatDim-by_germs}
 use Rattle.nef_near.proofs.FlatDecided.{flat_dim-of}
-use Rattle.nef_near.proofs.Between.{mixed-of}
+use Rattle.nef_near.proofs.Between.{mixed-of, ray-cell}
 use Rattle.nef_near.proofs.FirstChange.{settled-along}
 use Rattle.nef_near.proofs.Edges.{start-close}
 use Rattle.nef_near.proofs.Even.{flat-way, joined-turned, joined-both, joined-itself}
@@ -32,7 +32,8 @@ use Rattle.nef_forms.proofs.Crossings.{opposite, joint, sign-mixed}
 use Rattle.nef_forms.proofs.Near.{form-step, step-within, reach_all}
 use Rattle.nef_forms.proofs.Far.{sign-level}
 use Rattle.nef_forms.proofs.Between.{toward-place}
-use Rattle.nef_forms.proofs.Directions.{zero-decided, direction-left}
+use Rattle.nef_forms.proofs.Directions.{zero-decided, factor-same, direction-left}
+use Rattle.nef_sphere.proofs.Compare.{SameDirection-turned}
 use Rattle.nef_solid.proofs.Ways.{between-outer, same-itself}
 use Rattle.nef_solid.proofs.Edges.{near_point, near-between, way-near}
 use Rattle.nef_solid.proofs.FacetWays.{dim-same, even-by}
@@ -51,6 +52,22 @@ beside-close s p d q c w h l = (λ n. keeps-all (carriers s) p q c h l n, λ o. 
 
 pub ahead-close : (s : Set) (p : Place) (d : Vector) → Within (reach_all (carriers s) p) p (ahead s p d)
 ahead-close s p d = step-within (reach_all (carriers s) p) p d (sample s p d) (sample-short s p d)
+
+-- it lies in that direction
+pub ahead-toward : (s : Set) (p : Place) (d : Vector) → IsDirection d → SameDirection (toward p (ahead s p d)) d
+ahead-toward s p d i = SameDirection-turned d (toward p (ahead s p d)) (factor-same d (toward p (ahead s p d)) (record {
+  k = p.w * p.w;
+  l = 1;
+  some_k = mul-pos p.proper p.proper;
+  some_l = omega arith;
+  is_x = each p.x d.x;
+  is_y = each p.y d.y;
+  is_z = each p.z d.z;
+  is_w = ring (pos p.w ∷ []) (at 0 ⊗ at 0 ⊗ num (pos 0)) (num (pos 1) ⊗ num (pos 0)) tt;
+}) i)
+  where
+    each : (x e : ℤ) → pos (p.w * p.w) *ℤ e ≡ pos 1 *ℤ ((x *ℤ pos (sample s p d).b +ℤ pos 1 *ℤ pos p.w *ℤ e) *ℤ pos p.w -ℤ x *ℤ pos (p.w * (sample s p d).b))
+    each x e = ring (pos p.w ∷ x ∷ e ∷ pos (sample s p d).b ∷ []) (at 0 ⊗ at 0 ⊗ at 2) (num (pos 1) ⊗ ((at 1 ⊗ at 3 ⊕ num (pos 1) ⊗ at 0 ⊗ at 2) ⊗ at 0 ⊖ at 1 ⊗ (at 0 ⊗ at 3))) tt
 
 pub beside-ahead : (s : Set) (p : Place) (d : Vector) → IsBeside s p d (ahead s p d)
 beside-ahead s p d h l = (λ n. keeps-all (carriers s) p (ahead s p d) (ahead-close s p d) h l n, λ o. sign-along h p (sample s p d) d o (omega (arith, ints)))
@@ -255,3 +272,8 @@ tied-ray s k p q d w even =
     let on : IsEven s k n q = even-by s k n q here (λ r c. even r (inl (between-outer p n r q b c))) (even q (inr (same-itself q))) in
     tied-both s q n (ahead s p d) (tied-turned s n q (tied-even s k n q on))
     (tied-cell s n (ahead s p d) (beside-cell s p d n (ahead s p d) (beside-close s p d n (start-close (reach_all (carriers s) p) p q) (way-near s p d q w)) (beside-ahead s p d)))
+
+-- up to the point off p toward d the number of flat directions is even
+pub even-after : (s : Set) (k : ℕ) (p : Place) (d : Vector) → FlatDim s (ahead s p d) k → IsEvenAfter s k p (ahead s p d)
+even-after s k p d f r (inl b) = dim-cell s (ahead s p d) r k (ray-cell (carriers s) p (ahead s p d) r (ahead-close s p d) b) f
+even-after s k p d f r (inr e) = dim-same s (ahead s p d) r k (same-place_sym r (ahead s p d) e) f

@@ -1,6 +1,7 @@
 use Rattle.nef_links.specs.Components.{ItemsJoined, SidesJoined, ItemsHavePoints, SidesHavePoints}
 use Rattle.nef_links.proofs.laws.link_laws.Goals as goal
-use Rattle.nef_links.proofs.NearVertex.{item-tied}
+use Rattle.nef_links.proofs.ItemPoints.{items-have_points, one-item}
+use Rattle.nef_links.proofs.EdgeEnds.{along-tied}
 
 pub returns-clause-items : goal.returns-clause-items
 returns-clause-items c = ?
@@ -9,7 +10,7 @@ pub returns-clause-sides : goal.returns-clause-sides
 returns-clause-sides c = ?
 
 pub returns-clause-item_points : goal.returns-clause-item_points
-returns-clause-item_points c = ?
+returns-clause-item_points c = items-have_points
 
 pub returns-clause-side_points : goal.returns-clause-side_points
 returns-clause-side_points c = ?
