@@ -1,10 +1,10 @@
 use Rattle.nef_links.specs.Components.{ItemsJoined, SidesJoined, ItemsHavePoints, SidesHavePoints}
 use Rattle.nef_links.proofs.laws.link_laws.Goals as goal
-use Rattle.nef_links.proofs.ItemPoints.{items-have_points, one-item}
-use Rattle.nef_links.proofs.EdgeEnds.{along-tied}
+use Rattle.nef_links.proofs.ItemPoints.{items-have_points}
+use Rattle.nef_links.proofs.ItemLinks.{items-joined}
 
 pub returns-clause-items : goal.returns-clause-items
-returns-clause-items c = ?
+returns-clause-items c = items-joined
 
 pub returns-clause-sides : goal.returns-clause-sides
 returns-clause-sides c = ?
