@@ -6,3 +6,5 @@ pub mod EdgeEnds
 pub mod Across
 pub mod Chains
 pub mod ItemLinks
+pub mod SideSight
+pub mod SidePoints

@@ -2,6 +2,7 @@ use Rattle.nef_links.specs.Components.{ItemsJoined, SidesJoined, ItemsHavePoints
 use Rattle.nef_links.proofs.laws.link_laws.Goals as goal
 use Rattle.nef_links.proofs.ItemPoints.{items-have_points}
 use Rattle.nef_links.proofs.ItemLinks.{items-joined}
+use Rattle.nef_links.proofs.SidePoints.{sides-have_points}
 
 pub returns-clause-items : goal.returns-clause-items
 returns-clause-items c = items-joined
@@ -13,4 +14,4 @@ pub returns-clause-item_points : goal.returns-clause-item_points
 returns-clause-item_points c = items-have_points
 
 pub returns-clause-side_points : goal.returns-clause-side_points
-returns-clause-side_points c = ?
+returns-clause-side_points c = sides-have_points
