@@ -8,3 +8,7 @@ pub mod Chains
 pub mod ItemLinks
 pub mod SideSight
 pub mod SidePoints
+pub mod SideLinks
+pub mod Outside
+pub mod Down
+pub mod SidesJoined

@@ -102,7 +102,7 @@ arrives M s p K o d (directly y c r) = (record { from = d; end = y; clear = c; r
 arrives M s p K o d (by_way_of c y a b r) = (record { from = c; end = y; clear = b; reached = r }, tied-clear M s p K d c a b.start)
 
 -- what is level with a direction is level with its opposite
-level-opposite : (n d e : Vector) → IsOpposite d e → dot n d ≡ pos 0 → dot n e ≡ pos 0
+pub level-opposite : (n d e : Vector) → IsOpposite d e → dot n d ≡ pos 0 → dot n e ≡ pos 0
 level-opposite n d e o z = level-way n (opposite d) e (opposite-way d e o) (let r = dot-opposite n d in omega (arith, ints))
 
 -- ---- all around

@@ -102,7 +102,7 @@ pub ahead-way : (s : Set) (p : Place) (d e : Vector) → SameDirection d e → S
 ahead-way s p d e w = beside-cell s p e (ahead s p d) (ahead s p e) (beside-way s p d e (ahead s p d) (λ h l. slope-same h d e w) (beside-ahead s p d)) (beside-ahead s p e)
 
 -- ---- even segments
-same-between : (h : Form) (p q r : Place) → IsBetween p r q → sign_at h q ≡ sign_at h p → sign_at h r ≡ sign_at h q
+pub same-between : (h : Form) (p q r : Place) → IsBetween p r q → sign_at h q ≡ sign_at h p → sign_at h r ≡ sign_at h q
 same-between h p q r b e =
     let o = subst (λ (t : Sign). (opposite (sign_at h p) t ≡ false) × (joint (sign_at h p) t ≡ t)) (sym e) (one (sign_at h p)) in
     sign-mixed h (of_place p) (of_place r) (of_place q) (mixed-of p r q b) o.0 ∙ o.1
