@@ -1,9 +1,8 @@
 -- Across a facet: a point of it is tied to the points close to the corner that a ray within its plane names.
-use Rattle.std.proofs.Common.{◌≡◌, ℕ, ℤ, pos, ◌*ℤ◌, ◌<ℤ◌, arith, refl, ap, sym, ◌∙◌, ◌⊎◌, inl, inr, ⊎_elim, [], ◌∷◌, subst}
+use Rattle.std.proofs.Common.{◌≡◌, ℕ, pos, ◌<ℤ◌, arith, sym, ◌∙◌, ◌⊎◌, inl, inr, ⊎_elim, [], ◌∷◌, subst}
 use Rattle.std.proofs.lemmas.Int.{ints}
-use Rattle.nef_exact.proofs.Ring.{ring, at, num, ◌⊕◌, ◌⊖◌, ◌⊗◌}
-use Rattle.nef_exact.specs.Signs.{sign}
-use Rattle.nef_space.specs.Local.{Flat, FlatDim}
+use Rattle.nef_exact.proofs.Ring.{ring, at, num, ◌⊗◌}
+use Rattle.nef_space.specs.Local.{FlatDim}
 use Rattle.nef_space.specs.Place.{Place, Form, form_at, normal_of, slope, plane_through, SamePlace, toward, IsBetween}
 use Rattle.nef_space.specs.Sets.{Set}
 use Rattle.nef_space.specs.Vectors.{Vector, opposite, dot, triple, IsDirection, SameDirection, plane_dir}
@@ -11,14 +10,14 @@ use Rattle.nef_near.specs.Cells.{carriers}
 use Rattle.nef_near.specs.Laws.{Drop}
 use Rattle.nef_near.proofs.Decisions.{ahead}
 use Rattle.nef_near.proofs.Rays.{same-place_sym}
-use Rattle.nef_near.proofs.Between.{between-turned, between-inner}
+use Rattle.nef_near.proofs.Between.{between-turned}
 use Rattle.nef_near.proofs.Edges.{even-until, start-close}
 use Rattle.nef_forms.proofs.Near.{reach_all}
 use Rattle.nef_forms.proofs.Between.{between-same}
 use Rattle.nef_forms.proofs.Directions.{factor-same, direction-left, direction-right}
-use Rattle.nef_sphere.specs.Maps.{At, Svertex, Arc, Item, arc_item, items, item_normal, way_of, OnItem}
+use Rattle.nef_sphere.specs.Maps.{At, Item, arc_item, item_normal, way_of, OnItem}
 use Rattle.nef_sphere.proofs.Vectors.{same-plus, same-minus, normal-is}
-use Rattle.nef_sphere.proofs.Forms.{on-direction, on-level}
+use Rattle.nef_sphere.proofs.Forms.{on-level}
 use Rattle.nef_sphere.proofs.Lists.{at-one}
 use Rattle.nef_sphere.proofs.Shot.{way-at}
 use Rattle.nef_sphere.proofs.Compare.{SameDirection-turned, SameDirection-trans, way-self}
@@ -26,7 +25,7 @@ use Rattle.nef_sphere.proofs.Turn.{turn-same}
 use Rattle.nef_sphere.proofs.Arcs.{at-arc, level-same}
 use Rattle.nef_solid.specs.Complexes.{Vertex, Edge, Complex, Corner, HasEnds, IsCorner}
 use Rattle.nef_solid.specs.Shows.{Shows}
-use Rattle.nef_solid.specs.Skeleton.{item_plane, IsVertexPoint, IsEdgePoint, PlaneMeet, meets_vertex, meets_edge, LiesIn, IsArcOnSide, IsFirstInPlane, IsCornerAt, RayNames}
+use Rattle.nef_solid.specs.Skeleton.{item_plane, IsVertexPoint, IsEdgePoint, PlaneMeet, meets_vertex, meets_edge, LiesIn, IsFirstInPlane, IsCornerAt, RayNames}
 use Rattle.nef_solid.specs.Laws.{IsFlatIn}
 use Rattle.nef_solid.proofs.Ways.{between-way, between-start, between-outer, same-itself}
 use Rattle.nef_solid.proofs.Edges.{near_point, near-between, way-near}
@@ -35,10 +34,10 @@ use Rattle.nef_solid.proofs.FacetWays.{dim-same, plane-ahead, end-meets}
 use Rattle.nef_solid.proofs.FacetPoints.{IsInFacetOf, beside-vertex}
 use Rattle.nef_solid.proofs.FacetEdges.{ahead-back, ahead-same}
 use Rattle.nef_solid.proofs.FacetAngles.{through-at}
-use Rattle.nef_solid.proofs.FacetNames.{weight, through-level}
+use Rattle.nef_solid.proofs.FacetNames.{through-level}
 use Rattle.nef_links.specs.Links.{LinkAcross}
-use Rattle.nef_links.proofs.Ties.{beside-close, beside-ahead, beside-cell, IsTied, tied-cell, tied-turned, tied-both, tied-ahead, tied-ray}
-use Rattle.nef_links.proofs.EdgeEnds.{EdgeWays, edge-ways, tied-low, EndsOnSide, end-level, close_way, on-close, tied-close_way, AreTiedItems, dot-opposite}
+use Rattle.nef_links.proofs.Ties.{beside-close, beside-ahead, beside-cell, IsTied, tied-cell, tied-both, tied-ahead, tied-ray}
+use Rattle.nef_links.proofs.EdgeEnds.{edge-ways, tied-low, EndsOnSide, close_way, on-close, tied-close_way, AreTiedItems, dot-opposite}
 
 -- y is tied to a point close to a vertex on the item of the corner, whose plane has the normal n
 pub record IsAcross (s : Set) (C : Complex) (n : Vector) (y : Place) (k : Corner) : Type 0 where

@@ -1,5 +1,5 @@
 -- Where each link joins some points at its two ends, and all points at one thing are joined, all points at the ends of a chain are joined.
-use Rattle.std.proofs.Common.{◌≡◌, ◌⊎◌, inl, inr, List, [], ◌∷◌, subst}
+use Rattle.std.proofs.Common.{◌⊎◌, inl, inr, List, [], ◌∷◌, subst}
 use Rattle.nef_space.specs.Lists.{IsChain}
 use Rattle.nef_space.specs.Local.{Joined}
 use Rattle.nef_space.specs.Place.{Place}

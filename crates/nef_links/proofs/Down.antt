@@ -1,10 +1,9 @@
 -- A ray down ties the points below a vertex to those above the point where it ends, and these to a side there.
-use Rattle.std.proofs.Common.{◌≡◌, ℕ, ◌+◌, ◌≤◌, pos, ◌<ℤ◌, arith, refl, sym, ◌∙◌, ◌⊎◌, inl, inr, ⊎_elim, subst}
-use Rattle.std.proofs.lemmas.Int.{ints}
-use Rattle.nef_exact.specs.Signs.{nought, plus, sign}
+use Rattle.std.proofs.Common.{◌≡◌, ℕ, ◌+◌, pos, arith, sym, ◌∙◌, ⊎_elim, subst}
+use Rattle.nef_exact.specs.Signs.{nought, plus}
 use Rattle.nef_exact.proofs.Order.{sign-plus}
 use Rattle.nef_space.specs.Local.{FlatDim}
-use Rattle.nef_space.specs.Place.{Place, Form, form_at, normal_of, SamePlace, toward, IsBetween}
+use Rattle.nef_space.specs.Place.{Place, form_at, normal_of, SamePlace, toward, IsBetween}
 use Rattle.nef_space.specs.Sets.{Set}
 use Rattle.nef_space.specs.Vectors.{Vector, opposite, blend, dot, SameDirection, up, plane_axis}
 use Rattle.nef_space.specs.declared.label.Label.{Label}
@@ -14,31 +13,31 @@ use Rattle.nef_near.proofs.NearGerms.{steep}
 use Rattle.nef_near.proofs.Rays.{signs-same, same-place_sym}
 use Rattle.nef_near.proofs.Between.{between-turned, between-inner}
 use Rattle.nef_forms.proofs.Directions.{self-pos, direction-left}
-use Rattle.nef_sphere.specs.Maps.{At, Item, item_normal, item_above, item_mark, item_below, way_of, Side, above_item, HasSide, Sees}
-use Rattle.nef_sphere.proofs.Vectors.{normal-direction, normal-is}
+use Rattle.nef_sphere.specs.Maps.{At, item_normal, item_above, item_mark, item_below, HasSide, Sees}
+use Rattle.nef_sphere.proofs.Vectors.{normal-is}
 use Rattle.nef_sphere.proofs.Forms.{on-level}
 use Rattle.nef_sphere.proofs.Lists.{at-one}
 use Rattle.nef_sphere.proofs.Shot.{way-at}
 use Rattle.nef_sphere.proofs.Compare.{SameDirection-turned, SameDirection-trans}
-use Rattle.nef_solid.specs.Complexes.{Vertex, Edge, Complex, Corner, HasEnds, IsCorner}
+use Rattle.nef_solid.specs.Complexes.{Vertex, Edge, Complex, Corner, HasEnds}
 use Rattle.nef_solid.specs.Shows.{Shows}
-use Rattle.nef_solid.specs.Skeleton.{item_plane, IsVertexPoint, IsEdgePoint, Spot, at_vertex, on_edge, in_facet, IsSpot, IsSkeletonPoint, HasCorner}
-use Rattle.nef_solid.specs.Rays.{VertexSide, HasSideLabel, IsAbove, RayDown}
+use Rattle.nef_solid.specs.Skeleton.{item_plane, IsVertexPoint, IsEdgePoint, Spot, at_vertex, on_edge, in_facet, IsSpot, IsSkeletonPoint}
+use Rattle.nef_solid.specs.Rays.{VertexSide, HasSideLabel, IsAbove}
 use Rattle.nef_solid.specs.Laws.{IsFlatIn}
 use Rattle.nef_solid.proofs.Ways.{between-way}
 use Rattle.nef_solid.proofs.Edges.{near_point, near-between}
 use Rattle.nef_solid.proofs.FacetWays.{dim-same}
-use Rattle.nef_solid.proofs.FacetPoints.{IsInFacetOf, facet-point}
+use Rattle.nef_solid.proofs.FacetPoints.{facet-point}
 use Rattle.nef_solid.proofs.FacetEdges.{ahead-back}
 use Rattle.nef_solid.proofs.FacetAngles.{through-at}
 use Rattle.nef_solid.proofs.FacetNames.{through-level, axis-in, facet-of}
 use Rattle.nef_solid.proofs.Skeletons.{FacetAt, skeleton-or_flat}
 use Rattle.nef_links.specs.Links.{LinkDown}
-use Rattle.nef_links.specs.Components.{IsAtSide, IsUpright}
+use Rattle.nef_links.specs.Components.{IsUpright}
 use Rattle.nef_links.proofs.Ties.{ahead-way, ahead-cells, IsTied, tied-cell, tied-turned, tied-both, tied-ahead, tied-ray}
 use Rattle.nef_links.proofs.NearVertex.{tied-off}
 use Rattle.nef_links.proofs.EdgeEnds.{edge-ways, tied-low, tied-turn}
-use Rattle.nef_links.proofs.Across.{IsAcross, across, through-same}
+use Rattle.nef_links.proofs.Across.{across, through-same}
 use Rattle.nef_links.proofs.SidePoints.{at-side}
 use Rattle.nef_links.proofs.SideLinks.{JoinsSides, PointTied, above-point}
 
@@ -50,9 +49,6 @@ module _ (s : Set) (C : Complex) (S : Shows s C) where
   module _ (v z : Place) (d : Vector) (on : SameDirection (toward v z) d) (clear : (q : Place) → IsBetween v q z → IsSkeletonPoint C q → ⊥) where
     free : (q : Place) → IsBetween v q z → FlatDim s q 3
     free q b = ⊎_elim (λ f. f) (λ o. absurd (clear q b o)) (skeleton-or_flat s C S facet-at (facet-of s C S) q)
-
-    half : Place
-    half = near_point s v z
 
     half-between : IsBetween v (near_point s v z) z
     half-between = near-between s v z (direction-left (toward v z) d on)

@@ -1,5 +1,5 @@
 -- Beside an edge: its points are tied to those close to both of its ends; and the arcs along it.
-use Rattle.std.proofs.Common.{◌≡◌, ℕ, ◌+◌, ◌<◌, ◌≤◌, ℤ, pos, ◌+ℤ◌, ◌-ℤ◌, ◌*ℤ◌, neg_ℤ, ◌<ℤ◌, arith, refl, ap, sym, ◌∙◌, ◌⊎◌, inl, inr, ⊎_elim, List, [], ◌∷◌, subst}
+use Rattle.std.proofs.Common.{◌≡◌, ℕ, ◌+◌, ◌≤◌, ℤ, pos, ◌+ℤ◌, ◌-ℤ◌, ◌*ℤ◌, neg_ℤ, ◌<ℤ◌, arith, ap, sym, ◌∙◌, ◌⊎◌, inl, inr, ⊎_elim, [], ◌∷◌, subst}
 use Rattle.std.proofs.lemmas.Int.{ints}
 use Rattle.nef_exact.specs.Signs.{sign}
 use Rattle.nef_exact.proofs.Ring.{ring, at, num, neg, ◌⊕◌, ◌⊖◌, ◌⊗◌}
@@ -16,15 +16,15 @@ use Rattle.nef_near.proofs.FlatDecided.{triple-dot}
 use Rattle.nef_near.proofs.Supports.{square-cross}
 use Rattle.nef_forms.proofs.Directions.{self-pos, direction-left, direction-right}
 use Rattle.nef_sphere.specs.Forms.{forms}
-use Rattle.nef_sphere.specs.Maps.{At, Svertex, Arc, Item, arc_item, items, item_normal, way_of, OnItem, Shaped}
+use Rattle.nef_sphere.specs.Maps.{At, Svertex, Arc, Item, arc_item, item_normal, way_of, OnItem, Shaped}
 use Rattle.nef_sphere.proofs.Vectors.{dot-comb, normal-is, same-plus, same-minus, nought-if}
 use Rattle.nef_sphere.proofs.Generic.{amount}
 use Rattle.nef_sphere.proofs.Lists.{at-one}
 use Rattle.nef_sphere.proofs.Shot.{way-at, arc-at}
-use Rattle.nef_sphere.proofs.Compare.{SameDirection-turned, SameDirection-trans, way-self}
+use Rattle.nef_sphere.proofs.Compare.{SameDirection-trans, way-self}
 use Rattle.nef_sphere.proofs.Turn.{turn-same}
 use Rattle.nef_sphere.proofs.Arcs.{at-arc, ends-of, level-same}
-use Rattle.nef_solid.specs.Complexes.{Vertex, Edge, Complex, Corner, HasEnds, IsCorner, IsEdge}
+use Rattle.nef_solid.specs.Complexes.{Vertex, Edge, Complex, Corner, HasEnds, IsCorner}
 use Rattle.nef_solid.specs.Shows.{Shows}
 use Rattle.nef_solid.proofs.Ways.{between-way}
 use Rattle.nef_solid.proofs.Edges.{near_point, near-between, edge-points}

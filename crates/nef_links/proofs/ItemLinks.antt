@@ -1,6 +1,5 @@
 -- Links of items tie points at both, so points at items of one class are joined.
-use Rattle.std.proofs.Common.{◌≡◌, ℕ, sym, ◌⊎◌, inl, inr, subst}
-use Rattle.nef_space.specs.Place.{Place}
+use Rattle.std.proofs.Common.{ℕ, sym, inl, inr, subst}
 use Rattle.nef_space.specs.Sets.{Set}
 use Rattle.nef_near.proofs.Decisions.{ahead}
 use Rattle.nef_solid.specs.Complexes.{Complex, Corner}

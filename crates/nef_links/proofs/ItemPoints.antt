@@ -1,6 +1,5 @@
 -- Each item has points at it, and all points at one item are joined.
-use Rattle.std.proofs.Common.{◌≡◌, ℕ, subst}
-use Rattle.nef_space.specs.Local.{Joined}
+use Rattle.std.proofs.Common.{subst}
 use Rattle.nef_space.specs.Place.{Place, toward}
 use Rattle.nef_space.specs.Sets.{Set}
 use Rattle.nef_space.specs.Vectors.{Vector, SameDirection}

@@ -1,22 +1,22 @@
 -- Close to a point of a set the points toward a free direction of its map have three flat directions, and those toward an item two; two directions on one item are tied.
-use Rattle.std.proofs.Common.{◌≡◌, ℕ, ◌+◌, ◌<◌, ◌≤◌, pos, nat_abs, arith, refl, ap, sym, ◌∙◌, [], ◌∷◌, subst}
+use Rattle.std.proofs.Common.{◌≡◌, ℕ, ◌+◌, ◌<◌, pos, nat_abs, arith, refl, ap, sym, ◌∙◌, [], ◌∷◌, subst}
 use Rattle.std.proofs.lemmas.Int.{ints}
 use Rattle.nef_exact.specs.Signs.{Sign, nought, sign}
 use Rattle.nef_space.specs.Local.{Germ, FlatDim}
 use Rattle.nef_space.specs.Place.{Place}
 use Rattle.nef_space.specs.Sets.{Set}
-use Rattle.nef_space.specs.Vectors.{Vector, vector, blend, dot, cross, IsDirection, SameDirection}
+use Rattle.nef_space.specs.Vectors.{Vector, vector, blend, dot, cross, SameDirection}
 use Rattle.nef_space.specs.declared.label.Label.{Label}
 use Rattle.nef_cyclic.specs.Arcs.{IsStrictlyOn}
 use Rattle.nef_near.proofs.Decisions.{ahead, near-ahead}
 use Rattle.nef_near.proofs.NearGerms.{sign-large}
 use Rattle.nef_sphere.specs.Least.{by_side, Cone}
-use Rattle.nef_sphere.specs.Maps.{At, Map, Arc, Item, arc_item, loop_item, items, item_normal, item_above, item_mark, item_below, OnItem, IsFree, way_of, Shaped}
+use Rattle.nef_sphere.specs.Maps.{Map, Arc, Item, arc_item, loop_item, item_normal, item_above, item_mark, item_below, OnItem, IsFree, way_of, Shaped}
 use Rattle.nef_sphere.proofs.Vectors.{dot-comb, normal-is}
 use Rattle.nef_sphere.proofs.Generic.{amount}
 use Rattle.nef_sphere.proofs.Labels.{label-exists, mixed-sign}
 use Rattle.nef_sphere.proofs.NearItems.{near-free, near-item}
-use Rattle.nef_sphere.proofs.Parallel.{past_source, arc-point}
+use Rattle.nef_sphere.proofs.Parallel.{past_source}
 use Rattle.nef_sphere.proofs.Shot.{arc-at}
 use Rattle.nef_sphere.proofs.Arcs.{ends-of}
 use Rattle.nef_solid.specs.Complexes.{Vertex, Complex, Corner, IsCorner}
@@ -44,9 +44,12 @@ free-dim M s p K d F =
 -- ---- off a plane that parts the germs
 module _ (s : Set) (z : Place) (n : Vector) (a m b : Label) (all : IsSided s z n a m b) where
   pub off-plane : (d : Vector) → (sign (dot n d) ≡ nought → ⊥) → FlatDim s (ahead s z d) 3
-  off-plane d off = one-label-dim s (ahead s z d) l (λ e. (near-ahead s z d e l).1 (nat_abs (dot n e) + 1, λ k h.
-      subst (λ (t : Sign). Germ s z (blend k d 1 e) (by_side a m b t))
-      (ap sign (dot-comb n (pos k) d (pos 1) e) ∙ sign-large (dot n d) (dot n e) k (omega arith) off) (all (blend k d 1 e))))
+  off-plane d off = one-label-dim s (ahead s z d) l (λ e. (near-ahead s z d e l).1 (
+    nat_abs (dot n e) + 1,
+    λ k h.
+        subst (λ (t : Sign). Germ s z (blend k d 1 e) (by_side a m b t))
+        (ap sign (dot-comb n (pos k) d (pos 1) e) ∙ sign-large (dot n d) (dot n e) k (omega arith) off) (all (blend k d 1 e)),
+  ))
     where
       l : Label
       l = by_side a m b (sign (dot n d))

@@ -1,25 +1,24 @@
 -- The points outside the closed frame are joined round the frame.
-use Rattle.std.proofs.Common.{◌≡◌, ℕ, ◌+◌, ◌*◌, ◌<◌, ◌≤◌, ℤ, pos, negsuc, ◌+ℤ◌, ◌-ℤ◌, ◌*ℤ◌, neg_ℤ, ◌<ℤ◌, ◌≤ℤ◌, nat_abs, arith, refl, ap, sym, ◌∙◌, ◌⊎◌, inl, inr, ⊎_elim, [], ◌∷◌, subst}
+use Rattle.std.proofs.Common.{◌≡◌, ℕ, ◌+◌, ◌*◌, ◌<◌, ◌≤◌, ℤ, pos, negsuc, ◌+ℤ◌, ◌-ℤ◌, ◌*ℤ◌, neg_ℤ, ◌<ℤ◌, ◌≤ℤ◌, nat_abs, arith, refl, ap, sym, ◌∙◌, inl, inr, [], ◌∷◌, subst}
 use Rattle.std.proofs.lemmas.Int.{ints, by_lt_z, unsigned_abs-mul}
 use Rattle.std.proofs.Math.Nat.{mul-pos, mul-le-mul_left}
-use Rattle.nef_exact.specs.Signs.{plus, sign, Lies}
+use Rattle.nef_exact.specs.Signs.{Lies}
 use Rattle.nef_exact.proofs.Ring.{ring, at, num, ◌⊕◌, ◌⊖◌, ◌⊗◌}
 use Rattle.nef_exact.proofs.Order.{sign-plus, plus-is}
 use Rattle.nef_space.specs.Limits.{half_side}
-use Rattle.nef_space.specs.Local.{HasLabel, Germ, FlatDim, IsEven, Joined}
-use Rattle.nef_space.specs.Place.{Place, Form, form_at, Ratio, step, InFrame, InClosedFrame, toward, IsBetween}
+use Rattle.nef_space.specs.Local.{HasLabel, Germ, FlatDim, Joined}
+use Rattle.nef_space.specs.Place.{Place, Form, form_at, Ratio, InClosedFrame, toward}
 use Rattle.nef_space.specs.Sets.{Set}
-use Rattle.nef_space.specs.Vectors.{Vector, vector, zero_vector}
-use Rattle.nef_space.specs.declared.label.Label.{Label}
+use Rattle.nef_space.specs.Vectors.{zero_vector}
 use Rattle.nef_space.specs.declared.label.Label.TheVariants.{Out}
-use Rattle.nef_near.specs.Cells.{sign_at, side, frame}
+use Rattle.nef_near.specs.Cells.{side, frame}
 use Rattle.nef_near.proofs.Alike.{flat-germ}
 use Rattle.nef_near.proofs.Decisions.{ahead, near-ahead}
 use Rattle.nef_near.proofs.Even.{span-3, joined-turned, joined-both}
 use Rattle.nef_near.proofs.Frames.{flat_dim-outside}
 use Rattle.nef_near.proofs.Rays.{Germ-zero}
 use Rattle.nef_near.proofs.Topology.{near-germ_zero}
-use Rattle.nef_sphere.specs.Maps.{At, MapLabel, seen}
+use Rattle.nef_sphere.specs.Maps.{seen}
 use Rattle.nef_solid.specs.Complexes.{Complex}
 use Rattle.nef_solid.specs.Shows.{Shows}
 use Rattle.nef_solid.specs.Rays.{VertexSide, HasSideLabel}
@@ -127,7 +126,7 @@ middle = place (pos 0) (pos 0) (pos 0)
 inward : (x : ℤ) (w c : ℕ) → 0 < w → nat_abs x ≤ half_side * w → nat_abs (x *ℤ pos (w + c) +ℤ pos 1 *ℤ pos w *ℤ (pos 0 *ℤ pos w -ℤ x *ℤ pos 1)) < half_side * (w * (w + c))
 inward x w c some l =
     let e : x *ℤ pos (w + c) +ℤ pos 1 *ℤ pos w *ℤ (pos 0 *ℤ pos w -ℤ x *ℤ pos 1) ≡ pos c *ℤ x =
-        ring (x ∷ pos w ∷ pos c ∷ []) (at 0 ⊗ (at 1 ⊕ at 2) ⊕ num (pos 1) ⊗ at 1 ⊗ (num (pos 0) ⊗ at 1 ⊖ at 0 ⊗ num (pos 1))) (at 2 ⊗ at 0) tt in
+    ring (x ∷ pos w ∷ pos c ∷ []) (at 0 ⊗ (at 1 ⊕ at 2) ⊕ num (pos 1) ⊗ at 1 ⊗ (num (pos 0) ⊗ at 1 ⊖ at 0 ⊗ num (pos 1))) (at 2 ⊗ at 0) tt in
     let f : nat_abs (x *ℤ pos (w + c) +ℤ pos 1 *ℤ pos w *ℤ (pos 0 *ℤ pos w -ℤ x *ℤ pos 1)) ≡ c * nat_abs x = ap nat_abs e ∙ unsigned_abs-mul (pos c) x in
     let g = mul-le-mul_left {m = nat_abs x} {n = half_side * w} c l in
     let h = mul-pos some some in

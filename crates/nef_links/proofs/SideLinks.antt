@@ -1,5 +1,5 @@
 -- Links of sides in one sface, along an edge and across a facet join points at both.
-use Rattle.std.proofs.Common.{◌≡◌, ℕ, ◌+◌, ◌<◌, ◌≤◌, ℤ, pos, ◌+ℤ◌, ◌-ℤ◌, ◌*ℤ◌, neg_ℤ, ◌<ℤ◌, arith, refl, ap, sym, ◌∙◌, ◌⊎◌, inl, inr, ⊎_elim, [], ◌∷◌, subst, Some}
+use Rattle.std.proofs.Common.{◌≡◌, ℕ, ◌+◌, ℤ, pos, ◌-ℤ◌, ◌*ℤ◌, neg_ℤ, ◌<ℤ◌, arith, refl, sym, ◌∙◌, ⊎_elim, [], ◌∷◌, subst, Some}
 use Rattle.std.proofs.lemmas.Int.{ints}
 use Rattle.nef_exact.proofs.Ring.{ring, at, neg, ◌⊕◌, ◌⊖◌, ◌⊗◌}
 use Rattle.nef_space.specs.Place.{Place, toward}
@@ -11,18 +11,18 @@ use Rattle.nef_near.proofs.Decisions.{ahead}
 use Rattle.nef_near.proofs.NearGerms.{steep}
 use Rattle.nef_forms.proofs.Directions.{self-pos, dot-comm, direction-right}
 use Rattle.nef_sphere.specs.Forms.{forms}
-use Rattle.nef_sphere.specs.Maps.{At, Svertex, Item, items, item_normal, item_above, item_below, OnItem, Side, around_svertex, above_item, below_item, HasSide, Sees, Shaped}
+use Rattle.nef_sphere.specs.Maps.{At, Svertex, Item, item_normal, item_above, item_below, OnItem, Side, around_svertex, above_item, below_item, HasSide, Sees, Shaped}
 use Rattle.nef_sphere.proofs.Generic.{amount}
 use Rattle.nef_sphere.proofs.Vectors.{nought-if, normal-is}
 use Rattle.nef_sphere.proofs.Lists.{at-one}
 use Rattle.nef_sphere.proofs.Walk.{cross-direction_right}
 use Rattle.nef_solid.specs.Complexes.{Vertex, Edge, Complex, Corner, HasEnds, IsCorner}
 use Rattle.nef_solid.specs.Shows.{Shows}
-use Rattle.nef_solid.specs.Rays.{VertexSide, HasSideLabel}
+use Rattle.nef_solid.specs.Rays.{VertexSide}
 use Rattle.nef_links.specs.Links.{IsSideOf, LinkInSface, AreSidesAlong, above_arcs, below_arcs, around_ends, LinkAlongEdge, LinkAcrossFacet, VolumeLink}
 use Rattle.nef_links.specs.Components.{IsAtSide}
 use Rattle.nef_links.proofs.Ties.{ahead-way, IsTied, tied-cell, tied-turned, tied-both, tied-ahead}
-use Rattle.nef_links.proofs.EdgeEnds.{EdgeWays, edge-ways, ends-tied, tied-turn, AreTiedItems, dot-opposite, along-tied}
+use Rattle.nef_links.proofs.EdgeEnds.{edge-ways, ends-tied, tied-turn, AreTiedItems, dot-opposite, along-tied}
 use Rattle.nef_links.proofs.Across.{across-tied}
 use Rattle.nef_links.proofs.SideSight.{sees-above, sees-below, sees-around, lone-of, aside, side-sees}
 use Rattle.nef_links.proofs.SidePoints.{at-side, level-opposite, one-sface}

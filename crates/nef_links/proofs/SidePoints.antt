@@ -1,14 +1,14 @@
 -- Each side has points at it, and all points at one side are joined.
-use Rattle.std.proofs.Common.{◌≡◌, ℕ, ◌+◌, ◌*◌, ◌<◌, ◌≤◌, ℤ, pos, ◌+ℤ◌, ◌-ℤ◌, ◌*ℤ◌, ◌<ℤ◌, arith, refl, ap, sym, ◌∙◌, ◌⊎◌, inl, inr, ⊎_elim, [], ◌∷◌, subst, Some}
+use Rattle.std.proofs.Common.{◌≡◌, ℕ, ◌+◌, ◌*◌, ◌<◌, ℤ, pos, ◌+ℤ◌, ◌-ℤ◌, ◌*ℤ◌, ◌<ℤ◌, arith, sym, ◌∙◌, ⊎_elim, [], ◌∷◌, subst, Some}
 use Rattle.std.proofs.lemmas.Int.{ints}
 use Rattle.std.proofs.Math.Nat.{mul-pos}
 use Rattle.nef_exact.specs.Signs.{minus, nought, plus, sign}
 use Rattle.nef_exact.proofs.Ring.{ring, at, num, ◌⊕◌, ◌⊖◌, ◌⊗◌}
-use Rattle.nef_exact.proofs.Order.{nought-is, sign-plus, sign-minus}
+use Rattle.nef_exact.proofs.Order.{sign-plus, sign-minus}
 use Rattle.nef_space.specs.Local.{FlatDim}
 use Rattle.nef_space.specs.Place.{Place, toward}
 use Rattle.nef_space.specs.Sets.{Set}
-use Rattle.nef_space.specs.Vectors.{Vector, opposite, blend, dot, cross, IsZero, IsDirection, SameDirection, IsOpposite}
+use Rattle.nef_space.specs.Vectors.{Vector, opposite, blend, dot, cross, IsDirection, SameDirection, IsOpposite}
 use Rattle.nef_space.specs.declared.label.Label.{Label}
 use Rattle.nef_near.specs.Cells.{carriers}
 use Rattle.nef_near.proofs.Decisions.{ahead}
@@ -17,14 +17,13 @@ use Rattle.nef_near.proofs.NearGerms.{steep}
 use Rattle.nef_near.proofs.Supports.{square-cross}
 use Rattle.nef_near.proofs.Flats.{vector-same}
 use Rattle.nef_near.proofs.FlatDecided.{cross-turned}
-use Rattle.nef_forms.proofs.Directions.{self-pos, dot-comm, dot-zero}
+use Rattle.nef_forms.proofs.Directions.{self-pos, dot-comm}
 use Rattle.nef_sphere.specs.Forms.{forms}
-use Rattle.nef_sphere.specs.Least.{by_side, Cone}
+use Rattle.nef_sphere.specs.Least.{Cone}
 use Rattle.nef_sphere.specs.Maps.{At, Svertex, Map, Item, items, item_normal, item_above, item_mark, item_below, OnItem, IsFree, Side, around_svertex, above_item, below_item, whole, HasSide, IsClear, Reaches, Sees, directly, by_way_of, InOneSface, here, link, HasArc, Shaped}
 use Rattle.nef_sphere.proofs.Generic.{amount}
 use Rattle.nef_sphere.proofs.Lists.{at-one}
 use Rattle.nef_sphere.proofs.Vectors.{nought-if, normal-is, same-minus}
-use Rattle.nef_sphere.proofs.Forms.{on-direction}
 use Rattle.nef_sphere.proofs.Places.{IsOpposite-decided}
 use Rattle.nef_sphere.proofs.Parallel.{parallel-trans}
 use Rattle.nef_sphere.proofs.StepOff.{blend-turned}
@@ -32,11 +31,10 @@ use Rattle.nef_sphere.proofs.Labels.{way-signs}
 use Rattle.nef_sphere.proofs.Around.{Beside, same_way, other_way, beside}
 use Rattle.nef_sphere.proofs.Walk.{cross-direction_right}
 use Rattle.nef_sphere.proofs.Compare.{SameDirection-turned, way-self}
-use Rattle.nef_solid.specs.Complexes.{Vertex, Complex, Corner, IsCorner}
+use Rattle.nef_solid.specs.Complexes.{Vertex, Complex, IsCorner}
 use Rattle.nef_solid.specs.Shows.{Shows}
-use Rattle.nef_solid.specs.Rays.{VertexSide, HasSideLabel}
+use Rattle.nef_solid.specs.Rays.{VertexSide}
 use Rattle.nef_solid.proofs.FacetSides.{level-way}
-use Rattle.nef_solid.proofs.FacetPoints.{IsInFacetOf}
 use Rattle.nef_links.specs.Components.{IsEvenAfter, IsAtSide, SidesHavePoints}
 use Rattle.nef_links.proofs.Ties.{ahead-toward, ahead-way, ahead-cells, ahead-ahead, dim-cell, even-fan, IsTied, tied-even, tied-cell, tied-turned, tied-both, tied-itself, tied-ahead, tied-ray, even-after}
 use Rattle.nef_links.proofs.NearVertex.{free-dim, tied-off, facet-near, item-tied}
@@ -153,9 +151,6 @@ module _ (M : Map) (s : Set) (p : Place) (K : Cone M s p) where
     pub around-tied : (d e : Vector) → IsDirection (cross u.way d) → IsDirection (cross u.way e) → IsTied s (ahead s z d) (ahead s z e)
     around-tied d e i j = ⊎_elim by (λ off. around-step d e i j off) (IsOpposite-decided (cross u.way d) (cross u.way e))
       where
-        c : Vector
-        c = cross u.way d
-
         square : (x : Vector) → dot x (cross u.way x) ≡ pos 0
         square x = ring (u.way.x ∷ u.way.y ∷ u.way.z ∷ x.x ∷ x.y ∷ x.z ∷ []) (at 3 ⊗ (at 1 ⊗ at 5 ⊖ at 2 ⊗ at 4) ⊕ at 4 ⊗ (at 2 ⊗ at 3 ⊖ at 0 ⊗ at 5) ⊕ at 5 ⊗ (at 0 ⊗ at 4 ⊖ at 1 ⊗ at 3)) (num (pos 0)) tt
 

@@ -1,27 +1,25 @@
 -- What sides see: the same way, some direction each, all around a svertex without arcs, everything where there is nothing.
-use Rattle.std.proofs.Common.{◌≡◌, ℕ, zero, suc, ◌+◌, ◌*◌, ◌<◌, ◌≤◌, ℤ, pos, ◌+ℤ◌, ◌*ℤ◌, ◌<ℤ◌, arith, refl, ap, sym, ◌∙◌, ◌⊎◌, inl, inr, ⊎_elim, List, [], ◌∷◌, subst, Option, Some, None}
+use Rattle.std.proofs.Common.{◌≡◌, ℕ, ◌+◌, ◌*◌, ◌<◌, ◌≤◌, ℤ, pos, ◌+ℤ◌, ◌*ℤ◌, ◌<ℤ◌, arith, refl, ap, sym, ◌∙◌, inl, inr, ⊎_elim, List, [], ◌∷◌, subst, Some}
 use Rattle.std.proofs.lemmas.Int.{ints}
 use Rattle.std.proofs.Math.Nat.{mul-pos}
 use Rattle.nef_exact.specs.Signs.{sign}
-use Rattle.nef_exact.proofs.Ring.{ring, at, num, neg, ◌⊕◌, ◌⊖◌, ◌⊗◌}
+use Rattle.nef_exact.proofs.Ring.{ring, at, num, neg, ◌⊕◌, ◌⊗◌}
 use Rattle.nef_exact.proofs.Combination.{given, none, follows}
-use Rattle.nef_exact.proofs.Order.{sign-scaled, mul_pos, sign-plus, sign-minus}
-use Rattle.nef_space.specs.Vectors.{Vector, vector, opposite, blend, dot, cross, IsZero, IsDirection, SameDirection, IsOpposite}
+use Rattle.nef_exact.proofs.Order.{sign-scaled, mul_pos}
+use Rattle.nef_space.specs.Vectors.{Vector, vector, opposite, blend, dot, cross, IsDirection, SameDirection, IsOpposite}
 use Rattle.nef_space.specs.declared.label.Label.{Label}
 use Rattle.nef_forms.specs.Homogeneous.{SameUpToFactor, of_direction}
 use Rattle.nef_forms.proofs.Directions.{self-pos, dot-comm, dot-zero, zero-decided, same-factor, direction-right}
 use Rattle.nef_forms.proofs.Far.{same-nought}
 use Rattle.nef_near.proofs.Flats.{vector-same}
-use Rattle.nef_near.proofs.FlatDecided.{cross-turned}
-use Rattle.nef_sphere.specs.Forms.{forms, Keeps, SameSigns}
-use Rattle.nef_sphere.specs.Maps.{At, Svertex, Arc, Loop, Map, Item, arc_item, loop_item, items, item_normal, OnItem, way_of, IsFree, Side, around_svertex, above_item, below_item, whole, HasSide, IsClear, Reaches, Sees, directly, by_way_of, HasArc, Shaped}
+use Rattle.nef_sphere.specs.Forms.{forms, Keeps}
+use Rattle.nef_sphere.specs.Maps.{At, Svertex, Map, Item, arc_item, loop_item, items, item_normal, OnItem, way_of, IsFree, Side, around_svertex, above_item, below_item, whole, HasSide, IsClear, Reaches, Sees, directly, by_way_of, HasArc, Shaped}
 use Rattle.nef_sphere.proofs.Vectors.{dot-comb, normal-is, same-plus, same-minus, nought-if}
 use Rattle.nef_sphere.proofs.Generic.{amount, far-keeps, far-level}
-use Rattle.nef_sphere.proofs.Places.{kept-nought, IsOpposite-decided}
+use Rattle.nef_sphere.proofs.Places.{kept-nought}
 use Rattle.nef_sphere.proofs.Forms.{axes-forms, item-forms, free-by_signs, on-direction, on-level}
-use Rattle.nef_sphere.proofs.Lists.{at-one}
 use Rattle.nef_sphere.proofs.Parallel.{parallel-trans, circle-point}
-use Rattle.nef_sphere.proofs.Shot.{way-at, arc-at, item-point}
+use Rattle.nef_sphere.proofs.Shot.{arc-at, item-point}
 use Rattle.nef_sphere.proofs.Direct.{cross-between, between-off_target}
 use Rattle.nef_sphere.proofs.StepOff.{blend-turned}
 use Rattle.nef_sphere.proofs.Sight.{clear-self}
@@ -29,7 +27,7 @@ use Rattle.nef_sphere.proofs.Labels.{way-signs}
 use Rattle.nef_sphere.proofs.NearItems.{keeps-between, kept-not_opposite, opposite-turned}
 use Rattle.nef_sphere.proofs.Around.{Beside, same_way, other_way, beside, direction-around, svertex-around, free-beside, IsStrictlyOn-back}
 use Rattle.nef_sphere.proofs.Compare.{SameDirection-turned, SameDirection-trans, way-self}
-use Rattle.nef_sphere.proofs.Walk.{cross-direction_right, between-direction}
+use Rattle.nef_sphere.proofs.Walk.{between-direction}
 use Rattle.nef_sphere.proofs.Arcs.{ends-of, loop-at}
 use Rattle.nef_links.proofs.EdgeEnds.{dot-opposite}
 

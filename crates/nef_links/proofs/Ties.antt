@@ -1,24 +1,24 @@
 -- Points that lie close to a point toward a direction, and what joins such points: one cell, an even segment, and even segments with what lies beside them.
-use Rattle.std.proofs.Common.{◌≡◌, ℕ, ◌+◌, ◌*◌, ◌<◌, ◌≤◌, ℤ, pos, ◌+ℤ◌, ◌-ℤ◌, ◌*ℤ◌, arith, refl, ap, sym, ◌∙◌, ◌⊎◌, inl, inr, ⊎_elim, ◌↔◌, List, [], ◌∷◌, subst, false}
+use Rattle.std.proofs.Common.{◌≡◌, ℕ, ◌+◌, ◌*◌, ◌<◌, ◌≤◌, ℤ, pos, ◌+ℤ◌, ◌-ℤ◌, ◌*ℤ◌, arith, refl, ap, sym, ◌∙◌, ◌⊎◌, inl, inr, ⊎_elim, [], ◌∷◌, subst, false}
 use Rattle.std.proofs.lemmas.Int.{ints}
 use Rattle.std.proofs.Math.Nat.{mul-pos, le-mul_of_pos_right}
 use Rattle.nef_exact.specs.Signs.{Sign, minus, nought, plus, sign, Lies}
 use Rattle.nef_exact.proofs.Ring.{ring, at, num, ◌⊕◌, ◌⊖◌, ◌⊗◌}
-use Rattle.nef_exact.proofs.Order.{nought-is, sign-scaled, mul_pos}
+use Rattle.nef_exact.proofs.Order.{nought-is, sign-scaled}
 use Rattle.nef_space.specs.Local.{Germ, Flat, FlatDim, IsEven, Joined}
-use Rattle.nef_space.specs.Place.{Place, Form, form_at, slope, Within, SamePlace, toward, IsBetween}
+use Rattle.nef_space.specs.Place.{Place, Form, form_at, slope, Within, toward, IsBetween}
 use Rattle.nef_space.specs.Sets.{Set}
-use Rattle.nef_space.specs.Vectors.{Vector, blend, IsZero, IsDirection, SameDirection}
+use Rattle.nef_space.specs.Vectors.{Vector, blend, IsDirection, SameDirection}
 use Rattle.nef_space.specs.declared.label.Label.{Label}
 use Rattle.nef_near.specs.Cells.{sign_at, carriers, SameSigns, SameSlopes}
-use Rattle.nef_near.specs.Cones.{slide, NearGerm, FlatCone, IsOnSegment}
+use Rattle.nef_near.specs.Cones.{slide, NearGerm, FlatCone}
 use Rattle.nef_near.specs.Laws.{IsSettled, SameGerms}
 use Rattle.nef_near.proofs.Cells.{same-sym, reach-some, keeps-all, is_nought, Cells}
 use Rattle.nef_near.proofs.Germs.{Germ-unique, sample, sample-short, sign-along}
 use Rattle.nef_near.proofs.Flats.{FlatCone-from_flat, vector-same, slope-slide, sign-toward}
 use Rattle.nef_near.proofs.Rays.{signs-same, slope-same, same-place_sym}
 use Rattle.nef_near.proofs.NearGerms.{steep, steep-one, sign-large}
-use Rattle.nef_near.proofs.Decisions.{ahead, near-ahead, near-germ_of}
+use Rattle.nef_near.proofs.Decisions.{ahead, near-ahead}
 use Rattle.nef_near.proofs.Decided.{germ_of}
 use Rattle.nef_near.proofs.Alike.{germs-by_cell, FlatDim-by_germs}
 use Rattle.nef_near.proofs.FlatDecided.{flat_dim-of}
@@ -142,9 +142,9 @@ module _ (s : Set) (p : Place) (d e : Vector) where
         let z = nought-is (form_at h p) o in
         let sum = form-sum h m.k (of_place u) m.i (of_place q) m.j (of_place r) m.sum in
         let g : pos m.k *ℤ form_at h u ≡ pos p.w *ℤ slope h (blend m.i d m.j e) =
-            sum ∙ ap (λ x. pos m.i *ℤ x +ℤ pos m.j *ℤ form_at h r) (value-ahead h d z) ∙ ap (λ x. pos m.i *ℤ (pos p.w *ℤ slope h d) +ℤ pos m.j *ℤ x) (value-ahead h e z)
-            ∙ ring (pos m.i ∷ pos m.j ∷ pos p.w ∷ slope h d ∷ slope h e ∷ []) (at 0 ⊗ (at 2 ⊗ at 3) ⊕ at 1 ⊗ (at 2 ⊗ at 4)) (at 2 ⊗ (at 0 ⊗ at 3 ⊕ at 1 ⊗ at 4)) tt
-            ∙ ap (λ x. pos p.w *ℤ x) (sym (slope-slide h m.i d (pos m.j) e)) in
+        sum ∙ ap (λ x. pos m.i *ℤ x +ℤ pos m.j *ℤ form_at h r) (value-ahead h d z) ∙ ap (λ x. pos m.i *ℤ (pos p.w *ℤ slope h d) +ℤ pos m.j *ℤ x) (value-ahead h e z)
+        ∙ ring (pos m.i ∷ pos m.j ∷ pos p.w ∷ slope h d ∷ slope h e ∷ []) (at 0 ⊗ (at 2 ⊗ at 3) ⊕ at 1 ⊗ (at 2 ⊗ at 4)) (at 2 ⊗ (at 0 ⊗ at 3 ⊕ at 1 ⊗ at 4)) tt
+        ∙ ap (λ x. pos p.w *ℤ x) (sym (slope-slide h m.i d (pos m.j) e)) in
         sym (sign-scaled (pos m.k) (form_at h u) (let y = m.some_k in omega (arith, ints))) ∙ ap sign g ∙ sign-scaled (pos p.w) (slope h (blend m.i d m.j e)) (let y = p.proper in omega (arith, ints)),
   )
 
@@ -255,13 +255,16 @@ tied-itself s p = (joined-itself s p, λ f. joined-itself s (ahead s p f))
 
 -- what lies beside tied points is tied
 pub tied-ahead : (s : Set) (p q : Place) (f : Vector) → IsTied s p q → IsTied s (ahead s p f) (ahead s q f)
-tied-ahead s p q f t = (t.1 f, λ g.
-    let k = steep (carriers s) g in
-    let e = blend k f 1 g in
-    joined-both s (ahead s (ahead s p f) g) (ahead s p e) (ahead s (ahead s q f) g)
-    (joined-cell s (ahead s (ahead s p f) g) (ahead s p e) (ahead-ahead s p f g k (omega arith)))
-    (joined-both s (ahead s p e) (ahead s q e) (ahead s (ahead s q f) g) (t.1 e)
-    (joined-cell s (ahead s q e) (ahead s (ahead s q f) g) (same-sym (carriers s) (ahead s (ahead s q f) g) (ahead s q e) (ahead-ahead s q f g k (omega arith))))))
+tied-ahead s p q f t = (
+  t.1 f,
+  λ g.
+      let k = steep (carriers s) g in
+      let e = blend k f 1 g in
+      joined-both s (ahead s (ahead s p f) g) (ahead s p e) (ahead s (ahead s q f) g)
+      (joined-cell s (ahead s (ahead s p f) g) (ahead s p e) (ahead-ahead s p f g k (omega arith)))
+      (joined-both s (ahead s p e) (ahead s q e) (ahead s (ahead s q f) g) (t.1 e)
+      (joined-cell s (ahead s q e) (ahead s (ahead s q f) g) (same-sym (carriers s) (ahead s (ahead s q f) g) (ahead s q e) (ahead-ahead s q f g k (omega arith))))),
+)
 
 -- a point that is reached from p by an even way, and the points close to p on the way
 pub tied-ray : (s : Set) (k : ℕ) (p q : Place) (d : Vector) → SameDirection (toward p q) d → IsEvenAfter s k p q → IsTied s q (ahead s p d)

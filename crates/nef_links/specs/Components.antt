@@ -1,5 +1,5 @@
 -- Points beside a side or an item of a complex, as far as the set stays as flat; what links say of such points.
-use Rattle.std.specs.Prelude.{◌≡◌, ℕ, pos, ◌<ℤ◌, ◌⊎◌}
+use Rattle.std.specs.Prelude.{ℕ, pos, ◌<ℤ◌, ◌⊎◌}
 use Rattle.nef_space.specs.Lists.{Chained}
 use Rattle.nef_space.specs.Place.{Place, toward, SamePlace, IsBetween}
 use Rattle.nef_space.specs.Sets.{Set}

@@ -1,6 +1,5 @@
 -- The links of items, whose classes are the facets, and those of sides, whose classes are the volumes.
 use Rattle.std.specs.Prelude.{◌≡◌, ℕ, ◌⊎◌}
-use Rattle.nef_space.specs.Place.{Place}
 use Rattle.nef_space.specs.Vectors.{SameDirection, opposite, plane_dir, up}
 use Rattle.nef_space.specs.declared.label.Label.{Label}
 use Rattle.nef_space.specs.declared.label.Label.TheVariants.{Out}

@@ -1,4 +1,3 @@
-use Rattle.nef_links.specs.Components.{ItemsJoined, SidesJoined, ItemsHavePoints, SidesHavePoints}
 use Rattle.nef_links.proofs.laws.link_laws.Goals as goal
 use Rattle.nef_links.proofs.ItemPoints.{items-have_points}
 use Rattle.nef_links.proofs.ItemLinks.{items-joined}
