@@ -45,7 +45,7 @@ SidesJoined = (s : Set) (C : Complex) (x y : VertexSide) (p q : Place) → Shows
 abbrev pub IsUpright : Complex → Type 0
 IsUpright C = (k : Corner) (v : Vertex) (x : Item) → IsCorner C k v x → pos 0 <ℤ dot (item_normal x) up
 
--- the same where up is above each item, so that the side above a facet is the one that a ray down comes to
+-- points at sides of one class of links are joined where up is above each item: only then is the side above a facet the one to which a ray down comes
 abbrev pub SidesJoinedUpright : Type 0
 SidesJoinedUpright = (s : Set) (C : Complex) (x y : VertexSide) (p q : Place) → Shows s C → IsUpright C → Chained (VolumeLink C) x y → IsAtSide s C x p → IsAtSide s C y q → Joined s p q
 
