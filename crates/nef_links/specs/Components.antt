@@ -1,11 +1,12 @@
 -- Points beside a side or an item of a complex, as far as the set stays as flat; what links say of such points.
-use Rattle.std.specs.Prelude.{ℕ, ◌⊎◌}
+use Rattle.std.specs.Prelude.{ℕ, pos, ◌<ℤ◌, ◌⊎◌}
 use Rattle.nef_space.specs.Lists.{Chained}
 use Rattle.nef_space.specs.Place.{Place, toward, SamePlace, IsBetween}
 use Rattle.nef_space.specs.Sets.{Set}
+use Rattle.nef_space.specs.Vectors.{dot, up}
 use Rattle.nef_space.specs.Local.{FlatDim, Joined}
 use Rattle.nef_space.specs.declared.label.Label.{Label}
-use Rattle.nef_sphere.specs.Maps.{At, Item, OnItem, HasSide, Sees}
+use Rattle.nef_sphere.specs.Maps.{At, Item, item_normal, OnItem, HasSide, Sees}
 use Rattle.nef_solid.specs.Complexes.{Vertex, Complex, Corner, IsCorner}
 use Rattle.nef_solid.specs.Shows.{Shows}
 use Rattle.nef_solid.specs.Rays.{VertexSide, HasSideLabel}
@@ -39,6 +40,14 @@ ItemsJoined = (s : Set) (C : Complex) (j k : Corner) (p q : Place) → Shows s C
 -- points at sides of one class of links are joined
 abbrev pub SidesJoined : Type 0
 SidesJoined = (s : Set) (C : Complex) (x y : VertexSide) (p q : Place) → Shows s C → Chained (VolumeLink C) x y → IsAtSide s C x p → IsAtSide s C y q → Joined s p q
+
+-- the upward direction leads to the upper side of each item's plane
+abbrev pub IsUpright : Complex → Type 0
+IsUpright C = (k : Corner) (v : Vertex) (x : Item) → IsCorner C k v x → pos 0 <ℤ dot (item_normal x) up
+
+-- points at sides of one class of links are joined where up is above each item: only then is the side above a facet the one to which a ray down comes
+abbrev pub SidesJoinedUpright : Type 0
+SidesJoinedUpright = (s : Set) (C : Complex) (x y : VertexSide) (p q : Place) → Shows s C → IsUpright C → Chained (VolumeLink C) x y → IsAtSide s C x p → IsAtSide s C y q → Joined s p q
 
 -- there are points at each side, and at each item
 abbrev pub SidesHavePoints : Type 0
