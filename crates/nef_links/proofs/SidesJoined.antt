@@ -5,7 +5,7 @@ use Rattle.nef_solid.specs.Complexes.{Complex}
 use Rattle.nef_solid.specs.Shows.{Shows}
 use Rattle.nef_solid.specs.Rays.{VertexSide}
 use Rattle.nef_links.specs.Links.{VolumeLink}
-use Rattle.nef_links.specs.Components.{IsAtSide, IsUpright, SidesJoinedUpright}
+use Rattle.nef_links.specs.Components.{IsAtSide, IsUpright, SidesJoined}
 use Rattle.nef_links.proofs.SidePoints.{one-side}
 use Rattle.nef_links.proofs.SideLinks.{JoinsSides, joins-in_sface, joins-along, joins-across}
 use Rattle.nef_links.proofs.Down.{joins-down}
@@ -19,5 +19,5 @@ joins s C S u x y (inr (inr (inl L))) = joins-across s C S x y L
 joins s C S u x y (inr (inr (inr (inl L)))) = joins-down s C S u x y L
 joins s C S u x y (inr (inr (inr (inr L)))) = joins-outside s C S x y L
 
-pub sides-joined : SidesJoinedUpright
+pub sides-joined : SidesJoined
 sides-joined s C x y p q S u chain a b = chain-joined VertexSide (VolumeLink C) s (IsAtSide s C) (λ i f g j k. (one-side s C S i f g j k).0) (λ i j L. joins s C S u i j L) chain.0 x y p q chain.1 a b

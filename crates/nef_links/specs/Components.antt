@@ -37,17 +37,13 @@ pub record IsAtItem (s : Set) (C : Complex) (k : Corner) (q : Place) : Type 0 wh
 abbrev pub ItemsJoined : Type 0
 ItemsJoined = (s : Set) (C : Complex) (j k : Corner) (p q : Place) → Shows s C → Chained (FacetLink C) j k → IsAtItem s C j p → IsAtItem s C k q → Joined s p q
 
--- points at sides of one class of links are joined
-abbrev pub SidesJoined : Type 0
-SidesJoined = (s : Set) (C : Complex) (x y : VertexSide) (p q : Place) → Shows s C → Chained (VolumeLink C) x y → IsAtSide s C x p → IsAtSide s C y q → Joined s p q
-
 -- the upward direction leads to the upper side of each item's plane
 abbrev pub IsUpright : Complex → Type 0
 IsUpright C = (k : Corner) (v : Vertex) (x : Item) → IsCorner C k v x → pos 0 <ℤ dot (item_normal x) up
 
 -- points at sides of one class of links are joined where up is above each item: only then is the side above a facet the one to which a ray down comes
-abbrev pub SidesJoinedUpright : Type 0
-SidesJoinedUpright = (s : Set) (C : Complex) (x y : VertexSide) (p q : Place) → Shows s C → IsUpright C → Chained (VolumeLink C) x y → IsAtSide s C x p → IsAtSide s C y q → Joined s p q
+abbrev pub SidesJoined : Type 0
+SidesJoined = (s : Set) (C : Complex) (x y : VertexSide) (p q : Place) → Shows s C → IsUpright C → Chained (VolumeLink C) x y → IsAtSide s C x p → IsAtSide s C y q → Joined s p q
 
 -- there are points at each side, and at each item
 abbrev pub SidesHavePoints : Type 0
