@@ -1,0 +1,4 @@
+pub mod PlaneOrder
+pub mod Merging
+pub mod Vertices
+pub mod HalfCones
