@@ -1,15 +1,21 @@
 -- The germs of a half are those of the frame and of its plane.
-use Rattle.std.proofs.Common.{◌≡◌, ℕ, ◌+◌, ℤ, pos, neg_ℤ, ◌<ℤ◌, ◌≤ℤ◌, arith, refl, sym, ◌∙◌, ap, ◌↔◌, Bool, true, false, cond, subst, ⊎_elim}
+use Rattle.std.proofs.Common.{◌≡◌, ℕ, zero, suc, ◌+◌, ℤ, pos, negsuc, neg_ℤ, ◌<ℤ◌, arith, refl, sym, ◌∙◌, ap, ◌↔◌, Bool, true, false, cond, not, subst, [], ◌∷◌}
 use Rattle.std.proofs.lemmas.Int.{ints}
 use Rattle.nef_exact.specs.Signs.{Sign, minus, nought, plus, sign}
 use Rattle.nef_exact.proofs.Order.{sign-neg, sign_turned, minus-is, nought-is, plus-is}
+use Rattle.nef_exact.proofs.Ring.{ring, at, neg, ◌⊕◌, ◌⊗◌}
+use Rattle.nef_space.specs.Limits.{normal_limit}
 use Rattle.nef_space.specs.Local.{HasLabel, Germ, IsShort}
 use Rattle.nef_space.specs.Place.{Place, Form, Ratio, step, form_at, slope, normal_of}
 use Rattle.nef_space.specs.Sets.{Set, Holds, InHalf}
-use Rattle.nef_space.specs.Vectors.{Vector, IsDirection, SameDirection, dot}
+use Rattle.nef_space.specs.Vectors.{Vector, vector, IsDirection, IsNormal, IsAtMost, SameDirection, dot}
 use Rattle.nef_space.specs.declared.label.Label.{Label}
 use Rattle.nef_space.specs.declared.label.Label.TheVariants.{Out, Not, In}
-use Rattle.nef_geo.specs.Shapes.{turned_form}
+use Rattle.nef_geo.specs.Shapes.{turned_form, given_form, form_of}
+use Rattle.nef_geo.specs.Signs.{sign_of}
+use Rattle.nef_geo.specs.declared.plane.Plane.{Plane}
+use Rattle.nef_geo.specs.declared.plane.Oriented.{Oriented}
+use Rattle.nef_geo.specs.declared.sign.Sign.TheVariants.{Minus, Zero, Plus}
 use Rattle.nef_forms.specs.Near.{span}
 use Rattle.nef_forms.proofs.Near.{ray-level, ray-keeps}
 use Rattle.nef_near.specs.Cells.{sign_at}
@@ -17,12 +23,13 @@ use Rattle.nef_near.proofs.Combine.{shorter}
 use Rattle.nef_build.proofs.SideLabels.{side-same_way}
 use Rattle.nef_sphere.specs.Labelling.{ByOp}
 use Rattle.nef_sphere.specs.Least.{Cone, by_side}
-use Rattle.nef_sphere.specs.Maps.{Map, MapLabel, Valid}
+use Rattle.nef_sphere.specs.Maps.{MapLabel, Valid}
 use Rattle.nef_star.specs.Ops.{op_label}
 use Rattle.nef_star.specs.declared.op.Op.TheVariants.{And}
-use Rattle.nef_smap.specs.Maps.{map_of}
+use Rattle.nef_smap.specs.Maps.{map_of, IsSphereMap, IsLeastMap}
 use Rattle.nef_smap.specs.declared.map.SphereMap.{SphereMap}
-use Rattle.nef_result.specs.Halves.{side_label, sign_beside, IsMapOfPlane, IsMapOfHalf}
+use Rattle.nef_edges.proofs.Rays.{normal-kept}
+use Rattle.nef_result.specs.Halves.{inside_label, side_label, sign_beside, IsMapOfPlane, IsMapOfHalf}
 
 -- ---- the label of a half
 module _ (f : Form) (closed : Bool) (q : Place) where
@@ -101,20 +108,14 @@ half-cone f closed p W H M C I valid mark labels = record {
 
 -- ---- the map of the plane
 -- the slope of the given form, which may be turned
+turned-slope : (h : Form) (d : Vector) → slope (turned_form h) d ≡ neg_ℤ (slope h d)
+turned-slope h d = ring (h.a ∷ h.b ∷ h.c ∷ d.x ∷ d.y ∷ d.z ∷ []) (neg (at 0) ⊗ at 3 ⊕ neg (at 1) ⊗ at 4 ⊕ neg (at 2) ⊗ at 5) (neg (at 0 ⊗ at 3 ⊕ at 1 ⊗ at 4 ⊕ at 2 ⊗ at 5)) tt
+
 given-slope : (h : Form) (turned : Bool) (d : Vector) → sign (slope (cond turned (turned_form h) h) d) ≡ cond turned (sign_turned (sign (slope h d))) (sign (slope h d))
-given-slope h true d = let e : slope (turned_form h) d ≡ neg_ℤ (slope h d) = omega (arith, ints) in ap sign e ∙ sign-neg (slope h d)
+given-slope h true d = ap sign (turned-slope h d) ∙ sign-neg (slope h d)
 given-slope h false d = refl
 
--- the label above the plane, by whether the form is turned
-abbrev pub above_label : Bool → Label
-above_label true = In
-above_label false = Not
-
-abbrev pub below_label : Bool → Label
-below_label true = Not
-below_label false = In
-
-by-sides : (turned closed : Bool) (t : Sign) → by_side (above_label turned) (side_label closed nought) (below_label turned) t ≡ side_label closed (cond turned (sign_turned t) t)
+by-sides : (turned closed : Bool) (t : Sign) → by_side (inside_label turned) (inside_label closed) (inside_label (not turned)) t ≡ side_label closed (cond turned (sign_turned t) t)
 by-sides true closed minus = refl
 by-sides true closed nought = refl
 by-sides true closed plus = refl
@@ -122,8 +123,71 @@ by-sides false closed minus = refl
 by-sides false closed nought = refl
 by-sides false closed plus = refl
 
-pub plane-label : (h : Form) (n : Vector) (turned closed : Bool) (d : Vector) → SameDirection (normal_of h) n
-    → by_side (above_label turned) (side_label closed nought) (below_label turned) (sign (dot n d)) ≡ side_label closed (sign (slope (cond turned (turned_form h) h) d))
+plane-label : (h : Form) (n : Vector) (turned closed : Bool) (d : Vector) → SameDirection (normal_of h) n
+    → by_side (inside_label turned) (inside_label closed) (inside_label (not turned)) (sign (dot n d)) ≡ side_label closed (sign (slope (cond turned (turned_form h) h) d))
 plane-label h n turned closed d same =
-    ap (λ t. by_side (above_label turned) (side_label closed nought) (below_label turned) t) (side-same_way (normal_of h) n d same)
+    ap (λ t. by_side (inside_label turned) (inside_label closed) (inside_label (not turned)) t) (side-same_way (normal_of h) n d same)
     ∙ by-sides turned closed (sign (slope h d)) ∙ ap (side_label closed) (sym (given-slope h turned d))
+
+same-sides : (a m b x y z : Label) (t : Sign) → a ≡ x → m ≡ y → b ≡ z → by_side a m b t ≡ by_side x y z t
+same-sides a m b x y z t e f g = ap (λ k. by_side k m b t) e ∙ ap (λ k. by_side x k b t) f ∙ ap (λ k. by_side x y k t) g
+
+pub plane-shown : (o : Oriented) (closed turned : Bool) (n : Vector) (m a b : Label) (M : SphereMap) → turned ≡ o.flipped → SameDirection (normal_of (form_of o.plane)) n
+    → m ≡ inside_label closed → a ≡ inside_label turned → b ≡ inside_label (not turned) → IsSphereMap M → M.mark ≡ m
+    → ((d : Vector) → IsDirection d → MapLabel (map_of M) d (by_side a m b (sign (dot n d)))) → IsMapOfPlane (given_form o) closed M
+plane-shown o closed turned n m a b M u same e f g valid mark labels = record {
+  map = valid;
+  mark = mark ∙ e;
+  labels = λ d i. subst (MapLabel (map_of M) d)
+      (same-sides a m b (inside_label o.flipped) (inside_label closed) (inside_label (not o.flipped)) (sign (dot n d)) (f ∙ ap inside_label u) e (g ∙ ap (λ k. inside_label (not k)) u)
+      ∙ plane-label (form_of o.plane) n o.flipped closed d same) (labels d i);
+}
+
+-- ---- the map of the half by the side of the point
+is-minus : (z : ℤ) → Minus ≡ sign_of z → sign z ≡ minus
+is-minus (pos zero) e = let i : Minus ≡ Zero = e in absurd (cc)
+is-minus (pos (suc n)) e = let i : Minus ≡ Plus = e in absurd (cc)
+is-minus (negsuc n) e = refl
+
+is-nought : (z : ℤ) → Zero ≡ sign_of z → sign z ≡ nought
+is-nought (pos zero) e = refl
+is-nought (pos (suc n)) e = let i : Zero ≡ Plus = e in absurd (cc)
+is-nought (negsuc n) e = let i : Zero ≡ Minus = e in absurd (cc)
+
+is-plus : (z : ℤ) → Plus ≡ sign_of z → sign z ≡ plus
+is-plus (pos zero) e = let i : Plus ≡ Zero = e in absurd (cc)
+is-plus (pos (suc n)) e = refl
+is-plus (negsuc n) e = let i : Plus ≡ Minus = e in absurd (cc)
+
+module _ (f : Form) (closed : Bool) (p : Place) (M : SphereMap) where
+  at-side : (s : Sign) (l : Label) → sign_at f p ≡ s → ((t : Sign) → l ≡ side_label closed (sign_beside s t)) → l ≡ side_label closed s → IsSphereMap M → M.mark ≡ l
+      → ((d : Vector) → IsDirection d → MapLabel (map_of M) d l) → IsMapOfHalf f closed p M
+  at-side s l e beside here valid mark labels = record {
+    map = valid;
+    mark = mark ∙ here ∙ ap (side_label closed) (sym e);
+    labels = λ d i. subst (MapLabel (map_of M) d) (beside (sign (slope f d)) ∙ ap (λ r. side_label closed (sign_beside r (sign (slope f d)))) (sym e)) (labels d i);
+  }
+
+  pub inside-shown : Minus ≡ sign_of (form_at f p) → IsLeastMap M → M.mark ≡ In → ((d : Vector) → IsDirection d → MapLabel (map_of M) d In) → IsMapOfHalf f closed p M
+  inside-shown e L = at-side minus In (is-minus (form_at f p) e) (λ t. refl) refl L.sphere_map
+
+  pub outside-shown : Plus ≡ sign_of (form_at f p) → IsLeastMap M → M.mark ≡ Not → ((d : Vector) → IsDirection d → MapLabel (map_of M) d Not) → IsMapOfHalf f closed p M
+  outside-shown e L = at-side plus Not (is-plus (form_at f p) e) (λ t. refl) refl L.sphere_map
+
+  pub on-shown : Zero ≡ sign_of (form_at f p) → IsMapOfPlane f closed M → IsMapOfHalf f closed p M
+  on-shown e I = record {
+    map = I.map;
+    mark = I.mark ∙ ap (side_label closed) (sym (is-nought (form_at f p) e));
+    labels = λ d i. subst (λ r. MapLabel (map_of M) d (side_label closed (sign_beside r (sign (slope f d))))) (sym (is-nought (form_at f p) e)) (I.labels d i);
+  }
+
+-- ---- the normal's direction
+module _ (h : Plane) (a b c : ℤ) (d : Vector) (e : a ≡ h.a) (f : b ≡ h.b) (g : c ≡ h.c) where
+  given : (P : Vector → Type 0) → P (vector h.a h.b h.c) → P (vector a b c)
+  given P q = subst (λ (x : ℤ). P (vector x b c)) (sym e) (subst (λ (y : ℤ). P (vector h.a y c)) (sym f) (subst (λ (z : ℤ). P (vector h.a h.b z)) (sym g) q))
+
+  pub normal-upward : SameDirection (vector a b c) d → IsNormal d
+  normal-upward same = normal-kept (vector a b c) d same (given IsNormal h.normal)
+
+  pub normal-small : ((k : ℕ) → IsAtMost k (vector a b c) → IsAtMost k d) → IsAtMost normal_limit d
+  normal-small size = size normal_limit (given (IsAtMost normal_limit) (record { of_x = h.a_small; of_y = h.b_small; of_z = h.c_small }))

@@ -10,11 +10,15 @@ use Rattle.nef_sphere.specs.Maps.{MapLabel}
 use Rattle.nef_smap.specs.Maps.{map_of, IsSphereMap}
 use Rattle.nef_smap.specs.declared.map.SphereMap.{SphereMap}
 
+-- the label of a point of the frame, by whether a set holds there
+abbrev pub inside_label : Bool → Label
+inside_label true = In
+inside_label false = Not
+
 -- the label of a half, in the frame, where its form has the sign
 abbrev pub side_label : Bool → Sign → Label
 side_label closed minus = In
-side_label true nought = In
-side_label false nought = Not
+side_label closed nought = inside_label closed
 side_label closed plus = Not
 
 -- the sign of a form close to a point in some direction, from its sign at the point and that of its slope

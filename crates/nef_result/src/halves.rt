@@ -1,16 +1,14 @@
 //! The map of a half at a point.
 
-ghost use Rattle.std.specs.Prelude.{◌≡◌, ℤ, IfOk};
+ghost use Rattle.std.specs.Prelude.{◌≡◌, IfOk};
 ghost use Rattle.nef_space.specs.Limits.{normal_limit};
 ghost use Rattle.nef_space.specs.Place.{normal_of};
 ghost use Rattle.nef_space.specs.Sets.{Set};
 ghost use Rattle.nef_space.specs.Vectors.{IsNormal, IsAtMost, SameDirection};
-ghost use Rattle.nef_exact.specs.Signs.{sign};
 ghost use Rattle.nef_geo.specs.Shapes.{form_of, given_form, place_of, vector_of};
-ghost use Rattle.nef_geo.specs.Signs.{sign_of};
 ghost use Rattle.nef_sphere.specs.Least.{Cone};
 ghost use Rattle.nef_smap.specs.Maps.{map_of, IsLeastMap};
-ghost use Rattle.nef_result.specs.Halves.{side_label, IsMapOfPlane, IsMapOfHalf};
+ghost use Rattle.nef_result.specs.Halves.{inside_label, IsMapOfPlane, IsMapOfHalf};
 
 use crate::OutOfMemory;
 use nef_combine::combine;
@@ -19,21 +17,11 @@ use nef_smap::{SLoop, SphereMap, face_map, plane_map};
 use nef_star::Op;
 use std::alloc::Global;
 
-// The label of the half on this side of its plane.
-fn label_of(side: Sign, closed: bool) -> Label
-    ensures label { (z : ℤ) → side ≡ sign_of z → result ≡ side_label closed (sign z) }
+// The label of points of the frame that a set holds at, or doesn't.
+fn inside(holds: bool) -> Label
+    ensures label { result ≡ inside_label holds }
 {
-    match side {
-        Sign::Minus => Label::In,
-        Sign::Zero => {
-            if closed {
-                Label::In
-            } else {
-                Label::Not
-            }
-        }
-        Sign::Plus => Label::Not,
-    }
+    if holds { Label::In } else { Label::Not }
 }
 
 // The direction of the plane's normal.
@@ -52,18 +40,14 @@ fn normal(h: &Plane) -> Dir
 fn map_of_plane(alloc: Global, oriented: &Oriented, closed: bool) -> SphereMap
     ensures map { IsMapOfPlane (given_form oriented.now) closed result }
 {
-    let (above, below) = if oriented.flipped() {
-        (Label::In, Label::Not)
-    } else {
-        (Label::Not, Label::In)
-    };
+    let turned = oriented.flipped();
     plane_map(
         alloc,
         SLoop {
             normal: normal(&oriented.plane()),
-            mark: label_of(Sign::Zero, closed),
-            pos: above,
-            neg: below,
+            mark: inside(closed),
+            pos: inside(turned),
+            neg: inside(!turned),
         },
     )
 }
@@ -72,12 +56,10 @@ fn map_of_plane(alloc: Global, oriented: &Oriented, closed: bool) -> SphereMap
 fn map_of_half(alloc: Global, oriented: &Oriented, closed: bool, p: &Point) -> SphereMap
     ensures map { IsMapOfHalf (given_form oriented.now) closed (place_of p.now) result }
 {
-    let side = oriented.side(p);
-    if side == Sign::Zero {
-        map_of_plane(alloc, oriented, closed)
-    } else {
-        let label = label_of(side, closed);
-        face_map(alloc, label, label)
+    match oriented.side(p) {
+        Sign::Minus => face_map(alloc, Label::In, Label::In),
+        Sign::Zero => map_of_plane(alloc, oriented, closed),
+        Sign::Plus => face_map(alloc, Label::Not, Label::Not),
     }
 }
 
