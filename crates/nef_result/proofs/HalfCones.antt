@@ -1,5 +1,5 @@
 -- The germs of a half are those of the frame and of its plane.
-use Rattle.std.proofs.Common.{◌≡◌, ℕ, zero, suc, ◌+◌, ℤ, pos, negsuc, neg_ℤ, ◌<ℤ◌, arith, refl, sym, ◌∙◌, ap, ◌↔◌, Bool, true, false, cond, not, subst, [], ◌∷◌}
+use Rattle.std.proofs.Common.{◌≡◌, ℕ, zero, suc, ◌+◌, ℤ, pos, negsuc, neg_ℤ, nat_abs, ◌<ℤ◌, ◌≤◌, arith, refl, sym, ◌∙◌, ap, ◌↔◌, Bool, true, false, cond, not, subst, [], ◌∷◌, w64, to_z, of_z}
 use Rattle.std.proofs.lemmas.Int.{ints}
 use Rattle.nef_exact.specs.Signs.{Sign, minus, nought, plus, sign}
 use Rattle.nef_exact.proofs.Order.{sign-neg, sign_turned, minus-is, nought-is, plus-is}
@@ -16,6 +16,7 @@ use Rattle.nef_geo.specs.Signs.{sign_of}
 use Rattle.nef_geo.specs.declared.plane.Plane.{Plane}
 use Rattle.nef_geo.specs.declared.plane.Oriented.{Oriented}
 use Rattle.nef_geo.specs.declared.sign.Sign.TheVariants.{Minus, Zero, Plus}
+use Rattle.nef_geo.proofs.Products.{kept}
 use Rattle.nef_forms.specs.Near.{span}
 use Rattle.nef_forms.proofs.Near.{ray-level, ray-keeps}
 use Rattle.nef_near.specs.Cells.{sign_at}
@@ -182,12 +183,22 @@ module _ (f : Form) (closed : Bool) (p : Place) (M : SphereMap) where
   }
 
 -- ---- the normal's direction
+-- a number as the machine keeps it
+abbrev pub held : ℤ → ℤ
+held n = to_z w64 (of_z w64 n)
+
 module _ (h : Plane) (a b c : ℤ) (d : Vector) (e : a ≡ h.a) (f : b ≡ h.b) (g : c ≡ h.c) where
-  given : (P : Vector → Type 0) → P (vector h.a h.b h.c) → P (vector a b c)
-  given P q = subst (λ (x : ℤ). P (vector x b c)) (sym e) (subst (λ (y : ℤ). P (vector h.a y c)) (sym f) (subst (λ (z : ℤ). P (vector h.a h.b z)) (sym g) q))
+  is-held : (n k : ℤ) → n ≡ k → nat_abs k ≤ normal_limit → held n ≡ k
+  is-held n k i l = ap held i ∙ kept k (omega (arith, l))
 
-  pub normal-upward : SameDirection (vector a b c) d → IsNormal d
-  normal-upward same = normal-kept (vector a b c) d same (given IsNormal h.normal)
+  given : (P : Vector → Type 0) → P (vector h.a h.b h.c) → P (vector (held a) (held b) (held c))
+  given P q =
+      subst (λ (x : ℤ). P (vector x (held b) (held c))) (sym (is-held a h.a e h.a_small))
+      (subst (λ (y : ℤ). P (vector h.a y (held c))) (sym (is-held b h.b f h.b_small))
+      (subst (λ (z : ℤ). P (vector h.a h.b z)) (sym (is-held c h.c g h.c_small)) q))
 
-  pub normal-small : ((k : ℕ) → IsAtMost k (vector a b c) → IsAtMost k d) → IsAtMost normal_limit d
+  pub normal-upward : SameDirection (vector (held a) (held b) (held c)) d → IsNormal d
+  normal-upward same = normal-kept (vector (held a) (held b) (held c)) d same (given IsNormal h.normal)
+
+  pub normal-small : ((k : ℕ) → IsAtMost k (vector (held a) (held b) (held c)) → IsAtMost k d) → IsAtMost normal_limit d
   normal-small size = size normal_limit (given (IsAtMost normal_limit) (record { of_x = h.a_small; of_y = h.b_small; of_z = h.c_small }))

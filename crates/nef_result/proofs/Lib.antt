@@ -2,3 +2,4 @@ pub mod PlaneOrder
 pub mod Merging
 pub mod Vertices
 pub mod HalfCones
+pub mod Zipped

@@ -19,7 +19,7 @@ use Rattle.nef_smap.specs.declared.map.SphereMap.{SphereMap}
 use Rattle.nef_spair.specs.Kinds.{IsVertex as IsVertexMap}
 use Rattle.nef_spair.specs.declared.answer.Kind.TheVariants.{Vertex as vertex_kind, OnEdge, InFacet, InVolume}
 use Rattle.nef_spair.proofs.OneKind.{fits}
-use Rattle.nef_sover.proofs.Places.{contains-at}
+use Rattle.nef_sover.proofs.Places.{contains-at, some-at as element-at}
 use Rattle.nef_edges.proofs.Places.{at-within, at-some, some-at, map-at, at-map, at-before, at-last, at-more}
 use Rattle.nef_solid.specs.Complexes.{Vertex as PlainVertex, Edge as PlainEdge, Edges}
 use Rattle.nef_solid.specs.Shows.{Shows}
@@ -118,16 +118,11 @@ module _ (s : Set) (hs : List Plane) (ps : List Point) (ms : List SphereMap) (vs
       let k = contains-at ps p q.1 in
       let within = at-within ps k.0 p k.1 in
       let alike = A.alike in
-      let m = at-some-of ms k.0 (omega (arith, within, alike)) in
+      let m = element-at ms k.0 (omega (arith, within, alike)) in
       let l = A.least k.0 m.0 m.1 in
       let there = FlatDim-by_germs s s y (place_of p) (germs-by_cell s y (place_of p) (signs-same (carriers s) y (place_of p) (same-place_sym (place_of p) y q.2))) 0 f in
       let e = V.all k.0 p m.0 k.1 m.1 (flat-vertex (map_of m.0) s (place_of p) l.least (A.cones k.0 p m.0 k.1 m.1) there) in
       (e.0, vertex_of e.1, at-map vertex_of vs e.0 e.1 e.2, subst (λ (r : Point). SamePlace (place_of r) y) (sym e.3) q.2)
-    where
-      at-some-of : (xs : List SphereMap) (k : ℕ) → k < length xs → (x : SphereMap) × At xs k x
-      at-some-of [] k l = absurd (omega (arith, l))
-      at-some-of (x ∷ xs) zero l = (x, refl)
-      at-some-of (x ∷ xs) (suc k) l = at-some-of xs k (omega (arith, l))
 
   -- what holds of each vertex of the program holds of each vertex
   each-vertex : (P : PlainVertex → Type 0) → ((i : ℕ) (v : Vertex) → At vs i v → P (vertex_of v)) → (n : ℕ) (v : PlainVertex) → At (map vertex_of vs) n v → P v
