@@ -100,6 +100,12 @@ module _ (M : Map) (s : Set) (p : Place) (L : Least M) (C : Cone M s p) where
       differ k g l = let e = FlatDim-one s p 0 k f g in omega (arith, l, e)
 
 -- ---- the vertices of the set
+vertex-same : (s : Set) (p q : Place) → SamePlace p q → IsVertex s p → IsVertex s q
+vertex-same s p q same = FlatDim-by_germs s s p q (germs-by_cell s p q (signs-same (carriers s) p q same)) 0
+
+point-same : (y : Place) (p q : Point) → q ≡ p → SamePlace (place_of p) y → SamePlace (place_of q) y
+point-same y p q e = subst (λ (r : Point). SamePlace (place_of r) y) (sym e)
+
 module _ (s : Set) (hs : List Plane) (ps : List Point) (ms : List SphereMap) (vs : List Vertex) (A : AreMapsOf s hs ps ms) (V : AreVerticesAmong ps ms vs) where
   least : (i : ℕ) (v : Vertex) → At vs i v → IsLeastMap v.map
   least i v a = let e = V.each i v a in A.least e.0 v.map e.2
@@ -120,9 +126,9 @@ module _ (s : Set) (hs : List Plane) (ps : List Point) (ms : List SphereMap) (vs
       let alike = A.alike in
       let m = element-at ms k.0 (omega (arith, within, alike)) in
       let l = A.least k.0 m.0 m.1 in
-      let there = FlatDim-by_germs s s y (place_of p) (germs-by_cell s y (place_of p) (signs-same (carriers s) y (place_of p) (same-place_sym (place_of p) y q.2))) 0 f in
+      let there = vertex-same s y (place_of p) (same-place_sym (place_of p) y q.2) f in
       let e = V.all k.0 p m.0 k.1 m.1 (flat-vertex (map_of m.0) s (place_of p) l.least (A.cones k.0 p m.0 k.1 m.1) there) in
-      (e.0, vertex_of e.1, at-map vertex_of vs e.0 e.1 e.2, subst (λ (r : Point). SamePlace (place_of r) y) (sym e.3) q.2)
+      (e.0, vertex_of e.1, at-map vertex_of vs e.0 e.1 e.2, point-same y p e.1.point e.3 q.2)
 
   -- what holds of each vertex of the program holds of each vertex
   each-vertex : (P : PlainVertex → Type 0) → ((i : ℕ) (v : Vertex) → At vs i v → P (vertex_of v)) → (n : ℕ) (v : PlainVertex) → At (map vertex_of vs) n v → P v
