@@ -1,9 +1,9 @@
 -- The points of a set's maps that are vertices are all its vertices.
-use Rattle.std.proofs.Common.{◌≡◌, ℕ, zero, suc, ◌<◌, List, [], ◌∷◌, ◌++◌, length, map, arith, refl, sym, ap, subst, ◌∙◌, ◌⊎◌, inl, inr, ⊎_elim}
+use Rattle.std.proofs.Common.{◌≡◌, ℕ, ◌<◌, List, [], ◌∷◌, ◌++◌, length, map, arith, sym, subst, ◌⊎◌, inl, inr}
 use Rattle.nef_space.specs.Local.{FlatDim, IsVertex}
 use Rattle.nef_space.specs.Place.{Place, IsPlaceBelow, SamePlace}
 use Rattle.nef_space.specs.Sets.{Set}
-use Rattle.nef_geo.specs.Shapes.{place_of, form_of}
+use Rattle.nef_geo.specs.Shapes.{place_of}
 use Rattle.nef_geo.specs.declared.dir.Dir.{Dir}
 use Rattle.nef_geo.specs.declared.plane.Plane.{Plane}
 use Rattle.nef_geo.specs.declared.point.Point.{Point}
@@ -20,12 +20,10 @@ use Rattle.nef_spair.specs.Kinds.{IsVertex as IsVertexMap}
 use Rattle.nef_spair.specs.declared.answer.Kind.TheVariants.{Vertex as vertex_kind, OnEdge, InFacet, InVolume}
 use Rattle.nef_spair.proofs.OneKind.{fits}
 use Rattle.nef_sover.proofs.Places.{contains-at, some-at as element-at}
-use Rattle.nef_edges.proofs.Places.{at-within, at-some, some-at, map-at, at-map, at-before, at-last, at-more}
-use Rattle.nef_solid.specs.Complexes.{Vertex as PlainVertex, Edge as PlainEdge, Edges}
-use Rattle.nef_solid.specs.Shows.{Shows}
+use Rattle.nef_edges.proofs.Places.{at-within, some-at, map-at, at-map, at-before, at-last, at-more}
+use Rattle.nef_solid.specs.Complexes.{Vertex as PlainVertex}
 use Rattle.nef_complex.specs.Complexes.{vertex_of, AreVerticesOf}
 use Rattle.nef_complex.specs.declared.complex.Vertex.{Vertex}
-use Rattle.nef_cand.specs.Candidates.{IsListed}
 use Rattle.nef_result.specs.Results.{ArePointsInOrder, AreMapsOf, AreVerticesAmong}
 
 -- ---- one point after another
