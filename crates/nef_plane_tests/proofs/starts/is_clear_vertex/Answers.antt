@@ -1,5 +1,4 @@
 use Rattle.std.proofs.Common.{rules, subst}
-use Rattle.nef_smap.specs.declared.map.SVertex.{SVertex}
 use Rattle.nef_sphere.specs.Maps.{At}
 use Rattle.nef_sphere.proofs.Lists.{at-one}
 use Rattle.nef_complex.specs.declared.complex.Vertex.{Vertex}
