@@ -1,0 +1,3 @@
+mod Carriers
+mod Numbering
+mod Rows
