@@ -7,6 +7,7 @@ use Rattle.nef_parts.specs.Numbers.{IsParts}
 use Rattle.nef_determined.proofs.Carriers.{made, parts-too}
 use Rattle.nef_determined.proofs.Numbering.{numbers-one}
 use Rattle.nef_determined.proofs.Rows.{rows-one}
+use Rattle.nef_determined.proofs.OneCycles.{cycles-one}
 use Rattle.nef_determined.proofs.laws.determined_laws.Goals as goal
 
 pub returns : goal.returns
