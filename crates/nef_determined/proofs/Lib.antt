@@ -2,3 +2,4 @@ mod Carriers
 mod Numbering
 mod Rows
 mod OneCycles
+mod OneParts

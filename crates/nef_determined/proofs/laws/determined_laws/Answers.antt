@@ -8,6 +8,7 @@ use Rattle.nef_determined.proofs.Carriers.{made, parts-too}
 use Rattle.nef_determined.proofs.Numbering.{numbers-one}
 use Rattle.nef_determined.proofs.Rows.{rows-one}
 use Rattle.nef_determined.proofs.OneCycles.{cycles-one}
+use Rattle.nef_determined.proofs.OneParts.{parts-one}
 use Rattle.nef_determined.proofs.laws.determined_laws.Goals as goal
 
 pub returns : goal.returns
