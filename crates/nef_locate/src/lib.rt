@@ -9,6 +9,7 @@ mod label;
 mod maps;
 mod place;
 mod plane;
+mod stub;
 #[cfg(test)]
 mod tests;
 
