@@ -4,16 +4,24 @@
 //! Selective Nef Complexes", ESA 2003.
 #![tactic(auto)]
 
+mod above;
 mod edge;
+mod hit;
 mod label;
+mod local;
+mod locate;
 mod maps;
 mod place;
 mod plane;
+mod ray;
 mod stub;
 #[cfg(test)]
 mod tests;
 
 pub use label::place_label;
+pub use local::local_map;
+pub use locate::locate;
 pub use maps::place_map;
 pub use place::Place;
+pub use ray::first_hit;
 pub use std::alloc::AllocError as OutOfMemory;
