@@ -12,3 +12,5 @@ pub mod RayMeets
 pub mod LastArcs
 pub mod NearSides
 pub mod Located
+pub mod Reading
+pub mod UpwardSides

@@ -111,9 +111,6 @@ module _ (M : Map) (V : Shaped M) (k : ℕ) (v : Svertex) (a : At M.svertices k 
               (o.more_than_half (turn-end L.arc i L.listed L.end))
 
       -- or, where there is no arc, the side round the svertex
-      pub none-sees : IsNoArc M k true n → IsNoArc M k false n → SeesNear M (around_svertex k) p e
-      none-sees N O = lone-sees none
-        where
-          none : HasArc M k → ⊥
-          none (j, b, l, inl x) = N j b (all j b l) l x
-          none (j, b, l, inr x) = O j b (all j b l) l x
+      pub no-arc : IsNoArc M k true n → IsNoArc M k false n → HasArc M k → ⊥
+      no-arc N O (j, b, l, inl x) = N j b (all j b l) l x
+      no-arc N O (j, b, l, inr x) = O j b (all j b l) l x

@@ -39,8 +39,9 @@ fn item_side(map: &SphereMap, item: usize, above: bool) -> usize
     requires within { item < length (items (map_of map.now)) }
     ensures number { result ≡ number_of (map_of map.now) (cond above (above_item item) (below_item item)) }
 {
+    let count = sides(map);
     let items = map.arcs.len() + usize::from(map.sloop.is_some());
-    sides(map) - 2 * (items - item) + usize::from(!above)
+    count - 2 * (items - item) + usize::from(!above)
 }
 
 // The number of the side that sees the upward direction.

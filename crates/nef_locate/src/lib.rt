@@ -9,10 +9,10 @@ mod edge;
 mod hit;
 mod label;
 mod local;
-mod locate;
 mod maps;
 mod place;
 mod plane;
+mod point;
 mod ray;
 mod stub;
 #[cfg(test)]
@@ -20,7 +20,7 @@ mod tests;
 
 pub use label::place_label;
 pub use local::local_map;
-pub use locate::locate;
+pub use point::locate;
 pub use maps::place_map;
 pub use place::Place;
 pub use ray::first_hit;

@@ -9,7 +9,7 @@ ghost use Rattle.nef_smap.specs.Maps.{map_of, IsLeastMap};
 ghost use Rattle.nef_complex.specs.Complexes.{ShowsSet};
 
 use crate::OutOfMemory;
-use crate::locate::locate;
+use crate::point::locate;
 use crate::maps::place_map;
 use nef_complex::Complex;
 use nef_geo::Point;
