@@ -56,6 +56,9 @@ upright-some d (inr e) z = let f = subst (λ (v : Vector). v.z ≡ pos 0) e z.2 
 inward : (p : PlainPlace) → InClosedFrame p → (n : ℕ) → InFrame (step p (record { a = pos 1; b = n + p.w + 1; proper = omega arith }) (vector (neg_ℤ p.x) (neg_ℤ p.y) (neg_ℤ p.z)))
 inward p i n = record { along_x = one p.x i.along_x; along_y = one p.y i.along_y; along_z = one p.z i.along_z }
   where
+    sized : (z : ℤ) (b : ℕ) → z <ℤ pos b → neg_ℤ (pos b) <ℤ z → nat_abs z < b
+    sized z b l m = omega (arith, ints)
+
     one : (x : ℤ) → nat_abs x ≤ half_side * p.w → nat_abs (x *ℤ pos (n + p.w + 1) +ℤ pos 1 *ℤ pos p.w *ℤ neg_ℤ x) < half_side * (p.w * (n + p.w + 1))
     one x l =
         let xs = x ∷ pos n ∷ pos p.w ∷ [] in
@@ -71,8 +74,6 @@ inward p i n = record { along_x = one p.x i.along_x; along_y = one p.y i.along_y
         let whole : pos (half_side * (p.w * (n + p.w + 1))) ≡ pos half_side *ℤ (pos p.w *ℤ pos (n + 1)) +ℤ pos half_side *ℤ (pos p.w *ℤ pos p.w) = ring xs (half ⊗ (at 2 ⊗ (at 1 ⊕ at 2 ⊕ num (pos 1)))) (half ⊗ (at 2 ⊗ k) ⊕ half ⊗ (at 2 ⊗ at 2)) tt in
         sized (x *ℤ pos (n + p.w + 1) +ℤ pos 1 *ℤ pos p.w *ℤ neg_ℤ x) (half_side * (p.w * (n + p.w + 1))) (omega (arith, ints)) (omega (arith, ints))
 
-    sized : (z : ℤ) (b : ℕ) → z <ℤ pos b → neg_ℤ (pos b) <ℤ z → nat_abs z < b
-    sized z b l m = omega (arith, ints)
 
 pub closed-inside : (s : Set) (p : PlainPlace) → FlatDim s p 3 → InClosedFrame p → InFrame p
 closed-inside s p f i = ⊎_elim (λ j. j) (λ o. absurd (by o)) (InFrame-decided p)

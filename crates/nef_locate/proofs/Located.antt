@@ -40,14 +40,14 @@ module _ (c : Complex) where
   C = complex_of c
 
   pub above-vertex : (k j : ℕ) (u : Vertex) → slice_get c.vertices k ≡ Some u → SideSees (map_of u.map) j up → IsSideAbove (complex_of c) (place.Vertex k) (place.InVolume k j)
-  above-vertex k j u r (o, (l, (i, sees))) =
+  above-vertex k j u r (o, l, i, sees) =
       let a = image-read vertex_of c.vertices k u r in
       (k, j, o, l, refl, (vertex_of u, a, i), λ y p. (at_vertex k, p, (vertex_of u, a, refl, sees)))
 
   pub above-edge : (k j : ℕ) (e : Edge) (u : Vertex) → slice_get c.edges k ≡ Some e → slice_get c.vertices e.low ≡ Some u
       → (o : Side) × (l : Label) × IsSide (map_of u.map) j o l × SeesNear (map_of u.map) o (way_of (map_of u.map).svertices e.low_svertex) up
       → IsSideAbove (complex_of c) (place.OnEdge k) (place.InVolume e.low j)
-  above-edge k j e u q r (o, (l, (i, near))) =
+  above-edge k j e u q r (o, l, i, near) =
       let b = image-read edge_of c.edges k e q in
       let a = image-read vertex_of c.vertices e.low u r in
       (e.low, j, o, l, refl, (vertex_of u, a, i), λ y p. (on_edge k, p, (edge_of e, vertex_of u, b, a, refl, near)))

@@ -1,5 +1,5 @@
 -- What a ray along an upright direction meets in one plane, and what it meets first.
-use Rattle.std.proofs.Common.{◌≡◌, ℕ, pos, neg_ℤ, arith, refl, sym, ◌⊎◌, inl, inr, ⊎_elim, ◌↔◌, Option, Some, None, Bool, true, false, [], ◌∷◌, IsTrue}
+use Rattle.std.proofs.Common.{◌≡◌, ℕ, pos, neg_ℤ, arith, ◌⊎◌, inl, inr, ⊎_elim, Option, Some, None, IfSome, [], ◌∷◌}
 use Rattle.std.proofs.lemmas.Int.{ints}
 use Rattle.nef_exact.proofs.Ring.{ring, at, neg, ◌⊕◌, ◌⊗◌}
 use Rattle.nef_space.specs.Place.{Place as PlainPlace, normal_of, SamePlace, InClosedFrame, toward, IsAhead, IsBetween}
@@ -18,6 +18,7 @@ use Rattle.nef_near.proofs.Rays.{same-place_sym}
 use Rattle.nef_sphere.specs.Maps.{At}
 use Rattle.nef_sphere.proofs.Compare.{SameDirection-turned, SameDirection-trans}
 use Rattle.nef_sphere.proofs.KindFlats.{in-span}
+use Rattle.nef_solid.specs.Complexes.{Complex as PlainComplex}
 use Rattle.nef_solid.specs.Laws.{IsFlatIn}
 use Rattle.nef_solid.specs.Skeleton.{at_vertex, on_edge, IsOnEdges, IsSkeletonPoint}
 use Rattle.nef_solid.proofs.FacetEdges.{ahead-back}
@@ -30,7 +31,7 @@ use Rattle.nef_complex.specs.declared.complex.Complex.{Complex}
 use Rattle.nef_complex.specs.Complexes.{complex_of, ShowsSet}
 use Rattle.nef_locate.specs.declared.ray.Met.{Met}
 use Rattle.nef_locate.specs.Places.{IsFirstHit}
-use Rattle.nef_locate.specs.Rays.{IsSkeletonIn, IsMet, IsSooner, IsNotBefore}
+use Rattle.nef_locate.specs.Rays.{IsSkeletonIn, IsMet, IsReachedMet, IsSooner, IsNotBefore}
 use Rattle.nef_locate.proofs.Cones.{facet-at}
 use Rattle.nef_locate.proofs.CarrierPoints.{skeleton-carrier, crossed}
 use Rattle.nef_locate.proofs.EqualPoints.{ahead-from, skeleton-same}
@@ -53,6 +54,11 @@ not-end p q r b e = direction-right (toward p q) (toward q r) b (place-toward q 
 -- what lies between a point and one ahead of it is ahead
 pub between-ahead : (p q x : PlainPlace) (d : Vector) → IsBetween p q x → IsAhead p d x → IsAhead p d q
 between-ahead p q x d b w = SameDirection-trans (toward p q) (toward p x) d (between-way p q x b) w
+
+-- what is met stands at its step
+pub reached-of : (D : PlainComplex) (p : PlainPlace) (d : Vector) (best : Option Met) → IfSome best (IsMet D p d) → IfSome best (IsReachedMet p d)
+reached-of D p d None M = tt
+reached-of D p d (Some m) M = M.reached
 
 -- ---- outside the closed frame nothing is met
 pub none-outside : (s : Set) (c : Complex) → ShowsSet s c → (h : Plane) (y : PlainPlace) → (InClosedFrame y → ⊥) → IsSkeletonIn s (complex_of c) (form_of h) y → ⊥

@@ -50,7 +50,10 @@ fn nearer(c: &Complex, h: &Plane, p: &Point, d: &Dir, best: Option<Met>) -> Opti
     let Some(hit) = ray_hit(p, d, h) else {
         return best;
     };
-    if !is_sooner(&hit, &best) || !is_framed(&hit) {
+    if !is_sooner(&hit, &best) {
+        return best;
+    }
+    if !is_framed(&hit) {
         return best;
     }
     match skeleton_at(c, h, &hit) {

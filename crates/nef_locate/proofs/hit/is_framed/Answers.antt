@@ -1,0 +1,15 @@
+use Rattle.std.proofs.Common.{◌≡◌, ◌*◌, ◌≤◌, ℤ, nat_abs, ◌↔◌, IsTrue, rules, subst, sym}
+use Rattle.nef_space.specs.Limits.{half_side}
+use Rattle.nef_locate.proofs.hit.is_framed.Goals as goal
+
+-- a test of numbers that are read is one of the hit's numbers
+read : (t : Type 0) (n m w v : ℤ) → n ≡ m → w ≡ v → t ↔ (nat_abs n ≤ half_side * nat_abs w) → t ↔ (nat_abs m ≤ half_side * nat_abs v)
+read t n m w v e f r = subst (λ (k : ℤ). t ↔ (nat_abs k ≤ half_side * nat_abs v)) e (subst (λ (k : ℤ). t ↔ (nat_abs n ≤ half_side * nat_abs k)) f r)
+
+pub returns-then-is_within-2 : goal.returns-then-is_within-2
+returns-then-is_within-2 c =
+    let q = c.args.q.now in
+    let x = read (IsTrue c.is_within.result) c.x.result q.x c.w.result q.w c.x.ensures.x c.w.ensures.w c.is_within.ensures.within in
+    let y = read (IsTrue c.is_within-2.result) c.y.result q.y c.w-2.result q.w c.y.ensures.y c.w-2.ensures.w c.is_within-2.ensures.within in
+    let z = read (IsTrue c.is_within-3.result) c.z.result q.z c.w-3.result q.w c.z.ensures.z c.w-3.ensures.w c.is_within-3.ensures.within in
+    record { framed = (λ t. record { along_x = x.0 c.if-is_within.true; along_y = y.0 c.if-is_within-2.true; along_z = z.0 t }, λ i. z.1 i.along_z) }
