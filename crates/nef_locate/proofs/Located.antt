@@ -24,7 +24,7 @@ use Rattle.nef_complex.specs.declared.complex.Complex.{Complex}
 use Rattle.nef_complex.specs.declared.complex.Corner.{Corner}
 use Rattle.nef_complex.specs.declared.complex.Edge.{Edge}
 use Rattle.nef_complex.specs.declared.complex.Vertex.{Vertex}
-use Rattle.nef_complex.specs.Complexes.{vertex_of, edge_of, complex_of, corner_of, ShowsSet}
+use Rattle.nef_complex.specs.Complexes.{vertex_of, edge_of, complex_of, corner_of, AreSorted, ShowsSet}
 use Rattle.nef_locate.specs.declared.place.Place.{Place}
 use Rattle.nef_locate.specs.declared.place.Place.TheVariants as place
 use Rattle.nef_locate.specs.Places.{IsPlaceIn, IsPlaceAt, IsFirstHit, place_dimension}
@@ -124,3 +124,7 @@ edge-at D y k (e, v, w, a, H, b) = record { has = (e, a); at = (e, v, w, a, H, b
 -- where no vertex and no edge is, only a facet is left
 pub off-edges : (D : PlainComplex) (y : PlainPlace) → ((k : ℕ) → IsVertexPoint D k y → ⊥) → ((k : ℕ) → IsEdgePoint D k y → ⊥) → IsOnEdges D y → ⊥
 off-edges D y n m (k, o) = ⊎_elim (n k) (m k) o
+
+-- the vertices stand in order
+pub vertices-sorted : (s : Set) (c : Complex) → ShowsSet s c → AreSorted c.vertices
+vertices-sorted s c S i k u v l a b = S.shows.ordered i k (vertex_of u) (vertex_of v) l (image-read vertex_of c.vertices i u a) (image-read vertex_of c.vertices k v b)

@@ -16,3 +16,6 @@ returns c = record {
   edge = λ k x. c.loop-number.invariant k
       (let l = image-within edge_of c.args.c.now.edges k x.0 x.3 in let t = c.loop-number-test.false in let e = c.len-number-end.ensures.len in omega (arith, l, t, e)) x;
 }
+
+pub returns-then-is_on_edge : goal.returns-then-is_on_edge
+returns-then-is_on_edge c = record { edge = c.is_on_edge.ensures.on.0 c.if-is_on_edge.true }

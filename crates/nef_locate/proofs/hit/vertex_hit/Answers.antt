@@ -16,3 +16,6 @@ returns c = record {
   vertex = λ k x. c.loop-number.invariant k
       (let l = image-within vertex_of c.args.c.now.vertices k x.0 x.1 in let t = c.loop-number-test.false in let e = c.len-number-end.ensures.len in omega (arith, l, t, e)) x;
 }
+
+pub returns-then-is_at_vertex : goal.returns-then-is_at_vertex
+returns-then-is_at_vertex c = record { vertex = c.is_at_vertex.ensures.at.0 c.if-is_at_vertex.true }
