@@ -74,7 +74,6 @@ inward p i n = record { along_x = one p.x i.along_x; along_y = one p.y i.along_y
         let whole : pos (half_side * (p.w * (n + p.w + 1))) ≡ pos half_side *ℤ (pos p.w *ℤ pos (n + 1)) +ℤ pos half_side *ℤ (pos p.w *ℤ pos p.w) = ring xs (half ⊗ (at 2 ⊗ (at 1 ⊕ at 2 ⊕ num (pos 1)))) (half ⊗ (at 2 ⊗ k) ⊕ half ⊗ (at 2 ⊗ at 2)) tt in
         sized (x *ℤ pos (n + p.w + 1) +ℤ pos 1 *ℤ pos p.w *ℤ neg_ℤ x) (half_side * (p.w * (n + p.w + 1))) (omega (arith, ints)) (omega (arith, ints))
 
-
 pub closed-inside : (s : Set) (p : PlainPlace) → FlatDim s p 3 → InClosedFrame p → InFrame p
 closed-inside s p f i = ⊎_elim (λ j. j) (λ o. absurd (by o)) (InFrame-decided p)
   where

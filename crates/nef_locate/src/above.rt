@@ -87,7 +87,11 @@ fn later_arc(
         Some(before) => {
             let axis = map.svertices.at(svertex).dir;
             let turn = triple(&axis, &map.arcs.at(before).normal, &arc.normal);
-            if turn == Sign::Plus { Some(number) } else { last }
+            if turn == Sign::Plus {
+                Some(number)
+            } else {
+                last
+            }
         }
         None => Some(number),
     }

@@ -20,8 +20,8 @@ mod tests;
 
 pub use label::place_label;
 pub use local::local_map;
-pub use point::locate;
 pub use maps::place_map;
 pub use place::Place;
+pub use point::locate;
 pub use ray::first_hit;
 pub use std::alloc::AllocError as OutOfMemory;

@@ -9,8 +9,8 @@ ghost use Rattle.nef_smap.specs.Maps.{map_of, IsLeastMap};
 ghost use Rattle.nef_complex.specs.Complexes.{ShowsSet};
 
 use crate::OutOfMemory;
-use crate::point::locate;
 use crate::maps::place_map;
+use crate::point::locate;
 use nef_complex::Complex;
 use nef_geo::Point;
 use nef_smap::SphereMap;

@@ -14,8 +14,7 @@ use Rattle.nef_locate.proofs.ray.first_hit.Goals as goal
 
 pub loop-number-preserved : goal.loop-number-preserved
 loop-number-preserved c =
-    let C = c.args.c.now in let p = place_of c.args.p.now in let d = vector_of c.args.d.now in
-    (
+    let C = c.args.c.now in let p = place_of c.args.p.now in let d = vector_of c.args.d.now in (
       c.nearer-best.ensures.met,
       next-all (λ (h : Plane). (s : Set) (y : PlainPlace) → ShowsSet s C → IsCrossing p d (form_of h) y → IsSkeletonIn s (complex_of C) (form_of h) y → IsNotBefore p y c.nearer-best.result)
           C.carriers c.loop-number.number c.at.result.now c.at.ensures.element

@@ -13,4 +13,4 @@ use Rattle.nef_locate.proofs.ray.first_hit.Given as goal
 abbrev pub invariant-loop-number : goal.invariant-loop-number
 invariant-loop-number l = IfSome l.best (IsMet (complex_of l.c) (place_of l.p) (vector_of l.d))
     × ((k : ℕ) (h : Plane) → k < l.number → At l.c.carriers k h → (s : Set) (y : PlainPlace) → ShowsSet s l.c → IsCrossing (place_of l.p) (vector_of l.d) (form_of h) y
-        → IsSkeletonIn s (complex_of l.c) (form_of h) y → IsNotBefore (place_of l.p) y l.best)
+    → IsSkeletonIn s (complex_of l.c) (form_of h) y → IsNotBefore (place_of l.p) y l.best)
