@@ -10,3 +10,11 @@ pub mod SamePlanes
 pub mod Behind
 pub mod ItemsFound
 pub mod FacetFound
+pub mod EqualPoints
+pub mod CarrierPoints
+pub mod RayMeets
+pub mod LastArcs
+pub mod NearSides
+pub mod Located
+pub mod Reading
+pub mod UpwardSides
