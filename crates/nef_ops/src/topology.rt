@@ -73,11 +73,11 @@ impl<'a> Job for UnaryJob<'a> {
 fn vertex_points(alloc: Global, c: &Complex) -> Result<Vec<Point>, OutOfMemory>
     ensures points { IfOk result (λ v. v.items ≡ points_of c.now) }
 {
-    let mut points = Vec::new(alloc);
-    for vertex in c.vertices.as_slice() {
-        points.push(vertex.point)?;
-    }
-    Ok(points)
+    c.vertices
+        .as_slice()
+        .iter()
+        .map(|vertex| vertex.point)
+        .collect(alloc)
 }
 
 /// The complex of what the operation makes of the set of a complex. Its vertices are among those of the set. One job for
