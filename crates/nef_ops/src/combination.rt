@@ -51,7 +51,8 @@ impl<'a> Job for BinaryJob<'a> {
         let point = &self.points[job as usize];
         let first = local_map(alloc, self.first, point)?;
         let second = local_map(alloc, self.second, point)?;
-        combine(alloc, &first, &second, self.op)
+        let map = combine(alloc, &first, &second, self.op)?;
+        Ok(map)
     }
 }
 
@@ -72,15 +73,16 @@ pub fn binary<R: Threads + Wait + Sync, G: Gate + Sync>(
     requires second { (t : Set) × ShowsSet t b.now }
     ensures shows { IfOk result (λ c. (s t : Set) → ShowsSet s a.now → ShowsSet t b.now → ShowsSet (op_set op s t) c) }
 {
-    let points = candidates(alloc, a, b)?;
+    let listed = candidates(alloc, a, b)?;
+    let points = listed.as_slice();
     let job = BinaryJob {
         op,
         first: a,
         second: b,
-        points: points.as_slice(),
+        points,
     };
     let maps = finished(rt, alloc, &job, how, gate)?;
     let carriers = merge_carriers(alloc, a, b)?;
-    let complex = assemble(alloc, carriers, points.as_slice(), maps)?;
+    let complex = assemble(alloc, carriers, points, maps)?;
     Ok(complex)
 }

@@ -49,8 +49,38 @@ impl<'a> Job for HalfJob<'a> {
     fn work(&self, alloc: Global, job: u64) -> Result<SphereMap, OutOfMemory> {
         let point = &self.points[job as usize];
         let whole = local_map(alloc, self.whole, point)?;
-        half_map(alloc, &whole, self.oriented, self.closed, point)
+        let map = half_map(alloc, &whole, self.oriented, self.closed, point)?;
+        Ok(map)
     }
+}
+
+// The complex of the half, from that of the whole frame.
+fn cut<R: Threads + Wait + Sync, G: Gate + Sync>(
+    rt: &R,
+    alloc: Global,
+    whole: &Complex,
+    oriented: &Oriented,
+    closed: bool,
+    how: &How,
+    gate: &G,
+) -> Result<Complex, OutOfMemory>
+    requires workers { how.now.workers ≤ 64 }
+    requires whole { ShowsSet Set.full whole.now }
+    ensures shows { IfOk result (λ c. ShowsSet (Set.half (given_form oriented.now) closed) c) }
+{
+    let plane = oriented.plane();
+    let listed = cut_candidates(alloc, whole, &plane)?;
+    let points = listed.as_slice();
+    let job = HalfJob {
+        whole,
+        points,
+        oriented,
+        closed,
+    };
+    let maps = finished(rt, alloc, &job, how, gate)?;
+    let carriers = add_carrier(alloc, whole, &plane)?;
+    let complex = assemble(alloc, carriers, points, maps)?;
+    Ok(complex)
 }
 
 /// The complex of a half of the frame: where the given form is negative, or where it is at most zero if the half is
@@ -68,16 +98,6 @@ pub fn half<R: Threads + Wait + Sync, G: Gate + Sync>(
     ensures shows { IfOk result (λ c. ShowsSet (Set.half (given_form oriented.now) closed) c) }
 {
     let whole = frame(alloc, Label::In)?;
-    let plane = oriented.plane();
-    let points = cut_candidates(alloc, &whole, &plane)?;
-    let job = HalfJob {
-        whole: &whole,
-        points: points.as_slice(),
-        oriented,
-        closed,
-    };
-    let maps = finished(rt, alloc, &job, how, gate)?;
-    let carriers = add_carrier(alloc, &whole, &plane)?;
-    let complex = assemble(alloc, carriers, points.as_slice(), maps)?;
+    let complex = cut(rt, alloc, &whole, oriented, closed, how, gate)?;
     Ok(complex)
 }

@@ -36,7 +36,8 @@ fn changed(alloc: Global, map: &SphereMap, op: UnaryOp) -> Result<SphereMap, Out
         UnaryOp::Bd => boundary(alloc, map),
         UnaryOp::Reg => {
             let inside = interior(alloc, map)?;
-            closure(alloc, &inside)
+            let map = closure(alloc, &inside)?;
+            Ok(map)
         }
     }
 }
@@ -65,7 +66,9 @@ impl<'a> Job for UnaryJob<'a> {
     }
 
     fn work(&self, alloc: Global, job: u64) -> Result<SphereMap, OutOfMemory> {
-        changed(alloc, &self.complex.vertices.at(job as usize).map, self.op)
+        let vertex = self.complex.vertices.at(job as usize);
+        let map = changed(alloc, &vertex.map, self.op)?;
+        Ok(map)
     }
 }
 
@@ -73,11 +76,11 @@ impl<'a> Job for UnaryJob<'a> {
 fn vertex_points(alloc: Global, c: &Complex) -> Result<Vec<Point>, OutOfMemory>
     ensures points { IfOk result (λ v. v.items ≡ points_of c.now) }
 {
-    c.vertices
-        .as_slice()
-        .iter()
-        .map(|vertex| vertex.point)
-        .collect(alloc)
+    let mut points = Vec::new(alloc);
+    for vertex in c.vertices.as_slice() {
+        points.push(vertex.point)?;
+    }
+    Ok(points)
 }
 
 /// The complex of what the operation makes of the set of a complex. Its vertices are among those of the set. One job for
