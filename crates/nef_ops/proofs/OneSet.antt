@@ -1,9 +1,9 @@
 -- The operations on one set keep its carriers, and make no vertices; regularisation is the closure of the interior.
-use Rattle.std.proofs.Common.{List, sym}
+use Rattle.std.proofs.Common.{List}
 use Rattle.nef_space.specs.Place.{Place, Form, step}
 use Rattle.nef_space.specs.Sets.{Set}
 use Rattle.nef_space.specs.Vectors.{Vector}
-use Rattle.nef_space.specs.Local.{HasLabel, Germ, Flat, IsVertex}
+use Rattle.nef_space.specs.Local.{Flat, IsVertex}
 use Rattle.nef_near.proofs.FlatOperations.{flat-of, flat-not, flat-inside, flat-closed, flat-border, flat-regular}
 use Rattle.nef_near.proofs.Topology.{regular-label}
 use Rattle.nef_sphere.specs.Least.{Cone}

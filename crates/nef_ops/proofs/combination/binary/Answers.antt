@@ -1,5 +1,4 @@
-use Rattle.std.proofs.Common.{◌≡◌, List, length, arith, sym, subst}
-use Rattle.nef_geo.specs.declared.point.Point.{Point}
+use Rattle.std.proofs.Common.{◌≡◌, length, arith, sym, subst}
 use Rattle.nef_combine.specs.Sets.{op_set}
 use Rattle.nef_cand.specs.Candidates.{AreFramed}
 use Rattle.nef_ops.proofs.Gathered.{both-maps}

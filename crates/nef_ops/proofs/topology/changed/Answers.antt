@@ -1,13 +1,11 @@
-use Rattle.std.proofs.Common.{◌≡◌, sym, subst}
+use Rattle.std.proofs.Common.{sym, subst}
 use Rattle.std.specs.Prelude.{IfOk}
-use Rattle.std.specs.declared.result.Result.{Result}
 use Rattle.nef_space.specs.Place.{Place}
 use Rattle.nef_space.specs.Sets.{Set}
 use Rattle.nef_sphere.specs.Least.{Cone}
 use Rattle.nef_smap.specs.Maps.{map_of}
 use Rattle.nef_smap.specs.declared.map.SphereMap.{SphereMap}
 use Rattle.nef_ops.specs.declared.op.UnaryOp.{UnaryOp}
-use Rattle.nef_ops.specs.declared.op.UnaryOp.TheVariants.{Not, Int, Cl, Bd, Reg}
 use Rattle.nef_ops.specs.Nodes.{unary_set}
 use Rattle.nef_ops.proofs.OneSet.{regular-cone}
 use Rattle.nef_ops.proofs.topology.changed.Goals as goal

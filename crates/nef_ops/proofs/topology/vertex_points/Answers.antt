@@ -1,5 +1,3 @@
-use Rattle.std.proofs.Common.{List, subst, sym}
-use Rattle.nef_complex.specs.declared.complex.Vertex.{Vertex}
 use Rattle.nef_ops.proofs.Gathered.{points-more, points-all}
 use Rattle.nef_ops.proofs.topology.vertex_points.Goals as goal
 
