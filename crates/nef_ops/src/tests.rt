@@ -25,6 +25,10 @@ const TWO_FREE: How = How {
     board: BoardKind::Free,
 };
 
+const LEFT: [[i64; 4]; 1] = [[1, 0, 0, 0]];
+
+const LOWER: [[i64; 4]; 1] = [[0, 0, 1, 0]];
+
 const X_AXIS: [[i64; 4]; 4] = [[0, 1, 0, 0], [0, -1, 0, 0], [0, 0, 1, 0], [0, 0, -1, 0]];
 
 const Y_AXIS: [[i64; 4]; 4] = [[1, 0, 0, 0], [-1, 0, 0, 0], [0, 0, 1, 0], [0, 0, -1, 0]];
@@ -49,15 +53,6 @@ const CUBE: [[i64; 4]; 6] = [
     [0, 0, 1, -1],
 ];
 
-const NEXT_CUBE: [[i64; 4]; 6] = [
-    [-1, 0, 0, 1],
-    [1, 0, 0, -2],
-    [0, -1, 0, 0],
-    [0, 1, 0, -1],
-    [0, 0, -1, 0],
-    [0, 0, 1, -1],
-];
-
 const PLATE: [[i64; 4]; 6] = [
     [-1, 0, 0, -10],
     [1, 0, 0, -10],
@@ -76,7 +71,8 @@ const HOLE: [[i64; 4]; 6] = [
     [-2, 1, 0, -8],
 ];
 
-const SLIT: [[i64; 4]; 5] = [
+// Half of the x axis.
+const RAY: [[i64; 4]; 5] = [
     [0, 0, 1, 0],
     [0, 0, -1, 0],
     [0, 1, 0, 0],
@@ -156,6 +152,53 @@ fn counts(c: &Complex) -> (usize, usize) {
     (c.vertices.len(), c.edges.len())
 }
 
+fn count_intersection<R: Threads + Wait + Sync>(
+    rt: &R,
+    alloc: Global,
+    halves: &[[i64; 4]],
+    how: &How,
+) -> Result<(usize, usize), Fail>
+    requires workers { (1 ≤ how.now.workers) × (how.now.workers ≤ 64) }
+{
+    let complex = intersection(rt, alloc, halves, true, how)?;
+    Ok(counts(&complex))
+}
+
+// Of the intersection of the first halves, which are closed, with that of the others, combined by the operation.
+fn count_combination<R: Threads + Wait + Sync>(
+    rt: &R,
+    alloc: Global,
+    op: Op,
+    halves: &[[i64; 4]],
+    others: &[[i64; 4]],
+    closed: bool,
+    how: &How,
+) -> Result<(usize, usize), Fail>
+    requires workers { (1 ≤ how.now.workers) × (how.now.workers ≤ 64) }
+{
+    let first = intersection(rt, alloc, halves, true, how)?;
+    let second = intersection(rt, alloc, others, closed, how)?;
+    let complex = combined(rt, alloc, op, &first, &second, how)?;
+    Ok(counts(&complex))
+}
+
+// Of what two operations in a row make of the intersection of the halves, which are closed.
+fn count_changed<R: Threads + Wait + Sync>(
+    rt: &R,
+    alloc: Global,
+    halves: &[[i64; 4]],
+    first: UnaryOp,
+    second: UnaryOp,
+    how: &How,
+) -> Result<(usize, usize), Fail>
+    requires workers { (1 ≤ how.now.workers) × (how.now.workers ≤ 64) }
+{
+    let complex = intersection(rt, alloc, halves, true, how)?;
+    let once = changed(rt, alloc, first, &complex, how)?;
+    let twice = changed(rt, alloc, second, &once, how)?;
+    Ok(counts(&twice))
+}
+
 #[test]
 fn constants(rt: HostRuntime) -> Result<(), Fail> {
     let full = constant(rt.alloc(), true)?;
@@ -166,59 +209,45 @@ fn constants(rt: HostRuntime) -> Result<(), Fail> {
 }
 
 #[test]
-fn halves(rt: HostRuntime) -> Result<(), Fail> {
-    let locked = half_of(&rt, rt.alloc(), &[1, 0, 0, 0], true, &ONE_BY_LOCK)?;
-    assert_eq!(rt; counts(&locked), (12, 20));
-    let free = half_of(&rt, rt.alloc(), &[1, 0, 0, 0], true, &TWO_FREE)?;
-    assert_eq!(rt; counts(&free), (12, 20));
-    Ok(())
-}
-
-#[test]
-fn convex_sets(rt: HostRuntime) -> Result<(), Fail> {
+fn intersections(rt: HostRuntime) -> Result<(), Fail> {
     let alloc = rt.alloc();
-    let cube = intersection(&rt, alloc, CUBE.as_slice(), true, &TWO_FREE)?;
-    assert_eq!(rt; counts(&cube), (16, 24));
-    let point = intersection(&rt, alloc, POINT.as_slice(), true, &ONE_BY_LOCK)?;
-    assert_eq!(rt; counts(&point), (9, 12));
-    let axis = intersection(&rt, alloc, Z_AXIS.as_slice(), true, &TWO_FREE)?;
-    assert_eq!(rt; counts(&axis), (10, 13));
+    let left = count_intersection(&rt, alloc, LEFT.as_slice(), &ONE_BY_LOCK)?;
+    assert_eq!(rt; left, (12, 20));
+    let left = count_intersection(&rt, alloc, LEFT.as_slice(), &TWO_FREE)?;
+    assert_eq!(rt; left, (12, 20));
+    let cube = count_intersection(&rt, alloc, CUBE.as_slice(), &TWO_FREE)?;
+    assert_eq!(rt; cube, (16, 24));
+    let point = count_intersection(&rt, alloc, POINT.as_slice(), &ONE_BY_LOCK)?;
+    assert_eq!(rt; point, (9, 12));
+    let axis = count_intersection(&rt, alloc, Z_AXIS.as_slice(), &TWO_FREE)?;
+    assert_eq!(rt; axis, (10, 13));
     Ok(())
 }
 
 #[test]
 fn unions_and_differences(rt: HostRuntime) -> Result<(), Fail> {
     let alloc = rt.alloc();
-    let x = intersection(&rt, alloc, X_AXIS.as_slice(), true, &TWO_FREE)?;
-    let y = intersection(&rt, alloc, Y_AXIS.as_slice(), true, &TWO_FREE)?;
-    let axes = combined(&rt, alloc, Op::Or, &x, &y, &ONE_BY_LOCK)?;
-    assert_eq!(rt; counts(&axes), (13, 16));
-
-    let lower = half_of(&rt, alloc, &[0, 0, 1, 0], true, &TWO_FREE)?;
-    let sheet = intersection(&rt, alloc, SLIT.as_slice(), true, &TWO_FREE)?;
-    let slit = combined(&rt, alloc, Op::Diff, &lower, &sheet, &TWO_FREE)?;
-    assert_eq!(rt; counts(&slit), (14, 22));
-
-    let plate = intersection(&rt, alloc, PLATE.as_slice(), true, &TWO_FREE)?;
-    let hole = intersection(&rt, alloc, HOLE.as_slice(), false, &ONE_BY_LOCK)?;
-    let rest = combined(&rt, alloc, Op::Diff, &plate, &hole, &TWO_FREE)?;
-    assert_eq!(rt; counts(&rest), (28, 42));
+    let (x, y) = (X_AXIS.as_slice(), Y_AXIS.as_slice());
+    let axes = count_combination(&rt, alloc, Op::Or, x, y, true, &ONE_BY_LOCK)?;
+    assert_eq!(rt; axes, (13, 16));
+    let (lower, ray) = (LOWER.as_slice(), RAY.as_slice());
+    let slit = count_combination(&rt, alloc, Op::Diff, lower, ray, true, &TWO_FREE)?;
+    assert_eq!(rt; slit, (14, 22));
+    let (plate, hole) = (PLATE.as_slice(), HOLE.as_slice());
+    let rest = count_combination(&rt, alloc, Op::Diff, plate, hole, false, &TWO_FREE)?;
+    assert_eq!(rt; rest, (28, 42));
     Ok(())
 }
 
 #[test]
 fn topology_of_sets(rt: HostRuntime) -> Result<(), Fail> {
     let alloc = rt.alloc();
-    let cube = intersection(&rt, alloc, CUBE.as_slice(), true, &TWO_FREE)?;
-    let boundary = changed(&rt, alloc, UnaryOp::Bd, &cube, &ONE_BY_LOCK)?;
-    assert_eq!(rt; counts(&boundary), (16, 24));
-    let inside = changed(&rt, alloc, UnaryOp::Int, &boundary, &TWO_FREE)?;
-    assert_eq!(rt; counts(&inside), (8, 12));
-
-    let first = intersection(&rt, alloc, CUBE.as_slice(), false, &TWO_FREE)?;
-    let second = intersection(&rt, alloc, NEXT_CUBE.as_slice(), false, &TWO_FREE)?;
-    let both = combined(&rt, alloc, Op::Or, &first, &second, &TWO_FREE)?;
-    let regular = changed(&rt, alloc, UnaryOp::Reg, &both, &TWO_FREE)?;
-    assert_eq!(rt; counts(&regular), (16, 24));
+    let cube = CUBE.as_slice();
+    let shell = count_changed(&rt, alloc, cube, UnaryOp::Bd, UnaryOp::Cl, &TWO_FREE)?;
+    assert_eq!(rt; shell, (16, 24));
+    let nothing = count_changed(&rt, alloc, cube, UnaryOp::Bd, UnaryOp::Int, &ONE_BY_LOCK)?;
+    assert_eq!(rt; nothing, (8, 12));
+    let outside = count_changed(&rt, alloc, cube, UnaryOp::Reg, UnaryOp::Not, &TWO_FREE)?;
+    assert_eq!(rt; outside, (16, 24));
     Ok(())
 }

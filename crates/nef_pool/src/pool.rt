@@ -96,10 +96,10 @@ fn filled<J: Job>(
 
 /// Works every job of the board, and returns one right result for each, in the order of the jobs.
 ///
-/// The board was made for this job value, whose jobs can be worked. The pass is its first one, holds nothing, and may make
-/// one for each worker. A worker claims a job, tells the gate, works the job and deposits the
-/// result; where it finds no memory it gives the job back and ends. Then the caller works what
-/// isn't done itself.
+/// The board was made for this job value, whose jobs can be worked. The pass is its first one,
+/// holds nothing, and may make one for each worker. A worker claims a job, tells the gate, works
+/// the job and deposits the result; where it finds no memory it gives the job back and ends. Then
+/// the caller works what isn't done itself.
 ///
 /// `OutOfMemory` says that the caller wanted memory and found none; the results are gone then.
 pub fn finish<R: Threads + Sync, J: Job, B: Board<J>, G: Gate + Sync>(
