@@ -6,6 +6,7 @@
 
 mod edge;
 mod label;
+mod locate;
 mod maps;
 mod place;
 mod plane;
@@ -13,6 +14,7 @@ mod plane;
 mod tests;
 
 pub use label::place_label;
+pub use locate::locate;
 pub use maps::place_map;
 pub use place::Place;
 pub use std::alloc::AllocError as OutOfMemory;
