@@ -5,16 +5,16 @@
 #![tactic(auto)]
 
 mod edge;
+mod finding;
 mod label;
-mod locate;
 mod maps;
 mod place;
 mod plane;
 #[cfg(test)]
 mod tests;
 
+pub use finding::locate;
 pub use label::place_label;
-pub use locate::locate;
 pub use maps::place_map;
 pub use place::Place;
 pub use std::alloc::AllocError as OutOfMemory;
