@@ -1,4 +1,3 @@
-pub mod Nodes
 pub mod Meaning
 pub mod Refusals
 pub mod Outputs

@@ -8,9 +8,12 @@
 mod answer;
 mod built;
 mod line;
+mod operation;
+mod sets;
 mod status;
 mod stop;
 mod top;
+mod uses;
 mod work;
 
 pub use status::{Status, code};
