@@ -3,7 +3,7 @@
 ghost use Rattle.std.specs.Prelude.{◌≡◌, List};
 ghost use Rattle.nef_space.specs.Sets.{Set};
 ghost use Rattle.nef_expr.specs.Nodes.{set_of};
-ghost use Rattle.nef_shell.specs.Operations.{set_by};
+ghost use Rattle.nef_shell.specs.Operations.{set_by, HasOperands};
 
 use nef_expr::Node;
 use nef_geo::Oriented;
@@ -24,6 +24,7 @@ pub(crate) enum Operation {
 /// The operation that makes the node's set of those of earlier nodes.
 pub(crate) fn operation_of(node: &Node) -> Operation
     ensures set { (ss : List Set) → set_of ss node.now ≡ set_by ss result }
+    ensures operands { HasOperands node.now result }
 {
     match *node {
         Node::Half { oriented, closed } => Operation::Half { oriented, closed },

@@ -7,7 +7,7 @@ ghost use Rattle.nef_expr.specs.Nodes.{node_set};
 ghost use Rattle.nef_expr.specs.declared.nodes.Node.TheVariants as node;
 ghost use Rattle.nef_script.specs.Meaning.{IsWithin};
 ghost use Rattle.nef_shell.specs.Commands.{IsOperand, LooksAt, Binds, AreLastUses};
-ghost use Rattle.nef_shell.specs.Operations.{IsKept, EachShows, IsGrown};
+ghost use Rattle.nef_shell.specs.Operations.{IsKept, IsGrown};
 
 use crate::operation::{Operation, operation_of};
 use crate::uses::{bound_node, last_uses, looked_at};
@@ -29,7 +29,6 @@ pub(crate) struct Sets<'a> {
     last_uses: Vec<usize>,
     // In the order of the nodes.
     list: Vec<Option<Complex>>,
-    ghost shown: { EachShows nodes.now list.items },
     ghost counted: { (vec_len last_uses ≡ length nodes.now) × (vec_len list ≤ length nodes.now) },
 }
 
@@ -50,7 +49,7 @@ impl<'a> Sets<'a> {
 
     /// The complex of the node.
     pub(crate) fn get(&self, node: usize) -> &Complex
-        requires kept { IsKept self.now.list.items node }
+        requires kept { IsKept self.now.nodes.now self.now.list.items node }
         ensures shows { ShowsSet (node_set self.now.nodes.now node) result.now }
     {
         match &self.list[node] {
@@ -69,7 +68,7 @@ impl<'a> Sets<'a> {
     ) -> Result<Complex, AllocError>
         requires workers { (1 ≤ how.now.workers) × (how.now.workers ≤ 64) }
         requires next { length self.now.list.items < length self.now.nodes.now }
-        requires operands { (k : ℕ) → IsOperand k (slice_index_or self.now.nodes.now (length self.now.list.items) node.Empty) → IsKept self.now.list.items k }
+        requires operands { (k : ℕ) → IsOperand k (slice_index_or self.now.nodes.now (length self.now.list.items) node.Empty) → IsKept self.now.nodes.now self.now.list.items k }
         ensures shows { IfOk result (λ c. ShowsSet (node_set self.now.nodes.now (length self.now.list.items)) c) }
     {
         match operation_of(self.nodes.get(self.list.len())) {
@@ -92,8 +91,8 @@ impl<'a> Sets<'a> {
     ) -> Result<(), AllocError>
         requires workers { (1 ≤ how.now.workers) × (how.now.workers ≤ 64) }
         requires next { length self.old.list.items < length self.old.nodes.now }
-        requires operands { (k : ℕ) → IsOperand k (slice_index_or self.old.nodes.now (length self.old.list.items) node.Empty) → IsKept self.old.list.items k }
-        ensures grown { OnOk result (IsGrown 1 self.old.list.items self.new.list.items) }
+        requires operands { (k : ℕ) → IsOperand k (slice_index_or self.old.nodes.now (length self.old.list.items) node.Empty) → IsKept self.old.nodes.now self.old.list.items k }
+        ensures grown { OnOk result (IsGrown self.old.nodes.now 1 self.old.list.items self.new.list.items) }
         ensures nodes { self.new.nodes ≡ self.old.nodes }
         ensures uses { self.new.last_uses ≡ self.old.last_uses }
     {
@@ -106,7 +105,7 @@ impl<'a> Sets<'a> {
     fn release_one(&mut self, node: Option<usize>, now: usize)
         requires within { IfSome node (λ k. (k < length self.old.list.items) × (k < vec_len self.old.last_uses)) }
         ensures count { length self.new.list.items ≡ length self.old.list.items }
-        ensures kept { (k : ℕ) → now < slice_index self.old.last_uses.items k → IsKept self.old.list.items k → IsKept self.new.list.items k }
+        ensures kept { (k : ℕ) → now < slice_index self.old.last_uses.items k → IsKept self.old.nodes.now self.old.list.items k → IsKept self.new.nodes.now self.new.list.items k }
         ensures nodes { self.new.nodes ≡ self.old.nodes }
         ensures uses { self.new.last_uses ≡ self.old.last_uses }
     {
@@ -122,7 +121,7 @@ impl<'a> Sets<'a> {
         requires earlier { (k : ℕ) → LooksAt self.old.nodes.now command.now k → k < length self.old.list.items }
         requires bound { (k : ℕ) → Binds command.now k → k < length self.old.list.items }
         ensures count { length self.new.list.items ≡ length self.old.list.items }
-        ensures kept { (k : ℕ) → now < slice_index self.old.last_uses.items k → IsKept self.old.list.items k → IsKept self.new.list.items k }
+        ensures kept { (k : ℕ) → now < slice_index self.old.last_uses.items k → IsKept self.old.nodes.now self.old.list.items k → IsKept self.new.nodes.now self.new.list.items k }
         ensures nodes { self.new.nodes ≡ self.old.nodes }
         ensures uses { self.new.last_uses ≡ self.old.last_uses }
     {

@@ -2,9 +2,8 @@
 
 ghost use Rattle.std.specs.Prelude.{◌≡◌, ◌≤◌, ℕ, List, [], ◌∷◌, All, OnOk, IfErr, length, take};
 ghost use Rattle.nef_space.specs.Local.{HasLabel};
-ghost use Rattle.nef_space.specs.Sets.{Set};
 ghost use Rattle.nef_geo.specs.Shapes.{place_of};
-ghost use Rattle.nef_complex.specs.Complexes.{ShowsSet};
+ghost use Rattle.nef_expr.specs.Nodes.{node_set};
 ghost use Rattle.nef_io.specs.Bytes.{Rose, Grows, GrowsWithin};
 ghost use Rattle.nef_script.specs.Meaning.{IsWithin};
 ghost use Rattle.nef_shell.specs.Output.{IsPiece, IsOutput};
@@ -15,7 +14,6 @@ ghost use Rattle.nef_shell.specs.Stops.{MatchStop};
 use crate::answer::answer;
 use crate::sets::Sets;
 use crate::stop::Stop;
-use nef_complex::Complex;
 use nef_core::How;
 use nef_geo::{Label, Point};
 use nef_io::{Gate, Sink, put_all};
@@ -25,13 +23,14 @@ use std::alloc::Global;
 use std::sync::Wait;
 use std::thread::Threads;
 
-// The label of the point for the set that the complex shows.
-fn label_at(c: &Complex, p: &Point) -> Label
-    requires shows { (s : Set) × ShowsSet s c.now }
-    ensures label { (s : Set) → ShowsSet s c.now → HasLabel s (place_of p.now) result }
+// The label of the point for the node.
+fn label_at(sets: &Sets, node: usize, point: &Point) -> Label
+    requires kept { IsKept sets.now.nodes.now sets.now.list.items node }
+    ensures label { HasLabel (node_set sets.now.nodes.now node) (place_of point.now) result }
 {
-    if p.in_frame() {
-        place_label(c, &locate(c, p))
+    let complex = sets.get(node);
+    if point.in_frame() {
+        place_label(complex, &locate(complex, point))
     } else {
         Label::Out
     }
@@ -49,9 +48,9 @@ fn work_command<R: Threads + Wait + Sync, K: Sink, G: Gate + Sync>(
 ) -> Result<(), Stop>
     requires workers { (1 ≤ how.now.workers) × (how.now.workers ≤ 64) }
     requires workable { IsWorkable sets.old.nodes.now (length sets.old.list.items) command.now }
-    requires kept { (k : ℕ) → LooksAt sets.old.nodes.now command.now k → IsKept sets.old.list.items k }
+    requires kept { (k : ℕ) → LooksAt sets.old.nodes.now command.now k → IsKept sets.old.nodes.now sets.old.list.items k }
     ensures done { OnOk result ((piece : List ℕ) × IsPiece sets.old.nodes.now command.now piece × Grows (K.written sink.old) (K.written sink.new) piece) }
-    ensures grown { OnOk result (IsGrown (bound_by (command.now ∷ [])) sets.old.list.items sets.new.list.items) }
+    ensures grown { OnOk result (IsGrown sets.old.nodes.now (bound_by (command.now ∷ [])) sets.old.list.items sets.new.list.items) }
     ensures nodes { sets.new.nodes ≡ sets.old.nodes }
     ensures uses { sets.new.last_uses ≡ sets.old.last_uses }
     ensures stopped { IfErr result (λ stop. MatchStop stop
@@ -65,7 +64,7 @@ fn work_command<R: Threads + Wait + Sync, K: Sink, G: Gate + Sync>(
             Ok(())
         }
         Command::Has { node, point, .. } => {
-            let label = label_at(sets.get(*node), point);
+            let label = label_at(sets, *node, point);
             put_all(sink, answer(label))?;
             Ok(())
         }

@@ -13,5 +13,5 @@ invariant-loop-now g l = record {
   nodes : l.sets.nodes.now ≡ l.script.nodes;
   last : AreLastUses l.script.nodes l.script.commands l.sets.last_uses.items;
   bound : length l.sets.list.items ≡ bound_by (take l.now l.command-items);
-  kept : (k : ℕ) → k < length l.sets.list.items → l.now ≤ slice_index l.sets.last_uses.items k → IsKept l.sets.list.items k;
+  kept : (k : ℕ) → k < length l.sets.list.items → l.now ≤ slice_index l.sets.last_uses.items k → IsKept l.script.nodes l.sets.list.items k;
 }
