@@ -7,6 +7,8 @@
 
 mod answer;
 mod built;
+#[cfg(test)]
+mod gates;
 mod line;
 mod operation;
 mod sets;
