@@ -1,9 +1,9 @@
 -- What the meaning of an accepted script says of its commands: which of them are built, and that each can be worked after those before it.
-use Rattle.std.proofs.Common.{◌≡◌, ℕ, zero, suc, ◌+◌, ◌<◌, ◌≤◌, arith, refl, ap, sym, ◌∙◌, subst, List, [], ◌∷◌, ◌++◌, length, get_or, take, Option, Some, None, Bool, true, false, not, cond, nat_eq, ◌⊎◌, inl, inr, append_assoc, append-nil, length-append, add-zero}
-use Rattle.std.specs.Prelude.{slice_get, slice_index_or, position, find, filter, option_map}
+use Rattle.std.proofs.Common.{◌≡◌, ℕ, zero, suc, ◌+◌, ◌<◌, arith, refl, ap, sym, ◌∙◌, subst, List, [], ◌∷◌, ◌++◌, length, take, Option, Some, None, Bool, true, false, not, cond, inl, inr, append_assoc, append-nil, length-append}
+use Rattle.std.specs.Prelude.{slice_get, slice_index_or, find, filter, option_map}
 use Rattle.std.specs.List.{position_from}
 use Rattle.std.specs.Str.{bytes_eq}
-use Rattle.std.proofs.lemmas.Bool.{false≢true, not-true, not-false, eqb-true, cases_lt}
+use Rattle.std.proofs.lemmas.Bool.{not-false, eqb-true}
 use Rattle.std.proofs.lemmas.List.Elements.{filter-append}
 use Rattle.std.proofs.lemmas.List.Quantifiers.{position-Some}
 use Rattle.std.proofs.lemmas.Option.{slice_get_within, get_or_from_slice_get}
@@ -16,7 +16,7 @@ use Rattle.nef_expr.specs.Nodes.{NamesBelow}
 use Rattle.nef_script.specs.Checks.{command_in}
 use Rattle.nef_script.specs.Table.{verb_of, binds}
 use Rattle.nef_script.specs.Tests.{on_verb, on_command}
-use Rattle.nef_script.specs.Refusal.{names_of, bound_name, line_refusal, RefusalAt, Passes, IsAccepted}
+use Rattle.nef_script.specs.Refusal.{names_of, bound_name, line_refusal, Passes, IsAccepted}
 use Rattle.nef_script.specs.Meaning.{Names, IsNode, IsQuestion, MeansCommand, MeansWords, has_words, MeansLines, MeansScript}
 use Rattle.nef_script.specs.declared.table.Verb.{Verb}
 use Rattle.nef_script.specs.declared.table.Verb.TheVariants as verb

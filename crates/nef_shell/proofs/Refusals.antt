@@ -1,7 +1,7 @@
 -- A script has at most one refusal, and none where it is accepted and all its commands are built.
-use Rattle.std.proofs.Common.{◌≡◌, ℕ, ◌<◌, ◌≤◌, arith, refl, List, length, Option, Some, None}
+use Rattle.std.proofs.Common.{◌≡◌, ℕ, ◌<◌, arith, refl, List, length, None}
 use Rattle.nef_script.specs.declared.fault.ScriptKind.{ScriptKind}
-use Rattle.nef_script.specs.declared.fault.ScriptKind.TheVariants.{ScriptTooLong, NotBuilt}
+use Rattle.nef_script.specs.declared.fault.ScriptKind.TheVariants.{ScriptTooLong}
 use Rattle.nef_script.specs.Refusal.{script_limit, FirstRefusal, IsAccepted}
 use Rattle.nef_script.proofs.RefusalLaws.{one_refusal, never_both}
 use Rattle.nef_shell.specs.Built.{first_unbuilt}

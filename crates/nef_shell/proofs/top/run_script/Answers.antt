@@ -1,7 +1,6 @@
-use Rattle.std.proofs.Common.{◌≡◌, ◌∙◌, ap, sym, inl, inr, refl, Err, None}
-use Rattle.std.specs.Prelude.{find}
+use Rattle.std.proofs.Common.{◌∙◌, ap, sym, inl, inr, Err}
 use Rattle.nef_script.specs.declared.fault.ScriptKind.TheVariants.{ScriptTooLong, NotBuilt}
-use Rattle.nef_shell.specs.Answers.{IsRefused, IsRead, IsWorked, HasFront}
+use Rattle.nef_shell.specs.Answers.{IsRefused, HasFront}
 use Rattle.nef_shell.proofs.Meaning.{unbuilt, first_unbuilt-agrees, script-workable, find-none_of_line}
 use Rattle.nef_shell.proofs.Statuses.{refused-status, too-long}
 use Rattle.nef_shell.proofs.top.run_script.Goals as goal

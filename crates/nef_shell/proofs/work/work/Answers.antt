@@ -1,9 +1,9 @@
-use Rattle.std.proofs.Common.{◌≡◌, ◌+◌, ◌<◌, ◌≤◌, ◌++◌, ◌∷◌, [], ◌∙◌, ap, sym, refl, subst, arith, length, take, Some}
-use Rattle.std.specs.Prelude.{slice_get, slice_index}
+use Rattle.std.proofs.Common.{◌≡◌, ◌+◌, ◌<◌, ◌++◌, ◌∷◌, [], ◌∙◌, ap, sym, refl, subst, arith, length, take, Some}
+use Rattle.std.specs.Prelude.{slice_get}
 use Rattle.std.proofs.lemmas.List.{take_more}
 use Rattle.std.proofs.lemmas.Option.{slice_get_read}
 use Rattle.std.proofs.lemmas.Result.{err_from_is_err_and}
-use Rattle.nef_shell.specs.Commands.{LooksAt, IsWorkable, AreLastUses, bound_by}
+use Rattle.nef_shell.specs.Commands.{LooksAt, AreLastUses, bound_by}
 use Rattle.nef_shell.specs.Operations.{IsKept, IsGrown}
 use Rattle.nef_shell.proofs.Complexes.{binds-one, kept-next}
 use Rattle.nef_shell.proofs.Meaning.{bound_by-push}

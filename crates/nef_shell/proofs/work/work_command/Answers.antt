@@ -1,4 +1,4 @@
-use Rattle.std.proofs.Common.{◌≡◌, sym, refl, subst, arith, length}
+use Rattle.std.proofs.Common.{sym, refl, subst, arith}
 use Rattle.std.specs.Prelude.{slice_index_or}
 use Rattle.std.proofs.lemmas.Result.{err_from_is_err_and}
 use Rattle.nef_expr.specs.declared.nodes.Node.TheVariants as node

@@ -1,4 +1,4 @@
-use Rattle.std.proofs.Common.{◌≡◌, ◌∙◌, sym, subst, arith, length, Some}
+use Rattle.std.proofs.Common.{◌≡◌, subst, arith, length, Some}
 use Rattle.std.specs.Prelude.{slice_get}
 use Rattle.nef_expr.specs.Nodes.{node_set}
 use Rattle.nef_shell.specs.declared.operation.Operation.TheVariants.{Constant, Half, Unary, Binary}

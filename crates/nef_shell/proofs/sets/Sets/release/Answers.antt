@@ -1,4 +1,4 @@
-use Rattle.std.proofs.Common.{◌≡◌, ◌<◌, arith, inl, inr, length}
+use Rattle.std.proofs.Common.{arith, inl, inr}
 use Rattle.nef_shell.proofs.Complexes.{some-then}
 use Rattle.nef_shell.proofs.sets.Sets.release.Goals as goal
 
