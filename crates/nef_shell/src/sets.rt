@@ -109,7 +109,9 @@ impl<'a> Sets<'a> {
         ensures nodes { self.new.nodes ≡ self.old.nodes }
         ensures uses { self.new.last_uses ≡ self.old.last_uses }
     {
-        if let Some(k) = node && self.last_uses[k] <= now {
+        if let Some(k) = node
+            && self.last_uses[k] <= now
+        {
             self.list[k] = None;
         }
     }

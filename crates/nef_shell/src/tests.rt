@@ -22,7 +22,8 @@ full U / int V U / has V 1023 0 0 1 => in";
 
 // The same of solids: the boundary of a box; two open boxes with a common wall; a plate with a
 // hexagonal hole; a half-space without a ray.
-const SOLIDS: &str = "half Aa -1 0 0 0 closed / half Ab 1 0 0 -1 closed / half Ac 0 -1 0 0 closed / \
+const SOLIDS: &str =
+    "half Aa -1 0 0 0 closed / half Ab 1 0 0 -1 closed / half Ac 0 -1 0 0 closed / \
     half Ad 0 1 0 -1 closed / half Ae 0 0 -1 0 closed / half Af 0 0 1 -1 closed / \
     and Ag Aa Ab / and Ah Ag Ac / and Ai Ah Ad / and Aj Ai Ae / and A Aj Af / bd D A / \
     has D 0 0 0 1 / has D 1 1 1 2 / int I D / has I 0 0 0 1 => in / not / not
@@ -72,15 +73,19 @@ const BOARDS: &str = "--workers 1
 --workers 64 --board free";
 
 // The closed unit box.
-const UNIT_BOX: &str = "half Aa -1 0 0 0 closed / half Ab 1 0 0 -1 closed / half Ac 0 -1 0 0 closed / \
+const UNIT_BOX: &str =
+    "half Aa -1 0 0 0 closed / half Ab 1 0 0 -1 closed / half Ac 0 -1 0 0 closed / \
     half Ad 0 1 0 -1 closed / half Ae 0 0 -1 0 closed / half Af 0 0 1 -1 closed / \
     and Ag Aa Ab / and Ah Ag Ac / and Ai Ah Ad / and Aj Ai Ae / and A Aj Af";
 
 // Two half-spaces, with twelve candidates each, and their intersection, with eighteen.
 const CORNER: &str = "half A 1 0 0 0 closed / half B 0 1 0 0 closed / and C A B";
 
-// The calls for each of its jobs, for later ones, and from the board without a lock.
+// The calls for each of its jobs, for later ones, and from the board without a lock, where the
+// board has a lock.
 const LOCKED_CALLS: [u64; 20] = [3, 3, 3, 3, 3, 3, 3, 3, 3, 3, 3, 3, 1, 1, 1, 1, 1, 1, 0, 0];
+
+// The same where it has none.
 const FREE_CALLS: [u64; 20] = [3, 3, 3, 3, 3, 3, 3, 3, 3, 3, 3, 3, 1, 1, 1, 1, 1, 1, 0, 42];
 
 // The texts between the `/`, each with its line end.
@@ -143,7 +148,14 @@ fn fits<R: Threads + Wait + Sync>(
         };
         let script = unfolded(alloc, script)?;
         let output = unfolded(alloc, output)?;
-        if !gives(rt, alloc, words, script.as_bytes(), status, output.as_bytes())? {
+        if !gives(
+            rt,
+            alloc,
+            words,
+            script.as_bytes(),
+            status,
+            output.as_bytes(),
+        )? {
             return Ok(false);
         }
     }
