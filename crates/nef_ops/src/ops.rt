@@ -5,7 +5,7 @@ ghost use Rattle.nef_space.specs.Sets.{Set};
 ghost use Rattle.nef_geo.specs.Shapes.{given_form};
 ghost use Rattle.nef_complex.specs.Complexes.{ShowsSet};
 ghost use Rattle.nef_combine.specs.Sets.{op_set};
-ghost use Rattle.nef_ops.specs.Sets.{constant_set, unary_set};
+ghost use Rattle.nef_ops.specs.Nodes.{constant_set, unary_set};
 
 use crate::OutOfMemory;
 use crate::op::UnaryOp;
