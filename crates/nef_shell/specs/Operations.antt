@@ -7,7 +7,7 @@ use Rattle.nef_complex.specs.declared.complex.Complex.{Complex}
 use Rattle.nef_complex.specs.Complexes.{ShowsSet}
 use Rattle.nef_expr.specs.declared.nodes.Node.{Node}
 use Rattle.nef_expr.specs.Nodes.{operand, node_set}
-use Rattle.nef_ops.specs.Sets.{constant_set, unary_set}
+use Rattle.nef_ops.specs.Nodes.{constant_set, unary_set}
 use Rattle.nef_shell.specs.Commands.{IsOperand}
 use Rattle.nef_shell.specs.declared.operation.Operation.{Operation}
 use Rattle.nef_shell.specs.declared.operation.Operation.TheVariants.{Constant, Half, Unary, Binary}
