@@ -64,13 +64,8 @@ empty E / count E => line 2: not built yet
 empty E / print E => line 2: not built yet
 full U / has U 0 0 0 1 / same U U / print U => line 3: not built yet";
 
-// The boards, each with one worker, a few and the most.
-const BOARDS: &str = "--workers 1
---workers 2
---workers 64
---workers 1 --board free
---workers 2 --board free
---workers 64 --board free";
+// The numbers of workers: one, a few, and the most.
+const WORKERS: &str = "1 2 64";
 
 // The closed unit box.
 const UNIT_BOX: &str =
@@ -177,15 +172,33 @@ fn told<R: Threads + Wait + Sync, G: Gate + Sync>(
     Ok(run(rt, alloc, &words, &mut source, &mut sink, gate))
 }
 
-#[test]
-fn every_board(rt: HostRuntime) -> Result<(), Fail> {
-    let alloc = rt.alloc();
-    for words in BOARDS.split('\n') {
-        let list: Vec<&str> = words.split(' ').collect(alloc)?;
-        assert!(rt; fits(&rt, alloc, &list, ANSWERS, 0)?, "{words}");
-        assert!(rt; fits(&rt, alloc, &list, SOLIDS, 0)?, "{words}");
-        assert!(rt; fits(&rt, alloc, &list, REFUSALS, 1)?, "{words}");
+// Whether each row of each table comes out by this board, whatever the number of workers.
+fn fits_by<R: Threads + Wait + Sync>(
+    rt: &R,
+    alloc: Global,
+    board: &str,
+) -> Result<bool, AllocError> {
+    for workers in WORKERS.split(' ') {
+        let words = ["--workers", workers, "--board", board];
+        let all = fits(rt, alloc, &words, ANSWERS, 0)?
+            && fits(rt, alloc, &words, SOLIDS, 0)?
+            && fits(rt, alloc, &words, REFUSALS, 1)?;
+        if !all {
+            return Ok(false);
+        }
     }
+    Ok(true)
+}
+
+#[test]
+fn by_lock_board(rt: HostRuntime) -> Result<(), Fail> {
+    assert!(rt; fits_by(&rt, rt.alloc(), "lock")?);
+    Ok(())
+}
+
+#[test]
+fn by_free_board(rt: HostRuntime) -> Result<(), Fail> {
+    assert!(rt; fits_by(&rt, rt.alloc(), "free")?);
     Ok(())
 }
 
@@ -256,9 +269,10 @@ fn most_names(rt: HostRuntime) -> Result<(), Fail> {
     for number in 1..=4096u32 {
         names.push_str(format!(in alloc; "full n{number}\n")?.as_str())?;
     }
-    let mut asked = names.clone()?;
-    asked.push_str("has n4096 0 0 0 1\n")?;
-    assert!(rt; gives(&rt, alloc, &[], asked.as_bytes(), 0, b"in\n")?);
+    let mut more = names.clone()?;
+    more.push_str("ball n4097\n")?;
+    let output = b"line 4097: unknown command\n";
+    assert!(rt; gives(&rt, alloc, &[], more.as_bytes(), 1, output)?);
     names.push_str("full n4097\n")?;
     let output = b"line 4097: too many names\n";
     assert!(rt; gives(&rt, alloc, &[], names.as_bytes(), 1, output)?);
