@@ -5,7 +5,6 @@
 #![tactic(auto)]
 
 mod edge;
-mod finding;
 mod label;
 mod maps;
 mod place;
@@ -13,7 +12,6 @@ mod plane;
 #[cfg(test)]
 mod tests;
 
-pub use finding::locate;
 pub use label::place_label;
 pub use maps::place_map;
 pub use place::Place;
