@@ -10,7 +10,6 @@ use Rattle.nef_space.specs.Vectors.{cross, IsZero, IsDirection}
 use Rattle.nef_geo.specs.Shapes.{place_of, form_of}
 use Rattle.nef_geo.specs.declared.plane.Plane.{Plane}
 use Rattle.nef_geo.specs.declared.point.Point.{Point}
-use Rattle.nef_forms.proofs.Directions.{direction-left}
 use Rattle.nef_near.specs.Cells.{carriers}
 use Rattle.nef_near.specs.Laws.{EdgeSupport}
 use Rattle.nef_near.proofs.Edges.{start, start-between}
@@ -28,11 +27,10 @@ use Rattle.nef_complex.specs.declared.complex.Vertex.{Vertex}
 use Rattle.nef_complex.specs.declared.complex.Edge.{Edge}
 use Rattle.nef_complex.specs.declared.complex.Complex.{Complex}
 use Rattle.nef_complex.specs.Complexes.{vertex_of, edge_of, complex_of, ShowsSet}
-use Rattle.nef_complex.proofs.Choosing.{low-within, high-within}
-use Rattle.nef_complex.proofs.Ends.{through-both}
+use Rattle.nef_complex.proofs.Ends.{through-both, low-within, high-within, listed_edge, ends, apart}
 use Rattle.nef_complex.proofs.Reading.{got-at}
 use Rattle.nef_cand.specs.Candidates.{IsVertexOf}
-use Rattle.nef_complex.specs.Meets.{HoldsBoth}
+use Rattle.nef_complex.specs.Planes.{HoldsBoth}
 use Rattle.nef_cand.specs.Points.{AreHeldByTwo, IsCrossing, CrossesOne, CutsOne, Adds}
 use Rattle.nef_cand.proofs.Adding.{adds-as, AnyAt}
 
@@ -45,29 +43,24 @@ same-parallel g h S = (one (g.b *ℤ h.c) (g.c *ℤ h.b) S.bc, one (g.c *ℤ h.a
     one a b e = omega (arith, ints)
 
 module _ (s : Set) (c : Complex) (S : ShowsSet s c) (k : ℕ) (e : Edge) (a : At c.edges k e) where
-  listed : At (complex_of c).edges k (edge_of e)
-  listed = map-at edge_of c.edges k e a
-
   module _ (u v : Vertex) (b : At c.vertices e.low u) (d : At c.vertices e.high v) where
-    pub ends : HasEnds (complex_of c) (edge_of e) (vertex_of u) (vertex_of v)
-    ends = record { low = map-at vertex_of c.vertices e.low u b; high = map-at vertex_of c.vertices e.high v d }
+    listed : At (complex_of c).edges k (edge_of e)
+    listed = listed_edge s c S.shows k e u v a b d
 
-    apart : IsDirection (toward (place_of u.point) (place_of v.point))
-    apart =
-        let E = S.shows.edges.edges k (edge_of e) listed in
-        let f = at-one (complex_of c).vertices e.low E.low_vertex (vertex_of u) E.is_low ends.low in
-        let g = at-one (complex_of c).vertices e.high E.high_vertex (vertex_of v) E.is_high ends.high in
-        subst (λ (w : PlainVertex). IsDirection (toward (place_of u.point) w.point)) g (subst (λ (w : PlainVertex). IsDirection (toward w.point E.high_vertex.point)) f
-        (direction-left (toward E.low_vertex.point E.high_vertex.point) E.low_end.way E.ahead))
+    both : HasEnds (complex_of c) (edge_of e) (vertex_of u) (vertex_of v)
+    both = ends s c S.shows k e u v a b d
+
+    way : IsDirection (toward (place_of u.point) (place_of v.point))
+    way = apart s c S.shows k e u v a b d
 
     support : EdgeSupport s (start 1 (place_of u.point) (place_of v.point))
     support = edge-support s (start 1 (place_of u.point) (place_of v.point))
-        (edge-points s (complex_of c) k (edge_of e) (vertex_of u) (vertex_of v) (start 1 (place_of u.point) (place_of v.point)) S.shows listed ends (start-between 1 (place_of u.point) (place_of v.point) apart)).0
+        (edge-points s (complex_of c) k (edge_of e) (vertex_of u) (vertex_of v) (start 1 (place_of u.point) (place_of v.point)) S.shows listed both (start-between 1 (place_of u.point) (place_of v.point) way)).0
 
     along : Flat s (start 1 (place_of u.point) (place_of v.point)) (toward (place_of u.point) (place_of v.point))
     along =
-        let E = edge-points s (complex_of c) k (edge_of e) (vertex_of u) (vertex_of v) (start 1 (place_of u.point) (place_of v.point)) S.shows listed ends (start-between 1 (place_of u.point) (place_of v.point) apart) in
-        (E.1 (toward (place_of u.point) (place_of v.point))).1 (edge-way s (complex_of c) k (edge_of e) (vertex_of u) (vertex_of v) S.shows listed ends)
+        let E = edge-points s (complex_of c) k (edge_of e) (vertex_of u) (vertex_of v) (start 1 (place_of u.point) (place_of v.point)) S.shows listed both (start-between 1 (place_of u.point) (place_of v.point) way) in
+        (E.1 (toward (place_of u.point) (place_of v.point))).1 (edge-way s (complex_of c) k (edge_of e) (vertex_of u) (vertex_of v) S.shows listed both)
 
     -- a carrier of the set is a plane of the complex
     plane-of : (f : Form) → Lies (carriers s) f → HoldsBoth f (place_of u.point) (place_of v.point) → (i : ℕ) × (h : Plane) × At c.carriers i h × SamePlane (form_of h) f × HoldsBoth (form_of h) (place_of u.point) (place_of v.point)

@@ -15,7 +15,7 @@ use Rattle.nef_geo.specs.Shapes.{form_of}
 use Rattle.nef_geo.specs.declared.plane.Plane.{Plane}
 use Rattle.nef_geo.proofs.Unique.{same_planes_equal}
 use Rattle.nef_arc.proofs.SignNumbers.{not_true}
-use Rattle.nef_complex.specs.Meets.{HoldsBoth}
+use Rattle.nef_complex.specs.Planes.{HoldsBoth}
 use Rattle.nef_cand.specs.Points.{IsLineThrough}
 
 -- ---- the program's test of equality

@@ -8,7 +8,7 @@ use Rattle.nef_geo.specs.declared.plane.Plane.{Plane}
 use Rattle.nef_geo.specs.declared.point.Point.{Point}
 use Rattle.nef_sphere.specs.Maps.{At}
 use Rattle.nef_solid.specs.Complexes.{Complex}
-use Rattle.nef_complex.specs.Meets.{HoldsBoth}
+use Rattle.nef_complex.specs.Planes.{HoldsBoth}
 use Rattle.nef_cand.specs.declared.line.Line.{Line}
 use Rattle.nef_cand.specs.Candidates.{IsListed, IsCutBy}
 

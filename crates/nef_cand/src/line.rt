@@ -5,9 +5,10 @@ ghost use Rattle.std.specs.Option.{MatchOption};
 ghost use Rattle.nef_space.specs.Place.{Place, form_at};
 ghost use Rattle.nef_geo.specs.Shapes.{place_of, form_of};
 ghost use Rattle.nef_geo.specs.Steps.{HasOppositeSigns};
-ghost use Rattle.nef_complex.specs.Meets.{HoldsBoth};
+ghost use Rattle.nef_complex.specs.Planes.{HoldsBoth};
 ghost use Rattle.nef_cand.specs.Points.{HasNone, IsOtherHolder, AreHeldByTwo, IsLineThrough, IsCrossing, IsOnlyCrossing};
 
+use nef_complex::holds_both;
 use nef_geo::{Plane, Point, Sign, meet, side};
 
 /// Two planes that meet in a line.
@@ -15,12 +16,6 @@ use nef_geo::{Plane, Point, Sign, meet, side};
 pub(crate) struct Line {
     pub first: Plane,
     pub second: Plane,
-}
-
-fn holds_both(h: &Plane, p: &Point, q: &Point) -> bool
-    ensures holds { IsTrue result ↔ HoldsBoth (form_of h.now) (place_of p.now) (place_of q.now) }
-{
-    side(h, p) == Sign::Zero && side(h, q) == Sign::Zero
 }
 
 // The first of the planes that holds both points.

@@ -1,34 +1,27 @@
--- Vertices and edges that a ray within a plane meets: some carrier that holds them crosses the ray.
-use Rattle.std.proofs.Common.{◌≡◌, ℕ, pos, ◌<ℤ◌, arith, sym, ap, ◌∙◌, subst, [], ◌∷◌}
+-- The ends of an edge, and the planes that hold both.
+use Rattle.std.proofs.Common.{◌≡◌, ℕ, ◌<◌, length, pos, ◌<ℤ◌, arith, ap, ◌∙◌, subst, [], ◌∷◌}
 use Rattle.std.proofs.lemmas.Int.{ints}
-use Rattle.nef_exact.specs.Signs.{Lies}
 use Rattle.nef_exact.proofs.Ring.{at, num, ◌⊖◌, ◌⊗◌}
 use Rattle.nef_exact.proofs.Combination.{given, none, follows_times}
-use Rattle.nef_exact.proofs.Order.{nought-is}
-use Rattle.nef_space.specs.Local.{Flat}
-use Rattle.nef_space.specs.Place.{Place, Form, form_at, slope, normal_of, toward, IsBetween}
+use Rattle.nef_space.specs.Place.{Place, Form, form_at, slope, toward, SamePlace, IsBetween}
 use Rattle.nef_space.specs.Sets.{Set}
-use Rattle.nef_space.specs.Vectors.{Vector, cross, IsZero, IsDirection}
-use Rattle.nef_geo.specs.Shapes.{form_of}
-use Rattle.nef_forms.proofs.Directions.{dot-comm}
+use Rattle.nef_space.specs.Vectors.{IsDirection}
+use Rattle.nef_geo.specs.Shapes.{place_of}
+use Rattle.nef_forms.proofs.Directions.{direction-left}
 use Rattle.nef_forms.proofs.Near.{slope-toward}
-use Rattle.nef_near.specs.Cells.{carriers}
-use Rattle.nef_near.specs.Laws.{EdgeSupport}
-use Rattle.nef_near.proofs.Edges.{start, start-between, start-toward}
-use Rattle.nef_near.proofs.FlatDecided.{parallel-both, triple-in_plane, cross-turned}
-use Rattle.nef_near.proofs.Meets.{vertex-meets}
-use Rattle.nef_near.proofs.Supports.{edge-support}
+use Rattle.nef_near.proofs.Edges.{start, start-toward}
 use Rattle.nef_sphere.specs.Maps.{At}
-use Rattle.nef_smap.proofs.Lists.{at-map}
-use Rattle.nef_solid.specs.Complexes.{Vertex, Edge, HasEnds}
-use Rattle.nef_solid.specs.Shows.{Shows, SamePlane}
-use Rattle.nef_solid.proofs.Edges.{edge-points, edge-way}
-use Rattle.nef_solid.proofs.Planes.{plane-turned, plane-point, plane-slope}
-use Rattle.nef_solid.proofs.Ways.{between-ends}
+use Rattle.nef_sphere.proofs.Lists.{at-one}
+use Rattle.nef_smap.proofs.Lists.{map-at, at-map, at-within}
+use Rattle.nef_solid.specs.Complexes.{HasEnds}
+use Rattle.nef_solid.specs.Complexes.{Vertex as PlainVertex, Edge as PlainEdge}
+use Rattle.nef_solid.specs.Shows.{Shows}
+use Rattle.nef_solid.specs.Skeleton.{IsVertexPoint, IsEdgePoint}
+use Rattle.nef_complex.specs.declared.complex.Vertex.{Vertex}
+use Rattle.nef_complex.specs.declared.complex.Edge.{Edge}
 use Rattle.nef_complex.specs.declared.complex.Complex.{Complex}
-use Rattle.nef_complex.specs.Complexes.{complex_of}
-use Rattle.nef_complex.specs.Meets.{HoldsBoth, AllHold}
-use Rattle.nef_complex.proofs.Parted.{along-cross}
+use Rattle.nef_complex.specs.Complexes.{vertex_of, edge_of, complex_of}
+use Rattle.nef_complex.specs.Planes.{HoldsBoth}
 
 -- a plane through a point between two others, which holds the direction from the one to the other, holds both
 pub through-both : (h : Form) (p q : Place) → form_at h (start 1 p q) ≡ pos 0 → slope h (toward p q) ≡ pos 0 → HoldsBoth h p q
@@ -47,48 +40,46 @@ through-both h p q e f = (first, second)
         (given (num (pos 0) ⊖ num (pos 1)) (at 2) (at 3 ⊗ at 1 ⊖ at 4 ⊗ at 0) (slope-toward h p q)
         (given (at 4) (at 0) (num (pos 0)) first (given (num (pos 1)) (at 2) (num (pos 0)) f none))) (weight p) tt
 
-module _ (s : Set) (c : Complex) (S : Shows s (complex_of c)) (d : Vector) where
-  -- where all planes that hold two points are along d, so is each carrier of the set that holds them
-  held : (a b : Place) → AllHold c.carriers d a b → (f : Form) → Lies (carriers s) f → HoldsBoth f a b → slope f d ≡ pos 0
-  held a b H f l (x, y) =
-      let r = S.carriers.all f l in
-      let g = at-map form_of c.carriers r.0 r.1 r.2 in
-      let same : SamePlane (form_of g.0) f = subst (λ (k : Form). SamePlane k f) (sym g.2) r.3 in
-      let back = plane-turned (form_of g.0) f same in
-      plane-slope (form_of g.0) f d same (H r.0 g.0 g.1 (plane-point f (form_of g.0) a back x, plane-point f (form_of g.0) b back y))
+-- ---- the ends of an edge exist
+module _ (s : Set) (c : Complex) (S : Shows s (complex_of c)) (k : ℕ) (e : Edge) (a : At c.edges k e) where
+  pub low-within : e.low < length c.vertices
+  low-within = let E = S.edges.edges k (edge_of e) (map-at edge_of c.edges k e a) in let v = at-map vertex_of c.vertices e.low E.low_vertex E.is_low in at-within c.vertices e.low v.0 v.1
 
-  -- the planes that hold a vertex aren't all along one direction
-  pub vertex-crossed : IsDirection d → (k : ℕ) (v : Vertex) → At (complex_of c).vertices k v → AllHold c.carriers d v.point v.point → ⊥
-  vertex-crossed some k v a H =
-      let m = vertex-meets s v.point (S.vertices k v a) in
-      let z = (λ (f : Form) (l : Lies (carriers s) f) (e : form_at f v.point ≡ pos 0). dot-comm d (normal_of f) ∙ held v.point v.point H f l (e, e)) in
-      m.independent (triple-in_plane d (normal_of m.first) (normal_of m.second) (normal_of m.third) some
-      (z m.first m.first_in (nought-is (form_at m.first v.point) m.first_at))
-      (z m.second m.second_in (nought-is (form_at m.second v.point) m.second_at))
-      (z m.third m.third_in (nought-is (form_at m.third v.point) m.third_at)))
+  pub high-within : e.high < length c.vertices
+  high-within = let E = S.edges.edges k (edge_of e) (map-at edge_of c.edges k e a) in let v = at-map vertex_of c.vertices e.high E.high_vertex E.is_high in at-within c.vertices e.high v.0 v.1
 
-  module _ (k : ℕ) (e : Edge) (v w : Vertex) (q : Place) (a : At (complex_of c).edges k e) (H : HasEnds (complex_of c) e v w) (b : IsBetween v.point q w.point) where
-    abbrev t : Vector
-    t = toward v.point w.point
+-- ---- the point of a vertex, and the ends of an edge
+pub vertex-same : (c : Complex) (k : ℕ) (v : Vertex) → At c.vertices k v → (y : Place) → IsVertexPoint (complex_of c) k y → SamePlace (place_of v.point) y
+vertex-same c k v a y (x, l, o) = subst (λ (r : PlainVertex). SamePlace r.point y) (at-one (complex_of c).vertices k x (vertex_of v) l (map-at vertex_of c.vertices k v a)) o
 
-    abbrev y : Place
-    y = start 1 v.point w.point
+module _ (s : Set) (c : Complex) (S : Shows s (complex_of c)) (k : ℕ) (e : Edge) (u v : Vertex) (l : At c.edges k e) (i : At c.vertices e.low u) (j : At c.vertices e.high v) where
+  abbrev low : Place
+  low = place_of u.point
 
-    inside : IsBetween v.point y w.point
-    inside = start-between 1 v.point w.point (between-ends v.point q w.point b)
+  abbrev high : Place
+  high = place_of v.point
 
-    support : EdgeSupport s y
-    support = edge-support s y (edge-points s (complex_of c) k e v w y S a H inside).0
+  pub listed_edge : At (complex_of c).edges k (edge_of e)
+  listed_edge = map-at edge_of c.edges k e l
 
-    along : Flat s y t
-    along = ((edge-points s (complex_of c) k e v w y S a H inside).1 t).1 (edge-way s (complex_of c) k e v w S a H)
+  pub ends : HasEnds (complex_of c) (edge_of e) (vertex_of u) (vertex_of v)
+  ends = record { low = map-at vertex_of c.vertices e.low u i; high = map-at vertex_of c.vertices e.high v j }
 
-    -- where the planes that hold an edge are along d, so is the edge
-    pub edge-along : AllHold c.carriers d v.point w.point → IsZero (cross t d)
-    edge-along N =
-        let E = support in
-        let z = (E.flat_in t).0 along in
-        let f = held v.point w.point N E.first E.first_listed (through-both E.first v.point w.point (nought-is (form_at E.first y) E.first_passes) z.0) in
-        let g = held v.point w.point N E.second E.second_listed (through-both E.second v.point w.point (nought-is (form_at E.second y) E.second_passes) z.1) in
-        let x = cross (normal_of E.first) (normal_of E.second) in
-        parallel-both x t d E.independent (cross-turned t x (along-cross (normal_of E.first) (normal_of E.second) t z.0 z.1)) (cross-turned d x (along-cross (normal_of E.first) (normal_of E.second) d f g))
+  pub apart : IsDirection (toward low high)
+  apart =
+      let E = S.edges.edges k (edge_of e) listed_edge in
+      let f = at-one (complex_of c).vertices e.low E.low_vertex (vertex_of u) E.is_low ends.low in
+      let g = at-one (complex_of c).vertices e.high E.high_vertex (vertex_of v) E.is_high ends.high in
+      subst (λ (w : PlainVertex). IsDirection (toward low w.point)) g (subst (λ (w : PlainVertex). IsDirection (toward w.point E.high_vertex.point)) f
+      (direction-left (toward E.low_vertex.point E.high_vertex.point) E.low_end.way E.ahead))
+
+  -- what holds of the ends of the edge with this number
+  pub of-ends : (P : Place → Place → Type 0) (f : PlainEdge) (x z : PlainVertex) → At (complex_of c).edges k f → HasEnds (complex_of c) f x z → P x.point z.point → P low high
+  of-ends P f x z g H m =
+      let eq = at-one (complex_of c).edges k f (edge_of e) g listed_edge in
+      let first = at-one (complex_of c).vertices e.low x (vertex_of u) (subst (λ (r : PlainEdge). At (complex_of c).vertices r.low x) eq H.low) ends.low in
+      let second = at-one (complex_of c).vertices e.high z (vertex_of v) (subst (λ (r : PlainEdge). At (complex_of c).vertices r.high z) eq H.high) ends.high in
+      subst (λ (r : PlainVertex). P low r.point) second (subst (λ (r : PlainVertex). P r.point z.point) first m)
+
+  pub edge-inside : (y : Place) → IsEdgePoint (complex_of c) k y → IsBetween low y high
+  edge-inside y (f, x, z, g, H, m) = of-ends (λ r t. IsBetween r y t) f x z g H m

@@ -1,11 +1,5 @@
 pub mod Sorted
+pub mod Lines
 pub mod Parted
-pub mod Axes
-pub mod Meeting
-pub mod Nearest
 pub mod Ends
-pub mod Beside
-pub mod Found
-pub mod Sweep
 pub mod Reading
-pub mod Choosing

@@ -15,16 +15,16 @@ use Rattle.nef_near.proofs.Rays.{slope-zero}
 use Rattle.nef_near.proofs.FlatDecided.{cross-turned}
 use Rattle.nef_sphere.proofs.KindFlats.{in-span}
 use Rattle.nef_solid.proofs.FacetAngles.{cut-at}
-use Rattle.nef_complex.specs.Meets.{HoldsBoth}
+use Rattle.nef_complex.specs.Planes.{HoldsBoth}
 
 -- ---- signs of products
 times-none : (k c : ℤ) → c ≡ pos 0 → k *ℤ c ≡ pos 0
 times-none k c o = ap (λ r. k *ℤ r) o ∙ ring (k ∷ []) (at 0 ⊗ num (pos 0)) (num (pos 0)) tt
 
-times-pos : (k c : ℤ) → pos 0 <ℤ k → pos 0 <ℤ (k *ℤ c) → pos 0 <ℤ c
+pub times-pos : (k c : ℤ) → pos 0 <ℤ k → pos 0 <ℤ (k *ℤ c) → pos 0 <ℤ c
 times-pos k c x h = by_order c (pos 0) (λ l. let u = mul_neg k c x l in absurd (omega (arith, ints))) (λ o. let u = times-none k c o in absurd (omega (arith, ints))) (λ l. l)
 
-times-neg : (k c : ℤ) → pos 0 <ℤ k → (k *ℤ c) <ℤ pos 0 → c <ℤ pos 0
+pub times-neg : (k c : ℤ) → pos 0 <ℤ k → (k *ℤ c) <ℤ pos 0 → c <ℤ pos 0
 times-neg k c x h = by_order c (pos 0) (λ l. l) (λ o. let u = times-none k c o in absurd (omega (arith, ints))) (λ l. let u = mul_pos k c x l in absurd (omega (arith, ints)))
 
 pub times-nought : (k c : ℤ) → pos 0 <ℤ k → k *ℤ c ≡ pos 0 → c ≡ pos 0

@@ -20,3 +20,9 @@ pub none-more : {X : Type 0} (P : X → Type 0) (hs : List X) (i : ℕ) (g : X) 
 none-more P hs i g l e f n k h m a = ⊎_elim
     (λ o. λ p. n (subst P (at-one hs i h g (subst (λ (j : ℕ). At hs j h) o a) (read-at hs i g l e)) p)) (λ o. f k h o a)
     (eq-or-lt_of_le {n = k} {m = i} (omega (arith, m)))
+
+-- with all of the first k elements, and the next, all of the first k + 1
+pub all-more : {X : Type 0} (P : X → Type 0) (hs : List X) (i : ℕ) (g : X) → i < length hs → g ≡ get_or hs i g → ((k : ℕ) (h : X) → k < i → At hs k h → P h) → P g → (k : ℕ) (h : X) → k < i + 1 → At hs k h → P h
+all-more P hs i g l e f p k h m a = ⊎_elim
+    (λ o. subst P (sym (at-one hs i h g (subst (λ (j : ℕ). At hs j h) o a) (read-at hs i g l e))) p) (λ o. f k h o a)
+    (eq-or-lt_of_le {n = k} {m = i} (omega (arith, m)))

@@ -1,2 +1,2 @@
 pub mod Complexes
-pub mod Meets
+pub mod Planes

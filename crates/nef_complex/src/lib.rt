@@ -5,10 +5,10 @@
 #![tactic(auto)]
 
 mod complex;
-mod plane;
+mod holding;
 mod vertices;
 
 pub use complex::{Complex, Corner, Edge, PlaneMeet, Vertex};
-pub use plane::first_in_plane;
+pub use holding::holds_both;
 pub use std::alloc::AllocError as OutOfMemory;
 pub use vertices::vertex_at;

@@ -2,7 +2,6 @@
 use Rattle.std.proofs.Common.{◌≡◌, ℕ, ◌<◌, ℤ, pos, ◌-ℤ◌, ◌*ℤ◌, neg_ℤ, ◌≤ℤ◌, ◌<ℤ◌, arith, ap, ◌∙◌, inl, inr, [], ◌∷◌}
 use Rattle.std.proofs.lemmas.Int.{ints}
 use Rattle.nef_exact.proofs.Ring.{ring, at, num, neg, ◌⊕◌, ◌⊖◌, ◌⊗◌}
-use Rattle.nef_exact.proofs.Combination.{follows_times, given, none}
 use Rattle.nef_exact.proofs.Order.{by_order, mul_pos, mul_neg, mul_nonneg, cancel_eq}
 use Rattle.nef_forms.proofs.Directions.{same-factor}
 use Rattle.nef_forms.proofs.Sums.{some-pos}
@@ -10,6 +9,7 @@ use Rattle.nef_space.specs.Place.{Place, toward, IsAhead, IsBetween, IsPlaceBelo
 use Rattle.nef_space.specs.Vectors.{Vector, dot, cross, opposite, IsZero, IsNormal, SameDirection, IsOpposite}
 use Rattle.nef_sphere.proofs.Compare.{SameDirection-turned, SameDirection-trans, normals-not_opposite}
 use Rattle.nef_sphere.proofs.Vectors.{normal-direction, nought-if}
+use Rattle.nef_complex.proofs.Lines.{on_line}
 
 -- q - p for a later point q begins with a positive number
 pub toward-normal : (p q : Place) → IsPlaceBelow p q → IsNormal (toward p q)
@@ -17,20 +17,6 @@ toward-normal p q (inl h) = record { first = omega (arith, ints); second = λ e.
 toward-normal p q (inr (e, inl h)) = record { first = omega (arith, ints); second = λ z. omega (arith, ints); third = λ z w. absurd (omega (arith, ints)) }
 toward-normal p q (inr (e, inr (f, inl h))) = record { first = omega (arith, ints); second = λ z. omega (arith, ints); third = λ z w. omega (arith, ints) }
 toward-normal p q (inr (e, inr (f, inr h))) = absurd h.1
-
--- with u and v on the line through p along d, so is the way from u to v
-pub on_line : (p u v : Place) (d : Vector) → IsZero (cross (toward p u) d) → IsZero (cross (toward p v) d) → IsZero (cross (toward u v) d)
-on_line p u v d g h = (each p.y p.z u.y u.z v.y v.z d.y d.z g.0 h.0, each p.z p.x u.z u.x v.z v.x d.z d.x g.1 h.1, each p.x p.y u.x u.y v.x v.y d.x d.y g.2 h.2)
-  where
-    each : (a b u' u'' v' v'' e f : ℤ) → (u' *ℤ pos p.w -ℤ a *ℤ pos u.w) *ℤ f -ℤ (u'' *ℤ pos p.w -ℤ b *ℤ pos u.w) *ℤ e ≡ pos 0 → (v' *ℤ pos p.w -ℤ a *ℤ pos v.w) *ℤ f -ℤ (v'' *ℤ pos p.w -ℤ b *ℤ pos v.w) *ℤ e ≡ pos 0
-        → (v' *ℤ pos u.w -ℤ u' *ℤ pos v.w) *ℤ f -ℤ (v'' *ℤ pos u.w -ℤ u'' *ℤ pos v.w) *ℤ e ≡ pos 0
-    each a b u' u'' v' v'' e f g h =
-        let n = pos p.w in let k = pos u.w in let l = pos v.w in
-        follows_times (a ∷ b ∷ u' ∷ u'' ∷ v' ∷ v'' ∷ e ∷ f ∷ pos p.w ∷ pos u.w ∷ pos v.w ∷ []) (at 8)
-        ((at 4 ⊗ at 9 ⊖ at 2 ⊗ at 10) ⊗ at 7 ⊖ (at 5 ⊗ at 9 ⊖ at 3 ⊗ at 10) ⊗ at 6) (num (pos 0))
-        (given (at 9) ((at 4 ⊗ at 8 ⊖ at 0 ⊗ at 10) ⊗ at 7 ⊖ (at 5 ⊗ at 8 ⊖ at 1 ⊗ at 10) ⊗ at 6) (num (pos 0)) h
-        (given (num (pos 0) ⊖ at 10) ((at 2 ⊗ at 8 ⊖ at 0 ⊗ at 9) ⊗ at 7 ⊖ (at 3 ⊗ at 8 ⊖ at 1 ⊗ at 9) ⊗ at 6) (num (pos 0)) g none))
-        (let w = p.proper in omega (arith, ints)) tt
 
 -- ---- normal forms of directions
 -- k x = l y

@@ -1,7 +1,7 @@
 use Rattle.std.proofs.Common.{◌≡◌, arith, rules}
 use Rattle.nef_geo.specs.Shapes.{place_of, form_of}
 use Rattle.nef_smap.proofs.Lists.{at-within}
-use Rattle.nef_complex.specs.Meets.{HoldsBoth}
+use Rattle.nef_complex.specs.Planes.{HoldsBoth}
 use Rattle.nef_complex.proofs.Reading.{none-more}
 use Rattle.nef_cand.proofs.line.other_holder.Goals as goal
 

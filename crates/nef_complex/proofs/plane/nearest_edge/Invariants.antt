@@ -1,8 +1,0 @@
-use Rattle.std.specs.Prelude.{ℕ, ◌<◌}
-use Rattle.nef_geo.specs.Shapes.{form_of, hit_place, vector_of}
-use Rattle.nef_complex.specs.Complexes.{complex_of}
-use Rattle.nef_complex.specs.Meets.{IsNearest, AtEdgeNumber}
-use Rattle.nef_complex.proofs.plane.nearest_edge.Given as goal
-
-abbrev pub invariant-loop-number : goal.invariant-loop-number
-invariant-loop-number l = IsNearest (hit_place l.p) (vector_of l.d) (λ m q. (k : ℕ) × (k < l.number) × AtEdgeNumber (complex_of l.c) (form_of l.h) (vector_of l.d) k m q) l.best

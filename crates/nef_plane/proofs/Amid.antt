@@ -1,0 +1,190 @@
+-- A point is strictly between the ends of an edge, or is a vertex, exactly where all carriers see it so.
+use Rattle.std.proofs.Common.{◌≡◌, ℕ, ◌<◌, ℤ, pos, ◌+ℤ◌, ◌-ℤ◌, ◌*ℤ◌, ◌<ℤ◌, arith, ap, sym, ◌∙◌, ⊎_elim, subst, [], ◌∷◌}
+use Rattle.std.proofs.lemmas.Int.{ints}
+use Rattle.nef_exact.proofs.Ring.{ring, at, num, ◌⊕◌, ◌⊖◌, ◌⊗◌}
+use Rattle.nef_exact.proofs.Order.{mul_pos, mul_neg, by_order}
+use Rattle.nef_space.specs.Place.{Place, Form, form_at, slope, normal_of, toward, SamePlace, IsBetween}
+use Rattle.nef_space.specs.Sets.{Set}
+use Rattle.nef_space.specs.Vectors.{opposite, dot, cross, IsZero, IsDirection, SameDirection}
+use Rattle.nef_geo.specs.Shapes.{form_of, place_of}
+use Rattle.nef_geo.specs.Signs.{sign_of}
+use Rattle.nef_geo.specs.declared.sign.Sign.TheVariants.{Minus, Zero, Plus}
+use Rattle.nef_geo.proofs.Signs.{sign_of-positive, sign_of-negative}
+use Rattle.nef_arc.proofs.SignNumbers.{zero_sign}
+use Rattle.nef_forms.specs.Homogeneous.{of_place}
+use Rattle.nef_forms.proofs.Between.{toward-place}
+use Rattle.nef_forms.proofs.Directions.{zero-decided}
+use Rattle.nef_forms.proofs.Far.{nought-or}
+use Rattle.nef_forms.proofs.Near.{slope-toward}
+use Rattle.nef_forms.proofs.Sums.{form-sum}
+use Rattle.nef_near.proofs.Between.{mixed-of, between-turned}
+use Rattle.nef_near.proofs.FlatDecided.{cross-turned}
+use Rattle.nef_near.proofs.Flats.{vector-same}
+use Rattle.nef_sphere.specs.Maps.{At}
+use Rattle.nef_sphere.proofs.Compare.{SameDirection-turned, SameDirection-trans}
+use Rattle.nef_smap.proofs.Lists.{map-at}
+use Rattle.nef_solid.specs.Complexes.{HasEnds}
+use Rattle.nef_solid.specs.Complexes.{Vertex as PlainVertex}
+use Rattle.nef_solid.specs.Shows.{Shows}
+use Rattle.nef_solid.specs.Skeleton.{IsVertexPoint, IsEdgePoint}
+use Rattle.nef_solid.proofs.FacetAngles.{same-by, same-by-minus, cross-back, aligned}
+use Rattle.nef_solid.proofs.FacetEdges.{ahead-back}
+use Rattle.nef_solid.proofs.Planes.{plane-way}
+use Rattle.nef_complex.specs.declared.complex.Vertex.{Vertex}
+use Rattle.nef_complex.specs.declared.complex.Edge.{Edge}
+use Rattle.nef_complex.specs.declared.complex.Complex.{Complex}
+use Rattle.nef_complex.specs.Complexes.{vertex_of, edge_of, complex_of}
+use Rattle.nef_complex.proofs.Ends.{vertex-same, listed_edge, ends, apart, edge-inside}
+use Rattle.nef_complex.proofs.Parted.{times-nought, times-pos, times-neg}
+use Rattle.nef_plane.specs.Amid.{SidesWith, IsAmid, AreAmid}
+use Rattle.nef_plane.specs.Meets.{AllHold}
+use Rattle.nef_plane.proofs.Crossed.{vertex-crossed, edge-along}
+use Rattle.nef_plane.proofs.Meeting.{level-same}
+
+-- ---- signs
+-- a positive multiple has the sign
+multiple-sign : (k l y b : ℤ) → pos 0 <ℤ k → pos 0 <ℤ l → k *ℤ y ≡ l *ℤ b → sign_of y ≡ sign_of b
+multiple-sign k l y b i j e = by_order b (pos 0)
+    (λ m. let u = mul_neg l b j m in sign_of-negative y (times-neg k y i (omega (arith, ints))) ∙ sym (sign_of-negative b m))
+    (λ o. ap sign_of (times-nought k y i (e ∙ ap (λ r. l *ℤ r) o ∙ ring (l ∷ []) (at 0 ⊗ num (pos 0)) (num (pos 0)) tt) ∙ sym o))
+    (λ m. let u = mul_pos l b j m in sign_of-positive y (times-pos k y i (omega (arith, ints))) ∙ sym (sign_of-positive b m))
+
+negative-if : (y b : ℤ) → sign_of y ≡ sign_of b → b <ℤ pos 0 → y <ℤ pos 0
+negative-if y b e m = by_order y (pos 0) (λ l. l)
+    (λ o. absurd (apart_signs (sym (ap sign_of o) ∙ e ∙ sign_of-negative b m)))
+    (λ l. absurd (opposite_signs (sym (sign_of-positive y l) ∙ e ∙ sign_of-negative b m)))
+  where
+    apart_signs : Zero ≡ Minus → ⊥
+    apart_signs e = cc
+
+    opposite_signs : Plus ≡ Minus → ⊥
+    opposite_signs e = cc
+
+positive-if : (y b : ℤ) → sign_of y ≡ sign_of b → pos 0 <ℤ b → pos 0 <ℤ y
+positive-if y b e m = by_order y (pos 0)
+    (λ l. absurd (opposite_signs (sym (sign_of-negative y l) ∙ e ∙ sign_of-positive b m)))
+    (λ o. absurd (apart_signs (sym (ap sign_of o) ∙ e ∙ sign_of-positive b m))) (λ l. l)
+  where
+    apart_signs : Zero ≡ Plus → ⊥
+    apart_signs e = cc
+
+    opposite_signs : Minus ≡ Plus → ⊥
+    opposite_signs e = cc
+
+below-not : (z : ℤ) → z <ℤ pos 0 → pos 0 <ℤ z → ⊥
+below-not z m n = omega (arith, ints)
+
+nought-not : (z : ℤ) → z ≡ pos 0 → pos 0 <ℤ z → ⊥
+nought-not z m n = omega (arith, ints)
+
+weight : (r : Place) → pos 0 <ℤ pos r.w
+weight r = let m = r.proper in omega (arith, ints)
+
+-- ---- one plane
+-- what lies strictly between two points is on the side of the second, where the plane holds the first
+between-sides : (h : Form) (a b y : Place) → IsBetween a y b → SidesWith h a b y
+between-sides h a b y m e =
+    let M = mixed-of a y b m in
+    multiple-sign (pos M.k) (pos M.j) (form_at h y) (form_at h b) (counted M.k M.some_k) (counted M.j M.some_j)
+    (form-sum h M.k (of_place y) M.i (of_place a) M.j (of_place b) M.sum ∙ ap (λ r. pos M.i *ℤ r +ℤ pos M.j *ℤ form_at h b) e
+    ∙ ring (pos M.i ∷ pos M.j ∷ form_at h b ∷ []) (at 0 ⊗ num (pos 0) ⊕ at 1 ⊗ at 2) (at 1 ⊗ at 2) tt)
+  where
+    counted : (k : ℕ) → 0 < k → pos 0 <ℤ pos k
+    counted k l = omega (arith, ints)
+
+between-amid : (h : Form) (a b y : Place) → IsBetween a y b → IsAmid h a b y
+between-amid h a b y m = (between-sides h a b y m, between-sides h b a y (between-turned a b y m))
+
+same-amid : (h : Form) (a y : Place) → SamePlace a y → IsAmid h a a y
+same-amid h a y s = (one, one)
+  where
+    one : SidesWith h a a y
+    one e = ap sign_of (level-same h a y s e ∙ sym e)
+
+-- a point of the line through a and b, on b's side of a plane that holds a alone, lies ahead of a toward b
+side-ahead : (h : Form) (a b y : Place) → form_at h a ≡ pos 0 → sign_of (form_at h y) ≡ sign_of (form_at h b) → (slope h (toward a b) ≡ pos 0 → ⊥) → IsZero (cross (toward a y) (toward a b))
+    → SameDirection (toward a y) (toward a b)
+side-ahead h a b y e s n z = by_order (form_at h b) (pos 0)
+    (λ m. same-by-minus (normal_of h) (toward a y) (toward a b) z (below y (negative-if (form_at h y) (form_at h b) s m)) (below b m))
+    (λ o. absurd (n (along b ∙ ap (λ r. pos a.w *ℤ r) o ∙ ring (pos a.w ∷ []) (at 0 ⊗ num (pos 0)) (num (pos 0)) tt)))
+    (λ m. same-by (normal_of h) (toward a y) (toward a b) z (above y (positive-if (form_at h y) (form_at h b) s m)) (above b m))
+  where
+    along : (q : Place) → slope h (toward a q) ≡ pos a.w *ℤ form_at h q
+    along q = slope-toward h a q ∙ ap (λ r. pos a.w *ℤ form_at h q -ℤ pos q.w *ℤ r) e ∙ ring (pos a.w ∷ pos q.w ∷ form_at h q ∷ []) (at 0 ⊗ at 2 ⊖ at 1 ⊗ num (pos 0)) (at 0 ⊗ at 2) tt
+
+    below : (q : Place) → form_at h q <ℤ pos 0 → slope h (toward a q) <ℤ pos 0
+    below q m = let i = along q in let u = mul_neg (pos a.w) (form_at h q) (weight a) m in omega (arith, ints)
+
+    above : (q : Place) → pos 0 <ℤ form_at h q → pos 0 <ℤ slope h (toward a q)
+    above q m = let i = along q in let u = mul_pos (pos a.w) (form_at h q) (weight a) m in omega (arith, ints)
+
+-- ---- all carriers
+module _ (s : Set) (c : Complex) (S : Shows s (complex_of c)) where
+  -- a carrier that holds both points holds a point that they see between
+  both-held : (a b y : Place) → AreAmid c.carriers a b y → AllHold c.carriers (toward a y) a b
+  both-held a b y A i g l (e, f) = plane-way (form_of g) a y e (zero_sign (form_at (form_of g) y) ((A i g l).0 e ∙ ap sign_of f))
+
+  -- from a vertex a point of the line toward b that the carriers see between lies ahead
+  vertex-ahead : (k : ℕ) (v : PlainVertex) (b y : Place) → At (complex_of c).vertices k v → IsDirection (toward v.point b) → AreAmid c.carriers v.point b y → IsZero (cross (toward v.point y) (toward v.point b))
+      → SameDirection (toward v.point y) (toward v.point b)
+  vertex-ahead k v b y a t A z = by_order (dot (toward v.point y) (toward v.point b)) (pos 0) (λ m. absurd (never (below-not (dot (toward v.point y) (toward v.point b)) m))) (λ o. absurd (never (nought-not (dot (toward v.point y) (toward v.point b)) o))) (λ m. record { parallel = z; forward = m })
+    where
+      never : (pos 0 <ℤ dot (toward v.point y) (toward v.point b) → ⊥) → ⊥
+      never n = vertex-crossed s c S (toward v.point b) t k v a (λ i g l m. ⊎_elim (λ e. e) (λ f. absurd (n (side-ahead (form_of g) v.point b y m.0 ((A i g l).0 m.0) f z).forward)) (nought-or (slope (form_of g) (toward v.point b))))
+
+  pub vertex-amid : (k : ℕ) (v : Vertex) (y : Place) → At c.vertices k v → AreAmid c.carriers (place_of v.point) (place_of v.point) y → IsVertexPoint (complex_of c) k y
+  vertex-amid k v y a A = (
+    vertex_of v,
+    listed,
+    ⊎_elim (toward-place (place_of v.point) y)
+        (λ t. absurd (vertex-crossed s c S (toward (place_of v.point) y) t k (vertex_of v) listed (both-held (place_of v.point) (place_of v.point) y A))) (zero-decided (toward (place_of v.point) y)),
+  )
+    where
+      listed : At (complex_of c).vertices k (vertex_of v)
+      listed = map-at vertex_of c.vertices k v a
+
+  pub amid-vertex : (k : ℕ) (v : Vertex) (y : Place) → At c.vertices k v → IsVertexPoint (complex_of c) k y → AreAmid c.carriers (place_of v.point) (place_of v.point) y
+  amid-vertex k v y a x i g m = same-amid (form_of g) (place_of v.point) y (vertex-same c k v a y x)
+
+  module _ (k : ℕ) (e : Edge) (u v : Vertex) (l : At c.edges k e) (i : At c.vertices e.low u) (j : At c.vertices e.high v) (y : Place) where
+    abbrev a : Place
+    a = place_of u.point
+
+    abbrev b : Place
+    b = place_of v.point
+
+    E : HasEnds (complex_of c) (edge_of e) (vertex_of u) (vertex_of v)
+    E = ends s c S k e u v l i j
+
+    F : At (complex_of c).edges k (edge_of e)
+    F = listed_edge s c S k e u v l i j
+
+    t : IsDirection (toward a b)
+    t = apart s c S k e u v l i j
+
+    pub edge-amid : AreAmid c.carriers a b y → IsEdgePoint (complex_of c) k y
+    edge-amid A = (edge_of e, vertex_of u, vertex_of v, F, E, SameDirection-trans (toward a y) (toward a b) (toward y b) from_low (SameDirection-turned (toward y b) (toward a b) to_high))
+      where
+        line : IsZero (cross (toward a b) (toward a y))
+        line = edge-along s c S (toward a y) k (edge_of e) (vertex_of u) (vertex_of v) F E t (both-held a b y A)
+
+        from_low : SameDirection (toward a y) (toward a b)
+        from_low = vertex-ahead e.low (vertex_of u) b y E.low t A (cross-turned (toward a b) (toward a y) line)
+
+        back : IsZero (cross (toward b y) (toward b a))
+        back = cross-back (toward b y) a b (cross-turned (toward a b) (toward b y) (cross-back (toward a b) y b (aligned a b y line)))
+
+        turned : IsDirection (toward b a)
+        turned z = t (toward-turned z)
+          where
+            toward-turned : IsZero (toward b a) → IsZero (toward a b)
+            toward-turned (p, q, r) = (omega (arith, ints), omega (arith, ints), omega (arith, ints))
+
+        from_high : SameDirection (toward b y) (toward b a)
+        from_high = vertex-ahead e.high (vertex_of v) a y E.high turned (λ k g m. ((A k g m).1, (A k g m).0)) back
+
+        to_high : SameDirection (toward y b) (toward a b)
+        to_high = subst (SameDirection (toward y b)) (vector-same (opposite (toward b a)) (toward a b) (omega (arith, ints)) (omega (arith, ints)) (omega (arith, ints))) (ahead-back b y (toward b a) from_high)
+
+    pub amid-edge : IsEdgePoint (complex_of c) k y → AreAmid c.carriers a b y
+    amid-edge m n h o = between-amid (form_of h) a b y (edge-inside s c S k e u v l i j y m)

@@ -1,0 +1,62 @@
+-- The axis of a plane: what lies in the plane and keeps the sweep coordinate is parallel to it.
+use Rattle.std.proofs.Common.{◌≡◌, ℤ, pos, neg_ℤ, ◌-ℤ◌, ◌*ℤ◌, Bool, true, false, cond, ◌&&◌, ◌∙◌, subst, ⊎_elim, [], ◌∷◌}
+use Rattle.std.specs.Ordering.{int_eq}
+use Rattle.nef_exact.proofs.Ring.{ring, at, num, neg, ◌⊕◌, ◌⊖◌, ◌⊗◌}
+use Rattle.nef_space.specs.Place.{normal_of}
+use Rattle.nef_space.specs.Vectors.{Vector, vector, opposite, dot, cross, plane_axis, beside_x, beside_y, IsZero, IsDirection, SameDirection}
+use Rattle.nef_geo.specs.Shapes.{form_of}
+use Rattle.nef_geo.specs.declared.plane.Plane.{Plane}
+use Rattle.nef_geo.proofs.InPlane.{axis-in_plane, axis-direction}
+use Rattle.nef_forms.proofs.Directions.{direction-left}
+use Rattle.nef_near.proofs.FlatDecided.{cross-turned}
+use Rattle.nef_near.proofs.Flats.{vector-same}
+use Rattle.nef_sphere.proofs.KindFlats.{in-span}
+use Rattle.nef_sphere.proofs.Parallel.{parallel-trans}
+use Rattle.nef_plane.specs.Meets.{IsAlongAxis, sweep_axis}
+use Rattle.nef_complex.proofs.Parted.{along-cross}
+
+opposite-parallel : (d a : Vector) → IsZero (cross d (opposite a)) → IsZero (cross a d)
+opposite-parallel d a z = (each d.y d.z a.y a.z z.0, each d.z d.x a.z a.x z.1, each d.x d.y a.x a.y z.2)
+  where
+    each : (b c e f : ℤ) → b *ℤ neg_ℤ f -ℤ c *ℤ neg_ℤ e ≡ pos 0 → e *ℤ c -ℤ f *ℤ b ≡ pos 0
+    each b c e f z = ring (b ∷ c ∷ e ∷ f ∷ []) (at 2 ⊗ at 1 ⊖ at 3 ⊗ at 0) (at 0 ⊗ neg (at 3) ⊖ at 1 ⊗ neg (at 2)) tt ∙ z
+
+axis-cross : (n : Vector) (t : Bool) → cross n (cond t (vector (pos 0) (pos 1) (pos 0)) (vector (pos 1) (pos 0) (pos 0))) ≡ cond t (beside_y n) (beside_x n)
+axis-cross n true = vector-same (cross n (vector (pos 0) (pos 1) (pos 0))) (beside_y n)
+    (ring (n.y ∷ n.z ∷ []) (at 0 ⊗ num (pos 0) ⊖ at 1 ⊗ num (pos 1)) (neg (at 1)) tt)
+    (ring (n.x ∷ n.z ∷ []) (at 1 ⊗ num (pos 0) ⊖ at 0 ⊗ num (pos 0)) (num (pos 0)) tt)
+    (ring (n.x ∷ n.y ∷ []) (at 0 ⊗ num (pos 1) ⊖ at 1 ⊗ num (pos 0)) (at 0) tt)
+axis-cross n false = vector-same (cross n (vector (pos 1) (pos 0) (pos 0))) (beside_x n)
+    (ring (n.y ∷ n.z ∷ []) (at 0 ⊗ num (pos 0) ⊖ at 1 ⊗ num (pos 0)) (num (pos 0)) tt)
+    (ring (n.x ∷ n.z ∷ []) (at 1 ⊗ num (pos 1) ⊖ at 0 ⊗ num (pos 0)) (at 1) tt)
+    (ring (n.x ∷ n.y ∷ []) (at 0 ⊗ num (pos 0) ⊖ at 1 ⊗ num (pos 1)) (neg (at 1)) tt)
+
+module _ (h : Plane) (d : Vector) (A : IsAlongAxis (form_of h) d) where
+  abbrev n : Vector
+  n = normal_of (form_of h)
+
+  abbrev e : Vector
+  e = sweep_axis (form_of h)
+
+  abbrev a : Vector
+  a = plane_axis n
+
+  is-cross : cross n e ≡ a
+  is-cross = axis-cross n (int_eq n.z (pos 0) && int_eq n.y (pos 0))
+
+  parallel : IsZero (cross a d)
+  parallel = ⊎_elim (λ (w : SameDirection d a). cross-turned d a w.parallel) (λ (w : SameDirection d (opposite a)). opposite-parallel d a w.parallel) A
+
+  pub axis-some : IsDirection d
+  axis-some = ⊎_elim (λ (w : SameDirection d a). direction-left d a w) (λ (w : SameDirection d (opposite a)). direction-left d (opposite a) w) A
+
+  pub axis-level : dot n d ≡ pos 0
+  axis-level = in-span n a d (axis-direction h) parallel (axis-in_plane h)
+
+  pub axis-keeps : dot e d ≡ pos 0
+  axis-keeps = in-span e a d (axis-direction h) parallel (subst (λ (v : Vector). dot e v ≡ pos 0) is-cross (ring (n.x ∷ n.y ∷ n.z ∷ e.x ∷ e.y ∷ e.z ∷ [])
+      (at 3 ⊗ (at 1 ⊗ at 5 ⊖ at 2 ⊗ at 4) ⊕ at 4 ⊗ (at 2 ⊗ at 3 ⊖ at 0 ⊗ at 5) ⊕ at 5 ⊗ (at 0 ⊗ at 4 ⊖ at 1 ⊗ at 3)) (num (pos 0)) tt))
+
+  -- what lies in the plane and keeps the coordinate is parallel to the axis
+  pub axis-parallel : (t : Vector) → dot n t ≡ pos 0 → dot e t ≡ pos 0 → IsZero (cross t d)
+  axis-parallel t i j = parallel-trans t a d (axis-direction h) (subst (λ (v : Vector). IsZero (cross t v)) is-cross (along-cross n e t i j)) parallel

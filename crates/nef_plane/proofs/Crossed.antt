@@ -1,0 +1,74 @@
+-- Not all carriers that hold a vertex are along one direction, and those that hold an edge only where the edge is.
+use Rattle.std.proofs.Common.{◌≡◌, ℕ, pos, sym, ◌∙◌, subst}
+use Rattle.nef_exact.specs.Signs.{Lies}
+use Rattle.nef_exact.proofs.Order.{nought-is}
+use Rattle.nef_space.specs.Local.{Flat}
+use Rattle.nef_space.specs.Place.{Place, Form, form_at, slope, normal_of, toward, IsBetween}
+use Rattle.nef_space.specs.Sets.{Set}
+use Rattle.nef_space.specs.Vectors.{Vector, cross, IsZero, IsDirection}
+use Rattle.nef_geo.specs.Shapes.{form_of}
+use Rattle.nef_forms.proofs.Directions.{dot-comm}
+use Rattle.nef_near.specs.Cells.{carriers}
+use Rattle.nef_near.specs.Laws.{EdgeSupport}
+use Rattle.nef_near.proofs.Edges.{start, start-between}
+use Rattle.nef_near.proofs.FlatDecided.{parallel-both, triple-in_plane, cross-turned}
+use Rattle.nef_near.proofs.Meets.{vertex-meets}
+use Rattle.nef_near.proofs.Supports.{edge-support}
+use Rattle.nef_sphere.specs.Maps.{At}
+use Rattle.nef_smap.proofs.Lists.{at-map}
+use Rattle.nef_solid.specs.Complexes.{Vertex, Edge, HasEnds}
+use Rattle.nef_solid.specs.Shows.{Shows, SamePlane}
+use Rattle.nef_solid.proofs.Edges.{edge-points, edge-way}
+use Rattle.nef_solid.proofs.Planes.{plane-turned, plane-point, plane-slope}
+use Rattle.nef_complex.specs.declared.complex.Complex.{Complex}
+use Rattle.nef_complex.specs.Complexes.{complex_of}
+use Rattle.nef_complex.specs.Planes.{HoldsBoth}
+use Rattle.nef_complex.proofs.Ends.{through-both}
+use Rattle.nef_complex.proofs.Parted.{along-cross}
+use Rattle.nef_plane.specs.Meets.{AllHold}
+
+module _ (s : Set) (c : Complex) (S : Shows s (complex_of c)) (d : Vector) where
+  -- where all planes that hold two points are along d, so is each carrier of the set that holds them
+  held : (a b : Place) → AllHold c.carriers d a b → (f : Form) → Lies (carriers s) f → HoldsBoth f a b → slope f d ≡ pos 0
+  held a b H f l (x, y) =
+      let r = S.carriers.all f l in
+      let g = at-map form_of c.carriers r.0 r.1 r.2 in
+      let same : SamePlane (form_of g.0) f = subst (λ (k : Form). SamePlane k f) (sym g.2) r.3 in
+      let back = plane-turned (form_of g.0) f same in
+      plane-slope (form_of g.0) f d same (H r.0 g.0 g.1 (plane-point f (form_of g.0) a back x, plane-point f (form_of g.0) b back y))
+
+  -- the planes that hold a vertex aren't all along one direction
+  pub vertex-crossed : IsDirection d → (k : ℕ) (v : Vertex) → At (complex_of c).vertices k v → AllHold c.carriers d v.point v.point → ⊥
+  vertex-crossed some k v a H =
+      let m = vertex-meets s v.point (S.vertices k v a) in
+      let z = (λ (f : Form) (l : Lies (carriers s) f) (e : form_at f v.point ≡ pos 0). dot-comm d (normal_of f) ∙ held v.point v.point H f l (e, e)) in
+      m.independent (triple-in_plane d (normal_of m.first) (normal_of m.second) (normal_of m.third) some
+      (z m.first m.first_in (nought-is (form_at m.first v.point) m.first_at))
+      (z m.second m.second_in (nought-is (form_at m.second v.point) m.second_at))
+      (z m.third m.third_in (nought-is (form_at m.third v.point) m.third_at)))
+
+  module _ (k : ℕ) (e : Edge) (v w : Vertex) (a : At (complex_of c).edges k e) (H : HasEnds (complex_of c) e v w) (apart : IsDirection (toward v.point w.point)) where
+    abbrev t : Vector
+    t = toward v.point w.point
+
+    abbrev y : Place
+    y = start 1 v.point w.point
+
+    inside : IsBetween v.point y w.point
+    inside = start-between 1 v.point w.point apart
+
+    support : EdgeSupport s y
+    support = edge-support s y (edge-points s (complex_of c) k e v w y S a H inside).0
+
+    along : Flat s y t
+    along = ((edge-points s (complex_of c) k e v w y S a H inside).1 t).1 (edge-way s (complex_of c) k e v w S a H)
+
+    -- where the planes that hold an edge are along d, so is the edge
+    pub edge-along : AllHold c.carriers d v.point w.point → IsZero (cross t d)
+    edge-along N =
+        let E = support in
+        let z = (E.flat_in t).0 along in
+        let f = held v.point w.point N E.first E.first_listed (through-both E.first v.point w.point (nought-is (form_at E.first y) E.first_passes) z.0) in
+        let g = held v.point w.point N E.second E.second_listed (through-both E.second v.point w.point (nought-is (form_at E.second y) E.second_passes) z.1) in
+        let x = cross (normal_of E.first) (normal_of E.second) in
+        parallel-both x t d E.independent (cross-turned t x (along-cross (normal_of E.first) (normal_of E.second) t z.0 z.1)) (cross-turned d x (along-cross (normal_of E.first) (normal_of E.second) d f g))

@@ -1,0 +1,145 @@
+-- What a ray meets at a vertex, inside an edge, and first of all.
+use Rattle.std.proofs.Common.{◌≡◌, ℕ, ◌<◌, length, refl, sym, ⊎_elim, ◌⊎◌, inl, inr, subst, pos}
+use Rattle.nef_space.specs.Place.{Place, Form, form_at, slope, normal_of, toward, SamePlace, IsAhead, IsBetween}
+use Rattle.nef_space.specs.Sets.{Set}
+use Rattle.nef_space.specs.Vectors.{Vector, cross, IsZero, IsDirection}
+use Rattle.nef_geo.specs.Shapes.{place_of}
+use Rattle.nef_forms.specs.Homogeneous.{of_place}
+use Rattle.nef_forms.proofs.Between.{place-toward, place-factor, factor-place}
+use Rattle.nef_forms.proofs.Directions.{direction-right}
+use Rattle.nef_forms.proofs.Sums.{same-trans}
+use Rattle.nef_near.proofs.Between.{between-inner}
+use Rattle.nef_near.proofs.Rays.{same-place_sym}
+use Rattle.nef_sphere.specs.Maps.{At}
+use Rattle.nef_sphere.proofs.KindFlats.{in-span}
+use Rattle.nef_sphere.proofs.Lists.{at-one}
+use Rattle.nef_smap.proofs.Lists.{map-at, at-map, at-within}
+use Rattle.nef_solid.specs.Complexes.{HasEnds}
+use Rattle.nef_solid.specs.Complexes.{Vertex as PlainVertex, Edge as PlainEdge}
+use Rattle.nef_solid.specs.Shows.{Shows}
+use Rattle.nef_solid.specs.Skeleton.{PlaneMeet as PlainMeet, meets_vertex, meets_edge, Meets, IsFirstInPlane}
+use Rattle.nef_solid.proofs.Planes.{plane-way}
+use Rattle.nef_solid.proofs.Ways.{same-itself}
+use Rattle.nef_complex.specs.declared.complex.Vertex.{Vertex}
+use Rattle.nef_complex.specs.declared.complex.Edge.{Edge}
+use Rattle.nef_complex.specs.declared.complex.Complex.{Complex}
+use Rattle.nef_complex.specs.Complexes.{vertex_of, edge_of, complex_of}
+use Rattle.nef_complex.specs.Planes.{HoldsBoth}
+use Rattle.nef_complex.proofs.Ends.{vertex-same, listed_edge, ends, apart, of-ends}
+use Rattle.nef_complex.proofs.Lines.{one-crossing}
+use Rattle.nef_complex.proofs.Parted.{held-between}
+use Rattle.nef_plane.specs.Meets.{Encounter, FromVertex, HasNoSvertex, IsOffEdges, AllHold, AtVertexNumber, AtEdgeNumber, IsReachedMet, IsNearestMet}
+use Rattle.nef_plane.proofs.Beside.{edge-or_end}
+use Rattle.nef_plane.proofs.Crossed.{vertex-crossed, edge-along}
+use Rattle.nef_plane.proofs.Nearest.{between-ahead}
+
+-- a point strictly between isn't the end
+pub not-end : (p q r : Place) → IsBetween p q r → SamePlace q r → ⊥
+not-end p q r b s = direction-right (toward p q) (toward q r) b (place-toward q r s)
+
+pub both-same : (a b q : Place) → SamePlace a q → SamePlace b q → SamePlace a b
+both-same a b q i j = factor-place a b (same-trans (of_place a) (of_place q) (of_place b) (place-factor a q i) (place-factor q b (same-place_sym b q j)))
+
+pub from-vertex : (c : Complex) (k : ℕ) (v : Vertex) → At c.vertices k v → (P : Place → Type 0) → P (place_of v.point) → FromVertex (complex_of c) k P
+from-vertex c k v a P h x l = subst (λ (r : PlainVertex). P r.point) (at-one (complex_of c).vertices k (vertex_of v) x (map-at vertex_of c.vertices k v a) l) h
+
+-- ---- a vertex
+module _ (s : Set) (c : Complex) (S : Shows s (complex_of c)) (p : Place) (d : Vector) (some : IsDirection d) (k : ℕ) (v : Vertex) (a : At c.vertices k v) where
+  abbrev y : Place
+  y = place_of v.point
+
+  listed : At (complex_of c).vertices k (vertex_of v)
+  listed = map-at vertex_of c.vertices k v a
+
+  -- the ray doesn't meet it, where all planes that hold it would be along the ray
+  pub vertex-none : ((q : Place) → IsAhead p d q → SamePlace y q → AllHold c.carriers d y y) → (m : PlainMeet) (q : Place) → IsAhead p d q → AtVertexNumber (complex_of c) k m q → ⊥
+  vertex-none N m q w x = vertex-crossed s c S d some k (vertex_of v) listed (N q w (vertex-same c k v a q x.1))
+
+  pub vertex-some : (x : Encounter) → x.meet ≡ meets_vertex k → SamePlace y x.at.place → IsAhead p d x.at.place → IsReachedMet p d x → IsNearestMet p d (AtVertexNumber (complex_of c) k) x
+  vertex-some x e same w r = record {
+    reached = r;
+    ahead = w;
+    met = (e, (vertex_of v, listed, same));
+    first = λ n q b m. not-end p q x.at.place b (both-same q x.at.place y (same-place_sym y q (vertex-same c k v a q m.1)) (same-place_sym y x.at.place same));
+  }
+
+-- ---- an edge
+module _ (s : Set) (c : Complex) (S : Shows s (complex_of c)) (h : Form) (p : Place) (d : Vector) (some : IsDirection d) (k : ℕ) (e : Edge) (u v : Vertex) (l : At c.edges k e) (i : At c.vertices e.low u) (j : At c.vertices e.high v) where
+  abbrev a : Place
+  a = place_of u.point
+
+  abbrev b : Place
+  b = place_of v.point
+
+  E : HasEnds (complex_of c) (edge_of e) (vertex_of u) (vertex_of v)
+  E = ends s c S k e u v l i j
+
+  F : At (complex_of c).edges k (edge_of e)
+  F = listed_edge s c S k e u v l i j
+
+  -- what is inside the edge is so for its ends
+  inside : (m : PlainMeet) (q : Place) → AtEdgeNumber (complex_of c) h d k m q → IsBetween a q b × HoldsBoth h a b × (IsZero (cross (toward a b) d) → ⊥)
+  inside m q (o, f, x, z, g, H, w, n, t) = of-ends s c S k e u v l i j (λ r t. IsBetween r q t × HoldsBoth h r t × (IsZero (cross (toward r t) d) → ⊥)) f x z g H (w, n, t)
+
+  -- the ray doesn't meet it, where all planes that hold it would be along the ray
+  pub edge-none : ((q : Place) → IsAhead p d q → IsBetween a q b → HoldsBoth h a b → AllHold c.carriers d a b) → (m : PlainMeet) (q : Place) → IsAhead p d q → AtEdgeNumber (complex_of c) h d k m q → ⊥
+  edge-none N m q w x =
+      let r = inside m q x in
+      r.2 (edge-along s c S d k (edge_of e) (vertex_of u) (vertex_of v) F E (apart s c S k e u v l i j) (N q w r.0 r.1))
+
+  module _ (x : Encounter) (g : Form) (G : HoldsBoth g a b) (passes : slope g d ≡ pos 0 → ⊥) (m : IsBetween a x.at.place b) (w : IsAhead p d x.at.place) where
+    not-along : IsZero (cross (toward a b) d) → ⊥
+    not-along z = passes (in-span (normal_of g) (toward a b) d (apart s c S k e u v l i j) z (plane-way g a b G.0 G.1))
+
+    pub edge-some : x.meet ≡ meets_edge k → HoldsBoth h a b → IsReachedMet p d x → IsNearestMet p d (AtEdgeNumber (complex_of c) h d k) x
+    edge-some o H r = record {
+      reached = r;
+      ahead = w;
+      met = (o, edge_of e, vertex_of u, vertex_of v, F, E, m, H, not-along);
+      first = λ n q t f.
+          let z = inside n q f in
+          not-end p q x.at.place t (one-crossing g d p q x.at.place (between-ahead p q x.at.place d t w).parallel w.parallel (held-between g a b q z.0 G, held-between g a b x.at.place m G) passes);
+    }
+
+-- ---- all
+abbrev pub Any : Complex → Form → Vector → PlainMeet → Place → Type 0
+Any c h d m q = ((k : ℕ) × AtVertexNumber (complex_of c) k m q) ⊎ ((k : ℕ) × AtEdgeNumber (complex_of c) h d k m q)
+
+module _ (s : Set) (c : Complex) (S : Shows s (complex_of c)) (h : Form) (p : Place) (d : Vector) (some : IsDirection d) (off : IsOffEdges (complex_of c) h p) (no_svertex : HasNoSvertex (complex_of c) p d) where
+  abbrev Sooner : Place → Type 0
+  Sooner q = (j : ℕ) × (x : PlainVertex) × At (complex_of c).vertices j x × IsBetween p x.point q
+
+  -- what is met is a vertex or an edge that isn't along the ray, or lies past a vertex
+  met-as : (m : PlainMeet) (q : Place) → IsAhead p d q → Meets (complex_of c) h m q → Any c h d m q ⊎ Sooner q
+  met-as (meets_vertex k) q w x = inl (inl (k, (refl, x)))
+  met-as (meets_edge k) q w ((e, v, x, a, H, b), (f, t, z, l, K, i, j)) =
+      let eq = at-one (complex_of c).edges k f e l a in
+      let first = at-one (complex_of c).vertices e.low t v (subst (λ (r : PlainEdge). At (complex_of c).vertices r.low t) eq K.low) H.low in
+      let second = at-one (complex_of c).vertices e.high z x (subst (λ (r : PlainEdge). At (complex_of c).vertices r.high z) eq K.high) H.high in
+      let n : form_at h v.point ≡ pos 0 = subst (λ (r : PlainVertex). form_at h r.point ≡ pos 0) first i in
+      let o : form_at h x.point ≡ pos 0 = subst (λ (r : PlainVertex). form_at h r.point ≡ pos 0) second j in
+      ⊎_elim (λ r. inl (inr (k, r))) (λ r. inr r) (edge-or_end (complex_of c) h p d some no_svertex s S off k e v x q a H b (n, o) w)
+
+  pub first-none : ((m : PlainMeet) (q : Place) → IsAhead p d q → Any c h d m q → ⊥) → (m : PlainMeet) (q : Place) → IsAhead p d q → Meets (complex_of c) h m q → ⊥
+  first-none N m q w x = ⊎_elim (N m q w)
+      (λ ((j, y, l, b) : Sooner q). N (meets_vertex j) y.point (between-ahead p y.point q d b w) (inl (j, (refl, (y, l, same-itself y.point))))) (met-as m q w x)
+
+  pub first-some : (r : Encounter) → IsNearestMet p d (Any c h d) r → IsFirstInPlane (complex_of c) h p d r.meet
+  first-some r N = record {
+    place = r.at.place;
+    ahead = N.ahead;
+    meets = ⊎_elim
+        (λ ((k, (e, x)) : (k : ℕ) × AtVertexNumber (complex_of c) k r.meet r.at.place). subst (λ (m : PlainMeet). Meets (complex_of c) h m r.at.place) (sym e) x)
+        (λ ((k, (o, e, v, w, a, H, b, i, n)) : (k : ℕ) × AtEdgeNumber (complex_of c) h d k r.meet r.at.place).
+        subst (λ (m : PlainMeet). Meets (complex_of c) h m r.at.place) (sym o) ((e, v, w, a, H, b), (e, v, w, a, H, i.0, i.1))) N.met;
+    first = λ q n b x. ⊎_elim (N.first n q b)
+        (λ ((j, y, l, t) : Sooner q). N.first (meets_vertex j) y.point (between-inner p q r.at.place y.point b t) (inl (j, (refl, (y, l, same-itself y.point)))))
+        (met-as n q (between-ahead p q r.at.place d b N.ahead) x);
+  }
+
+-- ---- numbers of what is met
+pub vertex-within : (c : Complex) (k : ℕ) (m : PlainMeet) (q : Place) → AtVertexNumber (complex_of c) k m q → k < length c.vertices
+vertex-within c k m q (e, (x, l, o)) = let v = at-map vertex_of c.vertices k x l in at-within c.vertices k v.0 v.1
+
+pub edge-within : (c : Complex) (h : Form) (d : Vector) (k : ℕ) (m : PlainMeet) (q : Place) → AtEdgeNumber (complex_of c) h d k m q → k < length c.edges
+edge-within c h d k m q (o, e, v, w, a, H, b, i, n) = let f = at-map edge_of c.edges k e a in at-within c.edges k f.0 f.1

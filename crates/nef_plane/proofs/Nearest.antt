@@ -1,0 +1,77 @@
+-- The nearest of what a ray meets.
+use Rattle.std.proofs.Common.{◌≡◌, ℕ, ◌<◌, ◌+◌, Option, Some, None, arith, refl, sym, ◌⊎◌, inl, inr, ⊎_elim, subst}
+use Rattle.std.proofs.Math.Nat.{eq-or-lt_of_le}
+use Rattle.nef_space.specs.Place.{Place, toward, IsAhead, IsBetween}
+use Rattle.nef_space.specs.Vectors.{Vector}
+use Rattle.nef_forms.proofs.Between.{between-same}
+use Rattle.nef_near.proofs.Between.{between-inner}
+use Rattle.nef_sphere.proofs.Compare.{SameDirection-turned, SameDirection-trans}
+use Rattle.nef_solid.proofs.Ways.{between-way, same-itself}
+use Rattle.nef_solid.specs.Skeleton.{PlaneMeet}
+use Rattle.nef_plane.specs.Meets.{Encounter, IsNearest, IsNearestMet, IsNearer, IsNotPast}
+
+-- what lies between a point and one ahead of it is ahead
+pub between-ahead : (p q x : Place) (d : Vector) → IsBetween p q x → IsAhead p d x → IsAhead p d q
+between-ahead p q x d b w = SameDirection-trans (toward p q) (toward p x) d (between-way p q x b) w
+
+module _ {X : Type 0} (seen : X → Encounter) (p : Place) (d : Vector) where
+  -- what lies before a hit lies before each hit that it isn't past
+  inner : (x y : Encounter) (q : Place) → IsAhead p d x.at.place → IsNotPast d x y → IsBetween p q x.at.place → IsBetween p q y.at.place
+  inner x y q w n b = ⊎_elim
+      (λ s. between-same p q x.at.place p q y.at.place (same-itself p) (same-itself q) s b)
+      (λ f. between-inner p x.at.place y.at.place q (SameDirection-trans (toward p x.at.place) d (toward x.at.place y.at.place) w (SameDirection-turned (toward x.at.place y.at.place) d f)) b) n
+
+  module _ (P Q : PlaneMeet → Place → Type 0) where
+    abbrev Either : PlaneMeet → Place → Type 0
+    Either m q = P m q ⊎ Q m q
+
+    left : (x r : X) → r ≡ x → IsNearestMet p d P (seen x) → ((n : PlaneMeet) (q : Place) → IsBetween p q (seen r).at.place → Q n q → ⊥) → IsNearestMet p d Either (seen r)
+    left x r e A f = let B : IsNearestMet p d P (seen r) = subst (λ (y : X). IsNearestMet p d P (seen y)) (sym e) A in record { reached = B.reached; ahead = B.ahead; met = inl B.met; first = λ n q b. ⊎_elim (B.first n q b) (f n q b) }
+
+    right : (x r : X) → r ≡ x → IsNearestMet p d Q (seen x) → ((n : PlaneMeet) (q : Place) → IsBetween p q (seen r).at.place → P n q → ⊥) → IsNearestMet p d Either (seen r)
+    right x r e A f = let B : IsNearestMet p d Q (seen r) = subst (λ (y : X). IsNearestMet p d Q (seen y)) (sym e) A in record { reached = B.reached; ahead = B.ahead; met = inr B.met; first = λ n q b. ⊎_elim (f n q b) (B.first n q b) }
+
+    pub nearest-either : (a b r : Option X) → IsNearer seen d a b r → IsNearest seen p d P a → IsNearest seen p d Q b → IsNearest seen p d Either r
+    nearest-either None None None N A B = λ n q w. ⊎_elim (A n q w) (B n q w)
+    nearest-either None None (Some r) N A B = absurd (⊎_elim (λ (e : Some r ≡ None). cc) (λ (e : Some r ≡ None). cc) N.one)
+    nearest-either (Some x) None None N A B = let y = N.first x refl in let e : None ≡ Some y.0 = y.1 in cc
+    nearest-either None (Some x) None N A B = let y = N.second x refl in let e : None ≡ Some y.0 = y.1 in cc
+    nearest-either (Some x) (Some z) None N A B = let y = N.first x refl in let e : None ≡ Some y.0 = y.1 in cc
+    nearest-either (Some x) None (Some r) N A B = ⊎_elim
+        (λ (e : Some r ≡ Some x). let f : r ≡ x = cc in
+        left x r f A (λ n q b. B n q (between-ahead p q (seen r).at.place d b (subst (λ (v : X). IsAhead p d (seen v).at.place) (sym f) A.ahead))))
+        (λ (e : Some r ≡ None). absurd cc) N.one
+    nearest-either None (Some x) (Some r) N A B = ⊎_elim
+        (λ (e : Some r ≡ None). absurd cc)
+        (λ (e : Some r ≡ Some x). let f : r ≡ x = cc in
+        right x r f B (λ n q b. A n q (between-ahead p q (seen r).at.place d b (subst (λ (v : X). IsAhead p d (seen v).at.place) (sym f) B.ahead)))) N.one
+    nearest-either (Some x) (Some z) (Some r) N A B = ⊎_elim
+        (λ (e : Some r ≡ Some x). let f : r ≡ x = cc in let y = N.second z refl in let g : r ≡ y.0 = some-is r y.0 y.1 in
+        left x r f A (λ n q b. B.first n q (inner (seen r) (seen z) q (subst (λ (v : X). IsAhead p d (seen v).at.place) (sym f) A.ahead) (subst (λ (v : X). IsNotPast d (seen v) (seen z)) (sym g) y.2) b)))
+        (λ (e : Some r ≡ Some z). let f : r ≡ z = cc in let y = N.first x refl in let g : r ≡ y.0 = some-is r y.0 y.1 in
+        right z r f B (λ n q b. A.first n q (inner (seen r) (seen x) q (subst (λ (v : X). IsAhead p d (seen v).at.place) (sym f) B.ahead) (subst (λ (v : X). IsNotPast d (seen v) (seen x)) (sym g) y.2) b))) N.one
+      where
+        some-is : (r y : X) → Some r ≡ Some y → r ≡ y
+        some-is r y e = cc
+
+    -- the same of what is the same
+    pub nearest-as : (o : Option X) → ((m : PlaneMeet) (q : Place) → P m q → Q m q) → ((m : PlaneMeet) (q : Place) → Q m q → P m q) → IsNearest seen p d P o → IsNearest seen p d Q o
+    nearest-as None f g A = λ n q w x. A n q w (g n q x)
+    nearest-as (Some x) f g A = record { reached = A.reached; ahead = A.ahead; met = f (seen x).meet (seen x).at.place A.met; first = λ n q b y. A.first n q b (g n q y) }
+
+  -- ---- of a list
+  module _ (R : ℕ → PlaneMeet → Place → Type 0) where
+    abbrev pub First : ℕ → PlaneMeet → Place → Type 0
+    First i m q = (k : ℕ) × (k < i) × R k m q
+
+    abbrev pub Any : PlaneMeet → Place → Type 0
+    Any m q = (k : ℕ) × R k m q
+
+    pub nearest-more : (i : ℕ) (a b r : Option X) → IsNearer seen d a b r → IsNearest seen p d (First i) a → IsNearest seen p d (R i) b → IsNearest seen p d (First (i + 1)) r
+    nearest-more i a b r N A B = nearest-as (λ m q. First i m q ⊎ R i m q) (First (i + 1)) r
+        (λ m q. ⊎_elim (λ (x : First i m q). let l = x.1 in (x.0, omega (arith, l), x.2)) (λ (x : R i m q). (i, omega arith, x)))
+        (λ m q (k, l, x). ⊎_elim (λ o. inr (subst (λ j. R j m q) o x)) (λ o. inl (k, o, x)) (eq-or-lt_of_le {n = k} {m = i} (omega (arith, l))))
+        (nearest-either (First i) (R i) a b r N A B)
+
+    pub nearest-all : (i : ℕ) (o : Option X) → ((k : ℕ) (m : PlaneMeet) (q : Place) → R k m q → k < i) → IsNearest seen p d (First i) o → IsNearest seen p d Any o
+    nearest-all i o f A = nearest-as (First i) Any o (λ m q x. (x.0, x.2)) (λ m q x. (x.0, f x.0 m q x.1, x.1)) A

@@ -1,0 +1,106 @@
+-- What a ray crosses of the planes that hold a vertex or an edge.
+use Rattle.std.proofs.Common.{◌≡◌, ℕ, pos, ⊎_elim, inl, inr, Option, Some, None, List, refl, ◌↔◌}
+use Rattle.std.specs.Prelude.{IsNone, IfSome}
+use Rattle.nef_space.specs.Place.{Place, slope, SamePlace, IsAhead, IsBetween, form_at}
+use Rattle.nef_space.specs.Sets.{Set}
+use Rattle.nef_space.specs.Vectors.{Vector, IsDirection}
+use Rattle.nef_geo.specs.Hits.{IsCrossing, IsReached}
+use Rattle.nef_geo.specs.Shapes.{form_of, place_of, hit_place}
+use Rattle.nef_geo.specs.declared.hit.Hit.{Hit}
+use Rattle.nef_geo.specs.declared.plane.Plane.{Plane}
+use Rattle.nef_sphere.specs.Maps.{At}
+use Rattle.nef_forms.proofs.Between.{between-same}
+use Rattle.nef_forms.proofs.Far.{nought-or}
+use Rattle.nef_near.proofs.Rays.{same-place_sym}
+use Rattle.nef_smap.proofs.Lists.{map-at}
+use Rattle.nef_solid.specs.Shows.{Shows}
+use Rattle.nef_solid.specs.Skeleton.{IsVertexPoint, IsEdgePoint}
+use Rattle.nef_solid.proofs.Ways.{same-itself}
+use Rattle.nef_complex.specs.declared.complex.Vertex.{Vertex}
+use Rattle.nef_complex.specs.declared.complex.Edge.{Edge}
+use Rattle.nef_complex.specs.declared.complex.Complex.{Complex}
+use Rattle.nef_complex.specs.declared.complex.PlaneMeet.TheVariants.{AtVertex, AtEdge}
+use Rattle.nef_complex.specs.Complexes.{vertex_of, edge_of, complex_of}
+use Rattle.nef_complex.specs.Planes.{HoldsBoth}
+use Rattle.nef_complex.proofs.Ends.{vertex-same, listed_edge, ends, edge-inside}
+use Rattle.nef_complex.proofs.Lines.{one-crossing}
+use Rattle.nef_complex.proofs.Parted.{held-between}
+use Rattle.nef_plane.specs.Meets.{Reach, reach_of, met_of, IsHitThrough, AllHold, IsAcross, IsWithin, AtVertexNumber, AtEdgeNumber, IsNearest, IsNearestMet}
+use Rattle.nef_plane.proofs.Found.{both-same, vertex-some, vertex-none, edge-some, edge-none}
+use Rattle.nef_plane.proofs.Meeting.{level-same}
+
+-- a plane that holds both points holds what is within
+pub within-level : (g : Plane) (a b y : Place) → HoldsBoth (form_of g) a b → IsWithin a b y → form_at (form_of g) y ≡ pos 0
+within-level g a b y H = ⊎_elim (λ (w : IsBetween a y b). held-between (form_of g) a b y w H) (λ (s : SamePlace a y × SamePlace b y). level-same (form_of g) a y s.0 H.0)
+
+-- where none is across the ray, all that hold both points are along it
+pub all-along : (gs : List Plane) (d : Vector) (a b : Place) → ((k : ℕ) (g : Plane) → At gs k g → IsAcross d a b g → ⊥) → AllHold gs d a b
+all-along gs d a b N k g l H = ⊎_elim (λ e. e) (λ f. absurd (N k g l (H, f))) (nought-or (slope (form_of g) d))
+
+module _ (o : Option Hit) (p : Place) (d : Vector) (g : Plane) (a b : Place) (A : IsAcross d a b g) where
+  pub across-through : IfSome o (λ q. IsCrossing p d (form_of g) (hit_place q)) → IfSome o (λ q. IsReached p d q.num q.den q.den_sign (hit_place q)) → IfSome o (λ q. IsHitThrough p d a b (reach_of q))
+  across-through = by o
+    where
+      by : (o : Option Hit) → IfSome o (λ q. IsCrossing p d (form_of g) (hit_place q)) → IfSome o (λ q. IsReached p d q.num q.den q.den_sign (hit_place q)) → IfSome o (λ q. IsHitThrough p d a b (reach_of q))
+      by None c r = tt
+      by (Some q) c r = record { plane = g; holds = A.0; crosses = c; reached = r }
+
+  -- what the ray meets within the two points, it meets on the plane
+  pub across-none : (IsNone o ↔ ((q : Place) → ¬ IsCrossing p d (form_of g) q)) → IsNone o → (y : Place) → IsAhead p d y → IsWithin a b y → ⊥
+  across-none n e y w m = n.0 e y (record { on = within-level g a b y A.0 m; ahead = w; passes = A.1 })
+
+-- where a plane through both points is crossed, all that the ray meets within them is there
+pub through-one : (p : Place) (d : Vector) (a b : Place) (q : Reach) → IsHitThrough p d a b q → (y : Place) → IsAhead p d y → IsWithin a b y → SamePlace y q.place
+through-one p d a b q T y w m = one-crossing (form_of T.plane) d p y q.place w.parallel T.crosses.ahead.parallel (within-level T.plane a b y T.holds m, T.crosses.on) T.crosses.passes
+
+module _ (s : Set) (c : Complex) (S : Shows s (complex_of c)) (p : Place) (d : Vector) (some : IsDirection d) where
+  -- ---- a vertex
+  module _ (k : ℕ) (v : Vertex) (a : At c.vertices k v) where
+    abbrev y : Place
+    y = place_of v.point
+
+    -- it isn't met, where no plane through it is crossed
+    pub uncrossed-vertex : ((q : Place) → IsAhead p d q → IsWithin y y q → AllHold c.carriers d y y) → IsNearest met_of p d (AtVertexNumber (complex_of c) k) None
+    uncrossed-vertex N = vertex-none s c S p d some k v a (λ q w o. N q w (inr (o, o)))
+
+    module _ (at : Hit) (T : IsHitThrough p d y y (reach_of at)) where
+      -- nor where one is crossed elsewhere
+      pub missed-vertex : (IsVertexPoint (complex_of c) k (hit_place at) → ⊥) → IsNearest met_of p d (AtVertexNumber (complex_of c) k) None
+      missed-vertex n = vertex-none s c S p d some k v a
+          (λ q w o. absurd (n (vertex_of v, map-at vertex_of c.vertices k v a, both-same y (hit_place at) q o (same-place_sym q (hit_place at) (through-one p d y y (reach_of at) T q w (inr (o, o)))))))
+
+      pub reached-vertex : IsVertexPoint (complex_of c) k (hit_place at) → IsNearestMet p d (AtVertexNumber (complex_of c) k) (met_of (record { meet = AtVertex k; at = at }))
+      reached-vertex x = vertex-some s c S p d some k v a (met_of (record { meet = AtVertex k; at = at })) refl (vertex-same c k v a (hit_place at) x) T.crosses.ahead T.reached
+
+  -- ---- an edge
+  module _ (h : Plane) (k : ℕ) (e : Edge) (u v : Vertex) (l : At c.edges k e) (i : At c.vertices e.low u) (j : At c.vertices e.high v) where
+    abbrev low : Place
+    low = place_of u.point
+
+    abbrev high : Place
+    high = place_of v.point
+
+    -- it isn't met, where it doesn't lie in the plane
+    pub outside-edge : (HoldsBoth (form_of h) low high → ⊥) → IsNearest met_of p d (AtEdgeNumber (complex_of c) (form_of h) d k) None
+    outside-edge n = edge-none s c S (form_of h) p d some k e u v l i j (λ q w b H. absurd (n H))
+
+    -- nor where no plane through it is crossed
+    pub uncrossed-edge : ((q : Place) → IsAhead p d q → IsWithin low high q → AllHold c.carriers d low high) → IsNearest met_of p d (AtEdgeNumber (complex_of c) (form_of h) d k) None
+    uncrossed-edge N = edge-none s c S (form_of h) p d some k e u v l i j (λ q w b H. N q w (inl b))
+
+    module _ (at : Hit) (T : IsHitThrough p d low high (reach_of at)) where
+      -- nor where one is crossed elsewhere
+      pub missed-edge : (IsEdgePoint (complex_of c) k (hit_place at) → ⊥) → IsNearest met_of p d (AtEdgeNumber (complex_of c) (form_of h) d k) None
+      missed-edge n = edge-none s c S (form_of h) p d some k e u v l i j
+          (λ q w b H. absurd (n (
+            edge_of e,
+            vertex_of u,
+            vertex_of v,
+            listed_edge s c S k e u v l i j,
+            ends s c S k e u v l i j,
+            between-same low q high low (hit_place at) high (same-itself low) (through-one p d low high (reach_of at) T q w (inl b)) (same-itself high) b,
+          )))
+
+      pub reached-edge : HoldsBoth (form_of h) low high → IsEdgePoint (complex_of c) k (hit_place at) → IsNearestMet p d (AtEdgeNumber (complex_of c) (form_of h) d k) (met_of (record { meet = AtEdge k; at = at }))
+      reached-edge H x = edge-some s c S (form_of h) p d some k e u v l i j (met_of (record { meet = AtEdge k; at = at })) (form_of T.plane) T.holds T.crosses.passes
+          (edge-inside s c S k e u v l i j (hit_place at) x) T.crosses.ahead refl H T.reached

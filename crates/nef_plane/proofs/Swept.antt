@@ -1,0 +1,57 @@
+-- What a ray along the axis of a plane meets at a vertex and inside an edge.
+use Rattle.std.proofs.Common.{◌≡◌, ℕ, None, pos, inl, inr, ⊎_elim, refl}
+use Rattle.nef_space.specs.Place.{Place, form_at, SamePlace, IsBetween}
+use Rattle.nef_space.specs.Sets.{Set}
+use Rattle.nef_space.specs.Vectors.{Vector}
+use Rattle.nef_geo.specs.Shapes.{form_of, place_of, far_place}
+use Rattle.nef_geo.specs.declared.hit.FarHit.{FarHit}
+use Rattle.nef_geo.specs.declared.plane.Plane.{Plane}
+use Rattle.nef_forms.proofs.Between.{place-toward}
+use Rattle.nef_near.proofs.Rays.{same-place_sym}
+use Rattle.nef_sphere.specs.Maps.{At}
+use Rattle.nef_solid.specs.Shows.{Shows}
+use Rattle.nef_solid.proofs.Ways.{between-ends, same-itself}
+use Rattle.nef_complex.specs.declared.complex.Vertex.{Vertex}
+use Rattle.nef_complex.specs.declared.complex.Edge.{Edge}
+use Rattle.nef_complex.specs.declared.complex.Complex.{Complex}
+use Rattle.nef_complex.specs.declared.complex.PlaneMeet.TheVariants.{AtVertex, AtEdge}
+use Rattle.nef_complex.specs.Complexes.{complex_of}
+use Rattle.nef_complex.proofs.Ends.{apart}
+use Rattle.nef_plane.specs.Meets.{IsAlongAxis, IsHitThrough, IsMet, AllHold, AtVertexNumber, AtEdgeNumber, IsNearest, IsNearestMet, far_met_of, far_reach_of}
+use Rattle.nef_plane.proofs.Axes.{axis-some}
+use Rattle.nef_plane.proofs.Found.{both-same, vertex-some, vertex-none, edge-some, edge-none}
+use Rattle.nef_plane.proofs.Meeting.{level-same, ahead-on}
+
+module _ (s : Set) (c : Complex) (S : Shows s (complex_of c)) (h : Plane) (p : Place) (d : Vector) (A : IsAlongAxis (form_of h) d) (on : form_at (form_of h) p ≡ pos 0) where
+  module _ (k : ℕ) (v : Vertex) (a : At c.vertices k v) where
+    abbrev y : Place
+    y = place_of v.point
+
+    pub swept-no_vertex : ((q : Place) → IsMet (form_of h) p d y y q → AllHold c.carriers d y y) → IsNearest far_met_of p d (AtVertexNumber (complex_of c) k) None
+    swept-no_vertex N = vertex-none s c S p d (axis-some h d A) k v a
+        (λ q w o. let z = level-same (form_of h) q y (same-place_sym y q o) (ahead-on h p d A on q w) in N q (record { holds = (z, z); ahead = w; on = inr (o, o) }))
+
+    module _ (at : FarHit) (M : IsMet (form_of h) p d y y (far_place at)) (T : IsHitThrough p d y y (far_reach_of at)) where
+      same : SamePlace y (far_place at)
+      same = ⊎_elim (λ (b : IsBetween y (far_place at) y). absurd (between-ends y (far_place at) y b (place-toward y y (same-itself y)))) (λ (t : SamePlace y (far_place at) × SamePlace y (far_place at)). t.0) M.on
+
+      pub swept-vertex : IsNearestMet p d (AtVertexNumber (complex_of c) k) (far_met_of (record { meet = AtVertex k; at = at }))
+      swept-vertex = vertex-some s c S p d (axis-some h d A) k v a (far_met_of (record { meet = AtVertex k; at = at })) refl same M.ahead T.reached
+
+  module _ (k : ℕ) (e : Edge) (u v : Vertex) (l : At c.edges k e) (i : At c.vertices e.low u) (j : At c.vertices e.high v) where
+    abbrev low : Place
+    low = place_of u.point
+
+    abbrev high : Place
+    high = place_of v.point
+
+    pub swept-no_edge : ((q : Place) → IsMet (form_of h) p d low high q → AllHold c.carriers d low high) → IsNearest far_met_of p d (AtEdgeNumber (complex_of c) (form_of h) d k) None
+    swept-no_edge N = edge-none s c S (form_of h) p d (axis-some h d A) k e u v l i j (λ q w b H. N q (record { holds = H; ahead = w; on = inl b }))
+
+    module _ (at : FarHit) (M : IsMet (form_of h) p d low high (far_place at)) (T : IsHitThrough p d low high (far_reach_of at)) where
+      between : IsBetween low (far_place at) high
+      between = ⊎_elim (λ (b : IsBetween low (far_place at) high). b)
+          (λ (t : SamePlace low (far_place at) × SamePlace high (far_place at)). absurd (apart s c S k e u v l i j (place-toward low high (both-same low high (far_place at) t.0 t.1)))) M.on
+
+      pub swept-edge : IsNearestMet p d (AtEdgeNumber (complex_of c) (form_of h) d k) (far_met_of (record { meet = AtEdge k; at = at }))
+      swept-edge = edge-some s c S (form_of h) p d (axis-some h d A) k e u v l i j (far_met_of (record { meet = AtEdge k; at = at })) (form_of T.plane) T.holds T.crosses.passes between M.ahead refl M.holds T.reached

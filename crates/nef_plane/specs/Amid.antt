@@ -1,0 +1,18 @@
+-- Points strictly between two others, as planes see them.
+use Rattle.std.specs.Prelude.{◌≡◌, ℕ, pos, List}
+use Rattle.nef_space.specs.Place.{Place, Form, form_at}
+use Rattle.nef_geo.specs.Shapes.{form_of}
+use Rattle.nef_geo.specs.Signs.{sign_of}
+use Rattle.nef_geo.specs.declared.plane.Plane.{Plane}
+use Rattle.nef_sphere.specs.Maps.{At}
+
+-- where the plane holds a, y lies on the side of b
+abbrev pub SidesWith : Form → Place → Place → Place → Type 0
+SidesWith h a b y = form_at h a ≡ pos 0 → sign_of (form_at h y) ≡ sign_of (form_at h b)
+
+-- where the plane holds one of the two points, y lies on the side of the other
+abbrev pub IsAmid : Form → Place → Place → Place → Type 0
+IsAmid h a b y = SidesWith h a b y × SidesWith h b a y
+
+abbrev pub AreAmid : List Plane → Place → Place → Place → Type 0
+AreAmid hs a b y = (k : ℕ) (h : Plane) → At hs k h → IsAmid (form_of h) a b y

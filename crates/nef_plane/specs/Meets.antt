@@ -1,0 +1,134 @@
+-- What a ray within a plane meets there.
+use Rattle.std.specs.Prelude.{◌≡◌, ℕ, ℤ, pos, ◌<ℤ◌, neg_ℤ, cond, ◌&&◌, ◌⊎◌, Option, Some, List}
+use Rattle.std.specs.Option.{MatchOption}
+use Rattle.std.specs.Ordering.{int_eq}
+use Rattle.nef_space.specs.Place.{Place, Form, form_at, slope, normal_of, plane_through, toward, SamePlace, IsAhead, IsBetween}
+use Rattle.nef_space.specs.Vectors.{Vector, vector, cross, opposite, plane_axis, IsZero, SameDirection}
+use Rattle.nef_geo.specs.Hits.{IsCrossing, IsReached}
+use Rattle.nef_geo.specs.Shapes.{form_of, hit_place, far_place}
+use Rattle.nef_geo.specs.Signs.{sign_of}
+use Rattle.nef_geo.specs.declared.hit.FarHit.{FarHit}
+use Rattle.nef_geo.specs.declared.hit.Hit.{Hit}
+use Rattle.nef_geo.specs.declared.plane.Plane.{Plane}
+use Rattle.nef_sphere.specs.Maps.{At, Svertex}
+use Rattle.nef_solid.specs.Complexes.{Vertex, Edge, Complex, HasEnds}
+use Rattle.nef_solid.specs.Skeleton.{PlaneMeet, meets_vertex, meets_edge, IsVertexPoint, IsEdgePoint, LiesIn}
+use Rattle.nef_complex.specs.Complexes.{meet_of}
+use Rattle.nef_complex.specs.Planes.{HoldsBoth}
+use Rattle.nef_plane.specs.declared.along.Met.{Met}
+use Rattle.nef_plane.specs.declared.plane.FarMet.{FarMet}
+
+-- the direction is that of the plane's axis, or its opposite
+abbrev pub IsAlongAxis : Form → Vector → Type 0
+IsAlongAxis h d = SameDirection d (plane_axis (normal_of h)) ⊎ SameDirection d (opposite (plane_axis (normal_of h)))
+
+-- where p is a vertex, none of its svertices points along d
+abbrev pub HasNoSvertex : Complex → Place → Vector → Type 0
+HasNoSvertex C p d = (k j : ℕ) (v : Vertex) (u : Svertex) → At C.vertices k v → SamePlace v.point p → At v.map.svertices j u → SameDirection u.way d → ⊥
+
+-- p is a vertex, or lies strictly inside no edge in the plane
+abbrev pub IsOffEdges : Complex → Form → Place → Type 0
+IsOffEdges C h p = ((k : ℕ) × IsVertexPoint C k p) ⊎ ((k : ℕ) → IsEdgePoint C k p → LiesIn C h k → ⊥)
+
+-- the coordinate that the axis of a plane keeps: the first, or the second where the plane keeps the first
+abbrev pub sweep_axis : Form → Vector
+sweep_axis h = cond (int_eq h.c (pos 0) && int_eq h.b (pos 0)) (vector (pos 0) (pos 1) (pos 0)) (vector (pos 1) (pos 0) (pos 0))
+
+-- the plane through p on which that coordinate stays the same
+abbrev pub sweep_form : Form → Place → Form
+sweep_form h p = plane_through (sweep_axis h) p
+
+-- the points lie on different sides of the plane, or both on it
+abbrev pub AreOpposite : Form → Place → Place → Type 0
+AreOpposite k a b = sign_of (form_at k a) ≡ sign_of (neg_ℤ (form_at k b))
+
+-- a point of a ray, with the step at which it stands
+pub record Reach : Type 0 where
+  pub place : Place
+  pub num : ℤ
+  pub den : ℤ
+  pub den_sign : pos 0 <ℤ den
+
+abbrev pub reach_of : Hit → Reach
+reach_of q = record { place = hit_place q; num = q.num; den = q.den; den_sign = q.den_sign }
+
+abbrev pub far_reach_of : FarHit → Reach
+far_reach_of q = record { place = far_place q; num = q.num; den = q.den; den_sign = q.den_sign }
+
+-- the ray crosses the plane, which holds both points, there
+pub record IsHitThrough (p : Place) (d : Vector) (a b : Place) (q : Reach) : Type 0 where
+  pub plane : Plane
+  pub holds : HoldsBoth (form_of plane) a b
+  pub crosses : IsCrossing p d (form_of plane) q.place
+  pub reached : IsReached p d q.num q.den q.den_sign q.place
+
+-- none of the planes that hold both points crosses the ray
+abbrev pub NoneCrosses : List Plane → Place → Vector → Place → Place → Type 0
+NoneCrosses gs p d a b = (i : ℕ) (g : Plane) → At gs i g → HoldsBoth (form_of g) a b → (q : Place) → IsCrossing p d (form_of g) q → ⊥
+
+-- y lies strictly between two points, or is both
+abbrev pub IsWithin : Place → Place → Place → Type 0
+IsWithin a b y = IsBetween a y b ⊎ (SamePlace a y × SamePlace b y)
+
+-- the ray meets y, which lies strictly between two points of the plane, or is both
+pub record IsMet (h : Form) (p : Place) (d : Vector) (a b y : Place) : Type 0 where
+  pub holds : HoldsBoth h a b
+  pub ahead : IsAhead p d y
+  pub on : IsWithin a b y
+
+-- all of the planes that hold both points hold the direction
+abbrev pub AllHold : List Plane → Vector → Place → Place → Type 0
+AllHold gs d a b = (i : ℕ) (g : Plane) → At gs i g → HoldsBoth (form_of g) a b → slope (form_of g) d ≡ pos 0
+
+-- the plane holds both points and isn't along the direction
+abbrev pub IsAcross : Vector → Place → Place → Plane → Type 0
+IsAcross d a b g = HoldsBoth (form_of g) a b × (slope (form_of g) d ≡ pos 0 → ⊥)
+
+-- what the ray meets is at the vertex with this number
+abbrev pub AtVertexNumber : Complex → ℕ → PlaneMeet → Place → Type 0
+AtVertexNumber C k m q = (m ≡ meets_vertex k) × IsVertexPoint C k q
+
+-- what the ray meets is strictly inside the edge with this number, which lies in the plane but not along the ray
+abbrev pub AtEdgeNumber : Complex → Form → Vector → ℕ → PlaneMeet → Place → Type 0
+AtEdgeNumber C h d k m q = (m ≡ meets_edge k) × (e : Edge) × (v : Vertex) × (w : Vertex) × At C.edges k e × HasEnds C e v w × IsBetween v.point q w.point
+    × HoldsBoth h v.point w.point × (IsZero (cross (toward v.point w.point) d) → ⊥)
+
+-- what a ray meets, and where
+pub record Encounter : Type 0 where
+  pub meet : PlaneMeet
+  pub at : Reach
+
+abbrev pub met_of : Met → Encounter
+met_of x = record { meet = meet_of x.meet; at = reach_of x.at }
+
+abbrev pub far_met_of : FarMet → Encounter
+far_met_of x = record { meet = meet_of x.meet; at = far_reach_of x.at }
+
+-- what is met stands at its step along the ray
+abbrev pub IsReachedMet : Place → Vector → Encounter → Type 0
+IsReachedMet p d x = IsReached p d x.at.num x.at.den x.at.den_sign x.at.place
+
+-- of what has P the ray meets this first
+pub record IsNearestMet (p : Place) (d : Vector) (P : PlaneMeet → Place → Type 0) (x : Encounter) : Type 0 where
+  pub reached : IsReachedMet p d x
+  pub ahead : IsAhead p d x.at.place
+  pub met : P x.meet x.at.place
+  pub first : (n : PlaneMeet) (q : Place) → IsBetween p q x.at.place → P n q → ⊥
+
+-- the first of what has P, or none where the ray meets nothing that has it
+abbrev pub IsNearest : {X : Type 0} → (X → Encounter) → Place → Vector → (PlaneMeet → Place → Type 0) → Option X → Type 0
+IsNearest met p d P o = MatchOption o ((n : PlaneMeet) (q : Place) → IsAhead p d q → P n q → ⊥) (λ x. IsNearestMet p d P (met x))
+
+-- the one isn't past the other
+abbrev pub IsNotPast : Vector → Encounter → Encounter → Type 0
+IsNotPast d x y = SamePlace x.at.place y.at.place ⊎ IsAhead x.at.place d y.at.place
+
+-- the option is one of the two, and not past either
+pub record IsNearer {X : Type 0} (met : X → Encounter) (d : Vector) (a b r : Option X) : Type 0 where
+  pub one : (r ≡ a) ⊎ (r ≡ b)
+  pub first : (x : X) → a ≡ Some x → (y : X) × (r ≡ Some y) × IsNotPast d (met y) (met x)
+  pub second : (x : X) → b ≡ Some x → (y : X) × (r ≡ Some y) × IsNotPast d (met y) (met x)
+
+-- P of the point of the vertex with this number
+abbrev pub FromVertex : Complex → ℕ → (Place → Type 0) → Type 0
+FromVertex C k P = (v : Vertex) → At C.vertices k v → P v.point

@@ -1,0 +1,165 @@
+//! The first vertex, or edge in a plane, that a ray from a vertex meets.
+
+ghost use Rattle.std.specs.Prelude.{◌≡◌, ℕ, ◌<◌, length, pos, ◌↔◌, IsTrue, IsNone, IfSome};
+ghost use Rattle.std.specs.Option.{MatchOption};
+ghost use Rattle.nef_space.specs.Place.{Place, slope, IsAhead};
+ghost use Rattle.nef_space.specs.Sets.{Set};
+ghost use Rattle.nef_space.specs.Vectors.{IsAtMost};
+ghost use Rattle.nef_geo.specs.Shapes.{form_of, vector_of, place_of};
+ghost use Rattle.nef_geo.specs.Widths.{ray_limit};
+ghost use Rattle.nef_solid.specs.Skeleton.{PlaneMeet as PlainMeet, Meets, IsFirstInPlane};
+ghost use Rattle.nef_complex.specs.Complexes.{complex_of, meet_of, ShowsSet};
+ghost use Rattle.nef_plane.specs.Meets.{HasNoSvertex, FromVertex, IsHitThrough, AllHold, IsAcross, IsWithin, AtVertexNumber, AtEdgeNumber, IsNearest, IsNearer, IsReachedMet, met_of, reach_of};
+
+use crate::places::{is_at_vertex, is_on_edge};
+use nef_complex::{Complex, PlaneMeet, holds_both};
+use nef_geo::{Dir, Hit, Plane, Point, Sign, dir_side, hit_order, ray_hit};
+use std::cmp::Ordering;
+
+// What a ray meets, and where.
+#[derive(Debug, Clone, Copy)]
+struct Met {
+    meet: PlaneMeet,
+    at: Hit,
+}
+
+fn is_along(g: &Plane, d: &Dir) -> bool
+    ensures along { IsTrue result ↔ (slope (form_of g.now) (vector_of d.now) ≡ pos 0) }
+{
+    dir_side(g, d) == Sign::Zero
+}
+
+fn is_across(g: &Plane, a: &Point, b: &Point, d: &Dir) -> bool
+    ensures across { IsTrue result ↔ IsAcross (vector_of d.now) (place_of a.now) (place_of b.now) g.now }
+{
+    holds_both(g, a, b) && !is_along(g, d)
+}
+
+// The first of the planes that holds both points and isn't along the direction.
+fn plane_across(planes: &[Plane], a: &Point, b: &Point, d: &Dir) -> Option<Plane>
+    ensures across { MatchOption result (AllHold planes.now (vector_of d.now) (place_of a.now) (place_of b.now)) (IsAcross (vector_of d.now) (place_of a.now) (place_of b.now)) }
+{
+    for g in planes {
+        if is_across(g, a, b, d) {
+            return Some(*g);
+        }
+    }
+    None
+}
+
+// Where the ray crosses one of the planes that hold both points.
+fn crossed_at(planes: &[Plane], a: &Point, b: &Point, p: &Point, d: &Dir) -> Option<Hit>
+    requires small { IsAtMost ray_limit (vector_of d.now) }
+    ensures through { IfSome result (λ q. IsHitThrough (place_of p.now) (vector_of d.now) (place_of a.now) (place_of b.now) (reach_of q)) }
+    ensures none { IsNone result → (y : Place) → IsAhead (place_of p.now) (vector_of d.now) y → IsWithin (place_of a.now) (place_of b.now) y → AllHold planes.now (vector_of d.now) (place_of a.now) (place_of b.now) }
+{
+    let g = plane_across(planes, a, b, d)?;
+    ray_hit(p, d, &g)
+}
+
+// What the ray meets first of two.
+fn nearer(one: Option<Met>, other: Option<Met>, p: &Point, d: &Dir) -> Option<Met>
+    requires one { IfSome one (λ x. IsReachedMet (place_of p.now) (vector_of d.now) (met_of x)) }
+    requires other { IfSome other (λ x. IsReachedMet (place_of p.now) (vector_of d.now) (met_of x)) }
+    ensures nearer { IsNearer met_of (vector_of d.now) one other result }
+{
+    match (one, other) {
+        (Some(x), Some(y)) => match hit_order(&x.at, &y.at) {
+            Ordering::Less => Some(x),
+            Ordering::Equal => Some(x),
+            Ordering::Greater => Some(y),
+        },
+        (None, y) => y,
+        (x, None) => x,
+    }
+}
+
+// The vertex with this number, where the ray meets it.
+fn vertex_met(c: &Complex, p: &Point, d: &Dir, number: usize) -> Option<Met>
+    requires shows { (s : Set) × ShowsSet s c.now }
+    requires small { IsAtMost ray_limit (vector_of d.now) }
+    requires within { number < length c.now.vertices }
+    ensures nearest { IsNearest met_of (place_of p.now) (vector_of d.now) (AtVertexNumber (complex_of c.now) number) result }
+{
+    let point = &c.vertices.at(number).point;
+    let at = crossed_at(c.carriers.as_slice(), point, point, p, d)?;
+    if is_at_vertex(c, number, &at) {
+        Some(Met {
+            meet: PlaneMeet::AtVertex(number),
+            at,
+        })
+    } else {
+        None
+    }
+}
+
+// The edge with this number, where it lies in the plane and the ray meets its inside.
+fn edge_met(c: &Complex, h: &Plane, p: &Point, d: &Dir, number: usize) -> Option<Met>
+    requires shows { (s : Set) × ShowsSet s c.now }
+    requires small { IsAtMost ray_limit (vector_of d.now) }
+    requires within { number < length c.now.edges }
+    ensures nearest { IsNearest met_of (place_of p.now) (vector_of d.now) (AtEdgeNumber (complex_of c.now) (form_of h.now) (vector_of d.now) number) result }
+{
+    let edge = c.edges.at(number);
+    let low = &c.vertices.at(edge.low).point;
+    let high = &c.vertices.at(edge.high).point;
+    if !holds_both(h, low, high) {
+        return None;
+    }
+    let at = crossed_at(c.carriers.as_slice(), low, high, p, d)?;
+    if is_on_edge(c, number, &at) {
+        Some(Met {
+            meet: PlaneMeet::AtEdge(number),
+            at,
+        })
+    } else {
+        None
+    }
+}
+
+// The first vertex that the ray meets.
+fn nearest_vertex(c: &Complex, p: &Point, d: &Dir) -> Option<Met>
+    requires shows { (s : Set) × ShowsSet s c.now }
+    requires small { IsAtMost ray_limit (vector_of d.now) }
+    ensures nearest { IsNearest met_of (place_of p.now) (vector_of d.now) (λ m q. (k : ℕ) × AtVertexNumber (complex_of c.now) k m q) result }
+{
+    let mut best = None;
+    for number in 0..c.vertices.len() {
+        best = nearer(best, vertex_met(c, p, d, number), p, d);
+    }
+    best
+}
+
+// The first edge in the plane, not along the ray, that the ray meets. Where the ray meets an edge along it, it meets an
+// end of that edge sooner.
+fn nearest_edge(c: &Complex, h: &Plane, p: &Point, d: &Dir) -> Option<Met>
+    requires shows { (s : Set) × ShowsSet s c.now }
+    requires small { IsAtMost ray_limit (vector_of d.now) }
+    ensures nearest { IsNearest met_of (place_of p.now) (vector_of d.now) (λ m q. (k : ℕ) × AtEdgeNumber (complex_of c.now) (form_of h.now) (vector_of d.now) k m q) result }
+{
+    let mut best = None;
+    for number in 0..c.edges.len() {
+        best = nearer(best, edge_met(c, h, p, d, number), p, d);
+    }
+    best
+}
+
+/// The first vertex, or edge in the plane `h`, that the ray from the vertex with this number along `d` meets strictly
+/// ahead. The entries of the direction are at most `2^36` in size, as those of `plane_dir` are, and no svertex of the
+/// vertex points along it. `None` comes exactly where nothing is met.
+pub fn first_along_dir(c: &Complex, h: &Plane, vertex: usize, d: &Dir) -> Option<PlaneMeet>
+    requires shows { (s : Set) × ShowsSet s c.now }
+    requires within { vertex < length c.now.vertices }
+    requires small { IsAtMost ray_limit (vector_of d.now) }
+    requires no_svertex { FromVertex (complex_of c.now) vertex (λ p. HasNoSvertex (complex_of c.now) p (vector_of d.now)) }
+    ensures some { IfSome result (λ m. FromVertex (complex_of c.now) vertex (λ p. IsFirstInPlane (complex_of c.now) (form_of h.now) p (vector_of d.now) (meet_of m))) }
+    ensures none { IsNone result → FromVertex (complex_of c.now) vertex (λ p. (m : PlainMeet) (q : Place) → IsAhead p (vector_of d.now) q → Meets (complex_of c.now) (form_of h.now) m q → ⊥) }
+{
+    let p = &c.vertices.at(vertex).point;
+    let first_vertex = nearest_vertex(c, p, d);
+    let first_edge = nearest_edge(c, h, p, d);
+    match nearer(first_vertex, first_edge, p, d) {
+        Some(met) => Some(met.meet),
+        None => None,
+    }
+}

@@ -1,0 +1,10 @@
+//! What a ray within a plane first meets of a complex, and whether a point of a ray is a vertex or lies on an edge.
+#![tactic(auto)]
+
+mod along;
+mod places;
+mod plane;
+
+pub use along::first_along_dir;
+pub use places::{is_at_vertex, is_on_edge};
+pub use plane::first_in_plane;

@@ -1,0 +1,217 @@
+//! The first vertex or edge in a plane that a ray along the plane's axis meets.
+
+ghost use Rattle.std.specs.Prelude.{◌≡◌, ℕ, ◌<◌, ◌≤◌, length, pos, ◌<ℤ◌, ◌*ℤ◌, ◌-ℤ◌, nat_abs, neg_ℤ, ◌↔◌, IsTrue, IsNone, IfSome, ◌⊎◌};
+ghost use Rattle.std.specs.Option.{MatchOption};
+ghost use Rattle.nef_space.specs.Limits.{normal_limit, point_limit, weight_limit};
+ghost use Rattle.nef_space.specs.Place.{Place, form_at, IsAhead};
+ghost use Rattle.nef_space.specs.Sets.{Set};
+ghost use Rattle.nef_space.specs.Vectors.{IsAtMost};
+ghost use Rattle.nef_geo.specs.Hits.{IsPlaceAtMost, IsCrossing};
+ghost use Rattle.nef_geo.specs.Shapes.{form_of, vector_of, place_of, hit_place, far_place};
+ghost use Rattle.nef_geo.specs.Signs.{sign_of};
+ghost use Rattle.nef_geo.specs.Widths.{upright_limit, upright_weight_limit};
+ghost use Rattle.nef_solid.specs.Skeleton.{PlaneMeet as PlainMeet, Meets, IsFirstInPlane};
+ghost use Rattle.nef_complex.specs.Complexes.{complex_of, meet_of, ShowsSet};
+ghost use Rattle.nef_complex.specs.Planes.{HoldsBoth};
+ghost use Rattle.nef_plane.specs.Meets.{IsAlongAxis, HasNoSvertex, IsOffEdges, sweep_form, AreOpposite, IsHitThrough, NoneCrosses, IsMet, AllHold, AtVertexNumber, AtEdgeNumber, IsNearest, IsNearer, IsReachedMet, far_met_of, far_reach_of};
+
+use nef_complex::{Complex, PlaneMeet, holds_both};
+use nef_geo::{Dir, FarHit, Hit, Plane, Point, Sign, far_hit, far_order};
+use std::cmp::Ordering;
+
+// What a ray meets, and where.
+#[derive(Debug, Clone, Copy)]
+struct FarMet {
+    meet: PlaneMeet,
+    at: FarHit,
+}
+
+// The sign of x/w - y/v.
+fn ratio_sign(x: i64, w: i64, y: i128, v: i128) -> Sign
+    requires x_small { nat_abs x ≤ point_limit }
+    requires w_small { nat_abs w ≤ weight_limit }
+    requires y_small { nat_abs y ≤ upright_limit }
+    requires v_small { nat_abs v ≤ upright_weight_limit }
+    ensures sign { result ≡ sign_of (x *ℤ v -ℤ y *ℤ w) }
+{
+    Sign::of(x as i128 * v - y * w as i128)
+}
+
+// The side of the ray's line on which a point of the plane lies.
+fn across(h: &Plane, p: &Hit, a: &Point) -> Sign
+    requires numbers { IsPlaceAtMost upright_limit upright_weight_limit (hit_place p.now) }
+    ensures across { result ≡ sign_of (form_at (sweep_form (form_of h.now) (hit_place p.now)) (place_of a.now)) }
+{
+    if h.c() == 0 && h.b() == 0 {
+        ratio_sign(a.y(), a.w(), p.y(), p.w())
+    } else {
+        ratio_sign(a.x(), a.w(), p.x(), p.w())
+    }
+}
+
+// Whether points of the plane lie on different sides of the ray's line, or both on it.
+fn are_opposite(h: &Plane, p: &Hit, a: &Point, b: &Point) -> bool
+    requires numbers { IsPlaceAtMost upright_limit upright_weight_limit (hit_place p.now) }
+    ensures opposite { IsTrue result ↔ AreOpposite (sweep_form (form_of h.now) (hit_place p.now)) (place_of a.now) (place_of b.now) }
+{
+    across(h, p, a) == across(h, p, b).opposite()
+}
+
+// Where the ray crosses the plane, if that holds both points.
+fn plane_hit(g: &Plane, a: &Point, b: &Point, p: &Hit, d: &Dir) -> Option<FarHit>
+    requires numbers { IsPlaceAtMost upright_limit upright_weight_limit (hit_place p.now) }
+    requires small { IsAtMost normal_limit (vector_of d.now) }
+    ensures hit { MatchOption result (HoldsBoth (form_of g.now) (place_of a.now) (place_of b.now) → (q : Place) → IsCrossing (hit_place p.now) (vector_of d.now) (form_of g.now) q → ⊥) (λ q. IsHitThrough (hit_place p.now) (vector_of d.now) (place_of a.now) (place_of b.now) (far_reach_of q)) }
+{
+    if holds_both(g, a, b) {
+        far_hit(p, d, g)
+    } else {
+        None
+    }
+}
+
+// Where the ray crosses the first of the planes that hold both points and that it crosses at all.
+fn hit_through(planes: &[Plane], a: &Point, b: &Point, p: &Hit, d: &Dir) -> Option<FarHit>
+    requires numbers { IsPlaceAtMost upright_limit upright_weight_limit (hit_place p.now) }
+    requires small { IsAtMost normal_limit (vector_of d.now) }
+    ensures hit { MatchOption result (NoneCrosses planes.now (hit_place p.now) (vector_of d.now) (place_of a.now) (place_of b.now)) (λ q. IsHitThrough (hit_place p.now) (vector_of d.now) (place_of a.now) (place_of b.now) (far_reach_of q)) }
+{
+    for g in planes {
+        if let Some(q) = plane_hit(g, a, b, p, d) {
+            return Some(q);
+        }
+    }
+    None
+}
+
+// Where the ray meets the inside of the segment from a to b in the plane, or the point that both are.
+fn met_at(planes: &[Plane], h: &Plane, p: &Hit, d: &Dir, a: &Point, b: &Point) -> Option<FarHit>
+    requires on { form_at (form_of h.now) (hit_place p.now) ≡ pos 0 }
+    requires numbers { IsPlaceAtMost upright_limit upright_weight_limit (hit_place p.now) }
+    requires axis { IsAlongAxis (form_of h.now) (vector_of d.now) }
+    requires small { IsAtMost normal_limit (vector_of d.now) }
+    ensures met { IfSome result (λ q. IsMet (form_of h.now) (hit_place p.now) (vector_of d.now) (place_of a.now) (place_of b.now) (far_place q)) }
+    ensures through { IfSome result (λ q. IsHitThrough (hit_place p.now) (vector_of d.now) (place_of a.now) (place_of b.now) (far_reach_of q)) }
+    ensures none { IsNone result → (y : Place) → IsMet (form_of h.now) (hit_place p.now) (vector_of d.now) (place_of a.now) (place_of b.now) y → AllHold planes.now (vector_of d.now) (place_of a.now) (place_of b.now) }
+{
+    if holds_both(h, a, b) && are_opposite(h, p, a, b) {
+        hit_through(planes, a, b, p, d)
+    } else {
+        None
+    }
+}
+
+// What the ray meets first of two.
+fn nearer(one: Option<FarMet>, other: Option<FarMet>, p: &Hit, d: &Dir) -> Option<FarMet>
+    requires one { IfSome one (λ x. IsReachedMet (hit_place p.now) (vector_of d.now) (far_met_of x)) }
+    requires other { IfSome other (λ x. IsReachedMet (hit_place p.now) (vector_of d.now) (far_met_of x)) }
+    ensures nearer { IsNearer far_met_of (vector_of d.now) one other result }
+{
+    match (one, other) {
+        (Some(x), Some(y)) => match far_order(&x.at, &y.at) {
+            Ordering::Less => Some(x),
+            Ordering::Equal => Some(x),
+            Ordering::Greater => Some(y),
+        },
+        (None, y) => y,
+        (x, None) => x,
+    }
+}
+
+// The vertex with this number, where the ray meets it: there some carrier through it crosses the ray.
+fn vertex_met(c: &Complex, h: &Plane, p: &Hit, d: &Dir, number: usize) -> Option<FarMet>
+    requires shows { (s : Set) × ShowsSet s c.now }
+    requires on { form_at (form_of h.now) (hit_place p.now) ≡ pos 0 }
+    requires numbers { IsPlaceAtMost upright_limit upright_weight_limit (hit_place p.now) }
+    requires axis { IsAlongAxis (form_of h.now) (vector_of d.now) }
+    requires small { IsAtMost normal_limit (vector_of d.now) }
+    requires within { number < length c.now.vertices }
+    ensures nearest { IsNearest far_met_of (hit_place p.now) (vector_of d.now) (AtVertexNumber (complex_of c.now) number) result }
+{
+    let point = &c.vertices.at(number).point;
+    match met_at(c.carriers.as_slice(), h, p, d, point, point) {
+        Some(at) => Some(FarMet {
+            meet: PlaneMeet::AtVertex(number),
+            at,
+        }),
+        None => None,
+    }
+}
+
+// The edge with this number, where the ray meets its inside.
+fn edge_met(c: &Complex, h: &Plane, p: &Hit, d: &Dir, number: usize) -> Option<FarMet>
+    requires shows { (s : Set) × ShowsSet s c.now }
+    requires on { form_at (form_of h.now) (hit_place p.now) ≡ pos 0 }
+    requires numbers { IsPlaceAtMost upright_limit upright_weight_limit (hit_place p.now) }
+    requires axis { IsAlongAxis (form_of h.now) (vector_of d.now) }
+    requires small { IsAtMost normal_limit (vector_of d.now) }
+    requires within { number < length c.now.edges }
+    ensures nearest { IsNearest far_met_of (hit_place p.now) (vector_of d.now) (AtEdgeNumber (complex_of c.now) (form_of h.now) (vector_of d.now) number) result }
+{
+    let edge = c.edges.at(number);
+    let low = &c.vertices.at(edge.low).point;
+    let high = &c.vertices.at(edge.high).point;
+    match met_at(c.carriers.as_slice(), h, p, d, low, high) {
+        Some(at) => Some(FarMet {
+            meet: PlaneMeet::AtEdge(number),
+            at,
+        }),
+        None => None,
+    }
+}
+
+// The first vertex that the ray meets.
+fn nearest_vertex(c: &Complex, h: &Plane, p: &Hit, d: &Dir) -> Option<FarMet>
+    requires shows { (s : Set) × ShowsSet s c.now }
+    requires on { form_at (form_of h.now) (hit_place p.now) ≡ pos 0 }
+    requires numbers { IsPlaceAtMost upright_limit upright_weight_limit (hit_place p.now) }
+    requires axis { IsAlongAxis (form_of h.now) (vector_of d.now) }
+    requires small { IsAtMost normal_limit (vector_of d.now) }
+    ensures nearest { IsNearest far_met_of (hit_place p.now) (vector_of d.now) (λ m q. (k : ℕ) × AtVertexNumber (complex_of c.now) k m q) result }
+{
+    let mut best = None;
+    for number in 0..c.vertices.len() {
+        best = nearer(best, vertex_met(c, h, p, d, number), p, d);
+    }
+    best
+}
+
+// The first edge in the plane, not along the ray, that the ray meets. Where the ray meets an edge along it, it meets an
+// end of that edge sooner.
+fn nearest_edge(c: &Complex, h: &Plane, p: &Hit, d: &Dir) -> Option<FarMet>
+    requires shows { (s : Set) × ShowsSet s c.now }
+    requires on { form_at (form_of h.now) (hit_place p.now) ≡ pos 0 }
+    requires numbers { IsPlaceAtMost upright_limit upright_weight_limit (hit_place p.now) }
+    requires axis { IsAlongAxis (form_of h.now) (vector_of d.now) }
+    requires small { IsAtMost normal_limit (vector_of d.now) }
+    ensures nearest { IsNearest far_met_of (hit_place p.now) (vector_of d.now) (λ m q. (k : ℕ) × AtEdgeNumber (complex_of c.now) (form_of h.now) (vector_of d.now) k m q) result }
+{
+    let mut best = None;
+    for number in 0..c.edges.len() {
+        best = nearer(best, edge_met(c, h, p, d, number), p, d);
+    }
+    best
+}
+
+/// The first vertex or edge in the plane `h` that the ray from `p` along `d` meets strictly ahead. The point lies on the
+/// plane and is a vertex or lies strictly inside no edge in the plane; its first three numbers are at most `2^86` in
+/// size and its w at most `2^73`. The direction is the plane's axis or its opposite, with entries of at most `2^11` in
+/// size, and no svertex of a vertex at the point points along it. `None` comes exactly where nothing is met.
+pub fn first_in_plane(c: &Complex, h: &Plane, p: &Hit, d: &Dir) -> Option<PlaneMeet>
+    requires shows { (s : Set) × ShowsSet s c.now }
+    requires on { form_at (form_of h.now) (hit_place p.now) ≡ pos 0 }
+    requires off { IsOffEdges (complex_of c.now) (form_of h.now) (hit_place p.now) }
+    requires numbers { IsPlaceAtMost upright_limit upright_weight_limit (hit_place p.now) }
+    requires direction { IsAlongAxis (form_of h.now) (vector_of d.now) }
+    requires small { IsAtMost normal_limit (vector_of d.now) }
+    requires no_svertex { HasNoSvertex (complex_of c.now) (hit_place p.now) (vector_of d.now) }
+    ensures some { IfSome result (λ m. IsFirstInPlane (complex_of c.now) (form_of h.now) (hit_place p.now) (vector_of d.now) (meet_of m)) }
+    ensures none { IsNone result → (m : PlainMeet) (q : Place) → IsAhead (hit_place p.now) (vector_of d.now) q → Meets (complex_of c.now) (form_of h.now) m q → ⊥ }
+{
+    let vertex = nearest_vertex(c, h, p, d);
+    let edge = nearest_edge(c, h, p, d);
+    match nearer(vertex, edge, p, d) {
+        Some(met) => Some(met.meet),
+        None => None,
+    }
+}
