@@ -14,3 +14,7 @@ pub mod NearSides
 pub mod Located
 pub mod Reading
 pub mod UpwardSides
+pub mod SamePlanes
+pub mod Behind
+pub mod ItemsFound
+pub mod FacetFound

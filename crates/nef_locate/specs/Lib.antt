@@ -1,3 +1,4 @@
 pub mod Places
 pub mod Rays
 pub mod Ends
+pub mod Facets

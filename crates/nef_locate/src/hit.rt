@@ -12,10 +12,11 @@ ghost use Rattle.nef_solid.specs.Skeleton.{IsVertexPoint, IsEdgePoint};
 ghost use Rattle.nef_complex.specs.Complexes.{complex_of, ShowsSet};
 ghost use Rattle.nef_locate.specs.Rays.{IsSkeletonAt, IsSkeletonIn};
 
+use crate::facet::in_facet;
 use crate::place::Place;
-use crate::stub::{in_facet, is_at_vertex, is_on_edge};
 use nef_complex::Complex;
 use nef_geo::{Hit, Plane};
+use nef_plane::{is_at_vertex, is_on_edge};
 
 // Half the length of the frame's sides.
 const HALF_SIDE: i128 = 2048;

@@ -6,6 +6,7 @@
 
 mod above;
 mod edge;
+mod facet;
 mod hit;
 mod label;
 mod local;
@@ -14,10 +15,10 @@ mod place;
 mod plane;
 mod point;
 mod ray;
-mod stub;
 #[cfg(test)]
 mod tests;
 
+pub use facet::in_facet;
 pub use label::place_label;
 pub use local::local_map;
 pub use maps::place_map;

@@ -16,10 +16,10 @@ ghost use Rattle.nef_locate.specs.Places.{IsPlaceIn, IsPlaceAt, place_dimension}
 ghost use Rattle.nef_locate.specs.Rays.{IsSkeletonAt};
 
 use crate::above::side_above;
+use crate::facet::in_facet;
 use crate::hit::edge_hit;
 use crate::place::Place;
 use crate::ray::first_hit;
-use crate::stub::in_facet;
 use nef_complex::{Complex, Corner, vertex_at};
 use nef_geo::{Hit, Plane, Point, Sign, hit_at, hit_side, up};
 

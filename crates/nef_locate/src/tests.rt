@@ -1,4 +1,4 @@
-//! The labels and maps of the places of a complex made by hand, and places in the empty set.
+//! The labels and maps of the places of a complex made by hand, facets of the frame, and places in the empty set.
 
 ghost use Rattle.std.specs.Prelude.{◌≤◌, nat_abs, IfOk};
 ghost use Rattle.nef_space.specs.Place.{InClosedFrame};
@@ -10,9 +10,9 @@ ghost use Rattle.nef_locate.specs.Places.{IsPlaceIn};
 
 use super::*;
 use crate::plane::plane_of;
-use nef_complex::{Complex, Vertex};
+use nef_complex::{Complex, Corner, Vertex};
 use nef_frame::frame;
-use nef_geo::{Label, List, Point, up};
+use nef_geo::{Label, List, Plane, Point, Sign, hit_at, hit_side, up};
 use nef_smap::SphereMap;
 use nef_spair::{Kind, kind};
 use std::alloc::Global;
@@ -51,12 +51,33 @@ fn labels_of_places(rt: HostRuntime) -> Result<(), Fail> {
     Ok(())
 }
 
-// The complex of the empty set.
-fn nothing(alloc: Global) -> Result<Complex, OutOfMemory>
-    ensures shows { IfOk result (λ c. (s : Set) × ShowsSet s c) }
+fn empty(alloc: Global) -> Result<Complex, OutOfMemory>
+    ensures shows { IfOk result (λ c. ShowsSet Set.empty c) }
 {
     let complex = frame(alloc, Label::Not)?;
     Ok(complex)
+}
+
+// The corner of the point (x, 0, 0) in the plane.
+fn facet_at(c: &Complex, h: &Plane, x: i64) -> Result<Option<Corner>, &'static str>
+    requires shows { ShowsSet Set.empty c.now }
+    requires framed { nat_abs x ≤ 2048 }
+{
+    let p = hit_at(&Point::of(x, 0, 0, 1));
+    if hit_side(h, &p) != Sign::Zero {
+        return Err("off the plane");
+    }
+    Ok(in_facet(c, h, &p))
+}
+
+#[test]
+fn facets_of_the_frame(rt: HostRuntime) -> Result<(), Fail> {
+    let c = empty(rt.alloc())?;
+    let side = Plane::read(1, 0, 0, 2048)?.plane();
+    assert!(rt; facet_at(&c, &side, -2048)?.is_some());
+    let middle = Plane::read(1, 0, 0, 0)?.plane();
+    assert!(rt; facet_at(&c, &middle, 0)? == None);
+    Ok(())
 }
 
 // The point (x, 0, 0) of the closed frame.
@@ -83,7 +104,7 @@ fn is_wall(c: &Complex, at: &Place, x: i64) -> bool
 
 #[test]
 fn places_in_the_empty_set(rt: HostRuntime) -> Result<(), Fail> {
-    let c = nothing(rt.alloc())?;
+    let c = empty(rt.alloc())?;
     let (middle, wall) = (along_x(0), along_x(2048));
     let (inside, side) = (locate(&c, &middle), locate(&c, &wall));
     assert_eq!(rt; place_label(&c, &inside), Label::Not);
