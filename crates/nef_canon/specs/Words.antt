@@ -1,0 +1,8 @@
+-- Words behind blanks.
+use Rattle.std.specs.Prelude.{ℕ, List, [], ◌∷◌, ◌++◌}
+use Rattle.nef_parts.specs.Text.{Word}
+
+-- each word behind a blank
+abbrev pub blanked : List Word → List ℕ
+blanked [] = []
+blanked (w ∷ ws) = 32 ∷ (w ++ blanked ws)

@@ -1,0 +1,11 @@
+//! The canonical text of a complex with its parts, written once into one buffer. Its grammar stands in
+//! docs/text-format.md.
+#![tactic(auto)]
+
+mod facets;
+mod maps;
+mod text;
+mod words;
+
+pub use std::alloc::AllocError as OutOfMemory;
+pub use text::write_text;

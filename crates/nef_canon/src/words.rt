@@ -1,0 +1,116 @@
+//! Words of a line, each behind a blank.
+
+ghost use Rattle.std.specs.Prelude.{◌≡◌, ◌++◌, ◌∷◌, [], decimal, OnOk};
+ghost use Rattle.std.specs.Fmt.{signed_decimal};
+ghost use Rattle.nef_parts.specs.Text.{label_word, option_word, dir_words, point_words, plane_words};
+ghost use Rattle.nef_canon.specs.Words.{blanked};
+
+use crate::OutOfMemory;
+use itoa::Buffer;
+use nef_geo::{Dir, Label, Plane, Point};
+
+/// Adds a blank and the number.
+pub(crate) fn add_count(text: &mut Vec<u8>, n: usize) -> Result<(), OutOfMemory>
+    ensures added { OnOk result (text.new.items ≡ text.old.items ++ blanked (decimal n ∷ [])) }
+{
+    let mut buffer = Buffer::new();
+    text.push(b' ')?;
+    text.extend_from_slice(buffer.format(n).as_bytes())?;
+    Ok(())
+}
+
+/// Adds a blank and the number with its sign.
+pub(crate) fn add_number(text: &mut Vec<u8>, n: i64) -> Result<(), OutOfMemory>
+    ensures added { OnOk result (text.new.items ≡ text.old.items ++ blanked (signed_decimal n ∷ [])) }
+{
+    let mut buffer = Buffer::new();
+    text.push(b' ')?;
+    text.extend_from_slice(buffer.format(n).as_bytes())?;
+    Ok(())
+}
+
+fn label_letter(label: Label) -> u8
+    ensures letter { result ∷ [] ≡ label_word label }
+{
+    match label {
+        Label::Out => b'o',
+        Label::Not => b'n',
+        Label::In => b'i',
+    }
+}
+
+/// Adds a blank and the label.
+pub(crate) fn add_label(text: &mut Vec<u8>, label: Label) -> Result<(), OutOfMemory>
+    ensures added { OnOk result (text.new.items ≡ text.old.items ++ blanked (label_word label ∷ [])) }
+{
+    text.push(b' ')?;
+    text.push(label_letter(label))?;
+    Ok(())
+}
+
+fn option_letter(label: Option<Label>) -> u8
+    ensures letter { result ∷ [] ≡ option_word label }
+{
+    match label {
+        Some(label) => label_letter(label),
+        None => b'-',
+    }
+}
+
+/// Adds a blank and the label, or a dash where none is given.
+pub(crate) fn add_option(text: &mut Vec<u8>, label: Option<Label>) -> Result<(), OutOfMemory>
+    ensures added { OnOk result (text.new.items ≡ text.old.items ++ blanked (option_word label ∷ [])) }
+{
+    text.push(b' ')?;
+    text.push(option_letter(label))?;
+    Ok(())
+}
+
+/// Adds the three numbers of the direction, each behind a blank.
+pub(crate) fn add_dir(text: &mut Vec<u8>, d: &Dir) -> Result<(), OutOfMemory>
+    ensures added { OnOk result (text.new.items ≡ text.old.items ++ blanked (dir_words d.now)) }
+{
+    add_number(text, d.x())?;
+    add_number(text, d.y())?;
+    add_number(text, d.z())
+}
+
+// Adds two numbers, each behind a blank.
+fn add_pair(text: &mut Vec<u8>, m: i64, n: i64) -> Result<(), OutOfMemory>
+    ensures added { OnOk result (text.new.items ≡ text.old.items ++ blanked (signed_decimal m ∷ signed_decimal n ∷ [])) }
+{
+    add_number(text, m)?;
+    add_number(text, n)
+}
+
+/// Adds the four numbers of the point, each behind a blank.
+pub(crate) fn add_point(text: &mut Vec<u8>, p: &Point) -> Result<(), OutOfMemory>
+    ensures added { OnOk result (text.new.items ≡ text.old.items ++ blanked (point_words p.now)) }
+{
+    add_pair(text, p.x(), p.y())?;
+    add_pair(text, p.z(), p.w())?;
+    Ok(())
+}
+
+/// Adds the four numbers of the plane, each behind a blank.
+pub(crate) fn add_plane(text: &mut Vec<u8>, h: &Plane) -> Result<(), OutOfMemory>
+    ensures added { OnOk result (text.new.items ≡ text.old.items ++ blanked (plane_words h.now)) }
+{
+    add_pair(text, h.a(), h.b())?;
+    add_pair(text, h.c(), h.d())?;
+    Ok(())
+}
+
+/// Adds the labels of an item, each behind a blank: its mark, and those of its two sides.
+pub(crate) fn add_labels(
+    text: &mut Vec<u8>,
+    mark: Label,
+    pos: Label,
+    neg: Label,
+) -> Result<(), OutOfMemory>
+    ensures added { OnOk result (text.new.items ≡ text.old.items ++ blanked (label_word mark ∷ label_word pos ∷ label_word neg ∷ [])) }
+{
+    add_label(text, mark)?;
+    add_label(text, pos)?;
+    add_label(text, neg)
+}

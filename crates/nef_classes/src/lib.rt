@@ -1,0 +1,11 @@
+//! The numbers of the classes of a table's elements: ties join elements, and classes are numbered by first appearance.
+#![tactic(auto)]
+
+mod flat;
+mod rows;
+mod table;
+#[cfg(test)]
+mod tests;
+
+pub use std::alloc::AllocError as OutOfMemory;
+pub use table::{Spot, Tie, number_rows};

@@ -1,0 +1,4 @@
+mod Carriers
+mod Numbering
+mod Rows
+mod OneCycles

@@ -1,0 +1,14 @@
+pub mod Ties
+pub mod ItemWays
+pub mod NearVertex
+pub mod ItemPoints
+pub mod EdgeEnds
+pub mod Across
+pub mod Chains
+pub mod ItemLinks
+pub mod SideSight
+pub mod SidePoints
+pub mod SideLinks
+pub mod Outside
+pub mod Down
+pub mod SidesJoined

@@ -1,0 +1,59 @@
+-- The next corner of a facet, and its cycles.
+use Rattle.std.specs.Prelude.{◌≡◌, ℕ, pos, List, [], ◌∷◌, ◌⊎◌}
+use Rattle.std.specs.List.{All}
+use Rattle.nef_space.specs.Numbers.{IsBelow}
+use Rattle.nef_space.specs.Vectors.{SameDirection}
+use Rattle.nef_sphere.specs.Least.{InOrder}
+use Rattle.nef_sphere.specs.Maps.{At, Arc, Loop, loop_item}
+use Rattle.nef_solid.specs.Complexes.{Vertex, Edge, Complex, Corner, IsCorner}
+
+-- the edge leads from svertex s of vertex i to svertex t of vertex j
+abbrev pub Leads : Edge → ℕ → ℕ → ℕ → ℕ → Type 0
+Leads e i s j t = ((e.low ≡ i) × (e.low_svertex ≡ s) × (e.high ≡ j) × (e.high_svertex ≡ t)) ⊎ ((e.high ≡ i) × (e.high_svertex ≡ s) × (e.low ≡ j) × (e.low_svertex ≡ t))
+
+-- the arc at corner k ends where the edge of the source of the arc at corner j leads
+pub record IsNextArc (C : Complex) (j k : Corner) : Type 0 where
+  pub here : Vertex
+  pub there : Vertex
+  pub this_arc : Arc
+  pub that_arc : Arc
+  pub is_here : At C.vertices j.vertex here
+  pub is_there : At C.vertices k.vertex there
+  pub is_this : At here.map.arcs j.item this_arc
+  pub is_that : At there.map.arcs k.item that_arc
+  pub number : ℕ
+  pub edge : Edge
+  pub is_edge : At C.edges number edge
+  pub leads : Leads edge j.vertex this_arc.source k.vertex that_arc.target
+  pub one_normal : SameDirection this_arc.normal that_arc.normal
+
+-- a sloop is its own next corner
+abbrev pub IsNextLoop : Complex → Corner → Corner → Type 0
+IsNextLoop C j k = (j ≡ k) × (v : Vertex) × (l : Loop) × IsCorner C j v (loop_item l)
+
+abbrev pub NextCorner : Complex → Corner → Corner → Type 0
+NextCorner C j k = IsNextArc C j k ⊎ IsNextLoop C j k
+
+abbrev pub IsCornerBelow : Corner → Corner → Type 0
+IsCornerBelow j k = IsBelow (pos j.vertex ∷ pos j.item ∷ []) (pos k.vertex ∷ pos k.item ∷ [])
+
+-- from j the steps go over the corners of the list and then to z
+abbrev pub StepsTo : Complex → Corner → List Corner → Corner → Type 0
+StepsTo C j [] z = NextCorner C j z
+StepsTo C j (k ∷ ks) z = NextCorner C j k × StepsTo C k ks z
+
+-- the steps from the first corner lead over the others back to it, and it is the least
+abbrev pub IsCycle : Complex → List Corner → Type 0
+IsCycle C [] = ⊥
+IsCycle C (j ∷ ks) = StepsTo C j ks j × All (IsCornerBelow j) ks
+
+-- the order by first corners
+abbrev pub IsCycleBelow : List Corner → List Corner → Type 0
+IsCycleBelow x y = (j : Corner) × (k : Corner) × At x 0 j × At y 0 k × IsCornerBelow j k
+
+-- the cycles through the corners that have P, in order
+pub record Cycles (C : Complex) (P : Corner → Type 0) (xs : List (List Corner)) : Type 0 where
+  pub cycles : (i : ℕ) (x : List Corner) → At xs i x → IsCycle C x
+  pub within : (i k : ℕ) (x : List Corner) (j : Corner) → At xs i x → At x k j → P j
+  pub complete : (j : Corner) → P j → (i : ℕ) × (k : ℕ) × (x : List Corner) × At xs i x × At x k j
+  pub ordered : InOrder IsCycleBelow xs

@@ -1,0 +1,4 @@
+pub mod Injective
+pub mod Vertices
+pub mod Sets
+pub mod Decides
