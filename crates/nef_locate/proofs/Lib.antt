@@ -6,10 +6,6 @@ pub mod TwoStars
 pub mod EdgeEnds
 pub mod EdgeCones
 pub mod EdgeStars
-pub mod SamePlanes
-pub mod Behind
-pub mod ItemsFound
-pub mod FacetFound
 pub mod EqualPoints
 pub mod CarrierPoints
 pub mod RayMeets
@@ -18,3 +14,7 @@ pub mod NearSides
 pub mod Located
 pub mod Reading
 pub mod UpwardSides
+pub mod SamePlanes
+pub mod Behind
+pub mod ItemsFound
+pub mod FacetFound

@@ -1,4 +1,4 @@
 pub mod Places
-pub mod Facets
 pub mod Rays
 pub mod Ends
+pub mod Facets

@@ -1,4 +1,4 @@
-//! The labels and maps of the places of a complex made by hand, and places in the empty set.
+//! The labels and maps of the places of a complex made by hand, facets of the frame, and places in the empty set.
 
 ghost use Rattle.std.specs.Prelude.{◌≤◌, nat_abs, IfOk};
 ghost use Rattle.nef_space.specs.Place.{InClosedFrame};
@@ -51,9 +51,9 @@ fn labels_of_places(rt: HostRuntime) -> Result<(), Fail> {
     Ok(())
 }
 
-// The complex of the empty set.
-fn nothing(alloc: Global) -> Result<Complex, OutOfMemory>
-    ensures shows { IfOk result (λ c. (s : Set) × ShowsSet s c) }
+fn empty(alloc: Global) -> Result<Complex, OutOfMemory>
+    ensures shows { IfOk result (λ c. ShowsSet Set.empty c) }
+    ensures some { IfOk result (λ c. (s : Set) × ShowsSet s c) }
 {
     let complex = frame(alloc, Label::Not)?;
     Ok(complex)
@@ -61,7 +61,7 @@ fn nothing(alloc: Global) -> Result<Complex, OutOfMemory>
 
 // The corner of the point (x, 0, 0) in the plane.
 fn facet_at(c: &Complex, h: &Plane, x: i64) -> Result<Option<Corner>, &'static str>
-    requires shows { (s : Set) × ShowsSet s c.now }
+    requires shows { ShowsSet Set.empty c.now }
     requires framed { nat_abs x ≤ 2048 }
 {
     let p = hit_at(&Point::of(x, 0, 0, 1));
@@ -73,7 +73,7 @@ fn facet_at(c: &Complex, h: &Plane, x: i64) -> Result<Option<Corner>, &'static s
 
 #[test]
 fn facets_of_the_frame(rt: HostRuntime) -> Result<(), Fail> {
-    let c = nothing(rt.alloc())?;
+    let c = empty(rt.alloc())?;
     let side = Plane::read(1, 0, 0, 2048)?.plane();
     assert!(rt; facet_at(&c, &side, -2048)?.is_some());
     let middle = Plane::read(1, 0, 0, 0)?.plane();
@@ -97,7 +97,7 @@ fn is_wall(c: &Complex, at: &Place, x: i64) -> bool
         Place::InFacet(corner) => {
             let v = c.vertices.at(corner.vertex);
             let normal = plane_of(&v.map, corner.item).normal;
-            (normal.x(), normal.y(), normal.z()) == (1, 0, 0) && v.point.x() == x
+            normal.x() == 1 && normal.y() == 0 && normal.z() == 0 && v.point.x() == x
         }
         _ => false,
     }
@@ -105,7 +105,7 @@ fn is_wall(c: &Complex, at: &Place, x: i64) -> bool
 
 #[test]
 fn places_in_the_empty_set(rt: HostRuntime) -> Result<(), Fail> {
-    let c = nothing(rt.alloc())?;
+    let c = empty(rt.alloc())?;
     let (middle, wall) = (along_x(0), along_x(2048));
     let (inside, side) = (locate(&c, &middle), locate(&c, &wall));
     assert_eq!(rt; place_label(&c, &inside), Label::Not);
