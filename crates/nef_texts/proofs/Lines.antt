@@ -48,8 +48,8 @@ first-word : (w u : Word) (ws : List Word) (x : List ℕ) → line (w ∷ u ∷ 
 first-word w u ws x = ap (λ (r : List ℕ). r ++ x) (append_assoc w _ (10 ∷ [])) ∙ append_assoc w (32 ∷ line (u ∷ ws)) x
 
 -- lines of plain words that begin two equal lists of bytes are equal, and so is what follows them
-pub line-ends : (w : Word) (ws : List Word) (v : Word) (vs : List Word) (x y : List ℕ) → ArePlain (w ∷ ws) → ArePlain (v ∷ vs) → line (w ∷ ws) ++ x ≡ line (v ∷ vs) ++ y
-    → (w ∷ ws ≡ v ∷ vs) × (x ≡ y)
+pub line-ends : (w : Word) (ws : List Word) (v : Word) (vs : List Word) (x y : List ℕ) → ArePlain (w ∷ ws) → ArePlain (v ∷ vs)
+    → line (w ∷ ws) ++ x ≡ line (v ∷ vs) ++ y → (w ∷ ws ≡ v ∷ vs) × (x ≡ y)
 line-ends w [] v [] x y P Q e =
     let r = word-ends w v 10 10 x y P.0 Q.0 (omega arith) (omega arith) (sym (last-word w x) ∙ e ∙ last-word v y) in
     (same-both w v [] [] r.0 refl, r.2)

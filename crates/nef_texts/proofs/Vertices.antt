@@ -18,7 +18,7 @@ use Rattle.nef_unique.proofs.Injective.{dir-one, svertex-equal, arc-equal, loop-
 use Rattle.nef_parts.specs.Text.{Word, label_word, option_word, vertex_line, svertex_line, arc_line, sloop_line, vertex_text}
 use Rattle.nef_texts.proofs.Lines.{ArePlain, Starts, Lacks, same-head, line-starts, line-ends, starts-onto, starts-lacks}
 use Rattle.nef_texts.proofs.Words.{decimal-plain, signed-plain, label-plain, option-plain, label-one, option-one}
-use Rattle.nef_texts.proofs.Lists.{Reads, Any, all-lack, all-read, four_parts}
+use Rattle.nef_texts.proofs.Lists.{Reads, ReadsAll, Any, all-lack, all-read, four_parts}
 
 -- the n-th word of a line
 abbrev nth : ℕ → List Word → Word
@@ -43,7 +43,8 @@ dir-read d e a b c =
 point-one : (p q : Point) → p.x ≡ q.x → p.y ≡ q.y → p.z ≡ q.z → p.w ≡ q.w → p ≡ q
 point-one p q a b c d = same_places_equal p q (record { along_x = rw (a, d) refl; along_y = rw (b, d) refl; along_z = rw (c, d) refl })
 
-point-read : (p q : Point) → signed_decimal p.x ≡ signed_decimal q.x → signed_decimal p.y ≡ signed_decimal q.y → signed_decimal p.z ≡ signed_decimal q.z → signed_decimal p.w ≡ signed_decimal q.w → p ≡ q
+point-read : (p q : Point) → signed_decimal p.x ≡ signed_decimal q.x → signed_decimal p.y ≡ signed_decimal q.y
+    → signed_decimal p.z ≡ signed_decimal q.z → signed_decimal p.w ≡ signed_decimal q.w → p ≡ q
 point-read p q a b c d =
     let l : point_limit < 2 ^ 63 = omega arith in
     let k : weight_limit < 2 ^ 63 = omega arith in
@@ -66,15 +67,19 @@ svertex-reads v u x y P Q e =
     let d = dir-read v.dir u.dir (ap (nth 1) r.0) (ap (nth 2) r.0) (ap (nth 3) r.0) in
     (svertex-equal v u d (label-one v.mark u.mark (ap (nth 4) r.0)) (option-one v.around u.around (ap (nth 5) r.0)), r.1)
 
+svertex-lists : ReadsAll SVertex SVertex Any (λ (v : SVertex). v) svertex_line 115
+svertex-lists = all-read SVertex SVertex Any (λ (v : SVertex). v) svertex_line 115 svertex-starts svertex-reads (λ _ _. tt)
+
 -- ---- arcs
 abbrev arc_words : SArc → List Word
-arc_words a = decimal a.source ∷ decimal a.target ∷ signed_decimal a.normal.x ∷ signed_decimal a.normal.y ∷ signed_decimal a.normal.z ∷ label_word a.mark ∷ label_word a.pos ∷ label_word a.neg ∷ []
+arc_words a = decimal a.source ∷ decimal a.target ∷ signed_decimal a.normal.x ∷ signed_decimal a.normal.y ∷ signed_decimal a.normal.z
+    ∷ label_word a.mark ∷ label_word a.pos ∷ label_word a.neg ∷ []
 
 arc-plain : (a : SArc) → ArePlain ((97 ∷ []) ∷ arc_words a)
-arc-plain a = (
-  (omega arith, tt),
-  (decimal-plain a.source, (decimal-plain a.target, (signed-plain a.normal.x, (signed-plain a.normal.y, (signed-plain a.normal.z, (label-plain a.mark, (label-plain a.pos, (label-plain a.neg, tt)))))))),
-)
+arc-plain a =
+    let labels : ArePlain (label_word a.mark ∷ label_word a.pos ∷ label_word a.neg ∷ []) = (label-plain a.mark, (label-plain a.pos, (label-plain a.neg, tt))) in
+    let n = a.normal in
+    ((omega arith, tt), (decimal-plain a.source, (decimal-plain a.target, (signed-plain n.x, (signed-plain n.y, (signed-plain n.z, labels))))))
 
 arc-starts : (a : SArc) → Starts 97 (arc_line a)
 arc-starts a = line-starts 97 [] (arc_words a)
@@ -87,13 +92,17 @@ arc-reads a b x y P Q e =
     let n = dir-read a.normal b.normal (ap (nth 3) r.0) (ap (nth 4) r.0) (ap (nth 5) r.0) in
     (arc-equal a b s t n (label-one a.mark b.mark (ap (nth 6) r.0)) (label-one a.pos b.pos (ap (nth 7) r.0)) (label-one a.neg b.neg (ap (nth 8) r.0)), r.1)
 
+arc-lists : ReadsAll SArc SArc Any (λ (a : SArc). a) arc_line 97
+arc-lists = all-read SArc SArc Any (λ (a : SArc). a) arc_line 97 arc-starts arc-reads (λ _ _. tt)
+
 -- ---- sloops
 abbrev sloop_words : SLoop → List Word
 sloop_words l = signed_decimal l.normal.x ∷ signed_decimal l.normal.y ∷ signed_decimal l.normal.z ∷ label_word l.mark ∷ label_word l.pos ∷ label_word l.neg ∷ []
 
 sloop-plain : (l : SLoop) → ArePlain ((108 ∷ []) ∷ sloop_words l)
 sloop-plain l = (
-  (omega arith, tt), (signed-plain l.normal.x, (signed-plain l.normal.y, (signed-plain l.normal.z, (label-plain l.mark, (label-plain l.pos, (label-plain l.neg, tt)))))),
+  (omega arith, tt),
+  (signed-plain l.normal.x, (signed-plain l.normal.y, (signed-plain l.normal.z, (label-plain l.mark, (label-plain l.pos, (label-plain l.neg, tt)))))),
 )
 
 sloop-starts : (l : SLoop) → Starts 108 (sloop_line l)
@@ -105,6 +114,9 @@ sloop-reads l k x y P Q e =
     let n = dir-read l.normal k.normal (ap (nth 1) r.0) (ap (nth 2) r.0) (ap (nth 3) r.0) in
     (loop-equal l k n (label-one l.mark k.mark (ap (nth 4) r.0)) (label-one l.pos k.pos (ap (nth 5) r.0)) (label-one l.neg k.neg (ap (nth 6) r.0)), r.1)
 
+sloop-lists : ReadsAll SLoop SLoop Any (λ (l : SLoop). l) sloop_line 108
+sloop-lists = all-read SLoop SLoop Any (λ (l : SLoop). l) sloop_line 108 sloop-starts sloop-reads (λ _ _. tt)
+
 -- an optional thing is told by its list
 option-listed : {A : Type 0} (o p : Option A) → option_to_list o ≡ option_to_list p → o ≡ p
 option-listed None None e = refl
@@ -114,15 +126,17 @@ option-listed {A} (Some x) (Some y) e = ap (λ (r : A). Some r) (same-head x y [
 
 -- ---- vertices
 abbrev vertex_words : Vertex → List Word
-vertex_words v = signed_decimal v.point.x ∷ signed_decimal v.point.y ∷ signed_decimal v.point.z ∷ signed_decimal v.point.w ∷ label_word v.map.mark ∷ option_word v.map.ground ∷ []
+vertex_words v = signed_decimal v.point.x ∷ signed_decimal v.point.y ∷ signed_decimal v.point.z ∷ signed_decimal v.point.w
+    ∷ label_word v.map.mark ∷ option_word v.map.ground ∷ []
 
 vertex-plain : (v : Vertex) → ArePlain ((118 ∷ []) ∷ vertex_words v)
-vertex-plain v = (
-  (omega arith, tt),
-  (signed-plain v.point.x, (signed-plain v.point.y, (signed-plain v.point.z, (signed-plain v.point.w, (label-plain v.map.mark, (option-plain v.map.ground, tt)))))),
-)
+vertex-plain v =
+    let labels : ArePlain (label_word v.map.mark ∷ option_word v.map.ground ∷ []) = (label-plain v.map.mark, (option-plain v.map.ground, tt)) in
+    let p = v.point in
+    ((omega arith, tt), (signed-plain p.x, (signed-plain p.y, (signed-plain p.z, (signed-plain p.w, labels)))))
 
-line-read : (v u : Vertex) (x y : List ℕ) → vertex_line v ++ x ≡ vertex_line u ++ y → (v.point ≡ u.point) × (v.map.mark ≡ u.map.mark) × (v.map.ground ≡ u.map.ground) × (x ≡ y)
+line-read : (v u : Vertex) (x y : List ℕ) → vertex_line v ++ x ≡ vertex_line u ++ y
+    → (v.point ≡ u.point) × (v.map.mark ≡ u.map.mark) × (v.map.ground ≡ u.map.ground) × (x ≡ y)
 line-read v u x y e =
     let r = line-ends (118 ∷ []) (vertex_words v) (118 ∷ []) (vertex_words u) x y (vertex-plain v) (vertex-plain u) e in
     let p = point-read v.point u.point (ap (nth 1) r.0) (ap (nth 2) r.0) (ap (nth 3) r.0) (ap (nth 4) r.0) in
@@ -144,30 +158,34 @@ sloop-lacks d n v x h = all-lack SLoop sloop_line 108 sloop-starts d n (option_t
 arcs-lack : (d : ℕ) → (97 ≡ d → ⊥) → (108 ≡ d → ⊥) → (v : Vertex) (x : List ℕ) → Lacks d x → Lacks d (arcs_and v x)
 arcs-lack d m n v x h = all-lack SArc arc_line 97 arc-starts d m v.map.arcs (sloop_and v x) (sloop-lacks d n v x h)
 
-svertices-read : (v u : Vertex) (x y : List ℕ) → FollowsVertex x → FollowsVertex y → flat_map svertex_line v.map.svertices ++ arcs_and v x ≡ flat_map svertex_line u.map.svertices ++ arcs_and u y
-    → (v.map.svertices ≡ u.map.svertices) × (arcs_and v x ≡ arcs_and u y)
+svertices-read : (v u : Vertex) (x y : List ℕ) → FollowsVertex x → FollowsVertex y
+    → flat_map svertex_line v.map.svertices ++ arcs_and v x ≡ flat_map svertex_line u.map.svertices ++ arcs_and u y → (v.map.svertices ≡ u.map.svertices) × (arcs_and v x ≡ arcs_and u y)
 svertices-read v u x y P Q e =
-    let s = all-read SVertex SVertex Any (λ (r : SVertex). r) svertex_line 115 svertex-starts svertex-reads (λ _ _. tt) v.map.svertices u.map.svertices (arcs_and v x) (arcs_and u y) tt tt
-    (arcs-lack 115 (λ e. omega arith) (λ e. omega arith) v x P.0) (arcs-lack 115 (λ e. omega arith) (λ e. omega arith) u y Q.0) e in
+    let h = arcs-lack 115 (λ e. omega arith) (λ e. omega arith) v x P.0 in
+    let k = arcs-lack 115 (λ e. omega arith) (λ e. omega arith) u y Q.0 in
+    let s = svertex-lists v.map.svertices u.map.svertices (arcs_and v x) (arcs_and u y) tt tt h k e in
     (sym (map-id v.map.svertices) ∙ s.0 ∙ map-id u.map.svertices, s.1)
 
-arcs-read : (v u : Vertex) (x y : List ℕ) → FollowsVertex x → FollowsVertex y → arcs_and v x ≡ arcs_and u y → (v.map.arcs ≡ u.map.arcs) × (sloop_and v x ≡ sloop_and u y)
+arcs-read : (v u : Vertex) (x y : List ℕ) → FollowsVertex x → FollowsVertex y → arcs_and v x ≡ arcs_and u y
+    → (v.map.arcs ≡ u.map.arcs) × (sloop_and v x ≡ sloop_and u y)
 arcs-read v u x y P Q e =
-    let s = all-read SArc SArc Any (λ (r : SArc). r) arc_line 97 arc-starts arc-reads (λ _ _. tt) v.map.arcs u.map.arcs (sloop_and v x) (sloop_and u y) tt tt
-    (sloop-lacks 97 (λ e. omega arith) v x P.1) (sloop-lacks 97 (λ e. omega arith) u y Q.1) e in
+    let h = sloop-lacks 97 (λ e. omega arith) v x P.1 in
+    let k = sloop-lacks 97 (λ e. omega arith) u y Q.1 in
+    let s = arc-lists v.map.arcs u.map.arcs (sloop_and v x) (sloop_and u y) tt tt h k e in
     (sym (map-id v.map.arcs) ∙ s.0 ∙ map-id u.map.arcs, s.1)
 
 sloop-read : (v u : Vertex) (x y : List ℕ) → FollowsVertex x → FollowsVertex y → sloop_and v x ≡ sloop_and u y → (v.map.sloop ≡ u.map.sloop) × (x ≡ y)
 sloop-read v u x y P Q e =
     let a = option_to_list v.map.sloop in
     let b = option_to_list u.map.sloop in
-    let s = all-read SLoop SLoop Any (λ (r : SLoop). r) sloop_line 108 sloop-starts sloop-reads (λ _ _. tt) a b x y tt tt P.2 Q.2 e in
+    let s = sloop-lists a b x y tt tt P.2 Q.2 e in
     (option-listed v.map.sloop u.map.sloop (sym (map-id a) ∙ s.0 ∙ map-id b), s.1)
 
 pieces : (v : Vertex) (x : List ℕ) → vertex_text v ++ x ≡ vertex_line v ++ (flat_map svertex_line v.map.svertices ++ arcs_and v x)
-pieces v x = four_parts (vertex_line v) (flat_map svertex_line v.map.svertices) (flat_map arc_line v.map.arcs) (flat_map sloop_line (option_to_list v.map.sloop)) x
+pieces v x =
+    let m = v.map in four_parts (vertex_line v) (flat_map svertex_line m.svertices) (flat_map arc_line m.arcs) (flat_map sloop_line (option_to_list m.sloop)) x
 
-pub vertex-reads : Reads Vertex Vertex FollowsVertex (λ (v : Vertex). v) vertex_text
+vertex-reads : Reads Vertex Vertex FollowsVertex (λ (v : Vertex). v) vertex_text
 vertex-reads v u x y P Q e =
     let h = line-read v u _ _ (sym (pieces v x) ∙ e ∙ pieces u y) in
     let s = svertices-read v u x y P Q h.3 in
@@ -175,13 +193,16 @@ vertex-reads v u x y P Q e =
     let l = sloop-read v u x y P Q a.1 in
     (vertex-equal v u h.0 (map-equal v.map u.map h.1 s.0 a.0 l.0 h.2), l.1)
 
-pub vertex-starts : (v : Vertex) → Starts 118 (vertex_text v)
+vertex-starts : (v : Vertex) → Starts 118 (vertex_text v)
 vertex-starts v =
-    let s = line-starts 118 [] (vertex_words v) in
-    starts-onto 118 _ (flat_map sloop_line (option_to_list v.map.sloop)) (starts-onto 118 _ (flat_map arc_line v.map.arcs) (starts-onto 118 _ (flat_map svertex_line v.map.svertices) s))
+    let s = starts-onto 118 (vertex_line v) (flat_map svertex_line v.map.svertices) (line-starts 118 [] (vertex_words v)) in
+    starts-onto 118 _ (flat_map sloop_line (option_to_list v.map.sloop)) (starts-onto 118 _ (flat_map arc_line v.map.arcs) s)
 
-pub before-vertex : (v : Vertex) (x : List ℕ) → FollowsVertex (vertex_text v ++ x)
+before-vertex : (v : Vertex) (x : List ℕ) → FollowsVertex (vertex_text v ++ x)
 before-vertex v x =
     let s = vertex-starts v in
     let t = vertex_text v in
     (starts-lacks 118 115 t x s (λ e. omega arith), starts-lacks 118 97 t x s (λ e. omega arith), starts-lacks 118 108 t x s (λ e. omega arith))
+
+pub vertex-lists : ReadsAll Vertex Vertex FollowsVertex (λ (v : Vertex). v) vertex_text 118
+vertex-lists = all-read Vertex Vertex FollowsVertex (λ (v : Vertex). v) vertex_text 118 vertex-starts vertex-reads before-vertex

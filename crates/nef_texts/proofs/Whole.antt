@@ -13,16 +13,18 @@ use Rattle.nef_parts.specs.declared.parts.Facet.{Facet}
 use Rattle.nef_parts.specs.declared.parts.Parts.{Parts}
 use Rattle.nef_parts.specs.Text.{Word, label_word, numbers, corner_words, edge_line, cycle_line, facet_line, facet_text, volume_line, vertex_text, counts, first_line, text}
 use Rattle.nef_texts.proofs.Lines.{Each-append, IsPlain, ArePlain, Starts, Lacks, line-starts, line-ends, starts-onto, starts-lacks}
-use Rattle.nef_texts.proofs.Words.{decimal-plain, numbers-plain, signed-plain, label-plain, label-one}
-use Rattle.nef_texts.proofs.Lists.{Reads, Any, all-lack, all-read, same-length, four_parts}
-use Rattle.nef_texts.proofs.Vertices.{FollowsVertex, vertex-reads, vertex-starts, before-vertex}
+use Rattle.nef_texts.proofs.Words.{decimal-plain, numbers-plain, signed-plain, label-plain}
+use Rattle.nef_texts.proofs.Lists.{Reads, ReadsAll, Any, all-lack, all-read, same-length, four_parts}
+use Rattle.nef_texts.proofs.Vertices.{FollowsVertex, vertex-lists}
 
 -- ---- edges
 abbrev edge_words : Edge → List Word
 edge_words e = decimal e.low ∷ decimal e.low_svertex ∷ decimal e.high ∷ decimal e.high_svertex ∷ label_word e.mark ∷ []
 
 edge-plain : (e : Edge) → ArePlain ((101 ∷ []) ∷ edge_words e)
-edge-plain e = ((omega arith, tt), (decimal-plain e.low, (decimal-plain e.low_svertex, (decimal-plain e.high, (decimal-plain e.high_svertex, (label-plain e.mark, tt))))))
+edge-plain e =
+    let high : ArePlain (decimal e.high ∷ decimal e.high_svertex ∷ label_word e.mark ∷ []) = (decimal-plain e.high, (decimal-plain e.high_svertex, (label-plain e.mark, tt))) in
+    ((omega arith, tt), (decimal-plain e.low, (decimal-plain e.low_svertex, high)))
 
 edge-starts : (e : Edge) → Starts 101 (edge_line e)
 edge-starts e = line-starts 101 [] (edge_words e)
@@ -40,17 +42,19 @@ cycle-starts o = line-starts 99 [] (flat_map corner_words o.corners)
 
 cycle-reads : Reads Cycle (Unit {0}) Any (λ _. tt) cycle_line
 cycle-reads a b x y P Q e =
-    let h : IsPlain (99 ∷ []) = (omega arith, tt) in
-    (refl, (line-ends (99 ∷ []) (flat_map corner_words a.corners) (99 ∷ []) (flat_map corner_words b.corners) x y (h, corners-plain a.corners) (h, corners-plain b.corners) e).1)
+    let p : ArePlain ((99 ∷ []) ∷ flat_map corner_words a.corners) = ((omega arith, tt), corners-plain a.corners) in
+    let q : ArePlain ((99 ∷ []) ∷ flat_map corner_words b.corners) = ((omega arith, tt), corners-plain b.corners) in
+    (refl, (line-ends (99 ∷ []) (flat_map corner_words a.corners) (99 ∷ []) (flat_map corner_words b.corners) x y p q e).1)
 
 abbrev facet_words : Facet → List Word
-facet_words f = signed_decimal f.plane.a ∷ signed_decimal f.plane.b ∷ signed_decimal f.plane.c ∷ signed_decimal f.plane.d ∷ label_word f.mark ∷ decimal f.pos ∷ decimal f.neg ∷ []
+facet_words f = signed_decimal f.plane.a ∷ signed_decimal f.plane.b ∷ signed_decimal f.plane.c ∷ signed_decimal f.plane.d
+    ∷ label_word f.mark ∷ decimal f.pos ∷ decimal f.neg ∷ []
 
 facet-plain : (f : Facet) → ArePlain ((102 ∷ []) ∷ facet_words f)
-facet-plain f = (
-  (omega arith, tt),
-  (signed-plain f.plane.a, (signed-plain f.plane.b, (signed-plain f.plane.c, (signed-plain f.plane.d, (label-plain f.mark, (decimal-plain f.pos, (decimal-plain f.neg, tt))))))),
-)
+facet-plain f =
+    let last : ArePlain (label_word f.mark ∷ decimal f.pos ∷ decimal f.neg ∷ []) = (label-plain f.mark, (decimal-plain f.pos, (decimal-plain f.neg, tt))) in
+    let h = f.plane in
+    ((omega arith, tt), (signed-plain h.a, (signed-plain h.b, (signed-plain h.c, (signed-plain h.d, last)))))
 
 facet-starts : (f : Facet) → Starts 102 (facet_text f)
 facet-starts f = starts-onto 102 (facet_line f) (flat_map cycle_line f.cycles) (line-starts 102 [] (facet_words f))
@@ -65,6 +69,9 @@ facet-reads f g x y P Q e =
     let h = sym (append_assoc (facet_line f) a x) ∙ e ∙ append_assoc (facet_line g) b y in
     let r = line-ends (102 ∷ []) (facet_words f) (102 ∷ []) (facet_words g) (a ++ x) (b ++ y) (facet-plain f) (facet-plain g) h in
     (refl, (all-read Cycle (Unit {0}) Any (λ _. tt) cycle_line 99 cycle-starts cycle-reads (λ _ _. tt) f.cycles g.cycles x y tt tt P Q r.1).1)
+
+facet-lists : ReadsAll Facet (Unit {0}) (Lacks 99) (λ _. tt) facet_text 102
+facet-lists = all-read Facet (Unit {0}) (Lacks 99) (λ _. tt) facet_text 102 facet-starts facet-reads before-facet
 
 -- ---- volumes
 volume-plain : (l : Label) → ArePlain ((119 ∷ []) ∷ label_word l ∷ [])
@@ -109,8 +116,9 @@ volumes-read p q e =
 
 facets-read : (p q : Parts) → facets_text p ≡ facets_text q → (length p.facets ≡ length q.facets) × (volumes_text p ≡ volumes_text q)
 facets-read p q e =
-    let r = all-read Facet (Unit {0}) (Lacks 99) (λ _. tt) facet_text 102 facet-starts facet-reads before-facet p.facets q.facets (volumes_text p) (volumes_text q)
-    (volumes-lack 99 (λ e. omega arith) p) (volumes-lack 99 (λ e. omega arith) q) (volumes-lack 102 (λ e. omega arith) p) (volumes-lack 102 (λ e. omega arith) q) e in
+    let h = λ (p : Parts). volumes-lack 99 (λ e. omega arith) p in
+    let k = λ (p : Parts). volumes-lack 102 (λ e. omega arith) p in
+    let r = facet-lists p.facets q.facets (volumes_text p) (volumes_text q) (h p) (h q) (k p) (k q) e in
     (same-length (λ (f : Facet). tt) p.facets q.facets r.0, r.1)
 
 edges-read : (c d : Complex) (p q : Parts) → edges_text c p ≡ edges_text d q → (length c.edges ≡ length d.edges) × (facets_text p ≡ facets_text q)
@@ -120,7 +128,13 @@ edges-read c d p q e =
     (same-length (λ (e : Edge). tt) c.edges d.edges r.0, r.1)
 
 -- ---- the whole text
-first-plain : (c : Complex) (p : Parts) → ArePlain ((110 ∷ 101 ∷ 102 ∷ 51 ∷ []) ∷ (49 ∷ []) ∷ numbers (counts c p))
+abbrev name_word : Word
+name_word = 110 ∷ 101 ∷ 102 ∷ 51 ∷ []
+
+abbrev first_words : Complex → Parts → List Word
+first_words c p = (49 ∷ []) ∷ numbers (counts c p)
+
+first-plain : (c : Complex) (p : Parts) → ArePlain (name_word ∷ first_words c p)
 first-plain c p = ((omega arith, (omega arith, (omega arith, (omega arith, tt)))), ((omega arith, tt), numbers-plain (counts c p)))
 
 pieces : (c : Complex) (p : Parts) → text c p ++ [] ≡ first_line c p ++ (flat_map vertex_text c.vertices ++ edges_text c p)
@@ -131,16 +145,17 @@ pieces c p =
     let f = flat_map facet_text p.facets in
     append_assoc (a ++ b ++ e ++ f) (flat_map volume_line p.volumes) [] ∙ four_parts a b e f (volumes_text p)
 
-after-first : (c d : Complex) (p q : Parts) → text c p ≡ text d q → flat_map vertex_text c.vertices ++ edges_text c p ≡ flat_map vertex_text d.vertices ++ edges_text d q
+after-first : (c d : Complex) (p q : Parts) → text c p ≡ text d q
+    → flat_map vertex_text c.vertices ++ edges_text c p ≡ flat_map vertex_text d.vertices ++ edges_text d q
 after-first c d p q e =
     let f = sym (pieces c p) ∙ ap (λ (r : List ℕ). r ++ []) e ∙ pieces d q in
-    (line-ends (110 ∷ 101 ∷ 102 ∷ 51 ∷ []) ((49 ∷ []) ∷ numbers (counts c p)) (110 ∷ 101 ∷ 102 ∷ 51 ∷ []) ((49 ∷ []) ∷ numbers (counts d q)) _ _ (first-plain c p) (first-plain d q) f).1
+    (line-ends name_word (first_words c p) name_word (first_words d q) _ _ (first-plain c p) (first-plain d q) f).1
 
 all-vertices : (c d : Complex) (p q : Parts) → text c p ≡ text d q → (c.vertices ≡ d.vertices) × (edges_text c p ≡ edges_text d q)
 all-vertices c d p q e =
     let l = λ (c : Complex) (p : Parts). edges-lack 118 (λ e. omega arith) (λ e. omega arith) (λ e. omega arith) c p in
-    let r = all-read Vertex Vertex FollowsVertex (λ (v : Vertex). v) vertex_text 118 vertex-starts vertex-reads before-vertex c.vertices d.vertices (edges_text c p) (edges_text d q)
-    (edges-follow c p) (edges-follow d q) (l c p) (l d q) (after-first c d p q e) in
+    let f = after-first c d p q e in
+    let r = vertex-lists c.vertices d.vertices (edges_text c p) (edges_text d q) (edges-follow c p) (edges-follow d q) (l c p) (l d q) f in
     (sym (map-id c.vertices) ∙ r.0 ∙ map-id d.vertices, r.1)
 
 pub vertices-read : (c d : Complex) (p q : Parts) → text c p ≡ text d q → c.vertices ≡ d.vertices

@@ -4,7 +4,7 @@ use Rattle.std.specs.Fmt.{digits, digits_onto, digit_glyph, decimal, signed_deci
 use Rattle.nef_space.specs.declared.label.Label.{Label}
 use Rattle.nef_space.specs.declared.label.Label.TheVariants.{Out, Not, In}
 use Rattle.nef_parts.specs.Text.{Word, label_word, option_word, numbers, signed}
-use Rattle.nef_texts.proofs.Lines.{Each, IsPlain, ArePlain}
+use Rattle.nef_texts.proofs.Lines.{IsPlain, ArePlain}
 
 -- ---- numbers, of any size
 glyph-plain : (d : ℕ) → 32 < digit_glyph false d
