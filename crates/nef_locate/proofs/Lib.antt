@@ -6,3 +6,7 @@ pub mod TwoStars
 pub mod EdgeEnds
 pub mod EdgeCones
 pub mod EdgeStars
+pub mod SamePlanes
+pub mod Behind
+pub mod ItemsFound
+pub mod FacetFound

@@ -5,6 +5,7 @@
 #![tactic(auto)]
 
 mod edge;
+mod facet;
 mod label;
 mod maps;
 mod place;
@@ -12,6 +13,7 @@ mod plane;
 #[cfg(test)]
 mod tests;
 
+pub use facet::in_facet;
 pub use label::place_label;
 pub use maps::place_map;
 pub use place::Place;

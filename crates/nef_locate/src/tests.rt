@@ -1,13 +1,15 @@
-//! The labels and maps of the places of a complex made by hand.
+//! The labels and maps of the places of a complex made by hand, and facets of the frame.
 
-ghost use Rattle.std.specs.Prelude.{IfOk};
-ghost use Rattle.nef_complex.specs.Complexes.{complex_of};
+ghost use Rattle.std.specs.Prelude.{◌≤◌, nat_abs, IfOk};
+ghost use Rattle.nef_space.specs.Sets.{Set};
+ghost use Rattle.nef_complex.specs.Complexes.{complex_of, ShowsSet};
 ghost use Rattle.nef_locate.specs.declared.place.Place.TheVariants as place;
 ghost use Rattle.nef_locate.specs.Places.{IsPlaceIn};
 
 use super::*;
-use nef_complex::{Complex, Vertex};
-use nef_geo::{Label, List, Point};
+use nef_complex::{Complex, Corner, Vertex};
+use nef_frame::frame;
+use nef_geo::{Label, List, Plane, Point, Sign, hit_at, hit_side};
 use nef_smap::SphereMap;
 use std::alloc::Global;
 use std::test::Fail;
@@ -42,5 +44,34 @@ fn labels_of_places(rt: HostRuntime) -> Result<(), Fail> {
     assert_eq!(rt; place_label(&c, &Place::Vertex(0)), Label::Not);
     let side = Place::InVolume { vertex: 0, side: 0 };
     assert_eq!(rt; place_label(&c, &side), Label::In);
+    Ok(())
+}
+
+fn empty(alloc: Global) -> Result<Complex, OutOfMemory>
+    ensures shows { IfOk result (λ c. ShowsSet Set.empty c) }
+{
+    let complex = frame(alloc, Label::Not)?;
+    Ok(complex)
+}
+
+// The corner of the point (x, 0, 0) in the plane.
+fn facet_at(c: &Complex, h: &Plane, x: i64) -> Result<Option<Corner>, &'static str>
+    requires shows { ShowsSet Set.empty c.now }
+    requires framed { nat_abs x ≤ 2048 }
+{
+    let p = hit_at(&Point::of(x, 0, 0, 1));
+    if hit_side(h, &p) != Sign::Zero {
+        return Err("off the plane");
+    }
+    Ok(in_facet(c, h, &p))
+}
+
+#[test]
+fn facets_of_the_frame(rt: HostRuntime) -> Result<(), Fail> {
+    let c = empty(rt.alloc())?;
+    let side = Plane::read(1, 0, 0, 2048)?.plane();
+    assert!(rt; facet_at(&c, &side, -2048)?.is_some());
+    let middle = Plane::read(1, 0, 0, 0)?.plane();
+    assert!(rt; facet_at(&c, &middle, 0)? == None);
     Ok(())
 }

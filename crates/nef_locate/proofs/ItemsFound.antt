@@ -1,0 +1,103 @@
+-- Corners by the items and arcs that were found.
+use Rattle.std.proofs.Common.{◌≡◌, ℕ, pos, length, Some, slice_get, refl, sym, ap, ◌∙◌, ◌⊎◌, inl, inr, ⊎_elim, subst}
+use Rattle.nef_space.specs.Place.{Place, Form, normal_of}
+use Rattle.nef_space.specs.Vectors.{Vector, IsDirection, SameDirection, dot, triple}
+use Rattle.nef_geo.specs.Shapes.{vector_of}
+use Rattle.nef_geo.specs.Signs.{sign_of}
+use Rattle.nef_geo.specs.declared.sign.Sign.{Sign}
+use Rattle.nef_geo.specs.declared.sign.Sign.TheVariants.{Minus, Plus}
+use Rattle.nef_geo.proofs.Signs.{sign_of-positive, sign_of-negative}
+use Rattle.nef_sphere.specs.Maps.{At, Loop, arc_item, loop_item, item_normal, items, way_of}
+use Rattle.nef_sphere.proofs.Arcs.{at-arc, loop-at, level-same}
+use Rattle.nef_sphere.proofs.Compare.{SameDirection-turned, SameDirection-trans, way-self}
+use Rattle.nef_sphere.proofs.Lists.{at-one}
+use Rattle.nef_sphere.proofs.Shot.{arc-at}
+use Rattle.nef_smap.specs.declared.map.SArc.{SArc}
+use Rattle.nef_smap.specs.declared.map.SVertex.{SVertex}
+use Rattle.nef_smap.specs.declared.map.SphereMap.{SphereMap}
+use Rattle.nef_smap.specs.Maps.{arc_of, map_of}
+use Rattle.nef_smap.proofs.ArcEnds.{at-map}
+use Rattle.nef_smap.proofs.Axes.{plus-of, minus-of}
+use Rattle.nef_smap.proofs.CloseSigns.{way-from_get}
+use Rattle.nef_smap.proofs.MapLists.{loop-listed}
+use Rattle.nef_solid.specs.Complexes.{Vertex as PlainVertex, Edge as PlainEdge, Complex as PlainComplex, Corner}
+use Rattle.nef_solid.specs.Skeleton.{PlaneMeet, meets_vertex, meets_edge, Meets, IsArcOnSide, IsCornerAt}
+use Rattle.nef_complex.specs.declared.complex.Vertex.{Vertex}
+use Rattle.nef_complex.specs.declared.complex.Edge.{Edge}
+use Rattle.nef_complex.specs.declared.complex.Complex.{Complex}
+use Rattle.nef_complex.specs.Complexes.{vertex_of, edge_of, complex_of}
+use Rattle.nef_locate.specs.Facets.{IsArcThrough, IsItemThrough, IsArcBeside, HasMet}
+use Rattle.nef_locate.proofs.SamePlanes.{side-turned}
+
+-- the side of an arc by the turn from its svertex to a direction
+module _ (v : Vertex) (s : ℕ) (w : SVertex) (e : slice_get v.map.svertices s ≡ Some w) (n d : Vector) (t : Sign) (turn : t ≡ sign_of (triple n (vector_of w.dir) d)) (a : SArc) where
+  abbrev Told : Type 0
+  Told = ((a.source ≡ s) × (t ≡ Plus)) ⊎ ((a.target ≡ s) × (t ≡ Minus))
+
+  turn-is : t ≡ sign_of (triple n (way_of (map_of v.map).svertices s) d)
+  turn-is = turn ∙ ap (λ (p : Vector). sign_of (triple n p d)) (sym (way-from_get v.map.svertices s w e))
+
+  pub told-side : Told → IsArcOnSide (vertex_of v) s n d (arc_of a)
+  told-side = ⊎_elim (λ h. inl (h.0, plus-of t _ turn-is h.1)) (λ h. inr (h.0, minus-of t _ turn-is h.1))
+
+  pub side-told : IsArcOnSide (vertex_of v) s n d (arc_of a) → Told
+  side-told = ⊎_elim (λ h. inl (h.0, turn-is ∙ sign_of-positive _ h.1)) (λ h. inr (h.0, turn-is ∙ sign_of-negative _ h.1))
+
+module _ (c : Complex) (h : Form) (n d : Vector) (w : SameDirection (normal_of h) n) where
+  -- ---- at a vertex
+  module _ (i : ℕ) (u : Vertex) (e : slice_get c.vertices i ≡ Some u) where
+    listed : At (complex_of c).vertices i (vertex_of u)
+    listed = at-map vertex_of c.vertices i u e
+
+    pub vertex-some : (k : ℕ) → IsItemThrough (map_of u.map) n d k → IsCornerAt (complex_of c) h d (meets_vertex i) (record { vertex = i; item = k })
+    vertex-some k (x, a, s, o) = (vertex_of u, x, refl, record { vertex = listed; item = a }, SameDirection-trans (item_normal x) n (normal_of h) s (SameDirection-turned (normal_of h) n w), o)
+
+    pub vertex-none : ((k : ℕ) → IsItemThrough (map_of u.map) n d k → ⊥) → (k : Corner) → IsCornerAt (complex_of c) h d (meets_vertex i) k → ⊥
+    vertex-none f k (v, x, r, a, s, o) =
+        let same = at-one (complex_of c).vertices i v (vertex_of u) (subst (λ (j : ℕ). At (complex_of c).vertices j v) r a.vertex) listed in
+        f k.item (subst (λ (y : PlainVertex). IsItemThrough y.map n d k.item) same (x, a.item, SameDirection-trans (item_normal x) (normal_of h) n s w, o))
+
+  -- ---- beside an edge
+  module _ (j : ℕ) (g : Edge) (b : slice_get c.edges j ≡ Some g) (u : Vertex) (e : slice_get c.vertices g.low ≡ Some u) (some : IsDirection d) where
+    listed_edge : At (complex_of c).edges j (edge_of g)
+    listed_edge = at-map edge_of c.edges j g b
+
+    listed_low : At (complex_of c).vertices g.low (vertex_of u)
+    listed_low = at-map vertex_of c.vertices g.low u e
+
+    pub edge-some : (k : ℕ) → IsArcBeside (vertex_of u) g.low_svertex n d k → IsCornerAt (complex_of c) h d (meets_edge j) (record { vertex = g.low; item = k })
+    edge-some k (a, l, s, o) =
+        let back = SameDirection-turned (normal_of h) n w in
+        (edge_of g, vertex_of u, a, listed_edge, refl, listed_low, l, SameDirection-trans a.normal n (normal_of h) s back, side-turned (vertex_of u) g.low_svertex n (normal_of h) d d a back (way-self d some) o)
+
+    pub edge-none : ((k : ℕ) → IsArcBeside (vertex_of u) g.low_svertex n d k → ⊥) → (k : Corner) → IsCornerAt (complex_of c) h d (meets_edge j) k → ⊥
+    edge-none f k (q, v, a, l, r, m, t, s, o) =
+        let same-edge = at-one (complex_of c).edges j q (edge_of g) l listed_edge in
+        let at-low = subst (λ (y : PlainEdge). At (complex_of c).vertices y.low v) same-edge m in
+        let same = at-one (complex_of c).vertices g.low v (vertex_of u) at-low listed_low in
+        let side = subst (λ (y : PlainEdge). IsArcOnSide v y.low_svertex (normal_of h) d a) same-edge o in
+        f k.item (subst (λ (y : PlainVertex). IsArcBeside y g.low_svertex n d k.item) same
+        (a, t, SameDirection-trans a.normal (normal_of h) n s w, side-turned v g.low_svertex (normal_of h) n d d a w (way-self d some) side))
+
+-- ---- an item of a map
+module _ (m : SphereMap) (n d : Vector) where
+  pub arc-item : (k : ℕ) → IsArcThrough (map_of m) n d k → IsItemThrough (map_of m) n d k
+  arc-item k (a, l, s, o) = (arc_item a, at-arc (map_of m).arcs (map_of m).loop k a l, s, o)
+
+  -- a sloop stands after the arcs
+  pub sloop-item : IsDirection d → dot n d ≡ pos 0 → (k : ℕ) → k ≡ length m.arcs → (l : Loop) × ((map_of m).loop ≡ Some l) × SameDirection l.normal n → IsItemThrough (map_of m) n d k
+  sloop-item some level k e (l, is, s) = (
+    loop_item l,
+    subst (λ (j : ℕ). At (items (map_of m)) j (loop_item l)) (sym e) (loop-listed m.arcs m.sloop l is),
+    s,
+    record { direction = some; level = level-same n l.normal d d (SameDirection-turned l.normal n s) (way-self d some) level },
+  )
+
+  pub no-item : ((k : ℕ) → IsArcThrough (map_of m) n d k → ⊥) → ((l : Loop) × ((map_of m).loop ≡ Some l) × SameDirection l.normal n → ⊥) → (k : ℕ) → IsItemThrough (map_of m) n d k → ⊥
+  no-item f g k (arc_item a, l, s, o) = f k (a, arc-at (map_of m).arcs (map_of m).loop k a l, s, o)
+  no-item f g k (loop_item c, l, s, o) = g (c, loop-at (map_of m).arcs (map_of m).loop k c l, s)
+
+-- ---- what is met is listed
+pub met-listed : (C : PlainComplex) (h : Form) (m : PlaneMeet) (q : Place) → Meets C h m q → HasMet C m
+met-listed C h (meets_vertex k) q (v, a, e) = (v, a)
+met-listed C h (meets_edge k) q ((e, v, w, a, H, b), l) = (e, a)

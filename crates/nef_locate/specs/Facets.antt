@@ -1,0 +1,23 @@
+-- Items of a plane that lie at a direction or beside an edge.
+use Rattle.std.specs.Prelude.{ℕ}
+use Rattle.nef_space.specs.Vectors.{Vector, SameDirection}
+use Rattle.nef_sphere.specs.Maps.{At, Arc, Item, arc_item, Map, items, item_normal, OnItem}
+use Rattle.nef_solid.specs.Complexes.{Vertex, Edge, Complex}
+use Rattle.nef_solid.specs.Skeleton.{PlaneMeet, meets_vertex, meets_edge, IsArcOnSide}
+
+-- d lies on the arc with this number, which has the normal n
+abbrev pub IsArcThrough : Map → Vector → Vector → ℕ → Type 0
+IsArcThrough M n d k = (a : Arc) × At M.arcs k a × SameDirection a.normal n × OnItem M (arc_item a) d
+
+-- d lies on the item with this number, which has the normal n
+abbrev pub IsItemThrough : Map → Vector → Vector → ℕ → Type 0
+IsItemThrough M n d k = (x : Item) × At (items M) k x × SameDirection (item_normal x) n × OnItem M x d
+
+-- the arc with this number has the normal n and leaves svertex s on the side to which d points
+abbrev pub IsArcBeside : Vertex → ℕ → Vector → Vector → ℕ → Type 0
+IsArcBeside v s n d k = (a : Arc) × At v.map.arcs k a × SameDirection a.normal n × IsArcOnSide v s n d a
+
+-- the complex has the vertex or the edge
+abbrev pub HasMet : Complex → PlaneMeet → Type 0
+HasMet C (meets_vertex k) = (v : Vertex) × At C.vertices k v
+HasMet C (meets_edge k) = (e : Edge) × At C.edges k e

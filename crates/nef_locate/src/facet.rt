@@ -1,0 +1,168 @@
+//! The facet of a plane in which a point lies.
+
+ghost use Rattle.std.specs.Prelude.{◌≡◌, ℕ, ◌<◌, length, pos, Some, ◌⊎◌, ◌↔◌, IsTrue, IsNone, IfSome, MatchOption};
+ghost use Rattle.nef_space.specs.Place.{form_at, normal_of, InClosedFrame};
+ghost use Rattle.nef_space.specs.Sets.{Set};
+ghost use Rattle.nef_space.specs.Vectors.{SameDirection, dot};
+ghost use Rattle.nef_sphere.specs.Maps.{At, Loop, Item, item_normal, arc_item, OnItem};
+ghost use Rattle.nef_geo.specs.Hits.{IsPlaceAtMost};
+ghost use Rattle.nef_geo.specs.Shapes.{form_of, vector_of, hit_place};
+ghost use Rattle.nef_geo.specs.Widths.{upright_limit, upright_weight_limit};
+ghost use Rattle.nef_smap.specs.Maps.{map_of, arc_of, IsSphereMap};
+ghost use Rattle.nef_solid.specs.Complexes.{Vertex as PlainVertex, Corner as PlainCorner, IsCorner};
+ghost use Rattle.nef_solid.specs.Laws.{IsFlatIn};
+ghost use Rattle.nef_solid.specs.Skeleton.{IsOnEdges, IsCornerAt, HasCorner};
+ghost use Rattle.nef_complex.specs.Complexes.{complex_of, corner_of, meet_of, vertex_of, ShowsSet};
+ghost use Rattle.nef_locate.specs.Facets.{IsArcThrough, IsItemThrough, IsArcBeside, HasMet};
+
+use nef_arc::{Arc, strictly_on};
+use nef_complex::{Complex, Corner, PlaneMeet, Vertex};
+use nef_geo::{Dir, Hit, Plane, Sign, plane_axis, triple};
+use nef_plane::first_in_plane;
+use nef_smap::{SArc, SphereMap};
+
+// The direction of the plane's normal.
+fn plane_normal(h: &Plane) -> Dir
+    ensures normal { SameDirection (normal_of (form_of h.now)) (vector_of result) }
+{
+    match Dir::of(h.a(), h.b(), h.c()) {
+        Some(normal) => normal,
+        None => unreachable!(),
+    }
+}
+
+fn same_dir(a: &Dir, b: &Dir) -> bool
+    ensures same { IsTrue result ↔ (a.now ≡ b.now) }
+{
+    a == b
+}
+
+// Whether the direction lies on the arc.
+fn passes(map: &SphereMap, arc: &SArc, d: &Dir) -> bool
+    requires map { IsSphereMap map.now }
+    requires arc { (i : ℕ) × At (map_of map.now).arcs i (arc_of arc.now) }
+    ensures on { IsTrue result ↔ OnItem (map_of map.now) (arc_item (arc_of arc.now)) (vector_of d.now) }
+{
+    let source = map.svertices.at(arc.source).dir;
+    let target = map.svertices.at(arc.target).dir;
+    strictly_on(&Arc::of(source, target, arc.normal), d)
+}
+
+// Whether the arc has the normal and the direction lies on it.
+fn passes_in(map: &SphereMap, arc: &SArc, normal: &Dir, d: &Dir) -> bool
+    requires map { IsSphereMap map.now }
+    requires arc { (i : ℕ) × At (map_of map.now).arcs i (arc_of arc.now) }
+    ensures on { IsTrue result ↔ (SameDirection (vector_of arc.now.normal) (vector_of normal.now) × OnItem (map_of map.now) (arc_item (arc_of arc.now)) (vector_of d.now)) }
+{
+    same_dir(&arc.normal, normal) && passes(map, arc, d)
+}
+
+// The number of the arc with the normal on which the direction lies.
+fn arc_through(map: &SphereMap, normal: &Dir, d: &Dir) -> Option<usize>
+    requires map { IsSphereMap map.now }
+    ensures arc { MatchOption result ((k : ℕ) → IsArcThrough (map_of map.now) (vector_of normal.now) (vector_of d.now) k → ⊥) (IsArcThrough (map_of map.now) (vector_of normal.now) (vector_of d.now)) }
+{
+    for (number, arc) in map.arcs.as_slice().iter().enumerate() {
+        if passes_in(map, arc, normal, d) {
+            return Some(number);
+        }
+    }
+    None
+}
+
+// Whether the map has a sloop with the normal.
+fn has_sloop(map: &SphereMap, normal: &Dir) -> bool
+    ensures sloop { IsTrue result ↔ ((l : Loop) × ((map_of map.now).loop ≡ Some l) × SameDirection l.normal (vector_of normal.now)) }
+{
+    match &map.sloop {
+        Some(circle) => same_dir(&circle.normal, normal),
+        None => false,
+    }
+}
+
+// The number of the item with the normal on which the direction lies. The direction is perpendicular to the normal, so
+// it lies on a sloop with it.
+fn item_through(map: &SphereMap, normal: &Dir, d: &Dir) -> Option<usize>
+    requires map { IsSphereMap map.now }
+    requires level { dot (vector_of normal.now) (vector_of d.now) ≡ pos 0 }
+    ensures item { MatchOption result ((k : ℕ) → IsItemThrough (map_of map.now) (vector_of normal.now) (vector_of d.now) k → ⊥) (IsItemThrough (map_of map.now) (vector_of normal.now) (vector_of d.now)) }
+{
+    if let Some(number) = arc_through(map, normal, d) {
+        return Some(number);
+    }
+    if has_sloop(map, normal) {
+        return Some(map.arcs.len());
+    }
+    None
+}
+
+// Whether the arc has the normal and leaves the svertex on the side that the turn from the svertex to a direction tells.
+fn leaves_on(arc: &SArc, svertex: usize, normal: &Dir, turn: Sign) -> bool
+    ensures leaves { IsTrue result ↔ (SameDirection (vector_of arc.now.normal) (vector_of normal.now) × (((arc.now.source ≡ svertex) × (turn ≡ Sign.Plus)) ⊎ ((arc.now.target ≡ svertex) × (turn ≡ Sign.Minus)))) }
+{
+    same_dir(&arc.normal, normal)
+        && match turn {
+            Sign::Plus => arc.source == svertex,
+            Sign::Zero => false,
+            Sign::Minus => arc.target == svertex,
+        }
+}
+
+// The number of the arc with the normal that leaves the svertex on the side to which the direction points.
+fn arc_beside(vertex: &Vertex, svertex: usize, normal: &Dir, d: &Dir) -> Option<usize>
+    requires within { svertex < length vertex.now.map.svertices }
+    ensures arc { MatchOption result ((k : ℕ) → IsArcBeside (vertex_of vertex.now) svertex (vector_of normal.now) (vector_of d.now) k → ⊥) (IsArcBeside (vertex_of vertex.now) svertex (vector_of normal.now) (vector_of d.now)) }
+{
+    let turn = triple(normal, &vertex.map.svertices.at(svertex).dir, d);
+    for (number, arc) in vertex.map.arcs.as_slice().iter().enumerate() {
+        if leaves_on(arc, svertex, normal, turn) {
+            return Some(number);
+        }
+    }
+    None
+}
+
+// The corner of the plane that lies in the direction from what is met.
+fn corner_toward(c: &Complex, h: &Plane, d: &Dir, met: PlaneMeet) -> Option<Corner>
+    requires shows { (s : Set) × ShowsSet s c.now }
+    requires met { HasMet (complex_of c.now) (meet_of met) }
+    requires level { dot (normal_of (form_of h.now)) (vector_of d.now) ≡ pos 0 }
+    ensures corner { MatchOption result ((k : PlainCorner) → IsCornerAt (complex_of c.now) (form_of h.now) (vector_of d.now) (meet_of met) k → ⊥) (λ k. IsCornerAt (complex_of c.now) (form_of h.now) (vector_of d.now) (meet_of met) (corner_of k)) }
+{
+    let normal = plane_normal(h);
+    match met {
+        PlaneMeet::AtVertex(vertex) => {
+            let item = item_through(&c.vertices.at(vertex).map, &normal, d)?;
+            Some(Corner { vertex, item })
+        }
+        PlaneMeet::AtEdge(number) => {
+            let edge = c.edges.at(number);
+            let item = arc_beside(c.vertices.at(edge.low), edge.low_svertex, &normal, d)?;
+            Some(Corner {
+                vertex: edge.low,
+                item,
+            })
+        }
+    }
+}
+
+/// The corner of the plane's facet in which the point lies. The point lies on the plane and in the closed frame, is no
+/// vertex and lies on no edge; its first three numbers are at most `2^86` in size and its w at most `2^73`. `None` comes
+/// exactly where the point lies in no facet of the plane. It takes no memory.
+pub fn in_facet(c: &Complex, h: &Plane, p: &Hit) -> Option<Corner>
+    requires shows { (s : Set) × ShowsSet s c.now }
+    requires framed { InClosedFrame (hit_place p.now) }
+    requires on { form_at (form_of h.now) (hit_place p.now) ≡ pos 0 }
+    requires off { IsOnEdges (complex_of c.now) (hit_place p.now) → ⊥ }
+    requires numbers { IsPlaceAtMost upright_limit upright_weight_limit (hit_place p.now) }
+    ensures flat { IfSome result (λ k. (s : Set) → ShowsSet s c.now → IsFlatIn s (form_of h.now) (hit_place p.now)) }
+    ensures corner { IfSome result (λ k. HasCorner (complex_of c.now) (hit_place p.now) (corner_of k)) }
+    ensures plane { IfSome result (λ k. (v : PlainVertex) (x : Item) → IsCorner (complex_of c.now) (corner_of k) v x → SameDirection (item_normal x) (normal_of (form_of h.now))) }
+    ensures none { IsNone result → (s : Set) → ShowsSet s c.now → IsFlatIn s (form_of h.now) (hit_place p.now) → ⊥ }
+{
+    // the ray from a point of a facet stays in it up to the first vertex or edge of the plane, which has an item on this
+    // side; and from such an item the facet reaches back to the point
+    let axis = plane_axis(h);
+    let met = first_in_plane(c, h, p, &axis)?;
+    corner_toward(c, h, &axis.back(), met)
+}
