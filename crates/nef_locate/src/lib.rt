@@ -13,7 +13,7 @@ mod plane;
 #[cfg(test)]
 mod tests;
 
-pub use facet::in_facet;
+pub use facet::{corner_toward, in_facet, passes, plane_normal};
 pub use label::place_label;
 pub use maps::place_map;
 pub use place::Place;
