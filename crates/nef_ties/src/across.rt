@@ -2,12 +2,11 @@
 
 ghost use Rattle.std.specs.Prelude.{◌≡◌, ℕ, ◌<◌, length, pos, map, ◌↔◌, IsTrue, IfOk, OnOk};
 ghost use Rattle.std.specs.Option.{MatchOption};
-ghost use Rattle.nef_space.specs.Place.{slope};
+ghost use Rattle.nef_space.specs.Place.{form_at, normal_of, slope};
 ghost use Rattle.nef_space.specs.Sets.{Set};
-ghost use Rattle.nef_space.specs.Vectors.{IsAtMost};
+ghost use Rattle.nef_space.specs.Vectors.{IsAtMost, SameDirection};
 ghost use Rattle.nef_geo.specs.Shapes.{form_of, vector_of, place_of};
 ghost use Rattle.nef_geo.specs.Widths.{ray_limit};
-ghost use Rattle.nef_sphere.specs.Maps.{items};
 ghost use Rattle.nef_smap.specs.Maps.{map_of, IsSphereMap};
 ghost use Rattle.nef_solid.specs.Complexes.{Corner as PlainCorner};
 ghost use Rattle.nef_complex.specs.Complexes.{complex_of, ShowsSet};
@@ -18,6 +17,7 @@ ghost use Rattle.nef_plane.specs.Meets.{HasNoSvertex, FromVertex};
 ghost use Rattle.nef_ties.specs.Ties.{spot_of, IsPlaneWith, NoneIsPlaneWith, HasNoItem, HasNormal, AreLevel, IsOnItem, IsNamedFrom, IsLinkedFrom, IsTieAcross, Any, Adds};
 
 use crate::OutOfMemory;
+use crate::along::same_dir;
 use nef_classes::{Spot, Tie};
 use nef_complex::{Complex, Corner};
 use nef_geo::{Dir, Plane, Point, Sign, plane_dir, side};
@@ -26,33 +26,35 @@ use nef_plane::first_along_dir;
 use nef_smap::SphereMap;
 use std::alloc::Global;
 
+fn has_normal(h: &Plane, normal: &Dir) -> bool
+    ensures normal { IsTrue result ↔ SameDirection (normal_of (form_of h.now)) (vector_of normal.now) }
+{
+    same_dir(&plane_normal(h), normal)
+}
+
+fn holds(h: &Plane, p: &Point) -> bool
+    ensures holds { IsTrue result ↔ (form_at (form_of h.now) (place_of p.now) ≡ pos 0) }
+{
+    side(h, p) == Sign::Zero
+}
+
 // Whether the plane holds the point and has the normal.
 fn is_plane_with(h: &Plane, p: &Point, normal: &Dir) -> bool
     ensures plane { IsTrue result ↔ IsPlaneWith (place_of p.now) (vector_of normal.now) h.now }
 {
-    side(h, p) == Sign::Zero && plane_normal(h) == *normal
+    holds(h, p) && has_normal(h, normal)
 }
 
-// The carrier that holds the point and has the normal.
-fn carrier_with(c: &Complex, p: &Point, normal: &Dir) -> Option<Plane>
-    ensures carrier { MatchOption result (NoneIsPlaneWith (place_of p.now) (vector_of normal.now) c.now.carriers) (IsPlaneWith (place_of p.now) (vector_of normal.now)) }
+// The first of the planes that holds the point and has the normal.
+fn plane_with(planes: &[Plane], p: &Point, normal: &Dir) -> Option<Plane>
+    ensures plane { MatchOption result (NoneIsPlaneWith (place_of p.now) (vector_of normal.now) planes.now) (IsPlaneWith (place_of p.now) (vector_of normal.now)) }
 {
-    for h in c.carriers.as_slice() {
+    for h in planes {
         if is_plane_with(h, p, normal) {
             return Some(*h);
         }
     }
     None
-}
-
-// The number of the map's items.
-fn item_count(map: &SphereMap) -> usize
-    ensures count { result ≡ length (items (map_of map.now)) }
-{
-    match &map.sloop {
-        Some(_) => map.arcs.len() + 1,
-        None => map.arcs.len(),
-    }
 }
 
 // The normal of the item with this number.
@@ -105,12 +107,38 @@ fn across(c: &Complex, vertex: usize, item: usize) -> Option<Corner>
 {
     let v = c.vertices.at(vertex);
     let normal = normal_at(&v.map, item)?;
-    let h = carrier_with(c, &v.point, &normal)?;
+    let h = plane_with(c.carriers.as_slice(), &v.point, &normal)?;
     let inward = plane_dir(&h).back();
     if !lies_on(&v.map, item, &inward) {
         return None;
     }
     named_from(c, &h, vertex, &inward)
+}
+
+// Adds the tie across its facet of the vertex's item with this number, where there is one.
+fn add_item_tie(
+    ties: &mut Vec<Tie>,
+    c: &Complex,
+    vertex: usize,
+    item: usize,
+) -> Result<(), OutOfMemory>
+    requires shows { (s : Set) × ShowsSet s c.now }
+    requires within { vertex < length c.now.vertices }
+    ensures added { OnOk result (Adds (IsTieAcross (complex_of c.now) vertex item) ties.old.items ties.new.items) }
+{
+    if let Some(there) = across(c, vertex, item) {
+        ties.push(Tie {
+            first: Spot {
+                row: vertex,
+                column: item,
+            },
+            second: Spot {
+                row: there.vertex,
+                column: there.item,
+            },
+        })?;
+    }
+    Ok(())
 }
 
 // Adds the ties across facets of the vertex's items.
@@ -119,20 +147,12 @@ fn add_vertex_ties(ties: &mut Vec<Tie>, c: &Complex, vertex: usize) -> Result<()
     requires within { vertex < length c.now.vertices }
     ensures added { OnOk result (Adds (Any (IsTieAcross (complex_of c.now) vertex)) ties.old.items ties.new.items) }
 {
-    for item in 0..item_count(&c.vertices.at(vertex).map) {
-        if let Some(there) = across(c, vertex, item) {
-            ties.push(Tie {
-                first: Spot {
-                    row: vertex,
-                    column: item,
-                },
-                second: Spot {
-                    row: there.vertex,
-                    column: there.item,
-                },
-            })?;
-        }
+    let count = c.vertices.at(vertex).map.arcs.len();
+    for item in 0..count {
+        add_item_tie(ties, c, vertex, item)?;
     }
+    // the sloop stands after the arcs
+    add_item_tie(ties, c, vertex, count)?;
     Ok(())
 }
 

@@ -1,6 +1,6 @@
 //! The ties of corners along edges.
 
-ghost use Rattle.std.specs.Prelude.{ℕ, ◌≡◌, map, ◌↔◌, IsTrue, IfOk, OnOk};
+ghost use Rattle.std.specs.Prelude.{◌≡◌, map, ◌⊎◌, ◌↔◌, IsTrue, IfOk, OnOk};
 ghost use Rattle.nef_space.specs.Sets.{Set};
 ghost use Rattle.nef_solid.specs.Complexes.{Corner};
 ghost use Rattle.nef_smap.specs.Maps.{map_of, arc_of};
@@ -17,10 +17,18 @@ use nef_geo::Dir;
 use nef_smap::{SArc, SphereMap};
 use std::alloc::Global;
 
-fn same_dir(a: &Dir, b: &Dir) -> bool
+pub(crate) fn same_dir(a: &Dir, b: &Dir) -> bool
     ensures same { IsTrue result ↔ (a.now ≡ b.now) }
 {
     a == b
+}
+
+// Whether one of the arcs begins at its end of the edge, and the other ends at its.
+fn begin_and_end(edge: &Edge, low: &SArc, high: &SArc) -> bool
+    ensures ends { IsTrue result ↔ (((low.now.source ≡ edge.now.low_svertex) × (high.now.target ≡ edge.now.high_svertex)) ⊎ ((low.now.target ≡ edge.now.low_svertex) × (high.now.source ≡ edge.now.high_svertex))) }
+{
+    (low.source == edge.low_svertex && high.target == edge.high_svertex)
+        || (low.target == edge.low_svertex && high.source == edge.high_svertex)
 }
 
 // Whether the arc of the edge's lower end and that of its higher end lie in one plane, and one begins at the edge where
@@ -28,13 +36,7 @@ fn same_dir(a: &Dir, b: &Dir) -> bool
 fn go_along(edge: &Edge, low: &SArc, high: &SArc) -> bool
     ensures along { IsTrue result ↔ AreArcsAlong (edge_of edge.now) (arc_of low.now) (arc_of high.now) }
 {
-    if !same_dir(&low.normal, &high.normal) {
-        return false;
-    }
-    if low.source == edge.low_svertex && high.target == edge.high_svertex {
-        return true;
-    }
-    low.target == edge.low_svertex && high.source == edge.high_svertex
+    same_dir(&low.normal, &high.normal) && begin_and_end(edge, low, high)
 }
 
 // Adds the ties of an arc of the edge's lower end, which has this number.
