@@ -6,6 +6,8 @@
 
 mod across;
 mod along;
+#[cfg(test)]
+mod tests;
 
 pub use across::across_ties;
 pub use along::along_ties;
