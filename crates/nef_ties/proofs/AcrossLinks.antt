@@ -1,13 +1,12 @@
 -- Links across facets, by what the ray inward in a carrier names.
-use Rattle.std.proofs.Common.{◌≡◌, ℕ, pos, List, [], ◌∷◌, ◌++◌, length, map, Some, slice_get, MatchOption, refl, ap, sym, ◌∙◌, inl, subst}
-use Rattle.nef_space.specs.Place.{Place, Form, form_at, normal_of, slope, toward}
+use Rattle.std.proofs.Common.{◌≡◌, ℕ, pos, List, [], ◌∷◌, ◌++◌, refl, ap, sym, ◌∙◌, subst}
+use Rattle.nef_space.specs.Place.{Place, Form, form_at, normal_of, toward}
 use Rattle.nef_space.specs.Sets.{Set}
-use Rattle.nef_space.specs.Vectors.{Vector, dot, opposite, IsDirection, IsNormal, SameDirection, plane_dir}
-use Rattle.nef_geo.specs.Shapes.{form_of, place_of}
-use Rattle.nef_geo.specs.declared.plane.Plane.{Plane}
+use Rattle.nef_space.specs.Vectors.{Vector, opposite, IsNormal, SameDirection, plane_dir}
+use Rattle.nef_geo.specs.Shapes.{form_of}
 use Rattle.nef_forms.proofs.Between.{place-toward}
 use Rattle.nef_forms.proofs.Directions.{dot-zero, direction-left, direction-right}
-use Rattle.nef_sphere.specs.Maps.{At, Svertex, Item, items, item_normal, OnItem}
+use Rattle.nef_sphere.specs.Maps.{At, Item, items, item_normal, OnItem}
 use Rattle.nef_sphere.proofs.Compare.{SameDirection-turned, SameDirection-trans, way-self}
 use Rattle.nef_sphere.proofs.Forms.{on-direction, on-level}
 use Rattle.nef_sphere.proofs.Lists.{at-one}
@@ -25,8 +24,8 @@ use Rattle.nef_classes.specs.declared.table.Spot.{Spot}
 use Rattle.nef_classes.specs.declared.table.Tie.{Tie}
 use Rattle.nef_links.specs.Links.{LinkAcross}
 use Rattle.nef_plane.specs.Meets.{HasNoSvertex}
-use Rattle.nef_locate.proofs.SamePlanes.{level-kept, level-back, scaled-same, first-same, corner-same, opposite-same, on-turned}
-use Rattle.nef_ties.specs.Ties.{spot_of, corner_at, IsPlaneWith, NoneIsPlaneWith, HasNormal, IsTieAcross, Adds}
+use Rattle.nef_locate.proofs.SamePlanes.{level-back, scaled-same, first-same, corner-same, opposite-same, on-turned}
+use Rattle.nef_ties.specs.Ties.{spot_of, corner_at, NoneIsPlaneWith, IsTieAcross, Adds}
 use Rattle.nef_ties.proofs.Adding.{adds-one}
 use Rattle.nef_ties.proofs.ItemPlane.{item-carrier, dir-same}
 use Rattle.nef_ties.proofs.OneMeet.{one-vertex, one-named}

@@ -1,5 +1,5 @@
 -- The items of the program's maps by their numbers.
-use Rattle.std.proofs.Common.{◌≡◌, ℕ, ◌<◌, ◌≤◌, ◌+◌, pos, length, None, Bool, true, false, is_some, arith, ap}
+use Rattle.std.proofs.Common.{◌≡◌, ℕ, ◌<◌, ◌≤◌, ◌+◌, length, None, Bool, true, false, is_some, arith, ap}
 use Rattle.std.proofs.lemmas.List.{length-map}
 use mir.Val.{bool_byte}
 use Rattle.nef_space.specs.Vectors.{Vector, IsDirection}

@@ -1,11 +1,11 @@
 -- What a ray within a plane first meets, and the corner there, are one.
-use Rattle.std.proofs.Common.{◌≡◌, ℕ, ℤ, pos, neg_ℤ, ◌<ℤ◌, ◌+ℤ◌, ◌*ℤ◌, arith, refl, ap, sym, ◌∙◌, inl, inr, ◌⊎◌, ⊎_elim, [], ◌∷◌, subst}
+use Rattle.std.proofs.Common.{◌≡◌, ℕ, pos, ◌<ℤ◌, ◌+ℤ◌, ◌*ℤ◌, arith, ap, sym, ◌∙◌, inl, inr, ◌⊎◌, ⊎_elim, [], ◌∷◌, subst}
 use Rattle.std.proofs.lemmas.Bool.{cases_order}
 use Rattle.std.proofs.lemmas.Int.{ints}
 use Rattle.nef_exact.proofs.Ring.{ring, at, num, ◌⊕◌, ◌⊗◌}
-use Rattle.nef_space.specs.Place.{Place, Form, normal_of, slope, toward, SamePlace, IsAhead, IsBetween, IsPlaceBelow}
+use Rattle.nef_space.specs.Place.{Place, Form, normal_of, slope, toward, SamePlace, IsAhead, IsBetween}
 use Rattle.nef_space.specs.Sets.{Set}
-use Rattle.nef_space.specs.Vectors.{Vector, dot, cross, opposite, blend, triple, IsDirection, IsZero, SameDirection, IsOpposite}
+use Rattle.nef_space.specs.Vectors.{Vector, dot, cross, opposite, blend, triple, IsDirection, IsZero, SameDirection}
 use Rattle.nef_forms.specs.Homogeneous.{of_place}
 use Rattle.nef_forms.proofs.Between.{toward-place, place-decided, between-same, place-factor, factor-place}
 use Rattle.nef_forms.proofs.Sums.{same-trans}
@@ -15,7 +15,7 @@ use Rattle.nef_near.proofs.Flats.{vector-same}
 use Rattle.nef_near.proofs.PlaceOrder.{place_below-apart}
 use Rattle.nef_near.proofs.Rays.{same-place_sym}
 use Rattle.nef_sphere.specs.Forms.{forms}
-use Rattle.nef_sphere.specs.Maps.{At, Svertex, Arc, Item, arc_item, items, item_normal, OnItem, Map, way_of, Shaped}
+use Rattle.nef_sphere.specs.Maps.{At, Svertex, Arc, arc_item, items, OnItem, Map, way_of, Shaped}
 use Rattle.nef_sphere.proofs.Arcs.{at-arc, Ends, ends-of}
 use Rattle.nef_sphere.proofs.Around.{Beside, same_way, other_way, beside}
 use Rattle.nef_sphere.proofs.Compare.{SameDirection-turned, SameDirection-trans, way-self}
@@ -23,9 +23,9 @@ use Rattle.nef_sphere.proofs.Generic.{amount}
 use Rattle.nef_sphere.proofs.Lists.{at-one}
 use Rattle.nef_sphere.proofs.Shot.{way-at}
 use Rattle.nef_sphere.proofs.Vectors.{dot-comb}
-use Rattle.nef_solid.specs.Complexes.{Vertex, Edge, Complex, Corner, HasEnds, IsCorner, IsEdge}
+use Rattle.nef_solid.specs.Complexes.{Vertex, Edge, Complex, Corner, HasEnds, IsEdge}
 use Rattle.nef_solid.specs.Shows.{Shows}
-use Rattle.nef_solid.specs.Skeleton.{IsVertexPoint, IsEdgePoint, PlaneMeet, meets_vertex, meets_edge, Meets, IsFirstInPlane, IsArcOnSide, IsCornerAt, RayNames}
+use Rattle.nef_solid.specs.Skeleton.{IsEdgePoint, PlaneMeet, meets_vertex, meets_edge, Meets, IsFirstInPlane, IsArcOnSide, IsCornerAt, RayNames}
 use Rattle.nef_solid.proofs.Edges.{edge-points}
 use Rattle.nef_solid.proofs.FacetArcs.{source-meets, target-meets}
 use Rattle.nef_solid.proofs.FacetEdges.{ahead-back}

@@ -16,7 +16,7 @@ use Rattle.nef_classes.specs.declared.table.Tie.{Tie}
 use Rattle.nef_classes.specs.Tables.{IsSpotIn, AreTied, AreTiedWithin}
 use Rattle.nef_links.specs.Links.{LinkAlong, LinkAcross}
 use Rattle.nef_parts.specs.Numbers.{count_items}
-use Rattle.nef_ties.specs.Ties.{spot_of, corner_at, edge_tie, IsTieFromArc, IsTieOfEdge, IsTieAlong, IsTieAcross, Any, Adds}
+use Rattle.nef_ties.specs.Ties.{spot_of, corner_at, edge_tie, IsTieAlong, IsTieAcross, Any, Adds}
 
 pub tie-same : (t u : Tie) → t.first ≡ u.first → t.second ≡ u.second → t ≡ u
 tie-same t u e f = ap (λ x. make x t.second) e ∙ ap (λ x. make u.first x) f

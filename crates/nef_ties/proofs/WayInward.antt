@@ -1,10 +1,10 @@
 -- The corner that the way inward from an item names.
 use Rattle.std.proofs.Common.{◌≡◌, ℕ, zero, suc, ◌<◌, ◌≤◌, ◌+◌, ◌^◌, ℤ, pos, neg_ℤ, nat_abs, List, [], ◌∷◌, length, map, Option, Some, None, MatchOption, slice_get, arith, refl, sym, subst}
 use Rattle.std.proofs.lemmas.Int.{ints}
-use Rattle.nef_space.specs.Place.{Place, Form, form_at, normal_of, slope}
+use Rattle.nef_space.specs.Place.{Place, Form, normal_of, slope}
 use Rattle.nef_space.specs.Sets.{Set}
-use Rattle.nef_space.specs.Vectors.{Vector, dot, opposite, IsAtMost, SameDirection, plane_dir}
-use Rattle.nef_geo.specs.Shapes.{form_of, vector_of, place_of}
+use Rattle.nef_space.specs.Vectors.{Vector, opposite, IsAtMost, SameDirection, plane_dir}
+use Rattle.nef_geo.specs.Shapes.{form_of, place_of}
 use Rattle.nef_geo.specs.Widths.{ray_limit, plane_dir_limit}
 use Rattle.nef_geo.specs.declared.plane.Plane.{Plane}
 use Rattle.nef_sphere.specs.Maps.{At, Item, items, item_normal, OnItem}
@@ -13,7 +13,7 @@ use Rattle.nef_smap.proofs.ArcEnds.{at-map}
 use Rattle.nef_smap.specs.Maps.{map_of}
 use Rattle.nef_solid.specs.Complexes.{Vertex, Complex, Corner, IsCorner}
 use Rattle.nef_solid.specs.Shows.{Shows}
-use Rattle.nef_solid.specs.Skeleton.{PlaneMeet, IsFirstInPlane, IsCornerAt, RayNames}
+use Rattle.nef_solid.specs.Skeleton.{PlaneMeet, IsFirstInPlane, IsCornerAt}
 use Rattle.nef_complex.specs.declared.complex.Complex.{Complex as ProgramComplex}
 use Rattle.nef_complex.specs.declared.complex.Corner.{Corner as ProgramCorner}
 use Rattle.nef_complex.specs.declared.complex.Vertex.{Vertex as ProgramVertex}

@@ -1,6 +1,6 @@
 use Rattle.std.proofs.Common.{List, sym, subst, ◌∙◌}
 use Rattle.nef_arc.proofs.SignNumbers.{not_true}
-use Rattle.nef_geo.specs.Shapes.{form_of, vector_of, place_of}
+use Rattle.nef_geo.specs.Shapes.{vector_of, place_of}
 use Rattle.nef_geo.specs.declared.plane.Plane.{Plane}
 use Rattle.nef_locate.proofs.FacetFound.{as-none}
 use Rattle.nef_ties.specs.Ties.{NoneIsPlaneWith}

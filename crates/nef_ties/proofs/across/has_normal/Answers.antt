@@ -1,4 +1,3 @@
-use Rattle.std.proofs.Common.{sym}
 use Rattle.nef_space.specs.Place.{normal_of}
 use Rattle.nef_geo.specs.Shapes.{form_of, vector_of}
 use Rattle.nef_sphere.proofs.Compare.{SameDirection-trans, SameDirection-turned}

@@ -1,4 +1,4 @@
-use Rattle.std.proofs.Common.{◌≡◌, arith, refl, subst}
+use Rattle.std.proofs.Common.{arith, refl, subst}
 use Rattle.nef_sphere.specs.Maps.{Item, items, arc_item, OnItem}
 use Rattle.nef_sphere.proofs.Lists.{at-one}
 use Rattle.nef_geo.specs.Shapes.{vector_of}

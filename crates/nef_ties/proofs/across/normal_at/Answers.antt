@@ -1,4 +1,4 @@
-use Rattle.std.proofs.Common.{◌≡◌, arith, refl}
+use Rattle.std.proofs.Common.{arith, refl}
 use Rattle.nef_sphere.specs.Maps.{arc_item, loop_item}
 use Rattle.nef_smap.specs.Maps.{arc_of, loop_of}
 use Rattle.nef_smap.proofs.MapLists.{item-arc, item-loop}

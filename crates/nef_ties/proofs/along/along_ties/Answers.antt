@@ -1,11 +1,10 @@
-use Rattle.std.proofs.Common.{List, [], map, get_or, sym, subst}
-use Rattle.nef_classes.specs.declared.table.Tie.{Tie}
+use Rattle.std.proofs.Common.{[], map, get_or}
 use Rattle.nef_complex.specs.Complexes.{complex_of, edge_of}
 use Rattle.nef_complex.proofs.Ends.{low-within, high-within}
 use Rattle.nef_links.specs.Links.{LinkAlong}
 use Rattle.nef_parts.specs.Numbers.{count_items}
-use Rattle.nef_ties.specs.Ties.{IsTieAlong, Any, Adds}
-use Rattle.nef_ties.proofs.Adding.{AnyBelow, any-start, any-next, any-all}
+use Rattle.nef_ties.specs.Ties.{IsTieAlong}
+use Rattle.nef_ties.proofs.Adding.{any-next, any-all}
 use Rattle.nef_ties.proofs.EdgeTies.{image-below, at-slice, edge-read}
 use Rattle.nef_ties.proofs.TiedLinks.{tied, tied-within, along-in, along-to, along-from}
 use Rattle.nef_ties.proofs.along.along_ties.Goals as goal
