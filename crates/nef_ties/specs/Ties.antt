@@ -34,9 +34,13 @@ abbrev pub Any : {X : Type 0} → (ℕ → X → Type 0) → X → Type 0
 Any {X} P x = (k : ℕ) × P k x
 
 -- ---- along edges
--- the arcs a of the edge's lower end and b of its higher end have one normal, and one begins at the edge where the other ends
+-- of the arcs a of the edge's lower end and b of its higher end one begins at the edge, and the other ends there
+abbrev pub BeginAndEnd : Edge → Arc → Arc → Type 0
+BeginAndEnd e a b = ((a.source ≡ e.low_svertex) × (b.target ≡ e.high_svertex)) ⊎ ((a.target ≡ e.low_svertex) × (b.source ≡ e.high_svertex))
+
+-- and they have one normal
 abbrev pub AreArcsAlong : Edge → Arc → Arc → Type 0
-AreArcsAlong e a b = SameDirection a.normal b.normal × (((a.source ≡ e.low_svertex) × (b.target ≡ e.high_svertex)) ⊎ ((a.target ≡ e.low_svertex) × (b.source ≡ e.high_svertex)))
+AreArcsAlong e a b = SameDirection a.normal b.normal × BeginAndEnd e a b
 
 -- the tie joins arc i of the edge's lower end with arc j of its higher end
 abbrev pub edge_tie : Edge → ℕ → ℕ → Tie
@@ -83,7 +87,8 @@ IsNamedFrom C h p d o = MatchOption o ((k : Corner) → RayNames C h p d k → �
 
 -- the corner with which item j of vertex i is linked across its facet, or none
 abbrev pub IsLinkedFrom : Complex → ℕ → ℕ → Option ProgramCorner → Type 0
-IsLinkedFrom C i j o = MatchOption o ((k : Corner) → LinkAcross C (record { vertex = i; item = j }) k → ⊥) (λ k. LinkAcross C (record { vertex = i; item = j }) (corner_of k))
+IsLinkedFrom C i j o =
+    MatchOption o ((k : Corner) → LinkAcross C (record { vertex = i; item = j }) k → ⊥) (λ k. LinkAcross C (record { vertex = i; item = j }) (corner_of k))
 
 -- the tie joins item j of vertex i with the corner with which it is linked across its facet
 abbrev pub IsTieAcross : Complex → ℕ → ℕ → Tie → Type 0

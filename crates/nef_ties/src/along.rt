@@ -1,6 +1,6 @@
 //! The ties of corners along edges.
 
-ghost use Rattle.std.specs.Prelude.{◌≡◌, map, ◌⊎◌, ◌↔◌, IsTrue, IfOk, OnOk};
+ghost use Rattle.std.specs.Prelude.{◌≡◌, map, ◌↔◌, IsTrue, IfOk, OnOk};
 ghost use Rattle.nef_space.specs.Sets.{Set};
 ghost use Rattle.nef_solid.specs.Complexes.{Corner};
 ghost use Rattle.nef_smap.specs.Maps.{map_of, arc_of};
@@ -8,7 +8,7 @@ ghost use Rattle.nef_complex.specs.Complexes.{complex_of, edge_of, ShowsSet};
 ghost use Rattle.nef_links.specs.Links.{LinkAlong};
 ghost use Rattle.nef_parts.specs.Numbers.{count_items};
 ghost use Rattle.nef_classes.specs.Tables.{AreTiedWithin, AreTied};
-ghost use Rattle.nef_ties.specs.Ties.{spot_of, AreArcsAlong, IsTieFromArc, IsTieOfEdge, Any, Adds};
+ghost use Rattle.nef_ties.specs.Ties.{spot_of, BeginAndEnd, AreArcsAlong, IsTieFromArc, IsTieOfEdge, Any, Adds};
 
 use crate::OutOfMemory;
 use nef_classes::{Spot, Tie};
@@ -25,7 +25,7 @@ pub(crate) fn same_dir(a: &Dir, b: &Dir) -> bool
 
 // Whether one of the arcs begins at its end of the edge, and the other ends at its.
 fn begin_and_end(edge: &Edge, low: &SArc, high: &SArc) -> bool
-    ensures ends { IsTrue result ↔ (((low.now.source ≡ edge.now.low_svertex) × (high.now.target ≡ edge.now.high_svertex)) ⊎ ((low.now.target ≡ edge.now.low_svertex) × (high.now.source ≡ edge.now.high_svertex))) }
+    ensures ends { IsTrue result ↔ BeginAndEnd (edge_of edge.now) (arc_of low.now) (arc_of high.now) }
 {
     (low.source == edge.low_svertex && high.target == edge.high_svertex)
         || (low.target == edge.low_svertex && high.source == edge.high_svertex)
