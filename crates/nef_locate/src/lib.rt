@@ -18,7 +18,7 @@ mod ray;
 #[cfg(test)]
 mod tests;
 
-pub use facet::in_facet;
+pub use facet::{corner_toward, in_facet, passes, plane_normal};
 pub use label::place_label;
 pub use local::local_map;
 pub use maps::place_map;
