@@ -132,8 +132,8 @@ module _ (vs : List Vertex) (es : List Edge) where
   volume-link hs gs x y l =
       ⊎_elim (λ a. inl (in-sface hs gs x y a))
       (λ r. inr (⊎_elim (λ a. inl (along-edge hs gs x y a))
-        (λ r. inr (⊎_elim (λ a. inl (across-facet hs gs x y a))
-          (λ r. inr (⊎_elim (λ a. inl (link-down hs gs x y a)) (λ a. inr a) r)) r)) r)) l
+      (λ r. inr (⊎_elim (λ a. inl (across-facet hs gs x y a))
+      (λ r. inr (⊎_elim (λ a. inl (link-down hs gs x y a)) (λ a. inr a) r)) r)) r)) l
 
   -- ---- numbers
   facet-chain : (hs gs : List Form) (j k : Corner) → Chained (FacetLink (made hs vs es)) j k → Chained (FacetLink (made gs vs es)) j k
@@ -180,8 +180,19 @@ module _ (vs : List Vertex) (es : List Edge) where
   -- ---- cycles
   next-arc : (hs gs : List Form) (j k : Corner) → IsNextArc (made hs vs es) j k → IsNextArc (made gs vs es) j k
   next-arc hs gs j k n = record {
-    here = n.here; there = n.there; this_arc = n.this_arc; that_arc = n.that_arc; is_here = n.is_here; is_there = n.is_there; is_this = n.is_this; is_that = n.is_that;
-    number = n.number; edge = n.edge; is_edge = n.is_edge; leads = n.leads; one_normal = n.one_normal;
+    here = n.here;
+    there = n.there;
+    this_arc = n.this_arc;
+    that_arc = n.that_arc;
+    is_here = n.is_here;
+    is_there = n.is_there;
+    is_this = n.is_this;
+    is_that = n.is_that;
+    number = n.number;
+    edge = n.edge;
+    is_edge = n.is_edge;
+    leads = n.leads;
+    one_normal = n.one_normal;
   }
 
   next : (hs gs : List Form) (j k : Corner) → NextCorner (made hs vs es) j k → NextCorner (made gs vs es) j k
@@ -201,7 +212,9 @@ module _ (vs : List Vertex) (es : List Edge) where
   -- ---- parts
   facet-at : (hs gs : List Form) (p : Parts) (f : Facet) (k : Corner) (v : Vertex) (x : Item) → IsFacetAt (made hs vs es) p f k v x → IsFacetAt (made gs vs es) p f k v x
   facet-at hs gs p f k v x a = record {
-    through = a.through; normal = a.normal; mark = a.mark;
+    through = a.through;
+    normal = a.normal;
+    mark = a.mark;
     above = volume-of hs gs p.volume_of (above_of k) f.pos a.above;
     below = volume-of hs gs p.volume_of (below_of k) f.neg a.below;
   }

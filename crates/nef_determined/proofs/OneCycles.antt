@@ -29,7 +29,6 @@ all-above j [] h = tt
 all-above j (k ∷ ks) h = (h 0 k (omega arith), all-above j ks (λ i d l. h (suc i) d (omega arith)))
 
 module _ (C : Complex) (one : HasOneNext C) where
-
   -- two ways round from one corner are one
   round-one : (a z : Corner) (ks ls : List Corner) → StepsTo C a ks z → StepsTo C a ls z → AllAbove z ks → AllAbove z ls → ks ≡ ls
   round-one a z [] [] s t p q = refl
@@ -93,7 +92,7 @@ module _ (C : Complex) (one : HasOneNext C) where
       let t = rest-from l m ls k d b in
       let e = ⊎_elim (λ e. e) (λ h. ⊎_elim (λ f. absurd (never _ l j ls (d.0) (all-above l ls (d.1)) f)) (λ f. absurd (never _ j l ks (c.0) (all-above j ks (c.1)) f)) h) (both-ways m l j (r.0) (t.0) (r.1) (t.1) (r.2) (t.2)) in
       ap (λ (w : Corner). w ∷ ks) e ∙ ap (λ (ws : List Corner). l ∷ ws)
-        (round-one l l ks ls (subst (λ (w : Corner). StepsTo C w ks w) e (c.0)) (d.0) (subst (λ (w : Corner). AllAbove w ks) e (all-above j ks (c.1))) (all-above l ls (d.1)))
+      (round-one l l ks ls (subst (λ (w : Corner). StepsTo C w ks w) e (c.0)) (d.0) (subst (λ (w : Corner). AllAbove w ks) e (all-above j ks (c.1))) (all-above l ls (d.1)))
 
   cycle-below-apart : (x y : List Corner) → IsCycleBelow x y → IsCycleBelow y x → ⊥
   cycle-below-apart [] y (j, k, a, b, h) g = absurd a

@@ -93,9 +93,9 @@ module _ (C : Complex) (one : HasOneNext C) (p q : Parts) (P : IsParts C p) (Q :
   facet-numbers : p.facet_of ≡ q.facet_of
   facet-numbers = rows-one C count_items p.facet_of q.facet_of P.facet_numbers.shape Q.facet_numbers.shape
       (λ i k m n a b. numbers-one (FacetLink C) IsCornerBelow 0 (IsFacetOf p.facet_of) (IsFacetOf q.facet_of) CornerPlace corner-before P.facet_numbers.numbered Q.facet_numbers.numbered
-        (λ x n h. rows-both C count_items p.facet_of q.facet_of P.facet_numbers.shape Q.facet_numbers.shape x.vertex x.item n h)
-        (λ x n h. rows-both C count_items q.facet_of p.facet_of Q.facet_numbers.shape P.facet_numbers.shape x.vertex x.item n h)
-        (λ x m n f g h. ⊎_elim (λ r. absurd (omega arith)) (λ r. absurd (omega arith)) h) i k (record { vertex = i; item = k }) m n (refl, refl) a b)
+      (λ x n h. rows-both C count_items p.facet_of q.facet_of P.facet_numbers.shape Q.facet_numbers.shape x.vertex x.item n h)
+      (λ x n h. rows-both C count_items q.facet_of p.facet_of Q.facet_numbers.shape P.facet_numbers.shape x.vertex x.item n h)
+      (λ x m n f g h. ⊎_elim (λ r. absurd (omega arith)) (λ r. absurd (omega arith)) h) i k (record { vertex = i; item = k }) m n (refl, refl) a b)
 
   -- ---- the numbers of volumes
   abbrev SidePlace : VertexSide → ℕ → ℕ → Type 0
@@ -130,12 +130,12 @@ module _ (C : Complex) (one : HasOneNext C) (p q : Parts) (P : IsParts C p) (Q :
   volume-numbers : p.volume_of ≡ q.volume_of
   volume-numbers = rows-one C count_sides p.volume_of q.volume_of P.volume_numbers.shape Q.volume_numbers.shape
       (λ i k m n a b.
-        let r = side-at i k m a in
-        let x : VertexSide = r.0 in
-        numbers-one (VolumeLink C) (IsSideBelow C) 1 (IsVolumeOf C p.volume_of) (IsVolumeOf C q.volume_of) SidePlace side-before P.volume_numbers.numbered Q.volume_numbers.numbered
-        (λ x n h. volume-there p q P Q x n h) (λ x n h. volume-there q p Q P x n h)
-        (λ x m n f g h. ⊎_elim (λ l. outside-same p q P Q x m n f g l) (λ l. sym (outside-same q p Q P x n m g f l)) h) i k x m n (r.1, r.2)
-        (k, r.2, subst (λ (j : ℕ). IsInTable p.volume_of j k m) (sym (r.1)) a) (k, r.2, subst (λ (j : ℕ). IsInTable q.volume_of j k n) (sym (r.1)) b))
+      let r = side-at i k m a in
+      let x : VertexSide = r.0 in
+      numbers-one (VolumeLink C) (IsSideBelow C) 1 (IsVolumeOf C p.volume_of) (IsVolumeOf C q.volume_of) SidePlace side-before P.volume_numbers.numbered Q.volume_numbers.numbered
+      (λ x n h. volume-there p q P Q x n h) (λ x n h. volume-there q p Q P x n h)
+      (λ x m n f g h. ⊎_elim (λ l. outside-same p q P Q x m n f g l) (λ l. sym (outside-same q p Q P x n m g f l)) h) i k x m n (r.1, r.2)
+      (k, r.2, subst (λ (j : ℕ). IsInTable p.volume_of j k m) (sym (r.1)) a) (k, r.2, subst (λ (j : ℕ). IsInTable q.volume_of j k n) (sym (r.1)) b))
 
   -- ---- facets
   corner-there : (k : Corner) (n : ℕ) → IsFacetOf p.facet_of k n → (v : Vertex) × (x : Item) × IsCorner C k v x
@@ -160,32 +160,32 @@ module _ (C : Complex) (one : HasOneNext C) (p q : Parts) (P : IsParts C p) (Q :
       let b = G.corners k (c.0) (c.1) h' (c.2) in
       let cycles = subst (λ (rows : List (List ℕ)). Cycles C (λ k. IsFacetOf rows k n) (cycle_corners g.cycles)) (sym facet-numbers) G.cycles in
       facet-equal f g
-        (plane-one f.plane g.plane (c.0).point
-          (parallel-both (item_normal (c.1)) (normal_of (form_of f.plane)) (normal_of (form_of g.plane)) (same-second (normal_of (form_of f.plane)) (item_normal (c.1)) a.normal)
-            (cross-turned (normal_of (form_of f.plane)) (item_normal (c.1)) a.normal.parallel) (cross-turned (normal_of (form_of g.plane)) (item_normal (c.1)) b.normal.parallel))
-          a.through b.through)
-        (a.mark ∙ sym b.mark)
-        (volume-one C p.volume_of (above_of k) f.pos g.pos a.above (subst (λ (rows : List (List ℕ)). IsVolumeOf C rows (above_of k) g.pos) (sym volume-numbers) b.above))
-        (volume-one C p.volume_of (below_of k) f.neg g.neg a.below (subst (λ (rows : List (List ℕ)). IsVolumeOf C rows (below_of k) g.neg) (sym volume-numbers) b.below))
-        (map-one (λ (x : Cycle). map corner_of x.corners) cycle-one f.cycles g.cycles (cycles-one C one (λ k. IsFacetOf p.facet_of k n) (cycle_corners f.cycles) (cycle_corners g.cycles) F.cycles cycles))
+      (plane-one f.plane g.plane (c.0).point
+      (parallel-both (item_normal (c.1)) (normal_of (form_of f.plane)) (normal_of (form_of g.plane)) (same-second (normal_of (form_of f.plane)) (item_normal (c.1)) a.normal)
+      (cross-turned (normal_of (form_of f.plane)) (item_normal (c.1)) a.normal.parallel) (cross-turned (normal_of (form_of g.plane)) (item_normal (c.1)) b.normal.parallel))
+      a.through b.through)
+      (a.mark ∙ sym b.mark)
+      (volume-one C p.volume_of (above_of k) f.pos g.pos a.above (subst (λ (rows : List (List ℕ)). IsVolumeOf C rows (above_of k) g.pos) (sym volume-numbers) b.above))
+      (volume-one C p.volume_of (below_of k) f.neg g.neg a.below (subst (λ (rows : List (List ℕ)). IsVolumeOf C rows (below_of k) g.neg) (sym volume-numbers) b.below))
+      (map-one (λ (x : Cycle). map corner_of x.corners) cycle-one f.cycles g.cycles (cycles-one C one (λ k. IsFacetOf p.facet_of k n) (cycle_corners f.cycles) (cycle_corners g.cycles) F.cycles cycles))
 
   facets-one : p.facets ≡ q.facets
   facets-one = list-one p.facets q.facets
       (as-many (length p.facets) (length q.facets)
-        (λ n h. let f = is-at_some p.facets n h in let s = (P.facets n (f.0) (f.1)).some in Q.all_facets (s.0) n (subst (λ (rows : List (List ℕ)). IsFacetOf rows (s.0) n) facet-numbers (s.1)))
-        (λ n h. let f = is-at_some q.facets n h in let s = (Q.facets n (f.0) (f.1)).some in P.all_facets (s.0) n (subst (λ (rows : List (List ℕ)). IsFacetOf rows (s.0) n) (sym facet-numbers) (s.1))))
+      (λ n h. let f = is-at_some p.facets n h in let s = (P.facets n (f.0) (f.1)).some in Q.all_facets (s.0) n (subst (λ (rows : List (List ℕ)). IsFacetOf rows (s.0) n) facet-numbers (s.1)))
+      (λ n h. let f = is-at_some q.facets n h in let s = (Q.facets n (f.0) (f.1)).some in P.all_facets (s.0) n (subst (λ (rows : List (List ℕ)). IsFacetOf rows (s.0) n) (sym facet-numbers) (s.1))))
       (λ n f g a b. facet-one n f g (P.facets n f a) (Q.facets n g b))
 
   volumes-one : p.volumes ≡ q.volumes
   volumes-one = list-one p.volumes q.volumes
       (as-many (length p.volumes) (length q.volumes)
-        (λ n h. let f = is-at_some p.volumes n h in let s = (P.volumes n (f.0) (f.1)).some in Q.all_volumes (s.0) n (subst (λ (rows : List (List ℕ)). IsVolumeOf C rows (s.0) n) volume-numbers (s.1)))
-        (λ n h. let f = is-at_some q.volumes n h in let s = (Q.volumes n (f.0) (f.1)).some in P.all_volumes (s.0) n (subst (λ (rows : List (List ℕ)). IsVolumeOf C rows (s.0) n) (sym volume-numbers) (s.1))))
+      (λ n h. let f = is-at_some p.volumes n h in let s = (P.volumes n (f.0) (f.1)).some in Q.all_volumes (s.0) n (subst (λ (rows : List (List ℕ)). IsVolumeOf C rows (s.0) n) volume-numbers (s.1)))
+      (λ n h. let f = is-at_some q.volumes n h in let s = (Q.volumes n (f.0) (f.1)).some in P.all_volumes (s.0) n (subst (λ (rows : List (List ℕ)). IsVolumeOf C rows (s.0) n) (sym volume-numbers) (s.1))))
       (λ n l m a b.
-        let s = (P.volumes n l a).some in
-        let x : VertexSide = s.0 in
-        let i = has-label C x ((s.1).0) ((s.1).1) in
-        (P.volumes n l a).labels x (i.0) (s.1) (i.1) ∙ sym ((Q.volumes n m b).labels x (i.0) (subst (λ (rows : List (List ℕ)). IsVolumeOf C rows x n) volume-numbers (s.1)) (i.1)))
+      let s = (P.volumes n l a).some in
+      let x : VertexSide = s.0 in
+      let i = has-label C x ((s.1).0) ((s.1).1) in
+      (P.volumes n l a).labels x (i.0) (s.1) (i.1) ∙ sym ((Q.volumes n m b).labels x (i.0) (subst (λ (rows : List (List ℕ)). IsVolumeOf C rows x n) volume-numbers (s.1)) (i.1)))
 
   pub parts-one : p ≡ q
   parts-one = parts-equal p q facets-one volumes-one facet-numbers volume-numbers
