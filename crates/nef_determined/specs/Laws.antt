@@ -8,6 +8,14 @@ use Rattle.nef_parts.specs.declared.parts.Parts.{Parts}
 use Rattle.nef_parts.specs.Numbers.{IsParts}
 use Rattle.nef_parts.specs.Text.{text}
 
--- complexes with the same vertices and edges have the same parts
+-- complexes with the same vertices and edges have the same parts, whatever their carriers
 abbrev pub SamePartsOfSame : Type 0
 SamePartsOfSame = (c d : Complex) (p : Parts) → c.vertices ≡ d.vertices → c.edges ≡ d.edges → IsParts (complex_of c) p → IsParts (complex_of d) p
+
+-- complexes that show one set have the same parts, and so the same text
+abbrev pub SameSetSameText : Type 0
+SameSetSameText = (s t : Set) (c d : Complex) (p q : Parts) → ShowsSet s c → ShowsSet t d → SameSet s t → IsParts (complex_of c) p → IsParts (complex_of d) q → (p ≡ q) × (text c p ≡ text d q)
+
+-- and sets whose complexes have one text are one
+abbrev pub SameTextSameSet : Type 0
+SameTextSameSet = (s t : Set) (c d : Complex) (p q : Parts) → ShowsSet s c → ShowsSet t d → text c p ≡ text d q → SameSet s t
