@@ -5,3 +5,10 @@ pub mod Alike
 pub mod Carried
 pub mod EdgeViews
 pub mod NextCorners
+pub mod Order
+pub mod FirstCorners
+pub mod Walks
+pub mod Nexts
+pub mod Grouping
+pub mod CyclesOf
+pub mod PartsOf

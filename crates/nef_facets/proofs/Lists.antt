@@ -40,3 +40,10 @@ each-more {A} {B} P n xs ys x y E b p = record {
     by i u v d (last e f) =
         let same : n ≡ i = sym (e ∙ E.as_many) in
         subst (λ (w : A). P w v) (sym f) (subst (λ (w : B). P x w) (is-at_one ys n y v b (subst (λ (j : ℕ). IsAt ys j v) (sym same) d)) p)
+
+pub own-more : (xs : List ℕ) (n : ℕ) → length xs ≡ n → ((i m : ℕ) → IsAt xs i m → m ≡ i) → (i m : ℕ) → IsAt (xs ++ n ∷ []) i m → m ≡ i
+own-more xs n e own i m a = by (is-at_either xs i m n a)
+  where
+    by : Either xs i m n → m ≡ i
+    by (earlier b) = own i m b
+    by (last f g) = g ∙ sym e ∙ sym f

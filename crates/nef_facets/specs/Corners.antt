@@ -23,8 +23,12 @@ HasItem C k = (v : Vertex) × (x : Item) × IsCorner C k v x
 abbrev pub AreListed : Complex → List Corner → Type 0
 AreListed C ks = (i : ℕ) (k : Corner) → IsAt ks i k → HasItem C (corner_of k)
 
+-- the corners stand in order
+abbrev pub AreInOrder : List Corner → Type 0
+AreInOrder ks = (i j : ℕ) (x y : Corner) → i < j → IsAt ks i x → IsAt ks j y → IsCornerBelow (corner_of x) (corner_of y)
+
 -- the list has all corners of the complex, in order
 pub record AreCorners (C : Complex) (ks : List Corner) : Type 0 where
   pub each : AreListed C ks
   pub all : (k : PlainCorner) → HasItem C k → (i : ℕ) × IsAt ks i (corner_from k)
-  pub ordered : (i j : ℕ) (x y : Corner) → i < j → IsAt ks i x → IsAt ks j y → IsCornerBelow (corner_of x) (corner_of y)
+  pub ordered : AreInOrder ks

@@ -2,8 +2,15 @@
 #![tactic(auto)]
 
 mod corners;
+mod cycles;
+mod firsts;
 mod items;
+mod next;
 mod numbers;
+mod orbits;
+mod parts;
 mod planes;
+mod position;
 
+pub use parts::{FacetParts, facets};
 pub use std::alloc::AllocError as OutOfMemory;

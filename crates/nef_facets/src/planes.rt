@@ -26,7 +26,7 @@ fn plane_normal(h: &Plane) -> Dir
     }
 }
 
-fn same_dir(a: &Dir, b: &Dir) -> bool
+pub(crate) fn same_dir(a: &Dir, b: &Dir) -> bool
     ensures same { IsTrue result ↔ (a.now ≡ b.now) }
 {
     a == b

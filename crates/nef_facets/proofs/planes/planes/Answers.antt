@@ -1,4 +1,4 @@
-use Rattle.std.proofs.Common.{List, ◌+◌, ◌++◌, ◌∷◌, [], get_or, sym, subst}
+use Rattle.std.proofs.Common.{List, ◌+◌, get_or, sym, subst}
 use Rattle.nef_smap.proofs.ClassLists.{is-at_get}
 use Rattle.nef_geo.specs.declared.plane.Plane.{Plane}
 use Rattle.nef_complex.specs.declared.complex.Corner.{Corner}
