@@ -5,7 +5,7 @@ use Rattle.nef_space.specs.Lists.{IsAt, Chained}
 use Rattle.nef_space.specs.Sets.{Set}
 use Rattle.nef_sphere.specs.Maps.{At}
 use Rattle.nef_smap.proofs.Chains.{chain-here, chain-trans}
-use Rattle.nef_smap.proofs.ClassLists.{is-at_one, is-at_within, is-at_some}
+use Rattle.nef_smap.proofs.ClassLists.{is-at_one, is-at_within, is-at_some, is-at_is}
 use Rattle.nef_edges.proofs.Places.{some-at, at-some, at-map, map-at}
 use Rattle.nef_solid.specs.Complexes.{Complex as PlainComplex, Corner as PlainCorner}
 use Rattle.nef_solid.specs.Shows.{Shows}
@@ -21,6 +21,7 @@ use Rattle.nef_facets.specs.Orbits.{IsStep, StepsOver, IsOrbit, AreOrbits, AreCo
 use Rattle.nef_facets.proofs.FirstCorners.{facet-one, facet-item, item-facet}
 use Rattle.nef_facets.proofs.NextCorners.{next-injective, next-linked}
 use Rattle.nef_facets.proofs.Order.{one-place}
+use Rattle.nef_facets.proofs.Walks.{all-of}
 
 -- ---- the next corners are a step
 pub next-step : (s : Set) (C : PlainComplex) (ks : List Corner) (ns : List ℕ) → Shows s C → AreCorners C ks → AreNext C ks ns → IsStep ns
@@ -63,10 +64,12 @@ module _ (C : PlainComplex) (ks : List Corner) (ns : List ℕ) (O : AreInOrder k
   steps-to i (j ∷ is) z x (y ∷ xs) w (s, t) A a b = let d = A.each 0 j y refl refl in (next-of i j x y a s d, steps-to j is z y xs w t (rest j is y xs A) d b)
 
   above : (i : ℕ) (is : List ℕ) (x : Corner) (xs : List Corner) → All (λ k. i < k) is → AreCornersOf ks is xs → IsAt ks i x → All (IsCornerBelow (corner_of x)) (map corner_of xs)
-  above i [] x [] l A a = tt
-  above i [] x (y ∷ xs) l A a = let e = A.as_many in absurd (omega arith)
-  above i (j ∷ is) x [] l A a = let e = A.as_many in absurd (omega arith)
-  above i (j ∷ is) x (y ∷ xs) (h, l) A a = (O i j x y h a (A.each 0 j y refl refl), above i is x xs l (rest j is y xs A) a)
+  above i is x xs l A a = all-of (IsCornerBelow (corner_of x)) (map corner_of xs) (λ k y b.
+      let u = map-at corner_of xs k y (some-at (map corner_of xs) k y b) in
+      let v = at-some xs k u.0 u.1 in
+      let j = is-at_some is k (let h = is-at_within xs k u.0 v in let e = A.as_many in omega arith) in
+      let less : i < j.0 = subst (λ (n : ℕ). i < n) (is-at_is is k j.0 0 j.1) (l k 0 (is-at_within is k j.0 j.1)) in
+      subst (λ (w : PlainCorner). IsCornerBelow (corner_of x) w) u.2 (O i j.0 x u.0 less a (A.each k j.0 u.0 j.1 v)))
 
   pub orbit-cycle : (is : List ℕ) (xs : List Corner) → IsOrbit ns is → AreCornersOf ks is xs → IsCycle C (map corner_of xs)
   orbit-cycle [] xs B A = absurd B
@@ -75,8 +78,9 @@ module _ (C : PlainComplex) (ks : List Corner) (ns : List ℕ) (O : AreInOrder k
 
 -- ---- the corners of a cycle are of one facet
 steps-chained : (C : PlainComplex) (j : PlainCorner) (ks : List PlainCorner) (z : PlainCorner) → StepsTo C j ks z → (k : ℕ) (x : PlainCorner) → At (j ∷ ks) k x → Chained (FacetLink C) j x
-steps-chained C j ks z s zero x a = subst (λ (y : PlainCorner). Chained (FacetLink C) j y) a (chain-here (FacetLink C) j)
+steps-chained C j [] z s zero x a = subst (λ (y : PlainCorner). Chained (FacetLink C) j y) a (chain-here (FacetLink C) j)
 steps-chained C j [] z s (suc k) x a = absurd a
+steps-chained C j (y ∷ ks) z (s, t) zero x a = subst (λ (w : PlainCorner). Chained (FacetLink C) j w) a (chain-here (FacetLink C) j)
 steps-chained C j (y ∷ ks) z (s, t) (suc k) x a = chain-trans (FacetLink C) j y x (next-linked C j y s) (steps-chained C y ks z t k x a)
 
 cycle-chained : (C : PlainComplex) (ys : List PlainCorner) → IsCycle C ys → (j x : PlainCorner) (k : ℕ) → At ys 0 j → At ys k x → Chained (FacetLink C) j x

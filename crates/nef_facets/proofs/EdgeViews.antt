@@ -71,10 +71,10 @@ relabelled s C i a j b i' a' j' b' e f g h V =
     subst (λ (r : ℕ). EdgeFrom s C i' a' j' r) h (subst (λ (r : ℕ). EdgeFrom s C i' a' r b) g (subst (λ (r : ℕ). EdgeFrom s C i' r j b) f (subst (λ (r : ℕ). EdgeFrom s C r a j b) e V)))
 
 module _ (s : Set) (C : Complex) (S : Shows s C) (n : ℕ) (e : Edge) (at_n : At C.edges n e) where
-  low : Vertex
+  abbrev low : Vertex
   low = (S.edges.edges n e at_n).low_vertex
 
-  high : Vertex
+  abbrev high : Vertex
   high = (S.edges.edges n e at_n).high_vertex
 
   ends : HasEnds C e low high

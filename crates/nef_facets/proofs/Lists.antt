@@ -47,3 +47,11 @@ own-more xs n e own i m a = by (is-at_either xs i m n a)
     by : Either xs i m n → m ≡ i
     by (earlier b) = own i m b
     by (last f g) = g ∙ sym e ∙ sym f
+
+-- one more element, which is like all before
+pub none-more : {X : Type 0} (xs : List X) (v : X) → ((i : ℕ) (x : X) → IsAt xs i x → x ≡ v) → (i : ℕ) (x : X) → IsAt (xs ++ v ∷ []) i x → x ≡ v
+none-more {X} xs v all i x a = by (is-at_either xs i x v a)
+  where
+    by : Either xs i x v → x ≡ v
+    by (earlier b) = all i x b
+    by (last e f) = f

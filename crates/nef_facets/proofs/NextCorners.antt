@@ -67,7 +67,7 @@ module _ (s : Set) (C : Complex) (S : Shows s C) (i a j b : ℕ) (V : EdgeFrom s
   abbrev here : Corner
   here = corner_of i k
 
-  corner : IsCorner C here V.from (arc_item c)
+  pub corner : IsCorner C here V.from (arc_item c)
   corner = record { vertex = V.is_from; item = at-arc V.from.map.arcs V.from.map.loop k c listed }
 
   abbrev n : Vector
@@ -245,13 +245,13 @@ module _ (s : Set) (C : Complex) (S : Shows s C) where
   next-injective i j k (inl x) (inl y) =
       let e = at-one C.vertices k.vertex x.there y.there x.is_there y.is_there in
       arcs-apart i j k x y (at-one y.there.map.arcs k.item x.that_arc y.that_arc (subst (λ (v : Vertex). At v.map.arcs k.item x.that_arc) e x.is_that) y.is_that)
-  next-injective i j k (inl x) (inr (e, v, l, h)) = absurd (arc-no_loop k x.there v x.that_arc l x.is_there x.is_that (subst (λ (r : Corner). IsCorner C r v (loop_item l)) e h))
-  next-injective i j k (inr (e, v, l, h)) (inl y) = absurd (arc-no_loop k y.there v y.that_arc l y.is_there y.is_that (subst (λ (r : Corner). IsCorner C r v (loop_item l)) e h))
-  next-injective i j k (inr (e, h)) (inr (f, g)) = e ∙ sym f
+  next-injective i j k (inl x) (inr (e, v', l, h)) = absurd (arc-no_loop k x.there v' x.that_arc l x.is_there x.is_that (subst (λ (r : Corner). IsCorner C r v (loop_item l)) e h))
+  next-injective i j k (inr (e, v', l, h)) (inl y) = absurd (arc-no_loop k y.there v' y.that_arc l y.is_there y.is_that (subst (λ (r : Corner). IsCorner C r v (loop_item l)) e h))
+  next-injective i j k (inr x) (inr y) = x.0 ∙ sym y.0
 
 -- ---- a corner and the next are linked along an edge
 pub next-linked : (C : Complex) (j k : Corner) → NextCorner C j k → Chained (FacetLink C) j k
-next-linked C j k (inr (e, h)) = ([], e)
+next-linked C j k (inr x) = ([], x.0)
 next-linked C j k (inl x) = ⊎_elim
     (λ l. chain-link (FacetLink C) j k (inl (record {
       number = x.number;

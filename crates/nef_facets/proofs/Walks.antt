@@ -32,10 +32,17 @@ set-at {X} xs k i v x a = ⊎_elim (λ e. inl (e, same e)) (λ o. inr (other (�
     other n = let r = is-at_some xs i within in subst (λ (y : X). IsAt xs i y) (is-at_one (set xs k v) i r.0 x (set-other xs k i v r.0 n r.1) a) r.1
 
 -- ---- marks that are left
-pub unmarked_count : List Bool → ℕ
+abbrev pub unmarked_count : List Bool → ℕ
 unmarked_count [] = 0
 unmarked_count (true ∷ bs) = unmarked_count bs
 unmarked_count (false ∷ bs) = suc (unmarked_count bs)
+
+pub fewer : (bs : List Bool) (i : ℕ) → IsAt bs i false → unmarked_count (set bs i true) < unmarked_count bs
+fewer [] i a = cc
+fewer (true ∷ bs) zero a = let e : ◌≡◌ {A = Option Bool} (Some true) (Some false) = a in cc
+fewer (false ∷ bs) zero a = omega arith
+fewer (true ∷ bs) (suc i) a = fewer bs i a
+fewer (false ∷ bs) (suc i) a = let h = fewer bs i a in omega arith
 
 -- ---- steps
 steps-more : (ns : List ℕ) (j : ℕ) (ks : List ℕ) (now y : ℕ) → StepsOver ns j ks now → IsAt ns now y → StepsOver ns j (ks ++ now ∷ []) y
@@ -150,7 +157,7 @@ module _ (ns : List ℕ) (S : IsStep ns) (start : ℕ) (old : List Bool) (free :
       none k a = cc
   walk-back (j ∷ ks) W = ⊎_elim (λ a. absurd (away a)) (λ a. by a.0 a.1) (W.marked.only now stop)
     where
-      abbrev end : (p : ℕ) × IsAt (j ∷ ks) (length ks) p × IsAt ns p now
+      end : (p : ℕ) × IsAt (j ∷ ks) (length ks) p × IsAt ns p now
       end = steps-last ns j ks now W.path.1
 
       away : IsAt old now true → ⊥
@@ -179,8 +186,7 @@ module _ (ns : List ℕ) (S : IsStep ns) (start : ℕ) (old new : List Bool) (cl
 
 -- ---- all orbits
 pub all-of : {X : Type 0} (P : X → Type 0) (xs : List X) → ((k : ℕ) (x : X) → IsAt xs k x → P x) → All P xs
-all-of P [] f = tt
-all-of P (x ∷ xs) f = (f 0 x refl, all-of P xs (λ k y a. f (suc k) y a))
+all-of P xs f k d h = f k (get_or xs k d) (is-at_get xs k d h)
 
 -- the orbits from the numbers below start on
 pub record AreOrbitsTo (ns : List ℕ) (start : ℕ) (xs : List (List ℕ)) (bs : List Bool) : Type 0 where

@@ -1,4 +1,4 @@
-use Rattle.std.proofs.Common.{List, ℕ, ◌++◌, ◌∷◌, [], arith, sym, subst, length-append, ap, length}
+use Rattle.std.proofs.Common.{List, ℕ, ◌∷◌, [], arith, subst, length-append, ap, length}
 use Rattle.nef_space.specs.Lists.{IsAt}
 use Rattle.nef_facets.proofs.Lists.{own-more}
 use Rattle.nef_facets.proofs.next.own_numbers.Goals as goal

@@ -1,5 +1,9 @@
+use Rattle.std.proofs.Common.{ℕ}
 use Rattle.nef_facets.proofs.Walks.{IsWalk, unmarked_count}
 use Rattle.nef_facets.proofs.orbits.walk.Given as goal
 
-abbrev pub invariant-loop-now : goal.invariant-loop-now
-invariant-loop-now l = IsWalk l.next l.start l.fn.marks.items l.orbit l.now l.marks.items
+abbrev pub invariant-loop-marks : goal.invariant-loop-marks
+invariant-loop-marks l = IsWalk l.next l.start l.fn.marks.items l.orbit l.now l.marks.items
+
+abbrev pub decreases-loop-marks : goal.decreases-loop-marks
+decreases-loop-marks l = unmarked_count l.marks.items
