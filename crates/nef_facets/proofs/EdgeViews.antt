@@ -1,8 +1,8 @@
 -- Edges seen from either of their ends.
-use Rattle.std.proofs.Common.{◌≡◌, ℕ, ◌<◌, pos, ◌<ℤ◌, ◌-ℤ◌, ◌*ℤ◌, ◌+ℤ◌, arith, ap, sym, ◌∙◌, ◌⊎◌, inl, inr, ⊎_elim, subst, [], ◌∷◌}
+use Rattle.std.proofs.Common.{◌≡◌, ℕ, pos, ◌<ℤ◌, ◌-ℤ◌, arith, sym, ◌⊎◌, inl, inr, ⊎_elim, subst, [], ◌∷◌}
 use Rattle.std.proofs.lemmas.Bool.{cases_order}
 use Rattle.std.proofs.lemmas.Int.{ints}
-use Rattle.nef_exact.proofs.Ring.{ring, at, num, neg, ◌⊕◌, ◌⊖◌, ◌⊗◌}
+use Rattle.nef_exact.proofs.Ring.{ring, at, num, ◌⊕◌, ◌⊖◌, ◌⊗◌}
 use Rattle.nef_exact.proofs.Order.{by_order}
 use Rattle.nef_space.specs.Place.{Place, SamePlace, toward, IsBetween}
 use Rattle.nef_space.specs.Sets.{Set}

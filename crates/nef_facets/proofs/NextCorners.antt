@@ -1,10 +1,10 @@
 -- Each arc has a next corner, and no two corners have one next corner.
-use Rattle.std.proofs.Common.{◌≡◌, ℕ, ◌+◌, ◌≤◌, pos, ◌<ℤ◌, ◌+ℤ◌, ◌*ℤ◌, ℤ, neg_ℤ, arith, refl, ap, sym, ◌∙◌, inl, inr, ⊎_elim, [], ◌∷◌, subst}
+use Rattle.std.proofs.Common.{◌≡◌, ℕ, ◌+◌, pos, ◌<ℤ◌, ◌+ℤ◌, ◌*ℤ◌, ℤ, neg_ℤ, arith, refl, ap, sym, ◌∙◌, inl, inr, ⊎_elim, [], ◌∷◌, subst}
 use Rattle.std.proofs.lemmas.Int.{ints}
 use Rattle.nef_exact.specs.Signs.{sign}
 use Rattle.nef_exact.proofs.Ring.{ring, at, num, neg, ◌⊕◌, ◌⊖◌, ◌⊗◌}
 use Rattle.nef_space.specs.Lists.{Chained}
-use Rattle.nef_space.specs.Local.{Germ, FlatDim}
+use Rattle.nef_space.specs.Local.{Germ}
 use Rattle.nef_space.specs.Place.{Place, toward}
 use Rattle.nef_space.specs.Sets.{Set}
 use Rattle.nef_space.specs.Vectors.{Vector, opposite, blend, dot, cross, triple, IsDirection, SameDirection}
@@ -19,7 +19,7 @@ use Rattle.nef_near.proofs.NearGerms.{steep}
 use Rattle.nef_near.proofs.Supports.{square-cross}
 use Rattle.nef_forms.proofs.Directions.{self-pos, dot-comm, direction-right}
 use Rattle.nef_sphere.specs.Forms.{forms}
-use Rattle.nef_sphere.specs.Maps.{At, Svertex, Arc, Loop, Item, arc_item, loop_item, items, item_normal, Map, OnItem, NearLabel, Valid}
+use Rattle.nef_sphere.specs.Maps.{At, Arc, Loop, Item, arc_item, loop_item, items, item_normal, Map, OnItem, NearLabel, Valid}
 use Rattle.nef_sphere.proofs.Vectors.{normal-is, dot-comb, same-plus, same-minus, nought-if}
 use Rattle.nef_sphere.proofs.Generic.{amount, far-keeps}
 use Rattle.nef_sphere.proofs.Lists.{at-one}
@@ -27,21 +27,21 @@ use Rattle.nef_sphere.proofs.Shot.{arc-at}
 use Rattle.nef_sphere.proofs.Around.{direction-around}
 use Rattle.nef_sphere.proofs.Compare.{SameDirection-turned, SameDirection-trans, way-self}
 use Rattle.nef_sphere.proofs.Turn.{turn-same}
-use Rattle.nef_sphere.proofs.Arcs.{at-arc, level-same}
-use Rattle.nef_solid.specs.Complexes.{Vertex, Edge, Complex, Corner, HasEnds, IsCorner}
+use Rattle.nef_sphere.proofs.Arcs.{at-arc}
+use Rattle.nef_solid.specs.Complexes.{Vertex, Complex, Corner, IsCorner}
 use Rattle.nef_solid.specs.Shows.{Shows}
-use Rattle.nef_solid.proofs.Cones.{FlatAre, near-label}
+use Rattle.nef_solid.proofs.Cones.{near-label}
 use Rattle.nef_solid.proofs.FacetSides.{level-way, flats-carried}
 use Rattle.nef_solid.proofs.FacetCorners.{ItemAt, item-at}
 use Rattle.nef_solid.proofs.FacetPoints.{IsInFacetOf}
 use Rattle.nef_solid.proofs.FacetArcs.{target-met}
-use Rattle.nef_links.specs.Links.{LinkAlong, FacetLink}
+use Rattle.nef_links.specs.Links.{FacetLink}
 use Rattle.nef_links.proofs.NearVertex.{facet-near}
 use Rattle.nef_links.proofs.Ties.{IsTied, tied-turned, tied-both, tied-ahead}
 use Rattle.nef_links.proofs.EdgeEnds.{end-level, close_way, on-close, tied-close_way, tied-turn, corner_of, opposite-way, dot-opposite}
 use Rattle.nef_smap.proofs.Chains.{chain-link, chain-turned}
-use Rattle.nef_parts.specs.Cycles.{IsNextArc, IsNextLoop, NextCorner}
-use Rattle.nef_facets.proofs.EdgeViews.{EdgeFrom, edge-from, one-vertex, one-from, one-svertex}
+use Rattle.nef_parts.specs.Cycles.{IsNextArc, NextCorner}
+use Rattle.nef_facets.proofs.EdgeViews.{EdgeFrom, edge-from, one-vertex, one-svertex}
 
 turned-level : (n m d : Vector) → SameDirection n m → dot n d ≡ pos 0 → dot m d ≡ pos 0
 turned-level n m d w z = dot-comm m d ∙ level-way d n m w (dot-comm d n ∙ z)
@@ -245,8 +245,8 @@ module _ (s : Set) (C : Complex) (S : Shows s C) where
   next-injective i j k (inl x) (inl y) =
       let e = at-one C.vertices k.vertex x.there y.there x.is_there y.is_there in
       arcs-apart i j k x y (at-one y.there.map.arcs k.item x.that_arc y.that_arc (subst (λ (v : Vertex). At v.map.arcs k.item x.that_arc) e x.is_that) y.is_that)
-  next-injective i j k (inl x) (inr (e, v', l, h)) = absurd (arc-no_loop k x.there v' x.that_arc l x.is_there x.is_that (subst (λ (r : Corner). IsCorner C r v (loop_item l)) e h))
-  next-injective i j k (inr (e, v', l, h)) (inl y) = absurd (arc-no_loop k y.there v' y.that_arc l y.is_there y.is_that (subst (λ (r : Corner). IsCorner C r v (loop_item l)) e h))
+  next-injective i j k (inl x) (inr (e, v', l, h)) = absurd (arc-no_loop k x.there v' x.that_arc l x.is_there x.is_that (subst (λ (r : Corner). IsCorner C r v' (loop_item l)) e h))
+  next-injective i j k (inr (e, v', l, h)) (inl y) = absurd (arc-no_loop k y.there v' y.that_arc l y.is_there y.is_that (subst (λ (r : Corner). IsCorner C r v' (loop_item l)) e h))
   next-injective i j k (inr x) (inr y) = x.0 ∙ sym y.0
 
 -- ---- a corner and the next are linked along an edge

@@ -1,18 +1,18 @@
 -- The next corners of all corners, edge by edge.
-use Rattle.std.proofs.Common.{◌≡◌, ◌≢◌, ℕ, ◌+◌, ◌<◌, ◌≤◌, List, [], ◌∷◌, length, map, arith, refl, ap, sym, ◌∙◌, ◌⊎◌, inl, inr, ⊎_elim, subst, set}
+use Rattle.std.proofs.Common.{◌≡◌, ◌≢◌, ℕ, ◌+◌, ◌<◌, ◌≤◌, List, length, arith, refl, ap, sym, ◌∙◌, ◌⊎◌, inl, inr, ⊎_elim, subst, set}
 use Rattle.std.proofs.lemmas.Bool.{cases_order}
 use Rattle.nef_space.specs.Lists.{IsAt}
 use Rattle.nef_space.specs.Sets.{Set}
 use Rattle.nef_geo.specs.Shapes.{vector_of}
-use Rattle.nef_sphere.specs.Maps.{At, Arc, Item, arc_item, loop_item, Loop, Map, items}
+use Rattle.nef_sphere.specs.Maps.{At, Arc, Item, arc_item, loop_item, Loop}
 use Rattle.nef_sphere.proofs.Lists.{at-one}
 use Rattle.nef_sphere.proofs.Shot.{arc-at}
 use Rattle.nef_sphere.proofs.Arcs.{at-arc, ends-of}
 use Rattle.nef_smap.specs.declared.map.SArc.{SArc}
 use Rattle.nef_smap.specs.Maps.{map_of, arc_of}
-use Rattle.nef_smap.proofs.ClassLists.{is-at_one, is-at_within, is-at_some, less-or-last}
+use Rattle.nef_smap.proofs.ClassLists.{is-at_within, is-at_some, less-or-last}
 use Rattle.nef_edges.proofs.Places.{at-map, map-at, at-within}
-use Rattle.nef_solid.specs.Complexes.{Vertex as PlainVertex, Edge as PlainEdge, Complex as PlainComplex, Corner as PlainCorner, IsCorner}
+use Rattle.nef_solid.specs.Complexes.{Vertex as PlainVertex, Edge as PlainEdge, Complex as PlainComplex, IsCorner}
 use Rattle.nef_solid.specs.Shows.{Shows}
 use Rattle.nef_solid.proofs.Joining.{svertex-edge}
 use Rattle.nef_complex.specs.declared.complex.Vertex.{Vertex}
@@ -70,7 +70,7 @@ module _ (s : Set) (c : Complex) (S : Shows s (complex_of c)) (n : ℕ) (e : Pla
         let f = at-one C.vertices i (vertex_of u) V.from is-here V.is_from in
         let g = at-one C.vertices j V.to (vertex_of w) V.is_to is-there in
         let A = next-arc s C S i a j b V k (arc_of r) (subst (λ (v : PlainVertex). At v.map.arcs k (arc_of r)) f is-this) leaves in
-        (A.number, A.arc, subst (λ (v : PlainVertex). At v.map.arcs A.number A.arc) g A.listed, A.target, A.one_normal)
+        (A.number, (A.arc, subst (λ (v : PlainVertex). At v.map.arcs A.number A.arc) g A.listed, A.target, A.one_normal))
 
     pub here-item : HasItem C (corner_of (corner i k))
     here-item = (vertex_of u, arc_item (arc_of r), record { vertex = is-here; item = at-arc (map_of u.map).arcs (map_of u.map).loop k (arc_of r) is-this })
@@ -115,10 +115,10 @@ module _ (C : PlainComplex) (ks : List Corner) (i a n : ℕ) (start old : List �
       (sym (ap (λ (z : Arc). z.source) y) ∙ g, ap (λ (m : ℕ). corner m k.item) f ∙ ap (λ (m : ℕ). corner i m) e)
 
   pub added-pass : r.source ≢ a → AreAdded C ks i a (n + 1) start old
-  added-pass no = record {
+  added-pass other = record {
     as_many = A.as_many;
     kept = A.kept;
-    added = λ m k l b h. ⊎_elim (λ g. A.added m k g b h) (λ e. absurd (no ((same-arc k e h).0))) (less-or-last k.item n l);
+    added = λ m k l b h. ⊎_elim (λ g. A.added m k g b h) (λ e. absurd (other ((same-arc k e h).0))) (less-or-last k.item n l);
   }
 
   pub added-next : (O : AreInOrder ks) (new : List ℕ) (d f : ℕ) (k : Corner) → IsAt ks d (corner i n) → IsAt ks f k → new ≡ set old d f → length new ≡ length ks → NextCorner C (corner_of (corner i n)) (corner_of k) → AreAdded C ks i a (n + 1) start new

@@ -1,5 +1,5 @@
 -- Lists of corners.
-use Rattle.std.specs.Prelude.{◌≡◌, ℕ, zero, suc, ◌<◌, List, [], ◌∷◌, ◌++◌}
+use Rattle.std.specs.Prelude.{ℕ, zero, suc, ◌<◌, List, [], ◌∷◌, ◌++◌}
 use Rattle.nef_space.specs.Lists.{IsAt}
 use Rattle.nef_sphere.specs.Maps.{Item}
 use Rattle.nef_solid.specs.Complexes.{Vertex, Complex, Corner as PlainCorner, IsCorner}

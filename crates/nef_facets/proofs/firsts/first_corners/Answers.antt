@@ -27,12 +27,12 @@ loop-corner-preserved c =
     let m = c.number_of.result in
     elim c.if-number_of-len.branch [
       | then-number_of-len+in_ok-push w ↦
-          let e : m ≡ length js = w.if-number_of-len.true ∙ c.len.ensures in
+          let n = c.len.ensures in let q = c.loop-corner.firsts.ok in let p = w.if-number_of-len.true in let e : m ≡ length js = omega arith in
           let items = ap (λ (v : Vec Corner Global). v.items) w.firsts-is ∙ w.in_ok-push.ensures.items in
           subst (λ (r : List Corner). AreFirstsTo rows ks (i + 1) r) (sym items) (firsts-new N.0 rows N.1 ks N.2 i js c.loop-corner.invariant k a m c.number_of.ensures.number e)
       | else-number_of-len w ↦
           let items = ap (λ (v : Vec Corner Global). v.items) w.firsts-is in
-          subst (λ (r : List Corner). AreFirstsTo rows ks (i + 1) r) (sym items) (firsts-same N.0 rows N.1 ks N.2 i js c.loop-corner.invariant k a m c.number_of.ensures.number (λ e. w.if-number_of-len.false (e ∙ sym c.len.ensures)))
+          subst (λ (r : List Corner). AreFirstsTo rows ks (i + 1) r) (sym items) (firsts-same N.0 rows N.1 ks N.2 i js c.loop-corner.invariant k a m c.number_of.ensures.number (λ e. w.if-number_of-len.false (let n = c.len.ensures in let q = c.loop-corner.firsts.ok in omega arith)))
     ]
 
 pub returns : goal.returns

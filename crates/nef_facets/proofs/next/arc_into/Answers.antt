@@ -24,4 +24,4 @@ pub unreachable-requires : goal.unreachable-requires
 unreachable-requires c =
     let I = c.requires.some in
     all-none arc_of c.args.map.now.arcs (λ (a : Arc). (a.target ≡ c.args.svertex) × SameDirection (vector_of c.args.normal.now) a.normal) c.loop-number.number
-    (let e = ap length c.as_slice-arc-items.ensures.all in let f = c.loop-number-test.false in omega arith) c.loop-number.invariant I.0 I.1.0 I.1.1 I.1.2
+    (let e = ap length c.as_slice-arc-items.ensures.all in let f = c.loop-number-test.false in omega arith) c.loop-number.invariant I.0 I.1.0 I.1.1 (I.1.2, I.1.3)
