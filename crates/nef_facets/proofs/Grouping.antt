@@ -1,8 +1,8 @@
 -- The cycles of orbits in rows, one orbit after the other.
-use Rattle.std.proofs.Common.{◌≡◌, ◌≢◌, ℕ, zero, suc, ◌+◌, ◌<◌, ◌≤◌, List, [], ◌∷◌, ◌++◌, length, arith, refl, ap, sym, ◌∙◌, ◌⊎◌, inl, inr, ⊎_elim, subst, set, length-append}
+use Rattle.std.proofs.Common.{◌≡◌, ℕ, ◌+◌, ◌<◌, ◌≤◌, List, [], ◌∷◌, ◌++◌, length, arith, sym, ◌⊎◌, inl, inr, ⊎_elim, subst, set}
 use Rattle.std.proofs.lemmas.Bool.{cases_order}
 use Rattle.nef_space.specs.Lists.{IsAt}
-use Rattle.nef_smap.proofs.ClassLists.{Either, earlier, last, is-at_either, is-at_last, is-at_left, is-at_one, is-at_within, is-at_some, less-or-last}
+use Rattle.nef_smap.proofs.ClassLists.{Either, earlier, last, is-at_either, is-at_last, is-at_left, is-at_one, is-at_within, less-or-last}
 use Rattle.nef_complex.specs.declared.complex.Corner.{Corner}
 use Rattle.nef_parts.specs.declared.parts.Cycle.{Cycle}
 use Rattle.nef_facets.specs.Orbits.{AreCornersOf, IsCycleOf, AreGrouped}
