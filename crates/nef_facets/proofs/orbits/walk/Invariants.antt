@@ -1,4 +1,3 @@
-use Rattle.std.proofs.Common.{ℕ}
 use Rattle.nef_facets.proofs.Walks.{IsWalk, unmarked_count}
 use Rattle.nef_facets.proofs.orbits.walk.Given as goal
 
