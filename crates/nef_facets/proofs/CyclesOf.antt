@@ -1,5 +1,6 @@
 -- Orbits of the next corners are cycles, and those of one facet are its cycles.
-use Rattle.std.proofs.Common.{◌≡◌, ℕ, zero, suc, ◌+◌, ◌<◌, ◌≤◌, pos, List, [], ◌∷◌, length, map, arith, refl, ap, sym, ◌∙◌, subst, Option, Some}
+use Rattle.std.proofs.Common.{◌≡◌, ℕ, zero, suc, ◌<◌, List, [], ◌∷◌, length, map, arith, refl, ap, sym, subst, Option, Some, Result, Ok, Err}
+use Rattle.std.specs.Prelude.{IfOk}
 use Rattle.std.specs.List.{All}
 use Rattle.nef_space.specs.Lists.{IsAt, Chained}
 use Rattle.nef_space.specs.Sets.{Set}
@@ -16,7 +17,7 @@ use Rattle.nef_parts.specs.declared.parts.Cycle.{Cycle}
 use Rattle.nef_parts.specs.Cycles.{NextCorner, IsCornerBelow, StepsTo, IsCycle, IsCycleBelow, Cycles}
 use Rattle.nef_parts.specs.Numbers.{IsFacetOf, FacetNumbers, cycle_corners}
 use Rattle.nef_facets.specs.Corners.{AreInOrder, AreCorners, corner_from}
-use Rattle.nef_facets.specs.Next.{HasNext, AreNext}
+use Rattle.nef_facets.specs.Next.{AreNext}
 use Rattle.nef_facets.specs.Orbits.{IsStep, StepsOver, IsOrbit, AreOrbits, AreCornersOf, AreNumbered, IsCycleOf, AreGrouped}
 use Rattle.nef_facets.proofs.FirstCorners.{facet-one, facet-item, item-facet}
 use Rattle.nef_facets.proofs.NextCorners.{next-injective, next-linked}
@@ -165,6 +166,11 @@ module _ (C : PlainComplex) (rows : List (List ℕ)) (F : FacetNumbers C rows) (
       complete = listed;
       ordered = below;
     }
+
+pub cycles-ok : {E : Type 0} (C : PlainComplex) (rows : List (List ℕ)) (F : FacetNumbers C rows) (ks : List Corner) (K : AreCorners C ks) (ns : List ℕ) (N : AreNext C ks ns) (orbits : List (List ℕ)) (B : AreOrbits ns orbits)
+    (r : Result (List (List Cycle)) E) → IfOk r (λ ys. AreGrouped rows ks orbits (length orbits) ys) → IfOk r (λ ys. (n : ℕ) (row : List Cycle) → IsAt ys n row → Cycles C (λ k. IsFacetOf rows k n) (cycle_corners row))
+cycles-ok C rows F ks K ns N orbits B (Ok ys) G = λ n row a. facet-cycles C rows F ks K ns N orbits B ys G n row a
+cycles-ok C rows F ks K ns N orbits B (Err e) G = G
 
 -- what the grouping asks
 pub are-numbered : (C : PlainComplex) (rows : List (List ℕ)) (ks : List Corner) (ns : List ℕ) (orbits : List (List ℕ)) (count : ℕ) → FacetNumbers C rows → AreCorners C ks → AreNext C ks ns → AreOrbits ns orbits

@@ -1,4 +1,4 @@
-use Rattle.std.proofs.Common.{◌≡◌, ℕ, ◌+◌, ◌<◌, ◌≤◌, List, length, get_or, arith, ap, sym, ◌∙◌, subst, Vec, Global}
+use Rattle.std.proofs.Common.{◌≡◌, ℕ, ◌+◌, List, length, get_or, arith, ap, sym, ◌∙◌, subst, Vec, Global}
 use Rattle.nef_space.specs.Lists.{IsAt}
 use Rattle.nef_smap.proofs.ClassLists.{is-at_get}
 use Rattle.nef_complex.specs.declared.complex.Corner.{Corner}
