@@ -1,17 +1,16 @@
 -- Linked items have one normal and one mark, and the vertices lie in one plane of that normal.
-use Rattle.std.proofs.Common.{◌≡◌, ℕ, ℤ, pos, ◌+ℤ◌, ◌-ℤ◌, ◌*ℤ◌, neg_ℤ, ap, sym, ◌∙◌, inl, inr, ⊎_elim, ◌⊎◌, [], ◌∷◌, List, subst, ◌↔◌}
-use Rattle.nef_exact.proofs.Ring.{ring, at, num, neg, ◌⊕◌, ◌⊖◌, ◌⊗◌}
+use Rattle.std.proofs.Common.{◌≡◌, ℕ, pos, sym, ◌∙◌, inl, inr, ⊎_elim, [], ◌∷◌, List, subst}
+use Rattle.nef_exact.proofs.Ring.{ring, at, num, neg, ◌⊕◌, ◌⊗◌}
 use Rattle.nef_space.specs.Lists.{IsChain, Chained}
-use Rattle.nef_space.specs.Local.{HasLabel}
 use Rattle.nef_space.specs.Place.{Place, Form, form_at, normal_of, slope, plane_through, SamePlace, toward}
 use Rattle.nef_space.specs.Sets.{Set}
-use Rattle.nef_space.specs.Vectors.{Vector, opposite, dot, IsDirection, SameDirection, plane_dir}
+use Rattle.nef_space.specs.Vectors.{Vector, opposite, dot, SameDirection, plane_dir}
 use Rattle.nef_space.specs.declared.label.Label.{Label}
 use Rattle.nef_near.proofs.Decisions.{ahead}
 use Rattle.nef_near.proofs.Even.{joined-germs, labels-by_germs}
 use Rattle.nef_near.proofs.Germs.{label-one}
 use Rattle.nef_forms.proofs.Directions.{dot-comm}
-use Rattle.nef_sphere.specs.Maps.{At, Item, arc_item, items, item_normal, item_mark, OnItem}
+use Rattle.nef_sphere.specs.Maps.{At, Item, arc_item, items, item_normal, item_mark}
 use Rattle.nef_sphere.proofs.Forms.{on-level}
 use Rattle.nef_sphere.proofs.Lists.{at-one}
 use Rattle.nef_sphere.proofs.Arcs.{at-arc}

@@ -1,12 +1,9 @@
 -- Each item lies in a carrier.
 use Rattle.std.proofs.Common.{◌≡◌, ℕ, pos, sym, ◌∙◌, ⊎_elim, map, subst}
-use Rattle.nef_exact.specs.Signs.{sign, nought, Lies}
 use Rattle.nef_exact.proofs.Order.{nought-is}
-use Rattle.nef_space.specs.Local.{Flat}
-use Rattle.nef_space.specs.Place.{Place, Form, form_at, normal_of, slope}
+use Rattle.nef_space.specs.Place.{Place, Form, form_at, normal_of}
 use Rattle.nef_space.specs.Sets.{Set}
-use Rattle.nef_space.specs.Vectors.{Vector, IsNormal, SameDirection, dot}
-use Rattle.nef_near.specs.Cells.{carriers, sign_at}
+use Rattle.nef_space.specs.Vectors.{Vector, IsNormal, SameDirection}
 use Rattle.nef_near.proofs.Decisions.{ahead}
 use Rattle.nef_near.proofs.Supports.{facet-support}
 use Rattle.nef_forms.proofs.Far.{nought-or}
@@ -20,7 +17,7 @@ use Rattle.nef_edges.proofs.Places.{at-map, map-at}
 use Rattle.nef_geo.specs.Shapes.{form_of, place_of}
 use Rattle.nef_smap.specs.Maps.{map_of}
 use Rattle.nef_facets.specs.Corners.{HasItem}
-use Rattle.nef_solid.specs.Shows.{SamePlane, Shows}
+use Rattle.nef_solid.specs.Shows.{Shows}
 use Rattle.nef_solid.proofs.Cones.{FlatAre}
 use Rattle.nef_solid.proofs.FacetSides.{flats-one}
 use Rattle.nef_solid.proofs.Planes.{plane-turned, plane-point, plane-slope}

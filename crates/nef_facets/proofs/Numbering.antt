@@ -1,19 +1,17 @@
 -- Numbers of classes of ties between items are facet numbers.
-use Rattle.std.proofs.Common.{◌≡◌, ℕ, ◌+◌, ◌<◌, List, [], ◌∷◌, ◌++◌, length, map, refl, ap, sym, ◌∙◌, inl, inr, ⊎_elim, ◌⊎◌, ◌↔◌, subst, Result, Ok, Err}
+use Rattle.std.proofs.Common.{◌≡◌, ℕ, ◌+◌, List, ◌++◌, length, map, sym, ◌∙◌, inl, inr, ⊎_elim, ◌⊎◌, ◌↔◌, subst, Result, Ok, Err}
 use Rattle.std.proofs.Math.ListN.{length-map}
 use Rattle.std.specs.Prelude.{IfOk}
-use Rattle.nef_space.specs.Lists.{IsAt, Chained, NumbersClasses}
-use Rattle.nef_sphere.specs.Maps.{At}
+use Rattle.nef_space.specs.Lists.{IsAt, Chained}
 use Rattle.nef_smap.proofs.Chains.{chain-link, chain-map}
 use Rattle.nef_smap.proofs.ClassLists.{is-at_left}
 use Rattle.nef_edges.proofs.Places.{at-some, at-map}
-use Rattle.nef_solid.specs.Complexes.{Vertex, Complex, Corner}
+use Rattle.nef_solid.specs.Complexes.{Complex, Corner}
 use Rattle.nef_links.specs.Links.{LinkAlong, LinkAcross, FacetLink}
-use Rattle.nef_parts.specs.Cycles.{IsCornerBelow}
-use Rattle.nef_parts.specs.Numbers.{count_items, IsFacetOf, HasRows, FacetNumbers}
+use Rattle.nef_parts.specs.Numbers.{count_items, FacetNumbers}
 use Rattle.nef_classes.specs.declared.table.Spot.{Spot}
 use Rattle.nef_classes.specs.declared.table.Tie.{Tie}
-use Rattle.nef_classes.specs.Tables.{IsSpotIn, AreTiedWithin, AreTied, HasCounts, AreNumbers}
+use Rattle.nef_classes.specs.Tables.{AreTiedWithin, AreTied, HasCounts, AreNumbers}
 use Rattle.nef_ties.specs.Items.{spot_of}
 use Rattle.nef_facets.proofs.Lists.{is-at_parts, is-at_second}
 

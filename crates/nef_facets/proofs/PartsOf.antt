@@ -1,15 +1,12 @@
 -- The planes and marks of the first corners are those of all corners of a facet.
-use Rattle.std.proofs.Common.{◌≡◌, ℕ, ◌<◌, pos, List, length, arith, refl, sym, ◌∙◌}
+use Rattle.std.proofs.Common.{◌≡◌, ℕ, ◌<◌, List, length, arith, refl, sym, ◌∙◌}
 use Rattle.nef_space.specs.Lists.{IsAt}
-use Rattle.nef_space.specs.Place.{form_at, normal_of}
 use Rattle.nef_space.specs.Sets.{Set}
-use Rattle.nef_space.specs.Vectors.{SameDirection}
 use Rattle.nef_space.specs.declared.label.Label.{Label}
 use Rattle.nef_geo.specs.Shapes.{form_of}
 use Rattle.nef_geo.specs.declared.plane.Plane.{Plane}
-use Rattle.nef_sphere.specs.Maps.{Item, item_normal, item_mark}
 use Rattle.nef_smap.proofs.ClassLists.{is-at_within, is-at_some}
-use Rattle.nef_solid.specs.Complexes.{Vertex, Complex, Corner as PlainCorner, IsCorner}
+use Rattle.nef_solid.specs.Complexes.{Complex}
 use Rattle.nef_solid.specs.Shows.{Shows}
 use Rattle.nef_complex.specs.declared.complex.Corner.{Corner}
 use Rattle.nef_complex.specs.Complexes.{corner_of}
