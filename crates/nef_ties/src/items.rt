@@ -7,7 +7,7 @@ ghost use Rattle.nef_solid.specs.Complexes.{Corner as PlainCorner};
 ghost use Rattle.nef_links.specs.Links.{LinkAlong, LinkAcross};
 ghost use Rattle.nef_parts.specs.Numbers.{count_items};
 ghost use Rattle.nef_classes.specs.Tables.{AreTied, AreTiedWithin};
-ghost use Rattle.nef_ties.specs.Items.{spot_of};
+ghost use Rattle.nef_ties.specs.Ties.{spot_of};
 
 use crate::OutOfMemory;
 use nef_classes::Tie;
