@@ -11,6 +11,8 @@ mod orbits;
 mod parts;
 mod planes;
 mod position;
+#[cfg(test)]
+mod tests;
 
 pub use parts::{FacetParts, facets};
 pub use std::alloc::AllocError as OutOfMemory;

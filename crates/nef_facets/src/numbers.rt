@@ -7,7 +7,7 @@ ghost use Rattle.nef_complex.specs.Complexes.{complex_of, ShowsSet};
 ghost use Rattle.nef_links.specs.Links.{FacetLink};
 ghost use Rattle.nef_parts.specs.Numbers.{count_items, FacetNumbers};
 ghost use Rattle.nef_classes.specs.Tables.{AreTied, AreTiedWithin};
-ghost use Rattle.nef_ties.specs.Items.{spot_of};
+ghost use Rattle.nef_ties.specs.Ties.{spot_of};
 
 use crate::OutOfMemory;
 use crate::items::item_count;

@@ -6,7 +6,7 @@ use Rattle.nef_links.specs.Links.{FacetLink}
 use Rattle.nef_parts.specs.Numbers.{count_items}
 use Rattle.nef_classes.specs.declared.table.Tie.{Tie}
 use Rattle.nef_classes.specs.Tables.{AreTied, AreTiedWithin, HasCounts}
-use Rattle.nef_ties.specs.Items.{spot_of}
+use Rattle.nef_ties.specs.Ties.{spot_of}
 use Rattle.nef_facets.proofs.Numbering.{numbers-ok}
 use Rattle.nef_facets.proofs.numbers.facet_numbers.Goals as goal
 
