@@ -1,17 +1,17 @@
 -- Links, cycles and parts of complexes with the same vertices and edges are the same, whatever their carriers.
-use Rattle.std.proofs.Common.{◌≡◌, ℕ, ◌⊎◌, inl, inr, ⊎_elim, List, [], ◌∷◌, ◌↔◌}
-use Rattle.nef_space.specs.Lists.{Chained, NumbersClasses}
-use Rattle.nef_space.specs.Place.{Place, Form, IsBetween}
+use Rattle.std.proofs.Common.{ℕ, inl, inr, ⊎_elim, List, [], ◌∷◌}
+use Rattle.nef_space.specs.Lists.{Chained}
+use Rattle.nef_space.specs.Place.{Place, Form}
 use Rattle.nef_space.specs.Vectors.{Vector}
 use Rattle.nef_space.specs.declared.label.Label.{Label}
 use Rattle.nef_sphere.specs.Maps.{Item, Side}
 use Rattle.nef_smap.proofs.Chains.{chain-link, chain-map}
 use Rattle.nef_solid.specs.Complexes.{Vertex, Edge, Complex, Corner, HasEnds, IsCorner}
-use Rattle.nef_solid.specs.Skeleton.{IsEdgePoint, IsOnEdges, IsFacetPoint, Spot, at_vertex, on_edge, in_facet, IsSpot, IsSkeletonPoint, PlaneMeet, meets_vertex, meets_edge, LiesIn, Meets, IsFirstInPlane, IsCornerAt, RayNames, HasCorner, item_plane}
-use Rattle.nef_solid.specs.Rays.{VertexSide, HasSideLabel, IsAbove, RayDown}
-use Rattle.nef_links.specs.Links.{AreAlong, LinkAlong, LinkAcross, FacetLink, IsSideOf, LinkInSface, AreSidesAlong, above_arcs, below_arcs, around_ends, LinkAlongEdge, LinkAcrossFacet, LinkDown, LinkOutside, VolumeLink}
-use Rattle.nef_parts.specs.Cycles.{Leads, IsNextArc, IsNextLoop, NextCorner, StepsTo, IsCycle, IsCornerBelow, Cycles}
-use Rattle.nef_parts.specs.Numbers.{HasRows, count_items, count_sides, IsFacetOf, IsSideNumber, IsVolumeOf, IsSideBelow, FacetNumbers, VolumeNumbers, above_of, below_of, IsFacetAt, IsFacet, IsVolume, IsParts, cycle_corners}
+use Rattle.nef_solid.specs.Skeleton.{IsEdgePoint, IsOnEdges, IsFacetPoint, Spot, at_vertex, on_edge, in_facet, IsSpot, IsSkeletonPoint, PlaneMeet, meets_vertex, meets_edge, LiesIn, Meets, IsFirstInPlane, IsCornerAt, RayNames, HasCorner}
+use Rattle.nef_solid.specs.Rays.{VertexSide, IsAbove, RayDown}
+use Rattle.nef_links.specs.Links.{AreAlong, LinkAlong, LinkAcross, FacetLink, LinkInSface, AreSidesAlong, above_arcs, below_arcs, around_ends, LinkAlongEdge, LinkAcrossFacet, LinkDown, VolumeLink}
+use Rattle.nef_parts.specs.Cycles.{IsNextArc, NextCorner, StepsTo, IsCycle, Cycles}
+use Rattle.nef_parts.specs.Numbers.{HasRows, count_items, count_sides, IsSideNumber, IsVolumeOf, IsSideBelow, FacetNumbers, VolumeNumbers, above_of, below_of, IsFacetAt, IsFacet, IsVolume, IsParts, cycle_corners}
 use Rattle.nef_parts.specs.declared.parts.Facet.{Facet}
 use Rattle.nef_parts.specs.declared.parts.Parts.{Parts}
 

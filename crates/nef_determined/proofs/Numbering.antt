@@ -1,7 +1,7 @@
 -- The numbers of classes by first appearance are the only ones.
-use Rattle.std.proofs.Common.{◌≡◌, ℕ, zero, suc, ◌<◌, ◌≤◌, pos, ◌<ℤ◌, ◌⊎◌, inl, inr, ⊎_elim, List, [], ◌∷◌, arith, refl, sym, ◌∙◌, ap, subst, ◌↔◌}
+use Rattle.std.proofs.Common.{◌≡◌, ℕ, zero, suc, ◌<◌, ◌≤◌, pos, ◌⊎◌, inl, inr, ⊎_elim, [], ◌∷◌, arith, refl, sym, ap, subst}
 use Rattle.std.proofs.lemmas.Int.{ints}
-use Rattle.nef_space.specs.Lists.{Chained, NumbersClasses}
+use Rattle.nef_space.specs.Lists.{NumbersClasses}
 use Rattle.nef_space.specs.Numbers.{IsBelow}
 
 -- the place l in row j comes before the place k in row i

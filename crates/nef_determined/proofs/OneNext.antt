@@ -1,13 +1,13 @@
 -- Each corner has one next corner.
-use Rattle.std.proofs.Common.{◌≡◌, ℕ, ℤ, pos, neg_ℤ, ◌<ℤ◌, ◌⊎◌, inl, inr, ⊎_elim, [], ◌∷◌, arith, refl, sym, ◌∙◌, ap, subst}
+use Rattle.std.proofs.Common.{◌≡◌, ℕ, pos, neg_ℤ, ◌<ℤ◌, inl, inr, [], ◌∷◌, arith, refl, sym, ◌∙◌, ap, subst}
 use Rattle.std.proofs.lemmas.Int.{ints}
 use Rattle.nef_exact.proofs.Ring.{ring, at, num, neg, ◌⊕◌, ◌⊖◌, ◌⊗◌}
 use Rattle.nef_space.specs.Place.{toward}
 use Rattle.nef_space.specs.Sets.{Set}
-use Rattle.nef_space.specs.Vectors.{Vector, dot, cross, triple, IsZero, IsDirection, SameDirection}
+use Rattle.nef_space.specs.Vectors.{Vector, dot, cross, triple, IsDirection, SameDirection}
 use Rattle.nef_forms.proofs.Directions.{self-pos, dot-comm, direction-right}
 use Rattle.nef_near.proofs.FlatDecided.{cross-turned}
-use Rattle.nef_sphere.specs.Maps.{At, Svertex, Arc, Loop, Item, arc_item, loop_item, items}
+use Rattle.nef_sphere.specs.Maps.{At, Arc, Loop, Item, arc_item, loop_item, items}
 use Rattle.nef_sphere.proofs.Vectors.{normal-is, same-minus, nought-if}
 use Rattle.nef_sphere.proofs.Lists.{at-one}
 use Rattle.nef_sphere.proofs.Arcs.{at-arc}
@@ -17,8 +17,8 @@ use Rattle.nef_solid.specs.Complexes.{Vertex, Edge, Complex, Corner, IsCorner}
 use Rattle.nef_solid.specs.Shows.{Shows}
 use Rattle.nef_solid.proofs.FacetSides.{level-way}
 use Rattle.nef_links.proofs.EdgeEnds.{end-level, close_way, on-close, corner_of}
-use Rattle.nef_parts.specs.Cycles.{Leads, IsNextArc, IsNextLoop, NextCorner}
-use Rattle.nef_facets.proofs.EdgeViews.{EdgeFrom, edge-from, one-vertex, one-from, one-svertex}
+use Rattle.nef_parts.specs.Cycles.{Leads, IsNextArc}
+use Rattle.nef_facets.proofs.EdgeViews.{EdgeFrom, edge-from, one-vertex, one-svertex}
 use Rattle.nef_determined.proofs.OneCycles.{HasOneNext}
 
 turned-level : (n m d : Vector) → SameDirection n m → dot n d ≡ pos 0 → dot m d ≡ pos 0
@@ -33,9 +33,9 @@ right-of : (n u : Vector) → IsDirection (cross u n) → triple n u (cross u n)
 right-of n u h =
     let p = self-pos (cross u n) h in
     let e : triple n u (cross u n) ≡ neg_ℤ (dot (cross u n) (cross u n)) = ring (n.x ∷ n.y ∷ n.z ∷ u.x ∷ u.y ∷ u.z ∷ [])
-        (at 0 ⊗ (at 4 ⊗ (at 3 ⊗ at 1 ⊖ at 4 ⊗ at 0) ⊖ at 5 ⊗ (at 5 ⊗ at 0 ⊖ at 3 ⊗ at 2)) ⊕ at 1 ⊗ (at 5 ⊗ (at 4 ⊗ at 2 ⊖ at 5 ⊗ at 1) ⊖ at 3 ⊗ (at 3 ⊗ at 1 ⊖ at 4 ⊗ at 0))
-          ⊕ at 2 ⊗ (at 3 ⊗ (at 5 ⊗ at 0 ⊖ at 3 ⊗ at 2) ⊖ at 4 ⊗ (at 4 ⊗ at 2 ⊖ at 5 ⊗ at 1)))
-        (neg ((at 4 ⊗ at 2 ⊖ at 5 ⊗ at 1) ⊗ (at 4 ⊗ at 2 ⊖ at 5 ⊗ at 1) ⊕ (at 5 ⊗ at 0 ⊖ at 3 ⊗ at 2) ⊗ (at 5 ⊗ at 0 ⊖ at 3 ⊗ at 2) ⊕ (at 3 ⊗ at 1 ⊖ at 4 ⊗ at 0) ⊗ (at 3 ⊗ at 1 ⊖ at 4 ⊗ at 0))) tt in
+    (at 0 ⊗ (at 4 ⊗ (at 3 ⊗ at 1 ⊖ at 4 ⊗ at 0) ⊖ at 5 ⊗ (at 5 ⊗ at 0 ⊖ at 3 ⊗ at 2)) ⊕ at 1 ⊗ (at 5 ⊗ (at 4 ⊗ at 2 ⊖ at 5 ⊗ at 1) ⊖ at 3 ⊗ (at 3 ⊗ at 1 ⊖ at 4 ⊗ at 0))
+    ⊕ at 2 ⊗ (at 3 ⊗ (at 5 ⊗ at 0 ⊖ at 3 ⊗ at 2) ⊖ at 4 ⊗ (at 4 ⊗ at 2 ⊖ at 5 ⊗ at 1)))
+    (neg ((at 4 ⊗ at 2 ⊖ at 5 ⊗ at 1) ⊗ (at 4 ⊗ at 2 ⊖ at 5 ⊗ at 1) ⊕ (at 5 ⊗ at 0 ⊖ at 3 ⊗ at 2) ⊗ (at 5 ⊗ at 0 ⊖ at 3 ⊗ at 2) ⊕ (at 3 ⊗ at 1 ⊖ at 4 ⊗ at 0) ⊗ (at 3 ⊗ at 1 ⊖ at 4 ⊗ at 0))) tt in
     omega (arith, ints)
 
 -- ---- two arcs that come to one svertex with one normal are one
@@ -72,7 +72,7 @@ module _ (s : Set) (C : Complex) (S : Shows s C) (i a j b : ℕ) (V : EdgeFrom s
       (close_way s C S (corner_of i k) v c first a V.start V.is_start g) first.item second.item
       (on-close s C S (corner_of i k) v c first a V.start V.is_start g (level-back c.normal V.start.way) (inr (enters, right-is)))
       (on-close s C S (corner_of i l) v e second a V.start V.is_start g (turned-level c.normal e.normal g w (level-back c.normal V.start.way))
-        (inr (also, same-minus (triple c.normal V.start.way g) (triple e.normal V.start.way g) (turn-same c.normal e.normal V.start.way V.start.way g g w (way-self V.start.way u-is) (way-self g g-is)) right-is)))
+      (inr (also, same-minus (triple c.normal V.start.way g) (triple e.normal V.start.way g) (turn-same c.normal e.normal V.start.way V.start.way g g w (way-self V.start.way u-is) (way-self g g-is)) right-is)))
 
 turned-edge : (e : Edge) (i a j b : ℕ) → Leads e i a j b → Leads e j b i a
 turned-edge e i a j b (inl (f, g, h, k)) = inr (h, k, f, g)
@@ -100,9 +100,9 @@ module _ (s : Set) (C : Complex) (S : Shows s C) where
       let there = at-one C.vertices p y.there V.from (subst (λ (n : ℕ). At C.vertices n y.there) (sym same) y.is_there) V.is_from in
       corner-same k l same
       (one-arc-into s C S p a m t V k.item l.item x.that_arc y.that_arc (subst (λ (v : Vertex). At v.map.arcs k.item x.that_arc) here x.is_that) (subst (λ (v : Vertex). At v.map.arcs l.item y.that_arc) there y.is_that)
-        refl (sym (one-svertex s C S p a q b m t V W))
-        (SameDirection-trans x.that_arc.normal x.this_arc.normal y.that_arc.normal (SameDirection-turned x.this_arc.normal x.that_arc.normal x.one_normal)
-          (subst (λ (c : Arc). SameDirection c.normal y.that_arc.normal) e y.one_normal)))
+      refl (sym (one-svertex s C S p a q b m t V W))
+      (SameDirection-trans x.that_arc.normal x.this_arc.normal y.that_arc.normal (SameDirection-turned x.this_arc.normal x.that_arc.normal x.one_normal)
+      (subst (λ (c : Arc). SameDirection c.normal y.that_arc.normal) e y.one_normal)))
 
   pub one-next : HasOneNext C
   one-next j k l (inl x) (inl y) =

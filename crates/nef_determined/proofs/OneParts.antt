@@ -1,16 +1,15 @@
 -- A complex has its parts in one way alone, where each corner has one next corner.
-use Rattle.std.proofs.Common.{◌≡◌, ℕ, zero, suc, ◌<◌, ◌≤◌, ℤ, pos, ◌⊎◌, inl, inr, ⊎_elim, Bool, true, false, List, [], ◌∷◌, length, map, arith, refl, sym, ◌∙◌, ap, subst, ◌↔◌}
-use Rattle.nef_space.specs.Lists.{IsAt, IsInTable}
+use Rattle.std.proofs.Common.{◌≡◌, ℕ, zero, suc, ◌<◌, ◌≤◌, pos, ⊎_elim, Bool, true, false, List, length, map, arith, refl, sym, ◌∙◌, ap, subst}
+use Rattle.nef_space.specs.Lists.{IsInTable}
 use Rattle.nef_space.specs.Place.{Place, form_at, normal_of}
-use Rattle.nef_space.specs.Vectors.{Vector, cross, IsZero, SameDirection}
+use Rattle.nef_space.specs.Vectors.{cross, IsZero}
 use Rattle.nef_space.specs.declared.label.Label.{Label}
-use Rattle.nef_space.specs.declared.label.Label.TheVariants.{Out}
 use Rattle.nef_cyclic.proofs.Directions.{same-second}
 use Rattle.nef_near.proofs.FlatDecided.{cross-turned, parallel-both}
 use Rattle.nef_geo.specs.Shapes.{form_of}
 use Rattle.nef_geo.specs.declared.plane.Plane.{Plane}
-use Rattle.nef_sphere.specs.Maps.{At, Item, items, item_normal, Side}
-use Rattle.nef_smap.specs.Sides.{sides_of, LabelledSide}
+use Rattle.nef_sphere.specs.Maps.{Item, items, item_normal}
+use Rattle.nef_smap.specs.Sides.{sides_of}
 use Rattle.nef_smap.proofs.ClassLists.{is-at_within, is-at_some, is-at_one}
 use Rattle.nef_smap.proofs.SideLists.{at-from_get, get-from_at, side-has}
 use Rattle.nef_smap.proofs.SideNumbers.{number-one}
@@ -22,7 +21,7 @@ use Rattle.nef_complex.specs.declared.complex.Corner.{Corner as CornerValue}
 use Rattle.nef_complex.specs.Complexes.{corner_of}
 use Rattle.nef_links.specs.Links.{FacetLink, VolumeLink}
 use Rattle.nef_parts.specs.Cycles.{IsCornerBelow, Cycles}
-use Rattle.nef_parts.specs.Numbers.{count_items, count_sides, IsFacetOf, IsSideNumber, IsVolumeOf, IsSideBelow, above_of, below_of, IsFacetAt, IsFacet, IsVolume, IsParts, cycle_corners}
+use Rattle.nef_parts.specs.Numbers.{count_items, count_sides, IsFacetOf, IsSideNumber, IsVolumeOf, IsSideBelow, above_of, below_of, IsFacet, IsParts, cycle_corners}
 use Rattle.nef_parts.specs.declared.parts.Cycle.{Cycle}
 use Rattle.nef_parts.specs.declared.parts.Facet.{Facet}
 use Rattle.nef_parts.specs.declared.parts.Parts.{Parts}
