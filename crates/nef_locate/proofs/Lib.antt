@@ -6,6 +6,14 @@ pub mod TwoStars
 pub mod EdgeEnds
 pub mod EdgeCones
 pub mod EdgeStars
+pub mod EqualPoints
+pub mod CarrierPoints
+pub mod RayMeets
+pub mod LastArcs
+pub mod NearSides
+pub mod Located
+pub mod Reading
+pub mod UpwardSides
 pub mod SamePlanes
 pub mod Behind
 pub mod ItemsFound

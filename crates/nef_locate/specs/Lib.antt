@@ -1,2 +1,4 @@
 pub mod Places
+pub mod Rays
+pub mod Ends
 pub mod Facets

@@ -1,6 +1,7 @@
 -- Places of a complex, the points that lie there, and their labels.
 use Rattle.std.specs.Prelude.{◌≡◌, ℕ}
-use Rattle.nef_space.specs.Place.{Place as PlainPlace}
+use Rattle.nef_space.specs.Place.{Place as PlainPlace, IsAhead, IsBetween}
+use Rattle.nef_space.specs.Vectors.{Vector}
 use Rattle.nef_space.specs.declared.label.Label.{Label}
 use Rattle.nef_sphere.specs.Maps.{At, Svertex, Loop, Item, item_normal, item_above, item_mark, item_below, Side}
 use Rattle.nef_geo.specs.Shapes.{vector_of}
@@ -11,7 +12,7 @@ use Rattle.nef_smap.specs.declared.map.SphereMap.{SphereMap}
 use Rattle.nef_smap.specs.Maps.{map_of}
 use Rattle.nef_smap.specs.Sides.{IsSide}
 use Rattle.nef_solid.specs.Complexes.{Vertex, Edge, Complex, IsCorner}
-use Rattle.nef_solid.specs.Skeleton.{IsVertexPoint, IsEdgePoint, at_vertex, on_edge, in_facet, HasCorner}
+use Rattle.nef_solid.specs.Skeleton.{IsVertexPoint, IsEdgePoint, at_vertex, on_edge, in_facet, HasCorner, IsSkeletonPoint}
 use Rattle.nef_solid.specs.Belongs.{SpotMark}
 use Rattle.nef_solid.specs.Rays.{HasVolumeSide}
 use Rattle.nef_complex.specs.Complexes.{corner_of}
@@ -55,3 +56,18 @@ pub record IsEndStar (m : SphereMap) (k : ℕ) (t : Star) : Type 0 where
   pub star : IsStar t
   pub axis : (u : Svertex) → At (map_of m).svertices k u → vector_of t.axis ≡ u.way
   pub shows : StarShows (star_of t) (map_of m)
+
+-- the number of flat directions there
+abbrev pub place_dimension : Place → ℕ
+place_dimension (place.Vertex k) = 0
+place_dimension (place.OnEdge k) = 1
+place_dimension (place.InFacet k) = 2
+place_dimension (place.InVolume i j) = 3
+
+-- the first skeleton point ahead of p along d lies there
+pub record IsFirstHit (C : Complex) (p : PlainPlace) (d : Vector) (a : Place) : Type 0 where
+  pub place : PlainPlace
+  pub ahead : IsAhead p d place
+  pub skeleton : IsSkeletonPoint C place
+  pub at : IsPlaceAt C place a
+  pub first : (q : PlainPlace) → IsBetween p q place → IsSkeletonPoint C q → ⊥

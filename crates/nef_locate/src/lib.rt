@@ -4,17 +4,25 @@
 //! Selective Nef Complexes", ESA 2003.
 #![tactic(auto)]
 
+mod above;
 mod edge;
 mod facet;
+mod hit;
 mod label;
+mod local;
 mod maps;
 mod place;
 mod plane;
+mod point;
+mod ray;
 #[cfg(test)]
 mod tests;
 
 pub use facet::in_facet;
 pub use label::place_label;
+pub use local::local_map;
 pub use maps::place_map;
 pub use place::Place;
+pub use point::locate;
+pub use ray::first_hit;
 pub use std::alloc::AllocError as OutOfMemory;

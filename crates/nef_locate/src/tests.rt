@@ -1,16 +1,20 @@
-//! The labels and maps of the places of a complex made by hand, and facets of the frame.
+//! The labels and maps of the places of a complex made by hand, facets of the frame, and places in the empty set.
 
 ghost use Rattle.std.specs.Prelude.{◌≤◌, nat_abs, IfOk};
+ghost use Rattle.nef_space.specs.Place.{InClosedFrame};
 ghost use Rattle.nef_space.specs.Sets.{Set};
+ghost use Rattle.nef_geo.specs.Shapes.{place_of};
 ghost use Rattle.nef_complex.specs.Complexes.{complex_of, ShowsSet};
 ghost use Rattle.nef_locate.specs.declared.place.Place.TheVariants as place;
 ghost use Rattle.nef_locate.specs.Places.{IsPlaceIn};
 
 use super::*;
+use crate::plane::plane_of;
 use nef_complex::{Complex, Corner, Vertex};
 use nef_frame::frame;
-use nef_geo::{Label, List, Plane, Point, Sign, hit_at, hit_side};
+use nef_geo::{Label, List, Plane, Point, Sign, hit_at, hit_side, up};
 use nef_smap::SphereMap;
+use nef_spair::{Kind, kind};
 use std::alloc::Global;
 use std::test::Fail;
 
@@ -73,5 +77,45 @@ fn facets_of_the_frame(rt: HostRuntime) -> Result<(), Fail> {
     assert!(rt; facet_at(&c, &side, -2048)?.is_some());
     let middle = Plane::read(1, 0, 0, 0)?.plane();
     assert!(rt; facet_at(&c, &middle, 0)? == None);
+    Ok(())
+}
+
+// The point (x, 0, 0) of the closed frame.
+fn along_x(x: i64) -> Point
+    requires small { nat_abs x ≤ 2048 }
+    ensures framed { InClosedFrame (place_of result) }
+{
+    Point::of(x, 0, 0, 1)
+}
+
+// Whether the place is in a facet of a plane at right angles to the x axis, whose corner has this x.
+fn is_wall(c: &Complex, at: &Place, x: i64) -> bool
+    requires place { IsPlaceIn (complex_of c.now) at.now }
+{
+    match *at {
+        Place::InFacet(corner) => {
+            let v = c.vertices.at(corner.vertex);
+            let normal = plane_of(&v.map, corner.item).normal;
+            (normal.x(), normal.y(), normal.z()) == (1, 0, 0) && v.point.x() == x
+        }
+        _ => false,
+    }
+}
+
+#[test]
+fn places_in_the_empty_set(rt: HostRuntime) -> Result<(), Fail> {
+    let c = empty(rt.alloc())?;
+    let (middle, wall) = (along_x(0), along_x(2048));
+    let (inside, side) = (locate(&c, &middle), locate(&c, &wall));
+    assert_eq!(rt; place_label(&c, &inside), Label::Not);
+    assert_eq!(rt; place_label(&c, &side), Label::Out);
+    assert!(rt; is_wall(&c, &side, 2048));
+    match first_hit(&c, &middle, &up().back()) {
+        Some(floor) => assert!(rt; is_wall(&c, &floor, -2048)),
+        None => panic!(rt; "nothing below the middle"),
+    }
+    assert!(rt; first_hit(&c, &wall, &up()) == None);
+    let map = local_map(rt.alloc(), &c, &middle)?;
+    assert!(rt; kind(&map) == Kind::InVolume);
     Ok(())
 }

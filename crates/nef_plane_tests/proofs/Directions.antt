@@ -7,7 +7,7 @@ use Rattle.nef_geo.specs.Shapes.{place_of, vector_of}
 use Rattle.nef_geo.specs.declared.dir.Dir.{Dir}
 use Rattle.nef_geo.proofs.Unique.{same_directions_equal}
 use Rattle.nef_sphere.specs.Maps.{At, Svertex}
-use Rattle.nef_smap.specs.Maps.{map_of, svertex_of}
+use Rattle.nef_smap.specs.Maps.{svertex_of}
 use Rattle.nef_smap.proofs.Lists.{at-map, at-within}
 use Rattle.nef_solid.specs.Complexes.{Vertex as PlainVertex}
 use Rattle.nef_solid.specs.Skeleton.{IsEdgePoint}

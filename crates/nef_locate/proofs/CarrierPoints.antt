@@ -1,0 +1,137 @@
+-- Skeleton points lie on carriers, which no upright direction lies in; points of the closed frame where all directions are flat lie in the frame.
+use Rattle.std.proofs.Common.{◌≡◌, ℕ, zero, suc, ◌+◌, ◌*◌, ◌<◌, ◌≤◌, ℤ, pos, negsuc, neg_ℤ, ◌+ℤ◌, ◌*ℤ◌, ◌-ℤ◌, ◌<ℤ◌, nat_abs, arith, refl, ap, sym, ◌∙◌, ◌⊎◌, inl, inr, ⊎_elim, [], ◌∷◌, subst}
+use Rattle.std.proofs.lemmas.Int.{ints}
+use Rattle.std.proofs.Math.Nat.{mul-pos}
+use Rattle.nef_exact.specs.Signs.{nought, Lies}
+use Rattle.nef_exact.proofs.Order.{nought-is, mul_pos, mul_nonneg}
+use Rattle.nef_exact.proofs.Ring.{ring, at, num, neg, ◌⊕◌, ◌⊖◌, ◌⊗◌}
+use Rattle.nef_space.specs.Limits.{half_side}
+use Rattle.nef_space.specs.Local.{HasLabel, FlatDim}
+use Rattle.nef_space.specs.declared.label.Label.TheVariants.{Out}
+use Rattle.nef_space.specs.Place.{Place as PlainPlace, Form, form_at, normal_of, slope, SamePlace, InFrame, InClosedFrame, step, Ratio, IsAhead}
+use Rattle.nef_space.specs.Sets.{Set}
+use Rattle.nef_space.specs.Vectors.{Vector, vector, dot, opposite, up, IsDirection}
+use Rattle.nef_geo.specs.Hits.{IsUpright, IsCrossing}
+use Rattle.nef_geo.specs.Shapes.{form_of}
+use Rattle.nef_geo.specs.declared.plane.Plane.{Plane}
+use Rattle.nef_near.specs.Cells.{carriers, sign_at}
+use Rattle.nef_near.proofs.Alike.{flat-germ}
+use Rattle.nef_near.proofs.Decided.{InFrame-decided}
+use Rattle.nef_near.proofs.Even.{span-3}
+use Rattle.nef_near.proofs.Meets.{vertex-meets}
+use Rattle.nef_near.proofs.Supports.{edge-support, facet-support}
+use Rattle.nef_sphere.specs.Maps.{At}
+use Rattle.nef_smap.proofs.Lists.{at-map}
+use Rattle.nef_smap.proofs.Upward.{normal-ahead}
+use Rattle.nef_solid.specs.Shows.{SamePlane}
+use Rattle.nef_solid.specs.Skeleton.{Spot, at_vertex, on_edge, in_facet, IsSpot, IsSkeletonPoint}
+use Rattle.nef_solid.proofs.FacetNames.{facet-of}
+use Rattle.nef_solid.proofs.Planes.{plane-turned, plane-point, plane-slope}
+use Rattle.nef_solid.proofs.FacetWays.{dim-same}
+use Rattle.nef_solid.proofs.Edges.{edge-points}
+use Rattle.nef_complex.specs.declared.complex.Complex.{Complex}
+use Rattle.nef_complex.specs.Complexes.{complex_of, ShowsSet}
+use Rattle.nef_locate.specs.Rays.{IsSkeletonIn}
+use Rattle.nef_locate.proofs.Cones.{facet-at}
+
+-- ---- upright directions
+pub plane-upward : (h : Plane) → pos 0 <ℤ slope (form_of h) up
+plane-upward h = normal-ahead (normal_of (form_of h)) h.normal (record { of_x = h.a_small; of_y = h.b_small; of_z = h.c_small })
+
+pub plane-upright : (h : Plane) (d : Vector) → IsUpright d → slope (form_of h) d ≡ pos 0 → ⊥
+plane-upright h d (inl e) z = let u = plane-upward h in let f = subst (λ (v : Vector). slope (form_of h) v ≡ pos 0) e z in omega (arith, ints)
+plane-upright h d (inr e) z =
+    let u = plane-upward h in
+    let f = subst (λ (v : Vector). slope (form_of h) v ≡ pos 0) e z in
+    let n = normal_of (form_of h) in
+    let r : dot n (opposite up) ≡ neg_ℤ (dot n up) = ring (n.x ∷ n.y ∷ n.z ∷ up.x ∷ up.y ∷ up.z ∷ []) (at 0 ⊗ neg (at 3) ⊕ at 1 ⊗ neg (at 4) ⊕ at 2 ⊗ neg (at 5)) (neg (at 0 ⊗ at 3 ⊕ at 1 ⊗ at 4 ⊕ at 2 ⊗ at 5)) tt in
+    omega (arith, ints)
+
+pub upright-some : (d : Vector) → IsUpright d → IsDirection d
+upright-some d (inl e) z = let f = subst (λ (v : Vector). v.z ≡ pos 0) e z.2 in omega (arith, ints)
+upright-some d (inr e) z = let f = subst (λ (v : Vector). v.z ≡ pos 0) e z.2 in omega (arith, ints)
+
+-- ---- the frame
+-- a short step from a point of the closed frame toward the middle leads into the frame
+inward : (p : PlainPlace) → InClosedFrame p → (n : ℕ) → InFrame (step p (record { a = pos 1; b = n + p.w + 1; proper = omega arith }) (vector (neg_ℤ p.x) (neg_ℤ p.y) (neg_ℤ p.z)))
+inward p i n = record { along_x = one p.x i.along_x; along_y = one p.y i.along_y; along_z = one p.z i.along_z }
+  where
+    sized : (z : ℤ) (b : ℕ) → z <ℤ pos b → neg_ℤ (pos b) <ℤ z → nat_abs z < b
+    sized z b l m = omega (arith, ints)
+
+    one : (x : ℤ) → nat_abs x ≤ half_side * p.w → nat_abs (x *ℤ pos (n + p.w + 1) +ℤ pos 1 *ℤ pos p.w *ℤ neg_ℤ x) < half_side * (p.w * (n + p.w + 1))
+    one x l =
+        let xs = x ∷ pos n ∷ pos p.w ∷ [] in
+        let k = at 1 ⊕ num (pos 1) in
+        let half = num (pos half_side) in
+        let m = p.proper in
+        let a = mul_nonneg (pos (half_side * p.w) -ℤ x) (pos (n + 1)) (omega (arith, ints)) (omega (arith, ints)) in
+        let b = mul_nonneg (pos (half_side * p.w) +ℤ x) (pos (n + 1)) (omega (arith, ints)) (omega (arith, ints)) in
+        let q = mul_pos (pos p.w) (pos p.w) (omega (arith, ints)) (omega (arith, ints)) in
+        let value : x *ℤ pos (n + p.w + 1) +ℤ pos 1 *ℤ pos p.w *ℤ neg_ℤ x ≡ x *ℤ pos (n + 1) = ring xs (at 0 ⊗ (at 1 ⊕ at 2 ⊕ num (pos 1)) ⊕ num (pos 1) ⊗ at 2 ⊗ neg (at 0)) (at 0 ⊗ k) tt in
+        let above : (pos (half_side * p.w) -ℤ x) *ℤ pos (n + 1) ≡ pos half_side *ℤ (pos p.w *ℤ pos (n + 1)) -ℤ x *ℤ pos (n + 1) = ring xs ((half ⊗ at 2 ⊖ at 0) ⊗ k) (half ⊗ (at 2 ⊗ k) ⊖ at 0 ⊗ k) tt in
+        let below : (pos (half_side * p.w) +ℤ x) *ℤ pos (n + 1) ≡ pos half_side *ℤ (pos p.w *ℤ pos (n + 1)) +ℤ x *ℤ pos (n + 1) = ring xs ((half ⊗ at 2 ⊕ at 0) ⊗ k) (half ⊗ (at 2 ⊗ k) ⊕ at 0 ⊗ k) tt in
+        let whole : pos (half_side * (p.w * (n + p.w + 1))) ≡ pos half_side *ℤ (pos p.w *ℤ pos (n + 1)) +ℤ pos half_side *ℤ (pos p.w *ℤ pos p.w) = ring xs (half ⊗ (at 2 ⊗ (at 1 ⊕ at 2 ⊕ num (pos 1)))) (half ⊗ (at 2 ⊗ k) ⊕ half ⊗ (at 2 ⊗ at 2)) tt in
+        sized (x *ℤ pos (n + p.w + 1) +ℤ pos 1 *ℤ pos p.w *ℤ neg_ℤ x) (half_side * (p.w * (n + p.w + 1))) (omega (arith, ints)) (omega (arith, ints))
+
+pub closed-inside : (s : Set) (p : PlainPlace) → FlatDim s p 3 → InClosedFrame p → InFrame p
+closed-inside s p f i = ⊎_elim (λ j. j) (λ o. absurd (by o)) (InFrame-decided p)
+  where
+    d : Vector
+    d = vector (neg_ℤ p.x) (neg_ℤ p.y) (neg_ℤ p.z)
+
+    by : (InFrame p → ⊥) → ⊥
+    by o =
+        let h = f.0 in
+        let g = flat-germ s p d Out (span-3 s p h.0 h.1 h.2 d h.3 h.4 h.5 h.6) o in
+        g.2 (record { a = pos 1; b = g.0 + p.w + 1; proper = omega arith }) (omega (arith, ints), omega (arith, ints)) (inward p i g.0)
+
+-- ---- carriers
+module _ (s : Set) (c : Complex) (S : ShowsSet s c) where
+  -- the program's carrier of a plane of the set
+  record CarrierAt (f : Form) (y : PlainPlace) : Type 0 where
+    pub number : ℕ
+    pub plane : Plane
+    pub listed : At c.carriers number plane
+    pub same : SamePlane (form_of plane) f
+    pub on : form_at (form_of plane) y ≡ pos 0
+
+  carrier-at : (f : Form) (y : PlainPlace) → Lies (carriers s) f → sign_at f y ≡ nought → CarrierAt f y
+  carrier-at f y l o =
+      let r = S.shows.carriers.all f l in
+      let g = at-map form_of c.carriers r.0 r.1 r.2 in
+      let same : SamePlane (form_of g.0) f = subst (λ (k : Form). SamePlane k f) (sym g.2) r.3 in
+      record { number = r.0; plane = g.0; listed = g.1; same = same; on = plane-point f (form_of g.0) y (plane-turned (form_of g.0) f same) (nought-is (form_at f y) o) }
+
+  -- a carrier on which the skeleton point lies, on an edge or in a facet of the plane
+  pub record SkeletonCarrier (y : PlainPlace) : Type 0 where
+    pub number : ℕ
+    pub plane : Plane
+    pub listed : At c.carriers number plane
+    pub on : form_at (form_of plane) y ≡ pos 0
+    pub found : IsSkeletonIn s (complex_of c) (form_of plane) y
+
+  pub skeleton-carrier : (y : PlainPlace) → IsSkeletonPoint (complex_of c) y → SkeletonCarrier y
+  skeleton-carrier y (at_vertex k, (v, a, e)) =
+      let m = vertex-meets s y (dim-same s v.point y 0 e (S.shows.vertices k v a)) in
+      let g = carrier-at m.first y m.first_in m.first_at in
+      record { number = g.number; plane = g.plane; listed = g.listed; on = g.on; found = inl (k, inl (v, a, e)) }
+  skeleton-carrier y (on_edge k, (e, v, w, a, H, b)) =
+      let E = edge-support s y (edge-points s (complex_of c) k e v w y S.shows a H b).0 in
+      let g = carrier-at E.first y E.first_listed E.first_passes in
+      record { number = g.number; plane = g.plane; listed = g.listed; on = g.on; found = inl (k, inr (e, v, w, a, H, b)) }
+  skeleton-carrier y (in_facet k, (v, x, a, F)) =
+      let dim = (facet-at s (complex_of c) S.shows k v x y a F).0 in
+      let E = facet-support s y dim in
+      let g = carrier-at E.plane y E.listed E.passes in
+      record {
+        number = g.number;
+        plane = g.plane;
+        listed = g.listed;
+        on = g.on;
+        found = inr (dim, λ d. (λ f. plane-slope E.plane (form_of g.plane) d (plane-turned (form_of g.plane) E.plane g.same) ((E.flat_in d).0 f), λ z. (E.flat_in d).1 (plane-slope (form_of g.plane) E.plane d g.same z)));
+      }
+
+  -- where a ray along an upright direction meets a skeleton point, it crosses the carrier
+  pub crossed : (p y : PlainPlace) (d : Vector) → IsUpright d → IsAhead p d y → (k : SkeletonCarrier y) → IsCrossing p d (form_of k.plane) y
+  crossed p y d u w k = record { on = k.on; ahead = w; passes = plane-upright k.plane d u }

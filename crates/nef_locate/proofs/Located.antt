@@ -1,0 +1,130 @@
+-- The side above what the ray down first meets is that of the point; each place has its number of flat directions.
+use Rattle.std.proofs.Common.{◌≡◌, ℕ, pos, arith, refl, sym, ap, ⊎_elim, Some, subst, slice_get}
+use Rattle.std.proofs.lemmas.Int.{ints}
+use Rattle.nef_space.specs.Local.{FlatDim}
+use Rattle.nef_space.specs.Place.{Place as PlainPlace, InClosedFrame, IsAhead}
+use Rattle.nef_space.specs.Sets.{Set}
+use Rattle.nef_space.specs.Vectors.{Vector, up, opposite, plane_axis}
+use Rattle.nef_space.specs.declared.label.Label.{Label}
+use Rattle.nef_sphere.specs.Maps.{At, Item, arc_item, items, item_normal, item_above, Side, above_item, way_of}
+use Rattle.nef_sphere.proofs.Arcs.{at-arc}
+use Rattle.nef_smap.specs.Maps.{map_of}
+use Rattle.nef_smap.specs.SideNumbers.{number_of}
+use Rattle.nef_smap.specs.Sides.{IsSide, SideSees}
+use Rattle.nef_smap.proofs.SideLists.{side-has}
+use Rattle.nef_smap.proofs.SideNumbers.{side-number}
+use Rattle.nef_solid.specs.Complexes.{Complex as PlainComplex}
+use Rattle.nef_solid.specs.Skeleton.{at_vertex, on_edge, in_facet, IsVertexPoint, IsEdgePoint, IsOnEdges, IsSkeletonPoint, PlaneMeet, meets_vertex, meets_edge, IsCornerAt, HasCorner, item_plane}
+use Rattle.nef_solid.specs.Rays.{SeesNear, RayDown}
+use Rattle.nef_solid.proofs.Edges.{edge-points}
+use Rattle.nef_solid.proofs.FacetNames.{facet-of}
+use Rattle.nef_solid.proofs.FacetWays.{dim-same}
+use Rattle.nef_solid.proofs.Skeletons.{way-ends}
+use Rattle.nef_complex.specs.declared.complex.Complex.{Complex}
+use Rattle.nef_complex.specs.declared.complex.Corner.{Corner}
+use Rattle.nef_complex.specs.declared.complex.Edge.{Edge}
+use Rattle.nef_complex.specs.declared.complex.Vertex.{Vertex}
+use Rattle.nef_complex.specs.Complexes.{vertex_of, edge_of, complex_of, corner_of, AreSorted, ShowsSet}
+use Rattle.nef_locate.specs.declared.place.Place.{Place}
+use Rattle.nef_locate.specs.declared.place.Place.TheVariants as place
+use Rattle.nef_locate.specs.Places.{IsPlaceIn, IsPlaceAt, IsFirstHit, place_dimension}
+use Rattle.nef_locate.specs.Rays.{IsSkeletonAt, IsOfSkeleton, IsSideAbove}
+use Rattle.nef_locate.proofs.CarrierPoints.{closed-inside}
+use Rattle.nef_locate.proofs.Cones.{facet-at}
+use Rattle.nef_locate.proofs.Marks.{image-read}
+use Rattle.nef_locate.proofs.VolumeLabels.{volume-flat}
+
+-- ---- the sides above
+module _ (c : Complex) where
+  abbrev C : PlainComplex
+  C = complex_of c
+
+  pub above-vertex : (k j : ℕ) (u : Vertex) → slice_get c.vertices k ≡ Some u → SideSees (map_of u.map) j up → IsSideAbove (complex_of c) (place.Vertex k) (place.InVolume k j)
+  above-vertex k j u r (o, l, i, sees) =
+      let a = image-read vertex_of c.vertices k u r in
+      (k, j, o, l, refl, (vertex_of u, a, i), λ y p. (at_vertex k, p, (vertex_of u, a, refl, sees)))
+
+  pub above-edge : (k j : ℕ) (e : Edge) (u : Vertex) → slice_get c.edges k ≡ Some e → slice_get c.vertices e.low ≡ Some u
+      → (o : Side) × (l : Label) × IsSide (map_of u.map) j o l × SeesNear (map_of u.map) o (way_of (map_of u.map).svertices e.low_svertex) up
+      → IsSideAbove (complex_of c) (place.OnEdge k) (place.InVolume e.low j)
+  above-edge k j e u q r (o, l, i, near) =
+      let b = image-read edge_of c.edges k e q in
+      let a = image-read vertex_of c.vertices e.low u r in
+      (e.low, j, o, l, refl, (vertex_of u, a, i), λ y p. (on_edge k, p, (edge_of e, vertex_of u, b, a, refl, near)))
+
+  pub above-facet : (k : Corner) (j : ℕ) (u : Vertex) (x : Item) → slice_get c.vertices k.vertex ≡ Some u → At (items (map_of u.map)) k.item x → j ≡ number_of (map_of u.map) (above_item k.item)
+      → IsSideAbove (complex_of c) (place.InFacet k) (place.InVolume k.vertex j)
+  above-facet k j u x r i n =
+      let a = image-read vertex_of c.vertices k.vertex u r in
+      let s = subst (λ (m : ℕ). IsSide (map_of u.map) m (above_item k.item) (item_above x)) (sym n) (side-number (map_of u.map) (above_item k.item) (item_above x) (x, i, refl)) in
+      (k.vertex, j, above_item k.item, item_above x, refl, (vertex_of u, a, s), λ y H. (in_facet H.beside, (H.vertex, H.item, H.is_beside, H.facet_point), (corner_of k, H, refl, refl)))
+
+-- ---- volumes
+-- what is met first is of the skeleton
+pub met-of_skeleton : (D : PlainComplex) (p : PlainPlace) (d : Vector) (a : Place) → IsFirstHit D p d a → IsOfSkeleton a
+met-of_skeleton D p d (place.Vertex k) F = tt
+met-of_skeleton D p d (place.OnEdge k) F = tt
+met-of_skeleton D p d (place.InFacet k) F = tt
+met-of_skeleton D p d (place.InVolume i j) F = let h = F.at in h.3.0 F.skeleton
+
+module _ (D : PlainComplex) (p : PlainPlace) (off : IsSkeletonPoint D p → ⊥) (floor : Place) (F : IsFirstHit D p (opposite up) floor) where
+  pub volume-in : (a : Place) → IsSideAbove D floor a → IsPlaceIn D a
+  volume-in a (i, j, o, l, e, s, f) = subst (IsPlaceIn D) (sym e) (o, l, s)
+
+  pub volume-at : (a : Place) → IsSideAbove D floor a → IsPlaceAt D p a
+  volume-at a (i, j, o, l, e, (v, b, s), f) =
+      let t = f F.place F.at in
+      let down : RayDown D p (record { vertex = i; side = o }) = record {
+        place = F.place;
+        spot = t.0;
+        ahead = F.ahead;
+        is_spot = t.1;
+        first = F.first;
+        above = t.2;
+        label = l;
+        has = (v, b, side-has v.map j o l s);
+      } in
+      subst (IsPlaceAt D p) (sym e) (o, l, (v, b, s), (off, down))
+
+  pub volume-dimension : (a : Place) → IsSideAbove D floor a → place_dimension a ≡ 3
+  volume-dimension a (i, j, o, l, e, s, f) = ap place_dimension e
+
+pub up-some : (opposite up).z ≡ pos 0 → ⊥
+up-some z = omega (arith, ints)
+
+module _ (s : Set) (c : Complex) (S : ShowsSet s c) (p : PlainPlace) where
+  -- from a point of the frame off the skeleton the ray down meets something
+  pub some-below : InClosedFrame p → (IsSkeletonPoint (complex_of c) p → ⊥) → ((q : PlainPlace) → IsAhead p (opposite up) q → IsSkeletonPoint (complex_of c) q → ⊥) → ⊥
+  some-below i off none =
+      let w = way-ends s (complex_of c) S.shows (facet-at s (complex_of c) S.shows) (facet-of s (complex_of c) S.shows) p (opposite up) (λ z. up-some z.2) (closed-inside s p (volume-flat s c S p off) i) off in
+      none w.place w.ahead (w.spot, w.is_spot)
+
+  -- the number of flat directions at each place
+  pub dimension : (a : Place) → IsPlaceAt (complex_of c) p a → FlatDim s p (place_dimension a)
+  dimension (place.Vertex k) (v, a, e) = dim-same s v.point p 0 e (S.shows.vertices k v a)
+  dimension (place.OnEdge k) (e, v, w, a, H, b) = (edge-points s (complex_of c) k e v w p S.shows a H b).0
+  dimension (place.InFacet k) H = (facet-at s (complex_of c) S.shows H.beside H.vertex H.item p H.is_beside H.facet_point).0
+  dimension (place.InVolume i j) h = volume-flat s c S p h.3.0
+
+-- ---- the skeleton
+-- the corner of a point is one of the complex, and the point one of the skeleton
+pub corner-at : (D : PlainComplex) (y : PlainPlace) (k : Corner) → HasCorner D y (corner_of k) → IsSkeletonAt D y (place.InFacet k)
+corner-at D y k H = record { has = in-complex H.named.0 H.named.2; at = H; skeleton = (in_facet H.beside, (H.vertex, H.item, H.is_beside, H.facet_point)) }
+  where
+    in-complex : (m : PlaneMeet) → IsCornerAt D (item_plane H.vertex H.item) (opposite (plane_axis (item_normal H.item))) m (corner_of k) → IsPlaceIn D (place.InFacet k)
+    in-complex (meets_vertex i) (v, x, e, a, n, o) = (v, x, a)
+    in-complex (meets_edge i) (e, v, b, l, f, a, g, n, o) = (v, arc_item b, record { vertex = subst (λ (j : ℕ). At D.vertices j v) (sym f) a; item = at-arc v.map.arcs v.map.loop k.item b g })
+
+pub vertex-at : (D : PlainComplex) (y : PlainPlace) (k : ℕ) → IsVertexPoint D k y → IsSkeletonAt D y (place.Vertex k)
+vertex-at D y k (v, a, e) = record { has = (v, a); at = (v, a, e); skeleton = (at_vertex k, (v, a, e)) }
+
+pub edge-at : (D : PlainComplex) (y : PlainPlace) (k : ℕ) → IsEdgePoint D k y → IsSkeletonAt D y (place.OnEdge k)
+edge-at D y k (e, v, w, a, H, b) = record { has = (e, a); at = (e, v, w, a, H, b); skeleton = (on_edge k, (e, v, w, a, H, b)) }
+
+-- where no vertex and no edge is, only a facet is left
+pub off-edges : (D : PlainComplex) (y : PlainPlace) → ((k : ℕ) → IsVertexPoint D k y → ⊥) → ((k : ℕ) → IsEdgePoint D k y → ⊥) → IsOnEdges D y → ⊥
+off-edges D y n m (k, o) = ⊎_elim (n k) (m k) o
+
+-- the vertices stand in order
+pub vertices-sorted : (s : Set) (c : Complex) → ShowsSet s c → AreSorted c.vertices
+vertices-sorted s c S i k u v l a b = S.shows.ordered i k (vertex_of u) (vertex_of v) l (image-read vertex_of c.vertices i u a) (image-read vertex_of c.vertices k v b)

@@ -1,0 +1,75 @@
+use Rattle.std.proofs.Common.{refl, sym, subst}
+use Rattle.nef_sphere.specs.Maps.{items}
+use Rattle.nef_smap.specs.Maps.{map_of}
+use Rattle.nef_smap.proofs.Lists.{at-within}
+use Rattle.nef_complex.specs.Complexes.{vertex_of, edge_of, complex_of, corner_of}
+use Rattle.nef_locate.specs.declared.place.Place.{Place}
+use Rattle.nef_locate.specs.declared.place.Place.TheVariants as place
+use Rattle.nef_locate.specs.Places.{IsPlaceIn}
+use Rattle.nef_locate.specs.Rays.{IsOfSkeleton, IsSideAbove}
+use Rattle.nef_locate.proofs.EdgeStars.{low-within, low-svertex}
+use Rattle.nef_locate.proofs.Located.{above-vertex, above-edge, above-facet}
+use Rattle.nef_locate.proofs.Marks.{image-within, corner-read}
+use Rattle.nef_locate.proofs.above.side_above.Goals as goal
+
+pub at-requires : goal.at-requires
+at-requires c =
+    let p = subst (IsPlaceIn (complex_of c.args.c.now)) c.in-Vertex.is c.requires.place in
+    record { within = image-within vertex_of c.args.c.now.vertices c.in-Vertex.number p.0 p.1 }
+
+pub side_upward-requires : goal.side_upward-requires
+side_upward-requires c = let S = c.requires.shows.1 in let M = S.maps c.in-Vertex.number c.at.result.now c.at.ensures.element in record { map = M.sphere_map }
+
+pub returns-in-Vertex : goal.returns-in-Vertex
+returns-in-Vertex c = record {
+  above = subst (λ (p : Place). IsSideAbove (complex_of c.args.c.now) p (place.InVolume c.in-Vertex.number c.side_upward.result)) (sym c.in-Vertex.is)
+      (above-vertex c.args.c.now c.in-Vertex.number c.side_upward.result c.at.result.now c.at.ensures.element c.side_upward.ensures.side);
+}
+
+pub at-edge-requires : goal.at-edge-requires
+at-edge-requires c =
+    let p = subst (IsPlaceIn (complex_of c.args.c.now)) c.in-OnEdge.is c.requires.place in
+    record { within = image-within edge_of c.args.c.now.edges c.in-OnEdge.number p.0 p.1 }
+
+pub at-requires-in-OnEdge : goal.at-requires-in-OnEdge
+at-requires-in-OnEdge c = let S = c.requires.shows in record { within = low-within S.0 c.args.c.now S.1 c.in-OnEdge.number c.at-edge.result.now c.at-edge.ensures.element }
+
+pub side_near-requires-clause-map : goal.side_near-requires-clause-map
+side_near-requires-clause-map c = let S = c.requires.shows.1 in let M = S.maps c.at-edge.result.now.low c.at-in-OnEdge.result.now c.at-in-OnEdge.ensures.element in M.sphere_map
+
+pub side_near-requires-clause-within : goal.side_near-requires-clause-within
+side_near-requires-clause-within c = let S = c.requires.shows in low-svertex S.0 c.args.c.now S.1 c.in-OnEdge.number c.at-edge.result.now c.at-edge.ensures.element c.at-in-OnEdge.result.now c.at-in-OnEdge.ensures.element
+
+pub returns-in-OnEdge : goal.returns-in-OnEdge
+returns-in-OnEdge c = record {
+  above = subst (λ (p : Place). IsSideAbove (complex_of c.args.c.now) p (place.InVolume c.at-edge.result.now.low c.side_near.result)) (sym c.in-OnEdge.is)
+      (above-edge c.args.c.now c.in-OnEdge.number c.side_near.result c.at-edge.result.now c.at-in-OnEdge.result.now c.at-edge.ensures.element c.at-in-OnEdge.ensures.element c.side_near.ensures.side);
+}
+
+pub at-requires-in-InFacet : goal.at-requires-in-InFacet
+at-requires-in-InFacet c =
+    let p = subst (IsPlaceIn (complex_of c.args.c.now)) c.in-InFacet.is c.requires.place in
+    record { within = image-within vertex_of c.args.c.now.vertices c.in-InFacet.corner.vertex p.0 p.2.vertex }
+
+pub item_side-requires-clause-map : goal.item_side-requires-clause-map
+item_side-requires-clause-map c = let S = c.requires.shows.1 in let M = S.maps c.in-InFacet.corner.vertex c.at-in-InFacet.result.now c.at-in-InFacet.ensures.element in M.sphere_map
+
+pub item_side-requires-clause-within : goal.item_side-requires-clause-within
+item_side-requires-clause-within c =
+    let p = subst (IsPlaceIn (complex_of c.args.c.now)) c.in-InFacet.is c.requires.place in
+    let u = c.at-in-InFacet.result.now in
+    let i = corner-read c.args.c.now.vertices (complex_of c.args.c.now) (corner_of c.in-InFacet.corner) u p.1 refl c.at-in-InFacet.ensures.element p.0 p.2 in
+    at-within (items (map_of u.map)) c.in-InFacet.corner.item p.1 i.item
+
+pub returns-in-InFacet : goal.returns-in-InFacet
+returns-in-InFacet c =
+    let p = subst (IsPlaceIn (complex_of c.args.c.now)) c.in-InFacet.is c.requires.place in
+    let u = c.at-in-InFacet.result.now in
+    let i = corner-read c.args.c.now.vertices (complex_of c.args.c.now) (corner_of c.in-InFacet.corner) u p.1 refl c.at-in-InFacet.ensures.element p.0 p.2 in
+    record {
+      above = subst (λ (q : Place). IsSideAbove (complex_of c.args.c.now) q (place.InVolume c.in-InFacet.corner.vertex c.item_side.result)) (sym c.in-InFacet.is)
+          (above-facet c.args.c.now c.in-InFacet.corner c.item_side.result u p.1 c.at-in-InFacet.ensures.element i.item c.item_side.ensures.number);
+    }
+
+pub unreachable-requires : goal.unreachable-requires
+unreachable-requires c = subst IsOfSkeleton c.in-InVolume.is c.requires.skeleton

@@ -1,0 +1,23 @@
+-- The arcs at a svertex, and which of them is the last before the upward direction.
+use Rattle.std.specs.Prelude.{◌≡◌, ℕ, ◌<◌, pos, ◌<ℤ◌, Bool, cond, Option, Some, None}
+use Rattle.nef_space.specs.Vectors.{Vector, triple}
+use Rattle.nef_sphere.specs.Maps.{At, Arc, Map}
+
+-- the svertex where the arc begins, or where it ends
+abbrev pub end_of : Arc → Bool → ℕ
+end_of a begins = cond begins a.source a.target
+
+-- of the first n arcs that begin at svertex s, or end there, none lies counterclockwise of arc k, seen along w
+pub record IsLastArc (M : Map) (w : Vector) (s : ℕ) (begins : Bool) (n k : ℕ) : Type 0 where
+  pub arc : Arc
+  pub listed : At M.arcs k arc
+  pub end : end_of arc begins ≡ s
+  pub last : (j : ℕ) (b : Arc) → j < n → At M.arcs j b → end_of b begins ≡ s → pos 0 <ℤ triple w arc.normal b.normal → ⊥
+
+-- there is none such arc
+abbrev pub IsNoArc : Map → ℕ → Bool → ℕ → Type 0
+IsNoArc M s begins n = (j : ℕ) (b : Arc) → j < n → At M.arcs j b → end_of b begins ≡ s → ⊥
+
+abbrev pub IsLast : Map → Vector → ℕ → Bool → ℕ → Option ℕ → Type 0
+IsLast M w s begins n None = IsNoArc M s begins n
+IsLast M w s begins n (Some k) = IsLastArc M w s begins n k

@@ -1,0 +1,58 @@
+-- What a ray meets of the skeleton, carrier by carrier.
+use Rattle.std.specs.Prelude.{◌≡◌, ℕ, ◌⊎◌, Option, Some, None}
+use Rattle.nef_space.specs.Place.{Place as PlainPlace, Form, IsAhead, IsBetween}
+use Rattle.nef_space.specs.Sets.{Set}
+use Rattle.nef_space.specs.Vectors.{Vector}
+use Rattle.nef_space.specs.declared.label.Label.{Label}
+use Rattle.nef_geo.specs.Hits.{IsReached}
+use Rattle.nef_geo.specs.Shapes.{hit_place}
+use Rattle.nef_geo.specs.declared.hit.Hit.{Hit}
+use Rattle.nef_sphere.specs.Maps.{Side}
+use Rattle.nef_solid.specs.Complexes.{Complex}
+use Rattle.nef_solid.specs.Laws.{IsFlatIn}
+use Rattle.nef_solid.specs.Rays.{IsAbove}
+use Rattle.nef_solid.specs.Skeleton.{Spot, IsSpot, IsOnEdges, IsSkeletonPoint}
+use Rattle.nef_locate.specs.declared.place.Place.{Place}
+use Rattle.nef_locate.specs.declared.place.Place.TheVariants as place
+use Rattle.nef_locate.specs.declared.ray.Met.{Met}
+use Rattle.nef_locate.specs.Places.{IsPlaceIn, IsPlaceAt, IsSideOf}
+
+-- y is a skeleton point, and lies there
+pub record IsSkeletonAt (C : Complex) (y : PlainPlace) (a : Place) : Type 0 where
+  pub has : IsPlaceIn C a
+  pub at : IsPlaceAt C y a
+  pub skeleton : IsSkeletonPoint C y
+
+-- y is a vertex, lies on an edge, or in a facet of the plane
+abbrev pub IsSkeletonIn : Set → Complex → Form → PlainPlace → Type 0
+IsSkeletonIn s C h y = IsOnEdges C y ⊎ IsFlatIn s h y
+
+-- the hit stands at its step along the ray
+abbrev pub IsReachedMet : PlainPlace → Vector → Met → Type 0
+IsReachedMet p d m = IsReached p d m.at.num m.at.den m.at.den_sign (hit_place m.at)
+
+-- the ray meets the skeleton at the hit
+pub record IsMet (C : Complex) (p : PlainPlace) (d : Vector) (m : Met) : Type 0 where
+  pub reached : IsReachedMet p d m
+  pub ahead : IsAhead p d (hit_place m.at)
+  pub on : IsSkeletonAt C (hit_place m.at) m.place
+
+-- something is met, and y doesn't lie before it
+abbrev pub IsNotBefore : PlainPlace → PlainPlace → Option Met → Type 0
+IsNotBefore p y None = ⊥
+IsNotBefore p y (Some m) = IsBetween p y (hit_place m.at) → ⊥
+
+-- the hit lies before what is met, if something is
+abbrev pub IsSooner : Vector → Hit → Option Met → Type 0
+IsSooner d q None = Unit {0}
+IsSooner d q (Some m) = IsAhead (hit_place q) d (hit_place m.at)
+
+-- a vertex, an edge or a facet
+abbrev pub IsOfSkeleton : Place → Type 0
+IsOfSkeleton (place.InVolume i j) = ⊥
+IsOfSkeleton _ = Unit {0}
+
+-- the place is a side, which lies above each skeleton point at the floor
+abbrev pub IsSideAbove : Complex → Place → Place → Type 0
+IsSideAbove C floor a = (i : ℕ) × (j : ℕ) × (o : Side) × (l : Label) × (a ≡ place.InVolume i j) × IsSideOf C i j o l
+    × ((y : PlainPlace) → IsPlaceAt C y floor → (t : Spot) × IsSpot C t y × IsAbove C y t (record { vertex = i; side = o }))

@@ -1,0 +1,155 @@
+//! The side of a vertex above a point of the skeleton.
+
+ghost use Rattle.std.specs.Prelude.{◌≡◌, ◌+◌, ◌<◌, ◌≤◌, length, cond};
+ghost use Rattle.nef_space.specs.Sets.{Set};
+ghost use Rattle.nef_space.specs.Vectors.{up};
+ghost use Rattle.nef_space.specs.declared.label.Label.{Label};
+ghost use Rattle.nef_sphere.specs.Maps.{Side, items, way_of, above_item, below_item};
+ghost use Rattle.nef_smap.specs.Maps.{map_of, arc_of, IsSphereMap};
+ghost use Rattle.nef_smap.specs.Sides.{IsSide, SideSees};
+ghost use Rattle.nef_smap.specs.SideNumbers.{number_of, arounds_before};
+ghost use Rattle.nef_solid.specs.Rays.{SeesNear};
+ghost use Rattle.nef_complex.specs.Complexes.{complex_of, ShowsSet};
+ghost use Rattle.nef_locate.specs.Places.{IsPlaceIn};
+ghost use Rattle.nef_locate.specs.Ends.{end_of, IsLast};
+ghost use Rattle.nef_locate.specs.Rays.{IsOfSkeleton, IsSideAbove};
+
+use crate::place::Place;
+use nef_complex::Complex;
+use nef_geo::{Sign, triple, up};
+use nef_smap::{SArc, SPlace, SphereMap, at, sides};
+
+// How many of the first svertices have a label round them.
+fn arounds(map: &SphereMap, count: usize) -> usize
+    requires within { count ≤ length map.now.svertices }
+    ensures arounds { result ≡ arounds_before (map_of map.now).svertices count }
+{
+    let mut found = 0;
+    for number in 0..count {
+        if map.svertices.at(number).around.is_some() {
+            found += 1;
+        }
+    }
+    found
+}
+
+// The number of a side of the item with this number: of that to which its normal points, or of the other.
+fn item_side(map: &SphereMap, item: usize, above: bool) -> usize
+    requires map { IsSphereMap map.now }
+    requires within { item < length (items (map_of map.now)) }
+    ensures number { result ≡ number_of (map_of map.now) (cond above (above_item item) (below_item item)) }
+{
+    let count = sides(map);
+    let items = map.arcs.len() + usize::from(map.sloop.is_some());
+    count - 2 * (items - item) + usize::from(!above)
+}
+
+// The number of the side that sees the upward direction.
+fn side_upward(map: &SphereMap) -> usize
+    requires map { IsSphereMap map.now }
+    ensures side { SideSees (map_of map.now) result up }
+{
+    match at(map, &up()) {
+        SPlace::Face(side) => side,
+        SPlace::SVertex(_) => unreachable!(),
+        SPlace::Arc(_) => unreachable!(),
+        SPlace::Loop => unreachable!(),
+    }
+}
+
+// The number of the svertex where the arc begins, or where it ends.
+fn arc_end(arc: &SArc, begins: bool) -> usize
+    ensures end { result ≡ end_of (arc_of arc.now) begins }
+{
+    if begins { arc.source } else { arc.target }
+}
+
+// The last counterclockwise of the arcs at the svertex: of those before `number`, which is `last`, and of that with this
+// number.
+fn later_arc(
+    map: &SphereMap,
+    svertex: usize,
+    begins: bool,
+    last: Option<usize>,
+    number: usize,
+) -> Option<usize>
+    requires map { IsSphereMap map.now }
+    requires within { svertex < length map.now.svertices }
+    requires number { number < length map.now.arcs }
+    requires last { IsLast (map_of map.now) (way_of (map_of map.now).svertices svertex) svertex begins number last }
+    ensures last { IsLast (map_of map.now) (way_of (map_of map.now).svertices svertex) svertex begins (number + 1) result }
+{
+    let arc = map.arcs.at(number);
+    if arc_end(arc, begins) != svertex {
+        return last;
+    }
+    match last {
+        Some(before) => {
+            let axis = map.svertices.at(svertex).dir;
+            let turn = triple(&axis, &map.arcs.at(before).normal, &arc.normal);
+            if turn == Sign::Plus {
+                Some(number)
+            } else {
+                last
+            }
+        }
+        None => Some(number),
+    }
+}
+
+// Of the arcs that begin at the svertex, or of those that end there, the last counterclockwise. All of them lie on one
+// side of the upward direction, less than half a turn before it or past it.
+fn last_arc(map: &SphereMap, svertex: usize, begins: bool) -> Option<usize>
+    requires map { IsSphereMap map.now }
+    requires within { svertex < length map.now.svertices }
+    ensures last { IsLast (map_of map.now) (way_of (map_of map.now).svertices svertex) svertex begins (length map.now.arcs) result }
+{
+    let mut last = None;
+    for number in 0..map.arcs.len() {
+        last = later_arc(map, svertex, begins, last, number);
+    }
+    last
+}
+
+// The number of the side that sees what is close to the svertex toward the upward direction: the side of the arc at the
+// svertex that comes last before it, or the side round a svertex without arcs.
+fn side_near(map: &SphereMap, svertex: usize) -> usize
+    requires map { IsSphereMap map.now }
+    requires within { svertex < length map.now.svertices }
+    ensures side { (o : Side) × (l : Label) × IsSide (map_of map.now) result o l × SeesNear (map_of map.now) o (way_of (map_of map.now).svertices svertex) up }
+{
+    if let Some(arc) = last_arc(map, svertex, true) {
+        return item_side(map, arc, true);
+    }
+    match last_arc(map, svertex, false) {
+        Some(arc) => item_side(map, arc, false),
+        None => arounds(map, svertex),
+    }
+}
+
+// The side of a vertex above the points of the skeleton that lie at this place.
+pub(crate) fn side_above(c: &Complex, floor: &Place) -> Place
+    requires shows { (s : Set) × ShowsSet s c.now }
+    requires place { IsPlaceIn (complex_of c.now) floor.now }
+    requires skeleton { IsOfSkeleton floor.now }
+    ensures above { IsSideAbove (complex_of c.now) floor.now result }
+{
+    match *floor {
+        Place::Vertex(number) => Place::InVolume {
+            vertex: number,
+            side: side_upward(&c.vertices.at(number).map),
+        },
+        Place::OnEdge(number) => {
+            let edge = c.edges.at(number);
+            Place::InVolume {
+                vertex: edge.low,
+                side: side_near(&c.vertices.at(edge.low).map, edge.low_svertex),
+            }
+        }
+        Place::InFacet(corner) => Place::InVolume {
+            vertex: corner.vertex,
+            side: item_side(&c.vertices.at(corner.vertex).map, corner.item, true),
+        },
+        Place::InVolume { .. } => unreachable!(),
+    }
+}

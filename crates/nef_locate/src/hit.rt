@@ -1,0 +1,89 @@
+//! Where a hit lies on the skeleton.
+
+ghost use Rattle.std.specs.Prelude.{◌≡◌, ℕ, ◌*◌, ◌≤◌, pos, ◌<ℤ◌, nat_abs, ◌↔◌, IsTrue, IsNone, IfSome};
+ghost use Rattle.std.specs.Option.{MatchOption};
+ghost use Rattle.nef_space.specs.Limits.{half_side};
+ghost use Rattle.nef_space.specs.Place.{InClosedFrame, form_at};
+ghost use Rattle.nef_space.specs.Sets.{Set};
+ghost use Rattle.nef_geo.specs.Hits.{IsPlaceAtMost};
+ghost use Rattle.nef_geo.specs.Shapes.{form_of, hit_place};
+ghost use Rattle.nef_geo.specs.Widths.{upright_limit, upright_weight_limit};
+ghost use Rattle.nef_solid.specs.Skeleton.{IsVertexPoint, IsEdgePoint};
+ghost use Rattle.nef_complex.specs.Complexes.{complex_of, ShowsSet};
+ghost use Rattle.nef_locate.specs.Rays.{IsSkeletonAt, IsSkeletonIn};
+
+use crate::facet::in_facet;
+use crate::place::Place;
+use nef_complex::Complex;
+use nef_geo::{Hit, Plane};
+use nef_plane::{is_at_vertex, is_on_edge};
+
+// Half the length of the frame's sides.
+const HALF_SIDE: i128 = 2048;
+
+// Whether n/w is at most half the length of the frame's sides in size.
+fn is_within(n: i128, w: i128) -> bool
+    requires w_small { nat_abs w ≤ upright_weight_limit }
+    requires positive { pos 0 <ℤ w }
+    ensures within { IsTrue result ↔ (nat_abs n ≤ half_side * nat_abs w) }
+{
+    let end = HALF_SIDE * w;
+    -end <= n && n <= end
+}
+
+// Whether the hit lies in the closed frame.
+pub(crate) fn is_framed(q: &Hit) -> bool
+    requires numbers { IsPlaceAtMost upright_limit upright_weight_limit (hit_place q.now) }
+    ensures framed { IsTrue result ↔ InClosedFrame (hit_place q.now) }
+{
+    is_within(q.x(), q.w()) && is_within(q.y(), q.w()) && is_within(q.z(), q.w())
+}
+
+// The number of the vertex at the hit.
+fn vertex_hit(c: &Complex, q: &Hit) -> Option<usize>
+    requires shows { (s : Set) × ShowsSet s c.now }
+    requires numbers { IsPlaceAtMost upright_limit upright_weight_limit (hit_place q.now) }
+    ensures vertex { MatchOption result ((k : ℕ) → IsVertexPoint (complex_of c.now) k (hit_place q.now) → ⊥) (λ k. IsVertexPoint (complex_of c.now) k (hit_place q.now)) }
+{
+    for number in 0..c.vertices.len() {
+        if is_at_vertex(c, number, q) {
+            return Some(number);
+        }
+    }
+    None
+}
+
+// The number of the edge on which the hit lies.
+pub(crate) fn edge_hit(c: &Complex, q: &Hit) -> Option<usize>
+    requires shows { (s : Set) × ShowsSet s c.now }
+    requires numbers { IsPlaceAtMost upright_limit upright_weight_limit (hit_place q.now) }
+    ensures edge { MatchOption result ((k : ℕ) → IsEdgePoint (complex_of c.now) k (hit_place q.now) → ⊥) (λ k. IsEdgePoint (complex_of c.now) k (hit_place q.now)) }
+{
+    for number in 0..c.edges.len() {
+        if is_on_edge(c, number, q) {
+            return Some(number);
+        }
+    }
+    None
+}
+
+// Where the hit, a point of the plane in the closed frame, lies: at a vertex, on an edge, or in a facet of the plane.
+pub(crate) fn skeleton_at(c: &Complex, h: &Plane, q: &Hit) -> Option<Place>
+    requires shows { (s : Set) × ShowsSet s c.now }
+    requires framed { InClosedFrame (hit_place q.now) }
+    requires on { form_at (form_of h.now) (hit_place q.now) ≡ pos 0 }
+    requires numbers { IsPlaceAtMost upright_limit upright_weight_limit (hit_place q.now) }
+    ensures at { IfSome result (IsSkeletonAt (complex_of c.now) (hit_place q.now)) }
+    ensures none { IsNone result → (s : Set) → ShowsSet s c.now → IsSkeletonIn s (complex_of c.now) (form_of h.now) (hit_place q.now) → ⊥ }
+{
+    if let Some(number) = vertex_hit(c, q) {
+        return Some(Place::Vertex(number));
+    }
+    if let Some(number) = edge_hit(c, q) {
+        return Some(Place::OnEdge(number));
+    }
+    match in_facet(c, h, q) {
+        Some(corner) => Some(Place::InFacet(corner)),
+        None => None,
+    }
+}

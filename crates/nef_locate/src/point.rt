@@ -1,0 +1,108 @@
+//! Where a point lies in a complex.
+
+ghost use Rattle.std.specs.Prelude.{◌≡◌, ℕ, pos, IsNone, IfSome};
+ghost use Rattle.nef_space.specs.Local.{FlatDim};
+ghost use Rattle.nef_space.specs.Place.{InClosedFrame, form_at};
+ghost use Rattle.nef_space.specs.Sets.{Set};
+ghost use Rattle.nef_geo.specs.Hits.{IsPlaceAtMost};
+ghost use Rattle.nef_geo.specs.Shapes.{form_of, place_of, hit_place};
+ghost use Rattle.nef_geo.specs.Widths.{upright_limit, upright_weight_limit};
+ghost use Rattle.nef_geo.specs.declared.plane.Plane.{Plane};
+ghost use Rattle.nef_sphere.specs.Maps.{At};
+ghost use Rattle.nef_solid.specs.Laws.{IsFlatIn};
+ghost use Rattle.nef_solid.specs.Skeleton.{IsOnEdges, IsSkeletonPoint, HasCorner};
+ghost use Rattle.nef_complex.specs.Complexes.{complex_of, corner_of, ShowsSet};
+ghost use Rattle.nef_locate.specs.Places.{IsPlaceIn, IsPlaceAt, place_dimension};
+ghost use Rattle.nef_locate.specs.Rays.{IsSkeletonAt};
+
+use crate::above::side_above;
+use crate::facet::in_facet;
+use crate::hit::edge_hit;
+use crate::place::Place;
+use crate::ray::first_hit;
+use nef_complex::{Complex, Corner, vertex_at};
+use nef_geo::{Hit, Plane, Point, Sign, hit_at, hit_side, up};
+
+// The corner of a point in a facet of the plane.
+fn corner_in(c: &Complex, h: &Plane, q: &Hit) -> Option<Corner>
+    requires shows { (s : Set) × ShowsSet s c.now }
+    requires framed { InClosedFrame (hit_place q.now) }
+    requires off { IsOnEdges (complex_of c.now) (hit_place q.now) → ⊥ }
+    requires numbers { IsPlaceAtMost upright_limit upright_weight_limit (hit_place q.now) }
+    ensures corner { IfSome result (λ k. HasCorner (complex_of c.now) (hit_place q.now) (corner_of k)) }
+    ensures none { IsNone result → (s : Set) → ShowsSet s c.now → form_at (form_of h.now) (hit_place q.now) ≡ pos 0 → IsFlatIn s (form_of h.now) (hit_place q.now) → ⊥ }
+{
+    if hit_side(h, q) == Sign::Zero {
+        in_facet(c, h, q)
+    } else {
+        None
+    }
+}
+
+// The corner of a point in a facet.
+fn corner_at(c: &Complex, q: &Hit) -> Option<Corner>
+    requires shows { (s : Set) × ShowsSet s c.now }
+    requires framed { InClosedFrame (hit_place q.now) }
+    requires off { IsOnEdges (complex_of c.now) (hit_place q.now) → ⊥ }
+    requires numbers { IsPlaceAtMost upright_limit upright_weight_limit (hit_place q.now) }
+    ensures corner { IfSome result (λ k. HasCorner (complex_of c.now) (hit_place q.now) (corner_of k)) }
+    ensures none { IsNone result → IsSkeletonPoint (complex_of c.now) (hit_place q.now) → ⊥ }
+{
+    for number in 0..c.carriers.len() {
+        if let Some(corner) = corner_in(c, c.carriers.at(number), q) {
+            return Some(corner);
+        }
+    }
+    None
+}
+
+// Where a point of the skeleton lies.
+fn on_skeleton(c: &Complex, p: &Point) -> Option<Place>
+    requires shows { (s : Set) × ShowsSet s c.now }
+    requires framed { InClosedFrame (place_of p.now) }
+    ensures at { IfSome result (IsSkeletonAt (complex_of c.now) (place_of p.now)) }
+    ensures none { IsNone result → IsSkeletonPoint (complex_of c.now) (place_of p.now) → ⊥ }
+{
+    if let Some(number) = vertex_at(c, p) {
+        return Some(Place::Vertex(number));
+    }
+    let hit = hit_at(p);
+    if let Some(number) = edge_hit(c, &hit) {
+        return Some(Place::OnEdge(number));
+    }
+    match corner_at(c, &hit) {
+        Some(corner) => Some(Place::InFacet(corner)),
+        None => None,
+    }
+}
+
+// The side that a point off the skeleton has: the one above what the ray down from it first meets.
+fn in_volume(c: &Complex, p: &Point) -> Place
+    requires shows { (s : Set) × ShowsSet s c.now }
+    requires framed { InClosedFrame (place_of p.now) }
+    requires off { IsSkeletonPoint (complex_of c.now) (place_of p.now) → ⊥ }
+    ensures place { IsPlaceIn (complex_of c.now) result }
+    ensures at { IsPlaceAt (complex_of c.now) (place_of p.now) result }
+    ensures volume { place_dimension result ≡ 3 }
+{
+    match first_hit(c, p, &up().back()) {
+        Some(floor) => side_above(c, &floor),
+        None => unreachable!(),
+    }
+}
+
+/// Where the point, one of the closed frame, lies in the complex: it is a vertex, or lies on an edge, in a facet, which the
+/// corner behind it names, or in a volume, which the side above the first skeleton point down from it names. It takes no
+/// memory.
+pub fn locate(c: &Complex, p: &Point) -> Place
+    requires shows { (s : Set) × ShowsSet s c.now }
+    requires framed { InClosedFrame (place_of p.now) }
+    ensures place { IsPlaceIn (complex_of c.now) result }
+    ensures at { IsPlaceAt (complex_of c.now) (place_of p.now) result }
+    ensures dimension { (s : Set) → ShowsSet s c.now → FlatDim s (place_of p.now) (place_dimension result) }
+{
+    match on_skeleton(c, p) {
+        Some(place) => place,
+        None => in_volume(c, p),
+    }
+}
