@@ -2,31 +2,30 @@
 use Rattle.std.proofs.Common.{◌≡◌, ℕ, pos, neg_ℤ, arith, ◌⊎◌, inl, inr, ⊎_elim, Option, Some, None, IfSome, [], ◌∷◌}
 use Rattle.std.proofs.lemmas.Int.{ints}
 use Rattle.nef_exact.proofs.Ring.{ring, at, neg, ◌⊕◌, ◌⊗◌}
-use Rattle.nef_space.specs.Place.{Place as PlainPlace, normal_of, SamePlace, InClosedFrame, toward, IsAhead, IsBetween}
+use Rattle.nef_space.specs.Place.{Place as PlainPlace, SamePlace, InClosedFrame, toward, IsAhead, IsBetween}
 use Rattle.nef_space.specs.Sets.{Set}
 use Rattle.nef_space.specs.Vectors.{Vector, IsDirection, SameDirection, dot, opposite}
 use Rattle.nef_geo.specs.Hits.{IsUpright, IsCrossing}
 use Rattle.nef_geo.specs.Shapes.{form_of, hit_place}
 use Rattle.nef_geo.specs.declared.hit.Hit.{Hit}
 use Rattle.nef_geo.specs.declared.plane.Plane.{Plane}
-use Rattle.nef_forms.proofs.Between.{place-toward, toward-place}
-use Rattle.nef_forms.proofs.Directions.{direction-left, direction-right, self-pos, zero-decided}
+use Rattle.nef_forms.proofs.Between.{place-toward}
+use Rattle.nef_forms.proofs.Directions.{direction-left, direction-right, self-pos}
 use Rattle.nef_near.proofs.Alike.{FlatDim-one}
 use Rattle.nef_near.proofs.Between.{between-inner}
 use Rattle.nef_near.proofs.Frames.{flat_dim-outside}
 use Rattle.nef_near.proofs.Rays.{same-place_sym}
 use Rattle.nef_sphere.specs.Maps.{At}
 use Rattle.nef_sphere.proofs.Compare.{SameDirection-turned, SameDirection-trans}
-use Rattle.nef_sphere.proofs.KindFlats.{in-span}
 use Rattle.nef_solid.specs.Complexes.{Complex as PlainComplex}
 use Rattle.nef_solid.specs.Laws.{IsFlatIn}
 use Rattle.nef_solid.specs.Skeleton.{at_vertex, on_edge, IsOnEdges, IsSkeletonPoint}
 use Rattle.nef_solid.proofs.FacetEdges.{ahead-back}
 use Rattle.nef_solid.proofs.FacetNames.{facet-of}
-use Rattle.nef_solid.proofs.Planes.{plane-way}
 use Rattle.nef_solid.proofs.Skeletons.{skeleton-not_flat}
-use Rattle.nef_solid.proofs.Ways.{between-way}
-use Rattle.nef_edges.proofs.Rays.{on_line}
+use Rattle.nef_complex.proofs.Lines.{one-crossing}
+use Rattle.nef_plane.proofs.Found.{not-end}
+use Rattle.nef_plane.proofs.Nearest.{between-ahead}
 use Rattle.nef_complex.specs.declared.complex.Complex.{Complex}
 use Rattle.nef_complex.specs.Complexes.{complex_of, ShowsSet}
 use Rattle.nef_locate.specs.declared.ray.Met.{Met}
@@ -47,13 +46,6 @@ never-both y z d v w =
     let r : dot d (opposite d) ≡ neg_ℤ (dot d d) = ring (d.x ∷ d.y ∷ d.z ∷ []) (at 0 ⊗ neg (at 0) ⊕ at 1 ⊗ neg (at 1) ⊕ at 2 ⊗ neg (at 2)) (neg (at 0 ⊗ at 0 ⊕ at 1 ⊗ at 1 ⊕ at 2 ⊗ at 2)) tt in
     let s = self-pos d (direction-right (toward y z) d v) in
     omega (arith, ints)
-
-pub not-end : (p q r : PlainPlace) → IsBetween p q r → SamePlace q r → ⊥
-not-end p q r b e = direction-right (toward p q) (toward q r) b (place-toward q r e)
-
--- what lies between a point and one ahead of it is ahead
-pub between-ahead : (p q x : PlainPlace) (d : Vector) → IsBetween p q x → IsAhead p d x → IsAhead p d q
-between-ahead p q x d b w = SameDirection-trans (toward p q) (toward p x) d (between-way p q x b) w
 
 -- what is met stands at its step
 pub reached-of : (D : PlainComplex) (p : PlainPlace) (d : Vector) (best : Option Met) → IfSome best (IsMet D p d) → IfSome best (IsReachedMet p d)
@@ -79,20 +71,18 @@ module _ (p : PlainPlace) (d : Vector) (h : Plane) (hit : Hit) (X : IsCrossing p
   abbrev x : PlainPlace
   x = hit_place hit
 
-  -- the ray crosses the plane once
-  pub one-crossing : (y : PlainPlace) → IsCrossing p d (form_of h) y → SamePlace y x
-  one-crossing y Y = ⊎_elim (toward-place y x)
-      (λ t. absurd (X.passes (in-span (normal_of (form_of h)) (toward y x) d t (on_line p y x d Y.ahead.parallel X.ahead.parallel) (plane-way (form_of h) y x Y.on X.on))))
-      (zero-decided (toward y x))
+  -- the ray crosses the plane at the hit alone
+  pub at-hit : (y : PlainPlace) → IsCrossing p d (form_of h) y → SamePlace y x
+  at-hit y Y = let v = Y.ahead in let w = X.ahead in one-crossing (form_of h) d p y x v.parallel w.parallel (Y.on, X.on) X.passes
 
   -- what was met stays where the hit doesn't lie before it
   pub stays : (best : Option Met) → (IsSooner d hit best → ⊥) → (y : PlainPlace) → IsCrossing p d (form_of h) y → IsNotBefore p y best
   stays None n y Y = absurd (n tt)
-  stays (Some m) n y Y = λ b. n (ahead-from y x (hit_place m.at) d (one-crossing y Y) (SameDirection-trans (toward y (hit_place m.at)) (toward p y) d (SameDirection-turned (toward p y) (toward y (hit_place m.at)) b) Y.ahead))
+  stays (Some m) n y Y = λ b. n (ahead-from y x (hit_place m.at) d (at-hit y Y) (SameDirection-trans (toward y (hit_place m.at)) (toward p y) d (SameDirection-turned (toward p y) (toward y (hit_place m.at)) b) Y.ahead))
 
   -- else the hit is met first
   pub taken : (y : PlainPlace) → IsCrossing p d (form_of h) y → IsBetween p y x → ⊥
-  taken y Y b = not-end p y x b (one-crossing y Y)
+  taken y Y b = not-end p y x b (at-hit y Y)
 
   pub passed : (best : Option Met) → IsSooner d hit best → (y : PlainPlace) → IsNotBefore p y best → IsBetween p y x → ⊥
   passed None w y n b = n
@@ -100,7 +90,7 @@ module _ (p : PlainPlace) (d : Vector) (h : Plane) (hit : Hit) (X : IsCrossing p
 
   -- what is found at a crossing is found at the hit
   pub found : (s : Set) (c : Complex) (y : PlainPlace) → IsCrossing p d (form_of h) y → IsSkeletonIn s (complex_of c) (form_of h) y → IsSkeletonIn s (complex_of c) (form_of h) x
-  found s c y Y = skeleton-same s y x (one-crossing y Y) (complex_of c) (form_of h)
+  found s c y Y = skeleton-same s y x (at-hit y Y) (complex_of c) (form_of h)
 
 -- ---- all planes
 module _ (s : Set) (c : Complex) (S : ShowsSet s c) (p : PlainPlace) (d : Vector) (u : IsUpright d) where

@@ -53,6 +53,7 @@ fn labels_of_places(rt: HostRuntime) -> Result<(), Fail> {
 
 fn empty(alloc: Global) -> Result<Complex, OutOfMemory>
     ensures shows { IfOk result (λ c. ShowsSet Set.empty c) }
+    ensures some { IfOk result (λ c. (s : Set) × ShowsSet s c) }
 {
     let complex = frame(alloc, Label::Not)?;
     Ok(complex)
@@ -96,7 +97,7 @@ fn is_wall(c: &Complex, at: &Place, x: i64) -> bool
         Place::InFacet(corner) => {
             let v = c.vertices.at(corner.vertex);
             let normal = plane_of(&v.map, corner.item).normal;
-            (normal.x(), normal.y(), normal.z()) == (1, 0, 0) && v.point.x() == x
+            normal.x() == 1 && normal.y() == 0 && normal.z() == 0 && v.point.x() == x
         }
         _ => false,
     }
