@@ -18,6 +18,7 @@ mod ray;
 #[cfg(test)]
 mod tests;
 
+pub use above::{arounds, item_side, side_above};
 pub use facet::in_facet;
 pub use label::place_label;
 pub use local::local_map;

@@ -1,0 +1,14 @@
+//! The volumes of a complex, and all its parts.
+//!
+//! Volumes are the classes of sides that links join: sides of one sface, sides along an edge and across a facet, sides
+//! down a ray, and those of the outside. Source: Granados et al., "Boolean Operations on 3D Selective Nef Complexes", ESA
+//! 2003.
+#![tactic(auto)]
+
+mod edges;
+mod items;
+mod outside;
+mod sface;
+mod spots;
+
+pub use std::alloc::AllocError as OutOfMemory;
