@@ -1,2 +1,5 @@
 pub mod Agree
-pub mod Spots
+pub mod SideSpots
+pub mod OutsideTies
+pub mod SfaceTies
+pub mod ItemTies

@@ -8,11 +8,11 @@ use Rattle.nef_sphere.specs.Maps.{At, Svertex, Side, around_svertex, above_item,
 use Rattle.nef_smap.specs.Sides.{sides_of, IsSide, SeeOneWay}
 use Rattle.nef_smap.specs.SideNumbers.{number_of}
 use Rattle.nef_solid.specs.Complexes.{Vertex, Edge, Complex, Corner, HasEnds}
-use Rattle.nef_solid.specs.Rays.{VertexSide, HasSideLabel}
+use Rattle.nef_solid.specs.Rays.{VertexSide, HasSideLabel, RayDown}
 use Rattle.nef_classes.specs.Tables.{AreTied}
 use Rattle.nef_classes.specs.declared.table.Spot.{Spot}
 use Rattle.nef_classes.specs.declared.table.Tie.{Tie}
-use Rattle.nef_links.specs.Links.{IsSideOf}
+use Rattle.nef_links.specs.Links.{IsSideOf, LinkAlong, LinkAcross, LinkDown}
 use Rattle.nef_parts.specs.Numbers.{count_sides}
 
 -- the element of the outside, alone in the first row
@@ -107,3 +107,29 @@ IsAroundSpot C i k a = (v : Vertex) × (u : Svertex) × (l : Label) × At C.vert
 -- the tie joins the sides round the ends of edge k
 abbrev pub IsTieOfEnds : Complex → ℕ → Tie → Type 0
 IsTieOfEnds C k t = (e : Edge) × At C.edges k e × IsAroundSpot C e.low e.low_svertex t.first × IsAroundSpot C e.high e.high_svertex t.second
+
+-- ---- rays down
+-- the side lies above the point where the ray down from vertex i ends
+abbrev pub IsBelow : Complex → ℕ → VertexSide → Type 0
+IsBelow C i x = (v : Vertex) × At C.vertices i v × RayDown C v.point x
+
+-- the tie joins a side of vertex i with a side that the link down the ray joins with it
+abbrev pub IsTieDown : Complex → ℕ → Tie → Type 0
+IsTieDown C i t = (x : VertexSide) × (y : VertexSide) × (x.vertex ≡ i) × IsSpotOf C x t.first × IsSpotOf C y t.second × LinkDown C x y
+
+-- the ties join sides that links down rays join, and there is one for each vertex that has such a link
+pub record AreTiesDown (C : Complex) (ts : List Tie) : Type 0 where
+  pub only : AreLinks C (LinkDown C) ts
+  pub all : (x y : VertexSide) → LinkDown C x y → (t : Tie) × Contains ts t × IsTieDown C x.vertex t
+
+-- the element is that of a side above the point where the ray down from vertex i ends
+abbrev pub IsSpotBelow : Complex → ℕ → Spot → Type 0
+IsSpotBelow C i a = (x : VertexSide) × IsSpotOf C x a × IsBelow C i x
+
+-- ---- all together
+-- the ties of the sides of items that are linked along edges or across facets
+abbrev pub LinkOfFacets : Complex → Corner → Corner → Type 0
+LinkOfFacets C j k = LinkAlong C j k ⊎ LinkAcross C j k
+
+abbrev pub AreItemTies : Complex → List Tie → Type 0
+AreItemTies C ts = AreTiesOf C (LinkOfItems C (LinkOfFacets C)) ts

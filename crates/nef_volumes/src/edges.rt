@@ -1,6 +1,6 @@
 //! The ties of the sides round the ends of edges.
 
-ghost use Rattle.std.specs.Prelude.{◌≡◌, ℕ, ◌<◌, length, IfOk};
+ghost use Rattle.std.specs.Prelude.{◌<◌, length, IfOk};
 ghost use Rattle.std.specs.Option.{MatchOption};
 ghost use Rattle.nef_space.specs.Sets.{Set};
 ghost use Rattle.nef_complex.specs.Complexes.{complex_of, ShowsSet};
@@ -24,7 +24,7 @@ fn around_spot(c: &Complex, vertex: usize, svertex: usize) -> Option<Spot>
     if svertex >= map.svertices.len() || map.svertices.at(svertex).around.is_none() {
         return None;
     }
-    Some(spot(vertex, arounds(map, svertex)))
+    Some(spot(c, vertex, arounds(map, svertex)))
 }
 
 // The tie of the sides round the ends of the edge.

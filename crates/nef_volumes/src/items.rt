@@ -1,13 +1,12 @@
 //! The ties of the sides of tied items.
 
-ghost use Rattle.std.specs.Prelude.{◌≡◌, Bool, map, ◌↔◌, IfOk};
+ghost use Rattle.std.specs.Prelude.{map, IfOk};
 ghost use Rattle.nef_space.specs.Sets.{Set};
-ghost use Rattle.nef_solid.specs.Complexes.{Corner};
 ghost use Rattle.nef_complex.specs.Complexes.{complex_of, ShowsSet};
 ghost use Rattle.nef_parts.specs.Numbers.{count_items};
 ghost use Rattle.nef_classes.specs.Tables.{IsSpotIn, AreTied, AreTiedWithin};
-ghost use Rattle.nef_ties.specs.Ties.{spot_of, Adds, Any};
-ghost use Rattle.nef_volumes.specs.Ties.{AreTiesOf, IsItemSide, IsSideTie, IsTieOfItems, LinkOfItems};
+ghost use Rattle.nef_ties.specs.Ties.{spot_of};
+ghost use Rattle.nef_volumes.specs.Ties.{AreTiesOf, IsItemSide, IsSideTie, LinkOfItems};
 
 use crate::OutOfMemory;
 use crate::spots::spot;
@@ -23,7 +22,7 @@ fn item_spot(c: &Complex, item: &Spot, above: bool) -> Spot
     ensures spot { IsItemSide (complex_of c.now) above item.now result }
 {
     let map = &c.vertices.at(item.row).map;
-    spot(item.row, item_side(map, item.column, above))
+    spot(c, item.row, item_side(map, item.column, above))
 }
 
 // The tie of the upper, or of the lower, sides of two tied items.
@@ -43,7 +42,7 @@ fn side_tie(c: &Complex, tie: &Tie, above: bool) -> Tie
 pub(crate) fn item_ties(alloc: Global, c: &Complex, items: &[Tie]) -> Result<Vec<Tie>, OutOfMemory>
     requires shows { (s : Set) × ShowsSet s c.now }
     requires within { AreTiedWithin (map count_items (complex_of c.now).vertices) items.now }
-    ensures ties { IfOk result (λ v. (Link : Corner → Corner → Type 0) → ((j k : Corner) → AreTied items.now (spot_of j) (spot_of k) ↔ Link j k) → AreTiesOf (complex_of c.now) (LinkOfItems (complex_of c.now) Link) v.items) }
+    ensures ties { IfOk result (λ v. AreTiesOf (complex_of c.now) (LinkOfItems (complex_of c.now) (λ j k. AreTied items.now (spot_of j) (spot_of k))) v.items) }
 {
     let mut ties = Vec::new(alloc);
     for tie in items {

@@ -5,10 +5,14 @@
 //! 2003.
 #![tactic(auto)]
 
+mod below;
 mod edges;
 mod items;
+mod links;
+mod numbers;
 mod outside;
 mod sface;
 mod spots;
 
+pub use numbers::volume_numbers;
 pub use std::alloc::AllocError as OutOfMemory;

@@ -28,7 +28,7 @@ fn add_outside_sides(
         if side_label(map, side) == Label::Out {
             ties.push(Tie {
                 first: outside(),
-                second: spot(vertex, side),
+                second: spot(c, vertex, side),
             })?;
         }
     }

@@ -1,6 +1,6 @@
 //! The ties of sides of one sface.
 
-ghost use Rattle.std.specs.Prelude.{◌≡◌, ◌+◌, ◌<◌, ◌^◌, length, IfOk, OnOk};
+ghost use Rattle.std.specs.Prelude.{◌<◌, length, IfOk, OnOk};
 ghost use Rattle.nef_space.specs.Sets.{Set};
 ghost use Rattle.nef_complex.specs.Complexes.{complex_of, ShowsSet};
 ghost use Rattle.nef_links.specs.Links.{LinkInSface};
@@ -17,11 +17,12 @@ use std::alloc::Global;
 // Adds the ties of the side with the earlier sides of the vertex that have the same number.
 fn add_earlier(
     ties: &mut Vec<Tie>,
+    c: &Complex,
     vertex: usize,
     numbers: &[usize],
     side: usize,
 ) -> Result<(), OutOfMemory>
-    requires small { vertex + 1 < 2 ^ 64 }
+    requires vertex { vertex < length c.now.vertices }
     requires within { side < length numbers.now }
     ensures added { OnOk result (Adds (Any (IsTieNumbered vertex numbers.now side)) ties.old.items ties.new.items) }
 {
@@ -29,8 +30,8 @@ fn add_earlier(
     for earlier in 0..side {
         if numbers[earlier] == number {
             ties.push(Tie {
-                first: spot(vertex, earlier),
-                second: spot(vertex, side),
+                first: spot(c, vertex, earlier),
+                second: spot(c, vertex, side),
             })?;
         }
     }
@@ -50,7 +51,7 @@ fn add_sfaces(
 {
     let numbers = sfaces(alloc, &c.vertices.at(vertex).map)?;
     for side in 0..numbers.len() {
-        add_earlier(ties, vertex, &numbers, side)?;
+        add_earlier(ties, c, vertex, &numbers, side)?;
     }
     Ok(())
 }

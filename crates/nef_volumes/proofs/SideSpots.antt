@@ -9,6 +9,7 @@ use Rattle.nef_sphere.specs.Maps.{At, Side, HasSide}
 use Rattle.nef_sphere.proofs.Lists.{at-one}
 use Rattle.nef_smap.specs.Sides.{LabelledSide, sides_of, IsSide}
 use Rattle.nef_smap.specs.SideNumbers.{number_of}
+use Rattle.nef_smap.proofs.Lists.{map-at}
 use Rattle.nef_smap.proofs.SideLists.{get-from_at}
 use Rattle.nef_smap.proofs.SideNumbers.{side-number, number-one}
 use Rattle.nef_smap.proofs.ClassLists.{is-at_one, is-at_within, is-at_get, is-at_is}
@@ -18,7 +19,6 @@ use Rattle.nef_solid.specs.Rays.{VertexSide, HasSideLabel}
 use Rattle.nef_classes.specs.Tables.{IsSpotIn, AreTied, AreTiedWithin}
 use Rattle.nef_classes.specs.declared.table.Spot.{Spot}
 use Rattle.nef_classes.specs.declared.table.Tie.{Tie}
-use Rattle.nef_classes.proofs.Numbers.{at-map}
 use Rattle.nef_links.specs.Links.{LinkOutside, VolumeLink}
 use Rattle.nef_parts.specs.Numbers.{count_sides, IsSideNumber}
 use Rattle.nef_volumes.specs.Ties.{outside_spot, side_spot, row_counts, IsSpotOf, IsEndOf, AreLinks, AreTiedSides, AreTiesOf}
@@ -106,7 +106,7 @@ module _ (C : Complex) where
   -- ---- ties are within the table
   end-within : (x : VertexSide) (a : Spot) → IsEndOf C x a → IsSpotIn (row_counts C) a
   end-within x a (inl f) =
-      let i = at-map count_sides C.vertices x.vertex f.vertex (get-from_at C.vertices x.vertex f.vertex f.is_vertex) in
+      let i = get-from_at (map count_sides C.vertices) x.vertex (count_sides f.vertex) (map-at count_sides C.vertices x.vertex f.vertex f.is_vertex) in
       let n = side-number f.vertex.map x.side f.label f.has in
       subst (IsSpotIn (row_counts C)) (sym f.is_spot) (record { count = count_sides f.vertex; is_row = next x.vertex (count_sides f.vertex) i; within = is-at_within (sides_of f.vertex.map) (number_of f.vertex.map x.side) (x.side, f.label) n })
     where

@@ -1,0 +1,54 @@
+-- The ties of the outside.
+use Rattle.std.proofs.Common.{◌≡◌, ℕ, ◌<◌, ◌⊎◌, inl, inr, ⊎_elim, List, [], length, arith, refl, ap, sym, ◌∙◌, subst}
+use Rattle.std.specs.List.{Contains}
+use Rattle.nef_space.specs.Lists.{Chained}
+use Rattle.nef_space.specs.declared.label.Label.TheVariants.{Out}
+use Rattle.nef_smap.specs.Sides.{IsSide}
+use Rattle.nef_smap.specs.SideNumbers.{number_of}
+use Rattle.nef_smap.proofs.SideLists.{side-has}
+use Rattle.nef_smap.proofs.SideNumbers.{side-number, number-one}
+use Rattle.nef_smap.proofs.Chains.{chain-trans, chain-turned}
+use Rattle.nef_solid.specs.Complexes.{Complex}
+use Rattle.nef_solid.specs.Rays.{VertexSide, HasSideLabel}
+use Rattle.nef_classes.specs.Tables.{AreTied}
+use Rattle.nef_classes.specs.declared.table.Spot.{Spot}
+use Rattle.nef_classes.specs.declared.table.Tie.{Tie}
+use Rattle.nef_links.specs.Links.{LinkOutside}
+use Rattle.nef_ties.specs.Ties.{Adds, Any}
+use Rattle.nef_volumes.specs.Ties.{outside_spot, side_spot, IsSpotOf, IsEndOf, AreTiedSides, AreTiesOf, IsTieOutside}
+use Rattle.nef_volumes.proofs.SideSpots.{tie-chain, spot-is, spot-numbered}
+
+-- all elements of a list that was empty have P
+pub only-added : {X : Type 0} (P : X → Type 0) (xs : List X) → Adds P [] xs → (x : X) → Contains xs x → P x
+only-added P xs A x c = ⊎_elim (λ n. absurd (let l = n.1 in omega (arith, l))) (λ p. p) (A.added x c)
+
+module _ (C : Complex) (ts : List Tie) (A : Adds (Any (λ i. Any (IsTieOutside C i))) [] ts) where
+  only : (t : Tie) → Contains ts t → (x : VertexSide) × (y : VertexSide) × IsEndOf C x t.first × IsEndOf C y t.second × LinkOutside C x y
+  only t c =
+      let p = only-added (Any (λ i. Any (IsTieOutside C i))) ts A t c in
+      let i = p.0 in let s = p.1 in
+      let n = p.2 in
+      let v = n.0 in let o = n.1 in let a = n.2 in
+      let h = side-has v.map s o Out n.3 in
+      let y : VertexSide = record { vertex = i; side = o } in
+      let out : HasSideLabel C y Out = (v, a, h) in
+      let spot = spot-numbered C i s v o Out a h (number-one v.map s o Out n.3) in
+      (y, y, inr (ap (λ (u : Tie). u.first) p.3, out), inl (subst (IsSpotOf C y) (sym (ap (λ (u : Tie). u.second) p.3)) spot), (out, out))
+
+  from-outside : (x : VertexSide) (h : HasSideLabel C x Out) → (a : Spot) × IsSpotOf C x a × Chained (AreTied ts) outside_spot a
+  from-outside x (v, a, h) =
+      let s = number_of v.map x.side in
+      let b = side_spot x.vertex s in
+      let t : Tie = record { first = outside_spot; second = b } in
+      let c = A.all t (x.vertex, s, (v, x.side, a, side-number v.map x.side Out h), refl) in
+      (b, spot-is C x v Out a h, tie-chain ts t outside_spot b c refl refl)
+
+  all : (x y : VertexSide) → LinkOutside C x y → AreTiedSides C ts x y
+  all x y (g, h) =
+      let a = from-outside x g in
+      let b = from-outside y h in
+      (a.0, b.0, a.1, b.1, chain-trans (AreTied ts) a.0 outside_spot b.0 (chain-turned (AreTied ts) outside_spot a.0 a.2) b.2)
+
+  -- THE SIDES OUTSIDE ARE TIED
+  pub outside-tied : AreTiesOf C (LinkOutside C) ts
+  outside-tied = record { only = only; all = all }
