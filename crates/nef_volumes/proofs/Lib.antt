@@ -1,5 +1,10 @@
 pub mod Agree
+pub mod ReadVertex
 pub mod SideSpots
 pub mod OutsideTies
 pub mod SfaceTies
 pub mod ItemTies
+pub mod BelowTies
+pub mod AllTies
+pub mod SideLabels
+pub mod RowNumbers

@@ -1,12 +1,13 @@
 -- The ties between sides of one sface.
-use Rattle.std.proofs.Common.{◌≡◌, ℕ, ◌<◌, ◌⊎◌, inl, inr, ⊎_elim, List, [], ◌∷◌, length, arith, refl, ap, sym, ◌∙◌, subst}
+use Rattle.std.proofs.Common.{◌≡◌, ℕ, ◌<◌, ◌⊎◌, inl, inr, ⊎_elim, List, [], ◌∷◌, ◌++◌, length, Some, slice_get, arith, refl, ap, sym, ◌∙◌, subst}
 use Rattle.std.proofs.lemmas.Bool.{cases_order}
 use Rattle.std.specs.List.{Contains}
 use Rattle.nef_space.specs.Lists.{IsAt, IsChain, Chained}
 use Rattle.nef_space.specs.Vectors.{Vector}
 use Rattle.nef_space.specs.declared.label.Label.{Label}
 use Rattle.nef_sphere.specs.Maps.{At, Map, Side, HasSide, Sees, SeeOne, InOneSface, here, link}
-use Rattle.nef_smap.specs.Sides.{LabelledSide, sides_of, IsSide, SideSees, SeeOneWay}
+use Rattle.nef_smap.specs.Sides.{LabelledSide, sides_of, IsSide, SideSees, SeeOneWay, AreSfaces}
+use Rattle.nef_smap.specs.Maps.{map_of}
 use Rattle.nef_smap.specs.SideNumbers.{number_of}
 use Rattle.nef_smap.proofs.SideLists.{side-has}
 use Rattle.nef_smap.proofs.SideNumbers.{side-number, number-one}
@@ -20,7 +21,12 @@ use Rattle.nef_classes.specs.declared.table.Spot.{Spot}
 use Rattle.nef_classes.specs.declared.table.Tie.{Tie}
 use Rattle.nef_links.specs.Links.{LinkInSface}
 use Rattle.nef_ties.specs.Ties.{Adds, Any}
-use Rattle.nef_volumes.specs.Ties.{side_spot, IsSpotOf, IsEndOf, AreTiedSides, AreTiesOf, EarlierTie, IsTieInSface}
+use Rattle.nef_volumes.specs.Ties.{side_spot, IsSpotOf, IsEndOf, AreTiedSides, AreTiesOf, EarlierTie, IsTieNumbered, IsTieInSface}
+use Rattle.nef_complex.specs.Complexes.{vertex_of, complex_of}
+use Rattle.nef_complex.specs.declared.complex.Complex.{Complex as ProgramComplex}
+use Rattle.nef_complex.specs.declared.complex.Vertex.{Vertex as ProgramVertex}
+use Rattle.nef_ties.proofs.Adding.{adds-one, adds-none, adds-as}
+use Rattle.nef_volumes.proofs.ReadVertex.{vertex-there, vertex-read}
 use Rattle.nef_volumes.proofs.SideSpots.{tie-chain, spot-is, spot-numbered}
 use Rattle.nef_volumes.proofs.OutsideTies.{only-added}
 
@@ -99,3 +105,41 @@ module _ (C : Complex) (ts : List Tie) (A : Adds (Any (λ i. Any (λ s. Any (IsT
   -- THE SIDES OF EACH SFACE ARE TIED
   pub sface-tied : AreTiesOf C (LinkInSface C) ts
   sface-tied = record { only = only; all = all }
+
+-- ---- the loops over the sides of a vertex
+module _ (i s r : ℕ) (ns : List ℕ) (l : r < s) (ts : List Tie) where
+  pub numbered-added : (n : ℕ) × IsAt ns r n × IsAt ns s n → (a b : Spot) → a ≡ side_spot i r → b ≡ side_spot i s → Adds (IsTieNumbered i ns s r) ts (ts ++ record { first = a; second = b } ∷ [])
+  numbered-added (n, g, h) a b e f =
+      let t : Tie = record { first = a; second = b } in
+      let is : t ≡ EarlierTie i s r = cc in
+      adds-one (IsTieNumbered i ns s r) ts t (l, n, g, h, is) (λ y (m, k, p, q, w). is ∙ sym w)
+
+  pub numbered-none : ((n : ℕ) × IsAt ns r n × IsAt ns s n → ⊥) → Adds (IsTieNumbered i ns s r) ts ts
+  numbered-none no = adds-none (IsTieNumbered i ns s r) ts (λ t (m, k, p, q, w). no (k, p, q))
+
+-- equal numbers are those of one sface
+module _ (c : ProgramComplex) (i : ℕ) (u : ProgramVertex) (e : slice_get c.vertices i ≡ Some u) (ns : List ℕ) (F : AreSfaces (map_of u.map) ns) where
+  to-sface : (s : ℕ) (t : Tie) → Any (IsTieNumbered i ns s) t → Any (IsTieInSface (complex_of c) i s) t
+  to-sface s t (r, l, n, g, h, f) =
+      let w = is-at_within ns s n h in let m = F.as_many in
+      (r, vertex_of u, vertex-there c i u e, l, omega (arith, w, m), (F.numbered.by_class r s n n g h).0 refl, f)
+
+  from-sface : (s : ℕ) (t : Tie) → Any (IsTieInSface (complex_of c) i s) t → Any (IsTieNumbered i ns s) t
+  from-sface s t (r, v, a, l, w, ch, f) =
+      let M = map_of u.map in
+      let one = vertex-read c i u v e a in
+      let m = F.as_many in
+      let w' = subst (λ (x : Vertex). s < length (sides_of x.map)) one w in
+      let g = is-at_some ns r (omega (arith, w', m, l)) in
+      let h = is-at_some ns s (omega (arith, w', m)) in
+      let same = (F.numbered.by_class r s g.0 h.0 g.1 h.1).1 (subst (λ (x : Vertex). Chained (SeeOneWay x.map) r s) one ch) in
+      (r, l, h.0, subst (IsAt ns r) same g.1, h.1, f)
+
+  pub numbered-sface : (xs ys : List Tie) → Adds (Any (λ s. Any (IsTieNumbered i ns s))) xs ys → Adds (Any (λ s. Any (IsTieInSface (complex_of c) i s))) xs ys
+  numbered-sface xs ys A = adds-as (Any (λ s. Any (IsTieNumbered i ns s))) (Any (λ s. Any (IsTieInSface (complex_of c) i s))) xs ys (λ t (s, p). (s, to-sface s t p)) (λ t (s, p). (s, from-sface s t p)) A
+
+pub numbered-below : (i : ℕ) (ns : List ℕ) (s : ℕ) (t : Tie) → Any (IsTieNumbered i ns s) t → s < length ns
+numbered-below i ns s t (r, l, n, g, h, f) = is-at_within ns s n h
+
+pub earlier-below : (i : ℕ) (ns : List ℕ) (s r : ℕ) (t : Tie) → IsTieNumbered i ns s r t → r < s
+earlier-below i ns s r t p = p.0

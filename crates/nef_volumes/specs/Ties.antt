@@ -100,6 +100,9 @@ LinkOfItems C Link x y = (j : Corner) × (k : Corner) × Link j k
 abbrev pub LinkOfEnds : Complex → VertexSide → VertexSide → Type 0
 LinkOfEnds C x y = (k : ℕ) × (e : Edge) × At C.edges k e × IsSideOf C x e.low (around_svertex e.low_svertex) × IsSideOf C y e.high (around_svertex e.high_svertex)
 
+abbrev pub HasSvertex : Complex → ℕ → ℕ → Type 0
+HasSvertex C i k = (v : Vertex) × (u : Svertex) × At C.vertices i v × At v.map.svertices k u
+
 -- the element is that of the side round svertex k of vertex i
 abbrev pub IsAroundSpot : Complex → ℕ → ℕ → Spot → Type 0
 IsAroundSpot C i k a = (v : Vertex) × (u : Svertex) × (l : Label) × At C.vertices i v × At v.map.svertices k u × (u.around ≡ Some l) × (a ≡ side_spot i (number_of v.map (around_svertex k)))
@@ -133,3 +136,7 @@ LinkOfFacets C j k = LinkAlong C j k ⊎ LinkAcross C j k
 
 abbrev pub AreItemTies : Complex → List Tie → Type 0
 AreItemTies C ts = AreTiesOf C (LinkOfItems C (LinkOfFacets C)) ts
+
+-- ties lead from the outside to each side that has the label Out
+abbrev pub AreTiedOutside : Complex → List Tie → Type 0
+AreTiedOutside C ts = (x : VertexSide) → HasSideLabel C x Out → (a : Spot) × IsSpotOf C x a × Chained (AreTied ts) outside_spot a

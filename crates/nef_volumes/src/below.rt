@@ -71,7 +71,8 @@ pub(crate) fn down_ties(alloc: Global, c: &Complex) -> Result<Vec<Tie>, OutOfMem
     ensures ties { IfOk result (λ v. AreTiesDown (complex_of c.now) v.items) }
 {
     let mut ties = Vec::new(alloc);
-    for vertex in 0..c.vertices.len() {
+    let count = c.vertices.len();
+    for vertex in 0..count {
         if let Some(tie) = down_tie(c, vertex) {
             ties.push(tie)?;
         }

@@ -6,7 +6,7 @@ ghost use Rattle.nef_space.specs.Sets.{Set};
 ghost use Rattle.nef_complex.specs.Complexes.{complex_of, ShowsSet};
 ghost use Rattle.nef_classes.specs.declared.table.Spot.{Spot as PlainSpot};
 ghost use Rattle.nef_classes.specs.declared.table.Tie.{Tie as PlainTie};
-ghost use Rattle.nef_volumes.specs.Ties.{AreTiesOf, IsAroundSpot, IsTieOfEnds, LinkOfEnds};
+ghost use Rattle.nef_volumes.specs.Ties.{AreTiesOf, HasSvertex, IsAroundSpot, IsTieOfEnds, LinkOfEnds};
 
 use crate::OutOfMemory;
 use crate::spots::spot;
@@ -18,13 +18,14 @@ use std::alloc::Global;
 // The element of the side round the svertex of the vertex.
 fn around_spot(c: &Complex, vertex: usize, svertex: usize) -> Option<Spot>
     requires within { vertex < length c.now.vertices }
+    requires svertex { HasSvertex (complex_of c.now) vertex svertex }
     ensures spot { MatchOption result ((a : PlainSpot) → IsAroundSpot (complex_of c.now) vertex svertex a → ⊥) (IsAroundSpot (complex_of c.now) vertex svertex) }
 {
     let map = &c.vertices.at(vertex).map;
-    if svertex >= map.svertices.len() || map.svertices.at(svertex).around.is_none() {
-        return None;
+    match map.svertices.at(svertex).around {
+        Some(_) => Some(spot(c, vertex, arounds(map, svertex))),
+        None => None,
     }
-    Some(spot(c, vertex, arounds(map, svertex)))
 }
 
 // The tie of the sides round the ends of the edge.
@@ -45,7 +46,8 @@ pub(crate) fn ends_ties(alloc: Global, c: &Complex) -> Result<Vec<Tie>, OutOfMem
     ensures ties { IfOk result (λ v. AreTiesOf (complex_of c.now) (LinkOfEnds (complex_of c.now)) v.items) }
 {
     let mut ties = Vec::new(alloc);
-    for number in 0..c.edges.len() {
+    let count = c.edges.len();
+    for number in 0..count {
         if let Some(tie) = ends_tie(c, number) {
             ties.push(tie)?;
         }

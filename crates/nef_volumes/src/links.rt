@@ -4,7 +4,7 @@ ghost use Rattle.std.specs.Prelude.{IfOk};
 ghost use Rattle.nef_space.specs.Sets.{Set};
 ghost use Rattle.nef_links.specs.Links.{VolumeLink};
 ghost use Rattle.nef_complex.specs.Complexes.{complex_of, ShowsSet};
-ghost use Rattle.nef_volumes.specs.Ties.{AreTiesOf, AreItemTies};
+ghost use Rattle.nef_volumes.specs.Ties.{AreTiesOf, AreItemTies, AreTiedOutside};
 
 use crate::OutOfMemory;
 use crate::below::down_ties;
@@ -35,6 +35,7 @@ fn linked_items(alloc: Global, c: &Complex) -> Result<Vec<Tie>, OutOfMemory>
 pub(crate) fn side_ties(alloc: Global, c: &Complex) -> Result<Vec<Tie>, OutOfMemory>
     requires shows { (s : Set) × ShowsSet s c.now }
     ensures ties { IfOk result (λ v. AreTiesOf (complex_of c.now) (VolumeLink (complex_of c.now)) v.items) }
+    ensures outside { IfOk result (λ v. AreTiedOutside (complex_of c.now) v.items) }
 {
     let mut ties = outside_ties(alloc, c)?;
     let sface = sface_ties(alloc, c)?;

@@ -1,6 +1,7 @@
 //! The ties of sides of one sface.
 
-ghost use Rattle.std.specs.Prelude.{◌<◌, length, IfOk, OnOk};
+ghost use Rattle.std.specs.Prelude.{◌<◌, ℕ, length, ◌↔◌, IsTrue, IfOk, OnOk};
+ghost use Rattle.nef_space.specs.Lists.{IsAt};
 ghost use Rattle.nef_space.specs.Sets.{Set};
 ghost use Rattle.nef_complex.specs.Complexes.{complex_of, ShowsSet};
 ghost use Rattle.nef_links.specs.Links.{LinkInSface};
@@ -14,6 +15,15 @@ use nef_complex::Complex;
 use nef_smap::sfaces;
 use std::alloc::Global;
 
+// Whether the elements at both places are the same.
+fn have_same(numbers: &[usize], i: usize, j: usize) -> bool
+    requires first { i < length numbers.now }
+    requires second { j < length numbers.now }
+    ensures same { IsTrue result ↔ ((n : ℕ) × IsAt numbers.now i n × IsAt numbers.now j n) }
+{
+    numbers[i] == numbers[j]
+}
+
 // Adds the ties of the side with the earlier sides of the vertex that have the same number.
 fn add_earlier(
     ties: &mut Vec<Tie>,
@@ -26,9 +36,8 @@ fn add_earlier(
     requires within { side < length numbers.now }
     ensures added { OnOk result (Adds (Any (IsTieNumbered vertex numbers.now side)) ties.old.items ties.new.items) }
 {
-    let number = numbers[side];
     for earlier in 0..side {
-        if numbers[earlier] == number {
+        if have_same(numbers, earlier, side) {
             ties.push(Tie {
                 first: spot(c, vertex, earlier),
                 second: spot(c, vertex, side),
@@ -50,8 +59,9 @@ fn add_sfaces(
     ensures added { OnOk result (Adds (Any (λ s. Any (IsTieInSface (complex_of c.now) vertex s))) ties.old.items ties.new.items) }
 {
     let numbers = sfaces(alloc, &c.vertices.at(vertex).map)?;
-    for side in 0..numbers.len() {
-        add_earlier(ties, c, vertex, &numbers, side)?;
+    let count = numbers.len();
+    for side in 0..count {
+        add_earlier(ties, c, vertex, numbers.as_slice(), side)?;
     }
     Ok(())
 }
@@ -62,7 +72,8 @@ pub(crate) fn sface_ties(alloc: Global, c: &Complex) -> Result<Vec<Tie>, OutOfMe
     ensures ties { IfOk result (λ v. AreTiesOf (complex_of c.now) (LinkInSface (complex_of c.now)) v.items) }
 {
     let mut ties = Vec::new(alloc);
-    for vertex in 0..c.vertices.len() {
+    let count = c.vertices.len();
+    for vertex in 0..count {
         add_sfaces(alloc, &mut ties, c, vertex)?;
     }
     Ok(ties)
