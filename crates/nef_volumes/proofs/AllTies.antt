@@ -116,7 +116,7 @@ module _ (s : Set) (C : Complex) (S : Shows s C) (outside sface items ends down 
 
   from-down : (x y : VertexSide) → LinkDown C x y → AreTiedSides C (outside ++ sface ++ items ++ ends ++ down) x y
   from-down x y L =
-      let (t, c, z, w, e, f, g, M) = D.all x y L in
+      let (t, c, (z, w, e, f, g, M)) = D.all x y L in
       let v = L.vertex in
       let one = at-one C.vertices x.vertex M.vertex v (subst (λ (n : ℕ). At C.vertices n M.vertex) e M.is_vertex) L.is_vertex in
       let sight = subst (λ (r : Vertex). Sees r.map z.side (opposite up)) one M.sees in

@@ -83,7 +83,7 @@ module _ (C : Complex) (items : List Tie) (W : AreTiedWithin (map count_items C.
        (j, l, (k, t, i, refl, refl), both x y j l refl refl refl refl (side-there b t.first u.first w.0 f) (side-there b t.second u.second w.1 g)))
 
   only : (u : Tie) → Contains ts u → (x : VertexSide) × (y : VertexSide) × IsEndOf C x u.first × IsEndOf C y u.second × LinkOfItems C Link x y
-  only u c = let (k, t, i, s) = only-added (Any (IsTieOfItems C items)) ts A u c in by k t i s
+  only u c = let (k, (t, i, s)) = only-added (Any (IsTieOfItems C items)) ts A u c in by k t i s
     where
       by : (k : ℕ) (t : Tie) → IsAt items k t → IsSideTie C true t u ⊎ IsSideTie C false t u → (x : VertexSide) × (y : VertexSide) × IsEndOf C x u.first × IsEndOf C y u.second × LinkOfItems C Link x y
       by k t i (inl s) = of-sides true k t u i s (λ x y j l d e f g (m, h) (n, p). inl ((m, ap (λ (z : VertexSide). z.vertex) d ∙ ap (λ (z : Corner). z.vertex) (sym f), ap (λ (z : VertexSide). z.side) d ∙ ap (λ (z : Corner). above_item z.item) (sym f), h),
@@ -104,7 +104,7 @@ module _ (C : Complex) (items : List Tie) (W : AreTiedWithin (map count_items C.
       let p = spot-there b t.first j x e f in
       let q = spot-there b t.second k y h g in
       let u : Tie = record { first = p.0; second = q.0 } in
-      let c = A.all u (n, t, i, either t u (p.2, q.2)) in
+      let c = A.all u (n, (t, i, either t u (p.2, q.2))) in
       (p.0, q.0, p.1, q.1, tie-chain ts u p.0 q.0 c refl refl)
 
   all : (x y : VertexSide) → LinkOfItems C Link x y → AreTiedSides C ts x y
@@ -135,7 +135,7 @@ module _ (C : Complex) (ts : List Tie) (A : Adds (Any (IsTieOfEnds C)) [] ts) wh
 
   ends-only : (t : Tie) → Contains ts t → (x : VertexSide) × (y : VertexSide) × IsEndOf C x t.first × IsEndOf C y t.second × LinkOfEnds C x y
   ends-only t c =
-      let (k, e, a, f, g) = only-added (Any (IsTieOfEnds C)) ts A t c in
+      let (k, (e, a, f, g)) = only-added (Any (IsTieOfEnds C)) ts A t c in
       let p = end-round e.low e.low_svertex t.first f in
       let q = end-round e.high e.high_svertex t.second g in
       (around_of e.low e.low_svertex, around_of e.high e.high_svertex, inl p.0, inl q.0, (k, e, a, p.1, q.1))
@@ -151,7 +151,7 @@ module _ (C : Complex) (ts : List Tie) (A : Adds (Any (IsTieOfEnds C)) [] ts) wh
       let p = round-there e.low e.low_svertex x f in
       let q = round-there e.high e.high_svertex y g in
       let u : Tie = record { first = p.0; second = q.0 } in
-      (p.0, q.0, p.1, q.1, tie-chain ts u p.0 q.0 (A.all u (k, e, a, p.2, q.2)) refl refl)
+      (p.0, q.0, p.1, q.1, tie-chain ts u p.0 q.0 (A.all u (k, (e, a, p.2, q.2))) refl refl)
 
   -- THE SIDES ROUND THE ENDS OF EDGES ARE TIED
   pub ends-tied : AreTiesOf C (LinkOfEnds C) ts

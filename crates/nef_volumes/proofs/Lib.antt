@@ -6,5 +6,9 @@ pub mod SfaceTies
 pub mod ItemTies
 pub mod BelowTies
 pub mod AllTies
+pub mod Downward
 pub mod SideLabels
 pub mod RowNumbers
+pub mod EndsFound
+pub mod DownTies
+pub mod OutsideSide

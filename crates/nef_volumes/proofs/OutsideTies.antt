@@ -34,21 +34,21 @@ module _ (C : Complex) (ts : List Tie) (A : Adds (Any (λ i. Any (IsTieOutside C
   only : (t : Tie) → Contains ts t → (x : VertexSide) × (y : VertexSide) × IsEndOf C x t.first × IsEndOf C y t.second × LinkOutside C x y
   only t c =
       let p = only-added (Any (λ i. Any (IsTieOutside C i))) ts A t c in
-      let i = p.0 in let s = p.1 in
-      let n = p.2 in
+      let i = p.0 in let s = p.1.0 in
+      let n = p.1.1.0 in
       let v = n.0 in let o = n.1 in let a = n.2 in
       let h = side-has v.map s o Out n.3 in
       let y : VertexSide = record { vertex = i; side = o } in
       let out : HasSideLabel C y Out = (v, a, h) in
       let spot = spot-numbered C i s v o Out a h (number-one v.map s o Out n.3) in
-      (y, y, inr (ap (λ (u : Tie). u.first) p.3, out), inl (subst (IsSpotOf C y) (sym (ap (λ (u : Tie). u.second) p.3)) spot), (out, out))
+      (y, y, inr (ap (λ (u : Tie). u.first) p.1.1.1, out), inl (subst (IsSpotOf C y) (sym (ap (λ (u : Tie). u.second) p.1.1.1)) spot), (out, out))
 
   from-outside : (x : VertexSide) (h : HasSideLabel C x Out) → (a : Spot) × IsSpotOf C x a × Chained (AreTied ts) outside_spot a
   from-outside x (v, a, h) =
       let s = number_of v.map x.side in
       let b = side_spot x.vertex s in
       let t : Tie = record { first = outside_spot; second = b } in
-      let c = A.all t (x.vertex, s, (v, x.side, a, side-number v.map x.side Out h), refl) in
+      let c = A.all t (x.vertex, (s, ((v, x.side, a, side-number v.map x.side Out h), refl))) in
       (b, spot-is C x v Out a h, tie-chain ts t outside_spot b c refl refl)
 
   pub outside-all : AreTiedOutside C ts

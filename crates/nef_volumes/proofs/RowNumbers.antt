@@ -1,5 +1,5 @@
 -- The numbers of the table of sides are those of the volumes.
-use Rattle.std.proofs.Common.{◌≡◌, ℕ, zero, suc, ◌+◌, ◌<◌, ◌≤◌, pos, ◌<ℤ◌, ◌⊎◌, inl, inr, ⊎_elim, List, [], ◌∷◌, length, map, arith, refl, ap, sym, ◌∙◌, subst, ◌↔◌}
+use Rattle.std.proofs.Common.{◌≡◌, ℕ, zero, suc, ◌+◌, ◌<◌, ◌≤◌, pos, ◌<ℤ◌, ◌⊎◌, inl, inr, ⊎_elim, List, [], ◌∷◌, ◌++◌, length, take, drop, map, arith, refl, ap, sym, ◌∙◌, subst, ◌↔◌}
 use Rattle.std.proofs.lemmas.Int.{ints}
 use Rattle.std.proofs.lemmas.List.{length-map}
 use Rattle.nef_space.specs.Lists.{IsAt, IsChain, Chained, IsInTable}
@@ -145,3 +145,12 @@ module _ (s : Set) (C : Complex) (S : Shows s C) (up : IsUpright C) (ts : List T
   -- THE NUMBERS OF THE ROWS AFTER THE FIRST ARE THOSE OF THE VOLUMES
   pub volumes-numbered : VolumeNumbers C rest
   volumes-numbered = record { shape = shape; numbered = record { by_class = by_class; by_appearance = by_appearance }; outside = outside }
+
+pub rest-numbered : (s : Set) (C : Complex) (S : Shows s C) (up : IsUpright C) (ts : List Tie) (T : AreTiesOf C (VolumeLink C) ts) (O : AreTiedOutside C ts) (rows rest : List (List ℕ))
+    → HasCounts (row_counts C) rows → AreNumbers ts rows → rest ≡ take 0 rows ++ drop (0 + 1) rows → VolumeNumbers C rest
+rest-numbered s C S up ts T O [] rest H N e = absurd (let n = H.as_many in omega (arith, n))
+rest-numbered s C S up ts T O (first ∷ more) rest H N e = subst (VolumeNumbers C) (sym e) (volumes-numbered s C S up ts T O first more H N)
+
+-- there is a first row
+pub some-row : (C : Complex) (rows : List (List ℕ)) → HasCounts (row_counts C) rows → 0 < length rows
+some-row C rows H = let n = H.as_many in omega (arith, n)

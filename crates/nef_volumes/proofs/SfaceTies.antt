@@ -64,7 +64,7 @@ module _ (M : Map) where
 module _ (C : Complex) (ts : List Tie) (A : Adds (Any (λ i. Any (λ s. Any (IsTieInSface C i s)))) [] ts) where
   only : (t : Tie) → Contains ts t → (x : VertexSide) × (y : VertexSide) × IsEndOf C x t.first × IsEndOf C y t.second × LinkInSface C x y
   only t c =
-      let (i, s, r, l, v, a, m, ch, e) = only-added (Any (λ i. Any (λ s. Any (IsTieInSface C i s)))) ts A t c in
+      let (i, (s, (r, (v, a, l, m, ch, e)))) = only-added (Any (λ i. Any (λ s. Any (IsTieInSface C i s)))) ts A t c in
       let g = is-at_some (sides_of v.map) r (omega (arith, l, m)) in
       let h = is-at_some (sides_of v.map) s m in
       let o = (g.0).0 in let k = (g.0).1 in let p = (h.0).0 in let n = (h.0).1 in
@@ -79,7 +79,7 @@ module _ (C : Complex) (ts : List Tie) (A : Adds (Any (λ i. Any (λ s. Any (IsT
 
   module _ (i : ℕ) (v : Vertex) (a : At C.vertices i v) where
     tied : (r s : ℕ) → r < s → s < length (sides_of v.map) → Chained (SeeOneWay v.map) r s → Chained (AreTied ts) (side_spot i r) (side_spot i s)
-    tied r s l m c = tie-chain ts (EarlierTie i s r) (side_spot i r) (side_spot i s) (A.all (EarlierTie i s r) (i, s, r, l, v, a, m, c, refl)) refl refl
+    tied r s l m c = tie-chain ts (EarlierTie i s r) (side_spot i r) (side_spot i s) (A.all (EarlierTie i s r) (i, (s, (r, (v, a, l, m, c, refl))))) refl refl
 
     either-order : (r s : ℕ) → (r ≡ s) ⊎ ((r < s) ⊎ (s < r)) → r < length (sides_of v.map) → s < length (sides_of v.map) → Chained (SeeOneWay v.map) r s → Chained (AreTied ts) (side_spot i r) (side_spot i s)
     either-order r s (inl e) l m c = subst (λ (n : ℕ). Chained (AreTied ts) (side_spot i r) (side_spot i n)) e (chain-here (AreTied ts) (side_spot i r))
@@ -115,17 +115,17 @@ module _ (i s r : ℕ) (ns : List ℕ) (l : r < s) (ts : List Tie) where
       adds-one (IsTieNumbered i ns s r) ts t (l, n, g, h, is) (λ y (m, k, p, q, w). is ∙ sym w)
 
   pub numbered-none : ((n : ℕ) × IsAt ns r n × IsAt ns s n → ⊥) → Adds (IsTieNumbered i ns s r) ts ts
-  numbered-none no = adds-none (IsTieNumbered i ns s r) ts (λ t (m, k, p, q, w). no (k, p, q))
+  numbered-none apart = adds-none (IsTieNumbered i ns s r) ts (λ t (m, k, p, q, w). apart (k, p, q))
 
 -- equal numbers are those of one sface
 module _ (c : ProgramComplex) (i : ℕ) (u : ProgramVertex) (e : slice_get c.vertices i ≡ Some u) (ns : List ℕ) (F : AreSfaces (map_of u.map) ns) where
   to-sface : (s : ℕ) (t : Tie) → Any (IsTieNumbered i ns s) t → Any (IsTieInSface (complex_of c) i s) t
-  to-sface s t (r, l, n, g, h, f) =
+  to-sface s t (r, (l, n, g, h, f)) =
       let w = is-at_within ns s n h in let m = F.as_many in
-      (r, vertex_of u, vertex-there c i u e, l, omega (arith, w, m), (F.numbered.by_class r s n n g h).0 refl, f)
+      (r, (vertex_of u, vertex-there c i u e, l, omega (arith, w, m), (F.numbered.by_class r s n n g h).0 refl, f))
 
   from-sface : (s : ℕ) (t : Tie) → Any (IsTieInSface (complex_of c) i s) t → Any (IsTieNumbered i ns s) t
-  from-sface s t (r, v, a, l, w, ch, f) =
+  from-sface s t (r, (v, a, l, w, ch, f)) =
       let M = map_of u.map in
       let one = vertex-read c i u v e a in
       let m = F.as_many in
@@ -133,13 +133,13 @@ module _ (c : ProgramComplex) (i : ℕ) (u : ProgramVertex) (e : slice_get c.ver
       let g = is-at_some ns r (omega (arith, w', m, l)) in
       let h = is-at_some ns s (omega (arith, w', m)) in
       let same = (F.numbered.by_class r s g.0 h.0 g.1 h.1).1 (subst (λ (x : Vertex). Chained (SeeOneWay x.map) r s) one ch) in
-      (r, l, h.0, subst (IsAt ns r) same g.1, h.1, f)
+      (r, (l, h.0, subst (IsAt ns r) same g.1, h.1, f))
 
   pub numbered-sface : (xs ys : List Tie) → Adds (Any (λ s. Any (IsTieNumbered i ns s))) xs ys → Adds (Any (λ s. Any (IsTieInSface (complex_of c) i s))) xs ys
   numbered-sface xs ys A = adds-as (Any (λ s. Any (IsTieNumbered i ns s))) (Any (λ s. Any (IsTieInSface (complex_of c) i s))) xs ys (λ t (s, p). (s, to-sface s t p)) (λ t (s, p). (s, from-sface s t p)) A
 
 pub numbered-below : (i : ℕ) (ns : List ℕ) (s : ℕ) (t : Tie) → Any (IsTieNumbered i ns s) t → s < length ns
-numbered-below i ns s t (r, l, n, g, h, f) = is-at_within ns s n h
+numbered-below i ns s t (r, (l, n, g, h, f)) = is-at_within ns s n h
 
 pub earlier-below : (i : ℕ) (ns : List ℕ) (s r : ℕ) (t : Tie) → IsTieNumbered i ns s r t → r < s
 earlier-below i ns s r t p = p.0

@@ -12,12 +12,13 @@ ghost use Rattle.nef_complex.specs.Complexes.{complex_of, ShowsSet};
 ghost use Rattle.nef_volumes.specs.Ties.{IsBelow, IsSpotBelow, IsTieDown, AreTiesDown};
 
 use crate::OutOfMemory;
+use crate::outside::is_outside;
 use crate::spots::spot;
 use nef_classes::{Spot, Tie};
 use nef_complex::Complex;
-use nef_geo::{Label, up};
+use nef_geo::up;
 use nef_locate::{Place, first_hit, side_above};
-use nef_smap::{SPlace, SphereMap, at, side_label};
+use nef_smap::{SPlace, SphereMap, at};
 use std::alloc::Global;
 
 // The number of the side that sees the downward direction.
@@ -56,7 +57,7 @@ fn down_tie(c: &Complex, vertex: usize) -> Option<Tie>
 {
     let map = &c.vertices.at(vertex).map;
     let side = side_downward(map);
-    if side_label(map, side) == Label::Out {
+    if is_outside(map, side) {
         return None;
     }
     let second = spot_below(c, vertex)?;

@@ -18,8 +18,8 @@ use nef_geo::Label;
 use nef_smap::{SphereMap, side_label, sides};
 use std::alloc::Global;
 
-// Whether the side with this number has the label Out.
-fn is_outside(map: &SphereMap, side: usize) -> bool
+/// Whether the side with this number has the label Out.
+pub(crate) fn is_outside(map: &SphereMap, side: usize) -> bool
     requires within { side < length (sides_of (map_of map.now)) }
     ensures out { IsTrue result ↔ ((o : Side) × IsSide (map_of map.now) side o Out) }
 {

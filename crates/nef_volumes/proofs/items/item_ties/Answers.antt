@@ -27,11 +27,11 @@ loop-tie-preserved c =
     let t : Tie = get_or is k _ in
     let now = c.loop-tie.ties.items in
     let a = c.side_tie.result in
-    let b = c.side_tie-2.result in
+    let b = c.side_tie-in-loop-tie.result in
     let one = c.push.new.self.items in
-    let two = c.push-2.new.self.items in
+    let two = c.push-in-loop-tie.new.self.items in
     let p = c.side_tie.ensures.tie in
-    let q = c.side_tie-2.ensures.tie in
+    let q = c.side_tie-in-loop-tie.ensures.tie in
     any-next (IsTieOfItems C is) k [] now two c.loop-tie.invariant
     (both-added C is k t now one two a b (is-at_get is k _ c.loop-tie-test.true) p q
     (subst (λ (ts : List Tie). Adds (λ u. IsSideTie C true t u) now ts) (sym c.in_ok-push.ensures.items) (adds-one (λ u. IsSideTie C true t u) now a p (λ u s. side_tie-one C true t a u p s)))

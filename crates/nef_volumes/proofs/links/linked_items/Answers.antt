@@ -1,13 +1,20 @@
-use Rattle.std.proofs.Common.{◌≡◌, List, ◌++◌, inl, inr, sym, ap, ◌∙◌, subst}
+use Rattle.std.proofs.Common.{◌≡◌, List, ◌++◌, inl, inr, map, sym, ap, ◌∙◌, subst}
 use Rattle.nef_classes.specs.Tables.{AreTied, AreTiedWithin}
 use Rattle.nef_classes.specs.declared.table.Tie.{Tie}
 use Rattle.nef_complex.specs.Complexes.{complex_of}
 use Rattle.nef_links.specs.Links.{LinkAlong, LinkAcross}
 use Rattle.nef_solid.specs.Complexes.{Corner}
+use Rattle.nef_parts.specs.Numbers.{count_items}
 use Rattle.nef_ties.specs.Ties.{spot_of}
 use Rattle.nef_volumes.specs.Ties.{AreTiesOf, LinkOfItems, LinkOfFacets, AreItemTies}
 use Rattle.nef_volumes.proofs.AllTies.{items-linked}
 use Rattle.nef_volumes.proofs.links.linked_items.Goals as goal
+
+pub item_ties-requires-clause-within : goal.item_ties-requires-clause-within
+item_ties-requires-clause-within c = subst (λ (ls : List Tie). AreTiedWithin (map count_items (complex_of c.args.c.now).vertices) ls) (sym c.as_slice.ensures.value) c.in_ok-along.ensures.within
+
+pub item_ties-requires-2-clause-within : goal.item_ties-requires-2-clause-within
+item_ties-requires-2-clause-within c = subst (λ (ls : List Tie). AreTiedWithin (map count_items (complex_of c.args.c.now).vertices) ls) (sym c.as_slice-2.ensures.value) c.in_ok-across.ensures.within
 
 pub returns : goal.returns
 returns c =

@@ -21,7 +21,7 @@ loop-earlier-preserved c =
     any-next (IsTieNumbered i ns s) r c.args.ties.now.items now c.if-have_same.ties.items c.loop-earlier.invariant
     (elim c.if-have_same.branch [
       | then-have_same+in_ok-push w ↦ subst (λ (ts : List Tie). Adds (IsTieNumbered i ns s r) now ts) (sym (ap (λ v. v.items) w.ties-is ∙ w.in_ok-push.ensures.items))
-          (numbered-added i s r ns c.loop-earlier-test.true now (c.have_same.ensures.same.0 w.if-have_same.true) w.spot.result w.spot-2.result w.spot.ensures.spot w.spot-2.ensures.spot)
+          (numbered-added i s r ns c.loop-earlier-test.true now (c.have_same.ensures.same.0 w.if-have_same.true) w.spot.result w.spot-then-have_same.result w.spot.ensures.spot w.spot-then-have_same.ensures.spot)
       | else-have_same w ↦ subst (λ (ts : List Tie). Adds (IsTieNumbered i ns s r) now ts) (sym (ap (λ v. v.items) w.ties-is))
           (numbered-none i s r ns c.loop-earlier-test.true now (λ p. not_true (sym w.if-have_same.false ∙ c.have_same.ensures.same.1 p)))
     ])

@@ -23,5 +23,5 @@ returns c =
     let C = complex_of c.args.c.now in
     record {
       ties = sface-tied C c.loop-vertex.ties.items (any-all (λ i. Any (λ s. Any (IsTieInSface C i s))) c.loop-vertex.vertex [] c.loop-vertex.ties.items
-          (λ k t (s, r, v, a, p). let l = vertex-within c.args.c.now k v a in omega (arith, l, c.loop-vertex-test.false, c.len-count.ensures.len)) c.loop-vertex.invariant);
+          (λ k t (s, (r, (v, a, l, m, ch, e))). let w = vertex-within c.args.c.now k v a in omega (arith, w, c.loop-vertex-test.false, c.len-count.ensures.len)) c.loop-vertex.invariant);
     }
