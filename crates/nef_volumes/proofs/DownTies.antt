@@ -24,7 +24,7 @@ module _ (C : Complex) where
   pub down-more : (n : ℕ) (ts : List Tie) (t : Tie) → IsTieDown C n t → AreDownTo C n ts → AreDownTo C (n + 1) (ts ++ t ∷ [])
   down-more n ts t p D = record {
     only = λ u c. by u (Contains-push_cases ts t u c);
-    all = λ x y L l. found x y L (less-or-last n x.vertex l);
+    all = λ x y L l. found x y L (less-or-last x.vertex n l);
   }
     where
       by : (u : Tie) → Contains ts u ⊎ (t ≡ u) → (i : ℕ) × IsTieDown C i u
@@ -38,7 +38,7 @@ module _ (C : Complex) where
   pub down-pass : (n : ℕ) (ts : List Tie) → ((x y : VertexSide) → x.vertex ≡ n → LinkDown C x y → ⊥) → AreDownTo C n ts → AreDownTo C (n + 1) ts
   down-pass n ts apart D = record {
     only = D.only;
-    all = λ x y L l. found x y L (less-or-last n x.vertex l);
+    all = λ x y L l. found x y L (less-or-last x.vertex n l);
   }
     where
       found : (x y : VertexSide) → LinkDown C x y → (x.vertex < n) ⊎ (x.vertex ≡ n) → (u : Tie) × Contains ts u × IsTieDown C x.vertex u

@@ -12,3 +12,4 @@ pub mod RowNumbers
 pub mod EndsFound
 pub mod DownTies
 pub mod OutsideSide
+pub mod VolumeLabels

@@ -3,9 +3,9 @@ use Rattle.std.proofs.Common.{◌≡◌, ℕ, suc, ◌+◌, ◌*◌, ◌<◌, �
 use Rattle.std.proofs.lemmas.Int.{ints}
 use Rattle.nef_exact.proofs.Order.{mul_pos, by_order, lt_by}
 use Rattle.nef_exact.proofs.Ring.{at, num, neg, ◌⊕◌, ◌⊖◌, ◌⊗◌}
-use Rattle.nef_space.specs.Place.{Place, Ratio, step, IsShort, InFrame, SamePlace}
+use Rattle.nef_space.specs.Place.{Place, Ratio, step, InFrame, SamePlace}
 use Rattle.nef_space.specs.Sets.{Set}
-use Rattle.nef_space.specs.Local.{Germ, Flat, IsVertex}
+use Rattle.nef_space.specs.Local.{IsShort, Germ, Flat, IsVertex}
 use Rattle.nef_space.specs.Vectors.{Vector, vector, IsDirection, dot, up}
 use Rattle.nef_space.specs.declared.label.Label.{Label}
 use Rattle.nef_space.specs.declared.label.Label.TheVariants.{Out}

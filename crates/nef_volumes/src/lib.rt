@@ -8,6 +8,7 @@
 mod below;
 mod edges;
 mod items;
+mod labels;
 mod links;
 mod numbers;
 mod outside;

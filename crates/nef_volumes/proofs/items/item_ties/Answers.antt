@@ -14,6 +14,12 @@ side_tie-requires-clause-first c = (c.requires.within c.loop-tie.tie-index _ (is
 pub side_tie-requires-clause-second : goal.side_tie-requires-clause-second
 side_tie-requires-clause-second c = (c.requires.within c.loop-tie.tie-index _ (is-at_get c.args.items.now c.loop-tie.tie-index _ c.loop-tie-test.true)).1
 
+pub side_tie-requires-in-loop-tie-clause-first : goal.side_tie-requires-in-loop-tie-clause-first
+side_tie-requires-in-loop-tie-clause-first c = (c.requires.within c.loop-tie.tie-index _ (is-at_get c.args.items.now c.loop-tie.tie-index _ c.loop-tie-test.true)).0
+
+pub side_tie-requires-in-loop-tie-clause-second : goal.side_tie-requires-in-loop-tie-clause-second
+side_tie-requires-in-loop-tie-clause-second c = (c.requires.within c.loop-tie.tie-index _ (is-at_get c.args.items.now c.loop-tie.tie-index _ c.loop-tie-test.true)).1
+
 pub loop-tie-init : goal.loop-tie-init
 loop-tie-init c =
     let C = complex_of c.args.c.now in
