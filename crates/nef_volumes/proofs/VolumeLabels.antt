@@ -152,6 +152,18 @@ module _ (C : Complex) (rows : List (List ℕ)) (N : VolumeNumbers C rows) (n : 
           E.all s m (is-at_within row s m c) c
 
 -- ---- of all rows
+-- each side has a number
+pub numbered-side : (C : Complex) (rows : List (List ℕ)) → VolumeNumbers C rows → (x : VertexSide) (l : Label) → HasSideLabel C x l → (k : ℕ) × IsVolumeOf C rows x k
+numbered-side C rows N x l (v, a, g) =
+    let S = N.shape in
+    let j = side-number v.map x.side l g in
+    let w = at-within C.vertices x.vertex v a in
+    let r = is-at_some rows x.vertex (let e = S.as_many in omega (arith, w, e)) in
+    let i = is-at_within (sides_of v.map) (number_of v.map x.side) (x.side, l) j in
+    let e = S.row x.vertex v r.0 a r.1 in
+    let q = is-at_some r.0 (number_of v.map x.side) (omega (arith, i, e)) in
+    (q.0, (number_of v.map x.side, record { vertex = v; is_vertex = a; label = l; is_side = j }, (r.0, r.1, q.1)))
+
 pub labels-of_volumes : (s : Set) (c : ProgramComplex) → ShowsSet s c → (rows : List (List ℕ)) → VolumeNumbers (complex_of c) rows → (n : ℕ) (ls : List Label) → length rows ≤ n → AreLabelsOf (complex_of c) rows n ls → AreVolumeLabels (complex_of c) rows ls
 labels-of_volumes s c S rows N n ls h D = record {
   some = λ k l a. some k l a (zero-or_more k);
@@ -163,22 +175,10 @@ labels-of_volumes s c S rows N n ls h D = record {
     zero-or_more zero = inl refl
     zero-or_more (suc k) = inr (omega arith)
 
-    -- each side has a number
-    numbered : (x : VertexSide) (l : Label) → HasSideLabel (complex_of c) x l → (k : ℕ) × IsVolumeOf (complex_of c) rows x k
-    numbered x l (v, a, g) =
-        let S = N.shape in
-        let j = side-number v.map x.side l g in
-        let w = at-within (complex_of c).vertices x.vertex v a in
-        let r = is-at_some rows x.vertex (let e = S.as_many in omega (arith, w, e)) in
-        let i = is-at_within (sides_of v.map) (number_of v.map x.side) (x.side, l) j in
-        let e = S.row x.vertex v r.0 a r.1 in
-        let q = is-at_some r.0 (number_of v.map x.side) (omega (arith, i, e)) in
-        (q.0, (number_of v.map x.side, record { vertex = v; is_vertex = a; label = l; is_side = j }, (r.0, r.1, q.1)))
-
     some : (k : ℕ) (l : Label) → IsAt ls k l → (k ≡ 0) ⊎ (1 ≤ k) → (x : VertexSide) × IsVolumeOf (complex_of c) rows x k
     some k l a (inl e) =
         let o = out-side s c S in
-        let r = numbered o.0 Out o.1 in
+        let r = numbered-side (complex_of c) rows N o.0 Out o.1 in
         let z = (N.outside o.0 r.0 Out r.1 o.1).1 refl in
         (o.0, subst (λ (m : ℕ). IsVolumeOf (complex_of c) rows o.0 m) (z ∙ sym e) r.1)
     some k l a (inr i) = let r = D.some k l a i in (r.0, r.1)
