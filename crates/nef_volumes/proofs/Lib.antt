@@ -13,3 +13,6 @@ pub mod EndsFound
 pub mod DownTies
 pub mod OutsideSide
 pub mod VolumeLabels
+pub mod FacetSides
+pub mod FacetLists
+pub mod AllParts

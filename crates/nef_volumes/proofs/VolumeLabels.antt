@@ -85,7 +85,7 @@ pub outside-first : (C : Complex) (rows : List (List ℕ)) → AreLabelsOf C row
 outside-first C rows = record { outside = refl; some = λ k l a h. absurd (let w = is-at_within (Out ∷ []) k l a in omega (arith, w, h)); all = λ i s m l a. absurd (omega (arith, l)) }
 
 module _ (C : Complex) (rows : List (List ℕ)) (N : VolumeNumbers C rows) (n : ℕ) (v : Vertex) (a : At C.vertices n v) (row : List ℕ) (e : IsAt rows n row) (ys : List Label) (D : AreLabelsOf C rows n ys) where
-  as-long : length row ≡ length (sides_of v.map)
+  pub as-long : length row ≡ length (sides_of v.map)
   as-long = let S = N.shape in S.row n v row a e
 
   -- the side with a number

@@ -5,6 +5,7 @@
 //! 2003.
 #![tactic(auto)]
 
+mod all;
 mod below;
 mod edges;
 mod items;
@@ -15,5 +16,6 @@ mod outside;
 mod sface;
 mod spots;
 
+pub use all::parts;
 pub use numbers::volume_numbers;
 pub use std::alloc::AllocError as OutOfMemory;

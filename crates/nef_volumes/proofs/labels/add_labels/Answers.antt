@@ -1,4 +1,4 @@
-use Rattle.std.proofs.Common.{◌≡◌, ◌+◌, ◌<◌, List, length, arith, sym, ap, ◌∙◌, subst}
+use Rattle.std.proofs.Common.{◌≡◌, ◌+◌, ◌<◌, List, length, get_or, arith, sym, ap, ◌∙◌, subst}
 use Rattle.nef_arc.proofs.SignNumbers.{not_true}
 use Rattle.nef_space.specs.Lists.{IsAt}
 use Rattle.nef_space.specs.declared.label.Label.{Label}
@@ -19,9 +19,9 @@ loop-side-preserved c =
     let xs = c.args.labels.now.items in
     let n = c.loop-side.side in
     let ys = c.loop-side.labels.items in
-    let m = c.index.result.now in
+    let m = get_or row n 0 in
     let h : n < length row = omega arith in
-    let a = subst (IsAt row n) (sym c.index.ensures) (is-at_get row n m h) in
+    let a = is-at_get row n 0 h in
     let e = ap (λ (ls : List Label). length ls) c.as_slice.ensures.value in
     elim c.if-is_next.branch [
       | then-is_next+in_ok-push w ↦
