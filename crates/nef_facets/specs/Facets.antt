@@ -11,7 +11,7 @@ use Rattle.nef_solid.specs.Complexes.{Vertex, Complex, Corner, IsCorner}
 use Rattle.nef_parts.specs.Cycles.{Cycles}
 use Rattle.nef_parts.specs.Numbers.{IsFacetOf, FacetNumbers, cycle_corners}
 use Rattle.nef_parts.specs.declared.parts.Cycle.{Cycle}
-use Rattle.nef_facets.specs.declared.facets.FacetParts.{FacetParts}
+use Rattle.nef_facets.specs.declared.all.FacetParts.{FacetParts}
 
 -- the facets of the complex with their numbers
 pub record IsFacetParts (C : Complex) (p : FacetParts) : Type 0 where

@@ -1,7 +1,7 @@
 //! The facets of a complex.
 #![tactic(auto)]
 
-mod facets;
+mod all;
 
-pub use facets::{FacetParts, facets};
+pub use all::{FacetParts, facets};
 pub use std::alloc::AllocError as OutOfMemory;

@@ -39,7 +39,7 @@ use Rattle.nef_locate.proofs.SamePlanes.{level-kept, opposite-same, side-turned}
 opposite-back : (d : Vector) → opposite (opposite d) ≡ d
 opposite-back d = vector-same (opposite (opposite d)) d (omega (arith, ints)) (omega (arith, ints)) (omega (arith, ints))
 
-place-trans : (p q r : Place) → SamePlace p q → SamePlace q r → SamePlace p r
+pub place-trans : (p q r : Place) → SamePlace p q → SamePlace q r → SamePlace p r
 place-trans p q r e f = factor-place p r (same-trans (of_place p) (of_place q) (of_place r) (place-factor p q e) (place-factor q r f))
 
 -- of two points ahead the one is between, or they are the same
@@ -63,37 +63,37 @@ module _ (M : Map) (V : Shaped M) (j : ℕ) (u : Svertex) (b : At M.svertices j 
   c = blend K u.way 1 f
 
   module _ (p : Place) (i : ℕ) (a : Arc) (l : At M.arcs i a) (w : SameDirection a.normal n) where
-    abbrev v : Vertex
-    v = record { point = p; map = M }
+    abbrev at_point : Vertex
+    at_point = record { point = p; map = M }
 
-    is-way : way_of M.svertices j ≡ u.way
-    is-way = way-at M.svertices j u b
+    svertex-way : way_of M.svertices j ≡ u.way
+    svertex-way = way-at M.svertices j u b
 
     listed : At (items M) i (arc_item a)
     listed = at-arc M.arcs M.loop i a l
 
-    ends : Ends M a
-    ends = ends-of M V i a l
+    arc-ends : Ends M a
+    arc-ends = ends-of M V i a l
 
     level-close : dot a.normal u.way ≡ pos 0 → dot a.normal c ≡ pos 0
     level-close z = dot-comb a.normal (pos K) u.way (pos 1) f ∙ ap (λ r. pos K *ℤ r +ℤ pos 1 *ℤ dot a.normal f) z
         ∙ ap (λ r. pos K *ℤ pos 0 +ℤ pos 1 *ℤ r) (level-kept n a.normal f (SameDirection-turned a.normal n w) level) ∙ ring (pos K ∷ []) (at 0 ⊗ num (pos 0) ⊕ num (pos 1) ⊗ num (pos 0)) (num (pos 0)) tt
 
-    turned : IsArcOnSide v j n f a → IsArcOnSide v j a.normal f a
-    turned o = side-turned v j n a.normal f f a (SameDirection-turned a.normal n w) (way-self f some) o
+    turned : IsArcOnSide at_point j n f a → IsArcOnSide at_point j a.normal f a
+    turned o = side-turned at_point j n a.normal f f a (SameDirection-turned a.normal n w) (way-self f some) o
 
-    pub met : IsArcOnSide v j n f a → OnItem M (arc_item a) c
+    pub met : IsArcOnSide at_point j n f a → OnItem M (arc_item a) c
     met o = ⊎_elim from to (turned o)
       where
         from : (a.source ≡ j) × (pos 0 <ℤ triple a.normal (way_of M.svertices j) f) → OnItem M (arc_item a) c
         from (e, h) = source-meets M V j u b f K (omega arith) i a listed
-            (level-close (subst (λ (r : Vector). dot a.normal r ≡ pos 0) is-way (subst (λ (k : ℕ). dot a.normal (way_of M.svertices k) ≡ pos 0) e ends.source_level)))
-            e (subst (λ (r : Vector). pos 0 <ℤ triple a.normal r f) is-way h)
+            (level-close (subst (λ (r : Vector). dot a.normal r ≡ pos 0) svertex-way (subst (λ (k : ℕ). dot a.normal (way_of M.svertices k) ≡ pos 0) e arc-ends.source_level)))
+            e (subst (λ (r : Vector). pos 0 <ℤ triple a.normal r f) svertex-way h)
 
         to : (a.target ≡ j) × (triple a.normal (way_of M.svertices j) f <ℤ pos 0) → OnItem M (arc_item a) c
         to (e, h) = target-meets M V j u b f K (omega arith) i a listed
-            (level-close (subst (λ (r : Vector). dot a.normal r ≡ pos 0) is-way (subst (λ (k : ℕ). dot a.normal (way_of M.svertices k) ≡ pos 0) e ends.target_level)))
-            e (subst (λ (r : Vector). triple a.normal r f <ℤ pos 0) is-way h)
+            (level-close (subst (λ (r : Vector). dot a.normal r ≡ pos 0) svertex-way (subst (λ (k : ℕ). dot a.normal (way_of M.svertices k) ≡ pos 0) e arc-ends.target_level)))
+            e (subst (λ (r : Vector). triple a.normal r f <ℤ pos 0) svertex-way h)
 
   pub one-arc : (p : Place) (i k : ℕ) (a e : Arc) → At M.arcs i a → At M.arcs k e → SameDirection a.normal n → SameDirection e.normal n
       → IsArcOnSide (record { point = p; map = M }) j n f a → IsArcOnSide (record { point = p; map = M }) j n f e → i ≡ k
@@ -115,70 +115,69 @@ module _ (s : Set) (C : Complex) (S : Shows s C) where
   shaped : (k : ℕ) (v : Vertex) → At C.vertices k v → Shaped v.map
   shaped k v a = (S.cones k v a).valid.shaped
 
-  -- the way of an edge that passes z
-  module _ (i : ℕ) (e : Edge) (a : At C.edges i e) (E : IsEdge C.vertices e) (z : Place) (b : IsBetween E.low_vertex.point z E.high_vertex.point) where
-    abbrev v : Vertex
-    v = E.low_vertex
-
-    way-is : way_of v.map.svertices e.low_svertex ≡ E.low_end.way
-    way-is = way-at v.map.svertices e.low_svertex E.low_end E.leaves
+  -- the way of an edge
+  module _ (e : Edge) (E : IsEdge C.vertices e) where
+    way-is : way_of E.low_vertex.map.svertices e.low_svertex ≡ E.low_end.way
+    way-is = way-at E.low_vertex.map.svertices e.low_svertex E.low_end E.leaves
 
     flat-on : IsZero (cross E.low_end.way E.low_end.way)
-    flat-on = (way-self E.low_end.way ((shaped e.low v E.is_low).svertex_ways e.low_svertex E.low_end E.leaves)).parallel
+    flat-on = (way-self E.low_end.way ((shaped e.low E.low_vertex E.is_low).svertex_ways e.low_svertex E.low_end E.leaves)).parallel
 
-  one-edge_through : (i k : ℕ) (e f : Edge) (E : IsEdge C.vertices e) (F : IsEdge C.vertices f) (z : Place) → At C.edges i e → At C.edges k f
-      → IsBetween E.low_vertex.point z E.high_vertex.point → IsBetween F.low_vertex.point z F.high_vertex.point → e ≡ f
-  one-edge_through i k e f E F z a c b d = by (ray-cases z p q (opposite g) (ahead-back p z g to-e) (SameDirection-trans (toward z q) (opposite h) (opposite g) (ahead-back q z h to-f) (opposite-same h g (SameDirection-turned g h ways))))
-    where
-      abbrev p : Place
-      p = E.low_vertex.point
+  module _ (i k : ℕ) (e f : Edge) (E : IsEdge C.vertices e) (F : IsEdge C.vertices f) (z : Place) (a : At C.edges i e) (c : At C.edges k f)
+      (b : IsBetween E.low_vertex.point z E.high_vertex.point) (d : IsBetween F.low_vertex.point z F.high_vertex.point) where
+    abbrev low_e : Place
+    low_e = E.low_vertex.point
 
-      abbrev q : Place
-      q = F.low_vertex.point
+    abbrev low_f : Place
+    low_f = F.low_vertex.point
 
-      abbrev g : Vector
-      g = E.low_end.way
+    abbrev way_e : Vector
+    way_e = E.low_end.way
 
-      abbrev h : Vector
-      h = F.low_end.way
+    abbrev way_f : Vector
+    way_f = F.low_end.way
 
-      to-e : SameDirection (toward p z) g
-      to-e = SameDirection-trans (toward p z) (toward p E.high_vertex.point) g (between-way p z E.high_vertex.point b) E.ahead
+    to-e : SameDirection (toward low_e z) way_e
+    to-e = SameDirection-trans (toward low_e z) (toward low_e E.high_vertex.point) way_e (between-way low_e z E.high_vertex.point b) E.ahead
 
-      to-f : SameDirection (toward q z) h
-      to-f = SameDirection-trans (toward q z) (toward q F.high_vertex.point) h (between-way q z F.high_vertex.point d) F.ahead
+    to-f : SameDirection (toward low_f z) way_f
+    to-f = SameDirection-trans (toward low_f z) (toward low_f F.high_vertex.point) way_f (between-way low_f z F.high_vertex.point d) F.ahead
 
-      ends-e : HasEnds C e E.low_vertex E.high_vertex
-      ends-e = record { low = E.is_low; high = E.is_high }
+    ends-e : HasEnds C e E.low_vertex E.high_vertex
+    ends-e = record { low = E.is_low; high = E.is_high }
 
-      ends-f : HasEnds C f F.low_vertex F.high_vertex
-      ends-f = record { low = F.is_low; high = F.is_high }
+    ends-f : HasEnds C f F.low_vertex F.high_vertex
+    ends-f = record { low = F.is_low; high = F.is_high }
 
-      parallel : IsZero (cross g h)
-      parallel =
-          let flat = ((edge-points s C k f F.low_vertex F.high_vertex z S c ends-f d).1 h).1 (subst (λ (r : Vector). IsZero (cross r h)) (sym (way-is k f c F z d)) (flat-on k f c F z d)) in
-          subst (λ (r : Vector). IsZero (cross r h)) (way-is i e a E z b) (((edge-points s C i e E.low_vertex E.high_vertex z S a ends-e b).1 h).0 flat)
+    parallel : IsZero (cross way_e way_f)
+    parallel =
+        let flat = ((edge-points s C k f F.low_vertex F.high_vertex z S c ends-f d).1 way_f).1 (subst (λ (r : Vector). IsZero (cross r way_f)) (sym (way-is f F)) (flat-on f F)) in
+        subst (λ (r : Vector). IsZero (cross r way_f)) (way-is e E) (((edge-points s C i e E.low_vertex E.high_vertex z S a ends-e b).1 way_f).0 flat)
 
-      ways : SameDirection g h
-      ways = normals-same g h (ahead-normal p E.high_vertex.point g (S.ordered e.low e.high E.low_vertex E.high_vertex E.upward E.is_low E.is_high) E.ahead)
-          (ahead-normal q F.high_vertex.point h (S.ordered f.low f.high F.low_vertex F.high_vertex F.upward F.is_low F.is_high) F.ahead) parallel
+    ways : SameDirection way_e way_f
+    ways = normals-same way_e way_f (ahead-normal low_e E.high_vertex.point way_e (S.ordered e.low e.high E.low_vertex E.high_vertex E.upward E.is_low E.is_high) E.ahead)
+        (ahead-normal low_f F.high_vertex.point way_f (S.ordered f.low f.high F.low_vertex F.high_vertex F.upward F.is_low F.is_high) F.ahead) parallel
 
-      same : SamePlace p q → e ≡ f
-      same o =
-          let n = one-vertex e.low f.low E.low_vertex F.low_vertex E.is_low F.is_low o in
-          let at-low = subst (λ (j : ℕ). At C.vertices j E.low_vertex) n E.is_low in
-          let one = at-one C.vertices f.low E.low_vertex F.low_vertex at-low F.is_low in
-          let leaves = subst (λ (x : Vertex). At x.map.svertices e.low_svertex E.low_end) one E.leaves in
-          let m = (shaped f.low F.low_vertex F.is_low).svertices_apart e.low_svertex f.low_svertex E.low_end F.low_end leaves F.leaves ways in
-          one-edge C.vertices S.ordered shaped e f E F n m
+    same : SamePlace low_e low_f → e ≡ f
+    same o =
+        let n = one-vertex e.low f.low E.low_vertex F.low_vertex E.is_low F.is_low o in
+        let at-low = subst (λ (j : ℕ). At C.vertices j E.low_vertex) n E.is_low in
+        let one = at-one C.vertices f.low E.low_vertex F.low_vertex at-low F.is_low in
+        let leaves = subst (λ (x : Vertex). At x.map.svertices e.low_svertex E.low_end) one E.leaves in
+        let m = (shaped f.low F.low_vertex F.is_low).svertices_apart e.low_svertex f.low_svertex E.low_end F.low_end leaves F.leaves ways in
+        one-edge C.vertices S.ordered shaped e f E F n m
 
-      by : IsBetween z p q ⊎ SamePlace p q ⊎ IsBetween z q p → e ≡ f
-      by (inl t) = absurd (F.first e.low E.low_vertex E.is_low (between-inner q z F.high_vertex.point p d (between-turned z q p t)))
-      by (inr (inl o)) = same o
-      by (inr (inr t)) = absurd (E.first f.low F.low_vertex F.is_low (between-inner p z E.high_vertex.point q b (between-turned z p q t)))
+    -- two edges that pass one point are one
+    pub one-edge_through : e ≡ f
+    one-edge_through = by (ray-cases z low_e low_f (opposite way_e) (ahead-back low_e z way_e to-e) (SameDirection-trans (toward z low_f) (opposite way_f) (opposite way_e) (ahead-back low_f z way_f to-f) (opposite-same way_f way_e (SameDirection-turned way_e way_f ways))))
+      where
+        by : IsBetween z low_e low_f ⊎ SamePlace low_e low_f ⊎ IsBetween z low_f low_e → e ≡ f
+        by (inl t) = absurd (F.first e.low E.low_vertex E.is_low (between-inner low_f z F.high_vertex.point low_e d (between-turned z low_f low_e t)))
+        by (inr (inl o)) = same o
+        by (inr (inr t)) = absurd (E.first f.low F.low_vertex F.is_low (between-inner low_e z E.high_vertex.point low_f b (between-turned z low_e low_f t)))
 
   -- the point of an edge is between the ends that the edge has
-  edge-inside : (k : ℕ) (z : Place) → IsEdgePoint C k z → (e : Edge) × (E : IsEdge C.vertices e) × At C.edges k e × IsBetween E.low_vertex.point z E.high_vertex.point
+  pub edge-inside : (k : ℕ) (z : Place) → IsEdgePoint C k z → (e : Edge) × (E : IsEdge C.vertices e) × At C.edges k e × IsBetween E.low_vertex.point z E.high_vertex.point
   edge-inside k z (e, v, w, a, H, b) =
       let E = S.edges.edges k e a in
       let f = at-one C.vertices e.low v E.low_vertex H.low E.is_low in
@@ -198,13 +197,13 @@ module _ (s : Set) (C : Complex) (S : Shows s C) where
     one-place (meets_edge i) (meets_vertex k) x z e (p, l) (w, b, q) c =
         let E = edge-inside i x p in
         absurd (E.1.first k w b (between-same E.1.low_vertex.point x E.1.high_vertex.point E.1.low_vertex.point w.point E.1.high_vertex.point (same-itself E.1.low_vertex.point) (same-place_sym w.point x (place-trans w.point z x q (same-place_sym x z e))) (same-itself E.1.high_vertex.point) E.3))
-    one-place (meets_edge i) (meets_edge k) x z e (p, l) (q, m) (g, v, a, t, rest) =
+    one-place (meets_edge i) (meets_edge k) x z e (p, l) (q, m) (g, u, a, t, l', b', t', w', o') =
         let E = edge-inside i x p in
         let F = edge-inside k z q in
         let b = between-same E.1.low_vertex.point x E.1.high_vertex.point E.1.low_vertex.point z E.1.high_vertex.point (same-itself E.1.low_vertex.point) e (same-itself E.1.high_vertex.point) E.3 in
         let one = one-edge_through i k E.0 F.0 E.1 F.1 z E.2 F.2 b F.3 in
         let is = at-one C.edges k F.0 g F.2 t in
-        (g, v, a, subst (λ (r : Edge). At C.edges i r) (one ∙ is) E.2, rest)
+        (g, u, a, subst (λ (r : Edge). At C.edges i r) (one ∙ is) E.2, l', b', t', w', o')
 
     pub one-met : (m n : PlaneMeet) → IsFirstInPlane C h y d m → IsFirstInPlane C h y d n → IsCornerAt C h f n j → IsCornerAt C h f m j
     one-met m n I J c = by (ray-cases y I.place J.place d I.ahead J.ahead)
