@@ -5,7 +5,7 @@ use Rattle.nef_space.specs.Sets.{Set}
 use Rattle.nef_space.specs.declared.label.Label.{Label}
 use Rattle.nef_geo.specs.declared.plane.Plane.{Plane}
 use Rattle.nef_sphere.specs.Maps.{At, Item, items, item_above, item_below}
-use Rattle.nef_smap.proofs.ClassLists.{is-at_within, is-at_some}
+use Rattle.nef_smap.proofs.ClassLists.{is-at_one, is-at_within, is-at_some}
 use Rattle.nef_smap.proofs.SideLists.{at-from_get, at-some}
 use Rattle.nef_solid.specs.Complexes.{Vertex, Complex, Corner, IsCorner}
 use Rattle.nef_solid.specs.Rays.{VertexSide, HasSideLabel}
@@ -93,3 +93,10 @@ module _ (C : Complex) (planes : List Plane) (marks : List Label) (cycles : List
       volumes = λ n l a. record { some = L.some n l a; labels = λ x m X h. L.labels n l x m a X h };
       all_volumes = λ x n X. L.all x n X;
     }
+
+-- there is an item at the first corner
+pub first-item : (C : Complex) (xs : List Cycle) → HasFirst C xs → (x : Cycle) (k : ProgramCorner) → IsAt xs 0 x → IsAt x.corners 0 k → HasItem C (corner_of k)
+first-item C xs (j, (y, a, b), h) x k e f =
+    let one = is-at_one xs 0 y x a e in
+    let same = is-at_one x.corners 0 j k (subst (λ (z : Cycle). IsAt z.corners 0 j) one b) f in
+    subst (λ (i : ProgramCorner). HasItem C (corner_of i)) same h

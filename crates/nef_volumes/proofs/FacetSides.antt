@@ -16,8 +16,8 @@ use Rattle.nef_volumes.specs.Parts.{HasItem, side_beside}
 module _ (C : Complex) where
   -- ---- there are items at linked corners
   named-item : (h : Form) (p : Place) (d : Vector) (k : Corner) → RayNames C h p d k → HasItem C k
-  named-item h p d k (meets_vertex i, I, (v, x, e, K, rest)) = (v, x, K)
-  named-item h p d k (meets_edge i, I, (e, v, a, l, f, b, t, rest)) = (v, arc_item a, record { vertex = subst (λ (n : ℕ). At C.vertices n v) (sym f) b; item = at-arc v.map.arcs v.map.loop k.item a t })
+  named-item h p d k (meets_vertex i, I, (v, x, e, K, r, o)) = (v, x, K)
+  named-item h p d k (meets_edge i, I, (e, v, a, l, f, b, t, r, o)) = (v, arc_item a, record { vertex = subst (λ (n : ℕ). At C.vertices n v) (sym f) b; item = at-arc v.map.arcs v.map.loop k.item a t })
 
   side-above : (k : Corner) (v : Vertex) (x : Item) → IsCorner C k v x → IsSideOf C (above_of k) k.vertex (above_item k.item)
   side-above k v x K = (item_above x, refl, refl, (v, K.vertex, (x, K.item, refl)))

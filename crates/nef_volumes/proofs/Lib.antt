@@ -16,3 +16,4 @@ pub mod VolumeLabels
 pub mod FacetSides
 pub mod FacetLists
 pub mod AllParts
+pub mod EqualNumbers
