@@ -102,7 +102,12 @@ pub(crate) fn add_plane(text: &mut Vec<u8>, h: &Plane) -> Result<(), OutOfMemory
 }
 
 /// Adds the labels of an item, each behind a blank: its mark, and those of its two sides.
-pub(crate) fn add_labels(text: &mut Vec<u8>, mark: Label, pos: Label, neg: Label) -> Result<(), OutOfMemory>
+pub(crate) fn add_labels(
+    text: &mut Vec<u8>,
+    mark: Label,
+    pos: Label,
+    neg: Label,
+) -> Result<(), OutOfMemory>
     ensures added { OnOk result (text.new.items ≡ text.old.items ++ blanked (label_word mark ∷ label_word pos ∷ label_word neg ∷ [])) }
 {
     add_label(text, mark)?;

@@ -52,6 +52,7 @@ more-counts cs ns rows c l H = record {
   where
     cut : length (take c (drop (total cs) ns)) ≡ c
     cut = let e = length-drop (total cs) ns in length-take c (drop (total cs) ns) ∙ omega arith
+
     by : (i n : ℕ) (r : List ℕ) → Either cs i n c → Either rows i r (take c (drop (total cs) ns)) → length r ≡ n
     by i n r (earlier a) (earlier b) = H.row i n r a b
     by i n r (earlier a) (last e f) = let h = is-at_within cs i n a in let g = H.as_many in absurd (omega arith)

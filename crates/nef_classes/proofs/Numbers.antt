@@ -44,15 +44,15 @@ module _ (counts : List ℕ) (ts : List Tie) (tied : AreTiedWithin counts ts) wh
   back x z a b (u ∷ us) (l, c) =
       ⊎_elim
       (λ h. let r = tie-of (place counts x) u h in
-          let p : Spot = r.0 in let q : Spot = r.1 in
-          let e = same-spot counts x p a (r.2) (sym (r.4)) in
-          chain-trans (AreTied ts) x q z (subst (λ (w : Spot). Chained (AreTied ts) w q) (sym e) (chain-link (AreTied ts) p q (r.6)))
-          (back q z (r.3) b us (subst (λ (n : ℕ). IsChain (AreLinked links) n us (place counts z)) (sym (r.5)) c)))
+      let p : Spot = r.0 in let q : Spot = r.1 in
+      let e = same-spot counts x p a (r.2) (sym (r.4)) in
+      chain-trans (AreTied ts) x q z (subst (λ (w : Spot). Chained (AreTied ts) w q) (sym e) (chain-link (AreTied ts) p q (r.6)))
+      (back q z (r.3) b us (subst (λ (n : ℕ). IsChain (AreLinked links) n us (place counts z)) (sym (r.5)) c)))
       (λ h. let r = tie-of u (place counts x) h in
-          let p : Spot = r.0 in let q : Spot = r.1 in
-          let e = same-spot counts x q a (r.3) (sym (r.5)) in
-          chain-trans (AreTied ts) x p z (subst (λ (w : Spot). Chained (AreTied ts) w p) (sym e) (chain-turned (AreTied ts) p q (chain-link (AreTied ts) p q (r.6))))
-          (back p z (r.2) b us (subst (λ (n : ℕ). IsChain (AreLinked links) n us (place counts z)) (sym (r.4)) c)))
+      let p : Spot = r.0 in let q : Spot = r.1 in
+      let e = same-spot counts x q a (r.3) (sym (r.5)) in
+      chain-trans (AreTied ts) x p z (subst (λ (w : Spot). Chained (AreTied ts) w p) (sym e) (chain-turned (AreTied ts) p q (chain-link (AreTied ts) p q (r.6))))
+      (back p z (r.2) b us (subst (λ (n : ℕ). IsChain (AreLinked links) n us (place counts z)) (sym (r.4)) c)))
       l
 
   chained : (x y : Spot) → IsSpotIn counts x → IsSpotIn counts y → Chained (AreLinked links) (place counts x) (place counts y) ↔ Chained (AreTied ts) x y

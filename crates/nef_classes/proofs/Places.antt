@@ -46,8 +46,8 @@ spot [] t h = absurd (omega arith)
 spot (c ∷ cs) t h =
     ⊎_elim (λ g. (zero, t, c, refl, g, omega arith))
     (λ g. let r = spot cs (t - c) (omega arith) in
-        let e = r.5 in
-        (suc (r.0), r.1, r.2, r.3, r.4, omega arith))
+    let e = r.5 in
+    (suc (r.0), r.1, r.2, r.3, r.4, omega arith))
     (less-or-not t c)
 
 pub spot-at : (cs : List ℕ) (t : ℕ) → t < total cs → (x : Spot) × IsSpotIn cs x × (place cs x ≡ t)

@@ -9,7 +9,12 @@ use nef_geo::List;
 use std::alloc::Global;
 
 // The numbers from `start` on, of which there are `count`.
-fn row_of(alloc: Global, numbers: &[usize], start: usize, count: usize) -> Result<List<usize>, OutOfMemory>
+fn row_of(
+    alloc: Global,
+    numbers: &[usize],
+    start: usize,
+    count: usize,
+) -> Result<List<usize>, OutOfMemory>
     requires within { start + count ≤ length numbers.now }
     ensures row { IfOk result (λ row. row ≡ take count (drop start numbers.now)) }
 {
@@ -18,7 +23,11 @@ fn row_of(alloc: Global, numbers: &[usize], start: usize, count: usize) -> Resul
 }
 
 /// The numbers in rows, which have `counts` of them.
-pub(crate) fn rows_of(alloc: Global, counts: &[usize], numbers: &[usize]) -> Result<List<List<usize>>, OutOfMemory>
+pub(crate) fn rows_of(
+    alloc: Global,
+    counts: &[usize],
+    numbers: &[usize],
+) -> Result<List<List<usize>>, OutOfMemory>
     requires all { length numbers.now ≡ total counts.now }
     ensures counts { IfOk result (λ rows. HasCounts counts.now rows) }
     ensures cut { IfOk result (λ rows. AreCut counts.now numbers.now rows) }

@@ -14,6 +14,10 @@ pub trait Job: Sync {
     /// The result is right for the job of this number.
     ghost right: { Self → ℕ → Self.Out → Type 0 };
 
+    /// What has to be known of the job value, so that its jobs can be worked. Nothing, where the
+    /// value's type says it all.
+    ghost workable: { Self → Type 0 } = { λ job. Unit {0} };
+
     /// Returns the number of jobs; they are numbered from 0.
     fn jobs(&self) -> u64
         ensures { result ≡ count self.now };
@@ -22,6 +26,7 @@ pub trait Job: Sync {
     ///
     /// `OutOfMemory` says that memory was wanted and not found.
     fn work(&self, alloc: Global, job: u64) -> Result<Self::Out, OutOfMemory>
-        requires { job < count self.now }
+        requires job { job < count self.now }
+        requires workable { workable self.now }
         ensures { IfOk result (λ out. right self.now job out) };
 }

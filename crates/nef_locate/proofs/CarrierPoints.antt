@@ -1,14 +1,13 @@
 -- Skeleton points lie on carriers, which no upright direction lies in; points of the closed frame where all directions are flat lie in the frame.
-use Rattle.std.proofs.Common.{◌≡◌, ℕ, zero, suc, ◌+◌, ◌*◌, ◌<◌, ◌≤◌, ℤ, pos, negsuc, neg_ℤ, ◌+ℤ◌, ◌*ℤ◌, ◌-ℤ◌, ◌<ℤ◌, nat_abs, arith, refl, ap, sym, ◌∙◌, ◌⊎◌, inl, inr, ⊎_elim, [], ◌∷◌, subst}
+use Rattle.std.proofs.Common.{◌≡◌, ℕ, ◌+◌, ◌*◌, ◌<◌, ◌≤◌, ℤ, pos, neg_ℤ, ◌+ℤ◌, ◌*ℤ◌, ◌-ℤ◌, ◌<ℤ◌, nat_abs, arith, sym, inl, inr, ⊎_elim, [], ◌∷◌, subst}
 use Rattle.std.proofs.lemmas.Int.{ints}
-use Rattle.std.proofs.Math.Nat.{mul-pos}
 use Rattle.nef_exact.specs.Signs.{nought, Lies}
 use Rattle.nef_exact.proofs.Order.{nought-is, mul_pos, mul_nonneg}
 use Rattle.nef_exact.proofs.Ring.{ring, at, num, neg, ◌⊕◌, ◌⊖◌, ◌⊗◌}
 use Rattle.nef_space.specs.Limits.{half_side}
-use Rattle.nef_space.specs.Local.{HasLabel, FlatDim}
+use Rattle.nef_space.specs.Local.{FlatDim}
 use Rattle.nef_space.specs.declared.label.Label.TheVariants.{Out}
-use Rattle.nef_space.specs.Place.{Place as PlainPlace, Form, form_at, normal_of, slope, SamePlace, InFrame, InClosedFrame, step, Ratio, IsAhead}
+use Rattle.nef_space.specs.Place.{Place as PlainPlace, Form, form_at, normal_of, slope, InFrame, InClosedFrame, step, IsAhead}
 use Rattle.nef_space.specs.Sets.{Set}
 use Rattle.nef_space.specs.Vectors.{Vector, vector, dot, opposite, up, IsDirection}
 use Rattle.nef_geo.specs.Hits.{IsUpright, IsCrossing}
@@ -24,8 +23,7 @@ use Rattle.nef_sphere.specs.Maps.{At}
 use Rattle.nef_smap.proofs.Lists.{at-map}
 use Rattle.nef_smap.proofs.Upward.{normal-ahead}
 use Rattle.nef_solid.specs.Shows.{SamePlane}
-use Rattle.nef_solid.specs.Skeleton.{Spot, at_vertex, on_edge, in_facet, IsSpot, IsSkeletonPoint}
-use Rattle.nef_solid.proofs.FacetNames.{facet-of}
+use Rattle.nef_solid.specs.Skeleton.{at_vertex, on_edge, in_facet, IsSkeletonPoint}
 use Rattle.nef_solid.proofs.Planes.{plane-turned, plane-point, plane-slope}
 use Rattle.nef_solid.proofs.FacetWays.{dim-same}
 use Rattle.nef_solid.proofs.Edges.{edge-points}

@@ -1,10 +1,10 @@
 -- What a ray along an upright direction meets in one plane, and what it meets first.
-use Rattle.std.proofs.Common.{◌≡◌, ℕ, pos, neg_ℤ, arith, ◌⊎◌, inl, inr, ⊎_elim, Option, Some, None, IfSome, [], ◌∷◌}
+use Rattle.std.proofs.Common.{◌≡◌, ℕ, neg_ℤ, arith, inl, inr, ⊎_elim, Option, Some, None, IfSome, [], ◌∷◌}
 use Rattle.std.proofs.lemmas.Int.{ints}
 use Rattle.nef_exact.proofs.Ring.{ring, at, neg, ◌⊕◌, ◌⊗◌}
 use Rattle.nef_space.specs.Place.{Place as PlainPlace, SamePlace, InClosedFrame, toward, IsAhead, IsBetween}
 use Rattle.nef_space.specs.Sets.{Set}
-use Rattle.nef_space.specs.Vectors.{Vector, IsDirection, SameDirection, dot, opposite}
+use Rattle.nef_space.specs.Vectors.{Vector, dot, opposite}
 use Rattle.nef_geo.specs.Hits.{IsUpright, IsCrossing}
 use Rattle.nef_geo.specs.Shapes.{form_of, hit_place}
 use Rattle.nef_geo.specs.declared.hit.Hit.{Hit}
@@ -14,7 +14,6 @@ use Rattle.nef_forms.proofs.Directions.{direction-left, direction-right, self-po
 use Rattle.nef_near.proofs.Alike.{FlatDim-one}
 use Rattle.nef_near.proofs.Between.{between-inner}
 use Rattle.nef_near.proofs.Frames.{flat_dim-outside}
-use Rattle.nef_near.proofs.Rays.{same-place_sym}
 use Rattle.nef_sphere.specs.Maps.{At}
 use Rattle.nef_sphere.proofs.Compare.{SameDirection-turned, SameDirection-trans}
 use Rattle.nef_solid.specs.Complexes.{Complex as PlainComplex}

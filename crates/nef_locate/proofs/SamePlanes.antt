@@ -73,7 +73,7 @@ first-same C g h y on_g on_h w d f u m I = record {
 }
 
 -- ---- corners
-opposed : (k l : ℕ) (x y : ℤ) → pos k *ℤ x ≡ pos l *ℤ y → pos k *ℤ neg_ℤ x ≡ pos l *ℤ neg_ℤ y
+pub opposed : (k l : ℕ) (x y : ℤ) → pos k *ℤ x ≡ pos l *ℤ y → pos k *ℤ neg_ℤ x ≡ pos l *ℤ neg_ℤ y
 opposed k l x y e = follows (pos k ∷ pos l ∷ x ∷ y ∷ []) (at 0 ⊗ neg (at 2)) (at 1 ⊗ neg (at 3)) (given (neg (num (pos 1))) (at 0 ⊗ at 2) (at 1 ⊗ at 3) e none) tt
 
 pub opposite-same : (d f : Vector) → SameDirection d f → SameDirection (opposite d) (opposite f)
@@ -122,12 +122,12 @@ module _ (n m : Vector) (F : SameUpToFactor (of_direction n) (of_direction m)) w
   nought-too : (k l : ℕ) (x y : ℤ) → 0 < l → pos k *ℤ x ≡ pos l *ℤ y → x ≡ pos 0 → y ≡ pos 0
   nought-too k l x y h e z = cancel_eq y (pos 0) (pos l) (some-pos l h) (ring (y ∷ pos l ∷ []) (at 0 ⊗ at 1) (at 1 ⊗ at 0) tt ∙ sym e ∙ ap (λ r. pos k *ℤ r) z ∙ ring (pos k ∷ pos l ∷ []) (at 0 ⊗ num (pos 0)) (num (pos 0) ⊗ at 1) tt)
 
-  same-test : (x y : ℤ) → pos F.k *ℤ x ≡ pos F.l *ℤ y → int_eq x (pos 0) ≡ int_eq y (pos 0)
+  pub same-test : (x y : ℤ) → pos F.k *ℤ x ≡ pos F.l *ℤ y → int_eq x (pos 0) ≡ int_eq y (pos 0)
   same-test x y e =
       let d = Decides-int_eq y (pos 0) in
       one_answer (int_eq x (pos 0)) (int_eq y (pos 0)) (Decides-int_eq x (pos 0)) (λ t. nought-too F.l F.k y x F.some_k (sym e) (d.0 t), λ z. d.1 (nought-too F.k F.l x y F.some_l e z))
 
-  alike : (int_eq n.z (pos 0) && int_eq n.y (pos 0)) ≡ (int_eq m.z (pos 0) && int_eq m.y (pos 0))
+  pub alike : (int_eq n.z (pos 0) && int_eq n.y (pos 0)) ≡ (int_eq m.z (pos 0) && int_eq m.y (pos 0))
   alike = ap (λ t. t && int_eq n.y (pos 0)) (same-test n.z m.z F.is_z) ∙ ap (λ t. int_eq m.z (pos 0) && t) (same-test n.y m.y F.is_y)
 
   axis-factor : SameUpToFactor (of_direction (plane_axis n)) (of_direction (plane_axis m))

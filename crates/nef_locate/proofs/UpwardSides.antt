@@ -1,5 +1,5 @@
 -- The numbers of the sides that see the upward direction, or what is close to a svertex toward it.
-use Rattle.std.proofs.Common.{◌≡◌, ℕ, zero, suc, ◌+◌, ◌*◌, ◌-◌, ◌<◌, ◌≤◌, ℤ, pos, negsuc, ◌<ℤ◌, arith, refl, ap, sym, ◌∙◌, ◌++◌, List, [], ◌∷◌, length, length-append, Bool, true, false, not, cond, Option, Some, None, is_some, slice_get, subst}
+use Rattle.std.proofs.Common.{◌≡◌, ℕ, zero, suc, ◌+◌, ◌*◌, ◌-◌, ◌<◌, ℤ, pos, negsuc, ◌<ℤ◌, arith, refl, ap, sym, ◌∙◌, ◌++◌, List, [], ◌∷◌, length, length-append, Bool, true, false, not, cond, Option, Some, None, is_some, slice_get, subst}
 use mir.Val.{bool_byte}
 use Rattle.std.proofs.lemmas.Int.{ints}
 use Rattle.std.proofs.lemmas.List.{length-map}
@@ -11,7 +11,7 @@ use Rattle.nef_geo.specs.declared.sign.Sign.TheVariants.{Plus}
 use Rattle.nef_space.specs.declared.label.Label.{Label}
 use Rattle.nef_near.proofs.FlatDecided.{cross-turned}
 use Rattle.nef_forms.proofs.Directions.{dot-comm}
-use Rattle.nef_sphere.specs.Maps.{At, Svertex, Arc, Loop, Map, Item, arc_item, loop_item, items_then, items, item_normal, item_above, item_below, Side, around_svertex, above_item, below_item, whole, HasSide, way_of, Shaped}
+use Rattle.nef_sphere.specs.Maps.{At, Svertex, Arc, Loop, Map, Item, arc_item, loop_item, items_then, items, item_above, item_below, Side, around_svertex, above_item, below_item, whole, HasSide, way_of, Shaped}
 use Rattle.nef_sphere.proofs.Arcs.{at-arc}
 use Rattle.nef_sphere.proofs.Forms.{on-level}
 use Rattle.nef_sphere.proofs.Lists.{at-one}

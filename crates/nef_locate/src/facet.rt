@@ -21,8 +21,8 @@ use nef_geo::{Dir, Hit, Plane, Sign, plane_axis, triple};
 use nef_plane::first_in_plane;
 use nef_smap::{SArc, SphereMap};
 
-// The direction of the plane's normal.
-fn plane_normal(h: &Plane) -> Dir
+/// The direction of the plane's normal.
+pub fn plane_normal(h: &Plane) -> Dir
     ensures normal { SameDirection (normal_of (form_of h.now)) (vector_of result) }
 {
     match Dir::of(h.a(), h.b(), h.c()) {
@@ -37,8 +37,8 @@ fn same_dir(a: &Dir, b: &Dir) -> bool
     a == b
 }
 
-// Whether the direction lies on the arc.
-fn passes(map: &SphereMap, arc: &SArc, d: &Dir) -> bool
+/// Whether the direction lies strictly on the arc, which is one of the map's.
+pub fn passes(map: &SphereMap, arc: &SArc, d: &Dir) -> bool
     requires map { IsSphereMap map.now }
     requires arc { (i : ℕ) × At (map_of map.now).arcs i (arc_of arc.now) }
     ensures on { IsTrue result ↔ OnItem (map_of map.now) (arc_item (arc_of arc.now)) (vector_of d.now) }
@@ -122,8 +122,10 @@ fn arc_beside(vertex: &Vertex, svertex: usize, normal: &Dir, d: &Dir) -> Option<
     None
 }
 
-// The corner of the plane that lies in the direction from what is met.
-fn corner_toward(c: &Complex, h: &Plane, d: &Dir, met: PlaneMeet) -> Option<Corner>
+/// The corner of the plane that lies in the direction from what is met: the vertex's item of the plane on which the direction
+/// lies, or the arc of the plane at the edge's lower end on the side of the edge to which it points. The direction is one
+/// of the plane. `None` comes exactly where there is no such corner.
+pub fn corner_toward(c: &Complex, h: &Plane, d: &Dir, met: PlaneMeet) -> Option<Corner>
     requires shows { (s : Set) × ShowsSet s c.now }
     requires met { HasMet (complex_of c.now) (meet_of met) }
     requires level { dot (normal_of (form_of h.now)) (vector_of d.now) ≡ pos 0 }

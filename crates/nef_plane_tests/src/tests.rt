@@ -10,7 +10,10 @@ fn rays_along_the_axis(rt: HostRuntime) -> Result<(), Fail> {
     let c = empty(rt.alloc())?;
     let h = Plane::read(1, 0, 0, 2048)?.plane();
     let p = hit_at(&Point::of(-2048, 0, 0, 1));
-    assert_eq!(rt; met_along_axis(&c, &h, &p), Some(Some(PlaneMeet::AtEdge(3))));
+    assert_eq!(rt;
+        met_along_axis(&c, &h, &p),
+        Some(Some(PlaneMeet::AtEdge(3)))
+    );
     let corner = hit_at(&Point::of(-2048, 2048, 2048, 1));
     assert_eq!(rt; met_along_axis(&c, &h, &corner), Some(None));
     Ok(())
@@ -23,6 +26,9 @@ fn ray_from_a_vertex(rt: HostRuntime) -> Result<(), Fail> {
     let c = empty(rt.alloc())?;
     let h = Plane::read(1, 0, 0, 2048)?.plane();
     assert!(rt; c.vertices.len() > 2);
-    assert_eq!(rt; met_from_vertex(&c, &h, 2), Some(Some(PlaneMeet::AtEdge(3))));
+    assert_eq!(rt;
+        met_from_vertex(&c, &h, 2),
+        Some(Some(PlaneMeet::AtEdge(3)))
+    );
     Ok(())
 }

@@ -16,6 +16,7 @@ fn work_all<J: Job, B: Board<J>, G: Gate>(
     gate: &G,
 ) -> B::Pass
     requires job { B.made_for board.now ≡ job.now }
+    requires workable { J.workable job.now }
     requires pass { B.belongs board.now pass × (B.hand pass ≡ None) }
     ensures pass { B.belongs board.now result × (B.hand result ≡ None) }
 {
@@ -76,6 +77,7 @@ fn filled<J: Job>(
     job: &J,
     slots: Vec<Option<J::Out>>,
 ) -> Result<Vec<J::Out>, OutOfMemory>
+    requires workable { J.workable job.now }
     requires len { vec_len slots ≡ J.count job.now }
     requires right { (i : ℕ) (out : _) → slice_get slots.items i ≡ Some (Some out) → J.right job.now i out }
     ensures len { IfOk result (λ v. vec_len v ≡ J.count job.now) }
@@ -94,10 +96,10 @@ fn filled<J: Job>(
 
 /// Works every job of the board, and returns one right result for each, in the order of the jobs.
 ///
-/// The board was made for this job value. The pass is its first one, holds nothing, and may make
-/// one for each worker. A worker claims a job, tells the gate, works the job and deposits the
-/// result; where it finds no memory it gives the job back and ends. Then the caller works what
-/// isn't done itself.
+/// The board was made for this job value, whose jobs can be worked. The pass is its first one,
+/// holds nothing, and may make one for each worker. A worker claims a job, tells the gate, works
+/// the job and deposits the result; where it finds no memory it gives the job back and ends. Then
+/// the caller works what isn't done itself.
 ///
 /// `OutOfMemory` says that the caller wanted memory and found none; the results are gone then.
 pub fn finish<R: Threads + Sync, J: Job, B: Board<J>, G: Gate + Sync>(
@@ -110,6 +112,7 @@ pub fn finish<R: Threads + Sync, J: Job, B: Board<J>, G: Gate + Sync>(
     gate: &G,
 ) -> Result<Vec<J::Out>, OutOfMemory>
     requires job { B.made_for board ≡ job.now }
+    requires workable { J.workable job.now }
     requires pass { B.belongs board pass × (B.hand pass ≡ None) }
     requires workers { workers ≤ B.spare pass }
     ensures len { IfOk result (λ v. vec_len v ≡ J.count job.now) }
@@ -121,7 +124,7 @@ pub fn finish<R: Threads + Sync, J: Job, B: Board<J>, G: Gate + Sync>(
         rt,
         passes,
         &|mine: B::Pass| -> B::Pass
-            requires { (B.made_for shared.now ≡ job.now) × B.belongs shared.now mine × (B.hand mine ≡ None) }
+            requires { (B.made_for shared.now ≡ job.now) × J.workable job.now × B.belongs shared.now mine × (B.hand mine ≡ None) }
             ensures { B.belongs shared.entry.now result × (B.hand result ≡ None) }
         { work_all(alloc, shared, mine, job, gate) },
     )?;

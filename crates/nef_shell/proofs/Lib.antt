@@ -1,5 +1,5 @@
-pub mod Nodes
 pub mod Meaning
 pub mod Refusals
+pub mod Complexes
 pub mod Outputs
 pub mod Statuses

@@ -1,9 +1,9 @@
--- What the meaning of a script says of its nodes and commands: which of them are built, and that each node is bound by a command.
-use Rattle.std.proofs.Common.{◌≡◌, ℕ, zero, suc, ◌+◌, ◌<◌, ◌≤◌, arith, refl, ap, sym, ◌∙◌, subst, List, [], ◌∷◌, ◌++◌, length, get_or, take, Option, Some, None, Bool, true, false, not, cond, nat_eq, ◌⊎◌, inl, inr, append_assoc, append-nil, length-append, add-zero}
-use Rattle.std.specs.Prelude.{slice_get, slice_index_or, position, find, filter, option_map, All}
+-- What the meaning of an accepted script says of its commands: which of them are built, and that each can be worked after those before it.
+use Rattle.std.proofs.Common.{◌≡◌, ℕ, zero, suc, ◌+◌, ◌<◌, arith, refl, ap, sym, ◌∙◌, subst, List, [], ◌∷◌, ◌++◌, length, take, Option, Some, None, Bool, true, false, not, cond, inl, inr, append_assoc, append-nil, length-append}
+use Rattle.std.specs.Prelude.{slice_get, slice_index_or, find, filter, option_map}
 use Rattle.std.specs.List.{position_from}
 use Rattle.std.specs.Str.{bytes_eq}
-use Rattle.std.proofs.lemmas.Bool.{false≢true, not-true, not-false, eqb-true, cases_lt}
+use Rattle.std.proofs.lemmas.Bool.{not-false, eqb-true}
 use Rattle.std.proofs.lemmas.List.Elements.{filter-append}
 use Rattle.std.proofs.lemmas.List.Quantifiers.{position-Some}
 use Rattle.std.proofs.lemmas.Option.{slice_get_within, get_or_from_slice_get}
@@ -12,98 +12,118 @@ use Rattle.nef_lex.specs.Lines.{lines_of}
 use Rattle.nef_lex.specs.Words.{words_of}
 use Rattle.nef_expr.specs.declared.nodes.Node.{Node}
 use Rattle.nef_expr.specs.declared.nodes.Node.TheVariants as node
-use Rattle.nef_expr.specs.Nodes.{NamesBelow, node_set}
-use Rattle.nef_expr.specs.Plain.{IsPlain}
+use Rattle.nef_expr.specs.Nodes.{NamesBelow}
+use Rattle.nef_script.specs.Checks.{command_in}
 use Rattle.nef_script.specs.Table.{verb_of, binds}
 use Rattle.nef_script.specs.Tests.{on_verb, on_command}
-use Rattle.nef_script.specs.Refusal.{names_of, bound_name}
-use Rattle.nef_script.specs.Meaning.{Names, IsNode, IsQuestion, MeansCommand, MeansWords, has_words, MeansLines, MeansScript, IsWithin}
+use Rattle.nef_script.specs.Refusal.{names_of, bound_name, line_refusal, Passes, IsAccepted}
+use Rattle.nef_script.specs.Meaning.{Names, IsNode, IsQuestion, MeansCommand, MeansWords, has_words, MeansLines, MeansScript}
 use Rattle.nef_script.specs.declared.table.Verb.{Verb}
 use Rattle.nef_script.specs.declared.table.Verb.TheVariants as verb
 use Rattle.nef_script.specs.declared.script.Command.{Command}
 use Rattle.nef_script.specs.declared.script.Command.TheVariants.{Bind, Has, Same, Count, Print}
+use Rattle.nef_script.proofs.Adding.{Fits-from, some_word}
 use Rattle.nef_shell.specs.Built.{is_built, is_unbuilt, first_unbuilt}
-use Rattle.nef_shell.specs.Commands.{is_built_node, is_built_command, line_of, IsWorkable}
-use Rattle.nef_shell.proofs.Nodes.{IsBuiltAt, nodes-plain}
+use Rattle.nef_shell.specs.Commands.{is_built_command, line_of, IsOperand, LooksAt, Binds, bound_by, IsWorkable, AreWorkable}
 
 -- the command isn't built yet
-abbrev pub unbuilt : List Node → Command → Bool
-unbuilt nodes c = not (is_built_command nodes c)
+abbrev pub unbuilt : Command → Bool
+unbuilt c = not (is_built_command c)
 
 -- a name's place is among the names
 names-below : (names : List (List ℕ)) (word : List ℕ) (i : ℕ) → Names names word i → i < length names
 names-below names word i h = (position-Some (bytes_eq word) names i [] h).0
 
--- the node of a line names earlier nodes, and is built exactly where its command is
-node-facts : (names : List (List ℕ)) (v : Verb) (args : List (List ℕ)) (n : Node) → IsNode names v args n → NamesBelow (length names) n × (is_built_node n ≡ is_built v)
-node-facts names verb.Half (name ∷ a ∷ b ∷ c ∷ d ∷ mode ∷ []) n (o, is, given) = (rw is tt, ap is_built_node is)
-node-facts names verb.Empty args n is = (rw is tt, ap is_built_node is)
-node-facts names verb.Full args n is = (rw is tt, ap is_built_node is)
-node-facts names verb.And (name ∷ left ∷ right ∷ []) n (i, j, p, q, is) = (rw is (names-below names left i p, names-below names right j q), ap is_built_node is)
-node-facts names verb.Or (name ∷ left ∷ right ∷ []) n (i, j, p, q, is) = (rw is (names-below names left i p, names-below names right j q), ap is_built_node is)
-node-facts names verb.Diff (name ∷ left ∷ right ∷ []) n (i, j, p, q, is) = (rw is (names-below names left i p, names-below names right j q), ap is_built_node is)
-node-facts names verb.Xor (name ∷ left ∷ right ∷ []) n (i, j, p, q, is) = (rw is (names-below names left i p, names-below names right j q), ap is_built_node is)
-node-facts names verb.Not (name ∷ operand ∷ []) n (i, p, is) = (rw is (names-below names operand i p), ap is_built_node is)
-node-facts names verb.Int (name ∷ operand ∷ []) n (i, p, is) = (rw is (names-below names operand i p), ap is_built_node is)
-node-facts names verb.Cl (name ∷ operand ∷ []) n (i, p, is) = (rw is (names-below names operand i p), ap is_built_node is)
-node-facts names verb.Bd (name ∷ operand ∷ []) n (i, p, is) = (rw is (names-below names operand i p), ap is_built_node is)
-node-facts names verb.Reg (name ∷ operand ∷ []) n (i, p, is) = (rw is (names-below names operand i p), ap is_built_node is)
+-- the operands of a node that names nodes below n are below n
+operand-below : (n k : ℕ) (m : Node) → NamesBelow n m → IsOperand k m → k < n
+operand-below n k (node.Half o c) below is = absurd is
+operand-below n k node.Empty below is = absurd is
+operand-below n k node.Full below is = absurd is
+operand-below n k (node.And i j) below is = elim is [ inl e ↦ rw e below.0 | inr e ↦ rw e below.1 ]
+operand-below n k (node.Or i j) below is = elim is [ inl e ↦ rw e below.0 | inr e ↦ rw e below.1 ]
+operand-below n k (node.Diff i j) below is = elim is [ inl e ↦ rw e below.0 | inr e ↦ rw e below.1 ]
+operand-below n k (node.Xor i j) below is = elim is [ inl e ↦ rw e below.0 | inr e ↦ rw e below.1 ]
+operand-below n k (node.Not i) below is = rw is below
+operand-below n k (node.Int i) below is = rw is below
+operand-below n k (node.Cl i) below is = rw is below
+operand-below n k (node.Bd i) below is = rw is below
+operand-below n k (node.Reg i) below is = rw is below
+
+-- the node of a line names earlier nodes, and its command is built
+node-facts : (names : List (List ℕ)) (v : Verb) (args : List (List ℕ)) (n : Node) → IsNode names v args n → NamesBelow (length names) n × (is_built v ≡ true)
+node-facts names verb.Half (name ∷ a ∷ b ∷ c ∷ d ∷ mode ∷ []) n (o, is, given) = (rw is tt, refl)
+node-facts names verb.Empty args n is = (rw is tt, refl)
+node-facts names verb.Full args n is = (rw is tt, refl)
+node-facts names verb.And (name ∷ left ∷ right ∷ []) n (i, j, p, q, is) = (rw is (names-below names left i p, names-below names right j q), refl)
+node-facts names verb.Or (name ∷ left ∷ right ∷ []) n (i, j, p, q, is) = (rw is (names-below names left i p, names-below names right j q), refl)
+node-facts names verb.Diff (name ∷ left ∷ right ∷ []) n (i, j, p, q, is) = (rw is (names-below names left i p, names-below names right j q), refl)
+node-facts names verb.Xor (name ∷ left ∷ right ∷ []) n (i, j, p, q, is) = (rw is (names-below names left i p, names-below names right j q), refl)
+node-facts names verb.Not (name ∷ operand ∷ []) n (i, p, is) = (rw is (names-below names operand i p), refl)
+node-facts names verb.Int (name ∷ operand ∷ []) n (i, p, is) = (rw is (names-below names operand i p), refl)
+node-facts names verb.Cl (name ∷ operand ∷ []) n (i, p, is) = (rw is (names-below names operand i p), refl)
+node-facts names verb.Bd (name ∷ operand ∷ []) n (i, p, is) = (rw is (names-below names operand i p), refl)
+node-facts names verb.Reg (name ∷ operand ∷ []) n (i, p, is) = (rw is (names-below names operand i p), refl)
 node-facts names v args n h = absurd h
 
--- the command of a line that asks is of that line, and is built exactly where its word is
-question-facts : (names : List (List ℕ)) (nodes : List Node) (line : ℕ) (v : Verb) (args : List (List ℕ)) (c : Command) → IsQuestion names line v args c → (line_of c ≡ line) × (is_built_command nodes c ≡ is_built v)
-question-facts names nodes line verb.Has (name ∷ x ∷ y ∷ z ∷ w ∷ []) c (k, p, at, quotient, is) = (ap line_of is, ap (is_built_command nodes) is)
-question-facts names nodes line verb.Same (left ∷ right ∷ []) c (i, j, p, q, is) = (ap line_of is, ap (is_built_command nodes) is)
-question-facts names nodes line verb.Count (name ∷ []) c (k, at, is) = (ap line_of is, ap (is_built_command nodes) is)
-question-facts names nodes line verb.Print (name ∷ []) c (k, at, is) = (ap line_of is, ap (is_built_command nodes) is)
-question-facts names nodes line v args c h = absurd h
-
--- the next node, after those of the names, is bound by a command
-pub record IsBound (nodes : List Node) (names : List (List ℕ)) (c : Command) : Type 0 where
-  pub node : Node
-  pub is : slice_get nodes (length names) ≡ Some node
-  pub below : NamesBelow (length names) node
-  pub same : is_built_node node ≡ is_built_command nodes c
-
--- what the meaning of a line says of its command
+-- what the meaning of a line says of its command: its line, whether it is built, the node that it binds, and the nodes that it looks at
 record Facts (nodes : List Node) (names : List (List ℕ)) (line : ℕ) (v : Verb) (binding : Bool) (c : Command) : Type 0 where
   line_is : line_of c ≡ line
-  same : is_built_command nodes c ≡ is_built v
-  bound : binding ≡ true → IsBound nodes names c
+  same : is_built_command c ≡ is_built v
+  count : cond binding 1 0 ≡ bound_by (c ∷ [])
+  next : (k : ℕ) → Binds c k → (k ≡ length names) × (k < length nodes)
+  earlier : (k : ℕ) → LooksAt nodes c k → k < length names
+
+question-facts : (names : List (List ℕ)) (nodes : List Node) (line : ℕ) (v : Verb) (args : List (List ℕ)) (c : Command) → IsQuestion names line v args c → Facts nodes names line v false c
+question-facts names nodes line verb.Has (name ∷ x ∷ y ∷ z ∷ w ∷ []) c (k, p, at, quotient, is) =
+    rw is (record { line_is = refl; same = refl; count = refl; next = λ j b. absurd b; earlier = λ j e. rw e (names-below names name k at) })
+question-facts names nodes line verb.Same (left ∷ right ∷ []) c (i, j, p, q, is) =
+    rw is (record { line_is = refl; same = refl; count = refl; next = λ k b. absurd b; earlier = λ k s. elim s [ inl e ↦ rw e (names-below names left i p) | inr e ↦ rw e (names-below names right j q) ] })
+question-facts names nodes line verb.Count (name ∷ []) c (k, at, is) =
+    rw is (record { line_is = refl; same = refl; count = refl; next = λ j b. absurd b; earlier = λ j e. rw e (names-below names name k at) })
+question-facts names nodes line verb.Print (name ∷ []) c (k, at, is) =
+    rw is (record { line_is = refl; same = refl; count = refl; next = λ j b. absurd b; earlier = λ j e. rw e (names-below names name k at) })
+question-facts names nodes line v args c h = absurd h
 
 command-facts : (names : List (List ℕ)) (line : ℕ) (v : Verb) (args : List (List ℕ)) (binding : Bool) (nodes : List Node) (c : Command) → MeansCommand names line v args binding nodes c → Facts nodes names line v binding c
 command-facts names line v args true nodes c (n, at, is, command_is) =
     let facts = node-facts names v args n is in
     let read : slice_index_or nodes (length names) node.Empty ≡ n = get_or_from_slice_get nodes (length names) n node.Empty at in
-    let same : is_built_command nodes c ≡ is_built_node n = ap (is_built_command nodes) command_is ∙ ap is_built_node read in
-    record {
-      line_is = ap line_of command_is;
-      same = same ∙ facts.1;
-      bound = λ _. record { node = n; is = at; below = facts.0; same = sym same };
-    }
-command-facts names line v args false nodes c h =
-    let facts = question-facts names nodes line v args c h in
-    record { line_is = facts.0; same = facts.1; bound = λ e. absurd (false≢true e) }
+    rw command_is (record {
+      line_is = refl;
+      same = sym facts.1;
+      count = refl;
+      next = λ k e. (e, rw e (slice_get_within nodes (length names) n at));
+      earlier = λ k o. operand-below (length names) k n facts.0 (subst (IsOperand k) read o);
+    })
+command-facts names line v args false nodes c h = question-facts names nodes line v args c h
 
--- the same of the words of a line: the line is unbuilt exactly where its command is, and binds at most one name
+-- the same of the words of a line that isn't refused: the line is unbuilt exactly where its command is, and binds a name exactly where its command does
 pub record IsCommandOf (nodes : List Node) (names : List (List ℕ)) (line : ℕ) (words : List (List ℕ)) (c : Command) : Type 0 where
   pub line_is : line_of c ≡ line
-  pub same : on_command (λ v args. not (is_built v)) words ≡ unbuilt nodes c
-  pub bound : (bound_name words ≡ []) ⊎ ((length (bound_name words) ≡ 1) × IsBound nodes names c)
+  pub same : on_command (λ v args. not (is_built v)) words ≡ unbuilt c
+  pub count : length (bound_name words) ≡ bound_by (c ∷ [])
+  pub next : (k : ℕ) → Binds c k → (k ≡ length names) × (k < length nodes)
+  pub earlier : (k : ℕ) → LooksAt nodes c k → k < length names
 
-bound-names : (nodes : List Node) (names : List (List ℕ)) (word : List ℕ) (args : List (List ℕ)) (binding : Bool) (c : Command) → on_verb binds (verb_of word) ≡ binding → (binding ≡ true → IsBound nodes names c) → (bound_name (word ∷ args) ≡ []) ⊎ ((length (bound_name (word ∷ args)) ≡ 1) × IsBound nodes names c)
-bound-names nodes names word [] binding c is bound = inl refl
-bound-names nodes names word (name ∷ rest) true c is bound = inr (ap (λ b. length (cond b (name ∷ []) [])) is, bound refl)
-bound-names nodes names word (name ∷ rest) false c is bound = inl (ap (λ b. cond b (name ∷ []) []) is)
+-- a command that binds a name has a word after it
+bound-count : (word : List ℕ) (args : List (List ℕ)) (binding : Bool) → on_verb binds (verb_of word) ≡ binding → (binding ≡ true → 0 < length args) → length (bound_name (word ∷ args)) ≡ cond binding 1 0
+bound-count word [] true is some = absurd (let z = some refl in omega arith)
+bound-count word [] false is some = refl
+bound-count word (name ∷ rest) true is some = ap (λ b. length (cond b (name ∷ []) [])) is
+bound-count word (name ∷ rest) false is some = ap (λ b. length (cond b (name ∷ []) [])) is
 
-words-facts : (nodes : List Node) (names : List (List ℕ)) (line : ℕ) (words : List (List ℕ)) (c : Command) → MeansWords names line words nodes c → IsCommandOf nodes names line words c
-words-facts nodes names line [] c h = absurd h
-words-facts nodes names line (word ∷ args) c (v, is, means) =
+words-facts : (nodes : List Node) (names : List (List ℕ)) (line : ℕ) (text : List ℕ) (words : List (List ℕ)) (c : Command) → words_of text ≡ words → line_refusal names text ≡ None → MeansWords names line words nodes c → IsCommandOf nodes names line words c
+words-facts nodes names line text [] c of passes h = absurd h
+words-facts nodes names line text (word ∷ args) c of passes (v, is, means) =
     let facts = command-facts names line v args (binds v) nodes c means in
+    let command : command_in (words_of text) ≡ Some (v, args) = ap command_in of ∙ ap (option_map (λ u. (u, args))) is in
+    let fits = Fits-from names text v args passes command in
     record {
       line_is = facts.line_is;
       same = ap (on_verb (λ u. not (is_built u))) is ∙ ap not (sym facts.same);
-      bound = bound-names nodes names word args (binds v) c (ap (on_verb binds) is) facts.bound;
+      count = bound-count word args (binds v) (ap (on_verb binds) is) (some_word names v args fits) ∙ facts.count;
+      next = facts.next;
+      earlier = facts.earlier;
     }
 
 -- lines beside their commands, where the names are bound already and the lines' numbers begin after n
@@ -139,8 +159,8 @@ slice_get-end (x ∷ xs) y e = slice_get-end xs y e
 goes-on :
     (nodes : List Node) (before : List (List ℕ)) (line : List ℕ) (lines : List (List ℕ)) (done cs : List Command)
     → ((ds es : List Command) → length ds ≡ length (filter has_words (before ++ line ∷ [])) → MeansLines ((before ++ line ∷ []) ++ lines) nodes (ds ++ es) → Goes nodes (names_of (before ++ line ∷ [])) (length (before ++ line ∷ [])) lines es)
-    → length done ≡ length (filter has_words before) → MeansLines (before ++ line ∷ lines) nodes (done ++ cs) → (b : Bool) → has_words line ≡ b → Goes nodes (names_of before) (length before) (line ∷ lines) cs
-goes-on nodes before line lines done cs rest count h b e = by_words cs b e h
+    → length done ≡ length (filter has_words before) → line_refusal (names_of before) line ≡ None → MeansLines (before ++ line ∷ lines) nodes (done ++ cs) → (b : Bool) → has_words line ≡ b → Goes nodes (names_of before) (length before) (line ∷ lines) cs
+goes-on nodes before line lines done cs rest count quiet h b e = by_words cs b e h
   where
     next : List (List ℕ)
     next = before ++ line ∷ []
@@ -166,7 +186,7 @@ goes-on nodes before line lines done cs rest count h b e = by_words cs b e h
         let same : c ≡ d = let seam = slice_get-seam done d es in cc in
         let as_many : length (done ++ d ∷ []) ≡ length (filter has_words (before ++ line ∷ [])) = let f = filtered true is in omega (arith, length-append {A = Command}) in
         let after = rest (done ++ d ∷ []) es as_many (subst (λ z. MeansLines z nodes ((done ++ d ∷ []) ++ es)) regroup (subst (λ z. MeansLines (before ++ line ∷ lines) nodes z) (sym (append_assoc done (d ∷ []) es)) means)) in
-        works (names_of before) (length before) line lines d es (subst (λ z. IsCommandOf nodes (names_of before) (length before + 1) (words_of line) z) same (words-facts nodes (names_of before) (length before + 1) (words_of line) c words_mean))
+        works (names_of before) (length before) line lines d es (subst (λ z. IsCommandOf nodes (names_of before) (length before + 1) (words_of line) z) same (words-facts nodes (names_of before) (length before + 1) line (words_of line) c refl quiet words_mean))
         (subst (λ z. Goes nodes z (length before + 1) lines es) names_next (subst (λ z. Goes nodes (names_of (before ++ line ∷ [])) z lines es) length_next after))
 
     by_words : (es : List Command) (t : Bool) → has_words line ≡ t → MeansLines (before ++ line ∷ lines) nodes (done ++ es) → Goes nodes (names_of before) (length before) (line ∷ lines) es
@@ -183,35 +203,51 @@ goes-on nodes before line lines done cs rest count h b e = by_words cs b e h
         let words_mean : MeansWords (names_of before) (length before + 1) (words_of line) nodes each.0 = subst (λ z. MeansWords (names_of z) (length before + 1) (words_of line) nodes each.0) front each.2 in
         with_command es each.0 at words_mean is means
 
+-- none of the lines is refused
+abbrev Accepted : List (List ℕ) → List (List ℕ) → Type 0
+Accepted before lines = Passes (before ++ lines) (length (before ++ lines))
+
+-- not the next one either
+accepted-here : (before : List (List ℕ)) (line : List ℕ) (lines : List (List ℕ)) → Accepted before (line ∷ lines) → line_refusal (names_of before) line ≡ None
+accepted-here before line lines accepted =
+    let here = accepted (length before) (omega (arith, length-append {A = List ℕ})) in
+    let found : Some here.0 ≡ Some line = sym here.1 ∙ slice_get-seam before line lines in
+    let same : here.0 ≡ line = cc in
+    subst (λ z. line_refusal (names_of z) line ≡ None) (take-append_seam before (line ∷ lines))
+    (subst (λ z. line_refusal (names_of (take (length before) (before ++ line ∷ lines))) z ≡ None) same here.2)
+
 -- the meaning of the lines, line by line
-goes : (nodes : List Node) (before lines : List (List ℕ)) (done cs : List Command) → length done ≡ length (filter has_words before) → MeansLines (before ++ lines) nodes (done ++ cs) → Goes nodes (names_of before) (length before) lines cs
-goes nodes before [] done [] count h = ends (names_of before) (length before)
-goes nodes before [] done (c ∷ cs) count h =
+goes : (nodes : List Node) (before lines : List (List ℕ)) (done cs : List Command) → length done ≡ length (filter has_words before) → Accepted before lines → MeansLines (before ++ lines) nodes (done ++ cs) → Goes nodes (names_of before) (length before) lines cs
+goes nodes before [] done [] count accepted h = ends (names_of before) (length before)
+goes nodes before [] done (c ∷ cs) count accepted h =
     let all : length (done ++ c ∷ cs) ≡ length (filter has_words before) = h.command_count ∙ ap (λ z. length (filter has_words z)) (append-nil before) in
     absurd (omega (arith, length-append {A = Command}))
-goes nodes before (line ∷ lines) done cs count h = goes-on nodes before line lines done cs (λ ds es. goes nodes (before ++ line ∷ []) lines ds es) count h (has_words line) refl
+goes nodes before (line ∷ lines) done cs count accepted h =
+    let regroup : before ++ line ∷ lines ≡ (before ++ line ∷ []) ++ lines = sym (append_assoc before (line ∷ []) lines) in
+    let after : Accepted (before ++ line ∷ []) lines = subst (λ z. Passes z (length z)) regroup accepted in
+    goes-on nodes before line lines done cs (λ ds es n. goes nodes (before ++ line ∷ []) lines ds es n after) count (accepted-here before line lines accepted) h (has_words line) refl
 
-script-goes : (bytes : List ℕ) (nodes : List Node) (commands : List Command) → MeansScript bytes nodes commands → Goes nodes [] 0 (lines_of bytes) commands
-script-goes bytes nodes commands h = goes nodes [] (lines_of bytes) [] commands refl h
+script-goes : (bytes : List ℕ) (nodes : List Node) (commands : List Command) → IsAccepted bytes → MeansScript bytes nodes commands → Goes nodes [] 0 (lines_of bytes) commands
+script-goes bytes nodes commands accepted h = goes nodes [] (lines_of bytes) [] commands refl accepted.passes h
 
 -- the first unbuilt line is that of the first unbuilt command
-unbuilt-agrees : (nodes : List Node) (names : List (List ℕ)) (n : ℕ) (lines : List (List ℕ)) (cs : List Command) → Goes nodes names n lines cs → position_from is_unbuilt (n + 1) lines ≡ option_map line_of (find (unbuilt nodes) cs)
+unbuilt-agrees : (nodes : List Node) (names : List (List ℕ)) (n : ℕ) (lines : List (List ℕ)) (cs : List Command) → Goes nodes names n lines cs → position_from is_unbuilt (n + 1) lines ≡ option_map line_of (find unbuilt cs)
 unbuilt-agrees nodes _ _ _ _ (ends names n) = refl
 unbuilt-agrees nodes _ _ _ _ (passes names n line more cs none after) =
     let e : is_unbuilt line ≡ false = ap (on_command (λ v args. not (is_built v))) none in
     ap (λ b. cond b (Some (n + 1)) (position_from is_unbuilt (n + 1 + 1) more)) e ∙ unbuilt-agrees nodes names (n + 1) more cs after
 unbuilt-agrees nodes _ _ _ _ (works names n line more c ds is after) =
-    let here : is_unbuilt line ≡ unbuilt nodes c = is.same in
+    let here : is_unbuilt line ≡ unbuilt c = is.same in
     let rest = unbuilt-agrees nodes (names ++ bound_name (words_of line)) (n + 1) more ds after in
-    ap (λ b. cond b (Some (n + 1)) (position_from is_unbuilt (n + 1 + 1) more)) here ∙ on_test (unbuilt nodes c) (n + 1) c _ _ is.line_is rest
+    ap (λ b. cond b (Some (n + 1)) (position_from is_unbuilt (n + 1 + 1) more)) here ∙ on_test (unbuilt c) (n + 1) c _ _ is.line_is rest
   where
     on_test : (b : Bool) (line : ℕ) (c : Command) (later : Option ℕ) (found : Option Command) → line_of c ≡ line → later ≡ option_map line_of found → cond b (Some line) later ≡ option_map line_of (cond b (Some c) found)
     on_test true line c later found e f = ap Some (sym e)
     on_test false line c later found e f = f
 
 -- where the first unbuilt command is, the first unbuilt line is
-pub first_unbuilt-agrees : (bytes : List ℕ) (nodes : List Node) (commands : List Command) → MeansScript bytes nodes commands → first_unbuilt bytes ≡ option_map line_of (find (unbuilt nodes) commands)
-first_unbuilt-agrees bytes nodes commands h = unbuilt-agrees nodes [] 0 (lines_of bytes) commands (script-goes bytes nodes commands h)
+pub first_unbuilt-agrees : (bytes : List ℕ) (nodes : List Node) (commands : List Command) → IsAccepted bytes → MeansScript bytes nodes commands → first_unbuilt bytes ≡ option_map line_of (find unbuilt commands)
+first_unbuilt-agrees bytes nodes commands accepted h = unbuilt-agrees nodes [] 0 (lines_of bytes) commands (script-goes bytes nodes commands accepted h)
 
 -- none is found among the first and the others
 find-none_first : (p : Command → Bool) (c : Command) (cs : List Command) → find p (c ∷ cs) ≡ None → p c ≡ false
@@ -228,53 +264,38 @@ find-none_rest p c cs e = by_test (p c) e
     by_test false f = f
     by_test true f = cc
 
--- each node is bound by a command; where all commands are built it is built
-nodes-built : (nodes : List Node) (names : List (List ℕ)) (n : ℕ) (lines : List (List ℕ)) (cs : List Command) → Goes nodes names n lines cs → find (unbuilt nodes) cs ≡ None → (k : ℕ) → length names ≤ k → k < length names + length (names_of lines) → IsBuiltAt nodes k
-nodes-built nodes _ _ _ _ (ends names n) built k from to = absurd (omega arith)
-nodes-built nodes _ _ _ _ (passes names n line more cs none after) built k from to =
-    let count : length (names_of (line ∷ more)) ≡ length (names_of more) = ap (λ z. length (bound_name z ++ names_of more)) none in
-    nodes-built nodes names (n + 1) more cs after built k from (omega arith)
-nodes-built nodes _ _ _ _ (works names n line more c ds is after) built k from to =
+-- the commands bind as many names as the first and the others
+pub bound_by-cons : (c : Command) (cs : List Command) → bound_by (c ∷ cs) ≡ bound_by (c ∷ []) + bound_by cs
+bound_by-cons (Bind line k) cs = omega arith
+bound_by-cons (Has line k p) cs = omega arith
+bound_by-cons (Same line i j) cs = omega arith
+bound_by-cons (Count line k) cs = omega arith
+bound_by-cons (Print line k name) cs = omega arith
+
+pub bound_by-push : (cs : List Command) (c : Command) → bound_by (cs ++ c ∷ []) ≡ bound_by cs + bound_by (c ∷ [])
+bound_by-push [] c = omega arith
+bound_by-push (d ∷ cs) c = omega (arith, bound_by-cons d (cs ++ c ∷ []), bound_by-cons d cs, bound_by-push cs c)
+
+-- where all commands are built, each can be worked after those before it
+each-workable : (nodes : List Node) (names : List (List ℕ)) (n : ℕ) (lines : List (List ℕ)) (cs : List Command) → Goes nodes names n lines cs → find unbuilt cs ≡ None → (i : ℕ) (d : Command) → slice_get cs i ≡ Some d → IsWorkable nodes (length names + bound_by (take i cs)) d
+each-workable nodes _ _ _ _ (ends names n) none i d at = cc
+each-workable nodes _ _ _ _ (passes names n line more cs empty after) none i d at = each-workable nodes names (n + 1) more cs after none i d at
+each-workable nodes _ _ _ _ (works names n line more c ds is after) none zero d at =
+    let same : c ≡ d = cc in
+    let here : length names ≡ length names + bound_by [] = omega arith in
+    subst (λ z. IsWorkable nodes (length names + bound_by []) z) same
+    (subst (λ z. IsWorkable nodes z c) here (record { built = not-false _ (find-none_first unbuilt c ds none); next = is.next; earlier = is.earlier }))
+each-workable nodes _ _ _ _ (works names n line more c ds is after) none (suc i) d at =
     let bound : List (List ℕ) = bound_name (words_of line) in
-    let count : length (names_of (line ∷ more)) ≡ length bound + length (names_of more) = length-append bound (names_of more) in
-    let longer : length (names ++ bound) ≡ length names + length bound = length-append names bound in
-    let later : length (names ++ bound) ≤ k → IsBuiltAt nodes k = λ past. nodes-built nodes (names ++ bound) (n + 1) more ds after (find-none_rest (unbuilt nodes) c ds built) k past (omega arith) in
-    let command_built : is_built_command nodes c ≡ true = not-false _ (find-none_first (unbuilt nodes) c ds built) in
-    elim is.bound [
-      | inl none ↦ let zero_more : length bound ≡ 0 = ap length none in later (omega arith)
-      | inr one ↦ elim (cases_lt k (length names + 1)) [
-        | inl here ↦
-            let place : length names ≡ k = omega arith in
-            let b = one.1 in
-            record {
-              node = b.node;
-              is = subst (λ z. slice_get nodes z ≡ Some b.node) place b.is;
-              below = subst (λ z. NamesBelow z b.node) place b.below;
-              built = b.same ∙ command_built;
-            }
-        | inr past ↦ let one_more = one.0 in later (omega arith)
-      ]
-    ]
+    let later = each-workable nodes (names ++ bound) (n + 1) more ds after (find-none_rest unbuilt c ds none) i d at in
+    let count : length (names ++ bound) + bound_by (take i ds) ≡ length names + bound_by (c ∷ take i ds) = omega (arith, length-append names bound, is.count, bound_by-cons c (take i ds)) in
+    subst (λ z. IsWorkable nodes z d) count later
 
--- what can be worked: a command that is built, where the nodes use no topology
-workable-command : (nodes : List Node) → ((k : ℕ) → k < length nodes → IsPlain (node_set nodes k)) → (c : Command) → IsWithin (length nodes) c → is_built_command nodes c ≡ true → IsWorkable nodes c
-workable-command nodes plain (Bind line k) within built = tt
-workable-command nodes plain (Has line k p) within built = (within, plain k within)
-workable-command nodes plain (Same line i j) within built = cc
-workable-command nodes plain (Count line k) within built = cc
-workable-command nodes plain (Print line k name) within built = cc
-
-built-everywhere : (nodes : List Node) (cs : List Command) → find (unbuilt nodes) cs ≡ None → (k : ℕ) (d : Command) → k < length cs → is_built_command nodes (get_or cs k d) ≡ true
-built-everywhere nodes [] none k d within = absurd (omega arith)
-built-everywhere nodes (c ∷ cs) none zero d within = not-false _ (find-none_first (unbuilt nodes) c cs none)
-built-everywhere nodes (c ∷ cs) none (suc k) d within = built-everywhere nodes cs (find-none_rest (unbuilt nodes) c cs none) k d (omega arith)
-
--- a script whose commands are all built can be worked
-pub script-workable : (bytes : List ℕ) (nodes : List Node) (commands : List Command) → MeansScript bytes nodes commands → All (IsWithin (length nodes)) commands → find (unbuilt nodes) commands ≡ None → All (IsWorkable nodes) commands
-script-workable bytes nodes commands means within none k d below =
-    let count : length nodes ≡ length (names_of (lines_of bytes)) = means.node_count in
-    let each : (i : ℕ) → i < length nodes → IsBuiltAt nodes i = λ i h. nodes-built nodes [] 0 (lines_of bytes) commands (script-goes bytes nodes commands means) none i (omega arith) (omega arith) in
-    workable-command nodes (nodes-plain nodes each) (get_or commands k d) (within k d below) (built-everywhere nodes commands none k d below)
+-- an accepted script whose commands are all built can be worked
+pub script-workable : (bytes : List ℕ) (nodes : List Node) (commands : List Command) → IsAccepted bytes → MeansScript bytes nodes commands → find unbuilt commands ≡ None → AreWorkable nodes commands
+script-workable bytes nodes commands accepted means none i c at =
+    let first : length {A = List ℕ} [] + bound_by (take i commands) ≡ bound_by (take i commands) = omega arith in
+    subst (λ z. IsWorkable nodes z c) first (each-workable nodes [] 0 (lines_of bytes) commands (script-goes bytes nodes commands accepted means) none i c at)
 
 -- the first command for which the test holds is found
 pub find-at : (p : Command → Bool) (cs : List Command) (k : ℕ) (c : Command) → find p (take k cs) ≡ None → slice_get cs k ≡ Some c → p c ≡ true → find p cs ≡ Some c

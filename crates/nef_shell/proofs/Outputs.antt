@@ -56,3 +56,8 @@ rose-from first old new le r = elim r [ inl less ↦ inl (omega arith) | inr las
 pub stop-rose : (stop : Stop) (first old new : ℕ) (P Q : Type 0) → first ≤ old → MatchStop stop (Rose old new × P) Q → MatchStop stop (Rose first new) (Unit {0})
 stop-rose WriteFault first old new P Q le (rose, rest) = rose-from first old new le rose
 stop-rose OutOfMemory first old new P Q le same = tt
+
+-- nothing is a front of nothing
+pub grows_within-none : (a : Option (List ℕ)) → GrowsWithin a a []
+grows_within-none None = (0, tt)
+grows_within-none (Some bs) = (0, sym (append-nil bs))

@@ -1,17 +1,16 @@
 -- What each status says, from what the calls below say.
-use Rattle.std.proofs.Common.{◌≡◌, ℕ, ◌+◌, ◌<◌, ◌≤◌, arith, refl, ap, sym, ◌∙◌, subst, List, [], ◌∷◌, ◌++◌, length, Option, Some, None, ◌⊎◌, inl, inr, append-nil, length-append}
-use Rattle.std.specs.Prelude.{is_some, IsSome}
+use Rattle.std.proofs.Common.{◌≡◌, ℕ, ◌+◌, ◌≤◌, arith, ap, sym, ◌∙◌, subst, List, ◌++◌, length, Option, Some, None, ◌⊎◌, inl, inr, append-nil, length-append}
 use Rattle.std.specs.Io.KnownBytes.{Consumes, IsAtEnd}
 use Rattle.nef_io.specs.Bytes.{Rose, Grows, GrowsWithin}
 use Rattle.nef_script.specs.declared.fault.ScriptKind.{ScriptKind}
-use Rattle.nef_script.specs.declared.fault.ScriptKind.TheVariants.{ScriptTooLong, NotBuilt}
+use Rattle.nef_script.specs.declared.fault.ScriptKind.TheVariants.{ScriptTooLong}
 use Rattle.nef_script.specs.Refusal.{script_limit, FirstRefusal, IsAccepted}
 use Rattle.nef_shell.specs.declared.status.Status.{Status}
 use Rattle.nef_shell.specs.declared.status.Status.TheVariants.{Done, Refused, Words, ReadFault, WriteFault, OutOfMemory}
-use Rattle.nef_shell.specs.Status.{MatchStatus, IfDone, IfRefused, IfWords, IfReadFault, IfWriteFault, IfOutOfMemory, EndsDone, EndsRefused, EndsWords}
+use Rattle.nef_shell.specs.Status.{MatchStatus, IfWriteFault, IfOutOfMemory, EndsDone, EndsRefused}
 use Rattle.nef_shell.specs.Built.{first_unbuilt}
-use Rattle.nef_shell.specs.Output.{refusal_line, words_line}
-use Rattle.nef_shell.specs.Answers.{AreAccepted, IsRefused, IsWorked, IsRead, HasOutput, HasRefusal, HasFront, HasDefinedFront}
+use Rattle.nef_shell.specs.Output.{refusal_line}
+use Rattle.nef_shell.specs.Answers.{AreAccepted, IsRefused, IsRead, HasOutput, HasRefusal, HasFront, HasDefinedFront}
 use Rattle.nef_shell.proofs.Refusals.{refused-accepted, refused-unique, refused-long}
 
 -- the statuses of a refused script

@@ -1,7 +1,7 @@
 -- What each status says of the source and of the sink.
-use Rattle.std.specs.Prelude.{◌≡◌, ℕ, ◌+◌, List, [], Option, Some, None, is_some, IsSome, take, length, ◌⊎◌}
+use Rattle.std.specs.Prelude.{◌≡◌, ℕ, ◌+◌, List, Option, Some, None, IsSome, take, length, ◌⊎◌}
 use Rattle.std.specs.Io.KnownBytes.{Consumes, IsAtEnd}
-use Rattle.nef_io.specs.Bytes.{Rose, Grows, GrowsWithin}
+use Rattle.nef_io.specs.Bytes.{Grows, GrowsWithin}
 use Rattle.nef_words.specs.Chosen.{options_of}
 use Rattle.nef_expr.specs.declared.nodes.Node.{Node}
 use Rattle.nef_script.specs.declared.fault.ScriptKind.{ScriptKind}

@@ -3,4 +3,5 @@ pub mod Built
 pub mod Output
 pub mod Answers
 pub mod Commands
+pub mod Operations
 pub mod Stops

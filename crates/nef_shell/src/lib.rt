@@ -7,10 +7,15 @@
 
 mod answer;
 mod built;
+#[cfg(test)]
+mod gates;
 mod line;
+mod operation;
+mod sets;
 mod status;
 mod stop;
 mod top;
+mod uses;
 mod work;
 
 pub use status::{Status, code};

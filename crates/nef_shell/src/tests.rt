@@ -1,5 +1,6 @@
+use crate::gates::{Counting, Holding};
 use crate::{Status, code, run};
-use nef_io::{MemSink, MemSource, OpenGate, SureSource};
+use nef_io::{Gate, MemSink, MemSource, OpenGate, SureSource};
 use nef_script::ScriptKind;
 use std::alloc::{AllocError, Global};
 use std::sync::Wait;
@@ -15,7 +16,34 @@ half A 1 0 0 0 closed / has A 1 0 0 2 / has A -2 0 0 4 => not / in
 half A 1 0 0 0 closed / has A 2048 0 0 1 / has A 8796093022208 0 0 4294967296 => frame / frame
 half A 1 0 0 0 closed / has A 8796093022207 0 0 4294967296 => not
 full U / not N U / # nothing / has U 0 0 0 1 / has N 0 0 0 1 => in / not
-half A 1 0 0 0 closed / half B 0 1 0 0 closed / xor C A B / has C -1 1 0 1 / has C -1 -1 0 1 => in / not";
+half A 1 0 0 0 closed / half B 0 1 0 0 closed / xor C A B / has C -1 1 0 1 / has C -1 -1 0 1 => in / not
+empty E / cl C E / has C 0 0 0 1 => not
+full U / int V U / has V 1023 0 0 1 => in";
+
+// The same of solids: the boundary of a box; two open boxes with a common wall; a plate with a
+// hexagonal hole; a half-space without a ray.
+const SOLIDS: &str =
+    "half Aa -1 0 0 0 closed / half Ab 1 0 0 -1 closed / half Ac 0 -1 0 0 closed / \
+    half Ad 0 1 0 -1 closed / half Ae 0 0 -1 0 closed / half Af 0 0 1 -1 closed / \
+    and Ag Aa Ab / and Ah Ag Ac / and Ai Ah Ad / and Aj Ai Ae / and A Aj Af / bd D A / \
+    has D 0 0 0 1 / has D 1 1 1 2 / int I D / has I 0 0 0 1 => in / not / not
+half Aa -1 0 0 0 open / half Ab 1 0 0 -1 open / half Ac 0 -1 0 0 open / \
+    half Ad 0 1 0 -1 open / half Ae 0 0 -1 0 open / half Af 0 0 1 -1 open / and Ag Aa Ab / \
+    and Ah Ag Ac / and Ai Ah Ad / and Aj Ai Ae / and A Aj Af / half Ba -1 0 0 1 open / \
+    half Bb 1 0 0 -2 open / half Bc 0 -1 0 0 open / half Bd 0 1 0 -1 open / \
+    half Be 0 0 -1 0 open / half Bf 0 0 1 -1 open / and Bg Ba Bb / and Bh Bg Bc / \
+    and Bi Bh Bd / and Bj Bi Be / and B Bj Bf / or U A B / reg R U / has U 2 1 1 2 / \
+    has R 2 1 1 2 / has R 0 0 0 1 => not / in / in
+half Pa -1 0 0 -10 closed / half Pb 1 0 0 -10 closed / half Pc 0 -1 0 -10 closed / \
+    half Pd 0 1 0 -10 closed / half Pe 0 0 -1 0 closed / half Pf 0 0 1 -2 closed / \
+    and Pg Pa Pb / and Ph Pg Pc / and Pi Ph Pd / and Pj Pi Pe / and P Pj Pf / \
+    half a 0 1 0 -4 open / half b 0 -1 0 -4 open / half c 2 1 0 -8 open / \
+    half d -2 -1 0 -8 open / half e 2 -1 0 -8 open / half f -2 1 0 -8 open / and g a b / \
+    and h g c / and i h d / and j i e / and H j f / diff K P H / has K 0 0 1 1 / \
+    has K 4 0 1 1 / has K 9 9 1 1 => not / in / in
+half A 0 0 1 0 closed / half B 0 0 -1 0 closed / half C 0 1 0 0 closed / \
+    half D 0 -1 0 0 closed / half E -1 0 0 0 closed / and F A B / and G F C / and H G D / \
+    and R H E / diff K A R / has K 0 0 0 1 / has K -1 0 0 1 => not / in";
 
 // A refused script, and the line that it gives.
 const REFUSALS: &str = "ball A => line 1: unknown command
@@ -33,8 +61,27 @@ empty A \x07 => line 1: bad byte
 half A 2048 0 0 0 closed / has A 0 0 0 1 / half B 2049 0 0 0 closed => line 3: coefficient out of range
 half A 2049 0 0 0 closed / has A 0 0 0 1 => line 1: coefficient out of range
 empty E / count E => line 2: not built yet
-empty E / cl C E / has C 0 0 0 1 => line 2: not built yet
+empty E / print E => line 2: not built yet
 full U / has U 0 0 0 1 / same U U / print U => line 3: not built yet";
+
+// The numbers of workers: one, a few, and the most.
+const WORKERS: &str = "1 2 64";
+
+// The closed unit box.
+const UNIT_BOX: &str =
+    "half Aa -1 0 0 0 closed / half Ab 1 0 0 -1 closed / half Ac 0 -1 0 0 closed / \
+    half Ad 0 1 0 -1 closed / half Ae 0 0 -1 0 closed / half Af 0 0 1 -1 closed / \
+    and Ag Aa Ab / and Ah Ag Ac / and Ai Ah Ad / and Aj Ai Ae / and A Aj Af";
+
+// Two half-spaces, with twelve candidates each, and their intersection, with eighteen.
+const CORNER: &str = "half A 1 0 0 0 closed / half B 0 1 0 0 closed / and C A B";
+
+// The calls for each of its jobs, for later ones, and from the board without a lock, where the
+// board has a lock.
+const LOCKED_CALLS: [u64; 20] = [3, 3, 3, 3, 3, 3, 3, 3, 3, 3, 3, 3, 1, 1, 1, 1, 1, 1, 0, 0];
+
+// The same where it has none.
+const FREE_CALLS: [u64; 20] = [3, 3, 3, 3, 3, 3, 3, 3, 3, 3, 3, 3, 1, 1, 1, 1, 1, 1, 0, 42];
 
 // The texts between the `/`, each with its line end.
 fn unfolded(alloc: Global, text: &str) -> Result<String, AllocError> {
@@ -69,22 +116,24 @@ fn worked<R: Threads + Wait + Sync>(
     Ok((code(&status), written))
 }
 
-// Whether a run ends with this status and writes this.
+// Whether a run with these words ends with this status and writes this.
 fn gives<R: Threads + Wait + Sync>(
     rt: &R,
     alloc: Global,
+    words: &[&str],
     script: &[u8],
     status: u8,
     output: &[u8],
 ) -> Result<bool, AllocError> {
-    let (ended, written) = worked(rt, alloc, &[], script)?;
+    let (ended, written) = worked(rt, alloc, words, script)?;
     Ok(ended == status && written.as_slice() == output)
 }
 
-// Whether each row of the table comes out.
+// Whether each row of the table comes out with these words.
 fn fits<R: Threads + Wait + Sync>(
     rt: &R,
     alloc: Global,
+    words: &[&str],
     table: &str,
     status: u8,
 ) -> Result<bool, AllocError> {
@@ -94,7 +143,47 @@ fn fits<R: Threads + Wait + Sync>(
         };
         let script = unfolded(alloc, script)?;
         let output = unfolded(alloc, output)?;
-        if !gives(rt, alloc, script.as_bytes(), status, output.as_bytes())? {
+        if !gives(
+            rt,
+            alloc,
+            words,
+            script.as_bytes(),
+            status,
+            output.as_bytes(),
+        )? {
+            return Ok(false);
+        }
+    }
+    Ok(true)
+}
+
+// How a run of the script ends that tells the gate of its jobs.
+fn told<R: Threads + Wait + Sync, G: Gate + Sync>(
+    rt: &R,
+    alloc: Global,
+    words: &[&str],
+    script: &str,
+    gate: &G,
+) -> Result<Status, AllocError> {
+    let words = owned(alloc, words)?;
+    let script = unfolded(alloc, script)?;
+    let mut source = SureSource::new(alloc, script.as_bytes())?;
+    let mut sink = MemSink::new(alloc, 64, 64, &[])?;
+    Ok(run(rt, alloc, &words, &mut source, &mut sink, gate))
+}
+
+// Whether each row of each table comes out by this board, whatever the number of workers.
+fn fits_by<R: Threads + Wait + Sync>(
+    rt: &R,
+    alloc: Global,
+    board: &str,
+) -> Result<bool, AllocError> {
+    for workers in WORKERS.split(' ') {
+        let words = ["--workers", workers, "--board", board];
+        let all = fits(rt, alloc, &words, ANSWERS, 0)?
+            && fits(rt, alloc, &words, SOLIDS, 0)?
+            && fits(rt, alloc, &words, REFUSALS, 1)?;
+        if !all {
             return Ok(false);
         }
     }
@@ -102,17 +191,54 @@ fn fits<R: Threads + Wait + Sync>(
 }
 
 #[test]
-fn answers(rt: HostRuntime) -> Result<(), Fail> {
-    let alloc = rt.alloc();
-    assert!(rt; fits(&rt, alloc, ANSWERS, 0)?);
-    assert!(rt; gives(&rt, alloc, b"", 0, b"")?);
-    assert!(rt; gives(&rt, alloc, b"full U\r\nhas U 0 0 0 1", 0, b"in\n")?);
+fn by_lock_board(rt: HostRuntime) -> Result<(), Fail> {
+    assert!(rt; fits_by(&rt, rt.alloc(), "lock")?);
     Ok(())
 }
 
 #[test]
-fn refusals(rt: HostRuntime) -> Result<(), Fail> {
-    assert!(rt; fits(&rt, rt.alloc(), REFUSALS, 1)?);
+fn by_free_board(rt: HostRuntime) -> Result<(), Fail> {
+    assert!(rt; fits_by(&rt, rt.alloc(), "free")?);
+    Ok(())
+}
+
+#[test]
+fn line_ends(rt: HostRuntime) -> Result<(), Fail> {
+    let alloc = rt.alloc();
+    assert!(rt; gives(&rt, alloc, &[], b"", 0, b"")?);
+    assert!(rt; gives(&rt, alloc, &[], b"full U\r\nhas U 0 0 0 1", 0, b"in\n")?);
+    Ok(())
+}
+
+#[test]
+fn gate_two_jobs(rt: HostRuntime) -> Result<(), Fail> {
+    let alloc = rt.alloc();
+    let gate = Holding::new();
+    let status = told(&rt, alloc, &["--workers", "2"], UNIT_BOX, &gate)?;
+    assert_eq!(rt; status, Status::Done);
+    assert!(rt; !gate.limit_reached());
+
+    let gate = Holding::new();
+    let words = ["--workers", "2", "--board", "free"];
+    let status = told(&rt, alloc, &words, UNIT_BOX, &gate)?;
+    assert_eq!(rt; status, Status::Done);
+    assert!(rt; !gate.limit_reached());
+    Ok(())
+}
+
+#[test]
+fn jobs_counted(rt: HostRuntime) -> Result<(), Fail> {
+    let alloc = rt.alloc();
+    let gate = Counting::new(alloc, 18)?;
+    let status = told(&rt, alloc, &["--workers", "3"], CORNER, &gate)?;
+    assert_eq!(rt; status, Status::Done);
+    assert_eq!(rt; gate.calls(alloc)?.as_slice(), LOCKED_CALLS.as_slice());
+
+    let gate = Counting::new(alloc, 18)?;
+    let words = ["--workers", "3", "--board", "free"];
+    let status = told(&rt, alloc, &words, CORNER, &gate)?;
+    assert_eq!(rt; status, Status::Done);
+    assert_eq!(rt; gate.calls(alloc)?.as_slice(), FREE_CALLS.as_slice());
     Ok(())
 }
 
@@ -120,9 +246,9 @@ fn refusals(rt: HostRuntime) -> Result<(), Fail> {
 fn longest_script(rt: HostRuntime) -> Result<(), Fail> {
     let alloc = rt.alloc();
     let mut script = vec![in alloc; b'\n'; 1_048_576]?;
-    assert!(rt; gives(&rt, alloc, &script, 0, b"")?);
+    assert!(rt; gives(&rt, alloc, &[], &script, 0, b"")?);
     script.push(b'\n')?;
-    assert!(rt; gives(&rt, alloc, &script, 1, b"line 0: script too long\n")?);
+    assert!(rt; gives(&rt, alloc, &[], &script, 1, b"line 0: script too long\n")?);
     Ok(())
 }
 
@@ -130,9 +256,9 @@ fn longest_script(rt: HostRuntime) -> Result<(), Fail> {
 fn longest_line(rt: HostRuntime) -> Result<(), Fail> {
     let alloc = rt.alloc();
     let mut line = vec![in alloc; b'#'; 256]?;
-    assert!(rt; gives(&rt, alloc, &line, 0, b"")?);
+    assert!(rt; gives(&rt, alloc, &[], &line, 0, b"")?);
     line.push(b' ')?;
-    assert!(rt; gives(&rt, alloc, &line, 1, b"line 1: line too long\n")?);
+    assert!(rt; gives(&rt, alloc, &[], &line, 1, b"line 1: line too long\n")?);
     Ok(())
 }
 
@@ -143,12 +269,13 @@ fn most_names(rt: HostRuntime) -> Result<(), Fail> {
     for number in 1..=4096u32 {
         names.push_str(format!(in alloc; "full n{number}\n")?.as_str())?;
     }
-    let mut asked = names.clone()?;
-    asked.push_str("has n4096 0 0 0 1\n")?;
-    assert!(rt; gives(&rt, alloc, asked.as_bytes(), 0, b"in\n")?);
+    let mut more = names.clone()?;
+    more.push_str("ball n4097\n")?;
+    let output = b"line 4097: unknown command\n";
+    assert!(rt; gives(&rt, alloc, &[], more.as_bytes(), 1, output)?);
     names.push_str("full n4097\n")?;
     let output = b"line 4097: too many names\n";
-    assert!(rt; gives(&rt, alloc, names.as_bytes(), 1, output)?);
+    assert!(rt; gives(&rt, alloc, &[], names.as_bytes(), 1, output)?);
     Ok(())
 }
 

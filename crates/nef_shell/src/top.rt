@@ -1,6 +1,6 @@
 //! The top call.
 
-ghost use Rattle.std.specs.Prelude.{◌≡◌, ◌⊎◌, ℕ, List, Some, None, map, string_bytes};
+ghost use Rattle.std.specs.Prelude.{◌≡◌, ◌≤◌, ◌⊎◌, ℕ, List, Some, None, map, string_bytes};
 ghost use Rattle.nef_io.specs.Bytes.{Rose, Grows, GrowsWithin};
 ghost use Rattle.nef_script.specs.Refusal.{IsAccepted};
 ghost use Rattle.nef_script.specs.declared.fault.ScriptKind.{ScriptKind as Kind};
@@ -14,6 +14,7 @@ use crate::line::refusal_line;
 use crate::status::Status;
 use crate::stop::Stop;
 use crate::work::work;
+use nef_core::How;
 use nef_io::{Gate, ReadAll, Sink, Source, put_all, read_all};
 use nef_script::{ScriptFault, ScriptKind, parse};
 use nef_words::{WordsFault, read_words};
@@ -57,7 +58,15 @@ fn refuse_words<K: Sink>(sink: &mut K) -> Status
 }
 
 // Reads the script, checks it, and works it.
-fn run_script<S: Source, K: Sink>(alloc: Global, source: &mut S, sink: &mut K) -> Status
+fn run_script<R: Threads + Wait + Sync, S: Source, K: Sink, G: Gate + Sync>(
+    rt: &R,
+    alloc: Global,
+    how: &How,
+    source: &mut S,
+    sink: &mut K,
+    gate: &G,
+) -> Status
+    requires workers { (1 ≤ how.now.workers) × (how.now.workers ≤ 64) }
     ensures status { MatchStatus result
         (HasOutput (S.rest source.old) (S.rest source.new) (K.written sink.old) (K.written sink.new))
         (λ line kind. HasRefusal (S.rest source.old) (S.rest source.new) (K.written sink.old) (K.written sink.new) line kind)
@@ -80,7 +89,7 @@ fn run_script<S: Source, K: Sink>(alloc: Global, source: &mut S, sink: &mut K) -
     if let Some(line) = first_unbuilt(&script) {
         return refuse(alloc, sink, line, ScriptKind::NotBuilt);
     }
-    match work(alloc, &script, sink) {
+    match work(rt, alloc, &script, how, sink, gate) {
         Ok(()) => Status::Done,
         Err(Stop::WriteFault) => Status::WriteFault,
         Err(Stop::OutOfMemory) => Status::OutOfMemory,
@@ -90,8 +99,9 @@ fn run_script<S: Source, K: Sink>(alloc: Global, source: &mut S, sink: &mut K) -
 /// Runs the program: reads the words and then the script, checks the whole script, and works its
 /// commands in order. What a command answers is handed to the sink when it is worked.
 ///
-/// `words` are those after the program's name. The number of workers and the kind of board that they
-/// choose have no effect yet, as no operation runs in parallel so far, and the gate isn't called.
+/// `words` are those after the program's name. Each operation on sets goes through a board of the kind
+/// that they choose, by as many workers, and tells the gate of each job that a worker begins. What is
+/// written doesn't depend on them.
 /// Sets mean what the CGAL manual, "3D Boolean Operations on Nef Polyhedra", says, within the frame.
 ///
 /// * `Done`: the sink took the output of the script and nothing else; the source is at its end.
@@ -104,12 +114,12 @@ fn run_script<S: Source, K: Sink>(alloc: Global, source: &mut S, sink: &mut K) -
 ///   front of what the words and the script define.
 /// * `OutOfMemory`: memory was wanted and not found; the sink took some front of it.
 pub fn run<R: Threads + Wait + Sync, S: Source, K: Sink, G: Gate + Sync>(
-    _rt: &R,
+    rt: &R,
     alloc: Global,
     words: &[String],
     source: &mut S,
     sink: &mut K,
-    _gate: &G,
+    gate: &G,
 ) -> Status
     ensures done { IfDone result (AreAccepted (map string_bytes words.now) × HasOutput (S.rest source.old) (S.rest source.new) (K.written sink.old) (K.written sink.new)) }
     ensures refused { IfRefused result (λ line kind. AreAccepted (map string_bytes words.now) × HasRefusal (S.rest source.old) (S.rest source.new) (K.written sink.old) (K.written sink.new) line kind) }
@@ -127,7 +137,7 @@ pub fn run<R: Threads + Wait + Sync, S: Source, K: Sink, G: Gate + Sync>(
     ensures refuses_words { ¬ AreAccepted (map string_bytes words.now) → ¬ Rose (K.faults sink.old) (K.faults sink.new) → EndsWords result }
 {
     match read_words(alloc, words) {
-        Ok(_) => run_script(alloc, source, sink),
+        Ok(options) => run_script(rt, alloc, &options.how, source, sink, gate),
         Err(WordsFault::Refused) => refuse_words(sink),
         Err(WordsFault::OutOfMemory) => Status::OutOfMemory,
     }

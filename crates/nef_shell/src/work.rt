@@ -1,36 +1,70 @@
 //! Works a script's commands in order.
 
-ghost use Rattle.std.specs.Prelude.{◌≡◌, ◌≤◌, ℕ, List, [], All, OnOk, IfErr, take};
+ghost use Rattle.std.specs.Prelude.{◌≡◌, ◌≤◌, ℕ, List, [], ◌∷◌, All, OnOk, IfErr, length, take};
+ghost use Rattle.nef_space.specs.Local.{HasLabel};
+ghost use Rattle.nef_geo.specs.Shapes.{place_of};
+ghost use Rattle.nef_expr.specs.Nodes.{node_set};
 ghost use Rattle.nef_io.specs.Bytes.{Rose, Grows, GrowsWithin};
+ghost use Rattle.nef_script.specs.Meaning.{IsWithin};
 ghost use Rattle.nef_shell.specs.Output.{IsPiece, IsOutput};
-ghost use Rattle.nef_shell.specs.Commands.{IsWorkable};
+ghost use Rattle.nef_shell.specs.Commands.{LooksAt, IsWorkable, AreWorkable, bound_by};
+ghost use Rattle.nef_shell.specs.Operations.{IsKept, IsGrown};
 ghost use Rattle.nef_shell.specs.Stops.{MatchStop};
 
 use crate::answer::answer;
+use crate::sets::Sets;
 use crate::stop::Stop;
-use nef_expr::{Nodes, plain_has};
-use nef_io::{Sink, put_all};
+use nef_core::How;
+use nef_geo::{Label, Point};
+use nef_io::{Gate, Sink, put_all};
+use nef_locate::{locate, place_label};
 use nef_script::{Command, Script};
 use std::alloc::Global;
+use std::sync::Wait;
+use std::thread::Threads;
+
+// The label of the point for the node.
+fn label_at(sets: &Sets, node: usize, point: &Point) -> Label
+    requires kept { IsKept sets.now.nodes.now sets.now.list.items node }
+    ensures label { HasLabel (node_set sets.now.nodes.now node) (place_of point.now) result }
+{
+    let complex = sets.get(node);
+    if point.in_frame() {
+        place_label(complex, &locate(complex, point))
+    } else {
+        Label::Out
+    }
+}
 
 // Works one command, and writes its piece.
-fn work_command<K: Sink>(
+fn work_command<R: Threads + Wait + Sync, K: Sink, G: Gate + Sync>(
+    rt: &R,
     alloc: Global,
-    nodes: &Nodes,
+    sets: &mut Sets,
     command: &Command,
+    how: &How,
     sink: &mut K,
+    gate: &G,
 ) -> Result<(), Stop>
-    requires workable { IsWorkable nodes.now command.now }
-    ensures done { OnOk result ((piece : List ℕ) × IsPiece nodes.now command.now piece × Grows (K.written sink.old) (K.written sink.new) piece) }
+    requires workers { (1 ≤ how.now.workers) × (how.now.workers ≤ 64) }
+    requires workable { IsWorkable sets.old.nodes.now (length sets.old.list.items) command.now }
+    requires kept { (k : ℕ) → LooksAt sets.old.nodes.now command.now k → IsKept sets.old.nodes.now sets.old.list.items k }
+    ensures done { OnOk result ((piece : List ℕ) × IsPiece sets.old.nodes.now command.now piece × Grows (K.written sink.old) (K.written sink.new) piece) }
+    ensures grown { OnOk result (IsGrown sets.old.nodes.now (bound_by (command.now ∷ [])) sets.old.list.items sets.new.list.items) }
+    ensures nodes { sets.new.nodes ≡ sets.old.nodes }
+    ensures uses { sets.new.last_uses ≡ sets.old.last_uses }
     ensures stopped { IfErr result (λ stop. MatchStop stop
-        (Rose (K.faults sink.old) (K.faults sink.new) × ((piece : List ℕ) × IsPiece nodes.now command.now piece × GrowsWithin (K.written sink.old) (K.written sink.new) piece))
+        (Rose (K.faults sink.old) (K.faults sink.new) × ((piece : List ℕ) × IsPiece sets.old.nodes.now command.now piece × GrowsWithin (K.written sink.old) (K.written sink.new) piece))
         (K.written sink.new ≡ K.written sink.old)) }
     ensures count { K.faults sink.old ≤ K.faults sink.new }
 {
     match command {
-        Command::Bind { .. } => Ok(()),
+        Command::Bind { .. } => {
+            sets.bind(rt, alloc, how, gate)?;
+            Ok(())
+        }
         Command::Has { node, point, .. } => {
-            let label = plain_has(alloc, nodes, *node, point)?;
+            let label = label_at(sets, *node, point);
             put_all(sink, answer(label))?;
             Ok(())
         }
@@ -39,15 +73,25 @@ fn work_command<K: Sink>(
 }
 
 /// Works the commands in order, and writes the piece of each when it is worked.
-pub(crate) fn work<K: Sink>(alloc: Global, script: &Script, sink: &mut K) -> Result<(), Stop>
-    requires workable { All (IsWorkable script.now.nodes) script.now.commands }
+pub(crate) fn work<R: Threads + Wait + Sync, K: Sink, G: Gate + Sync>(
+    rt: &R,
+    alloc: Global,
+    script: &Script,
+    how: &How,
+    sink: &mut K,
+    gate: &G,
+) -> Result<(), Stop>
+    requires workers { (1 ≤ how.now.workers) × (how.now.workers ≤ 64) }
+    requires within { All (IsWithin (length script.now.nodes)) script.now.commands }
+    requires workable { AreWorkable script.now.nodes script.now.commands }
     ensures done { OnOk result ((output : List ℕ) × IsOutput script.now.nodes script.now.commands output × Grows (K.written sink.old) (K.written sink.new) output) }
     ensures stopped { IfErr result (λ stop. MatchStop stop (Rose (K.faults sink.old) (K.faults sink.new)) (Unit {0})) }
     ensures front { IfErr result (λ _. (count : ℕ) × (output : List ℕ) × IsOutput script.now.nodes (take count script.now.commands) output × GrowsWithin (K.written sink.old) (K.written sink.new) output) }
 {
-    let nodes = script.nodes();
-    for command in script.commands() {
-        work_command(alloc, nodes, command, sink)?;
+    let mut sets = Sets::new(alloc, script)?;
+    for (now, command) in script.commands().iter().enumerate() {
+        work_command(rt, alloc, &mut sets, command, how, sink, gate)?;
+        sets.release(command, now);
     }
     Ok(())
 }

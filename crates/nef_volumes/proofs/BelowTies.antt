@@ -25,9 +25,9 @@ use Rattle.nef_solid.proofs.FacetAngles.{through-at}
 use Rattle.nef_solid.proofs.FacetNames.{through-level, axis-in}
 use Rattle.nef_links.specs.Links.{LinkInSface}
 use Rattle.nef_links.proofs.Across.{through-same}
-use Rattle.nef_locate.proofs.EqualPoints.{corner-same as corner-like}
+use Rattle.nef_locate.proofs.EqualPoints.{same-place_trans, corner-same as corner-like}
 use Rattle.nef_locate.proofs.SamePlanes.{level-back, first-same, opposite-same, corner-same, axis-same}
-use Rattle.nef_ties.proofs.OneMeet.{ray-cases, one-vertex, one-edge_through, edge-inside, one-named, place-trans}
+use Rattle.nef_ties.proofs.OneMeet.{ray-cases, one-vertex, one-edge_through, edge-inside, one-named}
 
 module _ (s : Set) (C : Complex) (S : Shows s C) where
   -- ---- links in one sface
@@ -81,7 +81,7 @@ module _ (s : Set) (C : Complex) (S : Shows s C) where
   no-vertex_on_edge : (k j : ℕ) (y z : Place) → SamePlace y z → IsVertexPoint C k y → IsEdgePoint C j z → ⊥
   no-vertex_on_edge k j y z e (v, a, p) q =
       let E = edge-inside s C S j z q in
-      E.1.first k v a (between-same E.1.low_vertex.point z E.1.high_vertex.point E.1.low_vertex.point v.point E.1.high_vertex.point (same-itself E.1.low_vertex.point) (same-place_sym v.point z (place-trans v.point y z p e)) (same-itself E.1.high_vertex.point) E.3)
+      E.1.first k v a (between-same E.1.low_vertex.point z E.1.high_vertex.point E.1.low_vertex.point v.point E.1.high_vertex.point (same-itself E.1.low_vertex.point) (same-place_sym v.point z (same-place_trans v.point y z p e)) (same-itself E.1.high_vertex.point) E.3)
 
   edges-one : (i k : ℕ) (y z : Place) (e f : Edge) → SamePlace y z → IsEdgePoint C i y → IsEdgePoint C k z → At C.edges i e → At C.edges k f → e ≡ f
   edges-one i k y z e f o p q a b =
@@ -153,14 +153,14 @@ module _ (s : Set) (C : Complex) (S : Shows s C) where
     off z k H i o = H.facet_point.off_edges (i, o)
 
     vertex-like : (p z : Place) (k : ℕ) → SamePlace p z → IsVertexPoint C k p → IsVertexPoint C k z
-    vertex-like p z k e (v, a, f) = (v, a, place-trans v.point p z f e)
+    vertex-like p z k e (v, a, f) = (v, a, same-place_trans v.point p z f e)
 
     edge-like : (p z : Place) (k : ℕ) → SamePlace p z → IsEdgePoint C k p → IsEdgePoint C k z
     edge-like p z k e (g, v, w, a, H, b) = (g, v, w, a, H, between-same v.point p w.point v.point z w.point (same-itself v.point) e (same-itself w.point) b)
 
     same-above : (q z : Place) → SamePlace q z → (t r : Spot) → IsSpot C t q → IsSpot C r z → IsAbove C q t x → IsAbove C z r y → LinkInSface C x y
     same-above q z o (at_vertex k) (at_vertex j) (v, a, e) (w, b, f) (u, c, g, sx) (t, d, n, sy) =
-        let i = one-vertex s C S k j v w a b (place-trans v.point q w.point e (same-place_sym w.point q (place-trans w.point z q f (same-place_sym q z o)))) in
+        let i = one-vertex s C S k j v w a b (same-place_trans v.point q w.point e (same-place_sym w.point q (same-place_trans w.point z q f (same-place_sym q z o)))) in
         linked x y u l m (subst (λ (r : ℕ). At C.vertices r u) (sym g) c) (n ∙ sym i ∙ sym g) has has_other up sx
         (subst (λ (r : Vertex). Sees r.map y.side up) (at-one C.vertices k t u (subst (λ (r : ℕ). At C.vertices r t) (sym i) d) c) sy)
     same-above q z o (at_vertex k) (on_edge j) p r a b = absurd (no-vertex_on_edge k j q z o p r)

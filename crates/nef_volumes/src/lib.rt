@@ -15,6 +15,8 @@ mod numbers;
 mod outside;
 mod sface;
 mod spots;
+#[cfg(test)]
+mod tests;
 
 pub use all::parts;
 pub use numbers::volume_numbers;

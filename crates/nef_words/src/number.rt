@@ -1,11 +1,12 @@
 //! Numbers in words.
-ghost use Rattle.std.specs.Prelude.{◌≡◌};
+ghost use Rattle.std.specs.Prelude.{◌≡◌, ◌≤◌, IfSome};
 ghost use Rattle.nef_words.specs.Chosen.{number_to};
 
 /// The number from 1 to `most` that one or more digits spell, and `None` for any other text. Leading
 /// zeros are accepted.
 pub fn read_number(text: &[u8], most: u32) -> Option<u32>
-    ensures { result ≡ number_to most text.now }
+    ensures number { result ≡ number_to most text.now }
+    ensures range { IfSome result (λ n. (1 ≤ n) × (n ≤ most)) }
 {
     if text.is_empty() {
         return None;

@@ -1,5 +1,5 @@
 //! Reads the words as one command.
-ghost use Rattle.std.specs.Prelude.{◌≡◌, [], Some, None, IfOk, IfErr, MatchResult, map, string_bytes};
+ghost use Rattle.std.specs.Prelude.{◌≡◌, ◌≤◌, [], Some, None, IfOk, IfErr, IfSome, MatchResult, map, string_bytes};
 ghost use Rattle.clap.specs.Words.{fault_of, found_of, matches_of, rows_of, HasKind};
 ghost use Rattle.nef_words.specs.Usage.{usage};
 ghost use Rattle.nef_words.specs.Chosen.{options_of, options_of_values, text_in};
@@ -31,7 +31,8 @@ fn matched<'a>(alloc: Global, words: &'a [String]) -> Result<ArgMatches<'a>, Err
 
 // The options that two values choose, where each has its form.
 fn chosen(workers: Option<&str>, board: Option<&str>) -> Option<Options>
-    ensures { result ≡ options_of_values (text_in workers.entry) (text_in board.entry) }
+    ensures options { result ≡ options_of_values (text_in workers.entry) (text_in board.entry) }
+    ensures workers { IfSome result (λ o. (1 ≤ o.how.workers) × (o.how.workers ≤ 64)) }
 {
     let workers = match workers {
         None => DEFAULT_WORKERS,
@@ -56,6 +57,7 @@ fn chosen(workers: Option<&str>, board: Option<&str>) -> Option<Options>
 /// word for help or for the version is no such word.
 pub fn read_words(alloc: Global, words: &[String]) -> Result<Options, WordsFault>
     ensures accepted { IfOk result (λ options. options_of (map string_bytes words.now) ≡ Some options) }
+    ensures workers { IfOk result (λ o. (1 ≤ o.how.workers) × (o.how.workers ≤ 64)) }
     ensures refused { result ≡ Err WordsFault.Refused → options_of (map string_bytes words.now) ≡ None }
 {
     let matches = match matched(alloc, words) {

@@ -18,8 +18,10 @@ loop-count-preserved c =
     let f = added.1 in
     let items = c.in_ok-push-2.ensures.items in
     let S = more-starts (take i counts) c.loop-count.starts.items x (I.0) in
-    let same : c.in-Some.sum ≡ total (take i counts) + x = omega arith in
-    (subst (λ (ks : List ℕ). AreStarts (take (i + 1) counts) ks) (sym items)
-     (subst (λ (cs : List ℕ). AreStarts cs (c.loop-count.starts.items ++ c.in-Some.sum ∷ [])) (sym more)
-     (subst (λ (n : ℕ). AreStarts (take i counts ++ x ∷ []) (c.loop-count.starts.items ++ n ∷ [])) (sym same) S)),
-     omega arith, (let f = added.0 in let g = added.1 in omega arith))
+    let same : c.in-Some.sum ≡ total (take i counts) + x = omega arith in (
+      subst (λ (ks : List ℕ). AreStarts (take (i + 1) counts) ks) (sym items)
+          (subst (λ (cs : List ℕ). AreStarts cs (c.loop-count.starts.items ++ c.in-Some.sum ∷ [])) (sym more)
+          (subst (λ (n : ℕ). AreStarts (take i counts ++ x ∷ []) (c.loop-count.starts.items ++ n ∷ [])) (sym same) S)),
+      omega arith,
+      (let f = added.0 in let g = added.1 in omega arith),
+    )

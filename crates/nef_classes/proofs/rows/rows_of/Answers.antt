@@ -42,10 +42,11 @@ loop-count-preserved c =
     let cut = more-cut (take i counts) ns start x (I.1) (I.2) in
     let shape = more-counts (take i counts) ns start x (omega arith) (I.1) in
     let made : List ℕ = take x (drop (total (take i counts)) ns) in
-    let same : c.push.new.self ≡ start ++ made ∷ [] = pushed ∙ ap (λ (r : List ℕ). start ++ r ∷ []) (row ∙ ap (λ (n : ℕ). take x (drop n ns)) s) in
-    (omega arith,
-     subst (λ (rs : List (List ℕ)). HasCounts (take (i + 1) counts) rs) (sym same) (subst (λ (cs : List ℕ). HasCounts cs (start ++ made ∷ [])) (sym more) shape),
-     subst (λ (rs : List (List ℕ)). AreCut (take (i + 1) counts) ns rs) (sym same) (subst (λ (cs : List ℕ). AreCut cs ns (start ++ made ∷ [])) (sym more) cut))
+    let same : c.push.new.self ≡ start ++ made ∷ [] = pushed ∙ ap (λ (r : List ℕ). start ++ r ∷ []) (row ∙ ap (λ (n : ℕ). take x (drop n ns)) s) in (
+      omega arith,
+      subst (λ (rs : List (List ℕ)). HasCounts (take (i + 1) counts) rs) (sym same) (subst (λ (cs : List ℕ). HasCounts cs (start ++ made ∷ [])) (sym more) shape),
+      subst (λ (rs : List (List ℕ)). AreCut (take (i + 1) counts) ns rs) (sym same) (subst (λ (cs : List ℕ). AreCut cs ns (start ++ made ∷ [])) (sym more) cut),
+    )
 
 pub returns-clause-cut : goal.returns-clause-cut
 returns-clause-cut c = λ i k n a.

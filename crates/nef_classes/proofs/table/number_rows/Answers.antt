@@ -19,11 +19,11 @@ returns-clause-numbers c =
     let starts = c.in_ok-starts.ensures.starts in
     let n = starts.as_many in
     let end : get_or ss (length counts) c.index.result.now ≡ total counts =
-        starts.each (length counts) (get_or ss (length counts) c.index.result.now) (is-at_get ss (length counts) c.index.result.now (omega arith)) ∙ ap total (take_all (length counts) counts (omega arith)) in
+    starts.each (length counts) (get_or ss (length counts) c.index.result.now) (is-at_get ss (length counts) c.index.result.now (omega arith)) ∙ ap total (take_all (length counts) counts (omega arith)) in
     let count : c.index.result.now ≡ total counts = c.index.ensures ∙ end in
     let links : c.deref-2.result.now ≡ map (flat_tie counts) ties = c.deref-2.ensures.value ∙ c.in_ok-links.ensures.flat in
     let classes : AreClasses (total counts) (map (flat_tie counts) ties) cs =
-        subst (λ (n : ℕ). AreClasses n (map (flat_tie counts) ties) cs) count (subst (λ (ls : List Link). AreClasses c.index.result.now ls cs) links c.in_ok-classes.ensures.classes) in
+    subst (λ (n : ℕ). AreClasses n (map (flat_tie counts) ties) cs) count (subst (λ (ls : List Link). AreClasses c.index.result.now ls cs) links c.in_ok-classes.ensures.classes) in
     let numbered : AreNumbered cs ns = subst (λ (xs : List ℕ). AreNumbered xs ns) c.deref-3.ensures.value c.in_ok-numbers.ensures.numbers in
     let cut : IfOk c.rows_of.result (AreCut counts ns) = subst (λ (xs : List ℕ). IfOk c.rows_of.result (AreCut counts xs)) c.deref-4.ensures.value c.rows_of.ensures.cut in
     numbers-ok counts ties c.requires.within cs ns c.rows_of.result classes numbered c.rows_of.ensures.counts cut

@@ -1,4 +1,4 @@
-use Rattle.std.proofs.Common.{◌≡◌, ℕ, ◌+◌, length, arith, refl, sym, ap, ◌∙◌, subst, rules, Option, Some, None, is_some, true, false}
+use Rattle.std.proofs.Common.{◌≡◌, arith, refl, sym, ap, ◌∙◌, rules, Option, Some, None, is_some, true, false}
 use Rattle.nef_space.specs.declared.label.Label.{Label}
 use Rattle.nef_smap.specs.Maps.{map_of, svertex_of}
 use Rattle.nef_smap.specs.SideNumbers.{one_if, arounds_before}

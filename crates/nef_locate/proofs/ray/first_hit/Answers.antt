@@ -1,4 +1,4 @@
-use Rattle.std.proofs.Common.{ℕ, ◌<◌, length, arith, refl, subst, Option, IfSome}
+use Rattle.std.proofs.Common.{arith, subst, Option, IfSome}
 use Rattle.nef_space.specs.Place.{Place as PlainPlace}
 use Rattle.nef_space.specs.Sets.{Set}
 use Rattle.nef_geo.specs.Hits.{IsCrossing}

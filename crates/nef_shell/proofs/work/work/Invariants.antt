@@ -1,10 +1,17 @@
-use Rattle.std.proofs.Common.{ℕ, ◌≤◌, take, List}
+use Rattle.std.proofs.Common.{◌≡◌, ℕ, ◌<◌, ◌≤◌, take, List, length}
+use Rattle.std.specs.Prelude.{slice_index}
 use Rattle.nef_io.specs.Bytes.{Grows}
+use Rattle.nef_shell.specs.Commands.{bound_by, AreLastUses}
+use Rattle.nef_shell.specs.Operations.{IsKept}
 use Rattle.nef_shell.specs.Output.{IsOutput}
 use Rattle.nef_shell.proofs.work.work.Given as goal
 
-abbrev pub invariant-loop-command : goal.invariant-loop-command
-invariant-loop-command g l = record {
+abbrev pub invariant-loop-now : goal.invariant-loop-now
+invariant-loop-now g l = record {
   count : g.K.Sink.faults l.fn.sink ≤ g.K.Sink.faults l.sink;
-  written : (output : List ℕ) × IsOutput l.nodes (take l.command-index l.command-items) output × Grows (g.K.Sink.written l.fn.sink) (g.K.Sink.written l.sink) output;
+  written : (output : List ℕ) × IsOutput l.script.nodes (take l.now l.command-items) output × Grows (g.K.Sink.written l.fn.sink) (g.K.Sink.written l.sink) output;
+  nodes : l.sets.nodes.now ≡ l.script.nodes;
+  last : AreLastUses l.script.nodes l.script.commands l.sets.last_uses.items;
+  bound : length l.sets.list.items ≡ bound_by (take l.now l.command-items);
+  kept : (k : ℕ) → k < length l.sets.list.items → l.now ≤ slice_index l.sets.last_uses.items k → IsKept l.script.nodes l.sets.list.items k;
 }

@@ -1,0 +1,7 @@
+mod Carriers
+mod Numbering
+mod Rows
+mod OneCycles
+mod OneNext
+mod OneParts
+pub mod SameText

@@ -1,0 +1,158 @@
+-- Edges seen from either of their ends.
+use Rattle.std.proofs.Common.{◌≡◌, ℕ, pos, ◌<ℤ◌, ◌-ℤ◌, arith, sym, ◌⊎◌, inl, inr, ⊎_elim, subst, [], ◌∷◌}
+use Rattle.std.proofs.lemmas.Bool.{cases_order}
+use Rattle.std.proofs.lemmas.Int.{ints}
+use Rattle.nef_exact.proofs.Ring.{ring, at, num, ◌⊕◌, ◌⊖◌, ◌⊗◌}
+use Rattle.nef_exact.proofs.Order.{by_order}
+use Rattle.nef_space.specs.Place.{Place, SamePlace, toward, IsBetween}
+use Rattle.nef_space.specs.Sets.{Set}
+use Rattle.nef_space.specs.Vectors.{Vector, opposite, dot, cross, IsZero, IsDirection, SameDirection, IsOpposite}
+use Rattle.nef_near.proofs.Decisions.{ahead}
+use Rattle.nef_near.proofs.Between.{between-turned}
+use Rattle.nef_near.proofs.PlaceOrder.{place_below-apart}
+use Rattle.nef_near.proofs.Rays.{same-place_sym}
+use Rattle.nef_forms.proofs.Between.{toward-place}
+use Rattle.nef_forms.proofs.Directions.{direction-left}
+use Rattle.nef_sphere.specs.Maps.{At, Svertex}
+use Rattle.nef_sphere.proofs.Vectors.{nought-if}
+use Rattle.nef_sphere.proofs.Lists.{at-one}
+use Rattle.nef_sphere.proofs.NearItems.{opposite-turned}
+use Rattle.nef_sphere.proofs.Compare.{SameDirection-turned, SameDirection-trans}
+use Rattle.nef_solid.specs.Complexes.{Vertex, Edge, Complex, HasEnds}
+use Rattle.nef_solid.specs.Shows.{Shows}
+use Rattle.nef_solid.proofs.FacetAngles.{aligned, cross-back}
+use Rattle.nef_solid.proofs.FacetEdges.{ahead-back}
+use Rattle.nef_edges.proofs.Rays.{opposites-same}
+use Rattle.nef_links.proofs.Ties.{IsTied, tied-turned}
+use Rattle.nef_links.proofs.EdgeEnds.{EdgeWays, edge-ways, ends-tied, opposite-way}
+use Rattle.nef_parts.specs.Cycles.{Leads}
+
+-- of two points ahead on one ray one lies before the other, or they are one
+on-ray : (v p q : Place) → SameDirection (toward v p) (toward v q) → IsBetween v p q ⊎ (SamePlace p q ⊎ IsBetween v q p)
+on-ray v p q w = by_order (dot (toward v p) (toward p q)) (pos 0)
+    (λ h. inr (inr (SameDirection-trans (toward v q) (toward v p) (toward q p) (SameDirection-turned (toward v p) (toward v q) w) (record { parallel = back; forward = turned h }))))
+    (λ e. inr (inl (toward-place p q (nought-if (toward v p) (toward p q) some along e))))
+    (λ h. inl (record { parallel = along; forward = h }))
+  where
+    some : IsDirection (toward v p)
+    some = direction-left (toward v p) (toward v q) w
+
+    back : IsZero (cross (toward v p) (toward q p))
+    back = aligned v p q w.parallel
+
+    along : IsZero (cross (toward v p) (toward p q))
+    along = cross-back (toward v p) q p back
+
+    turned : dot (toward v p) (toward p q) <ℤ pos 0 → pos 0 <ℤ dot (toward v p) (toward q p)
+    turned h = let e = turned-dot (toward v p) in omega (arith, ints)
+      where
+        turned-dot : (d : Vector) → dot d (toward q p) ≡ pos 0 -ℤ dot d (toward p q)
+        turned-dot d = ring (d.x ∷ d.y ∷ d.z ∷ p.x ∷ p.y ∷ p.z ∷ pos p.w ∷ q.x ∷ q.y ∷ q.z ∷ pos q.w ∷ [])
+            (at 0 ⊗ (at 3 ⊗ at 10 ⊖ at 7 ⊗ at 6) ⊕ at 1 ⊗ (at 4 ⊗ at 10 ⊖ at 8 ⊗ at 6) ⊕ at 2 ⊗ (at 5 ⊗ at 10 ⊖ at 9 ⊗ at 6))
+            (num (pos 0) ⊖ (at 0 ⊗ (at 7 ⊗ at 6 ⊖ at 3 ⊗ at 10) ⊕ at 1 ⊗ (at 8 ⊗ at 6 ⊖ at 4 ⊗ at 10) ⊕ at 2 ⊗ (at 9 ⊗ at 6 ⊖ at 5 ⊗ at 10))) tt
+
+-- an edge from svertex a of vertex i to svertex b of vertex j
+pub record EdgeFrom (s : Set) (C : Complex) (i a j b : ℕ) : Type 0 where
+  pub from : Vertex
+  pub to : Vertex
+  pub start : Svertex
+  pub end : Svertex
+  pub is_from : At C.vertices i from
+  pub is_to : At C.vertices j to
+  pub is_start : At from.map.svertices a start
+  pub is_end : At to.map.svertices b end
+  pub onward : SameDirection (toward from.point to.point) start.way
+  pub back : IsOpposite start.way end.way
+  pub clear : (k : ℕ) (v : Vertex) → At C.vertices k v → IsBetween from.point v.point to.point → ⊥
+  pub tied : IsTied s (ahead s from.point start.way) (ahead s to.point end.way)
+
+relabelled : (s : Set) (C : Complex) (i a j b i' a' j' b' : ℕ) → i ≡ i' → a ≡ a' → j ≡ j' → b ≡ b' → EdgeFrom s C i a j b → EdgeFrom s C i' a' j' b'
+relabelled s C i a j b i' a' j' b' e f g h V =
+    subst (λ (r : ℕ). EdgeFrom s C i' a' j' r) h (subst (λ (r : ℕ). EdgeFrom s C i' a' r b) g (subst (λ (r : ℕ). EdgeFrom s C i' r j b) f (subst (λ (r : ℕ). EdgeFrom s C r a j b) e V)))
+
+module _ (s : Set) (C : Complex) (S : Shows s C) (n : ℕ) (e : Edge) (at_n : At C.edges n e) where
+  abbrev low : Vertex
+  low = (S.edges.edges n e at_n).low_vertex
+
+  abbrev high : Vertex
+  high = (S.edges.edges n e at_n).high_vertex
+
+  ends : HasEnds C e low high
+  ends = let E = S.edges.edges n e at_n in record { low = E.is_low; high = E.is_high }
+
+  abbrev W : EdgeWays e low high
+  W = edge-ways s C S n e low high at_n ends
+
+  clear-low : (k : ℕ) (v : Vertex) → At C.vertices k v → IsBetween low.point v.point high.point → ⊥
+  clear-low k v a b = let E = S.edges.edges n e at_n in E.first k v a b
+
+  from-low : EdgeFrom s C e.low e.low_svertex e.high e.high_svertex
+  from-low = record {
+    from = low;
+    to = high;
+    start = W.low;
+    end = W.high;
+    is_from = ends.low;
+    is_to = ends.high;
+    is_start = W.is_low;
+    is_end = W.is_high;
+    onward = W.onward;
+    back = W.back;
+    clear = clear-low;
+    tied = ends-tied s C S n e low high at_n ends;
+  }
+
+  from-high : EdgeFrom s C e.high e.high_svertex e.low e.low_svertex
+  from-high = record {
+    from = high;
+    to = low;
+    start = W.high;
+    end = W.low;
+    is_from = ends.high;
+    is_to = ends.low;
+    is_start = W.is_high;
+    is_end = W.is_low;
+    onward = SameDirection-trans (toward high.point low.point) (opposite W.low.way) W.high.way (ahead-back low.point high.point W.low.way W.onward) (opposite-way W.low.way W.high.way W.back);
+    back = opposite-turned W.low.way W.high.way W.back;
+    clear = λ k v a b. clear-low k v a (between-turned high.point low.point v.point b);
+    tied = tied-turned s (ahead s low.point W.low.way) (ahead s high.point W.high.way) (ends-tied s C S n e low high at_n ends);
+  }
+
+  pub edge-from : (i a j b : ℕ) → Leads e i a j b → EdgeFrom s C i a j b
+  edge-from i a j b (inl (f, g, h, k)) = relabelled s C e.low e.low_svertex e.high e.high_svertex i a j b f g h k from-low
+  edge-from i a j b (inr (f, g, h, k)) = relabelled s C e.high e.high_svertex e.low e.low_svertex i a j b f g h k from-high
+
+-- seen from where it leads
+back-way : (s : Set) (C : Complex) (i a j b : ℕ) (V : EdgeFrom s C i a j b) → SameDirection (toward V.to.point V.from.point) V.end.way
+back-way s C i a j b V = SameDirection-trans (toward V.to.point V.from.point) (opposite V.start.way) V.end.way (ahead-back V.from.point V.to.point V.start.way V.onward) (opposite-way V.start.way V.end.way V.back)
+
+-- ---- one edge leads to a svertex
+module _ (s : Set) (C : Complex) (S : Shows s C) (i a i' a' j b : ℕ) (V : EdgeFrom s C i a j b) (W : EdgeFrom s C i' a' j b) where
+  one-to : W.to ≡ V.to
+  one-to = at-one C.vertices j W.to V.to W.is_to V.is_to
+
+  one-end : W.end ≡ V.end
+  one-end = at-one V.to.map.svertices b W.end V.end (subst (λ (r : Vertex). At r.map.svertices b W.end) one-to W.is_end) V.is_end
+
+  other-way : SameDirection (toward V.to.point W.from.point) V.end.way
+  other-way = subst (λ (r : Svertex). SameDirection (toward V.to.point W.from.point) r.way) one-end (subst (λ (r : Vertex). SameDirection (toward r.point W.from.point) W.end.way) one-to (back-way s C i' a' j b W))
+
+  same-point : SamePlace V.from.point W.from.point
+  same-point = ⊎_elim
+      (λ h. absurd (W.clear i V.from V.is_from (subst (λ (r : Vertex). IsBetween W.from.point V.from.point r.point) (sym one-to) (between-turned V.to.point W.from.point V.from.point h))))
+      (λ o. ⊎_elim (λ e. e) (λ h. absurd (V.clear i' W.from W.is_from (between-turned V.to.point V.from.point W.from.point h))) o)
+      (on-ray V.to.point V.from.point W.from.point (SameDirection-trans (toward V.to.point V.from.point) V.end.way (toward V.to.point W.from.point) (back-way s C i a j b V) (SameDirection-turned (toward V.to.point W.from.point) V.end.way other-way)))
+
+  pub one-vertex : i ≡ i'
+  one-vertex = ⊎_elim (λ e. e) (λ o. ⊎_elim
+      (λ l. absurd (place_below-apart V.from.point W.from.point (S.ordered i i' V.from W.from l V.is_from W.is_from) same-point))
+      (λ l. absurd (place_below-apart W.from.point V.from.point (S.ordered i' i W.from V.from l W.is_from V.is_from) (same-place_sym V.from.point W.from.point same-point))) o) (cases_order i i')
+
+  pub one-from : W.from ≡ V.from
+  one-from = at-one C.vertices i W.from V.from (subst (λ (r : ℕ). At C.vertices r W.from) (sym one-vertex) W.is_from) V.is_from
+
+  pub one-svertex : a ≡ a'
+  one-svertex =
+      let M = (S.cones i V.from V.is_from).valid.shaped in
+      M.svertices_apart a a' V.start W.start V.is_start (subst (λ (r : Vertex). At r.map.svertices a' W.start) one-from W.is_start)
+      (opposites-same V.end.way V.start.way W.start.way (opposite-turned V.start.way V.end.way V.back) (subst (λ (r : Svertex). IsOpposite r.way W.start.way) one-end (opposite-turned W.start.way W.end.way W.back)))

@@ -1,0 +1,14 @@
+pub mod Lists
+pub mod CornerLists
+pub mod Numbering
+pub mod Alike
+pub mod Carried
+pub mod EdgeViews
+pub mod NextCorners
+pub mod Order
+pub mod FirstCorners
+pub mod Walks
+pub mod Nexts
+pub mod Grouping
+pub mod CyclesOf
+pub mod PartsOf

@@ -1,0 +1,56 @@
+-- Elements of lists by their places.
+use Rattle.std.proofs.Common.{◌≡◌, ℕ, zero, suc, ◌+◌, List, [], ◌∷◌, ◌++◌, length, ◌≤◌, map, arith, refl, sym, ◌∙◌, subst, inl, inr, ◌⊎◌, length-append}
+use Rattle.nef_space.specs.Lists.{IsAt}
+use Rattle.nef_smap.proofs.ClassLists.{Either, earlier, last, is-at_either, is-at_one, is-at_within}
+use Rattle.nef_edges.proofs.Places.{some-at, at-some, at-map}
+
+-- an element of two lists one after the other is one of the first, or of the second
+pub is-at_parts : {X : Type 0} (xs ys : List X) (k : ℕ) (x : X) → IsAt (xs ++ ys) k x → IsAt xs k x ⊎ ((j : ℕ) × (k ≡ length xs + j) × IsAt ys j x)
+is-at_parts [] ys k x a = inr (k, omega arith, a)
+is-at_parts (z ∷ xs) ys zero x a = inl a
+is-at_parts (z ∷ xs) ys (suc k) x a =
+    elim (is-at_parts xs ys k x a) as (λ u. IsAt (z ∷ xs) (suc k) x ⊎ ((j : ℕ) × (suc k ≡ length (z ∷ xs) + j) × IsAt ys j x)) [ inl i ↦ inl i | inr i ↦ inr (i.0, (let e = i.1 in omega arith), i.2) ]
+
+pub is-at_second : {X : Type 0} (xs ys : List X) (j : ℕ) (x : X) → IsAt ys j x → IsAt (xs ++ ys) (length xs + j) x
+is-at_second {X} [] ys j x a = subst (λ (n : ℕ). IsAt {X = X} ys n x) {x = j} {y = zero + j} (omega arith) a
+is-at_second {X} (z ∷ xs) ys j x a = subst (λ (n : ℕ). IsAt {X = X} (z ∷ xs ++ ys) n x) {x = suc (length xs + j)} {y = suc (length xs) + j} (omega arith) (is-at_second xs ys j x a)
+
+pub is-at_map : {X Y : Type 0} (f : X → Y) (xs : List X) (k : ℕ) (x : X) → IsAt xs k x → IsAt (map f xs) k (f x)
+is-at_map f xs k x a = at-some (map f xs) k (f x) (at-map f xs k x (some-at xs k x a))
+
+-- one element for each of the first n of a list
+pub record AreEach {A B : Type 0} (P : A → B → Type 0) (n : ℕ) (xs : List A) (ys : List B) : Type 0 where
+  pub as_many : length xs ≡ n
+  pub within : n ≤ length ys
+  pub each : (i : ℕ) (x : A) (y : B) → IsAt xs i x → IsAt ys i y → P x y
+
+pub each-none : {A B : Type 0} (P : A → B → Type 0) (ys : List B) → AreEach P 0 [] ys
+each-none P ys = record { as_many = refl; within = omega arith; each = λ i x y a b. cc }
+
+pub each-more : {A B : Type 0} (P : A → B → Type 0) (n : ℕ) (xs : List A) (ys : List B) (x : A) (y : B) → AreEach P n xs ys → IsAt ys n y → P x y → AreEach P (n + 1) (xs ++ x ∷ []) ys
+each-more {A} {B} P n xs ys x y E b p = record {
+  as_many = let e = E.as_many in let f = length-append xs (x ∷ []) in omega arith;
+  within = let h = is-at_within ys n y b in omega arith;
+  each = λ i u v a d. by i u v d (is-at_either xs i u x a);
+}
+  where
+    by : (i : ℕ) (u : A) (v : B) → IsAt ys i v → Either xs i u x → P u v
+    by i u v d (earlier a) = E.each i u v a d
+    by i u v d (last e f) =
+        let same : n ≡ i = sym (e ∙ E.as_many) in
+        subst (λ (w : A). P w v) (sym f) (subst (λ (w : B). P x w) (is-at_one ys n y v b (subst (λ (j : ℕ). IsAt ys j v) (sym same) d)) p)
+
+pub own-more : (xs : List ℕ) (n : ℕ) → length xs ≡ n → ((i m : ℕ) → IsAt xs i m → m ≡ i) → (i m : ℕ) → IsAt (xs ++ n ∷ []) i m → m ≡ i
+own-more xs n e own i m a = by (is-at_either xs i m n a)
+  where
+    by : Either xs i m n → m ≡ i
+    by (earlier b) = own i m b
+    by (last f g) = g ∙ sym e ∙ sym f
+
+-- one more element, which is like all before
+pub none-more : {X : Type 0} (xs : List X) (v : X) → ((i : ℕ) (x : X) → IsAt xs i x → x ≡ v) → (i : ℕ) (x : X) → IsAt (xs ++ v ∷ []) i x → x ≡ v
+none-more {X} xs v all i x a = by (is-at_either xs i x v a)
+  where
+    by : Either xs i x v → x ≡ v
+    by (earlier b) = all i x b
+    by (last e f) = f

@@ -1,0 +1,6 @@
+use Rattle.std.proofs.Common.{◌≡◌, length}
+use Rattle.nef_facets.specs.Orbits.{AreGrouped}
+use Rattle.nef_facets.proofs.cycles.grouped.Given as goal
+
+abbrev pub invariant-loop-orbit : goal.invariant-loop-orbit
+invariant-loop-orbit l = record { as_many : length l.cycles.items ≡ l.count; grouped : AreGrouped l.rows l.corners l.orbits l.orbit-index l.cycles.items }

@@ -1,0 +1,34 @@
+-- Lists of corners.
+use Rattle.std.specs.Prelude.{ℕ, zero, suc, ◌<◌, List, [], ◌∷◌, ◌++◌}
+use Rattle.nef_space.specs.Lists.{IsAt}
+use Rattle.nef_sphere.specs.Maps.{Item}
+use Rattle.nef_solid.specs.Complexes.{Vertex, Complex, Corner as PlainCorner, IsCorner}
+use Rattle.nef_complex.specs.declared.complex.Corner.{Corner}
+use Rattle.nef_complex.specs.Complexes.{corner_of}
+use Rattle.nef_parts.specs.Cycles.{IsCornerBelow}
+
+abbrev pub corner_from : PlainCorner → Corner
+corner_from k = record { vertex = k.vertex; item = k.item }
+
+-- the corners of a vertex with so many items
+abbrev pub corners_at : ℕ → ℕ → List Corner
+corners_at i zero = []
+corners_at i (suc n) = corners_at i n ++ record { vertex = i; item = n } ∷ []
+
+-- there is an item at the corner
+abbrev pub HasItem : Complex → PlainCorner → Type 0
+HasItem C k = (v : Vertex) × (x : Item) × IsCorner C k v x
+
+-- there is an item at each corner of the list
+abbrev pub AreListed : Complex → List Corner → Type 0
+AreListed C ks = (i : ℕ) (k : Corner) → IsAt ks i k → HasItem C (corner_of k)
+
+-- the corners stand in order
+abbrev pub AreInOrder : List Corner → Type 0
+AreInOrder ks = (i j : ℕ) (x y : Corner) → i < j → IsAt ks i x → IsAt ks j y → IsCornerBelow (corner_of x) (corner_of y)
+
+-- the list has all corners of the complex, in order
+pub record AreCorners (C : Complex) (ks : List Corner) : Type 0 where
+  pub each : AreListed C ks
+  pub all : (k : PlainCorner) → HasItem C k → (i : ℕ) × IsAt ks i (corner_from k)
+  pub ordered : AreInOrder ks

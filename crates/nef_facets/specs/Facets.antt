@@ -1,0 +1,41 @@
+-- The facets of a complex.
+use Rattle.std.specs.Prelude.{◌≡◌, ℕ, ◌<◌, pos, List, length}
+use Rattle.nef_space.specs.Lists.{IsAt}
+use Rattle.nef_space.specs.Place.{form_at, normal_of}
+use Rattle.nef_space.specs.Vectors.{SameDirection}
+use Rattle.nef_space.specs.declared.label.Label.{Label}
+use Rattle.nef_geo.specs.Shapes.{form_of}
+use Rattle.nef_geo.specs.declared.plane.Plane.{Plane}
+use Rattle.nef_sphere.specs.Maps.{Item, item_normal, item_mark}
+use Rattle.nef_solid.specs.Complexes.{Vertex, Complex, Corner, IsCorner}
+use Rattle.nef_complex.specs.declared.complex.Corner.{Corner as CornerValue}
+use Rattle.nef_complex.specs.Complexes.{corner_of}
+use Rattle.nef_parts.specs.Cycles.{Cycles}
+use Rattle.nef_parts.specs.Numbers.{IsFacetOf, FacetNumbers, cycle_corners}
+use Rattle.nef_parts.specs.declared.parts.Cycle.{Cycle}
+use Rattle.nef_facets.specs.declared.parts.FacetParts.{FacetParts}
+
+-- the plane holds the vertex and has the item's normal
+abbrev pub IsPlaneAt : Complex → Plane → Corner → Type 0
+IsPlaneAt C h k = (v : Vertex) (x : Item) → IsCorner C k v x → (form_at (form_of h) v.point ≡ pos 0) × SameDirection (normal_of (form_of h)) (item_normal x)
+
+-- the label is the item's mark
+abbrev pub IsMarkAt : Complex → Label → Corner → Type 0
+IsMarkAt C l k = (v : Vertex) (x : Item) → IsCorner C k v x → l ≡ item_mark x
+
+-- for each facet number a listed corner with it, and no listed corner has another number
+pub record AreFirsts (rows : List (List ℕ)) (ks firsts : List CornerValue) : Type 0 where
+  pub each : (n : ℕ) (k : CornerValue) → IsAt firsts n k → IsFacetOf rows (corner_of k) n × ((i : ℕ) × IsAt ks i k)
+  pub all : (i n : ℕ) (k : CornerValue) → IsAt ks i k → IsFacetOf rows (corner_of k) n → n < length firsts
+
+-- the facets of the complex, with their numbers
+pub record IsFacetParts (C : Complex) (p : FacetParts) : Type 0 where
+  pub numbers : FacetNumbers C p.facet_of
+  pub as_many_marks : length p.marks ≡ length p.planes
+  pub as_many_cycles : length p.cycles ≡ length p.planes
+  pub some : (n : ℕ) → n < length p.planes → (k : Corner) × IsFacetOf p.facet_of k n
+  pub all : (k : Corner) (n : ℕ) → IsFacetOf p.facet_of k n → n < length p.planes
+  pub planes : (n : ℕ) (h : Plane) (k : Corner) (v : Vertex) (x : Item) → IsAt p.planes n h → IsFacetOf p.facet_of k n → IsCorner C k v x
+      → (form_at (form_of h) v.point ≡ pos 0) × SameDirection (normal_of (form_of h)) (item_normal x)
+  pub marks : (n : ℕ) (l : Label) (k : Corner) (v : Vertex) (x : Item) → IsAt p.marks n l → IsFacetOf p.facet_of k n → IsCorner C k v x → l ≡ item_mark x
+  pub cycles : (n : ℕ) (xs : List Cycle) → IsAt p.cycles n xs → Cycles C (λ k. IsFacetOf p.facet_of k n) (cycle_corners xs)

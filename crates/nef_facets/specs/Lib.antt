@@ -1,0 +1,4 @@
+pub mod Corners
+pub mod Facets
+pub mod Next
+pub mod Orbits

@@ -1,0 +1,25 @@
+-- The next corner of each corner, by numbers.
+use Rattle.std.specs.Prelude.{◌≡◌, ℕ, ◌<◌, List, length}
+use Rattle.nef_space.specs.Lists.{IsAt}
+use Rattle.nef_space.specs.Vectors.{Vector, SameDirection}
+use Rattle.nef_sphere.specs.Maps.{At, Arc, Map}
+use Rattle.nef_solid.specs.Complexes.{Vertex, Complex, Corner as PlainCorner}
+use Rattle.nef_complex.specs.declared.complex.Corner.{Corner}
+use Rattle.nef_complex.specs.Complexes.{corner_of}
+use Rattle.nef_parts.specs.Cycles.{NextCorner}
+
+-- arc k has the normal and ends at svertex b
+abbrev pub IsArcInto : Map → ℕ → Vector → ℕ → Type 0
+IsArcInto M b n k = (a : Arc) × At M.arcs k a × (a.target ≡ b) × SameDirection n a.normal
+
+-- the corner is that of an arc that begins at svertex a of vertex i
+abbrev pub LeavesFrom : Complex → PlainCorner → ℕ → ℕ → Type 0
+LeavesFrom C k i a = (v : Vertex) × (r : Arc) × At C.vertices k.vertex v × At v.map.arcs k.item r × (k.vertex ≡ i) × (r.source ≡ a)
+
+-- the number at place i is that of the next corner of corner i
+abbrev pub HasNext : Complex → List Corner → List ℕ → ℕ → Type 0
+HasNext C ks ns i = (j : ℕ) × (x : Corner) × (y : Corner) × IsAt ks i x × IsAt ns i j × IsAt ks j y × NextCorner C (corner_of x) (corner_of y)
+
+pub record AreNext (C : Complex) (ks : List Corner) (ns : List ℕ) : Type 0 where
+  pub as_many : length ns ≡ length ks
+  pub each : (i : ℕ) → i < length ks → HasNext C ks ns i

@@ -1,0 +1,51 @@
+//! The number of the facet of each item.
+
+ghost use Rattle.std.specs.Prelude.{◌≡◌, ◌↔◌, map, IfOk};
+ghost use Rattle.nef_space.specs.Sets.{Set};
+ghost use Rattle.nef_solid.specs.Complexes.{Corner as PlainCorner};
+ghost use Rattle.nef_complex.specs.Complexes.{complex_of, ShowsSet};
+ghost use Rattle.nef_links.specs.Links.{FacetLink};
+ghost use Rattle.nef_parts.specs.Numbers.{count_items, FacetNumbers};
+ghost use Rattle.nef_classes.specs.Tables.{AreTied, AreTiedWithin};
+ghost use Rattle.nef_ties.specs.Ties.{spot_of};
+
+use crate::OutOfMemory;
+use crate::items::item_count;
+use nef_classes::{Tie, number_rows};
+use nef_complex::Complex;
+use nef_geo::List;
+use nef_ties::{across_ties, along_ties};
+use std::alloc::Global;
+
+// How many items each vertex has.
+fn item_counts(alloc: Global, c: &Complex) -> Result<Vec<usize>, OutOfMemory>
+    ensures counts { IfOk result (λ v. v.items ≡ map count_items (complex_of c.now).vertices) }
+{
+    let mut counts = Vec::new(alloc);
+    for vertex in c.vertices.as_slice() {
+        counts.push(item_count(&vertex.map))?;
+    }
+    Ok(counts)
+}
+
+// The links along edges and those across facets.
+fn facet_ties(alloc: Global, c: &Complex) -> Result<Vec<Tie>, OutOfMemory>
+    requires shows { (s : Set) × ShowsSet s c.now }
+    ensures within { IfOk result (λ v. AreTiedWithin (map count_items (complex_of c.now).vertices) v.items) }
+    ensures links { IfOk result (λ v. (j k : PlainCorner) → AreTied v.items (spot_of j) (spot_of k) ↔ FacetLink (complex_of c.now) j k) }
+{
+    let mut ties = along_ties(alloc, c)?;
+    let across = across_ties(alloc, c)?;
+    ties.extend_from_slice(&across)?;
+    Ok(ties)
+}
+
+/// For each vertex the numbers of the facets of its items. Facets are numbered from 0 by first appearance.
+pub(crate) fn facet_numbers(alloc: Global, c: &Complex) -> Result<List<List<usize>>, OutOfMemory>
+    requires shows { (s : Set) × ShowsSet s c.now }
+    ensures numbers { IfOk result (λ rows. FacetNumbers (complex_of c.now) rows) }
+{
+    let counts = item_counts(alloc, c)?;
+    let ties = facet_ties(alloc, c)?;
+    number_rows(alloc, &counts, &ties)
+}

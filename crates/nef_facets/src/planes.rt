@@ -1,0 +1,97 @@
+//! The planes and the marks of facets.
+
+ghost use Rattle.std.specs.Prelude.{◌≡◌, ℕ, pos, ◌↔◌, length, IsTrue, IfOk};
+ghost use Rattle.nef_space.specs.Lists.{IsAt};
+ghost use Rattle.nef_space.specs.Place.{form_at, normal_of};
+ghost use Rattle.nef_space.specs.Sets.{Set};
+ghost use Rattle.nef_space.specs.Vectors.{SameDirection};
+ghost use Rattle.nef_geo.specs.Shapes.{form_of, place_of, vector_of};
+ghost use Rattle.nef_complex.specs.Complexes.{complex_of, corner_of, ShowsSet};
+ghost use Rattle.nef_facets.specs.Corners.{HasItem, AreListed};
+ghost use Rattle.nef_facets.specs.Facets.{IsPlaneAt, IsMarkAt};
+
+use crate::OutOfMemory;
+use crate::items::{mark_at, normal_at};
+use nef_complex::{Complex, Corner};
+use nef_geo::{Dir, Label, List, Plane, Point, Sign, side};
+use std::alloc::Global;
+
+// The direction of the plane's normal.
+fn plane_normal(h: &Plane) -> Dir
+    ensures normal { SameDirection (normal_of (form_of h.now)) (vector_of result) }
+{
+    match Dir::of(h.a(), h.b(), h.c()) {
+        Some(normal) => normal,
+        None => unreachable!(),
+    }
+}
+
+pub(crate) fn same_dir(a: &Dir, b: &Dir) -> bool
+    ensures same { IsTrue result ↔ (a.now ≡ b.now) }
+{
+    a == b
+}
+
+fn holds(h: &Plane, point: &Point) -> bool
+    ensures holds { IsTrue result ↔ (form_at (form_of h.now) (place_of point.now) ≡ pos 0) }
+{
+    side(h, point) == Sign::Zero
+}
+
+// Whether the plane holds the point and has the normal.
+fn is_plane_of(h: &Plane, point: &Point, normal: &Dir) -> bool
+    ensures plane { IsTrue result ↔ ((form_at (form_of h.now) (place_of point.now) ≡ pos 0) × SameDirection (normal_of (form_of h.now)) (vector_of normal.now)) }
+{
+    holds(h, point) && same_dir(&plane_normal(h), normal)
+}
+
+// The plane of the corner's item: a carrier holds each item.
+fn plane_of(c: &Complex, k: &Corner) -> Plane
+    requires shows { (s : Set) × ShowsSet s c.now }
+    requires corner { HasItem (complex_of c.now) (corner_of k.now) }
+    ensures plane { IsPlaneAt (complex_of c.now) result (corner_of k.now) }
+{
+    let vertex = c.vertices.at(k.vertex);
+    let normal = normal_at(&vertex.map, k.item);
+    for h in c.carriers.as_slice() {
+        if is_plane_of(h, &vertex.point, &normal) {
+            return *h;
+        }
+    }
+    unreachable!()
+}
+
+/// The planes of the corners' items.
+pub(crate) fn planes(alloc: Global, c: &Complex, corners: &[Corner]) -> Result<List<Plane>, OutOfMemory>
+    requires shows { (s : Set) × ShowsSet s c.now }
+    requires corners { AreListed (complex_of c.now) corners.now }
+    ensures as_many { IfOk result (λ hs. length hs ≡ length corners.now) }
+    ensures planes { IfOk result (λ hs. (n : ℕ) (h : Plane) (k : Corner) → IsAt hs n h → IsAt corners.now n k → IsPlaneAt (complex_of c.now) h (corner_of k)) }
+{
+    let mut planes = List::new(alloc);
+    for corner in corners {
+        planes.push(plane_of(c, corner))?;
+    }
+    Ok(planes)
+}
+
+// The mark of the corner's item.
+fn mark_of(c: &Complex, k: &Corner) -> Label
+    requires corner { HasItem (complex_of c.now) (corner_of k.now) }
+    ensures mark { IsMarkAt (complex_of c.now) result (corner_of k.now) }
+{
+    mark_at(&c.vertices.at(k.vertex).map, k.item)
+}
+
+/// The marks of the corners' items.
+pub(crate) fn marks(alloc: Global, c: &Complex, corners: &[Corner]) -> Result<List<Label>, OutOfMemory>
+    requires corners { AreListed (complex_of c.now) corners.now }
+    ensures as_many { IfOk result (λ ls. length ls ≡ length corners.now) }
+    ensures marks { IfOk result (λ ls. (n : ℕ) (l : Label) (k : Corner) → IsAt ls n l → IsAt corners.now n k → IsMarkAt (complex_of c.now) l (corner_of k)) }
+{
+    let mut marks = List::new(alloc);
+    for corner in corners {
+        marks.push(mark_of(c, corner))?;
+    }
+    Ok(marks)
+}

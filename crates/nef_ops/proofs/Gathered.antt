@@ -1,0 +1,127 @@
+-- What an operation gathers: its candidates, the right map at each, and its carriers.
+use Rattle.std.proofs.Common.{◌≡◌, Bool, ℕ, zero, suc, ◌+◌, ◌<◌, ◌≤◌, List, [], ◌∷◌, ◌++◌, map, take, length, get_or, slice_get, Some, ap, sym, subst, ◌∙◌, inl, inr}
+use Rattle.std.specs.List.{Contains}
+use Rattle.std.proofs.lemmas.List.{map_more, take_all, length-map}
+use Rattle.nef_space.specs.Local.{IsVertex}
+use Rattle.nef_space.specs.Place.{Place, Form, SamePlace, IsPlaceBelow}
+use Rattle.nef_space.specs.Sets.{Set}
+use Rattle.nef_geo.specs.Shapes.{form_of, place_of}
+use Rattle.nef_geo.specs.declared.plane.Plane.{Plane}
+use Rattle.nef_geo.specs.declared.point.Point.{Point}
+use Rattle.nef_sphere.specs.Least.{InOrder, Cone}
+use Rattle.nef_sphere.specs.Maps.{At}
+use Rattle.nef_sphere.proofs.Lists.{at-one}
+use Rattle.nef_star.specs.declared.op.Op.{Op}
+use Rattle.nef_star.specs.declared.op.Op.TheVariants.{And, Or, Diff, Xor}
+use Rattle.nef_combine.specs.Sets.{op_set}
+use Rattle.nef_smap.specs.declared.map.SphereMap.{SphereMap}
+use Rattle.nef_smap.specs.Maps.{map_of, IsLeastMap}
+use Rattle.nef_smap.proofs.Lists.{map-at, at-map, at-within, at-get, get-at}
+use Rattle.nef_solid.specs.Complexes.{Vertex as PlainVertex}
+use Rattle.nef_solid.specs.Shows.{Carriers, SamePlane}
+use Rattle.nef_complex.specs.declared.complex.Vertex.{Vertex}
+use Rattle.nef_complex.specs.declared.complex.Complex.{Complex}
+use Rattle.nef_complex.specs.Complexes.{vertex_of, ShowsSet}
+use Rattle.nef_cand.specs.Candidates.{IsListed, IsVertexOfBoth}
+use Rattle.nef_result.specs.Results.{AreMapsOf}
+use Rattle.nef_ops.specs.declared.op.UnaryOp.{UnaryOp}
+use Rattle.nef_ops.specs.Nodes.{unary_set}
+use Rattle.nef_ops.specs.Rights.{IsRight, points_of}
+use Rattle.nef_ops.proofs.OneSet.{unary-carriers, unary-vertex}
+
+-- ---- elements by their places
+pub at-got : {X : Type 0} (xs : List X) (k : ℕ) (x : X) → At xs k x → slice_get xs k ≡ Some x
+at-got [] k x h = absurd h
+at-got (y ∷ ys) zero x h = ap Some h
+at-got (y ∷ ys) (suc k) x h = at-got ys k x h
+
+pub at-listed : {X : Type 0} (xs : List X) (k : ℕ) (x : X) → At xs k x → Contains xs x
+at-listed xs k x h = (k, at-within xs k x h, at-get xs k x x h)
+
+-- ---- a right map
+pub right-at : (s : Set) (ps : List Point) (i : ℕ) (q : Point) (m : SphereMap) → i < length ps → IsLeastMap m → Cone (map_of m) s (place_of (get_or ps i q)) → IsRight s ps i m
+right-at s ps i q m l L C = record { least = L; cone = λ p a. subst (λ (r : Point). Cone (map_of m) s (place_of r)) (at-one ps i (get_or ps i q) p (get-at ps i q l) a) C }
+
+-- ---- right maps at points among which all vertices are
+pub right-maps : (s : Set) (hs : List Plane) (ps : List Point) (ms : List SphereMap) → Carriers s (map form_of hs) → length ms ≡ length ps
+    → InOrder (λ (p q : Point). IsPlaceBelow (place_of p) (place_of q)) ps → ((i : ℕ) (m : SphereMap) → slice_get ms i ≡ Some m → IsRight s ps i m)
+    → ((y : Place) → IsVertex s y → IsListed ps y) → AreMapsOf s hs ps ms
+right-maps s hs ps ms C alike order right all = record {
+  carriers = C;
+  alike = alike;
+  ordered = order;
+  least = λ k m h. let r = right k m (at-got ms k m h) in r.least;
+  cones = λ k p m a h. let r = right k m (at-got ms k m h) in r.cone p a;
+  complete = all;
+}
+
+-- ---- a vertex of a combination
+pub vertex-of_both : (op : Op) (s t : Set) (y : Place) → IsVertex (op_set op s t) y → IsVertexOfBoth s t y
+vertex-of_both And s t y v = inl v
+vertex-of_both Or s t y v = inr (inl v)
+vertex-of_both Diff s t y v = inr (inr (inl v))
+vertex-of_both Xor s t y v = inr (inr (inr v))
+
+-- ---- what the operations gather
+abbrev pub AreInOrder : List Point → Type 0
+AreInOrder ps = InOrder (λ (p q : Point). IsPlaceBelow (place_of p) (place_of q)) ps
+
+-- of a combination of two sets, by the candidates vs, listed as ps
+module _ (op : Op) (a b : Complex) (hs : List Plane) (vs ps : List Point) (ms : List SphereMap) (same : ps ≡ vs) (order : AreInOrder vs)
+    (complete : (s t : Set) (y : Place) → ShowsSet s a → ShowsSet t b → IsVertexOfBoth s t y → IsListed vs y)
+    (carried : (s t : Set) (o : Op) → ShowsSet s a → ShowsSet t b → Carriers (op_set o s t) (map form_of hs)) (alike : length ms ≡ length ps)
+    (right : (i : ℕ) (m : SphereMap) → slice_get ms i ≡ Some m → (s t : Set) → ShowsSet s a → ShowsSet t b → IsRight (op_set op s t) ps i m) where
+  pub both-maps : (s t : Set) → ShowsSet s a → ShowsSet t b → AreMapsOf (op_set op s t) hs ps ms
+  both-maps s t S T = right-maps (op_set op s t) hs ps ms (carried s t op S T) alike (subst AreInOrder (sym same) order) (λ i m e. right i m e s t S T)
+      (λ y v. subst (λ (qs : List Point). IsListed qs y) (sym same) (complete s t y S T (vertex-of_both op s t y v)))
+
+-- of a half
+pub half-maps : (f : Form) (closed : Bool) (h : Plane) (whole : Complex) (hs : List Plane) (vs ps : List Point) (ms : List SphereMap) → ShowsSet Set.full whole → SamePlane (form_of h) f → ps ≡ vs → AreInOrder vs
+    → ((g : Form) (c : Bool) (y : Place) → SamePlane (form_of h) g → ShowsSet Set.full whole → IsVertex (Set.half g c) y → IsListed vs y)
+    → ((g : Form) (c : Bool) → ShowsSet Set.full whole → SamePlane (form_of h) g → Carriers (Set.half g c) (map form_of hs)) → length ms ≡ length ps
+    → ((i : ℕ) (m : SphereMap) → slice_get ms i ≡ Some m → IsRight (Set.half f closed) ps i m) → AreMapsOf (Set.half f closed) hs ps ms
+half-maps f closed h whole hs vs ps ms S P same order complete carried alike right =
+    right-maps (Set.half f closed) hs ps ms (carried f closed S P) alike (subst AreInOrder (sym same) order) right (λ y v. subst (λ (qs : List Point). IsListed qs y) (sym same) (complete f closed y P S v))
+
+-- ---- the vertices of a complex
+module _ (s : Set) (c : Complex) (S : ShowsSet s c) where
+  pub points-ordered : InOrder (λ (p q : Point). IsPlaceBelow (place_of p) (place_of q)) (points_of c)
+  points-ordered i k p q l a b =
+      let u = at-map (λ (v : Vertex). v.point) c.vertices i p a in
+      let w = at-map (λ (v : Vertex). v.point) c.vertices k q b in
+      subst (λ (r : Point). IsPlaceBelow (place_of r) (place_of q)) u.2 (subst (λ (r : Point). IsPlaceBelow (place_of u.0.point) (place_of r)) w.2
+      (S.shows.ordered i k (vertex_of u.0) (vertex_of w.0) l (map-at vertex_of c.vertices i u.0 u.1) (map-at vertex_of c.vertices k w.0 w.1)))
+
+  pub vertices-listed : (y : Place) → IsVertex s y → IsListed (points_of c) y
+  vertices-listed y v =
+      let f = S.shows.complete y v in
+      let u = at-map vertex_of c.vertices f.0 f.1 f.2 in
+      (u.0.point, at-listed (points_of c) f.0 u.0.point (map-at (λ (w : Vertex). w.point) c.vertices f.0 u.0 u.1), subst (λ (w : PlainVertex). SamePlace w.point y) (sym u.2) f.3)
+
+  -- what the operation makes of the map of a vertex is right at its point
+  pub vertex-right : (op : UnaryOp) (k : ℕ) (v : Vertex) (m : SphereMap) → At c.vertices k v → IsLeastMap m → (Cone (map_of v.map) s (place_of v.point) → Cone (map_of m) (unary_set op s) (place_of v.point))
+      → IsRight (unary_set op s) (points_of c) k m
+  vertex-right op k v m h L f = record {
+    least = L;
+    cone = λ p a. subst (λ (r : Point). Cone (map_of m) (unary_set op s) (place_of r)) (at-one (points_of c) k v.point p (map-at (λ (w : Vertex). w.point) c.vertices k v h) a)
+        (f (S.shows.cones k (vertex_of v) (map-at vertex_of c.vertices k v h)));
+  }
+
+-- ---- the points of the vertices, one after another
+pub points-more : (vs us : List Vertex) → us ≡ vs → (i : ℕ) (v : Vertex) (ps qs : List Point) → i < length us → v ≡ get_or us i v → ps ≡ map (λ (w : Vertex). w.point) (take i vs)
+    → qs ≡ ps ++ v.point ∷ [] → qs ≡ map (λ (w : Vertex). w.point) (take (i + 1) vs)
+points-more vs us same i v ps qs l is so added =
+    let within = subst (λ (ws : List Vertex). i < length ws) same l in
+    let own = is ∙ ap (λ (ws : List Vertex). get_or ws i v) same in
+    added ∙ ap (λ (rs : List Point). rs ++ v.point ∷ []) so ∙ ap (λ (w : Vertex). map (λ (x : Vertex). x.point) (take i vs) ++ w.point ∷ []) own ∙ sym (map_more (λ (w : Vertex). w.point) vs i v within)
+
+pub points-all : (vs us : List Vertex) → us ≡ vs → (i : ℕ) (ps : List Point) → length us ≤ i → ps ≡ map (λ (w : Vertex). w.point) (take i vs) → ps ≡ map (λ (w : Vertex). w.point) vs
+points-all vs us same i ps l so = so ∙ ap (map (λ (w : Vertex). w.point)) (take_all i vs (subst (λ (ws : List Vertex). length ws ≤ i) same l))
+
+-- of an operation on one set
+pub one-maps : (op : UnaryOp) (a : Complex) (hs : List Plane) (vs ps : List Point) (ms : List SphereMap) → ps ≡ vs → vs ≡ points_of a → hs ≡ a.carriers → length ms ≡ length a.vertices
+    → ((i : ℕ) (m : SphereMap) → slice_get ms i ≡ Some m → (s : Set) → ShowsSet s a → IsRight (unary_set op s) (points_of a) i m) → (s : Set) → ShowsSet s a → AreMapsOf (unary_set op s) hs ps ms
+one-maps op a hs vs ps ms same listed copied alike right s S =
+    subst (λ (qs : List Point). AreMapsOf (unary_set op s) hs qs ms) (sym (same ∙ listed))
+    (right-maps (unary_set op s) hs (points_of a) ms (subst (λ (gs : List Plane). Carriers (unary_set op s) (map form_of gs)) (sym copied) (unary-carriers op s (map form_of a.carriers) S.shows.carriers))
+    (alike ∙ sym (length-map a.vertices (λ (v : Vertex). v.point))) (points-ordered s a S) (λ i m e. right i m e s S) (λ y v. vertices-listed s a S y (unary-vertex op s y v)))

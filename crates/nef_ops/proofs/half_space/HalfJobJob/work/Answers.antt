@@ -1,0 +1,12 @@
+use Rattle.nef_space.specs.Sets.{Set}
+use Rattle.nef_geo.specs.Shapes.{given_form}
+use Rattle.nef_ops.proofs.Gathered.{right-at}
+use Rattle.nef_ops.proofs.half_space.HalfJobJob.work.Goals as goal
+
+pub half_map-requires-clause-frame : goal.half_map-requires-clause-frame
+half_map-requires-clause-frame c = c.in_ok-whole.ensures.cone Set.full c.requires.workable.0
+
+pub returns : goal.returns
+returns c =
+    let j = c.args.self.now in
+    right-at (Set.half (given_form j.oriented.now) j.closed) j.points.now c.args.job c.index-self-job.result c.in_ok-map.map c.requires.job c.in_ok-map.ensures.least c.in_ok-map.ensures.cone

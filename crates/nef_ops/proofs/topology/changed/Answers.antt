@@ -1,0 +1,32 @@
+use Rattle.std.proofs.Common.{sym, subst}
+use Rattle.std.specs.Prelude.{IfOk}
+use Rattle.nef_space.specs.Place.{Place}
+use Rattle.nef_space.specs.Sets.{Set}
+use Rattle.nef_sphere.specs.Least.{Cone}
+use Rattle.nef_smap.specs.Maps.{map_of}
+use Rattle.nef_smap.specs.declared.map.SphereMap.{SphereMap}
+use Rattle.nef_ops.specs.declared.op.UnaryOp.{UnaryOp}
+use Rattle.nef_ops.specs.Nodes.{unary_set}
+use Rattle.nef_ops.proofs.OneSet.{regular-cone}
+use Rattle.nef_ops.proofs.topology.changed.Goals as goal
+
+-- the map n shows what the operation makes of each set that m shows
+abbrev ShowsChanged : SphereMap → UnaryOp → SphereMap → Type 0
+ShowsChanged m op n = (s : Set) (p : Place) → Cone (map_of m) s p → Cone (map_of n) (unary_set op s) p
+
+pub returns-in-Not-clause-cone : goal.returns-in-Not-clause-cone
+returns-in-Not-clause-cone c = subst (λ (op : UnaryOp). IfOk c.complement.result (ShowsChanged c.args.map.now op)) (sym c.in-Not.is) c.complement.ensures.cone
+
+pub returns-in-Int-clause-cone : goal.returns-in-Int-clause-cone
+returns-in-Int-clause-cone c = subst (λ (op : UnaryOp). IfOk c.interior.result (ShowsChanged c.args.map.now op)) (sym c.in-Int.is) c.interior.ensures.cone
+
+pub returns-in-Cl-clause-cone : goal.returns-in-Cl-clause-cone
+returns-in-Cl-clause-cone c = subst (λ (op : UnaryOp). IfOk c.closure.result (ShowsChanged c.args.map.now op)) (sym c.in-Cl.is) c.closure.ensures.cone
+
+pub returns-in-Bd-clause-cone : goal.returns-in-Bd-clause-cone
+returns-in-Bd-clause-cone c = subst (λ (op : UnaryOp). IfOk c.boundary.result (ShowsChanged c.args.map.now op)) (sym c.in-Bd.is) c.boundary.ensures.cone
+
+pub returns-in_ok-map-in-Reg-clause-cone : goal.returns-in_ok-map-in-Reg-clause-cone
+returns-in_ok-map-in-Reg-clause-cone c = λ s p K.
+    subst (λ (op : UnaryOp). Cone (map_of c.in_ok-map-in-Reg.map) (unary_set op s) p) (sym c.in-Reg.is)
+    (regular-cone (map_of c.in_ok-map-in-Reg.map) s p (c.in_ok-map-in-Reg.ensures.cone (Set.inside s) p (c.in_ok-inside-in-Reg.ensures.cone s p K)))

@@ -1,0 +1,88 @@
+//! Combinations of two sets.
+
+ghost use Rattle.std.specs.Prelude.{◌≤◌, IfOk};
+ghost use Rattle.nef_space.specs.Sets.{Set};
+ghost use Rattle.nef_combine.specs.Sets.{op_set};
+ghost use Rattle.nef_complex.specs.Complexes.{ShowsSet};
+
+use crate::OutOfMemory;
+use crate::finished::finished;
+use nef_cand::candidates;
+use nef_combine::combine;
+use nef_complex::Complex;
+use nef_core::{How, Job};
+use nef_geo::Point;
+use nef_io::Gate;
+use nef_locate::local_map;
+use nef_result::{assemble, merge_carriers};
+use nef_smap::SphereMap;
+use nef_star::Op;
+use std::alloc::Global;
+use std::sync::Wait;
+use std::thread::Threads;
+
+// The least map of the combination of the sets of two complexes at each point.
+#[derive(Drop)]
+struct BinaryJob<'a> {
+    op: Op,
+    first: &'a Complex,
+    second: &'a Complex,
+    points: &'a [Point],
+}
+
+impl<'a> Job for BinaryJob<'a> {
+    ghost use Rattle.std.specs.Prelude.{length};
+    ghost use Rattle.nef_cand.specs.Candidates.{AreFramed};
+    ghost use Rattle.nef_ops.specs.Rights.{IsRight};
+
+    type Out = SphereMap;
+
+    ghost count = { λ j. length j.points.now };
+
+    ghost right = { λ j i m. (s t : Set) → ShowsSet s j.first.now → ShowsSet t j.second.now → IsRight (op_set j.op s t) j.points.now i m };
+
+    ghost workable = { λ j. ((s : Set) × ShowsSet s j.first.now) × ((t : Set) × ShowsSet t j.second.now) × AreFramed j.points.now };
+
+    fn jobs(&self) -> u64 {
+        self.points.len() as u64
+    }
+
+    fn work(&self, alloc: Global, job: u64) -> Result<SphereMap, OutOfMemory> {
+        let point = &self.points[job as usize];
+        let first = local_map(alloc, self.first, point)?;
+        let second = local_map(alloc, self.second, point)?;
+        let map = combine(alloc, &first, &second, self.op)?;
+        Ok(map)
+    }
+}
+
+/// The complex of the combination of the sets of two complexes. One job for each candidate, in their order, is worked by
+/// `how.workers` workers, from 1 to 64, over the board that `how` names; the gate is told of each before it begins.
+/// `OutOfMemory` says that memory was wanted and not found.
+pub fn binary<R: Threads + Wait + Sync, G: Gate + Sync>(
+    rt: &R,
+    alloc: Global,
+    op: Op,
+    a: &Complex,
+    b: &Complex,
+    how: &How,
+    gate: &G,
+) -> Result<Complex, OutOfMemory>
+    requires workers { (1 ≤ how.now.workers) × (how.now.workers ≤ 64) }
+    requires first { (s : Set) × ShowsSet s a.now }
+    requires second { (t : Set) × ShowsSet t b.now }
+    ensures shows { IfOk result (λ c. (s t : Set) → ShowsSet s a.now → ShowsSet t b.now → ShowsSet (op_set op s t) c) }
+{
+    let listed = candidates(alloc, a, b)?;
+    let points = listed.as_slice();
+    let job = BinaryJob {
+        op,
+        first: a,
+        second: b,
+        points,
+    };
+    let maps = finished(rt, alloc, &job, how, gate)?;
+    let carriers = merge_carriers(alloc, a, b)?;
+    let complex = assemble(alloc, carriers, points, maps)?;
+    Ok(complex)
+}

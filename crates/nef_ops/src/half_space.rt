@@ -1,0 +1,103 @@
+//! Halves of the frame.
+
+ghost use Rattle.std.specs.Prelude.{◌≤◌, IfOk};
+ghost use Rattle.nef_space.specs.Sets.{Set};
+ghost use Rattle.nef_geo.specs.Shapes.{given_form};
+ghost use Rattle.nef_complex.specs.Complexes.{ShowsSet};
+
+use crate::OutOfMemory;
+use crate::finished::finished;
+use nef_cand::cut_candidates;
+use nef_complex::Complex;
+use nef_core::{How, Job};
+use nef_frame::frame;
+use nef_geo::{Label, Oriented, Point};
+use nef_io::Gate;
+use nef_locate::local_map;
+use nef_result::{add_carrier, assemble, half_map};
+use nef_smap::SphereMap;
+use std::alloc::Global;
+use std::sync::Wait;
+use std::thread::Threads;
+
+// The least map of the half at each point. The complex is that of the whole frame.
+#[derive(Drop)]
+struct HalfJob<'a> {
+    whole: &'a Complex,
+    points: &'a [Point],
+    oriented: &'a Oriented,
+    closed: bool,
+}
+
+impl<'a> Job for HalfJob<'a> {
+    ghost use Rattle.std.specs.Prelude.{length};
+    ghost use Rattle.nef_cand.specs.Candidates.{AreFramed};
+    ghost use Rattle.nef_ops.specs.Rights.{IsRight};
+
+    type Out = SphereMap;
+
+    ghost count = { λ j. length j.points.now };
+
+    ghost right = { λ j i m. IsRight (Set.half (given_form j.oriented.now) j.closed) j.points.now i m };
+
+    ghost workable = { λ j. ShowsSet Set.full j.whole.now × AreFramed j.points.now };
+
+    fn jobs(&self) -> u64 {
+        self.points.len() as u64
+    }
+
+    fn work(&self, alloc: Global, job: u64) -> Result<SphereMap, OutOfMemory> {
+        let point = &self.points[job as usize];
+        let whole = local_map(alloc, self.whole, point)?;
+        let map = half_map(alloc, &whole, self.oriented, self.closed, point)?;
+        Ok(map)
+    }
+}
+
+// The complex of the half, from that of the whole frame.
+fn cut<R: Threads + Wait + Sync, G: Gate + Sync>(
+    rt: &R,
+    alloc: Global,
+    whole: &Complex,
+    oriented: &Oriented,
+    closed: bool,
+    how: &How,
+    gate: &G,
+) -> Result<Complex, OutOfMemory>
+    requires workers { how.now.workers ≤ 64 }
+    requires whole { ShowsSet Set.full whole.now }
+    ensures shows { IfOk result (λ c. ShowsSet (Set.half (given_form oriented.now) closed) c) }
+{
+    let plane = oriented.plane();
+    let listed = cut_candidates(alloc, whole, &plane)?;
+    let points = listed.as_slice();
+    let job = HalfJob {
+        whole,
+        points,
+        oriented,
+        closed,
+    };
+    let maps = finished(rt, alloc, &job, how, gate)?;
+    let carriers = add_carrier(alloc, whole, &plane)?;
+    let complex = assemble(alloc, carriers, points, maps)?;
+    Ok(complex)
+}
+
+/// The complex of a half of the frame: where the given form is negative, or where it is at most zero if the half is
+/// closed. One job for each candidate, in their order, is worked by `how.workers` workers, from 1 to 64, over the board
+/// that `how` names; the gate is told of each before it begins. `OutOfMemory` says that memory was wanted and not found.
+pub fn half<R: Threads + Wait + Sync, G: Gate + Sync>(
+    rt: &R,
+    alloc: Global,
+    oriented: &Oriented,
+    closed: bool,
+    how: &How,
+    gate: &G,
+) -> Result<Complex, OutOfMemory>
+    requires workers { (1 ≤ how.now.workers) × (how.now.workers ≤ 64) }
+    ensures shows { IfOk result (λ c. ShowsSet (Set.half (given_form oriented.now) closed) c) }
+{
+    let whole = frame(alloc, Label::In)?;
+    let complex = cut(rt, alloc, &whole, oriented, closed, how, gate)?;
+    Ok(complex)
+}

@@ -1,0 +1,22 @@
+//! The operations on complexes: constants, halves, combinations of two sets, and what topology makes of one.
+//!
+//! An operation lists its candidates, the points that may be vertices of the result, works the least map of the result
+//! at each as a job of its own, and puts the complex together from these. Source: Granados et al., "Boolean Operations
+//! on 3D Selective Nef Complexes", ESA 2003.
+#![tactic(auto)]
+
+mod combination;
+mod finished;
+mod half_space;
+mod op;
+#[cfg(test)]
+mod tests;
+mod topology;
+mod whole;
+
+pub use combination::binary;
+pub use half_space::half;
+pub use op::UnaryOp;
+pub use std::alloc::AllocError as OutOfMemory;
+pub use topology::unary;
+pub use whole::constant;

@@ -1,0 +1,107 @@
+//! Complement, interior, closure, boundary and regularisation of a set.
+
+ghost use Rattle.std.specs.Prelude.{◌≡◌, ◌≤◌, map, IfOk};
+ghost use Rattle.nef_space.specs.Place.{Place};
+ghost use Rattle.nef_space.specs.Sets.{Set};
+ghost use Rattle.nef_sphere.specs.Least.{Cone};
+ghost use Rattle.nef_smap.specs.Maps.{map_of, IsSphereMap, IsLeastMap};
+ghost use Rattle.nef_complex.specs.Complexes.{ShowsSet};
+ghost use Rattle.nef_ops.specs.Nodes.{unary_set};
+ghost use Rattle.nef_ops.specs.Rights.{points_of};
+
+use crate::OutOfMemory;
+use crate::finished::finished;
+use crate::op::UnaryOp;
+use nef_complex::Complex;
+use nef_core::{How, Job};
+use nef_geo::Point;
+use nef_io::Gate;
+use nef_result::{assemble, copy_carriers};
+use nef_smap::SphereMap;
+use nef_stopo::{boundary, closure, complement, interior};
+use std::alloc::Global;
+use std::sync::Wait;
+use std::thread::Threads;
+
+// The least map of what the operation makes of a set, from the set's map.
+fn changed(alloc: Global, map: &SphereMap, op: UnaryOp) -> Result<SphereMap, OutOfMemory>
+    requires map { IsSphereMap map.now }
+    ensures least { IfOk result IsLeastMap }
+    ensures cone { IfOk result (λ m. (s : Set) (p : Place) → Cone (map_of map.now) s p → Cone (map_of m) (unary_set op s) p) }
+{
+    match op {
+        UnaryOp::Not => complement(alloc, map),
+        UnaryOp::Int => interior(alloc, map),
+        UnaryOp::Cl => closure(alloc, map),
+        UnaryOp::Bd => boundary(alloc, map),
+        UnaryOp::Reg => {
+            let inside = interior(alloc, map)?;
+            let map = closure(alloc, &inside)?;
+            Ok(map)
+        }
+    }
+}
+
+// The least map of what the operation makes of the set of a complex, at each vertex.
+#[derive(Drop)]
+struct UnaryJob<'a> {
+    op: UnaryOp,
+    complex: &'a Complex,
+}
+
+impl<'a> Job for UnaryJob<'a> {
+    ghost use Rattle.std.specs.Prelude.{length};
+    ghost use Rattle.nef_ops.specs.Rights.{IsRight};
+
+    type Out = SphereMap;
+
+    ghost count = { λ j. length j.complex.now.vertices };
+
+    ghost right = { λ j i m. (s : Set) → ShowsSet s j.complex.now → IsRight (unary_set j.op s) (points_of j.complex.now) i m };
+
+    ghost workable = { λ j. (s : Set) × ShowsSet s j.complex.now };
+
+    fn jobs(&self) -> u64 {
+        self.complex.vertices.len() as u64
+    }
+
+    fn work(&self, alloc: Global, job: u64) -> Result<SphereMap, OutOfMemory> {
+        let vertex = self.complex.vertices.at(job as usize);
+        let map = changed(alloc, &vertex.map, self.op)?;
+        Ok(map)
+    }
+}
+
+// The points of the vertices, in their order.
+fn vertex_points(alloc: Global, c: &Complex) -> Result<Vec<Point>, OutOfMemory>
+    ensures points { IfOk result (λ v. v.items ≡ points_of c.now) }
+{
+    let mut points = Vec::new(alloc);
+    for vertex in c.vertices.as_slice() {
+        points.push(vertex.point)?;
+    }
+    Ok(points)
+}
+
+/// The complex of what the operation makes of the set of a complex. Its vertices are among those of the set. One job for
+/// each of these, in their order, is worked by `how.workers` workers, from 1 to 64, over the board that `how` names; the
+/// gate is told of each before it begins. `OutOfMemory` says that memory was wanted and not found.
+pub fn unary<R: Threads + Wait + Sync, G: Gate + Sync>(
+    rt: &R,
+    alloc: Global,
+    op: UnaryOp,
+    a: &Complex,
+    how: &How,
+    gate: &G,
+) -> Result<Complex, OutOfMemory>
+    requires workers { (1 ≤ how.now.workers) × (how.now.workers ≤ 64) }
+    requires shows { (s : Set) × ShowsSet s a.now }
+    ensures shows { IfOk result (λ c. (s : Set) → ShowsSet s a.now → ShowsSet (unary_set op s) c) }
+{
+    let points = vertex_points(alloc, a)?;
+    let job = UnaryJob { op, complex: a };
+    let maps = finished(rt, alloc, &job, how, gate)?;
+    let carriers = copy_carriers(alloc, a)?;
+    let complex = assemble(alloc, carriers, points.as_slice(), maps)?;
+    Ok(complex)
+}

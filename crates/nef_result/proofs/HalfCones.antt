@@ -1,0 +1,204 @@
+-- The germs of a half are those of the frame and of its plane.
+use Rattle.std.proofs.Common.{◌≡◌, ℕ, zero, suc, ◌+◌, ℤ, pos, negsuc, neg_ℤ, nat_abs, ◌<ℤ◌, ◌≤◌, arith, refl, sym, ◌∙◌, ap, ◌↔◌, Bool, true, false, cond, not, subst, [], ◌∷◌, w64, to_z, of_z}
+use Rattle.std.proofs.lemmas.Int.{ints}
+use Rattle.nef_exact.specs.Signs.{Sign, minus, nought, plus, sign}
+use Rattle.nef_exact.proofs.Order.{sign-neg, sign_turned, minus-is, nought-is, plus-is}
+use Rattle.nef_exact.proofs.Ring.{ring, at, neg, ◌⊕◌, ◌⊗◌}
+use Rattle.nef_space.specs.Limits.{normal_limit}
+use Rattle.nef_space.specs.Local.{HasLabel, Germ, IsShort}
+use Rattle.nef_space.specs.Place.{Place, Form, Ratio, step, form_at, slope, normal_of}
+use Rattle.nef_space.specs.Sets.{Set, Holds, InHalf}
+use Rattle.nef_space.specs.Vectors.{Vector, vector, IsDirection, IsNormal, IsAtMost, SameDirection, dot}
+use Rattle.nef_space.specs.declared.label.Label.{Label}
+use Rattle.nef_space.specs.declared.label.Label.TheVariants.{Out, Not, In}
+use Rattle.nef_geo.specs.Shapes.{turned_form, given_form, form_of}
+use Rattle.nef_geo.specs.Signs.{sign_of}
+use Rattle.nef_geo.specs.declared.plane.Plane.{Plane}
+use Rattle.nef_geo.specs.declared.plane.Oriented.{Oriented}
+use Rattle.nef_geo.specs.declared.sign.Sign.TheVariants.{Minus, Zero, Plus}
+use Rattle.nef_geo.proofs.Products.{kept}
+use Rattle.nef_forms.specs.Near.{span}
+use Rattle.nef_forms.proofs.Near.{ray-level, ray-keeps}
+use Rattle.nef_near.specs.Cells.{sign_at}
+use Rattle.nef_near.proofs.Combine.{shorter}
+use Rattle.nef_build.proofs.SideLabels.{side-same_way}
+use Rattle.nef_sphere.specs.Labelling.{ByOp}
+use Rattle.nef_sphere.specs.Least.{Cone, by_side}
+use Rattle.nef_sphere.specs.Maps.{MapLabel, Valid}
+use Rattle.nef_star.specs.Ops.{op_label}
+use Rattle.nef_star.specs.declared.op.Op.TheVariants.{And}
+use Rattle.nef_smap.specs.Maps.{map_of, IsSphereMap, IsLeastMap}
+use Rattle.nef_smap.specs.declared.map.SphereMap.{SphereMap}
+use Rattle.nef_edges.proofs.Rays.{normal-kept}
+use Rattle.nef_result.specs.Halves.{inside_label, side_label, sign_beside, IsMapOfPlane, IsMapOfHalf}
+
+-- ---- the label of a half
+module _ (f : Form) (closed : Bool) (q : Place) where
+  -- a point of the frame has the label of its side
+  in-frame : HasLabel Set.full q In → (t : Sign) → sign_at f q ≡ t → HasLabel (Set.half f closed) q (side_label closed t)
+  unfolding Holds
+  in-frame h minus e = (h.0, below closed (minus-is (form_at f q) e))
+    where
+      below : (c : Bool) → form_at f q <ℤ pos 0 → InHalf f c q
+      below true l = omega (arith, ints, l)
+      below false l = l
+  in-frame h nought e = level closed (nought-is (form_at f q) e)
+    where
+      level : (c : Bool) → form_at f q ≡ pos 0 → HasLabel (Set.half f c) q (side_label c nought)
+      level true z = (h.0, omega (arith, ints, z))
+      level false z = (h.0, λ l. omega (arith, ints, z, l))
+  in-frame h plus e = (h.0, above closed (plus-is (form_at f q) e))
+    where
+      above : (c : Bool) → pos 0 <ℤ form_at f q → InHalf f c q → ⊥
+      above true l i = omega (arith, ints, l, i)
+      above false l i = omega (arith, ints, l, i)
+
+  half-label : (l : Label) → HasLabel Set.full q l → HasLabel (Set.half f closed) q (op_label And l (side_label closed (sign_at f q)))
+  unfolding Holds
+  half-label Out h = h
+  half-label Not h = absurd (h.1 tt)
+  half-label In h = subst (HasLabel (Set.half f closed) q) (sym (and-in (side_label closed (sign_at f q)) (never closed (sign_at f q)))) (in-frame h (sign_at f q) refl)
+    where
+      never : (c : Bool) (t : Sign) → side_label c t ≡ Out → ⊥
+      never c minus e = cc
+      never true nought e = cc
+      never false nought e = cc
+      never c plus e = cc
+
+      and-in : (k : Label) → (k ≡ Out → ⊥) → op_label And In k ≡ k
+      and-in Out n = refl
+      and-in Not n = refl
+      and-in In n = refl
+
+-- ---- its germs
+-- the sign of the form one short step from the point
+sign-stepped : (f : Form) (p : Place) (t : Ratio) (d : Vector) → IsShort (span f p d) t → sign_at f (step p t d) ≡ sign_beside (sign_at f p) (sign (slope f d))
+sign-stepped f p t d h = by (sign_at f p) refl
+  where
+    differ : (s : Sign) → s ≡ minus → s ≡ nought → ⊥
+    differ s e g = cc
+
+    differs : (s : Sign) → s ≡ plus → s ≡ nought → ⊥
+    differs s e g = cc
+
+    by : (s : Sign) → sign_at f p ≡ s → sign_at f (step p t d) ≡ sign_beside s (sign (slope f d))
+    by minus e = ray-keeps f p t d h (λ z. differ (sign_at f p) e (ap sign z)) ∙ e
+    by nought e = ray-level f p t d h.0 (nought-is (form_at f p) e)
+    by plus e = ray-keeps f p t d h (λ z. differs (sign_at f p) e (ap sign z)) ∙ e
+
+half-germ : (f : Form) (closed : Bool) (p : Place) (d : Vector) (l : Label) → Germ Set.full p d l → Germ (Set.half f closed) p d (op_label And l (side_label closed (sign_beside (sign_at f p) (sign (slope f d)))))
+half-germ f closed p d l (n, some, g) = (
+  n + span f p d,
+  omega (arith, some),
+  λ t h.
+      subst (λ s. HasLabel (Set.half f closed) (step p t d) (op_label And l (side_label closed s)))
+      (sign-stepped f p t d (shorter (span f p d) (n + span f p d) t (omega arith) h))
+      (half-label f closed (step p t d) l (g t (shorter n (n + span f p d) t (omega arith) h))),
+)
+
+pub half-cone : (f : Form) (closed : Bool) (p : Place) (W H M : SphereMap) → Cone (map_of W) Set.full p → IsMapOfHalf f closed p H → Valid (map_of M) → M.mark ≡ op_label And W.mark H.mark
+    → ((d : Vector) (l : Label) → IsDirection d → MapLabel (map_of M) d l ↔ ByOp (map_of W) (map_of H) (op_label And) d l) → Cone (map_of M) (Set.half f closed) p
+half-cone f closed p W H M C I valid mark labels = record {
+  valid = valid;
+  mark = subst (HasLabel (Set.half f closed) p) (sym (mark ∙ ap (op_label And W.mark) I.mark)) (half-label f closed p W.mark C.mark);
+  labels = λ d e.
+      let a = C.labels d e in
+      let k = side_label closed (sign_beside (sign_at f p) (sign (slope f d))) in
+      (op_label And a.0 k, (labels d (op_label And a.0 k) e).1 (a.0, k, a.1, I.labels d e, refl), half-germ f closed p d a.0 a.2);
+}
+
+-- ---- the map of the plane
+-- the slope of the given form, which may be turned
+turned-slope : (h : Form) (d : Vector) → slope (turned_form h) d ≡ neg_ℤ (slope h d)
+turned-slope h d = ring (h.a ∷ h.b ∷ h.c ∷ d.x ∷ d.y ∷ d.z ∷ []) (neg (at 0) ⊗ at 3 ⊕ neg (at 1) ⊗ at 4 ⊕ neg (at 2) ⊗ at 5) (neg (at 0 ⊗ at 3 ⊕ at 1 ⊗ at 4 ⊕ at 2 ⊗ at 5)) tt
+
+given-slope : (h : Form) (turned : Bool) (d : Vector) → sign (slope (cond turned (turned_form h) h) d) ≡ cond turned (sign_turned (sign (slope h d))) (sign (slope h d))
+given-slope h true d = ap sign (turned-slope h d) ∙ sign-neg (slope h d)
+given-slope h false d = refl
+
+by-sides : (turned closed : Bool) (t : Sign) → by_side (inside_label turned) (inside_label closed) (inside_label (not turned)) t ≡ side_label closed (cond turned (sign_turned t) t)
+by-sides true closed minus = refl
+by-sides true closed nought = refl
+by-sides true closed plus = refl
+by-sides false closed minus = refl
+by-sides false closed nought = refl
+by-sides false closed plus = refl
+
+plane-label : (h : Form) (n : Vector) (turned closed : Bool) (d : Vector) → SameDirection (normal_of h) n
+    → by_side (inside_label turned) (inside_label closed) (inside_label (not turned)) (sign (dot n d)) ≡ side_label closed (sign (slope (cond turned (turned_form h) h) d))
+plane-label h n turned closed d same =
+    ap (λ t. by_side (inside_label turned) (inside_label closed) (inside_label (not turned)) t) (side-same_way (normal_of h) n d same)
+    ∙ by-sides turned closed (sign (slope h d)) ∙ ap (side_label closed) (sym (given-slope h turned d))
+
+same-sides : (a m b x y z : Label) (t : Sign) → a ≡ x → m ≡ y → b ≡ z → by_side a m b t ≡ by_side x y z t
+same-sides a m b x y z t e f g = ap (λ k. by_side k m b t) e ∙ ap (λ k. by_side x k b t) f ∙ ap (λ k. by_side x y k t) g
+
+pub plane-shown : (o : Oriented) (closed turned : Bool) (n : Vector) (m a b : Label) (M : SphereMap) → turned ≡ o.flipped → SameDirection (normal_of (form_of o.plane)) n
+    → m ≡ inside_label closed → a ≡ inside_label turned → b ≡ inside_label (not turned) → IsSphereMap M → M.mark ≡ m
+    → ((d : Vector) → IsDirection d → MapLabel (map_of M) d (by_side a m b (sign (dot n d)))) → IsMapOfPlane (given_form o) closed M
+plane-shown o closed turned n m a b M u same e f g valid mark labels = record {
+  map = valid;
+  mark = mark ∙ e;
+  labels = λ d i. subst (MapLabel (map_of M) d)
+      (same-sides a m b (inside_label o.flipped) (inside_label closed) (inside_label (not o.flipped)) (sign (dot n d)) (f ∙ ap inside_label u) e (g ∙ ap (λ k. inside_label (not k)) u)
+      ∙ plane-label (form_of o.plane) n o.flipped closed d same) (labels d i);
+}
+
+-- ---- the map of the half by the side of the point
+is-minus : (z : ℤ) → Minus ≡ sign_of z → sign z ≡ minus
+is-minus (pos zero) e = let i : Minus ≡ Zero = e in absurd (cc)
+is-minus (pos (suc n)) e = let i : Minus ≡ Plus = e in absurd (cc)
+is-minus (negsuc n) e = refl
+
+is-nought : (z : ℤ) → Zero ≡ sign_of z → sign z ≡ nought
+is-nought (pos zero) e = refl
+is-nought (pos (suc n)) e = let i : Zero ≡ Plus = e in absurd (cc)
+is-nought (negsuc n) e = let i : Zero ≡ Minus = e in absurd (cc)
+
+is-plus : (z : ℤ) → Plus ≡ sign_of z → sign z ≡ plus
+is-plus (pos zero) e = let i : Plus ≡ Zero = e in absurd (cc)
+is-plus (pos (suc n)) e = refl
+is-plus (negsuc n) e = let i : Plus ≡ Minus = e in absurd (cc)
+
+module _ (f : Form) (closed : Bool) (p : Place) (M : SphereMap) where
+  at-side : (s : Sign) (l : Label) → sign_at f p ≡ s → ((t : Sign) → l ≡ side_label closed (sign_beside s t)) → l ≡ side_label closed s → IsSphereMap M → M.mark ≡ l
+      → ((d : Vector) → IsDirection d → MapLabel (map_of M) d l) → IsMapOfHalf f closed p M
+  at-side s l e beside here valid mark labels = record {
+    map = valid;
+    mark = mark ∙ here ∙ ap (side_label closed) (sym e);
+    labels = λ d i. subst (MapLabel (map_of M) d) (beside (sign (slope f d)) ∙ ap (λ r. side_label closed (sign_beside r (sign (slope f d)))) (sym e)) (labels d i);
+  }
+
+  pub inside-shown : Minus ≡ sign_of (form_at f p) → IsLeastMap M → M.mark ≡ In → ((d : Vector) → IsDirection d → MapLabel (map_of M) d In) → IsMapOfHalf f closed p M
+  inside-shown e L = at-side minus In (is-minus (form_at f p) e) (λ t. refl) refl L.sphere_map
+
+  pub outside-shown : Plus ≡ sign_of (form_at f p) → IsLeastMap M → M.mark ≡ Not → ((d : Vector) → IsDirection d → MapLabel (map_of M) d Not) → IsMapOfHalf f closed p M
+  outside-shown e L = at-side plus Not (is-plus (form_at f p) e) (λ t. refl) refl L.sphere_map
+
+  pub on-shown : Zero ≡ sign_of (form_at f p) → IsMapOfPlane f closed M → IsMapOfHalf f closed p M
+  on-shown e I = record {
+    map = I.map;
+    mark = I.mark ∙ ap (side_label closed) (sym (is-nought (form_at f p) e));
+    labels = λ d i. subst (λ r. MapLabel (map_of M) d (side_label closed (sign_beside r (sign (slope f d))))) (sym (is-nought (form_at f p) e)) (I.labels d i);
+  }
+
+-- ---- the normal's direction
+-- a number as the machine keeps it
+abbrev pub held : ℤ → ℤ
+held n = to_z w64 (of_z w64 n)
+
+module _ (h : Plane) (a b c : ℤ) (d : Vector) (e : a ≡ h.a) (f : b ≡ h.b) (g : c ≡ h.c) where
+  is-held : (n k : ℤ) → n ≡ k → nat_abs k ≤ normal_limit → held n ≡ k
+  is-held n k i l = ap held i ∙ kept k (omega (arith, l))
+
+  given : (P : Vector → Type 0) → P (vector h.a h.b h.c) → P (vector (held a) (held b) (held c))
+  given P q =
+      subst (λ (x : ℤ). P (vector x (held b) (held c))) (sym (is-held a h.a e h.a_small))
+      (subst (λ (y : ℤ). P (vector h.a y (held c))) (sym (is-held b h.b f h.b_small))
+      (subst (λ (z : ℤ). P (vector h.a h.b z)) (sym (is-held c h.c g h.c_small)) q))
+
+  pub normal-upward : SameDirection (vector (held a) (held b) (held c)) d → IsNormal d
+  normal-upward same = normal-kept (vector (held a) (held b) (held c)) d same (given IsNormal h.normal)
+
+  pub normal-small : ((k : ℕ) → IsAtMost k (vector (held a) (held b) (held c)) → IsAtMost k d) → IsAtMost normal_limit d
+  normal-small size = size normal_limit (given (IsAtMost normal_limit) (record { of_x = h.a_small; of_y = h.b_small; of_z = h.c_small }))

@@ -1,0 +1,36 @@
+use Rattle.std.proofs.Common.{◌+◌, pos, arith, sym, subst}
+use Rattle.std.proofs.lemmas.Int.{ints}
+use Rattle.nef_space.specs.Local.{HasLabel, Germ}
+use Rattle.nef_space.specs.Place.{Place, Ratio, InFrame}
+use Rattle.nef_space.specs.Sets.{Set, Holds}
+use Rattle.nef_space.specs.Vectors.{Vector}
+use Rattle.nef_space.specs.declared.label.Label.{Label}
+use Rattle.nef_space.specs.declared.label.Label.TheVariants.{Out, Not, In}
+use Rattle.nef_geo.specs.Shapes.{place_of}
+use Rattle.nef_near.proofs.Decided.{germ_of}
+use Rattle.nef_near.proofs.Frames.{no-germ_out}
+use Rattle.nef_result.proofs.tests.whole_map.Goals as goal
+
+full-label : (p : Place) → InFrame p → HasLabel Set.full p In
+unfolding Holds
+full-label p i = (i, tt)
+
+never-not : (p : Place) (d : Vector) → Germ Set.full p d Not → ⊥
+unfolding Holds
+never-not p d (n, some, f) =
+    let t : Ratio = record { a = pos 1; b = n + 1; proper = omega arith } in
+    (f t (omega (arith, ints), omega (arith, ints))).1 tt
+
+full-germ : (p : Place) (d : Vector) → InFrame p → Germ Set.full p d In
+full-germ p d i = let g = germ_of Set.full p d in by g.0 g.1
+  where
+    by : (l : Label) → Germ Set.full p d l → Germ Set.full p d In
+    by Out g = absurd (no-germ_out Set.full p d i g)
+    by Not g = absurd (never-not p d g)
+    by In g = g
+
+pub returns-then-is_inside-clause-cone : goal.returns-then-is_inside-clause-cone
+returns-then-is_inside-clause-cone c =
+    let p = place_of c.args.p.now in let m = c.face_map-map.ensures in let l = m.map in
+    let i = c.in_frame-is_inside.ensures.in_frame.0 c.if-is_inside.true in
+    record { valid = l.sphere_map.valid; mark = subst (HasLabel Set.full p) (sym m.mark) (full-label p i); labels = λ d e. (In, m.labels d e, full-germ p d i) }

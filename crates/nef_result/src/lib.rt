@@ -1,0 +1,13 @@
+//! What the complex of a set is put together from: the planes, the points that may be vertices, and the maps there.
+#![tactic(auto)]
+
+mod assembling;
+mod carriers;
+mod halves;
+#[cfg(test)]
+mod tests;
+
+pub use assembling::assemble;
+pub use carriers::{add_carrier, copy_carriers, merge_carriers};
+pub use halves::half_map;
+pub use std::alloc::AllocError as OutOfMemory;

@@ -1,0 +1,11 @@
+use Rattle.std.proofs.Common.{◌≡◌, ◌≤◌, ◌<◌, ℕ, Some, length}
+use Rattle.std.specs.Prelude.{slice_get, slice_index}
+use Rattle.nef_script.specs.declared.script.Command.{Command}
+use Rattle.nef_shell.specs.Commands.{LooksAt}
+use Rattle.nef_shell.proofs.uses.last_uses.Given as goal
+
+abbrev pub invariant-loop-now : goal.invariant-loop-now
+invariant-loop-now l = record {
+  count : length l.places ≡ length l.nodes;
+  last : (i k : ℕ) (c : Command) → i < l.now → slice_get l.command-items i ≡ Some c → LooksAt l.nodes c k → i ≤ slice_index l.places k;
+}

@@ -1,0 +1,94 @@
+//! A gate that counts its calls, and one that holds a job back.
+
+use nef_io::Gate;
+use std::alloc::{AllocError, Global};
+use std::sync::atomic::{AtomicBool, AtomicU64, Ordering};
+use std::thread;
+
+// More turns than any other thread needs to begin a job.
+const TURNS: u64 = 20_000_000;
+
+/// Counts the calls for each job up to some number, those for later jobs, and those from the board
+/// without a lock.
+#[derive(Drop)]
+pub struct Counting {
+    jobs: Vec<AtomicU64>,
+    later: AtomicU64,
+    free: AtomicU64,
+}
+
+impl Counting {
+    pub fn new(alloc: Global, count: usize) -> Result<Counting, AllocError> {
+        let mut jobs = Vec::new(alloc);
+        for _ in 0..count {
+            jobs.push(AtomicU64::new(0))?;
+        }
+        Ok(Counting {
+            jobs,
+            later: AtomicU64::new(0),
+            free: AtomicU64::new(0),
+        })
+    }
+
+    /// The calls for each job, for all later ones, and from the board without a lock.
+    pub fn calls(&self, alloc: Global) -> Result<Vec<u64>, AllocError> {
+        let mut calls = Vec::new(alloc);
+        for job in &self.jobs {
+            calls.push(job.load(Ordering::SeqCst))?;
+        }
+        calls.push(self.later.load(Ordering::SeqCst))?;
+        calls.push(self.free.load(Ordering::SeqCst))?;
+        Ok(calls)
+    }
+}
+
+impl Gate for Counting {
+    fn before(&self, job: u64, free: bool) {
+        match self.jobs.get(job as usize) {
+            Some(calls) => calls.fetch_add(1, Ordering::SeqCst),
+            None => self.later.fetch_add(1, Ordering::SeqCst),
+        };
+        if free {
+            self.free.fetch_add(1, Ordering::SeqCst);
+        }
+    }
+}
+
+/// Holds job 1 until job 2 began, for so many turns at most.
+#[derive(Drop)]
+pub struct Holding {
+    began: AtomicBool,
+    limit_reached: AtomicBool,
+}
+
+impl Holding {
+    pub fn new() -> Holding {
+        Holding {
+            began: AtomicBool::new(false),
+            limit_reached: AtomicBool::new(false),
+        }
+    }
+
+    /// Whether some job was held for all the turns.
+    pub fn limit_reached(&self) -> bool {
+        self.limit_reached.load(Ordering::SeqCst)
+    }
+}
+
+impl Gate for Holding {
+    fn before(&self, job: u64, _free: bool) {
+        if job == 2 {
+            self.began.store(true, Ordering::SeqCst);
+        }
+        if job != 1 {
+            return;
+        }
+        for _ in 0..TURNS {
+            if self.began.load(Ordering::SeqCst) {
+                return;
+            }
+            thread::yield_now();
+        }
+        self.limit_reached.store(true, Ordering::SeqCst);
+    }
+}

@@ -1,0 +1,77 @@
+//! Which commands look at which nodes.
+
+ghost use Rattle.std.specs.Prelude.{◌≡◌, ◌≤◌, ◌<◌, ◌↔◌, ◌⊎◌, ℕ, Some, IfOk, IfSome, All, length, slice_index, vec_len};
+ghost use Rattle.nef_expr.specs.Nodes.{NamesBelow};
+ghost use Rattle.nef_script.specs.Meaning.{IsWithin};
+ghost use Rattle.nef_shell.specs.Commands.{IsOperand, LooksAt, AreLastUses, Binds};
+
+use nef_expr::{Node, Nodes};
+use nef_script::{Command, Script};
+use std::alloc::{AllocError, Global};
+
+// The operands of a node.
+fn operands(node: &Node) -> (Option<usize>, Option<usize>)
+    ensures operands { (k : ℕ) → IsOperand k node.now ↔ ((result.0 ≡ Some k) ⊎ (result.1 ≡ Some k)) }
+    ensures below { (n : ℕ) → NamesBelow n node.now → IfSome result.0 (λ k. k < n) × IfSome result.1 (λ k. k < n) }
+{
+    match *node {
+        Node::Half { .. } | Node::Empty | Node::Full => (None, None),
+        Node::And(i, j) | Node::Or(i, j) | Node::Diff(i, j) | Node::Xor(i, j) => (Some(i), Some(j)),
+        Node::Not(i) | Node::Int(i) | Node::Cl(i) | Node::Bd(i) | Node::Reg(i) => (Some(i), None),
+    }
+}
+
+/// The nodes whose sets the command looks at: the operands of the node that it binds, or those that
+/// it asks about.
+pub(crate) fn looked_at(nodes: &Nodes, command: &Command) -> (Option<usize>, Option<usize>)
+    requires within { IsWithin (length nodes.now) command.now }
+    ensures looked_at { (k : ℕ) → LooksAt nodes.now command.now k ↔ ((result.0 ≡ Some k) ⊎ (result.1 ≡ Some k)) }
+    ensures within { IfSome result.0 (λ k. k < length nodes.now) × IfSome result.1 (λ k. k < length nodes.now) }
+{
+    match command {
+        Command::Bind { node, .. } => operands(nodes.get(*node)),
+        Command::Same { left, right, .. } => (Some(*left), Some(*right)),
+        Command::Has { node, .. } | Command::Count { node, .. } | Command::Print { node, .. } => {
+            (Some(*node), None)
+        }
+    }
+}
+
+/// The node that the command binds.
+pub(crate) fn bound_node(command: &Command) -> Option<usize>
+    ensures bound { (k : ℕ) → Binds command.now k ↔ (result ≡ Some k) }
+{
+    match command {
+        Command::Bind { node, .. } => Some(*node),
+        _ => None,
+    }
+}
+
+// Puts this number at the node's place, if there is a node.
+fn mark(uses: &mut [usize], node: Option<usize>, now: usize)
+    requires within { IfSome node (λ k. k < length uses.old) }
+    ensures length { length uses.new ≡ length uses.old }
+    ensures later { (i k : ℕ) → i ≤ now → i ≤ slice_index uses.old k → i ≤ slice_index uses.new k }
+    ensures marked { (k : ℕ) → node ≡ Some k → now ≤ slice_index uses.new k }
+{
+    if let Some(k) = node {
+        uses[k] = now;
+    }
+}
+
+/// For each node the number of the last command that looks at it, counted from 0, and 0 where none does.
+pub(crate) fn last_uses(alloc: Global, script: &Script) -> Result<Vec<usize>, AllocError>
+    requires within { All (IsWithin (length script.now.nodes)) script.now.commands }
+    ensures count { IfOk result (λ v. vec_len v ≡ length script.now.nodes) }
+    ensures last { IfOk result (λ v. AreLastUses script.now.nodes script.now.commands v.items) }
+{
+    let nodes = script.nodes();
+    let mut uses = vec![in alloc; 0; nodes.len()]?;
+    let places = uses.as_mut_slice();
+    for (now, command) in script.commands().iter().enumerate() {
+        let (first, second) = looked_at(nodes, command);
+        mark(places, first, now);
+        mark(places, second, now);
+    }
+    Ok(uses)
+}

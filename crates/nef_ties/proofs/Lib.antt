@@ -1,0 +1,8 @@
+pub mod Adding
+pub mod MapItems
+pub mod EdgeTies
+pub mod OneMeet
+pub mod ItemPlane
+pub mod TiedLinks
+pub mod AcrossLinks
+pub mod WayInward

@@ -1,0 +1,172 @@
+//! The ties of corners across facets.
+
+ghost use Rattle.std.specs.Prelude.{◌≡◌, ℕ, ◌<◌, length, pos, map, ◌↔◌, IsTrue, IfOk, OnOk};
+ghost use Rattle.std.specs.Option.{MatchOption};
+ghost use Rattle.nef_space.specs.Place.{form_at, normal_of, slope};
+ghost use Rattle.nef_space.specs.Sets.{Set};
+ghost use Rattle.nef_space.specs.Vectors.{IsAtMost, SameDirection};
+ghost use Rattle.nef_geo.specs.Shapes.{form_of, vector_of, place_of};
+ghost use Rattle.nef_geo.specs.Widths.{ray_limit};
+ghost use Rattle.nef_smap.specs.Maps.{map_of, IsSphereMap};
+ghost use Rattle.nef_solid.specs.Complexes.{Corner as PlainCorner};
+ghost use Rattle.nef_complex.specs.Complexes.{complex_of, ShowsSet};
+ghost use Rattle.nef_links.specs.Links.{LinkAcross};
+ghost use Rattle.nef_parts.specs.Numbers.{count_items};
+ghost use Rattle.nef_classes.specs.Tables.{AreTiedWithin, AreTied};
+ghost use Rattle.nef_plane.specs.Meets.{HasNoSvertex, FromVertex};
+ghost use Rattle.nef_ties.specs.Ties.{spot_of, IsPlaneWith, NoneIsPlaneWith, HasNoItem, HasNormal, AreLevel, IsOnItem, IsNamedFrom, IsLinkedFrom, IsTieAcross, Any, Adds};
+
+use crate::OutOfMemory;
+use crate::along::same_dir;
+use nef_classes::{Spot, Tie};
+use nef_complex::{Complex, Corner};
+use nef_geo::{Dir, Plane, Point, Sign, plane_dir, side};
+use nef_locate::{corner_toward, passes, plane_normal};
+use nef_plane::first_along_dir;
+use nef_smap::SphereMap;
+use std::alloc::Global;
+
+fn has_normal(h: &Plane, normal: &Dir) -> bool
+    ensures normal { IsTrue result ↔ SameDirection (normal_of (form_of h.now)) (vector_of normal.now) }
+{
+    same_dir(&plane_normal(h), normal)
+}
+
+fn holds(h: &Plane, p: &Point) -> bool
+    ensures holds { IsTrue result ↔ (form_at (form_of h.now) (place_of p.now) ≡ pos 0) }
+{
+    side(h, p) == Sign::Zero
+}
+
+// Whether the plane holds the point and has the normal.
+fn is_plane_with(h: &Plane, p: &Point, normal: &Dir) -> bool
+    ensures plane { IsTrue result ↔ IsPlaneWith (place_of p.now) (vector_of normal.now) h.now }
+{
+    holds(h, p) && has_normal(h, normal)
+}
+
+// The first of the planes that holds the point and has the normal.
+fn plane_with(planes: &[Plane], p: &Point, normal: &Dir) -> Option<Plane>
+    ensures plane { MatchOption result (NoneIsPlaneWith (place_of p.now) (vector_of normal.now) planes.now) (IsPlaneWith (place_of p.now) (vector_of normal.now)) }
+{
+    for h in planes {
+        if is_plane_with(h, p, normal) {
+            return Some(*h);
+        }
+    }
+    None
+}
+
+// The normal of the item with this number.
+fn normal_at(map: &SphereMap, item: usize) -> Option<Dir>
+    ensures normal { MatchOption result (HasNoItem (map_of map.now) item) (λ n. HasNormal (map_of map.now) item (vector_of n)) }
+{
+    if item < map.arcs.len() {
+        return Some(map.arcs.at(item).normal);
+    }
+    if item > map.arcs.len() {
+        return None;
+    }
+    match &map.sloop {
+        Some(circle) => Some(circle.normal),
+        None => None,
+    }
+}
+
+// Whether the direction, which lies in the plane of the item with this number, lies on it. A sloop holds each of them.
+fn lies_on(map: &SphereMap, item: usize, d: &Dir) -> bool
+    requires map { IsSphereMap map.now }
+    requires level { AreLevel (map_of map.now) item (vector_of d.now) }
+    ensures on { IsTrue result ↔ IsOnItem (map_of map.now) item (vector_of d.now) }
+{
+    if item < map.arcs.len() {
+        return passes(map, map.arcs.at(item), d);
+    }
+    true
+}
+
+// The corner that the ray from the vertex along a direction of the plane names. No svertex of the vertex points along it.
+fn named_from(c: &Complex, h: &Plane, vertex: usize, d: &Dir) -> Option<Corner>
+    requires shows { (s : Set) × ShowsSet s c.now }
+    requires within { vertex < length c.now.vertices }
+    requires small { IsAtMost ray_limit (vector_of d.now) }
+    requires level { slope (form_of h.now) (vector_of d.now) ≡ pos 0 }
+    requires no_svertex { FromVertex (complex_of c.now) vertex (λ p. HasNoSvertex (complex_of c.now) p (vector_of d.now)) }
+    ensures named { FromVertex (complex_of c.now) vertex (λ p. IsNamedFrom (complex_of c.now) (form_of h.now) p (vector_of d.now) result) }
+{
+    let met = first_along_dir(c, h, vertex, d)?;
+    corner_toward(c, h, &d.back(), met)
+}
+
+// The corner with which the item of the vertex is linked across its facet. There is none where the item doesn't hold the
+// way inward.
+fn across(c: &Complex, vertex: usize, item: usize) -> Option<Corner>
+    requires shows { (s : Set) × ShowsSet s c.now }
+    requires within { vertex < length c.now.vertices }
+    ensures linked { IsLinkedFrom (complex_of c.now) vertex item result }
+{
+    let v = c.vertices.at(vertex);
+    let normal = normal_at(&v.map, item)?;
+    let h = plane_with(c.carriers.as_slice(), &v.point, &normal)?;
+    let inward = plane_dir(&h).back();
+    if !lies_on(&v.map, item, &inward) {
+        return None;
+    }
+    named_from(c, &h, vertex, &inward)
+}
+
+// Adds the tie across its facet of the vertex's item with this number, where there is one.
+fn add_item_tie(
+    ties: &mut Vec<Tie>,
+    c: &Complex,
+    vertex: usize,
+    item: usize,
+) -> Result<(), OutOfMemory>
+    requires shows { (s : Set) × ShowsSet s c.now }
+    requires within { vertex < length c.now.vertices }
+    ensures added { OnOk result (Adds (IsTieAcross (complex_of c.now) vertex item) ties.old.items ties.new.items) }
+{
+    if let Some(there) = across(c, vertex, item) {
+        ties.push(Tie {
+            first: Spot {
+                row: vertex,
+                column: item,
+            },
+            second: Spot {
+                row: there.vertex,
+                column: there.item,
+            },
+        })?;
+    }
+    Ok(())
+}
+
+// Adds the ties across facets of the vertex's items.
+fn add_vertex_ties(ties: &mut Vec<Tie>, c: &Complex, vertex: usize) -> Result<(), OutOfMemory>
+    requires shows { (s : Set) × ShowsSet s c.now }
+    requires within { vertex < length c.now.vertices }
+    ensures added { OnOk result (Adds (Any (IsTieAcross (complex_of c.now) vertex)) ties.old.items ties.new.items) }
+{
+    let count = c.vertices.at(vertex).map.arcs.len();
+    for item in 0..count {
+        add_item_tie(ties, c, vertex, item)?;
+    }
+    // the sloop stands after the arcs
+    add_item_tie(ties, c, vertex, count)?;
+    Ok(())
+}
+
+/// The ties across facets: for each item of a vertex that holds the way inward in its plane, the tie with the item at
+/// which the ray that way from the vertex leaves the facet. A corner is an element of the table that has a row for each
+/// vertex and an element for each of its items. `OutOfMemory` says that memory was wanted and not found.
+pub fn across_ties(alloc: Global, c: &Complex) -> Result<Vec<Tie>, OutOfMemory>
+    requires shows { (s : Set) × ShowsSet s c.now }
+    ensures within { IfOk result (λ v. AreTiedWithin (map count_items (complex_of c.now).vertices) v.items) }
+    ensures across { IfOk result (λ v. (j k : PlainCorner) → AreTied v.items (spot_of j) (spot_of k) ↔ LinkAcross (complex_of c.now) j k) }
+{
+    let mut ties = Vec::new(alloc);
+    for vertex in 0..c.vertices.len() {
+        add_vertex_ties(&mut ties, c, vertex)?;
+    }
+    Ok(ties)
+}

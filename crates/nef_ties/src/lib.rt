@@ -1,0 +1,14 @@
+//! The links of items as ties between corners: along edges, and across facets.
+//!
+//! Chains of these ties join the corners of a facet. Source: Granados et al., "Boolean Operations on 3D Selective Nef
+//! Complexes", ESA 2003.
+#![tactic(auto)]
+
+mod across;
+mod along;
+#[cfg(test)]
+mod tests;
+
+pub use across::across_ties;
+pub use along::along_ties;
+pub use std::alloc::AllocError as OutOfMemory;
