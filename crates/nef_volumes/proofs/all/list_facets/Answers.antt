@@ -17,7 +17,7 @@ facet-requires-clause-first c =
     let all = c.args.cycles in
     let own = c.in-Some.own in
     let n = length c.loop-own.yielded in
-    let t = YieldsList-turn (YieldsList-from_vec all (search rules) (search rules)) c.loop-own.yielded _ c.loop-own.yielded_by _ _ own c.in-Some.is c.next.ensures.steps in
+    let t = YieldsList-turn (YieldsList-from_vec {s = c.into_iter-own-iterator.result} all (search rules) (search rules)) c.loop-own.yielded c.loop-own.own-iterator c.loop-own.yielded_by c.next.result c.next.new.self own c.in-Some.is c.next.ensures.steps in
     c.requires.first n own (subst (λ (xs : List Cycle). IsAt all n xs) (sym t.1) (is-at_get all n own t.0))
 
 pub loop-own-preserved : goal.loop-own-preserved
