@@ -43,7 +43,7 @@ item_side-one C b i a c (v, f, e) (w, g, h) = e ∙ ap (λ (u : Vertex). side_sp
 pub side_tie-one : (C : Complex) (b : Bool) (t u w : Tie) → IsSideTie C b t u → IsSideTie C b t w → u ≡ w
 side_tie-one C b t u w (f, g) (h, i) = one-tie u.first u.second w.first w.second (item_side-one C b t.first u.first w.first f h) (item_side-one C b t.second u.second w.second g i)
 
--- both ties of one tie are added
+-- the ties of the upper and of the lower sides of two items are added
 pub both-added : (C : Complex) (items : List Tie) (k : ℕ) (t : Tie) (xs ys zs : List Tie) (a b : Tie) → IsAt items k t → IsSideTie C true t a → IsSideTie C false t b
     → Adds (λ u. IsSideTie C true t u) xs ys → Adds (λ u. IsSideTie C false t u) ys zs → Adds (IsTieOfItems C items k) xs zs
 both-added C items k t xs ys zs a b i f g h j = adds-both (λ u. IsSideTie C true t u) (λ u. IsSideTie C false t u) (IsTieOfItems C items k) xs ys zs h j (λ u s. (t, i, s)) (λ u (w, l, s). back u w l s)

@@ -21,7 +21,7 @@ use Rattle.nef_classes.specs.declared.table.Spot.{Spot}
 use Rattle.nef_classes.specs.declared.table.Tie.{Tie}
 use Rattle.nef_links.specs.Links.{LinkInSface}
 use Rattle.nef_ties.specs.Ties.{Adds, Any}
-use Rattle.nef_volumes.specs.Ties.{side_spot, IsSpotOf, IsEndOf, AreTiedSides, AreTiesOf, EarlierTie, IsTieNumbered, IsTieInSface}
+use Rattle.nef_volumes.specs.Ties.{side_spot, IsSpotOf, IsEndOf, AreTiedSides, AreTiesOf, earlier_tie, IsTieNumbered, IsTieInSface}
 use Rattle.nef_complex.specs.Complexes.{vertex_of, complex_of}
 use Rattle.nef_complex.specs.declared.complex.Complex.{Complex as ProgramComplex}
 use Rattle.nef_complex.specs.declared.complex.Vertex.{Vertex as ProgramVertex}
@@ -79,7 +79,7 @@ module _ (C : Complex) (ts : List Tie) (A : Adds (Any (λ i. Any (λ s. Any (IsT
 
   module _ (i : ℕ) (v : Vertex) (a : At C.vertices i v) where
     tied : (r s : ℕ) → r < s → s < length (sides_of v.map) → Chained (SeeOneWay v.map) r s → Chained (AreTied ts) (side_spot i r) (side_spot i s)
-    tied r s l m c = tie-chain ts (EarlierTie i s r) (side_spot i r) (side_spot i s) (A.all (EarlierTie i s r) (i, (s, (r, (v, a, l, m, c, refl))))) refl refl
+    tied r s l m c = tie-chain ts (earlier_tie i s r) (side_spot i r) (side_spot i s) (A.all (earlier_tie i s r) (i, (s, (r, (v, a, l, m, c, refl))))) refl refl
 
     either-order : (r s : ℕ) → (r ≡ s) ⊎ ((r < s) ⊎ (s < r)) → r < length (sides_of v.map) → s < length (sides_of v.map) → Chained (SeeOneWay v.map) r s → Chained (AreTied ts) (side_spot i r) (side_spot i s)
     either-order r s (inl e) l m c = subst (λ (n : ℕ). Chained (AreTied ts) (side_spot i r) (side_spot i n)) e (chain-here (AreTied ts) (side_spot i r))
@@ -111,7 +111,7 @@ module _ (i s r : ℕ) (ns : List ℕ) (l : r < s) (ts : List Tie) where
   pub numbered-added : (n : ℕ) × IsAt ns r n × IsAt ns s n → (a b : Spot) → a ≡ side_spot i r → b ≡ side_spot i s → Adds (IsTieNumbered i ns s r) ts (ts ++ record { first = a; second = b } ∷ [])
   numbered-added (n, g, h) a b e f =
       let t : Tie = record { first = a; second = b } in
-      let is : t ≡ EarlierTie i s r = cc in
+      let is : t ≡ earlier_tie i s r = cc in
       adds-one (IsTieNumbered i ns s r) ts t (l, n, g, h, is) (λ y (m, k, p, q, w). is ∙ sym w)
 
   pub numbered-none : ((n : ℕ) × IsAt ns r n × IsAt ns s n → ⊥) → Adds (IsTieNumbered i ns s r) ts ts

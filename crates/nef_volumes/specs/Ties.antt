@@ -62,17 +62,17 @@ abbrev pub IsTieOutside : Complex → ℕ → ℕ → Tie → Type 0
 IsTieOutside C i s t = HasNumber C i s Out × (t ≡ record { first = outside_spot; second = side_spot i s })
 
 -- ---- sfaces
--- the tie joins side r of vertex i, an earlier one, with side s
-abbrev pub EarlierTie : ℕ → ℕ → ℕ → Tie
-EarlierTie i s r = record { first = side_spot i r; second = side_spot i s }
+-- the tie of side r of vertex i, an earlier one, with side s
+abbrev pub earlier_tie : ℕ → ℕ → ℕ → Tie
+earlier_tie i s r = record { first = side_spot i r; second = side_spot i s }
 
 -- the tie joins an earlier side of vertex i with side s where both have one number
 abbrev pub IsTieNumbered : ℕ → List ℕ → ℕ → ℕ → Tie → Type 0
-IsTieNumbered i ns s r t = (r < s) × (n : ℕ) × IsAt ns r n × IsAt ns s n × (t ≡ EarlierTie i s r)
+IsTieNumbered i ns s r t = (r < s) × (n : ℕ) × IsAt ns r n × IsAt ns s n × (t ≡ earlier_tie i s r)
 
 -- and where both are of one sface
 abbrev pub IsTieInSface : Complex → ℕ → ℕ → ℕ → Tie → Type 0
-IsTieInSface C i s r t = (v : Vertex) × At C.vertices i v × (r < s) × (s < length (sides_of v.map)) × Chained (SeeOneWay v.map) r s × (t ≡ EarlierTie i s r)
+IsTieInSface C i s r t = (v : Vertex) × At C.vertices i v × (r < s) × (s < length (sides_of v.map)) × Chained (SeeOneWay v.map) r s × (t ≡ earlier_tie i s r)
 
 -- ---- sides of items
 abbrev pub side_at : Bool → ℕ → Side
