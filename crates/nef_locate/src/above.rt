@@ -19,8 +19,8 @@ use nef_complex::Complex;
 use nef_geo::{Sign, triple, up};
 use nef_smap::{SArc, SPlace, SphereMap, at, sides};
 
-// How many of the first svertices have a label round them.
-fn arounds(map: &SphereMap, count: usize) -> usize
+/// How many of the first svertices have a label round them: the number of the side round the next one, if it has one.
+pub fn arounds(map: &SphereMap, count: usize) -> usize
     requires within { count ≤ length map.now.svertices }
     ensures arounds { result ≡ arounds_before (map_of map.now).svertices count }
 {
@@ -33,8 +33,8 @@ fn arounds(map: &SphereMap, count: usize) -> usize
     found
 }
 
-// The number of a side of the item with this number: of that to which its normal points, or of the other.
-fn item_side(map: &SphereMap, item: usize, above: bool) -> usize
+/// The number of a side of the item with this number: of that to which its normal points, or of the other.
+pub fn item_side(map: &SphereMap, item: usize, above: bool) -> usize
     requires map { IsSphereMap map.now }
     requires within { item < length (items (map_of map.now)) }
     ensures number { result ≡ number_of (map_of map.now) (cond above (above_item item) (below_item item)) }
@@ -127,8 +127,8 @@ fn side_near(map: &SphereMap, svertex: usize) -> usize
     }
 }
 
-// The side of a vertex above the points of the skeleton that lie at this place.
-pub(crate) fn side_above(c: &Complex, floor: &Place) -> Place
+/// The side of a vertex above the points of the skeleton that lie at this place: a vertex, an edge or a facet.
+pub fn side_above(c: &Complex, floor: &Place) -> Place
     requires shows { (s : Set) × ShowsSet s c.now }
     requires place { IsPlaceIn (complex_of c.now) floor.now }
     requires skeleton { IsOfSkeleton floor.now }

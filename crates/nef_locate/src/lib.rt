@@ -18,6 +18,7 @@ mod ray;
 #[cfg(test)]
 mod tests;
 
+pub use above::{arounds, item_side, side_above};
 pub use facet::{corner_toward, in_facet, passes, plane_normal};
 pub use label::place_label;
 pub use local::local_map;

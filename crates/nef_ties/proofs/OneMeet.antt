@@ -168,7 +168,7 @@ module _ (s : Set) (C : Complex) (S : Shows s C) where
         one-edge C.vertices S.ordered shaped e f E F n m
 
     -- two edges that pass one point are one
-    one-edge_through : e ≡ f
+    pub one-edge_through : e ≡ f
     one-edge_through = by (ray-cases z low_e low_f (opposite way_e) (ahead-back low_e z way_e to-e) (SameDirection-trans (toward z low_f) (opposite way_f) (opposite way_e) (ahead-back low_f z way_f to-f) (opposite-same way_f way_e (SameDirection-turned way_e way_f ways))))
       where
         by : IsBetween z low_e low_f ⊎ SamePlace low_e low_f ⊎ IsBetween z low_f low_e → e ≡ f
@@ -177,7 +177,7 @@ module _ (s : Set) (C : Complex) (S : Shows s C) where
         by (inr (inr t)) = absurd (E.first f.low F.low_vertex F.is_low (between-inner low_e z E.high_vertex.point low_f b (between-turned z low_e low_f t)))
 
   -- the point of an edge is between the ends that the edge has
-  edge-inside : (k : ℕ) (z : Place) → IsEdgePoint C k z → (e : Edge) × (E : IsEdge C.vertices e) × At C.edges k e × IsBetween E.low_vertex.point z E.high_vertex.point
+  pub edge-inside : (k : ℕ) (z : Place) → IsEdgePoint C k z → (e : Edge) × (E : IsEdge C.vertices e) × At C.edges k e × IsBetween E.low_vertex.point z E.high_vertex.point
   edge-inside k z (e, v, w, a, H, b) =
       let E = S.edges.edges k e a in
       let f = at-one C.vertices e.low v E.low_vertex H.low E.is_low in

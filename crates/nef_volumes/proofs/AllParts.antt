@@ -1,0 +1,102 @@
+-- The parts of a complex, put together.
+use Rattle.std.proofs.Common.{◌≡◌, ℕ, ◌<◌, List, [], ◌∷◌, length, map, arith, refl, ap, sym, ◌∙◌, subst}
+use Rattle.nef_space.specs.Lists.{IsAt, Chained}
+use Rattle.nef_space.specs.Sets.{Set}
+use Rattle.nef_space.specs.declared.label.Label.{Label}
+use Rattle.nef_geo.specs.declared.plane.Plane.{Plane}
+use Rattle.nef_sphere.specs.Maps.{At, Item, items, item_above, item_below}
+use Rattle.nef_smap.proofs.ClassLists.{is-at_one, is-at_within, is-at_some}
+use Rattle.nef_smap.proofs.SideLists.{at-from_get, at-some}
+use Rattle.nef_solid.specs.Complexes.{Vertex, Complex, Corner, IsCorner}
+use Rattle.nef_solid.specs.Rays.{VertexSide, HasSideLabel}
+use Rattle.nef_complex.specs.Complexes.{corner_of}
+use Rattle.nef_complex.specs.declared.complex.Corner.{Corner as ProgramCorner}
+use Rattle.nef_links.specs.Links.{FacetLink, VolumeLink}
+use Rattle.nef_parts.specs.Cycles.{IsCycle, Cycles}
+use Rattle.nef_parts.specs.Numbers.{IsFacetOf, FacetNumbers, IsVolumeOf, VolumeNumbers, above_of, below_of, IsFacetAt, cycle_corners, IsFacet, IsVolume, IsParts}
+use Rattle.nef_parts.specs.declared.parts.Cycle.{Cycle}
+use Rattle.nef_parts.specs.declared.parts.Facet.{Facet}
+use Rattle.nef_parts.specs.declared.parts.Parts.{Parts}
+use Rattle.nef_facets.specs.Facets.{IsFacetParts}
+use Rattle.nef_volumes.specs.Labels.{AreVolumeLabels}
+use Rattle.nef_volumes.specs.Parts.{HasItem, IsFirstCorner, HasFirst, AreFacetsOf}
+use Rattle.nef_volumes.proofs.FacetSides.{chain-above, chain-below}
+use Rattle.nef_volumes.proofs.VolumeLabels.{numbered-side}
+
+module _ (C : Complex) (planes : List Plane) (marks : List Label) (cycles : List (List Cycle)) (facet_of : List (List ℕ))
+    (F : IsFacetParts C (record { planes = planes; marks = marks; cycles = cycles; facet_of = facet_of })) where
+  -- ---- the first corners of facets
+  item-at : (k : Corner) (n : ℕ) → IsFacetOf facet_of k n → HasItem C k
+  item-at k n (row, e, h) =
+      let N = F.numbers in
+      let S = N.shape in
+      let l = is-at_within facet_of k.vertex row e in
+      let v = is-at_some C.vertices k.vertex (let a = S.as_many in omega (arith, l, a)) in
+      let a = at-from_get C.vertices k.vertex v.0 v.1 in
+      let c = S.row k.vertex v.0 row a e in
+      let x = at-some (items v.0.map) k.item (let w = is-at_within row k.item n h in omega (arith, w, c)) in
+      (v.0, x.0, record { vertex = a; item = x.1 })
+
+  first-corner : (n : ℕ) (xs : List Cycle) → Cycles C (λ k. IsFacetOf facet_of k n) (cycle_corners xs) → (j : Corner) → IsFacetOf facet_of j n → (k : ProgramCorner) × IsFirstCorner xs k × IsFacetOf facet_of (corner_of k) n
+  first-corner n [] Y j p = let r = Y.complete j p in absurd r.3
+  first-corner n (x ∷ xs) Y j p = by x.corners refl (Y.cycles 0 (map corner_of x.corners) refl) (λ k h. Y.within 0 0 (map corner_of x.corners) k refl h)
+    where
+      by : (ks : List ProgramCorner) → x.corners ≡ ks → IsCycle C (map corner_of ks) → ((k : Corner) → At (map corner_of x.corners) 0 k → IsFacetOf facet_of k n) → (k : ProgramCorner) × IsFirstCorner (x ∷ xs) k × IsFacetOf facet_of (corner_of k) n
+      by [] e c w = absurd c
+      by (k ∷ ks) e c w = (k, (x, refl, subst (λ (zs : List ProgramCorner). IsAt zs 0 k) (sym e) refl), w (corner_of k) (subst (λ (zs : List ProgramCorner). At (map corner_of zs) 0 (corner_of k)) (sym e) refl))
+
+  first-of : (n : ℕ) (xs : List Cycle) → IsAt cycles n xs → (k : ProgramCorner) × IsFirstCorner xs k × IsFacetOf facet_of (corner_of k) n
+  first-of n xs a =
+      let l = is-at_within cycles n xs a in
+      let j = F.some n (let e = F.as_many_cycles in omega (arith, l, e)) in
+      first-corner n xs (F.cycles n xs a) j.0 j.1
+
+  pub all-first : (n : ℕ) (xs : List Cycle) → IsAt cycles n xs → HasFirst C xs
+  all-first n xs a = let r = first-of n xs a in (r.0, r.1, item-at (corner_of r.0) n r.2)
+
+  module _ (rows : List (List ℕ)) (N : VolumeNumbers C rows) (ls : List Label) (L : AreVolumeLabels C rows ls) (fs : List Facet) (A : AreFacetsOf C rows planes marks cycles fs) where
+    -- the side of another item of the facet is of the same volume
+    same-volume : (x y : VertexSide) (l : Label) (n : ℕ) → IsVolumeOf C rows x n → HasSideLabel C y l → Chained (VolumeLink C) x y → IsVolumeOf C rows y n
+    same-volume x y l n X h c =
+        let r = numbered-side C rows N y l h in
+        subst (λ (m : ℕ). IsVolumeOf C rows y m) (sym ((N.numbered.by_class x y n r.0 X r.1).1 c)) r.1
+
+    facet-corner : (n : ℕ) (f : Facet) → IsAt fs n f → (k : Corner) (v : Vertex) (x : Item) → IsFacetOf facet_of k n → IsCorner C k v x → IsFacetAt C (record { facets = fs; volumes = ls; facet_of = facet_of; volume_of = rows }) f k v x
+    facet-corner n f a k v x p K =
+        let r = first-of n f.cycles (A.cycles_of n f a) in
+        let B = A.beside n f a r.0 r.1 in
+        let G = F.numbers in
+        let c = (G.numbered.by_class (corner_of r.0) k n n r.2 p).0 refl in
+        let q = F.planes n f.plane k v x (A.plane n f a) p K in
+        record {
+          through = q.0;
+          normal = q.1;
+          mark = F.marks n f.mark k v x (A.mark n f a) p K;
+          above = same-volume (above_of (corner_of r.0)) (above_of k) (item_above x) f.pos B.0 (v, K.vertex, (x, K.item, refl)) (chain-above C (corner_of r.0) k c);
+          below = same-volume (below_of (corner_of r.0)) (below_of k) (item_below x) f.neg B.1 (v, K.vertex, (x, K.item, refl)) (chain-below C (corner_of r.0) k c);
+        }
+
+    facet-is : (n : ℕ) (f : Facet) → IsAt fs n f → IsFacet C (record { facets = fs; volumes = ls; facet_of = facet_of; volume_of = rows }) n f
+    facet-is n f a = record {
+      some = F.some n (let l = is-at_within fs n f a in let e = A.as_many in let h = F.as_many_cycles in omega (arith, l, e, h));
+      corners = facet-corner n f a;
+      cycles = F.cycles n f.cycles (A.cycles_of n f a);
+    }
+
+    -- ALL PARTS
+    pub parts-are : IsParts C (record { facets = fs; volumes = ls; facet_of = facet_of; volume_of = rows })
+    parts-are = record {
+      facet_numbers = F.numbers;
+      volume_numbers = N;
+      facets = facet-is;
+      all_facets = λ k n p. let l = F.all k n p in let e = A.as_many in let h = F.as_many_cycles in omega (arith, l, e, h);
+      volumes = λ n l a. record { some = L.some n l a; labels = λ x m X h. L.labels n l x m a X h };
+      all_volumes = λ x n X. L.all x n X;
+    }
+
+-- there is an item at the first corner
+pub first-item : (C : Complex) (xs : List Cycle) → HasFirst C xs → (x : Cycle) (k : ProgramCorner) → IsAt xs 0 x → IsAt x.corners 0 k → HasItem C (corner_of k)
+first-item C xs (j, (y, a, b), h) x k e f =
+    let one = is-at_one xs 0 y x a e in
+    let same = is-at_one x.corners 0 j k (subst (λ (z : Cycle). IsAt z.corners 0 j) one b) f in
+    subst (λ (i : ProgramCorner). HasItem C (corner_of i)) same h

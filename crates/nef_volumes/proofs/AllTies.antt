@@ -1,0 +1,160 @@
+-- The ties of all links together.
+use Rattle.std.proofs.Common.{◌≡◌, ℕ, ◌⊎◌, inl, inr, ⊎_elim, List, ◌++◌, refl, ap, sym, ◌∙◌, subst, ◌↔◌}
+use Rattle.std.specs.List.{Contains}
+use Rattle.std.proofs.lemmas.List.Elements.{Contains-append_left, Contains-append_right}
+use Rattle.nef_space.specs.Lists.{Chained}
+use Rattle.nef_space.specs.Sets.{Set}
+use Rattle.nef_space.specs.Vectors.{opposite, up}
+use Rattle.nef_space.specs.declared.label.Label.{Label}
+use Rattle.nef_sphere.specs.Maps.{At, Side, around_svertex, above_item, below_item, HasSide, Sees}
+use Rattle.nef_sphere.proofs.Lists.{at-one}
+use Rattle.nef_smap.proofs.Chains.{chain-here, chain-trans, chain-turned}
+use Rattle.nef_solid.specs.Complexes.{Vertex, Edge, Complex, Corner}
+use Rattle.nef_solid.specs.Shows.{Shows}
+use Rattle.nef_solid.specs.Rays.{VertexSide, HasSideLabel, RayDown}
+use Rattle.nef_classes.specs.Tables.{AreTied}
+use Rattle.nef_classes.specs.declared.table.Spot.{Spot}
+use Rattle.nef_classes.specs.declared.table.Tie.{Tie}
+use Rattle.nef_links.specs.Links.{AreAlong, LinkAlong, LinkAcross, IsSideOf, LinkInSface, AreSidesAlong, above_arcs, below_arcs, around_ends, LinkAlongEdge, LinkAcrossFacet, LinkDown, LinkOutside, VolumeLink}
+use Rattle.nef_ties.specs.Ties.{spot_of}
+use Rattle.nef_volumes.specs.Ties.{outside_spot, IsSpotOf, AreLinks, AreTiedSides, AreTiesOf, AreTiedOutside, AreTiesDown, LinkOfItems, LinkOfEnds, LinkOfFacets, AreItemTies}
+use Rattle.nef_volumes.proofs.SideSpots.{tie-chain, more-tied, more-sides, both-links, links-as, one-spot}
+use Rattle.nef_volumes.proofs.BelowTies.{linked, one-below}
+
+-- lists of ties of two links together
+pub either-tied : (C : Complex) (Link Other : VertexSide → VertexSide → Type 0) (ts us : List Tie) → AreTiesOf C Link ts → AreTiesOf C Other us → AreTiesOf C (λ x y. Link x y ⊎ Other x y) (ts ++ us)
+either-tied C Link Other ts us A B = record {
+  only = both-links C (λ x y. Link x y ⊎ Other x y) ts us (links-as C Link (λ x y. Link x y ⊎ Other x y) ts (λ x y l. inl l) A.only) (links-as C Other (λ x y. Link x y ⊎ Other x y) us (λ x y l. inr l) B.only);
+  all = λ x y l. by x y l;
+}
+  where
+    by : (x y : VertexSide) → Link x y ⊎ Other x y → AreTiedSides C (ts ++ us) x y
+    by x y (inl l) = more-sides C ts (ts ++ us) (λ t c. Contains-append_left ts us t c) x y (A.all x y l)
+    by x y (inr l) = more-sides C us (ts ++ us) (λ t c. Contains-append_right ts us t c) x y (B.all x y l)
+
+pub ties-as : (C : Complex) (Link Other : VertexSide → VertexSide → Type 0) (ts : List Tie) → ((x y : VertexSide) → Link x y → Other x y) → ((x y : VertexSide) → Other x y → Link x y) → AreTiesOf C Link ts → AreTiesOf C Other ts
+ties-as C Link Other ts f g A = record { only = links-as C Link Other ts f A.only; all = λ x y l. A.all x y (g x y l) }
+
+-- the links of two kinds of linked items
+pub items-tied_both : (C : Complex) (L M N : Corner → Corner → Type 0) (ts us : List Tie) → ((j k : Corner) → N j k → L j k ⊎ M j k) → ((j k : Corner) → L j k ⊎ M j k → N j k) → AreTiesOf C (LinkOfItems C L) ts → AreTiesOf C (LinkOfItems C M) us → AreTiesOf C (LinkOfItems C N) (ts ++ us)
+items-tied_both C L M N ts us f g A B = ties-as C (λ x y. LinkOfItems C L x y ⊎ LinkOfItems C M x y) (LinkOfItems C N) (ts ++ us) (λ x y l. forth x y l) (λ x y (j, k, n, h). back x y j k (f j k n) h) (either-tied C (LinkOfItems C L) (LinkOfItems C M) ts us A B)
+  where
+    forth : (x y : VertexSide) → LinkOfItems C L x y ⊎ LinkOfItems C M x y → LinkOfItems C N x y
+    forth x y (inl (j, k, l, h)) = (j, k, g j k (inl l), h)
+    forth x y (inr (j, k, l, h)) = (j, k, g j k (inr l), h)
+
+    back : (x y : VertexSide) (j k : Corner) → L j k ⊎ M j k → (IsSideOf C x j.vertex (above_item j.item) × IsSideOf C y k.vertex (above_item k.item)) ⊎ (IsSideOf C x j.vertex (below_item j.item) × IsSideOf C y k.vertex (below_item k.item)) → LinkOfItems C L x y ⊎ LinkOfItems C M x y
+    back x y j k (inl l) h = inl (j, k, l, h)
+    back x y j k (inr l) h = inr (j, k, l, h)
+
+module _ (C : Complex) where
+  -- ---- links of items and of ends are links along edges and across facets
+  at-low : (x : VertexSide) (i j : ℕ) (o : Side) → i ≡ j → IsSideOf C x i o → IsSideOf C x j o
+  at-low x i j o e (l, f, g, h) = (l, f ∙ e, g, h)
+
+  as-side : (x : VertexSide) (i : ℕ) (o p : Side) → o ≡ p → IsSideOf C x i o → IsSideOf C x i p
+  as-side x i o p e (l, f, g, h) = (l, f, g ∙ e, h)
+
+  of-items : (x y : VertexSide) → LinkOfItems C (LinkOfFacets C) x y → VolumeLink C x y
+  of-items x y (j, k, inl A, inl (f, g)) = inr (inl (record { number = A.number; edge = A.edge; is_edge = A.is_edge; low_side = above_item j.item; high_side = above_item k.item;
+      is_low = at-low x j.vertex A.edge.low (above_item j.item) A.from_low f; is_high = at-low y k.vertex A.edge.high (above_item k.item) A.to_high g; along = above_arcs j.item k.item A.along refl refl }))
+  of-items x y (j, k, inl A, inr (f, g)) = inr (inl (record { number = A.number; edge = A.edge; is_edge = A.is_edge; low_side = below_item j.item; high_side = below_item k.item;
+      is_low = at-low x j.vertex A.edge.low (below_item j.item) A.from_low f; is_high = at-low y k.vertex A.edge.high (below_item k.item) A.to_high g; along = below_arcs j.item k.item A.along refl refl }))
+  of-items x y (j, k, inr A, h) = inr (inr (inl (record { here = j; there = k; across = A; sides = h })))
+
+  of-ends : (x y : VertexSide) → LinkOfEnds C x y → VolumeLink C x y
+  of-ends x y (k, e, a, f, g) = inr (inl (record { number = k; edge = e; is_edge = a; low_side = around_svertex e.low_svertex; high_side = around_svertex e.high_svertex; is_low = f; is_high = g; along = around_ends refl refl }))
+
+  abbrev ItemsOrEnds : VertexSide → VertexSide → Type 0
+  ItemsOrEnds x y = LinkOfItems C (LinkOfFacets C) x y ⊎ LinkOfEnds C x y
+
+  from-along : (x y : VertexSide) (n : ℕ) (e : Edge) → At C.edges n e → (o p : Side) → IsSideOf C x e.low o → IsSideOf C y e.high p → AreSidesAlong C e o p → ItemsOrEnds x y
+  from-along x y n e a o p f g (above_arcs i j A q r) = inl (record { vertex = e.low; item = i }, record { vertex = e.high; item = j }, inl (record { number = n; edge = e; is_edge = a; from_low = refl; to_high = refl; along = A }),
+      inl (as-side x e.low o (above_item i) q f, as-side y e.high p (above_item j) r g))
+  from-along x y n e a o p f g (below_arcs i j A q r) = inl (record { vertex = e.low; item = i }, record { vertex = e.high; item = j }, inl (record { number = n; edge = e; is_edge = a; from_low = refl; to_high = refl; along = A }),
+      inr (as-side x e.low o (below_item i) q f, as-side y e.high p (below_item j) r g))
+  from-along x y n e a o p f g (around_ends q r) = inr (n, e, a, as-side x e.low o (around_svertex e.low_svertex) q f, as-side y e.high p (around_svertex e.high_svertex) r g)
+
+  from-across : (x y : VertexSide) → LinkAcrossFacet C x y → ItemsOrEnds x y
+  from-across x y L = inl (L.here, L.there, inr L.across, L.sides)
+
+module _ (s : Set) (C : Complex) (S : Shows s C) (outside sface items ends down : List Tie) (O : AreTiesOf C (LinkOutside C) outside) (F : AreTiesOf C (LinkInSface C) sface) (I : AreItemTies C items)
+    (E : AreTiesOf C (LinkOfEnds C) ends) (D : AreTiesDown C down) where
+  in-down : (t : Tie) → Contains down t → Contains (outside ++ sface ++ items ++ ends ++ down) t
+  in-down t c = Contains-append_right (outside ++ sface ++ items ++ ends) down t c
+
+  in-four : (t : Tie) → Contains (outside ++ sface ++ items ++ ends) t → Contains (outside ++ sface ++ items ++ ends ++ down) t
+  in-four t c = Contains-append_left (outside ++ sface ++ items ++ ends) down t c
+
+  in-ends : (t : Tie) → Contains ends t → Contains (outside ++ sface ++ items ++ ends ++ down) t
+  in-ends t c = in-four t (Contains-append_right (outside ++ sface ++ items) ends t c)
+
+  in-items : (t : Tie) → Contains items t → Contains (outside ++ sface ++ items ++ ends ++ down) t
+  in-items t c = in-four t (Contains-append_left (outside ++ sface ++ items) ends t (Contains-append_right (outside ++ sface) items t c))
+
+  in-sface : (t : Tie) → Contains sface t → Contains (outside ++ sface ++ items ++ ends ++ down) t
+  in-sface t c = in-four t (Contains-append_left (outside ++ sface ++ items) ends t (Contains-append_left (outside ++ sface) items t (Contains-append_right outside sface t c)))
+
+  in-outside : (t : Tie) → Contains outside t → Contains (outside ++ sface ++ items ++ ends ++ down) t
+  in-outside t c = in-four t (Contains-append_left (outside ++ sface ++ items) ends t (Contains-append_left (outside ++ sface) items t (Contains-append_left outside sface t c)))
+
+  links-only : AreLinks C (VolumeLink C) (outside ++ sface ++ items ++ ends ++ down)
+  links-only = both-links C (VolumeLink C) (outside ++ sface ++ items ++ ends) down
+      (both-links C (VolumeLink C) (outside ++ sface ++ items) ends
+      (both-links C (VolumeLink C) (outside ++ sface) items
+      (both-links C (VolumeLink C) outside sface (links-as C (LinkOutside C) (VolumeLink C) outside (λ x y l. inr (inr (inr (inr l)))) O.only) (links-as C (LinkInSface C) (VolumeLink C) sface (λ x y l. inl l) F.only))
+      (links-as C (LinkOfItems C (LinkOfFacets C)) (VolumeLink C) items (of-items C) I.only))
+      (links-as C (LinkOfEnds C) (VolumeLink C) ends (of-ends C) E.only))
+      (links-as C (LinkDown C) (VolumeLink C) down (λ x y l. inr (inr (inr (inl l)))) D.only)
+
+  from-items : (x y : VertexSide) → ItemsOrEnds C x y → AreTiedSides C (outside ++ sface ++ items ++ ends ++ down) x y
+  from-items x y (inl l) = more-sides C items (outside ++ sface ++ items ++ ends ++ down) in-items x y (I.all x y l)
+  from-items x y (inr l) = more-sides C ends (outside ++ sface ++ items ++ ends ++ down) in-ends x y (E.all x y l)
+
+  tied-sface : (x y : VertexSide) → LinkInSface C x y → AreTiedSides C (outside ++ sface ++ items ++ ends ++ down) x y
+  tied-sface x y l = more-sides C sface (outside ++ sface ++ items ++ ends ++ down) in-sface x y (F.all x y l)
+
+  from-down : (x y : VertexSide) → LinkDown C x y → AreTiedSides C (outside ++ sface ++ items ++ ends ++ down) x y
+  from-down x y L =
+      let (t, c, (z, w, e, f, g, M)) = D.all x y L in
+      let v = L.vertex in
+      let one = at-one C.vertices x.vertex M.vertex v (subst (λ (n : ℕ). At C.vertices n M.vertex) e M.is_vertex) L.is_vertex in
+      let sight = subst (λ (r : Vertex). Sees r.map z.side (opposite up)) one M.sees in
+      let h = tied-sface x z (linked s C S x z v L.label M.label L.is_vertex e (v, L.is_vertex, L.has) (M.vertex, M.is_vertex, M.has) (opposite up) L.sees sight) in
+      let i = tied-sface y w (one-below s C S v.point y w L.down (subst (λ (r : Vertex). RayDown C r.point w) one M.down)) in
+      let (a, b, A, B, k) = h in
+      let (p, q, P, Q, l) = i in
+      let ts = outside ++ sface ++ items ++ ends ++ down in
+      let m = tie-chain ts t b q (in-down t c) (one-spot C z t.first b f B) (one-spot C w t.second q g Q) in
+      (a, p, A, P, chain-trans (AreTied ts) a b p k (chain-trans (AreTied ts) b q p m (chain-turned (AreTied ts) p q l)))
+
+  links-all : (x y : VertexSide) → VolumeLink C x y → AreTiedSides C (outside ++ sface ++ items ++ ends ++ down) x y
+  links-all x y (inl l) = tied-sface x y l
+  links-all x y (inr (inl L)) = from-items x y (from-along C x y L.number L.edge L.is_edge L.low_side L.high_side L.is_low L.is_high L.along)
+  links-all x y (inr (inr (inl L))) = from-items x y (from-across C x y L)
+  links-all x y (inr (inr (inr (inl L)))) = from-down x y L
+  links-all x y (inr (inr (inr (inr l)))) = more-sides C outside (outside ++ sface ++ items ++ ends ++ down) in-outside x y (O.all x y l)
+
+  -- THE TIES ARE THOSE OF ALL LINKS
+  pub all-tied : AreTiesOf C (VolumeLink C) (outside ++ sface ++ items ++ ends ++ down)
+  all-tied = record { only = links-only; all = links-all }
+
+-- the outside stays tied
+pub all-outside : (C : Complex) (outside sface items ends down : List Tie) → AreTiedOutside C outside → AreTiedOutside C (outside ++ sface ++ items ++ ends ++ down)
+all-outside C outside sface items ends down f x h =
+    let r = f x h in
+    (r.0, r.1, more-tied outside (outside ++ sface ++ items ++ ends ++ down) (λ t c. Contains-append_left (outside ++ sface ++ items ++ ends) down t (Contains-append_left (outside ++ sface ++ items) ends t (Contains-append_left (outside ++ sface) items t (Contains-append_left outside sface t c)))) outside_spot r.0 r.2)
+
+-- the ties of items that are linked along edges, and of those that are linked across facets
+pub items-linked : (C : Complex) (along across ts us : List Tie) → ((j k : Corner) → AreTied along (spot_of j) (spot_of k) ↔ LinkAlong C j k) → ((j k : Corner) → AreTied across (spot_of j) (spot_of k) ↔ LinkAcross C j k)
+    → AreTiesOf C (LinkOfItems C (λ j k. AreTied along (spot_of j) (spot_of k))) ts → AreTiesOf C (LinkOfItems C (λ j k. AreTied across (spot_of j) (spot_of k))) us → AreItemTies C (ts ++ us)
+items-linked C along across ts us f g A B =
+    items-tied_both C (λ j k. AreTied along (spot_of j) (spot_of k)) (λ j k. AreTied across (spot_of j) (spot_of k)) (LinkOfFacets C) ts us back forth A B
+  where
+    back : (j k : Corner) → LinkAlong C j k ⊎ LinkAcross C j k → AreTied along (spot_of j) (spot_of k) ⊎ AreTied across (spot_of j) (spot_of k)
+    back j k (inl l) = inl ((f j k).1 l)
+    back j k (inr l) = inr ((g j k).1 l)
+
+    forth : (j k : Corner) → AreTied along (spot_of j) (spot_of k) ⊎ AreTied across (spot_of j) (spot_of k) → LinkAlong C j k ⊎ LinkAcross C j k
+    forth j k (inl l) = inl ((f j k).0 l)
+    forth j k (inr l) = inr ((g j k).0 l)

@@ -1,0 +1,140 @@
+-- Rays down from vertices, and the sides that see downward.
+use Rattle.std.proofs.Common.{◌≡◌, ℕ, ◌+◌, ◌*◌, ◌<◌, ◌≤◌, ℤ, pos, neg_ℤ, ◌+ℤ◌, ◌-ℤ◌, ◌*ℤ◌, ◌<ℤ◌, nat_abs, ◌⊎◌, inl, inr, ⊎_elim, List, [], ◌∷◌, length, Option, Some, None, slice_get, arith, refl, ap, sym, ◌∙◌, subst}
+use Rattle.std.proofs.lemmas.Bool.{cases_lt}
+use Rattle.std.proofs.lemmas.Int.{ints}
+use Rattle.nef_exact.proofs.Ring.{ring, at, num, neg, ◌⊕◌, ◌⊖◌, ◌⊗◌}
+use Rattle.nef_space.specs.Limits.{half_side}
+use Rattle.nef_space.specs.Local.{FlatDim}
+use Rattle.nef_space.specs.Place.{Place, InClosedFrame, IsAhead, IsBetween}
+use Rattle.nef_space.specs.Sets.{Set}
+use Rattle.nef_space.specs.Vectors.{Vector, IsZero, cross, dot, opposite, up}
+use Rattle.nef_space.specs.declared.label.Label.{Label}
+use Rattle.nef_space.specs.declared.label.Label.TheVariants.{Out}
+use Rattle.nef_geo.specs.Shapes.{place_of, vector_of}
+use Rattle.nef_near.proofs.Alike.{FlatDim-one}
+use Rattle.nef_near.proofs.Frames.{flat_dim-outside}
+use Rattle.nef_sphere.specs.Maps.{At, Svertex, Arc, Loop, arc_item, loop_item, Side, HasSide, Sees, InOneSface, here, link}
+use Rattle.nef_sphere.proofs.Arcs.{at-arc}
+use Rattle.nef_sphere.proofs.Forms.{on-level}
+use Rattle.nef_sphere.proofs.Lists.{at-one}
+use Rattle.nef_smap.specs.declared.map.SphereMap.{SphereMap}
+use Rattle.nef_smap.specs.declared.map.SPlace.TheVariants as place
+use Rattle.nef_smap.specs.Maps.{map_of, IsSphereMap}
+use Rattle.nef_smap.specs.Sides.{LabelledSide, sides_of, IsSide, SideSees, IsPlaceOf}
+use Rattle.nef_smap.proofs.ClassLists.{is-at_one}
+use Rattle.nef_smap.proofs.MapLists.{loop-listed}
+use Rattle.nef_smap.proofs.SideLists.{side-has}
+use Rattle.nef_smap.proofs.SideNumbers.{number-one}
+use Rattle.nef_smap.proofs.Upward.{map-ahead, map-across}
+use Rattle.nef_solid.specs.Complexes.{Vertex, Complex as PlainComplex}
+use Rattle.nef_solid.specs.Skeleton.{Spot as SkeletonSpot, IsSpot, IsSkeletonPoint}
+use Rattle.nef_solid.specs.Rays.{VertexSide, HasSideLabel, IsAbove, RayDown}
+use Rattle.nef_complex.specs.Complexes.{vertex_of, complex_of, ShowsSet}
+use Rattle.nef_complex.specs.declared.complex.Complex.{Complex}
+use Rattle.nef_complex.specs.declared.complex.Vertex.{Vertex as ProgramVertex}
+use Rattle.nef_classes.specs.declared.table.Spot.{Spot}
+use Rattle.nef_classes.specs.declared.table.Tie.{Tie}
+use Rattle.nef_links.specs.Links.{LinkDown}
+use Rattle.nef_links.proofs.EdgeEnds.{dot-opposite}
+use Rattle.nef_locate.specs.declared.place.Place.{Place as ComplexPlace}
+use Rattle.nef_locate.specs.declared.place.Place.TheVariants as position
+use Rattle.nef_locate.specs.Places.{IsPlaceAt, IsFirstHit}
+use Rattle.nef_locate.specs.Rays.{IsSideAbove}
+use Rattle.nef_volumes.specs.Ties.{side_spot, IsSpotOf, IsBelow, IsSpotBelow, IsTieDown}
+use Rattle.nef_volumes.proofs.SideSpots.{spot-numbered}
+use Rattle.nef_volumes.proofs.ReadVertex.{vertex-there, vertex-read, vertex-within}
+
+-- ---- the downward direction lies in a face
+turned : (u v : Vector) → IsZero (cross v (opposite u)) → IsZero (cross u v)
+turned u v z = (
+  ring (u.x ∷ u.y ∷ u.z ∷ v.x ∷ v.y ∷ v.z ∷ []) (at 1 ⊗ at 5 ⊖ at 2 ⊗ at 4) (at 4 ⊗ neg (at 2) ⊖ at 5 ⊗ neg (at 1)) tt ∙ z.0,
+  ring (u.x ∷ u.y ∷ u.z ∷ v.x ∷ v.y ∷ v.z ∷ []) (at 2 ⊗ at 3 ⊖ at 0 ⊗ at 5) (at 5 ⊗ neg (at 0) ⊖ at 3 ⊗ neg (at 2)) tt ∙ z.1,
+  ring (u.x ∷ u.y ∷ u.z ∷ v.x ∷ v.y ∷ v.z ∷ []) (at 0 ⊗ at 4 ⊖ at 1 ⊗ at 3) (at 3 ⊗ neg (at 1) ⊖ at 4 ⊗ neg (at 0)) tt ∙ z.2,
+)
+
+module _ (m : SphereMap) (S : IsSphereMap m) where
+  pub no-svertex : (k : ℕ) → IsPlaceOf (map_of m) (opposite up) (place.SVertex k) → ⊥
+  no-svertex k (v, a, w) = map-across m S k v a (turned up v.way w.parallel)
+
+  never-level : (n : Vector) → pos 0 <ℤ dot n up → dot n (opposite up) ≡ pos 0 → ⊥
+  never-level n p z = let e = dot-opposite n up in let f = sym e ∙ z in omega (arith, ints, p, f)
+
+  pub not-on_arc : (k : ℕ) → IsPlaceOf (map_of m) (opposite up) (place.Arc k) → ⊥
+  not-on_arc k (a, h, o) = never-level a.normal (map-ahead m S k (arc_item a) (at-arc (map_of m).arcs (map_of m).loop k a h)) (on-level (map_of m) (arc_item a) (opposite up) o)
+
+  pub not-on_loop : IsPlaceOf (map_of m) (opposite up) place.Loop → ⊥
+  not-on_loop (l, e, o) = never-level l.normal (map-ahead m S (length m.arcs) (loop_item l) (loop-listed m.arcs m.sloop l e)) (on-level (map_of m) (loop_item l) (opposite up) o)
+
+-- ---- vertices lie in the closed frame
+framed : (s : Set) (y : Place) → FlatDim s y 0 → InClosedFrame y
+framed s y f = record {
+  along_x = least (nat_abs y.x) (half_side * y.w) (λ m. outside (λ (i : InClosedFrame y). over (nat_abs y.x) (half_side * y.w) m i.along_x));
+  along_y = least (nat_abs y.y) (half_side * y.w) (λ m. outside (λ (i : InClosedFrame y). over (nat_abs y.y) (half_side * y.w) m i.along_y));
+  along_z = least (nat_abs y.z) (half_side * y.w) (λ m. outside (λ (i : InClosedFrame y). over (nat_abs y.z) (half_side * y.w) m i.along_z));
+}
+  where
+    outside : (InClosedFrame y → ⊥) → ⊥
+    outside n = let e = FlatDim-one s y 0 3 f (flat_dim-outside s y n) in omega (arith, e)
+
+    over : (a b : ℕ) → b < a → a ≤ b → ⊥
+    over a b m i = omega arith
+
+    least : (a b : ℕ) → (b < a → ⊥) → a ≤ b
+    least a b n = ⊎_elim (λ m. absurd (n m)) (λ m. omega arith) (cases_lt b a)
+
+module _ (s : Set) (c : Complex) (S : ShowsSet s c) (i : ℕ) (u : ProgramVertex) (e : slice_get c.vertices i ≡ Some u) where
+  pub vertex-framed : InClosedFrame (place_of u.point)
+  vertex-framed = framed s (place_of u.point) (S.shows.vertices i (vertex_of u) (vertex-there c i u e))
+
+  -- ---- the side above the point where the ray ends
+  module _ (floor : ComplexPlace) (F : IsFirstHit (complex_of c) (place_of u.point) (opposite up) floor) where
+    ray-of : (x : VertexSide) (l : Label) → HasSideLabel (complex_of c) x l → ((y : Place) → IsPlaceAt (complex_of c) y floor → (t : SkeletonSpot) × IsSpot (complex_of c) t y × IsAbove (complex_of c) y t x) → RayDown (complex_of c) (place_of u.point) x
+    ray-of x l h f =
+        let r = f F.place F.at in
+        record { place = F.place; spot = r.0; ahead = F.ahead; is_spot = r.1; first = F.first; above = r.2; label = l; has = h }
+
+    pub above-within : (j k : ℕ) → IsSideAbove (complex_of c) floor (position.InVolume j k) → j < length c.vertices
+    above-within j k (m, n, o, l, is, (v, a, g), f) = let w = vertex-within c m v a in let q : j ≡ m = cc in omega (arith, w, q)
+
+    pub spot-above : (j k : ℕ) → IsSideAbove (complex_of c) floor (position.InVolume j k) → (a : Spot) → a ≡ side_spot j k → IsSpotBelow (complex_of c) i a
+    spot-above j k (m, n, o, l, is, (v, b, g), f) a h =
+        let x : VertexSide = record { vertex = m; side = o } in
+        let p : j ≡ m = cc in
+        let q : k ≡ n = cc in
+        let r : side_spot m n ≡ a = sym (h ∙ ap (λ (t : ℕ). side_spot t k) p ∙ ap (λ (t : ℕ). side_spot m t) q) in
+        let y = side-has v.map n o l g in
+        (x, subst (IsSpotOf (complex_of c) x) r (spot-numbered (complex_of c) m n v o l b y (number-one v.map n o l g)), (vertex_of u, vertex-there c i u e, ray-of x l (v, b, y) f))
+
+  -- the ray ends nowhere
+  pub none-below : ((q : Place) → IsAhead (place_of u.point) (opposite up) q → IsSkeletonPoint (complex_of c) q → ⊥) → (x : VertexSide) → IsBelow (complex_of c) i x → ⊥
+  none-below apart x (v, a, R) = let one = vertex-read c i u v e a in apart R.place (subst (λ (w : Vertex). IsAhead w.point (opposite up) R.place) one R.ahead) (R.spot, R.is_spot)
+
+  -- ---- the tie down the ray
+  module _ (j : ℕ) (seen : SideSees (map_of u.map) j (opposite up)) where
+    -- what links down from here has the label of the side
+    link-label : (x y : VertexSide) → x.vertex ≡ i → (L : LinkDown (complex_of c) x y) → (o : Side) × IsSide (map_of u.map) j o L.label
+    link-label x y f L =
+        let (o, l, g, v) = seen in
+        let M = map_of u.map in
+        let one = vertex-read c i u L.vertex e (subst (λ (n : ℕ). At (complex_of c).vertices n L.vertex) f L.is_vertex) in
+        let has = subst (λ (w : Vertex). HasSide w.map x.side L.label) one L.has in
+        let sight = subst (λ (w : Vertex). Sees w.map x.side (opposite up)) one L.sees in
+        let K = S.shows.cones i (vertex_of u) (vertex-there c i u e) in
+        let same = K.valid.one_label o x.side l L.label (side-has M j o l g) has (link o x.side x.side L.label has (opposite up, v, sight) (here x.side)) in
+        (o, subst (λ (k : Label). IsSide M j o k) same g)
+
+    pub out-none : (o : Side) × IsSide (map_of u.map) j o Out → (x y : VertexSide) → x.vertex ≡ i → LinkDown (complex_of c) x y → ⊥
+    out-none (o, g) x y f L = let r = link-label x y f L in L.not_out (ap (λ (q : LabelledSide). q.1) (is-at_one (sides_of (map_of u.map)) j (r.0, L.label) (o, Out) r.1 g))
+
+    pub nothing-below : ((x : VertexSide) → IsBelow (complex_of c) i x → ⊥) → (x y : VertexSide) → x.vertex ≡ i → LinkDown (complex_of c) x y → ⊥
+    nothing-below apart x y f L = apart y (L.vertex, subst (λ (n : ℕ). At (complex_of c).vertices n L.vertex) f L.is_vertex, L.down)
+
+    pub tie-down : ((o : Side) × IsSide (map_of u.map) j o Out → ⊥) → (a b : Spot) → a ≡ side_spot i j → IsSpotBelow (complex_of c) i b → IsTieDown (complex_of c) i (record { first = a; second = b })
+    tie-down not a b f (y, Y, (v, h, R)) =
+        let (o, l, g, w) = seen in
+        let x : VertexSide = record { vertex = i; side = o } in
+        let there = vertex-there c i u e in
+        let one = vertex-read c i u v e h in
+        let has = side-has (map_of u.map) j o l g in
+        (x, y, refl, subst (IsSpotOf (complex_of c) x) (sym f) (spot-numbered (complex_of c) i j (vertex_of u) o l there has (number-one (map_of u.map) j o l g)), Y,
+         record { vertex = vertex_of u; is_vertex = there; label = l; has = has; not_out = λ z. not (o, subst (λ (k : Label). IsSide (map_of u.map) j o k) z g); sees = w; down = subst (λ (q : Vertex). RayDown (complex_of c) q.point y) one R })

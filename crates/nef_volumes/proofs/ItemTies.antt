@@ -1,0 +1,158 @@
+-- The ties of the sides of tied items, and of the sides round the ends of edges.
+use Rattle.std.proofs.Common.{◌≡◌, ℕ, ◌<◌, ◌⊎◌, inl, inr, ⊎_elim, List, [], length, map, Bool, true, false, cond, arith, refl, ap, sym, ◌∙◌, subst, ◌↔◌, Some}
+use Rattle.std.specs.List.{Contains}
+use Rattle.nef_space.specs.Lists.{IsAt, Chained}
+use Rattle.nef_space.specs.declared.label.Label.{Label}
+use Rattle.nef_sphere.specs.Maps.{At, Svertex, Item, items, item_above, item_below, Side, around_svertex, above_item, below_item, HasSide}
+use Rattle.nef_sphere.proofs.Lists.{at-one}
+use Rattle.nef_smap.specs.SideNumbers.{number_of}
+use Rattle.nef_smap.proofs.Lists.{at-map}
+use Rattle.nef_smap.proofs.SideLists.{at-from_get, at-some}
+use Rattle.nef_solid.specs.Complexes.{Vertex, Edge, Complex, Corner}
+use Rattle.nef_solid.specs.Rays.{VertexSide, HasSideLabel}
+use Rattle.nef_classes.specs.Tables.{IsSpotIn, AreTied, AreTiedWithin}
+use Rattle.nef_classes.specs.declared.table.Spot.{Spot}
+use Rattle.nef_classes.specs.declared.table.Tie.{Tie}
+use Rattle.nef_links.specs.Links.{IsSideOf}
+use Rattle.nef_parts.specs.Numbers.{count_items}
+use Rattle.nef_ties.specs.Ties.{spot_of, corner_at, Adds, Any}
+use Rattle.nef_ties.proofs.Adding.{adds-one, adds-both}
+use Rattle.nef_volumes.specs.Ties.{side_spot, IsSpotOf, IsEndOf, AreTiedSides, AreTiesOf, side_at, IsItemSide, IsSideTie, IsTieOfItems, LinkOfItems, LinkOfEnds, IsAroundSpot, IsTieOfEnds}
+use Rattle.nef_volumes.proofs.SideSpots.{tie-chain, spot-is}
+use Rattle.nef_volumes.proofs.OutsideTies.{only-added}
+
+-- there is an item at each element of the table of items
+pub item-there : (C : Complex) (a : Spot) → IsSpotIn (map count_items C.vertices) a → (v : Vertex) × (x : Item) × At C.vertices a.row v × At (items v.map) a.column x
+item-there C a w =
+    let r = at-map count_items C.vertices a.row w.count (at-from_get (map count_items C.vertices) a.row w.count w.is_row) in
+    let n = r.2 in let l = w.within in
+    let x = at-some (items r.0.map) a.column (omega (arith, n, l)) in
+    (r.0, x.0, r.1, x.1)
+
+
+has-side : (v : Vertex) (k : ℕ) (x : Item) (b : Bool) → At (items v.map) k x → HasSide v.map (side_at b k) (cond b (item_above x) (item_below x))
+has-side v k x true i = (x, i, refl)
+has-side v k x false i = (x, i, refl)
+
+one-tie : (a b c d : Spot) → a ≡ c → b ≡ d → ◌≡◌ {A = Tie} (record { first = a; second = b }) (record { first = c; second = d })
+one-tie a b c d e f = cc
+
+item_side-one : (C : Complex) (b : Bool) (i a c : Spot) → IsItemSide C b i a → IsItemSide C b i c → a ≡ c
+item_side-one C b i a c (v, f, e) (w, g, h) = e ∙ ap (λ (u : Vertex). side_spot i.row (number_of u.map (side_at b i.column))) (at-one C.vertices i.row v w f g) ∙ sym h
+
+pub side_tie-one : (C : Complex) (b : Bool) (t u w : Tie) → IsSideTie C b t u → IsSideTie C b t w → u ≡ w
+side_tie-one C b t u w (f, g) (h, i) = one-tie u.first u.second w.first w.second (item_side-one C b t.first u.first w.first f h) (item_side-one C b t.second u.second w.second g i)
+
+-- the ties of the upper and of the lower sides of two items are added
+pub both-added : (C : Complex) (items : List Tie) (k : ℕ) (t : Tie) (xs ys zs : List Tie) (a b : Tie) → IsAt items k t → IsSideTie C true t a → IsSideTie C false t b
+    → Adds (λ u. IsSideTie C true t u) xs ys → Adds (λ u. IsSideTie C false t u) ys zs → Adds (IsTieOfItems C items k) xs zs
+both-added C items k t xs ys zs a b i f g h j = adds-both (λ u. IsSideTie C true t u) (λ u. IsSideTie C false t u) (IsTieOfItems C items k) xs ys zs h j (λ u s. (t, i, s)) (λ u (w, l, s). back u w l s)
+  where
+    back : (u w : Tie) → IsAt items k w → IsSideTie C true w u ⊎ IsSideTie C false w u → IsSideTie C true t u ⊎ IsSideTie C false t u
+    back u w l s =
+        let e : w ≡ t = cc in
+        subst (λ (r : Tie). IsSideTie C true r u ⊎ IsSideTie C false r u) e s
+
+module _ (C : Complex) (items : List Tie) (W : AreTiedWithin (map count_items C.vertices) items) (ts : List Tie) (A : Adds (Any (IsTieOfItems C items)) [] ts) where
+  abbrev Link : Corner → Corner → Type 0
+  Link j k = AreTied items (spot_of j) (spot_of k)
+
+  abbrev side_of : Bool → Spot → VertexSide
+  side_of b a = record { vertex = a.row; side = side_at b a.column }
+
+  -- the side of the item at an element
+  module _ (b : Bool) (i a : Spot) (w : IsSpotIn (map count_items C.vertices) i) (s : IsItemSide C b i a) where
+    side-there : (l : Label) × HasSideLabel C (side_of b i) l
+    side-there = let r = item-there C i w in (cond b (item_above r.1) (item_below r.1), (r.0, r.2, has-side r.0 i.column r.1 b r.3))
+
+    end-there : IsSpotOf C (side_of b i) a
+    end-there =
+        let h = side-there in
+        let k = spot-is C (side_of b i) h.1.0 h.0 h.1.1 h.1.2 in
+        subst (IsSpotOf C (side_of b i)) (ap (λ (u : Vertex). side_spot i.row (number_of u.map (side_at b i.column))) (at-one C.vertices i.row h.1.0 s.0 h.1.1 s.1) ∙ sym s.2) k
+
+  of-sides : (b : Bool) (k : ℕ) (t u : Tie) → IsAt items k t → IsSideTie C b t u
+      → ((x y : VertexSide) (j l : Corner) → x ≡ side_of b t.first → y ≡ side_of b t.second → j ≡ corner_at t.first → l ≡ corner_at t.second → (m : Label) × HasSideLabel C x m → (n : Label) × HasSideLabel C y n
+          → ((IsSideOf C x j.vertex (above_item j.item) × IsSideOf C y l.vertex (above_item l.item)) ⊎ (IsSideOf C x j.vertex (below_item j.item) × IsSideOf C y l.vertex (below_item l.item))))
+      → (x : VertexSide) × (y : VertexSide) × IsEndOf C x u.first × IsEndOf C y u.second × LinkOfItems C Link x y
+  of-sides b k t u i (f, g) both =
+      let w = W k t i in
+      let x = side_of b t.first in let y = side_of b t.second in
+      let j = corner_at t.first in let l = corner_at t.second in
+      (x, y, inl (end-there b t.first u.first w.0 f), inl (end-there b t.second u.second w.1 g),
+       (j, l, (k, t, i, refl, refl), both x y j l refl refl refl refl (side-there b t.first u.first w.0 f) (side-there b t.second u.second w.1 g)))
+
+  only : (u : Tie) → Contains ts u → (x : VertexSide) × (y : VertexSide) × IsEndOf C x u.first × IsEndOf C y u.second × LinkOfItems C Link x y
+  only u c = let (k, (t, i, s)) = only-added (Any (IsTieOfItems C items)) ts A u c in by k t i s
+    where
+      by : (k : ℕ) (t : Tie) → IsAt items k t → IsSideTie C true t u ⊎ IsSideTie C false t u → (x : VertexSide) × (y : VertexSide) × IsEndOf C x u.first × IsEndOf C y u.second × LinkOfItems C Link x y
+      by k t i (inl s) = of-sides true k t u i s (λ x y j l d e f g (m, h) (n, p). inl ((m, ap (λ (z : VertexSide). z.vertex) d ∙ ap (λ (z : Corner). z.vertex) (sym f), ap (λ (z : VertexSide). z.side) d ∙ ap (λ (z : Corner). above_item z.item) (sym f), h),
+          (n, ap (λ (z : VertexSide). z.vertex) e ∙ ap (λ (z : Corner). z.vertex) (sym g), ap (λ (z : VertexSide). z.side) e ∙ ap (λ (z : Corner). above_item z.item) (sym g), p)))
+      by k t i (inr s) = of-sides false k t u i s (λ x y j l d e f g (m, h) (n, p). inr ((m, ap (λ (z : VertexSide). z.vertex) d ∙ ap (λ (z : Corner). z.vertex) (sym f), ap (λ (z : VertexSide). z.side) d ∙ ap (λ (z : Corner). below_item z.item) (sym f), h),
+          (n, ap (λ (z : VertexSide). z.vertex) e ∙ ap (λ (z : Corner). z.vertex) (sym g), ap (λ (z : VertexSide). z.side) e ∙ ap (λ (z : Corner). below_item z.item) (sym g), p)))
+
+  -- the element of a side of an item
+  spot-there : (b : Bool) (i : Spot) (j : Corner) (x : VertexSide) → i ≡ spot_of j → IsSideOf C x j.vertex (side_at b j.item) → (a : Spot) × IsSpotOf C x a × IsItemSide C b i a
+  spot-there b i j x e (l, f, g, (v, a, h)) =
+      let s = side_spot x.vertex (number_of v.map x.side) in
+      let p : s ≡ side_spot j.vertex (number_of v.map (side_at b j.item)) = ap (λ (n : ℕ). side_spot n (number_of v.map x.side)) f ∙ ap (λ (o : Side). side_spot j.vertex (number_of v.map o)) g in
+      (s, spot-is C x v l a h, subst (λ (r : Spot). IsItemSide C b r s) (sym e) (v, subst (λ (n : ℕ). At C.vertices n v) f a, p))
+
+  tied : (b : Bool) (x y : VertexSide) (j k : Corner) → Link j k → ((t u : Tie) → IsSideTie C b t u → IsSideTie C true t u ⊎ IsSideTie C false t u) → IsSideOf C x j.vertex (side_at b j.item) → IsSideOf C y k.vertex (side_at b k.item) → AreTiedSides C ts x y
+  tied b x y j k L either f g =
+      let (n, t, i, e, h) = L in
+      let p = spot-there b t.first j x e f in
+      let q = spot-there b t.second k y h g in
+      let u : Tie = record { first = p.0; second = q.0 } in
+      let c = A.all u (n, (t, i, either t u (p.2, q.2))) in
+      (p.0, q.0, p.1, q.1, tie-chain ts u p.0 q.0 c refl refl)
+
+  all : (x y : VertexSide) → LinkOfItems C Link x y → AreTiedSides C ts x y
+  all x y (j, k, L, inl (f, g)) = tied true x y j k L (λ t u s. inl s) f g
+  all x y (j, k, L, inr (f, g)) = tied false x y j k L (λ t u s. inr s) f g
+
+  -- THE SIDES OF TIED ITEMS ARE TIED
+  pub items-tied : AreTiesOf C (LinkOfItems C Link) ts
+  items-tied = record { only = only; all = all }
+
+-- ---- the sides round the ends of edges
+around-one : (C : Complex) (i k : ℕ) (a b : Spot) → IsAroundSpot C i k a → IsAroundSpot C i k b → a ≡ b
+around-one C i k a b (v, u, l, f, g, h, e) (w, x, m, p, q, r, s) = e ∙ ap (λ (z : Vertex). side_spot i (number_of z.map (around_svertex k))) (at-one C.vertices i v w f p) ∙ sym s
+
+pub ends-one : (C : Complex) (k : ℕ) (t u : Tie) → IsTieOfEnds C k t → IsTieOfEnds C k u → t ≡ u
+ends-one C k t u (e, a, f, g) (d, b, h, i) =
+    let one = at-one C.edges k d e b a in
+    let h' = subst (λ (r : Edge). IsAroundSpot C r.low r.low_svertex u.first) one h in
+    let i' = subst (λ (r : Edge). IsAroundSpot C r.high r.high_svertex u.second) one i in
+    one-tie t.first t.second u.first u.second (around-one C e.low e.low_svertex t.first u.first f h') (around-one C e.high e.high_svertex t.second u.second g i')
+
+module _ (C : Complex) (ts : List Tie) (A : Adds (Any (IsTieOfEnds C)) [] ts) where
+  abbrev around_of : ℕ → ℕ → VertexSide
+  around_of i k = record { vertex = i; side = around_svertex k }
+
+  end-round : (i k : ℕ) (a : Spot) → IsAroundSpot C i k a → IsSpotOf C (around_of i k) a × IsSideOf C (around_of i k) i (around_svertex k)
+  end-round i k a (v, u, l, f, g, h, e) = (subst (IsSpotOf C (around_of i k)) (sym e) (spot-is C (around_of i k) v l f (u, g, h)), (l, refl, refl, (v, f, (u, g, h))))
+
+  ends-only : (t : Tie) → Contains ts t → (x : VertexSide) × (y : VertexSide) × IsEndOf C x t.first × IsEndOf C y t.second × LinkOfEnds C x y
+  ends-only t c =
+      let (k, (e, a, f, g)) = only-added (Any (IsTieOfEnds C)) ts A t c in
+      let p = end-round e.low e.low_svertex t.first f in
+      let q = end-round e.high e.high_svertex t.second g in
+      (around_of e.low e.low_svertex, around_of e.high e.high_svertex, inl p.0, inl q.0, (k, e, a, p.1, q.1))
+
+  round-there : (i k : ℕ) (x : VertexSide) → IsSideOf C x i (around_svertex k) → (a : Spot) × IsSpotOf C x a × IsAroundSpot C i k a
+  round-there i k x (l, f, g, (v, a, h)) =
+      let s = side_spot x.vertex (number_of v.map x.side) in
+      let u = subst (λ (o : Side). HasSide v.map o l) g h in
+      (s, spot-is C x v l a h, (v, u.0, l, subst (λ (n : ℕ). At C.vertices n v) f a, u.1, u.2, ap (λ (n : ℕ). side_spot n (number_of v.map x.side)) f ∙ ap (λ (o : Side). side_spot i (number_of v.map o)) g))
+
+  ends-all : (x y : VertexSide) → LinkOfEnds C x y → AreTiedSides C ts x y
+  ends-all x y (k, e, a, f, g) =
+      let p = round-there e.low e.low_svertex x f in
+      let q = round-there e.high e.high_svertex y g in
+      let u : Tie = record { first = p.0; second = q.0 } in
+      (p.0, q.0, p.1, q.1, tie-chain ts u p.0 q.0 (A.all u (k, (e, a, p.2, q.2))) refl refl)
+
+  -- THE SIDES ROUND THE ENDS OF EDGES ARE TIED
+  pub ends-tied : AreTiesOf C (LinkOfEnds C) ts
+  ends-tied = record { only = ends-only; all = ends-all }

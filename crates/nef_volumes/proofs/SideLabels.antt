@@ -1,0 +1,59 @@
+-- The sides of a volume have one label.
+use Rattle.std.proofs.Common.{◌≡◌, ℕ, refl, subst}
+use Rattle.nef_space.specs.Lists.{Chained}
+use Rattle.nef_space.specs.Local.{HasLabel, Joined}
+use Rattle.nef_space.specs.Place.{Place}
+use Rattle.nef_space.specs.Sets.{Set}
+use Rattle.nef_space.specs.Vectors.{zero_vector, up}
+use Rattle.nef_space.specs.declared.label.Label.{Label}
+use Rattle.nef_near.proofs.Decisions.{ahead, near-ahead}
+use Rattle.nef_near.proofs.Germs.{label-one}
+use Rattle.nef_near.proofs.Rays.{Germ-zero}
+use Rattle.nef_near.proofs.Topology.{near-germ_zero}
+use Rattle.nef_near.proofs.Even.{joined-germs, labels-by_germs}
+use Rattle.nef_sphere.specs.Maps.{At, HasSide, item_normal, seen}
+use Rattle.nef_smap.specs.Maps.{IsSmall}
+use Rattle.nef_smap.proofs.Lists.{at-map}
+use Rattle.nef_smap.proofs.SideLists.{get-from_at}
+use Rattle.nef_solid.proofs.Cones.{label-germ}
+use Rattle.nef_solid.specs.Complexes.{Vertex, Complex}
+use Rattle.nef_solid.specs.Shows.{Shows}
+use Rattle.nef_solid.specs.Rays.{VertexSide, HasSideLabel}
+use Rattle.nef_complex.specs.Complexes.{vertex_of, complex_of, ShowsSet}
+use Rattle.nef_complex.specs.declared.complex.Complex.{Complex as ProgramComplex}
+use Rattle.nef_links.specs.Links.{VolumeLink}
+use Rattle.nef_links.specs.Components.{IsAtSide, IsUpright}
+use Rattle.nef_links.proofs.SideSight.{side-sees}
+use Rattle.nef_links.proofs.SidePoints.{at-side}
+use Rattle.nef_links.proofs.SidesJoined.{sides-joined}
+use Rattle.nef_locate.proofs.Upward.{up-above}
+
+-- the upward direction is above each item of the program's complexes
+pub upright : (s : Set) (c : ProgramComplex) → ShowsSet s c → IsUpright (complex_of c)
+upright s c S k v x K =
+    let M = S.shows.cones k.vertex v K.vertex in
+    up-above (item_normal x) (M.valid.shaped.normals k.item x K.item) ((small k.vertex v K.vertex).normals k.item x K.item)
+  where
+    small : (i : ℕ) (v : Vertex) → At (complex_of c).vertices i v → IsSmall v.map
+    small i v a =
+        let u = at-map vertex_of c.vertices i v a in
+        subst (λ (w : Vertex). IsSmall w.map) u.2 (S.maps i u.0 (get-from_at c.vertices i u.0 u.1)).sphere_map.small
+
+module _ (s : Set) (C : Complex) (S : Shows s C) where
+  -- a point at the side, which has its label
+  pub side-point : (x : VertexSide) (l : Label) → HasSideLabel C x l → (p : Place) × IsAtSide s C x p × HasLabel s p l
+  side-point x l (v, a, h) =
+      let K = S.cones x.vertex v a in
+      let o = side-sees v.map K.valid.shaped x.side l h in
+      let d = o.0 in
+      let g = label-germ v.map s v.point K d l (seen (record { side = x.side; has = h; sees = o.1 })) in
+      let p = ahead s v.point d in
+      (p, at-side s C S x v l a h d o.1, (Germ-zero s p zero_vector l (refl, refl, refl)).0 ((near-ahead s v.point d zero_vector l).1 ((near-germ_zero s v.point d zero_vector l (refl, refl, refl)).1 g)))
+
+  -- SIDES OF ONE VOLUME HAVE ONE LABEL
+  pub chain-label : IsUpright C → (x y : VertexSide) (l m : Label) → Chained (VolumeLink C) x y → HasSideLabel C x l → HasSideLabel C y m → l ≡ m
+  chain-label u x y l m c h i =
+      let P = side-point x l h in
+      let Q = side-point y m i in
+      let j = sides-joined s C x y P.0 Q.0 S u c P.1 Q.1 in
+      label-one s Q.0 l m ((labels-by_germs s P.0 Q.0 (joined-germs s P.0 Q.0 j) l).0 P.2) Q.2

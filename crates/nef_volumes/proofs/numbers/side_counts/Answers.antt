@@ -1,0 +1,11 @@
+use Rattle.std.proofs.Common.{◌≤◌, List, ◌∷◌, length, map, take, ap, ◌∙◌, subst}
+use Rattle.std.proofs.lemmas.List.{take_all}
+use Rattle.nef_complex.specs.Complexes.{vertex_of}
+use Rattle.nef_complex.specs.declared.complex.Vertex.{Vertex}
+use Rattle.nef_parts.specs.Numbers.{count_sides}
+use Rattle.nef_volumes.proofs.numbers.side_counts.Goals as goal
+
+pub returns : goal.returns
+returns c = record {
+  counts = c.loop-vertex.invariant ∙ ap (λ (us : List Vertex). 1 ∷ map count_sides (map vertex_of us)) (take_all c.loop-vertex.vertex-index c.args.c.now.vertices (subst (λ (us : List Vertex). length us ≤ c.loop-vertex.vertex-index) c.as_slice-vertex-items.ensures.all c.loop-vertex-test.false));
+}

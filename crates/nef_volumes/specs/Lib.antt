@@ -1,0 +1,4 @@
+pub mod Ties
+pub mod Labels
+pub mod Parts
+pub mod Joins

@@ -1,0 +1,42 @@
+-- Facets with the numbers of the volumes beside them.
+use Rattle.std.specs.Prelude.{◌≡◌, ℕ, List, length, Bool}
+use Rattle.nef_space.specs.Lists.{IsAt}
+use Rattle.nef_space.specs.declared.label.Label.{Label}
+use Rattle.nef_geo.specs.declared.plane.Plane.{Plane}
+use Rattle.nef_sphere.specs.Maps.{Item}
+use Rattle.nef_solid.specs.Complexes.{Vertex, Complex, Corner, IsCorner}
+use Rattle.nef_solid.specs.Rays.{VertexSide}
+use Rattle.nef_complex.specs.Complexes.{corner_of}
+use Rattle.nef_complex.specs.declared.complex.Corner.{Corner as ProgramCorner}
+use Rattle.nef_parts.specs.Numbers.{IsVolumeOf, above_of, below_of}
+use Rattle.nef_parts.specs.declared.parts.Cycle.{Cycle}
+use Rattle.nef_parts.specs.declared.parts.Facet.{Facet}
+use Rattle.nef_volumes.specs.Ties.{side_at}
+
+-- there is an item at the corner
+abbrev pub HasItem : Complex → Corner → Type 0
+HasItem C k = (v : Vertex) × (x : Item) × IsCorner C k v x
+
+-- the upper or the lower side of the item at the corner
+abbrev pub side_beside : Bool → Corner → VertexSide
+side_beside above k = record { vertex = k.vertex; side = side_at above k.item }
+
+-- k is the first corner of the first cycle
+abbrev pub IsFirstCorner : List Cycle → ProgramCorner → Type 0
+IsFirstCorner xs k = (x : Cycle) × IsAt xs 0 x × IsAt x.corners 0 k
+
+-- the cycles have a first corner, at which there is an item
+abbrev pub HasFirst : Complex → List Cycle → Type 0
+HasFirst C xs = (k : ProgramCorner) × IsFirstCorner xs k × HasItem C (corner_of k)
+
+-- the facet's volumes are those beside the first corner
+abbrev pub IsBeside : Complex → List (List ℕ) → Facet → Type 0
+IsBeside C rows f = (k : ProgramCorner) → IsFirstCorner f.cycles k → IsVolumeOf C rows (above_of (corner_of k)) f.pos × IsVolumeOf C rows (below_of (corner_of k)) f.neg
+
+-- the facets have the planes, the marks and the cycles, and the volumes beside these
+pub record AreFacetsOf (C : Complex) (rows : List (List ℕ)) (planes : List Plane) (marks : List Label) (cycles : List (List Cycle)) (fs : List Facet) : Type 0 where
+  pub as_many : length fs ≡ length cycles
+  pub plane : (n : ℕ) (f : Facet) → IsAt fs n f → IsAt planes n f.plane
+  pub mark : (n : ℕ) (f : Facet) → IsAt fs n f → IsAt marks n f.mark
+  pub cycles_of : (n : ℕ) (f : Facet) → IsAt fs n f → IsAt cycles n f.cycles
+  pub beside : (n : ℕ) (f : Facet) → IsAt fs n f → IsBeside C rows f

@@ -1,0 +1,142 @@
+-- Sides as elements of a table, and which ties join them.
+use Rattle.std.specs.Prelude.{◌≡◌, ℕ, ◌+◌, ◌<◌, List, ◌∷◌, length, map, Bool, true, false, cond, Some, ◌⊎◌}
+use Rattle.std.specs.List.{Contains}
+use Rattle.nef_space.specs.Lists.{IsAt, Chained}
+use Rattle.nef_space.specs.declared.label.Label.{Label}
+use Rattle.nef_space.specs.declared.label.Label.TheVariants.{Out}
+use Rattle.nef_sphere.specs.Maps.{At, Svertex, Side, around_svertex, above_item, below_item, HasSide}
+use Rattle.nef_smap.specs.Sides.{sides_of, IsSide, SeeOneWay}
+use Rattle.nef_smap.specs.SideNumbers.{number_of}
+use Rattle.nef_solid.specs.Complexes.{Vertex, Edge, Complex, Corner, HasEnds}
+use Rattle.nef_solid.specs.Rays.{VertexSide, HasSideLabel, RayDown}
+use Rattle.nef_classes.specs.Tables.{AreTied}
+use Rattle.nef_classes.specs.declared.table.Spot.{Spot}
+use Rattle.nef_classes.specs.declared.table.Tie.{Tie}
+use Rattle.nef_links.specs.Links.{IsSideOf, LinkAlong, LinkAcross, LinkDown}
+use Rattle.nef_parts.specs.Numbers.{count_sides}
+
+-- the element of the outside, alone in the first row
+abbrev pub outside_spot : Spot
+outside_spot = record { row = 0; column = 0 }
+
+-- the element of side number s of vertex i; the vertices' rows come after that of the outside
+abbrev pub side_spot : ℕ → ℕ → Spot
+side_spot i s = record { row = i + 1; column = s }
+
+-- how many elements the rows have
+abbrev pub row_counts : Complex → List ℕ
+row_counts C = 1 ∷ map count_sides C.vertices
+
+-- the element is that of the side
+pub record IsSpotOf (C : Complex) (x : VertexSide) (a : Spot) : Type 0 where
+  pub vertex : Vertex
+  pub is_vertex : At C.vertices x.vertex vertex
+  pub label : Label
+  pub has : HasSide vertex.map x.side label
+  pub is_spot : a ≡ side_spot x.vertex (number_of vertex.map x.side)
+
+-- the element is that of the side, or the side is outside and the element is that of the outside
+abbrev pub IsEndOf : Complex → VertexSide → Spot → Type 0
+IsEndOf C x a = IsSpotOf C x a ⊎ ((a ≡ outside_spot) × HasSideLabel C x Out)
+
+-- each tie joins elements of linked sides
+abbrev pub AreLinks : Complex → (VertexSide → VertexSide → Type 0) → List Tie → Type 0
+AreLinks C Link ts = (t : Tie) → Contains ts t → (x : VertexSide) × (y : VertexSide) × IsEndOf C x t.first × IsEndOf C y t.second × Link x y
+
+-- ties lead from the element of one side to that of the other
+abbrev pub AreTiedSides : Complex → List Tie → VertexSide → VertexSide → Type 0
+AreTiedSides C ts x y = (a : Spot) × (b : Spot) × IsSpotOf C x a × IsSpotOf C y b × Chained (AreTied ts) a b
+
+-- the ties join elements of linked sides, and lead to each linked side
+pub record AreTiesOf (C : Complex) (Link : VertexSide → VertexSide → Type 0) (ts : List Tie) : Type 0 where
+  pub only : AreLinks C Link ts
+  pub all : (x y : VertexSide) → Link x y → AreTiedSides C ts x y
+
+-- ---- the outside
+-- vertex i has the side with the number s, with the label
+abbrev pub HasNumber : Complex → ℕ → ℕ → Label → Type 0
+HasNumber C i s l = (v : Vertex) × (o : Side) × At C.vertices i v × IsSide v.map s o l
+
+-- the tie joins the outside with side s of vertex i, which has the label Out
+abbrev pub IsTieOutside : Complex → ℕ → ℕ → Tie → Type 0
+IsTieOutside C i s t = HasNumber C i s Out × (t ≡ record { first = outside_spot; second = side_spot i s })
+
+-- ---- sfaces
+-- the tie of side r of vertex i, an earlier one, with side s
+abbrev pub earlier_tie : ℕ → ℕ → ℕ → Tie
+earlier_tie i s r = record { first = side_spot i r; second = side_spot i s }
+
+-- the tie joins an earlier side of vertex i with side s where both have one number
+abbrev pub IsTieNumbered : ℕ → List ℕ → ℕ → ℕ → Tie → Type 0
+IsTieNumbered i ns s r t = (r < s) × (n : ℕ) × IsAt ns r n × IsAt ns s n × (t ≡ earlier_tie i s r)
+
+-- and where both are of one sface
+abbrev pub IsTieInSface : Complex → ℕ → ℕ → ℕ → Tie → Type 0
+IsTieInSface C i s r t = (v : Vertex) × At C.vertices i v × (r < s) × (s < length (sides_of v.map)) × Chained (SeeOneWay v.map) r s × (t ≡ earlier_tie i s r)
+
+-- ---- sides of items
+abbrev pub side_at : Bool → ℕ → Side
+side_at above k = cond above (above_item k) (below_item k)
+
+-- the element is that of the upper or the lower side of the item
+abbrev pub IsItemSide : Complex → Bool → Spot → Spot → Type 0
+IsItemSide C above x a = (v : Vertex) × At C.vertices x.row v × (a ≡ side_spot x.row (number_of v.map (side_at above x.column)))
+
+-- the tie joins the upper, or the lower, sides of the items that the other tie joins
+abbrev pub IsSideTie : Complex → Bool → Tie → Tie → Type 0
+IsSideTie C above t u = IsItemSide C above t.first u.first × IsItemSide C above t.second u.second
+
+-- the tie joins sides of items that tie k of the list joins
+abbrev pub IsTieOfItems : Complex → List Tie → ℕ → Tie → Type 0
+IsTieOfItems C ts k u = (t : Tie) × IsAt ts k t × (IsSideTie C true t u ⊎ IsSideTie C false t u)
+
+-- both are upper sides of linked items, or both are lower sides
+abbrev pub LinkOfItems : Complex → (Corner → Corner → Type 0) → VertexSide → VertexSide → Type 0
+LinkOfItems C Link x y = (j : Corner) × (k : Corner) × Link j k
+    × ((IsSideOf C x j.vertex (above_item j.item) × IsSideOf C y k.vertex (above_item k.item)) ⊎ (IsSideOf C x j.vertex (below_item j.item) × IsSideOf C y k.vertex (below_item k.item)))
+
+-- ---- edges
+-- both are the sides round the ends of an edge
+abbrev pub LinkOfEnds : Complex → VertexSide → VertexSide → Type 0
+LinkOfEnds C x y = (k : ℕ) × (e : Edge) × At C.edges k e × IsSideOf C x e.low (around_svertex e.low_svertex) × IsSideOf C y e.high (around_svertex e.high_svertex)
+
+abbrev pub HasSvertex : Complex → ℕ → ℕ → Type 0
+HasSvertex C i k = (v : Vertex) × (u : Svertex) × At C.vertices i v × At v.map.svertices k u
+
+-- the element is that of the side round svertex k of vertex i
+abbrev pub IsAroundSpot : Complex → ℕ → ℕ → Spot → Type 0
+IsAroundSpot C i k a = (v : Vertex) × (u : Svertex) × (l : Label) × At C.vertices i v × At v.map.svertices k u × (u.around ≡ Some l) × (a ≡ side_spot i (number_of v.map (around_svertex k)))
+
+-- the tie joins the sides round the ends of edge k
+abbrev pub IsTieOfEnds : Complex → ℕ → Tie → Type 0
+IsTieOfEnds C k t = (e : Edge) × At C.edges k e × IsAroundSpot C e.low e.low_svertex t.first × IsAroundSpot C e.high e.high_svertex t.second
+
+-- ---- rays down
+-- the side lies above the point where the ray down from vertex i ends
+abbrev pub IsBelow : Complex → ℕ → VertexSide → Type 0
+IsBelow C i x = (v : Vertex) × At C.vertices i v × RayDown C v.point x
+
+-- the tie joins a side of vertex i with a side that the link down the ray joins with it
+abbrev pub IsTieDown : Complex → ℕ → Tie → Type 0
+IsTieDown C i t = (x : VertexSide) × (y : VertexSide) × (x.vertex ≡ i) × IsSpotOf C x t.first × IsSpotOf C y t.second × LinkDown C x y
+
+-- the ties join sides that links down rays join, and there is one for each vertex that has such a link
+pub record AreTiesDown (C : Complex) (ts : List Tie) : Type 0 where
+  pub only : AreLinks C (LinkDown C) ts
+  pub all : (x y : VertexSide) → LinkDown C x y → (t : Tie) × Contains ts t × IsTieDown C x.vertex t
+
+-- the element is that of a side above the point where the ray down from vertex i ends
+abbrev pub IsSpotBelow : Complex → ℕ → Spot → Type 0
+IsSpotBelow C i a = (x : VertexSide) × IsSpotOf C x a × IsBelow C i x
+
+-- ---- all together
+-- the ties of the sides of items that are linked along edges or across facets
+abbrev pub LinkOfFacets : Complex → Corner → Corner → Type 0
+LinkOfFacets C j k = LinkAlong C j k ⊎ LinkAcross C j k
+
+abbrev pub AreItemTies : Complex → List Tie → Type 0
+AreItemTies C ts = AreTiesOf C (LinkOfItems C (LinkOfFacets C)) ts
+
+-- ties lead from the outside to each side that has the label Out
+abbrev pub AreTiedOutside : Complex → List Tie → Type 0
+AreTiedOutside C ts = (x : VertexSide) → HasSideLabel C x Out → (a : Spot) × IsSpotOf C x a × Chained (AreTied ts) outside_spot a

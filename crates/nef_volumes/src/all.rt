@@ -1,0 +1,113 @@
+//! All parts of a complex.
+
+ghost use Rattle.std.specs.Prelude.{◌≡◌, ℕ, List as Sequence, length, IfOk};
+ghost use Rattle.nef_space.specs.Lists.{IsAt};
+ghost use Rattle.nef_space.specs.Sets.{Set};
+ghost use Rattle.nef_complex.specs.Complexes.{complex_of, corner_of, ShowsSet};
+ghost use Rattle.nef_parts.specs.declared.parts.Cycle.{Cycle as PlainCycle};
+ghost use Rattle.nef_parts.specs.Numbers.{IsVolumeOf, VolumeNumbers, IsParts};
+ghost use Rattle.nef_volumes.specs.Joins.{FacetsJoined, VolumesJoined};
+ghost use Rattle.nef_volumes.specs.Parts.{HasItem, side_beside, HasFirst, IsBeside, AreFacetsOf};
+
+use crate::OutOfMemory;
+use crate::labels::volume_labels;
+use crate::numbers::volume_numbers;
+use nef_complex::{Complex, Corner};
+use nef_facets::{FacetParts, facets};
+use nef_geo::{Label, List, Plane};
+use nef_locate::item_side;
+use nef_parts::{Cycle, Facet, Parts};
+use std::alloc::Global;
+
+// The number of the volume at a side of the item: at that to which its normal points, or at the other.
+fn volume_at(c: &Complex, volume_of: &List<List<usize>>, corner: &Corner, above: bool) -> usize
+    requires shows { (s : Set) × ShowsSet s c.now }
+    requires numbers { VolumeNumbers (complex_of c.now) volume_of.now }
+    requires corner { HasItem (complex_of c.now) (corner_of corner.now) }
+    ensures volume { IsVolumeOf (complex_of c.now) volume_of.now (side_beside above (corner_of corner.now)) result }
+{
+    let map = &c.vertices.at(corner.vertex).map;
+    let side = item_side(map, corner.item, above);
+    let row = volume_of.at(corner.vertex);
+    *row.at(side)
+}
+
+// The facet with these cycles. Its volumes are those beside its first corner.
+fn facet(
+    c: &Complex,
+    volume_of: &List<List<usize>>,
+    plane: Plane,
+    mark: Label,
+    cycles: List<Cycle>,
+) -> Facet
+    requires shows { (s : Set) × ShowsSet s c.now }
+    requires numbers { VolumeNumbers (complex_of c.now) volume_of.now }
+    requires first { HasFirst (complex_of c.now) cycles }
+    ensures plane { result.plane ≡ plane }
+    ensures mark { result.mark ≡ mark }
+    ensures cycles { result.cycles ≡ cycles }
+    ensures beside { IsBeside (complex_of c.now) volume_of.now result }
+{
+    let cycle = cycles.at(0);
+    let corner = *cycle.corners.at(0);
+    let pos = volume_at(c, volume_of, &corner, true);
+    let neg = volume_at(c, volume_of, &corner, false);
+    Facet {
+        plane,
+        mark,
+        pos,
+        neg,
+        cycles,
+    }
+}
+
+// The facets with their planes, marks and cycles.
+fn list_facets(
+    alloc: Global,
+    c: &Complex,
+    volume_of: &List<List<usize>>,
+    planes: &List<Plane>,
+    marks: &List<Label>,
+    cycles: List<List<Cycle>>,
+) -> Result<List<Facet>, OutOfMemory>
+    requires shows { (s : Set) × ShowsSet s c.now }
+    requires numbers { VolumeNumbers (complex_of c.now) volume_of.now }
+    requires planes { length planes.now ≡ length cycles }
+    requires marks { length marks.now ≡ length cycles }
+    requires first { (n : ℕ) (xs : Sequence PlainCycle) → IsAt cycles n xs → HasFirst (complex_of c.now) xs }
+    ensures facets { IfOk result (λ fs. AreFacetsOf (complex_of c.now) volume_of.now planes.now marks.now cycles fs) }
+{
+    let mut facets = List::new(alloc);
+    for own in cycles.into_vec() {
+        let number = facets.len();
+        let plane = *planes.at(number);
+        let mark = *marks.at(number);
+        facets.push(facet(c, volume_of, plane, mark, own))?;
+    }
+    Ok(facets)
+}
+
+/// The facets and volumes of the complex, with their numbers. Points at items of one facet are joined, and so are points
+/// at sides of one volume. `OutOfMemory` says that memory was wanted and not found.
+pub fn parts(alloc: Global, c: &Complex) -> Result<Parts, OutOfMemory>
+    requires shows { (s : Set) × ShowsSet s c.now }
+    ensures parts { IfOk result (λ p. IsParts (complex_of c.now) p) }
+    ensures items_joined { IfOk result (λ p. FacetsJoined c.now p) }
+    ensures sides_joined { IfOk result (λ p. VolumesJoined c.now p) }
+{
+    let FacetParts {
+        planes,
+        marks,
+        cycles,
+        facet_of,
+    } = facets(alloc, c)?;
+    let volume_of = volume_numbers(alloc, c)?;
+    let volumes = volume_labels(alloc, c, &volume_of)?;
+    let facets = list_facets(alloc, c, &volume_of, &planes, &marks, cycles)?;
+    Ok(Parts {
+        facets,
+        volumes,
+        facet_of,
+        volume_of,
+    })
+}

@@ -1,0 +1,82 @@
+//! The ties down the rays from vertices.
+
+ghost use Rattle.std.specs.Prelude.{◌≡◌, ◌<◌, length, IfOk};
+ghost use Rattle.std.specs.Option.{MatchOption};
+ghost use Rattle.nef_space.specs.Sets.{Set};
+ghost use Rattle.nef_space.specs.Vectors.{opposite, up};
+ghost use Rattle.nef_smap.specs.Maps.{map_of, IsSphereMap};
+ghost use Rattle.nef_smap.specs.Sides.{SideSees};
+ghost use Rattle.nef_solid.specs.Rays.{VertexSide};
+ghost use Rattle.nef_links.specs.Links.{LinkDown};
+ghost use Rattle.nef_complex.specs.Complexes.{complex_of, ShowsSet};
+ghost use Rattle.nef_volumes.specs.Ties.{IsBelow, IsSpotBelow, IsTieDown, AreTiesDown};
+
+use crate::OutOfMemory;
+use crate::outside::is_outside;
+use crate::spots::spot;
+use nef_classes::{Spot, Tie};
+use nef_complex::Complex;
+use nef_geo::up;
+use nef_locate::{Place, first_hit, side_above};
+use nef_smap::{SPlace, SphereMap, at};
+use std::alloc::Global;
+
+// The number of the side that sees the downward direction.
+fn side_downward(map: &SphereMap) -> usize
+    requires map { IsSphereMap map.now }
+    ensures side { SideSees (map_of map.now) result (opposite up) }
+{
+    match at(map, &up().back()) {
+        SPlace::Face(side) => side,
+        SPlace::SVertex(_) => unreachable!(),
+        SPlace::Arc(_) => unreachable!(),
+        SPlace::Loop => unreachable!(),
+    }
+}
+
+// The element of the side above what the ray down from the vertex first meets.
+fn spot_below(c: &Complex, vertex: usize) -> Option<Spot>
+    requires shows { (s : Set) × ShowsSet s c.now }
+    requires within { vertex < length c.now.vertices }
+    ensures below { MatchOption result ((x : VertexSide) → IsBelow (complex_of c.now) vertex x → ⊥) (IsSpotBelow (complex_of c.now) vertex) }
+{
+    let floor = first_hit(c, &c.vertices.at(vertex).point, &up().back())?;
+    match side_above(c, &floor) {
+        Place::InVolume { vertex, side } => Some(spot(c, vertex, side)),
+        Place::Vertex(_) => unreachable!(),
+        Place::OnEdge(_) => unreachable!(),
+        Place::InFacet(_) => unreachable!(),
+    }
+}
+
+// The tie down the ray from the vertex. There is none where the label below the vertex is Out, or nothing is met.
+fn down_tie(c: &Complex, vertex: usize) -> Option<Tie>
+    requires shows { (s : Set) × ShowsSet s c.now }
+    requires within { vertex < length c.now.vertices }
+    ensures tie { MatchOption result ((x y : VertexSide) → x.vertex ≡ vertex → LinkDown (complex_of c.now) x y → ⊥) (IsTieDown (complex_of c.now) vertex) }
+{
+    let map = &c.vertices.at(vertex).map;
+    let side = side_downward(map);
+    if is_outside(map, side) {
+        return None;
+    }
+    let second = spot_below(c, vertex)?;
+    let first = spot(c, vertex, side);
+    Some(Tie { first, second })
+}
+
+/// The ties down the rays from vertices: of a side that sees downward, unless it is outside, with the side above what the
+/// ray first meets.
+pub(crate) fn down_ties(alloc: Global, c: &Complex) -> Result<Vec<Tie>, OutOfMemory>
+    requires shows { (s : Set) × ShowsSet s c.now }
+    ensures ties { IfOk result (λ v. AreTiesDown (complex_of c.now) v.items) }
+{
+    let mut ties = Vec::new(alloc);
+    let count = c.vertices.len();
+    for vertex in 0..count {
+        if let Some(tie) = down_tie(c, vertex) {
+            ties.push(tie)?;
+        }
+    }
+    Ok(ties)
+}

@@ -1,0 +1,53 @@
+//! The ties of the sides of tied items.
+
+ghost use Rattle.std.specs.Prelude.{map, IfOk};
+ghost use Rattle.nef_space.specs.Sets.{Set};
+ghost use Rattle.nef_complex.specs.Complexes.{complex_of, ShowsSet};
+ghost use Rattle.nef_parts.specs.Numbers.{count_items};
+ghost use Rattle.nef_classes.specs.Tables.{IsSpotIn, AreTied, AreTiedWithin};
+ghost use Rattle.nef_ties.specs.Ties.{spot_of};
+ghost use Rattle.nef_volumes.specs.Ties.{AreTiesOf, IsItemSide, IsSideTie, LinkOfItems};
+
+use crate::OutOfMemory;
+use crate::spots::spot;
+use nef_classes::{Spot, Tie};
+use nef_complex::Complex;
+use nef_locate::item_side;
+use std::alloc::Global;
+
+// The element of a side of the item: of that to which its normal points, or of the other.
+fn item_spot(c: &Complex, item: &Spot, above: bool) -> Spot
+    requires shows { (s : Set) × ShowsSet s c.now }
+    requires within { IsSpotIn (map count_items (complex_of c.now).vertices) item.now }
+    ensures spot { IsItemSide (complex_of c.now) above item.now result }
+{
+    let map = &c.vertices.at(item.row).map;
+    spot(c, item.row, item_side(map, item.column, above))
+}
+
+// The tie of the upper, or of the lower, sides of two tied items.
+fn side_tie(c: &Complex, tie: &Tie, above: bool) -> Tie
+    requires shows { (s : Set) × ShowsSet s c.now }
+    requires first { IsSpotIn (map count_items (complex_of c.now).vertices) tie.now.first }
+    requires second { IsSpotIn (map count_items (complex_of c.now).vertices) tie.now.second }
+    ensures tie { IsSideTie (complex_of c.now) above tie.now result }
+{
+    Tie {
+        first: item_spot(c, &tie.first, above),
+        second: item_spot(c, &tie.second, above),
+    }
+}
+
+/// The ties of the upper sides and of the lower sides of tied items.
+pub(crate) fn item_ties(alloc: Global, c: &Complex, items: &[Tie]) -> Result<Vec<Tie>, OutOfMemory>
+    requires shows { (s : Set) × ShowsSet s c.now }
+    requires within { AreTiedWithin (map count_items (complex_of c.now).vertices) items.now }
+    ensures ties { IfOk result (λ v. AreTiesOf (complex_of c.now) (LinkOfItems (complex_of c.now) (λ j k. AreTied items.now (spot_of j) (spot_of k))) v.items) }
+{
+    let mut ties = Vec::new(alloc);
+    for tie in items {
+        ties.push(side_tie(c, tie, true))?;
+        ties.push(side_tie(c, tie, false))?;
+    }
+    Ok(ties)
+}

@@ -1,0 +1,50 @@
+//! All ties of sides.
+
+ghost use Rattle.std.specs.Prelude.{IfOk};
+ghost use Rattle.nef_space.specs.Sets.{Set};
+ghost use Rattle.nef_links.specs.Links.{VolumeLink};
+ghost use Rattle.nef_complex.specs.Complexes.{complex_of, ShowsSet};
+ghost use Rattle.nef_volumes.specs.Ties.{AreTiesOf, AreItemTies, AreTiedOutside};
+
+use crate::OutOfMemory;
+use crate::below::down_ties;
+use crate::edges::ends_ties;
+use crate::items::item_ties;
+use crate::outside::outside_ties;
+use crate::sface::sface_ties;
+use nef_classes::Tie;
+use nef_complex::Complex;
+use nef_ties::{across_ties, along_ties};
+use std::alloc::Global;
+
+// The ties between the sides of items that are linked along an edge or across a facet.
+fn linked_items(alloc: Global, c: &Complex) -> Result<Vec<Tie>, OutOfMemory>
+    requires shows { (s : Set) × ShowsSet s c.now }
+    ensures ties { IfOk result (λ v. AreItemTies (complex_of c.now) v.items) }
+{
+    let along = along_ties(alloc, c)?;
+    let mut ties = item_ties(alloc, c, along.as_slice())?;
+    let across = across_ties(alloc, c)?;
+    let others = item_ties(alloc, c, across.as_slice())?;
+    ties.extend_from_slice(others.as_slice())?;
+    Ok(ties)
+}
+
+/// The ties between elements of the table of sides, whose first row is the outside. Chains of them join the sides of each
+/// volume.
+pub(crate) fn side_ties(alloc: Global, c: &Complex) -> Result<Vec<Tie>, OutOfMemory>
+    requires shows { (s : Set) × ShowsSet s c.now }
+    ensures ties { IfOk result (λ v. AreTiesOf (complex_of c.now) (VolumeLink (complex_of c.now)) v.items) }
+    ensures outside { IfOk result (λ v. AreTiedOutside (complex_of c.now) v.items) }
+{
+    let mut ties = outside_ties(alloc, c)?;
+    let sface = sface_ties(alloc, c)?;
+    ties.extend_from_slice(sface.as_slice())?;
+    let items = linked_items(alloc, c)?;
+    ties.extend_from_slice(items.as_slice())?;
+    let ends = ends_ties(alloc, c)?;
+    ties.extend_from_slice(ends.as_slice())?;
+    let down = down_ties(alloc, c)?;
+    ties.extend_from_slice(down.as_slice())?;
+    Ok(ties)
+}
