@@ -56,10 +56,26 @@ module _ (C : Complex) where
   as-side x i o p e (l, f, g, h) = (l, f, g ∙ e, h)
 
   of-items : (x y : VertexSide) → LinkOfItems C (LinkOfFacets C) x y → VolumeLink C x y
-  of-items x y (j, k, inl A, inl (f, g)) = inr (inl (record { number = A.number; edge = A.edge; is_edge = A.is_edge; low_side = above_item j.item; high_side = above_item k.item;
-      is_low = at-low x j.vertex A.edge.low (above_item j.item) A.from_low f; is_high = at-low y k.vertex A.edge.high (above_item k.item) A.to_high g; along = above_arcs j.item k.item A.along refl refl }))
-  of-items x y (j, k, inl A, inr (f, g)) = inr (inl (record { number = A.number; edge = A.edge; is_edge = A.is_edge; low_side = below_item j.item; high_side = below_item k.item;
-      is_low = at-low x j.vertex A.edge.low (below_item j.item) A.from_low f; is_high = at-low y k.vertex A.edge.high (below_item k.item) A.to_high g; along = below_arcs j.item k.item A.along refl refl }))
+  of-items x y (j, k, inl A, inl (f, g)) = inr (inl (record {
+    number = A.number;
+    edge = A.edge;
+    is_edge = A.is_edge;
+    low_side = above_item j.item;
+    high_side = above_item k.item;
+    is_low = at-low x j.vertex A.edge.low (above_item j.item) A.from_low f;
+    is_high = at-low y k.vertex A.edge.high (above_item k.item) A.to_high g;
+    along = above_arcs j.item k.item A.along refl refl;
+  }))
+  of-items x y (j, k, inl A, inr (f, g)) = inr (inl (record {
+    number = A.number;
+    edge = A.edge;
+    is_edge = A.is_edge;
+    low_side = below_item j.item;
+    high_side = below_item k.item;
+    is_low = at-low x j.vertex A.edge.low (below_item j.item) A.from_low f;
+    is_high = at-low y k.vertex A.edge.high (below_item k.item) A.to_high g;
+    along = below_arcs j.item k.item A.along refl refl;
+  }))
   of-items x y (j, k, inr A, h) = inr (inr (inl (record { here = j; there = k; across = A; sides = h })))
 
   of-ends : (x y : VertexSide) → LinkOfEnds C x y → VolumeLink C x y
@@ -69,10 +85,18 @@ module _ (C : Complex) where
   ItemsOrEnds x y = LinkOfItems C (LinkOfFacets C) x y ⊎ LinkOfEnds C x y
 
   from-along : (x y : VertexSide) (n : ℕ) (e : Edge) → At C.edges n e → (o p : Side) → IsSideOf C x e.low o → IsSideOf C y e.high p → AreSidesAlong C e o p → ItemsOrEnds x y
-  from-along x y n e a o p f g (above_arcs i j A q r) = inl (record { vertex = e.low; item = i }, record { vertex = e.high; item = j }, inl (record { number = n; edge = e; is_edge = a; from_low = refl; to_high = refl; along = A }),
-      inl (as-side x e.low o (above_item i) q f, as-side y e.high p (above_item j) r g))
-  from-along x y n e a o p f g (below_arcs i j A q r) = inl (record { vertex = e.low; item = i }, record { vertex = e.high; item = j }, inl (record { number = n; edge = e; is_edge = a; from_low = refl; to_high = refl; along = A }),
-      inr (as-side x e.low o (below_item i) q f, as-side y e.high p (below_item j) r g))
+  from-along x y n e a o p f g (above_arcs i j A q r) = inl (
+    record { vertex = e.low; item = i },
+    record { vertex = e.high; item = j },
+    inl (record { number = n; edge = e; is_edge = a; from_low = refl; to_high = refl; along = A }),
+    inl (as-side x e.low o (above_item i) q f, as-side y e.high p (above_item j) r g),
+  )
+  from-along x y n e a o p f g (below_arcs i j A q r) = inl (
+    record { vertex = e.low; item = i },
+    record { vertex = e.high; item = j },
+    inl (record { number = n; edge = e; is_edge = a; from_low = refl; to_high = refl; along = A }),
+    inr (as-side x e.low o (below_item i) q f, as-side y e.high p (below_item j) r g),
+  )
   from-along x y n e a o p f g (around_ends q r) = inr (n, e, a, as-side x e.low o (around_svertex e.low_svertex) q f, as-side y e.high p (around_svertex e.high_svertex) r g)
 
   from-across : (x y : VertexSide) → LinkAcrossFacet C x y → ItemsOrEnds x y

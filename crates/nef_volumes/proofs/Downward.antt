@@ -135,6 +135,11 @@ module _ (s : Set) (c : Complex) (S : ShowsSet s c) (i : ℕ) (u : ProgramVertex
         let x : VertexSide = record { vertex = i; side = o } in
         let there = vertex-there c i u e in
         let one = vertex-read c i u v e h in
-        let has = side-has (map_of u.map) j o l g in
-        (x, y, refl, subst (IsSpotOf (complex_of c) x) (sym f) (spot-numbered (complex_of c) i j (vertex_of u) o l there has (number-one (map_of u.map) j o l g)), Y,
-         record { vertex = vertex_of u; is_vertex = there; label = l; has = has; not_out = λ z. not (o, subst (λ (k : Label). IsSide (map_of u.map) j o k) z g); sees = w; down = subst (λ (q : Vertex). RayDown (complex_of c) q.point y) one R })
+        let has = side-has (map_of u.map) j o l g in (
+          x,
+          y,
+          refl,
+          subst (IsSpotOf (complex_of c) x) (sym f) (spot-numbered (complex_of c) i j (vertex_of u) o l there has (number-one (map_of u.map) j o l g)),
+          Y,
+          record { vertex = vertex_of u; is_vertex = there; label = l; has = has; not_out = λ z. not (o, subst (λ (k : Label). IsSide (map_of u.map) j o k) z g); sees = w; down = subst (λ (q : Vertex). RayDown (complex_of c) q.point y) one R },
+        )

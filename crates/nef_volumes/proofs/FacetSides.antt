@@ -42,10 +42,16 @@ module _ (C : Complex) where
   link-above j k (inl A) =
       let (v, x, J) = low-corner j k A in
       let (w, y, K) = high-corner j k A in
-      inr (inl (record { number = A.number; edge = A.edge; is_edge = A.is_edge; low_side = above_item j.item; high_side = above_item k.item;
-          is_low = moved (above_of j) j.vertex A.edge.low (above_item j.item) A.from_low (side-above j v x J);
-          is_high = moved (above_of k) k.vertex A.edge.high (above_item k.item) A.to_high (side-above k w y K);
-          along = above_arcs j.item k.item A.along refl refl }))
+      inr (inl (record {
+        number = A.number;
+        edge = A.edge;
+        is_edge = A.is_edge;
+        low_side = above_item j.item;
+        high_side = above_item k.item;
+        is_low = moved (above_of j) j.vertex A.edge.low (above_item j.item) A.from_low (side-above j v x J);
+        is_high = moved (above_of k) k.vertex A.edge.high (above_item k.item) A.to_high (side-above k w y K);
+        along = above_arcs j.item k.item A.along refl refl;
+      }))
   link-above j k (inr A) =
       let (w, y, K) = named-item _ _ _ k A.named in
       inr (inr (inl (record { here = j; there = k; across = A; sides = inl (side-above j A.vertex A.item A.corner, side-above k w y K) })))
@@ -54,10 +60,16 @@ module _ (C : Complex) where
   link-below j k (inl A) =
       let (v, x, J) = low-corner j k A in
       let (w, y, K) = high-corner j k A in
-      inr (inl (record { number = A.number; edge = A.edge; is_edge = A.is_edge; low_side = below_item j.item; high_side = below_item k.item;
-          is_low = moved (below_of j) j.vertex A.edge.low (below_item j.item) A.from_low (side-below j v x J);
-          is_high = moved (below_of k) k.vertex A.edge.high (below_item k.item) A.to_high (side-below k w y K);
-          along = below_arcs j.item k.item A.along refl refl }))
+      inr (inl (record {
+        number = A.number;
+        edge = A.edge;
+        is_edge = A.is_edge;
+        low_side = below_item j.item;
+        high_side = below_item k.item;
+        is_low = moved (below_of j) j.vertex A.edge.low (below_item j.item) A.from_low (side-below j v x J);
+        is_high = moved (below_of k) k.vertex A.edge.high (below_item k.item) A.to_high (side-below k w y K);
+        along = below_arcs j.item k.item A.along refl refl;
+      }))
   link-below j k (inr A) =
       let (w, y, K) = named-item _ _ _ k A.named in
       inr (inr (inl (record { here = j; there = k; across = A; sides = inr (side-below j A.vertex A.item A.corner, side-below k w y K) })))

@@ -66,7 +66,7 @@ not-inward s (n, some, f) =
 square : (m : ℤ) → (m ≡ pos 0 → ⊥) → pos 0 <ℤ (pos 1 *ℤ negsuc 0 +ℤ pos 2 *ℤ m *ℤ m)
 square m n = by_order m (pos 0)
     (λ h. let q = mul_pos (neg_ℤ m) (neg_ℤ m) (omega (arith, ints, h)) (omega (arith, ints, h)) in
-        lt_by (m ∷ []) (num (pos 0)) (num (pos 1) ⊗ num (negsuc 0) ⊕ num (pos 2) ⊗ at 0 ⊗ at 0) (neg (at 0) ⊗ neg (at 0) ⊕ (neg (at 0) ⊗ neg (at 0) ⊖ num (pos 1))) tt (let r = neg_ℤ m *ℤ neg_ℤ m in omega (arith, ints, q)))
+    lt_by (m ∷ []) (num (pos 0)) (num (pos 1) ⊗ num (negsuc 0) ⊕ num (pos 2) ⊗ at 0 ⊗ at 0) (neg (at 0) ⊗ neg (at 0) ⊕ (neg (at 0) ⊗ neg (at 0) ⊖ num (pos 1))) tt (let r = neg_ℤ m *ℤ neg_ℤ m in omega (arith, ints, q)))
     (λ h. absurd (n h))
     (λ h. let q = mul_pos m m h h in lt_by (m ∷ []) (num (pos 0)) (num (pos 1) ⊗ num (negsuc 0) ⊕ num (pos 2) ⊗ at 0 ⊗ at 0) (at 0 ⊗ at 0 ⊕ (at 0 ⊗ at 0 ⊖ num (pos 1))) tt (omega (arith, ints, q)))
 

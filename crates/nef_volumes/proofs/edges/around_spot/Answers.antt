@@ -24,8 +24,15 @@ returns-in-Some c =
     let u = c.at.result.now in
     let sv = c.at-2.result.now in
     record {
-      spot = (vertex_of u, svertex_of sv, c.in-Some.field-0, vertex-there c.args.c.now c.args.vertex u c.at.ensures.element, map-at svertex_of u.map.svertices c.args.svertex sv (at-from_get u.map.svertices c.args.svertex sv c.at-2.ensures.element),
-          c.in-Some.is, c.spot.ensures.spot ∙ ap (side_spot c.args.vertex) c.arounds.ensures.arounds);
+      spot = (
+        vertex_of u,
+        svertex_of sv,
+        c.in-Some.field-0,
+        vertex-there c.args.c.now c.args.vertex u c.at.ensures.element,
+        map-at svertex_of u.map.svertices c.args.svertex sv (at-from_get u.map.svertices c.args.svertex sv c.at-2.ensures.element),
+        c.in-Some.is,
+        c.spot.ensures.spot ∙ ap (side_spot c.args.vertex) c.arounds.ensures.arounds,
+      );
     }
 
 pub returns-in-None : goal.returns-in-None

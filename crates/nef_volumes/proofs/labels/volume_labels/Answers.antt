@@ -15,7 +15,7 @@ add_labels-requires-clause-sides c =
     let n = c.loop-vertex.vertex in
     let u = c.at-in-loop-vertex.result.now in
     ap (λ (ns : List ℕ). length ns) c.as_slice-row.ensures.all ∙ as-long (complex_of c.args.c.now) c.args.volume_of.now c.requires.numbers n (vertex_of u) (vertex-there c.args.c.now n u c.at-in-loop-vertex.ensures.element)
-        c.at.result.now c.at.ensures.element c.loop-vertex.labels.items c.loop-vertex.invariant
+    c.at.result.now c.at.ensures.element c.loop-vertex.labels.items c.loop-vertex.invariant
 
 pub add_labels-requires-clause-appeared : goal.add_labels-requires-clause-appeared
 add_labels-requires-clause-appeared c =
