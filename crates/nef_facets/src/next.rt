@@ -11,7 +11,7 @@ ghost use Rattle.nef_solid.specs.Complexes.{Edge as PlainEdge};
 ghost use Rattle.nef_complex.specs.Complexes.{complex_of, corner_of, ShowsSet};
 ghost use Rattle.nef_parts.specs.Cycles.{Leads};
 ghost use Rattle.nef_facets.specs.Corners.{AreInOrder, AreCorners};
-ghost use Rattle.nef_facets.specs.Next.{IsArcInto, LeavesFrom, HasNext, AreNext};
+ghost use Rattle.nef_facets.specs.Next.{IsArcInto, HaveNextFrom, KeepsNext, AreNext};
 
 use crate::OutOfMemory;
 use crate::planes::same_dir;
@@ -79,8 +79,8 @@ fn add_next(next: &mut Vec<usize>, c: &Complex, corners: &[Corner], from: &End, 
     requires edge { (n : ℕ) × (e : PlainEdge) × At (complex_of c.now).edges n e × Leads e from.now.vertex from.now.svertex to.now.vertex to.now.svertex }
     requires as_many { length next.old.items ≡ length corners.now }
     ensures as_many { length next.new.items ≡ length corners.now }
-    ensures kept { (i : ℕ) → HasNext (complex_of c.now) corners.now next.old.items i → HasNext (complex_of c.now) corners.now next.new.items i }
-    ensures added { (i : ℕ) (k : Corner) → IsAt corners.now i k → LeavesFrom (complex_of c.now) (corner_of k) from.now.vertex from.now.svertex → HasNext (complex_of c.now) corners.now next.new.items i }
+    ensures kept { KeepsNext (complex_of c.now) corners.now next.old.items next.new.items }
+    ensures added { HaveNextFrom (complex_of c.now) corners.now from.now.vertex from.now.svertex next.new.items }
 {
     for (number, arc) in c.vertices.at(from.vertex).map.arcs.as_slice().iter().enumerate() {
         if arc.source == from.svertex {
