@@ -82,7 +82,15 @@ fn add_next(next: &mut Vec<usize>, c: &Complex, corners: &[Corner], from: &End, 
     ensures kept { KeepsNext (complex_of c.now) corners.now next.old.items next.new.items }
     ensures added { HaveNextFrom (complex_of c.now) corners.now from.now.vertex from.now.svertex next.new.items }
 {
-    for (number, arc) in c.vertices.at(from.vertex).map.arcs.as_slice().iter().enumerate() {
+    for (number, arc) in c
+        .vertices
+        .at(from.vertex)
+        .map
+        .arcs
+        .as_slice()
+        .iter()
+        .enumerate()
+    {
         if arc.source == from.svertex {
             let item = arc_into(&c.vertices.at(to.vertex).map, to.svertex, &arc.normal);
             let j = Corner {
@@ -99,7 +107,11 @@ fn add_next(next: &mut Vec<usize>, c: &Complex, corners: &[Corner], from: &End, 
 }
 
 /// For each corner the number of the next one.
-pub(crate) fn next_corners(alloc: Global, c: &Complex, corners: &[Corner]) -> Result<Vec<usize>, OutOfMemory>
+pub(crate) fn next_corners(
+    alloc: Global,
+    c: &Complex,
+    corners: &[Corner],
+) -> Result<Vec<usize>, OutOfMemory>
     requires shows { (s : Set) × ShowsSet s c.now }
     requires corners { AreCorners (complex_of c.now) corners.now }
     ensures next { IfOk result (λ v. AreNext (complex_of c.now) corners.now v.items) }

@@ -62,7 +62,11 @@ fn plane_of(c: &Complex, k: &Corner) -> Plane
 }
 
 /// The planes of the corners' items.
-pub(crate) fn planes(alloc: Global, c: &Complex, corners: &[Corner]) -> Result<List<Plane>, OutOfMemory>
+pub(crate) fn planes(
+    alloc: Global,
+    c: &Complex,
+    corners: &[Corner],
+) -> Result<List<Plane>, OutOfMemory>
     requires shows { (s : Set) × ShowsSet s c.now }
     requires corners { AreListed (complex_of c.now) corners.now }
     ensures as_many { IfOk result (λ hs. length hs ≡ length corners.now) }
@@ -84,7 +88,11 @@ fn mark_of(c: &Complex, k: &Corner) -> Label
 }
 
 /// The marks of the corners' items.
-pub(crate) fn marks(alloc: Global, c: &Complex, corners: &[Corner]) -> Result<List<Label>, OutOfMemory>
+pub(crate) fn marks(
+    alloc: Global,
+    c: &Complex,
+    corners: &[Corner],
+) -> Result<List<Label>, OutOfMemory>
     requires corners { AreListed (complex_of c.now) corners.now }
     ensures as_many { IfOk result (λ ls. length ls ≡ length corners.now) }
     ensures marks { IfOk result (λ ls. AreMarksAt (complex_of c.now) corners.now ls) }
