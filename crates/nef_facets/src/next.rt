@@ -82,15 +82,8 @@ fn add_next(next: &mut Vec<usize>, c: &Complex, corners: &[Corner], from: &End, 
     ensures kept { KeepsNext (complex_of c.now) corners.now next.old.items next.new.items }
     ensures added { HaveNextFrom (complex_of c.now) corners.now from.now.vertex from.now.svertex next.new.items }
 {
-    for (number, arc) in c
-        .vertices
-        .at(from.vertex)
-        .map
-        .arcs
-        .as_slice()
-        .iter()
-        .enumerate()
-    {
+    let here = &c.vertices.at(from.vertex).map;
+    for (number, arc) in here.arcs.as_slice().iter().enumerate() {
         if arc.source == from.svertex {
             let item = arc_into(&c.vertices.at(to.vertex).map, to.svertex, &arc.normal);
             let j = Corner {
