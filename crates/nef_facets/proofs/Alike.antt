@@ -166,17 +166,20 @@ module _ (C : Complex) (j k : Corner) (A : AreAlike C j k) where
   form-onward h f v x c =
       let r = f A.vertex A.item A.corner in
       let n = SameDirection-turned (normal_of h) (item_normal A.item) r.1 in
-      corner-one C k A.other_vertex v A.other_item x A.other_corner c (λ u y. (form_at h u.point ≡ pos 0) × SameDirection (normal_of h) (item_normal y))
-      (plane-onward h A.vertex.point A.other_vertex.point (turned-level (item_normal A.item) (normal_of h) (toward A.vertex.point A.other_vertex.point) n A.level) r.0,
-       SameDirection-trans (normal_of h) (item_normal A.item) (item_normal A.other_item) r.1 A.one_normal)
+      corner-one C k A.other_vertex v A.other_item x A.other_corner c (λ u y. (form_at h u.point ≡ pos 0) × SameDirection (normal_of h) (item_normal y)) (
+        plane-onward h A.vertex.point A.other_vertex.point (turned-level (item_normal A.item) (normal_of h) (toward A.vertex.point A.other_vertex.point) n A.level) r.0,
+        SameDirection-trans (normal_of h) (item_normal A.item) (item_normal A.other_item) r.1 A.one_normal,
+      )
 
   form-back : (h : Form) → IsFormAt C h k → IsFormAt C h j
   form-back h f v x c =
       let r = f A.other_vertex A.other_item A.other_corner in
       let n = SameDirection-trans (normal_of h) (item_normal A.other_item) (item_normal A.item) r.1 (SameDirection-turned (item_normal A.item) (item_normal A.other_item) A.one_normal) in
-      corner-one C j A.vertex v A.item x A.corner c (λ u y. (form_at h u.point ≡ pos 0) × SameDirection (normal_of h) (item_normal y))
-      (plane-back h A.vertex.point A.other_vertex.point
-      (turned-level (item_normal A.item) (normal_of h) (toward A.vertex.point A.other_vertex.point) (SameDirection-turned (normal_of h) (item_normal A.item) n) A.level) r.0, n)
+      corner-one C j A.vertex v A.item x A.corner c (λ u y. (form_at h u.point ≡ pos 0) × SameDirection (normal_of h) (item_normal y)) (
+        plane-back h A.vertex.point A.other_vertex.point
+            (turned-level (item_normal A.item) (normal_of h) (toward A.vertex.point A.other_vertex.point) (SameDirection-turned (normal_of h) (item_normal A.item) n) A.level) r.0,
+        n,
+      )
 
   label-onward : (l : Label) → IsLabelAt C l j → IsLabelAt C l k
   label-onward l f v x c = corner-one C k A.other_vertex v A.other_item x A.other_corner c (λ u y. l ≡ item_mark y) (f A.vertex A.item A.corner ∙ A.one_mark)

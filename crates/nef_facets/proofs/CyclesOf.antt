@@ -147,11 +147,13 @@ module _ (C : PlainComplex) (rows : List (List ℕ)) (F : FacetNumbers C rows) (
         let g = G.ordered n q r row u.0 v.0 h at (at-some row q u.0 u.1) (at-some row r v.0 v.1) in
         let f = first-corner n g.0 u.0 g.3 in
         let e = first-corner n g.1 v.0 g.4 in
-        let l = B.ordered g.0 g.1 g.3.first g.4.first g.3.orbit g.4.orbit g.2 g.3.listed g.4.listed g.3.is_first g.4.is_first in
-        (corner_of f.0, corner_of e.0,
-         subst (λ (w : List PlainCorner). At w 0 (corner_of f.0)) u.2 (at-map corner_of (u.0).corners 0 f.0 (some-at (u.0).corners 0 f.0 f.1)),
-         subst (λ (w : List PlainCorner). At w 0 (corner_of e.0)) v.2 (at-map corner_of (v.0).corners 0 e.0 (some-at (v.0).corners 0 e.0 e.1)),
-         K.ordered g.3.first g.4.first f.0 e.0 l f.2 e.2)
+        let l = B.ordered g.0 g.1 g.3.first g.4.first g.3.orbit g.4.orbit g.2 g.3.listed g.4.listed g.3.is_first g.4.is_first in (
+          corner_of f.0,
+          corner_of e.0,
+          subst (λ (w : List PlainCorner). At w 0 (corner_of f.0)) u.2 (at-map corner_of (u.0).corners 0 f.0 (some-at (u.0).corners 0 f.0 f.1)),
+          subst (λ (w : List PlainCorner). At w 0 (corner_of e.0)) v.2 (at-map corner_of (v.0).corners 0 e.0 (some-at (v.0).corners 0 e.0 e.1)),
+          K.ordered g.3.first g.4.first f.0 e.0 l f.2 e.2,
+        )
 
     pub facet-cycles : Cycles C (λ k. IsFacetOf rows k n) (cycle_corners row)
     facet-cycles = record {

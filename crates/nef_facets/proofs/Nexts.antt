@@ -128,7 +128,7 @@ module _ (C : PlainComplex) (ks : List Corner) (i a n : ℕ) (start old : List �
     added = λ m x l b h. ⊎_elim
         (λ g. set-kept C ks old new d f (corner i n) k at-d at-f e A.as_many N m (A.added m x g b h))
         (λ g. let same = (same-arc x g h).1 in
-            subst (λ (y : ℕ). HasNext C ks new y) (one-place ks d m (corner i n) O at-d (subst (λ (y : Corner). IsAt ks m y) same b)) (set-here C ks old new d f (corner i n) k at-d at-f e A.as_many N))
+        subst (λ (y : ℕ). HasNext C ks new y) (one-place ks d m (corner i n) O at-d (subst (λ (y : Corner). IsAt ks m y) same b)) (set-here C ks old new d f (corner i n) k at-d at-f e A.as_many N))
         (less-or-last x.item n l);
   }
 
@@ -162,8 +162,8 @@ next-more C ks n ns ms new e A at-n len kept low also high = record {
   arcs = λ m i f k h b a o. ⊎_elim
       (λ g. also i (kept i (A.arcs m i f k g b a o)))
       (λ g. let same = at-one C.edges n f e (subst (λ (r : ℕ). At C.edges r f) g b) at-n in
-          ⊎_elim (λ x. also i (low i k a (subst (λ (d : PlainEdge). LeavesFrom C (corner_of k) d.low d.low_svertex) same x)))
-          (λ x. high i k a (subst (λ (d : PlainEdge). LeavesFrom C (corner_of k) d.high d.high_svertex) same x)) o)
+      ⊎_elim (λ x. also i (low i k a (subst (λ (d : PlainEdge). LeavesFrom C (corner_of k) d.low d.low_svertex) same x)))
+      (λ x. high i k a (subst (λ (d : PlainEdge). LeavesFrom C (corner_of k) d.high d.high_svertex) same x)) o)
       (less-or-last m n h);
 }
 

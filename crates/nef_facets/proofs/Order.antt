@@ -22,7 +22,7 @@ below-once x y (inr (e, inl h)) (inr (f, inr k)) = absurd k.1
 pub number-below : (ks : List Corner) (i j : ℕ) (x y : Corner) → AreInOrder ks → IsAt ks i x → IsAt ks j y → IsCornerBelow (corner_of x) (corner_of y) → i < j
 number-below ks i j x y O a b h = ⊎_elim
     (λ e. let f = is-at_one ks j x y (subst (λ (n : ℕ). IsAt ks n x) e a) b in
-        let g : IsCornerBelow (corner_of x) (corner_of x) = subst (λ (r : Corner). IsCornerBelow (corner_of x) (corner_of r)) (sym f) h in absurd (below-once (corner_of x) (corner_of x) g g))
+    let g : IsCornerBelow (corner_of x) (corner_of x) = subst (λ (r : Corner). IsCornerBelow (corner_of x) (corner_of r)) (sym f) h in absurd (below-once (corner_of x) (corner_of x) g g))
     (λ o. ⊎_elim (λ l. l) (λ l. absurd (below-once (corner_of x) (corner_of y) h (O j i y x l b a))) o) (cases_order i j)
 
 pub number-not_below : (ks : List Corner) (i j : ℕ) (x y : Corner) → AreInOrder ks → IsAt ks i x → IsAt ks j y → (IsCornerBelow (corner_of x) (corner_of y) → ⊥) → j ≤ i

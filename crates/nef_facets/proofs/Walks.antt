@@ -239,10 +239,13 @@ module _ (ns : List ℕ) (S : IsStep ns) (start : ℕ) (xs : List (List ℕ)) (b
 
     as-orbit : (w : List ℕ) → ComesBack ns start w → ((k i : ℕ) → IsAt w k i → IsAt bs i false) → ((k l i : ℕ) → IsAt w k i → IsAt w l i → k ≡ l) → IsOrbit ns w
     as-orbit [] b f d = absurd b
-    as-orbit (j ∷ ks) b f d = (b.1, all-of (λ k. j < k) ks (λ l k a.
-        let h = not-below k (f (suc l) k a) in
-        let s = b.0 in
-        ⊎_elim (λ e. absurd (let g = d (suc l) 0 k a (ap Some e) in omega arith)) (λ o. ⊎_elim (λ q. q) (λ q. absurd (omega arith)) o) (cases_order j k)))
+    as-orbit (j ∷ ks) b f d = (
+      b.1,
+      all-of (λ k. j < k) ks (λ l k a.
+          let h = not-below k (f (suc l) k a) in
+          let s = b.0 in
+          ⊎_elim (λ e. absurd (let g = d (suc l) 0 k a (ap Some e) in omega arith)) (λ o. ⊎_elim (λ q. q) (λ q. absurd (omega arith)) o) (cases_order j k)),
+    )
 
     pub orbits-more : AreOrbitsTo ns (start + 1) (xs ++ z ∷ []) new
     orbits-more = record {

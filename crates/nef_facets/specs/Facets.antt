@@ -1,8 +1,8 @@
 -- The facets of a complex.
 use Rattle.std.specs.Prelude.{◌≡◌, ℕ, ◌<◌, pos, List, length}
 use Rattle.nef_space.specs.Lists.{IsAt}
-use Rattle.nef_space.specs.Place.{form_at, normal_of}
-use Rattle.nef_space.specs.Vectors.{SameDirection}
+use Rattle.nef_space.specs.Place.{Place, form_at, normal_of}
+use Rattle.nef_space.specs.Vectors.{Vector, SameDirection}
 use Rattle.nef_space.specs.declared.label.Label.{Label}
 use Rattle.nef_geo.specs.Shapes.{form_of}
 use Rattle.nef_geo.specs.declared.plane.Plane.{Plane}
@@ -22,6 +22,21 @@ IsPlaneAt C h k = (v : Vertex) (x : Item) → IsCorner C k v x → (form_at (for
 -- the label is the item's mark
 abbrev pub IsMarkAt : Complex → Label → Corner → Type 0
 IsMarkAt C l k = (v : Vertex) (x : Item) → IsCorner C k v x → l ≡ item_mark x
+
+-- the planes, and the labels, are those of the corners' items
+abbrev pub ArePlanesAt : Complex → List CornerValue → List Plane → Type 0
+ArePlanesAt C ks hs = (n : ℕ) (h : Plane) (k : CornerValue) → IsAt hs n h → IsAt ks n k → IsPlaneAt C h (corner_of k)
+
+abbrev pub AreMarksAt : Complex → List CornerValue → List Label → Type 0
+AreMarksAt C ks ls = (n : ℕ) (l : Label) (k : CornerValue) → IsAt ls n l → IsAt ks n k → IsMarkAt C l (corner_of k)
+
+-- the plane holds the point and has the normal
+abbrev pub IsPlaneThrough : Plane → Place → Vector → Type 0
+IsPlaneThrough h p n = (form_at (form_of h) p ≡ pos 0) × SameDirection (normal_of (form_of h)) n
+
+-- each row has the cycles of the facet with its number
+abbrev pub AreCyclesOf : Complex → List (List ℕ) → List (List Cycle) → Type 0
+AreCyclesOf C rows ys = (n : ℕ) (row : List Cycle) → IsAt ys n row → Cycles C (λ k. IsFacetOf rows k n) (cycle_corners row)
 
 -- for each facet number a listed corner with it, and no listed corner has another number
 pub record AreFirsts (rows : List (List ℕ)) (ks firsts : List CornerValue) : Type 0 where

@@ -20,6 +20,14 @@ LeavesFrom C k i a = (v : Vertex) × (r : Arc) × At C.vertices k.vertex v × At
 abbrev pub HasNext : Complex → List Corner → List ℕ → ℕ → Type 0
 HasNext C ks ns i = (j : ℕ) × (x : Corner) × (y : Corner) × IsAt ks i x × IsAt ns i j × IsAt ks j y × NextCorner C (corner_of x) (corner_of y)
 
+-- the corners of arcs that begin there have their next corners
+abbrev pub HaveNextFrom : Complex → List Corner → ℕ → ℕ → List ℕ → Type 0
+HaveNextFrom C ks i a ns = (m : ℕ) (k : Corner) → IsAt ks m k → LeavesFrom C (corner_of k) i a → HasNext C ks ns m
+
+-- what has its next corner keeps it
+abbrev pub KeepsNext : Complex → List Corner → List ℕ → List ℕ → Type 0
+KeepsNext C ks old new = (m : ℕ) → HasNext C ks old m → HasNext C ks new m
+
 pub record AreNext (C : Complex) (ks : List Corner) (ns : List ℕ) : Type 0 where
   pub as_many : length ns ≡ length ks
   pub each : (i : ℕ) → i < length ks → HasNext C ks ns i

@@ -4,9 +4,9 @@ ghost use Rattle.std.specs.Prelude.{◌≡◌, ◌<◌, ℕ, [], length, IfOk, L
 ghost use Rattle.nef_space.specs.Lists.{IsAt};
 ghost use Rattle.nef_space.specs.Sets.{Set};
 ghost use Rattle.nef_complex.specs.Complexes.{complex_of, corner_of, ShowsSet};
-ghost use Rattle.nef_parts.specs.Cycles.{Cycles};
-ghost use Rattle.nef_parts.specs.Numbers.{IsFacetOf, FacetNumbers, cycle_corners};
+ghost use Rattle.nef_parts.specs.Numbers.{IsFacetOf, FacetNumbers};
 ghost use Rattle.nef_facets.specs.Corners.{AreCorners};
+ghost use Rattle.nef_facets.specs.Facets.{AreCyclesOf};
 ghost use Rattle.nef_facets.specs.Orbits.{AreCornersOf, AreNumbered, AreGrouped};
 
 use crate::OutOfMemory;
@@ -76,7 +76,7 @@ pub(crate) fn facet_cycles(
     requires corners { AreCorners (complex_of c.now) corners.now }
     requires count { (i : ℕ) (k : Corner) (n : ℕ) → IsAt corners.now i k → IsFacetOf rows.now (corner_of k) n → n < count }
     ensures as_many { IfOk result (λ ys. length ys ≡ count) }
-    ensures cycles { IfOk result (λ ys. (n : ℕ) (row : Sequence Cycle) → IsAt ys n row → Cycles (complex_of c.now) (λ k. IsFacetOf rows.now k n) (cycle_corners row)) }
+    ensures cycles { IfOk result (λ ys. AreCyclesOf (complex_of c.now) rows.now ys) }
 {
     let next = next_corners(alloc, c, corners)?;
     let orbits = orbits(alloc, &next)?;

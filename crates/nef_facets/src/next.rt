@@ -11,7 +11,7 @@ ghost use Rattle.nef_solid.specs.Complexes.{Edge as PlainEdge};
 ghost use Rattle.nef_complex.specs.Complexes.{complex_of, corner_of, ShowsSet};
 ghost use Rattle.nef_parts.specs.Cycles.{Leads};
 ghost use Rattle.nef_facets.specs.Corners.{AreInOrder, AreCorners};
-ghost use Rattle.nef_facets.specs.Next.{IsArcInto, LeavesFrom, HasNext, AreNext};
+ghost use Rattle.nef_facets.specs.Next.{IsArcInto, HaveNextFrom, KeepsNext, AreNext};
 
 use crate::OutOfMemory;
 use crate::planes::same_dir;
@@ -79,10 +79,11 @@ fn add_next(next: &mut Vec<usize>, c: &Complex, corners: &[Corner], from: &End, 
     requires edge { (n : ℕ) × (e : PlainEdge) × At (complex_of c.now).edges n e × Leads e from.now.vertex from.now.svertex to.now.vertex to.now.svertex }
     requires as_many { length next.old.items ≡ length corners.now }
     ensures as_many { length next.new.items ≡ length corners.now }
-    ensures kept { (i : ℕ) → HasNext (complex_of c.now) corners.now next.old.items i → HasNext (complex_of c.now) corners.now next.new.items i }
-    ensures added { (i : ℕ) (k : Corner) → IsAt corners.now i k → LeavesFrom (complex_of c.now) (corner_of k) from.now.vertex from.now.svertex → HasNext (complex_of c.now) corners.now next.new.items i }
+    ensures kept { KeepsNext (complex_of c.now) corners.now next.old.items next.new.items }
+    ensures added { HaveNextFrom (complex_of c.now) corners.now from.now.vertex from.now.svertex next.new.items }
 {
-    for (number, arc) in c.vertices.at(from.vertex).map.arcs.as_slice().iter().enumerate() {
+    let here = &c.vertices.at(from.vertex).map;
+    for (number, arc) in here.arcs.as_slice().iter().enumerate() {
         if arc.source == from.svertex {
             let item = arc_into(&c.vertices.at(to.vertex).map, to.svertex, &arc.normal);
             let j = Corner {
@@ -99,7 +100,11 @@ fn add_next(next: &mut Vec<usize>, c: &Complex, corners: &[Corner], from: &End, 
 }
 
 /// For each corner the number of the next one.
-pub(crate) fn next_corners(alloc: Global, c: &Complex, corners: &[Corner]) -> Result<Vec<usize>, OutOfMemory>
+pub(crate) fn next_corners(
+    alloc: Global,
+    c: &Complex,
+    corners: &[Corner],
+) -> Result<Vec<usize>, OutOfMemory>
     requires shows { (s : Set) × ShowsSet s c.now }
     requires corners { AreCorners (complex_of c.now) corners.now }
     ensures next { IfOk result (λ v. AreNext (complex_of c.now) corners.now v.items) }

@@ -8,7 +8,7 @@ ghost use Rattle.nef_space.specs.Vectors.{SameDirection};
 ghost use Rattle.nef_geo.specs.Shapes.{form_of, place_of, vector_of};
 ghost use Rattle.nef_complex.specs.Complexes.{complex_of, corner_of, ShowsSet};
 ghost use Rattle.nef_facets.specs.Corners.{HasItem, AreListed};
-ghost use Rattle.nef_facets.specs.Facets.{IsPlaneAt, IsMarkAt};
+ghost use Rattle.nef_facets.specs.Facets.{IsPlaneAt, IsMarkAt, ArePlanesAt, AreMarksAt, IsPlaneThrough};
 
 use crate::OutOfMemory;
 use crate::items::{mark_at, normal_at};
@@ -40,7 +40,7 @@ fn holds(h: &Plane, point: &Point) -> bool
 
 // Whether the plane holds the point and has the normal.
 fn is_plane_of(h: &Plane, point: &Point, normal: &Dir) -> bool
-    ensures plane { IsTrue result ↔ ((form_at (form_of h.now) (place_of point.now) ≡ pos 0) × SameDirection (normal_of (form_of h.now)) (vector_of normal.now)) }
+    ensures plane { IsTrue result ↔ IsPlaneThrough h.now (place_of point.now) (vector_of normal.now) }
 {
     holds(h, point) && same_dir(&plane_normal(h), normal)
 }
@@ -62,11 +62,15 @@ fn plane_of(c: &Complex, k: &Corner) -> Plane
 }
 
 /// The planes of the corners' items.
-pub(crate) fn planes(alloc: Global, c: &Complex, corners: &[Corner]) -> Result<List<Plane>, OutOfMemory>
+pub(crate) fn planes(
+    alloc: Global,
+    c: &Complex,
+    corners: &[Corner],
+) -> Result<List<Plane>, OutOfMemory>
     requires shows { (s : Set) × ShowsSet s c.now }
     requires corners { AreListed (complex_of c.now) corners.now }
     ensures as_many { IfOk result (λ hs. length hs ≡ length corners.now) }
-    ensures planes { IfOk result (λ hs. (n : ℕ) (h : Plane) (k : Corner) → IsAt hs n h → IsAt corners.now n k → IsPlaneAt (complex_of c.now) h (corner_of k)) }
+    ensures planes { IfOk result (λ hs. ArePlanesAt (complex_of c.now) corners.now hs) }
 {
     let mut planes = List::new(alloc);
     for corner in corners {
@@ -84,10 +88,14 @@ fn mark_of(c: &Complex, k: &Corner) -> Label
 }
 
 /// The marks of the corners' items.
-pub(crate) fn marks(alloc: Global, c: &Complex, corners: &[Corner]) -> Result<List<Label>, OutOfMemory>
+pub(crate) fn marks(
+    alloc: Global,
+    c: &Complex,
+    corners: &[Corner],
+) -> Result<List<Label>, OutOfMemory>
     requires corners { AreListed (complex_of c.now) corners.now }
     ensures as_many { IfOk result (λ ls. length ls ≡ length corners.now) }
-    ensures marks { IfOk result (λ ls. (n : ℕ) (l : Label) (k : Corner) → IsAt ls n l → IsAt corners.now n k → IsMarkAt (complex_of c.now) l (corner_of k)) }
+    ensures marks { IfOk result (λ ls. AreMarksAt (complex_of c.now) corners.now ls) }
 {
     let mut marks = List::new(alloc);
     for corner in corners {

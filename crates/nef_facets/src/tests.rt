@@ -78,7 +78,9 @@ fn facets_of_the_frame(rt: HostRuntime) -> Result<(), Fail> {
     let planes = planes_text(rt.alloc(), parts.planes.as_slice())?;
     assert!(rt; planes.as_slice() == b"z-y-x-z+y+x+".as_slice());
     let cycles = cycles_text(rt.alloc(), parts.cycles.as_slice())?;
-    assert!(rt; cycles.as_slice() == b"00406020 01115141 02223212 10507030 21317161 42627252 ".as_slice());
+    assert!(rt;
+        cycles.as_slice() == b"00406020 01115141 02223212 10507030 21317161 42627252 ".as_slice()
+    );
     assert!(rt; parts.marks.len() == 6);
     for mark in parts.marks.as_slice() {
         assert!(rt; *mark == Label::Out);
