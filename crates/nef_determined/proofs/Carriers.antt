@@ -4,8 +4,10 @@ use Rattle.nef_space.specs.Lists.{Chained}
 use Rattle.nef_space.specs.Place.{Place, Form}
 use Rattle.nef_space.specs.Vectors.{Vector}
 use Rattle.nef_space.specs.declared.label.Label.{Label}
+use Rattle.nef_space.specs.declared.label.Label.TheVariants.{In}
 use Rattle.nef_sphere.specs.Maps.{Item, Side}
 use Rattle.nef_smap.proofs.Chains.{chain-link, chain-map}
+use Rattle.nef_solid.specs.Belongs.{SpotMark, Towards, SeesSpot, Belongs, on_skeleton, off_skeleton}
 use Rattle.nef_solid.specs.Complexes.{Vertex, Edge, Complex, Corner, HasEnds, IsCorner}
 use Rattle.nef_solid.specs.Skeleton.{IsEdgePoint, IsOnEdges, IsFacetPoint, Spot, at_vertex, on_edge, in_facet, IsSpot, IsSkeletonPoint, PlaneMeet, meets_vertex, meets_edge, LiesIn, Meets, IsFirstInPlane, IsCornerAt, RayNames, HasCorner}
 use Rattle.nef_solid.specs.Rays.{VertexSide, IsAbove, RayDown}
@@ -241,3 +243,21 @@ module _ (vs : List Vertex) (es : List Edge) where
     volumes = λ n l b. volume-too hs gs p n l (a.volumes n l b);
     all_volumes = λ x n b. a.all_volumes x n (volume-of gs hs p.volume_of x n b);
   }
+
+  -- ---- what belongs
+  spot-mark : (hs gs : List Form) (o : Spot) (l : Label) → SpotMark (made hs vs es) o l → SpotMark (made gs vs es) o l
+  spot-mark hs gs (at_vertex k) l m = m
+  spot-mark hs gs (on_edge k) l m = m
+  spot-mark hs gs (in_facet k) l (v, x, c, e) = (v, x, corner hs gs k v x c, e)
+
+  towards : (hs gs : List Form) (o : Spot) (d : Vector) (l : Label) → Towards (made hs vs es) o d l → Towards (made gs vs es) o d l
+  towards hs gs (at_vertex k) d l t = t
+  towards hs gs (on_edge k) d l t = t
+  towards hs gs (in_facet k) d l (v, x, c, e) = (v, x, corner hs gs k v x c, e)
+
+  sees-spot : (hs gs : List Form) (p : Place) (o : Spot) (y : Place) → SeesSpot (made hs vs es) p o y → SeesSpot (made gs vs es) p o y
+  sees-spot hs gs p o y h = record { off = λ k. h.off (skeleton gs hs p k); spot = spot hs gs o y h.spot; clear = λ q b k. h.clear q b (skeleton gs hs q k) }
+
+  pub belongs-too : (hs gs : List Form) (p : Place) → Belongs (made hs vs es) p → Belongs (made gs vs es) p
+  belongs-too hs gs p (on_skeleton o h m) = on_skeleton o (spot hs gs o p h) (spot-mark hs gs o In m)
+  belongs-too hs gs p (off_skeleton o y h t) = off_skeleton o y (sees-spot hs gs p o y h) (towards hs gs o _ In t)

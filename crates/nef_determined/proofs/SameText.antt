@@ -1,19 +1,23 @@
 -- Complexes that show one set have the same text.
-use Rattle.std.proofs.Common.{◌≡◌, List, map, ◌∙◌, ap, subst}
+use Rattle.std.proofs.Common.{◌≡◌, ℕ, List, map, ◌∙◌, ap, subst}
 use Rattle.nef_space.specs.Local.{SameSet}
-use Rattle.nef_space.specs.Sets.{Set}
+use Rattle.nef_space.specs.Place.{Place, InFrame}
+use Rattle.nef_space.specs.Sets.{Set, Holds}
 use Rattle.nef_geo.specs.Shapes.{form_of}
+use Rattle.nef_solid.specs.Belongs.{Belongs}
+use Rattle.nef_solid.specs.Complexes.{Vertex as PlainVertex, Edge as PlainEdge, Edges}
+use Rattle.nef_solid.specs.Laws.{BelongsHolds}
 use Rattle.nef_complex.specs.declared.complex.Complex.{Complex}
 use Rattle.nef_complex.specs.declared.complex.Vertex.{Vertex}
 use Rattle.nef_complex.specs.declared.complex.Edge.{Edge}
 use Rattle.nef_complex.specs.Complexes.{complex_of, vertex_of, edge_of, ShowsSet}
 use Rattle.nef_parts.specs.declared.parts.Parts.{Parts}
 use Rattle.nef_parts.specs.Numbers.{IsParts}
-use Rattle.nef_parts.specs.Text.{text}
+use Rattle.nef_parts.specs.Text.{text, Spells}
 use Rattle.nef_unique.proofs.Sets.{vertices-set}
-use Rattle.nef_unique.proofs.Vertices.{set-vertices}
+use Rattle.nef_unique.proofs.Vertices.{edges-one, set-vertices}
 use Rattle.nef_texts.proofs.Whole.{vertices-read}
-use Rattle.nef_determined.proofs.Carriers.{made, parts-too}
+use Rattle.nef_determined.proofs.Carriers.{made, parts-too, belongs-too}
 use Rattle.nef_determined.proofs.OneNext.{one-next}
 use Rattle.nef_determined.proofs.OneParts.{parts-one}
 
@@ -38,3 +42,18 @@ same-set_text s t c d p q S T same P Q =
 
 pub text-set : (s t : Set) (c d : Complex) (p q : Parts) → ShowsSet s c → ShowsSet t d → text c p ≡ text d q → SameSet s t
 text-set s t c d p q S T e = vertices-set s t (complex_of c) (complex_of d) S.shows T.shows (ap (map vertex_of) (vertices-read c d p q e))
+
+-- complexes with the same vertices and edges have the same points
+belongs-same : (c d : Complex) (y : Place) → c.vertices ≡ d.vertices → map edge_of c.edges ≡ map edge_of d.edges → Belongs (complex_of c) y → Belongs (complex_of d) y
+belongs-same c d y e f b =
+    subst (λ (ws : List PlainEdge). Belongs (made (map form_of d.carriers) (map vertex_of d.vertices) ws) y) f
+    (subst (λ (vs : List Vertex). Belongs (made (map form_of d.carriers) (map vertex_of vs) (map edge_of c.edges)) y) e
+    (belongs-too (map vertex_of c.vertices) (map edge_of c.edges) (map form_of c.carriers) (map form_of d.carriers) y b))
+
+pub spelled-holds : BelongsHolds → (s : Set) (c d : Complex) (p : Parts) (bytes : List ℕ) (y : Place) → ShowsSet s c → bytes ≡ text c p → Spells bytes d → InFrame y → Belongs (complex_of d) y ↔ Holds s y
+spelled-holds holds s c d p bytes y S e (E, q, Q, f) inside =
+    let v : c.vertices ≡ d.vertices = vertices-read c d p q (sym e ∙ f) in
+    let w : map edge_of c.edges ≡ map edge_of d.edges =
+    edges-one (map vertex_of d.vertices) (map edge_of c.edges) (map edge_of d.edges) (subst (λ (vs : List Vertex). Edges (map vertex_of vs) (map edge_of c.edges)) v S.shows.edges) E in
+    let h = holds s (complex_of c) y S.shows inside in
+    (λ b. h.0 (belongs-same d c y (sym v) (sym w) b), λ k. belongs-same c d y v w (h.1 k))

@@ -1,4 +1,7 @@
-use Rattle.nef_determined.proofs.SameText.{same-parts, same-set_text, text-set}
+use Rattle.nef_solid.proofs.FacetNames.{facet-of}
+use Rattle.nef_solid.proofs.Skeletons.{belongs-holds}
+use Rattle.nef_locate.proofs.Cones.{facet-at}
+use Rattle.nef_determined.proofs.SameText.{same-parts, same-set_text, text-set, spelled-holds}
 use Rattle.nef_determined.proofs.laws.determined_laws.Goals as goal
 
 pub returns-clause-same_parts : goal.returns-clause-same_parts
@@ -9,3 +12,6 @@ returns-clause-same_text x = same-set_text
 
 pub returns-clause-same_set : goal.returns-clause-same_set
 returns-clause-same_set x = text-set
+
+pub returns-clause-spelled : goal.returns-clause-spelled
+returns-clause-spelled x = spelled-holds (λ s C p S inside. belongs-holds s C S (facet-at s C S) (facet-of s C S) p inside)
