@@ -1,11 +1,11 @@
 -- Complexes that show one set have the same text.
-use Rattle.std.proofs.Common.{◌≡◌, ℕ, List, map, ◌∙◌, ap, subst}
+use Rattle.std.proofs.Common.{◌≡◌, ℕ, List, map, sym, ◌∙◌, ap, subst, ◌↔◌}
 use Rattle.nef_space.specs.Local.{SameSet}
 use Rattle.nef_space.specs.Place.{Place, InFrame}
 use Rattle.nef_space.specs.Sets.{Set, Holds}
 use Rattle.nef_geo.specs.Shapes.{form_of}
 use Rattle.nef_solid.specs.Belongs.{Belongs}
-use Rattle.nef_solid.specs.Complexes.{Vertex as PlainVertex, Edge as PlainEdge, Edges}
+use Rattle.nef_solid.specs.Complexes.{Edge as PlainEdge, Edges}
 use Rattle.nef_solid.specs.Laws.{BelongsHolds}
 use Rattle.nef_complex.specs.declared.complex.Complex.{Complex}
 use Rattle.nef_complex.specs.declared.complex.Vertex.{Vertex}
@@ -51,7 +51,7 @@ belongs-same c d y e f b =
     (belongs-too (map vertex_of c.vertices) (map edge_of c.edges) (map form_of c.carriers) (map form_of d.carriers) y b))
 
 pub spelled-holds : BelongsHolds → (s : Set) (c d : Complex) (p : Parts) (bytes : List ℕ) (y : Place) → ShowsSet s c → bytes ≡ text c p → Spells bytes d → InFrame y → Belongs (complex_of d) y ↔ Holds s y
-spelled-holds holds s c d p bytes y S e (E, q, Q, f) inside =
+spelled-holds holds s c d p bytes y S e (E, (q, Q, f)) inside =
     let v : c.vertices ≡ d.vertices = vertices-read c d p q (sym e ∙ f) in
     let w : map edge_of c.edges ≡ map edge_of d.edges =
     edges-one (map vertex_of d.vertices) (map edge_of c.edges) (map edge_of d.edges) (subst (λ (vs : List Vertex). Edges (map vertex_of vs) (map edge_of c.edges)) v S.shows.edges) E in
