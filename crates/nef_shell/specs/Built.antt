@@ -21,9 +21,9 @@ is_built verb.Cl = true
 is_built verb.Bd = true
 is_built verb.Reg = true
 is_built verb.Has = true
-is_built verb.Same = false
-is_built verb.Count = false
-is_built verb.Print = false
+is_built verb.Same = true
+is_built verb.Count = true
+is_built verb.Print = true
 
 -- the line holds a command that isn't built yet
 abbrev pub is_unbuilt : List ℕ → Bool

@@ -8,9 +8,9 @@ use Rattle.nef_script.specs.declared.script.Command.TheVariants.{Bind, Has, Same
 abbrev pub is_built_command : Command → Bool
 is_built_command (Bind line k) = true
 is_built_command (Has line k p) = true
-is_built_command (Same line i j) = false
-is_built_command (Count line k) = false
-is_built_command (Print line k name) = false
+is_built_command (Same line i j) = true
+is_built_command (Count line k) = true
+is_built_command (Print line k name) = true
 
 abbrev pub line_of : Command → ℕ
 line_of (Bind line k) = line

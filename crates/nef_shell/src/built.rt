@@ -9,8 +9,11 @@ fn is_built(command: &Command) -> bool
     ensures built { result ≡ is_built_command command.now }
 {
     match command {
-        Command::Bind { .. } | Command::Has { .. } => true,
-        Command::Same { .. } | Command::Count { .. } | Command::Print { .. } => false,
+        Command::Bind { .. }
+        | Command::Has { .. }
+        | Command::Same { .. }
+        | Command::Count { .. }
+        | Command::Print { .. } => true,
     }
 }
 

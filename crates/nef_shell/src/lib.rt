@@ -7,9 +7,11 @@
 
 mod answer;
 mod built;
+mod comparison;
 #[cfg(test)]
 mod gates;
 mod line;
+mod listing;
 mod operation;
 mod sets;
 mod status;
@@ -18,6 +20,7 @@ mod top;
 mod uses;
 mod work;
 
+pub use comparison::same_text;
 pub use status::{Status, code};
 pub use top::run;
 
