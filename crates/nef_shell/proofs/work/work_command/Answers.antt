@@ -2,6 +2,7 @@ use Rattle.std.proofs.Common.{sym, refl, subst, arith}
 use Rattle.std.specs.Prelude.{slice_index_or}
 use Rattle.std.proofs.lemmas.Result.{err_from_is_err_and}
 use Rattle.nef_expr.specs.declared.nodes.Node.TheVariants as node
+use Rattle.nef_expr.specs.Nodes.{node_set}
 use Rattle.nef_shell.specs.Commands.{IsOperand}
 use Rattle.nef_shell.specs.Output.{answer_of, same_answer}
 use Rattle.nef_shell.proofs.Outputs.{same-piece}
@@ -33,13 +34,15 @@ pub returns-in_err-put_all-in-Count-clause-stopped : goal.returns-in_err-put_all
 returns-in_err-put_all-in-Count-clause-stopped g c =
     let p = err_from_is_err_and c.from_residual-in_err-put_all-in-Count.result c.from_residual-in_err-put_all-in-Count.ensures.1 in
     let piece = c.in_ok-piece-in-Count.piece in
-    rw (p.1, p.2) (c.in_err-put_all-in-Count.ensures.failed, (piece.items, rw c.in-Count.is (c.in_ok-piece-in-Count.ensures.piece _ c.get.ensures.shows), rw (← c.deref.ensures.value) c.in_err-put_all-in-Count.ensures.part))
+    let set = node_set c.args.sets.now.nodes.now c.in-Count.node in
+    rw (p.1, p.2) (c.in_err-put_all-in-Count.ensures.failed, (piece.items, rw c.in-Count.is (c.in_ok-piece-in-Count.ensures.piece set c.get.ensures.shows), rw (← c.deref.ensures.value) c.in_err-put_all-in-Count.ensures.part))
 
 pub returns-in_err-put_all-in-Print-clause-stopped : goal.returns-in_err-put_all-in-Print-clause-stopped
 returns-in_err-put_all-in-Print-clause-stopped g c =
     let p = err_from_is_err_and c.from_residual-in_err-put_all-in-Print.result c.from_residual-in_err-put_all-in-Print.ensures.1 in
     let piece = c.in_ok-piece-in-Print.piece in
-    rw (p.1, p.2) (c.in_err-put_all-in-Print.ensures.failed, (piece.items, rw c.in-Print.is (c.in_ok-piece-in-Print.ensures.piece _ c.get-in-Print.ensures.shows), rw (← c.deref-in-Print.ensures.value) c.in_err-put_all-in-Print.ensures.part))
+    let set = node_set c.args.sets.now.nodes.now c.in-Print.node in
+    rw (p.1, p.2) (c.in_err-put_all-in-Print.ensures.failed, (piece.items, rw c.in-Print.is (c.in_ok-piece-in-Print.ensures.piece set c.get-in-Print.ensures.shows), rw (← c.deref-in-Print.ensures.value) c.in_err-put_all-in-Print.ensures.part))
 
 pub returns-in_ok-put_all-in-Same-clause-done : goal.returns-in_ok-put_all-in-Same-clause-done
 returns-in_ok-put_all-in-Same-clause-done g c =
@@ -49,9 +52,11 @@ returns-in_ok-put_all-in-Same-clause-done g c =
 pub returns-in_ok-put_all-in-Count-clause-done : goal.returns-in_ok-put_all-in-Count-clause-done
 returns-in_ok-put_all-in-Count-clause-done g c =
     let piece = c.in_ok-piece-in-Count.piece in
-    (piece.items, rw c.in-Count.is (c.in_ok-piece-in-Count.ensures.piece _ c.get.ensures.shows), rw (← c.deref.ensures.value) c.in_ok-put_all-in-Count.ensures.ok)
+    let set = node_set c.args.sets.now.nodes.now c.in-Count.node in
+    (piece.items, rw c.in-Count.is (c.in_ok-piece-in-Count.ensures.piece set c.get.ensures.shows), rw (← c.deref.ensures.value) c.in_ok-put_all-in-Count.ensures.ok)
 
 pub returns-in_ok-put_all-in-Print-clause-done : goal.returns-in_ok-put_all-in-Print-clause-done
 returns-in_ok-put_all-in-Print-clause-done g c =
     let piece = c.in_ok-piece-in-Print.piece in
-    (piece.items, rw c.in-Print.is (c.in_ok-piece-in-Print.ensures.piece _ c.get-in-Print.ensures.shows), rw (← c.deref-in-Print.ensures.value) c.in_ok-put_all-in-Print.ensures.ok)
+    let set = node_set c.args.sets.now.nodes.now c.in-Print.node in
+    (piece.items, rw c.in-Print.is (c.in_ok-piece-in-Print.ensures.piece set c.get-in-Print.ensures.shows), rw (← c.deref-in-Print.ensures.value) c.in_ok-put_all-in-Print.ensures.ok)
