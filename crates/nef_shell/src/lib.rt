@@ -1,12 +1,11 @@
 //! The top call of the program: reads the words and the script, checks them, works the commands in
 //! order and writes their answers.
 //!
-//! The definitions stand in specs/: `Output` says what each command writes, `Built` which commands
-//! are worked so far, `Answers` what each status says.
+//! The definitions stand in specs/: `Output` says what each command writes, `Answers` what each
+//! status says.
 #![tactic(auto)]
 
 mod answer;
-mod built;
 mod comparison;
 #[cfg(test)]
 mod gates;
