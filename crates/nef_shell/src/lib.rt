@@ -8,6 +8,8 @@
 mod answer;
 mod comparison;
 #[cfg(test)]
+mod empty_text;
+#[cfg(test)]
 mod gates;
 mod line;
 mod listing;
