@@ -1,4 +1,5 @@
-//! The operations on complexes: constants, halves, combinations of two sets, and what topology makes of one.
+//! The operations on complexes: constants, halves, combinations of two sets, what topology makes of one, and whether two
+//! sets are one.
 //!
 //! An operation lists its candidates, the points that may be vertices of the result, works the least map of the result
 //! at each as a job of its own, and puts the complex together from these. Source: Granados et al., "Boolean Operations
@@ -6,6 +7,7 @@
 #![tactic(auto)]
 
 mod combination;
+mod comparison;
 mod finished;
 mod half_space;
 mod op;
@@ -15,6 +17,7 @@ mod topology;
 mod whole;
 
 pub use combination::binary;
+pub use comparison::same;
 pub use half_space::half;
 pub use op::UnaryOp;
 pub use std::alloc::AllocError as OutOfMemory;

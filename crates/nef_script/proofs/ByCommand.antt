@@ -40,19 +40,18 @@ unknown_command-filled (word ∷ rest) filled = pick (verb_of word)
     pick (Some u) = refl
 
 -- what the kinds after the first three say of a line with a command, and of one without
-pub refused-Some : (k : ScriptKind) (names : List (List ℕ)) (line : List ℕ) (v : Verb) (args : List (List ℕ)) → command_in (words_of line) ≡ Some (v, args) → (k ≡ kind.LineTooLong → ⊥) → (k ≡ kind.BadByte → ⊥) → (k ≡ kind.UnknownCommand → ⊥) → (k ≡ kind.ScriptTooLong → ⊥) → (k ≡ kind.NotBuilt → ⊥) → is_refused_for k names line ≡ command_test k names v args
-refused-Some kind.LineTooLong names line v args e a b c d f = absurd (a refl)
-refused-Some kind.BadByte names line v args e a b c d f = absurd (b refl)
-refused-Some kind.UnknownCommand names line v args e a b c d f = absurd (c refl)
-refused-Some kind.ScriptTooLong names line v args e a b c d f = absurd (d refl)
-refused-Some kind.NotBuilt names line v args e a b c d f = absurd (f refl)
-refused-Some kind.WordCount names line v args e a b c d f = on_command-Some (command_test kind.WordCount names) (words_of line) args v e
-refused-Some kind.BadName names line v args e a b c d f = on_command-Some (command_test kind.BadName names) (words_of line) args v e
-refused-Some kind.NameTaken names line v args e a b c d f = on_command-Some (command_test kind.NameTaken names) (words_of line) args v e
-refused-Some kind.UnknownName names line v args e a b c d f = on_command-Some (command_test kind.UnknownName names) (words_of line) args v e
-refused-Some kind.NotANumber names line v args e a b c d f = on_command-Some (command_test kind.NotANumber names) (words_of line) args v e
-refused-Some kind.OutOfRange names line v args e a b c d f = on_command-Some (command_test kind.OutOfRange names) (words_of line) args v e
-refused-Some kind.ZeroNormal names line v args e a b c d f = on_command-Some (command_test kind.ZeroNormal names) (words_of line) args v e
-refused-Some kind.BadMode names line v args e a b c d f = on_command-Some (command_test kind.BadMode names) (words_of line) args v e
-refused-Some kind.BadWeight names line v args e a b c d f = on_command-Some (command_test kind.BadWeight names) (words_of line) args v e
-refused-Some kind.TooManyNames names line v args e a b c d f = on_command-Some (command_test kind.TooManyNames names) (words_of line) args v e
+pub refused-Some : (k : ScriptKind) (names : List (List ℕ)) (line : List ℕ) (v : Verb) (args : List (List ℕ)) → command_in (words_of line) ≡ Some (v, args) → (k ≡ kind.LineTooLong → ⊥) → (k ≡ kind.BadByte → ⊥) → (k ≡ kind.UnknownCommand → ⊥) → (k ≡ kind.ScriptTooLong → ⊥) → is_refused_for k names line ≡ command_test k names v args
+refused-Some kind.LineTooLong names line v args e a b c d = absurd (a refl)
+refused-Some kind.BadByte names line v args e a b c d = absurd (b refl)
+refused-Some kind.UnknownCommand names line v args e a b c d = absurd (c refl)
+refused-Some kind.ScriptTooLong names line v args e a b c d = absurd (d refl)
+refused-Some kind.WordCount names line v args e a b c d = on_command-Some (command_test kind.WordCount names) (words_of line) args v e
+refused-Some kind.BadName names line v args e a b c d = on_command-Some (command_test kind.BadName names) (words_of line) args v e
+refused-Some kind.NameTaken names line v args e a b c d = on_command-Some (command_test kind.NameTaken names) (words_of line) args v e
+refused-Some kind.UnknownName names line v args e a b c d = on_command-Some (command_test kind.UnknownName names) (words_of line) args v e
+refused-Some kind.NotANumber names line v args e a b c d = on_command-Some (command_test kind.NotANumber names) (words_of line) args v e
+refused-Some kind.OutOfRange names line v args e a b c d = on_command-Some (command_test kind.OutOfRange names) (words_of line) args v e
+refused-Some kind.ZeroNormal names line v args e a b c d = on_command-Some (command_test kind.ZeroNormal names) (words_of line) args v e
+refused-Some kind.BadMode names line v args e a b c d = on_command-Some (command_test kind.BadMode names) (words_of line) args v e
+refused-Some kind.BadWeight names line v args e a b c d = on_command-Some (command_test kind.BadWeight names) (words_of line) args v e
+refused-Some kind.TooManyNames names line v args e a b c d = on_command-Some (command_test kind.TooManyNames names) (words_of line) args v e

@@ -115,4 +115,3 @@ is_refused_for kind.BadMode names line = on_words is_bad_mode (words_of line)
 is_refused_for kind.BadWeight names line = on_words is_bad_weight (words_of line)
 is_refused_for kind.TooManyNames names line = on_command (λ v args. binds v && nat_le name_count_limit (length names)) (words_of line)
 is_refused_for kind.ScriptTooLong names line = false
-is_refused_for kind.NotBuilt names line = false

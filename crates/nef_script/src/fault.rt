@@ -6,7 +6,7 @@ use std::alloc::AllocError;
 use std::fmt;
 
 /// What a script is refused for. The order is the order of the tests on one line; `ScriptTooLong`
-/// is tested before all of them, and `NotBuilt` after all of them, by the program alone.
+/// is tested before all of them.
 #[derive(Debug, Clone, Copy, PartialEq, Eq)]
 pub enum ScriptKind {
     LineTooLong,
@@ -23,7 +23,6 @@ pub enum ScriptKind {
     BadWeight,
     TooManyNames,
     ScriptTooLong,
-    NotBuilt,
 }
 
 /// Why there is no script: it is refused at a line (numbered from 1; 0 for the whole script), or
@@ -66,7 +65,6 @@ impl ScriptKind {
             ScriptKind::BadWeight => "weight out of range",
             ScriptKind::TooManyNames => "too many names",
             ScriptKind::ScriptTooLong => "script too long",
-            ScriptKind::NotBuilt => "not built yet",
         }
     }
 }

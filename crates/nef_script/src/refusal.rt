@@ -57,7 +57,7 @@ fn is_refused_for(kind: ScriptKind, names: &Names, text: &[u8], words: &[&[u8]])
         ScriptKind::LineTooLong => text.len() > LINE_LIMIT,
         ScriptKind::BadByte => has_bad_byte(text),
         ScriptKind::UnknownCommand => !words.is_empty() && command_of(words).is_none(),
-        ScriptKind::ScriptTooLong | ScriptKind::NotBuilt => false,
+        ScriptKind::ScriptTooLong => false,
         _ => match command_of(words) {
             Some((verb, args)) => command_fails(kind, names, verb, args),
             None => false,

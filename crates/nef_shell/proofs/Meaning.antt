@@ -1,7 +1,6 @@
--- What the meaning of an accepted script says of its commands: which of them are built, and that each can be worked after those before it.
-use Rattle.std.proofs.Common.{◌≡◌, ℕ, zero, suc, ◌+◌, ◌<◌, arith, refl, ap, sym, ◌∙◌, subst, List, [], ◌∷◌, ◌++◌, length, take, Option, Some, None, Bool, true, false, not, cond, inl, inr, append_assoc, append-nil, length-append}
-use Rattle.std.specs.Prelude.{slice_get, slice_index_or, find, filter, option_map}
-use Rattle.std.specs.List.{position_from}
+-- What the meaning of an accepted script says of its commands: each can be worked after those before it.
+use Rattle.std.proofs.Common.{◌≡◌, ℕ, zero, suc, ◌+◌, ◌<◌, arith, refl, ap, sym, ◌∙◌, subst, List, [], ◌∷◌, ◌++◌, length, take, Some, None, Bool, true, false, cond, inl, inr, append_assoc, append-nil, length-append}
+use Rattle.std.specs.Prelude.{slice_get, slice_index_or, filter, option_map}
 use Rattle.std.specs.Str.{bytes_eq}
 use Rattle.std.proofs.lemmas.Bool.{not-false, eqb-true}
 use Rattle.std.proofs.lemmas.List.Elements.{filter-append}
@@ -15,7 +14,7 @@ use Rattle.nef_expr.specs.declared.nodes.Node.TheVariants as node
 use Rattle.nef_expr.specs.Nodes.{NamesBelow}
 use Rattle.nef_script.specs.Checks.{command_in}
 use Rattle.nef_script.specs.Table.{verb_of, binds}
-use Rattle.nef_script.specs.Tests.{on_verb, on_command}
+use Rattle.nef_script.specs.Tests.{on_verb}
 use Rattle.nef_script.specs.Refusal.{names_of, bound_name, line_refusal, Passes, IsAccepted}
 use Rattle.nef_script.specs.Meaning.{Names, IsNode, IsQuestion, MeansCommand, MeansWords, has_words, MeansLines, MeansScript}
 use Rattle.nef_script.specs.declared.table.Verb.{Verb}
@@ -23,12 +22,7 @@ use Rattle.nef_script.specs.declared.table.Verb.TheVariants as verb
 use Rattle.nef_script.specs.declared.script.Command.{Command}
 use Rattle.nef_script.specs.declared.script.Command.TheVariants.{Bind, Has, Same, Count, Print}
 use Rattle.nef_script.proofs.Adding.{Fits-from, some_word}
-use Rattle.nef_shell.specs.Built.{is_built, is_unbuilt, first_unbuilt}
-use Rattle.nef_shell.specs.Commands.{is_built_command, line_of, IsOperand, LooksAt, Binds, bound_by, IsWorkable, AreWorkable}
-
--- the command isn't built yet
-abbrev pub unbuilt : Command → Bool
-unbuilt c = not (is_built_command c)
+use Rattle.nef_shell.specs.Commands.{IsOperand, LooksAt, Binds, bound_by, IsWorkable, AreWorkable}
 
 -- a name's place is among the names
 names-below : (names : List (List ℕ)) (word : List ℕ) (i : ℕ) → Names names word i → i < length names
@@ -49,58 +43,51 @@ operand-below n k (node.Cl i) below is = rw is below
 operand-below n k (node.Bd i) below is = rw is below
 operand-below n k (node.Reg i) below is = rw is below
 
--- the node of a line names earlier nodes, and its command is built
-node-facts : (names : List (List ℕ)) (v : Verb) (args : List (List ℕ)) (n : Node) → IsNode names v args n → NamesBelow (length names) n × (is_built v ≡ true)
-node-facts names verb.Half (name ∷ a ∷ b ∷ c ∷ d ∷ mode ∷ []) n (o, is, given) = (rw is tt, refl)
-node-facts names verb.Empty args n is = (rw is tt, refl)
-node-facts names verb.Full args n is = (rw is tt, refl)
-node-facts names verb.And (name ∷ left ∷ right ∷ []) n (i, j, p, q, is) = (rw is (names-below names left i p, names-below names right j q), refl)
-node-facts names verb.Or (name ∷ left ∷ right ∷ []) n (i, j, p, q, is) = (rw is (names-below names left i p, names-below names right j q), refl)
-node-facts names verb.Diff (name ∷ left ∷ right ∷ []) n (i, j, p, q, is) = (rw is (names-below names left i p, names-below names right j q), refl)
-node-facts names verb.Xor (name ∷ left ∷ right ∷ []) n (i, j, p, q, is) = (rw is (names-below names left i p, names-below names right j q), refl)
-node-facts names verb.Not (name ∷ operand ∷ []) n (i, p, is) = (rw is (names-below names operand i p), refl)
-node-facts names verb.Int (name ∷ operand ∷ []) n (i, p, is) = (rw is (names-below names operand i p), refl)
-node-facts names verb.Cl (name ∷ operand ∷ []) n (i, p, is) = (rw is (names-below names operand i p), refl)
-node-facts names verb.Bd (name ∷ operand ∷ []) n (i, p, is) = (rw is (names-below names operand i p), refl)
-node-facts names verb.Reg (name ∷ operand ∷ []) n (i, p, is) = (rw is (names-below names operand i p), refl)
+-- the node of a line names earlier nodes
+node-facts : (names : List (List ℕ)) (v : Verb) (args : List (List ℕ)) (n : Node) → IsNode names v args n → NamesBelow (length names) n
+node-facts names verb.Half (name ∷ a ∷ b ∷ c ∷ d ∷ mode ∷ []) n (o, is, given) = rw is tt
+node-facts names verb.Empty args n is = rw is tt
+node-facts names verb.Full args n is = rw is tt
+node-facts names verb.And (name ∷ left ∷ right ∷ []) n (i, j, p, q, is) = rw is (names-below names left i p, names-below names right j q)
+node-facts names verb.Or (name ∷ left ∷ right ∷ []) n (i, j, p, q, is) = rw is (names-below names left i p, names-below names right j q)
+node-facts names verb.Diff (name ∷ left ∷ right ∷ []) n (i, j, p, q, is) = rw is (names-below names left i p, names-below names right j q)
+node-facts names verb.Xor (name ∷ left ∷ right ∷ []) n (i, j, p, q, is) = rw is (names-below names left i p, names-below names right j q)
+node-facts names verb.Not (name ∷ operand ∷ []) n (i, p, is) = rw is (names-below names operand i p)
+node-facts names verb.Int (name ∷ operand ∷ []) n (i, p, is) = rw is (names-below names operand i p)
+node-facts names verb.Cl (name ∷ operand ∷ []) n (i, p, is) = rw is (names-below names operand i p)
+node-facts names verb.Bd (name ∷ operand ∷ []) n (i, p, is) = rw is (names-below names operand i p)
+node-facts names verb.Reg (name ∷ operand ∷ []) n (i, p, is) = rw is (names-below names operand i p)
 node-facts names v args n h = absurd h
 
--- what the meaning of a line says of its command: its line, whether it is built, the node that it binds, and the nodes that it looks at
-record Facts (nodes : List Node) (names : List (List ℕ)) (line : ℕ) (v : Verb) (binding : Bool) (c : Command) : Type 0 where
-  line_is : line_of c ≡ line
-  same : is_built_command c ≡ is_built v
+-- what the meaning of a line says of its command: how many names it binds, the node that it binds, and the nodes that it looks at
+record Facts (nodes : List Node) (names : List (List ℕ)) (binding : Bool) (c : Command) : Type 0 where
   count : cond binding 1 0 ≡ bound_by (c ∷ [])
   next : (k : ℕ) → Binds c k → (k ≡ length names) × (k < length nodes)
   earlier : (k : ℕ) → LooksAt nodes c k → k < length names
 
-question-facts : (names : List (List ℕ)) (nodes : List Node) (line : ℕ) (v : Verb) (args : List (List ℕ)) (c : Command) → IsQuestion names line v args c → Facts nodes names line v false c
+question-facts : (names : List (List ℕ)) (nodes : List Node) (line : ℕ) (v : Verb) (args : List (List ℕ)) (c : Command) → IsQuestion names line v args c → Facts nodes names false c
 question-facts names nodes line verb.Has (name ∷ x ∷ y ∷ z ∷ w ∷ []) c (k, p, at, quotient, is) =
-    rw is (record { line_is = refl; same = refl; count = refl; next = λ j b. absurd b; earlier = λ j e. rw e (names-below names name k at) })
+    rw is (record { count = refl; next = λ j b. absurd b; earlier = λ j e. rw e (names-below names name k at) })
 question-facts names nodes line verb.Same (left ∷ right ∷ []) c (i, j, p, q, is) =
-    rw is (record { line_is = refl; same = refl; count = refl; next = λ k b. absurd b; earlier = λ k s. elim s [ inl e ↦ rw e (names-below names left i p) | inr e ↦ rw e (names-below names right j q) ] })
+    rw is (record { count = refl; next = λ k b. absurd b; earlier = λ k s. elim s [ inl e ↦ rw e (names-below names left i p) | inr e ↦ rw e (names-below names right j q) ] })
 question-facts names nodes line verb.Count (name ∷ []) c (k, at, is) =
-    rw is (record { line_is = refl; same = refl; count = refl; next = λ j b. absurd b; earlier = λ j e. rw e (names-below names name k at) })
+    rw is (record { count = refl; next = λ j b. absurd b; earlier = λ j e. rw e (names-below names name k at) })
 question-facts names nodes line verb.Print (name ∷ []) c (k, at, is) =
-    rw is (record { line_is = refl; same = refl; count = refl; next = λ j b. absurd b; earlier = λ j e. rw e (names-below names name k at) })
+    rw is (record { count = refl; next = λ j b. absurd b; earlier = λ j e. rw e (names-below names name k at) })
 question-facts names nodes line v args c h = absurd h
 
-command-facts : (names : List (List ℕ)) (line : ℕ) (v : Verb) (args : List (List ℕ)) (binding : Bool) (nodes : List Node) (c : Command) → MeansCommand names line v args binding nodes c → Facts nodes names line v binding c
+command-facts : (names : List (List ℕ)) (line : ℕ) (v : Verb) (args : List (List ℕ)) (binding : Bool) (nodes : List Node) (c : Command) → MeansCommand names line v args binding nodes c → Facts nodes names binding c
 command-facts names line v args true nodes c (n, at, is, command_is) =
-    let facts = node-facts names v args n is in
     let read : slice_index_or nodes (length names) node.Empty ≡ n = get_or_from_slice_get nodes (length names) n node.Empty at in
     rw command_is (record {
-      line_is = refl;
-      same = sym facts.1;
       count = refl;
       next = λ k e. (e, rw e (slice_get_within nodes (length names) n at));
-      earlier = λ k o. operand-below (length names) k n facts.0 (subst (IsOperand k) read o);
+      earlier = λ k o. operand-below (length names) k n (node-facts names v args n is) (subst (IsOperand k) read o);
     })
 command-facts names line v args false nodes c h = question-facts names nodes line v args c h
 
--- the same of the words of a line that isn't refused: the line is unbuilt exactly where its command is, and binds a name exactly where its command does
-pub record IsCommandOf (nodes : List Node) (names : List (List ℕ)) (line : ℕ) (words : List (List ℕ)) (c : Command) : Type 0 where
-  pub line_is : line_of c ≡ line
-  pub same : on_command (λ v args. not (is_built v)) words ≡ unbuilt c
+-- the same of the words of a line that isn't refused: it binds a name exactly where its command does
+pub record IsCommandOf (nodes : List Node) (names : List (List ℕ)) (words : List (List ℕ)) (c : Command) : Type 0 where
   pub count : length (bound_name words) ≡ bound_by (c ∷ [])
   pub next : (k : ℕ) → Binds c k → (k ≡ length names) × (k < length nodes)
   pub earlier : (k : ℕ) → LooksAt nodes c k → k < length names
@@ -112,15 +99,13 @@ bound-count word [] false is some = refl
 bound-count word (name ∷ rest) true is some = ap (λ b. length (cond b (name ∷ []) [])) is
 bound-count word (name ∷ rest) false is some = ap (λ b. length (cond b (name ∷ []) [])) is
 
-words-facts : (nodes : List Node) (names : List (List ℕ)) (line : ℕ) (text : List ℕ) (words : List (List ℕ)) (c : Command) → words_of text ≡ words → line_refusal names text ≡ None → MeansWords names line words nodes c → IsCommandOf nodes names line words c
+words-facts : (nodes : List Node) (names : List (List ℕ)) (line : ℕ) (text : List ℕ) (words : List (List ℕ)) (c : Command) → words_of text ≡ words → line_refusal names text ≡ None → MeansWords names line words nodes c → IsCommandOf nodes names words c
 words-facts nodes names line text [] c of passes h = absurd h
 words-facts nodes names line text (word ∷ args) c of passes (v, is, means) =
     let facts = command-facts names line v args (binds v) nodes c means in
     let command : command_in (words_of text) ≡ Some (v, args) = ap command_in of ∙ ap (option_map (λ u. (u, args))) is in
     let fits = Fits-from names text v args passes command in
     record {
-      line_is = facts.line_is;
-      same = ap (on_verb (λ u. not (is_built u))) is ∙ ap not (sym facts.same);
       count = bound-count word args (binds v) (ap (on_verb binds) is) (some_word names v args fits) ∙ facts.count;
       next = facts.next;
       earlier = facts.earlier;
@@ -130,7 +115,7 @@ words-facts nodes names line text (word ∷ args) c of passes (v, is, means) =
 pub data Goes (nodes : List Node) : List (List ℕ) → ℕ → List (List ℕ) → List Command → Type 0 where
   ends : (names : List (List ℕ)) (n : ℕ) → Goes nodes names n [] []
   passes : (names : List (List ℕ)) (n : ℕ) (line : List ℕ) (lines : List (List ℕ)) (cs : List Command) → words_of line ≡ [] → Goes nodes names (n + 1) lines cs → Goes nodes names n (line ∷ lines) cs
-  works : (names : List (List ℕ)) (n : ℕ) (line : List ℕ) (lines : List (List ℕ)) (c : Command) (cs : List Command) → IsCommandOf nodes names (n + 1) (words_of line) c → Goes nodes (names ++ bound_name (words_of line)) (n + 1) lines cs → Goes nodes names n (line ∷ lines) (c ∷ cs)
+  works : (names : List (List ℕ)) (n : ℕ) (line : List ℕ) (lines : List (List ℕ)) (c : Command) (cs : List Command) → IsCommandOf nodes names (words_of line) c → Goes nodes (names ++ bound_name (words_of line)) (n + 1) lines cs → Goes nodes names n (line ∷ lines) (c ∷ cs)
 
 no-words : (line : List ℕ) → has_words line ≡ false → words_of line ≡ []
 no-words line h = empty (words_of line) (eqb-true (length (words_of line)) 0 (not-false _ h))
@@ -186,7 +171,7 @@ goes-on nodes before line lines done cs rest count quiet h b e = by_words cs b e
         let same : c ≡ d = let seam = slice_get-seam done d es in cc in
         let as_many : length (done ++ d ∷ []) ≡ length (filter has_words (before ++ line ∷ [])) = let f = filtered true is in omega (arith, length-append {A = Command}) in
         let after = rest (done ++ d ∷ []) es as_many (subst (λ z. MeansLines z nodes ((done ++ d ∷ []) ++ es)) regroup (subst (λ z. MeansLines (before ++ line ∷ lines) nodes z) (sym (append_assoc done (d ∷ []) es)) means)) in
-        works (names_of before) (length before) line lines d es (subst (λ z. IsCommandOf nodes (names_of before) (length before + 1) (words_of line) z) same (words-facts nodes (names_of before) (length before + 1) line (words_of line) c refl quiet words_mean))
+        works (names_of before) (length before) line lines d es (subst (λ z. IsCommandOf nodes (names_of before) (words_of line) z) same (words-facts nodes (names_of before) (length before + 1) line (words_of line) c refl quiet words_mean))
         (subst (λ z. Goes nodes z (length before + 1) lines es) names_next (subst (λ z. Goes nodes (names_of (before ++ line ∷ [])) z lines es) length_next after))
 
     by_words : (es : List Command) (t : Bool) → has_words line ≡ t → MeansLines (before ++ line ∷ lines) nodes (done ++ es) → Goes nodes (names_of before) (length before) (line ∷ lines) es
@@ -230,40 +215,6 @@ goes nodes before (line ∷ lines) done cs count accepted h =
 script-goes : (bytes : List ℕ) (nodes : List Node) (commands : List Command) → IsAccepted bytes → MeansScript bytes nodes commands → Goes nodes [] 0 (lines_of bytes) commands
 script-goes bytes nodes commands accepted h = goes nodes [] (lines_of bytes) [] commands refl accepted.passes h
 
--- the first unbuilt line is that of the first unbuilt command
-unbuilt-agrees : (nodes : List Node) (names : List (List ℕ)) (n : ℕ) (lines : List (List ℕ)) (cs : List Command) → Goes nodes names n lines cs → position_from is_unbuilt (n + 1) lines ≡ option_map line_of (find unbuilt cs)
-unbuilt-agrees nodes _ _ _ _ (ends names n) = refl
-unbuilt-agrees nodes _ _ _ _ (passes names n line more cs none after) =
-    let e : is_unbuilt line ≡ false = ap (on_command (λ v args. not (is_built v))) none in
-    ap (λ b. cond b (Some (n + 1)) (position_from is_unbuilt (n + 1 + 1) more)) e ∙ unbuilt-agrees nodes names (n + 1) more cs after
-unbuilt-agrees nodes _ _ _ _ (works names n line more c ds is after) =
-    let here : is_unbuilt line ≡ unbuilt c = is.same in
-    let rest = unbuilt-agrees nodes (names ++ bound_name (words_of line)) (n + 1) more ds after in
-    ap (λ b. cond b (Some (n + 1)) (position_from is_unbuilt (n + 1 + 1) more)) here ∙ on_test (unbuilt c) (n + 1) c _ _ is.line_is rest
-  where
-    on_test : (b : Bool) (line : ℕ) (c : Command) (later : Option ℕ) (found : Option Command) → line_of c ≡ line → later ≡ option_map line_of found → cond b (Some line) later ≡ option_map line_of (cond b (Some c) found)
-    on_test true line c later found e f = ap Some (sym e)
-    on_test false line c later found e f = f
-
--- where the first unbuilt command is, the first unbuilt line is
-pub first_unbuilt-agrees : (bytes : List ℕ) (nodes : List Node) (commands : List Command) → IsAccepted bytes → MeansScript bytes nodes commands → first_unbuilt bytes ≡ option_map line_of (find unbuilt commands)
-first_unbuilt-agrees bytes nodes commands accepted h = unbuilt-agrees nodes [] 0 (lines_of bytes) commands (script-goes bytes nodes commands accepted h)
-
--- none is found among the first and the others
-find-none_first : (p : Command → Bool) (c : Command) (cs : List Command) → find p (c ∷ cs) ≡ None → p c ≡ false
-find-none_first p c cs e = by_test (p c) refl e
-  where
-    by_test : (b : Bool) → p c ≡ b → cond b (Some c) (find p cs) ≡ None → p c ≡ false
-    by_test false is f = is
-    by_test true is f = cc
-
-find-none_rest : (p : Command → Bool) (c : Command) (cs : List Command) → find p (c ∷ cs) ≡ None → find p cs ≡ None
-find-none_rest p c cs e = by_test (p c) e
-  where
-    by_test : (b : Bool) → cond b (Some c) (find p cs) ≡ None → find p cs ≡ None
-    by_test false f = f
-    by_test true f = cc
-
 -- the commands bind as many names as the first and the others
 pub bound_by-cons : (c : Command) (cs : List Command) → bound_by (c ∷ cs) ≡ bound_by (c ∷ []) + bound_by cs
 bound_by-cons (Bind line k) cs = omega arith
@@ -276,46 +227,23 @@ pub bound_by-push : (cs : List Command) (c : Command) → bound_by (cs ++ c ∷ 
 bound_by-push [] c = omega arith
 bound_by-push (d ∷ cs) c = omega (arith, bound_by-cons d (cs ++ c ∷ []), bound_by-cons d cs, bound_by-push cs c)
 
--- where all commands are built, each can be worked after those before it
-each-workable : (nodes : List Node) (names : List (List ℕ)) (n : ℕ) (lines : List (List ℕ)) (cs : List Command) → Goes nodes names n lines cs → find unbuilt cs ≡ None → (i : ℕ) (d : Command) → slice_get cs i ≡ Some d → IsWorkable nodes (length names + bound_by (take i cs)) d
-each-workable nodes _ _ _ _ (ends names n) none i d at = cc
-each-workable nodes _ _ _ _ (passes names n line more cs empty after) none i d at = each-workable nodes names (n + 1) more cs after none i d at
-each-workable nodes _ _ _ _ (works names n line more c ds is after) none zero d at =
+-- each can be worked after those before it
+each-workable : (nodes : List Node) (names : List (List ℕ)) (n : ℕ) (lines : List (List ℕ)) (cs : List Command) → Goes nodes names n lines cs → (i : ℕ) (d : Command) → slice_get cs i ≡ Some d → IsWorkable nodes (length names + bound_by (take i cs)) d
+each-workable nodes _ _ _ _ (ends names n) i d at = cc
+each-workable nodes _ _ _ _ (passes names n line more cs empty after) i d at = each-workable nodes names (n + 1) more cs after i d at
+each-workable nodes _ _ _ _ (works names n line more c ds is after) zero d at =
     let same : c ≡ d = cc in
     let here : length names ≡ length names + bound_by [] = omega arith in
     subst (λ z. IsWorkable nodes (length names + bound_by []) z) same
-    (subst (λ z. IsWorkable nodes z c) here (record { built = not-false _ (find-none_first unbuilt c ds none); next = is.next; earlier = is.earlier }))
-each-workable nodes _ _ _ _ (works names n line more c ds is after) none (suc i) d at =
+    (subst (λ z. IsWorkable nodes z c) here (record { next = is.next; earlier = is.earlier }))
+each-workable nodes _ _ _ _ (works names n line more c ds is after) (suc i) d at =
     let bound : List (List ℕ) = bound_name (words_of line) in
-    let later = each-workable nodes (names ++ bound) (n + 1) more ds after (find-none_rest unbuilt c ds none) i d at in
+    let later = each-workable nodes (names ++ bound) (n + 1) more ds after i d at in
     let count : length (names ++ bound) + bound_by (take i ds) ≡ length names + bound_by (c ∷ take i ds) = omega (arith, length-append names bound, is.count, bound_by-cons c (take i ds)) in
     subst (λ z. IsWorkable nodes z d) count later
 
--- an accepted script whose commands are all built can be worked
-pub script-workable : (bytes : List ℕ) (nodes : List Node) (commands : List Command) → IsAccepted bytes → MeansScript bytes nodes commands → find unbuilt commands ≡ None → AreWorkable nodes commands
-script-workable bytes nodes commands accepted means none i c at =
+-- an accepted script can be worked
+pub script-workable : (bytes : List ℕ) (nodes : List Node) (commands : List Command) → IsAccepted bytes → MeansScript bytes nodes commands → AreWorkable nodes commands
+script-workable bytes nodes commands accepted means i c at =
     let first : length {A = List ℕ} [] + bound_by (take i commands) ≡ bound_by (take i commands) = omega arith in
-    subst (λ z. IsWorkable nodes z c) first (each-workable nodes [] 0 (lines_of bytes) commands (script-goes bytes nodes commands accepted means) none i c at)
-
--- the first command for which the test holds is found
-pub find-at : (p : Command → Bool) (cs : List Command) (k : ℕ) (c : Command) → find p (take k cs) ≡ None → slice_get cs k ≡ Some c → p c ≡ true → find p cs ≡ Some c
-find-at p [] k c none at holds = cc
-find-at p (x ∷ cs) zero c none at holds =
-    let same : x ≡ c = cc in
-    ap (λ b. cond b (Some x) (find p cs)) (ap p same ∙ holds) ∙ ap Some same
-find-at p (x ∷ cs) (suc k) c none at holds =
-    ap (λ b. cond b (Some x) (find p cs)) (find-none_first p x (take k cs) none) ∙ find-at p cs k c (find-none_rest p x (take k cs) none) at holds
-
--- none is found among one more
-pub find-none_more : (p : Command → Bool) (cs : List Command) (c : Command) → find p cs ≡ None → p c ≡ false → find p (cs ++ c ∷ []) ≡ None
-find-none_more p [] c none fails = ap (λ b. cond b (Some c) None) fails
-find-none_more p (x ∷ cs) c none fails =
-    ap (λ b. cond b (Some x) (find p (cs ++ c ∷ []))) (find-none_first p x cs none) ∙ find-none_more p cs c (find-none_rest p x cs none) fails
-
--- where no line is found, no command is
-pub find-none_of_line : (p : Command → Bool) (cs : List Command) → option_map line_of (find p cs) ≡ None → find p cs ≡ None
-find-none_of_line p cs e = by_found (find p cs) e
-  where
-    by_found : (found : Option Command) → option_map line_of found ≡ None → found ≡ None
-    by_found None f = refl
-    by_found (Some c) f = cc
+    subst (λ z. IsWorkable nodes z c) first (each-workable nodes [] 0 (lines_of bytes) commands (script-goes bytes nodes commands accepted means) i c at)

@@ -1,14 +1,17 @@
 -- Output that grows by one piece after another.
-use Rattle.std.proofs.Common.{◌≡◌, ℕ, ◌+◌, ◌<◌, ◌≤◌, refl, sym, ap, ◌∙◌, List, [], ◌∷◌, ◌++◌, length, take, Option, Some, None, append_assoc, append-nil, subst, get_or, arith, inl, inr}
+use Rattle.std.proofs.Common.{◌≡◌, ◌↔◌, ℕ, ◌+◌, ◌<◌, ◌≤◌, Bool, true, false, refl, sym, ap, ◌∙◌, List, [], ◌∷◌, ◌++◌, length, take, Option, Some, None, append_assoc, append-nil, subst, get_or, arith, inl, inr}
 use Rattle.std.proofs.lemmas.List.{take_more}
 use Rattle.std.proofs.Math.Seq.{take-append-add, take-length}
+use Rattle.std.specs.Prelude.{IsTrue}
+use Rattle.nef_space.specs.Local.{SameSet}
+use Rattle.nef_space.specs.Sets.{Set}
 use Rattle.nef_io.specs.Bytes.{Rose, Grows, GrowsWithin}
 use Rattle.nef_expr.specs.declared.nodes.Node.{Node}
 use Rattle.nef_script.specs.declared.script.Command.{Command}
 use Rattle.nef_shell.specs.declared.stop.Stop.{Stop}
 use Rattle.nef_shell.specs.declared.stop.Stop.TheVariants.{WriteFault, OutOfMemory}
 use Rattle.nef_shell.specs.Stops.{MatchStop}
-use Rattle.nef_shell.specs.Output.{IsPiece, IsOutput}
+use Rattle.nef_shell.specs.Output.{same_answer, IsSameAnswer, IsPiece, IsOutput}
 
 -- one more command
 pub output-more : (nodes : List Node) (cs : List Command) (c : Command) (output piece : List ℕ) → IsOutput nodes cs output → IsPiece nodes c piece → IsOutput nodes (cs ++ c ∷ []) (output ++ piece)
@@ -61,3 +64,8 @@ stop-rose OutOfMemory first old new P Q le same = tt
 pub grows_within-none : (a : Option (List ℕ)) → GrowsWithin a a []
 grows_within-none None = (0, tt)
 grows_within-none (Some bs) = (0, sym (append-nil bs))
+
+-- the answer says whether the two sets are one
+pub same-piece : (s t : Set) (same : Bool) → IsTrue same ↔ SameSet s t → IsSameAnswer s t (same_answer same)
+same-piece s t true e = inl (e.0 refl, refl)
+same-piece s t false e = inr (λ h. (let f : false ≡ true = e.1 h in cc), refl)

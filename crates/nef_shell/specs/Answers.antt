@@ -1,30 +1,22 @@
 -- What each status says of the source and of the sink.
-use Rattle.std.specs.Prelude.{◌≡◌, ℕ, ◌+◌, List, Option, Some, None, IsSome, take, length, ◌⊎◌}
+use Rattle.std.specs.Prelude.{◌≡◌, ℕ, ◌+◌, List, Option, IsSome, take, length, ◌⊎◌}
 use Rattle.std.specs.Io.KnownBytes.{Consumes, IsAtEnd}
 use Rattle.nef_io.specs.Bytes.{Grows, GrowsWithin}
 use Rattle.nef_words.specs.Chosen.{options_of}
 use Rattle.nef_expr.specs.declared.nodes.Node.{Node}
 use Rattle.nef_script.specs.declared.fault.ScriptKind.{ScriptKind}
-use Rattle.nef_script.specs.declared.fault.ScriptKind.TheVariants.{NotBuilt}
 use Rattle.nef_script.specs.declared.script.Command.{Command}
 use Rattle.nef_script.specs.Refusal.{script_limit, FirstRefusal, IsAccepted}
 use Rattle.nef_script.specs.Meaning.{MeansScript}
-use Rattle.nef_shell.specs.Built.{first_unbuilt}
 use Rattle.nef_shell.specs.Output.{IsOutput, refusal_line, words_line}
 
 -- the words of the command line are accepted
 abbrev pub AreAccepted : List (List ℕ) → Type 0
 AreAccepted words = IsSome (options_of words)
 
--- the script is refused: by its first refusal, or, where it has none, for the first line whose command isn't built yet
-pub data IsRefused (bytes : List ℕ) : ℕ → ScriptKind → Type 0 where
-  by_script : (line : ℕ) (kind : ScriptKind) → FirstRefusal bytes line kind → IsRefused bytes line kind
-  not_built : (line : ℕ) → IsAccepted bytes → first_unbuilt bytes ≡ Some line → IsRefused bytes line NotBuilt
-
--- the script is accepted, all its commands are built, and these are its nodes and its commands
+-- the script is accepted, and these are its nodes and its commands
 pub record IsWorked (bytes : List ℕ) (nodes : List Node) (commands : List Command) : Type 0 where
   pub accepted : IsAccepted bytes
-  pub built : first_unbuilt bytes ≡ None
   pub means : MeansScript bytes nodes commands
 
 -- the bytes that were read: all that the source still had, or one more than a script may have
@@ -48,12 +40,12 @@ pub record HasOutput (old new before after : Option (List ℕ)) : Type 0 where
 pub record HasRefusal (old new before after : Option (List ℕ)) (line : ℕ) (kind : ScriptKind) : Type 0 where
   pub bytes : List ℕ
   pub read : IsRead old new bytes
-  pub refused : IsRefused bytes line kind
+  pub refused : FirstRefusal bytes line kind
   pub written : Grows before after (refusal_line line kind)
 
 -- some front of what the script defines: of its refusal's line, or of the output of some number of its first commands
 pub data HasFront (old new before after : Option (List ℕ)) : Type 0 where
-  of_refusal : (bytes : List ℕ) (line : ℕ) (kind : ScriptKind) → IsRead old new bytes → IsRefused bytes line kind → GrowsWithin before after (refusal_line line kind) → HasFront old new before after
+  of_refusal : (bytes : List ℕ) (line : ℕ) (kind : ScriptKind) → IsRead old new bytes → FirstRefusal bytes line kind → GrowsWithin before after (refusal_line line kind) → HasFront old new before after
   of_output : (bytes : List ℕ) (nodes : List Node) (commands : List Command) (count : ℕ) (output : List ℕ) → Consumes old new bytes → IsAtEnd new → IsWorked bytes nodes commands → IsOutput nodes (take count commands) output → GrowsWithin before after output → HasFront old new before after
 
 -- some front of what the words and the script define: of the line of refused words, or of what the script defines

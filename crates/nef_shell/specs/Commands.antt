@@ -1,23 +1,9 @@
--- Which commands of a script are worked so far, and which nodes they speak of, as the program sees them.
-use Rattle.std.specs.Prelude.{◌≡◌, ℕ, ◌+◌, ◌<◌, ◌≤◌, Bool, true, false, List, [], ◌∷◌, ◌⊎◌, Some, take, slice_get, slice_index, slice_index_or, length}
+-- Which nodes the commands of a script speak of, as the program sees them.
+use Rattle.std.specs.Prelude.{◌≡◌, ℕ, ◌+◌, ◌<◌, ◌≤◌, List, [], ◌∷◌, ◌⊎◌, Some, take, slice_get, slice_index, slice_index_or, length}
 use Rattle.nef_expr.specs.declared.nodes.Node.{Node}
 use Rattle.nef_expr.specs.declared.nodes.Node.TheVariants as node
 use Rattle.nef_script.specs.declared.script.Command.{Command}
 use Rattle.nef_script.specs.declared.script.Command.TheVariants.{Bind, Has, Same, Count, Print}
-
-abbrev pub is_built_command : Command → Bool
-is_built_command (Bind line k) = true
-is_built_command (Has line k p) = true
-is_built_command (Same line i j) = false
-is_built_command (Count line k) = false
-is_built_command (Print line k name) = false
-
-abbrev pub line_of : Command → ℕ
-line_of (Bind line k) = line
-line_of (Has line k p) = line
-line_of (Same line i j) = line
-line_of (Count line k) = line
-line_of (Print line k name) = line
 
 -- node k is an operand of the node
 abbrev pub IsOperand : ℕ → Node → Type 0
@@ -59,9 +45,8 @@ Binds (Same line i j) k = ⊥
 Binds (Count line n) k = ⊥
 Binds (Print line n name) k = ⊥
 
--- the command can be worked where the first n nodes are bound: it is built, binds the next node if any, and looks at bound ones
+-- the command can be worked where the first n nodes are bound: it binds the next node if any, and looks at bound ones
 pub record IsWorkable (nodes : List Node) (n : ℕ) (c : Command) : Type 0 where
-  pub built : is_built_command c ≡ true
   pub next : (k : ℕ) → Binds c k → (k ≡ n) × (k < length nodes)
   pub earlier : (k : ℕ) → LooksAt nodes c k → k < n
 

@@ -1,5 +1,4 @@
 pub mod Status
-pub mod Built
 pub mod Output
 pub mod Answers
 pub mod Commands

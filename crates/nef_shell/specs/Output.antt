@@ -1,9 +1,15 @@
 -- What a run writes.
-use Rattle.std.specs.Prelude.{◌≡◌, ℕ, List, [], ◌∷◌, ◌++◌, codes, decimal}
-use Rattle.nef_space.specs.Local.{HasLabel}
+use Rattle.std.specs.Prelude.{◌≡◌, ℕ, Bool, true, false, List, [], ◌∷◌, ◌++◌, ◌⊎◌, codes, decimal}
+use Rattle.nef_space.specs.Local.{HasLabel, SameSet}
+use Rattle.nef_space.specs.Sets.{Set}
 use Rattle.nef_space.specs.declared.label.Label.{Label}
 use Rattle.nef_space.specs.declared.label.Label.TheVariants.{Out, Not, In}
 use Rattle.nef_geo.specs.Shapes.{place_of}
+use Rattle.nef_complex.specs.declared.complex.Complex.{Complex}
+use Rattle.nef_complex.specs.Complexes.{ShowsSet, complex_of}
+use Rattle.nef_parts.specs.declared.parts.Parts.{Parts}
+use Rattle.nef_parts.specs.Numbers.{IsParts}
+use Rattle.nef_parts.specs.Text.{line, numbers, counts, text}
 use Rattle.nef_expr.specs.declared.nodes.Node.{Node}
 use Rattle.nef_expr.specs.Nodes.{node_set}
 use Rattle.nef_script.specs.declared.fault.ScriptKind.{ScriptKind}
@@ -26,13 +32,35 @@ refusal_line line kind = codes "line " ++ decimal line ++ codes ": " ++ kind_tex
 abbrev pub words_line : List ℕ
 words_line = codes "words refused" ++ line_end
 
--- what one command writes: nothing where it binds a name, and the answer to the point's label; what the commands write that aren't built yet isn't said here
+-- whether two sets are one
+abbrev pub same_answer : Bool → List ℕ
+same_answer true = codes "same" ++ line_end
+same_answer false = codes "differs" ++ line_end
+
+-- the numbers of vertices, edges, facets and volumes
+abbrev pub count_line : Complex → Parts → List ℕ
+count_line c p = line (numbers (counts c p))
+
+-- the text under its name
+abbrev pub printed : List ℕ → Complex → Parts → List ℕ
+printed name c p = codes "polyhedron " ++ name ++ line_end ++ text c p ++ codes "end" ++ line_end
+
+-- the answer to whether s and t are one
+abbrev pub IsSameAnswer : Set → Set → List ℕ → Type 0
+IsSameAnswer s t piece = (SameSet s t × (piece ≡ same_answer true)) ⊎ ((SameSet s t → ⊥) × (piece ≡ same_answer false))
+
+-- what is written of a complex that shows s, with its parts. The set determines the complex but for its carriers, which nothing writes, so any complex will do:
+-- there is one such piece
+abbrev pub IsWrittenOf : Set → (Complex → Parts → List ℕ) → List ℕ → Type 0
+IsWrittenOf s written piece = (c : Complex) × (p : Parts) × ShowsSet s c × IsParts (complex_of c) p × (piece ≡ written c p)
+
+-- what one command writes: nothing where it binds a name, and else the answer to what it asks
 abbrev pub IsPiece : List Node → Command → List ℕ → Type 0
-IsPiece nodes (Bind line k) piece = piece ≡ []
-IsPiece nodes (Has line k p) piece = (l : Label) × HasLabel (node_set nodes k) (place_of p) l × (piece ≡ answer_of l)
-IsPiece nodes (Same line i j) piece = ⊥
-IsPiece nodes (Count line k) piece = ⊥
-IsPiece nodes (Print line k name) piece = ⊥
+IsPiece nodes (Bind _ k) piece = piece ≡ []
+IsPiece nodes (Has _ k p) piece = (l : Label) × HasLabel (node_set nodes k) (place_of p) l × (piece ≡ answer_of l)
+IsPiece nodes (Same _ i j) piece = IsSameAnswer (node_set nodes i) (node_set nodes j) piece
+IsPiece nodes (Count _ k) piece = IsWrittenOf (node_set nodes k) count_line piece
+IsPiece nodes (Print _ k name) piece = IsWrittenOf (node_set nodes k) (printed name) piece
 
 -- the pieces of the commands, in order
 abbrev pub IsOutput : List Node → List Command → List ℕ → Type 0

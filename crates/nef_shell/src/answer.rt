@@ -1,7 +1,7 @@
 //! The answers to questions.
 
 ghost use Rattle.std.specs.Prelude.{◌≡◌};
-ghost use Rattle.nef_shell.specs.Output.{answer_of};
+ghost use Rattle.nef_shell.specs.Output.{answer_of, same_answer};
 
 use nef_geo::Label;
 
@@ -14,4 +14,11 @@ pub(crate) fn answer(label: Label) -> &'static [u8]
         Label::Not => b"not\n",
         Label::In => b"in\n",
     }
+}
+
+/// The line that says whether two sets are one.
+pub(crate) fn same_answer(same: bool) -> &'static [u8]
+    ensures bytes { result.now ≡ same_answer same }
+{
+    if same { b"same\n" } else { b"differs\n" }
 }

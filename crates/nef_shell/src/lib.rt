@@ -1,15 +1,18 @@
 //! The top call of the program: reads the words and the script, checks them, works the commands in
 //! order and writes their answers.
 //!
-//! The definitions stand in specs/: `Output` says what each command writes, `Built` which commands
-//! are worked so far, `Answers` what each status says.
+//! The definitions stand in specs/: `Output` says what each command writes, `Answers` what each
+//! status says.
 #![tactic(auto)]
 
 mod answer;
-mod built;
+mod comparison;
+#[cfg(test)]
+mod empty_text;
 #[cfg(test)]
 mod gates;
 mod line;
+mod listing;
 mod operation;
 mod sets;
 mod status;
@@ -18,6 +21,7 @@ mod top;
 mod uses;
 mod work;
 
+pub use comparison::same_text;
 pub use status::{Status, code};
 pub use top::run;
 

@@ -1,6 +1,7 @@
 //! The complexes of the nodes.
 
-ghost use Rattle.std.specs.Prelude.{◌≡◌, ◌≤◌, ◌<◌, ℕ, [], IfOk, IfSome, OnOk, All, length, slice_index, slice_index_or, vec_len};
+ghost use Rattle.std.specs.Prelude.{◌≡◌, ◌≤◌, ◌<◌, ◌↔◌, ℕ, [], IfOk, IfSome, IsTrue, OnOk, All, length, slice_index, slice_index_or, vec_len};
+ghost use Rattle.nef_space.specs.Local.{SameSet};
 ghost use Rattle.nef_space.specs.Sets.{Set};
 ghost use Rattle.nef_complex.specs.Complexes.{ShowsSet};
 ghost use Rattle.nef_expr.specs.Nodes.{node_set};
@@ -15,7 +16,7 @@ use nef_complex::Complex;
 use nef_core::How;
 use nef_expr::Nodes;
 use nef_io::Gate;
-use nef_ops::{binary, constant, half, unary};
+use nef_ops::{binary, constant, half, same, unary};
 use nef_script::{Command, Script};
 use std::alloc::{AllocError, Global};
 use std::sync::Wait;
@@ -56,6 +57,16 @@ impl<'a> Sets<'a> {
             Some(complex) => complex,
             None => unreachable!(),
         }
+    }
+
+    /// Whether the two nodes stand for one set.
+    pub(crate) fn same(&self, left: usize, right: usize) -> bool
+        requires first { IsKept self.now.nodes.now self.now.list.items left }
+        requires second { IsKept self.now.nodes.now self.now.list.items right }
+        ensures same { IsTrue result ↔ SameSet (node_set self.now.nodes.now left) (node_set self.now.nodes.now right) }
+    {
+        let (a, b) = (self.get(left), self.get(right));
+        same(self.nodes, left, a, self.nodes, right, b)
     }
 
     // The complex of the next node, made of those of its operands.

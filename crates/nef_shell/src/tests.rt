@@ -1,7 +1,11 @@
+use crate::empty_text::EMPTY_TEXT;
 use crate::gates::{Counting, Holding};
-use crate::{Status, code, run};
+use crate::{Status, code, run, same_text};
+use nef_expr::{Node, Nodes};
 use nef_io::{Gate, MemSink, MemSource, OpenGate, SureSource};
+use nef_ops::constant;
 use nef_script::ScriptKind;
+use nef_volumes::parts;
 use std::alloc::{AllocError, Global};
 use std::sync::Wait;
 use std::test::Fail;
@@ -39,11 +43,58 @@ half Pa -1 0 0 -10 closed / half Pb 1 0 0 -10 closed / half Pc 0 -1 0 -10 closed
     and Pg Pa Pb / and Ph Pg Pc / and Pi Ph Pd / and Pj Pi Pe / and P Pj Pf / \
     half a 0 1 0 -4 open / half b 0 -1 0 -4 open / half c 2 1 0 -8 open / \
     half d -2 -1 0 -8 open / half e 2 -1 0 -8 open / half f -2 1 0 -8 open / and g a b / \
-    and h g c / and i h d / and j i e / and H j f / diff K P H / has K 0 0 1 1 / \
-    has K 4 0 1 1 / has K 9 9 1 1 => not / in / in
+    and h g c / and i h d / and j i e / and H j f / diff K P H / count K / \
+    has K 0 0 1 1 / has K 4 0 1 1 / has K 9 9 1 1 => 28 42 18 3 / not / in / in
 half A 0 0 1 0 closed / half B 0 0 -1 0 closed / half C 0 1 0 0 closed / \
     half D 0 -1 0 0 closed / half E -1 0 0 0 closed / and F A B / and G F C / and H G D / \
-    and R H E / diff K A R / has K 0 0 0 1 / has K -1 0 0 1 => not / in";
+    and R H E / diff K A R / count K / has K 0 0 0 1 / has K -1 0 0 1 => 14 22 11 3 / not / in";
+
+// The numbers of a half-space, boxes, a point, an axis, two axes that cross, and a box with corners at halves.
+const COUNTS: &str = "half A 1 0 0 0 closed / count A => 12 20 11 3
+half Aa -1 0 0 0 closed / half Ab 1 0 0 -1 closed / half Ac 0 -1 0 0 closed / \
+    half Ad 0 1 0 -1 closed / half Ae 0 0 -1 0 closed / half Af 0 0 1 -1 closed / and Ag Aa Ab / \
+    and Ah Ag Ac / and Ai Ah Ad / and Aj Ai Ae / and A Aj Af / count A => 16 24 12 3
+half Pa -1 0 0 0 closed / half Pb 1 0 0 0 closed / half Pc 0 -1 0 0 closed / \
+    half Pd 0 1 0 0 closed / half Pe 0 0 -1 0 closed / half Pf 0 0 1 0 closed / and Pg Pa Pb / \
+    and Ph Pg Pc / and Pi Ph Pd / and Pj Pi Pe / and P Pj Pf / count P => 9 12 6 2
+half a 1 0 0 0 closed / half b -1 0 0 0 closed / half c 0 1 0 0 closed / \
+    half d 0 -1 0 0 closed / and e a b / and f e c / and Z f d / count Z => 10 13 6 2
+half a 0 1 0 0 closed / half b 0 -1 0 0 closed / half c 0 0 1 0 closed / \
+    half d 0 0 -1 0 closed / and e a b / and f e c / and X f d / half h 1 0 0 0 closed / \
+    half i -1 0 0 0 closed / half j 0 0 1 0 closed / half k 0 0 -1 0 closed / and l h i / \
+    and m l j / and Y m k / or U X Y / count U => 13 16 6 2
+half Aa -1 0 0 0 closed / half Ab 2 0 0 -1 closed / half Ac 0 -1 0 0 closed / \
+    half Ad 0 2 0 -1 closed / half Ae 0 0 -1 0 closed / half Af 0 0 2 -1 closed / and Ag Aa Ab / \
+    and Ah Ag Ac / and Ai Ah Ad / and Aj Ai Ae / and A Aj Af / count A => 16 24 12 3";
+
+// Sets that are the same, and others.
+const COMPARISONS: &str =
+    "half Aa -1 0 0 0 closed / half Ab 1 0 0 -1 closed / half Ac 0 -1 0 0 closed / \
+    half Ad 0 1 0 -1 closed / half Ae 0 0 -1 0 closed / half Af 0 0 1 -1 closed / and Ag Aa Ab / \
+    and Ah Ag Ac / and Ai Ah Ad / and Aj Ai Ae / and A Aj Af / half Ba -1 0 0 1 closed / \
+    half Bb 1 0 0 -2 closed / half Bc 0 -1 0 0 closed / half Bd 0 1 0 -1 closed / \
+    half Be 0 0 -1 0 closed / half Bf 0 0 1 -1 closed / and Bg Ba Bb / and Bh Bg Bc / \
+    and Bi Bh Bd / and Bj Bi Be / and B Bj Bf / half La -1 0 0 0 closed / \
+    half Lb 1 0 0 -2 closed / half Lc 0 -1 0 0 closed / half Ld 0 1 0 -1 closed / \
+    half Le 0 0 -1 0 closed / half Lf 0 0 1 -1 closed / and Lg La Lb / and Lh Lg Lc / \
+    and Li Lh Ld / and Lj Li Le / and L Lj Lf / or U A B / same U L => same
+half Aa -1 0 0 0 open / half Ab 1 0 0 -1 open / half Ac 0 -1 0 0 open / \
+    half Ad 0 1 0 -1 open / half Ae 0 0 -1 0 open / half Af 0 0 1 -1 open / and Ag Aa Ab / \
+    and Ah Ag Ac / and Ai Ah Ad / and Aj Ai Ae / and A Aj Af / half Ba -1 0 0 1 open / \
+    half Bb 1 0 0 -2 open / half Bc 0 -1 0 0 open / half Bd 0 1 0 -1 open / \
+    half Be 0 0 -1 0 open / half Bf 0 0 1 -1 open / and Bg Ba Bb / and Bh Bg Bc / and Bi Bh Bd / \
+    and Bj Bi Be / and B Bj Bf / half La -1 0 0 0 closed / half Lb 1 0 0 -2 closed / \
+    half Lc 0 -1 0 0 closed / half Ld 0 1 0 -1 closed / half Le 0 0 -1 0 closed / \
+    half Lf 0 0 1 -1 closed / and Lg La Lb / and Lh Lg Lc / and Li Lh Ld / and Lj Li Le / \
+    and L Lj Lf / or U A B / same U L / reg R U / same R L => differs / same
+half Aa -1 0 0 0 closed / half Ab 1 0 0 -1 closed / half Ac 0 -1 0 0 closed / \
+    half Ad 0 1 0 -1 closed / half Ae 0 0 -1 0 closed / half Af 0 0 1 -1 closed / and Ag Aa Ab / \
+    and Ah Ag Ac / and Ai Ah Ad / and Aj Ai Ae / and A Aj Af / bd D A / count D / same D A / \
+    int I D / empty E / same I E => 16 24 12 3 / differs / same
+half A 2 0 0 2 closed / half B 1 0 0 1 closed / same A B => same
+half A 1 0 0 4194304 closed / empty E / same A E / half F 0 0 1 -2048 open / full U / \
+    same F U => same / same
+full U / not N U / empty E / same N E => same";
 
 // A refused script, and the line that it gives.
 const REFUSALS: &str = "ball A => line 1: unknown command
@@ -59,10 +110,7 @@ empty A / has A 0 0 0 0 => line 2: weight out of range
 empty A / has A 8796093022209 0 0 1 => line 2: coefficient out of range
 empty A \x07 => line 1: bad byte
 half A 2048 0 0 0 closed / has A 0 0 0 1 / half B 2049 0 0 0 closed => line 3: coefficient out of range
-half A 2049 0 0 0 closed / has A 0 0 0 1 => line 1: coefficient out of range
-empty E / count E => line 2: not built yet
-empty E / print E => line 2: not built yet
-full U / has U 0 0 0 1 / same U U / print U => line 3: not built yet";
+half A 2049 0 0 0 closed / has A 0 0 0 1 => line 1: coefficient out of range";
 
 // The numbers of workers: one, a few, and the most.
 const WORKERS: &str = "1 2 64";
@@ -182,6 +230,8 @@ fn fits_by<R: Threads + Wait + Sync>(
         let words = ["--workers", workers, "--board", board];
         let all = fits(rt, alloc, &words, ANSWERS, 0)?
             && fits(rt, alloc, &words, SOLIDS, 0)?
+            && fits(rt, alloc, &words, COUNTS, 0)?
+            && fits(rt, alloc, &words, COMPARISONS, 0)?
             && fits(rt, alloc, &words, REFUSALS, 1)?;
         if !all {
             return Ok(false);
@@ -199,6 +249,35 @@ fn by_lock_board(rt: HostRuntime) -> Result<(), Fail> {
 #[test]
 fn by_free_board(rt: HostRuntime) -> Result<(), Fail> {
     assert!(rt; fits_by(&rt, rt.alloc(), "free")?);
+    Ok(())
+}
+
+#[test]
+fn text_of_the_empty_set(rt: HostRuntime) -> Result<(), Fail> {
+    let alloc = rt.alloc();
+    let mut output = String::from_str(alloc, "8 12 6 2\npolyhedron E\n")?;
+    output.push_str(EMPTY_TEXT)?;
+    output.push_str("end\n")?;
+    let script = b"empty E\ncount E\nprint E\n";
+    assert!(rt; gives(&rt, alloc, &[], script, 0, output.as_bytes())?);
+    Ok(())
+}
+
+// The empty set of one list against both nodes of another.
+#[test]
+fn texts_compared(rt: HostRuntime) -> Result<(), Fail> {
+    let alloc = rt.alloc();
+    let mut left = Nodes::new(alloc);
+    left.push(Node::Empty)?;
+    let mut right = Nodes::new(alloc);
+    right.push(Node::Full)?;
+    right.push(Node::Empty)?;
+    let empty = constant(alloc, false)?;
+    let full = constant(alloc, true)?;
+    let p = parts(alloc, &empty)?;
+    let q = parts(alloc, &full)?;
+    assert!(rt; same_text(alloc, &left, 0, &empty, &p, &right, 1, &empty, &p)?);
+    assert!(rt; !same_text(alloc, &left, 0, &empty, &p, &right, 0, &full, &q)?);
     Ok(())
 }
 
@@ -327,6 +406,24 @@ fn write_fault(rt: HostRuntime) -> Result<(), Fail> {
     assert_eq!(rt; status, Status::WriteFault);
     assert_eq!(rt; (code(&status), code(&Status::OutOfMemory)), (4, 5));
     assert_eq!(rt; sink.taken(), b"in\nno".as_slice());
+    Ok(())
+}
+
+// The third write fails, each of at most 16 bytes.
+#[test]
+fn write_fault_in_a_text(rt: HostRuntime) -> Result<(), Fail> {
+    let alloc = rt.alloc();
+    let words = owned(alloc, &[])?;
+    let mut script = unfolded(alloc, UNIT_BOX)?;
+    script.push_str("print A\n")?;
+    let mut source = SureSource::new(alloc, script.as_bytes())?;
+    let mut sink = MemSink::new(alloc, 64, 16, &[3])?;
+    let status = run(&rt, alloc, &words, &mut source, &mut sink, &OpenGate);
+    assert_eq!(rt; status, Status::WriteFault);
+    assert_eq!(rt;
+        sink.taken(),
+        b"polyhedron A\nnef3 1 16 24 12 3\nv".as_slice()
+    );
     Ok(())
 }
 

@@ -1,15 +1,13 @@
 //! The top call.
 
-ghost use Rattle.std.specs.Prelude.{◌≡◌, ◌≤◌, ◌⊎◌, ℕ, List, Some, None, map, string_bytes};
+ghost use Rattle.std.specs.Prelude.{◌≡◌, ◌≤◌, ◌⊎◌, ℕ, List, Some, map, string_bytes};
 ghost use Rattle.nef_io.specs.Bytes.{Rose, Grows, GrowsWithin};
-ghost use Rattle.nef_script.specs.Refusal.{IsAccepted};
+ghost use Rattle.nef_script.specs.Refusal.{FirstRefusal, IsAccepted};
 ghost use Rattle.nef_script.specs.declared.fault.ScriptKind.{ScriptKind as Kind};
 ghost use Rattle.nef_shell.specs.Status.{MatchStatus, IfDone, IfRefused, IfWords, IfReadFault, IfWriteFault, IfOutOfMemory, EndsDone, EndsRefused, EndsWords};
-ghost use Rattle.nef_shell.specs.Built.{first_unbuilt};
 ghost use Rattle.nef_shell.specs.Output.{refusal_line, words_line};
-ghost use Rattle.nef_shell.specs.Answers.{AreAccepted, IsRefused, HasOutput, HasRefusal, HasFront, HasDefinedFront};
+ghost use Rattle.nef_shell.specs.Answers.{AreAccepted, HasOutput, HasRefusal, HasFront, HasDefinedFront};
 
-use crate::built::first_unbuilt;
 use crate::line::refusal_line;
 use crate::status::Status;
 use crate::stop::Stop;
@@ -86,9 +84,6 @@ fn run_script<R: Threads + Wait + Sync, S: Source, K: Sink, G: Gate + Sync>(
         Err(ScriptFault::Refused { line, kind }) => return refuse(alloc, sink, line, kind),
         Err(ScriptFault::OutOfMemory) => return Status::OutOfMemory,
     };
-    if let Some(line) = first_unbuilt(&script) {
-        return refuse(alloc, sink, line, ScriptKind::NotBuilt);
-    }
     match work(rt, alloc, &script, how, sink, gate) {
         Ok(()) => Status::Done,
         Err(Stop::WriteFault) => Status::WriteFault,
@@ -105,8 +100,8 @@ fn run_script<R: Threads + Wait + Sync, S: Source, K: Sink, G: Gate + Sync>(
 /// Sets mean what the CGAL manual, "3D Boolean Operations on Nef Polyhedra", says, within the frame.
 ///
 /// * `Done`: the sink took the output of the script and nothing else; the source is at its end.
-/// * `Refused`: the script is refused, or one of its commands isn't built yet; nothing was worked,
-///   and the sink took exactly `line L: TEXT` and LF.
+/// * `Refused`: the script is refused, and nothing was worked; the sink took exactly `line L: TEXT`
+///   and LF.
 /// * `Words`: the words are refused, and the sink took exactly `words refused` and LF. The source
 ///   wasn't looked at.
 /// * `ReadFault`: the source's count of faults rose, or stands at its last value; nothing was written.
@@ -132,8 +127,8 @@ pub fn run<R: Threads + Wait + Sync, S: Source, K: Sink, G: Gate + Sync>(
     ensures unread { ¬ AreAccepted (map string_bytes words.now) → (S.rest source.new ≡ S.rest source.old) × (S.faults source.new ≡ S.faults source.old) }
 
     // Where no count rises, each status comes where its cause holds, unless memory is wanted.
-    ensures finishes { AreAccepted (map string_bytes words.now) → (bytes : List ℕ) → S.rest source.old ≡ Some bytes → IsAccepted bytes → first_unbuilt bytes ≡ None → ¬ Rose (S.faults source.old) (S.faults source.new) → ¬ Rose (K.faults sink.old) (K.faults sink.new) → EndsDone result }
-    ensures refuses { AreAccepted (map string_bytes words.now) → (bytes : List ℕ) (line : ℕ) (kind : Kind) → S.rest source.old ≡ Some bytes → IsRefused bytes line kind → ¬ Rose (S.faults source.old) (S.faults source.new) → ¬ Rose (K.faults sink.old) (K.faults sink.new) → EndsRefused result line kind }
+    ensures finishes { AreAccepted (map string_bytes words.now) → (bytes : List ℕ) → S.rest source.old ≡ Some bytes → IsAccepted bytes → ¬ Rose (S.faults source.old) (S.faults source.new) → ¬ Rose (K.faults sink.old) (K.faults sink.new) → EndsDone result }
+    ensures refuses { AreAccepted (map string_bytes words.now) → (bytes : List ℕ) (line : ℕ) (kind : Kind) → S.rest source.old ≡ Some bytes → FirstRefusal bytes line kind → ¬ Rose (S.faults source.old) (S.faults source.new) → ¬ Rose (K.faults sink.old) (K.faults sink.new) → EndsRefused result line kind }
     ensures refuses_words { ¬ AreAccepted (map string_bytes words.now) → ¬ Rose (K.faults sink.old) (K.faults sink.new) → EndsWords result }
 {
     match read_words(alloc, words) {

@@ -11,7 +11,8 @@ ghost use Rattle.nef_shell.specs.Commands.{LooksAt, IsWorkable, AreWorkable, bou
 ghost use Rattle.nef_shell.specs.Operations.{IsKept, IsGrown};
 ghost use Rattle.nef_shell.specs.Stops.{MatchStop};
 
-use crate::answer::answer;
+use crate::answer::{answer, same_answer};
+use crate::listing::{count_piece, print_piece};
 use crate::sets::Sets;
 use crate::stop::Stop;
 use nef_core::How;
@@ -68,7 +69,21 @@ fn work_command<R: Threads + Wait + Sync, K: Sink, G: Gate + Sync>(
             put_all(sink, answer(label))?;
             Ok(())
         }
-        Command::Same { .. } | Command::Count { .. } | Command::Print { .. } => unreachable!(),
+        Command::Same { left, right, .. } => {
+            let same = sets.same(*left, *right);
+            put_all(sink, same_answer(same))?;
+            Ok(())
+        }
+        Command::Count { node, .. } => {
+            let piece = count_piece(alloc, sets.get(*node))?;
+            put_all(sink, &piece)?;
+            Ok(())
+        }
+        Command::Print { node, name, .. } => {
+            let piece = print_piece(alloc, name, sets.get(*node))?;
+            put_all(sink, &piece)?;
+            Ok(())
+        }
     }
 }
 

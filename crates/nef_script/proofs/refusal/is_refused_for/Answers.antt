@@ -30,4 +30,4 @@ returns-in-Some c =
     let command : command_in (words_of c.args.text.now) ≡ Some (c.in-Some.verb, pointed c.in-Some.args.now) =
     ap command_in (sym c.requires.words) ∙ sym c.command_of-in_default.ensures.command ∙ ap (option_map (λ p. (p.0, pointed p.1.now))) c.in-Some.is in
     let other = c.in_default in
-    record { refused = c.command_fails.ensures.fails ∙ sym (refused-Some c.args.kind c.args.names.now c.args.text.now c.in-Some.verb (pointed c.in-Some.args.now) command other.not-LineTooLong other.not-BadByte other.not-UnknownCommand other.not-ScriptTooLong other.not-NotBuilt) }
+    record { refused = c.command_fails.ensures.fails ∙ sym (refused-Some c.args.kind c.args.names.now c.args.text.now c.in-Some.verb (pointed c.in-Some.args.now) command other.not-LineTooLong other.not-BadByte other.not-UnknownCommand other.not-ScriptTooLong) }

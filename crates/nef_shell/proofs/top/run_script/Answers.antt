@@ -1,7 +1,7 @@
-use Rattle.std.proofs.Common.{◌∙◌, ap, sym, inl, inr, Err}
-use Rattle.nef_script.specs.declared.fault.ScriptKind.TheVariants.{ScriptTooLong, NotBuilt}
-use Rattle.nef_shell.specs.Answers.{IsRefused, HasFront}
-use Rattle.nef_shell.proofs.Meaning.{unbuilt, first_unbuilt-agrees, script-workable, find-none_of_line}
+use Rattle.std.proofs.Common.{◌∙◌, ap, inl, inr, Err}
+use Rattle.nef_script.specs.declared.fault.ScriptKind.TheVariants.{ScriptTooLong}
+use Rattle.nef_shell.specs.Answers.{HasFront}
+use Rattle.nef_shell.proofs.Meaning.{script-workable}
 use Rattle.nef_shell.proofs.Statuses.{refused-status, too-long}
 use Rattle.nef_shell.proofs.top.run_script.Goals as goal
 
@@ -14,28 +14,19 @@ pub returns-in-Err-Refused : goal.returns-in-Err-Refused
 returns-in-Err-Refused g c =
     let read = rw (← c.deref.ensures.value) at c.in-Ok.ensures.bytes in
     let refused = c.parse.ensures.refused _ _ (c.in-Err-Refused.is ∙ ap Err c.in-Err-Refused.field-0-is) in
-    record { status = refused-status c.refuse-in-Err-Refused.result _ _ _ _ _ _ _ _ c.deref.result.now _ _ (record { taken = read.0; whole = inl read.1 }) (IsRefused.by_script _ _ refused) c.refuse-in-Err-Refused.ensures.status }
-
-pub returns-in-Some : goal.returns-in-Some
-returns-in-Some g c =
-    let read = rw (← c.deref.ensures.value) at c.in-Ok.ensures.bytes in
-    let script = c.in-Ok-parse.ensures.script in
-    let unbuilt_line = first_unbuilt-agrees c.deref.result.now _ _ script.0 script.1 ∙ sym c.in-Some.ensures.first in
-    record { status = refused-status c.refuse-in-Some.result _ _ _ _ _ _ _ _ c.deref.result.now c.in-Some.line NotBuilt (record { taken = read.0; whole = inl read.1 }) (IsRefused.not_built c.in-Some.line script.0 unbuilt_line) c.refuse-in-Some.ensures.status }
+    record { status = refused-status c.refuse-in-Err-Refused.result _ _ _ _ _ _ _ _ c.deref.result.now _ _ (record { taken = read.0; whole = inl read.1 }) refused c.refuse-in-Err-Refused.ensures.status }
 
 pub work-requires-clause-workable : goal.work-requires-clause-workable
 work-requires-clause-workable g c scopes within =
     let script = c.in-Ok-parse.script in
     let parsed = c.in-Ok-parse.ensures.script in
-    let none = find-none_of_line unbuilt script.commands (sym c.in_default.ensures.first) in
-    script-workable c.deref.result.now script.nodes script.commands parsed.0 parsed.1 none
+    script-workable c.deref.result.now script.nodes script.commands parsed.0 parsed.1
 
 pub returns-in-Ok-work : goal.returns-in-Ok-work
 returns-in-Ok-work g c =
     let read = rw (← c.deref.ensures.value) at c.in-Ok.ensures.bytes in
     let script = c.in-Ok-parse.script in
     let parsed = c.in-Ok-parse.ensures.script in
-    let built = first_unbuilt-agrees c.deref.result.now script.nodes script.commands parsed.0 parsed.1 ∙ sym c.in_default.ensures.first in
     let done = c.in-Ok-work.ensures.done in
     record {
       status = record {
@@ -45,7 +36,7 @@ returns-in-Ok-work g c =
         output = done.0;
         taken = read.0;
         at_end = read.1;
-        worked = record { accepted = parsed.0; built = built; means = parsed.1 };
+        worked = record { accepted = parsed.0; means = parsed.1 };
         is_output = done.1;
         written = done.2;
       };
@@ -56,15 +47,13 @@ returns-in-Err-WriteFault g c =
     let read = rw (← c.deref.ensures.value) at c.in-Ok.ensures.bytes in
     let script = c.in-Ok-parse.script in
     let parsed = c.in-Ok-parse.ensures.script in
-    let built = first_unbuilt-agrees c.deref.result.now script.nodes script.commands parsed.0 parsed.1 ∙ sym c.in_default.ensures.first in
     let front = c.in-Err-WriteFault.ensures.front in
-    record { status = (rw c.in-Err-WriteFault.field-0-is at c.in-Err-WriteFault.ensures.stopped, HasFront.of_output c.deref.result.now script.nodes script.commands front.0 front.1 read.0 read.1 (record { accepted = parsed.0; built = built; means = parsed.1 }) front.2 front.3) }
+    record { status = (rw c.in-Err-WriteFault.field-0-is at c.in-Err-WriteFault.ensures.stopped, HasFront.of_output c.deref.result.now script.nodes script.commands front.0 front.1 read.0 read.1 (record { accepted = parsed.0; means = parsed.1 }) front.2 front.3) }
 
 pub returns : goal.returns
 returns g c =
     let read = rw (← c.deref.ensures.value) at c.in-Ok.ensures.bytes in
     let script = c.in-Ok-parse.script in
     let parsed = c.in-Ok-parse.ensures.script in
-    let built = first_unbuilt-agrees c.deref.result.now script.nodes script.commands parsed.0 parsed.1 ∙ sym c.in_default.ensures.first in
     let front = c.in-Err-OutOfMemory-work.ensures.front in
-    record { status = inr (HasFront.of_output c.deref.result.now script.nodes script.commands front.0 front.1 read.0 read.1 (record { accepted = parsed.0; built = built; means = parsed.1 }) front.2 front.3) }
+    record { status = inr (HasFront.of_output c.deref.result.now script.nodes script.commands front.0 front.1 read.0 read.1 (record { accepted = parsed.0; means = parsed.1 }) front.2 front.3) }

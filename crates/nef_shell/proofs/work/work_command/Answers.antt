@@ -2,8 +2,10 @@ use Rattle.std.proofs.Common.{sym, refl, subst, arith}
 use Rattle.std.specs.Prelude.{slice_index_or}
 use Rattle.std.proofs.lemmas.Result.{err_from_is_err_and}
 use Rattle.nef_expr.specs.declared.nodes.Node.TheVariants as node
+use Rattle.nef_expr.specs.Nodes.{node_set}
 use Rattle.nef_shell.specs.Commands.{IsOperand}
-use Rattle.nef_shell.specs.Output.{answer_of}
+use Rattle.nef_shell.specs.Output.{answer_of, same_answer}
+use Rattle.nef_shell.proofs.Outputs.{same-piece}
 use Rattle.nef_shell.proofs.work.work_command.Goals as goal
 
 pub bind-requires-clause-next : goal.bind-requires-clause-next
@@ -21,3 +23,40 @@ returns-in_err-put_all-in-Has-clause-stopped g c =
     let p = err_from_is_err_and c.from_residual-in_err-put_all-in-Has.result c.from_residual-in_err-put_all-in-Has.ensures.1 in
     let label = c.label_at-label.result in
     rw (p.1, p.2) (c.in_err-put_all-in-Has.ensures.failed, (answer_of label, rw c.in-Has.is (label, c.label_at-label.ensures.label, refl), rw (← c.answer.ensures.bytes) c.in_err-put_all-in-Has.ensures.part))
+
+pub returns-in_err-put_all-in-Same-clause-stopped : goal.returns-in_err-put_all-in-Same-clause-stopped
+returns-in_err-put_all-in-Same-clause-stopped g c =
+    let p = err_from_is_err_and c.from_residual-in_err-put_all-in-Same.result c.from_residual-in_err-put_all-in-Same.ensures.1 in
+    let same = c.same-same.result in
+    rw (p.1, p.2) (c.in_err-put_all-in-Same.ensures.failed, (same_answer same, rw c.in-Same.is (same-piece _ _ same c.same-same.ensures.same), rw (← c.same_answer.ensures.bytes) c.in_err-put_all-in-Same.ensures.part))
+
+pub returns-in_err-put_all-in-Count-clause-stopped : goal.returns-in_err-put_all-in-Count-clause-stopped
+returns-in_err-put_all-in-Count-clause-stopped g c =
+    let p = err_from_is_err_and c.from_residual-in_err-put_all-in-Count.result c.from_residual-in_err-put_all-in-Count.ensures.1 in
+    let piece = c.in_ok-piece-in-Count.piece in
+    let set = node_set c.args.sets.now.nodes.now c.in-Count.node in
+    rw (p.1, p.2) (c.in_err-put_all-in-Count.ensures.failed, (piece.items, rw c.in-Count.is (c.in_ok-piece-in-Count.ensures.piece set c.get.ensures.shows), rw (← c.deref.ensures.value) c.in_err-put_all-in-Count.ensures.part))
+
+pub returns-in_err-put_all-in-Print-clause-stopped : goal.returns-in_err-put_all-in-Print-clause-stopped
+returns-in_err-put_all-in-Print-clause-stopped g c =
+    let p = err_from_is_err_and c.from_residual-in_err-put_all-in-Print.result c.from_residual-in_err-put_all-in-Print.ensures.1 in
+    let piece = c.in_ok-piece-in-Print.piece in
+    let set = node_set c.args.sets.now.nodes.now c.in-Print.node in
+    rw (p.1, p.2) (c.in_err-put_all-in-Print.ensures.failed, (piece.items, rw c.in-Print.is (c.in_ok-piece-in-Print.ensures.piece set c.get-in-Print.ensures.shows), rw (← c.deref-in-Print.ensures.value) c.in_err-put_all-in-Print.ensures.part))
+
+pub returns-in_ok-put_all-in-Same-clause-done : goal.returns-in_ok-put_all-in-Same-clause-done
+returns-in_ok-put_all-in-Same-clause-done g c =
+    let same = c.same-same.result in
+    (same_answer same, rw c.in-Same.is (same-piece _ _ same c.same-same.ensures.same), rw (← c.same_answer.ensures.bytes) c.in_ok-put_all-in-Same.ensures.ok)
+
+pub returns-in_ok-put_all-in-Count-clause-done : goal.returns-in_ok-put_all-in-Count-clause-done
+returns-in_ok-put_all-in-Count-clause-done g c =
+    let piece = c.in_ok-piece-in-Count.piece in
+    let set = node_set c.args.sets.now.nodes.now c.in-Count.node in
+    (piece.items, rw c.in-Count.is (c.in_ok-piece-in-Count.ensures.piece set c.get.ensures.shows), rw (← c.deref.ensures.value) c.in_ok-put_all-in-Count.ensures.ok)
+
+pub returns-in_ok-put_all-in-Print-clause-done : goal.returns-in_ok-put_all-in-Print-clause-done
+returns-in_ok-put_all-in-Print-clause-done g c =
+    let piece = c.in_ok-piece-in-Print.piece in
+    let set = node_set c.args.sets.now.nodes.now c.in-Print.node in
+    (piece.items, rw c.in-Print.is (c.in_ok-piece-in-Print.ensures.piece set c.get-in-Print.ensures.shows), rw (← c.deref-in-Print.ensures.value) c.in_ok-put_all-in-Print.ensures.ok)

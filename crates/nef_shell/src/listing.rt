@@ -1,0 +1,73 @@
+//! What is written of a set: its numbers, and its text.
+
+ghost use Rattle.std.specs.Prelude.{◌≡◌, IfOk};
+ghost use Rattle.nef_space.specs.Sets.{Set};
+ghost use Rattle.nef_complex.specs.Complexes.{ShowsSet, complex_of};
+ghost use Rattle.nef_parts.specs.Numbers.{IsParts};
+ghost use Rattle.nef_shell.specs.Output.{count_line, printed, IsWrittenOf};
+
+use itoa::Buffer;
+use nef_canon::write_text;
+use nef_complex::Complex;
+use nef_parts::Parts;
+use nef_script::Name;
+use nef_volumes::parts;
+use std::alloc::{AllocError, Global};
+
+// The numbers of vertices, edges, facets and volumes, in one line.
+fn count_line(alloc: Global, complex: &Complex, parts: &Parts) -> Result<Vec<u8>, AllocError>
+    ensures bytes { IfOk result (λ v. v.items ≡ count_line complex.now parts.now) }
+{
+    let mut number = Buffer::new();
+    let mut bytes = Vec::from_slice(alloc, number.format(complex.vertices.len()).as_bytes())?;
+    bytes.push(b' ')?;
+    bytes.extend_from_slice(number.format(complex.edges.len()).as_bytes())?;
+    bytes.push(b' ')?;
+    bytes.extend_from_slice(number.format(parts.facets.len()).as_bytes())?;
+    bytes.push(b' ')?;
+    bytes.extend_from_slice(number.format(parts.volumes.len()).as_bytes())?;
+    bytes.push(b'\n')?;
+    Ok(bytes)
+}
+
+// The text under its name.
+fn printed(
+    alloc: Global,
+    name: &Name,
+    complex: &Complex,
+    parts: &Parts,
+) -> Result<Vec<u8>, AllocError>
+    requires parts { IsParts (complex_of complex.now) parts.now }
+    ensures bytes { IfOk result (λ v. v.items ≡ printed name.now complex.now parts.now) }
+{
+    let text = write_text(alloc, complex, parts)?;
+    let mut bytes = Vec::from_slice(alloc, b"polyhedron ")?;
+    bytes.extend_from_slice(name.as_bytes())?;
+    bytes.push(b'\n')?;
+    bytes.extend_from_slice(&text)?;
+    bytes.extend_from_slice(b"end\n")?;
+    Ok(bytes)
+}
+
+/// The numbers of vertices, edges, facets and volumes of the set that the complex shows, in one line. `AllocError` says
+/// that memory was wanted and not found.
+pub(crate) fn count_piece(alloc: Global, complex: &Complex) -> Result<Vec<u8>, AllocError>
+    requires shows { (s : Set) × ShowsSet s complex.now }
+    ensures piece { IfOk result (λ v. (s : Set) → ShowsSet s complex.now → IsWrittenOf s count_line v.items) }
+{
+    let parts = parts(alloc, complex)?;
+    count_line(alloc, complex, &parts)
+}
+
+/// The text of the set that the complex shows, under its name. `AllocError` says that memory was wanted and not found.
+pub(crate) fn print_piece(
+    alloc: Global,
+    name: &Name,
+    complex: &Complex,
+) -> Result<Vec<u8>, AllocError>
+    requires shows { (s : Set) × ShowsSet s complex.now }
+    ensures piece { IfOk result (λ v. (s : Set) → ShowsSet s complex.now → IsWrittenOf s (printed name.now) v.items) }
+{
+    let parts = parts(alloc, complex)?;
+    printed(alloc, name, complex, &parts)
+}
