@@ -4,3 +4,4 @@ pub mod Answers
 pub mod Commands
 pub mod Operations
 pub mod Stops
+pub mod Written

@@ -13,8 +13,8 @@ use nef_expr::Nodes;
 use nef_parts::Parts;
 use std::alloc::{AllocError, Global};
 
-/// Whether the texts of node `i` of the one list and of node `j` of the other are equal, byte by byte; then the nodes
-/// stand for the same set. `a` and `b` are complexes that show them, and `p` and `q` the parts of these. `AllocError`
+/// Whether the texts of node `i` of the one list and of node `j` of the other are equal, byte by byte. They are, exactly
+/// where the nodes stand for the same set. `a` and `b` are complexes that show them, and `p` and `q` the parts of these. `AllocError`
 /// says that memory was wanted and not found.
 pub fn same_text(
     alloc: Global,
@@ -34,7 +34,7 @@ pub fn same_text(
     requires second { ShowsSet (node_set right.now j) b.now }
     requires second_parts { IsParts (complex_of b.now) q.now }
     ensures text { IfOk result (λ r. IsTrue r ↔ (text a.now p.now ≡ text b.now q.now)) }
-    ensures one_text { IfOk result (λ r. IsTrue r → SameSet (node_set left.now i) (node_set right.now j)) }
+    ensures same { IfOk result (λ r. IsTrue r ↔ SameSet (node_set left.now i) (node_set right.now j)) }
 {
     let first = write_text(alloc, a, p)?;
     let second = write_text(alloc, b, q)?;

@@ -11,6 +11,7 @@ mod comparison;
 mod empty_text;
 #[cfg(test)]
 mod gates;
+mod laws;
 mod line;
 mod listing;
 mod operation;
@@ -22,6 +23,7 @@ mod uses;
 mod work;
 
 pub use comparison::same_text;
+pub use laws::written_laws;
 pub use status::{Status, code};
 pub use top::run;
 

@@ -1,0 +1,22 @@
+-- What is written of sets tells which sets are one, and which points belong to them.
+use Rattle.std.specs.Prelude.{◌≡◌, ℕ, List, ◌↔◌}
+use Rattle.nef_space.specs.Local.{SameSet}
+use Rattle.nef_space.specs.Place.{Place, InFrame}
+use Rattle.nef_space.specs.Sets.{Set, Holds}
+use Rattle.nef_solid.specs.Belongs.{Belongs}
+use Rattle.nef_complex.specs.declared.complex.Complex.{Complex}
+use Rattle.nef_complex.specs.Complexes.{complex_of}
+use Rattle.nef_parts.specs.Text.{text, Spells}
+use Rattle.nef_shell.specs.Output.{IsWrittenOf, count_line, printed}
+
+-- the texts of two sets are equal exactly where the sets are the same
+abbrev pub TextsTellSets : Type 0
+TextsTellSets = (s t : Set) (x y : List ℕ) → IsWrittenOf s text x → IsWrittenOf t text y → (x ≡ y) ↔ SameSet s t
+
+-- a command has one piece: what it prints and what it counts are determined by the set
+abbrev pub PiecesAreOne : Type 0
+PiecesAreOne = (s t : Set) (name x y : List ℕ) → SameSet s t → (IsWrittenOf s (printed name) x → IsWrittenOf t (printed name) y → x ≡ y) × (IsWrittenOf s count_line x → IsWrittenOf t count_line y → x ≡ y)
+
+-- a point of the frame belongs to a complex that the text spells exactly where the set holds
+abbrev pub TextHolds : Type 0
+TextHolds = (s : Set) (x : List ℕ) (d : Complex) (y : Place) → IsWrittenOf s text x → Spells x d → InFrame y → Belongs (complex_of d) y ↔ Holds s y
