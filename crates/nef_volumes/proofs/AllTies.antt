@@ -1,23 +1,20 @@
 -- The ties of all links together.
-use Rattle.std.proofs.Common.{◌≡◌, ℕ, ◌⊎◌, inl, inr, ⊎_elim, List, ◌++◌, refl, ap, sym, ◌∙◌, subst, ◌↔◌}
+use Rattle.std.proofs.Common.{◌≡◌, ℕ, ◌⊎◌, inl, inr, List, ◌++◌, refl, ◌∙◌, subst, ◌↔◌}
 use Rattle.std.specs.List.{Contains}
 use Rattle.std.proofs.lemmas.List.Elements.{Contains-append_left, Contains-append_right}
-use Rattle.nef_space.specs.Lists.{Chained}
 use Rattle.nef_space.specs.Sets.{Set}
 use Rattle.nef_space.specs.Vectors.{opposite, up}
-use Rattle.nef_space.specs.declared.label.Label.{Label}
-use Rattle.nef_sphere.specs.Maps.{At, Side, around_svertex, above_item, below_item, HasSide, Sees}
+use Rattle.nef_sphere.specs.Maps.{At, Side, around_svertex, above_item, below_item, Sees}
 use Rattle.nef_sphere.proofs.Lists.{at-one}
-use Rattle.nef_smap.proofs.Chains.{chain-here, chain-trans, chain-turned}
+use Rattle.nef_smap.proofs.Chains.{chain-trans, chain-turned}
 use Rattle.nef_solid.specs.Complexes.{Vertex, Edge, Complex, Corner}
 use Rattle.nef_solid.specs.Shows.{Shows}
-use Rattle.nef_solid.specs.Rays.{VertexSide, HasSideLabel, RayDown}
+use Rattle.nef_solid.specs.Rays.{VertexSide, RayDown}
 use Rattle.nef_classes.specs.Tables.{AreTied}
-use Rattle.nef_classes.specs.declared.table.Spot.{Spot}
 use Rattle.nef_classes.specs.declared.table.Tie.{Tie}
-use Rattle.nef_links.specs.Links.{AreAlong, LinkAlong, LinkAcross, IsSideOf, LinkInSface, AreSidesAlong, above_arcs, below_arcs, around_ends, LinkAlongEdge, LinkAcrossFacet, LinkDown, LinkOutside, VolumeLink}
+use Rattle.nef_links.specs.Links.{LinkAlong, LinkAcross, IsSideOf, LinkInSface, AreSidesAlong, above_arcs, below_arcs, around_ends, LinkAcrossFacet, LinkDown, LinkOutside, VolumeLink}
 use Rattle.nef_ties.specs.Ties.{spot_of}
-use Rattle.nef_volumes.specs.Ties.{outside_spot, IsSpotOf, AreLinks, AreTiedSides, AreTiesOf, AreTiedOutside, AreTiesDown, LinkOfItems, LinkOfEnds, LinkOfFacets, AreItemTies}
+use Rattle.nef_volumes.specs.Ties.{outside_spot, AreLinks, AreTiedSides, AreTiesOf, AreTiedOutside, AreTiesDown, LinkOfItems, LinkOfEnds, LinkOfFacets, AreItemTies}
 use Rattle.nef_volumes.proofs.SideSpots.{tie-chain, more-tied, more-sides, both-links, links-as, one-spot}
 use Rattle.nef_volumes.proofs.BelowTies.{linked, one-below}
 
@@ -56,10 +53,26 @@ module _ (C : Complex) where
   as-side x i o p e (l, f, g, h) = (l, f, g ∙ e, h)
 
   of-items : (x y : VertexSide) → LinkOfItems C (LinkOfFacets C) x y → VolumeLink C x y
-  of-items x y (j, k, inl A, inl (f, g)) = inr (inl (record { number = A.number; edge = A.edge; is_edge = A.is_edge; low_side = above_item j.item; high_side = above_item k.item;
-      is_low = at-low x j.vertex A.edge.low (above_item j.item) A.from_low f; is_high = at-low y k.vertex A.edge.high (above_item k.item) A.to_high g; along = above_arcs j.item k.item A.along refl refl }))
-  of-items x y (j, k, inl A, inr (f, g)) = inr (inl (record { number = A.number; edge = A.edge; is_edge = A.is_edge; low_side = below_item j.item; high_side = below_item k.item;
-      is_low = at-low x j.vertex A.edge.low (below_item j.item) A.from_low f; is_high = at-low y k.vertex A.edge.high (below_item k.item) A.to_high g; along = below_arcs j.item k.item A.along refl refl }))
+  of-items x y (j, k, inl A, inl (f, g)) = inr (inl (record {
+    number = A.number;
+    edge = A.edge;
+    is_edge = A.is_edge;
+    low_side = above_item j.item;
+    high_side = above_item k.item;
+    is_low = at-low x j.vertex A.edge.low (above_item j.item) A.from_low f;
+    is_high = at-low y k.vertex A.edge.high (above_item k.item) A.to_high g;
+    along = above_arcs j.item k.item A.along refl refl;
+  }))
+  of-items x y (j, k, inl A, inr (f, g)) = inr (inl (record {
+    number = A.number;
+    edge = A.edge;
+    is_edge = A.is_edge;
+    low_side = below_item j.item;
+    high_side = below_item k.item;
+    is_low = at-low x j.vertex A.edge.low (below_item j.item) A.from_low f;
+    is_high = at-low y k.vertex A.edge.high (below_item k.item) A.to_high g;
+    along = below_arcs j.item k.item A.along refl refl;
+  }))
   of-items x y (j, k, inr A, h) = inr (inr (inl (record { here = j; there = k; across = A; sides = h })))
 
   of-ends : (x y : VertexSide) → LinkOfEnds C x y → VolumeLink C x y
@@ -69,10 +82,18 @@ module _ (C : Complex) where
   ItemsOrEnds x y = LinkOfItems C (LinkOfFacets C) x y ⊎ LinkOfEnds C x y
 
   from-along : (x y : VertexSide) (n : ℕ) (e : Edge) → At C.edges n e → (o p : Side) → IsSideOf C x e.low o → IsSideOf C y e.high p → AreSidesAlong C e o p → ItemsOrEnds x y
-  from-along x y n e a o p f g (above_arcs i j A q r) = inl (record { vertex = e.low; item = i }, record { vertex = e.high; item = j }, inl (record { number = n; edge = e; is_edge = a; from_low = refl; to_high = refl; along = A }),
-      inl (as-side x e.low o (above_item i) q f, as-side y e.high p (above_item j) r g))
-  from-along x y n e a o p f g (below_arcs i j A q r) = inl (record { vertex = e.low; item = i }, record { vertex = e.high; item = j }, inl (record { number = n; edge = e; is_edge = a; from_low = refl; to_high = refl; along = A }),
-      inr (as-side x e.low o (below_item i) q f, as-side y e.high p (below_item j) r g))
+  from-along x y n e a o p f g (above_arcs i j A q r) = inl (
+    record { vertex = e.low; item = i },
+    record { vertex = e.high; item = j },
+    inl (record { number = n; edge = e; is_edge = a; from_low = refl; to_high = refl; along = A }),
+    inl (as-side x e.low o (above_item i) q f, as-side y e.high p (above_item j) r g),
+  )
+  from-along x y n e a o p f g (below_arcs i j A q r) = inl (
+    record { vertex = e.low; item = i },
+    record { vertex = e.high; item = j },
+    inl (record { number = n; edge = e; is_edge = a; from_low = refl; to_high = refl; along = A }),
+    inr (as-side x e.low o (below_item i) q f, as-side y e.high p (below_item j) r g),
+  )
   from-along x y n e a o p f g (around_ends q r) = inr (n, e, a, as-side x e.low o (around_svertex e.low_svertex) q f, as-side y e.high p (around_svertex e.high_svertex) r g)
 
   from-across : (x y : VertexSide) → LinkAcrossFacet C x y → ItemsOrEnds x y

@@ -1,17 +1,17 @@
 -- Sides of items that links join are joined on both sides.
-use Rattle.std.proofs.Common.{◌≡◌, ℕ, ◌⊎◌, inl, inr, Bool, true, false, refl, sym, subst}
+use Rattle.std.proofs.Common.{◌≡◌, ℕ, inl, inr, refl, sym, subst}
 use Rattle.nef_space.specs.Lists.{Chained}
-use Rattle.nef_sphere.specs.Maps.{At, Arc, Item, arc_item, Side, items, item_above, item_below, above_item, below_item}
+use Rattle.nef_sphere.specs.Maps.{At, Item, arc_item, Side, item_above, item_below, above_item, below_item}
 use Rattle.nef_sphere.proofs.Arcs.{at-arc}
 use Rattle.nef_smap.proofs.Chains.{chain-link, chain-map}
 use Rattle.nef_space.specs.Place.{Place, Form}
 use Rattle.nef_space.specs.Vectors.{Vector}
-use Rattle.nef_solid.specs.Complexes.{Vertex, Edge, Complex, Corner, IsCorner}
+use Rattle.nef_solid.specs.Complexes.{Vertex, Complex, Corner, IsCorner}
 use Rattle.nef_solid.specs.Skeleton.{meets_vertex, meets_edge, RayNames}
-use Rattle.nef_solid.specs.Rays.{VertexSide, HasSideLabel}
-use Rattle.nef_links.specs.Links.{LinkAlong, LinkAcross, FacetLink, IsSideOf, above_arcs, below_arcs, VolumeLink}
+use Rattle.nef_solid.specs.Rays.{VertexSide}
+use Rattle.nef_links.specs.Links.{LinkAlong, FacetLink, IsSideOf, above_arcs, below_arcs, VolumeLink}
 use Rattle.nef_parts.specs.Numbers.{above_of, below_of}
-use Rattle.nef_volumes.specs.Parts.{HasItem, side_beside}
+use Rattle.nef_volumes.specs.Parts.{HasItem}
 
 module _ (C : Complex) where
   -- ---- there are items at linked corners
@@ -42,10 +42,16 @@ module _ (C : Complex) where
   link-above j k (inl A) =
       let (v, x, J) = low-corner j k A in
       let (w, y, K) = high-corner j k A in
-      inr (inl (record { number = A.number; edge = A.edge; is_edge = A.is_edge; low_side = above_item j.item; high_side = above_item k.item;
-          is_low = moved (above_of j) j.vertex A.edge.low (above_item j.item) A.from_low (side-above j v x J);
-          is_high = moved (above_of k) k.vertex A.edge.high (above_item k.item) A.to_high (side-above k w y K);
-          along = above_arcs j.item k.item A.along refl refl }))
+      inr (inl (record {
+        number = A.number;
+        edge = A.edge;
+        is_edge = A.is_edge;
+        low_side = above_item j.item;
+        high_side = above_item k.item;
+        is_low = moved (above_of j) j.vertex A.edge.low (above_item j.item) A.from_low (side-above j v x J);
+        is_high = moved (above_of k) k.vertex A.edge.high (above_item k.item) A.to_high (side-above k w y K);
+        along = above_arcs j.item k.item A.along refl refl;
+      }))
   link-above j k (inr A) =
       let (w, y, K) = named-item _ _ _ k A.named in
       inr (inr (inl (record { here = j; there = k; across = A; sides = inl (side-above j A.vertex A.item A.corner, side-above k w y K) })))
@@ -54,10 +60,16 @@ module _ (C : Complex) where
   link-below j k (inl A) =
       let (v, x, J) = low-corner j k A in
       let (w, y, K) = high-corner j k A in
-      inr (inl (record { number = A.number; edge = A.edge; is_edge = A.is_edge; low_side = below_item j.item; high_side = below_item k.item;
-          is_low = moved (below_of j) j.vertex A.edge.low (below_item j.item) A.from_low (side-below j v x J);
-          is_high = moved (below_of k) k.vertex A.edge.high (below_item k.item) A.to_high (side-below k w y K);
-          along = below_arcs j.item k.item A.along refl refl }))
+      inr (inl (record {
+        number = A.number;
+        edge = A.edge;
+        is_edge = A.is_edge;
+        low_side = below_item j.item;
+        high_side = below_item k.item;
+        is_low = moved (below_of j) j.vertex A.edge.low (below_item j.item) A.from_low (side-below j v x J);
+        is_high = moved (below_of k) k.vertex A.edge.high (below_item k.item) A.to_high (side-below k w y K);
+        along = below_arcs j.item k.item A.along refl refl;
+      }))
   link-below j k (inr A) =
       let (w, y, K) = named-item _ _ _ k A.named in
       inr (inr (inl (record { here = j; there = k; across = A; sides = inr (side-below j A.vertex A.item A.corner, side-below k w y K) })))

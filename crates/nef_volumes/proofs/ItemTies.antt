@@ -1,9 +1,9 @@
 -- The ties of the sides of tied items, and of the sides round the ends of edges.
-use Rattle.std.proofs.Common.{◌≡◌, ℕ, ◌<◌, ◌⊎◌, inl, inr, ⊎_elim, List, [], length, map, Bool, true, false, cond, arith, refl, ap, sym, ◌∙◌, subst, ◌↔◌, Some}
+use Rattle.std.proofs.Common.{◌≡◌, ℕ, ◌⊎◌, inl, inr, List, [], map, Bool, true, false, cond, arith, refl, ap, sym, ◌∙◌, subst}
 use Rattle.std.specs.List.{Contains}
-use Rattle.nef_space.specs.Lists.{IsAt, Chained}
+use Rattle.nef_space.specs.Lists.{IsAt}
 use Rattle.nef_space.specs.declared.label.Label.{Label}
-use Rattle.nef_sphere.specs.Maps.{At, Svertex, Item, items, item_above, item_below, Side, around_svertex, above_item, below_item, HasSide}
+use Rattle.nef_sphere.specs.Maps.{At, Item, items, item_above, item_below, Side, around_svertex, above_item, below_item, HasSide}
 use Rattle.nef_sphere.proofs.Lists.{at-one}
 use Rattle.nef_smap.specs.SideNumbers.{number_of}
 use Rattle.nef_smap.proofs.Lists.{at-map}
@@ -16,7 +16,7 @@ use Rattle.nef_classes.specs.declared.table.Tie.{Tie}
 use Rattle.nef_links.specs.Links.{IsSideOf}
 use Rattle.nef_parts.specs.Numbers.{count_items}
 use Rattle.nef_ties.specs.Ties.{spot_of, corner_at, Adds, Any}
-use Rattle.nef_ties.proofs.Adding.{adds-one, adds-both}
+use Rattle.nef_ties.proofs.Adding.{adds-both}
 use Rattle.nef_volumes.specs.Ties.{side_spot, IsSpotOf, IsEndOf, AreTiedSides, AreTiesOf, side_at, IsItemSide, IsSideTie, IsTieOfItems, LinkOfItems, LinkOfEnds, IsAroundSpot, IsTieOfEnds}
 use Rattle.nef_volumes.proofs.SideSpots.{tie-chain, spot-is}
 use Rattle.nef_volumes.proofs.OutsideTies.{only-added}
@@ -28,7 +28,6 @@ item-there C a w =
     let n = r.2 in let l = w.within in
     let x = at-some (items r.0.map) a.column (omega (arith, n, l)) in
     (r.0, x.0, r.1, x.1)
-
 
 has-side : (v : Vertex) (k : ℕ) (x : Item) (b : Bool) → At (items v.map) k x → HasSide v.map (side_at b k) (cond b (item_above x) (item_below x))
 has-side v k x true i = (x, i, refl)
@@ -73,23 +72,31 @@ module _ (C : Complex) (items : List Tie) (W : AreTiedWithin (map count_items C.
 
   of-sides : (b : Bool) (k : ℕ) (t u : Tie) → IsAt items k t → IsSideTie C b t u
       → ((x y : VertexSide) (j l : Corner) → x ≡ side_of b t.first → y ≡ side_of b t.second → j ≡ corner_at t.first → l ≡ corner_at t.second → (m : Label) × HasSideLabel C x m → (n : Label) × HasSideLabel C y n
-          → ((IsSideOf C x j.vertex (above_item j.item) × IsSideOf C y l.vertex (above_item l.item)) ⊎ (IsSideOf C x j.vertex (below_item j.item) × IsSideOf C y l.vertex (below_item l.item))))
+      → ((IsSideOf C x j.vertex (above_item j.item) × IsSideOf C y l.vertex (above_item l.item)) ⊎ (IsSideOf C x j.vertex (below_item j.item) × IsSideOf C y l.vertex (below_item l.item))))
       → (x : VertexSide) × (y : VertexSide) × IsEndOf C x u.first × IsEndOf C y u.second × LinkOfItems C Link x y
   of-sides b k t u i (f, g) both =
       let w = W k t i in
       let x = side_of b t.first in let y = side_of b t.second in
-      let j = corner_at t.first in let l = corner_at t.second in
-      (x, y, inl (end-there b t.first u.first w.0 f), inl (end-there b t.second u.second w.1 g),
-       (j, l, (k, t, i, refl, refl), both x y j l refl refl refl refl (side-there b t.first u.first w.0 f) (side-there b t.second u.second w.1 g)))
+      let j = corner_at t.first in let l = corner_at t.second in (
+        x,
+        y,
+        inl (end-there b t.first u.first w.0 f),
+        inl (end-there b t.second u.second w.1 g),
+        (j, l, (k, t, i, refl, refl), both x y j l refl refl refl refl (side-there b t.first u.first w.0 f) (side-there b t.second u.second w.1 g)),
+      )
 
   only : (u : Tie) → Contains ts u → (x : VertexSide) × (y : VertexSide) × IsEndOf C x u.first × IsEndOf C y u.second × LinkOfItems C Link x y
   only u c = let (k, (t, i, s)) = only-added (Any (IsTieOfItems C items)) ts A u c in by k t i s
     where
       by : (k : ℕ) (t : Tie) → IsAt items k t → IsSideTie C true t u ⊎ IsSideTie C false t u → (x : VertexSide) × (y : VertexSide) × IsEndOf C x u.first × IsEndOf C y u.second × LinkOfItems C Link x y
-      by k t i (inl s) = of-sides true k t u i s (λ x y j l d e f g (m, h) (n, p). inl ((m, ap (λ (z : VertexSide). z.vertex) d ∙ ap (λ (z : Corner). z.vertex) (sym f), ap (λ (z : VertexSide). z.side) d ∙ ap (λ (z : Corner). above_item z.item) (sym f), h),
-          (n, ap (λ (z : VertexSide). z.vertex) e ∙ ap (λ (z : Corner). z.vertex) (sym g), ap (λ (z : VertexSide). z.side) e ∙ ap (λ (z : Corner). above_item z.item) (sym g), p)))
-      by k t i (inr s) = of-sides false k t u i s (λ x y j l d e f g (m, h) (n, p). inr ((m, ap (λ (z : VertexSide). z.vertex) d ∙ ap (λ (z : Corner). z.vertex) (sym f), ap (λ (z : VertexSide). z.side) d ∙ ap (λ (z : Corner). below_item z.item) (sym f), h),
-          (n, ap (λ (z : VertexSide). z.vertex) e ∙ ap (λ (z : Corner). z.vertex) (sym g), ap (λ (z : VertexSide). z.side) e ∙ ap (λ (z : Corner). below_item z.item) (sym g), p)))
+      by k t i (inl s) = of-sides true k t u i s (λ x y j l d e f g (m, h) (n, p). inl (
+        (m, ap (λ (z : VertexSide). z.vertex) d ∙ ap (λ (z : Corner). z.vertex) (sym f), ap (λ (z : VertexSide). z.side) d ∙ ap (λ (z : Corner). above_item z.item) (sym f), h),
+        (n, ap (λ (z : VertexSide). z.vertex) e ∙ ap (λ (z : Corner). z.vertex) (sym g), ap (λ (z : VertexSide). z.side) e ∙ ap (λ (z : Corner). above_item z.item) (sym g), p),
+      ))
+      by k t i (inr s) = of-sides false k t u i s (λ x y j l d e f g (m, h) (n, p). inr (
+        (m, ap (λ (z : VertexSide). z.vertex) d ∙ ap (λ (z : Corner). z.vertex) (sym f), ap (λ (z : VertexSide). z.side) d ∙ ap (λ (z : Corner). below_item z.item) (sym f), h),
+        (n, ap (λ (z : VertexSide). z.vertex) e ∙ ap (λ (z : Corner). z.vertex) (sym g), ap (λ (z : VertexSide). z.side) e ∙ ap (λ (z : Corner). below_item z.item) (sym g), p),
+      ))
 
   -- the element of a side of an item
   spot-there : (b : Bool) (i : Spot) (j : Corner) (x : VertexSide) → i ≡ spot_of j → IsSideOf C x j.vertex (side_at b j.item) → (a : Spot) × IsSpotOf C x a × IsItemSide C b i a

@@ -1,11 +1,11 @@
 -- The ties between sides of one sface.
-use Rattle.std.proofs.Common.{◌≡◌, ℕ, ◌<◌, ◌⊎◌, inl, inr, ⊎_elim, List, [], ◌∷◌, ◌++◌, length, Some, slice_get, arith, refl, ap, sym, ◌∙◌, subst}
+use Rattle.std.proofs.Common.{◌≡◌, ℕ, ◌<◌, ◌⊎◌, inl, inr, List, [], ◌∷◌, ◌++◌, length, Some, slice_get, arith, refl, ap, sym, ◌∙◌, subst}
 use Rattle.std.proofs.lemmas.Bool.{cases_order}
 use Rattle.std.specs.List.{Contains}
 use Rattle.nef_space.specs.Lists.{IsAt, IsChain, Chained}
 use Rattle.nef_space.specs.Vectors.{Vector}
 use Rattle.nef_space.specs.declared.label.Label.{Label}
-use Rattle.nef_sphere.specs.Maps.{At, Map, Side, HasSide, Sees, SeeOne, InOneSface, here, link}
+use Rattle.nef_sphere.specs.Maps.{At, Map, Side, HasSide, Sees, InOneSface, here, link}
 use Rattle.nef_smap.specs.Sides.{LabelledSide, sides_of, IsSide, SideSees, SeeOneWay, AreSfaces}
 use Rattle.nef_smap.specs.Maps.{map_of}
 use Rattle.nef_smap.specs.SideNumbers.{number_of}
@@ -13,7 +13,6 @@ use Rattle.nef_smap.proofs.SideLists.{side-has}
 use Rattle.nef_smap.proofs.SideNumbers.{side-number, number-one}
 use Rattle.nef_smap.proofs.ClassLists.{is-at_one, is-at_within, is-at_some}
 use Rattle.nef_smap.proofs.Chains.{chain-here, chain-link, chain-trans, chain-turned}
-use Rattle.nef_sphere.proofs.Lists.{at-one}
 use Rattle.nef_solid.specs.Complexes.{Vertex, Complex}
 use Rattle.nef_solid.specs.Rays.{VertexSide}
 use Rattle.nef_classes.specs.Tables.{AreTied}
@@ -71,11 +70,13 @@ module _ (C : Complex) (ts : List Tie) (A : Adds (Any (λ i. Any (λ s. Any (IsT
       let ho = side-has v.map r o k g.1 in
       let hp = side-has v.map s p n h.1 in
       let x : VertexSide = record { vertex = i; side = o } in
-      let y : VertexSide = record { vertex = i; side = p } in
-      (x, y,
-       inl (subst (IsSpotOf C x) (sym (ap (λ (u : Tie). u.first) e)) (spot-numbered C i r v o k a ho (number-one v.map r o k g.1))),
-       inl (subst (IsSpotOf C y) (sym (ap (λ (u : Tie). u.second) e)) (spot-numbered C i s v p n a hp (number-one v.map s p n h.1))),
-       record { vertex = v; is_vertex = a; one_vertex = refl; one = k; other = n; has = ho; has_other = hp; one_sface = sface-from_numbers v.map ch.0 r s o p k n g.1 h.1 ch.1 })
+      let y : VertexSide = record { vertex = i; side = p } in (
+        x,
+        y,
+        inl (subst (IsSpotOf C x) (sym (ap (λ (u : Tie). u.first) e)) (spot-numbered C i r v o k a ho (number-one v.map r o k g.1))),
+        inl (subst (IsSpotOf C y) (sym (ap (λ (u : Tie). u.second) e)) (spot-numbered C i s v p n a hp (number-one v.map s p n h.1))),
+        record { vertex = v; is_vertex = a; one_vertex = refl; one = k; other = n; has = ho; has_other = hp; one_sface = sface-from_numbers v.map ch.0 r s o p k n g.1 h.1 ch.1 },
+      )
 
   module _ (i : ℕ) (v : Vertex) (a : At C.vertices i v) where
     tied : (r s : ℕ) → r < s → s < length (sides_of v.map) → Chained (SeeOneWay v.map) r s → Chained (AreTied ts) (side_spot i r) (side_spot i s)
@@ -98,9 +99,13 @@ module _ (C : Complex) (ts : List Tie) (A : Adds (Any (λ i. Any (λ s. Any (IsT
       let c = numbers-from_sface M x.side y.side L.one L.other L.has L.has_other L.one_sface in
       let e = L.one_vertex in
       let b = subst (λ (k : ℕ). At C.vertices k v) (sym e) L.is_vertex in
-      let d = either-order x.vertex v L.is_vertex r s (cases_order r s) (within M x.side L.one L.has) (within M y.side L.other L.has_other) c in
-      (side_spot x.vertex r, side_spot y.vertex s, spot-is C x v L.one L.is_vertex L.has, spot-is C y v L.other b L.has_other,
-       subst (λ (k : ℕ). Chained (AreTied ts) (side_spot x.vertex r) (side_spot k s)) (sym e) d)
+      let d = either-order x.vertex v L.is_vertex r s (cases_order r s) (within M x.side L.one L.has) (within M y.side L.other L.has_other) c in (
+        side_spot x.vertex r,
+        side_spot y.vertex s,
+        spot-is C x v L.one L.is_vertex L.has,
+        spot-is C y v L.other b L.has_other,
+        subst (λ (k : ℕ). Chained (AreTied ts) (side_spot x.vertex r) (side_spot k s)) (sym e) d,
+      )
 
   -- THE SIDES OF EACH SFACE ARE TIED
   pub sface-tied : AreTiesOf C (LinkInSface C) ts

@@ -27,11 +27,7 @@ pub(crate) fn is_outside(map: &SphereMap, side: usize) -> bool
 }
 
 // Adds the ties of the outside with the vertex's sides that have the label Out.
-fn add_outside_sides(
-    ties: &mut Vec<Tie>,
-    c: &Complex,
-    vertex: usize,
-) -> Result<(), OutOfMemory>
+fn add_outside_sides(ties: &mut Vec<Tie>, c: &Complex, vertex: usize) -> Result<(), OutOfMemory>
     requires within { vertex < length c.now.vertices }
     ensures added { OnOk result (Adds (Any (IsTieOutside (complex_of c.now) vertex)) ties.old.items ties.new.items) }
 {

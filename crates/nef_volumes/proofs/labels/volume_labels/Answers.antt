@@ -1,13 +1,11 @@
-use Rattle.std.proofs.Common.{◌≡◌, ◌+◌, ◌<◌, ◌≤◌, ℕ, List, [], ◌∷◌, length, arith, sym, ap, ◌∙◌, subst}
+use Rattle.std.proofs.Common.{ℕ, List, length, arith, sym, ap, ◌∙◌, subst}
 use Rattle.std.proofs.lemmas.List.{length-map}
 use Rattle.nef_space.specs.declared.label.Label.{Label}
-use Rattle.nef_space.specs.declared.label.Label.TheVariants.{Out}
 use Rattle.nef_smap.specs.Maps.{map_of}
-use Rattle.nef_smap.specs.Sides.{sides_of}
 use Rattle.nef_complex.specs.Complexes.{vertex_of, complex_of}
-use Rattle.nef_volumes.specs.Labels.{HasAppeared, AreLabelsTo, AreLabelsOf, AreVolumeLabels}
+use Rattle.nef_volumes.specs.Labels.{HasAppeared, AreLabelsTo, AreVolumeLabels}
 use Rattle.nef_volumes.proofs.ReadVertex.{vertex-there}
-use Rattle.nef_volumes.proofs.VolumeLabels.{outside-first, as-long, row-appeared, row-added, labels-of_volumes}
+use Rattle.nef_volumes.proofs.VolumeLabels.{as-long, row-appeared, row-added, labels-of_volumes}
 use Rattle.nef_volumes.proofs.labels.volume_labels.Goals as goal
 
 pub add_labels-requires-clause-sides : goal.add_labels-requires-clause-sides
@@ -15,7 +13,7 @@ add_labels-requires-clause-sides c =
     let n = c.loop-vertex.vertex in
     let u = c.at-in-loop-vertex.result.now in
     ap (λ (ns : List ℕ). length ns) c.as_slice-row.ensures.all ∙ as-long (complex_of c.args.c.now) c.args.volume_of.now c.requires.numbers n (vertex_of u) (vertex-there c.args.c.now n u c.at-in-loop-vertex.ensures.element)
-        c.at.result.now c.at.ensures.element c.loop-vertex.labels.items c.loop-vertex.invariant
+    c.at.result.now c.at.ensures.element c.loop-vertex.labels.items c.loop-vertex.invariant
 
 pub add_labels-requires-clause-appeared : goal.add_labels-requires-clause-appeared
 add_labels-requires-clause-appeared c =
