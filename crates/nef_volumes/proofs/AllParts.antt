@@ -1,7 +1,6 @@
 -- The parts of a complex, put together.
-use Rattle.std.proofs.Common.{◌≡◌, ℕ, ◌<◌, List, [], ◌∷◌, length, map, arith, refl, ap, sym, ◌∙◌, subst}
+use Rattle.std.proofs.Common.{◌≡◌, ℕ, List, [], ◌∷◌, map, arith, refl, sym, subst}
 use Rattle.nef_space.specs.Lists.{IsAt, Chained}
-use Rattle.nef_space.specs.Sets.{Set}
 use Rattle.nef_space.specs.declared.label.Label.{Label}
 use Rattle.nef_geo.specs.declared.plane.Plane.{Plane}
 use Rattle.nef_sphere.specs.Maps.{At, Item, items, item_above, item_below}
@@ -11,12 +10,11 @@ use Rattle.nef_solid.specs.Complexes.{Vertex, Complex, Corner, IsCorner}
 use Rattle.nef_solid.specs.Rays.{VertexSide, HasSideLabel}
 use Rattle.nef_complex.specs.Complexes.{corner_of}
 use Rattle.nef_complex.specs.declared.complex.Corner.{Corner as ProgramCorner}
-use Rattle.nef_links.specs.Links.{FacetLink, VolumeLink}
+use Rattle.nef_links.specs.Links.{VolumeLink}
 use Rattle.nef_parts.specs.Cycles.{IsCycle, Cycles}
-use Rattle.nef_parts.specs.Numbers.{IsFacetOf, FacetNumbers, IsVolumeOf, VolumeNumbers, above_of, below_of, IsFacetAt, cycle_corners, IsFacet, IsVolume, IsParts}
+use Rattle.nef_parts.specs.Numbers.{IsFacetOf, IsVolumeOf, VolumeNumbers, above_of, below_of, IsFacetAt, cycle_corners, IsFacet, IsParts}
 use Rattle.nef_parts.specs.declared.parts.Cycle.{Cycle}
 use Rattle.nef_parts.specs.declared.parts.Facet.{Facet}
-use Rattle.nef_parts.specs.declared.parts.Parts.{Parts}
 use Rattle.nef_facets.specs.Facets.{IsFacetParts}
 use Rattle.nef_volumes.specs.Labels.{AreVolumeLabels}
 use Rattle.nef_volumes.specs.Parts.{HasItem, IsFirstCorner, HasFirst, AreFacetsOf}

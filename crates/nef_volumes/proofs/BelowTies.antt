@@ -1,21 +1,21 @@
 -- The side above the point where a ray down ends is one, up to its sface.
-use Rattle.std.proofs.Common.{◌≡◌, ℕ, ◌+◌, ◌<◌, ◌≤◌, pos, ◌⊎◌, inl, inr, ⊎_elim, [], ◌∷◌, arith, refl, ap, sym, ◌∙◌, subst}
+use Rattle.std.proofs.Common.{◌≡◌, ℕ, ◌+◌, pos, ◌⊎◌, inl, inr, [], ◌∷◌, arith, ap, sym, ◌∙◌, subst}
 use Rattle.std.proofs.lemmas.Int.{ints}
 use Rattle.nef_exact.proofs.Ring.{ring, at, num, ◌⊕◌, ◌⊖◌, ◌⊗◌}
-use Rattle.nef_space.specs.Place.{Place, Form, form_at, normal_of, slope, plane_through, SamePlace, toward, IsAhead, IsBetween}
+use Rattle.nef_space.specs.Place.{Place, Form, form_at, normal_of, SamePlace, toward, IsBetween}
 use Rattle.nef_space.specs.Sets.{Set}
-use Rattle.nef_space.specs.Vectors.{Vector, IsDirection, IsZero, IsNormal, SameDirection, dot, cross, opposite, blend, plane_axis, up}
+use Rattle.nef_space.specs.Vectors.{Vector, IsDirection, SameDirection, dot, cross, opposite, blend, plane_axis, up}
 use Rattle.nef_space.specs.declared.label.Label.{Label}
 use Rattle.nef_near.proofs.Rays.{same-place_sym}
 use Rattle.nef_cones.proofs.Smooth.{parallel-by}
 use Rattle.nef_build.proofs.SideLabels.{normals-same_way}
 use Rattle.nef_forms.proofs.Between.{between-same}
-use Rattle.nef_sphere.specs.Maps.{At, Item, items, item_normal, above_item, Side, way_of, HasSide, Sees, InOneSface, here, link}
+use Rattle.nef_sphere.specs.Maps.{At, item_normal, above_item, Side, way_of, HasSide, Sees, InOneSface, here, link}
 use Rattle.nef_sphere.proofs.Compare.{SameDirection-turned, SameDirection-trans}
 use Rattle.nef_sphere.proofs.Forms.{on-level}
 use Rattle.nef_sphere.proofs.Vectors.{normal-is}
 use Rattle.nef_sphere.proofs.Lists.{at-one}
-use Rattle.nef_solid.specs.Complexes.{Vertex, Edge, Complex, Corner, IsEdge}
+use Rattle.nef_solid.specs.Complexes.{Vertex, Edge, Complex, Corner}
 use Rattle.nef_solid.specs.Shows.{Shows}
 use Rattle.nef_solid.specs.Skeleton.{item_plane, IsVertexPoint, IsEdgePoint, Spot, at_vertex, on_edge, in_facet, IsSpot, HasCorner}
 use Rattle.nef_solid.specs.Rays.{VertexSide, HasSideLabel, SeesNear, IsAbove, RayDown}

@@ -1,5 +1,5 @@
 -- The ties down the rays from the first vertices.
-use Rattle.std.proofs.Common.{◌≡◌, ℕ, ◌+◌, ◌<◌, ◌⊎◌, inl, inr, ⊎_elim, List, [], ◌∷◌, ◌++◌, arith, refl, sym, subst}
+use Rattle.std.proofs.Common.{◌≡◌, ℕ, ◌+◌, ◌<◌, ◌⊎◌, inl, inr, List, [], ◌∷◌, ◌++◌, arith, sym, subst}
 use Rattle.std.specs.List.{Contains}
 use Rattle.std.proofs.lemmas.List.Elements.{Contains-append_left, Contains-push, Contains-push_cases}
 use Rattle.nef_smap.proofs.ClassLists.{less-or-last}
@@ -10,7 +10,6 @@ use Rattle.nef_complex.specs.Complexes.{complex_of}
 use Rattle.nef_complex.specs.declared.complex.Complex.{Complex as ProgramComplex}
 use Rattle.nef_links.specs.Links.{LinkDown}
 use Rattle.nef_volumes.specs.Ties.{IsTieDown, AreTiesDown}
-use Rattle.nef_volumes.proofs.ReadVertex.{vertex-within}
 
 -- the ties are down rays, and there is one for each of the first n vertices that has such a link
 pub record AreDownTo (C : Complex) (n : ℕ) (ts : List Tie) : Type 0 where

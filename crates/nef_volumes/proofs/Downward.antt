@@ -1,22 +1,21 @@
 -- Rays down from vertices, and the sides that see downward.
-use Rattle.std.proofs.Common.{◌≡◌, ℕ, ◌+◌, ◌*◌, ◌<◌, ◌≤◌, ℤ, pos, neg_ℤ, ◌+ℤ◌, ◌-ℤ◌, ◌*ℤ◌, ◌<ℤ◌, nat_abs, ◌⊎◌, inl, inr, ⊎_elim, List, [], ◌∷◌, length, Option, Some, None, slice_get, arith, refl, ap, sym, ◌∙◌, subst}
+use Rattle.std.proofs.Common.{◌≡◌, ℕ, ◌*◌, ◌<◌, ◌≤◌, pos, ◌<ℤ◌, nat_abs, ⊎_elim, [], ◌∷◌, length, Some, slice_get, arith, refl, ap, sym, ◌∙◌, subst}
 use Rattle.std.proofs.lemmas.Bool.{cases_lt}
 use Rattle.std.proofs.lemmas.Int.{ints}
-use Rattle.nef_exact.proofs.Ring.{ring, at, num, neg, ◌⊕◌, ◌⊖◌, ◌⊗◌}
+use Rattle.nef_exact.proofs.Ring.{ring, at, neg, ◌⊖◌, ◌⊗◌}
 use Rattle.nef_space.specs.Limits.{half_side}
 use Rattle.nef_space.specs.Local.{FlatDim}
-use Rattle.nef_space.specs.Place.{Place, InClosedFrame, IsAhead, IsBetween}
+use Rattle.nef_space.specs.Place.{Place, InClosedFrame, IsAhead}
 use Rattle.nef_space.specs.Sets.{Set}
 use Rattle.nef_space.specs.Vectors.{Vector, IsZero, cross, dot, opposite, up}
 use Rattle.nef_space.specs.declared.label.Label.{Label}
 use Rattle.nef_space.specs.declared.label.Label.TheVariants.{Out}
-use Rattle.nef_geo.specs.Shapes.{place_of, vector_of}
+use Rattle.nef_geo.specs.Shapes.{place_of}
 use Rattle.nef_near.proofs.Alike.{FlatDim-one}
 use Rattle.nef_near.proofs.Frames.{flat_dim-outside}
-use Rattle.nef_sphere.specs.Maps.{At, Svertex, Arc, Loop, arc_item, loop_item, Side, HasSide, Sees, InOneSface, here, link}
+use Rattle.nef_sphere.specs.Maps.{At, arc_item, loop_item, Side, HasSide, Sees, here, link}
 use Rattle.nef_sphere.proofs.Arcs.{at-arc}
 use Rattle.nef_sphere.proofs.Forms.{on-level}
-use Rattle.nef_sphere.proofs.Lists.{at-one}
 use Rattle.nef_smap.specs.declared.map.SphereMap.{SphereMap}
 use Rattle.nef_smap.specs.declared.map.SPlace.TheVariants as place
 use Rattle.nef_smap.specs.Maps.{map_of, IsSphereMap}
@@ -26,14 +25,13 @@ use Rattle.nef_smap.proofs.MapLists.{loop-listed}
 use Rattle.nef_smap.proofs.SideLists.{side-has}
 use Rattle.nef_smap.proofs.SideNumbers.{number-one}
 use Rattle.nef_smap.proofs.Upward.{map-ahead, map-across}
-use Rattle.nef_solid.specs.Complexes.{Vertex, Complex as PlainComplex}
+use Rattle.nef_solid.specs.Complexes.{Vertex}
 use Rattle.nef_solid.specs.Skeleton.{Spot as SkeletonSpot, IsSpot, IsSkeletonPoint}
 use Rattle.nef_solid.specs.Rays.{VertexSide, HasSideLabel, IsAbove, RayDown}
 use Rattle.nef_complex.specs.Complexes.{vertex_of, complex_of, ShowsSet}
 use Rattle.nef_complex.specs.declared.complex.Complex.{Complex}
 use Rattle.nef_complex.specs.declared.complex.Vertex.{Vertex as ProgramVertex}
 use Rattle.nef_classes.specs.declared.table.Spot.{Spot}
-use Rattle.nef_classes.specs.declared.table.Tie.{Tie}
 use Rattle.nef_links.specs.Links.{LinkDown}
 use Rattle.nef_links.proofs.EdgeEnds.{dot-opposite}
 use Rattle.nef_locate.specs.declared.place.Place.{Place as ComplexPlace}

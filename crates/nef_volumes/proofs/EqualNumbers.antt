@@ -1,5 +1,5 @@
 -- Points at items with one facet number are joined, and points at sides with one volume number.
-use Rattle.std.proofs.Common.{◌≡◌, refl}
+use Rattle.std.proofs.Common.{refl}
 use Rattle.nef_complex.specs.Complexes.{complex_of}
 use Rattle.nef_complex.specs.declared.complex.Complex.{Complex}
 use Rattle.nef_links.proofs.ItemLinks.{items-joined}

@@ -1,9 +1,9 @@
 -- Lists of facets, and the numbers of the volumes beside them.
-use Rattle.std.proofs.Common.{◌≡◌, ℕ, ◌+◌, ◌<◌, ◌⊎◌, inl, inr, ⊎_elim, List, [], ◌∷◌, ◌++◌, length, length-append, Bool, true, false, Some, slice_get, arith, refl, ap, sym, ◌∙◌, subst}
+use Rattle.std.proofs.Common.{◌≡◌, ℕ, ◌<◌, ⊎_elim, List, [], ◌∷◌, ◌++◌, length, length-append, Bool, true, false, Some, slice_get, arith, refl, ap, sym, ◌∙◌, subst}
 use Rattle.nef_space.specs.Lists.{IsAt}
 use Rattle.nef_space.specs.declared.label.Label.{Label}
 use Rattle.nef_geo.specs.declared.plane.Plane.{Plane}
-use Rattle.nef_sphere.specs.Maps.{At, Item, items, item_above, item_below, HasSide}
+use Rattle.nef_sphere.specs.Maps.{At, items, item_above, item_below, HasSide}
 use Rattle.nef_smap.specs.Maps.{map_of}
 use Rattle.nef_smap.specs.Sides.{sides_of}
 use Rattle.nef_smap.specs.SideNumbers.{number_of}
@@ -11,10 +11,10 @@ use Rattle.nef_smap.proofs.ClassLists.{is-at_one, is-at_within, is-at_some, is-a
 use Rattle.nef_smap.proofs.Lists.{at-within}
 use Rattle.nef_smap.proofs.SideNumbers.{side-number}
 use Rattle.nef_solid.specs.Complexes.{Vertex, Complex as PlainComplex, Corner as PlainCorner}
-use Rattle.nef_complex.specs.Complexes.{vertex_of, complex_of, corner_of}
+use Rattle.nef_complex.specs.Complexes.{vertex_of, complex_of}
 use Rattle.nef_complex.specs.declared.complex.Complex.{Complex}
 use Rattle.nef_complex.specs.declared.complex.Vertex.{Vertex as ProgramVertex}
-use Rattle.nef_parts.specs.Numbers.{IsSideNumber, IsVolumeOf, VolumeNumbers}
+use Rattle.nef_parts.specs.Numbers.{IsVolumeOf, VolumeNumbers}
 use Rattle.nef_parts.specs.declared.parts.Cycle.{Cycle}
 use Rattle.nef_parts.specs.declared.parts.Facet.{Facet}
 use Rattle.nef_volumes.specs.Ties.{side_at}

@@ -1,17 +1,17 @@
 -- Sides of items that links join are joined on both sides.
-use Rattle.std.proofs.Common.{◌≡◌, ℕ, ◌⊎◌, inl, inr, Bool, true, false, refl, sym, subst}
+use Rattle.std.proofs.Common.{◌≡◌, ℕ, inl, inr, refl, sym, subst}
 use Rattle.nef_space.specs.Lists.{Chained}
-use Rattle.nef_sphere.specs.Maps.{At, Arc, Item, arc_item, Side, items, item_above, item_below, above_item, below_item}
+use Rattle.nef_sphere.specs.Maps.{At, Item, arc_item, Side, item_above, item_below, above_item, below_item}
 use Rattle.nef_sphere.proofs.Arcs.{at-arc}
 use Rattle.nef_smap.proofs.Chains.{chain-link, chain-map}
 use Rattle.nef_space.specs.Place.{Place, Form}
 use Rattle.nef_space.specs.Vectors.{Vector}
-use Rattle.nef_solid.specs.Complexes.{Vertex, Edge, Complex, Corner, IsCorner}
+use Rattle.nef_solid.specs.Complexes.{Vertex, Complex, Corner, IsCorner}
 use Rattle.nef_solid.specs.Skeleton.{meets_vertex, meets_edge, RayNames}
-use Rattle.nef_solid.specs.Rays.{VertexSide, HasSideLabel}
-use Rattle.nef_links.specs.Links.{LinkAlong, LinkAcross, FacetLink, IsSideOf, above_arcs, below_arcs, VolumeLink}
+use Rattle.nef_solid.specs.Rays.{VertexSide}
+use Rattle.nef_links.specs.Links.{LinkAlong, FacetLink, IsSideOf, above_arcs, below_arcs, VolumeLink}
 use Rattle.nef_parts.specs.Numbers.{above_of, below_of}
-use Rattle.nef_volumes.specs.Parts.{HasItem, side_beside}
+use Rattle.nef_volumes.specs.Parts.{HasItem}
 
 module _ (C : Complex) where
   -- ---- there are items at linked corners

@@ -1,9 +1,9 @@
 -- The ties of the sides of tied items, and of the sides round the ends of edges.
-use Rattle.std.proofs.Common.{◌≡◌, ℕ, ◌<◌, ◌⊎◌, inl, inr, ⊎_elim, List, [], length, map, Bool, true, false, cond, arith, refl, ap, sym, ◌∙◌, subst, ◌↔◌, Some}
+use Rattle.std.proofs.Common.{◌≡◌, ℕ, ◌⊎◌, inl, inr, List, [], map, Bool, true, false, cond, arith, refl, ap, sym, ◌∙◌, subst}
 use Rattle.std.specs.List.{Contains}
-use Rattle.nef_space.specs.Lists.{IsAt, Chained}
+use Rattle.nef_space.specs.Lists.{IsAt}
 use Rattle.nef_space.specs.declared.label.Label.{Label}
-use Rattle.nef_sphere.specs.Maps.{At, Svertex, Item, items, item_above, item_below, Side, around_svertex, above_item, below_item, HasSide}
+use Rattle.nef_sphere.specs.Maps.{At, Item, items, item_above, item_below, Side, around_svertex, above_item, below_item, HasSide}
 use Rattle.nef_sphere.proofs.Lists.{at-one}
 use Rattle.nef_smap.specs.SideNumbers.{number_of}
 use Rattle.nef_smap.proofs.Lists.{at-map}
@@ -16,7 +16,7 @@ use Rattle.nef_classes.specs.declared.table.Tie.{Tie}
 use Rattle.nef_links.specs.Links.{IsSideOf}
 use Rattle.nef_parts.specs.Numbers.{count_items}
 use Rattle.nef_ties.specs.Ties.{spot_of, corner_at, Adds, Any}
-use Rattle.nef_ties.proofs.Adding.{adds-one, adds-both}
+use Rattle.nef_ties.proofs.Adding.{adds-both}
 use Rattle.nef_volumes.specs.Ties.{side_spot, IsSpotOf, IsEndOf, AreTiedSides, AreTiesOf, side_at, IsItemSide, IsSideTie, IsTieOfItems, LinkOfItems, LinkOfEnds, IsAroundSpot, IsTieOfEnds}
 use Rattle.nef_volumes.proofs.SideSpots.{tie-chain, spot-is}
 use Rattle.nef_volumes.proofs.OutsideTies.{only-added}

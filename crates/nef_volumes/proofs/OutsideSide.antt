@@ -1,19 +1,18 @@
 -- Some side of each of the program's complexes is outside: the one above a corner of the frame.
-use Rattle.std.proofs.Common.{◌≡◌, ℕ, suc, ◌+◌, ◌*◌, ◌<◌, ℤ, pos, negsuc, neg_ℤ, ◌+ℤ◌, ◌*ℤ◌, ◌<ℤ◌, ◌≤ℤ◌, nat_abs, ◌⊎◌, inl, inr, ⊎_elim, [], ◌∷◌, List, arith, refl, ap, sym, ◌∙◌, subst}
+use Rattle.std.proofs.Common.{◌≡◌, ℕ, ◌+◌, ◌*◌, ◌<◌, ℤ, pos, negsuc, neg_ℤ, ◌+ℤ◌, ◌*ℤ◌, ◌<ℤ◌, nat_abs, [], ◌∷◌, arith, refl, sym, subst}
 use Rattle.std.proofs.lemmas.Int.{ints}
 use Rattle.nef_exact.proofs.Order.{mul_pos, by_order, lt_by}
 use Rattle.nef_exact.proofs.Ring.{at, num, neg, ◌⊕◌, ◌⊖◌, ◌⊗◌}
-use Rattle.nef_space.specs.Place.{Place, Ratio, step, InFrame, SamePlace}
+use Rattle.nef_space.specs.Place.{Place, Ratio}
 use Rattle.nef_space.specs.Sets.{Set}
-use Rattle.nef_space.specs.Local.{IsShort, Germ, Flat, IsVertex}
-use Rattle.nef_space.specs.Vectors.{Vector, vector, IsDirection, dot, up}
-use Rattle.nef_space.specs.declared.label.Label.{Label}
+use Rattle.nef_space.specs.Local.{Germ, IsVertex}
+use Rattle.nef_space.specs.Vectors.{Vector, vector, up}
 use Rattle.nef_space.specs.declared.label.Label.TheVariants.{Out}
 use Rattle.nef_geo.proofs.InPlane.{up-direction}
 use Rattle.nef_near.specs.Cones.{slide, FlatCone}
 use Rattle.nef_near.proofs.Flats.{FlatCone-from_flat}
 use Rattle.nef_near.proofs.Rays.{Germ-same, same-place_sym}
-use Rattle.nef_sphere.specs.Maps.{At, Svertex, Item, items, item_normal, OnItem, HasSide, MapLabel, at_svertex, on_item, seen, SeenAs}
+use Rattle.nef_sphere.specs.Maps.{At, MapLabel, at_svertex, on_item, seen, SeenAs}
 use Rattle.nef_sphere.proofs.Compare.{way-self}
 use Rattle.nef_sphere.proofs.Forms.{on-level}
 use Rattle.nef_smap.specs.declared.map.SphereMap.{SphereMap}

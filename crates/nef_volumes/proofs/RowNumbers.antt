@@ -1,5 +1,5 @@
 -- The numbers of the table of sides are those of the volumes.
-use Rattle.std.proofs.Common.{◌≡◌, ℕ, zero, suc, ◌+◌, ◌<◌, ◌≤◌, pos, ◌<ℤ◌, ◌⊎◌, inl, inr, ⊎_elim, List, [], ◌∷◌, ◌++◌, length, take, drop, map, arith, refl, ap, sym, ◌∙◌, subst, ◌↔◌}
+use Rattle.std.proofs.Common.{◌≡◌, ℕ, zero, suc, ◌+◌, ◌<◌, ◌≤◌, pos, ◌⊎◌, inl, inr, List, [], ◌∷◌, ◌++◌, length, take, drop, map, arith, refl, ap, sym, ◌∙◌, subst, ◌↔◌}
 use Rattle.std.proofs.lemmas.Int.{ints}
 use Rattle.std.proofs.lemmas.List.{length-map}
 use Rattle.nef_space.specs.Lists.{IsAt, IsChain, Chained, IsInTable}
@@ -7,15 +7,12 @@ use Rattle.nef_space.specs.Numbers.{IsBelow}
 use Rattle.nef_space.specs.Sets.{Set}
 use Rattle.nef_space.specs.declared.label.Label.{Label}
 use Rattle.nef_space.specs.declared.label.Label.TheVariants.{Out}
-use Rattle.nef_sphere.specs.Maps.{At}
-use Rattle.nef_smap.specs.Sides.{sides_of, IsSide}
-use Rattle.nef_smap.specs.SideNumbers.{number_of}
+use Rattle.nef_smap.specs.Sides.{sides_of}
 use Rattle.nef_smap.proofs.Lists.{map-at}
 use Rattle.nef_smap.proofs.SideLists.{side-has, at-from_get, get-from_at}
-use Rattle.nef_smap.proofs.SideNumbers.{side-number, number-one}
+use Rattle.nef_smap.proofs.SideNumbers.{number-one}
 use Rattle.nef_smap.proofs.ClassLists.{is-at_within, is-at_some}
-use Rattle.nef_smap.proofs.Chains.{chain-turned}
-use Rattle.nef_solid.specs.Complexes.{Vertex, Complex}
+use Rattle.nef_solid.specs.Complexes.{Complex}
 use Rattle.nef_solid.specs.Shows.{Shows}
 use Rattle.nef_solid.specs.Rays.{VertexSide, HasSideLabel}
 use Rattle.nef_classes.specs.Tables.{AreTied, IsSpotBelow, HasCounts, IsSpotNumber, AreNumbers}

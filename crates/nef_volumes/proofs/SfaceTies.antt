@@ -1,11 +1,11 @@
 -- The ties between sides of one sface.
-use Rattle.std.proofs.Common.{◌≡◌, ℕ, ◌<◌, ◌⊎◌, inl, inr, ⊎_elim, List, [], ◌∷◌, ◌++◌, length, Some, slice_get, arith, refl, ap, sym, ◌∙◌, subst}
+use Rattle.std.proofs.Common.{◌≡◌, ℕ, ◌<◌, ◌⊎◌, inl, inr, List, [], ◌∷◌, ◌++◌, length, Some, slice_get, arith, refl, ap, sym, ◌∙◌, subst}
 use Rattle.std.proofs.lemmas.Bool.{cases_order}
 use Rattle.std.specs.List.{Contains}
 use Rattle.nef_space.specs.Lists.{IsAt, IsChain, Chained}
 use Rattle.nef_space.specs.Vectors.{Vector}
 use Rattle.nef_space.specs.declared.label.Label.{Label}
-use Rattle.nef_sphere.specs.Maps.{At, Map, Side, HasSide, Sees, SeeOne, InOneSface, here, link}
+use Rattle.nef_sphere.specs.Maps.{At, Map, Side, HasSide, Sees, InOneSface, here, link}
 use Rattle.nef_smap.specs.Sides.{LabelledSide, sides_of, IsSide, SideSees, SeeOneWay, AreSfaces}
 use Rattle.nef_smap.specs.Maps.{map_of}
 use Rattle.nef_smap.specs.SideNumbers.{number_of}
@@ -13,7 +13,6 @@ use Rattle.nef_smap.proofs.SideLists.{side-has}
 use Rattle.nef_smap.proofs.SideNumbers.{side-number, number-one}
 use Rattle.nef_smap.proofs.ClassLists.{is-at_one, is-at_within, is-at_some}
 use Rattle.nef_smap.proofs.Chains.{chain-here, chain-link, chain-trans, chain-turned}
-use Rattle.nef_sphere.proofs.Lists.{at-one}
 use Rattle.nef_solid.specs.Complexes.{Vertex, Complex}
 use Rattle.nef_solid.specs.Rays.{VertexSide}
 use Rattle.nef_classes.specs.Tables.{AreTied}

@@ -1,17 +1,17 @@
 -- The sides of a volume have one label.
 use Rattle.std.proofs.Common.{◌≡◌, ℕ, refl, subst}
 use Rattle.nef_space.specs.Lists.{Chained}
-use Rattle.nef_space.specs.Local.{HasLabel, Joined}
+use Rattle.nef_space.specs.Local.{HasLabel}
 use Rattle.nef_space.specs.Place.{Place}
 use Rattle.nef_space.specs.Sets.{Set}
-use Rattle.nef_space.specs.Vectors.{zero_vector, up}
+use Rattle.nef_space.specs.Vectors.{zero_vector}
 use Rattle.nef_space.specs.declared.label.Label.{Label}
 use Rattle.nef_near.proofs.Decisions.{ahead, near-ahead}
 use Rattle.nef_near.proofs.Germs.{label-one}
 use Rattle.nef_near.proofs.Rays.{Germ-zero}
 use Rattle.nef_near.proofs.Topology.{near-germ_zero}
 use Rattle.nef_near.proofs.Even.{joined-germs, labels-by_germs}
-use Rattle.nef_sphere.specs.Maps.{At, HasSide, item_normal, seen}
+use Rattle.nef_sphere.specs.Maps.{At, item_normal, seen}
 use Rattle.nef_smap.specs.Maps.{IsSmall}
 use Rattle.nef_smap.proofs.Lists.{at-map}
 use Rattle.nef_smap.proofs.SideLists.{get-from_at}

@@ -1,26 +1,25 @@
 -- Sides and their elements; lists of ties put together.
-use Rattle.std.proofs.Common.{◌≡◌, ℕ, suc, ◌+◌, ◌<◌, ◌⊎◌, inl, inr, ⊎_elim, List, [], ◌∷◌, ◌++◌, length, map, get_or, arith, refl, ap, sym, ◌∙◌, subst, ◌↔◌}
+use Rattle.std.proofs.Common.{◌≡◌, ℕ, suc, ◌+◌, inl, inr, ⊎_elim, List, ◌++◌, map, arith, refl, ap, sym, ◌∙◌, subst, ◌↔◌}
 use Rattle.std.specs.List.{Contains}
-use Rattle.std.proofs.lemmas.List.Elements.{Contains-append_left, Contains-append_right, Contains-append_cases}
+use Rattle.std.proofs.lemmas.List.Elements.{Contains-append_cases}
 use Rattle.nef_space.specs.Lists.{IsAt, Chained}
 use Rattle.nef_space.specs.declared.label.Label.{Label}
-use Rattle.nef_space.specs.declared.label.Label.TheVariants.{Out}
 use Rattle.nef_sphere.specs.Maps.{At, Side, HasSide}
 use Rattle.nef_sphere.proofs.Lists.{at-one}
 use Rattle.nef_smap.specs.Sides.{LabelledSide, sides_of, IsSide}
 use Rattle.nef_smap.specs.SideNumbers.{number_of}
 use Rattle.nef_smap.proofs.Lists.{map-at}
 use Rattle.nef_smap.proofs.SideLists.{get-from_at}
-use Rattle.nef_smap.proofs.SideNumbers.{side-number, number-one}
+use Rattle.nef_smap.proofs.SideNumbers.{side-number}
 use Rattle.nef_smap.proofs.ClassLists.{is-at_one, is-at_within, is-at_get, is-at_is}
 use Rattle.nef_smap.proofs.Chains.{chain-here, chain-link, chain-map}
 use Rattle.nef_solid.specs.Complexes.{Vertex, Complex}
-use Rattle.nef_solid.specs.Rays.{VertexSide, HasSideLabel}
+use Rattle.nef_solid.specs.Rays.{VertexSide}
 use Rattle.nef_classes.specs.Tables.{IsSpotIn, AreTied, AreTiedWithin}
 use Rattle.nef_classes.specs.declared.table.Spot.{Spot}
 use Rattle.nef_classes.specs.declared.table.Tie.{Tie}
-use Rattle.nef_links.specs.Links.{LinkOutside, VolumeLink}
-use Rattle.nef_parts.specs.Numbers.{count_sides, IsSideNumber}
+use Rattle.nef_links.specs.Links.{VolumeLink}
+use Rattle.nef_parts.specs.Numbers.{count_sides}
 use Rattle.nef_volumes.specs.Ties.{outside_spot, side_spot, row_counts, IsSpotOf, IsEndOf, AreLinks, AreTiedSides, AreTiesOf}
 use Rattle.nef_volumes.proofs.Agree.{chains-agree}
 

@@ -1,5 +1,5 @@
 -- The labels of volumes: one for each number, that of all sides with the number.
-use Rattle.std.proofs.Common.{◌≡◌, ℕ, zero, suc, ◌+◌, ◌<◌, ◌≤◌, pos, ◌<ℤ◌, ◌⊎◌, inl, inr, ⊎_elim, List, [], ◌∷◌, ◌++◌, length, length-append, arith, refl, ap, sym, ◌∙◌, subst}
+use Rattle.std.proofs.Common.{◌≡◌, ℕ, zero, suc, ◌+◌, ◌<◌, ◌≤◌, pos, ◌⊎◌, inl, inr, ⊎_elim, List, [], ◌∷◌, ◌++◌, length, length-append, arith, refl, ap, sym, ◌∙◌, subst}
 use Rattle.std.proofs.lemmas.Bool.{cases_order}
 use Rattle.std.proofs.lemmas.Int.{ints}
 use Rattle.nef_space.specs.Lists.{IsAt, IsInTable}
@@ -12,15 +12,14 @@ use Rattle.nef_sphere.proofs.Lists.{at-one}
 use Rattle.nef_smap.specs.Sides.{sides_of, IsSide}
 use Rattle.nef_smap.specs.SideNumbers.{number_of}
 use Rattle.nef_smap.proofs.Lists.{at-within}
-use Rattle.nef_smap.proofs.SideLists.{side-has, at-from_get}
+use Rattle.nef_smap.proofs.SideLists.{side-has}
 use Rattle.nef_smap.proofs.SideNumbers.{side-number, number-one as number-is}
-use Rattle.nef_smap.proofs.ClassLists.{is-at_one, is-at_within, is-at_some, is-at_left, is-at_last, less-or-last, Either, is-at_either}
+use Rattle.nef_smap.proofs.ClassLists.{is-at_one, is-at_within, is-at_some, is-at_left, is-at_last, less-or-last}
 use Rattle.nef_solid.specs.Complexes.{Vertex, Complex}
-use Rattle.nef_solid.specs.Shows.{Shows}
 use Rattle.nef_solid.specs.Rays.{VertexSide, HasSideLabel}
 use Rattle.nef_complex.specs.Complexes.{complex_of, ShowsSet}
 use Rattle.nef_complex.specs.declared.complex.Complex.{Complex as ProgramComplex}
-use Rattle.nef_parts.specs.Numbers.{HasRows, count_sides, IsSideNumber, IsVolumeOf, IsSideBelow, VolumeNumbers}
+use Rattle.nef_parts.specs.Numbers.{IsSideNumber, IsVolumeOf, VolumeNumbers}
 use Rattle.nef_volumes.specs.Labels.{HasAppeared, AreLabelsTo, AreLabelsOf, AreVolumeLabels}
 use Rattle.nef_volumes.proofs.SideLabels.{upright, chain-label}
 use Rattle.nef_volumes.proofs.OutsideSide.{out-side}

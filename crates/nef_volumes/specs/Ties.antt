@@ -7,7 +7,7 @@ use Rattle.nef_space.specs.declared.label.Label.TheVariants.{Out}
 use Rattle.nef_sphere.specs.Maps.{At, Svertex, Side, around_svertex, above_item, below_item, HasSide}
 use Rattle.nef_smap.specs.Sides.{sides_of, IsSide, SeeOneWay}
 use Rattle.nef_smap.specs.SideNumbers.{number_of}
-use Rattle.nef_solid.specs.Complexes.{Vertex, Edge, Complex, Corner, HasEnds}
+use Rattle.nef_solid.specs.Complexes.{Vertex, Edge, Complex, Corner}
 use Rattle.nef_solid.specs.Rays.{VertexSide, HasSideLabel, RayDown}
 use Rattle.nef_classes.specs.Tables.{AreTied}
 use Rattle.nef_classes.specs.declared.table.Spot.{Spot}

@@ -1,4 +1,3 @@
-use Rattle.std.proofs.Common.{arith, subst, sym, ap, ◌∙◌}
 use Rattle.nef_complex.specs.Complexes.{corner_of}
 use Rattle.nef_volumes.proofs.FacetLists.{corner-within, item-within, side-within, volume-is}
 use Rattle.nef_volumes.proofs.all.volume_at.Goals as goal

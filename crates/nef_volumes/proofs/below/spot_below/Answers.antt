@@ -3,9 +3,7 @@ use Rattle.nef_space.specs.Place.{IsAhead}
 use Rattle.nef_space.specs.Vectors.{Vector, opposite}
 use Rattle.nef_geo.specs.Shapes.{place_of, vector_of}
 use Rattle.nef_complex.specs.Complexes.{complex_of}
-use Rattle.nef_locate.specs.declared.place.Place.{Place}
 use Rattle.nef_locate.specs.Places.{IsFirstHit}
-use Rattle.nef_locate.specs.Rays.{IsSideAbove}
 use Rattle.nef_locate.proofs.FacetFound.{as-none}
 use Rattle.nef_locate.proofs.Located.{met-of_skeleton}
 use Rattle.nef_volumes.proofs.Downward.{vertex-framed, above-within, spot-above, none-below}

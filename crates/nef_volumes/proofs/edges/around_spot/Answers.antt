@@ -1,15 +1,10 @@
-use Rattle.std.proofs.Common.{◌≡◌, Option, Some, None, arith, ap, sym, ◌∙◌, subst}
-use Rattle.std.proofs.lemmas.List.{length-map}
-use Rattle.nef_space.specs.declared.label.Label.{Label}
-use Rattle.nef_sphere.specs.Maps.{At, Svertex}
-use Rattle.nef_sphere.proofs.Lists.{at-one}
-use Rattle.nef_smap.specs.Maps.{map_of, svertex_of}
-use Rattle.nef_smap.proofs.Lists.{map-at, at-within}
+use Rattle.std.proofs.Common.{arith, ap, ◌∙◌}
+use Rattle.nef_smap.specs.Maps.{svertex_of}
+use Rattle.nef_smap.proofs.Lists.{map-at}
 use Rattle.nef_smap.proofs.SideLists.{at-from_get}
-use Rattle.nef_solid.specs.Complexes.{Vertex}
 use Rattle.nef_complex.specs.Complexes.{vertex_of}
 use Rattle.nef_volumes.specs.Ties.{side_spot}
-use Rattle.nef_volumes.proofs.ReadVertex.{vertex-there, vertex-read}
+use Rattle.nef_volumes.proofs.ReadVertex.{vertex-there}
 use Rattle.nef_volumes.proofs.EndsFound.{svertex-within, none-around}
 use Rattle.nef_volumes.proofs.edges.around_spot.Goals as goal
 

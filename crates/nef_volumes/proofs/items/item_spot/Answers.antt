@@ -1,4 +1,4 @@
-use Rattle.std.proofs.Common.{arith, subst, ap, ◌∙◌}
+use Rattle.std.proofs.Common.{subst, ap, ◌∙◌}
 use Rattle.nef_sphere.specs.Maps.{At, items}
 use Rattle.nef_solid.specs.Complexes.{Vertex}
 use Rattle.nef_smap.specs.Maps.{map_of}

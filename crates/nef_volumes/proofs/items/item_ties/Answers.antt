@@ -1,4 +1,4 @@
-use Rattle.std.proofs.Common.{List, [], get_or, length, arith, sym, ◌∙◌, subst, true, false}
+use Rattle.std.proofs.Common.{List, [], get_or, arith, sym, subst, true, false}
 use Rattle.nef_classes.specs.declared.table.Tie.{Tie}
 use Rattle.nef_smap.proofs.ClassLists.{is-at_get, is-at_within}
 use Rattle.nef_complex.specs.Complexes.{complex_of}

@@ -1,6 +1,5 @@
-use Rattle.std.proofs.Common.{◌≡◌, ◌+◌, ◌<◌, List, length, get_or, arith, sym, ap, ◌∙◌, subst}
+use Rattle.std.proofs.Common.{◌+◌, ◌<◌, List, length, get_or, arith, sym, ap, ◌∙◌, subst}
 use Rattle.nef_arc.proofs.SignNumbers.{not_true}
-use Rattle.nef_space.specs.Lists.{IsAt}
 use Rattle.nef_space.specs.declared.label.Label.{Label}
 use Rattle.nef_smap.specs.Maps.{map_of}
 use Rattle.nef_smap.proofs.ClassLists.{is-at_get}

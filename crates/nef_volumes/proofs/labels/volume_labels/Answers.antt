@@ -1,13 +1,11 @@
-use Rattle.std.proofs.Common.{◌≡◌, ◌+◌, ◌<◌, ◌≤◌, ℕ, List, [], ◌∷◌, length, arith, sym, ap, ◌∙◌, subst}
+use Rattle.std.proofs.Common.{ℕ, List, length, arith, sym, ap, ◌∙◌, subst}
 use Rattle.std.proofs.lemmas.List.{length-map}
 use Rattle.nef_space.specs.declared.label.Label.{Label}
-use Rattle.nef_space.specs.declared.label.Label.TheVariants.{Out}
 use Rattle.nef_smap.specs.Maps.{map_of}
-use Rattle.nef_smap.specs.Sides.{sides_of}
 use Rattle.nef_complex.specs.Complexes.{vertex_of, complex_of}
-use Rattle.nef_volumes.specs.Labels.{HasAppeared, AreLabelsTo, AreLabelsOf, AreVolumeLabels}
+use Rattle.nef_volumes.specs.Labels.{HasAppeared, AreLabelsTo, AreVolumeLabels}
 use Rattle.nef_volumes.proofs.ReadVertex.{vertex-there}
-use Rattle.nef_volumes.proofs.VolumeLabels.{outside-first, as-long, row-appeared, row-added, labels-of_volumes}
+use Rattle.nef_volumes.proofs.VolumeLabels.{as-long, row-appeared, row-added, labels-of_volumes}
 use Rattle.nef_volumes.proofs.labels.volume_labels.Goals as goal
 
 pub add_labels-requires-clause-sides : goal.add_labels-requires-clause-sides

@@ -1,12 +1,10 @@
-use Rattle.std.proofs.Common.{◌≡◌, List, ◌++◌, inl, inr, map, sym, ap, ◌∙◌, subst}
+use Rattle.std.proofs.Common.{◌≡◌, List, ◌++◌, map, sym, ap, ◌∙◌, subst}
 use Rattle.nef_classes.specs.Tables.{AreTied, AreTiedWithin}
 use Rattle.nef_classes.specs.declared.table.Tie.{Tie}
 use Rattle.nef_complex.specs.Complexes.{complex_of}
-use Rattle.nef_links.specs.Links.{LinkAlong, LinkAcross}
-use Rattle.nef_solid.specs.Complexes.{Corner}
 use Rattle.nef_parts.specs.Numbers.{count_items}
 use Rattle.nef_ties.specs.Ties.{spot_of}
-use Rattle.nef_volumes.specs.Ties.{AreTiesOf, LinkOfItems, LinkOfFacets, AreItemTies}
+use Rattle.nef_volumes.specs.Ties.{AreTiesOf, LinkOfItems, AreItemTies}
 use Rattle.nef_volumes.proofs.AllTies.{items-linked}
 use Rattle.nef_volumes.proofs.links.linked_items.Goals as goal
 

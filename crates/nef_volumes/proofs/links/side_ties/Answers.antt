@@ -1,5 +1,4 @@
 use Rattle.std.proofs.Common.{◌≡◌, List, ◌++◌, sym, ap, ◌∙◌, subst}
-use Rattle.std.specs.List.{Contains}
 use Rattle.nef_classes.specs.declared.table.Tie.{Tie}
 use Rattle.nef_complex.specs.Complexes.{complex_of}
 use Rattle.nef_links.specs.Links.{VolumeLink}

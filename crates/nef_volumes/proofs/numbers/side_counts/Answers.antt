@@ -1,4 +1,4 @@
-use Rattle.std.proofs.Common.{◌≤◌, List, ◌∷◌, length, map, take, ap, ◌∙◌, subst}
+use Rattle.std.proofs.Common.{◌≤◌, List, ◌∷◌, length, map, ap, ◌∙◌, subst}
 use Rattle.std.proofs.lemmas.List.{take_all}
 use Rattle.nef_complex.specs.Complexes.{vertex_of}
 use Rattle.nef_complex.specs.declared.complex.Vertex.{Vertex}

@@ -1,4 +1,4 @@
-use Rattle.std.proofs.Common.{◌≡◌, ℕ, ◌+◌, List, ◌++◌, take, drop, ap, sym, ◌∙◌, subst}
+use Rattle.std.proofs.Common.{ℕ, ◌+◌, List, ◌++◌, take, drop, ap, sym, ◌∙◌, subst}
 use Rattle.nef_classes.specs.Tables.{AreTiedWithin, HasCounts, AreNumbers}
 use Rattle.nef_classes.specs.declared.table.Tie.{Tie}
 use Rattle.nef_complex.specs.Complexes.{complex_of}
@@ -6,7 +6,7 @@ use Rattle.nef_links.specs.Links.{VolumeLink}
 use Rattle.nef_volumes.specs.Ties.{row_counts}
 use Rattle.nef_volumes.proofs.SideSpots.{ties-within}
 use Rattle.nef_volumes.proofs.SideLabels.{upright}
-use Rattle.nef_volumes.proofs.RowNumbers.{rest-numbered, some-row}
+use Rattle.nef_volumes.proofs.RowNumbers.{rest-numbered}
 use Rattle.nef_volumes.proofs.numbers.volume_numbers.Goals as goal
 
 pub number_rows-requires : goal.number_rows-requires

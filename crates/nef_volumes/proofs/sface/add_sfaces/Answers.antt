@@ -1,5 +1,4 @@
-use Rattle.std.proofs.Common.{List, length, arith, sym, ap, ◌∙◌, subst}
-use Rattle.nef_classes.specs.declared.table.Tie.{Tie}
+use Rattle.std.proofs.Common.{List, arith, subst}
 use Rattle.nef_ties.specs.Ties.{Adds, Any}
 use Rattle.nef_ties.proofs.Adding.{any-start, any-next, any-all}
 use Rattle.nef_volumes.specs.Ties.{IsTieNumbered}

@@ -1,4 +1,4 @@
-use Rattle.std.proofs.Common.{List, [], length, arith, sym, subst}
+use Rattle.std.proofs.Common.{List, [], arith, sym, subst}
 use Rattle.nef_classes.specs.declared.table.Tie.{Tie}
 use Rattle.nef_complex.specs.Complexes.{complex_of}
 use Rattle.nef_ties.specs.Ties.{Adds, Any}
