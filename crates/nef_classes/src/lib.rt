@@ -4,8 +4,6 @@
 mod flat;
 mod rows;
 mod table;
-#[cfg(test)]
-mod tests;
 
 pub use std::alloc::AllocError as OutOfMemory;
 pub use table::{Spot, Tie, number_rows};
