@@ -1,13 +1,13 @@
 -- Each corner has one next corner.
-use Rattle.std.proofs.Common.{◌≡◌, ℕ, pos, neg_ℤ, ◌<ℤ◌, inl, inr, [], ◌∷◌, arith, refl, sym, ◌∙◌, ap, subst}
+use Rattle.std.proofs.Common.{◌≡◌, ℕ, pos, neg_ℤ, ◌<ℤ◌, inl, inr, [], ◌∷◌, arith, refl, sym, ◌∙◌, subst}
 use Rattle.std.proofs.lemmas.Int.{ints}
 use Rattle.nef_exact.proofs.Ring.{ring, at, num, neg, ◌⊕◌, ◌⊖◌, ◌⊗◌}
 use Rattle.nef_space.specs.Place.{toward}
 use Rattle.nef_space.specs.Sets.{Set}
 use Rattle.nef_space.specs.Vectors.{Vector, dot, cross, triple, IsDirection, SameDirection}
-use Rattle.nef_forms.proofs.Directions.{self-pos, dot-comm, direction-right}
+use Rattle.nef_forms.proofs.Directions.{self-pos, direction-right}
 use Rattle.nef_near.proofs.FlatDecided.{cross-turned}
-use Rattle.nef_sphere.specs.Maps.{At, Arc, Loop, Item, arc_item, loop_item, items}
+use Rattle.nef_sphere.specs.Maps.{At, Arc, arc_item}
 use Rattle.nef_sphere.proofs.Vectors.{normal-is, same-minus, nought-if}
 use Rattle.nef_sphere.proofs.Lists.{at-one}
 use Rattle.nef_sphere.proofs.Arcs.{at-arc}
@@ -15,14 +15,11 @@ use Rattle.nef_sphere.proofs.Compare.{SameDirection-turned, SameDirection-trans,
 use Rattle.nef_sphere.proofs.Turn.{turn-same}
 use Rattle.nef_solid.specs.Complexes.{Vertex, Edge, Complex, Corner, IsCorner}
 use Rattle.nef_solid.specs.Shows.{Shows}
-use Rattle.nef_solid.proofs.FacetSides.{level-way}
 use Rattle.nef_links.proofs.EdgeEnds.{end-level, close_way, on-close, corner_of}
 use Rattle.nef_parts.specs.Cycles.{Leads, IsNextArc}
 use Rattle.nef_facets.proofs.EdgeViews.{EdgeFrom, edge-from, one-vertex, one-svertex}
+use Rattle.nef_facets.proofs.NextCorners.{turned-level, arc-no_loop, corner-same}
 use Rattle.nef_determined.proofs.OneCycles.{HasOneNext}
-
-turned-level : (n m d : Vector) → SameDirection n m → dot n d ≡ pos 0 → dot m d ≡ pos 0
-turned-level n m d w z = dot-comm m d ∙ level-way d n m w (dot-comm d n ∙ z)
 
 level-back : (n u : Vector) → dot n (cross u n) ≡ pos 0
 level-back n u = ring (n.x ∷ n.y ∷ n.z ∷ u.x ∷ u.y ∷ u.z ∷ [])
@@ -79,17 +76,6 @@ turned-edge e i a j b (inl (f, g, h, k)) = inr (h, k, f, g)
 turned-edge e i a j b (inr (f, g, h, k)) = inl (h, k, f, g)
 
 module _ (s : Set) (C : Complex) (S : Shows s C) where
-  arc-no_loop : (k : Corner) (v w : Vertex) (c : Arc) (l : Loop) → At C.vertices k.vertex v → At v.map.arcs k.item c → IsCorner C k w (loop_item l) → ⊥
-  arc-no_loop k v w c l a b h =
-      let e = at-one C.vertices k.vertex v w a h.vertex in
-      differ (at-one (items w.map) k.item (arc_item c) (loop_item l) (subst (λ (r : Vertex). At (items r.map) k.item (arc_item c)) e (at-arc v.map.arcs v.map.loop k.item c b)) h.item)
-    where
-      differ : ◌≡◌ {A = Item} (arc_item c) (loop_item l) → ⊥
-      differ e = cc
-
-  corner-same : (i j : Corner) → i.vertex ≡ j.vertex → i.item ≡ j.item → i ≡ j
-  corner-same i j e f = ap (λ (n : ℕ). corner_of n i.item) e ∙ ap (λ (n : ℕ). corner_of j.vertex n) f
-
   arcs-one : (j k l : Corner) (x : IsNextArc C j k) (y : IsNextArc C j l) → y.this_arc ≡ x.this_arc → k ≡ l
   arcs-one j k l x y e =
       let p = k.vertex in let q = l.vertex in let a = x.that_arc.target in let b = y.that_arc.target in let m = j.vertex in let t = x.this_arc.source in
@@ -98,7 +84,7 @@ module _ (s : Set) (C : Complex) (S : Shows s C) where
       let same = one-vertex s C S p a q b m t V W in
       let here = at-one C.vertices p x.there V.from x.is_there V.is_from in
       let there = at-one C.vertices p y.there V.from (subst (λ (n : ℕ). At C.vertices n y.there) (sym same) y.is_there) V.is_from in
-      corner-same k l same
+      corner-same s C S k l same
       (one-arc-into s C S p a m t V k.item l.item x.that_arc y.that_arc (subst (λ (v : Vertex). At v.map.arcs k.item x.that_arc) here x.is_that) (subst (λ (v : Vertex). At v.map.arcs l.item y.that_arc) there y.is_that)
       refl (sym (one-svertex s C S p a q b m t V W))
       (SameDirection-trans x.that_arc.normal x.this_arc.normal y.that_arc.normal (SameDirection-turned x.this_arc.normal x.that_arc.normal x.one_normal)
@@ -108,6 +94,6 @@ module _ (s : Set) (C : Complex) (S : Shows s C) where
   one-next j k l (inl x) (inl y) =
       let e = at-one C.vertices j.vertex y.here x.here y.is_here x.is_here in
       arcs-one j k l x y (at-one x.here.map.arcs j.item y.this_arc x.this_arc (subst (λ (v : Vertex). At v.map.arcs j.item y.this_arc) e y.is_this) x.is_this)
-  one-next j k l (inl x) (inr (e, v, o, h)) = absurd (arc-no_loop j x.here v x.this_arc o x.is_here x.is_this h)
-  one-next j k l (inr (e, v, o, h)) (inl y) = absurd (arc-no_loop j y.here v y.this_arc o y.is_here y.is_this h)
+  one-next j k l (inl x) (inr (e, v, o, h)) = absurd (arc-no_loop s C S j x.here v x.this_arc o x.is_here x.is_this h)
+  one-next j k l (inr (e, v, o, h)) (inl y) = absurd (arc-no_loop s C S j y.here v y.this_arc o y.is_here y.is_this h)
   one-next j k l (inr x) (inr y) = sym (x.0) ∙ y.0

@@ -43,7 +43,7 @@ use Rattle.nef_smap.proofs.Chains.{chain-link, chain-turned}
 use Rattle.nef_parts.specs.Cycles.{IsNextArc, NextCorner}
 use Rattle.nef_facets.proofs.EdgeViews.{EdgeFrom, edge-from, one-vertex, one-svertex}
 
-turned-level : (n m d : Vector) → SameDirection n m → dot n d ≡ pos 0 → dot m d ≡ pos 0
+pub turned-level : (n m d : Vector) → SameDirection n m → dot n d ≡ pos 0 → dot m d ≡ pos 0
 turned-level n m d w z = dot-comm m d ∙ level-way d n m w (dot-comm d n ∙ z)
 
 left-of : (n u : Vector) → IsDirection n → IsDirection u → dot n u ≡ pos 0 → pos 0 <ℤ triple n u (cross n u)
@@ -216,7 +216,7 @@ module _ (s : Set) (C : Complex) (S : Shows s C) (i a j b : ℕ) (V : EdgeFrom s
 -- ---- next corners
 module _ (s : Set) (C : Complex) (S : Shows s C) where
   -- what stands where an arc is no sloop
-  arc-no_loop : (k : Corner) (v w : Vertex) (c : Arc) (l : Loop) → At C.vertices k.vertex v → At v.map.arcs k.item c → IsCorner C k w (loop_item l) → ⊥
+  pub arc-no_loop : (k : Corner) (v w : Vertex) (c : Arc) (l : Loop) → At C.vertices k.vertex v → At v.map.arcs k.item c → IsCorner C k w (loop_item l) → ⊥
   arc-no_loop k v w c l a b h =
       let e = at-one C.vertices k.vertex v w a h.vertex in
       differ (at-one (items w.map) k.item (arc_item c) (loop_item l) (subst (λ (r : Vertex). At (items r.map) k.item (arc_item c)) e (at-arc v.map.arcs v.map.loop k.item c b)) h.item)
@@ -224,7 +224,7 @@ module _ (s : Set) (C : Complex) (S : Shows s C) where
       differ : ◌≡◌ {A = Item} (arc_item c) (loop_item l) → ⊥
       differ e = cc
 
-  corner-same : (i j : Corner) → i.vertex ≡ j.vertex → i.item ≡ j.item → i ≡ j
+  pub corner-same : (i j : Corner) → i.vertex ≡ j.vertex → i.item ≡ j.item → i ≡ j
   corner-same i j e f = ap (λ (n : ℕ). corner_of n i.item) e ∙ ap (λ (n : ℕ). corner_of j.vertex n) f
 
   arcs-apart : (i j k : Corner) (x : IsNextArc C i k) (y : IsNextArc C j k) → x.that_arc ≡ y.that_arc → i ≡ j
