@@ -18,3 +18,4 @@ pub mod SamePlanes
 pub mod Behind
 pub mod ItemsFound
 pub mod FacetFound
+pub mod EdgeOrder

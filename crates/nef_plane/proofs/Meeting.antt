@@ -62,6 +62,12 @@ ahead-level f p d y w some e z =
     (given (num (pos 0) ⊖ num (pos 1)) (at 2) (at 3 ⊗ at 1 ⊖ at 4 ⊗ at 0) (slope-toward f p y)
     (given (at 4) (at 0) (num (pos 0)) e (given (num (pos 1)) (at 2) (num (pos 0)) (in-span (normal_of f) d (toward p y) some (cross-turned (toward p y) d w.parallel) z) none))) (weight p) tt
 
+-- a plane through a point between two others parts them, or holds both
+pub between-opposite : (k : Form) (a b y : Place) → IsBetween a y b → form_at k y ≡ pos 0 → AreOpposite k a b
+between-opposite k a b y w e = ⊎_elim
+    (λ i. ⊎_elim (λ j. opposite-noughts (form_at k a) (form_at k b) i j) (λ n. opposite-by (form_at k a) (form_at k b) (crossed-parted k a b y w e (λ z. n z.1))) (nought-or (form_at k b)))
+    (λ n. opposite-by (form_at k a) (form_at k b) (crossed-parted k a b y w e (λ z. n z.0))) (nought-or (form_at k a))
+
 module _ (h : Plane) (p : Place) (d : Vector) (A : IsAlongAxis (form_of h) d) (on : form_at (form_of h) p ≡ pos 0) where
   abbrev e : Vector
   e = sweep_axis (form_of h)
@@ -106,13 +112,8 @@ module _ (h : Plane) (p : Place) (d : Vector) (A : IsAlongAxis (form_of h) d) (o
         )
 
     pub met-opposite : (y : Place) → IsMet (form_of h) p d a b y → AreOpposite k a b
-    met-opposite y M = ⊎_elim inside same M.on
+    met-opposite y M = ⊎_elim (λ w. between-opposite k a b y w (ahead-kept y M.ahead)) same M.on
       where
-        inside : IsBetween a y b → AreOpposite k a b
-        inside w = ⊎_elim
-            (λ i. ⊎_elim (λ j. opposite-noughts (form_at k a) (form_at k b) i j) (λ n. opposite-by (form_at k a) (form_at k b) (crossed-parted k a b y w (ahead-kept y M.ahead) (λ z. n z.1))) (nought-or (form_at k b)))
-            (λ n. opposite-by (form_at k a) (form_at k b) (crossed-parted k a b y w (ahead-kept y M.ahead) (λ z. n z.0))) (nought-or (form_at k a))
-
         same : SamePlace a y × SamePlace b y → AreOpposite k a b
         same (i, j) = opposite-noughts (form_at k a) (form_at k b) (level-same k y a (same-place_sym a y i) (ahead-kept y M.ahead)) (level-same k y b (same-place_sym b y j) (ahead-kept y M.ahead))
 

@@ -9,7 +9,7 @@ use Rattle.nef_locate.proofs.hit.edge_hit.Goals as goal
 
 pub loop-number-preserved : goal.loop-number-preserved
 loop-number-preserved c = next-none (λ (k : ℕ). IsEdgePoint (complex_of c.args.c.now) k (hit_place c.args.q.now)) c.loop-number.number c.loop-number.invariant
-    (λ x. not_true (sym c.if-is_on_edge.false ∙ c.is_on_edge.ensures.on.1 x))
+    (λ x. not_true (sym c.if-is_edge_in.false ∙ c.is_edge_in.ensures.on.1 x))
 
 pub returns : goal.returns
 returns c = record {
@@ -17,5 +17,5 @@ returns c = record {
       (let l = image-within edge_of c.args.c.now.edges k x.0 x.3 in let t = c.loop-number-test.false in let e = c.len-number-end.ensures.len in omega (arith, l, t, e)) x;
 }
 
-pub returns-then-is_on_edge : goal.returns-then-is_on_edge
-returns-then-is_on_edge c = record { edge = c.is_on_edge.ensures.on.0 c.if-is_on_edge.true }
+pub returns-then-is_edge_in : goal.returns-then-is_edge_in
+returns-then-is_edge_in c = record { edge = c.is_edge_in.ensures.on.0 c.if-is_edge_in.true }

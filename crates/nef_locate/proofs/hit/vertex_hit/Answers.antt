@@ -9,7 +9,7 @@ use Rattle.nef_locate.proofs.hit.vertex_hit.Goals as goal
 
 pub loop-number-preserved : goal.loop-number-preserved
 loop-number-preserved c = next-none (λ (k : ℕ). IsVertexPoint (complex_of c.args.c.now) k (hit_place c.args.q.now)) c.loop-number.number c.loop-number.invariant
-    (λ x. not_true (sym c.if-is_at_vertex.false ∙ c.is_at_vertex.ensures.at.1 x))
+    (λ x. not_true (sym c.if-is_vertex_in.false ∙ c.is_vertex_in.ensures.at.1 x))
 
 pub returns : goal.returns
 returns c = record {
@@ -17,5 +17,5 @@ returns c = record {
       (let l = image-within vertex_of c.args.c.now.vertices k x.0 x.1 in let t = c.loop-number-test.false in let e = c.len-number-end.ensures.len in omega (arith, l, t, e)) x;
 }
 
-pub returns-then-is_at_vertex : goal.returns-then-is_at_vertex
-returns-then-is_at_vertex c = record { vertex = c.is_at_vertex.ensures.at.0 c.if-is_at_vertex.true }
+pub returns-then-is_vertex_in : goal.returns-then-is_vertex_in
+returns-then-is_vertex_in c = record { vertex = c.is_vertex_in.ensures.at.0 c.if-is_vertex_in.true }

@@ -12,10 +12,10 @@ vertex_at-requires c = let S = c.requires.shows in record { sorted = vertices-so
 pub returns-in-Some-clause-at : goal.returns-in-Some-clause-at
 returns-in-Some-clause-at c = vertex-at (complex_of c.args.c.now) (place_of c.args.p.now) c.in-Some.number c.in-Some.ensures.found
 
-pub returns-in-Some-edge_hit-clause-at : goal.returns-in-Some-edge_hit-clause-at
-returns-in-Some-edge_hit-clause-at c =
+pub returns-in-Some-edge_at-clause-at : goal.returns-in-Some-edge_at-clause-at
+returns-in-Some-edge_at-clause-at c =
     let C = complex_of c.args.c.now in let p = place_of c.args.p.now in
-    edge-at C p c.in-Some-edge_hit.number (edge-same (hit_place c.hit_at-hit.result) p c.hit_at-hit.ensures.same C c.in-Some-edge_hit.number c.in-Some-edge_hit.ensures.edge)
+    edge-at C p c.in-Some-edge_at.number (edge-same (hit_place c.hit_at-hit.result) p c.hit_at-hit.ensures.same C c.in-Some-edge_at.number c.in-Some-edge_at.ensures.edge)
 
 pub corner_at-requires-clause-framed : goal.corner_at-requires-clause-framed
 corner_at-requires-clause-framed c =
@@ -25,7 +25,7 @@ corner_at-requires-clause-framed c =
 pub corner_at-requires-clause-off : goal.corner_at-requires-clause-off
 corner_at-requires-clause-off c =
     let C = complex_of c.args.c.now in let p = place_of c.args.p.now in let q = hit_place c.hit_at-hit.result in
-    off-edges C q (λ k v. c.in_default.ensures.none refl k (vertex-same q p c.hit_at-hit.ensures.same C k v)) c.in_default-edge_hit.ensures.edge
+    off-edges C q (λ k v. c.in_default.ensures.none refl k (vertex-same q p c.hit_at-hit.ensures.same C k v)) c.in_default-edge_at.ensures.edge
 
 pub returns-in-Some-corner_at-clause-at : goal.returns-in-Some-corner_at-clause-at
 returns-in-Some-corner_at-clause-at c =

@@ -1,0 +1,59 @@
+-- A point of an edge comes between the edge's ends in the order of vertices.
+use Rattle.std.proofs.Common.{ℕ, pos, arith, inl, inr}
+use Rattle.std.proofs.lemmas.Int.{ints}
+use Rattle.nef_exact.proofs.Order.{by_order}
+use Rattle.nef_space.specs.Place.{Place as PlainPlace, toward, SamePlace, IsBetween, IsPlaceBelow}
+use Rattle.nef_space.specs.Sets.{Set}
+use Rattle.nef_space.specs.Vectors.{IsNormal}
+use Rattle.nef_geo.specs.Shapes.{place_of}
+use Rattle.nef_near.proofs.PlaceOrder.{place_below-same, same-place_below}
+use Rattle.nef_near.proofs.Rays.{same-place_sym}
+use Rattle.nef_sphere.specs.Maps.{At}
+use Rattle.nef_sphere.proofs.Compare.{SameDirection-turned}
+use Rattle.nef_smap.proofs.Lists.{map-at}
+use Rattle.nef_solid.specs.Shows.{Shows}
+use Rattle.nef_solid.specs.Skeleton.{IsEdgePoint}
+use Rattle.nef_solid.proofs.Ways.{between-way}
+use Rattle.nef_complex.specs.declared.complex.Vertex.{Vertex}
+use Rattle.nef_complex.specs.declared.complex.Edge.{Edge}
+use Rattle.nef_complex.specs.declared.complex.Complex.{Complex}
+use Rattle.nef_complex.specs.Complexes.{edge_of, vertex_of, complex_of}
+use Rattle.nef_complex.proofs.Ends.{edge-inside}
+use Rattle.nef_edges.proofs.Rays.{toward-normal, normal-kept}
+
+-- where q - p begins with a positive number, q is a later point
+normal-below : (p q : PlainPlace) → IsNormal (toward p q) → IsPlaceBelow p q
+normal-below p q n = by_order (toward p q).x (pos 0)
+    (λ l. let f = n.first in absurd (omega (arith, ints)))
+    (λ e. inr (
+      omega (arith, ints),
+      by_order (toward p q).y (pos 0)
+          (λ l. let f = n.second e in absurd (omega (arith, ints)))
+          (λ o. let f = n.third e o in inr (omega (arith, ints), inl (omega (arith, ints))))
+          (λ l. inl (omega (arith, ints))),
+    ))
+    (λ l. inl (omega (arith, ints)))
+
+-- a point strictly between two others comes between them
+pub between-order : (p y q : PlainPlace) → IsPlaceBelow p q → IsBetween p y q → IsPlaceBelow p y × IsPlaceBelow y q
+between-order p y q h b =
+    let n = normal-kept (toward p q) (toward p y) (SameDirection-turned (toward p y) (toward p q) (between-way p y q b)) (toward-normal p q h) in
+    (normal-below p y n, normal-below y q (normal-kept (toward p y) (toward y q) b n))
+
+module _ (s : Set) (c : Complex) (S : Shows s (complex_of c)) (k : ℕ) (e : Edge) (u v : Vertex) (l : At c.edges k e) (i : At c.vertices e.low u) (j : At c.vertices e.high v) where
+  abbrev low : PlainPlace
+  low = place_of u.point
+
+  abbrev high : PlainPlace
+  high = place_of v.point
+
+  ends-order : IsPlaceBelow low high
+  ends-order =
+      let E = S.edges.edges k (edge_of e) (map-at edge_of c.edges k e l) in
+      S.ordered e.low e.high (vertex_of u) (vertex_of v) E.upward (map-at vertex_of c.vertices e.low u i) (map-at vertex_of c.vertices e.high v j)
+
+  -- a point that lies on the edge comes between its ends
+  pub edge-order : (p y : PlainPlace) → SamePlace y p → IsEdgePoint (complex_of c) k y → IsPlaceBelow low p × IsPlaceBelow p high
+  edge-order p y o x =
+      let b = between-order low y high ends-order (edge-inside s c S k e u v l i j y x) in
+      (place_below-same low y p b.0 o, same-place_below p y high (same-place_sym y p o) b.1)
