@@ -25,9 +25,9 @@ use Rattle.nef_complex.specs.Planes.{HoldsBoth}
 use Rattle.nef_complex.proofs.Ends.{vertex-same, listed_edge, ends, edge-inside}
 use Rattle.nef_complex.proofs.Lines.{one-crossing}
 use Rattle.nef_complex.proofs.Parted.{held-between}
-use Rattle.nef_plane.specs.Meets.{Reach, reach_of, met_of, IsHitThrough, AllHold, IsAcross, IsWithin, AtVertexNumber, AtEdgeNumber, IsNearest, IsNearestMet}
+use Rattle.nef_plane.specs.Meets.{Reach, reach_of, met_of, HoldsRay, IsHitThrough, AllHold, IsAcross, IsWithin, AtVertexNumber, AtEdgeNumber, IsNearest, IsNearestMet}
 use Rattle.nef_plane.proofs.Found.{both-same, vertex-some, vertex-none, edge-some, edge-none}
-use Rattle.nef_plane.proofs.Meeting.{level-same}
+use Rattle.nef_plane.proofs.Meeting.{level-same, ahead-level}
 
 -- a plane that holds both points holds what is within
 pub within-level : (g : Plane) (a b y : Place) → HoldsBoth (form_of g) a b → IsWithin a b y → form_at (form_of g) y ≡ pos 0
@@ -62,6 +62,10 @@ module _ (s : Set) (c : Complex) (S : Shows s (complex_of c)) (p : Place) (d : V
     -- it isn't met, where no plane through it is crossed
     pub uncrossed-vertex : ((q : Place) → IsAhead p d q → IsWithin y y q → AllHold c.carriers d y y) → IsNearest met_of p d (AtVertexNumber (complex_of c) k) None
     uncrossed-vertex N = vertex-none s c S p d some k v a (λ q w o. N q w (inr (o, o)))
+
+    -- nor where a plane holds the ray but not the vertex
+    pub off-vertex : (h : Plane) → HoldsRay (form_of h) p d → (form_at (form_of h) y ≡ pos 0 → ⊥) → IsNearest met_of p d (AtVertexNumber (complex_of c) k) None
+    off-vertex h (e, z) n = vertex-none s c S p d some k v a (λ q w o. absurd (n (level-same (form_of h) q y (same-place_sym y q o) (ahead-level (form_of h) p d q w some e z))))
 
     module _ (at : Hit) (T : IsHitThrough p d y y (reach_of at)) where
       -- nor where one is crossed elsewhere

@@ -80,6 +80,10 @@ pub record IsMet (h : Form) (p : Place) (d : Vector) (a b y : Place) : Type 0 wh
 abbrev pub AllHold : List Plane → Vector → Place → Place → Type 0
 AllHold gs d a b = (i : ℕ) (g : Plane) → At gs i g → HoldsBoth (form_of g) a b → slope (form_of g) d ≡ pos 0
 
+-- the plane holds the ray from p along d
+abbrev pub HoldsRay : Form → Place → Vector → Type 0
+HoldsRay h p d = (form_at h p ≡ pos 0) × (slope h d ≡ pos 0)
+
 -- the plane holds both points and isn't along the direction
 abbrev pub IsAcross : Vector → Place → Place → Plane → Type 0
 IsAcross d a b g = HoldsBoth (form_of g) a b × (slope (form_of g) d ≡ pos 0 → ⊥)

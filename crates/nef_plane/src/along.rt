@@ -9,11 +9,11 @@ ghost use Rattle.nef_geo.specs.Shapes.{form_of, vector_of, place_of};
 ghost use Rattle.nef_geo.specs.Widths.{ray_limit};
 ghost use Rattle.nef_solid.specs.Skeleton.{PlaneMeet as PlainMeet, Meets, IsFirstInPlane};
 ghost use Rattle.nef_complex.specs.Complexes.{complex_of, meet_of, ShowsSet};
-ghost use Rattle.nef_plane.specs.Meets.{HasNoSvertex, FromVertex, IsHitThrough, AllHold, IsAcross, IsWithin, AtVertexNumber, AtEdgeNumber, IsNearest, IsNearer, IsReachedMet, met_of, reach_of};
+ghost use Rattle.nef_plane.specs.Meets.{HasNoSvertex, FromVertex, HoldsRay, IsHitThrough, AllHold, IsAcross, IsWithin, AtVertexNumber, AtEdgeNumber, IsNearest, IsNearer, IsReachedMet, met_of, reach_of};
 
 use crate::places::{is_at_vertex, is_on_edge};
 use nef_complex::{Complex, PlaneMeet, holds_both};
-use nef_geo::{Dir, Hit, Plane, Point, Sign, dir_side, hit_order, ray_hit};
+use nef_geo::{Dir, Hit, Plane, Point, Sign, dir_side, hit_order, ray_hit, side};
 use std::cmp::Ordering;
 
 // What a ray meets, and where.
@@ -27,6 +27,13 @@ fn is_along(g: &Plane, d: &Dir) -> bool
     ensures along { IsTrue result ↔ (slope (form_of g.now) (vector_of d.now) ≡ pos 0) }
 {
     dir_side(g, d) == Sign::Zero
+}
+
+// Whether the plane holds the ray.
+fn holds_ray(h: &Plane, p: &Point, d: &Dir) -> bool
+    ensures holds { IsTrue result ↔ HoldsRay (form_of h.now) (place_of p.now) (vector_of d.now) }
+{
+    side(h, p) == Sign::Zero && is_along(h, d)
 }
 
 fn is_across(g: &Plane, a: &Point, b: &Point, d: &Dir) -> bool
@@ -74,14 +81,19 @@ fn nearer(one: Option<Met>, other: Option<Met>, p: &Point, d: &Dir) -> Option<Me
     }
 }
 
-// The vertex with this number, where the ray meets it.
-fn vertex_met(c: &Complex, p: &Point, d: &Dir, number: usize) -> Option<Met>
+// The vertex with this number, where the ray meets it. Where the plane holds the ray, which `held` says, a vertex off the
+// plane is not met, which is told without the carriers.
+fn vertex_met(c: &Complex, h: &Plane, held: bool, p: &Point, d: &Dir, number: usize) -> Option<Met>
     requires shows { (s : Set) × ShowsSet s c.now }
+    requires held { IsTrue held → HoldsRay (form_of h.now) (place_of p.now) (vector_of d.now) }
     requires small { IsAtMost ray_limit (vector_of d.now) }
     requires within { number < length c.now.vertices }
     ensures nearest { IsNearest met_of (place_of p.now) (vector_of d.now) (AtVertexNumber (complex_of c.now) number) result }
 {
     let point = &c.vertices.at(number).point;
+    if held && side(h, point) != Sign::Zero {
+        return None;
+    }
     let at = crossed_at(c.carriers.as_slice(), point, point, p, d)?;
     if is_at_vertex(c, number, &at) {
         Some(Met {
@@ -118,14 +130,15 @@ fn edge_met(c: &Complex, h: &Plane, p: &Point, d: &Dir, number: usize) -> Option
 }
 
 // The first vertex that the ray meets.
-fn nearest_vertex(c: &Complex, p: &Point, d: &Dir) -> Option<Met>
+fn nearest_vertex(c: &Complex, h: &Plane, p: &Point, d: &Dir) -> Option<Met>
     requires shows { (s : Set) × ShowsSet s c.now }
     requires small { IsAtMost ray_limit (vector_of d.now) }
     ensures nearest { IsNearest met_of (place_of p.now) (vector_of d.now) (λ m q. (k : ℕ) × AtVertexNumber (complex_of c.now) k m q) result }
 {
+    let held = holds_ray(h, p, d);
     let mut best = None;
     for number in 0..c.vertices.len() {
-        best = nearer(best, vertex_met(c, p, d, number), p, d);
+        best = nearer(best, vertex_met(c, h, held, p, d, number), p, d);
     }
     best
 }
@@ -156,7 +169,7 @@ pub fn first_along_dir(c: &Complex, h: &Plane, vertex: usize, d: &Dir) -> Option
     ensures none { IsNone result → FromVertex (complex_of c.now) vertex (λ p. (m : PlainMeet) (q : Place) → IsAhead p (vector_of d.now) q → Meets (complex_of c.now) (form_of h.now) m q → ⊥) }
 {
     let p = &c.vertices.at(vertex).point;
-    let first_vertex = nearest_vertex(c, p, d);
+    let first_vertex = nearest_vertex(c, h, p, d);
     let first_edge = nearest_edge(c, h, p, d);
     match nearer(first_vertex, first_edge, p, d) {
         Some(met) => Some(met.meet),
