@@ -8,23 +8,22 @@ ghost use Rattle.nef_space.specs.Sets.{Set};
 ghost use Rattle.nef_geo.specs.Shapes.{form_of, place_of, hit_place};
 ghost use Rattle.nef_solid.specs.Skeleton.{IsVertexPoint, IsEdgePoint};
 ghost use Rattle.nef_complex.specs.Complexes.{complex_of, ShowsSet};
-ghost use Rattle.nef_plane.specs.Amid.{SidesWith, IsAmid, AreAmid};
+ghost use Rattle.nef_plane.specs.Amid.{IsAmid, AreAmid};
 
 use nef_complex::Complex;
 use nef_geo::{Hit, Plane, Point, Sign, hit_side, side};
-
-// Whether q lies on the side of b, where the plane holds a.
-fn sides_with(h: &Plane, a: &Point, b: &Point, q: &Hit) -> bool
-    ensures sides { IsTrue result ↔ SidesWith (form_of h.now) (place_of a.now) (place_of b.now) (hit_place q.now) }
-{
-    side(h, a) != Sign::Zero || hit_side(h, q) == side(h, b)
-}
 
 // Whether q lies on the side of the other point, where the plane holds one of the two.
 fn is_amid(h: &Plane, a: &Point, b: &Point, q: &Hit) -> bool
     ensures amid { IsTrue result ↔ IsAmid (form_of h.now) (place_of a.now) (place_of b.now) (hit_place q.now) }
 {
-    sides_with(h, a, b, q) && sides_with(h, b, a, q)
+    let first = side(h, a);
+    let second = side(h, b);
+    if first == Sign::Zero {
+        hit_side(h, q) == second
+    } else {
+        second != Sign::Zero || hit_side(h, q) == first
+    }
 }
 
 // The same for all of the planes.
@@ -39,6 +38,25 @@ fn are_amid(planes: &[Plane], a: &Point, b: &Point, q: &Hit) -> bool
     true
 }
 
+// Whether the plane holds q, where it holds the point: no side is asked for twice, as it would be of two equal points.
+fn is_held_with(h: &Plane, a: &Point, q: &Hit) -> bool
+    ensures held { IsTrue result ↔ IsAmid (form_of h.now) (place_of a.now) (place_of a.now) (hit_place q.now) }
+{
+    side(h, a) != Sign::Zero || hit_side(h, q) == Sign::Zero
+}
+
+// The same for all of the planes.
+fn are_held_with(planes: &[Plane], a: &Point, q: &Hit) -> bool
+    ensures held { IsTrue result ↔ AreAmid planes.now (place_of a.now) (place_of a.now) (hit_place q.now) }
+{
+    for h in planes {
+        if !is_held_with(h, a, q) {
+            return false;
+        }
+    }
+    true
+}
+
 /// Whether the hit is the vertex with this number. It is, exactly where each carrier that holds the vertex holds it.
 pub fn is_at_vertex(c: &Complex, number: usize, q: &Hit) -> bool
     requires shows { (s : Set) × ShowsSet s c.now }
@@ -46,7 +64,7 @@ pub fn is_at_vertex(c: &Complex, number: usize, q: &Hit) -> bool
     ensures at { IsTrue result ↔ IsVertexPoint (complex_of c.now) number (hit_place q.now) }
 {
     let point = &c.vertices.at(number).point;
-    are_amid(c.carriers.as_slice(), point, point, q)
+    are_held_with(c.carriers.as_slice(), point, q)
 }
 
 /// Whether the hit lies strictly between the ends of the edge with this number. It does, exactly where each carrier that

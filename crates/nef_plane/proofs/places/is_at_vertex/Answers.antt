@@ -12,7 +12,7 @@ returns c =
     let a = got-at C.vertices c.args.number v c.at.ensures.element in
     record {
       at = (
-        λ h. vertex-amid S.0 C S.1.shows c.args.number v y a (subst (λ (gs : List Plane). AreAmid gs (place_of v.point) (place_of v.point) y) c.as_slice.ensures.all (c.are_amid.ensures.amid.0 h)),
-        λ x. c.are_amid.ensures.amid.1 (subst (λ (gs : List Plane). AreAmid gs (place_of v.point) (place_of v.point) y) (sym c.as_slice.ensures.all) (amid-vertex S.0 C S.1.shows c.args.number v y a x)),
+        λ h. vertex-amid S.0 C S.1.shows c.args.number v y a (subst (λ (gs : List Plane). AreAmid gs (place_of v.point) (place_of v.point) y) c.as_slice.ensures.all (c.are_held_with.ensures.held.0 h)),
+        λ x. c.are_held_with.ensures.held.1 (subst (λ (gs : List Plane). AreAmid gs (place_of v.point) (place_of v.point) y) (sym c.as_slice.ensures.all) (amid-vertex S.0 C S.1.shows c.args.number v y a x)),
       );
     }
