@@ -1,3 +1,5 @@
 pub mod Given
 pub mod OneSet
 pub mod Gathered
+pub mod ByShare
+pub mod Lacking

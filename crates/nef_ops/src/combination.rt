@@ -7,8 +7,8 @@ ghost use Rattle.nef_complex.specs.Complexes.{ShowsSet};
 
 use crate::OutOfMemory;
 use crate::finished::finished;
+use crate::merged::merged;
 use nef_cand::candidates;
-use nef_combine::combine;
 use nef_complex::Complex;
 use nef_core::{How, Job};
 use nef_geo::Point;
@@ -51,7 +51,7 @@ impl<'a> Job for BinaryJob<'a> {
         let point = &self.points[job as usize];
         let first = local_map(alloc, self.first, point)?;
         let second = local_map(alloc, self.second, point)?;
-        let map = combine(alloc, &first, &second, self.op)?;
+        let map = merged(alloc, first, second, self.op)?;
         Ok(map)
     }
 }

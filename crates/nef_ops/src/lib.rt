@@ -10,10 +10,13 @@ mod combination;
 mod comparison;
 mod finished;
 mod half_space;
+mod merged;
 mod op;
+mod share;
 #[cfg(test)]
 mod tests;
 mod topology;
+mod way;
 mod whole;
 
 pub use combination::binary;

@@ -9,8 +9,8 @@ use nef_complex::{Complex, Vertex};
 use nef_expr::Nodes;
 use nef_smap::SphereMap;
 
-// Whether two maps are equal in all that they hold.
-fn same_map(a: &SphereMap, b: &SphereMap) -> bool
+/// Whether two maps are equal in all that they hold. It takes no memory.
+pub fn same_map(a: &SphereMap, b: &SphereMap) -> bool
     ensures same { IsTrue result ↔ (a.now ≡ b.now) }
 {
     a.mark == b.mark

@@ -1,0 +1,63 @@
+-- Labels that a map doesn't have, from what its lists and its sloop don't have.
+use Rattle.std.proofs.Common.{◌≡◌, ℕ, ◌+◌, ◌<◌, List, get_or, ap, ◌∙◌, subst, Some}
+use borrow.Author.Count.{below_more}
+use Rattle.nef_space.specs.Vectors.{Vector}
+use Rattle.nef_space.specs.declared.label.Label.{Label}
+use Rattle.nef_space.specs.declared.label.Label.TheVariants.{Not, In}
+use Rattle.nef_smap.specs.declared.map.SVertex.{SVertex}
+use Rattle.nef_smap.specs.declared.map.SArc.{SArc}
+use Rattle.nef_smap.specs.declared.map.SLoop.{SLoop}
+use Rattle.nef_smap.specs.declared.map.SphereMap.{SphereMap}
+use Rattle.nef_smap.specs.Maps.{svertex_of, arc_of, loop_of, map_of}
+use Rattle.nef_smap.proofs.Lists.{at-map, at-get}
+use Rattle.nef_sphere.specs.Maps.{At, Svertex, Arc, Loop, Item, arc_item, loop_item, items, Side, around_svertex, above_item, below_item, whole, item_above, item_mark, item_below, HasSide, MapLabel, at_svertex, on_item, seen}
+use Rattle.nef_sphere.proofs.Shot.{arc-at}
+use Rattle.nef_sphere.proofs.Arcs.{loop-at}
+use Rattle.nef_border.proofs.Listed.{option-was}
+use Rattle.nef_ops.specs.declared.share.Share.TheVariants.{Nothing, Everything}
+use Rattle.nef_ops.specs.Shares.{Lacks, SvertexLacks, ArcLacks, LoopLacks, HasShare}
+
+-- what holds of the elements so far, and of one more
+pub all-more : {A : Type 0} (P : A → Type 0) (xs : List A) (i : ℕ) (x : A) → x ≡ get_or xs i x → P x → ((k : ℕ) (y : A) → k < i → At xs k y → P y) → (k : ℕ) (y : A) → k < i + 1 → At xs k y → P y
+all-more {A} P xs i x is here before k y l h =
+    below_more (λ (n : ℕ). (z : A) → At xs n z → P z) i (λ n m z. before n z m) (λ z a. subst P (is ∙ at-get xs i z x a) here) k l y h
+
+-- ---- a map
+module _ (l : Label) (m : SphereMap) (V : (k : ℕ) (v : SVertex) → At m.svertices k v → SvertexLacks l v) (A : (k : ℕ) (a : SArc) → At m.arcs k a → ArcLacks l a) (C : (c : SLoop) → m.sloop ≡ Some c → LoopLacks l c) where
+  svertex-lacks : (k : ℕ) (v : Svertex) → At (map_of m).svertices k v → (v.mark ≡ l → ⊥) × (v.around ≡ Some l → ⊥)
+  svertex-lacks k v h =
+      let u = at-map svertex_of m.svertices k v h in
+      let L = V k u.0 u.1 in
+      (λ e. L.mark (ap (λ (r : Svertex). r.mark) u.2 ∙ e), λ e. L.around (ap (λ (r : Svertex). r.around) u.2 ∙ e))
+
+  -- above, on and below an item
+  item-lacks : (k : ℕ) (x : Item) → At (items (map_of m)) k x → (item_above x ≡ l → ⊥) × (item_mark x ≡ l → ⊥) × (item_below x ≡ l → ⊥)
+  item-lacks k (arc_item a) h =
+      let b = at-map arc_of m.arcs k a (arc-at (map_of m).arcs (map_of m).loop k a h) in
+      let L = A k b.0 b.1 in
+      (λ e. L.pos (ap (λ (r : Arc). r.above) b.2 ∙ e), λ e. L.mark (ap (λ (r : Arc). r.mark) b.2 ∙ e), λ e. L.neg (ap (λ (r : Arc). r.below) b.2 ∙ e))
+  item-lacks k (loop_item c) h =
+      let b = option-was loop_of m.sloop c (loop-at (map_of m).arcs (map_of m).loop k c h) in
+      let L = C b.0 b.1 in
+      (λ e. L.pos (ap (λ (r : Loop). r.above) b.2 ∙ e), λ e. L.mark (ap (λ (r : Loop). r.mark) b.2 ∙ e), λ e. L.neg (ap (λ (r : Loop). r.below) b.2 ∙ e))
+
+  pub map-lacks : (m.mark ≡ l → ⊥) → (m.ground ≡ Some l → ⊥) → Lacks l (map_of m)
+  map-lacks own ground = record { mark = own; directions = by }
+    where
+      side : (o : Side) → HasSide (map_of m) o l → ⊥
+      side (around_svertex k) (v, a, e) = (svertex-lacks k v a).1 e
+      side (above_item k) (x, a, e) = (item-lacks k x a).0 e
+      side (below_item k) (x, a, e) = (item-lacks k x a).2 e
+      side whole e = ground e
+
+      by : (d : Vector) → MapLabel (map_of m) d l → ⊥
+      by d (at_svertex k v a w e) = (svertex-lacks k v a).0 e
+      by d (on_item k x a o e) = (item-lacks k x a).1 e
+      by d (seen s) = side s.side s.has
+
+-- ---- shares
+pub nothing-share : (m : SphereMap) → Lacks In (map_of m) → HasShare Nothing (map_of m)
+nothing-share m L = record { mark = L.mark; directions = λ d l h e. L.directions d (subst (MapLabel (map_of m) d) e h) }
+
+pub everything-share : (m : SphereMap) → Lacks Not (map_of m) → HasShare Everything (map_of m)
+everything-share m L = record { mark = L.mark; directions = λ d l h e. L.directions d (subst (MapLabel (map_of m) d) e h) }

@@ -1,0 +1,17 @@
+use Rattle.std.proofs.Common.{◌≡◌, List, Some, rules, refl, sym, subst}
+use Rattle.nef_sphere.specs.Maps.{At}
+use Rattle.nef_smap.specs.declared.map.SVertex.{SVertex}
+use Rattle.nef_smap.specs.declared.map.SArc.{SArc}
+use Rattle.nef_ops.proofs.Lacking.{map-lacks}
+use Rattle.nef_ops.proofs.share.lacks.Goals as goal
+
+pub returns : goal.returns
+returns c =
+    let own : c.args.map.now.mark ≡ c.args.label → ⊥ = search rules in
+    let ground : c.args.map.now.ground ≡ Some c.args.label → ⊥ = search rules in
+    record {
+      lacks = λ h. map-lacks c.args.label c.args.map.now
+          (λ k v a. c.if-not-svertices_lack.ensures.lacks refl k v (subst (λ (vs : List SVertex). At vs k v) (sym c.as_slice.ensures.all) a))
+          (λ k r a. c.arcs_lack.ensures.lacks h k r (subst (λ (rs : List SArc). At rs k r) (sym c.as_slice-2.ensures.all) a))
+          (c.if-not-sloop_lacks.ensures.lacks refl) own ground;
+    }

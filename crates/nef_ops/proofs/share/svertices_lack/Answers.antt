@@ -1,0 +1,14 @@
+use Rattle.std.proofs.Common.{arith, rules}
+use Rattle.nef_smap.specs.declared.map.SVertex.{SVertex}
+use Rattle.nef_smap.proofs.Lists.{at-within}
+use Rattle.nef_ops.specs.Shares.{SvertexLacks}
+use Rattle.nef_ops.proofs.Lacking.{all-more}
+use Rattle.nef_ops.proofs.share.svertices_lack.Goals as goal
+
+pub loop-svertex-preserved : goal.loop-svertex-preserved
+loop-svertex-preserved c =
+    let here : SvertexLacks c.args.label c.svertex-item.result = search rules in
+    all-more (λ (v : SVertex). SvertexLacks c.args.label v) c.args.svertices.now c.loop-svertex.svertex-index c.svertex-item.result c.svertex-item.is here c.loop-svertex.invariant
+
+pub returns : goal.returns
+returns c = record { lacks = λ _ k v h. c.loop-svertex.invariant k v (let w = at-within c.args.svertices.now k v h in omega (arith, c.loop-svertex-test.false)) h }

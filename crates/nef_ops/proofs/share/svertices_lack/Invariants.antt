@@ -1,0 +1,8 @@
+use Rattle.std.proofs.Common.{ℕ, ◌<◌}
+use Rattle.nef_sphere.specs.Maps.{At}
+use Rattle.nef_smap.specs.declared.map.SVertex.{SVertex}
+use Rattle.nef_ops.specs.Shares.{SvertexLacks}
+use Rattle.nef_ops.proofs.share.svertices_lack.Given as goal
+
+abbrev pub invariant-loop-svertex : goal.invariant-loop-svertex
+invariant-loop-svertex l = (k : ℕ) (v : SVertex) → k < l.svertex-index → At l.svertices k v → SvertexLacks l.label v

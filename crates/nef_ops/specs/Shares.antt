@@ -1,0 +1,72 @@
+-- What of the frame close to a point a set holds, and which map is that of a combination there.
+use Rattle.std.specs.Prelude.{◌≡◌, Some}
+use Rattle.nef_space.specs.Vectors.{Vector}
+use Rattle.nef_space.specs.declared.label.Label.{Label}
+use Rattle.nef_space.specs.declared.label.Label.TheVariants.{Out, Not, In}
+use Rattle.nef_near.specs.Cones.{label_not}
+use Rattle.nef_smap.specs.declared.map.SVertex.{SVertex}
+use Rattle.nef_smap.specs.declared.map.SArc.{SArc}
+use Rattle.nef_smap.specs.declared.map.SLoop.{SLoop}
+use Rattle.nef_sphere.specs.Maps.{Map, MapLabel}
+use Rattle.nef_star.specs.declared.op.Op.{Op}
+use Rattle.nef_star.specs.Ops.{op_label}
+use Rattle.nef_ops.specs.declared.share.Share.{Share}
+use Rattle.nef_ops.specs.declared.share.Share.TheVariants.{Nothing, Everything, Part}
+use Rattle.nef_ops.specs.declared.way.Way.{Way}
+use Rattle.nef_ops.specs.declared.way.Way.TheVariants.{First, Second, NotFirst, NotSecond, Both}
+
+-- ---- labels that a map doesn't have
+-- neither the point nor a direction has the label
+pub record Lacks (l : Label) (M : Map) : Type 0 where
+  pub mark : M.mark ≡ l → ⊥
+  pub directions : (d : Vector) → MapLabel M d l → ⊥
+
+pub record SvertexLacks (l : Label) (v : SVertex) : Type 0 where
+  pub mark : v.mark ≡ l → ⊥
+  pub around : v.around ≡ Some l → ⊥
+
+pub record ArcLacks (l : Label) (a : SArc) : Type 0 where
+  pub mark : a.mark ≡ l → ⊥
+  pub pos : a.pos ≡ l → ⊥
+  pub neg : a.neg ≡ l → ⊥
+
+pub record LoopLacks (l : Label) (c : SLoop) : Type 0 where
+  pub mark : c.mark ≡ l → ⊥
+  pub pos : c.pos ≡ l → ⊥
+  pub neg : c.neg ≡ l → ⊥
+
+-- ---- shares
+-- the label may be that of a point or a direction close to which the set has this share of the frame
+abbrev pub InShare : Share → Label → Type 0
+InShare Nothing l = l ≡ In → ⊥
+InShare Everything l = l ≡ Not → ⊥
+InShare Part l = Unit {0}
+
+pub record HasShare (f : Share) (M : Map) : Type 0 where
+  pub mark : InShare f M.mark
+  pub directions : (d : Vector) (l : Label) → MapLabel M d l → InShare f l
+
+-- labels of two sets at one point, which are Out both or neither
+abbrev pub AreAlike : Label → Label → Type 0
+AreAlike Out Out = Unit {0}
+AreAlike Out Not = ⊥
+AreAlike Out In = ⊥
+AreAlike Not Out = ⊥
+AreAlike Not Not = Unit {0}
+AreAlike Not In = Unit {0}
+AreAlike In Out = ⊥
+AreAlike In Not = Unit {0}
+AreAlike In In = Unit {0}
+
+-- ---- ways
+-- the label that the way makes of the labels of the two sets; Both is of no concern here
+abbrev pub Makes : Way → Op → Label → Label → Type 0
+Makes First op k l = op_label op k l ≡ k
+Makes Second op k l = op_label op k l ≡ l
+Makes NotFirst op k l = op_label op k l ≡ label_not k
+Makes NotSecond op k l = op_label op k l ≡ label_not l
+Makes Both op k l = Unit {0}
+
+-- the way leads to the operation's labels wherever the sets have these shares
+abbrev pub Leads : Way → Op → Share → Share → Type 0
+Leads w op f g = (k l : Label) → AreAlike k l → InShare f k → InShare g l → Makes w op k l

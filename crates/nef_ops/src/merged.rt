@@ -1,0 +1,71 @@
+//! The map of a combination at a point.
+
+ghost use Rattle.std.specs.Prelude.{◌≡◌, IfOk, IsTrue};
+ghost use Rattle.nef_space.specs.declared.label.Label.{Label as PlainLabel};
+ghost use Rattle.nef_star.specs.Ops.{op_label};
+ghost use Rattle.nef_space.specs.Place.{Place};
+ghost use Rattle.nef_space.specs.Sets.{Set};
+ghost use Rattle.nef_sphere.specs.Least.{Cone};
+ghost use Rattle.nef_smap.specs.Maps.{map_of, IsLeastMap};
+ghost use Rattle.nef_combine.specs.Sets.{op_set};
+
+use crate::OutOfMemory;
+use crate::share::share_of;
+use crate::way::{Way, way_of};
+use nef_combine::combine;
+use nef_smap::SphereMap;
+use nef_star::Op;
+use nef_stopo::complement;
+use nef_unique::same_map;
+use std::alloc::Global;
+
+// Whether a set combined with itself is the set.
+fn keeps_equals(op: Op) -> bool
+    ensures keeps { IsTrue result → (l : PlainLabel) → op_label op l l ≡ l }
+{
+    match op {
+        Op::And | Op::Or => true,
+        Op::Diff | Op::Xor => false,
+    }
+}
+
+// The least map of the combination of two sets that both hold a part of the frame.
+fn joined(
+    alloc: Global,
+    first: SphereMap,
+    second: SphereMap,
+    op: Op,
+) -> Result<SphereMap, OutOfMemory>
+    requires first { IsLeastMap first }
+    requires second { IsLeastMap second }
+    ensures least { IfOk result IsLeastMap }
+    ensures cone { IfOk result (λ m. (s t : Set) (p : Place) → Cone (map_of first) s p → Cone (map_of second) t p → Cone (map_of m) (op_set op s t) p) }
+{
+    if keeps_equals(op) && same_map(&first, &second) {
+        Ok(first)
+    } else {
+        combine(alloc, &first, &second, op)
+    }
+}
+
+/// The least map of the combination of two sets at a point, from their least maps there. Where one set holds all of the
+/// frame close to the point, or nothing, it is the other's map, that of its complement, or the set's own.
+pub(crate) fn merged(
+    alloc: Global,
+    first: SphereMap,
+    second: SphereMap,
+    op: Op,
+) -> Result<SphereMap, OutOfMemory>
+    requires first { IsLeastMap first }
+    requires second { IsLeastMap second }
+    ensures least { IfOk result IsLeastMap }
+    ensures cone { IfOk result (λ m. (s t : Set) (p : Place) → Cone (map_of first) s p → Cone (map_of second) t p → Cone (map_of m) (op_set op s t) p) }
+{
+    match way_of(op, share_of(&first), share_of(&second)) {
+        Way::First => Ok(first),
+        Way::Second => Ok(second),
+        Way::NotFirst => complement(alloc, &first),
+        Way::NotSecond => complement(alloc, &second),
+        Way::Both => joined(alloc, first, second, op),
+    }
+}
