@@ -1,8 +1,8 @@
 -- Rows cut from a list, one after the other.
-use Rattle.std.proofs.Common.{◌≡◌, ℕ, zero, suc, ◌+◌, ◌≤◌, List, [], ◌∷◌, ◌++◌, length, take, drop, arith, ap, sym, ◌∙◌, subst, Some, Option, length-append, length-take, length-drop}
+use Rattle.std.proofs.Common.{◌≡◌, ℕ, zero, suc, ◌+◌, ◌≤◌, List, [], ◌∷◌, ◌++◌, length, take, drop, get_or, arith, ap, sym, ◌∙◌, subst, Some, Option, length-append, length-take, length-drop}
 use Rattle.std.proofs.lemmas.List.{take_at, take-append-le, take_all}
 use Rattle.nef_space.specs.Lists.{IsAt}
-use Rattle.nef_smap.proofs.ClassLists.{Either, earlier, last, is-at_either, is-at_within}
+use Rattle.nef_smap.proofs.ClassLists.{Either, earlier, last, is-at_either, is-at_within, is-at_get}
 use Rattle.nef_classes.specs.Tables.{total, HasCounts}
 use Rattle.nef_classes.specs.Flat.{AreStarts, AreCut}
 
@@ -20,6 +20,10 @@ more-starts cs ss c S = record {
     by : (k s : ℕ) → Either ss k s (total cs + c) → s ≡ total (take k (cs ++ c ∷ []))
     by k s (earlier b) = let h = is-at_within ss k s b in let e = S.as_many in S.each k s b ∙ ap total (sym (take-append-le k cs (c ∷ []) (omega arith)))
     by k s (last e f) = f ∙ sym (total-append cs c) ∙ ap total (sym (take_all k (cs ++ c ∷ []) (let g = length-append cs (c ∷ []) in let h = S.as_many in omega arith)))
+
+-- the last row ends where the table does
+pub starts-end : (cs ss : List ℕ) (d : ℕ) → AreStarts cs ss → get_or ss (length cs) d ≡ total cs
+starts-end cs ss d S = let e = S.as_many in S.each (length cs) (get_or ss (length cs) d) (is-at_get ss (length cs) d (omega arith)) ∙ ap total (take_all (length cs) cs (omega arith))
 
 at-drop : {X : Type 0} (xs : List X) (i k : ℕ) (x : X) → IsAt (drop i xs) k x → IsAt xs (i + k) x
 at-drop {X} xs zero k x a = subst (λ (n : ℕ). IsAt {X = X} xs n x) {x = k} {y = zero + k} (omega arith) a
