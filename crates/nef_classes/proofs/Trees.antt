@@ -10,6 +10,7 @@ use Rattle.nef_smap.specs.Classes.{AreLinked, AreClasses}
 use Rattle.nef_smap.proofs.Chains.{chain-here, chain-link, chain-trans, chain-turned, chain-keeps, chain-map}
 use Rattle.nef_smap.proofs.ClassLists.{Either, earlier, last, is-at_one, is-at_within, is-at_left, is-at_last, is-at_either}
 use Rattle.nef_smap.proofs.ClassLists.{is-at_get, is-at_is, is-at_take, less-or-last}
+use Rattle.nef_classes.proofs.Cutting.{take-at}
 use Rattle.nef_classes.proofs.Writes.{set-same, set-other, set-at}
 use Rattle.nef_classes.specs.Forest.{AreOrdered, IsLifted, HasSameTrees, IsParentOrLink, AreTogether, AreRoots}
 
@@ -274,12 +275,7 @@ trees-classes count ls ps qs T S R = record {
 -- ---- first elements of classes
 -- the root of an element is among those before it, or is the element
 pub root-earlier : (rs : List ℕ) (i x : ℕ) → AreRoots rs → IsAt rs i x → x < i → IsAt (take i rs) x x
-root-earlier rs i x R a h =
-    let r = R i x a in
-    let b : IsAt rs x x = r.1 in
-    let w = is-at_within rs x x b in
-    let l = length-take i rs in
-    subst (IsAt (take i rs) x) (get_or-take i rs x 0 h ∙ is-at_is rs x x 0 b) (is-at_get (take i rs) x 0 (let v = is-at_within rs i x a in omega (arith, l)))
+root-earlier rs i x R a h = let r = R i x a in take-at i rs x x h r.1
 
 -- no element before the first of a class is of the class
 pub none-earlier : (rs : List ℕ) (i x : ℕ) → AreRoots rs → i ≤ x → (k c : ℕ) → IsAt (take i rs) k c → c ≢ x
