@@ -1,8 +1,8 @@
 -- Rows cut from a list, one after the other.
-use Rattle.std.proofs.Common.{◌≡◌, ℕ, zero, suc, ◌+◌, ◌≤◌, List, [], ◌∷◌, ◌++◌, length, take, drop, arith, ap, sym, ◌∙◌, subst, Some, Option, length-append, length-take, length-drop}
-use Rattle.std.proofs.lemmas.List.{take_at, take-append-le, take_all}
+use Rattle.std.proofs.Common.{◌≡◌, ℕ, zero, suc, ◌+◌, ◌<◌, ◌≤◌, List, [], ◌∷◌, ◌++◌, length, take, drop, get_or, arith, ap, sym, ◌∙◌, subst, Some, Option, length-append, length-take, length-drop}
+use Rattle.std.proofs.lemmas.List.{take_at, take-append-le, take_all, get_or-take}
 use Rattle.nef_space.specs.Lists.{IsAt}
-use Rattle.nef_smap.proofs.ClassLists.{Either, earlier, last, is-at_either, is-at_within}
+use Rattle.nef_smap.proofs.ClassLists.{Either, earlier, last, is-at_either, is-at_within, is-at_get, is-at_is, is-at_take}
 use Rattle.nef_classes.specs.Tables.{total, HasCounts}
 use Rattle.nef_classes.specs.Flat.{AreStarts, AreCut}
 
@@ -21,16 +21,20 @@ more-starts cs ss c S = record {
     by k s (earlier b) = let h = is-at_within ss k s b in let e = S.as_many in S.each k s b ∙ ap total (sym (take-append-le k cs (c ∷ []) (omega arith)))
     by k s (last e f) = f ∙ sym (total-append cs c) ∙ ap total (sym (take_all k (cs ++ c ∷ []) (let g = length-append cs (c ∷ []) in let h = S.as_many in omega arith)))
 
+-- the last row ends where the table does
+pub starts-end : (cs ss : List ℕ) (d : ℕ) → AreStarts cs ss → get_or ss (length cs) d ≡ total cs
+starts-end cs ss d S = let e = S.as_many in S.each (length cs) (get_or ss (length cs) d) (is-at_get ss (length cs) d (omega arith)) ∙ ap total (take_all (length cs) cs (omega arith))
+
 at-drop : {X : Type 0} (xs : List X) (i k : ℕ) (x : X) → IsAt (drop i xs) k x → IsAt xs (i + k) x
 at-drop {X} xs zero k x a = subst (λ (n : ℕ). IsAt {X = X} xs n x) {x = k} {y = zero + k} (omega arith) a
 at-drop [] (suc i) k x a = cc
 at-drop {X} (y ∷ xs) (suc i) k x a = subst (λ (n : ℕ). IsAt {X = X} (y ∷ xs) n x) {x = suc (i + k)} {y = suc i + k} (omega arith) (at-drop xs i k x a)
 
-at-take : {X : Type 0} (n : ℕ) (xs : List X) (k : ℕ) (x : X) → IsAt (take n xs) k x → IsAt xs k x
-at-take zero xs k x a = cc
-at-take (suc n) [] k x a = cc
-at-take (suc n) (y ∷ xs) zero x a = a
-at-take (suc n) (y ∷ xs) (suc k) x a = at-take n xs k x a
+pub take-at : {X : Type 0} (n : ℕ) (xs : List X) (k : ℕ) (x : X) → k < n → IsAt xs k x → IsAt (take n xs) k x
+take-at n xs k x h a =
+    let w = is-at_within xs k x a in
+    let l = length-take n xs in
+    subst (IsAt (take n xs) k) (get_or-take n xs k x h ∙ is-at_is xs k x x a) (is-at_get (take n xs) k x (omega (arith, l)))
 
 -- one more row, cut where the last ends
 pub more-cut : (cs ns : List ℕ) (rows : List (List ℕ)) (c : ℕ) → HasCounts cs rows → AreCut cs ns rows → AreCut (cs ++ c ∷ []) ns (rows ++ take c (drop (total cs) ns) ∷ [])
@@ -42,7 +46,7 @@ more-cut cs ns rows c H C i k n (row, a, b) = by (is-at_either rows i row (take 
         subst (λ (xs : List ℕ). IsAt ns (total xs + k) n) (sym (take-append-le i cs (c ∷ []) (omega arith))) (C i k n (row, d, b))
     by (last e f) =
         subst (λ (xs : List ℕ). IsAt ns (total xs + k) n) (sym (take_at cs (c ∷ []) i (sym (e ∙ H.as_many))))
-        (at-drop ns (total cs) k n (at-take c (drop (total cs) ns) k n (subst (λ (r : List ℕ). IsAt r k n) f b)))
+        (at-drop ns (total cs) k n (is-at_take c (drop (total cs) ns) k n (subst (λ (r : List ℕ). IsAt r k n) f b)))
 
 pub more-counts : (cs ns : List ℕ) (rows : List (List ℕ)) (c : ℕ) → (total cs + c) ≤ length ns → HasCounts cs rows → HasCounts (cs ++ c ∷ []) (rows ++ take c (drop (total cs) ns) ∷ [])
 more-counts cs ns rows c l H = record {

@@ -1,3 +1,5 @@
 mod Places
 mod Numbers
-mod Cutting
+pub mod Cutting
+pub mod Writes
+mod Trees

@@ -2,6 +2,8 @@
 #![tactic(auto)]
 
 mod flat;
+mod forest;
+mod numbering;
 mod rows;
 mod table;
 

@@ -5,9 +5,10 @@ ghost use Rattle.nef_classes.specs.Tables.{AreTiedWithin, HasCounts, AreNumbers}
 
 use crate::OutOfMemory;
 use crate::flat::{flat_links, starts_of};
+use crate::forest::least_of_each;
+use crate::numbering::numbers_of;
 use crate::rows::rows_of;
 use nef_geo::List;
-use nef_smap::{class_numbers, class_of_each};
 use std::alloc::Global;
 
 /// An element of a table: its row, and its place in the row. Both count from 0.
@@ -38,7 +39,7 @@ pub fn number_rows(
 {
     let starts = starts_of(alloc, counts)?;
     let links = flat_links(alloc, &starts, counts, ties)?;
-    let classes = class_of_each(alloc, starts[counts.len()], &links)?;
-    let numbers = class_numbers(alloc, &classes)?;
+    let roots = least_of_each(alloc, starts[counts.len()], &links)?;
+    let numbers = numbers_of(alloc, &roots)?;
     rows_of(alloc, counts, &numbers)
 }

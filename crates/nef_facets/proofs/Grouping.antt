@@ -7,7 +7,7 @@ use Rattle.nef_complex.specs.declared.complex.Corner.{Corner}
 use Rattle.nef_parts.specs.declared.parts.Cycle.{Cycle}
 use Rattle.nef_facets.specs.Orbits.{AreCornersOf, IsCycleOf, AreGrouped}
 use Rattle.nef_facets.proofs.Lists.{AreEach}
-use Rattle.nef_facets.proofs.Walks.{set-same, set-other, set-at}
+use Rattle.nef_classes.proofs.Writes.{set-same, set-other, set-at}
 
 pub corners-of : (ks : List Corner) (is : List ℕ) (n : ℕ) (xs : List Corner) → AreEach (λ (x : Corner) (i : ℕ). IsAt ks i x) n xs is → length is ≤ n → AreCornersOf ks is xs
 corners-of ks is n xs E h = record { as_many = let e = E.as_many in let l = E.within in omega arith; each = λ k i x a b. E.each k x i b a }

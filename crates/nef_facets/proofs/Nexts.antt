@@ -26,7 +26,7 @@ use Rattle.nef_facets.proofs.CornerLists.{corner}
 use Rattle.nef_facets.proofs.EdgeViews.{EdgeFrom, edge-from}
 use Rattle.nef_facets.proofs.NextCorners.{next-arc}
 use Rattle.nef_facets.proofs.Order.{one-place}
-use Rattle.nef_facets.proofs.Walks.{set-same, set-other}
+use Rattle.nef_classes.proofs.Writes.{set-same, set-other}
 
 -- ---- one next corner noted
 module _ (C : PlainComplex) (ks : List Corner) (old new : List ℕ) (i n : ℕ) (j k : Corner) (a : IsAt ks i j) (b : IsAt ks n k) (e : new ≡ set old i n) (as-many : length old ≡ length ks) (N : NextCorner C (corner_of j) (corner_of k)) where

@@ -14,7 +14,7 @@ use Rattle.nef_classes.specs.Tables.{AreTied}
 use Rattle.nef_classes.specs.declared.table.Tie.{Tie}
 use Rattle.nef_links.specs.Links.{LinkAlong, LinkAcross, IsSideOf, LinkInSface, AreSidesAlong, above_arcs, below_arcs, around_ends, LinkAcrossFacet, LinkDown, LinkOutside, VolumeLink}
 use Rattle.nef_ties.specs.Ties.{spot_of}
-use Rattle.nef_volumes.specs.Ties.{outside_spot, AreLinks, AreTiedSides, AreTiesOf, AreTiedOutside, AreTiesDown, LinkOfItems, LinkOfEnds, LinkOfFacets, AreItemTies}
+use Rattle.nef_volumes.specs.Ties.{outside_spot, AreLinks, AreTiedSides, AreTiesOf, AreTiedOutside, AreTiesDown, LinkOfItems, LinkOfEnds, LinkOfFacets, AreTiedCorners, AreItemTies}
 use Rattle.nef_volumes.proofs.SideSpots.{tie-chain, more-tied, more-sides, both-links, links-as, one-spot}
 use Rattle.nef_volumes.proofs.BelowTies.{linked, one-below}
 
@@ -168,9 +168,9 @@ all-outside C outside sface items ends down f x h =
 
 -- the ties of items that are linked along edges, and of those that are linked across facets
 pub items-linked : (C : Complex) (along across ts us : List Tie) → ((j k : Corner) → AreTied along (spot_of j) (spot_of k) ↔ LinkAlong C j k) → ((j k : Corner) → AreTied across (spot_of j) (spot_of k) ↔ LinkAcross C j k)
-    → AreTiesOf C (LinkOfItems C (λ j k. AreTied along (spot_of j) (spot_of k))) ts → AreTiesOf C (LinkOfItems C (λ j k. AreTied across (spot_of j) (spot_of k))) us → AreItemTies C (ts ++ us)
+    → AreTiesOf C (LinkOfItems C (AreTiedCorners along)) ts → AreTiesOf C (LinkOfItems C (AreTiedCorners across)) us → AreItemTies C (ts ++ us)
 items-linked C along across ts us f g A B =
-    items-tied_both C (λ j k. AreTied along (spot_of j) (spot_of k)) (λ j k. AreTied across (spot_of j) (spot_of k)) (LinkOfFacets C) ts us back forth A B
+    items-tied_both C (AreTiedCorners along) (AreTiedCorners across) (LinkOfFacets C) ts us back forth A B
   where
     back : (j k : Corner) → LinkAlong C j k ⊎ LinkAcross C j k → AreTied along (spot_of j) (spot_of k) ⊎ AreTied across (spot_of j) (spot_of k)
     back j k (inl l) = inl ((f j k).1 l)

@@ -1,6 +1,9 @@
 -- The ties between sides of one sface.
-use Rattle.std.proofs.Common.{◌≡◌, ℕ, ◌<◌, ◌⊎◌, inl, inr, List, [], ◌∷◌, ◌++◌, length, Some, slice_get, arith, refl, ap, sym, ◌∙◌, subst}
+use Rattle.std.proofs.Common.{◌≡◌, ◌≢◌, ℕ, zero, suc, ◌+◌, ◌<◌, ◌==◌, true, false, ◌⊎◌, inl, inr, ⊎_elim, arith, refl, ap, sym, ◌∙◌, subst}
+use Rattle.std.proofs.Common.{List, [], ◌∷◌, ◌++◌, length, take, Some, slice_get}
 use Rattle.std.proofs.lemmas.Bool.{cases_order}
+use Rattle.std.proofs.lemmas.Bool.Decides.{eqb_tells}
+use Rattle.std.proofs.lemmas.List.{length-take}
 use Rattle.std.specs.List.{Contains}
 use Rattle.nef_space.specs.Lists.{IsAt, IsChain, Chained}
 use Rattle.nef_space.specs.Vectors.{Vector}
@@ -11,23 +14,24 @@ use Rattle.nef_smap.specs.Maps.{map_of}
 use Rattle.nef_smap.specs.SideNumbers.{number_of}
 use Rattle.nef_smap.proofs.SideLists.{side-has}
 use Rattle.nef_smap.proofs.SideNumbers.{side-number, number-one}
-use Rattle.nef_smap.proofs.ClassLists.{is-at_one, is-at_within, is-at_some}
+use Rattle.nef_smap.proofs.ClassLists.{is-at_one, is-at_within, is-at_some, is-at_take, less-or-last}
 use Rattle.nef_smap.proofs.Chains.{chain-here, chain-link, chain-trans, chain-turned}
 use Rattle.nef_solid.specs.Complexes.{Vertex, Complex}
 use Rattle.nef_solid.specs.Rays.{VertexSide}
+use Rattle.nef_classes.proofs.Cutting.{take-at}
 use Rattle.nef_classes.specs.Tables.{AreTied}
 use Rattle.nef_classes.specs.declared.table.Spot.{Spot}
 use Rattle.nef_classes.specs.declared.table.Tie.{Tie}
 use Rattle.nef_links.specs.Links.{LinkInSface}
 use Rattle.nef_ties.specs.Ties.{Adds, Any}
-use Rattle.nef_volumes.specs.Ties.{side_spot, IsSpotOf, IsEndOf, AreTiedSides, AreTiesOf, earlier_tie, IsTieNumbered, IsTieInSface}
+use Rattle.nef_volumes.specs.Ties.{side_spot, IsSpotOf, IsEndOf, AreTiedSides, AreTiesOf}
+use Rattle.nef_volumes.specs.Ties.{tie_within, IsFirstPlace, IsTieNumbered, AreInOneSface, IsTieInSface, AddsInSfaces}
 use Rattle.nef_complex.specs.Complexes.{vertex_of, complex_of}
 use Rattle.nef_complex.specs.declared.complex.Complex.{Complex as ProgramComplex}
 use Rattle.nef_complex.specs.declared.complex.Vertex.{Vertex as ProgramVertex}
-use Rattle.nef_ties.proofs.Adding.{adds-one, adds-none, adds-as}
+use Rattle.nef_ties.proofs.Adding.{adds-one, adds-none}
 use Rattle.nef_volumes.proofs.ReadVertex.{vertex-there, vertex-read}
-use Rattle.nef_volumes.proofs.SideSpots.{tie-chain, spot-is, spot-numbered}
-use Rattle.nef_volumes.proofs.OutsideTies.{only-added}
+use Rattle.nef_volumes.proofs.SideSpots.{tie-chain, more-tied, spot-is, spot-numbered}
 
 -- ---- chains of numbers and of sides
 module _ (M : Map) where
@@ -60,32 +64,52 @@ module _ (M : Map) where
       (chain-link (SeeOneWay M) (number_of M o) (number_of M q) (d, (o, k, side-number M o k g, a), (q, m, side-number M q m i, b)))
       (numbers-from_sface q p m l i h c)
 
-module _ (C : Complex) (ts : List Tie) (A : Adds (Any (λ i. Any (λ s. Any (IsTieInSface C i s)))) [] ts) where
+-- the ties of the first n vertices' sfaces
+pub record AreTiedBelow (C : Complex) (n : ℕ) (ts : List Tie) : Type 0 where
+  pub only : (t : Tie) → Contains ts t → Any (IsTieInSface C) t
+  pub tied : (i r s : ℕ) → i < n → AreInOneSface C i r s → Chained (AreTied ts) (side_spot i r) (side_spot i s)
+
+pub below-none : (C : Complex) (ts : List Tie) → ts ≡ [] → AreTiedBelow C 0 ts
+below-none C ts e = record {
+  only = λ t c. let h = subst (λ (us : List Tie). Contains us t) e c in absurd (let l = h.1 in omega (arith, l));
+  tied = λ i r s l. absurd (omega (arith, l));
+}
+
+pub below-more : (C : Complex) (n : ℕ) (ts us : List Tie) → AreTiedBelow C n ts → AddsInSfaces C n ts us → AreTiedBelow C (n + 1) us
+below-more C n ts us B A = record {
+  only = λ t c. ⊎_elim (λ h. B.only t h) (λ h. (n, h)) (A.added t c);
+  tied = λ i r s l h. ⊎_elim
+      (λ m. more-tied ts us A.kept (side_spot i r) (side_spot i s) (B.tied i r s m h))
+      (λ e. subst (λ (k : ℕ). Chained (AreTied us) (side_spot k r) (side_spot k s)) (sym e) (A.tied r s (subst (λ (k : ℕ). AreInOneSface C k r s) e h)))
+      (less-or-last i n l);
+}
+
+module _ (C : Complex) (n : ℕ) (ts : List Tie) (B : AreTiedBelow C n ts) (whole : (i : ℕ) (v : Vertex) → At C.vertices i v → i < n) where
   only : (t : Tie) → Contains ts t → (x : VertexSide) × (y : VertexSide) × IsEndOf C x t.first × IsEndOf C y t.second × LinkInSface C x y
   only t c =
-      let (i, (s, (r, (v, a, l, m, ch, e)))) = only-added (Any (λ i. Any (λ s. Any (IsTieInSface C i s)))) ts A t c in
-      let g = is-at_some (sides_of v.map) r (omega (arith, l, m)) in
+      let (i, (r, s, (v, a, l, m, ch), e)) = B.only t c in
+      let g = is-at_some (sides_of v.map) r l in
       let h = is-at_some (sides_of v.map) s m in
-      let o = (g.0).0 in let k = (g.0).1 in let p = (h.0).0 in let n = (h.0).1 in
+      let o = (g.0).0 in let k = (g.0).1 in let p = (h.0).0 in let q = (h.0).1 in
       let ho = side-has v.map r o k g.1 in
-      let hp = side-has v.map s p n h.1 in
+      let hp = side-has v.map s p q h.1 in
       let x : VertexSide = record { vertex = i; side = o } in
       let y : VertexSide = record { vertex = i; side = p } in (
         x,
         y,
         inl (subst (IsSpotOf C x) (sym (ap (λ (u : Tie). u.first) e)) (spot-numbered C i r v o k a ho (number-one v.map r o k g.1))),
-        inl (subst (IsSpotOf C y) (sym (ap (λ (u : Tie). u.second) e)) (spot-numbered C i s v p n a hp (number-one v.map s p n h.1))),
-        record { vertex = v; is_vertex = a; one_vertex = refl; one = k; other = n; has = ho; has_other = hp; one_sface = sface-from_numbers v.map ch.0 r s o p k n g.1 h.1 ch.1 },
+        inl (subst (IsSpotOf C y) (sym (ap (λ (u : Tie). u.second) e)) (spot-numbered C i s v p q a hp (number-one v.map s p q h.1))),
+        record {
+          vertex = v;
+          is_vertex = a;
+          one_vertex = refl;
+          one = k;
+          other = q;
+          has = ho;
+          has_other = hp;
+          one_sface = sface-from_numbers v.map ch.0 r s o p k q g.1 h.1 ch.1;
+        },
       )
-
-  module _ (i : ℕ) (v : Vertex) (a : At C.vertices i v) where
-    tied : (r s : ℕ) → r < s → s < length (sides_of v.map) → Chained (SeeOneWay v.map) r s → Chained (AreTied ts) (side_spot i r) (side_spot i s)
-    tied r s l m c = tie-chain ts (earlier_tie i s r) (side_spot i r) (side_spot i s) (A.all (earlier_tie i s r) (i, (s, (r, (v, a, l, m, c, refl))))) refl refl
-
-    either-order : (r s : ℕ) → (r ≡ s) ⊎ ((r < s) ⊎ (s < r)) → r < length (sides_of v.map) → s < length (sides_of v.map) → Chained (SeeOneWay v.map) r s → Chained (AreTied ts) (side_spot i r) (side_spot i s)
-    either-order r s (inl e) l m c = subst (λ (n : ℕ). Chained (AreTied ts) (side_spot i r) (side_spot i n)) e (chain-here (AreTied ts) (side_spot i r))
-    either-order r s (inr (inl e)) l m c = tied r s e m c
-    either-order r s (inr (inr e)) l m c = chain-turned (AreTied ts) (side_spot i s) (side_spot i r) (tied s r e l (chain-turned (SeeOneWay v.map) r s c))
 
   within : (M : Map) (o : Side) (k : Label) → HasSide M o k → number_of M o < length (sides_of M)
   within M o k h = is-at_within (sides_of M) (number_of M o) (o, k) (side-number M o k h)
@@ -99,7 +123,7 @@ module _ (C : Complex) (ts : List Tie) (A : Adds (Any (λ i. Any (λ s. Any (IsT
       let c = numbers-from_sface M x.side y.side L.one L.other L.has L.has_other L.one_sface in
       let e = L.one_vertex in
       let b = subst (λ (k : ℕ). At C.vertices k v) (sym e) L.is_vertex in
-      let d = either-order x.vertex v L.is_vertex r s (cases_order r s) (within M x.side L.one L.has) (within M y.side L.other L.has_other) c in (
+      let d = B.tied x.vertex r s (whole x.vertex v L.is_vertex) (v, L.is_vertex, within M x.side L.one L.has, within M y.side L.other L.has_other, c) in (
         side_spot x.vertex r,
         side_spot y.vertex s,
         spot-is C x v L.one L.is_vertex L.has,
@@ -111,40 +135,86 @@ module _ (C : Complex) (ts : List Tie) (A : Adds (Any (λ i. Any (λ s. Any (IsT
   pub sface-tied : AreTiesOf C (LinkInSface C) ts
   sface-tied = record { only = only; all = all }
 
--- ---- the loops over the sides of a vertex
-module _ (i s r : ℕ) (ns : List ℕ) (l : r < s) (ts : List Tie) where
-  pub numbered-added : (n : ℕ) × IsAt ns r n × IsAt ns s n → (a b : Spot) → a ≡ side_spot i r → b ≡ side_spot i s → Adds (IsTieNumbered i ns s r) ts (ts ++ record { first = a; second = b } ∷ [])
-  numbered-added (n, g, h) a b e f =
+-- ---- first places
+first-one : (ns : List ℕ) (n r k : ℕ) → IsFirstPlace ns n r → IsFirstPlace ns n k → r ≡ k
+first-one ns n r k f g = by (cases_order r k)
+  where
+    by : (r ≡ k) ⊎ ((r < k) ⊎ (k < r)) → r ≡ k
+    by (inl e) = e
+    by (inr (inl l)) = absurd (g.1 r l f.0)
+    by (inr (inr l)) = absurd (f.1 k l g.0)
+
+first-place : (ns : List ℕ) (n k : ℕ) → IsAt ns k n → (r : ℕ) × IsFirstPlace ns n r
+first-place [] n k a = cc
+first-place (m ∷ ns) n zero a = (zero, (a, λ j l. absurd (omega (arith, l))))
+first-place (m ∷ ns) n (suc k) a = by (eqb_tells m n) (first-place ns n k a)
+  where
+    later : (r : ℕ) → IsFirstPlace ns n r → m ≢ n → (j : ℕ) → j < suc r → IsAt (m ∷ ns) j n → ⊥
+    later r f d zero l b = d (is-at_one (m ∷ ns) zero m n refl b)
+    later r f d (suc j) l b = f.1 j (omega (arith, l)) b
+
+    by : ((m == n ≡ true) × (m ≡ n)) ⊎ ((m == n ≡ false) × (m ≢ n)) → (r : ℕ) × IsFirstPlace ns n r → (r : ℕ) × IsFirstPlace (m ∷ ns) n r
+    by (inl h) f = (zero, (ap Some h.1, λ j l. absurd (omega (arith, l))))
+    by (inr h) f = (suc f.0, (f.1.0, later f.0 f.1 h.1))
+
+-- a first place before s, found among the first s
+first-taken : (ns : List ℕ) (s n r : ℕ) → IsFirstPlace (take s ns) n r → (r < s) × IsFirstPlace ns n r
+first-taken ns s n r f =
+    let w = is-at_within (take s ns) r n f.0 in
+    let l = length-take s ns in
+    let h : r < s = omega (arith, w, l) in
+    (h, (is-at_take s ns r n f.0, λ k m a. f.1 k m (take-at s ns k n (omega (arith, h, m)) a)))
+
+-- ---- the ties of a side
+module _ (i s : ℕ) (ns : List ℕ) (n : ℕ) (at_s : IsAt ns s n) (ts : List Tie) where
+  pub numbered-added : (r : ℕ) → IsFirstPlace (take s ns) n r → (a b : Spot) → a ≡ side_spot i r → b ≡ side_spot i s
+      → Adds (Any (IsTieNumbered i ns s)) ts (ts ++ record { first = a; second = b } ∷ [])
+  numbered-added r f a b e g =
       let t : Tie = record { first = a; second = b } in
-      let is : t ≡ earlier_tie i s r = cc in
-      adds-one (IsTieNumbered i ns s r) ts t (l, n, g, h, is) (λ y (m, k, p, q, w). is ∙ sym w)
+      let is : t ≡ tie_within i r s = cc in
+      let h = first-taken ns s n r f in
+      adds-one (Any (IsTieNumbered i ns s)) ts t (r, (h.0, n, h.1, at_s, is)) (λ y (k, (l, m, p, q, w)).
+      let one = first-one ns n r k h.1 (subst (λ (x : ℕ). IsFirstPlace ns x k) (is-at_one ns s m n q at_s) p) in
+      is ∙ ap (λ (x : ℕ). tie_within i x s) one ∙ sym w)
 
-  pub numbered-none : ((n : ℕ) × IsAt ns r n × IsAt ns s n → ⊥) → Adds (IsTieNumbered i ns s r) ts ts
-  numbered-none apart = adds-none (IsTieNumbered i ns s r) ts (λ t (m, k, p, q, w). apart (k, p, q))
+  pub numbered-none : ((k : ℕ) → IsAt (take s ns) k n → ⊥) → Adds (Any (IsTieNumbered i ns s)) ts ts
+  numbered-none none = adds-none (Any (IsTieNumbered i ns s)) ts (λ t (k, (l, m, p, q, w)).
+      none k (take-at s ns k n l (subst (IsAt ns k) (is-at_one ns s m n q at_s) p.0)))
 
--- equal numbers are those of one sface
-module _ (c : ProgramComplex) (i : ℕ) (u : ProgramVertex) (e : slice_get c.vertices i ≡ Some u) (ns : List ℕ) (F : AreSfaces (map_of u.map) ns) where
-  to-sface : (s : ℕ) (t : Tie) → Any (IsTieNumbered i ns s) t → Any (IsTieInSface (complex_of c) i s) t
-  to-sface s t (r, (l, n, g, h, f)) =
-      let w = is-at_within ns s n h in let m = F.as_many in
-      (r, (vertex_of u, vertex-there c i u e, l, omega (arith, w, m), (F.numbered.by_class r s n n g h).0 refl, f))
-
-  from-sface : (s : ℕ) (t : Tie) → Any (IsTieInSface (complex_of c) i s) t → Any (IsTieNumbered i ns s) t
-  from-sface s t (r, (v, a, l, w, ch, f)) =
-      let M = map_of u.map in
-      let one = vertex-read c i u v e a in
+-- ---- the ties of a vertex: equal numbers are those of one sface
+module _ (c : ProgramComplex) (i : ℕ) (u : ProgramVertex) (e : slice_get c.vertices i ≡ Some u) (ns : List ℕ) (F : AreSfaces (map_of u.map) ns)
+    (xs ys : List Tie) (A : Adds (Any (λ s. Any (IsTieNumbered i ns s))) xs ys) where
+  to-sface : (t : Tie) → Any (λ s. Any (IsTieNumbered i ns s)) t → IsTieInSface (complex_of c) i t
+  to-sface t (s, (r, (l, n, f, h, w))) =
       let m = F.as_many in
-      let w' = subst (λ (x : Vertex). s < length (sides_of x.map)) one w in
-      let g = is-at_some ns r (omega (arith, w', m, l)) in
-      let h = is-at_some ns s (omega (arith, w', m)) in
-      let same = (F.numbered.by_class r s g.0 h.0 g.1 h.1).1 (subst (λ (x : Vertex). Chained (SeeOneWay x.map) r s) one ch) in
-      (r, (l, h.0, subst (IsAt ns r) same g.1, h.1, f))
+      let p = is-at_within ns r n f.0 in
+      let q = is-at_within ns s n h in
+      (r, s, (vertex_of u, vertex-there c i u e, omega (arith, m, p), omega (arith, m, q), (F.numbered.by_class r s n n f.0 h).0 refl), w)
 
-  pub numbered-sface : (xs ys : List Tie) → Adds (Any (λ s. Any (IsTieNumbered i ns s))) xs ys → Adds (Any (λ s. Any (IsTieInSface (complex_of c) i s))) xs ys
-  numbered-sface xs ys A = adds-as (Any (λ s. Any (IsTieNumbered i ns s))) (Any (λ s. Any (IsTieInSface (complex_of c) i s))) xs ys (λ t (s, p). (s, to-sface s t p)) (λ t (s, p). (s, from-sface s t p)) A
+  to-first : (n f k : ℕ) → IsFirstPlace ns n f → IsAt ns k n → Chained (AreTied ys) (side_spot i f) (side_spot i k)
+  to-first n f k p a = by (cases_order f k)
+    where
+      by : (f ≡ k) ⊎ ((f < k) ⊎ (k < f)) → Chained (AreTied ys) (side_spot i f) (side_spot i k)
+      by (inl o) = subst (λ (j : ℕ). Chained (AreTied ys) (side_spot i f) (side_spot i j)) o (chain-here (AreTied ys) (side_spot i f))
+      by (inr (inl l)) = tie-chain ys (tie_within i f k) (side_spot i f) (side_spot i k) (A.all (tie_within i f k) (k, (f, (l, n, p, a, refl)))) refl refl
+      by (inr (inr l)) = absurd (p.1 k l a)
+
+  tied : (r s : ℕ) → AreInOneSface (complex_of c) i r s → Chained (AreTied ys) (side_spot i r) (side_spot i s)
+  tied r s (v, a, l, m, ch) =
+      let one = vertex-read c i u v e a in
+      let many = F.as_many in
+      let l' = subst (λ (x : Vertex). r < length (sides_of x.map)) one l in
+      let m' = subst (λ (x : Vertex). s < length (sides_of x.map)) one m in
+      let g = is-at_some ns r (omega (arith, many, l')) in
+      let h = is-at_some ns s (omega (arith, many, m')) in
+      let same = (F.numbered.by_class r s g.0 h.0 g.1 h.1).1 (subst (λ (x : Vertex). Chained (SeeOneWay x.map) r s) one ch) in
+      let f = first-place ns g.0 r g.1 in
+      chain-trans (AreTied ys) (side_spot i r) (side_spot i f.0) (side_spot i s)
+      (chain-turned (AreTied ys) (side_spot i f.0) (side_spot i r) (to-first g.0 f.0 r f.1 g.1))
+      (to-first g.0 f.0 s f.1 (subst (IsAt ns s) (sym same) h.1))
+
+  pub numbered-sface : AddsInSfaces (complex_of c) i xs ys
+  numbered-sface = record { kept = A.kept; added = λ t h. ⊎_elim (λ b. inl b) (λ b. inr (to-sface t b)) (A.added t h); tied = tied }
 
 pub numbered-below : (i : ℕ) (ns : List ℕ) (s : ℕ) (t : Tie) → Any (IsTieNumbered i ns s) t → s < length ns
-numbered-below i ns s t (r, (l, n, g, h, f)) = is-at_within ns s n h
-
-pub earlier-below : (i : ℕ) (ns : List ℕ) (s r : ℕ) (t : Tie) → IsTieNumbered i ns s r t → r < s
-earlier-below i ns s r t p = p.0
+numbered-below i ns s t (r, (l, n, f, h, w)) = is-at_within ns s n h

@@ -1,5 +1,5 @@
 -- Sides as elements of a table, and which ties join them.
-use Rattle.std.specs.Prelude.{◌≡◌, ℕ, ◌+◌, ◌<◌, List, ◌∷◌, length, map, Bool, true, false, cond, Some, ◌⊎◌}
+use Rattle.std.specs.Prelude.{◌≡◌, ℕ, ◌+◌, ◌<◌, List, ◌∷◌, length, map, Bool, true, false, cond, Option, Some, MatchOption, ◌⊎◌}
 use Rattle.std.specs.List.{Contains}
 use Rattle.nef_space.specs.Lists.{IsAt, Chained}
 use Rattle.nef_space.specs.declared.label.Label.{Label}
@@ -10,10 +10,15 @@ use Rattle.nef_smap.specs.SideNumbers.{number_of}
 use Rattle.nef_solid.specs.Complexes.{Vertex, Edge, Complex, Corner}
 use Rattle.nef_solid.specs.Rays.{VertexSide, HasSideLabel, RayDown}
 use Rattle.nef_classes.specs.Tables.{AreTied}
+use Rattle.nef_ties.specs.Ties.{spot_of}
 use Rattle.nef_classes.specs.declared.table.Spot.{Spot}
 use Rattle.nef_classes.specs.declared.table.Tie.{Tie}
 use Rattle.nef_links.specs.Links.{IsSideOf, LinkAlong, LinkAcross, LinkDown}
 use Rattle.nef_parts.specs.Numbers.{count_sides}
+
+-- something with P was found, or nothing has P
+abbrev pub Finds : {X : Type 0} → Option X → (X → Type 0) → Type 0
+Finds {X} found P = MatchOption found ((x : X) → P x → ⊥) P
 
 -- the element of the outside, alone in the first row
 abbrev pub outside_spot : Spot
@@ -62,17 +67,31 @@ abbrev pub IsTieOutside : Complex → ℕ → ℕ → Tie → Type 0
 IsTieOutside C i s t = HasNumber C i s Out × (t ≡ record { first = outside_spot; second = side_spot i s })
 
 -- ---- sfaces
--- the tie of side r of vertex i, an earlier one, with side s
-abbrev pub earlier_tie : ℕ → ℕ → ℕ → Tie
-earlier_tie i s r = record { first = side_spot i r; second = side_spot i s }
+-- the tie of sides r and s of vertex i
+abbrev pub tie_within : ℕ → ℕ → ℕ → Tie
+tie_within i r s = record { first = side_spot i r; second = side_spot i s }
 
--- the tie joins an earlier side of vertex i with side s where both have one number
+-- r is the first place of the number
+abbrev pub IsFirstPlace : List ℕ → ℕ → ℕ → Type 0
+IsFirstPlace ns n r = IsAt ns r n × ((k : ℕ) → k < r → IsAt ns k n → ⊥)
+
+-- the tie joins the first side of vertex i that has the number of side s with side s, a later one
 abbrev pub IsTieNumbered : ℕ → List ℕ → ℕ → ℕ → Tie → Type 0
-IsTieNumbered i ns s r t = (r < s) × (n : ℕ) × IsAt ns r n × IsAt ns s n × (t ≡ earlier_tie i s r)
+IsTieNumbered i ns s r t = (r < s) × (n : ℕ) × IsFirstPlace ns n r × IsAt ns s n × (t ≡ tie_within i r s)
 
--- and where both are of one sface
-abbrev pub IsTieInSface : Complex → ℕ → ℕ → ℕ → Tie → Type 0
-IsTieInSface C i s r t = (v : Vertex) × At C.vertices i v × (r < s) × (s < length (sides_of v.map)) × Chained (SeeOneWay v.map) r s × (t ≡ earlier_tie i s r)
+-- vertex i has sides with the numbers r and s, which are of one sface
+abbrev pub AreInOneSface : Complex → ℕ → ℕ → ℕ → Type 0
+AreInOneSface C i r s = (v : Vertex) × At C.vertices i v × (r < length (sides_of v.map)) × (s < length (sides_of v.map)) × Chained (SeeOneWay v.map) r s
+
+-- the tie joins two sides of vertex i of one sface
+abbrev pub IsTieInSface : Complex → ℕ → Tie → Type 0
+IsTieInSface C i t = (r : ℕ) × (s : ℕ) × AreInOneSface C i r s × (t ≡ tie_within i r s)
+
+-- us are the ties ts and some between sides of vertex i of one sface; they lead from each side of an sface to each other
+pub record AddsInSfaces (C : Complex) (i : ℕ) (ts us : List Tie) : Type 0 where
+  pub kept : (t : Tie) → Contains ts t → Contains us t
+  pub added : (t : Tie) → Contains us t → Contains ts t ⊎ IsTieInSface C i t
+  pub tied : (r s : ℕ) → AreInOneSface C i r s → Chained (AreTied us) (side_spot i r) (side_spot i s)
 
 -- ---- sides of items
 abbrev pub side_at : Bool → ℕ → Side
@@ -90,22 +109,29 @@ IsSideTie C above t u = IsItemSide C above t.first u.first × IsItemSide C above
 abbrev pub IsTieOfItems : Complex → List Tie → ℕ → Tie → Type 0
 IsTieOfItems C ts k u = (t : Tie) × IsAt ts k t × (IsSideTie C true t u ⊎ IsSideTie C false t u)
 
+-- a tie of the list leads from the element of corner j to that of k
+abbrev pub AreTiedCorners : List Tie → Corner → Corner → Type 0
+AreTiedCorners ts j k = AreTied ts (spot_of j) (spot_of k)
+
 -- both are upper sides of linked items, or both are lower sides
 abbrev pub LinkOfItems : Complex → (Corner → Corner → Type 0) → VertexSide → VertexSide → Type 0
 LinkOfItems C Link x y = (j : Corner) × (k : Corner) × Link j k
-    × ((IsSideOf C x j.vertex (above_item j.item) × IsSideOf C y k.vertex (above_item k.item)) ⊎ (IsSideOf C x j.vertex (below_item j.item) × IsSideOf C y k.vertex (below_item k.item)))
+    × ((IsSideOf C x j.vertex (above_item j.item) × IsSideOf C y k.vertex (above_item k.item))
+    ⊎ (IsSideOf C x j.vertex (below_item j.item) × IsSideOf C y k.vertex (below_item k.item)))
 
 -- ---- edges
 -- both are the sides round the ends of an edge
 abbrev pub LinkOfEnds : Complex → VertexSide → VertexSide → Type 0
-LinkOfEnds C x y = (k : ℕ) × (e : Edge) × At C.edges k e × IsSideOf C x e.low (around_svertex e.low_svertex) × IsSideOf C y e.high (around_svertex e.high_svertex)
+LinkOfEnds C x y = (k : ℕ) × (e : Edge) × At C.edges k e
+    × IsSideOf C x e.low (around_svertex e.low_svertex) × IsSideOf C y e.high (around_svertex e.high_svertex)
 
 abbrev pub HasSvertex : Complex → ℕ → ℕ → Type 0
 HasSvertex C i k = (v : Vertex) × (u : Svertex) × At C.vertices i v × At v.map.svertices k u
 
 -- the element is that of the side round svertex k of vertex i
 abbrev pub IsAroundSpot : Complex → ℕ → ℕ → Spot → Type 0
-IsAroundSpot C i k a = (v : Vertex) × (u : Svertex) × (l : Label) × At C.vertices i v × At v.map.svertices k u × (u.around ≡ Some l) × (a ≡ side_spot i (number_of v.map (around_svertex k)))
+IsAroundSpot C i k a = (v : Vertex) × (u : Svertex) × (l : Label) × At C.vertices i v × At v.map.svertices k u × (u.around ≡ Some l)
+    × (a ≡ side_spot i (number_of v.map (around_svertex k)))
 
 -- the tie joins the sides round the ends of edge k
 abbrev pub IsTieOfEnds : Complex → ℕ → Tie → Type 0
@@ -119,6 +145,10 @@ IsBelow C i x = (v : Vertex) × At C.vertices i v × RayDown C v.point x
 -- the tie joins a side of vertex i with a side that the link down the ray joins with it
 abbrev pub IsTieDown : Complex → ℕ → Tie → Type 0
 IsTieDown C i t = (x : VertexSide) × (y : VertexSide) × (x.vertex ≡ i) × IsSpotOf C x t.first × IsSpotOf C y t.second × LinkDown C x y
+
+-- no side of vertex i has a link down
+abbrev pub HasNoLinkDown : Complex → ℕ → Type 0
+HasNoLinkDown C i = (x y : VertexSide) → x.vertex ≡ i → LinkDown C x y → ⊥
 
 -- the ties join sides that links down rays join, and there is one for each vertex that has such a link
 pub record AreTiesDown (C : Complex) (ts : List Tie) : Type 0 where

@@ -7,9 +7,8 @@ ghost use Rattle.nef_space.specs.Vectors.{opposite, up};
 ghost use Rattle.nef_smap.specs.Maps.{map_of, IsSphereMap};
 ghost use Rattle.nef_smap.specs.Sides.{SideSees};
 ghost use Rattle.nef_solid.specs.Rays.{VertexSide};
-ghost use Rattle.nef_links.specs.Links.{LinkDown};
 ghost use Rattle.nef_complex.specs.Complexes.{complex_of, ShowsSet};
-ghost use Rattle.nef_volumes.specs.Ties.{IsBelow, IsSpotBelow, IsTieDown, AreTiesDown};
+ghost use Rattle.nef_volumes.specs.Ties.{IsBelow, IsSpotBelow, HasNoLinkDown, IsTieDown, AreTiesDown};
 
 use crate::OutOfMemory;
 use crate::outside::is_outside;
@@ -53,7 +52,7 @@ fn spot_below(c: &Complex, vertex: usize) -> Option<Spot>
 fn down_tie(c: &Complex, vertex: usize) -> Option<Tie>
     requires shows { (s : Set) × ShowsSet s c.now }
     requires within { vertex < length c.now.vertices }
-    ensures tie { MatchOption result ((x y : VertexSide) → x.vertex ≡ vertex → LinkDown (complex_of c.now) x y → ⊥) (IsTieDown (complex_of c.now) vertex) }
+    ensures tie { MatchOption result (HasNoLinkDown (complex_of c.now) vertex) (IsTieDown (complex_of c.now) vertex) }
 {
     let map = &c.vertices.at(vertex).map;
     let side = side_downward(map);

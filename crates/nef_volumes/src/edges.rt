@@ -1,12 +1,9 @@
 //! The ties of the sides round the ends of edges.
 
 ghost use Rattle.std.specs.Prelude.{◌<◌, length, IfOk};
-ghost use Rattle.std.specs.Option.{MatchOption};
 ghost use Rattle.nef_space.specs.Sets.{Set};
 ghost use Rattle.nef_complex.specs.Complexes.{complex_of, ShowsSet};
-ghost use Rattle.nef_classes.specs.declared.table.Spot.{Spot as PlainSpot};
-ghost use Rattle.nef_classes.specs.declared.table.Tie.{Tie as PlainTie};
-ghost use Rattle.nef_volumes.specs.Ties.{AreTiesOf, HasSvertex, IsAroundSpot, IsTieOfEnds, LinkOfEnds};
+ghost use Rattle.nef_volumes.specs.Ties.{AreTiesOf, Finds, HasSvertex, IsAroundSpot, IsTieOfEnds, LinkOfEnds};
 
 use crate::OutOfMemory;
 use crate::spots::spot;
@@ -19,7 +16,7 @@ use std::alloc::Global;
 fn around_spot(c: &Complex, vertex: usize, svertex: usize) -> Option<Spot>
     requires within { vertex < length c.now.vertices }
     requires svertex { HasSvertex (complex_of c.now) vertex svertex }
-    ensures spot { MatchOption result ((a : PlainSpot) → IsAroundSpot (complex_of c.now) vertex svertex a → ⊥) (IsAroundSpot (complex_of c.now) vertex svertex) }
+    ensures spot { Finds result (IsAroundSpot (complex_of c.now) vertex svertex) }
 {
     let map = &c.vertices.at(vertex).map;
     match map.svertices.at(svertex).around {
@@ -32,7 +29,7 @@ fn around_spot(c: &Complex, vertex: usize, svertex: usize) -> Option<Spot>
 fn ends_tie(c: &Complex, number: usize) -> Option<Tie>
     requires shows { (s : Set) × ShowsSet s c.now }
     requires within { number < length c.now.edges }
-    ensures tie { MatchOption result ((t : PlainTie) → IsTieOfEnds (complex_of c.now) number t → ⊥) (IsTieOfEnds (complex_of c.now) number) }
+    ensures tie { Finds result (IsTieOfEnds (complex_of c.now) number) }
 {
     let edge = c.edges.at(number);
     let first = around_spot(c, edge.low, edge.low_svertex)?;

@@ -4,9 +4,8 @@ ghost use Rattle.std.specs.Prelude.{map, IfOk};
 ghost use Rattle.nef_space.specs.Sets.{Set};
 ghost use Rattle.nef_complex.specs.Complexes.{complex_of, ShowsSet};
 ghost use Rattle.nef_parts.specs.Numbers.{count_items};
-ghost use Rattle.nef_classes.specs.Tables.{IsSpotIn, AreTied, AreTiedWithin};
-ghost use Rattle.nef_ties.specs.Ties.{spot_of};
-ghost use Rattle.nef_volumes.specs.Ties.{AreTiesOf, IsItemSide, IsSideTie, LinkOfItems};
+ghost use Rattle.nef_classes.specs.Tables.{IsSpotIn, AreTiedWithin};
+ghost use Rattle.nef_volumes.specs.Ties.{AreTiesOf, AreTiedCorners, IsItemSide, IsSideTie, LinkOfItems};
 
 use crate::OutOfMemory;
 use crate::spots::spot;
@@ -42,7 +41,7 @@ fn side_tie(c: &Complex, tie: &Tie, above: bool) -> Tie
 pub(crate) fn item_ties(alloc: Global, c: &Complex, items: &[Tie]) -> Result<Vec<Tie>, OutOfMemory>
     requires shows { (s : Set) × ShowsSet s c.now }
     requires within { AreTiedWithin (map count_items (complex_of c.now).vertices) items.now }
-    ensures ties { IfOk result (λ v. AreTiesOf (complex_of c.now) (LinkOfItems (complex_of c.now) (λ j k. AreTied items.now (spot_of j) (spot_of k))) v.items) }
+    ensures ties { IfOk result (λ v. AreTiesOf (complex_of c.now) (LinkOfItems (complex_of c.now) (AreTiedCorners items.now)) v.items) }
 {
     let mut ties = Vec::new(alloc);
     for tie in items {

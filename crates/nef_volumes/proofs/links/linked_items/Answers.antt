@@ -1,10 +1,9 @@
 use Rattle.std.proofs.Common.{◌≡◌, List, ◌++◌, map, sym, ap, ◌∙◌, subst}
-use Rattle.nef_classes.specs.Tables.{AreTied, AreTiedWithin}
+use Rattle.nef_classes.specs.Tables.{AreTiedWithin}
 use Rattle.nef_classes.specs.declared.table.Tie.{Tie}
 use Rattle.nef_complex.specs.Complexes.{complex_of}
 use Rattle.nef_parts.specs.Numbers.{count_items}
-use Rattle.nef_ties.specs.Ties.{spot_of}
-use Rattle.nef_volumes.specs.Ties.{AreTiesOf, LinkOfItems, AreItemTies}
+use Rattle.nef_volumes.specs.Ties.{AreTiesOf, LinkOfItems, AreTiedCorners, AreItemTies}
 use Rattle.nef_volumes.proofs.AllTies.{items-linked}
 use Rattle.nef_volumes.proofs.links.linked_items.Goals as goal
 
@@ -24,6 +23,6 @@ returns c =
     let e : c.extend_from_slice.new.self.items ≡ ts ++ us = c.in_ok-extend_from_slice.ensures.items ∙ ap (λ (ls : List Tie). ts ++ ls) c.as_slice-3.ensures.value in
     record {
       ties = subst (λ (ls : List Tie). AreItemTies C ls) (sym e) (items-linked C along across ts us c.in_ok-along.ensures.along c.in_ok-across.ensures.across
-          (subst (λ (ls : List Tie). AreTiesOf C (LinkOfItems C (λ j k. AreTied ls (spot_of j) (spot_of k))) ts) c.as_slice.ensures.value c.in_ok-ties.ensures.ties)
-          (subst (λ (ls : List Tie). AreTiesOf C (LinkOfItems C (λ j k. AreTied ls (spot_of j) (spot_of k))) us) c.as_slice-2.ensures.value c.in_ok-others.ensures.ties));
+          (subst (λ (ls : List Tie). AreTiesOf C (LinkOfItems C (AreTiedCorners ls)) ts) c.as_slice.ensures.value c.in_ok-ties.ensures.ties)
+          (subst (λ (ls : List Tie). AreTiesOf C (LinkOfItems C (AreTiedCorners ls)) us) c.as_slice-2.ensures.value c.in_ok-others.ensures.ties));
     }

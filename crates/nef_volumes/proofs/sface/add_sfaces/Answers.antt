@@ -17,8 +17,8 @@ loop-side-preserved c =
     let ns = c.in_ok-numbers.numbers.items in
     let s = c.loop-side.side in
     let now = c.loop-side.ties.items in
-    any-next (λ r. Any (IsTieNumbered i ns r)) s c.args.ties.now.items now c.add_earlier.new.ties.items c.loop-side.invariant
-    (subst (λ (xs : List _). Adds (Any (IsTieNumbered i xs s)) now c.add_earlier.new.ties.items) c.as_slice.ensures.value c.in_ok-add_earlier.ensures.added)
+    any-next (λ r. Any (IsTieNumbered i ns r)) s c.args.ties.now.items now c.add_first.new.ties.items c.loop-side.invariant
+    (subst (λ (xs : List _). Adds (Any (IsTieNumbered i xs s)) now c.add_first.new.ties.items) c.as_slice.ensures.value c.in_ok-add_first.ensures.added)
 
 pub returns : goal.returns
 returns c =

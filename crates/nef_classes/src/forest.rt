@@ -1,0 +1,94 @@
+//! Classes as trees: each number has a parent, which is never greater, and the root of a tree, its own parent, is the
+//! least number of a class.
+
+ghost use Rattle.std.specs.Prelude.{◌≡◌, ◌<◌, length, ℕ, IfOk};
+ghost use Rattle.nef_space.specs.Lists.{IsAt, Chained};
+ghost use Rattle.nef_smap.specs.Classes.{AreWithin, AreClasses};
+ghost use Rattle.nef_classes.specs.Forest.{AreOrdered, IsLifted, HasSameTrees, AreTogether, AreRoots};
+
+use crate::OutOfMemory;
+use nef_smap::Link;
+use std::alloc::Global;
+
+// Each number is its own parent.
+fn each_alone(alloc: Global, count: usize) -> Result<Vec<usize>, OutOfMemory>
+    ensures as_many { IfOk result (λ v. length v.items ≡ count) }
+    ensures alone { IfOk result (λ v. (k p : ℕ) → IsAt v.items k p → p ≡ k) }
+{
+    let mut parents = Vec::new(alloc);
+    for number in 0..count {
+        parents.push(number)?;
+    }
+    Ok(parents)
+}
+
+// Makes the parent of the number's parent the number's parent, and returns it.
+fn lift(parents: &mut [usize], number: usize) -> usize
+    requires ordered { AreOrdered parents.old }
+    requires within { number < length parents.old }
+    ensures lifted { IsLifted number result parents.old parents.new }
+{
+    let parent = parents[number];
+    let above = parents[parent];
+    parents[number] = above;
+    above
+}
+
+// The root of the number's tree. The way there gets shorter by half, so that no later walk is long.
+fn root(parents: &mut [usize], number: usize) -> usize
+    requires ordered { AreOrdered parents.old }
+    requires within { number < length parents.old }
+    ensures same { HasSameTrees parents.old parents.new }
+    ensures root { IsAt parents.new result result }
+    ensures reached { Chained (IsAt parents.new) number result }
+{
+    let mut reached = number;
+    while parents[reached] != reached {
+        reached = lift(parents, reached);
+    }
+    reached
+}
+
+// Makes the trees of the link's numbers one.
+fn join(parents: &mut [usize], link: &Link)
+    requires ordered { AreOrdered parents.old }
+    requires first { link.now.first < length parents.old }
+    requires second { link.now.second < length parents.old }
+    ensures joined { AreTogether link.now parents.old parents.new }
+{
+    let first = root(parents, link.first);
+    let second = root(parents, link.second);
+    let lower = first.min(second);
+    let upper = first.max(second);
+    parents[upper] = lower;
+}
+
+// Makes each number's root its parent.
+fn flatten(parents: &mut [usize])
+    requires ordered { AreOrdered parents.old }
+    ensures same { HasSameTrees parents.old parents.new }
+    ensures roots { AreRoots parents.new }
+{
+    for number in 0..parents.len() {
+        lift(parents, number);
+    }
+}
+
+/// For each number below `count` the least number of its class. Chains of links join the numbers of a class. The time
+/// grows a little faster than `count` and the number of links together.
+pub(crate) fn least_of_each(
+    alloc: Global,
+    count: usize,
+    links: &[Link],
+) -> Result<Vec<usize>, OutOfMemory>
+    requires within { AreWithin count links.now }
+    ensures classes { IfOk result (λ v. AreClasses count links.now v.items) }
+    ensures roots { IfOk result (λ v. AreRoots v.items) }
+{
+    let mut parents = each_alone(alloc, count)?;
+    for link in links {
+        join(parents.as_mut_slice(), link);
+    }
+    flatten(parents.as_mut_slice());
+    Ok(parents)
+}
