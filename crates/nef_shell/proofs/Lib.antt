@@ -2,3 +2,4 @@ pub mod Meaning
 pub mod Complexes
 pub mod Outputs
 pub mod Statuses
+pub mod Pieces

@@ -7,10 +7,12 @@ use Rattle.nef_script.specs.declared.fault.ScriptKind.TheVariants.{ScriptTooLong
 use Rattle.nef_script.specs.Refusal.{script_limit, FirstRefusal, IsAccepted}
 use Rattle.nef_shell.specs.declared.status.Status.{Status}
 use Rattle.nef_shell.specs.declared.status.Status.TheVariants.{Done, Refused, Words, ReadFault, WriteFault, OutOfMemory}
-use Rattle.nef_shell.specs.Status.{MatchStatus, IfWriteFault, IfOutOfMemory, EndsDone, EndsRefused}
+use Rattle.nef_shell.specs.Status.{MatchStatus, IfDone, IfWriteFault, IfOutOfMemory, EndsDone, EndsRefused}
 use Rattle.nef_shell.specs.Output.{refusal_line}
 use Rattle.nef_shell.specs.Answers.{AreAccepted, IsRead, HasOutput, HasRefusal, HasFront, HasDefinedFront}
 use Rattle.nef_script.proofs.RefusalLaws.{one_refusal, never_both}
+use Rattle.nef_shell.specs.Prints.{HasComparedTexts}
+use Rattle.nef_shell.proofs.Pieces.{texts-compared}
 
 -- the statuses of a refused script
 pub refused-status : (s : Status) (old new before after : Option (List ℕ)) (f f' g g' : ℕ) (bytes : List ℕ) (line : ℕ) (kind : ScriptKind) → IsRead old new bytes → FirstRefusal bytes line kind
@@ -98,3 +100,11 @@ front-for_want Words words old new before after f f' g g' accepted facts = tt
 front-for_want ReadFault words old new before after f f' g g' accepted facts = tt
 front-for_want WriteFault words old new before after f f' g g' accepted facts = tt
 front-for_want OutOfMemory words old new before after f f' g g' accepted facts = elim facts [ inl same ↦ inl same | inr front ↦ inr (HasDefinedFront.of_script accepted front) ]
+
+pub done-compared : (s : Status) (old new before after : Option (List ℕ)) (f f' g g' : ℕ) → ScriptFacts s old new before after f f' g g' → IfDone s (HasComparedTexts old new before after)
+done-compared Done old new before after f f' g g' facts = (facts, texts-compared facts.nodes facts.commands facts.output facts.is_output)
+done-compared (Refused l k) old new before after f f' g g' facts = tt
+done-compared Words old new before after f f' g g' facts = tt
+done-compared ReadFault old new before after f f' g g' facts = tt
+done-compared WriteFault old new before after f f' g g' facts = tt
+done-compared OutOfMemory old new before after f f' g g' facts = tt

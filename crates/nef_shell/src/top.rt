@@ -7,6 +7,7 @@ ghost use Rattle.nef_script.specs.declared.fault.ScriptKind.{ScriptKind as Kind}
 ghost use Rattle.nef_shell.specs.Status.{MatchStatus, IfDone, IfRefused, IfWords, IfReadFault, IfWriteFault, IfOutOfMemory, EndsDone, EndsRefused, EndsWords};
 ghost use Rattle.nef_shell.specs.Output.{refusal_line, words_line};
 ghost use Rattle.nef_shell.specs.Answers.{AreAccepted, HasOutput, HasRefusal, HasFront, HasDefinedFront};
+ghost use Rattle.nef_shell.specs.Prints.{HasComparedTexts};
 
 use crate::line::refusal_line;
 use crate::status::Status;
@@ -99,7 +100,8 @@ fn run_script<R: Threads + Wait + Sync, S: Source, K: Sink, G: Gate + Sync>(
 /// written doesn't depend on them.
 /// Sets mean what the CGAL manual, "3D Boolean Operations on Nef Polyhedra", says, within the frame.
 ///
-/// * `Done`: the sink took the output of the script and nothing else; the source is at its end.
+/// * `Done`: the sink took the output of the script and nothing else; the source is at its end. Of any
+///   two texts that are printed: they are equal exactly where their sets are the same.
 /// * `Refused`: the script is refused, and nothing was worked; the sink took exactly `line L: TEXT`
 ///   and LF.
 /// * `Words`: the words are refused, and the sink took exactly `words refused` and LF. The source
@@ -122,6 +124,9 @@ pub fn run<R: Threads + Wait + Sync, S: Source, K: Sink, G: Gate + Sync>(
     ensures read_fault { IfReadFault result (AreAccepted (map string_bytes words.now) × Rose (S.faults source.old) (S.faults source.new) × (K.written sink.new ≡ K.written sink.old)) }
     ensures write_fault { IfWriteFault result (Rose (K.faults sink.old) (K.faults sink.new) × HasDefinedFront (map string_bytes words.now) (S.rest source.old) (S.rest source.new) (K.written sink.old) (K.written sink.new)) }
     ensures out_of_memory { IfOutOfMemory result ((K.written sink.new ≡ K.written sink.old) ⊎ HasDefinedFront (map string_bytes words.now) (S.rest source.old) (S.rest source.new) (K.written sink.old) (K.written sink.new)) }
+
+    // Of any two texts that are printed: they are equal exactly where their sets are the same.
+    ensures compared { IfDone result (HasComparedTexts (S.rest source.old) (S.rest source.new) (K.written sink.old) (K.written sink.new)) }
 
     // Refused words are looked at first, and alone.
     ensures unread { ¬ AreAccepted (map string_bytes words.now) → (S.rest source.new ≡ S.rest source.old) × (S.faults source.new ≡ S.faults source.old) }

@@ -1,6 +1,6 @@
 use Rattle.std.proofs.Common.{ap}
 use Rattle.std.specs.Prelude.{is_some}
-use Rattle.nef_shell.proofs.Statuses.{finishes, refuses, front-written, front-for_want}
+use Rattle.nef_shell.proofs.Statuses.{done-compared, finishes, refuses, front-written, front-for_want}
 use Rattle.nef_shell.proofs.top.run.Goals as goal
 
 pub returns-in-Ok-clause-write_fault : goal.returns-in-Ok-clause-write_fault
@@ -14,3 +14,6 @@ returns-in-Ok-clause-finishes g c accepted = finishes c.run_script.result _ _ _ 
 
 pub returns-in-Ok-clause-refuses : goal.returns-in-Ok-clause-refuses
 returns-in-Ok-clause-refuses g c accepted = refuses c.run_script.result _ _ _ _ _ _ _ _ c.run_script.ensures.status
+
+pub returns-in-Ok-clause-compared : goal.returns-in-Ok-clause-compared
+returns-in-Ok-clause-compared g c = done-compared c.run_script.result _ _ _ _ _ _ _ _ c.run_script.ensures.status

@@ -1,0 +1,129 @@
+-- A command has one piece, and the text in it tells its set.
+use Rattle.std.proofs.Common.{◌≡◌, ◌↔◌, ℕ, Bool, true, false, refl, ap, sym, ◌∙◌, subst, List, [], ◌∷◌, ◌++◌, length, codes, append_assoc, inl, inr}
+use Rattle.std.proofs.lemmas.List.{append_cancel_left, append_cancel_right}
+use Rattle.nef_space.specs.Local.{SameSet}
+use Rattle.nef_space.specs.Sets.{Set}
+use Rattle.nef_near.proofs.Germs.{label-one}
+use Rattle.nef_geo.specs.Shapes.{place_of}
+use Rattle.nef_complex.specs.declared.complex.Vertex.{Vertex}
+use Rattle.nef_complex.specs.declared.complex.Edge.{Edge}
+use Rattle.nef_unique.proofs.Vertices.{set-vertices}
+use Rattle.nef_parts.specs.declared.parts.Parts.{Parts}
+use Rattle.nef_parts.specs.Text.{line, numbers, text}
+use Rattle.nef_determined.proofs.SameText.{same-set_text, text-set}
+use Rattle.nef_expr.specs.declared.nodes.Node.{Node}
+use Rattle.nef_expr.specs.Nodes.{node_set}
+use Rattle.nef_script.specs.declared.script.Command.{Command}
+use Rattle.nef_script.specs.declared.script.Command.TheVariants.{Bind, Has, Same, Count, Print}
+use Rattle.nef_shell.specs.Output.{IsWrittenOf, IsSameAnswer, IsPiece, IsOutput, count_line, printed, line_end, answer_of}
+use Rattle.nef_shell.specs.Prints.{framed, IsPrinted, AreTextsCompared}
+
+pub same-texts : (s t : Set) (x y : List ℕ) → IsWrittenOf s text x → IsWrittenOf t text y → (x ≡ y) ↔ SameSet s t
+same-texts s t x y (c, p, S, P, e) (d, q, T, Q, f) =
+    (λ g. text-set s t c d p q S T (sym e ∙ g ∙ f), λ h. e ∙ (same-set_text s t c d p q S T h P Q).1 ∙ sym f)
+
+pub printed-one : (s t : Set) (name x y : List ℕ) → SameSet s t → IsWrittenOf s (printed name) x → IsWrittenOf t (printed name) y → x ≡ y
+printed-one s t name x y same (c, p, S, P, e) (d, q, T, Q, f) =
+    e ∙ ap (λ (r : List ℕ). codes "polyhedron " ++ name ++ line_end ++ r ++ codes "end" ++ line_end) (same-set_text s t c d p q S T same P Q).1 ∙ sym f
+
+pub counted-one : (s t : Set) (x y : List ℕ) → SameSet s t → IsWrittenOf s count_line x → IsWrittenOf t count_line y → x ≡ y
+counted-one s t x y same (c, p, S, P, e) (d, q, T, Q, f) =
+    let v = set-vertices s t c d S T same in
+    e ∙ ap (λ (vs : List Vertex). line (numbers (length vs ∷ length c.edges ∷ length p.facets ∷ length p.volumes ∷ []))) v.0
+    ∙ ap (λ (es : List Edge). line (numbers (length d.vertices ∷ length es ∷ length p.facets ∷ length p.volumes ∷ []))) v.1
+    ∙ ap (λ (r : Parts). line (numbers (length d.vertices ∷ length d.edges ∷ length r.facets ∷ length r.volumes ∷ []))) (same-set_text s t c d p q S T same P Q).0 ∙ sym f
+
+same-itself : (s : Set) → SameSet s s
+same-itself s p l = (λ h. h, λ h. h)
+
+answered-one : (s t : Set) (x y : List ℕ) → IsSameAnswer s t x → IsSameAnswer s t y → x ≡ y
+answered-one s t x y a b = elim a [
+  | inl one ↦ elim b [ inl also ↦ one.1 ∙ sym also.1 | inr differ ↦ absurd (differ.0 one.0) ]
+  | inr differ ↦ elim b [ inl one ↦ absurd (differ.0 one.0) | inr also ↦ differ.1 ∙ sym also.1 ]
+]
+
+piece-one : (nodes : List Node) (c : Command) (x y : List ℕ) → IsPiece nodes c x → IsPiece nodes c y → x ≡ y
+piece-one nodes (Bind _ k) x y a b = a ∙ sym b
+piece-one nodes (Has _ k p) x y (l, has, e) (m, also, f) = e ∙ ap answer_of (label-one (node_set nodes k) (place_of p) l m has also) ∙ sym f
+piece-one nodes (Same _ i j) x y a b = answered-one (node_set nodes i) (node_set nodes j) x y a b
+piece-one nodes (Count _ k) x y a b = counted-one (node_set nodes k) (node_set nodes k) x y (same-itself (node_set nodes k)) a b
+piece-one nodes (Print _ k name) x y a b = printed-one (node_set nodes k) (node_set nodes k) name x y (same-itself (node_set nodes k)) a b
+
+output-one : (nodes : List Node) (cs : List Command) (x y : List ℕ) → IsOutput nodes cs x → IsOutput nodes cs y → x ≡ y
+output-one nodes [] x y a b = a ∙ sym b
+output-one nodes (c ∷ cs) x y (u, v, first, rest, whole) (u', v', first', rest', whole') =
+    whole ∙ ap (λ z. z ++ v) (piece-one nodes c u u' first first') ∙ ap (λ z. u' ++ z) (output-one nodes cs v v' rest rest') ∙ sym whole'
+
+-- the piece of a command among others
+record HasPiece (nodes : List Node) (front : List Command) (c : Command) (back : List Command) (output : List ℕ) : Type 0 where
+  before : List ℕ
+  piece : List ℕ
+  after : List ℕ
+  first : IsOutput nodes front before
+  is : IsPiece nodes c piece
+  last : IsOutput nodes back after
+  whole : output ≡ before ++ piece ++ after
+
+output-split : (nodes : List Node) (front : List Command) (c : Command) (back : List Command) (output : List ℕ) → IsOutput nodes (front ++ c ∷ back) output → HasPiece nodes front c back output
+output-split nodes [] c back output (u, v, first, rest, whole) =
+    record { before = []; piece = u; after = v; first = refl; is = first; last = rest; whole = whole }
+output-split nodes (d ∷ front) c back output (u, v, first, rest, whole) =
+    let h = output-split nodes front c back v rest in
+    record {
+      before = u ++ h.before;
+      piece = h.piece;
+      after = h.after;
+      first = (u, h.before, first, h.first, refl);
+      is = h.is;
+      last = h.last;
+      whole = whole ∙ ap (λ z. u ++ z) h.whole ∙ sym (append_assoc u (h.before ++ h.piece) h.after) ∙ ap (λ z. z ++ h.after) (sym (append_assoc u h.before h.piece));
+    }
+
+-- what stands between the lines
+between-lines : (name x y : List ℕ) → framed name x ≡ framed name y → x ≡ y
+between-lines name x y e =
+    let head = codes "polyhedron " ++ name ++ line_end in
+    let before_end = append_cancel_right (head ++ x ++ codes "end") (head ++ y ++ codes "end") line_end e in
+    append_cancel_left head x y (append_cancel_right (head ++ x) (head ++ y) (codes "end") before_end)
+
+-- the text in the place of a command that prints is the text of its set
+printed-written : (nodes : List Node) (commands : List Command) (output : List ℕ) (i k : ℕ) (x : List ℕ) → IsOutput nodes commands output → IsPrinted nodes commands output i k x → IsWrittenOf (node_set nodes k) text x
+printed-written nodes commands output i k x is p =
+    let h = output-split nodes p.front (Print p.line k p.name) p.back output (subst (λ z. IsOutput nodes z output) p.command is) in
+    let (c, q, S, Q, e) = h.is in
+    let before = output-one nodes p.front p.before h.before p.first h.first in
+    let after = output-one nodes p.back p.after h.after p.last h.last in
+    let whole : p.before ++ framed p.name x ++ p.after ≡ p.before ++ h.piece ++ p.after =
+    sym p.whole ∙ h.whole ∙ ap (λ z. z ++ h.piece ++ h.after) (sym before) ∙ ap (λ z. p.before ++ h.piece ++ z) (sym after) in
+    let piece = append_cancel_left p.before (framed p.name x) h.piece (append_cancel_right (p.before ++ framed p.name x) (p.before ++ h.piece) p.after whole) in
+    (c, q, S, Q, between-lines p.name x (text c q) (piece ∙ e))
+
+-- a command that prints has its text
+has-printed : (nodes : List Node) (commands : List Command) (output : List ℕ) → IsOutput nodes commands output → (front back : List Command) (number k : ℕ) (name : List ℕ) → commands ≡ front ++ Print number k name ∷ back
+    → (x : List ℕ) × IsPrinted nodes commands output (length front) k x
+has-printed nodes commands output is front back number k name at =
+    let h = output-split nodes front (Print number k name) back output (subst (λ z. IsOutput nodes z output) at is) in
+    let (c, q, S, Q, e) = h.is in (
+      text c q,
+      record {
+        front = front;
+        back = back;
+        line = number;
+        name = name;
+        before = h.before;
+        after = h.after;
+        place = refl;
+        command = at;
+        first = h.first;
+        last = h.last;
+        whole = h.whole ∙ ap (λ z. h.before ++ z ++ h.after) e;
+      },
+    )
+
+pub texts-compared : (nodes : List Node) (commands : List Command) (output : List ℕ) → IsOutput nodes commands output → AreTextsCompared nodes commands output
+texts-compared nodes commands output is =
+    record {
+      printed = has-printed nodes commands output is;
+      compared = λ i j k l x y p q.
+          same-texts (node_set nodes k) (node_set nodes l) x y (printed-written nodes commands output i k x is p) (printed-written nodes commands output j l y is q);
+    }

@@ -1,0 +1,36 @@
+-- The texts in an output, and what they tell of each other.
+use Rattle.std.specs.Prelude.{◌≡◌, ℕ, List, ◌∷◌, ◌++◌, ◌↔◌, Option, length, codes}
+use Rattle.nef_space.specs.Local.{SameSet}
+use Rattle.nef_expr.specs.declared.nodes.Node.{Node}
+use Rattle.nef_expr.specs.Nodes.{node_set}
+use Rattle.nef_script.specs.declared.script.Command.{Command}
+use Rattle.nef_script.specs.declared.script.Command.TheVariants.{Print}
+use Rattle.nef_shell.specs.Output.{line_end, IsOutput}
+use Rattle.nef_shell.specs.Answers.{HasOutput}
+
+-- a text between the lines that print it
+abbrev pub framed : List ℕ → List ℕ → List ℕ
+framed name x = codes "polyhedron " ++ name ++ line_end ++ x ++ codes "end" ++ line_end
+
+-- The command with this number prints node k, and x is the text in its place in the output.
+pub record IsPrinted (nodes : List Node) (commands : List Command) (output : List ℕ) (number k : ℕ) (x : List ℕ) : Type 0 where
+  pub front : List Command
+  pub back : List Command
+  pub line : ℕ
+  pub name : List ℕ
+  pub before : List ℕ
+  pub after : List ℕ
+  pub place : number ≡ length front
+  pub command : commands ≡ front ++ Print line k name ∷ back
+  pub first : IsOutput nodes front before
+  pub last : IsOutput nodes back after
+  pub whole : output ≡ before ++ framed name x ++ after
+
+-- Each command that prints has its text in the output, and two texts are equal exactly where the sets are the same.
+pub record AreTextsCompared (nodes : List Node) (commands : List Command) (output : List ℕ) : Type 0 where
+  pub printed : (front back : List Command) (line k : ℕ) (name : List ℕ) → commands ≡ front ++ Print line k name ∷ back → (x : List ℕ) × IsPrinted nodes commands output (length front) k x
+  pub compared : (i j k l : ℕ) (x y : List ℕ) → IsPrinted nodes commands output i k x → IsPrinted nodes commands output j l y → (x ≡ y) ↔ SameSet (node_set nodes k) (node_set nodes l)
+
+-- The same of the whole output of the script that the source had.
+abbrev pub HasComparedTexts : Option (List ℕ) → Option (List ℕ) → Option (List ℕ) → Option (List ℕ) → Type 0
+HasComparedTexts old new before after = (h : HasOutput old new before after) × AreTextsCompared h.nodes h.commands h.output
