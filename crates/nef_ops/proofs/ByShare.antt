@@ -40,7 +40,8 @@ alike-germs s t p d k l (n, some, f) (n', some', g) =
 
 -- ---- maps
 -- of sets with these shares that A and B show at p, a map of a set whose label is the operation's at each point and direction
-module _ (op : Op) (f g : Share) (A B M : Map) (r s t : Set) (p : Place) (F : HasShare f A) (G : HasShare g B) (K : Cone A s p) (L : Cone B t p) (C : Cone M r p) where
+module _ (op : Op) (f g : Share) (A B M : Map) (r s t : Set) (p : Place)
+    (F : HasShare f A) (G : HasShare g B) (K : Cone A s p) (L : Cone B t p) (C : Cone M r p) where
   pub shown-by : (of : Label → Label → Label)
       → ((k l : Label) → AreAlike k l → InShare f k → InShare g l → op_label op k l ≡ of k l)
       → ((q : Place) (k l m : Label) → HasLabel s q k → HasLabel t q l → HasLabel r q m → of k l ≡ m)
@@ -63,7 +64,8 @@ module _ (op : Op) (f g : Share) (A B M : Map) (r s t : Set) (p : Place) (F : Ha
         );
   }
 
-module _ (op : Op) (f g : Share) (A B : Map) (s t : Set) (p : Place) (F : HasShare f A) (G : HasShare g B) (K : Cone A s p) (L : Cone B t p) where
+module _ (op : Op) (f g : Share) (A B : Map) (s t : Set) (p : Place)
+    (F : HasShare f A) (G : HasShare g B) (K : Cone A s p) (L : Cone B t p) where
   pub shown-first : Leads First op f g → Cone A (op_set op s t) p
   shown-first w = shown-by op f g A B A s s t p F G K L K (λ k l. k) w (λ q k l m h i j. label-one s q k m h j) (λ d k l m h i j. Germ-unique s p d k m h j)
 

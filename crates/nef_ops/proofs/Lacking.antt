@@ -10,7 +10,8 @@ use Rattle.nef_smap.specs.declared.map.SLoop.{SLoop}
 use Rattle.nef_smap.specs.declared.map.SphereMap.{SphereMap}
 use Rattle.nef_smap.specs.Maps.{svertex_of, arc_of, loop_of, map_of}
 use Rattle.nef_smap.proofs.Lists.{at-map, at-get}
-use Rattle.nef_sphere.specs.Maps.{At, Svertex, Arc, Loop, Item, arc_item, loop_item, items, Side, around_svertex, above_item, below_item, whole, item_above, item_mark, item_below, HasSide, MapLabel, at_svertex, on_item, seen}
+use Rattle.nef_sphere.specs.Maps.{At, Svertex, Arc, Loop, Item, arc_item, loop_item, items, item_above, item_mark, item_below}
+use Rattle.nef_sphere.specs.Maps.{Side, around_svertex, above_item, below_item, whole, HasSide, MapLabel, at_svertex, on_item, seen}
 use Rattle.nef_sphere.proofs.Shot.{arc-at}
 use Rattle.nef_sphere.proofs.Arcs.{loop-at}
 use Rattle.nef_border.proofs.Listed.{option-was}
@@ -18,12 +19,16 @@ use Rattle.nef_ops.specs.declared.share.Share.TheVariants.{Nothing, Everything}
 use Rattle.nef_ops.specs.Shares.{Lacks, SvertexLacks, ArcLacks, LoopLacks, HasShare}
 
 -- what holds of the elements so far, and of one more
-pub all-more : {A : Type 0} (P : A → Type 0) (xs : List A) (i : ℕ) (x : A) → x ≡ get_or xs i x → P x → ((k : ℕ) (y : A) → k < i → At xs k y → P y) → (k : ℕ) (y : A) → k < i + 1 → At xs k y → P y
+pub all-more : {A : Type 0} (P : A → Type 0) (xs : List A) (i : ℕ) (x : A) → x ≡ get_or xs i x → P x
+    → ((k : ℕ) (y : A) → k < i → At xs k y → P y) → (k : ℕ) (y : A) → k < i + 1 → At xs k y → P y
 all-more {A} P xs i x is here before k y l h =
     below_more (λ (n : ℕ). (z : A) → At xs n z → P z) i (λ n m z. before n z m) (λ z a. subst P (is ∙ at-get xs i z x a) here) k l y h
 
 -- ---- a map
-module _ (l : Label) (m : SphereMap) (V : (k : ℕ) (v : SVertex) → At m.svertices k v → SvertexLacks l v) (A : (k : ℕ) (a : SArc) → At m.arcs k a → ArcLacks l a) (C : (c : SLoop) → m.sloop ≡ Some c → LoopLacks l c) where
+module _ (l : Label) (m : SphereMap)
+    (V : (k : ℕ) (v : SVertex) → At m.svertices k v → SvertexLacks l v)
+    (A : (k : ℕ) (a : SArc) → At m.arcs k a → ArcLacks l a)
+    (C : (c : SLoop) → m.sloop ≡ Some c → LoopLacks l c) where
   svertex-lacks : (k : ℕ) (v : Svertex) → At (map_of m).svertices k v → (v.mark ≡ l → ⊥) × (v.around ≡ Some l → ⊥)
   svertex-lacks k v h =
       let u = at-map svertex_of m.svertices k v h in

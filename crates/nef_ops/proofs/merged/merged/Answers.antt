@@ -19,24 +19,36 @@ ShowsBoth op a b m = (s t : Set) (p : Place) → Cone (map_of a) s p → Cone (m
 
 pub returns-in-First-clause-cone : goal.returns-in-First-clause-cone
 returns-in-First-clause-cone c s t p K L =
-    shown-first c.args.op c.share_of.result c.share_of-2.result (map_of c.args.first) (map_of c.args.second) s t p c.share_of.ensures.share c.share_of-2.ensures.share K L c.in-First.ensures.leads
+    let x = c.args in
+    let f = c.share_of in
+    let g = c.share_of-2 in
+    shown-first x.op f.result g.result (map_of x.first) (map_of x.second) s t p f.ensures.share g.ensures.share K L c.in-First.ensures.leads
 
 pub returns-in-Second-clause-cone : goal.returns-in-Second-clause-cone
 returns-in-Second-clause-cone c s t p K L =
-    shown-second c.args.op c.share_of.result c.share_of-2.result (map_of c.args.first) (map_of c.args.second) s t p c.share_of.ensures.share c.share_of-2.ensures.share K L c.in-Second.ensures.leads
+    let x = c.args in
+    let f = c.share_of in
+    let g = c.share_of-2 in
+    shown-second x.op f.result g.result (map_of x.first) (map_of x.second) s t p f.ensures.share g.ensures.share K L c.in-Second.ensures.leads
 
 pub returns-in-NotFirst-clause-cone : goal.returns-in-NotFirst-clause-cone
 returns-in-NotFirst-clause-cone c =
-    let a = c.args.first in
-    let b = c.args.second in
-    if-ok (ShowsOther a) IsLeastMap (ShowsBoth c.args.op a b) c.complement.result
-    (λ m shows least s t p K L. shown-not_first c.args.op c.share_of.result c.share_of-2.result (map_of a) (map_of b) s t p c.share_of.ensures.share c.share_of-2.ensures.share K L (map_of m) (shows s p K) c.in-NotFirst.ensures.leads)
+    let x = c.args in
+    let f = c.share_of in
+    let g = c.share_of-2 in
+    if-ok (ShowsOther x.first) IsLeastMap (ShowsBoth x.op x.first x.second) c.complement.result
+    (λ m shows least s t p K L.
+    shown-not_first x.op f.result g.result (map_of x.first) (map_of x.second) s t p f.ensures.share g.ensures.share K L
+    (map_of m) (shows s p K) c.in-NotFirst.ensures.leads)
     c.complement.ensures.cone c.complement.ensures.least
 
 pub returns-in-NotSecond-clause-cone : goal.returns-in-NotSecond-clause-cone
 returns-in-NotSecond-clause-cone c =
-    let a = c.args.first in
-    let b = c.args.second in
-    if-ok (ShowsOther b) IsLeastMap (ShowsBoth c.args.op a b) c.complement-in-NotSecond.result
-    (λ m shows least s t p K L. shown-not_second c.args.op c.share_of.result c.share_of-2.result (map_of a) (map_of b) s t p c.share_of.ensures.share c.share_of-2.ensures.share K L (map_of m) (shows t p L) c.in-NotSecond.ensures.leads)
+    let x = c.args in
+    let f = c.share_of in
+    let g = c.share_of-2 in
+    if-ok (ShowsOther x.second) IsLeastMap (ShowsBoth x.op x.first x.second) c.complement-in-NotSecond.result
+    (λ m shows least s t p K L.
+    shown-not_second x.op f.result g.result (map_of x.first) (map_of x.second) s t p f.ensures.share g.ensures.share K L
+    (map_of m) (shows t p L) c.in-NotSecond.ensures.leads)
     c.complement-in-NotSecond.ensures.cone c.complement-in-NotSecond.ensures.least
