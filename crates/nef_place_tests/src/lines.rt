@@ -53,7 +53,7 @@ ray 1 1 1 0 0 -5 5 1 => vertex 4 # along (0, 1, -1), exactly
 ray 1 0 0 -2048 2048 0 0 1 => edge 6 8 # along z on the border";
 
 #[test]
-fn point(rt: HostRuntime) -> Result<(), Fail> {
+fn places_of_a_point(rt: HostRuntime) -> Result<(), Fail> {
     let c = intersection(&rt, rt.alloc(), POINT.as_slice())?;
     assert_answers(&rt, rt.alloc(), &c, POINT_ANSWERS)
 }
@@ -90,7 +90,7 @@ ray 1 0 0 0 0 5 0 1 => none # along z, beside the axis
 ray 0 0 1 -5 0 -7 5 1 => none # along y, the axis crosses this plane and doesn't lie in it";
 
 #[test]
-fn axis(rt: HostRuntime) -> Result<(), Fail> {
+fn places_of_an_axis(rt: HostRuntime) -> Result<(), Fail> {
     let c = intersection(&rt, rt.alloc(), Z_AXIS.as_slice())?;
     assert_answers(&rt, rt.alloc(), &c, Z_AXIS_ANSWERS)
 }
@@ -137,7 +137,7 @@ ray 0 1 0 0 5 0 7 1 => edge 6 10 # along -z
 back 0 1 0 0 5 0 7 1 => none # along z, the x axis lies behind";
 
 #[test]
-fn crossing_axes(rt: HostRuntime) -> Result<(), Fail> {
+fn places_of_crossing_axes(rt: HostRuntime) -> Result<(), Fail> {
     let (x, y) = (X_AXIS.as_slice(), Y_AXIS.as_slice());
     let c = combination(&rt, rt.alloc(), Op::Or, x, y)?;
     assert_answers(&rt, rt.alloc(), &c, CROSSING_ANSWERS)
@@ -195,7 +195,7 @@ ray 0 0 1 0 0 -7 0 1 => vertex 6 # along y, exactly
 ray 0 0 1 0 -5 -7 0 1 => edge 4 12 # along y, past the slit";
 
 #[test]
-fn slit(rt: HostRuntime) -> Result<(), Fail> {
+fn places_of_a_slit(rt: HostRuntime) -> Result<(), Fail> {
     let (lower, ray) = (LOWER.as_slice(), RAY.as_slice());
     let c = combination(&rt, rt.alloc(), Op::Diff, lower, ray)?;
     assert_answers(&rt, rt.alloc(), &c, SLIT_ANSWERS)

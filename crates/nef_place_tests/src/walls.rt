@@ -43,7 +43,7 @@ ray 0 1 -1 0 5 0 0 1 => edge 4 8 # along (0, -1, -1)
 ray 0 1 0 0 5 0 0 1 => none # no edge lies in y = 0";
 
 #[test]
-fn wall(rt: HostRuntime) -> Result<(), Fail> {
+fn places_of_a_wall(rt: HostRuntime) -> Result<(), Fail> {
     let c = intersection(&rt, rt.alloc(), WALL.as_slice())?;
     assert_answers(&rt, rt.alloc(), &c, WALL_ANSWERS)
 }
@@ -92,7 +92,7 @@ back 1 0 0 0 0 -5 7 1 => vertex 5 # along -z, exactly
 ray 1 0 0 0 0 7 0 1 => none # along z, past the square";
 
 #[test]
-fn square(rt: HostRuntime) -> Result<(), Fail> {
+fn places_of_a_square(rt: HostRuntime) -> Result<(), Fail> {
     let c = intersection(&rt, rt.alloc(), SQUARE.as_slice())?;
     assert_answers(&rt, rt.alloc(), &c, SQUARE_ANSWERS)
 }
@@ -140,7 +140,7 @@ ray 0 0 1 0 0 -5 0 1 => vertex 6 # along y, exactly
 ray 0 0 1 0 1 -5 0 1 => none # along y, past the origin";
 
 #[test]
-fn half_without_a_point(rt: HostRuntime) -> Result<(), Fail> {
+fn places_of_a_half_without_a_point(rt: HostRuntime) -> Result<(), Fail> {
     let (half, point) = (LEFT.as_slice(), POINT.as_slice());
     let c = combination(&rt, rt.alloc(), Op::Diff, half, point)?;
     assert_answers(&rt, rt.alloc(), &c, PIERCED_ANSWERS)
