@@ -53,6 +53,16 @@ const CUBE: [[i64; 4]; 6] = [
     [0, 0, 1, -1],
 ];
 
+// With corners at halves.
+const HALF_CUBE: [[i64; 4]; 6] = [
+    [-1, 0, 0, 0],
+    [2, 0, 0, -1],
+    [0, -1, 0, 0],
+    [0, 2, 0, -1],
+    [0, 0, -1, 0],
+    [0, 0, 2, -1],
+];
+
 const PLATE: [[i64; 4]; 6] = [
     [-1, 0, 0, -10],
     [1, 0, 0, -10],
@@ -216,6 +226,8 @@ fn intersections(rt: HostRuntime) -> Result<(), Fail> {
     let left = count_intersection(&rt, alloc, LEFT.as_slice(), &TWO_FREE)?;
     assert_eq!(rt; left, (12, 20));
     let cube = count_intersection(&rt, alloc, CUBE.as_slice(), &TWO_FREE)?;
+    assert_eq!(rt; cube, (16, 24));
+    let cube = count_intersection(&rt, alloc, HALF_CUBE.as_slice(), &ONE_BY_LOCK)?;
     assert_eq!(rt; cube, (16, 24));
     let point = count_intersection(&rt, alloc, POINT.as_slice(), &ONE_BY_LOCK)?;
     assert_eq!(rt; point, (9, 12));

@@ -29,7 +29,7 @@ names-below : (names : List (List ℕ)) (word : List ℕ) (i : ℕ) → Names na
 names-below names word i h = (position-Some (bytes_eq word) names i [] h).0
 
 -- the operands of a node that names nodes below n are below n
-operand-below : (n k : ℕ) (m : Node) → NamesBelow n m → IsOperand k m → k < n
+pub operand-below : (n k : ℕ) (m : Node) → NamesBelow n m → IsOperand k m → k < n
 operand-below n k (node.Half o c) below is = absurd is
 operand-below n k node.Empty below is = absurd is
 operand-below n k node.Full below is = absurd is

@@ -2,7 +2,7 @@ use crate::empty_text::EMPTY_TEXT;
 use crate::gates::{Counting, Holding};
 use crate::{Status, code, run, same_text};
 use nef_expr::{Node, Nodes};
-use nef_io::{Gate, MemSink, MemSource, OpenGate, SureSource};
+use nef_io::{Gate, MemSink, OpenGate, SureSource};
 use nef_ops::constant;
 use nef_script::ScriptKind;
 use nef_volumes::parts;
@@ -10,6 +10,10 @@ use std::alloc::{AllocError, Global};
 use std::sync::Wait;
 use std::test::Fail;
 use std::thread::Threads;
+
+mod compared;
+mod failing;
+mod texts;
 
 // A script with `/` between its lines, and what it writes, in the same form.
 const ANSWERS: &str = "half A 1 0 0 0 closed / has A 0 0 0 1 => in
@@ -24,8 +28,8 @@ half A 1 0 0 0 closed / half B 0 1 0 0 closed / xor C A B / has C -1 1 0 1 / has
 empty E / cl C E / has C 0 0 0 1 => not
 full U / int V U / has V 1023 0 0 1 => in";
 
-// The same of solids: the boundary of a box; two open boxes with a common wall; a plate with a
-// hexagonal hole; a half-space without a ray.
+// The same of solids: the boundary of a box; two open boxes with a common wall; a half-space
+// without a ray.
 const SOLIDS: &str =
     "half Aa -1 0 0 0 closed / half Ab 1 0 0 -1 closed / half Ac 0 -1 0 0 closed / \
     half Ad 0 1 0 -1 closed / half Ae 0 0 -1 0 closed / half Af 0 0 1 -1 closed / \
@@ -38,13 +42,6 @@ half Aa -1 0 0 0 open / half Ab 1 0 0 -1 open / half Ac 0 -1 0 0 open / \
     half Be 0 0 -1 0 open / half Bf 0 0 1 -1 open / and Bg Ba Bb / and Bh Bg Bc / \
     and Bi Bh Bd / and Bj Bi Be / and B Bj Bf / or U A B / reg R U / has U 2 1 1 2 / \
     has R 2 1 1 2 / has R 0 0 0 1 => not / in / in
-half Pa -1 0 0 -10 closed / half Pb 1 0 0 -10 closed / half Pc 0 -1 0 -10 closed / \
-    half Pd 0 1 0 -10 closed / half Pe 0 0 -1 0 closed / half Pf 0 0 1 -2 closed / \
-    and Pg Pa Pb / and Ph Pg Pc / and Pi Ph Pd / and Pj Pi Pe / and P Pj Pf / \
-    half a 0 1 0 -4 open / half b 0 -1 0 -4 open / half c 2 1 0 -8 open / \
-    half d -2 -1 0 -8 open / half e 2 -1 0 -8 open / half f -2 1 0 -8 open / and g a b / \
-    and h g c / and i h d / and j i e / and H j f / diff K P H / count K / \
-    has K 0 0 1 1 / has K 4 0 1 1 / has K 9 9 1 1 => 28 42 18 3 / not / in / in
 half A 0 0 1 0 closed / half B 0 0 -1 0 closed / half C 0 1 0 0 closed / \
     half D 0 -1 0 0 closed / half E -1 0 0 0 closed / and F A B / and G F C / and H G D / \
     and R H E / diff K A R / count K / has K 0 0 0 1 / has K -1 0 0 1 => 14 22 11 3 / not / in";
@@ -158,7 +155,7 @@ fn worked<R: Threads + Wait + Sync>(
 ) -> Result<(u8, Vec<u8>), AllocError> {
     let words = owned(alloc, words)?;
     let mut source = SureSource::new(alloc, script)?;
-    let mut sink = MemSink::new(alloc, 4096, 4096, &[])?;
+    let mut sink = MemSink::new(alloc, 32_768, 32_768, &[])?;
     let status = run(rt, alloc, &words, &mut source, &mut sink, &OpenGate);
     let written = Vec::from_slice(alloc, sink.taken())?;
     Ok((code(&status), written))
@@ -378,19 +375,6 @@ fn words(rt: HostRuntime) -> Result<(), Fail> {
         assert_eq!(rt; status, if accepted { 0 } else { 2 }, "{words}");
         assert_eq!(rt; written.as_slice(), output.as_bytes(), "{words}");
     }
-    Ok(())
-}
-
-// The second read fails.
-#[test]
-fn read_fault(rt: HostRuntime) -> Result<(), Fail> {
-    let alloc = rt.alloc();
-    let words = owned(alloc, &[])?;
-    let mut source = MemSource::new(alloc, b"full U\nhas U 0 0 0 1\n", 10, &[2])?;
-    let mut sink = MemSink::new(alloc, 64, 64, &[])?;
-    let status = run(&rt, alloc, &words, &mut source, &mut sink, &OpenGate);
-    assert_eq!(rt; status, Status::ReadFault);
-    assert_eq!(rt; (code(&status), sink.taken().len()), (3, 0));
     Ok(())
 }
 
