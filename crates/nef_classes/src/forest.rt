@@ -34,7 +34,7 @@ fn lift(parents: &mut [usize], number: usize) -> usize
     above
 }
 
-// The root of the number's tree. The way there gets shorter by half, so that no later walk is long.
+// The root of the number's tree. The way there gets shorter by half, which keeps later walks short.
 fn root(parents: &mut [usize], number: usize) -> usize
     requires ordered { AreOrdered parents.old }
     requires within { number < length parents.old }

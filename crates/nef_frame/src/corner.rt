@@ -7,7 +7,7 @@ use crate::OutOfMemory;
 use crate::sides::{axis, wall};
 use nef_combine::combine;
 use nef_complex::Vertex;
-use nef_geo::{Label, List, Point};
+use nef_geo::{HALF_SIDE, Label, List, Point};
 use nef_star::Op;
 use std::alloc::Global;
 
@@ -15,7 +15,7 @@ use std::alloc::Global;
 fn end(high: bool) -> i64
     ensures end { result ≡ end_at high }
 {
-    if high { 2048 } else { -2048 }
+    if high { HALF_SIDE } else { -HALF_SIDE }
 }
 
 // The corner at these ends of the axes, with the map that has the label on the inward side of all three planes.

@@ -5,6 +5,7 @@ ghost use Rattle.nef_space.specs.Limits.{point_limit, weight_limit};
 ghost use Rattle.nef_space.specs.Numbers.{IsLowest};
 
 use crate::gcd::lowest_terms;
+use crate::limits::HALF_SIDE;
 
 /// The point `(x/w, y/w, z/w)`. The four numbers have no common divisor but 1, w is positive, and
 /// `|x|, |y|, |z| <= 3*2^45`, `w <= 3*2^34`: each common point of three planes has such numbers.
@@ -21,9 +22,6 @@ pub struct Point {
     pub ghost proper: { pos 0 <ℤ w },
     pub ghost lowest: { IsLowest (x ∷ y ∷ z ∷ w ∷ []) },
 }
-
-// Half the length of the frame's sides.
-const HALF_SIDE: u64 = 2048;
 
 fn is_below(n: i64, limit: u64) -> bool
     ensures below { IsTrue result ↔ (nat_abs n < limit) }
@@ -57,7 +55,7 @@ impl Point {
     pub fn in_frame(&self) -> bool
         ensures in_frame { IsTrue result ↔ InFrame (place_of self.now) }
     {
-        let limit = HALF_SIDE * self.w.unsigned_abs();
+        let limit = HALF_SIDE.unsigned_abs() * self.w.unsigned_abs();
         is_below(self.x, limit) && is_below(self.y, limit) && is_below(self.z, limit)
     }
 

@@ -10,6 +10,7 @@ ghost use Rattle.nef_geo.specs.Signs.{sign_of};
 ghost use Rattle.nef_geo.specs.Reading.{IsInRange, IsPositiveMultiple, side_forms};
 
 use crate::gcd::lowest_terms;
+use crate::limits::{HALF_SIDE, NORMAL_LIMIT, OFFSET_LIMIT};
 use crate::plane::{Oriented, Plane};
 
 /// Why four numbers are no plane.
@@ -20,11 +21,6 @@ pub enum PlaneFault {
     /// No number is past its limit, and a, b and c are zero.
     ZeroNormal,
 }
-
-// The size of a, b and c of a plane, and of d.
-const NORMAL_LIMIT: u64 = 2048;
-
-const OFFSET_LIMIT: u64 = 4_194_304;
 
 fn is_at_most(n: i64, limit: u64) -> bool
     ensures small { IsTrue result ↔ (nat_abs n ≤ limit) }
@@ -113,7 +109,7 @@ impl Plane {
         requires side { k < 6 }
         ensures frame { IsAt side_forms k (form_of result) }
     {
-        let d = if k % 2 == 0 { 2048 } else { -2048 };
+        let d = if k % 2 == 0 { HALF_SIDE } else { -HALF_SIDE };
         match k / 2 {
             0 => reduced(1, 0, 0, d),
             1 => reduced(0, 1, 0, d),

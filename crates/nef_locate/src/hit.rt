@@ -15,11 +15,8 @@ ghost use Rattle.nef_locate.specs.Rays.{IsSkeletonAt, IsSkeletonIn};
 use crate::facet::in_facet;
 use crate::place::Place;
 use nef_complex::Complex;
-use nef_geo::{Hit, Plane, Sign, side};
+use nef_geo::{HALF_SIDE, Hit, Plane, Sign, side};
 use nef_plane::{is_at_vertex, is_on_edge};
-
-// Half the length of the frame's sides.
-const HALF_SIDE: i128 = 2048;
 
 // Whether n/w is at most half the length of the frame's sides in size.
 fn is_within(n: i128, w: i128) -> bool
@@ -27,7 +24,7 @@ fn is_within(n: i128, w: i128) -> bool
     requires positive { pos 0 <ℤ w }
     ensures within { IsTrue result ↔ (nat_abs n ≤ half_side * nat_abs w) }
 {
-    let end = HALF_SIDE * w;
+    let end = i128::from(HALF_SIDE) * w;
     -end <= n && n <= end
 }
 

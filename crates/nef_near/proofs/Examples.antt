@@ -5,6 +5,7 @@ use Rattle.nef_exact.specs.Signs.{nought, sign}
 use Rattle.nef_exact.proofs.Ring.{ring, at, num, ◌⊕◌, ◌⊖◌, ◌⊗◌}
 use Rattle.nef_exact.proofs.Combination.{given, none, follows}
 use Rattle.nef_exact.proofs.Order.{by_order}
+use Rattle.nef_space.specs.Limits.{half_side}
 use Rattle.nef_space.specs.Laws.{origin}
 use Rattle.nef_space.specs.Place.{Place, Form, form_at, slope, Ratio, step, InFrame}
 use Rattle.nef_space.specs.Vectors.{Vector, vector, zero_vector, blend, IsZero, cross, triple}
@@ -134,8 +135,8 @@ halves-germ = (
   λ t short.
       let a = short.0 in
       let b = short.1 in
-      let x : nat_abs (pos 0 *ℤ pos t.b +ℤ t.a *ℤ pos 1 *ℤ pos 1) < 2048 * (1 * t.b) = omega (arith, ints) in
-      let y : nat_abs (pos 0 *ℤ pos t.b +ℤ t.a *ℤ pos 1 *ℤ pos 0) < 2048 * (1 * t.b) = omega (arith, ints) in
+      let x : nat_abs (pos 0 *ℤ pos t.b +ℤ t.a *ℤ pos 1 *ℤ pos 1) < half_side * (1 * t.b) = omega (arith, ints) in
+      let y : nat_abs (pos 0 *ℤ pos t.b +ℤ t.a *ℤ pos 1 *ℤ pos 0) < half_side * (1 * t.b) = omega (arith, ints) in
       (record { along_x = x; along_y = y; along_z = y }, inr (omega (arith, ints))),
 )
 
@@ -215,8 +216,8 @@ wall-part = record {
         λ t short.
             let a = short.0 in
             let b = short.1 in
-            let x : nat_abs (pos 0 *ℤ pos t.b +ℤ t.a *ℤ pos 1 *ℤ pos 0) < 2048 * (1 * t.b) = omega (arith, ints) in
-            let y : nat_abs (pos 0 *ℤ pos t.b +ℤ t.a *ℤ pos 1 *ℤ negsuc 0) < 2048 * (1 * t.b) = omega (arith, ints) in
+            let x : nat_abs (pos 0 *ℤ pos t.b +ℤ t.a *ℤ pos 1 *ℤ pos 0) < half_side * (1 * t.b) = omega (arith, ints) in
+            let y : nat_abs (pos 0 *ℤ pos t.b +ℤ t.a *ℤ pos 1 *ℤ negsuc 0) < half_side * (1 * t.b) = omega (arith, ints) in
             (record { along_x = x; along_y = y; along_z = x }, ((omega (arith, ints), omega (arith, ints)), omega (arith, ints))),
       ),
     ),

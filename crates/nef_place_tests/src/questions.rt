@@ -26,16 +26,13 @@ ghost use Rattle.nef_plane.specs.Meets.{IsAlongAxis};
 ghost use Rattle.nef_locate.specs.Places.{IsPlaceIn};
 
 use nef_complex::{Complex, Corner, PlaneMeet, vertex_at};
-use nef_geo::{Dir, Hit, Label, Plane, Point, Sign, hit_at, hit_side, plane_axis, up};
+use nef_geo::{Dir, HALF_SIDE, Hit, Label, Plane, Point, Sign, hit_at, hit_side, plane_axis, up};
 use nef_locate::{Place, first_hit, in_facet, local_map, locate, place_label};
 use nef_plane::first_in_plane;
 use nef_spair::{Kind, kind};
 use std::alloc::Global;
 use std::process::Abort;
 use std::test::Fail;
-
-// Half the length of the frame's sides.
-const HALF_SIDE: u64 = 2048;
 
 // The greatest weight of a point, and the greatest of its other numbers.
 const GREATEST_WEIGHT: i64 = 1 << 32;
@@ -54,7 +51,7 @@ fn is_within(number: i64, limit: u64) -> bool
 fn is_framed(p: &Point) -> bool
     ensures framed { IsTrue result → InClosedFrame (place_of p.now) }
 {
-    let limit = HALF_SIDE * p.w().unsigned_abs();
+    let limit = HALF_SIDE.unsigned_abs() * p.w().unsigned_abs();
     is_within(p.x(), limit) && is_within(p.y(), limit) && is_within(p.z(), limit)
 }
 

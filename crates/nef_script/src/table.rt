@@ -7,6 +7,8 @@ ghost use Rattle.std.specs.Str.{bytes_eq};
 ghost use Rattle.nef_script.specs.Table.{verb_of, roles, binds};
 ghost use Rattle.nef_script.specs.Checks.{is_readable};
 
+use nef_geo::{NORMAL_LIMIT, OFFSET_LIMIT};
+
 /// The first word of a line.
 #[derive(Debug, Clone, Copy, PartialEq, Eq)]
 pub enum Verb {
@@ -64,9 +66,9 @@ const COMMANDS: [(&[u8], Verb); 16] = [
 ];
 
 // The limits of the numbers: a plane's, and those of a point that is asked for.
-const NORMAL: Role = Role::Coefficient(2048);
+const NORMAL: Role = Role::Coefficient(NORMAL_LIMIT);
 
-const OFFSET: Role = Role::Coefficient(4_194_304);
+const OFFSET: Role = Role::Coefficient(OFFSET_LIMIT);
 
 const PLACE: Role = Role::Coefficient(1 << 43);
 

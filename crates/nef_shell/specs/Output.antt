@@ -41,9 +41,13 @@ same_answer false = codes "differs" ++ line_end
 abbrev pub count_line : Complex → Parts → List ℕ
 count_line c p = line (numbers (counts c p))
 
--- the text under its name
+-- a text between the lines that name it and end it
+abbrev pub framed : List ℕ → List ℕ → List ℕ
+framed name x = codes "polyhedron " ++ name ++ line_end ++ x ++ codes "end" ++ line_end
+
+-- the text of a complex under its name
 abbrev pub printed : List ℕ → Complex → Parts → List ℕ
-printed name c p = codes "polyhedron " ++ name ++ line_end ++ text c p ++ codes "end" ++ line_end
+printed name c p = framed name (text c p)
 
 -- the answer to whether s and t are one
 abbrev pub IsSameAnswer : Set → Set → List ℕ → Type 0

@@ -5,12 +5,8 @@ use Rattle.nef_expr.specs.declared.nodes.Node.{Node}
 use Rattle.nef_expr.specs.Nodes.{node_set}
 use Rattle.nef_script.specs.declared.script.Command.{Command}
 use Rattle.nef_script.specs.declared.script.Command.TheVariants.{Print}
-use Rattle.nef_shell.specs.Output.{line_end, IsOutput}
+use Rattle.nef_shell.specs.Output.{framed, IsOutput}
 use Rattle.nef_shell.specs.Answers.{HasOutput}
-
--- a text between the lines that print it
-abbrev pub framed : List ℕ → List ℕ → List ℕ
-framed name x = codes "polyhedron " ++ name ++ line_end ++ x ++ codes "end" ++ line_end
 
 -- The command with this number prints node k, and x is the text in its place in the output.
 pub record IsPrinted (nodes : List Node) (commands : List Command) (output : List ℕ) (number k : ℕ) (x : List ℕ) : Type 0 where

@@ -1,6 +1,7 @@
 -- The small facts on the definitions.
 use Rattle.std.proofs.Common.{◌≡◌, ℕ, ◌+◌, ◌*◌, ◌<◌, ◌≤◌, ℤ, pos, negsuc, ◌+ℤ◌, ◌-ℤ◌, ◌*ℤ◌, ◌≤ℤ◌, ◌<ℤ◌, nat_abs, arith, refl, ap, Bool, true, false, List, [], ◌∷◌}
 use Rattle.std.proofs.lemmas.Int.{ints}
+use Rattle.nef_space.specs.Limits.{half_side}
 use Rattle.nef_space.specs.Place.{Place, Form, form_at, Within, InFrame, Ratio, step}
 use Rattle.nef_space.specs.Sets.{Set, Holds}
 use Rattle.nef_space.specs.Local.{IsShort, HasLabel, Germ}
@@ -39,7 +40,7 @@ germ-backward = (
   λ t short.
       let a = short.0 in
       let b = short.1 in
-      let x : nat_abs (pos 0 *ℤ pos t.b +ℤ t.a *ℤ pos 1 *ℤ negsuc 0) < 2048 * (1 * t.b) = omega (arith, ints) in
-      let y : nat_abs (pos 0 *ℤ pos t.b +ℤ t.a *ℤ pos 1 *ℤ pos 0) < 2048 * (1 * t.b) = omega (arith, ints) in
+      let x : nat_abs (pos 0 *ℤ pos t.b +ℤ t.a *ℤ pos 1 *ℤ negsuc 0) < half_side * (1 * t.b) = omega (arith, ints) in
+      let y : nat_abs (pos 0 *ℤ pos t.b +ℤ t.a *ℤ pos 1 *ℤ pos 0) < half_side * (1 * t.b) = omega (arith, ints) in
       (record { along_x = x; along_y = y; along_z = y }, omega (arith, ints)),
 )

@@ -3,6 +3,7 @@ use Rattle.std.proofs.Common.{◌≡◌, ℕ, ◌+◌, ◌*◌, ◌<◌, ℤ, po
 use Rattle.std.proofs.lemmas.Int.{ints}
 use Rattle.nef_exact.proofs.Order.{mul_pos, by_order, lt_by}
 use Rattle.nef_exact.proofs.Ring.{at, num, neg, ◌⊕◌, ◌⊖◌, ◌⊗◌}
+use Rattle.nef_space.specs.Limits.{half_side}
 use Rattle.nef_space.specs.Place.{Place, Ratio}
 use Rattle.nef_space.specs.Sets.{Set}
 use Rattle.nef_space.specs.Local.{Germ, IsVertex}
@@ -29,26 +30,26 @@ use Rattle.nef_locate.proofs.UpwardSides.{no-svertex}
 
 -- the corner at the high ends of all axes
 abbrev corner : Place
-corner = record { x = pos 2048; y = pos 2048; z = pos 2048; w = 1; proper = omega arith }
+corner = record { x = pos half_side; y = pos half_side; z = pos half_side; w = 1; proper = omega arith }
 
 -- ---- the directions in which the corner has the label Out
 -- one that leads beyond a side
 beyond-x : (s : Set) (d : Vector) → pos 0 <ℤ d.x → Germ s corner d Out
 beyond-x s d h = (1, omega arith, λ t k i. let m = mul_pos t.a d.x k.0 h in let f = i.along_x in past (t.a *ℤ pos 1 *ℤ d.x) t.b (let e : t.a *ℤ pos 1 *ℤ d.x ≡ t.a *ℤ d.x = grind (arith, ints) in omega (arith, ints, e, m)) f)
   where
-    past : (m : ℤ) (b : ℕ) → pos 0 <ℤ m → nat_abs (pos 2048 *ℤ pos b +ℤ m) < 2048 * (1 * b) → ⊥
+    past : (m : ℤ) (b : ℕ) → pos 0 <ℤ m → nat_abs (pos half_side *ℤ pos b +ℤ m) < half_side * (1 * b) → ⊥
     past m b h f = omega (arith, ints, h, f)
 
 beyond-y : (s : Set) (d : Vector) → pos 0 <ℤ d.y → Germ s corner d Out
 beyond-y s d h = (1, omega arith, λ t k i. let m = mul_pos t.a d.y k.0 h in let f = i.along_y in past (t.a *ℤ pos 1 *ℤ d.y) t.b (let e : t.a *ℤ pos 1 *ℤ d.y ≡ t.a *ℤ d.y = grind (arith, ints) in omega (arith, ints, e, m)) f)
   where
-    past : (m : ℤ) (b : ℕ) → pos 0 <ℤ m → nat_abs (pos 2048 *ℤ pos b +ℤ m) < 2048 * (1 * b) → ⊥
+    past : (m : ℤ) (b : ℕ) → pos 0 <ℤ m → nat_abs (pos half_side *ℤ pos b +ℤ m) < half_side * (1 * b) → ⊥
     past m b h f = omega (arith, ints, h, f)
 
 beyond-z : (s : Set) (d : Vector) → pos 0 <ℤ d.z → Germ s corner d Out
 beyond-z s d h = (1, omega arith, λ t k i. let m = mul_pos t.a d.z k.0 h in let f = i.along_z in past (t.a *ℤ pos 1 *ℤ d.z) t.b (let e : t.a *ℤ pos 1 *ℤ d.z ≡ t.a *ℤ d.z = grind (arith, ints) in omega (arith, ints, e, m)) f)
   where
-    past : (m : ℤ) (b : ℕ) → pos 0 <ℤ m → nat_abs (pos 2048 *ℤ pos b +ℤ m) < 2048 * (1 * b) → ⊥
+    past : (m : ℤ) (b : ℕ) → pos 0 <ℤ m → nat_abs (pos half_side *ℤ pos b +ℤ m) < half_side * (1 * b) → ⊥
     past m b h f = omega (arith, ints, h, f)
 
 -- but not the one into the frame
@@ -57,7 +58,7 @@ not-inward s (n, some, f) =
     let t : Ratio = record { a = pos 1; b = n + 1; proper = omega arith } in
     f t (omega (arith, ints), omega (arith, ints)) (record { along_x = within n; along_y = within n; along_z = within n })
   where
-    within : (n : ℕ) → nat_abs (pos 2048 *ℤ pos (n + 1) +ℤ pos 1 *ℤ pos 1 *ℤ negsuc 0) < 2048 * (1 * (n + 1))
+    within : (n : ℕ) → nat_abs (pos half_side *ℤ pos (n + 1) +ℤ pos 1 *ℤ pos 1 *ℤ negsuc 0) < half_side * (1 * (n + 1))
     within n = omega (arith, ints)
 
 -- ---- the corner is a vertex
