@@ -1,2 +1,3 @@
 pub mod Complexes
 pub mod Planes
+pub mod Index

@@ -1,5 +1,8 @@
 //! What a complex is made of.
 
+ghost use Rattle.nef_complex.specs.Index.{IsIndexOf};
+
+use crate::index::PlaneIndex;
 use nef_geo::{Label, List, Plane, Point};
 use nef_smap::SphereMap;
 
@@ -23,12 +26,15 @@ pub struct Edge {
 
 /// A complex. The carriers are the planes of the halves that the set was made of and the six planes of the frame, in
 /// order of their four numbers, once each; they depend on how the set was made. Vertices stand in increasing order of
-/// their points, edges in increasing order of their lower vertex and its svertex.
+/// their points, edges in increasing order of their lower vertex and its svertex. The index is a function of the vertices
+/// and the edges.
 #[derive(Debug, Drop)]
 pub struct Complex {
     pub carriers: List<Plane>,
     pub vertices: List<Vertex>,
     pub edges: List<Edge>,
+    pub index: PlaneIndex,
+    pub ghost indexed: { IsIndexOf vertices edges index },
 }
 
 /// An item of a vertex: the number of an arc, or the number of arcs for the sloop.

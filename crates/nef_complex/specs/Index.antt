@@ -1,0 +1,52 @@
+-- The planes of items, with the edges and the vertices of each.
+use Rattle.std.specs.Prelude.{◌≡◌, ℕ, ◌<◌, pos, List, length, ◌↔◌}
+use Rattle.nef_space.specs.Lists.{IsAt}
+use Rattle.nef_space.specs.Numbers.{IsBelow}
+use Rattle.nef_space.specs.Place.{Form, form_at, form_numbers, normal_of}
+use Rattle.nef_space.specs.Vectors.{SameDirection}
+use Rattle.nef_geo.specs.Shapes.{place_of, form_of}
+use Rattle.nef_geo.specs.declared.plane.Plane.{Plane}
+use Rattle.nef_sphere.specs.Maps.{At, Item, items, item_normal}
+use Rattle.nef_smap.specs.Maps.{map_of}
+use Rattle.nef_complex.specs.declared.complex.Vertex.{Vertex}
+use Rattle.nef_complex.specs.declared.complex.Edge.{Edge}
+use Rattle.nef_complex.specs.declared.index.PlaneIndex.{PlaneIndex}
+
+-- the plane is that of an item of some vertex
+abbrev pub HasItemIn : List Vertex → Form → Type 0
+HasItemIn vs h = (k : ℕ) × (v : Vertex) × (j : ℕ) × (x : Item) × IsAt vs k v × At (items (map_of v.map)) j x × (form_at h (place_of v.point) ≡ pos 0) × SameDirection (item_normal x) (normal_of h)
+
+-- the vertex with this number lies on the plane
+abbrev pub LiesOn : List Vertex → Form → ℕ → Type 0
+LiesOn vs h k = (v : Vertex) × IsAt vs k v × (form_at h (place_of v.point) ≡ pos 0)
+
+-- the edge with this number lies in the plane: both of its ends do
+abbrev pub EdgeLiesIn : List Vertex → List Edge → Form → ℕ → Type 0
+EdgeLiesIn vs es h k = (e : Edge) × IsAt es k e × LiesOn vs h e.low × LiesOn vs h e.high
+
+-- the numbers are those that have P, in increasing order
+pub record AreNumbersWith (P : ℕ → Type 0) (ns : List ℕ) : Type 0 where
+  pub each : (i k : ℕ) → IsAt ns i k → P k
+  pub all : (k : ℕ) → P k → (i : ℕ) × IsAt ns i k
+  pub ordered : (i j k l : ℕ) → i < j → IsAt ns i k → IsAt ns j l → k < l
+
+-- the planes are those of the items of the vertices, in order of their four numbers, once each; for each of them there are the numbers of the edges in it and of the vertices on it
+pub record IsIndexOf (vs : List Vertex) (es : List Edge) (x : PlaneIndex) : Type 0 where
+  pub planes : (h : Plane) → HasItemIn vs (form_of h) ↔ ((i : ℕ) × IsAt x.planes i h)
+  pub ordered : (i j : ℕ) (g h : Plane) → i < j → IsAt x.planes i g → IsAt x.planes j h → IsBelow (form_numbers (form_of g)) (form_numbers (form_of h))
+  pub as_many_edges : length x.edges ≡ length x.planes
+  pub as_many_vertices : length x.vertices ≡ length x.planes
+  pub edges : (i : ℕ) (h : Plane) (ns : List ℕ) → IsAt x.planes i h → IsAt x.edges i ns → AreNumbersWith (EdgeLiesIn vs es (form_of h)) ns
+  pub vertices : (i : ℕ) (h : Plane) (ns : List ℕ) → IsAt x.planes i h → IsAt x.vertices i ns → AreNumbersWith (LiesOn vs (form_of h)) ns
+
+-- the carriers hold each item: some carrier has its normal and holds its vertex
+abbrev pub AreHeld : List Plane → List Vertex → Type 0
+AreHeld hs vs = (k j : ℕ) (v : Vertex) (x : Item) → IsAt vs k v → At (items (map_of v.map)) j x → (i : ℕ) × (h : Plane) × IsAt hs i h × (form_at (form_of h) (place_of v.point) ≡ pos 0) × SameDirection (item_normal x) (normal_of (form_of h))
+
+-- the planes stand in order of their four numbers, once each
+abbrev pub AreInOrder : List Plane → Type 0
+AreInOrder hs = (i j : ℕ) (g h : Plane) → i < j → IsAt hs i g → IsAt hs j h → IsBelow (form_numbers (form_of g)) (form_numbers (form_of h))
+
+-- the ends of the edges are numbers of vertices
+abbrev pub HaveEnds : List Vertex → List Edge → Type 0
+HaveEnds vs es = (k : ℕ) (e : Edge) → IsAt es k e → (e.low < length vs) × (e.high < length vs)

@@ -1,0 +1,59 @@
+//! The planes of the items of a complex, with the edges and the vertices of each.
+
+ghost use Rattle.std.specs.Prelude.{IsNone, IfSome};
+ghost use Rattle.nef_space.specs.Lists.{IsAt};
+ghost use Rattle.nef_geo.specs.Shapes.{form_of};
+ghost use Rattle.nef_complex.specs.Index.{HasItemIn, LiesOn, EdgeLiesIn, AreNumbersWith};
+
+use crate::complex::Complex;
+use nef_geo::{List, Plane, plane_cmp};
+use std::cmp::Ordering;
+
+/// The planes of the items of all vertices, in order of their four numbers, once each; and for each of them the numbers
+/// of the edges that lie in it and those of the vertices on it, in increasing order.
+#[derive(Debug, Drop)]
+pub struct PlaneIndex {
+    pub planes: List<Plane>,
+    pub edges: List<List<usize>>,
+    pub vertices: List<List<usize>>,
+}
+
+/// The numbers of the edges that lie in a plane, and of the vertices on it, in increasing order.
+#[derive(Debug, Clone, Copy)]
+pub struct PlaneItems<'a> {
+    pub edges: &'a [usize],
+    pub vertices: &'a [usize],
+}
+
+// The number of the plane in the index, by halving.
+fn plane_at(c: &Complex, h: &Plane) -> Option<usize>
+    ensures found { IfSome result (λ i. IsAt c.now.index.planes i h.now) }
+    ensures none { IsNone result → HasItemIn c.now.vertices (form_of h.now) → ⊥ }
+{
+    let planes = c.index.planes.as_slice();
+    let mut low = 0;
+    let mut high = planes.len();
+    while low < high {
+        let middle = low + (high - low) / 2;
+        match plane_cmp(&planes[middle], h) {
+            Ordering::Less => low = middle + 1,
+            Ordering::Equal => return Some(middle),
+            Ordering::Greater => high = middle,
+        }
+    }
+    None
+}
+
+/// The edges and vertices of the plane, by halving. `None` comes exactly where no vertex has an item in the plane.
+pub fn plane_items<'a>(c: &'a Complex, h: &Plane) -> Option<PlaneItems<'a>>
+    ensures item { IfSome result (λ r. HasItemIn c.now.vertices (form_of h.now)) }
+    ensures edges { IfSome result (λ r. AreNumbersWith (EdgeLiesIn c.now.vertices c.now.edges (form_of h.now)) r.edges.now) }
+    ensures vertices { IfSome result (λ r. AreNumbersWith (LiesOn c.now.vertices (form_of h.now)) r.vertices.now) }
+    ensures none { IsNone result → HasItemIn c.now.vertices (form_of h.now) → ⊥ }
+{
+    let number = plane_at(c, h)?;
+    Some(PlaneItems {
+        edges: c.index.edges.at(number).as_slice(),
+        vertices: c.index.vertices.at(number).as_slice(),
+    })
+}
