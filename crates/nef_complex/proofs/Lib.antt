@@ -3,3 +3,4 @@ pub mod Lines
 pub mod Parted
 pub mod Ends
 pub mod Reading
+pub mod PlaneSearch

@@ -7,7 +7,6 @@
 mod complex;
 mod holding;
 mod index;
-mod indexing;
 mod vertices;
 
 pub use complex::{Complex, Corner, Edge, PlaneMeet, Vertex};
