@@ -19,3 +19,4 @@ pub mod Behind
 pub mod ItemsFound
 pub mod FacetFound
 pub mod EdgeOrder
+pub mod Listed

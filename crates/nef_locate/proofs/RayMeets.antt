@@ -15,13 +15,12 @@ use Rattle.nef_near.proofs.Alike.{FlatDim-one}
 use Rattle.nef_near.proofs.Between.{between-inner}
 use Rattle.nef_near.proofs.Frames.{flat_dim-outside}
 use Rattle.nef_sphere.specs.Maps.{At}
+use Rattle.nef_smap.proofs.SideLists.{at-from_get}
 use Rattle.nef_sphere.proofs.Compare.{SameDirection-turned, SameDirection-trans}
 use Rattle.nef_solid.specs.Complexes.{Complex as PlainComplex}
 use Rattle.nef_solid.specs.Laws.{IsFlatIn}
 use Rattle.nef_solid.specs.Skeleton.{at_vertex, on_edge, IsOnEdges, IsSkeletonPoint}
 use Rattle.nef_solid.proofs.FacetEdges.{ahead-back}
-use Rattle.nef_solid.proofs.FacetNames.{facet-of}
-use Rattle.nef_solid.proofs.Skeletons.{skeleton-not_flat}
 use Rattle.nef_complex.proofs.Lines.{one-crossing}
 use Rattle.nef_plane.proofs.Found.{not-end}
 use Rattle.nef_plane.proofs.Nearest.{between-ahead}
@@ -29,10 +28,10 @@ use Rattle.nef_complex.specs.declared.complex.Complex.{Complex}
 use Rattle.nef_complex.specs.Complexes.{complex_of, ShowsSet}
 use Rattle.nef_locate.specs.declared.ray.Met.{Met}
 use Rattle.nef_locate.specs.Places.{IsFirstHit}
-use Rattle.nef_locate.specs.Rays.{IsSkeletonIn, IsMet, IsReachedMet, IsSooner, IsNotBefore}
-use Rattle.nef_locate.proofs.Cones.{facet-at}
+use Rattle.nef_locate.specs.Rays.{IsMet, IsReachedMet, IsSooner, IsNotBefore, HasNoneBefore}
 use Rattle.nef_locate.proofs.CarrierPoints.{skeleton-carrier, crossed}
-use Rattle.nef_locate.proofs.EqualPoints.{ahead-from, skeleton-same}
+use Rattle.nef_locate.proofs.EqualPoints.{ahead-from, flat-same}
+use Rattle.nef_locate.proofs.Listed.{flat-listed}
 
 -- ---- the order along a ray
 pub never-same : (y z : PlainPlace) (d : Vector) → IsAhead y d z → SamePlace y z → ⊥
@@ -51,19 +50,9 @@ pub reached-of : (D : PlainComplex) (p : PlainPlace) (d : Vector) (best : Option
 reached-of D p d None M = tt
 reached-of D p d (Some m) M = M.reached
 
--- ---- outside the closed frame nothing is met
-pub none-outside : (s : Set) (c : Complex) → ShowsSet s c → (h : Plane) (y : PlainPlace) → (InClosedFrame y → ⊥) → IsSkeletonIn s (complex_of c) (form_of h) y → ⊥
-none-outside s c S h y n = ⊎_elim edges facets
-  where
-    spot : IsSkeletonPoint (complex_of c) y → ⊥
-    spot o = skeleton-not_flat s (complex_of c) S.shows (facet-at s (complex_of c) S.shows) (facet-of s (complex_of c) S.shows) y o (flat_dim-outside s y n)
-
-    edges : IsOnEdges (complex_of c) y → ⊥
-    edges (k, inl v) = spot (at_vertex k, v)
-    edges (k, inr e) = spot (on_edge k, e)
-
-    facets : IsFlatIn s (form_of h) y → ⊥
-    facets f = let e = FlatDim-one s y 2 3 f.0 (flat_dim-outside s y n) in omega arith
+-- ---- outside the closed frame there is no facet
+pub none-outside : (s : Set) (h : Plane) (y : PlainPlace) → (InClosedFrame y → ⊥) → IsFlatIn s (form_of h) y → ⊥
+none-outside s h y n f = let e = FlatDim-one s y 2 3 f.0 (flat_dim-outside s y n) in omega arith
 
 -- ---- one plane
 module _ (p : PlainPlace) (d : Vector) (h : Plane) (hit : Hit) (X : IsCrossing p d (form_of h) (hit_place hit)) where
@@ -87,27 +76,35 @@ module _ (p : PlainPlace) (d : Vector) (h : Plane) (hit : Hit) (X : IsCrossing p
   passed None w y n b = n
   passed (Some m) w y n b = n (between-inner p x (hit_place m.at) y (SameDirection-trans (toward p x) d (toward x (hit_place m.at)) X.ahead (SameDirection-turned (toward x (hit_place m.at)) d w)) b)
 
-  -- what is found at a crossing is found at the hit
-  pub found : (s : Set) (c : Complex) (y : PlainPlace) → IsCrossing p d (form_of h) y → IsSkeletonIn s (complex_of c) (form_of h) y → IsSkeletonIn s (complex_of c) (form_of h) x
-  found s c y Y = skeleton-same s y x (at-hit y Y) (complex_of c) (form_of h)
+  -- a facet at a crossing is one at the hit
+  pub found : (s : Set) (y : PlainPlace) → IsCrossing p d (form_of h) y → IsFlatIn s (form_of h) y → IsFlatIn s (form_of h) x
+  found s y Y = flat-same s y x (at-hit y Y) (form_of h)
+
+  -- a hit before what is met lies on no edge
+  pub sooner-off : (D : PlainComplex) (best : Option Met) → IsSooner d hit best → HasNoneBefore D p d best → IsOnEdges D x → ⊥
+  sooner-off D None w E e = E x X.ahead e
+  sooner-off D (Some m) w E e = E x X.ahead e (SameDirection-trans (toward p x) d (toward x (hit_place m.at)) X.ahead (SameDirection-turned (toward x (hit_place m.at)) d w))
 
 -- ---- all planes
 module _ (s : Set) (c : Complex) (S : ShowsSet s c) (p : PlainPlace) (d : Vector) (u : IsUpright d) where
-  -- of all carriers nothing is met before
+  -- of the facets in all planes of the index nothing is met before
   abbrev pub AllMet : Option Met → Type 0
-  AllMet best = (k : ℕ) (h : Plane) → At c.carriers k h → (y : PlainPlace) → IsCrossing p d (form_of h) y → IsSkeletonIn s (complex_of c) (form_of h) y → IsNotBefore p y best
+  AllMet best = (k : ℕ) (h : Plane) → At c.index.planes k h → (y : PlainPlace) → IsCrossing p d (form_of h) y → IsFlatIn s (form_of h) y → IsNotBefore p y best
 
-  not-before : (best : Option Met) → AllMet best → (y : PlainPlace) → IsAhead p d y → IsSkeletonPoint (complex_of c) y → IsNotBefore p y best
-  not-before best A y w o = let k = skeleton-carrier s c S y o in A k.number k.plane k.listed y (crossed s c S p y d u w k) k.found
+  not-before : (best : Option Met) → HasNoneBefore (complex_of c) p d best → AllMet best → (y : PlainPlace) → IsAhead p d y → IsSkeletonPoint (complex_of c) y → IsNotBefore p y best
+  not-before best E A y w o =
+      let k = skeleton-carrier s c S y o in
+      ⊎_elim (E y w)
+      (λ f. let i = flat-listed s c S k.plane y k.on f in A i.0 k.plane (at-from_get c.index.planes i.0 k.plane i.1) y (crossed s c S p y d u w k) f) k.found
 
-  pub first-none : AllMet None → (y : PlainPlace) → IsAhead p d y → IsSkeletonPoint (complex_of c) y → ⊥
-  first-none A = not-before None A
+  pub first-none : HasNoneBefore (complex_of c) p d None → AllMet None → (y : PlainPlace) → IsAhead p d y → IsSkeletonPoint (complex_of c) y → ⊥
+  first-none E A = not-before None E A
 
-  pub first-some : (m : Met) → IsMet (complex_of c) p d m → AllMet (Some m) → IsFirstHit (complex_of c) p d m.place
-  first-some m M A = record {
+  pub first-some : (m : Met) → IsMet (complex_of c) p d m → HasNoneBefore (complex_of c) p d (Some m) → AllMet (Some m) → IsFirstHit (complex_of c) p d m.place
+  first-some m M E A = record {
     place = hit_place m.at;
     ahead = M.ahead;
     skeleton = M.on.skeleton;
     at = M.on.at;
-    first = λ q b o. not-before (Some m) A q (between-ahead p q (hit_place m.at) d b M.ahead) o b;
+    first = λ q b o. not-before (Some m) E A q (between-ahead p q (hit_place m.at) d b M.ahead) o b;
   }

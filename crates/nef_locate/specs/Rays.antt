@@ -42,6 +42,10 @@ abbrev pub IsNotBefore : PlainPlace → PlainPlace → Option Met → Type 0
 IsNotBefore p y None = ⊥
 IsNotBefore p y (Some m) = IsBetween p y (hit_place m.at) → ⊥
 
+-- no vertex and no edge lies before what is met; where nothing is met, none lies ahead
+abbrev pub HasNoneBefore : Complex → PlainPlace → Vector → Option Met → Type 0
+HasNoneBefore C p d best = (y : PlainPlace) → IsAhead p d y → IsOnEdges C y → IsNotBefore p y best
+
 -- the hit lies before what is met, if something is
 abbrev pub IsSooner : Vector → Hit → Option Met → Type 0
 IsSooner d q None = Unit {0}

@@ -16,7 +16,7 @@ ghost use Rattle.nef_complex.specs.Complexes.{complex_of, corner_of, meet_of, ve
 ghost use Rattle.nef_locate.specs.Facets.{IsArcThrough, IsItemThrough, IsArcBeside, HasMet};
 
 use nef_arc::{Arc, strictly_on};
-use nef_complex::{Complex, Corner, PlaneMeet, Vertex};
+use nef_complex::{Complex, Corner, PlaneMeet, Vertex, plane_items};
 use nef_geo::{Dir, Hit, Plane, Sign, plane_axis, triple};
 use nef_plane::first_in_plane;
 use nef_smap::{SArc, SphereMap};
@@ -162,6 +162,8 @@ pub fn in_facet(c: &Complex, h: &Plane, p: &Hit) -> Option<Corner>
     ensures plane { IfSome result (λ k. (v : PlainVertex) (x : Item) → IsCorner (complex_of c.now) (corner_of k) v x → SameDirection (item_normal x) (normal_of (form_of h.now))) }
     ensures none { IsNone result → (s : Set) → ShowsSet s c.now → IsFlatIn s (form_of h.now) (hit_place p.now) → ⊥ }
 {
+    // a facet has items in its plane
+    plane_items(c, h)?;
     // the ray from a point of a facet stays in it up to the first vertex or edge of the plane, which has an item on this
     // side; and from such an item the facet reaches back to the point
     let axis = plane_axis(h);

@@ -50,8 +50,8 @@ fn corner_at(c: &Complex, q: &Hit) -> Option<Corner>
     ensures corner { IfSome result (λ k. HasCorner (complex_of c.now) (hit_place q.now) (corner_of k)) }
     ensures none { IsNone result → IsSkeletonPoint (complex_of c.now) (hit_place q.now) → ⊥ }
 {
-    for number in 0..c.carriers.len() {
-        if let Some(corner) = corner_in(c, c.carriers.at(number), q) {
+    for number in 0..c.index.planes.len() {
+        if let Some(corner) = corner_in(c, c.index.planes.at(number), q) {
             return Some(corner);
         }
     }

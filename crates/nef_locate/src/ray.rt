@@ -6,15 +6,18 @@ ghost use Rattle.nef_space.specs.Sets.{Set};
 ghost use Rattle.nef_space.specs.Vectors.{Vector, IsDirection, opposite, up};
 ghost use Rattle.nef_geo.specs.Hits.{IsUpright, IsCrossing, IsReached};
 ghost use Rattle.nef_geo.specs.Shapes.{form_of, vector_of, place_of, hit_place};
+ghost use Rattle.nef_solid.specs.Laws.{IsFlatIn};
 ghost use Rattle.nef_solid.specs.Skeleton.{IsSkeletonPoint};
 ghost use Rattle.nef_complex.specs.Complexes.{complex_of, ShowsSet};
 ghost use Rattle.nef_locate.specs.Places.{IsPlaceIn, IsFirstHit};
-ghost use Rattle.nef_locate.specs.Rays.{IsSkeletonIn, IsMet, IsReachedMet, IsSooner, IsNotBefore};
+ghost use Rattle.nef_locate.specs.Rays.{IsMet, IsReachedMet, IsSooner, IsNotBefore, HasNoneBefore};
 
-use crate::hit::{is_framed, skeleton_at};
+use crate::facet::in_facet;
+use crate::hit::is_framed;
 use crate::place::Place;
-use nef_complex::Complex;
+use nef_complex::{Complex, PlaneMeet};
 use nef_geo::{Dir, Hit, Plane, Point, hit_order, ray_hit};
+use nef_plane::first_on_edges;
 use std::cmp::Ordering;
 
 // A place that a ray meets, and the hit there.
@@ -38,14 +41,34 @@ fn is_sooner(hit: &Hit, best: &Option<Met>) -> bool
     }
 }
 
-// What the ray meets first of what it met before, which is `best`, and of what it meets in the plane.
+// The vertex or the edge that the ray first meets.
+fn met_on_edges(c: &Complex, p: &Point, d: &Dir) -> Option<Met>
+    requires shows { (s : Set) × ShowsSet s c.now }
+    requires upright { IsUpright (vector_of d.now) }
+    ensures met { IfSome result (IsMet (complex_of c.now) (place_of p.now) (vector_of d.now)) }
+    ensures edges { HasNoneBefore (complex_of c.now) (place_of p.now) (vector_of d.now) result }
+{
+    let first = first_on_edges(c, p, d)?;
+    let place = match first.meet {
+        PlaneMeet::AtVertex(number) => Place::Vertex(number),
+        PlaneMeet::AtEdge(number) => Place::OnEdge(number),
+    };
+    Some(Met {
+        place,
+        at: first.at,
+    })
+}
+
+// What the ray meets first of what it met before, which is `best`, and of the facets in the plane. It meets no vertex and
+// no edge before `best`.
 fn nearer(c: &Complex, h: &Plane, p: &Point, d: &Dir, best: Option<Met>) -> Option<Met>
     requires shows { (s : Set) × ShowsSet s c.now }
     requires upright { IsUpright (vector_of d.now) }
     requires best { IfSome best (IsMet (complex_of c.now) (place_of p.now) (vector_of d.now)) }
+    requires edges { HasNoneBefore (complex_of c.now) (place_of p.now) (vector_of d.now) best }
     ensures met { IfSome result (IsMet (complex_of c.now) (place_of p.now) (vector_of d.now)) }
     ensures kept { (y : PlainPlace) → IsNotBefore (place_of p.now) y best → IsNotBefore (place_of p.now) y result }
-    ensures plane { (s : Set) (y : PlainPlace) → ShowsSet s c.now → IsCrossing (place_of p.now) (vector_of d.now) (form_of h.now) y → IsSkeletonIn s (complex_of c.now) (form_of h.now) y → IsNotBefore (place_of p.now) y result }
+    ensures plane { (s : Set) (y : PlainPlace) → ShowsSet s c.now → IsCrossing (place_of p.now) (vector_of d.now) (form_of h.now) y → IsFlatIn s (form_of h.now) y → IsNotBefore (place_of p.now) y result }
 {
     let Some(hit) = ray_hit(p, d, h) else {
         return best;
@@ -56,15 +79,18 @@ fn nearer(c: &Complex, h: &Plane, p: &Point, d: &Dir, best: Option<Met>) -> Opti
     if !is_framed(&hit) {
         return best;
     }
-    match skeleton_at(c, h, &hit) {
-        Some(place) => Some(Met { place, at: hit }),
+    match in_facet(c, h, &hit) {
+        Some(corner) => Some(Met {
+            place: Place::InFacet(corner),
+            at: hit,
+        }),
         None => best,
     }
 }
 
 /// The first skeleton point that the ray from `p` meets strictly ahead, along the upward direction or the downward one.
-/// `None` comes exactly where the ray meets none. Each carrier is hit at one point at most, since no plane is parallel to
-/// these directions, and what the ray meets of the skeleton lies on carriers.
+/// `None` comes exactly where the ray meets none. No plane is parallel to these directions, so the ray hits each plane of
+/// an item at one point at most; what it meets off the vertices and edges lies in a facet of such a plane.
 pub fn first_hit(c: &Complex, p: &Point, d: &Dir) -> Option<Place>
     requires shows { (s : Set) × ShowsSet s c.now }
     requires framed { InClosedFrame (place_of p.now) }
@@ -73,9 +99,9 @@ pub fn first_hit(c: &Complex, p: &Point, d: &Dir) -> Option<Place>
     ensures some { IfSome result (λ a. IsFirstHit (complex_of c.now) (place_of p.now) (vector_of d.now) a) }
     ensures none { IsNone result → (q : PlainPlace) → IsAhead (place_of p.now) (vector_of d.now) q → IsSkeletonPoint (complex_of c.now) q → ⊥ }
 {
-    let mut best = None;
-    for number in 0..c.carriers.len() {
-        best = nearer(c, c.carriers.at(number), p, d, best);
+    let mut best = met_on_edges(c, p, d);
+    for number in 0..c.index.planes.len() {
+        best = nearer(c, c.index.planes.at(number), p, d, best);
     }
     match best {
         Some(met) => Some(met.place),

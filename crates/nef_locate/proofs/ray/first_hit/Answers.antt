@@ -7,7 +7,8 @@ use Rattle.nef_geo.specs.declared.plane.Plane.{Plane}
 use Rattle.nef_smap.proofs.Lists.{at-within}
 use Rattle.nef_complex.specs.Complexes.{complex_of, ShowsSet}
 use Rattle.nef_locate.specs.declared.ray.Met.{Met}
-use Rattle.nef_locate.specs.Rays.{IsSkeletonIn, IsMet, IsNotBefore}
+use Rattle.nef_solid.specs.Laws.{IsFlatIn}
+use Rattle.nef_locate.specs.Rays.{IsMet, IsNotBefore, HasNoneBefore}
 use Rattle.nef_locate.proofs.RayMeets.{first-some, first-none}
 use Rattle.nef_locate.proofs.Reading.{next-all}
 use Rattle.nef_locate.proofs.ray.first_hit.Goals as goal
@@ -16,9 +17,10 @@ pub loop-number-preserved : goal.loop-number-preserved
 loop-number-preserved c =
     let C = c.args.c.now in let p = place_of c.args.p.now in let d = vector_of c.args.d.now in (
       c.nearer-best.ensures.met,
-      next-all (λ (h : Plane). (s : Set) (y : PlainPlace) → ShowsSet s C → IsCrossing p d (form_of h) y → IsSkeletonIn s (complex_of C) (form_of h) y → IsNotBefore p y c.nearer-best.result)
-          C.carriers c.loop-number.number c.at.result.now c.at.ensures.element
-          (λ k h l a s y S X I. c.nearer-best.ensures.kept y (c.loop-number.invariant.1 k h l a s y S X I)) c.nearer-best.ensures.plane,
+      (λ y w e. c.nearer-best.ensures.kept y (c.loop-number.invariant.1 y w e)),
+      next-all (λ (h : Plane). (s : Set) (y : PlainPlace) → ShowsSet s C → IsCrossing p d (form_of h) y → IsFlatIn s (form_of h) y → IsNotBefore p y c.nearer-best.result)
+          C.index.planes c.loop-number.number c.at.result.now c.at.ensures.element
+          (λ k h l a s y S X I. c.nearer-best.ensures.kept y (c.loop-number.invariant.2 k h l a s y S X I)) c.nearer-best.ensures.plane,
     )
 
 pub returns-in-Some-clause-place : goal.returns-in-Some-clause-place
@@ -32,14 +34,16 @@ returns-in-Some-clause-some c =
     let C = c.args.c.now in let p = place_of c.args.p.now in let d = vector_of c.args.d.now in let S = c.requires.shows in
     first-some S.0 C S.1 p d c.requires.upright c.in-Some.met
     (subst (λ (o : Option Met). IfSome o (IsMet (complex_of C) p d)) c.in-Some.is c.loop-number.invariant.0)
+    (subst (HasNoneBefore (complex_of C) p d) c.in-Some.is c.loop-number.invariant.1)
     (λ k h a y X I.
-    let l = at-within C.carriers k h a in let t = c.loop-number-test.false in let e = c.len-number-end.ensures.len in
-    subst (IsNotBefore p y) c.in-Some.is (c.loop-number.invariant.1 k h (omega (arith, l, t, e)) a S.0 y S.1 X I))
+    let l = at-within C.index.planes k h a in let t = c.loop-number-test.false in let e = c.len-number-end.ensures.len in
+    subst (IsNotBefore p y) c.in-Some.is (c.loop-number.invariant.2 k h (omega (arith, l, t, e)) a S.0 y S.1 X I))
 
 pub returns-in-None-clause-none : goal.returns-in-None-clause-none
 returns-in-None-clause-none c _ =
     let C = c.args.c.now in let p = place_of c.args.p.now in let d = vector_of c.args.d.now in let S = c.requires.shows in
     first-none S.0 C S.1 p d c.requires.upright
+    (subst (HasNoneBefore (complex_of C) p d) c.in-None.is c.loop-number.invariant.1)
     (λ k h a y X I.
-    let l = at-within C.carriers k h a in let t = c.loop-number-test.false in let e = c.len-number-end.ensures.len in
-    subst (IsNotBefore p y) c.in-None.is (c.loop-number.invariant.1 k h (omega (arith, l, t, e)) a S.0 y S.1 X I))
+    let l = at-within C.index.planes k h a in let t = c.loop-number-test.false in let e = c.len-number-end.ensures.len in
+    subst (IsNotBefore p y) c.in-None.is (c.loop-number.invariant.2 k h (omega (arith, l, t, e)) a S.0 y S.1 X I))

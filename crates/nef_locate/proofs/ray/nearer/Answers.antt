@@ -2,7 +2,8 @@ use Rattle.std.proofs.Common.{refl, rules, IsTrue}
 use Rattle.nef_geo.specs.Shapes.{vector_of, place_of, hit_place}
 use Rattle.nef_complex.specs.Complexes.{complex_of}
 use Rattle.nef_locate.proofs.CarrierPoints.{upright-some}
-use Rattle.nef_locate.proofs.RayMeets.{reached-of, none-outside, stays, taken, passed, found}
+use Rattle.nef_locate.proofs.Located.{corner-at}
+use Rattle.nef_locate.proofs.RayMeets.{reached-of, none-outside, stays, taken, passed, found, sooner-off}
 use Rattle.nef_locate.proofs.ray.nearer.Goals as goal
 
 pub returns-in_default-clause-plane : goal.returns-in_default-clause-plane
@@ -19,18 +20,30 @@ pub returns-then-not-is_framed-clause-plane : goal.returns-then-not-is_framed-cl
 returns-then-not-is_framed-clause-plane c =
     let p = place_of c.args.p.now in let d = vector_of c.args.d.now in let hit = c.in-Some.hit in
     let off : IsTrue c.is_framed.result → ⊥ = search rules in
-    λ s y S X I. absurd (none-outside s c.args.c.now S c.args.h.now (hit_place hit) (λ i. off (c.is_framed.ensures.framed.1 i)) (found p d c.args.h.now hit c.in-Some.ensures.crossing s c.args.c.now y X I))
+    λ s y S X I. absurd (none-outside s c.args.h.now (hit_place hit) (λ i. off (c.is_framed.ensures.framed.1 i)) (found p d c.args.h.now hit c.in-Some.ensures.crossing s y X I))
 
-pub returns-in-Some-skeleton_at-clause-kept : goal.returns-in-Some-skeleton_at-clause-kept
-returns-in-Some-skeleton_at-clause-kept c =
+pub in_facet-requires-clause-off : goal.in_facet-requires-clause-off
+in_facet-requires-clause-off c =
+    let p = place_of c.args.p.now in let d = vector_of c.args.d.now in let hit = c.in-Some.hit in
+    let q = c.is_sooner.ensures.sooner p d (upright-some d c.requires.upright) c.in-Some.ensures.step (reached-of (complex_of c.args.c.now) p d c.args.best c.requires.best) in
+    let on : IsTrue c.is_sooner.result = search rules in
+    sooner-off p d c.args.h.now hit c.in-Some.ensures.crossing (complex_of c.args.c.now) c.args.best (q.0 on) c.requires.edges
+
+pub returns-in-Some-in_facet-clause-met : goal.returns-in-Some-in_facet-clause-met
+returns-in-Some-in_facet-clause-met c =
+    let X = c.in-Some.ensures.crossing in
+    record { reached = c.in-Some.ensures.step; ahead = X.ahead; on = corner-at (complex_of c.args.c.now) (hit_place c.in-Some.hit) c.in-Some-in_facet.corner c.in-Some-in_facet.ensures.corner }
+
+pub returns-in-Some-in_facet-clause-kept : goal.returns-in-Some-in_facet-clause-kept
+returns-in-Some-in_facet-clause-kept c =
     let p = place_of c.args.p.now in let d = vector_of c.args.d.now in let hit = c.in-Some.hit in
     let q = c.is_sooner.ensures.sooner p d (upright-some d c.requires.upright) c.in-Some.ensures.step (reached-of (complex_of c.args.c.now) p d c.args.best c.requires.best) in
     let on : IsTrue c.is_sooner.result = search rules in
     λ y n b. passed p d c.args.h.now hit c.in-Some.ensures.crossing c.args.best (q.0 on) y n b
 
-pub returns-in-Some-skeleton_at-clause-plane : goal.returns-in-Some-skeleton_at-clause-plane
-returns-in-Some-skeleton_at-clause-plane c = λ s y S X I b. taken (place_of c.args.p.now) (vector_of c.args.d.now) c.args.h.now c.in-Some.hit c.in-Some.ensures.crossing y X b
+pub returns-in-Some-in_facet-clause-plane : goal.returns-in-Some-in_facet-clause-plane
+returns-in-Some-in_facet-clause-plane c = λ s y S X I b. taken (place_of c.args.p.now) (vector_of c.args.d.now) c.args.h.now c.in-Some.hit c.in-Some.ensures.crossing y X b
 
 pub returns-in-None-clause-plane : goal.returns-in-None-clause-plane
 returns-in-None-clause-plane c =
-    λ s y S X I. absurd (c.in-None.ensures.none refl s S (found (place_of c.args.p.now) (vector_of c.args.d.now) c.args.h.now c.in-Some.hit c.in-Some.ensures.crossing s c.args.c.now y X I))
+    λ s y S X I. absurd (c.in-None.ensures.none refl s S (found (place_of c.args.p.now) (vector_of c.args.d.now) c.args.h.now c.in-Some.hit c.in-Some.ensures.crossing s y X I))

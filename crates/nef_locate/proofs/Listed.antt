@@ -1,0 +1,61 @@
+-- The plane of a facet point is one of the index.
+use Rattle.std.proofs.Common.{◌≡◌, ℕ, pos, sym, subst}
+use Rattle.nef_space.specs.Lists.{IsAt}
+use Rattle.nef_space.specs.Place.{Place, form_at, normal_of}
+use Rattle.nef_space.specs.Sets.{Set}
+use Rattle.nef_space.specs.Vectors.{Vector, dot, opposite, IsDirection, SameDirection, plane_axis}
+use Rattle.nef_geo.specs.Shapes.{form_of}
+use Rattle.nef_geo.specs.declared.plane.Plane.{Plane}
+use Rattle.nef_near.proofs.Rays.{same-place_sym}
+use Rattle.nef_sphere.specs.Maps.{At, Item, arc_item, items, item_normal}
+use Rattle.nef_sphere.proofs.Arcs.{at-arc}
+use Rattle.nef_sphere.proofs.Lists.{at-one}
+use Rattle.nef_sphere.proofs.Vectors.{normal-direction}
+use Rattle.nef_smap.proofs.Lists.{at-map}
+use Rattle.nef_smap.proofs.SideLists.{get-from_at}
+use Rattle.nef_solid.specs.Complexes.{Vertex as PlainVertex, Edge as PlainEdge, Complex as PlainComplex, Corner}
+use Rattle.nef_solid.specs.Laws.{IsFlatIn}
+use Rattle.nef_solid.specs.Skeleton.{PlaneMeet, meets_vertex, meets_edge, Meets, IsCornerAt}
+use Rattle.nef_solid.proofs.FacetEnds.{facet-behind}
+use Rattle.nef_solid.proofs.FacetNames.{axis-in}
+use Rattle.nef_solid.proofs.FacetWays.{plane-ahead}
+use Rattle.nef_complex.specs.declared.complex.Complex.{Complex}
+use Rattle.nef_complex.specs.Complexes.{vertex_of, complex_of, ShowsSet}
+use Rattle.nef_complex.specs.Index.{HasItemIn}
+use Rattle.nef_plane.proofs.Meeting.{level-same}
+
+module _ (s : Set) (c : Complex) (S : ShowsSet s c) (h : Plane) (y : Place) (on : form_at (form_of h) y ≡ pos 0) (F : IsFlatIn s (form_of h) y) where
+  abbrev C : PlainComplex
+  C = complex_of c
+
+  abbrev n : Vector
+  n = normal_of (form_of h)
+
+  abbrev d : Vector
+  d = plane_axis n
+
+  axis : IsDirection d × (dot n d ≡ pos 0)
+  axis = axis-in n (normal-direction n h.normal)
+
+  has-item : (k j : ℕ) (v : PlainVertex) (x : Item) → At C.vertices k v → At (items v.map) j x → form_at (form_of h) v.point ≡ pos 0 → SameDirection (item_normal x) n → HasItemIn c.vertices (form_of h)
+  has-item k j v x a b e w =
+      let u = at-map vertex_of c.vertices k v a in
+      (k, u.0, j, x, get-from_at c.vertices k u.0 u.1, subst (λ (r : PlainVertex). At (items r.map) j x) (sym u.2) b, subst (λ (r : PlainVertex). form_at (form_of h) r.point ≡ pos 0) (sym u.2) e, w)
+
+  -- the corner that the point sees at what it first meets has an item in the plane
+  at-meet : (m : PlaneMeet) (q : Place) (f : Vector) → Meets C (form_of h) m q → form_at (form_of h) q ≡ pos 0 → (k : Corner) → IsCornerAt C (form_of h) f m k → HasItemIn c.vertices (form_of h)
+  at-meet (meets_vertex i) q f (v, a, e) o k (u, x, p, K, w, t) =
+      let r = at-one C.vertices i v u a (subst (λ j. At C.vertices j u) p K.vertex) in
+      has-item k.vertex k.item u x K.vertex K.item (subst (λ (z : PlainVertex). form_at (form_of h) z.point ≡ pos 0) r (level-same (form_of h) q v.point (same-place_sym v.point q e) o)) w
+  at-meet (meets_edge i) q f (I, (e, v, z, a, H, l, m)) o k (g, u, b, a2, p, K, t, w, side) =
+      let same = at-one C.edges i e g a a2 in
+      let r = at-one C.vertices g.low v u (subst (λ (x : PlainEdge). At C.vertices x.low v) same H.low) K in
+      has-item g.low k.item u (arc_item b) K (at-arc u.map.arcs u.map.loop k.item b t) (subst (λ (x : PlainVertex). form_at (form_of h) x.point ≡ pos 0) r l) w
+
+  pub flat-item : HasItemIn c.vertices (form_of h)
+  flat-item =
+      let m = facet-behind s C S.shows (form_of h) y h.normal on d axis.0 axis.1 F in
+      at-meet m.0 m.1.place (opposite d) m.1.meets (plane-ahead (form_of h) y m.1.place d m.1.ahead axis.1 on) m.2 m.3
+
+  pub flat-listed : (i : ℕ) × IsAt c.index.planes i h
+  flat-listed = (S.index.planes h).0 flat-item
