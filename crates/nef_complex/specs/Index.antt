@@ -1,5 +1,5 @@
 -- The planes of items, with the edges and the vertices of each.
-use Rattle.std.specs.Prelude.{◌≡◌, ℕ, ◌<◌, pos, List, length, ◌↔◌}
+use Rattle.std.specs.Prelude.{◌≡◌, ℕ, ◌<◌, ◌≤◌, pos, List, length, ◌↔◌}
 use Rattle.nef_space.specs.Lists.{IsAt}
 use Rattle.nef_space.specs.Numbers.{IsBelow}
 use Rattle.nef_space.specs.Place.{Form, form_at, form_numbers, normal_of}
@@ -50,3 +50,11 @@ AreInOrder hs = (i j : ℕ) (g h : Plane) → i < j → IsAt hs i g → IsAt hs 
 -- the ends of the edges are numbers of vertices
 abbrev pub HaveEnds : List Vertex → List Edge → Type 0
 HaveEnds vs es = (k : ℕ) (e : Edge) → IsAt es k e → (e.low < length vs) × (e.high < length vs)
+
+-- the planes before number k are below the plane
+abbrev pub ArePlanesBelow : List Plane → ℕ → Plane → Type 0
+ArePlanesBelow hs k h = (i : ℕ) (g : Plane) → i < k → IsAt hs i g → IsBelow (form_numbers (form_of g)) (form_numbers (form_of h))
+
+-- those from number k on are above it
+abbrev pub ArePlanesAbove : List Plane → ℕ → Plane → Type 0
+ArePlanesAbove hs k h = (i : ℕ) (g : Plane) → k ≤ i → IsAt hs i g → IsBelow (form_numbers (form_of h)) (form_numbers (form_of g))

@@ -1,7 +1,5 @@
 //! What a complex is made of.
 
-ghost use Rattle.nef_complex.specs.Index.{IsIndexOf};
-
 use crate::index::PlaneIndex;
 use nef_geo::{Label, List, Plane, Point};
 use nef_smap::SphereMap;
@@ -34,7 +32,6 @@ pub struct Complex {
     pub vertices: List<Vertex>,
     pub edges: List<Edge>,
     pub index: PlaneIndex,
-    pub ghost indexed: { IsIndexOf vertices edges index },
 }
 
 /// An item of a vertex: the number of an arc, or the number of arcs for the sloop.

@@ -1,9 +1,11 @@
 //! The planes of the items of a complex, with the edges and the vertices of each.
 
-ghost use Rattle.std.specs.Prelude.{IsNone, IfSome};
+ghost use Rattle.std.specs.Prelude.{ℕ, IsNone, IfSome};
 ghost use Rattle.nef_space.specs.Lists.{IsAt};
+ghost use Rattle.nef_space.specs.Sets.{Set};
 ghost use Rattle.nef_geo.specs.Shapes.{form_of};
-ghost use Rattle.nef_complex.specs.Index.{HasItemIn, LiesOn, EdgeLiesIn, AreNumbersWith};
+ghost use Rattle.nef_complex.specs.Complexes.{ShowsSet};
+ghost use Rattle.nef_complex.specs.Index.{AreInOrder, HasItemIn, LiesOn, EdgeLiesIn, AreNumbersWith};
 
 use crate::complex::Complex;
 use nef_geo::{List, Plane, plane_cmp};
@@ -26,11 +28,11 @@ pub struct PlaneItems<'a> {
 }
 
 // The number of the plane in the index, by halving.
-fn plane_at(c: &Complex, h: &Plane) -> Option<usize>
-    ensures found { IfSome result (λ i. IsAt c.now.index.planes i h.now) }
-    ensures none { IsNone result → HasItemIn c.now.vertices (form_of h.now) → ⊥ }
+fn plane_at(planes: &[Plane], h: &Plane) -> Option<usize>
+    requires ordered { AreInOrder planes.now }
+    ensures found { IfSome result (λ i. IsAt planes.now i h.now) }
+    ensures none { IsNone result → (i : ℕ) → IsAt planes.now i h.now → ⊥ }
 {
-    let planes = c.index.planes.as_slice();
     let mut low = 0;
     let mut high = planes.len();
     while low < high {
@@ -46,12 +48,13 @@ fn plane_at(c: &Complex, h: &Plane) -> Option<usize>
 
 /// The edges and vertices of the plane, by halving. `None` comes exactly where no vertex has an item in the plane.
 pub fn plane_items<'a>(c: &'a Complex, h: &Plane) -> Option<PlaneItems<'a>>
+    requires shows { (s : Set) × ShowsSet s c.now }
     ensures item { IfSome result (λ r. HasItemIn c.now.vertices (form_of h.now)) }
     ensures edges { IfSome result (λ r. AreNumbersWith (EdgeLiesIn c.now.vertices c.now.edges (form_of h.now)) r.edges.now) }
     ensures vertices { IfSome result (λ r. AreNumbersWith (LiesOn c.now.vertices (form_of h.now)) r.vertices.now) }
     ensures none { IsNone result → HasItemIn c.now.vertices (form_of h.now) → ⊥ }
 {
-    let number = plane_at(c, h)?;
+    let number = plane_at(c.index.planes.as_slice(), h)?;
     Some(PlaneItems {
         edges: c.index.edges.at(number).as_slice(),
         vertices: c.index.vertices.at(number).as_slice(),
