@@ -6,3 +6,4 @@ pub mod Reading
 pub mod Numbered
 pub mod SamePlanes
 pub mod IndexSteps
+pub mod PlaneSearch

@@ -30,10 +30,14 @@ pub record AreNumbersWith (P : ℕ → Type 0) (ns : List ℕ) : Type 0 where
   pub all : (k : ℕ) → P k → (i : ℕ) × IsAt ns i k
   pub ordered : (i j k l : ℕ) → i < j → IsAt ns i k → IsAt ns j l → k < l
 
+-- the planes stand in order of their four numbers, once each
+abbrev pub AreInOrder : List Plane → Type 0
+AreInOrder hs = (i j : ℕ) (g h : Plane) → i < j → IsAt hs i g → IsAt hs j h → IsBelow (form_numbers (form_of g)) (form_numbers (form_of h))
+
 -- the planes are those of the items of the vertices, in order of their four numbers, once each; for each of them there are the numbers of the edges in it and of the vertices on it
 pub record IsIndexOf (vs : List Vertex) (es : List Edge) (x : PlaneIndex) : Type 0 where
   pub planes : (h : Plane) → HasItemIn vs (form_of h) ↔ ((i : ℕ) × IsAt x.planes i h)
-  pub ordered : (i j : ℕ) (g h : Plane) → i < j → IsAt x.planes i g → IsAt x.planes j h → IsBelow (form_numbers (form_of g)) (form_numbers (form_of h))
+  pub ordered : AreInOrder x.planes
   pub as_many_edges : length x.edges ≡ length x.planes
   pub as_many_vertices : length x.vertices ≡ length x.planes
   pub edges : (i : ℕ) (h : Plane) (ns : List ℕ) → IsAt x.planes i h → IsAt x.edges i ns → AreNumbersWith (EdgeLiesIn vs es (form_of h)) ns
@@ -42,10 +46,6 @@ pub record IsIndexOf (vs : List Vertex) (es : List Edge) (x : PlaneIndex) : Type
 -- the carriers hold each item: some carrier has its normal and holds its vertex
 abbrev pub AreHeld : List Plane → List Vertex → Type 0
 AreHeld hs vs = (k j : ℕ) (v : Vertex) (x : Item) → IsAt vs k v → At (items (map_of v.map)) j x → (i : ℕ) × (h : Plane) × IsAt hs i h × (form_at (form_of h) (place_of v.point) ≡ pos 0) × SameDirection (item_normal x) (normal_of (form_of h))
-
--- the planes stand in order of their four numbers, once each
-abbrev pub AreInOrder : List Plane → Type 0
-AreInOrder hs = (i j : ℕ) (g h : Plane) → i < j → IsAt hs i g → IsAt hs j h → IsBelow (form_numbers (form_of g)) (form_numbers (form_of h))
 
 -- the ends of the edges are numbers of vertices
 abbrev pub HaveEnds : List Vertex → List Edge → Type 0
