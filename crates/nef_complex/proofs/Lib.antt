@@ -3,4 +3,7 @@ pub mod Lines
 pub mod Parted
 pub mod Ends
 pub mod Reading
+pub mod Numbered
+pub mod SamePlanes
+pub mod IndexSteps
 pub mod PlaneSearch

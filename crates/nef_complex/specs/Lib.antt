@@ -1,3 +1,4 @@
 pub mod Complexes
 pub mod Planes
 pub mod Index
+pub mod Indexing

@@ -7,10 +7,11 @@
 mod complex;
 mod holding;
 mod index;
+mod indexing;
 mod vertices;
 
 pub use complex::{Complex, Corner, Edge, PlaneMeet, Vertex};
-pub use holding::holds_both;
+pub use holding::{holds, holds_both, plane_normal};
 pub use index::{PlaneIndex, PlaneItems, plane_items};
 pub use std::alloc::AllocError as OutOfMemory;
 pub use vertices::vertex_at;

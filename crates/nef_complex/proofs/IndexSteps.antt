@@ -1,0 +1,190 @@
+-- An index is put together carrier by carrier.
+use Rattle.std.proofs.Common.{◌≡◌, ℕ, ◌+◌, ◌<◌, ◌≤◌, pos, List, [], ◌∷◌, ◌++◌, length, length-append, Bool, true, IsTrue, ◌↔◌, arith, refl, ap, sym, ◌∙◌, subst, ⊎_elim}
+use Rattle.nef_space.specs.Lists.{IsAt}
+use Rattle.nef_space.specs.Numbers.{IsBelow}
+use Rattle.nef_space.specs.Place.{Form, form_at, form_numbers, normal_of}
+use Rattle.nef_space.specs.Vectors.{Vector, SameDirection}
+use Rattle.nef_geo.specs.Shapes.{form_of, place_of}
+use Rattle.nef_geo.specs.declared.plane.Plane.{Plane}
+use Rattle.nef_sphere.specs.Maps.{At, Item, items, item_normal}
+use Rattle.nef_sphere.proofs.Compare.{SameDirection-turned, SameDirection-trans}
+use Rattle.nef_smap.specs.Maps.{map_of}
+use Rattle.nef_smap.proofs.ClassLists.{less-or-last, is-at_one, is-at_within, is-at_left, is-at_last, Either, earlier, last, is-at_either}
+use Rattle.nef_complex.specs.declared.complex.Vertex.{Vertex}
+use Rattle.nef_complex.specs.declared.complex.Edge.{Edge}
+use Rattle.nef_complex.specs.declared.index.PlaneIndex.{PlaneIndex}
+use Rattle.nef_complex.specs.Index.{HasItemIn, LiesOn, EdgeLiesIn, AreNumbersWith, IsIndexOf, AreHeld, AreInOrder, HaveEnds}
+use Rattle.nef_complex.specs.Indexing.{HasNormal, AreFlags, HasOneMore}
+use Rattle.nef_complex.proofs.Numbered.{Before, numbers-same}
+use Rattle.nef_complex.proofs.SamePlanes.{parallel-equal}
+
+-- ---- flags
+-- there are n flags, for the first n vertices
+pub record AreFlagsTo (vs : List Vertex) (h : Form) (n : ℕ) (flags : List Bool) : Type 0 where
+  pub as_many : length flags ≡ n
+  pub set : (k : ℕ) → IsAt flags k true ↔ Before (LiesOn vs h) n k
+
+pub flags-none : (vs : List Vertex) (h : Form) → AreFlagsTo vs h 0 []
+flags-none vs h = record { as_many = refl; set = λ k. (λ a. cc, λ (l, p). absurd (omega arith)) }
+
+pub flags-more : (vs : List Vertex) (h : Form) (n : ℕ) (flags : List Bool) (v : Vertex) (b : Bool) → AreFlagsTo vs h n flags → IsAt vs n v → IsTrue b ↔ (form_at h (place_of v.point) ≡ pos 0) → AreFlagsTo vs h (n + 1) (flags ++ b ∷ [])
+flags-more vs h n flags v b F a t = record {
+  as_many = let e = F.as_many in let f = length-append flags (b ∷ []) in omega arith;
+  set = λ k. (λ c. forth k (is-at_either flags k true b c), λ (l, p). ⊎_elim (λ m. is-at_left flags (b ∷ []) k true ((F.set k).1 (m, p))) (λ e. back k p e) (less-or-last k n l));
+}
+  where
+    forth : (k : ℕ) → Either flags k true b → Before (LiesOn vs h) (n + 1) k
+    forth k (earlier c) = let o = (F.set k).0 c in (omega arith, o.1)
+    forth k (last e f) = let m : k ≡ n = e ∙ F.as_many in (omega arith, (v, subst (λ (i : ℕ). IsAt vs i v) (sym m) a, t.0 (sym f)))
+
+    back : (k : ℕ) → LiesOn vs h k → k ≡ n → IsAt (flags ++ b ∷ []) k true
+    back k (w, c, z) e =
+        let same : w ≡ v = is-at_one vs n w v (subst (λ (i : ℕ). IsAt vs i w) e c) a in
+        let yes : b ≡ true = t.1 (subst (λ (r : Vertex). form_at h (place_of r.point) ≡ pos 0) same z) in
+        subst (λ (i : ℕ). IsAt (flags ++ b ∷ []) i true) (F.as_many ∙ sym e) (subst (λ (r : Bool). IsAt (flags ++ b ∷ []) (length flags) r) yes (is-at_last flags b))
+
+pub flags-all : (vs : List Vertex) (h : Form) (n : ℕ) (flags : List Bool) → n ≡ length vs → AreFlagsTo vs h n flags → AreFlags vs h flags
+flags-all vs h n flags e F = record {
+  as_many = F.as_many ∙ e;
+  set = λ k. (λ a. ((F.set k).0 a).1, λ (v, a, z). (F.set k).1 (let w = is-at_within vs k v a in omega arith, (v, a, z)));
+}
+
+-- the numbers of the flags that are set are those of the vertices on the plane
+pub flagged-numbers : (vs : List Vertex) (h : Form) (flags read : List Bool) (ns : List ℕ) → read ≡ flags → AreFlags vs h flags → AreNumbersWith (λ k. IsAt read k true) ns → AreNumbersWith (LiesOn vs h) ns
+flagged-numbers vs h flags read ns e F N = numbers-same (λ k. IsAt read k true) (LiesOn vs h) ns (subst (AreFlags vs h) (sym e) F).set N
+
+-- ---- edges
+-- the edge lies in the plane exactly where the flags of its ends are set
+pub edge-in : (vs : List Vertex) (es : List Edge) (h : Form) (flags : List Bool) (k : ℕ) (e : Edge) → AreFlags vs h flags → IsAt es k e → IsAt flags e.low true → IsAt flags e.high true → EdgeLiesIn vs es h k
+edge-in vs es h flags k e F a l u = (e, a, (F.set e.low).0 l, (F.set e.high).0 u)
+
+pub edge-flags : (vs : List Vertex) (es : List Edge) (h : Form) (flags : List Bool) (k : ℕ) (e : Edge) → AreFlags vs h flags → IsAt es k e → EdgeLiesIn vs es h k → IsAt flags e.low true × IsAt flags e.high true
+edge-flags vs es h flags k e F a (f, b, l, u) =
+    let same : f ≡ e = is-at_one es k f e b a in
+    (subst (λ (r : Edge). IsAt flags r.low true) same ((F.set f.low).1 l), subst (λ (r : Edge). IsAt flags r.high true) same ((F.set f.high).1 u))
+
+-- ---- items
+module _ (vs : List Vertex) (h : Form) (n : Vector) (w : SameDirection (normal_of h) n) where
+  -- a vertex on the plane has an item with its normal
+  pub item-in : (k : ℕ) (v : Vertex) → IsAt vs k v → LiesOn vs h k → HasNormal (map_of v.map) n → HasItemIn vs h
+  item-in k v a (u, b, z) (j, x, i, s) =
+      (k, v, j, x, a, i, subst (λ (r : Vertex). form_at h (place_of r.point) ≡ pos 0) (is-at_one vs k u v b a) z, SameDirection-trans (item_normal x) n (normal_of h) s (SameDirection-turned (normal_of h) n w))
+
+  -- none of the vertices on the plane has one
+  pub no-item : (on : List ℕ) (m : ℕ) → length on ≤ m → AreNumbersWith (LiesOn vs h) on → ((i k : ℕ) (v : Vertex) → i < m → IsAt on i k → IsAt vs k v → HasNormal (map_of v.map) n → ⊥) → HasItemIn vs h → ⊥
+  no-item on m le N none (k, v, j, x, a, i, z, s) =
+      let o = N.all k (v, a, z) in
+      none o.0 k v (let l = is-at_within on o.0 k o.1 in omega arith) o.1 a (j, x, i, SameDirection-trans (item_normal x) (normal_of h) n s w)
+
+-- ---- planes
+-- what holds of the elements of two lists holds with one more of each
+pub both-more : {A B : Type 0} (P : A → B → Type 0) (xs : List A) (ys : List B) (x : A) (y : B) → length ys ≡ length xs → ((i : ℕ) (a : A) (b : B) → IsAt xs i a → IsAt ys i b → P a b) → P x y
+    → (i : ℕ) (a : A) (b : B) → IsAt (xs ++ x ∷ []) i a → IsAt (ys ++ y ∷ []) i b → P a b
+both-more {A} {B} P xs ys x y e all p i a b c d = by (is-at_either xs i a x c) (is-at_either ys i b y d)
+  where
+    by : Either xs i a x → Either ys i b y → P a b
+    by (earlier k) (earlier l) = all i a b k l
+    by (earlier k) (last f g) = let m = is-at_within xs i a k in absurd (omega arith)
+    by (last f g) (earlier l) = let m = is-at_within ys i b l in absurd (omega arith)
+    by (last f g) (last r s) = subst (λ (t : A). P t b) (sym g) (subst (λ (t : B). P x t) (sym s) p)
+
+-- the index has the planes of items among the first n carriers
+pub record IsIndexTo (hs : List Plane) (n : ℕ) (vs : List Vertex) (es : List Edge) (x : PlaneIndex) : Type 0 where
+  pub each : (i : ℕ) (h : Plane) → IsAt x.planes i h → HasItemIn vs (form_of h) × ((k : ℕ) × (k < n) × IsAt hs k h)
+  pub all : (k : ℕ) (h : Plane) → k < n → IsAt hs k h → HasItemIn vs (form_of h) → (i : ℕ) × IsAt x.planes i h
+  pub ordered : AreInOrder x.planes
+  pub as_many_edges : length x.edges ≡ length x.planes
+  pub as_many_vertices : length x.vertices ≡ length x.planes
+  pub edges : (i : ℕ) (h : Plane) (ns : List ℕ) → IsAt x.planes i h → IsAt x.edges i ns → AreNumbersWith (EdgeLiesIn vs es (form_of h)) ns
+  pub vertices : (i : ℕ) (h : Plane) (ns : List ℕ) → IsAt x.planes i h → IsAt x.vertices i ns → AreNumbersWith (LiesOn vs (form_of h)) ns
+
+pub index-none : (hs : List Plane) (vs : List Vertex) (es : List Edge) (x : PlaneIndex) → x.planes ≡ [] → x.edges ≡ [] → x.vertices ≡ [] → IsIndexTo hs 0 vs es x
+index-none hs vs es x p e v = record {
+  each = λ i h a. absurd (nothing i h a);
+  all = λ k h l a o. absurd (omega arith);
+  ordered = λ i j g h l a b. absurd (nothing i g a);
+  as_many_edges = ap length e ∙ sym (ap length p);
+  as_many_vertices = ap length v ∙ sym (ap length p);
+  edges = λ i h ns a b. absurd (nothing i h a);
+  vertices = λ i h ns a b. absurd (nothing i h a);
+}
+  where
+    nothing : (i : ℕ) (h : Plane) → IsAt x.planes i h → ⊥
+    nothing i h a = let l = is-at_within [] i h (subst (λ (r : List Plane). IsAt r i h) p a) in omega arith
+
+module _ (hs : List Plane) (n : ℕ) (vs : List Vertex) (es : List Edge) (old new : PlaneIndex) (h : Plane) (order : AreInOrder hs) (here : IsAt hs n h) (I : IsIndexTo hs n vs es old) where
+  pub index-skip : new ≡ old → (HasItemIn vs (form_of h) → ⊥) → IsIndexTo hs (n + 1) vs es new
+  index-skip e off = subst (IsIndexTo hs (n + 1) vs es) (sym e) (record {
+    each = λ i g a. let o = I.each i g a in (o.0, (o.1.0, (let l = o.1.1 in omega arith), o.1.2));
+    all = λ k g l a o. ⊎_elim (λ m. I.all k g m a o)
+        (λ m. absurd (off (subst (λ (r : Plane). HasItemIn vs (form_of r)) (is-at_one hs n g h (subst (λ (i : ℕ). IsAt hs i g) m a) here) o))) (less-or-last k n l);
+    ordered = I.ordered;
+    as_many_edges = I.as_many_edges;
+    as_many_vertices = I.as_many_vertices;
+    edges = I.edges;
+    vertices = I.vertices;
+  })
+
+  module _ (M : HasOneMore vs es h old new) where
+    parted : (i : ℕ) (g : Plane) → IsAt new.planes i g → Either old.planes i g h
+    parted i g a = is-at_either old.planes i g h (subst (λ (r : List Plane). IsAt r i g) M.planes_are a)
+
+    each : (i : ℕ) (g : Plane) → Either old.planes i g h → HasItemIn vs (form_of g) × ((k : ℕ) × (k < n + 1) × IsAt hs k g)
+    each i g (earlier a) = let o = I.each i g a in (o.0, (o.1.0, (let l = o.1.1 in omega arith), o.1.2))
+    each i g (last e f) = subst (λ (r : Plane). HasItemIn vs (form_of r) × ((k : ℕ) × (k < n + 1) × IsAt hs k r)) (sym f) (M.item, (n, omega arith, here))
+
+    ordered : (i j : ℕ) (f g : Plane) → i < j → Either old.planes i f h → Either old.planes j g h → IsBelow (form_numbers (form_of f)) (form_numbers (form_of g))
+    ordered i j f g l (earlier a) (earlier b) = I.ordered i j f g l a b
+    ordered i j f g l (earlier a) (last e same) =
+        let o = (I.each i f a).1 in
+        subst (λ (r : Plane). IsBelow (form_numbers (form_of f)) (form_numbers (form_of r))) (sym same) (order o.0 n f h o.1 o.2 here)
+    ordered i j f g l (last e same) (earlier b) = let o = is-at_within old.planes j g b in absurd (omega arith)
+    ordered i j f g l (last e same) (last d also) = absurd (omega arith)
+
+    all : (k : ℕ) (g : Plane) → k < n + 1 → IsAt hs k g → HasItemIn vs (form_of g) → (i : ℕ) × IsAt new.planes i g
+    all k g l a o = ⊎_elim
+        (λ m. let p = I.all k g m a o in (p.0, subst (λ (r : List Plane). IsAt r p.0 g) (sym M.planes_are) (is-at_left old.planes (h ∷ []) p.0 g p.1)))
+        (λ m. (length old.planes, subst (λ (r : List Plane). IsAt r (length old.planes) g) (sym M.planes_are)
+            (subst (λ (r : Plane). IsAt (old.planes ++ h ∷ []) (length old.planes) r) (is-at_one hs n h g here (subst (λ (i : ℕ). IsAt hs i g) m a)) (is-at_last old.planes h))))
+        (less-or-last k n l)
+
+    as-many : (xs ys : List (List ℕ)) (ns : List ℕ) → ys ≡ xs ++ ns ∷ [] → length xs ≡ length old.planes → length ys ≡ length new.planes
+    as-many xs ys ns e f =
+        let d = ap length e in
+        let g = ap length M.planes_are in
+        let i = length-append xs (ns ∷ []) in
+        let j = length-append old.planes (h ∷ []) in
+        omega arith
+
+    pub index-more : IsIndexTo hs (n + 1) vs es new
+    index-more = record {
+      each = λ i g a. each i g (parted i g a);
+      all = all;
+      ordered = λ i j f g l a b. ordered i j f g l (parted i f a) (parted j g b);
+      as_many_edges = as-many old.edges new.edges M.edges M.edges_are I.as_many_edges;
+      as_many_vertices = as-many old.vertices new.vertices M.vertices M.vertices_are I.as_many_vertices;
+      edges = λ i g ns a b. both-more (λ (r : Plane) (ms : List ℕ). AreNumbersWith (EdgeLiesIn vs es (form_of r)) ms) old.planes old.edges h M.edges I.as_many_edges I.edges M.are_edges i g ns
+          (subst (λ (r : List Plane). IsAt r i g) M.planes_are a) (subst (λ (r : List (List ℕ)). IsAt r i ns) M.edges_are b);
+      vertices = λ i g ns a b. both-more (λ (r : Plane) (ms : List ℕ). AreNumbersWith (LiesOn vs (form_of r)) ms) old.planes old.vertices h M.vertices I.as_many_vertices I.vertices M.are_vertices i g ns
+          (subst (λ (r : List Plane). IsAt r i g) M.planes_are a) (subst (λ (r : List (List ℕ)). IsAt r i ns) M.vertices_are b);
+    }
+
+-- each plane with an item is a carrier
+pub index-all : (hs : List Plane) (n : ℕ) (vs : List Vertex) (es : List Edge) (x : PlaneIndex) → length hs ≤ n → AreHeld hs vs → IsIndexTo hs n vs es x → IsIndexOf vs es x
+index-all hs n vs es x le held I = record {
+  planes = λ h. (λ o. listed h o, λ (i, a). (I.each i h a).0);
+  ordered = I.ordered;
+  as_many_edges = I.as_many_edges;
+  as_many_vertices = I.as_many_vertices;
+  edges = I.edges;
+  vertices = I.vertices;
+}
+  where
+    listed : (h : Plane) → HasItemIn vs (form_of h) → (i : ℕ) × IsAt x.planes i h
+    listed h (k, v, j, y, a, b, z, s) =
+        let K = held k j v y a b in
+        let g : Plane = K.1 in
+        let t = SameDirection-trans (normal_of (form_of h)) (item_normal y) (normal_of (form_of g)) (SameDirection-turned (item_normal y) (normal_of (form_of h)) s) K.4 in
+        let same : h ≡ g = parallel-equal h g (place_of v.point) t.parallel z K.3 in
+        let o = I.all K.0 g (let l = is-at_within hs K.0 g K.2 in omega arith) K.2 (subst (λ (r : Plane). HasItemIn vs (form_of r)) same (k, v, j, y, a, b, z, s)) in
+        (o.0, subst (λ (r : Plane). IsAt x.planes o.0 r) (sym same) o.1)

@@ -1,0 +1,49 @@
+use Rattle.std.proofs.Common.{ℕ, ◌<◌, length, get_or, arith, refl, sym, ◌∙◌, subst, ⊎_elim}
+use Rattle.std.proofs.lemmas.Option.{slice_get_read}
+use Rattle.nef_arc.proofs.SignNumbers.{not_true}
+use Rattle.nef_space.specs.Lists.{IsAt}
+use Rattle.nef_geo.specs.Shapes.{form_of, vector_of}
+use Rattle.nef_smap.specs.Maps.{map_of}
+use Rattle.nef_smap.proofs.ClassLists.{less-or-last, is-at_get, is-at_one, is-at_within}
+use Rattle.nef_complex.specs.declared.complex.Vertex.{Vertex}
+use Rattle.nef_complex.specs.Indexing.{HasNormal}
+use Rattle.nef_complex.proofs.IndexSteps.{item-in, no-item}
+use Rattle.nef_complex.proofs.indexing.has_item.Goals as goal
+
+pub returns-then-has_normal : goal.returns-then-has_normal
+returns-then-has_normal c =
+    let vs = c.args.vertices.now in
+    let on = c.args.on.now in
+    let i = c.loop-number.number-index in
+    let k : ℕ = get_or on i 0 in
+    let v = c.index-vertices-number.result in
+    let L = c.requires.on.each i k (is-at_get on i 0 c.loop-number-test.true) in
+    let a = slice_get_read vs (length vs) k v refl (is-at_within vs k L.0 L.1) c.index-vertices-number.is in
+    record { item = (λ t. item-in vs (form_of c.args.h.now) (vector_of c.plane_normal-normal.result) c.plane_normal-normal.ensures.normal k v a L
+        (subst (λ (r : Vertex). HasNormal (map_of r.map) (vector_of c.plane_normal-normal.result)) (sym c.index-vertices-number.is) (c.has_normal.ensures.normal.0 c.if-has_normal.true)), λ o. refl) }
+
+pub loop-number-preserved : goal.loop-number-preserved
+loop-number-preserved c = λ j m u l b d o.
+    let vs = c.args.vertices.now in
+    let on = c.args.on.now in
+    let i = c.loop-number.number-index in
+    let k : ℕ = get_or on i 0 in
+    let v = c.index-vertices-number.result in
+    let at_i = is-at_get on i 0 c.loop-number-test.true in
+    let L = c.requires.on.each i k at_i in
+    let a = slice_get_read vs (length vs) k v refl (is-at_within vs k L.0 L.1) c.index-vertices-number.is in
+    ⊎_elim (λ r. c.loop-number.invariant j m u r b d o)
+    (λ e.
+        let same = is-at_one on i m k (subst (λ (r : ℕ). IsAt on r m) e b) at_i in
+        let one = is-at_one vs k u v (subst (λ (r : ℕ). IsAt vs r u) same d) a in
+        not_true (sym c.if-has_normal.false ∙ c.has_normal.ensures.normal.1 (subst (λ (r : Vertex). HasNormal (map_of r.map) (vector_of c.plane_normal-normal.result)) (one ∙ c.index-vertices-number.is) o)))
+    (less-or-last j i l)
+
+pub returns : goal.returns
+returns c = record {
+  item = (
+    λ t. absurd (not_true t),
+    λ o. absurd (no-item c.args.vertices.now (form_of c.args.h.now) (vector_of c.plane_normal-normal.result) c.plane_normal-normal.ensures.normal c.args.on.now c.loop-number.number-index (let f = c.loop-number-test.false in omega arith) c.requires.on
+        c.loop-number.invariant o),
+  );
+}
