@@ -1,2 +1,3 @@
 pub mod Amid
 pub mod Meets
+pub mod Upright

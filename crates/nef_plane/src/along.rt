@@ -18,9 +18,9 @@ use std::cmp::Ordering;
 
 // What a ray meets, and where.
 #[derive(Debug, Clone, Copy)]
-struct Met {
-    meet: PlaneMeet,
-    at: Hit,
+pub(crate) struct Met {
+    pub(crate) meet: PlaneMeet,
+    pub(crate) at: Hit,
 }
 
 fn is_along(g: &Plane, d: &Dir) -> bool
@@ -43,7 +43,7 @@ fn is_across(g: &Plane, a: &Point, b: &Point, d: &Dir) -> bool
 }
 
 // The first of the planes that holds both points and isn't along the direction.
-fn plane_across(planes: &[Plane], a: &Point, b: &Point, d: &Dir) -> Option<Plane>
+pub(crate) fn plane_across(planes: &[Plane], a: &Point, b: &Point, d: &Dir) -> Option<Plane>
     ensures across { MatchOption result (AllHold planes.now (vector_of d.now) (place_of a.now) (place_of b.now)) (IsAcross (vector_of d.now) (place_of a.now) (place_of b.now)) }
 {
     for g in planes {
@@ -65,7 +65,7 @@ fn crossed_at(planes: &[Plane], a: &Point, b: &Point, p: &Point, d: &Dir) -> Opt
 }
 
 // What the ray meets first of two.
-fn nearer(one: Option<Met>, other: Option<Met>, p: &Point, d: &Dir) -> Option<Met>
+pub(crate) fn nearer(one: Option<Met>, other: Option<Met>, p: &Point, d: &Dir) -> Option<Met>
     requires one { IfSome one (λ x. IsReachedMet (place_of p.now) (vector_of d.now) (met_of x)) }
     requires other { IfSome other (λ x. IsReachedMet (place_of p.now) (vector_of d.now) (met_of x)) }
     ensures nearer { IsNearer met_of (vector_of d.now) one other result }

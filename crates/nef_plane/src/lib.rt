@@ -1,10 +1,13 @@
-//! What a ray within a plane first meets of a complex, and whether a point of a ray is a vertex or lies on an edge.
+//! What a ray within a plane or along an upright direction first meets of a complex, and whether a point of a ray is a
+//! vertex or lies on an edge.
 #![tactic(auto)]
 
 mod along;
 mod places;
 mod plane;
+mod upright;
 
 pub use along::first_along_dir;
 pub use places::{is_at_vertex, is_on_edge};
 pub use plane::first_in_plane;
+pub use upright::{EdgeHit, first_on_edges};

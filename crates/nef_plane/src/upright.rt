@@ -1,0 +1,196 @@
+//! The first vertex or edge that a ray along the upward direction or the downward one meets.
+//!
+//! Two planes that hold the ray tell of most vertices and edges that it doesn't meet them, by numbers of points alone: it
+//! meets a vertex only where both planes hold that, and an edge only where each of them parts its ends or holds both.
+
+ghost use Rattle.std.specs.Prelude.{◌≡◌, ◌⊎◌, ℕ, ◌<◌, ◌≤◌, length, ◌*ℤ◌, ◌-ℤ◌, nat_abs, ◌↔◌, IsTrue, IsNone, IfSome};
+ghost use Rattle.nef_space.specs.Limits.{point_limit, weight_limit};
+ghost use Rattle.nef_space.specs.Place.{Place, form_at, toward, IsAhead};
+ghost use Rattle.nef_space.specs.Sets.{Set};
+ghost use Rattle.nef_space.specs.Vectors.{IsParallel, up, opposite};
+ghost use Rattle.nef_geo.specs.Hits.{IsUpright, IsPlaceAtMost};
+ghost use Rattle.nef_geo.specs.Shapes.{vector_of, place_of, hit_place};
+ghost use Rattle.nef_geo.specs.Signs.{sign_of};
+ghost use Rattle.nef_geo.specs.Widths.{upright_limit, upright_weight_limit};
+ghost use Rattle.nef_solid.specs.Skeleton.{IsOnEdges};
+ghost use Rattle.nef_complex.specs.Complexes.{complex_of, ShowsSet};
+ghost use Rattle.nef_plane.specs.Meets.{AreOpposite, IsHitThrough, IsWithin, AllHold, AtVertexNumber, IsNearest, met_of, reach_of};
+ghost use Rattle.nef_plane.specs.Upright.{gap_limit, plane_along_x, plane_along_y, InsideEdgeNumber, IsUprightMet, IsFirstOnEdges};
+
+use crate::along::{Met, nearer, plane_across};
+use crate::places::is_on_edge;
+use nef_complex::{Complex, PlaneMeet};
+use nef_geo::{Dir, Hit, Plane, Point, Sign, ray_hit};
+
+/// A vertex or an edge that a ray meets, and the hit there.
+#[derive(Debug, Clone, Copy)]
+pub struct EdgeHit {
+    pub meet: PlaneMeet,
+    pub at: Hit,
+}
+
+// The difference x/w - y/v, times both weights.
+fn gap(x: i64, w: i64, y: i64, v: i64) -> i128
+    requires x_small { nat_abs x ≤ point_limit }
+    requires w_small { nat_abs w ≤ weight_limit }
+    requires y_small { nat_abs y ≤ point_limit }
+    requires v_small { nat_abs v ≤ weight_limit }
+    ensures gap { result ≡ x *ℤ v -ℤ y *ℤ w }
+    ensures small { nat_abs result ≤ gap_limit }
+{
+    x as i128 * v as i128 - y as i128 * w as i128
+}
+
+// The side of the plane of the ray and the first axis on which the point lies.
+fn side_along_x(p: &Point, d: &Dir, a: &Point) -> Sign
+    requires upright { IsUpright (vector_of d.now) }
+    ensures side { result ≡ sign_of (form_at (plane_along_x (place_of p.now) (vector_of d.now)) (place_of a.now)) }
+{
+    let second = gap(a.y(), a.w(), p.y(), p.w());
+    let third = gap(a.z(), a.w(), p.z(), p.w());
+    Sign::of(d.z() as i128 * second - d.y() as i128 * third)
+}
+
+// The side of the plane of the ray and the second axis.
+fn side_along_y(p: &Point, d: &Dir, a: &Point) -> Sign
+    requires upright { IsUpright (vector_of d.now) }
+    ensures side { result ≡ sign_of (form_at (plane_along_y (place_of p.now) (vector_of d.now)) (place_of a.now)) }
+{
+    let third = gap(a.z(), a.w(), p.z(), p.w());
+    let first = gap(a.x(), a.w(), p.x(), p.w());
+    Sign::of(d.x() as i128 * third - d.z() as i128 * first)
+}
+
+// Whether the point lies on the line of the ray.
+fn is_in_line(p: &Point, d: &Dir, a: &Point) -> bool
+    requires upright { IsUpright (vector_of d.now) }
+    ensures parallel { IsTrue result ↔ IsParallel (toward (place_of p.now) (place_of a.now)) (vector_of d.now) }
+{
+    side_along_x(p, d, a) == Sign::Zero && side_along_y(p, d, a) == Sign::Zero
+}
+
+fn are_parted_along_x(p: &Point, d: &Dir, a: &Point, b: &Point) -> bool
+    requires upright { IsUpright (vector_of d.now) }
+    ensures opposite { IsTrue result ↔ AreOpposite (plane_along_x (place_of p.now) (vector_of d.now)) (place_of a.now) (place_of b.now) }
+{
+    side_along_x(p, d, a) == side_along_x(p, d, b).opposite()
+}
+
+fn are_parted_along_y(p: &Point, d: &Dir, a: &Point, b: &Point) -> bool
+    requires upright { IsUpright (vector_of d.now) }
+    ensures opposite { IsTrue result ↔ AreOpposite (plane_along_y (place_of p.now) (vector_of d.now)) (place_of a.now) (place_of b.now) }
+{
+    side_along_y(p, d, a) == side_along_y(p, d, b).opposite()
+}
+
+// Whether each of the two planes parts the points or holds both, as it does where the ray passes between them.
+fn are_parted(p: &Point, d: &Dir, a: &Point, b: &Point) -> bool
+    requires upright { IsUpright (vector_of d.now) }
+    ensures opposite { IsTrue result ↔ (AreOpposite (plane_along_x (place_of p.now) (vector_of d.now)) (place_of a.now) (place_of b.now) × AreOpposite (plane_along_y (place_of p.now) (vector_of d.now)) (place_of a.now) (place_of b.now)) }
+{
+    are_parted_along_x(p, d, a, b) && are_parted_along_y(p, d, a, b)
+}
+
+// Where the ray crosses one of the planes that hold both points.
+fn upright_hit(planes: &[Plane], a: &Point, b: &Point, p: &Point, d: &Dir) -> Option<Hit>
+    requires upright { IsUpright (vector_of d.now) }
+    ensures through { IfSome result (λ q. IsHitThrough (place_of p.now) (vector_of d.now) (place_of a.now) (place_of b.now) (reach_of q)) }
+    ensures bounded { IfSome result (λ q. IsPlaceAtMost upright_limit upright_weight_limit (hit_place q)) }
+    ensures none { IsNone result → (y : Place) → IsAhead (place_of p.now) (vector_of d.now) y → IsWithin (place_of a.now) (place_of b.now) y → AllHold planes.now (vector_of d.now) (place_of a.now) (place_of b.now) }
+{
+    let g = plane_across(planes, a, b, d)?;
+    ray_hit(p, d, &g)
+}
+
+// The vertex with this number, where the ray meets it.
+fn vertex_met(c: &Complex, p: &Point, d: &Dir, number: usize) -> Option<Met>
+    requires shows { (s : Set) × ShowsSet s c.now }
+    requires upright { IsUpright (vector_of d.now) }
+    requires within { number < length c.now.vertices }
+    ensures nearest { IsNearest met_of (place_of p.now) (vector_of d.now) (AtVertexNumber (complex_of c.now) number) result }
+    ensures bounded { IfSome result IsUprightMet }
+{
+    let point = &c.vertices.at(number).point;
+    if !is_in_line(p, d, point) {
+        return None;
+    }
+    let at = upright_hit(c.carriers.as_slice(), point, point, p, d)?;
+    Some(Met {
+        meet: PlaneMeet::AtVertex(number),
+        at,
+    })
+}
+
+// The edge with this number, where the ray meets its inside.
+fn edge_met(c: &Complex, p: &Point, d: &Dir, number: usize) -> Option<Met>
+    requires shows { (s : Set) × ShowsSet s c.now }
+    requires upright { IsUpright (vector_of d.now) }
+    requires within { number < length c.now.edges }
+    ensures nearest { IsNearest met_of (place_of p.now) (vector_of d.now) (InsideEdgeNumber (complex_of c.now) number) result }
+    ensures bounded { IfSome result IsUprightMet }
+{
+    let edge = c.edges.at(number);
+    let low = &c.vertices.at(edge.low).point;
+    let high = &c.vertices.at(edge.high).point;
+    if !are_parted(p, d, low, high) {
+        return None;
+    }
+    let at = upright_hit(c.carriers.as_slice(), low, high, p, d)?;
+    if is_on_edge(c, number, &at) {
+        Some(Met {
+            meet: PlaneMeet::AtEdge(number),
+            at,
+        })
+    } else {
+        None
+    }
+}
+
+// The first vertex that the ray meets.
+fn nearest_vertex(c: &Complex, p: &Point, d: &Dir) -> Option<Met>
+    requires shows { (s : Set) × ShowsSet s c.now }
+    requires upright { IsUpright (vector_of d.now) }
+    ensures nearest { IsNearest met_of (place_of p.now) (vector_of d.now) (λ m q. (k : ℕ) × AtVertexNumber (complex_of c.now) k m q) result }
+    ensures bounded { IfSome result IsUprightMet }
+{
+    let mut best = None;
+    for number in 0..c.vertices.len() {
+        best = nearer(best, vertex_met(c, p, d, number), p, d);
+    }
+    best
+}
+
+// The first edge whose inside the ray meets.
+fn nearest_edge(c: &Complex, p: &Point, d: &Dir) -> Option<Met>
+    requires shows { (s : Set) × ShowsSet s c.now }
+    requires upright { IsUpright (vector_of d.now) }
+    ensures nearest { IsNearest met_of (place_of p.now) (vector_of d.now) (λ m q. (k : ℕ) × InsideEdgeNumber (complex_of c.now) k m q) result }
+    ensures bounded { IfSome result IsUprightMet }
+{
+    let mut best = None;
+    for number in 0..c.edges.len() {
+        best = nearer(best, edge_met(c, p, d, number), p, d);
+    }
+    best
+}
+
+/// The first vertex, or edge, that the ray from `p` along the upward direction or the downward one meets strictly ahead,
+/// with the hit there. The first three numbers of the hit are at most `2^86` in size and its w at most `2^73`. `None`
+/// comes exactly where the ray meets none. No edge lies along such a ray, since no carrier does.
+pub fn first_on_edges(c: &Complex, p: &Point, d: &Dir) -> Option<EdgeHit>
+    requires shows { (s : Set) × ShowsSet s c.now }
+    requires upright { (vector_of d.now ≡ up) ⊎ (vector_of d.now ≡ opposite up) }
+    ensures some { IfSome result (IsFirstOnEdges (complex_of c.now) (place_of p.now) (vector_of d.now)) }
+    ensures bounded { IfSome result (λ x. IsPlaceAtMost upright_limit upright_weight_limit (hit_place x.at)) }
+    ensures none { IsNone result → (q : Place) → IsAhead (place_of p.now) (vector_of d.now) q → IsOnEdges (complex_of c.now) q → ⊥ }
+{
+    let vertex = nearest_vertex(c, p, d);
+    let edge = nearest_edge(c, p, d);
+    match nearer(vertex, edge, p, d) {
+        Some(met) => Some(EdgeHit {
+            meet: met.meet,
+            at: met.at,
+        }),
+        None => None,
+    }
+}
