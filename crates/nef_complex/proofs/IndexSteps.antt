@@ -6,14 +6,14 @@ use Rattle.nef_space.specs.Place.{Form, form_at, form_numbers, normal_of}
 use Rattle.nef_space.specs.Vectors.{Vector, SameDirection}
 use Rattle.nef_geo.specs.Shapes.{form_of, place_of}
 use Rattle.nef_geo.specs.declared.plane.Plane.{Plane}
-use Rattle.nef_sphere.specs.Maps.{At, Item, items, item_normal}
+use Rattle.nef_sphere.specs.Maps.{item_normal}
 use Rattle.nef_sphere.proofs.Compare.{SameDirection-turned, SameDirection-trans}
 use Rattle.nef_smap.specs.Maps.{map_of}
 use Rattle.nef_smap.proofs.ClassLists.{less-or-last, is-at_one, is-at_within, is-at_left, is-at_last, Either, earlier, last, is-at_either}
 use Rattle.nef_complex.specs.declared.complex.Vertex.{Vertex}
 use Rattle.nef_complex.specs.declared.complex.Edge.{Edge}
 use Rattle.nef_complex.specs.declared.index.PlaneIndex.{PlaneIndex}
-use Rattle.nef_complex.specs.Index.{HasItemIn, LiesOn, EdgeLiesIn, AreNumbersWith, IsIndexOf, AreHeld, AreInOrder, HaveEnds}
+use Rattle.nef_complex.specs.Index.{HasItemIn, LiesOn, EdgeLiesIn, AreNumbersWith, IsIndexOf, AreHeld, AreInOrder}
 use Rattle.nef_complex.specs.Indexing.{HasNormal, AreFlags, HasOneMore}
 use Rattle.nef_complex.proofs.Numbered.{Before, numbers-same}
 use Rattle.nef_complex.proofs.SamePlanes.{parallel-equal}
@@ -144,8 +144,11 @@ module _ (hs : List Plane) (n : ℕ) (vs : List Vertex) (es : List Edge) (old ne
     all : (k : ℕ) (g : Plane) → k < n + 1 → IsAt hs k g → HasItemIn vs (form_of g) → (i : ℕ) × IsAt new.planes i g
     all k g l a o = ⊎_elim
         (λ m. let p = I.all k g m a o in (p.0, subst (λ (r : List Plane). IsAt r p.0 g) (sym M.planes_are) (is-at_left old.planes (h ∷ []) p.0 g p.1)))
-        (λ m. (length old.planes, subst (λ (r : List Plane). IsAt r (length old.planes) g) (sym M.planes_are)
-            (subst (λ (r : Plane). IsAt (old.planes ++ h ∷ []) (length old.planes) r) (is-at_one hs n h g here (subst (λ (i : ℕ). IsAt hs i g) m a)) (is-at_last old.planes h))))
+        (λ m. (
+          length old.planes,
+          subst (λ (r : List Plane). IsAt r (length old.planes) g) (sym M.planes_are)
+              (subst (λ (r : Plane). IsAt (old.planes ++ h ∷ []) (length old.planes) r) (is-at_one hs n h g here (subst (λ (i : ℕ). IsAt hs i g) m a)) (is-at_last old.planes h)),
+        ))
         (less-or-last k n l)
 
     as-many : (xs ys : List (List ℕ)) (ns : List ℕ) → ys ≡ xs ++ ns ∷ [] → length xs ≡ length old.planes → length ys ≡ length new.planes

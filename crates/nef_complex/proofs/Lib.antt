@@ -7,3 +7,4 @@ pub mod Numbered
 pub mod SamePlanes
 pub mod IndexSteps
 pub mod PlaneSearch
+pub mod Carried

@@ -1,5 +1,6 @@
 -- The vertices of a set are joined: their svertices are halves of edges.
-use Rattle.std.proofs.Common.{ℕ, List, map, subst}
+use Rattle.std.proofs.Common.{◌≡◌, ℕ, ◌<◌, List, map, length, sym, subst}
+use Rattle.nef_space.specs.Lists.{IsAt}
 use Rattle.nef_space.specs.Place.{IsPlaceBelow}
 use Rattle.nef_space.specs.Sets.{Set}
 use Rattle.nef_geo.specs.Shapes.{form_of}
@@ -7,13 +8,22 @@ use Rattle.nef_geo.specs.declared.plane.Plane.{Plane}
 use Rattle.nef_sphere.specs.Maps.{At, Shaped}
 use Rattle.nef_sphere.specs.Least.{InOrder}
 use Rattle.nef_solid.specs.Complexes.{Vertex as PlainVertex, Edges}
+use Rattle.nef_solid.specs.Shows.{Shows}
+use Rattle.nef_complex.specs.declared.complex.Complex.{Complex}
 use Rattle.nef_complex.specs.declared.complex.Vertex.{Vertex}
 use Rattle.nef_complex.specs.declared.complex.Edge.{Edge}
 use Rattle.nef_complex.specs.Complexes.{vertex_of, edge_of, AreVerticesOf, ShowsSet}
+use Rattle.nef_complex.specs.Index.{IsIndexOf, AreHeld, AreInOrder, HaveEnds}
+use Rattle.nef_complex.proofs.Carried.{items-held}
 use Rattle.nef_edges.specs.Pairs.{AreJoined}
 use Rattle.nef_edges.proofs.Existing.{edges-exist}
 use Rattle.nef_edges.proofs.Partners.{partner}
-use Rattle.nef_edges.proofs.Places.{at-some, map-at}
+use Rattle.nef_edges.proofs.Places.{at-some, some-at, at-map, map-at, at-within}
+
+-- the list of the edges as it is read
+pub paired-edges : (vertices read : List Vertex) (pushed edges : List Edge) → read ≡ vertices → edges ≡ pushed → Edges (map vertex_of read) (map edge_of pushed) → Edges (map vertex_of vertices) (map edge_of edges)
+paired-edges vertices read pushed edges e f E =
+    subst (λ (es : List Edge). Edges (map vertex_of vertices) (map edge_of es)) (sym f) (subst (λ (vs : List Vertex). Edges (map vertex_of vs) (map edge_of pushed)) e E)
 
 module _ (s : Set) (carriers : List Plane) (vertices : List Vertex) (V : AreVerticesOf s carriers vertices) where
   ordered : InOrder (λ u v. IsPlaceBelow u.point v.point) (map vertex_of vertices)
@@ -30,5 +40,30 @@ module _ (s : Set) (carriers : List Plane) (vertices : List Vertex) (V : AreVert
       let es = edges-exist (map vertex_of vertices) ordered shaped in
       record { ordered = ordered; shaped = shaped; joined = partner s (record { carriers = map form_of carriers; vertices = map vertex_of vertices; edges = es.0 }) (V.shown es.0 es.1) }
 
-  pub shows-set : (es : List Edge) → Edges (map vertex_of vertices) (map edge_of es) → ShowsSet s (record { carriers = carriers; vertices = vertices; edges = es })
-  shows-set es E = record { shows = V.shown (map edge_of es) E; maps = V.maps }
+  -- what a complex is put together from
+  module _ (es : List Edge) (E : Edges (map vertex_of vertices) (map edge_of es)) where
+    shown : Shows s (record { carriers = map form_of carriers; vertices = map vertex_of vertices; edges = map edge_of es })
+    shown = V.shown (map edge_of es) E
+
+    pub carriers-ordered : AreInOrder carriers
+    carriers-ordered i j g h l a b = shown.carriers.ordered i j (form_of g) (form_of h) l (at-map form_of carriers i g (some-at carriers i g a)) (at-map form_of carriers j h (some-at carriers j h b))
+
+    pub all-held : AreHeld carriers vertices
+    all-held = items-held s carriers vertices (map edge_of es) shown
+
+    pub have-ends : HaveEnds vertices es
+    have-ends k e a =
+        let F = E.edges k (edge_of e) (at-map edge_of es k e (some-at es k e a)) in
+        (vertex-within e.low F.low_vertex F.is_low, vertex-within e.high F.high_vertex F.is_high)
+      where
+        vertex-within : (i : ℕ) (v : PlainVertex) → At (map vertex_of vertices) i v → i < length vertices
+        vertex-within i v b = let u = map-at vertex_of vertices i v b in at-within vertices i u.0 u.1
+
+    pub shows-set : (c : Complex) → c.carriers ≡ carriers → c.vertices ≡ vertices → c.edges ≡ es → IsIndexOf c.vertices c.edges c.index → ShowsSet s c
+    shows-set c h v e I = record {
+      shows = subst (λ (hs : List Plane). Shows s (record { carriers = map form_of hs; vertices = map vertex_of c.vertices; edges = map edge_of c.edges })) (sym h)
+          (subst (λ (vs : List Vertex). Shows s (record { carriers = map form_of carriers; vertices = map vertex_of vs; edges = map edge_of c.edges })) (sym v)
+          (subst (λ (fs : List Edge). Shows s (record { carriers = map form_of carriers; vertices = map vertex_of vertices; edges = map edge_of fs })) (sym e) shown));
+      maps = λ k u a. V.maps k u (subst (λ (vs : List Vertex). IsAt vs k u) v a);
+      index = I;
+    }

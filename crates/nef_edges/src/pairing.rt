@@ -77,10 +77,6 @@ pub fn pair(
     ensures edges { IfOk result (λ c. Edges (map vertex_of c.vertices) (map edge_of c.edges)) }
     ensures shows { IfOk result (λ c. (s : Set) → AreVerticesOf s carriers vertices → ShowsSet s c) }
 {
-    let edges = edges_of(alloc, vertices.as_slice())?;
-    Ok(Complex {
-        carriers,
-        vertices,
-        edges: List::from_vec(edges),
-    })
+    let edges = List::from_vec(edges_of(alloc, vertices.as_slice())?);
+    Complex::of(alloc, carriers, vertices, edges)
 }

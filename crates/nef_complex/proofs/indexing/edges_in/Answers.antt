@@ -1,4 +1,4 @@
-use Rattle.std.proofs.Common.{◌≡◌, ℕ, ◌+◌, ◌<◌, length, get_or, arith, sym, ap, subst, ◌∙◌, Vec, Global}
+use Rattle.std.proofs.Common.{ℕ, ◌+◌, get_or, arith, sym, ap, subst, ◌∙◌, Vec, Global}
 use Rattle.nef_arc.proofs.SignNumbers.{not_true}
 use Rattle.nef_geo.specs.Shapes.{form_of}
 use Rattle.nef_smap.proofs.ClassLists.{is-at_get, is-at_within}
@@ -17,8 +17,9 @@ loop-number-preserved c =
     let h = form_of c.args.h.now in
     let flags = c.args.flags.now in
     let n = c.loop-number.number in
-    let e : Edge = get_or es n (record { low = 0; low_svertex = 0; high = 0; high_svertex = 0; mark = Out }) in
-    let here = is-at_get es n e c.loop-number-test.true in
+    let d : Edge = record { low = 0; low_svertex = 0; high = 0; high_svertex = 0; mark = Out } in
+    let e : Edge = get_or es n d in
+    let here = is-at_get es n d c.loop-number-test.true in
     let P : ℕ → Type 0 = EdgeLiesIn vs es h in
     elim c.if-both_set.branch [
       | then-both_set+in_ok-push w ↦

@@ -13,7 +13,7 @@ loop-vertex-preserved c =
     let h = form_of c.args.h.now in
     let n = c.loop-vertex.vertex-index in
     let v = c.vertex-item.result in
-    subst (AreFlagsTo vs h (n + 1)) (sym c.in_ok-push.ensures.items)
+    subst (AreFlagsTo vs h (n + 1)) (sym {A = List Bool} c.in_ok-push.ensures.items)
     (flags-more vs h n c.loop-vertex.flags.items v c.holds.result c.loop-vertex.invariant (slice_get_read vs (length vs) n v refl c.loop-vertex-test.true c.vertex-item.is) c.holds.ensures.holds)
 
 pub returns : goal.returns

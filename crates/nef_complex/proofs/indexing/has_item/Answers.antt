@@ -1,4 +1,4 @@
-use Rattle.std.proofs.Common.{ℕ, ◌<◌, length, get_or, arith, refl, sym, ◌∙◌, subst, ⊎_elim}
+use Rattle.std.proofs.Common.{ℕ, length, get_or, arith, refl, sym, ◌∙◌, subst, ⊎_elim}
 use Rattle.std.proofs.lemmas.Option.{slice_get_read}
 use Rattle.nef_arc.proofs.SignNumbers.{not_true}
 use Rattle.nef_space.specs.Lists.{IsAt}
@@ -19,8 +19,13 @@ returns-then-has_normal c =
     let v = c.index-vertices-number.result in
     let L = c.requires.on.each i k (is-at_get on i 0 c.loop-number-test.true) in
     let a = slice_get_read vs (length vs) k v refl (is-at_within vs k L.0 L.1) c.index-vertices-number.is in
-    record { item = (λ t. item-in vs (form_of c.args.h.now) (vector_of c.plane_normal-normal.result) c.plane_normal-normal.ensures.normal k v a L
-        (subst (λ (r : Vertex). HasNormal (map_of r.map) (vector_of c.plane_normal-normal.result)) (sym c.index-vertices-number.is) (c.has_normal.ensures.normal.0 c.if-has_normal.true)), λ o. refl) }
+    record {
+      item = (
+        λ t. item-in vs (form_of c.args.h.now) (vector_of c.plane_normal-normal.result) c.plane_normal-normal.ensures.normal k v a L
+            (subst (λ (r : Vertex). HasNormal (map_of r.map) (vector_of c.plane_normal-normal.result)) (sym c.index-vertices-number.is) (c.has_normal.ensures.normal.0 c.if-has_normal.true)),
+        λ o. refl,
+      );
+    }
 
 pub loop-number-preserved : goal.loop-number-preserved
 loop-number-preserved c = λ j m u l b d o.
@@ -34,9 +39,9 @@ loop-number-preserved c = λ j m u l b d o.
     let a = slice_get_read vs (length vs) k v refl (is-at_within vs k L.0 L.1) c.index-vertices-number.is in
     ⊎_elim (λ r. c.loop-number.invariant j m u r b d o)
     (λ e.
-        let same = is-at_one on i m k (subst (λ (r : ℕ). IsAt on r m) e b) at_i in
-        let one = is-at_one vs k u v (subst (λ (r : ℕ). IsAt vs r u) same d) a in
-        not_true (sym c.if-has_normal.false ∙ c.has_normal.ensures.normal.1 (subst (λ (r : Vertex). HasNormal (map_of r.map) (vector_of c.plane_normal-normal.result)) (one ∙ c.index-vertices-number.is) o)))
+    let same = is-at_one on i m k (subst (λ (r : ℕ). IsAt on r m) e b) at_i in
+    let one = is-at_one vs k u v (subst (λ (r : ℕ). IsAt vs r u) same d) a in
+    not_true (sym c.if-has_normal.false ∙ c.has_normal.ensures.normal.1 (subst (λ (r : Vertex). HasNormal (map_of r.map) (vector_of c.plane_normal-normal.result)) (one ∙ c.index-vertices-number.is) o)))
     (less-or-last j i l)
 
 pub returns : goal.returns

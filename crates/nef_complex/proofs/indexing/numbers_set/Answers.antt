@@ -1,4 +1,4 @@
-use Rattle.std.proofs.Common.{◌≡◌, ℕ, ◌+◌, ◌<◌, length, Bool, true, false, get_or, arith, sym, ap, subst, ◌∙◌, Vec, Global}
+use Rattle.std.proofs.Common.{ℕ, ◌+◌, true, false, get_or, arith, sym, ap, subst, ◌∙◌, Vec, Global}
 use Rattle.nef_arc.proofs.SignNumbers.{not_true}
 use Rattle.nef_space.specs.Lists.{IsAt}
 use Rattle.nef_smap.proofs.ClassLists.{is-at_get, is-at_one, is-at_within}

@@ -1,6 +1,5 @@
 use Rattle.std.proofs.Common.{List, sym, subst}
 use Rattle.nef_geo.specs.declared.plane.Plane.{Plane}
-use Rattle.nef_complex.specs.declared.complex.Vertex.{Vertex}
 use Rattle.nef_complex.specs.Index.{AreHeld}
 use Rattle.nef_complex.proofs.complex.Complex.of.Goals as goal
 
