@@ -16,6 +16,7 @@ use Rattle.nef_geo.specs.declared.plane.Plane.{Plane}
 use Rattle.nef_geo.proofs.Unique.{same_planes_equal}
 use Rattle.nef_arc.proofs.SignNumbers.{not_true}
 use Rattle.nef_complex.specs.Planes.{HoldsBoth}
+use Rattle.nef_complex.proofs.SamePlanes.{parallel-equal}
 use Rattle.nef_cand.specs.Points.{IsLineThrough}
 
 -- ---- the program's test of equality
@@ -63,33 +64,10 @@ other-tested g h r e = by (plane_test g h) refl
     by true q = (λ t. absurd (not_true (sym (e ∙ ap not q) ∙ t)), λ n. absurd (n (tested-equal g h (sym q))))
     by false q = (λ t. tested-other g h (sym q), λ n. e ∙ ap not q)
 
--- ---- two planes that hold one point and have parallel normals are one
-abbrev gp : Poly
-gp = at 0 ⊗ at 8 ⊕ at 1 ⊗ at 9 ⊕ at 2 ⊗ at 10 ⊕ at 3 ⊗ at 11
-
-abbrev hp : Poly
-hp = at 4 ⊗ at 8 ⊕ at 5 ⊗ at 9 ⊕ at 6 ⊗ at 10 ⊕ at 7 ⊗ at 11
-
-parallel-same : (g h : Form) (p : Place) → IsZero (cross (normal_of g) (normal_of h)) → form_at g p ≡ pos 0 → form_at h p ≡ pos 0 → IsSamePlane g h
-parallel-same g h p z e f = record {
-  parallel = z;
-  along_a = follows_times (g.a ∷ g.b ∷ g.c ∷ g.d ∷ h.a ∷ h.b ∷ h.c ∷ h.d ∷ p.x ∷ p.y ∷ p.z ∷ pos p.w ∷ []) (at 11) (at 0 ⊗ at 7) (at 4 ⊗ at 3)
-      (given (at 0) hp (num (pos 0)) f (given (num (pos 0) ⊖ at 4) gp (num (pos 0)) e
-      (given (num (pos 0) ⊖ at 9) (at 0 ⊗ at 5 ⊖ at 1 ⊗ at 4) (num (pos 0)) z.2 (given (at 10) (at 2 ⊗ at 4 ⊖ at 0 ⊗ at 6) (num (pos 0)) z.1 none)))) weight tt;
-  along_b = follows_times (g.a ∷ g.b ∷ g.c ∷ g.d ∷ h.a ∷ h.b ∷ h.c ∷ h.d ∷ p.x ∷ p.y ∷ p.z ∷ pos p.w ∷ []) (at 11) (at 1 ⊗ at 7) (at 5 ⊗ at 3)
-      (given (at 1) hp (num (pos 0)) f (given (num (pos 0) ⊖ at 5) gp (num (pos 0)) e
-      (given (at 8) (at 0 ⊗ at 5 ⊖ at 1 ⊗ at 4) (num (pos 0)) z.2 (given (num (pos 0) ⊖ at 10) (at 1 ⊗ at 6 ⊖ at 2 ⊗ at 5) (num (pos 0)) z.0 none)))) weight tt;
-  along_c = follows_times (g.a ∷ g.b ∷ g.c ∷ g.d ∷ h.a ∷ h.b ∷ h.c ∷ h.d ∷ p.x ∷ p.y ∷ p.z ∷ pos p.w ∷ []) (at 11) (at 2 ⊗ at 7) (at 6 ⊗ at 3)
-      (given (at 2) hp (num (pos 0)) f (given (num (pos 0) ⊖ at 6) gp (num (pos 0)) e
-      (given (num (pos 0) ⊖ at 8) (at 2 ⊗ at 4 ⊖ at 0 ⊗ at 6) (num (pos 0)) z.1 (given (at 9) (at 1 ⊗ at 6 ⊖ at 2 ⊗ at 5) (num (pos 0)) z.0 none)))) weight tt;
-}
-  where
-    weight : pos 0 <ℤ pos p.w
-    weight = let m = p.proper in omega (arith, ints)
-
+-- ---- two planes through both points
 pub line-of : (g h : Plane) (p q : Place) → HoldsBoth (form_of g) p q → HoldsBoth (form_of h) p q → (h ≡ g → ⊥) → IsLineThrough (record { first = g; second = h }) p q
 line-of g h p q i k n = record {
   first = i;
   second = k;
-  independent = λ z. n (sym (same_planes_equal g h (parallel-same (form_of g) (form_of h) p z i.0 k.0)));
+  independent = λ z. n (sym (parallel-equal g h p z i.0 k.0));
 }

@@ -30,8 +30,8 @@ same-parts c d p e f a =
 -- the text looks at vertices, edges and parts alone
 text-of : (c d : Complex) (p q : Parts) → c.vertices ≡ d.vertices → c.edges ≡ d.edges → p ≡ q → text c p ≡ text d q
 text-of c d p q e f g =
-    ap (λ (vs : List Vertex). text (record { carriers = c.carriers; vertices = vs; edges = c.edges }) p) e
-    ∙ ap (λ (es : List Edge). text (record { carriers = c.carriers; vertices = d.vertices; edges = es }) p) f
+    ap (λ (vs : List Vertex). text (record { carriers = c.carriers; vertices = vs; edges = c.edges; index = c.index }) p) e
+    ∙ ap (λ (es : List Edge). text (record { carriers = c.carriers; vertices = d.vertices; edges = es; index = c.index }) p) f
     ∙ ap (λ (r : Parts). text d r) g
 
 pub same-set_text : (s t : Set) (c d : Complex) (p q : Parts) → ShowsSet s c → ShowsSet t d → SameSet s t → IsParts (complex_of c) p → IsParts (complex_of d) q → (p ≡ q) × (text c p ≡ text d q)

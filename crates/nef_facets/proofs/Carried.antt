@@ -13,6 +13,7 @@ use Rattle.nef_solid.specs.Complexes.{Vertex as PlainVertex, Complex as PlainCom
 use Rattle.nef_complex.specs.declared.complex.Vertex.{Vertex}
 use Rattle.nef_complex.specs.declared.complex.Complex.{Complex}
 use Rattle.nef_complex.specs.Complexes.{vertex_of, complex_of}
+use Rattle.nef_complex.proofs.Carried.{carried}
 use Rattle.nef_edges.proofs.Places.{at-map, map-at}
 use Rattle.nef_geo.specs.Shapes.{form_of, place_of}
 use Rattle.nef_smap.specs.Maps.{map_of}
@@ -23,34 +24,6 @@ use Rattle.nef_solid.proofs.FacetSides.{flats-one}
 use Rattle.nef_solid.proofs.Planes.{plane-turned, plane-point, plane-slope}
 use Rattle.nef_links.proofs.NearVertex.{facet-near}
 use Rattle.nef_links.proofs.Ties.{beside-ahead}
-
--- a carrier that holds the vertex and has the item's normal, where its normal is one in normal form
-pub record IsCarried (C : PlainComplex) (v : PlainVertex) (x : Item) : Type 0 where
-  pub number : ℕ
-  pub plane : Form
-  pub listed : At C.carriers number plane
-  pub through : form_at plane v.point ≡ pos 0
-  pub normal : IsNormal (normal_of plane) → SameDirection (normal_of plane) (item_normal x)
-
-pub carried : (s : Set) (C : PlainComplex) (k : PlainCorner) (v : PlainVertex) (x : Item) → Shows s C → IsCorner C k v x → IsCarried C v x
-carried s C k v x S c =
-    let V = (S.cones k.vertex v c.vertex).valid.shaped in
-    let o = item-point v.map V k.item x c.item in
-    let q = ahead s v.point o.0 in
-    let F = facet-near s C S k v x c o.0 o.1 in
-    let H = facet-support s q F.dim in
-    let f = H.plane in
-    let zero : form_at f v.point ≡ pos 0 = ⊎_elim (λ z. z) (λ n. absurd (n (nought-is (form_at f v.point) (sym ((beside-ahead s v.point o.0 f H.listed).0 (λ e. n (nought-is (form_at f v.point) e))) ∙ H.passes)))) (nought-or (form_at f v.point)) in
-    let K = S.carriers.all f H.listed in
-    let g : Form = K.1 in
-    let flat : FlatAre s q (normal_of g) = λ d. (λ h. plane-slope f g d (plane-turned g f K.3) ((H.flat_in d).0 h), λ z. (H.flat_in d).1 (plane-slope g f d K.3 z)) in
-    record {
-      number = K.0;
-      plane = g;
-      listed = K.2;
-      through = plane-point f g v.point (plane-turned g f K.3) zero;
-      normal = λ n. flats-one s q (normal_of g) (item_normal x) n (V.normals k.item x c.item) flat F.flat;
-    }
 
 -- the plane holds the point and has the normal
 abbrev pub HoldsWith : Form → Place → Vector → Type 0

@@ -1,41 +1,22 @@
 //! The planes and the marks of facets.
 
-ghost use Rattle.std.specs.Prelude.{◌≡◌, ℕ, pos, ◌↔◌, length, IsTrue, IfOk};
-ghost use Rattle.nef_space.specs.Lists.{IsAt};
-ghost use Rattle.nef_space.specs.Place.{form_at, normal_of};
+ghost use Rattle.std.specs.Prelude.{◌≡◌, ◌↔◌, length, IsTrue, IfOk};
 ghost use Rattle.nef_space.specs.Sets.{Set};
-ghost use Rattle.nef_space.specs.Vectors.{SameDirection};
-ghost use Rattle.nef_geo.specs.Shapes.{form_of, place_of, vector_of};
+ghost use Rattle.nef_geo.specs.Shapes.{place_of, vector_of};
 ghost use Rattle.nef_complex.specs.Complexes.{complex_of, corner_of, ShowsSet};
 ghost use Rattle.nef_facets.specs.Corners.{HasItem, AreListed};
 ghost use Rattle.nef_facets.specs.Facets.{IsPlaneAt, IsMarkAt, ArePlanesAt, AreMarksAt, IsPlaneThrough};
 
 use crate::OutOfMemory;
 use crate::items::{mark_at, normal_at};
-use nef_complex::{Complex, Corner};
-use nef_geo::{Dir, Label, List, Plane, Point, Sign, side};
+use nef_complex::{Complex, Corner, holds, plane_normal};
+use nef_geo::{Dir, Label, List, Plane, Point};
 use std::alloc::Global;
-
-// The direction of the plane's normal.
-fn plane_normal(h: &Plane) -> Dir
-    ensures normal { SameDirection (normal_of (form_of h.now)) (vector_of result) }
-{
-    match Dir::of(h.a(), h.b(), h.c()) {
-        Some(normal) => normal,
-        None => unreachable!(),
-    }
-}
 
 pub(crate) fn same_dir(a: &Dir, b: &Dir) -> bool
     ensures same { IsTrue result ↔ (a.now ≡ b.now) }
 {
     a == b
-}
-
-fn holds(h: &Plane, point: &Point) -> bool
-    ensures holds { IsTrue result ↔ (form_at (form_of h.now) (place_of point.now) ≡ pos 0) }
-{
-    side(h, point) == Sign::Zero
 }
 
 // Whether the plane holds the point and has the normal.

@@ -6,7 +6,7 @@ ghost use Rattle.nef_complex.specs.Complexes.{ShowsSet};
 
 use super::*;
 use nef_cand::{candidates, cut_candidates};
-use nef_complex::{Complex, Vertex};
+use nef_complex::{Complex, Vertex, plane_items};
 use nef_geo::{Label, Plane};
 use std::alloc::Global;
 use std::test::Fail;
@@ -82,6 +82,48 @@ fn edges_text(alloc: Global, c: &Complex) -> Result<Vec<u8>, OutOfMemory> {
     Ok(text)
 }
 
+// A number below 16 as a digit.
+fn digit(n: usize) -> u8 {
+    match n {
+        0..=9 => b'0' + n as u8,
+        10..=15 => b'a' + (n - 10) as u8,
+        _ => b'?',
+    }
+}
+
+fn add_numbers(text: &mut Vec<u8>, numbers: &[usize]) -> Result<(), OutOfMemory> {
+    text.push(b' ')?;
+    for n in numbers {
+        text.push(digit(*n))?;
+    }
+    Ok(())
+}
+
+// The planes of the index, each with its edges and its vertices.
+fn planes_text(alloc: Global, c: &Complex) -> Result<Vec<u8>, OutOfMemory>
+    requires shows { (s : Set) × ShowsSet s c.now }
+{
+    let mut text = Vec::new(alloc);
+    for h in c.index.planes.as_slice() {
+        for n in [h.a(), h.b(), h.c(), h.d()] {
+            text.push(number(n))?;
+        }
+        if let Some(items) = plane_items(c, h) {
+            add_numbers(&mut text, items.edges)?;
+            add_numbers(&mut text, items.vertices)?;
+        }
+        text.push(b'\n')?;
+    }
+    Ok(text)
+}
+
+fn empty(alloc: Global) -> Result<Complex, OutOfMemory>
+    ensures shows { IfOk result (λ c. (s : Set) × ShowsSet s c) }
+{
+    let complex = frame(alloc, Label::Not)?;
+    Ok(complex)
+}
+
 fn whole(alloc: Global) -> Result<Complex, OutOfMemory>
     ensures shows { IfOk result (λ c. (s : Set) × ShowsSet s c) }
 {
@@ -115,6 +157,24 @@ fn edges_of_the_empty_set(rt: HostRuntime) -> Result<(), Fail> {
         text.as_slice()
             == b"0010o\n0120o\n0240o\n1130o\n1250o\n2131o\n2260o\n3270o\n4151o\n4261o\n5271o\n6272o\n".as_slice()
     );
+    Ok(())
+}
+
+#[test]
+fn planes_of_the_empty_set(rt: HostRuntime) -> Result<(), Fail> {
+    let c = empty(rt.alloc())?;
+    let text = planes_text(rt.alloc(), &c)?;
+    let expected = b"\
+        001- 347a 1357\n\
+        001+ 1269 0246\n\
+        010- 567b 2367\n\
+        010+ 0248 0145\n\
+        100- 89ab 4567\n\
+        100+ 0135 0123\n\
+        ";
+    assert!(rt; text.as_slice() == expected.as_slice());
+    let middle = Plane::read(1, 0, 0, 0)?.plane();
+    assert!(rt; plane_items(&c, &middle).is_none());
     Ok(())
 }
 

@@ -10,7 +10,7 @@ ghost use Rattle.nef_locate.specs.Places.{IsPlaceIn};
 
 use super::*;
 use crate::plane::plane_of;
-use nef_complex::{Complex, Corner, Vertex};
+use nef_complex::{Complex, Corner, PlaneIndex, Vertex};
 use nef_frame::frame;
 use nef_geo::{Label, List, Plane, Point, Sign, hit_at, hit_side, up};
 use nef_smap::SphereMap;
@@ -39,6 +39,11 @@ fn lone_vertex(alloc: Global) -> Result<Complex, OutOfMemory>
         carriers: List::new(alloc),
         vertices,
         edges: List::new(alloc),
+        index: PlaneIndex {
+            planes: List::new(alloc),
+            edges: List::new(alloc),
+            vertices: List::new(alloc),
+        },
     })
 }
 

@@ -7,7 +7,7 @@ ghost use Rattle.nef_sphere.specs.Least.{Cone};
 ghost use Rattle.nef_smap.specs.Maps.{map_of, IsLeastMap};
 
 use super::*;
-use nef_complex::Complex;
+use nef_complex::{Complex, PlaneIndex};
 use nef_geo::{Label, List, Plane, Point};
 use nef_smap::{SphereMap, face_map};
 use std::alloc::Global;
@@ -91,6 +91,11 @@ fn bare(alloc: Global, first: Plane, second: Plane) -> Result<Complex, OutOfMemo
         carriers: List::from_vec(carriers),
         vertices: List::new(alloc),
         edges: List::new(alloc),
+        index: PlaneIndex {
+            planes: List::new(alloc),
+            edges: List::new(alloc),
+            vertices: List::new(alloc),
+        },
     })
 }
 
