@@ -169,7 +169,13 @@ fn nearest_vertex(c: &Complex, h: &Plane, held: bool, p: &Point, d: &Dir) -> Opt
 }
 
 // The same, where the plane holds the ray and the numbers are those of the vertices on the plane.
-fn nearest_listed_vertex(c: &Complex, h: &Plane, p: &Point, d: &Dir, numbers: &[usize]) -> Option<Met>
+fn nearest_listed_vertex(
+    c: &Complex,
+    h: &Plane,
+    p: &Point,
+    d: &Dir,
+    numbers: &[usize],
+) -> Option<Met>
     requires shows { (s : Set) × ShowsSet s c.now }
     requires holds { HoldsRay (form_of h.now) (place_of p.now) (vector_of d.now) }
     requires small { IsAtMost ray_limit (vector_of d.now) }

@@ -235,7 +235,13 @@ fn nearest_vertex(c: &Complex, h: &Plane, p: &Hit, d: &Dir) -> Option<FarMet>
 }
 
 // The same, where the numbers are those of the vertices on the plane: the ray lies in it, and so does what it meets.
-fn nearest_listed_vertex(c: &Complex, h: &Plane, p: &Hit, d: &Dir, numbers: &[usize]) -> Option<FarMet>
+fn nearest_listed_vertex(
+    c: &Complex,
+    h: &Plane,
+    p: &Hit,
+    d: &Dir,
+    numbers: &[usize],
+) -> Option<FarMet>
     requires shows { (s : Set) × ShowsSet s c.now }
     requires on { form_at (form_of h.now) (hit_place p.now) ≡ pos 0 }
     requires numbers { IsPlaceAtMost upright_limit upright_weight_limit (hit_place p.now) }
@@ -269,7 +275,13 @@ fn nearest_edge(c: &Complex, h: &Plane, p: &Hit, d: &Dir) -> Option<FarMet>
 }
 
 // The same, where the numbers are those of the edges in the plane.
-fn nearest_listed_edge(c: &Complex, h: &Plane, p: &Hit, d: &Dir, numbers: &[usize]) -> Option<FarMet>
+fn nearest_listed_edge(
+    c: &Complex,
+    h: &Plane,
+    p: &Hit,
+    d: &Dir,
+    numbers: &[usize],
+) -> Option<FarMet>
     requires shows { (s : Set) × ShowsSet s c.now }
     requires on { form_at (form_of h.now) (hit_place p.now) ≡ pos 0 }
     requires numbers { IsPlaceAtMost upright_limit upright_weight_limit (hit_place p.now) }
