@@ -28,7 +28,7 @@ use Rattle.nef_complex.specs.Planes.{HoldsBoth}
 use Rattle.nef_complex.proofs.Ends.{vertex-same, listed_edge, ends, apart, of-ends}
 use Rattle.nef_complex.proofs.Lines.{one-crossing}
 use Rattle.nef_complex.proofs.Parted.{held-between}
-use Rattle.nef_plane.specs.Meets.{Encounter, FromVertex, HasNoSvertex, IsOffEdges, AllHold, AtVertexNumber, AtEdgeNumber, IsReachedMet, IsNearestMet}
+use Rattle.nef_plane.specs.Meets.{Encounter, FromVertex, HasNoSvertex, IsOffEdges, AllHold, AtVertexNumber, AtEdgeNumber, AtVertexOrEdge, IsReachedMet, IsNearestMet}
 use Rattle.nef_plane.proofs.Beside.{edge-or_end}
 use Rattle.nef_plane.proofs.Crossed.{vertex-crossed, edge-along}
 use Rattle.nef_plane.proofs.Nearest.{between-ahead}
@@ -103,7 +103,7 @@ module _ (s : Set) (c : Complex) (S : Shows s (complex_of c)) (h : Form) (p : Pl
 
 -- ---- all
 abbrev pub Any : Complex → Form → Vector → PlainMeet → Place → Type 0
-Any c h d m q = ((k : ℕ) × AtVertexNumber (complex_of c) k m q) ⊎ ((k : ℕ) × AtEdgeNumber (complex_of c) h d k m q)
+Any c h d m q = AtVertexOrEdge (complex_of c) h d m q
 
 module _ (s : Set) (c : Complex) (S : Shows s (complex_of c)) (h : Form) (p : Place) (d : Vector) (some : IsDirection d) (off : IsOffEdges (complex_of c) h p) (no_svertex : HasNoSvertex (complex_of c) p d) where
   abbrev Sooner : Place → Type 0

@@ -9,3 +9,4 @@ pub mod Sweep
 pub mod Choosing
 pub mod Amid
 pub mod Reached
+pub mod Listed

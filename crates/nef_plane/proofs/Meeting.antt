@@ -47,6 +47,15 @@ opposite-by x y (inr (m, n)) = sign_of-positive x m ∙ sym (sign_of-positive (n
 opposite-noughts : (x y : ℤ) → x ≡ pos 0 → y ≡ pos 0 → sign_of x ≡ sign_of (neg_ℤ y)
 opposite-noughts x y e f = ap sign_of e ∙ sym (ap (λ z. sign_of (neg_ℤ z)) f)
 
+-- a point lies on another side than itself, or on the plane, exactly where it lies on it
+pub level-opposite : (k : Form) (a : Place) → form_at k a ≡ pos 0 → AreOpposite k a a
+level-opposite k a e = opposite-noughts (form_at k a) (form_at k a) e e
+
+pub opposite-level : (k : Form) (a : Place) → AreOpposite k a a → form_at k a ≡ pos 0
+opposite-level k a o = ⊎_elim
+    (λ s. absurd (⊎_elim (λ (m : (form_at k a <ℤ pos 0) × (pos 0 <ℤ form_at k a)). let x = m.0 in let y = m.1 in omega (arith, ints)) (λ (m : (pos 0 <ℤ form_at k a) × (form_at k a <ℤ pos 0)). let x = m.0 in let y = m.1 in omega (arith, ints)) s))
+    (λ z. z.0) (opposite-cases (form_at k a) (form_at k a) o)
+
 -- ---- planes through points
 weight : (r : Place) → pos 0 <ℤ pos r.w
 weight r = let m = r.proper in omega (arith, ints)

@@ -1,10 +1,12 @@
 -- The nearest of what a ray meets.
-use Rattle.std.proofs.Common.{◌≡◌, ℕ, ◌<◌, ◌+◌, Option, Some, None, arith, refl, sym, ◌⊎◌, inl, inr, ⊎_elim, subst}
+use Rattle.std.proofs.Common.{◌≡◌, ℕ, ◌<◌, ◌≤◌, ◌+◌, List, length, Option, Some, None, arith, refl, sym, ◌⊎◌, inl, inr, ⊎_elim, subst}
 use Rattle.std.proofs.Math.Nat.{eq-or-lt_of_le}
 use Rattle.nef_space.specs.Place.{Place, toward, IsAhead, IsBetween}
 use Rattle.nef_space.specs.Vectors.{Vector}
 use Rattle.nef_forms.proofs.Between.{between-same}
 use Rattle.nef_near.proofs.Between.{between-inner}
+use Rattle.nef_smap.proofs.ClassLists.{is-at_one, is-at_within}
+use Rattle.nef_space.specs.Lists.{IsAt}
 use Rattle.nef_sphere.proofs.Compare.{SameDirection-turned, SameDirection-trans}
 use Rattle.nef_solid.proofs.Ways.{between-way, same-itself}
 use Rattle.nef_solid.specs.Skeleton.{PlaneMeet}
@@ -54,10 +56,10 @@ module _ {X : Type 0} (seen : X → Encounter) (p : Place) (d : Vector) where
         some-is : (r y : X) → Some r ≡ Some y → r ≡ y
         some-is r y e = cc
 
-    -- the same of what is the same
-    pub nearest-as : (o : Option X) → ((m : PlaneMeet) (q : Place) → P m q → Q m q) → ((m : PlaneMeet) (q : Place) → Q m q → P m q) → IsNearest seen p d P o → IsNearest seen p d Q o
-    nearest-as None f g A = λ n q w x. A n q w (g n q x)
-    nearest-as (Some x) f g A = record { reached = A.reached; ahead = A.ahead; met = f (seen x).meet (seen x).at.place A.met; first = λ n q b y. A.first n q b (g n q y) }
+    -- the same of what is the same ahead
+    pub nearest-as : (o : Option X) → ((m : PlaneMeet) (q : Place) → P m q → Q m q) → ((m : PlaneMeet) (q : Place) → IsAhead p d q → Q m q → P m q) → IsNearest seen p d P o → IsNearest seen p d Q o
+    nearest-as None f g A = λ n q w x. A n q w (g n q w x)
+    nearest-as (Some x) f g A = record { reached = A.reached; ahead = A.ahead; met = f (seen x).meet (seen x).at.place A.met; first = λ n q b y. A.first n q b (g n q (between-ahead p q (seen x).at.place d b A.ahead) y) }
 
   -- ---- of a list
   module _ (R : ℕ → PlaneMeet → Place → Type 0) where
@@ -70,8 +72,22 @@ module _ {X : Type 0} (seen : X → Encounter) (p : Place) (d : Vector) where
     pub nearest-more : (i : ℕ) (a b r : Option X) → IsNearer seen d a b r → IsNearest seen p d (First i) a → IsNearest seen p d (R i) b → IsNearest seen p d (First (i + 1)) r
     nearest-more i a b r N A B = nearest-as (λ m q. First i m q ⊎ R i m q) (First (i + 1)) r
         (λ m q. ⊎_elim (λ (x : First i m q). let l = x.1 in (x.0, omega (arith, l), x.2)) (λ (x : R i m q). (i, omega arith, x)))
-        (λ m q (k, l, x). ⊎_elim (λ o. inr (subst (λ j. R j m q) o x)) (λ o. inl (k, o, x)) (eq-or-lt_of_le {n = k} {m = i} (omega (arith, l))))
+        (λ m q w (k, l, x). ⊎_elim (λ o. inr (subst (λ j. R j m q) o x)) (λ o. inl (k, o, x)) (eq-or-lt_of_le {n = k} {m = i} (omega (arith, l))))
         (nearest-either (First i) (R i) a b r N A B)
 
     pub nearest-all : (i : ℕ) (o : Option X) → ((k : ℕ) (m : PlaneMeet) (q : Place) → R k m q → k < i) → IsNearest seen p d (First i) o → IsNearest seen p d Any o
-    nearest-all i o f A = nearest-as (First i) Any o (λ m q x. (x.0, x.2)) (λ m q x. (x.0, f x.0 m q x.1, x.1)) A
+    nearest-all i o f A = nearest-as (First i) Any o (λ m q x. (x.0, x.2)) (λ m q w x. (x.0, f x.0 m q x.1, x.1)) A
+
+  -- ---- of those with listed numbers
+  module _ (ns : List ℕ) (R : ℕ → PlaneMeet → Place → Type 0) where
+    abbrev pub Listed : ℕ → PlaneMeet → Place → Type 0
+    Listed i m q = (k : ℕ) × IsAt ns i k × R k m q
+
+    pub listed-more : (i k : ℕ) (a b r : Option X) → IsAt ns i k → IsNearer seen d a b r → IsNearest seen p d (First Listed i) a → IsNearest seen p d (R k) b → IsNearest seen p d (First Listed (i + 1)) r
+    listed-more i k a b r l N A B = nearest-more Listed i a b r N A
+        (nearest-as (R k) (Listed i) b (λ m q x. (k, l, x)) (λ m q w (j, t, x). subst (λ (n : ℕ). R n m q) (is-at_one ns i j k t l) x) B)
+
+    -- where each that is met ahead is listed, the nearest of those listed is the nearest of all
+    pub listed-all : (i : ℕ) (o : Option X) → length ns ≤ i → ((k : ℕ) (m : PlaneMeet) (q : Place) → IsAhead p d q → R k m q → (j : ℕ) × IsAt ns j k) → IsNearest seen p d (First Listed i) o → IsNearest seen p d (Any R) o
+    listed-all i o l f A = nearest-as (First Listed i) (Any R) o (λ m q (j, t, y). (y.0, y.2))
+        (λ m q w (k, x). let a = f k m q w x in let t = is-at_within ns a.0 k a.1 in (a.0, omega (arith, l, t), (k, a.1, x))) A

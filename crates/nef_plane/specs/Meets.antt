@@ -97,6 +97,17 @@ abbrev pub AtEdgeNumber : Complex → Form → Vector → ℕ → PlaneMeet → 
 AtEdgeNumber C h d k m q = (m ≡ meets_edge k) × (e : Edge) × (v : Vertex) × (w : Vertex) × At C.edges k e × HasEnds C e v w × IsBetween v.point q w.point
     × HoldsBoth h v.point w.point × (IsZero (cross (toward v.point w.point) d) → ⊥)
 
+-- what is met at some vertex
+abbrev pub AtSomeVertex : Complex → PlaneMeet → Place → Type 0
+AtSomeVertex C m q = (k : ℕ) × AtVertexNumber C k m q
+
+-- or strictly inside some edge in the plane that isn't along the ray
+abbrev pub AtSomeEdge : Complex → Form → Vector → PlaneMeet → Place → Type 0
+AtSomeEdge C h d m q = (k : ℕ) × AtEdgeNumber C h d k m q
+
+abbrev pub AtVertexOrEdge : Complex → Form → Vector → PlaneMeet → Place → Type 0
+AtVertexOrEdge C h d m q = AtSomeVertex C m q ⊎ AtSomeEdge C h d m q
+
 -- what a ray meets, and where
 pub record Encounter : Type 0 where
   pub meet : PlaneMeet

@@ -9,10 +9,11 @@ ghost use Rattle.nef_geo.specs.Shapes.{form_of, vector_of, place_of};
 ghost use Rattle.nef_geo.specs.Widths.{ray_limit};
 ghost use Rattle.nef_solid.specs.Skeleton.{PlaneMeet as PlainMeet, Meets, IsFirstInPlane};
 ghost use Rattle.nef_complex.specs.Complexes.{complex_of, meet_of, ShowsSet};
-ghost use Rattle.nef_plane.specs.Meets.{HasNoSvertex, FromVertex, HoldsRay, IsHitThrough, AllHold, IsAcross, IsWithin, AtVertexNumber, AtEdgeNumber, IsNearest, IsNearer, IsReachedMet, met_of, reach_of};
+ghost use Rattle.nef_complex.specs.Index.{LiesOn, EdgeLiesIn, AreNumbersWith};
+ghost use Rattle.nef_plane.specs.Meets.{HasNoSvertex, FromVertex, HoldsRay, IsHitThrough, AllHold, IsAcross, IsWithin, AtVertexNumber, AtEdgeNumber, AtSomeVertex, AtSomeEdge, AtVertexOrEdge, IsNearest, IsNearer, IsReachedMet, met_of, reach_of};
 
 use crate::places::{is_at_vertex, is_on_edge};
-use nef_complex::{Complex, PlaneMeet, holds_both};
+use nef_complex::{Complex, PlaneItems, PlaneMeet, holds_both, plane_items};
 use nef_geo::{Dir, Hit, Plane, Point, Sign, dir_side, hit_order, ray_hit, side};
 use std::cmp::Ordering;
 
@@ -81,8 +82,27 @@ pub(crate) fn nearer(one: Option<Met>, other: Option<Met>, p: &Point, d: &Dir) -
     }
 }
 
-// The vertex with this number, where the ray meets it. Where the plane holds the ray, which `held` says, a vertex off the
-// plane is not met, which is told without the carriers.
+// The vertex with this number, where the ray meets it, which the carriers tell.
+fn carried_vertex_met(c: &Complex, p: &Point, d: &Dir, number: usize) -> Option<Met>
+    requires shows { (s : Set) × ShowsSet s c.now }
+    requires small { IsAtMost ray_limit (vector_of d.now) }
+    requires within { number < length c.now.vertices }
+    ensures nearest { IsNearest met_of (place_of p.now) (vector_of d.now) (AtVertexNumber (complex_of c.now) number) result }
+{
+    let point = &c.vertices.at(number).point;
+    let at = crossed_at(c.carriers.as_slice(), point, point, p, d)?;
+    if is_at_vertex(c, number, &at) {
+        Some(Met {
+            meet: PlaneMeet::AtVertex(number),
+            at,
+        })
+    } else {
+        None
+    }
+}
+
+// The same. Where the plane holds the ray, which `held` says, a vertex off the plane is not met, which is told without the
+// carriers.
 fn vertex_met(c: &Complex, h: &Plane, held: bool, p: &Point, d: &Dir, number: usize) -> Option<Met>
     requires shows { (s : Set) × ShowsSet s c.now }
     requires held { IsTrue held → HoldsRay (form_of h.now) (place_of p.now) (vector_of d.now) }
@@ -90,14 +110,26 @@ fn vertex_met(c: &Complex, h: &Plane, held: bool, p: &Point, d: &Dir, number: us
     requires within { number < length c.now.vertices }
     ensures nearest { IsNearest met_of (place_of p.now) (vector_of d.now) (AtVertexNumber (complex_of c.now) number) result }
 {
-    let point = &c.vertices.at(number).point;
-    if held && side(h, point) != Sign::Zero {
+    if held && side(h, &c.vertices.at(number).point) != Sign::Zero {
         return None;
     }
-    let at = crossed_at(c.carriers.as_slice(), point, point, p, d)?;
-    if is_at_vertex(c, number, &at) {
+    carried_vertex_met(c, p, d, number)
+}
+
+// The edge in the plane with this number, where the ray meets its inside.
+fn held_edge_met(c: &Complex, h: &Plane, p: &Point, d: &Dir, number: usize) -> Option<Met>
+    requires shows { (s : Set) × ShowsSet s c.now }
+    requires small { IsAtMost ray_limit (vector_of d.now) }
+    requires held { EdgeLiesIn c.now.vertices c.now.edges (form_of h.now) number }
+    ensures nearest { IsNearest met_of (place_of p.now) (vector_of d.now) (AtEdgeNumber (complex_of c.now) (form_of h.now) (vector_of d.now) number) result }
+{
+    let edge = c.edges.at(number);
+    let low = &c.vertices.at(edge.low).point;
+    let high = &c.vertices.at(edge.high).point;
+    let at = crossed_at(c.carriers.as_slice(), low, high, p, d)?;
+    if is_on_edge(c, number, &at) {
         Some(Met {
-            meet: PlaneMeet::AtVertex(number),
+            meet: PlaneMeet::AtEdge(number),
             at,
         })
     } else {
@@ -115,30 +147,44 @@ fn edge_met(c: &Complex, h: &Plane, p: &Point, d: &Dir, number: usize) -> Option
     let edge = c.edges.at(number);
     let low = &c.vertices.at(edge.low).point;
     let high = &c.vertices.at(edge.high).point;
-    if !holds_both(h, low, high) {
-        return None;
-    }
-    let at = crossed_at(c.carriers.as_slice(), low, high, p, d)?;
-    if is_on_edge(c, number, &at) {
-        Some(Met {
-            meet: PlaneMeet::AtEdge(number),
-            at,
-        })
+    if holds_both(h, low, high) {
+        held_edge_met(c, h, p, d, number)
     } else {
         None
     }
 }
 
 // The first vertex that the ray meets.
-fn nearest_vertex(c: &Complex, h: &Plane, p: &Point, d: &Dir) -> Option<Met>
+fn nearest_vertex(c: &Complex, h: &Plane, held: bool, p: &Point, d: &Dir) -> Option<Met>
     requires shows { (s : Set) × ShowsSet s c.now }
+    requires held { IsTrue held → HoldsRay (form_of h.now) (place_of p.now) (vector_of d.now) }
     requires small { IsAtMost ray_limit (vector_of d.now) }
-    ensures nearest { IsNearest met_of (place_of p.now) (vector_of d.now) (λ m q. (k : ℕ) × AtVertexNumber (complex_of c.now) k m q) result }
+    ensures nearest { IsNearest met_of (place_of p.now) (vector_of d.now) (AtSomeVertex (complex_of c.now)) result }
 {
-    let held = holds_ray(h, p, d);
     let mut best = None;
     for number in 0..c.vertices.len() {
         best = nearer(best, vertex_met(c, h, held, p, d, number), p, d);
+    }
+    best
+}
+
+// The same, where the plane holds the ray and the numbers are those of the vertices on the plane.
+fn nearest_listed_vertex(
+    c: &Complex,
+    h: &Plane,
+    p: &Point,
+    d: &Dir,
+    numbers: &[usize],
+) -> Option<Met>
+    requires shows { (s : Set) × ShowsSet s c.now }
+    requires holds { HoldsRay (form_of h.now) (place_of p.now) (vector_of d.now) }
+    requires small { IsAtMost ray_limit (vector_of d.now) }
+    requires listed { AreNumbersWith (LiesOn c.now.vertices (form_of h.now)) numbers.now }
+    ensures nearest { IsNearest met_of (place_of p.now) (vector_of d.now) (AtSomeVertex (complex_of c.now)) result }
+{
+    let mut best = None;
+    for number in numbers {
+        best = nearer(best, carried_vertex_met(c, p, d, *number), p, d);
     }
     best
 }
@@ -148,13 +194,68 @@ fn nearest_vertex(c: &Complex, h: &Plane, p: &Point, d: &Dir) -> Option<Met>
 fn nearest_edge(c: &Complex, h: &Plane, p: &Point, d: &Dir) -> Option<Met>
     requires shows { (s : Set) × ShowsSet s c.now }
     requires small { IsAtMost ray_limit (vector_of d.now) }
-    ensures nearest { IsNearest met_of (place_of p.now) (vector_of d.now) (λ m q. (k : ℕ) × AtEdgeNumber (complex_of c.now) (form_of h.now) (vector_of d.now) k m q) result }
+    ensures nearest { IsNearest met_of (place_of p.now) (vector_of d.now) (AtSomeEdge (complex_of c.now) (form_of h.now) (vector_of d.now)) result }
 {
     let mut best = None;
     for number in 0..c.edges.len() {
         best = nearer(best, edge_met(c, h, p, d, number), p, d);
     }
     best
+}
+
+// The same, where the numbers are those of the edges in the plane.
+fn nearest_listed_edge(c: &Complex, h: &Plane, p: &Point, d: &Dir, numbers: &[usize]) -> Option<Met>
+    requires shows { (s : Set) × ShowsSet s c.now }
+    requires small { IsAtMost ray_limit (vector_of d.now) }
+    requires listed { AreNumbersWith (EdgeLiesIn c.now.vertices c.now.edges (form_of h.now)) numbers.now }
+    ensures nearest { IsNearest met_of (place_of p.now) (vector_of d.now) (AtSomeEdge (complex_of c.now) (form_of h.now) (vector_of d.now)) result }
+{
+    let mut best = None;
+    for number in numbers {
+        best = nearer(best, held_edge_met(c, h, p, d, *number), p, d);
+    }
+    best
+}
+
+// The first vertex, or edge in the plane, that the ray meets.
+fn nearest_met(c: &Complex, h: &Plane, held: bool, p: &Point, d: &Dir) -> Option<Met>
+    requires shows { (s : Set) × ShowsSet s c.now }
+    requires held { IsTrue held → HoldsRay (form_of h.now) (place_of p.now) (vector_of d.now) }
+    requires small { IsAtMost ray_limit (vector_of d.now) }
+    ensures nearest { IsNearest met_of (place_of p.now) (vector_of d.now) (AtVertexOrEdge (complex_of c.now) (form_of h.now) (vector_of d.now)) result }
+{
+    let vertex = nearest_vertex(c, h, held, p, d);
+    let edge = nearest_edge(c, h, p, d);
+    nearer(vertex, edge, p, d)
+}
+
+// The same, where the plane holds the ray and these are the numbers of what lies in the plane.
+fn nearest_listed_met(c: &Complex, h: &Plane, p: &Point, d: &Dir, items: PlaneItems) -> Option<Met>
+    requires shows { (s : Set) × ShowsSet s c.now }
+    requires holds { HoldsRay (form_of h.now) (place_of p.now) (vector_of d.now) }
+    requires small { IsAtMost ray_limit (vector_of d.now) }
+    requires vertices { AreNumbersWith (LiesOn c.now.vertices (form_of h.now)) items.vertices.now }
+    requires edges { AreNumbersWith (EdgeLiesIn c.now.vertices c.now.edges (form_of h.now)) items.edges.now }
+    ensures nearest { IsNearest met_of (place_of p.now) (vector_of d.now) (AtVertexOrEdge (complex_of c.now) (form_of h.now) (vector_of d.now)) result }
+{
+    let listed_vertex = nearest_listed_vertex(c, h, p, d, items.vertices);
+    let listed_edge = nearest_listed_edge(c, h, p, d, items.edges);
+    nearer(listed_vertex, listed_edge, p, d)
+}
+
+// What the ray meets first. Where the plane holds the ray, and the index has the plane, only what its lists name is asked.
+fn first_met(c: &Complex, h: &Plane, p: &Point, d: &Dir) -> Option<Met>
+    requires shows { (s : Set) × ShowsSet s c.now }
+    requires small { IsAtMost ray_limit (vector_of d.now) }
+    ensures nearest { IsNearest met_of (place_of p.now) (vector_of d.now) (AtVertexOrEdge (complex_of c.now) (form_of h.now) (vector_of d.now)) result }
+{
+    if !holds_ray(h, p, d) {
+        return nearest_met(c, h, false, p, d);
+    }
+    match plane_items(c, h) {
+        Some(items) => nearest_listed_met(c, h, p, d, items),
+        None => nearest_met(c, h, true, p, d),
+    }
 }
 
 /// The first vertex, or edge in the plane `h`, that the ray from the vertex with this number along `d` meets strictly
@@ -169,9 +270,7 @@ pub fn first_along_dir(c: &Complex, h: &Plane, vertex: usize, d: &Dir) -> Option
     ensures none { IsNone result → FromVertex (complex_of c.now) vertex (λ p. (m : PlainMeet) (q : Place) → IsAhead p (vector_of d.now) q → Meets (complex_of c.now) (form_of h.now) m q → ⊥) }
 {
     let p = &c.vertices.at(vertex).point;
-    let first_vertex = nearest_vertex(c, h, p, d);
-    let first_edge = nearest_edge(c, h, p, d);
-    match nearer(first_vertex, first_edge, p, d) {
+    match first_met(c, h, p, d) {
         Some(met) => Some(met.meet),
         None => None,
     }

@@ -12,11 +12,12 @@ ghost use Rattle.nef_geo.specs.Signs.{sign_of};
 ghost use Rattle.nef_geo.specs.Widths.{upright_limit, upright_weight_limit};
 ghost use Rattle.nef_solid.specs.Skeleton.{PlaneMeet as PlainMeet, Meets, IsFirstInPlane};
 ghost use Rattle.nef_complex.specs.Complexes.{complex_of, meet_of, ShowsSet};
+ghost use Rattle.nef_complex.specs.Index.{LiesOn, EdgeLiesIn, AreNumbersWith};
 ghost use Rattle.nef_complex.specs.Planes.{HoldsBoth};
-ghost use Rattle.nef_plane.specs.Meets.{IsAlongAxis, HasNoSvertex, IsOffEdges, sweep_form, AreOpposite, IsHitThrough, NoneCrosses, IsMet, AllHold, AtVertexNumber, AtEdgeNumber, IsNearest, IsNearer, IsReachedMet, far_met_of, far_reach_of};
+ghost use Rattle.nef_plane.specs.Meets.{IsAlongAxis, HasNoSvertex, IsOffEdges, sweep_form, AreOpposite, IsHitThrough, NoneCrosses, IsMet, AllHold, AtVertexNumber, AtEdgeNumber, AtSomeVertex, AtSomeEdge, AtVertexOrEdge, IsNearest, IsNearer, IsReachedMet, far_met_of, far_reach_of};
 
-use nef_complex::{Complex, PlaneMeet, holds_both};
-use nef_geo::{Dir, FarHit, Hit, Plane, Point, Sign, far_hit, far_order};
+use nef_complex::{Complex, PlaneItems, PlaneMeet, holds_both, plane_items};
+use nef_geo::{Dir, FarHit, Hit, Plane, Point, Sign, far_hit, far_order, side};
 use std::cmp::Ordering;
 
 // What a ray meets, and where.
@@ -84,18 +85,38 @@ fn hit_through(planes: &[Plane], a: &Point, b: &Point, p: &Hit, d: &Dir) -> Opti
     None
 }
 
-// Where the ray meets the inside of the segment from a to b in the plane, or the point that both are.
+// Where the ray meets the inside of the segment between two points of the plane, or the point that both are.
 fn met_at(planes: &[Plane], h: &Plane, p: &Hit, d: &Dir, a: &Point, b: &Point) -> Option<FarHit>
     requires on { form_at (form_of h.now) (hit_place p.now) ≡ pos 0 }
     requires numbers { IsPlaceAtMost upright_limit upright_weight_limit (hit_place p.now) }
     requires axis { IsAlongAxis (form_of h.now) (vector_of d.now) }
     requires small { IsAtMost normal_limit (vector_of d.now) }
+    requires held { HoldsBoth (form_of h.now) (place_of a.now) (place_of b.now) }
     ensures met { IfSome result (λ q. IsMet (form_of h.now) (hit_place p.now) (vector_of d.now) (place_of a.now) (place_of b.now) (far_place q)) }
     ensures through { IfSome result (λ q. IsHitThrough (hit_place p.now) (vector_of d.now) (place_of a.now) (place_of b.now) (far_reach_of q)) }
     ensures none { IsNone result → (y : Place) → IsMet (form_of h.now) (hit_place p.now) (vector_of d.now) (place_of a.now) (place_of b.now) y → AllHold planes.now (vector_of d.now) (place_of a.now) (place_of b.now) }
 {
-    if holds_both(h, a, b) && are_opposite(h, p, a, b) {
+    if are_opposite(h, p, a, b) {
         hit_through(planes, a, b, p, d)
+    } else {
+        None
+    }
+}
+
+// Where the ray meets a point of the plane: a point lies on different sides of the ray's line from itself, or on it, only
+// where it lies on it.
+fn point_met_at(planes: &[Plane], h: &Plane, p: &Hit, d: &Dir, a: &Point) -> Option<FarHit>
+    requires on { form_at (form_of h.now) (hit_place p.now) ≡ pos 0 }
+    requires numbers { IsPlaceAtMost upright_limit upright_weight_limit (hit_place p.now) }
+    requires axis { IsAlongAxis (form_of h.now) (vector_of d.now) }
+    requires small { IsAtMost normal_limit (vector_of d.now) }
+    requires held { form_at (form_of h.now) (place_of a.now) ≡ pos 0 }
+    ensures met { IfSome result (λ q. IsMet (form_of h.now) (hit_place p.now) (vector_of d.now) (place_of a.now) (place_of a.now) (far_place q)) }
+    ensures through { IfSome result (λ q. IsHitThrough (hit_place p.now) (vector_of d.now) (place_of a.now) (place_of a.now) (far_reach_of q)) }
+    ensures none { IsNone result → (y : Place) → IsMet (form_of h.now) (hit_place p.now) (vector_of d.now) (place_of a.now) (place_of a.now) y → AllHold planes.now (vector_of d.now) (place_of a.now) (place_of a.now) }
+{
+    if across(h, p, a) == Sign::Zero {
+        hit_through(planes, a, a, p, d)
     } else {
         None
     }
@@ -118,7 +139,27 @@ fn nearer(one: Option<FarMet>, other: Option<FarMet>, p: &Hit, d: &Dir) -> Optio
     }
 }
 
-// The vertex with this number, where the ray meets it: there some carrier through it crosses the ray.
+// The vertex of the plane with this number, where the ray meets it: there some carrier through it crosses the ray.
+fn held_vertex_met(c: &Complex, h: &Plane, p: &Hit, d: &Dir, number: usize) -> Option<FarMet>
+    requires shows { (s : Set) × ShowsSet s c.now }
+    requires on { form_at (form_of h.now) (hit_place p.now) ≡ pos 0 }
+    requires numbers { IsPlaceAtMost upright_limit upright_weight_limit (hit_place p.now) }
+    requires axis { IsAlongAxis (form_of h.now) (vector_of d.now) }
+    requires small { IsAtMost normal_limit (vector_of d.now) }
+    requires held { LiesOn c.now.vertices (form_of h.now) number }
+    ensures nearest { IsNearest far_met_of (hit_place p.now) (vector_of d.now) (AtVertexNumber (complex_of c.now) number) result }
+{
+    let point = &c.vertices.at(number).point;
+    match point_met_at(c.carriers.as_slice(), h, p, d, point) {
+        Some(at) => Some(FarMet {
+            meet: PlaneMeet::AtVertex(number),
+            at,
+        }),
+        None => None,
+    }
+}
+
+// The vertex with this number, where the ray meets it.
 fn vertex_met(c: &Complex, h: &Plane, p: &Hit, d: &Dir, number: usize) -> Option<FarMet>
     requires shows { (s : Set) × ShowsSet s c.now }
     requires on { form_at (form_of h.now) (hit_place p.now) ≡ pos 0 }
@@ -128,24 +169,21 @@ fn vertex_met(c: &Complex, h: &Plane, p: &Hit, d: &Dir, number: usize) -> Option
     requires within { number < length c.now.vertices }
     ensures nearest { IsNearest far_met_of (hit_place p.now) (vector_of d.now) (AtVertexNumber (complex_of c.now) number) result }
 {
-    let point = &c.vertices.at(number).point;
-    match met_at(c.carriers.as_slice(), h, p, d, point, point) {
-        Some(at) => Some(FarMet {
-            meet: PlaneMeet::AtVertex(number),
-            at,
-        }),
-        None => None,
+    if side(h, &c.vertices.at(number).point) == Sign::Zero {
+        held_vertex_met(c, h, p, d, number)
+    } else {
+        None
     }
 }
 
-// The edge with this number, where the ray meets its inside.
-fn edge_met(c: &Complex, h: &Plane, p: &Hit, d: &Dir, number: usize) -> Option<FarMet>
+// The edge in the plane with this number, where the ray meets its inside.
+fn held_edge_met(c: &Complex, h: &Plane, p: &Hit, d: &Dir, number: usize) -> Option<FarMet>
     requires shows { (s : Set) × ShowsSet s c.now }
     requires on { form_at (form_of h.now) (hit_place p.now) ≡ pos 0 }
     requires numbers { IsPlaceAtMost upright_limit upright_weight_limit (hit_place p.now) }
     requires axis { IsAlongAxis (form_of h.now) (vector_of d.now) }
     requires small { IsAtMost normal_limit (vector_of d.now) }
-    requires within { number < length c.now.edges }
+    requires held { EdgeLiesIn c.now.vertices c.now.edges (form_of h.now) number }
     ensures nearest { IsNearest far_met_of (hit_place p.now) (vector_of d.now) (AtEdgeNumber (complex_of c.now) (form_of h.now) (vector_of d.now) number) result }
 {
     let edge = c.edges.at(number);
@@ -160,6 +198,26 @@ fn edge_met(c: &Complex, h: &Plane, p: &Hit, d: &Dir, number: usize) -> Option<F
     }
 }
 
+// The edge with this number, where it lies in the plane and the ray meets its inside.
+fn edge_met(c: &Complex, h: &Plane, p: &Hit, d: &Dir, number: usize) -> Option<FarMet>
+    requires shows { (s : Set) × ShowsSet s c.now }
+    requires on { form_at (form_of h.now) (hit_place p.now) ≡ pos 0 }
+    requires numbers { IsPlaceAtMost upright_limit upright_weight_limit (hit_place p.now) }
+    requires axis { IsAlongAxis (form_of h.now) (vector_of d.now) }
+    requires small { IsAtMost normal_limit (vector_of d.now) }
+    requires within { number < length c.now.edges }
+    ensures nearest { IsNearest far_met_of (hit_place p.now) (vector_of d.now) (AtEdgeNumber (complex_of c.now) (form_of h.now) (vector_of d.now) number) result }
+{
+    let edge = c.edges.at(number);
+    let low = &c.vertices.at(edge.low).point;
+    let high = &c.vertices.at(edge.high).point;
+    if holds_both(h, low, high) {
+        held_edge_met(c, h, p, d, number)
+    } else {
+        None
+    }
+}
+
 // The first vertex that the ray meets.
 fn nearest_vertex(c: &Complex, h: &Plane, p: &Hit, d: &Dir) -> Option<FarMet>
     requires shows { (s : Set) × ShowsSet s c.now }
@@ -167,11 +225,34 @@ fn nearest_vertex(c: &Complex, h: &Plane, p: &Hit, d: &Dir) -> Option<FarMet>
     requires numbers { IsPlaceAtMost upright_limit upright_weight_limit (hit_place p.now) }
     requires axis { IsAlongAxis (form_of h.now) (vector_of d.now) }
     requires small { IsAtMost normal_limit (vector_of d.now) }
-    ensures nearest { IsNearest far_met_of (hit_place p.now) (vector_of d.now) (λ m q. (k : ℕ) × AtVertexNumber (complex_of c.now) k m q) result }
+    ensures nearest { IsNearest far_met_of (hit_place p.now) (vector_of d.now) (AtSomeVertex (complex_of c.now)) result }
 {
     let mut best = None;
     for number in 0..c.vertices.len() {
         best = nearer(best, vertex_met(c, h, p, d, number), p, d);
+    }
+    best
+}
+
+// The same, where the numbers are those of the vertices on the plane: the ray lies in it, and so does what it meets.
+fn nearest_listed_vertex(
+    c: &Complex,
+    h: &Plane,
+    p: &Hit,
+    d: &Dir,
+    numbers: &[usize],
+) -> Option<FarMet>
+    requires shows { (s : Set) × ShowsSet s c.now }
+    requires on { form_at (form_of h.now) (hit_place p.now) ≡ pos 0 }
+    requires numbers { IsPlaceAtMost upright_limit upright_weight_limit (hit_place p.now) }
+    requires axis { IsAlongAxis (form_of h.now) (vector_of d.now) }
+    requires small { IsAtMost normal_limit (vector_of d.now) }
+    requires listed { AreNumbersWith (LiesOn c.now.vertices (form_of h.now)) numbers.now }
+    ensures nearest { IsNearest far_met_of (hit_place p.now) (vector_of d.now) (AtSomeVertex (complex_of c.now)) result }
+{
+    let mut best = None;
+    for number in numbers {
+        best = nearer(best, held_vertex_met(c, h, p, d, *number), p, d);
     }
     best
 }
@@ -184,13 +265,82 @@ fn nearest_edge(c: &Complex, h: &Plane, p: &Hit, d: &Dir) -> Option<FarMet>
     requires numbers { IsPlaceAtMost upright_limit upright_weight_limit (hit_place p.now) }
     requires axis { IsAlongAxis (form_of h.now) (vector_of d.now) }
     requires small { IsAtMost normal_limit (vector_of d.now) }
-    ensures nearest { IsNearest far_met_of (hit_place p.now) (vector_of d.now) (λ m q. (k : ℕ) × AtEdgeNumber (complex_of c.now) (form_of h.now) (vector_of d.now) k m q) result }
+    ensures nearest { IsNearest far_met_of (hit_place p.now) (vector_of d.now) (AtSomeEdge (complex_of c.now) (form_of h.now) (vector_of d.now)) result }
 {
     let mut best = None;
     for number in 0..c.edges.len() {
         best = nearer(best, edge_met(c, h, p, d, number), p, d);
     }
     best
+}
+
+// The same, where the numbers are those of the edges in the plane.
+fn nearest_listed_edge(
+    c: &Complex,
+    h: &Plane,
+    p: &Hit,
+    d: &Dir,
+    numbers: &[usize],
+) -> Option<FarMet>
+    requires shows { (s : Set) × ShowsSet s c.now }
+    requires on { form_at (form_of h.now) (hit_place p.now) ≡ pos 0 }
+    requires numbers { IsPlaceAtMost upright_limit upright_weight_limit (hit_place p.now) }
+    requires axis { IsAlongAxis (form_of h.now) (vector_of d.now) }
+    requires small { IsAtMost normal_limit (vector_of d.now) }
+    requires listed { AreNumbersWith (EdgeLiesIn c.now.vertices c.now.edges (form_of h.now)) numbers.now }
+    ensures nearest { IsNearest far_met_of (hit_place p.now) (vector_of d.now) (AtSomeEdge (complex_of c.now) (form_of h.now) (vector_of d.now)) result }
+{
+    let mut best = None;
+    for number in numbers {
+        best = nearer(best, held_edge_met(c, h, p, d, *number), p, d);
+    }
+    best
+}
+
+// The first vertex, or edge in the plane, that the ray meets.
+fn nearest_met(c: &Complex, h: &Plane, p: &Hit, d: &Dir) -> Option<FarMet>
+    requires shows { (s : Set) × ShowsSet s c.now }
+    requires on { form_at (form_of h.now) (hit_place p.now) ≡ pos 0 }
+    requires numbers { IsPlaceAtMost upright_limit upright_weight_limit (hit_place p.now) }
+    requires axis { IsAlongAxis (form_of h.now) (vector_of d.now) }
+    requires small { IsAtMost normal_limit (vector_of d.now) }
+    ensures nearest { IsNearest far_met_of (hit_place p.now) (vector_of d.now) (AtVertexOrEdge (complex_of c.now) (form_of h.now) (vector_of d.now)) result }
+{
+    let vertex = nearest_vertex(c, h, p, d);
+    let edge = nearest_edge(c, h, p, d);
+    nearer(vertex, edge, p, d)
+}
+
+// The same, where these are the numbers of what lies in the plane.
+fn nearest_listed_met(c: &Complex, h: &Plane, p: &Hit, d: &Dir, items: PlaneItems) -> Option<FarMet>
+    requires shows { (s : Set) × ShowsSet s c.now }
+    requires on { form_at (form_of h.now) (hit_place p.now) ≡ pos 0 }
+    requires numbers { IsPlaceAtMost upright_limit upright_weight_limit (hit_place p.now) }
+    requires axis { IsAlongAxis (form_of h.now) (vector_of d.now) }
+    requires small { IsAtMost normal_limit (vector_of d.now) }
+    requires vertices { AreNumbersWith (LiesOn c.now.vertices (form_of h.now)) items.vertices.now }
+    requires edges { AreNumbersWith (EdgeLiesIn c.now.vertices c.now.edges (form_of h.now)) items.edges.now }
+    ensures nearest { IsNearest far_met_of (hit_place p.now) (vector_of d.now) (AtVertexOrEdge (complex_of c.now) (form_of h.now) (vector_of d.now)) result }
+{
+    let listed_vertex = nearest_listed_vertex(c, h, p, d, items.vertices);
+    let listed_edge = nearest_listed_edge(c, h, p, d, items.edges);
+    nearer(listed_vertex, listed_edge, p, d)
+}
+
+// What the ray meets first, by the lists of the plane where the index has it. Where no vertex has an item in the plane,
+// all vertices and edges are asked: some may lie in it all the same.
+fn first_met(c: &Complex, h: &Plane, p: &Hit, d: &Dir) -> Option<FarMet>
+    requires shows { (s : Set) × ShowsSet s c.now }
+    requires on { form_at (form_of h.now) (hit_place p.now) ≡ pos 0 }
+    requires numbers { IsPlaceAtMost upright_limit upright_weight_limit (hit_place p.now) }
+    requires axis { IsAlongAxis (form_of h.now) (vector_of d.now) }
+    requires small { IsAtMost normal_limit (vector_of d.now) }
+    ensures nearest { IsNearest far_met_of (hit_place p.now) (vector_of d.now) (AtVertexOrEdge (complex_of c.now) (form_of h.now) (vector_of d.now)) result }
+{
+    match plane_items(c, h) {
+        Some(items) => nearest_listed_met(c, h, p, d, items),
+        None => nearest_met(c, h, p, d),
+    }
 }
 
 /// The first vertex or edge in the plane `h` that the ray from `p` along `d` meets strictly ahead. The point lies on the
@@ -208,9 +358,7 @@ pub fn first_in_plane(c: &Complex, h: &Plane, p: &Hit, d: &Dir) -> Option<PlaneM
     ensures some { IfSome result (λ m. IsFirstInPlane (complex_of c.now) (form_of h.now) (hit_place p.now) (vector_of d.now) (meet_of m)) }
     ensures none { IsNone result → (m : PlainMeet) (q : Place) → IsAhead (hit_place p.now) (vector_of d.now) q → Meets (complex_of c.now) (form_of h.now) m q → ⊥ }
 {
-    let vertex = nearest_vertex(c, h, p, d);
-    let edge = nearest_edge(c, h, p, d);
-    match nearer(vertex, edge, p, d) {
+    match first_met(c, h, p, d) {
         Some(met) => Some(met.meet),
         None => None,
     }

@@ -1,11 +1,8 @@
-use Rattle.std.proofs.Common.{◌≡◌, List, None, refl, rules, sym, subst}
-use Rattle.nef_geo.specs.Shapes.{place_of, form_of, vector_of}
-use Rattle.nef_geo.specs.declared.plane.Plane.{Plane}
-use Rattle.nef_complex.specs.Complexes.{complex_of}
+use Rattle.std.proofs.Common.{rules}
+use Rattle.nef_geo.specs.Shapes.{place_of, vector_of}
 use Rattle.nef_complex.proofs.Ends.{low-within, high-within}
 use Rattle.nef_complex.proofs.Reading.{got-at}
-use Rattle.nef_plane.specs.Meets.{AllHold, AtEdgeNumber, IsNearest, met_of}
-use Rattle.nef_plane.proofs.Reached.{outside-edge, uncrossed-edge, missed-edge, reached-edge}
+use Rattle.nef_plane.proofs.Reached.{outside-edge}
 use Rattle.nef_plane.proofs.along.edge_met.Goals as goal
 
 pub at-requires : goal.at-requires
@@ -14,42 +11,16 @@ at-requires c = let S = c.requires.shows in record { within = low-within S.0 c.a
 pub at-requires-2 : goal.at-requires-2
 at-requires-2 c = let S = c.requires.shows in record { within = high-within S.0 c.args.c.now S.1.shows c.args.number c.at-edge.result.now (got-at c.args.c.now.edges c.args.number c.at-edge.result.now c.at-edge.ensures.element) }
 
-pub returns-then-not-holds_both : goal.returns-then-not-holds_both
-returns-then-not-holds_both c =
+pub held_edge_met-requires-clause-held : goal.held_edge_met-requires-clause-held
+held_edge_met-requires-clause-held c =
+    let H = c.holds_both.ensures.holds.0 c.if-holds_both.true in
+    (c.at-edge.result.now, c.at-edge.ensures.element, (c.at.result.now, c.at.ensures.element, H.0), (c.at-2.result.now, c.at-2.ensures.element, H.1))
+
+pub returns-else-holds_both : goal.returns-else-holds_both
+returns-else-holds_both c =
     let S = c.requires.shows in let C = c.args.c.now in let e = c.at-edge.result.now in let u = c.at.result.now in let v = c.at-2.result.now in
     record {
       nearest = outside-edge S.0 C S.1.shows (place_of c.args.p.now) (vector_of c.args.d.now) c.args.d.now.some c.args.h.now c.args.number e u v
           (got-at C.edges c.args.number e c.at-edge.ensures.element) (got-at C.vertices e.low u c.at.ensures.element) (got-at C.vertices e.high v c.at-2.ensures.element)
-          (λ x. absurd (search (rules, c.holds_both.ensures.holds.1 x, c.if-not-holds_both.true)));
-    }
-
-none-left : (c : goal.After-from_residual) → c.from_residual.result ≡ None
-none-left c = search rules
-
-pub returns-in_err-at : goal.returns-in_err-at
-returns-in_err-at c =
-    let S = c.requires.shows in let C = c.args.c.now in let e = c.at-edge.result.now in let u = c.at.result.now in let v = c.at-2.result.now in let p = place_of c.args.p.now in let d = vector_of c.args.d.now in
-    record {
-      nearest = subst (IsNearest met_of p d (AtEdgeNumber (complex_of C) (form_of c.args.h.now) d c.args.number)) (sym (none-left c))
-          (uncrossed-edge S.0 C S.1.shows p d c.args.d.now.some c.args.h.now c.args.number e u v
-          (got-at C.edges c.args.number e c.at-edge.ensures.element) (got-at C.vertices e.low u c.at.ensures.element) (got-at C.vertices e.high v c.at-2.ensures.element)
-          (λ q w m. subst (λ (gs : List Plane). AllHold gs d (place_of u.point) (place_of v.point)) c.as_slice.ensures.all (c.in_err-at.ensures.none refl q w m)));
-    }
-
-pub returns-then-is_on_edge : goal.returns-then-is_on_edge
-returns-then-is_on_edge c =
-    let S = c.requires.shows in let C = c.args.c.now in let e = c.at-edge.result.now in let u = c.at.result.now in let v = c.at-2.result.now in
-    record {
-      nearest = reached-edge S.0 C S.1.shows (place_of c.args.p.now) (vector_of c.args.d.now) c.args.d.now.some c.args.h.now c.args.number e u v
-          (got-at C.edges c.args.number e c.at-edge.ensures.element) (got-at C.vertices e.low u c.at.ensures.element) (got-at C.vertices e.high v c.at-2.ensures.element)
-          c.in_ok-at.at c.in_ok-at.ensures.through (c.holds_both.ensures.holds.0 (search (rules, c.if-not-holds_both.false))) (c.is_on_edge.ensures.on.0 c.if-is_on_edge.true);
-    }
-
-pub returns-else-is_on_edge : goal.returns-else-is_on_edge
-returns-else-is_on_edge c =
-    let S = c.requires.shows in let C = c.args.c.now in let e = c.at-edge.result.now in let u = c.at.result.now in let v = c.at-2.result.now in
-    record {
-      nearest = missed-edge S.0 C S.1.shows (place_of c.args.p.now) (vector_of c.args.d.now) c.args.d.now.some c.args.h.now c.args.number e u v
-          (got-at C.edges c.args.number e c.at-edge.ensures.element) (got-at C.vertices e.low u c.at.ensures.element) (got-at C.vertices e.high v c.at-2.ensures.element)
-          c.in_ok-at.at c.in_ok-at.ensures.through (λ x. absurd (search (rules, c.is_on_edge.ensures.on.1 x, c.if-is_on_edge.false)));
+          (λ x. absurd (search (rules, c.holds_both.ensures.holds.1 x, c.if-holds_both.false)));
     }

@@ -1,4 +1,4 @@
-use Rattle.std.proofs.Common.{ℕ, inl, subst}
+use Rattle.std.proofs.Common.{inl, subst}
 use Rattle.nef_space.specs.Place.{Place, IsAhead}
 use Rattle.nef_geo.specs.Shapes.{form_of, place_of, vector_of}
 use Rattle.nef_smap.proofs.Lists.{map-at}
@@ -6,9 +6,8 @@ use Rattle.nef_solid.specs.Skeleton.{PlaneMeet as PlainMeet, Meets, IsFirstInPla
 use Rattle.nef_solid.proofs.Ways.{same-itself}
 use Rattle.nef_complex.specs.Complexes.{complex_of, meet_of, vertex_of}
 use Rattle.nef_complex.proofs.Reading.{got-at}
-use Rattle.nef_plane.specs.Meets.{AtVertexNumber, AtEdgeNumber, IsNearest, met_of}
+use Rattle.nef_plane.specs.Meets.{IsNearest, met_of}
 use Rattle.nef_plane.proofs.Found.{Any, from-vertex, first-some, first-none}
-use Rattle.nef_plane.proofs.Nearest.{nearest-either}
 use Rattle.nef_plane.proofs.along.first_along_dir.Goals as goal
 
 pub returns-in-Some-clause-some : goal.returns-in-Some-clause-some
@@ -17,9 +16,7 @@ returns-in-Some-clause-some c =
     let a = got-at C.vertices c.args.vertex v c.at.ensures.element in let listed = map-at vertex_of C.vertices c.args.vertex v a in
     from-vertex C c.args.vertex v a (λ q. IsFirstInPlane (complex_of C) (form_of h) q d (meet_of c.in-Some.met.meet))
     (first-some S.0 C S.1.shows (form_of h) p d c.args.d.now.some (inl (c.args.vertex, (vertex_of v, listed, same-itself p))) (c.requires.no_svertex (vertex_of v) listed) (met_of c.in-Some.met)
-    (subst (IsNearest met_of p d (Any C (form_of h) d)) c.in-Some.is
-    (nearest-either met_of p d (λ m q. (k : ℕ) × AtVertexNumber (complex_of C) k m q) (λ m q. (k : ℕ) × AtEdgeNumber (complex_of C) (form_of h) d k m q) c.nearest_vertex-first_vertex.result c.nearest_edge-first_edge.result
-    c.nearer.result c.nearer.ensures.nearer c.nearest_vertex-first_vertex.ensures.nearest c.nearest_edge-first_edge.ensures.nearest)))
+    (subst (IsNearest met_of p d (Any C (form_of h) d)) c.in-Some.is c.first_met.ensures.nearest))
 
 pub returns-in-None-clause-none : goal.returns-in-None-clause-none
 returns-in-None-clause-none c _ =
@@ -27,6 +24,4 @@ returns-in-None-clause-none c _ =
     let a = got-at C.vertices c.args.vertex v c.at.ensures.element in let listed = map-at vertex_of C.vertices c.args.vertex v a in
     from-vertex C c.args.vertex v a (λ r. (m : PlainMeet) (q : Place) → IsAhead r d q → Meets (complex_of C) (form_of h) m q → ⊥)
     (first-none S.0 C S.1.shows (form_of h) p d c.args.d.now.some (inl (c.args.vertex, (vertex_of v, listed, same-itself p))) (c.requires.no_svertex (vertex_of v) listed)
-    (subst (IsNearest met_of p d (Any C (form_of h) d)) c.in-None.is
-    (nearest-either met_of p d (λ m q. (k : ℕ) × AtVertexNumber (complex_of C) k m q) (λ m q. (k : ℕ) × AtEdgeNumber (complex_of C) (form_of h) d k m q) c.nearest_vertex-first_vertex.result c.nearest_edge-first_edge.result
-    c.nearer.result c.nearer.ensures.nearer c.nearest_vertex-first_vertex.ensures.nearest c.nearest_edge-first_edge.ensures.nearest)))
+    (subst (IsNearest met_of p d (Any C (form_of h) d)) c.in-None.is c.first_met.ensures.nearest))

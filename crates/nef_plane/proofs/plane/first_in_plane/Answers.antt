@@ -1,24 +1,18 @@
-use Rattle.std.proofs.Common.{ℕ, subst}
+use Rattle.std.proofs.Common.{subst}
 use Rattle.nef_geo.specs.Shapes.{form_of, hit_place, vector_of}
-use Rattle.nef_complex.specs.Complexes.{complex_of}
-use Rattle.nef_plane.specs.Meets.{AtVertexNumber, AtEdgeNumber, IsNearest, far_met_of}
+use Rattle.nef_plane.specs.Meets.{IsNearest, far_met_of}
 use Rattle.nef_plane.proofs.Axes.{axis-some}
 use Rattle.nef_plane.proofs.Found.{Any, first-some, first-none}
-use Rattle.nef_plane.proofs.Nearest.{nearest-either}
 use Rattle.nef_plane.proofs.plane.first_in_plane.Goals as goal
 
 pub returns-in-Some-clause-some : goal.returns-in-Some-clause-some
 returns-in-Some-clause-some c =
     let S = c.requires.shows in let p = hit_place c.args.p.now in let d = vector_of c.args.d.now in let C = c.args.c.now in let h = c.args.h.now in
     first-some S.0 C S.1.shows (form_of h) p d (axis-some h d c.requires.direction) c.requires.off c.requires.no_svertex (far_met_of c.in-Some.met)
-    (subst (IsNearest far_met_of p d (Any C (form_of h) d)) c.in-Some.is
-    (nearest-either far_met_of p d (λ m q. (k : ℕ) × AtVertexNumber (complex_of C) k m q) (λ m q. (k : ℕ) × AtEdgeNumber (complex_of C) (form_of h) d k m q) c.nearest_vertex-vertex.result c.nearest_edge-edge.result c.nearer.result
-    c.nearer.ensures.nearer c.nearest_vertex-vertex.ensures.nearest c.nearest_edge-edge.ensures.nearest))
+    (subst (IsNearest far_met_of p d (Any C (form_of h) d)) c.in-Some.is c.first_met.ensures.nearest)
 
 pub returns-in-None-clause-none : goal.returns-in-None-clause-none
 returns-in-None-clause-none c _ =
     let S = c.requires.shows in let p = hit_place c.args.p.now in let d = vector_of c.args.d.now in let C = c.args.c.now in let h = c.args.h.now in
     first-none S.0 C S.1.shows (form_of h) p d (axis-some h d c.requires.direction) c.requires.off c.requires.no_svertex
-    (subst (IsNearest far_met_of p d (Any C (form_of h) d)) c.in-None.is
-    (nearest-either far_met_of p d (λ m q. (k : ℕ) × AtVertexNumber (complex_of C) k m q) (λ m q. (k : ℕ) × AtEdgeNumber (complex_of C) (form_of h) d k m q) c.nearest_vertex-vertex.result c.nearest_edge-edge.result c.nearer.result
-    c.nearer.ensures.nearer c.nearest_vertex-vertex.ensures.nearest c.nearest_edge-edge.ensures.nearest))
+    (subst (IsNearest far_met_of p d (Any C (form_of h) d)) c.in-None.is c.first_met.ensures.nearest)

@@ -1,24 +1,26 @@
-use Rattle.std.proofs.Common.{List, refl, subst}
-use Rattle.nef_geo.specs.Shapes.{place_of, hit_place, vector_of}
-use Rattle.nef_geo.specs.declared.plane.Plane.{Plane}
-use Rattle.nef_plane.specs.Meets.{AllHold}
-use Rattle.nef_plane.proofs.Swept.{swept-vertex, swept-no_vertex}
+use Rattle.std.proofs.Common.{◌≡◌, rules, ap, sym, ◌∙◌}
+use Rattle.nef_space.specs.Place.{form_at}
+use Rattle.nef_geo.specs.Shapes.{form_of, place_of, hit_place, vector_of}
+use Rattle.nef_geo.specs.Signs.{sign_of}
+use Rattle.nef_geo.specs.declared.sign.Sign.TheVariants.{Zero}
+use Rattle.nef_arc.proofs.SignNumbers.{zero_sign}
 use Rattle.nef_complex.proofs.Reading.{got-at}
+use Rattle.nef_plane.proofs.Axes.{axis-some, axis-level}
+use Rattle.nef_plane.proofs.Reached.{off-vertex}
 use Rattle.nef_plane.proofs.plane.vertex_met.Goals as goal
 
-pub returns-in-Some : goal.returns-in-Some
-returns-in-Some c =
-    let S = c.requires.shows in let v = c.at.result.now in let C = c.args.c.now in
-    record {
-      nearest = swept-vertex S.0 C S.1.shows c.args.h.now (hit_place c.args.p.now) (vector_of c.args.d.now) c.requires.axis c.requires.on c.args.number v
-          (got-at C.vertices c.args.number v c.at.ensures.element) c.in-Some.at c.in-Some.ensures.met c.in-Some.ensures.through;
-    }
+pub held_vertex_met-requires-clause-held : goal.held_vertex_met-requires-clause-held
+held_vertex_met-requires-clause-held c =
+    let z : c.side.result ≡ Zero = search rules in
+    (c.at.result.now, c.at.ensures.element, zero_sign (form_at (form_of c.args.h.now) (place_of c.at.result.now.point)) (sym c.side.ensures.side ∙ z))
 
-pub returns-in-None : goal.returns-in-None
-returns-in-None c =
-    let S = c.requires.shows in let v = c.at.result.now in let C = c.args.c.now in let d = vector_of c.args.d.now in
+off : (c : goal.Else-eq) → c.side.result ≡ Zero → ⊥
+off c e = search rules
+
+pub returns-else-eq : goal.returns-else-eq
+returns-else-eq c =
+    let S = c.requires.shows in let C = c.args.c.now in let h = c.args.h.now in let v = c.at.result.now in let d = vector_of c.args.d.now in
     record {
-      nearest = swept-no_vertex S.0 C S.1.shows c.args.h.now (hit_place c.args.p.now) d c.requires.axis c.requires.on c.args.number v
-          (got-at C.vertices c.args.number v c.at.ensures.element)
-          (λ q M. subst (λ (gs : List Plane). AllHold gs d (place_of v.point) (place_of v.point)) c.as_slice.ensures.all (c.in-None.ensures.none refl q M));
+      nearest = off-vertex S.0 C S.1.shows (hit_place c.args.p.now) d (axis-some h d c.requires.axis) c.args.number v (got-at C.vertices c.args.number v c.at.ensures.element) h (c.requires.on, axis-level h d c.requires.axis)
+          (λ e. off c (c.side.ensures.side ∙ ap sign_of e));
     }

@@ -1,0 +1,32 @@
+use Rattle.std.proofs.Common.{List, refl, subst}
+use Rattle.nef_geo.specs.Shapes.{form_of, place_of, hit_place, vector_of}
+use Rattle.nef_geo.specs.declared.plane.Plane.{Plane}
+use Rattle.nef_plane.specs.Meets.{AllHold}
+use Rattle.nef_plane.proofs.Swept.{swept-vertex, swept-no_vertex}
+use Rattle.nef_smap.proofs.ClassLists.{is-at_within}
+use Rattle.nef_complex.proofs.Reading.{got-at}
+use Rattle.nef_plane.proofs.Listed.{held-vertex}
+use Rattle.nef_plane.proofs.plane.held_vertex_met.Goals as goal
+
+pub at-requires : goal.at-requires
+at-requires c = let l = c.requires.held in record { within = is-at_within c.args.c.now.vertices c.args.number l.0 l.1 }
+
+pub point_met_at-requires-clause-held : goal.point_met_at-requires-clause-held
+point_met_at-requires-clause-held c = held-vertex c.args.c.now.vertices (form_of c.args.h.now) c.args.number c.at.result.now c.at.ensures.element c.requires.held
+
+pub returns-in-Some : goal.returns-in-Some
+returns-in-Some c =
+    let S = c.requires.shows in let v = c.at.result.now in let C = c.args.c.now in
+    record {
+      nearest = swept-vertex S.0 C S.1.shows c.args.h.now (hit_place c.args.p.now) (vector_of c.args.d.now) c.requires.axis c.requires.on c.args.number v
+          (got-at C.vertices c.args.number v c.at.ensures.element) c.in-Some.at c.in-Some.ensures.met c.in-Some.ensures.through;
+    }
+
+pub returns-in-None : goal.returns-in-None
+returns-in-None c =
+    let S = c.requires.shows in let v = c.at.result.now in let C = c.args.c.now in let d = vector_of c.args.d.now in
+    record {
+      nearest = swept-no_vertex S.0 C S.1.shows c.args.h.now (hit_place c.args.p.now) d c.requires.axis c.requires.on c.args.number v
+          (got-at C.vertices c.args.number v c.at.ensures.element)
+          (λ q M. subst (λ (gs : List Plane). AllHold gs d (place_of v.point) (place_of v.point)) c.as_slice.ensures.all (c.in-None.ensures.none refl q M));
+    }
