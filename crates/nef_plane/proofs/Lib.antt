@@ -9,3 +9,5 @@ pub mod Sweep
 pub mod Choosing
 pub mod Amid
 pub mod Reached
+pub mod Spanned
+pub mod OnEdges
