@@ -99,7 +99,7 @@ module _ (s : Set) (c : Complex) (S : Shows s (complex_of c)) (p : Place) (d : V
 
 -- ---- all
 pub inside-within : (c : Complex) (k : ℕ) (m : PlainMeet) (q : Place) → InsideEdgeNumber (complex_of c) k m q → k < length c.edges
-inside-within c k m q (o, e, v, w, a, H, b) = let f = at-map edge_of c.edges k e a in at-within c.edges k f.0 f.1
+inside-within c k m q (o, (e, v, w, a, H, b)) = let f = at-map edge_of c.edges k e a in at-within c.edges k f.0 f.1
 
 -- the nearer of two has what both have
 pub nearer-has : (B : Met → Type 0) (d : Vector) (a b r : Option Met) → IsNearer met_of d a b r → IfSome a B → IfSome b B → IfSome r B

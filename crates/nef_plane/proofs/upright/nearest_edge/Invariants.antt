@@ -1,7 +1,7 @@
 use Rattle.std.specs.Prelude.{ℕ, ◌<◌, IfSome}
 use Rattle.nef_geo.specs.Shapes.{place_of, vector_of}
 use Rattle.nef_complex.specs.Complexes.{complex_of}
-use Rattle.nef_plane.specs.Meets.{IsNearest, met_of, AtVertexNumber}
+use Rattle.nef_plane.specs.Meets.{IsNearest, met_of}
 use Rattle.nef_plane.specs.Upright.{InsideEdgeNumber, IsUprightMet}
 use Rattle.nef_plane.proofs.upright.nearest_edge.Given as goal
 
