@@ -1,8 +1,8 @@
 -- What an upright ray meets at a vertex, inside an edge, and first of all.
-use Rattle.std.proofs.Common.{◌≡◌, ℕ, ◌<◌, List, Option, Some, None, length, pos, arith, inl, inr, ◌⊎◌, ⊎_elim, refl, sym, subst}
+use Rattle.std.proofs.Common.{◌≡◌, ℕ, ◌<◌, List, Option, None, length, pos, arith, inl, inr, ◌⊎◌, ⊎_elim, refl, sym, subst}
 use Rattle.std.proofs.lemmas.Int.{ints}
 use Rattle.std.specs.Prelude.{IfSome}
-use Rattle.nef_space.specs.Place.{Place, slope, toward, SamePlace, IsAhead, IsBetween}
+use Rattle.nef_space.specs.Place.{Place, toward, IsAhead}
 use Rattle.nef_space.specs.Sets.{Set}
 use Rattle.nef_space.specs.Vectors.{Vector, vector, IsDirection, IsParallel}
 use Rattle.nef_geo.specs.Hits.{IsUpright}
@@ -10,7 +10,6 @@ use Rattle.nef_geo.specs.Shapes.{form_of, place_of, hit_place}
 use Rattle.nef_geo.specs.declared.hit.Hit.{Hit}
 use Rattle.nef_geo.specs.declared.plane.Plane.{Plane}
 use Rattle.nef_forms.proofs.Between.{between-same}
-use Rattle.nef_near.proofs.Rays.{same-place_sym}
 use Rattle.nef_sphere.specs.Maps.{At}
 use Rattle.nef_smap.proofs.Lists.{map-at, at-map, at-within}
 use Rattle.nef_solid.specs.Shows.{Shows}
@@ -24,12 +23,11 @@ use Rattle.nef_complex.specs.declared.complex.PlaneMeet.TheVariants.{AtVertex, A
 use Rattle.nef_complex.specs.Complexes.{vertex_of, edge_of, complex_of, meet_of}
 use Rattle.nef_complex.proofs.Ends.{vertex-same, listed_edge, ends, apart, edge-inside}
 use Rattle.nef_complex.proofs.Lines.{one-crossing}
-use Rattle.nef_complex.proofs.Parted.{held-between}
-use Rattle.nef_plane.specs.Meets.{AreOpposite, reach_of, met_of, IsHitThrough, AllHold, IsWithin, AtVertexNumber, IsReachedMet, IsNearest, IsNearestMet, IsNearer}
-use Rattle.nef_plane.specs.Upright.{plane_along_x, plane_along_y, InsideEdgeNumber, IsUprightMet, IsMetAt, IsFirstOnEdges}
+use Rattle.nef_plane.specs.Meets.{AreOpposite, reach_of, met_of, IsHitThrough, AllHold, IsWithin, AtVertexNumber, IsNearest, IsNearestMet, IsNearer}
+use Rattle.nef_plane.specs.Upright.{plane_along_x, plane_along_y, InsideEdgeNumber, IsMetAt, IsFirstOnEdges}
 use Rattle.nef_plane.specs.declared.along.Met.{Met}
 use Rattle.nef_plane.proofs.Crossed.{edge-along}
-use Rattle.nef_plane.proofs.Found.{not-end, vertex-none}
+use Rattle.nef_plane.proofs.Found.{not-end}
 use Rattle.nef_plane.proofs.Meeting.{between-opposite}
 use Rattle.nef_plane.proofs.Nearest.{between-ahead}
 use Rattle.nef_plane.proofs.Reached.{through-one, reached-vertex}
@@ -85,8 +83,14 @@ module _ (s : Set) (c : Complex) (S : Shows s (complex_of c)) (p : Place) (d : V
       -- nor where one is crossed elsewhere
       pub missed : (IsEdgePoint (complex_of c) k (hit_place at) → ⊥) → IsNearest met_of p d (InsideEdgeNumber (complex_of c) k) None
       missed n = λ m q h x. let b = edge-inside s c S k e v w l i j q x.1 in
-          n (edge_of e, vertex_of v, vertex_of w, listed_edge s c S k e v w l i j, ends s c S k e v w l i j,
-            between-same low q high low (hit_place at) high (same-itself low) (through-one p d low high (reach_of at) T q h (inl b)) (same-itself high) b)
+          n (
+            edge_of e,
+            vertex_of v,
+            vertex_of w,
+            listed_edge s c S k e v w l i j,
+            ends s c S k e v w l i j,
+            between-same low q high low (hit_place at) high (same-itself low) (through-one p d low high (reach_of at) T q h (inl b)) (same-itself high) b,
+          )
 
       pub inside : IsEdgePoint (complex_of c) k (hit_place at) → IsNearestMet p d (InsideEdgeNumber (complex_of c) k) (met_of (record { meet = AtEdge k; at = at }))
       inside x = record {

@@ -1,5 +1,5 @@
 -- The planes that an upright ray spans with the first two axes: the sides of a point, and the line in which they meet.
-use Rattle.std.proofs.Common.{◌≡◌, ℕ, ℤ, pos, neg_ℤ, ◌+ℤ◌, ◌-ℤ◌, ◌*ℤ◌, ◌<ℤ◌, ◌≤◌, nat_abs, List, [], ◌∷◌, inl, inr, w64, arith, ap, sym, ◌∙◌, subst, lit≤, ◌↔◌}
+use Rattle.std.proofs.Common.{◌≡◌, ℕ, ℤ, pos, neg_ℤ, ◌-ℤ◌, ◌*ℤ◌, ◌<ℤ◌, ◌≤◌, nat_abs, List, [], ◌∷◌, inl, inr, w64, arith, ap, sym, ◌∙◌, subst, lit≤}
 use Rattle.std.proofs.lemmas.Int.{ints}
 use mir.Syntax.{w128}
 use mir.Val.{to_z, of_z}
@@ -8,7 +8,7 @@ use Rattle.nef_exact.proofs.Machine.{Code, load, wrap, ◌⊟◌, ◌⊠◌, run
 use Rattle.nef_exact.proofs.Ring.{ring, at, num, neg, ◌⊕◌, ◌⊖◌, ◌⊗◌}
 use Rattle.nef_space.specs.Limits.{up_x, point_limit}
 use Rattle.nef_space.specs.Place.{Place, form_at, slope, normal_of, toward, IsAhead}
-use Rattle.nef_space.specs.Vectors.{Vector, vector, dot, cross, up, opposite, beside_x, beside_y, IsAtMost, IsZero, IsDirection, IsParallel}
+use Rattle.nef_space.specs.Vectors.{Vector, dot, up, opposite, beside_x, beside_y, IsAtMost, IsDirection, IsParallel}
 use Rattle.nef_geo.specs.Hits.{IsUpright}
 use Rattle.nef_geo.specs.Shapes.{form_of, place_of, vector_of}
 use Rattle.nef_geo.specs.Signs.{sign_of}
