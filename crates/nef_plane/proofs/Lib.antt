@@ -10,3 +10,5 @@ pub mod Choosing
 pub mod Amid
 pub mod Reached
 pub mod Listed
+pub mod Spanned
+pub mod OnEdges

@@ -21,10 +21,10 @@ use Rattle.nef_solid.proofs.FacetAngles.{through-at}
 use Rattle.nef_plane.specs.Meets.{sweep_form}
 
 -- ---- numbers within their bounds
-exact-of : (x y : ℤ) → x ≡ y → nat_abs y ≤ point_limit → to_z w64 (of_z w64 x) ≡ y
+pub exact-of : (x y : ℤ) → x ≡ y → nat_abs y ≤ point_limit → to_z w64 (of_z w64 x) ≡ y
 exact-of x y e l = exact_of (point_limit ∷ []) (x ∷ []) (wrap w64 (load 0)) (subst (λ r. nat_abs r ≤ point_limit) (sym e) l, tt) tt ∙ e
 
-exact-weight : (x y : ℤ) → x ≡ y → nat_abs y ≤ weight_limit → to_z w64 (of_z w64 x) ≡ y
+pub exact-weight : (x y : ℤ) → x ≡ y → nat_abs y ≤ weight_limit → to_z w64 (of_z w64 x) ≡ y
 exact-weight x y e l = exact_of (weight_limit ∷ []) (x ∷ []) (wrap w64 (load 0)) (subst (λ r. nat_abs r ≤ weight_limit) (sym e) l, tt) tt ∙ e
 
 exact-hit : (x y : ℤ) → x ≡ y → nat_abs y ≤ hit_limit → to_z w128 (of_z w128 x) ≡ y
@@ -33,7 +33,7 @@ exact-hit x y e l = exact_of (hit_limit ∷ []) (x ∷ []) (wrap w128 (load 0)) 
 exact-hit_weight : (x y : ℤ) → x ≡ y → nat_abs y ≤ hit_weight_limit → to_z w128 (of_z w128 x) ≡ y
 exact-hit_weight x y e l = exact_of (hit_weight_limit ∷ []) (x ∷ []) (wrap w128 (load 0)) (subst (λ r. nat_abs r ≤ hit_weight_limit) (sym e) l, tt) tt ∙ e
 
-numbers-same : (x v y w : ℤ) (x' v' y' w' : ℤ) → x ≡ x' → v ≡ v' → y ≡ y' → w ≡ w' → x *ℤ v -ℤ y *ℤ w ≡ x' *ℤ v' -ℤ y' *ℤ w'
+pub numbers-same : (x v y w : ℤ) (x' v' y' w' : ℤ) → x ≡ x' → v ≡ v' → y ≡ y' → w ≡ w' → x *ℤ v -ℤ y *ℤ w ≡ x' *ℤ v' -ℤ y' *ℤ w'
 numbers-same x v y w x' v' y' w' a b c d = ap (λ r. r *ℤ v -ℤ y *ℤ w) a ∙ ap (λ r. x' *ℤ r -ℤ y *ℤ w) b ∙ ap (λ r. x' *ℤ v' -ℤ r *ℤ w) c ∙ ap (λ r. x' *ℤ v' -ℤ y' *ℤ r) d
 
 module _ (h : Plane) (p : Hit) (a : Point) (r : Sign) (x w y v : ℤ)
