@@ -113,6 +113,3 @@ module _ (s : Set) (p q : PlainPlace) (e : SamePlace p q) where
 
   pub flat-same : (h : Form) → IsFlatIn s h p → IsFlatIn s h q
   flat-same h F = (FlatDim-by_germs s s p q germs 2 F.0, λ d. (λ f. (F.1 d).0 (Flat-by_germs s s q p back-germs d f), λ z. Flat-by_germs s s p q germs d ((F.1 d).1 z)))
-
-  pub skeleton-same : (C : Complex) (h : Form) → IsSkeletonIn s C h p → IsSkeletonIn s C h q
-  skeleton-same C h = ⊎_elim (λ o. inl (edges-same p q e C o)) (λ f. inr (flat-same h f))

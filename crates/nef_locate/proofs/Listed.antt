@@ -55,7 +55,7 @@ module _ (s : Set) (c : Complex) (S : ShowsSet s c) (h : Plane) (y : Place) (on 
   pub flat-item : HasItemIn c.vertices (form_of h)
   flat-item =
       let m = facet-behind s C S.shows (form_of h) y h.normal on d axis.0 axis.1 F in
-      at-meet m.0 m.1.place (opposite d) m.1.meets (plane-ahead (form_of h) y m.1.place d m.1.ahead axis.1 on) m.2 m.3
+      at-meet m.0 m.1.place (opposite d) m.1.meets (plane-ahead (form_of h) y m.1.place d m.1.ahead axis.1 on) m.2.0 m.2.1
 
   pub flat-listed : (i : ℕ) × IsAt c.index.planes i h
   flat-listed = (S.index.planes h).0 flat-item

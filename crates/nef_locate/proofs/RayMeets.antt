@@ -1,5 +1,5 @@
 -- What a ray along an upright direction meets in one plane, and what it meets first.
-use Rattle.std.proofs.Common.{◌≡◌, ℕ, neg_ℤ, arith, inl, inr, ⊎_elim, Option, Some, None, IfSome, [], ◌∷◌}
+use Rattle.std.proofs.Common.{◌≡◌, ℕ, neg_ℤ, arith, ⊎_elim, Option, Some, None, IfSome, [], ◌∷◌}
 use Rattle.std.proofs.lemmas.Int.{ints}
 use Rattle.nef_exact.proofs.Ring.{ring, at, neg, ◌⊕◌, ◌⊗◌}
 use Rattle.nef_space.specs.Place.{Place as PlainPlace, SamePlace, InClosedFrame, toward, IsAhead, IsBetween}
@@ -19,7 +19,7 @@ use Rattle.nef_smap.proofs.SideLists.{at-from_get}
 use Rattle.nef_sphere.proofs.Compare.{SameDirection-turned, SameDirection-trans}
 use Rattle.nef_solid.specs.Complexes.{Complex as PlainComplex}
 use Rattle.nef_solid.specs.Laws.{IsFlatIn}
-use Rattle.nef_solid.specs.Skeleton.{at_vertex, on_edge, IsOnEdges, IsSkeletonPoint}
+use Rattle.nef_solid.specs.Skeleton.{IsOnEdges, IsSkeletonPoint}
 use Rattle.nef_solid.proofs.FacetEdges.{ahead-back}
 use Rattle.nef_complex.proofs.Lines.{one-crossing}
 use Rattle.nef_plane.proofs.Found.{not-end}

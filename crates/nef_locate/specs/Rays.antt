@@ -12,6 +12,8 @@ use Rattle.nef_solid.specs.Complexes.{Complex}
 use Rattle.nef_solid.specs.Laws.{IsFlatIn}
 use Rattle.nef_solid.specs.Rays.{IsAbove}
 use Rattle.nef_solid.specs.Skeleton.{Spot, IsSpot, IsOnEdges, IsSkeletonPoint}
+use Rattle.nef_complex.specs.declared.complex.PlaneMeet.{PlaneMeet}
+use Rattle.nef_complex.specs.declared.complex.PlaneMeet.TheVariants.{AtVertex, AtEdge}
 use Rattle.nef_locate.specs.declared.place.Place.{Place}
 use Rattle.nef_locate.specs.declared.place.Place.TheVariants as place
 use Rattle.nef_locate.specs.declared.ray.Met.{Met}
@@ -26,6 +28,11 @@ pub record IsSkeletonAt (C : Complex) (y : PlainPlace) (a : Place) : Type 0 wher
 -- y is a vertex, lies on an edge, or in a facet of the plane
 abbrev pub IsSkeletonIn : Set → Complex → Form → PlainPlace → Type 0
 IsSkeletonIn s C h y = IsOnEdges C y ⊎ IsFlatIn s h y
+
+-- the place at the vertex or on the edge
+abbrev pub place_of_meet : PlaneMeet → Place
+place_of_meet (AtVertex k) = place.Vertex k
+place_of_meet (AtEdge k) = place.OnEdge k
 
 -- the hit stands at its step along the ray
 abbrev pub IsReachedMet : PlainPlace → Vector → Met → Type 0

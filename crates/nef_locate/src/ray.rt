@@ -10,7 +10,7 @@ ghost use Rattle.nef_solid.specs.Laws.{IsFlatIn};
 ghost use Rattle.nef_solid.specs.Skeleton.{IsSkeletonPoint};
 ghost use Rattle.nef_complex.specs.Complexes.{complex_of, ShowsSet};
 ghost use Rattle.nef_locate.specs.Places.{IsPlaceIn, IsFirstHit};
-ghost use Rattle.nef_locate.specs.Rays.{IsMet, IsReachedMet, IsSooner, IsNotBefore, HasNoneBefore};
+ghost use Rattle.nef_locate.specs.Rays.{IsMet, IsReachedMet, IsSooner, IsNotBefore, HasNoneBefore, place_of_meet};
 
 use crate::facet::in_facet;
 use crate::hit::is_framed;
@@ -41,6 +41,16 @@ fn is_sooner(hit: &Hit, best: &Option<Met>) -> bool
     }
 }
 
+// The place at the vertex or on the edge.
+fn met_place(meet: PlaneMeet) -> Place
+    ensures place { result ≡ place_of_meet meet }
+{
+    match meet {
+        PlaneMeet::AtVertex(number) => Place::Vertex(number),
+        PlaneMeet::AtEdge(number) => Place::OnEdge(number),
+    }
+}
+
 // The vertex or the edge that the ray first meets.
 fn met_on_edges(c: &Complex, p: &Point, d: &Dir) -> Option<Met>
     requires shows { (s : Set) × ShowsSet s c.now }
@@ -49,12 +59,8 @@ fn met_on_edges(c: &Complex, p: &Point, d: &Dir) -> Option<Met>
     ensures edges { HasNoneBefore (complex_of c.now) (place_of p.now) (vector_of d.now) result }
 {
     let first = first_on_edges(c, p, d)?;
-    let place = match first.meet {
-        PlaneMeet::AtVertex(number) => Place::Vertex(number),
-        PlaneMeet::AtEdge(number) => Place::OnEdge(number),
-    };
     Some(Met {
-        place,
+        place: met_place(first.meet),
         at: first.at,
     })
 }

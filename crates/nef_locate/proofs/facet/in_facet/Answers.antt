@@ -11,8 +11,8 @@ use Rattle.nef_locate.proofs.Listed.{flat-item}
 use Rattle.nef_locate.proofs.SamePlanes.{level-back}
 use Rattle.nef_locate.proofs.facet.in_facet.Goals as goal
 
-pub returns-in_err-clause-none : goal.returns-in_err-clause-none
-returns-in_err-clause-none c _ = λ s S F. c.in_err.ensures.none refl (flat-item s c.args.c.now S c.args.h.now (hit_place c.args.p.now) c.requires.on F)
+pub returns-in_err-plane_items-clause-none : goal.returns-in_err-plane_items-clause-none
+returns-in_err-plane_items-clause-none c _ = λ s S F. c.in_err-plane_items.ensures.none refl (flat-item s c.args.c.now S c.args.h.now (hit_place c.args.p.now) c.requires.on F)
 
 pub first_in_plane-requires-clause-off : goal.first_in_plane-requires-clause-off
 first_in_plane-requires-clause-off c = inr (λ k e l. c.requires.off (k, inr e))
