@@ -1,15 +1,10 @@
 -- Each item lies in a carrier.
-use Rattle.std.proofs.Common.{◌≡◌, ℕ, pos, sym, ◌∙◌, ⊎_elim, map, subst}
-use Rattle.nef_exact.proofs.Order.{nought-is}
+use Rattle.std.proofs.Common.{◌≡◌, ℕ, pos, map, subst}
 use Rattle.nef_space.specs.Place.{Place, Form, form_at, normal_of}
 use Rattle.nef_space.specs.Sets.{Set}
 use Rattle.nef_space.specs.Vectors.{Vector, IsNormal, SameDirection}
-use Rattle.nef_near.proofs.Decisions.{ahead}
-use Rattle.nef_near.proofs.Supports.{facet-support}
-use Rattle.nef_forms.proofs.Far.{nought-or}
 use Rattle.nef_sphere.specs.Maps.{At, Item, items, item_normal}
-use Rattle.nef_sphere.proofs.Shot.{item-point}
-use Rattle.nef_solid.specs.Complexes.{Vertex as PlainVertex, Complex as PlainComplex, Corner as PlainCorner, IsCorner}
+use Rattle.nef_solid.specs.Complexes.{Corner as PlainCorner}
 use Rattle.nef_complex.specs.declared.complex.Vertex.{Vertex}
 use Rattle.nef_complex.specs.declared.complex.Complex.{Complex}
 use Rattle.nef_complex.specs.Complexes.{vertex_of, complex_of}
@@ -19,11 +14,6 @@ use Rattle.nef_geo.specs.Shapes.{form_of, place_of}
 use Rattle.nef_smap.specs.Maps.{map_of}
 use Rattle.nef_facets.specs.Corners.{HasItem}
 use Rattle.nef_solid.specs.Shows.{Shows}
-use Rattle.nef_solid.proofs.Cones.{FlatAre}
-use Rattle.nef_solid.proofs.FacetSides.{flats-one}
-use Rattle.nef_solid.proofs.Planes.{plane-turned, plane-point, plane-slope}
-use Rattle.nef_links.proofs.NearVertex.{facet-near}
-use Rattle.nef_links.proofs.Ties.{beside-ahead}
 
 -- the plane holds the point and has the normal
 abbrev pub HoldsWith : Form → Place → Vector → Type 0
