@@ -11,17 +11,11 @@ ghost use Rattle.nef_complex.specs.Indexing.{HasNormal, AreFlags, HasOneMore};
 
 use crate::OutOfMemory;
 use crate::complex::{Complex, Edge, Vertex};
-use crate::holding::{holds, plane_normal};
+use crate::holding::{holds, plane_normal, same_dir};
 use crate::index::PlaneIndex;
 use nef_geo::{Dir, List, Plane};
 use nef_smap::SphereMap;
 use std::alloc::Global;
-
-fn same_dir(a: &Dir, b: &Dir) -> bool
-    ensures same { IsTrue result ↔ (a.now ≡ b.now) }
-{
-    a == b
-}
 
 // Whether some arc of the map has the normal.
 fn has_arc(map: &SphereMap, normal: &Dir) -> bool

@@ -11,7 +11,7 @@ mod indexing;
 mod vertices;
 
 pub use complex::{Complex, Corner, Edge, PlaneMeet, Vertex};
-pub use holding::{holds, holds_both, plane_normal};
+pub use holding::{holds, holds_both, plane_normal, same_dir};
 pub use index::{PlaneIndex, PlaneItems, plane_items};
 pub use std::alloc::AllocError as OutOfMemory;
 pub use vertices::vertex_at;

@@ -14,9 +14,8 @@ ghost use Rattle.nef_facets.specs.Corners.{AreInOrder, AreCorners};
 ghost use Rattle.nef_facets.specs.Next.{IsArcInto, HaveNextFrom, KeepsNext, AreNext};
 
 use crate::OutOfMemory;
-use crate::planes::same_dir;
 use crate::position::position;
-use nef_complex::{Complex, Corner};
+use nef_complex::{Complex, Corner, same_dir};
 use nef_geo::Dir;
 use nef_smap::{SArc, SphereMap};
 use std::alloc::Global;

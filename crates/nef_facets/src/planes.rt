@@ -9,15 +9,9 @@ ghost use Rattle.nef_facets.specs.Facets.{IsPlaneAt, IsMarkAt, ArePlanesAt, AreM
 
 use crate::OutOfMemory;
 use crate::items::{mark_at, normal_at};
-use nef_complex::{Complex, Corner, holds, plane_normal};
+use nef_complex::{Complex, Corner, holds, plane_normal, same_dir};
 use nef_geo::{Dir, Label, List, Plane, Point};
 use std::alloc::Global;
-
-pub(crate) fn same_dir(a: &Dir, b: &Dir) -> bool
-    ensures same { IsTrue result ↔ (a.now ≡ b.now) }
-{
-    a == b
-}
 
 // Whether the plane holds the point and has the normal.
 fn is_plane_of(h: &Plane, point: &Point, normal: &Dir) -> bool

@@ -16,26 +16,10 @@ ghost use Rattle.nef_complex.specs.Complexes.{complex_of, corner_of, meet_of, ve
 ghost use Rattle.nef_locate.specs.Facets.{IsArcThrough, IsItemThrough, IsArcBeside, HasMet};
 
 use nef_arc::{Arc, strictly_on};
-use nef_complex::{Complex, Corner, PlaneMeet, Vertex, plane_items};
+use nef_complex::{Complex, Corner, PlaneMeet, Vertex, plane_items, plane_normal, same_dir};
 use nef_geo::{Dir, Hit, Plane, Sign, plane_axis, triple};
 use nef_plane::first_in_plane;
 use nef_smap::{SArc, SphereMap};
-
-/// The direction of the plane's normal.
-pub fn plane_normal(h: &Plane) -> Dir
-    ensures normal { SameDirection (normal_of (form_of h.now)) (vector_of result) }
-{
-    match Dir::of(h.a(), h.b(), h.c()) {
-        Some(normal) => normal,
-        None => unreachable!(),
-    }
-}
-
-fn same_dir(a: &Dir, b: &Dir) -> bool
-    ensures same { IsTrue result ↔ (a.now ≡ b.now) }
-{
-    a == b
-}
 
 /// Whether the direction lies strictly on the arc, which is one of the map's.
 pub fn passes(map: &SphereMap, arc: &SArc, d: &Dir) -> bool

@@ -19,7 +19,7 @@ mod ray;
 mod tests;
 
 pub use above::{arounds, item_side, side_above};
-pub use facet::{corner_toward, in_facet, passes, plane_normal};
+pub use facet::{corner_toward, in_facet, passes};
 pub use label::place_label;
 pub use local::local_map;
 pub use maps::place_map;

@@ -17,11 +17,10 @@ ghost use Rattle.nef_plane.specs.Meets.{HasNoSvertex, FromVertex};
 ghost use Rattle.nef_ties.specs.Ties.{spot_of, IsPlaneWith, NoneIsPlaneWith, HasNoItem, HasNormal, AreLevel, IsOnItem, IsNamedFrom, IsLinkedFrom, IsTieAcross, Any, Adds};
 
 use crate::OutOfMemory;
-use crate::along::same_dir;
 use nef_classes::{Spot, Tie};
-use nef_complex::{Complex, Corner};
+use nef_complex::{Complex, Corner, plane_normal, same_dir};
 use nef_geo::{Dir, Plane, Point, Sign, plane_dir, side};
-use nef_locate::{corner_toward, passes, plane_normal};
+use nef_locate::{corner_toward, passes};
 use nef_plane::first_along_dir;
 use nef_smap::SphereMap;
 use std::alloc::Global;

@@ -12,16 +12,9 @@ ghost use Rattle.nef_ties.specs.Ties.{spot_of, BeginAndEnd, AreArcsAlong, IsTieF
 
 use crate::OutOfMemory;
 use nef_classes::{Spot, Tie};
-use nef_complex::{Complex, Edge};
-use nef_geo::Dir;
+use nef_complex::{Complex, Edge, same_dir};
 use nef_smap::{SArc, SphereMap};
 use std::alloc::Global;
-
-pub(crate) fn same_dir(a: &Dir, b: &Dir) -> bool
-    ensures same { IsTrue result ↔ (a.now ≡ b.now) }
-{
-    a == b
-}
 
 // Whether one of the arcs begins at its end of the edge, and the other ends at its.
 fn begin_and_end(edge: &Edge, low: &SArc, high: &SArc) -> bool
