@@ -7,9 +7,9 @@ use Rattle.nef_exact.proofs.Ring.{ring, at, num, neg, ◌⊕◌, ◌⊖◌, ◌�
 use Rattle.nef_space.specs.Limits.{half_side}
 use Rattle.nef_space.specs.Local.{FlatDim}
 use Rattle.nef_space.specs.declared.label.Label.TheVariants.{Out}
-use Rattle.nef_space.specs.Place.{Place as PlainPlace, Form, form_at, normal_of, slope, InFrame, InClosedFrame, step, IsAhead}
+use Rattle.nef_space.specs.Place.{Place as PlainPlace, Form, form_at, InFrame, InClosedFrame, step, IsAhead}
 use Rattle.nef_space.specs.Sets.{Set}
-use Rattle.nef_space.specs.Vectors.{Vector, vector, dot, opposite, up, IsDirection}
+use Rattle.nef_space.specs.Vectors.{Vector, vector}
 use Rattle.nef_geo.specs.Hits.{IsUpright, IsCrossing}
 use Rattle.nef_geo.specs.Shapes.{form_of}
 use Rattle.nef_geo.specs.declared.plane.Plane.{Plane}
@@ -21,7 +21,6 @@ use Rattle.nef_near.proofs.Meets.{vertex-meets}
 use Rattle.nef_near.proofs.Supports.{edge-support, facet-support}
 use Rattle.nef_sphere.specs.Maps.{At}
 use Rattle.nef_smap.proofs.Lists.{at-map}
-use Rattle.nef_smap.proofs.Upward.{normal-ahead}
 use Rattle.nef_solid.specs.Shows.{SamePlane}
 use Rattle.nef_solid.specs.Skeleton.{at_vertex, on_edge, in_facet, IsSkeletonPoint}
 use Rattle.nef_solid.proofs.Planes.{plane-turned, plane-point, plane-slope}
@@ -29,25 +28,9 @@ use Rattle.nef_solid.proofs.FacetWays.{dim-same}
 use Rattle.nef_solid.proofs.Edges.{edge-points}
 use Rattle.nef_complex.specs.declared.complex.Complex.{Complex}
 use Rattle.nef_complex.specs.Complexes.{complex_of, ShowsSet}
+use Rattle.nef_plane.proofs.Spanned.{plane-upright}
 use Rattle.nef_locate.specs.Rays.{IsSkeletonIn}
 use Rattle.nef_locate.proofs.Cones.{facet-at}
-
--- ---- upright directions
-pub plane-upward : (h : Plane) → pos 0 <ℤ slope (form_of h) up
-plane-upward h = normal-ahead (normal_of (form_of h)) h.normal (record { of_x = h.a_small; of_y = h.b_small; of_z = h.c_small })
-
-pub plane-upright : (h : Plane) (d : Vector) → IsUpright d → slope (form_of h) d ≡ pos 0 → ⊥
-plane-upright h d (inl e) z = let u = plane-upward h in let f = subst (λ (v : Vector). slope (form_of h) v ≡ pos 0) e z in omega (arith, ints)
-plane-upright h d (inr e) z =
-    let u = plane-upward h in
-    let f = subst (λ (v : Vector). slope (form_of h) v ≡ pos 0) e z in
-    let n = normal_of (form_of h) in
-    let r : dot n (opposite up) ≡ neg_ℤ (dot n up) = ring (n.x ∷ n.y ∷ n.z ∷ up.x ∷ up.y ∷ up.z ∷ []) (at 0 ⊗ neg (at 3) ⊕ at 1 ⊗ neg (at 4) ⊕ at 2 ⊗ neg (at 5)) (neg (at 0 ⊗ at 3 ⊕ at 1 ⊗ at 4 ⊕ at 2 ⊗ at 5)) tt in
-    omega (arith, ints)
-
-pub upright-some : (d : Vector) → IsUpright d → IsDirection d
-upright-some d (inl e) z = let f = subst (λ (v : Vector). v.z ≡ pos 0) e z.2 in omega (arith, ints)
-upright-some d (inr e) z = let f = subst (λ (v : Vector). v.z ≡ pos 0) e z.2 in omega (arith, ints)
 
 -- ---- the frame
 -- a short step from a point of the closed frame toward the middle leads into the frame

@@ -24,7 +24,6 @@ use Rattle.nef_solid.specs.Laws.{IsFlatIn}
 use Rattle.nef_solid.specs.Skeleton.{PlaneMeet, IsVertexPoint, IsEdgePoint, IsOnEdges, IsFacetPoint, at_vertex, on_edge, in_facet, IsSkeletonPoint, IsFirstInPlane, HasCorner}
 use Rattle.nef_solid.proofs.FacetEdges.{ahead-same, ahead-back}
 use Rattle.nef_solid.proofs.Ways.{same-itself}
-use Rattle.nef_locate.specs.Rays.{IsSkeletonIn}
 
 pub same-place_trans : (p q r : PlainPlace) → SamePlace p q → SamePlace q r → SamePlace p r
 same-place_trans p q r e f = factor-place p r (same-trans (of_place p) (of_place q) (of_place r) (place-factor p q e) (place-factor q r f))

@@ -1,7 +1,7 @@
 use Rattle.std.proofs.Common.{refl, rules, IsTrue}
 use Rattle.nef_geo.specs.Shapes.{vector_of, place_of, hit_place}
 use Rattle.nef_complex.specs.Complexes.{complex_of}
-use Rattle.nef_locate.proofs.CarrierPoints.{upright-some}
+use Rattle.nef_plane.proofs.Spanned.{upright-some}
 use Rattle.nef_locate.proofs.Located.{corner-at}
 use Rattle.nef_locate.proofs.RayMeets.{reached-of, none-outside, stays, taken, passed, found, sooner-off}
 use Rattle.nef_locate.proofs.ray.nearer.Goals as goal
