@@ -10,3 +10,5 @@ pub mod Adding
 pub mod LineByLine
 pub mod RefusalLaws
 pub mod RefusalExamples
+pub mod Accepted
+pub mod StairLines
