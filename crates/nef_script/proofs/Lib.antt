@@ -12,3 +12,4 @@ pub mod RefusalLaws
 pub mod RefusalExamples
 pub mod Accepted
 pub mod StairLines
+pub mod Writing

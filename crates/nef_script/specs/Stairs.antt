@@ -25,21 +25,29 @@ or_line name left right = line_of (codes "or" ∷ name ∷ left ∷ right ∷ []
 abbrev pub count_line : List ℕ → List ℕ
 count_line name = line_of (codes "count" ∷ name ∷ [])
 
--- the box from (x0, y0, z0) to (x1, y1, z1): its six half-spaces, and then what the first two have in common, the first three, and so on
-abbrev pub box_lines : List ℕ → ℤ → ℤ → ℤ → ℤ → ℤ → ℤ → List ℕ → List (List ℕ)
-box_lines name x0 x1 y0 y1 z0 z1 mode =
+-- the six half-spaces of the box from (x0, y0, z0) to (x1, y1, z1)
+abbrev pub half_lines : List ℕ → ℤ → ℤ → ℤ → ℤ → ℤ → ℤ → List ℕ → List (List ℕ)
+half_lines name x0 x1 y0 y1 z0 z1 mode =
     half_line (name ++ codes "a") (neg_ℤ (pos 1)) (pos 0) (pos 0) x0 mode
     ∷ half_line (name ++ codes "b") (pos 1) (pos 0) (pos 0) (neg_ℤ x1) mode
     ∷ half_line (name ++ codes "c") (pos 0) (neg_ℤ (pos 1)) (pos 0) y0 mode
     ∷ half_line (name ++ codes "d") (pos 0) (pos 1) (pos 0) (neg_ℤ y1) mode
     ∷ half_line (name ++ codes "e") (pos 0) (pos 0) (neg_ℤ (pos 1)) z0 mode
     ∷ half_line (name ++ codes "f") (pos 0) (pos 0) (pos 1) (neg_ℤ z1) mode
-    ∷ and_line (name ++ codes "g") (name ++ codes "a") (name ++ codes "b")
+    ∷ []
+
+-- what the first two of them have in common, what the first three have, and so on; all six have the box
+abbrev pub and_lines : List ℕ → List (List ℕ)
+and_lines name =
+    and_line (name ++ codes "g") (name ++ codes "a") (name ++ codes "b")
     ∷ and_line (name ++ codes "h") (name ++ codes "g") (name ++ codes "c")
     ∷ and_line (name ++ codes "i") (name ++ codes "h") (name ++ codes "d")
     ∷ and_line (name ++ codes "j") (name ++ codes "i") (name ++ codes "e")
     ∷ and_line name (name ++ codes "j") (name ++ codes "f")
     ∷ []
+
+abbrev pub box_lines : List ℕ → ℤ → ℤ → ℤ → ℤ → ℤ → ℤ → List ℕ → List (List ℕ)
+box_lines name x0 x1 y0 y1 z0 z1 mode = half_lines name x0 x1 y0 y1 z0 z1 mode ++ and_lines name
 
 -- the name of the box i, counted from 0, and of the first i + 1 boxes together, which for i = 0 are one box
 abbrev pub box_name : ℕ → List ℕ
