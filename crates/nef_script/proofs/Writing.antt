@@ -3,11 +3,11 @@ use Rattle.std.proofs.Common.{◌≡◌, ℕ, zero, suc, ◌+◌, ◌-◌, ◌*�
 use Rattle.std.specs.List.{flat_map, range_with_len}
 use Rattle.std.specs.Fmt.{digits, decimal, signed_decimal}
 use Rattle.nef_script.specs.Laws.{script_of}
-use Rattle.nef_script.specs.Stairs.{line_of, half_lines, and_lines, and_line, or_line, stair_box, stair_lines, count_line, stairs_text, box_name, whole_name}
+use Rattle.nef_script.specs.Stairs.{joined_words, half_lines, and_lines, and_line, or_line, step_box, join_lines, step_lines, count_line, stairs_text, box_name, whole_name}
 
 -- ---- bytes after bytes
 
-pub piece-next : (o t s x y : List ℕ) → t ≡ o ++ x → s ≡ t ++ y → s ≡ o ++ (x ++ y)
+piece-next : (o t s x y : List ℕ) → t ≡ o ++ x → s ≡ t ++ y → s ≡ o ++ (x ++ y)
 piece-next o t s x y e f = f ∙ ap (λ r. r ++ y) e ∙ append_assoc o x y
 
 pub script_of-append : (xs ys : List (List ℕ)) → script_of (xs ++ ys) ≡ script_of xs ++ script_of ys
@@ -32,7 +32,7 @@ five-lines o a b c d e u v w x y ea eb ec ed ee =
 
 -- a closed half-space whose numbers are written as words
 abbrev pub half_put : List ℕ → List ℕ → List ℕ → List ℕ
-half_put name normal offset = line_of (codes "half" ∷ name ∷ normal ∷ offset ∷ codes "closed" ∷ [])
+half_put name normal offset = joined_words (codes "half" ∷ name ∷ normal ∷ offset ∷ codes "closed" ∷ [])
 
 pub half-written : (o t1 t2 t3 t4 t5 t6 t7 t8 name letter normal offset : List ℕ)
     → t1 ≡ o ++ codes "half " → t2 ≡ t1 ++ name → t3 ≡ t2 ++ letter → t4 ≡ t3 ++ 32 ∷ [] → t5 ≡ t4 ++ normal → t6 ≡ t5 ++ 32 ∷ []
@@ -65,7 +65,7 @@ and-written o t1 t2 t3 t4 t5 t6 t7 t8 t9 t10 name letter left right e1 e2 e3 e4 
 -- ---- the half-spaces of a box, with their offsets as words
 
 abbrev half_with : List ℕ → ℤ → ℤ → ℤ → List ℕ → List ℕ
-half_with name a b c offset = line_of (codes "half" ∷ name ∷ signed_decimal a ∷ signed_decimal b ∷ signed_decimal c ∷ offset ∷ codes "closed" ∷ [])
+half_with name a b c offset = joined_words (codes "half" ∷ name ∷ signed_decimal a ∷ signed_decimal b ∷ signed_decimal c ∷ offset ∷ codes "closed" ∷ [])
 
 abbrev halves_with : List ℕ → List ℕ → List ℕ → List (List ℕ)
 halves_with name low high =
@@ -149,47 +149,39 @@ abbrev box_halves : List ℕ → ℕ → List (List ℕ)
 box_halves name i = half_lines name (pos (8 * i)) (pos (8 * i + 12)) (pos (8 * i)) (pos (8 * i + 12)) (pos (8 * i)) (pos (8 * i + 12)) (codes "closed")
 
 -- a box is its half-spaces and what they have in common
-pub box-written : (o t s name other : List ℕ) (i : ℕ) → name ≡ box_name i → other ≡ box_name i → t ≡ o ++ script_of (box_halves name i) → s ≡ t ++ script_of (and_lines other) → s ≡ o ++ script_of (stair_box i)
+pub box-written : (o t s name other : List ℕ) (i : ℕ) → name ≡ box_name i → other ≡ box_name i → t ≡ o ++ script_of (box_halves name i) → s ≡ t ++ script_of (and_lines other) → s ≡ o ++ script_of (step_box i)
 box-written o t s name other i is_name is_other e f =
     lines-next o t s (box_halves (box_name i) i) (and_lines (box_name i)) (e ∙ ap (λ l. o ++ script_of (box_halves l i)) is_name) (f ∙ ap (λ l. t ++ script_of (and_lines l)) is_other)
 
--- the line that joins a box to those before it, if there are any
-abbrev join_lines : Bool → ℕ → List (List ℕ)
-join_lines t i = if t then [] else or_line (whole_name i) (whole_name (i - 1)) (box_name i) ∷ []
+-- nothing joins the first box, and one line each other
+pub join_none : (i : ℕ) → i ≡ 0 → join_lines i ≡ []
+join_none i none = ap (λ t. if t then [] else or_line (whole_name i) (whole_name (i - 1)) (box_name i) ∷ []) (eq-eqb i 0 none)
 
-pub first-stair : (o s : List ℕ) (i : ℕ) → i ≤ 0 → s ≡ o ++ script_of (stair_box i) → s ≡ o ++ script_of (stair_lines i)
-first-stair o s i none e =
-    let is : nat_eq i 0 ≡ true = eq-eqb i 0 (omega arith) in
-    e ∙ ap (λ l. o ++ script_of l) (sym (append-nil (stair_box i))) ∙ ap (λ t. o ++ script_of (stair_box i ++ join_lines t i)) (sym is)
-
-pub later-stair : (o t s name : List ℕ) (i : ℕ) → 0 < i → name ≡ box_name i → t ≡ o ++ script_of (stair_box i) → s ≡ t ++ (or_line (whole_name i) (whole_name (i - 1)) name ++ 10 ∷ []) → s ≡ o ++ script_of (stair_lines i)
-later-stair o t s name i some is_name e f =
-    let is : nat_eq i 0 ≡ false = ne_eqb i 0 (λ z. omega arith) in
-    line-next o t s (stair_box i) (or_line (whole_name i) (whole_name (i - 1)) (box_name i)) e (f ∙ ap (λ l. t ++ (or_line (whole_name i) (whole_name (i - 1)) l ++ 10 ∷ [])) is_name)
-    ∙ ap (λ t. o ++ script_of (stair_box i ++ join_lines t i)) (sym is)
+pub join_one : (i : ℕ) → (i ≡ 0 → ⊥) → join_lines i ≡ or_line (whole_name i) (whole_name (i - 1)) (box_name i) ∷ []
+join_one i some = ap (λ t. if t then [] else or_line (whole_name i) (whole_name (i - 1)) (box_name i) ∷ []) (ne_eqb i 0 some)
 
 -- ---- boxes after boxes
 
-pub boxes-more : (a n : ℕ) → flat_map stair_lines (range_with_len a (suc n)) ≡ flat_map stair_lines (range_with_len a n) ++ stair_lines (a + n)
+pub boxes-more : (a n : ℕ) → flat_map step_lines (range_with_len a (suc n)) ≡ flat_map step_lines (range_with_len a n) ++ step_lines (a + n)
 boxes-more a zero =
     let here : a ≡ a + 0 = omega arith in
-    append-nil (stair_lines a) ∙ ap stair_lines here
+    append-nil (step_lines a) ∙ ap step_lines here
 boxes-more a (suc n) =
     let same : (a + 1) + n ≡ a + suc n = omega arith in
-    ap (λ l. stair_lines a ++ l) (boxes-more (a + 1) n)
-    ∙ ap (λ m. stair_lines a ++ (flat_map stair_lines (range_with_len (a + 1) n) ++ stair_lines m)) same
-    ∙ sym (append_assoc (stair_lines a) (flat_map stair_lines (range_with_len (a + 1) n)) (stair_lines (a + suc n)))
+    ap (λ l. step_lines a ++ l) (boxes-more (a + 1) n)
+    ∙ ap (λ m. step_lines a ++ (flat_map step_lines (range_with_len (a + 1) n) ++ step_lines m)) same
+    ∙ sym (append_assoc (step_lines a) (flat_map step_lines (range_with_len (a + 1) n)) (step_lines (a + suc n)))
 
-pub box-next : (o t s : List ℕ) (i : ℕ) → t ≡ o ++ script_of (flat_map stair_lines (range_with_len 0 i)) → s ≡ t ++ script_of (stair_lines i) → s ≡ o ++ script_of (flat_map stair_lines (range_with_len 0 (i + 1)))
+pub box-next : (o t s : List ℕ) (i : ℕ) → t ≡ o ++ script_of (flat_map step_lines (range_with_len 0 i)) → s ≡ t ++ script_of (step_lines i) → s ≡ o ++ script_of (flat_map step_lines (range_with_len 0 (i + 1)))
 box-next o t s i e f =
     let here : i ≡ 0 + i = omega arith in
     let more : suc i ≡ i + 1 = omega arith in
-    let all = lines-next o t s (flat_map stair_lines (range_with_len 0 i)) (stair_lines i) e f in
-    all ∙ ap (λ m. o ++ script_of (flat_map stair_lines (range_with_len 0 i) ++ stair_lines m)) here
+    let all = lines-next o t s (flat_map step_lines (range_with_len 0 i)) (step_lines i) e f in
+    all ∙ ap (λ m. o ++ script_of (flat_map step_lines (range_with_len 0 i) ++ step_lines m)) here
     ∙ ap (λ l. o ++ script_of l) (sym (boxes-more 0 i))
-    ∙ ap (λ m. o ++ script_of (flat_map stair_lines (range_with_len 0 m))) more
+    ∙ ap (λ m. o ++ script_of (flat_map step_lines (range_with_len 0 m))) more
 
 -- all boxes, and the count
-pub stairs-written : (t s : List ℕ) (i n : ℕ) → i ≡ n → t ≡ script_of (flat_map stair_lines (range_with_len 0 i)) → s ≡ t ++ (count_line (whole_name (n - 1)) ++ 10 ∷ []) → s ≡ stairs_text n
+pub stairs-written : (t s : List ℕ) (i n : ℕ) → i ≡ n → t ≡ script_of (flat_map step_lines (range_with_len 0 i)) → s ≡ t ++ (count_line (whole_name (n - 1)) ++ 10 ∷ []) → s ≡ stairs_text n
 stairs-written t s i n all e f =
-    line-next [] t s (flat_map stair_lines (range_with_len 0 n)) (count_line (whole_name (n - 1))) (e ∙ ap (λ m. script_of (flat_map stair_lines (range_with_len 0 m))) all) f
+    line-next [] t s (flat_map step_lines (range_with_len 0 n)) (count_line (whole_name (n - 1))) (e ∙ ap (λ m. script_of (flat_map step_lines (range_with_len 0 m))) all) f

@@ -1,9 +1,9 @@
 //! The script of boxes that stand as stairs.
 
-ghost use Rattle.std.specs.Prelude.{◌≡◌, ℕ, ◌+◌, ◌*◌, ◌<◌, ◌≤◌, ◌-◌, pos, [], ◌∷◌, ◌++◌, codes, decimal, IfOk, OnOk};
+ghost use Rattle.std.specs.Prelude.{◌≡◌, ℕ, ◌+◌, ◌*◌, ◌<◌, ◌≤◌, pos, [], ◌∷◌, ◌++◌, codes, decimal, IfOk, OnOk};
 ghost use Rattle.nef_script.specs.Laws.{script_of};
 ghost use Rattle.nef_script.specs.Refusal.{IsAccepted};
-ghost use Rattle.nef_script.specs.Stairs.{most_stairs, line_of, half_lines, and_lines, box_name, whole_name, stair_box, stair_lines, or_line, count_line, stairs_text};
+ghost use Rattle.nef_script.specs.Stairs.{most_stairs, joined_words, and_line, count_line, half_lines, and_lines, whole_name, step_box, join_lines, step_lines, stairs_text};
 
 use crate::OutOfMemory;
 use itoa::Buffer;
@@ -33,8 +33,8 @@ fn whole_name(alloc: Global, i: u32) -> Result<Vec<u8>, OutOfMemory>
     }
 }
 
-// Adds the line of a closed half-space: the name with a letter after it, the three numbers of the
-// normal, and the offset.
+// Adds the line of a closed half-space: the box's name with a letter after it, the three numbers of
+// the normal, and the offset.
 fn add_half(
     text: &mut Vec<u8>,
     name: &[u8],
@@ -42,7 +42,7 @@ fn add_half(
     normal: &[u8],
     offset: &[u8],
 ) -> Result<(), OutOfMemory>
-    ensures added { OnOk result (text.new.items ≡ text.old.items ++ (line_of (codes "half" ∷ (name.now ++ letter.now) ∷ normal.now ∷ offset.now ∷ codes "closed" ∷ []) ++ 10 ∷ [])) }
+    ensures added { OnOk result (text.new.items ≡ text.old.items ++ script_of (joined_words (codes "half" ∷ (name.now ++ letter.now) ∷ normal.now ∷ offset.now ∷ codes "closed" ∷ []) ∷ [])) }
 {
     text.extend_from_slice(b"half ")?;
     text.extend_from_slice(name)?;
@@ -55,8 +55,8 @@ fn add_half(
     Ok(())
 }
 
-// Adds the line that binds the name, with a letter after it or none, to what two sets have in
-// common, which have that name with other letters.
+// Adds the line of an intersection: the box's name with a letter or nothing after it, and the same
+// for each of the two sets.
 fn add_and(
     text: &mut Vec<u8>,
     name: &[u8],
@@ -64,7 +64,7 @@ fn add_and(
     left: &[u8],
     right: &[u8],
 ) -> Result<(), OutOfMemory>
-    ensures added { OnOk result (text.new.items ≡ text.old.items ++ (line_of (codes "and" ∷ (name.now ++ letter.now) ∷ (name.now ++ left.now) ∷ (name.now ++ right.now) ∷ []) ++ 10 ∷ [])) }
+    ensures added { OnOk result (text.new.items ≡ text.old.items ++ script_of (and_line (name.now ++ letter.now) (name.now ++ left.now) (name.now ++ right.now) ∷ [])) }
 {
     text.extend_from_slice(b"and ")?;
     text.extend_from_slice(name)?;
@@ -79,7 +79,7 @@ fn add_and(
     Ok(())
 }
 
-// Adds the six half-spaces of the box i.
+// Adds the six half-spaces of the box i, under this name.
 fn add_halves(alloc: Global, text: &mut Vec<u8>, name: &[u8], i: u32) -> Result<(), OutOfMemory>
     requires small { i < most_stairs }
     ensures added { OnOk result (text.new.items ≡ text.old.items ++ script_of (half_lines name.now (pos (8 * i)) (pos (8 * i + 12)) (pos (8 * i)) (pos (8 * i + 12)) (pos (8 * i)) (pos (8 * i + 12)) (codes "closed"))) }
@@ -95,7 +95,7 @@ fn add_halves(alloc: Global, text: &mut Vec<u8>, name: &[u8], i: u32) -> Result<
     Ok(())
 }
 
-// Adds what the half-spaces of the box have in common, one after the other.
+// Adds the intersections of a box's half-spaces.
 fn add_ands(text: &mut Vec<u8>, name: &[u8]) -> Result<(), OutOfMemory>
     ensures added { OnOk result (text.new.items ≡ text.old.items ++ script_of (and_lines name.now)) }
 {
@@ -107,40 +107,50 @@ fn add_ands(text: &mut Vec<u8>, name: &[u8]) -> Result<(), OutOfMemory>
     Ok(())
 }
 
-// Adds the line that joins the box i to those before it.
-fn add_or(alloc: Global, text: &mut Vec<u8>, name: &[u8], i: u32) -> Result<(), OutOfMemory>
-    requires some { 0 < i }
-    ensures added { OnOk result (text.new.items ≡ text.old.items ++ (or_line (whole_name i) (whole_name (i - 1)) name.now ++ 10 ∷ [])) }
+// Adds the box i.
+fn add_box(alloc: Global, text: &mut Vec<u8>, i: u32) -> Result<(), OutOfMemory>
+    requires small { i < most_stairs }
+    ensures added { OnOk result (text.new.items ≡ text.old.items ++ script_of (step_box i)) }
 {
+    let name = numbered(alloc, b"b", i)?;
+    add_halves(alloc, text, &name, i)?;
+    add_ands(text, &name)?;
+    Ok(())
+}
+
+// Adds the line that joins the box i to those before it, if there are any.
+fn add_join(alloc: Global, text: &mut Vec<u8>, i: u32) -> Result<(), OutOfMemory>
+    ensures added { OnOk result (text.new.items ≡ text.old.items ++ script_of (join_lines i)) }
+{
+    if i == 0 {
+        return Ok(());
+    }
     let whole = whole_name(alloc, i)?;
     let before = whole_name(alloc, i - 1)?;
+    let name = numbered(alloc, b"b", i)?;
     text.extend_from_slice(b"or ")?;
     text.extend_from_slice(&whole)?;
     text.push(b' ')?;
     text.extend_from_slice(&before)?;
     text.push(b' ')?;
-    text.extend_from_slice(name)?;
+    text.extend_from_slice(&name)?;
     text.push(b'\n')?;
     Ok(())
 }
 
 // Adds the box i, and after it the line that joins it to those before it.
-fn add_stair(alloc: Global, text: &mut Vec<u8>, i: u32) -> Result<(), OutOfMemory>
+fn add_step(alloc: Global, text: &mut Vec<u8>, i: u32) -> Result<(), OutOfMemory>
     requires small { i < most_stairs }
-    ensures added { OnOk result (text.new.items ≡ text.old.items ++ script_of (stair_lines i)) }
+    ensures added { OnOk result (text.new.items ≡ text.old.items ++ script_of (step_lines i)) }
 {
-    let name = numbered(alloc, b"b", i)?;
-    add_halves(alloc, text, &name, i)?;
-    add_ands(text, &name)?;
-    if i > 0 {
-        add_or(alloc, text, &name, i)?;
-    }
+    add_box(alloc, text, i)?;
+    add_join(alloc, text, i)?;
     Ok(())
 }
 
 // Adds the question for the numbers of the first i + 1 boxes together.
 fn add_count(alloc: Global, text: &mut Vec<u8>, i: u32) -> Result<(), OutOfMemory>
-    ensures added { OnOk result (text.new.items ≡ text.old.items ++ (count_line (whole_name i) ++ 10 ∷ [])) }
+    ensures added { OnOk result (text.new.items ≡ text.old.items ++ script_of (count_line (whole_name i) ∷ [])) }
 {
     let whole = whole_name(alloc, i)?;
     text.extend_from_slice(b"count ")?;
@@ -157,17 +167,15 @@ fn written(alloc: Global, n: u32) -> Result<Vec<u8>, OutOfMemory>
 {
     let mut text = Vec::new(alloc);
     for i in 0..n {
-        add_stair(alloc, &mut text, i)?;
+        add_step(alloc, &mut text, i)?;
     }
     add_count(alloc, &mut text, n - 1)?;
     Ok(text)
 }
 
 /// The script of `n` boxes that stand as stairs, `n` from 1 to `MOST_STAIRS`: each box reaches into
-/// the next, each after the first is joined to those before it, and the last line asks for the
-/// numbers of the whole. `OutOfMemory` says that memory was wanted and not found.
-///
-/// The script has no refusal, whatever `n`.
+/// the next, the boxes are joined one after the other, and the last line asks for the numbers of the
+/// whole. The script has no refusal. `OutOfMemory` says that memory was wanted and not found.
 pub fn stairs(alloc: Global, n: u32) -> Result<Vec<u8>, OutOfMemory>
     requires some { 1 ≤ n }
     requires most { n ≤ most_stairs }

@@ -3,7 +3,7 @@ use Rattle.nef_script.proofs.Writing.{box-next, stairs-written}
 use Rattle.nef_script.proofs.steps.written.Goals as goal
 
 pub loop-i-preserved : goal.loop-i-preserved
-loop-i-preserved c = box-next [] _ _ c.loop-i.i c.loop-i.invariant c.in_ok-add_stair.ensures.added
+loop-i-preserved c = box-next [] _ _ c.loop-i.i c.loop-i.invariant c.in_ok-add_step.ensures.added
 
 pub returns : goal.returns
 returns c =
