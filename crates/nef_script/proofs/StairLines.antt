@@ -35,7 +35,7 @@ counted_pass (suc k) i (suc j) names pass below =
     let rest = flat_map step_lines (range_with_len (i + 1) (suc j)) in
     let same : (i + 1) + j ≡ i + suc j = omega arith in
     let later = subst (λ m. passes_after (names ++ names_of (step_lines i)) (rest ++ count_line (whole_name m) ∷ []) ≡ true) same
-        (counted_pass k (i + 1) j (names ++ names_of (step_lines i)) parts.1 (omega arith)) in
+    (counted_pass k (i + 1) j (names ++ names_of (step_lines i)) parts.1 (omega arith)) in
     let last = count_line (whole_name (i + suc j)) ∷ [] in
     subst (λ l. passes_after names l ≡ true) (sym (append_assoc (step_lines i) rest last))
     (passes_after-append names (step_lines i) (rest ++ last) here.0 later)

@@ -119,11 +119,11 @@ halves-written o a b c d e f name wa wb wc wd we wf i is_a is_b is_c is_d is_e i
     let y = half_put (name ++ codes "e") (codes "0 0 -1") low in
     let z = half_put (name ++ codes "f") (codes "0 0 1") high in
     let five = five-lines o a b c d e u v w x y
-        (offset-put o a (name ++ codes "a") (codes "-1 0 0") wa low is_a ea)
-        (offset-put a b (name ++ codes "b") (codes "1 0 0") wb high (is_b ∙ high_word i) eb)
-        (offset-put b c (name ++ codes "c") (codes "0 -1 0") wc low is_c ec)
-        (offset-put c d (name ++ codes "d") (codes "0 1 0") wd high (is_d ∙ high_word i) ed)
-        (offset-put d e (name ++ codes "e") (codes "0 0 -1") we low is_e ee) in
+    (offset-put o a (name ++ codes "a") (codes "-1 0 0") wa low is_a ea)
+    (offset-put a b (name ++ codes "b") (codes "1 0 0") wb high (is_b ∙ high_word i) eb)
+    (offset-put b c (name ++ codes "c") (codes "0 -1 0") wc low is_c ec)
+    (offset-put c d (name ++ codes "d") (codes "0 1 0") wd high (is_d ∙ high_word i) ed)
+    (offset-put d e (name ++ codes "e") (codes "0 0 -1") we low is_e ee) in
     let last = offset-put e f (name ++ codes "f") (codes "0 0 1") wf high (is_f ∙ high_word i) ef in
     line-next o e f (u ∷ v ∷ w ∷ x ∷ y ∷ []) z five last ∙ ap (λ ls. o ++ script_of ls) (halves_put name low high)
 
@@ -152,13 +152,6 @@ box_halves name i = half_lines name (pos (8 * i)) (pos (8 * i + 12)) (pos (8 * i
 pub box-written : (o t s name other : List ℕ) (i : ℕ) → name ≡ box_name i → other ≡ box_name i → t ≡ o ++ script_of (box_halves name i) → s ≡ t ++ script_of (and_lines other) → s ≡ o ++ script_of (step_box i)
 box-written o t s name other i is_name is_other e f =
     lines-next o t s (box_halves (box_name i) i) (and_lines (box_name i)) (e ∙ ap (λ l. o ++ script_of (box_halves l i)) is_name) (f ∙ ap (λ l. t ++ script_of (and_lines l)) is_other)
-
--- nothing joins the first box, and one line each other
-pub join_none : (i : ℕ) → i ≡ 0 → join_lines i ≡ []
-join_none i none = ap (λ t. if t then [] else or_line (whole_name i) (whole_name (i - 1)) (box_name i) ∷ []) (eq-eqb i 0 none)
-
-pub join_one : (i : ℕ) → (i ≡ 0 → ⊥) → join_lines i ≡ or_line (whole_name i) (whole_name (i - 1)) (box_name i) ∷ []
-join_one i some = ap (λ t. if t then [] else or_line (whole_name i) (whole_name (i - 1)) (box_name i) ∷ []) (ne_eqb i 0 some)
 
 -- ---- boxes after boxes
 
