@@ -1,9 +1,9 @@
 -- The lines of a script written one after the other.
-use Rattle.std.proofs.Common.{◌≡◌, ℕ, zero, suc, ◌+◌, ◌-◌, ◌*◌, ◌<◌, ◌≤◌, ℤ, pos, neg_ℤ, Bool, true, false, nat_eq, List, [], ◌∷◌, ◌++◌, length, codes, if◌then◌else◌, refl, sym, ◌∙◌, ap, subst, arith, append-nil, append_assoc, eq-eqb, ne_eqb}
+use Rattle.std.proofs.Common.{◌≡◌, ℕ, zero, suc, ◌+◌, ◌-◌, ◌*◌, ℤ, pos, neg_ℤ, List, [], ◌∷◌, ◌++◌, codes, refl, sym, ◌∙◌, ap, subst, arith, append-nil, append_assoc}
 use Rattle.std.specs.List.{flat_map, range_with_len}
 use Rattle.std.specs.Fmt.{digits, decimal, signed_decimal}
 use Rattle.nef_script.specs.Laws.{script_of}
-use Rattle.nef_script.specs.Stairs.{joined_words, half_lines, and_lines, and_line, or_line, step_box, join_lines, step_lines, count_line, stairs_text, box_name, whole_name}
+use Rattle.nef_script.specs.Stairs.{joined_words, half_lines, and_lines, and_line, step_box, step_lines, count_line, stairs_text, box_name, whole_name}
 
 -- ---- bytes after bytes
 

@@ -1,4 +1,4 @@
-use Rattle.std.proofs.Common.{◌≡◌, ◌∙◌}
+use Rattle.std.proofs.Common.{◌∙◌}
 use Rattle.nef_script.proofs.Writing.{box-written}
 use Rattle.nef_script.proofs.steps.add_box.Goals as goal
 

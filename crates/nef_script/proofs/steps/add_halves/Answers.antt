@@ -1,4 +1,4 @@
-use Rattle.std.proofs.Common.{◌≡◌, ◌∙◌}
+use Rattle.std.proofs.Common.{◌∙◌}
 use Rattle.nef_script.proofs.Writing.{halves-written}
 use Rattle.nef_script.proofs.steps.add_halves.Goals as goal
 
