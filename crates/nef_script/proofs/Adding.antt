@@ -113,7 +113,7 @@ AddsWords-ask number v ws names nodes commands c new_commands e level is within 
 
 -- ---- a line that no kind refuses
 
-first_none : (t : Bool) (k : ScriptKind) (o : Option ScriptKind) → cond t (Some k) o ≡ None → (t ≡ false) × (o ≡ None)
+pub first_none : (t : Bool) (k : ScriptKind) (o : Option ScriptKind) → cond t (Some k) o ≡ None → (t ≡ false) × (o ≡ None)
 first_none true k o e = cc
 first_none false k o e = (refl, e)
 

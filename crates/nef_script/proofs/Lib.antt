@@ -10,3 +10,6 @@ pub mod Adding
 pub mod LineByLine
 pub mod RefusalLaws
 pub mod RefusalExamples
+pub mod Accepted
+pub mod StairLines
+pub mod Writing

@@ -10,12 +10,15 @@ mod parser;
 mod reader;
 mod refusal;
 mod script;
+mod steps;
 mod table;
 
 pub use fault::{ScriptFault, ScriptKind};
 pub use laws::{refusal_examples, refusal_laws};
 pub use parser::parse;
 pub use script::{Command, Name, Script};
+pub use std::alloc::AllocError as OutOfMemory;
+pub use steps::{MOST_STAIRS, stairs};
 
 #[cfg(test)]
 mod tests;
