@@ -87,7 +87,9 @@ facet 1 0 0 0 0 5 0 1 => none # the axis lies in this plane, but no facet
 ray 0 0 1 -2048 0 -5 2048 1 => vertex 5 # along y, exactly
 back 0 0 1 2048 0 5 -2048 1 => vertex 4 # along -y, exactly
 ray 1 0 0 0 0 5 0 1 => none # along z, beside the axis
-ray 0 0 1 -5 0 -7 5 1 => none # along y, the axis crosses this plane and doesn't lie in it";
+ray 0 0 1 -5 0 -7 5 1 => none # along y, the axis crosses this plane and doesn't lie in it
+items 1 0 0 0 => none # the axis lies in this plane, but no facet
+items 0 0 1 -2048 => edges 3 4 7 11 vertices 1 3 5 7 9 # a side, on which the axis ends";
 
 #[test]
 fn places_of_an_axis(rt: HostRuntime) -> Result<(), Fail> {

@@ -11,6 +11,7 @@
 //! - `facet PLANE POINT`: the facet of the plane in which the point lies.
 //! - `ray PLANE POINT`, `back PLANE POINT`: what the ray from the point along the plane's axis, or back along it, meets first
 //!   in the plane.
+//! - `items PLANE`: the edges in the plane and the vertices on it, where the index has the plane.
 
 ghost use Rattle.std.specs.Prelude.{◌≡◌, ◌≤◌, pos, nat_abs, ◌⊎◌, IsTrue, IfSome, IfOk};
 ghost use Rattle.nef_space.specs.Limits.{normal_limit};
@@ -25,7 +26,7 @@ ghost use Rattle.nef_complex.specs.Complexes.{complex_of, ShowsSet};
 ghost use Rattle.nef_plane.specs.Meets.{IsAlongAxis};
 ghost use Rattle.nef_locate.specs.Places.{IsPlaceIn};
 
-use nef_complex::{Complex, Corner, PlaneMeet, vertex_at};
+use nef_complex::{Complex, Corner, PlaneMeet, plane_items, vertex_at};
 use nef_geo::{Dir, HALF_SIDE, Hit, Label, Plane, Point, Sign, hit_at, hit_side, plane_axis, up};
 use nef_locate::{Place, first_hit, in_facet, local_map, locate, place_label};
 use nef_plane::first_in_plane;
@@ -295,6 +296,28 @@ fn answer_in(alloc: Global, c: &Complex, call: &str, h: &Plane, p: &Point) -> Re
     }
 }
 
+fn add_numbers(alloc: Global, text: &mut String, numbers: &[usize]) -> Result<(), Fail> {
+    for number in numbers {
+        let word = format!(in alloc; " {number}")?;
+        text.push_str(word.as_str())?;
+    }
+    Ok(())
+}
+
+// The edges in the plane and the vertices on it, as the index has them.
+fn items_text(alloc: Global, c: &Complex, h: &Plane) -> Result<String, Fail>
+    requires shows { (s : Set) × ShowsSet s c.now }
+{
+    let Some(items) = plane_items(c, h) else {
+        return Ok(String::from_str(alloc, "none")?);
+    };
+    let mut text = String::from_str(alloc, "edges")?;
+    add_numbers(alloc, &mut text, items.edges)?;
+    text.push_str(" vertices")?;
+    add_numbers(alloc, &mut text, items.vertices)?;
+    Ok(text)
+}
+
 fn answer(alloc: Global, c: &Complex, question: &str) -> Result<String, Fail>
     requires shows { (s : Set) × ShowsSet s c.now }
 {
@@ -304,6 +327,9 @@ fn answer(alloc: Global, c: &Complex, question: &str) -> Result<String, Fail>
     let (call, words) = question.split_once(' ').ok_or("no numbers")?;
     let list = numbers(alloc, words)?;
     match list.as_slice() {
+        [a, b, e, d] if call == "items" => {
+            items_text(alloc, c, &Plane::read(*a, *b, *e, *d)?.plane())
+        }
         [x, y, z, w] => answer_at(alloc, c, call, &[*x, *y, *z, *w]),
         [a, b, e, d, x, y, z, w] => {
             let h = Plane::read(*a, *b, *e, *d)?.plane();

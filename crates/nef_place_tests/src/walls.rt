@@ -40,7 +40,9 @@ back 1 0 0 0 0 0 0 1 => edge 4 6 # along -z
 ray 0 1 -1 0 0 0 0 1 => vertex 4 # along (0, -1, -1), exactly
 back 0 1 -1 0 0 0 0 1 => vertex 7 # along (0, 1, 1), exactly
 ray 0 1 -1 0 5 0 0 1 => edge 4 8 # along (0, -1, -1)
-ray 0 1 0 0 5 0 0 1 => none # no edge lies in y = 0";
+ray 0 1 0 0 5 0 0 1 => none # no edge lies in y = 0
+items 1 0 0 0 => edges 8 9 11 13 vertices 4 5 6 7 # the wall
+items 0 1 0 0 => none # it has no facet in y = 0";
 
 #[test]
 fn places_of_a_wall(rt: HostRuntime) -> Result<(), Fail> {
