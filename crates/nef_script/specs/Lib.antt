@@ -8,3 +8,4 @@ pub mod Checks
 pub mod Reading
 pub mod Progress
 pub mod Laws
+pub mod Stairs

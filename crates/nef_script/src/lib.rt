@@ -3,6 +3,7 @@
 
 mod checks;
 mod fault;
+mod generated;
 mod laws;
 mod meaning;
 mod names;
@@ -13,6 +14,7 @@ mod script;
 mod table;
 
 pub use fault::{ScriptFault, ScriptKind};
+pub use generated::{MOST_STAIRS, stairs};
 pub use laws::{refusal_examples, refusal_laws};
 pub use parser::parse;
 pub use script::{Command, Name, Script};
