@@ -15,7 +15,7 @@ use Rattle.nef_expr.specs.declared.nodes.Node.{Node}
 use Rattle.nef_expr.specs.Nodes.{node_set}
 use Rattle.nef_script.specs.declared.script.Command.{Command}
 use Rattle.nef_script.specs.declared.script.Command.TheVariants.{Bind, Has, Same, Count, Print}
-use Rattle.nef_shell.specs.Output.{IsWrittenOf, IsSameAnswer, IsPiece, IsOutput, count_line, printed, line_end, answer_of}
+use Rattle.nef_shell.specs.Output.{IsWrittenOf, IsSameAnswer, IsPiece, IsOutput, count_line, framed, printed, line_end, answer_of}
 use Rattle.nef_shell.specs.Prints.{IsPrinted, AreTextsCompared}
 
 pub same-texts : (s t : Set) (x y : List ℕ) → IsWrittenOf s text x → IsWrittenOf t text y → (x ≡ y) ↔ SameSet s t
