@@ -83,7 +83,7 @@ finishes words Done old new before after f f' g g' facts bytes is accepted quiet
 finishes words (Refused l k) old new before after f f' g g' (given, refusal) bytes is accepted quiet quiet' =
     never_both bytes l k (refused-whole bytes refusal.bytes new l k (subst (λ z. IsRead z new refusal.bytes) is refusal.read) refusal.refused) accepted
 finishes words Words old new before after f f' g g' facts bytes is accepted quiet quiet' = absurd facts
-finishes words ReadFault old new before after f f' g g' facts bytes is accepted quiet quiet' = quiet facts.1.0
+finishes words ReadFault old new before after f f' g g' facts bytes is accepted quiet quiet' = quiet facts.1
 finishes words WriteFault old new before after f f' g g' facts bytes is accepted quiet quiet' = quiet' facts.0
 finishes words OutOfMemory old new before after f f' g g' facts bytes is accepted quiet quiet' = tt
 
@@ -109,7 +109,7 @@ refuses words Done old new before after f f' g g' facts given bytes line kind is
 refuses words (Refused l k) old new before after f f' g g' (also, refusal) given bytes line kind is refused quiet quiet' =
     one_refusal bytes l line k kind (refused-whole bytes refusal.bytes new l k (subst (λ z. IsRead z new refusal.bytes) is refusal.read) refusal.refused) refused
 refuses words Words old new before after f f' g g' facts given bytes line kind is refused quiet quiet' = absurd facts
-refuses words ReadFault old new before after f f' g g' facts given bytes line kind is refused quiet quiet' = absurd (quiet facts.1.0)
+refuses words ReadFault old new before after f f' g g' facts given bytes line kind is refused quiet quiet' = absurd (quiet facts.1)
 refuses words WriteFault old new before after f f' g g' facts given bytes line kind is refused quiet quiet' = absurd (quiet' facts.0)
 refuses words OutOfMemory old new before after f f' g g' facts given bytes line kind is refused quiet quiet' = tt
 
