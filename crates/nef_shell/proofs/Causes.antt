@@ -6,7 +6,7 @@ use Rattle.nef_script.specs.declared.fault.ScriptFault.{ScriptFault}
 use Rattle.nef_script.specs.declared.fault.ScriptFault.TheVariants as fault
 use Rattle.nef_script.specs.declared.fault.ScriptKind.{ScriptKind}
 use Rattle.nef_script.specs.declared.fault.ScriptKind.TheVariants.{ScriptTooLong}
-use Rattle.nef_shell.specs.declared.script.NoScript.TheVariants.{ReadFault, Refused, OutOfMemory}
+use Rattle.nef_shell.specs.declared.script.NoScript.TheVariants.{ReadFault, Refused}
 use Rattle.nef_shell.specs.NoScripts.{unread, unaccepted}
 
 -- reading refuses a script only where it has too many bytes

@@ -73,9 +73,9 @@ pub data HasDefinedFront (words : List (List ℕ)) (old new before after : Optio
 abbrev pub HasEnded : List (List ℕ) → Status → Option (List ℕ) → Option (List ℕ) → Option (List ℕ) → Option (List ℕ) → ℕ → ℕ → ℕ → ℕ → Type 0
 HasEnded words status old new before after f f' g g' =
     MatchStatus status
-      (HasOutput words old new before after)
-      (λ line kind. GiveStairs words None × HasRefusal old new before after line kind)
-      ⊥
-      (GiveStairs words None × Rose f f' × (after ≡ before))
-      (Rose g g' × HasFront words old new before after)
-      ((after ≡ before) ⊎ HasFront words old new before after)
+    (HasOutput words old new before after)
+    (λ line kind. GiveStairs words None × HasRefusal old new before after line kind)
+    ⊥
+    (GiveStairs words None × Rose f f' × (after ≡ before))
+    (Rose g g' × HasFront words old new before after)
+    ((after ≡ before) ⊎ HasFront words old new before after)

@@ -1,5 +1,5 @@
 -- The texts in an output, and what they tell of each other.
-use Rattle.std.specs.Prelude.{◌≡◌, ℕ, List, ◌∷◌, ◌++◌, ◌↔◌, Option, length, codes}
+use Rattle.std.specs.Prelude.{◌≡◌, ℕ, List, ◌∷◌, ◌++◌, ◌↔◌, Option, length}
 use Rattle.nef_space.specs.Local.{SameSet}
 use Rattle.nef_expr.specs.declared.nodes.Node.{Node}
 use Rattle.nef_expr.specs.Nodes.{node_set}
