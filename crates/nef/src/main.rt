@@ -1,5 +1,5 @@
-//! The program `nef`: reads a script from standard input, and writes what its commands answer to
-//! standard output. The words after the program's name are options.
+//! The program `nef`: works a script, from standard input where no option says otherwise, and writes
+//! what its commands answer to standard output. The words after the program's name are options.
 #![tactic(auto)]
 
 use nef_io::{FromReader, IntoWriter, OpenGate};

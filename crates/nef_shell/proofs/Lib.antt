@@ -3,3 +3,4 @@ pub mod Complexes
 pub mod Outputs
 pub mod Statuses
 pub mod Pieces
+pub mod Causes

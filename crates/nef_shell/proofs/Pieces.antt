@@ -1,5 +1,5 @@
 -- A command has one piece, and the text in it tells its set.
-use Rattle.std.proofs.Common.{◌≡◌, ◌↔◌, ℕ, Bool, true, false, refl, ap, sym, ◌∙◌, subst, List, [], ◌∷◌, ◌++◌, length, codes, append_assoc, inl, inr}
+use Rattle.std.proofs.Common.{◌≡◌, ◌↔◌, ℕ, refl, ap, sym, ◌∙◌, subst, List, [], ◌∷◌, ◌++◌, length, codes, append_assoc, inl, inr}
 use Rattle.std.proofs.lemmas.List.{append_cancel_left, append_cancel_right}
 use Rattle.nef_space.specs.Local.{SameSet}
 use Rattle.nef_space.specs.Sets.{Set}
@@ -15,7 +15,7 @@ use Rattle.nef_expr.specs.declared.nodes.Node.{Node}
 use Rattle.nef_expr.specs.Nodes.{node_set}
 use Rattle.nef_script.specs.declared.script.Command.{Command}
 use Rattle.nef_script.specs.declared.script.Command.TheVariants.{Bind, Has, Same, Count, Print}
-use Rattle.nef_shell.specs.Output.{IsWrittenOf, IsSameAnswer, IsPiece, IsOutput, count_line, printed, line_end, answer_of}
+use Rattle.nef_shell.specs.Output.{IsWrittenOf, IsSameAnswer, IsPiece, IsOutput, count_line, framed, printed, line_end, answer_of}
 use Rattle.nef_shell.specs.Prints.{IsPrinted, AreTextsCompared}
 
 pub same-texts : (s t : Set) (x y : List ℕ) → IsWrittenOf s text x → IsWrittenOf t text y → (x ≡ y) ↔ SameSet s t

@@ -1,18 +1,35 @@
 -- What each status says of the source and of the sink.
-use Rattle.std.specs.Prelude.{◌≡◌, ℕ, ◌+◌, List, Option, IsSome, take, length, ◌⊎◌}
+use Rattle.std.specs.Prelude.{◌≡◌, ℕ, ◌+◌, List, Option, Some, None, IsSome, option_map, take, length, ◌⊎◌}
 use Rattle.std.specs.Io.KnownBytes.{Consumes, IsAtEnd}
-use Rattle.nef_io.specs.Bytes.{Grows, GrowsWithin}
+use Rattle.nef_io.specs.Bytes.{Rose, Grows, GrowsWithin}
 use Rattle.nef_words.specs.Chosen.{options_of}
 use Rattle.nef_expr.specs.declared.nodes.Node.{Node}
 use Rattle.nef_script.specs.declared.fault.ScriptKind.{ScriptKind}
 use Rattle.nef_script.specs.declared.script.Command.{Command}
 use Rattle.nef_script.specs.Refusal.{script_limit, FirstRefusal, IsAccepted}
 use Rattle.nef_script.specs.Meaning.{MeansScript}
+use Rattle.nef_script.specs.Stairs.{stairs_text}
+use Rattle.nef_shell.specs.declared.status.Status.{Status}
 use Rattle.nef_shell.specs.Output.{IsOutput, refusal_line, words_line}
+use Rattle.nef_shell.specs.Status.{MatchStatus}
 
 -- the words of the command line are accepted
 abbrev pub AreAccepted : List (List ℕ) → Type 0
 AreAccepted words = IsSome (options_of words)
+
+-- the words are accepted, and this is the value that they give `--stairs`, or that they give none
+abbrev pub GiveStairs : List (List ℕ) → Option ℕ → Type 0
+GiveStairs words stairs = option_map (λ options. options.stairs) (options_of words) ≡ Some stairs
+
+-- the bytes are the script that is run: all that the source still had, which is then at its end; or, for a value of `--stairs`, the generated script, and the source
+-- has what it had
+abbrev pub IsScriptFor : Option ℕ → Option (List ℕ) → Option (List ℕ) → List ℕ → Type 0
+IsScriptFor None old new bytes = Consumes old new bytes × IsAtEnd new
+IsScriptFor (Some n) old new bytes = (bytes ≡ stairs_text n) × (new ≡ old)
+
+-- the bytes are the script that the words have run
+abbrev pub IsScript : List (List ℕ) → Option (List ℕ) → Option (List ℕ) → List ℕ → Type 0
+IsScript words old new bytes = (stairs : Option ℕ) × GiveStairs words stairs × IsScriptFor stairs old new bytes
 
 -- the script is accepted, and these are its nodes and its commands
 pub record IsWorked (bytes : List ℕ) (nodes : List Node) (commands : List Command) : Type 0 where
@@ -24,31 +41,41 @@ pub record IsRead (old new : Option (List ℕ)) (bytes : List ℕ) : Type 0 wher
   pub taken : Consumes old new bytes
   pub whole : IsAtEnd new ⊎ (length bytes ≡ script_limit + 1)
 
--- the whole output of the script that the source had
-pub record HasOutput (old new before after : Option (List ℕ)) : Type 0 where
+-- the whole output of the script that the words have run
+pub record HasOutput (words : List (List ℕ)) (old new before after : Option (List ℕ)) : Type 0 where
   pub bytes : List ℕ
   pub nodes : List Node
   pub commands : List Command
   pub output : List ℕ
-  pub taken : Consumes old new bytes
-  pub at_end : IsAtEnd new
+  pub script : IsScript words old new bytes
   pub worked : IsWorked bytes nodes commands
   pub is_output : IsOutput nodes commands output
   pub written : Grows before after output
 
--- the line of the script's refusal
+-- the line of the refusal of the script that the source had
 pub record HasRefusal (old new before after : Option (List ℕ)) (line : ℕ) (kind : ScriptKind) : Type 0 where
   pub bytes : List ℕ
   pub read : IsRead old new bytes
   pub refused : FirstRefusal bytes line kind
   pub written : Grows before after (refusal_line line kind)
 
--- some front of what the script defines: of its refusal's line, or of the output of some number of its first commands
-pub data HasFront (old new before after : Option (List ℕ)) : Type 0 where
-  of_refusal : (bytes : List ℕ) (line : ℕ) (kind : ScriptKind) → IsRead old new bytes → FirstRefusal bytes line kind → GrowsWithin before after (refusal_line line kind) → HasFront old new before after
-  of_output : (bytes : List ℕ) (nodes : List Node) (commands : List Command) (count : ℕ) (output : List ℕ) → Consumes old new bytes → IsAtEnd new → IsWorked bytes nodes commands → IsOutput nodes (take count commands) output → GrowsWithin before after output → HasFront old new before after
+-- some front of what the script defines: of the line of its refusal, where the source had it, or of the output of some number of its first commands
+pub data HasFront (words : List (List ℕ)) (old new before after : Option (List ℕ)) : Type 0 where
+  of_refusal : (bytes : List ℕ) (line : ℕ) (kind : ScriptKind) → GiveStairs words None → IsRead old new bytes → FirstRefusal bytes line kind → GrowsWithin before after (refusal_line line kind) → HasFront words old new before after
+  of_output : (bytes : List ℕ) (nodes : List Node) (commands : List Command) (count : ℕ) (output : List ℕ) → IsScript words old new bytes → IsWorked bytes nodes commands → IsOutput nodes (take count commands) output → GrowsWithin before after output → HasFront words old new before after
 
 -- some front of what the words and the script define: of the line of refused words, or of what the script defines
 pub data HasDefinedFront (words : List (List ℕ)) (old new before after : Option (List ℕ)) : Type 0 where
   of_words : (AreAccepted words → ⊥) → GrowsWithin before after words_line → HasDefinedFront words old new before after
-  of_script : AreAccepted words → HasFront old new before after → HasDefinedFront words old new before after
+  of_script : AreAccepted words → HasFront words old new before after → HasDefinedFront words old new before after
+
+-- what each status says of a run with accepted words: of the rest of the source and its count of faults, and of what the sink took and its count
+abbrev pub HasEnded : List (List ℕ) → Status → Option (List ℕ) → Option (List ℕ) → Option (List ℕ) → Option (List ℕ) → ℕ → ℕ → ℕ → ℕ → Type 0
+HasEnded words status old new before after f f' g g' =
+    MatchStatus status
+    (HasOutput words old new before after)
+    (λ line kind. GiveStairs words None × HasRefusal old new before after line kind)
+    ⊥
+    (GiveStairs words None × Rose f f' × (after ≡ before))
+    (Rose g g' × HasFront words old new before after)
+    ((after ≡ before) ⊎ HasFront words old new before after)

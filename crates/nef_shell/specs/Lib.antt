@@ -6,3 +6,4 @@ pub mod Commands
 pub mod Operations
 pub mod Stops
 pub mod Written
+pub mod NoScripts

@@ -1,5 +1,5 @@
 -- The texts in an output, and what they tell of each other.
-use Rattle.std.specs.Prelude.{◌≡◌, ℕ, List, ◌∷◌, ◌++◌, ◌↔◌, Option, length, codes}
+use Rattle.std.specs.Prelude.{◌≡◌, ℕ, List, ◌∷◌, ◌++◌, ◌↔◌, Option, length}
 use Rattle.nef_space.specs.Local.{SameSet}
 use Rattle.nef_expr.specs.declared.nodes.Node.{Node}
 use Rattle.nef_expr.specs.Nodes.{node_set}
@@ -27,6 +27,6 @@ pub record AreTextsCompared (nodes : List Node) (commands : List Command) (outpu
   pub printed : (front back : List Command) (line k : ℕ) (name : List ℕ) → commands ≡ front ++ Print line k name ∷ back → (x : List ℕ) × IsPrinted nodes commands output (length front) k x
   pub compared : (i j k l : ℕ) (x y : List ℕ) → IsPrinted nodes commands output i k x → IsPrinted nodes commands output j l y → (x ≡ y) ↔ SameSet (node_set nodes k) (node_set nodes l)
 
--- The same of the whole output of the script that the source had.
-abbrev pub HasComparedTexts : Option (List ℕ) → Option (List ℕ) → Option (List ℕ) → Option (List ℕ) → Type 0
-HasComparedTexts old new before after = (h : HasOutput old new before after) × AreTextsCompared h.nodes h.commands h.output
+-- The same of the whole output of the script that the words have run.
+abbrev pub HasComparedTexts : List (List ℕ) → Option (List ℕ) → Option (List ℕ) → Option (List ℕ) → Option (List ℕ) → Type 0
+HasComparedTexts words old new before after = (h : HasOutput words old new before after) × AreTextsCompared h.nodes h.commands h.output

@@ -15,6 +15,7 @@ mod laws;
 mod line;
 mod listing;
 mod operation;
+mod script;
 mod sets;
 mod status;
 mod stop;

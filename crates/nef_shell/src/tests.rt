@@ -13,6 +13,7 @@ use std::thread::Threads;
 
 mod compared;
 mod failing;
+mod generated;
 mod texts;
 
 // A script with `/` between its lines, and what it writes, in the same form.
@@ -364,6 +365,8 @@ fn words(rt: HostRuntime) -> Result<(), Fail> {
         ("--workers 0", false),
         ("--workers 65", false),
         ("--workers two", false),
+        ("--stairs 0", false),
+        ("--stairs 33", false),
         ("--board both", false),
         ("--colour red", false),
         ("--help", false),

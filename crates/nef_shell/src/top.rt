@@ -1,22 +1,23 @@
 //! The top call.
 
-ghost use Rattle.std.specs.Prelude.{◌≡◌, ◌≤◌, ◌⊎◌, ℕ, List, Some, map, string_bytes};
+ghost use Rattle.std.specs.Prelude.{◌≡◌, ◌≤◌, ◌⊎◌, ℕ, List, None, Some, IfSome, map, string_bytes};
 ghost use Rattle.nef_io.specs.Bytes.{Rose, Grows, GrowsWithin};
 ghost use Rattle.nef_script.specs.Refusal.{FirstRefusal, IsAccepted};
+ghost use Rattle.nef_script.specs.Stairs.{most_stairs};
 ghost use Rattle.nef_script.specs.declared.fault.ScriptKind.{ScriptKind as Kind};
 ghost use Rattle.nef_shell.specs.Status.{MatchStatus, IfDone, IfRefused, IfWords, IfReadFault, IfWriteFault, IfOutOfMemory, EndsDone, EndsRefused, EndsWords};
 ghost use Rattle.nef_shell.specs.Output.{refusal_line, words_line};
-ghost use Rattle.nef_shell.specs.Answers.{AreAccepted, HasOutput, HasRefusal, HasFront, HasDefinedFront};
+ghost use Rattle.nef_shell.specs.Answers.{AreAccepted, GiveStairs, HasOutput, HasRefusal, HasDefinedFront, HasEnded};
 ghost use Rattle.nef_shell.specs.Prints.{HasComparedTexts};
 
 use crate::line::refusal_line;
+use crate::script::{NoScript, script_for};
 use crate::status::Status;
 use crate::stop::Stop;
 use crate::work::work;
-use nef_core::How;
-use nef_io::{Gate, ReadAll, Sink, Source, put_all, read_all};
-use nef_script::{ScriptFault, ScriptKind, parse};
-use nef_words::{WordsFault, read_words};
+use nef_io::{Gate, Sink, Source, put_all};
+use nef_script::ScriptKind;
+use nef_words::{Options, WordsFault, read_words};
 use std::alloc::Global;
 use std::sync::Wait;
 use std::thread::Threads;
@@ -56,36 +57,27 @@ fn refuse_words<K: Sink>(sink: &mut K) -> Status
     }
 }
 
-// Reads the script, checks it, and works it.
+// Runs the script that the options choose: has it checked, and works it.
 fn run_script<R: Threads + Wait + Sync, S: Source, K: Sink, G: Gate + Sync>(
     rt: &R,
     alloc: Global,
-    how: &How,
+    options: &Options,
     source: &mut S,
     sink: &mut K,
     gate: &G,
 ) -> Status
-    requires workers { (1 ≤ how.now.workers) × (how.now.workers ≤ 64) }
-    ensures status { MatchStatus result
-        (HasOutput (S.rest source.old) (S.rest source.new) (K.written sink.old) (K.written sink.new))
-        (λ line kind. HasRefusal (S.rest source.old) (S.rest source.new) (K.written sink.old) (K.written sink.new) line kind)
-        ⊥
-        (Rose (S.faults source.old) (S.faults source.new) × (K.written sink.new ≡ K.written sink.old))
-        (Rose (K.faults sink.old) (K.faults sink.new) × HasFront (S.rest source.old) (S.rest source.new) (K.written sink.old) (K.written sink.new))
-        ((K.written sink.new ≡ K.written sink.old) ⊎ HasFront (S.rest source.old) (S.rest source.new) (K.written sink.old) (K.written sink.new)) }
+    requires workers { (1 ≤ options.now.how.workers) × (options.now.how.workers ≤ 64) }
+    requires stairs { IfSome options.now.stairs (λ n. (1 ≤ n) × (n ≤ most_stairs)) }
+    ensures status { (words : List (List ℕ)) → GiveStairs words options.now.stairs → HasEnded words result (S.rest source.old) (S.rest source.new) (K.written sink.old) (K.written sink.new) (S.faults source.old) (S.faults source.new) (K.faults sink.old) (K.faults sink.new) }
+    ensures unread { (n : ℕ) → options.now.stairs ≡ Some n → (S.rest source.new ≡ S.rest source.old) × (S.faults source.new ≡ S.faults source.old) }
 {
-    let bytes = match read_all(alloc, source) {
-        Ok(bytes) => bytes,
-        Err(ReadAll::ReadFault) => return Status::ReadFault,
-        Err(ReadAll::TooLong) => return refuse(alloc, sink, 0, ScriptKind::ScriptTooLong),
-        Err(ReadAll::OutOfMemory) => return Status::OutOfMemory,
-    };
-    let script = match parse(alloc, &bytes) {
+    let script = match script_for(alloc, options.stairs, source) {
         Ok(script) => script,
-        Err(ScriptFault::Refused { line, kind }) => return refuse(alloc, sink, line, kind),
-        Err(ScriptFault::OutOfMemory) => return Status::OutOfMemory,
+        Err(NoScript::ReadFault) => return Status::ReadFault,
+        Err(NoScript::Refused { line, kind }) => return refuse(alloc, sink, line, kind),
+        Err(NoScript::OutOfMemory) => return Status::OutOfMemory,
     };
-    match work(rt, alloc, &script, how, sink, gate) {
+    match work(rt, alloc, &script, &options.how, sink, gate) {
         Ok(()) => Status::Done,
         Err(Stop::WriteFault) => Status::WriteFault,
         Err(Stop::OutOfMemory) => Status::OutOfMemory,
@@ -95,18 +87,22 @@ fn run_script<R: Threads + Wait + Sync, S: Source, K: Sink, G: Gate + Sync>(
 /// Runs the program: reads the words and then the script, checks the whole script, and works its
 /// commands in order. What a command answers is handed to the sink when it is worked.
 ///
-/// `words` are those after the program's name. Each operation on sets goes through a board of the kind
-/// that they choose, by as many workers, and tells the gate of each job that a worker begins. What is
-/// written doesn't depend on them.
+/// `words` are those after the program's name. Where they give `--stairs N`, the script is the generated
+/// one of N boxes (`stairs` of `nef_script`), which is never refused, and the source isn't looked at;
+/// otherwise the script is what the source has. Each operation on sets goes through a board of the kind
+/// that the words choose, by as many workers, and tells the gate of each job that a worker begins. What
+/// is written doesn't depend on board, workers and gate.
 /// Sets mean what the CGAL manual, "3D Boolean Operations on Nef Polyhedra", says, within the frame.
 ///
-/// * `Done`: the sink took the output of the script and nothing else; the source is at its end. Of any
-///   two texts that are printed: they are equal exactly where their sets are the same.
-/// * `Refused`: the script is refused, and nothing was worked; the sink took exactly `line L: TEXT`
-///   and LF.
+/// * `Done`: the sink took the output of the script and nothing else; the source is at its end, or, with
+///   `--stairs`, as it was. Of any two texts that are printed: they are equal exactly where their sets
+///   are the same.
+/// * `Refused`: the words give no `--stairs`, the script is refused, and nothing was worked; the sink
+///   took exactly `line L: TEXT` and LF.
 /// * `Words`: the words are refused, and the sink took exactly `words refused` and LF. The source
 ///   wasn't looked at.
-/// * `ReadFault`: the source's count of faults rose, or stands at its last value; nothing was written.
+/// * `ReadFault`: the words give no `--stairs`, and the source's count of faults rose, or stands at its
+///   last value; nothing was written.
 /// * `WriteFault`: the sink's count of faults rose, or stands at its last value; the sink took some
 ///   front of what the words and the script define.
 /// * `OutOfMemory`: memory was wanted and not found; the sink took some front of it.
@@ -118,26 +114,27 @@ pub fn run<R: Threads + Wait + Sync, S: Source, K: Sink, G: Gate + Sync>(
     sink: &mut K,
     gate: &G,
 ) -> Status
-    ensures done { IfDone result (AreAccepted (map string_bytes words.now) × HasOutput (S.rest source.old) (S.rest source.new) (K.written sink.old) (K.written sink.new)) }
-    ensures refused { IfRefused result (λ line kind. AreAccepted (map string_bytes words.now) × HasRefusal (S.rest source.old) (S.rest source.new) (K.written sink.old) (K.written sink.new) line kind) }
+    ensures done { IfDone result (AreAccepted (map string_bytes words.now) × HasOutput (map string_bytes words.now) (S.rest source.old) (S.rest source.new) (K.written sink.old) (K.written sink.new)) }
+    ensures refused { IfRefused result (λ line kind. GiveStairs (map string_bytes words.now) None × HasRefusal (S.rest source.old) (S.rest source.new) (K.written sink.old) (K.written sink.new) line kind) }
     ensures words { IfWords result (¬ AreAccepted (map string_bytes words.now) × Grows (K.written sink.old) (K.written sink.new) words_line) }
-    ensures read_fault { IfReadFault result (AreAccepted (map string_bytes words.now) × Rose (S.faults source.old) (S.faults source.new) × (K.written sink.new ≡ K.written sink.old)) }
+    ensures read_fault { IfReadFault result (GiveStairs (map string_bytes words.now) None × Rose (S.faults source.old) (S.faults source.new) × (K.written sink.new ≡ K.written sink.old)) }
     ensures write_fault { IfWriteFault result (Rose (K.faults sink.old) (K.faults sink.new) × HasDefinedFront (map string_bytes words.now) (S.rest source.old) (S.rest source.new) (K.written sink.old) (K.written sink.new)) }
     ensures out_of_memory { IfOutOfMemory result ((K.written sink.new ≡ K.written sink.old) ⊎ HasDefinedFront (map string_bytes words.now) (S.rest source.old) (S.rest source.new) (K.written sink.old) (K.written sink.new)) }
 
     // Of any two texts that are printed: they are equal exactly where their sets are the same.
-    ensures compared { IfDone result (HasComparedTexts (S.rest source.old) (S.rest source.new) (K.written sink.old) (K.written sink.new)) }
+    ensures compared { IfDone result (HasComparedTexts (map string_bytes words.now) (S.rest source.old) (S.rest source.new) (K.written sink.old) (K.written sink.new)) }
 
-    // Refused words are looked at first, and alone.
-    ensures unread { ¬ AreAccepted (map string_bytes words.now) → (S.rest source.new ≡ S.rest source.old) × (S.faults source.new ≡ S.faults source.old) }
+    // The source is looked at only where the words are accepted and give no `--stairs`.
+    ensures unread { ¬ GiveStairs (map string_bytes words.now) None → (S.rest source.new ≡ S.rest source.old) × (S.faults source.new ≡ S.faults source.old) }
 
     // Where no count rises, each status comes where its cause holds, unless memory is wanted.
-    ensures finishes { AreAccepted (map string_bytes words.now) → (bytes : List ℕ) → S.rest source.old ≡ Some bytes → IsAccepted bytes → ¬ Rose (S.faults source.old) (S.faults source.new) → ¬ Rose (K.faults sink.old) (K.faults sink.new) → EndsDone result }
-    ensures refuses { AreAccepted (map string_bytes words.now) → (bytes : List ℕ) (line : ℕ) (kind : Kind) → S.rest source.old ≡ Some bytes → FirstRefusal bytes line kind → ¬ Rose (S.faults source.old) (S.faults source.new) → ¬ Rose (K.faults sink.old) (K.faults sink.new) → EndsRefused result line kind }
+    ensures finishes { GiveStairs (map string_bytes words.now) None → (bytes : List ℕ) → S.rest source.old ≡ Some bytes → IsAccepted bytes → ¬ Rose (S.faults source.old) (S.faults source.new) → ¬ Rose (K.faults sink.old) (K.faults sink.new) → EndsDone result }
+    ensures finishes_stairs { (n : ℕ) → GiveStairs (map string_bytes words.now) (Some n) → ¬ Rose (K.faults sink.old) (K.faults sink.new) → EndsDone result }
+    ensures refuses { GiveStairs (map string_bytes words.now) None → (bytes : List ℕ) (line : ℕ) (kind : Kind) → S.rest source.old ≡ Some bytes → FirstRefusal bytes line kind → ¬ Rose (S.faults source.old) (S.faults source.new) → ¬ Rose (K.faults sink.old) (K.faults sink.new) → EndsRefused result line kind }
     ensures refuses_words { ¬ AreAccepted (map string_bytes words.now) → ¬ Rose (K.faults sink.old) (K.faults sink.new) → EndsWords result }
 {
     match read_words(alloc, words) {
-        Ok(options) => run_script(rt, alloc, &options.how, source, sink, gate),
+        Ok(options) => run_script(rt, alloc, &options, source, sink, gate),
         Err(WordsFault::Refused) => refuse_words(sink),
         Err(WordsFault::OutOfMemory) => Status::OutOfMemory,
     }

@@ -34,6 +34,10 @@ default_workers = 1
 abbrev pub most_workers : ℕ
 most_workers = 64
 
+-- the greatest number of boxes of the generated script
+abbrev pub most_stairs : ℕ
+most_stairs = 32
+
 -- the number of workers that a value gives
 abbrev pub workers_of : Option Text → Option ℕ
 workers_of None = Some default_workers
@@ -44,14 +48,20 @@ abbrev pub board_of : Option Text → Option BoardKind
 board_of None = Some Lock
 board_of (Some text) = if bytes_eq text (codes "lock") then Some Lock else (if bytes_eq text (codes "free") then Some Free else None)
 
--- the options, where both values have their form
-abbrev pub options_from : Option ℕ → Option BoardKind → Option Options
-options_from None board = None
-options_from (Some workers) None = None
-options_from (Some workers) (Some board) = Some (record { how = record { workers = workers; board = board }; stairs = None })
+-- the number of boxes that a value gives, and no number where none is given
+abbrev pub stairs_of : Option Text → Option (Option ℕ)
+stairs_of None = Some None
+stairs_of (Some text) = option_map (λ n. Some n) (number_to most_stairs text)
 
-abbrev pub options_of_values : Option Text → Option Text → Option Options
-options_of_values workers board = options_from (workers_of workers) (board_of board)
+-- the options, where the values have their form
+abbrev pub options_from : Option ℕ → Option BoardKind → Option (Option ℕ) → Option Options
+options_from None board stairs = None
+options_from (Some workers) None stairs = None
+options_from (Some workers) (Some board) None = None
+options_from (Some workers) (Some board) (Some stairs) = Some (record { how = record { workers = workers; board = board }; stairs = stairs })
+
+abbrev pub options_of_values : Option Text → Option Text → Option Text → Option Options
+options_of_values workers board stairs = options_from (workers_of workers) (board_of board) (stairs_of stairs)
 
 -- the options, where the words have no fault
 abbrev pub if_taken : Kinds → Option Options → Option Options
@@ -60,7 +70,7 @@ if_taken (k ∷ ks) options = None
 
 -- the options that the words choose: where the command takes the words, and each value has its form
 unfoldable pub options_of : List Text → Option Options
-options_of words = if_taken (fault_of usage words) (options_of_values (given (codes "workers") words) (given (codes "board") words))
+options_of words = if_taken (fault_of usage words) (options_of_values (given (codes "workers") words) (given (codes "board") words) (given (codes "stairs") words))
 
 -- the text behind an optional reference
 abbrev pub text_in : Option (Bor (List ℕ)) → Option Text

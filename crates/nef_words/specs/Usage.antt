@@ -1,4 +1,4 @@
--- The command that the words are read as: two options, each of which takes one value.
+-- The command that the words are read as: three options, each of which takes one value.
 use Rattle.std.specs.Prelude.{true, List, Some, Option, codes}
 use Rattle.clap.specs.Words.{App, Rule, Text, first_of, matches_of, new_app, new_rule, with_rule}
 use Rattle.clap.specs.declared.builder.ArgAction.TheVariants.{Set}
@@ -12,7 +12,7 @@ abbrev pub without_name : App → App
 without_name a = record a { top = record a.top { no_binary_name = true } }
 
 abbrev pub usage : App
-usage = with_rule (with_rule (without_name (new_app (codes "nef"))) (option_named (codes "workers"))) (option_named (codes "board"))
+usage = with_rule (with_rule (with_rule (without_name (new_app (codes "nef"))) (option_named (codes "workers"))) (option_named (codes "board"))) (option_named (codes "stairs"))
 
 -- the value that the words give an option
 abbrev pub given : Text → List Text → Option Text

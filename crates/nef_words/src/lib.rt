@@ -1,6 +1,6 @@
 //! The words of the command line.
 //!
-//! They are read as one simple command with two options, each of which takes one value. The options
+//! They are read as one simple command with three options, each of which takes one value. The options
 //! are a function of the words.
 #![tactic(auto)]
 
@@ -10,5 +10,5 @@ mod options;
 mod tests;
 mod words;
 
-pub use options::{DEFAULT_WORKERS, MOST_WORKERS, Options, WordsFault};
+pub use options::{DEFAULT_WORKERS, MOST_STAIRS, MOST_WORKERS, Options, WordsFault};
 pub use words::read_words;

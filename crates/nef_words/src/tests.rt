@@ -18,6 +18,16 @@ fn options(workers: u32, board: BoardKind) -> Result<Options, WordsFault> {
     })
 }
 
+// The options of one worker, with so many boxes of the generated script.
+fn boxes(count: u32) -> Result<Options, WordsFault> {
+    let workers = 1;
+    let board = BoardKind::Lock;
+    Ok(Options {
+        how: How { workers, board },
+        stairs: Some(count),
+    })
+}
+
 #[test]
 fn accepted_words(rt: HostRuntime) -> Result<(), Fail> {
     let alloc = rt.alloc();
@@ -55,6 +65,41 @@ fn refused_numbers(rt: HostRuntime) -> Result<(), Fail> {
 }
 
 #[test]
+fn accepted_stairs(rt: HostRuntime) -> Result<(), Fail> {
+    let alloc = rt.alloc();
+    assert_eq!(rt; read(alloc, &["--stairs", "1"])?, boxes(1));
+    assert_eq!(rt; read(alloc, &["--stairs", "32"])?, boxes(32));
+    assert_eq!(rt; read(alloc, &["--stairs", "007"])?, boxes(7));
+    assert_eq!(rt; read(alloc, &["--stairs=5"])?, boxes(5));
+    let all = ["--stairs=2", "--board", "free", "--workers", "3"];
+    let (workers, board) = (3, BoardKind::Free);
+    let chosen = Options {
+        how: How { workers, board },
+        stairs: Some(2),
+    };
+    assert_eq!(rt; read(alloc, &all)?, Ok(chosen));
+    Ok(())
+}
+
+#[test]
+fn refused_stairs(rt: HostRuntime) -> Result<(), Fail> {
+    let alloc = rt.alloc();
+    let refused = Err(WordsFault::Refused);
+    let huge = "340282366920938463463374607431768211457";
+    for number in ["0", "33", huge, "", "x", "-1"] {
+        let words = ["--stairs", number];
+        assert_eq!(rt; read(alloc, &words)?, refused, "{number}");
+    }
+    for word in ["--stairs", "--stairs=", "--stair=2"] {
+        assert_eq!(rt; read(alloc, &[word])?, refused, "{word}");
+    }
+    let twice = ["--stairs", "2", "--stairs", "2"];
+    assert_eq!(rt; read(alloc, &twice)?, refused);
+    assert_eq!(rt; read(alloc, &["--stairs", "--workers", "2"])?, refused);
+    Ok(())
+}
+
+#[test]
 fn refused_words(rt: HostRuntime) -> Result<(), Fail> {
     let alloc = rt.alloc();
     let refused = Err(WordsFault::Refused);
@@ -74,7 +119,6 @@ fn refused_words(rt: HostRuntime) -> Result<(), Fail> {
     assert_eq!(rt; read(alloc, &["--board", "both"])?, refused);
     assert_eq!(rt; read(alloc, &["--board", "Lock"])?, refused);
     assert_eq!(rt; read(alloc, &["--colour", "red"])?, refused);
-    assert_eq!(rt; read(alloc, &["--stairs", "2"])?, refused);
     assert_eq!(rt;
         read(alloc, &["--workers", "2", "--workers", "3"])?,
         refused

@@ -2,10 +2,10 @@
 ghost use Rattle.std.specs.Prelude.{◌≡◌, ◌≤◌, [], Some, None, IfOk, IfErr, IfSome, MatchResult, map, string_bytes};
 ghost use Rattle.clap.specs.Words.{fault_of, found_of, matches_of, rows_of, HasKind};
 ghost use Rattle.nef_words.specs.Usage.{usage};
-ghost use Rattle.nef_words.specs.Chosen.{options_of, options_of_values, text_in};
+ghost use Rattle.nef_words.specs.Chosen.{most_stairs, options_of, options_of_values, text_in};
 
 use crate::number::read_number;
-use crate::options::{DEFAULT_WORKERS, MOST_WORKERS, Options, WordsFault};
+use crate::options::{DEFAULT_WORKERS, MOST_STAIRS, MOST_WORKERS, Options, WordsFault};
 use clap::error::ErrorKind;
 use clap::{Arg, ArgAction, ArgMatches, Command, Error};
 use nef_core::{BoardKind, How};
@@ -22,17 +22,22 @@ fn matched<'a>(alloc: Global, words: &'a [String]) -> Result<ArgMatches<'a>, Err
     let board = Arg::new(alloc, "board")
         .long("board")
         .action(ArgAction::Set);
+    let stairs = Arg::new(alloc, "stairs")
+        .long("stairs")
+        .action(ArgAction::Set);
     let command = Command::new(alloc, "nef")
         .no_binary_name(true)
         .arg(workers)?
-        .arg(board)?;
+        .arg(board)?
+        .arg(stairs)?;
     command.try_get_matches_from(words)
 }
 
-// The options that two values choose, where each has its form.
-fn chosen(workers: Option<&str>, board: Option<&str>) -> Option<Options>
-    ensures options { result ≡ options_of_values (text_in workers.entry) (text_in board.entry) }
+// The options that three values choose, where each has its form.
+fn chosen(workers: Option<&str>, board: Option<&str>, stairs: Option<&str>) -> Option<Options>
+    ensures options { result ≡ options_of_values (text_in workers.entry) (text_in board.entry) (text_in stairs.entry) }
     ensures workers { IfSome result (λ o. (1 ≤ o.how.workers) × (o.how.workers ≤ 64)) }
+    ensures stairs { IfSome result (λ o. IfSome o.stairs (λ n. (1 ≤ n) × (n ≤ most_stairs))) }
 {
     let workers = match workers {
         None => DEFAULT_WORKERS,
@@ -43,21 +48,27 @@ fn chosen(workers: Option<&str>, board: Option<&str>) -> Option<Options>
         Some("free") => BoardKind::Free,
         Some(_) => return None,
     };
+    let stairs = match stairs {
+        None => None,
+        Some(text) => Some(read_number(text.as_bytes(), MOST_STAIRS)?),
+    };
     Some(Options {
         how: How { workers, board },
-        stairs: None,
+        stairs,
     })
 }
 
 /// The options that the words choose. `words` are those after the program's name.
 ///
 /// `--workers` takes a number from 1 to [`MOST_WORKERS`], and is [`DEFAULT_WORKERS`] where it isn't
-/// given. `--board` takes `lock` or `free`, and is `lock` where it isn't given. `Refused` comes exactly
-/// where the words aren't those of a command with these two options, or a value isn't of its form; a
-/// word for help or for the version is no such word.
+/// given. `--board` takes `lock` or `free`, and is `lock` where it isn't given. `--stairs` takes a number
+/// from 1 to [`MOST_STAIRS`], and is `None` where it isn't given. A number is one or more digits.
+/// `Refused` comes exactly where the words aren't those of a command with these three options, each given
+/// once at most, or a value isn't of its form; a word for help or for the version is no such word.
 pub fn read_words(alloc: Global, words: &[String]) -> Result<Options, WordsFault>
     ensures accepted { IfOk result (λ options. options_of (map string_bytes words.now) ≡ Some options) }
     ensures workers { IfOk result (λ o. (1 ≤ o.how.workers) × (o.how.workers ≤ 64)) }
+    ensures stairs { IfOk result (λ o. IfSome o.stairs (λ n. (1 ≤ n) × (n ≤ most_stairs))) }
     ensures refused { result ≡ Err WordsFault.Refused → options_of (map string_bytes words.now) ≡ None }
 {
     let matches = match matched(alloc, words) {
@@ -71,7 +82,8 @@ pub fn read_words(alloc: Global, words: &[String]) -> Result<Options, WordsFault
     };
     let workers = matches.get_str("workers");
     let board = matches.get_str("board");
-    match chosen(workers, board) {
+    let stairs = matches.get_str("stairs");
+    match chosen(workers, board, stairs) {
         Some(options) => Ok(options),
         None => Err(WordsFault::Refused),
     }

@@ -65,7 +65,7 @@ const PLATE: &str = "half Pa -1 0 0 -10 closed / half Pb 1 0 0 -10 closed / \
 const PLATE_OPENING: &str = "28 42 18 3 / not / in / in / polyhedron K / nef3 1 28 42 18 3";
 
 // Whether the part with the number that stands before it is this one.
-fn has_part(alloc: Global, text: &str, part: &str) -> Result<bool, Fail> {
+pub fn has_part(alloc: Global, text: &str, part: &str) -> Result<bool, Fail> {
     let Some((number, lines)) = part.split_once(' ') else {
         return Ok(false);
     };
