@@ -29,23 +29,35 @@ fn ended<R: Threads + Wait + Sync, S: Source>(
     Ok((status, written))
 }
 
-// The source still has its script afterwards.
-#[test]
-fn source_stays(rt: HostRuntime) -> Result<(), Fail> {
-    let alloc = rt.alloc();
-    let kind = ScriptKind::UnknownCommand;
-    for (boxes, counts) in [
-        ("1", "16 24 12 3\n"),
-        ("2", "28 42 18 3\n"),
-        ("32", "388 582 198 3\n"),
-    ] {
-        let mut source = SureSource::new(alloc, b"ball A\n")?;
-        let (status, written) = ended(&rt, alloc, &["--stairs", boxes], &mut source)?;
-        assert_eq!(rt; status, Status::Done, "{boxes}");
-        assert_eq!(rt; written.as_slice(), counts.as_bytes(), "{boxes}");
-        let (status, _) = ended(&rt, alloc, &[], &mut source)?;
-        assert_eq!(rt; status, Status::Refused { line: 1, kind }, "{boxes}");
+// Whether the generated script of so many boxes gives these numbers, and the source still has its script
+// afterwards.
+fn leaves_source<R: Threads + Wait + Sync>(
+    rt: &R,
+    alloc: Global,
+    boxes: &str,
+    counts: &str,
+) -> Result<bool, AllocError> {
+    let mut source = SureSource::new(alloc, b"ball A\n")?;
+    let (status, written) = ended(rt, alloc, &["--stairs", boxes], &mut source)?;
+    if status != Status::Done || written.as_slice() != counts.as_bytes() {
+        return Ok(false);
     }
+    let (status, _) = ended(rt, alloc, &[], &mut source)?;
+    let kind = ScriptKind::UnknownCommand;
+    Ok(status == Status::Refused { line: 1, kind })
+}
+
+#[test]
+fn few_boxes(rt: HostRuntime) -> Result<(), Fail> {
+    let alloc = rt.alloc();
+    assert!(rt; leaves_source(&rt, alloc, "1", "16 24 12 3\n")?);
+    assert!(rt; leaves_source(&rt, alloc, "2", "28 42 18 3\n")?);
+    Ok(())
+}
+
+#[test]
+fn most_boxes(rt: HostRuntime) -> Result<(), Fail> {
+    assert!(rt; leaves_source(&rt, rt.alloc(), "32", "388 582 198 3\n")?);
     Ok(())
 }
 
