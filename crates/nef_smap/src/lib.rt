@@ -31,5 +31,5 @@ pub use map::{RawStars, SArc, SLoop, SPlace, SVertex, SphereMap};
 pub use sface::sfaces;
 pub use side::{side_label, sides};
 pub use simple::{face_map, plane_map};
-pub use stars::star_at;
+pub use stars::{star_at, star_in};
 pub use std::alloc::AllocError as OutOfMemory;

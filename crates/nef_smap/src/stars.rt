@@ -142,8 +142,9 @@ fn star_at_svertex(
     round(alloc, *d, svertex.mark, ends.as_slice())
 }
 
-// The star of a direction that lies at this place.
-fn star_in(alloc: Global, map: &SphereMap, d: &Dir, place: SPlace) -> Result<Star, OutOfMemory>
+/// The star of a direction of the map that lies at this place, which isn't looked for: each direction close to it has
+/// the label that the star gives it. `OutOfMemory` says that memory was wanted and not found.
+pub fn star_in(alloc: Global, map: &SphereMap, d: &Dir, place: SPlace) -> Result<Star, OutOfMemory>
     requires map { IsSphereMap map.now }
     requires small { IsAtMost svertex_limit (vector_of d.now) }
     requires place { IsPlaceOf (map_of map.now) (vector_of d.now) place }

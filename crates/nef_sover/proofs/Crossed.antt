@@ -1,21 +1,21 @@
 -- The axes of an overlay are the svertices and the meets of items.
-use Rattle.std.proofs.Common.{◌↔◌, List, [], arith, sym, subst, inl, inr, ◌⊎◌}
+use Rattle.std.proofs.Common.{List, [], Some, None, arith, refl, sym, subst, inl, inr, ◌⊎◌}
 use Rattle.std.specs.List.{Contains}
-use Rattle.nef_space.specs.Limits.{svertex_limit}
-use Rattle.nef_space.specs.Vectors.{Vector, IsAtMost, IsDirection, cross}
+use Rattle.nef_space.specs.Vectors.{Vector, IsDirection, SameDirection, cross}
 use Rattle.nef_geo.specs.Shapes.{vector_of}
 use Rattle.nef_geo.specs.declared.dir.Dir.{Dir}
 use Rattle.nef_sphere.specs.Maps.{Map, items, item_normal}
-use Rattle.nef_build.specs.Overlays.{OnSvertex, IsCrossing, IsAxis}
+use Rattle.nef_build.specs.Overlays.{IsCrossing, IsAxis}
+use Rattle.nef_sover.specs.declared.axes.Axis.{Axis}
 use Rattle.nef_sover.specs.declared.items.Item.{Item}
-use Rattle.nef_sover.specs.Items.{normal_of, IsItemOf, AreItems}
-use Rattle.nef_sover.specs.Axes.{Adds, AreInOrder, AreAxes, MeetsSome}
+use Rattle.nef_sover.specs.Items.{normal_of, place_of, IsItemOf, AreItems}
+use Rattle.nef_sover.specs.Axes.{Crossed, Adds, HasDirection, HasEachOf, AreInOrder, AreAxes, IsOnSvertex, IsPlaced, MeetsSome}
 use Rattle.nef_sover.proofs.Places.{zip-first, zip-second}
-use Rattle.nef_sover.proofs.Adding.{adds-both, has-more}
+use Rattle.nef_sover.proofs.Adding.{IsNew, adds-both}
 
 module _ (A B : Map) (xs ys : List Item) (I : AreItems A xs) (J : AreItems B ys) where
-  pub meet-crossing : (d : Vector) → MeetsSome xs ys d → IsCrossing A B d
-  meet-crossing d (i, x, a, m) =
+  meet-crossing : (c : Crossed) (d : Vector) → MeetsSome xs ys c d → IsCrossing A B d
+  meet-crossing c d (i, x, a, m) =
       let p = zip-second (IsItemOf A) xs (items A) i x I a in
       let q = zip-second (IsItemOf B) ys (items B) m.0 m.1 J m.2 in
       let b = m.3 in let o = b.0 in record {
@@ -30,38 +30,57 @@ module _ (A B : Map) (xs ys : List Item) (I : AreItems A xs) (J : AreItems B ys)
         on_y = (q.2.on d).0 o.1;
       }
 
-  pub crossing-meet : (d : Vector) → IsCrossing A B d → MeetsSome xs ys d
+  -- it lies at the places of both items
+  meet-placed : (c : Crossed) (d : Vector) → MeetsSome xs ys c d → IsPlaced A B c d
+  meet-placed c d (i, x, a, m) =
+      let p = zip-second (IsItemOf A) xs (items A) i x I a in
+      let q = zip-second (IsItemOf B) ys (items B) m.0 m.1 J m.2 in
+      let b = m.3 in let o = b.0 in
+      subst (λ (e : Crossed). IsPlaced A B e d) (sym b.2) (p.2.place d ((p.2.on d).0 o.0), q.2.place d ((q.2.on d).0 o.1))
+
+  crossing-meet : (d : Vector) → IsCrossing A B d → (c : Crossed) × MeetsSome xs ys c d
   crossing-meet d c =
       let p = zip-first (IsItemOf A) xs (items A) c.i c.x I c.of_a in
       let q = zip-first (IsItemOf B) ys (items B) c.k c.y J c.of_b in
       let apart = subst (λ (v : Vector). IsDirection (cross (normal_of p.0) v)) (sym q.2.normal) (subst (λ (v : Vector). IsDirection (cross v (item_normal c.y))) (sym p.2.normal) c.apart) in
-      (c.i, p.0, p.1, (c.k, q.0, q.1, (((p.2.on d).1 c.on_x, (q.2.on d).1 c.on_y), apart)))
+      (Some (place_of p.0, place_of q.0), (c.i, p.0, p.1, (c.k, q.0, q.1, (((p.2.on d).1 c.on_x, (q.2.on d).1 c.on_y), apart, refl))))
 
-  module _ (ds es fs gs : List Dir) (a : Adds (OnSvertex A) ds es) (b : Adds (OnSvertex B) es fs) (m : Adds (MeetsSome xs ys) fs gs) where
-    abbrev OnEither : Vector → Type 0
-    OnEither d = OnSvertex A d ⊎ OnSvertex B d
+  -- a svertex, or a direction in which two items meet, which are named
+  abbrev pub IsFound : Crossed → Vector → Type 0
+  IsFound c d = (IsOnSvertex A c d ⊎ IsOnSvertex B c d) ⊎ MeetsSome xs ys c d
 
-    pub axes-added : Adds (IsAxis A B) ds gs
-    axes-added = adds-both OnEither (MeetsSome xs ys) (IsAxis A B) ds fs gs (adds-both (OnSvertex A) (OnSvertex B) OnEither ds es fs a b (λ d h. h) (λ d h. h)) m forth back
-      where
-        forth : (d : Vector) → OnEither d ⊎ MeetsSome xs ys d → IsAxis A B d
-        forth d (inl (inl h)) = inl h
-        forth d (inl (inr h)) = inr (inl h)
-        forth d (inr h) = inr (inr (meet-crossing d h))
+  pub all-found : (ds es fs gs : List Axis) → Adds (IsOnSvertex A) ds es → Adds (IsOnSvertex B) es fs → Adds (MeetsSome xs ys) fs gs → Adds IsFound ds gs
+  all-found ds es fs gs a b m =
+      let OnEither : Crossed → Vector → Type 0 = λ c d. IsOnSvertex A c d ⊎ IsOnSvertex B c d in
+      adds-both OnEither (MeetsSome xs ys) IsFound ds fs gs (adds-both (IsOnSvertex A) (IsOnSvertex B) OnEither ds es fs a b (λ c d h. h) (λ c d h. h)) m (λ c d h. h) (λ c d h. h)
 
-        back : (d : Vector) → IsAxis A B d → OnEither d ⊎ MeetsSome xs ys d
-        back d (inl h) = inl (inl h)
-        back d (inr (inl h)) = inl (inr h)
-        back d (inr (inr h)) = inr (crossing-meet d h)
+  found-axis : (c : Crossed) (d : Vector) → IsFound c d → IsAxis A B d
+  found-axis c d (inl (inl h)) = inl h.0
+  found-axis c d (inl (inr h)) = inr (inl h.0)
+  found-axis c d (inr h) = inr (inr (meet-crossing c d h))
 
-pub axes-are : (A B : Map) (gs hs : List Dir) → Adds (IsAxis A B) [] gs → AreInOrder hs → ((d : Dir) → Contains gs d ↔ Contains hs d) → AreAxes A B hs
-axes-are A B gs hs a o s = record {
-  ordered = o;
-  small = λ e h. let p = new e (a.added e ((s e).1 h)) in p.1;
-  axis = λ e h. let p = new e (a.added e ((s e).1 h)) in p.0;
-  all = λ d x. has-more gs hs (λ e h. (s e).0 h) d (a.all d x);
-}
-  where
-    new : (e : Dir) → Contains [] e ⊎ (IsAxis A B (vector_of e) × IsAtMost svertex_limit (vector_of e)) → IsAxis A B (vector_of e) × IsAtMost svertex_limit (vector_of e)
-    new e (inl (k, h, q)) = absurd (omega (arith, h))
-    new e (inr p) = p
+  found-placed : (c : Crossed) (d : Vector) → IsFound c d → IsPlaced A B c d
+  found-placed c d (inl (inl h)) = subst (λ (e : Crossed). IsPlaced A B e d) (sym h.1) tt
+  found-placed c d (inl (inr h)) = subst (λ (e : Crossed). IsPlaced A B e d) (sym h.1) tt
+  found-placed c d (inr h) = meet-placed c d h
+
+  axis-found : (d : Vector) → IsAxis A B d → (c : Crossed) × IsFound c d
+  axis-found d (inl h) = (None, inl (inl (h, refl)))
+  axis-found d (inr (inl h)) = (None, inl (inr (h, refl)))
+  axis-found d (inr (inr h)) = let m = crossing-meet d h in (m.0, inr m.1)
+
+  pub axes-are : (gs hs : List Axis) → Adds IsFound [] gs → AreInOrder hs → HasEachOf gs hs → AreAxes A B hs
+  axes-are gs hs a o s = record {
+    ordered = o;
+    small = λ e h. let p = new e (a.added e (s.among e h)) in p.1;
+    axis = λ e h. let p = new e (a.added e (s.among e h)) in found-axis e.crossed (vector_of e.dir) p.0;
+    all = λ d x. let f = axis-found d x in still d (a.all f.0 d f.1);
+    placed = λ e h. let p = new e (a.added e (s.among e h)) in found-placed e.crossed (vector_of e.dir) p.0;
+  }
+    where
+      new : (e : Axis) → Contains [] e ⊎ IsNew IsFound e → IsNew IsFound e
+      new e (inl (k, h, q)) = absurd (omega (arith, h))
+      new e (inr p) = p
+
+      still : (d : Vector) → HasDirection gs d → HasDirection hs d
+      still d (e, h, w) = let f = s.each e h in (f.0, f.1, subst (λ (v : Dir). SameDirection (vector_of v) d) (sym f.2) w)

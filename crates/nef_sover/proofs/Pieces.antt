@@ -47,10 +47,11 @@ module _ (m : SphereMap) (S : IsSphereMap m) (k : ℕ) (a : SArc) (h : k < lengt
     pub target-level : dot (vector_of a.normal) (vector_of t.dir) ≡ pos 0
     target-level = subst (λ (v : Svertex). dot (vector_of a.normal) v.way ≡ pos 0) (at-one (map_of m).svertices a.target ends.target (svertex_of t) ends.has_target target-at) ends.level_target
 
-    pub arc-is : (w : WayArc) → w.source ≡ s.dir → w.target ≡ t.dir → w.normal ≡ a.normal → (p : PlainArc) → At (map_of m).arcs k p → IsItemOf (map_of m) (Arc w) (arc_item p)
-    arc-is w ws wt wn p q = subst (λ (r : PlainArc). IsItemOf (map_of m) (Arc w) (arc_item r)) (at-one (map_of m).arcs k (arc_of a) p listed q) (record {
+    pub arc-is : (w : WayArc) → w.source ≡ s.dir → w.target ≡ t.dir → w.normal ≡ a.normal → (p : PlainArc) → At (map_of m).arcs k p → IsItemOf (map_of m) (Arc k w) (arc_item p)
+    arc-is w ws wt wn p q = subst (λ (r : PlainArc). IsItemOf (map_of m) (Arc k w) (arc_item r)) (at-one (map_of m).arcs k (arc_of a) p listed q) (record {
       normal = ap vector_of wn;
       on = λ d. (λ o. forth d o, λ o. back d o);
+      place = λ d o. (arc_of a, listed, o);
     })
       where
         n : vector_of w.normal ≡ vector_of a.normal
@@ -96,7 +97,7 @@ module _ (m : SphereMap) (k : ℕ) (is : List Item) (F : AreFirst m k is) (all :
 
   pub items-with : (l : SLoop) → m.sloop ≡ Some l → AreItems (map_of m) (is ++ Sloop l.normal ∷ [])
   items-with l e = whole (is ++ Sloop l.normal ∷ []) (Some (loop_of l)) (zip-append (IsItemOf (map_of m)) is (map arc_item (map_of m).arcs) (Sloop l.normal ∷ []) (loop_item (loop_of l) ∷ []) arcs-are
-      (record { normal = refl; on = λ d. (λ o. o, λ o. o) }, tt)) (ap (option_map loop_of) e)
+      (record { normal = refl; on = λ d. (λ o. o, λ o. o); place = λ d o. (loop_of l, ap (option_map loop_of) e, o) }, tt)) (ap (option_map loop_of) e)
 
 pub items-small : (m : SphereMap) (is : List Item) → IsSphereMap m → AreItems (map_of m) is → AreSmall is
 items-small m is S z k i h = let x = zip-second (IsItemOf (map_of m)) is (items (map_of m)) k i z h in subst (IsAtMost normal_limit) (sym x.2.normal) (S.small.normals k x.0 x.1)

@@ -19,6 +19,7 @@ use Rattle.nef_smap.specs.declared.map.SphereMap.{SphereMap}
 use Rattle.nef_smap.specs.Maps.{loop_of, map_of, IsSphereMap}
 use Rattle.nef_smap.proofs.Primitive.{dir-primitive}
 use Rattle.nef_smap.proofs.WellFormed.{dir-equal}
+use Rattle.nef_sover.specs.declared.axes.Axis.{Axis}
 use Rattle.nef_sover.specs.Axes.{AreAxes}
 use Rattle.nef_sover.specs.Circles.{AreOff, IsUncrossed, HasLabels, HasOpLabels, IsLoneNormal}
 use Rattle.nef_sover.proofs.Bare.{one-label, near-circle, free-circle, loop-mark, loop-above, loop-below}
@@ -36,7 +37,7 @@ loop-from (Some s) l e = (s, refl, some_is e)
     some_is {x} e = ap (get x) e
 
 -- ---- the lone normal
-module _ (a b : SphereMap) (ds : List Dir) (X : AreAxes (map_of a) (map_of b) ds) where
+module _ (a b : SphereMap) (ds : List Axis) (X : AreAxes (map_of a) (map_of b) ds) where
   abbrev A : Map
   A = map_of a
 
@@ -44,10 +45,10 @@ module _ (a b : SphereMap) (ds : List Dir) (X : AreAxes (map_of a) (map_of b) ds
   B = map_of b
 
   off-axes : (n : Vector) → AreOff ds n → (d : Vector) → IsOnCircle n d → IsAxis A B d → ⊥
-  off-axes n off d o x = let e = X.all d x in off e.0 e.1 (level-same n d (vector_of e.0) (same-sym (vector_of e.0) d e.2) o.level)
+  off-axes n off d o x = let e = X.all d x in off e.0 e.1 (level-same n d (vector_of e.0.dir) (same-sym (vector_of e.0.dir) d e.2) o.level)
 
   axes-off : (n : Vector) → ((d : Vector) → IsOnCircle n d → IsAxis A B d → ⊥) → AreOff ds n
-  axes-off n off e c z = off (vector_of e) (record { direction = e.some; level = z }) (X.axis e c)
+  axes-off n off e c z = off (vector_of e.dir) (record { direction = e.dir.some; level = z }) (X.axis e c)
 
   lone-of : (m : SphereMap) → IsSphereMap m → (s : SLoop) (n : Dir) → m.sloop ≡ Some s → s.normal ≡ n → AreOff ds (vector_of n)
       → ((map_of m).loop ≡ Some (loop_of s) → (A.loop ≡ Some (loop_of s)) ⊎ (B.loop ≡ Some (loop_of s))) → IsLoneNormal A B n

@@ -1,13 +1,13 @@
--- Directions sorted, each once.
+-- Axes sorted by their directions, one of each.
 use Rattle.std.proofs.Common.{◌≡◌, ℕ, zero, suc, List, [], ◌∷◌, Bool, true, false, arith, refl, sym, subst}
 use Rattle.std.specs.Ordering.{eq_by_cmp, is_eq, MatchOrdering}
 use Rattle.std.specs.Cmp.{IsTotalOrder, IsEquivalence}
-use Rattle.std.specs.List.{Contains, AllByRecursion, dedup}
+use Rattle.std.specs.List.{AllByRecursion, dedup}
 use Rattle.std.specs.List.Sorted.{IsStrictlySortedBy, IsSorted, IsPermutation}
 use Rattle.std.specs.declared.cmp.Ordering.{Ordering}
 use Rattle.std.specs.declared.cmp.Ordering.TheVariants.{Less, Equal, Greater}
 use Rattle.std.proofs.lemmas.Cmp.{int_cmp_total, int_eq_equiv, on_total, then_total, on_equiv, and_equiv, tied_itself}
-use Rattle.std.proofs.lemmas.List.Kept.{Contains-dedup, Contains-from_dedup, IsStrictlySortedBy-dedup}
+use Rattle.std.proofs.lemmas.List.Kept.{Any-dedup, Contains-from_dedup, IsStrictlySortedBy-dedup}
 use Rattle.std.proofs.lemmas.List.Sorted.{Contains-permutation, IsPermutation-sym}
 use Rattle.std.proofs.lemmas.Map.Keys.{sorted_head, sorted_tail}
 use Rattle.nef_space.specs.Vectors.{triple_of, SameDirection}
@@ -21,7 +21,8 @@ use Rattle.nef_arc.proofs.Ways.{equal_test, same_if_equal, apart_if_unequal}
 use Rattle.nef_sphere.specs.Vectors.{VectorBelow}
 use Rattle.nef_sphere.specs.Maps.{At}
 use Rattle.nef_smap.proofs.WellFormed.{below-vectors}
-use Rattle.nef_sover.specs.Axes.{AreInOrder}
+use Rattle.nef_sover.specs.declared.axes.Axis.{Axis}
+use Rattle.nef_sover.specs.Axes.{AreInOrder, HasEachOf}
 
 dir_total : IsTotalOrder dir_order
 dir_total = then_total (on_total (λ (d : Dir). d.x) int_cmp_total) (then_total (on_total (λ (d : Dir). d.y) int_cmp_total) (on_total (λ (d : Dir). d.z) int_cmp_total))
@@ -61,23 +62,36 @@ less_below : (d e : Dir) → dir_order d e ≡ Less → VectorBelow (vector_of d
 less_below d e h =
     below-vectors (vector_of d) (vector_of e) (subst (λ (o : Ordering). MatchOrdering o (IsBelow (triple_of (vector_of d)) (triple_of (vector_of e))) (d ≡ e) (IsBelow (triple_of (vector_of e)) (triple_of (vector_of d)))) h (dir-ordered d e (dir_order d e) refl))
 
+-- ---- axes by their directions
+abbrev pub axis_order : Axis → Axis → Ordering
+axis_order x y = dir_order x.dir y.dir
+
+abbrev pub axis_test : Axis → Axis → Bool
+axis_test x y = equal_test x.dir y.dir
+
+axis_total : IsTotalOrder axis_order
+axis_total = on_total (λ (x : Axis). x.dir) dir_total
+
+axis_equivalence : IsEquivalence axis_test
+axis_equivalence = on_equiv (λ (x : Axis). x.dir) dir_equivalence
+
 all-at : {X : Type 0} (P : X → Type 0) (xs : List X) (k : ℕ) (x : X) → AllByRecursion P xs → At xs k x → P x
 all-at P [] k x a h = absurd h
 all-at P (y ∷ ys) zero x a h = subst P h a.0
 all-at P (y ∷ ys) (suc k) x a h = all-at P ys k x a.1 h
 
-pub in_order : (ds : List Dir) → IsStrictlySortedBy dir_order ds → AreInOrder ds
+in_order : (xs : List Axis) → IsStrictlySortedBy axis_order xs → AreInOrder xs
 in_order [] s i k x y l h g = absurd h
 in_order (d ∷ ds) s zero zero x y l h g = absurd (omega arith)
-in_order (d ∷ ds) s zero (suc k) x y l h g = less_below x y (subst (λ (e : Dir). dir_order e y ≡ Less) h (all-at (λ e. dir_order d e ≡ Less) ds k y (sorted_head dir_order d ds s) g))
+in_order (d ∷ ds) s zero (suc k) x y l h g = less_below x.dir y.dir (subst (λ (e : Axis). axis_order e y ≡ Less) h (all-at (λ e. axis_order d e ≡ Less) ds k y (sorted_head axis_order d ds s) g))
 in_order (d ∷ ds) s (suc i) zero x y l h g = absurd (omega arith)
-in_order (d ∷ ds) s (suc i) (suc k) x y l h g = in_order ds (sorted_tail dir_order d ds s) i k x y (omega arith) h g
+in_order (d ∷ ds) s (suc i) (suc k) x y l h g = in_order ds (sorted_tail axis_order d ds s) i k x y (omega arith) h g
 
-pub once-in_order : (ds : List Dir) → IsSorted dir_order ds → AreInOrder (dedup equal_test ds)
-once-in_order ds s = in_order (dedup equal_test ds) (IsStrictlySortedBy-dedup dir_total ties ds s)
+pub once-in_order : (xs : List Axis) → IsSorted axis_order xs → AreInOrder (dedup axis_test xs)
+once-in_order xs s = in_order (dedup axis_test xs) (IsStrictlySortedBy-dedup axis_total (λ x y. ties x.dir y.dir) xs s)
 
-pub once-kept : (xs ys : List Dir) (d : Dir) → IsPermutation xs ys → Contains xs d → Contains (dedup equal_test ys) d
-once-kept xs ys d p h = Contains-dedup dir_equivalence test_equal ys d (Contains-permutation xs ys d p h)
-
-pub once-only : (xs ys : List Dir) (d : Dir) → IsPermutation xs ys → Contains (dedup equal_test ys) d → Contains xs d
-once-only xs ys d p h = Contains-permutation ys xs d (IsPermutation-sym xs ys p) (Contains-from_dedup equal_test ys d h)
+pub once-each : (xs ys : List Axis) → IsPermutation xs ys → HasEachOf xs (dedup axis_test ys)
+once-each xs ys p = record {
+  among = λ y h. Contains-permutation ys xs y (IsPermutation-sym xs ys p) (Contains-from_dedup axis_test ys y h);
+  each = λ x h. let a = Any-dedup axis_equivalence ys x (Contains-permutation xs ys x p h) in (a.1, (a.0, a.2, a.3), sym (test_equal x.dir a.1.dir a.4));
+}

@@ -1,54 +1,79 @@
 -- The axes of an overlay.
-use Rattle.std.specs.Prelude.{ℕ, List, ◌⊎◌}
+use Rattle.std.specs.Prelude.{◌≡◌, ℕ, List, ◌⊎◌, Option, Some, None}
 use Rattle.std.specs.List.{Contains}
 use Rattle.nef_space.specs.Limits.{svertex_limit}
 use Rattle.nef_space.specs.Vectors.{Vector, IsAtMost, IsDirection, cross, SameDirection}
 use Rattle.nef_geo.specs.Shapes.{vector_of}
-use Rattle.nef_geo.specs.declared.dir.Dir.{Dir}
 use Rattle.nef_sphere.specs.Vectors.{VectorBelow}
 use Rattle.nef_sphere.specs.Maps.{At, Map}
 use Rattle.nef_sphere.specs.Least.{InOrder}
-use Rattle.nef_build.specs.Overlays.{IsAxis}
+use Rattle.nef_build.specs.Overlays.{OnSvertex, IsAxis}
+use Rattle.nef_smap.specs.Sides.{IsPlaceOf}
+use Rattle.nef_smap.specs.declared.map.SPlace.{SPlace}
+use Rattle.nef_sover.specs.declared.axes.Axis.{Axis}
 use Rattle.nef_sover.specs.declared.items.Item.{Item}
-use Rattle.nef_sover.specs.Items.{normal_of, LiesOn}
+use Rattle.nef_sover.specs.Items.{normal_of, place_of, LiesOn}
 
--- one of ds has the direction of d
-abbrev pub HasDirection : List Dir → Vector → Type 0
-HasDirection ds d = (e : Dir) × Contains ds e × SameDirection (vector_of e) d
+-- the places on both maps of a direction in which items of theirs cross
+abbrev pub Crossed : Type 0
+Crossed = Option (SPlace × SPlace)
 
--- ys are the directions of xs and those with P
-pub record Adds (P : Vector → Type 0) (xs ys : List Dir) : Type 0 where
-  pub kept : (e : Dir) → Contains xs e → Contains ys e
-  pub added : (e : Dir) → Contains ys e → Contains xs e ⊎ (P (vector_of e) × IsAtMost svertex_limit (vector_of e))
-  pub all : (d : Vector) → P d → HasDirection ys d
+-- one of xs has the direction of d
+abbrev pub HasDirection : List Axis → Vector → Type 0
+HasDirection xs d = (e : Axis) × Contains xs e × SameDirection (vector_of e.dir) d
+
+-- ys are xs and those with P
+pub record Adds (P : Crossed → Vector → Type 0) (xs ys : List Axis) : Type 0 where
+  pub kept : (e : Axis) → Contains xs e → Contains ys e
+  pub added : (e : Axis) → Contains ys e → Contains xs e ⊎ (P e.crossed (vector_of e.dir) × IsAtMost svertex_limit (vector_of e.dir))
+  pub all : (c : Crossed) (d : Vector) → P c d → HasDirection ys d
+
+-- d is the direction of a svertex, and no items are named
+abbrev pub IsOnSvertex : Map → Crossed → Vector → Type 0
+IsOnSvertex M c d = OnSvertex M d × (c ≡ None)
 
 -- both items hold d
 abbrev pub IsCommon : Item → Item → Vector → Type 0
 IsCommon x y d = LiesOn x d × LiesOn y d
 
--- both items hold d, which is the direction of e
-abbrev pub IsMeetAlong : Item → Item → Vector → Vector → Type 0
-IsMeetAlong x y e d = IsCommon x y d × SameDirection e d
+-- c has the places of both items
+abbrev pub AreNamed : Item → Item → Crossed → Type 0
+AreNamed x y c = c ≡ Some (place_of x, place_of y)
 
--- two items with normals that aren't parallel hold d
-abbrev pub IsMeet : Item → Item → Vector → Type 0
-IsMeet x y d = IsCommon x y d × IsDirection (cross (normal_of x) (normal_of y))
+-- both items, which c names, hold d, which is the direction of e
+abbrev pub IsMeetAlong : Item → Item → Vector → Crossed → Vector → Type 0
+IsMeetAlong x y e c d = IsCommon x y d × SameDirection e d × AreNamed x y c
+
+-- two items with normals that aren't parallel hold d, and c names them
+abbrev pub IsMeet : Item → Item → Crossed → Vector → Type 0
+IsMeet x y c d = IsCommon x y d × IsDirection (cross (normal_of x) (normal_of y)) × AreNamed x y c
 
 -- the item meets one of the others at d
-abbrev pub MeetsOne : Item → List Item → Vector → Type 0
-MeetsOne x ys d = (k : ℕ) × (y : Item) × At ys k y × IsMeet x y d
+abbrev pub MeetsOne : Item → List Item → Crossed → Vector → Type 0
+MeetsOne x ys c d = (k : ℕ) × (y : Item) × At ys k y × IsMeet x y c d
 
 -- one of xs meets one of ys at d
-abbrev pub MeetsSome : List Item → List Item → Vector → Type 0
-MeetsSome xs ys d = (i : ℕ) × (x : Item) × At xs i x × MeetsOne x ys d
+abbrev pub MeetsSome : List Item → List Item → Crossed → Vector → Type 0
+MeetsSome xs ys c d = (i : ℕ) × (x : Item) × At xs i x × MeetsOne x ys c d
 
 -- each direction is below the later ones
-abbrev pub AreInOrder : List Dir → Type 0
-AreInOrder ds = InOrder (λ (d e : Dir). VectorBelow (vector_of d) (vector_of e)) ds
+abbrev pub AreInOrder : List Axis → Type 0
+AreInOrder xs = InOrder (λ (x y : Axis). VectorBelow (vector_of x.dir) (vector_of y.dir)) xs
 
--- ds are the axes of the overlay of A and B, in order
-pub record AreAxes (A B : Map) (ds : List Dir) : Type 0 where
-  pub ordered : AreInOrder ds
-  pub small : (e : Dir) → Contains ds e → IsAtMost svertex_limit (vector_of e)
-  pub axis : (e : Dir) → Contains ds e → IsAxis A B (vector_of e)
-  pub all : (d : Vector) → IsAxis A B d → HasDirection ds d
+-- ys are among xs, and have each direction of xs
+pub record HasEachOf (xs ys : List Axis) : Type 0 where
+  pub among : (y : Axis) → Contains ys y → Contains xs y
+  pub each : (x : Axis) → Contains xs x → (y : Axis) × Contains ys y × (y.dir ≡ x.dir)
+
+-- d lies at the places that are named
+abbrev pub IsPlaced : Map → Map → Crossed → Vector → Type 0
+IsPlaced A B None d = Unit {0}
+IsPlaced A B (Some p) d = IsPlaceOf A d p.0 × IsPlaceOf B d p.1
+
+-- xs are the axes of the overlay of A and B, in order
+pub record AreAxes (A B : Map) (xs : List Axis) : Type 0 where
+  pub ordered : AreInOrder xs
+  pub small : (e : Axis) → Contains xs e → IsAtMost svertex_limit (vector_of e.dir)
+  pub axis : (e : Axis) → Contains xs e → IsAxis A B (vector_of e.dir)
+  pub all : (d : Vector) → IsAxis A B d → HasDirection xs d
+  pub placed : (e : Axis) → Contains xs e → IsPlaced A B e.crossed (vector_of e.dir)

@@ -11,14 +11,15 @@ use Rattle.nef_sphere.specs.Maps.{At, Svertex, Loop, Item, Map, items, item_norm
 use Rattle.nef_sphere.specs.Labelling.{ByOp}
 use Rattle.nef_build.specs.Overlays.{IsLoneLoop, NearByOp}
 use Rattle.nef_smap.specs.declared.map.SLoop.{SLoop}
+use Rattle.nef_sover.specs.declared.axes.Axis.{Axis}
 
--- none of the directions lies on the circle of n
-abbrev pub AreOff : List Dir → Vector → Type 0
-AreOff ds n = (e : Dir) → Contains ds e → dot n (vector_of e) ≡ pos 0 → ⊥
+-- none of the axes lies on the circle of n
+abbrev pub AreOff : List Axis → Vector → Type 0
+AreOff xs n = (e : Axis) → Contains xs e → dot n (vector_of e.dir) ≡ pos 0 → ⊥
 
--- n is the normal of the sloop, and none of the directions lies on it
-abbrev pub IsBareNormal : Option SLoop → List Dir → Dir → Type 0
-IsBareNormal o ds n = (l : SLoop) × (o ≡ Some l) × (l.normal ≡ n) × AreOff ds (vector_of n)
+-- n is the normal of the sloop, and none of the axes lies on it
+abbrev pub IsBareNormal : Option SLoop → List Axis → Dir → Type 0
+IsBareNormal o xs n = (l : SLoop) × (o ≡ Some l) × (l.normal ≡ n) × AreOff xs (vector_of n)
 
 -- no svertex of the map lies on the circle of n, and no item crosses it
 pub record IsUncrossed (M : Map) (n : Vector) : Type 0 where

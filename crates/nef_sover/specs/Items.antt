@@ -7,22 +7,31 @@ use Rattle.nef_cyclic.specs.Arcs.{IsOnCircle}
 use Rattle.nef_geo.specs.Shapes.{vector_of}
 use Rattle.nef_arc.specs.Arcs.{normal_vector, IsOn}
 use Rattle.nef_sphere.specs.Maps.{At, Map, Item as PlainItem, items, item_normal, OnItem}
+use Rattle.nef_smap.specs.Sides.{IsPlaceOf}
+use Rattle.nef_smap.specs.declared.map.SPlace.{SPlace}
+use Rattle.nef_smap.specs.declared.map.SPlace.TheVariants as place
 use Rattle.nef_sover.specs.declared.items.Item.{Item}
 use Rattle.nef_sover.specs.declared.items.Item.TheVariants.{Arc, Sloop}
 
 abbrev pub normal_of : Item → Vector
-normal_of (Arc a) = normal_vector a
+normal_of (Arc k a) = normal_vector a
 normal_of (Sloop n) = vector_of n
 
 -- the direction is strictly on the arc, or on the sloop
 abbrev pub LiesOn : Item → Vector → Type 0
-LiesOn (Arc a) d = IsOn a d
+LiesOn (Arc k a) d = IsOn a d
 LiesOn (Sloop n) d = IsOnCircle (vector_of n) d
 
--- i has the normal and the directions of the item x of the map
+-- the place on its map of the directions that the item holds
+abbrev pub place_of : Item → SPlace
+place_of (Arc k a) = place.Arc k
+place_of (Sloop n) = place.Loop
+
+-- i has the normal, the directions and the place of the item x of the map
 pub record IsItemOf (M : Map) (i : Item) (x : PlainItem) : Type 0 where
   pub normal : normal_of i ≡ item_normal x
   pub on : (d : Vector) → LiesOn i d ↔ OnItem M x d
+  pub place : (d : Vector) → OnItem M x d → IsPlaceOf M d (place_of i)
 
 -- the items of the map by their numbers
 abbrev pub AreItems : Map → List Item → Type 0

@@ -11,6 +11,17 @@ use Rattle.nef_sphere.specs.Labelling.{ByOp}
 use Rattle.nef_build.specs.Overlays.{NearByOp}
 use Rattle.nef_star.specs.declared.star.Star.{Star}
 use Rattle.nef_star.specs.Stars.{star_of, IsStar}
+use Rattle.nef_smap.specs.Stars.{IsNeighbourhood}
+use Rattle.nef_sover.specs.declared.axes.Axis.{Axis}
+
+-- p and q are the stars of A and B at d
+pub record AreStarsAt (A B : Map) (d : Dir) (p q : Star) : Type 0 where
+  pub first : IsStar p
+  pub second : IsStar q
+  pub first_axis : p.axis ≡ d
+  pub second_axis : q.axis ≡ d
+  pub shows_first : IsNeighbourhood (star_of p) A (vector_of d)
+  pub shows_second : IsNeighbourhood (star_of q) B (vector_of d)
 
 -- t has the axis d, and op of both maps' labels on it and near it
 pub record IsMergedAt (A B : Map) (op : Label → Label → Label) (d : Dir) (t : Star) : Type 0 where
@@ -19,6 +30,6 @@ pub record IsMergedAt (A B : Map) (op : Label → Label → Label) (d : Dir) (t 
   pub mark : ByOp A B op (vector_of d) t.mark
   pub labels : (e : Vector) (l : Label) → IsDirection (cross (vector_of d) e) → StarLabel (star_of t) e l → NearByOp A B op (vector_of d) e l
 
--- one star for each direction, in the same order
-abbrev pub AreMerged : Map → Map → (Label → Label → Label) → List Dir → List Star → Type 0
-AreMerged A B op ds ts = AllZip (λ (t : Star) (d : Dir). IsMergedAt A B op d t) ts ds
+-- one star for each axis, in the same order
+abbrev pub AreMerged : Map → Map → (Label → Label → Label) → List Axis → List Star → Type 0
+AreMerged A B op xs ts = AllZip (λ (t : Star) (x : Axis). IsMergedAt A B op x.dir t) ts xs

@@ -15,6 +15,7 @@ ghost use Rattle.nef_sover.specs.Axes.{AreAxes};
 ghost use Rattle.nef_sover.specs.Circles.{AreOff, IsBareNormal, IsUncrossed, HasLabels, HasOpLabels, IsLoneNormal};
 
 use crate::OutOfMemory;
+use crate::axes::Axis;
 use crate::items::lies_level;
 use nef_geo::Dir;
 use nef_smap::{SLoop, SphereMap, star_at};
@@ -22,11 +23,11 @@ use nef_star::Op;
 use std::alloc::Global;
 
 // Whether no axis lies on the great circle of the normal.
-fn is_bare(axes: &[Dir], normal: &Dir) -> bool
+fn is_bare(axes: &[Axis], normal: &Dir) -> bool
     ensures bare { IsTrue result ↔ AreOff axes.now (vector_of normal.now) }
 {
     for axis in axes {
-        if lies_level(normal, axis) {
+        if lies_level(normal, &axis.dir) {
             return false;
         }
     }
@@ -34,7 +35,7 @@ fn is_bare(axes: &[Dir], normal: &Dir) -> bool
 }
 
 // The normal of the sloop, if there is one and no axis lies on it.
-fn bare_normal(sloop: &Option<SLoop>, axes: &[Dir]) -> Option<Dir>
+fn bare_normal(sloop: &Option<SLoop>, axes: &[Axis]) -> Option<Dir>
     ensures bare { MatchOption result ((n : Dir) → IsBareNormal sloop.now axes.now n → ⊥) (IsBareNormal sloop.now axes.now) }
 {
     let Some(sloop) = sloop else {
@@ -49,7 +50,7 @@ fn bare_normal(sloop: &Option<SLoop>, axes: &[Dir]) -> Option<Dir>
 
 // The normal of the one or the other map's sloop that no axis lies on. Where both maps have such a sloop, it is one
 // circle.
-fn lone_normal(a: &SphereMap, b: &SphereMap, axes: &[Dir]) -> Option<Dir>
+fn lone_normal(a: &SphereMap, b: &SphereMap, axes: &[Axis]) -> Option<Dir>
     requires first { IsSphereMap a.now }
     requires second { IsSphereMap b.now }
     requires axes { AreAxes (map_of a.now) (map_of b.now) axes.now }
@@ -142,7 +143,7 @@ pub(crate) fn merged_sloop(
     alloc: Global,
     a: &SphereMap,
     b: &SphereMap,
-    axes: &[Dir],
+    axes: &[Axis],
     op: Op,
 ) -> Result<Option<SLoop>, OutOfMemory>
     requires first { IsSphereMap a.now }

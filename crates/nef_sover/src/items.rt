@@ -5,18 +5,18 @@ ghost use Rattle.nef_cyclic.specs.Arcs.{IsOnCircle};
 ghost use Rattle.nef_sphere.specs.Maps.{At, Arc as PlainArc, arc_item};
 ghost use Rattle.nef_geo.specs.Shapes.{vector_of};
 ghost use Rattle.nef_smap.specs.Maps.{map_of, IsSphereMap};
-ghost use Rattle.nef_sover.specs.Items.{normal_of, LiesOn, IsItemOf, AreItems, AreSmall};
+ghost use Rattle.nef_sover.specs.Items.{normal_of, place_of, LiesOn, IsItemOf, AreItems, AreSmall};
 
 use crate::OutOfMemory;
 use nef_arc::{Arc, strictly_on};
 use nef_geo::{Dir, Sign, dot};
-use nef_smap::SphereMap;
+use nef_smap::{SPlace, SphereMap};
 use std::alloc::Global;
 
-/// An arc or a sloop, without its labels.
+/// An arc with its number, or a sloop, without its labels.
 #[derive(Debug, Clone, Copy, PartialEq, Eq)]
 pub(crate) enum Item {
-    Arc(Arc),
+    Arc(usize, Arc),
     Sloop(Dir),
 }
 
@@ -26,7 +26,7 @@ impl Item {
         ensures normal { vector_of result.now ≡ normal_of self.now }
     {
         match self {
-            Item::Arc(arc) => arc.normal(),
+            Item::Arc(_, arc) => arc.normal(),
             Item::Sloop(normal) => normal,
         }
     }
@@ -36,8 +36,18 @@ impl Item {
         ensures on { IsTrue result ↔ LiesOn self.now (vector_of d.now) }
     {
         match self {
-            Item::Arc(arc) => strictly_on(arc, d),
+            Item::Arc(_, arc) => strictly_on(arc, d),
             Item::Sloop(normal) => lies_level(normal, d),
+        }
+    }
+
+    /// The place on its map of the directions that the item holds.
+    pub(crate) fn place(&self) -> SPlace
+        ensures place { result ≡ place_of self.now }
+    {
+        match self {
+            Item::Arc(number, _) => SPlace::Arc(*number),
+            Item::Sloop(_) => SPlace::Loop,
         }
     }
 }
@@ -57,7 +67,7 @@ fn arc_at(map: &SphereMap, k: usize) -> Item
 {
     let arc = map.arcs.at(k);
     let (source, target) = (map.svertices.at(arc.source), map.svertices.at(arc.target));
-    Item::Arc(Arc::of(source.dir, target.dir, arc.normal))
+    Item::Arc(k, Arc::of(source.dir, target.dir, arc.normal))
 }
 
 /// The arcs and the sloop of the map, by their numbers.

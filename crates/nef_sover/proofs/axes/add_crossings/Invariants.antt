@@ -1,8 +1,7 @@
-use Rattle.nef_space.specs.Vectors.{Vector}
 use Rattle.nef_sover.specs.declared.items.Item.{Item}
 use Rattle.nef_sover.specs.Axes.{Adds, MeetsOne}
 use Rattle.nef_sover.proofs.Adding.{AnyFirst}
 use Rattle.nef_sover.proofs.axes.add_crossings.Given as goal
 
 abbrev pub invariant-loop-x : goal.invariant-loop-x
-invariant-loop-x l = record { added : Adds (AnyFirst (λ (x : Item) (d : Vector). MeetsOne x l.ys d) l.xs l.x-index) l.fn.axes.items l.axes.items }
+invariant-loop-x l = record { added : Adds (AnyFirst (λ (x : Item). MeetsOne x l.ys) l.xs l.x-index) l.fn.axes.items l.axes.items }

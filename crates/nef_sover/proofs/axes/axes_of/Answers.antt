@@ -1,10 +1,9 @@
 use Rattle.std.proofs.Common.{List, [], sym, subst}
-use Rattle.nef_geo.specs.declared.dir.Dir.{Dir}
-use Rattle.nef_build.specs.Overlays.{OnSvertex}
 use Rattle.nef_smap.specs.Maps.{map_of}
+use Rattle.nef_sover.specs.declared.axes.Axis.{Axis}
 use Rattle.nef_sover.specs.Items.{AreItems, AreSmall}
-use Rattle.nef_sover.specs.Axes.{Adds}
-use Rattle.nef_sover.proofs.Crossed.{axes-added, axes-are}
+use Rattle.nef_sover.specs.Axes.{Adds, IsOnSvertex}
+use Rattle.nef_sover.proofs.Crossed.{all-found, axes-are}
 use Rattle.nef_sover.proofs.axes.axes_of.Goals as goal
 
 pub add_crossings-requires-clause-xs_small : goal.add_crossings-requires-clause-xs_small
@@ -17,10 +16,11 @@ pub returns : goal.returns
 returns c =
     let A = map_of c.args.a.now in let B = map_of c.args.b.now in
     let xs = c.as_slice.result.now in let ys = c.as_slice-2.result.now in
+    let I = subst (AreItems A) (sym c.as_slice.ensures.value) c.in_ok-xs.ensures.items in
+    let J = subst (AreItems B) (sym c.as_slice-2.ensures.value) c.in_ok-ys.ensures.items in
     record {
-      axes = axes-are A B c.add_crossings.new.axes.items c.sort_once.new.axes.items
-          (axes-added A B xs ys (subst (AreItems A) (sym c.as_slice.ensures.value) c.in_ok-xs.ensures.items) (subst (AreItems B) (sym c.as_slice-2.ensures.value) c.in_ok-ys.ensures.items)
-          [] c.add_svertices.new.axes.items c.add_svertices-2.new.axes.items c.add_crossings.new.axes.items
-          (subst (λ (ds : List Dir). Adds (OnSvertex A) ds c.add_svertices.new.axes.items) c.new-axes.ensures.items c.in_ok-add_svertices.ensures.added) c.in_ok-add_svertices-2.ensures.added c.in_ok-add_crossings.ensures.added)
+      axes = axes-are A B xs ys I J c.add_crossings.new.axes.items c.sort_once.new.axes.items
+          (all-found A B xs ys I J [] c.add_svertices.new.axes.items c.add_svertices-2.new.axes.items c.add_crossings.new.axes.items
+          (subst (λ (ds : List Axis). Adds (IsOnSvertex A) ds c.add_svertices.new.axes.items) c.new-axes.ensures.items c.in_ok-add_svertices.ensures.added) c.in_ok-add_svertices-2.ensures.added c.in_ok-add_crossings.ensures.added)
           c.sort_once.ensures.in_order c.sort_once.ensures.same;
     }

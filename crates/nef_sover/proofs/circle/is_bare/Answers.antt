@@ -2,7 +2,7 @@ use Rattle.std.proofs.Common.{◌≡◌, ℕ, ◌<◌, pos, arith, refl, subst, 
 use Rattle.std.proofs.Math.Nat.{eq-or-lt_of_le}
 use Rattle.nef_space.specs.Vectors.{dot}
 use Rattle.nef_geo.specs.Shapes.{vector_of}
-use Rattle.nef_geo.specs.declared.dir.Dir.{Dir}
+use Rattle.nef_sover.specs.declared.axes.Axis.{Axis}
 use Rattle.nef_sphere.specs.Maps.{At}
 use Rattle.nef_sphere.proofs.Lists.{at-one}
 use Rattle.nef_arc.proofs.SignNumbers.{not_true}
@@ -13,16 +13,16 @@ use Rattle.nef_sover.proofs.circle.is_bare.Goals as goal
 pub loop-axis-preserved : goal.loop-axis-preserved
 loop-axis-preserved c = record { off = λ k e l h z. by k e (eq-or-lt_of_le {n = k} {m = c.loop-axis.axis-index} (omega (arith, l))) h z }
   where
-    axis : Dir
+    axis : Axis
     axis = c.axis-item.result
 
-    by : (k : ℕ) (e : Dir) → (k ≡ c.loop-axis.axis-index) ⊎ (k < c.loop-axis.axis-index) → At c.args.axes.now k e → dot (vector_of c.args.normal.now) (vector_of e) ≡ pos 0 → ⊥
+    by : (k : ℕ) (e : Axis) → (k ≡ c.loop-axis.axis-index) ⊎ (k < c.loop-axis.axis-index) → At c.args.axes.now k e → dot (vector_of c.args.normal.now) (vector_of e.dir) ≡ pos 0 → ⊥
     by k e (inr l) h z = c.loop-axis.invariant.off k e l h z
     by k e (inl q) h z =
         let here = read-at c.args.axes.now c.loop-axis.axis-index axis c.loop-axis-test.true c.axis-item.is in
         let same = at-one c.args.axes.now c.loop-axis.axis-index e axis (subst (λ (j : ℕ). At c.args.axes.now j e) q h) here in
-        let level = subst (λ (f : Dir). dot (vector_of c.args.normal.now) (vector_of f) ≡ pos 0) same z in
-        absurd (search (rules, c.lies_level.ensures.on.1 (record { direction = axis.some; level = level }), c.if-lies_level.false))
+        let level = subst (λ (f : Axis). dot (vector_of c.args.normal.now) (vector_of f.dir) ≡ pos 0) same z in
+        absurd (search (rules, c.lies_level.ensures.on.1 (record { direction = axis.dir.some; level = level }), c.if-lies_level.false))
 
 pub returns : goal.returns
 returns c = record {
