@@ -12,6 +12,7 @@ use std::test::Fail;
 use std::thread::Threads;
 
 mod compared;
+mod extreme;
 mod failing;
 mod generated;
 mod texts;

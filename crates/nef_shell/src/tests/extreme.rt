@@ -1,0 +1,70 @@
+//! Sets whose planes touch the frame, come close to each other, or all pass through one point; long chains; and the most
+//! names.
+
+use super::{fits, gives};
+use std::test::Fail;
+
+// Planes that meet the frame in a corner alone, pass through its corners and edges, or have the greatest numbers; a thin
+// wedge; a solid without a point.
+const PLANES: &str = "half A 1 1 1 -6144 open / full U / same A U => same
+half B 1 1 1 6144 closed / empty E / same B E => same
+half D 1 1 0 0 closed / count D => 8 14 9 3
+half E 1 1 1 -2048 closed / count E / half G 1 1 1 -1024 closed / count G => 8 15 10 3 / 14 24 13 3
+half A 1024 1023 1021 -1048575 closed / count A => 14 24 13 3
+half A 2048 2047 2045 -4194303 closed / count A => 12 20 11 3
+half A 1024 1023 0 0 open / half B -1023 -1022 0 0 open / and C A B / has C 2045 -2047 0 4 / \
+    has C 1023 -1024 0 4 / has C 1 -1 0 1 / count C => in / not / not / 14 23 12 3
+half Pa -1 0 0 0 closed / half Pb 1 0 0 0 closed / half Pc 0 -1 0 0 closed / \
+    half Pd 0 1 0 0 closed / half Pe 0 0 -1 0 closed / half Pf 0 0 1 0 closed / and Pg Pa Pb / \
+    and Ph Pg Pc / and Pi Ph Pd / and Pj Pi Pe / and P Pj Pf / full U / diff K U P / count K / \
+    cl C K / same C U => 9 12 6 2 / same";
+
+#[test]
+fn planes(rt: HostRuntime) -> Result<(), Fail> {
+    assert!(rt; fits(&rt, rt.alloc(), &[], PLANES, 0)?);
+    Ok(())
+}
+
+// The points that lie on or above all of 49 planes through one point, which the four steepest ones bound.
+#[test]
+fn planes_through_a_point(rt: HostRuntime) -> Result<(), Fail> {
+    let alloc = rt.alloc();
+    let mut script = String::from_str(alloc, "full a0\n")?;
+    for plane in 0..49i32 {
+        let (x, y, next) = (plane / 7 - 3, plane % 7 - 3, plane + 1);
+        script.push_str(format!(in alloc; "half h{plane} {x} {y} -1 0 closed\n")?.as_str())?;
+        script.push_str(format!(in alloc; "and a{next} a{plane} h{plane}\n")?.as_str())?;
+    }
+    script.push_str("and b h0 h6\nand c b h42\nand D c h48\nsame a49 D\ncount a49\n")?;
+    let output = b"same\n13 20 11 3\n";
+    assert!(rt; gives(&rt, alloc, &[], script.as_bytes(), 0, output)?);
+    Ok(())
+}
+
+// The complement and the closure in turn, fifty times: a closed half-space comes back after every fourth step.
+#[test]
+fn closures_of_complements(rt: HostRuntime) -> Result<(), Fail> {
+    let alloc = rt.alloc();
+    let mut script = String::from_str(alloc, "half A 1 0 0 0 closed\nnot n1 A\n")?;
+    for step in 2..=100u32 {
+        let before = step - 1;
+        let word = if step % 2 == 0 { "cl" } else { "not" };
+        script.push_str(format!(in alloc; "{word} n{step} n{before}\n")?.as_str())?;
+    }
+    script.push_str("same n100 A\nsame n98 A\n")?;
+    let output = b"same\ndiffers\n";
+    assert!(rt; gives(&rt, alloc, &[], script.as_bytes(), 0, output)?);
+    Ok(())
+}
+
+#[test]
+fn all_names(rt: HostRuntime) -> Result<(), Fail> {
+    let alloc = rt.alloc();
+    let mut script = String::new(alloc);
+    for number in 1..=4096u32 {
+        script.push_str(format!(in alloc; "full n{number}\n")?.as_str())?;
+    }
+    script.push_str("has n4096 0 0 0 1\n")?;
+    assert!(rt; gives(&rt, alloc, &[], script.as_bytes(), 0, b"in\n")?);
+    Ok(())
+}
