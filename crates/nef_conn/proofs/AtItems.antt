@@ -1,0 +1,42 @@
+-- A facet point is a point at its item: all points between it and the vertex that it sees are facet points of the item too.
+use Rattle.std.proofs.Common.{inl, inr}
+use Rattle.nef_space.specs.Place.{Place, toward, IsBetween}
+use Rattle.nef_space.specs.Sets.{Set}
+use Rattle.nef_near.proofs.Between.{between-inner}
+use Rattle.nef_near.proofs.Even.{joined-itself}
+use Rattle.nef_near.proofs.Rays.{same-place_sym}
+use Rattle.nef_sphere.specs.Maps.{Item}
+use Rattle.nef_sphere.proofs.Compare.{SameDirection-turned}
+use Rattle.nef_solid.specs.Complexes.{Vertex, Complex, Corner, IsCorner}
+use Rattle.nef_solid.specs.Shows.{Shows}
+use Rattle.nef_solid.specs.Skeleton.{IsFacetPoint}
+use Rattle.nef_solid.proofs.Ways.{between-way}
+use Rattle.nef_solid.proofs.FacetWays.{dim-same}
+use Rattle.nef_solid.proofs.FacetPoints.{facet-point}
+use Rattle.nef_solid.proofs.FacetNames.{facet-of}
+use Rattle.nef_links.specs.Components.{IsEvenAfter}
+use Rattle.nef_links.proofs.ItemPoints.{on_item-way}
+use Rattle.nef_conn.specs.Reach.{PointsReachItems}
+
+-- a point between the vertex and a facet point is a facet point
+facet-before : (C : Complex) (v : Vertex) (x : Item) (y r : Place) → IsFacetPoint C v x y → IsBetween v.point r y → IsFacetPoint C v x r
+facet-before C v x y r F b = record {
+  off_edges = F.clear r b;
+  on_item = on_item-way v.map x (toward v.point y) (toward v.point r) (SameDirection-turned (toward v.point r) (toward v.point y) (between-way v.point r y b)) F.on_item;
+  clear = λ q c. F.clear q (between-inner v.point r y q b c);
+}
+
+-- so from the vertex on two directions are flat, up to the facet point
+pub facet-even : (s : Set) (C : Complex) → Shows s C → (k : Corner) (v : Vertex) (x : Item) (y : Place) → IsCorner C k v x → IsFacetPoint C v x y → IsEvenAfter s 2 v.point y
+facet-even s C S k v x y c F r (inl b) = let f = facet-point s C S k v x r c (facet-before C v x y r F b) in f.dim
+facet-even s C S k v x y c F r (inr e) = let f = facet-point s C S k v x y c F in dim-same s y r 2 (same-place_sym r y e) f.dim
+
+-- POINTS IN FACETS REACH ITEMS
+pub points-reach_items : PointsReachItems
+points-reach_items s C p S f =
+    let (k, v, x, c, F) = facet-of s C S p f in (
+      k,
+      p,
+      record { vertex = v; item = x; corner = c; on_item = F.on_item; even = facet-even s C S k v x p c F },
+      joined-itself s p,
+    )

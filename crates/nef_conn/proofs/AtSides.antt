@@ -1,0 +1,154 @@
+-- A point with three flat directions is joined to a point close to a vertex: beside the first vertex, edge point or facet point that some way from it meets.
+-- Off the vertex all germs are one, so toward it the map has no svertex and no item, and a side sees it.
+use Rattle.std.proofs.Common.{◌≡◌, ℕ, zero, suc, ◌*◌, ℤ, pos, ◌+ℤ◌, ◌*ℤ◌, arith, refl, sym, inl, [], ◌∷◌, subst}
+use Rattle.nef_exact.proofs.Ring.{ring, at, num, ◌⊕◌, ◌⊗◌}
+use Rattle.nef_space.specs.Local.{Germ, FlatDim, Joined}
+use Rattle.nef_space.specs.Place.{Place, SamePlace, toward}
+use Rattle.nef_space.specs.Sets.{Set}
+use Rattle.nef_space.specs.Vectors.{Vector, zero_vector, blend, IsZero, IsDirection}
+use Rattle.nef_space.specs.declared.label.Label.{Label}
+use Rattle.nef_near.specs.Cells.{carriers}
+use Rattle.nef_near.proofs.Alike.{flat-germ, FlatDim-by_germs, FlatDim-one}
+use Rattle.nef_near.proofs.Decided.{label_of}
+use Rattle.nef_near.proofs.Decisions.{ahead, near-ahead}
+use Rattle.nef_near.proofs.Even.{joined-germs}
+use Rattle.nef_near.proofs.FlatDecided.{flat_dim-of}
+use Rattle.nef_near.proofs.Germs.{sample}
+use Rattle.nef_near.proofs.NearGerms.{steep}
+use Rattle.nef_near.proofs.Rays.{signs-same, same-place_sym}
+use Rattle.nef_near.proofs.Topology.{near-germ_zero}
+use Rattle.nef_sphere.specs.Least.{NearPlain}
+use Rattle.nef_sphere.specs.Maps.{At, MapLabel, at_svertex, on_item, seen, SeenAs}
+use Rattle.nef_sphere.proofs.Compare.{way-self}
+use Rattle.nef_sphere.proofs.Forms.{on-direction}
+use Rattle.nef_sphere.proofs.Unique.{svertex-neither}
+use Rattle.nef_solid.specs.Complexes.{Vertex, Complex}
+use Rattle.nef_solid.specs.Shows.{Shows}
+use Rattle.nef_solid.specs.Rays.{VertexSide}
+use Rattle.nef_solid.proofs.Cones.{germ-label, near-label}
+use Rattle.nef_solid.proofs.Joining.{edges-complete}
+use Rattle.nef_solid.proofs.FacetWays.{dim-same}
+use Rattle.nef_solid.proofs.FacetNames.{facet-of}
+use Rattle.nef_links.specs.Components.{IsAtSide}
+use Rattle.nef_links.proofs.Ties.{ahead-cells, IsTied, tied-cell, tied-both, tied-ahead, tied-ray}
+use Rattle.nef_links.proofs.NearVertex.{facet-near}
+use Rattle.nef_links.proofs.EdgeEnds.{corner_of, edge-ways, tied-low, tied-turn}
+use Rattle.nef_links.proofs.SidePoints.{at-side}
+use Rattle.nef_conn.specs.Reach.{PointsReachSides}
+use Rattle.nef_conn.proofs.AtItems.{facet-even}
+use Rattle.nef_conn.proofs.FirstMet.{all-flat, first-met}
+
+-- no way leads from a point to itself
+ahead-zero : (s : Set) (p : Place) (d : Vector) → IsZero d → SamePlace p (ahead s p d)
+ahead-zero s p d z = record { along_x = one p.x d.x z.0; along_y = one p.y d.y z.1; along_z = one p.z d.z z.2 }
+  where
+    one : (x e : ℤ) → e ≡ pos 0 → x *ℤ pos (p.w * (sample s p d).b) ≡ (x *ℤ pos (sample s p d).b +ℤ pos 1 *ℤ pos p.w *ℤ e) *ℤ pos p.w
+    one x e h = subst (λ (r : ℤ). x *ℤ pos (p.w * (sample s p d).b) ≡ (x *ℤ pos (sample s p d).b +ℤ pos 1 *ℤ pos p.w *ℤ r) *ℤ pos p.w) (sym h)
+        (ring (pos p.w ∷ x ∷ pos (sample s p d).b ∷ []) (at 1 ⊗ (at 0 ⊗ at 2)) ((at 1 ⊗ at 2 ⊕ num (pos 1) ⊗ at 0 ⊗ num (pos 0)) ⊗ at 0) tt)
+
+-- ---- points close to a vertex
+-- p is tied to the point close to a vertex in some direction
+record NearVertex (s : Set) (C : Complex) (p : Place) : Type 0 where
+  number : ℕ
+  vertex : Vertex
+  listed : At C.vertices number vertex
+  way : Vector
+  tied : IsTied s p (ahead s vertex.point way)
+
+module _ (s : Set) (C : Complex) (S : Shows s C) where
+  -- what lies off a point that is tied to one close to a vertex, lies close to the vertex
+  module _ (y : Place) (f : Vector) (i : ℕ) (v : Vertex) (a : At C.vertices i v) (u : Vector) (t : IsTied s y (ahead s v.point u)) where
+    turned-near : NearVertex s C (ahead s y f)
+    turned-near =
+        let n = steep (carriers s) f in
+        record {
+          number = i;
+          vertex = v;
+          listed = a;
+          way = blend n u 1 f;
+          tied = tied-both s (ahead s y f) (ahead s (ahead s v.point u) f) (ahead s v.point (blend n u 1 f)) (tied-ahead s y (ahead s v.point u) f t) (tied-turn s v.point u f n (omega arith));
+        }
+
+  off-met : (y : Place) → (FlatDim s y 3 → ⊥) → (f : Vector) → NearVertex s C (ahead s y f)
+  off-met y not f = let k = flat_dim-of s y in by k.0 k.1
+    where
+      by : (k : ℕ) → FlatDim s y k → NearVertex s C (ahead s y f)
+      by zero g =
+          let (i, v, a, e) = S.complete y g in
+          record {
+            number = i;
+            vertex = v;
+            listed = a;
+            way = f;
+            tied = tied-cell s (ahead s y f) (ahead s v.point f) (ahead-cells s y v.point f (signs-same (carriers s) y v.point (same-place_sym v.point y e)));
+          }
+      by (suc zero) g =
+          let (k, p) = edges-complete s C S y g in
+          let (e, v, w, a, H, b) = p in
+          let W = edge-ways s C S k e v w a H in
+          turned-near y f e.low v H.low W.low.way (tied-low s C S k e v w a H y b)
+      by (suc (suc zero)) g =
+          let (k, v, x, c, F) = facet-of s C S y g in
+          let u = toward v.point y in
+          turned-near y f k.vertex v c.vertex u (tied-ray s 2 v.point y u (way-self u (on-direction v.map x u F.on_item)) (facet-even s C S k v x y c F))
+      by (suc (suc (suc zero))) g = absurd (not g)
+      by (suc (suc (suc (suc k)))) g = absurd g.0
+
+  near-vertex : (p : Place) → FlatDim s p 3 → NearVertex s C p
+  near-vertex p f =
+      let M = first-met s p f in
+      let d = toward M.place p in
+      let N = off-met M.place M.not_flat d in
+      let t = tied-ray s 3 M.place p d (way-self d M.apart) M.even in
+      record {
+        number = N.number;
+        vertex = N.vertex;
+        listed = N.listed;
+        way = N.way;
+        tied = tied-both s p (ahead s M.place d) (ahead s N.vertex.point N.way) t N.tied;
+      }
+
+  -- ---- some side sees the direction
+  -- off the vertex toward d all germs are l
+  module _ (i : ℕ) (v : Vertex) (a : At C.vertices i v) (d : Vector) (f : FlatDim s (ahead s v.point d) 3) (l : Label) (germs : (e : Vector) → Germ s (ahead s v.point d) e l) where
+    -- the vertex itself isn't flat
+    some : IsDirection d
+    some z =
+        let e = FlatDim-one s (ahead s v.point d) 0 3 (dim-same s v.point (ahead s v.point d) 0 (ahead-zero s v.point d z) (S.vertices i v a)) f in
+        omega arith
+
+    label-there : MapLabel v.map d l
+    label-there = germ-label v.map s v.point (S.cones i v a) d l some ((near-germ_zero s v.point d zero_vector l (refl, refl, refl)).0 ((near-ahead s v.point d zero_vector l).0 (germs zero_vector)))
+
+    plain : NearPlain v.map d
+    plain = record {
+      label = l;
+      at_d = label-there;
+      near = λ e h. near-label v.map s v.point (S.cones i v a) d e l some ((near-ahead s v.point d e l).0 (germs e));
+    }
+
+    seen-by : (m : Label) → MapLabel v.map d m → SeenAs v.map d m
+    seen-by m (at_svertex k u b w e) = absurd (svertex-neither v.map (S.cones i v a).valid (S.least i v a) d k u b w (inl plain))
+    seen-by m (on_item k x b o e) =
+        let F = facet-near s C S (corner_of i k) v x (record { vertex = a; item = b }) d o in
+        let z = FlatDim-one s (ahead s v.point d) 2 3 F.dim f in
+        absurd (omega arith)
+    seen-by m (seen h) = h
+
+    pub side-toward : SeenAs v.map d l
+    side-toward = seen-by l label-there
+
+  -- so the point is at some side
+  reaches : (p : Place) → FlatDim s p 3 → NearVertex s C p → (x : VertexSide) × (q : Place) × IsAtSide s C x q × Joined s p q
+  reaches p f N =
+      let v = N.vertex in
+      let q = ahead s v.point N.way in
+      let g = FlatDim-by_germs s s p q (joined-germs s p q N.tied.0) 3 f in
+      let l = label_of s q in
+      let o = side-toward N.number v N.listed N.way g l.0 (λ e. flat-germ s q e l.0 (all-flat s q g e) l.1) in
+      let x : VertexSide = record { vertex = N.number; side = o.side } in
+      (x, q, at-side s C S x v l.0 N.listed o.has N.way o.sees, N.tied.0)
+
+-- POINTS IN VOLUMES REACH SIDES
+pub points-reach_sides : PointsReachSides
+points-reach_sides s C p S f = reaches s C S p f (near-vertex s C S p f)

@@ -1,0 +1,3 @@
+pub mod AtItems
+pub mod FirstMet
+pub mod AtSides
