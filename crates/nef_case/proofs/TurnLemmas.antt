@@ -7,6 +7,9 @@ use Rattle.std.specs.List.{All}
 use Rattle.std.proofs.lemmas.Bool.{cases_order}
 use lib.Dec.{T, eqb→eq, ltb→lt, leb→le}
 use lib.IntN.{neg_ℤ-neg_ℤ}
+use mir.Val.{bool_byte, to_z, of_z, SFits}
+use mir.Syntax.{w8}
+use Rattle.std.proofs.lemmas.Int.{to_z-of_z}
 use Rattle.nef_case.specs.Keys.{number_at}
 use Rattle.nef_case.specs.Turns.{Triple, ordered, has_bit, negated_if, negated, turned, IsEntry, coordinate, named_by, made_by, IsRowOf, Undoes, IsComposition, triple_of, numbered, IsTurnRow}
 use Rattle.nef_case.proofs.Rows.{both_left, both_right}
@@ -93,11 +96,17 @@ below-passes (suc n) p t k h =
 
 -- ---- different turns
 
+-- the number of a turn by the size of its first entry, whether the second is larger than the third, and which are negative
+abbrev pub number_from : ℕ → ℕ → ℕ → ℕ → ℕ → ℕ
+number_from first falls x y z = 8 * (2 * (first - 1) + falls) + (x + 2 * y + 4 * z)
+
+pub same_number : (a b c d e a' b' c' d' e' : ℕ) → a ≡ a' → b ≡ b' → c ≡ c' → d ≡ d' → e ≡ e' → number_from a b c d e ≡ number_from a' b' c' d' e'
+same_number a b c d e a' b' c' d' e' p q r s t = cc
+
 -- the number of the turn whose row has these entries
 abbrev pub number_by : Triple → ℕ
 number_by (a, b, c) =
-    8 * (2 * (unsigned_abs a - 1) + cond (nat_lt (unsigned_abs c) (unsigned_abs b)) 1 0)
-    + (cond (is_negative a) 1 0 + 2 * cond (is_negative b) 1 0 + 4 * cond (is_negative c) 1 0)
+    number_from (unsigned_abs a) (bool_byte (nat_lt (unsigned_abs c) (unsigned_abs b))) (bool_byte (is_negative a)) (bool_byte (is_negative b)) (bool_byte (is_negative c))
 
 pub number_by-turned : (k : ℕ) → k < 48 → number_by (turned k numbered) ≡ k
 number_by-turned k h = eqb→eq _ _ (below-passes 48 (λ k. number_by (turned k numbered) == k) tt k h)
@@ -130,3 +139,29 @@ composition-turns j k hj hk =
 pub inverse-one : (i j k : ℕ) → i < 48 → j < 48 → Undoes i k → Undoes k i → Undoes j k → j ≡ i
 inverse-one i j k hi hj undoes undone other =
     numbers-differ j i hj hi (sym (ap (turned j) (undone numbered)) ∙ other (turned i numbered))
+
+-- the composition of two turns, by its row
+pub composed-only : (j k r : ℕ) → r < 48 → turned r numbered ≡ turned j (turned k numbered) → (i : ℕ) → i < 48 → IsComposition i j k → i ≡ r
+composed-only j k r hr e i hi other = numbers-differ i r hi hr (other numbered ∙ sym e)
+
+pub composed-undone : (j k r : ℕ) → r < 48 → turned r numbered ≡ turned j (turned k numbered) → Undoes j k → r ≡ 0
+composed-undone j k r hr e undoes = numbers-differ r 0 hr (omega arith) (e ∙ undoes numbered)
+
+pub composed-row : (j k : ℕ) (later earlier : List ℤ) (x y z : ℤ) → length earlier ≡ 3 → All IsEntry earlier → IsRowOf k earlier → IsRowOf j later
+    → x ≡ named_by (number_at later 0) (triple_of earlier) → y ≡ named_by (number_at later 1) (triple_of earlier) → z ≡ named_by (number_at later 2) (triple_of earlier)
+    → triple x y z ≡ turned j (turned k numbered)
+composed-row j k later earlier x y z l entries is_earlier is_later p q r =
+    same_triple _ _ _ _ _ _ p q r ∙ is_later (triple_of earlier) ∙ ap (turned j) (triple_of-row k earlier l entries is_earlier)
+
+-- ---- a number of eight bits that is handed on
+pub handed_on : (x : ℤ) → SFits w8 x → to_z w8 (of_z w8 x) ≡ x
+handed_on x fits = to_z-of_z w8 x fits
+
+pub size_read : (u : ℕ) (x : ℤ) → SFits w8 x → u ≡ unsigned_abs (to_z w8 (of_z w8 x)) → u ≡ unsigned_abs x
+size_read u x fits e = e ∙ ap unsigned_abs (handed_on x fits)
+
+pub sign_read : (f : ℕ) (x : ℤ) → SFits w8 x → f ≡ bool_byte (is_negative (to_z w8 (of_z w8 x))) → f ≡ bool_byte (is_negative x)
+sign_read f x fits e = e ∙ ap (λ (i : ℤ). bool_byte (is_negative i)) (handed_on x fits)
+
+pub falls_read : (f u v : ℕ) (y z : ℤ) → u ≡ unsigned_abs y → v ≡ unsigned_abs z → f ≡ bool_byte (nat_lt v u) → f ≡ bool_byte (nat_lt (unsigned_abs z) (unsigned_abs y))
+falls_read f u v y z p q e = e ∙ ap (λ (i : ℕ). bool_byte (nat_lt i u)) q ∙ ap (λ (i : ℕ). bool_byte (nat_lt (unsigned_abs z) i)) p

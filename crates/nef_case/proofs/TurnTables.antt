@@ -4,7 +4,7 @@ use Rattle.std.specs.Prelude.{unsigned_abs, ◌==◌, nat_lt, nat_le}
 use Rattle.std.specs.Int.{is_negative}
 use Rattle.std.specs.List.{All}
 use lib.Dec.{T, ltb→lt, leb→le}
-use Rattle.nef_case.specs.Turns.{Triple, turned, IsEntry, IsRowOf, Undoes, numbered}
+use Rattle.nef_case.specs.Turns.{Triple, turned, IsEntry, IsRowOf, Undoes, IsTurnRow, numbered}
 use Rattle.nef_case.proofs.Rows.{both_left, both_right}
 use Rattle.nef_case.proofs.TurnLemmas.{made-turned, undoes-by_numbers, each_below, below-passes, number_by, numbers-differ, same_parts, parts-same, inverse-one}
 
@@ -63,6 +63,12 @@ row-is k h = subst (IsRowOf k) (sym (value-from_start row_of_turn 48 k [] h)) (m
 
 pub row-one : (k : ℕ) → k < 48 → (j : ℕ) → j < 48 → IsRowOf j (get_or turn_rows k []) → j ≡ k
 row-one k h j hj other = numbers-differ j k hj h (sym (other numbered) ∙ row-is k h numbered)
+
+-- the first entry of a turn's row
+pub first-named : (w : Triple) → IsTurnRow w → 1 ≤ unsigned_abs w.0
+first-named w (k, h, e) =
+    let all = entries-are (turned k numbered) (below-passes 48 (λ k. are_entries (turned k numbered)) tt k h) in
+    subst (λ (v : Triple). 1 ≤ unsigned_abs v.0) e (all 0 (pos 0) (omega arith)).low
 
 -- ---- inverses
 -- the place, with the sign of what stands there
