@@ -147,11 +147,10 @@ composed-only j k r hr e i hi other = numbers-differ i r hi hr (other numbered �
 pub composed-undone : (j k r : ℕ) → r < 48 → turned r numbered ≡ turned j (turned k numbered) → Undoes j k → r ≡ 0
 composed-undone j k r hr e undoes = numbers-differ r 0 hr (omega arith) (e ∙ undoes numbered)
 
-pub composed-row : (j k : ℕ) (later earlier : List ℤ) (x y z : ℤ) → length earlier ≡ 3 → All IsEntry earlier → IsRowOf k earlier → IsRowOf j later
-    → x ≡ named_by (number_at later 0) (triple_of earlier) → y ≡ named_by (number_at later 1) (triple_of earlier) → z ≡ named_by (number_at later 2) (triple_of earlier)
-    → triple x y z ≡ turned j (turned k numbered)
-composed-row j k later earlier x y z l entries is_earlier is_later p q r =
-    same_triple _ _ _ _ _ _ p q r ∙ is_later (triple_of earlier) ∙ ap (turned j) (triple_of-row k earlier l entries is_earlier)
+pub composed-row : (j k : ℕ) (later earlier : List ℤ) (w : Triple) → length earlier ≡ 3 → All IsEntry earlier → IsRowOf k earlier → IsRowOf j later
+    → w ≡ made_by later (triple_of earlier) → w ≡ turned j (turned k numbered)
+composed-row j k later earlier w l entries is_earlier is_later e =
+    e ∙ is_later (triple_of earlier) ∙ ap (turned j) (triple_of-row k earlier l entries is_earlier)
 
 -- ---- a number of eight bits that is handed on
 pub handed_on : (x : ℤ) → SFits w8 x → to_z w8 (of_z w8 x) ≡ x
@@ -165,3 +164,6 @@ sign_read f x fits e = e ∙ ap (λ (i : ℤ). bool_byte (is_negative i)) (hande
 
 pub falls_read : (f u v : ℕ) (y z : ℤ) → u ≡ unsigned_abs y → v ≡ unsigned_abs z → f ≡ bool_byte (nat_lt v u) → f ≡ bool_byte (nat_lt (unsigned_abs z) (unsigned_abs y))
 falls_read f u v y z p q e = e ∙ ap (λ (i : ℕ). bool_byte (nat_lt i u)) q ∙ ap (λ (i : ℕ). bool_byte (nat_lt (unsigned_abs z) i)) p
+
+pub entry_read : (x e : ℤ) (v : Triple) → SFits w8 x → SFits w8 e → x ≡ named_by (to_z w8 (of_z w8 e)) v → to_z w8 (of_z w8 x) ≡ named_by e v
+entry_read x e v fits fits_e eq = handed_on x fits ∙ eq ∙ ap (λ (i : ℤ). named_by i v) (handed_on e fits_e)

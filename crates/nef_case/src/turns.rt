@@ -3,7 +3,7 @@
 //! and z. The order 0 leaves the axes as they are, and the later ones follow as words do.
 
 ghost use Rattle.std.specs.Prelude.{◌≡◌, ℕ, ◌<◌, All};
-ghost use Rattle.nef_case.specs.Turns.{IsEntry, IsRowOf, Undoes, IsComposition, IsTurnRow, triple_of, named_by, numbered, turned};
+ghost use Rattle.nef_case.specs.Turns.{IsEntry, IsRowOf, Undoes, IsComposition, IsTurnRow, triple_of, named_by, made_by, numbered, turned};
 
 // The rows of the turns whose orders these are, from the old coordinates that become the new x, y and z.
 macro_rules! turn_rows {
@@ -71,11 +71,21 @@ pub fn turn_compose(j: usize, k: usize) -> usize
 {
     let earlier = turn_row(k);
     let later = turn_row(j);
-    number_of(&[
-        named(later[0], &earlier),
-        named(later[1], &earlier),
-        named(later[2], &earlier),
-    ])
+    let row = composed(&later, &earlier);
+    number_of(&row)
+}
+
+/// The row of the turn with the row `earlier` and then the turn with the row `later`.
+fn composed(later: &[i8; 3], earlier: &[i8; 3]) -> [i8; 3]
+    requires later { All IsEntry later.now }
+    requires earlier { All IsEntry earlier.now }
+    ensures { triple_of result ≡ made_by later.now (triple_of earlier.now) }
+{
+    [
+        named(later[0], earlier),
+        named(later[1], earlier),
+        named(later[2], earlier),
+    ]
 }
 
 /// The entry of the row that an entry of a later turn's row names, with the sign of both.
