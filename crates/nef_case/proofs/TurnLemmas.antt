@@ -1,11 +1,11 @@
 -- A turn is known by what it makes of the numbers 1, 2 and 3, so that finitely many tests say all of turns.
-use Rattle.std.proofs.Common.{◌≡◌, ℕ, zero, suc, ◌+◌, ◌-◌, ◌*◌, ◌/◌, ◌%◌, ◌<◌, ◌≤◌, ℤ, pos, negsuc, neg_ℤ, List, [], ◌∷◌, length, get_or, Bool, true, false, cond, refl, sym, ◌∙◌, ap, subst, inl, inr, arith}
-use Rattle.std.specs.Prelude.{unsigned_abs, ◌==◌, nat_lt, nat_le}
+use Rattle.std.proofs.Common.{◌≡◌, ℕ, zero, suc, ◌+◌, ◌-◌, ◌*◌, ◌/◌, ◌%◌, ◌<◌, ℤ, pos, negsuc, neg_ℤ, List, length, Bool, true, false, cond, refl, sym, ◌∙◌, ap, subst, inl, inr, arith}
+use Rattle.std.specs.Prelude.{unsigned_abs, ◌==◌, nat_lt}
 use Rattle.std.specs.Int.{is_negative}
 use Rattle.std.specs.Ordering.{int_eq}
 use Rattle.std.specs.List.{All}
 use Rattle.std.proofs.lemmas.Bool.{cases_order}
-use lib.Dec.{T, eqb→eq, ltb→lt, leb→le}
+use lib.Dec.{T, eqb→eq, ltb→lt}
 use lib.IntN.{neg_ℤ-neg_ℤ}
 use mir.Val.{bool_byte, to_z, of_z, SFits}
 use mir.Syntax.{w8}
@@ -77,9 +77,9 @@ named_by-numbered (negsuc (suc (suc (suc n)))) h = absurd (omega (arith, h.high)
 pub triple_of-row : (k : ℕ) (row : List ℤ) → length row ≡ 3 → All IsEntry row → IsRowOf k row → triple_of row ≡ turned k numbered
 triple_of-row k row l entries is_row =
     sym (same_triple _ _ _ _ _ _
-            (named_by-numbered (number_at row 0) (entries 0 (pos 0) (omega arith)))
-            (named_by-numbered (number_at row 1) (entries 1 (pos 0) (omega arith)))
-            (named_by-numbered (number_at row 2) (entries 2 (pos 0) (omega arith))))
+    (named_by-numbered (number_at row 0) (entries 0 (pos 0) (omega arith)))
+    (named_by-numbered (number_at row 1) (entries 1 (pos 0) (omega arith)))
+    (named_by-numbered (number_at row 2) (entries 2 (pos 0) (omega arith))))
     ∙ is_row numbered
 
 -- ---- every number below n passes a test
@@ -91,8 +91,9 @@ pub below-passes : (n : ℕ) (p : ℕ → Bool) → T (each_below n p) → (k : 
 below-passes zero p t k h = absurd (omega (arith, h))
 below-passes (suc n) p t k h =
     elim (cases_order k n) [
-      inl e ↦ subst (λ (m : ℕ). T (p m)) (sym e) (both_left (p n) _ t)
-    | inr o ↦ below-passes n p (both_right (p n) _ t) k (elim o [ inl less ↦ less | inr more ↦ absurd (omega (arith, h, more)) ]) ]
+      | inl e ↦ subst (λ (m : ℕ). T (p m)) (sym e) (both_left (p n) _ t)
+      | inr o ↦ below-passes n p (both_right (p n) _ t) k (elim o [ inl less ↦ less | inr more ↦ absurd (omega (arith, h, more)) ])
+    ]
 
 -- ---- different turns
 

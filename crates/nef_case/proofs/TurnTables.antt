@@ -1,12 +1,12 @@
 -- The tables of turns, as lists that are computed from what the turns make of the numbers 1, 2 and 3.
-use Rattle.std.proofs.Common.{◌≡◌, ℕ, zero, suc, ◌+◌, ◌<◌, ◌≤◌, ℤ, pos, neg_ℤ, List, [], ◌∷◌, length, get_or, Bool, true, false, cond, refl, sym, ◌∙◌, ap, subst, arith}
+use Rattle.std.proofs.Common.{◌≡◌, ℕ, zero, suc, ◌+◌, ◌<◌, ◌≤◌, ℤ, pos, neg_ℤ, List, [], ◌∷◌, length, get_or, Bool, false, cond, sym, ◌∙◌, ap, subst, arith}
 use Rattle.std.specs.Prelude.{unsigned_abs, ◌==◌, nat_lt, nat_le}
 use Rattle.std.specs.Int.{is_negative}
 use Rattle.std.specs.List.{All}
 use lib.Dec.{T, ltb→lt, leb→le}
 use Rattle.nef_case.specs.Turns.{Triple, turned, IsEntry, IsRowOf, Undoes, IsTurnRow, numbered}
 use Rattle.nef_case.proofs.Rows.{both_left, both_right}
-use Rattle.nef_case.proofs.TurnLemmas.{made-turned, undoes-by_numbers, each_below, below-passes, number_by, numbers-differ, same_parts, parts-same, inverse-one}
+use Rattle.nef_case.proofs.TurnLemmas.{made-turned, undoes-by_numbers, below-passes, number_by, numbers-differ, same_parts, parts-same, inverse-one}
 
 -- n values of a function, from i on
 abbrev pub values_from : {A : Type 0} → (ℕ → A) → ℕ → ℕ → List A
@@ -56,7 +56,7 @@ entries-are w t = at_place
 pub row-entries : (k : ℕ) → k < 48 → All IsEntry (get_or turn_rows k [])
 row-entries k h =
     subst (All IsEntry) (sym (value-from_start row_of_turn 48 k [] h))
-      (entries-are (turned k numbered) (below-passes 48 (λ k. are_entries (turned k numbered)) tt k h))
+    (entries-are (turned k numbered) (below-passes 48 (λ k. are_entries (turned k numbered)) tt k h))
 
 pub row-is : (k : ℕ) → k < 48 → IsRowOf k (get_or turn_rows k [])
 row-is k h = subst (IsRowOf k) (sym (value-from_start row_of_turn 48 k [] h)) (made-turned k numbered)

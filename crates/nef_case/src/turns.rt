@@ -105,7 +105,8 @@ fn number_of(row: &[i8; 3]) -> usize
     ensures row { turned result numbered ≡ triple_of row.now }
 {
     let [x, y, z] = row;
-    let order = 2 * (x.unsigned_abs() as usize - 1) + usize::from(y.unsigned_abs() > z.unsigned_abs());
+    let order = 2 * (x.unsigned_abs() as usize - 1)
+        + usize::from(y.unsigned_abs() > z.unsigned_abs());
     let negated = usize::from(*x < 0) + 2 * usize::from(*y < 0) + 4 * usize::from(*z < 0);
     8 * order + negated
 }

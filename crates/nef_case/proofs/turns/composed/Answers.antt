@@ -1,4 +1,4 @@
-use Rattle.std.proofs.Common.{rules, length, pos, slice_index_or, w8}
+use Rattle.std.proofs.Common.{rules, pos, slice_index_or, w8}
 use mir.Val.{SFits}
 use Rattle.nef_case.specs.Turns.{triple_of}
 use Rattle.nef_case.proofs.TurnLemmas.{same_triple, entry_read}
@@ -12,5 +12,5 @@ returns c =
     let y : SFits w8 (slice_index_or later 1 (pos 0)) = search rules in
     let z : SFits w8 (slice_index_or later 2 (pos 0)) = search rules in
     same_triple _ _ _ _ _ _ (entry_read c.named.result _ v (record { sfits = c.named.type_inv }) x c.named.ensures.entry)
-      (entry_read c.named-2.result _ v (record { sfits = c.named-2.type_inv }) y c.named-2.ensures.entry)
-      (entry_read c.named-3.result _ v (record { sfits = c.named-3.type_inv }) z c.named-3.ensures.entry)
+    (entry_read c.named-2.result _ v (record { sfits = c.named-2.type_inv }) y c.named-2.ensures.entry)
+    (entry_read c.named-3.result _ v (record { sfits = c.named-3.type_inv }) z c.named-3.ensures.entry)

@@ -1,5 +1,5 @@
 use Rattle.std.proofs.Common.{rules, ◌≡◌, ◌∙◌, sym, length}
-use Rattle.nef_case.specs.Turns.{triple_of, turned, numbered}
+use Rattle.nef_case.specs.Turns.{turned, numbered}
 use Rattle.nef_case.proofs.TurnLemmas.{composition-turns, composed-row, composed-by_numbers, composed-only, composed-undone}
 use Rattle.nef_case.proofs.turns.turn_compose.Goals as goal
 
