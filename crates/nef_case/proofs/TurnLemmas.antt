@@ -51,9 +51,6 @@ pub made-turned : (k : ℕ) (w v : Triple) → made (turned k w) v ≡ turned k 
 made-turned k w v = made-negated (k % 8) (ordered (k / 8) w) v ∙ ap (negated (k % 8)) (made-ordered (k / 8) w v)
 
 -- ---- what holds of the numbers 1, 2 and 3 holds of every triple
-pub row-by_numbers : (k : ℕ) (row : List ℤ) → triple_of row ≡ turned k numbered → IsRowOf k row
-row-by_numbers k row e v = ap (λ (w : Triple). made w v) e ∙ made-turned k numbered v
-
 pub composed-by_numbers : (i j k : ℕ) → turned i numbered ≡ turned j (turned k numbered) → IsComposition i j k
 composed-by_numbers i j k e v =
     sym (made-turned i numbered v) ∙ ap (λ (w : Triple). made w v) e ∙ made-turned j (turned k numbered) v ∙ ap (turned j) (made-turned k numbered v)

@@ -6,7 +6,7 @@ use Rattle.nef_case.specs.Keys.{number_at}
 abbrev pub Triple : Type 0
 Triple = ℤ × ℤ × ℤ
 
--- the old coordinates that become the new x, y and z, for each of the six orders
+-- the old coordinates that become the new x, y and z, for each of the six orders, 0 to 5
 abbrev pub ordered : ℕ → Triple → Triple
 ordered zero (x, y, z) = (x, y, z)
 ordered (suc zero) (x, y, z) = (x, z, y)

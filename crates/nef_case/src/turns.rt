@@ -1,6 +1,6 @@
 //! The 48 turns of space: each puts the three axes into one of their six orders, and then negates some of the new
 //! coordinates. The number of a turn is 8 times that of its order, and 1, 2 and 4 more where it negates the new x, y
-//! and z. The order 0 leaves the axes as they are, and the later ones follow as words do.
+//! and z. Of (x, y, z) the orders 0 to 5 make (x, y, z), (x, z, y), (y, x, z), (y, z, x), (z, x, y) and (z, y, x).
 
 ghost use Rattle.std.specs.Prelude.{◌≡◌, ℕ, ◌<◌, All};
 ghost use Rattle.nef_case.specs.Turns.{IsEntry, IsRowOf, Undoes, IsComposition, IsTurnRow, triple_of, named_by, made_by, numbered, turned};
@@ -22,7 +22,8 @@ macro_rules! turn_rows {
 }
 
 /// The row of the turn with the number `k`, which is below 48: for each new coordinate 1, 2 or 3 for the old x, y or z,
-/// negative where it is negated.
+/// negative where it is negated. The number is 8 times that of the order in which the old coordinates stand, counted
+/// from 0 in rising order, and 1, 2 and 4 more where the new x, y and z are negated.
 pub fn turn_row(k: usize) -> [i8; 3]
     requires turn { k < 48 }
     ensures entries { All IsEntry result }
