@@ -18,11 +18,11 @@ abbrev pub every_key : ℕ → (List ℤ → Bool) → Bool
 every_key zero p = p []
 every_key (suc n) p = cond (every_key n (λ k. p (negsuc 0 ∷ k))) (cond (every_key n (λ k. p (pos 0 ∷ k))) (every_key n (λ k. p (pos 1 ∷ k))) false) false
 
-both_left : (a b : Bool) → T (cond a b false) → T a
+pub both_left : (a b : Bool) → T (cond a b false) → T a
 both_left true b h = tt
 both_left false b h = absurd h
 
-both_right : (a b : Bool) → T (cond a b false) → T b
+pub both_right : (a b : Bool) → T (cond a b false) → T b
 both_right true b h = h
 both_right false b h = absurd h
 

@@ -1,3 +1,4 @@
 pub mod Keys
 pub mod Between
 pub mod Labels
+pub mod Turns

@@ -1,6 +1,6 @@
 //! Tables over keys of signs or labels, three rows for each number of the key to the next, and the tables of the
-//! kernel: whether a direction is strictly passed on an arc, the labels of combinations, and the labels of an arc in
-//! the interior and in the closure.
+//! kernel: whether a direction is strictly passed on an arc, the labels of combinations, the labels of an arc in the
+//! interior and in the closure, and the 48 turns of space that exchange or negate the axes.
 //!
 //! Every row is proved to be the value of a plain definition in specs/.
 #![tactic(auto)]
@@ -35,7 +35,9 @@ mod passing;
 mod table;
 #[cfg(test)]
 mod tests;
+mod turns;
 
 pub use labels::{arc_closure, arc_interior, op_and, op_diff, op_or, op_xor};
 pub use passing::between;
 pub use table::CaseTable;
+pub use turns::{turn_compose, turn_inverse, turn_row};

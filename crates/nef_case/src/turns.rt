@@ -1,0 +1,113 @@
+//! The 48 turns of space: each puts the three axes into one of their six orders, and then negates some of the new
+//! coordinates. The number of a turn is 8 times that of its order, and 1, 2 and 4 more where it negates the new x, y
+//! and z. Of (x, y, z) the orders 0 to 5 make (x, y, z), (x, z, y), (y, x, z), (y, z, x), (z, x, y) and (z, y, x).
+
+ghost use Rattle.std.specs.Prelude.{◌≡◌, ℕ, ◌<◌, All};
+ghost use Rattle.nef_case.specs.Turns.{IsEntry, IsRowOf, Undoes, IsComposition, IsTurnRow, triple_of, named_by, made_by, numbered, turned};
+
+// The rows of the turns whose orders these are, from the old coordinates that become the new x, y and z.
+macro_rules! turn_rows {
+    ($($x:literal $y:literal $z:literal)*) => {
+        [$(
+            [$x, $y, $z],
+            [-$x, $y, $z],
+            [$x, -$y, $z],
+            [-$x, -$y, $z],
+            [$x, $y, -$z],
+            [-$x, $y, -$z],
+            [$x, -$y, -$z],
+            [-$x, -$y, -$z]
+        ),*]
+    };
+}
+
+/// The row of the turn with the number `k`, which is below 48: for each new coordinate 1, 2 or 3 for the old x, y or z,
+/// negative where it is negated. The number is 8 times that of the order in which the old coordinates stand, counted
+/// from 0 in rising order, and 1, 2 and 4 more where the new x, y and z are negated.
+pub fn turn_row(k: usize) -> [i8; 3]
+    requires turn { k < 48 }
+    ensures entries { All IsEntry result }
+    ensures row { IsRowOf k result }
+    ensures only { (j : ℕ) → j < 48 → IsRowOf j result → j ≡ k }
+{
+    let rows: [[i8; 3]; 48] = turn_rows![
+        1 2 3
+        1 3 2
+        2 1 3
+        2 3 1
+        3 1 2
+        3 2 1
+    ];
+    rows[k]
+}
+
+/// The number of the turn that undoes the turn `k`, which is below 48: each after the other gives back every triple.
+pub fn turn_inverse(k: usize) -> usize
+    requires turn { k < 48 }
+    ensures below { result < 48 }
+    ensures undoes { Undoes result k }
+    ensures undone { Undoes k result }
+    ensures only { (j : ℕ) → j < 48 → Undoes j k → j ≡ result }
+{
+    let inverses: [usize; 48] = [
+        0, 1, 2, 3, 4, 5, 6, 7, //
+        8, 9, 12, 13, 10, 11, 14, 15, //
+        16, 18, 17, 19, 20, 22, 21, 23, //
+        32, 34, 36, 38, 33, 35, 37, 39, //
+        24, 28, 25, 29, 26, 30, 27, 31, //
+        40, 44, 42, 46, 41, 45, 43, 47,
+    ];
+    inverses[k]
+}
+
+/// The number of the turn that is the turn `k` and then the turn `j`, both below 48. It is 0, which moves nothing, where
+/// the one undoes the other.
+pub fn turn_compose(j: usize, k: usize) -> usize
+    requires later { j < 48 }
+    requires earlier { k < 48 }
+    ensures below { result < 48 }
+    ensures composed { IsComposition result j k }
+    ensures only { (i : ℕ) → i < 48 → IsComposition i j k → i ≡ result }
+    ensures undone { Undoes j k → result ≡ 0 }
+{
+    let earlier = turn_row(k);
+    let later = turn_row(j);
+    let row = composed(&later, &earlier);
+    number_of(&row)
+}
+
+/// The row of the turn with the row `earlier` and then the turn with the row `later`.
+fn composed(later: &[i8; 3], earlier: &[i8; 3]) -> [i8; 3]
+    requires later { All IsEntry later.now }
+    requires earlier { All IsEntry earlier.now }
+    ensures { triple_of result ≡ made_by later.now (triple_of earlier.now) }
+{
+    [
+        named(later[0], earlier),
+        named(later[1], earlier),
+        named(later[2], earlier),
+    ]
+}
+
+/// The entry of the row that an entry of a later turn's row names, with the sign of both.
+fn named(entry: i8, row: &[i8; 3]) -> i8
+    requires entry { IsEntry entry }
+    requires row { All IsEntry row.now }
+    ensures entry { result ≡ named_by entry (triple_of row.now) }
+{
+    let named = row[entry.unsigned_abs() as usize - 1];
+    if entry < 0 { -named } else { named }
+}
+
+/// The number of the turn with the row.
+fn number_of(row: &[i8; 3]) -> usize
+    requires turn { IsTurnRow (triple_of row.now) }
+    ensures below { result < 48 }
+    ensures row { turned result numbered ≡ triple_of row.now }
+{
+    let [x, y, z] = row;
+    let order = 2 * (x.unsigned_abs() as usize - 1)
+        + usize::from(y.unsigned_abs() > z.unsigned_abs());
+    let negated = usize::from(*x < 0) + 2 * usize::from(*y < 0) + 4 * usize::from(*z < 0);
+    8 * order + negated
+}
