@@ -1,0 +1,39 @@
+-- What leads from joined points at items back to links: arcs go on along edges, and each facet has a point that names, by the ray inward, a corner of the class of a given item.
+use Rattle.std.specs.Prelude.{◌≡◌, ℕ, pos, ◌⊎◌}
+use Rattle.nef_space.specs.Lists.{Chained}
+use Rattle.nef_space.specs.Local.{Joined}
+use Rattle.nef_space.specs.Place.{Place, form_at}
+use Rattle.nef_space.specs.Sets.{Set}
+use Rattle.nef_space.specs.Vectors.{Vector, opposite, plane_dir}
+use Rattle.nef_sphere.specs.Maps.{At, Arc, arc_item, Item, item_normal}
+use Rattle.nef_solid.specs.Complexes.{Vertex, Edge, Complex, Corner, IsCorner}
+use Rattle.nef_solid.specs.Laws.{IsFlatIn}
+use Rattle.nef_solid.specs.Shows.{Shows}
+use Rattle.nef_solid.specs.Skeleton.{item_plane, RayNames}
+use Rattle.nef_links.specs.Links.{LinkAlong, FacetLink}
+use Rattle.nef_links.specs.Components.{IsAtItem}
+
+-- the arc ends at the svertex, or begins there
+abbrev pub EndsAt : Arc → ℕ → Type 0
+EndsAt a s = (a.source ≡ s) ⊎ (a.target ≡ s)
+
+-- an arc that ends at one end of an edge is linked along it with one at the other end
+abbrev pub ArcsGoOn : Type 0
+ArcsGoOn = (s : Set) (C : Complex) (n : ℕ) (e : Edge) (j : Corner) (v : Vertex) (a : Arc) → Shows s C → At C.edges n e → IsCorner C j v (arc_item a)
+    → (j.vertex ≡ e.low → EndsAt a e.low_svertex → (k : Corner) × LinkAlong C j k) × (j.vertex ≡ e.high → EndsAt a e.high_svertex → (k : Corner) × LinkAlong C k j)
+
+-- the way inward from an item, along its plane: the one of the link across a facet
+abbrev pub way_inward : Item → Vector
+way_inward x = opposite (plane_dir (item_normal x))
+
+-- the point has two flat directions in the plane of the item at corner j, is joined with all points at the item, and names the corner k by the ray inward
+pub record NamesFor (s : Set) (C : Complex) (j : Corner) (v : Vertex) (x : Item) (q : Place) (k : Corner) : Type 0 where
+  pub on_plane : form_at (item_plane v x) q ≡ pos 0
+  pub flat : IsFlatIn s (item_plane v x) q
+  pub joined : (p : Place) → IsAtItem s C j p → Joined s p q
+  pub named : RayNames C (item_plane v x) q (way_inward x) k
+
+-- the facet beside each item has a point that names a corner of the item's class by the ray inward
+abbrev pub ItemsName : Type 0
+ItemsName = (s : Set) (C : Complex) (j : Corner) (v : Vertex) (x : Item) → Shows s C → IsCorner C j v x
+    → (q : Place) × (k : Corner) × NamesFor s C j v x q k × Chained (FacetLink C) j k
