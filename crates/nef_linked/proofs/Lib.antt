@@ -1,3 +1,5 @@
 pub mod Onward
 pub mod WayInward
 pub mod Named
+pub mod Faces
+pub mod Reached

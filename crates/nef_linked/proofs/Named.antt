@@ -32,7 +32,7 @@ use Rattle.nef_sphere.proofs.Vectors.{normal-is, same-plus, same-minus}
 use Rattle.nef_sphere.proofs.Forms.{on-direction, on-level}
 use Rattle.nef_sphere.proofs.Shot.{way-at, arc-at}
 use Rattle.nef_sphere.proofs.Compare.{SameDirection-turned, SameDirection-trans, way-self}
-use Rattle.nef_sphere.proofs.Turn.{turn-same}
+use Rattle.nef_sphere.proofs.Turn.{turn-same, turn-last}
 use Rattle.nef_solid.specs.Complexes.{Vertex, Edge, Complex, Corner, HasEnds, IsCorner}
 use Rattle.nef_solid.specs.Shows.{Shows}
 use Rattle.nef_solid.specs.Skeleton.{item_plane, PlaneMeet, meets_edge, Meets, IsFirstInPlane, IsArcOnSide, IsCornerAt}
@@ -70,11 +70,17 @@ chain-before C j k l a (ys, c) = (k ∷ ys, (a, c))
 own-plane : (n : Vector) (p : Place) → form_at (plane_through n p) p ≡ pos 0
 own-plane n p = through-at n p p ∙ dot-zero n (toward p p) (place-toward p p (same-itself p))
 
-twice : (d : Vector) → opposite (opposite d) ≡ d
+pub twice : (d : Vector) → opposite (opposite d) ≡ d
 twice d = vector-same (opposite (opposite d)) d (omega (arith, ints)) (omega (arith, ints)) (omega (arith, ints))
 
 flats-in : (s : Set) (q p : Place) (n : Vector) → FlatDim s q 2 → FlatAre s q n → IsFlatIn s (plane_through n p) q
 flats-in s q p n two flat = (two, λ e. let l = through-level n e p in let f = flat e in (λ g. l.0 (f.0 g), λ z. f.1 (l.1 z)))
+
+-- the same side, by the same way
+pub side-same : (b : ℕ) (t f g : Vector) (a : Arc) → SameDirection f g → EndsOnSide b t f a → EndsOnSide b t g a
+side-same b t f g a w = ⊎_elim
+    (λ r. inl (r.0, same-plus (triple a.normal t f) (triple a.normal t g) (turn-last a.normal t f g w) r.1))
+    (λ r. inr (r.0, same-minus (triple a.normal t f) (triple a.normal t g) (turn-last a.normal t f g w) r.1))
 
 -- a point that does what is claimed of the item
 abbrev pub Reaches : Set → Complex → Corner → Vertex → Item → Type 0

@@ -72,7 +72,7 @@ module _ (s : Set) (C : Complex) (S : Shows s C) (n : ℕ) (e : Edge) (at_n : At
   abbrev W : EdgeWays e v w
   W = edge-ways s C S n e v w at_n H
 
-  pub from-low : EdgeAway s C e.low e.low_svertex v e.high e.high_svertex w
+  abbrev pub from-low : EdgeAway s C e.low e.low_svertex v e.high e.high_svertex w
   from-low = record {
     start = W.low;
     end = W.high;
@@ -85,7 +85,7 @@ module _ (s : Set) (C : Complex) (S : Shows s C) (n : ℕ) (e : Edge) (at_n : At
     tied = ends-tied s C S n e v w at_n H;
   }
 
-  pub from-high : EdgeAway s C e.high e.high_svertex w e.low e.low_svertex v
+  abbrev pub from-high : EdgeAway s C e.high e.high_svertex w e.low e.low_svertex v
   from-high = record {
     start = W.high;
     end = W.low;
