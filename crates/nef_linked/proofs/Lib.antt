@@ -3,3 +3,4 @@ pub mod WayInward
 pub mod Named
 pub mod Faces
 pub mod Reached
+pub mod SameRay

@@ -1,10 +1,10 @@
 -- What leads from joined points at items back to links: arcs go on along edges, and each facet has a point that names, by the ray inward, a corner of the class of a given item.
-use Rattle.std.specs.Prelude.{◌≡◌, ℕ, pos, ◌⊎◌}
+use Rattle.std.specs.Prelude.{◌≡◌, ℕ, pos, ◌⊎◌, ◌↔◌}
 use Rattle.nef_space.specs.Lists.{Chained}
-use Rattle.nef_space.specs.Local.{Joined}
-use Rattle.nef_space.specs.Place.{Place, form_at}
+use Rattle.nef_space.specs.Local.{IsEven, Joined}
+use Rattle.nef_space.specs.Place.{Place, Form, toward, form_at}
 use Rattle.nef_space.specs.Sets.{Set}
-use Rattle.nef_space.specs.Vectors.{Vector, opposite, plane_dir}
+use Rattle.nef_space.specs.Vectors.{Vector, opposite, SameDirection, plane_dir}
 use Rattle.nef_sphere.specs.Maps.{At, Arc, arc_item, Item, item_normal}
 use Rattle.nef_solid.specs.Complexes.{Vertex, Edge, Complex, Corner, IsCorner}
 use Rattle.nef_solid.specs.Laws.{IsFlatIn}
@@ -37,3 +37,19 @@ pub record NamesFor (s : Set) (C : Complex) (j : Corner) (v : Vertex) (x : Item)
 abbrev pub ItemsName : Type 0
 ItemsName = (s : Set) (C : Complex) (j : Corner) (v : Vertex) (x : Item) → Shows s C → IsCorner C j v x
     → (q : Place) × (k : Corner) × NamesFor s C j v x q k × Chained (FacetLink C) j k
+
+-- points along a ray within a facet name the same corners
+abbrev pub NamesAlong : Type 0
+NamesAlong = (s : Set) (C : Complex) (h : Form) (y z : Place) (d : Vector) (k : Corner) → Shows s C → SameDirection (toward y z) d → IsEven s 2 y z → RayNames C h y d k ↔ RayNames C h z d k
+
+-- items whose points are joined are of one class of links
+abbrev pub AreLinkedWhereJoined : Set → Complex → Type 0
+AreLinkedWhereJoined s C = (j k : Corner) (p q : Place) → IsAtItem s C j p → IsAtItem s C k q → Joined s p q → Chained (FacetLink C) j k
+
+-- joined points that name corners, each by the ray inward in the plane of an item, name corners of one class
+abbrev pub NamesOfJoined : Set → Complex → Type 0
+NamesOfJoined s C = (j i : Corner) (v w : Vertex) (x y : Item) (p q : Place) (k l : Corner) → IsCorner C j v x → IsCorner C i w y → NamesFor s C j v x p k → NamesFor s C i w y q l → Joined s p q → Chained (FacetLink C) k l
+
+-- where joined points name corners of one class, items whose points are joined are linked
+abbrev pub ConverseByNames : Type 0
+ConverseByNames = (s : Set) (C : Complex) → Shows s C → NamesOfJoined s C → AreLinkedWhereJoined s C

@@ -1,9 +1,16 @@
 use Rattle.nef_linked.proofs.laws.linked_laws.Goals as goal
 use Rattle.nef_linked.proofs.Onward.{arcs-go_on}
 use Rattle.nef_linked.proofs.Reached.{items-name}
+use Rattle.nef_linked.proofs.SameRay.{names-along, converse-by_names}
 
 pub returns-clause-arcs : goal.returns-clause-arcs
 returns-clause-arcs c = arcs-go_on
 
 pub returns-clause-names : goal.returns-clause-names
 returns-clause-names c = items-name
+
+pub returns-clause-along : goal.returns-clause-along
+returns-clause-along c = names-along
+
+pub returns-clause-converse : goal.returns-clause-converse
+returns-clause-converse c = converse-by_names
