@@ -4,3 +4,4 @@ pub mod Named
 pub mod Faces
 pub mod Reached
 pub mod SameRay
+pub mod Segments

@@ -1,4 +1,4 @@
--- Points along a ray within a facet name the same corners; and what the converse comes to.
+-- Points along a ray within a facet name the same corners; and chains of links.
 use Rattle.std.proofs.Common.{◌≡◌, pos, ◌<ℤ◌, ◌-ℤ◌, arith, refl, sym, ◌∙◌, ◌⊎◌, inl, inr, ⊎_elim, List, [], ◌∷◌, ◌++◌, subst}
 use Rattle.std.proofs.lemmas.Int.{ints}
 use Rattle.nef_exact.proofs.Order.{by_order}
@@ -22,8 +22,7 @@ use Rattle.nef_solid.proofs.FacetWays.{two-off, meets-on}
 use Rattle.nef_solid.proofs.FacetAngles.{aligned, cross-back}
 use Rattle.nef_links.specs.Links.{FacetLink}
 use Rattle.nef_links.proofs.ItemPoints.{item-has_point}
-use Rattle.nef_linked.specs.Converse.{NamesAlong, NamesOfJoined, AreLinkedWhereJoined, ConverseByNames}
-use Rattle.nef_linked.proofs.Reached.{items-name}
+use Rattle.nef_linked.specs.Converse.{NamesAlong}
 
 -- of two points ahead on one ray one lies before the other, or they are one
 pub on-ray : (v p q : Place) → SameDirection (toward v p) (toward v q) → IsBetween v p q ⊎ (SamePlace p q ⊎ IsBetween v q p)
@@ -86,29 +85,19 @@ names-along s C h y z d k S w even = (
 
 -- ---- chains
 module _ (C : Complex) where
-  abbrev Linked : Corner → Corner → Type 0
+  abbrev pub Linked : Corner → Corner → Type 0
   Linked j k = Chained (FacetLink C) j k
 
   after : (j k l : Corner) (is : List Corner) → IsChain (FacetLink C) j is k → Linked k l → Linked j l
   after j k l [] e c = subst (λ (i : Corner). Linked i l) (sym e) c
   after j k l (i ∷ is) (a, c) d = let r = after i k l is c d in (i ∷ r.0, (a, r.1))
 
-  chain-both : (j k l : Corner) → Linked j k → Linked k l → Linked j l
+  pub chain-both : (j k l : Corner) → Linked j k → Linked k l → Linked j l
   chain-both j k l (is, c) d = after j k l is c d
 
   turned-chain : (j k : Corner) (is : List Corner) → IsChain (FacetLink C) j is k → Linked k j
   turned-chain j k [] e = ([], sym e)
   turned-chain j k (i ∷ is) (a, c) = chain-both k i j (turned-chain i k is c) (j ∷ [], (⊎_elim (λ x. inr x) (λ x. inl x) a, refl))
 
--- ---- what the converse comes to
-pub converse-by_names : ConverseByNames
-converse-by_names s C S names j i p q a b t =
-    let A = items-name s C j a.vertex a.item S a.corner in
-    let B = items-name s C i b.vertex b.item S b.corner in
-    let x = A.0 in
-    let y = B.0 in
-    let k = A.1 in
-    let l = B.1 in
-    let way = joined-both s x p y (joined-turned s p x (A.2.joined p a)) (joined-both s p q y t (B.2.joined q b)) in
-    let one = names j i a.vertex b.vertex a.item b.item x y k l a.corner b.corner A.2 B.2 way in
-    chain-both C j k i A.3 (chain-both C k l i one (turned-chain C i l B.3.0 B.3.1))
+  pub chain-back : (j k : Corner) → Linked j k → Linked k j
+  chain-back j k (is, c) = turned-chain j k is c

@@ -2,9 +2,9 @@
 use Rattle.std.specs.Prelude.{◌≡◌, ℕ, pos, ◌⊎◌, ◌↔◌}
 use Rattle.nef_space.specs.Lists.{Chained}
 use Rattle.nef_space.specs.Local.{IsEven, Joined}
-use Rattle.nef_space.specs.Place.{Place, Form, toward, form_at}
+use Rattle.nef_space.specs.Place.{Place, Form, form_at, normal_of, toward}
 use Rattle.nef_space.specs.Sets.{Set}
-use Rattle.nef_space.specs.Vectors.{Vector, opposite, SameDirection, plane_dir}
+use Rattle.nef_space.specs.Vectors.{Vector, opposite, IsNormal, SameDirection, plane_dir}
 use Rattle.nef_sphere.specs.Maps.{At, Arc, arc_item, Item, item_normal}
 use Rattle.nef_solid.specs.Complexes.{Vertex, Edge, Complex, Corner, IsCorner}
 use Rattle.nef_solid.specs.Laws.{IsFlatIn}
@@ -46,10 +46,11 @@ NamesAlong = (s : Set) (C : Complex) (h : Form) (y z : Place) (d : Vector) (k : 
 abbrev pub AreLinkedWhereJoined : Set → Complex → Type 0
 AreLinkedWhereJoined s C = (j k : Corner) (p q : Place) → IsAtItem s C j p → IsAtItem s C k q → Joined s p q → Chained (FacetLink C) j k
 
--- joined points that name corners, each by the ray inward in the plane of an item, name corners of one class
-abbrev pub NamesOfJoined : Set → Complex → Type 0
-NamesOfJoined s C = (j i : Corner) (v w : Vertex) (x y : Item) (p q : Place) (k l : Corner) → IsCorner C j v x → IsCorner C i w y → NamesFor s C j v x p k → NamesFor s C i w y q l → Joined s p q → Chained (FacetLink C) k l
+-- the rays inward from the ends of a segment of points with two flat directions, in their plane h, name corners of one class
+abbrev pub NamesOfSegments : Set → Complex → Type 0
+NamesOfSegments s C = (h : Form) (d : Vector) (y z : Place) (k l : Corner) → IsNormal (normal_of h) → form_at h y ≡ pos 0 → IsFlatIn s h y → SameDirection (opposite (plane_dir (normal_of h))) d → IsEven s 2 y z
+    → RayNames C h y d k → RayNames C h z d l → Chained (FacetLink C) k l
 
--- where joined points name corners of one class, items whose points are joined are linked
-abbrev pub ConverseByNames : Type 0
-ConverseByNames = (s : Set) (C : Complex) → Shows s C → NamesOfJoined s C → AreLinkedWhereJoined s C
+-- where that is so of each segment, items whose points are joined are linked
+abbrev pub ConverseBySegments : Type 0
+ConverseBySegments = (s : Set) (C : Complex) → Shows s C → NamesOfSegments s C → AreLinkedWhereJoined s C

@@ -1,14 +1,14 @@
 //! The laws that lead from joined points at items to links.
 
-ghost use Rattle.nef_linked.specs.Converse.{ArcsGoOn, ItemsName, NamesAlong, ConverseByNames};
+ghost use Rattle.nef_linked.specs.Converse.{ArcsGoOn, ItemsName, NamesAlong, ConverseBySegments};
 
 /// An arc that ends at one end of an edge is linked along it with an arc at the other end. The facet beside each item
 /// has a point that is joined with all points at the item and names, by the ray inward, a corner of the item's class.
-/// Points along a ray within a facet name the same corners. So if all joined points with such names name corners of one
-/// class, items whose points are joined are linked.
+/// Points along a ray within a facet name the same corners. And if the ends of each segment within a facet name corners
+/// of one class, items whose points are joined are linked.
 pub fn linked_laws()
     ensures arcs { ArcsGoOn }
     ensures names { ItemsName }
     ensures along { NamesAlong }
-    ensures converse { ConverseByNames }
+    ensures converse { ConverseBySegments }
 {}

@@ -1,7 +1,8 @@
 use Rattle.nef_linked.proofs.laws.linked_laws.Goals as goal
 use Rattle.nef_linked.proofs.Onward.{arcs-go_on}
 use Rattle.nef_linked.proofs.Reached.{items-name}
-use Rattle.nef_linked.proofs.SameRay.{names-along, converse-by_names}
+use Rattle.nef_linked.proofs.SameRay.{names-along}
+use Rattle.nef_linked.proofs.Segments.{converse-by_segments}
 
 pub returns-clause-arcs : goal.returns-clause-arcs
 returns-clause-arcs c = arcs-go_on
@@ -13,4 +14,4 @@ pub returns-clause-along : goal.returns-clause-along
 returns-clause-along c = names-along
 
 pub returns-clause-converse : goal.returns-clause-converse
-returns-clause-converse c = converse-by_names
+returns-clause-converse c = converse-by_segments
