@@ -5,3 +5,4 @@ pub mod Faces
 pub mod Reached
 pub mod SameRay
 pub mod Segments
+pub mod Triangles

@@ -1,10 +1,10 @@
 -- What leads from joined points at items back to links: arcs go on along edges, and each facet has a point that names, by the ray inward, a corner of the class of a given item.
-use Rattle.std.specs.Prelude.{◌≡◌, ℕ, pos, ◌⊎◌, ◌↔◌}
+use Rattle.std.specs.Prelude.{◌≡◌, ℕ, pos, ◌<ℤ◌, ◌≤ℤ◌, ◌⊎◌, ◌↔◌}
 use Rattle.nef_space.specs.Lists.{Chained}
-use Rattle.nef_space.specs.Local.{IsEven, Joined}
-use Rattle.nef_space.specs.Place.{Place, Form, form_at, normal_of, toward}
+use Rattle.nef_space.specs.Local.{FlatDim, IsEven, Joined}
+use Rattle.nef_space.specs.Place.{Place, Form, form_at, normal_of, toward, IsBetween}
 use Rattle.nef_space.specs.Sets.{Set}
-use Rattle.nef_space.specs.Vectors.{Vector, opposite, IsNormal, SameDirection, plane_dir}
+use Rattle.nef_space.specs.Vectors.{Vector, opposite, triple, IsNormal, SameDirection, plane_dir}
 use Rattle.nef_sphere.specs.Maps.{At, Arc, arc_item, Item, item_normal}
 use Rattle.nef_solid.specs.Complexes.{Vertex, Edge, Complex, Corner, IsCorner}
 use Rattle.nef_solid.specs.Laws.{IsFlatIn}
@@ -54,3 +54,14 @@ NamesOfSegments s C = (h : Form) (d : Vector) (y z : Place) (k l : Corner) → I
 -- where that is so of each segment, items whose points are joined are linked
 abbrev pub ConverseBySegments : Type 0
 ConverseBySegments = (s : Set) (C : Complex) → Shows s C → NamesOfSegments s C → AreLinkedWhereJoined s C
+
+-- ---- triangles
+-- r lies in the triangle of a, b and c, which is counterclockwise about n; b, c and what lies on their line but between them left out
+abbrev pub IsInTriangle : Vector → Place → Place → Place → Place → Type 0
+IsInTriangle n a b c r = (pos 0 ≤ℤ triple n (toward a b) (toward a r)) × (triple n (toward a c) (toward a r) ≤ℤ pos 0) × ((pos 0 <ℤ triple n (toward b c) (toward b r)) ⊎ IsBetween b r c)
+
+-- where two sides of a triangle lie within a facet, and no vertex of its plane in it, the third side lies within the facet
+abbrev pub ThirdSides : Type 0
+ThirdSides = (s : Set) (C : Complex) (h : Form) (a b c : Place) → Shows s C → IsNormal (normal_of h) → form_at h a ≡ pos 0 → form_at h b ≡ pos 0 → form_at h c ≡ pos 0
+    → pos 0 <ℤ triple (normal_of h) (toward a b) (toward a c) → IsFlatIn s h b → (FlatDim s a 1 → ⊥) → ((r : Place) → IsBetween a r b → FlatDim s r 2) → ((r : Place) → IsBetween a r c → FlatDim s r 2)
+    → ((k : ℕ) (v : Vertex) → At C.vertices k v → form_at h v.point ≡ pos 0 → IsInTriangle (normal_of h) a b c v.point → ⊥) → (r : Place) → IsBetween b r c → FlatDim s r 2

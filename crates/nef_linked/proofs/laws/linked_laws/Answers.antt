@@ -3,6 +3,7 @@ use Rattle.nef_linked.proofs.Onward.{arcs-go_on}
 use Rattle.nef_linked.proofs.Reached.{items-name}
 use Rattle.nef_linked.proofs.SameRay.{names-along}
 use Rattle.nef_linked.proofs.Segments.{converse-by_segments}
+use Rattle.nef_linked.proofs.Triangles.{third-sides}
 
 pub returns-clause-arcs : goal.returns-clause-arcs
 returns-clause-arcs c = arcs-go_on
@@ -15,3 +16,6 @@ returns-clause-along c = names-along
 
 pub returns-clause-converse : goal.returns-clause-converse
 returns-clause-converse c = converse-by_segments
+
+pub returns-clause-triangles : goal.returns-clause-triangles
+returns-clause-triangles c = third-sides
