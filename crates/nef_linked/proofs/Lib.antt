@@ -6,3 +6,4 @@ pub mod Reached
 pub mod SameRay
 pub mod Segments
 pub mod Triangles
+pub mod Sweep

@@ -77,7 +77,7 @@ across-way s y t c i all E o =
     not-along s t y (toward t y) (way-self (toward t y) back) E.one (all (near_point s t y) (between-turned t y (near_point s t y) (near-between s t y back))) (span-1 s t (toward t c) (toward t y) E.leads E.flat b)
 
 -- where a form rises through nought
-cut-up : (h : Form) (p q : Place) → IsDirection (toward p q) → form_at h p <ℤ pos 0 → pos 0 <ℤ form_at h q → Cut h p q
+pub cut-up : (h : Form) (p q : Place) → IsDirection (toward p q) → form_at h p <ℤ pos 0 → pos 0 <ℤ form_at h q → Cut h p q
 cut-up h p q i x y =
     let k = cut-at h q p (λ z. i (place-toward p q (same-place_sym q p (toward-place q p z)))) y x in
     record { place = k.place; between = between-turned q p k.place k.between; level = k.level }

@@ -1,10 +1,11 @@
 -- What leads from joined points at items back to links: arcs go on along edges, and each facet has a point that names, by the ray inward, a corner of the class of a given item.
 use Rattle.std.specs.Prelude.{◌≡◌, ℕ, pos, ◌<ℤ◌, ◌≤ℤ◌, ◌⊎◌, ◌↔◌}
+use Rattle.nef_exact.specs.Signs.{sign}
 use Rattle.nef_space.specs.Lists.{Chained}
 use Rattle.nef_space.specs.Local.{FlatDim, IsEven, Joined}
-use Rattle.nef_space.specs.Place.{Place, Form, form_at, normal_of, toward, IsBetween}
+use Rattle.nef_space.specs.Place.{Place, Form, form_at, normal_of, plane_through, toward, IsBetween}
 use Rattle.nef_space.specs.Sets.{Set}
-use Rattle.nef_space.specs.Vectors.{Vector, opposite, triple, IsNormal, SameDirection, plane_dir}
+use Rattle.nef_space.specs.Vectors.{Vector, opposite, cross, triple, IsNormal, SameDirection, plane_dir}
 use Rattle.nef_sphere.specs.Maps.{At, Arc, arc_item, Item, item_normal}
 use Rattle.nef_solid.specs.Complexes.{Vertex, Edge, Complex, Corner, IsCorner}
 use Rattle.nef_solid.specs.Laws.{IsFlatIn}
@@ -54,6 +55,24 @@ NamesOfSegments s C = (h : Form) (d : Vector) (y z : Place) (k l : Corner) → I
 -- where that is so of each segment, items whose points are joined are linked
 abbrev pub ConverseBySegments : Type 0
 ConverseBySegments = (s : Set) (C : Complex) → Shows s C → NamesOfSegments s C → AreLinkedWhereJoined s C
+
+-- nought on the line through p along d in the plane with the normal n, and of one sign on each side of it
+abbrev pub line_form : Vector → Vector → Place → Form
+line_form n d p = plane_through (cross n d) p
+
+-- from the start y, whose own line is left out, the segment to z comes to no line along d on which a vertex of the plane lies
+abbrev pub HasClearStrip : Complex → Form → Vector → Place → Place → Type 0
+HasClearStrip C h d y z = (i : ℕ) (u : Vertex) → At C.vertices i u → form_at h u.point ≡ pos 0 → (form_at (line_form (normal_of h) d u.point) y ≡ pos 0 → ⊥)
+    → sign (form_at (line_form (normal_of h) d u.point) z) ≡ sign (form_at (line_form (normal_of h) d u.point) y)
+
+-- the ends of each such segment name corners of one class
+abbrev pub NamesOfSteps : Set → Complex → Type 0
+NamesOfSteps s C = (h : Form) (d : Vector) (y z : Place) (k l : Corner) → IsNormal (normal_of h) → form_at h y ≡ pos 0 → IsFlatIn s h y → SameDirection (opposite (plane_dir (normal_of h))) d → IsEven s 2 y z → HasClearStrip C h d y z
+    → RayNames C h y d k → RayNames C h z d l → Chained (FacetLink C) k l
+
+-- where that is so, items whose points are joined are linked
+abbrev pub ConverseBySteps : Type 0
+ConverseBySteps = (s : Set) (C : Complex) → Shows s C → NamesOfSteps s C → AreLinkedWhereJoined s C
 
 -- ---- triangles
 -- r lies in the triangle of a, b and c, which is counterclockwise about n; b, c and what lies on their line but between them left out

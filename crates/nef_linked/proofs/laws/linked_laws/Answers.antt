@@ -2,7 +2,7 @@ use Rattle.nef_linked.proofs.laws.linked_laws.Goals as goal
 use Rattle.nef_linked.proofs.Onward.{arcs-go_on}
 use Rattle.nef_linked.proofs.Reached.{items-name}
 use Rattle.nef_linked.proofs.SameRay.{names-along}
-use Rattle.nef_linked.proofs.Segments.{converse-by_segments}
+use Rattle.nef_linked.proofs.Sweep.{converse-by_steps}
 use Rattle.nef_linked.proofs.Triangles.{third-sides}
 
 pub returns-clause-arcs : goal.returns-clause-arcs
@@ -15,7 +15,7 @@ pub returns-clause-along : goal.returns-clause-along
 returns-clause-along c = names-along
 
 pub returns-clause-converse : goal.returns-clause-converse
-returns-clause-converse c = converse-by_segments
+returns-clause-converse c = converse-by_steps
 
 pub returns-clause-triangles : goal.returns-clause-triangles
 returns-clause-triangles c = third-sides
