@@ -7,18 +7,25 @@
 -- * an arc ends at the svertex of d. Then the arc at the other end of the edge is linked with it, has the same plane, and lies further along d, where
 --   the number of its vertex is greater for each such step, or smaller for each. So this comes to an end, by induction on the vertices left.
 --
--- What is left to show for the converse: points that one even segment joins name corners of one class. Let p and q be its ends, in the plane h, and sweep
--- the ray along d from p to q. While it meets no vertex it names one corner: an edge that another ray meets before would cross the first one, or the
--- segment. Where it meets a vertex w at a corner k, what rays close by on one side name is found from k by the vertices ahead: k goes past d, and is
--- linked across; or it ends at d, and goes on along that edge; or it ends before d, and its edge is what they meet.
-use Rattle.std.proofs.Common.{◌≡◌, ℕ, ◌<◌, ◌≤◌, ◌+◌, suc, zero, pos, ◌<ℤ◌, neg_ℤ, arith, refl, ap, sym, ◌∙◌, ◌⊎◌, inl, inr, ⊎_elim, [], ◌∷◌, subst}
+-- What is left to show for the converse is `NamesOfSteps` (Sweep), for y and z off one line along d; on one line it is `NamesAlong` and that a ray names one
+-- corner. Say that z lies to the left of y's line, seen from the normal; for the right take the opposite form of the plane, which Triangles admits. No vertex
+-- of the plane then lies on z's line, or between both lines. So z first meets an edge e, one end of which lies on y's line or to its right.
+-- * A point t of the facet to the left of a vertex w, on z's line, is at the item of the corner k of w. Then k and what t names are of one class, by induction
+--   on the vertices ahead of w along d, counted as in Reached. Turn about w from the way to t to the way d, and take the first svertex in the plane.
+--   Before d there is one: its edge comes to z's line ahead of t, and is e, since by the third side of a triangle nothing lies between; so k is the
+--   arc at that end of e, and t names it, or the arc at the lower end, linked with it along e. It is d: the arc goes on along its edge to a vertex with an arc at
+--   which t is, by the third side again. There is none: d lies on the item, and k is linked across to what the ray from w meets, which is e, whose
+--   corner t names, or a vertex with an item at which t is.
+-- * If y's ray first meets a vertex w, then z is at the item of the corner there, by the third side of w, y and z. If it meets an edge inside, then that is e,
+--   by the triangles of y, what it meets, and what z meets of that edge, and of y, that point, and z.
+-- For this the second side of a triangle must also be allowed to be a half edge, which another edge can't cross either.
+use Rattle.std.proofs.Common.{◌≡◌, ℕ, pos, ◌<ℤ◌, arith, refl, sym, ◌∙◌, ◌⊎◌, inl, inr, ⊎_elim, [], ◌∷◌, subst}
 use Rattle.std.proofs.lemmas.Int.{ints}
-use Rattle.nef_exact.specs.Signs.{sign}
 use Rattle.nef_space.specs.Lists.{Chained}
-use Rattle.nef_space.specs.Local.{FlatDim, Joined}
-use Rattle.nef_space.specs.Place.{Place, Form, form_at, normal_of, slope, plane_through, SamePlace, toward, IsBetween}
+use Rattle.nef_space.specs.Local.{FlatDim}
+use Rattle.nef_space.specs.Place.{Place, Form, form_at, normal_of, plane_through, SamePlace, toward, IsBetween}
 use Rattle.nef_space.specs.Sets.{Set}
-use Rattle.nef_space.specs.Vectors.{Vector, opposite, dot, triple, IsDirection, IsNormal, SameDirection, plane_dir}
+use Rattle.nef_space.specs.Vectors.{Vector, opposite, dot, triple, IsDirection, SameDirection, plane_dir}
 use Rattle.nef_near.specs.Laws.{SameGerms}
 use Rattle.nef_near.proofs.Alike.{FlatDim-by_germs}
 use Rattle.nef_near.proofs.Decisions.{ahead}
@@ -48,7 +55,6 @@ use Rattle.nef_solid.proofs.FacetAngles.{through-at}
 use Rattle.nef_solid.proofs.FacetNames.{weight, normal-scaled, through-level}
 use Rattle.nef_solid.proofs.FacetEnds.{facet-behind}
 use Rattle.nef_links.specs.Links.{LinkAcross, FacetLink}
-use Rattle.nef_links.specs.Components.{IsAtItem}
 use Rattle.nef_links.proofs.Ties.{ahead-toward, even-after, IsTied, tied-both, tied-ahead}
 use Rattle.nef_links.proofs.NearVertex.{facet-near}
 use Rattle.nef_links.proofs.ItemPoints.{at-item, item-has_point, one-item}
@@ -56,7 +62,7 @@ use Rattle.nef_links.proofs.ItemLinks.{items-joined}
 use Rattle.nef_links.proofs.EdgeEnds.{EdgeWays, edge-ways, tied-low, EndsOnSide, end-level, close_way, on-close, tied-close_way}
 use Rattle.nef_links.proofs.Across.{through-same}
 use Rattle.nef_linked.specs.Converse.{way_inward, NamesFor}
-use Rattle.nef_linked.proofs.Onward.{level-kept, level-back}
+use Rattle.nef_linked.proofs.Onward.{level-kept}
 use Rattle.nef_linked.proofs.WayInward.{on-too, opposite-same, names-same, dir-level, dir-some, dir-same}
 
 -- ---- chains
@@ -103,18 +109,25 @@ module _ (s : Set) (C : Complex) (S : Shows s C) (j : Corner) (v : Vertex) (x : 
 
   pub carried : Reaches s C i w y → Reaches s C j v x
   carried (q, k, N, chain) =
-      let on-q = on-too g h w.point (own-plane (item_normal y) w.point) on one-normal q N.on_plane in
-      (q, k, record {
-        on_plane = on-q;
-        flat = (N.flat.0, λ u. (
-          λ f. level-kept (normal_of g) (normal_of h) u one-normal ((N.flat.1 u).0 f),
-          λ z. (N.flat.1 u).1 (level-kept (normal_of h) (normal_of g) u (SameDirection-turned (normal_of g) (normal_of h) one-normal) z),
-        ));
-        joined = λ p a.
-            let m = item-has_point s C S i w y L in
-            joined-both s p m.0 q (items-joined s C j i p m.0 S (chain-before C j i i link (chain-here C i)) a m.1) (N.joined m.0 m.1);
-        named = names-same C g h q N.on_plane on-q one-normal (way_inward y) (way_inward x) (opposite-same (plane_dir (item_normal y)) (plane_dir (item_normal x)) (dir-same (item_normal y) (item_normal x) same)) k N.named;
-      }, chain-before C j i k link chain)
+      let on-q = on-too g h w.point (own-plane (item_normal y) w.point) on one-normal q N.on_plane in (
+        q,
+        k,
+        record {
+          on_plane = on-q;
+          flat = (
+            N.flat.0,
+            λ u. (
+              λ f. level-kept (normal_of g) (normal_of h) u one-normal ((N.flat.1 u).0 f),
+              λ z. (N.flat.1 u).1 (level-kept (normal_of h) (normal_of g) u (SameDirection-turned (normal_of g) (normal_of h) one-normal) z),
+            ),
+          );
+          joined = λ p a.
+              let m = item-has_point s C S i w y L in
+              joined-both s p m.0 q (items-joined s C j i p m.0 S (chain-before C j i i link (chain-here C i)) a m.1) (N.joined m.0 m.1);
+          named = names-same C g h q N.on_plane on-q one-normal (way_inward y) (way_inward x) (opposite-same (plane_dir (item_normal y)) (plane_dir (item_normal x)) (dir-same (item_normal y) (item_normal x) same)) k N.named;
+        },
+        chain-before C j i k link chain,
+      )
 
 -- ---- where the way inward lies on the item
 module _ (s : Set) (C : Complex) (S : Shows s C) (j : Corner) (v : Vertex) (x : Item) (K : IsCorner C j v x) (o : OnItem v.map x (way_inward x)) where
@@ -168,13 +181,17 @@ module _ (s : Set) (C : Complex) (S : Shows s C) (j : Corner) (v : Vertex) (x : 
       let m = found.0 in
       let I = found.1 in
       let k = found.2.0 in
-      let across : LinkAcross C j k = record { vertex = v; item = x; corner = K; inward = o; named = (m, from-vertex m I, found.2.1) } in
-      (q, k, record {
-        on_plane = on-q;
-        flat = flat-q;
-        joined = λ y a. (one-item s C S j y q a (at-item s C S j v x K d o)).0;
-        named = (m, I, found.2.1);
-      }, chain-before C j k k (inl (inr across)) (chain-here C k))
+      let across : LinkAcross C j k = record { vertex = v; item = x; corner = K; inward = o; named = (m, from-vertex m I, found.2.1) } in (
+        q,
+        k,
+        record {
+          on_plane = on-q;
+          flat = flat-q;
+          joined = λ y a. (one-item s C S j y q a (at-item s C S j v x K d o)).0;
+          named = (m, I, found.2.1);
+        },
+        chain-before C j k k (inl (inr across)) (chain-here C k),
+      )
 
 -- ---- where the arc lies on the side of its edge to which the way back leads: at the lower end of the edge
 module _ (s : Set) (C : Complex) (S : Shows s C) (i : ℕ) (e : Edge) (at-i : At C.edges i e) (v w : Vertex) (H : HasEnds C e v w) (k : Corner) (c : Arc) (K : IsCorner C k v (arc_item c)) (low : k.vertex ≡ e.low) where
@@ -272,9 +289,14 @@ module _ (s : Set) (C : Complex) (S : Shows s C) (i : ℕ) (e : Edge) (at-i : At
     corner-met = (e, v, c, at-i, low, H.low, arc-at v.map.arcs v.map.loop k.item c K.item, through-same c.normal v.point n-some, on-side)
 
     pub edge-named : Reaches s C k v (arc_item c)
-    edge-named = (y, k, record {
-      on_plane = on-y;
-      flat = flat-y;
-      joined = λ r a. joined-both s r (ahead s v.point near) y (one-item s C S k r (ahead s v.point near) a (at-item s C S k v (arc_item c) K near on-near)).0 (joined-turned s y (ahead s v.point near) tied.0);
-      named = (meets_edge i, first-met, corner-met);
-    }, chain-here C k)
+    edge-named = (
+      y,
+      k,
+      record {
+        on_plane = on-y;
+        flat = flat-y;
+        joined = λ r a. joined-both s r (ahead s v.point near) y (one-item s C S k r (ahead s v.point near) a (at-item s C S k v (arc_item c) K near on-near)).0 (joined-turned s y (ahead s v.point near) tied.0);
+        named = (meets_edge i, first-met, corner-met);
+      },
+      chain-here C k,
+    )

@@ -1,5 +1,5 @@
 -- An arc that ends at an edge goes on along it: at the edge's other end there is an arc of the same plane on the same side, and the two are linked.
-use Rattle.std.proofs.Common.{◌≡◌, ℕ, ◌+◌, ℤ, pos, ◌<ℤ◌, ◌+ℤ◌, ◌*ℤ◌, ◌-ℤ◌, neg_ℤ, arith, ap, sym, ◌∙◌, ◌⊎◌, inl, inr, ⊎_elim, [], ◌∷◌, subst, refl}
+use Rattle.std.proofs.Common.{◌≡◌, ℕ, ◌+◌, pos, ◌<ℤ◌, ◌+ℤ◌, ◌*ℤ◌, neg_ℤ, arith, ap, ◌∙◌, ◌⊎◌, inl, inr, ⊎_elim, [], ◌∷◌, subst, refl}
 use Rattle.std.proofs.lemmas.Int.{ints}
 use Rattle.nef_exact.specs.Signs.{sign}
 use Rattle.nef_exact.proofs.Ring.{ring, at, num, neg, ◌⊕◌, ◌⊖◌, ◌⊗◌}
@@ -7,7 +7,7 @@ use Rattle.nef_exact.proofs.Combination.{given, none, follows}
 use Rattle.nef_space.specs.Local.{Germ}
 use Rattle.nef_space.specs.Place.{Place, toward}
 use Rattle.nef_space.specs.Sets.{Set}
-use Rattle.nef_space.specs.Vectors.{Vector, opposite, blend, dot, cross, triple, IsZero, IsDirection, SameDirection, IsOpposite}
+use Rattle.nef_space.specs.Vectors.{Vector, opposite, blend, dot, cross, triple, IsDirection, SameDirection, IsOpposite}
 use Rattle.nef_space.specs.declared.label.Label.{Label}
 use Rattle.nef_near.specs.Cells.{carriers}
 use Rattle.nef_near.specs.Laws.{SameGerms}
@@ -255,7 +255,7 @@ module _ (s : Set) (C : Complex) (S : Shows s C) (i a : ℕ) (v : Vertex) (j b :
   pub goes-on : (o : EndsAt c a) → (f : Vector) × ArcThere v'.map c a b V.end.way f
   goes-on o =
       let F = side-of c a V.start.way (normal-is (S.cones i v V.is_from).valid.shaped k (arc_item c) own.item) (direction-right (toward v.point v'.point) V.start.way V.onward)
-          (end-level s C S (corner_of i k) v c own a V.start V.is_start o) o in
+      (end-level s C S (corner_of i k) v c own a V.start V.is_start o) o in
       (F.way, arc-there s C S i a v j b v' V k c listed F.way F.level F.some F.ends)
 
 -- ---- the links

@@ -6,8 +6,7 @@ use Rattle.nef_space.specs.Place.{Place, form_at, toward, IsPlaceBelow}
 use Rattle.nef_space.specs.Sets.{Set}
 use Rattle.nef_space.specs.Vectors.{Vector, opposite, dot, triple, IsDirection, IsNormal, SameDirection, IsOpposite, plane_dir}
 use Rattle.nef_near.proofs.Decided.{Decided}
-use Rattle.nef_forms.proofs.Directions.{direction-left, direction-right}
-use Rattle.nef_sphere.specs.Maps.{At, Svertex, Arc, Item, arc_item, loop_item, item_normal, way_of, OnItem}
+use Rattle.nef_sphere.specs.Maps.{At, Svertex, Arc, arc_item, loop_item, way_of, OnItem}
 use Rattle.nef_sphere.proofs.Vectors.{normal-is}
 use Rattle.nef_sphere.proofs.Forms.{OnItem-decided}
 use Rattle.nef_sphere.proofs.Places.{SameDirection-decided}
@@ -25,7 +24,7 @@ use Rattle.nef_solid.proofs.FacetEdges.{ahead-back}
 use Rattle.nef_links.specs.Links.{FacetLink}
 use Rattle.nef_links.proofs.EdgeEnds.{EndsOnSide, end-level, corner_of, right-turn}
 use Rattle.nef_linked.specs.Converse.{EndsAt, way_inward, ItemsName}
-use Rattle.nef_linked.proofs.Onward.{level-back, EdgeAway, from-low, from-high, ArcThere, arc-there, goes-on, link-up, link-down}
+use Rattle.nef_linked.proofs.Onward.{level-back, EdgeAway, from-low, from-high, arc-there, goes-on, link-up, link-down}
 use Rattle.nef_linked.proofs.WayInward.{opposite-same, dir-level, dir-some, dir-same}
 use Rattle.nef_linked.proofs.Named.{twice, Reaches, carried, onward-named, edge-named, side-same}
 use Rattle.nef_linked.proofs.Faces.{leads-away}

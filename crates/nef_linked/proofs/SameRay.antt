@@ -1,14 +1,13 @@
 -- Points along a ray within a facet name the same corners; and chains of links.
-use Rattle.std.proofs.Common.{◌≡◌, pos, ◌<ℤ◌, ◌-ℤ◌, arith, refl, sym, ◌∙◌, ◌⊎◌, inl, inr, ⊎_elim, List, [], ◌∷◌, ◌++◌, subst}
+use Rattle.std.proofs.Common.{◌≡◌, pos, ◌<ℤ◌, ◌-ℤ◌, arith, refl, sym, ◌⊎◌, inl, inr, ⊎_elim, List, [], ◌∷◌, subst}
 use Rattle.std.proofs.lemmas.Int.{ints}
 use Rattle.nef_exact.proofs.Order.{by_order}
 use Rattle.nef_exact.proofs.Ring.{ring, at, num, ◌⊕◌, ◌⊖◌, ◌⊗◌}
 use Rattle.nef_space.specs.Lists.{IsChain, Chained}
-use Rattle.nef_space.specs.Local.{FlatDim, IsEven}
+use Rattle.nef_space.specs.Local.{IsEven}
 use Rattle.nef_space.specs.Place.{Place, Form, SamePlace, toward, IsBetween}
 use Rattle.nef_space.specs.Sets.{Set}
 use Rattle.nef_space.specs.Vectors.{Vector, dot, cross, IsZero, IsDirection, SameDirection}
-use Rattle.nef_near.proofs.Even.{joined-turned, joined-both}
 use Rattle.nef_near.proofs.Rays.{same-place_sym}
 use Rattle.nef_forms.proofs.Between.{toward-place}
 use Rattle.nef_forms.proofs.Directions.{direction-left}
@@ -16,12 +15,11 @@ use Rattle.nef_sphere.proofs.Vectors.{nought-if}
 use Rattle.nef_sphere.proofs.Compare.{SameDirection-turned, SameDirection-trans}
 use Rattle.nef_solid.specs.Complexes.{Complex, Corner}
 use Rattle.nef_solid.specs.Shows.{Shows}
-use Rattle.nef_solid.specs.Skeleton.{PlaneMeet, Meets, IsFirstInPlane, RayNames}
+use Rattle.nef_solid.specs.Skeleton.{PlaneMeet, Meets, IsFirstInPlane}
 use Rattle.nef_solid.proofs.Ways.{between-way, between-cases, between-outer}
 use Rattle.nef_solid.proofs.FacetWays.{two-off, meets-on}
 use Rattle.nef_solid.proofs.FacetAngles.{aligned, cross-back}
 use Rattle.nef_links.specs.Links.{FacetLink}
-use Rattle.nef_links.proofs.ItemPoints.{item-has_point}
 use Rattle.nef_linked.specs.Converse.{NamesAlong}
 
 -- of two points ahead on one ray one lies before the other, or they are one

@@ -1,10 +1,10 @@
 -- Along a path of even segments within a facet, the ends of each segment in its turn: so the converse comes to single segments.
 use Rattle.std.proofs.Common.{◌≡◌, ℕ, pos, List, [], ◌∷◌, inl, inr, ⊎_elim, subst}
 use Rattle.nef_space.specs.Lists.{Chained}
-use Rattle.nef_space.specs.Local.{FlatDim, Joined, IsEven, IsEvenPath}
-use Rattle.nef_space.specs.Place.{Place, Form, form_at, normal_of, slope, toward, IsBetween}
+use Rattle.nef_space.specs.Local.{Joined, IsEven, IsEvenPath}
+use Rattle.nef_space.specs.Place.{Place, Form, form_at, normal_of, slope, toward}
 use Rattle.nef_space.specs.Sets.{Set}
-use Rattle.nef_space.specs.Vectors.{Vector, opposite, dot, IsDirection, IsNormal, SameDirection, plane_dir}
+use Rattle.nef_space.specs.Vectors.{Vector, opposite, IsDirection, IsNormal, SameDirection, plane_dir}
 use Rattle.nef_near.specs.Cells.{carriers}
 use Rattle.nef_near.proofs.Alike.{FlatDim-one}
 use Rattle.nef_near.proofs.Edges.{start-close}
@@ -28,7 +28,7 @@ use Rattle.nef_links.specs.Links.{FacetLink}
 use Rattle.nef_links.proofs.Across.{through-same}
 use Rattle.nef_linked.specs.Converse.{way_inward, NamesFor, NamesOfSegments, ConverseBySegments}
 use Rattle.nef_linked.proofs.Onward.{level-kept, level-back}
-use Rattle.nef_linked.proofs.WayInward.{opposite-same, names-same, dir-level, dir-some, dir-same}
+use Rattle.nef_linked.proofs.WayInward.{opposite-same, names-same, dir-level, dir-same}
 use Rattle.nef_linked.proofs.Reached.{items-name}
 use Rattle.nef_linked.proofs.SameRay.{chain-both, chain-back}
 

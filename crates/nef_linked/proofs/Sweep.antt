@@ -1,12 +1,11 @@
 -- A segment is cut where a line along the way inward, through a vertex of the plane, crosses it; so the converse comes to segments beside which, but on the line of their start, no vertex lies.
-use Rattle.std.proofs.Common.{◌≡◌, ℕ, zero, suc, ℤ, pos, ◌<ℤ◌, ◌≤ℤ◌, arith, refl, sym, ◌∙◌, ◌⊎◌, inl, inr, ⊎_elim, List, [], ◌∷◌, subst}
+use Rattle.std.proofs.Common.{◌≡◌, ℕ, zero, suc, pos, ◌<ℤ◌, ◌≤ℤ◌, arith, refl, sym, ◌∙◌, ◌⊎◌, inl, inr, ⊎_elim, List, [], ◌∷◌, subst}
 use Rattle.std.proofs.lemmas.Int.{ints}
 use Rattle.nef_exact.specs.Signs.{sign}
 use Rattle.nef_exact.proofs.Order.{by_order, sign-plus, sign-minus, minus-is}
-use Rattle.nef_near.specs.Cells.{carriers}
 use Rattle.nef_space.specs.Lists.{Chained}
 use Rattle.nef_space.specs.Local.{FlatDim, IsEven}
-use Rattle.nef_space.specs.Place.{Place, Form, form_at, normal_of, slope, plane_through, SamePlace, toward, IsBetween}
+use Rattle.nef_space.specs.Place.{Place, Form, form_at, normal_of, slope, SamePlace, toward, IsBetween}
 use Rattle.nef_space.specs.Sets.{Set}
 use Rattle.nef_space.specs.Vectors.{Vector, opposite, IsZero, IsDirection, IsNormal, SameDirection, plane_dir}
 use Rattle.nef_near.proofs.Rays.{signs-same}
@@ -14,10 +13,9 @@ use Rattle.nef_near.proofs.Between.{between-turned, between-inner}
 use Rattle.nef_forms.proofs.Between.{toward-place}
 use Rattle.nef_forms.proofs.Directions.{zero-decided, direction-right}
 use Rattle.nef_sphere.specs.Maps.{At}
-use Rattle.nef_sphere.proofs.Vectors.{normal-direction}
 use Rattle.nef_solid.specs.Complexes.{Vertex, Complex, Corner}
 use Rattle.nef_solid.specs.Shows.{Shows}
-use Rattle.nef_solid.specs.Skeleton.{PlaneMeet, IsFirstInPlane, IsCornerAt, RayNames}
+use Rattle.nef_solid.specs.Skeleton.{RayNames}
 use Rattle.nef_solid.specs.Laws.{IsFlatIn}
 use Rattle.nef_solid.proofs.Ways.{between-outer, same-itself}
 use Rattle.nef_solid.proofs.Edges.{near_point, near-between}
@@ -28,8 +26,8 @@ use Rattle.nef_solid.proofs.FacetAngles.{between-plus, between-minus, cut-at, Cu
 use Rattle.nef_solid.proofs.FacetTriangle.{below-or}
 use Rattle.nef_links.specs.Links.{FacetLink}
 use Rattle.nef_links.proofs.Ties.{same-between}
-use Rattle.nef_linked.specs.Converse.{line_form, NamesOfSteps, NamesOfSegments, ConverseBySteps}
-use Rattle.nef_linked.proofs.Onward.{level-kept, level-back}
+use Rattle.nef_linked.specs.Converse.{line_form, NamesOfSteps, ConverseBySteps}
+use Rattle.nef_linked.proofs.Onward.{level-back}
 use Rattle.nef_linked.proofs.WayInward.{dir-level}
 use Rattle.nef_linked.proofs.SameRay.{chain-both, chain-back}
 use Rattle.nef_linked.proofs.Segments.{even-on, even-flat, converse-by_segments}
@@ -76,14 +74,20 @@ module _ (h : Form) (p r q : Place) (b : IsBetween p r q) where
   -- what crosses a part crosses the whole
   crosses-first : Crosses h p r → Crosses h p q
   crosses-first (inl (x, y)) = inl (x, ⊎_elim (λ l. l) (λ l. absurd (let m = between-plus h p r q b x l in omega (arith, ints))) (below-or (form_at h q)))
-  crosses-first (inr (x, y)) = inr (x, by_order (form_at h q) (pos 0)
-      (λ l. absurd (let m = minus-any h q r p (between-turned p q r b) (omega (arith, ints)) x in omega (arith, ints)))
-      (λ l. absurd (let m = minus-any h q r p (between-turned p q r b) (omega (arith, ints)) x in omega (arith, ints))) (λ l. l))
+  crosses-first (inr (x, y)) = inr (
+    x,
+    by_order (form_at h q) (pos 0)
+        (λ l. absurd (let m = minus-any h q r p (between-turned p q r b) (omega (arith, ints)) x in omega (arith, ints)))
+        (λ l. absurd (let m = minus-any h q r p (between-turned p q r b) (omega (arith, ints)) x in omega (arith, ints))) (λ l. l),
+  )
 
   crosses-second : Crosses h r q → Crosses h p q
-  crosses-second (inl (x, y)) = inl (by_order (form_at h p) (pos 0)
-      (λ l. absurd (let m = minus-any h p r q b (omega (arith, ints)) y in omega (arith, ints)))
-      (λ l. absurd (let m = minus-any h p r q b (omega (arith, ints)) y in omega (arith, ints))) (λ l. l), y)
+  crosses-second (inl (x, y)) = inl (
+    by_order (form_at h p) (pos 0)
+        (λ l. absurd (let m = minus-any h p r q b (omega (arith, ints)) y in omega (arith, ints)))
+        (λ l. absurd (let m = minus-any h p r q b (omega (arith, ints)) y in omega (arith, ints))) (λ l. l),
+    y,
+  )
   crosses-second (inr (x, y)) = inr (⊎_elim (λ l. l) (λ l. absurd (let m = plus-any h p r q b l y in omega (arith, ints))) (below-or (form_at h p)), y)
 
   -- where it doesn't cross the whole, it has between the sign that it has at the start
@@ -171,7 +175,7 @@ module _ (s : Set) (C : Complex) (S : Shows s C) (steps : NamesOfSteps s C) (h :
           let c = named-at r (even-on s h y r on F first) (even-flat s h y r on F first) in
           let left = steps h d y r k c.0 N on F inward first (λ i u p q off. keeps-start (Line u) y r z m (none i u p q) off) a c.1 in
           let right = steps h d z r l c.0 N (even-on s h y z on F even) (even-flat s h y z on F even) inward (second-back s y r z even m)
-              (λ i u p q off. keeps-start (Line u) z r y (between-turned y z r m) (λ x. none i u p q (turned-crossing (Line u) y z x)) off) b c.1 in
+          (λ i u p q off. keeps-start (Line u) z r y (between-turned y z r m) (λ x. none i u p q (turned-crossing (Line u) y z x)) off) b c.1 in
           chain-both C k c.0 l left (chain-back C l c.0 right)
 
   sweep : (xs : List Vertex) (y z : Place) (k l : Corner) → form_at h y ≡ pos 0 → IsFlatIn s h y → IsEven s 2 y z → RayNames C h y d k → RayNames C h z d l

@@ -1,13 +1,12 @@
 -- Where two sides of a triangle lie within a facet, and no vertex in it, the third side lies within the facet too: an edge that crosses it would leave the triangle by another side.
-use Rattle.std.proofs.Common.{◌≡◌, ℕ, ℤ, pos, ◌-ℤ◌, ◌*ℤ◌, ◌<ℤ◌, ◌≤ℤ◌, arith, ap, sym, ◌∙◌, ◌⊎◌, inl, inr, ⊎_elim, [], ◌∷◌, subst}
+use Rattle.std.proofs.Common.{◌≡◌, ℕ, ℤ, pos, ◌-ℤ◌, ◌*ℤ◌, ◌<ℤ◌, ◌≤ℤ◌, arith, ap, sym, ◌∙◌, inl, inr, ⊎_elim, [], ◌∷◌, subst}
 use Rattle.std.proofs.lemmas.Int.{ints}
 use Rattle.nef_exact.proofs.Ring.{ring, at, num, ◌⊖◌, ◌⊗◌}
 use Rattle.nef_exact.proofs.Order.{mul_pos, by_order}
-use Rattle.nef_exact.specs.Signs.{sign}
 use Rattle.nef_space.specs.Local.{FlatDim}
 use Rattle.nef_space.specs.Place.{Place, Form, form_at, normal_of, slope, SamePlace, toward, IsBetween}
 use Rattle.nef_space.specs.Sets.{Set}
-use Rattle.nef_space.specs.Vectors.{Vector, cross, IsZero, IsDirection, SameDirection}
+use Rattle.nef_space.specs.Vectors.{Vector, cross, IsZero, IsDirection}
 use Rattle.nef_near.specs.Laws.{Drop}
 use Rattle.nef_near.proofs.Alike.{FlatDim-one}
 use Rattle.nef_near.proofs.Between.{between-turned, between-inner}
@@ -18,13 +17,12 @@ use Rattle.nef_near.proofs.Rays.{same-place_sym}
 use Rattle.nef_forms.proofs.Near.{slope-toward}
 use Rattle.nef_forms.proofs.Between.{toward-place, place-toward, between-same}
 use Rattle.nef_sphere.specs.Maps.{At}
-use Rattle.nef_sphere.proofs.Vectors.{normal-direction, same-plus}
+use Rattle.nef_sphere.proofs.Vectors.{normal-direction}
 use Rattle.nef_sphere.proofs.Parallel.{parallel-in_plane, parallel-trans}
 use Rattle.nef_sphere.proofs.Compare.{SameDirection-turned, SameDirection-trans, way-self}
-use Rattle.nef_sphere.proofs.Turn.{turn-same}
-use Rattle.nef_solid.specs.Complexes.{Vertex, Edge, Complex, HasEnds}
+use Rattle.nef_solid.specs.Complexes.{Vertex, Complex}
 use Rattle.nef_solid.specs.Shows.{Shows}
-use Rattle.nef_solid.specs.Skeleton.{IsVertexPoint, IsEdgePoint, IsOnEdges}
+use Rattle.nef_solid.specs.Skeleton.{IsVertexPoint, IsOnEdges}
 use Rattle.nef_solid.specs.Laws.{IsFlatIn}
 use Rattle.nef_solid.proofs.Planes.{plane-way}
 use Rattle.nef_solid.proofs.Ways.{between-way, between-start, between-ends, same-itself}
@@ -33,7 +31,7 @@ use Rattle.nef_solid.proofs.FacetEdges.{not-along}
 use Rattle.nef_solid.proofs.FacetWays.{dim-same, below-on, ends-lie}
 use Rattle.nef_solid.proofs.FacetAngles.{same-by, same-by-minus, zero-by, Cut, cross-back, aligned, angle, turn_form, turn-at, angle-turned, angle-self, angle-start, angle-inside, between-plus, between-minus, between-level, cut-at}
 use Rattle.nef_solid.proofs.FacetTriangle.{HalfEdge, edge-halves, plane-between, below-or}
-use Rattle.nef_linked.specs.Converse.{IsInTriangle, ThirdSides}
+use Rattle.nef_linked.specs.Converse.{ThirdSides}
 
 -- ---- the slope of a form from and to its plane
 module _ (F : Form) (p q : Place) where
@@ -189,8 +187,11 @@ module _ (s : Set) (C : Complex) (S : Shows s C) (h : Form) (hn : IsDirection (n
       ends-in : (pos 0 ≤ℤ form_at P v.point) × (form_at R v.point ≤ℤ pos 0)
       ends-in = ⊎_elim
           (λ l. absurd (let k = cut-at P t v.point E.leads P-t l in not-first k.place k.between k.level))
-          (λ l. (l, by_order (form_at R v.point) (pos 0) (λ m. omega (arith, ints)) (λ m. omega (arith, ints))
-          (λ m. absurd (let k = cut-up R t v.point E.leads R-t m in not-second k.place k.between k.level (between-plus P t k.place v.point k.between P-t l))))) (below-or (form_at P v.point))
+          (λ l. (
+            l,
+            by_order (form_at R v.point) (pos 0) (λ m. omega (arith, ints)) (λ m. omega (arith, ints))
+                (λ m. absurd (let k = cut-up R t v.point E.leads R-t m in not-second k.place k.between k.level (between-plus P t k.place v.point k.between P-t l))),
+          )) (below-or (form_at P v.point))
 
     -- so no edge crosses the third side
     module _ (no-vertex : (r : Place) → IsBetween b r c → (k : ℕ) → IsVertexPoint C k r → ⊥)

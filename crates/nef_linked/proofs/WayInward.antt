@@ -14,7 +14,7 @@ use Rattle.nef_space.specs.Vectors.{Vector, opposite, dot, cross, triple, blend,
 use Rattle.nef_forms.specs.Homogeneous.{SameUpToFactor, of_direction}
 use Rattle.nef_forms.proofs.Directions.{dot-comm, direction-left, same-factor, factor-same}
 use Rattle.nef_forms.proofs.Sums.{some-pos}
-use Rattle.nef_sphere.specs.Maps.{Item, item_normal, Arc, way_of}
+use Rattle.nef_sphere.specs.Maps.{item_normal, Arc, way_of}
 use Rattle.nef_sphere.proofs.Compare.{SameDirection-turned, SameDirection-trans}
 use Rattle.nef_sphere.proofs.Labels.{way-signs}
 use Rattle.nef_sphere.proofs.Turn.{turn-last}
@@ -24,7 +24,7 @@ use Rattle.nef_solid.specs.Skeleton.{PlaneMeet, meets_vertex, meets_edge, LiesIn
 use Rattle.nef_solid.proofs.FacetWays.{plane-onward}
 use Rattle.nef_solid.proofs.Planes.{plane-way}
 use Rattle.nef_links.proofs.ItemPoints.{on_item-way}
-use Rattle.nef_linked.proofs.Onward.{level-kept, level-back}
+use Rattle.nef_linked.proofs.Onward.{level-kept}
 
 -- ---- points of two forms of one plane
 module _ (g h : Form) (y : Place) (on_g : form_at g y ≡ pos 0) (on_h : form_at h y ≡ pos 0) (w : SameDirection (normal_of g) (normal_of h)) where
