@@ -17,8 +17,7 @@
 --   which t is, by the third side again. There is none: d lies on the item, and k is linked across to what the ray from w meets, which is e, whose
 --   corner t names, or a vertex with an item at which t is.
 -- * If y's ray first meets a vertex w, then z is at the item of the corner there, by the third side of w, y and z. If it meets an edge inside, then that is e,
---   by the triangles of y, what it meets, and what z meets of that edge, and of y, that point, and z.
--- For this the second side of a triangle must also be allowed to be a half edge, which another edge can't cross either.
+--   by the triangles of y, what it meets, and what z's line meets of that edge, and of y, that point, and z.
 use Rattle.std.proofs.Common.{◌≡◌, ℕ, pos, ◌<ℤ◌, arith, refl, sym, ◌∙◌, ◌⊎◌, inl, inr, ⊎_elim, [], ◌∷◌, subst}
 use Rattle.std.proofs.lemmas.Int.{ints}
 use Rattle.nef_space.specs.Lists.{Chained}

@@ -1,22 +1,25 @@
--- Where two sides of a triangle lie within a facet, and no vertex in it, the third side lies within the facet too: an edge that crosses it would leave the triangle by another side.
-use Rattle.std.proofs.Common.{◌≡◌, ℕ, ℤ, pos, ◌-ℤ◌, ◌*ℤ◌, ◌<ℤ◌, ◌≤ℤ◌, arith, ap, sym, ◌∙◌, inl, inr, ⊎_elim, [], ◌∷◌, subst}
+-- Where a side of a triangle lies within a facet, another within it or on an edge, and no vertex in it, the third side lies within the facet: an edge that crosses it would leave the triangle by another side.
+use Rattle.std.proofs.Common.{◌≡◌, ℕ, ℤ, pos, ◌-ℤ◌, ◌*ℤ◌, ◌<ℤ◌, ◌≤ℤ◌, arith, ap, sym, ◌∙◌, ◌⊎◌, inl, inr, ⊎_elim, [], ◌∷◌, subst}
 use Rattle.std.proofs.lemmas.Int.{ints}
 use Rattle.nef_exact.proofs.Ring.{ring, at, num, ◌⊖◌, ◌⊗◌}
 use Rattle.nef_exact.proofs.Order.{mul_pos, by_order}
-use Rattle.nef_space.specs.Local.{FlatDim}
+use Rattle.nef_space.specs.Local.{Flat, FlatDim}
 use Rattle.nef_space.specs.Place.{Place, Form, form_at, normal_of, slope, SamePlace, toward, IsBetween}
 use Rattle.nef_space.specs.Sets.{Set}
 use Rattle.nef_space.specs.Vectors.{Vector, cross, IsZero, IsDirection}
+use Rattle.nef_near.specs.Cells.{carriers}
 use Rattle.nef_near.specs.Laws.{Drop}
-use Rattle.nef_near.proofs.Alike.{FlatDim-one}
+use Rattle.nef_near.proofs.Alike.{germs-by_cell, FlatDim-one, Flat-by_germs}
 use Rattle.nef_near.proofs.Between.{between-turned, between-inner}
 use Rattle.nef_near.proofs.Edges.{even-until}
-use Rattle.nef_near.proofs.Even.{span-1}
+use Rattle.nef_near.proofs.Even.{even-germs, span-1}
 use Rattle.nef_near.proofs.FlatDecided.{cross-turned}
-use Rattle.nef_near.proofs.Rays.{same-place_sym}
+use Rattle.nef_near.proofs.Rays.{signs-same, same-place_sym}
 use Rattle.nef_forms.proofs.Near.{slope-toward}
 use Rattle.nef_forms.proofs.Between.{toward-place, place-toward, between-same}
+use Rattle.nef_forms.proofs.Directions.{dot-zero, zero-decided}
 use Rattle.nef_sphere.specs.Maps.{At}
+use Rattle.nef_sphere.proofs.KindFlats.{in-span}
 use Rattle.nef_sphere.proofs.Vectors.{normal-direction}
 use Rattle.nef_sphere.proofs.Parallel.{parallel-in_plane, parallel-trans}
 use Rattle.nef_sphere.proofs.Compare.{SameDirection-turned, SameDirection-trans, way-self}
@@ -24,14 +27,15 @@ use Rattle.nef_solid.specs.Complexes.{Vertex, Complex}
 use Rattle.nef_solid.specs.Shows.{Shows}
 use Rattle.nef_solid.specs.Skeleton.{IsVertexPoint, IsOnEdges}
 use Rattle.nef_solid.specs.Laws.{IsFlatIn}
+use Rattle.nef_solid.proofs.FacetSides.{level-way}
 use Rattle.nef_solid.proofs.Planes.{plane-way}
 use Rattle.nef_solid.proofs.Ways.{between-way, between-start, between-ends, same-itself}
 use Rattle.nef_solid.proofs.Edges.{near_point, near-between}
 use Rattle.nef_solid.proofs.FacetEdges.{not-along}
-use Rattle.nef_solid.proofs.FacetWays.{dim-same, below-on, ends-lie}
+use Rattle.nef_solid.proofs.FacetWays.{dim-same, even-by, plane-back, below-on, ends-lie}
 use Rattle.nef_solid.proofs.FacetAngles.{same-by, same-by-minus, zero-by, Cut, cross-back, aligned, angle, turn_form, turn-at, angle-turned, angle-self, angle-start, angle-inside, between-plus, between-minus, between-level, cut-at}
 use Rattle.nef_solid.proofs.FacetTriangle.{HalfEdge, edge-halves, plane-between, below-or}
-use Rattle.nef_linked.specs.Converse.{ThirdSides}
+use Rattle.nef_linked.specs.Converse.{LiesWithin, ThirdSides}
 
 -- ---- the slope of a form from and to its plane
 module _ (F : Form) (p q : Place) where
@@ -79,6 +83,10 @@ pub cut-up : (h : Form) (p q : Place) → IsDirection (toward p q) → form_at h
 cut-up h p q i x y =
     let k = cut-at h q p (λ z. i (place-toward p q (same-place_sym q p (toward-place q p z)))) y x in
     record { place = k.place; between = between-turned q p k.place k.between; level = k.level }
+
+-- the direction of an edge is flat all along it
+flat-on : (s : Set) (p r q : Place) → FlatDim s p 1 → Flat s p (toward p q) → ((u : Place) → IsBetween p u q → FlatDim s u 1) → IsBetween p r q → Flat s r (toward p q)
+flat-on s p r q one flat all b = Flat-by_germs s s p r (even-germs s 1 p r (even-by s 1 p r one (λ u d. all u (between-inner p r q u b d)) (all r b))) (toward p q) flat
 
 -- ---- the triangle of a, b and c
 module _ (s : Set) (C : Complex) (S : Shows s C) (h : Form) (hn : IsDirection (normal_of h)) (a b c : Place) (on-a : form_at h a ≡ pos 0) (on-b : form_at h b ≡ pos 0) (on-c : form_at h c ≡ pos 0)
@@ -147,7 +155,7 @@ module _ (s : Set) (C : Complex) (S : Shows s C) (h : Form) (hn : IsDirection (n
       level-from : (F : Form) (p q : Place) → form_at F p ≡ pos 0 → form_at F q ≡ pos 0 → slope F (toward p q) ≡ pos 0
       level-from F p q e f = plane-way F p q e f
 
-  module _ (first : (r : Place) → IsBetween a r b → FlatDim s r 2) (second : (r : Place) → IsBetween a r c → FlatDim s r 2) (corner : FlatDim s a 1 → ⊥) (F : IsFlatIn s h b) where
+  module _ (first : (r : Place) → IsBetween a r b → FlatDim s r 2) (second : LiesWithin s a c) (F : IsFlatIn s h b) where
     -- an edge from a point t of the third side, to the side of a, ends in the triangle
     module _ (t : Place) (amid : IsBetween b t c) (v : Vertex) (on-v : form_at h v.point ≡ pos 0) (E : HalfEdge s t v.point) (inward : pos 0 <ℤ form_at G v.point) where
       on-t : form_at h t ≡ pos 0
@@ -168,15 +176,30 @@ module _ (s : Set) (C : Complex) (S : Shows s C) (h : Form) (hn : IsDirection (n
       G-x : (x : Place) → IsBetween t x v.point → pos 0 <ℤ form_at G x
       G-x x d = between-plus G v.point x t (between-turned t v.point x d) inward (let e = G-t in omega (arith, ints))
 
+      -- it doesn't run through a point of the second side, which lies within a facet, or on an edge, to which the edge from t would be parallel
+      off-second : (x : Place) → IsBetween t x v.point → form_at R x ≡ pos 0 → IsBetween a x c ⊎ SamePlace a x → LiesWithin s a c → ⊥
+      off-second x d z (inl o) (inl w) = let j = FlatDim-one s x 1 2 (E.all x d) (w.1 x o) in cc
+      off-second x d z (inr o) (inl w) = w.0 (dim-same s x a 1 (same-place_sym a x o) (E.all x d))
+      off-second x d z o (inr w) =
+          let there = flat-on s t x v.point E.one E.flat E.all d in
+          let here = ⊎_elim (λ m. flat-on s a x c w.0 w.1 w.2 m) (λ e. Flat-by_germs s s a x (germs-by_cell s a x (signs-same (carriers s) a x e)) (toward a c) w.1) o in
+          let way = ⊎_elim (λ y. y) (λ f. absurd ((E.all x d).1 (toward a c, toward t v.point, f, here, there))) (zero-decided (cross (toward a c) (toward t v.point))) in
+          let some : IsDirection (toward a c) = λ y. let m = rises P a c P-a P-c in let k = dot-zero (normal_of P) (toward a c) y in omega (arith, ints) in
+          let level = in-span (normal_of R) (toward a c) (toward t v.point) some way (plane-way R a c R-a R-c) in
+          let to-x = level-way (normal_of R) (toward t v.point) (toward t x) (SameDirection-turned (toward t x) (toward t v.point) (between-way t x v.point d)) level in
+          let k = plane-back R t x to-x z in
+          let r = R-t in
+          omega (arith, ints)
+
       -- it doesn't cross the second side
       not-second : (x : Place) → IsBetween t x v.point → form_at R x ≡ pos 0 → pos 0 <ℤ form_at P x → ⊥
-      not-second x d e p = let j = FlatDim-one s x 1 2 (E.all x d) (second x (on-second x (on-x x d) e p (G-x x d))) in cc
+      not-second x d e p = off-second x d e (inl (on-second x (on-x x d) e p (G-x x d))) second
 
       -- nor the first
       not-first : (x : Place) → IsBetween t x v.point → form_at P x ≡ pos 0 → ⊥
       not-first x d e = by_order (form_at R x) (pos 0)
           (λ l. let j = FlatDim-one s x 1 2 (E.all x d) (first x (on-first x (on-x x d) e l (G-x x d))) in cc)
-          (λ z. corner (dim-same s x a 1 (same-place_sym a x (at-corner x (on-x x d) e z)) (E.all x d)))
+          (λ z. off-second x d z (inr (at-corner x (on-x x d) e z)) second)
           (λ l.
           let k = cut-back l in
           not-second k.place (between-inner t x v.point k.place d k.between) k.level (between-plus P t k.place x k.between P-t (omega (arith, ints))))
@@ -228,8 +251,8 @@ module _ (s : Set) (C : Complex) (S : Shows s C) (h : Form) (hn : IsDirection (n
       third-side = ⊎_elim (λ f. f) (λ (D : Drop s 2 b c). absurd (none-here D.at_place D.between D.even_before (below-on s C S D.at_place D.drops))) (even-until s 2 b c F.0 ((F.1 (toward b c)).1 (plane-way h b c on-b on-c)))
 
 pub third-sides : ThirdSides
-third-sides s C h a b c S N on-a on-b on-c turn F corner first second none =
-    third-side s C S h (normal-direction (normal_of h) N) a b c on-a on-b on-c turn first second corner F no-vertex no-end
+third-sides s C h a b c S N on-a on-b on-c turn F first second none =
+    third-side s C S h (normal-direction (normal_of h) N) a b c on-a on-b on-c turn first second F no-vertex no-end
   where
     n : Vector
     n = normal_of h
