@@ -1,14 +1,17 @@
 -- Each kind of step keeps the queue's rule, and what a pass learns from it.
-use Rattle.std.proofs.Common.{◌≡◌, ◌≢◌, ℕ, zero, suc, ◌+◌, ◌-◌, ◌^◌, ◌<◌, ◌≤◌, ◌==◌, cond, List, [], ◌∷◌, ◌++◌, length, set, refl, ap, sym, ◌∙◌, arith, ◌⊎◌, inl, inr, ⊎_elim, subst}
+use Rattle.std.proofs.Common.{◌≡◌, ◌≢◌, ℕ, zero, suc, ◌+◌, ◌-◌, ◌^◌, ◌<◌, ◌≤◌, ◌==◌, cond, List, [], ◌∷◌, ◌++◌, length, set, refl, ap, sym, ◌∙◌, arith, ◌⊎◌, inl, inr, ⊎_elim, subst, take, drop, slice_index_or}
+use Rattle.std.proofs.lemmas.List.{length-append, length-take-le}
 use mathlib.Core.Option.{some, some-injective, some-ne-none}
 use lib.ListN.{get_elem?}
-use Rattle.crossbeam_queue.specs.Fifo.{Pushes, Pops, Forks, Merges, Learns}
-use Rattle.atomic_table.proofs.Lists.{at_set, at_snoc, set_else}
+use Rattle.crossbeam_queue.specs.Fifo.{Pushes, Pops, Forks, Merges, Learns, Held}
+use Rattle.crossbeam_queue.proofs.Lists.{at_set, at_snoc}
 use Rattle.nef_sched.specs.declared.view.View.{View}
-use Rattle.nef_sched.specs.Counts.{weigh, times, Differ, IsDealt}
-use Rattle.nef_sched.specs.Views.{seeing, first_view, put, took, cut, share, both, spent, total}
+use Rattle.nef_sched.specs.Counts.{weigh, one, times, Differ, IsDealt}
+use Rattle.nef_sched.specs.Views.{seeing, whole, first_view, put, took, cut, share, both, spent, total}
 use Rattle.nef_sched.specs.Rule.{Fits, Shows, Kept, Sees, IsNew}
 use Rattle.nef_sched.specs.Laws.{PassesAgree, NoneTwice, NoneTakenIsLeft, NoneIsLost}
+use Rattle.nef_sched.specs.declared.pass.RoundPass.{RoundPass}
+use Rattle.nef_sched.specs.Rounds.{parts, known, taken, total_parts, times_taken, numbers_of}
 use Rattle.nef_sched.proofs.Totals.{weigh_append, weigh_one, counts, counts_itself, total_set, total_snoc, at_most, two_at_most, all_of_one}
 
 -- the sum of the parts, and what was taken, weighed
@@ -43,7 +46,7 @@ begins = ([], record {
 -- a further number that isn't among them
 differ_more : (numbers : List ℕ) (x : ℕ) → Differ numbers → times x numbers ≡ 0 → Differ (numbers ++ x ∷ [])
 differ_more numbers x d n y =
-    let a = weigh_append (λ z. cond (z == y) 1 0) numbers (x ∷ []) in
+    let a = weigh_append (one y) numbers (x ∷ []) in
     let m = d y in
     elim (counts x y) [
       | inl e ↦
@@ -87,11 +90,10 @@ takes place v some_part x items views kept at =
     let s : Shows numbers (x ∷ items) views = kept.1 in
     let knows : v.known ≡ numbers = (s.fits place v at).0 some_part in
     let w : View = took v x in
-    let one : ℕ → ℕ = λ y. cond (y == x) 1 0 in
     let here = counts_itself x in
-    let e = s.each one in
+    let e = s.each (one x) in
     let d = s.differ x in
-    let m = at_most (λ u. weigh one u.taken) views place v at in
+    let m = at_most (λ u. weigh (one x) u.taken) views place v at in
     let k : times x v.known ≡ times x numbers = ap (times x) knows in
     let len = s.each (λ y. 1) in
     let longest = at_most (λ u. weigh (λ y. 1) u.taken) views place v at in
@@ -171,11 +173,10 @@ seen_all v items all seen =
     (
       (λ x. let d = s.differ x in let k : times x v.known ≡ times x seen.3.0 = ap (times x) knows in omega arith),
       λ x.
-          let one : ℕ → ℕ = λ y. cond (y == x) 1 0 in
-          let k : times x v.known ≡ times x seen.3.0 = ap (times x) knows in
-          let e = s.each one in
-          let t = all_of_one (λ u. weigh one u.taken) (λ u. u.parts) seen.0 seen.1 v seen.2 (s.parts ∙ sym all)
-              (λ p u there none. ap (weigh one) ((s.fits p u there).1 none).1) in
+                let k : times x v.known ≡ times x seen.3.0 = ap (times x) knows in
+          let e = s.each (one x) in
+          let t = all_of_one (λ u. weigh (one x) u.taken) (λ u. u.parts) seen.0 seen.1 v seen.2 (s.parts ∙ sym all)
+              (λ p u there none. ap (weigh (one x)) ((s.fits p u there).1 none).1) in
           omega arith,
     )
 
@@ -188,23 +189,91 @@ agree items views i j v w kept at at' a b =
 pub none_twice : NoneTwice
 none_twice items views i j v w kept at at' x =
     let s = kept.1 in
-    let one : ℕ → ℕ = λ y. cond (y == x) 1 0 in
-    let e = s.each one in
+    let e = s.each (one x) in
     let d = s.differ x in
-    let m = at_most (λ u. weigh one u.taken) views i v at in
-    (omega arith, λ n. let t = two_at_most (λ u. weigh one u.taken) views i j v w n at at' in omega arith)
+    let m = at_most (λ u. weigh (one x) u.taken) views i v at in
+    (omega arith, λ n. let t = two_at_most (λ u. weigh (one x) u.taken) views i j v w n at at' in omega arith)
 
 pub none_taken_is_left : NoneTakenIsLeft
 none_taken_is_left items views i v kept at x =
     let s = kept.1 in
-    let one : ℕ → ℕ = λ y. cond (y == x) 1 0 in
-    let e = s.each one in
+    let e = s.each (one x) in
     let d = s.differ x in
-    let m = at_most (λ u. weigh one u.taken) views i v at in
+    let m = at_most (λ u. weigh (one x) u.taken) views i v at in
     omega arith
 
 pub none_lost : NoneIsLost
 none_lost items views i v kept at a x =
     let s = kept.1 in
-    let one : ℕ → ℕ = λ y. cond (y == x) 1 0 in
-    sym (s.each one) ∙ sym (ap (times x) ((s.fits i v at).0 a))
+    sym (s.each (one x)) ∙ sym (ap (times x) ((s.fits i v at).0 a))
+
+-- an empty queue, seen with every part: the pass took all
+nothing_left : (v : View) (items : List ℕ) → length items ≡ 0 → v.parts ≡ 2 ^ 32 → Sees v items → IsDealt v.known v.taken []
+nothing_left v [] none all seen = seen_all v [] all seen
+nothing_left v (x ∷ xs) none all seen = absurd (omega arith)
+
+pub took_all : (v : View) → Held 0 (Sees v) → v.parts ≡ 2 ^ 32 → (x : ℕ) → times x v.taken ≡ times x v.known
+took_all v held all x = let e = (nothing_left v held.0 held.1 all held.2).1 x in omega arith
+
+pub ends : (v : View) (known taken left : List ℕ) → v.parts ≡ 2 ^ 32 → v.known ≡ known → v.taken ≡ taken ++ left → Held 0 (Sees v) → IsDealt known taken left
+ends v known taken left all k t held =
+    let e = nothing_left v held.0 held.1 all held.2 in
+    let same : (x : ℕ) → times x v.known ≡ times x known = λ x. ap (times x) k in
+    let parted : (x : ℕ) → times x v.taken ≡ times x (taken ++ left) = λ x. ap (times x) t in (
+      (λ x. let a = e.0 x in let b = same x in omega arith),
+      λ x. let a = e.1 x in let b = same x in let d = parted x in omega (arith, weigh_append (one x) taken left),
+    )
+
+-- two passes together took no more than the numbers
+pub fits_in : (v u w : View) (taken more : List ℕ) (room : ℕ) → v ≡ both u w → 0 < u.parts → u.taken ≡ taken → w.taken ≡ more → length u.known ≤ room → ((items : List ℕ) × Sees v items) → length taken + length more ≤ room
+fits_in v u w taken more room e some_part t m k seen =
+    let s = subst (λ z. Sees z seen.0) e seen.1 in
+    let few = seen_few (both u w) seen.0 (omega arith) s in
+    let a : length u.taken ≡ length taken = ap length t in
+    let b : length w.taken ≡ length more = ap length m in
+    omega (arith, length-append u.taken w.taken)
+
+parted : (xs : List ℕ) (j d : ℕ) → j < length xs → take j xs ++ slice_index_or xs j d ∷ drop (suc j) xs ≡ xs
+parted [] j d h = absurd (omega arith)
+parted (z ∷ zs) zero d h = refl
+parted (z ∷ zs) (suc j) d h = ap (λ l. z ∷ l) (parted zs j d (omega arith))
+
+-- a number of the list isn't among those before it
+pub not_before : (numbers : List ℕ) (i d : ℕ) → Differ numbers → i < length numbers → times (slice_index_or numbers i d) (take i numbers) ≡ 0
+not_before numbers i d differ low =
+    let x : ℕ = slice_index_or numbers i d in
+    let a = weigh_append (one x) (take i numbers) (x ∷ drop (suc i) numbers) in
+    let b : times x (take i numbers ++ x ∷ drop (suc i) numbers) ≡ times x numbers = ap (times x) (parted numbers i d low) in
+    let c = counts_itself x in
+    let m = differ x in
+    omega arith
+
+-- a queue with room for all numbers isn't full before the last
+pub never_full : (numbers : List ℕ) (i room : ℕ) (v : View) → v ≡ whole (take i numbers) → i < length numbers → room ≡ length numbers → Held room (Sees v) → ⊥
+never_full numbers i room v e low wide held =
+    let few = seen_few (whole (take i numbers)) held.0 (omega arith) (subst (λ z. Sees z held.0) e held.2) in
+    let all = held.1 in
+    omega (arith, length-take-le i numbers (omega arith))
+
+pub parts_snoc : (ps : List RoundPass) (p : RoundPass) → total_parts (ps ++ p ∷ []) ≡ total_parts ps + parts p
+parts_snoc [] p = omega arith
+parts_snoc (q ∷ qs) p = let e = parts_snoc qs p in omega arith
+
+pub times_snoc : (x : ℕ) (ps : List RoundPass) (p : RoundPass) → times_taken x (ps ++ p ∷ []) ≡ times_taken x ps + times x (taken p)
+times_snoc x [] p = omega arith
+times_snoc x (q ∷ qs) p = let e = times_snoc x qs p in omega arith
+
+pub numbers_snoc : (ps : List RoundPass) (p : RoundPass) → numbers_of (ps ++ p ∷ []) ≡ known p
+numbers_snoc [] p = refl
+numbers_snoc (q ∷ []) p = refl
+numbers_snoc (q ∷ r ∷ qs) p = numbers_snoc (r ∷ qs) p
+
+pub times_joined : (x : ℕ) (xs ys : List ℕ) → times x (xs ++ ys) ≡ times x xs + times x ys
+times_joined x xs ys = weigh_append (one x) xs ys
+
+pub none_took : (x : ℕ) (ps : List RoundPass) → length ps ≡ 0 → times_taken x ps ≡ 0
+none_took x [] e = refl
+none_took x (p ∷ ps) e = absurd (omega arith)
+
+pub dealt_as : (numbers taken numbers' taken' left : List ℕ) → numbers ≡ numbers' → taken ≡ taken' → IsDealt numbers taken left → IsDealt numbers' taken' left
+dealt_as numbers taken numbers' taken' left e f h = subst (λ (z : List ℕ × List ℕ). IsDealt z.0 z.1 left) (λ i. (e i, f i)) h

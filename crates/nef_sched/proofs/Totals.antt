@@ -1,15 +1,15 @@
 -- Weights of lists and totals of views.
-use Rattle.std.proofs.Common.{◌≡◌, ◌≢◌, ℕ, zero, suc, ◌+◌, ◌^◌, ◌<◌, ◌≤◌, ◌==◌, cond, List, [], ◌∷◌, ◌++◌, length, set, refl, ap, sym, ◌∙◌, arith, ◌⊎◌, inl, inr, eq-eqb, ne_eqb}
+use Rattle.std.proofs.Common.{◌≡◌, ◌≢◌, ℕ, zero, suc, ◌+◌, ◌^◌, ◌<◌, ◌≤◌, ◌==◌, cond, List, [], ◌∷◌, ◌++◌, length, set, refl, ap, sym, ◌∙◌, arith, ◌⊎◌, inl, inr, Bool, eq-eqb, ne_eqb}
 
 use mathlib.Core.Option.{some, some-injective, some-ne-none}
 use lib.ListN.{get_elem?}
-use Rattle.atomic_table.proofs.Lists.{set_else}
+
 use Rattle.nef_sched.specs.declared.view.View.{View}
-use Rattle.nef_sched.specs.Counts.{weigh, times}
+use Rattle.nef_sched.specs.Counts.{weigh, one}
 use Rattle.nef_sched.specs.Views.{total}
 
 pub weigh_append : (h : ℕ → ℕ) (xs ys : List ℕ) → weigh h (xs ++ ys) ≡ weigh h xs + weigh h ys
-weigh_append h [] ys = refl
+weigh_append h [] ys = omega arith
 weigh_append h (x ∷ xs) ys = let e = weigh_append h xs ys in omega arith
 
 pub weigh_one : (xs : List ℕ) → weigh (λ y. 1) xs ≡ length xs
@@ -23,11 +23,11 @@ same_or_not (suc i) zero = inr (λ e. omega arith)
 same_or_not (suc i) (suc j) = elim (same_or_not i j) [ inl e ↦ inl (ap suc e) | inr n ↦ inr (λ e. n (omega arith)) ]
 
 -- a number counts for itself, and for no other
-pub counts : (y x : ℕ) → ((y ≡ x) × (cond (y == x) 1 0 ≡ 1)) ⊎ (cond (y == x) 1 0 ≡ 0)
-counts y x = elim (same_or_not y x) [ inl e ↦ inl (e, ap (λ b. cond b 1 0) (eq-eqb e)) | inr n ↦ inr (ap (λ b. cond b 1 0) (ne_eqb n)) ]
+pub counts : (y x : ℕ) → ((y ≡ x) × (one x y ≡ 1)) ⊎ (one x y ≡ 0)
+counts y x = elim (same_or_not y x) [ inl e ↦ inl (e, ap (λ (b : Bool). cond b 1 0) (eq-eqb y x e)) | inr n ↦ inr (ap (λ (b : Bool). cond b 1 0) (ne_eqb y x n)) ]
 
-pub counts_itself : (x : ℕ) → cond (x == x) 1 0 ≡ 1
-counts_itself x = ap (λ b. cond b 1 0) (eq-eqb refl)
+pub counts_itself : (x : ℕ) → one x x ≡ 1
+counts_itself x = ap (λ (b : Bool). cond b 1 0) (eq-eqb x x refl)
 
 pub total_set : (f : View → ℕ) (views : List View) (place : ℕ) (v w : View) → get_elem? views place ≡ some v → total f (set views place w) + f v ≡ total f views + f w
 total_set f [] place v w e = absurd (some-ne-none v (sym e))

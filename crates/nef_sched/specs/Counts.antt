@@ -6,9 +6,13 @@ abbrev pub weigh : (ℕ → ℕ) → List ℕ → ℕ
 weigh h [] = 0
 weigh h (x ∷ xs) = h x + weigh h xs
 
+-- 1 where the numbers are the same, and else 0
+abbrev pub one : ℕ → ℕ → ℕ
+one x y = cond (y == x) 1 0
+
 -- how often x stands in the list
 abbrev pub times : ℕ → List ℕ → ℕ
-times x xs = weigh (λ y. cond (y == x) 1 0) xs
+times x xs = weigh (one x) xs
 
 -- no number stands in the list twice
 abbrev pub Differ : List ℕ → Type 0
