@@ -44,7 +44,7 @@ begins = ([], record {
     first_fits (suc place) v e = absurd (some-ne-none v (sym e))
 
 -- a further number that isn't among them
-differ_more : (numbers : List ℕ) (x : ℕ) → Differ numbers → times x numbers ≡ 0 → Differ (numbers ++ x ∷ [])
+pub differ_more : (numbers : List ℕ) (x : ℕ) → Differ numbers → times x numbers ≡ 0 → Differ (numbers ++ x ∷ [])
 differ_more numbers x d n y =
     let a = weigh_append (one y) numbers (x ∷ []) in
     let m = d y in

@@ -16,7 +16,7 @@ pub weigh_one : (xs : List ℕ) → weigh (λ y. 1) xs ≡ length xs
 weigh_one [] = refl
 weigh_one (x ∷ xs) = let e = weigh_one xs in omega arith
 
-same_or_not : (i j : ℕ) → (i ≡ j) ⊎ (i ≢ j)
+pub same_or_not : (i j : ℕ) → (i ≡ j) ⊎ (i ≢ j)
 same_or_not zero zero = inl refl
 same_or_not zero (suc j) = inr (λ e. omega arith)
 same_or_not (suc i) zero = inr (λ e. omega arith)

@@ -3,3 +3,5 @@ pub mod Views
 pub mod Rule
 pub mod Rounds
 pub mod Laws
+pub mod Results
+pub mod Workers
