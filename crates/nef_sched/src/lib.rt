@@ -5,6 +5,8 @@ mod laws;
 mod pass;
 mod round;
 mod rule;
+#[cfg(test)]
+mod tests;
 mod view;
 
 pub use laws::{passes_agree, steps_keep_the_rule};
