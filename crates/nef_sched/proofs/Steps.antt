@@ -1,5 +1,5 @@
 -- Each kind of step keeps the queue's rule, and what a pass learns from it.
-use Rattle.std.proofs.Common.{◌≡◌, ◌≢◌, ℕ, zero, suc, ◌+◌, ◌-◌, ◌^◌, ◌<◌, ◌≤◌, ◌==◌, cond, List, [], ◌∷◌, ◌++◌, length, set, refl, ap, sym, ◌∙◌, arith, ◌⊎◌, inl, inr, ⊎_elim, subst, take, drop, slice_index_or}
+use Rattle.std.proofs.Common.{◌≡◌, ◌≢◌, ℕ, zero, suc, ◌+◌, ◌^◌, ◌<◌, ◌≤◌, List, [], ◌∷◌, ◌++◌, length, set, refl, ap, sym, ◌∙◌, arith, inl, inr, ⊎_elim, subst, take, drop, slice_index_or}
 use Rattle.std.proofs.lemmas.List.{length-append, length-take-le}
 use mathlib.Core.Option.{some, some-injective, some-ne-none}
 use lib.ListN.{get_elem?}
@@ -7,7 +7,7 @@ use Rattle.crossbeam_queue.specs.Fifo.{Pushes, Pops, Forks, Merges, Learns, Held
 use Rattle.crossbeam_queue.proofs.Lists.{at_set, at_snoc}
 use Rattle.nef_sched.specs.declared.view.View.{View}
 use Rattle.nef_sched.specs.Counts.{weigh, one, times, Differ, IsDealt}
-use Rattle.nef_sched.specs.Views.{seeing, whole, first_view, put, took, cut, share, both, spent, total}
+use Rattle.nef_sched.specs.Views.{whole, first_view, put, took, cut, share, both, spent, total}
 use Rattle.nef_sched.specs.Rule.{Fits, Shows, Kept, Sees, IsNew}
 use Rattle.nef_sched.specs.Laws.{PassesAgree, NoneTwice, NoneTakenIsLeft, NoneIsLost}
 use Rattle.nef_sched.specs.declared.pass.RoundPass.{RoundPass}
@@ -32,12 +32,15 @@ each_snoc : (F : View → Type 0) (views : List View) (w : View) → F w → Eac
 each_snoc F views w mine others j u e = ⊎_elim (λ (x : get_elem? views j ≡ some u). others j u x) (λ (x : w ≡ u). subst F x mine) (at_snoc views w u j e)
 
 pub begins : Kept [] (first_view ∷ [])
-begins = ([], record {
-  parts = refl;
-  differ = λ x. omega arith;
-  each = λ h. refl;
-  fits = λ place v e. first_fits place v e;
-})
+begins = (
+  [],
+  record {
+    parts = refl;
+    differ = λ x. omega arith;
+    each = λ h. refl;
+    fits = λ place v e. first_fits place v e;
+  },
+)
   where
     first_fits : (place : ℕ) (v : View) → get_elem? (first_view ∷ []) place ≡ some v → Fits [] v
     first_fits zero v e = subst (Fits []) (some-injective first_view v e) ((λ _. refl), λ _. (refl, refl))
@@ -75,10 +78,10 @@ puts room place v x all new items views _ kept at =
           fits = each_set (Fits (numbers ++ x ∷ [])) views place w
               ((λ _. ap (λ l. l ++ x ∷ []) knows), λ none. absurd (omega arith))
               (λ j u other e.
-                let t = two_at_most (λ z. z.parts) views place j v u (λ q. other (sym q)) at e in
-                let p = s.parts in
-                let none : u.parts ≡ 0 = omega arith in
-                ((λ some_part. absurd (omega arith)), λ _. (s.fits j u e).1 none));
+              let t = two_at_most (λ z. z.parts) views place j v u (λ q. other (sym q)) at e in
+              let p = s.parts in
+              let none : u.parts ≡ 0 = omega arith in
+              ((λ some_part. absurd (omega arith)), λ _. (s.fits j u e).1 none));
         },
       ),
       refl,
@@ -169,14 +172,13 @@ seen_few v items some_part seen =
 pub seen_all : (v : View) (items : List ℕ) → v.parts ≡ 2 ^ 32 → Sees v items → IsDealt v.known v.taken items
 seen_all v items all seen =
     let s = seen.3.1 in
-    let knows : v.known ≡ seen.3.0 = (s.fits seen.1 v seen.2).0 (omega arith) in
-    (
+    let knows : v.known ≡ seen.3.0 = (s.fits seen.1 v seen.2).0 (omega arith) in (
       (λ x. let d = s.differ x in let k : times x v.known ≡ times x seen.3.0 = ap (times x) knows in omega arith),
       λ x.
-                let k : times x v.known ≡ times x seen.3.0 = ap (times x) knows in
+          let k : times x v.known ≡ times x seen.3.0 = ap (times x) knows in
           let e = s.each (one x) in
           let t = all_of_one (λ u. weigh (one x) u.taken) (λ u. u.parts) seen.0 seen.1 v seen.2 (s.parts ∙ sym all)
-              (λ p u there none. ap (weigh (one x)) ((s.fits p u there).1 none).1) in
+          (λ p u there none. ap (weigh (one x)) ((s.fits p u there).1 none).1) in
           omega arith,
     )
 

@@ -1,7 +1,6 @@
 //! A round of the numbers 4 and 7.
-ghost use Rattle.std.specs.Prelude.{◌≡◌, [], ◌∷◌, All, vec_len};
 
-use crate::{Round, RoundPass, Taken};
+use crate::{Round, Taken};
 use std::test::Fail;
 
 #[test]
@@ -48,6 +47,9 @@ fn what_is_left_is_told(rt: HostRuntime) -> Result<(), Fail> {
     assert_eq!(rt; taken.len(), 1);
     assert_eq!(rt; left.len(), 1);
     assert_eq!(rt; number, taken.first().copied());
-    assert!(rt; taken.first() == Some(&4) && left.first() == Some(&7) || taken.first() == Some(&7) && left.first() == Some(&4));
+    assert!(rt;
+        taken.first() == Some(&4) && left.first() == Some(&7)
+            || taken.first() == Some(&7) && left.first() == Some(&4)
+    );
     Ok(())
 }

@@ -1,9 +1,9 @@
-use Rattle.std.proofs.Common.{◌≡◌, ◌+◌, ap, sym, ◌∙◌, arith, Some, subst, rules, length}
+use Rattle.std.proofs.Common.{ap, sym, ◌∙◌, arith, Some}
 use Rattle.std.proofs.lemmas.List.Elements.{All-pop}
 use Rattle.crossbeam_queue.specs.Passes.{IsPassOf}
 use Rattle.nef_sched.specs.declared.pass.RoundPass.{RoundPass}
 use Rattle.nef_sched.specs.Counts.{times}
-use Rattle.nef_sched.specs.Rounds.{Belongs, parts, known, taken, total_parts, times_taken, numbers_of}
+use Rattle.nef_sched.specs.Rounds.{Belongs, taken, total_parts, times_taken, numbers_of}
 use Rattle.nef_sched.proofs.Steps.{parts_snoc, times_snoc, numbers_snoc, times_joined, dealt_as, none_took}
 use Rattle.nef_sched.proofs.pass.Round.close.Goals as goal
 
