@@ -75,6 +75,30 @@ module _ {X : Type 0} where
   kept_holds (x ∷ xs) zero d h e = none_differs h.0 (sym e ∙ h.1)
   kept_holds (x ∷ xs) (suc i) d h e = kept_holds xs i d h e
 
+  mid : (ys rest : List (Option X)) (o : Option X) → kept (ys ++ o ∷ rest) (length ys) ≡ o
+  mid [] rest o = refl
+  mid (y ∷ ys) rest o = mid ys rest o
+
+  -- where every number has its result, a list of results is nowhere empty
+  pub slot_holds : (size : ℕ) (list ys rest : List (Option X)) (o : Option X) → list ≡ ys ++ o ∷ rest → length list ≡ size → ((k : ℕ) → k < size → IsKept list k) → o ≡ None → ⊥
+  slot_holds size list ys rest o e l all n =
+      let m : length list ≡ length (ys ++ o ∷ rest) = ap length e in
+      let h = all (length ys) (omega (arith, length-append ys (o ∷ rest))) in
+      none_differs h.0 (sym n ∙ sym (mid ys rest o) ∙ ap (λ (z : List (Option X)). kept z (length ys)) (sym e) ∙ h.1)
+
+  -- and what stands at a place fits it
+  pub slot_fits : (size : ℕ) (fits : ℕ → X → Type 0) (list ys rest : List (Option X)) (o : Option X) (out : X) → list ≡ ys ++ o ∷ rest → AreSound size fits list → o ≡ Some out → fits (length ys) out
+  slot_fits size fits list ys rest o out e s n = s.1 (length ys) out (ap (λ (z : List (Option X)). kept z (length ys)) e ∙ mid ys rest o ∙ n)
+
+  pub pushed_fits : (P : ℕ → X → Type 0) (outs : List X) (new : X) → ((i : ℕ) (out : X) → slice_get outs i ≡ Some out → P i out) → P (length outs) new → (i : ℕ) (out : X) → slice_get (outs ++ new ∷ []) i ≡ Some out → P i out
+  pushed_fits P [] new h f zero out e = subst (P 0) (same new out e) f
+    where
+      same : (a b : X) → Some a ≡ Some b → a ≡ b
+      same a b q = cc
+  pushed_fits P [] new h f (suc i) out e = absurd (none_differs out e)
+  pushed_fits P (x ∷ xs) new h f zero out e = h 0 out e
+  pushed_fits P (x ∷ xs) new h f (suc i) out e = pushed_fits (λ k. P (suc k)) xs new (λ k o q. h (suc k) o q) f i out e
+
   -- passes come back with the parts that they had
   pub parts_same : (ps : List RoundPass) (ws : List (Worked X)) → length ws ≡ length ps → ((i : ℕ) (d : Worked X) (e : RoundPass) → i < length ps → parts (slice_index_or ws i d).pass ≡ parts (slice_index_or ps i e)) → total_worked ws ≡ total_parts ps
   parts_same [] [] l h = refl
@@ -108,3 +132,7 @@ times_above (x ∷ xs) n h =
 -- a number above all of them is new
 pub differ_next : (xs : List ℕ) (n : ℕ) → Differ xs → All (λ i. i < n) xs → Differ (xs ++ n ∷ [])
 differ_next xs n d h = differ_more xs n d (times_above xs n h)
+
+-- what is kept below n and at n is kept below its successor
+pub kept_next : {X : Type 0} (list : List (Option X)) (n : ℕ) → ((k : ℕ) → k < n → IsKept list k) → IsKept list n → (k : ℕ) → k < n + 1 → IsKept list k
+kept_next list n below at k low = elim (same_or_not k n) [ inl e ↦ subst (IsKept list) (sym e) at | inr d ↦ below k (omega arith) ]

@@ -1,5 +1,7 @@
 //! Works a stage round after round.
-ghost use Rattle.std.specs.Prelude.{◌≡◌, ℕ, ◌<◌, ◌≤◌, ◌↔◌, length, All, IfOk, IfSome, IsTrue, Some, slice_get, vec_len};
+ghost use Rattle.std.specs.Prelude.{◌≡◌, ℕ, false, ◌<◌, ◌≤◌, ◌↔◌, length, All, IfOk, IfSome, IsTrue, Some, slice_get, slice_index_or, vec_len};
+ghost use Rattle.nef_sched.specs.declared.pass.RoundPass.{RoundPass};
+ghost use Rattle.nef_sched.specs.declared.worked.Worked.{Worked};
 ghost use Rattle.nef_sched.specs.Counts.{Differ};
 ghost use Rattle.nef_sched.specs.Rounds.{Belongs, parts, known, total_parts};
 ghost use Rattle.nef_sched.specs.Results.{kept, IsKept, IsReady, AreSound, AreFitting};
@@ -80,6 +82,17 @@ fn is_ready<T: Stage>(stage: &T, done: &Results<T::Out>, number: usize) -> bool
     is_there(done, needs.first) && is_there(done, needs.second)
 }
 
+// The number has no result, and what it needs is there.
+fn is_due<T: Stage>(stage: &T, done: &Results<T::Out>, number: usize) -> bool
+    requires number { number < T.size stage.now }
+    requires workable { T.workable stage.now }
+    requires sound { AreSound (T.size stage.now) (T.fits stage.now) done.now.list.items }
+    ensures yes { IsTrue result → IsReady (T.fits stage.now) (T.first stage.now number) (T.second stage.now number) done.now.list.items }
+    ensures no { ((k : ℕ) → k < number → IsKept done.now.list.items k) → result ≡ false → IsKept done.now.list.items number }
+{
+    done.get(number).is_none() && is_ready(stage, done, number)
+}
+
 // The numbers that have no result and can be worked.
 fn ready<T: Stage>(
     alloc: Global,
@@ -94,7 +107,7 @@ fn ready<T: Stage>(
 {
     let mut numbers = Vec::new(alloc);
     for number in 0..stage.count() {
-        if done.get(number).is_none() && is_ready(stage, done, number) {
+        if is_due(stage, done, number) {
             numbers.push(number)?;
         }
     }
@@ -167,7 +180,8 @@ fn work_apart<R: Threads + Wait + Sync, T: Stage>(
     requires of { All (λ p. Belongs round.now p) passes.items }
     requires each { All (λ p. All (λ i. (i < T.size stage.now) × IsReady (T.fits stage.now) (T.first stage.now i) (T.second stage.now i) done.now.list.items) (known p)) passes.items }
     ensures of { IfOk result (λ v. All (λ w. Belongs round.now w.pass) v.items) }
-    ensures parts { IfOk result (λ v. total_worked v.items ≡ total_parts passes.items) }
+    ensures len { IfOk result (λ v. vec_len v ≡ vec_len passes) }
+    ensures parts { IfOk result (λ v. (i : ℕ) (d : Worked T.Out) (e : RoundPass) → i < length passes.items → parts (slice_index_or v.items i d).pass ≡ parts (slice_index_or passes.items i e)) }
     ensures outs { IfOk result (λ v. All (λ w. AreFitting (T.size stage.now) (T.fits stage.now) w.outs.items) v.items) }
 {
     thread::map_vec(
@@ -184,14 +198,14 @@ fn work_apart<R: Threads + Wait + Sync, T: Stage>(
 fn with_outs<T: Stage>(
     stage: &T,
     mut done: Results<T::Out>,
-    outs: Vec<(usize, T::Out)>,
+    mut outs: Vec<(usize, T::Out)>,
 ) -> Results<T::Out>
     requires sound { AreSound (T.size stage.now) (T.fits stage.now) done.list.items }
     requires each { AreFitting (T.size stage.now) (T.fits stage.now) outs.items }
     ensures sound { AreSound (T.size stage.now) (T.fits stage.now) result.list.items }
     ensures still { (k : ℕ) → IsKept done.list.items k → IsKept result.list.items k }
 {
-    for (number, out) in outs {
+    while let Some((number, out)) = outs.pop() {
         done.list[number] = Some(out);
     }
     done
@@ -203,7 +217,7 @@ fn gathered<T: Stage>(
     stage: &T,
     round: &Round,
     mut done: Results<T::Out>,
-    worked: Vec<Worked<T::Out>>,
+    mut worked: Vec<Worked<T::Out>>,
 ) -> Result<(Results<T::Out>, Vec<RoundPass>), OutOfMemory>
     requires sound { AreSound (T.size stage.now) (T.fits stage.now) done.list.items }
     requires of { All (λ w. Belongs round.now w.pass) worked.items }
@@ -215,11 +229,31 @@ fn gathered<T: Stage>(
 {
     let _round = round;
     let mut passes = Vec::with_capacity(alloc, worked.len())?;
-    for Worked { pass, outs } in worked {
+    while let Some(Worked { pass, outs }) = worked.pop() {
         done = with_outs(stage, done, outs);
         passes.push(pass)?;
     }
     Ok((done, passes))
+}
+
+// Works a number where it has no result.
+fn work_left<T: Stage>(
+    alloc: Global,
+    stage: &T,
+    number: usize,
+    done: Results<T::Out>,
+) -> Result<Results<T::Out>, OutOfMemory>
+    requires workable { T.workable stage.now }
+    requires sound { AreSound (T.size stage.now) (T.fits stage.now) done.list.items }
+    requires number { number < T.size stage.now }
+    requires there { IsReady (T.fits stage.now) (T.first stage.now number) (T.second stage.now number) done.list.items }
+    ensures sound { IfOk result (λ r. AreSound (T.size stage.now) (T.fits stage.now) r.list.items) }
+    ensures still { IfOk result (λ r. (k : ℕ) → IsKept done.list.items k → IsKept r.list.items k) }
+{
+    if done.get(number).is_some() {
+        return Ok(done);
+    }
+    work_one(alloc, stage, number, false, done)
 }
 
 // Works each of the numbers that has no result.
@@ -235,9 +269,7 @@ fn work_rest<T: Stage>(
     ensures sound { IfOk result (λ r. AreSound (T.size stage.now) (T.fits stage.now) r.list.items) }
 {
     for number in numbers {
-        if done.get(*number).is_none() {
-            done = work_one(alloc, stage, *number, false, done)?;
-        }
+        done = work_left(alloc, stage, *number, done)?;
     }
     Ok(done)
 }
