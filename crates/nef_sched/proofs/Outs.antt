@@ -1,11 +1,11 @@
 -- Lists of results that are there.
-use Rattle.std.proofs.Common.{◌≡◌, ◌≢◌, ℕ, zero, suc, ◌+◌, ◌<◌, List, [], ◌∷◌, ◌++◌, length, refl, ap, sym, ◌∙◌, arith, ◌⊎◌, inl, inr, Option, Some, None, slice_get, slice_set, slice_index_or, All, IfSome, IsSomeAnd, cond, Bool, subst}
+use Rattle.std.proofs.Common.{◌≡◌, ℕ, zero, suc, ◌+◌, ◌<◌, List, [], ◌∷◌, ◌++◌, length, refl, ap, sym, ◌∙◌, arith, ◌⊎◌, inl, inr, Option, Some, None, slice_get, slice_set, slice_index_or, All, IfSome, IsSomeAnd, cond, Bool, subst}
 use Rattle.std.proofs.lemmas.List.{length-append, length-set}
 use Rattle.std.proofs.lemmas.Bool.{ne_eqb}
 use Rattle.nef_sched.specs.declared.pass.RoundPass.{RoundPass}
 use Rattle.nef_sched.specs.declared.worked.Worked.{Worked}
 use Rattle.nef_sched.specs.Counts.{one, times, Differ}
-use Rattle.nef_sched.specs.Results.{flat, kept, IsKept, IsReady, AreSound}
+use Rattle.nef_sched.specs.Results.{kept, IsKept, IsReady, AreSound}
 use Rattle.nef_sched.specs.Rounds.{parts, total_parts}
 use Rattle.nef_sched.specs.Workers.{total_worked}
 use Rattle.nef_sched.proofs.Totals.{counts, same_or_not}

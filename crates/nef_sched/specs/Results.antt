@@ -1,5 +1,5 @@
 -- Results that are there.
-use Rattle.std.specs.Prelude.{◌≡◌, ℕ, List, [], ◌∷◌, Option, Some, None, slice_get, length, IfSome, IsSomeAnd, All, ◌<◌}
+use Rattle.std.specs.Prelude.{◌≡◌, ℕ, List, Option, Some, None, slice_get, length, IfSome, IsSomeAnd, All, ◌<◌}
 
 abbrev pub flat : {X : Type 0} → Option (Option X) → Option X
 flat None = None

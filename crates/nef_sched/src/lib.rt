@@ -6,9 +6,9 @@ mod laws;
 mod pass;
 mod round;
 mod rule;
+mod stage;
 #[cfg(test)]
 mod tests;
-mod stage;
 mod view;
 mod worked;
 

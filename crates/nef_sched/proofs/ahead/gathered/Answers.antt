@@ -1,4 +1,4 @@
-use Rattle.std.proofs.Common.{◌≡◌, ◌+◌, Some, ap, ◌∙◌, arith}
+use Rattle.std.proofs.Common.{Some, ap, ◌∙◌, arith}
 use Rattle.std.proofs.lemmas.List.Elements.{All-pop, All-push}
 use Rattle.nef_sched.specs.declared.pass.RoundPass.{RoundPass}
 use Rattle.nef_sched.specs.declared.worked.Worked.{Worked}

@@ -1,6 +1,6 @@
-use Rattle.std.proofs.Common.{ℕ, ◌+◌, ◌<◌, arith, ⊎_elim, inl, inr, refl, sym, ap, ◌≡◌, subst}
+use Rattle.std.proofs.Common.{ℕ, ◌+◌, ◌<◌, arith}
 use Rattle.std.proofs.lemmas.List.Elements.{All-push}
-use Rattle.nef_sched.specs.Results.{IsReady, IsKept}
+use Rattle.nef_sched.specs.Results.{IsReady}
 use Rattle.nef_sched.proofs.Outs.{differ_next, kept_next}
 use Rattle.nef_sched.proofs.ahead.ready.Goals as goal
 use Rattle.nef_sched.proofs.ahead.ready.Goals.{then-is_due+in_ok-push, else-is_due}

@@ -1,4 +1,4 @@
-use Rattle.std.proofs.Common.{ℕ, ◌<◌, ap, sym, ◌∙◌, rules}
+use Rattle.std.proofs.Common.{ℕ, ◌<◌, ap, sym, ◌∙◌}
 use Rattle.std.proofs.lemmas.List.Elements.{All-push}
 use Rattle.nef_sched.specs.Counts.{times}
 use Rattle.nef_sched.specs.Results.{IsReady}
