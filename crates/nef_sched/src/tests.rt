@@ -79,13 +79,7 @@ fn first_of(i: usize) -> Option<usize>
 fn second_of(i: usize) -> Option<usize>
     ensures { result ≡ (if i == 2 then Some 1 else (if i == 4 then Some 1 else None)) }
 {
-    if i == 2 {
-        Some(1)
-    } else if i == 4 {
-        Some(1)
-    } else {
-        None
-    }
+    if i == 2 || i == 4 { Some(1) } else { None }
 }
 
 fn value_of(done: &Results<u64>, number: Option<usize>) -> u64 {
