@@ -1,0 +1,138 @@
+-- Lists of results that are there.
+use Rattle.std.proofs.Common.{◌≡◌, ℕ, zero, suc, ◌+◌, ◌<◌, List, [], ◌∷◌, ◌++◌, length, refl, ap, sym, ◌∙◌, arith, ◌⊎◌, inl, inr, Option, Some, None, slice_get, slice_set, slice_index_or, All, IfSome, IsSomeAnd, cond, Bool, subst}
+use Rattle.std.proofs.lemmas.List.{length-append, length-set}
+use Rattle.std.proofs.lemmas.Bool.{ne_eqb}
+use Rattle.nef_sched.specs.declared.pass.RoundPass.{RoundPass}
+use Rattle.nef_sched.specs.declared.worked.Worked.{Worked}
+use Rattle.nef_sched.specs.Counts.{one, times, Differ}
+use Rattle.nef_sched.specs.Results.{kept, IsKept, IsReady, AreSound}
+use Rattle.nef_sched.specs.Rounds.{parts, total_parts}
+use Rattle.nef_sched.specs.Workers.{total_worked}
+use Rattle.nef_sched.proofs.Totals.{counts, same_or_not}
+use Rattle.nef_sched.proofs.Steps.{differ_more}
+
+none_differs : {X : Type 0} (x : X) → None ≡ Some x → ⊥
+none_differs x e = cc
+
+module _ {X : Type 0} where
+  -- a place more, without a result
+  kept_none : (list : List (Option X)) (i : ℕ) (out : X) → kept (list ++ None ∷ []) i ≡ Some out → kept list i ≡ Some out
+  kept_none [] zero out e = e
+  kept_none [] (suc i) out e = e
+  kept_none (x ∷ xs) zero out e = e
+  kept_none (x ∷ xs) (suc i) out e = kept_none xs i out e
+
+  pub sound_none : (size : ℕ) (fits : ℕ → X → Type 0) (list : List (Option X)) → AreSound size fits list → AreSound (size + 1) fits (list ++ None ∷ [])
+  sound_none size fits list s = ((let l = s.0 in omega (arith, length-append list (None ∷ []))), λ i out e. s.1 i out (kept_none list i out e))
+
+  -- the place j gets a result
+  kept_set : (list : List (Option X)) (j : ℕ) (new : X) (i : ℕ) (out : X) → kept (slice_set list j (Some new)) i ≡ Some out → ((i ≡ j) × (new ≡ out)) ⊎ (kept list i ≡ Some out)
+  kept_set [] j new i out e = inr e
+  kept_set (x ∷ xs) zero new zero out e = inl (refl, some_same new out e)
+    where
+      some_same : (a b : X) → Some a ≡ Some b → a ≡ b
+      some_same a b q = cc
+  kept_set (x ∷ xs) zero new (suc i) out e = inr e
+  kept_set (x ∷ xs) (suc j) new zero out e = inr e
+  kept_set (x ∷ xs) (suc j) new (suc i) out e = elim (kept_set xs j new i out e) [ inl q ↦ inl (ap suc q.0, q.1) | inr q ↦ inr q ]
+
+  pub sound_set : (size : ℕ) (fits : ℕ → X → Type 0) (list : List (Option X)) (j : ℕ) (new : X) → fits j new → AreSound size fits list → AreSound size fits (slice_set list j (Some new))
+  sound_set size fits list j new f s =
+      (length-set list j (Some new) ∙ s.0, λ i out e. elim (kept_set list j new i out e) [ inl q ↦ subst (λ (z : ℕ × X). fits z.0 z.1) (λ t. (sym q.0 t, q.1 t)) f | inr q ↦ s.1 i out q ])
+
+  pub still_set : (list : List (Option X)) (j : ℕ) (new : X) (k : ℕ) → IsKept list k → IsKept (slice_set list j (Some new)) k
+  still_set [] j new k h = h
+  still_set (x ∷ xs) zero new zero h = (new, refl)
+  still_set (x ∷ xs) zero new (suc k) h = h
+  still_set (x ∷ xs) (suc j) new zero h = h
+  still_set (x ∷ xs) (suc j) new (suc k) h = still_set xs j new k h
+
+  and_fits : (size : ℕ) (fits : ℕ → X → Type 0) (list : List (Option X)) → AreSound size fits list → (k : ℕ) → IsKept list k → IsSomeAnd (kept list k) (fits k)
+  and_fits size fits list s k h = rw h.1 (s.1 k h.0 h.1)
+
+  was_kept : (P : X → Type 0) (o : Option X) → IsSomeAnd o P → (out : X) × (o ≡ Some out)
+  was_kept P None h = absurd h
+  was_kept P (Some out) h = (out, refl)
+
+  -- what is needed is there, and fits
+  pub ready_of : (size : ℕ) (fits : ℕ → X → Type 0) (first second : Option ℕ) (list : List (Option X)) → AreSound size fits list → IfSome first (IsKept list) → IfSome second (IsKept list) → IsReady fits first second list
+  ready_of size fits first second list s a b = (each first a, each second b)
+    where
+      each : (need : Option ℕ) → IfSome need (IsKept list) → IfSome need (λ k. IsSomeAnd (kept list k) (fits k))
+      each None h = h
+      each (Some k) h = and_fits size fits list s k h
+
+  pub ready_still : (size : ℕ) (fits : ℕ → X → Type 0) (first second : Option ℕ) (old new : List (Option X)) → AreSound size fits new → ((k : ℕ) → IsKept old k → IsKept new k) → IsReady fits first second old → IsReady fits first second new
+  ready_still size fits first second old new s still r = ready_of size fits first second new s (each first r.0) (each second r.1)
+    where
+      each : (need : Option ℕ) → IfSome need (λ k. IsSomeAnd (kept old k) (fits k)) → IfSome need (IsKept new)
+      each None h = h
+      each (Some k) h = still k (was_kept (fits k) (kept old k) h)
+
+  -- where a result is kept, the place holds one
+  pub kept_holds : (list : List (Option X)) (i : ℕ) (d : Option X) → IsKept list i → slice_index_or list i d ≡ None → ⊥
+  kept_holds [] i d h e = none_differs h.0 h.1
+  kept_holds (x ∷ xs) zero d h e = none_differs h.0 (sym e ∙ h.1)
+  kept_holds (x ∷ xs) (suc i) d h e = kept_holds xs i d h e
+
+  mid : (ys rest : List (Option X)) (o : Option X) → kept (ys ++ o ∷ rest) (length ys) ≡ o
+  mid [] rest o = refl
+  mid (y ∷ ys) rest o = mid ys rest o
+
+  -- where every number has its result, a list of results is nowhere empty
+  pub slot_holds : (size : ℕ) (list ys rest : List (Option X)) (o : Option X) → list ≡ ys ++ o ∷ rest → length list ≡ size → ((k : ℕ) → k < size → IsKept list k) → o ≡ None → ⊥
+  slot_holds size list ys rest o e l all n =
+      let m : length list ≡ length (ys ++ o ∷ rest) = ap length e in
+      let h = all (length ys) (omega (arith, length-append ys (o ∷ rest))) in
+      none_differs h.0 (sym n ∙ sym (mid ys rest o) ∙ ap (λ (z : List (Option X)). kept z (length ys)) (sym e) ∙ h.1)
+
+  -- and what stands at a place fits it
+  pub slot_fits : (size : ℕ) (fits : ℕ → X → Type 0) (list ys rest : List (Option X)) (o : Option X) (out : X) → list ≡ ys ++ o ∷ rest → AreSound size fits list → o ≡ Some out → fits (length ys) out
+  slot_fits size fits list ys rest o out e s n = s.1 (length ys) out (ap (λ (z : List (Option X)). kept z (length ys)) e ∙ mid ys rest o ∙ n)
+
+  pub pushed_fits : (P : ℕ → X → Type 0) (outs : List X) (new : X) → ((i : ℕ) (out : X) → slice_get outs i ≡ Some out → P i out) → P (length outs) new → (i : ℕ) (out : X) → slice_get (outs ++ new ∷ []) i ≡ Some out → P i out
+  pushed_fits P [] new h f zero out e = subst (P 0) (same new out e) f
+    where
+      same : (a b : X) → Some a ≡ Some b → a ≡ b
+      same a b q = cc
+  pushed_fits P [] new h f (suc i) out e = absurd (none_differs out e)
+  pushed_fits P (x ∷ xs) new h f zero out e = h 0 out e
+  pushed_fits P (x ∷ xs) new h f (suc i) out e = pushed_fits (λ k. P (suc k)) xs new (λ k o q. h (suc k) o q) f i out e
+
+  -- passes come back with the parts that they had
+  pub parts_same : (ps : List RoundPass) (ws : List (Worked X)) → length ws ≡ length ps → ((i : ℕ) (d : Worked X) (e : RoundPass) → i < length ps → parts (slice_index_or ws i d).pass ≡ parts (slice_index_or ps i e)) → total_worked ws ≡ total_parts ps
+  parts_same [] [] l h = refl
+  parts_same [] (w ∷ ws) l h = absurd (omega arith)
+  parts_same (p ∷ ps) [] l h = absurd (omega arith)
+  parts_same (p ∷ ps) (w ∷ ws) l h =
+      let a : parts w.pass ≡ parts p = h 0 w p (omega arith) in
+      let b = parts_same ps ws (omega arith) (λ i d e low. h (suc i) d e (omega arith)) in
+      omega arith
+
+  pub worked_snoc : (ws : List (Worked X)) (w : Worked X) → total_worked (ws ++ w ∷ []) ≡ total_worked ws + parts w.pass
+  worked_snoc [] w = omega arith
+  worked_snoc (v ∷ vs) w = let e = worked_snoc vs w in omega arith
+
+-- what holds of all holds of a number that is among them
+pub all_in : (P : ℕ → Type 0) (xs : List ℕ) (x : ℕ) → times x xs ≡ 1 → All P xs → P x
+all_in P [] x e h = absurd (omega arith)
+all_in P (y ∷ ys) x e h = elim (counts y x) [
+  | inl q ↦ subst P q.0 (h 0 y (omega arith))
+  | inr q ↦ all_in P ys x (omega arith) (λ k d low. h (suc k) d (omega arith))
+]
+
+times_above : (xs : List ℕ) (n : ℕ) → All (λ i. i < n) xs → times n xs ≡ 0
+times_above [] n h = refl
+times_above (x ∷ xs) n h =
+    let low : x < n = h 0 x (omega arith) in
+    let a : one n x ≡ 0 = ap (λ (b : Bool). cond b 1 0) (ne_eqb x n (λ e. omega arith)) in
+    let b = times_above xs n (λ k d s. h (suc k) d (omega arith)) in
+    omega arith
+
+-- a number above all of them is new
+pub differ_next : (xs : List ℕ) (n : ℕ) → Differ xs → All (λ i. i < n) xs → Differ (xs ++ n ∷ [])
+differ_next xs n d h = differ_more xs n d (times_above xs n h)
+
+-- what is kept below n and at n is kept below its successor
+pub kept_next : {X : Type 0} (list : List (Option X)) (n : ℕ) → ((k : ℕ) → k < n → IsKept list k) → IsKept list n → (k : ℕ) → k < n + 1 → IsKept list k
+kept_next list n below at k low = elim (same_or_not k n) [ inl e ↦ subst (IsKept list) (sym e) at | inr d ↦ below k (omega arith) ]

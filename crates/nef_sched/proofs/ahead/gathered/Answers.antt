@@ -1,0 +1,29 @@
+use Rattle.std.proofs.Common.{Some, ap, ◌∙◌, arith}
+use Rattle.std.proofs.lemmas.List.Elements.{All-pop, All-push}
+use Rattle.nef_sched.specs.declared.pass.RoundPass.{RoundPass}
+use Rattle.nef_sched.specs.declared.worked.Worked.{Worked}
+use Rattle.nef_sched.specs.Rounds.{Belongs, total_parts}
+use Rattle.nef_sched.specs.Results.{AreFitting}
+use Rattle.nef_sched.specs.Workers.{total_worked}
+use Rattle.nef_sched.proofs.Steps.{parts_snoc}
+use Rattle.nef_sched.proofs.Outs.{worked_snoc}
+use Rattle.nef_sched.proofs.ahead.gathered.Goals as goal
+
+pub loop-pass-preserved : goal.loop-pass-preserved
+loop-pass-preserved g c =
+    let t = c.args.stage.now in
+    let i = c.loop-pass.invariant in
+    let last = c.in-Some.ensures.items in
+    let own = All-pop (λ (w : Worked _). Belongs c.args.round.now w.pass) _ _ (Some c.in-Some.field-0) last i.worked in
+    let fit = All-pop (λ (w : Worked _). AreFitting (g.T.Stage.size t) (g.T.Stage.fits t) w.outs.items) _ _ (Some c.in-Some.field-0) last i.outs in
+    let more = ap total_parts c.in_ok-push.ensures.items ∙ parts_snoc _ _ in
+    let less = ap total_worked last ∙ worked_snoc _ _ in
+    let p = i.parts in
+    record {
+      sound = c.with_outs-done.ensures.sound;
+      still = λ k h. c.with_outs-done.ensures.still k (i.still k h);
+      worked = own.0;
+      outs = fit.0;
+      of = rw c.in_ok-push.ensures.items (All-push (λ (q : RoundPass). Belongs c.args.round.now q) _ _ i.of own.1);
+      parts = omega arith;
+    }

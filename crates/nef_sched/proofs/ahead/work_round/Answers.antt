@@ -1,0 +1,16 @@
+use Rattle.std.proofs.Common.{◌∙◌, arith}
+use Rattle.nef_sched.proofs.Outs.{ready_still, parts_same}
+use Rattle.nef_sched.proofs.ahead.work_round.Goals as goal
+
+pub close-requires-clause-every : goal.close-requires-clause-every
+close-requires-clause-every g c =
+    let a = c.in_ok-worked.worked.ok in
+    let b = c.in_ok-round.passes.ok in
+    let l = c.in_ok-worked.ensures.len in
+    c.in_ok-done.ensures.parts ∙ parts_same c.in_ok-round.passes.items c.in_ok-worked.worked.items (omega arith) c.in_ok-worked.ensures.parts ∙ c.in_ok-round.ensures.every
+
+pub work_rest-requires-clause-each : goal.work_rest-requires-clause-each
+work_rest-requires-clause-each g c κs within k d low =
+    let t = c.args.stage.now in
+    let e = c.requires.each k d low in
+    (e.0, ready_still (g.T.Stage.size t) (g.T.Stage.fits t) _ _ c.args.done.list.items c.in_ok-done.done.list.items c.in_ok-done.ensures.sound c.in_ok-done.ensures.still e.1)

@@ -1,0 +1,7 @@
+pub mod Counts
+pub mod Views
+pub mod Rule
+pub mod Rounds
+pub mod Laws
+pub mod Results
+pub mod Workers

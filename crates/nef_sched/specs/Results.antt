@@ -1,0 +1,26 @@
+-- Results that are there.
+use Rattle.std.specs.Prelude.{◌≡◌, ℕ, List, Option, Some, None, slice_get, length, IfSome, IsSomeAnd, All, ◌<◌}
+
+abbrev pub flat : {X : Type 0} → Option (Option X) → Option X
+flat None = None
+flat (Some x) = x
+
+-- the result that is kept for i
+abbrev pub kept : {X : Type 0} → List (Option X) → ℕ → Option X
+kept list i = flat (slice_get list i)
+
+-- a result is kept for i
+abbrev pub IsKept : {X : Type 0} → List (Option X) → ℕ → Type 0
+IsKept {X} list i = (out : X) × (kept list i ≡ Some out)
+
+-- a result is kept for each number that is needed, and it fits
+abbrev pub IsReady : {X : Type 0} → (ℕ → X → Type 0) → Option ℕ → Option ℕ → List (Option X) → Type 0
+IsReady fits first second list = IfSome first (λ k. IsSomeAnd (kept list k) (fits k)) × IfSome second (λ k. IsSomeAnd (kept list k) (fits k))
+
+-- there is room for this many results, and each that is kept fits
+abbrev pub AreSound : {X : Type 0} → ℕ → (ℕ → X → Type 0) → List (Option X) → Type 0
+AreSound {X} size fits list = (length list ≡ size) × ((i : ℕ) (out : X) → kept list i ≡ Some out → fits i out)
+
+-- each number stands beside a result that fits it
+abbrev pub AreFitting : {X : Type 0} → ℕ → (ℕ → X → Type 0) → List (ℕ × X) → Type 0
+AreFitting size fits outs = All (λ o. (o.0 < size) × fits o.0 o.1) outs

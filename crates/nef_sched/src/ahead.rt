@@ -1,0 +1,319 @@
+//! Works a stage round after round.
+ghost use Rattle.std.specs.Prelude.{◌≡◌, ℕ, false, ◌<◌, ◌≤◌, ◌↔◌, length, All, IfOk, IfSome, IsTrue, Some, slice_get, slice_index_or, vec_len};
+ghost use Rattle.nef_sched.specs.declared.pass.RoundPass.{RoundPass};
+ghost use Rattle.nef_sched.specs.declared.worked.Worked.{Worked};
+ghost use Rattle.nef_sched.specs.Counts.{Differ};
+ghost use Rattle.nef_sched.specs.Rounds.{Belongs, parts, known, total_parts};
+ghost use Rattle.nef_sched.specs.Results.{kept, IsKept, IsReady, AreSound, AreFitting};
+ghost use Rattle.nef_sched.specs.Workers.{total_worked};
+
+use crate::OutOfMemory;
+use crate::pass::{Round, RoundPass};
+use crate::stage::{Results, Stage};
+use crate::worked::Worked;
+use std::alloc::Global;
+use std::sync::Wait;
+use std::thread;
+use std::thread::Threads;
+
+/// Works every number of the stage, and returns one fitting result for each, in order.
+///
+/// The numbers are worked in rounds: a number comes into a round once the results that it needs
+/// are there. A number that is alone in its round is worked by the caller. In a larger round
+/// `workers` threads take numbers, and the caller works what is left.
+///
+/// `OutOfMemory` says that memory was wanted and not found; the results are gone then.
+pub fn run_ahead<R: Threads + Wait + Sync, T: Stage>(
+    rt: &R,
+    alloc: Global,
+    stage: &T,
+    workers: u32,
+) -> Result<Vec<T::Out>, OutOfMemory>
+    requires workers { 1 ≤ workers }
+    requires workable { T.workable stage.now }
+    ensures len { IfOk result (λ v. vec_len v ≡ T.size stage.now) }
+    ensures fits { IfOk result (λ v. (i : ℕ) (out : _) → slice_get v.items i ≡ Some out → T.fits stage.now i out) }
+{
+    let mut done = no_results::<T>(alloc, stage)?;
+    for _ in rt.forever() {
+        let numbers = ready(alloc, stage, &done)?;
+        if numbers.is_empty() {
+            break;
+        }
+        done = if numbers.len() == 1 {
+            work_one(alloc, stage, numbers[0], true, done)?
+        } else {
+            work_round(rt, alloc, stage, workers, numbers.as_slice(), done)?
+        };
+    }
+    all_of(alloc, stage, done)
+}
+
+// No number has a result.
+fn no_results<T: Stage>(alloc: Global, stage: &T) -> Result<Results<T::Out>, OutOfMemory>
+    ensures { IfOk result (λ r. AreSound (T.size stage.now) (T.fits stage.now) r.list.items) }
+{
+    let mut list = Vec::with_capacity(alloc, stage.count())?;
+    for _ in 0..stage.count() {
+        list.push(None)?;
+    }
+    Ok(Results { list })
+}
+
+// The result is there, if one is needed.
+fn is_there<X>(done: &Results<X>, number: Option<usize>) -> bool
+    ensures { IsTrue result ↔ IfSome number (IsKept done.now.list.items) }
+{
+    match number {
+        Some(number) => done.get(number).is_some(),
+        None => true,
+    }
+}
+
+// What the number needs is there.
+fn is_ready<T: Stage>(stage: &T, done: &Results<T::Out>, number: usize) -> bool
+    requires number { number < T.size stage.now }
+    requires workable { T.workable stage.now }
+    requires sound { AreSound (T.size stage.now) (T.fits stage.now) done.now.list.items }
+    ensures yes { IsTrue result → IsReady (T.fits stage.now) (T.first stage.now number) (T.second stage.now number) done.now.list.items }
+    ensures all { ((k : ℕ) → k < number → IsKept done.now.list.items k) → IsTrue result }
+{
+    let needs = stage.needs(number);
+    is_there(done, needs.first) && is_there(done, needs.second)
+}
+
+// The number has no result, and what it needs is there.
+fn is_due<T: Stage>(stage: &T, done: &Results<T::Out>, number: usize) -> bool
+    requires number { number < T.size stage.now }
+    requires workable { T.workable stage.now }
+    requires sound { AreSound (T.size stage.now) (T.fits stage.now) done.now.list.items }
+    ensures yes { IsTrue result → IsReady (T.fits stage.now) (T.first stage.now number) (T.second stage.now number) done.now.list.items }
+    ensures no { ((k : ℕ) → k < number → IsKept done.now.list.items k) → result ≡ false → IsKept done.now.list.items number }
+{
+    done.get(number).is_none() && is_ready(stage, done, number)
+}
+
+// The numbers that have no result and can be worked.
+fn ready<T: Stage>(
+    alloc: Global,
+    stage: &T,
+    done: &Results<T::Out>,
+) -> Result<Vec<usize>, OutOfMemory>
+    requires workable { T.workable stage.now }
+    requires sound { AreSound (T.size stage.now) (T.fits stage.now) done.now.list.items }
+    ensures differ { IfOk result (λ v. Differ v.items) }
+    ensures each { IfOk result (λ v. All (λ i. (i < T.size stage.now) × IsReady (T.fits stage.now) (T.first stage.now i) (T.second stage.now i) done.now.list.items) v.items) }
+    ensures none { IfOk result (λ v. vec_len v ≡ 0 → (k : ℕ) → k < T.size stage.now → IsKept done.now.list.items k) }
+{
+    let mut numbers = Vec::new(alloc);
+    for number in 0..stage.count() {
+        if is_due(stage, done, number) {
+            numbers.push(number)?;
+        }
+    }
+    Ok(numbers)
+}
+
+// Works a number, and keeps its result.
+fn work_one<T: Stage>(
+    alloc: Global,
+    stage: &T,
+    number: usize,
+    alone: bool,
+    mut done: Results<T::Out>,
+) -> Result<Results<T::Out>, OutOfMemory>
+    requires workable { T.workable stage.now }
+    requires sound { AreSound (T.size stage.now) (T.fits stage.now) done.list.items }
+    requires number { number < T.size stage.now }
+    requires there { IsReady (T.fits stage.now) (T.first stage.now number) (T.second stage.now number) done.list.items }
+    ensures sound { IfOk result (λ r. AreSound (T.size stage.now) (T.fits stage.now) r.list.items) }
+    ensures still { IfOk result (λ r. (k : ℕ) → IsKept done.list.items k → IsKept r.list.items k) }
+{
+    let out = stage.work(alloc, number, alone, &done)?;
+    done.list[number] = Some(out);
+    Ok(done)
+}
+
+// What one thread does: it takes numbers until none is left or memory runs out.
+fn work_all<R: Wait, T: Stage>(
+    rt: &R,
+    alloc: Global,
+    stage: &T,
+    done: &Results<T::Out>,
+    round: &Round,
+    mut pass: RoundPass,
+) -> Worked<T::Out>
+    requires workable { T.workable stage.now }
+    requires of { Belongs round.now pass }
+    requires each { All (λ i. (i < T.size stage.now) × IsReady (T.fits stage.now) (T.first stage.now i) (T.second stage.now i) done.now.list.items) (known pass) }
+    ensures of { Belongs round.now result.pass }
+    ensures parts { parts result.pass ≡ parts pass }
+    ensures outs { AreFitting (T.size stage.now) (T.fits stage.now) result.outs.items }
+{
+    let mut outs = Vec::new(alloc);
+    for _ in rt.forever() {
+        // Without room for a result no number is taken.
+        if outs.reserve(1).is_err() {
+            break;
+        }
+        let Some(number) = round.take(rt, &mut pass) else {
+            break;
+        };
+        match stage.work(alloc, number, false, done) {
+            Ok(out) => outs.push_reserved((number, out)),
+            Err(OutOfMemory) => break,
+        }
+    }
+    Worked { pass, outs }
+}
+
+// Each pass is worked by a thread of its own.
+fn work_apart<R: Threads + Wait + Sync, T: Stage>(
+    rt: &R,
+    alloc: Global,
+    stage: &T,
+    done: &Results<T::Out>,
+    round: &Round,
+    passes: Vec<RoundPass>,
+) -> Result<Vec<Worked<T::Out>>, OutOfMemory>
+    requires workable { T.workable stage.now }
+    requires of { All (λ p. Belongs round.now p) passes.items }
+    requires each { All (λ p. All (λ i. (i < T.size stage.now) × IsReady (T.fits stage.now) (T.first stage.now i) (T.second stage.now i) done.now.list.items) (known p)) passes.items }
+    ensures of { IfOk result (λ v. All (λ w. Belongs round.now w.pass) v.items) }
+    ensures len { IfOk result (λ v. vec_len v ≡ vec_len passes) }
+    ensures parts { IfOk result (λ v. (i : ℕ) (d : Worked T.Out) (e : RoundPass) → i < length passes.items → parts (slice_index_or v.items i d).pass ≡ parts (slice_index_or passes.items i e)) }
+    ensures outs { IfOk result (λ v. All (λ w. AreFitting (T.size stage.now) (T.fits stage.now) w.outs.items) v.items) }
+{
+    thread::map_vec(
+        rt,
+        passes,
+        &|mine: RoundPass| -> Worked<T::Out>
+            requires { T.workable stage.now × Belongs round.now mine × All (λ i. (i < T.size stage.now) × IsReady (T.fits stage.now) (T.first stage.now i) (T.second stage.now i) done.now.list.items) (known mine) }
+            ensures { Belongs round.entry.now result.pass × (parts result.pass ≡ parts mine) × AreFitting (T.size stage.entry.now) (T.fits stage.entry.now) result.outs.items }
+        { work_all(rt, alloc, stage, done, round, mine) },
+    )
+}
+
+// Keeps these results.
+fn with_outs<T: Stage>(
+    stage: &T,
+    mut done: Results<T::Out>,
+    mut outs: Vec<(usize, T::Out)>,
+) -> Results<T::Out>
+    requires sound { AreSound (T.size stage.now) (T.fits stage.now) done.list.items }
+    requires each { AreFitting (T.size stage.now) (T.fits stage.now) outs.items }
+    ensures sound { AreSound (T.size stage.now) (T.fits stage.now) result.list.items }
+    ensures still { (k : ℕ) → IsKept done.list.items k → IsKept result.list.items k }
+{
+    while let Some((number, out)) = outs.pop() {
+        done.list[number] = Some(out);
+    }
+    done
+}
+
+// The passes, once the results are kept.
+fn gathered<T: Stage>(
+    alloc: Global,
+    stage: &T,
+    round: &Round,
+    mut done: Results<T::Out>,
+    mut worked: Vec<Worked<T::Out>>,
+) -> Result<(Results<T::Out>, Vec<RoundPass>), OutOfMemory>
+    requires sound { AreSound (T.size stage.now) (T.fits stage.now) done.list.items }
+    requires of { All (λ w. Belongs round.now w.pass) worked.items }
+    requires each { All (λ w. AreFitting (T.size stage.now) (T.fits stage.now) w.outs.items) worked.items }
+    ensures sound { IfOk result (λ r. AreSound (T.size stage.now) (T.fits stage.now) r.0.list.items) }
+    ensures still { IfOk result (λ r. (k : ℕ) → IsKept done.list.items k → IsKept r.0.list.items k) }
+    ensures of { IfOk result (λ r. All (λ p. Belongs round.now p) r.1.items) }
+    ensures parts { IfOk result (λ r. total_parts r.1.items ≡ total_worked worked.items) }
+{
+    let _round = round;
+    let mut passes = Vec::with_capacity(alloc, worked.len())?;
+    while let Some(Worked { pass, outs }) = worked.pop() {
+        done = with_outs(stage, done, outs);
+        passes.push(pass)?;
+    }
+    Ok((done, passes))
+}
+
+// Works a number where it has no result.
+fn work_left<T: Stage>(
+    alloc: Global,
+    stage: &T,
+    number: usize,
+    done: Results<T::Out>,
+) -> Result<Results<T::Out>, OutOfMemory>
+    requires workable { T.workable stage.now }
+    requires sound { AreSound (T.size stage.now) (T.fits stage.now) done.list.items }
+    requires number { number < T.size stage.now }
+    requires there { IsReady (T.fits stage.now) (T.first stage.now number) (T.second stage.now number) done.list.items }
+    ensures sound { IfOk result (λ r. AreSound (T.size stage.now) (T.fits stage.now) r.list.items) }
+    ensures still { IfOk result (λ r. (k : ℕ) → IsKept done.list.items k → IsKept r.list.items k) }
+{
+    if done.get(number).is_some() {
+        return Ok(done);
+    }
+    work_one(alloc, stage, number, false, done)
+}
+
+// Works each of the numbers that has no result.
+fn work_rest<T: Stage>(
+    alloc: Global,
+    stage: &T,
+    numbers: &[usize],
+    mut done: Results<T::Out>,
+) -> Result<Results<T::Out>, OutOfMemory>
+    requires workable { T.workable stage.now }
+    requires sound { AreSound (T.size stage.now) (T.fits stage.now) done.list.items }
+    requires each { All (λ i. (i < T.size stage.now) × IsReady (T.fits stage.now) (T.first stage.now i) (T.second stage.now i) done.list.items) numbers.now }
+    ensures sound { IfOk result (λ r. AreSound (T.size stage.now) (T.fits stage.now) r.list.items) }
+{
+    for number in numbers {
+        done = work_left(alloc, stage, *number, done)?;
+    }
+    Ok(done)
+}
+
+// Works the numbers of a round by workers, and then those that they left.
+fn work_round<R: Threads + Wait + Sync, T: Stage>(
+    rt: &R,
+    alloc: Global,
+    stage: &T,
+    workers: u32,
+    numbers: &[usize],
+    done: Results<T::Out>,
+) -> Result<Results<T::Out>, OutOfMemory>
+    requires workers { 1 ≤ workers }
+    requires workable { T.workable stage.now }
+    requires sound { AreSound (T.size stage.now) (T.fits stage.now) done.list.items }
+    requires some { 0 < length numbers.now }
+    requires differ { Differ numbers.now }
+    requires each { All (λ i. (i < T.size stage.now) × IsReady (T.fits stage.now) (T.first stage.now i) (T.second stage.now i) done.list.items) numbers.now }
+    ensures sound { IfOk result (λ r. AreSound (T.size stage.now) (T.fits stage.now) r.list.items) }
+{
+    let (round, passes) = Round::new(rt, alloc, numbers, workers)?;
+    let worked = work_apart(rt, alloc, stage, &done, &round, passes)?;
+    let (done, passes) = gathered(alloc, stage, &round, done, worked)?;
+    let _ = round.close(rt, passes);
+    work_rest(alloc, stage, numbers, done)
+}
+
+// Every number has its result: the results alone.
+fn all_of<T: Stage>(
+    alloc: Global,
+    stage: &T,
+    done: Results<T::Out>,
+) -> Result<Vec<T::Out>, OutOfMemory>
+    requires sound { AreSound (T.size stage.now) (T.fits stage.now) done.list.items }
+    requires all { (k : ℕ) → k < T.size stage.now → IsKept done.list.items k }
+    ensures len { IfOk result (λ v. vec_len v ≡ T.size stage.now) }
+    ensures fits { IfOk result (λ v. (i : ℕ) (out : _) → slice_get v.items i ≡ Some out → T.fits stage.now i out) }
+{
+    let _stage = stage;
+    let mut outs = Vec::with_capacity(alloc, done.list.len())?;
+    for slot in done.list {
+        let Some(out) = slot else { unreachable!() };
+        outs.push(out)?;
+    }
+    Ok(outs)
+}

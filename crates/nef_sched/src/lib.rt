@@ -1,0 +1,22 @@
+//! Rounds of numbers that are handed out through a queue.
+#![tactic(auto)]
+
+mod ahead;
+mod laws;
+mod pass;
+mod round;
+mod rule;
+mod stage;
+#[cfg(test)]
+mod tests;
+mod view;
+mod worked;
+
+pub use ahead::run_ahead;
+pub use laws::{passes_agree, steps_keep_the_rule};
+pub use pass::{Round, RoundPass};
+pub use round::Taken;
+pub use rule::RoundRule;
+pub use stage::{Needs, Results, Stage};
+pub use std::alloc::AllocError as OutOfMemory;
+pub use view::View;

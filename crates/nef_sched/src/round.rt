@@ -1,0 +1,201 @@
+//! Numbers are put into a round, taken by its passes, and accounted for at the end.
+ghost use Rattle.std.specs.Prelude.{◌≡◌, ℕ, ◌+◌, ◌^◌, ◌<◌, ◌≤◌, [], ◌∷◌, ◌++◌, length, All, IfOk, IfNone, MatchOption, vec_len, vec_capacity};
+ghost use Rattle.crossbeam_queue.specs.Passes.{view, IsSamePass, IsPassOf, ruled_capacity};
+ghost use Rattle.nef_sched.specs.Counts.{times, Differ, IsDealt};
+ghost use Rattle.nef_sched.specs.Rounds.{Belongs, parts, known, taken, total_parts, times_taken, numbers_of, TookAll, SawEmpty};
+ghost use Rattle.nef_sched.specs.Views.{first_view, whole};
+
+use crate::OutOfMemory;
+use crate::pass::{Round, RoundPass};
+use crate::rule::{Cut, Puts, RoundRule, Takes};
+use crate::view::View;
+use crossbeam_queue::{Pass, RuledArrayQueue};
+use std::alloc::Global;
+use std::sync::Wait;
+
+type Line = RuledArrayQueue<usize, View, RoundRule>;
+
+/// What became of the numbers of a round.
+#[derive(Drop)]
+pub struct Taken {
+    /// The numbers that the passes took.
+    pub taken: Vec<usize>,
+    /// The numbers that no pass took.
+    pub left: Vec<usize>,
+}
+
+impl Round {
+    /// Returns a round of these numbers, and this many passes of it, which have taken nothing.
+    ///
+    /// The numbers differ, and there is at least one number and one pass. The parts of the passes
+    /// add up to 2^32. The call may wait on the queue. `OutOfMemory` says that memory was wanted
+    /// and not found.
+    pub fn new<R: Wait>(
+        rt: &R,
+        alloc: Global,
+        numbers: &[usize],
+        passes: u32,
+    ) -> Result<(Round, Vec<RoundPass>), OutOfMemory>
+        requires differ { Differ numbers.now }
+        requires some { 0 < length numbers.now }
+        requires passes { 1 ≤ passes }
+        ensures of { IfOk result (λ r. All (λ p. Belongs r.0 p) r.1.items) }
+        ensures fresh { IfOk result (λ r. All (λ p. (known p ≡ numbers.now) × (taken p ≡ [])) r.1.items) }
+        ensures every { IfOk result (λ r. total_parts r.1.items ≡ 2 ^ 32) }
+        ensures len { IfOk result (λ r. vec_len r.1 ≡ passes) }
+    {
+        let left = Vec::with_capacity(alloc, numbers.len())?;
+        let (queue, pass) = Line::ruled(alloc, numbers.len())?;
+        let pass = put_all(rt, &queue, pass, numbers);
+        let list = passes_of(alloc, &queue, pass, numbers.len(), passes)?;
+        Ok((Round { queue, left }, list))
+    }
+
+    /// Returns a number of the round that no pass was given before, and adds it to what the pass
+    /// took.
+    ///
+    /// `None` comes only where the queue was empty at a step of this call; where the round has one
+    /// pass, exactly where that pass took all numbers. The call may wait on the queue. Takes no
+    /// memory.
+    pub fn take<R: Wait>(&self, rt: &R, pass: &mut RoundPass) -> Option<usize>
+        requires of { Belongs self.now pass.old }
+        ensures of { Belongs self.now pass.new }
+        ensures same { (parts pass.new ≡ parts pass.old) × (known pass.new ≡ known pass.old) }
+        ensures number { MatchOption result (taken pass.new ≡ taken pass.old) (λ x. (taken pass.new ≡ taken pass.old ++ x ∷ []) × (times x (known pass.old) ≡ 1) × (times x (taken pass.old) ≡ 0)) }
+        ensures none { IfNone result (SawEmpty pass.old) }
+        ensures alone { parts pass.old ≡ 2 ^ 32 → MatchOption result (TookAll pass.old) (λ _. ¬ (TookAll pass.old)) }
+    {
+        let number = self.queue.pop_as::<Takes, R>(rt, &mut pass.pass)?;
+        pass.taken.push_reserved(number);
+        Some(number)
+    }
+
+    /// Returns what the passes took and what no pass took, which together are the round's numbers,
+    /// each once.
+    ///
+    /// The list holds every pass of the round, each once: the passes are of this round, and their
+    /// parts add up to 2^32. The call may wait on the queue. Takes no memory.
+    pub fn close<R: Wait>(self, rt: &R, mut passes: Vec<RoundPass>) -> Taken
+        requires of { All (λ p. Belongs self p) passes.items }
+        requires every { total_parts passes.items ≡ 2 ^ 32 }
+        ensures each { IsDealt (numbers_of passes.items) result.taken.items result.left.items }
+        ensures taken { (x : ℕ) → times x result.taken.items ≡ times_taken x passes.items }
+    {
+        let Round { queue, left } = self;
+        let Some(mut whole) = passes.pop() else {
+            unreachable!()
+        };
+        while let Some(other) = passes.pop() {
+            whole = joined(&queue, whole, other);
+        }
+        let RoundPass { pass, taken } = whole;
+        let left = drained(rt, &queue, pass, left);
+        Taken { taken, left }
+    }
+}
+
+// Puts the numbers into the queue.
+fn put_all<R: Wait>(
+    rt: &R,
+    queue: &Line,
+    mut pass: Pass<usize, View>,
+    numbers: &[usize],
+) -> Pass<usize, View>
+    requires of { IsPassOf queue.now pass }
+    requires first { view pass ≡ first_view }
+    requires differ { Differ numbers.now }
+    requires room { ruled_capacity queue.now ≡ length numbers.now }
+    ensures of { IsPassOf queue.now result }
+    ensures all { view result ≡ whole numbers.now }
+{
+    for number in numbers {
+        let Ok(()) = queue.push_as::<Puts, R>(rt, &mut pass, *number) else {
+            unreachable!()
+        };
+    }
+    pass
+}
+
+// Makes the other passes, each with room for all numbers.
+fn passes_of(
+    alloc: Global,
+    queue: &Line,
+    mut pass: Pass<usize, View>,
+    room: usize,
+    passes: u32,
+) -> Result<Vec<RoundPass>, OutOfMemory>
+    requires of { IsPassOf queue.now pass }
+    requires all { (view pass).parts ≡ 2 ^ 32 }
+    requires fresh { (view pass).taken ≡ [] }
+    requires room { length (view pass).known ≡ room }
+    requires passes { 1 ≤ passes }
+    ensures of { IfOk result (λ v. All (λ p. IsPassOf queue.now p.pass) v.items) }
+    ensures fresh { IfOk result (λ v. All (λ p. (known p ≡ (view pass).known) × (taken p ≡ [])) v.items) }
+    ensures every { IfOk result (λ v. total_parts v.items ≡ 2 ^ 32) }
+    ensures len { IfOk result (λ v. vec_len v ≡ passes) }
+{
+    let mut list = Vec::with_capacity(alloc, passes as usize)?;
+    for _ in 1..passes {
+        let taken = Vec::with_capacity(alloc, room)?;
+        let other = queue.another::<Cut>(&mut pass);
+        list.push(RoundPass { pass: other, taken })?;
+    }
+    let taken = Vec::with_capacity(alloc, room)?;
+    list.push(RoundPass { pass, taken })?;
+    Ok(list)
+}
+
+// Takes a pass in, with what it took.
+fn joined(queue: &Line, into: RoundPass, other: RoundPass) -> RoundPass
+    requires of { IsPassOf queue.now into.pass × IsPassOf queue.now other.pass }
+    ensures of { IsPassOf queue.now result.pass }
+    ensures parts { parts result ≡ parts into + parts other }
+    ensures known { known result ≡ known into }
+    ensures taken { taken result ≡ taken into ++ taken other }
+{
+    let RoundPass {
+        mut pass,
+        taken: list,
+    } = into;
+    let RoundPass {
+        pass: spent,
+        taken: more,
+    } = other;
+    queue.absorb::<Cut>(&mut pass, spent);
+    queue.learn_as::<Takes>(&mut pass);
+    RoundPass {
+        pass,
+        taken: appended(list, more),
+    }
+}
+
+// Both lists in one, which has room for them.
+fn appended(mut list: Vec<usize>, more: Vec<usize>) -> Vec<usize>
+    requires { vec_len list + vec_len more ≤ vec_capacity list }
+    ensures items { result.items ≡ list.items ++ more.items }
+    ensures capacity { vec_capacity result ≡ vec_capacity list }
+{
+    for number in more {
+        list.push_reserved(number);
+    }
+    list
+}
+
+// Takes out what is still in the queue.
+fn drained<R: Wait>(
+    rt: &R,
+    queue: &Line,
+    mut pass: Pass<usize, View>,
+    mut left: Vec<usize>,
+) -> Vec<usize>
+    requires of { IsPassOf queue.now pass }
+    requires all { (view pass).parts ≡ 2 ^ 32 }
+    requires empty { left.items ≡ [] }
+    requires room { length (view pass).known ≤ vec_capacity left }
+    ensures { IsDealt (view pass).known (view pass).taken result.items }
+{
+    while let Some(number) = queue.pop_as::<Takes, R>(rt, &mut pass) {
+        left.push_reserved(number);
+    }
+    left
+}

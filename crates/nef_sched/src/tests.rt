@@ -1,0 +1,140 @@
+//! A round of the numbers 4 and 7, and a stage of five numbers.
+ghost use Rattle.std.specs.Prelude.{◌≡◌, ◌==◌, if◌then◌else◌, nat_lt, Some, None};
+
+use crate::{Needs, OutOfMemory, Results, Round, Stage, Taken, run_ahead};
+use std::alloc::Global;
+use std::sync::atomic::{AtomicU64, Ordering};
+use std::test::Fail;
+
+#[test]
+fn one_pass_takes_all(rt: HostRuntime) -> Result<(), Fail> {
+    let numbers = [4, 7];
+    let (round, mut passes) = Round::new(&rt, rt.alloc(), &numbers, 1)?;
+    let Some(mut pass) = passes.pop() else {
+        panic!(rt; "there is a pass")
+    };
+    let first = round.take(&rt, &mut pass);
+    let second = round.take(&rt, &mut pass);
+    assert!(rt; first == Some(4) && second == Some(7) || first == Some(7) && second == Some(4));
+    assert_eq!(rt; round.take(&rt, &mut pass), None);
+    Ok(())
+}
+
+#[test]
+fn two_passes_share(rt: HostRuntime) -> Result<(), Fail> {
+    let numbers = [4, 7];
+    let (round, mut passes) = Round::new(&rt, rt.alloc(), &numbers, 2)?;
+    let Some(mut one) = passes.pop() else {
+        panic!(rt; "there are two passes")
+    };
+    let Some(mut other) = passes.pop() else {
+        panic!(rt; "there are two passes")
+    };
+    assert!(rt; passes.is_empty());
+    let first = round.take(&rt, &mut one);
+    let second = round.take(&rt, &mut one);
+    assert!(rt; first == Some(4) && second == Some(7) || first == Some(7) && second == Some(4));
+    assert_eq!(rt; round.take(&rt, &mut other), None);
+    Ok(())
+}
+
+#[test]
+fn what_is_left_is_told(rt: HostRuntime) -> Result<(), Fail> {
+    let numbers = [4, 7];
+    let (round, mut passes) = Round::new(&rt, rt.alloc(), &numbers, 1)?;
+    let number = match passes.as_mut_slice() {
+        [pass] => round.take(&rt, pass),
+        _ => panic!(rt; "there is one pass"),
+    };
+    let Taken { taken, left } = round.close(&rt, passes);
+    assert_eq!(rt; taken.len(), 1);
+    assert_eq!(rt; left.len(), 1);
+    assert_eq!(rt; number, taken.first().copied());
+    assert!(rt;
+        taken.first() == Some(&4) && left.first() == Some(&7)
+            || taken.first() == Some(&7) && left.first() == Some(&4)
+    );
+    Ok(())
+}
+
+// Five numbers: 2 needs 0 and 1, 3 needs 2, 4 needs 2 and 1. A result is one more than the sum of
+// those that it needs. Calls in which the number is alone are counted.
+#[derive(Drop)]
+struct Sums {
+    alone: AtomicU64,
+}
+
+fn first_of(i: usize) -> Option<usize>
+    ensures { result ≡ (if i == 2 then Some 0 else (if nat_lt 2 i then Some 2 else None)) }
+{
+    if i == 2 {
+        Some(0)
+    } else if 2 < i {
+        Some(2)
+    } else {
+        None
+    }
+}
+
+fn second_of(i: usize) -> Option<usize>
+    ensures { result ≡ (if i == 2 then Some 1 else (if i == 4 then Some 1 else None)) }
+{
+    if i == 2 || i == 4 { Some(1) } else { None }
+}
+
+fn value_of(done: &Results<u64>, number: Option<usize>) -> u64 {
+    match number {
+        Some(number) => done.get(number).copied().unwrap_or(100),
+        None => 0,
+    }
+}
+
+impl Stage for Sums {
+    type Out = u64;
+
+    ghost use Rattle.std.specs.Prelude.{◌==◌, if◌then◌else◌, nat_lt, Some, None, ⊤};
+
+    ghost size = { λ s. 5 };
+
+    ghost first = { λ s i. if i == 2 then Some 0 else (if nat_lt 2 i then Some 2 else None) };
+
+    ghost second = { λ s i. if i == 2 then Some 1 else (if i == 4 then Some 1 else None) };
+
+    ghost fits = { λ s i out. ⊤ };
+
+    fn count(&self) -> usize {
+        5
+    }
+
+    fn needs(&self, i: usize) -> Needs {
+        Needs {
+            first: first_of(i),
+            second: second_of(i),
+        }
+    }
+
+    fn work(
+        &self,
+        _alloc: Global,
+        i: usize,
+        alone: bool,
+        done: &Results<u64>,
+    ) -> Result<u64, OutOfMemory> {
+        if alone {
+            self.alone.fetch_add(1, Ordering::SeqCst);
+        }
+        let sum = value_of(done, first_of(i)).wrapping_add(value_of(done, second_of(i)));
+        Ok(sum.wrapping_add(1))
+    }
+}
+
+#[test]
+fn results_come_in_order(rt: HostRuntime) -> Result<(), Fail> {
+    let stage = Sums {
+        alone: AtomicU64::new(0),
+    };
+    let results = run_ahead(&rt, rt.alloc(), &stage, 2)?;
+    assert_eq!(rt; results.as_slice(), [1, 1, 3, 4, 5].as_slice());
+    assert_eq!(rt; stage.alone.load(Ordering::SeqCst), 1);
+    Ok(())
+}
