@@ -1,0 +1,4 @@
+pub mod Along
+pub mod OneEnd
+pub mod Nearer
+pub mod Found
