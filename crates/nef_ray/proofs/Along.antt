@@ -147,7 +147,7 @@ module _ (s : Set) (p : Place) (d : Vector) (m : Label) (inside : InFrame p) (ge
         level w b f =
             let back = ahead-back p c.at_place d w in
             let y = start (reach_all (carriers s) c.at_place) c.at_place p in
-            let e = between-turned c.at_place y p (start-between (reach_all (carriers s) c.at_place) c.at_place p (direction-left (toward c.at_place p) (opposite d) back)) in
+            let e = between-turned c.at_place p y (start-between (reach_all (carriers s) c.at_place) c.at_place p (direction-left (toward c.at_place p) (opposite d) back)) in
             let v = SameDirection-trans (toward y c.at_place) (toward p y) d (SameDirection-turned (toward p y) (toward y c.at_place) e) (between-ahead p y c.at_place d e w) in
             level-kept s d m c.at_place y (start-close (reach_all (carriers s) c.at_place) c.at_place p) v f (c.stands_before y e)
 
@@ -158,7 +158,7 @@ module _ (s : Set) (p : Place) (d : Vector) (m : Label) (inside : InFrame p) (ge
             (λ o.
             let back = ahead-back p c.at_place d w in
             let y = start (reach_all (carriers s) c.at_place) c.at_place p in
-            let e = between-turned c.at_place y p (start-between (reach_all (carriers s) c.at_place) c.at_place p (direction-left (toward c.at_place p) (opposite d) back)) in
+            let e = between-turned c.at_place p y (start-between (reach_all (carriers s) c.at_place) c.at_place p (direction-left (toward c.at_place p) (opposite d) back)) in
             let g = (germ-nearby s c.at_place y (start-close (reach_all (carriers s) c.at_place) c.at_place p) d m).0 (c.stands_before y e) in
             absurd (not-out (germ-outside s c.at_place (blend g.0 (toward c.at_place y) 1 d) m o (g.1 g.0 (omega arith)))))
             (framed-or c.at_place))

@@ -78,5 +78,5 @@ module _ (s : Set) (p : Place) (d : Vector) where
 pub one-end : OneRayEnd
 one-end s p d q r a b l m E F = ⊎_elim
     (λ before. absurd (earlier s p d q r a b l m E F before))
-    (λ o. ⊎_elim (λ e. (e, same-end s p d q r a b l m E F e)) (λ before. absurd (earlier s p d r q b a m l F E before)) o)
+    (λ o. ⊎_elim (λ e. let t = same-end s p d q r a b l m E F e in (e, t.0, t.1)) (λ before. absurd (earlier s p d r q b a m l F E before)) o)
     (ray-cases p q r d E.ahead F.ahead)
