@@ -31,7 +31,7 @@ returns-in-Some-2-clause-along c =
     record {
       reached = c.in-Some.ensures.step;
       ahead = X.ahead;
-      same = subst (λ (r : Point). SamePlace (hit_place c.in-Some.hit) (place_of r)) (sym (subst (λ (o : Option RayEnd). IfSome o (λ e. e.point ≡ c.crossing-point.result)) c.in-Some-2.is c.in_ok-change_at.ensures.point)) (crossings-same p d c.args.h.now (hit_place c.in-Some.hit) q X c.crossing-point.ensures.crossing);
+      same = subst (λ (r : Point). SamePlace (hit_place c.in-Some.hit) (place_of r)) (sym (subst (λ (o : Option RayEnd). IfSome o (λ e. e.point ≡ c.crossing-point.result)) c.in-Some-2.is c.in_ok-end.ensures.point)) (crossings-same p d c.args.h.now (hit_place c.in-Some.hit) q X c.crossing-point.ensures.crossing);
     }
 
 pub returns-in-Some-2-clause-kept : goal.returns-in-Some-2-clause-kept
@@ -46,4 +46,4 @@ returns-in-Some-2-clause-plane c = λ s y S X i. inr (λ b. taken (place_of c.ar
 pub returns-in-None-clause-plane : goal.returns-in-None-clause-plane
 returns-in-None-clause-plane c =
     let p = place_of c.args.ray.now.from in let d = vector_of c.args.ray.now.along in let q = place_of c.crossing-point.result in
-    λ s y S X i. inl (unchanged-same s d c.args.ray.now.before q y (crossings-same p d c.args.h.now q y c.crossing-point.ensures.crossing X) (subst (λ (o : Option RayEnd). IsNone o → (s : Set) → ShowsSet s c.args.c.now → IsUnchanged s d c.args.ray.now.before q) c.in-None.is c.in_ok-change_at.ensures.none refl s S))
+    λ s y S X i. inl (unchanged-same s d c.args.ray.now.before q y (crossings-same p d c.args.h.now q y c.crossing-point.ensures.crossing X) (subst (λ (o : Option RayEnd). IsNone o → (s : Set) → ShowsSet s c.args.c.now → IsUnchanged s d c.args.ray.now.before q) c.in-None.is c.in_ok-end.ensures.none refl s S))
