@@ -1,17 +1,17 @@
 -- Along a ray the label stays up to the first crossing of a carrier at which it changes; and it changes somewhere, since the ray leaves the frame.
-use Rattle.std.proofs.Common.{◌≡◌, ℕ, ◌*◌, ◌<◌, ◌≤◌, ℤ, pos, ◌+ℤ◌, ◌*ℤ◌, ◌<ℤ◌, neg_ℤ, nat_abs, arith, refl, ap, sym, ◌∙◌, ◌⊎◌, inl, inr, ⊎_elim, [], ◌∷◌, subst}
+use Rattle.std.proofs.Common.{◌≡◌, ℕ, ◌*◌, ◌<◌, ◌≤◌, ℤ, pos, ◌+ℤ◌, ◌*ℤ◌, neg_ℤ, nat_abs, arith, refl, ap, sym, ◌∙◌, ◌⊎◌, inl, inr, ⊎_elim, [], ◌∷◌, subst}
 use Rattle.std.proofs.lemmas.Int.{ints}
 use Rattle.nef_exact.specs.Signs.{Sign, minus, nought, plus, sign, Lies}
 use Rattle.nef_exact.proofs.Ring.{ring, at, num, neg, ◌⊕◌, ◌⊗◌}
 use Rattle.nef_exact.proofs.Order.{nought-is, plus-is, minus-is, sign-plus, sign-minus, mul_nonneg}
 use Rattle.nef_space.specs.Limits.{half_side}
 use Rattle.nef_space.specs.Local.{HasLabel, Germ}
-use Rattle.nef_space.specs.Place.{Place, Form, form_at, slope, normal_of, Within, SamePlace, InFrame, InClosedFrame, toward, IsAhead, IsBetween}
+use Rattle.nef_space.specs.Place.{Place, Form, form_at, slope, Within, SamePlace, InFrame, InClosedFrame, toward, IsAhead, IsBetween}
 use Rattle.nef_space.specs.Sets.{Set}
 use Rattle.nef_space.specs.Vectors.{Vector, blend, opposite, zero_vector, IsDirection, SameDirection}
 use Rattle.nef_space.specs.declared.label.Label.{Label}
 use Rattle.nef_space.specs.declared.label.Label.TheVariants.{Out}
-use Rattle.nef_forms.proofs.Directions.{direction-left, direction-right, factor-same}
+use Rattle.nef_forms.proofs.Directions.{direction-left, factor-same}
 use Rattle.nef_forms.proofs.Far.{nought-or}
 use Rattle.nef_forms.proofs.Near.{reach_all}
 use Rattle.nef_near.specs.Cells.{sign_at, carriers}
@@ -31,7 +31,6 @@ use Rattle.nef_near.proofs.Rays.{within-self, Germ-zero, slope-zero, slope-same}
 use Rattle.nef_sphere.proofs.Compare.{SameDirection-turned, SameDirection-trans}
 use Rattle.nef_geo.specs.Hits.{IsCrossing}
 use Rattle.nef_solid.proofs.FacetEdges.{ahead-back}
-use Rattle.nef_solid.proofs.Ways.{between-way}
 use Rattle.nef_plane.proofs.Nearest.{between-ahead}
 use Rattle.nef_locate.proofs.EqualPoints.{ahead-from}
 use Rattle.nef_ray.specs.Changes.{IsUnchanged}
@@ -120,8 +119,11 @@ module _ (s : Set) (d : Vector) (m : Label) where
 
   -- what comes after a point comes after points close ahead
   onward-kept : (x y : Place) → Within (reach_all (carriers s) x) x y → SameDirection (toward x y) d → Germ s x d m → Germ s y d m
-  onward-kept x y c w g = (germ-nearby s x y c d m).1 (0, λ k l. Germ-by_signs s x d (blend k (toward x y) 1 d)
-      (λ h i o. sum-sign k (slope h (toward x y)) (slope h d) (slope-same h (toward x y) d w) ∙ ap sign (sym (slope-blend h k (toward x y) d))) m g)
+  onward-kept x y c w g = (germ-nearby s x y c d m).1 (
+    0,
+    λ k l. Germ-by_signs s x d (blend k (toward x y) 1 d)
+        (λ h i o. sum-sign k (slope h (toward x y)) (slope h d) (slope-same h (toward x y) d w) ∙ ap sign (sym (slope-blend h k (toward x y) d))) m g,
+  )
 
 -- ---- the label stays
 module _ (s : Set) (p : Place) (d : Vector) (m : Label) (inside : InFrame p) (germ : Germ s p d m) where

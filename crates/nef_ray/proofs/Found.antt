@@ -1,8 +1,8 @@
 -- The nearest change at a crossing of a carrier is the end of the ray, and there is one.
-use Rattle.std.proofs.Common.{◌≡◌, ℕ, Option, Some, None, ◌⊎◌, ⊎_elim, sym, subst}
+use Rattle.std.proofs.Common.{ℕ, Option, Some, None, ◌⊎◌, ⊎_elim, sym, subst}
 use Rattle.nef_exact.specs.Signs.{Lies}
 use Rattle.nef_space.specs.Local.{Germ}
-use Rattle.nef_space.specs.Place.{Place, Form, InFrame, InClosedFrame, IsBetween}
+use Rattle.nef_space.specs.Place.{Place, Form, InFrame, InClosedFrame}
 use Rattle.nef_space.specs.Sets.{Set}
 use Rattle.nef_space.specs.Vectors.{Vector, IsDirection}
 use Rattle.nef_space.specs.declared.label.Label.{Label}

@@ -1,6 +1,6 @@
 -- What a ray meets in one plane, and which change is the nearest.
-use Rattle.std.proofs.Common.{◌≡◌, Option, Some, None}
-use Rattle.nef_space.specs.Place.{Place, SamePlace, toward, IsAhead, IsBetween}
+use Rattle.std.proofs.Common.{Option, Some, None}
+use Rattle.nef_space.specs.Place.{Place, SamePlace, toward, IsBetween}
 use Rattle.nef_space.specs.Sets.{Set}
 use Rattle.nef_space.specs.Vectors.{Vector}
 use Rattle.nef_space.specs.declared.label.Label.{Label}

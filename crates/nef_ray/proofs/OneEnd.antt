@@ -1,5 +1,5 @@
 -- A ray has one end.
-use Rattle.std.proofs.Common.{◌≡◌, refl, sym, ◌∙◌, ◌⊎◌, inl, inr, ⊎_elim, Bool, true, false, arith, subst}
+use Rattle.std.proofs.Common.{◌≡◌, refl, sym, ◌⊎◌, inl, inr, ⊎_elim, Bool, true, false, arith, subst}
 use Rattle.std.proofs.lemmas.Int.{ints}
 use Rattle.nef_space.specs.Local.{HasLabel, Germ}
 use Rattle.nef_space.specs.Place.{Place, SamePlace, toward, IsAhead, IsBetween}
@@ -10,7 +10,7 @@ use Rattle.nef_forms.proofs.Between.{toward-place, place-decided}
 use Rattle.nef_forms.proofs.Directions.{direction-left}
 use Rattle.nef_forms.proofs.Near.{reach_all}
 use Rattle.nef_near.specs.Cells.{carriers}
-use Rattle.nef_near.proofs.Edges.{start, start-close, start-between, start-toward}
+use Rattle.nef_near.proofs.Edges.{start, start-close, start-between}
 use Rattle.nef_near.proofs.Flats.{vector-same, germ-toward}
 use Rattle.nef_near.proofs.Germs.{Label-cells, label-one, Germ-unique}
 use Rattle.nef_near.proofs.Rays.{signs-same, same-place_sym, Germ-same}

@@ -1,4 +1,4 @@
-use Rattle.std.proofs.Common.{◌≡◌, rules, sym, subst}
+use Rattle.std.proofs.Common.{◌≡◌, rules, subst}
 use Rattle.nef_space.specs.Local.{HasLabel, Germ}
 use Rattle.nef_geo.specs.Shapes.{vector_of, place_of}
 use Rattle.nef_ray.proofs.change.change_at.Goals as goal

@@ -1,4 +1,4 @@
-use Rattle.std.proofs.Common.{ℤ, pos, ◌*ℤ◌, ◌<ℤ◌, List, [], ◌∷◌, sym, ◌∙◌, ap, refl, subst, w64}
+use Rattle.std.proofs.Common.{ℤ, pos, ◌*ℤ◌, ◌<ℤ◌, [], ◌∷◌, sym, ◌∙◌, ap, refl, subst, w64}
 use Rattle.nef_exact.proofs.Machine.{wrap, exact_of, fits_of, size_of}
 use Rattle.nef_exact.proofs.Order.{mul_pos}
 use Rattle.nef_space.specs.Limits.{point_limit, weight_limit}
@@ -46,8 +46,10 @@ pub of-requires-clause-positive : goal.of-requires-clause-positive
 of-requires-clause-positive c = subst (λ (i : ℤ). pos 0 <ℤ i) (sym (exact_of weight_sizes (c.w.result ∷ c.args.den ∷ []) (wrap w64 (times 0 1)) (weight-limits c.w.result c.args.den c.args.p.now.w c.w.ensures.w c.requires.p_small.weight c.requires.den_small) tt ∙ ap (λ (i : ℤ). i *ℤ c.args.den) c.w.ensures.w)) (mul_pos c.args.p.now.w c.args.den c.args.p.now.proper c.requires.den_positive)
 
 pub returns : goal.returns
-returns c = record { reached = same-at _ _ _ _ _ _ _ _ (place_of c.of.result)
-    (exact_of step_sizes (c.x.result ∷ c.args.den ∷ c.args.num ∷ c.x-2.result ∷ []) (wrap w64 step_code) (step-limits c.x.result c.args.den c.args.num c.x-2.result c.args.p.now.x c.args.d.now.x c.x.ensures.x c.x-2.ensures.x c.requires.p_small.numbers.of_x c.requires.den_small c.requires.num_small c.requires.d_small.of_x) tt ∙ step-is c.x.result c.args.den c.args.num c.x-2.result c.args.p.now.x c.args.d.now.x c.x.ensures.x c.x-2.ensures.x)
-    (exact_of step_sizes (c.y.result ∷ c.args.den ∷ c.args.num ∷ c.y-2.result ∷ []) (wrap w64 step_code) (step-limits c.y.result c.args.den c.args.num c.y-2.result c.args.p.now.y c.args.d.now.y c.y.ensures.y c.y-2.ensures.y c.requires.p_small.numbers.of_y c.requires.den_small c.requires.num_small c.requires.d_small.of_y) tt ∙ step-is c.y.result c.args.den c.args.num c.y-2.result c.args.p.now.y c.args.d.now.y c.y.ensures.y c.y-2.ensures.y)
-    (exact_of step_sizes (c.z.result ∷ c.args.den ∷ c.args.num ∷ c.z-2.result ∷ []) (wrap w64 step_code) (step-limits c.z.result c.args.den c.args.num c.z-2.result c.args.p.now.z c.args.d.now.z c.z.ensures.z c.z-2.ensures.z c.requires.p_small.numbers.of_z c.requires.den_small c.requires.num_small c.requires.d_small.of_z) tt ∙ step-is c.z.result c.args.den c.args.num c.z-2.result c.args.p.now.z c.args.d.now.z c.z.ensures.z c.z-2.ensures.z)
-    (exact_of weight_sizes (c.w.result ∷ c.args.den ∷ []) (wrap w64 (times 0 1)) (weight-limits c.w.result c.args.den c.args.p.now.w c.w.ensures.w c.requires.p_small.weight c.requires.den_small) tt ∙ ap (λ (i : ℤ). i *ℤ c.args.den) c.w.ensures.w) c.of.ensures.same }
+returns c = record {
+  reached = same-at _ _ _ _ _ _ _ _ (place_of c.of.result)
+      (exact_of step_sizes (c.x.result ∷ c.args.den ∷ c.args.num ∷ c.x-2.result ∷ []) (wrap w64 step_code) (step-limits c.x.result c.args.den c.args.num c.x-2.result c.args.p.now.x c.args.d.now.x c.x.ensures.x c.x-2.ensures.x c.requires.p_small.numbers.of_x c.requires.den_small c.requires.num_small c.requires.d_small.of_x) tt ∙ step-is c.x.result c.args.den c.args.num c.x-2.result c.args.p.now.x c.args.d.now.x c.x.ensures.x c.x-2.ensures.x)
+      (exact_of step_sizes (c.y.result ∷ c.args.den ∷ c.args.num ∷ c.y-2.result ∷ []) (wrap w64 step_code) (step-limits c.y.result c.args.den c.args.num c.y-2.result c.args.p.now.y c.args.d.now.y c.y.ensures.y c.y-2.ensures.y c.requires.p_small.numbers.of_y c.requires.den_small c.requires.num_small c.requires.d_small.of_y) tt ∙ step-is c.y.result c.args.den c.args.num c.y-2.result c.args.p.now.y c.args.d.now.y c.y.ensures.y c.y-2.ensures.y)
+      (exact_of step_sizes (c.z.result ∷ c.args.den ∷ c.args.num ∷ c.z-2.result ∷ []) (wrap w64 step_code) (step-limits c.z.result c.args.den c.args.num c.z-2.result c.args.p.now.z c.args.d.now.z c.z.ensures.z c.z-2.ensures.z c.requires.p_small.numbers.of_z c.requires.den_small c.requires.num_small c.requires.d_small.of_z) tt ∙ step-is c.z.result c.args.den c.args.num c.z-2.result c.args.p.now.z c.args.d.now.z c.z.ensures.z c.z-2.ensures.z)
+      (exact_of weight_sizes (c.w.result ∷ c.args.den ∷ []) (wrap w64 (times 0 1)) (weight-limits c.w.result c.args.den c.args.p.now.w c.w.ensures.w c.requires.p_small.weight c.requires.den_small) tt ∙ ap (λ (i : ℤ). i *ℤ c.args.den) c.w.ensures.w) c.of.ensures.same;
+}

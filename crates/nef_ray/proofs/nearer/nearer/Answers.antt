@@ -1,6 +1,6 @@
 use Rattle.std.proofs.Common.{◌≡◌, Option, IfSome, IsNone, inl, inr, refl, rules, sym, subst, IsTrue}
-use Rattle.nef_space.specs.Place.{Place, SamePlace}
-use Rattle.nef_geo.specs.Shapes.{form_of, vector_of, place_of, hit_place}
+use Rattle.nef_space.specs.Place.{SamePlace}
+use Rattle.nef_geo.specs.Shapes.{vector_of, place_of, hit_place}
 use Rattle.nef_geo.specs.declared.point.Point.{Point}
 use Rattle.nef_space.specs.Sets.{Set}
 use Rattle.nef_complex.specs.Complexes.{ShowsSet}
@@ -8,7 +8,6 @@ use Rattle.nef_ray.specs.declared.ray.RayEnd.{RayEnd}
 use Rattle.nef_ray.specs.Changes.{IsUnchanged}
 use Rattle.nef_locate.proofs.EqualPoints.{closed-same}
 use Rattle.nef_locate.proofs.RayMeets.{taken}
-use Rattle.nef_near.proofs.Rays.{same-place_sym}
 use Rattle.nef_ray.proofs.Nearest.{crossings-same, unchanged-same, stays, passed}
 use Rattle.nef_ray.proofs.nearer.nearer.Goals as goal
 

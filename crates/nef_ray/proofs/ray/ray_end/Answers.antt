@@ -35,10 +35,12 @@ pub returns : goal.returns
 returns c =
     let C = c.args.c.now in let p = place_of c.args.p.now in let d = vector_of c.args.d.now in let m = c.in_ok-label_after.field-0 in
     let ray : Ray = record { from = c.args.p.now; along = c.args.d.now; before = m } in
-    record { end = λ s S.
-        end-some s C S ray c.in-Some.change c.requires.framed (c.in_ok-label_after.ensures.germ s S)
-        (subst (λ (o : Option Change). IfSome o (IsAlong ray)) c.in-Some.is c.loop-number.invariant.0)
-        (subst (λ (o : Option Change). IfSome o (λ x. (s : Set) → ShowsSet s C → IsChangeOf s d m x.end)) c.in-Some.is c.loop-number.invariant.1 s S)
-        (λ k h a y X i.
-        let l = at-within C.carriers k h a in let t = c.loop-number-test.false in let e = c.len-number-end.ensures.len in
-        subst (λ (o : Option Change). IsUnchanged s d m y ⊎ IsNotBefore p y o) c.in-Some.is (c.loop-number.invariant.2 k h (omega (arith, l, t, e)) a s y S X i)) }
+    record {
+      end = λ s S.
+          end-some s C S ray c.in-Some.change c.requires.framed (c.in_ok-label_after.ensures.germ s S)
+          (subst (λ (o : Option Change). IfSome o (IsAlong ray)) c.in-Some.is c.loop-number.invariant.0)
+          (subst (λ (o : Option Change). IfSome o (λ x. (s : Set) → ShowsSet s C → IsChangeOf s d m x.end)) c.in-Some.is c.loop-number.invariant.1 s S)
+          (λ k h a y X i.
+          let l = at-within C.carriers k h a in let t = c.loop-number-test.false in let e = c.len-number-end.ensures.len in
+          subst (λ (o : Option Change). IsUnchanged s d m y ⊎ IsNotBefore p y o) c.in-Some.is (c.loop-number.invariant.2 k h (omega (arith, l, t, e)) a s y S X i));
+    }
