@@ -1,5 +1,5 @@
 -- The point where a ray crosses a plane, by the machine's numbers.
-use Rattle.std.proofs.Common.{◌≡◌, ℕ, ◌≤◌, ℤ, pos, ◌+ℤ◌, ◌*ℤ◌, ◌<ℤ◌, neg_ℤ, nat_abs, List, [], ◌∷◌, inl, inr, arith, refl, ap, sym, ◌∙◌, subst, w64, to_z, of_z}
+use Rattle.std.proofs.Common.{◌≡◌, ℕ, ◌≤◌, ℤ, pos, ◌+ℤ◌, ◌*ℤ◌, ◌<ℤ◌, neg_ℤ, nat_abs, List, [], ◌∷◌, inl, inr, arith, refl, ap, sym, ◌∙◌, w64, to_z, of_z}
 use Rattle.std.proofs.lemmas.Int.{ints}
 use Rattle.nef_exact.specs.Signs.{sign}
 use Rattle.nef_exact.proofs.Machine.{Code, load, wrap, ◌⊞◌, ◌⊠◌, Limited, exact_of}
@@ -122,12 +122,7 @@ balanced v g n m (inr (l, k)) en em = record {
       rw (i, j) (ring (v ∷ g ∷ []) (at 0 ⊗ at 1 ⊕ neg (at 1) ⊗ at 0) (num (pos 0)) tt);
 }
 
--- where the ray crosses the plane, the slope isn't nought
-pub slope-some : (h : Plane) (p : Point) (d : Dir) (q : Place) → IsCrossing (place_of p) (vector_of d) (form_of h) q → (g m : ℤ) → g ≡ slope (form_of h) (vector_of d) → m ≡ pos (nat_abs g) → pos 0 <ℤ m
-slope-some h p d q X g m eg em =
-    let b = balanced (form_at (form_of h) (place_of p)) (slope (form_of h) (vector_of d)) (pos (nat_abs (form_at (form_of h) (place_of p)))) (pos (nat_abs (slope (form_of h) (vector_of d)))) (opposite-crossing (form_of h) (place_of p) (vector_of d) q d.some X) refl refl in
-    subst (λ (i : ℤ). pos 0 <ℤ i) (sym (em ∙ ap (λ (i : ℤ). pos (nat_abs i)) eg)) b.below
-
+-- the point at that step is the crossing
 pub crossed-at : (h : Plane) (p : Point) (d : Dir) (q : Place) → IsCrossing (place_of p) (vector_of d) (form_of h) q → (v g n m : ℤ) → v ≡ form_at (form_of h) (place_of p) → g ≡ slope (form_of h) (vector_of d) → n ≡ pos (nat_abs v) → m ≡ pos (nat_abs g) → (r : Place)
     → ((positive : pos 0 <ℤ (p.w *ℤ m)) → SamePlace (place_at (p.x *ℤ m +ℤ n *ℤ d.x) (p.y *ℤ m +ℤ n *ℤ d.y) (p.z *ℤ m +ℤ n *ℤ d.z) (p.w *ℤ m) positive) r) → IsCrossing (place_of p) (vector_of d) (form_of h) r
 crossed-at h p d q X v g n m ev eg en em r same =

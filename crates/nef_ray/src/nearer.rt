@@ -25,7 +25,7 @@ pub(crate) struct Change {
     pub(crate) at: Hit,
 }
 
-// Whether the number is at most half the length of the frame's sides in size, times the weight.
+// Whether the number is at most this large in size.
 fn is_within(number: i64, limit: u64) -> bool
     ensures within { IsTrue result ↔ (nat_abs number ≤ limit) }
 {
