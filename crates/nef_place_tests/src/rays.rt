@@ -69,7 +69,11 @@ fn end_text(alloc: Global, c: &Complex, p: &Point, d: &Dir) -> Result<String, Fa
     let end = ray_end(alloc, c, p, d)?;
     let word = if end.after { "after" } else { "at" };
     let (x, y, z) = (end.point.x(), end.point.y(), end.point.z());
-    let text = format!(in alloc; "{word} {x} {y} {z} {} {}", end.point.w(), label_word(end.label))?;
+    let text = format!(in alloc;
+        "{word} {x} {y} {z} {} {}",
+        end.point.w(),
+        label_word(end.label)
+    )?;
     Ok(text)
 }
 
@@ -83,7 +87,11 @@ fn answer(alloc: Global, c: &Complex, words: &str) -> Result<String, Fail>
     if !is_within(*x, 1 << 21) || !is_within(*y, 1 << 21) || !is_within(*z, 1 << 21) {
         return Ok(String::from_str(alloc, "too large")?);
     }
-    if *w < 1 || *w > 1024 || !is_within(*dx, 1024) || !is_within(*dy, 1024) || !is_within(*dz, 1024)
+    if *w < 1
+        || *w > 1024
+        || !is_within(*dx, 1024)
+        || !is_within(*dy, 1024)
+        || !is_within(*dz, 1024)
     {
         return Ok(String::from_str(alloc, "too large")?);
     }
