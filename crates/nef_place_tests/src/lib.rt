@@ -8,6 +8,8 @@ mod lines;
 #[cfg(test)]
 mod questions;
 #[cfg(test)]
+mod rays;
+#[cfg(test)]
 mod sets;
 #[cfg(test)]
 mod walls;

@@ -91,7 +91,7 @@ fn start(d: &Dir, x: i64, y: i64, z: i64, w: i64) -> Result<Point, &'static str>
     framed_point(x, y, z, PART)
 }
 
-fn numbers(alloc: Global, words: &str) -> Result<Vec<i64>, Fail> {
+pub(crate) fn numbers(alloc: Global, words: &str) -> Result<Vec<i64>, Fail> {
     let mut list = Vec::new(alloc);
     for word in words.split(' ') {
         list.push(word.parse::<i64>()?)?;

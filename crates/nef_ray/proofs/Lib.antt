@@ -1,0 +1,5 @@
+pub mod Along
+pub mod OneEnd
+pub mod Nearest
+pub mod Found
+pub mod Steps

@@ -1,0 +1,15 @@
+use Rattle.std.proofs.Common.{subst}
+use Rattle.nef_space.specs.Local.{Germ}
+use Rattle.nef_geo.specs.Shapes.{vector_of, place_of}
+use Rattle.nef_smap.specs.Maps.{map_of}
+use Rattle.nef_sphere.proofs.Labels.{label-unique}
+use Rattle.nef_ray.proofs.change.label_after.Goals as goal
+
+pub returns : goal.returns
+returns c = record {
+  germ = λ s S.
+      let d = vector_of c.args.d.now in
+      let K = c.in_ok-map.ensures.cone s S in
+      let g = K.labels d c.args.d.now.some in
+      subst (Germ s (place_of c.args.p.now) d) (label-unique (map_of c.in_ok-map.map) K.valid d g.0 c.label_at.result g.1 c.label_at.ensures.label) g.2;
+}

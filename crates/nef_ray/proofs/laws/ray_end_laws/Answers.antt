@@ -1,0 +1,5 @@
+use Rattle.nef_ray.proofs.OneEnd.{one-end}
+use Rattle.nef_ray.proofs.laws.ray_end_laws.Goals as goal
+
+pub returns : goal.returns
+returns c = record { one = one-end }

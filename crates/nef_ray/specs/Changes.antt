@@ -1,0 +1,45 @@
+-- Changes of the label along a ray.
+use Rattle.std.specs.Prelude.{◌≡◌, Option, Some, None}
+use Rattle.nef_space.specs.Local.{HasLabel, Germ}
+use Rattle.nef_space.specs.Place.{Place, SamePlace, IsAhead, IsBetween}
+use Rattle.nef_space.specs.Sets.{Set}
+use Rattle.nef_space.specs.Vectors.{Vector, IsAtMost}
+use Rattle.nef_space.specs.declared.label.Label.{Label}
+use Rattle.nef_geo.specs.Hits.{IsReached, IsPlaceAtMost}
+use Rattle.nef_geo.specs.Shapes.{vector_of, place_of, hit_place}
+use Rattle.nef_geo.specs.declared.hit.Hit.{Hit}
+use Rattle.nef_ray.specs.declared.ray.Ray.{Ray}
+use Rattle.nef_ray.specs.declared.ray.RayEnd.{RayEnd}
+use Rattle.nef_ray.specs.declared.nearer.Change.{Change}
+use Rattle.nef_ray.specs.Ends.{Changes}
+use Rattle.nef_ray.specs.Widths.{ray_point_limit, ray_weight_limit, ray_direction_limit}
+
+-- the numbers of the ray are within its limits
+pub record IsSmall (ray : Ray) : Type 0 where
+  pub start : IsPlaceAtMost ray_point_limit ray_weight_limit (place_of ray.from)
+  pub direction : IsAtMost ray_direction_limit (vector_of ray.along)
+
+-- y has the label m, and so has what comes just after it along d
+abbrev pub IsUnchanged : Set → Vector → Label → Place → Type 0
+IsUnchanged s d m y = HasLabel s y m × Germ s y d m
+
+-- at the point the label along d changes from m to another
+pub record IsChangeOf (s : Set) (d : Vector) (m : Label) (e : RayEnd) : Type 0 where
+  pub other : e.label ≡ m → ⊥
+  pub changes : Changes s (place_of e.point) d m e.after e.label
+
+-- the hit stands at its step along the ray, and is the point of the change
+pub record IsAlong (ray : Ray) (x : Change) : Type 0 where
+  pub reached : IsReached (place_of ray.from) (vector_of ray.along) x.at.num x.at.den x.at.den_sign (hit_place x.at)
+  pub ahead : IsAhead (place_of ray.from) (vector_of ray.along) (hit_place x.at)
+  pub same : SamePlace (hit_place x.at) (place_of x.end.point)
+
+-- the hit lies before the change, if there is one
+abbrev pub IsSooner : Vector → Hit → Option Change → Type 0
+IsSooner d q None = Unit {0}
+IsSooner d q (Some x) = IsAhead (hit_place q) d (hit_place x.at)
+
+-- there is a change, and y doesn't lie before it
+abbrev pub IsNotBefore : Place → Place → Option Change → Type 0
+IsNotBefore p y None = ⊥
+IsNotBefore p y (Some x) = IsBetween p y (hit_place x.at) → ⊥

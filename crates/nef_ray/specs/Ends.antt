@@ -1,0 +1,25 @@
+-- Where the label along a ray first changes.
+use Rattle.std.specs.Prelude.{◌≡◌, Bool, true, false}
+use Rattle.nef_space.specs.Local.{HasLabel, Germ}
+use Rattle.nef_space.specs.Place.{Place, SamePlace, IsAhead, IsBetween}
+use Rattle.nef_space.specs.Sets.{Set}
+use Rattle.nef_space.specs.Vectors.{Vector}
+use Rattle.nef_space.specs.declared.label.Label.{Label}
+
+-- the label along d changes from m to l at q: q has l, or q has m and l comes just after it
+abbrev pub Changes : Set → Place → Vector → Label → Bool → Label → Type 0
+Changes s q d m false l = HasLabel s q l
+Changes s q d m true l = HasLabel s q m × Germ s q d l
+
+-- q is ahead of p along d, the label is the same from just after p up to q, and there it changes to l: at q itself, or just after it
+pub record IsRayEnd (s : Set) (p : Place) (d : Vector) (q : Place) (after : Bool) (l : Label) : Type 0 where
+  pub before : Label
+  pub germ : Germ s p d before
+  pub ahead : IsAhead p d q
+  pub same : (r : Place) → IsBetween p r q → HasLabel s r before
+  pub other : l ≡ before → ⊥
+  pub changes : Changes s q d before after l
+
+-- a ray has one end
+abbrev pub OneRayEnd : Type 0
+OneRayEnd = (s : Set) (p : Place) (d : Vector) (q r : Place) (a b : Bool) (l m : Label) → IsRayEnd s p d q a l → IsRayEnd s p d r b m → SamePlace q r × (a ≡ b) × (l ≡ m)

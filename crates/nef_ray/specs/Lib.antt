@@ -1,0 +1,3 @@
+pub mod Ends
+pub mod Widths
+pub mod Changes

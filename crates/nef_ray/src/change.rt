@@ -1,0 +1,73 @@
+//! Whether the label changes at a point of a ray.
+
+ghost use Rattle.std.specs.Prelude.{◌≡◌, IfOk, IfSome, IsNone};
+ghost use Rattle.nef_space.specs.Local.{HasLabel, Germ};
+ghost use Rattle.nef_space.specs.Place.{InClosedFrame};
+ghost use Rattle.nef_space.specs.Sets.{Set};
+ghost use Rattle.nef_geo.specs.Shapes.{vector_of, place_of};
+ghost use Rattle.nef_complex.specs.Complexes.{ShowsSet};
+ghost use Rattle.nef_ray.specs.Changes.{IsUnchanged, IsChangeOf};
+
+use crate::OutOfMemory;
+use crate::ray::{Ray, RayEnd};
+use nef_complex::Complex;
+use nef_geo::{Dir, Label, Point};
+use nef_locate::{local_map, locate, place_label};
+use nef_smap::label_at;
+use std::alloc::Global;
+
+// The label of the point.
+fn label_on(c: &Complex, p: &Point) -> Label
+    requires shows { (s : Set) × ShowsSet s c.now }
+    requires framed { InClosedFrame (place_of p.now) }
+    ensures label { (s : Set) → ShowsSet s c.now → HasLabel s (place_of p.now) result }
+{
+    place_label(c, &locate(c, p))
+}
+
+// The label just after the point, along the direction.
+pub(crate) fn label_after(
+    alloc: Global,
+    c: &Complex,
+    p: &Point,
+    d: &Dir,
+) -> Result<Label, OutOfMemory>
+    requires shows { (s : Set) × ShowsSet s c.now }
+    requires framed { InClosedFrame (place_of p.now) }
+    ensures germ { IfOk result (λ l. (s : Set) → ShowsSet s c.now → Germ s (place_of p.now) (vector_of d.now) l) }
+{
+    let map = local_map(alloc, c, p)?;
+    Ok(label_at(&map, d))
+}
+
+// The change of the label at the point, if there is one: at the point itself, or else just after it.
+pub(crate) fn change_at(
+    alloc: Global,
+    c: &Complex,
+    ray: &Ray,
+    q: &Point,
+) -> Result<Option<RayEnd>, OutOfMemory>
+    requires shows { (s : Set) × ShowsSet s c.now }
+    requires framed { InClosedFrame (place_of q.now) }
+    ensures point { IfOk result (λ o. IfSome o (λ e. e.point ≡ q.now)) }
+    ensures change { IfOk result (λ o. IfSome o (λ e. (s : Set) → ShowsSet s c.now → IsChangeOf s (vector_of ray.now.along) ray.now.before e)) }
+    ensures none { IfOk result (λ o. IsNone o → (s : Set) → ShowsSet s c.now → IsUnchanged s (vector_of ray.now.along) ray.now.before (place_of q.now)) }
+{
+    let label = label_on(c, q);
+    if label != ray.before {
+        return Ok(Some(RayEnd {
+            point: *q,
+            after: false,
+            label,
+        }));
+    }
+    let next = label_after(alloc, c, q, &ray.along)?;
+    if next != ray.before {
+        return Ok(Some(RayEnd {
+            point: *q,
+            after: true,
+            label: next,
+        }));
+    }
+    Ok(None)
+}

@@ -1,0 +1,16 @@
+//! Where the label along a ray first changes.
+//!
+//! A ray from a point has one label just after the point. It ends at the first point that has another label, or after which
+//! the label is another. A set is constant where no sign of a carrier's form changes, so a ray ends where it crosses a
+//! carrier; and it ends at a side of the frame at the latest.
+#![tactic(auto)]
+
+mod change;
+mod crossing;
+mod laws;
+mod nearer;
+mod ray;
+
+pub use laws::ray_end_laws;
+pub use ray::{RayEnd, ray_end};
+pub use std::alloc::AllocError as OutOfMemory;
