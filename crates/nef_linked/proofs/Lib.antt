@@ -7,3 +7,14 @@ pub mod SameRay
 pub mod Segments
 pub mod Triangles
 pub mod Sweep
+pub mod OneNamed
+pub mod Sector
+pub mod Strip
+pub mod Leads
+pub mod Beside
+pub mod AlongEdge
+pub mod OverEdge
+pub mod AcrossFacet
+pub mod FromFacet
+pub mod Ahead
+pub mod Steps

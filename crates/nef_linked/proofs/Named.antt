@@ -6,18 +6,6 @@
 --   and names the arc at its lower end, which is this one or linked with it along the edge.
 -- * an arc ends at the svertex of d. Then the arc at the other end of the edge is linked with it, has the same plane, and lies further along d, where
 --   the number of its vertex is greater for each such step, or smaller for each. So this comes to an end, by induction on the vertices left.
---
--- What is left to show for the converse is `NamesOfSteps` (Sweep), for y and z off one line along d; on one line it is `NamesAlong` and that a ray names one
--- corner. Say that z lies to the left of y's line, seen from the normal; for the right take the opposite form of the plane, which Triangles admits. No vertex
--- of the plane then lies on z's line, or between both lines. So z first meets an edge e, one end of which lies on y's line or to its right.
--- * A point t of the facet to the left of a vertex w, on z's line, is at the item of the corner k of w. Then k and what t names are of one class, by induction
---   on the vertices ahead of w along d, counted as in Reached. Turn about w from the way to t to the way d, and take the first svertex in the plane.
---   Before d there is one: its edge comes to z's line ahead of t, and is e, since by the third side of a triangle nothing lies between; so k is the
---   arc at that end of e, and t names it, or the arc at the lower end, linked with it along e. It is d: the arc goes on along its edge to a vertex with an arc at
---   which t is, by the third side again. There is none: d lies on the item, and k is linked across to what the ray from w meets, which is e, whose
---   corner t names, or a vertex with an item at which t is.
--- * If y's ray first meets a vertex w, then z is at the item of the corner there, by the third side of w, y and z. If it meets an edge inside, then that is e,
---   by the triangles of y, what it meets, and what z's line meets of that edge, and of y, that point, and z.
 use Rattle.std.proofs.Common.{◌≡◌, ℕ, pos, ◌<ℤ◌, arith, refl, sym, ◌∙◌, ◌⊎◌, inl, inr, ⊎_elim, [], ◌∷◌, subst}
 use Rattle.std.proofs.lemmas.Int.{ints}
 use Rattle.nef_space.specs.Lists.{Chained}
@@ -65,10 +53,10 @@ use Rattle.nef_linked.proofs.Onward.{level-kept}
 use Rattle.nef_linked.proofs.WayInward.{on-too, opposite-same, names-same, dir-level, dir-some, dir-same}
 
 -- ---- chains
-chain-here : (C : Complex) (j : Corner) → Chained (FacetLink C) j j
+pub chain-here : (C : Complex) (j : Corner) → Chained (FacetLink C) j j
 chain-here C j = ([], refl)
 
-chain-before : (C : Complex) (j k l : Corner) → FacetLink C j k ⊎ FacetLink C k j → Chained (FacetLink C) k l → Chained (FacetLink C) j l
+pub chain-before : (C : Complex) (j k l : Corner) → FacetLink C j k ⊎ FacetLink C k j → Chained (FacetLink C) k l → Chained (FacetLink C) j l
 chain-before C j k l a (ys, c) = (k ∷ ys, (a, c))
 
 -- ---- planes
@@ -145,23 +133,23 @@ module _ (s : Set) (C : Complex) (S : Shows s C) (j : Corner) (v : Vertex) (x : 
   abbrev plane : Form
   plane = item_plane v x
 
-  F : IsInFacetOf s x q
+  pub F : IsInFacetOf s x q
   F = facet-near s C S j v x K d o
 
   to-q : SameDirection (toward p q) d
   to-q = ahead-toward s p d (on-direction v.map x d o)
 
-  on-q : form_at plane q ≡ pos 0
+  pub on-q : form_at plane q ≡ pos 0
   on-q = through-at n p q ∙ level-way n d (toward p q) (SameDirection-turned (toward p q) d to-q) (on-level v.map x d o)
 
   flat-q : IsFlatIn s plane q
   flat-q = flats-in s q p n F.dim F.flat
 
-  found : (m : PlaneMeet) × IsFirstInPlane C plane q d m × ((k : Corner) × IsCornerAt C plane (opposite d) m k)
+  pub found : (m : PlaneMeet) × IsFirstInPlane C plane q d m × ((k : Corner) × IsCornerAt C plane (opposite d) m k)
   found = facet-behind s C S plane q (normal-scaled n (pos p.w) (weight p) ((S.cones j.vertex v K.vertex).valid.shaped.normals j.item x K.item)) on-q d (on-direction v.map x d o)
       ((through-level n d p).0 (on-level v.map x d o)) flat-q
 
-  from-vertex : (m : PlaneMeet) → IsFirstInPlane C plane q d m → IsFirstInPlane C plane p d m
+  pub from-vertex : (m : PlaneMeet) → IsFirstInPlane C plane q d m → IsFirstInPlane C plane p d m
   from-vertex m I = record {
     place = I.place;
     ahead = SameDirection-trans (toward p I.place) (toward p q) d (SameDirection-turned (toward p q) (toward p I.place) (between-way p q I.place before)) to-q;

@@ -29,7 +29,7 @@ use Rattle.nef_linked.proofs.WayInward.{opposite-same, dir-level, dir-some, dir-
 use Rattle.nef_linked.proofs.Named.{twice, Reaches, carried, onward-named, edge-named, side-same}
 use Rattle.nef_linked.proofs.Faces.{leads-away}
 
-within : {A : Type 0} (xs : List A) (k : ℕ) (x : A) → At xs k x → k < length xs
+pub within : {A : Type 0} (xs : List A) (k : ℕ) (x : A) → At xs k x → k < length xs
 within [] k x h = absurd h
 within (y ∷ ys) zero x h = omega arith
 within (y ∷ ys) (suc k) x h = omega (arith, within ys k x h)
@@ -185,7 +185,7 @@ module _ (s : Set) (C : Complex) (S : Shows s C) (j : Corner) (v : Vertex) (c : 
       by (inr f) (inr g) (inr h) = inl (off (leads-away c.normal from to d n-some ends.source_direction ends.target_direction d-some ends.source_level ends.target_level level-d f g h))
 
 -- ---- the steps end
-toward-normal : (p q : Place) → IsPlaceBelow p q → IsNormal (toward p q)
+pub toward-normal : (p q : Place) → IsPlaceBelow p q → IsNormal (toward p q)
 toward-normal p q (inl h) = record { first = omega (arith, ints); second = λ e. absurd (omega (arith, ints)); third = λ e f. absurd (omega (arith, ints)) }
 toward-normal p q (inr (e, inl h)) = record { first = omega (arith, ints); second = λ z. omega (arith, ints); third = λ z w. absurd (omega (arith, ints)) }
 toward-normal p q (inr (e, inr (f, inl h))) = record { first = omega (arith, ints); second = λ z. omega (arith, ints); third = λ z w. omega (arith, ints) }
@@ -201,10 +201,10 @@ from-opposite d e o = record {
     each a b c d e = ring (a ∷ b ∷ c ∷ d ∷ []) (at 0 ⊗ at 3 ⊖ at 1 ⊗ at 2) (neg (neg (at 0) ⊗ at 3 ⊖ neg (at 1) ⊗ at 2)) tt ∙ ap neg_ℤ e
 
 -- the direction, or its opposite, is the same as one in normal form
-abbrev Rises : Vector → Type 0
+abbrev pub Rises : Vector → Type 0
 Rises d = (a : Vector) × IsNormal a × SameDirection a d
 
-never-both : (d : Vector) → Rises d → Rises (opposite d) → ⊥
+pub never-both : (d : Vector) → Rises d → Rises (opposite d) → ⊥
 never-both d (a, N, w) (b, M, u) = normals-not_opposite a b N M (from-opposite a b (SameDirection-trans (opposite a) (opposite d) b (opposite-same a d w) (SameDirection-turned b (opposite d) u)))
 
 module _ (s : Set) (C : Complex) (S : Shows s C) where

@@ -49,7 +49,7 @@ module _ (h : Form) (p r q : Place) (b : IsBetween p r q) where
 abbrev pub Crosses : Form → Place → Place → Type 0
 Crosses h p q = ((pos 0 <ℤ form_at h p) × (form_at h q <ℤ pos 0)) ⊎ ((form_at h p <ℤ pos 0) × (pos 0 <ℤ form_at h q))
 
-crosses-or : (h : Form) (p q : Place) → Crosses h p q ⊎ (Crosses h p q → ⊥)
+pub crosses-or : (h : Form) (p q : Place) → Crosses h p q ⊎ (Crosses h p q → ⊥)
 crosses-or h p q = by_order (form_at h p) (pos 0)
     (λ l. by_order (form_at h q) (pos 0) (λ m. inr (neither l m)) (λ m. inr (λ x. none-up (omega (arith, ints)) (omega (arith, ints)) x)) (λ m. inl (inr (l, m))))
     (λ l. inr (λ x. none-level l x))
@@ -72,7 +72,7 @@ crosses-or h p q = by_order (form_at h p) (pos 0)
 
 module _ (h : Form) (p r q : Place) (b : IsBetween p r q) where
   -- what crosses a part crosses the whole
-  crosses-first : Crosses h p r → Crosses h p q
+  pub crosses-first : Crosses h p r → Crosses h p q
   crosses-first (inl (x, y)) = inl (x, ⊎_elim (λ l. l) (λ l. absurd (let m = between-plus h p r q b x l in omega (arith, ints))) (below-or (form_at h q)))
   crosses-first (inr (x, y)) = inr (
     x,
@@ -81,7 +81,7 @@ module _ (h : Form) (p r q : Place) (b : IsBetween p r q) where
         (λ l. absurd (let m = minus-any h q r p (between-turned p q r b) (omega (arith, ints)) x in omega (arith, ints))) (λ l. l),
   )
 
-  crosses-second : Crosses h r q → Crosses h p q
+  pub crosses-second : Crosses h r q → Crosses h p q
   crosses-second (inl (x, y)) = inl (
     by_order (form_at h p) (pos 0)
         (λ l. absurd (let m = minus-any h p r q b (omega (arith, ints)) y in omega (arith, ints)))
@@ -104,11 +104,11 @@ turned-crossing h p q (inl (x, y)) = inr (y, x)
 turned-crossing h p q (inr (x, y)) = inl (y, x)
 
 -- where the form is nought at an end it doesn't cross
-level-end : (h : Form) (p q : Place) → form_at h q ≡ pos 0 → Crosses h p q → ⊥
+pub level-end : (h : Form) (p q : Place) → form_at h q ≡ pos 0 → Crosses h p q → ⊥
 level-end h p q e (inl x) = let a = x.1 in omega (arith, ints)
 level-end h p q e (inr x) = let a = x.1 in omega (arith, ints)
 
-level-start : (h : Form) (p q : Place) → form_at h p ≡ pos 0 → Crosses h p q → ⊥
+pub level-start : (h : Form) (p q : Place) → form_at h p ≡ pos 0 → Crosses h p q → ⊥
 level-start h p q e (inl x) = let a = x.0 in omega (arith, ints)
 level-start h p q e (inr x) = let a = x.0 in omega (arith, ints)
 
@@ -131,7 +131,7 @@ later : (x : Vertex) (xs : List Vertex) (u : Vertex) → ((j : ℕ) × At (x ∷
 later x xs u (zero, e) f = absurd (f e)
 later x xs u (suc j, a) f = (j, a)
 
-cut-of : (h : Form) (p q : Place) → Crosses h p q → Cut h p q
+pub cut-of : (h : Form) (p q : Place) → Crosses h p q → Cut h p q
 cut-of h p q x = ⊎_elim (λ z. absurd (apart (toward-place p q z) x)) (λ i. by i x) (zero-decided (toward p q))
   where
     apart : SamePlace p q → Crosses h p q → ⊥

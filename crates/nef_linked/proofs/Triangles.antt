@@ -71,12 +71,16 @@ module _ (F : Form) (p q : Place) where
   falls x y = falling (form_at F p) (form_at F q) (slope F (toward p q)) (slope-toward F p q) x y
 
 -- an edge of the plane that a way with two flat directions comes to runs across the way
-across-way : (s : Set) (y t c : Place) → IsDirection (toward y t) → ((r : Place) → IsBetween y r t → FlatDim s r 2) → HalfEdge s t c → IsZero (cross (toward y t) (toward y c)) → ⊥
+pub across-way : (s : Set) (y t c : Place) → IsDirection (toward y t) → ((r : Place) → IsBetween y r t → FlatDim s r 2) → HalfEdge s t c → IsZero (cross (toward y t) (toward y c)) → ⊥
 across-way s y t c i all E o =
     let a = cross-back (toward y t) c t (aligned y t c o) in
     let b = cross-back (toward t c) y t (cross-turned (toward y t) (toward t c) a) in
     let back : IsDirection (toward t y) = λ z. i (place-toward y t (same-place_sym t y (toward-place t y z))) in
     not-along s t y (toward t y) (way-self (toward t y) back) E.one (all (near_point s t y) (between-turned t y (near_point s t y) (near-between s t y back))) (span-1 s t (toward t c) (toward t y) E.leads E.flat b)
+
+-- or a itself is on no edge, and from there to c, both left out, the points lie on one edge
+abbrev pub SideWithin : Set → Place → Place → Type 0
+SideWithin s a c = LiesWithin s a c ⊎ ((FlatDim s a 1 → ⊥) × ((r : Place) → IsBetween a r c → FlatDim s r 1 × Flat s r (toward a c)))
 
 -- where a form rises through nought
 pub cut-up : (h : Form) (p q : Place) → IsDirection (toward p q) → form_at h p <ℤ pos 0 → pos 0 <ℤ form_at h q → Cut h p q
@@ -139,7 +143,7 @@ module _ (s : Set) (C : Complex) (S : Shows s C) (h : Form) (hn : IsDirection (n
       let v = same-by-minus (normal_of G) (toward a b) (toward x b) (aligned a b x o) (falls-to G a b G-b G-a) (falls-to G x b G-b g) in
       SameDirection-trans (toward a x) (toward a b) (toward x b) (SameDirection-turned (toward a b) (toward a x) u) v
 
-  on-second : (x : Place) → form_at h x ≡ pos 0 → form_at R x ≡ pos 0 → pos 0 <ℤ form_at P x → pos 0 <ℤ form_at G x → IsBetween a x c
+  pub on-second : (x : Place) → form_at h x ≡ pos 0 → form_at R x ≡ pos 0 → pos 0 <ℤ form_at P x → pos 0 <ℤ form_at G x → IsBetween a x c
   on-second x on e p g =
       let o = parallel-in_plane n (toward a c) (toward a x) hn (plane-way h a c on-a on-c) (plane-way h a x on-a on) (sym (turn-at n a c x) ∙ e) in
       let u = same-by (normal_of P) (toward a c) (toward a x) o (rises P a c P-a P-c) (rises P a x P-a p) in
@@ -147,7 +151,7 @@ module _ (s : Set) (C : Complex) (S : Shows s C) (h : Form) (hn : IsDirection (n
       SameDirection-trans (toward a x) (toward a c) (toward x c) (SameDirection-turned (toward a c) (toward a x) u) v
 
   -- the corner a is where the lines of both sides meet
-  at-corner : (x : Place) → form_at h x ≡ pos 0 → form_at P x ≡ pos 0 → form_at R x ≡ pos 0 → SamePlace a x
+  pub at-corner : (x : Place) → form_at h x ≡ pos 0 → form_at P x ≡ pos 0 → form_at R x ≡ pos 0 → SamePlace a x
   at-corner x on p r =
       let o = parallel-in_plane n (toward a b) (toward a x) hn (plane-way h a b on-a on-b) (plane-way h a x on-a on) (sym (turn-at n a b x) ∙ p) in
       toward-place a x (zero-by (normal_of R) (toward a b) (toward a x) o (falls R a b R-a R-b) (level-from R a x R-a r))
@@ -155,7 +159,7 @@ module _ (s : Set) (C : Complex) (S : Shows s C) (h : Form) (hn : IsDirection (n
       level-from : (F : Form) (p q : Place) → form_at F p ≡ pos 0 → form_at F q ≡ pos 0 → slope F (toward p q) ≡ pos 0
       level-from F p q e f = plane-way F p q e f
 
-  module _ (first : (r : Place) → IsBetween a r b → FlatDim s r 2) (second : LiesWithin s a c) (F : IsFlatIn s h b) where
+  module _ (first : (r : Place) → IsBetween a r b → FlatDim s r 2) (second : SideWithin s a c) (F : IsFlatIn s h b) where
     -- an edge from a point t of the third side, to the side of a, ends in the triangle
     module _ (t : Place) (amid : IsBetween b t c) (v : Vertex) (on-v : form_at h v.point ≡ pos 0) (E : HalfEdge s t v.point) (inward : pos 0 <ℤ form_at G v.point) where
       on-t : form_at h t ≡ pos 0
@@ -176,13 +180,10 @@ module _ (s : Set) (C : Complex) (S : Shows s C) (h : Form) (hn : IsDirection (n
       G-x : (x : Place) → IsBetween t x v.point → pos 0 <ℤ form_at G x
       G-x x d = between-plus G v.point x t (between-turned t v.point x d) inward (let e = G-t in omega (arith, ints))
 
-      -- it doesn't run through a point of the second side, which lies within a facet, or on an edge, to which the edge from t would be parallel
-      off-second : (x : Place) → IsBetween t x v.point → form_at R x ≡ pos 0 → IsBetween a x c ⊎ SamePlace a x → LiesWithin s a c → ⊥
-      off-second x d z (inl o) (inl w) = let j = FlatDim-one s x 1 2 (E.all x d) (w.1 x o) in cc
-      off-second x d z (inr o) (inl w) = w.0 (dim-same s x a 1 (same-place_sym a x o) (E.all x d))
-      off-second x d z o (inr w) =
+      -- the direction of the second side isn't flat at its points
+      not-along_second : (x : Place) → IsBetween t x v.point → form_at R x ≡ pos 0 → Flat s x (toward a c) → ⊥
+      not-along_second x d z here =
           let there = flat-on s t x v.point E.one E.flat E.all d in
-          let here = ⊎_elim (λ m. flat-on s a x c w.0 w.1 w.2 m) (λ e. Flat-by_germs s s a x (germs-by_cell s a x (signs-same (carriers s) a x e)) (toward a c) w.1) o in
           let way = ⊎_elim (λ y. y) (λ f. absurd ((E.all x d).1 (toward a c, toward t v.point, f, here, there))) (zero-decided (cross (toward a c) (toward t v.point))) in
           let some : IsDirection (toward a c) = λ y. let m = rises P a c P-a P-c in let k = dot-zero (normal_of P) (toward a c) y in omega (arith, ints) in
           let level = in-span (normal_of R) (toward a c) (toward t v.point) some way (plane-way R a c R-a R-c) in
@@ -190,6 +191,14 @@ module _ (s : Set) (C : Complex) (S : Shows s C) (h : Form) (hn : IsDirection (n
           let k = plane-back R t x to-x z in
           let r = R-t in
           omega (arith, ints)
+
+      -- it doesn't run through a point of the second side, which lies within a facet, or on an edge, to which the edge from t would be parallel
+      off-second : (x : Place) → IsBetween t x v.point → form_at R x ≡ pos 0 → IsBetween a x c ⊎ SamePlace a x → SideWithin s a c → ⊥
+      off-second x d z (inl o) (inl (inl w)) = let j = FlatDim-one s x 1 2 (E.all x d) (w.1 x o) in cc
+      off-second x d z (inr o) (inl (inl w)) = w.0 (dim-same s x a 1 (same-place_sym a x o) (E.all x d))
+      off-second x d z o (inl (inr w)) = not-along_second x d z (⊎_elim (λ m. flat-on s a x c w.0 w.1 w.2 m) (λ e. Flat-by_germs s s a x (germs-by_cell s a x (signs-same (carriers s) a x e)) (toward a c) w.1) o)
+      off-second x d z (inl o) (inr w) = not-along_second x d z (w.1 x o).1
+      off-second x d z (inr o) (inr w) = w.0 (dim-same s x a 1 (same-place_sym a x o) (E.all x d))
 
       -- it doesn't cross the second side
       not-second : (x : Place) → IsBetween t x v.point → form_at R x ≡ pos 0 → pos 0 <ℤ form_at P x → ⊥
@@ -252,7 +261,7 @@ module _ (s : Set) (C : Complex) (S : Shows s C) (h : Form) (hn : IsDirection (n
 
 pub third-sides : ThirdSides
 third-sides s C h a b c S N on-a on-b on-c turn F first second none =
-    third-side s C S h (normal-direction (normal_of h) N) a b c on-a on-b on-c turn first second F no-vertex no-end
+    third-side s C S h (normal-direction (normal_of h) N) a b c on-a on-b on-c turn first (inl second) F no-vertex no-end
   where
     n : Vector
     n = normal_of h

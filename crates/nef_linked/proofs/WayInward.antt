@@ -55,7 +55,7 @@ opposite-same d f w =
       is_w = F.is_w;
     }) (λ z. let x = z.0 in let y = z.1 in let t = z.2 in direction-left d f w (omega (arith, ints), omega (arith, ints), omega (arith, ints)))
 
-side-turned : (v : Vertex) (s : ℕ) (n m d f : Vector) (a : Arc) → SameDirection n m → SameDirection d f → IsArcOnSide v s n d a → IsArcOnSide v s m f a
+pub side-turned : (v : Vertex) (s : ℕ) (n m d f : Vector) (a : Arc) → SameDirection n m → SameDirection d f → IsArcOnSide v s n d a → IsArcOnSide v s m f a
 side-turned v s n m d f a w u = ⊎_elim
     (λ h. inl (h.0, same-plus (triple n p d) (triple m p f) same h.1))
     (λ h. inr (h.0, same-minus (triple n p d) (triple m p f) same h.1))

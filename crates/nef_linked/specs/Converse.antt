@@ -47,6 +47,10 @@ NamesAlong = (s : Set) (C : Complex) (h : Form) (y z : Place) (d : Vector) (k : 
 abbrev pub AreLinkedWhereJoined : Set → Complex → Type 0
 AreLinkedWhereJoined s C = (j k : Corner) (p q : Place) → IsAtItem s C j p → IsAtItem s C k q → Joined s p q → Chained (FacetLink C) j k
 
+-- so they are where the complex shows the set
+abbrev pub JoinedItemsAreLinked : Type 0
+JoinedItemsAreLinked = (s : Set) (C : Complex) → Shows s C → AreLinkedWhereJoined s C
+
 -- the rays inward from the ends of a segment of points with two flat directions, in their plane h, name corners of one class
 abbrev pub NamesOfSegments : Set → Complex → Type 0
 NamesOfSegments s C = (h : Form) (d : Vector) (y z : Place) (k l : Corner) → IsNormal (normal_of h) → form_at h y ≡ pos 0 → IsFlatIn s h y → SameDirection (opposite (plane_dir (normal_of h))) d → IsEven s 2 y z

@@ -19,6 +19,7 @@ use Rattle.nef_sphere.proofs.Forms.{on-level}
 use Rattle.nef_solid.specs.Complexes.{Vertex, Complex, Corner, IsCorner}
 use Rattle.nef_solid.specs.Shows.{Shows}
 use Rattle.nef_solid.specs.Skeleton.{item_plane, HasCorner}
+use Rattle.nef_solid.proofs.FacetWays.{meets-on}
 use Rattle.nef_solid.proofs.FacetAngles.{through-at}
 use Rattle.nef_solid.proofs.FacetPoints.{facet-point}
 use Rattle.nef_solid.proofs.Skeletons.{FacetAt}
@@ -57,7 +58,7 @@ corner-labels s C S y k v x H c =
     let axis = axis-in n (normal-direction n N) in
     let r = H.named in
     (facet-from_behind s C S (item_plane H.vertex H.item) y (normal-scaled n (pos p.w) (weight p) N) (through-at n p y ∙ on-level H.vertex.map H.item (toward p y) H.facet_point.on_item)
-    (plane_axis n) axis.0 ((through-level n (plane_axis n) p).0 axis.1) H.facet_point.off_edges r.0 k r.1 r.2).1 v x c
+    (plane_axis n) axis.0 ((through-level n (plane_axis n) p).0 axis.1) (λ m e. H.facet_point.off_edges (meets-on s C S (item_plane H.vertex H.item) m y e)) r.0 k r.1 r.2).1 v x c
 
 -- a map with the labels of the corner's item is one of the point
 pub cone-of_corner : (M : Map) (s : Set) (C : Complex) → Shows s C → (y : Place) (k : Corner) (v : Vertex) (x : Item) → HasCorner C y k → IsCorner C k v x → (l : Loop) → IsPlaneOf x l

@@ -8,7 +8,7 @@ use Rattle.nef_geo.specs.Shapes.{form_of}
 use Rattle.nef_geo.specs.declared.plane.Plane.{Plane}
 use Rattle.nef_solid.specs.Complexes.{Corner}
 use Rattle.nef_solid.specs.Laws.{IsFlatIn}
-use Rattle.nef_solid.specs.Skeleton.{PlaneMeet, Meets, IsFirstInPlane, IsOnEdges, IsCornerAt, HasCorner}
+use Rattle.nef_solid.specs.Skeleton.{PlaneMeet, Meets, IsFirstInPlane, IsCornerAt, HasCorner}
 use Rattle.nef_solid.proofs.FacetEnds.{facet-behind, facet-from_behind}
 use Rattle.nef_complex.specs.declared.complex.Complex.{Complex}
 use Rattle.nef_complex.specs.Complexes.{complex_of, ShowsSet}
@@ -35,10 +35,10 @@ module _ (c : Complex) (h : Plane) (y : Place) (on : form_at (form_of h) y ≡ p
     turned : (k : Corner) → IsCornerAt (complex_of c) (form_of h) b m k → IsCornerAt (complex_of c) (form_of h) (opposite d) m k
     turned k x = subst (λ (v : Vector). IsCornerAt (complex_of c) (form_of h) v m k) back x
 
-    pub found-flat : (IsOnEdges (complex_of c) y → ⊥) → (k : Corner) → IsCornerAt (complex_of c) (form_of h) b m k → (s : Set) → ShowsSet s c → IsFlatIn s (form_of h) y
+    pub found-flat : ((n : PlaneMeet) → Meets (complex_of c) (form_of h) n y → ⊥) → (k : Corner) → IsCornerAt (complex_of c) (form_of h) b m k → (s : Set) → ShowsSet s c → IsFlatIn s (form_of h) y
     found-flat off k x s S = (facet-from_behind s (complex_of c) S.shows (form_of h) y h.normal on d some level off m k I (turned k x)).0
 
-    pub found-corner : (IsOnEdges (complex_of c) y → ⊥) → SameDirection (plane_axis (normal_of (form_of h))) d → (s : Set) → ShowsSet s c → (k : Corner) → IsCornerAt (complex_of c) (form_of h) b m k → HasCorner (complex_of c) y k
+    pub found-corner : ((n : PlaneMeet) → Meets (complex_of c) (form_of h) n y → ⊥) → SameDirection (plane_axis (normal_of (form_of h))) d → (s : Set) → ShowsSet s c → (k : Corner) → IsCornerAt (complex_of c) (form_of h) b m k → HasCorner (complex_of c) y k
     found-corner off axis s S k x = corner-has s (complex_of c) S.shows (form_of h) y h.normal on d axis (found-flat off k x s S) m k I (turned k x)
 
     -- where it is a facet point there is a corner

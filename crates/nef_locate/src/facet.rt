@@ -11,7 +11,7 @@ ghost use Rattle.nef_geo.specs.Widths.{upright_limit, upright_weight_limit};
 ghost use Rattle.nef_smap.specs.Maps.{map_of, arc_of, IsSphereMap};
 ghost use Rattle.nef_solid.specs.Complexes.{Vertex as PlainVertex, Corner as PlainCorner, IsCorner};
 ghost use Rattle.nef_solid.specs.Laws.{IsFlatIn};
-ghost use Rattle.nef_solid.specs.Skeleton.{IsOnEdges, IsCornerAt, HasCorner};
+ghost use Rattle.nef_solid.specs.Skeleton.{PlaneMeet as PlainMeet, Meets, IsCornerAt, HasCorner};
 ghost use Rattle.nef_complex.specs.Complexes.{complex_of, corner_of, meet_of, vertex_of, ShowsSet};
 ghost use Rattle.nef_locate.specs.Facets.{IsArcThrough, IsItemThrough, IsArcBeside, HasMet};
 
@@ -133,13 +133,14 @@ pub fn corner_toward(c: &Complex, h: &Plane, d: &Dir, met: PlaneMeet) -> Option<
 }
 
 /// The corner of the plane's facet in which the point lies. The point lies on the plane and in the closed frame, is no
-/// vertex and lies on no edge; its first three numbers are at most `2^86` in size and its w at most `2^73`. `None` comes
-/// exactly where the point lies in no facet of the plane. It takes no memory.
+/// vertex and lies on no edge in the plane; its first three numbers are at most `2^86` in size and its w at most `2^73`.
+/// `None` comes exactly where the point lies in no facet of the plane, so also where an edge crosses the plane there. It
+/// takes no memory.
 pub fn in_facet(c: &Complex, h: &Plane, p: &Hit) -> Option<Corner>
     requires shows { (s : Set) × ShowsSet s c.now }
     requires framed { InClosedFrame (hit_place p.now) }
     requires on { form_at (form_of h.now) (hit_place p.now) ≡ pos 0 }
-    requires off { IsOnEdges (complex_of c.now) (hit_place p.now) → ⊥ }
+    requires off { (m : PlainMeet) → Meets (complex_of c.now) (form_of h.now) m (hit_place p.now) → ⊥ }
     requires numbers { IsPlaceAtMost upright_limit upright_weight_limit (hit_place p.now) }
     ensures flat { IfSome result (λ k. (s : Set) → ShowsSet s c.now → IsFlatIn s (form_of h.now) (hit_place p.now)) }
     ensures corner { IfSome result (λ k. HasCorner (complex_of c.now) (hit_place p.now) (corner_of k)) }

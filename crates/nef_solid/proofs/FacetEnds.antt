@@ -1,5 +1,5 @@
 -- What a ray within a facet first meets has an item of the facet's plane on the ray's side; and where such an item lies behind what is first met, the point lies in a facet.
-use Rattle.std.proofs.Common.{◌≡◌, ℕ, pos, neg_ℤ, arith, refl, sym, ◌∙◌, [], ◌∷◌, subst}
+use Rattle.std.proofs.Common.{◌≡◌, ℕ, pos, neg_ℤ, arith, refl, sym, ◌∙◌, ⊎_elim, [], ◌∷◌, subst}
 use Rattle.std.proofs.lemmas.Int.{ints}
 use Rattle.nef_exact.specs.Signs.{sign}
 use Rattle.nef_exact.proofs.Ring.{ring, at, neg, ◌⊕◌, ◌⊗◌}
@@ -7,11 +7,11 @@ use Rattle.nef_space.specs.Local.{HasLabel, Germ, Flat, FlatDim}
 use Rattle.nef_space.specs.Place.{Place, Form, form_at, normal_of, slope, SamePlace, toward, IsBetween}
 use Rattle.nef_space.specs.Sets.{Set}
 use Rattle.nef_space.specs.Vectors.{Vector, opposite, dot, IsDirection, IsNormal, SameDirection}
-use Rattle.nef_near.specs.Laws.{Drop, SameGerms}
+use Rattle.nef_near.specs.Laws.{Drop, IsFlatBelow, SameGerms}
 use Rattle.nef_near.proofs.FlatDecided.{cross-turned}
 use Rattle.nef_near.proofs.Even.{even-germs}
 use Rattle.nef_near.proofs.Between.{between-turned, between-inner}
-use Rattle.nef_near.proofs.Edges.{flat_way-end}
+use Rattle.nef_near.proofs.Edges.{flat_way-end, even-until}
 use Rattle.nef_forms.proofs.Between.{between-same}
 use Rattle.nef_forms.proofs.Directions.{dot-comm, direction-left, direction-right}
 use Rattle.nef_sphere.specs.Least.{by_side}
@@ -22,14 +22,14 @@ use Rattle.nef_sphere.proofs.Compare.{SameDirection-turned, SameDirection-trans}
 use Rattle.nef_sphere.proofs.Arcs.{at-arc, level-same}
 use Rattle.nef_solid.specs.Complexes.{Vertex, Edge, Complex, Corner, HasEnds, IsCorner}
 use Rattle.nef_solid.specs.Shows.{Shows}
-use Rattle.nef_solid.specs.Skeleton.{IsVertexPoint, IsEdgePoint, IsOnEdges, PlaneMeet, meets_vertex, meets_edge, Meets, LiesIn, IsFirstInPlane, IsCornerAt}
+use Rattle.nef_solid.specs.Skeleton.{IsVertexPoint, IsEdgePoint, PlaneMeet, meets_vertex, meets_edge, Meets, LiesIn, IsFirstInPlane, IsCornerAt}
 use Rattle.nef_solid.specs.Laws.{IsFlatIn}
 use Rattle.nef_solid.proofs.Cones.{FlatAre, near-label}
 use Rattle.nef_solid.proofs.Planes.{plane-way}
 use Rattle.nef_solid.proofs.Ways.{between-way, between-start, between-ends, same-itself}
 use Rattle.nef_solid.proofs.Edges.{near_point, near-between, near-germs, edge-way}
 use Rattle.nef_solid.proofs.FacetSides.{level-way, sided-carried, flats-carried}
-use Rattle.nef_solid.proofs.FacetWays.{plane-ahead, even-by, even-to, below-on, two-off, meets-on, end-meets}
+use Rattle.nef_solid.proofs.FacetWays.{plane-ahead, even-by, even-to, two-off, meets-on, end-meets}
 use Rattle.nef_solid.proofs.FacetCorners.{ItemAt, item-at}
 use Rattle.nef_solid.proofs.FacetPoints.{IsInFacetOf, in-facet, beside-vertex}
 use Rattle.nef_solid.proofs.FacetEdges.{ahead-back, ahead-same, low-end, way-is, arc-beside, sided-beside}
@@ -107,7 +107,7 @@ module _ (s : Set) (C : Complex) (S : Shows s C) (h : Form) (y : Place) (normal 
       (m.0, record { place = z; ahead = W.is_ahead; meets = m.1; first = λ q k b e. two-off s C S q (W.even_before q b) (meets-on s C S h k q e) }, corner-at F z W.is_ahead W.even_before m.0 m.1)
 
   -- ---- back from what is met to y
-  module _ (off : IsOnEdges C y → ⊥) (m : PlaneMeet) (k : Corner) (I : IsFirstInPlane C h y d m) where
+  module _ (off : (n : PlaneMeet) → Meets C h n y → ⊥) (m : PlaneMeet) (k : Corner) (I : IsFirstInPlane C h y d m) where
     abbrev z : Place
     z = I.place
 
@@ -127,9 +127,18 @@ module _ (s : Set) (C : Complex) (S : Shows s C) (h : Form) (y : Place) (normal 
           let e = end-meets s C S h q t (between-start q t y D.between) at-q.dim (flats-normal s q (item_normal x) n r at-q.flat) D.even_before on-t D.drops in
           I.first t e.0 between e.1
 
+      before-y : (t : Place) → IsBetween q t y → FlatDim s t 2
+      before-y = ⊎_elim (λ all. all) (λ D. absurd (clear D)) (even-until s 2 q y at-q.dim flat-on)
+
+      -- an edge through y would be flat up to q, and so lie in the plane
+      last : IsFlatBelow s 2 y → ⊥
+      last f =
+          let e = end-meets s C S h q y (direction-left (toward q y) (opposite d) to-y) at-q.dim (flats-normal s q (item_normal x) n r at-q.flat) before-y on f in
+          off e.0 e.1
+
       carried : IsInFacetOf s x y
       carried =
-          let even = even-to s 2 q y (direction-left (toward q y) (opposite d) to-y) at-q.dim flat-on clear (λ f. off (below-on s C S y f)) in
+          let even = even-to s 2 q y (direction-left (toward q y) (opposite d) to-y) at-q.dim flat-on clear last in
           in-facet s C S k v x c y (sided-carried s q y (item_normal x) (item_above x) (item_mark x) (item_below x) (even-germs s 2 q y even) at-q.sided)
 
       -- what is claimed of y
@@ -167,7 +176,7 @@ module _ (s : Set) (C : Complex) (S : Shows s C) (h : Form) (y : Place) (normal 
         let all = sided-beside s C S i e v w z a H t' (opposite d) y way n normal (low-level s C S h i e v w z a H t' lies) level-back k.item c corner.item r side in
         settled v (arc_item c) corner r q (between-turned z y q m) (in-facet s C S k v (arc_item c) corner q all)
 
-  pub facet-from_behind : (off : IsOnEdges C y → ⊥) (m : PlaneMeet) (k : Corner) → IsFirstInPlane C h y d m → IsCornerAt C h (opposite d) m k
+  pub facet-from_behind : (off : (n : PlaneMeet) → Meets C h n y → ⊥) (m : PlaneMeet) (k : Corner) → IsFirstInPlane C h y d m → IsCornerAt C h (opposite d) m k
       → IsFlatIn s h y × ((u : Vertex) (o : Item) → IsCorner C k u o → HasLabel s y (item_mark o) × ((e : Vector) → Germ s y e (by_side (item_above o) (item_mark o) (item_below o) (sign (dot (item_normal o) e)))))
   facet-from_behind off (meets_vertex i) k I c = by-vertex off (meets_vertex i) k I i I.meets c
   facet-from_behind off (meets_edge i) k I c = by-edge off (meets_edge i) k I i I.meets c

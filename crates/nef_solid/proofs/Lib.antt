@@ -16,3 +16,4 @@ pub mod FacetAngles
 pub mod FacetTriangle
 pub mod FacetSight
 pub mod FacetNames
+pub mod Spans

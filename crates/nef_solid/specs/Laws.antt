@@ -10,7 +10,7 @@ use Rattle.nef_sphere.specs.Maps.{At, Item, item_normal, item_above, item_mark, 
 use Rattle.nef_sphere.specs.Least.{by_side}
 use Rattle.nef_solid.specs.Complexes.{Vertex, Edge, Complex, Corner, HasEnds, IsCorner}
 use Rattle.nef_solid.specs.Shows.{Shows}
-use Rattle.nef_solid.specs.Skeleton.{IsVertexPoint, IsEdgePoint, IsOnEdges, IsFacetPoint, Spot, IsSpot, IsSkeletonPoint, PlaneMeet, Meets, IsFirstInPlane, IsCornerAt, HasCorner}
+use Rattle.nef_solid.specs.Skeleton.{IsVertexPoint, IsEdgePoint, IsFacetPoint, Spot, IsSpot, IsSkeletonPoint, PlaneMeet, Meets, IsFirstInPlane, IsCornerAt, HasCorner}
 use Rattle.nef_solid.specs.Belongs.{SpotMark, Towards, SeesSpot, Belongs}
 
 -- ---- edges
@@ -48,10 +48,10 @@ abbrev pub FacetBehind : Type 0
 FacetBehind = (s : Set) (C : Complex) (h : Form) (y : Place) (d : Vector) → Shows s C → IsNormal (normal_of h) → form_at h y ≡ pos 0 → IsDirection d → slope h d ≡ pos 0 → IsFlatIn s h y
     → (m : PlaneMeet) × IsFirstInPlane C h y d m × ((k : Corner) × IsCornerAt C h (opposite d) m k)
 
--- and where a point of the plane, which is no vertex and on no edge, has such an item behind what it first meets, it lies in a facet of the plane
+-- and where a point of the plane, which is no vertex and on no edge of the plane, has such an item behind what it first meets, it lies in a facet of the plane; that no edge crosses the plane there follows
 abbrev pub FacetFromBehind : Type 0
 FacetFromBehind = (s : Set) (C : Complex) (h : Form) (y : Place) (d : Vector) (m : PlaneMeet) (k : Corner) → Shows s C → IsNormal (normal_of h) → form_at h y ≡ pos 0
-    → (IsOnEdges C y → ⊥) → IsDirection d → slope h d ≡ pos 0 → IsFirstInPlane C h y d m → IsCornerAt C h (opposite d) m k
+    → ((n : PlaneMeet) → Meets C h n y → ⊥) → IsDirection d → slope h d ≡ pos 0 → IsFirstInPlane C h y d m → IsCornerAt C h (opposite d) m k
     → IsFlatIn s h y × ((v : Vertex) (x : Item) → IsCorner C k v x → HasLabel s y (item_mark x) × ((e : Vector) → Germ s y e (by_side (item_above x) (item_mark x) (item_below x) (sign (dot (item_normal x) e)))))
 
 -- ---- the skeleton

@@ -4,3 +4,4 @@ pub mod Skeleton
 pub mod Belongs
 pub mod Rays
 pub mod Laws
+pub mod Spans

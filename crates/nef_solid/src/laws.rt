@@ -1,6 +1,7 @@
 //! The laws of complexes.
 
 ghost use Rattle.nef_solid.specs.Laws.{EdgePoints, EdgesComplete, SvertexHasEdge, CandidatesSuffice, SkeletonPoints, SpotLabels, FreeWay, BelongsHolds};
+ghost use Rattle.nef_solid.specs.Spans.{PlaneBounded, PlaneWithin, RayStaysClose};
 
 /// The points of a set with one flat direction are those strictly between the ends of edges, and each svertex is an
 /// end of an edge.
@@ -24,4 +25,13 @@ pub fn skeleton_laws()
     ensures labels { SpotLabels }
     ensures free { FreeWay }
     ensures belongs { BelongsHolds }
+{}
+
+/// A form that is at most nought at the vertices of a plane is so at all points of its edges and facets, so whole numbers
+/// that bound a coordinate there bound it at all these points. Along the upward direction, within the frame, y and z
+/// hardly change.
+pub fn span_laws()
+    ensures bounded { PlaneBounded }
+    ensures within { PlaneWithin }
+    ensures close { RayStaysClose }
 {}

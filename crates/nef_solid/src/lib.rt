@@ -8,4 +8,4 @@ mod facets;
 mod laws;
 
 pub use facets::facet_laws;
-pub use laws::{candidate_laws, edge_laws, skeleton_laws};
+pub use laws::{candidate_laws, edge_laws, skeleton_laws, span_laws};

@@ -2,6 +2,7 @@ use Rattle.nef_linked.proofs.laws.linked_laws.Goals as goal
 use Rattle.nef_linked.proofs.Onward.{arcs-go_on}
 use Rattle.nef_linked.proofs.Reached.{items-name}
 use Rattle.nef_linked.proofs.SameRay.{names-along}
+use Rattle.nef_linked.proofs.Steps.{joined-items_linked}
 use Rattle.nef_linked.proofs.Sweep.{converse-by_steps}
 use Rattle.nef_linked.proofs.Triangles.{third-sides}
 
@@ -19,3 +20,6 @@ returns-clause-converse c = converse-by_steps
 
 pub returns-clause-triangles : goal.returns-clause-triangles
 returns-clause-triangles c = third-sides
+
+pub returns-clause-facets : goal.returns-clause-facets
+returns-clause-facets c = joined-items_linked

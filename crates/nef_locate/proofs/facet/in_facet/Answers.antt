@@ -3,6 +3,7 @@ use Rattle.nef_space.specs.Place.{normal_of}
 use Rattle.nef_space.specs.Vectors.{Vector, dot, plane_axis}
 use Rattle.nef_geo.specs.Shapes.{form_of, vector_of, hit_place}
 use Rattle.nef_sphere.proofs.Compare.{SameDirection-turned}
+use Rattle.nef_solid.specs.Skeleton.{meets_vertex, meets_edge}
 use Rattle.nef_complex.specs.Complexes.{complex_of, corner_of, meet_of}
 use Rattle.nef_locate.proofs.Behind.{corner-normal}
 use Rattle.nef_locate.proofs.FacetFound.{some-then, none-then, none-met, found-flat, found-corner, none-found}
@@ -15,13 +16,13 @@ pub returns-in_err-plane_items-clause-none : goal.returns-in_err-plane_items-cla
 returns-in_err-plane_items-clause-none c _ = λ s S F. c.in_err-plane_items.ensures.none refl (flat-item s c.args.c.now S c.args.h.now (hit_place c.args.p.now) c.requires.on F)
 
 pub first_in_plane-requires-clause-off : goal.first_in_plane-requires-clause-off
-first_in_plane-requires-clause-off c = inr (λ k e l. c.requires.off (k, inr e))
+first_in_plane-requires-clause-off c = inr (λ k e l. c.requires.off (meets_edge k) (e, l))
 
 pub first_in_plane-requires-clause-direction : goal.first_in_plane-requires-clause-direction
 first_in_plane-requires-clause-direction c = inl (SameDirection-turned (plane_axis (normal_of (form_of c.args.h.now))) (vector_of c.plane_axis-axis.result) c.plane_axis-axis.ensures.axis)
 
 pub first_in_plane-requires-clause-no_svertex : goal.first_in_plane-requires-clause-no_svertex
-first_in_plane-requires-clause-no_svertex c = λ k j v u a e b w. c.requires.off (k, inl (v, a, e))
+first_in_plane-requires-clause-no_svertex c = λ k j v u a e b w. c.requires.off (meets_vertex k) (v, a, e)
 
 pub returns-in_err-met-clause-none : goal.returns-in_err-met-clause-none
 returns-in_err-met-clause-none c _ = none-met c.args.c.now c.args.h.now (hit_place c.args.p.now) c.requires.on (vector_of c.plane_axis-axis.result) c.plane_axis-axis.result.some c.plane_axis-axis.ensures.in_plane (c.in_err-met.ensures.none refl)

@@ -1,6 +1,7 @@
 use Rattle.std.proofs.Common.{refl, rules, IsTrue}
-use Rattle.nef_geo.specs.Shapes.{vector_of, place_of, hit_place}
+use Rattle.nef_geo.specs.Shapes.{form_of, vector_of, place_of, hit_place}
 use Rattle.nef_complex.specs.Complexes.{complex_of}
+use Rattle.nef_solid.proofs.FacetWays.{meets-on}
 use Rattle.nef_plane.proofs.Spanned.{upright-some}
 use Rattle.nef_locate.proofs.Located.{corner-at}
 use Rattle.nef_locate.proofs.RayMeets.{reached-of, none-outside, stays, taken, passed, found, sooner-off}
@@ -27,7 +28,7 @@ in_facet-requires-clause-off c =
     let p = place_of c.args.p.now in let d = vector_of c.args.d.now in let hit = c.in-Some.hit in
     let q = c.is_sooner.ensures.sooner p d (upright-some d c.requires.upright) c.in-Some.ensures.step (reached-of (complex_of c.args.c.now) p d c.args.best c.requires.best) in
     let on : IsTrue c.is_sooner.result = search rules in
-    sooner-off p d c.args.h.now hit c.in-Some.ensures.crossing (complex_of c.args.c.now) c.args.best (q.0 on) c.requires.edges
+    λ m e. sooner-off p d c.args.h.now hit c.in-Some.ensures.crossing (complex_of c.args.c.now) c.args.best (q.0 on) c.requires.edges (meets-on c.requires.shows.0 (complex_of c.args.c.now) c.requires.shows.1.shows (form_of c.args.h.now) m (hit_place hit) e)
 
 pub returns-in-Some-in_facet-clause-met : goal.returns-in-Some-in_facet-clause-met
 returns-in-Some-in_facet-clause-met c =

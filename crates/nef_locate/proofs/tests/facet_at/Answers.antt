@@ -25,7 +25,7 @@ use Rattle.nef_solid.specs.Complexes.{Complex}
 use Rattle.nef_solid.specs.Shows.{Shows}
 use Rattle.nef_solid.specs.Skeleton.{IsOnEdges}
 use Rattle.nef_solid.proofs.Edges.{edge-points}
-use Rattle.nef_solid.proofs.FacetWays.{dim-same}
+use Rattle.nef_solid.proofs.FacetWays.{dim-same, meets-on}
 
 -- at a point of the x-axis the directions of the other two axes are flat
 module _ (p : Place) (y : p.y ≡ pos 0) (z : p.z ≡ pos 0) where
@@ -97,4 +97,5 @@ in_facet-requires-clause-on c =
 pub in_facet-requires-clause-off : goal.in_facet-requires-clause-off
 in_facet-requires-clause-off c =
     let p = hit_place c.hit_at-p.result in
-    off-edges p (is-y p c.args.x (at-x c.hit_at-p.result c.of.result c.args.x _ (to_z-of_z w64 c.args.x c.ranges.x) c.hit_at-p.ensures.same c.of.ensures.same)) (is-z p c.args.x (at-x c.hit_at-p.result c.of.result c.args.x _ (to_z-of_z w64 c.args.x c.ranges.x) c.hit_at-p.ensures.same c.of.ensures.same)) (complex_of c.args.c.now) c.requires.shows.shows
+    λ m e. off-edges p (is-y p c.args.x (at-x c.hit_at-p.result c.of.result c.args.x _ (to_z-of_z w64 c.args.x c.ranges.x) c.hit_at-p.ensures.same c.of.ensures.same)) (is-z p c.args.x (at-x c.hit_at-p.result c.of.result c.args.x _ (to_z-of_z w64 c.args.x c.ranges.x) c.hit_at-p.ensures.same c.of.ensures.same)) (complex_of c.args.c.now) c.requires.shows.shows
+    (meets-on Set.empty (complex_of c.args.c.now) c.requires.shows.shows (form_of c.args.h.now) m p e)

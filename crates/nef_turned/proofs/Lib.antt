@@ -1,0 +1,17 @@
+pub mod Coordinates
+pub mod Turning
+pub mod Vectors
+pub mod Places
+pub mod Meaning
+pub mod Images
+pub mod TurnedMaps
+pub mod Carriers
+pub mod Complexes
+pub mod Twice
+pub mod TurnedLists
+pub mod Numbers
+pub mod ArcEnds
+pub mod Nodes
+pub mod Exists
+pub mod Pairing
+pub mod ListsExist

@@ -1,0 +1,5 @@
+pub mod Turned
+pub mod Maps
+pub mod Complexes
+pub mod Nodes
+pub mod Laws

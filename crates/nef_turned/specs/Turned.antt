@@ -1,0 +1,100 @@
+-- What a turn makes of vectors, forms, places and sets.
+use Rattle.std.specs.Prelude.{ℕ, zero, suc, ◌/◌, ◌%◌, ℤ, pos, List, [], ◌∷◌, Bool, true, false}
+use Rattle.nef_space.specs.Vectors.{Vector, vector}
+use Rattle.nef_space.specs.Place.{Place, Form, form}
+use Rattle.nef_space.specs.Sets.{Set}
+use Rattle.nef_case.specs.Turns.{Triple, has_bit, negated_if, negated, turned}
+
+abbrev pub vector_of : Triple → Vector
+vector_of t = vector t.0 t.1 t.2
+
+abbrev pub triple_of : Vector → Triple
+triple_of d = (d.x, d.y, d.z)
+
+-- the vector with the numbers that the turn makes of d's
+abbrev pub turned_vector : ℕ → Vector → Vector
+turned_vector k d = vector_of (turned k (triple_of d))
+
+-- the form with the turned normal and the same offset
+abbrev pub turned_form : ℕ → Form → Form
+turned_form k h = let t = turned k (h.a, h.b, h.c) in form t.0 t.1 t.2 h.d
+
+-- the point with the turned numbers and the same weight
+abbrev pub turned_place : ℕ → Place → Place
+turned_place k p = record {
+  x = (turned k (p.x, p.y, p.z)).0;
+  y = (turned k (p.x, p.y, p.z)).1;
+  z = (turned k (p.x, p.y, p.z)).2;
+  w = p.w;
+  proper = p.proper;
+}
+
+abbrev pub place_numbers : Place → List ℤ
+place_numbers p = p.x ∷ p.y ∷ p.z ∷ pos p.w ∷ []
+
+-- the set with the turned forms of its halves
+abbrev pub turned_set : ℕ → Set → Set
+turned_set k (Set.half h c) = Set.half (turned_form k h) c
+turned_set k Set.empty = Set.empty
+turned_set k Set.full = Set.full
+turned_set k (Set.both a b) = Set.both (turned_set k a) (turned_set k b)
+turned_set k (Set.either a b) = Set.either (turned_set k a) (turned_set k b)
+turned_set k (Set.less a b) = Set.less (turned_set k a) (turned_set k b)
+turned_set k (Set.one_of a b) = Set.one_of (turned_set k a) (turned_set k b)
+turned_set k (Set.other a) = Set.other (turned_set k a)
+turned_set k (Set.inside a) = Set.inside (turned_set k a)
+turned_set k (Set.closed a) = Set.closed (turned_set k a)
+turned_set k (Set.border a) = Set.border (turned_set k a)
+turned_set k (Set.regular a) = Set.regular (turned_set k a)
+
+-- ---- the way back
+-- the new coordinates that become the old ones, for each of the six orders
+abbrev pub disordered : ℕ → Triple → Triple
+disordered zero (x, y, z) = (x, y, z)
+disordered (suc zero) (x, y, z) = (x, z, y)
+disordered (suc (suc zero)) (x, y, z) = (y, x, z)
+disordered (suc (suc (suc zero))) (x, y, z) = (z, x, y)
+disordered (suc (suc (suc (suc zero)))) (x, y, z) = (y, z, x)
+disordered (suc (suc (suc (suc (suc n))))) (x, y, z) = (z, y, x)
+
+-- the triple of which the turn makes this one
+abbrev pub unturned : ℕ → Triple → Triple
+unturned k v = disordered (k / 8) (negated (k % 8) v)
+
+abbrev pub unturned_vector : ℕ → Vector → Vector
+unturned_vector k d = vector_of (unturned k (triple_of d))
+
+abbrev pub unturned_place : ℕ → Place → Place
+unturned_place k p = record {
+  x = (unturned k (p.x, p.y, p.z)).0;
+  y = (unturned k (p.x, p.y, p.z)).1;
+  z = (unturned k (p.x, p.y, p.z)).2;
+  w = p.w;
+  proper = p.proper;
+}
+
+-- ---- the sense of a turn
+abbrev pub differ : Bool → Bool → Bool
+differ true true = false
+differ true false = true
+differ false b = b
+
+-- the order of the coordinates exchanges two of them, and keeps the third
+abbrev pub is_exchange : ℕ → Bool
+is_exchange zero = false
+is_exchange (suc zero) = true
+is_exchange (suc (suc zero)) = true
+is_exchange (suc (suc (suc zero))) = false
+is_exchange (suc (suc (suc (suc zero)))) = false
+is_exchange (suc (suc (suc (suc (suc n))))) = true
+
+abbrev pub negates_odd : ℕ → Bool
+negates_odd s = differ (has_bit 1 s) (differ (has_bit 2 s) (has_bit 4 s))
+
+-- the turn makes counterclockwise clockwise: it is an exchange, or negates one coordinate or three, and not both
+abbrev pub is_odd : ℕ → Bool
+is_odd k = differ (negates_odd (k % 8)) (is_exchange (k / 8))
+
+-- the vector, or its opposite
+abbrev pub signed : Bool → Vector → Vector
+signed b d = vector (negated_if b d.x) (negated_if b d.y) (negated_if b d.z)
