@@ -2,8 +2,8 @@
 use Rattle.std.proofs.Common.{◌≡◌, ◌⊎◌, inl, inr, sym, subst}
 use Rattle.nef_space.specs.Vectors.{Vector, cross, opposite, IsParallel, SameDirection, triple_of}
 use Rattle.nef_space.specs.Numbers.{IsBelow}
-use Rattle.nef_cyclic.proofs.StrictlyOn.{same-sym}
-use Rattle.nef_cyclic.proofs.Directions.{arcs_are_of_directions, two_meets_at}
+use Rattle.law_cyclic.proofs.StrictlyOn.{same-sym}
+use Rattle.law_cyclic.proofs.Directions.{arcs_are_of_directions, two_meets_at}
 use Rattle.nef_arc.specs.declared.arc.Arc.{Arc}
 use Rattle.nef_arc.specs.Arcs.{normal_vector, source_vector, target_vector, IsOnBoth, IsOneCrossing, IsTwoCrossings}
 use Rattle.nef_arc.proofs.Ends.{source_on, target_on}

@@ -3,7 +3,7 @@ use Rattle.std.proofs.Common.{◌≡◌, pos}
 use Rattle.nef_space.specs.Vectors.{Vector, dot, IsDirection}
 use Rattle.nef_geo.specs.Shapes.{vector_of}
 use Rattle.nef_geo.specs.declared.dir.Dir.{Dir}
-use Rattle.nef_cyclic.specs.Arcs.{IsOnCircle, AboutThree}
+use Rattle.law_cyclic.specs.Arcs.{IsOnCircle, AboutThree}
 use Rattle.nef_arc.specs.declared.arc.Arc.{Arc}
 use Rattle.nef_arc.specs.Arcs.{normal_vector, source_vector, target_vector, IsOn}
 

@@ -10,8 +10,8 @@ use Rattle.nef_geo.specs.declared.sign.Sign.{Sign}
 use Rattle.nef_geo.specs.declared.sign.Sign.TheVariants.{Minus, Zero, Plus}
 use Rattle.nef_case.specs.Keys.{IsSign}
 use Rattle.nef_case.specs.Between.{between_of, between_signs}
-use Rattle.nef_cyclic.specs.Signs.{sign_number}
-use Rattle.nef_cyclic.proofs.Signs.{sgn_is_sign}
+use Rattle.law_cyclic.specs.Signs.{sign_number}
+use Rattle.law_cyclic.proofs.Signs.{sgn_is_sign}
 
 number_of_sign-is : (z : ℤ) → number_of_sign (sign_of z) ≡ sign_number z
 number_of_sign-is (pos zero) = refl

@@ -9,10 +9,10 @@ use Rattle.nef_geo.specs.Shapes.{vector_of}
 use Rattle.nef_geo.specs.declared.dir.Dir.{Dir}
 use Rattle.nef_geo.proofs.Unique.{same_directions_equal}
 use Rattle.nef_space.specs.Vectors.{Vector, vector, opposite, IsDirection, SameDirection}
-use Rattle.nef_cyclic.specs.Arcs.{IsOnCircle, IsStrictlyOn}
-use Rattle.nef_cyclic.proofs.Directions.{way_back_passes_the_same, same-refl}
-use Rattle.nef_cyclic.proofs.StrictlyOn.{same-sym}
-use Rattle.nef_cyclic.proofs.Cyclic.{one_is_first, never_both_ways}
+use Rattle.law_cyclic.specs.Arcs.{IsOnCircle, IsStrictlyOn}
+use Rattle.law_cyclic.proofs.Directions.{way_back_passes_the_same, same-refl}
+use Rattle.law_cyclic.proofs.StrictlyOn.{same-sym}
+use Rattle.law_cyclic.proofs.Cyclic.{one_is_first, never_both_ways}
 use Rattle.nef_arc.specs.declared.arc.Arc.{Arc}
 use Rattle.nef_arc.specs.Arcs.{normal_vector, source_vector, IsOn, IsOnBefore}
 use Rattle.nef_arc.proofs.Ends.{seen_from_source}

@@ -3,7 +3,7 @@ use Rattle.std.specs.Prelude.{◌⊎◌}
 use Rattle.nef_space.specs.Numbers.{IsBelow}
 use Rattle.nef_space.specs.Vectors.{Vector, SameDirection, triple_of}
 use Rattle.nef_geo.specs.Shapes.{vector_of}
-use Rattle.nef_cyclic.specs.Arcs.{IsStrictlyOn}
+use Rattle.law_cyclic.specs.Arcs.{IsStrictlyOn}
 use Rattle.nef_arc.specs.declared.arc.Arc.{Arc}
 use Rattle.nef_arc.specs.declared.common.Crossing.{Crossing}
 use Rattle.nef_arc.specs.declared.common.Crossing.TheVariants.{Nowhere, One, Two}

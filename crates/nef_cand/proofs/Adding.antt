@@ -6,8 +6,8 @@ use Rattle.std.proofs.lemmas.List.Elements.{Contains-append_left, Contains-push,
 use Rattle.nef_space.specs.Place.{Place, SamePlace}
 use Rattle.nef_geo.specs.Shapes.{place_of}
 use Rattle.nef_geo.specs.declared.point.Point.{Point}
-use Rattle.nef_sphere.specs.Maps.{At}
-use Rattle.nef_sphere.proofs.Lists.{at-one}
+use Rattle.law_sphere.specs.Maps.{At}
+use Rattle.law_sphere.proofs.Lists.{at-one}
 use Rattle.nef_smap.proofs.Lists.{at-within}
 use Rattle.nef_complex.proofs.Reading.{read-at}
 use Rattle.nef_cand.specs.Candidates.{IsListed}

@@ -8,17 +8,17 @@ use Rattle.nef_space.specs.Vectors.{Vector, IsDirection}
 use Rattle.nef_geo.specs.Shapes.{place_of, form_of}
 use Rattle.nef_geo.specs.declared.plane.Plane.{Plane}
 use Rattle.nef_geo.specs.declared.point.Point.{Point}
-use Rattle.nef_forms.proofs.Between.{place-decided}
-use Rattle.nef_near.specs.Cones.{label_and, label_or, label_less, label_one_of}
-use Rattle.nef_near.proofs.Combine.{and-label, or-label, less-label, one_of-label}
-use Rattle.nef_near.proofs.FlatOperations.{flat-of_two}
-use Rattle.nef_sphere.specs.Maps.{At}
-use Rattle.nef_sphere.proofs.Lists.{search_list, Found}
+use Rattle.law_forms.proofs.Between.{place-decided}
+use Rattle.law_near.specs.Cones.{label_and, label_or, label_less, label_one_of}
+use Rattle.law_near.proofs.Combine.{and-label, or-label, less-label, one_of-label}
+use Rattle.law_near.proofs.FlatOperations.{flat-of_two}
+use Rattle.law_sphere.specs.Maps.{At}
+use Rattle.law_sphere.proofs.Lists.{search_list, Found}
 use Rattle.nef_smap.proofs.Lists.{at-within, at-get, map-at, at-map}
-use Rattle.nef_solid.specs.Complexes.{Vertex, Edge, Complex, HasEnds}
-use Rattle.nef_solid.specs.Shows.{Shows}
-use Rattle.nef_solid.specs.Laws.{IsCut, HoldsEdge}
-use Rattle.nef_solid.proofs.Candidates.{candidates-suffice}
+use Rattle.law_complex.specs.Complexes.{Vertex, Edge, Complex, HasEnds}
+use Rattle.law_complex.specs.Shows.{Shows}
+use Rattle.law_complex.specs.Laws.{IsCut, HoldsEdge}
+use Rattle.law_complex.proofs.Candidates.{candidates-suffice}
 use Rattle.nef_complex.specs.declared.complex.Complex.{Complex as ProgramComplex}
 use Rattle.nef_complex.specs.Complexes.{complex_of}
 use Rattle.nef_cand.specs.Candidates.{IsListed, AreExactly, IsVertexOf, AreCandidates, IsVertexOfBoth}

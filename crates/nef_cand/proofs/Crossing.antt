@@ -8,10 +8,10 @@ use Rattle.nef_geo.specs.Shapes.{place_of, form_of}
 use Rattle.nef_geo.specs.Steps.{HasOppositeSigns}
 use Rattle.nef_geo.specs.declared.plane.Plane.{Plane}
 use Rattle.nef_geo.specs.declared.point.Point.{Point}
-use Rattle.nef_forms.proofs.Between.{between-same}
-use Rattle.nef_near.proofs.Rays.{same-place_sym}
-use Rattle.nef_solid.proofs.Planes.{plane-way}
-use Rattle.nef_solid.proofs.Ways.{same-itself}
+use Rattle.law_forms.proofs.Between.{between-same}
+use Rattle.law_near.proofs.Rays.{same-place_sym}
+use Rattle.law_complex.proofs.Planes.{plane-way}
+use Rattle.law_complex.proofs.Ways.{same-itself}
 use Rattle.nef_complex.proofs.Parted.{parted-slope, parted-cut, parted-apart, held-between, crossed-parted, independent}
 use Rattle.nef_cand.specs.declared.line.Line.{Line}
 use Rattle.nef_cand.specs.Points.{IsLineThrough, IsCrossing}

@@ -8,13 +8,13 @@ use Rattle.nef_space.specs.Sets.{Set}
 use Rattle.nef_geo.specs.Shapes.{place_of}
 use Rattle.nef_geo.specs.declared.point.Point.{Point}
 use Rattle.nef_geo.proofs.Unique.{same_places_equal}
-use Rattle.nef_near.proofs.Alike.{FlatDim-one}
-use Rattle.nef_near.proofs.Frames.{flat_dim-outside}
-use Rattle.nef_sphere.specs.Maps.{At}
+use Rattle.law_near.proofs.Alike.{FlatDim-one}
+use Rattle.law_near.proofs.Frames.{flat_dim-outside}
+use Rattle.law_sphere.specs.Maps.{At}
 use Rattle.nef_smap.proofs.Lists.{at-map}
-use Rattle.nef_solid.specs.Complexes.{Vertex, Edge, HasEnds}
-use Rattle.nef_solid.specs.Shows.{Shows}
-use Rattle.nef_solid.proofs.Edges.{edge-points}
+use Rattle.law_complex.specs.Complexes.{Vertex, Edge, HasEnds}
+use Rattle.law_complex.specs.Shows.{Shows}
+use Rattle.law_complex.proofs.Edges.{edge-points}
 use Rattle.nef_complex.specs.declared.complex.Complex.{Complex}
 use Rattle.nef_complex.specs.Complexes.{vertex_of, complex_of}
 use Rattle.nef_cand.specs.Candidates.{IsVertexOf, AreCandidates, AreCutCandidates, AreFramed}

@@ -2,10 +2,10 @@
 use Rattle.std.proofs.Common.{◌≡◌, ℕ, zero, suc, ◌+◌, ◌<◌, ℤ, pos, neg_ℤ, ◌+ℤ◌, ◌-ℤ◌, ◌*ℤ◌, Bool, true, false, List, [], ◌∷◌, arith, refl, ap, sym, subst, ◌∙◌, ◌⊎◌, inl, inr, ⊎_elim, ◌↔◌}
 use Rattle.std.proofs.lemmas.Int.{ints}
 use Rattle.std.specs.List.{Contains}
-use Rattle.nef_exact.specs.Signs.{sign}
-use Rattle.nef_exact.proofs.Ring.{ring, Poly, at, num, neg, ◌⊕◌, ◌⊖◌, ◌⊗◌}
-use Rattle.nef_exact.proofs.Combination.{given, none, follows}
-use Rattle.nef_exact.proofs.Order.{by_order, sign-minus, minus-is, sign-plus, plus-is, sign-scaled, nought-is}
+use Rattle.law_arithmetic.specs.Signs.{sign}
+use Rattle.law_arithmetic.proofs.Ring.{ring, Poly, at, num, neg, ◌⊕◌, ◌⊖◌, ◌⊗◌}
+use Rattle.law_arithmetic.proofs.Combination.{given, none, follows}
+use Rattle.law_arithmetic.proofs.Order.{by_order, sign-minus, minus-is, sign-plus, plus-is, sign-scaled, nought-is}
 use Rattle.nef_space.specs.Local.{HasLabel, Flat, HasFlat, FlatDim, IsVertex}
 use Rattle.nef_space.specs.Place.{Place, Form, Ratio, step, Within, form_at, slope, toward, InFrame}
 use Rattle.nef_space.specs.Sets.{Set, Holds, InHalf}
@@ -15,22 +15,22 @@ use Rattle.nef_space.specs.declared.label.Label.TheVariants.{Out, Not, In}
 use Rattle.nef_geo.specs.Shapes.{form_of}
 use Rattle.nef_geo.specs.declared.plane.Plane.{Plane}
 use Rattle.nef_geo.specs.declared.point.Point.{Point}
-use Rattle.nef_forms.proofs.Directions.{square_pos}
-use Rattle.nef_forms.proofs.Far.{nought-or}
-use Rattle.nef_forms.proofs.Near.{reach, keeps, weaken, form-step}
-use Rattle.nef_near.specs.Cells.{sign_at}
-use Rattle.nef_near.specs.Cones.{combination}
-use Rattle.nef_near.proofs.Alike.{HasFlat-fewer}
-use Rattle.nef_near.proofs.FlatDecided.{flat_dim-of}
-use Rattle.nef_near.proofs.FlatOperations.{flat-combination}
-use Rattle.nef_solid.specs.Complexes.{Complex}
-use Rattle.nef_solid.specs.Shows.{Shows, SamePlane}
-use Rattle.nef_solid.specs.Skeleton.{IsEdgePoint}
-use Rattle.nef_solid.specs.Laws.{HoldsEdge}
-use Rattle.nef_solid.proofs.Edges.{edge-points, edge-way}
-use Rattle.nef_solid.proofs.Joining.{edges-complete}
-use Rattle.nef_solid.proofs.Planes.{plane-turned, plane-point, plane-slope, plane-way}
-use Rattle.nef_solid.proofs.Ways.{between-ends}
+use Rattle.law_forms.proofs.Directions.{square_pos}
+use Rattle.law_forms.proofs.Far.{nought-or}
+use Rattle.law_forms.proofs.Near.{reach, keeps, weaken, form-step}
+use Rattle.law_near.specs.Cells.{sign_at}
+use Rattle.law_near.specs.Cones.{combination}
+use Rattle.law_near.proofs.Alike.{HasFlat-fewer}
+use Rattle.law_near.proofs.FlatDecided.{flat_dim-of}
+use Rattle.law_near.proofs.FlatOperations.{flat-combination}
+use Rattle.law_complex.specs.Complexes.{Complex}
+use Rattle.law_complex.specs.Shows.{Shows, SamePlane}
+use Rattle.law_complex.specs.Skeleton.{IsEdgePoint}
+use Rattle.law_complex.specs.Laws.{HoldsEdge}
+use Rattle.law_complex.proofs.Edges.{edge-points, edge-way}
+use Rattle.law_complex.proofs.Joining.{edges-complete}
+use Rattle.law_complex.proofs.Planes.{plane-turned, plane-point, plane-slope, plane-way}
+use Rattle.law_complex.proofs.Ways.{between-ends}
 use Rattle.nef_cand.specs.Candidates.{IsListed, IsVertexOf, IsCutBy, AreCutCandidates}
 use Rattle.nef_cand.specs.Points.{Adds, CutsOne}
 use Rattle.nef_cand.proofs.Adding.{adds-both, adds-as}

@@ -1,8 +1,8 @@
 -- Two carriers hold each edge, and where planes cut edges.
 use Rattle.std.proofs.Common.{◌≡◌, ℕ, ◌<◌, ℤ, pos, ◌-ℤ◌, ◌*ℤ◌, List, length, get_or, slice_get, Some, arith, sym, subst}
 use Rattle.std.proofs.lemmas.Int.{ints}
-use Rattle.nef_exact.specs.Signs.{Lies}
-use Rattle.nef_exact.proofs.Order.{nought-is}
+use Rattle.law_arithmetic.specs.Signs.{Lies}
+use Rattle.law_arithmetic.proofs.Order.{nought-is}
 use Rattle.nef_space.specs.Local.{Flat}
 use Rattle.nef_space.specs.Place.{Place, Form, form_at, normal_of, toward, SamePlace, IsBetween}
 use Rattle.nef_space.specs.Sets.{Set}
@@ -10,19 +10,19 @@ use Rattle.nef_space.specs.Vectors.{cross, IsZero, IsDirection}
 use Rattle.nef_geo.specs.Shapes.{place_of, form_of}
 use Rattle.nef_geo.specs.declared.plane.Plane.{Plane}
 use Rattle.nef_geo.specs.declared.point.Point.{Point}
-use Rattle.nef_near.specs.Cells.{carriers}
-use Rattle.nef_near.specs.Laws.{EdgeSupport}
-use Rattle.nef_near.proofs.Edges.{start, start-between}
-use Rattle.nef_near.proofs.FlatDecided.{parallel-both}
-use Rattle.nef_near.proofs.Supports.{edge-support}
-use Rattle.nef_sphere.specs.Maps.{At}
-use Rattle.nef_sphere.proofs.Lists.{at-one}
+use Rattle.law_near.specs.Cells.{carriers}
+use Rattle.law_near.specs.Laws.{EdgeSupport}
+use Rattle.law_near.proofs.Edges.{start, start-between}
+use Rattle.law_near.proofs.FlatDecided.{parallel-both}
+use Rattle.law_near.proofs.Supports.{edge-support}
+use Rattle.law_sphere.specs.Maps.{At}
+use Rattle.law_sphere.proofs.Lists.{at-one}
 use Rattle.nef_smap.proofs.Lists.{map-at, at-map, get-at}
-use Rattle.nef_solid.specs.Complexes.{HasEnds}
-use Rattle.nef_solid.specs.Complexes.{Vertex as PlainVertex, Edge as PlainEdge}
-use Rattle.nef_solid.specs.Shows.{SamePlane}
-use Rattle.nef_solid.proofs.Edges.{edge-points, edge-way}
-use Rattle.nef_solid.proofs.Planes.{plane-turned, plane-point}
+use Rattle.law_complex.specs.Complexes.{HasEnds}
+use Rattle.law_complex.specs.Complexes.{Vertex as PlainVertex, Edge as PlainEdge}
+use Rattle.law_complex.specs.Shows.{SamePlane}
+use Rattle.law_complex.proofs.Edges.{edge-points, edge-way}
+use Rattle.law_complex.proofs.Planes.{plane-turned, plane-point}
 use Rattle.nef_complex.specs.declared.complex.Vertex.{Vertex}
 use Rattle.nef_complex.specs.declared.complex.Edge.{Edge}
 use Rattle.nef_complex.specs.declared.complex.Complex.{Complex}

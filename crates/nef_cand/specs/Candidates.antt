@@ -6,11 +6,11 @@ use Rattle.nef_space.specs.Sets.{Set}
 use Rattle.nef_space.specs.Local.{IsVertex}
 use Rattle.nef_geo.specs.Shapes.{place_of}
 use Rattle.nef_geo.specs.declared.point.Point.{Point}
-use Rattle.nef_sphere.specs.Maps.{At}
-use Rattle.nef_sphere.specs.Least.{InOrder}
-use Rattle.nef_solid.specs.Complexes.{Vertex, Edge, Complex, HasEnds}
-use Rattle.nef_solid.specs.Skeleton.{IsVertexPoint}
-use Rattle.nef_solid.specs.Laws.{HoldsEdge, IsCut}
+use Rattle.law_sphere.specs.Maps.{At}
+use Rattle.law_sphere.specs.Least.{InOrder}
+use Rattle.law_complex.specs.Complexes.{Vertex, Edge, Complex, HasEnds}
+use Rattle.law_complex.specs.Skeleton.{IsVertexPoint}
+use Rattle.law_complex.specs.Laws.{HoldsEdge, IsCut}
 
 -- one of the points is y
 abbrev pub IsListed : List Point → Place → Type 0

@@ -6,8 +6,8 @@ use Rattle.nef_space.specs.Vectors.{IsDirection, cross}
 use Rattle.nef_geo.specs.Shapes.{place_of, form_of}
 use Rattle.nef_geo.specs.declared.plane.Plane.{Plane}
 use Rattle.nef_geo.specs.declared.point.Point.{Point}
-use Rattle.nef_sphere.specs.Maps.{At}
-use Rattle.nef_solid.specs.Complexes.{Complex}
+use Rattle.law_sphere.specs.Maps.{At}
+use Rattle.law_complex.specs.Complexes.{Complex}
 use Rattle.nef_complex.specs.Planes.{HoldsBoth}
 use Rattle.nef_cand.specs.declared.line.Line.{Line}
 use Rattle.nef_cand.specs.Candidates.{IsListed, IsCutBy}

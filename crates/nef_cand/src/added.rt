@@ -6,7 +6,7 @@ ghost use Rattle.nef_space.specs.Place.{IsPlaceBelow};
 ghost use Rattle.nef_space.specs.Sets.{Set};
 ghost use Rattle.nef_geo.specs.Shapes.{place_of};
 ghost use Rattle.nef_geo.specs.declared.point.Point.{Point as PointValue};
-ghost use Rattle.nef_sphere.specs.Least.{InOrder};
+ghost use Rattle.law_sphere.specs.Least.{InOrder};
 ghost use Rattle.nef_complex.specs.Complexes.{complex_of, ShowsSet};
 ghost use Rattle.nef_cand.specs.Candidates.{IsVertexOf};
 ghost use Rattle.nef_cand.specs.Points.{Adds, IsLineThrough, CrossesOne, CutsOne};

@@ -5,7 +5,7 @@ ghost use Rattle.nef_space.specs.Place.{Place, Form};
 ghost use Rattle.nef_space.specs.Sets.{Set};
 ghost use Rattle.nef_space.specs.Local.{IsVertex};
 ghost use Rattle.nef_geo.specs.Shapes.{form_of};
-ghost use Rattle.nef_solid.specs.Shows.{SamePlane};
+ghost use Rattle.law_complex.specs.Shows.{SamePlane};
 ghost use Rattle.nef_complex.specs.Complexes.{complex_of, ShowsSet};
 ghost use Rattle.nef_cand.specs.Candidates.{IsListed, AreCandidates, AreCutCandidates, AreFramed, IsVertexOfBoth};
 

@@ -6,11 +6,11 @@ use Rattle.nef_space.specs.Vectors.{Vector, IsDirection}
 use Rattle.nef_space.specs.declared.label.Label.{Label}
 use Rattle.nef_space.specs.declared.label.Label.TheVariants.{Out, Not, In}
 use Rattle.nef_space.specs.Local.{HasLabel, Germ}
-use Rattle.nef_near.specs.Cones.{label_and, label_or, label_less, label_one_of}
-use Rattle.nef_near.proofs.Combine.{and-label, or-label, less-label, one_of-label, germ-combines}
-use Rattle.nef_sphere.specs.Labelling.{ByOp}
-use Rattle.nef_sphere.specs.Least.{Cone}
-use Rattle.nef_sphere.specs.Maps.{Map, MapLabel, Valid}
+use Rattle.law_near.specs.Cones.{label_and, label_or, label_less, label_one_of}
+use Rattle.law_near.proofs.Combine.{and-label, or-label, less-label, one_of-label, germ-combines}
+use Rattle.law_sphere.specs.Labelling.{ByOp}
+use Rattle.law_sphere.specs.Least.{Cone}
+use Rattle.law_sphere.specs.Maps.{Map, MapLabel, Valid}
 use Rattle.nef_star.specs.declared.op.Op.{Op}
 use Rattle.nef_star.specs.declared.op.Op.TheVariants.{And, Or, Diff, Xor}
 use Rattle.nef_star.specs.Ops.{op_label}

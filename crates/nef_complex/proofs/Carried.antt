@@ -1,32 +1,32 @@
 -- Each item lies in a carrier.
 use Rattle.std.proofs.Common.{◌≡◌, ℕ, pos, List, map, sym, ◌∙◌, ⊎_elim, subst}
-use Rattle.nef_exact.specs.Signs.{sign}
-use Rattle.nef_exact.proofs.Order.{nought-is}
+use Rattle.law_arithmetic.specs.Signs.{sign}
+use Rattle.law_arithmetic.proofs.Order.{nought-is}
 use Rattle.nef_space.specs.Place.{Place, Form, form_at, normal_of}
 use Rattle.nef_space.specs.Sets.{Set}
 use Rattle.nef_space.specs.Vectors.{dot, IsNormal, SameDirection}
 use Rattle.nef_geo.specs.Shapes.{form_of, place_of}
 use Rattle.nef_geo.specs.declared.plane.Plane.{Plane}
-use Rattle.nef_forms.proofs.Far.{nought-or}
-use Rattle.nef_forms.proofs.Near.{step-within, reach_all}
-use Rattle.nef_near.specs.Cells.{carriers}
-use Rattle.nef_near.proofs.Cells.{keeps-all}
-use Rattle.nef_near.proofs.Decisions.{ahead, near-ahead}
-use Rattle.nef_near.proofs.Germs.{sample, sample-short}
-use Rattle.nef_near.proofs.Supports.{facet-support}
-use Rattle.nef_sphere.specs.Least.{by_side}
-use Rattle.nef_sphere.specs.Maps.{At, Item, item_normal, item_above, item_mark, item_below}
-use Rattle.nef_sphere.proofs.Compare.{SameDirection-turned}
-use Rattle.nef_sphere.proofs.NearItems.{near-item}
-use Rattle.nef_sphere.proofs.Shot.{item-point}
+use Rattle.law_forms.proofs.Far.{nought-or}
+use Rattle.law_forms.proofs.Near.{step-within, reach_all}
+use Rattle.law_near.specs.Cells.{carriers}
+use Rattle.law_near.proofs.Cells.{keeps-all}
+use Rattle.law_near.proofs.Decisions.{ahead, near-ahead}
+use Rattle.law_near.proofs.Germs.{sample, sample-short}
+use Rattle.law_near.proofs.Supports.{facet-support}
+use Rattle.law_sphere.specs.Least.{by_side}
+use Rattle.law_sphere.specs.Maps.{At, Item, item_normal, item_above, item_mark, item_below}
+use Rattle.law_sphere.proofs.Compare.{SameDirection-turned}
+use Rattle.law_sphere.proofs.NearItems.{near-item}
+use Rattle.law_sphere.proofs.Shot.{item-point}
 use Rattle.nef_smap.proofs.Lists.{map-at, at-map}
 use Rattle.nef_smap.proofs.SideLists.{get-from_at}
-use Rattle.nef_solid.specs.Complexes.{Vertex as PlainVertex, Edge as PlainEdge, Complex as PlainComplex, Corner as PlainCorner, IsCorner}
-use Rattle.nef_solid.specs.Shows.{Shows}
-use Rattle.nef_solid.proofs.Cones.{FlatAre, near-germ}
-use Rattle.nef_solid.proofs.FacetPoints.{in-facet}
-use Rattle.nef_solid.proofs.FacetSides.{flats-one}
-use Rattle.nef_solid.proofs.Planes.{plane-turned, plane-point, plane-slope}
+use Rattle.law_complex.specs.Complexes.{Vertex as PlainVertex, Edge as PlainEdge, Complex as PlainComplex, Corner as PlainCorner, IsCorner}
+use Rattle.law_complex.specs.Shows.{Shows}
+use Rattle.law_complex.proofs.Cones.{FlatAre, near-germ}
+use Rattle.law_complex.proofs.FacetPoints.{in-facet}
+use Rattle.law_complex.proofs.FacetSides.{flats-one}
+use Rattle.law_complex.proofs.Planes.{plane-turned, plane-point, plane-slope}
 use Rattle.nef_complex.specs.declared.complex.Vertex.{Vertex}
 use Rattle.nef_complex.specs.Complexes.{vertex_of}
 use Rattle.nef_complex.specs.Index.{AreHeld}

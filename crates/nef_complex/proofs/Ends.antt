@@ -1,22 +1,22 @@
 -- The ends of an edge, and the planes that hold both.
 use Rattle.std.proofs.Common.{◌≡◌, ℕ, ◌<◌, length, pos, ◌<ℤ◌, arith, ap, ◌∙◌, subst, [], ◌∷◌}
 use Rattle.std.proofs.lemmas.Int.{ints}
-use Rattle.nef_exact.proofs.Ring.{at, num, ◌⊖◌, ◌⊗◌}
-use Rattle.nef_exact.proofs.Combination.{given, none, follows_times}
+use Rattle.law_arithmetic.proofs.Ring.{at, num, ◌⊖◌, ◌⊗◌}
+use Rattle.law_arithmetic.proofs.Combination.{given, none, follows_times}
 use Rattle.nef_space.specs.Place.{Place, Form, form_at, slope, toward, SamePlace, IsBetween}
 use Rattle.nef_space.specs.Sets.{Set}
 use Rattle.nef_space.specs.Vectors.{IsDirection}
 use Rattle.nef_geo.specs.Shapes.{place_of}
-use Rattle.nef_forms.proofs.Directions.{direction-left}
-use Rattle.nef_forms.proofs.Near.{slope-toward}
-use Rattle.nef_near.proofs.Edges.{start, start-toward}
-use Rattle.nef_sphere.specs.Maps.{At}
-use Rattle.nef_sphere.proofs.Lists.{at-one}
+use Rattle.law_forms.proofs.Directions.{direction-left}
+use Rattle.law_forms.proofs.Near.{slope-toward}
+use Rattle.law_near.proofs.Edges.{start, start-toward}
+use Rattle.law_sphere.specs.Maps.{At}
+use Rattle.law_sphere.proofs.Lists.{at-one}
 use Rattle.nef_smap.proofs.Lists.{map-at, at-map, at-within}
-use Rattle.nef_solid.specs.Complexes.{HasEnds}
-use Rattle.nef_solid.specs.Complexes.{Vertex as PlainVertex, Edge as PlainEdge}
-use Rattle.nef_solid.specs.Shows.{Shows}
-use Rattle.nef_solid.specs.Skeleton.{IsVertexPoint, IsEdgePoint}
+use Rattle.law_complex.specs.Complexes.{HasEnds}
+use Rattle.law_complex.specs.Complexes.{Vertex as PlainVertex, Edge as PlainEdge}
+use Rattle.law_complex.specs.Shows.{Shows}
+use Rattle.law_complex.specs.Skeleton.{IsVertexPoint, IsEdgePoint}
 use Rattle.nef_complex.specs.declared.complex.Vertex.{Vertex}
 use Rattle.nef_complex.specs.declared.complex.Edge.{Edge}
 use Rattle.nef_complex.specs.declared.complex.Complex.{Complex}

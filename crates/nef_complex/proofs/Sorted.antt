@@ -5,10 +5,10 @@ use Rattle.nef_space.specs.Lists.{IsAt}
 use Rattle.nef_space.specs.Place.{SamePlace, IsPlaceBelow}
 use Rattle.nef_geo.specs.Shapes.{place_of}
 use Rattle.nef_geo.specs.declared.point.Point.{Point}
-use Rattle.nef_near.proofs.Rays.{same-place_sym}
-use Rattle.nef_near.proofs.PlaceOrder.{place_below-trans, place_below-apart}
-use Rattle.nef_sphere.specs.Maps.{At}
-use Rattle.nef_solid.specs.Complexes.{Vertex as PlainVertex}
+use Rattle.law_near.proofs.Rays.{same-place_sym}
+use Rattle.law_near.proofs.PlaceOrder.{place_below-trans, place_below-apart}
+use Rattle.law_sphere.specs.Maps.{At}
+use Rattle.law_complex.specs.Complexes.{Vertex as PlainVertex}
 use Rattle.nef_complex.specs.declared.complex.Vertex.{Vertex}
 use Rattle.nef_complex.specs.Complexes.{vertex_of, AreSorted, AreBelow, AreAbove}
 

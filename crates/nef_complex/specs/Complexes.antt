@@ -7,9 +7,9 @@ use Rattle.nef_geo.specs.Shapes.{place_of, form_of}
 use Rattle.nef_geo.specs.declared.plane.Plane.{Plane}
 use Rattle.nef_geo.specs.declared.point.Point.{Point}
 use Rattle.nef_smap.specs.Maps.{map_of, IsLeastMap}
-use Rattle.nef_solid.specs.Complexes.{Vertex as PlainVertex, Edge as PlainEdge, Complex as PlainComplex, Corner as PlainCorner, Edges}
-use Rattle.nef_solid.specs.Shows.{Shows}
-use Rattle.nef_solid.specs.Skeleton.{PlaneMeet as PlainMeet, meets_vertex, meets_edge}
+use Rattle.law_complex.specs.Complexes.{Vertex as PlainVertex, Edge as PlainEdge, Complex as PlainComplex, Corner as PlainCorner, Edges}
+use Rattle.law_complex.specs.Shows.{Shows}
+use Rattle.law_complex.specs.Skeleton.{PlaneMeet as PlainMeet, meets_vertex, meets_edge}
 use Rattle.nef_complex.specs.declared.complex.Vertex.{Vertex}
 use Rattle.nef_complex.specs.declared.complex.Edge.{Edge}
 use Rattle.nef_complex.specs.declared.complex.Complex.{Complex}

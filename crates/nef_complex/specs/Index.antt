@@ -6,7 +6,7 @@ use Rattle.nef_space.specs.Place.{Form, form_at, form_numbers, normal_of}
 use Rattle.nef_space.specs.Vectors.{SameDirection}
 use Rattle.nef_geo.specs.Shapes.{place_of, form_of}
 use Rattle.nef_geo.specs.declared.plane.Plane.{Plane}
-use Rattle.nef_sphere.specs.Maps.{At, Item, items, item_normal}
+use Rattle.law_sphere.specs.Maps.{At, Item, items, item_normal}
 use Rattle.nef_smap.specs.Maps.{map_of}
 use Rattle.nef_complex.specs.declared.complex.Vertex.{Vertex}
 use Rattle.nef_complex.specs.declared.complex.Edge.{Edge}

@@ -5,7 +5,7 @@ use Rattle.nef_space.specs.Place.{Form}
 use Rattle.nef_space.specs.Vectors.{Vector, SameDirection}
 use Rattle.nef_geo.specs.Shapes.{form_of}
 use Rattle.nef_geo.specs.declared.plane.Plane.{Plane}
-use Rattle.nef_sphere.specs.Maps.{At, Map, Item, items, item_normal}
+use Rattle.law_sphere.specs.Maps.{At, Map, Item, items, item_normal}
 use Rattle.nef_complex.specs.declared.complex.Vertex.{Vertex}
 use Rattle.nef_complex.specs.declared.complex.Edge.{Edge}
 use Rattle.nef_complex.specs.declared.index.PlaneIndex.{PlaneIndex}

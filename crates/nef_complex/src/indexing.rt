@@ -4,7 +4,7 @@ ghost use Rattle.std.specs.Prelude.{◌≡◌, ◌<◌, ◌⊎◌, ℕ, length, 
 ghost use Rattle.nef_space.specs.Lists.{IsAt};
 ghost use Rattle.nef_space.specs.Vectors.{SameDirection};
 ghost use Rattle.nef_geo.specs.Shapes.{form_of, vector_of};
-ghost use Rattle.nef_sphere.specs.Maps.{At, Arc, Loop};
+ghost use Rattle.law_sphere.specs.Maps.{At, Arc, Loop};
 ghost use Rattle.nef_smap.specs.Maps.{map_of};
 ghost use Rattle.nef_complex.specs.Index.{HasItemIn, LiesOn, EdgeLiesIn, AreNumbersWith, IsIndexOf, AreHeld, AreInOrder, HaveEnds};
 ghost use Rattle.nef_complex.specs.Indexing.{HasNormal, AreFlags, HasOneMore};

@@ -2,7 +2,7 @@
 
 ghost use Rattle.std.specs.Prelude.{ℕ, IsNone, IfSome};
 ghost use Rattle.nef_geo.specs.Shapes.{place_of};
-ghost use Rattle.nef_solid.specs.Skeleton.{IsVertexPoint};
+ghost use Rattle.law_complex.specs.Skeleton.{IsVertexPoint};
 ghost use Rattle.nef_complex.specs.Complexes.{complex_of, AreSorted, AreBelow, AreAbove};
 
 use crate::complex::{Complex, Vertex};

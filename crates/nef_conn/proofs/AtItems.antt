@@ -2,20 +2,20 @@
 use Rattle.std.proofs.Common.{inl, inr}
 use Rattle.nef_space.specs.Place.{Place, toward, IsBetween}
 use Rattle.nef_space.specs.Sets.{Set}
-use Rattle.nef_near.proofs.Between.{between-inner}
-use Rattle.nef_near.proofs.Even.{joined-itself}
-use Rattle.nef_near.proofs.Rays.{same-place_sym}
-use Rattle.nef_sphere.specs.Maps.{Item}
-use Rattle.nef_sphere.proofs.Compare.{SameDirection-turned}
-use Rattle.nef_solid.specs.Complexes.{Vertex, Complex, Corner, IsCorner}
-use Rattle.nef_solid.specs.Shows.{Shows}
-use Rattle.nef_solid.specs.Skeleton.{IsFacetPoint}
-use Rattle.nef_solid.proofs.Ways.{between-way}
-use Rattle.nef_solid.proofs.FacetWays.{dim-same}
-use Rattle.nef_solid.proofs.FacetPoints.{facet-point}
-use Rattle.nef_solid.proofs.FacetNames.{facet-of}
-use Rattle.nef_links.specs.Components.{IsEvenAfter}
-use Rattle.nef_links.proofs.ItemPoints.{on_item-way}
+use Rattle.law_near.proofs.Between.{between-inner}
+use Rattle.law_near.proofs.Even.{joined-itself}
+use Rattle.law_near.proofs.Rays.{same-place_sym}
+use Rattle.law_sphere.specs.Maps.{Item}
+use Rattle.law_sphere.proofs.Compare.{SameDirection-turned}
+use Rattle.law_complex.specs.Complexes.{Vertex, Complex, Corner, IsCorner}
+use Rattle.law_complex.specs.Shows.{Shows}
+use Rattle.law_complex.specs.Skeleton.{IsFacetPoint}
+use Rattle.law_complex.proofs.Ways.{between-way}
+use Rattle.law_complex.proofs.FacetWays.{dim-same}
+use Rattle.law_complex.proofs.FacetPoints.{facet-point}
+use Rattle.law_complex.proofs.FacetNames.{facet-of}
+use Rattle.law_links.specs.Components.{IsEvenAfter}
+use Rattle.law_links.proofs.ItemPoints.{on_item-way}
 use Rattle.nef_conn.specs.Reach.{PointsReachItems}
 
 -- a point between the vertex and a facet point is a facet point

@@ -7,15 +7,15 @@ use Rattle.nef_space.specs.Place.{Place, Ratio, toward, IsBetween}
 use Rattle.nef_space.specs.Sets.{Set}
 use Rattle.nef_space.specs.Vectors.{Vector, vector, IsDirection}
 use Rattle.nef_space.specs.declared.label.Label.TheVariants.{Out}
-use Rattle.nef_near.specs.Laws.{Drop}
-use Rattle.nef_near.proofs.Alike.{flat-germ, FlatDim-one}
-use Rattle.nef_near.proofs.Between.{between-turned}
-use Rattle.nef_near.proofs.Edges.{even-until}
-use Rattle.nef_near.proofs.Even.{span-3}
-use Rattle.nef_near.proofs.Rays.{same-place_sym}
-use Rattle.nef_forms.proofs.Between.{toward-place}
-use Rattle.nef_solid.proofs.FacetWays.{dim-same}
-use Rattle.nef_links.specs.Components.{IsEvenAfter}
+use Rattle.law_near.specs.Laws.{Drop}
+use Rattle.law_near.proofs.Alike.{flat-germ, FlatDim-one}
+use Rattle.law_near.proofs.Between.{between-turned}
+use Rattle.law_near.proofs.Edges.{even-until}
+use Rattle.law_near.proofs.Even.{span-3}
+use Rattle.law_near.proofs.Rays.{same-place_sym}
+use Rattle.law_forms.proofs.Between.{toward-place}
+use Rattle.law_complex.proofs.FacetWays.{dim-same}
+use Rattle.law_links.specs.Components.{IsEvenAfter}
 
 -- where three directions are flat, all are
 pub all-flat : (s : Set) (p : Place) → FlatDim s p 3 → (d : Vector) → Flat s p d

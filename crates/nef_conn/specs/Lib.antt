@@ -1,1 +1,4 @@
 pub mod Reach
+pub mod Converse
+pub mod Slices
+pub mod Falls

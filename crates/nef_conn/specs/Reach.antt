@@ -2,10 +2,10 @@
 use Rattle.nef_space.specs.Place.{Place}
 use Rattle.nef_space.specs.Sets.{Set}
 use Rattle.nef_space.specs.Local.{FlatDim, Joined}
-use Rattle.nef_solid.specs.Complexes.{Complex, Corner}
-use Rattle.nef_solid.specs.Shows.{Shows}
-use Rattle.nef_solid.specs.Rays.{VertexSide}
-use Rattle.nef_links.specs.Components.{IsAtSide, IsAtItem}
+use Rattle.law_complex.specs.Complexes.{Complex, Corner}
+use Rattle.law_complex.specs.Shows.{Shows}
+use Rattle.law_complex.specs.Rays.{VertexSide}
+use Rattle.law_links.specs.Components.{IsAtSide, IsAtItem}
 
 -- each point with three flat directions is joined to a point at some side
 abbrev pub PointsReachSides : Type 0

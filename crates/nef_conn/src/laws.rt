@@ -1,10 +1,39 @@
-//! The laws of reach.
+//! The laws of components: points at items and sides, links, and joined points.
 
 ghost use Rattle.nef_conn.specs.Reach.{PointsReachSides, PointsReachItems};
+ghost use Rattle.nef_conn.specs.Converse.{ArcsGoOn, ItemsName, NamesAlong, ConverseBySteps, ThirdSides, JoinedItemsAreLinked};
+ghost use Rattle.nef_conn.specs.Falls.{RaysEnd, ConverseBySegments, ConverseByItems, JoinedSidesAreLinked};
 
 /// For a complex that shows a set, each point with three flat directions is joined to a point at some side, and each
 /// point with two to a point at some item. That is so of every point, outside the frame too.
 pub fn reach_laws()
     ensures sides { PointsReachSides }
     ensures items { PointsReachItems }
+{}
+
+/// An arc that ends at one end of an edge is linked along it with an arc at the other end. The facet beside each item
+/// has a point that is joined with all points at the item and names, by the ray inward, a corner of the item's class.
+/// Points along a ray within a facet name the same corners. If the ends of each segment within a facet name corners of
+/// one class, beside which no vertex lies but on the line of its start, items whose points are joined are linked. Where
+/// one side of a triangle lies within a facet, and one within it or on an edge, and no vertex in it, the third side lies
+/// within the facet. So items whose points are joined are linked.
+pub fn linked_laws()
+    ensures arcs { ArcsGoOn }
+    ensures names { ItemsName }
+    ensures along { NamesAlong }
+    ensures converse { ConverseBySteps }
+    ensures triangles { ThirdSides }
+    ensures facets { JoinedItemsAreLinked }
+{}
+
+/// From each point of the frame with three flat directions the ray down ends at a skeleton point, above which a side
+/// lies. If each side that isn't outside has a point that names a side of its class by the ray down, and the ends of
+/// each segment of points with three flat directions name sides of one class, sides whose points are joined are linked.
+/// All that is so where items whose points are joined are linked, as they are: so sides whose points are joined are
+/// linked.
+pub fn sides_laws()
+    ensures rays { RaysEnd }
+    ensures segments { ConverseBySegments }
+    ensures converse { ConverseByItems }
+    ensures sides { JoinedSidesAreLinked }
 {}

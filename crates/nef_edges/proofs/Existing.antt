@@ -2,18 +2,18 @@
 use Rattle.std.proofs.Common.{◌≡◌, ℕ, zero, suc, ◌<◌, pos, arith, refl, ap, sym, ◌∙◌, ◌⊎◌, inl, inr, ⊎_elim, List, [], ◌∷◌, ◌++◌, subst}
 use Rattle.std.proofs.lemmas.Bool.{cases_order}
 use Rattle.std.proofs.lemmas.Int.{ints}
-use Rattle.nef_exact.specs.Signs.{Lies}
-use Rattle.nef_exact.proofs.Lists.{each, lies-each, lies-left, lies-right}
+use Rattle.law_arithmetic.specs.Signs.{Lies}
+use Rattle.law_arithmetic.proofs.Lists.{each, lies-each, lies-left, lies-right}
 use Rattle.nef_space.specs.Place.{toward, IsAhead, IsBetween, IsPlaceBelow}
 use Rattle.nef_space.specs.Vectors.{SameDirection, IsOpposite}
 use Rattle.nef_space.specs.declared.label.Label.{Label}
-use Rattle.nef_near.proofs.Decided.{Decided, decided-lt}
-use Rattle.nef_sphere.specs.Maps.{At, Svertex, Shaped}
-use Rattle.nef_sphere.specs.Least.{InOrder}
-use Rattle.nef_sphere.proofs.Lists.{Found, search_list, at-one}
-use Rattle.nef_sphere.proofs.Places.{SameDirection-decided, IsOpposite-decided}
-use Rattle.nef_cones.proofs.Listing.{numbers, at-number, at-or, at-lies, lies-at, Collected, Sorted, collect, sort, chain-order}
-use Rattle.nef_solid.specs.Complexes.{Vertex, Edge, IsEdge, IsEdgeBelow, Edges}
+use Rattle.law_near.proofs.Decided.{Decided, decided-lt}
+use Rattle.law_sphere.specs.Maps.{At, Svertex, Shaped}
+use Rattle.law_sphere.specs.Least.{InOrder}
+use Rattle.law_sphere.proofs.Lists.{Found, search_list, at-one}
+use Rattle.law_sphere.proofs.Places.{SameDirection-decided, IsOpposite-decided}
+use Rattle.law_cones.proofs.Listing.{numbers, at-number, at-or, at-lies, lies-at, Collected, Sorted, collect, sort, chain-order}
+use Rattle.law_complex.specs.Complexes.{Vertex, Edge, IsEdge, IsEdgeBelow, Edges}
 use Rattle.nef_edges.specs.Pairs.{IsFrom}
 use Rattle.nef_edges.proofs.Rays.{ahead-normal, middle-between, opposites-same}
 

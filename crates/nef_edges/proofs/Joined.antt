@@ -5,10 +5,10 @@ use Rattle.nef_space.specs.Place.{IsPlaceBelow}
 use Rattle.nef_space.specs.Sets.{Set}
 use Rattle.nef_geo.specs.Shapes.{form_of}
 use Rattle.nef_geo.specs.declared.plane.Plane.{Plane}
-use Rattle.nef_sphere.specs.Maps.{At, Shaped}
-use Rattle.nef_sphere.specs.Least.{InOrder}
-use Rattle.nef_solid.specs.Complexes.{Vertex as PlainVertex, Edges}
-use Rattle.nef_solid.specs.Shows.{Shows}
+use Rattle.law_sphere.specs.Maps.{At, Shaped}
+use Rattle.law_sphere.specs.Least.{InOrder}
+use Rattle.law_complex.specs.Complexes.{Vertex as PlainVertex, Edges}
+use Rattle.law_complex.specs.Shows.{Shows}
 use Rattle.nef_complex.specs.declared.complex.Complex.{Complex}
 use Rattle.nef_complex.specs.declared.complex.Vertex.{Vertex}
 use Rattle.nef_complex.specs.declared.complex.Edge.{Edge}

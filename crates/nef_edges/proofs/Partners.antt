@@ -10,12 +10,12 @@ use Rattle.nef_space.specs.Vectors.{opposite, IsNormal, IsZero, cross, SameDirec
 use Rattle.nef_geo.specs.Shapes.{place_of, vector_of}
 use Rattle.nef_geo.specs.declared.dir.Dir.{Dir}
 use Rattle.nef_geo.proofs.Unique.{same_directions_equal}
-use Rattle.nef_sphere.specs.Maps.{At, Svertex}
-use Rattle.nef_sphere.proofs.Lists.{at-one}
-use Rattle.nef_sphere.proofs.Compare.{normals-not_opposite, way-self}
-use Rattle.nef_solid.specs.Complexes.{Vertex as PlainVertex, Edge as PlainEdge, Complex as PlainComplex, IsEdge}
-use Rattle.nef_solid.specs.Shows.{Shows}
-use Rattle.nef_solid.proofs.Joining.{svertex-edge}
+use Rattle.law_sphere.specs.Maps.{At, Svertex}
+use Rattle.law_sphere.proofs.Lists.{at-one}
+use Rattle.law_sphere.proofs.Compare.{normals-not_opposite, way-self}
+use Rattle.law_complex.specs.Complexes.{Vertex as PlainVertex, Edge as PlainEdge, Complex as PlainComplex, IsEdge}
+use Rattle.law_complex.specs.Shows.{Shows}
+use Rattle.law_complex.proofs.Joining.{svertex-edge}
 use Rattle.nef_smap.specs.declared.map.SVertex.{SVertex}
 use Rattle.nef_smap.specs.Maps.{svertex_of}
 use Rattle.nef_complex.specs.declared.complex.Vertex.{Vertex}

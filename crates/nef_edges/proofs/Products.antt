@@ -3,7 +3,7 @@ use Rattle.std.proofs.Common.{◌≡◌, ℕ, ◌≤◌, ℤ, ◌-ℤ◌, ◌*�
 use mir.Syntax.{w128}
 use Rattle.std.specs.Ordering.{int_cmp}
 use Rattle.nef_space.specs.Limits.{direction_limit, point_limit, weight_limit}
-use Rattle.nef_exact.proofs.Machine.{Code, load, wrap, run, ◌⊟◌, ◌⊠◌, Limited, fits_of, exact_of, size_of}
+use Rattle.law_arithmetic.proofs.Machine.{Code, load, wrap, run, ◌⊟◌, ◌⊠◌, Limited, fits_of, exact_of, size_of}
 use Rattle.nef_edges.specs.declared.half.Half.{Half}
 use Rattle.nef_edges.specs.Widths.{moment_limit}
 use Rattle.nef_edges.specs.Order.{ratio_order}

@@ -2,9 +2,9 @@
 use Rattle.std.specs.Prelude.{◌≡◌, ℕ, List, map}
 use Rattle.nef_space.specs.Place.{IsPlaceBelow}
 use Rattle.nef_space.specs.Vectors.{IsNormal}
-use Rattle.nef_sphere.specs.Maps.{At, Svertex, Shaped}
-use Rattle.nef_sphere.specs.Least.{InOrder}
-use Rattle.nef_solid.specs.Complexes.{Vertex as PlainVertex, Edge as PlainEdge, IsEdge, IsEdgeBelow}
+use Rattle.law_sphere.specs.Maps.{At, Svertex, Shaped}
+use Rattle.law_sphere.specs.Least.{InOrder}
+use Rattle.law_complex.specs.Complexes.{Vertex as PlainVertex, Edge as PlainEdge, IsEdge, IsEdgeBelow}
 use Rattle.nef_complex.specs.declared.complex.Vertex.{Vertex}
 use Rattle.nef_complex.specs.declared.complex.Edge.{Edge}
 use Rattle.nef_complex.specs.Complexes.{vertex_of, edge_of}

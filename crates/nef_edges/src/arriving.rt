@@ -2,7 +2,7 @@
 
 ghost use Rattle.std.specs.Prelude.{◌<◌, ◌+◌, ℕ, length, IfOk, OnOk};
 ghost use Rattle.std.specs.List.Sorted.{IsSortedBy};
-ghost use Rattle.nef_sphere.specs.Maps.{At};
+ghost use Rattle.law_sphere.specs.Maps.{At};
 ghost use Rattle.nef_edges.specs.declared.half.Half.{Half};
 ghost use Rattle.nef_edges.specs.Order.{half_lt};
 ghost use Rattle.nef_edges.specs.Halves.{IsBefore, AreArriving, IsAfter, NoneAfter, AllAfter, IsNext};

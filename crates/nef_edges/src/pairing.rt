@@ -3,7 +3,7 @@
 ghost use Rattle.std.specs.Prelude.{◌≡◌, ◌<◌, ◌+◌, ℕ, length, map, IfOk, OnOk};
 ghost use Rattle.std.specs.List.Sorted.{IsSortedBy};
 ghost use Rattle.nef_space.specs.Sets.{Set};
-ghost use Rattle.nef_solid.specs.Complexes.{Edges};
+ghost use Rattle.law_complex.specs.Complexes.{Edges};
 ghost use Rattle.nef_complex.specs.Complexes.{vertex_of, edge_of, AreVerticesOf, ShowsSet};
 ghost use Rattle.nef_edges.specs.Order.{half_lt};
 ghost use Rattle.nef_edges.specs.Halves.{IsBefore, AreArriving};

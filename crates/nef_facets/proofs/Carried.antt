@@ -3,8 +3,8 @@ use Rattle.std.proofs.Common.{◌≡◌, ℕ, pos, map, subst}
 use Rattle.nef_space.specs.Place.{Place, Form, form_at, normal_of}
 use Rattle.nef_space.specs.Sets.{Set}
 use Rattle.nef_space.specs.Vectors.{Vector, IsNormal, SameDirection}
-use Rattle.nef_sphere.specs.Maps.{At, Item, items, item_normal}
-use Rattle.nef_solid.specs.Complexes.{Corner as PlainCorner}
+use Rattle.law_sphere.specs.Maps.{At, Item, items, item_normal}
+use Rattle.law_complex.specs.Complexes.{Corner as PlainCorner}
 use Rattle.nef_complex.specs.declared.complex.Vertex.{Vertex}
 use Rattle.nef_complex.specs.declared.complex.Complex.{Complex}
 use Rattle.nef_complex.specs.Complexes.{vertex_of, complex_of}
@@ -13,7 +13,7 @@ use Rattle.nef_edges.proofs.Places.{at-map, map-at}
 use Rattle.nef_geo.specs.Shapes.{form_of, place_of}
 use Rattle.nef_smap.specs.Maps.{map_of}
 use Rattle.nef_facets.specs.Corners.{HasItem}
-use Rattle.nef_solid.specs.Shows.{Shows}
+use Rattle.law_complex.specs.Shows.{Shows}
 
 -- the plane holds the point and has the normal
 abbrev pub HoldsWith : Form → Place → Vector → Type 0

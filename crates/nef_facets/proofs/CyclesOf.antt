@@ -4,15 +4,15 @@ use Rattle.std.specs.Prelude.{IfOk}
 use Rattle.std.specs.List.{All}
 use Rattle.nef_space.specs.Lists.{IsAt, Chained}
 use Rattle.nef_space.specs.Sets.{Set}
-use Rattle.nef_sphere.specs.Maps.{At}
+use Rattle.law_sphere.specs.Maps.{At}
 use Rattle.nef_smap.proofs.Chains.{chain-here, chain-trans}
 use Rattle.nef_smap.proofs.ClassLists.{is-at_one, is-at_within, is-at_some, is-at_is}
 use Rattle.nef_edges.proofs.Places.{some-at, at-some, at-map, map-at}
-use Rattle.nef_solid.specs.Complexes.{Complex as PlainComplex, Corner as PlainCorner}
-use Rattle.nef_solid.specs.Shows.{Shows}
+use Rattle.law_complex.specs.Complexes.{Complex as PlainComplex, Corner as PlainCorner}
+use Rattle.law_complex.specs.Shows.{Shows}
 use Rattle.nef_complex.specs.declared.complex.Corner.{Corner}
 use Rattle.nef_complex.specs.Complexes.{corner_of}
-use Rattle.nef_links.specs.Links.{FacetLink}
+use Rattle.law_links.specs.Links.{FacetLink}
 use Rattle.nef_parts.specs.declared.parts.Cycle.{Cycle}
 use Rattle.nef_parts.specs.Cycles.{NextCorner, IsCornerBelow, StepsTo, IsCycle, IsCycleBelow, Cycles}
 use Rattle.nef_parts.specs.Numbers.{IsFacetOf, FacetNumbers, cycle_corners}

@@ -2,29 +2,29 @@
 use Rattle.std.proofs.Common.{◌≡◌, ℕ, pos, ◌<ℤ◌, ◌-ℤ◌, arith, sym, ◌⊎◌, inl, inr, ⊎_elim, subst, [], ◌∷◌}
 use Rattle.std.proofs.lemmas.Bool.{cases_order}
 use Rattle.std.proofs.lemmas.Int.{ints}
-use Rattle.nef_exact.proofs.Ring.{ring, at, num, ◌⊕◌, ◌⊖◌, ◌⊗◌}
-use Rattle.nef_exact.proofs.Order.{by_order}
+use Rattle.law_arithmetic.proofs.Ring.{ring, at, num, ◌⊕◌, ◌⊖◌, ◌⊗◌}
+use Rattle.law_arithmetic.proofs.Order.{by_order}
 use Rattle.nef_space.specs.Place.{Place, SamePlace, toward, IsBetween}
 use Rattle.nef_space.specs.Sets.{Set}
 use Rattle.nef_space.specs.Vectors.{Vector, opposite, dot, cross, IsZero, IsDirection, SameDirection, IsOpposite}
-use Rattle.nef_near.proofs.Decisions.{ahead}
-use Rattle.nef_near.proofs.Between.{between-turned}
-use Rattle.nef_near.proofs.PlaceOrder.{place_below-apart}
-use Rattle.nef_near.proofs.Rays.{same-place_sym}
-use Rattle.nef_forms.proofs.Between.{toward-place}
-use Rattle.nef_forms.proofs.Directions.{direction-left}
-use Rattle.nef_sphere.specs.Maps.{At, Svertex}
-use Rattle.nef_sphere.proofs.Vectors.{nought-if}
-use Rattle.nef_sphere.proofs.Lists.{at-one}
-use Rattle.nef_sphere.proofs.NearItems.{opposite-turned}
-use Rattle.nef_sphere.proofs.Compare.{SameDirection-turned, SameDirection-trans}
-use Rattle.nef_solid.specs.Complexes.{Vertex, Edge, Complex, HasEnds}
-use Rattle.nef_solid.specs.Shows.{Shows}
-use Rattle.nef_solid.proofs.FacetAngles.{aligned, cross-back}
-use Rattle.nef_solid.proofs.FacetEdges.{ahead-back}
+use Rattle.law_near.proofs.Decisions.{ahead}
+use Rattle.law_near.proofs.Between.{between-turned}
+use Rattle.law_near.proofs.PlaceOrder.{place_below-apart}
+use Rattle.law_near.proofs.Rays.{same-place_sym}
+use Rattle.law_forms.proofs.Between.{toward-place}
+use Rattle.law_forms.proofs.Directions.{direction-left}
+use Rattle.law_sphere.specs.Maps.{At, Svertex}
+use Rattle.law_sphere.proofs.Vectors.{nought-if}
+use Rattle.law_sphere.proofs.Lists.{at-one}
+use Rattle.law_sphere.proofs.NearItems.{opposite-turned}
+use Rattle.law_sphere.proofs.Compare.{SameDirection-turned, SameDirection-trans}
+use Rattle.law_complex.specs.Complexes.{Vertex, Edge, Complex, HasEnds}
+use Rattle.law_complex.specs.Shows.{Shows}
+use Rattle.law_complex.proofs.FacetAngles.{aligned, cross-back}
+use Rattle.law_complex.proofs.FacetEdges.{ahead-back}
 use Rattle.nef_edges.proofs.Rays.{opposites-same}
-use Rattle.nef_links.proofs.Ties.{IsTied, tied-turned}
-use Rattle.nef_links.proofs.EdgeEnds.{EdgeWays, edge-ways, ends-tied, opposite-way}
+use Rattle.law_links.proofs.Ties.{IsTied, tied-turned}
+use Rattle.law_links.proofs.EdgeEnds.{EdgeWays, edge-ways, ends-tied, opposite-way}
 use Rattle.nef_parts.specs.Cycles.{Leads}
 
 -- of two points ahead on one ray one lies before the other, or they are one

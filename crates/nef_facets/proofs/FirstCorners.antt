@@ -2,10 +2,10 @@
 use Rattle.std.proofs.Common.{◌≡◌, ◌≢◌, ℕ, ◌<◌, ◌≤◌, ◌+◌, List, [], ◌∷◌, ◌++◌, length, arith, sym, ◌∙◌, ⊎_elim, subst, length-append}
 use Rattle.std.proofs.lemmas.Bool.{cases_order}
 use Rattle.nef_space.specs.Lists.{IsAt}
-use Rattle.nef_sphere.specs.Maps.{items}
+use Rattle.law_sphere.specs.Maps.{items}
 use Rattle.nef_smap.proofs.ClassLists.{Either, earlier, last, is-at_either, is-at_one, is-at_within, is-at_some, less-or-last}
 use Rattle.nef_edges.proofs.Places.{some-at, at-within}
-use Rattle.nef_solid.specs.Complexes.{Complex, Corner as PlainCorner}
+use Rattle.law_complex.specs.Complexes.{Complex, Corner as PlainCorner}
 use Rattle.nef_complex.specs.declared.complex.Corner.{Corner}
 use Rattle.nef_complex.specs.Complexes.{corner_of}
 use Rattle.nef_parts.specs.Numbers.{IsFacetOf, FacetNumbers}

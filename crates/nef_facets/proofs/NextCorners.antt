@@ -1,44 +1,44 @@
 -- Each arc has a next corner, and no two corners have one next corner.
 use Rattle.std.proofs.Common.{◌≡◌, ℕ, ◌+◌, pos, ◌<ℤ◌, ◌+ℤ◌, ◌*ℤ◌, ℤ, neg_ℤ, arith, refl, ap, sym, ◌∙◌, inl, inr, ⊎_elim, [], ◌∷◌, subst}
 use Rattle.std.proofs.lemmas.Int.{ints}
-use Rattle.nef_exact.specs.Signs.{sign}
-use Rattle.nef_exact.proofs.Ring.{ring, at, num, neg, ◌⊕◌, ◌⊖◌, ◌⊗◌}
+use Rattle.law_arithmetic.specs.Signs.{sign}
+use Rattle.law_arithmetic.proofs.Ring.{ring, at, num, neg, ◌⊕◌, ◌⊖◌, ◌⊗◌}
 use Rattle.nef_space.specs.Lists.{Chained}
 use Rattle.nef_space.specs.Local.{Germ}
 use Rattle.nef_space.specs.Place.{Place, toward}
 use Rattle.nef_space.specs.Sets.{Set}
 use Rattle.nef_space.specs.Vectors.{Vector, opposite, blend, dot, cross, triple, IsDirection, SameDirection}
 use Rattle.nef_space.specs.declared.label.Label.{Label}
-use Rattle.nef_near.specs.Cells.{carriers}
-use Rattle.nef_near.specs.Laws.{SameGerms}
-use Rattle.nef_near.proofs.Alike.{FlatDim-by_germs}
-use Rattle.nef_near.proofs.Decisions.{ahead, near-ahead}
-use Rattle.nef_near.proofs.Even.{joined-germs}
-use Rattle.nef_near.proofs.FlatDecided.{triple-dot}
-use Rattle.nef_near.proofs.NearGerms.{steep}
-use Rattle.nef_near.proofs.Supports.{square-cross}
-use Rattle.nef_forms.proofs.Directions.{self-pos, dot-comm, direction-right}
-use Rattle.nef_sphere.specs.Forms.{forms}
-use Rattle.nef_sphere.specs.Maps.{At, Arc, Loop, Item, arc_item, loop_item, items, item_normal, Map, OnItem, NearLabel, Valid}
-use Rattle.nef_sphere.proofs.Vectors.{normal-is, dot-comb, same-plus, same-minus, nought-if}
-use Rattle.nef_sphere.proofs.Generic.{amount, far-keeps}
-use Rattle.nef_sphere.proofs.Lists.{at-one}
-use Rattle.nef_sphere.proofs.Shot.{arc-at}
-use Rattle.nef_sphere.proofs.Around.{direction-around}
-use Rattle.nef_sphere.proofs.Compare.{SameDirection-turned, SameDirection-trans, way-self}
-use Rattle.nef_sphere.proofs.Turn.{turn-same}
-use Rattle.nef_sphere.proofs.Arcs.{at-arc}
-use Rattle.nef_solid.specs.Complexes.{Vertex, Complex, Corner, IsCorner}
-use Rattle.nef_solid.specs.Shows.{Shows}
-use Rattle.nef_solid.proofs.Cones.{near-label}
-use Rattle.nef_solid.proofs.FacetSides.{level-way, flats-carried}
-use Rattle.nef_solid.proofs.FacetCorners.{ItemAt, item-at}
-use Rattle.nef_solid.proofs.FacetPoints.{IsInFacetOf}
-use Rattle.nef_solid.proofs.FacetArcs.{target-met}
-use Rattle.nef_links.specs.Links.{FacetLink}
-use Rattle.nef_links.proofs.NearVertex.{facet-near}
-use Rattle.nef_links.proofs.Ties.{IsTied, tied-turned, tied-both, tied-ahead}
-use Rattle.nef_links.proofs.EdgeEnds.{end-level, close_way, on-close, tied-close_way, tied-turn, corner_of, opposite-way, dot-opposite}
+use Rattle.law_near.specs.Cells.{carriers}
+use Rattle.law_near.specs.Laws.{SameGerms}
+use Rattle.law_near.proofs.Alike.{FlatDim-by_germs}
+use Rattle.law_near.proofs.Decisions.{ahead, near-ahead}
+use Rattle.law_near.proofs.Even.{joined-germs}
+use Rattle.law_near.proofs.FlatDecided.{triple-dot}
+use Rattle.law_near.proofs.NearGerms.{steep}
+use Rattle.law_near.proofs.Supports.{square-cross}
+use Rattle.law_forms.proofs.Directions.{self-pos, dot-comm, direction-right}
+use Rattle.law_sphere.specs.Forms.{forms}
+use Rattle.law_sphere.specs.Maps.{At, Arc, Loop, Item, arc_item, loop_item, items, item_normal, Map, OnItem, NearLabel, Valid}
+use Rattle.law_sphere.proofs.Vectors.{normal-is, dot-comb, same-plus, same-minus, nought-if}
+use Rattle.law_sphere.proofs.Generic.{amount, far-keeps}
+use Rattle.law_sphere.proofs.Lists.{at-one}
+use Rattle.law_sphere.proofs.Shot.{arc-at}
+use Rattle.law_sphere.proofs.Around.{direction-around}
+use Rattle.law_sphere.proofs.Compare.{SameDirection-turned, SameDirection-trans, way-self}
+use Rattle.law_sphere.proofs.Turn.{turn-same}
+use Rattle.law_sphere.proofs.Arcs.{at-arc}
+use Rattle.law_complex.specs.Complexes.{Vertex, Complex, Corner, IsCorner}
+use Rattle.law_complex.specs.Shows.{Shows}
+use Rattle.law_complex.proofs.Cones.{near-label}
+use Rattle.law_complex.proofs.FacetSides.{level-way, flats-carried}
+use Rattle.law_complex.proofs.FacetCorners.{ItemAt, item-at}
+use Rattle.law_complex.proofs.FacetPoints.{IsInFacetOf}
+use Rattle.law_complex.proofs.FacetArcs.{target-met}
+use Rattle.law_links.specs.Links.{FacetLink}
+use Rattle.law_links.proofs.NearVertex.{facet-near}
+use Rattle.law_links.proofs.Ties.{IsTied, tied-turned, tied-both, tied-ahead}
+use Rattle.law_links.proofs.EdgeEnds.{end-level, close_way, on-close, tied-close_way, tied-turn, corner_of, opposite-way, dot-opposite}
 use Rattle.nef_smap.proofs.Chains.{chain-link, chain-turned}
 use Rattle.nef_parts.specs.Cycles.{IsNextArc, NextCorner}
 use Rattle.nef_facets.proofs.EdgeViews.{EdgeFrom, edge-from, one-vertex, one-svertex}

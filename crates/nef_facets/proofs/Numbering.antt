@@ -6,8 +6,8 @@ use Rattle.nef_space.specs.Lists.{IsAt, Chained}
 use Rattle.nef_smap.proofs.Chains.{chain-link, chain-map}
 use Rattle.nef_smap.proofs.ClassLists.{is-at_left}
 use Rattle.nef_edges.proofs.Places.{at-some, at-map}
-use Rattle.nef_solid.specs.Complexes.{Complex, Corner}
-use Rattle.nef_links.specs.Links.{LinkAlong, LinkAcross, FacetLink}
+use Rattle.law_complex.specs.Complexes.{Complex, Corner}
+use Rattle.law_links.specs.Links.{LinkAlong, LinkAcross, FacetLink}
 use Rattle.nef_parts.specs.Numbers.{count_items, FacetNumbers}
 use Rattle.nef_classes.specs.declared.table.Spot.{Spot}
 use Rattle.nef_classes.specs.declared.table.Tie.{Tie}

@@ -6,7 +6,7 @@ use Rattle.nef_space.specs.Lists.{IsAt}
 use Rattle.nef_smap.proofs.ClassLists.{is-at_one}
 use Rattle.nef_complex.specs.declared.complex.Corner.{Corner}
 use Rattle.nef_complex.specs.Complexes.{corner_of}
-use Rattle.nef_solid.specs.Complexes.{Corner as PlainCorner}
+use Rattle.law_complex.specs.Complexes.{Corner as PlainCorner}
 use Rattle.nef_parts.specs.Cycles.{IsCornerBelow}
 use Rattle.nef_facets.specs.Corners.{AreInOrder}
 

@@ -6,8 +6,8 @@ use Rattle.nef_space.specs.declared.label.Label.{Label}
 use Rattle.nef_geo.specs.Shapes.{form_of}
 use Rattle.nef_geo.specs.declared.plane.Plane.{Plane}
 use Rattle.nef_smap.proofs.ClassLists.{is-at_within, is-at_some}
-use Rattle.nef_solid.specs.Complexes.{Complex}
-use Rattle.nef_solid.specs.Shows.{Shows}
+use Rattle.law_complex.specs.Complexes.{Complex}
+use Rattle.law_complex.specs.Shows.{Shows}
 use Rattle.nef_complex.specs.declared.complex.Corner.{Corner}
 use Rattle.nef_complex.specs.Complexes.{corner_of}
 use Rattle.nef_parts.specs.Cycles.{Cycles}

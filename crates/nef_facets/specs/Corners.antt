@@ -1,8 +1,8 @@
 -- Lists of corners.
 use Rattle.std.specs.Prelude.{ℕ, zero, suc, ◌<◌, List, [], ◌∷◌, ◌++◌}
 use Rattle.nef_space.specs.Lists.{IsAt}
-use Rattle.nef_sphere.specs.Maps.{Item}
-use Rattle.nef_solid.specs.Complexes.{Vertex, Complex, Corner as PlainCorner, IsCorner}
+use Rattle.law_sphere.specs.Maps.{Item}
+use Rattle.law_complex.specs.Complexes.{Vertex, Complex, Corner as PlainCorner, IsCorner}
 use Rattle.nef_complex.specs.declared.complex.Corner.{Corner}
 use Rattle.nef_complex.specs.Complexes.{corner_of}
 use Rattle.nef_parts.specs.Cycles.{IsCornerBelow}

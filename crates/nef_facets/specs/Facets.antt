@@ -6,8 +6,8 @@ use Rattle.nef_space.specs.Vectors.{Vector, SameDirection}
 use Rattle.nef_space.specs.declared.label.Label.{Label}
 use Rattle.nef_geo.specs.Shapes.{form_of}
 use Rattle.nef_geo.specs.declared.plane.Plane.{Plane}
-use Rattle.nef_sphere.specs.Maps.{Item, item_normal, item_mark}
-use Rattle.nef_solid.specs.Complexes.{Vertex, Complex, Corner, IsCorner}
+use Rattle.law_sphere.specs.Maps.{Item, item_normal, item_mark}
+use Rattle.law_complex.specs.Complexes.{Vertex, Complex, Corner, IsCorner}
 use Rattle.nef_complex.specs.declared.complex.Corner.{Corner as CornerValue}
 use Rattle.nef_complex.specs.Complexes.{corner_of}
 use Rattle.nef_parts.specs.Cycles.{Cycles}

@@ -2,8 +2,8 @@
 use Rattle.std.specs.Prelude.{◌≡◌, ℕ, ◌<◌, List, length}
 use Rattle.nef_space.specs.Lists.{IsAt}
 use Rattle.nef_space.specs.Vectors.{Vector, SameDirection}
-use Rattle.nef_sphere.specs.Maps.{At, Arc, Map}
-use Rattle.nef_solid.specs.Complexes.{Vertex, Complex, Corner as PlainCorner}
+use Rattle.law_sphere.specs.Maps.{At, Arc, Map}
+use Rattle.law_complex.specs.Complexes.{Vertex, Complex, Corner as PlainCorner}
 use Rattle.nef_complex.specs.declared.complex.Corner.{Corner}
 use Rattle.nef_complex.specs.Complexes.{corner_of}
 use Rattle.nef_parts.specs.Cycles.{NextCorner}

@@ -1,7 +1,7 @@
 //! The first corner of each facet.
 
 ghost use Rattle.std.specs.Prelude.{ℕ, IfOk};
-ghost use Rattle.nef_solid.specs.Complexes.{Complex as PlainComplex};
+ghost use Rattle.law_complex.specs.Complexes.{Complex as PlainComplex};
 ghost use Rattle.nef_complex.specs.Complexes.{corner_of};
 ghost use Rattle.nef_parts.specs.Numbers.{IsFacetOf, FacetNumbers};
 ghost use Rattle.nef_facets.specs.Corners.{AreCorners};

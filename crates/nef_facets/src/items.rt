@@ -1,7 +1,7 @@
 //! Arcs and the sloop of a map by their numbers.
 
 ghost use Rattle.std.specs.Prelude.{◌≡◌, ◌<◌, length};
-ghost use Rattle.nef_sphere.specs.Maps.{At, Item, items, item_normal, item_mark};
+ghost use Rattle.law_sphere.specs.Maps.{At, Item, items, item_normal, item_mark};
 ghost use Rattle.nef_geo.specs.Shapes.{vector_of};
 ghost use Rattle.nef_smap.specs.Maps.{map_of};
 

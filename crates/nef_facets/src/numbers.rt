@@ -2,9 +2,9 @@
 
 ghost use Rattle.std.specs.Prelude.{◌≡◌, ◌↔◌, map, IfOk};
 ghost use Rattle.nef_space.specs.Sets.{Set};
-ghost use Rattle.nef_solid.specs.Complexes.{Corner as PlainCorner};
+ghost use Rattle.law_complex.specs.Complexes.{Corner as PlainCorner};
 ghost use Rattle.nef_complex.specs.Complexes.{complex_of, ShowsSet};
-ghost use Rattle.nef_links.specs.Links.{FacetLink};
+ghost use Rattle.law_links.specs.Links.{FacetLink};
 ghost use Rattle.nef_parts.specs.Numbers.{count_items, FacetNumbers};
 ghost use Rattle.nef_classes.specs.Tables.{AreTied, AreTiedWithin};
 ghost use Rattle.nef_ties.specs.Ties.{spot_of};

@@ -1,8 +1,8 @@
 -- The map of a corner shows the set there.
 use Rattle.std.proofs.Common.{◌≡◌, neg_ℤ, arith, refl, sym, ◌∙◌, ap, ◌⊎◌, inl, inr, Bool, true, false, subst}
 use Rattle.std.proofs.lemmas.Int.{ints}
-use Rattle.nef_exact.specs.Signs.{Sign, minus, nought, plus, sign}
-use Rattle.nef_exact.proofs.Order.{sign-neg, sign_turned}
+use Rattle.law_arithmetic.specs.Signs.{Sign, minus, nought, plus, sign}
+use Rattle.law_arithmetic.proofs.Order.{sign-neg, sign_turned}
 use Rattle.nef_space.specs.Place.{Place, slope}
 use Rattle.nef_space.specs.Vectors.{Vector, dot}
 use Rattle.nef_space.specs.Sets.{Set}
@@ -10,9 +10,9 @@ use Rattle.nef_space.specs.Local.{HasLabel, Germ}
 use Rattle.nef_space.specs.declared.label.Label.{Label}
 use Rattle.nef_space.specs.declared.label.Label.TheVariants.{Out, Not, In}
 use Rattle.nef_geo.specs.Shapes.{place_of}
-use Rattle.nef_near.specs.Cells.{sign_at}
-use Rattle.nef_near.proofs.Frames.{frame-minus}
-use Rattle.nef_sphere.specs.Least.{Cone}
+use Rattle.law_near.specs.Cells.{sign_at}
+use Rattle.law_near.proofs.Frames.{frame-minus}
+use Rattle.law_sphere.specs.Least.{Cone}
 use Rattle.nef_star.specs.Ops.{op_label}
 use Rattle.nef_star.specs.declared.op.Op.TheVariants.{And}
 use Rattle.nef_smap.specs.Maps.{map_of}

@@ -1,7 +1,7 @@
 -- The maps at the sides and the corners of the frame, from what their makers promise.
 use Rattle.std.proofs.Common.{◌≡◌, ℕ, zero, suc, ◌+◌, ◌-◌, ◌<◌, ℤ, pos, ◌*ℤ◌, ◌<ℤ◌, arith, refl, sym, ◌∙◌, ap, ◌↔◌, Bool, true, false, List, [], ◌∷◌, ◌++◌, map, take, Some, w64, to_z, of_z}
 use Rattle.std.proofs.lemmas.Int.{ints}
-use Rattle.nef_exact.specs.Signs.{sign}
+use Rattle.law_arithmetic.specs.Signs.{sign}
 use Rattle.nef_space.specs.Lists.{IsAt}
 use Rattle.nef_space.specs.Place.{Form, SamePlace}
 use Rattle.nef_space.specs.Vectors.{Vector, dot, IsDirection}
@@ -11,9 +11,9 @@ use Rattle.nef_geo.specs.Shapes.{place_at, place_of, form_of}
 use Rattle.nef_geo.specs.Reading.{side_forms}
 use Rattle.nef_geo.specs.declared.plane.Plane.{Plane}
 use Rattle.nef_geo.specs.declared.point.Point.{Point}
-use Rattle.nef_sphere.specs.Labelling.{ByOp}
-use Rattle.nef_sphere.specs.Least.{by_side}
-use Rattle.nef_sphere.specs.Maps.{MapLabel}
+use Rattle.law_sphere.specs.Labelling.{ByOp}
+use Rattle.law_sphere.specs.Least.{by_side}
+use Rattle.law_sphere.specs.Maps.{MapLabel}
 use Rattle.nef_star.specs.Ops.{op_label}
 use Rattle.nef_star.specs.declared.op.Op.TheVariants.{And}
 use Rattle.nef_smap.specs.Maps.{map_of, IsSphereMap, IsLeastMap}

@@ -1,16 +1,16 @@
 -- The corners in order, and the planes of the frame in order.
 use Rattle.std.proofs.Common.{◌≡◌, ℕ, zero, suc, ℤ, pos, ◌*ℤ◌, ◌<ℤ◌, arith, refl, ◌⊎◌, inl, inr, Bool, true, false, subst, List, [], ◌∷◌, ◌++◌, Some, None}
 use Rattle.std.proofs.lemmas.Int.{ints}
-use Rattle.nef_exact.proofs.Ring.{ring, at, num, ◌⊖◌, ◌⊗◌}
-use Rattle.nef_exact.proofs.Order.{lt_by, mul_pos}
+use Rattle.law_arithmetic.proofs.Ring.{ring, at, num, ◌⊖◌, ◌⊗◌}
+use Rattle.law_arithmetic.proofs.Order.{lt_by, mul_pos}
 use Rattle.nef_space.specs.Lists.{IsAt}
 use Rattle.nef_space.specs.Limits.{half_side}
 use Rattle.nef_space.specs.Numbers.{IsBelow}
 use Rattle.nef_space.specs.Place.{Place, form_numbers, IsPlaceBelow, SamePlace}
 use Rattle.nef_space.specs.declared.label.Label.{Label}
 use Rattle.nef_geo.specs.Shapes.{place_of}
-use Rattle.nef_sphere.specs.Maps.{At}
-use Rattle.nef_sphere.specs.Least.{InOrder}
+use Rattle.law_sphere.specs.Maps.{At}
+use Rattle.law_sphere.specs.Least.{InOrder}
 use Rattle.nef_complex.specs.Complexes.{AreSorted}
 use Rattle.nef_complex.specs.declared.complex.Vertex.{Vertex}
 use Rattle.nef_frame.specs.Planes.{sorted_sides}

@@ -1,8 +1,8 @@
 -- The corners are the vertices of a set that holds all of the frame or nothing of it.
 use Rattle.std.proofs.Common.{◌≡◌, ℕ, zero, suc, pos, neg_ℤ, arith, refl, Bool, true, false, subst, List, map}
 use Rattle.std.proofs.lemmas.Int.{ints}
-use Rattle.nef_exact.specs.Signs.{Lies}
-use Rattle.nef_exact.proofs.Lists.{lies-left}
+use Rattle.law_arithmetic.specs.Signs.{Lies}
+use Rattle.law_arithmetic.proofs.Lists.{lies-left}
 use Rattle.nef_space.specs.Place.{Place, Form, form, SamePlace, IsPlaceBelow}
 use Rattle.nef_space.specs.Limits.{half_side}
 use Rattle.nef_space.specs.Sets.{Set, halves}
@@ -11,12 +11,12 @@ use Rattle.nef_space.specs.declared.label.Label.{Label}
 use Rattle.nef_space.specs.declared.label.Label.TheVariants.{Out, Not, In}
 use Rattle.nef_geo.specs.Shapes.{place_of, form_of}
 use Rattle.nef_geo.specs.declared.plane.Plane.{Plane}
-use Rattle.nef_near.specs.Cells.{frame, carriers}
-use Rattle.nef_sphere.specs.Maps.{At}
-use Rattle.nef_sphere.specs.Least.{Cone, Least, Ordered, InOrder}
+use Rattle.law_near.specs.Cells.{frame, carriers}
+use Rattle.law_sphere.specs.Maps.{At}
+use Rattle.law_sphere.specs.Least.{Cone, Least, Ordered, InOrder}
 use Rattle.nef_edges.proofs.Places.{at-some, map-at, at-map}
-use Rattle.nef_solid.specs.Complexes.{Vertex as PlainVertex, Edge as PlainEdge, Edges}
-use Rattle.nef_solid.specs.Shows.{SamePlane, Carriers, Shows}
+use Rattle.law_complex.specs.Complexes.{Vertex as PlainVertex, Edge as PlainEdge, Edges}
+use Rattle.law_complex.specs.Shows.{SamePlane, Carriers, Shows}
 use Rattle.nef_complex.specs.Complexes.{vertex_of, AreVerticesOf}
 use Rattle.nef_complex.specs.declared.complex.Vertex.{Vertex}
 use Rattle.nef_frame.specs.Ends.{Ends, ends, all_ends, IsCornerOf, AreCorners}

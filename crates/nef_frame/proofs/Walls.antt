@@ -1,19 +1,19 @@
 -- The sides of the frame by their axis and end, and the germs of a set that holds all of the frame or nothing of it.
 use Rattle.std.proofs.Common.{◌≡◌, pos, negsuc, arith, refl, sym, ◌∙◌, ◌⊎◌, inl, inr, Bool, true, false}
 use Rattle.std.proofs.lemmas.Int.{ints}
-use Rattle.nef_exact.specs.Signs.{Sign, minus, nought, sign, Lies}
-use Rattle.nef_exact.proofs.Lists.{lies-left}
+use Rattle.law_arithmetic.specs.Signs.{Sign, minus, nought, sign, Lies}
+use Rattle.law_arithmetic.proofs.Lists.{lies-left}
 use Rattle.nef_space.specs.Place.{Place, Form, slope, step, InFrame}
 use Rattle.nef_space.specs.Vectors.{Vector}
 use Rattle.nef_space.specs.Sets.{Set, halves, Holds}
 use Rattle.nef_space.specs.Local.{HasLabel, Germ}
 use Rattle.nef_space.specs.declared.label.Label.{Label}
 use Rattle.nef_space.specs.declared.label.Label.TheVariants.{Out, Not, In}
-use Rattle.nef_forms.proofs.Near.{reach_all, step-within}
-use Rattle.nef_near.specs.Cells.{sign_at, side, frame, carriers}
-use Rattle.nef_near.proofs.Cells.{keeps-all, coordinate-in}
-use Rattle.nef_near.proofs.Frames.{frame-minus}
-use Rattle.nef_near.proofs.Germs.{Germ-from_sample, sample, sample-short, sign-along}
+use Rattle.law_forms.proofs.Near.{reach_all, step-within}
+use Rattle.law_near.specs.Cells.{sign_at, side, frame, carriers}
+use Rattle.law_near.proofs.Cells.{keeps-all, coordinate-in}
+use Rattle.law_near.proofs.Frames.{frame-minus}
+use Rattle.law_near.proofs.Germs.{Germ-from_sample, sample, sample-short, sign-along}
 
 pub data Axis : Type 0 where
   on_x : Axis

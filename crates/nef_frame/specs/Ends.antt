@@ -1,14 +1,14 @@
 -- The corners of the frame by the ends of its axes, and what the program's maps and vertices there say.
 use Rattle.std.specs.Prelude.{◌≡◌, pos, ℤ, neg_ℤ, ◌*ℤ◌, List, [], ◌∷◌, Bool, true, false}
-use Rattle.nef_exact.specs.Signs.{Sign, sign}
+use Rattle.law_arithmetic.specs.Signs.{Sign, sign}
 use Rattle.nef_space.specs.Limits.{half_side}
 use Rattle.nef_space.specs.Place.{Place}
 use Rattle.nef_space.specs.Vectors.{Vector, vector, dot, IsDirection}
 use Rattle.nef_space.specs.declared.label.Label.{Label}
 use Rattle.nef_space.specs.declared.label.Label.TheVariants.{Out}
 use Rattle.nef_geo.specs.Shapes.{place_of}
-use Rattle.nef_sphere.specs.Least.{by_side}
-use Rattle.nef_sphere.specs.Maps.{MapLabel}
+use Rattle.law_sphere.specs.Least.{by_side}
+use Rattle.law_sphere.specs.Maps.{MapLabel}
 use Rattle.nef_star.specs.Ops.{op_label}
 use Rattle.nef_star.specs.declared.op.Op.TheVariants.{And}
 use Rattle.nef_smap.specs.Maps.{map_of, IsSphereMap, IsLeastMap}

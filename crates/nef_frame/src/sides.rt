@@ -1,7 +1,7 @@
 //! The planes of the frame, and their maps.
 
 ghost use Rattle.std.specs.Prelude.{◌≡◌, IfOk, map};
-ghost use Rattle.nef_exact.specs.Signs.{Lies};
+ghost use Rattle.law_arithmetic.specs.Signs.{Lies};
 ghost use Rattle.nef_space.specs.Vectors.{vector};
 ghost use Rattle.nef_geo.specs.Shapes.{vector_of, form_of};
 ghost use Rattle.nef_frame.specs.Ends.{axes, IsWall};

@@ -4,7 +4,7 @@ use Rattle.std.proofs.lemmas.Int.{ints, to_z-of_z}
 use mir.Syntax.{w128}
 use Rattle.nef_geo.specs.declared.sign.Sign.{Sign}
 use Rattle.nef_space.specs.Place.{Place, Form, form_at}
-use Rattle.nef_exact.proofs.Ring.{at, ◌⊕◌, ◌⊗◌, ring}
+use Rattle.law_arithmetic.proofs.Ring.{at, ◌⊕◌, ◌⊗◌, ring}
 use Rattle.nef_geo.specs.declared.plane.Oriented.{Oriented}
 use Rattle.nef_geo.specs.declared.sign.Sign.TheVariants.{Minus, Plus}
 use Rattle.nef_geo.specs.Reading.{IsPositiveMultiple}

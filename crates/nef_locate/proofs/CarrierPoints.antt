@@ -1,9 +1,9 @@
 -- Skeleton points lie on carriers, which no upright direction lies in; points of the closed frame where all directions are flat lie in the frame.
 use Rattle.std.proofs.Common.{◌≡◌, ℕ, ◌+◌, ◌*◌, ◌<◌, ◌≤◌, ℤ, pos, neg_ℤ, ◌+ℤ◌, ◌*ℤ◌, ◌-ℤ◌, ◌<ℤ◌, nat_abs, arith, sym, inl, inr, ⊎_elim, [], ◌∷◌, subst}
 use Rattle.std.proofs.lemmas.Int.{ints}
-use Rattle.nef_exact.specs.Signs.{nought, Lies}
-use Rattle.nef_exact.proofs.Order.{nought-is, mul_pos, mul_nonneg}
-use Rattle.nef_exact.proofs.Ring.{ring, at, num, neg, ◌⊕◌, ◌⊖◌, ◌⊗◌}
+use Rattle.law_arithmetic.specs.Signs.{nought, Lies}
+use Rattle.law_arithmetic.proofs.Order.{nought-is, mul_pos, mul_nonneg}
+use Rattle.law_arithmetic.proofs.Ring.{ring, at, num, neg, ◌⊕◌, ◌⊖◌, ◌⊗◌}
 use Rattle.nef_space.specs.Limits.{half_side}
 use Rattle.nef_space.specs.Local.{FlatDim}
 use Rattle.nef_space.specs.declared.label.Label.TheVariants.{Out}
@@ -13,19 +13,19 @@ use Rattle.nef_space.specs.Vectors.{Vector, vector}
 use Rattle.nef_geo.specs.Hits.{IsUpright, IsCrossing}
 use Rattle.nef_geo.specs.Shapes.{form_of}
 use Rattle.nef_geo.specs.declared.plane.Plane.{Plane}
-use Rattle.nef_near.specs.Cells.{carriers, sign_at}
-use Rattle.nef_near.proofs.Alike.{flat-germ}
-use Rattle.nef_near.proofs.Decided.{InFrame-decided}
-use Rattle.nef_near.proofs.Even.{span-3}
-use Rattle.nef_near.proofs.Meets.{vertex-meets}
-use Rattle.nef_near.proofs.Supports.{edge-support, facet-support}
-use Rattle.nef_sphere.specs.Maps.{At}
+use Rattle.law_near.specs.Cells.{carriers, sign_at}
+use Rattle.law_near.proofs.Alike.{flat-germ}
+use Rattle.law_near.proofs.Decided.{InFrame-decided}
+use Rattle.law_near.proofs.Even.{span-3}
+use Rattle.law_near.proofs.Meets.{vertex-meets}
+use Rattle.law_near.proofs.Supports.{edge-support, facet-support}
+use Rattle.law_sphere.specs.Maps.{At}
 use Rattle.nef_smap.proofs.Lists.{at-map}
-use Rattle.nef_solid.specs.Shows.{SamePlane}
-use Rattle.nef_solid.specs.Skeleton.{at_vertex, on_edge, in_facet, IsSkeletonPoint}
-use Rattle.nef_solid.proofs.Planes.{plane-turned, plane-point, plane-slope}
-use Rattle.nef_solid.proofs.FacetWays.{dim-same}
-use Rattle.nef_solid.proofs.Edges.{edge-points}
+use Rattle.law_complex.specs.Shows.{SamePlane}
+use Rattle.law_complex.specs.Skeleton.{at_vertex, on_edge, in_facet, IsSkeletonPoint}
+use Rattle.law_complex.proofs.Planes.{plane-turned, plane-point, plane-slope}
+use Rattle.law_complex.proofs.FacetWays.{dim-same}
+use Rattle.law_complex.proofs.Edges.{edge-points}
 use Rattle.nef_complex.specs.declared.complex.Complex.{Complex}
 use Rattle.nef_complex.specs.Complexes.{complex_of, ShowsSet}
 use Rattle.nef_plane.proofs.Spanned.{plane-upright}

@@ -1,30 +1,30 @@
 -- The labels and the germs of a point by its place.
 use Rattle.std.proofs.Common.{◌≡◌, pos, ap, sym, subst, ◌∙◌}
-use Rattle.nef_exact.specs.Signs.{sign}
+use Rattle.law_arithmetic.specs.Signs.{sign}
 use Rattle.nef_space.specs.Local.{HasLabel, Germ, FlatDim}
 use Rattle.nef_space.specs.Place.{Place, SamePlace, toward}
 use Rattle.nef_space.specs.Sets.{Set}
 use Rattle.nef_space.specs.Vectors.{Vector, IsDirection, dot, plane_axis}
 use Rattle.nef_space.specs.declared.label.Label.{Label}
-use Rattle.nef_near.specs.Cells.{carriers}
-use Rattle.nef_near.proofs.Germs.{Label-cells}
-use Rattle.nef_near.proofs.Rays.{signs-same}
-use Rattle.nef_near.proofs.Alike.{germs-by_cell, flat-germ}
-use Rattle.nef_near.proofs.Even.{span-3}
+use Rattle.law_near.specs.Cells.{carriers}
+use Rattle.law_near.proofs.Germs.{Label-cells}
+use Rattle.law_near.proofs.Rays.{signs-same}
+use Rattle.law_near.proofs.Alike.{germs-by_cell, flat-germ}
+use Rattle.law_near.proofs.Even.{span-3}
 use Rattle.nef_locate.specs.Places.{IsPlaneOf}
-use Rattle.nef_sphere.specs.Maps.{Loop, Item, item_normal, item_above, item_mark, item_below, Map, MapLabel, Valid}
-use Rattle.nef_sphere.specs.Least.{by_side, Cone}
-use Rattle.nef_sphere.proofs.Vectors.{normal-direction}
-use Rattle.nef_sphere.proofs.Forms.{on-level}
-use Rattle.nef_solid.specs.Complexes.{Vertex, Complex, Corner, IsCorner}
-use Rattle.nef_solid.specs.Shows.{Shows}
-use Rattle.nef_solid.specs.Skeleton.{item_plane, HasCorner}
-use Rattle.nef_solid.proofs.FacetWays.{meets-on}
-use Rattle.nef_solid.proofs.FacetAngles.{through-at}
-use Rattle.nef_solid.proofs.FacetPoints.{facet-point}
-use Rattle.nef_solid.proofs.Skeletons.{FacetAt}
-use Rattle.nef_solid.proofs.FacetEnds.{facet-from_behind}
-use Rattle.nef_solid.proofs.FacetNames.{weight, normal-scaled, through-level, axis-in}
+use Rattle.law_sphere.specs.Maps.{Loop, Item, item_normal, item_above, item_mark, item_below, Map, MapLabel, Valid}
+use Rattle.law_sphere.specs.Least.{by_side, Cone}
+use Rattle.law_sphere.proofs.Vectors.{normal-direction}
+use Rattle.law_sphere.proofs.Forms.{on-level}
+use Rattle.law_complex.specs.Complexes.{Vertex, Complex, Corner, IsCorner}
+use Rattle.law_complex.specs.Shows.{Shows}
+use Rattle.law_complex.specs.Skeleton.{item_plane, HasCorner}
+use Rattle.law_complex.proofs.FacetWays.{meets-on}
+use Rattle.law_complex.proofs.FacetAngles.{through-at}
+use Rattle.law_complex.proofs.FacetPoints.{facet-point}
+use Rattle.law_complex.proofs.Skeletons.{FacetAt}
+use Rattle.law_complex.proofs.FacetEnds.{facet-from_behind}
+use Rattle.law_complex.proofs.FacetNames.{weight, normal-scaled, through-level, axis-in}
 
 -- a point that is the same has the same cone
 pub cone-same : (M : Map) (s : Set) (p q : Place) → SamePlace p q → Cone M s p → Cone M s q

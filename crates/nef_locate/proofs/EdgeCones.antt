@@ -1,28 +1,28 @@
 -- What is built of the stars at both ends of an edge is the map of each of its points.
 use Rattle.std.proofs.Common.{◌≡◌, ℕ, pos, neg_ℤ, arith, sym, ◌∙◌, [], ◌∷◌, None, inl, inr, subst}
 use Rattle.std.proofs.lemmas.Int.{ints}
-use Rattle.nef_exact.proofs.Order.{by_order}
+use Rattle.law_arithmetic.proofs.Order.{by_order}
 use Rattle.nef_space.specs.Local.{HasLabel}
 use Rattle.nef_space.specs.Place.{Place, toward, IsAhead, IsBetween}
 use Rattle.nef_space.specs.Sets.{Set}
 use Rattle.nef_space.specs.Vectors.{Vector, IsDirection, IsNormal, IsOpposite, SameDirection, opposite}
-use Rattle.nef_near.proofs.Between.{between-turned}
-use Rattle.nef_near.proofs.Flats.{vector-same}
-use Rattle.nef_forms.proofs.Directions.{direction-left}
-use Rattle.nef_cones.proofs.Cones.{point-map}
-use Rattle.nef_sphere.specs.Vectors.{VectorBelow}
-use Rattle.nef_sphere.specs.Maps.{At, Svertex, Map, MapLabel, Valid}
-use Rattle.nef_sphere.specs.Kinds.{FlatMap}
-use Rattle.nef_sphere.specs.Least.{Cone}
-use Rattle.nef_sphere.specs.Stars.{Star, StarShows}
-use Rattle.nef_sphere.proofs.Compare.{SameDirection-turned}
-use Rattle.nef_sphere.proofs.Lists.{at-one}
-use Rattle.nef_sphere.proofs.NearItems.{opposite-turned}
-use Rattle.nef_build.specs.Raw.{RawMap, IsWellFormed, IsRawOf}
-use Rattle.nef_solid.specs.Complexes.{Vertex, Edge, Complex, IsEdge}
-use Rattle.nef_solid.specs.Shows.{Shows}
-use Rattle.nef_solid.proofs.Cones.{label-germ}
-use Rattle.nef_solid.proofs.Edges.{IsAlongSvertex, along-svertex, near_point, near-between}
+use Rattle.law_near.proofs.Between.{between-turned}
+use Rattle.law_near.proofs.Flats.{vector-same}
+use Rattle.law_forms.proofs.Directions.{direction-left}
+use Rattle.law_cones.proofs.Cones.{point-map}
+use Rattle.law_sphere.specs.Vectors.{VectorBelow}
+use Rattle.law_sphere.specs.Maps.{At, Svertex, Map, MapLabel, Valid}
+use Rattle.law_sphere.specs.Kinds.{FlatMap}
+use Rattle.law_sphere.specs.Least.{Cone}
+use Rattle.law_sphere.specs.Stars.{Star, StarShows}
+use Rattle.law_sphere.proofs.Compare.{SameDirection-turned}
+use Rattle.law_sphere.proofs.Lists.{at-one}
+use Rattle.law_sphere.proofs.NearItems.{opposite-turned}
+use Rattle.law_build.specs.Raw.{RawMap, IsWellFormed, IsRawOf}
+use Rattle.law_complex.specs.Complexes.{Vertex, Edge, Complex, IsEdge}
+use Rattle.law_complex.specs.Shows.{Shows}
+use Rattle.law_complex.proofs.Cones.{label-germ}
+use Rattle.law_complex.proofs.Edges.{IsAlongSvertex, along-svertex, near_point, near-between}
 use Rattle.nef_edges.proofs.Rays.{to_opposite, from_opposite, opposites-same, normal-kept, ahead-normal}
 use Rattle.nef_locate.proofs.TwoStars.{two-raw, labels_of, label-is}
 use Rattle.nef_locate.proofs.EdgeEnds.{end-shows, flat-end}

@@ -5,18 +5,18 @@ use Rattle.nef_space.specs.Place.{Place}
 use Rattle.nef_space.specs.Sets.{Set}
 use Rattle.nef_space.specs.Vectors.{Vector, IsDirection, cross}
 use Rattle.nef_space.specs.declared.label.Label.{Label}
-use Rattle.nef_near.proofs.Alike.{flat-germ}
-use Rattle.nef_sphere.specs.Maps.{At, Svertex, Map, MapLabel, at_svertex, NearLabel, Valid}
-use Rattle.nef_sphere.specs.Kinds.{FlatMap}
-use Rattle.nef_sphere.specs.Least.{Cone}
-use Rattle.nef_sphere.specs.Stars.{Star, StarLabel, StarShows}
-use Rattle.nef_sphere.proofs.Compare.{way-self}
-use Rattle.nef_sphere.proofs.Dimensions.{map-flat}
-use Rattle.nef_sphere.proofs.Labels.{label-unique}
-use Rattle.nef_sphere.proofs.Walk.{cross-direction_right}
-use Rattle.nef_solid.specs.Complexes.{Vertex}
-use Rattle.nef_solid.proofs.Cones.{germ-label}
-use Rattle.nef_solid.proofs.Edges.{IsAlongSvertex}
+use Rattle.law_near.proofs.Alike.{flat-germ}
+use Rattle.law_sphere.specs.Maps.{At, Svertex, Map, MapLabel, at_svertex, NearLabel, Valid}
+use Rattle.law_sphere.specs.Kinds.{FlatMap}
+use Rattle.law_sphere.specs.Least.{Cone}
+use Rattle.law_sphere.specs.Stars.{Star, StarLabel, StarShows}
+use Rattle.law_sphere.proofs.Compare.{way-self}
+use Rattle.law_sphere.proofs.Dimensions.{map-flat}
+use Rattle.law_sphere.proofs.Labels.{label-unique}
+use Rattle.law_sphere.proofs.Walk.{cross-direction_right}
+use Rattle.law_complex.specs.Complexes.{Vertex}
+use Rattle.law_complex.proofs.Cones.{germ-label}
+use Rattle.law_complex.proofs.Edges.{IsAlongSvertex}
 use Rattle.nef_locate.proofs.TwoStars.{ShowsMap, near-along}
 
 module _ (s : Set) (y : Place) (N : Map) (K : Cone N s y) (v : Vertex) (W : Valid v.map) (k : ℕ) (u : Svertex) (a : At v.map.svertices k u) (A : IsAlongSvertex s v u u.mark y) where

@@ -1,19 +1,19 @@
 -- A point of an edge comes between the edge's ends in the order of vertices.
 use Rattle.std.proofs.Common.{ℕ, pos, arith, inl, inr}
 use Rattle.std.proofs.lemmas.Int.{ints}
-use Rattle.nef_exact.proofs.Order.{by_order}
+use Rattle.law_arithmetic.proofs.Order.{by_order}
 use Rattle.nef_space.specs.Place.{Place as PlainPlace, toward, SamePlace, IsBetween, IsPlaceBelow}
 use Rattle.nef_space.specs.Sets.{Set}
 use Rattle.nef_space.specs.Vectors.{IsNormal}
 use Rattle.nef_geo.specs.Shapes.{place_of}
-use Rattle.nef_near.proofs.PlaceOrder.{place_below-same, same-place_below}
-use Rattle.nef_near.proofs.Rays.{same-place_sym}
-use Rattle.nef_sphere.specs.Maps.{At}
-use Rattle.nef_sphere.proofs.Compare.{SameDirection-turned}
+use Rattle.law_near.proofs.PlaceOrder.{place_below-same, same-place_below}
+use Rattle.law_near.proofs.Rays.{same-place_sym}
+use Rattle.law_sphere.specs.Maps.{At}
+use Rattle.law_sphere.proofs.Compare.{SameDirection-turned}
 use Rattle.nef_smap.proofs.Lists.{map-at}
-use Rattle.nef_solid.specs.Shows.{Shows}
-use Rattle.nef_solid.specs.Skeleton.{IsEdgePoint}
-use Rattle.nef_solid.proofs.Ways.{between-way}
+use Rattle.law_complex.specs.Shows.{Shows}
+use Rattle.law_complex.specs.Skeleton.{IsEdgePoint}
+use Rattle.law_complex.proofs.Ways.{between-way}
 use Rattle.nef_complex.specs.declared.complex.Vertex.{Vertex}
 use Rattle.nef_complex.specs.declared.complex.Edge.{Edge}
 use Rattle.nef_complex.specs.declared.complex.Complex.{Complex}

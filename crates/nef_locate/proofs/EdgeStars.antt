@@ -6,12 +6,12 @@ use Rattle.nef_space.specs.Vectors.{Vector, IsDirection}
 use Rattle.nef_space.specs.declared.label.Label.{Label}
 use Rattle.nef_geo.specs.Shapes.{vector_of}
 use Rattle.nef_geo.specs.declared.dir.Dir.{Dir}
-use Rattle.nef_sphere.specs.Maps.{At, Svertex as PlainSvertex, MapLabel}
-use Rattle.nef_sphere.specs.Forms.{forms}
-use Rattle.nef_sphere.specs.Least.{Cone}
-use Rattle.nef_sphere.proofs.Lists.{at-one}
-use Rattle.nef_build.specs.Raw.{RawMap, IsLabelling, IsRawOf}
-use Rattle.nef_cones.proofs.Cones.{point-map}
+use Rattle.law_sphere.specs.Maps.{At, Svertex as PlainSvertex, MapLabel}
+use Rattle.law_sphere.specs.Forms.{forms}
+use Rattle.law_sphere.specs.Least.{Cone}
+use Rattle.law_sphere.proofs.Lists.{at-one}
+use Rattle.law_build.specs.Raw.{RawMap, IsLabelling, IsRawOf}
+use Rattle.law_cones.proofs.Cones.{point-map}
 use Rattle.nef_star.specs.declared.star.Star.{Star}
 use Rattle.nef_star.specs.Stars.{star_of, IsStar}
 use Rattle.nef_smap.specs.declared.map.SVertex.{SVertex}
@@ -20,12 +20,12 @@ use Rattle.nef_smap.specs.declared.map.RawStars.{RawStars}
 use Rattle.nef_smap.specs.Maps.{map_of, svertex_of, raw_of, IsLeastMap}
 use Rattle.nef_smap.specs.Stars.{IsNeighbourhood}
 use Rattle.nef_smap.proofs.WellFormed.{star-well_formed}
-use Rattle.nef_solid.specs.Complexes.{Vertex as PlainVertex, Edge as PlainEdge}
+use Rattle.law_complex.specs.Complexes.{Vertex as PlainVertex, Edge as PlainEdge}
 use Rattle.nef_complex.specs.declared.complex.Vertex.{Vertex}
 use Rattle.nef_complex.specs.declared.complex.Edge.{Edge}
 use Rattle.nef_complex.specs.declared.complex.Complex.{Complex}
 use Rattle.nef_complex.specs.Complexes.{vertex_of, edge_of, complex_of, ShowsSet}
-use Rattle.nef_solid.specs.Skeleton.{IsEdgePoint}
+use Rattle.law_complex.specs.Skeleton.{IsEdgePoint}
 use Rattle.nef_locate.specs.Places.{IsEndStar}
 use Rattle.nef_locate.proofs.Marks.{image-read, image-within}
 use Rattle.nef_locate.proofs.TwoStars.{labels_of, are-labelling}

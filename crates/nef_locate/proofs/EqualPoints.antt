@@ -1,29 +1,29 @@
 -- Equal points lie at the same places of a complex.
 use Rattle.std.proofs.Common.{◌≡◌, ℕ, ◌*◌, ◌≤◌, ℤ, pos, ◌*ℤ◌, neg_ℤ, nat_abs, arith, inl, inr, ⊎_elim, [], ◌∷◌, subst}
 use Rattle.std.proofs.lemmas.Int.{ints}
-use Rattle.nef_exact.proofs.Order.{mul_le_right, cancel_le}
-use Rattle.nef_exact.proofs.Ring.{ring, at, num, neg, ◌⊗◌}
+use Rattle.law_arithmetic.proofs.Order.{mul_le_right, cancel_le}
+use Rattle.law_arithmetic.proofs.Ring.{ring, at, num, neg, ◌⊗◌}
 use Rattle.nef_space.specs.Limits.{half_side}
 use Rattle.nef_space.specs.Place.{Place as PlainPlace, Form, SamePlace, InClosedFrame, toward, IsAhead, IsBetween}
 use Rattle.nef_space.specs.Sets.{Set}
 use Rattle.nef_space.specs.Vectors.{Vector, SameDirection, opposite}
-use Rattle.nef_forms.specs.Homogeneous.{of_place}
-use Rattle.nef_forms.proofs.Between.{place-factor, factor-place, between-same}
-use Rattle.nef_forms.proofs.Sums.{same-trans}
-use Rattle.nef_near.specs.Cells.{carriers}
-use Rattle.nef_near.specs.Laws.{SameGerms}
-use Rattle.nef_near.proofs.Alike.{germs-by_cell, Flat-by_germs, FlatDim-by_germs}
-use Rattle.nef_near.proofs.Flats.{vector-same}
-use Rattle.nef_near.proofs.Rays.{signs-same, same-place_sym}
-use Rattle.nef_sphere.specs.Maps.{Map, Item, OnItem}
-use Rattle.nef_sphere.proofs.Compare.{SameDirection-turned, way-self}
-use Rattle.nef_sphere.proofs.Forms.{on-direction, OnItem-by_signs}
-use Rattle.nef_sphere.proofs.Labels.{way-signs}
-use Rattle.nef_solid.specs.Complexes.{Vertex, Complex, Corner}
-use Rattle.nef_solid.specs.Laws.{IsFlatIn}
-use Rattle.nef_solid.specs.Skeleton.{PlaneMeet, IsVertexPoint, IsEdgePoint, IsOnEdges, IsFacetPoint, at_vertex, on_edge, in_facet, IsSkeletonPoint, IsFirstInPlane, HasCorner}
-use Rattle.nef_solid.proofs.FacetEdges.{ahead-same, ahead-back}
-use Rattle.nef_solid.proofs.Ways.{same-itself}
+use Rattle.law_forms.specs.Homogeneous.{of_place}
+use Rattle.law_forms.proofs.Between.{place-factor, factor-place, between-same}
+use Rattle.law_forms.proofs.Sums.{same-trans}
+use Rattle.law_near.specs.Cells.{carriers}
+use Rattle.law_near.specs.Laws.{SameGerms}
+use Rattle.law_near.proofs.Alike.{germs-by_cell, Flat-by_germs, FlatDim-by_germs}
+use Rattle.law_near.proofs.Flats.{vector-same}
+use Rattle.law_near.proofs.Rays.{signs-same, same-place_sym}
+use Rattle.law_sphere.specs.Maps.{Map, Item, OnItem}
+use Rattle.law_sphere.proofs.Compare.{SameDirection-turned, way-self}
+use Rattle.law_sphere.proofs.Forms.{on-direction, OnItem-by_signs}
+use Rattle.law_sphere.proofs.Labels.{way-signs}
+use Rattle.law_complex.specs.Complexes.{Vertex, Complex, Corner}
+use Rattle.law_complex.specs.Laws.{IsFlatIn}
+use Rattle.law_complex.specs.Skeleton.{PlaneMeet, IsVertexPoint, IsEdgePoint, IsOnEdges, IsFacetPoint, at_vertex, on_edge, in_facet, IsSkeletonPoint, IsFirstInPlane, HasCorner}
+use Rattle.law_complex.proofs.FacetEdges.{ahead-same, ahead-back}
+use Rattle.law_complex.proofs.Ways.{same-itself}
 
 pub same-place_trans : (p q r : PlainPlace) → SamePlace p q → SamePlace q r → SamePlace p r
 same-place_trans p q r e f = factor-place p r (same-trans (of_place p) (of_place q) (of_place r) (place-factor p q e) (place-factor q r f))

@@ -6,10 +6,10 @@ use Rattle.nef_space.specs.Sets.{Set}
 use Rattle.nef_space.specs.Vectors.{Vector, opposite, IsDirection, SameDirection, plane_axis}
 use Rattle.nef_geo.specs.Shapes.{form_of}
 use Rattle.nef_geo.specs.declared.plane.Plane.{Plane}
-use Rattle.nef_solid.specs.Complexes.{Corner}
-use Rattle.nef_solid.specs.Laws.{IsFlatIn}
-use Rattle.nef_solid.specs.Skeleton.{PlaneMeet, Meets, IsFirstInPlane, IsCornerAt, HasCorner}
-use Rattle.nef_solid.proofs.FacetEnds.{facet-behind, facet-from_behind}
+use Rattle.law_complex.specs.Complexes.{Corner}
+use Rattle.law_complex.specs.Laws.{IsFlatIn}
+use Rattle.law_complex.specs.Skeleton.{PlaneMeet, Meets, IsFirstInPlane, IsCornerAt, HasCorner}
+use Rattle.law_complex.proofs.FacetEnds.{facet-behind, facet-from_behind}
 use Rattle.nef_complex.specs.declared.complex.Complex.{Complex}
 use Rattle.nef_complex.specs.Complexes.{complex_of, ShowsSet}
 use Rattle.nef_locate.proofs.Behind.{corner-behind, corner-has}

@@ -7,11 +7,11 @@ use Rattle.nef_geo.specs.Signs.{sign_of}
 use Rattle.nef_geo.specs.declared.sign.Sign.{Sign}
 use Rattle.nef_geo.specs.declared.sign.Sign.TheVariants.{Minus, Plus}
 use Rattle.nef_geo.proofs.Signs.{sign_of-positive, sign_of-negative}
-use Rattle.nef_sphere.specs.Maps.{At, Loop, arc_item, loop_item, item_normal, items, way_of}
-use Rattle.nef_sphere.proofs.Arcs.{at-arc, loop-at, level-same}
-use Rattle.nef_sphere.proofs.Compare.{SameDirection-turned, SameDirection-trans, way-self}
-use Rattle.nef_sphere.proofs.Lists.{at-one}
-use Rattle.nef_sphere.proofs.Shot.{arc-at}
+use Rattle.law_sphere.specs.Maps.{At, Loop, arc_item, loop_item, item_normal, items, way_of}
+use Rattle.law_sphere.proofs.Arcs.{at-arc, loop-at, level-same}
+use Rattle.law_sphere.proofs.Compare.{SameDirection-turned, SameDirection-trans, way-self}
+use Rattle.law_sphere.proofs.Lists.{at-one}
+use Rattle.law_sphere.proofs.Shot.{arc-at}
 use Rattle.nef_smap.specs.declared.map.SArc.{SArc}
 use Rattle.nef_smap.specs.declared.map.SVertex.{SVertex}
 use Rattle.nef_smap.specs.declared.map.SphereMap.{SphereMap}
@@ -20,8 +20,8 @@ use Rattle.nef_smap.proofs.ArcEnds.{at-map}
 use Rattle.nef_smap.proofs.Axes.{plus-of, minus-of}
 use Rattle.nef_smap.proofs.CloseSigns.{way-from_get}
 use Rattle.nef_smap.proofs.MapLists.{loop-listed}
-use Rattle.nef_solid.specs.Complexes.{Vertex as PlainVertex, Edge as PlainEdge, Complex as PlainComplex, Corner}
-use Rattle.nef_solid.specs.Skeleton.{PlaneMeet, meets_vertex, meets_edge, Meets, IsArcOnSide, IsCornerAt}
+use Rattle.law_complex.specs.Complexes.{Vertex as PlainVertex, Edge as PlainEdge, Complex as PlainComplex, Corner}
+use Rattle.law_complex.specs.Skeleton.{PlaneMeet, meets_vertex, meets_edge, Meets, IsArcOnSide, IsCornerAt}
 use Rattle.nef_complex.specs.declared.complex.Vertex.{Vertex}
 use Rattle.nef_complex.specs.declared.complex.Edge.{Edge}
 use Rattle.nef_complex.specs.declared.complex.Complex.{Complex}

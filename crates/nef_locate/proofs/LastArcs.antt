@@ -2,17 +2,17 @@
 use Rattle.std.proofs.Common.{◌≡◌, ℕ, ◌+◌, ◌<◌, pos, ◌+ℤ◌, ◌*ℤ◌, ◌<ℤ◌, arith, sym, ◌∙◌, ◌⊎◌, inl, inr, ⊎_elim, [], ◌∷◌, Bool, true, false, subst, Option, Some, None}
 use Rattle.std.proofs.lemmas.Int.{ints}
 use Rattle.std.proofs.Math.Nat.{eq-or-lt_of_le}
-use Rattle.nef_exact.proofs.Ring.{ring, at, num, ◌⊕◌, ◌⊖◌, ◌⊗◌}
-use Rattle.nef_exact.proofs.Combination.{follows, given, none}
-use Rattle.nef_exact.proofs.Order.{mul_pos, sign-scaled}
+use Rattle.law_arithmetic.proofs.Ring.{ring, at, num, ◌⊕◌, ◌⊖◌, ◌⊗◌}
+use Rattle.law_arithmetic.proofs.Combination.{follows, given, none}
+use Rattle.law_arithmetic.proofs.Order.{mul_pos, sign-scaled}
 use Rattle.nef_space.specs.Vectors.{Vector, IsDirection, dot, triple}
-use Rattle.nef_near.proofs.FlatDecided.{triple-in_plane}
-use Rattle.nef_forms.proofs.Directions.{dot-comm}
-use Rattle.nef_sphere.specs.Maps.{At, Svertex, Arc, Map, way_of, Shaped}
-use Rattle.nef_sphere.proofs.Arcs.{ends-of}
-use Rattle.nef_sphere.proofs.Lists.{at-one}
-use Rattle.nef_sphere.proofs.Shot.{way-at}
-use Rattle.nef_sphere.proofs.Vectors.{same-plus}
+use Rattle.law_near.proofs.FlatDecided.{triple-in_plane}
+use Rattle.law_forms.proofs.Directions.{dot-comm}
+use Rattle.law_sphere.specs.Maps.{At, Svertex, Arc, Map, way_of, Shaped}
+use Rattle.law_sphere.proofs.Arcs.{ends-of}
+use Rattle.law_sphere.proofs.Lists.{at-one}
+use Rattle.law_sphere.proofs.Shot.{way-at}
+use Rattle.law_sphere.proofs.Vectors.{same-plus}
 use Rattle.nef_locate.specs.Ends.{end_of, IsLastArc, IsNoArc, IsLast}
 
 -- of three vectors in the plane of w, by their products with a vector u

@@ -6,19 +6,19 @@ use Rattle.nef_space.specs.Sets.{Set}
 use Rattle.nef_space.specs.Vectors.{Vector, dot, opposite, IsDirection, SameDirection, plane_axis}
 use Rattle.nef_geo.specs.Shapes.{form_of}
 use Rattle.nef_geo.specs.declared.plane.Plane.{Plane}
-use Rattle.nef_near.proofs.Rays.{same-place_sym}
-use Rattle.nef_sphere.specs.Maps.{At, Item, arc_item, items, item_normal}
-use Rattle.nef_sphere.proofs.Arcs.{at-arc}
-use Rattle.nef_sphere.proofs.Lists.{at-one}
-use Rattle.nef_sphere.proofs.Vectors.{normal-direction}
+use Rattle.law_near.proofs.Rays.{same-place_sym}
+use Rattle.law_sphere.specs.Maps.{At, Item, arc_item, items, item_normal}
+use Rattle.law_sphere.proofs.Arcs.{at-arc}
+use Rattle.law_sphere.proofs.Lists.{at-one}
+use Rattle.law_sphere.proofs.Vectors.{normal-direction}
 use Rattle.nef_smap.proofs.Lists.{at-map}
 use Rattle.nef_smap.proofs.SideLists.{get-from_at}
-use Rattle.nef_solid.specs.Complexes.{Vertex as PlainVertex, Edge as PlainEdge, Complex as PlainComplex, Corner}
-use Rattle.nef_solid.specs.Laws.{IsFlatIn}
-use Rattle.nef_solid.specs.Skeleton.{PlaneMeet, meets_vertex, meets_edge, Meets, IsCornerAt}
-use Rattle.nef_solid.proofs.FacetEnds.{facet-behind}
-use Rattle.nef_solid.proofs.FacetNames.{axis-in}
-use Rattle.nef_solid.proofs.FacetWays.{plane-ahead}
+use Rattle.law_complex.specs.Complexes.{Vertex as PlainVertex, Edge as PlainEdge, Complex as PlainComplex, Corner}
+use Rattle.law_complex.specs.Laws.{IsFlatIn}
+use Rattle.law_complex.specs.Skeleton.{PlaneMeet, meets_vertex, meets_edge, Meets, IsCornerAt}
+use Rattle.law_complex.proofs.FacetEnds.{facet-behind}
+use Rattle.law_complex.proofs.FacetNames.{axis-in}
+use Rattle.law_complex.proofs.FacetWays.{plane-ahead}
 use Rattle.nef_complex.specs.declared.complex.Complex.{Complex}
 use Rattle.nef_complex.specs.Complexes.{vertex_of, complex_of, ShowsSet}
 use Rattle.nef_complex.specs.Index.{HasItemIn}

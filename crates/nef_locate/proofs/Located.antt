@@ -6,20 +6,20 @@ use Rattle.nef_space.specs.Place.{Place as PlainPlace, InClosedFrame, IsAhead}
 use Rattle.nef_space.specs.Sets.{Set}
 use Rattle.nef_space.specs.Vectors.{Vector, up, opposite, plane_axis}
 use Rattle.nef_space.specs.declared.label.Label.{Label}
-use Rattle.nef_sphere.specs.Maps.{At, Item, arc_item, items, item_normal, item_above, Side, above_item, way_of}
-use Rattle.nef_sphere.proofs.Arcs.{at-arc}
+use Rattle.law_sphere.specs.Maps.{At, Item, arc_item, items, item_normal, item_above, Side, above_item, way_of}
+use Rattle.law_sphere.proofs.Arcs.{at-arc}
 use Rattle.nef_smap.specs.Maps.{map_of}
 use Rattle.nef_smap.specs.SideNumbers.{number_of}
 use Rattle.nef_smap.specs.Sides.{IsSide, SideSees}
 use Rattle.nef_smap.proofs.SideLists.{side-has}
 use Rattle.nef_smap.proofs.SideNumbers.{side-number}
-use Rattle.nef_solid.specs.Complexes.{Complex as PlainComplex}
-use Rattle.nef_solid.specs.Skeleton.{at_vertex, on_edge, in_facet, IsVertexPoint, IsEdgePoint, IsOnEdges, IsSkeletonPoint, PlaneMeet, meets_vertex, meets_edge, IsCornerAt, HasCorner, item_plane}
-use Rattle.nef_solid.specs.Rays.{SeesNear, RayDown}
-use Rattle.nef_solid.proofs.Edges.{edge-points}
-use Rattle.nef_solid.proofs.FacetNames.{facet-of}
-use Rattle.nef_solid.proofs.FacetWays.{dim-same}
-use Rattle.nef_solid.proofs.Skeletons.{way-ends}
+use Rattle.law_complex.specs.Complexes.{Complex as PlainComplex}
+use Rattle.law_complex.specs.Skeleton.{at_vertex, on_edge, in_facet, IsVertexPoint, IsEdgePoint, IsOnEdges, IsSkeletonPoint, PlaneMeet, meets_vertex, meets_edge, IsCornerAt, HasCorner, item_plane}
+use Rattle.law_complex.specs.Rays.{SeesNear, RayDown}
+use Rattle.law_complex.proofs.Edges.{edge-points}
+use Rattle.law_complex.proofs.FacetNames.{facet-of}
+use Rattle.law_complex.proofs.FacetWays.{dim-same}
+use Rattle.law_complex.proofs.Skeletons.{way-ends}
 use Rattle.nef_complex.specs.declared.complex.Complex.{Complex}
 use Rattle.nef_complex.specs.declared.complex.Corner.{Corner}
 use Rattle.nef_complex.specs.declared.complex.Edge.{Edge}

@@ -4,15 +4,15 @@ use Rattle.nef_space.specs.Local.{HasLabel}
 use Rattle.nef_space.specs.Place.{Place as PlainPlace}
 use Rattle.nef_space.specs.Sets.{Set}
 use Rattle.nef_space.specs.declared.label.Label.{Label}
-use Rattle.nef_sphere.specs.Maps.{At, Item, Side}
-use Rattle.nef_sphere.proofs.Lists.{at-one}
+use Rattle.law_sphere.specs.Maps.{At, Item, Side}
+use Rattle.law_sphere.proofs.Lists.{at-one}
 use Rattle.nef_smap.proofs.Lists.{map-at, at-map, at-within}
 use Rattle.nef_smap.proofs.SideLists.{at-from_get, side-has}
 use Rattle.nef_smap.specs.Sides.{LabelledSide, IsSide, sides_of}
-use Rattle.nef_solid.specs.Complexes.{Vertex as PlainVertex, Complex as PlainComplex, Corner as PlainCorner, IsCorner}
-use Rattle.nef_solid.specs.Skeleton.{at_vertex, on_edge}
-use Rattle.nef_solid.proofs.FacetNames.{facet-of}
-use Rattle.nef_solid.proofs.Skeletons.{spot-mark}
+use Rattle.law_complex.specs.Complexes.{Vertex as PlainVertex, Complex as PlainComplex, Corner as PlainCorner, IsCorner}
+use Rattle.law_complex.specs.Skeleton.{at_vertex, on_edge}
+use Rattle.law_complex.proofs.FacetNames.{facet-of}
+use Rattle.law_complex.proofs.Skeletons.{spot-mark}
 use Rattle.nef_complex.specs.declared.complex.Vertex.{Vertex}
 use Rattle.nef_complex.specs.declared.complex.Complex.{Complex}
 use Rattle.nef_complex.specs.Complexes.{vertex_of, complex_of, corner_of, ShowsSet}
@@ -21,7 +21,7 @@ use Rattle.nef_locate.specs.declared.place.Place.TheVariants as place
 use Rattle.nef_locate.specs.Places.{IsPlaceAt, IsPlaceLabel}
 use Rattle.nef_locate.proofs.Cones.{corner-labels, facet-at}
 use Rattle.nef_locate.proofs.VolumeLabels.{side-label}
-use Rattle.nef_solid.specs.Rays.{HasVolumeSide}
+use Rattle.law_complex.specs.Rays.{HasVolumeSide}
 
 -- ---- lists
 pub image-within : {A B : Type 0} (f : A → B) (xs : List A) (k : ℕ) (y : B) → At (map f xs) k y → k < length xs

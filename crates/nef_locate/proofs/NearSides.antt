@@ -1,22 +1,22 @@
 -- The side that sees what is close to a svertex toward a direction above all planes: that of the last arc before it.
 use Rattle.std.proofs.Common.{◌≡◌, ℕ, ◌<◌, ◌≤◌, pos, ◌<ℤ◌, arith, ◌∙◌, ◌⊎◌, inl, inr, ⊎_elim, [], ◌∷◌, true, false, subst}
 use Rattle.std.proofs.lemmas.Int.{ints}
-use Rattle.nef_exact.proofs.Ring.{ring, at, num, neg, ◌⊕◌, ◌⊖◌, ◌⊗◌}
-use Rattle.nef_exact.proofs.Order.{mul_pos, mul_neg}
+use Rattle.law_arithmetic.proofs.Ring.{ring, at, num, neg, ◌⊕◌, ◌⊖◌, ◌⊗◌}
+use Rattle.law_arithmetic.proofs.Order.{mul_pos, mul_neg}
 use Rattle.nef_space.specs.Vectors.{Vector, IsDirection, dot, cross, triple, opposite, SameDirection, blend}
-use Rattle.nef_cyclic.specs.Arcs.{IsStrictlyOn}
-use Rattle.nef_cyclic.proofs.Directions.{dot-opposite}
-use Rattle.nef_forms.proofs.Directions.{dot-comm, self-pos}
-use Rattle.nef_sphere.specs.Forms.{forms}
-use Rattle.nef_sphere.specs.Maps.{At, Svertex, Arc, Map, IsClear, around_svertex, above_item, below_item, directly, HasArc, Shaped}
-use Rattle.nef_sphere.proofs.Compare.{SameDirection-turned, SameDirection-trans, way-self}
-use Rattle.nef_sphere.proofs.Generic.{amount, far-keeps}
-use Rattle.nef_sphere.proofs.StepOff.{blend-turned}
-use Rattle.nef_sphere.proofs.Turn.{way-directed, IsStrictlyOn-same}
+use Rattle.law_cyclic.specs.Arcs.{IsStrictlyOn}
+use Rattle.law_cyclic.proofs.Directions.{dot-opposite}
+use Rattle.law_forms.proofs.Directions.{dot-comm, self-pos}
+use Rattle.law_sphere.specs.Forms.{forms}
+use Rattle.law_sphere.specs.Maps.{At, Svertex, Arc, Map, IsClear, around_svertex, above_item, below_item, directly, HasArc, Shaped}
+use Rattle.law_sphere.proofs.Compare.{SameDirection-turned, SameDirection-trans, way-self}
+use Rattle.law_sphere.proofs.Generic.{amount, far-keeps}
+use Rattle.law_sphere.proofs.StepOff.{blend-turned}
+use Rattle.law_sphere.proofs.Turn.{way-directed, IsStrictlyOn-same}
 use Rattle.nef_smap.proofs.NearSvertex.{ArcRay, end_left, ray_left, ray_side, Unrayed, same-cross, near-clear}
 use Rattle.nef_smap.proofs.SectorSees.{left-on, sector-sees, turn-from_left}
-use Rattle.nef_solid.specs.Rays.{SeesNear}
-use Rattle.nef_solid.proofs.FacetSides.{level-way}
+use Rattle.law_complex.specs.Rays.{SeesNear}
+use Rattle.law_complex.proofs.FacetSides.{level-way}
 use Rattle.nef_locate.specs.Ends.{IsLastArc, IsNoArc}
 
 module _ (M : Map) (V : Shaped M) (k : ℕ) (v : Svertex) (a : At M.svertices k v) (e : Vector) (off : IsDirection (cross v.way e)) where

@@ -1,7 +1,7 @@
 -- What a ray along an upright direction meets in one plane, and what it meets first.
 use Rattle.std.proofs.Common.{◌≡◌, ℕ, neg_ℤ, arith, ⊎_elim, Option, Some, None, IfSome, [], ◌∷◌}
 use Rattle.std.proofs.lemmas.Int.{ints}
-use Rattle.nef_exact.proofs.Ring.{ring, at, neg, ◌⊕◌, ◌⊗◌}
+use Rattle.law_arithmetic.proofs.Ring.{ring, at, neg, ◌⊕◌, ◌⊗◌}
 use Rattle.nef_space.specs.Place.{Place as PlainPlace, SamePlace, InClosedFrame, toward, IsAhead, IsBetween}
 use Rattle.nef_space.specs.Sets.{Set}
 use Rattle.nef_space.specs.Vectors.{Vector, dot, opposite}
@@ -9,18 +9,18 @@ use Rattle.nef_geo.specs.Hits.{IsUpright, IsCrossing}
 use Rattle.nef_geo.specs.Shapes.{form_of, hit_place}
 use Rattle.nef_geo.specs.declared.hit.Hit.{Hit}
 use Rattle.nef_geo.specs.declared.plane.Plane.{Plane}
-use Rattle.nef_forms.proofs.Between.{place-toward}
-use Rattle.nef_forms.proofs.Directions.{direction-left, direction-right, self-pos}
-use Rattle.nef_near.proofs.Alike.{FlatDim-one}
-use Rattle.nef_near.proofs.Between.{between-inner}
-use Rattle.nef_near.proofs.Frames.{flat_dim-outside}
-use Rattle.nef_sphere.specs.Maps.{At}
+use Rattle.law_forms.proofs.Between.{place-toward}
+use Rattle.law_forms.proofs.Directions.{direction-left, direction-right, self-pos}
+use Rattle.law_near.proofs.Alike.{FlatDim-one}
+use Rattle.law_near.proofs.Between.{between-inner}
+use Rattle.law_near.proofs.Frames.{flat_dim-outside}
+use Rattle.law_sphere.specs.Maps.{At}
 use Rattle.nef_smap.proofs.SideLists.{at-from_get}
-use Rattle.nef_sphere.proofs.Compare.{SameDirection-turned, SameDirection-trans}
-use Rattle.nef_solid.specs.Complexes.{Complex as PlainComplex}
-use Rattle.nef_solid.specs.Laws.{IsFlatIn}
-use Rattle.nef_solid.specs.Skeleton.{IsOnEdges, IsSkeletonPoint}
-use Rattle.nef_solid.proofs.FacetEdges.{ahead-back}
+use Rattle.law_sphere.proofs.Compare.{SameDirection-turned, SameDirection-trans}
+use Rattle.law_complex.specs.Complexes.{Complex as PlainComplex}
+use Rattle.law_complex.specs.Laws.{IsFlatIn}
+use Rattle.law_complex.specs.Skeleton.{IsOnEdges, IsSkeletonPoint}
+use Rattle.law_complex.proofs.FacetEdges.{ahead-back}
 use Rattle.nef_complex.proofs.Lines.{one-crossing}
 use Rattle.nef_plane.proofs.Found.{not-end}
 use Rattle.nef_plane.proofs.Nearest.{between-ahead}

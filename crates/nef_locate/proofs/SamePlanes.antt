@@ -4,27 +4,27 @@ use Rattle.std.proofs.lemmas.Int.{ints}
 use Rattle.std.specs.Bool.{one_answer}
 use Rattle.std.specs.Ordering.{int_eq}
 use Rattle.std.proofs.lemmas.Bool.Decides.{Decides-int_eq}
-use Rattle.nef_exact.specs.Signs.{sign}
-use Rattle.nef_exact.proofs.Ring.{ring, at, num, neg, ◌⊕◌, ◌⊗◌}
-use Rattle.nef_exact.proofs.Combination.{given, none, follows}
-use Rattle.nef_exact.proofs.Order.{cancel_eq}
+use Rattle.law_arithmetic.specs.Signs.{sign}
+use Rattle.law_arithmetic.proofs.Ring.{ring, at, num, neg, ◌⊕◌, ◌⊗◌}
+use Rattle.law_arithmetic.proofs.Combination.{given, none, follows}
+use Rattle.law_arithmetic.proofs.Order.{cancel_eq}
 use Rattle.nef_space.specs.Place.{Place, Form, form_at, normal_of, plane_through, toward}
 use Rattle.nef_space.specs.Vectors.{Vector, opposite, dot, cross, triple, IsDirection, SameDirection, plane_axis, beside_x, beside_y}
-use Rattle.nef_forms.specs.Homogeneous.{SameUpToFactor, of_direction}
-use Rattle.nef_forms.proofs.Directions.{dot-comm, direction-left, same-factor, factor-same}
-use Rattle.nef_forms.proofs.Sums.{some-pos}
-use Rattle.nef_sphere.specs.Maps.{Map, Item, item_normal, OnItem, Arc, way_of}
-use Rattle.nef_sphere.proofs.Compare.{SameDirection-turned, SameDirection-trans}
-use Rattle.nef_sphere.proofs.Forms.{OnItem-by_signs}
-use Rattle.nef_sphere.proofs.Labels.{way-signs}
-use Rattle.nef_sphere.proofs.Turn.{turn-last}
-use Rattle.nef_sphere.proofs.Vectors.{same-plus, same-minus}
-use Rattle.nef_solid.specs.Complexes.{Vertex, Complex, Corner}
-use Rattle.nef_solid.specs.Skeleton.{PlaneMeet, meets_vertex, meets_edge, LiesIn, Meets, IsFirstInPlane, IsArcOnSide, IsCornerAt}
-use Rattle.nef_solid.proofs.FacetNames.{axis-in}
-use Rattle.nef_solid.proofs.FacetSides.{level-way}
-use Rattle.nef_solid.proofs.FacetWays.{plane-onward}
-use Rattle.nef_solid.proofs.Planes.{plane-way}
+use Rattle.law_forms.specs.Homogeneous.{SameUpToFactor, of_direction}
+use Rattle.law_forms.proofs.Directions.{dot-comm, direction-left, same-factor, factor-same}
+use Rattle.law_forms.proofs.Sums.{some-pos}
+use Rattle.law_sphere.specs.Maps.{Map, Item, item_normal, OnItem, Arc, way_of}
+use Rattle.law_sphere.proofs.Compare.{SameDirection-turned, SameDirection-trans}
+use Rattle.law_sphere.proofs.Forms.{OnItem-by_signs}
+use Rattle.law_sphere.proofs.Labels.{way-signs}
+use Rattle.law_sphere.proofs.Turn.{turn-last}
+use Rattle.law_sphere.proofs.Vectors.{same-plus, same-minus}
+use Rattle.law_complex.specs.Complexes.{Vertex, Complex, Corner}
+use Rattle.law_complex.specs.Skeleton.{PlaneMeet, meets_vertex, meets_edge, LiesIn, Meets, IsFirstInPlane, IsArcOnSide, IsCornerAt}
+use Rattle.law_complex.proofs.FacetNames.{axis-in}
+use Rattle.law_complex.proofs.FacetSides.{level-way}
+use Rattle.law_complex.proofs.FacetWays.{plane-onward}
+use Rattle.law_complex.proofs.Planes.{plane-way}
 
 -- ---- planes
 -- what lies in a plane lies in each plane with the same normal

@@ -1,28 +1,28 @@
 -- Two stars with opposite axes, along which the labels of a map don't change, are all that shows the map.
 use Rattle.std.proofs.Common.{◌≡◌, ℕ, zero, suc, ℤ, pos, negsuc, ◌+ℤ◌, ◌*ℤ◌, neg_ℤ, arith, refl, ap, sym, ◌∙◌, ⊎_elim, [], ◌∷◌, None, Some, subst}
-use Rattle.nef_exact.specs.Signs.{minus, nought, plus, sign}
-use Rattle.nef_exact.proofs.Ring.{ring, at, num, neg, ◌⊕◌, ◌⊗◌}
-use Rattle.nef_exact.proofs.Order.{by_order}
+use Rattle.law_arithmetic.specs.Signs.{minus, nought, plus, sign}
+use Rattle.law_arithmetic.proofs.Ring.{ring, at, num, neg, ◌⊕◌, ◌⊗◌}
+use Rattle.law_arithmetic.proofs.Order.{by_order}
 use Rattle.nef_space.specs.Vectors.{Vector, IsDirection, IsZero, IsOpposite, SameDirection, cross, dot, opposite, blend}
 use Rattle.nef_space.specs.declared.label.Label.{Label}
-use Rattle.nef_forms.proofs.Directions.{zero-decided}
-use Rattle.nef_near.proofs.Flats.{vector-same}
-use Rattle.nef_near.proofs.FlatDecided.{cross-turned}
-use Rattle.nef_sphere.specs.Vectors.{comb, VectorBelow}
-use Rattle.nef_sphere.specs.Maps.{At, Loop, Map, MapLabel, NearLabel, Valid}
-use Rattle.nef_sphere.specs.Forms.{forms}
-use Rattle.nef_sphere.specs.Kinds.{FlatMap}
-use Rattle.nef_sphere.specs.Least.{by_side, InOrder}
-use Rattle.nef_sphere.specs.Labelling.{Near, StraightAt, IsSmooth, straight}
-use Rattle.nef_sphere.specs.Stars.{Star, StarLabel}
-use Rattle.nef_sphere.proofs.Around.{opposites}
-use Rattle.nef_sphere.proofs.FlatMaps.{flat-onward, flat-straight}
-use Rattle.nef_sphere.proofs.Labels.{label-direction, label-unique, way-signs}
-use Rattle.nef_sphere.proofs.Vectors.{dot-comb, direction-by, nought-if}
-use Rattle.nef_sphere.proofs.Walk.{cross-direction_left, between-direction}
-use Rattle.nef_build.specs.Raw.{Of, IsLabelling, IsWellFormed, ShowsLabels, IsRawOf}
-use Rattle.nef_build.proofs.BuiltLabels.{straight-from}
-use Rattle.nef_build.proofs.Chosen.{chosen, chosen-is, chosen-labelling, map-labels}
+use Rattle.law_forms.proofs.Directions.{zero-decided}
+use Rattle.law_near.proofs.Flats.{vector-same}
+use Rattle.law_near.proofs.FlatDecided.{cross-turned}
+use Rattle.law_sphere.specs.Vectors.{comb, VectorBelow}
+use Rattle.law_sphere.specs.Maps.{At, Loop, Map, MapLabel, NearLabel, Valid}
+use Rattle.law_sphere.specs.Forms.{forms}
+use Rattle.law_sphere.specs.Kinds.{FlatMap}
+use Rattle.law_sphere.specs.Least.{by_side, InOrder}
+use Rattle.law_sphere.specs.Labelling.{Near, StraightAt, IsSmooth, straight}
+use Rattle.law_sphere.specs.Stars.{Star, StarLabel}
+use Rattle.law_sphere.proofs.Around.{opposites}
+use Rattle.law_sphere.proofs.FlatMaps.{flat-onward, flat-straight}
+use Rattle.law_sphere.proofs.Labels.{label-direction, label-unique, way-signs}
+use Rattle.law_sphere.proofs.Vectors.{dot-comb, direction-by, nought-if}
+use Rattle.law_sphere.proofs.Walk.{cross-direction_left, between-direction}
+use Rattle.law_build.specs.Raw.{Of, IsLabelling, IsWellFormed, ShowsLabels, IsRawOf}
+use Rattle.law_build.proofs.BuiltLabels.{straight-from}
+use Rattle.law_build.proofs.Chosen.{chosen, chosen-is, chosen-labelling, map-labels}
 use Rattle.nef_edges.proofs.Rays.{to_opposite}
 
 -- the star has the map's labels on its axis and near it

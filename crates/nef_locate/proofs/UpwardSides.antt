@@ -9,13 +9,13 @@ use Rattle.nef_geo.specs.Signs.{sign_of}
 use Rattle.nef_geo.specs.declared.sign.Sign.{Sign}
 use Rattle.nef_geo.specs.declared.sign.Sign.TheVariants.{Plus}
 use Rattle.nef_space.specs.declared.label.Label.{Label}
-use Rattle.nef_near.proofs.FlatDecided.{cross-turned}
-use Rattle.nef_forms.proofs.Directions.{dot-comm}
-use Rattle.nef_sphere.specs.Maps.{At, Svertex, Arc, Loop, Map, Item, arc_item, loop_item, items_then, items, item_above, item_below, Side, around_svertex, above_item, below_item, whole, HasSide, way_of, Shaped}
-use Rattle.nef_sphere.proofs.Arcs.{at-arc}
-use Rattle.nef_sphere.proofs.Forms.{on-level}
-use Rattle.nef_sphere.proofs.Lists.{at-one}
-use Rattle.nef_sphere.proofs.Shot.{way-at}
+use Rattle.law_near.proofs.FlatDecided.{cross-turned}
+use Rattle.law_forms.proofs.Directions.{dot-comm}
+use Rattle.law_sphere.specs.Maps.{At, Svertex, Arc, Loop, Map, Item, arc_item, loop_item, items_then, items, item_above, item_below, Side, around_svertex, above_item, below_item, whole, HasSide, way_of, Shaped}
+use Rattle.law_sphere.proofs.Arcs.{at-arc}
+use Rattle.law_sphere.proofs.Forms.{on-level}
+use Rattle.law_sphere.proofs.Lists.{at-one}
+use Rattle.law_sphere.proofs.Shot.{way-at}
 use Rattle.nef_smap.specs.declared.map.SArc.{SArc}
 use Rattle.nef_smap.specs.declared.map.SVertex.{SVertex}
 use Rattle.nef_smap.specs.declared.map.SphereMap.{SphereMap}
@@ -28,7 +28,7 @@ use Rattle.nef_smap.proofs.MapLists.{length-items, loop-listed}
 use Rattle.nef_smap.proofs.SideLists.{at-some, length-item_sides}
 use Rattle.nef_smap.proofs.SideNumbers.{side-number}
 use Rattle.nef_smap.proofs.Upward.{map-ahead, map-across}
-use Rattle.nef_solid.specs.Rays.{SeesNear}
+use Rattle.law_complex.specs.Rays.{SeesNear}
 use Rattle.nef_locate.specs.Ends.{IsLastArc, IsNoArc}
 use Rattle.nef_locate.proofs.Marks.{image-read}
 use Rattle.nef_locate.proofs.NearSides.{begin-sees, end-sees, lone-sees, no-arc}

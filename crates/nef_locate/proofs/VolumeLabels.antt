@@ -1,32 +1,32 @@
 -- A point that has a side has the side's label.
 use Rattle.std.proofs.Common.{◌≡◌, ℕ, arith, ap, sym, ◌∙◌, subst}
 use Rattle.std.proofs.lemmas.Int.{ints}
-use Rattle.nef_exact.proofs.Order.{sign-plus}
+use Rattle.law_arithmetic.proofs.Order.{sign-plus}
 use Rattle.nef_space.specs.Local.{HasLabel, Germ, FlatDim}
 use Rattle.nef_space.specs.Place.{Place, SamePlace, toward}
 use Rattle.nef_space.specs.Sets.{Set}
 use Rattle.nef_space.specs.Vectors.{SameDirection, dot, opposite, up}
 use Rattle.nef_space.specs.declared.label.Label.{Label}
-use Rattle.nef_forms.proofs.Between.{place-toward}
-use Rattle.nef_forms.proofs.Directions.{direction-left}
-use Rattle.nef_near.proofs.Decided.{label_of}
-use Rattle.nef_near.proofs.Flats.{vector-same}
-use Rattle.nef_near.proofs.Germs.{Germ-unique}
-use Rattle.nef_near.proofs.Rays.{Germ-same}
-use Rattle.nef_sphere.specs.Maps.{At, item_normal, item_above, item_mark, item_below, seen, Side, HasSide}
-use Rattle.nef_sphere.specs.Least.{by_side}
-use Rattle.nef_sphere.proofs.Compare.{way-self}
-use Rattle.nef_sphere.proofs.Lists.{at-one}
+use Rattle.law_forms.proofs.Between.{place-toward}
+use Rattle.law_forms.proofs.Directions.{direction-left}
+use Rattle.law_near.proofs.Decided.{label_of}
+use Rattle.law_near.proofs.Flats.{vector-same}
+use Rattle.law_near.proofs.Germs.{Germ-unique}
+use Rattle.law_near.proofs.Rays.{Germ-same}
+use Rattle.law_sphere.specs.Maps.{At, item_normal, item_above, item_mark, item_below, seen, Side, HasSide}
+use Rattle.law_sphere.specs.Least.{by_side}
+use Rattle.law_sphere.proofs.Compare.{way-self}
+use Rattle.law_sphere.proofs.Lists.{at-one}
 use Rattle.nef_smap.proofs.Lists.{at-map}
 use Rattle.nef_smap.proofs.SideLists.{get-from_at}
 use Rattle.nef_smap.specs.Maps.{IsSmall}
-use Rattle.nef_solid.specs.Complexes.{Vertex as PlainVertex}
-use Rattle.nef_solid.specs.Skeleton.{Spot, at_vertex, on_edge, in_facet, IsSpot, IsSkeletonPoint}
-use Rattle.nef_solid.specs.Rays.{IsAbove, HasVolumeSide}
-use Rattle.nef_solid.proofs.Ways.{same-itself}
+use Rattle.law_complex.specs.Complexes.{Vertex as PlainVertex}
+use Rattle.law_complex.specs.Skeleton.{Spot, at_vertex, on_edge, in_facet, IsSpot, IsSkeletonPoint}
+use Rattle.law_complex.specs.Rays.{IsAbove, HasVolumeSide}
+use Rattle.law_complex.proofs.Ways.{same-itself}
 use Rattle.nef_edges.proofs.Rays.{from_opposite, opposites-same}
-use Rattle.nef_solid.proofs.FacetNames.{facet-of}
-use Rattle.nef_solid.proofs.Skeletons.{spot-toward, free-way, free-flat}
+use Rattle.law_complex.proofs.FacetNames.{facet-of}
+use Rattle.law_complex.proofs.Skeletons.{spot-toward, free-way, free-flat}
 use Rattle.nef_complex.specs.declared.complex.Complex.{Complex}
 use Rattle.nef_complex.specs.Complexes.{vertex_of, complex_of, ShowsSet}
 use Rattle.nef_locate.proofs.Cones.{corner-labels, facet-at}

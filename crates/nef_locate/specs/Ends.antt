@@ -1,7 +1,7 @@
 -- The arcs at a svertex, and which of them is the last before the upward direction.
 use Rattle.std.specs.Prelude.{◌≡◌, ℕ, ◌<◌, pos, ◌<ℤ◌, Bool, cond, Option, Some, None}
 use Rattle.nef_space.specs.Vectors.{Vector, triple}
-use Rattle.nef_sphere.specs.Maps.{At, Arc, Map}
+use Rattle.law_sphere.specs.Maps.{At, Arc, Map}
 
 -- the svertex where the arc begins, or where it ends
 abbrev pub end_of : Arc → Bool → ℕ

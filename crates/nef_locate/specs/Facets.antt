@@ -1,9 +1,9 @@
 -- Items of a plane that lie at a direction or beside an edge.
 use Rattle.std.specs.Prelude.{ℕ}
 use Rattle.nef_space.specs.Vectors.{Vector, SameDirection}
-use Rattle.nef_sphere.specs.Maps.{At, Arc, Item, arc_item, Map, items, item_normal, OnItem}
-use Rattle.nef_solid.specs.Complexes.{Vertex, Edge, Complex}
-use Rattle.nef_solid.specs.Skeleton.{PlaneMeet, meets_vertex, meets_edge, IsArcOnSide}
+use Rattle.law_sphere.specs.Maps.{At, Arc, Item, arc_item, Map, items, item_normal, OnItem}
+use Rattle.law_complex.specs.Complexes.{Vertex, Edge, Complex}
+use Rattle.law_complex.specs.Skeleton.{PlaneMeet, meets_vertex, meets_edge, IsArcOnSide}
 
 -- d lies on the arc with this number, which has the normal n
 abbrev pub IsArcThrough : Map → Vector → Vector → ℕ → Type 0

@@ -3,18 +3,18 @@ use Rattle.std.specs.Prelude.{◌≡◌, ℕ}
 use Rattle.nef_space.specs.Place.{Place as PlainPlace, IsAhead, IsBetween}
 use Rattle.nef_space.specs.Vectors.{Vector}
 use Rattle.nef_space.specs.declared.label.Label.{Label}
-use Rattle.nef_sphere.specs.Maps.{At, Svertex, Loop, Item, item_normal, item_above, item_mark, item_below, Side}
+use Rattle.law_sphere.specs.Maps.{At, Svertex, Loop, Item, item_normal, item_above, item_mark, item_below, Side}
 use Rattle.nef_geo.specs.Shapes.{vector_of}
-use Rattle.nef_sphere.specs.Stars.{StarShows}
+use Rattle.law_sphere.specs.Stars.{StarShows}
 use Rattle.nef_star.specs.declared.star.Star.{Star}
 use Rattle.nef_star.specs.Stars.{star_of, IsStar}
 use Rattle.nef_smap.specs.declared.map.SphereMap.{SphereMap}
 use Rattle.nef_smap.specs.Maps.{map_of}
 use Rattle.nef_smap.specs.Sides.{IsSide}
-use Rattle.nef_solid.specs.Complexes.{Vertex, Edge, Complex, IsCorner}
-use Rattle.nef_solid.specs.Skeleton.{IsVertexPoint, IsEdgePoint, at_vertex, on_edge, in_facet, HasCorner, IsSkeletonPoint}
-use Rattle.nef_solid.specs.Belongs.{SpotMark}
-use Rattle.nef_solid.specs.Rays.{HasVolumeSide}
+use Rattle.law_complex.specs.Complexes.{Vertex, Edge, Complex, IsCorner}
+use Rattle.law_complex.specs.Skeleton.{IsVertexPoint, IsEdgePoint, at_vertex, on_edge, in_facet, HasCorner, IsSkeletonPoint}
+use Rattle.law_complex.specs.Belongs.{SpotMark}
+use Rattle.law_complex.specs.Rays.{HasVolumeSide}
 use Rattle.nef_complex.specs.Complexes.{corner_of}
 use Rattle.nef_locate.specs.declared.place.Place.{Place}
 use Rattle.nef_locate.specs.declared.place.Place.TheVariants as place

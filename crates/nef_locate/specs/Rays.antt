@@ -7,11 +7,11 @@ use Rattle.nef_space.specs.declared.label.Label.{Label}
 use Rattle.nef_geo.specs.Hits.{IsReached}
 use Rattle.nef_geo.specs.Shapes.{hit_place}
 use Rattle.nef_geo.specs.declared.hit.Hit.{Hit}
-use Rattle.nef_sphere.specs.Maps.{Side}
-use Rattle.nef_solid.specs.Complexes.{Complex}
-use Rattle.nef_solid.specs.Laws.{IsFlatIn}
-use Rattle.nef_solid.specs.Rays.{IsAbove}
-use Rattle.nef_solid.specs.Skeleton.{Spot, IsSpot, IsOnEdges, IsSkeletonPoint}
+use Rattle.law_sphere.specs.Maps.{Side}
+use Rattle.law_complex.specs.Complexes.{Complex}
+use Rattle.law_complex.specs.Laws.{IsFlatIn}
+use Rattle.law_complex.specs.Rays.{IsAbove}
+use Rattle.law_complex.specs.Skeleton.{Spot, IsSpot, IsOnEdges, IsSkeletonPoint}
 use Rattle.nef_complex.specs.declared.complex.PlaneMeet.{PlaneMeet}
 use Rattle.nef_complex.specs.declared.complex.PlaneMeet.TheVariants.{AtVertex, AtEdge}
 use Rattle.nef_locate.specs.declared.place.Place.{Place}

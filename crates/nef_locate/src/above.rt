@@ -4,11 +4,11 @@ ghost use Rattle.std.specs.Prelude.{◌≡◌, ◌+◌, ◌<◌, ◌≤◌, leng
 ghost use Rattle.nef_space.specs.Sets.{Set};
 ghost use Rattle.nef_space.specs.Vectors.{up};
 ghost use Rattle.nef_space.specs.declared.label.Label.{Label};
-ghost use Rattle.nef_sphere.specs.Maps.{Side, items, way_of, above_item, below_item};
+ghost use Rattle.law_sphere.specs.Maps.{Side, items, way_of, above_item, below_item};
 ghost use Rattle.nef_smap.specs.Maps.{map_of, arc_of, IsSphereMap};
 ghost use Rattle.nef_smap.specs.Sides.{IsSide, SideSees};
 ghost use Rattle.nef_smap.specs.SideNumbers.{number_of, arounds_before};
-ghost use Rattle.nef_solid.specs.Rays.{SeesNear};
+ghost use Rattle.law_complex.specs.Rays.{SeesNear};
 ghost use Rattle.nef_complex.specs.Complexes.{complex_of, ShowsSet};
 ghost use Rattle.nef_locate.specs.Places.{IsPlaceIn};
 ghost use Rattle.nef_locate.specs.Ends.{end_of, IsLast};

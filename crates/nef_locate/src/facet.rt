@@ -4,14 +4,14 @@ ghost use Rattle.std.specs.Prelude.{◌≡◌, ℕ, ◌<◌, length, pos, Some, 
 ghost use Rattle.nef_space.specs.Place.{form_at, normal_of, InClosedFrame};
 ghost use Rattle.nef_space.specs.Sets.{Set};
 ghost use Rattle.nef_space.specs.Vectors.{SameDirection, dot};
-ghost use Rattle.nef_sphere.specs.Maps.{At, Loop, Item, item_normal, arc_item, OnItem};
+ghost use Rattle.law_sphere.specs.Maps.{At, Loop, Item, item_normal, arc_item, OnItem};
 ghost use Rattle.nef_geo.specs.Hits.{IsPlaceAtMost};
 ghost use Rattle.nef_geo.specs.Shapes.{form_of, vector_of, hit_place};
 ghost use Rattle.nef_geo.specs.Widths.{upright_limit, upright_weight_limit};
 ghost use Rattle.nef_smap.specs.Maps.{map_of, arc_of, IsSphereMap};
-ghost use Rattle.nef_solid.specs.Complexes.{Vertex as PlainVertex, Corner as PlainCorner, IsCorner};
-ghost use Rattle.nef_solid.specs.Laws.{IsFlatIn};
-ghost use Rattle.nef_solid.specs.Skeleton.{PlaneMeet as PlainMeet, Meets, IsCornerAt, HasCorner};
+ghost use Rattle.law_complex.specs.Complexes.{Vertex as PlainVertex, Corner as PlainCorner, IsCorner};
+ghost use Rattle.law_complex.specs.Laws.{IsFlatIn};
+ghost use Rattle.law_complex.specs.Skeleton.{PlaneMeet as PlainMeet, Meets, IsCornerAt, HasCorner};
 ghost use Rattle.nef_complex.specs.Complexes.{complex_of, corner_of, meet_of, vertex_of, ShowsSet};
 ghost use Rattle.nef_locate.specs.Facets.{IsArcThrough, IsItemThrough, IsArcBeside, HasMet};
 

@@ -1,6 +1,6 @@
 //! The plane of an item.
 
-ghost use Rattle.nef_sphere.specs.Maps.{At, Item, items};
+ghost use Rattle.law_sphere.specs.Maps.{At, Item, items};
 ghost use Rattle.nef_smap.specs.Maps.{map_of, loop_of};
 ghost use Rattle.nef_locate.specs.Places.{IsPlaneOf};
 

@@ -7,12 +7,12 @@ use Rattle.nef_space.specs.Vectors.{Vector}
 use Rattle.nef_space.specs.Local.{HasLabel, Germ}
 use Rattle.nef_space.specs.declared.label.Label.{Label}
 use Rattle.nef_space.specs.declared.label.Label.TheVariants.{Out, Not, In}
-use Rattle.nef_near.specs.Cones.{label_not}
-use Rattle.nef_near.proofs.Germs.{label-one, Germ-unique}
-use Rattle.nef_near.proofs.Combine.{not-label, germ-not}
-use Rattle.nef_sphere.specs.Maps.{Map}
-use Rattle.nef_sphere.specs.Least.{Cone}
-use Rattle.nef_sphere.proofs.Labels.{label-unique}
+use Rattle.law_near.specs.Cones.{label_not}
+use Rattle.law_near.proofs.Germs.{label-one, Germ-unique}
+use Rattle.law_near.proofs.Combine.{not-label, germ-not}
+use Rattle.law_sphere.specs.Maps.{Map}
+use Rattle.law_sphere.specs.Least.{Cone}
+use Rattle.law_sphere.proofs.Labels.{label-unique}
 use Rattle.nef_star.specs.declared.op.Op.{Op}
 use Rattle.nef_star.specs.Ops.{op_label}
 use Rattle.nef_combine.specs.Sets.{op_set}

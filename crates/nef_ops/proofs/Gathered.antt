@@ -8,17 +8,17 @@ use Rattle.nef_space.specs.Sets.{Set}
 use Rattle.nef_geo.specs.Shapes.{form_of, place_of}
 use Rattle.nef_geo.specs.declared.plane.Plane.{Plane}
 use Rattle.nef_geo.specs.declared.point.Point.{Point}
-use Rattle.nef_sphere.specs.Least.{InOrder, Cone}
-use Rattle.nef_sphere.specs.Maps.{At}
-use Rattle.nef_sphere.proofs.Lists.{at-one}
+use Rattle.law_sphere.specs.Least.{InOrder, Cone}
+use Rattle.law_sphere.specs.Maps.{At}
+use Rattle.law_sphere.proofs.Lists.{at-one}
 use Rattle.nef_star.specs.declared.op.Op.{Op}
 use Rattle.nef_star.specs.declared.op.Op.TheVariants.{And, Or, Diff, Xor}
 use Rattle.nef_combine.specs.Sets.{op_set}
 use Rattle.nef_smap.specs.declared.map.SphereMap.{SphereMap}
 use Rattle.nef_smap.specs.Maps.{map_of, IsLeastMap}
 use Rattle.nef_smap.proofs.Lists.{map-at, at-map, at-within, at-get, get-at}
-use Rattle.nef_solid.specs.Complexes.{Vertex as PlainVertex}
-use Rattle.nef_solid.specs.Shows.{Carriers, SamePlane}
+use Rattle.law_complex.specs.Complexes.{Vertex as PlainVertex}
+use Rattle.law_complex.specs.Shows.{Carriers, SamePlane}
 use Rattle.nef_complex.specs.declared.complex.Vertex.{Vertex}
 use Rattle.nef_complex.specs.declared.complex.Complex.{Complex}
 use Rattle.nef_complex.specs.Complexes.{vertex_of, ShowsSet}

@@ -10,11 +10,11 @@ use Rattle.nef_smap.specs.declared.map.SLoop.{SLoop}
 use Rattle.nef_smap.specs.declared.map.SphereMap.{SphereMap}
 use Rattle.nef_smap.specs.Maps.{svertex_of, arc_of, loop_of, map_of}
 use Rattle.nef_smap.proofs.Lists.{at-map, at-get}
-use Rattle.nef_sphere.specs.Maps.{At, Svertex, Arc, Loop, Item, arc_item, loop_item, items, item_above, item_mark, item_below}
-use Rattle.nef_sphere.specs.Maps.{Side, around_svertex, above_item, below_item, whole, HasSide, MapLabel, at_svertex, on_item, seen}
-use Rattle.nef_sphere.proofs.Shot.{arc-at}
-use Rattle.nef_sphere.proofs.Arcs.{loop-at}
-use Rattle.nef_border.proofs.Listed.{option-was}
+use Rattle.law_sphere.specs.Maps.{At, Svertex, Arc, Loop, Item, arc_item, loop_item, items, item_above, item_mark, item_below}
+use Rattle.law_sphere.specs.Maps.{Side, around_svertex, above_item, below_item, whole, HasSide, MapLabel, at_svertex, on_item, seen}
+use Rattle.law_sphere.proofs.Shot.{arc-at}
+use Rattle.law_sphere.proofs.Arcs.{loop-at}
+use Rattle.law_border.proofs.Listed.{option-was}
 use Rattle.nef_ops.specs.declared.share.Share.TheVariants.{Nothing, Everything}
 use Rattle.nef_ops.specs.Shares.{Lacks, SvertexLacks, ArcLacks, LoopLacks, HasShare}
 

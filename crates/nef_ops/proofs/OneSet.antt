@@ -4,11 +4,11 @@ use Rattle.nef_space.specs.Place.{Place, Form, step}
 use Rattle.nef_space.specs.Sets.{Set}
 use Rattle.nef_space.specs.Vectors.{Vector}
 use Rattle.nef_space.specs.Local.{Flat, IsVertex}
-use Rattle.nef_near.proofs.FlatOperations.{flat-of, flat-not, flat-inside, flat-closed, flat-border, flat-regular}
-use Rattle.nef_near.proofs.Topology.{regular-label}
-use Rattle.nef_sphere.specs.Least.{Cone}
-use Rattle.nef_sphere.specs.Maps.{Map}
-use Rattle.nef_solid.specs.Shows.{Carriers}
+use Rattle.law_near.proofs.FlatOperations.{flat-of, flat-not, flat-inside, flat-closed, flat-border, flat-regular}
+use Rattle.law_near.proofs.Topology.{regular-label}
+use Rattle.law_sphere.specs.Least.{Cone}
+use Rattle.law_sphere.specs.Maps.{Map}
+use Rattle.law_complex.specs.Shows.{Carriers}
 use Rattle.nef_ops.specs.declared.op.UnaryOp.{UnaryOp}
 use Rattle.nef_ops.specs.declared.op.UnaryOp.TheVariants.{Not, Int, Cl, Bd, Reg}
 use Rattle.nef_ops.specs.Nodes.{unary_set}

@@ -3,8 +3,8 @@ use Rattle.std.specs.Prelude.{ℕ, List, map}
 use Rattle.nef_space.specs.Sets.{Set}
 use Rattle.nef_geo.specs.Shapes.{place_of}
 use Rattle.nef_geo.specs.declared.point.Point.{Point}
-use Rattle.nef_sphere.specs.Maps.{At}
-use Rattle.nef_sphere.specs.Least.{Cone}
+use Rattle.law_sphere.specs.Maps.{At}
+use Rattle.law_sphere.specs.Least.{Cone}
 use Rattle.nef_smap.specs.declared.map.SphereMap.{SphereMap}
 use Rattle.nef_smap.specs.Maps.{map_of, IsLeastMap}
 use Rattle.nef_complex.specs.declared.complex.Vertex.{Vertex}

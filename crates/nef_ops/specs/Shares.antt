@@ -3,11 +3,11 @@ use Rattle.std.specs.Prelude.{◌≡◌, Some}
 use Rattle.nef_space.specs.Vectors.{Vector}
 use Rattle.nef_space.specs.declared.label.Label.{Label}
 use Rattle.nef_space.specs.declared.label.Label.TheVariants.{Out, Not, In}
-use Rattle.nef_near.specs.Cones.{label_not}
+use Rattle.law_near.specs.Cones.{label_not}
 use Rattle.nef_smap.specs.declared.map.SVertex.{SVertex}
 use Rattle.nef_smap.specs.declared.map.SArc.{SArc}
 use Rattle.nef_smap.specs.declared.map.SLoop.{SLoop}
-use Rattle.nef_sphere.specs.Maps.{Map, MapLabel}
+use Rattle.law_sphere.specs.Maps.{Map, MapLabel}
 use Rattle.nef_star.specs.declared.op.Op.{Op}
 use Rattle.nef_star.specs.Ops.{op_label}
 use Rattle.nef_ops.specs.declared.share.Share.{Share}

@@ -5,7 +5,7 @@ ghost use Rattle.nef_space.specs.declared.label.Label.{Label as PlainLabel};
 ghost use Rattle.nef_star.specs.Ops.{op_label};
 ghost use Rattle.nef_space.specs.Place.{Place};
 ghost use Rattle.nef_space.specs.Sets.{Set};
-ghost use Rattle.nef_sphere.specs.Least.{Cone};
+ghost use Rattle.law_sphere.specs.Least.{Cone};
 ghost use Rattle.nef_smap.specs.Maps.{map_of, IsLeastMap};
 ghost use Rattle.nef_combine.specs.Sets.{op_set};
 

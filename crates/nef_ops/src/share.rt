@@ -1,7 +1,7 @@
 //! What a set holds of the frame close to a point, by its map there.
 
 ghost use Rattle.std.specs.Prelude.{◌≡◌, ℕ, Some, IsTrue};
-ghost use Rattle.nef_sphere.specs.Maps.{At};
+ghost use Rattle.law_sphere.specs.Maps.{At};
 ghost use Rattle.nef_smap.specs.Maps.{map_of};
 ghost use Rattle.nef_smap.specs.declared.map.SVertex.{SVertex as PlainSVertex};
 ghost use Rattle.nef_smap.specs.declared.map.SArc.{SArc as PlainSArc};

@@ -3,7 +3,7 @@
 ghost use Rattle.std.specs.Prelude.{◌≡◌, ◌≤◌, map, IfOk};
 ghost use Rattle.nef_space.specs.Place.{Place};
 ghost use Rattle.nef_space.specs.Sets.{Set};
-ghost use Rattle.nef_sphere.specs.Least.{Cone};
+ghost use Rattle.law_sphere.specs.Least.{Cone};
 ghost use Rattle.nef_smap.specs.Maps.{map_of, IsSphereMap, IsLeastMap};
 ghost use Rattle.nef_complex.specs.Complexes.{ShowsSet};
 ghost use Rattle.nef_ops.specs.Nodes.{unary_set};

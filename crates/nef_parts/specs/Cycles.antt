@@ -3,9 +3,9 @@ use Rattle.std.specs.Prelude.{◌≡◌, ℕ, pos, List, [], ◌∷◌, ◌⊎�
 use Rattle.std.specs.List.{All}
 use Rattle.nef_space.specs.Numbers.{IsBelow}
 use Rattle.nef_space.specs.Vectors.{SameDirection}
-use Rattle.nef_sphere.specs.Least.{InOrder}
-use Rattle.nef_sphere.specs.Maps.{At, Arc, Loop, loop_item}
-use Rattle.nef_solid.specs.Complexes.{Vertex, Edge, Complex, Corner, IsCorner}
+use Rattle.law_sphere.specs.Least.{InOrder}
+use Rattle.law_sphere.specs.Maps.{At, Arc, Loop, loop_item}
+use Rattle.law_complex.specs.Complexes.{Vertex, Edge, Complex, Corner, IsCorner}
 
 -- the edge leads from svertex s of vertex i to svertex t of vertex j
 abbrev pub Leads : Edge → ℕ → ℕ → ℕ → ℕ → Type 0

@@ -7,12 +7,12 @@ use Rattle.nef_space.specs.Vectors.{SameDirection}
 use Rattle.nef_space.specs.declared.label.Label.{Label}
 use Rattle.nef_space.specs.declared.label.Label.TheVariants.{Out}
 use Rattle.nef_geo.specs.Shapes.{form_of}
-use Rattle.nef_sphere.specs.Maps.{At, Item, items, item_normal, item_mark, above_item, below_item}
+use Rattle.law_sphere.specs.Maps.{At, Item, items, item_normal, item_mark, above_item, below_item}
 use Rattle.nef_smap.specs.Sides.{sides_of, IsSide}
-use Rattle.nef_solid.specs.Complexes.{Vertex, Complex, Corner, IsCorner}
-use Rattle.nef_solid.specs.Rays.{VertexSide, HasSideLabel}
+use Rattle.law_complex.specs.Complexes.{Vertex, Complex, Corner, IsCorner}
+use Rattle.law_complex.specs.Rays.{VertexSide, HasSideLabel}
 use Rattle.nef_complex.specs.Complexes.{corner_of}
-use Rattle.nef_links.specs.Links.{FacetLink, VolumeLink}
+use Rattle.law_links.specs.Links.{FacetLink, VolumeLink}
 use Rattle.nef_parts.specs.Cycles.{IsCornerBelow, Cycles}
 use Rattle.nef_parts.specs.declared.parts.Cycle.{Cycle}
 use Rattle.nef_parts.specs.declared.parts.Facet.{Facet}

@@ -1,8 +1,8 @@
 -- A point is strictly between the ends of an edge, or is a vertex, exactly where all carriers see it so.
 use Rattle.std.proofs.Common.{◌≡◌, ℕ, ◌<◌, ℤ, pos, ◌+ℤ◌, ◌-ℤ◌, ◌*ℤ◌, ◌<ℤ◌, arith, ap, sym, ◌∙◌, ⊎_elim, subst, [], ◌∷◌}
 use Rattle.std.proofs.lemmas.Int.{ints}
-use Rattle.nef_exact.proofs.Ring.{ring, at, num, ◌⊕◌, ◌⊖◌, ◌⊗◌}
-use Rattle.nef_exact.proofs.Order.{mul_pos, mul_neg, by_order}
+use Rattle.law_arithmetic.proofs.Ring.{ring, at, num, ◌⊕◌, ◌⊖◌, ◌⊗◌}
+use Rattle.law_arithmetic.proofs.Order.{mul_pos, mul_neg, by_order}
 use Rattle.nef_space.specs.Place.{Place, Form, form_at, slope, normal_of, toward, SamePlace, IsBetween}
 use Rattle.nef_space.specs.Sets.{Set}
 use Rattle.nef_space.specs.Vectors.{opposite, dot, cross, IsZero, IsDirection, SameDirection}
@@ -11,25 +11,25 @@ use Rattle.nef_geo.specs.Signs.{sign_of}
 use Rattle.nef_geo.specs.declared.sign.Sign.TheVariants.{Minus, Zero, Plus}
 use Rattle.nef_geo.proofs.Signs.{sign_of-positive, sign_of-negative}
 use Rattle.nef_arc.proofs.SignNumbers.{zero_sign}
-use Rattle.nef_forms.specs.Homogeneous.{of_place}
-use Rattle.nef_forms.proofs.Between.{toward-place}
-use Rattle.nef_forms.proofs.Directions.{zero-decided}
-use Rattle.nef_forms.proofs.Far.{nought-or}
-use Rattle.nef_forms.proofs.Near.{slope-toward}
-use Rattle.nef_forms.proofs.Sums.{form-sum}
-use Rattle.nef_near.proofs.Between.{mixed-of, between-turned}
-use Rattle.nef_near.proofs.FlatDecided.{cross-turned}
-use Rattle.nef_near.proofs.Flats.{vector-same}
-use Rattle.nef_sphere.specs.Maps.{At}
-use Rattle.nef_sphere.proofs.Compare.{SameDirection-turned, SameDirection-trans}
+use Rattle.law_forms.specs.Homogeneous.{of_place}
+use Rattle.law_forms.proofs.Between.{toward-place}
+use Rattle.law_forms.proofs.Directions.{zero-decided}
+use Rattle.law_forms.proofs.Far.{nought-or}
+use Rattle.law_forms.proofs.Near.{slope-toward}
+use Rattle.law_forms.proofs.Sums.{form-sum}
+use Rattle.law_near.proofs.Between.{mixed-of, between-turned}
+use Rattle.law_near.proofs.FlatDecided.{cross-turned}
+use Rattle.law_near.proofs.Flats.{vector-same}
+use Rattle.law_sphere.specs.Maps.{At}
+use Rattle.law_sphere.proofs.Compare.{SameDirection-turned, SameDirection-trans}
 use Rattle.nef_smap.proofs.Lists.{map-at}
-use Rattle.nef_solid.specs.Complexes.{HasEnds}
-use Rattle.nef_solid.specs.Complexes.{Vertex as PlainVertex}
-use Rattle.nef_solid.specs.Shows.{Shows}
-use Rattle.nef_solid.specs.Skeleton.{IsVertexPoint, IsEdgePoint}
-use Rattle.nef_solid.proofs.FacetAngles.{same-by, same-by-minus, cross-back, aligned}
-use Rattle.nef_solid.proofs.FacetEdges.{ahead-back}
-use Rattle.nef_solid.proofs.Planes.{plane-way}
+use Rattle.law_complex.specs.Complexes.{HasEnds}
+use Rattle.law_complex.specs.Complexes.{Vertex as PlainVertex}
+use Rattle.law_complex.specs.Shows.{Shows}
+use Rattle.law_complex.specs.Skeleton.{IsVertexPoint, IsEdgePoint}
+use Rattle.law_complex.proofs.FacetAngles.{same-by, same-by-minus, cross-back, aligned}
+use Rattle.law_complex.proofs.FacetEdges.{ahead-back}
+use Rattle.law_complex.proofs.Planes.{plane-way}
 use Rattle.nef_complex.specs.declared.complex.Vertex.{Vertex}
 use Rattle.nef_complex.specs.declared.complex.Edge.{Edge}
 use Rattle.nef_complex.specs.declared.complex.Complex.{Complex}

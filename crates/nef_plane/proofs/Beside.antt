@@ -1,27 +1,27 @@
 -- An edge along the ray has an end between the ray's start and each of its points ahead.
 use Rattle.std.proofs.Common.{◌≡◌, ℕ, ℤ, pos, neg_ℤ, ◌-ℤ◌, ◌*ℤ◌, ◌<ℤ◌, arith, sym, ap, ◌∙◌, ◌⊎◌, inl, inr, ⊎_elim, subst, refl, [], ◌∷◌}
 use Rattle.std.proofs.lemmas.Int.{ints}
-use Rattle.nef_exact.proofs.Ring.{ring, at, num, neg, ◌⊕◌, ◌⊖◌, ◌⊗◌}
-use Rattle.nef_exact.proofs.Order.{by_order}
+use Rattle.law_arithmetic.proofs.Ring.{ring, at, num, neg, ◌⊕◌, ◌⊖◌, ◌⊗◌}
+use Rattle.law_arithmetic.proofs.Order.{by_order}
 use Rattle.nef_space.specs.Place.{Place, Form, toward, SamePlace, IsAhead, IsBetween}
 use Rattle.nef_space.specs.Sets.{Set}
 use Rattle.nef_space.specs.Vectors.{Vector, opposite, dot, cross, IsZero, IsDirection, SameDirection, IsOpposite}
-use Rattle.nef_forms.proofs.Between.{between-same, toward-place}
-use Rattle.nef_forms.proofs.Directions.{zero-decided, dot-comm}
-use Rattle.nef_near.proofs.Between.{between-inner, between-turned}
-use Rattle.nef_near.proofs.FlatDecided.{cross-turned}
-use Rattle.nef_near.proofs.Flats.{vector-same}
-use Rattle.nef_near.proofs.Rays.{same-place_sym}
-use Rattle.nef_sphere.specs.Maps.{At}
-use Rattle.nef_sphere.proofs.Compare.{SameDirection-turned, SameDirection-trans}
-use Rattle.nef_sphere.proofs.Lists.{at-one}
-use Rattle.nef_sphere.proofs.Vectors.{nought-if}
-use Rattle.nef_solid.specs.Complexes.{Vertex, Edge, Complex, HasEnds, IsEdge}
-use Rattle.nef_solid.specs.Shows.{Shows}
-use Rattle.nef_solid.specs.Skeleton.{meets_edge, IsVertexPoint}
-use Rattle.nef_solid.proofs.FacetAngles.{cross-back}
-use Rattle.nef_solid.proofs.FacetEdges.{ahead-back}
-use Rattle.nef_solid.proofs.Ways.{between-way, between-ends, same-itself}
+use Rattle.law_forms.proofs.Between.{between-same, toward-place}
+use Rattle.law_forms.proofs.Directions.{zero-decided, dot-comm}
+use Rattle.law_near.proofs.Between.{between-inner, between-turned}
+use Rattle.law_near.proofs.FlatDecided.{cross-turned}
+use Rattle.law_near.proofs.Flats.{vector-same}
+use Rattle.law_near.proofs.Rays.{same-place_sym}
+use Rattle.law_sphere.specs.Maps.{At}
+use Rattle.law_sphere.proofs.Compare.{SameDirection-turned, SameDirection-trans}
+use Rattle.law_sphere.proofs.Lists.{at-one}
+use Rattle.law_sphere.proofs.Vectors.{nought-if}
+use Rattle.law_complex.specs.Complexes.{Vertex, Edge, Complex, HasEnds, IsEdge}
+use Rattle.law_complex.specs.Shows.{Shows}
+use Rattle.law_complex.specs.Skeleton.{meets_edge, IsVertexPoint}
+use Rattle.law_complex.proofs.FacetAngles.{cross-back}
+use Rattle.law_complex.proofs.FacetEdges.{ahead-back}
+use Rattle.law_complex.proofs.Ways.{between-way, between-ends, same-itself}
 use Rattle.nef_complex.specs.Planes.{HoldsBoth}
 use Rattle.nef_complex.proofs.Lines.{on_line}
 use Rattle.nef_plane.specs.Meets.{HasNoSvertex, IsOffEdges, AtEdgeNumber}

@@ -8,7 +8,7 @@ use Rattle.nef_geo.specs.Hits.{IsCrossing, IsReached}
 use Rattle.nef_geo.specs.Shapes.{form_of, far_place}
 use Rattle.nef_geo.specs.declared.hit.FarHit.{FarHit}
 use Rattle.nef_geo.specs.declared.plane.Plane.{Plane}
-use Rattle.nef_solid.proofs.Ways.{same-itself}
+use Rattle.law_complex.proofs.Ways.{same-itself}
 use Rattle.nef_complex.specs.Planes.{HoldsBoth}
 use Rattle.nef_plane.specs.Meets.{Encounter, far_reach_of, IsAlongAxis, sweep_form, AreOpposite, IsHitThrough, NoneCrosses, IsMet, AllHold, IsNearer, IsNotPast}
 use Rattle.nef_plane.proofs.Meeting.{met-some, met-all}

@@ -1,25 +1,25 @@
 -- Not all carriers that hold a vertex are along one direction, and those that hold an edge only where the edge is.
 use Rattle.std.proofs.Common.{◌≡◌, ℕ, pos, sym, ◌∙◌, subst}
-use Rattle.nef_exact.specs.Signs.{Lies}
-use Rattle.nef_exact.proofs.Order.{nought-is}
+use Rattle.law_arithmetic.specs.Signs.{Lies}
+use Rattle.law_arithmetic.proofs.Order.{nought-is}
 use Rattle.nef_space.specs.Local.{Flat}
 use Rattle.nef_space.specs.Place.{Place, Form, form_at, slope, normal_of, toward, IsBetween}
 use Rattle.nef_space.specs.Sets.{Set}
 use Rattle.nef_space.specs.Vectors.{Vector, cross, IsZero, IsDirection}
 use Rattle.nef_geo.specs.Shapes.{form_of}
-use Rattle.nef_forms.proofs.Directions.{dot-comm}
-use Rattle.nef_near.specs.Cells.{carriers}
-use Rattle.nef_near.specs.Laws.{EdgeSupport}
-use Rattle.nef_near.proofs.Edges.{start, start-between}
-use Rattle.nef_near.proofs.FlatDecided.{parallel-both, triple-in_plane, cross-turned}
-use Rattle.nef_near.proofs.Meets.{vertex-meets}
-use Rattle.nef_near.proofs.Supports.{edge-support}
-use Rattle.nef_sphere.specs.Maps.{At}
+use Rattle.law_forms.proofs.Directions.{dot-comm}
+use Rattle.law_near.specs.Cells.{carriers}
+use Rattle.law_near.specs.Laws.{EdgeSupport}
+use Rattle.law_near.proofs.Edges.{start, start-between}
+use Rattle.law_near.proofs.FlatDecided.{parallel-both, triple-in_plane, cross-turned}
+use Rattle.law_near.proofs.Meets.{vertex-meets}
+use Rattle.law_near.proofs.Supports.{edge-support}
+use Rattle.law_sphere.specs.Maps.{At}
 use Rattle.nef_smap.proofs.Lists.{at-map}
-use Rattle.nef_solid.specs.Complexes.{Vertex, Edge, HasEnds}
-use Rattle.nef_solid.specs.Shows.{Shows, SamePlane}
-use Rattle.nef_solid.proofs.Edges.{edge-points, edge-way}
-use Rattle.nef_solid.proofs.Planes.{plane-turned, plane-point, plane-slope}
+use Rattle.law_complex.specs.Complexes.{Vertex, Edge, HasEnds}
+use Rattle.law_complex.specs.Shows.{Shows, SamePlane}
+use Rattle.law_complex.proofs.Edges.{edge-points, edge-way}
+use Rattle.law_complex.proofs.Planes.{plane-turned, plane-point, plane-slope}
 use Rattle.nef_complex.specs.declared.complex.Complex.{Complex}
 use Rattle.nef_complex.specs.Complexes.{complex_of}
 use Rattle.nef_complex.specs.Planes.{HoldsBoth}

@@ -4,22 +4,22 @@ use Rattle.nef_space.specs.Place.{Place, Form, form_at, slope, normal_of, toward
 use Rattle.nef_space.specs.Sets.{Set}
 use Rattle.nef_space.specs.Vectors.{Vector, cross, IsZero, IsDirection}
 use Rattle.nef_geo.specs.Shapes.{place_of}
-use Rattle.nef_forms.specs.Homogeneous.{of_place}
-use Rattle.nef_forms.proofs.Between.{place-toward, place-factor, factor-place}
-use Rattle.nef_forms.proofs.Directions.{direction-right}
-use Rattle.nef_forms.proofs.Sums.{same-trans}
-use Rattle.nef_near.proofs.Between.{between-inner}
-use Rattle.nef_near.proofs.Rays.{same-place_sym}
-use Rattle.nef_sphere.specs.Maps.{At}
-use Rattle.nef_sphere.proofs.KindFlats.{in-span}
-use Rattle.nef_sphere.proofs.Lists.{at-one}
+use Rattle.law_forms.specs.Homogeneous.{of_place}
+use Rattle.law_forms.proofs.Between.{place-toward, place-factor, factor-place}
+use Rattle.law_forms.proofs.Directions.{direction-right}
+use Rattle.law_forms.proofs.Sums.{same-trans}
+use Rattle.law_near.proofs.Between.{between-inner}
+use Rattle.law_near.proofs.Rays.{same-place_sym}
+use Rattle.law_sphere.specs.Maps.{At}
+use Rattle.law_sphere.proofs.KindFlats.{in-span}
+use Rattle.law_sphere.proofs.Lists.{at-one}
 use Rattle.nef_smap.proofs.Lists.{map-at, at-map, at-within}
-use Rattle.nef_solid.specs.Complexes.{HasEnds}
-use Rattle.nef_solid.specs.Complexes.{Vertex as PlainVertex, Edge as PlainEdge}
-use Rattle.nef_solid.specs.Shows.{Shows}
-use Rattle.nef_solid.specs.Skeleton.{PlaneMeet as PlainMeet, meets_vertex, meets_edge, Meets, IsFirstInPlane}
-use Rattle.nef_solid.proofs.Planes.{plane-way}
-use Rattle.nef_solid.proofs.Ways.{same-itself}
+use Rattle.law_complex.specs.Complexes.{HasEnds}
+use Rattle.law_complex.specs.Complexes.{Vertex as PlainVertex, Edge as PlainEdge}
+use Rattle.law_complex.specs.Shows.{Shows}
+use Rattle.law_complex.specs.Skeleton.{PlaneMeet as PlainMeet, meets_vertex, meets_edge, Meets, IsFirstInPlane}
+use Rattle.law_complex.proofs.Planes.{plane-way}
+use Rattle.law_complex.proofs.Ways.{same-itself}
 use Rattle.nef_complex.specs.declared.complex.Vertex.{Vertex}
 use Rattle.nef_complex.specs.declared.complex.Edge.{Edge}
 use Rattle.nef_complex.specs.declared.complex.Complex.{Complex}

@@ -4,13 +4,13 @@ use Rattle.nef_space.specs.Lists.{IsAt}
 use Rattle.nef_space.specs.Place.{Place, Form, form_at, IsAhead}
 use Rattle.nef_space.specs.Vectors.{Vector, IsDirection}
 use Rattle.nef_geo.specs.Shapes.{place_of}
-use Rattle.nef_near.proofs.Rays.{same-place_sym}
-use Rattle.nef_sphere.specs.Maps.{At}
+use Rattle.law_near.proofs.Rays.{same-place_sym}
+use Rattle.law_sphere.specs.Maps.{At}
 use Rattle.nef_smap.proofs.ClassLists.{is-at_one}
 use Rattle.nef_smap.proofs.Lists.{at-map}
 use Rattle.nef_smap.proofs.SideLists.{get-from_at}
-use Rattle.nef_solid.specs.Complexes.{Vertex as PlainVertex, Edge as PlainEdge}
-use Rattle.nef_solid.specs.Skeleton.{PlaneMeet}
+use Rattle.law_complex.specs.Complexes.{Vertex as PlainVertex, Edge as PlainEdge}
+use Rattle.law_complex.specs.Skeleton.{PlaneMeet}
 use Rattle.nef_complex.specs.declared.complex.Vertex.{Vertex}
 use Rattle.nef_complex.specs.declared.complex.Edge.{Edge}
 use Rattle.nef_complex.specs.declared.complex.Complex.{Complex}

@@ -1,10 +1,10 @@
 -- Where a ray along the axis of a plane meets a segment of the plane, or a point of it.
 use Rattle.std.proofs.Common.{◌≡◌, zero, suc, ℤ, pos, negsuc, neg_ℤ, ◌*ℤ◌, ◌<ℤ◌, List, ap, sym, ◌∙◌, arith, ◌⊎◌, inl, inr, ⊎_elim, refl, [], ◌∷◌}
 use Rattle.std.proofs.lemmas.Int.{ints}
-use Rattle.nef_exact.specs.Signs.{sign}
-use Rattle.nef_exact.proofs.Ring.{ring, at, num, ◌⊖◌, ◌⊗◌}
-use Rattle.nef_exact.proofs.Combination.{given, none, follows_times}
-use Rattle.nef_exact.proofs.Order.{nought-is}
+use Rattle.law_arithmetic.specs.Signs.{sign}
+use Rattle.law_arithmetic.proofs.Ring.{ring, at, num, ◌⊖◌, ◌⊗◌}
+use Rattle.law_arithmetic.proofs.Combination.{given, none, follows_times}
+use Rattle.law_arithmetic.proofs.Order.{nought-is}
 use Rattle.nef_space.specs.Place.{Place, Form, form_at, slope, normal_of, toward, SamePlace, IsAhead, IsBetween}
 use Rattle.nef_space.specs.Vectors.{Vector, dot, cross, IsZero, IsDirection}
 use Rattle.nef_geo.specs.Hits.{IsCrossing}
@@ -13,16 +13,16 @@ use Rattle.nef_geo.specs.Signs.{sign_of}
 use Rattle.nef_geo.specs.Steps.{HasOppositeSigns}
 use Rattle.nef_geo.specs.declared.plane.Plane.{Plane}
 use Rattle.nef_geo.proofs.Signs.{sign_of-positive, sign_of-negative}
-use Rattle.nef_forms.proofs.Between.{between-same, toward-place, place-toward}
-use Rattle.nef_forms.proofs.Directions.{zero-decided, dot-zero}
-use Rattle.nef_forms.proofs.Far.{nought-or}
-use Rattle.nef_forms.proofs.Near.{slope-toward}
-use Rattle.nef_near.proofs.FlatDecided.{cross-turned}
-use Rattle.nef_near.proofs.Rays.{sign-same, same-place_sym}
-use Rattle.nef_sphere.proofs.KindFlats.{in-span}
-use Rattle.nef_solid.proofs.FacetAngles.{through-at, through-slope}
-use Rattle.nef_solid.proofs.Planes.{plane-way}
-use Rattle.nef_solid.proofs.Ways.{same-itself}
+use Rattle.law_forms.proofs.Between.{between-same, toward-place, place-toward}
+use Rattle.law_forms.proofs.Directions.{zero-decided, dot-zero}
+use Rattle.law_forms.proofs.Far.{nought-or}
+use Rattle.law_forms.proofs.Near.{slope-toward}
+use Rattle.law_near.proofs.FlatDecided.{cross-turned}
+use Rattle.law_near.proofs.Rays.{sign-same, same-place_sym}
+use Rattle.law_sphere.proofs.KindFlats.{in-span}
+use Rattle.law_complex.proofs.FacetAngles.{through-at, through-slope}
+use Rattle.law_complex.proofs.Planes.{plane-way}
+use Rattle.law_complex.proofs.Ways.{same-itself}
 use Rattle.nef_complex.specs.Planes.{HoldsBoth}
 use Rattle.nef_plane.specs.Meets.{IsAlongAxis, sweep_axis, sweep_form, AreOpposite, NoneCrosses, IsMet, AllHold}
 use Rattle.nef_plane.proofs.Axes.{axis-some, axis-level, axis-keeps, axis-parallel}

@@ -3,13 +3,13 @@ use Rattle.std.proofs.Common.{◌≡◌, ℕ, ◌<◌, ◌≤◌, ◌+◌, List,
 use Rattle.std.proofs.Math.Nat.{eq-or-lt_of_le}
 use Rattle.nef_space.specs.Place.{Place, toward, IsAhead, IsBetween}
 use Rattle.nef_space.specs.Vectors.{Vector}
-use Rattle.nef_forms.proofs.Between.{between-same}
-use Rattle.nef_near.proofs.Between.{between-inner}
+use Rattle.law_forms.proofs.Between.{between-same}
+use Rattle.law_near.proofs.Between.{between-inner}
 use Rattle.nef_smap.proofs.ClassLists.{is-at_one, is-at_within}
 use Rattle.nef_space.specs.Lists.{IsAt}
-use Rattle.nef_sphere.proofs.Compare.{SameDirection-turned, SameDirection-trans}
-use Rattle.nef_solid.proofs.Ways.{between-way, same-itself}
-use Rattle.nef_solid.specs.Skeleton.{PlaneMeet}
+use Rattle.law_sphere.proofs.Compare.{SameDirection-turned, SameDirection-trans}
+use Rattle.law_complex.proofs.Ways.{between-way, same-itself}
+use Rattle.law_complex.specs.Skeleton.{PlaneMeet}
 use Rattle.nef_plane.specs.Meets.{Encounter, IsNearest, IsNearestMet, IsNearer, IsNotPast}
 
 -- what lies between a point and one ahead of it is ahead

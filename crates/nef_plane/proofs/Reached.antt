@@ -8,14 +8,14 @@ use Rattle.nef_geo.specs.Hits.{IsCrossing, IsReached}
 use Rattle.nef_geo.specs.Shapes.{form_of, place_of, hit_place}
 use Rattle.nef_geo.specs.declared.hit.Hit.{Hit}
 use Rattle.nef_geo.specs.declared.plane.Plane.{Plane}
-use Rattle.nef_sphere.specs.Maps.{At}
-use Rattle.nef_forms.proofs.Between.{between-same}
-use Rattle.nef_forms.proofs.Far.{nought-or}
-use Rattle.nef_near.proofs.Rays.{same-place_sym}
+use Rattle.law_sphere.specs.Maps.{At}
+use Rattle.law_forms.proofs.Between.{between-same}
+use Rattle.law_forms.proofs.Far.{nought-or}
+use Rattle.law_near.proofs.Rays.{same-place_sym}
 use Rattle.nef_smap.proofs.Lists.{map-at}
-use Rattle.nef_solid.specs.Shows.{Shows}
-use Rattle.nef_solid.specs.Skeleton.{IsVertexPoint, IsEdgePoint}
-use Rattle.nef_solid.proofs.Ways.{same-itself}
+use Rattle.law_complex.specs.Shows.{Shows}
+use Rattle.law_complex.specs.Skeleton.{IsVertexPoint, IsEdgePoint}
+use Rattle.law_complex.proofs.Ways.{same-itself}
 use Rattle.nef_complex.specs.declared.complex.Vertex.{Vertex}
 use Rattle.nef_complex.specs.declared.complex.Edge.{Edge}
 use Rattle.nef_complex.specs.declared.complex.Complex.{Complex}

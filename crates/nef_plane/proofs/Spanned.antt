@@ -3,9 +3,9 @@ use Rattle.std.proofs.Common.{◌≡◌, ℕ, ℤ, pos, neg_ℤ, ◌-ℤ◌, ◌
 use Rattle.std.proofs.lemmas.Int.{ints}
 use mir.Syntax.{w128}
 use mir.Val.{to_z, of_z}
-use Rattle.nef_exact.proofs.Combination.{given, none, follows_times}
-use Rattle.nef_exact.proofs.Machine.{Code, load, wrap, ◌⊟◌, ◌⊠◌, run, Limited, exact_of}
-use Rattle.nef_exact.proofs.Ring.{ring, at, num, neg, ◌⊕◌, ◌⊖◌, ◌⊗◌}
+use Rattle.law_arithmetic.proofs.Combination.{given, none, follows_times}
+use Rattle.law_arithmetic.proofs.Machine.{Code, load, wrap, ◌⊟◌, ◌⊠◌, run, Limited, exact_of}
+use Rattle.law_arithmetic.proofs.Ring.{ring, at, num, neg, ◌⊕◌, ◌⊖◌, ◌⊗◌}
 use Rattle.nef_space.specs.Limits.{up_x, point_limit}
 use Rattle.nef_space.specs.Place.{Place, form_at, slope, normal_of, toward, IsAhead}
 use Rattle.nef_space.specs.Vectors.{Vector, dot, up, opposite, beside_x, beside_y, IsAtMost, IsDirection, IsParallel}
@@ -18,7 +18,7 @@ use Rattle.nef_geo.specs.declared.point.Point.{Point}
 use Rattle.nef_geo.specs.declared.sign.Sign.{Sign}
 use Rattle.nef_geo.proofs.Places.{pos_size}
 use Rattle.nef_smap.proofs.Upward.{normal-ahead}
-use Rattle.nef_solid.proofs.FacetAngles.{through-at}
+use Rattle.law_complex.proofs.FacetAngles.{through-at}
 use Rattle.nef_plane.specs.Upright.{gap_limit, plane_along_x, plane_along_y}
 use Rattle.nef_plane.proofs.Sweep.{exact-of, exact-weight, numbers-same}
 

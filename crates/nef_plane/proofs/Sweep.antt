@@ -4,8 +4,8 @@ use Rattle.std.specs.Ordering.{int_eq}
 use Rattle.std.proofs.lemmas.Bool.Decides.{Decides-int_eq}
 use mir.Syntax.{w128}
 use mir.Val.{to_z, of_z}
-use Rattle.nef_exact.proofs.Machine.{load, wrap, exact_of}
-use Rattle.nef_exact.proofs.Ring.{ring, at, num, ◌⊕◌, ◌⊖◌, ◌⊗◌}
+use Rattle.law_arithmetic.proofs.Machine.{load, wrap, exact_of}
+use Rattle.law_arithmetic.proofs.Ring.{ring, at, num, ◌⊕◌, ◌⊖◌, ◌⊗◌}
 use Rattle.nef_space.specs.Limits.{point_limit, weight_limit}
 use Rattle.nef_space.specs.Place.{Place, form_at, plane_through, toward}
 use Rattle.nef_space.specs.Vectors.{Vector, vector, dot}
@@ -17,7 +17,7 @@ use Rattle.nef_geo.specs.declared.hit.Hit.{Hit}
 use Rattle.nef_geo.specs.declared.plane.Plane.{Plane}
 use Rattle.nef_geo.specs.declared.point.Point.{Point}
 use Rattle.nef_geo.proofs.Places.{pos_size}
-use Rattle.nef_solid.proofs.FacetAngles.{through-at}
+use Rattle.law_complex.proofs.FacetAngles.{through-at}
 use Rattle.nef_plane.specs.Meets.{sweep_form}
 
 -- ---- numbers within their bounds

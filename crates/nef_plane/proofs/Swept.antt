@@ -6,11 +6,11 @@ use Rattle.nef_space.specs.Vectors.{Vector}
 use Rattle.nef_geo.specs.Shapes.{form_of, place_of, far_place}
 use Rattle.nef_geo.specs.declared.hit.FarHit.{FarHit}
 use Rattle.nef_geo.specs.declared.plane.Plane.{Plane}
-use Rattle.nef_forms.proofs.Between.{place-toward}
-use Rattle.nef_near.proofs.Rays.{same-place_sym}
-use Rattle.nef_sphere.specs.Maps.{At}
-use Rattle.nef_solid.specs.Shows.{Shows}
-use Rattle.nef_solid.proofs.Ways.{between-ends, same-itself}
+use Rattle.law_forms.proofs.Between.{place-toward}
+use Rattle.law_near.proofs.Rays.{same-place_sym}
+use Rattle.law_sphere.specs.Maps.{At}
+use Rattle.law_complex.specs.Shows.{Shows}
+use Rattle.law_complex.proofs.Ways.{between-ends, same-itself}
 use Rattle.nef_complex.specs.declared.complex.Vertex.{Vertex}
 use Rattle.nef_complex.specs.declared.complex.Edge.{Edge}
 use Rattle.nef_complex.specs.declared.complex.Complex.{Complex}

@@ -4,7 +4,7 @@ use Rattle.nef_space.specs.Place.{Place, Form, form_at}
 use Rattle.nef_geo.specs.Shapes.{form_of}
 use Rattle.nef_geo.specs.Signs.{sign_of}
 use Rattle.nef_geo.specs.declared.plane.Plane.{Plane}
-use Rattle.nef_sphere.specs.Maps.{At}
+use Rattle.law_sphere.specs.Maps.{At}
 
 -- where the plane holds a, y lies on the side of b
 abbrev pub SidesWith : Form → Place → Place → Place → Type 0

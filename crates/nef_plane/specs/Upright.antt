@@ -5,8 +5,8 @@ use Rattle.nef_space.specs.Vectors.{Vector, beside_x, beside_y}
 use Rattle.nef_geo.specs.Hits.{IsReached, IsPlaceAtMost}
 use Rattle.nef_geo.specs.Shapes.{hit_place}
 use Rattle.nef_geo.specs.Widths.{upright_limit, upright_weight_limit}
-use Rattle.nef_solid.specs.Complexes.{Complex}
-use Rattle.nef_solid.specs.Skeleton.{PlaneMeet, meets_vertex, meets_edge, IsVertexPoint, IsEdgePoint, IsOnEdges}
+use Rattle.law_complex.specs.Complexes.{Complex}
+use Rattle.law_complex.specs.Skeleton.{PlaneMeet, meets_vertex, meets_edge, IsVertexPoint, IsEdgePoint, IsOnEdges}
 use Rattle.nef_complex.specs.Complexes.{meet_of}
 use Rattle.nef_plane.specs.declared.along.Met.{Met}
 use Rattle.nef_plane.specs.declared.upright.EdgeHit.{EdgeHit}

@@ -7,7 +7,7 @@ ghost use Rattle.nef_space.specs.Sets.{Set};
 ghost use Rattle.nef_space.specs.Vectors.{IsAtMost};
 ghost use Rattle.nef_geo.specs.Shapes.{form_of, vector_of, place_of};
 ghost use Rattle.nef_geo.specs.Widths.{ray_limit};
-ghost use Rattle.nef_solid.specs.Skeleton.{PlaneMeet as PlainMeet, Meets, IsFirstInPlane};
+ghost use Rattle.law_complex.specs.Skeleton.{PlaneMeet as PlainMeet, Meets, IsFirstInPlane};
 ghost use Rattle.nef_complex.specs.Complexes.{complex_of, meet_of, ShowsSet};
 ghost use Rattle.nef_complex.specs.Index.{LiesOn, EdgeLiesIn, AreNumbersWith};
 ghost use Rattle.nef_plane.specs.Meets.{HasNoSvertex, FromVertex, HoldsRay, IsHitThrough, AllHold, IsAcross, IsWithin, AtVertexNumber, AtEdgeNumber, AtSomeVertex, AtSomeEdge, AtVertexOrEdge, IsNearest, IsNearer, IsReachedMet, met_of, reach_of};

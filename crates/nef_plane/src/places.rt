@@ -6,7 +6,7 @@
 ghost use Rattle.std.specs.Prelude.{ℕ, ◌<◌, length, ◌↔◌, IsTrue};
 ghost use Rattle.nef_space.specs.Sets.{Set};
 ghost use Rattle.nef_geo.specs.Shapes.{form_of, place_of, hit_place};
-ghost use Rattle.nef_solid.specs.Skeleton.{IsVertexPoint, IsEdgePoint};
+ghost use Rattle.law_complex.specs.Skeleton.{IsVertexPoint, IsEdgePoint};
 ghost use Rattle.nef_complex.specs.Complexes.{complex_of, ShowsSet};
 ghost use Rattle.nef_plane.specs.Amid.{IsAmid, AreAmid};
 

@@ -12,7 +12,7 @@ ghost use Rattle.nef_geo.specs.Hits.{IsUpright, IsPlaceAtMost};
 ghost use Rattle.nef_geo.specs.Shapes.{vector_of, place_of, hit_place};
 ghost use Rattle.nef_geo.specs.Signs.{sign_of};
 ghost use Rattle.nef_geo.specs.Widths.{upright_limit, upright_weight_limit};
-ghost use Rattle.nef_solid.specs.Skeleton.{IsOnEdges};
+ghost use Rattle.law_complex.specs.Skeleton.{IsOnEdges};
 ghost use Rattle.nef_complex.specs.Complexes.{complex_of, ShowsSet};
 ghost use Rattle.nef_plane.specs.Meets.{AreOpposite, IsHitThrough, IsWithin, AllHold, AtVertexNumber, IsNearest, met_of, reach_of};
 ghost use Rattle.nef_plane.specs.Upright.{gap_limit, plane_along_x, plane_along_y, InsideEdgeNumber, IsUprightMet, IsFirstOnEdges};

@@ -1,9 +1,9 @@
 -- Along a ray the label stays up to the first crossing of a carrier at which it changes; and it changes somewhere, since the ray leaves the frame.
 use Rattle.std.proofs.Common.{◌≡◌, ℕ, ◌*◌, ◌<◌, ◌≤◌, ℤ, pos, ◌+ℤ◌, ◌*ℤ◌, neg_ℤ, nat_abs, arith, refl, ap, sym, ◌∙◌, ◌⊎◌, inl, inr, ⊎_elim, [], ◌∷◌, subst}
 use Rattle.std.proofs.lemmas.Int.{ints}
-use Rattle.nef_exact.specs.Signs.{Sign, minus, nought, plus, sign, Lies}
-use Rattle.nef_exact.proofs.Ring.{ring, at, num, neg, ◌⊕◌, ◌⊗◌}
-use Rattle.nef_exact.proofs.Order.{nought-is, plus-is, minus-is, sign-plus, sign-minus, mul_nonneg}
+use Rattle.law_arithmetic.specs.Signs.{Sign, minus, nought, plus, sign, Lies}
+use Rattle.law_arithmetic.proofs.Ring.{ring, at, num, neg, ◌⊕◌, ◌⊗◌}
+use Rattle.law_arithmetic.proofs.Order.{nought-is, plus-is, minus-is, sign-plus, sign-minus, mul_nonneg}
 use Rattle.nef_space.specs.Limits.{half_side}
 use Rattle.nef_space.specs.Local.{HasLabel, Germ}
 use Rattle.nef_space.specs.Place.{Place, Form, form_at, slope, Within, SamePlace, InFrame, InClosedFrame, toward, IsAhead, IsBetween}
@@ -11,26 +11,26 @@ use Rattle.nef_space.specs.Sets.{Set}
 use Rattle.nef_space.specs.Vectors.{Vector, blend, opposite, zero_vector, IsDirection, SameDirection}
 use Rattle.nef_space.specs.declared.label.Label.{Label}
 use Rattle.nef_space.specs.declared.label.Label.TheVariants.{Out}
-use Rattle.nef_forms.proofs.Directions.{direction-left, factor-same}
-use Rattle.nef_forms.proofs.Far.{nought-or}
-use Rattle.nef_forms.proofs.Near.{reach_all}
-use Rattle.nef_near.specs.Cells.{sign_at, carriers}
-use Rattle.nef_near.specs.Laws.{FirstChange}
-use Rattle.nef_near.proofs.Alike.{germs-by_cell, flat-germ}
-use Rattle.nef_near.proofs.Between.{between-turned}
-use Rattle.nef_near.proofs.Cells.{is_nought}
-use Rattle.nef_near.proofs.Decided.{every, Decided, decided-to, decided-lt}
-use Rattle.nef_near.proofs.Decisions.{germ-decided}
-use Rattle.nef_near.proofs.Edges.{start, start-close, start-between, start-toward, beyond, halfway, halfway-between, halfway-outside, way_factor, way_factor-some, leads, leads-somewhere}
-use Rattle.nef_near.proofs.Even.{germ-nearby}
-use Rattle.nef_near.proofs.FirstChange.{first-change}
-use Rattle.nef_near.proofs.Flats.{sign-toward, Germ-by_signs}
-use Rattle.nef_near.proofs.Frames.{flat-outside, no-germ_out}
-use Rattle.nef_near.proofs.Germs.{near-same, label-one, Germ-unique}
-use Rattle.nef_near.proofs.Rays.{within-self, Germ-zero, slope-zero, slope-same}
-use Rattle.nef_sphere.proofs.Compare.{SameDirection-turned, SameDirection-trans}
+use Rattle.law_forms.proofs.Directions.{direction-left, factor-same}
+use Rattle.law_forms.proofs.Far.{nought-or}
+use Rattle.law_forms.proofs.Near.{reach_all}
+use Rattle.law_near.specs.Cells.{sign_at, carriers}
+use Rattle.law_near.specs.Laws.{FirstChange}
+use Rattle.law_near.proofs.Alike.{germs-by_cell, flat-germ}
+use Rattle.law_near.proofs.Between.{between-turned}
+use Rattle.law_near.proofs.Cells.{is_nought}
+use Rattle.law_near.proofs.Decided.{every, Decided, decided-to, decided-lt}
+use Rattle.law_near.proofs.Decisions.{germ-decided}
+use Rattle.law_near.proofs.Edges.{start, start-close, start-between, start-toward, beyond, halfway, halfway-between, halfway-outside, way_factor, way_factor-some, leads, leads-somewhere}
+use Rattle.law_near.proofs.Even.{germ-nearby}
+use Rattle.law_near.proofs.FirstChange.{first-change}
+use Rattle.law_near.proofs.Flats.{sign-toward, Germ-by_signs}
+use Rattle.law_near.proofs.Frames.{flat-outside, no-germ_out}
+use Rattle.law_near.proofs.Germs.{near-same, label-one, Germ-unique}
+use Rattle.law_near.proofs.Rays.{within-self, Germ-zero, slope-zero, slope-same}
+use Rattle.law_sphere.proofs.Compare.{SameDirection-turned, SameDirection-trans}
 use Rattle.nef_geo.specs.Hits.{IsCrossing}
-use Rattle.nef_solid.proofs.FacetEdges.{ahead-back}
+use Rattle.law_complex.proofs.FacetEdges.{ahead-back}
 use Rattle.nef_plane.proofs.Nearest.{between-ahead}
 use Rattle.nef_locate.proofs.EqualPoints.{ahead-from}
 use Rattle.nef_ray.specs.Changes.{IsUnchanged}

@@ -1,22 +1,22 @@
 -- The nearest change at a crossing of a carrier is the end of the ray, and there is one.
 use Rattle.std.proofs.Common.{ℕ, Option, Some, None, ◌⊎◌, ⊎_elim, sym, subst}
-use Rattle.nef_exact.specs.Signs.{Lies}
+use Rattle.law_arithmetic.specs.Signs.{Lies}
 use Rattle.nef_space.specs.Local.{Germ}
 use Rattle.nef_space.specs.Place.{Place, Form, InFrame, InClosedFrame}
 use Rattle.nef_space.specs.Sets.{Set}
 use Rattle.nef_space.specs.Vectors.{Vector, IsDirection}
 use Rattle.nef_space.specs.declared.label.Label.{Label}
-use Rattle.nef_forms.proofs.Between.{between-same}
+use Rattle.law_forms.proofs.Between.{between-same}
 use Rattle.nef_geo.specs.Hits.{IsCrossing}
 use Rattle.nef_geo.specs.Shapes.{form_of, vector_of, place_of, hit_place}
 use Rattle.nef_geo.specs.declared.plane.Plane.{Plane}
-use Rattle.nef_near.specs.Cells.{carriers}
-use Rattle.nef_near.proofs.Rays.{same-place_sym}
-use Rattle.nef_sphere.specs.Maps.{At}
+use Rattle.law_near.specs.Cells.{carriers}
+use Rattle.law_near.proofs.Rays.{same-place_sym}
+use Rattle.law_sphere.specs.Maps.{At}
 use Rattle.nef_smap.proofs.Lists.{at-map}
-use Rattle.nef_solid.proofs.FacetEdges.{ahead-same}
-use Rattle.nef_solid.proofs.Planes.{plane-turned, plane-point, plane-slope}
-use Rattle.nef_solid.proofs.Ways.{same-itself}
+use Rattle.law_complex.proofs.FacetEdges.{ahead-same}
+use Rattle.law_complex.proofs.Planes.{plane-turned, plane-point, plane-slope}
+use Rattle.law_complex.proofs.Ways.{same-itself}
 use Rattle.nef_complex.specs.declared.complex.Complex.{Complex}
 use Rattle.nef_complex.specs.Complexes.{ShowsSet}
 use Rattle.nef_ray.specs.declared.nearer.Change.{Change}

@@ -8,12 +8,12 @@ use Rattle.nef_geo.specs.Hits.{IsCrossing}
 use Rattle.nef_geo.specs.Shapes.{form_of, hit_place}
 use Rattle.nef_geo.specs.declared.hit.Hit.{Hit}
 use Rattle.nef_geo.specs.declared.plane.Plane.{Plane}
-use Rattle.nef_near.specs.Cells.{carriers}
-use Rattle.nef_near.proofs.Alike.{germs-by_cell}
-use Rattle.nef_near.proofs.Between.{between-inner}
-use Rattle.nef_near.proofs.Germs.{Label-cells}
-use Rattle.nef_near.proofs.Rays.{signs-same}
-use Rattle.nef_sphere.proofs.Compare.{SameDirection-turned, SameDirection-trans}
+use Rattle.law_near.specs.Cells.{carriers}
+use Rattle.law_near.proofs.Alike.{germs-by_cell}
+use Rattle.law_near.proofs.Between.{between-inner}
+use Rattle.law_near.proofs.Germs.{Label-cells}
+use Rattle.law_near.proofs.Rays.{signs-same}
+use Rattle.law_sphere.proofs.Compare.{SameDirection-turned, SameDirection-trans}
 use Rattle.nef_complex.proofs.Lines.{one-crossing}
 use Rattle.nef_locate.proofs.EqualPoints.{ahead-from}
 use Rattle.nef_locate.proofs.RayMeets.{at-hit}

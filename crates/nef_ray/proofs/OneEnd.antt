@@ -6,18 +6,18 @@ use Rattle.nef_space.specs.Place.{Place, SamePlace, toward, IsAhead, IsBetween}
 use Rattle.nef_space.specs.Sets.{Set}
 use Rattle.nef_space.specs.Vectors.{Vector, opposite, SameDirection}
 use Rattle.nef_space.specs.declared.label.Label.{Label}
-use Rattle.nef_forms.proofs.Between.{toward-place, place-decided}
-use Rattle.nef_forms.proofs.Directions.{direction-left}
-use Rattle.nef_forms.proofs.Near.{reach_all}
-use Rattle.nef_near.specs.Cells.{carriers}
-use Rattle.nef_near.proofs.Edges.{start, start-close, start-between}
-use Rattle.nef_near.proofs.Flats.{vector-same, germ-toward}
-use Rattle.nef_near.proofs.Germs.{Label-cells, label-one, Germ-unique}
-use Rattle.nef_near.proofs.Rays.{signs-same, same-place_sym, Germ-same}
-use Rattle.nef_sphere.proofs.Around.{Beside, same_way, other_way, beside}
-use Rattle.nef_sphere.proofs.Compare.{SameDirection-turned, SameDirection-trans, way-self}
-use Rattle.nef_solid.proofs.FacetEdges.{ahead-back}
-use Rattle.nef_solid.proofs.Ways.{between-outer, same-itself}
+use Rattle.law_forms.proofs.Between.{toward-place, place-decided}
+use Rattle.law_forms.proofs.Directions.{direction-left}
+use Rattle.law_forms.proofs.Near.{reach_all}
+use Rattle.law_near.specs.Cells.{carriers}
+use Rattle.law_near.proofs.Edges.{start, start-close, start-between}
+use Rattle.law_near.proofs.Flats.{vector-same, germ-toward}
+use Rattle.law_near.proofs.Germs.{Label-cells, label-one, Germ-unique}
+use Rattle.law_near.proofs.Rays.{signs-same, same-place_sym, Germ-same}
+use Rattle.law_sphere.proofs.Around.{Beside, same_way, other_way, beside}
+use Rattle.law_sphere.proofs.Compare.{SameDirection-turned, SameDirection-trans, way-self}
+use Rattle.law_complex.proofs.FacetEdges.{ahead-back}
+use Rattle.law_complex.proofs.Ways.{between-outer, same-itself}
 use Rattle.nef_complex.proofs.Lines.{on_line}
 use Rattle.nef_edges.proofs.Rays.{to_opposite}
 use Rattle.nef_plane.proofs.Nearest.{between-ahead}

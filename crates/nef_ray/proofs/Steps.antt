@@ -1,10 +1,10 @@
 -- The point where a ray crosses a plane, by the machine's numbers.
 use Rattle.std.proofs.Common.{◌≡◌, ℕ, ◌≤◌, ℤ, pos, ◌+ℤ◌, ◌*ℤ◌, ◌<ℤ◌, neg_ℤ, nat_abs, List, [], ◌∷◌, inl, inr, arith, refl, ap, sym, ◌∙◌, w64, to_z, of_z}
 use Rattle.std.proofs.lemmas.Int.{ints}
-use Rattle.nef_exact.specs.Signs.{sign}
-use Rattle.nef_exact.proofs.Machine.{Code, load, wrap, ◌⊞◌, ◌⊠◌, Limited, exact_of}
-use Rattle.nef_exact.proofs.Order.{mul_pos, nought-is}
-use Rattle.nef_exact.proofs.Ring.{ring, at, num, neg, ◌⊕◌, ◌⊗◌}
+use Rattle.law_arithmetic.specs.Signs.{sign}
+use Rattle.law_arithmetic.proofs.Machine.{Code, load, wrap, ◌⊞◌, ◌⊠◌, Limited, exact_of}
+use Rattle.law_arithmetic.proofs.Order.{mul_pos, nought-is}
+use Rattle.law_arithmetic.proofs.Ring.{ring, at, num, neg, ◌⊕◌, ◌⊗◌}
 use Rattle.nef_space.specs.Limits.{normal_limit, offset_limit}
 use Rattle.nef_space.specs.Place.{Place, Form, form_at, slope, SamePlace}
 use Rattle.nef_space.specs.Vectors.{Vector, IsAtMost}
@@ -16,8 +16,8 @@ use Rattle.nef_geo.specs.declared.plane.Plane.{Plane}
 use Rattle.nef_geo.specs.declared.point.Point.{Point}
 use Rattle.nef_geo.proofs.Crossings.{IsReachedBy, IsCrossing-reached, opposite-crossing}
 use Rattle.nef_geo.proofs.Places.{form_at-place_of, pos_size}
-use Rattle.nef_near.proofs.Rays.{sign-same, same-place_sym}
-use Rattle.nef_solid.proofs.FacetEdges.{ahead-same}
+use Rattle.law_near.proofs.Rays.{sign-same, same-place_sym}
+use Rattle.law_complex.proofs.FacetEdges.{ahead-same}
 use Rattle.nef_ray.specs.Widths.{ray_point_limit, ray_weight_limit, ray_direction_limit, start_form_limit, ray_slope_limit}
 
 -- ---- a plane's form at the start

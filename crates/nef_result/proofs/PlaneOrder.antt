@@ -15,7 +15,7 @@ use Rattle.nef_space.specs.Place.{form_numbers}
 use Rattle.nef_geo.specs.Shapes.{form_of}
 use Rattle.nef_geo.specs.declared.plane.Plane.{Plane}
 use Rattle.nef_geo.proofs.Orders.{plane_order, plane-ordered}
-use Rattle.nef_sphere.specs.Maps.{At}
+use Rattle.law_sphere.specs.Maps.{At}
 use Rattle.nef_cand.proofs.Planes.{plane_test, tested-equal}
 use Rattle.nef_result.specs.Results.{ArePlanesInOrder}
 

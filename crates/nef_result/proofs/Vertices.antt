@@ -7,13 +7,13 @@ use Rattle.nef_geo.specs.Shapes.{place_of}
 use Rattle.nef_geo.specs.declared.dir.Dir.{Dir}
 use Rattle.nef_geo.specs.declared.plane.Plane.{Plane}
 use Rattle.nef_geo.specs.declared.point.Point.{Point}
-use Rattle.nef_near.specs.Cells.{carriers}
-use Rattle.nef_near.proofs.Alike.{FlatDim-one, FlatDim-by_germs, germs-by_cell}
-use Rattle.nef_near.proofs.Rays.{signs-same, same-place_sym}
-use Rattle.nef_sphere.specs.Maps.{Map, At}
-use Rattle.nef_sphere.proofs.Dimensions.{volume-dimension, facet-dimension, edge-dimension}
-use Rattle.nef_sphere.proofs.Lists.{at-one}
-use Rattle.nef_sphere.specs.Least.{Cone, Least, Ordered, InOrder}
+use Rattle.law_near.specs.Cells.{carriers}
+use Rattle.law_near.proofs.Alike.{FlatDim-one, FlatDim-by_germs, germs-by_cell}
+use Rattle.law_near.proofs.Rays.{signs-same, same-place_sym}
+use Rattle.law_sphere.specs.Maps.{Map, At}
+use Rattle.law_sphere.proofs.Dimensions.{volume-dimension, facet-dimension, edge-dimension}
+use Rattle.law_sphere.proofs.Lists.{at-one}
+use Rattle.law_sphere.specs.Least.{Cone, Least, Ordered, InOrder}
 use Rattle.nef_smap.specs.Maps.{map_of, IsLeastMap}
 use Rattle.nef_smap.specs.declared.map.SphereMap.{SphereMap}
 use Rattle.nef_spair.specs.Kinds.{IsVertex as IsVertexMap}
@@ -21,7 +21,7 @@ use Rattle.nef_spair.specs.declared.answer.Kind.TheVariants.{Vertex as vertex_ki
 use Rattle.nef_spair.proofs.OneKind.{fits}
 use Rattle.nef_sover.proofs.Places.{contains-at, some-at as element-at}
 use Rattle.nef_edges.proofs.Places.{at-within, some-at, map-at, at-map, at-before, at-last, at-more}
-use Rattle.nef_solid.specs.Complexes.{Vertex as PlainVertex}
+use Rattle.law_complex.specs.Complexes.{Vertex as PlainVertex}
 use Rattle.nef_complex.specs.Complexes.{vertex_of, AreVerticesOf}
 use Rattle.nef_complex.specs.declared.complex.Vertex.{Vertex}
 use Rattle.nef_result.specs.Results.{ArePointsInOrder, AreMapsOf, AreVerticesAmong}

@@ -1,12 +1,12 @@
 -- The labels of a half by the side of its plane.
 use Rattle.std.specs.Prelude.{◌≡◌, Bool, true, false}
-use Rattle.nef_exact.specs.Signs.{Sign, minus, nought, plus, sign}
+use Rattle.law_arithmetic.specs.Signs.{Sign, minus, nought, plus, sign}
 use Rattle.nef_space.specs.Place.{Place, Form, slope}
 use Rattle.nef_space.specs.Vectors.{Vector, IsDirection}
 use Rattle.nef_space.specs.declared.label.Label.{Label}
 use Rattle.nef_space.specs.declared.label.Label.TheVariants.{Not, In}
-use Rattle.nef_near.specs.Cells.{sign_at}
-use Rattle.nef_sphere.specs.Maps.{MapLabel}
+use Rattle.law_near.specs.Cells.{sign_at}
+use Rattle.law_sphere.specs.Maps.{MapLabel}
 use Rattle.nef_smap.specs.Maps.{map_of, IsSphereMap}
 use Rattle.nef_smap.specs.declared.map.SphereMap.{SphereMap}
 

@@ -6,7 +6,7 @@ ghost use Rattle.nef_space.specs.Place.{normal_of};
 ghost use Rattle.nef_space.specs.Sets.{Set};
 ghost use Rattle.nef_space.specs.Vectors.{IsNormal, IsAtMost, SameDirection};
 ghost use Rattle.nef_geo.specs.Shapes.{form_of, given_form, place_of, vector_of};
-ghost use Rattle.nef_sphere.specs.Least.{Cone};
+ghost use Rattle.law_sphere.specs.Least.{Cone};
 ghost use Rattle.nef_smap.specs.Maps.{map_of, IsLeastMap};
 ghost use Rattle.nef_result.specs.Halves.{inside_label, IsMapOfPlane, IsMapOfHalf};
 

@@ -3,7 +3,7 @@ use Rattle.std.specs.Prelude.{◌≡◌, ℕ, List, ◌↔◌}
 use Rattle.nef_space.specs.Local.{SameSet}
 use Rattle.nef_space.specs.Place.{Place, InFrame}
 use Rattle.nef_space.specs.Sets.{Set, Holds}
-use Rattle.nef_solid.specs.Belongs.{Belongs}
+use Rattle.law_complex.specs.Belongs.{Belongs}
 use Rattle.nef_complex.specs.declared.complex.Complex.{Complex}
 use Rattle.nef_complex.specs.Complexes.{complex_of}
 use Rattle.nef_parts.specs.Text.{text, Spells}

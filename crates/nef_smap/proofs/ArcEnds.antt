@@ -3,12 +3,12 @@ use Rattle.std.proofs.Common.{◌≡◌, ℕ, zero, suc, ◌<◌, pos, List, [],
 use Rattle.std.proofs.lemmas.List.{length-map}
 use Rattle.nef_space.specs.Limits.{normal_limit, svertex_limit}
 use Rattle.nef_space.specs.Vectors.{Vector, IsDirection, IsAtMost, dot}
-use Rattle.nef_cyclic.specs.Arcs.{IsOnCircle}
+use Rattle.law_cyclic.specs.Arcs.{IsOnCircle}
 use Rattle.nef_geo.specs.Shapes.{vector_of}
-use Rattle.nef_sphere.specs.Maps.{At, arc_item, items, way_of}
-use Rattle.nef_sphere.proofs.Vectors.{normal-is}
-use Rattle.nef_sphere.proofs.Shot.{way-at}
-use Rattle.nef_sphere.proofs.Arcs.{Ends, ends-of, at-arc}
+use Rattle.law_sphere.specs.Maps.{At, arc_item, items, way_of}
+use Rattle.law_sphere.proofs.Vectors.{normal-is}
+use Rattle.law_sphere.proofs.Shot.{way-at}
+use Rattle.law_sphere.proofs.Arcs.{Ends, ends-of, at-arc}
 use Rattle.nef_smap.specs.declared.map.SVertex.{SVertex}
 use Rattle.nef_smap.specs.declared.map.SArc.{SArc}
 use Rattle.nef_smap.specs.declared.map.SphereMap.{SphereMap}

@@ -1,14 +1,14 @@
 -- Signs of the program's products, and directions along the coordinate axes.
 use Rattle.std.proofs.Common.{◌≡◌, ◌≢◌, ℤ, pos, ◌<ℤ◌, arith, ap, sym, ◌∙◌, subst}
 use Rattle.std.proofs.lemmas.Int.{ints}
-use Rattle.nef_exact.proofs.Order.{minus, nought, plus, sign, plus-is, minus-is, nought-is}
+use Rattle.law_arithmetic.proofs.Order.{minus, nought, plus, sign, plus-is, minus-is, nought-is}
 use Rattle.nef_space.specs.Vectors.{Vector, vector, IsDirection, IsZero, cross, triple, dot, up, opposite, SameDirection}
-use Rattle.nef_near.proofs.FlatDecided.{triple-dot}
-use Rattle.nef_forms.proofs.Far.{same-nought}
+use Rattle.law_near.proofs.FlatDecided.{triple-dot}
+use Rattle.law_forms.proofs.Far.{same-nought}
 use Rattle.nef_geo.specs.Signs.{sign_of}
 use Rattle.nef_geo.specs.declared.sign.Sign.{Sign as GeoSign}
 use Rattle.nef_geo.specs.declared.sign.Sign.TheVariants.{Minus, Zero, Plus}
-use Rattle.nef_sphere.proofs.Labels.{way-signs}
+use Rattle.law_sphere.proofs.Labels.{way-signs}
 use Rattle.nef_smap.proofs.CloseSigns.{geo-of, geo-one}
 use Rattle.nef_smap.proofs.Stands.{dot-opposite}
 

@@ -1,20 +1,20 @@
 -- What lies over directions close to d: what meets or ends over d.
 use Rattle.std.proofs.Common.{◌≡◌, ℕ, ℤ, pos, ◌+ℤ◌, ◌-ℤ◌, ◌*ℤ◌, ◌≤ℤ◌, ◌<ℤ◌, arith, ap, sym, ◌∙◌, [], ◌∷◌, subst, None}
 use Rattle.std.proofs.lemmas.Int.{ints}
-use Rattle.nef_exact.proofs.Ring.{ring, at, num, ◌⊕◌, ◌⊖◌, ◌⊗◌}
-use Rattle.nef_exact.proofs.Combination.{follows, given, none}
-use Rattle.nef_exact.proofs.Order.{sign, by_order, mul_pos}
+use Rattle.law_arithmetic.proofs.Ring.{ring, at, num, ◌⊕◌, ◌⊖◌, ◌⊗◌}
+use Rattle.law_arithmetic.proofs.Combination.{follows, given, none}
+use Rattle.law_arithmetic.proofs.Order.{sign, by_order, mul_pos}
 use Rattle.nef_space.specs.Vectors.{Vector, IsDirection, cross, dot, SameDirection}
-use Rattle.nef_forms.proofs.Directions.{self-pos}
-use Rattle.nef_forms.proofs.Far.{same-nought}
-use Rattle.nef_sphere.specs.Maps.{At, Svertex, Map, Item, items, item_normal, Shaped}
-use Rattle.nef_sphere.specs.Forms.{Keeps}
-use Rattle.nef_sphere.proofs.Vectors.{same-plus, same-minus}
-use Rattle.nef_sphere.proofs.Lists.{at-one}
-use Rattle.nef_sphere.proofs.Places.{kept-plus, kept-minus}
-use Rattle.nef_sphere.proofs.Forms.{item-forms, normal-form, OnItem-stays, OnItem-by_signs}
-use Rattle.nef_sphere.proofs.Direct.{IsZero-times, cross-self}
-use Rattle.nef_sphere.proofs.Labels.{way-signs}
+use Rattle.law_forms.proofs.Directions.{self-pos}
+use Rattle.law_forms.proofs.Far.{same-nought}
+use Rattle.law_sphere.specs.Maps.{At, Svertex, Map, Item, items, item_normal, Shaped}
+use Rattle.law_sphere.specs.Forms.{Keeps}
+use Rattle.law_sphere.proofs.Vectors.{same-plus, same-minus}
+use Rattle.law_sphere.proofs.Lists.{at-one}
+use Rattle.law_sphere.proofs.Places.{kept-plus, kept-minus}
+use Rattle.law_sphere.proofs.Forms.{item-forms, normal-form, OnItem-stays, OnItem-by_signs}
+use Rattle.law_sphere.proofs.Direct.{IsZero-times, cross-self}
+use Rattle.law_sphere.proofs.Labels.{way-signs}
 use Rattle.nef_smap.specs.Above.{rise, over_forms, IsOver, IsFirst, IsFirstItem}
 use Rattle.nef_smap.proofs.Rise.{rise-is, rise-level, rise_form-value, rise-keeps, form-over, meridian-over}
 use Rattle.nef_smap.proofs.Over.{Touches, meets, ends, touches-back, touches-on, rises-together}

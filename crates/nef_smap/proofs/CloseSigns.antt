@@ -1,8 +1,8 @@
 -- The signs of directions close to one on the forms that say what lies over them, as the program computes them.
 use Rattle.std.proofs.Common.{◌≡◌, ℕ, zero, suc, ℤ, pos, negsuc, ◌<ℤ◌, arith, refl, ap, sym, ◌∙◌, inl, inr, ⊎_elim, List, [], ◌∷◌, map, slice_get, Some, ◌↔◌}
 use Rattle.std.proofs.lemmas.Int.{ints}
-use Rattle.nef_exact.proofs.Ring.{ring, at, num, ◌⊕◌, ◌⊖◌, ◌⊗◌}
-use Rattle.nef_exact.proofs.Order.{Sign, minus, nought, plus, sign, sign-plus, sign-minus}
+use Rattle.law_arithmetic.proofs.Ring.{ring, at, num, ◌⊕◌, ◌⊖◌, ◌⊗◌}
+use Rattle.law_arithmetic.proofs.Order.{Sign, minus, nought, plus, sign, sign-plus, sign-minus}
 use Rattle.nef_space.specs.Vectors.{Vector, dot, cross, triple, opposite, up}
 use Rattle.nef_geo.specs.Signs.{sign_of}
 use Rattle.nef_geo.specs.Shapes.{vector_of}
@@ -13,7 +13,7 @@ use Rattle.nef_smap.specs.declared.above.Lean.{Lean}
 use Rattle.nef_smap.specs.declared.above.Lean.TheVariants.{Down, Up, Along}
 use Rattle.nef_smap.specs.Above.{rise_form, first_sign}
 use Rattle.nef_smap.specs.Close.{geo_sign, toward, then_toward, close_sign, ArcPasses}
-use Rattle.nef_sphere.specs.Maps.{way_of}
+use Rattle.law_sphere.specs.Maps.{way_of}
 use Rattle.nef_smap.specs.declared.map.SVertex.{SVertex}
 use Rattle.nef_smap.specs.Maps.{svertex_of}
 use Rattle.nef_smap.proofs.Rise.{rise_form-value}

@@ -1,20 +1,20 @@
 -- What lies over the directions close to one direction has one label.
 use Rattle.std.proofs.Common.{◌≡◌, ℕ, ℤ, pos, ◌+ℤ◌, ◌-ℤ◌, ◌*ℤ◌, ◌≤ℤ◌, ◌<ℤ◌, arith, ap, sym, ◌∙◌, ◌⊎◌, inl, inr, ⊎_elim, [], ◌∷◌, subst, Option, Some, None}
 use Rattle.std.proofs.lemmas.Int.{ints}
-use Rattle.nef_exact.proofs.Ring.{ring, at, num, ◌⊕◌, ◌⊖◌, ◌⊗◌}
-use Rattle.nef_exact.proofs.Order.{minus, sign, sign-plus, sign-minus, by_order, mul_pos, cancel_lt, sign-scaled}
-use Rattle.nef_exact.specs.Signs.{Lies}
+use Rattle.law_arithmetic.proofs.Ring.{ring, at, num, ◌⊕◌, ◌⊖◌, ◌⊗◌}
+use Rattle.law_arithmetic.proofs.Order.{minus, sign, sign-plus, sign-minus, by_order, mul_pos, cancel_lt, sign-scaled}
+use Rattle.law_arithmetic.specs.Signs.{Lies}
 use Rattle.nef_space.specs.Vectors.{Vector, IsDirection, cross, dot, SameDirection, opposite}
 use Rattle.nef_space.specs.declared.label.Label.{Label}
-use Rattle.nef_near.proofs.Decided.{Decided}
-use Rattle.nef_forms.proofs.Directions.{self-pos}
-use Rattle.nef_forms.proofs.Far.{same-off, same-nought}
-use Rattle.nef_sphere.specs.Maps.{At, Svertex, Map, Item, items, item_normal, Side, Shaped}
-use Rattle.nef_sphere.specs.Forms.{Keeps}
-use Rattle.nef_sphere.proofs.Vectors.{same-plus, same-minus, negative-or}
-use Rattle.nef_sphere.proofs.Forms.{item-forms, normal-form}
-use Rattle.nef_sphere.proofs.Direct.{cross-self}
-use Rattle.nef_sphere.proofs.Labels.{way-signs}
+use Rattle.law_near.proofs.Decided.{Decided}
+use Rattle.law_forms.proofs.Directions.{self-pos}
+use Rattle.law_forms.proofs.Far.{same-off, same-nought}
+use Rattle.law_sphere.specs.Maps.{At, Svertex, Map, Item, items, item_normal, Side, Shaped}
+use Rattle.law_sphere.specs.Forms.{Keeps}
+use Rattle.law_sphere.proofs.Vectors.{same-plus, same-minus, negative-or}
+use Rattle.law_sphere.proofs.Forms.{item-forms, normal-form}
+use Rattle.law_sphere.proofs.Direct.{cross-self}
+use Rattle.law_sphere.proofs.Labels.{way-signs}
 use Rattle.nef_smap.specs.Above.{rise, meridians, over_forms, IsFirst, IsFirstItem, first_sign, Stands}
 use Rattle.nef_smap.specs.Joined.{met, FirstNear, BelowFirsts}
 use Rattle.nef_smap.proofs.Rise.{rise-is, rise_form-value, meridian-level, form-over, meridian-over, svertex-meridian, meridians-same}

@@ -1,25 +1,25 @@
 -- The way from a direction that sees a svertex to one close to the svertex, where no ray of the svertex lies between.
 use Rattle.std.proofs.Common.{◌≡◌, ℕ, zero, suc, ◌+◌, ◌<◌, ◌≤◌, ℤ, pos, nat_abs, ◌+ℤ◌, ◌*ℤ◌, ◌-ℤ◌, ◌<ℤ◌, arith, refl, ap, sym, ◌∙◌, inl, ⊎_elim, List, [], ◌∷◌, subst}
 use Rattle.std.proofs.lemmas.Int.{ints}
-use Rattle.nef_exact.proofs.Ring.{ring, at, num, ◌⊕◌, ◌⊖◌, ◌⊗◌}
-use Rattle.nef_exact.proofs.Order.{sign, nought-is, by_order, mul_pos, mul_neg, sign-scaled}
-use Rattle.nef_exact.proofs.Combination.{follows, given, none as none_given}
+use Rattle.law_arithmetic.proofs.Ring.{ring, at, num, ◌⊕◌, ◌⊖◌, ◌⊗◌}
+use Rattle.law_arithmetic.proofs.Order.{sign, nought-is, by_order, mul_pos, mul_neg, sign-scaled}
+use Rattle.law_arithmetic.proofs.Combination.{follows, given, none as none_given}
 use Rattle.nef_space.specs.Vectors.{Vector, IsDirection, triple, cross, dot, SameDirection, blend}
-use Rattle.nef_near.proofs.Flats.{vector-same}
-use Rattle.nef_near.proofs.FlatDecided.{triple-in_plane}
-use Rattle.nef_near.proofs.Meets.{cross-none}
-use Rattle.nef_forms.proofs.Directions.{dot-zero, square_pos}
-use Rattle.nef_forms.proofs.Far.{nought-or, same-off}
-use Rattle.nef_sphere.specs.Maps.{At, Svertex, Map, Item, items, item_normal, OnItem, IsClear, Shaped}
-use Rattle.nef_sphere.specs.Forms.{Keeps, forms, gather}
-use Rattle.nef_sphere.proofs.Vectors.{dot-comb, normal-is, direction-by, same-plus, same-minus}
-use Rattle.nef_sphere.proofs.Generic.{amount, far-keeps, far-level}
-use Rattle.nef_sphere.proofs.Lists.{gather-has}
-use Rattle.nef_sphere.proofs.Forms.{item-forms, normal-form, on-level, OnItem-by_signs}
-use Rattle.nef_sphere.proofs.Shot.{product-off}
-use Rattle.nef_sphere.proofs.Direct.{slid, slid_form, slid-is, cross-self, miss-between}
-use Rattle.nef_sphere.proofs.Around.{free-around}
-use Rattle.nef_sphere.proofs.Walk.{between-direction}
+use Rattle.law_near.proofs.Flats.{vector-same}
+use Rattle.law_near.proofs.FlatDecided.{triple-in_plane}
+use Rattle.law_near.proofs.Meets.{cross-none}
+use Rattle.law_forms.proofs.Directions.{dot-zero, square_pos}
+use Rattle.law_forms.proofs.Far.{nought-or, same-off}
+use Rattle.law_sphere.specs.Maps.{At, Svertex, Map, Item, items, item_normal, OnItem, IsClear, Shaped}
+use Rattle.law_sphere.specs.Forms.{Keeps, forms, gather}
+use Rattle.law_sphere.proofs.Vectors.{dot-comb, normal-is, direction-by, same-plus, same-minus}
+use Rattle.law_sphere.proofs.Generic.{amount, far-keeps, far-level}
+use Rattle.law_sphere.proofs.Lists.{gather-has}
+use Rattle.law_sphere.proofs.Forms.{item-forms, normal-form, on-level, OnItem-by_signs}
+use Rattle.law_sphere.proofs.Shot.{product-off}
+use Rattle.law_sphere.proofs.Direct.{slid, slid_form, slid-is, cross-self, miss-between}
+use Rattle.law_sphere.proofs.Around.{free-around}
+use Rattle.law_sphere.proofs.Walk.{between-direction}
 use Rattle.nef_smap.proofs.NearSvertex.{ArcRay, ray_left, near-ray}
 
 -- a bound of finitely many numbers

@@ -1,17 +1,17 @@
 -- The way to the first item that is met is clear; and of three meets, the first is before the last.
 use Rattle.std.proofs.Common.{◌≡◌, ℕ, ◌<◌, ℤ, pos, ◌+ℤ◌, ◌*ℤ◌, ◌-ℤ◌, ◌<ℤ◌, arith, ap, sym, ◌∙◌, [], ◌∷◌, length, subst}
 use Rattle.std.proofs.lemmas.Int.{ints}
-use Rattle.nef_exact.proofs.Ring.{ring, at, num, ◌⊕◌, ◌⊖◌, ◌⊗◌}
-use Rattle.nef_exact.proofs.Combination.{follows, given, none}
-use Rattle.nef_exact.proofs.Order.{sign, by_order, mul_pos, mul_nonneg, square_nonneg, sign-scaled}
+use Rattle.law_arithmetic.proofs.Ring.{ring, at, num, ◌⊕◌, ◌⊖◌, ◌⊗◌}
+use Rattle.law_arithmetic.proofs.Combination.{follows, given, none}
+use Rattle.law_arithmetic.proofs.Order.{sign, by_order, mul_pos, mul_nonneg, square_nonneg, sign-scaled}
 use Rattle.nef_space.specs.Vectors.{Vector, IsDirection, cross, dot, blend}
-use Rattle.nef_forms.proofs.Directions.{square_pos}
-use Rattle.nef_sphere.specs.Maps.{At, Svertex, Map, Item, items, item_normal, OnItem, IsFree, IsClear, Shaped}
-use Rattle.nef_sphere.proofs.Vectors.{dot-comb, direction-by, same-plus, same-minus}
-use Rattle.nef_sphere.proofs.Forms.{on-level, on-direction, OnItem-by_signs}
-use Rattle.nef_sphere.proofs.Parallel.{apart}
-use Rattle.nef_sphere.proofs.Shot.{product-off}
-use Rattle.nef_sphere.proofs.Direct.{slid-level, slid-square, cross-self, miss-between, between-off_target}
+use Rattle.law_forms.proofs.Directions.{square_pos}
+use Rattle.law_sphere.specs.Maps.{At, Svertex, Map, Item, items, item_normal, OnItem, IsFree, IsClear, Shaped}
+use Rattle.law_sphere.proofs.Vectors.{dot-comb, direction-by, same-plus, same-minus}
+use Rattle.law_sphere.proofs.Forms.{on-level, on-direction, OnItem-by_signs}
+use Rattle.law_sphere.proofs.Parallel.{apart}
+use Rattle.law_sphere.proofs.Shot.{product-off}
+use Rattle.law_sphere.proofs.Direct.{slid-level, slid-square, cross-self, miss-between, between-off_target}
 use Rattle.nef_smap.proofs.MapLists.{at-within}
 use Rattle.nef_smap.specs.Ways.{meet_of, IsMetBefore, IsFirstMet}
 

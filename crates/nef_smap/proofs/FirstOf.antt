@@ -1,11 +1,11 @@
 -- The first item that is met, item by item.
 use Rattle.std.proofs.Common.{◌≡◌, ℕ, ◌+◌, pos, ◌-ℤ◌, ◌*ℤ◌, ◌≤ℤ◌, ◌<ℤ◌, arith, sym, ◌∙◌, ⊎_elim, length, [], ◌∷◌, subst, Option, Some, None}
 use Rattle.std.proofs.lemmas.Int.{ints}
-use Rattle.nef_exact.proofs.Ring.{ring, at, num, ◌⊕◌, ◌⊖◌, ◌⊗◌}
-use Rattle.nef_exact.proofs.Fractions.{fraction-le-trans}
+use Rattle.law_arithmetic.proofs.Ring.{ring, at, num, ◌⊕◌, ◌⊖◌, ◌⊗◌}
+use Rattle.law_arithmetic.proofs.Fractions.{fraction-le-trans}
 use Rattle.nef_space.specs.Vectors.{Vector, dot}
-use Rattle.nef_sphere.specs.Maps.{At, Map, Item, items, item_normal}
-use Rattle.nef_sphere.proofs.Lists.{at-one}
+use Rattle.law_sphere.specs.Maps.{At, Map, Item, items, item_normal}
+use Rattle.law_sphere.proofs.Lists.{at-one}
 use Rattle.nef_smap.specs.Above.{rise, IsOver, IsFirst, IsFirstOf}
 use Rattle.nef_smap.proofs.Rise.{rise-is, rise-level, rise_form-value}
 use Rattle.nef_smap.proofs.MapLists.{at-within}

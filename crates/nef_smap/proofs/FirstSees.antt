@@ -2,19 +2,19 @@
 use Rattle.std.proofs.Common.{◌≡◌, ℕ, ◌+◌, ◌*◌, ◌<◌, ℤ, pos, ◌+ℤ◌, ◌-ℤ◌, ◌*ℤ◌, ◌<ℤ◌, nat_abs, arith, ap, sym, ◌∙◌, [], ◌∷◌, subst, None}
 use Rattle.std.proofs.lemmas.Int.{ints}
 use Rattle.std.proofs.Math.Nat.{mul-pos}
-use Rattle.nef_exact.proofs.Ring.{ring, at, num, ◌⊕◌, ◌⊖◌, ◌⊗◌}
-use Rattle.nef_exact.proofs.Combination.{follows, given, none}
-use Rattle.nef_exact.proofs.Order.{sign, mul_pos, mul_neg, sign-scaled, nought-is}
+use Rattle.law_arithmetic.proofs.Ring.{ring, at, num, ◌⊕◌, ◌⊖◌, ◌⊗◌}
+use Rattle.law_arithmetic.proofs.Combination.{follows, given, none}
+use Rattle.law_arithmetic.proofs.Order.{sign, mul_pos, mul_neg, sign-scaled, nought-is}
 use Rattle.nef_space.specs.Vectors.{Vector, IsDirection, cross, dot, SameDirection, blend}
-use Rattle.nef_near.proofs.Flats.{vector-same}
-use Rattle.nef_near.proofs.FlatDecided.{cross-turned}
-use Rattle.nef_sphere.specs.Maps.{At, Svertex, Map, Item, items, item_normal, OnItem, IsFree, below_item, IsClear, Sees, directly, Shaped}
-use Rattle.nef_sphere.proofs.Vectors.{dot-comb, same-minus}
-use Rattle.nef_sphere.proofs.Forms.{on-direction, on-level, OnItem-by_signs}
-use Rattle.nef_sphere.proofs.Parallel.{apart}
-use Rattle.nef_sphere.proofs.Direct.{cross-self, IsZero-times}
-use Rattle.nef_sphere.proofs.Shot.{product-off}
-use Rattle.nef_sphere.proofs.Labels.{way-signs}
+use Rattle.law_near.proofs.Flats.{vector-same}
+use Rattle.law_near.proofs.FlatDecided.{cross-turned}
+use Rattle.law_sphere.specs.Maps.{At, Svertex, Map, Item, items, item_normal, OnItem, IsFree, below_item, IsClear, Sees, directly, Shaped}
+use Rattle.law_sphere.proofs.Vectors.{dot-comb, same-minus}
+use Rattle.law_sphere.proofs.Forms.{on-direction, on-level, OnItem-by_signs}
+use Rattle.law_sphere.proofs.Parallel.{apart}
+use Rattle.law_sphere.proofs.Direct.{cross-self, IsZero-times}
+use Rattle.law_sphere.proofs.Shot.{product-off}
+use Rattle.law_sphere.proofs.Labels.{way-signs}
 use Rattle.nef_smap.specs.Above.{rise, IsOver, IsFirst, IsFirstItem}
 use Rattle.nef_smap.proofs.Rise.{rise-is, rise-level, rise_form-value}
 use Rattle.nef_smap.proofs.Close.{cross-last}

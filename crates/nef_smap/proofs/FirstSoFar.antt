@@ -2,7 +2,7 @@
 use Rattle.std.proofs.Common.{◌≡◌, ℕ, ◌+◌, ◌^◌, ℤ, pos, ◌*ℤ◌, ◌<ℤ◌, sym, ap, ◌∙◌, subst, Bool, ◌↔◌}
 use Rattle.std.specs.Bool.{IsTrue}
 use Rattle.nef_space.specs.Vectors.{dot}
-use Rattle.nef_sphere.specs.Maps.{At, Item, items, item_normal}
+use Rattle.law_sphere.specs.Maps.{At, Item, items, item_normal}
 use Rattle.nef_smap.specs.declared.linear.Values.{Values}
 use Rattle.nef_smap.specs.declared.map.SphereMap.{SphereMap}
 use Rattle.nef_smap.specs.declared.way.Way.{Way}

@@ -8,11 +8,11 @@ use Rattle.nef_space.specs.declared.label.Label.{Label}
 use Rattle.nef_geo.specs.Shapes.{vector_of}
 use Rattle.nef_geo.specs.declared.dir.Dir.{Dir}
 use Rattle.nef_geo.proofs.Unique.{same_directions_equal}
-use Rattle.nef_sphere.specs.Maps.{At, Svertex, Arc, Loop, Map, Item, arc_item, loop_item, items, OnItem, IsFree, MapLabel, at_svertex, on_item, seen, Side, whole, Sees}
-use Rattle.nef_sphere.proofs.Lists.{at-one}
-use Rattle.nef_sphere.proofs.Arcs.{loop-at, at-loop, at-arc}
-use Rattle.nef_sphere.proofs.Shot.{arc-at}
-use Rattle.nef_sphere.proofs.Compare.{way-self}
+use Rattle.law_sphere.specs.Maps.{At, Svertex, Arc, Loop, Map, Item, arc_item, loop_item, items, OnItem, IsFree, MapLabel, at_svertex, on_item, seen, Side, whole, Sees}
+use Rattle.law_sphere.proofs.Lists.{at-one}
+use Rattle.law_sphere.proofs.Arcs.{loop-at, at-loop, at-arc}
+use Rattle.law_sphere.proofs.Shot.{arc-at}
+use Rattle.law_sphere.proofs.Compare.{way-self}
 use Rattle.nef_smap.specs.Sides.{LabelledSide, sides_of, IsSide, SideSees, IsPlaceOf}
 use Rattle.nef_smap.specs.Maps.{svertex_of, arc_of, loop_of, map_of}
 use Rattle.nef_smap.specs.declared.map.SVertex.{SVertex}

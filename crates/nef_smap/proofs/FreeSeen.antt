@@ -4,31 +4,31 @@ use Rattle.std.specs.Bool.{IsTrue}
 use Rattle.nef_arc.proofs.SignNumbers.{not_true}
 use Rattle.nef_space.specs.Limits.{normal_limit}
 use Rattle.std.proofs.lemmas.Int.{ints}
-use Rattle.nef_exact.proofs.Ring.{ring, at, num, ◌⊕◌, ◌⊖◌, ◌⊗◌}
-use Rattle.nef_exact.proofs.Combination.{follows, given, none}
-use Rattle.nef_exact.proofs.Order.{sign, nought-is, by_order, mul_pos}
+use Rattle.law_arithmetic.proofs.Ring.{ring, at, num, ◌⊕◌, ◌⊖◌, ◌⊗◌}
+use Rattle.law_arithmetic.proofs.Combination.{follows, given, none}
+use Rattle.law_arithmetic.proofs.Order.{sign, nought-is, by_order, mul_pos}
 use Rattle.nef_space.specs.Vectors.{Vector, vector, IsDirection, IsNormal, IsAtMost, triple, cross, dot, blend, up as upward}
 use Rattle.nef_space.specs.declared.label.Label.{Label}
-use Rattle.nef_near.proofs.FlatDecided.{triple-in_plane}
-use Rattle.nef_near.proofs.Meets.{cross-none}
+use Rattle.law_near.proofs.FlatDecided.{triple-in_plane}
+use Rattle.law_near.proofs.Meets.{cross-none}
 use Rattle.nef_space.specs.Lists.{IsAt}
-use Rattle.nef_forms.proofs.Directions.{self-pos, square_pos}
-use Rattle.nef_forms.proofs.Far.{nought-or, same-off}
-use Rattle.nef_sphere.specs.Maps.{At, Svertex, Arc, Loop, Map, Item, arc_item, loop_item, items, items_then, item_normal, way_of, OnItem, IsFree, IsClear, around_svertex, above_item, below_item, whole, Sees, directly, by_way_of, HasArc, Shaped}
-use Rattle.nef_sphere.specs.Forms.{Keeps, forms, gather}
-use Rattle.nef_sphere.proofs.Vectors.{normal-is, direction-by}
-use Rattle.nef_sphere.proofs.Generic.{amount, far-keeps, far-level}
-use Rattle.nef_sphere.proofs.Lists.{gather-has, at-one}
-use Rattle.nef_sphere.proofs.Forms.{item-forms, normal-form, on-level, on-direction}
-use Rattle.nef_sphere.proofs.Parallel.{apart, arc-point}
-use Rattle.nef_sphere.proofs.Arcs.{Ends, ends-of, at-arc}
-use Rattle.nef_sphere.proofs.Shot.{product-off}
-use Rattle.nef_sphere.proofs.Direct.{slid, slid-level, slid-square, IsZero-times, cross-self, miss-between, between-off_target}
-use Rattle.nef_sphere.proofs.Around.{free-around}
-use Rattle.nef_sphere.proofs.NearItems.{clear-around}
-use Rattle.nef_sphere.proofs.StepOff.{Outlook, outlook, outlook-free, outlook-clear, outlook-svertex}
-use Rattle.nef_sphere.proofs.Sight.{clear-self}
-use Rattle.nef_sphere.proofs.Compare.{way-self}
+use Rattle.law_forms.proofs.Directions.{self-pos, square_pos}
+use Rattle.law_forms.proofs.Far.{nought-or, same-off}
+use Rattle.law_sphere.specs.Maps.{At, Svertex, Arc, Loop, Map, Item, arc_item, loop_item, items, items_then, item_normal, way_of, OnItem, IsFree, IsClear, around_svertex, above_item, below_item, whole, Sees, directly, by_way_of, HasArc, Shaped}
+use Rattle.law_sphere.specs.Forms.{Keeps, forms, gather}
+use Rattle.law_sphere.proofs.Vectors.{normal-is, direction-by}
+use Rattle.law_sphere.proofs.Generic.{amount, far-keeps, far-level}
+use Rattle.law_sphere.proofs.Lists.{gather-has, at-one}
+use Rattle.law_sphere.proofs.Forms.{item-forms, normal-form, on-level, on-direction}
+use Rattle.law_sphere.proofs.Parallel.{apart, arc-point}
+use Rattle.law_sphere.proofs.Arcs.{Ends, ends-of, at-arc}
+use Rattle.law_sphere.proofs.Shot.{product-off}
+use Rattle.law_sphere.proofs.Direct.{slid, slid-level, slid-square, IsZero-times, cross-self, miss-between, between-off_target}
+use Rattle.law_sphere.proofs.Around.{free-around}
+use Rattle.law_sphere.proofs.NearItems.{clear-around}
+use Rattle.law_sphere.proofs.StepOff.{Outlook, outlook, outlook-free, outlook-clear, outlook-svertex}
+use Rattle.law_sphere.proofs.Sight.{clear-self}
+use Rattle.law_sphere.proofs.Compare.{way-self}
 use Rattle.nef_smap.specs.Linear.{IsLarge}
 use Rattle.nef_smap.specs.Sides.{SideSees, labelled, svertex_sides, item_sides}
 use Rattle.nef_smap.specs.Ways.{meet_of, IsFair, IsFirstMet}

@@ -2,22 +2,22 @@
 use Rattle.std.proofs.Common.{◌≡◌, ℕ, zero, suc, ◌<◌, ℤ, pos, ◌*ℤ◌, ◌<ℤ◌, arith, ap, sym, ◌∙◌, List, [], ◌∷◌, length, map, slice_get, subst, Some}
 use Rattle.std.proofs.lemmas.Int.{ints}
 use Rattle.std.proofs.lemmas.List.{length-map}
-use Rattle.nef_exact.proofs.Ring.{ring, at, num, ◌⊕◌, ◌⊖◌, ◌⊗◌}
-use Rattle.nef_exact.proofs.Combination.{follows, given, none}
-use Rattle.nef_exact.proofs.Order.{mul_pos}
+use Rattle.law_arithmetic.proofs.Ring.{ring, at, num, ◌⊕◌, ◌⊖◌, ◌⊗◌}
+use Rattle.law_arithmetic.proofs.Combination.{follows, given, none}
+use Rattle.law_arithmetic.proofs.Order.{mul_pos}
 use Rattle.nef_space.specs.Limits.{normal_limit, svertex_limit}
 use Rattle.nef_space.specs.Vectors.{Vector, vector, IsDirection, IsZero, IsAtMost, cross, triple, dot, up, opposite, SameDirection}
-use Rattle.nef_near.proofs.FlatDecided.{cross-turned, triple-dot}
-use Rattle.nef_forms.proofs.Directions.{self-pos, dot-zero, direction-left, direction-right}
-use Rattle.nef_forms.proofs.Far.{same-nought}
+use Rattle.law_near.proofs.FlatDecided.{cross-turned, triple-dot}
+use Rattle.law_forms.proofs.Directions.{self-pos, dot-zero, direction-left, direction-right}
+use Rattle.law_forms.proofs.Far.{same-nought}
 use Rattle.nef_geo.specs.Shapes.{vector_of}
-use Rattle.nef_sphere.specs.Maps.{At, Svertex, Item, arc_item, items, item_normal}
-use Rattle.nef_sphere.proofs.Vectors.{same-plus}
-use Rattle.nef_sphere.proofs.Lists.{at-one}
-use Rattle.nef_sphere.proofs.Parallel.{apart, parallel-trans}
-use Rattle.nef_sphere.proofs.Shot.{way-at}
-use Rattle.nef_sphere.proofs.Labels.{way-signs}
-use Rattle.nef_sphere.proofs.Arcs.{at-arc}
+use Rattle.law_sphere.specs.Maps.{At, Svertex, Item, arc_item, items, item_normal}
+use Rattle.law_sphere.proofs.Vectors.{same-plus}
+use Rattle.law_sphere.proofs.Lists.{at-one}
+use Rattle.law_sphere.proofs.Parallel.{apart, parallel-trans}
+use Rattle.law_sphere.proofs.Shot.{way-at}
+use Rattle.law_sphere.proofs.Labels.{way-signs}
+use Rattle.law_sphere.proofs.Arcs.{at-arc}
 use Rattle.nef_smap.specs.declared.map.SArc.{SArc}
 use Rattle.nef_smap.specs.declared.map.SVertex.{SVertex}
 use Rattle.nef_smap.specs.declared.map.SphereMap.{SphereMap}

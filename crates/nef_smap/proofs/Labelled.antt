@@ -1,17 +1,17 @@
 -- The label of a free direction: of what lies over it. It is a labelling, which the signs of finitely many forms determine.
 use Rattle.std.proofs.Common.{◌≡◌, ℕ, pos, ◌<ℤ◌, refl, ap, sym, ◌∙◌, inl, inr, List, [], ◌∷◌, ◌++◌, Option}
-use Rattle.nef_exact.proofs.Ring.{ring, at, ◌⊕◌, ◌⊖◌, ◌⊗◌}
-use Rattle.nef_exact.proofs.Order.{sign}
-use Rattle.nef_exact.proofs.Lists.{lies-left, lies-right}
-use Rattle.nef_exact.specs.Signs.{Lies}
+use Rattle.law_arithmetic.proofs.Ring.{ring, at, ◌⊕◌, ◌⊖◌, ◌⊗◌}
+use Rattle.law_arithmetic.proofs.Order.{sign}
+use Rattle.law_arithmetic.proofs.Lists.{lies-left, lies-right}
+use Rattle.law_arithmetic.specs.Signs.{Lies}
 use Rattle.nef_space.specs.Vectors.{Vector, cross, dot}
 use Rattle.nef_space.specs.declared.label.Label.{Label}
 use Rattle.nef_space.specs.declared.label.Label.TheVariants.{Out}
-use Rattle.nef_near.proofs.Decided.{Decided}
-use Rattle.nef_sphere.specs.Maps.{At, Map, Item, items, item_normal, IsFree, Side, Shaped}
-use Rattle.nef_sphere.specs.Forms.{SameSigns, gather, forms}
-use Rattle.nef_sphere.specs.Labelling.{Labelling}
-use Rattle.nef_sphere.proofs.Forms.{item-forms, normal-form, IsFree-decided, free-by_signs}
+use Rattle.law_near.proofs.Decided.{Decided}
+use Rattle.law_sphere.specs.Maps.{At, Map, Item, items, item_normal, IsFree, Side, Shaped}
+use Rattle.law_sphere.specs.Forms.{SameSigns, gather, forms}
+use Rattle.law_sphere.specs.Labelling.{Labelling}
+use Rattle.law_sphere.proofs.Forms.{item-forms, normal-form, IsFree-decided, free-by_signs}
 use Rattle.nef_smap.specs.Above.{over_forms, IsFirst, first_sign, Stands}
 use Rattle.nef_smap.specs.Joined.{met}
 use Rattle.nef_smap.proofs.Rise.{lies-at, form-over, meridian-over}

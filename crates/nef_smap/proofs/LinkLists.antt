@@ -3,8 +3,8 @@ use Rattle.std.proofs.Common.{◌≡◌, ℕ, zero, suc, ◌+◌, ◌<◌, arith
 use Rattle.nef_space.specs.Lists.{IsAt}
 use Rattle.nef_space.specs.Vectors.{up}
 use Rattle.nef_space.specs.declared.label.Label.{Label}
-use Rattle.nef_sphere.specs.Maps.{At, Svertex, Arc, Loop, Map, loop_item, items, items_then, around_svertex, above_item, whole}
-use Rattle.nef_sphere.proofs.Lists.{at-one}
+use Rattle.law_sphere.specs.Maps.{At, Svertex, Arc, Loop, Map, loop_item, items, items_then, around_svertex, above_item, whole}
+use Rattle.law_sphere.proofs.Lists.{at-one}
 use Rattle.nef_smap.specs.declared.classes.Link.{Link}
 use Rattle.nef_smap.specs.Sides.{labelled, svertex_sides, item_sides, sides_of}
 use Rattle.nef_smap.specs.Classes.{AreLinked}

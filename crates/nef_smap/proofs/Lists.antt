@@ -1,6 +1,6 @@
 -- Elements by their places, in lists and in what a function makes of them.
 use Rattle.std.proofs.Common.{◌≡◌, ℕ, zero, suc, ◌<◌, List, [], ◌∷◌, length, map, get_or, arith, refl, ap}
-use Rattle.nef_sphere.specs.Maps.{At}
+use Rattle.law_sphere.specs.Maps.{At}
 
 pub map-at : {A B : Type 0} (f : A → B) (xs : List A) (k : ℕ) (x : A) → At xs k x → At (map f xs) k (f x)
 map-at f [] k x h = absurd h

@@ -1,7 +1,7 @@
 -- The svertices and items of the program's maps by their numbers.
 use Rattle.std.proofs.Common.{◌≡◌, ℕ, zero, suc, ◌<◌, ◌+◌, List, [], ◌∷◌, length, map, Option, Some, None, option_map, is_some, arith, refl, ap, slice_get}
 use mir.Val.{bool_byte}
-use Rattle.nef_sphere.specs.Maps.{At, Loop, arc_item, loop_item, items_then}
+use Rattle.law_sphere.specs.Maps.{At, Loop, arc_item, loop_item, items_then}
 use Rattle.nef_smap.specs.declared.map.SArc.{SArc}
 use Rattle.nef_smap.specs.declared.map.SLoop.{SLoop}
 use Rattle.nef_smap.specs.Maps.{arc_of, loop_of}

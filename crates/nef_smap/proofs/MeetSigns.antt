@@ -1,12 +1,12 @@
 -- The signs of forms where a way meets a plane, from their values at its ends.
 use Rattle.std.proofs.Common.{◌≡◌, ℕ, ℤ, pos, neg_ℤ, ◌+ℤ◌, ◌-ℤ◌, ◌*ℤ◌, ◌<ℤ◌, refl, ap, sym, ◌∙◌, [], ◌∷◌, ◌↔◌, arith}
 use Rattle.std.proofs.lemmas.Int.{ints}
-use Rattle.nef_exact.proofs.Ring.{ring, at, num, neg, ◌⊕◌, ◌⊖◌, ◌⊗◌}
+use Rattle.law_arithmetic.proofs.Ring.{ring, at, num, neg, ◌⊕◌, ◌⊖◌, ◌⊗◌}
 use Rattle.nef_space.specs.Vectors.{Vector, triple, cross, dot}
 use Rattle.nef_geo.specs.Signs.{sign_of, sign_number}
 use Rattle.nef_geo.specs.declared.sign.Sign.{Sign}
 use Rattle.nef_geo.specs.declared.sign.Sign.TheVariants.{Minus, Zero, Plus}
-use Rattle.nef_sphere.proofs.Vectors.{dot-comb}
+use Rattle.law_sphere.proofs.Vectors.{dot-comb}
 use Rattle.nef_smap.specs.declared.linear.Values.{Values}
 use Rattle.nef_smap.specs.declared.way.Way.{Way}
 use Rattle.nef_smap.specs.Linear.{linear_at, turn_value}

@@ -2,15 +2,15 @@
 use Rattle.std.proofs.Common.{◌≡◌, ℕ, ◌+◌, ◌<◌, pos, ◌-ℤ◌, ◌*ℤ◌, ◌<ℤ◌, arith, ap, ◌∙◌, ⊎_elim, [], ◌∷◌, subst}
 use Rattle.std.proofs.lemmas.Int.{ints}
 use Rattle.std.proofs.Math.Nat.{eq-or-lt_of_le}
-use Rattle.nef_exact.proofs.Ring.{ring, at, num, ◌⊕◌, ◌⊖◌, ◌⊗◌}
-use Rattle.nef_exact.proofs.Order.{sign, sign-scaled}
+use Rattle.law_arithmetic.proofs.Ring.{ring, at, num, ◌⊕◌, ◌⊖◌, ◌⊗◌}
+use Rattle.law_arithmetic.proofs.Order.{sign, sign-scaled}
 use Rattle.nef_space.specs.Vectors.{Vector, IsDirection, dot, cross}
-use Rattle.nef_near.proofs.Meets.{cross-none}
-use Rattle.nef_forms.proofs.Directions.{square_pos}
-use Rattle.nef_sphere.specs.Maps.{At, Map, Item, items, item_normal, OnItem}
-use Rattle.nef_sphere.proofs.Lists.{at-one}
-use Rattle.nef_sphere.proofs.Forms.{on-level, OnItem-by_signs}
-use Rattle.nef_sphere.proofs.Direct.{IsZero-times}
+use Rattle.law_near.proofs.Meets.{cross-none}
+use Rattle.law_forms.proofs.Directions.{square_pos}
+use Rattle.law_sphere.specs.Maps.{At, Map, Item, items, item_normal, OnItem}
+use Rattle.law_sphere.proofs.Lists.{at-one}
+use Rattle.law_sphere.proofs.Forms.{on-level, OnItem-by_signs}
+use Rattle.law_sphere.proofs.Direct.{IsZero-times}
 use Rattle.nef_smap.specs.Ways.{meet_of, IsMet, IsMetBefore, IsFair, IsFirstMet}
 use Rattle.nef_smap.proofs.FirstMet.{meet-is, before-trans, before-self}
 

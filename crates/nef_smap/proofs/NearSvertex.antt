@@ -1,29 +1,29 @@
 -- Close to a svertex: on a ray of an arc that begins or ends there, or free.
 use Rattle.std.proofs.Common.{◌≡◌, ℕ, ◌<◌, ℤ, pos, ◌*ℤ◌, ◌<ℤ◌, arith, refl, sym, ◌⊎◌, inl, inr, ⊎_elim, [], ◌∷◌, subst}
 use Rattle.std.proofs.lemmas.Int.{ints}
-use Rattle.nef_exact.proofs.Ring.{ring, at, num, ◌⊕◌, ◌⊖◌, ◌⊗◌}
-use Rattle.nef_exact.proofs.Combination.{follows, given, none}
-use Rattle.nef_exact.proofs.Order.{by_order, mul_pos, mul_neg}
+use Rattle.law_arithmetic.proofs.Ring.{ring, at, num, ◌⊕◌, ◌⊖◌, ◌⊗◌}
+use Rattle.law_arithmetic.proofs.Combination.{follows, given, none}
+use Rattle.law_arithmetic.proofs.Order.{by_order, mul_pos, mul_neg}
 use Rattle.nef_space.specs.Vectors.{Vector, IsDirection, triple, cross, dot, opposite, IsZero, SameDirection, blend}
-use Rattle.nef_cyclic.specs.Arcs.{IsStrictlyOn}
-use Rattle.nef_cyclic.proofs.Directions.{dot-opposite, level-same, same-first}
-use Rattle.nef_near.proofs.Decided.{Decided}
-use Rattle.nef_near.proofs.FlatDecided.{triple-dot, cross-turned}
-use Rattle.nef_forms.proofs.Directions.{dot-comm, self-pos}
-use Rattle.nef_sphere.specs.Maps.{At, Svertex, Arc, Map, Item, arc_item, loop_item, items, way_of, OnItem, IsFree, IsClear, Side, above_item, below_item, Shaped}
-use Rattle.nef_sphere.specs.Forms.{Keeps, arc_forms, forms}
-use Rattle.nef_sphere.proofs.Vectors.{triple-middle, normal-is, same-plus, same-minus}
-use Rattle.nef_sphere.proofs.Places.{kept-nought, kept-minus, SameDirection-decided}
-use Rattle.nef_sphere.proofs.Forms.{axes-forms, item-forms}
-use Rattle.nef_sphere.proofs.Parallel.{parallel-in_plane}
-use Rattle.nef_sphere.proofs.Lists.{at-one}
-use Rattle.nef_sphere.proofs.Shot.{arc-at}
-use Rattle.nef_sphere.proofs.Around.{opposite-triple, triple-turned, Beside, same_way, other_way, beside, IsStrictlyOn-back, direction-around, svertex-around}
-use Rattle.nef_sphere.proofs.Compare.{SameDirection-turned, SameDirection-trans}
-use Rattle.nef_sphere.proofs.StepOff.{blend-turned}
-use Rattle.nef_sphere.proofs.NearItems.{keeps-between, kept-not_opposite, opposite-turned}
-use Rattle.nef_sphere.proofs.Turn.{turn-last}
-use Rattle.nef_sphere.proofs.Arcs.{Ends, ends-of}
+use Rattle.law_cyclic.specs.Arcs.{IsStrictlyOn}
+use Rattle.law_cyclic.proofs.Directions.{dot-opposite, level-same, same-first}
+use Rattle.law_near.proofs.Decided.{Decided}
+use Rattle.law_near.proofs.FlatDecided.{triple-dot, cross-turned}
+use Rattle.law_forms.proofs.Directions.{dot-comm, self-pos}
+use Rattle.law_sphere.specs.Maps.{At, Svertex, Arc, Map, Item, arc_item, loop_item, items, way_of, OnItem, IsFree, IsClear, Side, above_item, below_item, Shaped}
+use Rattle.law_sphere.specs.Forms.{Keeps, arc_forms, forms}
+use Rattle.law_sphere.proofs.Vectors.{triple-middle, normal-is, same-plus, same-minus}
+use Rattle.law_sphere.proofs.Places.{kept-nought, kept-minus, SameDirection-decided}
+use Rattle.law_sphere.proofs.Forms.{axes-forms, item-forms}
+use Rattle.law_sphere.proofs.Parallel.{parallel-in_plane}
+use Rattle.law_sphere.proofs.Lists.{at-one}
+use Rattle.law_sphere.proofs.Shot.{arc-at}
+use Rattle.law_sphere.proofs.Around.{opposite-triple, triple-turned, Beside, same_way, other_way, beside, IsStrictlyOn-back, direction-around, svertex-around}
+use Rattle.law_sphere.proofs.Compare.{SameDirection-turned, SameDirection-trans}
+use Rattle.law_sphere.proofs.StepOff.{blend-turned}
+use Rattle.law_sphere.proofs.NearItems.{keeps-between, kept-not_opposite, opposite-turned}
+use Rattle.law_sphere.proofs.Turn.{turn-last}
+use Rattle.law_sphere.proofs.Arcs.{Ends, ends-of}
 
 -- ---- rays
 -- an arc that begins or ends at svertex k, seen from there

@@ -1,6 +1,6 @@
 -- Stars of directions in faces and on items show the map.
 use Rattle.std.proofs.Common.{◌≡◌, ℕ, zero, List, [], ◌∷◌, length, map, pos, true, false, Option, Some, None, Result, Ok, Err, IfOk, refl, sym, ap, subst, ◌∙◌}
-use Rattle.nef_exact.proofs.Order.{sign}
+use Rattle.law_arithmetic.proofs.Order.{sign}
 use Rattle.nef_space.specs.Limits.{normal_limit, svertex_limit}
 use Rattle.nef_space.specs.Vectors.{Vector, dot, cross, IsDirection, SameDirection, IsAtMost, IsNormal}
 use Rattle.nef_space.specs.Lists.{IsAt}
@@ -8,15 +8,15 @@ use Rattle.nef_space.specs.declared.label.Label.{Label}
 use Rattle.nef_geo.specs.Shapes.{vector_of}
 use Rattle.nef_geo.specs.declared.dir.Dir.{Dir}
 use Rattle.nef_geo.proofs.Unique.{same_directions_equal}
-use Rattle.nef_sphere.specs.Maps.{At, Svertex, Map, HasArc, at_svertex, Item, items, item_normal, item_above, item_mark, item_below, OnItem, Side, HasSide, SeenAs, MapLabel, on_item, seen, NearLabel, Valid}
-use Rattle.nef_sphere.specs.Least.{by_side}
-use Rattle.nef_sphere.specs.Stars.{Ray as PlainRay, StarLabel, on_ray, in_sector, in_only_sector, StarShows, IsStraight}
-use Rattle.nef_sphere.proofs.Compare.{way-self}
-use Rattle.nef_sphere.proofs.Lists.{at-one}
-use Rattle.nef_sphere.proofs.Lone.{near-lone}
-use Rattle.nef_sphere.proofs.StarKinds.{none-at, straight_star-label}
-use Rattle.nef_sphere.proofs.NearItems.{near-free, near-item}
-use Rattle.nef_sphere.proofs.Labels.{sees-free}
+use Rattle.law_sphere.specs.Maps.{At, Svertex, Map, HasArc, at_svertex, Item, items, item_normal, item_above, item_mark, item_below, OnItem, Side, HasSide, SeenAs, MapLabel, on_item, seen, NearLabel, Valid}
+use Rattle.law_sphere.specs.Least.{by_side}
+use Rattle.law_sphere.specs.Stars.{Ray as PlainRay, StarLabel, on_ray, in_sector, in_only_sector, StarShows, IsStraight}
+use Rattle.law_sphere.proofs.Compare.{way-self}
+use Rattle.law_sphere.proofs.Lists.{at-one}
+use Rattle.law_sphere.proofs.Lone.{near-lone}
+use Rattle.law_sphere.proofs.StarKinds.{none-at, straight_star-label}
+use Rattle.law_sphere.proofs.NearItems.{near-free, near-item}
+use Rattle.law_sphere.proofs.Labels.{sees-free}
 use Rattle.nef_star.specs.declared.star.Ray.{Ray}
 use Rattle.nef_star.specs.declared.star.Star.{Star}
 use Rattle.nef_star.specs.Stars.{ray_of, star_of, sector_at, IsRay, IsStar}

@@ -1,22 +1,22 @@
 -- The labels near a svertex: on a ray, and in the sector after it.
 use Rattle.std.proofs.Common.{◌≡◌, ℕ, ◌+◌, ◌≤◌, List, pos, arith, refl, sym, ap, subst, ◌∙◌, ⊎_elim}
-use Rattle.nef_exact.proofs.Order.{sign, sign-scaled}
+use Rattle.law_arithmetic.proofs.Order.{sign, sign-scaled}
 use Rattle.nef_space.specs.Vectors.{Vector, IsDirection, cross, dot, SameDirection, blend}
 use Rattle.nef_space.specs.declared.label.Label.{Label}
-use Rattle.nef_cyclic.specs.Arcs.{IsOnCircle, IsStrictlyOn}
-use Rattle.nef_cyclic.proofs.Directions.{level_cross_first, same-first}
-use Rattle.nef_forms.proofs.Directions.{self-pos}
-use Rattle.nef_forms.proofs.Far.{nought-or}
-use Rattle.nef_sphere.specs.Maps.{At, Svertex, Map, arc_item, HasSide, Sees, IsClear, on_item, seen, NearLabel, Valid}
-use Rattle.nef_sphere.specs.Forms.{SameSigns, forms}
-use Rattle.nef_sphere.specs.Stars.{across}
-use Rattle.nef_sphere.proofs.Arcs.{at-arc}
-use Rattle.nef_sphere.proofs.Compare.{SameDirection-trans, SameDirection-turned, way-self}
-use Rattle.nef_sphere.proofs.Generic.{amount, far-keeps, far-level}
-use Rattle.nef_sphere.proofs.Labels.{way-signs, label-by_signs, near-from_far}
-use Rattle.nef_sphere.proofs.StarKinds.{across-side}
-use Rattle.nef_sphere.proofs.StepOff.{blend-turned}
-use Rattle.nef_sphere.proofs.Turn.{way-directed, IsStrictlyOn-same}
+use Rattle.law_cyclic.specs.Arcs.{IsOnCircle, IsStrictlyOn}
+use Rattle.law_cyclic.proofs.Directions.{level_cross_first, same-first}
+use Rattle.law_forms.proofs.Directions.{self-pos}
+use Rattle.law_forms.proofs.Far.{nought-or}
+use Rattle.law_sphere.specs.Maps.{At, Svertex, Map, arc_item, HasSide, Sees, IsClear, on_item, seen, NearLabel, Valid}
+use Rattle.law_sphere.specs.Forms.{SameSigns, forms}
+use Rattle.law_sphere.specs.Stars.{across}
+use Rattle.law_sphere.proofs.Arcs.{at-arc}
+use Rattle.law_sphere.proofs.Compare.{SameDirection-trans, SameDirection-turned, way-self}
+use Rattle.law_sphere.proofs.Generic.{amount, far-keeps, far-level}
+use Rattle.law_sphere.proofs.Labels.{way-signs, label-by_signs, near-from_far}
+use Rattle.law_sphere.proofs.StarKinds.{across-side}
+use Rattle.law_sphere.proofs.StepOff.{blend-turned}
+use Rattle.law_sphere.proofs.Turn.{way-directed, IsStrictlyOn-same}
 use Rattle.nef_star.proofs.Lefts.{way-same}
 use Rattle.nef_smap.proofs.NearSvertex.{ArcRay, ray_left, ray_side, Unrayed, same-cross, near-clear}
 use Rattle.nef_smap.proofs.SectorSees.{left-on, on-end, sector-sees}

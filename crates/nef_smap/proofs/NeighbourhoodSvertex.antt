@@ -4,17 +4,17 @@ use Rattle.std.proofs.lemmas.Int.{ints}
 use Rattle.nef_space.specs.Lists.{IsAt}
 use Rattle.nef_space.specs.Vectors.{Vector, IsDirection, cross, dot, opposite, SameDirection, blend}
 use Rattle.nef_space.specs.declared.label.Label.{Label}
-use Rattle.nef_cyclic.specs.Arcs.{IsOnCircle, IsStrictlyOn, Passes}
-use Rattle.nef_cyclic.proofs.Cyclic.{order_is_transitive}
-use Rattle.nef_cyclic.proofs.Directions.{dot-opposite, level_cross_first}
-use Rattle.nef_forms.proofs.Directions.{dot-comm, self-pos}
+use Rattle.law_cyclic.specs.Arcs.{IsOnCircle, IsStrictlyOn, Passes}
+use Rattle.law_cyclic.proofs.Cyclic.{order_is_transitive}
+use Rattle.law_cyclic.proofs.Directions.{dot-opposite, level_cross_first}
+use Rattle.law_forms.proofs.Directions.{dot-comm, self-pos}
 use Rattle.nef_geo.specs.Shapes.{vector_of}
 use Rattle.nef_geo.specs.declared.dir.Dir.{Dir}
-use Rattle.nef_sphere.specs.Maps.{At, Svertex, Arc, Map, arc_item, items, OnItem, HasArc, HasSide, at_svertex, NearLabel, Valid}
-use Rattle.nef_sphere.specs.Stars.{StarShows}
-use Rattle.nef_sphere.proofs.Arcs.{at-arc}
-use Rattle.nef_sphere.proofs.Compare.{way-self}
-use Rattle.nef_sphere.proofs.Lists.{at-one}
+use Rattle.law_sphere.specs.Maps.{At, Svertex, Arc, Map, arc_item, items, OnItem, HasArc, HasSide, at_svertex, NearLabel, Valid}
+use Rattle.law_sphere.specs.Stars.{StarShows}
+use Rattle.law_sphere.proofs.Arcs.{at-arc}
+use Rattle.law_sphere.proofs.Compare.{way-self}
+use Rattle.law_sphere.proofs.Lists.{at-one}
 use Rattle.nef_star.specs.Rounds.{End, AreApart, IsRound}
 use Rattle.nef_star.specs.Turning.{IsTurning, IsNext, on_ray as at_ray, in_sector as of_sector, in_only_sector as of_only_sector}
 use Rattle.nef_star.specs.declared.star.Ray.{Ray}

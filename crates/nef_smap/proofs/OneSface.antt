@@ -1,27 +1,27 @@
 -- Labels of sides that agree at the joins are the same for all sides of one sface.
 use Rattle.std.proofs.Common.{◌≡◌, ℕ, ◌+◌, pos, ◌<ℤ◌, arith, refl, ap, sym, ◌∙◌, inl, inr, ⊎_elim, List, [], ◌∷◌, subst, Option, Some, None}
 use Rattle.std.proofs.lemmas.Int.{ints}
-use Rattle.nef_exact.proofs.Order.{sign, nought-is}
-use Rattle.nef_exact.specs.Signs.{Lies}
+use Rattle.law_arithmetic.proofs.Order.{sign, nought-is}
+use Rattle.law_arithmetic.specs.Signs.{Lies}
 use Rattle.nef_space.specs.Vectors.{Vector, IsDirection, IsZero, cross, dot, opposite}
 use Rattle.nef_space.specs.declared.label.Label.{Label}
 use Rattle.nef_space.specs.declared.label.Label.TheVariants.{Out}
-use Rattle.nef_near.proofs.FlatDecided.{cross-turned}
-use Rattle.nef_forms.proofs.Directions.{zero-decided}
-use Rattle.nef_cyclic.specs.Arcs.{IsStrictlyOn}
-use Rattle.nef_sphere.specs.Maps.{At, Svertex, Loop, Map, Item, arc_item, loop_item, items, item_normal, way_of, OnItem, IsFree, Side, around_svertex, above_item, below_item, whole, HasArc, HasSide, Sees, Shaped}
-use Rattle.nef_sphere.specs.Labelling.{Labelling, Near, Plain, PlainAt, StraightAt, IsSmooth, straight}
-use Rattle.nef_sphere.proofs.Vectors.{normal-is}
-use Rattle.nef_sphere.proofs.Forms.{on-direction, on-level, axes-forms}
-use Rattle.nef_sphere.proofs.Generic.{amount}
-use Rattle.nef_sphere.proofs.Parallel.{apart, parallel-trans, past_source, arc-point}
-use Rattle.nef_sphere.proofs.Shot.{way-at, arc-at}
-use Rattle.nef_sphere.proofs.Direct.{cross-self}
-use Rattle.nef_sphere.proofs.Around.{Beside, same_way, other_way, beside}
-use Rattle.nef_sphere.proofs.Walk.{cross-direction_left}
-use Rattle.nef_sphere.proofs.Arcs.{loop-at}
-use Rattle.nef_sphere.proofs.Flips.{Axial, directed-by, far_directed-by, loop-along}
-use Rattle.nef_sphere.proofs.ArcLabels.{arc-along}
+use Rattle.law_near.proofs.FlatDecided.{cross-turned}
+use Rattle.law_forms.proofs.Directions.{zero-decided}
+use Rattle.law_cyclic.specs.Arcs.{IsStrictlyOn}
+use Rattle.law_sphere.specs.Maps.{At, Svertex, Loop, Map, Item, arc_item, loop_item, items, item_normal, way_of, OnItem, IsFree, Side, around_svertex, above_item, below_item, whole, HasArc, HasSide, Sees, Shaped}
+use Rattle.law_sphere.specs.Labelling.{Labelling, Near, Plain, PlainAt, StraightAt, IsSmooth, straight}
+use Rattle.law_sphere.proofs.Vectors.{normal-is}
+use Rattle.law_sphere.proofs.Forms.{on-direction, on-level, axes-forms}
+use Rattle.law_sphere.proofs.Generic.{amount}
+use Rattle.law_sphere.proofs.Parallel.{apart, parallel-trans, past_source, arc-point}
+use Rattle.law_sphere.proofs.Shot.{way-at, arc-at}
+use Rattle.law_sphere.proofs.Direct.{cross-self}
+use Rattle.law_sphere.proofs.Around.{Beside, same_way, other_way, beside}
+use Rattle.law_sphere.proofs.Walk.{cross-direction_left}
+use Rattle.law_sphere.proofs.Arcs.{loop-at}
+use Rattle.law_sphere.proofs.Flips.{Axial, directed-by, far_directed-by, loop-along}
+use Rattle.law_sphere.proofs.ArcLabels.{arc-along}
 use Rattle.nef_smap.specs.Above.{over_forms, IsFirst, Stands}
 use Rattle.nef_smap.specs.Joined.{met, BelowFirst, Firsts, Joins}
 use Rattle.nef_smap.proofs.Rise.{form-over}

@@ -1,21 +1,21 @@
 -- What lies over a direction close to d lies over d, or ends over d.
 use Rattle.std.proofs.Common.{◌≡◌, ℕ, pos, ◌-ℤ◌, ◌*ℤ◌, ◌<ℤ◌, arith, refl, ap, sym, ◌∙◌, ◌⊎◌, inl, inr, ⊎_elim, [], ◌∷◌, subst, Option, Some, None}
 use Rattle.std.proofs.lemmas.Int.{ints}
-use Rattle.nef_exact.proofs.Ring.{ring, at, num, ◌⊕◌, ◌⊖◌, ◌⊗◌}
-use Rattle.nef_exact.proofs.Combination.{follows, given, none}
-use Rattle.nef_exact.proofs.Order.{sign, by_order, sign-scaled}
-use Rattle.nef_forms.proofs.Far.{same-nought}
+use Rattle.law_arithmetic.proofs.Ring.{ring, at, num, ◌⊕◌, ◌⊖◌, ◌⊗◌}
+use Rattle.law_arithmetic.proofs.Combination.{follows, given, none}
+use Rattle.law_arithmetic.proofs.Order.{sign, by_order, sign-scaled}
+use Rattle.law_forms.proofs.Far.{same-nought}
 use Rattle.nef_space.specs.Vectors.{Vector, IsDirection, dot, SameDirection}
-use Rattle.nef_sphere.specs.Maps.{At, Svertex, Arc, Map, Item, arc_item, loop_item, items, item_normal, way_of, OnItem, Shaped}
-use Rattle.nef_sphere.specs.Forms.{SameSigns, Keeps, forms}
-use Rattle.nef_sphere.proofs.Vectors.{normal-is, same-minus}
-use Rattle.nef_sphere.proofs.Lists.{at-one}
-use Rattle.nef_sphere.proofs.Places.{kept-nought, SameDirection-decided}
-use Rattle.nef_near.proofs.Decided.{Decided}
-use Rattle.nef_sphere.proofs.Forms.{item-forms, normal-form, on-level, OnItem-by_signs}
-use Rattle.nef_sphere.proofs.Shot.{way-at, arc-at}
-use Rattle.nef_sphere.proofs.Labels.{way-signs}
-use Rattle.nef_sphere.proofs.Around.{IsStrictlyOn-back}
+use Rattle.law_sphere.specs.Maps.{At, Svertex, Arc, Map, Item, arc_item, loop_item, items, item_normal, way_of, OnItem, Shaped}
+use Rattle.law_sphere.specs.Forms.{SameSigns, Keeps, forms}
+use Rattle.law_sphere.proofs.Vectors.{normal-is, same-minus}
+use Rattle.law_sphere.proofs.Lists.{at-one}
+use Rattle.law_sphere.proofs.Places.{kept-nought, SameDirection-decided}
+use Rattle.law_near.proofs.Decided.{Decided}
+use Rattle.law_sphere.proofs.Forms.{item-forms, normal-form, on-level, OnItem-by_signs}
+use Rattle.law_sphere.proofs.Shot.{way-at, arc-at}
+use Rattle.law_sphere.proofs.Labels.{way-signs}
+use Rattle.law_sphere.proofs.Around.{IsStrictlyOn-back}
 use Rattle.nef_smap.specs.Above.{rise, meridians, IsOver, IsFirst}
 use Rattle.nef_smap.proofs.Rise.{rise-is, rise_form-value, rise-same}
 

@@ -1,24 +1,24 @@
 -- The directions u and -u are plain by what lies over close directions.
 use Rattle.std.proofs.Common.{◌≡◌, ℕ, ◌<◌, ◌≤◌, ℤ, pos, ◌+ℤ◌, ◌-ℤ◌, ◌*ℤ◌, ◌≤ℤ◌, ◌<ℤ◌, arith, refl, ap, sym, ◌∙◌, ⊎_elim, List, [], ◌∷◌, subst, None}
 use Rattle.std.proofs.lemmas.Int.{ints}
-use Rattle.nef_exact.proofs.Ring.{ring, at, num, neg, ◌⊕◌, ◌⊖◌, ◌⊗◌}
-use Rattle.nef_exact.proofs.Combination.{follows, given, none}
-use Rattle.nef_exact.proofs.Order.{sign, by_order, mul_pos, mul_nonneg, mul_neg}
-use Rattle.nef_exact.specs.Signs.{Lies}
+use Rattle.law_arithmetic.proofs.Ring.{ring, at, num, neg, ◌⊕◌, ◌⊖◌, ◌⊗◌}
+use Rattle.law_arithmetic.proofs.Combination.{follows, given, none}
+use Rattle.law_arithmetic.proofs.Order.{sign, by_order, mul_pos, mul_nonneg, mul_neg}
+use Rattle.law_arithmetic.specs.Signs.{Lies}
 use Rattle.nef_space.specs.Vectors.{Vector, IsDirection, IsZero, cross, dot, SameDirection, IsOpposite, opposite, blend}
 use Rattle.nef_space.specs.declared.label.Label.{Label}
-use Rattle.nef_forms.proofs.Directions.{self-pos, dot-comm, dot-zero, zero-dot, zero-decided}
-use Rattle.nef_forms.proofs.Far.{nought-or, same-off}
-use Rattle.nef_sphere.specs.Maps.{At, Svertex, Map, Item, items, item_normal, IsFree, Side, Shaped}
-use Rattle.nef_sphere.specs.Forms.{Keeps, forms}
-use Rattle.nef_sphere.specs.Labelling.{Labelling, Near, Plain, PlainAt}
-use Rattle.nef_sphere.proofs.Vectors.{dot-comb, same-plus, nought-if}
-use Rattle.nef_sphere.proofs.Forms.{item-forms, normal-form}
-use Rattle.nef_sphere.proofs.Generic.{amount, far-keeps, far-level}
-use Rattle.nef_sphere.proofs.Labels.{way-signs, mixed-sign}
-use Rattle.nef_sphere.proofs.Around.{free-around}
-use Rattle.nef_sphere.proofs.Walk.{carried, cross-direction_left}
-use Rattle.nef_sphere.proofs.Direct.{cross-self}
+use Rattle.law_forms.proofs.Directions.{self-pos, dot-comm, dot-zero, zero-dot, zero-decided}
+use Rattle.law_forms.proofs.Far.{nought-or, same-off}
+use Rattle.law_sphere.specs.Maps.{At, Svertex, Map, Item, items, item_normal, IsFree, Side, Shaped}
+use Rattle.law_sphere.specs.Forms.{Keeps, forms}
+use Rattle.law_sphere.specs.Labelling.{Labelling, Near, Plain, PlainAt}
+use Rattle.law_sphere.proofs.Vectors.{dot-comb, same-plus, nought-if}
+use Rattle.law_sphere.proofs.Forms.{item-forms, normal-form}
+use Rattle.law_sphere.proofs.Generic.{amount, far-keeps, far-level}
+use Rattle.law_sphere.proofs.Labels.{way-signs, mixed-sign}
+use Rattle.law_sphere.proofs.Around.{free-around}
+use Rattle.law_sphere.proofs.Walk.{carried, cross-direction_left}
+use Rattle.law_sphere.proofs.Direct.{cross-self}
 use Rattle.nef_smap.specs.Above.{over_forms, IsOver, first_sign, Stands}
 use Rattle.nef_smap.specs.Joined.{met, BelowFirsts}
 use Rattle.nef_smap.proofs.Rise.{form-over}

@@ -2,27 +2,27 @@
 use Rattle.std.proofs.Common.{◌≡◌, ℕ, ◌+◌, ◌*◌, arith, ap, sym, ◌∙◌, inl, inr, List, subst, Some}
 use Rattle.std.proofs.lemmas.Int.{ints}
 use Rattle.std.proofs.Math.Nat.{mul-pos}
-use Rattle.nef_exact.proofs.Order.{sign, sign-plus, sign-minus}
+use Rattle.law_arithmetic.proofs.Order.{sign, sign-plus, sign-minus}
 use Rattle.nef_space.specs.Vectors.{Vector, IsDirection, cross, dot, IsZero, SameDirection, blend}
 use Rattle.nef_space.specs.declared.label.Label.{Label}
 use Rattle.nef_space.specs.declared.label.Label.TheVariants.{Out}
-use Rattle.nef_near.proofs.Decided.{Decided}
-use Rattle.nef_forms.proofs.Directions.{dot-comm, zero-decided}
-use Rattle.nef_sphere.specs.Maps.{At, Svertex, Map, Item, items, item_normal, OnItem, IsFree, Side, around_svertex, above_item, below_item, whole, HasSide, IsClear, Reaches, Sees, directly, by_way_of}
-use Rattle.nef_sphere.specs.Least.{by_side}
-use Rattle.nef_sphere.specs.Labelling.{Labelling, Near, Plain}
-use Rattle.nef_sphere.proofs.Generic.{amount}
-use Rattle.nef_sphere.proofs.Lists.{at-one}
-use Rattle.nef_sphere.proofs.Forms.{on-level}
-use Rattle.nef_sphere.proofs.Parallel.{apart, parallel-trans}
-use Rattle.nef_near.proofs.FlatDecided.{cross-turned}
-use Rattle.nef_sphere.proofs.Direct.{cross-between}
-use Rattle.nef_sphere.proofs.StepOff.{blend-turned}
-use Rattle.nef_sphere.proofs.Labels.{way-direction}
-use Rattle.nef_sphere.proofs.Around.{Beside, same_way, other_way, beside}
-use Rattle.nef_sphere.proofs.Compare.{SameDirection-turned, SameDirection-trans}
-use Rattle.nef_sphere.proofs.Lone.{near-same_signs}
-use Rattle.nef_sphere.proofs.Walk.{carried, left-of, between-direction, cross-direction_turned}
+use Rattle.law_near.proofs.Decided.{Decided}
+use Rattle.law_forms.proofs.Directions.{dot-comm, zero-decided}
+use Rattle.law_sphere.specs.Maps.{At, Svertex, Map, Item, items, item_normal, OnItem, IsFree, Side, around_svertex, above_item, below_item, whole, HasSide, IsClear, Reaches, Sees, directly, by_way_of}
+use Rattle.law_sphere.specs.Least.{by_side}
+use Rattle.law_sphere.specs.Labelling.{Labelling, Near, Plain}
+use Rattle.law_sphere.proofs.Generic.{amount}
+use Rattle.law_sphere.proofs.Lists.{at-one}
+use Rattle.law_sphere.proofs.Forms.{on-level}
+use Rattle.law_sphere.proofs.Parallel.{apart, parallel-trans}
+use Rattle.law_near.proofs.FlatDecided.{cross-turned}
+use Rattle.law_sphere.proofs.Direct.{cross-between}
+use Rattle.law_sphere.proofs.StepOff.{blend-turned}
+use Rattle.law_sphere.proofs.Labels.{way-direction}
+use Rattle.law_sphere.proofs.Around.{Beside, same_way, other_way, beside}
+use Rattle.law_sphere.proofs.Compare.{SameDirection-turned, SameDirection-trans}
+use Rattle.law_sphere.proofs.Lone.{near-same_signs}
+use Rattle.law_sphere.proofs.Walk.{carried, left-of, between-direction, cross-direction_turned}
 
 -- at each place of the map, and near it, the labels are those that G gives the sides
 pub record Sided (M : Map) (G : Side → Label) (F : Vector → Label → Type 0) : Type 0 where

@@ -2,16 +2,16 @@
 use Rattle.std.proofs.Common.{◌≡◌, ℕ, ◌+◌, ◌<◌, pos, ◌<ℤ◌, Bool, true, false, arith, refl, ap, sym, ◌∙◌, ⊎_elim, List, ◌++◌, length, subst, Option, Some, None, ◌↔◌}
 use lib.Dec.{eqb}
 use Rattle.std.proofs.lemmas.Bool.Decides.{eqb_tells}
-use Rattle.nef_exact.proofs.Lists.{lies-left, lies-right}
+use Rattle.law_arithmetic.proofs.Lists.{lies-left, lies-right}
 use Rattle.nef_space.specs.Lists.{Chained}
 use Rattle.nef_space.specs.Vectors.{Vector, IsDirection, cross, dot, opposite}
 use Rattle.nef_space.specs.declared.label.Label.{Label}
 use Rattle.nef_space.specs.declared.label.Label.TheVariants.{Out, Not, In}
-use Rattle.nef_sphere.specs.Maps.{At, Svertex, Map, Item, arc_item, loop_item, items, item_normal, item_below, way_of, Side, around_svertex, above_item, below_item, whole, HasSide, Sees, Shaped}
-use Rattle.nef_sphere.proofs.Generic.{Generic, generic}
-use Rattle.nef_sphere.proofs.Places.{point_forms}
-use Rattle.nef_sphere.proofs.StepOff.{apart-by_rows}
-use Rattle.nef_sphere.proofs.Arcs.{at-arc}
+use Rattle.law_sphere.specs.Maps.{At, Svertex, Map, Item, arc_item, loop_item, items, item_normal, item_below, way_of, Side, around_svertex, above_item, below_item, whole, HasSide, Sees, Shaped}
+use Rattle.law_sphere.proofs.Generic.{Generic, generic}
+use Rattle.law_sphere.proofs.Places.{point_forms}
+use Rattle.law_sphere.proofs.StepOff.{apart-by_rows}
+use Rattle.law_sphere.proofs.Arcs.{at-arc}
 use Rattle.nef_smap.specs.Sides.{sides_of, SeeOneWay}
 use Rattle.nef_smap.specs.SideNumbers.{number_of}
 use Rattle.nef_smap.specs.Above.{over_forms}

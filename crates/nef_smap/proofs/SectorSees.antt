@@ -1,26 +1,26 @@
 -- The side of a ray of a svertex sees each free direction that has a clear way to the svertex in the sector after the ray.
 use Rattle.std.proofs.Common.{◌≡◌, ℕ, ◌+◌, ◌<◌, ◌≤◌, pos, negsuc, ◌*ℤ◌, ◌-ℤ◌, ◌<ℤ◌, arith, ap, sym, ◌∙◌, ◌⊎◌, inl, inr, [], ◌∷◌, subst}
 use Rattle.std.proofs.lemmas.Int.{ints}
-use Rattle.nef_exact.proofs.Ring.{ring, at, num, ◌⊕◌, ◌⊖◌, ◌⊗◌}
-use Rattle.nef_exact.proofs.Combination.{follows, given, none}
-use Rattle.nef_exact.proofs.Order.{sign, by_order, mul_pos, mul_neg, sign-scaled}
+use Rattle.law_arithmetic.proofs.Ring.{ring, at, num, ◌⊕◌, ◌⊖◌, ◌⊗◌}
+use Rattle.law_arithmetic.proofs.Combination.{follows, given, none}
+use Rattle.law_arithmetic.proofs.Order.{sign, by_order, mul_pos, mul_neg, sign-scaled}
 use Rattle.nef_space.specs.Vectors.{Vector, IsDirection, triple, cross, dot, opposite, SameDirection, blend}
-use Rattle.nef_cyclic.specs.Arcs.{IsOnCircle, IsStrictlyOn}
-use Rattle.nef_cyclic.proofs.Directions.{dot-opposite, direction-opposite, level-opposite, level_cross_first, way_back_passes_the_same, arcs_are_of_directions}
-use Rattle.nef_near.proofs.FlatDecided.{triple-dot, cross-turned}
-use Rattle.nef_near.proofs.Meets.{cross-none}
-use Rattle.nef_forms.proofs.Directions.{dot-comm, dot-zero, zero-dot, self-pos}
-use Rattle.nef_sphere.specs.Maps.{At, Svertex, Map, arc_item, items, way_of, OnItem, IsClear, Reaches, Sees, directly, by_way_of, Shaped}
-use Rattle.nef_sphere.specs.Forms.{forms}
-use Rattle.nef_sphere.proofs.Vectors.{dot-comb, normal-is, same-plus}
-use Rattle.nef_sphere.proofs.Generic.{amount, far-keeps}
-use Rattle.nef_sphere.proofs.Parallel.{past_source, arc-point, parallel-in_plane}
-use Rattle.nef_sphere.proofs.Shot.{product-off, way-at}
-use Rattle.nef_sphere.proofs.Around.{triple-turned, Beside, same_way, other_way, beside}
-use Rattle.nef_sphere.specs.Vectors.{comb}
-use Rattle.nef_sphere.proofs.Arcs.{Ends, ends-of, at-arc}
-use Rattle.nef_sphere.proofs.Compare.{SameDirection-turned, way-self}
-use Rattle.nef_sphere.proofs.Turn.{turn-last, turn-same}
+use Rattle.law_cyclic.specs.Arcs.{IsOnCircle, IsStrictlyOn}
+use Rattle.law_cyclic.proofs.Directions.{dot-opposite, direction-opposite, level-opposite, level_cross_first, way_back_passes_the_same, arcs_are_of_directions}
+use Rattle.law_near.proofs.FlatDecided.{triple-dot, cross-turned}
+use Rattle.law_near.proofs.Meets.{cross-none}
+use Rattle.law_forms.proofs.Directions.{dot-comm, dot-zero, zero-dot, self-pos}
+use Rattle.law_sphere.specs.Maps.{At, Svertex, Map, arc_item, items, way_of, OnItem, IsClear, Reaches, Sees, directly, by_way_of, Shaped}
+use Rattle.law_sphere.specs.Forms.{forms}
+use Rattle.law_sphere.proofs.Vectors.{dot-comb, normal-is, same-plus}
+use Rattle.law_sphere.proofs.Generic.{amount, far-keeps}
+use Rattle.law_sphere.proofs.Parallel.{past_source, arc-point, parallel-in_plane}
+use Rattle.law_sphere.proofs.Shot.{product-off, way-at}
+use Rattle.law_sphere.proofs.Around.{triple-turned, Beside, same_way, other_way, beside}
+use Rattle.law_sphere.specs.Vectors.{comb}
+use Rattle.law_sphere.proofs.Arcs.{Ends, ends-of, at-arc}
+use Rattle.law_sphere.proofs.Compare.{SameDirection-turned, way-self}
+use Rattle.law_sphere.proofs.Turn.{turn-last, turn-same}
 use Rattle.nef_smap.proofs.NearSvertex.{ArcRay, end_left, end_side, ray_left, ray_side, Unrayed, near-clear}
 use Rattle.nef_smap.proofs.FarWay.{far-way}
 

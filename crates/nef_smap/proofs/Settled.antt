@@ -1,23 +1,23 @@
 -- By what lies over directions, free directions are plain and directions on items straight, and round a svertex without arcs there is one label.
 use Rattle.std.proofs.Common.{◌≡◌, ℕ, ◌+◌, ◌<◌, ◌≤◌, pos, ◌+ℤ◌, ◌*ℤ◌, ◌<ℤ◌, nat_abs, arith, refl, ap, sym, ◌∙◌, inl, inr, ◌∷◌, subst, Some}
 use Rattle.std.proofs.lemmas.Int.{ints}
-use Rattle.nef_exact.proofs.Order.{Sign, sign, sign-plus, sign-minus, by_order, nought-is}
-use Rattle.nef_exact.specs.Signs.{Lies}
+use Rattle.law_arithmetic.proofs.Order.{Sign, sign, sign-plus, sign-minus, by_order, nought-is}
+use Rattle.law_arithmetic.specs.Signs.{Lies}
 use Rattle.nef_space.specs.Vectors.{Vector, IsDirection, IsZero, cross, dot, SameDirection, blend}
 use Rattle.nef_space.specs.declared.label.Label.{Label}
 use Rattle.nef_space.specs.declared.label.Label.TheVariants.{Out}
-use Rattle.nef_forms.proofs.Directions.{self-pos}
-use Rattle.nef_forms.proofs.Far.{same-off, sign-large}
-use Rattle.nef_sphere.specs.Maps.{At, Svertex, Map, Item, items, item_normal, OnItem, IsFree, Side, below_item, HasArc, Shaped}
-use Rattle.nef_sphere.specs.Forms.{Keeps, forms}
-use Rattle.nef_sphere.specs.Least.{by_side}
-use Rattle.nef_sphere.specs.Labelling.{Near, PlainAt, StraightAt}
-use Rattle.nef_sphere.proofs.Vectors.{dot-comb, same-plus, same-minus}
-use Rattle.nef_sphere.proofs.Lists.{at-one}
-use Rattle.nef_sphere.proofs.Forms.{item-forms, normal-form, on-level}
-use Rattle.nef_sphere.proofs.Generic.{amount, far-keeps, far-level}
-use Rattle.nef_sphere.proofs.Direct.{cross-between}
-use Rattle.nef_sphere.proofs.Around.{direction-around, svertex-around, free-around, item-stays, free-beside}
+use Rattle.law_forms.proofs.Directions.{self-pos}
+use Rattle.law_forms.proofs.Far.{same-off, sign-large}
+use Rattle.law_sphere.specs.Maps.{At, Svertex, Map, Item, items, item_normal, OnItem, IsFree, Side, below_item, HasArc, Shaped}
+use Rattle.law_sphere.specs.Forms.{Keeps, forms}
+use Rattle.law_sphere.specs.Least.{by_side}
+use Rattle.law_sphere.specs.Labelling.{Near, PlainAt, StraightAt}
+use Rattle.law_sphere.proofs.Vectors.{dot-comb, same-plus, same-minus}
+use Rattle.law_sphere.proofs.Lists.{at-one}
+use Rattle.law_sphere.proofs.Forms.{item-forms, normal-form, on-level}
+use Rattle.law_sphere.proofs.Generic.{amount, far-keeps, far-level}
+use Rattle.law_sphere.proofs.Direct.{cross-between}
+use Rattle.law_sphere.proofs.Around.{direction-around, svertex-around, free-around, item-stays, free-beside}
 use Rattle.nef_smap.specs.Above.{over_forms, first_sign, Stands}
 use Rattle.nef_smap.specs.Joined.{met, BelowFirsts}
 use Rattle.nef_smap.proofs.Rise.{form-over, keeps-then}

@@ -3,7 +3,7 @@ use Rattle.std.proofs.Common.{◌≡◌, ℕ, zero, suc, ◌+◌, ◌<◌, pos, 
 use Rattle.std.proofs.lemmas.List.{length-take-le}
 use Rattle.nef_space.specs.Lists.{IsAt, Chained}
 use Rattle.nef_space.specs.Vectors.{Vector, IsDirection, cross, dot}
-use Rattle.nef_sphere.specs.Maps.{At, Svertex, Map, Item, items, item_normal, Shaped}
+use Rattle.law_sphere.specs.Maps.{At, Svertex, Map, Item, items, item_normal, Shaped}
 use Rattle.nef_smap.specs.declared.classes.Link.{Link}
 use Rattle.nef_smap.specs.Sides.{sides_of, SeeOneWay, AreSfaces}
 use Rattle.nef_smap.specs.Links.{AreJoins}

@@ -5,7 +5,7 @@ use mir.Val.{bool_byte}
 use Rattle.std.specs.List.{filter_map, cons_option}
 use Rattle.nef_space.specs.Lists.{IsAt}
 use Rattle.nef_space.specs.declared.label.Label.{Label}
-use Rattle.nef_sphere.specs.Maps.{At, Svertex, Item, Map, items, item_above, item_below, Side, around_svertex, above_item, below_item, whole, HasSide}
+use Rattle.law_sphere.specs.Maps.{At, Svertex, Item, Map, items, item_above, item_below, Side, around_svertex, above_item, below_item, whole, HasSide}
 use Rattle.nef_smap.specs.declared.map.SVertex.{SVertex}
 use Rattle.nef_smap.specs.declared.map.SphereMap.{SphereMap}
 use Rattle.nef_smap.specs.Maps.{svertex_of, map_of}

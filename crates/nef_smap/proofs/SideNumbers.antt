@@ -1,7 +1,7 @@
 -- Each side of a map has its number, and no other.
 use Rattle.std.proofs.Common.{◌≡◌, ℕ, zero, suc, ◌+◌, ◌*◌, ◌⊎◌, inl, inr, ⊎_elim, List, [], ◌∷◌, ◌++◌, length, Option, Some, None, arith, zero-add, length-append, refl, sym, ◌∙◌, ap, subst}
 use Rattle.nef_space.specs.declared.label.Label.{Label}
-use Rattle.nef_sphere.specs.Maps.{At, Svertex, Item, Map, items, Side, around_svertex, above_item, below_item, whole, HasSide}
+use Rattle.law_sphere.specs.Maps.{At, Svertex, Item, Map, items, Side, around_svertex, above_item, below_item, whole, HasSide}
 use Rattle.nef_smap.specs.Sides.{LabelledSide, labelled, svertex_sides, item_sides, sides_of, IsSide}
 use Rattle.nef_smap.specs.SideNumbers.{one_if, arounds_before, number_of}
 use Rattle.nef_smap.proofs.SideLists.{at-from_get, get-from_at, at-left, at-right, length-item_sides, item-side}

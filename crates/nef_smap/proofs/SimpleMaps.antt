@@ -1,16 +1,16 @@
 -- The maps of one label and of one plane, as the program's.
 use Rattle.std.proofs.Common.{◌≡◌, ℕ, zero, suc, [], ◌∷◌, refl, sym, ap, ◌∙◌, inl, subst}
-use Rattle.nef_exact.specs.Signs.{sign}
+use Rattle.law_arithmetic.specs.Signs.{sign}
 use Rattle.nef_space.specs.Limits.{normal_limit}
 use Rattle.nef_space.specs.Vectors.{Vector, dot, IsDirection, IsNormal, IsAtMost}
 use Rattle.nef_space.specs.declared.label.Label.{Label}
 use Rattle.nef_geo.specs.Shapes.{vector_of}
-use Rattle.nef_sphere.specs.Vectors.{IsPrimitive}
-use Rattle.nef_sphere.specs.Maps.{At, Loop, Item, loop_item, items, item_normal, MapLabel, Valid}
-use Rattle.nef_sphere.specs.Least.{by_side, Least, Ordered}
-use Rattle.nef_sphere.specs.Labelling.{Labelling}
-use Rattle.nef_sphere.proofs.Simple.{ground_map, face-shaped, face-agrees, loop_map, loop-shaped, loop-agrees}
-use Rattle.nef_sphere.proofs.Built.{agrees-valid, label-agrees}
+use Rattle.law_sphere.specs.Vectors.{IsPrimitive}
+use Rattle.law_sphere.specs.Maps.{At, Loop, Item, loop_item, items, item_normal, MapLabel, Valid}
+use Rattle.law_sphere.specs.Least.{by_side, Least, Ordered}
+use Rattle.law_sphere.specs.Labelling.{Labelling}
+use Rattle.law_sphere.proofs.Simple.{ground_map, face-shaped, face-agrees, loop_map, loop-shaped, loop-agrees}
+use Rattle.law_sphere.proofs.Built.{agrees-valid, label-agrees}
 use Rattle.nef_smap.specs.declared.map.SLoop.{SLoop}
 use Rattle.nef_smap.specs.Maps.{loop_of, IsSmall}
 use Rattle.nef_smap.proofs.Primitive.{dir-primitive}

@@ -1,32 +1,32 @@
 -- Joined sides are of one sface.
 use Rattle.std.proofs.Common.{◌≡◌, ℕ, zero, suc, ◌+◌, ◌<◌, ◌≤◌, ℤ, pos, ◌-ℤ◌, ◌*ℤ◌, ◌<ℤ◌, neg_ℤ, arith, refl, ap, sym, ◌∙◌, ◌⊎◌, inl, inr, ⊎_elim, [], ◌∷◌, length, subst, Option, Some, None}
 use Rattle.std.proofs.lemmas.Int.{ints}
-use Rattle.nef_exact.proofs.Ring.{ring, at, num, neg, ◌⊕◌, ◌⊖◌, ◌⊗◌}
-use Rattle.nef_exact.proofs.Combination.{follows, given, none}
-use Rattle.nef_exact.proofs.Order.{sign, sign-plus, plus-is, nought-is, mul_pos, sign-scaled}
-use Rattle.nef_exact.specs.Signs.{Lies}
+use Rattle.law_arithmetic.proofs.Ring.{ring, at, num, neg, ◌⊕◌, ◌⊖◌, ◌⊗◌}
+use Rattle.law_arithmetic.proofs.Combination.{follows, given, none}
+use Rattle.law_arithmetic.proofs.Order.{sign, sign-plus, plus-is, nought-is, mul_pos, sign-scaled}
+use Rattle.law_arithmetic.specs.Signs.{Lies}
 use Rattle.nef_space.specs.Lists.{Chained}
 use Rattle.nef_space.specs.Vectors.{Vector, IsDirection, IsZero, cross, triple, dot, opposite, SameDirection, blend}
 use Rattle.nef_space.specs.declared.label.Label.{Label}
-use Rattle.nef_near.proofs.FlatDecided.{cross-turned}
-use Rattle.nef_forms.proofs.Directions.{self-pos, square_pos, zero-dot}
-use Rattle.nef_forms.proofs.Far.{nought-or}
-use Rattle.nef_sphere.specs.Maps.{At, Svertex, Arc, Loop, Map, Item, arc_item, loop_item, items, item_normal, item_above, way_of, OnItem, IsFree, Side, around_svertex, above_item, below_item, whole, HasSide, IsClear, Sees, directly, HasArc, Shaped}
-use Rattle.nef_sphere.specs.Forms.{Keeps, forms}
-use Rattle.nef_sphere.proofs.Vectors.{normal-is, dot-comb}
-use Rattle.nef_sphere.proofs.Lists.{at-one}
-use Rattle.nef_sphere.proofs.Forms.{item-forms, normal-form, on-direction, on-level}
-use Rattle.nef_sphere.proofs.Generic.{amount, far-keeps}
-use Rattle.nef_sphere.proofs.Parallel.{apart, arc-point}
-use Rattle.nef_sphere.proofs.Direct.{cross-self, between-off_target, cross-between}
-use Rattle.nef_sphere.proofs.Shot.{way-at, arc-at}
-use Rattle.nef_sphere.proofs.StepOff.{blend-turned}
-use Rattle.nef_sphere.proofs.Around.{direction-around, svertex-around, free-around, free-beside}
-use Rattle.nef_sphere.proofs.Compare.{way-self}
-use Rattle.nef_sphere.proofs.Arcs.{at-arc}
-use Rattle.nef_sphere.proofs.NearItems.{keeps-between, kept-not_opposite, opposite-turned, clear-around}
-use Rattle.nef_sphere.proofs.Forms.{axes-forms}
-use Rattle.nef_sphere.proofs.Sight.{clear-self, sees_both, free-seen}
+use Rattle.law_near.proofs.FlatDecided.{cross-turned}
+use Rattle.law_forms.proofs.Directions.{self-pos, square_pos, zero-dot}
+use Rattle.law_forms.proofs.Far.{nought-or}
+use Rattle.law_sphere.specs.Maps.{At, Svertex, Arc, Loop, Map, Item, arc_item, loop_item, items, item_normal, item_above, way_of, OnItem, IsFree, Side, around_svertex, above_item, below_item, whole, HasSide, IsClear, Sees, directly, HasArc, Shaped}
+use Rattle.law_sphere.specs.Forms.{Keeps, forms}
+use Rattle.law_sphere.proofs.Vectors.{normal-is, dot-comb}
+use Rattle.law_sphere.proofs.Lists.{at-one}
+use Rattle.law_sphere.proofs.Forms.{item-forms, normal-form, on-direction, on-level}
+use Rattle.law_sphere.proofs.Generic.{amount, far-keeps}
+use Rattle.law_sphere.proofs.Parallel.{apart, arc-point}
+use Rattle.law_sphere.proofs.Direct.{cross-self, between-off_target, cross-between}
+use Rattle.law_sphere.proofs.Shot.{way-at, arc-at}
+use Rattle.law_sphere.proofs.StepOff.{blend-turned}
+use Rattle.law_sphere.proofs.Around.{direction-around, svertex-around, free-around, free-beside}
+use Rattle.law_sphere.proofs.Compare.{way-self}
+use Rattle.law_sphere.proofs.Arcs.{at-arc}
+use Rattle.law_sphere.proofs.NearItems.{keeps-between, kept-not_opposite, opposite-turned, clear-around}
+use Rattle.law_sphere.proofs.Forms.{axes-forms}
+use Rattle.law_sphere.proofs.Sight.{clear-self, sees_both, free-seen}
 use Rattle.nef_smap.specs.Sides.{sides_of, SideSees, SeeOneWay}
 use Rattle.nef_smap.specs.SideNumbers.{number_of}
 use Rattle.nef_smap.specs.Above.{meridians, over_forms, IsFirst, first_sign, Stands}

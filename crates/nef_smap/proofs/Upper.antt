@@ -1,18 +1,18 @@
 -- The label over the directions close above an item is that of its upper side, where it is so at one of its directions.
 use Rattle.std.proofs.Common.{◌≡◌, ℕ, ◌≤◌, pos, ◌+ℤ◌, ◌*ℤ◌, ◌<ℤ◌, arith, refl, ap, sym, ◌∙◌, inl, inr, ⊎_elim, List, [], ◌∷◌, Option}
 use Rattle.std.proofs.lemmas.Int.{ints}
-use Rattle.nef_exact.proofs.Ring.{ring, at, num, ◌⊕◌, ◌⊖◌, ◌⊗◌}
-use Rattle.nef_exact.proofs.Combination.{follows, given, none}
-use Rattle.nef_exact.proofs.Order.{Sign, minus, nought, plus, sign, sign-plus, plus-is, nought-is, mul_pos, cancel_eq, sign-scaled}
+use Rattle.law_arithmetic.proofs.Ring.{ring, at, num, ◌⊕◌, ◌⊖◌, ◌⊗◌}
+use Rattle.law_arithmetic.proofs.Combination.{follows, given, none}
+use Rattle.law_arithmetic.proofs.Order.{Sign, minus, nought, plus, sign, sign-plus, plus-is, nought-is, mul_pos, cancel_eq, sign-scaled}
 use Rattle.nef_space.specs.Vectors.{Vector, IsDirection, cross, triple, dot, blend}
 use Rattle.nef_space.specs.declared.label.Label.{Label}
-use Rattle.nef_forms.proofs.Directions.{self-pos}
-use Rattle.nef_forms.proofs.Far.{nought-or}
-use Rattle.nef_sphere.specs.Maps.{At, Svertex, Arc, Loop, Map, Item, arc_item, loop_item, items, item_normal, way_of, OnItem, Side, above_item, Shaped}
-use Rattle.nef_sphere.proofs.Vectors.{normal-is}
-use Rattle.nef_sphere.proofs.Forms.{item-forms, normal-form, on-level}
-use Rattle.nef_sphere.proofs.Generic.{amount}
-use Rattle.nef_sphere.proofs.Direct.{cross-self}
+use Rattle.law_forms.proofs.Directions.{self-pos}
+use Rattle.law_forms.proofs.Far.{nought-or}
+use Rattle.law_sphere.specs.Maps.{At, Svertex, Arc, Loop, Map, Item, arc_item, loop_item, items, item_normal, way_of, OnItem, Side, above_item, Shaped}
+use Rattle.law_sphere.proofs.Vectors.{normal-is}
+use Rattle.law_sphere.proofs.Forms.{item-forms, normal-form, on-level}
+use Rattle.law_sphere.proofs.Generic.{amount}
+use Rattle.law_sphere.proofs.Direct.{cross-self}
 use Rattle.nef_smap.specs.Above.{over_forms, IsFirst, first_sign, Stands}
 use Rattle.nef_smap.specs.Joined.{met, BelowFirsts, ArcFirst, LoopFirst}
 use Rattle.nef_smap.proofs.Rise.{form-over}

@@ -3,22 +3,22 @@ use Rattle.std.proofs.Common.{◌≡◌, ℕ, zero, suc, ◌<◌, ◌≤◌, len
 use Rattle.std.proofs.lemmas.Int.{ints}
 use Rattle.std.proofs.lemmas.List.{length-map}
 use Rattle.std.proofs.lemmas.Bool.Decides.{eqb_tells}
-use Rattle.nef_exact.proofs.Ring.{ring, at, num, ◌⊗◌}
-use Rattle.nef_exact.proofs.Order.{minus, plus, sign, sign-minus, minus-is, nought-is, mul_pos}
-use Rattle.nef_exact.specs.Signs.{Lies}
+use Rattle.law_arithmetic.proofs.Ring.{ring, at, num, ◌⊗◌}
+use Rattle.law_arithmetic.proofs.Order.{minus, plus, sign, sign-minus, minus-is, nought-is, mul_pos}
+use Rattle.law_arithmetic.specs.Signs.{Lies}
 use Rattle.nef_space.specs.Limits.{normal_limit, svertex_limit}
 use Rattle.nef_space.specs.Vectors.{Vector, vector, IsDirection, IsNormal, IsAtMost, cross, triple, dot, up, SameDirection}
-use Rattle.nef_near.proofs.Decided.{Decided}
-use Rattle.nef_forms.proofs.Directions.{self-pos, square_pos, zero-dot}
-use Rattle.nef_forms.proofs.Far.{nought-or}
+use Rattle.law_near.proofs.Decided.{Decided}
+use Rattle.law_forms.proofs.Directions.{self-pos, square_pos, zero-dot}
+use Rattle.law_forms.proofs.Far.{nought-or}
 use Rattle.nef_geo.specs.Shapes.{vector_of}
-use Rattle.nef_sphere.specs.Maps.{At, Svertex, Arc, Loop, Map, Item, arc_item, loop_item, items, item_normal, way_of, ArcBetween, Shaped}
-use Rattle.nef_sphere.specs.Forms.{axis_x, axis_y, axis_z}
-use Rattle.nef_sphere.proofs.Vectors.{normal-is}
-use Rattle.nef_sphere.proofs.Places.{axis_x-is, axis_y-is, axis_z-is}
-use Rattle.nef_sphere.proofs.Forms.{item-forms, normal-form, axes-forms}
-use Rattle.nef_sphere.proofs.Direct.{cross-self}
-use Rattle.nef_sphere.proofs.Shot.{way-at, arc-at}
+use Rattle.law_sphere.specs.Maps.{At, Svertex, Arc, Loop, Map, Item, arc_item, loop_item, items, item_normal, way_of, ArcBetween, Shaped}
+use Rattle.law_sphere.specs.Forms.{axis_x, axis_y, axis_z}
+use Rattle.law_sphere.proofs.Vectors.{normal-is}
+use Rattle.law_sphere.proofs.Places.{axis_x-is, axis_y-is, axis_z-is}
+use Rattle.law_sphere.proofs.Forms.{item-forms, normal-form, axes-forms}
+use Rattle.law_sphere.proofs.Direct.{cross-self}
+use Rattle.law_sphere.proofs.Shot.{way-at, arc-at}
 use Rattle.nef_smap.specs.declared.above.Close.{Close}
 use Rattle.nef_smap.specs.declared.map.SArc.{SArc}
 use Rattle.nef_smap.specs.declared.map.SphereMap.{SphereMap}

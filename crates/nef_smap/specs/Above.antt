@@ -1,10 +1,10 @@
 -- What lies over a direction: what the way from it to a fixed direction u meets first.
 use Rattle.std.specs.Prelude.{◌≡◌, ℕ, ◌<◌, pos, ◌-ℤ◌, ◌≤ℤ◌, ◌<ℤ◌, List, [], ◌∷◌, ◌++◌, Option, Some, None}
-use Rattle.nef_exact.specs.Signs.{Sign, minus, nought, plus, sign, Lies}
+use Rattle.law_arithmetic.specs.Signs.{Sign, minus, nought, plus, sign, Lies}
 use Rattle.nef_space.specs.Vectors.{Vector, dot, cross}
-use Rattle.nef_sphere.specs.Vectors.{comb}
-use Rattle.nef_sphere.specs.Maps.{At, Map, Item, items, item_normal, OnItem}
-use Rattle.nef_sphere.specs.Forms.{gather, forms}
+use Rattle.law_sphere.specs.Vectors.{comb}
+use Rattle.law_sphere.specs.Maps.{At, Map, Item, items, item_normal, OnItem}
+use Rattle.law_sphere.specs.Forms.{gather, forms}
 
 -- where the way from d to u meets the plane of n, which parts them
 abbrev pub rise : Vector → Vector → Vector → Vector

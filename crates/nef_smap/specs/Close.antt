@@ -1,6 +1,6 @@
 -- Directions close to one, for the program: their signs on a form, and whether they have an arc over them.
 use Rattle.std.specs.Prelude.{◌≡◌, ◌⊎◌}
-use Rattle.nef_exact.specs.Signs.{Sign, minus, nought, plus, sign}
+use Rattle.law_arithmetic.specs.Signs.{Sign, minus, nought, plus, sign}
 use Rattle.nef_space.specs.Vectors.{Vector, dot, cross, triple, opposite, up}
 use Rattle.nef_geo.specs.Shapes.{vector_of}
 use Rattle.nef_geo.specs.declared.sign.Sign.{Sign as GeoSign}
@@ -8,7 +8,7 @@ use Rattle.nef_geo.specs.declared.sign.Sign.TheVariants.{Minus, Zero, Plus}
 use Rattle.nef_smap.specs.declared.above.Close.{Close}
 use Rattle.nef_smap.specs.declared.above.Lean.{Lean}
 use Rattle.nef_smap.specs.declared.above.Lean.TheVariants.{Down, Up, Along}
-use Rattle.nef_sphere.specs.Maps.{way_of}
+use Rattle.law_sphere.specs.Maps.{way_of}
 use Rattle.nef_smap.specs.declared.map.SArc.{SArc}
 use Rattle.nef_smap.specs.declared.map.SphereMap.{SphereMap}
 use Rattle.nef_smap.specs.Maps.{map_of}

@@ -4,9 +4,9 @@ use Rattle.std.specs.List.{All}
 use Rattle.nef_space.specs.Limits.{normal_limit, svertex_limit}
 use Rattle.nef_space.specs.Vectors.{IsAtMost}
 use Rattle.nef_geo.specs.Shapes.{vector_of}
-use Rattle.nef_sphere.specs.Maps.{At, Svertex, Arc, Loop, Item, Map, items, item_normal, Valid}
-use Rattle.nef_sphere.specs.Least.{Least, Ordered}
-use Rattle.nef_build.specs.Raw.{RawMap}
+use Rattle.law_sphere.specs.Maps.{At, Svertex, Arc, Loop, Item, Map, items, item_normal, Valid}
+use Rattle.law_sphere.specs.Least.{Least, Ordered}
+use Rattle.law_build.specs.Raw.{RawMap}
 use Rattle.nef_star.specs.Stars.{star_of, IsStar}
 use Rattle.nef_smap.specs.declared.map.SVertex.{SVertex}
 use Rattle.nef_smap.specs.declared.map.SArc.{SArc}

@@ -1,7 +1,7 @@
 -- The numbers of a map's sides.
 use Rattle.std.specs.Prelude.{ℕ, zero, suc, ◌+◌, ◌*◌, List, [], ◌∷◌, length, Option, Some, None}
 use Rattle.nef_space.specs.declared.label.Label.{Label}
-use Rattle.nef_sphere.specs.Maps.{Svertex, Map, items, Side, around_svertex, above_item, below_item, whole}
+use Rattle.law_sphere.specs.Maps.{Svertex, Map, items, Side, around_svertex, above_item, below_item, whole}
 use Rattle.nef_smap.specs.Sides.{svertex_sides}
 
 -- one if there is a label

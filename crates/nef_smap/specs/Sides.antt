@@ -3,7 +3,7 @@ use Rattle.std.specs.Prelude.{◌≡◌, ℕ, suc, ◌<◌, List, [], ◌∷◌,
 use Rattle.nef_space.specs.Lists.{IsAt, NumbersClasses}
 use Rattle.nef_space.specs.Vectors.{Vector, SameDirection}
 use Rattle.nef_space.specs.declared.label.Label.{Label}
-use Rattle.nef_sphere.specs.Maps.{At, Svertex, Arc, Loop, Item, arc_item, loop_item, Map, items, item_above, item_below, OnItem, Side, around_svertex, above_item, below_item, whole, Sees}
+use Rattle.law_sphere.specs.Maps.{At, Svertex, Arc, Loop, Item, arc_item, loop_item, Map, items, item_above, item_below, OnItem, Side, around_svertex, above_item, below_item, whole, Sees}
 use Rattle.nef_smap.specs.declared.map.SPlace.{SPlace}
 use Rattle.nef_smap.specs.declared.map.SPlace.TheVariants as place
 

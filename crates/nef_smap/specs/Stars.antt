@@ -2,8 +2,8 @@
 use Rattle.std.specs.Prelude.{◌≡◌, ℕ, List, [], ◌∷◌, ◌⊎◌, true, false}
 use Rattle.nef_space.specs.Lists.{IsAt}
 use Rattle.nef_space.specs.Vectors.{Vector}
-use Rattle.nef_sphere.specs.Maps.{Map, Item, item_normal, item_above, item_mark, item_below}
-use Rattle.nef_sphere.specs.Stars.{Star, StarOf, StarShows}
+use Rattle.law_sphere.specs.Maps.{Map, Item, item_normal, item_above, item_mark, item_below}
+use Rattle.law_sphere.specs.Stars.{Star, StarOf, StarShows}
 use Rattle.nef_star.specs.Rounds.{End}
 use Rattle.nef_smap.specs.declared.map.SArc.{SArc}
 

@@ -1,8 +1,8 @@
 -- The way from a direction to an item's point, and which item it meets first.
 use Rattle.std.specs.Prelude.{◌≡◌, ℕ, ◌<◌, pos, ◌-ℤ◌, ◌*ℤ◌, ◌<ℤ◌, ◌≤ℤ◌, length}
 use Rattle.nef_space.specs.Vectors.{Vector, IsDirection, dot, cross}
-use Rattle.nef_sphere.specs.Vectors.{comb}
-use Rattle.nef_sphere.specs.Maps.{At, Item, Map, items, item_normal, OnItem}
+use Rattle.law_sphere.specs.Vectors.{comb}
+use Rattle.law_sphere.specs.Maps.{At, Item, Map, items, item_normal, OnItem}
 use Rattle.nef_smap.specs.declared.way.Way.{Way}
 use Rattle.nef_smap.specs.Linear.{IsLarge}
 use Rattle.nef_smap.specs.Wide.{start_at, end_at}

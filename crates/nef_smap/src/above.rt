@@ -2,10 +2,10 @@
 
 ghost use Rattle.std.specs.Prelude.{◌≡◌, ◌+◌, ◌<◌, ℕ, IfSome, pos, ◌<ℤ◌, ◌↔◌, IsTrue, length};
 ghost use Rattle.nef_space.specs.Limits.{normal_limit, svertex_limit};
-ghost use Rattle.nef_exact.specs.Signs.{Sign as Signum};
+ghost use Rattle.law_arithmetic.specs.Signs.{Sign as Signum};
 ghost use Rattle.nef_space.specs.Vectors.{Vector, dot, cross, up, IsAtMost};
 ghost use Rattle.nef_geo.specs.Shapes.{vector_of};
-ghost use Rattle.nef_sphere.specs.Maps.{At, items};
+ghost use Rattle.law_sphere.specs.Maps.{At, items};
 ghost use Rattle.nef_smap.specs.Maps.{map_of, IsSphereMap};
 ghost use Rattle.nef_smap.specs.Items.{item_of};
 ghost use Rattle.nef_smap.specs.Above.{first_sign, rise_form, IsOver, IsFirst, IsFirstOf};

@@ -1,7 +1,7 @@
 //! Arcs and the sloop, which together are the items of a sphere map.
 
 ghost use Rattle.std.specs.Prelude.{◌≡◌, ◌<◌, ◌^◌, length, cond};
-ghost use Rattle.nef_sphere.specs.Maps.{At, items, item_normal, item_above, item_mark, item_below};
+ghost use Rattle.law_sphere.specs.Maps.{At, items, item_normal, item_above, item_mark, item_below};
 ghost use Rattle.nef_geo.specs.Shapes.{vector_of};
 ghost use Rattle.nef_smap.specs.Maps.{map_of};
 ghost use Rattle.nef_smap.specs.Items.{item_of};

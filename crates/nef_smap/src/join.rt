@@ -5,7 +5,7 @@ ghost use Rattle.nef_space.specs.Limits.{normal_limit, svertex_limit};
 ghost use Rattle.nef_space.specs.Vectors.{vector, dot, cross, up, opposite, IsAtMost, IsDirection, SameDirection};
 ghost use Rattle.nef_geo.specs.Shapes.{vector_of};
 ghost use Rattle.nef_space.specs.declared.label.Label.{Label};
-ghost use Rattle.nef_sphere.specs.Maps.{At, Svertex as PlainSvertex, items, around_svertex, above_item, below_item};
+ghost use Rattle.law_sphere.specs.Maps.{At, Svertex as PlainSvertex, items, around_svertex, above_item, below_item};
 ghost use Rattle.nef_smap.specs.SideNumbers.{number_of};
 ghost use Rattle.nef_smap.specs.Maps.{map_of, IsSphereMap};
 ghost use Rattle.nef_smap.specs.Joined.{FirstNear};

@@ -2,7 +2,7 @@
 
 ghost use Rattle.std.specs.Prelude.{◌≡◌, ℕ, ◌<◌, pos, ◌↔◌, IsTrue, MatchOption};
 ghost use Rattle.nef_space.specs.Vectors.{SameDirection};
-ghost use Rattle.nef_sphere.specs.Maps.{At, arc_item, OnItem, MapLabel};
+ghost use Rattle.law_sphere.specs.Maps.{At, arc_item, OnItem, MapLabel};
 ghost use Rattle.nef_geo.specs.Shapes.{vector_of};
 ghost use Rattle.nef_smap.specs.Maps.{arc_of, map_of, IsSphereMap};
 ghost use Rattle.nef_smap.specs.Sides.{IsPlaceOf};

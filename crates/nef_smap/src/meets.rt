@@ -3,7 +3,7 @@
 ghost use Rattle.std.specs.Prelude.{◌≡◌, ℕ, ◌^◌, ◌<◌, pos, ◌*ℤ◌, ◌<ℤ◌, ◌↔◌, length, IsTrue};
 ghost use Rattle.nef_space.specs.Limits.{normal_limit};
 ghost use Rattle.nef_space.specs.Vectors.{Vector, dot, IsAtMost, IsDirection};
-ghost use Rattle.nef_sphere.specs.Maps.{At, arc_item, items, item_normal, OnItem};
+ghost use Rattle.law_sphere.specs.Maps.{At, arc_item, items, item_normal, OnItem};
 ghost use Rattle.nef_geo.specs.Shapes.{vector_of};
 ghost use Rattle.nef_geo.specs.Signs.{sign_of};
 ghost use Rattle.nef_smap.specs.Maps.{arc_of, map_of, IsSphereMap};

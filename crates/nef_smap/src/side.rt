@@ -2,7 +2,7 @@
 
 ghost use Rattle.std.specs.Prelude.{◌≡◌, ◌<◌, ◌^◌, length, slice_get, cond};
 ghost use Rattle.std.specs.List.{filter_map};
-ghost use Rattle.nef_sphere.specs.Maps.{At, Item, Side, above_item, below_item, items, item_above, item_below};
+ghost use Rattle.law_sphere.specs.Maps.{At, Item, Side, above_item, below_item, items, item_above, item_below};
 ghost use Rattle.nef_smap.specs.Maps.{map_of};
 ghost use Rattle.nef_smap.specs.Sides.{IsSide, sides_of};
 

@@ -4,7 +4,7 @@ ghost use Rattle.std.specs.Prelude.{◌≡◌, ◌++◌, ℕ, pos, [], ◌∷◌
 ghost use Rattle.nef_space.specs.Limits.{normal_limit, svertex_limit};
 ghost use Rattle.nef_space.specs.Vectors.{SameDirection, IsAtMost, IsNormal, dot};
 ghost use Rattle.nef_geo.specs.Shapes.{vector_of};
-ghost use Rattle.nef_sphere.specs.Maps.{At, Item as PlainItem, Svertex, items, item_normal, OnItem};
+ghost use Rattle.law_sphere.specs.Maps.{At, Item as PlainItem, Svertex, items, item_normal, OnItem};
 ghost use Rattle.nef_star.specs.Stars.{star_of, IsStar};
 ghost use Rattle.nef_smap.specs.Maps.{map_of, IsSphereMap};
 ghost use Rattle.nef_smap.specs.Items.{item_of};

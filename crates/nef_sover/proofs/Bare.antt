@@ -1,29 +1,29 @@
 -- A map's labels along a circle that nothing of the map crosses.
 use Rattle.std.proofs.Common.{◌≡◌, ℕ, ◌<◌, pos, ◌+ℤ◌, ◌*ℤ◌, ◌-ℤ◌, Some, arith, refl, sym, ap, subst, ◌∙◌, inl, inr, [], ◌∷◌}
 use Rattle.std.proofs.lemmas.Int.{ints}
-use Rattle.nef_exact.proofs.Ring.{ring, at, num, neg, ◌⊕◌, ◌⊖◌, ◌⊗◌}
-use Rattle.nef_exact.proofs.Order.{sign-plus, sign-minus}
+use Rattle.law_arithmetic.proofs.Ring.{ring, at, num, neg, ◌⊕◌, ◌⊖◌, ◌⊗◌}
+use Rattle.law_arithmetic.proofs.Order.{sign-plus, sign-minus}
 use Rattle.nef_space.specs.Vectors.{Vector, IsDirection, IsNormal, IsZero, blend, cross, dot, opposite}
 use Rattle.nef_space.specs.declared.label.Label.{Label}
-use Rattle.nef_forms.proofs.Directions.{zero-decided, self-pos}
-use Rattle.nef_near.proofs.Decided.{Decided}
-use Rattle.nef_near.proofs.FlatDecided.{cross-turned}
-use Rattle.nef_cyclic.specs.Arcs.{IsOnCircle}
-use Rattle.nef_cyclic.proofs.StrictlyOn.{same-sym}
-use Rattle.nef_cyclic.proofs.Directions.{level-same, level_cross_first, level_cross_second}
-use Rattle.nef_sphere.specs.Vectors.{IsPrimitive}
-use Rattle.nef_sphere.specs.Maps.{At, Loop, Item, arc_item, loop_item, Map, items, item_normal, OnItem, IsFree, IsClear, MapLabel, NearLabel, on_item, Valid}
-use Rattle.nef_sphere.specs.Least.{by_side, Ordered}
-use Rattle.nef_sphere.proofs.Vectors.{dot-comb, nought-if, normal-direction}
-use Rattle.nef_sphere.proofs.Parallel.{parallel-trans}
-use Rattle.nef_sphere.proofs.Around.{Beside, same_way, other_way, beside}
-use Rattle.nef_sphere.proofs.Shot.{arc-at}
-use Rattle.nef_sphere.proofs.Arcs.{loop-at, at-loop}
-use Rattle.nef_sphere.proofs.Equal.{lowest-same}
-use Rattle.nef_sphere.proofs.Compare.{normals-not_opposite}
-use Rattle.nef_sphere.proofs.Walk.{between-direction}
-use Rattle.nef_sphere.proofs.Labels.{label-exists, clear-label}
-use Rattle.nef_sphere.proofs.NearItems.{near-free, near-item}
+use Rattle.law_forms.proofs.Directions.{zero-decided, self-pos}
+use Rattle.law_near.proofs.Decided.{Decided}
+use Rattle.law_near.proofs.FlatDecided.{cross-turned}
+use Rattle.law_cyclic.specs.Arcs.{IsOnCircle}
+use Rattle.law_cyclic.proofs.StrictlyOn.{same-sym}
+use Rattle.law_cyclic.proofs.Directions.{level-same, level_cross_first, level_cross_second}
+use Rattle.law_sphere.specs.Vectors.{IsPrimitive}
+use Rattle.law_sphere.specs.Maps.{At, Loop, Item, arc_item, loop_item, Map, items, item_normal, OnItem, IsFree, IsClear, MapLabel, NearLabel, on_item, Valid}
+use Rattle.law_sphere.specs.Least.{by_side, Ordered}
+use Rattle.law_sphere.proofs.Vectors.{dot-comb, nought-if, normal-direction}
+use Rattle.law_sphere.proofs.Parallel.{parallel-trans}
+use Rattle.law_sphere.proofs.Around.{Beside, same_way, other_way, beside}
+use Rattle.law_sphere.proofs.Shot.{arc-at}
+use Rattle.law_sphere.proofs.Arcs.{loop-at, at-loop}
+use Rattle.law_sphere.proofs.Equal.{lowest-same}
+use Rattle.law_sphere.proofs.Compare.{normals-not_opposite}
+use Rattle.law_sphere.proofs.Walk.{between-direction}
+use Rattle.law_sphere.proofs.Labels.{label-exists, clear-label}
+use Rattle.law_sphere.proofs.NearItems.{near-free, near-item}
 use Rattle.nef_sover.specs.Circles.{IsUncrossed}
 
 -- ---- directions on one circle

@@ -4,8 +4,8 @@ use Rattle.std.specs.List.{Contains}
 use Rattle.nef_space.specs.Vectors.{Vector, IsDirection, SameDirection, cross}
 use Rattle.nef_geo.specs.Shapes.{vector_of}
 use Rattle.nef_geo.specs.declared.dir.Dir.{Dir}
-use Rattle.nef_sphere.specs.Maps.{Map, items, item_normal}
-use Rattle.nef_build.specs.Overlays.{IsCrossing, IsAxis}
+use Rattle.law_sphere.specs.Maps.{Map, items, item_normal}
+use Rattle.law_build.specs.Overlays.{IsCrossing, IsAxis}
 use Rattle.nef_sover.specs.declared.axes.Axis.{Axis}
 use Rattle.nef_sover.specs.declared.items.Item.{Item}
 use Rattle.nef_sover.specs.Items.{normal_of, place_of, IsItemOf, AreItems}

@@ -1,17 +1,17 @@
 -- The circle of a sloop that no axis lies on isn't crossed by either map.
 use Rattle.std.proofs.Common.{◌≡◌, ℕ, pos, Some, sym, subst, inl, inr, ◌⊎◌}
 use Rattle.nef_space.specs.Vectors.{Vector, IsDirection, IsZero, cross, dot}
-use Rattle.nef_near.proofs.FlatDecided.{cross-turned}
-use Rattle.nef_forms.proofs.Directions.{zero-decided}
-use Rattle.nef_near.proofs.Decided.{Decided}
-use Rattle.nef_near.proofs.Meets.{cross-self}
-use Rattle.nef_cyclic.specs.Arcs.{IsOnCircle}
-use Rattle.nef_cyclic.proofs.Directions.{same-refl}
-use Rattle.nef_sphere.specs.Maps.{At, Svertex, Loop, Item, loop_item, Map, items, item_normal, OnItem, Valid}
-use Rattle.nef_sphere.proofs.Lists.{at-one}
-use Rattle.nef_sphere.proofs.Forms.{on-direction}
-use Rattle.nef_sphere.proofs.Arcs.{at-loop}
-use Rattle.nef_build.specs.Overlays.{OnSvertex, IsAxis}
+use Rattle.law_near.proofs.FlatDecided.{cross-turned}
+use Rattle.law_forms.proofs.Directions.{zero-decided}
+use Rattle.law_near.proofs.Decided.{Decided}
+use Rattle.law_near.proofs.Meets.{cross-self}
+use Rattle.law_cyclic.specs.Arcs.{IsOnCircle}
+use Rattle.law_cyclic.proofs.Directions.{same-refl}
+use Rattle.law_sphere.specs.Maps.{At, Svertex, Loop, Item, loop_item, Map, items, item_normal, OnItem, Valid}
+use Rattle.law_sphere.proofs.Lists.{at-one}
+use Rattle.law_sphere.proofs.Forms.{on-direction}
+use Rattle.law_sphere.proofs.Arcs.{at-loop}
+use Rattle.law_build.specs.Overlays.{OnSvertex, IsAxis}
 use Rattle.nef_sover.specs.Circles.{IsUncrossed}
 
 module _ (M : Map) (V : Valid M) (l : Loop) where

@@ -5,9 +5,9 @@ use Rattle.nef_space.specs.Vectors.{Vector, IsAtMost, IsParallel, SameDirection,
 use Rattle.nef_geo.specs.Shapes.{vector_of}
 use Rattle.nef_geo.specs.declared.dir.Dir.{Dir}
 use Rattle.nef_geo.proofs.Directions.{small-neg}
-use Rattle.nef_cyclic.specs.Arcs.{IsOnCircle}
-use Rattle.nef_cyclic.proofs.StrictlyOn.{same-sym}
-use Rattle.nef_cyclic.proofs.Directions.{same-refl, same-second, level-same, arcs_are_of_directions, two_meets_at}
+use Rattle.law_cyclic.specs.Arcs.{IsOnCircle}
+use Rattle.law_cyclic.proofs.StrictlyOn.{same-sym}
+use Rattle.law_cyclic.proofs.Directions.{same-refl, same-second, level-same, arcs_are_of_directions, two_meets_at}
 use Rattle.nef_arc.proofs.Ends.{source_on, target_on}
 use Rattle.nef_smap.specs.declared.map.SPlace.{SPlace}
 use Rattle.nef_smap.specs.declared.map.SVertex.{SVertex}

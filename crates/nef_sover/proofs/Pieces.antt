@@ -5,11 +5,11 @@ use Rattle.std.proofs.lemmas.List.{length-map}
 use Rattle.nef_space.specs.Limits.{normal_limit}
 use Rattle.nef_space.specs.Vectors.{Vector, dot, IsAtMost}
 use Rattle.nef_geo.specs.Shapes.{vector_of}
-use Rattle.nef_cyclic.specs.Arcs.{IsStrictlyOn}
+use Rattle.law_cyclic.specs.Arcs.{IsStrictlyOn}
 use Rattle.nef_arc.specs.declared.arc.Arc.{Arc as WayArc}
-use Rattle.nef_sphere.specs.Maps.{At, Svertex, Arc as PlainArc, Loop, arc_item, loop_item, items, items_then, loop_items, way_of, ArcBetween}
-use Rattle.nef_sphere.proofs.Lists.{at-one}
-use Rattle.nef_sphere.proofs.Shot.{way-at}
+use Rattle.law_sphere.specs.Maps.{At, Svertex, Arc as PlainArc, Loop, arc_item, loop_item, items, items_then, loop_items, way_of, ArcBetween}
+use Rattle.law_sphere.proofs.Lists.{at-one}
+use Rattle.law_sphere.proofs.Shot.{way-at}
 use Rattle.nef_smap.specs.declared.map.SVertex.{SVertex}
 use Rattle.nef_smap.specs.declared.map.SArc.{SArc}
 use Rattle.nef_smap.specs.declared.map.SLoop.{SLoop}

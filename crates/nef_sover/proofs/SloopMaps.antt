@@ -1,15 +1,15 @@
 -- A map of one sloop is a sphere map.
 use Rattle.std.proofs.Common.{◌≡◌, ℕ, zero, suc, pos, ◌≤ℤ◌, List, [], Some, None, arith, sym, subst}
 use Rattle.std.proofs.lemmas.Int.{ints}
-use Rattle.nef_exact.proofs.Order.{by_order}
+use Rattle.law_arithmetic.proofs.Order.{by_order}
 use Rattle.nef_space.specs.Limits.{normal_limit}
 use Rattle.nef_space.specs.Vectors.{Vector, IsAtMost, IsDirection, IsNormal}
 use Rattle.nef_space.specs.declared.label.Label.{Label}
 use Rattle.nef_geo.specs.Shapes.{vector_of}
-use Rattle.nef_sphere.specs.Vectors.{IsPrimitive}
-use Rattle.nef_sphere.specs.Maps.{At, Item, items, item_normal}
-use Rattle.nef_sphere.specs.Least.{Ordered}
-use Rattle.nef_sphere.proofs.Simple.{loop_map, loop-valid}
+use Rattle.law_sphere.specs.Vectors.{IsPrimitive}
+use Rattle.law_sphere.specs.Maps.{At, Item, items, item_normal}
+use Rattle.law_sphere.specs.Least.{Ordered}
+use Rattle.law_sphere.proofs.Simple.{loop_map, loop-valid}
 use Rattle.nef_smap.specs.declared.map.SVertex.{SVertex}
 use Rattle.nef_smap.specs.declared.map.SArc.{SArc}
 use Rattle.nef_smap.specs.declared.map.SLoop.{SLoop}

@@ -1,6 +1,6 @@
 -- The sloop of an overlay.
 use Rattle.std.proofs.Common.{◌≡◌, ◌≤◌, ℤ, pos, ◌-ℤ◌, neg_ℤ, nat_abs, w64, to_z, of_z, List, Option, Some, None, option_map, arith, refl, sym, ap, subst, ◌∙◌, inl, inr, ◌⊎◌, [], ◌∷◌}
-use Rattle.nef_exact.proofs.Ring.{ring, at, num, neg, ◌⊕◌, ◌⊗◌}
+use Rattle.law_arithmetic.proofs.Ring.{ring, at, num, neg, ◌⊕◌, ◌⊗◌}
 use Rattle.nef_space.specs.Limits.{normal_limit, direction_limit, svertex_limit, point_limit}
 use Rattle.nef_space.specs.Vectors.{Vector, vector, IsAtMost, IsNormal, SameDirection, dot, opposite}
 use Rattle.nef_space.specs.declared.label.Label.{Label}
@@ -8,12 +8,12 @@ use Rattle.nef_geo.specs.Shapes.{vector_of}
 use Rattle.nef_geo.specs.declared.dir.Dir.{Dir}
 use Rattle.nef_geo.proofs.Directions.{small-neg, negated}
 use Rattle.nef_geo.proofs.Products.{kept}
-use Rattle.nef_cyclic.specs.Arcs.{IsOnCircle}
-use Rattle.nef_cyclic.proofs.StrictlyOn.{same-sym}
-use Rattle.nef_cyclic.proofs.Directions.{level-same}
-use Rattle.nef_sphere.specs.Maps.{Loop, loop_item, Map, IsFree, MapLabel, NearLabel}
-use Rattle.nef_sphere.proofs.Arcs.{at-loop}
-use Rattle.nef_build.specs.Overlays.{IsAxis, IsLoneLoop, IsMergedLoop}
+use Rattle.law_cyclic.specs.Arcs.{IsOnCircle}
+use Rattle.law_cyclic.proofs.StrictlyOn.{same-sym}
+use Rattle.law_cyclic.proofs.Directions.{level-same}
+use Rattle.law_sphere.specs.Maps.{Loop, loop_item, Map, IsFree, MapLabel, NearLabel}
+use Rattle.law_sphere.proofs.Arcs.{at-loop}
+use Rattle.law_build.specs.Overlays.{IsAxis, IsLoneLoop, IsMergedLoop}
 use Rattle.nef_smap.specs.declared.map.SLoop.{SLoop}
 use Rattle.nef_smap.specs.declared.map.SphereMap.{SphereMap}
 use Rattle.nef_smap.specs.Maps.{loop_of, map_of, IsSphereMap}

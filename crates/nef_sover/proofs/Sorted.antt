@@ -16,10 +16,10 @@ use Rattle.nef_geo.specs.Shapes.{vector_of}
 use Rattle.nef_geo.specs.declared.dir.Dir.{Dir}
 use Rattle.nef_geo.proofs.Orders.{dir_order, dir-ordered}
 use Rattle.nef_geo.proofs.Unique.{same_directions_equal}
-use Rattle.nef_cyclic.proofs.Directions.{same-refl}
+use Rattle.law_cyclic.proofs.Directions.{same-refl}
 use Rattle.nef_arc.proofs.Ways.{equal_test, same_if_equal, apart_if_unequal}
-use Rattle.nef_sphere.specs.Vectors.{VectorBelow}
-use Rattle.nef_sphere.specs.Maps.{At}
+use Rattle.law_sphere.specs.Vectors.{VectorBelow}
+use Rattle.law_sphere.specs.Maps.{At}
 use Rattle.nef_smap.proofs.WellFormed.{below-vectors}
 use Rattle.nef_sover.specs.declared.axes.Axis.{Axis}
 use Rattle.nef_sover.specs.Axes.{AreInOrder, HasEachOf}

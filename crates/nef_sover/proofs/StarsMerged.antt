@@ -5,12 +5,12 @@ use Rattle.nef_space.specs.Vectors.{Vector, IsDirection, cross, SameDirection}
 use Rattle.nef_space.specs.declared.label.Label.{Label}
 use Rattle.nef_geo.specs.Shapes.{vector_of}
 use Rattle.nef_geo.specs.declared.dir.Dir.{Dir}
-use Rattle.nef_sphere.specs.Maps.{At, Map}
-use Rattle.nef_sphere.specs.Stars.{Star as PlainStar, StarLabel}
-use Rattle.nef_sphere.specs.Labelling.{ByOp}
-use Rattle.nef_sphere.specs.Least.{InOrder}
-use Rattle.nef_sphere.specs.Vectors.{VectorBelow}
-use Rattle.nef_build.specs.Overlays.{IsAxis, NearByOp, IsMerged}
+use Rattle.law_sphere.specs.Maps.{At, Map}
+use Rattle.law_sphere.specs.Stars.{Star as PlainStar, StarLabel}
+use Rattle.law_sphere.specs.Labelling.{ByOp}
+use Rattle.law_sphere.specs.Least.{InOrder}
+use Rattle.law_sphere.specs.Vectors.{VectorBelow}
+use Rattle.law_build.specs.Overlays.{IsAxis, NearByOp, IsMerged}
 use Rattle.nef_star.specs.declared.op.Op.{Op}
 use Rattle.nef_star.specs.declared.star.Star.{Star}
 use Rattle.nef_star.specs.Ops.{op_label}

@@ -4,10 +4,10 @@ use Rattle.std.specs.List.{Contains}
 use Rattle.nef_space.specs.Limits.{svertex_limit}
 use Rattle.nef_space.specs.Vectors.{Vector, IsAtMost, IsDirection, cross, SameDirection}
 use Rattle.nef_geo.specs.Shapes.{vector_of}
-use Rattle.nef_sphere.specs.Vectors.{VectorBelow}
-use Rattle.nef_sphere.specs.Maps.{At, Map}
-use Rattle.nef_sphere.specs.Least.{InOrder}
-use Rattle.nef_build.specs.Overlays.{OnSvertex, IsAxis}
+use Rattle.law_sphere.specs.Vectors.{VectorBelow}
+use Rattle.law_sphere.specs.Maps.{At, Map}
+use Rattle.law_sphere.specs.Least.{InOrder}
+use Rattle.law_build.specs.Overlays.{OnSvertex, IsAxis}
 use Rattle.nef_smap.specs.Sides.{IsPlaceOf}
 use Rattle.nef_smap.specs.declared.map.SPlace.{SPlace}
 use Rattle.nef_sover.specs.declared.axes.Axis.{Axis}

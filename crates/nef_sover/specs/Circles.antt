@@ -6,10 +6,10 @@ use Rattle.nef_space.specs.Vectors.{Vector, IsAtMost, IsNormal, IsZero, cross, d
 use Rattle.nef_space.specs.declared.label.Label.{Label}
 use Rattle.nef_geo.specs.Shapes.{vector_of}
 use Rattle.nef_geo.specs.declared.dir.Dir.{Dir}
-use Rattle.nef_cyclic.specs.Arcs.{IsOnCircle}
-use Rattle.nef_sphere.specs.Maps.{At, Svertex, Loop, Item, Map, items, item_normal, OnItem, MapLabel, NearLabel}
-use Rattle.nef_sphere.specs.Labelling.{ByOp}
-use Rattle.nef_build.specs.Overlays.{IsLoneLoop, NearByOp}
+use Rattle.law_cyclic.specs.Arcs.{IsOnCircle}
+use Rattle.law_sphere.specs.Maps.{At, Svertex, Loop, Item, Map, items, item_normal, OnItem, MapLabel, NearLabel}
+use Rattle.law_sphere.specs.Labelling.{ByOp}
+use Rattle.law_build.specs.Overlays.{IsLoneLoop, NearByOp}
 use Rattle.nef_smap.specs.declared.map.SLoop.{SLoop}
 use Rattle.nef_sover.specs.declared.axes.Axis.{Axis}
 

@@ -3,10 +3,10 @@ use Rattle.std.specs.Prelude.{◌≡◌, ◌↔◌, ℕ, List}
 use Rattle.std.specs.List.{AllZip}
 use Rattle.nef_space.specs.Limits.{normal_limit}
 use Rattle.nef_space.specs.Vectors.{Vector, IsAtMost}
-use Rattle.nef_cyclic.specs.Arcs.{IsOnCircle}
+use Rattle.law_cyclic.specs.Arcs.{IsOnCircle}
 use Rattle.nef_geo.specs.Shapes.{vector_of}
 use Rattle.nef_arc.specs.Arcs.{normal_vector, IsOn}
-use Rattle.nef_sphere.specs.Maps.{At, Map, Item as PlainItem, items, item_normal, OnItem}
+use Rattle.law_sphere.specs.Maps.{At, Map, Item as PlainItem, items, item_normal, OnItem}
 use Rattle.nef_smap.specs.Sides.{IsPlaceOf}
 use Rattle.nef_smap.specs.declared.map.SPlace.{SPlace}
 use Rattle.nef_smap.specs.declared.map.SPlace.TheVariants as place

@@ -5,10 +5,10 @@ use Rattle.nef_space.specs.Vectors.{Vector, IsDirection, cross}
 use Rattle.nef_space.specs.declared.label.Label.{Label}
 use Rattle.nef_geo.specs.Shapes.{vector_of}
 use Rattle.nef_geo.specs.declared.dir.Dir.{Dir}
-use Rattle.nef_sphere.specs.Maps.{Map}
-use Rattle.nef_sphere.specs.Stars.{StarLabel}
-use Rattle.nef_sphere.specs.Labelling.{ByOp}
-use Rattle.nef_build.specs.Overlays.{NearByOp}
+use Rattle.law_sphere.specs.Maps.{Map}
+use Rattle.law_sphere.specs.Stars.{StarLabel}
+use Rattle.law_sphere.specs.Labelling.{ByOp}
+use Rattle.law_build.specs.Overlays.{NearByOp}
 use Rattle.nef_star.specs.declared.star.Star.{Star}
 use Rattle.nef_star.specs.Stars.{star_of, IsStar}
 use Rattle.nef_smap.specs.Stars.{IsNeighbourhood}

@@ -1,8 +1,8 @@
 //! The items of a map.
 
 ghost use Rattle.std.specs.Prelude.{◌≡◌, ◌↔◌, ◌<◌, ℕ, length, IsTrue, IfOk};
-ghost use Rattle.nef_cyclic.specs.Arcs.{IsOnCircle};
-ghost use Rattle.nef_sphere.specs.Maps.{At, Arc as PlainArc, arc_item};
+ghost use Rattle.law_cyclic.specs.Arcs.{IsOnCircle};
+ghost use Rattle.law_sphere.specs.Maps.{At, Arc as PlainArc, arc_item};
 ghost use Rattle.nef_geo.specs.Shapes.{vector_of};
 ghost use Rattle.nef_smap.specs.Maps.{map_of, IsSphereMap};
 ghost use Rattle.nef_sover.specs.Items.{normal_of, place_of, LiesOn, IsItemOf, AreItems, AreSmall};

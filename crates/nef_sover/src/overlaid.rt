@@ -1,7 +1,7 @@
 //! Two maps overlaid.
 
 ghost use Rattle.std.specs.Prelude.{IfOk, MatchOption, ◌⊎◌};
-ghost use Rattle.nef_build.specs.Overlays.{Raw, HasItem, IsMergedGround};
+ghost use Rattle.law_build.specs.Overlays.{Raw, HasItem, IsMergedGround};
 ghost use Rattle.nef_star.specs.Ops.{op_label};
 ghost use Rattle.nef_smap.specs.Maps.{map_of, raw_of, IsSphereMap, IsRawStars};
 

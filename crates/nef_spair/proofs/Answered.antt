@@ -2,18 +2,18 @@
 use Rattle.std.proofs.Common.{◌≡◌, ◌↔◌, List, ◌++◌, sym, ap, subst, ◌∙◌}
 use Rattle.nef_space.specs.Vectors.{Vector, IsDirection}
 use Rattle.nef_space.specs.declared.label.Label.{Label}
-use Rattle.nef_sphere.specs.Maps.{Map, MapLabel, Valid}
-use Rattle.nef_sphere.specs.Least.{Least, SameLabels, Ordered}
-use Rattle.nef_sphere.specs.Forms.{forms}
-use Rattle.nef_sphere.specs.Labelling.{ByOp}
-use Rattle.nef_sphere.proofs.Labels.{label-unique}
-use Rattle.nef_sphere.proofs.Equal.{least-unique}
-use Rattle.nef_build.specs.Raw.{IsLabelling, IsRawOf}
-use Rattle.nef_build.specs.Overlays.{Raw}
-use Rattle.nef_build.proofs.KeptStars.{kept-show}
-use Rattle.nef_build.proofs.BuiltKept.{from-stars}
-use Rattle.nef_build.proofs.Chosen.{op-labels}
-use Rattle.nef_build.proofs.RawFaces.{raw-shows_op}
+use Rattle.law_sphere.specs.Maps.{Map, MapLabel, Valid}
+use Rattle.law_sphere.specs.Least.{Least, SameLabels, Ordered}
+use Rattle.law_sphere.specs.Forms.{forms}
+use Rattle.law_sphere.specs.Labelling.{ByOp}
+use Rattle.law_sphere.proofs.Labels.{label-unique}
+use Rattle.law_sphere.proofs.Equal.{least-unique}
+use Rattle.law_build.specs.Raw.{IsLabelling, IsRawOf}
+use Rattle.law_build.specs.Overlays.{Raw}
+use Rattle.law_build.proofs.KeptStars.{kept-show}
+use Rattle.law_build.proofs.BuiltKept.{from-stars}
+use Rattle.law_build.proofs.Chosen.{op-labels}
+use Rattle.law_build.proofs.RawFaces.{raw-shows_op}
 use Rattle.nef_smap.specs.declared.map.RawStars.{RawStars}
 use Rattle.nef_smap.specs.declared.map.SphereMap.{SphereMap}
 use Rattle.nef_smap.specs.Maps.{map_of, raw_of, IsLeastMap, IsRawStars}

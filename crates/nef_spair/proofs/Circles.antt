@@ -3,10 +3,10 @@ use Rattle.std.proofs.Common.{◌≡◌, ℕ, ◌+◌, ◌<◌, ◌≤◌, pos, 
 use Rattle.std.proofs.Math.Nat.{eq-or-lt_of_le}
 use Rattle.nef_space.specs.Vectors.{Vector, dot}
 use Rattle.nef_geo.specs.Shapes.{vector_of}
-use Rattle.nef_sphere.specs.Maps.{At}
-use Rattle.nef_sphere.specs.Stars.{Star as PlainStar}
-use Rattle.nef_sphere.proofs.Lists.{at-one}
-use Rattle.nef_build.specs.Raw.{IsBare}
+use Rattle.law_sphere.specs.Maps.{At}
+use Rattle.law_sphere.specs.Stars.{Star as PlainStar}
+use Rattle.law_sphere.proofs.Lists.{at-one}
+use Rattle.law_build.specs.Raw.{IsBare}
 use Rattle.nef_star.specs.declared.star.Star.{Star}
 use Rattle.nef_star.specs.Stars.{star_of}
 use Rattle.nef_smap.proofs.Lists.{at-map, map-at, at-within}

@@ -4,12 +4,12 @@ use Rattle.std.proofs.Math.Nat.{eq-or-lt_of_le}
 use Rattle.nef_space.specs.Vectors.{dot, SameDirection}
 use Rattle.nef_geo.specs.Shapes.{vector_of}
 use Rattle.nef_geo.specs.declared.dir.Dir.{Dir}
-use Rattle.nef_cyclic.specs.Arcs.{IsStrictlyOn, AboutFour}
-use Rattle.nef_cyclic.proofs.Cyclic.{order_is_transitive}
-use Rattle.nef_sphere.specs.Maps.{At}
-use Rattle.nef_sphere.proofs.Lists.{at-one}
-use Rattle.nef_sphere.specs.Stars.{Star as PlainStar}
-use Rattle.nef_build.specs.From.{IsFirstAfter}
+use Rattle.law_cyclic.specs.Arcs.{IsStrictlyOn, AboutFour}
+use Rattle.law_cyclic.proofs.Cyclic.{order_is_transitive}
+use Rattle.law_sphere.specs.Maps.{At}
+use Rattle.law_sphere.proofs.Lists.{at-one}
+use Rattle.law_sphere.specs.Stars.{Star as PlainStar}
+use Rattle.law_build.specs.From.{IsFirstAfter}
 use Rattle.nef_star.specs.declared.star.Star.{Star}
 use Rattle.nef_star.specs.Stars.{star_of}
 use Rattle.nef_star.proofs.Turns.{four, self-same}

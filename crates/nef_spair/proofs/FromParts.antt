@@ -5,11 +5,11 @@ use Rattle.nef_space.specs.Limits.{normal_limit, svertex_limit}
 use Rattle.nef_space.specs.Vectors.{Vector, IsAtMost}
 use Rattle.nef_space.specs.declared.label.Label.{Label}
 use Rattle.nef_geo.specs.Shapes.{vector_of}
-use Rattle.nef_sphere.specs.Maps.{At, Svertex, Arc, Loop, Item, items_then, item_normal}
-use Rattle.nef_sphere.specs.Least.{InOrder, ArcBelow}
-use Rattle.nef_sphere.specs.Stars.{Ray as PlainRay, Star as PlainStar, IsStraight}
-use Rattle.nef_build.specs.Raw.{IsBare, IsRawOf}
-use Rattle.nef_build.specs.From.{svertex_at, IsArcFrom, IsLoopFrom, raw_loop, straight_loop, IsRawLabel, IsBuiltFrom}
+use Rattle.law_sphere.specs.Maps.{At, Svertex, Arc, Loop, Item, items_then, item_normal}
+use Rattle.law_sphere.specs.Least.{InOrder, ArcBelow}
+use Rattle.law_sphere.specs.Stars.{Ray as PlainRay, Star as PlainStar, IsStraight}
+use Rattle.law_build.specs.Raw.{IsBare, IsRawOf}
+use Rattle.law_build.specs.From.{svertex_at, IsArcFrom, IsLoopFrom, raw_loop, straight_loop, IsRawLabel, IsBuiltFrom}
 use Rattle.nef_star.specs.Stars.{ray_of, star_of, IsStar}
 use Rattle.nef_smap.specs.declared.map.SArc.{SArc}
 use Rattle.nef_smap.specs.declared.map.SLoop.{SLoop}

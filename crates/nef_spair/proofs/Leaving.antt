@@ -8,11 +8,11 @@ use Rattle.nef_space.specs.declared.label.Label.{Label}
 use Rattle.nef_space.specs.declared.label.Label.TheVariants.{Out}
 use Rattle.nef_geo.specs.Shapes.{vector_of}
 use Rattle.nef_geo.specs.declared.dir.Dir.{Dir}
-use Rattle.nef_cyclic.proofs.StrictlyOn.{same-sym}
-use Rattle.nef_sphere.specs.Maps.{At, Arc as PlainArc}
-use Rattle.nef_sphere.specs.Stars.{Follows}
-use Rattle.nef_sphere.proofs.Lists.{at-one}
-use Rattle.nef_build.specs.From.{IsArcFrom, IsFirstAfter}
+use Rattle.law_cyclic.proofs.StrictlyOn.{same-sym}
+use Rattle.law_sphere.specs.Maps.{At, Arc as PlainArc}
+use Rattle.law_sphere.specs.Stars.{Follows}
+use Rattle.law_sphere.proofs.Lists.{at-one}
+use Rattle.law_build.specs.From.{IsArcFrom, IsFirstAfter}
 use Rattle.nef_star.specs.declared.star.Ray.{Ray}
 use Rattle.nef_star.specs.declared.star.Star.{Star}
 use Rattle.nef_star.specs.Stars.{ray_of, star_of, left_of, left_at, IsRay, IsTurned}

@@ -1,8 +1,8 @@
 -- A map has one kind, and what its fields say of it.
 use Rattle.std.proofs.Common.{◌≡◌, ℤ, pos, negsuc, neg_ℤ, List, [], ◌∷◌, length, map, slice_get, Option, Some, None, option_map, arith, refl, sym, ap, subst, ◌∙◌}
 use Rattle.std.proofs.lemmas.Int.{ints}
-use Rattle.nef_exact.proofs.Ring.{ring, at, num, neg, ◌⊕◌, ◌⊖◌, ◌⊗◌}
-use Rattle.nef_exact.proofs.Combination.{follows, given, none}
+use Rattle.law_arithmetic.proofs.Ring.{ring, at, num, neg, ◌⊕◌, ◌⊖◌, ◌⊗◌}
+use Rattle.law_arithmetic.proofs.Combination.{follows, given, none}
 use Rattle.nef_space.specs.Place.{Place}
 use Rattle.nef_space.specs.Sets.{Set}
 use Rattle.nef_space.specs.Vectors.{Vector, dot, opposite, IsDirection, SameDirection, IsOpposite}
@@ -10,13 +10,13 @@ use Rattle.nef_geo.specs.Shapes.{vector_of}
 use Rattle.nef_geo.specs.declared.dir.Dir.{Dir}
 use Rattle.nef_geo.proofs.Directions.{dot-itself}
 use Rattle.nef_geo.proofs.Unique.{same_directions_equal}
-use Rattle.nef_sphere.specs.Maps.{Map, Svertex, Loop}
-use Rattle.nef_sphere.specs.Least.{Least, Cone}
-use Rattle.nef_sphere.specs.Kinds.{IsInVolume, IsInFacet, IsOnEdge}
-use Rattle.nef_sphere.proofs.Kind.{flat-parallel}
-use Rattle.nef_sphere.proofs.KindFlats.{facet-flat, facet-only}
-use Rattle.nef_sphere.proofs.KindLaws.{KindOf, of_volume, of_facet, of_edge, edge-flat, edge-only, edge-direction}
-use Rattle.nef_sphere.proofs.Dimensions.{map-flat, flat-map, volume-dimension, facet-dimension, edge-dimension, vertex-dimension}
+use Rattle.law_sphere.specs.Maps.{Map, Svertex, Loop}
+use Rattle.law_sphere.specs.Least.{Least, Cone}
+use Rattle.law_sphere.specs.Kinds.{IsInVolume, IsInFacet, IsOnEdge}
+use Rattle.law_sphere.proofs.Kind.{flat-parallel}
+use Rattle.law_sphere.proofs.KindFlats.{facet-flat, facet-only}
+use Rattle.law_sphere.proofs.KindLaws.{KindOf, of_volume, of_facet, of_edge, edge-flat, edge-only, edge-direction}
+use Rattle.law_sphere.proofs.Dimensions.{map-flat, flat-map, volume-dimension, facet-dimension, edge-dimension, vertex-dimension}
 use Rattle.nef_smap.specs.declared.map.SVertex.{SVertex}
 use Rattle.nef_smap.specs.declared.map.SLoop.{SLoop}
 use Rattle.nef_smap.specs.declared.map.SphereMap.{SphereMap}

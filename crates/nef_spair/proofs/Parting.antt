@@ -5,9 +5,9 @@ use Rattle.nef_space.specs.Vectors.{Vector, IsAtMost}
 use Rattle.nef_space.specs.declared.label.Label.{Label}
 use Rattle.nef_space.specs.declared.label.Label.TheVariants.{Out}
 use Rattle.nef_geo.specs.Shapes.{vector_of}
-use Rattle.nef_sphere.specs.Maps.{Loop}
-use Rattle.nef_sphere.specs.Stars.{Ray as PlainRay, IsPlain, IsStraight}
-use Rattle.nef_build.specs.From.{loop_at}
+use Rattle.law_sphere.specs.Maps.{Loop}
+use Rattle.law_sphere.specs.Stars.{Ray as PlainRay, IsPlain, IsStraight}
+use Rattle.law_build.specs.From.{loop_at}
 use Rattle.nef_star.specs.declared.star.Ray.{Ray}
 use Rattle.nef_star.specs.declared.star.Star.{Star}
 use Rattle.nef_star.specs.Stars.{ray_of, star_of}

@@ -1,7 +1,7 @@
 -- Elements by their places in longer lists, and what is left of a list without some.
 use Rattle.std.proofs.Common.{◌≡◌, ℕ, zero, suc, ◌<◌, List, [], ◌∷◌, ◌++◌, length, get_or, slice_get, Some, None, arith, refl, sym, ap, subst, inl, inr, ◌⊎◌}
 use Rattle.std.specs.List.{All}
-use Rattle.nef_sphere.specs.Maps.{At}
+use Rattle.law_sphere.specs.Maps.{At}
 use Rattle.nef_smap.proofs.Lists.{at-within, at-get, get-at}
 use Rattle.nef_spair.specs.Parts.{AreOthers}
 

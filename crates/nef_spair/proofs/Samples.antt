@@ -2,7 +2,7 @@
 use Rattle.std.proofs.Common.{◌≡◌, ℕ, zero, suc, ◌<◌, pos, negsuc, ◌<ℤ◌, List, [], ◌∷◌, length, map, get_or, Bool, true, false, cond, Some, None, option_map, arith, refl, sym, ap, subst, ◌∙◌, inl, inr}
 use Rattle.std.proofs.lemmas.Int.{ints}
 use Rattle.std.specs.List.{All}
-use Rattle.nef_exact.proofs.Order.{sign-plus, sign-minus}
+use Rattle.law_arithmetic.proofs.Order.{sign-plus, sign-minus}
 use Rattle.nef_space.specs.Limits.{normal_limit, svertex_limit}
 use Rattle.nef_space.specs.Vectors.{Vector, vector, dot, opposite, triple_of, IsAtMost, IsDirection, IsNormal, SameDirection, IsOpposite}
 use Rattle.nef_space.specs.Numbers.{IsBelow}
@@ -10,17 +10,17 @@ use Rattle.nef_space.specs.declared.label.Label.{Label}
 use Rattle.nef_geo.specs.Shapes.{vector_of}
 use Rattle.nef_geo.specs.declared.dir.Dir.{Dir}
 use Rattle.nef_geo.proofs.Directions.{dot-itself}
-use Rattle.nef_cyclic.specs.Arcs.{IsOnCircle}
-use Rattle.nef_cyclic.proofs.Planar.{dot_comm}
-use Rattle.nef_exact.proofs.Ring.{at, num, neg, ◌⊕◌, ◌⊗◌}
-use Rattle.nef_exact.proofs.Combination.{follows, given, none}
-use Rattle.nef_sphere.specs.Maps.{At}
-use Rattle.nef_sphere.specs.Stars.{Star as PlainStar}
-use Rattle.nef_sphere.specs.Least.{by_side}
-use Rattle.nef_sphere.specs.Labelling.{StraightAt, plain}
-use Rattle.nef_sphere.specs.Builds.{Proper}
-use Rattle.nef_sphere.proofs.Vectors.{normal-direction}
-use Rattle.nef_build.specs.Raw.{Of, IsRawOf}
+use Rattle.law_cyclic.specs.Arcs.{IsOnCircle}
+use Rattle.law_cyclic.proofs.Planar.{dot_comm}
+use Rattle.law_arithmetic.proofs.Ring.{at, num, neg, ◌⊕◌, ◌⊗◌}
+use Rattle.law_arithmetic.proofs.Combination.{follows, given, none}
+use Rattle.law_sphere.specs.Maps.{At}
+use Rattle.law_sphere.specs.Stars.{Star as PlainStar}
+use Rattle.law_sphere.specs.Least.{by_side}
+use Rattle.law_sphere.specs.Labelling.{StraightAt, plain}
+use Rattle.law_sphere.specs.Builds.{Proper}
+use Rattle.law_sphere.proofs.Vectors.{normal-direction}
+use Rattle.law_build.specs.Raw.{Of, IsRawOf}
 use Rattle.nef_star.specs.declared.star.Ray.{Ray}
 use Rattle.nef_star.specs.declared.star.Star.{Star}
 use Rattle.nef_star.specs.Turning.{IsTurning}

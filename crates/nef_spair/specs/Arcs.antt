@@ -3,9 +3,9 @@ use Rattle.std.specs.Prelude.{◌≡◌, ℕ, ◌<◌, List, map, true, ◌⊎�
 use Rattle.nef_space.specs.Limits.{normal_limit}
 use Rattle.nef_space.specs.Vectors.{IsAtMost}
 use Rattle.nef_geo.specs.Shapes.{vector_of}
-use Rattle.nef_sphere.specs.Maps.{At}
-use Rattle.nef_sphere.specs.Least.{ArcBelow}
-use Rattle.nef_build.specs.From.{IsArcFrom}
+use Rattle.law_sphere.specs.Maps.{At}
+use Rattle.law_sphere.specs.Least.{ArcBelow}
+use Rattle.law_build.specs.From.{IsArcFrom}
 use Rattle.nef_star.specs.declared.star.Ray.{Ray}
 use Rattle.nef_star.specs.declared.star.Star.{Star}
 use Rattle.nef_star.specs.Stars.{star_of}

@@ -5,8 +5,8 @@ use Rattle.nef_space.specs.Place.{Place}
 use Rattle.nef_space.specs.Sets.{Set}
 use Rattle.nef_space.specs.Vectors.{Vector, IsParallel, dot}
 use Rattle.nef_geo.specs.Shapes.{vector_of}
-use Rattle.nef_sphere.specs.Maps.{Map}
-use Rattle.nef_sphere.specs.Kinds.{IsInVolume, IsInFacet, IsOnEdge}
+use Rattle.law_sphere.specs.Maps.{Map}
+use Rattle.law_sphere.specs.Kinds.{IsInVolume, IsInFacet, IsOnEdge}
 use Rattle.nef_spair.specs.declared.answer.Kind.{Kind}
 use Rattle.nef_spair.specs.declared.answer.Kind.TheVariants.{Vertex, OnEdge, InFacet, InVolume}
 

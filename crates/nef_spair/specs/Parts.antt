@@ -5,11 +5,11 @@ use Rattle.nef_space.specs.Limits.{normal_limit}
 use Rattle.nef_space.specs.Vectors.{IsAtMost}
 use Rattle.nef_space.specs.declared.label.Label.{Label}
 use Rattle.nef_geo.specs.Shapes.{vector_of}
-use Rattle.nef_sphere.specs.Maps.{At, Loop}
-use Rattle.nef_sphere.specs.Stars.{Star as PlainStar, IsPlain, IsStraight, IsSimplified}
-use Rattle.nef_sphere.specs.Builds.{Proper}
-use Rattle.nef_build.specs.Raw.{IsBare}
-use Rattle.nef_build.specs.From.{loop_at, IsRawLabel}
+use Rattle.law_sphere.specs.Maps.{At, Loop}
+use Rattle.law_sphere.specs.Stars.{Star as PlainStar, IsPlain, IsStraight, IsSimplified}
+use Rattle.law_sphere.specs.Builds.{Proper}
+use Rattle.law_build.specs.Raw.{IsBare}
+use Rattle.law_build.specs.From.{loop_at, IsRawLabel}
 use Rattle.nef_star.specs.declared.star.Star.{Star}
 use Rattle.nef_star.specs.Stars.{star_of, IsStar, IsKept}
 use Rattle.nef_smap.specs.declared.map.SLoop.{SLoop}

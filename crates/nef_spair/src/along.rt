@@ -4,8 +4,8 @@ ghost use Rattle.std.specs.Prelude.{◌≡◌, ◌<◌, ◌+◌, ◌⊎◌, leng
 ghost use Rattle.std.specs.List.{All};
 ghost use Rattle.nef_space.specs.Vectors.{dot};
 ghost use Rattle.nef_geo.specs.Shapes.{vector_of};
-ghost use Rattle.nef_sphere.specs.Maps.{At};
-ghost use Rattle.nef_build.specs.From.{IsFirstAfter, IsArcFrom};
+ghost use Rattle.law_sphere.specs.Maps.{At};
+ghost use Rattle.law_build.specs.From.{IsFirstAfter, IsArcFrom};
 ghost use Rattle.nef_star.specs.Stars.{star_of, IsStar};
 ghost use Rattle.nef_smap.specs.Maps.{arc_of};
 ghost use Rattle.nef_spair.specs.Arcs.{IsAlong, AreArcs};

@@ -3,11 +3,11 @@
 ghost use Rattle.std.specs.Prelude.{◌≡◌, ◌↔◌, List, IfOk};
 ghost use Rattle.std.specs.List.{All};
 ghost use Rattle.nef_space.specs.Vectors.{Vector, IsDirection};
-ghost use Rattle.nef_sphere.specs.Maps.{Map, MapLabel, Valid};
-ghost use Rattle.nef_sphere.specs.Least.{Least, SameLabels, Ordered};
-ghost use Rattle.nef_sphere.specs.Labelling.{ByOp};
-ghost use Rattle.nef_build.specs.Raw.{IsLabelling, IsRawOf};
-ghost use Rattle.nef_build.specs.Overlays.{Raw};
+ghost use Rattle.law_sphere.specs.Maps.{Map, MapLabel, Valid};
+ghost use Rattle.law_sphere.specs.Least.{Least, SameLabels, Ordered};
+ghost use Rattle.law_sphere.specs.Labelling.{ByOp};
+ghost use Rattle.law_build.specs.Raw.{IsLabelling, IsRawOf};
+ghost use Rattle.law_build.specs.Overlays.{Raw};
 ghost use Rattle.nef_star.specs.Stars.{IsStar};
 ghost use Rattle.nef_smap.specs.Maps.{map_of, raw_of, IsLeastMap, IsRawStars};
 ghost use Rattle.nef_spair.specs.Made.{IsMadeFrom};

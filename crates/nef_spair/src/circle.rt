@@ -3,8 +3,8 @@
 ghost use Rattle.std.specs.Prelude.{◌≡◌, ◌↔◌, ℕ, map, pos, IsTrue, MatchOption};
 ghost use Rattle.nef_space.specs.Vectors.{dot};
 ghost use Rattle.nef_geo.specs.Shapes.{vector_of};
-ghost use Rattle.nef_sphere.specs.Maps.{At};
-ghost use Rattle.nef_build.specs.Raw.{IsBare};
+ghost use Rattle.law_sphere.specs.Maps.{At};
+ghost use Rattle.law_build.specs.Raw.{IsBare};
 ghost use Rattle.nef_star.specs.Stars.{star_of};
 ghost use Rattle.nef_spair.specs.Parts.{IsBareCircle, IsProperCircle, IsChosen};
 

@@ -5,8 +5,8 @@ ghost use Rattle.nef_space.specs.Place.{Place};
 ghost use Rattle.nef_space.specs.Sets.{Set};
 ghost use Rattle.nef_space.specs.Vectors.{Vector, IsOpposite};
 ghost use Rattle.nef_geo.specs.Shapes.{vector_of};
-ghost use Rattle.nef_sphere.specs.Least.{Cone};
-ghost use Rattle.nef_sphere.specs.Kinds.{IsInVolume, IsInFacet, IsOnEdge};
+ghost use Rattle.law_sphere.specs.Least.{Cone};
+ghost use Rattle.law_sphere.specs.Kinds.{IsInVolume, IsInFacet, IsOnEdge};
 ghost use Rattle.nef_smap.specs.Maps.{map_of, IsLeastMap};
 ghost use Rattle.nef_spair.specs.Kinds.{IsKind, KindFits};
 

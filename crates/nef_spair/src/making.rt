@@ -2,7 +2,7 @@
 
 ghost use Rattle.std.specs.Prelude.{◌≡◌, [], map, IfOk};
 ghost use Rattle.std.specs.List.{All};
-ghost use Rattle.nef_build.specs.From.{around_of, svertex_at};
+ghost use Rattle.law_build.specs.From.{around_of, svertex_at};
 ghost use Rattle.nef_star.specs.Stars.{star_of, IsStar};
 ghost use Rattle.nef_smap.specs.Maps.{svertex_of};
 ghost use Rattle.nef_spair.specs.Made.{IsMadeOf};

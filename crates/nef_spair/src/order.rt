@@ -2,7 +2,7 @@
 
 ghost use Rattle.std.specs.List.Sorted.{IsPermutation};
 ghost use Rattle.std.specs.Ordering.{MatchOrdering};
-ghost use Rattle.nef_sphere.specs.Least.{InOrder};
+ghost use Rattle.law_sphere.specs.Least.{InOrder};
 ghost use Rattle.nef_spair.specs.Arcs.{IsArcBelow, IsTwin, AreApart};
 
 use nef_geo::dir_cmp;

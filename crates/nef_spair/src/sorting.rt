@@ -2,8 +2,8 @@
 
 ghost use Rattle.std.specs.Prelude.{◌≡◌, ◌↔◌, IsTrue, IfOk};
 ghost use Rattle.std.specs.List.{All};
-ghost use Rattle.nef_sphere.specs.Stars.{IsStraight};
-ghost use Rattle.nef_build.specs.From.{IsKeptRaw, AreSimplified};
+ghost use Rattle.law_sphere.specs.Stars.{IsStraight};
+ghost use Rattle.law_build.specs.From.{IsKeptRaw, AreSimplified};
 ghost use Rattle.nef_space.specs.Limits.{normal_limit};
 ghost use Rattle.nef_space.specs.Vectors.{IsAtMost};
 ghost use Rattle.nef_geo.specs.Shapes.{vector_of};

@@ -4,7 +4,7 @@ ghost use Rattle.std.specs.Prelude.{List as Sequence, IfOk};
 ghost use Rattle.nef_space.specs.Limits.{normal_limit, svertex_limit};
 ghost use Rattle.nef_space.specs.Vectors.{Vector, vector, IsAtMost, SameDirection};
 ghost use Rattle.nef_geo.specs.Shapes.{vector_of};
-ghost use Rattle.nef_build.specs.Raw.{IsLabelling, IsRawOf};
+ghost use Rattle.law_build.specs.Raw.{IsLabelling, IsRawOf};
 ghost use Rattle.nef_star.specs.Stars.{IsStar};
 ghost use Rattle.nef_smap.specs.Maps.{raw_of, IsLeastMap, IsRawStars};
 

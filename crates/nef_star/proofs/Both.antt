@@ -2,10 +2,10 @@
 use Rattle.std.proofs.Common.{◌≡◌, ℕ, ◌<◌, arith, sym, ap, subst, ◌∙◌, inl, inr, ◌⊎◌}
 use Rattle.nef_space.specs.Vectors.{Vector, IsDirection, SameDirection}
 use Rattle.nef_space.specs.declared.label.Label.{Label}
-use Rattle.nef_cyclic.specs.Arcs.{IsOnCircle, Passes}
-use Rattle.nef_cyclic.proofs.StrictlyOn.{same-sym}
-use Rattle.nef_cyclic.proofs.Directions.{same-trans}
-use Rattle.nef_cyclic.proofs.Cyclic.{one_is_first, order_is_transitive, order_is_cyclic, same_in_place}
+use Rattle.law_cyclic.specs.Arcs.{IsOnCircle, Passes}
+use Rattle.law_cyclic.proofs.StrictlyOn.{same-sym}
+use Rattle.law_cyclic.proofs.Directions.{same-trans}
+use Rattle.law_cyclic.proofs.Cyclic.{one_is_first, order_is_transitive, order_is_cyclic, same_in_place}
 use Rattle.nef_star.specs.Turning.{IsTurning, IsNext, Gives, on_ray, in_sector, in_only_sector, IsUnder, IsAfter}
 use Rattle.nef_star.proofs.Turns.{three, four, same_or, next_in, none_between, not_both, one_place}
 

@@ -9,7 +9,7 @@ use Rattle.nef_space.specs.declared.label.Label.{Label}
 use Rattle.nef_space.specs.declared.label.Label.TheVariants.{Out}
 use Rattle.nef_geo.specs.Shapes.{vector_of}
 use Rattle.nef_geo.specs.declared.dir.Dir.{Dir}
-use Rattle.nef_cyclic.specs.Arcs.{IsOnCircle}
+use Rattle.law_cyclic.specs.Arcs.{IsOnCircle}
 use Rattle.nef_star.specs.declared.star.Ray.{Ray}
 use Rattle.nef_star.specs.declared.star.Star.{Star}
 use Rattle.nef_star.specs.Turning.{IsTurning, IsNext, Gives, in_only_sector}

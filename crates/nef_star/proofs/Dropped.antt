@@ -3,8 +3,8 @@ use Rattle.std.proofs.Common.{◌≡◌, ℕ, zero, suc, ◌<◌, arith, refl, s
 use Rattle.std.proofs.Math.Nat.{eq-or-lt_of_le}
 use Rattle.nef_space.specs.Vectors.{Vector, IsDirection, SameDirection}
 use Rattle.nef_space.specs.declared.label.Label.{Label}
-use Rattle.nef_cyclic.specs.Arcs.{IsOnCircle, Passes}
-use Rattle.nef_cyclic.proofs.Cyclic.{order_is_cyclic, order_is_transitive, same_in_place, ways_glue}
+use Rattle.law_cyclic.specs.Arcs.{IsOnCircle, Passes}
+use Rattle.law_cyclic.proofs.Cyclic.{order_is_cyclic, order_is_transitive, same_in_place, ways_glue}
 use Rattle.nef_star.specs.Turning.{IsTurning, Gives, on_ray, in_sector, in_only_sector}
 use Rattle.nef_star.proofs.Turns.{whole_turn, three, four}
 

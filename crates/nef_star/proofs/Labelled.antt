@@ -1,17 +1,17 @@
 -- What a star gives a direction e is what its left directions give axis x e.
 use Rattle.std.proofs.Common.{◌≡◌, ℕ, zero, suc, ◌<◌, neg_ℤ, ◌*ℤ◌, ◌-ℤ◌, List, [], ◌∷◌, length, map, true, false, cond, arith, refl, sym, ap, subst, ◌∙◌, inl, inr}
 use Rattle.std.proofs.lemmas.List.{length-map}
-use Rattle.nef_exact.proofs.Ring.{ring, at, neg, ◌⊖◌, ◌⊗◌}
+use Rattle.law_arithmetic.proofs.Ring.{ring, at, neg, ◌⊖◌, ◌⊗◌}
 use Rattle.nef_space.specs.Vectors.{Vector, cross, opposite, IsDirection}
 use Rattle.std.proofs.Common.{ℤ, Bool}
 use Rattle.nef_space.specs.declared.label.Label.{Label}
 use Rattle.nef_geo.specs.Shapes.{vector_of}
-use Rattle.nef_cyclic.specs.Arcs.{IsOnCircle, IsStrictlyOn, Passes}
-use Rattle.nef_cyclic.proofs.Directions.{level_cross_first}
-use Rattle.nef_sphere.specs.Maps.{At}
-use Rattle.nef_cyclic.specs.Arcs.{IsStrictlyOn}
-use Rattle.nef_sphere.specs.Stars.{Ray as PlainRay, ray_way, NextRay, StarLabel, on_ray, in_sector, in_only_sector}
-use Rattle.nef_near.proofs.Flats.{vector-same}
+use Rattle.law_cyclic.specs.Arcs.{IsOnCircle, IsStrictlyOn, Passes}
+use Rattle.law_cyclic.proofs.Directions.{level_cross_first}
+use Rattle.law_sphere.specs.Maps.{At}
+use Rattle.law_cyclic.specs.Arcs.{IsStrictlyOn}
+use Rattle.law_sphere.specs.Stars.{Ray as PlainRay, ray_way, NextRay, StarLabel, on_ray, in_sector, in_only_sector}
+use Rattle.law_near.proofs.Flats.{vector-same}
 use Rattle.nef_star.specs.declared.star.Ray.{Ray}
 use Rattle.nef_star.specs.declared.star.Star.{Star}
 use Rattle.nef_star.specs.Laws.{EachHasOneLabel}

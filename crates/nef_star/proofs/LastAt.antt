@@ -5,7 +5,7 @@ use Rattle.nef_space.specs.Vectors.{Vector, SameDirection}
 use Rattle.nef_geo.specs.Shapes.{vector_of}
 use Rattle.nef_geo.specs.declared.dir.Dir.{Dir}
 use Rattle.nef_geo.proofs.Unique.{same_directions_equal}
-use Rattle.nef_cyclic.specs.Arcs.{IsOnCircle}
+use Rattle.law_cyclic.specs.Arcs.{IsOnCircle}
 use Rattle.nef_star.specs.declared.star.Star.{Star}
 use Rattle.nef_star.specs.Stars.{left_at, IsTurned, LeftUnder}
 use Rattle.nef_star.proofs.Turns.{self-same, some_place}

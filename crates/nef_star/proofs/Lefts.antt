@@ -1,15 +1,15 @@
 -- The directions that rays leave the axis in turn as their left ones do.
 use Rattle.std.proofs.Common.{◌≡◌, ℕ, ◌+◌, pos, ◌<ℤ◌, ◌*ℤ◌, refl, sym, ap, subst, ◌∙◌}
 use lib.Dec.{T}
-use Rattle.nef_exact.proofs.Ring.{ring, at, num, ◌⊕◌, ◌⊖◌, ◌⊗◌}
-use Rattle.nef_exact.proofs.Combination.{follows, given, none}
+use Rattle.law_arithmetic.proofs.Ring.{ring, at, num, ◌⊕◌, ◌⊖◌, ◌⊗◌}
+use Rattle.law_arithmetic.proofs.Combination.{follows, given, none}
 use Rattle.nef_space.specs.Vectors.{Vector, dot, cross, triple, IsDirection, IsZero, SameDirection}
-use Rattle.nef_cyclic.specs.Arcs.{IsOnCircle, Passes}
-use Rattle.nef_cyclic.proofs.Signs.{sgn, sgn-scaled}
-use Rattle.nef_cyclic.proofs.Planar.{dot_comm, dot_poly, triple_poly, numbers, self_positive}
-use Rattle.nef_cyclic.proofs.StrictlyOn.{passes_test}
-use Rattle.nef_cyclic.proofs.Cyclic.{says_same, says_passes}
-use Rattle.nef_sphere.proofs.Vectors.{nought-if}
+use Rattle.law_cyclic.specs.Arcs.{IsOnCircle, Passes}
+use Rattle.law_cyclic.proofs.Signs.{sgn, sgn-scaled}
+use Rattle.law_cyclic.proofs.Planar.{dot_comm, dot_poly, triple_poly, numbers, self_positive}
+use Rattle.law_cyclic.proofs.StrictlyOn.{passes_test}
+use Rattle.law_cyclic.proofs.Cyclic.{says_same, says_passes}
+use Rattle.law_sphere.proofs.Vectors.{nought-if}
 use Rattle.nef_star.proofs.Turns.{three}
 
 -- a quarter of a turn back about a

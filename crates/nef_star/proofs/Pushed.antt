@@ -8,9 +8,9 @@ use Rattle.nef_space.specs.Vectors.{Vector, dot, zero_vector, opposite, IsAtMost
 use Rattle.nef_space.specs.declared.label.Label.TheVariants.{Out}
 use Rattle.nef_geo.specs.Shapes.{vector_of}
 use Rattle.nef_geo.specs.declared.dir.Dir.{Dir}
-use Rattle.nef_cyclic.specs.Arcs.{IsOnCircle, Passes}
-use Rattle.nef_cyclic.proofs.Planar.{dot_comm}
-use Rattle.nef_cyclic.proofs.Directions.{direction-opposite, level-of_opposite}
+use Rattle.law_cyclic.specs.Arcs.{IsOnCircle, Passes}
+use Rattle.law_cyclic.proofs.Planar.{dot_comm}
+use Rattle.law_cyclic.proofs.Directions.{direction-opposite, level-of_opposite}
 use Rattle.nef_star.specs.declared.star.Ray.{Ray}
 use Rattle.nef_star.specs.declared.star.Star.{Star}
 use Rattle.nef_star.specs.Turning.{IsTurning, IsNext, Gives}

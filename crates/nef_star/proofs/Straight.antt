@@ -10,10 +10,10 @@ use Rattle.nef_space.specs.Vectors.{Vector, dot, opposite, triple_of, IsDirectio
 use Rattle.nef_geo.specs.Shapes.{vector_of}
 use Rattle.nef_geo.specs.declared.dir.Dir.{Dir}
 use Rattle.nef_geo.proofs.Unique.{same_directions_equal}
-use Rattle.nef_cyclic.specs.Arcs.{IsOnCircle}
-use Rattle.nef_cyclic.proofs.Planar.{dot_comm, self_positive}
-use Rattle.nef_cyclic.proofs.Directions.{dot-opposite}
-use Rattle.nef_sphere.specs.Stars.{Ray as PlainRay, IsStraight}
+use Rattle.law_cyclic.specs.Arcs.{IsOnCircle}
+use Rattle.law_cyclic.proofs.Planar.{dot_comm, self_positive}
+use Rattle.law_cyclic.proofs.Directions.{dot-opposite}
+use Rattle.law_sphere.specs.Stars.{Ray as PlainRay, IsStraight}
 use Rattle.nef_star.specs.declared.star.Ray.{Ray}
 use Rattle.nef_star.specs.declared.star.Star.{Star}
 use Rattle.nef_star.specs.Stars.{ray_of, star_of, left_of, left_at, sector_count, IsRayBelow, AreStraight, IsRay, IsStar}

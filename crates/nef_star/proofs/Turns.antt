@@ -4,14 +4,14 @@ use Rattle.std.proofs.lemmas.Int.{ints}
 use Rattle.std.proofs.Math.Nat.{eq-or-lt_of_le}
 use Rattle.nef_space.specs.Vectors.{Vector, dot, cross, triple, IsDirection, IsParallel, SameDirection}
 use Rattle.nef_space.specs.declared.label.Label.{Label}
-use Rattle.nef_cyclic.specs.Arcs.{IsOnCircle, Passes, AboutThree, AboutFour}
-use Rattle.nef_cyclic.proofs.Planar.{self_positive, turn_from_parallel}
-use Rattle.nef_cyclic.proofs.StrictlyOn.{same-sym}
-use Rattle.nef_cyclic.proofs.Directions.{same-trans}
-use Rattle.nef_cyclic.proofs.Cyclic.{one_is_first, never_both_ways, order_is_transitive, same_in_place, order_is_cyclic, nearer_ones, in_sector, no_ray_between}
-use Rattle.nef_near.proofs.Decided.{Decided}
-use Rattle.nef_forms.proofs.Directions.{zero-decided}
-use Rattle.nef_sphere.proofs.Vectors.{positive-or}
+use Rattle.law_cyclic.specs.Arcs.{IsOnCircle, Passes, AboutThree, AboutFour}
+use Rattle.law_cyclic.proofs.Planar.{self_positive, turn_from_parallel}
+use Rattle.law_cyclic.proofs.StrictlyOn.{same-sym}
+use Rattle.law_cyclic.proofs.Directions.{same-trans}
+use Rattle.law_cyclic.proofs.Cyclic.{one_is_first, never_both_ways, order_is_transitive, same_in_place, order_is_cyclic, nearer_ones, in_sector, no_ray_between}
+use Rattle.law_near.proofs.Decided.{Decided}
+use Rattle.law_forms.proofs.Directions.{zero-decided}
+use Rattle.law_sphere.proofs.Vectors.{positive-or}
 use Rattle.nef_star.specs.Turning.{IsTurning, IsNext, Gives, on_ray, in_sector as of_sector, in_only_sector, IsUnder}
 
 -- ---- directions about an axis

@@ -7,8 +7,8 @@ use Rattle.nef_space.specs.Vectors.{Vector, zero_vector, opposite, dot, cross, t
 use Rattle.nef_space.specs.declared.label.Label.{Label}
 use Rattle.nef_space.specs.declared.label.Label.TheVariants.{Out}
 use Rattle.nef_geo.specs.Shapes.{vector_of}
-use Rattle.nef_cyclic.specs.Arcs.{IsOnCircle}
-use Rattle.nef_sphere.specs.Stars.{Ray as PlainRay, Star as PlainStar, StarLabel}
+use Rattle.law_cyclic.specs.Arcs.{IsOnCircle}
+use Rattle.law_sphere.specs.Stars.{Ray as PlainRay, Star as PlainStar, StarLabel}
 use Rattle.nef_star.specs.declared.star.Ray.{Ray}
 use Rattle.nef_star.specs.declared.star.Star.{Star}
 use Rattle.nef_star.specs.declared.op.Op.{Op}

@@ -2,7 +2,7 @@
 use Rattle.std.specs.Prelude.{◌≡◌, ℕ, suc, ◌<◌, ◌⊎◌}
 use Rattle.nef_space.specs.Vectors.{Vector, SameDirection}
 use Rattle.nef_space.specs.declared.label.Label.{Label}
-use Rattle.nef_cyclic.specs.Arcs.{IsOnCircle, Passes}
+use Rattle.law_cyclic.specs.Arcs.{IsOnCircle, Passes}
 
 -- the directions f 0 to f (n - 1) stand in counterclockwise order about the axis, and no two are the same
 pub record IsTurning (axis : Vector) (n : ℕ) (f : ℕ → Vector) : Type 0 where

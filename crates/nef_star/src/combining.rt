@@ -1,7 +1,7 @@
 //! Two stars combined.
 
 ghost use Rattle.std.specs.Prelude.{◌≡◌, ◌<◌, ℕ, length, IfOk, OnOk};
-ghost use Rattle.nef_cyclic.specs.Arcs.{IsOnCircle};
+ghost use Rattle.law_cyclic.specs.Arcs.{IsOnCircle};
 ghost use Rattle.nef_geo.specs.Shapes.{vector_of};
 ghost use Rattle.nef_star.specs.Stars.{left_at, IsTurned, IsStar, LeftGives, LeftAfter, HasLeft, IsCombined, IsLeftCombined, IsCombinedAt};
 

@@ -2,7 +2,7 @@
 
 ghost use Rattle.std.specs.Prelude.{◌≡◌, ◌<◌, ◌↔◌, ◌-◌, ℕ, length, IsTrue, OnOk};
 ghost use Rattle.std.specs.List.{All};
-ghost use Rattle.nef_cyclic.specs.Arcs.{IsOnCircle};
+ghost use Rattle.law_cyclic.specs.Arcs.{IsOnCircle};
 ghost use Rattle.nef_geo.specs.Shapes.{vector_of};
 ghost use Rattle.nef_star.specs.Turning.{IsNext};
 ghost use Rattle.nef_star.specs.Stars.{left_of, left_at, IsRay, IsTurned, LeftPast, LeftUnder, HasLeft, IsKept, IsCut};

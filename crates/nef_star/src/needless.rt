@@ -1,7 +1,7 @@
 //! Stars counted from another ray on, and stars without needless rays.
 
 ghost use Rattle.std.specs.Prelude.{◌≡◌, ◌≤◌, ◌<◌, ◌+◌, ◌-◌, ◌↔◌, ◌⊎◌, ℕ, length, slice_index_or, IsTrue};
-ghost use Rattle.nef_sphere.specs.Stars.{IsSimplified};
+ghost use Rattle.law_sphere.specs.Stars.{IsSimplified};
 ghost use Rattle.nef_star.specs.Stars.{star_of, IsRayBelow, IsTurned, IsStar, IsKept, IsCountedFrom, IsNeedless, AreNeeded, IsPassed};
 
 use crate::star::{Ray, Star};

@@ -1,7 +1,7 @@
 //! Rays and stars.
 
 ghost use Rattle.std.specs.Prelude.{◌≡◌, ◌↔◌, IsTrue};
-ghost use Rattle.nef_sphere.specs.Stars.{IsPlain, IsStraight};
+ghost use Rattle.law_sphere.specs.Stars.{IsPlain, IsStraight};
 ghost use Rattle.nef_geo.specs.Shapes.{vector_of};
 ghost use Rattle.nef_star.specs.Stars.{star_of, left_of, AreStraight, IsStar};
 

@@ -3,10 +3,10 @@ use Rattle.std.proofs.Common.{◌≡◌, ℕ, ◌+◌, ◌<◌, ◌≤◌, List,
 use Rattle.std.proofs.lemmas.List.{take_all, map-append, append-nil}
 use Rattle.std.proofs.Math.Seq.{take-suc}
 use Rattle.nef_space.specs.declared.label.Label.{Label}
-use Rattle.nef_sphere.specs.Forms.{gather}
-use Rattle.nef_sphere.specs.Stars.{Ray as PlainRay}
-use Rattle.nef_border.specs.Topology.{Topology}
-use Rattle.nef_border.specs.Marks.{is_in, all_in, some_in, label_by, label_from, ray_mark}
+use Rattle.law_sphere.specs.Forms.{gather}
+use Rattle.law_sphere.specs.Stars.{Ray as PlainRay}
+use Rattle.law_border.specs.Topology.{Topology}
+use Rattle.law_border.specs.Marks.{is_in, all_in, some_in, label_by, label_from, ray_mark}
 use Rattle.nef_star.specs.declared.star.Ray.{Ray}
 use Rattle.nef_star.specs.Stars.{ray_of}
 use Rattle.nef_stopo.specs.declared.nearby.Nearby.{Nearby}

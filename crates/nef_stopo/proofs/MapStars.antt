@@ -4,10 +4,10 @@ use Rattle.std.proofs.lemmas.List.{length_push}
 use Rattle.nef_space.specs.Limits.{svertex_limit}
 use Rattle.nef_space.specs.Vectors.{IsAtMost}
 use Rattle.nef_geo.specs.Shapes.{vector_of}
-use Rattle.nef_sphere.specs.Maps.{At}
-use Rattle.nef_sphere.proofs.Lists.{at-one}
-use Rattle.nef_border.specs.Topology.{Topology}
-use Rattle.nef_border.specs.Marks.{IsRemarked, IsRemarkedAt}
+use Rattle.law_sphere.specs.Maps.{At}
+use Rattle.law_sphere.proofs.Lists.{at-one}
+use Rattle.law_border.specs.Topology.{Topology}
+use Rattle.law_border.specs.Marks.{IsRemarked, IsRemarkedAt}
 use Rattle.nef_star.specs.declared.star.Star.{Star}
 use Rattle.nef_star.specs.Stars.{star_of, IsStar}
 use Rattle.nef_smap.specs.declared.map.SVertex.{SVertex}

@@ -8,18 +8,18 @@ use Rattle.nef_space.specs.Sets.{Set}
 use Rattle.nef_space.specs.Vectors.{Vector, IsDirection, IsAtMost}
 use Rattle.nef_space.specs.declared.label.Label.{Label}
 use Rattle.nef_geo.specs.Shapes.{vector_of}
-use Rattle.nef_sphere.specs.Maps.{At, Svertex, Loop, MapLabel, loop_item}
-use Rattle.nef_sphere.specs.Forms.{forms}
-use Rattle.nef_sphere.specs.Least.{Cone}
-use Rattle.nef_sphere.specs.Stars.{Star as PlainStar}
-use Rattle.nef_sphere.proofs.Arcs.{at-loop}
-use Rattle.nef_build.specs.Raw.{IsLabelling, IsRawOf}
-use Rattle.nef_border.specs.Topology.{Topology, set_by, IsTopologyMap, MarkLabel}
-use Rattle.nef_border.specs.Marks.{label_from, face_label, loop_by, map_labels, IsRemarkedAt, IsTopologyRaw}
-use Rattle.nef_build.proofs.KeptStars.{at-other}
-use Rattle.nef_border.proofs.RawTopology.{topology-stars}
-use Rattle.nef_border.proofs.MarkMade.{topology-mark}
-use Rattle.nef_border.proofs.Cones.{topology-cone}
+use Rattle.law_sphere.specs.Maps.{At, Svertex, Loop, MapLabel, loop_item}
+use Rattle.law_sphere.specs.Forms.{forms}
+use Rattle.law_sphere.specs.Least.{Cone}
+use Rattle.law_sphere.specs.Stars.{Star as PlainStar}
+use Rattle.law_sphere.proofs.Arcs.{at-loop}
+use Rattle.law_build.specs.Raw.{IsLabelling, IsRawOf}
+use Rattle.law_border.specs.Topology.{Topology, set_by, IsTopologyMap, MarkLabel}
+use Rattle.law_border.specs.Marks.{label_from, face_label, loop_by, map_labels, IsRemarkedAt, IsTopologyRaw}
+use Rattle.law_build.proofs.KeptStars.{at-other}
+use Rattle.law_border.proofs.RawTopology.{topology-stars}
+use Rattle.law_border.proofs.MarkMade.{topology-mark}
+use Rattle.law_border.proofs.Cones.{topology-cone}
 use Rattle.nef_star.specs.declared.star.Star.{Star}
 use Rattle.nef_star.specs.Stars.{star_of, IsStar}
 use Rattle.nef_smap.specs.declared.map.SLoop.{SLoop}

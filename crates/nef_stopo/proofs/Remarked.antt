@@ -8,10 +8,10 @@ use Rattle.nef_space.specs.declared.label.Label.{Label}
 use Rattle.nef_space.specs.declared.label.Label.TheVariants.{Out}
 use Rattle.nef_geo.specs.Shapes.{vector_of}
 use Rattle.nef_geo.specs.declared.dir.Dir.{Dir}
-use Rattle.nef_sphere.specs.Maps.{At}
-use Rattle.nef_sphere.specs.Stars.{Ray as PlainRay, Follows}
-use Rattle.nef_border.specs.Topology.{Topology}
-use Rattle.nef_border.specs.Marks.{label_from, face_label, star_labels, marked, IsRemarked}
+use Rattle.law_sphere.specs.Maps.{At}
+use Rattle.law_sphere.specs.Stars.{Ray as PlainRay, Follows}
+use Rattle.law_border.specs.Topology.{Topology}
+use Rattle.law_border.specs.Marks.{label_from, face_label, star_labels, marked, IsRemarked}
 use Rattle.nef_star.specs.declared.star.Ray.{Ray}
 use Rattle.nef_star.specs.declared.star.Star.{Star}
 use Rattle.nef_star.specs.Stars.{ray_of, star_of, left_of, left_at, sector_count, IsRay, IsRayBelow, IsTurned, IsStar}

@@ -1,8 +1,8 @@
 -- The operations of topology as those of the theory, and what is known of the labels close to something.
 use Rattle.std.specs.Prelude.{List}
 use Rattle.nef_space.specs.declared.label.Label.{Label}
-use Rattle.nef_border.specs.Topology.{Topology as SetTopology, interior, closure, boundary, complement}
-use Rattle.nef_border.specs.Marks.{all_in, some_in}
+use Rattle.law_border.specs.Topology.{Topology as SetTopology, interior, closure, boundary, complement}
+use Rattle.law_border.specs.Marks.{all_in, some_in}
 use Rattle.nef_stopo.specs.declared.topology.Topology.{Topology}
 use Rattle.nef_stopo.specs.declared.topology.Topology.TheVariants.{Interior, Closure, Boundary, Complement}
 use Rattle.nef_stopo.specs.declared.nearby.Nearby.{Nearby}

@@ -2,9 +2,9 @@
 use Rattle.std.specs.Prelude.{◌≡◌, ℕ, List, [], ◌∷◌, length}
 use Rattle.nef_space.specs.declared.label.Label.{Label}
 use Rattle.nef_geo.specs.Shapes.{vector_of}
-use Rattle.nef_sphere.specs.Maps.{At}
-use Rattle.nef_border.specs.Topology.{Topology}
-use Rattle.nef_border.specs.Marks.{label_from, IsRemarkedAt}
+use Rattle.law_sphere.specs.Maps.{At}
+use Rattle.law_border.specs.Topology.{Topology}
+use Rattle.law_border.specs.Marks.{label_from, IsRemarkedAt}
 use Rattle.nef_star.specs.declared.star.Ray.{Ray}
 use Rattle.nef_star.specs.declared.star.Star.{Star}
 use Rattle.nef_star.specs.Stars.{star_of, IsStar}

@@ -2,8 +2,8 @@
 
 ghost use Rattle.std.specs.Prelude.{◌≡◌, List, [], ◌∷◌, ◌++◌, map};
 ghost use Rattle.nef_space.specs.declared.label.Label.{Label};
-ghost use Rattle.nef_sphere.specs.Forms.{gather};
-ghost use Rattle.nef_border.specs.Marks.{is_in, ray_mark, star_labels, svertex_labels, arc_labels, loop_labels, option_labels, map_labels};
+ghost use Rattle.law_sphere.specs.Forms.{gather};
+ghost use Rattle.law_border.specs.Marks.{is_in, ray_mark, star_labels, svertex_labels, arc_labels, loop_labels, option_labels, map_labels};
 ghost use Rattle.nef_star.specs.Stars.{ray_of, star_of};
 ghost use Rattle.nef_smap.specs.Maps.{svertex_of, arc_of, loop_of, map_of};
 ghost use Rattle.std.specs.Prelude.{option_map};

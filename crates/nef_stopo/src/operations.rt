@@ -3,10 +3,10 @@
 ghost use Rattle.std.specs.Prelude.{IfOk};
 ghost use Rattle.nef_space.specs.Place.{Place};
 ghost use Rattle.nef_space.specs.Sets.{Set};
-ghost use Rattle.nef_sphere.specs.Least.{Cone};
-ghost use Rattle.nef_border.specs.Topology.{set_by, IsTopologyMap};
-ghost use Rattle.nef_border.specs.Topology.{interior as made_interior, closure as made_closure, boundary as made_boundary, complement as made_complement};
-ghost use Rattle.nef_border.specs.Marks.{IsTopologyRaw};
+ghost use Rattle.law_sphere.specs.Least.{Cone};
+ghost use Rattle.law_border.specs.Topology.{set_by, IsTopologyMap};
+ghost use Rattle.law_border.specs.Topology.{interior as made_interior, closure as made_closure, boundary as made_boundary, complement as made_complement};
+ghost use Rattle.law_border.specs.Marks.{IsTopologyRaw};
 ghost use Rattle.nef_smap.specs.Maps.{map_of, raw_of, IsSphereMap, IsLeastMap, IsRawStars};
 ghost use Rattle.nef_stopo.specs.Labels.{topology_of};
 

@@ -1,7 +1,7 @@
 //! The stars of a map with the marks that they get.
 
 ghost use Rattle.std.specs.Prelude.{◌≡◌, length, map, IfOk};
-ghost use Rattle.nef_border.specs.Marks.{IsRemarked, face_label};
+ghost use Rattle.law_border.specs.Marks.{IsRemarked, face_label};
 ghost use Rattle.nef_star.specs.Stars.{star_of, IsStar};
 ghost use Rattle.nef_smap.specs.Maps.{IsSphereMap};
 ghost use Rattle.nef_stopo.specs.Labels.{topology_of};

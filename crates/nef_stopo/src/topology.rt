@@ -1,7 +1,7 @@
 //! The operations of topology, and what each makes of labels.
 
 ghost use Rattle.std.specs.Prelude.{◌≡◌, option_map};
-ghost use Rattle.nef_border.specs.Marks.{in_by, label_by, face_label, loop_by};
+ghost use Rattle.law_border.specs.Marks.{in_by, label_by, face_label, loop_by};
 ghost use Rattle.nef_smap.specs.Maps.{loop_of};
 ghost use Rattle.nef_stopo.specs.Labels.{topology_of};
 

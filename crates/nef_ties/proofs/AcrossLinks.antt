@@ -4,25 +4,25 @@ use Rattle.nef_space.specs.Place.{Place, Form, form_at, normal_of, toward}
 use Rattle.nef_space.specs.Sets.{Set}
 use Rattle.nef_space.specs.Vectors.{Vector, opposite, IsNormal, SameDirection, plane_dir}
 use Rattle.nef_geo.specs.Shapes.{form_of}
-use Rattle.nef_forms.proofs.Between.{place-toward}
-use Rattle.nef_forms.proofs.Directions.{dot-zero, direction-left, direction-right}
-use Rattle.nef_sphere.specs.Maps.{At, Item, items, item_normal, OnItem}
-use Rattle.nef_sphere.proofs.Compare.{SameDirection-turned, SameDirection-trans, way-self}
-use Rattle.nef_sphere.proofs.Forms.{on-direction, on-level}
-use Rattle.nef_sphere.proofs.Lists.{at-one}
+use Rattle.law_forms.proofs.Between.{place-toward}
+use Rattle.law_forms.proofs.Directions.{dot-zero, direction-left, direction-right}
+use Rattle.law_sphere.specs.Maps.{At, Item, items, item_normal, OnItem}
+use Rattle.law_sphere.proofs.Compare.{SameDirection-turned, SameDirection-trans, way-self}
+use Rattle.law_sphere.proofs.Forms.{on-direction, on-level}
+use Rattle.law_sphere.proofs.Lists.{at-one}
 use Rattle.nef_smap.proofs.Lists.{at-map}
-use Rattle.nef_solid.specs.Complexes.{Vertex, Complex, Corner, IsCorner}
-use Rattle.nef_solid.specs.Shows.{Shows}
-use Rattle.nef_solid.specs.Skeleton.{item_plane, RayNames}
-use Rattle.nef_solid.proofs.FacetAngles.{through-at}
-use Rattle.nef_solid.proofs.FacetNames.{through-level}
-use Rattle.nef_solid.proofs.Ways.{same-itself}
+use Rattle.law_complex.specs.Complexes.{Vertex, Complex, Corner, IsCorner}
+use Rattle.law_complex.specs.Shows.{Shows}
+use Rattle.law_complex.specs.Skeleton.{item_plane, RayNames}
+use Rattle.law_complex.proofs.FacetAngles.{through-at}
+use Rattle.law_complex.proofs.FacetNames.{through-level}
+use Rattle.law_complex.proofs.Ways.{same-itself}
 use Rattle.nef_complex.specs.declared.complex.Complex.{Complex as ProgramComplex}
 use Rattle.nef_complex.specs.declared.complex.Corner.{Corner as ProgramCorner}
 use Rattle.nef_complex.specs.Complexes.{complex_of, corner_of, ShowsSet}
 use Rattle.nef_classes.specs.declared.table.Spot.{Spot}
 use Rattle.nef_classes.specs.declared.table.Tie.{Tie}
-use Rattle.nef_links.specs.Links.{LinkAcross}
+use Rattle.law_links.specs.Links.{LinkAcross}
 use Rattle.nef_plane.specs.Meets.{HasNoSvertex}
 use Rattle.nef_locate.proofs.SamePlanes.{level-back, scaled-same, first-same, corner-same, opposite-same, on-turned}
 use Rattle.nef_ties.specs.Ties.{spot_of, corner_at, NoneIsPlaneWith, IsTieAcross, Adds}

@@ -1,12 +1,12 @@
 -- The ties between the arcs of the ends of edges, one after another.
 use Rattle.std.proofs.Common.{◌≡◌, ℕ, ◌<◌, ◌≤◌, List, [], ◌∷◌, ◌++◌, length, map, get_or, slice_get, Some, arith, refl, ap, sym, subst}
 use Rattle.std.proofs.lemmas.List.{length-map}
-use Rattle.nef_sphere.specs.Maps.{At, Arc, Map}
-use Rattle.nef_sphere.proofs.Lists.{at-one}
+use Rattle.law_sphere.specs.Maps.{At, Arc, Map}
+use Rattle.law_sphere.proofs.Lists.{at-one}
 use Rattle.nef_smap.specs.Maps.{map_of}
 use Rattle.nef_smap.proofs.ArcEnds.{at-map}
 use Rattle.nef_smap.proofs.Lists.{at-within, get-at, map-at}
-use Rattle.nef_solid.specs.Complexes.{Vertex, Edge, Complex, HasEnds}
+use Rattle.law_complex.specs.Complexes.{Vertex, Edge, Complex, HasEnds}
 use Rattle.nef_complex.specs.declared.complex.Complex.{Complex as ProgramComplex}
 use Rattle.nef_complex.specs.declared.complex.Edge.{Edge as ProgramEdge}
 use Rattle.nef_complex.specs.declared.complex.Vertex.{Vertex as ProgramVertex}

@@ -1,29 +1,29 @@
 -- The plane of an item is a carrier, and the way inward in it.
 use Rattle.std.proofs.Common.{◌≡◌, ℕ, ℤ, pos, ◌+ℤ◌, ◌*ℤ◌, Bool, true, false, cond, ◌&&◌, [], ◌∷◌, subst, ◌↔◌}
 use Rattle.std.specs.Ordering.{int_eq}
-use Rattle.nef_exact.proofs.Combination.{given, none, follows}
-use Rattle.nef_exact.proofs.Order.{nought-is}
-use Rattle.nef_exact.proofs.Ring.{ring, at, num, ◌⊕◌, ◌⊗◌}
+use Rattle.law_arithmetic.proofs.Combination.{given, none, follows}
+use Rattle.law_arithmetic.proofs.Order.{nought-is}
+use Rattle.law_arithmetic.proofs.Ring.{ring, at, num, ◌⊕◌, ◌⊗◌}
 use Rattle.nef_space.specs.Limits.{axis_factor}
 use Rattle.nef_space.specs.Local.{Flat}
 use Rattle.nef_space.specs.Place.{Place, Form, form_at, normal_of, toward}
 use Rattle.nef_space.specs.Sets.{Set}
 use Rattle.nef_space.specs.Vectors.{Vector, dot, blend, IsDirection, IsNormal, SameDirection, plane_dir, beside_x, beside_y, beside_z}
-use Rattle.nef_near.specs.Laws.{FacetSupport}
-use Rattle.nef_near.proofs.Supports.{facet-support}
-use Rattle.nef_forms.specs.Homogeneous.{SameUpToFactor, of_direction}
-use Rattle.nef_forms.proofs.Directions.{same-factor, factor-same}
-use Rattle.nef_sphere.specs.Maps.{At, Item, item_normal, OnItem}
-use Rattle.nef_sphere.proofs.Compare.{SameDirection-turned}
-use Rattle.nef_sphere.proofs.Forms.{on-direction, on-level}
-use Rattle.nef_solid.specs.Complexes.{Vertex, Complex, Corner, IsCorner}
-use Rattle.nef_solid.specs.Shows.{Shows}
-use Rattle.nef_solid.proofs.Edges.{near_point, way-near}
-use Rattle.nef_solid.proofs.FacetPoints.{IsInFacetOf, beside-vertex}
-use Rattle.nef_solid.proofs.FacetSides.{flats-one, level-way}
-use Rattle.nef_solid.proofs.FacetWays.{plane-back}
-use Rattle.nef_solid.proofs.Planes.{plane-turned, plane-point, plane-slope}
-use Rattle.nef_solid.proofs.Ways.{onward, onward-way}
+use Rattle.law_near.specs.Laws.{FacetSupport}
+use Rattle.law_near.proofs.Supports.{facet-support}
+use Rattle.law_forms.specs.Homogeneous.{SameUpToFactor, of_direction}
+use Rattle.law_forms.proofs.Directions.{same-factor, factor-same}
+use Rattle.law_sphere.specs.Maps.{At, Item, item_normal, OnItem}
+use Rattle.law_sphere.proofs.Compare.{SameDirection-turned}
+use Rattle.law_sphere.proofs.Forms.{on-direction, on-level}
+use Rattle.law_complex.specs.Complexes.{Vertex, Complex, Corner, IsCorner}
+use Rattle.law_complex.specs.Shows.{Shows}
+use Rattle.law_complex.proofs.Edges.{near_point, way-near}
+use Rattle.law_complex.proofs.FacetPoints.{IsInFacetOf, beside-vertex}
+use Rattle.law_complex.proofs.FacetSides.{flats-one, level-way}
+use Rattle.law_complex.proofs.FacetWays.{plane-back}
+use Rattle.law_complex.proofs.Planes.{plane-turned, plane-point, plane-slope}
+use Rattle.law_complex.proofs.Ways.{onward, onward-way}
 use Rattle.nef_locate.proofs.SamePlanes.{opposed, same-test, alike}
 
 -- ---- the plane of an item

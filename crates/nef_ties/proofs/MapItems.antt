@@ -3,8 +3,8 @@ use Rattle.std.proofs.Common.{◌≡◌, ℕ, ◌<◌, ◌≤◌, ◌+◌, lengt
 use Rattle.std.proofs.lemmas.List.{length-map}
 use mir.Val.{bool_byte}
 use Rattle.nef_space.specs.Vectors.{Vector, IsDirection}
-use Rattle.nef_sphere.specs.Maps.{At, Item, arc_item, loop_item, items}
-use Rattle.nef_sphere.proofs.Shot.{arc-at}
+use Rattle.law_sphere.specs.Maps.{At, Item, arc_item, loop_item, items}
+use Rattle.law_sphere.proofs.Shot.{arc-at}
 use Rattle.nef_smap.specs.declared.map.SphereMap.{SphereMap}
 use Rattle.nef_smap.specs.Maps.{arc_of, map_of}
 use Rattle.nef_smap.proofs.MapLists.{at-within, length-items}

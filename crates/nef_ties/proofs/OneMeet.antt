@@ -2,34 +2,34 @@
 use Rattle.std.proofs.Common.{◌≡◌, ℕ, pos, ◌<ℤ◌, ◌+ℤ◌, ◌*ℤ◌, arith, ap, sym, ◌∙◌, inl, inr, ◌⊎◌, ⊎_elim, [], ◌∷◌, subst}
 use Rattle.std.proofs.lemmas.Bool.{cases_order}
 use Rattle.std.proofs.lemmas.Int.{ints}
-use Rattle.nef_exact.proofs.Ring.{ring, at, num, ◌⊕◌, ◌⊗◌}
+use Rattle.law_arithmetic.proofs.Ring.{ring, at, num, ◌⊕◌, ◌⊗◌}
 use Rattle.nef_space.specs.Place.{Place, Form, normal_of, slope, toward, SamePlace, IsAhead, IsBetween}
 use Rattle.nef_space.specs.Sets.{Set}
 use Rattle.nef_space.specs.Vectors.{Vector, dot, cross, opposite, blend, triple, IsDirection, IsZero, SameDirection}
-use Rattle.nef_forms.specs.Homogeneous.{of_place}
-use Rattle.nef_forms.proofs.Between.{toward-place, place-decided, between-same, place-factor, factor-place}
-use Rattle.nef_forms.proofs.Sums.{same-trans}
-use Rattle.nef_forms.proofs.Directions.{direction-left}
-use Rattle.nef_near.proofs.Between.{between-turned, between-inner}
-use Rattle.nef_near.proofs.Flats.{vector-same}
-use Rattle.nef_near.proofs.PlaceOrder.{place_below-apart}
-use Rattle.nef_near.proofs.Rays.{same-place_sym}
-use Rattle.nef_sphere.specs.Forms.{forms}
-use Rattle.nef_sphere.specs.Maps.{At, Svertex, Arc, arc_item, items, OnItem, Map, way_of, Shaped}
-use Rattle.nef_sphere.proofs.Arcs.{at-arc, Ends, ends-of}
-use Rattle.nef_sphere.proofs.Around.{Beside, same_way, other_way, beside}
-use Rattle.nef_sphere.proofs.Compare.{SameDirection-turned, SameDirection-trans, way-self}
-use Rattle.nef_sphere.proofs.Generic.{amount}
-use Rattle.nef_sphere.proofs.Lists.{at-one}
-use Rattle.nef_sphere.proofs.Shot.{way-at}
-use Rattle.nef_sphere.proofs.Vectors.{dot-comb}
-use Rattle.nef_solid.specs.Complexes.{Vertex, Edge, Complex, Corner, HasEnds, IsEdge}
-use Rattle.nef_solid.specs.Shows.{Shows}
-use Rattle.nef_solid.specs.Skeleton.{IsEdgePoint, PlaneMeet, meets_vertex, meets_edge, Meets, IsFirstInPlane, IsArcOnSide, IsCornerAt, RayNames}
-use Rattle.nef_solid.proofs.Edges.{edge-points}
-use Rattle.nef_solid.proofs.FacetArcs.{source-meets, target-meets}
-use Rattle.nef_solid.proofs.FacetEdges.{ahead-back}
-use Rattle.nef_solid.proofs.Ways.{between-way, same-itself}
+use Rattle.law_forms.specs.Homogeneous.{of_place}
+use Rattle.law_forms.proofs.Between.{toward-place, place-decided, between-same, place-factor, factor-place}
+use Rattle.law_forms.proofs.Sums.{same-trans}
+use Rattle.law_forms.proofs.Directions.{direction-left}
+use Rattle.law_near.proofs.Between.{between-turned, between-inner}
+use Rattle.law_near.proofs.Flats.{vector-same}
+use Rattle.law_near.proofs.PlaceOrder.{place_below-apart}
+use Rattle.law_near.proofs.Rays.{same-place_sym}
+use Rattle.law_sphere.specs.Forms.{forms}
+use Rattle.law_sphere.specs.Maps.{At, Svertex, Arc, arc_item, items, OnItem, Map, way_of, Shaped}
+use Rattle.law_sphere.proofs.Arcs.{at-arc, Ends, ends-of}
+use Rattle.law_sphere.proofs.Around.{Beside, same_way, other_way, beside}
+use Rattle.law_sphere.proofs.Compare.{SameDirection-turned, SameDirection-trans, way-self}
+use Rattle.law_sphere.proofs.Generic.{amount}
+use Rattle.law_sphere.proofs.Lists.{at-one}
+use Rattle.law_sphere.proofs.Shot.{way-at}
+use Rattle.law_sphere.proofs.Vectors.{dot-comb}
+use Rattle.law_complex.specs.Complexes.{Vertex, Edge, Complex, Corner, HasEnds, IsEdge}
+use Rattle.law_complex.specs.Shows.{Shows}
+use Rattle.law_complex.specs.Skeleton.{IsEdgePoint, PlaneMeet, meets_vertex, meets_edge, Meets, IsFirstInPlane, IsArcOnSide, IsCornerAt, RayNames}
+use Rattle.law_complex.proofs.Edges.{edge-points}
+use Rattle.law_complex.proofs.FacetArcs.{source-meets, target-meets}
+use Rattle.law_complex.proofs.FacetEdges.{ahead-back}
+use Rattle.law_complex.proofs.Ways.{between-way, same-itself}
 use Rattle.nef_complex.proofs.Lines.{on_line}
 use Rattle.nef_edges.proofs.Existing.{one-edge}
 use Rattle.nef_edges.proofs.Rays.{ahead-normal, normals-same, to_opposite}

@@ -3,18 +3,18 @@ use Rattle.std.proofs.Common.{◌≡◌, ℕ, List, [], map, refl, ap, sym, ◌�
 use Rattle.std.specs.List.{Contains}
 use Rattle.nef_space.specs.Place.{Form}
 use Rattle.nef_space.specs.Vectors.{Vector, opposite, plane_dir}
-use Rattle.nef_sphere.specs.Maps.{At, Item, arc_item, items, item_normal}
-use Rattle.nef_sphere.proofs.Arcs.{at-arc}
+use Rattle.law_sphere.specs.Maps.{At, Item, arc_item, items, item_normal}
+use Rattle.law_sphere.proofs.Arcs.{at-arc}
 use Rattle.nef_smap.proofs.Lists.{map-at, at-within}
 use Rattle.nef_smap.proofs.SideLists.{get-from_at}
-use Rattle.nef_solid.specs.Complexes.{Vertex, Complex, Corner, IsCorner}
-use Rattle.nef_solid.specs.Skeleton.{item_plane, PlaneMeet, meets_vertex, meets_edge, IsCornerAt}
+use Rattle.law_complex.specs.Complexes.{Vertex, Complex, Corner, IsCorner}
+use Rattle.law_complex.specs.Skeleton.{item_plane, PlaneMeet, meets_vertex, meets_edge, IsCornerAt}
 use Rattle.nef_sover.proofs.Places.{at-contains, contains-at}
 use Rattle.nef_complex.proofs.Reading.{got-at}
 use Rattle.nef_classes.specs.declared.table.Spot.{Spot}
 use Rattle.nef_classes.specs.declared.table.Tie.{Tie}
 use Rattle.nef_classes.specs.Tables.{IsSpotIn, AreTied, AreTiedWithin}
-use Rattle.nef_links.specs.Links.{LinkAlong, LinkAcross}
+use Rattle.law_links.specs.Links.{LinkAlong, LinkAcross}
 use Rattle.nef_parts.specs.Numbers.{count_items}
 use Rattle.nef_ties.specs.Ties.{spot_of, corner_at, edge_tie, IsTieAlong, IsTieAcross, Any, Adds}
 

@@ -7,20 +7,20 @@ use Rattle.nef_space.specs.Vectors.{Vector, opposite, IsAtMost, SameDirection, p
 use Rattle.nef_geo.specs.Shapes.{form_of, place_of}
 use Rattle.nef_geo.specs.Widths.{ray_limit, plane_dir_limit}
 use Rattle.nef_geo.specs.declared.plane.Plane.{Plane}
-use Rattle.nef_sphere.specs.Maps.{At, Item, items, item_normal, OnItem}
-use Rattle.nef_sphere.proofs.Lists.{at-one}
+use Rattle.law_sphere.specs.Maps.{At, Item, items, item_normal, OnItem}
+use Rattle.law_sphere.proofs.Lists.{at-one}
 use Rattle.nef_smap.proofs.ArcEnds.{at-map}
 use Rattle.nef_smap.specs.Maps.{map_of}
-use Rattle.nef_solid.specs.Complexes.{Vertex, Complex, Corner, IsCorner}
-use Rattle.nef_solid.specs.Shows.{Shows}
-use Rattle.nef_solid.specs.Skeleton.{PlaneMeet, IsFirstInPlane, IsCornerAt}
+use Rattle.law_complex.specs.Complexes.{Vertex, Complex, Corner, IsCorner}
+use Rattle.law_complex.specs.Shows.{Shows}
+use Rattle.law_complex.specs.Skeleton.{PlaneMeet, IsFirstInPlane, IsCornerAt}
 use Rattle.nef_complex.specs.declared.complex.Complex.{Complex as ProgramComplex}
 use Rattle.nef_complex.specs.declared.complex.Corner.{Corner as ProgramCorner}
 use Rattle.nef_complex.specs.declared.complex.Vertex.{Vertex as ProgramVertex}
 use Rattle.nef_complex.specs.Complexes.{complex_of, corner_of, vertex_of, ShowsSet}
 use Rattle.nef_classes.specs.declared.table.Spot.{Spot}
 use Rattle.nef_classes.specs.declared.table.Tie.{Tie}
-use Rattle.nef_links.specs.Links.{LinkAcross}
+use Rattle.law_links.specs.Links.{LinkAcross}
 use Rattle.nef_plane.specs.Meets.{HasNoSvertex, FromVertex}
 use Rattle.nef_locate.proofs.Marks.{image-within}
 use Rattle.nef_locate.proofs.SamePlanes.{level-kept, level-back}

@@ -6,14 +6,14 @@ use Rattle.nef_space.specs.Place.{Place, Form, form_at, normal_of}
 use Rattle.nef_space.specs.Vectors.{Vector, SameDirection, dot}
 use Rattle.nef_geo.specs.Shapes.{form_of}
 use Rattle.nef_geo.specs.declared.plane.Plane.{Plane}
-use Rattle.nef_sphere.specs.Maps.{At, Arc, Map, Item, items, item_normal, OnItem}
-use Rattle.nef_solid.specs.Complexes.{Vertex, Edge, Complex, Corner, HasEnds}
-use Rattle.nef_solid.specs.Skeleton.{RayNames}
+use Rattle.law_sphere.specs.Maps.{At, Arc, Map, Item, items, item_normal, OnItem}
+use Rattle.law_complex.specs.Complexes.{Vertex, Edge, Complex, Corner, HasEnds}
+use Rattle.law_complex.specs.Skeleton.{RayNames}
 use Rattle.nef_complex.specs.Complexes.{corner_of}
 use Rattle.nef_complex.specs.declared.complex.Corner.{Corner as ProgramCorner}
 use Rattle.nef_classes.specs.declared.table.Spot.{Spot}
 use Rattle.nef_classes.specs.declared.table.Tie.{Tie}
-use Rattle.nef_links.specs.Links.{LinkAcross}
+use Rattle.law_links.specs.Links.{LinkAcross}
 
 -- a corner's place in the table that has a row for each vertex and an element for each of its items
 abbrev pub spot_of : Corner → Spot

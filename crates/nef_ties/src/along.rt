@@ -2,10 +2,10 @@
 
 ghost use Rattle.std.specs.Prelude.{◌≡◌, map, ◌↔◌, IsTrue, IfOk, OnOk};
 ghost use Rattle.nef_space.specs.Sets.{Set};
-ghost use Rattle.nef_solid.specs.Complexes.{Corner};
+ghost use Rattle.law_complex.specs.Complexes.{Corner};
 ghost use Rattle.nef_smap.specs.Maps.{map_of, arc_of};
 ghost use Rattle.nef_complex.specs.Complexes.{complex_of, edge_of, ShowsSet};
-ghost use Rattle.nef_links.specs.Links.{LinkAlong};
+ghost use Rattle.law_links.specs.Links.{LinkAlong};
 ghost use Rattle.nef_parts.specs.Numbers.{count_items};
 ghost use Rattle.nef_classes.specs.Tables.{AreTiedWithin, AreTied};
 ghost use Rattle.nef_ties.specs.Ties.{spot_of, BeginAndEnd, AreArcsAlong, IsTieFromArc, IsTieOfEdge, Any, Adds};

@@ -6,14 +6,14 @@ use Rattle.nef_space.specs.declared.label.Label.{Label}
 use Rattle.nef_geo.specs.Shapes.{vector_of}
 use Rattle.nef_geo.specs.declared.dir.Dir.{Dir}
 use Rattle.nef_geo.proofs.Unique.{same_directions_equal}
-use Rattle.nef_sphere.specs.Maps.{Svertex, Arc, Loop, Map}
-use Rattle.nef_sphere.proofs.Compare.{way-self}
+use Rattle.law_sphere.specs.Maps.{Svertex, Arc, Loop, Map}
+use Rattle.law_sphere.proofs.Compare.{way-self}
 use Rattle.nef_smap.specs.Maps.{svertex_of, arc_of, loop_of, map_of}
 use Rattle.nef_smap.specs.declared.map.SVertex.{SVertex}
 use Rattle.nef_smap.specs.declared.map.SArc.{SArc}
 use Rattle.nef_smap.specs.declared.map.SLoop.{SLoop}
 use Rattle.nef_smap.specs.declared.map.SphereMap.{SphereMap}
-use Rattle.nef_solid.specs.Complexes.{Edge as PlainEdge}
+use Rattle.law_complex.specs.Complexes.{Edge as PlainEdge}
 use Rattle.nef_complex.specs.declared.complex.Vertex.{Vertex}
 use Rattle.nef_complex.specs.declared.complex.Edge.{Edge}
 use Rattle.nef_complex.specs.Complexes.{edge_of}

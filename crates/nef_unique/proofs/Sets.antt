@@ -5,19 +5,19 @@ use Rattle.nef_space.specs.Place.{Place, SamePlace}
 use Rattle.nef_space.specs.Sets.{Set}
 use Rattle.nef_space.specs.Vectors.{Vector, IsZero}
 use Rattle.nef_space.specs.declared.label.Label.{Label}
-use Rattle.nef_forms.proofs.Far.{nought-or}
-use Rattle.nef_near.specs.Cells.{carriers}
-use Rattle.nef_near.specs.Cones.{SameCone}
-use Rattle.nef_near.proofs.Alike.{germs-by_cell}
-use Rattle.nef_near.proofs.Decided.{Decided}
-use Rattle.nef_near.proofs.Determined.{same-set_of}
-use Rattle.nef_near.proofs.Germs.{Label-cells, label-one}
-use Rattle.nef_near.proofs.Rays.{Germ-zero, signs-same, same-place_sym}
-use Rattle.nef_sphere.specs.Least.{Cone}
-use Rattle.nef_sphere.specs.Maps.{At, Map}
-use Rattle.nef_solid.specs.Complexes.{Vertex, Complex}
-use Rattle.nef_solid.specs.Shows.{Shows}
-use Rattle.nef_solid.proofs.Cones.{label-germ, germ-label}
+use Rattle.law_forms.proofs.Far.{nought-or}
+use Rattle.law_near.specs.Cells.{carriers}
+use Rattle.law_near.specs.Cones.{SameCone}
+use Rattle.law_near.proofs.Alike.{germs-by_cell}
+use Rattle.law_near.proofs.Decided.{Decided}
+use Rattle.law_near.proofs.Determined.{same-set_of}
+use Rattle.law_near.proofs.Germs.{Label-cells, label-one}
+use Rattle.law_near.proofs.Rays.{Germ-zero, signs-same, same-place_sym}
+use Rattle.law_sphere.specs.Least.{Cone}
+use Rattle.law_sphere.specs.Maps.{At, Map}
+use Rattle.law_complex.specs.Complexes.{Vertex, Complex}
+use Rattle.law_complex.specs.Shows.{Shows}
+use Rattle.law_complex.proofs.Cones.{label-germ, germ-label}
 
 -- ---- one map that shows two sets
 label-carried : (M : Map) (s t : Set) (p : Place) → Cone M s p → Cone M t p → (l : Label) → HasLabel s p l → HasLabel t p l

@@ -4,18 +4,18 @@ use Rattle.std.proofs.lemmas.Int.{ints}
 use Rattle.nef_space.specs.Local.{SameSet}
 use Rattle.nef_space.specs.Place.{Place, SamePlace, IsPlaceBelow}
 use Rattle.nef_space.specs.Sets.{Set}
-use Rattle.nef_near.specs.Cones.{SameCone}
-use Rattle.nef_near.proofs.Alike.{cones-of_same, FlatDim-by_cone}
-use Rattle.nef_near.proofs.PlaceOrder.{place_below-trans, place_below-apart}
+use Rattle.law_near.specs.Cones.{SameCone}
+use Rattle.law_near.proofs.Alike.{cones-of_same, FlatDim-by_cone}
+use Rattle.law_near.proofs.PlaceOrder.{place_below-trans, place_below-apart}
 use Rattle.nef_geo.specs.Shapes.{place_of}
 use Rattle.nef_geo.specs.declared.point.Point.{Point}
 use Rattle.nef_geo.proofs.Unique.{same_places_equal}
-use Rattle.nef_sphere.specs.Least.{Cone, InOrder}
-use Rattle.nef_sphere.specs.Maps.{At, Map}
-use Rattle.nef_sphere.proofs.Equal.{same-lists, cone-unique}
+use Rattle.law_sphere.specs.Least.{Cone, InOrder}
+use Rattle.law_sphere.specs.Maps.{At, Map}
+use Rattle.law_sphere.proofs.Equal.{same-lists, cone-unique}
 use Rattle.nef_smap.specs.Maps.{map_of}
 use Rattle.nef_smap.proofs.Lists.{map-at, at-map}
-use Rattle.nef_solid.specs.Complexes.{Vertex as PlainVertex, Edge as PlainEdge, IsEdgeBelow, Edges}
+use Rattle.law_complex.specs.Complexes.{Vertex as PlainVertex, Edge as PlainEdge, IsEdgeBelow, Edges}
 use Rattle.nef_complex.specs.declared.complex.Vertex.{Vertex}
 use Rattle.nef_complex.specs.declared.complex.Complex.{Complex}
 use Rattle.nef_complex.specs.Complexes.{vertex_of, edge_of, ShowsSet}

@@ -4,11 +4,11 @@ use Rattle.nef_space.specs.Local.{SameSet}
 use Rattle.nef_space.specs.Sets.{Set}
 use Rattle.nef_space.specs.Vectors.{Vector, IsDirection}
 use Rattle.nef_space.specs.declared.label.Label.{Label}
-use Rattle.nef_sphere.specs.Maps.{MapLabel}
+use Rattle.law_sphere.specs.Maps.{MapLabel}
 use Rattle.nef_smap.specs.declared.map.SphereMap.{SphereMap}
 use Rattle.nef_smap.specs.Maps.{map_of, IsLeastMap}
-use Rattle.nef_solid.specs.Complexes.{Complex as PlainComplex}
-use Rattle.nef_solid.specs.Shows.{Shows}
+use Rattle.law_complex.specs.Complexes.{Complex as PlainComplex}
+use Rattle.law_complex.specs.Shows.{Shows}
 use Rattle.nef_complex.specs.declared.complex.Complex.{Complex}
 use Rattle.nef_complex.specs.Complexes.{ShowsSet}
 

@@ -3,14 +3,14 @@ use Rattle.std.proofs.Common.{◌≡◌, ℕ, List, [], ◌∷◌, map, arith, r
 use Rattle.nef_space.specs.Lists.{IsAt, Chained}
 use Rattle.nef_space.specs.declared.label.Label.{Label}
 use Rattle.nef_geo.specs.declared.plane.Plane.{Plane}
-use Rattle.nef_sphere.specs.Maps.{At, Item, items, item_above, item_below}
+use Rattle.law_sphere.specs.Maps.{At, Item, items, item_above, item_below}
 use Rattle.nef_smap.proofs.ClassLists.{is-at_one, is-at_within, is-at_some}
 use Rattle.nef_smap.proofs.SideLists.{at-from_get, at-some}
-use Rattle.nef_solid.specs.Complexes.{Vertex, Complex, Corner, IsCorner}
-use Rattle.nef_solid.specs.Rays.{VertexSide, HasSideLabel}
+use Rattle.law_complex.specs.Complexes.{Vertex, Complex, Corner, IsCorner}
+use Rattle.law_complex.specs.Rays.{VertexSide, HasSideLabel}
 use Rattle.nef_complex.specs.Complexes.{corner_of}
 use Rattle.nef_complex.specs.declared.complex.Corner.{Corner as ProgramCorner}
-use Rattle.nef_links.specs.Links.{VolumeLink}
+use Rattle.law_links.specs.Links.{VolumeLink}
 use Rattle.nef_parts.specs.Cycles.{IsCycle, Cycles}
 use Rattle.nef_parts.specs.Numbers.{IsFacetOf, IsVolumeOf, VolumeNumbers, above_of, below_of, IsFacetAt, cycle_corners, IsFacet, IsParts}
 use Rattle.nef_parts.specs.declared.parts.Cycle.{Cycle}

@@ -1,30 +1,30 @@
 -- The side above the point where a ray down ends is one, up to its sface.
 use Rattle.std.proofs.Common.{◌≡◌, ℕ, ◌+◌, pos, ◌⊎◌, inl, inr, [], ◌∷◌, arith, ap, sym, ◌∙◌, subst}
 use Rattle.std.proofs.lemmas.Int.{ints}
-use Rattle.nef_exact.proofs.Ring.{ring, at, num, ◌⊕◌, ◌⊖◌, ◌⊗◌}
+use Rattle.law_arithmetic.proofs.Ring.{ring, at, num, ◌⊕◌, ◌⊖◌, ◌⊗◌}
 use Rattle.nef_space.specs.Place.{Place, Form, form_at, normal_of, SamePlace, toward, IsBetween}
 use Rattle.nef_space.specs.Sets.{Set}
 use Rattle.nef_space.specs.Vectors.{Vector, IsDirection, SameDirection, dot, cross, opposite, blend, plane_axis, up}
 use Rattle.nef_space.specs.declared.label.Label.{Label}
-use Rattle.nef_near.proofs.Rays.{same-place_sym}
-use Rattle.nef_cones.proofs.Smooth.{parallel-by}
-use Rattle.nef_build.proofs.SideLabels.{normals-same_way}
-use Rattle.nef_forms.proofs.Between.{between-same}
-use Rattle.nef_sphere.specs.Maps.{At, item_normal, above_item, Side, way_of, HasSide, Sees, InOneSface, here, link}
-use Rattle.nef_sphere.proofs.Compare.{SameDirection-turned, SameDirection-trans}
-use Rattle.nef_sphere.proofs.Forms.{on-level}
-use Rattle.nef_sphere.proofs.Vectors.{normal-is}
-use Rattle.nef_sphere.proofs.Lists.{at-one}
-use Rattle.nef_solid.specs.Complexes.{Vertex, Edge, Complex, Corner}
-use Rattle.nef_solid.specs.Shows.{Shows}
-use Rattle.nef_solid.specs.Skeleton.{item_plane, IsVertexPoint, IsEdgePoint, Spot, at_vertex, on_edge, in_facet, IsSpot, HasCorner}
-use Rattle.nef_solid.specs.Rays.{VertexSide, HasSideLabel, SeesNear, IsAbove, RayDown}
-use Rattle.nef_solid.proofs.Ways.{same-itself}
-use Rattle.nef_solid.proofs.FacetPoints.{facet-point}
-use Rattle.nef_solid.proofs.FacetAngles.{through-at}
-use Rattle.nef_solid.proofs.FacetNames.{through-level, axis-in}
-use Rattle.nef_links.specs.Links.{LinkInSface}
-use Rattle.nef_links.proofs.Across.{through-same}
+use Rattle.law_near.proofs.Rays.{same-place_sym}
+use Rattle.law_cones.proofs.Smooth.{parallel-by}
+use Rattle.law_build.proofs.SideLabels.{normals-same_way}
+use Rattle.law_forms.proofs.Between.{between-same}
+use Rattle.law_sphere.specs.Maps.{At, item_normal, above_item, Side, way_of, HasSide, Sees, InOneSface, here, link}
+use Rattle.law_sphere.proofs.Compare.{SameDirection-turned, SameDirection-trans}
+use Rattle.law_sphere.proofs.Forms.{on-level}
+use Rattle.law_sphere.proofs.Vectors.{normal-is}
+use Rattle.law_sphere.proofs.Lists.{at-one}
+use Rattle.law_complex.specs.Complexes.{Vertex, Edge, Complex, Corner}
+use Rattle.law_complex.specs.Shows.{Shows}
+use Rattle.law_complex.specs.Skeleton.{item_plane, IsVertexPoint, IsEdgePoint, Spot, at_vertex, on_edge, in_facet, IsSpot, HasCorner}
+use Rattle.law_complex.specs.Rays.{VertexSide, HasSideLabel, SeesNear, IsAbove, RayDown}
+use Rattle.law_complex.proofs.Ways.{same-itself}
+use Rattle.law_complex.proofs.FacetPoints.{facet-point}
+use Rattle.law_complex.proofs.FacetAngles.{through-at}
+use Rattle.law_complex.proofs.FacetNames.{through-level, axis-in}
+use Rattle.law_links.specs.Links.{LinkInSface}
+use Rattle.law_links.proofs.Across.{through-same}
 use Rattle.nef_locate.proofs.EqualPoints.{same-place_trans, corner-same as corner-like}
 use Rattle.nef_locate.proofs.SamePlanes.{level-back, first-same, opposite-same, corner-same, axis-same}
 use Rattle.nef_ties.proofs.OneMeet.{ray-cases, one-vertex, one-edge_through, edge-inside, one-named}

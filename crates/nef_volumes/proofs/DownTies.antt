@@ -3,12 +3,12 @@ use Rattle.std.proofs.Common.{◌≡◌, ℕ, ◌+◌, ◌<◌, ◌⊎◌, inl, 
 use Rattle.std.specs.List.{Contains}
 use Rattle.std.proofs.lemmas.List.Elements.{Contains-append_left, Contains-push, Contains-push_cases}
 use Rattle.nef_smap.proofs.ClassLists.{less-or-last}
-use Rattle.nef_solid.specs.Complexes.{Complex}
-use Rattle.nef_solid.specs.Rays.{VertexSide}
+use Rattle.law_complex.specs.Complexes.{Complex}
+use Rattle.law_complex.specs.Rays.{VertexSide}
 use Rattle.nef_classes.specs.declared.table.Tie.{Tie}
 use Rattle.nef_complex.specs.Complexes.{complex_of}
 use Rattle.nef_complex.specs.declared.complex.Complex.{Complex as ProgramComplex}
-use Rattle.nef_links.specs.Links.{LinkDown}
+use Rattle.law_links.specs.Links.{LinkDown}
 use Rattle.nef_volumes.specs.Ties.{IsTieDown, AreTiesDown}
 
 -- the ties are down rays, and there is one for each of the first n vertices that has such a link

@@ -2,7 +2,7 @@
 use Rattle.std.proofs.Common.{◌≡◌, ℕ, ◌*◌, ◌<◌, ◌≤◌, pos, ◌<ℤ◌, nat_abs, ⊎_elim, [], ◌∷◌, length, Some, slice_get, arith, refl, ap, sym, ◌∙◌, subst}
 use Rattle.std.proofs.lemmas.Bool.{cases_lt}
 use Rattle.std.proofs.lemmas.Int.{ints}
-use Rattle.nef_exact.proofs.Ring.{ring, at, neg, ◌⊖◌, ◌⊗◌}
+use Rattle.law_arithmetic.proofs.Ring.{ring, at, neg, ◌⊖◌, ◌⊗◌}
 use Rattle.nef_space.specs.Limits.{half_side}
 use Rattle.nef_space.specs.Local.{FlatDim}
 use Rattle.nef_space.specs.Place.{Place, InClosedFrame, IsAhead}
@@ -11,11 +11,11 @@ use Rattle.nef_space.specs.Vectors.{Vector, IsZero, cross, dot, opposite, up}
 use Rattle.nef_space.specs.declared.label.Label.{Label}
 use Rattle.nef_space.specs.declared.label.Label.TheVariants.{Out}
 use Rattle.nef_geo.specs.Shapes.{place_of}
-use Rattle.nef_near.proofs.Alike.{FlatDim-one}
-use Rattle.nef_near.proofs.Frames.{flat_dim-outside}
-use Rattle.nef_sphere.specs.Maps.{At, arc_item, loop_item, Side, HasSide, Sees, here, link}
-use Rattle.nef_sphere.proofs.Arcs.{at-arc}
-use Rattle.nef_sphere.proofs.Forms.{on-level}
+use Rattle.law_near.proofs.Alike.{FlatDim-one}
+use Rattle.law_near.proofs.Frames.{flat_dim-outside}
+use Rattle.law_sphere.specs.Maps.{At, arc_item, loop_item, Side, HasSide, Sees, here, link}
+use Rattle.law_sphere.proofs.Arcs.{at-arc}
+use Rattle.law_sphere.proofs.Forms.{on-level}
 use Rattle.nef_smap.specs.declared.map.SphereMap.{SphereMap}
 use Rattle.nef_smap.specs.declared.map.SPlace.TheVariants as place
 use Rattle.nef_smap.specs.Maps.{map_of, IsSphereMap}
@@ -25,15 +25,15 @@ use Rattle.nef_smap.proofs.MapLists.{loop-listed}
 use Rattle.nef_smap.proofs.SideLists.{side-has}
 use Rattle.nef_smap.proofs.SideNumbers.{number-one}
 use Rattle.nef_smap.proofs.Upward.{map-ahead, map-across}
-use Rattle.nef_solid.specs.Complexes.{Vertex}
-use Rattle.nef_solid.specs.Skeleton.{Spot as SkeletonSpot, IsSpot, IsSkeletonPoint}
-use Rattle.nef_solid.specs.Rays.{VertexSide, HasSideLabel, IsAbove, RayDown}
+use Rattle.law_complex.specs.Complexes.{Vertex}
+use Rattle.law_complex.specs.Skeleton.{Spot as SkeletonSpot, IsSpot, IsSkeletonPoint}
+use Rattle.law_complex.specs.Rays.{VertexSide, HasSideLabel, IsAbove, RayDown}
 use Rattle.nef_complex.specs.Complexes.{vertex_of, complex_of, ShowsSet}
 use Rattle.nef_complex.specs.declared.complex.Complex.{Complex}
 use Rattle.nef_complex.specs.declared.complex.Vertex.{Vertex as ProgramVertex}
 use Rattle.nef_classes.specs.declared.table.Spot.{Spot}
-use Rattle.nef_links.specs.Links.{LinkDown}
-use Rattle.nef_links.proofs.EdgeEnds.{dot-opposite}
+use Rattle.law_links.specs.Links.{LinkDown}
+use Rattle.law_links.proofs.EdgeEnds.{dot-opposite}
 use Rattle.nef_locate.specs.declared.place.Place.{Place as ComplexPlace}
 use Rattle.nef_locate.specs.declared.place.Place.TheVariants as position
 use Rattle.nef_locate.specs.Places.{IsPlaceAt, IsFirstHit}

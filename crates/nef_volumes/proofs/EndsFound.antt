@@ -3,13 +3,13 @@ use Rattle.std.proofs.Common.{◌≡◌, ℕ, ◌<◌, length, map, Option, Some
 use Rattle.std.proofs.lemmas.List.{length-map}
 use Rattle.nef_space.specs.declared.label.Label.{Label}
 use Rattle.nef_space.specs.Sets.{Set}
-use Rattle.nef_sphere.specs.Maps.{At, Svertex}
-use Rattle.nef_sphere.proofs.Lists.{at-one}
+use Rattle.law_sphere.specs.Maps.{At, Svertex}
+use Rattle.law_sphere.proofs.Lists.{at-one}
 use Rattle.nef_smap.specs.declared.map.SVertex.{SVertex}
 use Rattle.nef_smap.specs.Maps.{svertex_of}
 use Rattle.nef_smap.proofs.Lists.{map-at, at-within}
 use Rattle.nef_smap.proofs.SideLists.{at-from_get}
-use Rattle.nef_solid.specs.Complexes.{Vertex, Edge}
+use Rattle.law_complex.specs.Complexes.{Vertex, Edge}
 use Rattle.nef_complex.specs.Complexes.{edge_of, complex_of, ShowsSet}
 use Rattle.nef_complex.specs.declared.complex.Complex.{Complex}
 use Rattle.nef_complex.specs.declared.complex.Edge.{Edge as ProgramEdge}

@@ -2,8 +2,8 @@
 use Rattle.std.proofs.Common.{refl}
 use Rattle.nef_complex.specs.Complexes.{complex_of}
 use Rattle.nef_complex.specs.declared.complex.Complex.{Complex}
-use Rattle.nef_links.proofs.ItemLinks.{items-joined}
-use Rattle.nef_links.proofs.SidesJoined.{sides-joined}
+use Rattle.law_links.proofs.ItemLinks.{items-joined}
+use Rattle.law_links.proofs.SidesJoined.{sides-joined}
 use Rattle.nef_parts.specs.Numbers.{IsParts}
 use Rattle.nef_parts.specs.declared.parts.Parts.{Parts}
 use Rattle.nef_volumes.specs.Joins.{FacetsJoined, VolumesJoined}

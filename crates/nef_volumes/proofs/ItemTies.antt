@@ -3,17 +3,17 @@ use Rattle.std.proofs.Common.{◌≡◌, ℕ, ◌⊎◌, inl, inr, List, [], map
 use Rattle.std.specs.List.{Contains}
 use Rattle.nef_space.specs.Lists.{IsAt}
 use Rattle.nef_space.specs.declared.label.Label.{Label}
-use Rattle.nef_sphere.specs.Maps.{At, Item, items, item_above, item_below, Side, around_svertex, above_item, below_item, HasSide}
-use Rattle.nef_sphere.proofs.Lists.{at-one}
+use Rattle.law_sphere.specs.Maps.{At, Item, items, item_above, item_below, Side, around_svertex, above_item, below_item, HasSide}
+use Rattle.law_sphere.proofs.Lists.{at-one}
 use Rattle.nef_smap.specs.SideNumbers.{number_of}
 use Rattle.nef_smap.proofs.Lists.{at-map}
 use Rattle.nef_smap.proofs.SideLists.{at-from_get, at-some}
-use Rattle.nef_solid.specs.Complexes.{Vertex, Edge, Complex, Corner}
-use Rattle.nef_solid.specs.Rays.{VertexSide, HasSideLabel}
+use Rattle.law_complex.specs.Complexes.{Vertex, Edge, Complex, Corner}
+use Rattle.law_complex.specs.Rays.{VertexSide, HasSideLabel}
 use Rattle.nef_classes.specs.Tables.{IsSpotIn, AreTied, AreTiedWithin}
 use Rattle.nef_classes.specs.declared.table.Spot.{Spot}
 use Rattle.nef_classes.specs.declared.table.Tie.{Tie}
-use Rattle.nef_links.specs.Links.{IsSideOf}
+use Rattle.law_links.specs.Links.{IsSideOf}
 use Rattle.nef_parts.specs.Numbers.{count_items}
 use Rattle.nef_ties.specs.Ties.{spot_of, corner_at, Adds, Any}
 use Rattle.nef_ties.proofs.Adding.{adds-both}

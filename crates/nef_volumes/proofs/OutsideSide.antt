@@ -1,8 +1,8 @@
 -- Some side of each of the program's complexes is outside: the one above a corner of the frame.
 use Rattle.std.proofs.Common.{◌≡◌, ℕ, ◌+◌, ◌*◌, ◌<◌, ℤ, pos, negsuc, neg_ℤ, ◌+ℤ◌, ◌*ℤ◌, ◌<ℤ◌, nat_abs, [], ◌∷◌, arith, refl, sym, subst}
 use Rattle.std.proofs.lemmas.Int.{ints}
-use Rattle.nef_exact.proofs.Order.{mul_pos, by_order, lt_by}
-use Rattle.nef_exact.proofs.Ring.{at, num, neg, ◌⊕◌, ◌⊖◌, ◌⊗◌}
+use Rattle.law_arithmetic.proofs.Order.{mul_pos, by_order, lt_by}
+use Rattle.law_arithmetic.proofs.Ring.{at, num, neg, ◌⊕◌, ◌⊖◌, ◌⊗◌}
 use Rattle.nef_space.specs.Limits.{half_side}
 use Rattle.nef_space.specs.Place.{Place, Ratio}
 use Rattle.nef_space.specs.Sets.{Set}
@@ -10,20 +10,20 @@ use Rattle.nef_space.specs.Local.{Germ, IsVertex}
 use Rattle.nef_space.specs.Vectors.{Vector, vector, up}
 use Rattle.nef_space.specs.declared.label.Label.TheVariants.{Out}
 use Rattle.nef_geo.proofs.InPlane.{up-direction}
-use Rattle.nef_near.specs.Cones.{slide, FlatCone}
-use Rattle.nef_near.proofs.Flats.{FlatCone-from_flat}
-use Rattle.nef_near.proofs.Rays.{Germ-same, same-place_sym}
-use Rattle.nef_sphere.specs.Maps.{At, MapLabel, at_svertex, on_item, seen, SeenAs}
-use Rattle.nef_sphere.proofs.Compare.{way-self}
-use Rattle.nef_sphere.proofs.Forms.{on-level}
+use Rattle.law_near.specs.Cones.{slide, FlatCone}
+use Rattle.law_near.proofs.Flats.{FlatCone-from_flat}
+use Rattle.law_near.proofs.Rays.{Germ-same, same-place_sym}
+use Rattle.law_sphere.specs.Maps.{At, MapLabel, at_svertex, on_item, seen, SeenAs}
+use Rattle.law_sphere.proofs.Compare.{way-self}
+use Rattle.law_sphere.proofs.Forms.{on-level}
 use Rattle.nef_smap.specs.declared.map.SphereMap.{SphereMap}
 use Rattle.nef_smap.specs.Maps.{map_of, IsSphereMap}
 use Rattle.nef_smap.proofs.Lists.{at-map}
 use Rattle.nef_smap.proofs.SideLists.{get-from_at}
 use Rattle.nef_smap.proofs.Upward.{map-ahead}
-use Rattle.nef_solid.specs.Complexes.{Vertex}
-use Rattle.nef_solid.specs.Rays.{VertexSide, HasSideLabel}
-use Rattle.nef_solid.proofs.Cones.{germ-label}
+use Rattle.law_complex.specs.Complexes.{Vertex}
+use Rattle.law_complex.specs.Rays.{VertexSide, HasSideLabel}
+use Rattle.law_complex.proofs.Cones.{germ-label}
 use Rattle.nef_complex.specs.Complexes.{vertex_of, complex_of, ShowsSet}
 use Rattle.nef_complex.specs.declared.complex.Complex.{Complex}
 use Rattle.nef_locate.proofs.UpwardSides.{no-svertex}

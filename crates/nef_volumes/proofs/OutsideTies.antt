@@ -3,7 +3,7 @@ use Rattle.std.proofs.Common.{◌≡◌, ℕ, ◌<◌, inl, inr, ⊎_elim, List,
 use Rattle.std.specs.List.{Contains}
 use Rattle.nef_space.specs.Lists.{Chained}
 use Rattle.nef_space.specs.declared.label.Label.TheVariants.{Out}
-use Rattle.nef_sphere.specs.Maps.{Side}
+use Rattle.law_sphere.specs.Maps.{Side}
 use Rattle.nef_smap.specs.Maps.{map_of}
 use Rattle.nef_smap.specs.Sides.{sides_of, IsSide}
 use Rattle.nef_smap.proofs.ClassLists.{is-at_within}
@@ -11,17 +11,17 @@ use Rattle.nef_smap.specs.SideNumbers.{number_of}
 use Rattle.nef_smap.proofs.SideLists.{side-has}
 use Rattle.nef_smap.proofs.SideNumbers.{side-number, number-one}
 use Rattle.nef_smap.proofs.Chains.{chain-trans, chain-turned}
-use Rattle.nef_solid.specs.Complexes.{Vertex, Complex}
+use Rattle.law_complex.specs.Complexes.{Vertex, Complex}
 use Rattle.nef_complex.specs.Complexes.{vertex_of, complex_of}
 use Rattle.nef_complex.specs.declared.complex.Complex.{Complex as ProgramComplex}
 use Rattle.nef_complex.specs.declared.complex.Vertex.{Vertex as ProgramVertex}
 use Rattle.nef_ties.proofs.Adding.{adds-one, adds-none}
 use Rattle.nef_volumes.proofs.ReadVertex.{vertex-there, vertex-read}
-use Rattle.nef_solid.specs.Rays.{VertexSide, HasSideLabel}
+use Rattle.law_complex.specs.Rays.{VertexSide, HasSideLabel}
 use Rattle.nef_classes.specs.Tables.{AreTied}
 use Rattle.nef_classes.specs.declared.table.Spot.{Spot}
 use Rattle.nef_classes.specs.declared.table.Tie.{Tie}
-use Rattle.nef_links.specs.Links.{LinkOutside}
+use Rattle.law_links.specs.Links.{LinkOutside}
 use Rattle.nef_ties.specs.Ties.{Adds, Any}
 use Rattle.nef_volumes.specs.Ties.{outside_spot, side_spot, IsSpotOf, IsEndOf, AreTiedSides, AreTiesOf, AreTiedOutside, IsTieOutside}
 use Rattle.nef_volumes.proofs.SideSpots.{tie-chain, spot-is, spot-numbered}

@@ -1,11 +1,11 @@
 -- The program's vertices and edges as those of its complex.
 use Rattle.std.proofs.Common.{◌≡◌, ℕ, ◌<◌, length, Some, slice_get, arith}
 use Rattle.std.proofs.lemmas.List.{length-map}
-use Rattle.nef_sphere.specs.Maps.{At}
-use Rattle.nef_sphere.proofs.Lists.{at-one}
+use Rattle.law_sphere.specs.Maps.{At}
+use Rattle.law_sphere.proofs.Lists.{at-one}
 use Rattle.nef_smap.proofs.Lists.{map-at, at-within}
 use Rattle.nef_smap.proofs.SideLists.{at-from_get}
-use Rattle.nef_solid.specs.Complexes.{Vertex, Edge}
+use Rattle.law_complex.specs.Complexes.{Vertex, Edge}
 use Rattle.nef_complex.specs.Complexes.{vertex_of, edge_of, complex_of}
 use Rattle.nef_complex.specs.declared.complex.Complex.{Complex}
 use Rattle.nef_complex.specs.declared.complex.Edge.{Edge as ProgramEdge}

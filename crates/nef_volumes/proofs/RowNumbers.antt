@@ -12,14 +12,14 @@ use Rattle.nef_smap.proofs.Lists.{map-at}
 use Rattle.nef_smap.proofs.SideLists.{side-has, at-from_get, get-from_at}
 use Rattle.nef_smap.proofs.SideNumbers.{number-one}
 use Rattle.nef_smap.proofs.ClassLists.{is-at_within, is-at_some}
-use Rattle.nef_solid.specs.Complexes.{Complex}
-use Rattle.nef_solid.specs.Shows.{Shows}
-use Rattle.nef_solid.specs.Rays.{VertexSide, HasSideLabel}
+use Rattle.law_complex.specs.Complexes.{Complex}
+use Rattle.law_complex.specs.Shows.{Shows}
+use Rattle.law_complex.specs.Rays.{VertexSide, HasSideLabel}
 use Rattle.nef_classes.specs.Tables.{AreTied, IsSpotBelow, HasCounts, IsSpotNumber, AreNumbers}
 use Rattle.nef_classes.specs.declared.table.Spot.{Spot}
 use Rattle.nef_classes.specs.declared.table.Tie.{Tie}
-use Rattle.nef_links.specs.Links.{VolumeLink}
-use Rattle.nef_links.specs.Components.{IsUpright}
+use Rattle.law_links.specs.Links.{VolumeLink}
+use Rattle.law_links.specs.Components.{IsUpright}
 use Rattle.nef_parts.specs.Numbers.{HasRows, count_sides, IsSideNumber, IsVolumeOf, IsSideBelow, VolumeNumbers}
 use Rattle.nef_volumes.specs.Ties.{outside_spot, side_spot, row_counts, IsSpotOf, IsEndOf, AreTiesOf, AreTiedOutside}
 use Rattle.nef_volumes.proofs.SideSpots.{contains-at, one-spot, not-outside, ends-linked, ties-chains}

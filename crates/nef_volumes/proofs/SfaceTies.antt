@@ -8,7 +8,7 @@ use Rattle.std.specs.List.{Contains}
 use Rattle.nef_space.specs.Lists.{IsAt, IsChain, Chained}
 use Rattle.nef_space.specs.Vectors.{Vector}
 use Rattle.nef_space.specs.declared.label.Label.{Label}
-use Rattle.nef_sphere.specs.Maps.{At, Map, Side, HasSide, Sees, InOneSface, here, link}
+use Rattle.law_sphere.specs.Maps.{At, Map, Side, HasSide, Sees, InOneSface, here, link}
 use Rattle.nef_smap.specs.Sides.{LabelledSide, sides_of, IsSide, SideSees, SeeOneWay, AreSfaces}
 use Rattle.nef_smap.specs.Maps.{map_of}
 use Rattle.nef_smap.specs.SideNumbers.{number_of}
@@ -16,13 +16,13 @@ use Rattle.nef_smap.proofs.SideLists.{side-has}
 use Rattle.nef_smap.proofs.SideNumbers.{side-number, number-one}
 use Rattle.nef_smap.proofs.ClassLists.{is-at_one, is-at_within, is-at_some, is-at_take, less-or-last}
 use Rattle.nef_smap.proofs.Chains.{chain-here, chain-link, chain-trans, chain-turned}
-use Rattle.nef_solid.specs.Complexes.{Vertex, Complex}
-use Rattle.nef_solid.specs.Rays.{VertexSide}
+use Rattle.law_complex.specs.Complexes.{Vertex, Complex}
+use Rattle.law_complex.specs.Rays.{VertexSide}
 use Rattle.nef_classes.proofs.Cutting.{take-at}
 use Rattle.nef_classes.specs.Tables.{AreTied}
 use Rattle.nef_classes.specs.declared.table.Spot.{Spot}
 use Rattle.nef_classes.specs.declared.table.Tie.{Tie}
-use Rattle.nef_links.specs.Links.{LinkInSface}
+use Rattle.law_links.specs.Links.{LinkInSface}
 use Rattle.nef_ties.specs.Ties.{Adds, Any}
 use Rattle.nef_volumes.specs.Ties.{side_spot, IsSpotOf, IsEndOf, AreTiedSides, AreTiesOf}
 use Rattle.nef_volumes.specs.Ties.{tie_within, IsFirstPlace, IsTieNumbered, AreInOneSface, IsTieInSface, AddsInSfaces}

@@ -6,26 +6,26 @@ use Rattle.nef_space.specs.Place.{Place}
 use Rattle.nef_space.specs.Sets.{Set}
 use Rattle.nef_space.specs.Vectors.{zero_vector}
 use Rattle.nef_space.specs.declared.label.Label.{Label}
-use Rattle.nef_near.proofs.Decisions.{ahead, near-ahead}
-use Rattle.nef_near.proofs.Germs.{label-one}
-use Rattle.nef_near.proofs.Rays.{Germ-zero}
-use Rattle.nef_near.proofs.Topology.{near-germ_zero}
-use Rattle.nef_near.proofs.Even.{joined-germs, labels-by_germs}
-use Rattle.nef_sphere.specs.Maps.{At, item_normal, seen}
+use Rattle.law_near.proofs.Decisions.{ahead, near-ahead}
+use Rattle.law_near.proofs.Germs.{label-one}
+use Rattle.law_near.proofs.Rays.{Germ-zero}
+use Rattle.law_near.proofs.Topology.{near-germ_zero}
+use Rattle.law_near.proofs.Even.{joined-germs, labels-by_germs}
+use Rattle.law_sphere.specs.Maps.{At, item_normal, seen}
 use Rattle.nef_smap.specs.Maps.{IsSmall}
 use Rattle.nef_smap.proofs.Lists.{at-map}
 use Rattle.nef_smap.proofs.SideLists.{get-from_at}
-use Rattle.nef_solid.proofs.Cones.{label-germ}
-use Rattle.nef_solid.specs.Complexes.{Vertex, Complex}
-use Rattle.nef_solid.specs.Shows.{Shows}
-use Rattle.nef_solid.specs.Rays.{VertexSide, HasSideLabel}
+use Rattle.law_complex.proofs.Cones.{label-germ}
+use Rattle.law_complex.specs.Complexes.{Vertex, Complex}
+use Rattle.law_complex.specs.Shows.{Shows}
+use Rattle.law_complex.specs.Rays.{VertexSide, HasSideLabel}
 use Rattle.nef_complex.specs.Complexes.{vertex_of, complex_of, ShowsSet}
 use Rattle.nef_complex.specs.declared.complex.Complex.{Complex as ProgramComplex}
-use Rattle.nef_links.specs.Links.{VolumeLink}
-use Rattle.nef_links.specs.Components.{IsAtSide, IsUpright}
-use Rattle.nef_links.proofs.SideSight.{side-sees}
-use Rattle.nef_links.proofs.SidePoints.{at-side}
-use Rattle.nef_links.proofs.SidesJoined.{sides-joined}
+use Rattle.law_links.specs.Links.{VolumeLink}
+use Rattle.law_links.specs.Components.{IsAtSide, IsUpright}
+use Rattle.law_links.proofs.SideSight.{side-sees}
+use Rattle.law_links.proofs.SidePoints.{at-side}
+use Rattle.law_links.proofs.SidesJoined.{sides-joined}
 use Rattle.nef_locate.proofs.Upward.{up-above}
 
 -- the upward direction is above each item of the program's complexes

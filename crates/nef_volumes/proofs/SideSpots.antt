@@ -4,8 +4,8 @@ use Rattle.std.specs.List.{Contains}
 use Rattle.std.proofs.lemmas.List.Elements.{Contains-append_cases}
 use Rattle.nef_space.specs.Lists.{IsAt, Chained}
 use Rattle.nef_space.specs.declared.label.Label.{Label}
-use Rattle.nef_sphere.specs.Maps.{At, Side, HasSide}
-use Rattle.nef_sphere.proofs.Lists.{at-one}
+use Rattle.law_sphere.specs.Maps.{At, Side, HasSide}
+use Rattle.law_sphere.proofs.Lists.{at-one}
 use Rattle.nef_smap.specs.Sides.{LabelledSide, sides_of, IsSide}
 use Rattle.nef_smap.specs.SideNumbers.{number_of}
 use Rattle.nef_smap.proofs.Lists.{map-at}
@@ -13,12 +13,12 @@ use Rattle.nef_smap.proofs.SideLists.{get-from_at}
 use Rattle.nef_smap.proofs.SideNumbers.{side-number}
 use Rattle.nef_smap.proofs.ClassLists.{is-at_one, is-at_within, is-at_get, is-at_is}
 use Rattle.nef_smap.proofs.Chains.{chain-here, chain-link, chain-map}
-use Rattle.nef_solid.specs.Complexes.{Vertex, Complex}
-use Rattle.nef_solid.specs.Rays.{VertexSide}
+use Rattle.law_complex.specs.Complexes.{Vertex, Complex}
+use Rattle.law_complex.specs.Rays.{VertexSide}
 use Rattle.nef_classes.specs.Tables.{IsSpotIn, AreTied, AreTiedWithin}
 use Rattle.nef_classes.specs.declared.table.Spot.{Spot}
 use Rattle.nef_classes.specs.declared.table.Tie.{Tie}
-use Rattle.nef_links.specs.Links.{VolumeLink}
+use Rattle.law_links.specs.Links.{VolumeLink}
 use Rattle.nef_parts.specs.Numbers.{count_sides}
 use Rattle.nef_volumes.specs.Ties.{outside_spot, side_spot, row_counts, IsSpotOf, IsEndOf, AreLinks, AreTiedSides, AreTiesOf}
 use Rattle.nef_volumes.proofs.Agree.{chains-agree}

@@ -7,16 +7,16 @@ use Rattle.nef_space.specs.Numbers.{IsBelow}
 use Rattle.nef_space.specs.Sets.{Set}
 use Rattle.nef_space.specs.declared.label.Label.{Label}
 use Rattle.nef_space.specs.declared.label.Label.TheVariants.{Out}
-use Rattle.nef_sphere.specs.Maps.{At, Map, Side}
-use Rattle.nef_sphere.proofs.Lists.{at-one}
+use Rattle.law_sphere.specs.Maps.{At, Map, Side}
+use Rattle.law_sphere.proofs.Lists.{at-one}
 use Rattle.nef_smap.specs.Sides.{sides_of, IsSide}
 use Rattle.nef_smap.specs.SideNumbers.{number_of}
 use Rattle.nef_smap.proofs.Lists.{at-within}
 use Rattle.nef_smap.proofs.SideLists.{side-has}
 use Rattle.nef_smap.proofs.SideNumbers.{side-number, number-one as number-is}
 use Rattle.nef_smap.proofs.ClassLists.{is-at_one, is-at_within, is-at_some, is-at_left, is-at_last, less-or-last}
-use Rattle.nef_solid.specs.Complexes.{Vertex, Complex}
-use Rattle.nef_solid.specs.Rays.{VertexSide, HasSideLabel}
+use Rattle.law_complex.specs.Complexes.{Vertex, Complex}
+use Rattle.law_complex.specs.Rays.{VertexSide, HasSideLabel}
 use Rattle.nef_complex.specs.Complexes.{complex_of, ShowsSet}
 use Rattle.nef_complex.specs.declared.complex.Complex.{Complex as ProgramComplex}
 use Rattle.nef_parts.specs.Numbers.{IsSideNumber, IsVolumeOf, VolumeNumbers}

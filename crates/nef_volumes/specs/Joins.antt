@@ -3,11 +3,11 @@ use Rattle.std.specs.Prelude.{ℕ}
 use Rattle.nef_space.specs.Local.{Joined}
 use Rattle.nef_space.specs.Place.{Place}
 use Rattle.nef_space.specs.Sets.{Set}
-use Rattle.nef_solid.specs.Complexes.{Corner}
-use Rattle.nef_solid.specs.Rays.{VertexSide}
+use Rattle.law_complex.specs.Complexes.{Corner}
+use Rattle.law_complex.specs.Rays.{VertexSide}
 use Rattle.nef_complex.specs.Complexes.{complex_of, ShowsSet}
 use Rattle.nef_complex.specs.declared.complex.Complex.{Complex}
-use Rattle.nef_links.specs.Components.{IsAtItem, IsAtSide}
+use Rattle.law_links.specs.Components.{IsAtItem, IsAtSide}
 use Rattle.nef_parts.specs.Numbers.{IsFacetOf, IsVolumeOf}
 use Rattle.nef_parts.specs.declared.parts.Parts.{Parts}
 

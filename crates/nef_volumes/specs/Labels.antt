@@ -3,10 +3,10 @@ use Rattle.std.specs.Prelude.{◌≡◌, ℕ, ◌<◌, ◌≤◌, List, length}
 use Rattle.nef_space.specs.Lists.{IsAt, IsInTable}
 use Rattle.nef_space.specs.declared.label.Label.{Label}
 use Rattle.nef_space.specs.declared.label.Label.TheVariants.{Out}
-use Rattle.nef_sphere.specs.Maps.{Map, Side}
+use Rattle.law_sphere.specs.Maps.{Map, Side}
 use Rattle.nef_smap.specs.Sides.{IsSide}
-use Rattle.nef_solid.specs.Complexes.{Complex}
-use Rattle.nef_solid.specs.Rays.{VertexSide, HasSideLabel}
+use Rattle.law_complex.specs.Complexes.{Complex}
+use Rattle.law_complex.specs.Rays.{VertexSide, HasSideLabel}
 use Rattle.nef_parts.specs.Numbers.{IsVolumeOf}
 
 -- before each number of the row, those that are smaller, from low on, have appeared in it

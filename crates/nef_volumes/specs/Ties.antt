@@ -4,16 +4,16 @@ use Rattle.std.specs.List.{Contains}
 use Rattle.nef_space.specs.Lists.{IsAt, Chained}
 use Rattle.nef_space.specs.declared.label.Label.{Label}
 use Rattle.nef_space.specs.declared.label.Label.TheVariants.{Out}
-use Rattle.nef_sphere.specs.Maps.{At, Svertex, Side, around_svertex, above_item, below_item, HasSide}
+use Rattle.law_sphere.specs.Maps.{At, Svertex, Side, around_svertex, above_item, below_item, HasSide}
 use Rattle.nef_smap.specs.Sides.{sides_of, IsSide, SeeOneWay}
 use Rattle.nef_smap.specs.SideNumbers.{number_of}
-use Rattle.nef_solid.specs.Complexes.{Vertex, Edge, Complex, Corner}
-use Rattle.nef_solid.specs.Rays.{VertexSide, HasSideLabel, RayDown}
+use Rattle.law_complex.specs.Complexes.{Vertex, Edge, Complex, Corner}
+use Rattle.law_complex.specs.Rays.{VertexSide, HasSideLabel, RayDown}
 use Rattle.nef_classes.specs.Tables.{AreTied}
 use Rattle.nef_ties.specs.Ties.{spot_of}
 use Rattle.nef_classes.specs.declared.table.Spot.{Spot}
 use Rattle.nef_classes.specs.declared.table.Tie.{Tie}
-use Rattle.nef_links.specs.Links.{IsSideOf, LinkAlong, LinkAcross, LinkDown}
+use Rattle.law_links.specs.Links.{IsSideOf, LinkAlong, LinkAcross, LinkDown}
 use Rattle.nef_parts.specs.Numbers.{count_sides}
 
 -- something with P was found, or nothing has P

@@ -6,7 +6,7 @@ ghost use Rattle.nef_space.specs.Sets.{Set};
 ghost use Rattle.nef_space.specs.Vectors.{opposite, up};
 ghost use Rattle.nef_smap.specs.Maps.{map_of, IsSphereMap};
 ghost use Rattle.nef_smap.specs.Sides.{SideSees};
-ghost use Rattle.nef_solid.specs.Rays.{VertexSide};
+ghost use Rattle.law_complex.specs.Rays.{VertexSide};
 ghost use Rattle.nef_complex.specs.Complexes.{complex_of, ShowsSet};
 ghost use Rattle.nef_volumes.specs.Ties.{IsBelow, IsSpotBelow, HasNoLinkDown, IsTieDown, AreTiesDown};
 

@@ -2,7 +2,7 @@
 
 ghost use Rattle.std.specs.Prelude.{IfOk};
 ghost use Rattle.nef_space.specs.Sets.{Set};
-ghost use Rattle.nef_links.specs.Links.{VolumeLink};
+ghost use Rattle.law_links.specs.Links.{VolumeLink};
 ghost use Rattle.nef_complex.specs.Complexes.{complex_of, ShowsSet};
 ghost use Rattle.nef_volumes.specs.Ties.{AreTiesOf, AreItemTies, AreTiedOutside};
 

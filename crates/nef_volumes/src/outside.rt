@@ -2,11 +2,11 @@
 
 ghost use Rattle.std.specs.Prelude.{◌<◌, length, ◌↔◌, IsTrue, IfOk, OnOk};
 ghost use Rattle.nef_space.specs.declared.label.Label.TheVariants.{Out};
-ghost use Rattle.nef_sphere.specs.Maps.{Side};
+ghost use Rattle.law_sphere.specs.Maps.{Side};
 ghost use Rattle.nef_smap.specs.Maps.{map_of};
 ghost use Rattle.nef_smap.specs.Sides.{IsSide, sides_of};
 ghost use Rattle.nef_complex.specs.Complexes.{complex_of};
-ghost use Rattle.nef_links.specs.Links.{LinkOutside};
+ghost use Rattle.law_links.specs.Links.{LinkOutside};
 ghost use Rattle.nef_ties.specs.Ties.{Adds, Any};
 ghost use Rattle.nef_volumes.specs.Ties.{AreTiesOf, AreTiedOutside, IsTieOutside};
 

@@ -4,7 +4,7 @@ ghost use Rattle.std.specs.Prelude.{◌<◌, ℕ, length, IfOk, OnOk, MatchOptio
 ghost use Rattle.nef_space.specs.Lists.{IsAt};
 ghost use Rattle.nef_space.specs.Sets.{Set};
 ghost use Rattle.nef_complex.specs.Complexes.{complex_of, ShowsSet};
-ghost use Rattle.nef_links.specs.Links.{LinkInSface};
+ghost use Rattle.law_links.specs.Links.{LinkInSface};
 ghost use Rattle.nef_ties.specs.Ties.{Adds, Any};
 ghost use Rattle.nef_volumes.specs.Ties.{AreTiesOf, IsFirstPlace, IsTieNumbered, AddsInSfaces};
 

@@ -2,7 +2,7 @@ use Rattle.std.proofs.Common.{◌≡◌, ◌<◌, ◌≤◌, List, length, get_o
 use Rattle.nef_space.specs.Place.{Place, SamePlace}
 use Rattle.nef_geo.specs.Shapes.{place_of}
 use Rattle.nef_complex.specs.declared.complex.Vertex.{Vertex}
-use Rattle.nef_solid.proofs.Ways.{same-itself}
+use Rattle.law_complex.proofs.Ways.{same-itself}
 use Rattle.nef_cand.specs.Points.{Adds}
 use Rattle.nef_cand.proofs.Adding.{any-more, any-all, adds-one}
 use Rattle.nef_cand.proofs.Held.{vertices-all}

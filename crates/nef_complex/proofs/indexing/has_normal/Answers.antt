@@ -3,9 +3,9 @@ use Rattle.nef_arc.proofs.SignNumbers.{not_true}
 use Rattle.nef_geo.specs.Shapes.{vector_of}
 use Rattle.nef_smap.specs.Maps.{map_of}
 use Rattle.nef_space.specs.Vectors.{SameDirection}
-use Rattle.nef_sphere.specs.Maps.{At, Item, arc_item, loop_item, items, item_normal}
-use Rattle.nef_sphere.proofs.Arcs.{loop-at, at-loop, at-arc}
-use Rattle.nef_sphere.proofs.Shot.{arc-at}
+use Rattle.law_sphere.specs.Maps.{At, Item, arc_item, loop_item, items, item_normal}
+use Rattle.law_sphere.proofs.Arcs.{loop-at, at-loop, at-arc}
+use Rattle.law_sphere.proofs.Shot.{arc-at}
 use Rattle.nef_complex.proofs.indexing.has_normal.Goals as goal
 
 pub returns-then-has_arc : goal.returns-then-has_arc

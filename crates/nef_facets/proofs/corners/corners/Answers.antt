@@ -1,5 +1,5 @@
 use Rattle.std.proofs.Common.{List, length, ◌+◌, arith, ap, sym, subst}
-use Rattle.nef_sphere.specs.Maps.{At}
+use Rattle.law_sphere.specs.Maps.{At}
 use Rattle.nef_smap.proofs.Found.{read}
 use Rattle.nef_edges.proofs.Places.{some-at, at-map, map-at, at-within}
 use Rattle.nef_complex.specs.declared.complex.Corner.{Corner}

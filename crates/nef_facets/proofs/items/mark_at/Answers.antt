@@ -1,6 +1,6 @@
 use Rattle.std.proofs.Common.{arith, refl, is_some, ap}
 use mir.Val.{bool_byte}
-use Rattle.nef_sphere.specs.Maps.{arc_item, loop_item}
+use Rattle.law_sphere.specs.Maps.{arc_item, loop_item}
 use Rattle.nef_smap.specs.Maps.{arc_of, loop_of}
 use Rattle.nef_smap.proofs.MapLists.{length-items, item-arc, item-loop}
 use Rattle.nef_facets.proofs.items.mark_at.Goals as goal

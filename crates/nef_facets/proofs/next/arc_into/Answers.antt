@@ -2,7 +2,7 @@ use Rattle.std.proofs.Common.{◌≡◌, length, arith, ap, sym, ◌∙◌}
 use Rattle.nef_arc.proofs.SignNumbers.{not_true}
 use Rattle.nef_space.specs.Vectors.{SameDirection}
 use Rattle.nef_geo.specs.Shapes.{vector_of}
-use Rattle.nef_sphere.specs.Maps.{Arc}
+use Rattle.law_sphere.specs.Maps.{Arc}
 use Rattle.nef_smap.specs.Maps.{arc_of}
 use Rattle.nef_smap.proofs.Found.{read, next-none, all-none}
 use Rattle.nef_edges.proofs.Places.{some-at, at-map}

@@ -1,7 +1,7 @@
 use Rattle.std.proofs.Common.{◌≡◌, ℕ, ◌<◌, List, length, get_or, arith, refl, ap, inl, inr, subst}
 use Rattle.nef_space.specs.Lists.{IsAt}
 use Rattle.nef_space.specs.declared.label.Label.TheVariants.{Out}
-use Rattle.nef_sphere.specs.Maps.{At}
+use Rattle.law_sphere.specs.Maps.{At}
 use Rattle.nef_smap.proofs.ClassLists.{is-at_get}
 use Rattle.nef_edges.proofs.Places.{some-at, at-map, map-at, at-within}
 use Rattle.nef_complex.specs.declared.complex.Edge.{Edge}

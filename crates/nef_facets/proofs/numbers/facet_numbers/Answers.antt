@@ -1,8 +1,8 @@
 use Rattle.std.proofs.Common.{◌≡◌, ℕ, List, map, sym, ◌∙◌, subst, ◌↔◌}
 use Rattle.std.specs.Prelude.{IfOk}
-use Rattle.nef_solid.specs.Complexes.{Corner}
+use Rattle.law_complex.specs.Complexes.{Corner}
 use Rattle.nef_complex.specs.Complexes.{complex_of}
-use Rattle.nef_links.specs.Links.{FacetLink}
+use Rattle.law_links.specs.Links.{FacetLink}
 use Rattle.nef_parts.specs.Numbers.{count_items}
 use Rattle.nef_classes.specs.declared.table.Tie.{Tie}
 use Rattle.nef_classes.specs.Tables.{AreTied, AreTiedWithin, HasCounts}

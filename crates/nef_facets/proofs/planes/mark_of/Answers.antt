@@ -1,5 +1,5 @@
 use Rattle.std.proofs.Common.{◌≡◌, sym}
-use Rattle.nef_sphere.specs.Maps.{item_mark}
+use Rattle.law_sphere.specs.Maps.{item_mark}
 use Rattle.nef_edges.proofs.Places.{some-at}
 use Rattle.nef_complex.specs.Complexes.{corner_of}
 use Rattle.nef_facets.proofs.CornerLists.{vertex-within, item-within, of-item}

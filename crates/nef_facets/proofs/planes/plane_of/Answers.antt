@@ -3,7 +3,7 @@ use Rattle.nef_arc.proofs.SignNumbers.{not_true}
 use Rattle.nef_space.specs.Place.{form_at, normal_of}
 use Rattle.nef_space.specs.Vectors.{Vector, SameDirection}
 use Rattle.nef_geo.specs.Shapes.{form_of, place_of, vector_of}
-use Rattle.nef_sphere.specs.Maps.{item_normal}
+use Rattle.law_sphere.specs.Maps.{item_normal}
 use Rattle.nef_smap.proofs.Found.{read, next-none, all-none}
 use Rattle.nef_edges.proofs.Places.{some-at}
 use Rattle.nef_complex.specs.Complexes.{corner_of}

@@ -1,7 +1,7 @@
 use Rattle.std.proofs.Common.{ℕ, ◌<◌, map}
 use Rattle.nef_space.specs.Place.{Form}
 use Rattle.nef_geo.specs.Shapes.{form_of, place_of, vector_of}
-use Rattle.nef_sphere.specs.Maps.{At}
+use Rattle.law_sphere.specs.Maps.{At}
 use Rattle.nef_facets.proofs.Carried.{HoldsWith}
 use Rattle.nef_facets.proofs.planes.plane_of.Given as goal
 

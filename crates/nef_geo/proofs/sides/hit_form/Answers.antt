@@ -1,7 +1,7 @@
 use Rattle.std.proofs.Common.{ℕ, ℤ, ◌+ℤ◌, ◌*ℤ◌, List, [], ◌∷◌, w64, sym, ap, ◌∙◌}
 use mir.Syntax.{w128}
 use Rattle.nef_space.specs.Limits.{normal_limit, offset_limit}
-use Rattle.nef_exact.proofs.Machine.{Code, load, wrap, ◌⊞◌, ◌⊠◌, Limited, exact_of, fits_of}
+use Rattle.law_arithmetic.proofs.Machine.{Code, load, wrap, ◌⊞◌, ◌⊠◌, Limited, exact_of, fits_of}
 use Rattle.nef_geo.specs.Widths.{hit_limit, hit_weight_limit}
 use Rattle.nef_geo.specs.declared.hit.Hit.{Hit}
 use Rattle.nef_geo.specs.declared.plane.Plane.{Plane}

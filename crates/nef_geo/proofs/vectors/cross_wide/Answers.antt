@@ -1,6 +1,6 @@
 use mir.Syntax.{w128}
 use Rattle.nef_space.specs.Limits.{direction_limit}
-use Rattle.nef_exact.proofs.Machine.{Code, wrap, exact_of, fits_of}
+use Rattle.law_arithmetic.proofs.Machine.{Code, wrap, exact_of, fits_of}
 use Rattle.nef_geo.specs.Triples.{wide_vector}
 use Rattle.nef_geo.proofs.Products.{bounds, numbers, limited, factor, minor, same_vector}
 use Rattle.nef_geo.proofs.vectors.cross_wide.Goals as goal

@@ -1,5 +1,5 @@
 use Rattle.std.proofs.Common.{arith}
-use Rattle.nef_sphere.specs.Maps.{items}
+use Rattle.law_sphere.specs.Maps.{items}
 use Rattle.nef_smap.specs.Maps.{map_of}
 use Rattle.nef_smap.proofs.SideLists.{at-some}
 use Rattle.nef_locate.proofs.UpwardSides.{items-counted, sides-count, item-number}

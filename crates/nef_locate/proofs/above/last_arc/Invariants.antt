@@ -1,4 +1,4 @@
-use Rattle.nef_sphere.specs.Maps.{way_of}
+use Rattle.law_sphere.specs.Maps.{way_of}
 use Rattle.nef_smap.specs.Maps.{map_of}
 use Rattle.nef_locate.specs.Ends.{IsLast}
 use Rattle.nef_locate.proofs.above.last_arc.Given as goal

@@ -2,7 +2,7 @@ use Rattle.std.proofs.Common.{◌≡◌, ◌≢◌, sym, ◌∙◌, rules, subst
 use Rattle.nef_space.specs.Vectors.{triple, up}
 use Rattle.nef_geo.specs.Shapes.{vector_of}
 use Rattle.nef_geo.specs.declared.sign.Sign.TheVariants.{Plus}
-use Rattle.nef_sphere.specs.Maps.{way_of}
+use Rattle.law_sphere.specs.Maps.{way_of}
 use Rattle.nef_smap.specs.Maps.{map_of, arc_of}
 use Rattle.nef_locate.specs.Ends.{end_of, IsLast}
 use Rattle.nef_locate.proofs.LastArcs.{last-skip, last-first, last-kept, last-taken}

@@ -1,5 +1,5 @@
 use Rattle.std.proofs.Common.{refl, sym, subst}
-use Rattle.nef_sphere.specs.Maps.{items}
+use Rattle.law_sphere.specs.Maps.{items}
 use Rattle.nef_smap.specs.Maps.{map_of}
 use Rattle.nef_smap.proofs.Lists.{at-within}
 use Rattle.nef_complex.specs.Complexes.{vertex_of, edge_of, complex_of, corner_of}

@@ -1,5 +1,5 @@
-use Rattle.nef_sphere.specs.Maps.{arc_item, items}
-use Rattle.nef_sphere.proofs.Arcs.{at-arc}
+use Rattle.law_sphere.specs.Maps.{arc_item, items}
+use Rattle.law_sphere.proofs.Arcs.{at-arc}
 use Rattle.nef_smap.specs.Maps.{map_of}
 use Rattle.nef_smap.proofs.Lists.{at-within}
 use Rattle.nef_locate.proofs.UpwardSides.{some-svertex, near-begin, near-end, near-alone}

@@ -2,11 +2,11 @@ use Rattle.std.proofs.Common.{length, arith, ap, sym, ◌∙◌}
 use Rattle.nef_arc.proofs.SignNumbers.{not_true}
 use Rattle.nef_space.specs.Vectors.{SameDirection}
 use Rattle.nef_geo.specs.Shapes.{vector_of}
-use Rattle.nef_sphere.specs.Maps.{Arc}
+use Rattle.law_sphere.specs.Maps.{Arc}
 use Rattle.nef_smap.specs.Maps.{arc_of}
 use Rattle.nef_smap.proofs.ArcEnds.{at-map}
 use Rattle.nef_smap.proofs.Found.{read, next-none, all-none}
-use Rattle.nef_solid.specs.Skeleton.{IsArcOnSide}
+use Rattle.law_complex.specs.Skeleton.{IsArcOnSide}
 use Rattle.nef_complex.specs.Complexes.{vertex_of}
 use Rattle.nef_locate.proofs.ItemsFound.{told-side, side-told}
 use Rattle.nef_locate.proofs.facet.arc_beside.Goals as goal

@@ -1,7 +1,7 @@
 use Rattle.std.proofs.Common.{ℕ, ◌<◌}
 use Rattle.nef_space.specs.Vectors.{SameDirection}
 use Rattle.nef_geo.specs.Shapes.{vector_of}
-use Rattle.nef_sphere.specs.Maps.{At, Arc, arc_item, OnItem}
+use Rattle.law_sphere.specs.Maps.{At, Arc, arc_item, OnItem}
 use Rattle.nef_smap.specs.Maps.{map_of}
 use Rattle.nef_locate.proofs.facet.arc_through.Given as goal
 

@@ -1,7 +1,7 @@
 use Rattle.std.proofs.Common.{sym, subst}
 use Rattle.nef_space.specs.Place.{normal_of}
 use Rattle.nef_geo.specs.Shapes.{form_of, vector_of}
-use Rattle.nef_solid.specs.Skeleton.{IsCornerAt}
+use Rattle.law_complex.specs.Skeleton.{IsCornerAt}
 use Rattle.nef_complex.specs.declared.complex.PlaneMeet.{PlaneMeet}
 use Rattle.nef_complex.specs.Complexes.{vertex_of, edge_of, complex_of, meet_of}
 use Rattle.nef_locate.specs.Facets.{HasMet}

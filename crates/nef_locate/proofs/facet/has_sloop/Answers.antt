@@ -1,7 +1,7 @@
 use Rattle.std.proofs.Common.{◌≡◌, Some, option_map, sym, ◌∙◌, ap, subst}
 use Rattle.nef_space.specs.Vectors.{SameDirection}
 use Rattle.nef_geo.specs.Shapes.{vector_of}
-use Rattle.nef_sphere.specs.Maps.{Loop}
+use Rattle.law_sphere.specs.Maps.{Loop}
 use Rattle.nef_smap.specs.Maps.{loop_of}
 use Rattle.nef_smap.proofs.Found.{dir-same}
 use Rattle.nef_locate.proofs.facet.has_sloop.Goals as goal

@@ -1,10 +1,10 @@
 use Rattle.std.proofs.Common.{sym, subst, ◌↔◌}
 use Rattle.std.specs.Bool.{IsTrue}
 use Rattle.nef_space.specs.Vectors.{Vector}
-use Rattle.nef_cyclic.specs.Arcs.{IsStrictlyOn}
+use Rattle.law_cyclic.specs.Arcs.{IsStrictlyOn}
 use Rattle.nef_geo.specs.Shapes.{vector_of}
 use Rattle.nef_geo.specs.declared.dir.Dir.{Dir}
-use Rattle.nef_sphere.specs.Maps.{way_of}
+use Rattle.law_sphere.specs.Maps.{way_of}
 use Rattle.nef_smap.specs.Maps.{map_of}
 use Rattle.nef_smap.proofs.ArcEnds.{source-within, target-within, source-end, target-end}
 use Rattle.nef_locate.proofs.facet.passes.Goals as goal

@@ -1,8 +1,8 @@
 use Rattle.std.proofs.Common.{refl, sym, subst}
 use Rattle.nef_smap.specs.Sides.{IsSide, sides_of}
 use Rattle.nef_smap.specs.Maps.{map_of}
-use Rattle.nef_sphere.proofs.Lists.{at-one}
-use Rattle.nef_solid.specs.Complexes.{Vertex as PlainVertex}
+use Rattle.law_sphere.proofs.Lists.{at-one}
+use Rattle.law_complex.specs.Complexes.{Vertex as PlainVertex}
 use Rattle.nef_complex.specs.Complexes.{vertex_of, edge_of, complex_of, corner_of}
 use Rattle.nef_locate.specs.declared.place.Place.{Place}
 use Rattle.nef_locate.specs.Places.{IsPlaceIn, IsPlaceLabel}

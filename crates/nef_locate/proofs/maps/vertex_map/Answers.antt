@@ -1,10 +1,10 @@
 use Rattle.std.proofs.Common.{◌≡◌, sym, subst}
 use Rattle.std.proofs.lemmas.Result.{IfOk-weaker}
-use Rattle.nef_sphere.specs.Least.{Cone}
-use Rattle.nef_sphere.proofs.Lists.{at-one}
+use Rattle.law_sphere.specs.Least.{Cone}
+use Rattle.law_sphere.proofs.Lists.{at-one}
 use Rattle.nef_smap.specs.declared.map.SphereMap.{SphereMap}
 use Rattle.nef_smap.specs.Maps.{map_of}
-use Rattle.nef_solid.specs.Complexes.{Vertex as PlainVertex}
+use Rattle.law_complex.specs.Complexes.{Vertex as PlainVertex}
 use Rattle.nef_complex.specs.Complexes.{vertex_of, complex_of}
 use Rattle.nef_locate.proofs.Marks.{image-within, image-read}
 use Rattle.nef_locate.proofs.Cones.{cone-same}

@@ -1,7 +1,7 @@
 use Rattle.std.proofs.Common.{refl, arith, is_some, ap, subst}
 use mir.Val.{bool_byte}
-use Rattle.nef_sphere.specs.Maps.{Item, items, arc_item, loop_item}
-use Rattle.nef_sphere.proofs.Lists.{at-one}
+use Rattle.law_sphere.specs.Maps.{Item, items, arc_item, loop_item}
+use Rattle.law_sphere.proofs.Lists.{at-one}
 use Rattle.nef_smap.specs.declared.map.SLoop.{SLoop}
 use Rattle.nef_smap.specs.Maps.{map_of, arc_of, loop_of}
 use Rattle.nef_smap.proofs.Lists.{at-within}

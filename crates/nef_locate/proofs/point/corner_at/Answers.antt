@@ -4,7 +4,7 @@ use Rattle.nef_space.specs.Sets.{Set}
 use Rattle.nef_geo.specs.Shapes.{form_of, hit_place}
 use Rattle.nef_geo.specs.declared.plane.Plane.{Plane}
 use Rattle.nef_smap.proofs.Lists.{at-within}
-use Rattle.nef_solid.specs.Laws.{IsFlatIn}
+use Rattle.law_complex.specs.Laws.{IsFlatIn}
 use Rattle.nef_complex.specs.Complexes.{ShowsSet}
 use Rattle.nef_smap.proofs.SideLists.{at-from_get}
 use Rattle.nef_locate.proofs.CarrierPoints.{skeleton-carrier}

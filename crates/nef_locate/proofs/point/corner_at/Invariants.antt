@@ -3,8 +3,8 @@ use Rattle.nef_space.specs.Place.{form_at}
 use Rattle.nef_space.specs.Sets.{Set}
 use Rattle.nef_geo.specs.Shapes.{form_of, hit_place}
 use Rattle.nef_geo.specs.declared.plane.Plane.{Plane}
-use Rattle.nef_sphere.specs.Maps.{At}
-use Rattle.nef_solid.specs.Laws.{IsFlatIn}
+use Rattle.law_sphere.specs.Maps.{At}
+use Rattle.law_complex.specs.Laws.{IsFlatIn}
 use Rattle.nef_complex.specs.Complexes.{ShowsSet}
 use Rattle.nef_locate.proofs.point.corner_at.Given as goal
 

@@ -4,7 +4,7 @@ use Rattle.nef_space.specs.Place.{form_at}
 use Rattle.nef_geo.specs.Shapes.{form_of, hit_place}
 use Rattle.nef_geo.specs.declared.sign.Sign.TheVariants.{Zero}
 use Rattle.nef_complex.specs.Complexes.{complex_of}
-use Rattle.nef_solid.proofs.FacetWays.{meets-on}
+use Rattle.law_complex.proofs.FacetWays.{meets-on}
 use Rattle.nef_locate.proofs.point.corner_in.Goals as goal
 
 pub in_facet-requires-clause-on : goal.in_facet-requires-clause-on

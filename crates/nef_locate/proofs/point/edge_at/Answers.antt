@@ -1,7 +1,7 @@
 use Rattle.std.proofs.Common.{ℕ, arith, sym, ◌∙◌}
 use Rattle.nef_arc.proofs.SignNumbers.{not_true}
 use Rattle.nef_geo.specs.Shapes.{hit_place}
-use Rattle.nef_solid.specs.Skeleton.{IsEdgePoint}
+use Rattle.law_complex.specs.Skeleton.{IsEdgePoint}
 use Rattle.nef_complex.specs.Complexes.{edge_of, complex_of}
 use Rattle.nef_locate.proofs.Marks.{image-within}
 use Rattle.nef_locate.proofs.Reading.{next-none}

@@ -1,6 +1,6 @@
 use Rattle.std.proofs.Common.{ℕ, ◌<◌}
 use Rattle.nef_geo.specs.Shapes.{hit_place}
-use Rattle.nef_solid.specs.Skeleton.{IsEdgePoint}
+use Rattle.law_complex.specs.Skeleton.{IsEdgePoint}
 use Rattle.nef_complex.specs.Complexes.{complex_of}
 use Rattle.nef_locate.proofs.point.edge_at.Given as goal
 

@@ -1,8 +1,8 @@
 use Rattle.std.proofs.Common.{refl}
 use Rattle.nef_arc.proofs.SignNumbers.{not_true}
 use Rattle.nef_geo.specs.Shapes.{place_of}
-use Rattle.nef_near.proofs.PlaceOrder.{place_below-trans, place_below-apart}
-use Rattle.nef_solid.proofs.Ways.{same-itself}
+use Rattle.law_near.proofs.PlaceOrder.{place_below-trans, place_below-apart}
+use Rattle.law_complex.proofs.Ways.{same-itself}
 use Rattle.nef_locate.proofs.point.is_before.Goals as goal
 
 pub returns-in-Less : goal.returns-in-Less

@@ -2,7 +2,7 @@ use Rattle.std.proofs.Common.{sym, ◌∙◌}
 use Rattle.nef_space.specs.Place.{IsPlaceBelow}
 use Rattle.nef_geo.specs.Shapes.{place_of, hit_place}
 use Rattle.nef_arc.proofs.SignNumbers.{not_true}
-use Rattle.nef_solid.specs.Skeleton.{IsEdgePoint}
+use Rattle.law_complex.specs.Skeleton.{IsEdgePoint}
 use Rattle.nef_complex.specs.Complexes.{complex_of}
 use Rattle.nef_complex.proofs.Ends.{low-within, high-within}
 use Rattle.nef_complex.proofs.Reading.{got-at}

@@ -1,6 +1,6 @@
 use Rattle.std.proofs.Common.{refl}
 use Rattle.nef_geo.specs.Shapes.{place_of, hit_place}
-use Rattle.nef_near.proofs.Rays.{same-place_sym}
+use Rattle.law_near.proofs.Rays.{same-place_sym}
 use Rattle.nef_complex.specs.Complexes.{complex_of, corner_of}
 use Rattle.nef_locate.proofs.EqualPoints.{vertex-same, edge-same, corner-same, point-same, closed-same}
 use Rattle.nef_locate.proofs.Located.{vertices-sorted, vertex-at, edge-at, corner-at, off-edges}

@@ -7,7 +7,7 @@ use Rattle.nef_geo.specs.declared.plane.Plane.{Plane}
 use Rattle.nef_smap.proofs.Lists.{at-within}
 use Rattle.nef_complex.specs.Complexes.{complex_of, ShowsSet}
 use Rattle.nef_locate.specs.declared.ray.Met.{Met}
-use Rattle.nef_solid.specs.Laws.{IsFlatIn}
+use Rattle.law_complex.specs.Laws.{IsFlatIn}
 use Rattle.nef_locate.specs.Rays.{IsMet, IsNotBefore, HasNoneBefore}
 use Rattle.nef_locate.proofs.RayMeets.{first-some, first-none}
 use Rattle.nef_locate.proofs.Reading.{next-all}

@@ -4,9 +4,9 @@ use Rattle.nef_space.specs.Sets.{Set}
 use Rattle.nef_geo.specs.Hits.{IsCrossing}
 use Rattle.nef_geo.specs.Shapes.{form_of, vector_of, place_of}
 use Rattle.nef_geo.specs.declared.plane.Plane.{Plane}
-use Rattle.nef_sphere.specs.Maps.{At}
+use Rattle.law_sphere.specs.Maps.{At}
 use Rattle.nef_complex.specs.Complexes.{complex_of, ShowsSet}
-use Rattle.nef_solid.specs.Laws.{IsFlatIn}
+use Rattle.law_complex.specs.Laws.{IsFlatIn}
 use Rattle.nef_locate.specs.Rays.{IsMet, IsNotBefore, HasNoneBefore}
 use Rattle.nef_locate.proofs.ray.first_hit.Given as goal
 

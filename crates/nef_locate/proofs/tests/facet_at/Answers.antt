@@ -1,8 +1,8 @@
 use Rattle.std.proofs.Common.{◌≡◌, pos, ◌*ℤ◌, nat_abs, ◌*◌, ◌≤◌, ◌<ℤ◌, ℤ, arith, rules, refl, sym, inl, inr, subst}
 use Rattle.std.proofs.lemmas.Int.{ints, to_z-of_z}
 use mir.Syntax.{w64}
-use Rattle.nef_exact.specs.Signs.{nought, Lies}
-use Rattle.nef_exact.proofs.Order.{nought-is, abs_times}
+use Rattle.law_arithmetic.specs.Signs.{nought, Lies}
+use Rattle.law_arithmetic.proofs.Order.{nought-is, abs_times}
 use Rattle.nef_space.specs.Limits.{half_side}
 use Rattle.nef_space.specs.Local.{Flat}
 use Rattle.nef_space.specs.Place.{Place, Form, form_at, slope, SamePlace, InClosedFrame}
@@ -15,17 +15,17 @@ use Rattle.nef_geo.specs.declared.sign.Sign.TheVariants.{Zero}
 use Rattle.nef_smap.proofs.Axes.{zero-of}
 use Rattle.nef_complex.specs.Complexes.{complex_of}
 use Rattle.nef_locate.proofs.tests.facet_at.Goals as goal
-use Rattle.nef_forms.proofs.Between.{place-factor, factor-place}
-use Rattle.nef_forms.proofs.Sums.{same-trans}
-use Rattle.nef_forms.specs.Homogeneous.{of_place}
-use Rattle.nef_near.proofs.Rays.{same-place_sym}
-use Rattle.nef_near.specs.Cells.{sign_at, frame}
-use Rattle.nef_near.proofs.Flats.{FlatCone-from_carriers, Flat-from_cone}
-use Rattle.nef_solid.specs.Complexes.{Complex}
-use Rattle.nef_solid.specs.Shows.{Shows}
-use Rattle.nef_solid.specs.Skeleton.{IsOnEdges}
-use Rattle.nef_solid.proofs.Edges.{edge-points}
-use Rattle.nef_solid.proofs.FacetWays.{dim-same, meets-on}
+use Rattle.law_forms.proofs.Between.{place-factor, factor-place}
+use Rattle.law_forms.proofs.Sums.{same-trans}
+use Rattle.law_forms.specs.Homogeneous.{of_place}
+use Rattle.law_near.proofs.Rays.{same-place_sym}
+use Rattle.law_near.specs.Cells.{sign_at, frame}
+use Rattle.law_near.proofs.Flats.{FlatCone-from_carriers, Flat-from_cone}
+use Rattle.law_complex.specs.Complexes.{Complex}
+use Rattle.law_complex.specs.Shows.{Shows}
+use Rattle.law_complex.specs.Skeleton.{IsOnEdges}
+use Rattle.law_complex.proofs.Edges.{edge-points}
+use Rattle.law_complex.proofs.FacetWays.{dim-same, meets-on}
 
 -- at a point of the x-axis the directions of the other two axes are flat
 module _ (p : Place) (y : p.y ≡ pos 0) (z : p.z ≡ pos 0) where

@@ -1,6 +1,6 @@
 use Rattle.std.proofs.Common.{◌≡◌, List, [], ◌∷◌, ◌++◌, map, Some, None, refl, sym, ap, ◌∙◌, subst}
 use Rattle.nef_space.specs.declared.label.Label.TheVariants.{Not, In}
-use Rattle.nef_sphere.specs.Maps.{At, whole}
+use Rattle.law_sphere.specs.Maps.{At, whole}
 use Rattle.nef_smap.specs.Maps.{map_of}
 use Rattle.nef_smap.specs.Sides.{IsSide}
 use Rattle.nef_complex.specs.declared.complex.Vertex.{Vertex}

@@ -1,7 +1,7 @@
 use Rattle.std.proofs.Common.{◌≡◌, refl, sym, subst}
 use Rattle.nef_smap.specs.Maps.{map_of}
 use Rattle.nef_smap.specs.declared.map.SphereMap.{SphereMap}
-use Rattle.nef_sphere.specs.Least.{Cone}
+use Rattle.law_sphere.specs.Least.{Cone}
 use Rattle.nef_ops.proofs.ByShare.{shown-same}
 use Rattle.nef_ops.proofs.merged.joined.Goals as goal
 

@@ -1,6 +1,6 @@
 use Rattle.nef_space.specs.Place.{Place}
 use Rattle.nef_space.specs.Sets.{Set}
-use Rattle.nef_sphere.specs.Least.{Cone}
+use Rattle.law_sphere.specs.Least.{Cone}
 use Rattle.nef_smap.specs.declared.map.SphereMap.{SphereMap}
 use Rattle.nef_smap.specs.Maps.{map_of, IsLeastMap}
 use Rattle.nef_sover.proofs.Places.{if-ok}

@@ -1,5 +1,5 @@
 use Rattle.std.proofs.Common.{ℕ, ◌<◌}
-use Rattle.nef_sphere.specs.Maps.{At}
+use Rattle.law_sphere.specs.Maps.{At}
 use Rattle.nef_smap.specs.declared.map.SArc.{SArc}
 use Rattle.nef_ops.specs.Shares.{ArcLacks}
 use Rattle.nef_ops.proofs.share.arcs_lack.Given as goal

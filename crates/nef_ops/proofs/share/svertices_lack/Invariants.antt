@@ -1,5 +1,5 @@
 use Rattle.std.proofs.Common.{ℕ, ◌<◌}
-use Rattle.nef_sphere.specs.Maps.{At}
+use Rattle.law_sphere.specs.Maps.{At}
 use Rattle.nef_smap.specs.declared.map.SVertex.{SVertex}
 use Rattle.nef_ops.specs.Shares.{SvertexLacks}
 use Rattle.nef_ops.proofs.share.svertices_lack.Given as goal

@@ -2,7 +2,7 @@ use Rattle.std.proofs.Common.{sym, subst}
 use Rattle.std.specs.Prelude.{IfOk}
 use Rattle.nef_space.specs.Place.{Place}
 use Rattle.nef_space.specs.Sets.{Set}
-use Rattle.nef_sphere.specs.Least.{Cone}
+use Rattle.law_sphere.specs.Least.{Cone}
 use Rattle.nef_smap.specs.Maps.{map_of}
 use Rattle.nef_smap.specs.declared.map.SphereMap.{SphereMap}
 use Rattle.nef_ops.specs.declared.op.UnaryOp.{UnaryOp}

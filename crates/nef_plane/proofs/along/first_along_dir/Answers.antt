@@ -2,8 +2,8 @@ use Rattle.std.proofs.Common.{inl, subst}
 use Rattle.nef_space.specs.Place.{Place, IsAhead}
 use Rattle.nef_geo.specs.Shapes.{form_of, place_of, vector_of}
 use Rattle.nef_smap.proofs.Lists.{map-at}
-use Rattle.nef_solid.specs.Skeleton.{PlaneMeet as PlainMeet, Meets, IsFirstInPlane}
-use Rattle.nef_solid.proofs.Ways.{same-itself}
+use Rattle.law_complex.specs.Skeleton.{PlaneMeet as PlainMeet, Meets, IsFirstInPlane}
+use Rattle.law_complex.proofs.Ways.{same-itself}
 use Rattle.nef_complex.specs.Complexes.{complex_of, meet_of, vertex_of}
 use Rattle.nef_complex.proofs.Reading.{got-at}
 use Rattle.nef_plane.specs.Meets.{IsNearest, met_of}

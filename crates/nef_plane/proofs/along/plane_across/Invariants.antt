@@ -2,7 +2,7 @@ use Rattle.std.specs.Prelude.{◌≡◌, ℕ, ◌<◌, pos}
 use Rattle.nef_space.specs.Place.{slope}
 use Rattle.nef_geo.specs.Shapes.{place_of, form_of, vector_of}
 use Rattle.nef_geo.specs.declared.plane.Plane.{Plane}
-use Rattle.nef_sphere.specs.Maps.{At}
+use Rattle.law_sphere.specs.Maps.{At}
 use Rattle.nef_complex.specs.Planes.{HoldsBoth}
 use Rattle.nef_plane.proofs.along.plane_across.Given as goal
 

@@ -3,7 +3,7 @@ use Rattle.nef_space.specs.Place.{Place}
 use Rattle.nef_geo.specs.Hits.{IsCrossing}
 use Rattle.nef_geo.specs.Shapes.{place_of, form_of, hit_place, vector_of}
 use Rattle.nef_geo.specs.declared.plane.Plane.{Plane}
-use Rattle.nef_sphere.specs.Maps.{At}
+use Rattle.law_sphere.specs.Maps.{At}
 use Rattle.nef_complex.specs.Planes.{HoldsBoth}
 use Rattle.nef_plane.proofs.plane.hit_through.Given as goal
 

@@ -1,7 +1,7 @@
 use Rattle.std.proofs.Common.{ℕ, ℤ, ◌≤◌, nat_abs, List, [], ◌∷◌, w64}
 use mir.Syntax.{w128}
 use Rattle.nef_space.specs.Limits.{point_limit, weight_limit}
-use Rattle.nef_exact.proofs.Machine.{Code, load, wrap, ◌⊟◌, ◌⊠◌, Limited, exact_of, fits_of, size_of}
+use Rattle.law_arithmetic.proofs.Machine.{Code, load, wrap, ◌⊟◌, ◌⊠◌, Limited, exact_of, fits_of, size_of}
 use Rattle.nef_plane.specs.Upright.{gap_limit}
 use Rattle.nef_plane.proofs.upright.gap.Goals as goal
 

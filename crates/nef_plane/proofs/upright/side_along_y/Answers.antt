@@ -3,7 +3,7 @@ use mir.Syntax.{w128}
 use Rattle.nef_geo.specs.Hits.{IsUpright}
 use Rattle.nef_geo.specs.Shapes.{vector_of}
 use Rattle.nef_geo.specs.declared.dir.Dir.{Dir}
-use Rattle.nef_exact.proofs.Machine.{Limited, fits_of}
+use Rattle.law_arithmetic.proofs.Machine.{Limited, fits_of}
 use Rattle.nef_plane.specs.Upright.{gap_limit}
 use Rattle.nef_plane.proofs.Spanned.{sizes, first, second, difference, limits, upright-small, gap-is, side-y}
 use Rattle.nef_plane.proofs.upright.side_along_y.Goals as goal

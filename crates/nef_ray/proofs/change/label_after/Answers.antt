@@ -2,7 +2,7 @@ use Rattle.std.proofs.Common.{subst}
 use Rattle.nef_space.specs.Local.{Germ}
 use Rattle.nef_geo.specs.Shapes.{vector_of, place_of}
 use Rattle.nef_smap.specs.Maps.{map_of}
-use Rattle.nef_sphere.proofs.Labels.{label-unique}
+use Rattle.law_sphere.proofs.Labels.{label-unique}
 use Rattle.nef_ray.proofs.change.label_after.Goals as goal
 
 pub returns : goal.returns

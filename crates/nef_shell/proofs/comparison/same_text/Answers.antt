@@ -3,7 +3,7 @@ use Rattle.std.proofs.lemmas.Slice.Eq.{slice_eq-Decides}
 use Rattle.std.proofs.lemmas.Bool.Decides.{Decides-eqb}
 use Rattle.nef_expr.specs.Nodes.{node_set}
 use Rattle.nef_parts.specs.Text.{text}
-use Rattle.nef_determined.proofs.SameText.{same-set_text, text-set}
+use Rattle.law_text.proofs.SameText.{same-set_text, text-set}
 use Rattle.nef_shell.proofs.comparison.same_text.Goals as goal
 
 pub returns-clause-same : goal.returns-clause-same

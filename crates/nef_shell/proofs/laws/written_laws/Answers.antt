@@ -1,7 +1,7 @@
-use Rattle.nef_solid.proofs.FacetNames.{facet-of}
-use Rattle.nef_solid.proofs.Skeletons.{belongs-holds}
+use Rattle.law_complex.proofs.FacetNames.{facet-of}
+use Rattle.law_complex.proofs.Skeletons.{belongs-holds}
 use Rattle.nef_locate.proofs.Cones.{facet-at}
-use Rattle.nef_determined.proofs.SameText.{spelled-holds}
+use Rattle.law_text.proofs.SameText.{spelled-holds}
 use Rattle.nef_shell.proofs.Pieces.{same-texts, printed-one, counted-one}
 use Rattle.nef_shell.proofs.laws.written_laws.Goals as goal
 

@@ -1,6 +1,6 @@
 use Rattle.std.proofs.Common.{◌<◌, IfSome, length}
 use Rattle.nef_space.specs.Vectors.{Vector, up}
-use Rattle.nef_sphere.specs.Maps.{items}
+use Rattle.law_sphere.specs.Maps.{items}
 use Rattle.nef_smap.specs.Maps.{map_of}
 use Rattle.nef_smap.specs.Above.{IsFirstOf}
 use Rattle.nef_smap.specs.Close.{IsClose}

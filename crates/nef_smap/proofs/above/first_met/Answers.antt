@@ -1,10 +1,10 @@
 use Rattle.std.proofs.Common.{◌≡◌, ◌≢◌, ℕ, pos, ◌≤ℤ◌, arith, sym, ap, ◌∙◌, subst, IsTrue, rules, Option}
 use Rattle.std.proofs.lemmas.Int.{ints}
-use Rattle.nef_exact.proofs.Order.{minus, sign-minus, minus-is, by_order}
+use Rattle.law_arithmetic.proofs.Order.{minus, sign-minus, minus-is, by_order}
 use Rattle.nef_space.specs.Vectors.{Vector, dot, up}
 use Rattle.nef_geo.specs.Shapes.{vector_of}
 use Rattle.nef_geo.specs.declared.sign.Sign.TheVariants.{Minus}
-use Rattle.nef_sphere.specs.Maps.{item_normal}
+use Rattle.law_sphere.specs.Maps.{item_normal}
 use Rattle.nef_smap.specs.Maps.{map_of}
 use Rattle.nef_smap.specs.Items.{item_of}
 use Rattle.nef_smap.specs.Above.{rise, rise_form, IsFirstOf}

@@ -1,8 +1,8 @@
 use Rattle.std.proofs.Common.{◌≡◌, ◌≢◌, ◌<ℤ◌, pos, refl, sym, ap, ◌∙◌, subst, IsTrue, ◌↔◌, rules, true, false}
-use Rattle.nef_exact.specs.Signs.{minus}
+use Rattle.law_arithmetic.specs.Signs.{minus}
 use Rattle.nef_space.specs.Vectors.{Vector, dot, up}
 use Rattle.nef_geo.specs.declared.sign.Sign.TheVariants.{Minus}
-use Rattle.nef_sphere.specs.Maps.{At, Item, items, item_normal}
+use Rattle.law_sphere.specs.Maps.{At, Item, items, item_normal}
 use Rattle.nef_smap.specs.Maps.{map_of, arc_of, loop_of}
 use Rattle.nef_smap.specs.Items.{item_of}
 use Rattle.nef_smap.specs.Above.{IsOver}

@@ -1,9 +1,9 @@
 use Rattle.std.proofs.Common.{◌≡◌, sym, ◌∙◌, subst, IsTrue, ◌↔◌, nat_eq, rules}
 use Rattle.nef_geo.specs.declared.sign.Sign.TheVariants.{Minus, Plus}
-use Rattle.nef_exact.specs.Signs.{Sign, minus, plus, sign}
+use Rattle.law_arithmetic.specs.Signs.{Sign, minus, plus, sign}
 use Rattle.nef_space.specs.Vectors.{Vector, cross, triple, up}
 use Rattle.nef_geo.specs.Shapes.{vector_of}
-use Rattle.nef_sphere.specs.Maps.{way_of}
+use Rattle.law_sphere.specs.Maps.{way_of}
 use Rattle.nef_smap.specs.Maps.{map_of}
 use Rattle.nef_smap.specs.Close.{close_sign, ArcPasses}
 use Rattle.nef_smap.proofs.CloseSigns.{geo-of, sign-test, passes-alike, way-from_get}

@@ -1,7 +1,7 @@
 use Rattle.std.proofs.Common.{pos, ◌<ℤ◌, refl, sym, subst}
 use Rattle.nef_space.specs.Vectors.{Vector, triple, up}
 use Rattle.nef_geo.specs.Shapes.{vector_of}
-use Rattle.nef_sphere.specs.Maps.{arc_item, items}
+use Rattle.law_sphere.specs.Maps.{arc_item, items}
 use Rattle.nef_smap.specs.Maps.{map_of, arc_of}
 use Rattle.nef_smap.specs.Joined.{FirstNear}
 use Rattle.nef_smap.proofs.CloseSigns.{way-from_get}

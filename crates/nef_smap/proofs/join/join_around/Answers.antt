@@ -1,7 +1,7 @@
 use Rattle.std.proofs.Common.{◌≡◌, subst}
 use Rattle.nef_space.specs.Vectors.{up}
 use Rattle.nef_geo.specs.Shapes.{vector_of}
-use Rattle.nef_sphere.specs.Maps.{Svertex, around_svertex}
+use Rattle.law_sphere.specs.Maps.{Svertex, around_svertex}
 use Rattle.nef_smap.specs.SideNumbers.{number_of}
 use Rattle.nef_smap.specs.Links.{met_number}
 use Rattle.nef_smap.specs.Maps.{map_of}

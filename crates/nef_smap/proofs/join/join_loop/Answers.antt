@@ -1,6 +1,6 @@
 use Rattle.std.proofs.Common.{ℕ, length, arith, refl, ap, ◌∙◌}
 use Rattle.nef_geo.specs.Shapes.{vector_of}
-use Rattle.nef_sphere.specs.Maps.{loop_item, items, above_item}
+use Rattle.law_sphere.specs.Maps.{loop_item, items, above_item}
 use Rattle.nef_smap.specs.SideNumbers.{number_of}
 use Rattle.nef_smap.specs.Maps.{map_of, loop_of}
 use Rattle.nef_smap.proofs.MapLists.{at-within, item-loop}

@@ -1,5 +1,5 @@
 use Rattle.std.proofs.Common.{arith, cond}
-use Rattle.nef_sphere.specs.Maps.{item_above, item_below, above_item, below_item}
+use Rattle.law_sphere.specs.Maps.{item_above, item_below, above_item, below_item}
 use Rattle.nef_smap.specs.Maps.{map_of}
 use Rattle.nef_smap.proofs.SideNumbers.{number-one}
 use Rattle.nef_smap.proofs.join.side_number.Goals as goal

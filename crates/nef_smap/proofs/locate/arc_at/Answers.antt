@@ -1,7 +1,7 @@
 use Rattle.std.proofs.Common.{length, arith, ap, sym, ◌∙◌}
 use Rattle.nef_arc.proofs.SignNumbers.{not_true}
 use Rattle.nef_geo.specs.Shapes.{vector_of}
-use Rattle.nef_sphere.specs.Maps.{Arc, arc_item, OnItem}
+use Rattle.law_sphere.specs.Maps.{Arc, arc_item, OnItem}
 use Rattle.nef_smap.specs.Maps.{map_of, arc_of}
 use Rattle.nef_smap.proofs.ArcEnds.{at-map}
 use Rattle.nef_smap.proofs.Found.{read, next-none, all-none}

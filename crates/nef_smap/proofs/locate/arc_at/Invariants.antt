@@ -1,6 +1,6 @@
 use Rattle.std.proofs.Common.{ℕ, ◌<◌}
 use Rattle.nef_geo.specs.Shapes.{vector_of}
-use Rattle.nef_sphere.specs.Maps.{At, Arc, arc_item, OnItem}
+use Rattle.law_sphere.specs.Maps.{At, Arc, arc_item, OnItem}
 use Rattle.nef_smap.specs.Maps.{map_of}
 use Rattle.nef_smap.proofs.locate.arc_at.Given as goal
 

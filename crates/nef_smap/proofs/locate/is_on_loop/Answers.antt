@@ -1,7 +1,7 @@
 use Rattle.std.proofs.Common.{◌≡◌, pos, Some, option_map, sym, ◌∙◌, ap, subst}
 use Rattle.nef_space.specs.Vectors.{dot}
 use Rattle.nef_geo.specs.Shapes.{vector_of}
-use Rattle.nef_sphere.specs.Maps.{Loop}
+use Rattle.law_sphere.specs.Maps.{Loop}
 use Rattle.nef_smap.specs.Maps.{loop_of}
 use Rattle.nef_smap.proofs.locate.is_on_loop.Goals as goal
 

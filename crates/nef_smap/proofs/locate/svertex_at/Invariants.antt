@@ -1,7 +1,7 @@
 use Rattle.std.proofs.Common.{ℕ, ◌<◌}
 use Rattle.nef_space.specs.Vectors.{SameDirection}
 use Rattle.nef_geo.specs.Shapes.{vector_of}
-use Rattle.nef_sphere.specs.Maps.{At, Svertex}
+use Rattle.law_sphere.specs.Maps.{At, Svertex}
 use Rattle.nef_smap.specs.Maps.{map_of}
 use Rattle.nef_smap.proofs.locate.svertex_at.Given as goal
 

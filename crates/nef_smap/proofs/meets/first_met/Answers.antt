@@ -4,7 +4,7 @@ use Rattle.nef_smap.specs.Items.{item_of}
 use Rattle.nef_smap.specs.Maps.{map_of}
 use Rattle.nef_smap.specs.Wide.{start_at, end_at}
 use Rattle.nef_smap.specs.Ways.{IsFirstMet}
-use Rattle.nef_sphere.specs.Maps.{items}
+use Rattle.law_sphere.specs.Maps.{items}
 use Rattle.nef_smap.proofs.MapLists.{at-within}
 use Rattle.nef_smap.proofs.FirstSoFar.{so_far-begins, so_far-stays, so_far-changes}
 use Rattle.nef_smap.proofs.meets.first_met.Goals as goal

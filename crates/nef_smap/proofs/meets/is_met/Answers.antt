@@ -3,9 +3,9 @@ use Rattle.std.specs.Bool.{IsTrue}
 use Rattle.nef_arc.proofs.SignNumbers.{not_true}
 use Rattle.nef_space.specs.Vectors.{dot, IsDirection}
 use Rattle.nef_geo.specs.Shapes.{vector_of}
-use Rattle.nef_sphere.specs.Maps.{At, items, item_normal}
-use Rattle.nef_sphere.proofs.Shot.{arc-at}
-use Rattle.nef_sphere.proofs.Direct.{slid-level}
+use Rattle.law_sphere.specs.Maps.{At, items, item_normal}
+use Rattle.law_sphere.proofs.Shot.{arc-at}
+use Rattle.law_sphere.proofs.Direct.{slid-level}
 use Rattle.nef_smap.specs.declared.item.Item.{Item}
 use Rattle.nef_smap.specs.Items.{item_of}
 use Rattle.nef_smap.specs.Maps.{map_of}

@@ -2,15 +2,15 @@ use Rattle.std.proofs.Common.{◌^◌, arith, ap, sym, ◌∙◌, subst, ◌↔�
 use Rattle.std.specs.Bool.{IsTrue}
 use Rattle.nef_space.specs.Limits.{normal_limit, svertex_limit}
 use Rattle.nef_space.specs.Vectors.{Vector, dot, IsAtMost}
-use Rattle.nef_cyclic.specs.Arcs.{IsStrictlyOn}
-use Rattle.nef_cyclic.proofs.Directions.{classes_are_arcs}
-use Rattle.nef_near.proofs.FlatDecided.{triple-dot}
+use Rattle.law_cyclic.specs.Arcs.{IsStrictlyOn}
+use Rattle.law_cyclic.proofs.Directions.{classes_are_arcs}
+use Rattle.law_near.proofs.FlatDecided.{triple-dot}
 use Rattle.nef_arc.proofs.SignNumbers.{read_sign, five_signs, between_read, test_of, true_of}
 use Rattle.nef_geo.specs.Shapes.{vector_of}
 use Rattle.nef_geo.specs.Signs.{sign_of}
 use Rattle.nef_geo.proofs.Products.{IsAtMost-weaken, cross_is}
-use Rattle.nef_sphere.specs.Maps.{way_of}
-use Rattle.nef_sphere.proofs.Direct.{slid-level}
+use Rattle.law_sphere.specs.Maps.{way_of}
+use Rattle.law_sphere.proofs.Direct.{slid-level}
 use Rattle.nef_smap.specs.Maps.{map_of}
 use Rattle.nef_smap.specs.Ways.{meet_of}
 use Rattle.nef_smap.specs.Wide.{start_at, end_at}

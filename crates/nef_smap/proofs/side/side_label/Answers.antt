@@ -1,6 +1,6 @@
 use Rattle.std.proofs.Common.{arith, is_some, ap, sym, ◌∙◌}
 use mir.Val.{bool_byte}
-use Rattle.nef_sphere.specs.Maps.{whole}
+use Rattle.law_sphere.specs.Maps.{whole}
 use Rattle.nef_smap.specs.Items.{item_of}
 use Rattle.nef_smap.proofs.SideLists.{length-sides, get-past, side-around, side-item, side-whole}
 use Rattle.nef_smap.proofs.side.side_label.Goals as goal

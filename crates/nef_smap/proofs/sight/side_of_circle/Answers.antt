@@ -2,7 +2,7 @@ use Rattle.std.proofs.Common.{◌≡◌, ℕ, ◌+◌, arith, ap, sym, length, i
 use mir.Val.{bool_byte}
 use Rattle.nef_space.specs.Vectors.{dot}
 use Rattle.nef_geo.specs.Shapes.{vector_of}
-use Rattle.nef_sphere.specs.Maps.{At, Item, items}
+use Rattle.law_sphere.specs.Maps.{At, Item, items}
 use Rattle.nef_smap.specs.Maps.{map_of, loop_of}
 use Rattle.nef_smap.proofs.MapLists.{length-items, item-loop, at-within}
 use Rattle.nef_smap.proofs.FreeSeen.{circle-off, circle-above, circle-below, side-chosen}

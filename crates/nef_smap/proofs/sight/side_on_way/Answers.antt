@@ -2,10 +2,10 @@ use Rattle.std.proofs.Common.{ℕ, ◌+◌, ◌^◌, arith, ap, sym, ◌∙◌, 
 use Rattle.nef_space.specs.Vectors.{Vector, dot, cross, blend, up}
 use Rattle.nef_geo.specs.Shapes.{vector_of}
 use Rattle.nef_geo.specs.Signs.{sign_of}
-use Rattle.nef_sphere.specs.Maps.{At, Item, items, item_normal, way_of}
-use Rattle.nef_sphere.specs.Forms.{forms}
-use Rattle.nef_sphere.proofs.Generic.{amount}
-use Rattle.nef_sphere.proofs.Lists.{at-one}
+use Rattle.law_sphere.specs.Maps.{At, Item, items, item_normal, way_of}
+use Rattle.law_sphere.specs.Forms.{forms}
+use Rattle.law_sphere.proofs.Generic.{amount}
+use Rattle.law_sphere.proofs.Lists.{at-one}
 use Rattle.nef_smap.specs.Items.{item_of}
 use Rattle.nef_smap.specs.Maps.{map_of, arc_of}
 use Rattle.nef_smap.specs.Wide.{wide_vector}

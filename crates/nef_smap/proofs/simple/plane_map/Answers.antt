@@ -1,4 +1,4 @@
-use Rattle.nef_sphere.proofs.Simple.{loop-valid, loop-least}
+use Rattle.law_sphere.proofs.Simple.{loop-valid, loop-least}
 use Rattle.nef_smap.specs.Maps.{loop_of}
 use Rattle.nef_smap.proofs.SimpleMaps.{plane-labels, plane-ordered, plane-small}
 use Rattle.nef_smap.proofs.simple.plane_map.Goals as goal

@@ -2,7 +2,7 @@ use Rattle.std.proofs.Common.{List, true, false, sym, subst}
 use Rattle.std.proofs.lemmas.Bool.{eqb-true, eq-eqb}
 use lib.Dec.{eqb}
 use Rattle.nef_space.specs.Lists.{IsAt}
-use Rattle.nef_sphere.specs.Maps.{At}
+use Rattle.law_sphere.specs.Maps.{At}
 use Rattle.nef_smap.specs.declared.map.SArc.{SArc}
 use Rattle.nef_smap.proofs.Lists.{get-at}
 use Rattle.nef_smap.proofs.SideLists.{get-from_at}

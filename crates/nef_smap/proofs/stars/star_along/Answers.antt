@@ -4,7 +4,7 @@ use Rattle.nef_space.specs.Vectors.{dot, IsAtMost}
 use Rattle.nef_space.specs.declared.label.Label.{Label}
 use Rattle.nef_geo.specs.Shapes.{vector_of}
 use Rattle.nef_geo.specs.declared.dir.Dir.{Dir}
-use Rattle.nef_sphere.specs.Maps.{item_normal}
+use Rattle.law_sphere.specs.Maps.{item_normal}
 use Rattle.nef_star.specs.declared.star.Ray.{Ray}
 use Rattle.nef_smap.specs.Items.{item_of}
 use Rattle.nef_smap.proofs.Neighbourhood.{rays-along, star-along}

@@ -1,7 +1,7 @@
 use Rattle.std.proofs.Common.{subst}
 use Rattle.nef_geo.specs.Shapes.{vector_of}
-use Rattle.nef_sphere.specs.Maps.{arc_item, loop_item}
-use Rattle.nef_sphere.proofs.Arcs.{at-arc}
+use Rattle.law_sphere.specs.Maps.{arc_item, loop_item}
+use Rattle.law_sphere.proofs.Arcs.{at-arc}
 use Rattle.nef_smap.specs.Maps.{map_of}
 use Rattle.nef_smap.specs.Sides.{IsPlaceOf}
 use Rattle.nef_smap.proofs.MapLists.{loop-listed}

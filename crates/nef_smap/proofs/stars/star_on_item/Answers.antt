@@ -1,7 +1,7 @@
 use Rattle.nef_geo.specs.Shapes.{vector_of}
 use Rattle.nef_smap.specs.Maps.{map_of}
 use Rattle.nef_smap.specs.Items.{item_of}
-use Rattle.nef_sphere.proofs.Forms.{on-level}
+use Rattle.law_sphere.proofs.Forms.{on-level}
 use Rattle.nef_smap.proofs.MapLists.{at-within}
 use Rattle.nef_smap.proofs.Neighbourhood.{along-ok, on-listed}
 use Rattle.nef_smap.proofs.stars.star_on_item.Goals as goal

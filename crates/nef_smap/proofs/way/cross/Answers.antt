@@ -1,7 +1,7 @@
 use Rattle.std.proofs.Common.{◌^◌}
 use mir.Syntax.{w128}
 use Rattle.nef_space.specs.Limits.{normal_limit, svertex_limit}
-use Rattle.nef_exact.proofs.Machine.{Code, wrap, exact_of, fits_of, size_of}
+use Rattle.law_arithmetic.proofs.Machine.{Code, wrap, exact_of, fits_of, size_of}
 use Rattle.nef_smap.specs.Wide.{wide_vector}
 use Rattle.nef_geo.proofs.Products.{bounds, numbers, limited, factor, minor, same_vector}
 use Rattle.nef_smap.proofs.way.cross.Goals as goal

@@ -1,6 +1,6 @@
 use Rattle.std.proofs.Common.{◌^◌}
 use mir.Syntax.{w128}
-use Rattle.nef_exact.proofs.Machine.{wrap, exact_of, fits_of}
+use Rattle.law_arithmetic.proofs.Machine.{wrap, exact_of, fits_of}
 use Rattle.nef_smap.specs.Wide.{wide_vector}
 use Rattle.nef_geo.proofs.Products.{bounds, numbers, limited, factor, two, three}
 use Rattle.nef_smap.proofs.way.dot.Goals as goal

@@ -3,8 +3,8 @@ use Rattle.std.proofs.Math.Nat.{eq-or-lt_of_le}
 use Rattle.nef_space.specs.Vectors.{dot}
 use Rattle.nef_geo.specs.Shapes.{vector_of}
 use Rattle.nef_sover.specs.declared.axes.Axis.{Axis}
-use Rattle.nef_sphere.specs.Maps.{At}
-use Rattle.nef_sphere.proofs.Lists.{at-one}
+use Rattle.law_sphere.specs.Maps.{At}
+use Rattle.law_sphere.proofs.Lists.{at-one}
 use Rattle.nef_arc.proofs.SignNumbers.{not_true}
 use Rattle.nef_smap.proofs.Lists.{at-within}
 use Rattle.nef_sover.proofs.Places.{read-at, at-contains, contains-at}

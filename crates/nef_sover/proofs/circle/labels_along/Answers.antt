@@ -1,6 +1,6 @@
 use Rattle.std.proofs.Common.{refl, sym, subst}
 use Rattle.nef_geo.specs.Shapes.{vector_of}
-use Rattle.nef_sphere.specs.Maps.{MapLabel}
+use Rattle.law_sphere.specs.Maps.{MapLabel}
 use Rattle.nef_smap.specs.Maps.{map_of}
 use Rattle.nef_space.specs.declared.label.Label.{Label}
 use Rattle.nef_sover.proofs.Sloops.{along-sloop, along-face}

@@ -1,7 +1,7 @@
 use Rattle.std.proofs.Common.{refl}
 use Rattle.nef_geo.specs.declared.dir.Dir.{Dir}
-use Rattle.nef_sphere.specs.Maps.{Loop}
-use Rattle.nef_build.specs.Overlays.{IsLoneLoop}
+use Rattle.law_sphere.specs.Maps.{Loop}
+use Rattle.law_build.specs.Overlays.{IsLoneLoop}
 use Rattle.nef_smap.specs.Maps.{map_of}
 use Rattle.nef_sover.specs.Circles.{IsBareNormal, IsLoneNormal}
 use Rattle.nef_sover.proofs.Places.{match-option}

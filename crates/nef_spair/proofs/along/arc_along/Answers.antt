@@ -4,7 +4,7 @@ use Rattle.nef_space.specs.declared.label.Label.{Label}
 use Rattle.nef_space.specs.declared.label.Label.TheVariants.{Out}
 use Rattle.nef_geo.specs.Shapes.{vector_of}
 use Rattle.nef_geo.specs.declared.dir.Dir.{Dir}
-use Rattle.nef_build.specs.From.{IsFirstAfter}
+use Rattle.law_build.specs.From.{IsFirstAfter}
 use Rattle.nef_star.specs.Stars.{star_of, IsStar}
 use Rattle.nef_smap.proofs.Lists.{at-within}
 use Rattle.nef_spair.proofs.Places.{index-at, all-at}

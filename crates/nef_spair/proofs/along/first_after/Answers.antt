@@ -2,7 +2,7 @@ use Rattle.std.proofs.Common.{◌≡◌, ℕ, ◌+◌, ◌<◌, pos, length, sym
 use Rattle.nef_space.specs.Vectors.{dot}
 use Rattle.nef_geo.specs.Shapes.{vector_of}
 use Rattle.nef_geo.specs.declared.dir.Dir.{Dir}
-use Rattle.nef_sphere.proofs.Lists.{at-one}
+use Rattle.law_sphere.proofs.Lists.{at-one}
 use Rattle.nef_star.specs.declared.star.Star.{Star}
 use Rattle.nef_star.proofs.Needed.{true_or_false}
 use Rattle.nef_smap.proofs.Lists.{get-at}

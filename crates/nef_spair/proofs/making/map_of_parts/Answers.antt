@@ -1,6 +1,6 @@
 use Rattle.std.proofs.Common.{List, length, map, refl, sym, ap, subst, ◌∙◌}
-use Rattle.nef_sphere.specs.Least.{InOrder}
-use Rattle.nef_build.specs.From.{svertex_at}
+use Rattle.law_sphere.specs.Least.{InOrder}
+use Rattle.law_build.specs.From.{svertex_at}
 use Rattle.nef_star.specs.declared.star.Star.{Star}
 use Rattle.nef_star.specs.Stars.{star_of}
 use Rattle.nef_smap.specs.declared.map.SArc.{SArc}

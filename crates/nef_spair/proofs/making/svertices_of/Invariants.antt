@@ -1,5 +1,5 @@
 use Rattle.std.proofs.Common.{◌≡◌, map, take}
-use Rattle.nef_build.specs.From.{svertex_at}
+use Rattle.law_build.specs.From.{svertex_at}
 use Rattle.nef_star.specs.Stars.{star_of}
 use Rattle.nef_smap.specs.Maps.{svertex_of}
 use Rattle.nef_spair.proofs.making.svertices_of.Given as goal

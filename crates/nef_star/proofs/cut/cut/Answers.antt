@@ -2,7 +2,7 @@ use Rattle.std.proofs.Common.{◌≡◌, ℕ, ◌<◌, length, arith, sym, ap, s
 use Rattle.std.proofs.lemmas.Result.{on_ok_weaker}
 use Rattle.nef_space.specs.Vectors.{Vector}
 use Rattle.nef_geo.specs.Shapes.{vector_of}
-use Rattle.nef_cyclic.specs.Arcs.{IsOnCircle}
+use Rattle.law_cyclic.specs.Arcs.{IsOnCircle}
 use Rattle.nef_star.specs.Turning.{IsNext}
 use Rattle.nef_star.specs.Stars.{left_of, left_at, LeftPast}
 use Rattle.nef_star.proofs.Needed.{true_or_false}

@@ -1,6 +1,6 @@
 use Rattle.std.proofs.Common.{List, [], ◌∷◌, take, map, arith}
-use Rattle.nef_sphere.specs.Forms.{gather}
-use Rattle.nef_border.specs.Marks.{arc_labels}
+use Rattle.law_sphere.specs.Forms.{gather}
+use Rattle.law_border.specs.Marks.{arc_labels}
 use Rattle.nef_smap.specs.declared.map.SArc.{SArc}
 use Rattle.nef_smap.specs.Maps.{arc_of}
 use Rattle.nef_stopo.proofs.Labels.{gather-parts, nearby-more, nearby-all}

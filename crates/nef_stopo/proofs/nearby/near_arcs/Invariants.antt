@@ -1,6 +1,6 @@
 use Rattle.std.proofs.Common.{◌≡◌, take, map}
-use Rattle.nef_sphere.specs.Forms.{gather}
-use Rattle.nef_border.specs.Marks.{arc_labels}
+use Rattle.law_sphere.specs.Forms.{gather}
+use Rattle.law_border.specs.Marks.{arc_labels}
 use Rattle.nef_smap.specs.Maps.{arc_of}
 use Rattle.nef_stopo.specs.Labels.{nearby_of}
 use Rattle.nef_stopo.proofs.nearby.near_arcs.Given as goal

@@ -1,7 +1,7 @@
 use Rattle.std.proofs.Common.{List, [], ◌∷◌, take, map, arith, ap, ◌∙◌}
 use Rattle.nef_space.specs.declared.label.Label.{Label}
 use Rattle.nef_star.specs.declared.star.Ray.{Ray}
-use Rattle.nef_border.specs.Marks.{ray_mark}
+use Rattle.law_border.specs.Marks.{ray_mark}
 use Rattle.nef_star.specs.Stars.{ray_of}
 use Rattle.nef_stopo.specs.Labels.{nearby_of}
 use Rattle.nef_stopo.proofs.Labels.{marks-append, nearby-more, nearby-all}

@@ -1,5 +1,5 @@
 use Rattle.std.proofs.Common.{◌≡◌, take, map}
-use Rattle.nef_border.specs.Marks.{ray_mark}
+use Rattle.law_border.specs.Marks.{ray_mark}
 use Rattle.nef_star.specs.Stars.{ray_of}
 use Rattle.nef_stopo.specs.Labels.{nearby_of}
 use Rattle.nef_stopo.proofs.nearby.near_rays.Given as goal

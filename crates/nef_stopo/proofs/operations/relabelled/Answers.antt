@@ -1,4 +1,4 @@
-use Rattle.nef_border.specs.Marks.{map_labels}
+use Rattle.law_border.specs.Marks.{map_labels}
 use Rattle.nef_smap.specs.Maps.{map_of}
 use Rattle.nef_stopo.specs.Labels.{topology_of}
 use Rattle.nef_stopo.proofs.Labels.{label-near}

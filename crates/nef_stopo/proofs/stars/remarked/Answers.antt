@@ -1,6 +1,6 @@
 use Rattle.std.proofs.Common.{List, length, map, sym, ap, subst, ◌∙◌}
 use Rattle.nef_space.specs.declared.label.Label.{Label}
-use Rattle.nef_border.specs.Marks.{face_label, label_from, star_labels}
+use Rattle.law_border.specs.Marks.{face_label, label_from, star_labels}
 use Rattle.nef_star.specs.declared.star.Ray.{Ray}
 use Rattle.nef_star.specs.Stars.{star_of}
 use Rattle.nef_stopo.specs.Labels.{topology_of}

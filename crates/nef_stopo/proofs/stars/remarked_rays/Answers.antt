@@ -1,7 +1,7 @@
 use Rattle.std.proofs.Common.{[], ◌∷◌, get_or, ap, ◌∙◌}
 use Rattle.nef_space.specs.declared.label.Label.{Label}
 use Rattle.nef_space.specs.declared.label.Label.TheVariants.{Out}
-use Rattle.nef_border.specs.Marks.{label_from}
+use Rattle.law_border.specs.Marks.{label_from}
 use Rattle.nef_stopo.specs.Labels.{topology_of}
 use Rattle.nef_stopo.specs.Stars.{IsMarked}
 use Rattle.nef_stopo.proofs.Labels.{label-near}

@@ -1,7 +1,7 @@
 use Rattle.std.proofs.Common.{◌++◌}
-use Rattle.nef_sphere.specs.Forms.{forms}
-use Rattle.nef_build.proofs.Chosen.{op-labels}
-use Rattle.nef_build.proofs.RawFaces.{raw-shows_op}
+use Rattle.law_sphere.specs.Forms.{forms}
+use Rattle.law_build.proofs.Chosen.{op-labels}
+use Rattle.law_build.proofs.RawFaces.{raw-shows_op}
 use Rattle.nef_star.specs.Ops.{op_label}
 use Rattle.nef_star.specs.declared.op.Op.TheVariants.{And}
 use Rattle.nef_smap.specs.Maps.{map_of, raw_of}

@@ -1,6 +1,6 @@
 use Rattle.std.proofs.Common.{[], map, arith}
 use Rattle.nef_complex.specs.Complexes.{complex_of}
-use Rattle.nef_links.specs.Links.{LinkAcross}
+use Rattle.law_links.specs.Links.{LinkAcross}
 use Rattle.nef_parts.specs.Numbers.{count_items}
 use Rattle.nef_ties.specs.Ties.{IsTieAcross, Any, Adds}
 use Rattle.nef_ties.proofs.Adding.{any-next, any-all}

@@ -1,6 +1,6 @@
 use Rattle.nef_space.specs.Place.{normal_of}
 use Rattle.nef_geo.specs.Shapes.{form_of, vector_of}
-use Rattle.nef_sphere.proofs.Compare.{SameDirection-trans, SameDirection-turned}
+use Rattle.law_sphere.proofs.Compare.{SameDirection-trans, SameDirection-turned}
 use Rattle.nef_smap.proofs.Found.{dir-same}
 use Rattle.nef_ties.proofs.across.has_normal.Goals as goal
 

@@ -1,6 +1,6 @@
 use Rattle.std.proofs.Common.{arith, refl, subst}
-use Rattle.nef_sphere.specs.Maps.{Item, items, arc_item, OnItem}
-use Rattle.nef_sphere.proofs.Lists.{at-one}
+use Rattle.law_sphere.specs.Maps.{Item, items, arc_item, OnItem}
+use Rattle.law_sphere.proofs.Lists.{at-one}
 use Rattle.nef_geo.specs.Shapes.{vector_of}
 use Rattle.nef_smap.specs.Maps.{map_of, arc_of}
 use Rattle.nef_smap.proofs.ArcEnds.{at-map}

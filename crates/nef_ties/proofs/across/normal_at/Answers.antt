@@ -1,5 +1,5 @@
 use Rattle.std.proofs.Common.{arith, refl}
-use Rattle.nef_sphere.specs.Maps.{arc_item, loop_item}
+use Rattle.law_sphere.specs.Maps.{arc_item, loop_item}
 use Rattle.nef_smap.specs.Maps.{arc_of, loop_of}
 use Rattle.nef_smap.proofs.MapLists.{item-arc, item-loop}
 use Rattle.nef_ties.proofs.MapItems.{none-past, no-sloop}

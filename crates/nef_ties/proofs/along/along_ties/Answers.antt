@@ -1,7 +1,7 @@
 use Rattle.std.proofs.Common.{[], map, get_or}
 use Rattle.nef_complex.specs.Complexes.{complex_of, edge_of}
 use Rattle.nef_complex.proofs.Ends.{low-within, high-within}
-use Rattle.nef_links.specs.Links.{LinkAlong}
+use Rattle.law_links.specs.Links.{LinkAlong}
 use Rattle.nef_parts.specs.Numbers.{count_items}
 use Rattle.nef_ties.specs.Ties.{IsTieAlong, Any, Adds}
 use Rattle.nef_ties.proofs.Adding.{any-next, any-all}

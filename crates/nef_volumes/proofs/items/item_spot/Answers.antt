@@ -1,6 +1,6 @@
 use Rattle.std.proofs.Common.{subst, ap, ◌∙◌}
-use Rattle.nef_sphere.specs.Maps.{At, items}
-use Rattle.nef_solid.specs.Complexes.{Vertex}
+use Rattle.law_sphere.specs.Maps.{At, items}
+use Rattle.law_complex.specs.Complexes.{Vertex}
 use Rattle.nef_smap.specs.Maps.{map_of}
 use Rattle.nef_smap.proofs.Lists.{at-within}
 use Rattle.nef_complex.specs.Complexes.{vertex_of, complex_of}

@@ -1,7 +1,7 @@
 use Rattle.std.proofs.Common.{◌≡◌, List, ◌++◌, sym, ap, ◌∙◌, subst}
 use Rattle.nef_classes.specs.declared.table.Tie.{Tie}
 use Rattle.nef_complex.specs.Complexes.{complex_of}
-use Rattle.nef_links.specs.Links.{VolumeLink}
+use Rattle.law_links.specs.Links.{VolumeLink}
 use Rattle.nef_volumes.specs.Ties.{AreTiesOf, AreTiedOutside}
 use Rattle.nef_volumes.proofs.AllTies.{all-tied, all-outside}
 use Rattle.nef_volumes.proofs.links.side_ties.Goals as goal

@@ -2,7 +2,7 @@ use Rattle.std.proofs.Common.{ℕ, ◌+◌, List, ◌++◌, take, drop, ap, sym,
 use Rattle.nef_classes.specs.Tables.{AreTiedWithin, HasCounts, AreNumbers}
 use Rattle.nef_classes.specs.declared.table.Tie.{Tie}
 use Rattle.nef_complex.specs.Complexes.{complex_of}
-use Rattle.nef_links.specs.Links.{VolumeLink}
+use Rattle.law_links.specs.Links.{VolumeLink}
 use Rattle.nef_volumes.specs.Ties.{row_counts}
 use Rattle.nef_volumes.proofs.SideSpots.{ties-within}
 use Rattle.nef_volumes.proofs.SideLabels.{upright}

@@ -1,5 +1,5 @@
 use Rattle.std.proofs.Common.{◌≡◌, refl, ◌∙◌}
-use Rattle.nef_exact.specs.Signs.{Sign, plus, sign}
+use Rattle.law_arithmetic.specs.Signs.{Sign, plus, sign}
 use Rattle.nef_space.specs.Vectors.{dot}
 use Rattle.nef_geo.specs.Shapes.{vector_of}
 use Rattle.nef_smap.specs.Above.{first_sign}

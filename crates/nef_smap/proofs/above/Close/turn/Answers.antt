@@ -1,8 +1,8 @@
 use Rattle.std.proofs.Common.{sym, ap, ◌∙◌}
-use Rattle.nef_exact.specs.Signs.{sign}
+use Rattle.law_arithmetic.specs.Signs.{sign}
 use Rattle.nef_space.specs.Vectors.{Vector, dot, cross, up}
 use Rattle.nef_geo.specs.Shapes.{vector_of}
-use Rattle.nef_sphere.proofs.Direct.{cross-self}
+use Rattle.law_sphere.proofs.Direct.{cross-self}
 use Rattle.nef_smap.specs.Close.{geo_sign}
 use Rattle.nef_smap.proofs.CloseSigns.{read-turn, level-sign}
 use Rattle.nef_smap.proofs.above.Close.turn.Goals as goal

@@ -1,6 +1,6 @@
 use Rattle.std.proofs.Common.{[], ◌∷◌, ap, ◌∙◌}
 use Rattle.nef_space.specs.declared.label.Label.{Label}
-use Rattle.nef_border.specs.Marks.{face_label, label_from}
+use Rattle.law_border.specs.Marks.{face_label, label_from}
 use Rattle.nef_geo.specs.Shapes.{vector_of}
 use Rattle.nef_stopo.specs.Labels.{topology_of}
 use Rattle.nef_stopo.proofs.Labels.{label-near}

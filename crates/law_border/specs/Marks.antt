@@ -1,0 +1,131 @@
+-- The same by tables: the new labels of a map, of its stars and its circle, from the labels that are listed there.
+use Rattle.std.specs.Prelude.{◌≡◌, ℕ, List, [], ◌∷◌, ◌++◌, map, length, Option, Some, None, option_map, Bool, true, false, cond, not, ◌&&◌, ◌||◌}
+use Rattle.nef_space.specs.Vectors.{Vector}
+use Rattle.nef_space.specs.declared.label.Label.{Label}
+use Rattle.nef_space.specs.declared.label.Label.TheVariants.{Out, Not, In}
+use Rattle.law_sphere.specs.Maps.{At, Svertex, Arc, Loop, Map}
+use Rattle.law_sphere.specs.Forms.{gather}
+use Rattle.law_sphere.specs.Stars.{Ray, Star, StarShows, Follows}
+use Rattle.law_build.specs.Raw.{RawMap, IsWellFormed}
+use Rattle.law_border.specs.Topology.{Topology, interior, closure, boundary, complement}
+
+-- ---- tables
+abbrev pub is_in : Label → Bool
+is_in Out = false
+is_in Not = false
+is_in In = true
+
+abbrev pub all_in : List Label → Bool
+all_in [] = true
+all_in (l ∷ ls) = is_in l && all_in ls
+
+abbrev pub some_in : List Label → Bool
+some_in [] = false
+some_in (l ∷ ls) = is_in l || some_in ls
+
+-- whether the result is In, from a label and whether all and whether some of the labels close to it are In
+abbrev pub in_by : Topology → Label → Bool → Bool → Bool
+in_by interior l all some = is_in l && all
+in_by closure l all some = is_in l || some
+in_by boundary l all some = (is_in l || some) && not (is_in l && all)
+in_by complement l all some = not (is_in l)
+
+abbrev pub label_by : Topology → Label → Bool → Bool → Label
+label_by k Out all some = Out
+label_by k Not all some = cond (in_by k Not all some) In Not
+label_by k In all some = cond (in_by k In all some) In Not
+
+-- what the label l becomes, with the labels ls close to it
+abbrev pub label_from : Topology → Label → List Label → Label
+label_from k l ls = label_by k l (all_in ls) (some_in ls)
+
+-- what the label of a face becomes
+abbrev pub face_label : Topology → Label → Label
+face_label interior l = l
+face_label closure l = l
+face_label boundary Out = Out
+face_label boundary Not = Not
+face_label boundary In = Not
+face_label complement Out = Out
+face_label complement Not = In
+face_label complement In = Not
+
+-- ---- the labels of a map
+abbrev pub option_labels : Option Label → List Label
+option_labels None = []
+option_labels (Some l) = l ∷ []
+
+abbrev pub svertex_labels : Svertex → List Label
+svertex_labels v = v.mark ∷ option_labels v.around
+
+abbrev pub arc_labels : Arc → List Label
+arc_labels a = a.above ∷ a.mark ∷ a.below ∷ []
+
+abbrev pub loop_labels : Option Loop → List Label
+loop_labels None = []
+loop_labels (Some l) = l.above ∷ l.mark ∷ l.below ∷ []
+
+abbrev pub map_labels : Map → List Label
+map_labels M = gather svertex_labels M.svertices ++ (gather arc_labels M.arcs ++ (loop_labels M.loop ++ option_labels M.face))
+
+-- ---- stars and circles
+abbrev pub ray_mark : Ray → Label
+ray_mark r = r.mark
+
+abbrev pub star_labels : Star → List Label
+star_labels t = map ray_mark t.rays ++ t.sectors
+
+-- the ray with another mark
+abbrev pub marked : Ray → Label → Ray
+marked r l = record { normal = r.normal; ahead = r.ahead; mark = l }
+
+-- u is t with the marks that it gets: the axis by all rays and sectors, each ray by the sectors before and after it, each sector as a face
+pub record IsRemarked (k : Topology) (t u : Star) : Type 0 where
+  pub axis : u.axis ≡ t.axis
+  pub mark : u.mark ≡ label_from k t.mark (star_labels t)
+  pub as_many_rays : length u.rays ≡ length t.rays
+  pub as_many_sectors : length u.sectors ≡ length t.sectors
+  pub rays : (i j : ℕ) (r : Ray) (l m : Label) → At t.rays j r → Follows t.rays i j → At t.sectors i l → At t.sectors j m → At u.rays j (marked r (label_from k r.mark (l ∷ m ∷ [])))
+  pub sectors : (j : ℕ) (l : Label) → At t.sectors j l → At u.sectors j (face_label k l)
+
+-- u is the neighbourhood of d in the map, with the marks that it gets
+pub record IsRemarkedAt (k : Topology) (M : Map) (d : Vector) (u : Star) : Type 0 where
+  pub star : Star
+  pub axis : star.axis ≡ d
+  pub well_formed : IsWellFormed star
+  pub shows : StarShows star M
+  pub remarked : IsRemarked k star u
+
+abbrev pub loop_by : Topology → Loop → Loop
+loop_by k l = record { normal = l.normal; above = face_label k l.above; mark = label_from k l.mark (l.above ∷ l.below ∷ []); below = face_label k l.below }
+
+-- a star for each svertex of the map, in order; the map's mark, its sloop and its one face with what they become
+pub record IsTopologyRaw (k : Topology) (M : Map) (R : RawMap) : Type 0 where
+  pub mark : R.mark ≡ label_from k M.mark (map_labels M)
+  pub as_many : length R.stars ≡ length M.svertices
+  pub stars : (i : ℕ) (v : Svertex) (u : Star) → At M.svertices i v → At R.stars i u → IsRemarkedAt k M v.way u
+  pub loop : R.loop ≡ option_map (loop_by k) M.loop
+  pub face : R.face ≡ option_map (face_label k) M.face
+
+-- ---- all labels exchanged
+abbrev pub exchanged : Label → Label
+exchanged = face_label complement
+
+abbrev pub exchanged_svertex : Svertex → Svertex
+exchanged_svertex v = record { way = v.way; mark = exchanged v.mark; around = option_map exchanged v.around }
+
+abbrev pub exchanged_arc : Arc → Arc
+exchanged_arc a = record { normal = a.normal; source = a.source; target = a.target; above = exchanged a.above; mark = exchanged a.mark; below = exchanged a.below }
+
+abbrev pub exchanged_loop : Loop → Loop
+exchanged_loop l = record { normal = l.normal; above = exchanged l.above; mark = exchanged l.mark; below = exchanged l.below }
+
+-- the map with In and Not exchanged everywhere
+abbrev pub exchanged_map : Map → Map
+exchanged_map M = record {
+  mark = exchanged M.mark;
+  svertices = map exchanged_svertex M.svertices;
+  arcs = map exchanged_arc M.arcs;
+  loop = option_map exchanged_loop M.loop;
+  face = option_map exchanged M.face;
+}

@@ -1,0 +1,236 @@
+-- A ray that goes back is the end of an arc; so a svertex without arcs has no ray, and one label round it.
+use Rattle.std.proofs.Common.{◌≡◌, ℕ, zero, ◌+◌, pos, arith, refl, ap, sym, ◌∙◌, inl, inr, ⊎_elim, List, [], ◌∷◌, map, length, subst, Some, None, Bool, true, false, cond}
+use Rattle.std.proofs.lemmas.Int.{ints}
+use Rattle.nef_space.specs.Vectors.{Vector, IsDirection, cross, dot, IsZero, SameDirection, IsNormal}
+use Rattle.nef_space.specs.declared.label.Label.{Label}
+use Rattle.law_cyclic.specs.Arcs.{IsStrictlyOn}
+use Rattle.law_sphere.specs.Maps.{At, Svertex, Arc, Map, HasArc}
+use Rattle.law_sphere.specs.Labelling.{Near, StraightAt, IsSmooth}
+use Rattle.law_sphere.specs.Builds.{StraightAfter, Proper}
+use Rattle.law_sphere.specs.Stars.{Ray, Star, ray_way, in_only_sector}
+use Rattle.law_sphere.proofs.Vectors.{normal-direction, nought-if}
+use Rattle.law_sphere.proofs.Generic.{amount}
+use Rattle.law_sphere.proofs.Lists.{at-one}
+use Rattle.law_sphere.proofs.Parallel.{past_source, arc-point}
+use Rattle.law_sphere.proofs.Compare.{SameDirection-turned, way-self}
+use Rattle.law_sphere.proofs.Turn.{IsStrictlyOn-same, ends-together}
+use Rattle.law_sphere.proofs.Arcs.{level-same}
+use Rattle.law_sphere.proofs.Kind.{away}
+use Rattle.law_sphere.proofs.ArcLabels.{arc-along}
+use Rattle.law_sphere.proofs.Firsts.{First, first-after}
+use Rattle.law_sphere.proofs.Flips.{away-direction, reversed, flipped, unflipped, directed-by, far_directed-by, dot-away}
+use Rattle.law_sphere.proofs.Simplified.{away-twice, previous}
+use Rattle.law_build.specs.Raw.{RawMap, Of, sector_count, ShowsLabels}
+use Rattle.law_build.specs.From.{around_of, IsArcFrom}
+use Rattle.law_build.proofs.BuiltLabels.{with_axes, labelling, axial}
+use Rattle.law_build.proofs.KeptStars.{at-other}
+use Rattle.law_build.proofs.RayStraight.{ray-after, ray-there}
+use Rattle.law_build.proofs.StarSmooth.{cross-away, away-level}
+use Rattle.law_build.proofs.BuiltAxes.{IsMade, at-map, map-at, kept-shows, kept-simple, kept-axis, kept-apart, svertex-star, smooth-off}
+use Rattle.law_build.proofs.BuiltArcs.{arc-from, arc-direction, arc-level, arc-proper, arc-after, kept-arc}
+
+abbrev axis_of : Star → Vector
+axis_of t = t.axis
+
+-- ---- sectors and the label round a star
+pub sector-there : (t : Star) → length t.sectors ≡ sector_count t.rays → (k : ℕ) (r : Ray) → At t.rays k r → (l : Label) × At t.sectors k l
+sector-there t e k r a = by t.rays e a
+  where
+    by : (rs : List Ray) → length t.sectors ≡ sector_count rs → At rs k r → (l : Label) × At t.sectors k l
+    by [] f b = absurd b
+    by (q ∷ rs) f b = at-other (q ∷ rs) t.sectors k r (sym f) b
+
+lone-around : (rs : List Ray) (ls : List Label) → length ls ≡ sector_count rs → ((j : ℕ) (r : Ray) → At rs j r → ⊥) → (m : Label) × (around_of rs ls ≡ Some m)
+lone-around [] [] e none = absurd (omega arith)
+lone-around [] (l ∷ ls) e none = (l, refl)
+lone-around (r ∷ rs) ls e none = absurd (none zero r refl)
+
+ray-around : (rs : List Ray) (ls : List Label) (j : ℕ) (r : Ray) → At rs j r → around_of rs ls ≡ None
+ray-around [] ls j r a = absurd a
+ray-around (q ∷ rs) ls j r a = refl
+
+around-some : (rs : List Ray) (ls : List Label) (m : Label) → around_of rs ls ≡ Some m → (rs ≡ []) × At ls zero m
+around-some [] [] m e = absurd cc
+around-some [] (l ∷ ls) m e = (refl, cc)
+around-some (r ∷ rs) ls m e = absurd cc
+
+module _ (gs : List Vector) (L : Vector → Label) (R : RawMap) (M : Map) (C : IsMade gs L R M) where
+  abbrev F : Vector → Label → Type 0
+  F = Of L
+
+  abbrev hs : List Vector
+  hs = with_axes gs
+
+  abbrev kept : List Star
+  kept = C.built.kept
+
+  -- labels close after s in the plane of n go on up to t, where no kept axis lies between
+  pub labels-on : (n : Vector) (a m b : Label) → Proper a m b → IsDirection n → (s t : Vector) → IsDirection s → IsDirection t → dot n s ≡ pos 0 → dot n t ≡ pos 0
+      → ((k : ℕ) (u : Star) → At kept k u → IsStrictlyOn n s t u.axis → ⊥) → StraightAfter F n a m b s → (w : Vector) → IsStrictlyOn n s t w → StraightAt F n a m b w
+  labels-on n a m b proper hn s t hs' ht ls lt clear after w o =
+      let K = amount (cross t n ∷ []) (cross n s) + after.0 in
+      arc-along hs F (labelling gs L C.labelling) (directed-by hs (axial gs)) (far_directed-by hs (axial gs)) n a m b proper hn s t hs' ht ls lt smooth K (omega arith) (after.1 K (omega arith)) w o
+    where
+      smooth : (w : Vector) → IsStrictlyOn n s t w → IsSmooth F w
+      smooth w p = smooth-off gs L R M C w p.on_circle.direction (λ k u c q. clear k u c
+          (IsStrictlyOn-same n n s s t t w u.axis (way-self n hn) (way-self s hs') (way-self t ht) (SameDirection-turned u.axis w q) p))
+
+  -- ---- back along the circle of n from the kept star t to the kept star v, with none between
+  module _ (k : ℕ) (t : Star) (h : At kept k t) (n : Vector) (a m b : Label) (normal : IsNormal n) (lt : dot n t.axis ≡ pos 0) (proper : Proper a m b) (after : StraightAfter F (away n) b m a t.axis) where
+    abbrev s : Vector
+    s = t.axis
+
+    hn : IsDirection n
+    hn = normal-direction n normal
+
+    hs' : IsDirection s
+    hs' = kept-axis gs L R M C k t h
+
+    module _ (j : ℕ) (v : Star) (g : At kept j v) (lv : dot n v.axis ≡ pos 0) (clear : (i : ℕ) (u : Star) → At kept i u → IsStrictlyOn (away n) s v.axis u.axis → ⊥) where
+      hv : IsDirection v.axis
+      hv = kept-axis gs L R M C j v g
+
+      after-v : StraightAfter F n a m b v.axis
+      after-v = (
+        amount (cross s n ∷ []) (cross n v.axis),
+        λ i l.
+            let y = past_source n v.axis i in
+            unflipped F n a m b y (labels-on (away n) b m a (λ p q. proper q p) (away-direction n hn) s v.axis hs' hv (away-level n s lt) (away-level n v.axis lv) clear after y
+            (reversed n v.axis s y hv (arc-point n v.axis s hn hv hs' lv lt i l))),
+      )
+
+      back-to : (i : ℕ) × (c : Arc) × At M.arcs i c × (c.target ≡ k)
+      back-to = by (kept-arc gs L R M C j v n a m b g normal lv proper after-v)
+        where
+          by : (i : ℕ) × (c : Arc) × At M.arcs i c × (c.source ≡ j) × SameDirection n c.normal → (i : ℕ) × (c : Arc) × At M.arcs i c × (c.target ≡ k)
+          by (i, c, ic, src, w) = (
+            i,
+            c,
+            ic,
+            kept-apart gs L R M C c.target k A.target.first t A.target.listed h
+                (ends-together n v.axis A.target.first.axis s hn hv hf hs' lv lf lt
+                (λ o. A.target.none_before k t h (IsStrictlyOn-same n c.normal v.axis A.star.axis A.target.first.axis A.target.first.axis s s w star-is (way-self A.target.first.axis hf) (way-self s hs') o))
+                (λ o. clear c.target A.target.first A.target.listed (reversed n v.axis s A.target.first.axis hv o))),
+          )
+            where
+              A : IsArcFrom kept c
+              A = arc-from gs L R M C i c ic
+
+              hf : IsDirection A.target.first.axis
+              hf = kept-axis gs L R M C c.target A.target.first A.target.listed
+
+              lf : dot n A.target.first.axis ≡ pos 0
+              lf = level-same c.normal n A.target.first.axis A.target.first.axis (SameDirection-turned n c.normal w) (way-self A.target.first.axis hf) A.target.level
+
+              star-is : SameDirection v.axis A.star.axis
+              star-is = subst (λ (r : Star). SameDirection v.axis r.axis) (at-one kept j v A.star g (subst (λ (q : ℕ). At kept q A.star) src A.has_star)) (way-self v.axis hv)
+
+    -- an arc ends at t
+    pub back-arc : (i : ℕ) × (c : Arc) × At M.arcs i c × (c.target ≡ k)
+    back-arc = by (first-after (away n) s (away-direction n hn) hs' (away-level n s lt) (map axis_of kept))
+      where
+        back-level : (u : Vector) → dot (away n) u ≡ pos 0 → dot n u ≡ pos 0
+        back-level u z = let e = dot-away n u in omega (arith, ints)
+
+        by : First (away n) s (map axis_of kept) → (i : ℕ) × (c : Arc) × At M.arcs i c × (c.target ≡ k)
+        by f = ⊎_elim (λ e. at-star k t h (sym e)) (λ x. let y = at-map axis_of kept x.0 f.target x.1 in at-star x.0 y.0 y.1 (sym y.2)) f.listed
+          where
+            at-star : (j : ℕ) (v : Star) → At kept j v → f.target ≡ v.axis → (i : ℕ) × (c : Arc) × At M.arcs i c × (c.target ≡ k)
+            at-star j v g e = back-to j v g (subst (λ (r : Vector). dot n r ≡ pos 0) e (back-level f.target f.level))
+                (λ i u q o. f.none_before i u.axis (map-at axis_of kept i u q) (subst (λ (r : Vector). IsStrictlyOn (away n) s r u.axis) (sym e) o))
+
+  -- ---- arcs and rays
+  -- each ray of a kept star is on an arc from it or to it
+  ray-arc : (k : ℕ) (t : Star) (h : At kept k t) (j : ℕ) (r : Ray) → At t.rays j r → HasArc M k
+  ray-arc k t h j r x = by r.ahead refl
+    where
+      S : ShowsLabels t L
+      S = kept-shows gs L R M C k t h
+
+      by : (b : Bool) → r.ahead ≡ b → HasArc M k
+      by true e = let y = C.built.arcs_all k j t r h x e in (y.0, y.1, y.2, inl y.3)
+      by false e =
+          let ray = S.star.rays j r x in
+          let u = away r.normal in
+          let lu = away-level r.normal t.axis ray.level in
+          let y = previous t.rays j r x in
+          let p = sector-there t S.star.as_many j r x in
+          let q = sector-there t S.star.as_many y.0 y.1 y.2 in
+          let proper = λ (c : p.0 ≡ r.mark) (d : q.0 ≡ r.mark). kept-simple gs L R M C k t h y.0 j y.1 r q.0 p.0 y.2 x y.3 q.1 p.1 (sym d) (sym c) in
+          let way = ap (λ b. cond b (cross r.normal t.axis) (cross t.axis r.normal)) e ∙ cross-away r.normal t.axis in
+          let side = λ (z : IsZero (cross u t.axis)). S.star.axis (nought-if u t.axis (away-direction r.normal (normal-direction r.normal ray.normal)) z lu) in
+          let after = ray-after gs L C.labelling t S u p.0 r.mark q.0 proper u lu y.0 j r x way side y.3 p.1 q.1 refl in
+          let z = back-arc k t h r.normal q.0 r.mark p.0 ray.normal ray.level (λ c d. proper d c) after in
+          (z.0, z.1, z.2, inr z.3)
+
+  -- and a kept star with an arc has a ray
+  arc-ray : (k : ℕ) (t : Star) → At kept k t → HasArc M k → (j : ℕ) × (r : Ray) × At t.rays j r
+  arc-ray k t h (i, c, ic, e) = ⊎_elim from-source from-target e
+    where
+      A : IsArcFrom kept c
+      A = arc-from gs L R M C i c ic
+
+      from-source : c.source ≡ k → (j : ℕ) × (r : Ray) × At t.rays j r
+      from-source q = subst (λ (u : Star). (j : ℕ) × (r : Ray) × At u.rays j r) (at-one kept k A.star t (subst (λ (l : ℕ). At kept l A.star) q A.has_star) h) (A.number, A.ray, A.has_ray)
+
+      from-target : c.target ≡ k → (j : ℕ) × (r : Ray) × At t.rays j r
+      from-target q = subst (λ (u : Star). (j : ℕ) × (r : Ray) × At u.rays j r) (at-one kept k A.target.first t (subst (λ (l : ℕ). At kept l A.target.first) q A.target.listed) h) (let x = end in (x.0, x.1, x.2))
+        where
+          n : Vector
+          n = c.normal
+
+          s : Vector
+          s = A.star.axis
+
+          u : Vector
+          u = A.target.first.axis
+
+          hn : IsDirection c.normal
+          hn = arc-direction gs L R M C i c ic
+
+          hs' : IsDirection A.star.axis
+          hs' = kept-axis gs L R M C c.source A.star A.has_star
+
+          hu : IsDirection A.target.first.axis
+          hu = kept-axis gs L R M C c.target A.target.first A.target.listed
+
+          proper : Proper c.above c.mark c.below
+          proper = arc-proper gs L R M C i c ic
+
+          labels : (w : Vector) → IsStrictlyOn c.normal A.star.axis A.target.first.axis w → StraightAt F c.normal c.above c.mark c.below w
+          labels = labels-on c.normal c.above c.mark c.below proper hn A.star.axis A.target.first.axis hs' hu (arc-level gs L R M C i c ic) A.target.level A.target.none_before (arc-after gs L R M C i c ic)
+
+          close : StraightAfter F (away c.normal) c.below c.mark c.above A.target.first.axis
+          close = (
+            amount (cross s (away n) ∷ []) (cross (away n) u),
+            λ l g.
+                let y = past_source (away n) u l in
+                let o = reversed (away n) u s y hu (arc-point (away n) u s (away-direction n hn) hu hs' (away-level n u A.target.level) (away-level n s (arc-level gs L R M C i c ic)) l g) in
+                flipped F n c.above c.mark c.below y (labels y (subst (λ (r : Vector). IsStrictlyOn r s u y) (away-twice n) o)),
+          )
+
+          end : (j : ℕ) × (r : Ray) × At A.target.first.rays j r × SameDirection (ray_way A.target.first r) (cross (away c.normal) A.target.first.axis)
+          end = ray-there gs L C.labelling A.target.first (kept-shows gs L R M C c.target A.target.first A.target.listed) (away c.normal) c.below c.mark c.above (λ x y. proper y x)
+              (away-direction c.normal hn) (away-level c.normal A.target.first.axis A.target.level) close
+
+  -- ---- the label round a svertex
+  pub around-lone : (k : ℕ) (v : Svertex) → At M.svertices k v → (HasArc M k → ⊥) → (m : Label) × (v.around ≡ Some m)
+  around-lone k v h none =
+      let x = svertex-star gs L R M C k v h in
+      let S = kept-shows gs L R M C k x.0 x.1 in
+      let y = lone-around x.0.rays x.0.sectors S.star.as_many (λ j r a. none (ray-arc k x.0 x.1 j r a)) in
+      (y.0, sym (ap (λ (r : Svertex). r.around) x.2) ∙ y.1)
+
+  pub around-not : (k : ℕ) (v : Svertex) → At M.svertices k v → HasArc M k → v.around ≡ None
+  around-not k v h arc =
+      let x = svertex-star gs L R M C k v h in
+      let y = arc-ray k x.0 x.1 arc in
+      sym (ap (λ (r : Svertex). r.around) x.2) ∙ ray-around x.0.rays x.0.sectors y.0 y.1 y.2
+
+  pub around-near : (k : ℕ) (v : Svertex) (m : Label) (e : Vector) → At M.svertices k v → v.around ≡ Some m → IsDirection (cross v.way e) → Near F v.way e m
+  around-near k v m e h q f =
+      let x = svertex-star gs L R M C k v h in
+      let S = kept-shows gs L R M C k x.0 x.1 in
+      let way = ap (λ (r : Svertex). r.way) x.2 in
+      let y = around-some x.0.rays x.0.sectors m (ap (λ (r : Svertex). r.around) x.2 ∙ q) in
+      subst (λ (r : Vector). Near F r e m) way (S.labels e m (subst (λ (r : Vector). IsDirection (cross r e)) (sym way) f) (in_only_sector y.0 y.1))

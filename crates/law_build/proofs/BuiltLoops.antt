@@ -1,0 +1,163 @@
+-- The sloop that a builder makes: a circle with other labels beside it that no kept axis lies on.
+use Rattle.std.proofs.Common.{◌≡◌, ℕ, zero, pos, arith, refl, ap, sym, ◌∙◌, ◌⊎◌, inl, inr, ⊎_elim, List, subst, Some}
+use Rattle.std.proofs.lemmas.Int.{ints}
+use Rattle.law_arithmetic.proofs.Order.{sign, sign-plus, sign-minus}
+use Rattle.nef_space.specs.Vectors.{Vector, IsDirection, cross, dot, IsZero, SameDirection, IsNormal}
+use Rattle.nef_space.specs.declared.label.Label.{Label}
+use Rattle.law_cyclic.specs.Arcs.{IsOnCircle}
+use Rattle.law_forms.proofs.Far.{nought-or}
+use Rattle.law_forms.proofs.Directions.{self-pos, zero-decided}
+use Rattle.law_near.proofs.Supports.{square-cross}
+use Rattle.law_sphere.specs.Vectors.{IsPrimitive}
+use Rattle.law_sphere.specs.Maps.{At, Svertex, Loop, Map}
+use Rattle.law_sphere.specs.Least.{by_side}
+use Rattle.law_sphere.specs.Labelling.{Near, StraightAt, IsSmooth}
+use Rattle.law_sphere.specs.Builds.{Proper}
+use Rattle.law_sphere.specs.Stars.{Star, IsPlain, IsStraight}
+use Rattle.law_sphere.proofs.Vectors.{normal-direction}
+use Rattle.law_sphere.proofs.Lists.{Found, search_list}
+use Rattle.law_sphere.proofs.Parallel.{circle-point}
+use Rattle.law_sphere.proofs.Around.{Beside, same_way, other_way, beside}
+use Rattle.law_sphere.proofs.Compare.{SameDirection-turned, way-self, normals-not_opposite}
+use Rattle.law_sphere.proofs.Arcs.{level-same}
+use Rattle.law_sphere.proofs.Kind.{away, away-dot}
+use Rattle.law_sphere.proofs.Along.{near-one, not-even}
+use Rattle.law_sphere.proofs.Flips.{directed-by, far_directed-by, straight-same_way, planes-parallel, loop-along}
+use Rattle.law_build.specs.Raw.{RawMap, Of, ShowsLabels, IsBare}
+use Rattle.law_build.specs.From.{svertex_at, loop_at, IsLoopFrom, raw_loop, straight_loop}
+use Rattle.law_build.proofs.BuiltLabels.{with_axes, labelling, axial}
+use Rattle.law_build.proofs.RayStraight.{beside-level}
+use Rattle.law_build.proofs.StarSmooth.{star-plain, star-straight, star-normal, straight-first, straight-proper}
+use Rattle.law_build.proofs.BuiltAxes.{IsMade, star-svertex, smooth-off}
+
+-- what holds of a circle that may become the sloop
+pub record IsNeeded (F : Vector → Label → Type 0) (kept : List Star) (l : Loop) : Type 0 where
+  pub normal : IsNormal l.normal
+  pub lowest : IsPrimitive l.normal
+  pub bare : IsBare kept l.normal
+  pub point : Vector
+  pub direction : IsDirection point
+  pub labels : StraightAt F l.normal l.above l.mark l.below point
+  pub proper : Proper l.above l.mark l.below
+
+module _ (gs : List Vector) (L : Vector → Label) (R : RawMap) (M : Map) (C : IsMade gs L R M) where
+  abbrev F : Vector → Label → Type 0
+  F = Of L
+
+  abbrev hs : List Vector
+  hs = with_axes gs
+
+  abbrev kept : List Star
+  kept = C.built.kept
+
+  pub loop-needed : (l : Loop) → IsLoopFrom R kept l → IsNeeded F kept l
+  loop-needed l (raw_loop e p) =
+      let hn = normal-direction l.normal (C.raw.loop_normal l e) in
+      let y = circle-point l.normal hn in record {
+        normal = C.raw.loop_normal l e;
+        lowest = C.raw.loop_lowest l e;
+        bare = λ k t a z. let x = C.built.kept_from k t a in C.raw.loop_bare l e x.0 t x.1 z;
+        point = y.0;
+        direction = y.1.direction;
+        labels = C.raw.loop_labels l y.0 e y.1;
+        proper = p;
+      }
+  loop-needed l (straight_loop k t a K bare e) = subst (IsNeeded F kept) (sym e) (record {
+    normal = star-normal gs L C.labelling t S K;
+    lowest = S.star.rays_lowest zero K.first (straight-first t K);
+    bare = bare;
+    point = t.axis;
+    direction = S.star.axis;
+    labels = star-straight gs L C.labelling t S K;
+    proper = straight-proper t K (C.simple k t a);
+  })
+    where
+      S : ShowsLabels t L
+      S = C.raw.stars k t a
+
+  -- ---- one circle
+  module _ (n : Vector) (a m b : Label) (normal : IsNormal n) (bare : IsBare kept n) (proper : Proper a m b) (y : Vector) (hy : IsDirection y) (p : StraightAt F n a m b y) where
+    hn : IsDirection n
+    hn = normal-direction n normal
+
+    -- all round the circle the labels are the same
+    round : (d : Vector) → IsOnCircle n d → StraightAt F n a m b d
+    round d o = loop-along hs F (labelling gs L C.labelling) (axial gs) n a m b proper hn smooth y hy p d o
+      where
+        smooth : (d : Vector) → IsOnCircle n d → IsSmooth F d
+        smooth d o = smooth-off gs L R M C d o.direction (λ k t c w. bare k t c (level-same n n d t.axis (way-self n hn) (SameDirection-turned t.axis d w) o.level))
+
+    parallel-at : (u : Vector) (c l g : Label) (d : Vector) → IsOnCircle n d → StraightAt F u c l g d → IsZero (cross n u)
+    parallel-at u c l g d o q = planes-parallel hs F (labelling gs L C.labelling) (axial gs) n a m b proper hn u c l g d o.direction (round d o) q
+
+    same-normal : (u : Vector) → IsNormal u → IsZero (cross n u) → SameDirection n u
+    same-normal u hu z = by (beside n u hn (normal-direction u hu) z)
+      where
+        by : Beside n u → SameDirection n u
+        by (same_way w) = w
+        by (other_way w) = absurd (normals-not_opposite n u normal hu w)
+
+    straight-one : (c l g : Label) → StraightAt F n c l g y → Proper c l g
+    straight-one c l g q e f = proper (above ∙ e ∙ sym mark) (below ∙ f ∙ sym mark)
+      where
+        one : (e : Vector) (i k : Label) → Near F y e i → Near F y e k → i ≡ k
+        one e i k u v = near-one hs F (labelling gs L C.labelling) (directed-by hs (axial gs)) (far_directed-by hs (axial gs)) n a m b proper y e i k hy u v
+
+        mark : m ≡ l
+        mark = sym p.at_d ∙ q.at_d
+
+        plus-side : (i j k : Label) → by_side i j k (sign (dot n n)) ≡ i
+        plus-side i j k = ap (by_side i j k) (sign-plus (dot n n) (self-pos n hn))
+
+        minus-side : (i j k : Label) → by_side i j k (sign (dot n (away n))) ≡ k
+        minus-side i j k = ap (by_side i j k) (sign-minus (dot n (away n)) (let e = away-dot n n in let h = self-pos n hn in omega (arith, ints)))
+
+        above : a ≡ c
+        above = one n a c (subst (Near F y n) (plus-side a m b) (p.near n)) (subst (Near F y n) (plus-side c l g) (q.near n))
+
+        below : b ≡ g
+        below = one (away n) b g (subst (Near F y (away n)) (minus-side a m b) (p.near (away n))) (subst (Near F y (away n)) (minus-side c l g) (q.near (away n)))
+
+  -- two circles meet, and where both are needed they are the same
+  one-circle : (n : Vector) (a m b : Label) → IsNormal n → IsBare kept n → Proper a m b → (y : Vector) → IsDirection y → StraightAt F n a m b y → (l : Loop) → IsNeeded F kept l → SameDirection n l.normal
+  one-circle n a m b normal bare proper y hy p l N = same-normal n a m b normal bare proper y hy p l.normal N.normal (⊎_elim (λ z. z) (λ f. met f) (zero-decided (cross n l.normal)))
+    where
+      met : IsDirection (cross n l.normal) → IsZero (cross n l.normal)
+      met f = parallel-at n a m b normal bare proper y hy p l.normal l.above l.mark l.below (cross n l.normal) (record { direction = f; level = square-cross n l.normal })
+          (round l.normal l.above l.mark l.below N.normal N.bare N.proper N.point N.direction N.labels (cross n l.normal) (record { direction = f; level = beside-level n l.normal }))
+
+  pub loop-all : (n y : Vector) (a m b : Label) → IsNormal n → IsDirection y → ((k : ℕ) (v : Svertex) → At M.svertices k v → dot n v.way ≡ pos 0 → ⊥) → Proper a m b → StraightAt F n a m b y
+      → (l : Loop) × (M.loop ≡ Some l) × SameDirection n l.normal
+  loop-all n y a m b normal hy off proper p = by (search_list R.stars (λ k t. dot n t.axis ≡ pos 0) (λ k t. nought-or (dot n t.axis)))
+    where
+      bare : IsBare kept n
+      bare k t h z = off k (svertex_at t) (star-svertex gs L R M C k t h) z
+
+      hn : IsDirection n
+      hn = normal-direction n normal
+
+      listed : (l : Loop) → IsLoopFrom R kept l → (k : Loop) × (M.loop ≡ Some k) × SameDirection n k.normal
+      listed l f = let x = C.built.loop_all l f in (x.0, x.1, one-circle n a m b normal bare proper y hy p x.0 (loop-needed x.0 (C.built.loop_from x.0 x.1)))
+
+      at-star : (k : ℕ) (t : Star) (h : At R.stars k t) → dot n t.axis ≡ pos 0 → IsPlain t ⊎ IsStraight t ⊎ ((j : ℕ) × At kept j t) → (l : Loop) × (M.loop ≡ Some l) × SameDirection n l.normal
+      at-star k t h z (inl P) =
+          let S = C.raw.stars k t h in
+          let q = star-plain gs L C.labelling t S P in
+          absurd (not-even hs F (labelling gs L C.labelling) (directed-by hs (axial gs)) (far_directed-by hs (axial gs)) n a m b proper hn t.axis S.star.axis
+          (round n a m b normal bare proper y hy p t.axis (record { direction = S.star.axis; level = z })) t.mark q.at_d q.near)
+      at-star k t h z (inr (inl K)) =
+          let S = C.raw.stars k t h in
+          let u = K.first.normal in
+          let w = same-normal n a m b normal bare proper y hy p u (star-normal gs L C.labelling t S K)
+          (parallel-at n a m b normal bare proper y hy p u K.above t.mark K.below t.axis (record { direction = S.star.axis; level = z }) (star-straight gs L C.labelling t S K)) in
+          listed (loop_at t K) (straight_loop k t h K (λ i v c x. bare i v c (level-same u n v.axis v.axis (SameDirection-turned n u w) (way-self v.axis (let T = C.built.kept_from i v c in let V = C.raw.stars T.0 v T.1 in V.star.axis)) x)) refl)
+      at-star k t h z (inr (inr j)) = absurd (bare j.0 t j.1 z)
+
+      by : Found R.stars (λ k t. dot n t.axis ≡ pos 0) ⊎ ((k : ℕ) (t : Star) → At R.stars k t → dot n t.axis ≡ pos 0 → ⊥) → (l : Loop) × (M.loop ≡ Some l) × SameDirection n l.normal
+      by (inl f) = at-star f.number f.element f.listed f.holds (C.built.kept_all f.number f.element f.listed)
+      by (inr none) =
+          let x = C.raw.loop_all n y a m b normal none (record { direction = hy; level = p.level }) proper p in
+          let l = x.0 in
+          let q = C.raw.loop_labels l y x.1 (record { direction = hy; level = level-same n l.normal y y x.2 (way-self y hy) p.level }) in
+          let back = straight-same_way F l.normal n l.above l.mark l.below y (normal-direction l.normal (C.raw.loop_normal l x.1)) (SameDirection-turned n l.normal x.2) q in
+          listed l (raw_loop x.1 (straight-one n a m b normal bare proper y hy p l.above l.mark l.below back))

@@ -1,0 +1,228 @@
+-- At a straight direction the rays of a simplified star that is well formed go different ways, and two opposite ones make it a straight star.
+use Rattle.std.proofs.Common.{◌≡◌, ℕ, zero, suc, ◌<◌, pos, ◌-ℤ◌, ◌<ℤ◌, arith, refl, ap, sym, ◌∙◌, inl, ⊎_elim, List, [], ◌∷◌, subst, length, Bool, true, false, cond}
+use Rattle.std.proofs.lemmas.Int.{ints}
+use Rattle.law_arithmetic.proofs.Ring.{ring, at, num, ◌⊕◌, ◌⊖◌, ◌⊗◌}
+use Rattle.law_arithmetic.proofs.Order.{sign, sign-scaled, nought-is}
+use Rattle.nef_space.specs.Vectors.{Vector, IsDirection, cross, triple, dot, IsZero, SameDirection, IsOpposite}
+use Rattle.nef_space.specs.declared.label.Label.{Label}
+use Rattle.law_forms.proofs.Directions.{self-pos, dot-comm, dot-zero, zero-dot}
+use Rattle.law_near.proofs.FlatDecided.{cross-turned}
+use Rattle.law_sphere.specs.Vectors.{VectorBelow}
+use Rattle.law_sphere.specs.Maps.{At, Map, NearLabel, Valid}
+use Rattle.law_sphere.specs.Least.{NearStraight}
+use Rattle.law_sphere.specs.Stars.{Ray, Star, ray_way, across, in_sector, IsRay, StarShows, IsStraight, IsSimplified}
+use Rattle.law_sphere.proofs.Vectors.{normal-direction, same-plus, nought-if, direction-by}
+use Rattle.law_sphere.proofs.Parallel.{parallel-in_plane, parallel-trans}
+use Rattle.law_sphere.proofs.Labels.{way-signs}
+use Rattle.law_sphere.proofs.Around.{Beside, same_way, other_way, beside, opposites}
+use Rattle.law_sphere.proofs.Compare.{SameDirection-turned, normals-not_opposite}
+use Rattle.law_sphere.proofs.Turn.{whole-passes}
+use Rattle.law_sphere.proofs.Equal.{lowest-same}
+use Rattle.law_sphere.proofs.StarKinds.{across-side}
+use Rattle.law_sphere.proofs.Simplified.{ray-level, straight-level, not-even}
+use Rattle.law_sphere.proofs.StraightStars.{RaysApart, TwoRays, along-meet}
+use Rattle.law_build.specs.Raw.{sector_count, IsWellFormed}
+use Rattle.law_build.proofs.RayClose.{across-level}
+use Rattle.law_build.proofs.RayStraight.{off-axis}
+use Rattle.law_build.proofs.StarSmooth.{beside-turn}
+use Rattle.law_build.proofs.BuiltAxes.{vector-below_not, number-order}
+use Rattle.law_build.proofs.BuiltAround.{sector-there}
+
+-- ---- the normals of rays along one line
+turned-first : (d a w : Vector) → dot d (cross (cross d a) w) ≡ pos 0 -ℤ dot d (cross (cross a d) w)
+turned-first d a w =
+    let dx = at 0 in let dy = at 1 in let dz = at 2 in let ax = at 3 in let ay = at 4 in let az = at 5 in let wx = at 6 in let wy = at 7 in let wz = at 8 in
+    let ux = dy ⊗ az ⊖ dz ⊗ ay in let uy = dz ⊗ ax ⊖ dx ⊗ az in let uz = dx ⊗ ay ⊖ dy ⊗ ax in
+    let vx = ay ⊗ dz ⊖ az ⊗ dy in let vy = az ⊗ dx ⊖ ax ⊗ dz in let vz = ax ⊗ dy ⊖ ay ⊗ dx in
+    ring (d.x ∷ d.y ∷ d.z ∷ a.x ∷ a.y ∷ a.z ∷ w.x ∷ w.y ∷ w.z ∷ [])
+    (dx ⊗ (uy ⊗ wz ⊖ uz ⊗ wy) ⊕ dy ⊗ (uz ⊗ wx ⊖ ux ⊗ wz) ⊕ dz ⊗ (ux ⊗ wy ⊖ uy ⊗ wx))
+    (num (pos 0) ⊖ (dx ⊗ (vy ⊗ wz ⊖ vz ⊗ wy) ⊕ dy ⊗ (vz ⊗ wx ⊖ vx ⊗ wz) ⊕ dz ⊗ (vx ⊗ wy ⊖ vy ⊗ wx))) tt
+
+turned-last : (d a w : Vector) → dot d (cross w (cross d a)) ≡ pos 0 -ℤ dot d (cross w (cross a d))
+turned-last d a w =
+    let dx = at 0 in let dy = at 1 in let dz = at 2 in let ax = at 3 in let ay = at 4 in let az = at 5 in let wx = at 6 in let wy = at 7 in let wz = at 8 in
+    let ux = dy ⊗ az ⊖ dz ⊗ ay in let uy = dz ⊗ ax ⊖ dx ⊗ az in let uz = dx ⊗ ay ⊖ dy ⊗ ax in
+    let vx = ay ⊗ dz ⊖ az ⊗ dy in let vy = az ⊗ dx ⊖ ax ⊗ dz in let vz = ax ⊗ dy ⊖ ay ⊗ dx in
+    ring (d.x ∷ d.y ∷ d.z ∷ a.x ∷ a.y ∷ a.z ∷ w.x ∷ w.y ∷ w.z ∷ [])
+    (dx ⊗ (wy ⊗ uz ⊖ wz ⊗ uy) ⊕ dy ⊗ (wz ⊗ ux ⊖ wx ⊗ uz) ⊕ dz ⊗ (wx ⊗ uy ⊖ wy ⊗ ux))
+    (num (pos 0) ⊖ (dx ⊗ (wy ⊗ vz ⊖ wz ⊗ vy) ⊕ dy ⊗ (wz ⊗ vx ⊖ wx ⊗ vz) ⊕ dz ⊗ (wx ⊗ vy ⊖ wy ⊗ vx))) tt
+
+-- parallel rays have parallel normals
+normals-parallel : (t : Star) → IsDirection t.axis → (q r : Ray) → IsRay t q → IsRay t r → IsZero (cross (ray_way t q) (ray_way t r)) → IsZero (cross q.normal r.normal)
+normals-parallel t hd q r A B z = parallel-in_plane d a b hd (dot-comm d a ∙ A.level) (dot-comm d b ∙ B.level)
+    (nought-is (triple d a b) (sym (sign-scaled (dot d d) (triple d a b) (self-pos d hd)) ∙ ap sign (beside-turn d a b A.level B.level ∙ by q.ahead r.ahead z)))
+  where
+    d : Vector
+    d = t.axis
+
+    a : Vector
+    a = q.normal
+
+    b : Vector
+    b = r.normal
+
+    by : (i k : Bool) → IsZero (cross (cond i (cross q.normal t.axis) (cross t.axis q.normal)) (cond k (cross r.normal t.axis) (cross t.axis r.normal)))
+        → dot t.axis (cross (cross q.normal t.axis) (cross r.normal t.axis)) ≡ pos 0
+    by true true p = dot-zero d (cross (cross a d) (cross b d)) p
+    by true false p = let e = dot-zero d (cross (cross a d) (cross d b)) p in let f = turned-last d b (cross a d) in omega (arith, ints)
+    by false true p = let e = dot-zero d (cross (cross d a) (cross b d)) p in let f = turned-first d a (cross b d) in omega (arith, ints)
+    by false false p =
+        let e = dot-zero d (cross (cross d a) (cross d b)) p in
+        let f = turned-first d a (cross d b) in
+        let g = turned-last d b (cross a d) in
+        omega (arith, ints)
+
+-- rays along one line have one normal
+one-normal : (t : Star) → IsWellFormed t → (i k : ℕ) (q r : Ray) → At t.rays i q → At t.rays k r → IsZero (cross (ray_way t q) (ray_way t r)) → q.normal ≡ r.normal
+one-normal t W i k q r g h z = by (beside q.normal r.normal (normal-direction q.normal A.normal) (normal-direction r.normal B.normal) (normals-parallel t W.axis q r A B z))
+  where
+    A : IsRay t q
+    A = W.rays i q g
+
+    B : IsRay t r
+    B = W.rays k r h
+
+    by : Beside q.normal r.normal → q.normal ≡ r.normal
+    by (same_way w) = lowest-same q.normal r.normal w (W.rays_lowest i q g) (W.rays_lowest k r h)
+    by (other_way w) = absurd (normals-not_opposite q.normal r.normal A.normal B.normal w)
+
+-- along one line the first ray goes ahead, and the other back
+first-ahead : (t : Star) → IsWellFormed t → (k : ℕ) (q r : Ray) → At t.rays zero q → At t.rays (suc k) r → IsZero (cross (ray_way t q) (ray_way t r)) → (q.normal ≡ r.normal) × (q.ahead ≡ true) × (r.ahead ≡ false)
+first-ahead t W k q r g h z = ⊎_elim (λ l. absurd (vector-below_not r.normal (subst (λ (v : Vector). VectorBelow v r.normal) (one-normal t W zero (suc k) q r g h z) l))) (λ x. x) (W.least_first k q r g h)
+
+-- no other ray goes the way of the first
+first-alone : (t : Star) → IsWellFormed t → (k : ℕ) (q r : Ray) → At t.rays zero q → At t.rays (suc k) r → SameDirection (ray_way t q) (ray_way t r) → ⊥
+first-alone t W k q r g h w = back q.normal t.axis ways
+  where
+    x : (q.normal ≡ r.normal) × (q.ahead ≡ true) × (r.ahead ≡ false)
+    x = first-ahead t W k q r g h w.parallel
+
+    ahead : ray_way t q ≡ cross q.normal t.axis
+    ahead = ap (λ b. cond b (cross q.normal t.axis) (cross t.axis q.normal)) x.1
+
+    behind : ray_way t r ≡ cross t.axis q.normal
+    behind = ap (λ b. cond b (cross r.normal t.axis) (cross t.axis r.normal)) x.2 ∙ ap (λ v. cross t.axis v) (sym x.0)
+
+    ways : SameDirection (cross q.normal t.axis) (cross t.axis q.normal)
+    ways = subst (λ (v : Vector). SameDirection v (cross t.axis q.normal)) ahead (subst (SameDirection (ray_way t q)) behind w)
+
+    back : (n d : Vector) → SameDirection (cross n d) (cross d n) → ⊥
+    back n d s =
+        let e : dot (cross n d) (cross d n) ≡ pos 0 -ℤ dot (cross n d) (cross n d) = (
+        let nx = at 0 in let ny = at 1 in let nz = at 2 in let dx = at 3 in let dy = at 4 in let dz = at 5 in
+        let ux = ny ⊗ dz ⊖ nz ⊗ dy in let uy = nz ⊗ dx ⊖ nx ⊗ dz in let uz = nx ⊗ dy ⊖ ny ⊗ dx in
+        ring (n.x ∷ n.y ∷ n.z ∷ d.x ∷ d.y ∷ d.z ∷ []) (ux ⊗ (dy ⊗ nz ⊖ dz ⊗ ny) ⊕ uy ⊗ (dz ⊗ nx ⊖ dx ⊗ nz) ⊕ uz ⊗ (dx ⊗ ny ⊖ dy ⊗ nx))
+        (num (pos 0) ⊖ (ux ⊗ ux ⊕ uy ⊗ uy ⊕ uz ⊗ uz)) tt) in
+        let f = s.forward in
+        let p = self-pos (cross n d) (λ z. let g = zero-dot (cross n d) (cross d n) z in omega (arith, ints)) in
+        omega (arith, ints)
+
+-- two opposite rays with the star's mark and no other: the star is straight
+pub two-straight : (t : Star) → IsWellFormed t → TwoRays t → IsStraight t
+two-straight t W T = record {
+  first = T.first;
+  second = T.second;
+  two_rays = T.two_rays;
+  above = s.0;
+  below = s.1;
+  two_sectors = s.2;
+  one_normal = x.0;
+  first_ahead = x.1;
+  second_behind = x.2;
+  first_mark = T.first_mark;
+  second_mark = T.second_mark;
+}
+  where
+    x : (T.first.normal ≡ T.second.normal) × (T.first.ahead ≡ true) × (T.second.ahead ≡ false)
+    x = first-ahead t W zero T.first T.second (subst (λ (rs : List Ray). At rs zero T.first) (sym T.two_rays) refl) (subst (λ (rs : List Ray). At rs (suc zero) T.second) (sym T.two_rays) refl)
+        (let o = T.opposite in o.parallel)
+
+    two : (ls : List Label) → length ls ≡ 2 → (a : Label) × (b : Label) × (ls ≡ a ∷ b ∷ [])
+    two [] e = absurd (omega arith)
+    two (a ∷ []) e = absurd (omega arith)
+    two (a ∷ b ∷ []) e = (a, b, refl)
+    two (a ∷ b ∷ c ∷ ls) e = absurd (omega arith)
+
+    s : (a : Label) × (b : Label) × (t.sectors ≡ a ∷ b ∷ [])
+    s = two t.sectors (W.as_many ∙ ap sector_count T.two_rays)
+
+-- ---- at a straight direction
+module _ (t : Star) (W : IsWellFormed t) (M : Map) (V : Valid M) (S : StarShows t M) (simple : IsSimplified t) (P : NearStraight M t.axis) where
+  abbrev d : Vector
+  d = t.axis
+
+  at-ray : (k : ℕ) (r : Ray) → At t.rays k r → (dot d (ray_way t r) ≡ pos 0) × IsDirection (ray_way t r)
+  at-ray k r a = ray-level t W.axis r (W.rays k r a)
+
+  -- all rays lie along one line
+  one-line : (i k : ℕ) (q r : Ray) → At t.rays i q → At t.rays k r → IsZero (cross (ray_way t q) (ray_way t r))
+  one-line i k q r a b = parallel-trans (ray_way t q) w (ray_way t r) (λ z. W.axis (nought-if P.normal d P.direction z P.level)) (cross-turned w (ray_way t q) (along i q a)) (along k r b)
+    where
+      w : Vector
+      w = cross P.normal d
+
+      along : (k : ℕ) (r : Ray) → At t.rays k r → IsZero (cross (cross P.normal d) (ray_way t r))
+      along k r a = let x = at-ray k r a in along-meet P.normal d (ray_way t r) x.0 (straight-level t M V S simple P k r a)
+
+  -- all other rays go the other way
+  other-rays : (k : ℕ) (q r : Ray) → At t.rays zero q → At t.rays (suc k) r → IsOpposite (ray_way t q) (ray_way t r)
+  other-rays k q r a b = by (beside (ray_way t q) (ray_way t r) (let x = at-ray zero q a in x.1) (let x = at-ray (suc k) r b in x.1) (one-line zero (suc k) q r a b))
+    where
+      by : Beside (ray_way t q) (ray_way t r) → IsOpposite (ray_way t q) (ray_way t r)
+      by (same_way w) = absurd (first-alone t W k q r a b w)
+      by (other_way o) = o
+
+  -- so there is only one other: the sector between two would go all round, and hold the first ray
+  no-third : (q r s : Ray) → At t.rays zero q → At t.rays (suc zero) r → At t.rays (suc (suc zero)) s → ⊥
+  no-third q r s a b c = not-even t M V S simple zero q a u (λ z. let p = self-pos u x.1 in omega (arith, ints)) l.0 (all u (off-axis d u W.axis x.1 x.0) refl) all
+    where
+      u : Vector
+      u = ray_way t q
+
+      x : (dot d (ray_way t q) ≡ pos 0) × IsDirection (ray_way t q)
+      x = at-ray zero q a
+
+      y : (dot d (ray_way t r) ≡ pos 0) × IsDirection (ray_way t r)
+      y = at-ray (suc zero) r b
+
+      z : (dot d (ray_way t s) ≡ pos 0) × IsDirection (ray_way t s)
+      z = at-ray (suc (suc zero)) s c
+
+      l : (m : Label) × At t.sectors (suc zero) m
+      l = sector-there t W.as_many (suc zero) r b
+
+      both : SameDirection (ray_way t r) (ray_way t s)
+      both = opposites (ray_way t q) (ray_way t r) (ray_way t s) x.1 (other-rays zero q r a b) (other-rays (suc zero) q s a c)
+
+      all : (e : Vector) → IsDirection (cross d e) → sign (dot (ray_way t q) e) ≡ sign (dot (ray_way t q) (ray_way t q)) → NearLabel M d e l.0
+      all e f g = S.labels e l.0 f (in_sector (suc zero) r s b (inl c) (whole-passes d (ray_way t r) (ray_way t s) v W.axis y.1 z.1 (direction-by u v (λ i. let h = front in omega (arith, ints))) y.0 z.0 (across-level d e) both off) l.1)
+        where
+          v : Vector
+          v = across d e
+
+          front : pos 0 <ℤ dot (ray_way t q) (across d e)
+          front = same-plus (dot u u) (dot u v) (ap sign (across-side u d e (dot-comm u d ∙ x.0)) ∙ sign-scaled (dot d d) (dot u e) (self-pos d W.axis) ∙ g) (self-pos u x.1)
+
+          off : SameDirection (ray_way t s) (across d e) → ⊥
+          off w =
+              let o = other-rays (suc zero) q s a c in
+              let h = same-plus (dot u v) (dot u (ray_way t s)) (sym (way-signs (ray_way t s) v u z.1 w)) front in
+              let k = o.backward in
+              omega (arith, ints)
+
+  pub rays-apart : RaysApart t
+  rays-apart zero zero q r a b w = refl
+  rays-apart zero (suc k) q r a b w = absurd (first-alone t W k q r a b w)
+  rays-apart (suc i) zero q r a b w = absurd (first-alone t W i r q b a (SameDirection-turned (ray_way t q) (ray_way t r) w))
+  rays-apart (suc i) (suc k) q r a b w = number-order i k (λ l. absurd (third t.rays k r l refl b)) (λ e. ap suc e) (λ l. absurd (third t.rays i q l refl a))
+    where
+      -- a list with a place beyond the second has three elements
+      third : {j : ℕ} (rs : List Ray) (k : ℕ) (r : Ray) → j < k → t.rays ≡ rs → At rs (suc k) r → ⊥
+      third [] k r l e c = c
+      third (p ∷ []) k r l e c = c
+      third (p ∷ q ∷ []) zero r l e c = absurd (omega arith)
+      third (p ∷ q ∷ []) (suc k) r l e c = c
+      third (p ∷ q ∷ s ∷ rs) k r l e c = no-third p q s (listed zero p refl) (listed (suc zero) q refl) (listed (suc (suc zero)) s refl)
+        where
+          listed : (i : ℕ) (x : Ray) → At (p ∷ q ∷ s ∷ rs) i x → At t.rays i x
+          listed i x h = subst (λ (xs : List Ray). At xs i x) (sym e) h

@@ -1,0 +1,96 @@
+-- What a builder makes of simplified stars.
+use Rattle.std.specs.Prelude.{◌≡◌, ℕ, pos, List, [], ◌∷◌, map, length, Option, Some, None, ◌⊎◌, true}
+use Rattle.nef_space.specs.Vectors.{Vector, dot, cross, IsDirection}
+use Rattle.nef_space.specs.declared.label.Label.{Label}
+use Rattle.law_cyclic.specs.Arcs.{IsStrictlyOn}
+use Rattle.law_sphere.specs.Vectors.{VectorBelow}
+use Rattle.law_sphere.specs.Maps.{At, Svertex, Arc, Loop, Map}
+use Rattle.law_sphere.specs.Least.{InOrder, ArcBelow}
+use Rattle.law_sphere.specs.Stars.{Ray, Star, StarLabel, IsPlain, IsStraight, Follows, IsSimplified}
+use Rattle.law_sphere.specs.Builds.{Proper}
+use Rattle.law_build.specs.Raw.{RawMap, IsWellFormed, IsBare}
+
+-- s has t's axis and mark, and each label of t
+pub record IsKeptStar (t s : Star) : Type 0 where
+  pub star : IsWellFormed s
+  pub axis : s.axis ≡ t.axis
+  pub mark : s.mark ≡ t.mark
+  pub labels : (e : Vector) (l : Label) → IsDirection (cross t.axis e) → StarLabel t e l → StarLabel s e l
+
+-- each star has kept its labels
+pub record AreKept (ts us : List Star) : Type 0 where
+  pub as_many : length us ≡ length ts
+  pub kept : (k : ℕ) (t s : Star) → At ts k t → At us k s → IsKeptStar t s
+
+-- Q is R, with stars that have kept their labels
+pub record IsKeptRaw (R Q : RawMap) : Type 0 where
+  pub mark : Q.mark ≡ R.mark
+  pub stars : AreKept R.stars Q.stars
+  pub loop : Q.loop ≡ R.loop
+  pub same_ground : Q.face ≡ R.face
+
+-- no ray of a star has the mark of both its sectors
+abbrev pub AreSimplified : List Star → Type 0
+AreSimplified ts = (k : ℕ) (t : Star) → At ts k t → IsSimplified t
+
+-- the label round a star without rays
+abbrev pub around_of : List Ray → List Label → Option Label
+around_of [] [] = None
+around_of [] (l ∷ ls) = Some l
+around_of (r ∷ rs) ls = None
+
+abbrev pub svertex_at : Star → Svertex
+svertex_at t = record { way = t.axis; mark = t.mark; around = around_of t.rays t.sectors }
+
+-- of the axes on the circle of n the one with number j comes first after the axis of t, counterclockwise; t's own comes last
+pub record IsFirstAfter (kept : List Star) (n : Vector) (t : Star) (j : ℕ) : Type 0 where
+  pub first : Star
+  pub listed : At kept j first
+  pub level : dot n first.axis ≡ pos 0
+  pub none_before : (k : ℕ) (u : Star) → At kept k u → IsStrictlyOn n t.axis first.axis u.axis → ⊥
+
+-- the arc leaves the axis of its source along a ray that goes ahead, and has the ray's mark and the labels of the sectors after and before it
+pub record IsArcFrom (kept : List Star) (a : Arc) : Type 0 where
+  pub star : Star
+  pub ray : Ray
+  pub before : ℕ
+  pub number : ℕ
+  pub has_star : At kept a.source star
+  pub has_ray : At star.rays number ray
+  pub ahead : ray.ahead ≡ true
+  pub normal : a.normal ≡ ray.normal
+  pub mark : a.mark ≡ ray.mark
+  pub above : At star.sectors number a.above
+  pub follows : Follows star.rays before number
+  pub below : At star.sectors before a.below
+  pub target : IsFirstAfter kept a.normal star a.target
+
+-- the circle of a straight star
+abbrev pub loop_at : (t : Star) → IsStraight t → Loop
+loop_at t s = record { normal = s.first.normal; above = s.above; mark = t.mark; below = s.below }
+
+-- the circle of the raw map, or of a straight star of it that no kept axis lies on
+pub data IsLoopFrom (R : RawMap) (kept : List Star) (l : Loop) : Type 0 where
+  raw_loop : R.loop ≡ Some l → Proper l.above l.mark l.below → IsLoopFrom R kept l
+  straight_loop : (k : ℕ) (t : Star) → At R.stars k t → (s : IsStraight t) → IsBare kept s.first.normal → l ≡ loop_at t s → IsLoopFrom R kept l
+
+-- one of the labels of a raw map
+abbrev pub IsRawLabel : RawMap → Label → Type 0
+IsRawLabel R m = (R.face ≡ Some m) ⊎ ((k : ℕ) × (t : Star) × At R.stars k t × (t.mark ≡ m)) ⊎ ((l : Loop) × (R.loop ≡ Some l) × (l.mark ≡ m))
+
+-- M is made of the simplified stars of R: those that are neither plain nor straight become its svertices, their rays its arcs
+pub record IsBuiltFrom (R : RawMap) (M : Map) : Type 0 where
+  pub kept : List Star
+  pub kept_from : (k : ℕ) (t : Star) → At kept k t → (j : ℕ) × At R.stars j t
+  pub kept_needed : (k : ℕ) (t : Star) → At kept k t → IsPlain t ⊎ IsStraight t → ⊥
+  pub kept_all : (j : ℕ) (t : Star) → At R.stars j t → IsPlain t ⊎ IsStraight t ⊎ ((k : ℕ) × At kept k t)
+  pub kept_ordered : InOrder (λ t u. VectorBelow t.axis u.axis) kept
+  pub mark : M.mark ≡ R.mark
+  pub svertices : M.svertices ≡ map svertex_at kept
+  pub arcs_from : (k : ℕ) (a : Arc) → At M.arcs k a → IsArcFrom kept a
+  pub arcs_all : (i k : ℕ) (t : Star) (r : Ray) → At kept i t → At t.rays k r → r.ahead ≡ true → (j : ℕ) × (a : Arc) × At M.arcs j a × (a.source ≡ i) × (a.normal ≡ r.normal)
+  pub arcs_ordered : InOrder ArcBelow M.arcs
+  pub loop_from : (l : Loop) → M.loop ≡ Some l → IsLoopFrom R kept l
+  pub loop_all : (l : Loop) → IsLoopFrom R kept l → (k : Loop) × (M.loop ≡ Some k)
+  pub ground_alone : kept ≡ [] → M.loop ≡ None → (m : Label) × (M.face ≡ Some m) × IsRawLabel R m
+  pub ground_not : (m : Label) → M.face ≡ Some m → (kept ≡ []) × (M.loop ≡ None)

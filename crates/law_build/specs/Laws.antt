@@ -1,0 +1,39 @@
+-- What is proved of overlays and of building, each as one statement that a function's contract cites.
+use Rattle.std.specs.Prelude.{List, ◌++◌}
+use Rattle.nef_space.specs.Vectors.{Vector, IsDirection}
+use Rattle.nef_space.specs.declared.label.Label.{Label}
+use Rattle.law_sphere.specs.Maps.{Map, MapLabel, Valid}
+use Rattle.law_sphere.specs.Forms.{forms}
+use Rattle.law_sphere.specs.Least.{Least, Ordered}
+use Rattle.law_sphere.specs.Labelling.{ByOp}
+use Rattle.law_sphere.specs.Builds.{IsBuilt, Kept}
+use Rattle.law_build.specs.Raw.{RawMap, Of, IsLabelling, IsRawOf}
+use Rattle.law_build.specs.Overlays.{Raw}
+use Rattle.law_build.specs.From.{IsKeptRaw, AreSimplified, IsBuiltFrom}
+
+-- what is built of a labelling is valid, least, and has its labels
+abbrev pub LabelsBuild : Type 0
+LabelsBuild = (gs : List Vector) (L : Vector → Label) (M : Map) → IsLabelling gs L → IsBuilt M (Of L) → Kept M (Of L)
+    → Valid M × Least M × ((d : Vector) → IsDirection d → MapLabel M d (L d))
+
+-- stars that have kept their labels show the same
+abbrev pub KeptShow : Type 0
+KeptShow = (R Q : RawMap) (L : Vector → Label) → IsRawOf R L → IsKeptRaw R Q → IsRawOf Q L
+
+-- what is made of the simplified stars of a labelling is the ordered least map with its labels
+abbrev pub FromStars : Type 0
+FromStars = (gs : List Vector) (L : Vector → Label) (R : RawMap) (M : Map) → IsLabelling gs L → IsRawOf R L → AreSimplified R.stars → IsBuiltFrom R M
+    → Valid M × Least M × Ordered M × ((d : Vector) → IsDirection d → MapLabel M d (L d))
+
+-- the labels of a valid map, and op of the labels of two, are a labelling
+abbrev pub MapLabelling : Type 0
+MapLabelling = (M : Map) → Valid M → (L : Vector → Label) × IsLabelling (forms M) L × ((d : Vector) → IsDirection d → MapLabel M d (L d))
+
+abbrev pub OpLabelling : Type 0
+OpLabelling = (A B : Map) (op : Label → Label → Label) → Valid A → Valid B
+    → (L : Vector → Label) × IsLabelling (forms A ++ forms B) L × ((d : Vector) → IsDirection d → ByOp A B op d (L d))
+
+-- the stars of two maps overlaid show op of their labels
+abbrev pub RawShowsOp : Type 0
+RawShowsOp = (A B : Map) (op : Label → Label → Label) (R : RawMap) (L : Vector → Label) → Valid A → Valid B → Raw R A B op
+    → ((d : Vector) → IsDirection d → ByOp A B op d (L d)) → IsRawOf R L

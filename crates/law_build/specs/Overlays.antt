@@ -1,0 +1,73 @@
+-- The stars of two maps overlaid.
+use Rattle.std.specs.Prelude.{◌≡◌, ℕ, Some, ◌⊎◌, [], IsSome, MatchOption}
+use Rattle.nef_space.specs.Vectors.{Vector, IsDirection, cross, opposite, SameDirection}
+use Rattle.nef_space.specs.declared.label.Label.{Label}
+use Rattle.law_cyclic.specs.Arcs.{IsOnCircle}
+use Rattle.law_sphere.specs.Vectors.{IsPrimitive, VectorBelow}
+use Rattle.law_sphere.specs.Maps.{At, Svertex, Loop, Item, Map, items, item_normal, OnItem, NearLabel}
+use Rattle.law_sphere.specs.Least.{InOrder}
+use Rattle.law_sphere.specs.Stars.{Star, StarLabel}
+use Rattle.law_sphere.specs.Labelling.{ByOp}
+use Rattle.law_build.specs.Raw.{RawMap, IsWellFormed}
+
+-- d is a svertex of the map
+abbrev pub OnSvertex : Map → Vector → Type 0
+OnSvertex M d = (k : ℕ) × (v : Svertex) × At M.svertices k v × SameDirection v.way d
+
+-- an item of A and an item of B with another normal meet at d
+pub record IsCrossing (A B : Map) (d : Vector) : Type 0 where
+  pub i : ℕ
+  pub k : ℕ
+  pub x : Item
+  pub y : Item
+  pub of_a : At (items A) i x
+  pub of_b : At (items B) k y
+  pub apart : IsDirection (cross (item_normal x) (item_normal y))
+  pub on_x : OnItem A x d
+  pub on_y : OnItem B y d
+
+-- d is a svertex of A or of B, or a crossing
+abbrev pub IsAxis : Map → Map → Vector → Type 0
+IsAxis A B d = OnSvertex A d ⊎ OnSvertex B d ⊎ IsCrossing A B d
+
+-- op of both maps' labels close to d toward e
+abbrev pub NearByOp : Map → Map → (Label → Label → Label) → Vector → Vector → Label → Type 0
+NearByOp A B op d e m = (k : Label) × (l : Label) × NearLabel A d e k × NearLabel B d e l × (op k l ≡ m)
+
+-- the star has op of both maps' labels on its axis and near it
+pub record IsMerged (A B : Map) (op : Label → Label → Label) (t : Star) : Type 0 where
+  pub star : IsWellFormed t
+  pub axis : IsAxis A B t.axis
+  pub mark : ByOp A B op t.axis t.mark
+  pub labels : (e : Vector) (l : Label) → IsDirection (cross t.axis e) → StarLabel t e l → NearByOp A B op t.axis e l
+
+-- the sloop of A or of B that no axis lies on
+abbrev pub IsLoneLoop : Map → Map → Loop → Type 0
+IsLoneLoop A B l = ((A.loop ≡ Some l) ⊎ (B.loop ≡ Some l)) × ((d : Vector) → IsOnCircle l.normal d → IsAxis A B d → ⊥)
+
+-- the circle l has a lone sloop's normal, and op of both maps' labels on it and beside it
+pub record IsMergedLoop (A B : Map) (op : Label → Label → Label) (l : Loop) : Type 0 where
+  pub lone : Loop
+  pub is_lone : IsLoneLoop A B lone
+  pub normal : l.normal ≡ lone.normal
+  pub lowest : IsPrimitive l.normal
+  pub mark : (d : Vector) → IsOnCircle l.normal d → ByOp A B op d l.mark
+  pub above : (d : Vector) → IsOnCircle l.normal d → NearByOp A B op d l.normal l.above
+  pub below : (d : Vector) → IsOnCircle l.normal d → NearByOp A B op d (opposite l.normal) l.below
+
+-- op of both grounds
+abbrev pub IsMergedGround : Map → Map → (Label → Label → Label) → Label → Type 0
+IsMergedGround A B op m = (k : Label) × (l : Label) × (A.face ≡ Some k) × (B.face ≡ Some l) × (op k l ≡ m)
+
+-- the map has a svertex or a sloop
+abbrev pub HasItem : Map → Type 0
+HasItem M = (M.svertices ≡ [] → ⊥) ⊎ IsSome M.loop
+
+-- a star for each svertex and crossing of the two maps, in order, once each; the lone circle; the one label of two maps without items
+pub record Raw (R : RawMap) (A B : Map) (op : Label → Label → Label) : Type 0 where
+  pub mark : R.mark ≡ op A.mark B.mark
+  pub merged : (k : ℕ) (t : Star) → At R.stars k t → IsMerged A B op t
+  pub complete : (d : Vector) → IsAxis A B d → (k : ℕ) × (t : Star) × At R.stars k t × SameDirection t.axis d
+  pub ordered : InOrder (λ t u. VectorBelow t.axis u.axis) R.stars
+  pub circle : MatchOption R.loop ((l : Loop) → IsLoneLoop A B l → ⊥) (IsMergedLoop A B op)
+  pub face : MatchOption R.face (HasItem A ⊎ HasItem B) (IsMergedGround A B op)

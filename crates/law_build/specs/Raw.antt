@@ -1,0 +1,72 @@
+-- Maps given by the stars of their axes, and what it means that such stars show labels of all directions.
+use Rattle.std.specs.Prelude.{◌≡◌, ℕ, suc, pos, List, [], ◌∷◌, length, Option, Some, None, ◌⊎◌, true, false}
+use Rattle.nef_space.specs.Vectors.{Vector, IsDirection, cross, dot, SameDirection, IsNormal}
+use Rattle.nef_space.specs.declared.label.Label.{Label}
+use Rattle.law_cyclic.specs.Arcs.{IsOnCircle}
+use Rattle.law_sphere.specs.Vectors.{IsPrimitive, VectorBelow}
+use Rattle.law_sphere.specs.Maps.{At, Loop}
+use Rattle.law_sphere.specs.Forms.{SameSigns}
+use Rattle.law_sphere.specs.Least.{InOrder}
+use Rattle.law_sphere.specs.Stars.{Ray, Star, IsRay, StarLabel}
+use Rattle.law_sphere.specs.Labelling.{Near, StraightAt, IsSmooth}
+use Rattle.law_sphere.specs.Builds.{Proper}
+
+-- the stars of the directions that may be svertices, a circle that none of them lies on, and the one label where there is nothing else
+pub record RawMap : Type 0 where
+  pub mark : Label
+  pub stars : List Star
+  pub loop : Option Loop
+  pub face : Option Label
+
+-- a label for each direction, as a relation
+abbrev pub Of : (Vector → Label) → Vector → Label → Type 0
+Of L d m = L d ≡ m
+
+-- the signs of the forms determine the label of a direction
+abbrev pub IsLabelling : List Vector → (Vector → Label) → Type 0
+IsLabelling gs L = (d e : Vector) → IsDirection d → IsDirection e → SameSigns gs d e → L d ≡ L e
+
+-- as many sectors as rays, and one where there is no ray
+abbrev pub sector_count : List Ray → ℕ
+sector_count [] = 1
+sector_count (r ∷ rs) = length (r ∷ rs)
+
+-- the order by normal, with a ray that goes ahead before its opposite
+abbrev pub RayBelow : Ray → Ray → Type 0
+RayBelow q r = VectorBelow q.normal r.normal ⊎ ((q.normal ≡ r.normal) × (q.ahead ≡ true) × (r.ahead ≡ false))
+
+-- what holds of a star, whatever labels it has: the rays leave the axis, the first is the least, and each direction has one label
+pub record IsWellFormed (t : Star) : Type 0 where
+  pub axis : IsDirection t.axis
+  pub axis_lowest : IsPrimitive t.axis
+  pub rays : (k : ℕ) (r : Ray) → At t.rays k r → IsRay t r
+  pub rays_lowest : (k : ℕ) (r : Ray) → At t.rays k r → IsPrimitive r.normal
+  pub least_first : (k : ℕ) (q r : Ray) → At t.rays 0 q → At t.rays (suc k) r → RayBelow q r
+  pub as_many : length t.sectors ≡ sector_count t.rays
+  pub each : (e : Vector) → IsDirection (cross t.axis e) → (l : Label) × StarLabel t e l
+  pub one : (e : Vector) (l m : Label) → IsDirection (cross t.axis e) → StarLabel t e l → StarLabel t e m → l ≡ m
+
+-- the star has L's labels on its axis and near it
+pub record ShowsLabels (t : Star) (L : Vector → Label) : Type 0 where
+  pub star : IsWellFormed t
+  pub mark : L t.axis ≡ t.mark
+  pub labels : (e : Vector) (l : Label) → IsDirection (cross t.axis e) → StarLabel t e l → Near (Of L) t.axis e l
+
+-- no star has its axis on the circle of n
+abbrev pub IsBare : List Star → Vector → Type 0
+IsBare ts n = (k : ℕ) (t : Star) → At ts k t → dot n t.axis ≡ pos 0 → ⊥
+
+-- the stars, the circle and the one face show L: away from the axes L is plain or straight, and the circle has its labels all along
+pub record IsRawOf (R : RawMap) (L : Vector → Label) : Type 0 where
+  pub stars : (k : ℕ) (t : Star) → At R.stars k t → ShowsLabels t L
+  pub ordered : InOrder (λ t u. VectorBelow t.axis u.axis) R.stars
+  pub smooth : (d : Vector) → IsDirection d → ((k : ℕ) (t : Star) → At R.stars k t → SameDirection t.axis d → ⊥) → IsSmooth (Of L) d
+  pub loop_normal : (l : Loop) → R.loop ≡ Some l → IsNormal l.normal
+  pub loop_lowest : (l : Loop) → R.loop ≡ Some l → IsPrimitive l.normal
+  pub loop_bare : (l : Loop) → R.loop ≡ Some l → IsBare R.stars l.normal
+  pub loop_labels : (l : Loop) (y : Vector) → R.loop ≡ Some l → IsOnCircle l.normal y → StraightAt (Of L) l.normal l.above l.mark l.below y
+  pub loop_all : (n y : Vector) (a m b : Label) → IsNormal n → IsBare R.stars n → IsOnCircle n y → Proper a m b → StraightAt (Of L) n a m b y
+      → (l : Loop) × (R.loop ≡ Some l) × SameDirection n l.normal
+  pub ground_alone : R.stars ≡ [] → R.loop ≡ None → (m : Label) × (R.face ≡ Some m)
+  pub ground_not : (m : Label) → R.face ≡ Some m → (R.stars ≡ []) × (R.loop ≡ None)
+  pub ground_label : (m : Label) (d : Vector) → R.face ≡ Some m → IsDirection d → L d ≡ m

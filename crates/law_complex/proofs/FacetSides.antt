@@ -1,0 +1,131 @@
+-- Germs by the sides of a plane: where they aren't all one, the flat directions are those of the plane, and two planes with these flat directions are one.
+use Rattle.std.proofs.Common.{◌≡◌, pos, ◌*ℤ◌, neg_ℤ, arith, refl, ap, sym, ◌∙◌, ⊎_elim, [], ◌∷◌, subst}
+use Rattle.std.proofs.lemmas.Int.{ints}
+use Rattle.law_arithmetic.specs.Signs.{Sign, minus, nought, plus, sign}
+use Rattle.law_arithmetic.proofs.Ring.{ring, at, num, neg, ◌⊕◌, ◌⊖◌, ◌⊗◌}
+use Rattle.law_arithmetic.proofs.Combination.{given, none, follows}
+use Rattle.law_arithmetic.proofs.Order.{sign-plus, sign-minus}
+use Rattle.nef_space.specs.Local.{HasLabel, Germ, Flat, HasFlat, FlatDim}
+use Rattle.nef_space.specs.Place.{Place}
+use Rattle.nef_space.specs.Sets.{Set}
+use Rattle.nef_space.specs.Vectors.{Vector, zero_vector, opposite, dot, cross, triple, IsZero, IsDirection, IsNormal, SameDirection}
+use Rattle.nef_space.specs.declared.label.Label.{Label}
+use Rattle.law_near.specs.Laws.{SameGerms}
+use Rattle.law_near.proofs.Rays.{Germ-zero}
+use Rattle.law_near.proofs.Germs.{Germ-unique}
+use Rattle.law_near.proofs.Alike.{flat-germ, Flat-by_germs}
+use Rattle.law_near.proofs.Even.{span-3}
+use Rattle.law_near.proofs.Supports.{flat-plane, square-cross}
+use Rattle.law_forms.proofs.Far.{nought-or, same-nought}
+use Rattle.law_forms.proofs.Directions.{self-pos, dot-zero, dot-comm, direction-left}
+use Rattle.law_sphere.specs.Least.{by_side}
+use Rattle.law_sphere.proofs.Shot.{product-off}
+use Rattle.law_sphere.proofs.Vectors.{normal-direction}
+use Rattle.law_sphere.proofs.Labels.{way-signs}
+use Rattle.law_sphere.proofs.Places.{row_x, row_y, row_z, row_x-is, row_y-is, row_z-is}
+use Rattle.law_sphere.proofs.Parallel.{circle-point, row-level}
+use Rattle.law_sphere.proofs.Around.{Beside, same_way, other_way, beside}
+use Rattle.law_sphere.proofs.Compare.{normals-not_opposite}
+use Rattle.law_complex.proofs.Cones.{FlatAre, sided-flat, sided-two}
+
+-- a is the label above the plane of n, m in it, b below
+abbrev pub IsSided : Set → Place → Vector → Label → Label → Label → Type 0
+IsSided s q n a m b = (e : Vector) → Germ s q e (by_side a m b (sign (dot n e)))
+
+-- a direction of the same way lies in the plane too
+pub level-way : (n d e : Vector) → SameDirection d e → dot n d ≡ pos 0 → dot n e ≡ pos 0
+level-way n d e w z = same-nought (dot n d) (dot n e) (way-signs d e n (direction-left d e w) w) z
+
+pub sided-carried : (s : Set) (q y : Place) (n : Vector) (a m b : Label) → SameGerms s q y → IsSided s q n a m b → IsSided s y n a m b
+sided-carried s q y n a m b same all e = (same e (by_side a m b (sign (dot n e)))).0 (all e)
+
+pub flats-carried : (s : Set) (q y : Place) (n : Vector) → SameGerms s q y → FlatAre s q n → FlatAre s y n
+flats-carried s q y n same flat v = (
+  λ f. (flat v).0 (Flat-by_germs s s y q (λ d l. let g = same d l in (g.1, g.0)) v f),
+  λ z. Flat-by_germs s s q y same v ((flat v).1 z),
+)
+
+-- ---- where there is one label, not just two directions are flat
+pub one-label-flat : (s : Set) (q : Place) (m : Label) → ((e : Vector) → Germ s q e m) → (v d : Vector) → dot d v ≡ pos 0 → Flat s q v
+one-label-flat s q m all v d z = sided-flat s q d m m m (λ e. by e (sign (dot d e))) v z
+  where
+    by : (e : Vector) (t : Sign) → Germ s q e (by_side m m m t)
+    by e plus = all e
+    by e nought = all e
+    by e minus = all e
+
+pub one-label-not_two : (s : Set) (q : Place) (m : Label) → ((e : Vector) → Germ s q e m) → FlatDim s q 2 → ⊥
+one-label-not_two s q m all two =
+    let p = flat-plane s q two in
+    let c = circle-point p.0 p.1 in
+    let z = (p.2 p.0).0 (one-label-flat s q m all p.0 c.0 (dot-comm c.0 p.0 ∙ c.1.level)) in
+    let h = self-pos p.0 p.1 in omega (arith, ints)
+
+-- ---- where the labels aren't all one
+module _ (s : Set) (q : Place) (n : Vector) (a m b : Label) (all : IsSided s q n a m b) where
+  pub sided-label : HasLabel s q m
+  sided-label = (Germ-zero s q zero_vector m (refl, refl, refl)).0 (subst (λ (t : Sign). Germ s q zero_vector (by_side a m b t)) (ap sign (dot-zero n zero_vector (refl, refl, refl))) (all zero_vector))
+
+  pub sided-differ : FlatDim s q 2 → a ≡ m → b ≡ m → ⊥
+  sided-differ two e f = one-label-not_two s q m (λ v. subst (Germ s q v) (by (sign (dot n v))) (all v)) two
+    where
+      by : (t : Sign) → by_side a m b t ≡ m
+      by plus = e
+      by nought = refl
+      by minus = f
+
+  module _ (some : IsDirection n) (differ : a ≡ m → b ≡ m → ⊥) where
+    back-is : dot n (opposite n) ≡ neg_ℤ (dot n n)
+    back-is = ring (n.x ∷ n.y ∷ n.z ∷ []) (at 0 ⊗ neg (at 0) ⊕ at 1 ⊗ neg (at 1) ⊕ at 2 ⊗ neg (at 2)) (neg (at 0 ⊗ at 0 ⊕ at 1 ⊗ at 1 ⊕ at 2 ⊗ at 2)) tt
+
+    not-three : HasFlat s q 3 → ⊥
+    not-three h =
+        let flat : (e : Vector) → Flat s q e = λ e. span-3 s q h.0 h.1 h.2 e h.3 h.4 h.5 h.6 in
+        let on : (e : Vector) → by_side a m b (sign (dot n e)) ≡ m = λ e. Germ-unique s q e (by_side a m b (sign (dot n e))) m (all e) (flat-germ s q e m (flat e) sided-label) in
+        let up = self-pos n some in
+        let down = back-is in
+        differ (ap (λ (t : Sign). by_side a m b t) (sym (sign-plus (dot n n) up)) ∙ on n)
+        (ap (λ (t : Sign). by_side a m b t) (sym (sign-minus (dot n (opposite n)) (omega (arith, ints)))) ∙ on (opposite n))
+
+    pub sided-dim : FlatDim s q 2
+    sided-dim = let c = circle-point n some in (sided-two s q n c.0 a m b all some c.1.direction c.1.level, not-three)
+
+    pub sided-flats : FlatAre s q n
+    sided-flats v = (λ f. ⊎_elim (λ z. z) (λ o. absurd (third f o)) (nought-or (dot n v)), sided-flat s q n a m b all v)
+      where
+        -- d, n x d and v are independent: their product is (d.d) (n.v) - (n.d) (d.v)
+        third : Flat s q v → (dot n v ≡ pos 0 → ⊥) → ⊥
+        third f o =
+            let c = circle-point n some in
+            let d = c.0 in
+            let r = product n d v c.1.level in
+            not-three (d, cross n d, v, (λ z. product-off (dot d d) (dot n v) (self-pos d c.1.direction) o (sym r ∙ z)), sided-flat s q n a m b all d c.1.level, sided-flat s q n a m b all (cross n d) (square-cross n d), f)
+          where
+            product : (n d v : Vector) → dot n d ≡ pos 0 → triple d (cross n d) v ≡ dot d d *ℤ dot n v
+            product n d v z =
+                let nx = at 0 in let ny = at 1 in let nz = at 2 in
+                let dx = at 3 in let dy = at 4 in let dz = at 5 in
+                let vx = at 6 in let vy = at 7 in let vz = at 8 in
+                let cx = ny ⊗ dz ⊖ nz ⊗ dy in let cy = nz ⊗ dx ⊖ nx ⊗ dz in let cz = nx ⊗ dy ⊖ ny ⊗ dx in
+                follows (n.x ∷ n.y ∷ n.z ∷ d.x ∷ d.y ∷ d.z ∷ v.x ∷ v.y ∷ v.z ∷ [])
+                (dx ⊗ (cy ⊗ vz ⊖ cz ⊗ vy) ⊕ dy ⊗ (cz ⊗ vx ⊖ cx ⊗ vz) ⊕ dz ⊗ (cx ⊗ vy ⊖ cy ⊗ vx))
+                ((dx ⊗ dx ⊕ dy ⊗ dy ⊕ dz ⊗ dz) ⊗ (nx ⊗ vx ⊕ ny ⊗ vy ⊕ nz ⊗ vz))
+                (given (neg (dx ⊗ vx ⊕ dy ⊗ vy ⊕ dz ⊗ vz)) (nx ⊗ dx ⊕ ny ⊗ dy ⊕ nz ⊗ dz) (num (pos 0)) z none) tt
+
+-- ---- two planes with the same flat directions are one
+flats-parallel : (s : Set) (q : Place) (n m : Vector) → FlatAre s q n → FlatAre s q m → IsZero (cross n m)
+flats-parallel s q n m f g =
+    let r = row-level n in
+    let on : (v : Vector) → dot n v ≡ pos 0 → dot m v ≡ pos 0 = λ v z. (g v).0 ((f v).1 z) in (
+      sym (row_x-is n m) ∙ dot-comm (row_x n) m ∙ on (row_x n) r.0,
+      sym (row_y-is n m) ∙ dot-comm (row_y n) m ∙ on (row_y n) r.1,
+      sym (row_z-is n m) ∙ dot-comm (row_z n) m ∙ on (row_z n) r.2,
+    )
+
+-- normals point to one side
+pub flats-one : (s : Set) (q : Place) (n m : Vector) → IsNormal n → IsNormal m → FlatAre s q n → FlatAre s q m → SameDirection n m
+flats-one s q n m h k f g = by (beside n m (normal-direction n h) (normal-direction m k) (flats-parallel s q n m f g))
+  where
+    by : Beside n m → SameDirection n m
+    by (same_way w) = w
+    by (other_way o) = absurd (normals-not_opposite n m h k o)

@@ -1,0 +1,65 @@
+-- Complexes: vertices with their sphere maps, edges, and the planes that the set was made of.
+use Rattle.std.specs.Prelude.{◌≡◌, ℕ, ◌<◌, pos, List, [], ◌∷◌, ◌⊎◌}
+use Rattle.nef_space.specs.Numbers.{IsBelow}
+use Rattle.nef_space.specs.Place.{Place, Form, IsAhead, IsBetween}
+use Rattle.nef_space.specs.Vectors.{IsOpposite}
+use Rattle.nef_space.specs.declared.label.Label.{Label}
+use Rattle.law_sphere.specs.Least.{InOrder}
+use Rattle.law_sphere.specs.Maps.{At, Svertex, Item, Map, items}
+
+pub record Vertex : Type 0 where
+  pub point : Place
+  pub map : Map
+
+-- a lower vertex with one of its svertices, a higher vertex with one of its, and the mark of both
+pub record Edge : Type 0 where
+  pub low : ℕ
+  pub low_svertex : ℕ
+  pub high : ℕ
+  pub high_svertex : ℕ
+  pub mark : Label
+
+pub record Complex : Type 0 where
+  pub carriers : List Form
+  pub vertices : List Vertex
+  pub edges : List Edge
+
+-- an item of a vertex
+pub record Corner : Type 0 where
+  pub vertex : ℕ
+  pub item : ℕ
+
+-- v and w are the ends of the edge, the lower one first
+pub record HasEnds (C : Complex) (e : Edge) (v w : Vertex) : Type 0 where
+  pub low : At C.vertices e.low v
+  pub high : At C.vertices e.high w
+
+-- the corner is at the vertex v, on its item x
+pub record IsCorner (C : Complex) (k : Corner) (v : Vertex) (x : Item) : Type 0 where
+  pub vertex : At C.vertices k.vertex v
+  pub item : At (items v.map) k.item x
+
+-- the edge joins a vertex, along one of its svertices, with the first vertex on that ray
+pub record IsEdge (vs : List Vertex) (e : Edge) : Type 0 where
+  pub low_vertex : Vertex
+  pub high_vertex : Vertex
+  pub low_end : Svertex
+  pub high_end : Svertex
+  pub is_low : At vs e.low low_vertex
+  pub is_high : At vs e.high high_vertex
+  pub leaves : At low_vertex.map.svertices e.low_svertex low_end
+  pub arrives : At high_vertex.map.svertices e.high_svertex high_end
+  pub upward : e.low < e.high
+  pub ahead : IsAhead low_vertex.point low_end.way high_vertex.point
+  pub first : (k : ℕ) (v : Vertex) → At vs k v → IsBetween low_vertex.point v.point high_vertex.point → ⊥
+  pub back : IsOpposite low_end.way high_end.way
+  pub mark : e.mark ≡ low_end.mark
+
+abbrev pub IsEdgeBelow : Edge → Edge → Type 0
+IsEdgeBelow e f = IsBelow (pos e.low ∷ pos e.low_svertex ∷ []) (pos f.low ∷ pos f.low_svertex ∷ [])
+
+-- all edges of the vertices, in order
+pub record Edges (vs : List Vertex) (es : List Edge) : Type 0 where
+  pub edges : (k : ℕ) (e : Edge) → At es k e → IsEdge vs e
+  pub complete : (e : Edge) → IsEdge vs e → (k : ℕ) × At es k e
+  pub ordered : InOrder IsEdgeBelow es

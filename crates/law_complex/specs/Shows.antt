@@ -1,0 +1,40 @@
+-- When a complex shows a set.
+use Rattle.std.specs.Prelude.{◌≡◌, ℕ, ◌*ℤ◌, List}
+use Rattle.law_arithmetic.specs.Signs.{Lies}
+use Rattle.nef_space.specs.Numbers.{IsBelow}
+use Rattle.nef_space.specs.Place.{Place, Form, form_numbers, normal_of, SamePlace, IsPlaceBelow}
+use Rattle.nef_space.specs.Vectors.{IsDirection}
+use Rattle.nef_space.specs.Sets.{Set}
+use Rattle.nef_space.specs.Local.{IsVertex}
+use Rattle.law_near.specs.Cells.{carriers}
+use Rattle.law_sphere.specs.Least.{Least, Ordered, Cone, InOrder}
+use Rattle.law_sphere.specs.Maps.{At}
+use Rattle.law_complex.specs.Complexes.{Vertex, Complex, Edges}
+
+-- the forms of planes are multiples of each other
+pub record SamePlane (g h : Form) : Type 0 where
+  pub is_plane : IsDirection (normal_of g)
+  pub is_other_plane : IsDirection (normal_of h)
+  pub ab : g.a *ℤ h.b ≡ g.b *ℤ h.a
+  pub ac : g.a *ℤ h.c ≡ g.c *ℤ h.a
+  pub ad : g.a *ℤ h.d ≡ g.d *ℤ h.a
+  pub bc : g.b *ℤ h.c ≡ g.c *ℤ h.b
+  pub bd : g.b *ℤ h.d ≡ g.d *ℤ h.b
+  pub cd : g.c *ℤ h.d ≡ g.d *ℤ h.c
+
+-- the planes of the set's halves and of the frame, in order of their numbers, once each
+pub record Carriers (s : Set) (hs : List Form) : Type 0 where
+  pub each : (k : ℕ) (h : Form) → At hs k h → (f : Form) × Lies (carriers s) f × SamePlane h f
+  pub all : (f : Form) → Lies (carriers s) f → (k : ℕ) × (h : Form) × At hs k h × SamePlane h f
+  pub ordered : InOrder (λ g h. IsBelow (form_numbers g) (form_numbers h)) hs
+
+-- the vertices are those of the set, in order, once each, with least maps
+pub record Shows (s : Set) (C : Complex) : Type 0 where
+  pub vertices : (k : ℕ) (v : Vertex) → At C.vertices k v → IsVertex s v.point
+  pub complete : (p : Place) → IsVertex s p → (k : ℕ) × (v : Vertex) × At C.vertices k v × SamePlace v.point p
+  pub ordered : InOrder (λ u v. IsPlaceBelow u.point v.point) C.vertices
+  pub cones : (k : ℕ) (v : Vertex) → At C.vertices k v → Cone v.map s v.point
+  pub least : (k : ℕ) (v : Vertex) → At C.vertices k v → Least v.map
+  pub maps_ordered : (k : ℕ) (v : Vertex) → At C.vertices k v → Ordered v.map
+  pub edges : Edges C.vertices C.edges
+  pub carriers : Carriers s C.carriers

@@ -1,0 +1,112 @@
+-- Close after a direction on a circle the labels above, in and below the circle stay.
+use Rattle.std.proofs.Common.{◌≡◌, ℕ, ◌+◌, pos, ◌+ℤ◌, ◌*ℤ◌, ◌<ℤ◌, arith, ap, sym, ◌∙◌, List, [], ◌∷◌, subst}
+use Rattle.std.proofs.lemmas.Int.{ints}
+use Rattle.law_arithmetic.proofs.Ring.{ring, at, num, ◌⊕◌, ◌⊖◌, ◌⊗◌}
+use Rattle.law_arithmetic.proofs.Combination.{follows, given, none}
+use Rattle.law_arithmetic.proofs.Order.{sign, sign-plus, sign-minus, mul_pos}
+use Rattle.law_arithmetic.specs.Signs.{Lies}
+use Rattle.nef_space.specs.Vectors.{Vector, IsDirection, cross, dot, SameDirection}
+use Rattle.nef_space.specs.declared.label.Label.{Label}
+use Rattle.law_near.proofs.Supports.{square-cross}
+use Rattle.law_forms.proofs.Directions.{self-pos}
+use Rattle.law_sphere.specs.Least.{by_side}
+use Rattle.law_sphere.specs.Labelling.{Labelling, Near}
+use Rattle.law_sphere.specs.Builds.{StraightAfter, Proper}
+use Rattle.law_sphere.proofs.Vectors.{dot-comb, nought-if}
+use Rattle.law_sphere.proofs.Generic.{amount, far-same}
+use Rattle.law_sphere.proofs.Parallel.{past_source}
+use Rattle.law_sphere.proofs.Labels.{way-signs}
+use Rattle.law_sphere.proofs.Compare.{way-self}
+use Rattle.law_sphere.proofs.Kind.{away, away-dot}
+use Rattle.law_sphere.proofs.Turn.{way-directed}
+use Rattle.law_sphere.proofs.Arcs.{level-same}
+use Rattle.law_sphere.proofs.Flips.{Axial}
+use Rattle.law_cones.proofs.Signs.{leading, leading-nought, far-leading, far-direction, straight-carried, straight-above, straight-below}
+use Rattle.law_cones.proofs.Smooth.{FormOf, proper-form, parallel-by, straight-if}
+
+pub cross-some : (n d : Vector) → IsDirection n → IsDirection d → dot n d ≡ pos 0 → IsDirection (cross n d)
+cross-some n d hn hd q z = hd (nought-if n d hn z q)
+
+-- (n x d) x (u x d) = d (d.(n x u)), and (n x d).(u x d) = (n.u)(d.d) - (n.d)(u.d)
+pub cross-same : (n u d : Vector) → SameDirection n u → IsDirection d → dot n d ≡ pos 0 → SameDirection (cross n d) (cross u d)
+cross-same n u d w hd q =
+    let xs = n.x ∷ n.y ∷ n.z ∷ u.x ∷ u.y ∷ u.z ∷ d.x ∷ d.y ∷ d.z ∷ [] in
+    let o = num (pos 0) in
+    let nx = at 0 in let ny = at 1 in let nz = at 2 in
+    let ux = at 3 in let uy = at 4 in let uz = at 5 in
+    let dx = at 6 in let dy = at 7 in let dz = at 8 in
+    -- n x d, u x d and n x u
+    let ex = ny ⊗ dz ⊖ nz ⊗ dy in let ey = nz ⊗ dx ⊖ nx ⊗ dz in let ez = nx ⊗ dy ⊖ ny ⊗ dx in
+    let fx = uy ⊗ dz ⊖ uz ⊗ dy in let fy = uz ⊗ dx ⊖ ux ⊗ dz in let fz = ux ⊗ dy ⊖ uy ⊗ dx in
+    let vx = ny ⊗ uz ⊖ nz ⊗ uy in let vy = nz ⊗ ux ⊖ nx ⊗ uz in let vz = nx ⊗ uy ⊖ ny ⊗ ux in
+    let p = mul_pos (dot n u) (dot d d) w.forward (self-pos d hd) in
+    let e = follows xs (ex ⊗ fx ⊕ ey ⊗ fy ⊕ ez ⊗ fz) ((nx ⊗ ux ⊕ ny ⊗ uy ⊕ nz ⊗ uz) ⊗ (dx ⊗ dx ⊕ dy ⊗ dy ⊕ dz ⊗ dz)) (given (o ⊖ (ux ⊗ dx ⊕ uy ⊗ dy ⊕ uz ⊗ dz)) (nx ⊗ dx ⊕ ny ⊗ dy ⊕ nz ⊗ dz) o q none) tt in
+    record {
+      parallel = (
+        follows xs (ey ⊗ fz ⊖ ez ⊗ fy) o (given (dx ⊗ dx) vx o w.parallel.0 (given (dx ⊗ dy) vy o w.parallel.1 (given (dx ⊗ dz) vz o w.parallel.2 none))) tt,
+        follows xs (ez ⊗ fx ⊖ ex ⊗ fz) o (given (dy ⊗ dx) vx o w.parallel.0 (given (dy ⊗ dy) vy o w.parallel.1 (given (dy ⊗ dz) vz o w.parallel.2 none))) tt,
+        follows xs (ex ⊗ fy ⊖ ey ⊗ fx) o (given (dz ⊗ dx) vx o w.parallel.0 (given (dz ⊗ dy) vy o w.parallel.1 (given (dz ⊗ dz) vz o w.parallel.2 none))) tt,
+      );
+      forward = omega (arith, ints);
+    }
+
+module _ (gs : List Vector) (F : Vector → Label → Type 0) (L : Labelling gs F) (axial : Axial gs) where
+  pub record After (n d : Vector) : Type 0 where
+    pub above : Label
+    pub mark : Label
+    pub below : Label
+    pub labels : StraightAfter F n above mark below d
+
+  past-level : (n d : Vector) (i : ℕ) → dot n d ≡ pos 0 → dot n (past_source n d i) ≡ pos 0
+  past-level n d i q =
+      dot-comb n (pos i) d (pos 1) (cross n d) ∙ ap (λ r. pos i *ℤ r +ℤ pos 1 *ℤ dot n (cross n d)) q ∙ ap (λ r. pos i *ℤ pos 0 +ℤ pos 1 *ℤ r) (square-cross n d)
+      ∙ ring (pos i ∷ []) (at 0 ⊗ num (pos 0) ⊕ num (pos 1) ⊗ num (pos 0)) (num (pos 0)) tt
+
+  pub after-of : (n d : Vector) → IsDirection n → IsDirection d → dot n d ≡ pos 0 → After n d
+  after-of n d hn hd q =
+      let c = cross n d in
+      let k = amount gs c in
+      let z = past_source n d k in
+      let hz = far-direction gs F L axial d c k (omega arith) hd in
+      let one = λ (g : Vector) (l : Lies gs g) (e : dot g z ≡ pos 0).
+      let r = leading-nought (dot g d) (dot g c) (sym (far-leading gs d c k (omega arith) g l) ∙ ap sign e) in parallel-by n d g hd q r.0 r.1 in
+      let p = straight-if gs F L axial n z hn hz (past-level n d k q) one in
+      record {
+        above = _;
+        mark = _;
+        below = _;
+        labels = (k, λ i l. straight-carried gs F L axial n n _ _ _ z (past_source n d i) hz (far-direction gs F L axial d c i l hd) (way-self n hn) (past-level n d i q) (far-same gs d c k i (omega arith) l) p);
+      }
+
+  -- the same circle
+  pub after-same : (n u : Vector) (a m b : Label) (d : Vector) → IsDirection d → dot n d ≡ pos 0 → SameDirection n u → StraightAfter F n a m b d → StraightAfter F u a m b d
+  after-same n u a m b d hd q w (k, f) = (
+    k + amount gs (cross n d) + amount gs (cross u d),
+    λ i l.
+        let hn = way-directed n u w in
+        let v = cross-same n u d w hd q in
+        straight-carried gs F L axial n u a m b (past_source n d i) (past_source u d i) (far-direction gs F L axial d (cross n d) i (omega arith) hd) (far-direction gs F L axial d (cross u d) i (omega arith) hd) w
+        (past-level u d i (level-same n u d d w (way-self d hd) q))
+        (λ g j. far-leading gs d (cross u d) i (omega arith) g j ∙ ap (leading (sign (dot g d))) (way-signs (cross n d) (cross u d) g (way-directed (cross n d) (cross u d) v) v) ∙ sym (far-leading gs d (cross n d) i (omega arith) g j))
+        (f i (omega arith)),
+  )
+
+  pub after-one : (n : Vector) (a m b : Label) (d : Vector) (a' m' b' : Label) → IsDirection n → IsDirection d → StraightAfter F n a m b d → StraightAfter F n a' m' b' d → (a ≡ a') × (m ≡ m') × (b ≡ b')
+  after-one n a m b d a' m' b' hn hd (j, f) (k, g) =
+      let i = j + k + amount gs (cross n d) in
+      let z = past_source n d i in
+      let hz = far-direction gs F L axial d (cross n d) i (omega arith) hd in
+      let p = f i (omega arith) in
+      let r = g i (omega arith) in
+      let h = self-pos n hn in
+      let w = away-dot n n in
+      let down : dot n (away n) <ℤ pos 0 = omega (arith, ints) in (
+        straight-above gs F L axial n a m b z n a' hz p h (subst (Near F z n) (ap (by_side a' m' b') (sign-plus (dot n n) h)) (r.near n)),
+        L.one z m m' hz p.at_d r.at_d,
+        straight-below gs F L axial n a m b z (away n) b' hz p down (subst (Near F z (away n)) (ap (by_side a' m' b') (sign-minus (dot n (away n)) down)) (r.near (away n))),
+      )
+
+  pub after-form : (n : Vector) (a m b : Label) (d : Vector) → IsDirection n → IsDirection d → Proper a m b → StraightAfter F n a m b d → FormOf gs F L axial n
+  after-form n a m b d hn hd proper (k, f) =
+      let i = k + amount gs (cross n d) in
+      proper-form gs F L axial n a m b (past_source n d i) hn (far-direction gs F L axial d (cross n d) i (omega arith) hd) proper (f i (omega arith))

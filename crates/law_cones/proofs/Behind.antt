@@ -1,0 +1,128 @@
+-- A circle that is needed close before a svertex has an arc to it; so a svertex without arcs has one label all around it.
+use Rattle.std.proofs.Common.{◌≡◌, ℕ, ◌+◌, ℤ, pos, negsuc, ◌+ℤ◌, ◌*ℤ◌, arith, sym, ◌⊎◌, inl, inr, ⊎_elim, List, [], ◌∷◌, subst}
+use Rattle.std.proofs.lemmas.Int.{ints}
+use Rattle.law_arithmetic.proofs.Ring.{ring, at, num, ◌⊕◌, ◌⊗◌}
+use Rattle.nef_space.specs.Vectors.{Vector, IsDirection, cross, dot, SameDirection, IsNormal}
+use Rattle.nef_space.specs.declared.label.Label.{Label}
+use Rattle.law_near.proofs.Flats.{vector-same}
+use Rattle.law_cyclic.specs.Arcs.{IsStrictlyOn}
+use Rattle.law_sphere.specs.Maps.{At, Arc}
+use Rattle.law_sphere.specs.Labelling.{Labelling, Near, StraightAt, IsSmooth}
+use Rattle.law_sphere.specs.Builds.{StraightAfter, Proper}
+use Rattle.law_sphere.proofs.Vectors.{normal-direction}
+use Rattle.law_sphere.proofs.Lists.{at-one}
+use Rattle.law_sphere.proofs.Generic.{amount}
+use Rattle.law_sphere.proofs.Parallel.{past_source, arc-point}
+use Rattle.law_sphere.proofs.Compare.{SameDirection-turned, way-self}
+use Rattle.law_sphere.proofs.Turn.{IsStrictlyOn-same, ends-together}
+use Rattle.law_sphere.proofs.Arcs.{level-same}
+use Rattle.law_sphere.proofs.Kind.{away}
+use Rattle.law_sphere.proofs.ArcLabels.{arc-along}
+use Rattle.law_sphere.proofs.Firsts.{First, first-after}
+use Rattle.law_sphere.proofs.Flips.{dot-away, away-direction, reversed, unflipped, Axial, directed-by, far_directed-by}
+use Rattle.law_sphere.proofs.Builder.{normal-or}
+use Rattle.law_cones.proofs.Smooth.{even-or}
+use Rattle.law_cones.proofs.SmoothDecided.{smooth-decided}
+use Rattle.law_cones.proofs.Lone.{lone-near}
+use Rattle.law_cones.proofs.Ways.{Ways, ways-one}
+use Rattle.law_cones.proofs.Rays.{IsArc, Arcs}
+
+-- an arc of the list begins or ends at svertex k
+abbrev pub Arrives : List Arc → ℕ → Type 0
+Arrives as' k = (i : ℕ) × (a : Arc) × At as' i a × ((a.source ≡ k) ⊎ (a.target ≡ k))
+
+away-twice : (n : Vector) → away (away n) ≡ n
+away-twice n = vector-same (away (away n)) n (one n.x) (one n.y) (one n.z)
+  where
+    one : (x : ℤ) → negsuc 0 *ℤ (negsuc 0 *ℤ x +ℤ pos 0 *ℤ x) +ℤ pos 0 *ℤ (negsuc 0 *ℤ x +ℤ pos 0 *ℤ x) ≡ x
+    one x = let y = num (negsuc 0) ⊗ at 0 ⊕ num (pos 0) ⊗ at 0 in ring (x ∷ []) (num (negsuc 0) ⊗ y ⊕ num (pos 0) ⊗ y) (at 0) tt
+
+module _ (gs : List Vector) (F : Vector → Label → Type 0) (L : Labelling gs F) (axial : Axial gs) (W : Ways gs F L axial) (A : Arcs gs F L axial W) where
+  -- w is svertex k, and the labels close before it on the circle of n are a, m and b
+  module _ (n : Vector) (normal : IsNormal n) (k : ℕ) (w : Vector) (h : At W.list k w) (lw : dot n w ≡ pos 0) (a m b : Label) (proper : Proper a m b) (before : StraightAfter F (away n) b m a w) where
+    hn : IsDirection n
+    hn = normal-direction n normal
+
+    ha : IsDirection (away n)
+    ha = away-direction n hn
+
+    hw : IsDirection w
+    hw = W.direction k w h
+
+    proper_turned : Proper b m a
+    proper_turned x y = proper y x
+
+    level-away : (v : Vector) → dot n v ≡ pos 0 → dot (away n) v ≡ pos 0
+    level-away v z = let e = dot-away n v in omega (arith, ints)
+
+    -- s is the last svertex before w
+    module _ (j : ℕ) (s : Vector) (g : At W.list j s) (ls : dot n s ≡ pos 0) (clear : (i : ℕ) (x : Vector) → At W.list i x → IsStrictlyOn (away n) w s x → ⊥) where
+      hs : IsDirection s
+      hs = W.direction j s g
+
+      back-smooth : (y : Vector) → IsStrictlyOn (away n) w s y → IsSmooth F y
+      back-smooth y o = ⊎_elim (λ r. r) (λ f.
+          let v = W.all y o.on_circle.direction f in
+          absurd (clear v.0 v.1 v.2 (IsStrictlyOn-same (away n) (away n) w w s s y v.1 (way-self (away n) ha) (way-self w hw) (way-self s hs) v.3 o)))
+          (smooth-decided gs F L axial y o.on_circle.direction)
+
+      back-labels : (y : Vector) → IsStrictlyOn (away n) w s y → StraightAt F (away n) b m a y
+      back-labels y o =
+          let K = amount (cross s (away n) ∷ []) (cross (away n) w) + before.0 in
+          arc-along gs F L (directed-by gs axial) (far_directed-by gs axial) (away n) b m a proper_turned ha w s hw hs (level-away w lw) (level-away s ls) back-smooth K (omega arith) (before.1 K (omega arith)) y o
+
+      after : StraightAfter F n a m b s
+      after = (
+        amount (cross w n ∷ []) (cross n s),
+        λ i l.
+            let y = past_source n s i in
+            unflipped F n a m b y (back-labels y (reversed n s w y hs (arc-point n s w hn hs hw ls lw i l))),
+      )
+
+      arrives : (i : ℕ) × (c : Arc) × At A.list i c × (c.target ≡ k)
+      arrives = by (A.all n j normal (record { way = s; listed = g; level = ls; above = a; mark = m; below = b; labels = after; proper = proper }))
+        where
+          by : (i : ℕ) × (c : Arc) × At A.list i c × (c.source ≡ j) × SameDirection n c.normal → (i : ℕ) × (c : Arc) × At A.list i c × (c.target ≡ k)
+          by (i, c, ic, src, q) = (i, c, ic, ways-one gs F L axial W c.target k (A.each i c ic).target w (A.each i c ic).has_target h together)
+            where
+              e : IsArc gs F L axial W c
+              e = A.each i c ic
+
+              source-is : e.source ≡ s
+              source-is = at-one W.list j e.source s (subst (λ (r : ℕ). At W.list r e.source) src e.has_source) g
+
+              qt : SameDirection c.normal n
+              qt = SameDirection-turned n c.normal q
+
+              ht : IsDirection e.target
+              ht = W.direction c.target e.target e.has_target
+
+              lt : dot n e.target ≡ pos 0
+              lt = level-same c.normal n e.target e.target qt (way-self e.target ht) e.level_target
+
+              together : SameDirection (A.each i c ic).target w
+              together = ends-together n s e.target w hn hs ht hw ls lt lw
+                  (λ o. e.clear k w h (IsStrictlyOn-same n c.normal s e.source e.target e.target w w q (subst (SameDirection s) (sym source-is) (way-self s hs)) (way-self e.target ht) (way-self w hw) o))
+                  (λ o. clear c.target e.target e.has_target (reversed n s w e.target hs o))
+
+    pub behind : (i : ℕ) × (c : Arc) × At A.list i c × (c.target ≡ k)
+    behind = by (first-after (away n) w ha hw (level-away w lw) W.list)
+      where
+        level-back : (v : Vector) → dot (away n) v ≡ pos 0 → dot n v ≡ pos 0
+        level-back v z = let e = dot-away n v in omega (arith, ints)
+
+        by : First (away n) w W.list → (i : ℕ) × (c : Arc) × At A.list i c × (c.target ≡ k)
+        by f = ⊎_elim (λ e. arrives k f.target (subst (At W.list k) e h) (level-back f.target f.level) f.none_before) (λ j. arrives j.0 f.target j.1 (level-back f.target f.level) f.none_before) f.listed
+
+  -- no circle is needed close to a svertex without arcs
+  module _ (k : ℕ) (w : Vector) (h : At W.list k w) (lone : Arrives A.list k → ⊥) where
+    even : (n : Vector) (a m b : Label) → IsDirection n → dot n w ≡ pos 0 → StraightAfter F n a m b w → (a ≡ m) × (b ≡ m)
+    even n a m b hn q f = even-or a m b (λ p. ⊎_elim
+        (λ x. let r = A.all n k x (record { way = w; listed = h; level = q; above = a; mark = m; below = b; labels = f; proper = p }) in lone (r.0, r.1, r.2, inl r.3))
+        (λ x.
+        let r = behind (away n) x k w h (let e = dot-away n w in omega (arith, ints)) b m a (λ u v. p v u) (subst (λ (u : Vector). StraightAfter F u a m b w) (sym (away-twice n)) f) in
+        lone (r.0, r.1, r.2, inr r.3))
+        (normal-or n hn))
+
+    pub lone-around : (e u : Vector) → IsDirection (cross w e) → IsDirection (cross w u) → (m : Label) → Near F w e m → Near F w u m
+    lone-around = lone-near gs F L axial w (W.direction k w h) even

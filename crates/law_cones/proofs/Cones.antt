@@ -1,0 +1,32 @@
+-- Every point has a least map of every set, and every operation on two maps has one.
+use Rattle.std.proofs.Common.{◌≡◌, sym, ◌↔◌, ◌++◌, subst}
+use Rattle.nef_space.specs.Place.{Place}
+use Rattle.nef_space.specs.Vectors.{Vector, IsDirection}
+use Rattle.nef_space.specs.Sets.{Set}
+use Rattle.nef_space.specs.declared.label.Label.{Label}
+use Rattle.nef_space.specs.Local.{HasLabel, Germ}
+use Rattle.law_near.specs.Cells.{carriers}
+use Rattle.law_near.proofs.Decided.{label_of}
+use Rattle.law_sphere.specs.Maps.{Map, MapLabel, Valid}
+use Rattle.law_sphere.specs.Forms.{forms}
+use Rattle.law_sphere.specs.Least.{Least, Ordered, Cone}
+use Rattle.law_sphere.specs.Labelling.{ByOp}
+use Rattle.law_sphere.proofs.Labellings.{normals_of, germ-labelling, op-labelling}
+use Rattle.law_sphere.proofs.BuiltLeast.{op-build, set-build}
+use Rattle.law_cones.proofs.Assembled.{labelling-map}
+
+pub point-map : (s : Set) (p : Place) → (M : Map) × Cone M s p × Least M × Ordered M
+point-map s p = by (label_of s p)
+  where
+    by : ((m : Label) × HasLabel s p m) → (M : Map) × Cone M s p × Least M × Ordered M
+    by (m, h) =
+        let r = labelling-map (normals_of (carriers s)) (Germ s p) (germ-labelling s p) m in
+        let c = set-build r.map s p (subst (HasLabel s p) (sym r.marked) h) r.built r.kept in
+        (r.map, c.0, c.1, r.ordered)
+
+pub op-map : (A B : Map) (op : Label → Label → Label) (mark : Label) → Valid A → Valid B
+    → (M : Map) × Valid M × Least M × Ordered M × (M.mark ≡ mark) × ((d : Vector) (m : Label) → IsDirection d → MapLabel M d m ↔ ByOp A B op d m)
+op-map A B op mark V W =
+    let r = labelling-map (forms A ++ forms B) (ByOp A B op) (op-labelling A B op V W) mark in
+    let c = op-build A B r.map op V W r.built r.kept in
+    (r.map, c.0, c.1, r.ordered, r.marked, c.2)

@@ -1,0 +1,184 @@
+-- The arcs of a labelling: one from each svertex along each circle that is needed close after it, to the first svertex; in order.
+use Rattle.std.proofs.Common.{◌≡◌, ℕ, pos, arith, refl, sym, ◌∙◌, ◌⊎◌, inl, inr, ⊎_elim, List, subst}
+use Rattle.std.proofs.lemmas.Bool.{cases_lt}
+use Rattle.law_arithmetic.proofs.Lists.{pairs, lies-pairs}
+use Rattle.nef_space.specs.Vectors.{Vector, dot, SameDirection, IsNormal}
+use Rattle.nef_space.specs.declared.label.Label.{Label}
+use Rattle.law_near.proofs.Decided.{Decided}
+use Rattle.law_forms.proofs.Far.{nought-or}
+use Rattle.law_cyclic.specs.Arcs.{IsStrictlyOn}
+use Rattle.law_sphere.specs.Vectors.{IsPrimitive, VectorBelow}
+use Rattle.law_sphere.specs.Maps.{At, Arc}
+use Rattle.law_sphere.specs.Least.{ArcBelow, InOrder}
+use Rattle.law_sphere.specs.Labelling.{Labelling}
+use Rattle.law_sphere.specs.Builds.{StraightAfter, Proper}
+use Rattle.law_sphere.proofs.Vectors.{normal-direction}
+use Rattle.law_sphere.proofs.Lists.{at-one}
+use Rattle.law_sphere.proofs.Compare.{way-self}
+use Rattle.law_sphere.proofs.Arcs.{level-same}
+use Rattle.law_sphere.proofs.Firsts.{First, first-after}
+use Rattle.law_sphere.proofs.Flips.{Axial}
+use Rattle.law_cones.proofs.Listing.{lies-at, at-lies, at-or, numbers, at-number, Collected, collect, Sorted, sort, chain-order}
+use Rattle.law_cones.proofs.Lowest.{below-trans, below-either, below-itself}
+use Rattle.law_cones.proofs.Smooth.{proper-decided}
+use Rattle.law_cones.proofs.After.{After, after-of, after-same, after-one, after-form}
+use Rattle.law_cones.proofs.Ways.{Plane, plane-direction, Planes, planes, Ways}
+
+-- ---- the order of arcs
+abbrev pub SameArc : Arc → Arc → Type 0
+SameArc a b = (a.normal ≡ b.normal) × (a.source ≡ b.source)
+
+arc-trans : (a b c : Arc) → ArcBelow a b → ArcBelow b c → ArcBelow a c
+arc-trans a b c (inl x) (inl y) = inl (below-trans a.normal b.normal c.normal x y)
+arc-trans a b c (inl x) (inr y) = inl (subst (VectorBelow a.normal) y.0 x)
+arc-trans a b c (inr x) (inl y) = inl (subst (λ (v : Vector). VectorBelow v c.normal) (sym x.0) y)
+arc-trans a b c (inr x) (inr y) = inr (x.0 ∙ y.0, let p = x.1 in let q = y.1 in omega arith)
+
+arc-either : (a b : Arc) → ArcBelow a b ⊎ SameArc a b ⊎ ArcBelow b a
+arc-either a b = by (below-either a.normal b.normal)
+  where
+    by : VectorBelow a.normal b.normal ⊎ (a.normal ≡ b.normal) ⊎ VectorBelow b.normal a.normal → ArcBelow a b ⊎ SameArc a b ⊎ ArcBelow b a
+    by (inl x) = inl (inl x)
+    by (inr (inl e)) = ⊎_elim (λ l. inl (inr (e, l))) (λ l. ⊎_elim (λ m. inr (inr (inr (sym e, m)))) (λ m. inr (inl (e, omega arith))) (cases_lt b.source a.source)) (cases_lt a.source b.source)
+    by (inr (inr x)) = inr (inr (inl x))
+
+arc-itself : (a b : Arc) → SameArc a b → ArcBelow a b → ⊥
+arc-itself a b s (inl x) = below-itself b.normal (subst (λ (v : Vector). VectorBelow v b.normal) s.0 x)
+arc-itself a b s (inr x) = let p = x.1 in let q = s.1 in omega arith
+
+same-source : (k : ℕ) (a b : Arc) → SameArc a b → a.source ≡ k → b.source ≡ k
+same-source k a b s e = sym s.1 ∙ e
+
+same-normal : (n p : Vector) (a b : Arc) → SameArc a b → a.normal ≡ p → SameDirection n p → SameDirection n b.normal
+same-normal n p a b s e w = subst (SameDirection n) (sym e ∙ s.0) w
+
+-- no normal stands twice with one source
+pub arc-one : (as' : List Arc) → InOrder ArcBelow as' → (i k : ℕ) (a b : Arc) → At as' i a → At as' k b → SameArc a b → i ≡ k
+arc-one as' o i k a b x y s = ⊎_elim
+    (λ l. absurd (arc-itself a b s (o i k a b l x y)))
+    (λ l. ⊎_elim (λ m. absurd (arc-itself b a (sym s.0, sym s.1) (o k i b a m y x))) (λ m. omega arith) (cases_lt k i))
+    (cases_lt i k)
+
+abbrev spot : Plane → ℕ → Plane × ℕ
+spot p k = (p, k)
+
+module _ (gs : List Vector) (F : Vector → Label → Type 0) (L : Labelling gs F) (axial : Axial gs) (W : Ways gs F L axial) where
+  pub record IsArc (a : Arc) : Type 0 where
+    pub normal : IsNormal a.normal
+    pub primitive : IsPrimitive a.normal
+    pub source : Vector
+    pub target : Vector
+    pub has_source : At W.list a.source source
+    pub has_target : At W.list a.target target
+    pub level_source : dot a.normal source ≡ pos 0
+    pub level_target : dot a.normal target ≡ pos 0
+    pub labels : StraightAfter F a.normal a.above a.mark a.below source
+    pub proper : Proper a.above a.mark a.below
+    pub clear : (j : ℕ) (x : Vector) → At W.list j x → IsStrictlyOn a.normal source target x → ⊥
+
+  -- a circle that is needed close after a svertex
+  pub record Needed (n : Vector) (k : ℕ) : Type 0 where
+    pub way : Vector
+    pub listed : At W.list k way
+    pub level : dot n way ≡ pos 0
+    pub above : Label
+    pub mark : Label
+    pub below : Label
+    pub labels : StraightAfter F n above mark below way
+    pub proper : Proper above mark below
+
+  pub record Arcs : Type 0 where
+    pub list : List Arc
+    pub order : InOrder ArcBelow list
+    pub each : (i : ℕ) (a : Arc) → At list i a → IsArc a
+    pub all : (n : Vector) (k : ℕ) → IsNormal n → Needed n k → (i : ℕ) × (c : Arc) × At list i c × (c.source ≡ k) × SameDirection n c.normal
+
+  record Made (p : Plane) (k : ℕ) (a : Arc) : Type 0 where
+    is_arc : IsArc a
+    normal : a.normal ≡ p.normal
+    source : a.source ≡ k
+
+  made : (p : Plane) (k : ℕ) → Needed p.normal k → (a : Arc) × Made p k a
+  made p k e = by (first-after p.normal e.way (plane-direction p) (W.direction k e.way e.listed) e.level W.list)
+    where
+      by : First p.normal e.way W.list → (a : Arc) × Made p k a
+      by f = ⊎_elim (λ q. arc k (subst (At W.list k) q e.listed)) (λ j. arc j.0 j.1) f.listed
+        where
+          arc : (j : ℕ) → At W.list j f.target → (a : Arc) × Made p k a
+          arc j t = (
+            record { normal = p.normal; source = k; target = j; above = e.above; mark = e.mark; below = e.below },
+            record {
+              is_arc = record {
+                normal = p.is_normal;
+                primitive = p.primitive;
+                source = e.way;
+                target = f.target;
+                has_source = e.listed;
+                has_target = t;
+                level_source = e.level;
+                level_target = f.level;
+                labels = e.labels;
+                proper = e.proper;
+                clear = f.none_before;
+              };
+              normal = refl;
+              source = refl;
+            },
+          )
+
+  needed-decided : (p : Plane) (k : ℕ) → Decided (Needed p.normal k)
+  needed-decided p k = by (at-or W.list k)
+    where
+      on : (w : Vector) → At W.list k w → (q : dot p.normal w ≡ pos 0) → After gs F L axial p.normal w → Decided (Needed p.normal k)
+      on w h q r = ⊎_elim
+          (λ x. inl (record { way = w; listed = h; level = q; above = r.above; mark = r.mark; below = r.below; labels = r.labels; proper = x }))
+          (λ f. inr (λ e.
+          let c = subst (StraightAfter F p.normal e.above e.mark e.below) (at-one W.list k e.way w e.listed h) e.labels in
+          let s = after-one gs F L axial p.normal r.above r.mark r.below w e.above e.mark e.below (plane-direction p) (W.direction k w h) r.labels c in
+          f (λ x y. e.proper (sym s.0 ∙ x ∙ s.1) (sym s.2 ∙ y ∙ s.1))))
+          (proper-decided r.above r.mark r.below)
+
+      by : ((w : Vector) × At W.list k w) ⊎ ((w : Vector) → At W.list k w → ⊥) → Decided (Needed p.normal k)
+      by (inr f) = inr (λ e. f e.way e.listed)
+      by (inl (w, h)) = ⊎_elim
+          (λ q. on w h q (after-of gs F L axial p.normal w (plane-direction p) (W.direction k w h) q))
+          (λ f. inr (λ e. f (subst (λ (v : Vector). dot p.normal v ≡ pos 0) (at-one W.list k e.way w e.listed h) e.level)))
+          (nought-or (dot p.normal w))
+
+  -- the arcs in any order
+  abbrev Gathered : Planes gs F L axial → Type 0
+  Gathered ps = Collected (pairs spot ps.list (numbers W.list)) (λ x a. Made x.0 x.1 a) (λ x. Needed x.0.normal x.1)
+
+  gathered : (ps : Planes gs F L axial) → Gathered ps
+  gathered ps = collect (pairs spot ps.list (numbers W.list)) (λ x a. Made x.0 x.1 a) (λ x. Needed x.0.normal x.1) (λ x. ⊎_elim (λ e. inl (made x.0 x.1 e)) (λ f. inr f) (needed-decided x.0 x.1))
+
+  ordered : (ps : Planes gs F L axial) (c : Gathered ps) → Sorted ArcBelow SameArc c.list → Arcs
+  ordered ps c r = record {
+    list = r.list;
+    order = chain-order ArcBelow SameArc r.list r.chain;
+    each = λ i a h. let x = c.sound a (r.sound a (at-lies r.list i a h)) in x.2.is_arc;
+    all = λ n k hn e.
+        let hw = W.direction k e.way e.listed in
+        let f = after-form gs F L axial n e.above e.mark e.below e.way (normal-direction n hn) hw e.proper e.labels in
+        let p = ps.all n hn f in
+        let q : Needed p.0.normal k = record {
+          way = e.way;
+          listed = e.listed;
+          level = level-same n p.0.normal e.way e.way p.2 (way-self e.way hw) e.level;
+          above = e.above;
+          mark = e.mark;
+          below = e.below;
+          labels = after-same gs F L axial n p.0.normal e.above e.mark e.below e.way hw e.level p.2 e.labels;
+          proper = e.proper;
+        } in
+        let a = c.all (spot p.0 k) (lies-pairs spot ps.list (numbers W.list) p.0 k p.1 (at-number W.list k e.way e.listed)) q in
+        let s = r.all a.0 a.1 in
+        let i = lies-at r.list s.0 s.1 in
+        (i.0, s.0, i.1, same-source k a.0 s.0 s.2 a.2.source, same-normal n p.0.normal a.0 s.0 s.2 a.2.normal p.2);
+  }
+
+  pub arcs : Arcs
+  arcs =
+      let ps = planes gs F L axial in
+      let c = gathered ps in
+      ordered ps c (sort ArcBelow SameArc arc-trans (λ a. (refl, refl)) arc-either c.list)

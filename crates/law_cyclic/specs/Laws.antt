@@ -1,0 +1,84 @@
+-- The laws of arcs and of the cyclic order about an axis. Each is a clause of a public function of this crate.
+use Rattle.std.specs.Prelude.{◌⊎◌, ◌↔◌, T}
+use Rattle.nef_space.specs.Vectors.{Vector, dot, cross, triple, opposite, IsDirection, IsParallel, SameDirection}
+use Rattle.nef_case.specs.Between.{between_signs}
+use Rattle.law_cyclic.specs.Signs.{sign_number}
+use Rattle.law_cyclic.specs.Arcs.{IsOnCircle, IsStrictlyOn, Passes, AboutThree, AboutFour}
+
+-- ---- arcs
+-- the rule of the eight classes of five signs says that d is strictly on the arc
+abbrev pub ClassesAreArcs : Type 0
+ClassesAreArcs = (n s t d : Vector) → IsDirection n → IsOnCircle n s → IsOnCircle n t → IsOnCircle n d
+    → T (between_signs (sign_number (triple n s t)) (sign_number (dot s t)) (sign_number (triple n s d)) (sign_number (dot s d)) (sign_number (triple n d t))) ↔ IsStrictlyOn n s t d
+
+-- it is a matter of the direction alone
+abbrev pub ArcsAreOfDirections : Type 0
+ArcsAreOfDirections = (n s t d e : Vector) → IsDirection n → IsOnCircle n s → IsOnCircle n t → SameDirection d e → IsStrictlyOn n s t d → IsStrictlyOn n s t e
+
+-- the way back about the opposite normal passes the same directions
+abbrev pub WayBackPassesTheSame : Type 0
+WayBackPassesTheSame = (n s t d : Vector) → IsDirection n → IsOnCircle n s → IsOnCircle n t → IsStrictlyOn (opposite n) t s d ↔ IsStrictlyOn n s t d
+
+-- two great circles meet in two opposite directions alone
+abbrev pub TwoMeets : Type 0
+TwoMeets = (a b d : Vector) → (IsParallel a b → ⊥) → IsOnCircle a d → IsOnCircle b d → SameDirection (cross a b) d ⊎ SameDirection (opposite (cross a b)) d
+
+-- ---- the order of directions about an axis, seen from a
+-- two others are the same, or one is passed before the other
+abbrev pub OneIsFirst : Type 0
+OneIsFirst = (n a b c : Vector) → AboutThree n a b c → (SameDirection a b → ⊥) → (SameDirection a c → ⊥) → SameDirection b c ⊎ Passes n a b c ⊎ Passes n a c b
+
+abbrev pub NeverBothWays : Type 0
+NeverBothWays = (n a b c : Vector) → AboutThree n a b c → Passes n a b c → Passes n a c b → ⊥
+
+abbrev pub OrderIsTransitive : Type 0
+OrderIsTransitive = (n a b c d : Vector) → AboutFour n a b c d → Passes n a b c → Passes n a c d → Passes n a b d
+
+-- the same direction in b's place
+abbrev pub SameInPlace : Type 0
+SameInPlace = (n a b c d : Vector) → AboutFour n a b c d → SameDirection b c → Passes n a b d → Passes n a c d
+
+-- ---- the order seen from another direction
+abbrev pub OrderIsCyclic : Type 0
+OrderIsCyclic = (n a b c : Vector) → AboutThree n a b c → (SameDirection a c → ⊥) → Passes n a b c → Passes n b c a
+
+-- a rest of the way is part of the way
+abbrev pub WaysGlue : Type 0
+WaysGlue = (n a b c d : Vector) → AboutFour n a b c d → Passes n a b d → Passes n b c d → Passes n a c d
+
+-- two on a way are the same, or one comes first and the other is on its rest
+abbrev pub WaysSplit : Type 0
+WaysSplit = (n a b c d : Vector) → AboutFour n a b c d → Passes n a b d → Passes n a c d
+    → SameDirection b c ⊎ (Passes n a b c × Passes n b c d) ⊎ (Passes n a c b × Passes n c b d)
+
+-- what is on the way to b is on the way to any d that isn't
+abbrev pub NearerOnes : Type 0
+NearerOnes = (n a b c d : Vector) → AboutFour n a b c d → Passes n a c b → (Passes n a d b → ⊥) → (SameDirection a d → ⊥) → Passes n a c d
+
+abbrev pub SeenFromLater : Type 0
+SeenFromLater = (n a b c d : Vector) → AboutFour n a b c d → Passes n a b c → Passes n a c d → Passes n b c d
+
+-- b before c, and d before b or at a: seen from b, c is before d
+abbrev pub SeenFromBetween : Type 0
+SeenFromBetween = (n a b c d : Vector) → AboutFour n a b c d → (SameDirection a c → ⊥) → Passes n a b c → SameDirection a d ⊎ Passes n a d b → Passes n b c d
+
+-- c before b, and d before c or at a: seen from b, d is before c
+abbrev pub SeenFromAfter : Type 0
+SeenFromAfter = (n a b c d : Vector) → AboutFour n a b c d → (SameDirection a b → ⊥) → Passes n a c b → SameDirection a d ⊎ Passes n a d c → Passes n b d c
+
+-- ---- sectors, from a ray b to the next ray c, seen from the first ray a
+abbrev pub NextRises : Type 0
+NextRises = (n a b c : Vector) → AboutThree n a b c → (SameDirection a c → ⊥) → (SameDirection a b → ⊥) → (SameDirection b c → ⊥) → (Passes n b a c → ⊥) → Passes n a b c
+
+-- past b and before c is in the sector
+abbrev pub InSector : Type 0
+InSector = (n a b c d : Vector) → AboutFour n a b c d → SameDirection a b ⊎ (Passes n a b c × Passes n a b d) → Passes n a d c → Passes n b d c
+
+abbrev pub SectorHolds : Type 0
+SectorHolds = (n a b c d : Vector) → AboutFour n a b c d → SameDirection a b ⊎ Passes n a b c → Passes n b d c → Passes n a d c × (SameDirection a b ⊎ Passes n a b d)
+
+-- no ray is in the sector: another ray d is one of the three, or before b, or past c
+abbrev pub NoRayBetween : Type 0
+NoRayBetween = (n a b c d : Vector) → AboutFour n a b c d → SameDirection a b ⊎ Passes n a b c
+    → SameDirection b d ⊎ SameDirection c d ⊎ SameDirection a d ⊎ ((SameDirection a b → ⊥) × Passes n a d b) ⊎ ((SameDirection a c → ⊥) × Passes n a c d)
+    → Passes n b d c → ⊥

@@ -1,0 +1,11 @@
+-- The sign of a whole number as a number: -1, 0 or 1.
+use Rattle.std.specs.Prelude.{ℤ, pos, negsuc}
+use Rattle.law_arithmetic.specs.Signs.{Sign, minus, nought, plus, sign}
+
+abbrev pub number_of : Sign → ℤ
+number_of minus = negsuc 0
+number_of nought = pos 0
+number_of plus = pos 1
+
+abbrev pub sign_number : ℤ → ℤ
+sign_number z = number_of (sign z)

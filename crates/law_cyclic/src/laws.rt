@@ -1,0 +1,38 @@
+ghost use Rattle.law_cyclic.specs.Laws.{ClassesAreArcs, ArcsAreOfDirections, WayBackPassesTheSame, TwoMeets, OneIsFirst, NeverBothWays, OrderIsTransitive, SameInPlace, OrderIsCyclic, WaysGlue, WaysSplit, NearerOnes, SeenFromLater, SeenFromBetween, SeenFromAfter, NextRises, InSector, SectorHolds, NoRayBetween};
+
+/// Whether a direction is strictly on an arc is decided by five signs, and is kept by the way back. Two great circles
+/// meet in two opposite directions.
+pub fn arc_laws()
+    ensures classes { ClassesAreArcs }
+    ensures directions { ArcsAreOfDirections }
+    ensures back { WayBackPassesTheSame }
+    ensures meets { TwoMeets }
+{}
+
+/// The order of directions about an axis, seen from one of them, is a strict total order.
+pub fn order_laws()
+    ensures first { OneIsFirst }
+    ensures never_both { NeverBothWays }
+    ensures transitive { OrderIsTransitive }
+    ensures same { SameInPlace }
+{}
+
+/// The order seen from another direction, and ways about the axis that are parts of others.
+pub fn turned_laws()
+    ensures cyclic { OrderIsCyclic }
+    ensures glue { WaysGlue }
+    ensures split { WaysSplit }
+    ensures nearer { NearerOnes }
+    ensures from_later { SeenFromLater }
+    ensures from_between { SeenFromBetween }
+    ensures from_after { SeenFromAfter }
+{}
+
+/// A direction lies in the sector between two neighbouring rays exactly where it is past the one and before the
+/// other, seen from the first ray.
+pub fn sector_laws()
+    ensures rises { NextRises }
+    ensures inside { InSector }
+    ensures holds { SectorHolds }
+    ensures no_ray { NoRayBetween }
+{}

@@ -1,0 +1,100 @@
+-- The links of items, whose classes are the facets, and those of sides, whose classes are the volumes.
+use Rattle.std.specs.Prelude.{◌≡◌, ℕ, ◌⊎◌}
+use Rattle.nef_space.specs.Vectors.{SameDirection, opposite, plane_dir, up}
+use Rattle.nef_space.specs.declared.label.Label.{Label}
+use Rattle.nef_space.specs.declared.label.Label.TheVariants.{Out}
+use Rattle.law_sphere.specs.Maps.{At, Arc, Item, item_normal, OnItem, Side, around_svertex, above_item, below_item, HasSide, Sees, InOneSface}
+use Rattle.law_complex.specs.Complexes.{Vertex, Edge, Complex, Corner, HasEnds, IsCorner}
+use Rattle.law_complex.specs.Skeleton.{item_plane, RayNames}
+use Rattle.law_complex.specs.Rays.{VertexSide, HasSideLabel, RayDown}
+
+-- ---- items
+-- arc i of the edge's lower end and arc j of its higher end have one normal, and one begins at the edge where the other ends
+pub record AreAlong (C : Complex) (e : Edge) (i j : ℕ) : Type 0 where
+  pub low_vertex : Vertex
+  pub high_vertex : Vertex
+  pub ends : HasEnds C e low_vertex high_vertex
+  pub low_arc : Arc
+  pub high_arc : Arc
+  pub is_low : At low_vertex.map.arcs i low_arc
+  pub is_high : At high_vertex.map.arcs j high_arc
+  pub one_normal : SameDirection low_arc.normal high_arc.normal
+  pub one_way : ((low_arc.source ≡ e.low_svertex) × (high_arc.target ≡ e.high_svertex)) ⊎ ((low_arc.target ≡ e.low_svertex) × (high_arc.source ≡ e.high_svertex))
+
+-- the link along an edge joins the arc of its lower end with that of its higher end
+pub record LinkAlong (C : Complex) (j k : Corner) : Type 0 where
+  pub number : ℕ
+  pub edge : Edge
+  pub is_edge : At C.edges number edge
+  pub from_low : j.vertex ≡ edge.low
+  pub to_high : k.vertex ≡ edge.high
+  pub along : AreAlong C edge j.item k.item
+
+-- the link across the facet joins an item with the corner that the ray inward from its vertex names, where the item holds the way inward: opposite to the direction of its plane
+pub record LinkAcross (C : Complex) (j k : Corner) : Type 0 where
+  pub vertex : Vertex
+  pub item : Item
+  pub corner : IsCorner C j vertex item
+  pub inward : OnItem vertex.map item (opposite (plane_dir (item_normal item)))
+  pub named : RayNames C (item_plane vertex item) vertex.point (opposite (plane_dir (item_normal item))) k
+
+abbrev pub FacetLink : Complex → Corner → Corner → Type 0
+FacetLink C j k = LinkAlong C j k ⊎ LinkAcross C j k
+
+-- ---- sides
+-- the side is this one of vertex i, which has it
+abbrev pub IsSideOf : Complex → VertexSide → ℕ → Side → Type 0
+IsSideOf C x i o = (l : Label) × (x.vertex ≡ i) × (x.side ≡ o) × HasSideLabel C x l
+
+-- the link in one sface joins two sides of a vertex that a chain of sides and of directions that they see joins
+pub record LinkInSface (C : Complex) (x y : VertexSide) : Type 0 where
+  pub vertex : Vertex
+  pub is_vertex : At C.vertices x.vertex vertex
+  pub one_vertex : y.vertex ≡ x.vertex
+  pub one : Label
+  pub other : Label
+  pub has : HasSide vertex.map x.side one
+  pub has_other : HasSide vertex.map y.side other
+  pub one_sface : InOneSface vertex.map x.side y.side
+
+-- the sides o of the lower and p of the higher end of an edge are one side along it: the same side of two arcs along it, or those around it
+pub data AreSidesAlong (C : Complex) (e : Edge) (o p : Side) : Type 0 where
+  above_arcs : (i j : ℕ) → AreAlong C e i j → o ≡ above_item i → p ≡ above_item j → AreSidesAlong C e o p
+  below_arcs : (i j : ℕ) → AreAlong C e i j → o ≡ below_item i → p ≡ below_item j → AreSidesAlong C e o p
+  around_ends : o ≡ around_svertex e.low_svertex → p ≡ around_svertex e.high_svertex → AreSidesAlong C e o p
+
+-- the link along an edge
+pub record LinkAlongEdge (C : Complex) (x y : VertexSide) : Type 0 where
+  pub number : ℕ
+  pub edge : Edge
+  pub is_edge : At C.edges number edge
+  pub low_side : Side
+  pub high_side : Side
+  pub is_low : IsSideOf C x edge.low low_side
+  pub is_high : IsSideOf C y edge.high high_side
+  pub along : AreSidesAlong C edge low_side high_side
+
+-- the link across a facet joins the same side of two items that are linked across their facet
+pub record LinkAcrossFacet (C : Complex) (x y : VertexSide) : Type 0 where
+  pub here : Corner
+  pub there : Corner
+  pub across : LinkAcross C here there
+  pub sides : (IsSideOf C x here.vertex (above_item here.item) × IsSideOf C y there.vertex (above_item there.item))
+      ⊎ (IsSideOf C x here.vertex (below_item here.item) × IsSideOf C y there.vertex (below_item there.item))
+
+-- the link down a ray joins a side that sees straight down, and isn't outside, with the side above the point where the ray down from its vertex ends
+pub record LinkDown (C : Complex) (x y : VertexSide) : Type 0 where
+  pub vertex : Vertex
+  pub is_vertex : At C.vertices x.vertex vertex
+  pub label : Label
+  pub has : HasSide vertex.map x.side label
+  pub not_out : label ≡ Out → ⊥
+  pub sees : Sees vertex.map x.side (opposite up)
+  pub down : RayDown C vertex.point y
+
+-- the link of the outside
+abbrev pub LinkOutside : Complex → VertexSide → VertexSide → Type 0
+LinkOutside C x y = HasSideLabel C x Out × HasSideLabel C y Out
+
+abbrev pub VolumeLink : Complex → VertexSide → VertexSide → Type 0
+VolumeLink C x y = LinkInSface C x y ⊎ LinkAlongEdge C x y ⊎ LinkAcrossFacet C x y ⊎ LinkDown C x y ⊎ LinkOutside C x y

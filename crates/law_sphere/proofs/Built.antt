@@ -1,0 +1,125 @@
+-- A well shaped map that agrees with a labelling piece by piece is valid, and its labels are those of the labelling.
+use Rattle.std.proofs.Common.{◌≡◌, ◌+◌, ◌*◌, arith, ap, sym, ◌∙◌, inl, inr, List, subst, Option, Some, None}
+use Rattle.std.proofs.lemmas.Int.{ints}
+use Rattle.std.proofs.Math.Nat.{mul-pos}
+use Rattle.law_arithmetic.proofs.Order.{sign-plus, sign-minus}
+use Rattle.nef_space.specs.Vectors.{Vector, IsDirection, cross, dot, IsZero, SameDirection, blend}
+use Rattle.nef_space.specs.declared.label.Label.{Label}
+use Rattle.law_sphere.specs.Maps.{Svertex, Map, items, item_normal, item_above, item_mark, item_below, IsFree, Side, around_svertex, above_item, below_item, whole, HasSide, IsClear, Reaches, Sees, directly, by_way_of, MapLabel, at_svertex, on_item, seen, InOneSface, here, link, Shaped, Valid}
+use Rattle.law_sphere.specs.Least.{by_side}
+use Rattle.law_sphere.specs.Labelling.{Labelling, Near, Agrees}
+use Rattle.law_near.proofs.Decided.{Decided}
+use Rattle.law_forms.proofs.Directions.{dot-comm, zero-decided}
+use Rattle.law_sphere.proofs.Generic.{amount}
+use Rattle.law_sphere.proofs.Lists.{at-one}
+use Rattle.law_sphere.proofs.Forms.{on-level}
+use Rattle.law_sphere.proofs.Parallel.{apart, parallel-trans}
+use Rattle.law_near.proofs.FlatDecided.{cross-turned}
+use Rattle.law_sphere.proofs.Direct.{cross-between}
+use Rattle.law_sphere.proofs.StepOff.{blend-turned}
+use Rattle.law_sphere.proofs.Labels.{way-signs, way-direction, label-exists}
+use Rattle.law_sphere.proofs.Around.{Beside, same_way, other_way, beside}
+use Rattle.law_sphere.proofs.Compare.{SameDirection-turned, SameDirection-trans}
+use Rattle.law_sphere.proofs.Lone.{near-same_signs}
+use Rattle.law_sphere.proofs.Walk.{carried, left-of, between-direction, cross-direction_turned}
+
+some-some : {A : Type 0} (x y : A) → ◌≡◌ {A = Option A} (Some x) (Some y) → x ≡ y
+some-some {A} x y e = ap (get x) e
+  where
+    get : A → Option A → A
+    get d None = d
+    get d (Some z) = z
+
+-- a side of a map has one label
+pub side-one : (M : Map) (o : Side) (k l : Label) → HasSide M o k → HasSide M o l → k ≡ l
+side-one M (around_svertex i) k l (v, a, e) (u, b, f) = some-some k l (sym e ∙ ap (λ (r : Svertex). r.around) (at-one M.svertices i v u a b) ∙ f)
+side-one M (above_item i) k l (x, a, e) (y, b, f) = sym e ∙ ap item_above (at-one (items M) i x y a b) ∙ f
+side-one M (below_item i) k l (x, a, e) (y, b, f) = sym e ∙ ap item_below (at-one (items M) i x y a b) ∙ f
+side-one M whole k l e f = some-some k l (sym e ∙ f)
+
+module _ (gs : List Vector) (F : Vector → Label → Type 0) (L : Labelling gs F) (M : Map) (S : Shaped M) (A : Agrees M F) where
+  -- labels along a clear way
+  clear-carried : (a b : Vector) → IsClear M a b → IsFree M b → (m : Label) → F a m → F b m
+  clear-carried a b c G m f = carried gs F L a b c.start.direction c.direction c.short (A.free a c.start) (A.free b G) (λ i j si sj. A.free (blend i a j b) (c.between i j si sj)) m f
+
+  clear-carried_back : (a b : Vector) → IsClear M a b → IsFree M b → (m : Label) → F b m → F a m
+  clear-carried_back a b c G m f =
+      let e = L.exists a c.start.direction in
+      let g = clear-carried a b c G e.0 e.1 in
+      subst (λ (r : Label). F a r) (L.one b e.0 m G.direction g f) e.1
+
+  -- what is near y toward a is at a
+  from_near : (a y : Vector) → IsClear M a y → IsDirection (cross a y) → (m : Label) → Near F y a m → F a m
+  from_near a y c f m (n, g) =
+      let k = n + 1 in
+      let z = blend 1 a k y in
+      let G = c.between 1 k (omega arith) (omega arith) in
+      let w : IsClear M a z = record {
+        start = c.start;
+        direction = G.direction;
+        short = λ o. off o.parallel;
+        between = λ i j si sj. subst (IsFree M) (left-of i j 1 k a y) (c.between (i + j * 1) (j * k) (omega arith) (mul-pos sj (omega arith)));
+      } in
+      clear-carried_back a z w G m (subst (λ (r : Vector). F r m) (blend-turned k 1 y a) (g k (omega arith)))
+    where
+      off : IsZero (cross a (blend 1 a (n + 1) y)) → ⊥
+      off = cross-between a y 1 (n + 1) (omega arith) f
+
+  -- near labels of the same way
+  near-way : (y v e : Vector) → SameDirection v y → IsDirection (cross y e) → (m : Label) → Near F v e m → Near F y e m
+  near-way y v e w f m (n, g) = (
+    n + amount gs e,
+    λ k h. L.cells (blend k v 1 e) (blend k y 1 e) m
+        (between-direction v e k 1 (omega arith) (λ z. f (parallel-trans y v e (way-direction y v (SameDirection-turned v y w)) (cross-turned v y w.parallel) z)))
+        (between-direction y e k 1 (omega arith) f) (near-same_signs gs v y e k (omega arith) w) (g k (omega arith)),
+  )
+
+  reached : (a y : Vector) → IsClear M a y → (o : Side) (m : Label) → HasSide M o m → Reaches M o a y → F a m
+  reached a y c (above_item k) m (x, h, e) (z, b, on, l) =
+      let q = at-one (items M) k z x b h in
+      let f = apart (item_normal z) a y (λ w. omega (arith, ints)) (on-level M z y on) c.direction in
+      from_near a y c f m (subst (Near F y a) (ap (by_side (item_above z) (item_mark z) (item_below z)) (sign-plus (dot (item_normal z) a) l) ∙ ap item_above q ∙ e) (A.beside k z y a b on (cross-direction_turned a y f)))
+  reached a y c (below_item k) m (x, h, e) (z, b, on, l) =
+      let q = at-one (items M) k z x b h in
+      let f = apart (item_normal z) a y (λ w. omega (arith, ints)) (on-level M z y on) c.direction in
+      from_near a y c f m (subst (Near F y a) (ap (by_side (item_above z) (item_mark z) (item_below z)) (sign-minus (dot (item_normal z) a) l) ∙ ap item_below q ∙ e) (A.beside k z y a b on (cross-direction_turned a y f)))
+  reached a y c (around_svertex k) m (v, h, e) (u, b, w) = by (zero-decided (cross a y))
+    where
+      by : Decided (IsZero (cross a y)) → F a m
+      by (inl z) = along (beside y a c.direction c.start.direction (cross-turned a y z))
+        where
+          along : Beside y a → F a m
+          along (same_way s) = absurd (c.start.off_svertices k u b (SameDirection-trans u.way y a w s))
+          along (other_way s) = absurd (c.short (record { parallel = z; backward = let p = dot-comm a y in let r = s.backward in omega (arith, ints) }))
+      by (inr f) =
+          let q = at-one M.svertices k v u h b in
+          let g = cross-direction_turned a y f in
+          let n = A.lone k u m a b (sym (ap (λ (r : Svertex). r.around) q) ∙ e) (λ z. g (parallel-trans y u.way a (way-direction y u.way (SameDirection-turned u.way y w)) (cross-turned u.way y w.parallel) z)) in
+          from_near a y c f m (near-way y u.way a w g m n)
+  reached a y c whole m h t = A.face m a h c.start.direction
+
+  -- a side that sees d has the label of d
+  pub side-label : (d : Vector) (o : Side) (m : Label) → HasSide M o m → Sees M o d → F d m
+  side-label d o m h (directly y c r) = reached d y c o m h r
+  side-label d o m h (by_way_of e y b c r) = clear-carried_back d e b c.start m (reached e y c o m h r)
+
+  sees-direction : (d : Vector) (o : Side) → Sees M o d → IsDirection d
+  sees-direction d o (directly y c r) = c.start.direction
+  sees-direction d o (by_way_of e y b c r) = b.start.direction
+
+  sface-label : (o p : Side) (k l : Label) → HasSide M o k → HasSide M p l → InOneSface M o p → k ≡ l
+  sface-label o p k l a b (here q) = side-one M q k l a b
+  sface-label o p k l a b (link o' q p' m c (d, x, y) r) = L.one d k m (sees-direction d o x) (side-label d o k a x) (side-label d q m c y) ∙ sface-label q p m l c b r
+
+  pub agrees-valid : Valid M
+  agrees-valid = record { shaped = S; one_label = sface-label }
+
+  pub agrees-label : (d : Vector) (m : Label) → MapLabel M d m → F d m
+  agrees-label d m (at_svertex k v a w e) = subst (λ (r : Label). F d r) e (L.cells v.way d v.mark (S.svertex_ways k v a) (way-direction v.way d w) (λ g l. way-signs v.way d g (S.svertex_ways k v a) w) (A.svertices k v a))
+  agrees-label d m (on_item k x a o e) = subst (λ (r : Label). F d r) e (A.marks k x d a o)
+  agrees-label d m (seen s) = side-label d s.side m s.has s.sees
+
+  pub label-agrees : (d : Vector) (m : Label) → IsDirection d → F d m → MapLabel M d m
+  label-agrees d m h f =
+      let e = label-exists M agrees-valid d h in
+      subst (λ (r : Label). MapLabel M d r) (L.one d e.0 m h (agrees-label d e.0 e.1) f) e.1

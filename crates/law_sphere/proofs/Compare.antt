@@ -1,0 +1,236 @@
+-- Two least maps with the same labels have the same svertices, and items in the same places.
+use Rattle.std.proofs.Common.{◌≡◌, ℕ, ℤ, pos, negsuc, ◌+ℤ◌, ◌-ℤ◌, ◌*ℤ◌, ◌<ℤ◌, arith, refl, ap, sym, ◌∙◌, ⊎_elim, [], ◌∷◌, subst}
+use Rattle.std.proofs.lemmas.Int.{ints}
+use Rattle.law_arithmetic.proofs.Ring.{ring, at, num, ◌⊕◌, ◌⊖◌, ◌⊗◌}
+use Rattle.law_arithmetic.proofs.Combination.{follows, given, none}
+use Rattle.law_arithmetic.proofs.Order.{Sign, minus, nought, plus, sign, sign-plus, sign-minus, by_order}
+use Rattle.nef_space.specs.Vectors.{Vector, IsDirection, cross, dot, IsZero, SameDirection, IsOpposite, IsNormal, blend}
+use Rattle.nef_space.specs.declared.label.Label.{Label}
+use Rattle.law_sphere.specs.Vectors.{comb}
+use Rattle.law_sphere.specs.Maps.{At, Svertex, Map, Item, items, item_normal, item_above, item_mark, item_below, OnItem, IsFree, MapLabel, at_svertex, on_item, NearLabel, Valid}
+use Rattle.law_sphere.specs.Least.{by_side, NearPlain, NearStraight, Least, SameLabels}
+use Rattle.law_near.proofs.FlatDecided.{cross-turned}
+use Rattle.law_sphere.proofs.Shot.{product-off}
+use Rattle.law_sphere.proofs.Vectors.{normal-is, normal-direction, dot-comb}
+use Rattle.law_forms.proofs.Far.{nought-or}
+use Rattle.law_forms.proofs.Directions.{dot-comm, zero-decided, self-pos}
+use Rattle.law_sphere.proofs.Forms.{on-direction, PlaceOf, svertex_place, item_place, free_place, place_of}
+use Rattle.law_sphere.proofs.Labels.{label-direction, way-joined, label-exists, label-unique, near-unique}
+use Rattle.law_sphere.proofs.Around.{turn-minus, Beside, same_way, other_way, beside, on_item-off_svertices}
+use Rattle.law_sphere.proofs.NearItems.{near-free, near-item, free-plain, item-straight}
+
+-- ---- vectors
+pub SameDirection-turned : (d e : Vector) → SameDirection d e → SameDirection e d
+SameDirection-turned d e w = record { parallel = cross-turned d e w.parallel; forward = let c = dot-comm e d in let h = w.forward in omega (arith, ints) }
+
+pub SameDirection-trans : (c d e : Vector) → SameDirection c d → SameDirection d e → SameDirection c e
+SameDirection-trans c d e a b = way-joined c e d a (SameDirection-turned d e b)
+
+pub way-self : (v : Vector) → IsDirection v → SameDirection v v
+way-self v h = record { parallel = by; forward = self-pos v h }
+  where
+    by : IsZero (cross v v)
+    by = let xs = v.x ∷ v.y ∷ v.z ∷ [] in (
+      ring xs (at 1 ⊗ at 2 ⊖ at 2 ⊗ at 1) (num (pos 0)) tt,
+      ring xs (at 2 ⊗ at 0 ⊖ at 0 ⊗ at 2) (num (pos 0)) tt,
+      ring xs (at 0 ⊗ at 1 ⊖ at 1 ⊗ at 0) (num (pos 0)) tt,
+    )
+
+-- two normals are the same way, or not parallel
+pub scaled-coordinates : (n m : Vector) → IsZero (cross n m) → (dot n n *ℤ m.x ≡ dot n m *ℤ n.x) × (dot n n *ℤ m.y ≡ dot n m *ℤ n.y) × (dot n n *ℤ m.z ≡ dot n m *ℤ n.z)
+scaled-coordinates n m p =
+    let xs = n.x ∷ n.y ∷ n.z ∷ m.x ∷ m.y ∷ m.z ∷ [] in
+    let o = num (pos 0) in
+    let nn = at 0 ⊗ at 0 ⊕ at 1 ⊗ at 1 ⊕ at 2 ⊗ at 2 in
+    let nm = at 0 ⊗ at 3 ⊕ at 1 ⊗ at 4 ⊕ at 2 ⊗ at 5 in
+    let ex = at 1 ⊗ at 5 ⊖ at 2 ⊗ at 4 in
+    let ey = at 2 ⊗ at 3 ⊖ at 0 ⊗ at 5 in
+    let ez = at 0 ⊗ at 4 ⊖ at 1 ⊗ at 3 in (
+      follows xs (nn ⊗ at 3) (nm ⊗ at 0) (given (o ⊖ at 1) ez o p.2 (given (at 2) ey o p.1 none)) tt,
+      follows xs (nn ⊗ at 4) (nm ⊗ at 1) (given (o ⊖ at 2) ex o p.0 (given (at 0) ez o p.2 none)) tt,
+      follows xs (nn ⊗ at 5) (nm ⊗ at 2) (given (o ⊖ at 0) ey o p.1 (given (at 1) ex o p.0 none)) tt,
+    )
+
+pub normals-not_opposite : (n m : Vector) → IsNormal n → IsNormal m → IsOpposite n m → ⊥
+normals-not_opposite n m h k o =
+    let e = scaled-coordinates n m o.parallel in
+    let s = self-pos n (normal-direction n h) in
+    by_order n.x (pos 0) (λ l. let a = h.first in omega (arith, ints))
+    (λ x. by_order n.y (pos 0) (λ l. let a = h.second x in omega (arith, ints))
+    (λ y. let l = h.third x y in
+    let x' = zero-by (dot n n) (dot n m) m.x n.x s e.0 x in
+    let y' = zero-by (dot n n) (dot n m) m.y n.y s e.1 y in
+    let l' = k.third x' y' in
+    let t = turn-minus (dot n n) (dot n m) m.z n.z s e.2 o.backward l in omega (arith, ints))
+    (λ l. let x' = zero-by (dot n n) (dot n m) m.x n.x s e.0 x in let l' = k.second x' in let t = turn-minus (dot n n) (dot n m) m.y n.y s e.1 o.backward l in omega (arith, ints)))
+    (λ l. let l' = k.first in let t = turn-minus (dot n n) (dot n m) m.x n.x s e.0 o.backward l in omega (arith, ints))
+  where
+    zero-by : (a b x y : ℤ) → pos 0 <ℤ a → a *ℤ x ≡ b *ℤ y → y ≡ pos 0 → x ≡ pos 0
+    zero-by a b x y h e z = ⊎_elim (λ r. r) (λ f. absurd (product-off a x h f (e ∙ ap (λ r. b *ℤ r) z ∙ ring (b ∷ []) (at 0 ⊗ num (pos 0)) (num (pos 0)) tt))) (nought-or x)
+
+-- ---- labels
+pub labels-turned : (M N : Map) → Valid M → Valid N → SameLabels M N → SameLabels N M
+labels-turned M N V W s d m a =
+    let b = label-exists M V d (label-direction N d m a) in
+    subst (λ (r : Label). MapLabel M d r) (sym (label-unique N W d m b.0 a (s d b.0 b.1))) b.1
+
+pub near-carried : (M N : Map) → SameLabels M N → (d e : Vector) (m : Label) → NearLabel M d e m → NearLabel N d e m
+near-carried M N s d e m (n, f) = (n, λ k l. s (blend k d 1 e) m (f k l))
+
+plain-carried : (M N : Map) → SameLabels M N → (d : Vector) → NearPlain M d → NearPlain N d
+plain-carried M N s d p = record { label = p.label; at_d = s d p.label p.at_d; near = λ e f. near-carried M N s d e p.label (p.near e f) }
+
+straight-carried : (M N : Map) → SameLabels M N → (d : Vector) → NearStraight M d → NearStraight N d
+straight-carried M N s d p = record { normal = p.normal; direction = p.direction; level = p.level; above = p.above; label = p.label; below = p.below; at_d = s d p.label p.at_d; near = λ e f. near-carried M N s d e _ (p.near e f) }
+
+-- ---- svertices
+pub record Matched (N : Map) (d : Vector) : Type 0 where
+  pub number : ℕ
+  pub svertex : Svertex
+  pub listed : At N.svertices number svertex
+  pub same : SameDirection svertex.way d
+
+-- a svertex of a least map is one of any map with the same labels
+pub svertex-matched : (M N : Map) → Valid M → Valid N → Least M → SameLabels N M → (k : ℕ) (v : Svertex) → At M.svertices k v → Matched N v.way
+svertex-matched M N V W L s k v a = by (place_of N v.way (V.shaped.svertex_ways k v a))
+  where
+    by : PlaceOf N v.way → Matched N v.way
+    by (svertex_place l u b w) = record { number = l; svertex = u; listed = b; same = w }
+    by (item_place l x b o) = absurd (L.no_straight k v a (straight-carried N M s v.way (item-straight N W v.way l x b o)))
+    by (free_place F) = absurd (L.no_plain k v a (plain-carried N M s v.way (free-plain N W v.way F)))
+
+pub svertex-mark : (M N : Map) → Valid N → SameLabels M N → (k l : ℕ) (v u : Svertex) → At M.svertices k v → At N.svertices l u → SameDirection u.way v.way → SameDirection v.way v.way → v.mark ≡ u.mark
+svertex-mark M N W s k l v u a b w r = label-unique N W v.way v.mark u.mark (s v.way v.mark (at_svertex k v a r refl)) (at_svertex l u b w refl)
+
+-- ---- items
+pub record MatchedItem (N : Map) (x : Item) (d : Vector) : Type 0 where
+  pub number : ℕ
+  pub item : Item
+  pub listed : At (items N) number item
+  pub on : OnItem N item d
+  pub same : SameDirection (item_normal x) (item_normal item)
+  pub same_above : item_above x ≡ item_above item
+  pub same_mark : item_mark x ≡ item_mark item
+  pub same_below : item_below x ≡ item_below item
+
+module _ (M N : Map) (V : Valid M) (W : Valid N) (L : Least M) (K : Least N) (s : SameLabels M N) (i : ℕ) (x : Item) (a : At (items M) i x) (d : Vector) (o : OnItem M x d) where
+  abbrev n : Vector
+  n = item_normal x
+
+  abbrev sides : Sign → Label
+  sides = by_side (item_above x) (item_mark x) (item_below x)
+
+  there : (e : Vector) → NearLabel N d e (sides (sign (dot n e)))
+  there e = near-carried M N s d e _ (near-item M V d i x a o e)
+
+  at_there : MapLabel N d (item_mark x)
+  at_there = s d (item_mark x) (on_item i x a o refl)
+
+  there-above : (e : Vector) (m : Label) → pos 0 <ℤ dot n e → NearLabel N d e m → item_above x ≡ m
+  there-above e m h b = ap sides (sym (sign-plus (dot n e) h)) ∙ near-unique N W d e _ m (there e) b
+
+  there-mark : (e : Vector) (m : Label) → dot n e ≡ pos 0 → NearLabel N d e m → item_mark x ≡ m
+  there-mark e m h b = ap sides (sym (ap sign h)) ∙ near-unique N W d e _ m (there e) b
+
+  there-below : (e : Vector) (m : Label) → dot n e <ℤ pos 0 → NearLabel N d e m → item_below x ≡ m
+  there-below e m h b = ap sides (sym (sign-minus (dot n e) h)) ∙ near-unique N W d e _ m (there e) b
+
+  abbrev down : Vector
+  down = comb (negsuc 0) n (pos 0) n
+
+  n-up : pos 0 <ℤ dot n n
+  n-up = self-pos n (normal-is V.shaped i x a)
+
+  down-is : (g m : Vector) → dot g (comb (negsuc 0) m (pos 0) m) ≡ pos 0 -ℤ dot g m
+  down-is g m = dot-comb g (negsuc 0) m (pos 0) m ∙ ring (dot g m ∷ []) (num (negsuc 0) ⊗ at 0 ⊕ num (pos 0) ⊗ at 0) (num (pos 0) ⊖ at 0) tt
+
+  not_free : IsFree N d → ⊥
+  not_free F =
+      let b = label-exists N W d F.direction in
+      let m = label-unique N W d (item_mark x) b.0 at_there b.1 in
+      let u = there-above n b.0 n-up (near-free N W d F b.0 b.1 n) in
+      let e = down-is n n in
+      let p = n-up in
+      let v = there-below down b.0 (omega (arith, ints)) (near-free N W d F b.0 b.1 down) in
+      L.items_differ i x a (u ∙ sym m) (v ∙ sym m)
+
+  module _ (j : ℕ) (y : Item) (b : At (items N) j y) (q : OnItem N y d) where
+    abbrev m : Vector
+    m = item_normal y
+
+    abbrev m_sides : Sign → Label
+    m_sides = by_side (item_above y) (item_mark y) (item_below y)
+
+    near_there : (e : Vector) (t : Sign) → sign (dot m e) ≡ t → NearLabel N d e (m_sides t)
+    near_there e t h = subst (λ (r : Sign). NearLabel N d e (m_sides r)) h (near-item N W d j y b q e)
+
+    marks : item_mark x ≡ item_mark y
+    marks = label-unique N W d (item_mark x) (item_mark y) at_there (on_item j y b q refl)
+
+    -- in the plane of m, above n
+    abbrev across : Vector
+    across = comb (dot m m) n (pos 0 -ℤ dot n m) m
+
+    abbrev back : Vector
+    back = comb (negsuc 0) across (pos 0) across
+
+    across-level : dot m across ≡ pos 0
+    across-level = dot-comb m (dot m m) n (pos 0 -ℤ dot n m) m ∙ ap (λ r. dot m m *ℤ r +ℤ (pos 0 -ℤ dot n m) *ℤ dot m m) (dot-comm m n) ∙ ring (dot m m ∷ dot n m ∷ []) (at 0 ⊗ at 1 ⊕ (num (pos 0) ⊖ at 1) ⊗ at 0) (num (pos 0)) tt
+
+    across-above : IsDirection (cross n m) → pos 0 <ℤ dot n across
+    across-above f = subst (λ (r : ℤ). pos 0 <ℤ r) eq (self-pos (cross n m) f)
+      where
+        eq : dot (cross n m) (cross n m) ≡ dot n across
+        eq = let nx = at 0 in let ny = at 1 in let nz = at 2 in let mx = at 3 in let my = at 4 in let mz = at 5 in
+            ring (n.x ∷ n.y ∷ n.z ∷ m.x ∷ m.y ∷ m.z ∷ [])
+            ((ny ⊗ mz ⊖ nz ⊗ my) ⊗ (ny ⊗ mz ⊖ nz ⊗ my) ⊕ (nz ⊗ mx ⊖ nx ⊗ mz) ⊗ (nz ⊗ mx ⊖ nx ⊗ mz) ⊕ (nx ⊗ my ⊖ ny ⊗ mx) ⊗ (nx ⊗ my ⊖ ny ⊗ mx))
+            ((mx ⊗ mx ⊕ my ⊗ my ⊕ mz ⊗ mz) ⊗ (nx ⊗ nx ⊕ ny ⊗ ny ⊕ nz ⊗ nz) ⊕ (num (pos 0) ⊖ (nx ⊗ mx ⊕ ny ⊗ my ⊕ nz ⊗ mz)) ⊗ (nx ⊗ mx ⊕ ny ⊗ my ⊕ nz ⊗ mz)) tt
+            ∙ sym (dot-comb n (dot m m) n (pos 0 -ℤ dot n m) m)
+
+    parallel : IsZero (cross n m)
+    parallel = ⊎_elim (λ z. z) (λ f. absurd (
+        let h = across-above f in
+        let l = across-level in
+        let u = there-above across (item_mark y) h (near_there across nought (ap sign l)) in
+        let c = down-is m across in
+        let e = down-is n across in
+        let z : dot m back ≡ pos 0 = omega (arith, ints) in
+        let v = there-below back (item_mark y) (omega (arith, ints)) (near_there back nought (ap sign z)) in
+        L.items_differ i x a (u ∙ sym marks) (v ∙ sym marks))) (zero-decided (cross n m))
+
+    same-way : SameDirection n m
+    same-way = by (beside n m (normal-is V.shaped i x a) (normal-is W.shaped j y b) parallel)
+      where
+        by : Beside n m → SameDirection n m
+        by (same_way w) = w
+        by (other_way w) = absurd (normals-not_opposite n m (V.shaped.normals i x a) (W.shaped.normals j y b) w)
+
+    matched-item : MatchedItem N x d
+    matched-item =
+        let w = same-way in
+        let p = n-up in
+        let h = w.forward in
+        let c = dot-comm m n in
+        let e = down-is m n in
+        let g = down-is n n in
+        record {
+          number = j;
+          item = y;
+          listed = b;
+          on = q;
+          same = w;
+          same_above = there-above n (item_above y) p (near_there n plus (sign-plus (dot m n) (omega (arith, ints))));
+          same_mark = marks;
+          same_below = there-below down (item_below y) (omega (arith, ints)) (near_there down minus (sign-minus (dot m down) (omega (arith, ints))));
+        }
+
+  -- where an item of M lies, there lies one of N, in the same plane and with the same labels
+  pub item-matched : MatchedItem N x d
+  item-matched = by (place_of N d (on-direction M x d o))
+    where
+      by : PlaceOf N d → MatchedItem N x d
+      by (svertex_place l u b w) =
+          let r = svertex-matched N M W V K s l u b in
+          absurd (on_item-off_svertices M V.shaped d d (λ g l f. refl) i x a o r.number r.svertex r.listed (SameDirection-trans r.svertex.way u.way d r.same w))
+      by (item_place j y b q) = matched-item j y b q
+      by (free_place F) = absurd (not_free F)

@@ -1,0 +1,98 @@
+-- The kind of the least map of a set at a point is the dimension of the set's flat directions there.
+use Rattle.std.proofs.Common.{◌≡◌, pos, arith, sym, ◌∙◌, inl, inr, ⊎_elim, [], ◌∷◌, subst}
+use Rattle.std.proofs.lemmas.Int.{ints}
+use Rattle.law_arithmetic.proofs.Examples.{in_plane}
+use Rattle.law_arithmetic.proofs.Ring.{ring, at, num, ◌⊕◌, ◌⊖◌, ◌⊗◌}
+use Rattle.nef_space.specs.Place.{Place}
+use Rattle.nef_space.specs.Vectors.{Vector, IsDirection, cross, vector, dot, IsZero}
+use Rattle.nef_space.specs.Sets.{Set}
+use Rattle.nef_space.specs.declared.label.Label.{Label}
+use Rattle.nef_space.specs.Local.{Germ, Flat, FlatDim, HasFlat}
+use Rattle.law_near.proofs.Germs.{Germ-unique, label-one}
+use Rattle.law_near.proofs.Decided.{germ_of}
+use Rattle.law_near.proofs.Flats.{FlatCone-from_flat, Flat-from_cone}
+use Rattle.law_near.proofs.Rays.{Germ-zero}
+use Rattle.law_sphere.specs.Vectors.{comb}
+use Rattle.law_sphere.specs.Maps.{Map, MapLabel}
+use Rattle.law_sphere.specs.Least.{Least, Cone}
+use Rattle.law_sphere.specs.Kinds.{Full, FlatMap, IsInVolume, IsInFacet, IsOnEdge}
+use Rattle.law_sphere.proofs.Vectors.{normal-is}
+use Rattle.law_forms.proofs.Directions.{zero-decided, self-pos, dot-comm, dot-zero}
+use Rattle.law_sphere.proofs.Parallel.{apart, parallel-trans, circle-point}
+use Rattle.law_near.proofs.FlatDecided.{cross-turned}
+use Rattle.law_sphere.proofs.Direct.{cross-self}
+use Rattle.law_sphere.proofs.Labels.{label-direction, label-unique}
+use Rattle.law_sphere.proofs.Arcs.{at-loop}
+use Rattle.law_sphere.proofs.KindFlats.{volume-flat, facet-flat, facet-only}
+use Rattle.law_sphere.proofs.KindLaws.{KindOf, flat-kind, edge-flat, edge-only}
+
+module _ (M : Map) (s : Set) (p : Place) (C : Cone M s p) where
+  -- the map's labels are the germs, toward nought too
+  germ-full : (e : Vector) (m : Label) → Full M e m → Germ s p e m
+  germ-full e m (inl z) = let g = germ_of s p e in subst (Germ s p e) (label-one s p g.0 M.mark ((Germ-zero s p e g.0 z.0).0 g.1) C.mark ∙ z.1) g.1
+  germ-full e m (inr l) = let x = C.labels e (label-direction M e m l) in subst (Germ s p e) (label-unique M C.valid e x.0 m x.1 l) x.2
+
+  full-germ : (e : Vector) (m : Label) → Germ s p e m → Full M e m
+  full-germ e m g = ⊎_elim
+      (λ z. inl (z, label-one s p M.mark m C.mark ((Germ-zero s p e m z).0 g)))
+      (λ f. let x = C.labels e f in inr (subst (λ (r : Label). MapLabel M e r) (Germ-unique s p e x.0 m x.2 g) x.1))
+      (zero-decided e)
+
+  pub map-flat : (d : Vector) → Flat s p d → FlatMap M d
+  map-flat d f e b a sb m =
+      let c = FlatCone-from_flat s p d f e b a sb m in
+      (λ x. full-germ (comb (pos b) e a d) m (c.0 (germ-full e m x)), λ x. full-germ e m (c.1 (germ-full (comb (pos b) e a d) m x)))
+
+  pub flat-map : (d : Vector) → FlatMap M d → Flat s p d
+  flat-map d F = Flat-from_cone s p d (λ e b a sb m. (λ x. germ-full (comb (pos b) e a d) m ((F e b a sb m).0 (full-germ e m x)), λ x. germ-full e m ((F e b a sb m).1 (full-germ (comb (pos b) e a d) m x))))
+
+  pub volume-dimension : IsInVolume M → FlatDim s p 3
+  volume-dimension K = (
+    (
+      vector (pos 1) (pos 0) (pos 0),
+      vector (pos 0) (pos 1) (pos 0),
+      vector (pos 0) (pos 0) (pos 1),
+      (λ e. omega (arith, ints)),
+      flat-map _ (volume-flat M C.valid K _),
+      flat-map _ (volume-flat M C.valid K _),
+      flat-map _ (volume-flat M C.valid K _),
+    ),
+    λ x. x,
+  )
+
+  pub facet-dimension : Least M → (n : Vector) → IsInFacet M n → FlatDim s p 2
+  facet-dimension L n K = (two, none)
+    where
+      hn : IsDirection n
+      hn = let V = C.valid in let i = at-loop M.arcs M.loop K.loop K.has_loop in subst IsDirection K.normal (normal-is V.shaped i.0 _ i.1)
+
+      two : HasFlat s p 2
+      two =
+          let y = circle-point n hn in
+          let o = y.1 in
+          let off = apart n n y.0 (some n hn) o.level o.direction in
+          let r = apart y.0 y.0 (cross y.0 n) (some y.0 o.direction) (dot-comm y.0 (cross y.0 n) ∙ cross-self y.0 n) (λ z. off (cross-turned y.0 n z)) in
+          (y.0, cross y.0 n, r, flat-map y.0 (facet-flat M C.valid n K y.0 o.level), flat-map (cross y.0 n) (facet-flat M C.valid n K (cross y.0 n) (square n y.0)))
+        where
+          some : (v : Vector) → IsDirection v → dot v v ≡ pos 0 → ⊥
+          some v f z = let h = self-pos v f in omega (arith, ints)
+
+          square : (n y : Vector) → dot n (cross y n) ≡ pos 0
+          square n y = ring (n.x ∷ n.y ∷ n.z ∷ y.x ∷ y.y ∷ y.z ∷ []) (at 0 ⊗ (at 4 ⊗ at 2 ⊖ at 5 ⊗ at 1) ⊕ at 1 ⊗ (at 5 ⊗ at 0 ⊖ at 3 ⊗ at 2) ⊕ at 2 ⊗ (at 3 ⊗ at 1 ⊖ at 4 ⊗ at 0)) (num (pos 0)) tt
+
+      none : HasFlat s p 3 → ⊥
+      none (d, e, f, t, x, y, z) =
+          let level = λ (g : Vector) (h : Flat s p g). facet-only M C.valid L n K g (map-flat g h) in
+          t (in_plane n.x n.y n.z d.x d.y d.z e.x e.y e.z f.x f.y f.z (self-pos n hn) (level d x) (level e y) (level f z))
+
+  pub edge-dimension : Least M → (d : Vector) → IsOnEdge M d → FlatDim s p 1
+  edge-dimension L d K = ((d, hd, flat-map d (edge-flat M C.valid d K)), none)
+    where
+      hd : IsDirection d
+      hd z = let o = K.opposite in let b = o.backward in let e = dot-zero K.first.way K.second.way (subst IsZero (sym K.named) z) in omega (arith, ints)
+
+      none : HasFlat s p 2 → ⊥
+      none (e, f, t, x, y) = t (parallel-trans e d f hd (cross-turned d e (edge-only M C.valid L d K e (map-flat e x))) (edge-only M C.valid L d K f (map-flat f y)))
+
+  pub vertex-dimension : Least M → (KindOf M → ⊥) → FlatDim s p 0
+  vertex-dimension L n = (tt, λ x. n (flat-kind M C.valid L x.0 x.1 (map-flat x.0 x.2)))

@@ -1,0 +1,177 @@
+-- A free direction that isn't in the plane of some item is seen directly by a side.
+use Rattle.std.proofs.Common.{◌≡◌, ℕ, ◌<◌, ℤ, pos, ◌+ℤ◌, ◌-ℤ◌, ◌*ℤ◌, ◌<ℤ◌, arith, refl, ap, sym, ◌∙◌, inl, inr, ⊎_elim, List, [], ◌∷◌, ◌++◌}
+use Rattle.std.proofs.lemmas.Int.{ints}
+use Rattle.law_arithmetic.proofs.Ring.{ring, at, num, ◌⊕◌, ◌⊖◌, ◌⊗◌}
+use Rattle.law_arithmetic.proofs.Order.{sign, by_order, sign-scaled}
+use Rattle.law_arithmetic.specs.Signs.{Lies}
+use Rattle.nef_space.specs.Vectors.{Vector, IsDirection, cross, dot, IsZero, SameDirection, blend}
+use Rattle.nef_space.specs.declared.label.Label.{Label}
+use Rattle.law_sphere.specs.Vectors.{comb}
+use Rattle.law_sphere.specs.Maps.{At, Svertex, Map, Item, items, item_normal, item_above, item_below, OnItem, IsFree, Side, above_item, below_item, HasSide, IsClear, Reaches, Shaped}
+use Rattle.law_sphere.proofs.Vectors.{normal-is, dot-comb, comb-dot, direction-by}
+use Rattle.law_forms.proofs.Far.{nought-or}
+use Rattle.law_forms.proofs.Directions.{square_pos}
+use Rattle.law_sphere.proofs.Generic.{Keeps, Generic, generic}
+use Rattle.law_sphere.proofs.Lists.{gather, gather-has}
+use Rattle.law_arithmetic.proofs.Lists.{lies-left, lies-right}
+use Rattle.law_sphere.proofs.Forms.{item_forms, on-direction, on-level, OnItem-stays}
+use Rattle.law_sphere.proofs.Parallel.{apart, miss}
+use Rattle.law_sphere.proofs.Shot.{product-off, item-point, Target, Shot, shoot}
+
+-- ---- between d and c
+pub IsZero-times : (k : ℤ) (d : Vector) → pos 0 <ℤ k → (k *ℤ d.x ≡ pos 0) → (k *ℤ d.y ≡ pos 0) → (k *ℤ d.z ≡ pos 0) → IsZero d
+IsZero-times k d h a b c = (one d.x a, one d.y b, one d.z c)
+  where
+    one : (x : ℤ) → k *ℤ x ≡ pos 0 → x ≡ pos 0
+    one x e = ⊎_elim (λ y. y) (λ f. absurd (product-off k x h f e)) (nought-or x)
+
+-- d x (i d + j c) = j (d x c)
+pub cross-between : (d c : Vector) (i j : ℕ) → 0 < j → IsDirection (cross d c) → IsDirection (cross d (blend i d j c))
+cross-between d c i j sj f z =
+    let xs = d.x ∷ d.y ∷ d.z ∷ c.x ∷ c.y ∷ c.z ∷ pos i ∷ pos j ∷ [] in
+    let x = at 6 ⊗ at 0 ⊕ at 7 ⊗ at 3 in
+    let y = at 6 ⊗ at 1 ⊕ at 7 ⊗ at 4 in
+    let w = at 6 ⊗ at 2 ⊕ at 7 ⊗ at 5 in
+    f (IsZero-times (pos j) (cross d c) (omega (arith, ints))
+    (ring xs (at 7 ⊗ (at 1 ⊗ at 5 ⊖ at 2 ⊗ at 4)) (at 1 ⊗ w ⊖ at 2 ⊗ y) tt ∙ z.0)
+    (ring xs (at 7 ⊗ (at 2 ⊗ at 3 ⊖ at 0 ⊗ at 5)) (at 2 ⊗ x ⊖ at 0 ⊗ w) tt ∙ z.1)
+    (ring xs (at 7 ⊗ (at 0 ⊗ at 4 ⊖ at 1 ⊗ at 3)) (at 0 ⊗ y ⊖ at 1 ⊗ x) tt ∙ z.2))
+
+pub cross-self : (u v : Vector) → dot (cross u v) u ≡ pos 0
+cross-self u v = ring (u.x ∷ u.y ∷ u.z ∷ v.x ∷ v.y ∷ v.z ∷ []) ((at 1 ⊗ at 5 ⊖ at 2 ⊗ at 4) ⊗ at 0 ⊕ (at 2 ⊗ at 3 ⊖ at 0 ⊗ at 5) ⊗ at 1 ⊕ (at 0 ⊗ at 4 ⊖ at 1 ⊗ at 3) ⊗ at 2) (num (pos 0)) tt
+
+-- a form that is nought at d is nought between only where it is at c
+pub between-off : (g d c : Vector) (i j : ℕ) → 0 < j → dot g d ≡ pos 0 → (dot g c ≡ pos 0 → ⊥) → dot g (blend i d j c) ≡ pos 0 → ⊥
+between-off g d c i j sj z f e =
+    let a = dot-comb g (pos i) d (pos j) c in
+    let b = ap (λ r. pos i *ℤ r) z in
+    let u = ring (pos i ∷ []) (at 0 ⊗ num (pos 0)) (num (pos 0)) tt in
+    product-off (pos j) (dot g c) (omega (arith, ints)) f (omega (arith, ints))
+
+pub between-off_target : (g d c : Vector) (i j : ℕ) → 0 < i → dot g c ≡ pos 0 → (dot g d ≡ pos 0 → ⊥) → dot g (blend i d j c) ≡ pos 0 → ⊥
+between-off_target g d c i j si z f e =
+    let a = dot-comb g (pos i) d (pos j) c in
+    let b = ap (λ r. pos j *ℤ r) z in
+    let u = ring (pos j ∷ []) (at 0 ⊗ num (pos 0)) (num (pos 0)) tt in
+    product-off (pos i) (dot g d) (omega (arith, ints)) f (omega (arith, ints))
+
+-- the way from d to c misses v
+pub miss-between : (d v c : Vector) (i j : ℕ) → 0 < j → IsDirection v → (IsDirection (cross d v) → dot (cross d v) c ≡ pos 0 → ⊥) → IsDirection (cross d c) → SameDirection v (blend i d j c) → ⊥
+miss-between d v c i j sj h off f m = miss d v (blend i d j c) h (λ g. between-off (cross d v) d c i j sj (cross-self d v) (off g)) (cross-between d c i j sj f) m
+
+-- ---- a target in general position
+-- the form that takes on e the value that g takes on (n.d)^2 e - (n.d)(n.e) d, which lies in the plane of n
+abbrev pub slid_form : Vector → Vector → Vector → Vector
+slid_form n d g = comb (dot n d *ℤ dot n d) g (pos 0 -ℤ dot n d *ℤ dot g d) n
+
+abbrev pub slid : Vector → Vector → Vector → Vector
+slid n d e = comb (dot n d *ℤ dot n d) e (pos 0 -ℤ dot n d *ℤ dot n e) d
+
+pub slid-is : (n d g e : Vector) → dot g (slid n d e) ≡ dot (slid_form n d g) e
+slid-is n d g e = dot-comb g (dot n d *ℤ dot n d) e (pos 0 -ℤ dot n d *ℤ dot n e) d
+    ∙ ring (dot n d ∷ dot n e ∷ dot g d ∷ dot g e ∷ []) (at 0 ⊗ at 0 ⊗ at 3 ⊕ (num (pos 0) ⊖ at 0 ⊗ at 1) ⊗ at 2) (at 0 ⊗ at 0 ⊗ at 3 ⊕ (num (pos 0) ⊖ at 0 ⊗ at 2) ⊗ at 1) tt
+    ∙ sym (comb-dot (dot n d *ℤ dot n d) g (pos 0 -ℤ dot n d *ℤ dot g d) n e)
+
+pub slid-level : (n d e : Vector) → dot n (slid n d e) ≡ pos 0
+slid-level n d e = dot-comb n (dot n d *ℤ dot n d) e (pos 0 -ℤ dot n d *ℤ dot n e) d ∙ ring (dot n d ∷ dot n e ∷ []) (at 0 ⊗ at 0 ⊗ at 1 ⊕ (num (pos 0) ⊖ at 0 ⊗ at 1) ⊗ at 0) (num (pos 0)) tt
+
+-- a form that is nought at d
+pub slid-square : (n d g e : Vector) → dot g d ≡ pos 0 → dot g (slid n d e) ≡ dot n d *ℤ dot n d *ℤ dot g e
+slid-square n d g e z = dot-comb g (dot n d *ℤ dot n d) e (pos 0 -ℤ dot n d *ℤ dot n e) d ∙ ap (λ r. dot n d *ℤ dot n d *ℤ dot g e +ℤ (pos 0 -ℤ dot n d *ℤ dot n e) *ℤ r) z
+    ∙ ring (dot n d ∷ dot n e ∷ dot g e ∷ []) (at 0 ⊗ at 0 ⊗ at 2 ⊕ (num (pos 0) ⊖ at 0 ⊗ at 1) ⊗ num (pos 0)) (at 0 ⊗ at 0 ⊗ at 2) tt
+
+-- at a point of the plane of n
+pub slid_form-at : (n d g y : Vector) → dot n y ≡ pos 0 → dot (slid_form n d g) y ≡ dot n d *ℤ dot n d *ℤ dot g y
+slid_form-at n d g y z = comb-dot (dot n d *ℤ dot n d) g (pos 0 -ℤ dot n d *ℤ dot g d) n y ∙ ap (λ r. dot n d *ℤ dot n d *ℤ dot g y +ℤ (pos 0 -ℤ dot n d *ℤ dot g d) *ℤ r) z
+    ∙ ring (dot n d ∷ dot g d ∷ dot g y ∷ []) (at 0 ⊗ at 0 ⊗ at 2 ⊕ (num (pos 0) ⊖ at 0 ⊗ at 1) ⊗ num (pos 0)) (at 0 ⊗ at 0 ⊗ at 2) tt
+
+module _ (M : Map) (V : Shaped M) (d : Vector) (k : ℕ) (x : Item) (here : At (items M) k x) (f : dot (item_normal x) d ≡ pos 0 → ⊥) where
+  abbrev n : Vector
+  n = item_normal x
+
+  abbrev spots : List Vector
+  spots = gather (λ (v : Svertex). cross d v.way ∷ []) M.svertices
+
+  abbrev planes : List Vector
+  planes = gather (λ (y : Item). item_normal y ∷ []) (items M)
+
+  abbrev slides : List Vector
+  slides = gather (λ (g : Vector). slid_form n d g ∷ []) (item_forms M x)
+
+  abbrev avoided : List Vector
+  avoided = spots ++ (planes ++ slides)
+
+  spot-in : (l : ℕ) (v : Svertex) → At M.svertices l v → Lies avoided (cross d v.way)
+  spot-in l v a = lies-left spots (planes ++ slides) (cross d v.way) (gather-has (λ (v : Svertex). cross d v.way ∷ []) M.svertices l v (cross d v.way) a (inl refl))
+
+  plane-in : (l : ℕ) (y : Item) → At (items M) l y → Lies avoided (item_normal y)
+  plane-in l y a = lies-right spots (planes ++ slides) (item_normal y) (lies-left planes slides (item_normal y) (gather-has (λ (y : Item). item_normal y ∷ []) (items M) l y (item_normal y) a (inl refl)))
+
+  slide-in : (g : Vector) → Lies (item_forms M x) g → Lies avoided (slid_form n d g)
+  slide-in g l = lies-right spots (planes ++ slides) (slid_form n d g) (lies-right planes slides (slid_form n d g) (has (item_forms M x) l))
+    where
+      has : (gs : List Vector) → Lies gs g → Lies (gather (λ (g : Vector). slid_form n d g ∷ []) gs) (slid_form n d g)
+      has [] l = absurd l
+      has (h ∷ gs) (inl e) = inl (ap (slid_form n d) e)
+      has (h ∷ gs) (inr l) = inr (has gs l)
+
+  square : pos 0 <ℤ (dot n d *ℤ dot n d)
+  square = square_pos (dot n d) f
+
+  start_target : (y : Vector) → OnItem M x y → (e : Generic avoided y) → Target M d (slid n d e.vector)
+  start_target y o e = record {
+    number = k;
+    item = x;
+    listed = here;
+    on = OnItem-stays M x y (slid n d e.vector) kept (slid-level n d e.vector) o;
+    across = f;
+    flat = λ l z h a b. product-off (dot n d *ℤ dot n d) (dot (item_normal z) e.vector) square (e.off (item_normal z) (plane-in l z h) (normal-is V l z h)) (sym (slid-square n d (item_normal z) e.vector a) ∙ b);
+    off = λ l v h g b. product-off (dot n d *ℤ dot n d) (dot (cross d v.way) e.vector) square (e.off (cross d v.way) (spot-in l v h) g) (sym (slid-square n d (cross d v.way) e.vector (cross-self d v.way)) ∙ b);
+  }
+    where
+      kept : Keeps (item_forms M x) y (slid n d e.vector)
+      kept g l h =
+          let a = slid_form-at n d g y (on-level M x y o) in
+          ap sign (slid-is n d g e.vector) ∙ e.keeps (slid_form n d g) (slide-in g l) (λ z. product-off (dot n d *ℤ dot n d) (dot g y) square h (sym a ∙ z))
+          ∙ ap sign a ∙ sign-scaled (dot n d *ℤ dot n d) (dot g y) square
+
+  shot : Shot M d (items M)
+  shot = let y = item-point M V k x here in let e = generic avoided y.0 in
+      shoot M d (slid n d e.vector) (start_target y.0 y.1 e) (items M) (λ l z a. (l, a))
+
+-- a side sees d directly, at y
+pub record Direct (M : Map) (d : Vector) : Type 0 where
+  pub side : Side
+  pub label : Label
+  pub has : HasSide M side label
+  pub point : Vector
+  pub clear : IsClear M d point
+  pub reached : Reaches M side d point
+
+module _ (M : Map) (V : Shaped M) (d : Vector) (F : IsFree M d) where
+  target-clear : (s : Shot M d (items M)) → IsClear M d s.at_vector
+  target-clear s =
+      let t = s.target in
+      let c = s.at_vector in
+      let g = item_normal t.item in
+      let l = on-level M t.item c t.on in
+      let h = apart g d c t.across l (on-direction M t.item c t.on) in
+      record {
+        start = F;
+        direction = on-direction M t.item c t.on;
+        short = λ o. h o.parallel;
+        between = λ i j si sj. record {
+          direction = direction-by g (blend i d j c) (between-off_target g d c i j si l t.across);
+          off_svertices = λ k v a m. miss-between d v.way c i j sj (V.svertex_ways k v a) (t.off k v a) h m;
+          off_items = λ k x a o. s.unmet k x a i j si sj o;
+        };
+      }
+
+  pub direct : (k : ℕ) (x : Item) → At (items M) k x → (dot (item_normal x) d ≡ pos 0 → ⊥) → Direct M d
+  direct k x h f =
+      let s = shot M V d k x h f in
+      let t = s.target in
+      by_order (dot (item_normal t.item) d) (pos 0)
+      (λ l. record { side = below_item t.number; label = item_below t.item; has = (t.item, t.listed, refl); point = s.at_vector; clear = target-clear s; reached = (t.item, t.listed, t.on, l) })
+      (λ e. absurd (t.across e))
+      (λ l. record { side = above_item t.number; label = item_above t.item; has = (t.item, t.listed, refl); point = s.at_vector; clear = target-clear s; reached = (t.item, t.listed, t.on, l) })

@@ -1,0 +1,294 @@
+-- The map of an edge point stays the same along the edge; a least map that stays the same along a direction is of one of three kinds.
+use Rattle.std.proofs.Common.{◌≡◌, ℕ, zero, suc, ◌+◌, ◌*◌, ◌<◌, ℤ, pos, negsuc, ◌+ℤ◌, ◌-ℤ◌, ◌*ℤ◌, arith, refl, ap, sym, ◌∙◌, ◌⊎◌, inl, inr, ⊎_elim, List, [], ◌∷◌, subst, Option, Some, None}
+use Rattle.std.proofs.lemmas.Int.{ints}
+use Rattle.law_arithmetic.proofs.Ring.{ring, at, num, ◌⊕◌, ◌⊖◌, ◌⊗◌}
+use Rattle.law_arithmetic.proofs.Combination.{follows, given, none}
+use Rattle.law_arithmetic.proofs.Order.{sign, mul_neg, sign-scaled}
+use Rattle.nef_space.specs.Vectors.{Vector, IsDirection, cross, triple, dot, IsZero, SameDirection, IsOpposite, blend}
+use Rattle.nef_space.specs.declared.label.Label.{Label}
+use Rattle.law_sphere.specs.Vectors.{comb}
+use Rattle.law_sphere.specs.Maps.{At, Svertex, Loop, Map, loop_item, item_mark, IsFree, IsClear, MapLabel, at_svertex, on_item, NearLabel, Valid}
+use Rattle.law_sphere.specs.Least.{by_side, NearPlain, NearStraight, Least}
+use Rattle.law_sphere.specs.Kinds.{Full, FlatMap, IsInVolume, IsInFacet, IsOnEdge}
+use Rattle.law_sphere.proofs.Vectors.{dot-comb, triple-middle, same-minus}
+use Rattle.law_forms.proofs.Directions.{dot-comm, self-pos, dot-zero, zero-decided}
+use Rattle.law_sphere.proofs.Lists.{search_list, at-one}
+use Rattle.law_sphere.proofs.Forms.{PlaceOf, svertex_place, item_place, free_place, place_of, OnItem-by_signs}
+use Rattle.law_sphere.proofs.Parallel.{parallel-trans}
+use Rattle.law_near.proofs.FlatDecided.{cross-turned}
+use Rattle.law_near.proofs.Flats.{vector-same}
+use Rattle.law_sphere.proofs.Labels.{label-direction, label-exists, label-unique, way-signs, clear-label}
+use Rattle.law_sphere.proofs.Around.{Beside, same_way, other_way, beside, opposites, opposite-triple, turn-plus}
+use Rattle.law_sphere.proofs.NearItems.{free-plain, item-straight}
+use Rattle.law_sphere.proofs.Compare.{SameDirection-turned, way-self}
+use Rattle.law_sphere.proofs.Walk.{between-direction, cross-direction_right}
+use Rattle.law_sphere.proofs.Arcs.{at-loop}
+use Rattle.law_sphere.proofs.Unique.{face-label}
+use Rattle.law_sphere.proofs.FlatMaps.{full-label, flat-onward, flat-svertex}
+use Rattle.law_sphere.proofs.Kind.{away, away-dot, flat-loop, flat-mark, flat-parallel}
+use Rattle.law_sphere.proofs.KindFlats.{svertex-parallel, at-second, axis-label, arc-moved, off-moved, off-svertices, hu}
+use Rattle.law_sphere.proofs.Direct.{cross-self}
+
+-- ---- full labels
+full-one : (M : Map) → Valid M → (e : Vector) (m n : Label) → Full M e m → Full M e n → m ≡ n
+full-one M V e m n (inl z) (inl w) = sym z.1 ∙ w.1
+full-one M V e m n (inl z) (inr l) = absurd (label-direction M e n l z.0)
+full-one M V e m n (inr l) (inl z) = absurd (label-direction M e m l z.0)
+full-one M V e m n (inr l) (inr k) = label-unique M V e m n l k
+
+full-exists : (M : Map) → Valid M → (e : Vector) → (m : Label) × Full M e m
+full-exists M V e = ⊎_elim (λ z. (M.mark, inl (z, refl))) (λ f. let l = label-exists M V e f in (l.0, inr l.1)) (zero-decided e)
+
+flat-from_onward : (M : Map) → Valid M → (d : Vector) → ((e : Vector) (b : ℕ) (a : ℤ) → 0 < b → (m : Label) → Full M e m → Full M (comb (pos b) e a d) m) → FlatMap M d
+flat-from_onward M V d on e b a sb m = (
+  on e b a sb m,
+  λ f.
+      let x = full-exists M V e in
+      subst (λ (r : Label). Full M e r) (full-one M V (comb (pos b) e a d) x.0 m (on e b a sb x.0 x.1) f) x.1,
+)
+
+-- ---- edges
+module _ (M : Map) (V : Valid M) (d : Vector) (K : IsOnEdge M d) where
+  abbrev u : Vector
+  u = K.first.way
+
+  module _ (e : Vector) (off : IsDirection (cross u e)) where
+    moved-free : IsFree M e → (b : ℕ) (a : ℤ) → 0 < b → IsFree M (comb (pos b) e a u)
+    moved-free F b a sb = record {
+      direction = cross-direction_right u (comb (pos b) e a u) (off-moved M V d K e off b a sb);
+      off_svertices = λ k v h w. off-svertices M V d K e off b a sb k v h w;
+      off_items = λ k x h o. F.off_items k x h (OnItem-by_signs M x (comb (pos 1) (comb (pos b) e a u) (pos 0 -ℤ a) u) e (λ g l. sym (same g))
+          (arc-moved M V d K (comb (pos b) e a u) (off-moved M V d K e off b a sb) 1 (pos 0 -ℤ a) (omega arith) k x h o));
+    }
+      where
+        same : (g : Vector) → sign (dot g (comb (pos 1) (comb (pos b) e a u) (pos 0 -ℤ a) u)) ≡ sign (dot g e)
+        same g = ap sign (dot-comb g (pos 1) (comb (pos b) e a u) (pos 0 -ℤ a) u ∙ ap (λ r. pos 1 *ℤ r +ℤ (pos 0 -ℤ a) *ℤ dot g u) (dot-comb g (pos b) e a u)
+            ∙ ring (pos b ∷ dot g e ∷ a ∷ dot g u ∷ []) (num (pos 1) ⊗ (at 0 ⊗ at 1 ⊕ at 2 ⊗ at 3) ⊕ (num (pos 0) ⊖ at 2) ⊗ at 3) (at 0 ⊗ at 1) tt) ∙ sign-scaled (pos b) (dot g e) (omega (arith, ints))
+
+    moved-not_opposite : (b : ℕ) (a : ℤ) → 0 < b → IsOpposite e (comb (pos b) e a u) → ⊥
+    moved-not_opposite b a sb o =
+        let p = cross u e in
+        let w = comb (pos b) e a u in
+        let he = cross-direction_right u e off in
+        let q = self-pos p off in
+        let t : triple p e u ≡ pos 0 -ℤ dot p p = ring (u.x ∷ u.y ∷ u.z ∷ e.x ∷ e.y ∷ e.z ∷ [])
+        ((at 1 ⊗ at 5 ⊖ at 2 ⊗ at 4) ⊗ (at 4 ⊗ at 2 ⊖ at 5 ⊗ at 1) ⊕ (at 2 ⊗ at 3 ⊖ at 0 ⊗ at 5) ⊗ (at 5 ⊗ at 0 ⊖ at 3 ⊗ at 2) ⊕ (at 0 ⊗ at 4 ⊖ at 1 ⊗ at 3) ⊗ (at 3 ⊗ at 1 ⊖ at 4 ⊗ at 0))
+        (num (pos 0) ⊖ ((at 1 ⊗ at 5 ⊖ at 2 ⊗ at 4) ⊗ (at 1 ⊗ at 5 ⊖ at 2 ⊗ at 4) ⊕ (at 2 ⊗ at 3 ⊖ at 0 ⊗ at 5) ⊗ (at 2 ⊗ at 3 ⊖ at 0 ⊗ at 5) ⊕ (at 0 ⊗ at 4 ⊖ at 1 ⊗ at 3) ⊗ (at 0 ⊗ at 4 ⊖ at 1 ⊗ at 3))) tt in
+        let s = triple-middle p w u ∙ dot-comb (cross u p) (pos b) e a u ∙ ap (λ r. pos b *ℤ dot (cross u p) e +ℤ a *ℤ r) (cross-self u p) ∙ ap (λ r. pos b *ℤ r +ℤ a *ℤ pos 0) (sym (triple-middle p e u))
+        ∙ ring (pos b ∷ triple p e u ∷ a ∷ []) (at 0 ⊗ at 1 ⊕ at 2 ⊗ num (pos 0)) (at 0 ⊗ at 1) tt in
+        let x = turn-plus (dot e e) (dot e w) (triple p w u) (triple p e u) (self-pos e he) (opposite-triple p e u w he o.parallel) o.backward (omega (arith, ints)) in
+        let y = mul_neg (pos b) (triple p e u) (omega (arith, ints)) (omega (arith, ints)) in
+        omega (arith, ints)
+
+    moved-label : (b : ℕ) (a : ℤ) → 0 < b → (m : Label) → MapLabel M e m → MapLabel M (comb (pos b) e a u) m
+    moved-label b a sb m l = by (place_of M e (cross-direction_right u e off))
+      where
+        by : PlaceOf M e → MapLabel M (comb (pos b) e a u) m
+        by (svertex_place k v h w) = absurd (off (parallel-trans u v.way e (V.shaped.svertex_ways k v h) (svertex-parallel M V d K k v h) w.parallel))
+        by (item_place k x h o) = on_item k x h (arc-moved M V d K e off b a sb k x h o) (label-unique M V e (item_mark x) m (on_item k x h o refl) l)
+        by (free_place F) =
+            let G = moved-free F b a sb in
+            let c : IsClear M e (comb (pos b) e a u) = record {
+              start = F;
+              direction = G.direction;
+              short = moved-not_opposite b a sb;
+              between = λ i j si sj. subst (IsFree M) (eq i j) (moved-free F (i + j * b) (pos j *ℤ a) (omega arith));
+            } in
+            let x = label-exists M V (comb (pos b) e a u) G.direction in
+            subst (λ (r : Label). MapLabel M (comb (pos b) e a u) r) (sym (clear-label M V e (comb (pos b) e a u) c G m x.0 l x.1)) x.1
+          where
+            eq : (i j : ℕ) → comb (pos (i + j * b)) e (pos j *ℤ a) u ≡ blend i e j (comb (pos b) e a u)
+            eq i j = vector-same (comb (pos (i + j * b)) e (pos j *ℤ a) u) (blend i e j (comb (pos b) e a u)) (one e.x u.x) (one e.y u.y) (one e.z u.z)
+              where
+                one : (x y : ℤ) → pos (i + j * b) *ℤ x +ℤ pos j *ℤ a *ℤ y ≡ pos i *ℤ x +ℤ pos j *ℤ (pos b *ℤ x +ℤ a *ℤ y)
+                one x y = ring (pos i ∷ pos j ∷ pos b ∷ x ∷ a ∷ y ∷ []) ((at 0 ⊕ at 1 ⊗ at 2) ⊗ at 3 ⊕ at 1 ⊗ at 4 ⊗ at 5) (at 0 ⊗ at 3 ⊕ at 1 ⊗ (at 2 ⊗ at 3 ⊕ at 4 ⊗ at 5)) tt
+
+  pub first-flat : FlatMap M u
+  first-flat = flat-from_onward M V u on
+    where
+      on : (e : Vector) (b : ℕ) (a : ℤ) → 0 < b → (m : Label) → Full M e m → Full M (comb (pos b) e a u) m
+      on e b a sb m f = ⊎_elim
+          (λ z. let q = is_mark z f in ⊎_elim (λ y. inl (y, q)) (λ g. inr (subst (λ (r : Label). MapLabel M (comb (pos b) e a u) r) q (axis-label M V d K (comb (pos b) e a u) g (parallel z)))) (zero-decided (comb (pos b) e a u)))
+          (λ g. inr (moved-label e g b a sb m (full-label M e m (cross-direction_right u e g) f)))
+          (zero-decided (cross u e))
+        where
+          is_mark : IsZero (cross u e) → Full M e m → M.mark ≡ m
+          is_mark z (inl w) = w.1
+          is_mark z (inr l) = label-unique M V e M.mark m (axis-label M V d K e (label-direction M e m l) z) l
+
+          parallel : IsZero (cross u e) → IsZero (cross u (comb (pos b) e a u))
+          parallel z = (one u.y u.z e.y e.z z.0, one u.z u.x e.z e.x z.1, one u.x u.y e.x e.y z.2)
+            where
+              one : (p q x y : ℤ) → p *ℤ y -ℤ q *ℤ x ≡ pos 0 → p *ℤ (pos b *ℤ y +ℤ a *ℤ q) -ℤ q *ℤ (pos b *ℤ x +ℤ a *ℤ p) ≡ pos 0
+              one p q x y h = follows (p ∷ q ∷ x ∷ y ∷ pos b ∷ a ∷ []) (at 0 ⊗ (at 4 ⊗ at 3 ⊕ at 5 ⊗ at 1) ⊖ at 1 ⊗ (at 4 ⊗ at 2 ⊕ at 5 ⊗ at 0)) (num (pos 0)) (given (at 4) (at 0 ⊗ at 3 ⊖ at 1 ⊗ at 2) (num (pos 0)) h none) tt
+
+  pub edge-flat : FlatMap M d
+  edge-flat = subst (FlatMap M) K.named (flat-parallel M V u K.second.way (hu M V d K) (let o = K.opposite in o.parallel) first-flat)
+
+pub edge-only : (M : Map) → Valid M → Least M → (d : Vector) → IsOnEdge M d → (e : Vector) → FlatMap M e → IsZero (cross d e)
+edge-only M V L d K e F = subst (λ (r : Vector). IsZero (cross r e)) K.named (flat-svertex M V L e F (suc zero) K.second (at-second M.svertices K.first K.second K.two_svertices))
+
+pub edge-direction : (M : Map) → Valid M → (d : Vector) → IsOnEdge M d → IsDirection d
+edge-direction M V d K = subst IsDirection K.named (V.shaped.svertex_ways (suc zero) K.second (at-second M.svertices K.first K.second K.two_svertices))
+
+-- ---- which kind
+two-listed : {A : Type 0} (xs : List A) (k l : ℕ) (x y : A) → At xs k x → At xs l y → (k ≡ l → ⊥) → ((i : ℕ) (z : A) → At xs i z → (i ≡ k) ⊎ (i ≡ l))
+    → (xs ≡ x ∷ y ∷ []) ⊎ (xs ≡ y ∷ x ∷ [])
+two-listed [] k l x y a b n all = absurd a
+two-listed (p ∷ []) zero zero x y a b n all = absurd (n refl)
+two-listed (p ∷ []) zero (suc l) x y a b n all = absurd b
+two-listed (p ∷ []) (suc k) l x y a b n all = absurd a
+two-listed (p ∷ q ∷ []) zero zero x y a b n all = absurd (n refl)
+two-listed (p ∷ q ∷ []) zero (suc zero) x y a b n all = inl (ap (λ r. r ∷ q ∷ []) a ∙ ap (λ r. x ∷ r ∷ []) b)
+two-listed (p ∷ q ∷ []) zero (suc (suc l)) x y a b n all = absurd b
+two-listed (p ∷ q ∷ []) (suc zero) zero x y a b n all = inr (ap (λ r. r ∷ q ∷ []) b ∙ ap (λ r. y ∷ r ∷ []) a)
+two-listed (p ∷ q ∷ []) (suc zero) (suc zero) x y a b n all = absurd (n refl)
+two-listed (p ∷ q ∷ []) (suc zero) (suc (suc l)) x y a b n all = absurd b
+two-listed (p ∷ q ∷ []) (suc (suc k)) l x y a b n all = absurd a
+two-listed (p ∷ q ∷ r ∷ rs) k l x y a b n all =
+    let i = all zero p refl in let j = all (suc zero) q refl in let h = all (suc (suc zero)) r refl in
+    absurd (⊎_elim (λ e. ⊎_elim (λ f. omega arith) (λ f. ⊎_elim (λ g. omega arith) (λ g. omega arith) h) j) (λ e. ⊎_elim (λ f. ⊎_elim (λ g. omega arith) (λ g. omega arith) h) (λ f. omega arith) j) i)
+
+pub data KindOf (M : Map) : Type 0 where
+  of_volume : IsInVolume M → KindOf M
+  of_facet : (n : Vector) → IsInFacet M n → KindOf M
+  of_edge : (d : Vector) → IsOnEdge M d → KindOf M
+
+module _ (M : Map) (V : Valid M) (L : Least M) (d : Vector) (h : IsDirection d) (F : FlatMap M d) where
+  -- without svertices
+  bare-kind : M.svertices ≡ [] → KindOf M
+  bare-kind e = by M.loop refl
+    where
+      by : (o : Option Loop) → M.loop ≡ o → KindOf M
+      by None q = let g = V.shaped.ground_alone e q in
+          of_volume (record { no_svertex = e; no_loop = q; same_mark = g.1 ∙ ap (λ (r : Label). Some r) (label-unique M V d g.0 M.mark (face-label M V g.0 g.1 d h) (flat-mark M V L d F h)) })
+      by (Some l) q = let i = at-loop M.arcs M.loop l q in
+          of_facet l.normal (record {
+            no_svertex = e;
+            loop = l;
+            has_loop = q;
+            same_mark = label-unique M V d l.mark M.mark (on_item i.0 (loop_item l) i.1 (record { direction = h; level = flat-loop M V L d F l q }) refl) (flat-mark M V L d F h);
+            normal = refl;
+          })
+
+  module _ (k : ℕ) (v : Svertex) (a : At M.svertices k v) where
+    hv : IsDirection v.way
+    hv = V.shaped.svertex_ways k v a
+
+    Fv : FlatMap M v.way
+    Fv = flat-parallel M V d v.way h (cross-turned v.way d (flat-svertex M V L d F k v a)) F
+
+    -- what is near the opposite of v is near v
+    near-over : (e : Vector) → IsDirection (cross v.way e) → (m : Label) → NearLabel M (away v.way) e m → NearLabel M v.way e m
+    near-over e f m (n, g) = (n, λ i l. subst (λ (r : Vector). MapLabel M r m) (eq i) (flat-onward M v.way Fv (blend i (away v.way) 1 e) 1 (pos (2 * i)) (omega arith) m (subst IsDirection (sym (eq i)) (between-direction v.way e i 1 (omega arith) f)) (g i l)))
+      where
+        eq : (i : ℕ) → comb (pos 1) (blend i (away v.way) 1 e) (pos (2 * i)) v.way ≡ blend i v.way 1 e
+        eq i = let w = v.way in vector-same (comb (pos 1) (blend i (away w) 1 e) (pos (2 * i)) w) (blend i w 1 e) (one w.x e.x) (one w.y e.y) (one w.z e.z)
+          where
+            one : (x y : ℤ) → pos 1 *ℤ (pos i *ℤ (negsuc 0 *ℤ x +ℤ pos 0 *ℤ x) +ℤ pos 1 *ℤ y) +ℤ pos (2 * i) *ℤ x ≡ pos i *ℤ x +ℤ pos 1 *ℤ y
+            one x y = ring (pos i ∷ x ∷ y ∷ []) (num (pos 1) ⊗ (at 0 ⊗ (num (negsuc 0) ⊗ at 1 ⊕ num (pos 0) ⊗ at 1) ⊕ num (pos 1) ⊗ at 2) ⊕ num (pos 2) ⊗ at 0 ⊗ at 1) (at 0 ⊗ at 1 ⊕ num (pos 1) ⊗ at 2) tt
+
+    away-opposite : IsOpposite v.way (away v.way)
+    away-opposite = record { parallel = par; backward = let e = away-dot v.way v.way in let p = self-pos v.way hv in omega (arith, ints) }
+      where
+        par : IsZero (cross v.way (away v.way))
+        par = let w = v.way in let xs = w.x ∷ w.y ∷ w.z ∷ [] in (
+          ring xs (at 1 ⊗ (num (negsuc 0) ⊗ at 2 ⊕ num (pos 0) ⊗ at 2) ⊖ at 2 ⊗ (num (negsuc 0) ⊗ at 1 ⊕ num (pos 0) ⊗ at 1)) (num (pos 0)) tt,
+          ring xs (at 2 ⊗ (num (negsuc 0) ⊗ at 0 ⊕ num (pos 0) ⊗ at 0) ⊖ at 0 ⊗ (num (negsuc 0) ⊗ at 2 ⊕ num (pos 0) ⊗ at 2)) (num (pos 0)) tt,
+          ring xs (at 0 ⊗ (num (negsuc 0) ⊗ at 1 ⊕ num (pos 0) ⊗ at 1) ⊖ at 1 ⊗ (num (negsuc 0) ⊗ at 0 ⊕ num (pos 0) ⊗ at 0)) (num (pos 0)) tt,
+        )
+
+    away-direction : IsDirection (away v.way)
+    away-direction z = let o = away-opposite in let e = dot-zero v.way (away v.way) z in let b = o.backward in omega (arith, ints)
+
+    away-off : (e : Vector) → IsDirection (cross v.way e) → IsDirection (cross (away v.way) e)
+    away-off e f z = f (parallel-trans v.way (away v.way) e away-direction (let o = away-opposite in o.parallel) z)
+
+    v-mark : MapLabel M v.way M.mark
+    v-mark = flat-mark M V L v.way Fv hv
+
+    away-mark : MapLabel M (away v.way) M.mark
+    away-mark = flat-mark M V L (away v.way) (flat-parallel M V v.way (away v.way) hv (let o = away-opposite in o.parallel) Fv) away-direction
+
+    -- the opposite is a svertex too
+    record Partner : Type 0 where
+      number : ℕ
+      svertex : Svertex
+      listed : At M.svertices number svertex
+      same : SameDirection svertex.way (away v.way)
+
+    partner : Partner
+    partner = by (place_of M (away v.way) away-direction)
+      where
+        plain : NearPlain M (away v.way) → NearPlain M v.way
+        plain p = record { label = p.label; at_d = subst (λ (r : Label). MapLabel M v.way r) (label-unique M V (away v.way) M.mark p.label away-mark p.at_d) v-mark; near = λ e f. near-over e f p.label (p.near e (away-off e f)) }
+
+        straight : NearStraight M (away v.way) → NearStraight M v.way
+        straight p = record {
+          normal = p.normal;
+          direction = p.direction;
+          level = let e = away-dot p.normal v.way in let l = p.level in omega (arith, ints);
+          above = p.above;
+          label = p.label;
+          below = p.below;
+          at_d = subst (λ (r : Label). MapLabel M v.way r) (label-unique M V (away v.way) M.mark p.label away-mark p.at_d) v-mark;
+          near = λ e f. near-over e f (by_side p.above p.label p.below (sign (dot p.normal e))) (p.near e (away-off e f));
+        }
+
+        by : PlaceOf M (away v.way) → Partner
+        by (svertex_place l u b w) = record { number = l; svertex = u; listed = b; same = w }
+        by (item_place l x b o) = absurd (L.no_straight k v a (straight (item-straight M V (away v.way) l x b o)))
+        by (free_place G) = absurd (L.no_plain k v a (plain (free-plain M V (away v.way) G)))
+
+    no-loop : M.loop ≡ None
+    no-loop = by M.loop refl
+      where
+        by : (o : Option Loop) → M.loop ≡ o → M.loop ≡ None
+        by None q = q
+        by (Some l) q = let i = at-loop M.arcs M.loop l q in absurd (V.shaped.no_svertex_on_item k i.0 v (loop_item l) a i.1 (record { direction = hv; level = flat-loop M V L v.way Fv l q }))
+
+    edge-kind : KindOf M
+    edge-kind = by partner
+      where
+        by : Partner → KindOf M
+        by p = at_two (two-listed M.svertices k p.number v p.svertex a p.listed apart-numbers all)
+          where
+            opp : IsOpposite v.way p.svertex.way
+            opp = record {
+              parallel = parallel-trans v.way (away v.way) p.svertex.way away-direction (let o = away-opposite in o.parallel) (cross-turned p.svertex.way (away v.way) (let s = p.same in s.parallel));
+              backward = let o = away-opposite in same-minus (dot v.way (away v.way)) (dot v.way p.svertex.way) (sym (way-signs p.svertex.way (away v.way) v.way (V.shaped.svertex_ways p.number p.svertex p.listed) p.same)) o.backward;
+            }
+
+            apart-numbers : k ≡ p.number → ⊥
+            apart-numbers e =
+                let q = at-one M.svertices k v p.svertex a (subst (λ (r : ℕ). At M.svertices r p.svertex) (sym e) p.listed) in
+                let o = subst (λ (r : Svertex). IsOpposite v.way r.way) (sym q) opp in
+                let b = o.backward in let s = self-pos v.way hv in omega (arith, ints)
+
+            all : (i : ℕ) (z : Svertex) → At M.svertices i z → (i ≡ k) ⊎ (i ≡ p.number)
+            all i z b = at_beside (beside v.way z.way hv (V.shaped.svertex_ways i z b) (cross-turned z.way v.way (flat-svertex M V L v.way Fv i z b)))
+              where
+                at_beside : Beside v.way z.way → (i ≡ k) ⊎ (i ≡ p.number)
+                at_beside (same_way w) = inl (V.shaped.svertices_apart i k z v b a (SameDirection-turned v.way z.way w))
+                at_beside (other_way o) = inr (V.shaped.svertices_apart i p.number z p.svertex b p.listed (SameDirection-turned p.svertex.way z.way (opposites v.way p.svertex.way z.way hv opp o)))
+
+            mark-v : v.mark ≡ M.mark
+            mark-v = label-unique M V v.way v.mark M.mark (at_svertex k v a (way-self v.way hv) refl) v-mark
+
+            mark-p : p.svertex.mark ≡ M.mark
+            mark-p = label-unique M V (away v.way) p.svertex.mark M.mark (at_svertex p.number p.svertex p.listed p.same refl) away-mark
+
+            at_two : (M.svertices ≡ v ∷ p.svertex ∷ []) ⊎ (M.svertices ≡ p.svertex ∷ v ∷ []) → KindOf M
+            at_two (inl e) = of_edge p.svertex.way (record { first = v; second = p.svertex; two_svertices = e; opposite = opp; first_mark = mark-v; second_mark = mark-p; no_loop = no-loop; named = refl })
+            at_two (inr e) = of_edge v.way (record { first = p.svertex; second = v; two_svertices = e; opposite = turned; first_mark = mark-p; second_mark = mark-v; no_loop = no-loop; named = refl })
+              where
+                turned : IsOpposite p.svertex.way v.way
+                turned = record { parallel = cross-turned v.way p.svertex.way (let o = opp in o.parallel); backward = let e = dot-comm p.svertex.way v.way in let o = opp in let b = o.backward in omega (arith, ints) }
+
+  -- a least map that stays the same along a direction is that of a volume, a facet or an edge
+  pub flat-kind : KindOf M
+  flat-kind = ⊎_elim (λ f. edge-kind f.number f.element f.listed) (λ n. bare-kind (empty M.svertices n)) (search_list M.svertices (λ k v. Unit {0}) (λ k v. inl tt))
+    where
+      empty : (vs : List Svertex) → ((k : ℕ) (v : Svertex) → At vs k v → Unit {0} → ⊥) → vs ≡ []
+      empty [] n = refl
+      empty (v ∷ vs) n = absurd (n zero v refl tt)

@@ -1,0 +1,36 @@
+-- Elements of lists: searching, joining, gathering.
+use Rattle.std.proofs.Common.{◌≡◌, ℕ, zero, suc, refl, sym, ◌∙◌, ◌⊎◌, inl, inr, List, [], ◌∷◌, subst}
+use Rattle.law_arithmetic.specs.Signs.{Lies}
+use Rattle.law_arithmetic.proofs.Lists.{lies-left, lies-right}
+use Rattle.law_sphere.specs.Maps.{At}
+pub use Rattle.law_sphere.specs.Forms.{gather}
+use Rattle.law_near.proofs.Decided.{Decided}
+
+pub record Found {A : Type 0} (xs : List A) (P : ℕ → A → Type 0) : Type 0 where
+  pub number : ℕ
+  pub element : A
+  pub listed : At xs number element
+  pub holds : P number element
+
+pub search_list : {A : Type 0} (xs : List A) (P : ℕ → A → Type 0) → ((k : ℕ) (x : A) → Decided (P k x)) → Found xs P ⊎ ((k : ℕ) (x : A) → At xs k x → P k x → ⊥)
+search_list [] P D = inr (λ k x a p. a)
+search_list {A} (y ∷ ys) P D = by (D zero y) (search_list ys (λ k x. P (suc k) x) (λ k x. D (suc k) x))
+  where
+    none_here : (P zero y → ⊥) → ((k : ℕ) (x : A) → At ys k x → P (suc k) x → ⊥) → (k : ℕ) (x : A) → At (y ∷ ys) k x → P k x → ⊥
+    none_here n f zero x e p = n (subst (λ (r : A). P zero r) (sym e) p)
+    none_here n f (suc k) x a p = f k x a p
+
+    by : Decided (P zero y) → Found ys (λ k x. P (suc k) x) ⊎ ((k : ℕ) (x : A) → At ys k x → P (suc k) x → ⊥) → Found (y ∷ ys) P ⊎ ((k : ℕ) (x : A) → At (y ∷ ys) k x → P k x → ⊥)
+    by (inl p) r = inl (record { number = zero; element = y; listed = refl; holds = p })
+    by (inr n) (inl f) = inl (record { number = suc f.number; element = f.element; listed = f.listed; holds = f.holds })
+    by (inr n) (inr f) = inr (none_here n f)
+
+pub at-one : {A : Type 0} (xs : List A) (k : ℕ) (x y : A) → At xs k x → At xs k y → x ≡ y
+at-one [] k x y a b = absurd a
+at-one (z ∷ zs) zero x y a b = sym a ∙ b
+at-one (z ∷ zs) (suc k) x y a b = at-one zs k x y a b
+
+pub gather-has : {A B : Type 0} (f : A → List B) (xs : List A) (k : ℕ) (x : A) (g : B) → At xs k x → Lies (f x) g → Lies (gather f xs) g
+gather-has f [] k x g a l = absurd a
+gather-has {A} f (y ∷ ys) zero x g e l = lies-left (f y) (gather f ys) g (subst (λ (r : A). Lies (f r) g) (sym e) l)
+gather-has f (y ∷ ys) (suc k) x g a l = lies-right (f y) (gather f ys) g (gather-has f ys k x g a l)

@@ -1,0 +1,118 @@
+-- A direction in general position to which given directions have a clear way.
+use Rattle.std.proofs.Common.{◌≡◌, ℕ, ◌<◌, ℤ, pos, ◌+ℤ◌, ◌*ℤ◌, arith, refl, sym, ◌∙◌, inl, inr, List, [], ◌∷◌, ◌++◌, subst}
+use Rattle.std.proofs.lemmas.Int.{ints}
+use Rattle.law_arithmetic.specs.Signs.{Lies}
+use Rattle.nef_space.specs.Vectors.{Vector, IsDirection, cross, dot, IsZero, SameDirection, blend}
+use Rattle.law_near.proofs.Meets.{cross-none}
+use Rattle.law_sphere.specs.Maps.{At, Svertex, Map, Item, items, item_normal, IsFree, IsClear, Shaped}
+use Rattle.law_sphere.proofs.Vectors.{normal-is}
+use Rattle.law_near.proofs.Decided.{Decided}
+use Rattle.law_forms.proofs.Directions.{zero-decided, dot-zero}
+use Rattle.law_sphere.proofs.Generic.{Generic, generic}
+use Rattle.law_sphere.proofs.Lists.{gather, gather-has}
+use Rattle.law_arithmetic.proofs.Lists.{lies-left, lies-right}
+use Rattle.law_sphere.proofs.Places.{point_forms, row_x, row_y, row_z, row_x-is, row_y-is, row_z-is}
+use Rattle.law_sphere.proofs.Forms.{on-level}
+use Rattle.law_sphere.proofs.Parallel.{miss}
+use Rattle.law_near.proofs.FlatDecided.{cross-turned}
+use Rattle.law_near.proofs.Flats.{vector-same}
+use Rattle.law_sphere.proofs.Direct.{between-off, miss-between, cross-between}
+
+-- not parallel to v, where a form of v isn't nought
+pub apart-by_rows : (v x : Vector) → IsDirection v → ((g : Vector) → Lies (point_forms v) g → IsDirection g → dot g x ≡ pos 0 → ⊥) → IsDirection (cross v x)
+apart-by_rows v x h off z = by (zero-decided (row_x v)) (zero-decided (row_y v)) (zero-decided (row_z v))
+  where
+    by : Decided (IsZero (row_x v)) → Decided (IsZero (row_y v)) → Decided (IsZero (row_z v)) → ⊥
+    by (inr f) b c = off (row_x v) (inr (inl refl)) f (row_x-is v x ∙ z.0)
+    by (inl a) (inr f) c = off (row_y v) (inr (inr (inl refl))) f (row_y-is v x ∙ z.1)
+    by (inl a) (inl b) (inr f) = off (row_z v) (inr (inr (inr (inl refl)))) f (row_z-is v x ∙ z.2)
+    by (inl a) (inl b) (inl c) = h (let e = b.2 in omega (arith, ints), a.2, b.0)
+
+module _ (M : Map) (ds : List Vector) where
+  abbrev joins : Vector → List Vector
+  joins d = point_forms d ++ gather (λ (v : Svertex). cross d v.way ∷ []) M.svertices
+
+  abbrev avoided : List Vector
+  avoided = gather (λ (y : Item). item_normal y ∷ []) (items M) ++ gather joins ds
+
+  -- x lies in no item's plane, is parallel to none of ds, and the ways from them to it miss all svertices
+  pub record Outlook : Type 0 where
+    pub vector : Vector
+    pub planes : (k : ℕ) (y : Item) → At (items M) k y → IsDirection (item_normal y) → dot (item_normal y) vector ≡ pos 0 → ⊥
+    pub apart : (k : ℕ) (d : Vector) → At ds k d → IsDirection d → IsDirection (cross d vector)
+    pub misses : (k : ℕ) (d : Vector) → At ds k d → (l : ℕ) (v : Svertex) → At M.svertices l v → IsDirection (cross d v.way) → dot (cross d v.way) vector ≡ pos 0 → ⊥
+
+  pub outlook : Vector → Outlook
+  outlook s = by (generic avoided s)
+    where
+      by : Generic avoided s → Outlook
+      by e = record {
+        vector = e.vector;
+        planes = λ k y a f. e.off (item_normal y) (lies-left (gather (λ (y : Item). item_normal y ∷ []) (items M)) (gather joins ds) (item_normal y) (gather-has (λ (y : Item). item_normal y ∷ []) (items M) k y (item_normal y) a (inl refl))) f;
+        apart = λ k d a f. apart-by_rows d e.vector f (λ g l. e.off g (joined k d a g (lies-left (point_forms d) (gather (λ (v : Svertex). cross d v.way ∷ []) M.svertices) g l)));
+        misses = λ k d a l v h. e.off (cross d v.way) (joined k d a (cross d v.way) (lies-right (point_forms d) (gather (λ (v : Svertex). cross d v.way ∷ []) M.svertices) (cross d v.way) (gather-has (λ (v : Svertex). cross d v.way ∷ []) M.svertices l v (cross d v.way) h (inl refl))));
+      }
+        where
+          joined : (k : ℕ) (d : Vector) → At ds k d → (g : Vector) → Lies (joins d) g → Lies avoided g
+          joined k d a g l = lies-right (gather (λ (y : Item). item_normal y ∷ []) (items M)) (gather joins ds) g (gather-has joins ds k d g a l)
+
+  module _ (V : Shaped M) (x : Outlook) (k : ℕ) (d : Vector) (here : At ds k d) (h : IsDirection d) where
+    pub outlook-direction : IsDirection x.vector
+    outlook-direction z = x.apart k d here h (cross-none d x.vector z)
+
+    pub outlook-free : IsFree M x.vector
+    outlook-free = record {
+      direction = outlook-direction;
+      off_svertices = λ l v a m. miss d v.way x.vector (V.svertex_ways l v a) (x.misses k d here l v a) (x.apart k d here h) m;
+      off_items = λ l y a o. x.planes l y a (normal-is V l y a) (on-level M y x.vector o);
+    }
+
+    -- the way from a free direction that all items' planes hold
+    pub outlook-clear : IsFree M d → ((l : ℕ) (y : Item) → At (items M) l y → dot (item_normal y) d ≡ pos 0) → IsClear M d x.vector
+    outlook-clear F level = record {
+      start = F;
+      direction = outlook-direction;
+      short = λ o. x.apart k d here h o.parallel;
+      between = λ i j si sj. record {
+        direction = between-direction i j sj;
+        off_svertices = λ l v a m. miss-between d v.way x.vector i j sj (V.svertex_ways l v a) (x.misses k d here l v a) (x.apart k d here h) m;
+        off_items = λ l y a o. between-off (item_normal y) d x.vector i j sj (level l y a) (x.planes l y a (normal-is V l y a)) (on-level M y (blend i d j x.vector) o);
+      };
+    }
+      where
+        between-direction : (i j : ℕ) → 0 < j → IsDirection (blend i d j x.vector)
+        between-direction i j sj z = cross-between d x.vector i j sj (x.apart k d here h) (row z)
+          where
+            row : IsZero (blend i d j x.vector) → IsZero (cross d (blend i d j x.vector))
+            row z = (
+              sym (row_x-is d (blend i d j x.vector)) ∙ dot-zero (row_x d) (blend i d j x.vector) z,
+              sym (row_y-is d (blend i d j x.vector)) ∙ dot-zero (row_y d) (blend i d j x.vector) z,
+              sym (row_z-is d (blend i d j x.vector)) ∙ dot-zero (row_z d) (blend i d j x.vector) z,
+            )
+
+pub blend-turned : (i j : ℕ) (d e : Vector) → blend i d j e ≡ blend j e i d
+blend-turned i j d e = vector-same (blend i d j e) (blend j e i d) (one d.x e.x) (one d.y e.y) (one d.z e.z)
+  where
+    one : (x y : ℤ) → pos i *ℤ x +ℤ pos j *ℤ y ≡ pos j *ℤ y +ℤ pos i *ℤ x
+    one x y = omega (arith, ints)
+
+-- the way from the outlook to a svertex, on a map without items
+pub outlook-svertex : (M : Map) (ds : List Vector) → Shaped M → (x : Outlook M ds) → IsFree M x.vector → ((l : ℕ) (y : Item) → At (items M) l y → ⊥)
+    → (k : ℕ) (v : Vector) → At ds k v → IsDirection v → IsClear M x.vector v
+outlook-svertex M ds V x F empty k v here h = record {
+  start = F;
+  direction = h;
+  short = λ o. x.apart k v here h (cross-turned x.vector v o.parallel);
+  between = λ i j si sj. record {
+    direction = subst IsDirection (blend-turned j i v x.vector) (direction j i si);
+    off_svertices = λ l w a m. miss-between v w.way x.vector j i si (V.svertex_ways l w a) (x.misses k v here l w a) (x.apart k v here h) (subst (SameDirection w.way) (blend-turned i j x.vector v) m);
+    off_items = λ l y a o. empty l y a;
+  };
+}
+  where
+    direction : (i j : ℕ) → 0 < j → IsDirection (blend i v j x.vector)
+    direction i j sj z = cross-between v x.vector i j sj (x.apart k v here h) (
+      sym (row_x-is v (blend i v j x.vector)) ∙ dot-zero (row_x v) (blend i v j x.vector) z,
+      sym (row_y-is v (blend i v j x.vector)) ∙ dot-zero (row_y v) (blend i v j x.vector) z,
+      sym (row_z-is v (blend i v j x.vector)) ∙ dot-zero (row_z v) (blend i v j x.vector) z,
+    )

@@ -1,0 +1,165 @@
+-- A simplified star at a straight direction has no ray, or two opposite rays with its mark.
+use Rattle.std.proofs.Common.{◌≡◌, ℕ, zero, suc, pos, ◌-ℤ◌, arith, refl, ap, sym, ◌∙◌, ◌⊎◌, inl, inr, List, [], ◌∷◌, subst, length}
+use Rattle.std.proofs.lemmas.Int.{ints}
+use Rattle.law_arithmetic.proofs.Ring.{at, num, ◌⊕◌, ◌⊖◌, ◌⊗◌}
+use Rattle.law_arithmetic.proofs.Combination.{follows, given, none}
+use Rattle.law_arithmetic.proofs.Order.{Sign, sign}
+use Rattle.nef_space.specs.Vectors.{Vector, IsDirection, cross, dot, IsZero, SameDirection, IsOpposite}
+use Rattle.nef_space.specs.declared.label.Label.{Label}
+use Rattle.law_sphere.specs.Maps.{At, Map, NearLabel, Valid}
+use Rattle.law_sphere.specs.Least.{by_side, NearStraight}
+use Rattle.law_sphere.specs.Stars.{Ray, Star, ray_way, StarShows, IsSimplified}
+use Rattle.law_sphere.proofs.Vectors.{nought-if, same-minus}
+use Rattle.law_forms.proofs.Directions.{self-pos, dot-comm}
+use Rattle.law_sphere.proofs.Parallel.{parallel-trans}
+use Rattle.law_near.proofs.FlatDecided.{cross-turned}
+use Rattle.law_sphere.proofs.Labels.{near-unique, label-unique, way-signs}
+use Rattle.law_sphere.proofs.Around.{Beside, same_way, other_way, beside, opposites}
+use Rattle.law_sphere.proofs.Compare.{way-self, SameDirection-turned, SameDirection-trans}
+use Rattle.law_sphere.proofs.Turn.{whole-passes}
+use Rattle.law_sphere.proofs.Kind.{away, away-dot}
+use Rattle.law_sphere.proofs.Flips.{away-direction}
+use Rattle.law_sphere.proofs.Simplified.{way-level, off-axis, ray-label, sector-label, straight-level}
+
+-- no two rays go the same way
+abbrev pub RaysApart : Star → Type 0
+RaysApart t = (i k : ℕ) (q r : Ray) → At t.rays i q → At t.rays k r → SameDirection (ray_way t q) (ray_way t r) → i ≡ k
+
+pub record TwoRays (t : Star) : Type 0 where
+  pub first : Ray
+  pub second : Ray
+  pub two_rays : t.rays ≡ first ∷ second ∷ []
+  pub opposite : IsOpposite (ray_way t first) (ray_way t second)
+  pub first_mark : first.mark ≡ t.mark
+  pub second_mark : second.mark ≡ t.mark
+
+-- what is at right angles to n and d lies along n x d: (n x d) x w = d (n.w) - n (d.w)
+pub along-meet : (n d w : Vector) → dot d w ≡ pos 0 → dot n w ≡ pos 0 → IsZero (cross (cross n d) w)
+along-meet n d w p q =
+    let nx = at 0 in let ny = at 1 in let nz = at 2 in let dx = at 3 in let dy = at 4 in let dz = at 5 in let wx = at 6 in let wy = at 7 in let wz = at 8 in
+    let cx = ny ⊗ dz ⊖ nz ⊗ dy in let cy = nz ⊗ dx ⊖ nx ⊗ dz in let cz = nx ⊗ dy ⊖ ny ⊗ dx in
+    let xs = n.x ∷ n.y ∷ n.z ∷ d.x ∷ d.y ∷ d.z ∷ w.x ∷ w.y ∷ w.z ∷ [] in
+    let o = num (pos 0) in
+    let dw = dx ⊗ wx ⊕ dy ⊗ wy ⊕ dz ⊗ wz in let nw = nx ⊗ wx ⊕ ny ⊗ wy ⊕ nz ⊗ wz in (
+      follows xs (cy ⊗ wz ⊖ cz ⊗ wy) o (given dx nw o q (given (o ⊖ nx) dw o p none)) tt,
+      follows xs (cz ⊗ wx ⊖ cx ⊗ wz) o (given dy nw o q (given (o ⊖ ny) dw o p none)) tt,
+      follows xs (cx ⊗ wy ⊖ cy ⊗ wx) o (given dz nw o q (given (o ⊖ nz) dw o p none)) tt,
+    )
+
+module _ (t : Star) (M : Map) (V : Valid M) (S : StarShows t M) (simple : IsSimplified t) (apart-rays : RaysApart t) (P : NearStraight M t.axis) where
+  abbrev d : Vector
+  d = t.axis
+
+  abbrev n : Vector
+  n = P.normal
+
+  abbrev w0 : Vector
+  w0 = cross n d
+
+  abbrev side : Sign → Label
+  side = by_side P.above P.label P.below
+
+  w0-direction : IsDirection w0
+  w0-direction z = S.axis (nought-if n d P.direction z P.level)
+
+  -- each ray goes along n x d or its opposite
+  along-plane : (k : ℕ) (r : Ray) → At t.rays k r → Beside w0 (ray_way t r)
+  along-plane k r a =
+      let x = way-level t M V S simple k r a in
+      beside w0 (ray_way t r) w0-direction x.1 (along-meet n d (ray_way t r) x.0 (straight-level t M V S simple P k r a))
+
+  ray-mark : (k : ℕ) (r : Ray) → At t.rays k r → r.mark ≡ P.label
+  ray-mark k r a =
+      let x = way-level t M V S simple k r a in
+      near-unique M V d (ray_way t r) r.mark P.label (ray-label t M V S simple k r a)
+      (subst (NearLabel M d (ray_way t r)) (ap side (ap sign (straight-level t M V S simple P k r a))) (P.near (ray_way t r) (off-axis t M V S simple (ray_way t r) x.1 x.0)))
+
+  star-mark : P.label ≡ t.mark
+  star-mark = label-unique M V d P.label t.mark P.at_d S.mark
+
+  -- one ray alone: its sector goes all round
+  not-one : (r : Ray) → t.rays ≡ r ∷ [] → ⊥
+  not-one r e =
+      let a : At t.rays zero r = subst (λ (q : List Ray). At q zero r) (sym e) refl in
+      let l = ap (length {A = Ray}) e in
+      let s = S.sectors zero r a in
+      let x = way-level t M V S simple zero r a in
+      let w = ray_way t r in
+      let z = straight-level t M V S simple P zero r a in
+      let dn = dot-comm d n ∙ P.level in
+      let hd = away-direction w x.1 in
+      let dw = away-dot d w in
+      let nw = away-dot n w in
+      let back = label-at r a s.0 s.1 (last-one l) (away w) hd (let y = x.0 in omega (arith, ints)) (λ q. let f = q.forward in let g = away-dot w w in let h = self-pos w x.1 in omega (arith, ints)) in
+      let m = near-unique M V d (away w) s.0 P.label back (subst (NearLabel M d (away w)) (ap side (ap sign (level-back z nw))) (P.near (away w) (off-axis t M V S simple (away w) hd (let y = x.0 in omega (arith, ints))))) in
+      let k = ray-mark zero r a in
+      simple zero zero r r s.0 s.0 a a (inr (sym l, refl)) s.1 s.1 (k ∙ sym m) (k ∙ sym m)
+    where
+      last-one : length t.rays ≡ 1 → suc zero ≡ length t.rays
+      last-one l = sym l
+
+      level-back : dot n (ray_way t r) ≡ pos 0 → dot n (away (ray_way t r)) ≡ pos 0 -ℤ dot n (ray_way t r) → dot n (away (ray_way t r)) ≡ pos 0
+      level-back z e = omega (arith, ints)
+
+      label-at : (r : Ray) → At t.rays zero r → (l : Label) → At t.sectors zero l → suc zero ≡ length t.rays → (e : Vector) → IsDirection e → dot d e ≡ pos 0 → (SameDirection (ray_way t r) e → ⊥) → NearLabel M d e l
+      label-at r a l s q e he z f =
+          let x = way-level t M V S simple zero r a in
+          sector-label t M V S simple zero r r l a (inr (q, a)) s e (whole-passes d (ray_way t r) (ray_way t r) e S.axis x.1 x.1 he x.0 x.0 z (way-self (ray_way t r) x.1) f)
+
+  -- two rays on one side of the axis
+  both-same : (i k : ℕ) (q r : Ray) → At t.rays i q → At t.rays k r → SameDirection w0 (ray_way t q) → SameDirection w0 (ray_way t r) → i ≡ k
+  both-same i k q r a b x y = apart-rays i k q r a b (SameDirection-trans (ray_way t q) w0 (ray_way t r) (SameDirection-turned w0 (ray_way t q) x) y)
+
+  both-other : (i k : ℕ) (q r : Ray) → At t.rays i q → At t.rays k r → IsOpposite w0 (ray_way t q) → IsOpposite w0 (ray_way t r) → i ≡ k
+  both-other i k q r a b x y = apart-rays i k q r a b (opposites w0 (ray_way t q) (ray_way t r) w0-direction x y)
+
+  pub straight-rays : (t.rays ≡ []) ⊎ TwoRays t
+  straight-rays = by t.rays refl
+    where
+      listed : (rs : List Ray) → t.rays ≡ rs → (k : ℕ) (r : Ray) → At rs k r → At t.rays k r
+      listed rs e k r a = subst (λ (q : List Ray). At q k r) (sym e) a
+
+      zero-one : zero ≡ suc zero → ⊥
+      zero-one e = omega arith
+
+      zero-two : zero ≡ suc (suc zero) → ⊥
+      zero-two e = omega arith
+
+      one-two : suc zero ≡ suc (suc zero) → ⊥
+      one-two e = omega arith
+
+      two : (q r : Ray) → t.rays ≡ q ∷ r ∷ [] → IsOpposite (ray_way t q) (ray_way t r) → TwoRays t
+      two q r e o = record { first = q; second = r; two_rays = e; opposite = o; first_mark = ray-mark zero q (listed (q ∷ r ∷ []) e zero q refl) ∙ star-mark; second_mark = ray-mark (suc zero) r (listed (q ∷ r ∷ []) e (suc zero) r refl) ∙ star-mark }
+
+      flip : (u v w : Vector) → IsDirection u → SameDirection u v → IsOpposite u w → IsOpposite v w
+      flip u v w h s o = record {
+        parallel = parallel-trans v u w h (cross-turned u v s.parallel) o.parallel;
+        backward = same-minus (dot u w) (dot v w) (ap sign (dot-comm v w) ∙ way-signs u v w h s ∙ ap sign (dot-comm w u)) o.backward;
+      }
+
+      opposite-turned : (v w : Vector) → IsOpposite v w → IsOpposite w v
+      opposite-turned v w o = record { parallel = cross-turned v w o.parallel; backward = let e = dot-comm w v in let b = o.backward in omega (arith, ints) }
+
+      pair : (q r : Ray) → t.rays ≡ q ∷ r ∷ [] → Beside w0 (ray_way t q) → Beside w0 (ray_way t r) → TwoRays t
+      pair q r e (same_way x) (same_way y) = absurd (zero-one (both-same zero (suc zero) q r (listed (q ∷ r ∷ []) e zero q refl) (listed (q ∷ r ∷ []) e (suc zero) r refl) x y))
+      pair q r e (other_way x) (other_way y) = absurd (zero-one (both-other zero (suc zero) q r (listed (q ∷ r ∷ []) e zero q refl) (listed (q ∷ r ∷ []) e (suc zero) r refl) x y))
+      pair q r e (same_way x) (other_way y) = two q r e (flip w0 (ray_way t q) (ray_way t r) w0-direction x y)
+      pair q r e (other_way x) (same_way y) = two q r e (opposite-turned (ray_way t r) (ray_way t q) (flip w0 (ray_way t r) (ray_way t q) w0-direction y x))
+
+      three : (q r s : Ray) → At t.rays zero q → At t.rays (suc zero) r → At t.rays (suc (suc zero)) s → Beside w0 (ray_way t q) → Beside w0 (ray_way t r) → Beside w0 (ray_way t s) → ⊥
+      three q r s a b c (same_way x) (same_way y) z = zero-one (both-same zero (suc zero) q r a b x y)
+      three q r s a b c (other_way x) (other_way y) z = zero-one (both-other zero (suc zero) q r a b x y)
+      three q r s a b c (same_way x) (other_way y) (same_way z) = zero-two (both-same zero (suc (suc zero)) q s a c x z)
+      three q r s a b c (same_way x) (other_way y) (other_way z) = one-two (both-other (suc zero) (suc (suc zero)) r s b c y z)
+      three q r s a b c (other_way x) (same_way y) (same_way z) = one-two (both-same (suc zero) (suc (suc zero)) r s b c y z)
+      three q r s a b c (other_way x) (same_way y) (other_way z) = zero-two (both-other zero (suc (suc zero)) q s a c x z)
+
+      by : (rs : List Ray) → t.rays ≡ rs → (t.rays ≡ []) ⊎ TwoRays t
+      by [] e = inl e
+      by (r ∷ []) e = absurd (not-one r e)
+      by (q ∷ r ∷ []) e = inr (pair q r e (along-plane zero q (listed (q ∷ r ∷ []) e zero q refl)) (along-plane (suc zero) r (listed (q ∷ r ∷ []) e (suc zero) r refl)))
+      by (q ∷ r ∷ s ∷ rs) e =
+          let a = listed (q ∷ r ∷ s ∷ rs) e zero q refl in
+          let b = listed (q ∷ r ∷ s ∷ rs) e (suc zero) r refl in
+          let c = listed (q ∷ r ∷ s ∷ rs) e (suc (suc zero)) s refl in
+          absurd (three q r s a b c (along-plane zero q a) (along-plane (suc zero) r b) (along-plane (suc (suc zero)) s c))

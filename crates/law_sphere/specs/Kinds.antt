@@ -1,0 +1,37 @@
+-- Along which directions a map stays the same, and the kind of a least map.
+use Rattle.std.specs.Prelude.{◌≡◌, ℕ, ◌<◌, ℤ, pos, [], ◌∷◌, ◌⊎◌, ◌↔◌, Some, None}
+use Rattle.nef_space.specs.Vectors.{Vector, IsZero, IsOpposite}
+use Rattle.nef_space.specs.declared.label.Label.{Label}
+use Rattle.law_sphere.specs.Vectors.{comb}
+use Rattle.law_sphere.specs.Maps.{Svertex, Loop, Map, MapLabel}
+
+-- the label toward e, which is the mark of the map where e is nought
+abbrev pub Full : Map → Vector → Label → Type 0
+Full M e m = (IsZero e × (M.mark ≡ m)) ⊎ MapLabel M e m
+
+-- the labels don't change along d
+abbrev pub FlatMap : Map → Vector → Type 0
+FlatMap M d = (e : Vector) (b : ℕ) (a : ℤ) → 0 < b → (m : Label) → Full M e m ↔ Full M (comb (pos b) e a d) m
+
+pub record IsInVolume (M : Map) : Type 0 where
+  pub no_svertex : M.svertices ≡ []
+  pub no_loop : M.loop ≡ None
+  pub same_mark : M.face ≡ Some M.mark
+
+pub record IsInFacet (M : Map) (n : Vector) : Type 0 where
+  pub no_svertex : M.svertices ≡ []
+  pub loop : Loop
+  pub has_loop : M.loop ≡ Some loop
+  pub same_mark : loop.mark ≡ M.mark
+  pub normal : loop.normal ≡ n
+
+-- the greater direction is the second svertex's
+pub record IsOnEdge (M : Map) (d : Vector) : Type 0 where
+  pub first : Svertex
+  pub second : Svertex
+  pub two_svertices : M.svertices ≡ first ∷ second ∷ []
+  pub opposite : IsOpposite first.way second.way
+  pub first_mark : first.mark ≡ M.mark
+  pub second_mark : second.mark ≡ M.mark
+  pub no_loop : M.loop ≡ None
+  pub named : second.way ≡ d

@@ -1,0 +1,103 @@
+-- What is proved of sphere maps, each as one statement that a function's contract cites.
+use Rattle.std.specs.Prelude.{◌≡◌, ℕ, ◌≤◌, ◌↔◌, pos, List, ◌⊎◌}
+use Rattle.law_arithmetic.specs.Signs.{Lies}
+use Rattle.nef_space.specs.Place.{Place}
+use Rattle.nef_space.specs.Vectors.{Vector, IsDirection, cross, dot, blend, SameDirection, IsZero}
+use Rattle.nef_space.specs.Sets.{Set}
+use Rattle.nef_space.specs.declared.label.Label.{Label}
+use Rattle.nef_space.specs.Local.{HasLabel, Germ, Flat, FlatDim}
+use Rattle.law_sphere.specs.Maps.{At, Map, Svertex, Item, items, item_normal, OnItem, IsFree, IsClear, HasSide, Side, Sees, SeenAs, MapLabel, NearLabel, Shaped, Valid}
+use Rattle.law_sphere.specs.Forms.{SameSigns, Keeps, forms}
+use Rattle.law_sphere.specs.Least.{NearPlain, NearStraight, Least, SameLabels, Ordered, Cone}
+use Rattle.law_sphere.specs.Labelling.{Agrees, ByOp, IsSmooth}
+use Rattle.law_sphere.specs.Builds.{IsBuilt, Kept}
+use Rattle.law_sphere.specs.Kinds.{IsInVolume, IsInFacet, IsOnEdge}
+
+-- there is a vector with the signs of v wherever those aren't nought, and with no form nought
+abbrev pub GenericVector : Type 0
+GenericVector = (gs : List Vector) (v : Vector) → (w : Vector) × Keeps gs v w × ((g : Vector) → Lies gs g → IsDirection g → dot g w ≡ pos 0 → ⊥)
+
+-- each direction lies on a svertex or an item, or is free
+abbrev pub PlacesDecided : Type 0
+PlacesDecided = (M : Map) (d : Vector) → IsDirection d
+    → ((k : ℕ) × (v : Svertex) × At M.svertices k v × SameDirection v.way d) ⊎ ((k : ℕ) × (x : Item) × At (items M) k x × OnItem M x d) ⊎ IsFree M d
+
+-- the signs of the map's forms say where a direction lies
+abbrev pub PlacesBySigns : Type 0
+PlacesBySigns = (M : Map) (d e : Vector) → SameSigns (forms M) d e → IsDirection d
+    → ((k : ℕ) (v : Svertex) → At M.svertices k v → SameDirection v.way d → SameDirection v.way e)
+    × ((k : ℕ) (x : Item) → At (items M) k x → OnItem M x d → OnItem M x e)
+    × (IsFree M d → IsFree M e)
+
+-- a free direction off the plane of some item is seen directly
+abbrev pub SeenDirectly : Type 0
+SeenDirectly = (M : Map) (d : Vector) (k : ℕ) (x : Item) → Valid M → IsFree M d → At (items M) k x → (dot (item_normal x) d ≡ pos 0 → ⊥) → (m : Label) × SeenAs M d m
+
+-- one side sees both ends of a clear way; with e the same as d, each free direction is seen
+abbrev pub OneSideSeesBoth : Type 0
+OneSideSeesBoth = (M : Map) (d e : Vector) → Valid M → IsClear M d e → IsFree M e → (o : Side) × (m : Label) × HasSide M o m × Sees M o d × Sees M o e
+
+abbrev pub FreeSeen : Type 0
+FreeSeen = (M : Map) (d : Vector) → Valid M → IsFree M d → (m : Label) × SeenAs M d m
+
+abbrev pub ClearLabel : Type 0
+ClearLabel = (M : Map) (d e : Vector) (m n : Label) → Valid M → IsClear M d e → IsFree M e → MapLabel M d m → MapLabel M e n → m ≡ n
+
+-- each direction has one label, which the signs of the map's forms determine
+abbrev pub OneLabel : Type 0
+OneLabel = (M : Map) (d : Vector) → Valid M → IsDirection d → (m : Label) × MapLabel M d m × ((n : Label) → MapLabel M d n → m ≡ n)
+
+abbrev pub LabelBySigns : Type 0
+LabelBySigns = (M : Map) (d e : Vector) (m : Label) → Valid M → SameSigns (forms M) d e → MapLabel M d m → MapLabel M e m
+
+-- each direction e has one label near d, that of k d + e from some k on
+abbrev pub OneNearLabel : Type 0
+OneNearLabel = (M : Map) (d e : Vector) → Valid M → IsDirection d → (m : Label) × NearLabel M d e m × ((n : Label) → NearLabel M d e n → m ≡ n)
+
+abbrev pub NearIsFar : Type 0
+NearIsFar = (M : Map) (d e : Vector) → Valid M → IsDirection d → (n : ℕ) × ((k : ℕ) (m : Label) → n ≤ k → NearLabel M d e m ↔ MapLabel M (blend k d 1 e) m)
+
+-- ---- least maps
+-- d is a svertex of a least map exactly where it isn't plain or straight
+abbrev pub SvertexExactly : Type 0
+SvertexExactly = (M : Map) (d : Vector) → Valid M → Least M → IsDirection d
+    → ((k : ℕ) × (v : Svertex) × At M.svertices k v × SameDirection v.way d) ↔ (NearPlain M d ⊎ NearStraight M d → ⊥)
+
+-- two least maps with one mark and one label in every direction are equal
+abbrev pub LeastUnique : Type 0
+LeastUnique = (M N : Map) → Valid M → Valid N → Ordered M → Ordered N → Least M → Least N → M.mark ≡ N.mark → SameLabels M N → M ≡ N
+
+abbrev pub LeastMapUnique : Type 0
+LeastMapUnique = (M N : Map) (s : Set) (p : Place) → Cone M s p → Cone N s p → Ordered M → Ordered N → Least M → Least N → M ≡ N
+
+-- a well shaped map that agrees with a set, or with op of two maps, piece by piece
+abbrev pub ConeFromPieces : Type 0
+ConeFromPieces = (M : Map) (s : Set) (p : Place) → Shaped M → HasLabel s p M.mark → Agrees M (Germ s p) → Cone M s p
+
+abbrev pub OpFromPieces : Type 0
+OpFromPieces = (A B M : Map) (op : Label → Label → Label) → Valid A → Valid B → Shaped M → Agrees M (ByOp A B op)
+    → Valid M × ((d : Vector) (m : Label) → IsDirection d → MapLabel M d m ↔ ByOp A B op d m)
+
+-- the kind of a least map of a set at a point is the dimension of the set's flat directions there
+abbrev pub KindByDimension : Type 0
+KindByDimension = (M : Map) (s : Set) (p : Place) → Cone M s p → Least M
+    → (IsInVolume M → FlatDim s p 3)
+    × ((n : Vector) → IsInFacet M n → FlatDim s p 2 × ((d : Vector) → Flat s p d ↔ (dot n d ≡ pos 0)))
+    × ((d : Vector) → IsOnEdge M d → FlatDim s p 1 × ((e : Vector) → Flat s p e ↔ IsZero (cross d e)))
+    × ((IsInVolume M → ⊥) → ((n : Vector) → IsInFacet M n → ⊥) → ((d : Vector) → IsOnEdge M d → ⊥) → FlatDim s p 0)
+
+-- what is built of op of two maps is valid, least, and has op of their labels
+abbrev pub OpBuild : Type 0
+OpBuild = (A B M : Map) (op : Label → Label → Label) → Valid A → Valid B → IsBuilt M (ByOp A B op) → Kept M (ByOp A B op)
+    → Valid M × Least M × ((d : Vector) (m : Label) → IsDirection d → MapLabel M d m ↔ ByOp A B op d m)
+
+-- what is built of a set's germs at a point is a least map of the set
+abbrev pub SetBuild : Type 0
+SetBuild = (M : Map) (s : Set) (p : Place) → HasLabel s p M.mark → IsBuilt M (Germ s p) → Kept M (Germ s p) → Cone M s p × Least M
+
+-- off the svertices and crossings of two maps, op of them is plain or straight
+abbrev pub OpSmooth : Type 0
+OpSmooth = (A B : Map) (op : Label → Label → Label) → Valid A → Valid B → (d : Vector) → IsDirection d
+    → ((k : ℕ) (v : Svertex) → At A.svertices k v → SameDirection v.way d → ⊥) → ((k : ℕ) (v : Svertex) → At B.svertices k v → SameDirection v.way d → ⊥)
+    → ((i j : ℕ) (x y : Item) → At (items A) i x → At (items B) j y → OnItem A x d → OnItem B y d → IsZero (cross (item_normal x) (item_normal y)))
+    → IsSmooth (ByOp A B op) d

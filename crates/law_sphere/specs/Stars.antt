@@ -1,0 +1,89 @@
+-- Stars: the value that a star gives each direction, the star of a map at a direction, plain and straight stars.
+use Rattle.std.specs.Prelude.{◌≡◌, ℕ, zero, suc, pos, List, [], ◌∷◌, length, Bool, true, false, cond, ◌⊎◌}
+use Rattle.nef_space.specs.Vectors.{Vector, IsDirection, cross, dot, SameDirection, IsNormal}
+use Rattle.nef_space.specs.declared.label.Label.{Label}
+use Rattle.law_sphere.specs.Maps.{At, Map, MapLabel, NearLabel}
+use Rattle.law_cyclic.specs.Arcs.{IsStrictlyOn}
+
+pub record Ray : Type 0 where
+  pub normal : Vector
+  pub ahead : Bool
+  pub mark : Label
+
+pub record Star : Type 0 where
+  pub axis : Vector
+  pub rays : List Ray
+  pub sectors : List Label
+  pub mark : Label
+
+-- the direction in which a ray leaves the axis
+abbrev pub ray_way : Star → Ray → Vector
+ray_way t r = cond r.ahead (cross r.normal t.axis) (cross t.axis r.normal)
+
+-- the part of e at right angles to the axis d
+abbrev pub across : Vector → Vector → Vector
+across d e = cross (cross d e) d
+
+abbrev pub OnRay : Star → Ray → Vector → Type 0
+OnRay t r e = SameDirection (ray_way t r) (across t.axis e)
+
+-- e lies strictly between the rays q and r, counterclockwise; where they are the same ray, off it
+abbrev pub PastRay : Star → Ray → Ray → Vector → Type 0
+PastRay t q r e = IsStrictlyOn t.axis (ray_way t q) (ray_way t r) (across t.axis e)
+
+-- r is the ray after ray k; the first ray follows the last
+abbrev pub NextRay : List Ray → ℕ → Ray → Type 0
+NextRay rs k r = At rs (suc k) r ⊎ ((suc k ≡ length rs) × At rs zero r)
+
+-- the label that the star gives e, which isn't parallel to the axis
+pub data StarLabel (t : Star) (e : Vector) (l : Label) : Type 0 where
+  on_ray : (k : ℕ) (r : Ray) → At t.rays k r → OnRay t r e → r.mark ≡ l → StarLabel t e l
+  in_sector : (k : ℕ) (q r : Ray) → At t.rays k q → NextRay t.rays k r → PastRay t q r e → At t.sectors k l → StarLabel t e l
+  in_only_sector : t.rays ≡ [] → At t.sectors zero l → StarLabel t e l
+
+-- each ray leaves the axis
+pub record IsRay (t : Star) (r : Ray) : Type 0 where
+  pub level : dot r.normal t.axis ≡ pos 0
+  pub normal : IsNormal r.normal
+
+-- t is the neighbourhood of the direction d in the map
+pub record StarOf (t : Star) (M : Map) (d : Vector) : Type 0 where
+  pub rays : (k : ℕ) (r : Ray) → At t.rays k r → IsRay t r
+  pub axis : t.axis ≡ d
+  pub mark : MapLabel M d t.mark
+  pub labels : (e : Vector) → IsDirection (cross d e) → (l : Label) × StarLabel t e l × NearLabel M d e l
+
+-- no ray, and the mark is the sector's label
+pub record IsPlain (t : Star) : Type 0 where
+  pub no_ray : t.rays ≡ []
+  pub one_sector : t.sectors ≡ t.mark ∷ []
+
+-- two rays with the star's mark leave in opposite directions, and there is no other
+pub record IsStraight (t : Star) : Type 0 where
+  pub first : Ray
+  pub second : Ray
+  pub two_rays : t.rays ≡ first ∷ second ∷ []
+  pub above : Label
+  pub below : Label
+  pub two_sectors : t.sectors ≡ above ∷ below ∷ []
+  pub one_normal : first.normal ≡ second.normal
+  pub first_ahead : first.ahead ≡ true
+  pub second_behind : second.ahead ≡ false
+  pub first_mark : first.mark ≡ t.mark
+  pub second_mark : second.mark ≡ t.mark
+
+-- all that the star says holds of the map near its axis
+pub record StarShows (t : Star) (M : Map) : Type 0 where
+  pub axis : IsDirection t.axis
+  pub rays : (k : ℕ) (r : Ray) → At t.rays k r → IsRay t r
+  pub sectors : (k : ℕ) (r : Ray) → At t.rays k r → (l : Label) × At t.sectors k l
+  pub mark : MapLabel M t.axis t.mark
+  pub labels : (e : Vector) (l : Label) → IsDirection (cross t.axis e) → StarLabel t e l → NearLabel M t.axis e l
+
+-- ray k follows ray j; the first ray follows the last
+abbrev pub Follows : List Ray → ℕ → ℕ → Type 0
+Follows rs j k = (suc j ≡ k) ⊎ ((suc j ≡ length rs) × (k ≡ zero))
+
+-- no ray has the mark of both its sectors
+abbrev pub IsSimplified : Star → Type 0
+IsSimplified t = (j k : ℕ) (q r : Ray) (l m : Label) → At t.rays j q → At t.rays k r → Follows t.rays j k → At t.sectors j l → At t.sectors k m → r.mark ≡ l → r.mark ≡ m → ⊥

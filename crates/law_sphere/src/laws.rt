@@ -1,0 +1,42 @@
+//! The laws of sphere maps.
+
+ghost use Rattle.law_sphere.specs.Laws.{GenericVector, PlacesDecided, PlacesBySigns, SeenDirectly, OneSideSeesBoth, FreeSeen, ClearLabel, OneLabel, LabelBySigns, OneNearLabel, NearIsFar, SvertexExactly, LeastUnique, LeastMapUnique, ConeFromPieces, OpFromPieces, KindByDimension, OpBuild, SetBuild, OpSmooth};
+
+/// Where a direction lies on a map: it is decided, and the signs on the map's forms say it.
+pub fn place_laws()
+    ensures generic { GenericVector }
+    ensures places { PlacesDecided }
+    ensures by_signs { PlacesBySigns }
+{}
+
+/// Every direction of a valid map has one label, which the signs on the map's forms determine; so has
+/// every direction near another.
+pub fn label_laws()
+    ensures directly { SeenDirectly }
+    ensures both { OneSideSeesBoth }
+    ensures seen { FreeSeen }
+    ensures clear { ClearLabel }
+    ensures one { OneLabel }
+    ensures by_signs { LabelBySigns }
+    ensures near { OneNearLabel }
+    ensures far { NearIsFar }
+{}
+
+/// Two least maps with one mark and one label in every direction are equal, and the kind of the least
+/// map of a set at a point is the dimension of the set's flat directions there.
+pub fn least_laws()
+    ensures exactly { SvertexExactly }
+    ensures unique { LeastUnique }
+    ensures cone { LeastMapUnique }
+    ensures kind { KindByDimension }
+{}
+
+/// What is put together from pieces that agree with a set, or with an operation on two maps, is valid,
+/// has their labels, and is least where each svertex is kept for a reason.
+pub fn build_laws()
+    ensures pieces { ConeFromPieces }
+    ensures op { OpFromPieces }
+    ensures build { OpBuild }
+    ensures set { SetBuild }
+    ensures smooth { OpSmooth }
+{}

@@ -1,0 +1,12 @@
+pub mod Lines
+pub mod Words
+pub mod Lists
+pub mod Vertices
+pub mod Whole
+mod Carriers
+mod Numbering
+mod Rows
+mod OneCycles
+mod OneNext
+mod OneParts
+pub mod SameText

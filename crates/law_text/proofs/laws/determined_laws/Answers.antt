@@ -1,0 +1,17 @@
+use Rattle.law_complex.proofs.FacetNames.{facet-of}
+use Rattle.law_complex.proofs.Skeletons.{belongs-holds}
+use Rattle.nef_locate.proofs.Cones.{facet-at}
+use Rattle.law_text.proofs.SameText.{same-parts, same-set_text, text-set, spelled-holds}
+use Rattle.law_text.proofs.laws.determined_laws.Goals as goal
+
+pub returns-clause-same_parts : goal.returns-clause-same_parts
+returns-clause-same_parts x = same-parts
+
+pub returns-clause-same_text : goal.returns-clause-same_text
+returns-clause-same_text x = same-set_text
+
+pub returns-clause-same_set : goal.returns-clause-same_set
+returns-clause-same_set x = text-set
+
+pub returns-clause-spelled : goal.returns-clause-spelled
+returns-clause-spelled x = spelled-holds (λ s C p S inside. belongs-holds s C S (facet-at s C S) (facet-of s C S) p inside)

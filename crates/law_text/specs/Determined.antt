@@ -1,0 +1,27 @@
+-- The parts and the text of a complex are determined by its vertices and edges, and so by the set.
+use Rattle.std.specs.Prelude.{◌≡◌, ℕ, List, ◌↔◌}
+use Rattle.nef_space.specs.Local.{SameSet}
+use Rattle.nef_space.specs.Place.{Place, InFrame}
+use Rattle.nef_space.specs.Sets.{Set, Holds}
+use Rattle.law_complex.specs.Belongs.{Belongs}
+use Rattle.nef_complex.specs.declared.complex.Complex.{Complex}
+use Rattle.nef_complex.specs.Complexes.{complex_of, ShowsSet}
+use Rattle.nef_parts.specs.declared.parts.Parts.{Parts}
+use Rattle.nef_parts.specs.Numbers.{IsParts}
+use Rattle.nef_parts.specs.Text.{text, Spells}
+
+-- complexes with the same vertices and edges have the same parts, whatever their carriers
+abbrev pub SamePartsOfSame : Type 0
+SamePartsOfSame = (c d : Complex) (p : Parts) → c.vertices ≡ d.vertices → c.edges ≡ d.edges → IsParts (complex_of c) p → IsParts (complex_of d) p
+
+-- complexes that show one set have the same parts, and so the same text
+abbrev pub SameSetSameText : Type 0
+SameSetSameText = (s t : Set) (c d : Complex) (p q : Parts) → ShowsSet s c → ShowsSet t d → SameSet s t → IsParts (complex_of c) p → IsParts (complex_of d) q → (p ≡ q) × (text c p ≡ text d q)
+
+-- and sets whose complexes have one text are one
+abbrev pub SameTextSameSet : Type 0
+SameTextSameSet = (s t : Set) (c d : Complex) (p q : Parts) → ShowsSet s c → ShowsSet t d → text c p ≡ text d q → SameSet s t
+
+-- to a complex that a text of the set spells a point of the frame belongs exactly where the set holds
+abbrev pub SpelledHolds : Type 0
+SpelledHolds = (s : Set) (c d : Complex) (p : Parts) (bytes : List ℕ) (y : Place) → ShowsSet s c → bytes ≡ text c p → Spells bytes d → InFrame y → Belongs (complex_of d) y ↔ Holds s y

@@ -1,0 +1,7 @@
+//! The text of a complex tells its vertices, and the set that it shows determines its parts and its text. A text is a
+//! list of bytes here; nothing runs. Each law is a clause of a function with an empty body.
+#![tactic(auto)]
+
+mod laws;
+
+pub use laws::{determined_laws, text_laws};

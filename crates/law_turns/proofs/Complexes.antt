@@ -1,0 +1,70 @@
+-- The turned complex shows the turned set.
+use Rattle.std.proofs.Common.{ℕ, List}
+use Rattle.nef_space.specs.Place.{Place, SamePlace}
+use Rattle.nef_space.specs.Sets.{Set}
+use Rattle.nef_space.specs.Local.{IsVertex}
+use Rattle.law_forms.specs.Homogeneous.{of_place}
+use Rattle.law_forms.proofs.Sums.{same-trans}
+use Rattle.law_forms.proofs.Between.{place-factor, factor-place}
+use Rattle.law_near.specs.Cells.{carriers}
+use Rattle.law_near.proofs.Germs.{Label-cells}
+use Rattle.law_near.proofs.Rays.{signs-same, same-place_sym}
+use Rattle.law_near.proofs.Alike.{germs-by_cell, FlatDim-by_germs}
+use Rattle.law_sphere.specs.Maps.{At, Map}
+use Rattle.law_sphere.specs.Least.{Cone}
+use Rattle.law_complex.specs.Complexes.{Vertex, Complex}
+use Rattle.law_complex.specs.Shows.{Shows}
+use Rattle.law_turns.specs.Turned.{turned_place, turned_set}
+use Rattle.law_turns.specs.Complexes.{AreTurnedVertices, IsTurnedComplex, ShowsVertices}
+use Rattle.law_turns.proofs.Places.{every-place, same_place-turned}
+use Rattle.law_turns.proofs.Meaning.{flat_dim-turned}
+use Rattle.law_turns.proofs.TurnedMaps.{cone-turned, least-turned}
+use Rattle.law_turns.proofs.Carriers.{carriers-turned}
+
+cone-same : (M : Map) (s : Set) (p q : Place) → SamePlace p q → Cone M s p → Cone M s q
+cone-same M s p q e K =
+    let same = signs-same (carriers s) p q e in
+    record {
+      valid = K.valid;
+      mark = Label-cells s M.mark p q same K.mark;
+      labels = λ d f. let l = K.labels d f in (l.0, l.1, (germs-by_cell s p q same d l.0).0 l.2);
+    }
+
+vertex-same : (s : Set) (p q : Place) → SamePlace p q → IsVertex s p → IsVertex s q
+vertex-same s p q e V = FlatDim-by_germs s s p q (germs-by_cell s p q (signs-same (carriers s) p q e)) 0 V
+
+pub place-through : (p q r : Place) → SamePlace p q → SamePlace q r → SamePlace p r
+place-through p q r e f = factor-place p r (same-trans (of_place p) (of_place q) (of_place r) (place-factor p q e) (place-factor q r f))
+
+module _ (k : ℕ) (s : Set) where
+  pub vertices-turned : (us vs : List Vertex) → ShowsVertices s us → AreTurnedVertices k us vs → ShowsVertices (turned_set k s) vs
+  vertices-turned us vs S T = record {
+    vertices = λ j v a.
+        let (i, u, b, e, m) = T.each j v a in
+        vertex-same (turned_set k s) (turned_place k u.point) v.point (same-place_sym v.point (turned_place k u.point) e) ((flat_dim-turned k s u.point 0).1 (S.vertices i u b));
+    complete = every-place k (λ q. IsVertex (turned_set k s) q → (j : ℕ) × (v : Vertex) × At vs j v × SamePlace v.point q)
+        (λ p h.
+        let (i, u, b, e) = S.complete p ((flat_dim-turned k s p 0).0 h) in
+        let (j, v, a, d) = T.all i u b in
+        (j, v, a, place-through v.point (turned_place k u.point) (turned_place k p) d ((same_place-turned k u.point p).1 e)));
+    cones = λ j v a.
+        let (i, u, b, e, m) = T.each j v a in
+        cone-same v.map (turned_set k s) (turned_place k u.point) v.point (same-place_sym v.point (turned_place k u.point) e) (cone-turned k u.map v.map m s u.point (S.cones i u b));
+    least = λ j v a.
+        let (i, u, b, e, m) = T.each j v a in
+        least-turned k u.map v.map m (S.cones i u b).valid.shaped (S.least i u b);
+  }
+
+  pub shows-turned : (C D : Complex) → Shows s C → IsTurnedComplex k C D → Shows (turned_set k s) D
+  shows-turned C D S T =
+      let V = vertices-turned C.vertices D.vertices (record { vertices = S.vertices; complete = S.complete; cones = S.cones; least = S.least }) T.vertices in
+      record {
+        vertices = V.vertices;
+        complete = V.complete;
+        ordered = T.vertices.ordered;
+        cones = V.cones;
+        least = V.least;
+        maps_ordered = T.vertices.maps_ordered;
+        edges = T.edges;
+        carriers = carriers-turned k s C.carriers D.carriers S.carriers T.planes;
+      }

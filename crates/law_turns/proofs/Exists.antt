@@ -1,0 +1,238 @@
+-- Each ordered map that is well shaped has a turned image whose lists are in order.
+use Rattle.std.proofs.Common.{◌≡◌, ℕ, zero, Bool, true, false, cond, refl, ap, sym, ◌∙◌, subst, arith, ◌⊎◌, inl, inr, ⊎_elim, List, map, Option, Some, None}
+use Rattle.std.proofs.lemmas.Bool.{cases_order}
+use Rattle.law_arithmetic.specs.Signs.{Lies}
+use Rattle.nef_space.specs.Vectors.{Vector, SameDirection, IsNormal}
+use Rattle.nef_space.specs.Place.{Form, normal_of}
+use Rattle.nef_case.specs.Turns.{negated_if}
+use Rattle.law_sphere.specs.Vectors.{IsPrimitive, VectorBelow}
+use Rattle.law_sphere.specs.Maps.{At, Svertex, Arc, Loop, Item, arc_item, loop_item, Map, items, item_normal, Shaped}
+use Rattle.law_sphere.specs.Least.{InOrder, ArcBelow, Ordered}
+use Rattle.law_sphere.proofs.Lists.{at-one}
+use Rattle.law_sphere.proofs.Compare.{way-self}
+use Rattle.law_sphere.proofs.Shot.{arc-at}
+use Rattle.law_sphere.proofs.Arcs.{loop-at, at-loop, at-arc}
+use Rattle.law_sphere.proofs.Vectors.{normal-is}
+use Rattle.law_build.proofs.BuiltAxes.{at-map, map-at}
+use Rattle.law_cones.proofs.Listing.{lies-at, at-lies, Mapped, map-list, Sorted, sort, chain-order}
+use Rattle.law_cones.proofs.Lowest.{below-trans, below-either, below-itself}
+use Rattle.law_turns.specs.Complexes.{signed_form}
+use Rattle.law_turns.proofs.Turning.{sign-twice}
+use Rattle.law_turns.proofs.Carriers.{same-form}
+use Rattle.law_turns.specs.Turned.{turned_form, turned_vector, unturned_vector, differ, is_odd, signed}
+use Rattle.law_turns.specs.Maps.{turned_svertex, IsTurnedArc, IsTurnedOption, HasTurnedLists}
+use Rattle.law_turns.proofs.Vectors.{back-vector, direction-turned, signed-turned, signed-twice}
+use Rattle.law_turns.proofs.Numbers.{normal-choice, primitive-turned}
+use Rattle.law_turns.proofs.TurnedLists.{chosen, chosen-has, both-normal}
+use Rattle.law_turns.proofs.ArcEnds.{arcs-begin, arcs-end}
+
+-- ---- the orders of svertices and of arcs
+abbrev WayBelow : Svertex → Svertex → Type 0
+WayBelow u v = VectorBelow u.way v.way
+
+abbrev SameWay : Svertex → Svertex → Type 0
+SameWay u v = u.way ≡ v.way
+
+one-svertex : (vs : List Svertex) → InOrder WayBelow vs → (i j : ℕ) (u v : Svertex) → At vs i u → At vs j v → u.way ≡ v.way → i ≡ j
+one-svertex vs o i j u v a b e = elim (cases_order i j) [
+  | inl same ↦ same
+  | inr apart ↦ ⊎_elim (λ l. absurd (below-itself v.way (subst (λ (r : Vector). VectorBelow r v.way) e (o i j u v l a b))))
+      (λ l. absurd (below-itself v.way (subst (λ (r : Vector). VectorBelow v.way r) e (o j i v u l b a)))) apart
+]
+
+abbrev SameArc : Arc → Arc → Type 0
+SameArc a b = (a.normal ≡ b.normal) × (a.source ≡ b.source)
+
+arc_below-trans : (a b c : Arc) → ArcBelow a b → ArcBelow b c → ArcBelow a c
+arc_below-trans a b c (inl h) (inl i) = inl (below-trans a.normal b.normal c.normal h i)
+arc_below-trans a b c (inl h) (inr i) = inl (subst (λ (r : Vector). VectorBelow a.normal r) i.0 h)
+arc_below-trans a b c (inr h) (inl i) = inl (subst (λ (r : Vector). VectorBelow r c.normal) (sym h.0) i)
+arc_below-trans a b c (inr h) (inr i) = inr (h.0 ∙ i.0, let x = h.1 in let y = i.1 in omega (arith, x, y))
+
+arc_below-either : (a b : Arc) → ArcBelow a b ⊎ SameArc a b ⊎ ArcBelow b a
+arc_below-either a b = ⊎_elim (λ l. inl (inl l)) (λ r. ⊎_elim same (λ l. inr (inr (inl l))) r) (below-either a.normal b.normal)
+  where
+    same : a.normal ≡ b.normal → ArcBelow a b ⊎ SameArc a b ⊎ ArcBelow b a
+    same e = elim (cases_order a.source b.source) [
+      | inl f ↦ inr (inl (e, f))
+      | inr apart ↦ ⊎_elim (λ l. inl (inr (e, l))) (λ l. inr (inr (inr (sym e, l)))) apart
+    ]
+
+module _ (k : ℕ) where
+  abbrev f : Vector → Vector
+  f = turned_vector k
+
+  pub turned-one : (a b : Vector) → f a ≡ f b → a ≡ b
+  turned-one a b e = sym (back-vector k a) ∙ ap (unturned_vector k) e ∙ back-vector k b
+
+  -- normals in normal form whose images are one, up to signs, are one
+  pub one-origin : (b c : Bool) (n m : Vector) → IsNormal n → IsNormal m → signed b (f n) ≡ signed c (f m) → (b ≡ c) × (n ≡ m)
+  one-origin b c n m hn hm e = by b c (turned-one (signed b n) (signed c m) (sym (signed-turned k b n) ∙ e ∙ signed-turned k c m))
+    where
+      by : (b c : Bool) → signed b n ≡ signed c m → (b ≡ c) × (n ≡ m)
+      by true true h = (refl, sym (signed-twice k true n) ∙ ap (signed true) h ∙ signed-twice k true m)
+      by false false h = (refl, h)
+      by true false h = absurd (both-normal n (subst IsNormal (sym h) hm) hn)
+      by false true h = absurd (both-normal m (subst IsNormal h hn) hm)
+
+  -- and so are planes with such normals
+  pub one-plane : (b c : Bool) (g h : Form) → IsNormal (normal_of g) → IsNormal (normal_of h) → signed_form b (turned_form k g) ≡ signed_form c (turned_form k h) → g ≡ h
+  one-plane b c g h hg hh e =
+      let (same, n) = one-origin b c (normal_of g) (normal_of h) hg hh (ap normal_of e) in
+      let d = ap (λ (r : Form). r.d) e ∙ ap (λ (r : Bool). negated_if r h.d) (sym same) in
+      same-form _ _ _ _ _ _ _ _ (ap (λ (r : Vector). r.x) n) (ap (λ (r : Vector). r.y) n) (ap (λ (r : Vector). r.z) n) (sym (sign-twice b g.d) ∙ ap (negated_if b) d ∙ sign-twice b h.d)
+
+module _ (k : ℕ) (M : Map) (V : Shaped M) (O : Ordered M) where
+  abbrev images : List Svertex
+  images = map (turned_svertex k) M.svertices
+
+  S : Sorted WayBelow SameWay images
+  S = sort WayBelow SameWay (λ u v w. below-trans u.way v.way w.way) (λ u. refl) (λ u v. below-either u.way v.way) images
+
+  S-order : InOrder WayBelow S.list
+  S-order = chain-order WayBelow SameWay S.list S.chain
+
+  origin : (u : Svertex) → Lies S.list u → (i : ℕ) × (v : Svertex) × At M.svertices i v × (u ≡ turned_svertex k v)
+  origin u l =
+      let (i, a) = lies-at images u (S.sound u l) in
+      let (v, b, e) = at-map (turned_svertex k) M.svertices i u a in
+      (i, v, b, sym e)
+
+  same-number : (i j : ℕ) (v w : Svertex) → At M.svertices i v → At M.svertices j w → f k v.way ≡ f k w.way → i ≡ j
+  same-number i j v w a b e = V.svertices_apart i j v w a b (subst (λ (r : Vector). SameDirection v.way r) (turned-one k v.way w.way e) (way-self v.way (V.svertex_ways i v a)))
+
+  placed : (i : ℕ) (v : Svertex) → At M.svertices i v → (j : ℕ) × At S.list j (turned_svertex k v)
+  placed i v a =
+      let (y, l, e) = S.all (turned_svertex k v) (at-lies images i (turned_svertex k v) (map-at (turned_svertex k) M.svertices i v a)) in
+      let (m, w, b, h) = origin y l in
+      let same = same-number i m v w a b (e ∙ ap (λ (r : Svertex). r.way) h) in
+      let one = at-one M.svertices m v w (subst (λ (n : ℕ). At M.svertices n v) same a) b in
+      let (j, c) = lies-at S.list y l in
+      (j, subst (λ (r : Svertex). At S.list j r) (h ∙ ap (turned_svertex k) (sym one)) c)
+
+  abbrev vertex : ℕ → ℕ
+  vertex = chosen M.svertices zero (λ i v a. (placed i v a).0)
+
+  vertex-has : (i : ℕ) (v : Svertex) → At M.svertices i v → At S.list (vertex i) (turned_svertex k v)
+  vertex-has = chosen-has M.svertices zero (λ i v a. (placed i v a).0) (λ i v j. At S.list j (turned_svertex k v)) (λ i v a. (placed i v a).1)
+
+  vertex-from : (j : ℕ) (u : Svertex) → At S.list j u → (i : ℕ) × (v : Svertex) × At M.svertices i v × (vertex i ≡ j)
+  vertex-from j u a =
+      let (i, v, b, e) = origin u (at-lies S.list j u a) in
+      (i, v, b, one-svertex S.list S-order (vertex i) j (turned_svertex k v) u (vertex-has i v b) a (sym (ap (λ (r : Svertex). r.way) e)))
+
+  vertex-one : (i j : ℕ) (v w : Svertex) → At M.svertices i v → At M.svertices j w → vertex i ≡ vertex j → i ≡ j
+  vertex-one i j v w a b e =
+      same-number i j v w a b (ap (λ (r : Svertex). r.way) (at-one S.list (vertex j) (turned_svertex k v) (turned_svertex k w) (subst (λ (n : ℕ). At S.list n (turned_svertex k v)) e (vertex-has i v a)) (vertex-has j w b)))
+
+  -- ---- arcs
+  abbrev IsImage : ℕ → Arc → Arc → Type 0
+  IsImage i a b = (flip : Bool) × IsTurnedArc k vertex flip a b × IsNormal b.normal × IsPrimitive b.normal
+
+  image-arc : (i : ℕ) (a : Arc) → At M.arcs i a → (b : Arc) × IsImage i a b
+  image-arc i a l =
+      let item = at-arc M.arcs M.loop i a l in
+      let (flip, n) = normal-choice (f k a.normal) ((direction-turned k a.normal).1 (normal-is V i (arc_item a) item)) in
+      let w = differ (is_odd k) flip in (
+        record {
+          normal = signed flip (f k a.normal);
+          source = vertex (cond w a.target a.source);
+          target = vertex (cond w a.source a.target);
+          above = cond flip a.below a.above;
+          mark = a.mark;
+          below = cond flip a.above a.below;
+        },
+        (flip, record { normal = refl; source = refl; target = refl; above = refl; mark = refl; below = refl }, n, primitive-turned k flip a.normal (O.normals_lowest i (arc_item a) item)),
+      )
+
+  A1 : Mapped M.arcs IsImage
+  A1 = map-list M.arcs IsImage image-arc
+
+  A : Sorted ArcBelow SameArc A1.list
+  A = sort ArcBelow SameArc arc_below-trans (λ a. (refl, refl)) arc_below-either A1.list
+
+  arc-origin : (b : Arc) → Lies A.list b → (i : ℕ) × (a : Arc) × At M.arcs i a × IsImage i a b
+  arc-origin b l =
+      let (i, m) = lies-at A1.list b (A.sound b l) in
+      let (a, c, s) = A1.sound i b m in
+      (i, a, c, s)
+
+  -- images that are one in the order are of one arc
+  same-origin : (i j : ℕ) (a c x y : Arc) → At M.arcs i a → At M.arcs j c → IsImage i a x → IsImage j c y → SameArc x y → i ≡ j
+  same-origin i j a c x y at-a at-c (p, s, _, _) (q, t, _, _) (e, d) =
+      let (pq, n) = one-origin k p q a.normal c.normal (V.normals i (arc_item a) (at-arc M.arcs M.loop i a at-a)) (V.normals j (arc_item c) (at-arc M.arcs M.loop j c at-c)) (sym s.normal ∙ e ∙ t.normal) in
+      let t' = subst (λ (r : Bool). IsTurnedArc k vertex r c y) (sym pq) t in
+      by (differ (is_odd k) p) n (sym s.source ∙ d ∙ t'.source)
+    where
+      by : (w : Bool) → a.normal ≡ c.normal → vertex (cond w a.target a.source) ≡ vertex (cond w c.target c.source) → i ≡ j
+      by true n h = let b = V.arcs_between i a at-a in let b' = V.arcs_between j c at-c in
+          arcs-end M V i j a c at-a at-c n (vertex-one a.target c.target b.target b'.target b.has_target b'.has_target h)
+      by false n h = let b = V.arcs_between i a at-a in let b' = V.arcs_between j c at-c in
+          arcs-begin M V i j a c at-a at-c n (vertex-one a.source c.source b.source b'.source b.has_source b'.has_source h)
+
+  arcs-there : (i : ℕ) (a : Arc) → At M.arcs i a → (j : ℕ) × (b : Arc) × (flip : Bool) × At A.list j b × IsTurnedArc k vertex flip a b
+  arcs-there i a l =
+      let (x, m, s) = A1.all i a l in
+      let (y, n, e) = A.all x (at-lies A1.list i x m) in
+      let (j, c, d, t) = arc-origin y n in
+      let same = same-origin i j a c x y l d s t e in
+      let one = at-one M.arcs j c a d (subst (λ (n : ℕ). At M.arcs n a) same l) in
+      let (h, o) = lies-at A.list y n in
+      (h, y, t.0, o, subst (λ (r : Arc). IsTurnedArc k vertex t.0 r y) one t.1)
+
+  -- ---- the sloop
+  abbrev IsLoopImage : Option Loop → Option Loop → Type 0
+  IsLoopImage o q = IsTurnedOption k o q × ((m : Loop) → q ≡ Some m → IsNormal m.normal × IsPrimitive m.normal)
+
+  image-loop : (o : Option Loop) → M.loop ≡ o → (q : Option Loop) × IsLoopImage o q
+  image-loop None e = (None, (tt, λ m h. cc))
+  image-loop (Some l) e =
+      let (i, a) = at-loop M.arcs M.loop l e in
+      let (flip, n) = normal-choice (f k l.normal) ((direction-turned k l.normal).1 (normal-is V i (loop_item l) a)) in
+      let p = primitive-turned k flip l.normal (O.normals_lowest i (loop_item l) a) in
+      let made : Loop = record { normal = signed flip (f k l.normal); above = cond flip l.below l.above; mark = l.mark; below = cond flip l.above l.below } in
+      (Some made, ((flip, record { normal = refl; above = refl; mark = refl; below = refl }), λ m h. subst (λ (r : Loop). IsNormal r.normal × IsPrimitive r.normal) (one made m h) (n, p)))
+    where
+      one : (x y : Loop) → Some x ≡ Some y → x ≡ y
+      one x y h = ap (λ o. or x o) h
+        where
+          or : Loop → Option Loop → Loop
+          or x None = x
+          or x (Some z) = z
+
+  Q : (q : Option Loop) × IsLoopImage M.loop q
+  Q = image-loop M.loop refl
+
+  pub turned_map : Map
+  turned_map = record { mark = M.mark; svertices = S.list; arcs = A.list; loop = Q.0; face = M.face }
+
+  item-normals : (j : ℕ) (y : Item) → At (items turned_map) j y → IsNormal (item_normal y) × IsPrimitive (item_normal y)
+  unfolding turned_map
+  item-normals j (arc_item b) a = let (i, c, d, s) = arc-origin b (at-lies A.list j b (arc-at A.list Q.0 j b a)) in (s.2, s.3)
+  item-normals j (loop_item m) a = Q.1.1 m (loop-at A.list Q.0 j m a)
+
+  pub has-lists : HasTurnedLists k M turned_map
+  unfolding turned_map
+  has-lists = record {
+    vertex = vertex;
+    svertices = vertex-has;
+    svertices_from = vertex-from;
+    arcs = arcs-there;
+    arcs_from = λ j b a. let (i, c, d, s) = arc-origin b (at-lies A.list j b a) in (i, c, s.0, d, s.1);
+    loop = Q.1.0;
+    normals = λ j y a. (item-normals j y a).0;
+    arcs_ordered = chain-order ArcBelow SameArc A.list A.chain;
+    mark = refl;
+    same_face = refl;
+  }
+
+  pub turned-ordered : Ordered turned_map
+  unfolding turned_map
+  turned-ordered = record {
+    ways_lowest = λ j u a.
+        let (i, v, b, e) = origin u (at-lies S.list j u a) in
+        subst (λ (r : Svertex). IsPrimitive r.way) (sym e) (primitive-turned k false v.way (O.ways_lowest i v b));
+    normals_lowest = λ j y a. (item-normals j y a).1;
+    svertices = S-order;
+    arcs = chain-order ArcBelow SameArc A.list A.chain;
+  }

@@ -1,0 +1,76 @@
+-- Turned vectors and forms are as large as before, in lowest terms where they were, and have one normal form.
+use Rattle.std.proofs.Common.{◌≡◌, ℕ, ◌≤◌, ℤ, pos, negsuc, ◌+ℤ◌, ◌*ℤ◌, neg_ℤ, nat_abs, Bool, true, false, refl, ap, sym, ◌∙◌, subst, arith, ⊎_elim, [], ◌∷◌}
+use Rattle.std.proofs.lemmas.Int.{ints}
+use Rattle.std.specs.Int.{◌∣◌}
+use Rattle.law_arithmetic.proofs.Ring.{ring, at, num, neg, ◌⊕◌, ◌⊗◌}
+use Rattle.nef_space.specs.Numbers.{IsLowest}
+use Rattle.nef_space.specs.Place.{Place, Form, form_numbers}
+use Rattle.nef_space.specs.Vectors.{triple_of as vector_numbers, Vector, dot, IsAtMost, IsDirection, IsNormal}
+use Rattle.nef_case.specs.Turns.{Triple, negated_if, turned}
+use Rattle.law_sphere.specs.Vectors.{IsPrimitive}
+use Rattle.law_sphere.proofs.Kind.{away}
+use Rattle.law_sphere.proofs.Builder.{normal-or}
+use Rattle.law_turns.specs.Turned.{triple_of, turned_vector, turned_form, turned_place, place_numbers, signed}
+use Rattle.law_turns.specs.Complexes.{signed_form}
+use Rattle.law_turns.proofs.Coordinates.{same-vector, SignBlind, each-turned, each-back}
+use Rattle.law_turns.proofs.Turning.{signed-dot, dot-signed, sign-twice}
+use Rattle.law_turns.proofs.Vectors.{dot-turned}
+
+size-sign : (b : Bool) (x : ℤ) → nat_abs (negated_if b x) ≡ nat_abs x
+size-sign true x = omega (arith, ints)
+size-sign false x = refl
+
+-- ---- sizes
+abbrev IsSmall : ℕ → ℤ → ℤ → Type 0
+IsSmall n x y = nat_abs x ≤ n
+
+small-blind : (n : ℕ) → SignBlind (IsSmall n)
+small-blind n x y h = subst (λ (i : ℕ). i ≤ n) (sym (size-sign true x)) h
+
+pub at_most-turned : (k : ℕ) (b : Bool) (n : ℕ) (d : Vector) → IsAtMost n d → IsAtMost n (signed b (turned_vector k d))
+at_most-turned k b n d h =
+    let e = each-turned (IsSmall n) (small-blind n) k (triple_of d) (triple_of d) (h.of_x, h.of_y, h.of_z) in
+    record { of_x = by _ e.0; of_y = by _ e.1; of_z = by _ e.2 }
+  where
+    by : (x : ℤ) → nat_abs x ≤ n → nat_abs (negated_if b x) ≤ n
+    by x i = subst (λ (i : ℕ). i ≤ n) (sym (size-sign b x)) i
+
+-- ---- lowest terms
+pub primitive-turned : (k : ℕ) (b : Bool) (d : Vector) → IsPrimitive d → IsPrimitive (signed b (turned_vector k d))
+primitive-turned k b d h = record {
+  by = signed b (turned_vector k h.by);
+  one = signed-dot b (turned_vector k h.by) (signed b (turned_vector k d)) ∙ ap (negated_if b) (dot-signed b (turned_vector k h.by) (turned_vector k d)) ∙ sign-twice b (dot (turned_vector k h.by) (turned_vector k d)) ∙ dot-turned k h.by d ∙ h.one;
+}
+
+abbrev Divides : ℕ → ℤ → ℤ → Type 0
+Divides n x y = n ∣ nat_abs x
+
+divides-blind : (n : ℕ) → SignBlind (Divides n)
+divides-blind n x y h = subst (λ (i : ℕ). n ∣ i) (sym (size-sign true x)) h
+
+-- what divides all turned numbers divides all numbers
+divides-back : (k n : ℕ) (b : Bool) (t : Triple) → (n ∣ nat_abs (negated_if b (turned k t).0)) → (n ∣ nat_abs (negated_if b (turned k t).1)) → (n ∣ nat_abs (negated_if b (turned k t).2))
+    → (n ∣ nat_abs t.0) × (n ∣ nat_abs t.1) × (n ∣ nat_abs t.2)
+divides-back k n b t p q r = each-back (Divides n) (divides-blind n) k t t (by _ p, by _ q, by _ r)
+  where
+    by : (x : ℤ) → n ∣ nat_abs (negated_if b x) → n ∣ nat_abs x
+    by x h = subst (λ (i : ℕ). n ∣ i) (size-sign b x) h
+
+pub lowest_vector-turned : (k : ℕ) (b : Bool) (d : Vector) → IsLowest (vector_numbers d) → IsLowest (vector_numbers (signed b (turned_vector k d)))
+lowest_vector-turned k b d h n (p, (q, (r, z))) = let e = divides-back k n b (triple_of d) p q r in h n (e.0, (e.1, (e.2, z)))
+
+pub lowest_form-turned : (k : ℕ) (b : Bool) (g : Form) → IsLowest (form_numbers g) → IsLowest (form_numbers (signed_form b (turned_form k g)))
+lowest_form-turned k b g h n (p, (q, (r, (s, z)))) = let e = divides-back k n b (g.a, g.b, g.c) p q r in h n (e.0, (e.1, (e.2, (subst (λ (i : ℕ). n ∣ i) (size-sign b g.d) s, z))))
+
+pub lowest_place-turned : (k : ℕ) (p : Place) → IsLowest (place_numbers p) → IsLowest (place_numbers (turned_place k p))
+lowest_place-turned k p h n (x, (y, (z, (w, u)))) = let e = divides-back k n false (p.x, p.y, p.z) x y z in h n (e.0, (e.1, (e.2, (w, u))))
+
+-- ---- one normal form
+away-signed : (d : Vector) → away d ≡ signed true d
+away-signed d = same-vector _ _ _ _ _ _ (by d.x) (by d.y) (by d.z)
+  where
+    by : (x : ℤ) → negsuc 0 *ℤ x +ℤ pos 0 *ℤ x ≡ neg_ℤ x
+    by x = ring (x ∷ []) (num (negsuc 0) ⊗ at 0 ⊕ num (pos 0) ⊗ at 0) (neg (at 0)) tt
+
+pub normal-choice : (d : Vector) → IsDirection d → (b : Bool) × IsNormal (signed b d)
+normal-choice d h = ⊎_elim (λ n. (false, n)) (λ n. (true, subst IsNormal (away-signed d) n)) (normal-or d h)

@@ -1,0 +1,62 @@
+-- The turned planes and vertices of a program's complex are those of the turned set, which are ready to be paired.
+use Rattle.std.proofs.Common.{◌≡◌, ℕ, zero, suc, false, ap, sym, subst, List, [], ◌∷◌, map, Some}
+use Rattle.std.specs.Prelude.{slice_get}
+use Rattle.nef_space.specs.Limits.{normal_limit, svertex_limit}
+use Rattle.nef_space.specs.Sets.{Set}
+use Rattle.nef_space.specs.Vectors.{Vector, IsAtMost}
+use Rattle.nef_geo.specs.Shapes.{form_of}
+use Rattle.nef_geo.specs.declared.plane.Plane.{Plane}
+use Rattle.law_sphere.specs.Maps.{At, Svertex, Map, Shaped}
+use Rattle.law_sphere.specs.Least.{Ordered}
+use Rattle.law_build.proofs.BuiltAxes.{at-map, map-at}
+use Rattle.nef_smap.specs.Maps.{map_of, IsSmall, IsLeastMap}
+use Rattle.nef_smap.specs.declared.map.SphereMap.{SphereMap}
+use Rattle.law_complex.specs.Complexes.{Vertex as PlainVertex}
+use Rattle.nef_complex.specs.Complexes.{vertex_of, complex_of, ShowsSet, AreVerticesOf}
+use Rattle.nef_complex.specs.declared.complex.Vertex.{Vertex}
+use Rattle.nef_complex.specs.declared.complex.Complex.{Complex}
+use Rattle.nef_complex.proofs.Reading.{got-at}
+use Rattle.law_turns.specs.Turned.{turned_set}
+use Rattle.law_turns.specs.Maps.{IsTurnedMap}
+use Rattle.law_turns.specs.Complexes.{AreTurnedPlanes, AreTurnedVertices}
+use Rattle.law_turns.proofs.Numbers.{at_most-turned}
+use Rattle.law_turns.proofs.TurnedMaps.{svertex-from, item-from, item-normal, valid-turned, least-turned}
+use Rattle.law_turns.proofs.Complexes.{shows-turned}
+
+at-got : {A : Type 0} (xs : List A) (i : ℕ) (x : A) → At xs i x → slice_get xs i ≡ Some x
+at-got [] i x a = absurd a
+at-got (y ∷ ys) zero x e = ap Some e
+at-got (y ∷ ys) (suc i) x a = at-got ys i x a
+
+module _ (k : ℕ) where
+  pub small-turned : (M N : Map) → Shaped M → IsTurnedMap k M N → IsSmall M → IsSmall N
+  small-turned M N V R S = record {
+    svertices = λ j u a.
+        let (v, b, e, i) = svertex-from k M N V R j u a in
+        subst (λ (r : Svertex). IsAtMost svertex_limit r.way) (sym e) (at_most-turned k false svertex_limit v.way (S.svertices (R.vertex_back j) v b));
+    normals = λ j y a.
+        let (x, b, t, i) = item-from k M N V R j y a in
+        subst (λ (r : Vector). IsAtMost normal_limit r) (sym (item-normal k M N V R (R.flip (R.item_back j)) x y t)) (at_most-turned k (R.flip (R.item_back j)) normal_limit _ (S.normals (R.item_back j) x b));
+  }
+
+  pub least_map-turned : (m n : SphereMap) → IsLeastMap m → IsTurnedMap k (map_of m) (map_of n) → Ordered (map_of n) → IsLeastMap n
+  least_map-turned m n L R O = record {
+    sphere_map = record {
+      valid = valid-turned k (map_of m) (map_of n) R L.sphere_map.valid;
+      ordered = O;
+      small = small-turned (map_of m) (map_of n) L.sphere_map.valid.shaped R L.sphere_map.small;
+    };
+    least = least-turned k (map_of m) (map_of n) R L.sphere_map.valid.shaped L.least;
+  }
+
+  pub paired-turned : (s : Set) (c : Complex) (hs : List Plane) (vs : List Vertex) → ShowsSet s c → AreTurnedPlanes k (map form_of c.carriers) (map form_of hs) → AreTurnedVertices k (map vertex_of c.vertices) (map vertex_of vs)
+      → AreVerticesOf (turned_set k s) hs vs
+  paired-turned s c hs vs S P T = record {
+    sorted = λ i j u v l a b. T.ordered i j (vertex_of u) (vertex_of v) l (map-at vertex_of vs i u (got-at vs i u a)) (map-at vertex_of vs j v (got-at vs j v b));
+    maps = λ j v a.
+        let b = map-at vertex_of vs j v (got-at vs j v a) in
+        let (i, u, l, e, R) = T.each j (vertex_of v) b in
+        let (w, m, same) = at-map vertex_of c.vertices i u l in
+        least_map-turned w.map v.map (S.maps i w (at-got c.vertices i w m)) (subst (λ (r : PlainVertex). IsTurnedMap k r.map (map_of v.map)) (sym same) R) (T.maps_ordered j (vertex_of v) b);
+    shown = λ es E. shows-turned k s (complex_of c) (record { carriers = map form_of hs; vertices = map vertex_of vs; edges = es }) S.shows (record { planes = P; vertices = T; edges = E });
+  }

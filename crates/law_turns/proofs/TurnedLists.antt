@@ -1,0 +1,160 @@
+-- A map whose lists have another map's turned items, in order, is the turned map.
+use Rattle.std.proofs.Common.{◌≡◌, ℕ, zero, suc, pos, neg_ℤ, Bool, true, false, refl, ap, sym, ◌∙◌, subst, arith, inl, inr, ⊎_elim, List, [], ◌∷◌, Option, Some, None}
+use Rattle.std.proofs.lemmas.Int.{ints}
+use Rattle.std.proofs.lemmas.Bool.{cases_order}
+use Rattle.nef_space.specs.Vectors.{Vector, IsNormal}
+use Rattle.law_sphere.specs.Vectors.{VectorBelow}
+use Rattle.law_sphere.specs.Maps.{At, Svertex, Arc, Loop, Item, arc_item, loop_item, Map, items, items_then}
+use Rattle.law_sphere.specs.Least.{InOrder, ArcBelow}
+use Rattle.law_sphere.proofs.Shot.{arc-at}
+use Rattle.law_sphere.proofs.Arcs.{loop-at, at-loop, at-arc}
+use Rattle.law_turns.specs.Turned.{turned_vector, signed}
+use Rattle.law_turns.specs.Maps.{IsTurnedArc, IsTurnedItem, IsTurnedOption, IsTurnedMap, HasTurnedLists}
+
+-- ---- what is chosen for each element, by its number
+abbrev pub chosen : {A B : Type 0} (xs : List A) → B → ((i : ℕ) (x : A) → At xs i x → B) → ℕ → B
+chosen [] b F i = b
+chosen (x ∷ xs) b F zero = F zero x refl
+chosen (x ∷ xs) b F (suc i) = chosen xs b (λ j y a. F (suc j) y a) i
+
+pub chosen-has : {A B : Type 0} (xs : List A) (b : B) (F : (i : ℕ) (x : A) → At xs i x → B) (Q : ℕ → A → B → Type 0) → ((i : ℕ) (x : A) (a : At xs i x) → Q i x (F i x a))
+    → (i : ℕ) (x : A) → At xs i x → Q i x (chosen xs b F i)
+chosen-has [] b F Q h i x a = absurd a
+chosen-has {A} (y ∷ ys) b F Q h zero x e = subst (λ (r : A). Q zero r (F zero y refl)) e (h zero y refl)
+chosen-has (y ∷ ys) b F Q h (suc i) x a = chosen-has ys b (λ j z c. F (suc j) z c) (λ j z c. Q (suc j) z c) (λ j z c. h (suc j) z c) i x a
+
+-- ---- one normal form
+pub both-normal : (v : Vector) → IsNormal (signed true v) → IsNormal v → ⊥
+both-normal v h i =
+    let a = h.first in
+    let b = i.first in
+    let x : v.x ≡ pos 0 = omega (arith, ints, a, b) in
+    let c = h.second (ap neg_ℤ x) in
+    let d = i.second x in
+    let y : v.y ≡ pos 0 = omega (arith, ints, c, d) in
+    let e = h.third (ap neg_ℤ x) (ap neg_ℤ y) in
+    let f = i.third x y in
+    omega (arith, ints, e, f)
+
+pub one-normal : (b c : Bool) (v : Vector) → IsNormal (signed b v) → IsNormal (signed c v) → b ≡ c
+one-normal true true v h i = refl
+one-normal true false v h i = absurd (both-normal v h i)
+one-normal false true v h i = absurd (both-normal v i h)
+one-normal false false v h i = refl
+
+-- ---- one place in an order
+below-not : (u : Vector) → VectorBelow u u → ⊥
+below-not u (inl h) = omega (arith, ints, h)
+below-not u (inr (inl h)) = omega (arith, ints, h.1)
+below-not u (inr (inr h)) = omega (arith, ints, h.2)
+
+arc_below-not : (a b : Arc) → a.normal ≡ b.normal → a.source ≡ b.source → ArcBelow a b → ⊥
+arc_below-not a b e f (inl h) = below-not b.normal (subst (λ (r : Vector). VectorBelow r b.normal) e h)
+arc_below-not a b e f (inr h) = let i = h.1 in omega (arith, f, i)
+
+one-place : (as' : List Arc) → InOrder ArcBelow as' → (i j : ℕ) (a b : Arc) → At as' i a → At as' j b → a.normal ≡ b.normal → a.source ≡ b.source → i ≡ j
+one-place as' o i j a b h k e f = elim (cases_order i j) [
+  | inl same ↦ same
+  | inr apart ↦ ⊎_elim (λ l. absurd (arc_below-not a b e f (o i j a b l h k))) (λ l. absurd (arc_below-not b a (sym e) (sym f) (o j i b a l k h))) apart
+]
+
+loop-place : (as' : List Arc) (o : Option Loop) (i j : ℕ) (l m : Loop) → At (items_then as' o) i (loop_item l) → At (items_then as' o) j (loop_item m) → i ≡ j
+loop-place [] None i j l m h k = absurd h
+loop-place [] (Some n) zero zero l m h k = refl
+loop-place [] (Some n) zero (suc j) l m h k = absurd k
+loop-place [] (Some n) (suc i) j l m h k = absurd h
+loop-place (a ∷ as') o zero j l m h k = cc
+loop-place (a ∷ as') o (suc i) zero l m h k = cc
+loop-place (a ∷ as') o (suc i) (suc j) l m h k = ap suc (loop-place as' o i j l m h k)
+
+module _ (k : ℕ) (M N : Map) (T : HasTurnedLists k M N) where
+  abbrev Pair : Type 0
+  Pair = ℕ × Bool
+
+  abbrev HasImage : ℕ → Item → Pair → Type 0
+  HasImage i x p = (y : Item) × At (items N) p.0 y × IsTurnedItem k T.vertex p.1 x y
+
+  abbrev HasOrigin : ℕ → Item → Type 0
+  HasOrigin j y = (i : ℕ) × (x : Item) × (flip : Bool) × At (items M) i x × IsTurnedItem k T.vertex flip x y
+
+  image-of : (i : ℕ) (x : Item) → At (items M) i x → (p : Pair) × HasImage i x p
+  image-of i (arc_item a) h =
+      let (j, b, flip, l, t) = T.arcs i a (arc-at M.arcs M.loop i a h) in
+      ((j, flip), (arc_item b, at-arc N.arcs N.loop j b l, t))
+  image-of i (loop_item l) h = by N.loop refl (subst (λ (o : Option Loop). IsTurnedOption k o N.loop) (loop-at M.arcs M.loop i l h) T.loop)
+    where
+      by : (o : Option Loop) → N.loop ≡ o → IsTurnedOption k (Some l) N.loop → (p : Pair) × HasImage i (loop_item l) p
+      by None e t = absurd (subst (λ (o : Option Loop). IsTurnedOption k (Some l) o) e t)
+      by (Some m) e t =
+          let (flip, s) = subst (λ (o : Option Loop). IsTurnedOption k (Some l) o) e t in
+          let (j, b) = at-loop N.arcs N.loop m e in
+          ((j, flip), (loop_item m, b, s))
+
+  origin-of : (j : ℕ) (y : Item) → At (items N) j y → HasOrigin j y
+  origin-of j (arc_item b) h =
+      let (i, a, flip, l, t) = T.arcs_from j b (arc-at N.arcs N.loop j b h) in
+      (i, arc_item a, flip, at-arc M.arcs M.loop i a l, t)
+  origin-of j (loop_item m) h = by M.loop refl (subst (λ (o : Option Loop). IsTurnedOption k M.loop o) (loop-at N.arcs N.loop j m h) T.loop)
+    where
+      by : (o : Option Loop) → M.loop ≡ o → IsTurnedOption k M.loop (Some m) → HasOrigin j (loop_item m)
+      by None e t = absurd (subst (λ (o : Option Loop). IsTurnedOption k o (Some m)) e t)
+      by (Some l) e t =
+          let (flip, s) = subst (λ (o : Option Loop). IsTurnedOption k o (Some m)) e t in
+          let (i, a) = at-loop M.arcs M.loop l e in
+          (i, loop_item l, flip, a, s)
+
+  abbrev image : ℕ → Pair
+  image = chosen (items M) (zero, false) (λ i x a. (image-of i x a).0)
+
+  image-has : (i : ℕ) (x : Item) → At (items M) i x → HasImage i x (image i)
+  image-has = chosen-has (items M) (zero, false) (λ i x a. (image-of i x a).0) HasImage (λ i x a. (image-of i x a).1)
+
+  -- two images of one item stand in one place
+  one-image : (i j : ℕ) (b c : Bool) (x y z : Item) → At (items N) i y → At (items N) j z → IsTurnedItem k T.vertex b x y → IsTurnedItem k T.vertex c x z → i ≡ j
+  one-image i j b c (arc_item a) (arc_item y) (arc_item z) h l s t =
+      let same = one-normal b c (turned_vector k a.normal) (subst IsNormal s.normal (T.normals i (arc_item y) h)) (subst IsNormal t.normal (T.normals j (arc_item z) l)) in
+      let t' = subst (λ (r : Bool). IsTurnedArc k T.vertex r a z) (sym same) t in
+      one-place N.arcs T.arcs_ordered i j y z (arc-at N.arcs N.loop i y h) (arc-at N.arcs N.loop j z l) (s.normal ∙ sym t'.normal) (s.source ∙ sym t'.source)
+  one-image i j b c (arc_item a) (arc_item y) (loop_item z) h l s t = absurd t
+  one-image i j b c (arc_item a) (loop_item y) z h l s t = absurd s
+  one-image i j b c (loop_item a) (arc_item y) z h l s t = absurd s
+  one-image i j b c (loop_item a) (loop_item y) (arc_item z) h l s t = absurd t
+  one-image i j b c (loop_item a) (loop_item y) (loop_item z) h l s t = loop-place N.arcs N.loop i j y z h l
+
+  abbrev back : ℕ → ℕ
+  back = chosen (items N) zero (λ j y a. (origin-of j y a).0)
+
+  abbrev IsOrigin : ℕ → Item → ℕ → Type 0
+  IsOrigin j y i = (x : Item) × At (items M) i x × ((image i).0 ≡ j)
+
+  back-has : (j : ℕ) (y : Item) → At (items N) j y → IsOrigin j y (back j)
+  back-has = chosen-has (items N) zero (λ j y a. (origin-of j y a).0) IsOrigin
+      (λ j y a.
+      let (i, x, flip, b, t) = origin-of j y a in
+      let (z, c, s) = image-has i x b in
+      (x, b, one-image (image i).0 j (image i).1 flip x z y c a s t))
+
+  abbrev vertex_back : ℕ → ℕ
+  vertex_back = chosen N.svertices zero (λ j u a. (T.svertices_from j u a).0)
+
+  abbrev IsVertexOrigin : ℕ → Svertex → ℕ → Type 0
+  IsVertexOrigin j u i = (v : Svertex) × At M.svertices i v × (T.vertex i ≡ j)
+
+  vertex_back-has : (j : ℕ) (u : Svertex) → At N.svertices j u → IsVertexOrigin j u (vertex_back j)
+  vertex_back-has = chosen-has N.svertices zero (λ j u a. (T.svertices_from j u a).0) IsVertexOrigin (λ j u a. let r = T.svertices_from j u a in (r.1, r.2, r.3))
+
+  pub lists-turned : IsTurnedMap k M N
+  lists-turned = record {
+    vertex = T.vertex;
+    vertex_back = vertex_back;
+    item = λ i. (image i).0;
+    item_back = back;
+    flip = λ i. (image i).1;
+    svertices = T.svertices;
+    svertices_from = vertex_back-has;
+    items_there = image-has;
+    items_from = back-has;
+    normals = T.normals;
+    mark = T.mark;
+    same_face = T.same_face;
+  }

@@ -1,0 +1,244 @@
+-- The laws on turns. Each is cited by a clause of a public function. A number of a turn is any number: those from 48 on are turns too.
+use Rattle.std.specs.Prelude.{◌≡◌, ℕ, ◌↔◌, List, map, Bool}
+use Rattle.law_arithmetic.specs.Signs.{Lies}
+use Rattle.nef_case.specs.Turns.{negated_if, Undoes, IsComposition}
+use Rattle.nef_space.specs.Vectors.{Vector, dot, cross, triple, IsDirection, SameDirection, IsOpposite, IsAtMost, IsNormal, triple_of as vector_numbers}
+use Rattle.nef_space.specs.Numbers.{IsLowest}
+use Rattle.nef_space.specs.Place.{Place, Form, form_numbers, normal_of, form_at, slope, Ratio, step, toward, Within, SamePlace, InFrame, IsAhead, IsBetween}
+use Rattle.nef_space.specs.Sets.{Set, Holds}
+use Rattle.nef_space.specs.Local.{HasLabel, SameSet, Germ, Flat, FlatDim, IsVertex, Joined}
+use Rattle.nef_space.specs.declared.label.Label.{Label}
+use Rattle.law_near.specs.Cells.{carriers}
+use Rattle.law_near.specs.Cones.{NearGerm}
+use Rattle.law_cyclic.specs.Arcs.{IsStrictlyOn}
+use Rattle.law_sphere.specs.Maps.{At, Arc, Map, MapLabel, NearLabel, Shaped, Valid}
+use Rattle.law_sphere.specs.Vectors.{IsPrimitive}
+use Rattle.law_sphere.specs.Least.{Least, Ordered, Cone}
+use Rattle.law_complex.specs.Complexes.{Vertex, Complex}
+use Rattle.law_complex.specs.Shows.{SamePlane, Carriers, Shows}
+use Rattle.nef_geo.specs.Shapes.{form_of}
+use Rattle.nef_geo.specs.declared.plane.Plane.{Plane}
+use Rattle.nef_smap.specs.Maps.{map_of, IsLeastMap}
+use Rattle.nef_smap.specs.declared.map.SphereMap.{SphereMap}
+use Rattle.nef_complex.specs.Complexes.{vertex_of, ShowsSet, AreVerticesOf}
+use Rattle.nef_complex.specs.declared.complex.Vertex.{Vertex as ProgramVertex}
+use Rattle.nef_complex.specs.declared.complex.Complex.{Complex as ProgramComplex}
+use Rattle.nef_expr.specs.declared.nodes.Node.{Node}
+use Rattle.nef_expr.specs.Nodes.{node_set, IsOrdered}
+use Rattle.law_turns.specs.Nodes.{TurnOf}
+use Rattle.law_turns.specs.Turned.{turned_vector, turned_form, turned_place, turned_set, place_numbers, is_odd, signed}
+use Rattle.law_turns.specs.Maps.{IsTurnedMap, HasTurnedLists}
+use Rattle.law_turns.specs.Complexes.{AreTurnedPlanes, AreTurnedVertices, IsTurnedComplex, ShowsVertices, signed_form}
+
+-- ---- vectors
+-- products are kept
+abbrev pub DotTurned : Type 0
+DotTurned = (k : ℕ) (a b : Vector) → dot (turned_vector k a) (turned_vector k b) ≡ dot a b
+
+-- cross products and triple products are kept up to the sign of the turn
+abbrev pub CrossTurned : Type 0
+CrossTurned = (k : ℕ) (a b : Vector) → cross (turned_vector k a) (turned_vector k b) ≡ signed (is_odd k) (turned_vector k (cross a b))
+
+abbrev pub TripleTurned : Type 0
+TripleTurned = (k : ℕ) (a b c : Vector) → triple (turned_vector k a) (turned_vector k b) (turned_vector k c) ≡ negated_if (is_odd k) (triple a b c)
+
+abbrev pub DirectionTurned : Type 0
+DirectionTurned = (k : ℕ) (d : Vector) → IsDirection (turned_vector k d) ↔ IsDirection d
+
+abbrev pub SameDirectionTurned : Type 0
+SameDirectionTurned = (k : ℕ) (a b : Vector) → SameDirection (turned_vector k a) (turned_vector k b) ↔ SameDirection a b
+
+abbrev pub OppositeTurned : Type 0
+OppositeTurned = (k : ℕ) (a b : Vector) → IsOpposite (turned_vector k a) (turned_vector k b) ↔ IsOpposite a b
+
+-- what is passed counterclockwise about a normal is passed so about the turned normal with the sign of the turn
+abbrev pub ArcTurned : Type 0
+ArcTurned = (k : ℕ) (n s t d : Vector) → IsStrictlyOn (signed (is_odd k) (turned_vector k n)) (turned_vector k s) (turned_vector k t) (turned_vector k d) ↔ IsStrictlyOn n s t d
+
+-- each vector is the image of one
+abbrev pub EachVectorIsTurned : Type 0
+EachVectorIsTurned = (k : ℕ) (e : Vector) → (d : Vector) × (turned_vector k d ≡ e)
+
+-- ---- numbers of turned vectors, forms and points, with either sign
+abbrev pub AtMostTurned : Type 0
+AtMostTurned = (k : ℕ) (b : Bool) (n : ℕ) (d : Vector) → IsAtMost n d → IsAtMost n (signed b (turned_vector k d))
+
+-- what is in lowest terms stays so
+abbrev pub PrimitiveTurned : Type 0
+PrimitiveTurned = (k : ℕ) (b : Bool) (d : Vector) → IsPrimitive d → IsPrimitive (signed b (turned_vector k d))
+
+abbrev pub LowestVectorTurned : Type 0
+LowestVectorTurned = (k : ℕ) (b : Bool) (d : Vector) → IsLowest (vector_numbers d) → IsLowest (vector_numbers (signed b (turned_vector k d)))
+
+abbrev pub LowestFormTurned : Type 0
+LowestFormTurned = (k : ℕ) (b : Bool) (h : Form) → IsLowest (form_numbers h) → IsLowest (form_numbers (signed_form b (turned_form k h)))
+
+abbrev pub LowestPlaceTurned : Type 0
+LowestPlaceTurned = (k : ℕ) (p : Place) → IsLowest (place_numbers p) → IsLowest (place_numbers (turned_place k p))
+
+-- a direction or its opposite is a normal form, and not both
+abbrev pub NormalExists : Type 0
+NormalExists = (d : Vector) → IsDirection d → (b : Bool) × IsNormal (signed b d)
+
+abbrev pub NormalIsOne : Type 0
+NormalIsOne = (b c : Bool) (d : Vector) → IsNormal (signed b d) → IsNormal (signed c d) → b ≡ c
+
+-- different vectors have different images; so have, whatever the signs, different normals and planes in normal form
+abbrev pub VectorsDiffer : Type 0
+VectorsDiffer = (k : ℕ) (a b : Vector) → turned_vector k a ≡ turned_vector k b → a ≡ b
+
+abbrev pub NormalsDiffer : Type 0
+NormalsDiffer = (k : ℕ) (b c : Bool) (n m : Vector) → IsNormal n → IsNormal m → signed b (turned_vector k n) ≡ signed c (turned_vector k m) → n ≡ m
+
+abbrev pub PlanesDiffer : Type 0
+PlanesDiffer = (k : ℕ) (b c : Bool) (g h : Form) → IsNormal (normal_of g) → IsNormal (normal_of h) → signed_form b (turned_form k g) ≡ signed_form c (turned_form k h) → g ≡ h
+
+-- ---- points
+-- a turned form is at a turned point what the form is at the point
+abbrev pub FormTurned : Type 0
+FormTurned = (k : ℕ) (h : Form) (p : Place) → form_at (turned_form k h) (turned_place k p) ≡ form_at h p
+
+abbrev pub SlopeTurned : Type 0
+SlopeTurned = (k : ℕ) (h : Form) (d : Vector) → slope (turned_form k h) (turned_vector k d) ≡ slope h d
+
+abbrev pub StepTurned : Type 0
+StepTurned = (k : ℕ) (p : Place) (t : Ratio) (d : Vector) → step (turned_place k p) t (turned_vector k d) ≡ turned_place k (step p t d)
+
+abbrev pub TowardTurned : Type 0
+TowardTurned = (k : ℕ) (p q : Place) → toward (turned_place k p) (turned_place k q) ≡ turned_vector k (toward p q)
+
+abbrev pub AheadTurned : Type 0
+AheadTurned = (k : ℕ) (p : Place) (d : Vector) (q : Place) → IsAhead (turned_place k p) (turned_vector k d) (turned_place k q) ↔ IsAhead p d q
+
+abbrev pub BetweenTurned : Type 0
+BetweenTurned = (k : ℕ) (p r q : Place) → IsBetween (turned_place k p) (turned_place k r) (turned_place k q) ↔ IsBetween p r q
+
+abbrev pub SamePlaceTurned : Type 0
+SamePlaceTurned = (k : ℕ) (p q : Place) → SamePlace (turned_place k p) (turned_place k q) ↔ SamePlace p q
+
+abbrev pub WithinTurned : Type 0
+WithinTurned = (k : ℕ) (n : ℕ) (p q : Place) → Within n (turned_place k p) (turned_place k q) ↔ Within n p q
+
+abbrev pub FrameTurned : Type 0
+FrameTurned = (k : ℕ) (p : Place) → InFrame (turned_place k p) ↔ InFrame p
+
+-- each point is the image of one
+abbrev pub EachPlaceIsTurned : Type 0
+EachPlaceIsTurned = (k : ℕ) (q : Place) → (p : Place) × (turned_place k p ≡ q)
+
+-- ---- sets
+-- a turned set holds at a turned point exactly where the set holds at the point
+abbrev pub HoldsTurned : Type 0
+HoldsTurned = (k : ℕ) (s : Set) (p : Place) → Holds (turned_set k s) (turned_place k p) ↔ Holds s p
+
+abbrev pub LabelTurned : Type 0
+LabelTurned = (k : ℕ) (s : Set) (p : Place) (l : Label) → HasLabel (turned_set k s) (turned_place k p) l ↔ HasLabel s p l
+
+abbrev pub SameSetTurned : Type 0
+SameSetTurned = (k : ℕ) (s t : Set) → SameSet (turned_set k s) (turned_set k t) ↔ SameSet s t
+
+abbrev pub GermTurned : Type 0
+GermTurned = (k : ℕ) (s : Set) (p : Place) (d : Vector) (l : Label) → Germ (turned_set k s) (turned_place k p) (turned_vector k d) l ↔ Germ s p d l
+
+abbrev pub NearGermTurned : Type 0
+NearGermTurned = (k : ℕ) (s : Set) (p : Place) (d e : Vector) (l : Label) → NearGerm (turned_set k s) (turned_place k p) (turned_vector k d) (turned_vector k e) l ↔ NearGerm s p d e l
+
+abbrev pub FlatTurned : Type 0
+FlatTurned = (k : ℕ) (s : Set) (p : Place) (d : Vector) → Flat (turned_set k s) (turned_place k p) (turned_vector k d) ↔ Flat s p d
+
+abbrev pub FlatDimTurned : Type 0
+FlatDimTurned = (k : ℕ) (s : Set) (p : Place) (j : ℕ) → FlatDim (turned_set k s) (turned_place k p) j ↔ FlatDim s p j
+
+abbrev pub VertexTurned : Type 0
+VertexTurned = (k : ℕ) (s : Set) (p : Place) → IsVertex (turned_set k s) (turned_place k p) ↔ IsVertex s p
+
+abbrev pub JoinedTurned : Type 0
+JoinedTurned = (k : ℕ) (s : Set) (p q : Place) → Joined (turned_set k s) (turned_place k p) (turned_place k q) ↔ Joined s p q
+
+-- a set that is turned, and then back, is the set
+abbrev pub SetTurnedBack : Type 0
+SetTurnedBack = (j k : ℕ) (s : Set) → Undoes j k → turned_set j (turned_set k s) ≡ s
+
+-- turned twice, it is turned once by the composition
+abbrev pub SetTurnedTwice : Type 0
+SetTurnedTwice = (i j k : ℕ) (s : Set) → IsComposition i j k → turned_set i s ≡ turned_set j (turned_set k s)
+
+-- the set of a node's turned image is the turned set, so it holds at a turned point exactly where the node's holds at the point
+abbrev pub NodeTurned : Type 0
+NodeTurned = (ns : List Node) (t k l : ℕ) → IsOrdered ns → TurnOf ns t k l → node_set ns l ≡ turned_set t (node_set ns k)
+
+abbrev pub NodeHoldsTurned : Type 0
+NodeHoldsTurned = (ns : List Node) (t k l : ℕ) (p : Place) → IsOrdered ns → TurnOf ns t k l → Holds (node_set ns l) (turned_place t p) ↔ Holds (node_set ns k) p
+
+-- ---- sphere maps
+-- a turned map has a direction's label at the turned direction
+abbrev pub MapLabelTurned : Type 0
+MapLabelTurned = (k : ℕ) (M N : Map) (d : Vector) (m : Label) → Shaped M → IsTurnedMap k M N → MapLabel N (turned_vector k d) m ↔ MapLabel M d m
+
+abbrev pub NearLabelTurned : Type 0
+NearLabelTurned = (k : ℕ) (M N : Map) (d e : Vector) (m : Label) → Shaped M → IsTurnedMap k M N → NearLabel N (turned_vector k d) (turned_vector k e) m ↔ NearLabel M d e m
+
+-- it is valid where the map is, and least
+abbrev pub MapTurned : Type 0
+MapTurned = (k : ℕ) (M N : Map) → IsTurnedMap k M N → Valid M → Valid N
+
+abbrev pub LeastTurned : Type 0
+LeastTurned = (k : ℕ) (M N : Map) → IsTurnedMap k M N → Shaped M → Least M → Least N
+
+-- and shows the turned set at the turned point
+abbrev pub ConeTurned : Type 0
+ConeTurned = (k : ℕ) (M N : Map) (s : Set) (p : Place) → IsTurnedMap k M N → Cone M s p → Cone N (turned_set k s) (turned_place k p)
+
+-- a map whose lists have the turned items, in order, is the turned map
+abbrev pub ListsTurned : Type 0
+ListsTurned = (k : ℕ) (M N : Map) → HasTurnedLists k M N → IsTurnedMap k M N
+
+-- each ordered map that is well shaped has a turned map, which is ordered
+abbrev pub TurnedExists : Type 0
+TurnedExists = (k : ℕ) (M : Map) → Shaped M → Ordered M → (N : Map) × HasTurnedLists k M N × Ordered N
+
+-- arcs with one normal that begin at one svertex, or end at one, are one, so that arcs whose ends are exchanged stay apart in their order
+abbrev pub ArcsBegin : Type 0
+ArcsBegin = (M : Map) → Shaped M → (i j : ℕ) (a b : Arc) → At M.arcs i a → At M.arcs j b → a.normal ≡ b.normal → a.source ≡ b.source → i ≡ j
+
+abbrev pub ArcsEnd : Type 0
+ArcsEnd = (M : Map) → Shaped M → (i j : ℕ) (a b : Arc) → At M.arcs i a → At M.arcs j b → a.normal ≡ b.normal → a.target ≡ b.target → i ≡ j
+
+-- ---- complexes
+-- the carriers of a turned set are the turned carriers
+abbrev pub CarrierTurned : Type 0
+CarrierTurned = (k : ℕ) (s : Set) (h : Form) → Lies (carriers s) h → Lies (carriers (turned_set k s)) (turned_form k h)
+
+abbrev pub CarrierIsTurned : Type 0
+CarrierIsTurned = (k : ℕ) (s : Set) (g : Form) → Lies (carriers (turned_set k s)) g → (h : Form) × Lies (carriers s) h × (g ≡ turned_form k h)
+
+abbrev pub SamePlaneTurned : Type 0
+SamePlaneTurned = (k : ℕ) (g h : Form) → SamePlane (turned_form k g) (turned_form k h) ↔ SamePlane g h
+
+abbrev pub CarriersTurned : Type 0
+CarriersTurned = (k : ℕ) (s : Set) (gs hs : List Form) → Carriers s gs → AreTurnedPlanes k gs hs → Carriers (turned_set k s) hs
+
+-- the turned vertices, before they are paired
+abbrev pub VerticesTurned : Type 0
+VerticesTurned = (k : ℕ) (s : Set) (us vs : List Vertex) → ShowsVertices s us → AreTurnedVertices k us vs → ShowsVertices (turned_set k s) vs
+
+-- a turned complex shows the turned set
+abbrev pub ShowsTurned : Type 0
+ShowsTurned = (k : ℕ) (s : Set) (C D : Complex) → Shows s C → IsTurnedComplex k C D → Shows (turned_set k s) D
+
+-- of each complex that shows a set there are turned planes and vertices, in order
+abbrev pub TurnedPlanesExist : Type 0
+TurnedPlanesExist = (k : ℕ) (gs : List Form) → (hs : List Form) × AreTurnedPlanes k gs hs
+
+abbrev pub TurnedVerticesExist : Type 0
+TurnedVerticesExist = (k : ℕ) (s : Set) (C : Complex) → Shows s C → (vs : List Vertex) × AreTurnedVertices k C.vertices vs
+
+-- ---- the program's complexes
+-- a turned map of a least map of the program is one
+abbrev pub LeastMapTurned : Type 0
+LeastMapTurned = (k : ℕ) (m n : SphereMap) → IsLeastMap m → IsTurnedMap k (map_of m) (map_of n) → Ordered (map_of n) → IsLeastMap n
+
+-- the turned planes and vertices, paired, are a complex that shows the turned set
+abbrev pub PairedTurned : Type 0
+PairedTurned = (k : ℕ) (s : Set) (c : ProgramComplex) (hs : List Plane) (vs : List ProgramVertex) → ShowsSet s c → AreTurnedPlanes k (map form_of c.carriers) (map form_of hs)
+    → AreTurnedVertices k (map vertex_of c.vertices) (map vertex_of vs) → AreVerticesOf (turned_set k s) hs vs

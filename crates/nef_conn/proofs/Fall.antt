@@ -1,0 +1,242 @@
+-- In a plane that holds up: an edge that leaves a point to the side of b, beside no vertex, runs under b or over it; where the points between are free it runs under b, and what falls from b comes down to it.
+use Rattle.std.proofs.Common.{◌≡◌, ℕ, ℤ, pos, ◌+ℤ◌, ◌-ℤ◌, ◌*ℤ◌, ◌<ℤ◌, ◌≤ℤ◌, arith, ap, sym, ◌∙◌, ◌⊎◌, inl, inr, ⊎_elim, [], ◌∷◌, subst}
+use Rattle.std.proofs.lemmas.Int.{ints}
+use Rattle.law_arithmetic.proofs.Ring.{ring, at, num, ◌⊕◌, ◌⊖◌, ◌⊗◌}
+use Rattle.law_arithmetic.proofs.Order.{by_order}
+use Rattle.law_arithmetic.proofs.Combination.{given, none, follows}
+use Rattle.law_sphere.proofs.Shot.{product-off}
+use Rattle.law_sphere.proofs.NearItems.{opposite-turned}
+use Rattle.law_complex.proofs.FacetEdges.{ahead-back}
+use Rattle.law_complex.proofs.FacetSides.{level-way}
+use Rattle.nef_space.specs.Local.{Flat, FlatDim, IsVertex}
+use Rattle.nef_space.specs.Place.{Place, Form, form_at, normal_of, slope, SamePlace, Within, toward, IsBetween}
+use Rattle.nef_space.specs.Sets.{Set}
+use Rattle.nef_space.specs.Vectors.{Vector, blend, opposite, cross, triple, IsZero, IsDirection, SameDirection, up}
+use Rattle.law_near.specs.Cells.{carriers}
+use Rattle.law_near.specs.Laws.{EdgeAround}
+use Rattle.law_near.proofs.Alike.{FlatDim-one}
+use Rattle.law_near.proofs.Between.{between-turned, between-inner, mixed-of, ray-cell}
+use Rattle.law_near.proofs.Decisions.{ahead}
+use Rattle.law_near.proofs.Edges.{start-close, start-toward, edge-around}
+use Rattle.law_near.proofs.Even.{flat-nearby, flat-toward}
+use Rattle.law_near.proofs.Flats.{Flat-from_cone, FlatCone-from_flat}
+use Rattle.law_near.proofs.Rays.{same-place_sym}
+use Rattle.law_near.proofs.Skeleton.{flat_dim-nearby}
+use Rattle.law_forms.proofs.Near.{reach_all}
+use Rattle.law_forms.proofs.Between.{toward-place, place-toward}
+use Rattle.law_forms.proofs.Directions.{dot-zero, zero-decided, factor-same, direction-left, direction-right}
+use Rattle.law_forms.proofs.Far.{same-nought, nought-or}
+use Rattle.law_sphere.proofs.Around.{Beside, same_way, other_way, beside, triple-turned}
+use Rattle.law_sphere.proofs.Compare.{SameDirection-turned, SameDirection-trans}
+use Rattle.law_sphere.proofs.Parallel.{parallel-in_plane}
+use Rattle.law_sphere.proofs.Turn.{turn-last}
+use Rattle.law_sphere.proofs.Vectors.{same-plus}
+use Rattle.law_complex.specs.Laws.{IsFlatIn}
+use Rattle.law_complex.proofs.Edges.{near_point, near-between}
+use Rattle.law_complex.proofs.FacetAngles.{between-level}
+use Rattle.law_complex.proofs.FacetTriangle.{HalfEdge, plane-between, below-or}
+use Rattle.law_complex.proofs.FacetWays.{dim-same, plane-onward}
+use Rattle.law_complex.proofs.Planes.{plane-way}
+use Rattle.law_complex.proofs.Ways.{between-way, between-cases, same-itself}
+use Rattle.law_links.proofs.EdgeEnds.{opposite-way}
+use Rattle.law_links.proofs.Ties.{ahead-way, dim-cell}
+use Rattle.nef_conn.proofs.Triangles.{cut-up}
+use Rattle.nef_conn.proofs.Fans.{off-close, off-dim}
+use Rattle.nef_conn.proofs.Near.{Wedge}
+use Rattle.nef_conn.proofs.Planar.{half-to, around-halves, across-way, ends-level}
+use Rattle.nef_conn.proofs.VolumeStrip.{lam, up_line, lam-at, lam-turned, lam-sum, down-turn, Clear}
+
+-- ---- where an edge comes to a corner of a triangle
+module _ (t : Set) (a x : Place) (apart : SamePlace a x → ⊥) (edge : (r : Place) → IsBetween x r a → FlatDim t r 1) where
+  some : IsDirection (toward a x)
+  some z = apart (toward-place a x z)
+
+  abbrev q : Place
+  q = near_point t a x
+
+  one : FlatDim t q 1
+  one = edge q (between-turned a x q (near-between t a x some))
+
+  -- it doesn't come to a point of a facet
+  pub corner-two : FlatDim t a 2 → ⊥
+  corner-two two = let l = flat_dim-nearby t a q (start-close (reach_all (carriers t) a) a x) 1 2 two one in absurd (omega arith)
+
+  -- nor from where all directions are within a facet
+  pub corner-wedge : (b c : Place) → IsBetween b x c → Wedge t 2 a (toward a b) (toward a c) → ⊥
+  corner-wedge b c m all =
+      let u = mixed-of b x c m in
+      let there = subst (λ (v : Vector). FlatDim t (ahead t a v) 1) (start-toward (reach_all (carriers t) a) a x) (off-dim t a q 1 (off-close t a q (start-close (reach_all (carriers t) a) a x)) one) in
+      let way = factor-same (toward a x) (blend u.i (toward a b) u.j (toward a c)) (record {
+        k = u.k;
+        l = 1;
+        some_k = u.some_k;
+        some_l = omega arith;
+        is_x = each u.k u.i u.j a.w x.w b.w c.w a.x x.x b.x c.x u.sum.is_x u.sum.is_w;
+        is_y = each u.k u.i u.j a.w x.w b.w c.w a.y x.y b.y c.y u.sum.is_y u.sum.is_w;
+        is_z = each u.k u.i u.j a.w x.w b.w c.w a.z x.z b.z c.z u.sum.is_z u.sum.is_w;
+        is_w = ring (pos u.k ∷ []) (at 0 ⊗ num (pos 0)) (num (pos 1) ⊗ num (pos 0)) tt;
+      }) some in
+      let e = FlatDim-one t (ahead t a (blend u.i (toward a b) u.j (toward a c))) 1 2
+      (dim-cell t (ahead t a (toward a x)) (ahead t a (blend u.i (toward a b) u.j (toward a c))) 1 (ahead-way t a (toward a x) (blend u.i (toward a b) u.j (toward a c)) way) there) (all u.i u.j u.some_i u.some_j) in
+      cc
+    where
+      each : (k i j aw xw bw cw : ℕ) (a x b c : ℤ) → pos k *ℤ x ≡ pos i *ℤ b +ℤ pos j *ℤ c → pos k *ℤ pos xw ≡ pos i *ℤ pos bw +ℤ pos j *ℤ pos cw
+          → pos k *ℤ (x *ℤ pos aw -ℤ a *ℤ pos xw) ≡ pos 1 *ℤ (pos i *ℤ (b *ℤ pos aw -ℤ a *ℤ pos bw) +ℤ pos j *ℤ (c *ℤ pos aw -ℤ a *ℤ pos cw))
+      each k i j aw xw bw cw a x b c e w = follows (pos k ∷ pos i ∷ pos j ∷ pos aw ∷ pos xw ∷ pos bw ∷ pos cw ∷ a ∷ x ∷ b ∷ c ∷ [])
+          (at 0 ⊗ (at 8 ⊗ at 3 ⊖ at 7 ⊗ at 4)) (num (pos 1) ⊗ (at 1 ⊗ (at 9 ⊗ at 3 ⊖ at 7 ⊗ at 5) ⊕ at 2 ⊗ (at 10 ⊗ at 3 ⊖ at 7 ⊗ at 6)))
+          (given (at 3) (at 0 ⊗ at 8) (at 1 ⊗ at 9 ⊕ at 2 ⊗ at 10) e (given (num (pos 0) ⊖ at 7) (at 0 ⊗ at 4) (at 1 ⊗ at 5 ⊕ at 2 ⊗ at 6) w none)) tt
+
+  -- nor across an edge from it
+  pub corner-edge : (c : Place) → FlatDim t a 1 → IsDirection (toward a c) → ((r : Place) → IsBetween a r c → FlatDim t r 1) → IsZero (cross (toward a c) (toward a x))
+  corner-edge c dim i all =
+      let close = start-close (reach_all (carriers t) a) a x in
+      let K = half-to t a c i dim all in
+      let one-way = Flat-from_cone t q (toward a c) (flat-nearby t a q close (toward a c) (FlatCone-from_flat t a (toward a c) K.flat)) in
+      let other = Flat-from_cone t q (toward a q) (flat-toward t a q close) in
+      let z = ⊎_elim (λ z. z) (λ n. absurd (one.1 (toward a c, toward a q, n, one-way, other))) (zero-decided (cross (toward a c) (toward a q))) in
+      subst (λ (v : Vector). IsZero (cross (toward a c) v)) (start-toward (reach_all (carriers t) a) a x) z
+
+pub cross-zero : (u v : Vector) → IsZero v → IsZero (cross u v)
+cross-zero u v z = (each u.y u.z z.1 z.2, each u.z u.x z.2 z.0, each u.x u.y z.0 z.1)
+  where
+    each : (a b : ℤ) {x y : ℤ} → x ≡ pos 0 → y ≡ pos 0 → a *ℤ y -ℤ b *ℤ x ≡ pos 0
+    each a b {x} {y} e f = ap (λ r. a *ℤ r -ℤ b *ℤ x) f ∙ ap (λ r. a *ℤ pos 0 -ℤ b *ℤ r) e ∙ ring (a ∷ b ∷ []) (at 0 ⊗ num (pos 0) ⊖ at 1 ⊗ num (pos 0)) (num (pos 0)) tt
+
+pub lam-zero : (n : Vector) (p q : Place) → IsZero (toward p q) → lam n p q ≡ pos 0
+lam-zero n p q z = dot-zero n (cross up (toward p q)) (cross-zero up (toward p q) z)
+
+pub lam-self : (n : Vector) (p : Place) → lam n p p ≡ pos 0
+lam-self n p = lam-zero n p p (place-toward p p (same-itself p))
+
+cancel-positive : (k x : ℤ) → pos 0 <ℤ k → k *ℤ x ≡ pos 0 → x ≡ pos 0
+cancel-positive k x l e = ⊎_elim (λ z. z) (λ m. absurd (product-off k x l m e)) (nought-or x)
+
+-- points on one line along up
+pub lam-chain : (n : Vector) (y b c : Place) → lam n y b ≡ pos 0 → lam n b c ≡ pos 0 → lam n y c ≡ pos 0
+lam-chain n y b c e f = plain (lam n y c) (lam n y b) (lam n b c) (lam-sum n y b c) e f
+  where
+    plain : (g a d : ℤ) → pos b.w *ℤ g ≡ pos c.w *ℤ a +ℤ pos y.w *ℤ d → a ≡ pos 0 → d ≡ pos 0 → g ≡ pos 0
+    plain g a d q e f = cancel-positive (pos b.w) g (let k = b.proper in omega (arith, ints)) (q ∙ ap (λ r. pos c.w *ℤ r +ℤ pos y.w *ℤ d) e ∙ ap (λ r. pos c.w *ℤ pos 0 +ℤ pos y.w *ℤ r) f
+        ∙ ring (pos c.w ∷ pos y.w ∷ []) (at 0 ⊗ num (pos 0) ⊕ at 1 ⊗ num (pos 0)) (num (pos 0)) tt)
+
+-- what lies below lies on the line
+pub lam-down : (n : Vector) (p q : Place) → SameDirection (toward p q) (opposite up) → lam n p q ≡ pos 0
+lam-down n p q down = same-nought (triple n up up) (lam n p q) (down-turn n up (toward p q) down) (let f = triple-turned n up up in omega (arith, ints))
+
+-- ---- edges that run past b's line
+module _ (t : Set) (h : Form) (hn : IsDirection (normal_of h)) (level : slope h up ≡ pos 0) where
+  abbrev n : Vector
+  n = normal_of h
+
+  -- an edge from y, to its point on the line of b
+  pub record Run (y b : Place) (g : Vector) : Type 0 where
+    pub place : Place
+    pub on : form_at h place ≡ pos 0
+    pub line : lam n b place ≡ pos 0
+    pub way : SameDirection (toward y place) g
+    pub before : (r : Place) → IsBetween y r place → FlatDim t r 1
+    pub here : FlatDim t place 1
+
+  module _ (y b : Place) (on-y : form_at h y ≡ pos 0) (on-b : form_at h b ≡ pos 0) (side : pos 0 <ℤ lam n y b) (clear : Clear t h hn level y b) where
+    -- what ends beyond y's line ends beyond b's
+    run-to : (c : Place) → IsVertex t c → form_at h c ≡ pos 0 → IsDirection (toward y c) → pos 0 <ℤ lam n y c → ((r : Place) → IsBetween y r c → FlatDim t r 1) → Run y b (toward y c)
+    run-to c vertex on i l all =
+        let k = cut-up (up_line n b) y c i low high in
+        record {
+          place = k.place;
+          on = plane-between h y k.place c k.between on-y on;
+          line = sym (lam-at n b k.place) ∙ k.level;
+          way = between-way y k.place c k.between;
+          before = λ r d. all r (between-inner y k.place c r k.between d);
+          here = all k.place k.between;
+        }
+      where
+        low : form_at (up_line n b) y <ℤ pos 0
+        low = let e = lam-at n b y in let f = lam-turned n y b in let s = side in omega (arith, ints)
+
+        past : (lam n c b <ℤ pos 0) ⊎ (pos 0 ≤ℤ lam n c b) → pos 0 <ℤ lam n b c
+        past (inl m) = let f = lam-turned n c b in omega (arith, ints)
+        past (inr m) = absurd (clear c vertex on l m)
+
+        high : pos 0 <ℤ form_at (up_line n b) c
+        high = let e = lam-at n b c in let m = past (below-or (lam n c b)) in omega (arith, ints)
+
+    -- an edge through y, which what falls to y from above doesn't run along
+    module _ (top : Place) (on-top : form_at h top ≡ pos 0) (down : SameDirection (toward top y) (opposite up)) (F : IsFlatIn t h top) (all : (r : Place) → IsBetween top r y → FlatDim t r 2) (one : FlatDim t y 1) where
+      pub run-edge : (g : Vector) × Run y b g
+      run-edge = by_order (lam n y E.source) (pos 0)
+          (λ l. (toward y E.target, run-to E.target E.target_is_vertex ends.1 halves.1.leads (higher l) (λ r d. halves.1.all r d)))
+          (λ e. absurd (vertical e))
+          (λ l. (toward y E.source, run-to E.source E.source_is_vertex ends.0 halves.0.leads l (λ r d. halves.0.all r d)))
+        where
+          E : EdgeAround t y
+          E = edge-around t y one
+
+          halves : HalfEdge t y E.source × HalfEdge t y E.target
+          halves = around-halves t y E
+
+          i : IsDirection (toward top y)
+          i = direction-left (toward top y) (opposite up) down
+
+          ends : (form_at h E.source ≡ pos 0) × (form_at h E.target ≡ pos 0)
+          ends = ends-level t h top y i F all on-y E
+
+          higher : lam n y E.source <ℤ pos 0 → pos 0 <ℤ lam n y E.target
+          higher l =
+              let e = lam-at n y E.source in
+              let f = lam-at n y E.target in
+              let m = between-level (up_line n y) E.source y E.target E.between (lam-at n y y ∙ lam-self n y) (omega (arith, ints)) in
+              omega (arith, ints)
+
+          vertical : lam n y E.source ≡ pos 0 → ⊥
+          vertical e =
+              let o = lam-chain n top y E.source (lam-down n top y down) e in
+              let z = same-nought (lam n top E.source) (triple n (toward top E.source) (toward top y)) (down-turn n (toward top E.source) (toward top y) down) o in
+              let w = triple-turned n (toward top y) (toward top E.source) in
+              across-way t top y E.source i all halves.0 (parallel-in_plane n (toward top y) (toward top E.source) hn (plane-way h top y on-top on-y) (plane-way h top E.source on-top ends.0) (omega (arith, ints)))
+
+    -- an edge that leaves y toward a point close to it
+    module _ (q : Place) (on-q : form_at h q ≡ pos 0) (close : Within (reach_all (carriers t) y) y q) (one : FlatDim t q 1) (aside : pos 0 <ℤ lam n y q) where
+      to-q : IsDirection (toward y q)
+      to-q o = let e = lam-zero n y q o in let l = aside in omega (arith, ints)
+
+      flat-q : Flat t q (toward y q)
+      flat-q = Flat-from_cone t q (toward y q) (flat-toward t y q close)
+
+      end : (c : Place) → IsVertex t c → HalfEdge t q c → SameDirection (toward y q) (toward q c) → Run y b (toward y q)
+      end c vertex K w =
+          let on-c = plane-onward h q c (level-way n (toward y q) (toward q c) w (plane-way h y q on-y on-q)) on-q in
+          let to-c = between-way y q c w in
+          let l = same-plus (lam n y q) (lam n y c) (turn-last n up (toward y q) (toward y c) to-c) aside in
+          let R = run-to c vertex on-c (direction-right (toward y q) (toward y c) to-c) l
+          (λ r d. ⊎_elim (λ m. dim-cell t q r 1 (ray-cell (carriers t) y q r close m) one)
+          (λ o. ⊎_elim (λ m. dim-same t q r 1 (same-place_sym r q m) one) (λ m. K.all r m) o) (between-cases y q c r w d)) in
+          record {
+            place = R.place;
+            on = R.on;
+            line = R.line;
+            way = SameDirection-trans (toward y R.place) (toward y c) (toward y q) R.way (SameDirection-turned (toward y q) (toward y c) to-c);
+            before = R.before;
+            here = R.here;
+          }
+
+      pub run-near : Run y b (toward y q)
+      run-near = by (beside (toward y q) (toward q E.target) to-q halves.1.leads (parallel (toward q E.target) halves.1.flat))
+        where
+          E : EdgeAround t q
+          E = edge-around t q one
+
+          halves : HalfEdge t q E.source × HalfEdge t q E.target
+          halves = around-halves t q E
+
+          parallel : (d : Vector) → Flat t q d → IsZero (cross (toward y q) d)
+          parallel d f = ⊎_elim (λ z. z) (λ m. absurd (one.1 (toward y q, d, m, flat-q, f))) (zero-decided (cross (toward y q) d))
+
+          by : Beside (toward y q) (toward q E.target) → Run y b (toward y q)
+          by (same_way w) = end E.target E.target_is_vertex halves.1 w
+          by (other_way o) = end E.source E.source_is_vertex halves.0
+              (SameDirection-trans (toward y q) (opposite (toward q E.target)) (toward q E.source) turned
+              (SameDirection-turned (toward q E.source) (opposite (toward q E.target)) (ahead-back E.source q (toward q E.target) E.between)))
+            where
+              turned : SameDirection (toward y q) (opposite (toward q E.target))
+              turned = SameDirection-turned (opposite (toward q E.target)) (toward y q) (opposite-way (toward q E.target) (toward y q) (opposite-turned (toward y q) (toward q E.target) o))

@@ -1,0 +1,163 @@
+-- The edge that leads from a svertex, seen from there.
+use Rattle.std.proofs.Common.{◌≡◌, ℕ, pos, refl, sym, ◌∙◌, ◌⊎◌, inl, inr, ⊎_elim, subst}
+use Rattle.nef_space.specs.Local.{Flat, FlatDim}
+use Rattle.nef_space.specs.Place.{Place, Form, form_at, toward, IsBetween}
+use Rattle.nef_space.specs.Sets.{Set}
+use Rattle.nef_space.specs.Vectors.{Vector, opposite, SameDirection}
+use Rattle.law_near.proofs.Between.{between-turned}
+use Rattle.law_sphere.specs.Maps.{At, Svertex, Arc, arc_item, way_of}
+use Rattle.law_sphere.proofs.Lists.{at-one}
+use Rattle.law_sphere.proofs.Shot.{arc-at}
+use Rattle.law_sphere.proofs.Compare.{SameDirection-turned, SameDirection-trans}
+use Rattle.law_complex.specs.Complexes.{Vertex, Edge, Complex, Corner, HasEnds, IsCorner}
+use Rattle.law_complex.specs.Shows.{Shows}
+use Rattle.law_complex.specs.Skeleton.{IsEdgePoint, LiesIn}
+use Rattle.law_complex.proofs.Edges.{edge-points, edge-way}
+use Rattle.law_complex.proofs.Joining.{svertex-edge}
+use Rattle.law_complex.proofs.FacetAngles.{cross-back}
+use Rattle.law_complex.proofs.FacetEdges.{ahead-back}
+use Rattle.law_links.specs.Links.{FacetLink}
+use Rattle.law_links.proofs.EdgeEnds.{edge-ways, opposite-way}
+use Rattle.nef_conn.proofs.WayInward.{opposite-same}
+use Rattle.nef_conn.proofs.Named.{twice}
+
+-- an edge leads from svertex a of vertex i, which is v, whose svertex u is, to the svertex there_end of the vertex there, which is other
+pub record Leads (s : Set) (C : Complex) (i a : ℕ) (v : Vertex) (u : Svertex) : Type 0 where
+  pub number : ℕ
+  pub edge : Edge
+  pub listed : At C.edges number edge
+  pub there : ℕ
+  pub there_end : ℕ
+  pub other : Vertex
+  pub end : Svertex
+  pub is_there : At C.vertices there other
+  pub is_end : At other.map.svertices there_end end
+  pub onward : SameDirection (toward v.point other.point) u.way
+  pub back : SameDirection (opposite u.way) end.way
+  pub along : (r : Place) → IsBetween v.point r other.point → FlatDim s r 1 × Flat s r (toward v.point other.point)
+  pub which : ((edge.low ≡ i) × (edge.low_svertex ≡ a) × (edge.high ≡ there) × (edge.high_svertex ≡ there_end) × HasEnds C edge v other)
+      ⊎ ((edge.high ≡ i) × (edge.high_svertex ≡ a) × (edge.low ≡ there) × (edge.low_svertex ≡ there_end) × HasEnds C edge other v)
+
+module _ (s : Set) (C : Complex) (S : Shows s C) (i a : ℕ) (v : Vertex) (u : Svertex) (at-i : At C.vertices i v) (at-a : At v.map.svertices a u) where
+  from-low : (n : ℕ) (e : Edge) → At C.edges n e → e.low ≡ i → e.low_svertex ≡ a → Leads s C i a v u
+  from-low n e at-n low sv =
+      let E = S.edges.edges n e at-n in
+      let w = E.high_vertex in
+      let H : HasEnds C e v w = record { low = subst (λ (j : ℕ). At C.vertices j v) (sym low) at-i; high = E.is_high } in
+      let W = edge-ways s C S n e v w at-n H in
+      let one = at-one v.map.svertices a W.low u (subst (λ (j : ℕ). At v.map.svertices j W.low) sv W.is_low) at-a in
+      record {
+        number = n;
+        edge = e;
+        listed = at-n;
+        there = e.high;
+        there_end = e.high_svertex;
+        other = w;
+        end = W.high;
+        is_there = E.is_high;
+        is_end = W.is_high;
+        onward = subst (λ (t : Svertex). SameDirection (toward v.point w.point) t.way) one W.onward;
+        back = subst (λ (t : Svertex). SameDirection (opposite t.way) W.high.way) one (opposite-way W.low.way W.high.way W.back);
+        along = λ r b. let P = edge-points s C n e v w r S at-n H b in (P.0, (P.1 (toward v.point w.point)).1 (edge-way s C n e v w S at-n H));
+        which = inl (low, sv, refl, refl, H);
+      }
+
+  from-high : (n : ℕ) (e : Edge) → At C.edges n e → e.high ≡ i → e.high_svertex ≡ a → Leads s C i a v u
+  from-high n e at-n high sv =
+      let E = S.edges.edges n e at-n in
+      let w = E.low_vertex in
+      let H : HasEnds C e w v = record { low = E.is_low; high = subst (λ (j : ℕ). At C.vertices j v) (sym high) at-i } in
+      let W = edge-ways s C S n e w v at-n H in
+      let one = at-one v.map.svertices a W.high u (subst (λ (j : ℕ). At v.map.svertices j W.high) sv W.is_high) at-a in
+      let away = opposite-way W.low.way W.high.way W.back in
+      record {
+        number = n;
+        edge = e;
+        listed = at-n;
+        there = e.low;
+        there_end = e.low_svertex;
+        other = w;
+        end = W.low;
+        is_there = E.is_low;
+        is_end = W.is_low;
+        onward = subst (λ (t : Svertex). SameDirection (toward v.point w.point) t.way) one (SameDirection-trans (toward v.point w.point) (opposite W.low.way) W.high.way (ahead-back w.point v.point W.low.way W.onward) away);
+        back = subst (λ (t : Svertex). SameDirection (opposite t.way) W.low.way) one
+            (subst (λ (d : Vector). SameDirection (opposite W.high.way) d) (twice W.low.way) (opposite-same W.high.way (opposite W.low.way) (SameDirection-turned (opposite W.low.way) W.high.way away)));
+        along = λ r b. let P = edge-points s C n e w v r S at-n H (between-turned v.point w.point r b) in (P.0, (P.1 (toward v.point w.point)).1 (cross-back (way_of w.map.svertices e.low_svertex) w.point v.point (edge-way s C n e w v S at-n H)));
+        which = inr (high, sv, refl, refl, H);
+      }
+
+  pub leads : Leads s C i a v u
+  leads = by (svertex-edge s C S i a v u at-i at-a)
+    where
+      by : ((n : ℕ) × (e : Edge) × At C.edges n e × (((e.low ≡ i) × (e.low_svertex ≡ a)) ⊎ ((e.high ≡ i) × (e.high_svertex ≡ a)))) → Leads s C i a v u
+      by (n, e, at-n, inl x) = from-low n e at-n x.0 x.1
+      by (n, e, at-n, inr x) = from-high n e at-n x.0 x.1
+
+-- what lies between its ends lies on the edge
+module _ (s : Set) (C : Complex) (i a : ℕ) (v : Vertex) (u : Svertex) (L : Leads s C i a v u) where
+  pub edge-point : (x : Place) → IsBetween v.point x L.other.point → IsEdgePoint C L.number x
+  edge-point x b = by L.which
+    where
+      by : ((L.edge.low ≡ i) × (L.edge.low_svertex ≡ a) × (L.edge.high ≡ L.there) × (L.edge.high_svertex ≡ L.there_end) × HasEnds C L.edge v L.other)
+          ⊎ ((L.edge.high ≡ i) × (L.edge.high_svertex ≡ a) × (L.edge.low ≡ L.there) × (L.edge.low_svertex ≡ L.there_end) × HasEnds C L.edge L.other v) → IsEdgePoint C L.number x
+      by (inl (p, q, r, t, H)) = (L.edge, v, L.other, L.listed, H, b)
+      by (inr (p, q, r, t, H)) = (L.edge, L.other, v, L.listed, H, between-turned v.point L.other.point x b)
+
+  pub edge-lies_in : (h : Form) → form_at h v.point ≡ pos 0 → form_at h L.other.point ≡ pos 0 → LiesIn C h L.number
+  edge-lies_in h on there = by L.which
+    where
+      by : ((L.edge.low ≡ i) × (L.edge.low_svertex ≡ a) × (L.edge.high ≡ L.there) × (L.edge.high_svertex ≡ L.there_end) × HasEnds C L.edge v L.other)
+          ⊎ ((L.edge.high ≡ i) × (L.edge.high_svertex ≡ a) × (L.edge.low ≡ L.there) × (L.edge.low_svertex ≡ L.there_end) × HasEnds C L.edge L.other v) → LiesIn C h L.number
+      by (inl (p, q, r, t, H)) = (L.edge, v, L.other, L.listed, H, on, there)
+      by (inr (p, q, r, t, H)) = (L.edge, L.other, v, L.listed, H, there, on)
+
+  -- an arc that ends at the svertex is linked along the edge with one that begins at the other, about one normal
+  pub link-of : (n : Vector) (k l : Corner) (c b : Arc) → k.vertex ≡ i → l.vertex ≡ L.there → IsCorner C k v (arc_item c) → IsCorner C l L.other (arc_item b) → SameDirection c.normal n → SameDirection b.normal n
+      → ((c.target ≡ a) × (b.source ≡ L.there_end)) ⊎ ((c.source ≡ a) × (b.target ≡ L.there_end)) → FacetLink C k l ⊎ FacetLink C l k
+  link-of n k l c b at-k at-l K M w x o = by L.which
+    where
+      at-c : At v.map.arcs k.item c
+      at-c = arc-at v.map.arcs v.map.loop k.item c K.item
+
+      at-b : At L.other.map.arcs l.item b
+      at-b = arc-at L.other.map.arcs L.other.map.loop l.item b M.item
+
+      by : ((L.edge.low ≡ i) × (L.edge.low_svertex ≡ a) × (L.edge.high ≡ L.there) × (L.edge.high_svertex ≡ L.there_end) × HasEnds C L.edge v L.other)
+          ⊎ ((L.edge.high ≡ i) × (L.edge.high_svertex ≡ a) × (L.edge.low ≡ L.there) × (L.edge.low_svertex ≡ L.there_end) × HasEnds C L.edge L.other v) → FacetLink C k l ⊎ FacetLink C l k
+      by (inl (p, q, r, t, H)) = inl (inl (record {
+        number = L.number;
+        edge = L.edge;
+        is_edge = L.listed;
+        from_low = at-k ∙ sym p;
+        to_high = at-l ∙ sym r;
+        along = record {
+          low_vertex = v;
+          high_vertex = L.other;
+          ends = H;
+          low_arc = c;
+          high_arc = b;
+          is_low = at-c;
+          is_high = at-b;
+          one_normal = SameDirection-trans c.normal n b.normal w (SameDirection-turned b.normal n x);
+          one_way = ⊎_elim (λ z. inr (z.0 ∙ sym q, z.1 ∙ sym t)) (λ z. inl (z.0 ∙ sym q, z.1 ∙ sym t)) o;
+        };
+      }))
+      by (inr (p, q, r, t, H)) = inr (inl (record {
+        number = L.number;
+        edge = L.edge;
+        is_edge = L.listed;
+        from_low = at-l ∙ sym r;
+        to_high = at-k ∙ sym p;
+        along = record {
+          low_vertex = L.other;
+          high_vertex = v;
+          ends = H;
+          low_arc = b;
+          high_arc = c;
+          is_low = at-b;
+          is_high = at-c;
+          one_normal = SameDirection-trans b.normal n c.normal x (SameDirection-turned c.normal n w);
+          one_way = ⊎_elim (λ z. inl (z.1 ∙ sym t, z.0 ∙ sym q)) (λ z. inr (z.1 ∙ sym t, z.0 ∙ sym q)) o;
+        };
+      }))

@@ -1,0 +1,289 @@
+-- The facet beside an item has a point that names, by the ray inward, a corner of the item's class.
+--
+-- Let d be the way inward of an item, and f the opposite way. One of three cases holds of the item:
+-- * d lies on it. Then a point close to the vertex toward d names what the link across the facet leads to.
+-- * an arc begins or ends at a svertex on whose side f lies. Then a point close to the edge of the svertex, off it toward f, first meets that edge
+--   and names the arc at its lower end, which is this one or linked with it along the edge.
+-- * an arc ends at the svertex of d. Then the arc at the other end of the edge is linked with it, has the same plane, and lies further along d, where
+--   the number of its vertex is greater for each such step, or smaller for each. So this comes to an end, by induction on the vertices left.
+use Rattle.std.proofs.Common.{◌≡◌, ℕ, pos, ◌<ℤ◌, arith, refl, sym, ◌∙◌, ◌⊎◌, inl, inr, ⊎_elim, [], ◌∷◌, subst}
+use Rattle.std.proofs.lemmas.Int.{ints}
+use Rattle.nef_space.specs.Lists.{Chained}
+use Rattle.nef_space.specs.Local.{FlatDim}
+use Rattle.nef_space.specs.Place.{Place, Form, form_at, normal_of, plane_through, SamePlace, toward, IsBetween}
+use Rattle.nef_space.specs.Sets.{Set}
+use Rattle.nef_space.specs.Vectors.{Vector, opposite, dot, triple, IsDirection, SameDirection, plane_dir}
+use Rattle.law_near.specs.Laws.{SameGerms}
+use Rattle.law_near.proofs.Alike.{FlatDim-by_germs}
+use Rattle.law_near.proofs.Decisions.{ahead}
+use Rattle.law_near.proofs.Even.{joined-germs, joined-turned, joined-both}
+use Rattle.law_near.proofs.Between.{between-turned}
+use Rattle.law_near.proofs.Flats.{vector-same}
+use Rattle.law_forms.proofs.Between.{place-toward}
+use Rattle.law_forms.proofs.Directions.{dot-zero, direction-left, direction-right}
+use Rattle.law_sphere.specs.Maps.{At, Arc, Item, arc_item, item_normal, way_of, OnItem}
+use Rattle.law_sphere.proofs.Vectors.{normal-is, same-plus, same-minus}
+use Rattle.law_sphere.proofs.Forms.{on-direction, on-level}
+use Rattle.law_sphere.proofs.Shot.{way-at, arc-at}
+use Rattle.law_sphere.proofs.Compare.{SameDirection-turned, SameDirection-trans, way-self}
+use Rattle.law_sphere.proofs.Turn.{turn-same, turn-last}
+use Rattle.law_complex.specs.Complexes.{Vertex, Edge, Complex, Corner, HasEnds, IsCorner}
+use Rattle.law_complex.specs.Shows.{Shows}
+use Rattle.law_complex.specs.Skeleton.{item_plane, PlaneMeet, meets_edge, Meets, IsFirstInPlane, IsArcOnSide, IsCornerAt}
+use Rattle.law_complex.specs.Laws.{IsFlatIn}
+use Rattle.law_complex.proofs.Cones.{FlatAre}
+use Rattle.law_complex.proofs.Ways.{between-way, between-cases, same-itself}
+use Rattle.law_complex.proofs.Edges.{near_point, near-between}
+use Rattle.law_complex.proofs.FacetSides.{level-way, flats-carried}
+use Rattle.law_complex.proofs.FacetWays.{plane-ahead, two-off, meets-on}
+use Rattle.law_complex.proofs.FacetPoints.{IsInFacetOf}
+use Rattle.law_complex.proofs.FacetEdges.{ahead-back}
+use Rattle.law_complex.proofs.FacetAngles.{through-at}
+use Rattle.law_complex.proofs.FacetNames.{weight, normal-scaled, through-level}
+use Rattle.law_complex.proofs.FacetEnds.{facet-behind}
+use Rattle.law_links.specs.Links.{LinkAcross, FacetLink}
+use Rattle.law_links.proofs.Ties.{ahead-toward, even-after, IsTied, tied-both, tied-ahead}
+use Rattle.law_links.proofs.NearVertex.{facet-near}
+use Rattle.law_links.proofs.ItemPoints.{at-item, item-has_point, one-item}
+use Rattle.law_links.proofs.ItemLinks.{items-joined}
+use Rattle.law_links.proofs.EdgeEnds.{EdgeWays, edge-ways, tied-low, EndsOnSide, end-level, close_way, on-close, tied-close_way}
+use Rattle.law_links.proofs.Across.{through-same}
+use Rattle.nef_conn.specs.Converse.{way_inward, NamesFor}
+use Rattle.nef_conn.proofs.Onward.{level-kept}
+use Rattle.nef_conn.proofs.WayInward.{on-too, opposite-same, names-same, dir-level, dir-some, dir-same}
+
+-- ---- chains
+pub chain-here : (C : Complex) (j : Corner) → Chained (FacetLink C) j j
+chain-here C j = ([], refl)
+
+pub chain-before : (C : Complex) (j k l : Corner) → FacetLink C j k ⊎ FacetLink C k j → Chained (FacetLink C) k l → Chained (FacetLink C) j l
+chain-before C j k l a (ys, c) = (k ∷ ys, (a, c))
+
+-- ---- planes
+own-plane : (n : Vector) (p : Place) → form_at (plane_through n p) p ≡ pos 0
+own-plane n p = through-at n p p ∙ dot-zero n (toward p p) (place-toward p p (same-itself p))
+
+pub twice : (d : Vector) → opposite (opposite d) ≡ d
+twice d = vector-same (opposite (opposite d)) d (omega (arith, ints)) (omega (arith, ints)) (omega (arith, ints))
+
+flats-in : (s : Set) (q p : Place) (n : Vector) → FlatDim s q 2 → FlatAre s q n → IsFlatIn s (plane_through n p) q
+flats-in s q p n two flat = (two, λ e. let l = through-level n e p in let f = flat e in (λ g. l.0 (f.0 g), λ z. f.1 (l.1 z)))
+
+-- the same side, by the same way
+pub side-same : (b : ℕ) (t f g : Vector) (a : Arc) → SameDirection f g → EndsOnSide b t f a → EndsOnSide b t g a
+side-same b t f g a w = ⊎_elim
+    (λ r. inl (r.0, same-plus (triple a.normal t f) (triple a.normal t g) (turn-last a.normal t f g w) r.1))
+    (λ r. inr (r.0, same-minus (triple a.normal t f) (triple a.normal t g) (turn-last a.normal t f g w) r.1))
+
+-- a point that does what is claimed of the item
+abbrev pub Reaches : Set → Complex → Corner → Vertex → Item → Type 0
+Reaches s C j v x = (q : Place) × (k : Corner) × NamesFor s C j v x q k × Chained (FacetLink C) j k
+
+-- ---- from a linked item of the same plane
+module _ (s : Set) (C : Complex) (S : Shows s C) (j : Corner) (v : Vertex) (x : Item) (K : IsCorner C j v x) (i : Corner) (w : Vertex) (y : Item) (L : IsCorner C i w y)
+    (link : FacetLink C j i ⊎ FacetLink C i j) (same : SameDirection (item_normal y) (item_normal x)) (on : form_at (item_plane v x) w.point ≡ pos 0) where
+  abbrev g : Form
+  g = item_plane w y
+
+  abbrev h : Form
+  h = item_plane v x
+
+  one-normal : SameDirection (normal_of g) (normal_of h)
+  one-normal =
+      let a = through-same (item_normal y) w.point (direction-left (item_normal y) (item_normal x) same) in
+      let b = through-same (item_normal x) v.point (direction-right (item_normal y) (item_normal x) same) in
+      SameDirection-trans (normal_of g) (item_normal y) (normal_of h) (SameDirection-turned (item_normal y) (normal_of g) a) (SameDirection-trans (item_normal y) (item_normal x) (normal_of h) same b)
+
+  pub carried : Reaches s C i w y → Reaches s C j v x
+  carried (q, k, N, chain) =
+      let on-q = on-too g h w.point (own-plane (item_normal y) w.point) on one-normal q N.on_plane in (
+        q,
+        k,
+        record {
+          on_plane = on-q;
+          flat = (
+            N.flat.0,
+            λ u. (
+              λ f. level-kept (normal_of g) (normal_of h) u one-normal ((N.flat.1 u).0 f),
+              λ z. (N.flat.1 u).1 (level-kept (normal_of h) (normal_of g) u (SameDirection-turned (normal_of g) (normal_of h) one-normal) z),
+            ),
+          );
+          joined = λ p a.
+              let m = item-has_point s C S i w y L in
+              joined-both s p m.0 q (items-joined s C j i p m.0 S (chain-before C j i i link (chain-here C i)) a m.1) (N.joined m.0 m.1);
+          named = names-same C g h q N.on_plane on-q one-normal (way_inward y) (way_inward x) (opposite-same (plane_dir (item_normal y)) (plane_dir (item_normal x)) (dir-same (item_normal y) (item_normal x) same)) k N.named;
+        },
+        chain-before C j i k link chain,
+      )
+
+-- ---- where the way inward lies on the item
+module _ (s : Set) (C : Complex) (S : Shows s C) (j : Corner) (v : Vertex) (x : Item) (K : IsCorner C j v x) (o : OnItem v.map x (way_inward x)) where
+  abbrev n : Vector
+  n = item_normal x
+
+  abbrev p : Place
+  p = v.point
+
+  abbrev d : Vector
+  d = way_inward x
+
+  abbrev q : Place
+  q = ahead s p d
+
+  abbrev plane : Form
+  plane = item_plane v x
+
+  pub F : IsInFacetOf s x q
+  F = facet-near s C S j v x K d o
+
+  to-q : SameDirection (toward p q) d
+  to-q = ahead-toward s p d (on-direction v.map x d o)
+
+  pub on-q : form_at plane q ≡ pos 0
+  on-q = through-at n p q ∙ level-way n d (toward p q) (SameDirection-turned (toward p q) d to-q) (on-level v.map x d o)
+
+  flat-q : IsFlatIn s plane q
+  flat-q = flats-in s q p n F.dim F.flat
+
+  pub found : (m : PlaneMeet) × IsFirstInPlane C plane q d m × ((k : Corner) × IsCornerAt C plane (opposite d) m k)
+  found = facet-behind s C S plane q (normal-scaled n (pos p.w) (weight p) ((S.cones j.vertex v K.vertex).valid.shaped.normals j.item x K.item)) on-q d (on-direction v.map x d o)
+      ((through-level n d p).0 (on-level v.map x d o)) flat-q
+
+  pub from-vertex : (m : PlaneMeet) → IsFirstInPlane C plane q d m → IsFirstInPlane C plane p d m
+  from-vertex m I = record {
+    place = I.place;
+    ahead = SameDirection-trans (toward p I.place) (toward p q) d (SameDirection-turned (toward p q) (toward p I.place) (between-way p q I.place before)) to-q;
+    meets = I.meets;
+    first = λ r t b e. ⊎_elim (λ c. off r t (inl c) e) (⊎_elim (λ c. off r t (inr c) e) (λ c. I.first r t c e)) (between-cases p q I.place r before b);
+  }
+    where
+      before : IsBetween p q I.place
+      before = SameDirection-trans (toward p q) d (toward q I.place) to-q (SameDirection-turned (toward q I.place) d I.ahead)
+
+      off : (r : Place) (t : PlaneMeet) → IsBetween p r q ⊎ SamePlace r q → Meets C plane t r → ⊥
+      off r t b e = two-off s C S r (even-after s 2 p d F.dim r b) (meets-on s C S plane t r e)
+
+  pub onward-named : Reaches s C j v x
+  onward-named =
+      let m = found.0 in
+      let I = found.1 in
+      let k = found.2.0 in
+      let across : LinkAcross C j k = record { vertex = v; item = x; corner = K; inward = o; named = (m, from-vertex m I, found.2.1) } in (
+        q,
+        k,
+        record {
+          on_plane = on-q;
+          flat = flat-q;
+          joined = λ y a. (one-item s C S j y q a (at-item s C S j v x K d o)).0;
+          named = (m, I, found.2.1);
+        },
+        chain-before C j k k (inl (inr across)) (chain-here C k),
+      )
+
+-- ---- where the arc lies on the side of its edge to which the way back leads: at the lower end of the edge
+module _ (s : Set) (C : Complex) (S : Shows s C) (i : ℕ) (e : Edge) (at-i : At C.edges i e) (v w : Vertex) (H : HasEnds C e v w) (k : Corner) (c : Arc) (K : IsCorner C k v (arc_item c)) (low : k.vertex ≡ e.low) where
+  abbrev W : EdgeWays e v w
+  W = edge-ways s C S i e v w at-i H
+
+  abbrev u : Vector
+  u = W.low.way
+
+  abbrev f : Vector
+  f = opposite (way_inward (arc_item c))
+
+  abbrev z : Place
+  z = near_point s v.point w.point
+
+  abbrev y : Place
+  y = ahead s z f
+
+  abbrev sheet : Form
+  sheet = item_plane v (arc_item c)
+
+  n-some : IsDirection c.normal
+  n-some = normal-is (S.cones k.vertex v K.vertex).valid.shaped k.item (arc_item c) K.item
+
+  u-some : IsDirection u
+  u-some = direction-right (toward v.point w.point) u W.onward
+
+  amid : IsBetween v.point z w.point
+  amid = near-between s v.point w.point (direction-left (toward v.point w.point) u W.onward)
+
+  f-is : f ≡ plane_dir c.normal
+  f-is = twice (plane_dir c.normal)
+
+  level-f : dot c.normal f ≡ pos 0
+  level-f = subst (λ (r : Vector). dot c.normal r ≡ pos 0) (sym f-is) (dir-level c.normal)
+
+  f-some : IsDirection f
+  f-some = subst IsDirection (sym f-is) (dir-some c.normal n-some)
+
+  module _ (side : EndsOnSide e.low_svertex u f c) where
+    abbrev near : Vector
+    near = close_way s C S k v c K e.low_svertex W.low W.is_low f
+
+    on-near : OnItem v.map (arc_item c) near
+    on-near = on-close s C S k v c K e.low_svertex W.low W.is_low f level-f side
+
+    tied : IsTied s y (ahead s v.point near)
+    tied = tied-both s y (ahead s (ahead s v.point u) f) (ahead s v.point near) (tied-ahead s z (ahead s v.point u) f (tied-low s C S i e v w at-i H z amid))
+        (tied-close_way s C S k v c K e.low_svertex W.low W.is_low f)
+
+    G : IsInFacetOf s (arc_item c) (ahead s v.point near)
+    G = facet-near s C S k v (arc_item c) K near on-near
+
+    germs : SameGerms s (ahead s v.point near) y
+    germs = joined-germs s (ahead s v.point near) y (joined-turned s y (ahead s v.point near) tied.0)
+
+    two : FlatDim s y 2
+    two = FlatDim-by_germs s s (ahead s v.point near) y germs 2 G.dim
+
+    flat-y : IsFlatIn s sheet y
+    flat-y = flats-in s y v.point c.normal two (flats-carried s (ahead s v.point near) y c.normal germs G.flat)
+
+    level-u : dot c.normal u ≡ pos 0
+    level-u = end-level s C S k v c K e.low_svertex W.low W.is_low (⊎_elim (λ r. inl r.0) (λ r. inr r.0) side)
+
+    on-w : form_at sheet w.point ≡ pos 0
+    on-w = through-at c.normal v.point w.point ∙ level-way c.normal u (toward v.point w.point) (SameDirection-turned (toward v.point w.point) u W.onward) level-u
+
+    to-z : SameDirection (toward v.point z) u
+    to-z = SameDirection-trans (toward v.point z) (toward v.point w.point) u (between-way v.point z w.point amid) W.onward
+
+    on-z : form_at sheet z ≡ pos 0
+    on-z = through-at c.normal v.point z ∙ level-way c.normal u (toward v.point z) (SameDirection-turned (toward v.point z) u to-z) level-u
+
+    on-y : form_at sheet y ≡ pos 0
+    on-y = plane-ahead sheet z y f (ahead-toward s z f f-some) ((through-level c.normal f v.point).0 level-f) on-z
+
+    first-met : IsFirstInPlane C sheet y (way_inward (arc_item c)) (meets_edge i)
+    first-met = record {
+      place = z;
+      ahead = subst (λ (r : Vector). SameDirection (toward y z) r) (twice (way_inward (arc_item c))) (ahead-back z y f (ahead-toward s z f f-some));
+      meets = ((e, v, w, at-i, H, amid), (e, v, w, at-i, H, own-plane c.normal v.point, on-w));
+      first = λ r t b m. two-off s C S r (even-after s 2 z f two r (inl (between-turned y z r b))) (meets-on s C S sheet t r m);
+    }
+
+    on-side : IsArcOnSide v e.low_svertex (normal_of sheet) f c
+    on-side =
+        let way : way_of v.map.svertices e.low_svertex ≡ u = way-at v.map.svertices e.low_svertex W.low W.is_low in
+        let turn = turn-same c.normal (normal_of sheet) u u f f (through-same c.normal v.point n-some) (way-self u u-some) (way-self f f-some) in
+        ⊎_elim
+        (λ r. inl (r.0, subst (λ (t : Vector). pos 0 <ℤ triple (normal_of sheet) t f) (sym way) (same-plus (triple c.normal u f) (triple (normal_of sheet) u f) turn r.1)))
+        (λ r. inr (r.0, subst (λ (t : Vector). triple (normal_of sheet) t f <ℤ pos 0) (sym way) (same-minus (triple c.normal u f) (triple (normal_of sheet) u f) turn r.1))) side
+
+    corner-met : IsCornerAt C sheet f (meets_edge i) k
+    corner-met = (e, v, c, at-i, low, H.low, arc-at v.map.arcs v.map.loop k.item c K.item, through-same c.normal v.point n-some, on-side)
+
+    pub edge-named : Reaches s C k v (arc_item c)
+    edge-named = (
+      y,
+      k,
+      record {
+        on_plane = on-y;
+        flat = flat-y;
+        joined = λ r a. joined-both s r (ahead s v.point near) y (one-item s C S k r (ahead s v.point near) a (at-item s C S k v (arc_item c) K near on-near)).0 (joined-turned s y (ahead s v.point near) tied.0);
+        named = (meets_edge i, first-met, corner-met);
+      },
+      chain-here C k,
+    )

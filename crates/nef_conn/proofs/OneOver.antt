@@ -1,0 +1,247 @@
+-- Sides above one place, or above points of one edge or one facet, are linked.
+use Rattle.std.proofs.Common.{◌≡◌, ℕ, ◌≤◌, arith, ap, sym, ◌∙◌, ◌⊎◌, inl, inr, ⊎_elim, List, subst}
+use Rattle.std.proofs.lemmas.Int.{ints}
+use Rattle.std.proofs.lemmas.Bool.{cases_order}
+use Rattle.law_arithmetic.specs.Signs.{sign}
+use Rattle.nef_space.specs.Lists.{Chained}
+use Rattle.nef_space.specs.Local.{Flat, FlatDim, Joined, IsEven}
+use Rattle.nef_space.specs.Place.{Place, SamePlace, toward, IsBetween, IsPlaceBelow}
+use Rattle.nef_space.specs.Sets.{Set}
+use Rattle.nef_space.specs.Vectors.{Vector, blend, dot, cross, opposite, IsZero, IsDirection, IsNormal, SameDirection, zero_vector, up}
+use Rattle.law_near.specs.Cells.{carriers}
+use Rattle.law_near.proofs.Alike.{FlatDim-one, Flat-by_germs}
+use Rattle.law_near.proofs.Between.{between-turned, between-inner}
+use Rattle.law_near.proofs.Decisions.{ahead}
+use Rattle.law_near.proofs.Even.{even-germs}
+use Rattle.law_near.proofs.PlaceOrder.{place_below-apart}
+use Rattle.law_near.proofs.Rays.{signs-same, same-place_sym}
+use Rattle.law_forms.proofs.Between.{toward-place, between-same, place-factor, factor-place}
+use Rattle.law_forms.proofs.Sums.{same-trans}
+use Rattle.law_forms.specs.Homogeneous.{of_place}
+use Rattle.law_forms.proofs.Directions.{zero-decided, direction-left}
+use Rattle.law_forms.proofs.Far.{nought-or, same-nought}
+use Rattle.law_sphere.specs.Forms.{forms, SameSigns}
+use Rattle.law_sphere.specs.Maps.{At, above_item}
+use Rattle.law_sphere.proofs.Around.{Beside, same_way, other_way, beside}
+use Rattle.law_sphere.proofs.Compare.{SameDirection-turned, SameDirection-trans, normals-not_opposite, way-self}
+use Rattle.law_sphere.proofs.Generic.{amount, far-keeps, far-level}
+use Rattle.law_sphere.proofs.Labels.{way-signs}
+use Rattle.law_sphere.proofs.Lists.{at-one}
+use Rattle.law_complex.specs.Complexes.{Vertex, Edge, Complex, HasEnds}
+use Rattle.law_complex.specs.Shows.{Shows}
+use Rattle.law_complex.specs.Rays.{VertexSide}
+use Rattle.law_complex.proofs.Edges.{edge-points, edge-way}
+use Rattle.law_complex.proofs.FacetEdges.{ahead-back}
+use Rattle.law_complex.proofs.FacetWays.{dim-same}
+use Rattle.law_complex.proofs.Ways.{between-way, between-cases, same-itself}
+use Rattle.law_links.specs.Links.{VolumeLink}
+use Rattle.law_links.proofs.EdgeEnds.{edge-ways, opposite-way}
+use Rattle.law_sphere.proofs.NearItems.{opposite-turned}
+use Rattle.law_sphere.proofs.Vectors.{normal-direction}
+use Rattle.law_near.proofs.FlatDecided.{flat_dim-of}
+use Rattle.law_links.proofs.NearVertex.{facet-near}
+use Rattle.law_links.proofs.Ties.{joined-even, tied-turned, even-cell}
+use Rattle.nef_conn.specs.Converse.{AreLinkedWhereJoined}
+use Rattle.nef_conn.proofs.SameRay.{on-ray}
+use Rattle.nef_conn.proofs.Hits.{OverVertex, OverEdge, OverFacet, Over, over-item, side-is}
+use Rattle.law_near.proofs.Even.{joined-both}
+use Rattle.nef_conn.proofs.Planar.{half-to}
+use Rattle.nef_conn.proofs.RaysEnd.{tied-dim}
+use Rattle.nef_conn.proofs.Touch.{Seer, bound, same-seers, no-way}
+
+-- ---- order
+-- the way from a point to one above it in the order is a normal
+pub below-normal : (p q : Place) → IsPlaceBelow p q → IsNormal (toward p q)
+below-normal p q (inl h) = record { first = omega (arith, ints); second = λ e. omega (arith, ints); third = λ e f. omega (arith, ints) }
+below-normal p q (inr (a, inl h)) = record { first = omega (arith, ints); second = λ e. omega (arith, ints); third = λ e f. omega (arith, ints) }
+below-normal p q (inr (a, inr (c, inl h))) = record { first = omega (arith, ints); second = λ e. omega (arith, ints); third = λ e f. omega (arith, ints) }
+below-normal p q (inr (a, inr (c, inr h))) = absurd h.1
+
+-- ---- directions close to two vectors of one way
+pub ways-same : (gs : List Vector) (d e f : Vector) (k l : ℕ) → SameDirection d e → amount gs f ≤ k → amount gs f ≤ l → SameSigns gs (blend k d 1 f) (blend l e 1 f)
+ways-same gs d e f k l w h i g m = ⊎_elim
+    (λ z. far-level gs e f l i g (same-nought (dot g d) (dot g e) (way-signs d e g (direction-left d e w) w) z) ∙ sym (far-level gs d f k h g z))
+    (λ n. far-keeps gs e f l i g m (λ z. n (same-nought (dot g e) (dot g d) (sym (way-signs d e g (direction-left d e w) w)) z)) ∙ way-signs d e g (direction-left d e w) w ∙ sym (far-keeps gs d f k h g m n))
+    (nought-or (dot g d))
+
+-- ---- the lower ends of two edges on one line
+module _ (s : Set) (v w z v' w' z' : Place) (b : IsBetween v z w) (b' : IsBetween v' z' w') (same : SameDirection (toward v w) (toward v' w'))
+    (all : (r : Place) → IsBetween v r w → FlatDim s r 1) (all' : (r : Place) → IsBetween v' r w' → FlatDim s r 1) (zero : FlatDim s v 0) (zero' : FlatDim s v' 0) where
+  one-zero : (r : Place) → FlatDim s r 1 → FlatDim s r 0 → ⊥
+  one-zero r f g = let e = FlatDim-one s r 1 0 f g in absurd (omega arith)
+
+  to-low : SameDirection (toward z v) (opposite (toward v w))
+  to-low = ahead-back v z (toward v w) (between-way v z w b)
+
+  to-low' : SameDirection (toward z' v') (opposite (toward v w))
+  to-low' = ahead-back v' z' (toward v w) (SameDirection-trans (toward v' z') (toward v' w') (toward v w) (between-way v' z' w' b') (SameDirection-turned (toward v w) (toward v' w') same))
+
+  between-low' : (r : Place) → IsBetween z' r v' → FlatDim s r 1
+  between-low' r c = all' r (between-inner v' z' w' r b' (between-turned z' v' r c))
+
+  between-low : (r : Place) → IsBetween z r v → FlatDim s r 1
+  between-low r c = all r (between-inner v z w r b (between-turned z v r c))
+
+  -- where z comes first along the line
+  pub later-low : SameDirection (toward z z') (toward v w) → ((r : Place) → IsBetween z r z' → FlatDim s r 1) → SamePlace v v'
+  later-low to even = by (on-ray z' v v' (SameDirection-trans (toward z' v) (opposite (toward v w)) (toward z' v') back (SameDirection-turned (toward z' v') (opposite (toward v w)) to-low')))
+    where
+      first : IsBetween v z z'
+      first = SameDirection-trans (toward v z) (toward v w) (toward z z') (between-way v z w b) (SameDirection-turned (toward z z') (toward v w) to)
+
+      back : SameDirection (toward z' v) (opposite (toward v w))
+      back = ahead-back v z' (toward v w) (SameDirection-trans (toward v z') (toward v z) (toward v w) (SameDirection-turned (toward v z) (toward v z') (between-way v z z' first)) (between-way v z w b))
+
+      by : IsBetween z' v v' ⊎ (SamePlace v v' ⊎ IsBetween z' v' v) → SamePlace v v'
+      by (inl c) = absurd (one-zero v (between-low' v c) zero)
+      by (inr (inl e)) = e
+      by (inr (inr c)) = ⊎_elim
+          (λ d. absurd (one-zero v' (even v' (between-turned z' z v' d)) zero'))
+          (λ o. ⊎_elim (λ e. absurd (one-zero z (all z b) (dim-same s v' z 0 e zero'))) (λ d. absurd (one-zero v' (between-low v' d) zero')) o)
+          (between-cases z' z v v' (between-turned v z' z first) c)
+
+  pub same-low : SamePlace z z' → SamePlace v v'
+  same-low e = by (on-ray z' v v' (SameDirection-trans (toward z' v) (opposite (toward v w)) (toward z' v') back (SameDirection-turned (toward z' v') (opposite (toward v w)) to-low')))
+    where
+      moved : IsBetween v z' w
+      moved = between-same v z w v z' w (same-itself v) e (same-itself w) b
+
+      back : SameDirection (toward z' v) (opposite (toward v w))
+      back = ahead-back v z' (toward v w) (between-way v z' w moved)
+
+      by : IsBetween z' v v' ⊎ (SamePlace v v' ⊎ IsBetween z' v' v) → SamePlace v v'
+      by (inl c) = absurd (one-zero v (between-low' v c) zero)
+      by (inr (inl f)) = f
+      by (inr (inr c)) = absurd (one-zero v' (all v' (between-inner v z' w v' moved (between-turned z' v v' c))) zero')
+
+pub same-place_trans : (p q r : Place) → SamePlace p q → SamePlace q r → SamePlace p r
+same-place_trans p q r e f = factor-place p r (same-trans (of_place p) (of_place q) (of_place r) (place-factor p q e) (place-factor q r f))
+
+module _ (s : Set) (C : Complex) (S : Shows s C) where
+  -- ---- vertices
+  pub same-vertex : (i k : ℕ) (v w : Vertex) → At C.vertices i v → At C.vertices k w → SamePlace v.point w.point → i ≡ k
+  same-vertex i k v w a b e = ⊎_elim (λ g. g) (λ o. ⊎_elim
+      (λ l. absurd (place_below-apart v.point w.point (S.ordered i k v w l a b) e))
+      (λ l. absurd (place_below-apart w.point v.point (S.ordered k i w v l b a) (same-place_sym v.point w.point e))) o) (cases_order i k)
+
+  -- sides of one vertex, by whatever number and record
+  pub seers-linked : (i k : ℕ) (v w : Vertex) (x y : VertexSide) (d e f : Vector) (m n : ℕ) → At C.vertices i v → At C.vertices k w → i ≡ k → SameDirection d e → bound s v f ≤ m → bound s w f ≤ n
+      → Seer i v x (blend m d 1 f) → Seer k w y (blend n e 1 f) → Chained (VolumeLink C) x y
+  seers-linked i k v w x y d e f m n a b g same h l p q =
+      let b' = subst (λ (j : ℕ). At C.vertices j w) (sym g) b in
+      let one = at-one C.vertices i w v b' a in
+      let q' = subst (λ (u : Vertex). Seer i u y (blend n e 1 f)) one (subst (λ (j : ℕ). Seer j w y (blend n e 1 f)) (sym g) q) in
+      let l' = subst (λ (u : Vertex). bound s u f ≤ n) one l in
+      same-seers s C S i v a x y (blend m d 1 f) (blend n e 1 f) p q' (ways-same (forms v.map) d e f m n same (omega arith) (omega arith))
+
+  pub vertices-over : (z z' : Place) (x y : VertexSide) → SamePlace z z' → OverVertex s C S z x → OverVertex s C S z' y → Chained (VolumeLink C) x y
+  vertices-over z z' x y e (i, v, a, f, T) (k, w, b, g, U) =
+      let n = same-vertex i k v w a b (same-place_trans v.point z w.point f (same-place_trans z z' w.point e (same-place_sym w.point z' g))) in
+      let b' = subst (λ (j : ℕ). At C.vertices j w) (sym n) b in
+      let one = at-one C.vertices i w v b' a in
+      let q = subst (λ (u : Vertex). Seer i u y (blend U.steps zero_vector 1 up)) one (subst (λ (j : ℕ). Seer j w y (blend U.steps zero_vector 1 up)) (sym n) U.seer) in
+      same-seers s C S i v a x y (blend T.steps zero_vector 1 up) (blend U.steps zero_vector 1 up) T.seer q (λ h l. ap sign (ap (λ (r : Vector). dot h r) (no-way U.steps up ∙ sym (no-way T.steps up))))
+
+  -- ---- edges
+  edge-zero : (k : ℕ) (e : Edge) (v w : Vertex) → At C.edges k e → HasEnds C e v w → IsNormal (toward v.point w.point)
+  edge-zero k e v w a H = below-normal v.point w.point (S.ordered e.low e.high v w (let E = S.edges.edges k e a in E.upward) H.low H.high)
+
+  pub edges-over : (z z' : Place) (x y : VertexSide) → IsEven s 1 z z' → OverEdge s C S z x → OverEdge s C S z' y → Chained (VolumeLink C) x y
+  edges-over z z' x y even (k, e, v, w, a, H, b, T) (k', e', v', w', a', H', b', U) =
+      let W = edge-ways s C S k e v w a H in
+      let W' = edge-ways s C S k' e' v' w' a' H' in
+      let ways = SameDirection-trans W.low.way (toward v.point w.point) W'.low.way (SameDirection-turned (toward v.point w.point) W.low.way W.onward) (SameDirection-trans (toward v.point w.point) (toward v'.point w'.point) W'.low.way same W'.onward) in
+      seers-linked e.low e'.low v v' x y W.low.way W'.low.way up T.steps U.steps H.low H'.low (same-vertex e.low e'.low v v' H.low H'.low low) ways T.large U.large T.seer U.seer
+    where
+      one : FlatDim s z 1
+      one = (edge-points s C k e v w z S a H b).0
+
+      one' : FlatDim s z' 1
+      one' = (edge-points s C k' e' v' w' z' S a' H' b').0
+
+      all : (r : Place) → IsBetween v.point r w.point → FlatDim s r 1
+      all r c = (edge-points s C k e v w r S a H c).0
+
+      all' : (r : Place) → IsBetween v'.point r w'.point → FlatDim s r 1
+      all' r c = (edge-points s C k' e' v' w' r S a' H' c).0
+
+      flat : Flat s z (toward v.point w.point)
+      flat = let E = edge-points s C k e v w z S a H b in (E.1 (toward v.point w.point)).1 (edge-way s C k e v w S a H)
+
+      flat' : Flat s z (toward v'.point w'.point)
+      flat' =
+          let E = edge-points s C k' e' v' w' z' S a' H' b' in
+          let f = (E.1 (toward v'.point w'.point)).1 (edge-way s C k' e' v' w' S a' H') in
+          let g = even-germs s 1 z z' even in
+          Flat-by_germs s s z' z (λ d l. let i = g d l in (i.1, i.0)) (toward v'.point w'.point) f
+
+      parallel : (d f : Vector) → Flat s z d → Flat s z f → IsZero (cross d f)
+      parallel d f g h = ⊎_elim (λ i. i) (λ n. absurd (one.1 (d, f, n, g, h))) (zero-decided (cross d f))
+
+      same : SameDirection (toward v.point w.point) (toward v'.point w'.point)
+      same = by (beside (toward v.point w.point) (toward v'.point w'.point) (normal-direction (toward v.point w.point) n) (normal-direction (toward v'.point w'.point) n') (parallel (toward v.point w.point) (toward v'.point w'.point) flat flat'))
+        where
+          n : IsNormal (toward v.point w.point)
+          n = edge-zero k e v w a H
+
+          n' : IsNormal (toward v'.point w'.point)
+          n' = edge-zero k' e' v' w' a' H'
+
+          by : Beside (toward v.point w.point) (toward v'.point w'.point) → SameDirection (toward v.point w.point) (toward v'.point w'.point)
+          by (same_way o) = o
+          by (other_way o) = absurd (normals-not_opposite (toward v.point w.point) (toward v'.point w'.point) n n' o)
+
+      back : SameDirection (toward v'.point w'.point) (toward v.point w.point)
+      back = SameDirection-turned (toward v.point w.point) (toward v'.point w'.point) same
+
+      low : SamePlace v.point v'.point
+      low = ⊎_elim
+          (λ o. same-low s v.point w.point z v'.point w'.point z' b b' same all all' (S.vertices e.low v H.low) (S.vertices e'.low v' H'.low) (toward-place z z' o))
+          (λ i. by-way i (beside (toward v.point w.point) (toward z z') (normal-direction (toward v.point w.point) (edge-zero k e v w a H)) i (parallel (toward v.point w.point) (toward z z') flat (let h = half-to s z z' i one (λ r c. even r (inr (inl c))) in h.flat))))
+          (zero-decided (toward z z'))
+        where
+          by-way : IsDirection (toward z z') → Beside (toward v.point w.point) (toward z z') → SamePlace v.point v'.point
+          by-way i (same_way o) = later-low s v.point w.point z v'.point w'.point z' b b' same all all' (S.vertices e.low v H.low) (S.vertices e'.low v' H'.low) (SameDirection-turned (toward v.point w.point) (toward z z') o) (λ r c. even r (inr (inl c)))
+          by-way i (other_way o) = same-place_sym v'.point v.point (later-low s v'.point w'.point z' v.point w.point z b' b back all' all (S.vertices e'.low v' H'.low) (S.vertices e.low v H.low) turned (λ r c. even r (inr (inl (between-turned z' z r c)))))
+            where
+              turned : SameDirection (toward z' z) (toward v'.point w'.point)
+              turned = SameDirection-trans (toward z' z) (opposite (toward z z')) (toward v'.point w'.point) (ahead-back z z' (toward z z') (way-self (toward z z') i))
+                  (SameDirection-trans (opposite (toward z z')) (toward v.point w.point) (toward v'.point w'.point) (opposite-way (toward z z') (toward v.point w.point) (opposite-turned (toward v.point w.point) (toward z z') o)) same)
+
+  -- ---- how flat the set is where sides lie above
+  pub vertex-dim : (z : Place) (x : VertexSide) → OverVertex s C S z x → FlatDim s z 0
+  vertex-dim z x (i, v, a, e, T) = dim-same s v.point z 0 e (S.vertices i v a)
+
+  pub edge-dim : (z : Place) (x : VertexSide) → OverEdge s C S z x → FlatDim s z 1
+  edge-dim z x (k, e, v, w, a, H, b, T) = (edge-points s C k e v w z S a H b).0
+
+  pub facet-dim : (z : Place) (x : VertexSide) → OverFacet s C S z x → FlatDim s z 2
+  facet-dim z x (k, v, i, c, (d, o, t), f, g) = tied-dim s (ahead s v.point d) z 2 (tied-turned s z (ahead s v.point d) t) (let F = facet-near s C S k v i c d o in F.dim)
+
+  -- ---- facets
+  module _ (linked : AreLinkedWhereJoined s C) where
+    pub facets-over : (z z' : Place) (x y : VertexSide) → Joined s z z' → OverFacet s C S z x → OverFacet s C S z' y → Chained (VolumeLink C) x y
+    facets-over z z' x y J A B = by B
+      where
+        by : OverFacet s C S z' y → Chained (VolumeLink C) x y
+        by (k, v, i, c, (d, o, t), f, g) = side-is y k.vertex (above_item k.item) f g (λ (r : VertexSide). Chained (VolumeLink C) x r) (over-item s C S linked z x k A (v, i, c, (d, o, joined-both s z z' (ahead s v.point d) J t.0)))
+
+    -- ---- all of them
+    dims : (z z' : Place) (j k l : ℕ) → IsEven s k z z' → FlatDim s z j → FlatDim s z' l → (j ≡ k) × (l ≡ k)
+    dims z z' j k l even f g = (FlatDim-one s z j k f (even z (inl (same-itself z))), FlatDim-one s z' l k g (even z' (inr (inr (same-itself z')))))
+
+    -- the sides above two points between which the set is as flat, not just at vertices, are linked
+    pub over-one : (k : ℕ) (z z' : Place) (x y : VertexSide) → IsEven s k z z' → (k ≡ 0 → SamePlace z z') → Over s C S z x → Over s C S z' y → Chained (VolumeLink C) x y
+    over-one k z z' x y even none (inl A) (inl B) = let d = dims z z' 0 k 0 even (vertex-dim z x A) (vertex-dim z' y B) in vertices-over z z' x y (none (sym d.0)) A B
+    over-one k z z' x y even none (inl A) (inr (inl B)) = let d = dims z z' 0 k 1 even (vertex-dim z x A) (edge-dim z' y B) in absurd (omega arith)
+    over-one k z z' x y even none (inl A) (inr (inr B)) = let d = dims z z' 0 k 2 even (vertex-dim z x A) (facet-dim z' y B) in absurd (omega arith)
+    over-one k z z' x y even none (inr (inl A)) (inl B) = let d = dims z z' 1 k 0 even (edge-dim z x A) (vertex-dim z' y B) in absurd (omega arith)
+    over-one k z z' x y even none (inr (inl A)) (inr (inl B)) = let d = dims z z' 1 k 1 even (edge-dim z x A) (edge-dim z' y B) in edges-over z z' x y (subst (λ (n : ℕ). IsEven s n z z') (sym d.0) even) A B
+    over-one k z z' x y even none (inr (inl A)) (inr (inr B)) = let d = dims z z' 1 k 2 even (edge-dim z x A) (facet-dim z' y B) in absurd (omega arith)
+    over-one k z z' x y even none (inr (inr A)) (inl B) = let d = dims z z' 2 k 0 even (facet-dim z x A) (vertex-dim z' y B) in absurd (omega arith)
+    over-one k z z' x y even none (inr (inr A)) (inr (inl B)) = let d = dims z z' 2 k 1 even (facet-dim z x A) (edge-dim z' y B) in absurd (omega arith)
+    over-one k z z' x y even none (inr (inr A)) (inr (inr B)) = facets-over z z' x y (joined-even s k z z' even) A B
+
+    -- and so are those above one place
+    pub over-place : (z z' : Place) (x y : VertexSide) → SamePlace z z' → Over s C S z x → Over s C S z' y → Chained (VolumeLink C) x y
+    over-place z z' x y e A B = let k = flat_dim-of s z in over-one k.0 z z' x y (even-cell s k.0 z z' (signs-same (carriers s) z z' e) k.1) (λ n. e) A B

@@ -1,0 +1,213 @@
+-- From a point of the frame with three flat directions the ray down ends at a skeleton point, above which some side lies.
+use Rattle.std.proofs.Common.{◌≡◌, ℕ, ◌+◌, ◌≤◌, ℤ, pos, ◌+ℤ◌, ◌-ℤ◌, ◌*ℤ◌, ◌<ℤ◌, arith, refl, sym, ◌∙◌, inl, ⊎_elim, [], ◌∷◌, subst}
+use Rattle.std.proofs.lemmas.Int.{ints}
+use Rattle.law_arithmetic.proofs.Ring.{ring, at, num, ◌⊕◌, ◌⊖◌, ◌⊗◌}
+use Rattle.nef_space.specs.Local.{FlatDim}
+use Rattle.nef_space.specs.Place.{Place, form_at, InFrame, toward, IsAhead, IsBetween}
+use Rattle.nef_space.specs.Sets.{Set}
+use Rattle.nef_space.specs.Vectors.{Vector, opposite, blend, dot, cross, IsZero, IsDirection, SameDirection, up, plane_axis}
+use Rattle.nef_space.specs.declared.label.Label.{Label}
+use Rattle.law_near.specs.Cells.{carriers}
+use Rattle.law_near.proofs.Alike.{flat-germ, FlatDim-by_germs}
+use Rattle.law_near.proofs.Between.{between-turned}
+use Rattle.law_near.proofs.Decided.{label_of}
+use Rattle.law_near.proofs.Decisions.{ahead}
+use Rattle.law_near.proofs.Even.{joined-germs}
+use Rattle.law_near.proofs.NearGerms.{steep}
+use Rattle.law_near.proofs.Rays.{signs-same, same-place_sym}
+use Rattle.law_forms.proofs.Far.{nought-or, same-nought}
+use Rattle.law_sphere.specs.Forms.{forms}
+use Rattle.law_sphere.specs.Maps.{At, Svertex, Map, Item, arc_item, items, item_normal, item_above, IsFree, Side, around_svertex, above_item, HasSide, IsClear, by_way_of, SeenAs, HasArc, Shaped}
+use Rattle.law_sphere.proofs.Arcs.{at-arc}
+use Rattle.law_sphere.proofs.Around.{Beside, same_way, other_way, beside}
+use Rattle.law_sphere.proofs.Direct.{direct}
+use Rattle.law_sphere.proofs.Forms.{item-forms, normal-form, axes-forms, free-by_signs, on-level}
+use Rattle.law_sphere.proofs.Generic.{amount, far-keeps, far-level, far-same}
+use Rattle.law_sphere.proofs.Labels.{same-clear}
+use Rattle.law_sphere.proofs.Lists.{search_list}
+use Rattle.law_sphere.proofs.NearItems.{kept-not_opposite}
+use Rattle.law_sphere.proofs.Shot.{way-at}
+use Rattle.law_sphere.proofs.Vectors.{normal-is}
+use Rattle.law_complex.specs.Complexes.{Vertex, Complex, Corner, IsCorner}
+use Rattle.law_complex.specs.Shows.{Shows}
+use Rattle.law_complex.specs.Skeleton.{item_plane, IsVertexPoint, IsEdgePoint, IsFacetPoint, Spot, at_vertex, on_edge, in_facet, IsSpot, IsSkeletonPoint, HasCorner}
+use Rattle.law_complex.specs.Rays.{VertexSide, HasSideLabel, SeesNear, IsAbove, RayDown}
+use Rattle.law_complex.specs.Laws.{IsFlatIn}
+use Rattle.law_complex.proofs.FacetAngles.{through-at}
+use Rattle.law_complex.proofs.FacetEdges.{ahead-back}
+use Rattle.law_complex.proofs.FacetNames.{weight, normal-scaled, through-level, axis-in, facet-of, facets-complete}
+use Rattle.law_complex.proofs.FacetPoints.{facet-point}
+use Rattle.law_complex.proofs.FacetWays.{dim-same}
+use Rattle.law_complex.proofs.Skeletons.{FacetAt, way-ends, skeleton-not_flat, skeleton-or_flat}
+use Rattle.law_links.specs.Components.{IsEvenAfter, IsUpright}
+use Rattle.law_links.proofs.Across.{across}
+use Rattle.law_links.proofs.EdgeEnds.{edge-ways, tied-low, tied-turn}
+use Rattle.law_links.proofs.SideSight.{seen-free, sees-around}
+use Rattle.law_links.proofs.Ties.{ahead-cells, dim-cell, IsTied, tied-both, tied-ahead, tied-ray}
+use Rattle.nef_conn.proofs.AtSides.{side-toward}
+use Rattle.nef_conn.proofs.FirstMet.{all-flat}
+use Rattle.nef_conn.proofs.Named.{twice}
+use Rattle.nef_conn.specs.Falls.{RaysEnd}
+
+-- what is tied is as flat
+pub tied-dim : (s : Set) (p q : Place) (k : ℕ) → IsTied s p q → FlatDim s p k → FlatDim s q k
+tied-dim s p q k t = FlatDim-by_germs s s p q (joined-germs s p q t.0) k
+
+module _ (s : Set) (C : Complex) (S : Shows s C) where
+  pub facet-at : FacetAt s C
+  facet-at k v x y c F = let p = facet-point s C S k v x y c F in (p.dim, p.flat, p.label, p.sided)
+
+  -- some side sees a direction toward which three directions are flat
+  pub seen-toward : (i : ℕ) (v : Vertex) (a : At C.vertices i v) (d : Vector) → FlatDim s (ahead s v.point d) 3 → (l : Label) × SeenAs v.map d l
+  seen-toward i v a d f =
+      let q = ahead s v.point d in
+      let l = label_of s q in
+      (l.0, side-toward s C S i v a d f l.0 (λ e. flat-germ s q e l.0 (all-flat s q f e) l.1))
+
+  -- what is met below a free way has three flat directions above it
+  pub free-above : (p z : Place) → IsAhead p (opposite up) z → FlatDim s p 3 → ((q : Place) → IsBetween p q z → IsSkeletonPoint C q → ⊥) → FlatDim s (ahead s z up) 3
+  free-above p z on f clear =
+      let back = subst (λ (r : Vector). SameDirection (toward z p) r) (twice up) (ahead-back p z (opposite up) on) in
+      let even : IsEvenAfter s 3 z p = λ r o. ⊎_elim
+      (λ b. ⊎_elim (λ g. g) (λ k. absurd (clear r (between-turned z p r b) k)) (skeleton-or_flat s C S facet-at (facet-of s C S) r))
+      (λ e. dim-same s p r 3 (same-place_sym r p e) f) o in
+      tied-dim s p (ahead s z up) 3 (tied-ray s 3 z p up back even) f
+
+  module _ (upright : IsUpright C) where
+    -- ---- above an edge
+    -- where close to a svertex three directions are flat toward up, one side sees all directions close to it toward up
+    module _ (i : ℕ) (v : Vertex) (a : At C.vertices i v) (j : ℕ) (u : Svertex) (b : At v.map.svertices j u) where
+      abbrev M : Map
+      M = v.map
+
+      V : Shaped v.map
+      V = (S.cones i v a).valid.shaped
+
+      abbrev N : ℕ
+      N = amount (forms v.map) up + steep (carriers s) up
+
+      abbrev near : ℕ → Vector
+      near k = blend k u.way 1 up
+
+      module _ (F : IsFree v.map (near N)) where
+        by-item : (k : ℕ) (x : Item) → At (items v.map) k x → (o : Side) × (l : Label) × HasSide v.map o l × SeesNear v.map o u.way up
+        by-item k x h =
+            let r = direct v.map V (near N) F k x h off in (
+              r.side,
+              r.label,
+              r.has,
+              (N, λ m l. by_way_of (near N) r.point (back m l) r.clear r.reached),
+            )
+          where
+            high : pos 0 <ℤ dot (item_normal x) up
+            high = upright (record { vertex = i; item = k }) v x (record { vertex = a; item = h })
+
+            off : dot (item_normal x) (near N) ≡ pos 0 → ⊥
+            off z = ⊎_elim
+                (λ e. let m = same-nought (dot (item_normal x) (near N)) (dot (item_normal x) up) (sym (far-level (forms v.map) u.way up N (omega arith) (item_normal x) e)) z in let y = high in omega (arith, ints))
+                (λ n. n (same-nought (dot (item_normal x) (near N)) (dot (item_normal x) u.way) (sym (far-keeps (forms v.map) u.way up N (omega arith) (item_normal x) (item-forms v.map k x (item_normal x) h (normal-form v.map x)) n)) z))
+                (nought-or (dot (item_normal x) u.way))
+
+            back : (m : ℕ) → N ≤ m → IsClear v.map (near m) (near N)
+            back m l = same-clear v.map (near m) (near N) (far-same (forms v.map) u.way up m N (omega arith) (omega arith))
+                (free-by_signs v.map (near N) (near m) (far-same (forms v.map) u.way up N m (omega arith) (omega arith)) F)
+
+        -- without items the svertex has a side around it
+        apart : IsDirection (cross u.way up)
+        apart z = by (beside u.way (near N) (V.svertex_ways j u b) F.direction (level z))
+          where
+            one : (a b c d : ℤ) → a *ℤ d -ℤ b *ℤ c ≡ pos 0 → a *ℤ (pos N *ℤ b +ℤ pos 1 *ℤ d) -ℤ b *ℤ (pos N *ℤ a +ℤ pos 1 *ℤ c) ≡ pos 0
+            one a b c d e = ring (pos N ∷ a ∷ b ∷ c ∷ d ∷ []) (at 1 ⊗ (at 0 ⊗ at 2 ⊕ num (pos 1) ⊗ at 4) ⊖ at 2 ⊗ (at 0 ⊗ at 1 ⊕ num (pos 1) ⊗ at 3)) (at 1 ⊗ at 4 ⊖ at 2 ⊗ at 3) tt ∙ e
+
+            level : IsZero (cross u.way up) → IsZero (cross u.way (near N))
+            level z = (one u.way.y u.way.z up.y up.z z.0, one u.way.z u.way.x up.z up.x z.1, one u.way.x u.way.y up.x up.y z.2)
+
+            by : Beside u.way (near N) → ⊥
+            by (same_way w) = F.off_svertices j u b w
+            by (other_way o) = kept-not_opposite u.way (near N) (λ g l. far-keeps (forms v.map) u.way up N (omega arith) g (axes-forms v.map g l)) o
+
+        bare : ((k : ℕ) (x : Item) → At (items v.map) k x → Unit {0} → ⊥) → (o : Side) × (l : Label) × HasSide v.map o l × SeesNear v.map o u.way up
+        bare none =
+            let lone : HasArc v.map j → ⊥ = λ h. none h.0 (arc_item h.1) (at-arc v.map.arcs v.map.loop h.0 h.1 h.2) tt in
+            let r = V.around_lone j u b lone in (
+              around_svertex j,
+              r.0,
+              (u, b, r.1),
+              (N, λ m l. sees-around v.map V j u b lone up m (omega arith) apart),
+            )
+
+        pub seen-near : (o : Side) × (l : Label) × HasSide v.map o l × SeesNear v.map o u.way up
+        seen-near = ⊎_elim (λ f. by-item f.number f.element f.listed) bare (search_list (items v.map) (λ k x. Unit {0}) (λ k x. inl tt))
+
+    -- ---- above what is met
+    abbrev Covers : Place → Spot → Type 0
+    Covers z o = (x : VertexSide) × (l : Label) × IsAbove C z o x × HasSideLabel C x l
+
+    module _ (z : Place) (f : FlatDim s (ahead s z up) 3) where
+      over-vertex : (k : ℕ) → IsVertexPoint C k z → Covers z (at_vertex k)
+      over-vertex k (v, a, e) =
+          let g = dim-cell s (ahead s z up) (ahead s v.point up) 3 (ahead-cells s z v.point up (signs-same (carriers s) z v.point (same-place_sym v.point z e))) f in
+          let r = seen-toward k v a up g in (
+            record { vertex = k; side = r.1.side },
+            r.0,
+            (v, a, refl, r.1.sees),
+            (v, a, r.1.has),
+          )
+
+      over-edge : (k : ℕ) → IsEdgePoint C k z → Covers z (on_edge k)
+      over-edge k (e, v, w, a, H, b) =
+          let W = edge-ways s C S k e v w a H in
+          let d = W.low.way in
+          let N = amount (forms v.map) up + steep (carriers s) up in
+          let t = tied-both s (ahead s z up) (ahead s (ahead s v.point d) up) (ahead s v.point (blend N d 1 up)) (tied-ahead s z (ahead s v.point d) up (tied-low s C S k e v w a H z b)) (tied-turn s v.point d up N (omega arith)) in
+          let g = seen-toward e.low v H.low (blend N d 1 up) (tied-dim s (ahead s z up) (ahead s v.point (blend N d 1 up)) 3 t f) in
+          let r = seen-near e.low v H.low e.low_svertex W.low W.is_low (seen-free v.map g.1.side (blend N d 1 up) g.1.sees) in (
+            record { vertex = e.low; side = r.0 },
+            r.1,
+            (e, v, a, H.low, refl, subst (λ (y : Vector). SeesNear v.map r.0 y up) (sym (way-at v.map.svertices e.low_svertex W.low W.is_low)) r.3),
+            (v, H.low, r.2),
+          )
+
+      over-facet : (k : Corner) → (v : Vertex) (x : Item) → IsCorner C k v x → IsFacetPoint C v x z → Covers z (in_facet k)
+      over-facet k v x c F =
+          let n = item_normal x in
+          let p = v.point in
+          let G = facet-point s C S k v x z c F in
+          let V = (S.cones k.vertex v c.vertex).valid.shaped in
+          let flat : IsFlatIn s (item_plane v x) z = (G.dim, λ d. let a = through-level n d p in let b = G.flat d in (λ g. a.0 (b.0 g), λ o. b.1 (a.1 o))) in
+          let on : form_at (item_plane v x) z ≡ pos 0 = through-at n p z ∙ on-level v.map x (toward p z) F.on_item in
+          let H = facets-complete s C S (item_plane v x) z (normal-scaled n (pos p.w) (weight p) (V.normals k.item x c.item)) on flat in
+          over-corner H.0 H.1
+        where
+          over-corner : (j : Corner) → HasCorner C z j → Covers z (in_facet k)
+          over-corner j H =
+              let n = item_normal H.item in
+              let p = H.vertex.point in
+              let G = facet-point s C S H.beside H.vertex H.item z H.is_beside H.facet_point in
+              let some = normal-is (S.cones H.beside.vertex H.vertex H.is_beside.vertex).valid.shaped H.beside.item H.item H.is_beside.item in
+              let flat : IsFlatIn s (item_plane H.vertex H.item) z = (G.dim, λ d. let a = through-level n d p in let b = G.flat d in (λ g. a.0 (b.0 g), λ o. b.1 (a.1 o))) in
+              let on : form_at (item_plane H.vertex H.item) z ≡ pos 0 = through-at n p z ∙ on-level H.vertex.map H.item (toward p z) H.facet_point.on_item in
+              let A = across s C S (item_plane H.vertex H.item) z on flat (plane_axis n) ((through-level n (plane_axis n) p).0 (axis-in n some).1) j H.named in (
+                record { vertex = j.vertex; side = above_item j.item },
+                item_above A.item,
+                (j, H, refl, refl),
+                (A.vertex, A.corner.vertex, (A.item, A.corner.item, refl)),
+              )
+
+      pub covered : (o : Spot) → IsSpot C o z → Covers z o
+      covered (at_vertex k) i = over-vertex k i
+      covered (on_edge k) i = over-edge k i
+      covered (in_facet k) (v, x, c, F) = over-facet k v x c F
+
+    -- ---- the end of the ray down
+    pub ray-down : (p : Place) → InFrame p → FlatDim s p 3 → (x : VertexSide) × RayDown C p x
+    ray-down p i f =
+        let down = opposite up in
+        let W = way-ends s C S facet-at (facet-of s C S) p down (λ z. let e = z.2 in omega (arith, ints)) i (λ o. skeleton-not_flat s C S facet-at (facet-of s C S) p o f) in
+        let K = covered W.place (free-above p W.place W.ahead f W.clear) W.spot W.is_spot in (
+          K.0,
+          record { place = W.place; spot = W.spot; ahead = W.ahead; is_spot = W.is_spot; first = W.clear; above = K.2; label = K.1; has = K.3 },
+        )
+
+pub rays-end : RaysEnd
+rays-end s C p S upright i f = ray-down s C S upright p i f

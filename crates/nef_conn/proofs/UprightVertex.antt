@@ -1,0 +1,188 @@
+-- What falls beside a vertex of a plane from which an edge runs down along up: it falls beside the edge.
+use Rattle.std.proofs.Common.{◌≡◌, ℕ, ◌+◌, ℤ, pos, ◌<ℤ◌, arith, refl, ap, sym, inl, inr, ⊎_elim, subst}
+use Rattle.std.proofs.lemmas.Int.{ints}
+use Rattle.law_complex.proofs.FacetSides.{level-way}
+use Rattle.nef_space.specs.Lists.{Chained}
+use Rattle.nef_space.specs.Local.{FlatDim, IsVertex}
+use Rattle.nef_space.specs.Place.{Place, Form, form_at, normal_of, slope, SamePlace, InFrame, toward, IsBetween, IsPlaceBelow}
+use Rattle.nef_space.specs.Sets.{Set}
+use Rattle.nef_space.specs.Vectors.{Vector, blend, dot, cross, opposite, IsZero, IsDirection, SameDirection, up}
+use Rattle.law_near.proofs.Decisions.{ahead}
+use Rattle.law_near.proofs.FlatDecided.{triple-dot}
+use Rattle.law_near.proofs.Rays.{same-place_sym}
+use Rattle.law_forms.proofs.Directions.{direction-left}
+use Rattle.law_sphere.specs.Forms.{forms}
+use Rattle.law_sphere.specs.Maps.{At, Svertex, around_svertex, HasArc, Shaped}
+use Rattle.law_sphere.proofs.Compare.{SameDirection-turned, SameDirection-trans, way-self}
+use Rattle.law_sphere.proofs.Generic.{amount}
+use Rattle.law_sphere.proofs.Lists.{at-one}
+use Rattle.law_sphere.proofs.NearItems.{opposite-turned}
+use Rattle.law_complex.specs.Complexes.{Vertex, Edge, Complex, HasEnds}
+use Rattle.law_complex.specs.Shows.{Shows}
+use Rattle.law_complex.specs.Rays.{VertexSide, RayDown}
+use Rattle.law_complex.proofs.FacetEdges.{ahead-back}
+use Rattle.law_complex.proofs.FacetWays.{dim-same, plane-ahead}
+use Rattle.law_complex.proofs.Joining.{svertex-edge}
+use Rattle.law_links.specs.Links.{VolumeLink, around_ends}
+use Rattle.law_links.specs.Components.{IsUpright, IsEvenAfter}
+use Rattle.law_links.proofs.EdgeEnds.{EdgeWays, edge-ways, opposite-way, dot-opposite}
+use Rattle.law_links.proofs.SideLinks.{both-opposite}
+use Rattle.law_links.proofs.SideSight.{sees-around}
+use Rattle.law_links.proofs.Ties.{tied-ray}
+use Rattle.nef_conn.specs.Converse.{AreLinkedWhereJoined}
+use Rattle.nef_conn.proofs.Named.{twice}
+use Rattle.nef_conn.specs.Slices.{sliced}
+use Rattle.nef_conn.proofs.Chain.{chain-both, chain-back, chain-one}
+use Rattle.nef_conn.proofs.Claims.{Claim}
+use Rattle.law_near.proofs.PlaceOrder.{place_below-same}
+use Rattle.nef_conn.proofs.Downs.{along-up}
+use Rattle.nef_conn.proofs.Fall.{lam-zero}
+use Rattle.nef_conn.proofs.Leaves.{toward-same}
+use Rattle.nef_conn.proofs.Lexical.{normal-way}
+use Rattle.nef_conn.proofs.Near.{Wedge, wedge-way, wedge-on}
+use Rattle.nef_conn.proofs.NearOver.{blend-rises}
+use Rattle.nef_conn.proofs.OneOver.{below-normal}
+use Rattle.nef_conn.proofs.RaysEnd.{tied-dim}
+use Rattle.nef_conn.proofs.VolumeStrip.{lam, Clear}
+use Rattle.nef_conn.proofs.Touch.{Seer, bound, Touch, vertex-frame, meet, touched, turn-touch, no-way}
+use Rattle.nef_conn.proofs.Upright.{lone-along, aside-any, up-square, beside-edge}
+
+module _ (s : Set) (C : Complex) (S : Shows s C) (upright : IsUpright C) (linked : AreLinkedWhereJoined s C) where
+  module _ (h : Form) (hn : IsDirection (normal_of h)) (level : slope h up ≡ pos 0) where
+    abbrev n : Vector
+    n = normal_of h
+
+    -- ---- a vertex from which an edge runs down
+    module _ (y : Place) (on-y : form_at h y ≡ pos 0) (i : ℕ) (v : Vertex) (a : At C.vertices i v) (same : SamePlace v.point y) (j : ℕ) (u : Svertex) (b : At v.map.svertices j u) (runs : SameDirection u.way (opposite up))
+        (claims : (p : Place) → form_at h p ≡ pos 0 → IsPlaceBelow p y → IsVertex s p → FlatDim (sliced s h) p 0 → Claim s C S upright linked h hn level p) where
+      u-along : IsZero (cross u.way up)
+      u-along = along-up u.way (let o = runs in o.parallel)
+
+      V' : Shaped v.map
+      V' = (S.cones i v a).valid.shaped
+
+      lone-high : HasArc v.map j → ⊥
+      lone-high = lone-along s C S upright linked i j v u a b u-along
+
+      module _ (c : Place) (x z : VertexSide) (on-c : form_at h c ≡ pos 0) (side : pos 0 <ℤ lam (normal_of h) y c) (clear : Clear (sliced s h) h hn level y c) (first : (r : Place) → IsBetween y r c → FlatDim s r 3) (three : FlatDim s c 3) (inside : InFrame c)
+          (T : Touch s C y (vertex-frame s C i v y a same) x (toward y c)) (R : RayDown C c z) (wedge-three : Wedge s 3 y (toward y c) (opposite up)) (wedge-two : Wedge (sliced s h) 2 y (toward y c) (opposite up)) where
+        abbrev f : Vector
+        f = toward y c
+
+        some-f : IsDirection f
+        some-f g = let l = lam-zero n y c g in let k = side in omega (arith, ints)
+
+        free-f : FlatDim s (ahead s y f) 3
+        free-f = tied-dim s c (ahead s y f) 3 (tied-ray s 3 y c f (way-self f some-f) even) three
+          where
+            even : IsEvenAfter s 3 y c
+            even r (inl m) = first r m
+            even r (inr g) = dim-same s c r 3 (same-place_sym r c g) three
+
+        u-some : IsDirection u.way
+        u-some = direction-left u.way (opposite up) runs
+
+        u-level : dot (cross n up) u.way ≡ pos 0
+        u-level = level-way (cross n up) (opposite up) u.way (SameDirection-turned u.way (opposite up) runs) (let g = dot-opposite (cross n up) up in let k = up-square n in omega (arith, ints))
+
+        wedge-u : Wedge s 3 y f u.way
+        wedge-u = wedge-way s 3 y f f (opposite up) u.way (way-self f some-f) (SameDirection-turned u.way (opposite up) runs)
+            (λ p q sp sq. blend-rises (cross n up) f u.way p q sp (subst (λ (k : ℤ). pos 0 <ℤ k) (triple-dot n up f) side) (let l = u-level in omega (arith, ints))) wedge-three
+
+        abbrev N : ℕ
+        N = amount (forms v.map) f + 1
+
+        close : FlatDim s (ahead s y (blend N u.way 1 f)) 3 × Wedge s 3 y f (blend N u.way 1 f)
+        close = wedge-on s 3 y f u.way N (omega arith) wedge-u
+
+        abbrev high : VertexSide
+        high = record { vertex = i; side = around_svertex j }
+
+        -- what touches toward c is linked with the side around the svertex
+        to-around : Chained (VolumeLink C) x high
+        to-around =
+            let o = touched s C S y (vertex-frame s C i v y a same) (blend N u.way 1 f) close.0 in
+            let p = subst (λ (g : Vector). Seer i v o.0 g) (no-way o.1.steps (blend N u.way 1 f)) o.1.seer in
+            let r = V'.around_lone j u b lone-high in
+            chain-both (VolumeLink C) x o.0 high (turn-touch s C S y (vertex-frame s C i v y a same) f (blend N u.way 1 f) free-f close.0 close.1 x o.0 T o.1)
+            (meet s C S i v a o.0 high (blend N u.way 1 f) p (record { here = refl; label = r.0; has = (u, b, r.1); sees = sees-around v.map V' j u b lone-high f N (omega arith) (aside-any s C S upright linked h hn level u.way u-some u-along y c side) }))
+
+        -- by the edge
+        module _ (k : ℕ) (e : Edge) (l w : Vertex) (d : At C.edges k e) (H : HasEnds C e l w) (at-high : e.high ≡ i) (at-svertex : e.high_svertex ≡ j) where
+          abbrev W : EdgeWays e l w
+          W = edge-ways s C S k e l w d H
+
+          one : w ≡ v
+          one = at-one C.vertices i w v (subst (λ (q : ℕ). At C.vertices q w) at-high H.high) a
+
+          high-is : W.high ≡ u
+          high-is = at-one v.map.svertices j W.high u (subst (λ (q : ℕ). At v.map.svertices q W.high) at-svertex (subst (λ (q : Vertex). At q.map.svertices e.high_svertex W.high) one W.is_high)) b
+
+          along : SameDirection W.low.way up
+          along =
+              let g = subst (λ (q : Svertex). SameDirection q.way (opposite up)) (sym high-is) runs in
+              let p = both-opposite W.high.way (opposite up) g in
+              let q = opposite-way W.high.way W.low.way (opposite-turned W.low.way W.high.way W.back) in
+              subst (λ (r : Vector). SameDirection W.low.way r) (twice up) (SameDirection-trans W.low.way (opposite W.high.way) (opposite (opposite up)) (SameDirection-turned (opposite W.high.way) W.low.way q) p)
+
+          top : SamePlace w.point y
+          top = subst (λ (q : Vertex). SamePlace q.point y) (sym one) same
+
+          V'' : Shaped l.map
+          V'' = (S.cones e.low l H.low).valid.shaped
+
+          lone-there : HasArc l.map e.low_svertex → ⊥
+          lone-there = lone-along s C S upright linked e.low e.low_svertex l W.low H.low W.is_low (let o = along in o.parallel)
+
+          abbrev low : VertexSide
+          low = record { vertex = e.low; side = around_svertex e.low_svertex }
+
+          lower : IsPlaceBelow l.point y
+          lower = place_below-same l.point w.point y (S.ordered e.low e.high l w (let E = S.edges.edges k e d in E.upward) H.low H.high) top
+
+          on-l : form_at h l.point ≡ pos 0
+          on-l = plane-ahead h y l.point (opposite up) (below-y) (let g = dot-opposite n up in let q = level in omega (arith, ints)) on-y
+            where
+              from-w : SameDirection (toward w.point l.point) (opposite up)
+              from-w = ahead-back l.point w.point up (SameDirection-trans (toward l.point w.point) W.low.way up W.onward along)
+
+              below-y : SameDirection (toward y l.point) (opposite up)
+              below-y = SameDirection-trans (toward y l.point) (toward w.point l.point) (opposite up) (SameDirection-turned (toward w.point l.point) (toward y l.point) (toward-same w.point y l.point top (direction-left (toward w.point l.point) (opposite up) from-w))) from-w
+
+          by-edge : Chained (VolumeLink C) x z
+          by-edge =
+              let r = V''.around_lone e.low_svertex W.low W.is_low lone-there in
+              let r2 = V'.around_lone j u b lone-high in
+              let K = bound s l f in
+              let link = chain-one (VolumeLink C) low high (inr (inl (record {
+                number = k;
+                edge = e;
+                is_edge = d;
+                low_side = around_svertex e.low_svertex;
+                high_side = around_svertex e.high_svertex;
+                is_low = (r.0, refl, refl, (l, H.low, (W.low, W.is_low, r.1)));
+                is_high = (r2.0, sym at-high, ap around_svertex (sym at-svertex), (v, a, (u, b, r2.1)));
+                along = around_ends refl refl;
+              }))) in
+              let seer : Seer e.low l low (blend K W.low.way 1 f) = record { here = refl; label = r.0; has = (W.low, W.is_low, r.1); sees = sees-around l.map V'' e.low_svertex W.low W.is_low lone-there f K (omega arith) (aside-any s C S upright linked h hn level W.low.way (direction-left W.low.way up along) (let o = along in o.parallel) y c side) } in
+              let rest = beside-edge s C S upright linked h hn level k e l w d H along y on-y top c x z on-c side clear first three inside R wedge-three wedge-two K (omega arith) low seer (λ g. claims l.point on-l lower (S.vertices e.low l H.low) g) in
+              chain-both (VolumeLink C) x high z to-around (chain-both (VolumeLink C) high low z (chain-back (VolumeLink C) low high link) rest)
+
+        -- an edge that begins there goes up
+        not-low : (k : ℕ) (e : Edge) (l w : Vertex) (d : At C.edges k e) (H : HasEnds C e l w) → e.low ≡ i → e.low_svertex ≡ j → ⊥
+        not-low k e l w d H at-low at-svertex =
+            let W = edge-ways s C S k e l w d H in
+            let one = at-one C.vertices i l v (subst (λ (q : ℕ). At C.vertices q l) at-low H.low) a in
+            let is = at-one v.map.svertices j W.low u (subst (λ (q : ℕ). At v.map.svertices q W.low) at-svertex (subst (λ (q : Vertex). At q.map.svertices e.low_svertex W.low) one W.is_low)) b in
+            let g = subst (λ (q : Svertex). SameDirection q.way (opposite up)) (sym is) runs in
+            let m = normal-way (toward l.point w.point) (opposite up) (SameDirection-trans (toward l.point w.point) W.low.way (opposite up) W.onward g)
+            (below-normal l.point w.point (S.ordered e.low e.high l w (let E = S.edges.edges k e d in E.upward) H.low H.high)) in
+            let q = m.first in
+            absurd (omega (arith, ints))
+
+        pub down-edge : Chained (VolumeLink C) x z
+        down-edge =
+            let E = svertex-edge s C S i j v u a b in
+            let X = S.edges.edges E.0 E.1 E.2 in
+            let H : HasEnds C E.1 X.low_vertex X.high_vertex = record { low = X.is_low; high = X.is_high } in
+            ⊎_elim (λ q. absurd (not-low E.0 E.1 X.low_vertex X.high_vertex E.2 H q.0 q.1)) (λ q. by-edge E.0 E.1 X.low_vertex X.high_vertex E.2 H q.0 q.1) E.3

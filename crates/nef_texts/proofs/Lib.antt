@@ -1,5 +1,0 @@
-pub mod Lines
-pub mod Words
-pub mod Lists
-pub mod Vertices
-pub mod Whole

@@ -1,0 +1,47 @@
+-- Directions of svertices, and where a ray may begin.
+use Rattle.std.proofs.Common.{◌≡◌, ℕ, ◌<◌, ◌+◌, length, arith, sym, subst, ⊎_elim}
+use Rattle.std.proofs.Math.Nat.{eq-or-lt_of_le}
+use Rattle.nef_space.specs.Place.{Place, SamePlace}
+use Rattle.nef_space.specs.Vectors.{SameDirection}
+use Rattle.nef_geo.specs.Shapes.{place_of, vector_of}
+use Rattle.nef_geo.specs.declared.dir.Dir.{Dir}
+use Rattle.nef_geo.proofs.Unique.{same_directions_equal}
+use Rattle.law_sphere.specs.Maps.{At, Svertex}
+use Rattle.nef_smap.specs.Maps.{svertex_of}
+use Rattle.nef_smap.proofs.Lists.{at-map, at-within}
+use Rattle.law_complex.specs.Complexes.{Vertex as PlainVertex}
+use Rattle.law_complex.specs.Skeleton.{IsEdgePoint}
+use Rattle.nef_complex.specs.declared.complex.Vertex.{Vertex}
+use Rattle.nef_complex.specs.declared.complex.Complex.{Complex}
+use Rattle.nef_complex.specs.Complexes.{complex_of, vertex_of, edge_of}
+use Rattle.nef_plane.specs.Meets.{HasNoSvertex, FromVertex}
+use Rattle.nef_plane.proofs.Found.{both-same, from-vertex}
+use Rattle.tests_places.specs.Clear.{IsClearVertex}
+
+-- with none of the first k numbers, and not the next, none of the first k + 1
+pub none-next : (P : ℕ → Type 0) (i : ℕ) → ((k : ℕ) → k < i → P k → ⊥) → (P i → ⊥) → (k : ℕ) → k < i + 1 → P k → ⊥
+none-next P i f n k m = ⊎_elim (λ o. λ x. n (subst P o x)) (λ o. f k o) (eq-or-lt_of_le {n = k} {m = i} (omega (arith, m)))
+
+pub clear-next : (c : Complex) (p : Place) (d : Dir) (i : ℕ) → ((k : ℕ) → k < i → IsClearVertex c p d k) → IsClearVertex c p d i → (k : ℕ) → k < i + 1 → IsClearVertex c p d k
+clear-next c p d i f n k m = ⊎_elim (λ o. subst (IsClearVertex c p d) (sym o) n) (λ o. f k o) (eq-or-lt_of_le {n = k} {m = i} (omega (arith, m)))
+
+pub edge-listed : (c : Complex) (k : ℕ) (y : Place) → IsEdgePoint (complex_of c) k y → k < length c.edges
+edge-listed c k y (e, v, w, a, H, m) = let f = at-map edge_of c.edges k e a in at-within c.edges k f.0 f.1
+
+pub no-svertex : (c : Complex) (p : Place) (d : Dir) → ((k : ℕ) → IsClearVertex c p d k) → HasNoSvertex (complex_of c) p (vector_of d)
+no-svertex c p d N k j v u a o b w =
+    let x = at-map vertex_of c.vertices k v a in
+    by x.0 x.1 x.2
+  where
+    by : (y : Vertex) → At c.vertices k y → vertex_of y ≡ v → ⊥
+    by y l e =
+        let r = at-map svertex_of y.map.svertices j u (subst (λ (t : PlainVertex). At t.map.svertices j u) (sym e) b) in
+        N k y l (v, a, o) j r.0 r.1 (same_directions_equal r.0.dir d (subst (λ (t : Svertex). SameDirection t.way (vector_of d)) (sym r.2) w))
+
+pub all-clear : (c : Complex) (p : Place) (d : Dir) → ((k : ℕ) → k < length c.vertices → IsClearVertex c p d k) → HasNoSvertex (complex_of c) p (vector_of d)
+all-clear c p d f = no-svertex c p d (λ k v a. f k (at-within c.vertices k v a) v a)
+
+-- the same seen from an equal point
+pub no-svertex_at : (c : Complex) (k : ℕ) (v : Vertex) → At c.vertices k v → (p : Place) (d : Dir) → SamePlace p (place_of v.point) → HasNoSvertex (complex_of c) p (vector_of d)
+    → FromVertex (complex_of c) k (λ q. HasNoSvertex (complex_of c) q (vector_of d))
+no-svertex_at c k v a p d s N = from-vertex c k v a (λ q. HasNoSvertex (complex_of c) q (vector_of d)) (λ i j w u l o. N i j w u l (both-same w.point p (place_of v.point) o s))
