@@ -6,8 +6,6 @@ mod arc;
 mod common;
 mod meeting;
 mod passing;
-#[cfg(test)]
-mod tests;
 
 pub use along::{next_along, reverse};
 pub use arc::Arc;

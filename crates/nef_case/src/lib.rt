@@ -33,8 +33,6 @@ macro_rules! rows {
 mod labels;
 mod passing;
 mod table;
-#[cfg(test)]
-mod tests;
 mod turns;
 
 pub use labels::{arc_closure, arc_interior, op_and, op_diff, op_or, op_xor};

@@ -19,8 +19,6 @@ mod reading;
 mod sides;
 mod sign;
 mod step;
-#[cfg(test)]
-mod tests;
 mod vectors;
 mod ways;
 

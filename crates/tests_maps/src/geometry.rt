@@ -6,7 +6,11 @@ ghost use Rattle.nef_geo.specs.Hits.{IsPlaceAtMost};
 ghost use Rattle.nef_geo.specs.Shapes.{vector_of, hit_place};
 ghost use Rattle.nef_geo.specs.Widths.{upright_limit, upright_weight_limit};
 
-use super::*;
+use nef_geo::{
+    Dir, FarHit, Hit, List, Plane, PlaneFault, Point, Sign, cross, dir_cmp, dir_side, dot, far_hit,
+    far_order, far_side, hit_at, hit_order, hit_side, lex_cmp, meet, plane_axis, plane_cmp,
+    plane_dir, quad, ray_hit, side, triple, up,
+};
 use std::cmp::Ordering;
 use std::test::Fail;
 

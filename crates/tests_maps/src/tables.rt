@@ -1,6 +1,9 @@
 //! The rule's own examples.
 
-use super::*;
+use nef_case::{
+    arc_closure, arc_interior, between, op_and, op_diff, op_or, op_xor, turn_compose, turn_inverse,
+    turn_row,
+};
 
 // On the circle about (0, 0, 1): from (1, 0, 0) three quarters round to (0, -1, 0), half round to (-1, 0, 0), and the
 // whole way round to (1, 0, 0).
