@@ -5,7 +5,7 @@ ghost use Rattle.nef_space.specs.Limits.{point_limit, weight_limit};
 ghost use Rattle.nef_space.specs.Numbers.{IsLowest};
 
 use crate::gcd::lowest_terms;
-use crate::limits::HALF_SIDE;
+use nef_space::HALF_SIDE;
 
 /// The point `(x/w, y/w, z/w)`. The four numbers have no common divisor but 1, w is positive, and
 /// `|x|, |y|, |z| <= 3*2^45`, `w <= 3*2^34`: each common point of three planes has such numbers.

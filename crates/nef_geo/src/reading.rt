@@ -10,8 +10,8 @@ ghost use Rattle.nef_geo.specs.Signs.{sign_of};
 ghost use Rattle.nef_geo.specs.Reading.{IsInRange, IsPositiveMultiple, side_forms};
 
 use crate::gcd::lowest_terms;
-use crate::limits::{HALF_SIDE, NORMAL_LIMIT, OFFSET_LIMIT};
 use crate::plane::{Oriented, Plane};
+use nef_space::{HALF_SIDE, NORMAL_LIMIT, OFFSET_LIMIT};
 
 /// Why four numbers are no plane.
 #[derive(Debug, Clone, Copy, PartialEq, Eq)]

@@ -13,14 +13,7 @@ ghost use Rattle.nef_geo.specs.declared.plane.Plane.{Plane};
 use crate::dir::Dir;
 use crate::plane::Plane;
 use crate::vectors::Triple;
-
-// The numbers of the upward direction (UP_X, UP_Y, 1).
-const UP_X: i64 = 1 << 26;
-
-const UP_Y: i64 = 1 << 13;
-
-// How often the axis of a plane goes into its second direction.
-const AXIS_FACTOR: i64 = 1 << 24;
+use nef_space::{AXIS_FACTOR, UP_X, UP_Y};
 
 /// The upward direction `(2^26, 2^13, 1)`, which lies on the positive side of every normal form and so
 /// is parallel to no plane.
