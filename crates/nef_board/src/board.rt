@@ -16,10 +16,6 @@ use std::alloc::Global;
 use std::sync::Wait;
 use std::thread;
 
-/// From this many jobs on a board answers `OutOfMemory` without trying, so that the room for
-/// their events can be counted.
-const TOO_MANY_JOBS: u64 = 1 << 60;
-
 /// A board whose passes take turns.
 ///
 /// One word is the turn, 0 while it is free and 1 while a pass has it. One slot has the state.
@@ -50,9 +46,6 @@ impl<'a, R: Wait + Sync, J: Job> LockBoard<'a, R, J> {
         ensures idle { IfOk result (λ b. (⟦<LockBoard<'a, R, J> as Board<J>>⟧.hand b.1 ≡ None) × (⟦<LockBoard<'a, R, J> as Board<J>>⟧.ended b.1 ≡ false) × (⟦<LockBoard<'a, R, J> as Board<J>>⟧.deposits b.1 ≡ [])) }
     {
         let jobs = job.jobs();
-        if jobs >= TOO_MANY_JOBS {
-            return Err(OutOfMemory);
-        }
         let state = BoardState::new(alloc, jobs)?;
         let mut slots = Vec::with_capacity(alloc, 1)?;
         slots.push_reserved(Some(state));

@@ -11,4 +11,5 @@ mod view;
 pub use board::LockBoard;
 pub use laws::{board_runs, steps_are_events};
 pub use pass::LockPass;
+pub use rule::LockRule;
 pub use state::BoardState;

@@ -23,7 +23,6 @@ impl<T: Drop> BoardState<T> {
     ///
     /// `OutOfMemory` says that memory was wanted and not found.
     pub fn new(alloc: Global, jobs: u64) -> Result<BoardState<T>, OutOfMemory>
-        requires { jobs < 2 ^ 60 }
         ensures sound { IfOk result (λ b. IsSound b) }
         ensures machine { IfOk result (λ b. b.machine ≡ start jobs) }
         ensures history { IfOk result (λ b. b.history.items ≡ []) }

@@ -6,3 +6,4 @@ pub mod Counts
 pub mod Laws
 pub mod Results
 pub mod Accounts
+pub mod Choice

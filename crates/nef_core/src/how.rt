@@ -1,4 +1,5 @@
 //! How an operation is to run.
+use std::marker::Model;
 
 /// Which board hands out the jobs of an operation.
 #[derive(Debug, Clone, Copy, PartialEq, Eq)]
@@ -10,9 +11,24 @@ pub enum BoardKind {
 }
 
 /// How an operation runs: by how many workers, over which board.
+///
+/// There are 1 to 64 workers: who makes a value shows it, and who reads the number knows it.
 #[derive(Debug, Clone, Copy, PartialEq, Eq)]
 pub struct How {
-    /// The number of workers beside the caller.
+    /// The number of workers beside the caller, 1 to 64.
     pub workers: u32,
     pub board: BoardKind,
+}
+
+impl Model for How {
+    ghost use Rattle.std.specs.Prelude.{◌≤◌};
+    ghost use Rattle.nef_core.specs.Choice.{Choice};
+
+    ghost Value = { Choice };
+
+    ghost view = { λ h. record { workers = h.workers; board = h.board } };
+
+    ghost inverse = { λ d. record { workers = d.workers; board = d.board } };
+
+    ghost invariant = { λ h. (1 ≤ h.workers) × (h.workers ≤ 64) };
 }

@@ -1,5 +1,5 @@
 //! The board as a plain machine, one event after another.
-ghost use Rattle.std.specs.Prelude.{◌≡◌, IfOk};
+ghost use Rattle.std.specs.Prelude.{◌≡◌, ◌^◌, ◌<◌, IfOk};
 ghost use Rattle.nef_core.specs.Machine.{start, after, reply, HoldsItsJob};
 
 use crate::OutOfMemory;
@@ -50,9 +50,10 @@ impl Model for Machine {
 impl Machine {
     /// Returns the machine with this many jobs, all open.
     ///
-    /// `OutOfMemory` says that memory was wanted and not found.
+    /// `OutOfMemory` says that memory was wanted and not found; for 2^63 jobs or more there is none.
     pub fn new(alloc: Global, jobs: u64) -> Result<Machine, OutOfMemory>
-        ensures { IfOk result (λ m. m ≡ start jobs) }
+        ensures machine { IfOk result (λ m. m ≡ start jobs) }
+        ensures few { IfOk result (λ m. jobs < 2 ^ 63) }
     {
         let slots = Vec::from_elem(alloc, Slot::Open, jobs as usize)?;
         Ok(Machine { next: 0, slots })

@@ -1,5 +1,5 @@
 //! The board and its passes.
-ghost use Rattle.std.specs.Prelude.{◌≡◌, ℕ, true, false, ◌+◌, ◌<◌, ◌≤◌, IfOk, Some, None, [], ◌==◌, if◌then◌else◌, replicate, vec_len, vec_capacity, slice_get};
+ghost use Rattle.std.specs.Prelude.{◌≡◌, ℕ, true, false, ◌+◌, ◌^◌, ◌<◌, ◌≤◌, IfOk, Some, None, [], ◌==◌, if◌then◌else◌, replicate, vec_len, vec_capacity, slice_get};
 ghost use Rattle.std.specs.Mem.Slots.{slots_items, slots_len, IsFull};
 ghost use mathlib.Core.Option.{some};
 ghost use lib.ListN.{get_elem?};
@@ -10,10 +10,6 @@ use crate::view::View;
 use atomic_table::{Closed, Seat, Table};
 use nef_core::{Board, Claim, Job, OutOfMemory, Receipt};
 use std::alloc::Global;
-
-/// From this many jobs on a board answers `OutOfMemory` without trying, so that the first word
-/// never wraps.
-const TOO_MANY_JOBS: u64 = 1 << 60;
 
 /// A board whose passes wait for nobody.
 ///
@@ -56,10 +52,11 @@ impl<'a, J: Job> FreeBoard<'a, J> {
         ensures idle { IfOk result (λ b. (⟦<FreeBoard<'a, J> as Board<J>>⟧.hand b.1 ≡ None) × (⟦<FreeBoard<'a, J> as Board<J>>⟧.ended b.1 ≡ false) × (⟦<FreeBoard<'a, J> as Board<J>>⟧.deposits b.1 ≡ [])) }
     {
         let jobs = job.jobs();
-        if jobs >= TOO_MANY_JOBS {
+        // No memory holds as many words as an address can count.
+        let Some(count) = (jobs as usize).checked_add(1) else {
             return Err(OutOfMemory);
-        }
-        let words = zeros(alloc, jobs as usize + 1)?;
+        };
+        let words = zeros(alloc, count)?;
         let order = Order { job, jobs, seats };
         let (table, seat) = Table::vacant(alloc, words.as_slice(), jobs as usize, &order)?;
         Ok((FreeBoard { jobs, table }, FreePass { seat, ended: false }))
@@ -135,7 +132,8 @@ impl<'a, J: Job> Board<J> for FreeBoard<'a, J> {
 }
 
 fn zeros(alloc: Global, count: usize) -> Result<Vec<u64>, OutOfMemory>
-    ensures { IfOk result (λ v. v.items ≡ replicate count 0) }
+    ensures items { IfOk result (λ v. v.items ≡ replicate count 0) }
+    ensures few { IfOk result (λ v. count < 2 ^ 63) }
 {
     Vec::from_elem(alloc, 0, count)
 }

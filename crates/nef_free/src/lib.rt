@@ -10,3 +10,4 @@ mod view;
 
 pub use board::{FreeBoard, FreePass};
 pub use laws::{board_runs, steps_are_events};
+pub use rule::FreeRule;

@@ -1,5 +1,5 @@
 //! The workers, and the caller that finishes what they leave.
-ghost use Rattle.std.specs.Prelude.{◌≡◌, ℕ, ◌≤◌, IfOk, Some, None, slice_get, All, vec_len};
+ghost use Rattle.std.specs.Prelude.{◌≡◌, ℕ, ◌<◌, ◌≤◌, IfOk, Some, None, slice_get, All, vec_len};
 
 use nef_core::{Board, Claim, Job, OutOfMemory};
 use nef_io::Gate;
@@ -71,7 +71,26 @@ fn join_all<J: Job, B: Board<J>>(board: &B, pass: &mut B::Pass, mut others: Vec<
     }
 }
 
-// The results, with each job that isn't done worked now.
+// The result that is there, or else that of the job, worked now.
+fn result_of<J: Job>(
+    alloc: Global,
+    job: &J,
+    number: u64,
+    slot: Option<J::Out>,
+) -> Result<J::Out, OutOfMemory>
+    requires number { number < J.count job.now }
+    requires workable { J.workable job.now }
+    requires right { (out : _) → slot ≡ Some out → J.right job.now number out }
+    ensures right { IfOk result (λ out. J.right job.now number out) }
+    ensures kept { (done : _) → slot ≡ Some done → IfOk result (λ out. out ≡ done) }
+{
+    match slot {
+        Some(out) => Ok(out),
+        None => job.work(alloc, number),
+    }
+}
+
+// The results, each as it is there, with each job that isn't done worked now.
 fn filled<J: Job>(
     alloc: Global,
     job: &J,
@@ -82,13 +101,11 @@ fn filled<J: Job>(
     requires right { (i : ℕ) (out : _) → slice_get slots.items i ≡ Some (Some out) → J.right job.now i out }
     ensures len { IfOk result (λ v. vec_len v ≡ J.count job.now) }
     ensures right { IfOk result (λ v. (i : ℕ) (out : _) → slice_get v.items i ≡ Some out → J.right job.now i out) }
+    ensures kept { IfOk result (λ v. (i : ℕ) (out : _) → slice_get slots.items i ≡ Some (Some out) → slice_get v.items i ≡ Some out) }
 {
     let mut outs = Vec::with_capacity(alloc, slots.len())?;
     for slot in slots {
-        let out = match slot {
-            Some(out) => out,
-            None => job.work(alloc, outs.len() as u64)?,
-        };
+        let out = result_of(alloc, job, outs.len() as u64, slot)?;
         outs.push(out)?;
     }
     Ok(outs)

@@ -1,4 +1,5 @@
 pub mod Counts
+pub mod Line
 pub mod Views
 pub mod Rule
 pub mod Rounds

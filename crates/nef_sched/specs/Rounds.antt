@@ -1,11 +1,9 @@
 -- What clauses say of a round and of its passes.
-use Rattle.std.specs.Prelude.{◌≡◌, ℕ, ◌+◌, ◌≤◌, List, [], ◌∷◌, length, vec_capacity}
-use Rattle.crossbeam_queue.specs.Fifo.{Held}
+use Rattle.std.specs.Prelude.{◌≡◌, ℕ, Bool, false, ◌+◌, ◌≤◌, ◌||◌, List, [], ◌∷◌, length, vec_capacity}
 use Rattle.crossbeam_queue.specs.Passes.{view, IsPassOf}
 use Rattle.nef_sched.specs.declared.pass.Round.{Round}
 use Rattle.nef_sched.specs.declared.pass.RoundPass.{RoundPass}
 use Rattle.nef_sched.specs.Counts.{times}
-use Rattle.nef_sched.specs.Rule.{Sees}
 
 -- the parts of a pass, the numbers that it knows, and those that it took
 abbrev pub parts : RoundPass → ℕ
@@ -16,6 +14,10 @@ known p = (view p.pass).known
 
 abbrev pub taken : RoundPass → List ℕ
 taken p = p.taken.items
+
+-- the pass found the end of the round
+abbrev pub ended : RoundPass → Bool
+ended p = (view p.pass).ended
 
 -- the pass is one of this round, which has room for its numbers
 abbrev pub Belongs : Round → RoundPass → Type 0
@@ -30,6 +32,11 @@ abbrev pub times_taken : ℕ → List RoundPass → ℕ
 times_taken x [] = 0
 times_taken x (p ∷ ps) = times x (taken p) + times_taken x ps
 
+-- some pass has ended
+abbrev pub any_ended : List RoundPass → Bool
+any_ended [] = false
+any_ended (p ∷ ps) = ended p || any_ended ps
+
 -- the numbers of the round, which every pass knows: those of the last pass
 abbrev pub numbers_of : List RoundPass → List ℕ
 numbers_of [] = []
@@ -38,7 +45,3 @@ numbers_of (p ∷ q ∷ ps) = numbers_of (q ∷ ps)
 
 abbrev pub TookAll : RoundPass → Type 0
 TookAll p = (x : ℕ) → times x (taken p) ≡ times x (known p)
-
--- the queue was empty at some moment, while the pass was as it is
-abbrev pub SawEmpty : RoundPass → Type 0
-SawEmpty p = Held 0 (Sees (view p.pass))

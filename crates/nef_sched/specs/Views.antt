@@ -1,36 +1,42 @@
 -- The views of passes.
-use Rattle.std.specs.Prelude.{ℕ, ◌+◌, ◌-◌, ◌^◌, List, [], ◌∷◌, ◌++◌}
+use Rattle.std.specs.Prelude.{ℕ, Bool, true, false, ◌+◌, ◌-◌, ◌^◌, ◌||◌, List, [], ◌∷◌, ◌++◌, Option, Some, None}
 use Rattle.nef_sched.specs.declared.view.View.{View}
 
-abbrev pub seeing : ℕ → List ℕ → List ℕ → View
-seeing parts known taken = record { parts = parts; known = known; taken = taken }
+abbrev pub seeing : ℕ → List ℕ → List ℕ → ℕ → Bool → View
+seeing parts known taken due ended = record { parts = parts; known = known; taken = taken; due = due; ended = ended }
 
--- a pass with all parts that has taken nothing
-abbrev pub whole : List ℕ → View
-whole numbers = seeing (2 ^ 32) numbers []
+-- a pass with all parts that has put these numbers and so many ends, and has taken nothing
+abbrev pub whole : List ℕ → ℕ → View
+whole numbers due = seeing (2 ^ 32) numbers [] due false
 
 abbrev pub first_view : View
-first_view = whole []
+first_view = whole [] 0
 
-abbrev pub put : View → ℕ → View
-put v x = seeing v.parts (v.known ++ x ∷ []) v.taken
+-- a pass that puts a number, or an end
+abbrev pub put : View → Option ℕ → View
+put v (Some x) = seeing v.parts (v.known ++ x ∷ []) v.taken v.due v.ended
+put v None = seeing v.parts v.known v.taken (v.due + 1) v.ended
 
+-- a pass that takes a number, and one that takes an end
 abbrev pub took : View → ℕ → View
-took v x = seeing v.parts v.known (v.taken ++ x ∷ [])
+took v x = seeing v.parts v.known (v.taken ++ x ∷ []) v.due v.ended
+
+abbrev pub at_end : View → View
+at_end v = seeing v.parts v.known v.taken (v.due - 1) true
 
 -- a pass that makes another one, and the one that is made
 abbrev pub cut : View → View
-cut v = seeing (v.parts - 1) v.known v.taken
+cut v = seeing (v.parts - 1) v.known v.taken (v.due - 1) v.ended
 
 abbrev pub share : View → View
-share v = seeing 1 v.known []
+share v = seeing 1 v.known [] 1 false
 
 -- a pass that takes another in, and what is left of that
 abbrev pub both : View → View → View
-both v w = seeing (v.parts + w.parts) v.known (v.taken ++ w.taken)
+both v w = seeing (v.parts + w.parts) v.known (v.taken ++ w.taken) (v.due + w.due) (v.ended || w.ended)
 
 abbrev pub spent : View
-spent = seeing 0 [] []
+spent = seeing 0 [] [] 0 false
 
 -- f of each view, added up
 abbrev pub total : (View → ℕ) → List View → ℕ

@@ -1,8 +1,8 @@
 //! Numbers are put into a round, taken by its passes, and accounted for at the end.
-ghost use Rattle.std.specs.Prelude.{◌≡◌, ℕ, ◌+◌, ◌^◌, ◌<◌, ◌≤◌, [], ◌∷◌, ◌++◌, length, All, IfOk, IfNone, MatchOption, vec_len, vec_capacity};
+ghost use Rattle.std.specs.Prelude.{◌≡◌, ℕ, true, false, ◌+◌, ◌^◌, ◌<◌, ◌≤◌, ◌||◌, None, [], ◌∷◌, ◌++◌, length, All, IfOk, MatchOption, vec_len, vec_capacity};
 ghost use Rattle.crossbeam_queue.specs.Passes.{view, IsSamePass, IsPassOf, ruled_capacity};
 ghost use Rattle.nef_sched.specs.Counts.{times, Differ, IsDealt};
-ghost use Rattle.nef_sched.specs.Rounds.{Belongs, parts, known, taken, total_parts, times_taken, numbers_of, TookAll, SawEmpty};
+ghost use Rattle.nef_sched.specs.Rounds.{Belongs, parts, known, taken, ended, any_ended, total_parts, times_taken, numbers_of, TookAll};
 ghost use Rattle.nef_sched.specs.Views.{first_view, whole};
 
 use crate::OutOfMemory;
@@ -13,7 +13,7 @@ use crossbeam_queue::{Pass, RuledArrayQueue};
 use std::alloc::Global;
 use std::sync::Wait;
 
-type Line = RuledArrayQueue<usize, View, RoundRule>;
+type Line = RuledArrayQueue<Option<usize>, View, RoundRule>;
 
 /// What became of the numbers of a round.
 #[derive(Drop)]
@@ -25,7 +25,8 @@ pub struct Taken {
 }
 
 impl Round {
-    /// Returns a round of these numbers, and this many passes of it, which have taken nothing.
+    /// Returns a round of these numbers, and this many passes of it, which have taken nothing and
+    /// haven't ended.
     ///
     /// The numbers differ, and there is at least one number and one pass. The parts of the passes
     /// add up to 2^32. The call may wait on the queue. `OutOfMemory` says that memory was wanted
@@ -40,13 +41,14 @@ impl Round {
         requires some { 0 < length numbers.now }
         requires passes { 1 ≤ passes }
         ensures of { IfOk result (λ r. All (λ p. Belongs r.0 p) r.1.items) }
-        ensures fresh { IfOk result (λ r. All (λ p. (known p ≡ numbers.now) × (taken p ≡ [])) r.1.items) }
+        ensures fresh { IfOk result (λ r. All (λ p. (known p ≡ numbers.now) × (taken p ≡ []) × (ended p ≡ false)) r.1.items) }
         ensures every { IfOk result (λ r. total_parts r.1.items ≡ 2 ^ 32) }
         ensures len { IfOk result (λ r. vec_len r.1 ≡ passes) }
     {
         let left = Vec::with_capacity(alloc, numbers.len())?;
-        let (queue, pass) = Line::ruled(alloc, numbers.len())?;
+        let (queue, pass) = Line::ruled(alloc, numbers.len() + passes as usize)?;
         let pass = put_all(rt, &queue, pass, numbers);
+        let pass = put_ends(rt, &queue, pass, numbers, passes);
         let list = passes_of(alloc, &queue, pass, numbers.len(), passes)?;
         Ok((Round { queue, left }, list))
     }
@@ -54,24 +56,38 @@ impl Round {
     /// Returns a number of the round that no pass was given before, and adds it to what the pass
     /// took.
     ///
-    /// `None` comes only where the queue was empty at a step of this call; where the round has one
-    /// pass, exactly where that pass took all numbers. The call may wait on the queue. Takes no
-    /// memory.
+    /// `None` says that every number was taken: the pass has ended, so that each later call answers
+    /// so too, and where a pass of a round has ended `close` finds no number left. Where the round
+    /// has one pass, `None` comes exactly where that pass took all numbers. The call may wait on the
+    /// queue. Takes no memory.
     pub fn take<R: Wait>(&self, rt: &R, pass: &mut RoundPass) -> Option<usize>
         requires of { Belongs self.now pass.old }
         ensures of { Belongs self.now pass.new }
         ensures same { (parts pass.new ≡ parts pass.old) × (known pass.new ≡ known pass.old) }
         ensures number { MatchOption result (taken pass.new ≡ taken pass.old) (λ x. (taken pass.new ≡ taken pass.old ++ x ∷ []) × (times x (known pass.old) ≡ 1) × (times x (taken pass.old) ≡ 0)) }
-        ensures none { IfNone result (SawEmpty pass.old) }
+        ensures ended { MatchOption result (ended pass.new ≡ true) (λ _. ended pass.new ≡ false) }
+        ensures stays { ended pass.old ≡ true → result ≡ None }
         ensures alone { parts pass.old ≡ 2 ^ 32 → MatchOption result (TookAll pass.old) (λ _. ¬ (TookAll pass.old)) }
     {
-        let number = self.queue.pop_as::<Takes, R>(rt, &mut pass.pass)?;
-        pass.taken.push_reserved(number);
-        Some(number)
+        if pass.ended {
+            return None;
+        }
+        match self.queue.pop_as::<Takes, R>(rt, &mut pass.pass) {
+            Some(Some(number)) => {
+                pass.taken.push_reserved(number);
+                Some(number)
+            }
+            Some(None) => {
+                pass.ended = true;
+                None
+            }
+            // A pass that hasn't ended has an end in the queue.
+            None => unreachable!(),
+        }
     }
 
     /// Returns what the passes took and what no pass took, which together are the round's numbers,
-    /// each once.
+    /// each once. Where some pass has ended, none is left.
     ///
     /// The list holds every pass of the round, each once: the passes are of this round, and their
     /// parts add up to 2^32. The call may wait on the queue. Takes no memory.
@@ -80,6 +96,7 @@ impl Round {
         requires every { total_parts passes.items ≡ 2 ^ 32 }
         ensures each { IsDealt (numbers_of passes.items) result.taken.items result.left.items }
         ensures taken { (x : ℕ) → times x result.taken.items ≡ times_taken x passes.items }
+        ensures ended { any_ended passes.items ≡ true → result.left.items ≡ [] }
     {
         let Round { queue, left } = self;
         let Some(mut whole) = passes.pop() else {
@@ -88,7 +105,11 @@ impl Round {
         while let Some(other) = passes.pop() {
             whole = joined(&queue, whole, other);
         }
-        let RoundPass { pass, taken } = whole;
+        let RoundPass {
+            pass,
+            taken,
+            ended: _,
+        } = whole;
         let left = drained(rt, &queue, pass, left);
         Taken { taken, left }
     }
@@ -98,18 +119,41 @@ impl Round {
 fn put_all<R: Wait>(
     rt: &R,
     queue: &Line,
-    mut pass: Pass<usize, View>,
+    mut pass: Pass<Option<usize>, View>,
     numbers: &[usize],
-) -> Pass<usize, View>
+) -> Pass<Option<usize>, View>
     requires of { IsPassOf queue.now pass }
     requires first { view pass ≡ first_view }
     requires differ { Differ numbers.now }
-    requires room { ruled_capacity queue.now ≡ length numbers.now }
+    requires room { length numbers.now ≤ ruled_capacity queue.now }
     ensures of { IsPassOf queue.now result }
-    ensures all { view result ≡ whole numbers.now }
+    ensures all { view result ≡ whole numbers.now 0 }
 {
     for number in numbers {
-        let Ok(()) = queue.push_as::<Puts, R>(rt, &mut pass, *number) else {
+        let Ok(()) = queue.push_as::<Puts, R>(rt, &mut pass, Some(*number)) else {
+            unreachable!()
+        };
+    }
+    pass
+}
+
+// Puts so many ends behind the numbers.
+fn put_ends<R: Wait>(
+    rt: &R,
+    queue: &Line,
+    mut pass: Pass<Option<usize>, View>,
+    numbers: &[usize],
+    count: u32,
+) -> Pass<Option<usize>, View>
+    requires of { IsPassOf queue.now pass }
+    requires all { view pass ≡ whole numbers.now 0 }
+    requires room { length numbers.now + count ≤ ruled_capacity queue.now }
+    ensures of { IsPassOf queue.now result }
+    ensures all { view result ≡ whole numbers.now count }
+{
+    let _numbers = numbers;
+    for _ in 0..count {
+        let Ok(()) = queue.push_as::<Puts, R>(rt, &mut pass, None) else {
             unreachable!()
         };
     }
@@ -120,17 +164,18 @@ fn put_all<R: Wait>(
 fn passes_of(
     alloc: Global,
     queue: &Line,
-    mut pass: Pass<usize, View>,
+    mut pass: Pass<Option<usize>, View>,
     room: usize,
     passes: u32,
 ) -> Result<Vec<RoundPass>, OutOfMemory>
     requires of { IsPassOf queue.now pass }
     requires all { (view pass).parts ≡ 2 ^ 32 }
-    requires fresh { (view pass).taken ≡ [] }
+    requires fresh { ((view pass).taken ≡ []) × ((view pass).ended ≡ false) }
+    requires due { (view pass).due ≡ passes }
     requires room { length (view pass).known ≡ room }
     requires passes { 1 ≤ passes }
     ensures of { IfOk result (λ v. All (λ p. IsPassOf queue.now p.pass) v.items) }
-    ensures fresh { IfOk result (λ v. All (λ p. (known p ≡ (view pass).known) × (taken p ≡ [])) v.items) }
+    ensures fresh { IfOk result (λ v. All (λ p. (known p ≡ (view pass).known) × (taken p ≡ []) × (ended p ≡ false)) v.items) }
     ensures every { IfOk result (λ v. total_parts v.items ≡ 2 ^ 32) }
     ensures len { IfOk result (λ v. vec_len v ≡ passes) }
 {
@@ -138,10 +183,18 @@ fn passes_of(
     for _ in 1..passes {
         let taken = Vec::with_capacity(alloc, room)?;
         let other = queue.another::<Cut>(&mut pass);
-        list.push(RoundPass { pass: other, taken })?;
+        list.push(RoundPass {
+            pass: other,
+            taken,
+            ended: false,
+        })?;
     }
     let taken = Vec::with_capacity(alloc, room)?;
-    list.push(RoundPass { pass, taken })?;
+    list.push(RoundPass {
+        pass,
+        taken,
+        ended: false,
+    })?;
     Ok(list)
 }
 
@@ -152,21 +205,31 @@ fn joined(queue: &Line, into: RoundPass, other: RoundPass) -> RoundPass
     ensures parts { parts result ≡ parts into + parts other }
     ensures known { known result ≡ known into }
     ensures taken { taken result ≡ taken into ++ taken other }
+    ensures ended { ended result ≡ (ended into || ended other) }
 {
     let RoundPass {
         mut pass,
         taken: list,
+        ended: one,
     } = into;
     let RoundPass {
         pass: spent,
         taken: more,
+        ended: two,
     } = other;
     queue.absorb::<Cut>(&mut pass, spent);
     queue.learn_as::<Takes>(&mut pass);
     RoundPass {
         pass,
         taken: appended(list, more),
+        ended: either(one, two),
     }
+}
+
+fn either(one: bool, two: bool) -> bool
+    ensures { result ≡ (one || two) }
+{
+    one || two
 }
 
 // Both lists in one, which has room for them.
@@ -185,17 +248,20 @@ fn appended(mut list: Vec<usize>, more: Vec<usize>) -> Vec<usize>
 fn drained<R: Wait>(
     rt: &R,
     queue: &Line,
-    mut pass: Pass<usize, View>,
+    mut pass: Pass<Option<usize>, View>,
     mut left: Vec<usize>,
 ) -> Vec<usize>
     requires of { IsPassOf queue.now pass }
     requires all { (view pass).parts ≡ 2 ^ 32 }
     requires empty { left.items ≡ [] }
     requires room { length (view pass).known ≤ vec_capacity left }
-    ensures { IsDealt (view pass).known (view pass).taken result.items }
+    ensures each { IsDealt (view pass).known (view pass).taken result.items }
+    ensures ended { (view pass).ended ≡ true → result.items ≡ [] }
 {
-    while let Some(number) = queue.pop_as::<Takes, R>(rt, &mut pass) {
-        left.push_reserved(number);
+    while let Some(item) = queue.pop_as::<Takes, R>(rt, &mut pass) {
+        if let Some(number) = item {
+            left.push_reserved(number);
+        }
     }
     left
 }

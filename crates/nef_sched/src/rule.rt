@@ -2,10 +2,12 @@
 use crate::view::View;
 use crossbeam_queue::protocol::{Join, Lesson, Outcome, Protocol, Split};
 
-/// The numbers that were put are what the passes took and what the queue holds, each once.
+/// The numbers that were put are what the passes took and what the queue holds, each once. Behind
+/// them the queue holds an end for each pass that hasn't ended, so that where one has, no number
+/// is left.
 pub struct RoundRule;
 
-impl Protocol<usize, View> for RoundRule {
+impl Protocol<Option<usize>, View> for RoundRule {
     ghost use Rattle.nef_sched.specs.Rule.{Kept};
     ghost use Rattle.nef_sched.specs.Views.{first_view};
 
@@ -14,34 +16,32 @@ impl Protocol<usize, View> for RoundRule {
     ghost first = { first_view };
 }
 
-/// Puts a number, which the pass then knows.
+/// Puts a number, which the pass then knows, or an end.
 pub struct Puts;
 
-impl Outcome<usize, View> for Puts {
+impl Outcome<Option<usize>, View> for Puts {
     ghost use Rattle.std.specs.Prelude.{◌≡◌};
     ghost use Rattle.nef_sched.specs.Views.{put};
 
     ghost then = { λ v x w. w ≡ put v x };
 }
 
-impl Lesson<usize, View> for Puts {
+impl Lesson<Option<usize>, View> for Puts {
     ghost use Rattle.nef_sched.specs.Rule.{Sees};
 
     ghost fact = { Sees };
 }
 
-/// Takes a number that no pass took before.
+/// Takes a number that no pass took before, or an end.
 pub struct Takes;
 
-impl Outcome<usize, View> for Takes {
-    ghost use Rattle.std.specs.Prelude.{◌≡◌};
-    ghost use Rattle.nef_sched.specs.Rule.{IsNew};
-    ghost use Rattle.nef_sched.specs.Views.{took};
+impl Outcome<Option<usize>, View> for Takes {
+    ghost use Rattle.nef_sched.specs.Rule.{Took};
 
-    ghost then = { λ v x w. (w ≡ took v x) × IsNew v x };
+    ghost then = { Took };
 }
 
-impl Lesson<usize, View> for Takes {
+impl Lesson<Option<usize>, View> for Takes {
     ghost use Rattle.nef_sched.specs.Rule.{Sees};
 
     ghost fact = { Sees };

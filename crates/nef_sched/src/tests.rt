@@ -3,8 +3,9 @@ ghost use Rattle.std.specs.Prelude.{◌≡◌, ◌==◌, if◌then◌else◌, na
 
 use crate::{Needs, OutOfMemory, Results, Round, Stage, Taken, run_ahead};
 use std::alloc::Global;
-use std::sync::atomic::{AtomicU64, Ordering};
+use std::sync::atomic::{AtomicBool, AtomicU64, Ordering};
 use std::test::Fail;
+use std::thread;
 
 #[test]
 fn one_pass_takes_all(rt: HostRuntime) -> Result<(), Fail> {
@@ -35,6 +36,8 @@ fn two_passes_share(rt: HostRuntime) -> Result<(), Fail> {
     let second = round.take(&rt, &mut one);
     assert!(rt; first == Some(4) && second == Some(7) || first == Some(7) && second == Some(4));
     assert_eq!(rt; round.take(&rt, &mut other), None);
+    assert_eq!(rt; round.take(&rt, &mut other), None);
+    assert_eq!(rt; round.take(&rt, &mut one), None);
     Ok(())
 }
 
@@ -136,5 +139,88 @@ fn results_come_in_order(rt: HostRuntime) -> Result<(), Fail> {
     let results = run_ahead(&rt, rt.alloc(), &stage, 2)?;
     assert_eq!(rt; results.as_slice(), [1, 1, 3, 4, 5].as_slice());
     assert_eq!(rt; stage.alone.load(Ordering::SeqCst), 1);
+    Ok(())
+}
+
+// More turns than another thread needs to begin a number.
+const TURNS: u64 = 20_000_000;
+
+// Two numbers that need nothing, each of which is worked until the other began, for so many turns
+// at most.
+#[derive(Drop)]
+struct Waiting {
+    first: AtomicBool,
+    second: AtomicBool,
+    limit_reached: AtomicBool,
+}
+
+impl Waiting {
+    fn new() -> Waiting {
+        Waiting {
+            first: AtomicBool::new(false),
+            second: AtomicBool::new(false),
+            limit_reached: AtomicBool::new(false),
+        }
+    }
+
+    fn wait_for(&self, began: &AtomicBool) {
+        for _ in 0..TURNS {
+            if began.load(Ordering::SeqCst) {
+                return;
+            }
+            thread::yield_now();
+        }
+        self.limit_reached.store(true, Ordering::SeqCst);
+    }
+}
+
+impl Stage for Waiting {
+    type Out = usize;
+
+    ghost use Rattle.std.specs.Prelude.{◌≡◌, None};
+
+    ghost size = { λ s. 2 };
+
+    ghost first = { λ s i. None };
+
+    ghost second = { λ s i. None };
+
+    ghost fits = { λ s i out. out ≡ i };
+
+    fn count(&self) -> usize {
+        2
+    }
+
+    fn needs(&self, _i: usize) -> Needs {
+        Needs {
+            first: None,
+            second: None,
+        }
+    }
+
+    fn work(
+        &self,
+        _alloc: Global,
+        i: usize,
+        _alone: bool,
+        _done: &Results<usize>,
+    ) -> Result<usize, OutOfMemory> {
+        if i == 0 {
+            self.first.store(true, Ordering::SeqCst);
+            self.wait_for(&self.second);
+        } else {
+            self.second.store(true, Ordering::SeqCst);
+            self.wait_for(&self.first);
+        }
+        Ok(i)
+    }
+}
+
+#[test]
+fn numbers_of_a_round_run_side_by_side(rt: HostRuntime) -> Result<(), Fail> {
+    let stage = Waiting::new();
+    let results = run_ahead(&rt, rt.alloc(), &stage, 2)?;
+    assert_eq!(rt; results.as_slice(), [0, 1].as_slice());
+    assert!(rt; !stage.limit_reached.load(Ordering::SeqCst));
     Ok(())
 }

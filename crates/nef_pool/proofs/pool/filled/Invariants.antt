@@ -5,3 +5,4 @@ abbrev pub invariant-loop-slot : goal.invariant-loop-slot
 invariant-loop-slot g l =
     (vec_len l.outs ≡ length l.yielded)
     × ((i : ℕ) (out : _) → slice_get l.outs.items i ≡ Some out → g.J.Job.right l.job i out)
+    × ((i : ℕ) (out : _) → slice_get l.yielded i ≡ Some (Some out) → slice_get l.outs.items i ≡ Some out)

@@ -1,4 +1,4 @@
-use Rattle.nef_sched.proofs.Steps.{agree, none_twice, none_taken_is_left, none_lost}
+use Rattle.nef_sched.proofs.Steps.{agree, none_twice, none_taken_is_left, none_lost, ended_is_empty}
 use Rattle.nef_sched.proofs.laws.passes_agree.Goals as goal
 
 pub returns-clause-known : goal.returns-clause-known
@@ -12,3 +12,6 @@ returns-clause-apart c = none_taken_is_left
 
 pub returns-clause-none_lost : goal.returns-clause-none_lost
 returns-clause-none_lost c = none_lost
+
+pub returns-clause-ended : goal.returns-clause-ended
+returns-clause-ended c = ended_is_empty

@@ -1,4 +1,4 @@
-use Rattle.nef_sched.proofs.Steps.{begins, puts, takes, forks, merges}
+use Rattle.nef_sched.proofs.Steps.{begins, puts, puts_end, takes, forks, merges}
 use Rattle.nef_sched.proofs.laws.steps_keep_the_rule.Goals as goal
 
 pub returns-clause-begin : goal.returns-clause-begin
@@ -6,6 +6,9 @@ returns-clause-begin c = begins
 
 pub returns-clause-put : goal.returns-clause-put
 returns-clause-put c = puts
+
+pub returns-clause-end : goal.returns-clause-end
+returns-clause-end c = puts_end
 
 pub returns-clause-take : goal.returns-clause-take
 returns-clause-take c = takes

@@ -1,6 +1,8 @@
-use Rattle.std.proofs.Common.{arith}
+use Rattle.std.proofs.Common.{arith, sym, ◌∙◌, subst}
 use Rattle.crossbeam_queue.specs.Passes.{view}
-use Rattle.nef_sched.proofs.Steps.{merges, sees, fits_in}
+use Rattle.nef_sched.specs.declared.view.View.{View}
+use Rattle.nef_sched.specs.Rule.{Sees}
+use Rattle.nef_sched.proofs.Steps.{merges, sees, fits_in, joined_ended, joined_owes, ended_took}
 use Rattle.nef_sched.proofs.round.joined.Goals as goal
 
 pub absorb-requires-clause-rule : goal.absorb-requires-clause-rule
@@ -17,3 +19,23 @@ appended-requires c =
     let k = a.taken.ok in
     let l = b.taken.ok in
     omega arith
+
+pub invariant_of-result-clause-same_end : goal.invariant_of-result-clause-same_end
+invariant_of-result-clause-same_end c =
+    let a = c.args.into in
+    let b = c.args.other in
+    joined_ended (view a.pass) (view b.pass) _ a.ended b.ended (c.learn_as.ensures.queue.1 ∙ c.absorb.ensures.rule) a.same_end b.same_end ∙ sym c.either.ensures
+
+pub invariant_of-result-clause-owes : goal.invariant_of-result-clause-owes
+invariant_of-result-clause-owes c e =
+    let a = c.args.into in
+    let b = c.args.other in
+    joined_owes a.ended b.ended (view a.pass) (view b.pass) (view c.learn_as.new.pass) a.owes (c.learn_as.ensures.queue.1 ∙ c.absorb.ensures.rule) (sym c.either.ensures ∙ e)
+
+pub invariant_of-result-clause-took_each : goal.invariant_of-result-clause-took_each
+invariant_of-result-clause-took_each c e all =
+    let a = c.args.into in
+    let b = c.args.other in
+    let same = c.learn_as.ensures.queue.1 in
+    let end = joined_ended (view a.pass) (view b.pass) (view c.learn_as.new.pass) a.ended b.ended (same ∙ c.absorb.ensures.rule) a.same_end b.same_end ∙ sym c.either.ensures ∙ e in
+    ended_took (view c.learn_as.new.pass) c.learn_as.ensures.rule.0 end (subst (λ (v : View). Sees v c.learn_as.ensures.rule.0) (sym same) c.learn_as.ensures.rule.1) all

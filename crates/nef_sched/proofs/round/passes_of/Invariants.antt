@@ -1,16 +1,17 @@
-use Rattle.std.proofs.Common.{◌≡◌, ◌+◌, ◌^◌, [], All, vec_len}
+use Rattle.std.proofs.Common.{◌≡◌, ◌+◌, ◌^◌, [], false, All, vec_len}
 use Rattle.crossbeam_queue.specs.Passes.{view, IsPassOf}
-use Rattle.nef_sched.specs.Rounds.{known, taken, total_parts}
+use Rattle.nef_sched.specs.Rounds.{known, taken, ended, total_parts}
 use Rattle.nef_sched.proofs.round.passes_of.Given as goal
 
 abbrev pub invariant-loop : goal.invariant-loop
 invariant-loop l = record {
   of : IsPassOf l.queue l.pass;
   parts : (view l.pass).parts + l.counter ≡ 2 ^ 32 + 1;
-  none : (view l.pass).taken ≡ [];
+  due : (view l.pass).due + l.counter ≡ l.passes + 1;
+  none : ((view l.pass).taken ≡ []) × ((view l.pass).ended ≡ false);
   knows : (view l.pass).known ≡ (view l.initial.pass).known;
   every : total_parts l.list.items + (view l.pass).parts ≡ 2 ^ 32;
   len : vec_len l.list + 1 ≡ l.counter;
   each : All (λ p. IsPassOf l.queue p.pass) l.list.items;
-  fresh : All (λ p. (known p ≡ (view l.initial.pass).known) × (taken p ≡ [])) l.list.items;
+  fresh : All (λ p. (known p ≡ (view l.initial.pass).known) × (taken p ≡ []) × (ended p ≡ false)) l.list.items;
 }

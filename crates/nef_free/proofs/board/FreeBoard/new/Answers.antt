@@ -4,4 +4,5 @@ use Rattle.nef_free.proofs.board.FreeBoard.new.Goals as goal
 
 pub vacant-requires : goal.vacant-requires
 vacant-requires g c =
-    rw (c.as_slice.ensures.value, c.in_ok-words.ensures) (opens _ _ _ (let a = c.if-jobs-ge-TOO_MANY_JOBS.false in let b = c.ranges.seats.fits in omega arith) c.requires)
+    let more = c.in-Some.ensures.1 in
+    rw (c.as_slice.ensures.value, c.in_ok-words.ensures.items, more) (opens _ _ _ (let a = c.in_ok-words.ensures.few in let b = c.ranges.seats.fits in omega arith) c.requires)

@@ -1,10 +1,10 @@
-use Rattle.std.proofs.Common.{ap, sym, ◌∙◌, arith, Some}
+use Rattle.std.proofs.Common.{ap, sym, ◌∙◌, ◌||◌, arith, Some}
 use Rattle.std.proofs.lemmas.List.Elements.{All-pop}
 use Rattle.crossbeam_queue.specs.Passes.{IsPassOf}
 use Rattle.nef_sched.specs.declared.pass.RoundPass.{RoundPass}
 use Rattle.nef_sched.specs.Counts.{times}
-use Rattle.nef_sched.specs.Rounds.{Belongs, taken, total_parts, times_taken, numbers_of}
-use Rattle.nef_sched.proofs.Steps.{parts_snoc, times_snoc, numbers_snoc, times_joined, dealt_as, none_took}
+use Rattle.nef_sched.specs.Rounds.{Belongs, taken, ended, any_ended, total_parts, times_taken, numbers_of}
+use Rattle.nef_sched.proofs.Steps.{parts_snoc, times_snoc, numbers_snoc, times_joined, dealt_as, none_took, ended_snoc, none_ended, or_none, or_move}
 use Rattle.nef_sched.proofs.pass.Round.close.Goals as goal
 
 pub loop-other-init : goal.loop-other-init
@@ -20,6 +20,7 @@ loop-other-init g c =
       knows = sym (ap numbers_of last ∙ numbers_snoc c.pop.new.self.items c.in-Some.whole);
       room = both.1.1;
       took = λ x. let e = ap (times_taken x) last ∙ times_snoc x _ _ in omega arith;
+      ended = ap any_ended last ∙ ended_snoc c.pop.new.self.items c.in-Some.whole;
     }
 
 pub joined-whole-requires : goal.joined-whole-requires
@@ -47,13 +48,18 @@ loop-other-preserved g c =
           let t = i.took x in
           let s = ap (times x) j.taken ∙ times_joined x (taken c.loop-other.whole) (taken c.in-Some-pop.other) in
           omega arith;
+      ended =
+          i.ended
+          ∙ ap (λ b. ended c.loop-other.whole || b) (ap any_ended last ∙ ended_snoc c.pop-in-loop-other.new.self.items c.in-Some-pop.other)
+          ∙ sym (or_move (ended c.loop-other.whole) (ended c.in-Some-pop.other) (any_ended c.pop-in-loop-other.new.self.items))
+          ∙ ap (λ b. b || any_ended c.pop-in-loop-other.new.self.items) (sym j.ended);
     }
 
 pub drained-left-requires-clause-room : goal.drained-left-requires-clause-room
 drained-left-requires-clause-room g c = c.loop-other.invariant.room
 
 pub returns-clause-each : goal.returns-clause-each
-returns-clause-each g c = dealt_as _ _ _ _ _ c.loop-other.invariant.knows c.loop-other.whole.same_taken c.drained-left.ensures
+returns-clause-each g c = dealt_as _ _ _ _ _ c.loop-other.invariant.knows c.loop-other.whole.same_taken c.drained-left.ensures.each
 
 pub returns-clause-taken : goal.returns-clause-taken
 returns-clause-taken g c x =
@@ -61,3 +67,9 @@ returns-clause-taken g c x =
     let k = c.loop-other.passes.ok in
     let n = none_took x c.loop-other.passes.items (let z = c.in_default-pop.ensures.cases.0 in omega arith) in
     omega arith
+
+pub returns-clause-ended : goal.returns-clause-ended
+returns-clause-ended g c some_end =
+    let k = c.loop-other.passes.ok in
+    let n = none_ended c.loop-other.passes.items (let z = c.in_default-pop.ensures.cases.0 in omega arith) in
+    c.drained-left.ensures.ended (sym (or_none (ended c.loop-other.whole)) ∙ sym (ap (λ b. ended c.loop-other.whole || b) n) ∙ sym c.loop-other.invariant.ended ∙ some_end)

@@ -1,7 +1,7 @@
-use Rattle.std.proofs.Common.{◌≡◌, ◌+◌, ◌^◌, ◌≤◌, ℕ, All, length, vec_capacity}
+use Rattle.std.proofs.Common.{◌≡◌, ◌+◌, ◌^◌, ◌≤◌, ◌||◌, ℕ, All, length, vec_capacity}
 use Rattle.crossbeam_queue.specs.Passes.{IsPassOf}
 use Rattle.nef_sched.specs.Counts.{times}
-use Rattle.nef_sched.specs.Rounds.{parts, known, taken, total_parts, times_taken, numbers_of}
+use Rattle.nef_sched.specs.Rounds.{parts, known, taken, ended, any_ended, total_parts, times_taken, numbers_of}
 use Rattle.nef_sched.proofs.pass.Round.close.Given as goal
 
 abbrev pub invariant-loop-other : goal.invariant-loop-other
@@ -12,6 +12,7 @@ invariant-loop-other g l = record {
   knows : known l.whole ≡ numbers_of l.fn.passes.items;
   room : length (known l.whole) ≤ vec_capacity l.left;
   took : (x : ℕ) → times x (taken l.whole) + times_taken x l.passes.items ≡ times_taken x l.fn.passes.items;
+  ended : any_ended l.fn.passes.items ≡ (ended l.whole || any_ended l.passes.items);
 }
 
 abbrev pub decreases-loop-other : goal.decreases-loop-other
