@@ -42,6 +42,8 @@ first_role verb.Cl e = (_, refl)
 first_role verb.Bd e = (_, refl)
 first_role verb.Reg e = (_, refl)
 first_role verb.Has e = cc
+first_role verb.Joined e = cc
+first_role verb.Ray e = cc
 first_role verb.Same e = cc
 first_role verb.Count e = cc
 first_role verb.Print e = cc
@@ -132,7 +134,8 @@ Fits-from names text v args passes command =
     let j = first_none (test kind.ZeroNormal) kind.ZeroNormal _ i.1 in
     let k = first_none (test kind.BadMode) kind.BadMode _ j.1 in
     let l = first_none (test kind.BadWeight) kind.BadWeight _ k.1 in
-    let m = first_none (test kind.TooManyNames) kind.TooManyNames _ l.1 in
+    let m = first_none (test kind.ZeroDirection) kind.ZeroDirection _ l.1 in
+    let n = first_none (test kind.TooManyNames) kind.TooManyNames _ m.1 in
     record {
       word_count = sym (on_command-Some (command_test kind.WordCount names) (words_of text) args v command) ∙ d.0;
       good_names = sym (on_command-Some (command_test kind.BadName names) (words_of text) args v command) ∙ e.0;
@@ -143,7 +146,8 @@ Fits-from names text v args passes command =
       normal = sym (on_command-Some (command_test kind.ZeroNormal names) (words_of text) args v command) ∙ j.0;
       mode = sym (on_command-Some (command_test kind.BadMode names) (words_of text) args v command) ∙ k.0;
       weight = sym (on_command-Some (command_test kind.BadWeight names) (words_of text) args v command) ∙ l.0;
-      room = sym (on_command-Some (command_test kind.TooManyNames names) (words_of text) args v command) ∙ m.0;
+      direction = sym (on_command-Some (command_test kind.ZeroDirection names) (words_of text) args v command) ∙ m.0;
+      room = sym (on_command-Some (command_test kind.TooManyNames names) (words_of text) args v command) ∙ n.0;
     }
 
 -- the words begin with the command

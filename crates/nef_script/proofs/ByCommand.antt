@@ -54,4 +54,5 @@ refused-Some kind.OutOfRange names line v args e a b c d = on_command-Some (comm
 refused-Some kind.ZeroNormal names line v args e a b c d = on_command-Some (command_test kind.ZeroNormal names) (words_of line) args v e
 refused-Some kind.BadMode names line v args e a b c d = on_command-Some (command_test kind.BadMode names) (words_of line) args v e
 refused-Some kind.BadWeight names line v args e a b c d = on_command-Some (command_test kind.BadWeight names) (words_of line) args v e
+refused-Some kind.ZeroDirection names line v args e a b c d = on_command-Some (command_test kind.ZeroDirection names) (words_of line) args v e
 refused-Some kind.TooManyNames names line v args e a b c d = on_command-Some (command_test kind.TooManyNames names) (words_of line) args v e

@@ -17,7 +17,7 @@ use Rattle.nef_script.specs.Reading.{AddsLine, AddsCommand}
 use Rattle.nef_script.specs.Progress.{HasRead}
 use Rattle.nef_script.specs.declared.table.Verb.{Verb}
 use Rattle.nef_script.specs.declared.script.Command.{Command}
-use Rattle.nef_script.specs.declared.script.Command.TheVariants.{Bind, Has, Same, Count, Print}
+use Rattle.nef_script.specs.declared.script.Command.TheVariants.{Bind, Has, Joined, Ray, Same, Count, Print}
 use Rattle.nef_script.specs.declared.fault.ScriptKind.{ScriptKind}
 
 -- ---- places in lists
@@ -59,6 +59,8 @@ words_more names line (word ∷ args) nodes more c (v, is, means) = (v, is, comm
 within_more : (m n : ℕ) (c : Command) → m ≤ n → IsWithin m c → IsWithin n c
 within_more m n (Bind line k) le below = omega arith
 within_more m n (Has line k p) le below = omega arith
+within_more m n (Joined line k p q) le below = omega arith
+within_more m n (Ray line k p d) le (below, small) = (omega arith, small)
 within_more m n (Same line i j) le (first, second) = (omega arith, omega arith)
 within_more m n (Count line k) le below = omega arith
 within_more m n (Print line k name) le below = omega arith

@@ -33,6 +33,9 @@ quotient p x y z w x' y' z' w' is_x is_y is_z is_w positive same =
 pub same_form : (a b c d a' b' c' d' : ℤ) → a' ≡ a → b' ≡ b → c' ≡ c → d' ≡ d → form a' b' c' d' ≡ form a b c d
 same_form a b c d a' b' c' d' is_a is_b is_c is_d = rw (is_a, is_b, is_c, is_d) refl
 
+pub same_vector : (x y z x' y' z' : ℤ) → x' ≡ x → y' ≡ y → z' ≡ z → vector x' y' z' ≡ vector x y z
+same_vector x y z x' y' z' is_x is_y is_z = rw (is_x, is_y, is_z) refl
+
 -- a plane within the limits whose normal isn't zero is read
 pub read_succeeds : (h : Form) (r : Result Oriented PlaneFault) (f : PlaneFault) → r ≡ Err f → ((r ≡ Err OutOfRange) ↔ (¬ IsInRange h)) → ((r ≡ Err ZeroNormal) ↔ (IsInRange h × IsZero (normal_of h))) → IsInRange h → IsDirection (normal_of h) → ⊥
 read_succeeds h r OutOfRange e past zero within some = past.0 e within

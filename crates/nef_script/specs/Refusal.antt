@@ -27,6 +27,7 @@ kinds =
     ∷ kind.ZeroNormal
     ∷ kind.BadMode
     ∷ kind.BadWeight
+    ∷ kind.ZeroDirection
     ∷ kind.TooManyNames
     ∷ []
 
