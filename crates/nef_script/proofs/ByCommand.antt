@@ -1,5 +1,5 @@
 -- The tests of a kind, by the command of the line.
-use Rattle.std.proofs.Common.{◌≡◌, ℕ, Bool, true, false, not, ◌&&◌, cond, nat_eq, List, [], ◌∷◌, length, Option, Some, None, is_none, is_some, refl, ap, sym, ◌∙◌}
+use Rattle.std.proofs.Common.{◌≡◌, ℕ, Bool, false, nat_eq, List, [], ◌∷◌, length, Option, Some, None, is_none, refl, ap}
 use Rattle.std.specs.Option.{option_map}
 use Rattle.nef_lex.specs.Words.{words_of}
 use Rattle.nef_script.specs.Table.{verb_of}

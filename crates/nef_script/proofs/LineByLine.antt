@@ -3,16 +3,15 @@ use Rattle.std.proofs.Common.{◌≡◌, ℕ, zero, suc, ◌+◌, ◌<◌, ◌�
 use Rattle.std.specs.List.{All, filter, enumerate_from}
 use Rattle.std.proofs.Math.Seq.{take-append_seam}
 use Rattle.std.proofs.lemmas.Bool.{cases_lt, cases_Bool}
-use Rattle.std.proofs.lemmas.Grind.{common_steps}
 use Rattle.std.proofs.lemmas.List.{take-append-le}
 use Rattle.std.proofs.lemmas.List.Elements.{All-nil, All-push, All-weaker, filter-append}
-use Rattle.std.proofs.lemmas.Option.{slice_get_within, slice_get_past}
+use Rattle.std.proofs.lemmas.Option.{slice_get_within}
 use Rattle.nef_lex.specs.Lines.{lines_of}
 use Rattle.nef_lex.specs.Words.{words_of}
 use Rattle.nef_expr.specs.declared.nodes.Node.{Node}
-use Rattle.nef_script.specs.Table.{verb_of, binds}
+use Rattle.nef_script.specs.Table.{binds}
 use Rattle.nef_script.specs.Refusal.{script_limit, line_refusal, bound_name, names_of, RefusalAt, Passes, FirstRefusal}
-use Rattle.nef_script.specs.Meaning.{IsNode, IsWithin, MeansCommand, MeansWords, MeansLines, has_words}
+use Rattle.nef_script.specs.Meaning.{IsWithin, MeansCommand, MeansWords, MeansLines, has_words}
 use Rattle.nef_script.specs.Reading.{AddsLine, AddsCommand}
 use Rattle.nef_script.specs.Progress.{HasRead}
 use Rattle.nef_script.specs.declared.table.Verb.{Verb}

@@ -1,6 +1,5 @@
 -- The numbers of a ray's start are no larger than those that its words spell, since a point has its lowest terms.
-use Rattle.std.proofs.Common.{◌≡◌, ℕ, suc, ◌+◌, ◌*◌, ◌<◌, ◌≤◌, List, ℤ, pos, ◌*ℤ◌, ◌<ℤ◌, nat_abs, refl, sym, ◌∙◌, ap, subst, arith, inl, inr}
-use Rattle.std.specs.Int.{◌∣◌}
+use Rattle.std.proofs.Common.{◌≡◌, ℕ, ◌+◌, ◌*◌, ◌<◌, ◌≤◌, List, ℤ, pos, ◌*ℤ◌, ◌<ℤ◌, nat_abs, sym, ◌∙◌, ap, subst, arith}
 use Rattle.std.proofs.Math.IntN.{*ℤ_comm}
 use Rattle.std.proofs.Math.Nat.{mul-le-mul, le_of_mul-le-mul_left, mul_comm}
 use Rattle.std.proofs.lemmas.Int.{ints, unsigned_abs-mul}

@@ -1,8 +1,7 @@
 -- The first refusals of short scripts, by computation.
-use Rattle.std.proofs.Common.{◌≡◌, ℕ, zero, suc, ◌<◌, ◌≤◌, List, [], ◌∷◌, length, codes, refl, arith, lit≤, Option, Some, None}
-use Rattle.nef_lex.specs.Lines.{lines_of}
-use Rattle.nef_script.specs.Refusal.{RefusalAt, Passes, FirstRefusal, IsAccepted}
-use Rattle.nef_script.specs.Laws.{script_of, UnknownCommandExample, WordCountExample, BadNameExample, NameTakenExample, UnknownNameExample, OwnNameExample, NotANumberExample, ZeroNormalExample, BadModeExample, OutOfRangeExample, BadWeightExample, ZeroDirectionExample, LongDirectionExample, FarPointExample, FirstLineExample, AcceptedExample}
+use Rattle.std.proofs.Common.{ℕ, List, codes, refl, arith, lit≤, None}
+use Rattle.nef_script.specs.Refusal.{RefusalAt, Passes, FirstRefusal}
+use Rattle.nef_script.specs.Laws.{UnknownCommandExample, WordCountExample, BadNameExample, NameTakenExample, UnknownNameExample, OwnNameExample, NotANumberExample, ZeroNormalExample, BadModeExample, OutOfRangeExample, BadWeightExample, ZeroDirectionExample, LongDirectionExample, FarPointExample, FirstLineExample, AcceptedExample}
 use Rattle.nef_script.proofs.LineByLine.{passes_more}
 use Rattle.nef_script.specs.declared.fault.ScriptKind.TheVariants as kind
 

@@ -1,11 +1,11 @@
 -- The values of a line's words, as the calls take them.
-use Rattle.std.proofs.Common.{◌≡◌, ℕ, ◌<◌, ◌^◌, ℤ, pos, ◌<ℤ◌, List, [], ◌∷◌, length, get_or, Result, Ok, Err, ◌↔◌, refl, sym, ◌∙◌, ap, subst, w64, to_z, of_z}
+use Rattle.std.proofs.Common.{◌≡◌, ℕ, ◌<◌, ◌^◌, ℤ, pos, ◌<ℤ◌, List, length, get_or, Result, Err, ◌↔◌, refl, sym, ◌∙◌, ap, subst, w64, to_z, of_z}
 use Rattle.std.proofs.lemmas.Int.{to_z-of_z}
 use Rattle.std.specs.Int.Signed.{mag}
 use Rattle.nef_space.specs.Place.{Form, form, SamePlace, normal_of}
 use Rattle.nef_space.specs.Vectors.{vector, IsZero, IsDirection}
-use Rattle.nef_geo.specs.Reading.{IsInRange, IsPositiveMultiple}
-use Rattle.nef_geo.specs.Shapes.{place_at, place_of, given_form}
+use Rattle.nef_geo.specs.Reading.{IsInRange}
+use Rattle.nef_geo.specs.Shapes.{place_at, place_of}
 use Rattle.nef_geo.specs.declared.plane.Oriented.{Oriented}
 use Rattle.nef_geo.specs.declared.point.Point.{Point}
 use Rattle.nef_geo.specs.declared.reading.PlaneFault.{PlaneFault}
@@ -13,8 +13,8 @@ use Rattle.nef_geo.specs.declared.reading.PlaneFault.TheVariants.{OutOfRange, Ze
 use denote.Ref.{Bor}
 use Rattle.nef_script.specs.Names.{pointed}
 use Rattle.nef_script.specs.Tests.{number_or_zero}
-use Rattle.nef_script.specs.Meaning.{IsGiven, IsQuotient}
-use Rattle.nef_script.specs.Reading.{number_at, words_form}
+use Rattle.nef_script.specs.Meaning.{IsQuotient}
+use Rattle.nef_script.specs.Reading.{number_at}
 use Rattle.nef_script.proofs.Failing.{no_word}
 use Rattle.nef_script.proofs.Shapes.{pointed-at}
 

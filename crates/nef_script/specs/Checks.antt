@@ -1,12 +1,12 @@
 -- The tests on one line, as they are worked: on one word, on a command's words, on the whole line.
-use Rattle.std.specs.Prelude.{ℕ, Bool, true, false, not, ◌&&◌, nat_eq, nat_le, List, [], ◌∷◌, Option, Some, None, is_none, option_map, length}
+use Rattle.std.specs.Prelude.{ℕ, Bool, true, false, not, ◌&&◌, nat_eq, nat_le, List, [], ◌∷◌, Option, None, option_map, length}
 use Rattle.std.specs.List.{list_any, zip}
 use Rattle.nef_space.specs.Limits.{number_limit}
 use Rattle.nef_script.specs.Table.{verb_of, roles, binds}
 use Rattle.nef_script.specs.Tests.{name_count_limit, is_bad_name, is_taken, is_unknown, is_no_number, is_past_limit, is_bad_mode, is_bad_weight, has_zero_normal, has_zero_direction}
 use Rattle.nef_script.specs.declared.table.Verb.{Verb}
 use Rattle.nef_script.specs.declared.table.Role.{Role}
-use Rattle.nef_script.specs.declared.table.Role.TheVariants.{NewName, Operand, Coefficient, Mode, Weight}
+use Rattle.nef_script.specs.declared.table.Role.TheVariants.{Coefficient, Weight}
 use Rattle.nef_script.specs.declared.fault.ScriptKind.{ScriptKind}
 use Rattle.nef_script.specs.declared.fault.ScriptKind.TheVariants as kind
 

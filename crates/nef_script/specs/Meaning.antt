@@ -1,5 +1,5 @@
 -- What an accepted script means: its nodes and its commands.
-use Rattle.std.specs.Prelude.{◌≡◌, ℕ, ◌+◌, ◌<◌, Bool, true, false, ℤ, pos, ◌<ℤ◌, List, [], ◌∷◌, Option, Some, None, codes, length, take, filter, not, nat_eq, slice_get}
+use Rattle.std.specs.Prelude.{◌≡◌, ℕ, ◌+◌, ◌<◌, Bool, true, false, ℤ, pos, ◌<ℤ◌, List, [], ◌∷◌, Some, codes, length, take, filter, not, nat_eq, slice_get}
 use Rattle.std.specs.List.{position}
 use Rattle.std.specs.Str.{bytes_eq}
 use Rattle.nef_space.specs.Place.{form, SamePlace}

@@ -1,5 +1,5 @@
 -- What reading one line does.
-use Rattle.std.specs.Prelude.{◌≡◌, ℕ, ◌+◌, ◌<◌, ◌≤◌, Bool, true, false, ℤ, pos, ◌<ℤ◌, nat_abs, get_or, List, [], ◌∷◌, ◌++◌, Option, Some, None, length, take, if◌then◌else◌}
+use Rattle.std.specs.Prelude.{◌≡◌, ℕ, ◌+◌, ◌<◌, ◌≤◌, Bool, true, false, ℤ, pos, ◌<ℤ◌, nat_abs, get_or, List, [], ◌∷◌, ◌++◌, None, length, take, if◌then◌else◌}
 use Rattle.nef_space.specs.Place.{Form, form, normal_of}
 use Rattle.nef_space.specs.Vectors.{Vector, vector, IsAtMost, IsDirection}
 use Rattle.nef_geo.specs.Reading.{IsInRange}

@@ -1,5 +1,5 @@
 -- The tests on one line, one for each kind of refusal, against the names that earlier lines bound.
-use Rattle.std.specs.Prelude.{ℕ, zero, suc, ◌≤◌, Bool, true, false, not, ◌&&◌, ◌||◌, nat_eq, nat_lt, nat_le, nat_abs, ℤ, pos, negsuc, List, [], ◌∷◌, Option, Some, None, is_some, is_none, unwrap_or, codes, length}
+use Rattle.std.specs.Prelude.{ℕ, Bool, false, not, ◌&&◌, ◌||◌, nat_eq, nat_lt, nat_le, nat_abs, ℤ, pos, negsuc, List, [], ◌∷◌, Option, Some, None, is_some, is_none, unwrap_or, codes, length}
 use Rattle.std.specs.List.{list_any, zip}
 use Rattle.std.specs.Str.{bytes_eq}
 use Rattle.nef_lex.specs.Words.{words_of}

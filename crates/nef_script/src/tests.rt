@@ -1,4 +1,5 @@
 use super::*;
+use std::alloc::Global;
 use std::test::Fail;
 
 // Each row is a script, with its lines between the `/`, and its first refusal. The rows after the

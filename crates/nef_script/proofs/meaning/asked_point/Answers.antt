@@ -1,6 +1,4 @@
-use Rattle.std.proofs.Common.{◌≡◌, ◌<◌, ◌+◌, ◌≤◌, ◌∙◌, sym, subst, length, arith}
-use Rattle.nef_script.specs.Names.{pointed}
-use Rattle.nef_script.specs.Reading.{number_at}
+use Rattle.std.proofs.Common.{◌+◌, ◌≤◌, subst, length, arith}
 use Rattle.nef_script.proofs.Shapes.{length-pointed}
 use Rattle.nef_script.proofs.Values.{passed_number, quotient}
 use Rattle.nef_script.proofs.meaning.asked_point.Goals as goal
