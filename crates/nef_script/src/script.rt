@@ -59,7 +59,9 @@ pub enum Command {
         first: Point,
         second: Point,
     },
-    /// Where the label first changes along the ray from the point is asked.
+    /// Where the label first changes along the ray from the point is asked. The first three numbers of
+    /// the point are at most `2^21` in size, its w is at most `2^10`, and the entries of the direction
+    /// are at most `2^10` in size.
     Ray {
         line: u64,
         node: usize,

@@ -2,8 +2,8 @@ use super::*;
 use std::alloc::Global;
 use std::test::Fail;
 
-// Each row is a script, with its lines between the `/`, and its first refusal. The rows after the
-// empty one hold two faults on one line, or a fault on an earlier line.
+// Each row is a script, with its lines between the `/`, and its first refusal. The rows from the bad
+// byte on hold two faults on one line, or a fault on an earlier line.
 const REFUSALS: &str = "ball A => line 1: unknown command
 turn B A 1 => line 1: unknown command
 half A 1 0 0 closed => line 1: wrong number of words
@@ -28,7 +28,6 @@ empty A / joined A 0 0 0 4294967297 0 0 0 1 => line 2: weight out of range
 empty A / ray A 0 0 0 1025 1 0 0 => line 2: weight out of range
 empty A / ray A 0 0 0 1 0 -0 00 => line 2: zero direction
 half A 2048 0 0 0 closed / has A 0 0 0 1 / half B 2049 0 0 0 closed => line 3: coefficient out of range
-
 ball\x07 A => line 1: bad byte
 full A # \x7f => line 1: bad byte
 empty 1A B => line 1: wrong number of words
@@ -72,10 +71,11 @@ fn refusal(alloc: Global, script: &str) -> Result<String, OutOfMemory> {
 #[test]
 fn refusals(rt: HostRuntime) -> Result<(), Fail> {
     for row in REFUSALS.split('\n') {
-        if let Some((script, wanted)) = row.split_once(" => ") {
-            let found = refusal(rt.alloc(), script)?;
-            assert_eq!(rt; found.as_str(), wanted, "of {script}");
-        }
+        let Some((script, wanted)) = row.split_once(" => ") else {
+            panic!(rt; "no row: {row}");
+        };
+        let found = refusal(rt.alloc(), script)?;
+        assert_eq!(rt; found.as_str(), wanted, "of {script}");
     }
     Ok(())
 }
