@@ -1,4 +1,4 @@
-use Rattle.std.proofs.Common.{rules, ◌≡◌, ap, ap₂, ◌∙◌, codes}
+use Rattle.std.proofs.Common.{◌≡◌, ap, ap₂, ◌∙◌}
 use Rattle.clap.specs.Words.{app_of, with_rule}
 use Rattle.clap.specs.Simple.{app_of_fields}
 use Rattle.nef_words.specs.Usage.{usage, without_name}
