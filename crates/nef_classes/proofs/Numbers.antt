@@ -2,11 +2,11 @@
 use Rattle.std.proofs.Common.{◌≡◌, ℕ, zero, suc, ◌<◌, ⊎_elim, List, [], ◌∷◌, map, arith, refl, ap, sym, ◌∙◌, subst, ◌↔◌, Result, Ok, Err}
 use Rattle.std.specs.Prelude.{IfOk}
 use Rattle.nef_space.specs.Lists.{IsAt, IsChain, Chained, NumbersClasses}
-use Rattle.nef_smap.specs.declared.classes.Link.{Link}
-use Rattle.nef_smap.specs.Classes.{AreLinked, AreClasses, AreNumbered}
-use Rattle.nef_smap.proofs.Chains.{chain-here, chain-link, chain-trans, chain-turned, chain-map}
-use Rattle.nef_smap.proofs.ClassLists.{is-at_one, is-at_within, is-at_some}
-use Rattle.nef_smap.proofs.Numbering.{numbers-classes}
+use Rattle.nef_classes.specs.declared.link.Link.{Link}
+use Rattle.nef_classes.specs.Classes.{AreLinked, AreClasses, AreNumbered}
+use Rattle.nef_classes.proofs.Chains.{chain-here, chain-link, chain-trans, chain-turned, chain-map}
+use Rattle.nef_classes.proofs.ClassLists.{is-at_one, is-at_within, is-at_some}
+use Rattle.nef_classes.proofs.ByAppearance.{numbers-classes}
 use Rattle.nef_classes.specs.declared.table.Spot.{Spot}
 use Rattle.nef_classes.specs.declared.table.Tie.{Tie}
 use Rattle.nef_classes.specs.Tables.{total, IsSpotIn, place, AreTiedWithin, AreTied, HasCounts, IsSpotNumber, AreNumbers}

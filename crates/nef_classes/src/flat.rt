@@ -1,13 +1,13 @@
 //! A table's elements in one row.
 
 ghost use Rattle.std.specs.Prelude.{◌≡◌, ◌<◌, ◌^◌, IfOk};
-ghost use Rattle.nef_smap.specs.Classes.{AreWithin};
+ghost use Rattle.nef_classes.specs.Classes.{AreWithin};
 ghost use Rattle.nef_classes.specs.Tables.{total, IsSpotIn, place, AreTiedWithin};
 ghost use Rattle.nef_classes.specs.Flat.{AreStarts, AreFlat};
 
 use crate::OutOfMemory;
 use crate::table::{Spot, Tie};
-use nef_smap::Link;
+use crate::link::Link;
 use std::alloc::Global;
 
 /// Where each row begins when all rows stand one after the other, and after these where the last one ends. A table with

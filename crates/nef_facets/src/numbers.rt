@@ -10,7 +10,6 @@ ghost use Rattle.nef_classes.specs.Tables.{AreTied, AreTiedWithin};
 ghost use Rattle.nef_ties.specs.Ties.{spot_of};
 
 use crate::OutOfMemory;
-use crate::items::item_count;
 use nef_classes::{Tie, number_rows};
 use nef_complex::Complex;
 use nef_geo::List;
@@ -23,7 +22,7 @@ fn item_counts(alloc: Global, c: &Complex) -> Result<Vec<usize>, OutOfMemory>
 {
     let mut counts = Vec::new(alloc);
     for vertex in c.vertices.as_slice() {
-        counts.push(item_count(&vertex.map))?;
+        counts.push(vertex.map.item_count())?;
     }
     Ok(counts)
 }

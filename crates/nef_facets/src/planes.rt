@@ -8,8 +8,7 @@ ghost use Rattle.nef_facets.specs.Corners.{HasItem, AreListed};
 ghost use Rattle.nef_facets.specs.Facets.{IsPlaneAt, IsMarkAt, ArePlanesAt, AreMarksAt, IsPlaneThrough};
 
 use crate::OutOfMemory;
-use crate::items::{mark_at, normal_at};
-use nef_complex::{Complex, Corner, holds, plane_normal, same_dir};
+use nef_complex::{Complex, Corner, holds, plane_normal};
 use nef_geo::{Dir, Label, List, Plane, Point};
 use std::alloc::Global;
 
@@ -17,7 +16,7 @@ use std::alloc::Global;
 fn is_plane_of(h: &Plane, point: &Point, normal: &Dir) -> bool
     ensures plane { IsTrue result ↔ IsPlaneThrough h.now (place_of point.now) (vector_of normal.now) }
 {
-    holds(h, point) && same_dir(&plane_normal(h), normal)
+    holds(h, point) && plane_normal(h).is_same(normal)
 }
 
 // The plane of the corner's item: a carrier holds each item.
@@ -27,9 +26,10 @@ fn plane_of(c: &Complex, k: &Corner) -> Plane
     ensures plane { IsPlaneAt (complex_of c.now) result (corner_of k.now) }
 {
     let vertex = c.vertices.at(k.vertex);
-    let normal = normal_at(&vertex.map, k.item);
+    let item = vertex.map.item_at(k.item);
+    let normal = item.normal();
     for h in c.carriers.as_slice() {
-        if is_plane_of(h, &vertex.point, &normal) {
+        if is_plane_of(h, &vertex.point, normal) {
             return *h;
         }
     }
@@ -59,7 +59,7 @@ fn mark_of(c: &Complex, k: &Corner) -> Label
     requires corner { HasItem (complex_of c.now) (corner_of k.now) }
     ensures mark { IsMarkAt (complex_of c.now) result (corner_of k.now) }
 {
-    mark_at(&c.vertices.at(k.vertex).map, k.item)
+    c.vertices.at(k.vertex).map.item_at(k.item).mark()
 }
 
 /// The marks of the corners' items.

@@ -1,5 +1,4 @@
 pub mod Adding
-pub mod MapItems
 pub mod EdgeTies
 pub mod OneMeet
 pub mod ItemPlane

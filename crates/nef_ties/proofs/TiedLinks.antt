@@ -9,7 +9,7 @@ use Rattle.nef_smap.proofs.Lists.{map-at, at-within}
 use Rattle.nef_smap.proofs.SideLists.{get-from_at}
 use Rattle.law_complex.specs.Complexes.{Vertex, Complex, Corner, IsCorner}
 use Rattle.law_complex.specs.Skeleton.{item_plane, PlaneMeet, meets_vertex, meets_edge, IsCornerAt}
-use Rattle.nef_sover.proofs.Places.{at-contains, contains-at}
+use Rattle.nef_smap.proofs.Lists.{at-contains, contains-at}
 use Rattle.nef_complex.proofs.Reading.{got-at}
 use Rattle.nef_classes.specs.declared.table.Spot.{Spot}
 use Rattle.nef_classes.specs.declared.table.Tie.{Tie}

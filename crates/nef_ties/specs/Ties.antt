@@ -1,12 +1,12 @@
 -- Corners as elements of the table of items, and which ties join them.
-use Rattle.std.specs.Prelude.{◌≡◌, ℕ, pos, List, ◌⊎◌, Option}
+use Rattle.std.specs.Prelude.{◌≡◌, ℕ, ◌<◌, pos, List, length, ◌⊎◌, Option}
 use Rattle.std.specs.List.{Contains}
 use Rattle.std.specs.Option.{MatchOption}
 use Rattle.nef_space.specs.Place.{Place, Form, form_at, normal_of}
-use Rattle.nef_space.specs.Vectors.{Vector, SameDirection, dot}
+use Rattle.nef_space.specs.Vectors.{Vector, SameDirection}
 use Rattle.nef_geo.specs.Shapes.{form_of}
 use Rattle.nef_geo.specs.declared.plane.Plane.{Plane}
-use Rattle.law_sphere.specs.Maps.{At, Arc, Map, Item, items, item_normal, OnItem}
+use Rattle.law_sphere.specs.Maps.{At, Arc, Map, items}
 use Rattle.law_complex.specs.Complexes.{Vertex, Edge, Complex, Corner, HasEnds}
 use Rattle.law_complex.specs.Skeleton.{RayNames}
 use Rattle.nef_complex.specs.Complexes.{corner_of}
@@ -66,20 +66,9 @@ IsPlaneWith p n h = (form_at (form_of h) p ≡ pos 0) × SameDirection (normal_o
 abbrev pub NoneIsPlaneWith : Place → Vector → List Plane → Type 0
 NoneIsPlaneWith p n hs = (k : ℕ) (h : Plane) → At hs k h → IsPlaneWith p n h → ⊥
 
-abbrev pub HasNoItem : Map → ℕ → Type 0
-HasNoItem M k = (x : Item) → At (items M) k x → ⊥
-
--- the map has the item with this number, with the normal n
-abbrev pub HasNormal : Map → ℕ → Vector → Type 0
-HasNormal M k n = (x : Item) × At (items M) k x × (item_normal x ≡ n)
-
--- d lies in the plane of the item with this number
-abbrev pub AreLevel : Map → ℕ → Vector → Type 0
-AreLevel M k d = (x : Item) × At (items M) k x × (dot (item_normal x) d ≡ pos 0)
-
--- d lies on the item with this number
-abbrev pub IsOnItem : Map → ℕ → Vector → Type 0
-IsOnItem M k d = (x : Item) × At (items M) k x × OnItem M x d
+-- the vertex has an item with this number
+abbrev pub IsItemOf : Complex → ℕ → ℕ → Type 0
+IsItemOf C i j = (v : Vertex) → At C.vertices i v → j < length (items v.map)
 
 -- the corner that the ray from p along d names in the plane, or none
 abbrev pub IsNamedFrom : Complex → Form → Place → Vector → Option ProgramCorner → Type 0

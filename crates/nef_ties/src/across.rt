@@ -1,40 +1,32 @@
 //! The ties of corners across facets.
 
-ghost use Rattle.std.specs.Prelude.{◌≡◌, ℕ, ◌<◌, length, pos, map, ◌↔◌, IsTrue, IfOk, OnOk};
+ghost use Rattle.std.specs.Prelude.{◌≡◌, ◌<◌, length, pos, map, ◌↔◌, IsTrue, IfOk, OnOk};
 ghost use Rattle.std.specs.Option.{MatchOption};
-ghost use Rattle.nef_space.specs.Place.{form_at, normal_of, slope};
+ghost use Rattle.nef_space.specs.Place.{normal_of, slope};
 ghost use Rattle.nef_space.specs.Sets.{Set};
 ghost use Rattle.nef_space.specs.Vectors.{IsAtMost, SameDirection};
 ghost use Rattle.nef_geo.specs.Shapes.{form_of, vector_of, place_of};
 ghost use Rattle.nef_geo.specs.Widths.{ray_limit};
-ghost use Rattle.nef_smap.specs.Maps.{map_of, IsSphereMap};
 ghost use Rattle.law_complex.specs.Complexes.{Corner as PlainCorner};
 ghost use Rattle.nef_complex.specs.Complexes.{complex_of, ShowsSet};
 ghost use Rattle.law_links.specs.Links.{LinkAcross};
 ghost use Rattle.nef_parts.specs.Numbers.{count_items};
 ghost use Rattle.nef_classes.specs.Tables.{AreTiedWithin, AreTied};
 ghost use Rattle.nef_plane.specs.Meets.{HasNoSvertex, FromVertex};
-ghost use Rattle.nef_ties.specs.Ties.{spot_of, IsPlaneWith, NoneIsPlaneWith, HasNoItem, HasNormal, AreLevel, IsOnItem, IsNamedFrom, IsLinkedFrom, IsTieAcross, Any, Adds};
+ghost use Rattle.nef_ties.specs.Ties.{spot_of, IsPlaneWith, NoneIsPlaneWith, IsItemOf, IsNamedFrom, IsLinkedFrom, IsTieAcross, Any, Adds};
 
 use crate::OutOfMemory;
 use nef_classes::{Spot, Tie};
-use nef_complex::{Complex, Corner, plane_normal, same_dir};
-use nef_geo::{Dir, Plane, Point, Sign, plane_dir, side};
-use nef_locate::{corner_toward, passes};
+use nef_complex::{Complex, Corner, holds, plane_normal};
+use nef_geo::{Dir, Plane, Point, plane_dir};
+use nef_locate::corner_toward;
 use nef_plane::first_along_dir;
-use nef_smap::SphereMap;
 use std::alloc::Global;
 
 fn has_normal(h: &Plane, normal: &Dir) -> bool
     ensures normal { IsTrue result ↔ SameDirection (normal_of (form_of h.now)) (vector_of normal.now) }
 {
-    same_dir(&plane_normal(h), normal)
-}
-
-fn holds(h: &Plane, p: &Point) -> bool
-    ensures holds { IsTrue result ↔ (form_at (form_of h.now) (place_of p.now) ≡ pos 0) }
-{
-    side(h, p) == Sign::Zero
+    plane_normal(h).is_same(normal)
 }
 
 // Whether the plane holds the point and has the normal.
@@ -56,34 +48,6 @@ fn plane_with(planes: &[Plane], p: &Point, normal: &Dir) -> Option<Plane>
     None
 }
 
-// The normal of the item with this number.
-fn normal_at(map: &SphereMap, item: usize) -> Option<Dir>
-    ensures normal { MatchOption result (HasNoItem (map_of map.now) item) (λ n. HasNormal (map_of map.now) item (vector_of n)) }
-{
-    if item < map.arcs.len() {
-        return Some(map.arcs.at(item).normal);
-    }
-    if item > map.arcs.len() {
-        return None;
-    }
-    match &map.sloop {
-        Some(circle) => Some(circle.normal),
-        None => None,
-    }
-}
-
-// Whether the direction, which lies in the plane of the item with this number, lies on it. A sloop holds each of them.
-fn lies_on(map: &SphereMap, item: usize, d: &Dir) -> bool
-    requires map { IsSphereMap map.now }
-    requires level { AreLevel (map_of map.now) item (vector_of d.now) }
-    ensures on { IsTrue result ↔ IsOnItem (map_of map.now) item (vector_of d.now) }
-{
-    if item < map.arcs.len() {
-        return passes(map, map.arcs.at(item), d);
-    }
-    true
-}
-
 // The corner that the ray from the vertex along a direction of the plane names. No svertex of the vertex points along it.
 fn named_from(c: &Complex, h: &Plane, vertex: usize, d: &Dir) -> Option<Corner>
     requires shows { (s : Set) × ShowsSet s c.now }
@@ -102,13 +66,14 @@ fn named_from(c: &Complex, h: &Plane, vertex: usize, d: &Dir) -> Option<Corner>
 fn across(c: &Complex, vertex: usize, item: usize) -> Option<Corner>
     requires shows { (s : Set) × ShowsSet s c.now }
     requires within { vertex < length c.now.vertices }
+    requires item { IsItemOf (complex_of c.now) vertex item }
     ensures linked { IsLinkedFrom (complex_of c.now) vertex item result }
 {
     let v = c.vertices.at(vertex);
-    let normal = normal_at(&v.map, item)?;
-    let h = plane_with(c.carriers.as_slice(), &v.point, &normal)?;
+    let facet = v.map.item_at(item);
+    let h = plane_with(c.carriers.as_slice(), &v.point, facet.normal())?;
     let inward = plane_dir(&h).back();
-    if !lies_on(&v.map, item, &inward) {
+    if !v.map.item_holds(item, &inward) {
         return None;
     }
     named_from(c, &h, vertex, &inward)
@@ -123,6 +88,7 @@ fn add_item_tie(
 ) -> Result<(), OutOfMemory>
     requires shows { (s : Set) × ShowsSet s c.now }
     requires within { vertex < length c.now.vertices }
+    requires item { IsItemOf (complex_of c.now) vertex item }
     ensures added { OnOk result (Adds (IsTieAcross (complex_of c.now) vertex item) ties.old.items ties.new.items) }
 {
     if let Some(there) = across(c, vertex, item) {
@@ -146,12 +112,9 @@ fn add_vertex_ties(ties: &mut Vec<Tie>, c: &Complex, vertex: usize) -> Result<()
     requires within { vertex < length c.now.vertices }
     ensures added { OnOk result (Adds (Any (IsTieAcross (complex_of c.now) vertex)) ties.old.items ties.new.items) }
 {
-    let count = c.vertices.at(vertex).map.arcs.len();
-    for item in 0..count {
+    for item in 0..c.vertices.at(vertex).map.item_count() {
         add_item_tie(ties, c, vertex, item)?;
     }
-    // the sloop stands after the arcs
-    add_item_tie(ties, c, vertex, count)?;
     Ok(())
 }
 

@@ -12,7 +12,7 @@ ghost use Rattle.nef_ties.specs.Ties.{spot_of, BeginAndEnd, AreArcsAlong, IsTieF
 
 use crate::OutOfMemory;
 use nef_classes::{Spot, Tie};
-use nef_complex::{Complex, Edge, same_dir};
+use nef_complex::{Complex, Edge};
 use nef_smap::{SArc, SphereMap};
 use std::alloc::Global;
 
@@ -29,7 +29,7 @@ fn begin_and_end(edge: &Edge, low: &SArc, high: &SArc) -> bool
 fn go_along(edge: &Edge, low: &SArc, high: &SArc) -> bool
     ensures along { IsTrue result ↔ AreArcsAlong (edge_of edge.now) (arc_of low.now) (arc_of high.now) }
 {
-    same_dir(&low.normal, &high.normal) && begin_and_end(edge, low, high)
+    low.normal.is_same(&high.normal) && begin_and_end(edge, low, high)
 }
 
 // Adds the ties of an arc of the edge's lower end, which has this number.

@@ -6,8 +6,6 @@
 
 mod across;
 mod along;
-#[cfg(test)]
-mod tests;
 
 pub use across::across_ties;
 pub use along::along_ties;

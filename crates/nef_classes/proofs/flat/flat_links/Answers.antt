@@ -1,8 +1,8 @@
 use Rattle.std.proofs.Common.{List, map, arith, subst, ap, ◌∙◌}
 use Rattle.std.proofs.lemmas.List.{take_all}
 use Rattle.nef_space.specs.Lists.{IsAt}
-use Rattle.nef_smap.specs.declared.classes.Link.{Link}
-use Rattle.nef_smap.proofs.ClassLists.{is-at_get}
+use Rattle.nef_classes.specs.declared.link.Link.{Link}
+use Rattle.nef_classes.proofs.ClassLists.{is-at_get}
 use Rattle.nef_classes.specs.declared.table.Tie.{Tie}
 use Rattle.nef_classes.specs.Flat.{flat_tie}
 use Rattle.nef_classes.proofs.Places.{spot-within}

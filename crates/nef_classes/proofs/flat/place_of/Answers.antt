@@ -1,5 +1,5 @@
 use Rattle.std.proofs.Common.{arith, get_or}
-use Rattle.nef_smap.proofs.ClassLists.{is-at_get, is-at_within}
+use Rattle.nef_classes.proofs.ClassLists.{is-at_get, is-at_within}
 use Rattle.nef_classes.proofs.Places.{spot-within}
 use Rattle.nef_classes.proofs.flat.place_of.Goals as goal
 

@@ -1,10 +1,6 @@
-use Rattle.std.proofs.Common.{subst}
 use Rattle.nef_space.specs.Place.{normal_of}
-use Rattle.nef_space.specs.Vectors.{SameDirection}
 use Rattle.nef_geo.specs.Shapes.{form_of, vector_of}
-use Rattle.nef_geo.specs.declared.dir.Dir.{Dir}
 use Rattle.law_sphere.proofs.Compare.{SameDirection-turned, SameDirection-trans}
-use Rattle.nef_smap.proofs.Found.{dir-same}
 use Rattle.nef_facets.proofs.planes.is_plane_of.Goals as goal
 
 pub returns-then-holds : goal.returns-then-holds
@@ -14,7 +10,7 @@ returns-then-holds c =
     let w = c.plane_normal.ensures.normal in
     record {
       plane = (
-        λ h. (c.holds.ensures.holds.0 c.if-holds.true, subst (λ (e : Dir). SameDirection n (vector_of e)) (c.same_dir.ensures.same.0 h) w),
-        λ p. c.same_dir.ensures.same.1 ((dir-same d c.args.normal.now).1 (SameDirection-trans (vector_of d) n (vector_of c.args.normal.now) (SameDirection-turned n (vector_of d) w) p.1)),
+        λ h. (c.holds.ensures.holds.0 c.if-holds.true, SameDirection-trans n (vector_of d) (vector_of c.args.normal.now) w (c.is_same.ensures.direction.0 h)),
+        λ p. c.is_same.ensures.direction.1 (SameDirection-trans (vector_of d) n (vector_of c.args.normal.now) (SameDirection-turned n (vector_of d) w) p.1),
       );
     }

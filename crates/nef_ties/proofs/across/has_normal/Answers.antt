@@ -1,7 +1,6 @@
 use Rattle.nef_space.specs.Place.{normal_of}
 use Rattle.nef_geo.specs.Shapes.{form_of, vector_of}
 use Rattle.law_sphere.proofs.Compare.{SameDirection-trans, SameDirection-turned}
-use Rattle.nef_smap.proofs.Found.{dir-same}
 use Rattle.nef_ties.proofs.across.has_normal.Goals as goal
 
 pub returns : goal.returns
@@ -12,7 +11,7 @@ returns c =
     let w = c.plane_normal.ensures.normal in
     record {
       normal = (
-        λ h. SameDirection-trans g (vector_of n) (vector_of m) w ((dir-same n m).0 (c.same_dir.ensures.same.0 h)),
-        λ t. c.same_dir.ensures.same.1 ((dir-same n m).1 (SameDirection-trans (vector_of n) g (vector_of m) (SameDirection-turned g (vector_of n) w) t)),
+        λ h. SameDirection-trans g (vector_of n) (vector_of m) w (c.is_same.ensures.direction.0 h),
+        λ t. c.is_same.ensures.direction.1 (SameDirection-trans (vector_of n) g (vector_of m) (SameDirection-turned g (vector_of n) w) t),
       );
     }
