@@ -77,11 +77,7 @@ fn flatten(parents: &mut [usize])
 /// For each number below `count` the least number of its class, which stands for the class: the same for two numbers
 /// exactly where a chain of links leads from one to the other. The time grows a little faster than `count` and the number
 /// of links together. `OutOfMemory` says that memory was wanted and not found.
-pub fn class_of_each(
-    alloc: Global,
-    count: usize,
-    links: &[Link],
-) -> Result<Vec<usize>, OutOfMemory>
+pub fn class_of_each(alloc: Global, count: usize, links: &[Link]) -> Result<Vec<usize>, OutOfMemory>
     requires within { AreWithin count links.now }
     ensures classes { IfOk result (λ v. AreClasses count links.now v.items) }
     ensures roots { IfOk result (λ v. AreRoots v.items) }

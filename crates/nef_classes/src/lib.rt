@@ -15,4 +15,4 @@ pub use forest::class_of_each;
 pub use link::Link;
 pub use numbering::class_numbers;
 pub use std::alloc::AllocError as OutOfMemory;
-pub use table::{Spot, Tie, number_rows};
+pub use table::{Cell, Tie, number_rows};

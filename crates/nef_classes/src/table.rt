@@ -13,7 +13,7 @@ use std::alloc::Global;
 
 /// An element of a table: its row, and its place in the row. Both count from 0.
 #[derive(Debug, Clone, Copy, PartialEq, Eq, Drop)]
-pub struct Spot {
+pub struct Cell {
     pub row: usize,
     pub column: usize,
 }
@@ -21,8 +21,8 @@ pub struct Spot {
 /// Two elements of one class.
 #[derive(Debug, Clone, Copy, PartialEq, Eq, Drop)]
 pub struct Tie {
-    pub first: Spot,
-    pub second: Spot,
+    pub first: Cell,
+    pub second: Cell,
 }
 
 /// For each element of a table, whose rows have `counts` elements, the number of its class. Chains of ties join the

@@ -4,7 +4,7 @@ use Rattle.std.proofs.lemmas.Int.{ints}
 use Rattle.nef_space.specs.Lists.{IsAt}
 use Rattle.law_sphere.specs.Maps.{At, Item, items}
 use Rattle.law_sphere.proofs.Lists.{at-one}
-use Rattle.nef_smap.proofs.ClassLists.{Either, earlier, last, is-at_either, is-at_last, is-at_left, is-at_within, is-at_some, less-or-last}
+use Rattle.nef_classes.proofs.ClassLists.{Either, earlier, last, is-at_either, is-at_last, is-at_left, is-at_within, is-at_some, less-or-last}
 use Rattle.nef_edges.proofs.Places.{some-at, at-within, map-at}
 use Rattle.law_complex.specs.Complexes.{Vertex as PlainVertex, Complex as PlainComplex, Corner as PlainCorner, IsCorner}
 use Rattle.nef_complex.specs.declared.complex.Vertex.{Vertex}

@@ -3,7 +3,7 @@ use Rattle.std.proofs.Common.{◌≡◌, ℕ, ◌<◌, ◌≤◌, List, arith, i
 use Rattle.std.proofs.lemmas.Bool.{cases_order}
 use Rattle.std.proofs.lemmas.Int.{ints}
 use Rattle.nef_space.specs.Lists.{IsAt}
-use Rattle.nef_smap.proofs.ClassLists.{is-at_one}
+use Rattle.nef_classes.proofs.ClassLists.{is-at_one}
 use Rattle.nef_complex.specs.declared.complex.Corner.{Corner}
 use Rattle.nef_complex.specs.Complexes.{corner_of}
 use Rattle.law_complex.specs.Complexes.{Corner as PlainCorner}

@@ -1,5 +1,5 @@
 -- Searching the lists of the program's maps, and where a direction lies.
-use Rattle.std.proofs.Common.{◌≡◌, ℕ, zero, suc, ◌+◌, ◌<◌, ◌≤◌, arith, refl, ap, sym, ◌∙◌, ⊎_elim, List, [], ◌∷◌, length, map, Option, Some, None, option_map, subst, slice_get, get_or, ◌↔◌}
+use Rattle.std.proofs.Common.{◌≡◌, ℕ, zero, suc, ◌+◌, ◌<◌, ◌≤◌, arith, refl, ap, sym, ◌∙◌, ⊎_elim, List, [], ◌∷◌, length, map, Option, Some, None, subst, slice_get, get_or, ◌↔◌}
 use Rattle.std.proofs.lemmas.Option.{slice_get_read}
 use Rattle.std.proofs.lemmas.List.{length-map}
 use Rattle.std.proofs.Math.Nat.{eq-or-lt_of_le}
@@ -14,10 +14,8 @@ use Rattle.law_sphere.proofs.Arcs.{loop-at, at-arc}
 use Rattle.law_sphere.proofs.Shot.{arc-at}
 use Rattle.law_sphere.proofs.Compare.{way-self}
 use Rattle.nef_smap.specs.Sides.{LabelledSide, sides_of, IsSide, SideSees, IsPlaceOf}
-use Rattle.nef_smap.specs.Maps.{svertex_of, arc_of, loop_of, map_of}
+use Rattle.nef_smap.specs.Maps.{svertex_of, map_of}
 use Rattle.nef_smap.specs.declared.map.SVertex.{SVertex}
-use Rattle.nef_smap.specs.declared.map.SArc.{SArc}
-use Rattle.nef_smap.specs.declared.map.SLoop.{SLoop}
 use Rattle.nef_smap.specs.declared.map.SphereMap.{SphereMap}
 use Rattle.nef_smap.specs.declared.map.SPlace.TheVariants as place
 use Rattle.nef_smap.proofs.ArcEnds.{at-map}
@@ -97,8 +95,8 @@ module _ (m : SphereMap) (d : Vector) where
 -- ---- going over the items of a map
 module _ (M : Map) (P : Item → Type 0) where
   pub none-more : (n : ℕ) (y : Item) → At (items M) n y → (P y → ⊥) → ((k : ℕ) → k < n → (x : Item) → At (items M) k x → P x → ⊥) → (k : ℕ) → k < n + 1 → (x : Item) → At (items M) k x → P x → ⊥
-  none-more n y b no before k h x a p = ⊎_elim
-      (λ e. no (subst P (at-one (items M) n x y (subst (λ (i : ℕ). At (items M) i x) e a) b) p))
+  none-more n y b off before k h x a p = ⊎_elim
+      (λ e. off (subst P (at-one (items M) n x y (subst (λ (i : ℕ). At (items M) i x) e a) b) p))
       (λ l. before k l x a p)
       (eq-or-lt_of_le {n = k} {m = n} (omega arith))
 

@@ -20,12 +20,12 @@ use Rattle.law_complex.proofs.Ways.{same-itself}
 use Rattle.nef_complex.specs.declared.complex.Complex.{Complex as ProgramComplex}
 use Rattle.nef_complex.specs.declared.complex.Corner.{Corner as ProgramCorner}
 use Rattle.nef_complex.specs.Complexes.{complex_of, corner_of, ShowsSet}
-use Rattle.nef_classes.specs.declared.table.Spot.{Spot}
+use Rattle.nef_classes.specs.declared.table.Cell.{Cell}
 use Rattle.nef_classes.specs.declared.table.Tie.{Tie}
 use Rattle.law_links.specs.Links.{LinkAcross}
 use Rattle.nef_plane.specs.Meets.{HasNoSvertex}
 use Rattle.nef_locate.proofs.SamePlanes.{level-back, scaled-same, first-same, corner-same, opposite-same, on-turned}
-use Rattle.nef_ties.specs.Ties.{spot_of, corner_at, NoneIsPlaneWith, IsTieAcross, Adds}
+use Rattle.nef_ties.specs.Ties.{cell_of, corner_at, NoneIsPlaneWith, IsTieAcross, Adds}
 use Rattle.nef_ties.proofs.Adding.{adds-one}
 use Rattle.nef_ties.proofs.ItemPlane.{item-carrier, dir-same}
 use Rattle.nef_ties.proofs.OneMeet.{one-vertex, one-named}
@@ -123,11 +123,11 @@ tie_to i j k = record { first = record { row = i; column = j }; second = record 
 
 module _ (s : Set) (C : Complex) (S : Shows s C) (i j : ℕ) where
   from-first : (t : Tie) → IsTieAcross C i j t → LinkAcross C (record { vertex = i; item = j }) (corner_at t.second)
-  from-first t (e, L) = subst (λ (x : Spot). LinkAcross C (corner_at x) (corner_at t.second)) e L
+  from-first t (e, L) = subst (λ (x : Cell). LinkAcross C (corner_at x) (corner_at t.second)) e L
 
   pub tie-added : (k : ProgramCorner) → LinkAcross C (record { vertex = i; item = j }) (corner_of k) → (ts : List Tie) → Adds (IsTieAcross C i j) ts (ts ++ tie_to i j k ∷ [])
   tie-added k L ts = adds-one (IsTieAcross C i j) ts (tie_to i j k) (refl, L)
-      (λ u p. tie-same (tie_to i j k) u (sym p.0) (ap spot_of (link-one s C S (record { vertex = i; item = j }) (corner_of k) (corner_at u.second) L (from-first u p))))
+      (λ u p. tie-same (tie_to i j k) u (sym p.0) (ap cell_of (link-one s C S (record { vertex = i; item = j }) (corner_of k) (corner_at u.second) L (from-first u p))))
 
   pub tie-none : ((k : Corner) → LinkAcross C (record { vertex = i; item = j }) k → ⊥) → (t : Tie) → IsTieAcross C i j t → ⊥
   tie-none f t p = f (corner_at t.second) (from-first t p)

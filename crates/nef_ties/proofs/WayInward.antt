@@ -19,7 +19,7 @@ use Rattle.nef_complex.specs.declared.complex.Complex.{Complex as ProgramComplex
 use Rattle.nef_complex.specs.declared.complex.Corner.{Corner as ProgramCorner}
 use Rattle.nef_complex.specs.declared.complex.Vertex.{Vertex as ProgramVertex}
 use Rattle.nef_complex.specs.Complexes.{complex_of, corner_of, vertex_of, ShowsSet}
-use Rattle.nef_classes.specs.declared.table.Spot.{Spot}
+use Rattle.nef_classes.specs.declared.table.Cell.{Cell}
 use Rattle.nef_classes.specs.declared.table.Tie.{Tie}
 use Rattle.law_links.specs.Links.{LinkAcross}
 use Rattle.nef_plane.specs.Meets.{HasNoSvertex, FromVertex}
@@ -97,11 +97,11 @@ items-within c i j v e h u a = subst (λ (w : Vertex). j < length (items w.map))
 
 pub item-below : (c : ProgramComplex) (i : ℕ) (v : ProgramVertex) → slice_get c.vertices i ≡ Some v → (j : ℕ) (t : Tie) → IsTieAcross (complex_of c) i j t → j < length (items (map_of v.map))
 item-below c i v e j t (f, L) =
-    let M = subst (λ (x : Spot). LinkAcross (complex_of c) (corner_at x) (corner_at t.second)) f L in
+    let M = subst (λ (x : Cell). LinkAcross (complex_of c) (corner_at x) (corner_at t.second)) f L in
     let listed = at-map vertex_of c.vertices i v e in
     at-within (items (map_of v.map)) j M.item (subst (λ (u : Vertex). At (items u.map) j M.item) (at-one (complex_of c).vertices i M.vertex (vertex_of v) M.corner.vertex listed) M.corner.item)
 
 pub vertex-below : (c : ProgramComplex) (i : ℕ) (t : Tie) → Any (IsTieAcross (complex_of c) i) t → i < length c.vertices
 vertex-below c i t (j, (f, L)) =
-    let M = subst (λ (x : Spot). LinkAcross (complex_of c) (corner_at x) (corner_at t.second)) f L in
+    let M = subst (λ (x : Cell). LinkAcross (complex_of c) (corner_at x) (corner_at t.second)) f L in
     image-within vertex_of c.vertices i M.vertex M.corner.vertex

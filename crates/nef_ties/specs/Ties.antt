@@ -11,15 +11,15 @@ use Rattle.law_complex.specs.Complexes.{Vertex, Edge, Complex, Corner, HasEnds}
 use Rattle.law_complex.specs.Skeleton.{RayNames}
 use Rattle.nef_complex.specs.Complexes.{corner_of}
 use Rattle.nef_complex.specs.declared.complex.Corner.{Corner as ProgramCorner}
-use Rattle.nef_classes.specs.declared.table.Spot.{Spot}
+use Rattle.nef_classes.specs.declared.table.Cell.{Cell}
 use Rattle.nef_classes.specs.declared.table.Tie.{Tie}
 use Rattle.law_links.specs.Links.{LinkAcross}
 
 -- a corner's place in the table that has a row for each vertex and an element for each of its items
-abbrev pub spot_of : Corner → Spot
-spot_of k = record { row = k.vertex; column = k.item }
+abbrev pub cell_of : Corner → Cell
+cell_of k = record { row = k.vertex; column = k.item }
 
-abbrev pub corner_at : Spot → Corner
+abbrev pub corner_at : Cell → Corner
 corner_at x = record { vertex = x.row; item = x.column }
 
 -- ---- lists that grow
@@ -81,4 +81,4 @@ IsLinkedFrom C i j o =
 
 -- the tie joins item j of vertex i with the corner with which it is linked across its facet
 abbrev pub IsTieAcross : Complex → ℕ → ℕ → Tie → Type 0
-IsTieAcross C i j t = (t.first ≡ spot_of (record { vertex = i; item = j })) × LinkAcross C (corner_at t.first) (corner_at t.second)
+IsTieAcross C i j t = (t.first ≡ cell_of (record { vertex = i; item = j })) × LinkAcross C (corner_at t.first) (corner_at t.second)

@@ -13,10 +13,10 @@ ghost use Rattle.law_links.specs.Links.{LinkAcross};
 ghost use Rattle.nef_parts.specs.Numbers.{count_items};
 ghost use Rattle.nef_classes.specs.Tables.{AreTiedWithin, AreTied};
 ghost use Rattle.nef_plane.specs.Meets.{HasNoSvertex, FromVertex};
-ghost use Rattle.nef_ties.specs.Ties.{spot_of, IsPlaneWith, NoneIsPlaneWith, IsItemOf, IsNamedFrom, IsLinkedFrom, IsTieAcross, Any, Adds};
+ghost use Rattle.nef_ties.specs.Ties.{cell_of, IsPlaneWith, NoneIsPlaneWith, IsItemOf, IsNamedFrom, IsLinkedFrom, IsTieAcross, Any, Adds};
 
 use crate::OutOfMemory;
-use nef_classes::{Spot, Tie};
+use nef_classes::{Cell, Tie};
 use nef_complex::{Complex, Corner, holds, plane_normal};
 use nef_geo::{Dir, Plane, Point, plane_dir};
 use nef_locate::corner_toward;
@@ -93,11 +93,11 @@ fn add_item_tie(
 {
     if let Some(there) = across(c, vertex, item) {
         ties.push(Tie {
-            first: Spot {
+            first: Cell {
                 row: vertex,
                 column: item,
             },
-            second: Spot {
+            second: Cell {
                 row: there.vertex,
                 column: there.item,
             },
@@ -124,7 +124,7 @@ fn add_vertex_ties(ties: &mut Vec<Tie>, c: &Complex, vertex: usize) -> Result<()
 pub fn across_ties(alloc: Global, c: &Complex) -> Result<Vec<Tie>, OutOfMemory>
     requires shows { (s : Set) × ShowsSet s c.now }
     ensures within { IfOk result (λ v. AreTiedWithin (map count_items (complex_of c.now).vertices) v.items) }
-    ensures across { IfOk result (λ v. (j k : PlainCorner) → AreTied v.items (spot_of j) (spot_of k) ↔ LinkAcross (complex_of c.now) j k) }
+    ensures across { IfOk result (λ v. (j k : PlainCorner) → AreTied v.items (cell_of j) (cell_of k) ↔ LinkAcross (complex_of c.now) j k) }
 {
     let mut ties = Vec::new(alloc);
     for vertex in 0..c.vertices.len() {

@@ -4,7 +4,7 @@ ghost use Rattle.std.specs.Prelude.{IfOk};
 ghost use Rattle.nef_space.specs.Sets.{Set};
 ghost use Rattle.nef_complex.specs.Complexes.{ShowsSet};
 
-use nef_classes::{Spot, Tie};
+use nef_classes::{Cell, Tie};
 use nef_complex::Complex;
 use nef_frame::frame;
 use nef_geo::Label;
@@ -22,11 +22,11 @@ fn empty(alloc: Global) -> Result<Complex, OutOfMemory>
 // Whether a tie of the list leads from the first corner, given by its vertex and item, to the second.
 fn has_tie(ties: &[Tie], first: (usize, usize), second: (usize, usize)) -> bool {
     ties.contains(&Tie {
-        first: Spot {
+        first: Cell {
             row: first.0,
             column: first.1,
         },
-        second: Spot {
+        second: Cell {
             row: second.0,
             column: second.1,
         },

@@ -1,7 +1,7 @@
 use Rattle.std.proofs.Common.{◌+◌, ◌-◌, ◌/◌, List, get_or, arith, sym, ◌∙◌}
 use Rattle.nef_arc.proofs.SignNumbers.{not_true}
 use Rattle.nef_space.specs.Lists.{IsAt}
-use Rattle.nef_smap.proofs.ClassLists.{is-at_get}
+use Rattle.nef_classes.proofs.ClassLists.{is-at_get}
 use Rattle.nef_complex.specs.declared.complex.Corner.{Corner}
 use Rattle.nef_facets.proofs.Order.{number-below, number-not_below}
 use Rattle.nef_facets.proofs.position.position.Goals as goal

@@ -1,4 +1,4 @@
-use Rattle.std.proofs.Common.{absurd, sym, ◌∙◌, subst}
+use Rattle.std.proofs.Common.{sym, ◌∙◌, subst}
 use Rattle.nef_arc.proofs.SignNumbers.{not_true}
 use Rattle.nef_space.specs.Vectors.{Vector, SameDirection}
 use Rattle.nef_geo.specs.Shapes.{vector_of}

@@ -1,4 +1,4 @@
-use Rattle.std.proofs.Common.{rules, ◌≡◌, ℕ, length, arith, refl, sym, ap, ◌∙◌, subst}
+use Rattle.std.proofs.Common.{rules, length, arith, refl, sym, ◌∙◌}
 use Rattle.std.proofs.lemmas.Option.{slice_get_read}
 use Rattle.nef_geo.specs.Shapes.{vector_of}
 use Rattle.nef_star.proofs.Needed.{true_or_false}
