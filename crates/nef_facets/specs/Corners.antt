@@ -1,5 +1,5 @@
 -- Lists of corners.
-use Rattle.std.specs.Prelude.{ℕ, zero, suc, ◌<◌, List, [], ◌∷◌, ◌++◌}
+use Rattle.std.specs.Prelude.{ℕ, zero, suc, ◌<◌, Bool, true, false, cond, eqb, ltb, List, [], ◌∷◌, ◌++◌}
 use Rattle.nef_space.specs.Lists.{IsAt}
 use Rattle.law_sphere.specs.Maps.{Item}
 use Rattle.law_complex.specs.Complexes.{Vertex, Complex, Corner as PlainCorner, IsCorner}
@@ -9,6 +9,10 @@ use Rattle.nef_parts.specs.Cycles.{IsCornerBelow}
 
 abbrev pub corner_from : PlainCorner → Corner
 corner_from k = record { vertex = k.vertex; item = k.item }
+
+-- whether corner j stands before corner k
+abbrev pub stands_before : Corner → Corner → Bool
+stands_before j k = cond (ltb j.vertex k.vertex) true (cond (eqb j.vertex k.vertex) (ltb j.item k.item) false)
 
 -- the corners of a vertex with so many items
 abbrev pub corners_at : ℕ → ℕ → List Corner

@@ -15,5 +15,5 @@ item_at-requires c = record { within = item-within c.args.c.now (corner_of c.arg
 pub returns : goal.returns
 returns c = record {
   mark = of-item c.args.c.now (corner_of c.args.k.now) c.requires.corner c.at.result.now (some-at c.args.c.now.vertices c.args.k.now.vertex c.at.result.now c.at.ensures.element)
-          (λ v x. c.mark.result ≡ item_mark x) (item_of c.item_at.result) c.item_at.ensures.item c.mark.ensures.mark;
+      (λ v x. c.mark.result ≡ item_mark x) (item_of c.item_at.result) c.item_at.ensures.item c.mark.ensures.mark;
 }
