@@ -1,11 +1,11 @@
 -- Lists of corners.
 use Rattle.std.specs.Prelude.{ℕ, zero, suc, ◌<◌, Bool, true, false, cond, eqb, ltb, List, [], ◌∷◌, ◌++◌}
 use Rattle.nef_space.specs.Lists.{IsAt}
-use Rattle.law_sphere.specs.Maps.{Item}
-use Rattle.law_complex.specs.Complexes.{Vertex, Complex, Corner as PlainCorner, IsCorner}
+use Rattle.law_complex.specs.Complexes.{Complex, Corner as PlainCorner}
 use Rattle.nef_complex.specs.declared.complex.Corner.{Corner}
 use Rattle.nef_complex.specs.Complexes.{corner_of}
 use Rattle.nef_parts.specs.Cycles.{IsCornerBelow}
+pub use Rattle.nef_ties.specs.Carriers.{HasItem}
 
 abbrev pub corner_from : PlainCorner → Corner
 corner_from k = record { vertex = k.vertex; item = k.item }
@@ -18,10 +18,6 @@ stands_before j k = cond (ltb j.vertex k.vertex) true (cond (eqb j.vertex k.vert
 abbrev pub corners_at : ℕ → ℕ → List Corner
 corners_at i zero = []
 corners_at i (suc n) = corners_at i n ++ record { vertex = i; item = n } ∷ []
-
--- there is an item at the corner
-abbrev pub HasItem : Complex → PlainCorner → Type 0
-HasItem C k = (v : Vertex) × (x : Item) × IsCorner C k v x
 
 -- there is an item at each corner of the list
 abbrev pub AreListed : Complex → List Corner → Type 0

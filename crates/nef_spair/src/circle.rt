@@ -9,14 +9,14 @@ ghost use Rattle.nef_star.specs.Stars.{star_of};
 ghost use Rattle.nef_spair.specs.Pieces.{IsBareCircle, IsProperCircle, IsChosen};
 
 use crate::pieces::Pieces;
-use nef_geo::{Dir, Sign, dot};
+use nef_geo::Dir;
 use nef_smap::SLoop;
 use nef_star::Star;
 
 fn is_level(normal: &Dir, star: &Star) -> bool
     ensures level { IsTrue result ↔ (dot (vector_of normal.now) (vector_of star.now.axis) ≡ pos 0) }
 {
-    dot(normal, star.axis()) == Sign::Zero
+    normal.is_perpendicular(star.axis())
 }
 
 // Whether no star has its axis on the circle.

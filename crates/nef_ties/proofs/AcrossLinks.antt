@@ -25,9 +25,9 @@ use Rattle.nef_classes.specs.declared.table.Tie.{Tie}
 use Rattle.law_links.specs.Links.{LinkAcross}
 use Rattle.nef_plane.specs.Meets.{HasNoSvertex}
 use Rattle.nef_locate.proofs.SamePlanes.{level-back, scaled-same, first-same, corner-same, opposite-same, on-turned}
-use Rattle.nef_ties.specs.Ties.{cell_of, corner_at, NoneIsPlaneWith, IsTieAcross, Adds}
+use Rattle.nef_ties.specs.Ties.{cell_of, corner_at, IsTieAcross, Adds}
 use Rattle.nef_ties.proofs.Adding.{adds-one}
-use Rattle.nef_ties.proofs.ItemPlane.{item-carrier, dir-same}
+use Rattle.nef_ties.proofs.ItemPlane.{dir-same}
 use Rattle.nef_ties.proofs.OneMeet.{one-vertex, one-named}
 use Rattle.nef_ties.proofs.TiedLinks.{tie-same}
 
@@ -104,18 +104,6 @@ module _ (s : Set) (C : Complex) (S : Shows s C) where
       let f = at-one C.vertices j.vertex w v (subst (λ (r : ℕ). At C.vertices r w) n a) b.vertex in
       let listed = subst (λ (r : Vertex). At r.map.svertices i u) f t in
       (S.cones j.vertex v b.vertex).valid.shaped.no_svertex_on_item i j.item u x listed b.item (on-turned v.map x d u.way (SameDirection-turned u.way d q) o)
-
--- without a carrier there is no link
-pub no-carrier : (s : Set) (c : ProgramComplex) → ShowsSet s c → (j : Corner) (v : Vertex) (x : Item) → IsCorner (complex_of c) j v x → NoneIsPlaneWith v.point (item_normal x) c.carriers
-    → (k : Corner) → LinkAcross (complex_of c) j k → ⊥
-no-carrier s c S j v x b none k L =
-    let N = link-is (complex_of c) j v x b k L in
-    let A = item-carrier s (complex_of c) S.shows j v x b (inward_of x) N.0 in
-    let g = at-map form_of c.carriers A.number A.plane A.listed in
-    none A.number g.0 g.1 (
-      subst (λ (r : Form). form_at r v.point ≡ pos 0) (sym g.2) A.holds,
-      subst (λ (r : Form). SameDirection (normal_of r) (item_normal x)) (sym g.2) (A.normal (subst (λ (r : Form). IsNormal (normal_of r)) g.2 g.0.normal)),
-    )
 
 -- ---- the tie of a link
 abbrev pub tie_to : ℕ → ℕ → ProgramCorner → Tie

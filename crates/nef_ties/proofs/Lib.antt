@@ -1,4 +1,5 @@
 pub mod Adding
+pub mod ItemCarriers
 pub mod EdgeTies
 pub mod OneMeet
 pub mod ItemPlane

@@ -25,9 +25,10 @@ use Rattle.law_links.specs.Links.{LinkAcross}
 use Rattle.nef_plane.specs.Meets.{HasNoSvertex, FromVertex}
 use Rattle.nef_locate.proofs.Marks.{image-within}
 use Rattle.nef_locate.proofs.SamePlanes.{level-back}
-use Rattle.nef_ties.specs.Ties.{IsPlaneWith, NoneIsPlaneWith, IsItemOf, IsNamedFrom, IsLinkedFrom, corner_at, IsTieAcross, Any}
+use Rattle.nef_ties.specs.Carriers.{IsPlaneAt, IsPlaneThrough}
+use Rattle.nef_ties.specs.Ties.{IsNamedFrom, IsLinkedFrom, corner_at, IsTieAcross, Any}
 use Rattle.nef_ties.proofs.OneMeet.{one-met}
-use Rattle.nef_ties.proofs.AcrossLinks.{linked, unlinked, no-carrier, no-svertex}
+use Rattle.nef_ties.proofs.AcrossLinks.{linked, unlinked, no-svertex}
 
 -- ---- the corner at what is first met
 module _ (s : Set) (C : Complex) (S : Shows s C) (h : Form) (y : Place) (d b : Vector) (back : b ≡ opposite d) (m : PlaneMeet) (I : IsFirstInPlane C h y d m) where
@@ -40,46 +41,33 @@ vertex-some [] k l = absurd (omega (arith, l))
 vertex-some (v ∷ vs) zero l = (vertex_of v, refl)
 vertex-some (v ∷ vs) (suc k) l = vertex-some vs k (omega (arith, l))
 
--- ---- the item of a vertex
-module _ (s : Set) (c : ProgramComplex) (S : ShowsSet s c) (i j : ℕ) (v : ProgramVertex) (e : slice_get c.vertices i ≡ Some v) where
+-- ---- the item of a corner
+module _ (s : Set) (c : ProgramComplex) (S : ShowsSet s c) (k : Corner) (v : Vertex) (x : Item) (corner : IsCorner (complex_of c) k v x) (h : Plane) (P : IsPlaneAt (complex_of c) h k) (f d : Vector)
+    (dir : SameDirection (plane_dir (normal_of (form_of h))) f) (level : slope (form_of h) f ≡ pos 0) (back : d ≡ opposite f) where
   abbrev C : Complex
   C = complex_of c
 
-  abbrev k : Corner
-  k = record { vertex = i; item = j }
+  through : IsPlaneThrough h v.point (item_normal x)
+  through = P v x corner
 
-  listed : At C.vertices i (vertex_of v)
-  listed = at-map vertex_of c.vertices i v e
+  pub level-inward : slope (form_of h) d ≡ pos 0
+  level-inward = subst (λ (m : Vector). slope (form_of h) m ≡ pos 0) (sym back) (level-back (normal_of (form_of h)) f level)
 
-  -- the map has the item x with this number, with the normal n
-  module _ (n : Vector) (x : Item) (is : At (items (map_of v.map)) j x) (has : n ≡ item_normal x) where
-    corner : IsCorner C k (vertex_of v) x
-    corner = record { vertex = listed; item = is }
+  pub not-on : (OnItem v.map x d → ⊥) → (l : Corner) → LinkAcross C k l → ⊥
+  not-on g l L = g (unlinked C k v x corner (form_of h) through.0 through.1 f d dir back l L).0
 
-    pub none-with : NoneIsPlaneWith (place_of v.point) n c.carriers → (l : Corner) → LinkAcross C k l → ⊥
-    none-with f = no-carrier s c S k (vertex_of v) x corner (subst (λ (m : Vector). NoneIsPlaneWith (place_of v.point) m c.carriers) has f)
+  module _ (on : OnItem v.map x d) where
+    pub none-along : FromVertex C k.vertex (λ p. HasNoSvertex C p d)
+    none-along u a =
+        let e = at-one C.vertices k.vertex v u corner.vertex a in
+        no-svertex s C S.shows k u x (record { vertex = a; item = subst (λ (w : Vertex). At (items w.map) k.item x) e corner.item }) d (subst (λ (w : Vertex). OnItem w.map x d) e on)
 
-    module _ (h : Plane) (P : IsPlaneWith (place_of v.point) n h) (f d : Vector) (dir : SameDirection (plane_dir (normal_of (form_of h))) f) (level : slope (form_of h) f ≡ pos 0) (back : d ≡ opposite f) where
-      normals : SameDirection (normal_of (form_of h)) (item_normal x)
-      normals = subst (λ (m : Vector). SameDirection (normal_of (form_of h)) m) has P.1
-
-      pub level-inward : slope (form_of h) d ≡ pos 0
-      level-inward = subst (λ (m : Vector). slope (form_of h) m ≡ pos 0) (sym back) (level-back (normal_of (form_of h)) f level)
-
-      pub not-on : (OnItem (map_of v.map) x d → ⊥) → (l : Corner) → LinkAcross C k l → ⊥
-      not-on g l L = g (unlinked C k (vertex_of v) x corner (form_of h) P.0 normals f d dir back l L).0
-
-      module _ (on : OnItem (map_of v.map) x d) where
-        pub none-along : FromVertex C i (λ p. HasNoSvertex C p d)
-        none-along u a = no-svertex s C S.shows k u x (record { vertex = a; item = subst (λ (w : Vertex). At (items w.map) j x) (at-one C.vertices i (vertex_of v) u listed a) is }) d
-            (subst (λ (w : Vertex). OnItem w.map x d) (at-one C.vertices i (vertex_of v) u listed a) on)
-
-        pub linked-from : (r : Option ProgramCorner) → FromVertex C i (λ p. IsNamedFrom C (form_of h) p d r) → IsLinkedFrom C i j r
-        linked-from r f' = by r (f' (vertex_of v) listed)
-          where
-            by : (r : Option ProgramCorner) → IsNamedFrom C (form_of h) (place_of v.point) d r → IsLinkedFrom C i j r
-            by None g = λ l L. g l (unlinked C k (vertex_of v) x corner (form_of h) P.0 normals f d dir back l L).1
-            by (Some l) g = linked C k (vertex_of v) x corner (form_of h) P.0 normals f d dir back (corner_of l) on g
+    pub linked-from : (r : Option ProgramCorner) → FromVertex C k.vertex (λ p. IsNamedFrom C (form_of h) p d r) → IsLinkedFrom C k r
+    linked-from r f' = by r (f' v corner.vertex)
+      where
+        by : (r : Option ProgramCorner) → IsNamedFrom C (form_of h) v.point d r → IsLinkedFrom C k r
+        by None g = λ l L. g l (unlinked C k v x corner (form_of h) through.0 through.1 f d dir back l L).1
+        by (Some l) g = linked C k v x corner (form_of h) through.0 through.1 f d dir back (corner_of l) on g
 
 -- ---- sizes
 pub small-back : (f d : Vector) → d ≡ opposite f → IsAtMost plane_dir_limit f → IsAtMost ray_limit d
@@ -89,12 +77,6 @@ small-back f d e a = subst (IsAtMost ray_limit) (sym e) (record { of_x = less f.
     less x h = omega (arith, ints, h)
 
 -- ---- the numbers of what is linked
-pub item-within : (c : ProgramComplex) (i j : ℕ) (v : ProgramVertex) → slice_get c.vertices i ≡ Some v → IsItemOf (complex_of c) i j → j < length (items (map_of v.map))
-item-within c i j v e h = h (vertex_of v) (at-map vertex_of c.vertices i v e)
-
-pub items-within : (c : ProgramComplex) (i j : ℕ) (v : ProgramVertex) → slice_get c.vertices i ≡ Some v → j < length (items (map_of v.map)) → IsItemOf (complex_of c) i j
-items-within c i j v e h u a = subst (λ (w : Vertex). j < length (items w.map)) (at-one (complex_of c).vertices i (vertex_of v) u (at-map vertex_of c.vertices i v e) a) h
-
 pub item-below : (c : ProgramComplex) (i : ℕ) (v : ProgramVertex) → slice_get c.vertices i ≡ Some v → (j : ℕ) (t : Tie) → IsTieAcross (complex_of c) i j t → j < length (items (map_of v.map))
 item-below c i v e j t (f, L) =
     let M = subst (λ (x : Cell). LinkAcross (complex_of c) (corner_at x) (corner_at t.second)) f L in

@@ -59,25 +59,13 @@ abbrev pub IsTieAlong : Complex → ℕ → Tie → Type 0
 IsTieAlong C n t = (e : Edge) × (v : Vertex) × (w : Vertex) × At C.edges n e × HasEnds C e v w × Any (IsTieOfEdge e v.map w.map) t
 
 -- ---- across facets
--- the plane holds p and has the normal n
-abbrev pub IsPlaneWith : Place → Vector → Plane → Type 0
-IsPlaneWith p n h = (form_at (form_of h) p ≡ pos 0) × SameDirection (normal_of (form_of h)) n
-
-abbrev pub NoneIsPlaneWith : Place → Vector → List Plane → Type 0
-NoneIsPlaneWith p n hs = (k : ℕ) (h : Plane) → At hs k h → IsPlaneWith p n h → ⊥
-
--- the vertex has an item with this number
-abbrev pub IsItemOf : Complex → ℕ → ℕ → Type 0
-IsItemOf C i j = (v : Vertex) → At C.vertices i v → j < length (items v.map)
-
 -- the corner that the ray from p along d names in the plane, or none
 abbrev pub IsNamedFrom : Complex → Form → Place → Vector → Option ProgramCorner → Type 0
 IsNamedFrom C h p d o = MatchOption o ((k : Corner) → RayNames C h p d k → ⊥) (λ k. RayNames C h p d (corner_of k))
 
--- the corner with which item j of vertex i is linked across its facet, or none
-abbrev pub IsLinkedFrom : Complex → ℕ → ℕ → Option ProgramCorner → Type 0
-IsLinkedFrom C i j o =
-    MatchOption o ((k : Corner) → LinkAcross C (record { vertex = i; item = j }) k → ⊥) (λ k. LinkAcross C (record { vertex = i; item = j }) (corner_of k))
+-- the corner with which corner j is linked across its facet, or none
+abbrev pub IsLinkedFrom : Complex → Corner → Option ProgramCorner → Type 0
+IsLinkedFrom C j o = MatchOption o ((k : Corner) → LinkAcross C j k → ⊥) (λ k. LinkAcross C j (corner_of k))
 
 -- the tie joins item j of vertex i with the corner with which it is linked across its facet
 abbrev pub IsTieAcross : Complex → ℕ → ℕ → Tie → Type 0

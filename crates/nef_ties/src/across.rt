@@ -8,45 +8,22 @@ ghost use Rattle.nef_space.specs.Vectors.{IsAtMost, SameDirection};
 ghost use Rattle.nef_geo.specs.Shapes.{form_of, vector_of, place_of};
 ghost use Rattle.nef_geo.specs.Widths.{ray_limit};
 ghost use Rattle.law_complex.specs.Complexes.{Corner as PlainCorner};
-ghost use Rattle.nef_complex.specs.Complexes.{complex_of, ShowsSet};
+ghost use Rattle.nef_complex.specs.Complexes.{complex_of, corner_of, ShowsSet};
 ghost use Rattle.law_links.specs.Links.{LinkAcross};
 ghost use Rattle.nef_parts.specs.Numbers.{count_items};
 ghost use Rattle.nef_classes.specs.Tables.{AreTiedWithin, AreTied};
 ghost use Rattle.nef_plane.specs.Meets.{HasNoSvertex, FromVertex};
-ghost use Rattle.nef_ties.specs.Ties.{cell_of, IsPlaneWith, NoneIsPlaneWith, IsItemOf, IsNamedFrom, IsLinkedFrom, IsTieAcross, Any, Adds};
+ghost use Rattle.nef_ties.specs.Carriers.{HasItem};
+ghost use Rattle.nef_ties.specs.Ties.{cell_of, IsNamedFrom, IsLinkedFrom, IsTieAcross, Any, Adds};
 
 use crate::OutOfMemory;
+use crate::carriers::plane_of;
 use nef_classes::{Cell, Tie};
-use nef_complex::{Complex, Corner, holds, plane_normal};
-use nef_geo::{Dir, Plane, Point, plane_dir};
+use nef_complex::{Complex, Corner};
+use nef_geo::{Dir, Plane, plane_dir};
 use nef_locate::corner_toward;
 use nef_plane::first_along_dir;
 use std::alloc::Global;
-
-fn has_normal(h: &Plane, normal: &Dir) -> bool
-    ensures normal { IsTrue result ↔ SameDirection (normal_of (form_of h.now)) (vector_of normal.now) }
-{
-    plane_normal(h).is_same(normal)
-}
-
-// Whether the plane holds the point and has the normal.
-fn is_plane_with(h: &Plane, p: &Point, normal: &Dir) -> bool
-    ensures plane { IsTrue result ↔ IsPlaneWith (place_of p.now) (vector_of normal.now) h.now }
-{
-    holds(h, p) && has_normal(h, normal)
-}
-
-// The first of the planes that holds the point and has the normal.
-fn plane_with(planes: &[Plane], p: &Point, normal: &Dir) -> Option<Plane>
-    ensures plane { MatchOption result (NoneIsPlaneWith (place_of p.now) (vector_of normal.now) planes.now) (IsPlaneWith (place_of p.now) (vector_of normal.now)) }
-{
-    for h in planes {
-        if is_plane_with(h, p, normal) {
-            return Some(*h);
-        }
-    }
-    None
-}
 
 // The corner that the ray from the vertex along a direction of the plane names. No svertex of the vertex points along it.
 fn named_from(c: &Complex, h: &Plane, vertex: usize, d: &Dir) -> Option<Corner>
@@ -61,41 +38,32 @@ fn named_from(c: &Complex, h: &Plane, vertex: usize, d: &Dir) -> Option<Corner>
     corner_toward(c, h, &d.back(), met)
 }
 
-// The corner with which the item of the vertex is linked across its facet. There is none where the item doesn't hold the
-// way inward.
-fn across(c: &Complex, vertex: usize, item: usize) -> Option<Corner>
+// The corner with which the corner is linked across its facet. There is none where its item doesn't hold the way inward.
+fn across(c: &Complex, k: &Corner) -> Option<Corner>
     requires shows { (s : Set) × ShowsSet s c.now }
-    requires within { vertex < length c.now.vertices }
-    requires item { IsItemOf (complex_of c.now) vertex item }
-    ensures linked { IsLinkedFrom (complex_of c.now) vertex item result }
+    requires corner { HasItem (complex_of c.now) (corner_of k.now) }
+    ensures linked { IsLinkedFrom (complex_of c.now) (corner_of k.now) result }
 {
-    let v = c.vertices.at(vertex);
-    let facet = v.map.item_at(item);
-    let h = plane_with(c.carriers.as_slice(), &v.point, facet.normal())?;
+    let h = plane_of(c, k);
     let inward = plane_dir(&h).back();
-    if !v.map.item_holds(item, &inward) {
+    let map = &c.vertices.at(k.vertex).map;
+    if !map.item_holds(k.item, &inward) {
         return None;
     }
-    named_from(c, &h, vertex, &inward)
+    named_from(c, &h, k.vertex, &inward)
 }
 
-// Adds the tie across its facet of the vertex's item with this number, where there is one.
-fn add_item_tie(
-    ties: &mut Vec<Tie>,
-    c: &Complex,
-    vertex: usize,
-    item: usize,
-) -> Result<(), OutOfMemory>
+// Adds the tie of the corner across its facet, where there is one.
+fn add_item_tie(ties: &mut Vec<Tie>, c: &Complex, k: &Corner) -> Result<(), OutOfMemory>
     requires shows { (s : Set) × ShowsSet s c.now }
-    requires within { vertex < length c.now.vertices }
-    requires item { IsItemOf (complex_of c.now) vertex item }
-    ensures added { OnOk result (Adds (IsTieAcross (complex_of c.now) vertex item) ties.old.items ties.new.items) }
+    requires corner { HasItem (complex_of c.now) (corner_of k.now) }
+    ensures added { OnOk result (Adds (IsTieAcross (complex_of c.now) k.now.vertex k.now.item) ties.old.items ties.new.items) }
 {
-    if let Some(there) = across(c, vertex, item) {
+    if let Some(there) = across(c, k) {
         ties.push(Tie {
             first: Cell {
-                row: vertex,
-                column: item,
+                row: k.vertex,
+                column: k.item,
             },
             second: Cell {
                 row: there.vertex,
@@ -113,7 +81,7 @@ fn add_vertex_ties(ties: &mut Vec<Tie>, c: &Complex, vertex: usize) -> Result<()
     ensures added { OnOk result (Adds (Any (IsTieAcross (complex_of c.now) vertex)) ties.old.items ties.new.items) }
 {
     for item in 0..c.vertices.at(vertex).map.item_count() {
-        add_item_tie(ties, c, vertex, item)?;
+        add_item_tie(ties, c, &Corner { vertex, item })?;
     }
     Ok(())
 }

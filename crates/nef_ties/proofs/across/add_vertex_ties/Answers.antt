@@ -1,13 +1,15 @@
 use Rattle.std.proofs.Common.{arith}
+use Rattle.nef_edges.proofs.Places.{some-at}
 use Rattle.nef_complex.specs.Complexes.{complex_of}
 use Rattle.nef_ties.specs.Ties.{IsTieAcross}
 use Rattle.nef_ties.proofs.Adding.{any-next, any-all}
-use Rattle.nef_ties.proofs.WayInward.{item-below, items-within}
+use Rattle.nef_ties.proofs.ItemCarriers.{has-item}
+use Rattle.nef_ties.proofs.WayInward.{item-below}
 use Rattle.nef_ties.proofs.across.add_vertex_ties.Goals as goal
 
-pub add_item_tie-requires-clause-item : goal.add_item_tie-requires-clause-item
-add_item_tie-requires-clause-item c =
-    items-within c.args.c.now c.args.vertex c.loop-item.item c.at.result.now c.at.ensures.element (let e = c.item_count-item-end.ensures.count in let h = c.loop-item-test.true in omega (arith, e, h))
+pub add_item_tie-requires-clause-corner : goal.add_item_tie-requires-clause-corner
+add_item_tie-requires-clause-corner c =
+    has-item c.args.c.now c.args.vertex c.loop-item.item c.at.result.now (some-at c.args.c.now.vertices c.args.vertex c.at.result.now c.at.ensures.element) (let e = c.item_count-item-end.ensures.count in let h = c.loop-item-test.true in omega (arith, e, h))
 
 pub loop-item-preserved : goal.loop-item-preserved
 loop-item-preserved c = record {

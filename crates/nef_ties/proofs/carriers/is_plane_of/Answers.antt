@@ -1,7 +1,7 @@
 use Rattle.nef_space.specs.Place.{normal_of}
 use Rattle.nef_geo.specs.Shapes.{form_of, vector_of}
 use Rattle.law_sphere.proofs.Compare.{SameDirection-turned, SameDirection-trans}
-use Rattle.nef_facets.proofs.planes.is_plane_of.Goals as goal
+use Rattle.nef_ties.proofs.carriers.is_plane_of.Goals as goal
 
 pub returns-then-holds : goal.returns-then-holds
 returns-then-holds c =

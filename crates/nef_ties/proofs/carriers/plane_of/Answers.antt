@@ -8,9 +8,9 @@ use Rattle.nef_smap.specs.Items.{item_of}
 use Rattle.nef_smap.proofs.Found.{read, next-none, all-none}
 use Rattle.nef_edges.proofs.Places.{some-at}
 use Rattle.nef_complex.specs.Complexes.{corner_of}
-use Rattle.nef_facets.proofs.Carried.{HoldsWith, none-carried}
-use Rattle.nef_facets.proofs.CornerLists.{vertex-within, item-within, of-item}
-use Rattle.nef_facets.proofs.planes.plane_of.Goals as goal
+use Rattle.nef_ties.proofs.ItemCarriers.{HoldsWith, none-carried}
+use Rattle.nef_ties.proofs.ItemCarriers.{vertex-within, item-within, of-item}
+use Rattle.nef_ties.proofs.carriers.plane_of.Goals as goal
 
 pub at-vertex-requires : goal.at-vertex-requires
 at-vertex-requires c = record { within = vertex-within c.args.c.now (corner_of c.args.k.now) c.requires.corner }
