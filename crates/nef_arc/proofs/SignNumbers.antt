@@ -1,4 +1,5 @@
 -- Signs as the machine's numbers, and the five signs of an arc and a direction.
+pub use Rattle.nef_geo.proofs.Signs.{zero_sign}
 use Rattle.std.proofs.Common.{◌≡◌, zero, suc, ◌<◌, ◌^◌, ℤ, pos, negsuc, Bool, true, false, w8, to_z, of_z, [], ◌∷◌, arith, refl, sym, ap, ◌∙◌, subst}
 use Rattle.std.proofs.lemmas.Int.{to_z-of_z}
 use Rattle.std.specs.List.{All}
@@ -7,7 +8,6 @@ use lib.Dec.{T}
 use lib.Signed.{mag}
 use Rattle.nef_geo.specs.Signs.{sign_of, sign_number as number_of_sign}
 use Rattle.nef_geo.specs.declared.sign.Sign.{Sign}
-use Rattle.nef_geo.specs.declared.sign.Sign.TheVariants.{Minus, Zero, Plus}
 use Rattle.nef_case.specs.Keys.{IsSign}
 use Rattle.nef_case.specs.Between.{between_of, between_signs}
 use Rattle.law_cyclic.specs.Signs.{sign_number}
@@ -21,17 +21,6 @@ number_of_sign-is (negsuc n) = refl
 -- a sign's number that a machine returned
 pub read_sign : (r : ℤ) (s : Sign) (z : ℤ) → mag r < 2 ^ 7 → r ≡ number_of_sign s → s ≡ sign_of z → to_z w8 (of_z w8 r) ≡ sign_number z
 read_sign r s z h e f = to_z-of_z w8 r (record { sfits = h }) ∙ e ∙ ap number_of_sign f ∙ number_of_sign-is z
-
-is_zero_sign : Sign → Bool
-is_zero_sign Minus = false
-is_zero_sign Zero = true
-is_zero_sign Plus = false
-
-pub zero_sign : (z : ℤ) → sign_of z ≡ Zero → z ≡ pos 0
-unfolding is_zero_sign
-zero_sign (pos zero) e = refl
-zero_sign (pos (suc n)) e = absurd (subst (λ (s : Sign). T (is_zero_sign s)) (sym e) tt)
-zero_sign (negsuc n) e = absurd (subst (λ (s : Sign). T (is_zero_sign s)) (sym e) tt)
 
 is_sign : (r z : ℤ) → r ≡ sign_number z → IsSign r
 is_sign r z e = subst IsSign (sym e) (sgn_is_sign z)

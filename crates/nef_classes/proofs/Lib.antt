@@ -1,5 +1,8 @@
+pub mod Chains
+pub mod ClassLists
+pub mod ByAppearance
 mod Places
 mod Numbers
 pub mod Cutting
 pub mod Writes
-mod Trees
+pub mod Trees

@@ -2,16 +2,16 @@
 use Rattle.std.proofs.Common.{◌≡◌, ℕ, zero, suc, ◌<◌, ⊎_elim, List, [], ◌∷◌, map, arith, refl, ap, sym, ◌∙◌, subst, ◌↔◌, Result, Ok, Err}
 use Rattle.std.specs.Prelude.{IfOk}
 use Rattle.nef_space.specs.Lists.{IsAt, IsChain, Chained, NumbersClasses}
-use Rattle.nef_smap.specs.declared.classes.Link.{Link}
-use Rattle.nef_smap.specs.Classes.{AreLinked, AreClasses, AreNumbered}
-use Rattle.nef_smap.proofs.Chains.{chain-here, chain-link, chain-trans, chain-turned, chain-map}
-use Rattle.nef_smap.proofs.ClassLists.{is-at_one, is-at_within, is-at_some}
-use Rattle.nef_smap.proofs.Numbering.{numbers-classes}
-use Rattle.nef_classes.specs.declared.table.Spot.{Spot}
+use Rattle.nef_classes.specs.declared.link.Link.{Link}
+use Rattle.nef_classes.specs.Classes.{AreLinked, AreClasses, AreNumbered}
+use Rattle.nef_classes.proofs.Chains.{chain-here, chain-link, chain-trans, chain-turned, chain-map}
+use Rattle.nef_classes.proofs.ClassLists.{is-at_one, is-at_within, is-at_some}
+use Rattle.nef_classes.proofs.ByAppearance.{numbers-classes}
+use Rattle.nef_classes.specs.declared.table.Cell.{Cell}
 use Rattle.nef_classes.specs.declared.table.Tie.{Tie}
-use Rattle.nef_classes.specs.Tables.{total, IsSpotIn, place, AreTiedWithin, AreTied, HasCounts, IsSpotNumber, AreNumbers}
+use Rattle.nef_classes.specs.Tables.{total, IsCellIn, place, AreTiedWithin, AreTied, HasCounts, IsCellNumber, AreNumbers}
 use Rattle.nef_classes.specs.Flat.{flat_tie, AreCut}
-use Rattle.nef_classes.proofs.Places.{same-spot, earlier-spot, spot-at}
+use Rattle.nef_classes.proofs.Places.{same-cell, earlier-cell, cell-at}
 
 -- an element of a mapped list is that of an element
 pub map-at : {X Y : Type 0} (f : X → Y) (xs : List X) (k : ℕ) (y : Y) → IsAt (map f xs) k y → (x : X) × IsAt xs k x × (f x ≡ y)
@@ -28,34 +28,34 @@ module _ (counts : List ℕ) (ts : List Tie) (tied : AreTiedWithin counts ts) wh
   abbrev links : List Link
   links = map (flat_tie counts) ts
 
-  forth : (x y : Spot) → AreTied ts x y → Chained (AreLinked links) (place counts x) (place counts y)
+  forth : (x y : Cell) → AreTied ts x y → Chained (AreLinked links) (place counts x) (place counts y)
   forth x y (k, t, a, e, f) = chain-link (AreLinked links) (place counts x) (place counts y) (k, flat_tie counts t, at-map (flat_tie counts) ts k t a, ap (place counts) e, ap (place counts) f)
 
   -- a link between places is a tie
-  tie-of : (s t : ℕ) → AreLinked links s t → (x : Spot) × (y : Spot) × IsSpotIn counts x × IsSpotIn counts y × (place counts x ≡ s) × (place counts y ≡ t) × AreTied ts x y
+  tie-of : (s t : ℕ) → AreLinked links s t → (x : Cell) × (y : Cell) × IsCellIn counts x × IsCellIn counts y × (place counts x ≡ s) × (place counts y ≡ t) × AreTied ts x y
   tie-of s t (k, l, a, e, f) =
       let r = map-at (flat_tie counts) ts k l a in
       let tie : Tie = r.0 in
       let w = tied k tie (r.1) in
       (tie.first, tie.second, w.0, w.1, ap (λ (l : Link). l.first) (r.2) ∙ e, ap (λ (l : Link). l.second) (r.2) ∙ f, (k, tie, r.1, refl, refl))
 
-  back : (x z : Spot) → IsSpotIn counts x → IsSpotIn counts z → (us : List ℕ) → IsChain (AreLinked links) (place counts x) us (place counts z) → Chained (AreTied ts) x z
-  back x z a b [] e = subst (λ (r : Spot). Chained (AreTied ts) x r) (same-spot counts x z a b e) (chain-here (AreTied ts) x)
+  back : (x z : Cell) → IsCellIn counts x → IsCellIn counts z → (us : List ℕ) → IsChain (AreLinked links) (place counts x) us (place counts z) → Chained (AreTied ts) x z
+  back x z a b [] e = subst (λ (r : Cell). Chained (AreTied ts) x r) (same-cell counts x z a b e) (chain-here (AreTied ts) x)
   back x z a b (u ∷ us) (l, c) =
       ⊎_elim
       (λ h. let r = tie-of (place counts x) u h in
-      let p : Spot = r.0 in let q : Spot = r.1 in
-      let e = same-spot counts x p a (r.2) (sym (r.4)) in
-      chain-trans (AreTied ts) x q z (subst (λ (w : Spot). Chained (AreTied ts) w q) (sym e) (chain-link (AreTied ts) p q (r.6)))
+      let p : Cell = r.0 in let q : Cell = r.1 in
+      let e = same-cell counts x p a (r.2) (sym (r.4)) in
+      chain-trans (AreTied ts) x q z (subst (λ (w : Cell). Chained (AreTied ts) w q) (sym e) (chain-link (AreTied ts) p q (r.6)))
       (back q z (r.3) b us (subst (λ (n : ℕ). IsChain (AreLinked links) n us (place counts z)) (sym (r.5)) c)))
       (λ h. let r = tie-of u (place counts x) h in
-      let p : Spot = r.0 in let q : Spot = r.1 in
-      let e = same-spot counts x q a (r.3) (sym (r.5)) in
-      chain-trans (AreTied ts) x p z (subst (λ (w : Spot). Chained (AreTied ts) w p) (sym e) (chain-turned (AreTied ts) p q (chain-link (AreTied ts) p q (r.6))))
+      let p : Cell = r.0 in let q : Cell = r.1 in
+      let e = same-cell counts x q a (r.3) (sym (r.5)) in
+      chain-trans (AreTied ts) x p z (subst (λ (w : Cell). Chained (AreTied ts) w p) (sym e) (chain-turned (AreTied ts) p q (chain-link (AreTied ts) p q (r.6))))
       (back p z (r.2) b us (subst (λ (n : ℕ). IsChain (AreLinked links) n us (place counts z)) (sym (r.4)) c)))
       l
 
-  chained : (x y : Spot) → IsSpotIn counts x → IsSpotIn counts y → Chained (AreLinked links) (place counts x) (place counts y) ↔ Chained (AreTied ts) x y
+  chained : (x y : Cell) → IsCellIn counts x → IsCellIn counts y → Chained (AreLinked links) (place counts x) (place counts y) ↔ Chained (AreTied ts) x y
   chained x y a b = (λ c. back x y a b (c.0) (c.1), λ c. chain-map (AreTied ts) (AreLinked links) (place counts) forth x y c)
 
   module _ (cs ns : List ℕ) (rows : List (List ℕ)) (classes : AreClasses (total counts) links cs) (numbered : AreNumbered cs ns) (shape : HasCounts counts rows) (cut : AreCut counts ns rows) where
@@ -63,7 +63,7 @@ module _ (counts : List ℕ) (ts : List Tie) (tied : AreTiedWithin counts ts) wh
     flat = numbers-classes (AreLinked links) cs ns numbered classes.same
 
     -- an element with a number is one of the table
-    in-table : (x : Spot) (n : ℕ) → IsSpotNumber rows x n → IsSpotIn counts x
+    in-table : (x : Cell) (n : ℕ) → IsCellNumber rows x n → IsCellIn counts x
     in-table x n (row, a, b) =
         let h = is-at_within rows x.row row a in
         let e = shape.as_many in
@@ -73,7 +73,7 @@ module _ (counts : List ℕ) (ts : List Tie) (tied : AreTiedWithin counts ts) wh
         record { count = c.0; is_row = c.1; within = omega arith }
 
     -- and each element of the table has a number
-    has-number : (x : Spot) → IsSpotIn counts x → (n : ℕ) × IsSpotNumber rows x n
+    has-number : (x : Cell) → IsCellIn counts x → (n : ℕ) × IsCellNumber rows x n
     has-number x a =
         let h = is-at_within counts x.row a.count a.is_row in
         let e = shape.as_many in
@@ -94,11 +94,11 @@ module _ (counts : List ℕ) (ts : List Tie) (tied : AreTiedWithin counts ts) wh
           let t : ℕ = r.0 in
           let i = is-at_within ns t m (r.2) in
           let e = numbered.as_many in let f = classes.as_many in
-          let y = spot-at counts t (omega arith) in
+          let y = cell-at counts t (omega arith) in
           let b = has-number (y.0) (y.1) in
           let v = cut (y.0).row (y.0).column (b.0) (b.1) in
           let same = is-at_one ns t (b.0) m (subst (λ (p : ℕ). IsAt ns p (b.0)) (y.2) v) (r.2) in
-          (y.0, earlier-spot counts (y.0) x (y.1) (in-table x n hx) (subst (λ (p : ℕ). p < place counts x) (sym (y.2)) (r.1)), subst (λ (p : ℕ). IsSpotNumber rows (y.0) p) same (b.1));
+          (y.0, earlier-cell counts (y.0) x (y.1) (in-table x n hx) (subst (λ (p : ℕ). p < place counts x) (sym (y.2)) (r.1)), subst (λ (p : ℕ). IsCellNumber rows (y.0) p) same (b.1));
     }
 
   pub numbers-ok : {E : Type 0} (cs ns : List ℕ) (r : Result (List (List ℕ)) E) → AreClasses (total counts) links cs → AreNumbered cs ns → IfOk r (HasCounts counts) → IfOk r (AreCut counts ns) → IfOk r (AreNumbers ts)

@@ -2,8 +2,8 @@
 use Rattle.std.proofs.Common.{◌≡◌, ℕ, zero, suc, ◌+◌, ◌-◌, ◌<◌, ◌≤◌, ◌⊎◌, inl, inr, ⊎_elim, List, [], ◌∷◌, Option, Some, take, pos, arith, refl, ap, subst}
 use Rattle.std.proofs.lemmas.Int.{ints}
 use Rattle.nef_space.specs.Lists.{IsAt}
-use Rattle.nef_classes.specs.declared.table.Spot.{Spot}
-use Rattle.nef_classes.specs.Tables.{total, IsSpotIn, place, IsSpotBelow}
+use Rattle.nef_classes.specs.declared.table.Cell.{Cell}
+use Rattle.nef_classes.specs.Tables.{total, IsCellIn, place, IsCellBelow}
 
 some-is : {X : Type 0} (x y : X) → ◌≡◌ {A = Option X} (Some x) (Some y) → x ≡ y
 some-is x y e = cc
@@ -22,8 +22,8 @@ same (c ∷ cs) zero k (suc j) l n m a h b g e = let d = some-is c n a in absurd
 same (c ∷ cs) (suc i) k zero l n m a h b g e = let d = some-is c m b in absurd (omega arith)
 same (c ∷ cs) (suc i) k (suc j) l n m a h b g e = let r = same cs i k j l n m a h b g (omega arith) in (ap suc (r.0), r.1)
 
-pub same-spot : (cs : List ℕ) (x y : Spot) → IsSpotIn cs x → IsSpotIn cs y → place cs x ≡ place cs y → x ≡ y
-same-spot cs x y a b e =
+pub same-cell : (cs : List ℕ) (x y : Cell) → IsCellIn cs x → IsCellIn cs y → place cs x ≡ place cs y → x ≡ y
+same-cell cs x y a b e =
     let r = same cs x.row x.column y.row y.column a.count b.count a.is_row a.within b.is_row b.within e in
     subst (λ (i : ℕ). x ≡ record { row = i; column = y.column }) (r.0) (subst (λ (k : ℕ). x ≡ record { row = x.row; column = k }) (r.1) refl)
 
@@ -35,24 +35,24 @@ earlier (c ∷ cs) zero k (suc j) l n m a h b g e = inl (omega arith)
 earlier (c ∷ cs) (suc i) k zero l n m a h b g e = let d = some-is c m b in absurd (omega arith)
 earlier (c ∷ cs) (suc i) k (suc j) l n m a h b g e = ⊎_elim (λ p. inl (omega arith)) (λ p. inr (ap suc (p.0), p.1)) (earlier cs i k j l n m a h b g (omega arith))
 
-pub earlier-spot : (cs : List ℕ) (x y : Spot) → IsSpotIn cs x → IsSpotIn cs y → place cs x < place cs y → IsSpotBelow x y
-earlier-spot cs x y a b e =
+pub earlier-cell : (cs : List ℕ) (x y : Cell) → IsCellIn cs x → IsCellIn cs y → place cs x < place cs y → IsCellBelow x y
+earlier-cell cs x y a b e =
     ⊎_elim (λ p. inl (omega (arith, ints))) (λ p. inr (ap pos (p.0), inl (let h = p.1 in omega (arith, ints))))
     (earlier cs x.row x.column y.row y.column a.count b.count a.is_row a.within b.is_row b.within e)
 
 -- each place below the number of all elements is that of one
-spot : (cs : List ℕ) (t : ℕ) → t < total cs → (i : ℕ) × (k : ℕ) × (n : ℕ) × IsAt cs i n × (k < n) × (total (take i cs) + k ≡ t)
-spot [] t h = absurd (omega arith)
-spot (c ∷ cs) t h =
+cell : (cs : List ℕ) (t : ℕ) → t < total cs → (i : ℕ) × (k : ℕ) × (n : ℕ) × IsAt cs i n × (k < n) × (total (take i cs) + k ≡ t)
+cell [] t h = absurd (omega arith)
+cell (c ∷ cs) t h =
     ⊎_elim (λ g. (zero, t, c, refl, g, omega arith))
-    (λ g. let r = spot cs (t - c) (omega arith) in
+    (λ g. let r = cell cs (t - c) (omega arith) in
     let e = r.5 in
     (suc (r.0), r.1, r.2, r.3, r.4, omega arith))
     (less-or-not t c)
 
-pub spot-at : (cs : List ℕ) (t : ℕ) → t < total cs → (x : Spot) × IsSpotIn cs x × (place cs x ≡ t)
-spot-at cs t h =
-    let r = spot cs t h in
+pub cell-at : (cs : List ℕ) (t : ℕ) → t < total cs → (x : Cell) × IsCellIn cs x × (place cs x ≡ t)
+cell-at cs t h =
+    let r = cell cs t h in
     (record { row = r.0; column = r.1 }, record { count = r.2; is_row = r.3; within = r.4 }, r.5)
 
 -- the place of an element is below the number of all
@@ -61,5 +61,5 @@ within [] i k n a h = cc
 within (c ∷ cs) zero k n a h = let d = some-is c n a in let s : total (c ∷ cs) ≡ c + total cs = refl in omega arith
 within (c ∷ cs) (suc i) k n a h = let r = within cs i k n a h in let s : total (c ∷ cs) ≡ c + total cs = refl in omega arith
 
-pub spot-within : (cs : List ℕ) (x : Spot) → IsSpotIn cs x → place cs x < total cs
-spot-within cs x a = within cs x.row x.column a.count a.is_row a.within
+pub cell-within : (cs : List ℕ) (x : Cell) → IsCellIn cs x → place cs x < total cs
+cell-within cs x a = within cs x.row x.column a.count a.is_row a.within

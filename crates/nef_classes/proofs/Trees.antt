@@ -2,14 +2,14 @@
 use Rattle.std.proofs.Common.{◌≡◌, ◌≢◌, ℕ, ◌+◌, ◌<◌, ◌≤◌, ◌⊎◌, inl, inr, ⊎_elim, ◌↔◌, arith, refl, ap, sym, ◌∙◌, subst}
 use Rattle.std.proofs.Common.{List, [], ◌∷◌, ◌++◌, length, take, set, get_or}
 use Rattle.std.proofs.lemmas.Bool.Decides.{eqb_tells}
-use Rattle.std.proofs.lemmas.List.{length-take, get_or-take}
+use Rattle.std.proofs.lemmas.List.{length-take}
 use Rattle.std.proofs.Math.ListN.{length-set}
 use Rattle.nef_space.specs.Lists.{IsAt, Chained}
-use Rattle.nef_smap.specs.declared.classes.Link.{Link}
-use Rattle.nef_smap.specs.Classes.{AreLinked, AreClasses}
-use Rattle.nef_smap.proofs.Chains.{chain-here, chain-link, chain-trans, chain-turned, chain-keeps, chain-map}
-use Rattle.nef_smap.proofs.ClassLists.{Either, earlier, last, is-at_one, is-at_within, is-at_left, is-at_last, is-at_either}
-use Rattle.nef_smap.proofs.ClassLists.{is-at_get, is-at_is, is-at_take, less-or-last}
+use Rattle.nef_classes.specs.declared.link.Link.{Link}
+use Rattle.nef_classes.specs.Classes.{AreLinked, AreClasses}
+use Rattle.nef_classes.proofs.Chains.{chain-here, chain-link, chain-trans, chain-turned, chain-keeps, chain-map}
+use Rattle.nef_classes.proofs.ClassLists.{Either, earlier, last, is-at_one, is-at_within, is-at_left, is-at_last, is-at_either}
+use Rattle.nef_classes.proofs.ClassLists.{is-at_is, is-at_take, less-or-last}
 use Rattle.nef_classes.proofs.Cutting.{take-at}
 use Rattle.nef_classes.proofs.Writes.{set-same, set-other, set-at}
 use Rattle.nef_classes.specs.Forest.{AreOrdered, IsLifted, HasSameTrees, IsParentOrLink, AreTogether, AreRoots}
@@ -285,3 +285,11 @@ none-earlier rs i x R h k c a e =
     let r = R k c (is-at_take i rs k c a) in
     let d = r.0 in
     absurd (omega (arith, l))
+
+-- the first of roots are roots
+pub roots-take : (n : ℕ) (rs : List ℕ) → AreRoots rs → AreRoots (take n rs)
+roots-take n rs R k p a =
+    let r = R k p (is-at_take n rs k p a) in
+    let w = is-at_within (take n rs) k p a in
+    let l = length-take n rs in
+    (r.0, take-at n rs p p (let h = r.0 in omega (arith, l)) r.1)

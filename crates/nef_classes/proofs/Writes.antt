@@ -3,7 +3,7 @@ use Rattle.std.proofs.Common.{◌≡◌, ◌≢◌, ℕ, ◌<◌, List, length, 
 use Rattle.std.proofs.Math.ListN.{length-set}
 use Rattle.std.proofs.lemmas.Bool.{cases_order}
 use Rattle.nef_space.specs.Lists.{IsAt}
-use Rattle.nef_smap.proofs.ClassLists.{is-at_one, is-at_within, is-at_some, is-at_get, is-at_is}
+use Rattle.nef_classes.proofs.ClassLists.{is-at_one, is-at_within, is-at_some, is-at_get, is-at_is}
 
 pub set-other : {X : Type 0} (xs : List X) (k i : ℕ) (v x : X) → i ≢ k → IsAt xs i x → IsAt (set xs k v) i x
 set-other xs k i v x n a =

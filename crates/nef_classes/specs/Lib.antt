@@ -1,3 +1,4 @@
+pub mod Classes
 pub mod Tables
 pub mod Flat
 pub mod Forest

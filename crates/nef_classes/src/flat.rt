@@ -1,13 +1,13 @@
 //! A table's elements in one row.
 
 ghost use Rattle.std.specs.Prelude.{◌≡◌, ◌<◌, ◌^◌, IfOk};
-ghost use Rattle.nef_smap.specs.Classes.{AreWithin};
-ghost use Rattle.nef_classes.specs.Tables.{total, IsSpotIn, place, AreTiedWithin};
+ghost use Rattle.nef_classes.specs.Classes.{AreWithin};
+ghost use Rattle.nef_classes.specs.Tables.{total, IsCellIn, place, AreTiedWithin};
 ghost use Rattle.nef_classes.specs.Flat.{AreStarts, AreFlat};
 
 use crate::OutOfMemory;
-use crate::table::{Spot, Tie};
-use nef_smap::Link;
+use crate::link::Link;
+use crate::table::{Cell, Tie};
 use std::alloc::Global;
 
 /// Where each row begins when all rows stand one after the other, and after these where the last one ends. A table with
@@ -30,14 +30,14 @@ pub(crate) fn starts_of(alloc: Global, counts: &[usize]) -> Result<Vec<usize>, O
 }
 
 // The place of the element among all of the table.
-fn place_of(starts: &[usize], counts: &[usize], spot: &Spot) -> usize
+fn place_of(starts: &[usize], counts: &[usize], cell: &Cell) -> usize
     requires starts { AreStarts counts.now starts.now }
     requires fits { total counts.now < 2 ^ 64 }
-    requires within { IsSpotIn counts.now spot.now }
-    ensures place { result ≡ place counts.now spot.now }
+    requires within { IsCellIn counts.now cell.now }
+    ensures place { result ≡ place counts.now cell.now }
     ensures within { result < total counts.now }
 {
-    starts[spot.row] + spot.column
+    starts[cell.row] + cell.column
 }
 
 /// The ties between places.

@@ -3,11 +3,11 @@
 
 ghost use Rattle.std.specs.Prelude.{◌≡◌, ◌<◌, length, ℕ, IfOk};
 ghost use Rattle.nef_space.specs.Lists.{IsAt, Chained};
-ghost use Rattle.nef_smap.specs.Classes.{AreWithin, AreClasses};
+ghost use Rattle.nef_classes.specs.Classes.{AreWithin, AreClasses};
 ghost use Rattle.nef_classes.specs.Forest.{AreOrdered, IsLifted, HasSameTrees, AreTogether, AreRoots};
 
 use crate::OutOfMemory;
-use nef_smap::Link;
+use crate::link::Link;
 use std::alloc::Global;
 
 // Each number is its own parent.
@@ -74,13 +74,10 @@ fn flatten(parents: &mut [usize])
     }
 }
 
-/// For each number below `count` the least number of its class. Chains of links join the numbers of a class. The time
-/// grows a little faster than `count` and the number of links together.
-pub(crate) fn least_of_each(
-    alloc: Global,
-    count: usize,
-    links: &[Link],
-) -> Result<Vec<usize>, OutOfMemory>
+/// For each number below `count` the least number of its class, which stands for the class: the same for two numbers
+/// exactly where a chain of links leads from one to the other. The time grows a little faster than `count` and the number
+/// of links together. `OutOfMemory` says that memory was wanted and not found.
+pub fn class_of_each(alloc: Global, count: usize, links: &[Link]) -> Result<Vec<usize>, OutOfMemory>
     requires within { AreWithin count links.now }
     ensures classes { IfOk result (λ v. AreClasses count links.now v.items) }
     ensures roots { IfOk result (λ v. AreRoots v.items) }

@@ -1,11 +1,18 @@
-//! The numbers of the classes of a table's elements: ties join elements, and classes are numbered by first appearance.
+//! Classes and their numbers: links join numbers, ties join the elements of a table, and classes are numbered by first
+//! appearance.
 #![tactic(auto)]
 
 mod flat;
 mod forest;
+mod link;
 mod numbering;
 mod rows;
 mod table;
+#[cfg(test)]
+mod tests;
 
+pub use forest::class_of_each;
+pub use link::Link;
+pub use numbering::class_numbers;
 pub use std::alloc::AllocError as OutOfMemory;
-pub use table::{Spot, Tie, number_rows};
+pub use table::{Cell, Tie, number_rows};

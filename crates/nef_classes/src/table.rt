@@ -5,15 +5,15 @@ ghost use Rattle.nef_classes.specs.Tables.{AreTiedWithin, HasCounts, AreNumbers}
 
 use crate::OutOfMemory;
 use crate::flat::{flat_links, starts_of};
-use crate::forest::least_of_each;
-use crate::numbering::numbers_of;
+use crate::forest::class_of_each;
+use crate::numbering::class_numbers;
 use crate::rows::rows_of;
 use nef_geo::List;
 use std::alloc::Global;
 
 /// An element of a table: its row, and its place in the row. Both count from 0.
 #[derive(Debug, Clone, Copy, PartialEq, Eq, Drop)]
-pub struct Spot {
+pub struct Cell {
     pub row: usize,
     pub column: usize,
 }
@@ -21,8 +21,8 @@ pub struct Spot {
 /// Two elements of one class.
 #[derive(Debug, Clone, Copy, PartialEq, Eq, Drop)]
 pub struct Tie {
-    pub first: Spot,
-    pub second: Spot,
+    pub first: Cell,
+    pub second: Cell,
 }
 
 /// For each element of a table, whose rows have `counts` elements, the number of its class. Chains of ties join the
@@ -39,7 +39,7 @@ pub fn number_rows(
 {
     let starts = starts_of(alloc, counts)?;
     let links = flat_links(alloc, &starts, counts, ties)?;
-    let roots = least_of_each(alloc, starts[counts.len()], &links)?;
-    let numbers = numbers_of(alloc, &roots)?;
+    let roots = class_of_each(alloc, starts[counts.len()], &links)?;
+    let numbers = class_numbers(alloc, &roots)?;
     rows_of(alloc, counts, &numbers)
 }

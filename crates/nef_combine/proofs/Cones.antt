@@ -1,5 +1,5 @@
 -- The operation on the labels of two maps of sets gives the germs of the combination.
-use Rattle.std.proofs.Common.{◌≡◌, refl, sym, ap, ◌∙◌, ◌↔◌, subst}
+use Rattle.std.proofs.Common.{◌≡◌, refl, sym, ◌↔◌, subst}
 use Rattle.nef_space.specs.Place.{Place}
 use Rattle.nef_space.specs.Sets.{Set}
 use Rattle.nef_space.specs.Vectors.{Vector, IsDirection}

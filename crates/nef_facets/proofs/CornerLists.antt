@@ -4,7 +4,7 @@ use Rattle.std.proofs.lemmas.Int.{ints}
 use Rattle.nef_space.specs.Lists.{IsAt}
 use Rattle.law_sphere.specs.Maps.{At, Item, items}
 use Rattle.law_sphere.proofs.Lists.{at-one}
-use Rattle.nef_smap.proofs.ClassLists.{Either, earlier, last, is-at_either, is-at_last, is-at_left, is-at_within, is-at_some, less-or-last}
+use Rattle.nef_classes.proofs.ClassLists.{Either, earlier, last, is-at_either, is-at_last, is-at_left, is-at_within, is-at_some, less-or-last}
 use Rattle.nef_edges.proofs.Places.{some-at, at-within, map-at}
 use Rattle.law_complex.specs.Complexes.{Vertex as PlainVertex, Complex as PlainComplex, Corner as PlainCorner, IsCorner}
 use Rattle.nef_complex.specs.declared.complex.Vertex.{Vertex}
@@ -99,24 +99,3 @@ all-corners C n ks A within = record {
   all = λ k h. A.all k h (within k.vertex h.0 h.2.vertex);
   ordered = A.ordered;
 }
-
--- ---- the program's vertices and items
-module _ (c : Complex) (k : PlainCorner) (h : HasItem (complex_of c) k) where
-  pub vertex-within : k.vertex < length c.vertices
-  vertex-within = let r = map-at vertex_of c.vertices k.vertex h.0 h.2.vertex in at-within c.vertices k.vertex r.0 r.1
-
-  module _ (u : Vertex) (a : At c.vertices k.vertex u) where
-    plain : At (complex_of c).vertices k.vertex (vertex_of u)
-    plain = let r = map-at vertex_of c.vertices k.vertex h.0 h.2.vertex in subst (λ (w : PlainVertex). At (complex_of c).vertices k.vertex w) (sym r.2 ∙ ap vertex_of (at-one c.vertices k.vertex r.0 u r.1 a)) h.2.vertex
-
-    pub item-within : k.item < length (items (map_of u.map))
-    item-within =
-        let e = at-one (complex_of c).vertices k.vertex h.0 (vertex_of u) h.2.vertex plain in
-        at-within (items (map_of u.map)) k.item h.1 (subst (λ (w : PlainVertex). At (items w.map) k.item h.1) e h.2.item)
-
-    -- what holds of the item at this corner holds of all items at it
-    pub of-item : (P : PlainVertex → Item → Type 0) (x : Item) → At (items (map_of u.map)) k.item x → P (vertex_of u) x → (v : PlainVertex) (y : Item) → IsCorner (complex_of c) k v y → P v y
-    of-item P x b p v y j =
-        let e = at-one (complex_of c).vertices k.vertex (vertex_of u) v plain j.vertex in
-        let f = at-one (items (map_of u.map)) k.item x y b (subst (λ (w : PlainVertex). At (items w.map) k.item y) (sym e) j.item) in
-        subst (λ (w : PlainVertex). P w y) e (subst (λ (r : Item). P (vertex_of u) r) f p)

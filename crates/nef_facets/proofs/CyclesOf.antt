@@ -5,8 +5,8 @@ use Rattle.std.specs.List.{All}
 use Rattle.nef_space.specs.Lists.{IsAt, Chained}
 use Rattle.nef_space.specs.Sets.{Set}
 use Rattle.law_sphere.specs.Maps.{At}
-use Rattle.nef_smap.proofs.Chains.{chain-here, chain-trans}
-use Rattle.nef_smap.proofs.ClassLists.{is-at_one, is-at_within, is-at_some, is-at_is}
+use Rattle.nef_classes.proofs.Chains.{chain-here, chain-trans}
+use Rattle.nef_classes.proofs.ClassLists.{is-at_one, is-at_within, is-at_some, is-at_is}
 use Rattle.nef_edges.proofs.Places.{some-at, at-some, at-map, map-at}
 use Rattle.law_complex.specs.Complexes.{Complex as PlainComplex, Corner as PlainCorner}
 use Rattle.law_complex.specs.Shows.{Shows}

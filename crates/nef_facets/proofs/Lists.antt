@@ -1,7 +1,7 @@
 -- Elements of lists by their places.
 use Rattle.std.proofs.Common.{◌≡◌, ℕ, zero, suc, ◌+◌, List, [], ◌∷◌, ◌++◌, length, ◌≤◌, map, arith, refl, sym, ◌∙◌, subst, inl, inr, ◌⊎◌, length-append}
 use Rattle.nef_space.specs.Lists.{IsAt}
-use Rattle.nef_smap.proofs.ClassLists.{Either, earlier, last, is-at_either, is-at_one, is-at_within}
+use Rattle.nef_classes.proofs.ClassLists.{Either, earlier, last, is-at_either, is-at_one, is-at_within}
 use Rattle.nef_edges.proofs.Places.{some-at, at-some, at-map}
 
 -- an element of two lists one after the other is one of the first, or of the second

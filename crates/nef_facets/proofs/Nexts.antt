@@ -10,7 +10,7 @@ use Rattle.law_sphere.proofs.Shot.{arc-at}
 use Rattle.law_sphere.proofs.Arcs.{at-arc, ends-of}
 use Rattle.nef_smap.specs.declared.map.SArc.{SArc}
 use Rattle.nef_smap.specs.Maps.{map_of, arc_of}
-use Rattle.nef_smap.proofs.ClassLists.{is-at_within, is-at_some, less-or-last}
+use Rattle.nef_classes.proofs.ClassLists.{is-at_within, is-at_some, less-or-last}
 use Rattle.nef_edges.proofs.Places.{at-map, map-at, at-within}
 use Rattle.law_complex.specs.Complexes.{Vertex as PlainVertex, Edge as PlainEdge, Complex as PlainComplex, IsCorner}
 use Rattle.law_complex.specs.Shows.{Shows}

@@ -3,26 +3,26 @@ use Rattle.std.proofs.Common.{◌≡◌, ℕ, ◌+◌, List, ◌++◌, length, m
 use Rattle.std.proofs.Math.ListN.{length-map}
 use Rattle.std.specs.Prelude.{IfOk}
 use Rattle.nef_space.specs.Lists.{IsAt, Chained}
-use Rattle.nef_smap.proofs.Chains.{chain-link, chain-map}
-use Rattle.nef_smap.proofs.ClassLists.{is-at_left}
+use Rattle.nef_classes.proofs.Chains.{chain-link, chain-map}
+use Rattle.nef_classes.proofs.ClassLists.{is-at_left}
 use Rattle.nef_edges.proofs.Places.{at-some, at-map}
 use Rattle.law_complex.specs.Complexes.{Complex, Corner}
 use Rattle.law_links.specs.Links.{LinkAlong, LinkAcross, FacetLink}
 use Rattle.nef_parts.specs.Numbers.{count_items, FacetNumbers}
-use Rattle.nef_classes.specs.declared.table.Spot.{Spot}
+use Rattle.nef_classes.specs.declared.table.Cell.{Cell}
 use Rattle.nef_classes.specs.declared.table.Tie.{Tie}
 use Rattle.nef_classes.specs.Tables.{AreTiedWithin, AreTied, HasCounts, AreNumbers}
-use Rattle.nef_ties.specs.Ties.{spot_of}
+use Rattle.nef_ties.specs.Ties.{cell_of}
 use Rattle.nef_facets.proofs.Lists.{is-at_parts, is-at_second}
 
-abbrev corner_of_spot : Spot → Corner
-corner_of_spot x = record { vertex = x.row; item = x.column }
+abbrev corner_of_cell : Cell → Corner
+corner_of_cell x = record { vertex = x.row; item = x.column }
 
 -- ---- ties of both kinds
 pub both-within : (counts : List ℕ) (as' bs ts : List Tie) → ts ≡ as' ++ bs → AreTiedWithin counts as' → AreTiedWithin counts bs → AreTiedWithin counts ts
 both-within counts as' bs ts e f g k t a = ⊎_elim (λ b. f k t b) (λ b. g b.0 t b.2) (is-at_parts as' bs k t (subst (λ (r : List Tie). IsAt r k t) e a))
 
-module _ (as' bs ts : List Tie) (e : ts ≡ as' ++ bs) (x y : Spot) where
+module _ (as' bs ts : List Tie) (e : ts ≡ as' ++ bs) (x y : Cell) where
   tied-parts : AreTied ts x y → AreTied as' x y ⊎ AreTied bs x y
   tied-parts (k, t, a, f, g) = ⊎_elim (λ b. inl (k, t, b, f, g)) (λ b. inr (b.0, t, b.2, f, g)) (is-at_parts as' bs k t (subst (λ (r : List Tie). IsAt r k t) e a))
 
@@ -33,19 +33,19 @@ module _ (as' bs ts : List Tie) (e : ts ≡ as' ++ bs) (x y : Spot) where
   second-tied (k, t, a, f, g) = (length as' + k, t, subst (λ (r : List Tie). IsAt r (length as' + k) t) (sym e) (is-at_second as' bs k t a), f, g)
 
 pub both-links : (C : Complex) (as' bs ts : List Tie) → ts ≡ as' ++ bs
-    → ((j k : Corner) → AreTied as' (spot_of j) (spot_of k) ↔ LinkAlong C j k) → ((j k : Corner) → AreTied bs (spot_of j) (spot_of k) ↔ LinkAcross C j k)
-    → (j k : Corner) → AreTied ts (spot_of j) (spot_of k) ↔ FacetLink C j k
+    → ((j k : Corner) → AreTied as' (cell_of j) (cell_of k) ↔ LinkAlong C j k) → ((j k : Corner) → AreTied bs (cell_of j) (cell_of k) ↔ LinkAcross C j k)
+    → (j k : Corner) → AreTied ts (cell_of j) (cell_of k) ↔ FacetLink C j k
 both-links C as' bs ts e f g j k = (
-  λ t. ⊎_elim (λ a. inl ((f j k).0 a)) (λ b. inr ((g j k).0 b)) (tied-parts as' bs ts e (spot_of j) (spot_of k) t),
-  λ l. ⊎_elim (λ a. first-tied as' bs ts e (spot_of j) (spot_of k) ((f j k).1 a)) (λ b. second-tied as' bs ts e (spot_of j) (spot_of k) ((g j k).1 b)) l,
+  λ t. ⊎_elim (λ a. inl ((f j k).0 a)) (λ b. inr ((g j k).0 b)) (tied-parts as' bs ts e (cell_of j) (cell_of k) t),
+  λ l. ⊎_elim (λ a. first-tied as' bs ts e (cell_of j) (cell_of k) ((f j k).1 a)) (λ b. second-tied as' bs ts e (cell_of j) (cell_of k) ((g j k).1 b)) l,
 )
 
 -- ---- classes of ties are classes of links
-module _ (C : Complex) (ts : List Tie) (links : (j k : Corner) → AreTied ts (spot_of j) (spot_of k) ↔ FacetLink C j k) where
-  chained : (j k : Corner) → Chained (AreTied ts) (spot_of j) (spot_of k) ↔ Chained (FacetLink C) j k
+module _ (C : Complex) (ts : List Tie) (links : (j k : Corner) → AreTied ts (cell_of j) (cell_of k) ↔ FacetLink C j k) where
+  chained : (j k : Corner) → Chained (AreTied ts) (cell_of j) (cell_of k) ↔ Chained (FacetLink C) j k
   chained j k = (
-    λ c. chain-map (AreTied ts) (FacetLink C) corner_of_spot (λ x y t. chain-link (FacetLink C) (corner_of_spot x) (corner_of_spot y) ((links (corner_of_spot x) (corner_of_spot y)).0 t)) (spot_of j) (spot_of k) c,
-    λ c. chain-map (FacetLink C) (AreTied ts) spot_of (λ x y l. chain-link (AreTied ts) (spot_of x) (spot_of y) ((links x y).1 l)) j k c,
+    λ c. chain-map (AreTied ts) (FacetLink C) corner_of_cell (λ x y t. chain-link (FacetLink C) (corner_of_cell x) (corner_of_cell y) ((links (corner_of_cell x) (corner_of_cell y)).0 t)) (cell_of j) (cell_of k) c,
+    λ c. chain-map (FacetLink C) (AreTied ts) cell_of (λ x y l. chain-link (AreTied ts) (cell_of x) (cell_of y) ((links x y).1 l)) j k c,
   )
 
   pub facet-numbers : (rows : List (List ℕ)) → HasCounts (map count_items C.vertices) rows → AreNumbers ts rows → FacetNumbers C rows
@@ -56,10 +56,10 @@ module _ (C : Complex) (ts : List Tie) (links : (j k : Corner) → AreTied ts (s
     };
     numbered = record {
       by_class = λ j k m n a b.
-          let e = N.by_class (spot_of j) (spot_of k) m n a b in
+          let e = N.by_class (cell_of j) (cell_of k) m n a b in
           let c = chained j k in
           (λ s. c.0 (e.0 s), λ s. e.1 (c.1 s));
-      by_appearance = λ k m n a l h. let r = N.by_appearance (spot_of k) m n a l h in (corner_of_spot r.0, r.1, r.2);
+      by_appearance = λ k m n a l h. let r = N.by_appearance (cell_of k) m n a l h in (corner_of_cell r.0, r.1, r.2);
     };
   }
 

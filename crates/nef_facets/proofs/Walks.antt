@@ -4,7 +4,7 @@ use Rattle.std.proofs.Math.ListN.{length-set}
 use Rattle.std.proofs.lemmas.Bool.{cases_order}
 use Rattle.std.specs.List.{All}
 use Rattle.nef_space.specs.Lists.{IsAt}
-use Rattle.nef_smap.proofs.ClassLists.{Either, earlier, last, is-at_either, is-at_last, is-at_left, is-at_one, is-at_within, is-at_some, is-at_get, less-or-last}
+use Rattle.nef_classes.proofs.ClassLists.{Either, earlier, last, is-at_either, is-at_last, is-at_left, is-at_one, is-at_within, is-at_some, is-at_get, less-or-last}
 use Rattle.nef_classes.proofs.Writes.{set-same, set-other, set-at}
 use Rattle.nef_facets.specs.Orbits.{IsStep, IsClosed, StepsOver, ComesBack, AreMarked, IsOrbit, AreOrbits}
 

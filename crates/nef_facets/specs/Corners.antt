@@ -1,23 +1,23 @@
 -- Lists of corners.
-use Rattle.std.specs.Prelude.{ℕ, zero, suc, ◌<◌, List, [], ◌∷◌, ◌++◌}
+use Rattle.std.specs.Prelude.{ℕ, zero, suc, ◌<◌, Bool, true, false, cond, eqb, ltb, List, [], ◌∷◌, ◌++◌}
 use Rattle.nef_space.specs.Lists.{IsAt}
-use Rattle.law_sphere.specs.Maps.{Item}
-use Rattle.law_complex.specs.Complexes.{Vertex, Complex, Corner as PlainCorner, IsCorner}
+use Rattle.law_complex.specs.Complexes.{Complex, Corner as PlainCorner}
 use Rattle.nef_complex.specs.declared.complex.Corner.{Corner}
 use Rattle.nef_complex.specs.Complexes.{corner_of}
 use Rattle.nef_parts.specs.Cycles.{IsCornerBelow}
+pub use Rattle.nef_ties.specs.Carriers.{HasItem}
 
 abbrev pub corner_from : PlainCorner → Corner
 corner_from k = record { vertex = k.vertex; item = k.item }
+
+-- whether corner j stands before corner k
+abbrev pub stands_before : Corner → Corner → Bool
+stands_before j k = cond (ltb j.vertex k.vertex) true (cond (eqb j.vertex k.vertex) (ltb j.item k.item) false)
 
 -- the corners of a vertex with so many items
 abbrev pub corners_at : ℕ → ℕ → List Corner
 corners_at i zero = []
 corners_at i (suc n) = corners_at i n ++ record { vertex = i; item = n } ∷ []
-
--- there is an item at the corner
-abbrev pub HasItem : Complex → PlainCorner → Type 0
-HasItem C k = (v : Vertex) × (x : Item) × IsCorner C k v x
 
 -- there is an item at each corner of the list
 abbrev pub AreListed : Complex → List Corner → Type 0

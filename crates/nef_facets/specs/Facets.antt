@@ -1,8 +1,8 @@
 -- The facets of a complex.
 use Rattle.std.specs.Prelude.{◌≡◌, ℕ, ◌<◌, pos, List, length}
 use Rattle.nef_space.specs.Lists.{IsAt}
-use Rattle.nef_space.specs.Place.{Place, form_at, normal_of}
-use Rattle.nef_space.specs.Vectors.{Vector, SameDirection}
+use Rattle.nef_space.specs.Place.{form_at, normal_of}
+use Rattle.nef_space.specs.Vectors.{SameDirection}
 use Rattle.nef_space.specs.declared.label.Label.{Label}
 use Rattle.nef_geo.specs.Shapes.{form_of}
 use Rattle.nef_geo.specs.declared.plane.Plane.{Plane}
@@ -13,11 +13,8 @@ use Rattle.nef_complex.specs.Complexes.{corner_of}
 use Rattle.nef_parts.specs.Cycles.{Cycles}
 use Rattle.nef_parts.specs.Numbers.{IsFacetOf, FacetNumbers, cycle_corners}
 use Rattle.nef_parts.specs.declared.parts.Cycle.{Cycle}
+pub use Rattle.nef_ties.specs.Carriers.{IsPlaneAt}
 use Rattle.nef_facets.specs.declared.parts.FacetParts.{FacetParts}
-
--- the plane holds the vertex and has the item's normal
-abbrev pub IsPlaneAt : Complex → Plane → Corner → Type 0
-IsPlaneAt C h k = (v : Vertex) (x : Item) → IsCorner C k v x → (form_at (form_of h) v.point ≡ pos 0) × SameDirection (normal_of (form_of h)) (item_normal x)
 
 -- the label is the item's mark
 abbrev pub IsMarkAt : Complex → Label → Corner → Type 0
@@ -29,10 +26,6 @@ ArePlanesAt C ks hs = (n : ℕ) (h : Plane) (k : CornerValue) → IsAt hs n h �
 
 abbrev pub AreMarksAt : Complex → List CornerValue → List Label → Type 0
 AreMarksAt C ks ls = (n : ℕ) (l : Label) (k : CornerValue) → IsAt ls n l → IsAt ks n k → IsMarkAt C l (corner_of k)
-
--- the plane holds the point and has the normal
-abbrev pub IsPlaneThrough : Plane → Place → Vector → Type 0
-IsPlaneThrough h p n = (form_at (form_of h) p ≡ pos 0) × SameDirection (normal_of (form_of h)) n
 
 -- each row has the cycles of the facet with its number
 abbrev pub AreCyclesOf : Complex → List (List ℕ) → List (List Cycle) → Type 0

@@ -5,7 +5,6 @@ ghost use Rattle.nef_complex.specs.Complexes.{complex_of};
 ghost use Rattle.nef_facets.specs.Corners.{corners_at, AreCorners};
 
 use crate::OutOfMemory;
-use crate::items::item_count;
 use nef_complex::{Complex, Corner};
 use std::alloc::Global;
 
@@ -25,7 +24,7 @@ pub(crate) fn corners(alloc: Global, c: &Complex) -> Result<Vec<Corner>, OutOfMe
 {
     let mut corners = Vec::new(alloc);
     for (number, vertex) in c.vertices.as_slice().iter().enumerate() {
-        add_corners(&mut corners, number, item_count(&vertex.map))?;
+        add_corners(&mut corners, number, vertex.map.item_count())?;
     }
     Ok(corners)
 }

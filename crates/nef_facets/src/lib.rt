@@ -4,15 +4,12 @@
 mod corners;
 mod cycles;
 mod firsts;
-mod items;
 mod next;
 mod numbers;
 mod orbits;
 mod parts;
 mod planes;
 mod position;
-#[cfg(test)]
-mod tests;
 
 pub use parts::{FacetParts, facets};
 pub use std::alloc::AllocError as OutOfMemory;

@@ -15,7 +15,7 @@ ghost use Rattle.nef_facets.specs.Next.{IsArcInto, HaveNextFrom, KeepsNext, AreN
 
 use crate::OutOfMemory;
 use crate::position::position;
-use nef_complex::{Complex, Corner, same_dir};
+use nef_complex::{Complex, Corner};
 use nef_geo::Dir;
 use nef_smap::{SArc, SphereMap};
 use std::alloc::Global;
@@ -31,7 +31,7 @@ struct End {
 fn goes_into(arc: &SArc, svertex: usize, normal: &Dir) -> bool
     ensures goes { IsTrue result ↔ ((arc.now.target ≡ svertex) × SameDirection (vector_of normal.now) (vector_of arc.now.normal)) }
 {
-    arc.target == svertex && same_dir(&arc.normal, normal)
+    arc.target == svertex && normal.is_same(&arc.normal)
 }
 
 // The number of the arc with the normal that ends at the svertex.

@@ -7,10 +7,9 @@ ghost use Rattle.nef_complex.specs.Complexes.{complex_of, ShowsSet};
 ghost use Rattle.law_links.specs.Links.{FacetLink};
 ghost use Rattle.nef_parts.specs.Numbers.{count_items, FacetNumbers};
 ghost use Rattle.nef_classes.specs.Tables.{AreTied, AreTiedWithin};
-ghost use Rattle.nef_ties.specs.Ties.{spot_of};
+ghost use Rattle.nef_ties.specs.Ties.{cell_of};
 
 use crate::OutOfMemory;
-use crate::items::item_count;
 use nef_classes::{Tie, number_rows};
 use nef_complex::Complex;
 use nef_geo::List;
@@ -23,7 +22,7 @@ fn item_counts(alloc: Global, c: &Complex) -> Result<Vec<usize>, OutOfMemory>
 {
     let mut counts = Vec::new(alloc);
     for vertex in c.vertices.as_slice() {
-        counts.push(item_count(&vertex.map))?;
+        counts.push(vertex.map.item_count())?;
     }
     Ok(counts)
 }
@@ -32,7 +31,7 @@ fn item_counts(alloc: Global, c: &Complex) -> Result<Vec<usize>, OutOfMemory>
 fn facet_ties(alloc: Global, c: &Complex) -> Result<Vec<Tie>, OutOfMemory>
     requires shows { (s : Set) × ShowsSet s c.now }
     ensures within { IfOk result (λ v. AreTiedWithin (map count_items (complex_of c.now).vertices) v.items) }
-    ensures links { IfOk result (λ v. (j k : PlainCorner) → AreTied v.items (spot_of j) (spot_of k) ↔ FacetLink (complex_of c.now) j k) }
+    ensures links { IfOk result (λ v. (j k : PlainCorner) → AreTied v.items (cell_of j) (cell_of k) ↔ FacetLink (complex_of c.now) j k) }
 {
     let mut ties = along_ties(alloc, c)?;
     let across = across_ties(alloc, c)?;

@@ -1,40 +1,17 @@
 //! The planes and the marks of facets.
 
-ghost use Rattle.std.specs.Prelude.{◌≡◌, ◌↔◌, length, IsTrue, IfOk};
+ghost use Rattle.std.specs.Prelude.{◌≡◌, length, IfOk};
 ghost use Rattle.nef_space.specs.Sets.{Set};
-ghost use Rattle.nef_geo.specs.Shapes.{place_of, vector_of};
 ghost use Rattle.nef_complex.specs.Complexes.{complex_of, corner_of, ShowsSet};
-ghost use Rattle.nef_facets.specs.Corners.{HasItem, AreListed};
-ghost use Rattle.nef_facets.specs.Facets.{IsPlaneAt, IsMarkAt, ArePlanesAt, AreMarksAt, IsPlaneThrough};
+ghost use Rattle.nef_facets.specs.Corners.{AreListed};
+ghost use Rattle.nef_ties.specs.Carriers.{HasItem};
+ghost use Rattle.nef_facets.specs.Facets.{IsMarkAt, ArePlanesAt, AreMarksAt};
 
 use crate::OutOfMemory;
-use crate::items::{mark_at, normal_at};
-use nef_complex::{Complex, Corner, holds, plane_normal, same_dir};
-use nef_geo::{Dir, Label, List, Plane, Point};
+use nef_complex::{Complex, Corner};
+use nef_geo::{Label, List, Plane};
+use nef_ties::plane_of;
 use std::alloc::Global;
-
-// Whether the plane holds the point and has the normal.
-fn is_plane_of(h: &Plane, point: &Point, normal: &Dir) -> bool
-    ensures plane { IsTrue result ↔ IsPlaneThrough h.now (place_of point.now) (vector_of normal.now) }
-{
-    holds(h, point) && same_dir(&plane_normal(h), normal)
-}
-
-// The plane of the corner's item: a carrier holds each item.
-fn plane_of(c: &Complex, k: &Corner) -> Plane
-    requires shows { (s : Set) × ShowsSet s c.now }
-    requires corner { HasItem (complex_of c.now) (corner_of k.now) }
-    ensures plane { IsPlaneAt (complex_of c.now) result (corner_of k.now) }
-{
-    let vertex = c.vertices.at(k.vertex);
-    let normal = normal_at(&vertex.map, k.item);
-    for h in c.carriers.as_slice() {
-        if is_plane_of(h, &vertex.point, &normal) {
-            return *h;
-        }
-    }
-    unreachable!()
-}
 
 /// The planes of the corners' items.
 pub(crate) fn planes(
@@ -59,7 +36,7 @@ fn mark_of(c: &Complex, k: &Corner) -> Label
     requires corner { HasItem (complex_of c.now) (corner_of k.now) }
     ensures mark { IsMarkAt (complex_of c.now) result (corner_of k.now) }
 {
-    mark_at(&c.vertices.at(k.vertex).map, k.item)
+    c.vertices.at(k.vertex).map.item_at(k.item).mark()
 }
 
 /// The marks of the corners' items.

@@ -1,12 +1,12 @@
 -- The order of points on one ray.
-use Rattle.std.proofs.Common.{◌≡◌, ◌≢◌, ℕ, ◌*◌, ℤ, pos, ◌+ℤ◌, ◌-ℤ◌, ◌*ℤ◌, ◌<ℤ◌, nat_abs, List, [], ◌∷◌, Ordering, Less, Equal, Greater, arith, refl, ap, sym, ◌∙◌, subst}
+use Rattle.std.proofs.Common.{◌≡◌, ◌≢◌, ℕ, ◌*◌, ℤ, pos, ◌+ℤ◌, ◌-ℤ◌, ◌*ℤ◌, ◌<ℤ◌, nat_abs, [], ◌∷◌, Ordering, Less, Equal, Greater, arith, ap, sym, ◌∙◌, subst}
 use Rattle.std.proofs.lemmas.Int.{ints}
 use Rattle.std.specs.Ordering.{MatchOrdering}
 use Rattle.nef_space.specs.Place.{Place, toward, SamePlace, IsAhead}
 use Rattle.nef_space.specs.Vectors.{Vector, dot, IsDirection, SameDirection}
 use Rattle.law_arithmetic.proofs.Combination.{none, given, follows}
 use Rattle.law_arithmetic.proofs.Order.{mul_pos, cancel_lt, sub_pos}
-use Rattle.law_arithmetic.proofs.Ring.{at, num, neg, ◌⊕◌, ◌⊖◌, ◌⊗◌, ring}
+use Rattle.law_arithmetic.proofs.Ring.{at, num, neg, ◌⊕◌, ◌⊖◌, ◌⊗◌}
 use Rattle.nef_geo.specs.Hits.{IsReached}
 use Rattle.nef_geo.proofs.Cramer.{cancel, difference}
 use Rattle.nef_geo.proofs.Directions.{dot-itself}

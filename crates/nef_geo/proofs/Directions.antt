@@ -48,6 +48,16 @@ SameDirection-stretched a b s some = record {
       subst (λ (n : ℤ). pos 0 <ℤ n) e (mul_pos s.factor (dot b b) s.positive (dot-itself b some));
 }
 
+pub SameDirection-itself : (a : Vector) → IsDirection a → SameDirection a a
+SameDirection-itself a some = record {
+  parallel = (
+    ring (a.y ∷ a.z ∷ []) (at 0 ⊗ at 1 ⊖ at 1 ⊗ at 0) (num (pos 0)) tt,
+    ring (a.z ∷ a.x ∷ []) (at 0 ⊗ at 1 ⊖ at 1 ⊗ at 0) (num (pos 0)) tt,
+    ring (a.x ∷ a.y ∷ []) (at 0 ⊗ at 1 ⊖ at 1 ⊗ at 0) (num (pos 0)) tt,
+  );
+  forward = dot-itself a some;
+}
+
 pub IsAtMost-part : (k : ℕ) (a b : Vector) → IsStretched a b → IsAtMost k a → IsAtMost k b
 IsAtMost-part k a b s h = record {
   of_x = part_small k s.factor a.x b.x s.positive s.x_is h.of_x;

@@ -1,12 +1,13 @@
 -- Signs of products, of sums and of forms.
-use Rattle.std.proofs.Common.{◌≡◌, zero, suc, ℤ, pos, negsuc, neg_ℤ, ◌*ℤ◌, ◌<ℤ◌, true, arith, refl, ap, ◌∙◌, [], ◌∷◌, FitsSigned, to_z, of_z}
+use Rattle.std.proofs.Common.{◌≡◌, zero, suc, ℤ, pos, negsuc, neg_ℤ, ◌*ℤ◌, ◌<ℤ◌, Bool, true, false, arith, refl, sym, ap, ◌∙◌, subst, [], ◌∷◌, FitsSigned, to_z, of_z}
 use Rattle.std.proofs.lemmas.Int.{ints, to_z-of_z}
+use lib.Dec.{T}
 use mir.Syntax.{w128}
 use Rattle.nef_geo.specs.declared.sign.Sign.{Sign}
 use Rattle.nef_space.specs.Place.{Place, Form, form_at}
 use Rattle.law_arithmetic.proofs.Ring.{at, ◌⊕◌, ◌⊗◌, ring}
 use Rattle.nef_geo.specs.declared.plane.Oriented.{Oriented}
-use Rattle.nef_geo.specs.declared.sign.Sign.TheVariants.{Minus, Plus}
+use Rattle.nef_geo.specs.declared.sign.Sign.TheVariants.{Minus, Zero, Plus}
 use Rattle.nef_geo.specs.Reading.{IsPositiveMultiple}
 use Rattle.nef_geo.specs.Shapes.{form_of, given_form}
 use Rattle.nef_geo.specs.Signs.{sign_of}
@@ -20,6 +21,17 @@ sign_of-positive (negsuc n) h = absurd (omega (arith, ints))
 pub sign_of-negative : (z : ℤ) → z <ℤ pos 0 → sign_of z ≡ Minus
 sign_of-negative (pos n) h = absurd (omega (arith, ints))
 sign_of-negative (negsuc n) h = refl
+
+is_zero_sign : Sign → Bool
+is_zero_sign Minus = false
+is_zero_sign Zero = true
+is_zero_sign Plus = false
+
+pub zero_sign : (z : ℤ) → sign_of z ≡ Zero → z ≡ pos 0
+unfolding is_zero_sign
+zero_sign (pos zero) e = refl
+zero_sign (pos (suc n)) e = absurd (subst (λ (s : Sign). T (is_zero_sign s)) (sym e) tt)
+zero_sign (negsuc n) e = absurd (subst (λ (s : Sign). T (is_zero_sign s)) (sym e) tt)
 
 pub sign_of-scaled : (k z : ℤ) → pos 0 <ℤ k → sign_of (k *ℤ z) ≡ sign_of z
 sign_of-scaled (pos zero) z p = absurd (omega (arith, ints))

@@ -1,11 +1,13 @@
 //! Directions in normal form.
 
-ghost use Rattle.std.specs.Prelude.{◌≡◌, ◌≤◌, nat_abs, [], ◌∷◌};
+ghost use Rattle.std.specs.Prelude.{◌≡◌, ◌≤◌, ◌↔◌, nat_abs, [], ◌∷◌, IsTrue};
 ghost use Rattle.nef_space.specs.Limits.{direction_limit};
 ghost use Rattle.nef_space.specs.Numbers.{IsLowest};
 ghost use Rattle.nef_space.specs.Vectors.{vector, IsDirection};
 
 use crate::gcd::lowest_terms;
+use crate::product::dot;
+use crate::sign::Sign;
 
 /// The direction `(x, y, z)`. The three numbers aren't all zero, have no common divisor but 1, and are
 /// at most `2^37` in size.
@@ -21,9 +23,15 @@ pub struct Dir {
     pub ghost lowest: { IsLowest (x ∷ y ∷ z ∷ []) },
 }
 
+fn are_equal(a: &Dir, b: &Dir) -> bool
+    ensures equal { IsTrue result ↔ (a.now ≡ b.now) }
+{
+    a == b
+}
+
 impl Dir {
-    ghost use Rattle.std.specs.Prelude.{◌↔◌, ℕ, IsNone, IfSome};
-    ghost use Rattle.nef_space.specs.Vectors.{opposite, IsAtMost, IsZero, SameDirection};
+    ghost use Rattle.std.specs.Prelude.{ℕ, pos, IsNone, IfSome};
+    ghost use Rattle.nef_space.specs.Vectors.{opposite, dot, IsAtMost, IsZero, SameDirection};
     ghost use Rattle.nef_geo.specs.Meet.{IsStretched};
     ghost use Rattle.nef_geo.specs.Shapes.{vector_of};
 
@@ -64,6 +72,21 @@ impl Dir {
             y: -self.y,
             z: -self.z,
         }
+    }
+
+    /// Whether both are one direction. Since directions stand in normal form, that is whether their numbers are equal.
+    pub fn is_same(&self, other: &Dir) -> bool
+        ensures same { IsTrue result ↔ (self.now ≡ other.now) }
+        ensures direction { IsTrue result ↔ SameDirection (vector_of self.now) (vector_of other.now) }
+    {
+        are_equal(self, other)
+    }
+
+    /// Whether the two are perpendicular.
+    pub fn is_perpendicular(&self, other: &Dir) -> bool
+        ensures perpendicular { IsTrue result ↔ (dot (vector_of self.now) (vector_of other.now) ≡ pos 0) }
+    {
+        dot(self, other) == Sign::Zero
     }
 
     /// The first number.

@@ -13,7 +13,7 @@ use Rattle.law_sphere.proofs.Parallel.{apart}
 use Rattle.law_sphere.proofs.Shot.{product-off}
 use Rattle.law_sphere.proofs.Direct.{slid-level, slid-square, cross-self, miss-between, between-off_target}
 use Rattle.nef_smap.proofs.MapLists.{at-within}
-use Rattle.nef_smap.specs.Ways.{meet_of, IsMetBefore, IsFirstMet}
+use Rattle.nef_smap.specs.Paths.{meet_of, IsMetBefore, IsFirstMet}
 
 -- ---- the order of meets
 pub meet-is : (n g a b : Vector) → dot g (meet_of n a b) ≡ dot n a *ℤ (dot n a *ℤ dot g b -ℤ dot n b *ℤ dot g a)

@@ -9,7 +9,7 @@ use Rattle.law_sphere.proofs.Lists.{at-one}
 use Rattle.nef_smap.specs.Above.{rise, IsOver, IsFirst, IsFirstOf}
 use Rattle.nef_smap.proofs.Rise.{rise-is, rise-level, rise_form-value}
 use Rattle.nef_smap.proofs.MapLists.{at-within}
-use Rattle.nef_smap.proofs.ClassLists.{less-or-last}
+use Rattle.nef_classes.proofs.ClassLists.{less-or-last}
 
 -- heights compare as fractions
 height : (u n m d : Vector) → dot m (rise u n d) ≡ (pos 0 -ℤ dot n d) *ℤ dot m u -ℤ (pos 0 -ℤ dot m d) *ℤ dot n u

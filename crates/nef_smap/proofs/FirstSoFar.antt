@@ -5,26 +5,26 @@ use Rattle.nef_space.specs.Vectors.{dot}
 use Rattle.law_sphere.specs.Maps.{At, Item, items, item_normal}
 use Rattle.nef_smap.specs.declared.linear.Values.{Values}
 use Rattle.nef_smap.specs.declared.map.SphereMap.{SphereMap}
-use Rattle.nef_smap.specs.declared.way.Way.{Way}
+use Rattle.nef_smap.specs.declared.path.SpherePath.{SpherePath}
 use Rattle.nef_smap.specs.Linear.{linear_at, turn_value, AreAtMost, IsLarge}
 use Rattle.nef_smap.specs.Maps.{map_of}
-use Rattle.nef_smap.specs.Wide.{start_at, end_at, AreValues}
-use Rattle.nef_smap.specs.Ways.{meet_of, IsMet, IsFair, IsFirstMet}
+use Rattle.nef_smap.specs.WideVectors.{start_at, end_at, AreValues}
+use Rattle.nef_smap.specs.Paths.{meet_of, IsMet, IsFair, IsFirstMet}
 use Rattle.nef_smap.proofs.MeetSigns.{start-value, meet-value}
 use Rattle.nef_smap.proofs.MeetTests.{first-begins, first-stays, first-changes}
 
 -- item k, with the values v, is met first
-pub record FirstSoFar (m : SphereMap) (w : Way) (n k : ℕ) (v : Values) : Type 0 where
+pub record FirstSoFar (m : SphereMap) (w : SpherePath) (n k : ℕ) (v : Values) : Type 0 where
   pub item : Item
   pub listed : At (items (map_of m)) k item
   pub values : AreValues w (item_normal item) v
   pub small : AreAtMost (2 ^ 50) v
   pub first : (i j : ℕ) → IsLarge i j → IsFair (map_of m) (start_at w i) (end_at w j) → IsFirstMet (map_of m) (start_at w i) (end_at w j) n item
 
-pub so_far-begins : (m : SphereMap) (w : Way) (x : Item) (v : Values) → At (items (map_of m)) 0 x → AreValues w (item_normal x) v → AreAtMost (2 ^ 50) v → FirstSoFar m w 1 0 v
+pub so_far-begins : (m : SphereMap) (w : SpherePath) (x : Item) (v : Values) → At (items (map_of m)) 0 x → AreValues w (item_normal x) v → AreAtMost (2 ^ 50) v → FirstSoFar m w 1 0 v
 so_far-begins m w x v h a s = record { item = x; listed = h; values = a; small = s; first = λ i j large fair. first-begins (map_of m) (start_at w i) (end_at w j) fair x h }
 
-module _ (m : SphereMap) (w : Way) (n k : ℕ) (v u : Values) (f : FirstSoFar m w n k v) (y : Item) (h : At (items (map_of m)) n y) (a : AreValues w (item_normal y) u) where
+module _ (m : SphereMap) (w : SpherePath) (n k : ℕ) (v u : Values) (f : FirstSoFar m w n k v) (y : Item) (h : At (items (map_of m)) n y) (a : AreValues w (item_normal y) u) where
   -- the test whether y is met before
   before-is : (i j : ℕ) → linear_at v.start i *ℤ (linear_at u.start i *ℤ turn_value u v i j) ≡ dot (item_normal f.item) (start_at w i) *ℤ dot (item_normal f.item) (meet_of (item_normal y) (start_at w i) (end_at w j))
   before-is i j =

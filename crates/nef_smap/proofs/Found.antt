@@ -1,5 +1,5 @@
 -- Searching the lists of the program's maps, and where a direction lies.
-use Rattle.std.proofs.Common.{◌≡◌, ℕ, zero, suc, ◌+◌, ◌<◌, ◌≤◌, arith, refl, ap, sym, ◌∙◌, ⊎_elim, List, [], ◌∷◌, length, map, Option, Some, None, option_map, subst, slice_get, get_or, ◌↔◌}
+use Rattle.std.proofs.Common.{◌≡◌, ℕ, zero, suc, ◌+◌, ◌<◌, ◌≤◌, arith, refl, ap, sym, ◌∙◌, ⊎_elim, List, [], ◌∷◌, length, map, Option, Some, None, subst, slice_get, get_or, ◌↔◌}
 use Rattle.std.proofs.lemmas.Option.{slice_get_read}
 use Rattle.std.proofs.lemmas.List.{length-map}
 use Rattle.std.proofs.Math.Nat.{eq-or-lt_of_le}
@@ -8,20 +8,18 @@ use Rattle.nef_space.specs.declared.label.Label.{Label}
 use Rattle.nef_geo.specs.Shapes.{vector_of}
 use Rattle.nef_geo.specs.declared.dir.Dir.{Dir}
 use Rattle.nef_geo.proofs.Unique.{same_directions_equal}
-use Rattle.law_sphere.specs.Maps.{At, Svertex, Arc, Loop, Map, Item, arc_item, loop_item, items, OnItem, IsFree, MapLabel, at_svertex, on_item, seen, Side, whole, Sees}
+use Rattle.law_sphere.specs.Maps.{At, Svertex, Arc, Loop, Map, Item, arc_item, loop_item, items, item_mark, OnItem, IsFree, MapLabel, at_svertex, on_item, seen, Side, whole, Sees}
 use Rattle.law_sphere.proofs.Lists.{at-one}
-use Rattle.law_sphere.proofs.Arcs.{loop-at, at-loop, at-arc}
+use Rattle.law_sphere.proofs.Arcs.{loop-at, at-arc}
 use Rattle.law_sphere.proofs.Shot.{arc-at}
 use Rattle.law_sphere.proofs.Compare.{way-self}
 use Rattle.nef_smap.specs.Sides.{LabelledSide, sides_of, IsSide, SideSees, IsPlaceOf}
-use Rattle.nef_smap.specs.Maps.{svertex_of, arc_of, loop_of, map_of}
+use Rattle.nef_smap.specs.Maps.{svertex_of, map_of}
 use Rattle.nef_smap.specs.declared.map.SVertex.{SVertex}
-use Rattle.nef_smap.specs.declared.map.SArc.{SArc}
-use Rattle.nef_smap.specs.declared.map.SLoop.{SLoop}
 use Rattle.nef_smap.specs.declared.map.SphereMap.{SphereMap}
 use Rattle.nef_smap.specs.declared.map.SPlace.TheVariants as place
 use Rattle.nef_smap.proofs.ArcEnds.{at-map}
-use Rattle.nef_smap.proofs.MapLists.{at-within}
+use Rattle.nef_smap.proofs.MapLists.{at-within, loop-listed}
 use Rattle.nef_smap.proofs.SideLists.{side-has}
 
 -- ---- searching
@@ -80,22 +78,27 @@ module _ (m : SphereMap) (d : Vector) where
   pub svertex-within : (k : ℕ) → IsPlaceOf (map_of m) d (place.SVertex k) → k < length m.svertices
   svertex-within k (v, a, s) = map-within svertex_of m.svertices k v a
 
-  pub arc-within : (k : ℕ) → IsPlaceOf (map_of m) d (place.Arc k) → k < length m.arcs
-  arc-within k (v, a, o) = map-within arc_of m.arcs k v a
-
   pub label-svertex : (k : ℕ) (w : SVertex) → slice_get m.svertices k ≡ Some w → IsPlaceOf (map_of m) d (place.SVertex k) → MapLabel (map_of m) d w.mark
   label-svertex k w e (v, a, s) = let b = at-map svertex_of m.svertices k w e in
       at_svertex k (svertex_of w) b (subst (λ (r : Svertex). SameDirection r.way d) (at-one (map svertex_of m.svertices) k v (svertex_of w) a b) s) refl
 
-  pub label-arc : (k : ℕ) (w : SArc) → slice_get m.arcs k ≡ Some w → IsPlaceOf (map_of m) d (place.Arc k) → MapLabel (map_of m) d w.mark
-  label-arc k w e (a, h, o) = let b = at-map arc_of m.arcs k w e in
-      on_item k (arc_item (arc_of w)) (at-arc (map_of m).arcs (map_of m).loop k (arc_of w) b) (subst (λ (r : Arc). OnItem (map_of m) (arc_item r) d) (at-one (map arc_of m.arcs) k a (arc_of w) h b) o) refl
+  -- the item at whose place a direction lies
+  pub arc-placed : (k : ℕ) → IsPlaceOf (map_of m) d (place.Arc k) → (x : Item) × At (items (map_of m)) k x × OnItem (map_of m) x d
+  arc-placed k (a, h, o) = (arc_item a, at-arc (map_of m).arcs (map_of m).loop k a h, o)
 
-  pub label-loop : (w : SLoop) → m.sloop ≡ Some w → IsPlaceOf (map_of m) d place.Loop → MapLabel (map_of m) d w.mark
-  label-loop w e (l, h, o) =
-      let f : Some l ≡ Some (loop_of w) = sym h ∙ ap (option_map loop_of) e in
-      let r = at-loop (map_of m).arcs (map_of m).loop (loop_of w) (ap (option_map loop_of) e) in
-      on_item r.0 (loop_item (loop_of w)) r.1 (subst (λ (k : Loop). OnItem (map_of m) (loop_item k) d) (some-one l (loop_of w) f) o) refl
-    where
-      some-one : (a b : Loop) → Some a ≡ Some b → a ≡ b
-      some-one a b e = cc
+  pub loop-placed : (k : ℕ) → k ≡ length m.arcs → IsPlaceOf (map_of m) d place.Loop → (x : Item) × At (items (map_of m)) k x × OnItem (map_of m) x d
+  loop-placed k e (l, h, o) = (loop_item l, subst (λ (n : ℕ). At (items (map_of m)) n (loop_item l)) (sym e) (loop-listed m.arcs m.sloop l h), o)
+
+  pub label-item : (k : ℕ) (y : Item) (t : Label) → At (items (map_of m)) k y → t ≡ item_mark y → ((x : Item) × At (items (map_of m)) k x × OnItem (map_of m) x d) → MapLabel (map_of m) d t
+  label-item k y t b e (x, a, o) = on_item k y b (subst (λ (r : Item). OnItem (map_of m) r d) (at-one (items (map_of m)) k x y a b) o) (sym e)
+
+-- ---- going over the items of a map
+module _ (M : Map) (P : Item → Type 0) where
+  pub none-more : (n : ℕ) (y : Item) → At (items M) n y → (P y → ⊥) → ((k : ℕ) → k < n → (x : Item) → At (items M) k x → P x → ⊥) → (k : ℕ) → k < n + 1 → (x : Item) → At (items M) k x → P x → ⊥
+  none-more n y b off before k h x a p = ⊎_elim
+      (λ e. off (subst P (at-one (items M) n x y (subst (λ (i : ℕ). At (items M) i x) e a) b) p))
+      (λ l. before k l x a p)
+      (eq-or-lt_of_le {n = k} {m = n} (omega arith))
+
+  pub none-of_all : (n : ℕ) → length (items M) ≤ n → ((k : ℕ) → k < n → (x : Item) → At (items M) k x → P x → ⊥) → (k : ℕ) (x : Item) → At (items M) k x → P x → ⊥
+  none-of_all n h before k x a p = before k (let i = at-within (items M) k x a in omega arith) x a p

@@ -31,7 +31,7 @@ use Rattle.law_sphere.proofs.Sight.{clear-self}
 use Rattle.law_sphere.proofs.Compare.{way-self}
 use Rattle.nef_smap.specs.Linear.{IsLarge}
 use Rattle.nef_smap.specs.Sides.{SideSees, labelled, svertex_sides, item_sides}
-use Rattle.nef_smap.specs.Ways.{meet_of, IsFair, IsFirstMet}
+use Rattle.nef_smap.specs.Paths.{meet_of, IsFair, IsFirstMet}
 use Rattle.nef_smap.proofs.FirstMet.{first-clear}
 
 -- ---- the way to an arc

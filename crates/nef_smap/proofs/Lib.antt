@@ -22,7 +22,6 @@ pub mod SideNumbers
 pub mod Chains
 pub mod Sound
 pub mod SameSface
-pub mod Numbering
 pub mod SfaceNumbers
 pub mod ClassLists
 pub mod CloseSigns

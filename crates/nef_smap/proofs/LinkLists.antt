@@ -5,16 +5,16 @@ use Rattle.nef_space.specs.Vectors.{up}
 use Rattle.nef_space.specs.declared.label.Label.{Label}
 use Rattle.law_sphere.specs.Maps.{At, Svertex, Arc, Loop, Map, loop_item, items, items_then, around_svertex, above_item, whole}
 use Rattle.law_sphere.proofs.Lists.{at-one}
-use Rattle.nef_smap.specs.declared.classes.Link.{Link}
+use Rattle.nef_classes.specs.declared.link.Link.{Link}
 use Rattle.nef_smap.specs.Sides.{labelled, svertex_sides, item_sides, sides_of}
-use Rattle.nef_smap.specs.Classes.{AreLinked}
+use Rattle.nef_classes.specs.Classes.{AreLinked}
 use Rattle.nef_smap.specs.Joined.{BelowFirsts, BelowFirst, ArcFirst, LoopFirst}
 use Rattle.nef_smap.specs.Links.{met_number, IsJoin, join_below, join_around, join_arc, join_loop, join_ground, AreJoins}
 use Rattle.nef_smap.specs.SideNumbers.{one_if, arounds_before, number_of}
 use Rattle.nef_smap.specs.JoinLinks.{JoinsBelow, JoinsAround, JoinsArc, JoinsLoop, JoinsGround, HasLink, AreEach, AreArounds, AreLoops, AreGrounds}
 use Rattle.nef_smap.proofs.MapLists.{at-within}
 use Rattle.nef_smap.proofs.SideLists.{length-item_sides}
-use Rattle.nef_smap.proofs.ClassLists.{less-or-last, Either, earlier, last, is-at_either, is-at_left, is-at_last, is-at_some}
+use Rattle.nef_classes.proofs.ClassLists.{less-or-last, Either, earlier, last, is-at_either, is-at_left, is-at_last, is-at_some}
 
 -- ---- one link for each
 pub each-more : (P : ℕ → Link → Type 0) (n : ℕ) (ls : List Link) (l : Link) → P n l → AreEach P n ls → AreEach P (n + 1) (ls ++ l ∷ [])

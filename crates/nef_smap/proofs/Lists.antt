@@ -1,5 +1,6 @@
 -- Elements by their places, in lists and in what a function makes of them.
-use Rattle.std.proofs.Common.{◌≡◌, ℕ, zero, suc, ◌<◌, List, [], ◌∷◌, length, map, get_or, arith, refl, ap}
+use Rattle.std.proofs.Common.{◌≡◌, ℕ, zero, suc, ◌<◌, List, [], ◌∷◌, length, map, get_or, arith, refl, ap, subst}
+use Rattle.std.specs.List.{Contains}
 use Rattle.law_sphere.specs.Maps.{At}
 
 pub map-at : {A B : Type 0} (f : A → B) (xs : List A) (k : ℕ) (x : A) → At xs k x → At (map f xs) k (f x)
@@ -26,3 +27,9 @@ pub get-at : {A : Type 0} (xs : List A) (k : ℕ) (d : A) → k < length xs → 
 get-at [] k d h = absurd (omega arith)
 get-at (y ∷ ys) zero d h = refl
 get-at (y ∷ ys) (suc k) d h = get-at ys k d (omega arith)
+
+pub at-contains : {X : Type 0} (xs : List X) (k : ℕ) (x : X) → At xs k x → Contains xs x
+at-contains xs k x h = (k, at-within xs k x h, at-get xs k x x h)
+
+pub contains-at : {X : Type 0} (xs : List X) (x : X) → Contains xs x → (k : ℕ) × At xs k x
+contains-at xs x (k, l, e) = (k, subst (At xs k) e (get-at xs k x l))

@@ -8,22 +8,22 @@ use Rattle.nef_geo.specs.declared.sign.Sign.{Sign}
 use Rattle.nef_geo.specs.declared.sign.Sign.TheVariants.{Minus, Zero, Plus}
 use Rattle.law_sphere.proofs.Vectors.{dot-comb}
 use Rattle.nef_smap.specs.declared.linear.Values.{Values}
-use Rattle.nef_smap.specs.declared.way.Way.{Way}
+use Rattle.nef_smap.specs.declared.path.SpherePath.{SpherePath}
 use Rattle.nef_smap.specs.Linear.{linear_at, turn_value}
-use Rattle.nef_smap.specs.Wide.{wide_vector, start_at, end_at, AreValues}
-use Rattle.nef_smap.specs.Ways.{meet_of}
+use Rattle.nef_smap.specs.WideVectors.{wide_vector, start_at, end_at, AreValues}
+use Rattle.nef_smap.specs.Paths.{meet_of}
 use Rattle.nef_smap.proofs.FirstMet.{meet-is}
 
 -- values are products
-pub start-value : (w : Way) (g : Vector) (v : Values) (j : ℕ) → AreValues w g v → linear_at v.start j ≡ dot g (start_at w j)
+pub start-value : (w : SpherePath) (g : Vector) (v : Values) (j : ℕ) → AreValues w g v → linear_at v.start j ≡ dot g (start_at w j)
 start-value w g v j h = ap (λ (x : ℤ). pos j *ℤ x +ℤ pos 1 *ℤ v.start.rest) h.start_factor ∙ ap (λ (x : ℤ). pos j *ℤ dot g (wide_vector w.start) +ℤ pos 1 *ℤ x) h.start_rest
     ∙ sym (dot-comb g (pos j) (wide_vector w.start) (pos 1) (wide_vector w.upward))
 
-pub end-value : (w : Way) (g : Vector) (v : Values) (k : ℕ) → AreValues w g v → linear_at v.end k ≡ dot g (end_at w k)
+pub end-value : (w : SpherePath) (g : Vector) (v : Values) (k : ℕ) → AreValues w g v → linear_at v.end k ≡ dot g (end_at w k)
 end-value w g v k h = ap (λ (x : ℤ). pos k *ℤ x +ℤ pos 1 *ℤ v.end.rest) h.end_factor ∙ ap (λ (x : ℤ). pos k *ℤ dot g (wide_vector w.end) +ℤ pos 1 *ℤ x) h.end_rest
     ∙ sym (dot-comb g (pos k) (wide_vector w.end) (pos 1) (wide_vector w.beside))
 
-pub meet-value : (w : Way) (m g : Vector) (n v : Values) (j k : ℕ) → AreValues w m n → AreValues w g v → linear_at n.start j *ℤ turn_value n v j k ≡ dot g (meet_of m (start_at w j) (end_at w k))
+pub meet-value : (w : SpherePath) (m g : Vector) (n v : Values) (j k : ℕ) → AreValues w m n → AreValues w g v → linear_at n.start j *ℤ turn_value n v j k ≡ dot g (meet_of m (start_at w j) (end_at w k))
 meet-value w m g n v j k h i =
     let a = start-value w m n j h in
     let b = end-value w m n k h in
@@ -50,5 +50,5 @@ turn-target n t p = ring (n.x ∷ n.y ∷ n.z ∷ t.x ∷ t.y ∷ t.z ∷ p.x �
 pub turned-less : (p q : ℤ) → ((neg_ℤ p *ℤ q) <ℤ pos 0) ↔ (pos 0 <ℤ (p *ℤ q))
 turned-less p q = let e = ring (p ∷ q ∷ []) (neg (at 0) ⊗ at 1) (num (pos 0) ⊖ at 0 ⊗ at 1) tt in (λ h. omega (arith, ints), λ h. omega (arith, ints))
 
-pub parted-by : (w : Way) (g : Vector) (v : Values) (j k : ℕ) → AreValues w g v → linear_at v.start j *ℤ linear_at v.end k ≡ dot g (start_at w j) *ℤ dot g (end_at w k)
+pub parted-by : (w : SpherePath) (g : Vector) (v : Values) (j k : ℕ) → AreValues w g v → linear_at v.start j *ℤ linear_at v.end k ≡ dot g (start_at w j) *ℤ dot g (end_at w k)
 parted-by w g v j k h = ap (λ (x : ℤ). x *ℤ linear_at v.end k) (start-value w g v j h) ∙ ap (λ (x : ℤ). dot g (start_at w j) *ℤ x) (end-value w g v k h)

@@ -11,7 +11,7 @@ use Rattle.law_sphere.specs.Maps.{At, Map, Item, items, item_normal, OnItem}
 use Rattle.law_sphere.proofs.Lists.{at-one}
 use Rattle.law_sphere.proofs.Forms.{on-level, OnItem-by_signs}
 use Rattle.law_sphere.proofs.Direct.{IsZero-times}
-use Rattle.nef_smap.specs.Ways.{meet_of, IsMet, IsMetBefore, IsFair, IsFirstMet}
+use Rattle.nef_smap.specs.Paths.{meet_of, IsMet, IsMetBefore, IsFair, IsFirstMet}
 use Rattle.nef_smap.proofs.FirstMet.{meet-is, before-trans, before-self}
 
 module _ (M : Map) (a b : Vector) (F : IsFair M a b) where

@@ -21,7 +21,7 @@ use Rattle.nef_smap.proofs.MapLists.{at-within}
 use Rattle.nef_smap.proofs.SideLists.{at-from_get, side-has}
 use Rattle.nef_smap.proofs.SideNumbers.{side-number, number-one}
 use Rattle.nef_smap.proofs.Stands.{stand, stands}
-use Rattle.nef_smap.proofs.Chains.{chain-link, chain-keeps, chain-map}
+use Rattle.nef_classes.proofs.Chains.{chain-link, chain-keeps, chain-map}
 use Rattle.nef_smap.proofs.OneSface.{joined-agree}
 use Rattle.nef_smap.proofs.Sound.{root, root-side, sound}
 

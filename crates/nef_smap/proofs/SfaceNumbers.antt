@@ -4,12 +4,12 @@ use Rattle.std.proofs.lemmas.List.{length-take-le}
 use Rattle.nef_space.specs.Lists.{IsAt, Chained}
 use Rattle.nef_space.specs.Vectors.{Vector, IsDirection, cross, dot}
 use Rattle.law_sphere.specs.Maps.{At, Svertex, Map, Item, items, item_normal, Shaped}
-use Rattle.nef_smap.specs.declared.classes.Link.{Link}
+use Rattle.nef_classes.specs.declared.link.Link.{Link}
 use Rattle.nef_smap.specs.Sides.{sides_of, SeeOneWay, AreSfaces}
 use Rattle.nef_smap.specs.Links.{AreJoins}
-use Rattle.nef_smap.specs.Classes.{AreLinked, AreWithin, AreClasses, AreNumbered}
-use Rattle.nef_smap.proofs.ClassLists.{is-at_within}
-use Rattle.nef_smap.proofs.Numbering.{numbers-classes}
+use Rattle.nef_classes.specs.Classes.{AreLinked, AreWithin, AreClasses, AreNumbered}
+use Rattle.nef_classes.proofs.ClassLists.{is-at_within}
+use Rattle.nef_classes.proofs.ByAppearance.{numbers-classes}
 use Rattle.nef_smap.proofs.SameSface.{join-within, sface-class}
 
 -- what stands at a place, or zero

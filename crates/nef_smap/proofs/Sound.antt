@@ -43,7 +43,7 @@ use Rattle.nef_smap.proofs.FirstSees.{Generic, none-clear, first-sees}
 use Rattle.nef_smap.proofs.MapLists.{at-within}
 use Rattle.nef_smap.proofs.SideLists.{at-from_get}
 use Rattle.nef_smap.proofs.SideNumbers.{side-number}
-use Rattle.nef_smap.proofs.Chains.{chain-link, chain-trans, chain-turned}
+use Rattle.nef_classes.proofs.Chains.{chain-link, chain-trans, chain-turned}
 
 less_or : (s n : ℕ) → (s < n) ⊎ (n ≤ s)
 less_or s zero = inr (omega arith)

@@ -4,11 +4,10 @@ pub mod Stars
 pub mod Above
 pub mod Joined
 pub mod Items
-pub mod Ways
+pub mod Paths
 pub mod SideNumbers
 pub mod Links
-pub mod Classes
 pub mod Close
 pub mod JoinLinks
 pub mod Linear
-pub mod Wide
+pub mod WideVectors

@@ -11,7 +11,7 @@ ghost use Rattle.nef_smap.specs.Items.{item_of};
 ghost use Rattle.nef_smap.specs.Above.{first_sign, rise_form, IsOver, IsFirst, IsFirstOf};
 ghost use Rattle.nef_smap.specs.Close.{geo_sign, close_sign, IsClose, ArcPasses, PassesArc};
 
-use crate::item::{Item, item_at, item_count};
+use crate::item::Item;
 use crate::map::{SArc, SphereMap};
 use nef_geo::{Dir, Sign, dot, quad, triple, up};
 
@@ -134,14 +134,14 @@ fn first_met(map: &SphereMap, earlier: Option<usize>, number: usize, way: &Close
     ensures within { IfSome result (λ k. k < length (items (map_of map.now))) }
     ensures first { (d : Vector) → IsClose map.now way.now d → IsFirstOf (map_of map.now) up d number earlier → IsFirstOf (map_of map.now) up d (number + 1) result }
 {
-    let item = item_at(map, number);
+    let item = map.item_at(number);
     if !is_over(map, &item, way) {
         return earlier;
     }
     match earlier {
         None => Some(number),
         Some(best) => {
-            let lower = way.meeting(item.normal(), item_at(map, best).normal()) == Sign::Minus;
+            let lower = way.meeting(item.normal(), map.item_at(best).normal()) == Sign::Minus;
             if lower { Some(number) } else { earlier }
         }
     }
@@ -157,7 +157,7 @@ pub(crate) fn above(map: &SphereMap, way: &Close) -> Option<usize>
     ensures first { (d : Vector) → IsClose map.now way.now d → IsFirst (map_of map.now) up d result }
 {
     let mut first = None;
-    for number in 0..item_count(map) {
+    for number in 0..map.item_count() {
         first = first_met(map, first, number, way);
     }
     first

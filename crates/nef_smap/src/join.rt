@@ -13,10 +13,9 @@ ghost use Rattle.nef_smap.specs.Links.{met_number};
 ghost use Rattle.nef_smap.specs.JoinLinks.{JoinsBelow, JoinsAround, JoinsArc, JoinsLoop};
 
 use crate::above::{Close, Lean, above};
-use crate::classes::Link;
-use crate::item::item_count;
 use crate::map::{SLoop, SphereMap};
-use crate::side::{item_side, sides};
+use crate::side::sides;
+use nef_classes::Link;
 use nef_geo::{Dir, Sign, cross, dot, triple, up};
 
 // The directions along the coordinate axes.
@@ -98,23 +97,13 @@ fn beside(d: &Dir) -> Dir
     axis_z()
 }
 
-// The number of a side of the item with this number: of that to which its normal points, or of the other.
-fn side_number(map: &SphereMap, item: usize, above: bool) -> usize
-    requires within { item < length (items (map_of map.now)) }
-    ensures side { result ≡ number_of (map_of map.now) (cond above (above_item item) (below_item item)) }
-{
-    let within = item < item_count(map);
-    prove!(within);
-    item_side(map, item, above)
-}
-
 // The number of what is met first: of the lower side of the item, or of the upward direction, which comes after the sides.
 fn met_number(map: &SphereMap, met: Option<usize>) -> usize
     requires within { IfSome met (λ k. k < length (items (map_of map.now))) }
     ensures number { result ≡ met_number (map_of map.now) met }
 {
     match met {
-        Some(item) => side_number(map, item, false),
+        Some(item) => map.item_side(item, false),
         None => sides(map),
     }
 }
@@ -181,7 +170,7 @@ pub(crate) fn join_arc(map: &SphereMap, number: usize) -> Link
         lean: Lean::Along,
     };
     Link {
-        first: side_number(map, number, true),
+        first: map.item_side(number, true),
         second: met_number(map, above(map, &way)),
     }
 }
@@ -214,7 +203,7 @@ pub(crate) fn join_loop(map: &SphereMap, circle: &SLoop) -> Link
         lean: Lean::Up,
     };
     Link {
-        first: side_number(map, map.arcs.len(), true),
+        first: map.item_side(map.arcs.len(), true),
         second: met_number(map, above(map, &way)),
     }
 }

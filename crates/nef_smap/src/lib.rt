@@ -7,7 +7,6 @@
 #![tactic(auto)]
 
 mod above;
-mod classes;
 mod duplicate;
 mod item;
 mod join;
@@ -15,6 +14,7 @@ mod linear;
 mod locate;
 mod map;
 mod meets;
+mod path;
 mod sface;
 mod side;
 mod sight;
@@ -22,10 +22,9 @@ mod simple;
 mod stars;
 #[cfg(test)]
 mod tests;
-mod way;
 
-pub use classes::{Link, class_numbers, class_of_each};
 pub use duplicate::copy;
+pub use item::Item;
 pub use locate::{at, label_at};
 pub use map::{RawStars, SArc, SLoop, SPlace, SVertex, SphereMap};
 pub use sface::sfaces;

@@ -48,15 +48,6 @@ pub(crate) fn are_opposite(a: Sign, b: Sign) -> bool
     }
 }
 
-pub(crate) fn is_zero(sign: Sign) -> bool
-    ensures zero { (x : ℤ) → sign ≡ sign_of x → IsTrue result ↔ (x ≡ pos 0) }
-{
-    match sign {
-        Sign::Zero => true,
-        _ => false,
-    }
-}
-
 pub(crate) fn is_plus(sign: Sign) -> bool
     ensures plus { (x : ℤ) → sign ≡ sign_of x → IsTrue result ↔ pos 0 <ℤ x }
 {

@@ -9,18 +9,18 @@ ghost use Rattle.nef_geo.specs.Signs.{sign_of};
 ghost use Rattle.nef_smap.specs.Maps.{arc_of, map_of, IsSphereMap};
 ghost use Rattle.nef_smap.specs.Items.{item_of};
 ghost use Rattle.nef_smap.specs.Linear.{linear_at, turn_value, AreAtMost, IsLarge};
-ghost use Rattle.nef_smap.specs.Wide.{wide_vector, IsWithin, AreValues};
-ghost use Rattle.nef_smap.specs.Ways.{met_at, IsMet, OnFairWays, MeetsFirst};
+ghost use Rattle.nef_smap.specs.WideVectors.{wide_vector, IsWithin, AreValues};
+ghost use Rattle.nef_smap.specs.Paths.{met_at, IsMet, OnFairPaths, MeetsFirst};
 
-use crate::item::{Item, item_at, item_count};
+use crate::item::Item;
 use crate::linear::{Values, are_opposite, sign_at_meet};
 use crate::map::{SArc, SphereMap};
-use crate::way::{Way, Wide, cross, values, widened};
+use crate::path::{SpherePath, WideVector, cross, values, widened};
 use nef_case::between;
 use nef_geo::{Sign, dot, triple};
 
 // The sign of the form g where the way meets a plane whose form has the values n.
-fn sign_where_met(way: &Way, n: &Values, g: &Wide) -> Sign
+fn sign_where_met(way: &SpherePath, n: &Values, g: &WideVector) -> Sign
     requires way { IsWithin way.now }
     requires n_small { AreAtMost (2 ^ 50) n.now }
     requires g_small { IsAtMost (2 ^ 35) (wide_vector g.now) }
@@ -30,7 +30,7 @@ fn sign_where_met(way: &Way, n: &Values, g: &Wide) -> Sign
 }
 
 // Whether the way meets the plane of the arc, which has the values n, on the arc, where it meets it at all.
-fn is_on_arc(map: &SphereMap, way: &Way, arc: &SArc, n: &Values) -> bool
+fn is_met_on_arc(map: &SphereMap, way: &SpherePath, arc: &SArc, n: &Values) -> bool
     requires map { IsSphereMap map.now }
     requires arc { (i : ℕ) × At (map_of map.now).arcs i (arc_of arc.now) }
     requires way { IsWithin way.now }
@@ -52,7 +52,7 @@ fn is_on_arc(map: &SphereMap, way: &Way, arc: &SArc, n: &Values) -> bool
     ])
 }
 
-pub(crate) fn item_values(way: &Way, item: &Item) -> Values
+pub(crate) fn item_values(way: &SpherePath, item: &Item) -> Values
     requires way { IsWithin way.now }
     requires normal { IsAtMost normal_limit (item_normal (item_of item.now)) }
     ensures values { AreValues way.now (item_normal (item_of item.now)) result }
@@ -62,19 +62,19 @@ pub(crate) fn item_values(way: &Way, item: &Item) -> Values
 }
 
 // Whether the way meets the item, which has the values n.
-fn is_met(map: &SphereMap, way: &Way, item: &Item, n: &Values) -> bool
+fn is_met(map: &SphereMap, way: &SpherePath, item: &Item, n: &Values) -> bool
     requires map { IsSphereMap map.now }
     requires item { (i : ℕ) × At (items (map_of map.now)) i (item_of item.now) }
     requires way { IsWithin way.now }
     requires values { AreValues way.now (item_normal (item_of item.now)) n.now }
     requires small { AreAtMost (2 ^ 50) n.now }
-    ensures met { OnFairWays (map_of map.now) way.now (λ a b. IsTrue result ↔ IsMet (map_of map.now) a b (item_of item.now)) }
+    ensures met { OnFairPaths (map_of map.now) way.now (λ a b. IsTrue result ↔ IsMet (map_of map.now) a b (item_of item.now)) }
 {
     if !are_opposite(n.start.sign(), n.end.sign()) {
         return false;
     }
     match item {
-        Item::Arc(arc) => is_on_arc(map, way, arc, n),
+        Item::Arc(arc) => is_met_on_arc(map, way, arc, n),
         Item::Loop(_) => true,
     }
 }
@@ -89,7 +89,7 @@ fn is_before(n: &Values, first: &Values) -> bool
 }
 
 // The number of the item that the way meets first. It leads to the first item.
-pub(crate) fn first_met(map: &SphereMap, way: &Way) -> usize
+pub(crate) fn first_met(map: &SphereMap, way: &SpherePath) -> usize
     requires map { IsSphereMap map.now }
     requires some { 0 < length (items (map_of map.now)) }
     requires way { IsWithin way.now }
@@ -97,9 +97,9 @@ pub(crate) fn first_met(map: &SphereMap, way: &Way) -> usize
     ensures first { MeetsFirst (map_of map.now) way.now result }
 {
     let mut first = 0;
-    let mut first_values = item_values(way, &item_at(map, 0));
-    for number in 1..item_count(map) {
-        let item = item_at(map, number);
+    let mut first_values = item_values(way, &map.item_at(0));
+    for number in 1..map.item_count() {
+        let item = map.item_at(number);
         let n = item_values(way, &item);
         if is_before(&n, &first_values) && is_met(map, way, &item, &n) {
             first = number;

@@ -4,15 +4,15 @@ ghost use Rattle.std.specs.Prelude.{◌<◌, length, IfOk};
 ghost use Rattle.nef_space.specs.Vectors.{up};
 ghost use Rattle.nef_smap.specs.Maps.{map_of, IsSphereMap};
 ghost use Rattle.nef_smap.specs.Sides.{AreSfaces};
-ghost use Rattle.nef_smap.specs.Classes.{AreLinked};
+ghost use Rattle.nef_classes.specs.Classes.{AreLinked};
 ghost use Rattle.nef_smap.specs.JoinLinks.{JoinsBelow, JoinsArc, AreEach, AreArounds, AreLoops, AreGrounds};
 ghost use Rattle.nef_smap.specs.Links.{AreJoins};
 
 use crate::OutOfMemory;
-use crate::classes::{Link, class_numbers, class_of_each};
 use crate::join::{join_arc, join_around, join_below, join_loop};
 use crate::map::SphereMap;
 use crate::side::sides;
+use nef_classes::{Link, class_numbers, class_of_each};
 use std::alloc::Global;
 
 // A link for each svertex.

@@ -1,12 +1,12 @@
 //! The sides of a sphere map, and their labels.
 
-ghost use Rattle.std.specs.Prelude.{◌≡◌, ◌<◌, ◌^◌, length, slice_get, cond};
+ghost use Rattle.std.specs.Prelude.{◌≡◌, ◌<◌, ◌≤◌, ◌^◌, length, slice_get, cond};
 ghost use Rattle.std.specs.List.{filter_map};
 ghost use Rattle.law_sphere.specs.Maps.{At, Item, Side, above_item, below_item, items, item_above, item_below};
 ghost use Rattle.nef_smap.specs.Maps.{map_of};
 ghost use Rattle.nef_smap.specs.Sides.{IsSide, sides_of};
+ghost use Rattle.nef_smap.specs.SideNumbers.{number_of, arounds_before};
 
-use crate::item::{item_at, item_count};
 use crate::map::SphereMap;
 use nef_geo::Label;
 
@@ -33,22 +33,13 @@ fn around_label(map: &SphereMap, side: usize) -> Option<Label>
         .nth(side)
 }
 
-// The number of a side of the item with this number: of that to which its normal points, or of the other.
-pub(crate) fn item_side(map: &SphereMap, number: usize, above: bool) -> usize
-    requires within { number < length (items (map_of map.now)) }
-    requires small { number < 2 ^ 60 }
-    ensures side { (x : Item) × At (items (map_of map.now)) number x × IsSide (map_of map.now) result (cond above (above_item number) (below_item number)) (cond above (item_above x) (item_below x)) }
-{
-    around_sides(map) + 2 * number + usize::from(!above)
-}
-
 /// How many sides the map has: one for each svertex without arcs, two for each arc and for the sloop, and one for the
 /// face of a map that has nothing else.
 pub fn sides(map: &SphereMap) -> usize
     ensures count { result ≡ length (sides_of (map_of map.now)) }
     ensures small { result < 2 ^ 62 }
 {
-    around_sides(map) + 2 * item_count(map) + usize::from(map.ground.is_some())
+    around_sides(map) + 2 * map.item_count() + usize::from(map.ground.is_some())
 }
 
 /// The label of the side with this number. The sides of svertices without arcs stand first; then those of the arcs and
@@ -61,11 +52,40 @@ pub fn side_label(map: &SphereMap, side: usize) -> Label
         return label;
     }
     let of_items = side - around_sides(map);
-    if of_items < 2 * item_count(map) {
-        return item_at(map, of_items / 2).label(of_items % 2 == 0);
+    if of_items < 2 * map.item_count() {
+        return map.item_at(of_items / 2).label(of_items % 2 == 0);
     }
     match map.ground {
         Some(label) => label,
         None => unreachable!(),
+    }
+}
+
+impl SphereMap {
+    /// The number of the side round the svertex with this number, if it has a label round it: how many of those before it
+    /// have one.
+    pub fn around_side(&self, svertex: usize) -> usize
+        requires within { svertex ≤ length self.now.svertices }
+        ensures number { result ≡ arounds_before (map_of self.now).svertices svertex }
+    {
+        let mut found = 0;
+        for number in 0..svertex {
+            if self.svertices.at(number).around.is_some() {
+                found += 1;
+            }
+        }
+        found
+    }
+
+    /// The number of a side of the item with this number: of the one to which its normal points if `above`, and of the
+    /// other if not.
+    pub fn item_side(&self, number: usize, above: bool) -> usize
+        requires within { number < length (items (map_of self.now)) }
+        ensures number { result ≡ number_of (map_of self.now) (cond above (above_item number) (below_item number)) }
+        ensures side { (x : Item) × At (items (map_of self.now)) number x × IsSide (map_of self.now) result (cond above (above_item number) (below_item number)) (cond above (item_above x) (item_below x)) }
+    {
+        let within = number < self.item_count();
+        prove!(within);
+        around_sides(self) + 2 * number + usize::from(!above)
     }
 }

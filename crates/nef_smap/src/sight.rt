@@ -6,12 +6,10 @@ ghost use Rattle.nef_geo.specs.Shapes.{vector_of};
 ghost use Rattle.nef_smap.specs.Maps.{map_of, IsSphereMap};
 ghost use Rattle.nef_smap.specs.Sides.{SideSees};
 
-use crate::item::item_at;
 use crate::linear::is_plus;
 use crate::map::{SLoop, SphereMap};
 use crate::meets::{first_met, item_values};
-use crate::side::item_side;
-use crate::way::way_to;
+use crate::path::way_to;
 use nef_geo::{Dir, dot};
 
 // On a map with arcs: the side, toward d, of the item that is met first from close to d to close to a svertex, on an arc.
@@ -25,8 +23,8 @@ fn side_on_way(map: &SphereMap, d: &Dir) -> usize
     let arc = map.arcs.at(0);
     let way = way_to(d, &map.svertices.at(arc.source).dir, &arc.normal);
     let first = first_met(map, &way);
-    let start = item_values(&way, &item_at(map, first)).start.sign();
-    item_side(map, first, is_plus(start))
+    let start = item_values(&way, &map.item_at(first)).start.sign();
+    map.item_side(first, is_plus(start))
 }
 
 // On a map with a sloop and no arc: the side of the sloop toward d.
@@ -37,20 +35,23 @@ fn side_of_circle(map: &SphereMap, d: &Dir, circle: &SLoop) -> usize
     requires circle { map.now.sloop ≡ Some circle.now }
     ensures side { SideSees (map_of map.now) result (vector_of d.now) }
 {
-    item_side(map, 0, is_plus(dot(&circle.normal, d)))
+    map.item_side(0, is_plus(dot(&circle.normal, d)))
 }
 
-// The number of a side that sees the free direction. A map without items has one face, so any side serves.
-pub(crate) fn side_seen(map: &SphereMap, d: &Dir) -> usize
-    requires map { IsSphereMap map.now }
-    requires free { IsFree (map_of map.now) (vector_of d.now) }
-    ensures side { SideSees (map_of map.now) result (vector_of d.now) }
-{
-    if !map.arcs.is_empty() {
-        return side_on_way(map, d);
-    }
-    match &map.sloop {
-        Some(circle) => side_of_circle(map, d, circle),
-        None => 0,
+impl SphereMap {
+    /// The number of a side that sees the free direction, one on no svertex and on no item. A map without items has one
+    /// face, so any side serves. It takes no memory.
+    pub fn face_toward(&self, d: &Dir) -> usize
+        requires map { IsSphereMap self.now }
+        requires free { IsFree (map_of self.now) (vector_of d.now) }
+        ensures side { SideSees (map_of self.now) result (vector_of d.now) }
+    {
+        if !self.arcs.is_empty() {
+            return side_on_way(self, d);
+        }
+        match &self.sloop {
+            Some(circle) => side_of_circle(self, d, circle),
+            None => 0,
+        }
     }
 }

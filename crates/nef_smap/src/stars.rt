@@ -12,7 +12,7 @@ ghost use Rattle.nef_smap.specs.Sides.{IsPlaceOf, SideSees};
 ghost use Rattle.nef_smap.specs.Stars.{AreArcEnds, IsStarAlong, IsNeighbourhood};
 
 use crate::OutOfMemory;
-use crate::item::{Item, item_at};
+use crate::item::Item;
 use crate::locate::at;
 use crate::map::{SPlace, SphereMap};
 use crate::side::side_label;
@@ -116,7 +116,7 @@ fn star_on_item(alloc: Global, map: &SphereMap, d: &Dir, number: usize) -> Resul
     ensures axis { IfOk result (λ t. t.axis ≡ d.now) }
     ensures shows { IfOk result (λ t. IsNeighbourhood (star_of t) (map_of map.now) (vector_of d.now)) }
 {
-    let item = item_at(map, number);
+    let item = map.item_at(number);
     star_along(alloc, *d, &item)
 }
 

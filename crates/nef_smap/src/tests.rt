@@ -103,6 +103,37 @@ fn sides_by_number(rt: HostRuntime) -> Result<(), Fail> {
     Ok(())
 }
 
+// The arc has the number 0 and the sloop the number 1; the side round the svertex stands before theirs.
+#[test]
+fn items_by_number(rt: HostRuntime) -> Result<(), Fail> {
+    let map = by_hand(&rt, rt.alloc())?;
+    let mut marks = Vec::new(rt.alloc());
+    let mut numbers = Vec::new(rt.alloc());
+    for number in 0..map.item_count() {
+        marks.push(map.item_at(number).mark())?;
+        numbers.push(map.item_side(number, true))?;
+        numbers.push(map.item_side(number, false))?;
+    }
+    assert_eq!(rt; marks.as_slice(), [Label::Not, Label::In].as_slice());
+    assert_eq!(rt; numbers.as_slice(), [1, 2, 3, 4].as_slice());
+    assert_eq!(rt; map.item_with(&dir(&rt, 1, 1, -1)), Some(0));
+    assert_eq!(rt; map.item_with(&dir(&rt, 0, 0, 1)), Some(1));
+    assert_eq!(rt; map.item_with(&dir(&rt, 0, 0, -1)), None);
+    Ok(())
+}
+
+#[test]
+fn item_through_a_direction(rt: HostRuntime) {
+    let normal = dir(&rt, 1, 1, -1);
+    let map = plane(&rt, rt.alloc(), normal);
+    assert_eq!(rt; map.item_through(&normal, &dir(&rt, 1, 0, 1)), Some(0));
+    assert_eq!(rt; map.item_through(&normal, &dir(&rt, 1, 0, 0)), None);
+    assert_eq!(rt;
+        map.item_through(&dir(&rt, 0, 0, 1), &dir(&rt, 1, 0, 0)),
+        None
+    );
+}
+
 #[test]
 fn neighbours_of_a_plane(rt: HostRuntime) {
     let map = plane(&rt, rt.alloc(), dir(&rt, 1, 1, -1));
@@ -144,28 +175,6 @@ fn one_face(rt: HostRuntime) {
     assert_eq!(rt; sides(&map), 1);
     assert_eq!(rt; at(&map, &d), SPlace::Face(0));
     assert_eq!(rt; label_at(&map, &d), Label::Not);
-}
-
-#[test]
-fn numbers_of_classes(rt: HostRuntime) -> Result<(), Fail> {
-    let links = [
-        Link {
-            first: 5,
-            second: 3,
-        },
-        Link {
-            first: 4,
-            second: 1,
-        },
-        Link {
-            first: 0,
-            second: 3,
-        },
-    ];
-    let classes = class_of_each(rt.alloc(), 6, links.as_slice())?;
-    let numbers = class_numbers(rt.alloc(), classes.as_slice())?;
-    assert_eq!(rt; numbers.as_slice(), [0, 1, 2, 0, 1, 0].as_slice());
-    Ok(())
 }
 
 #[test]

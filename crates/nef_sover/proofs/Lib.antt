@@ -1,5 +1,5 @@
 pub mod Places
-pub mod Pieces
+pub mod TrackLists
 pub mod Sorted
 pub mod Adding
 pub mod Meets

@@ -1,12 +1,13 @@
 -- Elements of lists by their places.
-use Rattle.std.proofs.Common.{◌≡◌, ℕ, zero, suc, ◌+◌, ◌<◌, ◌≤◌, List, [], ◌∷◌, ◌++◌, length, map, take, get_or, Option, Some, None, Result, Ok, Err, slice_get, arith, refl, sym, ap, subst, ◌∙◌}
-use Rattle.std.specs.List.{AllZip, Contains}
+use Rattle.std.proofs.Common.{◌≡◌, ℕ, zero, suc, ◌+◌, ◌<◌, ◌≤◌, List, [], ◌∷◌, ◌++◌, length, take, get_or, Option, Some, None, Result, Ok, Err, slice_get, arith, refl, sym, ap, subst, ◌∙◌}
+use Rattle.std.specs.List.{AllZip}
 use Rattle.std.specs.Option.{MatchOption}
 use Rattle.std.specs.Result.{IfOk}
 use Rattle.std.proofs.lemmas.List.{take_more, take_all}
 use Rattle.std.proofs.lemmas.Option.{get_or_from_slice_get}
 use Rattle.law_sphere.specs.Maps.{At}
 use Rattle.nef_smap.proofs.Lists.{at-within, at-get}
+pub use Rattle.nef_smap.proofs.Lists.{at-contains, contains-at}
 
 pub read-at : {X : Type 0} (xs : List X) (k : ℕ) (x : X) → k < length xs → x ≡ get_or xs k x → At xs k x
 read-at [] k x l e = absurd (omega arith)
@@ -15,12 +16,6 @@ read-at (y ∷ ys) (suc k) x l e = read-at ys k x (omega arith) e
 
 pub get-at : {X : Type 0} (xs : List X) (k : ℕ) (x : X) → k < length xs → slice_get xs k ≡ Some x → At xs k x
 get-at xs k x l e = read-at xs k x l (sym (get_or_from_slice_get xs k x x e))
-
-pub at-contains : {X : Type 0} (xs : List X) (k : ℕ) (x : X) → At xs k x → Contains xs x
-at-contains xs k x h = (k, at-within xs k x h, at-get xs k x x h)
-
-pub contains-at : {X : Type 0} (xs : List X) (x : X) → Contains xs x → (k : ℕ) × At xs k x
-contains-at xs x (k, l, e) = (k, read-at xs k x l (sym e))
 
 -- two lists place by place
 pub zip-second : {X Y : Type 0} (R : X → Y → Type 0) (xs : List X) (ys : List Y) (k : ℕ) (x : X) → AllZip R xs ys → At xs k x → (y : Y) × At ys k y × R x y
@@ -40,12 +35,6 @@ zip-append R [] [] us vs z w = w
 zip-append R [] (b ∷ bs) us vs z w = absurd z
 zip-append R (a ∷ as') [] us vs z w = absurd z
 zip-append R (a ∷ as') (b ∷ bs) us vs z w = (z.0, zip-append R as' bs us vs z.1 w)
-
-pub zip-map : {X Y Z : Type 0} (R : X → Z → Type 0) (f : Y → Z) (xs : List X) (ys : List Y) → AllZip (λ x y. R x (f y)) xs ys → AllZip R xs (map f ys)
-zip-map R f [] [] z = tt
-zip-map R f [] (b ∷ bs) z = absurd z
-zip-map R f (a ∷ as') [] z = absurd z
-zip-map R f (a ∷ as') (b ∷ bs) z = (z.0, zip-map R f as' bs z.1)
 
 pub some-at : {X : Type 0} (xs : List X) (k : ℕ) → k < length xs → (x : X) × At xs k x
 some-at [] k l = absurd (omega arith)

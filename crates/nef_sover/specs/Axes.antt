@@ -11,8 +11,8 @@ use Rattle.law_build.specs.Overlays.{OnSvertex, IsAxis}
 use Rattle.nef_smap.specs.Sides.{IsPlaceOf}
 use Rattle.nef_smap.specs.declared.map.SPlace.{SPlace}
 use Rattle.nef_sover.specs.declared.axes.Axis.{Axis}
-use Rattle.nef_sover.specs.declared.items.Item.{Item}
-use Rattle.nef_sover.specs.Items.{normal_of, place_of, LiesOn}
+use Rattle.nef_sover.specs.declared.tracks.Track.{Track}
+use Rattle.nef_sover.specs.Tracks.{normal_of, place_of, LiesOn}
 
 -- the places on both maps of a direction in which items of theirs cross
 abbrev pub Crossed : Type 0
@@ -33,28 +33,28 @@ abbrev pub IsOnSvertex : Map → Crossed → Vector → Type 0
 IsOnSvertex M c d = OnSvertex M d × (c ≡ None)
 
 -- both items hold d
-abbrev pub IsCommon : Item → Item → Vector → Type 0
+abbrev pub IsCommon : Track → Track → Vector → Type 0
 IsCommon x y d = LiesOn x d × LiesOn y d
 
 -- c has the places of both items
-abbrev pub AreNamed : Item → Item → Crossed → Type 0
+abbrev pub AreNamed : Track → Track → Crossed → Type 0
 AreNamed x y c = c ≡ Some (place_of x, place_of y)
 
 -- both items, which c names, hold d, which is the direction of e
-abbrev pub IsMeetAlong : Item → Item → Vector → Crossed → Vector → Type 0
+abbrev pub IsMeetAlong : Track → Track → Vector → Crossed → Vector → Type 0
 IsMeetAlong x y e c d = IsCommon x y d × SameDirection e d × AreNamed x y c
 
 -- two items with normals that aren't parallel hold d, and c names them
-abbrev pub IsMeet : Item → Item → Crossed → Vector → Type 0
+abbrev pub IsMeet : Track → Track → Crossed → Vector → Type 0
 IsMeet x y c d = IsCommon x y d × IsDirection (cross (normal_of x) (normal_of y)) × AreNamed x y c
 
 -- the item meets one of the others at d
-abbrev pub MeetsOne : Item → List Item → Crossed → Vector → Type 0
-MeetsOne x ys c d = (k : ℕ) × (y : Item) × At ys k y × IsMeet x y c d
+abbrev pub MeetsOne : Track → List Track → Crossed → Vector → Type 0
+MeetsOne x ys c d = (k : ℕ) × (y : Track) × At ys k y × IsMeet x y c d
 
 -- one of xs meets one of ys at d
-abbrev pub MeetsSome : List Item → List Item → Crossed → Vector → Type 0
-MeetsSome xs ys c d = (i : ℕ) × (x : Item) × At xs i x × MeetsOne x ys c d
+abbrev pub MeetsSome : List Track → List Track → Crossed → Vector → Type 0
+MeetsSome xs ys c d = (i : ℕ) × (x : Track) × At xs i x × MeetsOne x ys c d
 
 -- each direction is below the later ones
 abbrev pub AreInOrder : List Axis → Type 0

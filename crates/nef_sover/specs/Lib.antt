@@ -1,4 +1,4 @@
-pub mod Items
+pub mod Tracks
 pub mod Axes
 pub mod Circles
 pub mod Merged

@@ -5,11 +5,11 @@ ghost use Rattle.nef_space.specs.Limits.{normal_limit, svertex_limit};
 ghost use Rattle.nef_space.specs.Vectors.{IsAtMost};
 ghost use Rattle.nef_geo.specs.Shapes.{vector_of};
 ghost use Rattle.nef_smap.specs.Maps.{map_of, IsSphereMap};
-ghost use Rattle.nef_sover.specs.Items.{normal_of, AreSmall};
+ghost use Rattle.nef_sover.specs.Tracks.{normal_of, AreSmall};
 ghost use Rattle.nef_sover.specs.Axes.{Adds, AreInOrder, AreAxes, HasEachOf, IsOnSvertex, IsCommon, IsMeet, IsMeetAlong, MeetsOne, MeetsSome};
 
 use crate::OutOfMemory;
-use crate::items::{Item, items_of};
+use crate::tracks::{Track, tracks_of};
 use nef_geo::{Dir, cross};
 use nef_smap::{SPlace, SphereMap};
 use std::alloc::Global;
@@ -36,14 +36,14 @@ fn add_svertices(axes: &mut Vec<Axis>, map: &SphereMap) -> Result<(), OutOfMemor
     Ok(())
 }
 
-fn both_hold(x: &Item, y: &Item, d: &Dir) -> bool
+fn both_hold(x: &Track, y: &Track, d: &Dir) -> bool
     ensures both { IsTrue result ↔ IsCommon x.now y.now (vector_of d.now) }
 {
     x.holds(d) && y.holds(d)
 }
 
 // Adds the direction if both items hold it.
-fn add_common(axes: &mut Vec<Axis>, x: &Item, y: &Item, d: Dir) -> Result<(), OutOfMemory>
+fn add_common(axes: &mut Vec<Axis>, x: &Track, y: &Track, d: Dir) -> Result<(), OutOfMemory>
     requires small { IsAtMost svertex_limit (vector_of d) }
     ensures added { OnOk result (Adds (IsMeetAlong x.now y.now (vector_of d)) axes.old.items axes.new.items) }
 {
@@ -58,7 +58,7 @@ fn add_common(axes: &mut Vec<Axis>, x: &Item, y: &Item, d: Dir) -> Result<(), Ou
 
 // Adds the directions that both items hold, if their normals aren't parallel. Their great circles then meet in two
 // opposite directions.
-fn add_meets(axes: &mut Vec<Axis>, x: &Item, y: &Item) -> Result<(), OutOfMemory>
+fn add_meets(axes: &mut Vec<Axis>, x: &Track, y: &Track) -> Result<(), OutOfMemory>
     requires x_small { IsAtMost normal_limit (normal_of x.now) }
     requires y_small { IsAtMost normal_limit (normal_of y.now) }
     ensures added { OnOk result (Adds (IsMeet x.now y.now) axes.old.items axes.new.items) }
@@ -71,7 +71,7 @@ fn add_meets(axes: &mut Vec<Axis>, x: &Item, y: &Item) -> Result<(), OutOfMemory
 }
 
 // Adds the directions in which the item meets one of the others.
-fn add_meets_with(axes: &mut Vec<Axis>, x: &Item, ys: &[Item]) -> Result<(), OutOfMemory>
+fn add_meets_with(axes: &mut Vec<Axis>, x: &Track, ys: &[Track]) -> Result<(), OutOfMemory>
     requires x_small { IsAtMost normal_limit (normal_of x.now) }
     requires ys_small { AreSmall ys.now }
     ensures added { OnOk result (Adds (MeetsOne x.now ys.now) axes.old.items axes.new.items) }
@@ -83,7 +83,7 @@ fn add_meets_with(axes: &mut Vec<Axis>, x: &Item, ys: &[Item]) -> Result<(), Out
 }
 
 // Adds the directions in which one of the first items meets one of the others.
-fn add_crossings(axes: &mut Vec<Axis>, xs: &[Item], ys: &[Item]) -> Result<(), OutOfMemory>
+fn add_crossings(axes: &mut Vec<Axis>, xs: &[Track], ys: &[Track]) -> Result<(), OutOfMemory>
     requires xs_small { AreSmall xs.now }
     requires ys_small { AreSmall ys.now }
     ensures added { OnOk result (Adds (MeetsSome xs.now ys.now) axes.old.items axes.new.items) }
@@ -110,8 +110,8 @@ pub(crate) fn axes_of(alloc: Global, a: &SphereMap, b: &SphereMap) -> Result<Vec
     requires second { IsSphereMap b.now }
     ensures axes { IfOk result (λ v. AreAxes (map_of a.now) (map_of b.now) v.items) }
 {
-    let xs = items_of(alloc, a)?;
-    let ys = items_of(alloc, b)?;
+    let xs = tracks_of(alloc, a)?;
+    let ys = tracks_of(alloc, b)?;
     let mut axes = Vec::new(alloc);
     add_svertices(&mut axes, a)?;
     add_svertices(&mut axes, b)?;

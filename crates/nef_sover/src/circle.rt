@@ -16,18 +16,17 @@ ghost use Rattle.nef_sover.specs.Circles.{AreOff, IsBareNormal, IsUncrossed, Has
 
 use crate::OutOfMemory;
 use crate::axes::Axis;
-use crate::items::lies_level;
 use nef_geo::Dir;
 use nef_smap::{SLoop, SphereMap, star_at};
 use nef_star::Op;
 use std::alloc::Global;
 
-// Whether no axis lies on the great circle of the normal.
-fn is_bare(axes: &[Axis], normal: &Dir) -> bool
-    ensures bare { IsTrue result ↔ AreOff axes.now (vector_of normal.now) }
+// Whether no axis lies on the sloop.
+fn is_bare(axes: &[Axis], sloop: &SLoop) -> bool
+    ensures bare { IsTrue result ↔ AreOff axes.now (vector_of sloop.now.normal) }
 {
     for axis in axes {
-        if lies_level(normal, &axis.dir) {
+        if sloop.holds(&axis.dir) {
             return false;
         }
     }
@@ -41,7 +40,7 @@ fn bare_normal(sloop: &Option<SLoop>, axes: &[Axis]) -> Option<Dir>
     let Some(sloop) = sloop else {
         return None;
     };
-    if is_bare(axes, &sloop.normal) {
+    if is_bare(axes, sloop) {
         Some(sloop.normal)
     } else {
         None
@@ -85,7 +84,7 @@ fn sloop_with(map: &SphereMap, normal: &Dir) -> Option<SLoop>
     let Some(sloop) = &map.sloop else {
         return None;
     };
-    if sloop.normal == *normal {
+    if sloop.normal.is_same(normal) {
         Some(*sloop)
     } else {
         None

@@ -3,11 +3,11 @@
 
 mod axes;
 mod circle;
-mod items;
 mod overlaid;
 mod stars;
 #[cfg(test)]
 mod tests;
+mod tracks;
 
 pub use nef_smap::OutOfMemory;
 pub use overlaid::overlay;

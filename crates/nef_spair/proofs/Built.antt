@@ -1,4 +1,4 @@
--- What is made of the parts of simplified stars is built from these stars.
+-- What is made of the pieces of simplified stars is built from these stars.
 use Rattle.std.proofs.Common.{◌≡◌, ℕ, suc, List, [], ◌∷◌, length, map, get_or, option_map, arith, refl, sym, ap, subst, ◌∙◌, inl, inr, ◌⊎◌}
 use Rattle.std.specs.List.{All}
 use Rattle.nef_geo.specs.Shapes.{vector_of}
@@ -13,8 +13,8 @@ use Rattle.nef_smap.specs.declared.map.RawStars.{RawStars}
 use Rattle.nef_smap.specs.Maps.{loop_of, raw_of}
 use Rattle.nef_smap.proofs.Lists.{at-map, map-at, at-within, get-at}
 use Rattle.nef_smap.proofs.WellFormed.{star-well_formed}
-use Rattle.nef_spair.specs.declared.parts.Parts.{Parts}
-use Rattle.nef_spair.specs.Parts.{IsSimple, AreSimple, IsDropped, ArePartsOf}
+use Rattle.nef_spair.specs.declared.pieces.Pieces.{Pieces}
+use Rattle.nef_spair.specs.Pieces.{IsSimple, AreSimple, IsDropped, ArePiecesOf}
 use Rattle.nef_spair.proofs.Places.{others-from, others-all, others-in_order, all-at, at-all}
 
 -- ---- stars that have been simplified
@@ -48,7 +48,7 @@ module _ (r q : RawStars) (w : AreSimple r.stars q.stars) where
   pub all-simplified : AreSimplified (map star_of q.stars)
   all-simplified k t a = let s = at-map star_of q.stars k t a in subst IsSimplified s.2 (let i = simple-at k s.0 s.1 in i.simplified)
 
--- ---- the map that is made of the parts
+-- ---- the map that is made of the pieces
 pub map-none : {A B : Type 0} (f : A → B) (xs : List A) → map f xs ≡ [] → xs ≡ []
 map-none f [] e = refl
 map-none f (x ∷ xs) e = let i : f x ∷ map f xs ≡ [] = e in absurd (cc)
@@ -56,12 +56,12 @@ map-none f (x ∷ xs) e = let i : f x ∷ map f xs ≡ [] = e in absurd (cc)
 pub first-same : (t : PlainStar) (s u : IsStraight t) → s.first ≡ u.first
 first-same t s u = let e : s.first ∷ s.second ∷ [] ≡ u.first ∷ u.second ∷ [] = sym s.two_rays ∙ u.two_rays in cc
 
-module _ (q : RawStars) (p : Parts) (parts : ArePartsOf q p) where
+module _ (q : RawStars) (p : Pieces) (pieces : ArePiecesOf q p) where
   abbrev K : List PlainStar
   K = map star_of p.kept.items
 
   from-raw : (k : ℕ) (t : Star) → At p.kept.items k t → (j : ℕ) × At q.stars j t × (IsDropped t → ⊥)
-  from-raw = others-from IsDropped q.stars p.kept.items parts.kept
+  from-raw = others-from IsDropped q.stars p.kept.items pieces.kept
 
   pub kept-stars : All IsStar q.stars → All IsStar p.kept.items
   kept-stars all = at-all IsStar p.kept.items (λ k t a. let f = from-raw k t a in all-at IsStar q.stars all f.0 t f.1)
@@ -76,7 +76,7 @@ module _ (q : RawStars) (p : Parts) (parts : ArePartsOf q p) where
   plain-all j t a =
       let u = at-map star_of q.stars j t a in
       subst (λ (x : PlainStar). IsPlain x ⊎ IsStraight x ⊎ ((k : ℕ) × At K k x)) u.2
-      (elim (others-all IsDropped q.stars p.kept.items parts.kept j u.0 u.1) [
+      (elim (others-all IsDropped q.stars p.kept.items pieces.kept j u.0 u.1) [
         | inl d ↦ elim d [ inl x ↦ inl x | inr x ↦ inr (inl x) ]
         | inr f ↦ inr (inr (f.0, map-at star_of p.kept.items f.0 u.0 f.1))
       ])
@@ -84,6 +84,6 @@ module _ (q : RawStars) (p : Parts) (parts : ArePartsOf q p) where
   pub plain-ordered : InOrder (λ (t u : PlainStar). VectorBelow t.axis u.axis) (map star_of q.stars) → InOrder (λ (t u : PlainStar). VectorBelow t.axis u.axis) K
   plain-ordered o i k x y l a b =
       let u = at-map star_of p.kept.items i x a in let v = at-map star_of p.kept.items k y b in
-      let f = others-in_order IsDropped q.stars p.kept.items parts.kept i k u.0 v.0 l u.1 v.1 in
+      let f = others-in_order IsDropped q.stars p.kept.items pieces.kept i k u.0 v.0 l u.1 v.1 in
       let below = o f.0 f.1 (star_of u.0) (star_of v.0) f.2 (map-at star_of q.stars f.0 u.0 f.3) (map-at star_of q.stars f.1 v.0 f.4) in
       subst (λ (z : PlainStar). VectorBelow x.axis z.axis) v.2 (subst (λ (z : PlainStar). VectorBelow z.axis (vector_of v.0.axis)) u.2 below)

@@ -8,6 +8,6 @@ pub mod ArcOrder
 pub mod Circles
 pub mod Sorted
 pub mod Built
-pub mod FromParts
+pub mod FromPieces
 pub mod Answered
 pub mod Samples

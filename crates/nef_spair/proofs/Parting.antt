@@ -13,7 +13,7 @@ use Rattle.nef_star.specs.declared.star.Star.{Star}
 use Rattle.nef_star.specs.Stars.{ray_of, star_of}
 use Rattle.nef_smap.specs.declared.map.SLoop.{SLoop}
 use Rattle.nef_smap.specs.Maps.{loop_of}
-use Rattle.nef_spair.specs.Parts.{IsDropped, IsCircleOf, AreCircles}
+use Rattle.nef_spair.specs.Pieces.{IsDropped, IsCircleOf, AreCircles}
 use Rattle.nef_spair.proofs.Places.{at-before, at-last, at-more, all-at, at-all}
 
 -- ---- the circle of a straight star

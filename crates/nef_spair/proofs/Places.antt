@@ -3,7 +3,7 @@ use Rattle.std.proofs.Common.{◌≡◌, ℕ, zero, suc, ◌<◌, List, [], ◌�
 use Rattle.std.specs.List.{All}
 use Rattle.law_sphere.specs.Maps.{At}
 use Rattle.nef_smap.proofs.Lists.{at-within, at-get, get-at}
-use Rattle.nef_spair.specs.Parts.{AreOthers}
+use Rattle.nef_spair.specs.Pieces.{AreOthers}
 
 module _ {A : Type 0} where
   pub at-before : (xs ys : List A) (k : ℕ) (x : A) → At xs k x → At (xs ++ ys) k x

@@ -30,7 +30,7 @@ use Rattle.nef_star.proofs.Needed.{true_or_false}
 use Rattle.nef_smap.specs.declared.map.RawStars.{RawStars}
 use Rattle.nef_smap.specs.Maps.{loop_of, raw_of, IsRawStars}
 use Rattle.nef_spair.proofs.OneKind.{back-opposite}
-use Rattle.nef_spair.proofs.FromParts.{none-some}
+use Rattle.nef_spair.proofs.FromPieces.{none-some}
 use Rattle.nef_spair.proofs.Answered.{HasLabels}
 
 -- ---- stars

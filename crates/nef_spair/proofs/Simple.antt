@@ -7,7 +7,7 @@ use Rattle.law_sphere.proofs.Lists.{at-one}
 use Rattle.nef_star.specs.declared.star.Star.{Star}
 use Rattle.nef_star.specs.Stars.{IsStar}
 use Rattle.nef_smap.proofs.Lists.{at-within, at-get, get-at}
-use Rattle.nef_spair.specs.Parts.{IsSimple, AreSimple}
+use Rattle.nef_spair.specs.Pieces.{IsSimple, AreSimple}
 use Rattle.nef_spair.proofs.Places.{all-at}
 
 -- the first n are simple, and the others are as they were

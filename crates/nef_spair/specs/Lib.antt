@@ -1,4 +1,4 @@
 pub mod Kinds
-pub mod Parts
+pub mod Pieces
 pub mod Arcs
 pub mod Made

@@ -1,4 +1,4 @@
--- The map that is made of its parts.
+-- The map that is made of its pieces.
 use Rattle.std.specs.Prelude.{◌≡◌, [], map, length, Some, None, MatchOption}
 use Rattle.nef_space.specs.declared.label.Label.{Label}
 use Rattle.law_sphere.specs.Least.{InOrder}
@@ -8,12 +8,12 @@ use Rattle.nef_smap.specs.declared.map.SLoop.{SLoop}
 use Rattle.nef_smap.specs.declared.map.RawStars.{RawStars}
 use Rattle.nef_smap.specs.declared.map.SphereMap.{SphereMap}
 use Rattle.nef_smap.specs.Maps.{svertex_of}
-use Rattle.nef_spair.specs.declared.parts.Parts.{Parts}
+use Rattle.nef_spair.specs.declared.pieces.Pieces.{Pieces}
 use Rattle.nef_spair.specs.Arcs.{AreArcs, IsArcBelow}
-use Rattle.nef_spair.specs.Parts.{IsChosen, AreSimple, ArePartsOf}
+use Rattle.nef_spair.specs.Pieces.{IsChosen, AreSimple, ArePiecesOf}
 
 -- the svertices of the kept stars, their arcs, the sloop that is chosen, and the one face where there is neither
-pub record IsMadeOf (p : Parts) (m : SphereMap) : Type 0 where
+pub record IsMadeOf (p : Pieces) (m : SphereMap) : Type 0 where
   pub mark : m.mark ≡ p.mark
   pub svertices : map svertex_of m.svertices ≡ map svertex_at (map star_of p.kept.items)
   pub arcs : AreArcs p.kept.items (length p.kept.items) 0 m.arcs
@@ -22,13 +22,13 @@ pub record IsMadeOf (p : Parts) (m : SphereMap) : Type 0 where
   pub ground : m.svertices ≡ [] → m.sloop ≡ None → m.ground ≡ p.face
   pub ground_not : (l : Label) → m.ground ≡ Some l → (m.svertices ≡ []) × (m.sloop ≡ None)
 
--- the map is made of the parts of the simplified stars
+-- the map is made of the pieces of the simplified stars
 pub record IsMadeFrom (r : RawStars) (m : SphereMap) : Type 0 where
   pub simple : RawStars
   pub mark : simple.mark ≡ r.mark
   pub stars : AreSimple r.stars simple.stars
   pub sloop : simple.sloop ≡ r.sloop
   pub ground : simple.ground ≡ r.ground
-  pub parts : Parts
-  pub are_parts : ArePartsOf simple parts
-  pub made : IsMadeOf parts m
+  pub pieces : Pieces
+  pub are_pieces : ArePiecesOf simple pieces
+  pub made : IsMadeOf pieces m

@@ -13,8 +13,8 @@ ghost use Rattle.nef_smap.specs.Maps.{map_of, raw_of, IsLeastMap, IsRawStars};
 ghost use Rattle.nef_spair.specs.Made.{IsMadeFrom};
 
 use crate::OutOfMemory;
-use crate::making::map_of_parts;
-use crate::sorting::{parts_of, simplified};
+use crate::making::map_of_pieces;
+use crate::sorting::{pieces_of, simplified};
 use nef_geo::Label;
 use nef_smap::{RawStars, SphereMap};
 use std::alloc::Global;
@@ -30,8 +30,8 @@ pub(crate) fn made_of(alloc: Global, raw: RawStars) -> Result<SphereMap, OutOfMe
         sloop: raw.sloop,
         ground: raw.ground,
     };
-    let parts = parts_of(alloc, simple)?;
-    map_of_parts(alloc, parts)
+    let pieces = pieces_of(alloc, simple)?;
+    map_of_pieces(alloc, pieces)
 }
 
 /// The least map with the mark and the labels that the raw stars show. Stars with one label all around, or with one

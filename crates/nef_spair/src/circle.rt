@@ -6,17 +6,17 @@ ghost use Rattle.nef_geo.specs.Shapes.{vector_of};
 ghost use Rattle.law_sphere.specs.Maps.{At};
 ghost use Rattle.law_build.specs.Raw.{IsBare};
 ghost use Rattle.nef_star.specs.Stars.{star_of};
-ghost use Rattle.nef_spair.specs.Parts.{IsBareCircle, IsProperCircle, IsChosen};
+ghost use Rattle.nef_spair.specs.Pieces.{IsBareCircle, IsProperCircle, IsChosen};
 
-use crate::parts::Parts;
-use nef_geo::{Dir, Sign, dot};
+use crate::pieces::Pieces;
+use nef_geo::Dir;
 use nef_smap::SLoop;
 use nef_star::Star;
 
 fn is_level(normal: &Dir, star: &Star) -> bool
     ensures level { IsTrue result ↔ (dot (vector_of normal.now) (vector_of star.now.axis) ≡ pos 0) }
 {
-    dot(normal, star.axis()) == Sign::Zero
+    normal.is_perpendicular(star.axis())
 }
 
 // Whether no star has its axis on the circle.
@@ -51,13 +51,13 @@ fn is_proper(circle: &SLoop) -> bool
 }
 
 // The given circle if it is proper, or the first that no kept star has its axis on.
-pub(crate) fn sloop_of(parts: &Parts) -> Option<SLoop>
-    ensures chosen { MatchOption result ((c : SLoop) → IsChosen parts.now.kept.items parts.now.circles.items parts.now.sloop c → ⊥) (IsChosen parts.now.kept.items parts.now.circles.items parts.now.sloop) }
+pub(crate) fn sloop_of(pieces: &Pieces) -> Option<SLoop>
+    ensures chosen { MatchOption result ((c : SLoop) → IsChosen pieces.now.kept.items pieces.now.circles.items pieces.now.sloop c → ⊥) (IsChosen pieces.now.kept.items pieces.now.circles.items pieces.now.sloop) }
 {
-    if let Some(circle) = parts.sloop
+    if let Some(circle) = pieces.sloop
         && is_proper(&circle)
     {
         return Some(circle);
     }
-    bare_circle(&parts.circles, &parts.kept)
+    bare_circle(&pieces.circles, &pieces.kept)
 }

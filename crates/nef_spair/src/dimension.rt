@@ -32,16 +32,10 @@ fn facet_normal(map: &SphereMap) -> Option<Dir>
     }
 }
 
-fn are_same(d: &Dir, e: &Dir) -> bool
-    ensures same { IsTrue result ↔ (d.now ≡ e.now) }
-{
-    d == e
-}
-
 fn are_opposite(d: &Dir, e: &Dir) -> bool
     ensures opposite { IsTrue result ↔ IsOpposite (vector_of d.now) (vector_of e.now) }
 {
-    are_same(&d.back(), e)
+    d.back().is_same(e)
 }
 
 // The greater direction of the edge that the point lies on.

@@ -8,7 +8,7 @@ mod circle;
 mod dimension;
 mod making;
 mod order;
-mod parts;
+mod pieces;
 mod sorting;
 #[cfg(test)]
 mod tests;

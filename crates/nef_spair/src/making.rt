@@ -1,4 +1,4 @@
-//! The map that is made of its parts.
+//! The map that is made of its pieces.
 
 ghost use Rattle.std.specs.Prelude.{◌≡◌, [], map, IfOk};
 ghost use Rattle.std.specs.List.{All};
@@ -11,7 +11,7 @@ use crate::OutOfMemory;
 use crate::along::arcs_of;
 use crate::circle::sloop_of;
 use crate::order::sort_arcs;
-use crate::parts::Parts;
+use crate::pieces::Pieces;
 use nef_geo::{Label, List};
 use nef_smap::{SLoop, SVertex, SphereMap};
 use nef_star::Star;
@@ -64,17 +64,17 @@ fn ground_of(svertices: &[SVertex], sloop: Option<SLoop>, face: Option<Label>) -
 }
 
 // The svertices of the kept stars, the arcs along their rays, the sloop, and the one face where there is neither.
-pub(crate) fn map_of_parts(alloc: Global, parts: Parts) -> Result<SphereMap, OutOfMemory>
-    requires stars { All IsStar parts.kept.items }
-    ensures made { IfOk result (IsMadeOf parts) }
+pub(crate) fn map_of_pieces(alloc: Global, pieces: Pieces) -> Result<SphereMap, OutOfMemory>
+    requires stars { All IsStar pieces.kept.items }
+    ensures made { IfOk result (IsMadeOf pieces) }
 {
-    let svertices = svertices_of(alloc, &parts.kept)?;
-    let mut arcs = arcs_of(alloc, &parts.kept)?;
+    let svertices = svertices_of(alloc, &pieces.kept)?;
+    let mut arcs = arcs_of(alloc, &pieces.kept)?;
     sort_arcs(&mut arcs);
-    let sloop = sloop_of(&parts);
-    let ground = ground_of(&svertices, sloop, parts.face);
+    let sloop = sloop_of(&pieces);
+    let ground = ground_of(&svertices, sloop, pieces.face);
     Ok(SphereMap {
-        mark: parts.mark,
+        mark: pieces.mark,
         svertices: List::from_vec(svertices),
         arcs: List::from_vec(arcs),
         sloop,

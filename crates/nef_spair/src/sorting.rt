@@ -9,10 +9,10 @@ ghost use Rattle.nef_space.specs.Vectors.{IsAtMost};
 ghost use Rattle.nef_geo.specs.Shapes.{vector_of};
 ghost use Rattle.nef_star.specs.Stars.{star_of, IsStar};
 ghost use Rattle.nef_smap.specs.Maps.{loop_of, raw_of, IsRawStars};
-ghost use Rattle.nef_spair.specs.Parts.{IsDropped, AreOthers, IsCircleOf, AreCircles, AreSimple, IsFaceOf, ArePartsOf};
+ghost use Rattle.nef_spair.specs.Pieces.{IsDropped, AreOthers, IsCircleOf, AreCircles, AreSimple, IsFaceOf, ArePiecesOf};
 
 use crate::OutOfMemory;
-use crate::parts::Parts;
+use crate::pieces::Pieces;
 use nef_geo::{Label, List};
 use nef_smap::{RawStars, SLoop};
 use nef_star::{Star, is_plain, is_straight, simplify};
@@ -77,13 +77,13 @@ fn parted(alloc: Global, stars: List<Star>) -> Result<(Vec<Star>, Vec<SLoop>), O
 }
 
 // What the map of simplified stars is made of.
-pub(crate) fn parts_of(alloc: Global, raw: RawStars) -> Result<Parts, OutOfMemory>
+pub(crate) fn pieces_of(alloc: Global, raw: RawStars) -> Result<Pieces, OutOfMemory>
     requires stars { All IsStar raw.stars }
-    ensures parts { IfOk result (ArePartsOf raw) }
+    ensures pieces { IfOk result (ArePiecesOf raw) }
 {
     let face = some_label(&raw);
     let (kept, circles) = parted(alloc, raw.stars)?;
-    Ok(Parts {
+    Ok(Pieces {
         mark: raw.mark,
         kept,
         circles,

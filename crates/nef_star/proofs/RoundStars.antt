@@ -1,5 +1,5 @@
 -- Stars put together from their rays: the ways that are cut in, the marks that they get, and the rays with the sectors after them.
-use Rattle.std.proofs.Common.{◌≡◌, ℕ, zero, suc, ◌+◌, ◌<◌, ◌≤◌, List, [], ◌∷◌, length, map, get_or, set, slice_get, Some, None, Bool, true, false, cond, ℤ, pos, neg_ℤ, arith, refl, sym, ap, subst, ◌∙◌, inl, inr, ⊎_elim, ◌⊎◌}
+use Rattle.std.proofs.Common.{◌≡◌, ℕ, zero, suc, ◌+◌, ◌<◌, ◌≤◌, List, [], ◌∷◌, length, get_or, set, slice_get, Some, Bool, true, false, cond, ℤ, pos, neg_ℤ, arith, refl, sym, ap, subst, ◌∙◌, inl, inr, ⊎_elim, ◌⊎◌}
 use Rattle.std.proofs.Math.Nat.{eq-or-lt_of_le}
 use Rattle.std.proofs.lemmas.Option.{slice_get_within, slice_get-get_or}
 use Rattle.std.proofs.lemmas.Int.{ints}
@@ -16,12 +16,11 @@ use Rattle.nef_star.specs.declared.star.Ray.{Ray}
 use Rattle.nef_star.specs.declared.star.Star.{Star}
 use Rattle.nef_star.specs.Rounds.{End, AreApart, IsRound, IsEndAt, HasWays, IsEnded}
 use Rattle.nef_star.specs.Stars.{left_of, left_at, mark_of, mark_at, sector_at, IsRay, IsTurned, IsKept, IsCut, IsCountedFrom, HasLeft}
-use Rattle.nef_star.proofs.Rotated.{Moved, moved-from, moved-value, moved}
-use Rattle.nef_star.proofs.RayOrder.{one-value}
+use Rattle.nef_star.proofs.Rotated.{moved-from, moved-value, moved}
 use Rattle.nef_star.proofs.LastAt.{as-same}
 use Rattle.nef_star.proofs.Turns.{self-same}
 use Rattle.nef_star.proofs.Counted.{lefts, marks, sectors, counted-length, count-some}
-use Rattle.nef_star.proofs.Joined.{changed-turned, changed-count, same-lefts, set-here, set-other, item-sector, nat-is}
+use Rattle.nef_star.proofs.Joined.{changed-turned, changed-count, same-lefts, set-here, set-other, nat-is}
 use Rattle.nef_star.proofs.Labelled.{sectors-fill}
 use Rattle.nef_star.proofs.Pushed.{at-item}
 

@@ -9,7 +9,7 @@ use crate::OutOfMemory;
 use crate::cut::{cut_by, left_of_ray, place_of, with_mark};
 use crate::needless::begin_with_least;
 use crate::op::Op;
-use crate::star::{Star, same_dir};
+use crate::star::Star;
 use nef_geo::{Dir, Label};
 use std::alloc::Global;
 
@@ -25,7 +25,7 @@ fn labels_at(star: &Star, left: &Dir) -> (Label, Label)
     }
     let place = place_of(star, left);
     let after = star.sectors[place];
-    if same_dir(&left_of_ray(star, place), left) {
+    if left_of_ray(star, place).is_same(left) {
         return (star.rays[place].mark, after);
     }
     (after, after)

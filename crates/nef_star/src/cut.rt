@@ -9,7 +9,7 @@ ghost use Rattle.nef_star.specs.Stars.{left_of, left_at, IsRay, IsTurned, LeftPa
 
 use crate::OutOfMemory;
 use crate::needless::count_from;
-use crate::star::{Ray, Star, same_dir};
+use crate::star::{Ray, Star};
 use nef_arc::{Arc, strictly_on};
 use nef_geo::{Dir, Label};
 
@@ -47,7 +47,7 @@ fn is_under(star: &Star, k: usize, left: &Dir) -> bool
     requires within { k < length star.now.rays.items }
     ensures under { IsTrue result ↔ LeftUnder star.now (vector_of left.now) k }
 {
-    same_dir(&left_of_ray(star, k), left) || is_past(star, k, left)
+    left_of_ray(star, k).is_same(left) || is_past(star, k, left)
 }
 
 // The number of the last ray at or before a ray with this direction to its left.
@@ -112,7 +112,7 @@ pub(crate) fn cut(star: &mut Star, ray: &Ray) -> Result<(), OutOfMemory>
     }
     let left = ray.left();
     let place = place_of(star, &left);
-    if same_dir(&left_of_ray(star, place), &left) {
+    if left_of_ray(star, place).is_same(&left) {
         return Ok(());
     }
     let next = next_of(star.rays.len(), place);

@@ -12,7 +12,7 @@ ghost use Rattle.nef_star.specs.declared.star.Star.{Star};
 use crate::OutOfMemory;
 use crate::cut::{cut, left_of_ray, with_mark};
 use crate::needless::begin_with_least;
-use crate::star::{Ray, Star, same_dir};
+use crate::star::{Ray, Star};
 use nef_geo::{Dir, Label};
 use std::alloc::Global;
 
@@ -56,7 +56,7 @@ fn end_with(ends: &[(Ray, Label)], left: &Dir) -> (Ray, Label)
     ensures left { left_of result.0 ≡ vector_of left.now }
 {
     for end in ends {
-        if same_dir(&end.0.left(), left) {
+        if end.0.left().is_same(left) {
             return *end;
         }
     }

@@ -127,17 +127,11 @@ pub fn is_plain(star: &Star) -> bool
     star.rays.is_empty() && star.sectors[0] == star.mark
 }
 
-pub(crate) fn same_dir(a: &Dir, b: &Dir) -> bool
-    ensures same { IsTrue result ↔ (a.now ≡ b.now) }
-{
-    a == b
-}
-
 // Whether two rays have one normal, and both have the mark.
 fn are_straight(first: &Ray, second: &Ray, mark: Label) -> bool
     ensures both { IsTrue result ↔ AreStraight first.now second.now mark }
 {
-    if !same_dir(&first.normal, &second.normal) {
+    if !first.normal.is_same(&second.normal) {
         return false;
     }
     first.mark == mark && second.mark == mark

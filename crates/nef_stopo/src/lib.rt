@@ -4,8 +4,6 @@
 mod nearby;
 mod operations;
 mod stars;
-#[cfg(test)]
-mod tests;
 mod topology;
 
 pub use operations::{boundary, closure, complement, interior};

@@ -20,14 +20,14 @@ use Rattle.law_complex.proofs.Ways.{same-itself}
 use Rattle.nef_complex.specs.declared.complex.Complex.{Complex as ProgramComplex}
 use Rattle.nef_complex.specs.declared.complex.Corner.{Corner as ProgramCorner}
 use Rattle.nef_complex.specs.Complexes.{complex_of, corner_of, ShowsSet}
-use Rattle.nef_classes.specs.declared.table.Spot.{Spot}
+use Rattle.nef_classes.specs.declared.table.Cell.{Cell}
 use Rattle.nef_classes.specs.declared.table.Tie.{Tie}
 use Rattle.law_links.specs.Links.{LinkAcross}
 use Rattle.nef_plane.specs.Meets.{HasNoSvertex}
 use Rattle.nef_locate.proofs.SamePlanes.{level-back, scaled-same, first-same, corner-same, opposite-same, on-turned}
-use Rattle.nef_ties.specs.Ties.{spot_of, corner_at, NoneIsPlaneWith, IsTieAcross, Adds}
+use Rattle.nef_ties.specs.Ties.{cell_of, corner_at, IsTieAcross, Adds}
 use Rattle.nef_ties.proofs.Adding.{adds-one}
-use Rattle.nef_ties.proofs.ItemPlane.{item-carrier, dir-same}
+use Rattle.nef_ties.proofs.ItemPlane.{dir-same}
 use Rattle.nef_ties.proofs.OneMeet.{one-vertex, one-named}
 use Rattle.nef_ties.proofs.TiedLinks.{tie-same}
 
@@ -105,29 +105,17 @@ module _ (s : Set) (C : Complex) (S : Shows s C) where
       let listed = subst (λ (r : Vertex). At r.map.svertices i u) f t in
       (S.cones j.vertex v b.vertex).valid.shaped.no_svertex_on_item i j.item u x listed b.item (on-turned v.map x d u.way (SameDirection-turned u.way d q) o)
 
--- without a carrier there is no link
-pub no-carrier : (s : Set) (c : ProgramComplex) → ShowsSet s c → (j : Corner) (v : Vertex) (x : Item) → IsCorner (complex_of c) j v x → NoneIsPlaneWith v.point (item_normal x) c.carriers
-    → (k : Corner) → LinkAcross (complex_of c) j k → ⊥
-no-carrier s c S j v x b none k L =
-    let N = link-is (complex_of c) j v x b k L in
-    let A = item-carrier s (complex_of c) S.shows j v x b (inward_of x) N.0 in
-    let g = at-map form_of c.carriers A.number A.plane A.listed in
-    none A.number g.0 g.1 (
-      subst (λ (r : Form). form_at r v.point ≡ pos 0) (sym g.2) A.holds,
-      subst (λ (r : Form). SameDirection (normal_of r) (item_normal x)) (sym g.2) (A.normal (subst (λ (r : Form). IsNormal (normal_of r)) g.2 g.0.normal)),
-    )
-
 -- ---- the tie of a link
 abbrev pub tie_to : ℕ → ℕ → ProgramCorner → Tie
 tie_to i j k = record { first = record { row = i; column = j }; second = record { row = k.vertex; column = k.item } }
 
 module _ (s : Set) (C : Complex) (S : Shows s C) (i j : ℕ) where
   from-first : (t : Tie) → IsTieAcross C i j t → LinkAcross C (record { vertex = i; item = j }) (corner_at t.second)
-  from-first t (e, L) = subst (λ (x : Spot). LinkAcross C (corner_at x) (corner_at t.second)) e L
+  from-first t (e, L) = subst (λ (x : Cell). LinkAcross C (corner_at x) (corner_at t.second)) e L
 
   pub tie-added : (k : ProgramCorner) → LinkAcross C (record { vertex = i; item = j }) (corner_of k) → (ts : List Tie) → Adds (IsTieAcross C i j) ts (ts ++ tie_to i j k ∷ [])
   tie-added k L ts = adds-one (IsTieAcross C i j) ts (tie_to i j k) (refl, L)
-      (λ u p. tie-same (tie_to i j k) u (sym p.0) (ap spot_of (link-one s C S (record { vertex = i; item = j }) (corner_of k) (corner_at u.second) L (from-first u p))))
+      (λ u p. tie-same (tie_to i j k) u (sym p.0) (ap cell_of (link-one s C S (record { vertex = i; item = j }) (corner_of k) (corner_at u.second) L (from-first u p))))
 
   pub tie-none : ((k : Corner) → LinkAcross C (record { vertex = i; item = j }) k → ⊥) → (t : Tie) → IsTieAcross C i j t → ⊥
   tie-none f t p = f (corner_at t.second) (from-first t p)

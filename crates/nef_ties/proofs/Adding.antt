@@ -1,5 +1,5 @@
 -- Lists to which the elements with some property are added.
-use Rattle.std.proofs.Common.{◌≡◌, ℕ, ◌+◌, ◌<◌, ◌≤◌, List, [], ◌∷◌, ◌++◌, arith, subst, inl, inr, ◌⊎◌}
+use Rattle.std.proofs.Common.{◌≡◌, ℕ, ◌+◌, ◌<◌, List, [], ◌∷◌, ◌++◌, arith, subst, inl, inr, ◌⊎◌}
 use Rattle.std.specs.List.{Contains}
 use Rattle.std.proofs.Math.Nat.{eq-or-lt_of_le}
 use Rattle.std.proofs.lemmas.List.Elements.{Contains-append_left, Contains-push, Contains-push_cases}
@@ -74,18 +74,3 @@ module _ {X : Type 0} where
 
     pub any-all : (n : ℕ) (xs ys : List X) → ((k : ℕ) (x : X) → P k x → k < n) → Adds (AnyBelow P n) xs ys → Adds (Any P) xs ys
     any-all n xs ys all = adds-as (AnyBelow P n) (Any P) xs ys (λ x a. (a.0, a.2)) (λ x a. (a.0, all a.0 x a.1, a.1))
-
-    -- those with the properties below a number, and then those with the last
-    pub any-last : (n l : ℕ) (xs ys zs : List X) → l ≤ n → ((k : ℕ) (x : X) → P k x → k < l + 1) → Adds (AnyBelow P n) xs ys → Adds (P l) ys zs → Adds (Any P) xs zs
-    any-last n l xs ys zs h all f g = adds-both (AnyBelow P n) (P l) (Any P) xs ys zs f g forth back
-      where
-        forth : (x : X) → AnyBelow P n x ⊎ P l x → Any P x
-        forth x (inl (k, i, p)) = (k, p)
-        forth x (inr p) = (l, p)
-
-        split : (x : X) (k : ℕ) → (k ≡ l) ⊎ (k < l) → P k x → AnyBelow P n x ⊎ P l x
-        split x k (inl o) p = inr (subst (λ (j : ℕ). P j x) o p)
-        split x k (inr i) p = inl (k, omega (arith, h, i), p)
-
-        back : (x : X) → Any P x → AnyBelow P n x ⊎ P l x
-        back x (k, p) = split x k (eq-or-lt_of_le {n = k} {m = l} (let i = all k x p in omega (arith, i))) p

@@ -1,4 +1,4 @@
--- The plane of an item is a carrier, and the way inward in it.
+-- The way inward in the plane of an item.
 use Rattle.std.proofs.Common.{◌≡◌, ℕ, ℤ, pos, ◌+ℤ◌, ◌*ℤ◌, Bool, true, false, cond, ◌&&◌, [], ◌∷◌, subst, ◌↔◌}
 use Rattle.std.specs.Ordering.{int_eq}
 use Rattle.law_arithmetic.proofs.Combination.{given, none, follows}
@@ -25,49 +25,6 @@ use Rattle.law_complex.proofs.FacetWays.{plane-back}
 use Rattle.law_complex.proofs.Planes.{plane-turned, plane-point, plane-slope}
 use Rattle.law_complex.proofs.Ways.{onward, onward-way}
 use Rattle.nef_locate.proofs.SamePlanes.{opposed, same-test, alike}
-
--- ---- the plane of an item
--- a carrier that holds the vertex and has the item's normal
-pub record ItemCarrier (C : Complex) (v : Vertex) (x : Item) : Type 0 where
-  pub number : ℕ
-  pub plane : Form
-  pub listed : At C.carriers number plane
-  pub holds : form_at plane v.point ≡ pos 0
-  pub normal : IsNormal (normal_of plane) → SameDirection (normal_of plane) (item_normal x)
-
-module _ (s : Set) (C : Complex) (S : Shows s C) (k : Corner) (v : Vertex) (x : Item) (c : IsCorner C k v x) (d : Vector) (o : OnItem v.map x d) where
-  abbrev y : Place
-  y = onward v.point d
-
-  w : SameDirection (toward v.point y) d
-  w = onward-way v.point d (on-direction v.map x d o)
-
-  -- close to the vertex
-  abbrev q : Place
-  q = near_point s v.point y
-
-  F : IsInFacetOf s x q
-  F = beside-vertex s C S k v x c d o y w
-
-  D : FacetSupport s q
-  D = facet-support s q F.dim
-
-  pub item-carrier : ItemCarrier C v x
-  item-carrier =
-      let K = S.carriers.all D.plane D.listed in
-      let h = K.1 in
-      let same = K.3 in
-      let flat : (u : Vector) → Flat s q u ↔ (dot (normal_of h) u ≡ pos 0) = λ u. (λ f. plane-slope D.plane h u (plane-turned h D.plane same) ((D.flat_in u).0 f), λ z. (D.flat_in u).1 (plane-slope h D.plane u same z)) in
-      let on-q = plane-point D.plane h q (plane-turned h D.plane same) (nought-is (form_at D.plane q) D.passes) in
-      let along = (flat d).0 ((F.flat d).1 (on-level v.map x d o)) in
-      let to-q = level-way (normal_of h) d (toward v.point q) (SameDirection-turned (toward v.point q) d (way-near s v.point d y w)) along in
-      record {
-        number = K.0;
-        plane = h;
-        listed = K.2;
-        holds = plane-back h v.point q to-q on-q;
-        normal = λ N. flats-one s q (normal_of h) (item_normal x) N ((S.cones k.vertex v c.vertex).valid.shaped.normals k.item x c.item) flat F.flat;
-      }
 
 -- ---- the way inward
 -- u and v are one up to these factors

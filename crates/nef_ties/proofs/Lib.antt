@@ -1,5 +1,5 @@
 pub mod Adding
-pub mod MapItems
+pub mod ItemCarriers
 pub mod EdgeTies
 pub mod OneMeet
 pub mod ItemPlane

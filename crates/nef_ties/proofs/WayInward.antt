@@ -11,6 +11,7 @@ use Rattle.law_sphere.specs.Maps.{At, Item, items, item_normal, OnItem}
 use Rattle.law_sphere.proofs.Lists.{at-one}
 use Rattle.nef_smap.proofs.ArcEnds.{at-map}
 use Rattle.nef_smap.specs.Maps.{map_of}
+use Rattle.nef_smap.proofs.MapLists.{at-within}
 use Rattle.law_complex.specs.Complexes.{Vertex, Complex, Corner, IsCorner}
 use Rattle.law_complex.specs.Shows.{Shows}
 use Rattle.law_complex.specs.Skeleton.{PlaneMeet, IsFirstInPlane, IsCornerAt}
@@ -18,16 +19,16 @@ use Rattle.nef_complex.specs.declared.complex.Complex.{Complex as ProgramComplex
 use Rattle.nef_complex.specs.declared.complex.Corner.{Corner as ProgramCorner}
 use Rattle.nef_complex.specs.declared.complex.Vertex.{Vertex as ProgramVertex}
 use Rattle.nef_complex.specs.Complexes.{complex_of, corner_of, vertex_of, ShowsSet}
-use Rattle.nef_classes.specs.declared.table.Spot.{Spot}
+use Rattle.nef_classes.specs.declared.table.Cell.{Cell}
 use Rattle.nef_classes.specs.declared.table.Tie.{Tie}
 use Rattle.law_links.specs.Links.{LinkAcross}
 use Rattle.nef_plane.specs.Meets.{HasNoSvertex, FromVertex}
 use Rattle.nef_locate.proofs.Marks.{image-within}
-use Rattle.nef_locate.proofs.SamePlanes.{level-kept, level-back}
-use Rattle.nef_ties.specs.Ties.{IsPlaneWith, NoneIsPlaneWith, HasNoItem, HasNormal, AreLevel, IsOnItem, IsNamedFrom, IsLinkedFrom, corner_at, IsTieAcross, Any}
-use Rattle.nef_ties.proofs.MapItems.{below-count}
+use Rattle.nef_locate.proofs.SamePlanes.{level-back}
+use Rattle.nef_ties.specs.Carriers.{IsPlaneAt, IsPlaneThrough}
+use Rattle.nef_ties.specs.Ties.{IsNamedFrom, IsLinkedFrom, corner_at, IsTieAcross, Any}
 use Rattle.nef_ties.proofs.OneMeet.{one-met}
-use Rattle.nef_ties.proofs.AcrossLinks.{linked, unlinked, no-carrier, no-svertex}
+use Rattle.nef_ties.proofs.AcrossLinks.{linked, unlinked, no-svertex}
 
 -- ---- the corner at what is first met
 module _ (s : Set) (C : Complex) (S : Shows s C) (h : Form) (y : Place) (d b : Vector) (back : b ≡ opposite d) (m : PlaneMeet) (I : IsFirstInPlane C h y d m) where
@@ -40,57 +41,33 @@ vertex-some [] k l = absurd (omega (arith, l))
 vertex-some (v ∷ vs) zero l = (vertex_of v, refl)
 vertex-some (v ∷ vs) (suc k) l = vertex-some vs k (omega (arith, l))
 
--- ---- the item of a vertex
-module _ (s : Set) (c : ProgramComplex) (S : ShowsSet s c) (i j : ℕ) (v : ProgramVertex) (e : slice_get c.vertices i ≡ Some v) where
+-- ---- the item of a corner
+module _ (s : Set) (c : ProgramComplex) (S : ShowsSet s c) (k : Corner) (v : Vertex) (x : Item) (corner : IsCorner (complex_of c) k v x) (h : Plane) (P : IsPlaneAt (complex_of c) h k) (f d : Vector)
+    (dir : SameDirection (plane_dir (normal_of (form_of h))) f) (level : slope (form_of h) f ≡ pos 0) (back : d ≡ opposite f) where
   abbrev C : Complex
   C = complex_of c
 
-  abbrev k : Corner
-  k = record { vertex = i; item = j }
+  through : IsPlaneThrough h v.point (item_normal x)
+  through = P v x corner
 
-  listed : At C.vertices i (vertex_of v)
-  listed = at-map vertex_of c.vertices i v e
+  pub level-inward : slope (form_of h) d ≡ pos 0
+  level-inward = subst (λ (m : Vector). slope (form_of h) m ≡ pos 0) (sym back) (level-back (normal_of (form_of h)) f level)
 
-  pub no-item : HasNoItem (map_of v.map) j → (l : Corner) → LinkAcross C k l → ⊥
-  no-item f l L = f L.item (subst (λ (u : Vertex). At (items u.map) j L.item) (at-one C.vertices i L.vertex (vertex_of v) L.corner.vertex listed) L.corner.item)
+  pub not-on : (OnItem v.map x d → ⊥) → (l : Corner) → LinkAcross C k l → ⊥
+  not-on g l L = g (unlinked C k v x corner (form_of h) through.0 through.1 f d dir back l L).0
 
-  module _ (n : Vector) (N : HasNormal (map_of v.map) j n) where
-    abbrev x : Item
-    x = N.0
+  module _ (on : OnItem v.map x d) where
+    pub none-along : FromVertex C k.vertex (λ p. HasNoSvertex C p d)
+    none-along u a =
+        let e = at-one C.vertices k.vertex v u corner.vertex a in
+        no-svertex s C S.shows k u x (record { vertex = a; item = subst (λ (w : Vertex). At (items w.map) k.item x) e corner.item }) d (subst (λ (w : Vertex). OnItem w.map x d) e on)
 
-    corner : IsCorner C k (vertex_of v) x
-    corner = record { vertex = listed; item = N.1 }
-
-    pub none-with : NoneIsPlaneWith (place_of v.point) n c.carriers → (l : Corner) → LinkAcross C k l → ⊥
-    none-with f = no-carrier s c S k (vertex_of v) x corner (subst (λ (m : Vector). NoneIsPlaneWith (place_of v.point) m c.carriers) (sym N.2) f)
-
-    module _ (h : Plane) (P : IsPlaneWith (place_of v.point) n h) (f d : Vector) (dir : SameDirection (plane_dir (normal_of (form_of h))) f) (level : slope (form_of h) f ≡ pos 0) (back : d ≡ opposite f) where
-      normals : SameDirection (normal_of (form_of h)) (item_normal x)
-      normals = subst (λ (m : Vector). SameDirection (normal_of (form_of h)) m) (sym N.2) P.1
-
-      pub level-inward : slope (form_of h) d ≡ pos 0
-      level-inward = subst (λ (m : Vector). slope (form_of h) m ≡ pos 0) (sym back) (level-back (normal_of (form_of h)) f level)
-
-      pub are-level : AreLevel (map_of v.map) j d
-      are-level = (x, N.1, level-kept (normal_of (form_of h)) (item_normal x) d normals level-inward)
-
-      pub not-on : (IsOnItem (map_of v.map) j d → ⊥) → (l : Corner) → LinkAcross C k l → ⊥
-      not-on g l L = g (x, N.1, (unlinked C k (vertex_of v) x corner (form_of h) P.0 normals f d dir back l L).0)
-
-      module _ (o : IsOnItem (map_of v.map) j d) where
-        on : OnItem (map_of v.map) x d
-        on = subst (λ (z : Item). OnItem (map_of v.map) z d) (at-one (items (map_of v.map)) j o.0 x o.1 N.1) o.2
-
-        pub none-along : FromVertex C i (λ p. HasNoSvertex C p d)
-        none-along u a = no-svertex s C S.shows k u x (record { vertex = a; item = subst (λ (w : Vertex). At (items w.map) j x) (at-one C.vertices i (vertex_of v) u listed a) N.1 }) d
-            (subst (λ (w : Vertex). OnItem w.map x d) (at-one C.vertices i (vertex_of v) u listed a) on)
-
-        pub linked-from : (r : Option ProgramCorner) → FromVertex C i (λ p. IsNamedFrom C (form_of h) p d r) → IsLinkedFrom C i j r
-        linked-from r f' = by r (f' (vertex_of v) listed)
-          where
-            by : (r : Option ProgramCorner) → IsNamedFrom C (form_of h) (place_of v.point) d r → IsLinkedFrom C i j r
-            by None g = λ l L. g l (unlinked C k (vertex_of v) x corner (form_of h) P.0 normals f d dir back l L).1
-            by (Some l) g = linked C k (vertex_of v) x corner (form_of h) P.0 normals f d dir back (corner_of l) on g
+    pub linked-from : (r : Option ProgramCorner) → FromVertex C k.vertex (λ p. IsNamedFrom C (form_of h) p d r) → IsLinkedFrom C k r
+    linked-from r f' = by r (f' v corner.vertex)
+      where
+        by : (r : Option ProgramCorner) → IsNamedFrom C (form_of h) v.point d r → IsLinkedFrom C k r
+        by None g = λ l L. g l (unlinked C k v x corner (form_of h) through.0 through.1 f d dir back l L).1
+        by (Some l) g = linked C k v x corner (form_of h) through.0 through.1 f d dir back (corner_of l) on g
 
 -- ---- sizes
 pub small-back : (f d : Vector) → d ≡ opposite f → IsAtMost plane_dir_limit f → IsAtMost ray_limit d
@@ -100,13 +77,13 @@ small-back f d e a = subst (IsAtMost ray_limit) (sym e) (record { of_x = less f.
     less x h = omega (arith, ints, h)
 
 -- ---- the numbers of what is linked
-pub item-below : (c : ProgramComplex) (i : ℕ) (v : ProgramVertex) → slice_get c.vertices i ≡ Some v → (j : ℕ) (t : Tie) → IsTieAcross (complex_of c) i j t → j < length v.map.arcs + 1
+pub item-below : (c : ProgramComplex) (i : ℕ) (v : ProgramVertex) → slice_get c.vertices i ≡ Some v → (j : ℕ) (t : Tie) → IsTieAcross (complex_of c) i j t → j < length (items (map_of v.map))
 item-below c i v e j t (f, L) =
-    let M = subst (λ (x : Spot). LinkAcross (complex_of c) (corner_at x) (corner_at t.second)) f L in
+    let M = subst (λ (x : Cell). LinkAcross (complex_of c) (corner_at x) (corner_at t.second)) f L in
     let listed = at-map vertex_of c.vertices i v e in
-    below-count v.map j M.item (subst (λ (u : Vertex). At (items u.map) j M.item) (at-one (complex_of c).vertices i M.vertex (vertex_of v) M.corner.vertex listed) M.corner.item)
+    at-within (items (map_of v.map)) j M.item (subst (λ (u : Vertex). At (items u.map) j M.item) (at-one (complex_of c).vertices i M.vertex (vertex_of v) M.corner.vertex listed) M.corner.item)
 
 pub vertex-below : (c : ProgramComplex) (i : ℕ) (t : Tie) → Any (IsTieAcross (complex_of c) i) t → i < length c.vertices
 vertex-below c i t (j, (f, L)) =
-    let M = subst (λ (x : Spot). LinkAcross (complex_of c) (corner_at x) (corner_at t.second)) f L in
+    let M = subst (λ (x : Cell). LinkAcross (complex_of c) (corner_at x) (corner_at t.second)) f L in
     image-within vertex_of c.vertices i M.vertex M.corner.vertex

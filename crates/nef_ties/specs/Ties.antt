@@ -1,25 +1,25 @@
 -- Corners as elements of the table of items, and which ties join them.
-use Rattle.std.specs.Prelude.{◌≡◌, ℕ, pos, List, ◌⊎◌, Option}
+use Rattle.std.specs.Prelude.{◌≡◌, ℕ, ◌<◌, pos, List, length, ◌⊎◌, Option}
 use Rattle.std.specs.List.{Contains}
 use Rattle.std.specs.Option.{MatchOption}
 use Rattle.nef_space.specs.Place.{Place, Form, form_at, normal_of}
-use Rattle.nef_space.specs.Vectors.{Vector, SameDirection, dot}
+use Rattle.nef_space.specs.Vectors.{Vector, SameDirection}
 use Rattle.nef_geo.specs.Shapes.{form_of}
 use Rattle.nef_geo.specs.declared.plane.Plane.{Plane}
-use Rattle.law_sphere.specs.Maps.{At, Arc, Map, Item, items, item_normal, OnItem}
+use Rattle.law_sphere.specs.Maps.{At, Arc, Map, items}
 use Rattle.law_complex.specs.Complexes.{Vertex, Edge, Complex, Corner, HasEnds}
 use Rattle.law_complex.specs.Skeleton.{RayNames}
 use Rattle.nef_complex.specs.Complexes.{corner_of}
 use Rattle.nef_complex.specs.declared.complex.Corner.{Corner as ProgramCorner}
-use Rattle.nef_classes.specs.declared.table.Spot.{Spot}
+use Rattle.nef_classes.specs.declared.table.Cell.{Cell}
 use Rattle.nef_classes.specs.declared.table.Tie.{Tie}
 use Rattle.law_links.specs.Links.{LinkAcross}
 
 -- a corner's place in the table that has a row for each vertex and an element for each of its items
-abbrev pub spot_of : Corner → Spot
-spot_of k = record { row = k.vertex; column = k.item }
+abbrev pub cell_of : Corner → Cell
+cell_of k = record { row = k.vertex; column = k.item }
 
-abbrev pub corner_at : Spot → Corner
+abbrev pub corner_at : Cell → Corner
 corner_at x = record { vertex = x.row; item = x.column }
 
 -- ---- lists that grow
@@ -59,37 +59,14 @@ abbrev pub IsTieAlong : Complex → ℕ → Tie → Type 0
 IsTieAlong C n t = (e : Edge) × (v : Vertex) × (w : Vertex) × At C.edges n e × HasEnds C e v w × Any (IsTieOfEdge e v.map w.map) t
 
 -- ---- across facets
--- the plane holds p and has the normal n
-abbrev pub IsPlaneWith : Place → Vector → Plane → Type 0
-IsPlaneWith p n h = (form_at (form_of h) p ≡ pos 0) × SameDirection (normal_of (form_of h)) n
-
-abbrev pub NoneIsPlaneWith : Place → Vector → List Plane → Type 0
-NoneIsPlaneWith p n hs = (k : ℕ) (h : Plane) → At hs k h → IsPlaneWith p n h → ⊥
-
-abbrev pub HasNoItem : Map → ℕ → Type 0
-HasNoItem M k = (x : Item) → At (items M) k x → ⊥
-
--- the map has the item with this number, with the normal n
-abbrev pub HasNormal : Map → ℕ → Vector → Type 0
-HasNormal M k n = (x : Item) × At (items M) k x × (item_normal x ≡ n)
-
--- d lies in the plane of the item with this number
-abbrev pub AreLevel : Map → ℕ → Vector → Type 0
-AreLevel M k d = (x : Item) × At (items M) k x × (dot (item_normal x) d ≡ pos 0)
-
--- d lies on the item with this number
-abbrev pub IsOnItem : Map → ℕ → Vector → Type 0
-IsOnItem M k d = (x : Item) × At (items M) k x × OnItem M x d
-
 -- the corner that the ray from p along d names in the plane, or none
 abbrev pub IsNamedFrom : Complex → Form → Place → Vector → Option ProgramCorner → Type 0
 IsNamedFrom C h p d o = MatchOption o ((k : Corner) → RayNames C h p d k → ⊥) (λ k. RayNames C h p d (corner_of k))
 
--- the corner with which item j of vertex i is linked across its facet, or none
-abbrev pub IsLinkedFrom : Complex → ℕ → ℕ → Option ProgramCorner → Type 0
-IsLinkedFrom C i j o =
-    MatchOption o ((k : Corner) → LinkAcross C (record { vertex = i; item = j }) k → ⊥) (λ k. LinkAcross C (record { vertex = i; item = j }) (corner_of k))
+-- the corner with which corner j is linked across its facet, or none
+abbrev pub IsLinkedFrom : Complex → Corner → Option ProgramCorner → Type 0
+IsLinkedFrom C j o = MatchOption o ((k : Corner) → LinkAcross C j k → ⊥) (λ k. LinkAcross C j (corner_of k))
 
 -- the tie joins item j of vertex i with the corner with which it is linked across its facet
 abbrev pub IsTieAcross : Complex → ℕ → ℕ → Tie → Type 0
-IsTieAcross C i j t = (t.first ≡ spot_of (record { vertex = i; item = j })) × LinkAcross C (corner_at t.first) (corner_at t.second)
+IsTieAcross C i j t = (t.first ≡ cell_of (record { vertex = i; item = j })) × LinkAcross C (corner_at t.first) (corner_at t.second)

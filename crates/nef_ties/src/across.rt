@@ -1,88 +1,29 @@
 //! The ties of corners across facets.
 
-ghost use Rattle.std.specs.Prelude.{◌≡◌, ℕ, ◌<◌, length, pos, map, ◌↔◌, IsTrue, IfOk, OnOk};
+ghost use Rattle.std.specs.Prelude.{◌≡◌, ◌<◌, length, pos, map, ◌↔◌, IsTrue, IfOk, OnOk};
 ghost use Rattle.std.specs.Option.{MatchOption};
-ghost use Rattle.nef_space.specs.Place.{form_at, normal_of, slope};
+ghost use Rattle.nef_space.specs.Place.{normal_of, slope};
 ghost use Rattle.nef_space.specs.Sets.{Set};
 ghost use Rattle.nef_space.specs.Vectors.{IsAtMost, SameDirection};
 ghost use Rattle.nef_geo.specs.Shapes.{form_of, vector_of, place_of};
 ghost use Rattle.nef_geo.specs.Widths.{ray_limit};
-ghost use Rattle.nef_smap.specs.Maps.{map_of, IsSphereMap};
 ghost use Rattle.law_complex.specs.Complexes.{Corner as PlainCorner};
-ghost use Rattle.nef_complex.specs.Complexes.{complex_of, ShowsSet};
+ghost use Rattle.nef_complex.specs.Complexes.{complex_of, corner_of, ShowsSet};
 ghost use Rattle.law_links.specs.Links.{LinkAcross};
 ghost use Rattle.nef_parts.specs.Numbers.{count_items};
 ghost use Rattle.nef_classes.specs.Tables.{AreTiedWithin, AreTied};
 ghost use Rattle.nef_plane.specs.Meets.{HasNoSvertex, FromVertex};
-ghost use Rattle.nef_ties.specs.Ties.{spot_of, IsPlaneWith, NoneIsPlaneWith, HasNoItem, HasNormal, AreLevel, IsOnItem, IsNamedFrom, IsLinkedFrom, IsTieAcross, Any, Adds};
+ghost use Rattle.nef_ties.specs.Carriers.{HasItem};
+ghost use Rattle.nef_ties.specs.Ties.{cell_of, IsNamedFrom, IsLinkedFrom, IsTieAcross, Any, Adds};
 
 use crate::OutOfMemory;
-use nef_classes::{Spot, Tie};
-use nef_complex::{Complex, Corner, plane_normal, same_dir};
-use nef_geo::{Dir, Plane, Point, Sign, plane_dir, side};
-use nef_locate::{corner_toward, passes};
+use crate::carriers::plane_of;
+use nef_classes::{Cell, Tie};
+use nef_complex::{Complex, Corner};
+use nef_geo::{Dir, Plane, plane_dir};
+use nef_locate::corner_toward;
 use nef_plane::first_along_dir;
-use nef_smap::SphereMap;
 use std::alloc::Global;
-
-fn has_normal(h: &Plane, normal: &Dir) -> bool
-    ensures normal { IsTrue result ↔ SameDirection (normal_of (form_of h.now)) (vector_of normal.now) }
-{
-    same_dir(&plane_normal(h), normal)
-}
-
-fn holds(h: &Plane, p: &Point) -> bool
-    ensures holds { IsTrue result ↔ (form_at (form_of h.now) (place_of p.now) ≡ pos 0) }
-{
-    side(h, p) == Sign::Zero
-}
-
-// Whether the plane holds the point and has the normal.
-fn is_plane_with(h: &Plane, p: &Point, normal: &Dir) -> bool
-    ensures plane { IsTrue result ↔ IsPlaneWith (place_of p.now) (vector_of normal.now) h.now }
-{
-    holds(h, p) && has_normal(h, normal)
-}
-
-// The first of the planes that holds the point and has the normal.
-fn plane_with(planes: &[Plane], p: &Point, normal: &Dir) -> Option<Plane>
-    ensures plane { MatchOption result (NoneIsPlaneWith (place_of p.now) (vector_of normal.now) planes.now) (IsPlaneWith (place_of p.now) (vector_of normal.now)) }
-{
-    for h in planes {
-        if is_plane_with(h, p, normal) {
-            return Some(*h);
-        }
-    }
-    None
-}
-
-// The normal of the item with this number.
-fn normal_at(map: &SphereMap, item: usize) -> Option<Dir>
-    ensures normal { MatchOption result (HasNoItem (map_of map.now) item) (λ n. HasNormal (map_of map.now) item (vector_of n)) }
-{
-    if item < map.arcs.len() {
-        return Some(map.arcs.at(item).normal);
-    }
-    if item > map.arcs.len() {
-        return None;
-    }
-    match &map.sloop {
-        Some(circle) => Some(circle.normal),
-        None => None,
-    }
-}
-
-// Whether the direction, which lies in the plane of the item with this number, lies on it. A sloop holds each of them.
-fn lies_on(map: &SphereMap, item: usize, d: &Dir) -> bool
-    requires map { IsSphereMap map.now }
-    requires level { AreLevel (map_of map.now) item (vector_of d.now) }
-    ensures on { IsTrue result ↔ IsOnItem (map_of map.now) item (vector_of d.now) }
-{
-    if item < map.arcs.len() {
-        return passes(map, map.arcs.at(item), d);
-    }
-    true
-}
 
 // The corner that the ray from the vertex along a direction of the plane names. No svertex of the vertex points along it.
 fn named_from(c: &Complex, h: &Plane, vertex: usize, d: &Dir) -> Option<Corner>
@@ -97,41 +38,34 @@ fn named_from(c: &Complex, h: &Plane, vertex: usize, d: &Dir) -> Option<Corner>
     corner_toward(c, h, &d.back(), met)
 }
 
-// The corner with which the item of the vertex is linked across its facet. There is none where the item doesn't hold the
-// way inward.
-fn across(c: &Complex, vertex: usize, item: usize) -> Option<Corner>
+// The corner with which the corner is linked across its facet. There is none where its item doesn't hold the way inward.
+fn across(c: &Complex, k: &Corner) -> Option<Corner>
     requires shows { (s : Set) × ShowsSet s c.now }
-    requires within { vertex < length c.now.vertices }
-    ensures linked { IsLinkedFrom (complex_of c.now) vertex item result }
+    requires corner { HasItem (complex_of c.now) (corner_of k.now) }
+    ensures linked { IsLinkedFrom (complex_of c.now) (corner_of k.now) result }
 {
-    let v = c.vertices.at(vertex);
-    let normal = normal_at(&v.map, item)?;
-    let h = plane_with(c.carriers.as_slice(), &v.point, &normal)?;
+    let h = plane_of(c, k);
     let inward = plane_dir(&h).back();
-    if !lies_on(&v.map, item, &inward) {
+    let map = &c.vertices.at(k.vertex).map;
+    if !map.item_holds(k.item, &inward) {
         return None;
     }
-    named_from(c, &h, vertex, &inward)
+    named_from(c, &h, k.vertex, &inward)
 }
 
-// Adds the tie across its facet of the vertex's item with this number, where there is one.
-fn add_item_tie(
-    ties: &mut Vec<Tie>,
-    c: &Complex,
-    vertex: usize,
-    item: usize,
-) -> Result<(), OutOfMemory>
+// Adds the tie of the corner across its facet, where there is one.
+fn add_item_tie(ties: &mut Vec<Tie>, c: &Complex, k: &Corner) -> Result<(), OutOfMemory>
     requires shows { (s : Set) × ShowsSet s c.now }
-    requires within { vertex < length c.now.vertices }
-    ensures added { OnOk result (Adds (IsTieAcross (complex_of c.now) vertex item) ties.old.items ties.new.items) }
+    requires corner { HasItem (complex_of c.now) (corner_of k.now) }
+    ensures added { OnOk result (Adds (IsTieAcross (complex_of c.now) k.now.vertex k.now.item) ties.old.items ties.new.items) }
 {
-    if let Some(there) = across(c, vertex, item) {
+    if let Some(there) = across(c, k) {
         ties.push(Tie {
-            first: Spot {
-                row: vertex,
-                column: item,
+            first: Cell {
+                row: k.vertex,
+                column: k.item,
             },
-            second: Spot {
+            second: Cell {
                 row: there.vertex,
                 column: there.item,
             },
@@ -146,12 +80,9 @@ fn add_vertex_ties(ties: &mut Vec<Tie>, c: &Complex, vertex: usize) -> Result<()
     requires within { vertex < length c.now.vertices }
     ensures added { OnOk result (Adds (Any (IsTieAcross (complex_of c.now) vertex)) ties.old.items ties.new.items) }
 {
-    let count = c.vertices.at(vertex).map.arcs.len();
-    for item in 0..count {
-        add_item_tie(ties, c, vertex, item)?;
+    for item in 0..c.vertices.at(vertex).map.item_count() {
+        add_item_tie(ties, c, &Corner { vertex, item })?;
     }
-    // the sloop stands after the arcs
-    add_item_tie(ties, c, vertex, count)?;
     Ok(())
 }
 
@@ -161,7 +92,7 @@ fn add_vertex_ties(ties: &mut Vec<Tie>, c: &Complex, vertex: usize) -> Result<()
 pub fn across_ties(alloc: Global, c: &Complex) -> Result<Vec<Tie>, OutOfMemory>
     requires shows { (s : Set) × ShowsSet s c.now }
     ensures within { IfOk result (λ v. AreTiedWithin (map count_items (complex_of c.now).vertices) v.items) }
-    ensures across { IfOk result (λ v. (j k : PlainCorner) → AreTied v.items (spot_of j) (spot_of k) ↔ LinkAcross (complex_of c.now) j k) }
+    ensures across { IfOk result (λ v. (j k : PlainCorner) → AreTied v.items (cell_of j) (cell_of k) ↔ LinkAcross (complex_of c.now) j k) }
 {
     let mut ties = Vec::new(alloc);
     for vertex in 0..c.vertices.len() {

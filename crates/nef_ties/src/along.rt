@@ -8,11 +8,11 @@ ghost use Rattle.nef_complex.specs.Complexes.{complex_of, edge_of, ShowsSet};
 ghost use Rattle.law_links.specs.Links.{LinkAlong};
 ghost use Rattle.nef_parts.specs.Numbers.{count_items};
 ghost use Rattle.nef_classes.specs.Tables.{AreTiedWithin, AreTied};
-ghost use Rattle.nef_ties.specs.Ties.{spot_of, BeginAndEnd, AreArcsAlong, IsTieFromArc, IsTieOfEdge, Any, Adds};
+ghost use Rattle.nef_ties.specs.Ties.{cell_of, BeginAndEnd, AreArcsAlong, IsTieFromArc, IsTieOfEdge, Any, Adds};
 
 use crate::OutOfMemory;
-use nef_classes::{Spot, Tie};
-use nef_complex::{Complex, Edge, same_dir};
+use nef_classes::{Cell, Tie};
+use nef_complex::{Complex, Edge};
 use nef_smap::{SArc, SphereMap};
 use std::alloc::Global;
 
@@ -29,7 +29,7 @@ fn begin_and_end(edge: &Edge, low: &SArc, high: &SArc) -> bool
 fn go_along(edge: &Edge, low: &SArc, high: &SArc) -> bool
     ensures along { IsTrue result ↔ AreArcsAlong (edge_of edge.now) (arc_of low.now) (arc_of high.now) }
 {
-    same_dir(&low.normal, &high.normal) && begin_and_end(edge, low, high)
+    low.normal.is_same(&high.normal) && begin_and_end(edge, low, high)
 }
 
 // Adds the ties of an arc of the edge's lower end, which has this number.
@@ -45,11 +45,11 @@ fn add_arc_ties(
     for (number, arc) in high.arcs.as_slice().iter().enumerate() {
         if go_along(edge, low, arc) {
             ties.push(Tie {
-                first: Spot {
+                first: Cell {
                     row: edge.low,
                     column: item,
                 },
-                second: Spot {
+                second: Cell {
                     row: edge.high,
                     column: number,
                 },
@@ -80,7 +80,7 @@ fn add_edge_ties(
 pub fn along_ties(alloc: Global, c: &Complex) -> Result<Vec<Tie>, OutOfMemory>
     requires shows { (s : Set) × ShowsSet s c.now }
     ensures within { IfOk result (λ v. AreTiedWithin (map count_items (complex_of c.now).vertices) v.items) }
-    ensures along { IfOk result (λ v. (j k : Corner) → AreTied v.items (spot_of j) (spot_of k) ↔ LinkAlong (complex_of c.now) j k) }
+    ensures along { IfOk result (λ v. (j k : Corner) → AreTied v.items (cell_of j) (cell_of k) ↔ LinkAlong (complex_of c.now) j k) }
 {
     let mut ties = Vec::new(alloc);
     for edge in c.edges.as_slice() {

@@ -13,7 +13,7 @@ use Rattle.law_complex.specs.Rays.{VertexSide, RayDown}
 use Rattle.nef_classes.specs.Tables.{AreTied}
 use Rattle.nef_classes.specs.declared.table.Tie.{Tie}
 use Rattle.law_links.specs.Links.{LinkAlong, LinkAcross, IsSideOf, LinkInSface, AreSidesAlong, above_arcs, below_arcs, around_ends, LinkAcrossFacet, LinkDown, LinkOutside, VolumeLink}
-use Rattle.nef_ties.specs.Ties.{spot_of}
+use Rattle.nef_ties.specs.Ties.{cell_of}
 use Rattle.nef_volumes.specs.Ties.{outside_spot, AreLinks, AreTiedSides, AreTiesOf, AreTiedOutside, AreTiesDown, LinkOfItems, LinkOfEnds, LinkOfFacets, AreTiedCorners, AreItemTies}
 use Rattle.nef_volumes.proofs.SideSpots.{tie-chain, more-tied, more-sides, both-links, links-as, one-spot}
 use Rattle.nef_volumes.proofs.BelowTies.{linked, one-below}
@@ -167,15 +167,15 @@ all-outside C outside sface items ends down f x h =
     (r.0, r.1, more-tied outside (outside ++ sface ++ items ++ ends ++ down) (λ t c. Contains-append_left (outside ++ sface ++ items ++ ends) down t (Contains-append_left (outside ++ sface ++ items) ends t (Contains-append_left (outside ++ sface) items t (Contains-append_left outside sface t c)))) outside_spot r.0 r.2)
 
 -- the ties of items that are linked along edges, and of those that are linked across facets
-pub items-linked : (C : Complex) (along across ts us : List Tie) → ((j k : Corner) → AreTied along (spot_of j) (spot_of k) ↔ LinkAlong C j k) → ((j k : Corner) → AreTied across (spot_of j) (spot_of k) ↔ LinkAcross C j k)
+pub items-linked : (C : Complex) (along across ts us : List Tie) → ((j k : Corner) → AreTied along (cell_of j) (cell_of k) ↔ LinkAlong C j k) → ((j k : Corner) → AreTied across (cell_of j) (cell_of k) ↔ LinkAcross C j k)
     → AreTiesOf C (LinkOfItems C (AreTiedCorners along)) ts → AreTiesOf C (LinkOfItems C (AreTiedCorners across)) us → AreItemTies C (ts ++ us)
 items-linked C along across ts us f g A B =
     items-tied_both C (AreTiedCorners along) (AreTiedCorners across) (LinkOfFacets C) ts us back forth A B
   where
-    back : (j k : Corner) → LinkAlong C j k ⊎ LinkAcross C j k → AreTied along (spot_of j) (spot_of k) ⊎ AreTied across (spot_of j) (spot_of k)
+    back : (j k : Corner) → LinkAlong C j k ⊎ LinkAcross C j k → AreTied along (cell_of j) (cell_of k) ⊎ AreTied across (cell_of j) (cell_of k)
     back j k (inl l) = inl ((f j k).1 l)
     back j k (inr l) = inr ((g j k).1 l)
 
-    forth : (j k : Corner) → AreTied along (spot_of j) (spot_of k) ⊎ AreTied across (spot_of j) (spot_of k) → LinkAlong C j k ⊎ LinkAcross C j k
+    forth : (j k : Corner) → AreTied along (cell_of j) (cell_of k) ⊎ AreTied across (cell_of j) (cell_of k) → LinkAlong C j k ⊎ LinkAcross C j k
     forth j k (inl l) = inl ((f j k).0 l)
     forth j k (inr l) = inr ((g j k).0 l)

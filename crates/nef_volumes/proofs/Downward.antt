@@ -31,7 +31,7 @@ use Rattle.law_complex.specs.Rays.{VertexSide, HasSideLabel, IsAbove, RayDown}
 use Rattle.nef_complex.specs.Complexes.{vertex_of, complex_of, ShowsSet}
 use Rattle.nef_complex.specs.declared.complex.Complex.{Complex}
 use Rattle.nef_complex.specs.declared.complex.Vertex.{Vertex as ProgramVertex}
-use Rattle.nef_classes.specs.declared.table.Spot.{Spot}
+use Rattle.nef_classes.specs.declared.table.Cell.{Cell}
 use Rattle.law_links.specs.Links.{LinkDown}
 use Rattle.law_links.proofs.EdgeEnds.{dot-opposite}
 use Rattle.nef_locate.specs.declared.place.Place.{Place as ComplexPlace}
@@ -94,7 +94,7 @@ module _ (s : Set) (c : Complex) (S : ShowsSet s c) (i : ℕ) (u : ProgramVertex
     pub above-within : (j k : ℕ) → IsSideAbove (complex_of c) floor (position.InVolume j k) → j < length c.vertices
     above-within j k (m, n, o, l, is, (v, a, g), f) = let w = vertex-within c m v a in let q : j ≡ m = cc in omega (arith, w, q)
 
-    pub spot-above : (j k : ℕ) → IsSideAbove (complex_of c) floor (position.InVolume j k) → (a : Spot) → a ≡ side_spot j k → IsSpotBelow (complex_of c) i a
+    pub spot-above : (j k : ℕ) → IsSideAbove (complex_of c) floor (position.InVolume j k) → (a : Cell) → a ≡ side_spot j k → IsSpotBelow (complex_of c) i a
     spot-above j k (m, n, o, l, is, (v, b, g), f) a h =
         let x : VertexSide = record { vertex = m; side = o } in
         let p : j ≡ m = cc in
@@ -127,7 +127,7 @@ module _ (s : Set) (c : Complex) (S : ShowsSet s c) (i : ℕ) (u : ProgramVertex
     pub nothing-below : ((x : VertexSide) → IsBelow (complex_of c) i x → ⊥) → (x y : VertexSide) → x.vertex ≡ i → LinkDown (complex_of c) x y → ⊥
     nothing-below apart x y f L = apart y (L.vertex, subst (λ (n : ℕ). At (complex_of c).vertices n L.vertex) f L.is_vertex, L.down)
 
-    pub tie-down : ((o : Side) × IsSide (map_of u.map) j o Out → ⊥) → (a b : Spot) → a ≡ side_spot i j → IsSpotBelow (complex_of c) i b → IsTieDown (complex_of c) i (record { first = a; second = b })
+    pub tie-down : ((o : Side) × IsSide (map_of u.map) j o Out → ⊥) → (a b : Cell) → a ≡ side_spot i j → IsSpotBelow (complex_of c) i b → IsTieDown (complex_of c) i (record { first = a; second = b })
     tie-down not a b f (y, Y, (v, h, R)) =
         let (o, l, g, w) = seen in
         let x : VertexSide = record { vertex = i; side = o } in

@@ -10,19 +10,19 @@ use Rattle.nef_smap.proofs.Lists.{at-map}
 use Rattle.nef_smap.proofs.SideLists.{at-from_get, at-some}
 use Rattle.law_complex.specs.Complexes.{Vertex, Edge, Complex, Corner}
 use Rattle.law_complex.specs.Rays.{VertexSide, HasSideLabel}
-use Rattle.nef_classes.specs.Tables.{IsSpotIn, AreTied, AreTiedWithin}
-use Rattle.nef_classes.specs.declared.table.Spot.{Spot}
+use Rattle.nef_classes.specs.Tables.{IsCellIn, AreTied, AreTiedWithin}
+use Rattle.nef_classes.specs.declared.table.Cell.{Cell}
 use Rattle.nef_classes.specs.declared.table.Tie.{Tie}
 use Rattle.law_links.specs.Links.{IsSideOf}
 use Rattle.nef_parts.specs.Numbers.{count_items}
-use Rattle.nef_ties.specs.Ties.{spot_of, corner_at, Adds, Any}
+use Rattle.nef_ties.specs.Ties.{cell_of, corner_at, Adds, Any}
 use Rattle.nef_ties.proofs.Adding.{adds-both}
 use Rattle.nef_volumes.specs.Ties.{side_spot, IsSpotOf, IsEndOf, AreTiedSides, AreTiesOf, side_at, IsItemSide, IsSideTie, IsTieOfItems, LinkOfItems, LinkOfEnds, IsAroundSpot, IsTieOfEnds}
 use Rattle.nef_volumes.proofs.SideSpots.{tie-chain, spot-is}
 use Rattle.nef_volumes.proofs.OutsideTies.{only-added}
 
 -- there is an item at each element of the table of items
-pub item-there : (C : Complex) (a : Spot) → IsSpotIn (map count_items C.vertices) a → (v : Vertex) × (x : Item) × At C.vertices a.row v × At (items v.map) a.column x
+pub item-there : (C : Complex) (a : Cell) → IsCellIn (map count_items C.vertices) a → (v : Vertex) × (x : Item) × At C.vertices a.row v × At (items v.map) a.column x
 item-there C a w =
     let r = at-map count_items C.vertices a.row w.count (at-from_get (map count_items C.vertices) a.row w.count w.is_row) in
     let n = r.2 in let l = w.within in
@@ -33,10 +33,10 @@ has-side : (v : Vertex) (k : ℕ) (x : Item) (b : Bool) → At (items v.map) k x
 has-side v k x true i = (x, i, refl)
 has-side v k x false i = (x, i, refl)
 
-one-tie : (a b c d : Spot) → a ≡ c → b ≡ d → ◌≡◌ {A = Tie} (record { first = a; second = b }) (record { first = c; second = d })
+one-tie : (a b c d : Cell) → a ≡ c → b ≡ d → ◌≡◌ {A = Tie} (record { first = a; second = b }) (record { first = c; second = d })
 one-tie a b c d e f = cc
 
-item_side-one : (C : Complex) (b : Bool) (i a c : Spot) → IsItemSide C b i a → IsItemSide C b i c → a ≡ c
+item_side-one : (C : Complex) (b : Bool) (i a c : Cell) → IsItemSide C b i a → IsItemSide C b i c → a ≡ c
 item_side-one C b i a c (v, f, e) (w, g, h) = e ∙ ap (λ (u : Vertex). side_spot i.row (number_of u.map (side_at b i.column))) (at-one C.vertices i.row v w f g) ∙ sym h
 
 pub side_tie-one : (C : Complex) (b : Bool) (t u w : Tie) → IsSideTie C b t u → IsSideTie C b t w → u ≡ w
@@ -54,13 +54,13 @@ both-added C items k t xs ys zs a b i f g h j = adds-both (λ u. IsSideTie C tru
 
 module _ (C : Complex) (items : List Tie) (W : AreTiedWithin (map count_items C.vertices) items) (ts : List Tie) (A : Adds (Any (IsTieOfItems C items)) [] ts) where
   abbrev Link : Corner → Corner → Type 0
-  Link j k = AreTied items (spot_of j) (spot_of k)
+  Link j k = AreTied items (cell_of j) (cell_of k)
 
-  abbrev side_of : Bool → Spot → VertexSide
+  abbrev side_of : Bool → Cell → VertexSide
   side_of b a = record { vertex = a.row; side = side_at b a.column }
 
   -- the side of the item at an element
-  module _ (b : Bool) (i a : Spot) (w : IsSpotIn (map count_items C.vertices) i) (s : IsItemSide C b i a) where
+  module _ (b : Bool) (i a : Cell) (w : IsCellIn (map count_items C.vertices) i) (s : IsItemSide C b i a) where
     side-there : (l : Label) × HasSideLabel C (side_of b i) l
     side-there = let r = item-there C i w in (cond b (item_above r.1) (item_below r.1), (r.0, r.2, has-side r.0 i.column r.1 b r.3))
 
@@ -99,11 +99,11 @@ module _ (C : Complex) (items : List Tie) (W : AreTiedWithin (map count_items C.
       ))
 
   -- the element of a side of an item
-  spot-there : (b : Bool) (i : Spot) (j : Corner) (x : VertexSide) → i ≡ spot_of j → IsSideOf C x j.vertex (side_at b j.item) → (a : Spot) × IsSpotOf C x a × IsItemSide C b i a
+  spot-there : (b : Bool) (i : Cell) (j : Corner) (x : VertexSide) → i ≡ cell_of j → IsSideOf C x j.vertex (side_at b j.item) → (a : Cell) × IsSpotOf C x a × IsItemSide C b i a
   spot-there b i j x e (l, f, g, (v, a, h)) =
       let s = side_spot x.vertex (number_of v.map x.side) in
       let p : s ≡ side_spot j.vertex (number_of v.map (side_at b j.item)) = ap (λ (n : ℕ). side_spot n (number_of v.map x.side)) f ∙ ap (λ (o : Side). side_spot j.vertex (number_of v.map o)) g in
-      (s, spot-is C x v l a h, subst (λ (r : Spot). IsItemSide C b r s) (sym e) (v, subst (λ (n : ℕ). At C.vertices n v) f a, p))
+      (s, spot-is C x v l a h, subst (λ (r : Cell). IsItemSide C b r s) (sym e) (v, subst (λ (n : ℕ). At C.vertices n v) f a, p))
 
   tied : (b : Bool) (x y : VertexSide) (j k : Corner) → Link j k → ((t u : Tie) → IsSideTie C b t u → IsSideTie C true t u ⊎ IsSideTie C false t u) → IsSideOf C x j.vertex (side_at b j.item) → IsSideOf C y k.vertex (side_at b k.item) → AreTiedSides C ts x y
   tied b x y j k L either f g =
@@ -123,7 +123,7 @@ module _ (C : Complex) (items : List Tie) (W : AreTiedWithin (map count_items C.
   items-tied = record { only = only; all = all }
 
 -- ---- the sides round the ends of edges
-around-one : (C : Complex) (i k : ℕ) (a b : Spot) → IsAroundSpot C i k a → IsAroundSpot C i k b → a ≡ b
+around-one : (C : Complex) (i k : ℕ) (a b : Cell) → IsAroundSpot C i k a → IsAroundSpot C i k b → a ≡ b
 around-one C i k a b (v, u, l, f, g, h, e) (w, x, m, p, q, r, s) = e ∙ ap (λ (z : Vertex). side_spot i (number_of z.map (around_svertex k))) (at-one C.vertices i v w f p) ∙ sym s
 
 pub ends-one : (C : Complex) (k : ℕ) (t u : Tie) → IsTieOfEnds C k t → IsTieOfEnds C k u → t ≡ u
@@ -137,7 +137,7 @@ module _ (C : Complex) (ts : List Tie) (A : Adds (Any (IsTieOfEnds C)) [] ts) wh
   abbrev around_of : ℕ → ℕ → VertexSide
   around_of i k = record { vertex = i; side = around_svertex k }
 
-  end-round : (i k : ℕ) (a : Spot) → IsAroundSpot C i k a → IsSpotOf C (around_of i k) a × IsSideOf C (around_of i k) i (around_svertex k)
+  end-round : (i k : ℕ) (a : Cell) → IsAroundSpot C i k a → IsSpotOf C (around_of i k) a × IsSideOf C (around_of i k) i (around_svertex k)
   end-round i k a (v, u, l, f, g, h, e) = (subst (IsSpotOf C (around_of i k)) (sym e) (spot-is C (around_of i k) v l f (u, g, h)), (l, refl, refl, (v, f, (u, g, h))))
 
   ends-only : (t : Tie) → Contains ts t → (x : VertexSide) × (y : VertexSide) × IsEndOf C x t.first × IsEndOf C y t.second × LinkOfEnds C x y
@@ -147,7 +147,7 @@ module _ (C : Complex) (ts : List Tie) (A : Adds (Any (IsTieOfEnds C)) [] ts) wh
       let q = end-round e.high e.high_svertex t.second g in
       (around_of e.low e.low_svertex, around_of e.high e.high_svertex, inl p.0, inl q.0, (k, e, a, p.1, q.1))
 
-  round-there : (i k : ℕ) (x : VertexSide) → IsSideOf C x i (around_svertex k) → (a : Spot) × IsSpotOf C x a × IsAroundSpot C i k a
+  round-there : (i k : ℕ) (x : VertexSide) → IsSideOf C x i (around_svertex k) → (a : Cell) × IsSpotOf C x a × IsAroundSpot C i k a
   round-there i k x (l, f, g, (v, a, h)) =
       let s = side_spot x.vertex (number_of v.map x.side) in
       let u = subst (λ (o : Side). HasSide v.map o l) g h in

@@ -19,7 +19,7 @@ use Rattle.nef_ties.proofs.Adding.{adds-one, adds-none}
 use Rattle.nef_volumes.proofs.ReadVertex.{vertex-there, vertex-read}
 use Rattle.law_complex.specs.Rays.{VertexSide, HasSideLabel}
 use Rattle.nef_classes.specs.Tables.{AreTied}
-use Rattle.nef_classes.specs.declared.table.Spot.{Spot}
+use Rattle.nef_classes.specs.declared.table.Cell.{Cell}
 use Rattle.nef_classes.specs.declared.table.Tie.{Tie}
 use Rattle.law_links.specs.Links.{LinkOutside}
 use Rattle.nef_ties.specs.Ties.{Adds, Any}
@@ -43,7 +43,7 @@ module _ (C : Complex) (ts : List Tie) (A : Adds (Any (λ i. Any (IsTieOutside C
       let spot = spot-numbered C i s v o Out a h (number-one v.map s o Out n.3) in
       (y, y, inr (ap (λ (u : Tie). u.first) p.1.1.1, out), inl (subst (IsSpotOf C y) (sym (ap (λ (u : Tie). u.second) p.1.1.1)) spot), (out, out))
 
-  from-outside : (x : VertexSide) (h : HasSideLabel C x Out) → (a : Spot) × IsSpotOf C x a × Chained (AreTied ts) outside_spot a
+  from-outside : (x : VertexSide) (h : HasSideLabel C x Out) → (a : Cell) × IsSpotOf C x a × Chained (AreTied ts) outside_spot a
   from-outside x (v, a, h) =
       let s = number_of v.map x.side in
       let b = side_spot x.vertex s in
@@ -66,7 +66,7 @@ module _ (C : Complex) (ts : List Tie) (A : Adds (Any (λ i. Any (IsTieOutside C
 
 -- ---- the loop over the sides of a vertex
 module _ (c : ProgramComplex) (i s : ℕ) (u : ProgramVertex) (e : slice_get c.vertices i ≡ Some u) (ts : List Tie) where
-  pub outside-added : (o : Side) × IsSide (map_of u.map) s o Out → (a b : Spot) → a ≡ outside_spot → b ≡ side_spot i s → Adds (IsTieOutside (complex_of c) i s) ts (ts ++ record { first = a; second = b } ∷ [])
+  pub outside-added : (o : Side) × IsSide (map_of u.map) s o Out → (a b : Cell) → a ≡ outside_spot → b ≡ side_spot i s → Adds (IsTieOutside (complex_of c) i s) ts (ts ++ record { first = a; second = b } ∷ [])
   outside-added (o, g) a b f h =
       let t : Tie = record { first = a; second = b } in
       let is : t ≡ record { first = outside_spot; second = side_spot i s } = cc in

@@ -15,8 +15,8 @@ use Rattle.nef_smap.proofs.ClassLists.{is-at_within, is-at_some}
 use Rattle.law_complex.specs.Complexes.{Complex}
 use Rattle.law_complex.specs.Shows.{Shows}
 use Rattle.law_complex.specs.Rays.{VertexSide, HasSideLabel}
-use Rattle.nef_classes.specs.Tables.{AreTied, IsSpotBelow, HasCounts, IsSpotNumber, AreNumbers}
-use Rattle.nef_classes.specs.declared.table.Spot.{Spot}
+use Rattle.nef_classes.specs.Tables.{AreTied, IsCellBelow, HasCounts, IsCellNumber, AreNumbers}
+use Rattle.nef_classes.specs.declared.table.Cell.{Cell}
 use Rattle.nef_classes.specs.declared.table.Tie.{Tie}
 use Rattle.law_links.specs.Links.{VolumeLink}
 use Rattle.law_links.specs.Components.{IsUpright}
@@ -47,7 +47,7 @@ module _ (s : Set) (C : Complex) (S : Shows s C) (up : IsUpright C) (ts : List T
   later : (i k n : ℕ) → IsInTable rest i k n → IsInTable (first ∷ rest) (i + 1) k n
   later i k n h = let e : i + 1 ≡ suc i = omega arith in rw e h
 
-  spot-number : (x : VertexSide) (n : ℕ) (X : IsVolumeOf C rest x n) → IsSpotNumber (first ∷ rest) (side_spot x.vertex X.0) n
+  spot-number : (x : VertexSide) (n : ℕ) (X : IsVolumeOf C rest x n) → IsCellNumber (first ∷ rest) (side_spot x.vertex X.0) n
   spot-number x n (j, a, h) = later x.vertex j n h
 
   by_class : (x y : VertexSide) (m n : ℕ) → IsVolumeOf C rest x m → IsVolumeOf C rest y n → (m ≡ n) ↔ Chained (VolumeLink C) x y
@@ -62,28 +62,28 @@ module _ (s : Set) (C : Complex) (S : Shows s C) (up : IsUpright C) (ts : List T
   first-one : length first ≡ 1
   first-one = H.row 0 1 first refl refl
 
-  none-before : (b : Spot) → IsSpotBelow b outside_spot → ⊥
+  none-before : (b : Cell) → IsCellBelow b outside_spot → ⊥
   none-before b (inl h) = omega (arith, ints, h)
   none-before b (inr (e, inl h)) = omega (arith, ints, h)
   none-before b (inr (e, inr (f, h))) = h
 
-  outside-zero : (n : ℕ) → IsSpotNumber (first ∷ rest) outside_spot n → n ≡ 0
+  outside-zero : (n : ℕ) → IsCellNumber (first ∷ rest) outside_spot n → n ≡ 0
   outside-zero zero h = refl
   outside-zero (suc n) h = let r = N.by_appearance outside_spot 0 (suc n) h (omega arith) (omega arith) in absurd (none-before r.0 r.1)
 
-  outside-number : IsSpotNumber (first ∷ rest) outside_spot 0
+  outside-number : IsCellNumber (first ∷ rest) outside_spot 0
   outside-number =
       let r = is-at_some first 0 (let e = first-one in omega (arith, e)) in
-      subst (λ (n : ℕ). IsSpotNumber (first ∷ rest) outside_spot n) (outside-zero r.0 (first, refl, r.1)) (first, refl, r.1)
+      subst (λ (n : ℕ). IsCellNumber (first ∷ rest) outside_spot n) (outside-zero r.0 (first, refl, r.1)) (first, refl, r.1)
 
   -- a chain from the outside leads to sides outside
-  chain-outside : (us : List Spot) (x : VertexSide) (a : Spot) (l : Label) → IsSpotOf C x a → HasSideLabel C x l → IsChain (AreTied ts) outside_spot us a → l ≡ Out
+  chain-outside : (us : List Cell) (x : VertexSide) (a : Cell) (l : Label) → IsSpotOf C x a → HasSideLabel C x l → IsChain (AreTied ts) outside_spot us a → l ≡ Out
   chain-outside [] x a l f h e = absurd (not-outside C x a f (sym e))
   chain-outside (b ∷ us) x a l f h (k, c) =
       let (z, o) = end k in
       sym (chain-label s C S up z x Out l (ends-linked C ts T outside_spot a z x (b ∷ us, (k, c)) (inr (refl, o)) (inl f)) o h)
     where
-      outside-end : (z : VertexSide) (d : Spot) → d ≡ outside_spot → IsEndOf C z d → (y : VertexSide) × HasSideLabel C y Out
+      outside-end : (z : VertexSide) (d : Cell) → d ≡ outside_spot → IsEndOf C z d → (y : VertexSide) × HasSideLabel C y Out
       outside-end z d e (inl g) = absurd (not-outside C z d g e)
       outside-end z d e (inr g) = (z, g.1)
 
@@ -98,8 +98,8 @@ module _ (s : Set) (C : Complex) (S : Shows s C) (up : IsUpright C) (ts : List T
       let g = N.by_class outside_spot a 0 n outside-number (spot-number x n X) in
       (λ e. let c = g.0 (sym e) in chain-outside c.0 x a l f h c.1, λ e. sym (g.1 (tied a f (subst (HasSideLabel C x) e h))))
     where
-      tied : (a : Spot) → IsSpotOf C x a → HasSideLabel C x Out → Chained (AreTied ts) outside_spot a
-      tied a f o = let r = O x o in subst (λ (b : Spot). Chained (AreTied ts) outside_spot b) (one-spot C x r.0 a r.1 f) r.2
+      tied : (a : Cell) → IsSpotOf C x a → HasSideLabel C x Out → Chained (AreTied ts) outside_spot a
+      tied a f o = let r = O x o in subst (λ (b : Cell). Chained (AreTied ts) outside_spot b) (one-spot C x r.0 a r.1 f) r.2
 
   -- ---- by appearance
   abbrev Appears : VertexSide → ℕ → Type 0
@@ -124,13 +124,13 @@ module _ (s : Set) (C : Complex) (S : Shows s C) (up : IsUpright C) (ts : List T
       let g = is-at_some (sides_of v.0.map) k (let l = is-at_within row k m h in omega (arith, l, c)) in
       (record { vertex = i; side = g.0.0 }, refl, record { vertex = v.0; is_vertex = a; label = g.0.1; is_side = g.1 })
 
-  before : (x : VertexSide) (m : ℕ) (j : ℕ) → IsSideNumber C x j → 1 ≤ m → (i k : ℕ) → IsSpotBelow (record { row = i; column = k }) (side_spot x.vertex j) → IsInTable (first ∷ rest) i k m → Appears x m
+  before : (x : VertexSide) (m : ℕ) (j : ℕ) → IsSideNumber C x j → 1 ≤ m → (i k : ℕ) → IsCellBelow (record { row = i; column = k }) (side_spot x.vertex j) → IsInTable (first ∷ rest) i k m → Appears x m
   before x m j X l zero k b h = absurd (in-first k m l h)
   before x m j X l (suc i) k b h =
       let (y, e, Y) = side-at i k m h in
       (y, (k, j, Y, X, order y e b), (k, Y, subst (λ (n : ℕ). IsInTable rest n k m) (sym e) h))
     where
-      order : (y : VertexSide) → y.vertex ≡ i → IsSpotBelow (record { row = suc i; column = k }) (side_spot x.vertex j) → IsBelow (pos y.vertex ∷ pos k ∷ []) (pos x.vertex ∷ pos j ∷ [])
+      order : (y : VertexSide) → y.vertex ≡ i → IsCellBelow (record { row = suc i; column = k }) (side_spot x.vertex j) → IsBelow (pos y.vertex ∷ pos k ∷ []) (pos x.vertex ∷ pos j ∷ [])
       order y e (inl h) = inl (omega (arith, ints, h, e))
       order y e (inr (f, h)) = inr (ap pos (e ∙ (let g : suc i ≡ x.vertex + 1 = cc in omega (arith, g))), h)
 

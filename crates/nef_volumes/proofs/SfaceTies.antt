@@ -20,7 +20,7 @@ use Rattle.law_complex.specs.Complexes.{Vertex, Complex}
 use Rattle.law_complex.specs.Rays.{VertexSide}
 use Rattle.nef_classes.proofs.Cutting.{take-at}
 use Rattle.nef_classes.specs.Tables.{AreTied}
-use Rattle.nef_classes.specs.declared.table.Spot.{Spot}
+use Rattle.nef_classes.specs.declared.table.Cell.{Cell}
 use Rattle.nef_classes.specs.declared.table.Tie.{Tie}
 use Rattle.law_links.specs.Links.{LinkInSface}
 use Rattle.nef_ties.specs.Ties.{Adds, Any}
@@ -167,7 +167,7 @@ first-taken ns s n r f =
 
 -- ---- the ties of a side
 module _ (i s : ℕ) (ns : List ℕ) (n : ℕ) (at_s : IsAt ns s n) (ts : List Tie) where
-  pub numbered-added : (r : ℕ) → IsFirstPlace (take s ns) n r → (a b : Spot) → a ≡ side_spot i r → b ≡ side_spot i s
+  pub numbered-added : (r : ℕ) → IsFirstPlace (take s ns) n r → (a b : Cell) → a ≡ side_spot i r → b ≡ side_spot i s
       → Adds (Any (IsTieNumbered i ns s)) ts (ts ++ record { first = a; second = b } ∷ [])
   numbered-added r f a b e g =
       let t : Tie = record { first = a; second = b } in

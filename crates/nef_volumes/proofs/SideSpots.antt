@@ -15,8 +15,8 @@ use Rattle.nef_smap.proofs.ClassLists.{is-at_one, is-at_within, is-at_get, is-at
 use Rattle.nef_smap.proofs.Chains.{chain-here, chain-link, chain-map}
 use Rattle.law_complex.specs.Complexes.{Vertex, Complex}
 use Rattle.law_complex.specs.Rays.{VertexSide}
-use Rattle.nef_classes.specs.Tables.{IsSpotIn, AreTied, AreTiedWithin}
-use Rattle.nef_classes.specs.declared.table.Spot.{Spot}
+use Rattle.nef_classes.specs.Tables.{IsCellIn, AreTied, AreTiedWithin}
+use Rattle.nef_classes.specs.declared.table.Cell.{Cell}
 use Rattle.nef_classes.specs.declared.table.Tie.{Tie}
 use Rattle.law_links.specs.Links.{VolumeLink}
 use Rattle.nef_parts.specs.Numbers.{count_sides}
@@ -30,11 +30,11 @@ contains-at xs k x a = (k, is-at_within xs k x a, is-at_is xs k x x a)
 pub at-contained : {X : Type 0} (xs : List X) (x : X) → Contains xs x → (k : ℕ) × IsAt xs k x
 at-contained {X} xs x (k, l, e) = (k, subst (λ (y : X). IsAt xs k y) e (is-at_get xs k x l))
 
-pub tie-chain : (ts : List Tie) (t : Tie) (a b : Spot) → Contains ts t → t.first ≡ a → t.second ≡ b → Chained (AreTied ts) a b
+pub tie-chain : (ts : List Tie) (t : Tie) (a b : Cell) → Contains ts t → t.first ≡ a → t.second ≡ b → Chained (AreTied ts) a b
 tie-chain ts t a b c e f = let r = at-contained ts t c in chain-link (AreTied ts) a b (r.0, t, r.1, e, f)
 
-pub more-tied : (ts us : List Tie) → ((t : Tie) → Contains ts t → Contains us t) → (a b : Spot) → Chained (AreTied ts) a b → Chained (AreTied us) a b
-more-tied ts us more a b = chain-map (AreTied ts) (AreTied us) (λ (s : Spot). s) (λ x y (k, t, i, e, f). tie-chain us t x y (more t (contains-at ts k t i)) e f) a b
+pub more-tied : (ts us : List Tie) → ((t : Tie) → Contains ts t → Contains us t) → (a b : Cell) → Chained (AreTied ts) a b → Chained (AreTied us) a b
+more-tied ts us more a b = chain-map (AreTied ts) (AreTied us) (λ (s : Cell). s) (λ x y (k, t, i, e, f). tie-chain us t x y (more t (contains-at ts k t i)) e f) a b
 
 module _ (C : Complex) where
   pub more-sides : (ts us : List Tie) → ((t : Tie) → Contains ts t → Contains us t) → (x y : VertexSide) → AreTiedSides C ts x y → AreTiedSides C us x y
@@ -54,18 +54,18 @@ module _ (C : Complex) where
   pub spot-numbered : (i s : ℕ) (v : Vertex) (o : Side) (l : Label) → At C.vertices i v → HasSide v.map o l → s ≡ number_of v.map o → IsSpotOf C (record { vertex = i; side = o }) (side_spot i s)
   spot-numbered i s v o l a h e = record { vertex = v; is_vertex = a; label = l; has = h; is_spot = ap (side_spot i) e }
 
-  pub one-spot : (x : VertexSide) (a b : Spot) → IsSpotOf C x a → IsSpotOf C x b → a ≡ b
+  pub one-spot : (x : VertexSide) (a b : Cell) → IsSpotOf C x a → IsSpotOf C x b → a ≡ b
   one-spot x a b A B = A.is_spot ∙ ap (λ (v : Vertex). side_spot x.vertex (number_of v.map x.side)) (at-one C.vertices x.vertex A.vertex B.vertex A.is_vertex B.is_vertex) ∙ sym B.is_spot
 
   same-side : (i j : ℕ) (o p : Side) → i ≡ j → o ≡ p → ◌≡◌ {A = VertexSide} (record { vertex = i; side = o }) (record { vertex = j; side = p })
   same-side i j o p e f = cc
 
-  pub one-side : (x y : VertexSide) (a : Spot) → IsSpotOf C x a → IsSpotOf C y a → x ≡ y
+  pub one-side : (x y : VertexSide) (a : Cell) → IsSpotOf C x a → IsSpotOf C y a → x ≡ y
   one-side x y a A B =
       let e = sym A.is_spot ∙ B.is_spot in
-      let r : x.vertex + 1 ≡ y.vertex + 1 = ap (λ (s : Spot). s.row) e in
+      let r : x.vertex + 1 ≡ y.vertex + 1 = ap (λ (s : Cell). s.row) e in
       let i : x.vertex ≡ y.vertex = omega (arith, r) in
-      let n : number_of A.vertex.map x.side ≡ number_of B.vertex.map y.side = ap (λ (s : Spot). s.column) e in
+      let n : number_of A.vertex.map x.side ≡ number_of B.vertex.map y.side = ap (λ (s : Cell). s.column) e in
       let v = at-one C.vertices y.vertex A.vertex B.vertex (subst (λ (k : ℕ). At C.vertices k A.vertex) i A.is_vertex) B.is_vertex in
       let g = side-number A.vertex.map x.side A.label A.has in
       let h = side-number A.vertex.map y.side B.label (subst (λ (w : Vertex). HasSide w.map y.side B.label) (sym v) B.has) in
@@ -73,45 +73,45 @@ module _ (C : Complex) where
       let p = is-at_one (sides_of A.vertex.map) (number_of A.vertex.map x.side) (x.side, A.label) (y.side, B.label) g (subst (λ (k : ℕ). IsSide A.vertex.map k y.side B.label) m h) in
       same-side x.vertex y.vertex x.side y.side i (ap (λ (q : LabelledSide). q.0) p)
 
-  pub not-outside : (x : VertexSide) (a : Spot) → IsSpotOf C x a → a ≡ outside_spot → ⊥
-  not-outside x a A e = let r : x.vertex + 1 ≡ 0 = ap (λ (s : Spot). s.row) (sym A.is_spot ∙ e) in omega (arith, r)
+  pub not-outside : (x : VertexSide) (a : Cell) → IsSpotOf C x a → a ≡ outside_spot → ⊥
+  not-outside x a A e = let r : x.vertex + 1 ≡ 0 = ap (λ (s : Cell). s.row) (sym A.is_spot ∙ e) in omega (arith, r)
 
   -- ---- chains of ties are chains of links
-  end-one : (a : Spot) (x y : VertexSide) → IsEndOf C x a → IsEndOf C y a → Chained (VolumeLink C) x y
+  end-one : (a : Cell) (x y : VertexSide) → IsEndOf C x a → IsEndOf C y a → Chained (VolumeLink C) x y
   end-one a x y (inl f) (inl g) = subst (λ (z : VertexSide). Chained (VolumeLink C) x z) (one-side x y a f g) (chain-here (VolumeLink C) x)
   end-one a x y (inl f) (inr g) = absurd (not-outside x a f g.0)
   end-one a x y (inr f) (inl g) = absurd (not-outside y a g f.0)
   end-one a x y (inr f) (inr g) = chain-link (VolumeLink C) x y (inr (inr (inr (inr (f.1, g.1)))))
 
   module _ (ts : List Tie) (T : AreTiesOf C (VolumeLink C) ts) where
-    link-of : (a b : Spot) → AreTied ts a b → (x : VertexSide) × (y : VertexSide) × IsEndOf C x a × IsEndOf C y b × Chained (VolumeLink C) x y
+    link-of : (a b : Cell) → AreTied ts a b → (x : VertexSide) × (y : VertexSide) × IsEndOf C x a × IsEndOf C y b × Chained (VolumeLink C) x y
     link-of a b (k, t, i, e, f) =
         let r = T.only t (contains-at ts k t i) in
         (r.0, r.1, subst (IsEndOf C r.0) e r.2, subst (IsEndOf C r.1) f r.3, chain-link (VolumeLink C) r.0 r.1 r.4)
 
-    pub ends-linked : (a b : Spot) (x y : VertexSide) → Chained (AreTied ts) a b → IsEndOf C x a → IsEndOf C y b → Chained (VolumeLink C) x y
+    pub ends-linked : (a b : Cell) (x y : VertexSide) → Chained (AreTied ts) a b → IsEndOf C x a → IsEndOf C y b → Chained (VolumeLink C) x y
     ends-linked a b x y c f g = chains-agree (AreTied ts) (VolumeLink C) (λ s z. IsEndOf C z s) end-one link-of a b x y c f g
 
-    spot-one : (x : VertexSide) (a b : Spot) → IsSpotOf C x a → IsSpotOf C x b → Chained (AreTied ts) a b
-    spot-one x a b f g = subst (λ (s : Spot). Chained (AreTied ts) a s) (one-spot x a b f g) (chain-here (AreTied ts) a)
+    spot-one : (x : VertexSide) (a b : Cell) → IsSpotOf C x a → IsSpotOf C x b → Chained (AreTied ts) a b
+    spot-one x a b f g = subst (λ (s : Cell). Chained (AreTied ts) a s) (one-spot x a b f g) (chain-here (AreTied ts) a)
 
-    pub sides-tied : (x y : VertexSide) (a b : Spot) → Chained (VolumeLink C) x y → IsSpotOf C x a → IsSpotOf C y b → Chained (AreTied ts) a b
+    pub sides-tied : (x y : VertexSide) (a b : Cell) → Chained (VolumeLink C) x y → IsSpotOf C x a → IsSpotOf C y b → Chained (AreTied ts) a b
     sides-tied x y a b c f g = chains-agree (VolumeLink C) (AreTied ts) (IsSpotOf C) spot-one T.all x y a b c f g
 
     -- THE CHAINS OF TIES ARE THE CHAINS OF LINKS
-    pub ties-chains : (x y : VertexSide) (a b : Spot) → IsSpotOf C x a → IsSpotOf C y b → Chained (AreTied ts) a b ↔ Chained (VolumeLink C) x y
+    pub ties-chains : (x y : VertexSide) (a b : Cell) → IsSpotOf C x a → IsSpotOf C y b → Chained (AreTied ts) a b ↔ Chained (VolumeLink C) x y
     ties-chains x y a b f g = (λ c. ends-linked a b x y c (inl f) (inl g), λ c. sides-tied x y a b c f g)
 
   -- ---- ties are within the table
-  end-within : (x : VertexSide) (a : Spot) → IsEndOf C x a → IsSpotIn (row_counts C) a
+  end-within : (x : VertexSide) (a : Cell) → IsEndOf C x a → IsCellIn (row_counts C) a
   end-within x a (inl f) =
       let i = get-from_at (map count_sides C.vertices) x.vertex (count_sides f.vertex) (map-at count_sides C.vertices x.vertex f.vertex f.is_vertex) in
       let n = side-number f.vertex.map x.side f.label f.has in
-      subst (IsSpotIn (row_counts C)) (sym f.is_spot) (record { count = count_sides f.vertex; is_row = next x.vertex (count_sides f.vertex) i; within = is-at_within (sides_of f.vertex.map) (number_of f.vertex.map x.side) (x.side, f.label) n })
+      subst (IsCellIn (row_counts C)) (sym f.is_spot) (record { count = count_sides f.vertex; is_row = next x.vertex (count_sides f.vertex) i; within = is-at_within (sides_of f.vertex.map) (number_of f.vertex.map x.side) (x.side, f.label) n })
     where
       next : (k n : ℕ) → IsAt (map count_sides C.vertices) k n → IsAt (row_counts C) (k + 1) n
       next k n i = let e : k + 1 ≡ suc k = omega arith in rw e i
-  end-within x a (inr f) = subst (IsSpotIn (row_counts C)) (sym f.0) (record { count = 1; is_row = refl; within = omega arith })
+  end-within x a (inr f) = subst (IsCellIn (row_counts C)) (sym f.0) (record { count = 1; is_row = refl; within = omega arith })
 
   pub ties-within : (Link : VertexSide → VertexSide → Type 0) (ts : List Tie) → AreLinks C Link ts → AreTiedWithin (row_counts C) ts
   ties-within Link ts f k t i = let r = f t (contains-at ts k t i) in (end-within r.0 t.first r.2, end-within r.1 t.second r.3)

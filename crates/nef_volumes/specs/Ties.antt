@@ -10,8 +10,8 @@ use Rattle.nef_smap.specs.SideNumbers.{number_of}
 use Rattle.law_complex.specs.Complexes.{Vertex, Edge, Complex, Corner}
 use Rattle.law_complex.specs.Rays.{VertexSide, HasSideLabel, RayDown}
 use Rattle.nef_classes.specs.Tables.{AreTied}
-use Rattle.nef_ties.specs.Ties.{spot_of}
-use Rattle.nef_classes.specs.declared.table.Spot.{Spot}
+use Rattle.nef_ties.specs.Ties.{cell_of}
+use Rattle.nef_classes.specs.declared.table.Cell.{Cell}
 use Rattle.nef_classes.specs.declared.table.Tie.{Tie}
 use Rattle.law_links.specs.Links.{IsSideOf, LinkAlong, LinkAcross, LinkDown}
 use Rattle.nef_parts.specs.Numbers.{count_sides}
@@ -21,11 +21,11 @@ abbrev pub Finds : {X : Type 0} → Option X → (X → Type 0) → Type 0
 Finds {X} found P = MatchOption found ((x : X) → P x → ⊥) P
 
 -- the element of the outside, alone in the first row
-abbrev pub outside_spot : Spot
+abbrev pub outside_spot : Cell
 outside_spot = record { row = 0; column = 0 }
 
 -- the element of side number s of vertex i; the vertices' rows come after that of the outside
-abbrev pub side_spot : ℕ → ℕ → Spot
+abbrev pub side_spot : ℕ → ℕ → Cell
 side_spot i s = record { row = i + 1; column = s }
 
 -- how many elements the rows have
@@ -33,7 +33,7 @@ abbrev pub row_counts : Complex → List ℕ
 row_counts C = 1 ∷ map count_sides C.vertices
 
 -- the element is that of the side
-pub record IsSpotOf (C : Complex) (x : VertexSide) (a : Spot) : Type 0 where
+pub record IsSpotOf (C : Complex) (x : VertexSide) (a : Cell) : Type 0 where
   pub vertex : Vertex
   pub is_vertex : At C.vertices x.vertex vertex
   pub label : Label
@@ -41,7 +41,7 @@ pub record IsSpotOf (C : Complex) (x : VertexSide) (a : Spot) : Type 0 where
   pub is_spot : a ≡ side_spot x.vertex (number_of vertex.map x.side)
 
 -- the element is that of the side, or the side is outside and the element is that of the outside
-abbrev pub IsEndOf : Complex → VertexSide → Spot → Type 0
+abbrev pub IsEndOf : Complex → VertexSide → Cell → Type 0
 IsEndOf C x a = IsSpotOf C x a ⊎ ((a ≡ outside_spot) × HasSideLabel C x Out)
 
 -- each tie joins elements of linked sides
@@ -50,7 +50,7 @@ AreLinks C Link ts = (t : Tie) → Contains ts t → (x : VertexSide) × (y : Ve
 
 -- ties lead from the element of one side to that of the other
 abbrev pub AreTiedSides : Complex → List Tie → VertexSide → VertexSide → Type 0
-AreTiedSides C ts x y = (a : Spot) × (b : Spot) × IsSpotOf C x a × IsSpotOf C y b × Chained (AreTied ts) a b
+AreTiedSides C ts x y = (a : Cell) × (b : Cell) × IsSpotOf C x a × IsSpotOf C y b × Chained (AreTied ts) a b
 
 -- the ties join elements of linked sides, and lead to each linked side
 pub record AreTiesOf (C : Complex) (Link : VertexSide → VertexSide → Type 0) (ts : List Tie) : Type 0 where
@@ -98,7 +98,7 @@ abbrev pub side_at : Bool → ℕ → Side
 side_at above k = cond above (above_item k) (below_item k)
 
 -- the element is that of the upper or the lower side of the item
-abbrev pub IsItemSide : Complex → Bool → Spot → Spot → Type 0
+abbrev pub IsItemSide : Complex → Bool → Cell → Cell → Type 0
 IsItemSide C above x a = (v : Vertex) × At C.vertices x.row v × (a ≡ side_spot x.row (number_of v.map (side_at above x.column)))
 
 -- the tie joins the upper, or the lower, sides of the items that the other tie joins
@@ -111,7 +111,7 @@ IsTieOfItems C ts k u = (t : Tie) × IsAt ts k t × (IsSideTie C true t u ⊎ Is
 
 -- a tie of the list leads from the element of corner j to that of k
 abbrev pub AreTiedCorners : List Tie → Corner → Corner → Type 0
-AreTiedCorners ts j k = AreTied ts (spot_of j) (spot_of k)
+AreTiedCorners ts j k = AreTied ts (cell_of j) (cell_of k)
 
 -- both are upper sides of linked items, or both are lower sides
 abbrev pub LinkOfItems : Complex → (Corner → Corner → Type 0) → VertexSide → VertexSide → Type 0
@@ -129,7 +129,7 @@ abbrev pub HasSvertex : Complex → ℕ → ℕ → Type 0
 HasSvertex C i k = (v : Vertex) × (u : Svertex) × At C.vertices i v × At v.map.svertices k u
 
 -- the element is that of the side round svertex k of vertex i
-abbrev pub IsAroundSpot : Complex → ℕ → ℕ → Spot → Type 0
+abbrev pub IsAroundSpot : Complex → ℕ → ℕ → Cell → Type 0
 IsAroundSpot C i k a = (v : Vertex) × (u : Svertex) × (l : Label) × At C.vertices i v × At v.map.svertices k u × (u.around ≡ Some l)
     × (a ≡ side_spot i (number_of v.map (around_svertex k)))
 
@@ -156,7 +156,7 @@ pub record AreTiesDown (C : Complex) (ts : List Tie) : Type 0 where
   pub all : (x y : VertexSide) → LinkDown C x y → (t : Tie) × Contains ts t × IsTieDown C x.vertex t
 
 -- the element is that of a side above the point where the ray down from vertex i ends
-abbrev pub IsSpotBelow : Complex → ℕ → Spot → Type 0
+abbrev pub IsSpotBelow : Complex → ℕ → Cell → Type 0
 IsSpotBelow C i a = (x : VertexSide) × IsSpotOf C x a × IsBelow C i x
 
 -- ---- all together
@@ -169,4 +169,4 @@ AreItemTies C ts = AreTiesOf C (LinkOfItems C (LinkOfFacets C)) ts
 
 -- ties lead from the outside to each side that has the label Out
 abbrev pub AreTiedOutside : Complex → List Tie → Type 0
-AreTiedOutside C ts = (x : VertexSide) → HasSideLabel C x Out → (a : Spot) × IsSpotOf C x a × Chained (AreTied ts) outside_spot a
+AreTiedOutside C ts = (x : VertexSide) → HasSideLabel C x Out → (a : Cell) × IsSpotOf C x a × Chained (AreTied ts) outside_spot a

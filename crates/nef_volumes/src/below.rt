@@ -13,7 +13,7 @@ ghost use Rattle.nef_volumes.specs.Ties.{IsBelow, IsSpotBelow, HasNoLinkDown, Is
 use crate::OutOfMemory;
 use crate::outside::is_outside;
 use crate::spots::spot;
-use nef_classes::{Spot, Tie};
+use nef_classes::{Cell, Tie};
 use nef_complex::Complex;
 use nef_geo::up;
 use nef_locate::{Place, first_hit, side_above};
@@ -34,7 +34,7 @@ fn side_downward(map: &SphereMap) -> usize
 }
 
 // The element of the side above what the ray down from the vertex first meets.
-fn spot_below(c: &Complex, vertex: usize) -> Option<Spot>
+fn spot_below(c: &Complex, vertex: usize) -> Option<Cell>
     requires shows { (s : Set) × ShowsSet s c.now }
     requires within { vertex < length c.now.vertices }
     ensures below { MatchOption result ((x : VertexSide) → IsBelow (complex_of c.now) vertex x → ⊥) (IsSpotBelow (complex_of c.now) vertex) }

@@ -7,13 +7,13 @@ ghost use Rattle.nef_volumes.specs.Ties.{AreTiesOf, Finds, HasSvertex, IsAroundS
 
 use crate::OutOfMemory;
 use crate::spots::spot;
-use nef_classes::{Spot, Tie};
+use nef_classes::{Cell, Tie};
 use nef_complex::Complex;
 use nef_locate::arounds;
 use std::alloc::Global;
 
 // The element of the side round the svertex of the vertex.
-fn around_spot(c: &Complex, vertex: usize, svertex: usize) -> Option<Spot>
+fn around_spot(c: &Complex, vertex: usize, svertex: usize) -> Option<Cell>
     requires within { vertex < length c.now.vertices }
     requires svertex { HasSvertex (complex_of c.now) vertex svertex }
     ensures spot { Finds result (IsAroundSpot (complex_of c.now) vertex svertex) }

@@ -4,20 +4,20 @@ ghost use Rattle.std.specs.Prelude.{map, IfOk};
 ghost use Rattle.nef_space.specs.Sets.{Set};
 ghost use Rattle.nef_complex.specs.Complexes.{complex_of, ShowsSet};
 ghost use Rattle.nef_parts.specs.Numbers.{count_items};
-ghost use Rattle.nef_classes.specs.Tables.{IsSpotIn, AreTiedWithin};
+ghost use Rattle.nef_classes.specs.Tables.{IsCellIn, AreTiedWithin};
 ghost use Rattle.nef_volumes.specs.Ties.{AreTiesOf, AreTiedCorners, IsItemSide, IsSideTie, LinkOfItems};
 
 use crate::OutOfMemory;
 use crate::spots::spot;
-use nef_classes::{Spot, Tie};
+use nef_classes::{Cell, Tie};
 use nef_complex::Complex;
 use nef_locate::item_side;
 use std::alloc::Global;
 
 // The element of a side of the item: of that to which its normal points, or of the other.
-fn item_spot(c: &Complex, item: &Spot, above: bool) -> Spot
+fn item_spot(c: &Complex, item: &Cell, above: bool) -> Cell
     requires shows { (s : Set) × ShowsSet s c.now }
-    requires within { IsSpotIn (map count_items (complex_of c.now).vertices) item.now }
+    requires within { IsCellIn (map count_items (complex_of c.now).vertices) item.now }
     ensures spot { IsItemSide (complex_of c.now) above item.now result }
 {
     let map = &c.vertices.at(item.row).map;
@@ -27,8 +27,8 @@ fn item_spot(c: &Complex, item: &Spot, above: bool) -> Spot
 // The tie of the upper, or of the lower, sides of two tied items.
 fn side_tie(c: &Complex, tie: &Tie, above: bool) -> Tie
     requires shows { (s : Set) × ShowsSet s c.now }
-    requires first { IsSpotIn (map count_items (complex_of c.now).vertices) tie.now.first }
-    requires second { IsSpotIn (map count_items (complex_of c.now).vertices) tie.now.second }
+    requires first { IsCellIn (map count_items (complex_of c.now).vertices) tie.now.first }
+    requires second { IsCellIn (map count_items (complex_of c.now).vertices) tie.now.second }
     ensures tie { IsSideTie (complex_of c.now) above tie.now result }
 {
     Tie {

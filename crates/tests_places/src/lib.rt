@@ -1,6 +1,9 @@
-//! Tests of where points lie in complexes of sets other than the frame, and of what rays meet there.
+//! Tests of where points lie in complexes of sets other than the frame, of what rays meet there, of the ties and facets of the
+//! frame, and of the operations of topology on maps.
 #![tactic(auto)]
 
+#[cfg(test)]
+mod facet_parts;
 #[cfg(test)]
 mod half_spaces;
 #[cfg(test)]
@@ -15,5 +18,9 @@ mod rays;
 mod sets;
 #[cfg(test)]
 mod starts;
+#[cfg(test)]
+mod ties;
+#[cfg(test)]
+mod topology;
 #[cfg(test)]
 mod walls;

@@ -1,15 +1,9 @@
-use Rattle.std.proofs.Common.{◌≡◌, ◌∙◌, ◌↔◌, ap, sym, subst}
-use Rattle.nef_space.specs.Vectors.{Vector, IsDirection}
-use Rattle.nef_space.specs.declared.label.Label.{Label}
+use Rattle.std.proofs.Common.{◌∙◌}
 use Rattle.law_sphere.specs.Forms.{forms}
-use Rattle.law_sphere.specs.Labelling.{ByOp}
-use Rattle.law_sphere.specs.Maps.{Map, MapLabel}
-use Rattle.law_sphere.proofs.Lists.{at-one}
 use Rattle.std.specs.Prelude.{◌++◌}
 use Rattle.law_build.proofs.Chosen.{op-labels}
 use Rattle.law_build.proofs.RawFaces.{raw-shows_op}
-use Rattle.nef_smap.specs.Maps.{map_of, raw_of, IsLeastMap}
-use Rattle.nef_smap.specs.declared.map.SphereMap.{SphereMap}
+use Rattle.nef_smap.specs.Maps.{map_of, raw_of}
 use Rattle.nef_star.specs.Ops.{op_label}
 use Rattle.nef_combine.proofs.Cones.{cone-by_op}
 use Rattle.nef_combine.proofs.combine.Goals as goal

@@ -1,11 +1,11 @@
 use Rattle.std.proofs.Common.{List, map, arith, subst, ap, ◌∙◌}
 use Rattle.std.proofs.lemmas.List.{take_all}
 use Rattle.nef_space.specs.Lists.{IsAt}
-use Rattle.nef_smap.specs.declared.classes.Link.{Link}
-use Rattle.nef_smap.proofs.ClassLists.{is-at_get}
+use Rattle.nef_classes.specs.declared.link.Link.{Link}
+use Rattle.nef_classes.proofs.ClassLists.{is-at_get}
 use Rattle.nef_classes.specs.declared.table.Tie.{Tie}
 use Rattle.nef_classes.specs.Flat.{flat_tie}
-use Rattle.nef_classes.proofs.Places.{spot-within}
+use Rattle.nef_classes.proofs.Places.{cell-within}
 use Rattle.nef_classes.proofs.Numbers.{map-at}
 use Rattle.nef_classes.proofs.flat.flat_links.Goals as goal
 
@@ -19,8 +19,8 @@ returns-clause-within c = λ k l a.
     let r = map-at (flat_tie counts) c.args.ties.now k l (subst (λ (ls : List Link). IsAt ls k l) e a) in
     let t : Tie = r.0 in
     let w = c.requires.within k t (r.1) in
-    let f = spot-within counts t.first (w.0) in
-    let g = spot-within counts t.second (w.1) in
+    let f = cell-within counts t.first (w.0) in
+    let g = cell-within counts t.second (w.1) in
     let p = ap (λ (l : Link). l.first) (r.2) in
     let q = ap (λ (l : Link). l.second) (r.2) in
     (omega arith, omega arith)

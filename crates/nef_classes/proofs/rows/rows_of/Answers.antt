@@ -1,7 +1,7 @@
 use Rattle.std.proofs.Common.{◌≡◌, ◌+◌, ◌∷◌, [], ◌++◌, ℕ, List, take, drop, arith, get_or, subst, ap, sym, ◌∙◌}
 use Rattle.std.proofs.lemmas.List.{take_all}
 use Rattle.nef_space.specs.Lists.{IsAt}
-use Rattle.nef_smap.proofs.ClassLists.{take-more, is-at_get}
+use Rattle.nef_classes.proofs.ClassLists.{take-more, is-at_get}
 use Rattle.nef_classes.specs.Tables.{total, HasCounts}
 use Rattle.nef_classes.specs.Flat.{AreCut}
 use Rattle.nef_classes.proofs.Cutting.{more-cut, more-counts, total-append, total-take}

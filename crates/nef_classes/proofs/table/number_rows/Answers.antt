@@ -1,7 +1,7 @@
 use Rattle.std.proofs.Common.{◌≡◌, ℕ, List, length, map, subst, sym, ap, ◌∙◌}
 use Rattle.std.specs.Prelude.{IfOk}
-use Rattle.nef_smap.specs.declared.classes.Link.{Link}
-use Rattle.nef_smap.specs.Classes.{AreClasses, AreNumbered}
+use Rattle.nef_classes.specs.declared.link.Link.{Link}
+use Rattle.nef_classes.specs.Classes.{AreClasses, AreNumbered}
 use Rattle.nef_classes.specs.Tables.{total}
 use Rattle.nef_classes.specs.Forest.{AreRoots}
 use Rattle.nef_classes.specs.Flat.{AreCut, flat_tie}
@@ -9,8 +9,8 @@ use Rattle.nef_classes.proofs.Cutting.{starts-end}
 use Rattle.nef_classes.proofs.Numbers.{numbers-ok}
 use Rattle.nef_classes.proofs.table.number_rows.Goals as goal
 
-pub numbers_of-requires : goal.numbers_of-requires
-numbers_of-requires c = record { roots = subst AreRoots (sym c.deref-3.ensures.value) c.in_ok-roots.ensures.roots }
+pub class_numbers-requires : goal.class_numbers-requires
+class_numbers-requires c = record { roots = subst AreRoots (sym c.deref-3.ensures.value) c.in_ok-roots.ensures.roots }
 
 pub rows_of-requires : goal.rows_of-requires
 rows_of-requires c =

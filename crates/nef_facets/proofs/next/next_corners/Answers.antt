@@ -2,7 +2,7 @@ use Rattle.std.proofs.Common.{◌≡◌, ℕ, ◌<◌, List, length, get_or, ari
 use Rattle.nef_space.specs.Lists.{IsAt}
 use Rattle.nef_space.specs.declared.label.Label.TheVariants.{Out}
 use Rattle.law_sphere.specs.Maps.{At}
-use Rattle.nef_smap.proofs.ClassLists.{is-at_get}
+use Rattle.nef_classes.proofs.ClassLists.{is-at_get}
 use Rattle.nef_edges.proofs.Places.{some-at, at-map, map-at, at-within}
 use Rattle.nef_complex.specs.declared.complex.Edge.{Edge}
 use Rattle.nef_complex.specs.declared.complex.Complex.{Complex}

@@ -6,7 +6,7 @@ use Rattle.law_links.specs.Links.{FacetLink}
 use Rattle.nef_parts.specs.Numbers.{count_items}
 use Rattle.nef_classes.specs.declared.table.Tie.{Tie}
 use Rattle.nef_classes.specs.Tables.{AreTied, AreTiedWithin, HasCounts}
-use Rattle.nef_ties.specs.Ties.{spot_of}
+use Rattle.nef_ties.specs.Ties.{cell_of}
 use Rattle.nef_facets.proofs.Numbering.{numbers-ok}
 use Rattle.nef_facets.proofs.numbers.facet_numbers.Goals as goal
 
@@ -25,6 +25,6 @@ returns c =
     let counts : c.deref.result.now ≡ map count_items C.vertices = c.deref.ensures.value ∙ c.in_ok-counts.ensures.counts in
     let r = c.number_rows.result in
     record {
-      numbers = numbers-ok C c.deref-2.result.now (subst (λ (ts : List Tie). (j k : Corner) → AreTied ts (spot_of j) (spot_of k) ↔ FacetLink C j k) (sym c.deref-2.ensures.value) c.in_ok-ties.ensures.links) r
+      numbers = numbers-ok C c.deref-2.result.now (subst (λ (ts : List Tie). (j k : Corner) → AreTied ts (cell_of j) (cell_of k) ↔ FacetLink C j k) (sym c.deref-2.ensures.value) c.in_ok-ties.ensures.links) r
           (subst (λ (ns : List ℕ). IfOk r (HasCounts ns)) counts c.number_rows.ensures.counts) c.number_rows.ensures.numbers;
     }

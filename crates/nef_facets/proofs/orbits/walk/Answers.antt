@@ -1,6 +1,6 @@
 use Rattle.std.proofs.Common.{ℕ, List, get_or, set, Bool, true, false, arith, refl, sym, subst}
 use Rattle.nef_space.specs.Lists.{IsAt}
-use Rattle.nef_smap.proofs.ClassLists.{is-at_get}
+use Rattle.nef_classes.proofs.ClassLists.{is-at_get}
 use Rattle.nef_smap.proofs.Found.{read}
 use Rattle.nef_facets.proofs.Walks.{IsWalk, fewer, walk-more, walk-back}
 use Rattle.nef_facets.proofs.orbits.walk.Goals as goal

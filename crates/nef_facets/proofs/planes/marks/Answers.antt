@@ -1,6 +1,6 @@
 use Rattle.std.proofs.Common.{List, ◌+◌, get_or, sym, subst}
 use Rattle.nef_space.specs.declared.label.Label.{Label}
-use Rattle.nef_smap.proofs.ClassLists.{is-at_get}
+use Rattle.nef_classes.proofs.ClassLists.{is-at_get}
 use Rattle.nef_complex.specs.declared.complex.Corner.{Corner}
 use Rattle.nef_complex.specs.Complexes.{complex_of, corner_of}
 use Rattle.nef_facets.specs.Facets.{IsMarkAt}

@@ -1,5 +1,5 @@
 use Rattle.std.proofs.Common.{List, ◌+◌, get_or, sym, subst}
-use Rattle.nef_smap.proofs.ClassLists.{is-at_get}
+use Rattle.nef_classes.proofs.ClassLists.{is-at_get}
 use Rattle.nef_geo.specs.declared.plane.Plane.{Plane}
 use Rattle.nef_complex.specs.declared.complex.Corner.{Corner}
 use Rattle.nef_complex.specs.Complexes.{complex_of, corner_of}

@@ -1,4 +1,4 @@
-use Rattle.std.proofs.Common.{◌≡◌, ◌≤◌, ℤ, ◌*ℤ◌, nat_abs, [], ◌∷◌, ap, ◌∙◌, to_z, of_z, ◌<ℤ◌, arith, Ordering}
+use Rattle.std.proofs.Common.{◌≡◌, ◌≤◌, ℤ, ◌*ℤ◌, nat_abs, [], ◌∷◌, ap, ◌∙◌, to_z, of_z, ◌<ℤ◌, Ordering}
 use mir.Syntax.{w128}
 use Rattle.std.specs.Ordering.{MatchOrdering, int_cmp}
 use Rattle.std.proofs.lemmas.Cmp.{int_ranked}

@@ -27,8 +27,8 @@ unreachable-requires c =
     let l = source-level m c.requires.map c.args.number c.at-arc.result.now c.at-arc.ensures.element c.at.result.now c.at.ensures.element in
     along-some (vector_of c.at-arc.result.now.normal) (vector_of c.at.result.now.dir) (vector_of c.axis_along.result) c.at-arc.result.now.normal.some l c.axis_along.ensures.along (c.in_default.ensures.none.0 refl)
 
-pub side_number-requires : goal.side_number-requires
-side_number-requires c =
+pub item_side-requires : goal.item_side-requires
+item_side-requires c =
     let m = c.args.map.now in
     record { within = at-within (items (map_of m)) c.args.number (arc_item (arc_of c.at-arc.result.now)) (arc-item_listed m c.requires.map c.args.number c.at-arc.result.now c.at-arc.ensures.element) }
 
@@ -69,7 +69,7 @@ returns c =
             first = c.above.result;
             is_first = subst (λ (x : Vector). FirstNear M up x y up c.above.result) (sym w) c.above.ensures.first;
           },
-          c.side_number.ensures.side,
+          c.item_side.ensures.number,
           c.met_number.ensures.number,
         ),
       );

@@ -20,8 +20,8 @@ beside-requires c =
           (vector_of c.in_plane-at.result) c.in_plane-at.result.some c.in_plane-at.ensures.level;
     }
 
-pub side_number-requires : goal.side_number-requires
-side_number-requires c =
+pub item_side-requires : goal.item_side-requires
+item_side-requires c =
     let m = c.args.map.now in
     let h = at-within (items (map_of m)) (length m.arcs) (loop_item (loop_of c.args.circle.now)) (item-loop m.arcs m.sloop (length m.arcs) c.args.circle.now refl c.requires.circle) in
     record { within = omega (arith, c.len.ensures.len) }
@@ -44,7 +44,7 @@ returns c =
             first = c.above.result;
             is_first = c.above.ensures.first;
           },
-          c.side_number.ensures.side ∙ ap (λ (k : ℕ). number_of M (above_item k)) c.len.ensures.len,
+          c.item_side.ensures.number ∙ ap (λ (k : ℕ). number_of M (above_item k)) c.len.ensures.len,
           c.met_number.ensures.number,
         ),
       );

@@ -7,15 +7,15 @@ use Rattle.nef_smap.proofs.ArcEnds.{at-map}
 use Rattle.nef_smap.proofs.Found.{read, next-none, all-none}
 use Rattle.nef_smap.proofs.locate.arc_at.Goals as goal
 
-pub is_on_arc-requires-clause-arc : goal.is_on_arc-requires-clause-arc
-is_on_arc-requires-clause-arc c = (c.loop-number.number, at-map arc_of c.args.map.now.arcs c.loop-number.number c.arc-item.result (read c.args.map.now.arcs c.as_slice-arc-items.result.now c.loop-number.number c.arc-item.result c.as_slice-arc-items.ensures.all c.loop-number-test.true c.arc-item.is))
+pub arc_holds-requires-clause-arc : goal.arc_holds-requires-clause-arc
+arc_holds-requires-clause-arc c = (c.loop-number.number, at-map arc_of c.args.map.now.arcs c.loop-number.number c.arc-item.result (read c.args.map.now.arcs c.as_slice-arc-items.result.now c.loop-number.number c.arc-item.result c.as_slice-arc-items.ensures.all c.loop-number-test.true c.arc-item.is))
 
-pub returns-then-is_on_arc : goal.returns-then-is_on_arc
-returns-then-is_on_arc c = record { arc = (arc_of c.arc-item.result, at-map arc_of c.args.map.now.arcs c.loop-number.number c.arc-item.result (read c.args.map.now.arcs c.as_slice-arc-items.result.now c.loop-number.number c.arc-item.result c.as_slice-arc-items.ensures.all c.loop-number-test.true c.arc-item.is), c.is_on_arc.ensures.on.0 c.if-is_on_arc.true) }
+pub returns-then-arc_holds : goal.returns-then-arc_holds
+returns-then-arc_holds c = record { arc = (arc_of c.arc-item.result, at-map arc_of c.args.map.now.arcs c.loop-number.number c.arc-item.result (read c.args.map.now.arcs c.as_slice-arc-items.result.now c.loop-number.number c.arc-item.result c.as_slice-arc-items.ensures.all c.loop-number-test.true c.arc-item.is), c.arc_holds.ensures.on.0 c.if-arc_holds.true) }
 
 pub loop-number-preserved : goal.loop-number-preserved
 loop-number-preserved c = next-none arc_of c.args.map.now.arcs (λ (a : Arc). OnItem (map_of c.args.map.now) (arc_item a) (vector_of c.args.d.now)) c.loop-number.number c.arc-item.result (read c.args.map.now.arcs c.as_slice-arc-items.result.now c.loop-number.number c.arc-item.result c.as_slice-arc-items.ensures.all c.loop-number-test.true c.arc-item.is) c.loop-number.invariant
-    (λ o. not_true (sym c.if-is_on_arc.false ∙ c.is_on_arc.ensures.on.1 o))
+    (λ o. not_true (sym c.if-arc_holds.false ∙ c.arc_holds.ensures.on.1 o))
 
 pub returns : goal.returns
 returns c = record {

@@ -5,21 +5,21 @@ use Rattle.law_sphere.specs.Maps.{Svertex}
 use Rattle.nef_space.specs.Vectors.{SameDirection}
 use Rattle.nef_smap.specs.Maps.{svertex_of}
 use Rattle.nef_smap.proofs.ArcEnds.{at-map}
-use Rattle.nef_smap.proofs.Found.{read, dir-same, next-none, all-none}
+use Rattle.nef_smap.proofs.Found.{read, next-none, all-none}
 use Rattle.nef_smap.proofs.locate.svertex_at.Goals as goal
 
-pub returns-then-same_dir : goal.returns-then-same_dir
-returns-then-same_dir c = record {
+pub returns-then-is_same : goal.returns-then-is_same
+returns-then-is_same c = record {
   svertex = (
     svertex_of c.svertex-item.result,
     at-map svertex_of c.args.map.now.svertices c.loop-number.number c.svertex-item.result (read c.args.map.now.svertices c.as_slice-svertex-items.result.now c.loop-number.number c.svertex-item.result c.as_slice-svertex-items.ensures.all c.loop-number-test.true c.svertex-item.is),
-    (dir-same c.svertex-item.result.dir c.args.d.now).0 (c.same_dir.ensures.same.0 c.if-same_dir.true),
+    c.is_same.ensures.direction.0 c.if-is_same.true,
   );
 }
 
 pub loop-number-preserved : goal.loop-number-preserved
 loop-number-preserved c = next-none svertex_of c.args.map.now.svertices (λ (v : Svertex). SameDirection v.way (vector_of c.args.d.now)) c.loop-number.number c.svertex-item.result (read c.args.map.now.svertices c.as_slice-svertex-items.result.now c.loop-number.number c.svertex-item.result c.as_slice-svertex-items.ensures.all c.loop-number-test.true c.svertex-item.is) c.loop-number.invariant
-    (λ s. not_true (sym c.if-same_dir.false ∙ c.same_dir.ensures.same.1 ((dir-same c.svertex-item.result.dir c.args.d.now).1 s)))
+    (λ s. not_true (sym c.if-is_same.false ∙ c.is_same.ensures.direction.1 s))
 
 pub returns : goal.returns
 returns c = record {

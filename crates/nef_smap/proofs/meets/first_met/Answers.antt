@@ -2,8 +2,8 @@ use Rattle.std.proofs.Common.{◌≡◌, ℕ, arith, sym, ◌∙◌, subst, true
 use Rattle.nef_arc.proofs.SignNumbers.{not_true}
 use Rattle.nef_smap.specs.Items.{item_of}
 use Rattle.nef_smap.specs.Maps.{map_of}
-use Rattle.nef_smap.specs.Wide.{start_at, end_at}
-use Rattle.nef_smap.specs.Ways.{IsFirstMet}
+use Rattle.nef_smap.specs.WideVectors.{start_at, end_at}
+use Rattle.nef_smap.specs.Paths.{IsFirstMet}
 use Rattle.law_sphere.specs.Maps.{items}
 use Rattle.nef_smap.proofs.MapLists.{at-within}
 use Rattle.nef_smap.proofs.FirstSoFar.{so_far-begins, so_far-stays, so_far-changes}

@@ -9,8 +9,8 @@ use Rattle.law_sphere.proofs.Direct.{slid-level}
 use Rattle.nef_smap.specs.declared.item.Item.{Item}
 use Rattle.nef_smap.specs.Items.{item_of}
 use Rattle.nef_smap.specs.Maps.{map_of}
-use Rattle.nef_smap.specs.Wide.{start_at, end_at}
-use Rattle.nef_smap.specs.Ways.{meet_of, IsMet}
+use Rattle.nef_smap.specs.WideVectors.{start_at, end_at}
+use Rattle.nef_smap.specs.Paths.{meet_of, IsMet}
 use Rattle.nef_smap.proofs.MeetSigns.{parted-by}
 use Rattle.nef_smap.proofs.MeetTests.{met-direction}
 use Rattle.nef_smap.proofs.meets.is_met.Goals as goal
@@ -26,8 +26,8 @@ returns-then-not-are_opposite c = record {
   );
 }
 
-pub is_on_arc-requires-clause-arc : goal.is_on_arc-requires-clause-arc
-is_on_arc-requires-clause-arc c =
+pub is_met_on_arc-requires-clause-arc : goal.is_met_on_arc-requires-clause-arc
+is_met_on_arc-requires-clause-arc c =
     let m = map_of c.args.map.now in
     (c.requires.item.0, arc-at m.arcs m.loop c.requires.item.0 _ (subst (λ (it : Item). At (items m) c.requires.item.0 (item_of it)) c.in-Arc.is c.requires.item.1))
 
@@ -44,8 +44,8 @@ returns-in-Arc c = record {
       let P : Item → Type 0 = λ (it : Item). (dot (item_normal (item_of it)) a *ℤ dot (item_normal (item_of it)) b) <ℤ pos 0 in
       let D : Item → Type 0 = λ (it : Item). IsDirection (meet_of (item_normal (item_of it)) a b) in
       let p = subst P c.in-Arc.is parted in
-      let law = c.is_on_arc.ensures.on j k large (subst D c.in-Arc.is some) in
-      subst (λ (it : Item). IsTrue c.is_on_arc.result ↔ IsMet m a b (item_of it)) (sym c.in-Arc.is) (λ h. record { parted = p; on = law.0 h }, λ h. law.1 h.on);
+      let law = c.is_met_on_arc.ensures.on j k large (subst D c.in-Arc.is some) in
+      subst (λ (it : Item). IsTrue c.is_met_on_arc.result ↔ IsMet m a b (item_of it)) (sym c.in-Arc.is) (λ h. record { parted = p; on = law.0 h }, λ h. law.1 h.on);
 }
 
 pub returns-in-Loop : goal.returns-in-Loop

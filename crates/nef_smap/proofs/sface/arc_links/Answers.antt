@@ -1,5 +1,5 @@
 use Rattle.std.proofs.Common.{◌+◌, List, sym, subst}
-use Rattle.nef_smap.specs.declared.classes.Link.{Link}
+use Rattle.nef_classes.specs.declared.link.Link.{Link}
 use Rattle.nef_smap.specs.Maps.{map_of}
 use Rattle.nef_smap.specs.JoinLinks.{JoinsArc, AreEach}
 use Rattle.nef_smap.proofs.LinkLists.{each-more}

@@ -1,6 +1,6 @@
 use Rattle.std.proofs.Common.{◌≡◌, ◌+◌, List, arith, refl, sym, ap, ◌∙◌, subst, rules, Option, Some, None, is_some, true, false, Vec, Global}
 use Rattle.nef_space.specs.declared.label.Label.{Label}
-use Rattle.nef_smap.specs.declared.classes.Link.{Link}
+use Rattle.nef_classes.specs.declared.link.Link.{Link}
 use Rattle.nef_smap.specs.Maps.{map_of, svertex_of}
 use Rattle.nef_smap.specs.SideNumbers.{one_if}
 use Rattle.nef_smap.specs.JoinLinks.{AreArounds}

@@ -1,6 +1,6 @@
 use Rattle.std.proofs.Common.{◌≡◌, ◌-◌, List, [], ◌∷◌, ◌++◌, arith, refl, sym, ap, subst, ◌∙◌, Option, Some, None, is_some, true, rules}
 use Rattle.nef_space.specs.declared.label.Label.{Label}
-use Rattle.nef_smap.specs.declared.classes.Link.{Link}
+use Rattle.nef_classes.specs.declared.link.Link.{Link}
 use Rattle.nef_smap.specs.Maps.{map_of}
 use Rattle.nef_smap.specs.JoinLinks.{AreGrounds}
 use Rattle.nef_smap.proofs.LinkLists.{grounds-some, whole-last}

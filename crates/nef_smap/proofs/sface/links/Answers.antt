@@ -1,9 +1,9 @@
 use Rattle.std.proofs.Common.{◌≡◌, List, ◌++◌, length, sym, ap, subst, ◌∙◌}
 use Rattle.std.proofs.lemmas.List.{length-map}
 use Rattle.nef_space.specs.Vectors.{up}
-use Rattle.nef_smap.specs.declared.classes.Link.{Link}
+use Rattle.nef_classes.specs.declared.link.Link.{Link}
 use Rattle.nef_smap.specs.Maps.{map_of, svertex_of, arc_of}
-use Rattle.nef_smap.specs.Classes.{AreLinked}
+use Rattle.nef_classes.specs.Classes.{AreLinked}
 use Rattle.nef_smap.specs.Links.{AreJoins}
 use Rattle.nef_smap.proofs.LinkLists.{all-joins}
 use Rattle.nef_smap.proofs.sface.links.Goals as goal

@@ -1,5 +1,5 @@
 use Rattle.std.proofs.Common.{◌≡◌, List, [], ◌∷◌, ◌++◌, length, sym, ap, subst, ◌∙◌, None, option_map, rules}
-use Rattle.nef_smap.specs.declared.classes.Link.{Link}
+use Rattle.nef_classes.specs.declared.link.Link.{Link}
 use Rattle.nef_smap.specs.Maps.{map_of, loop_of}
 use Rattle.nef_smap.specs.JoinLinks.{AreLoops}
 use Rattle.nef_smap.proofs.LinkLists.{loops-none, loops-some}

@@ -2,10 +2,12 @@ use Rattle.std.proofs.Common.{◌≡◌, ℕ, ◌+◌, List, length, take, arith
 use Rattle.std.proofs.lemmas.Result.{IfOk-weaker}
 use Rattle.nef_space.specs.Vectors.{up}
 use Rattle.nef_geo.proofs.InPlane.{up-direction}
-use Rattle.nef_smap.specs.declared.classes.Link.{Link}
+use Rattle.nef_classes.specs.declared.link.Link.{Link}
 use Rattle.nef_smap.specs.Maps.{map_of}
 use Rattle.nef_smap.specs.Sides.{sides_of}
-use Rattle.nef_smap.specs.Classes.{AreWithin, AreClasses, AreNumbered}
+use Rattle.nef_classes.specs.Classes.{AreWithin, AreClasses, AreNumbered}
+use Rattle.nef_classes.specs.Forest.{AreRoots}
+use Rattle.nef_classes.proofs.Trees.{roots-take}
 use Rattle.nef_smap.proofs.Upward.{map-ahead, map-across}
 use Rattle.nef_smap.proofs.SfaceNumbers.{links-within, sface-numbers}
 use Rattle.nef_smap.proofs.sface.sfaces.Goals as goal
@@ -23,6 +25,11 @@ class_of_each-requires c =
       within = subst (λ (ls : List Link). AreWithin (c.sides-count.result + 1) ls) (sym c.as_slice.ensures.value)
           (subst (λ (n : ℕ). AreWithin (n + 1) c.in_ok-joins.joins.items) (sym c.sides-count.ensures.count) w);
     }
+
+pub class_numbers-requires : goal.class_numbers-requires
+class_numbers-requires c = record {
+  roots = roots-take c.sides-count.result c.deref.result.now (subst AreRoots (sym c.deref.ensures.value) c.in_ok-classes.ensures.roots);
+}
 
 pub returns : goal.returns
 returns c =

@@ -8,7 +8,7 @@ use Rattle.law_sphere.proofs.Generic.{amount}
 use Rattle.law_sphere.proofs.Lists.{at-one}
 use Rattle.nef_smap.specs.Items.{item_of}
 use Rattle.nef_smap.specs.Maps.{map_of, arc_of}
-use Rattle.nef_smap.specs.Wide.{wide_vector}
+use Rattle.nef_smap.specs.WideVectors.{wide_vector}
 use Rattle.nef_smap.proofs.ArcEnds.{at-map, source-within, source-end, normal-small}
 use Rattle.nef_smap.proofs.MapLists.{length-items, at-within}
 use Rattle.nef_smap.proofs.MeetSigns.{start-value}
@@ -32,8 +32,8 @@ first_met-first-requires-clause-some c = let e = length-items c.args.map.now.arc
 pub item_at-requires : goal.item_at-requires
 item_at-requires c = let f = c.first_met-first.ensures.first in record { within = at-within (items (map_of c.args.map.now)) c.first_met-first.result f.0 f.1 }
 
-pub item_side-requires-clause-within : goal.item_side-requires-clause-within
-item_side-requires-clause-within c = let f = c.first_met-first.ensures.first in at-within (items (map_of c.args.map.now)) c.first_met-first.result f.0 f.1
+pub item_side-requires : goal.item_side-requires
+item_side-requires c = let f = c.first_met-first.ensures.first in record { within = at-within (items (map_of c.args.map.now)) c.first_met-first.result f.0 f.1 }
 
 pub returns : goal.returns
 returns c =

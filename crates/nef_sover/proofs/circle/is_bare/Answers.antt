@@ -16,13 +16,13 @@ loop-axis-preserved c = record { off = λ k e l h z. by k e (eq-or-lt_of_le {n =
     axis : Axis
     axis = c.axis-item.result
 
-    by : (k : ℕ) (e : Axis) → (k ≡ c.loop-axis.axis-index) ⊎ (k < c.loop-axis.axis-index) → At c.args.axes.now k e → dot (vector_of c.args.normal.now) (vector_of e.dir) ≡ pos 0 → ⊥
+    by : (k : ℕ) (e : Axis) → (k ≡ c.loop-axis.axis-index) ⊎ (k < c.loop-axis.axis-index) → At c.args.axes.now k e → dot (vector_of c.args.sloop.now.normal) (vector_of e.dir) ≡ pos 0 → ⊥
     by k e (inr l) h z = c.loop-axis.invariant.off k e l h z
     by k e (inl q) h z =
         let here = read-at c.args.axes.now c.loop-axis.axis-index axis c.loop-axis-test.true c.axis-item.is in
         let same = at-one c.args.axes.now c.loop-axis.axis-index e axis (subst (λ (j : ℕ). At c.args.axes.now j e) q h) here in
-        let level = subst (λ (f : Axis). dot (vector_of c.args.normal.now) (vector_of f.dir) ≡ pos 0) same z in
-        absurd (search (rules, c.lies_level.ensures.on.1 (record { direction = axis.dir.some; level = level }), c.if-lies_level.false))
+        let level = subst (λ (f : Axis). dot (vector_of c.args.sloop.now.normal) (vector_of f.dir) ≡ pos 0) same z in
+        absurd (search (rules, c.holds.ensures.on.1 (record { direction = axis.dir.some; level = level }), c.if-holds.false))
 
 pub returns : goal.returns
 returns c = record {
@@ -32,9 +32,9 @@ returns c = record {
   );
 }
 
-pub returns-then-lies_level : goal.returns-then-lies_level
-returns-then-lies_level c =
+pub returns-then-holds : goal.returns-then-holds
+returns-then-holds c =
     let i = c.loop-axis.axis-index in let e = c.axis-item.result in
     let here = read-at c.args.axes.now i e c.loop-axis-test.true c.axis-item.is in
-    let on = c.lies_level.ensures.on.0 c.if-lies_level.true in
+    let on = c.holds.ensures.on.0 c.if-holds.true in
     record { bare = (λ t. absurd (not_true t), λ off. absurd (off e (at-contains c.args.axes.now i e here) on.level)) }

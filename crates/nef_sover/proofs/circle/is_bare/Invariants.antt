@@ -6,4 +6,4 @@ use Rattle.law_sphere.specs.Maps.{At}
 use Rattle.nef_sover.proofs.circle.is_bare.Given as goal
 
 abbrev pub invariant-loop-axis : goal.invariant-loop-axis
-invariant-loop-axis l = record { off : (k : ℕ) (e : Axis) → k < l.axis-index → At l.axes k e → dot (vector_of l.normal) (vector_of e.dir) ≡ pos 0 → ⊥ }
+invariant-loop-axis l = record { off : (k : ℕ) (e : Axis) → k < l.axis-index → At l.axes k e → dot (vector_of l.sloop.normal) (vector_of e.dir) ≡ pos 0 → ⊥ }

@@ -1,6 +1,6 @@
 use Rattle.std.proofs.Common.{sym, ◌∙◌}
 use Rattle.nef_star.proofs.Needed.{true_or_false}
-use Rattle.nef_spair.specs.Parts.{IsBareCircle}
+use Rattle.nef_spair.specs.Pieces.{IsBareCircle}
 use Rattle.nef_spair.proofs.Places.{index-at}
 use Rattle.nef_spair.proofs.Circles.{none-more, none-all}
 use Rattle.nef_spair.proofs.circle.bare_circle.Goals as goal

@@ -2,7 +2,7 @@ use Rattle.std.proofs.Common.{List, [], ◌∷◌, ◌++◌, sym, subst, ◌∙�
 use Rattle.nef_star.specs.declared.star.Star.{Star}
 use Rattle.nef_star.proofs.Needed.{true_or_false}
 use Rattle.nef_smap.specs.declared.map.SLoop.{SLoop}
-use Rattle.nef_spair.specs.Parts.{IsDropped, AreOthers, AreCircles}
+use Rattle.nef_spair.specs.Pieces.{IsDropped, AreOthers, AreCircles}
 use Rattle.nef_spair.proofs.Places.{others-keep, others-leave}
 use Rattle.nef_spair.proofs.Parting.{circles-more, circles-same, not-dropped}
 use Rattle.nef_spair.proofs.sorting.parted.Goals as goal

@@ -1,6 +1,6 @@
 use Rattle.std.proofs.Common.{◌≡◌, ◌<◌, length, arith, sym, subst, ◌∙◌}
 use Rattle.nef_star.proofs.Counted.{refilled}
-use Rattle.nef_spair.specs.Parts.{AreSimple}
+use Rattle.nef_spair.specs.Pieces.{AreSimple}
 use Rattle.nef_spair.proofs.Simple.{simple-current, simple-more, simple-all}
 use Rattle.nef_spair.proofs.sorting.simplified.Goals as goal
 

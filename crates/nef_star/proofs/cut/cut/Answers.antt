@@ -15,9 +15,9 @@ pub place_of-place-requires-clause-circle : goal.place_of-place-requires-clause-
 place_of-place-requires-clause-circle c =
     subst (IsOnCircle (vector_of c.args.star.now.axis)) (sym c.left-left.ensures.left) (left-on_circle (vector_of c.args.star.now.axis) c.args.ray.now c.requires.ray)
 
-pub returns-then-same_dir : goal.returns-then-same_dir
-returns-then-same_dir c =
-    let same = c.same_dir.ensures.same.0 c.if-same_dir.true in
+pub returns-then-is_same : goal.returns-then-is_same
+returns-then-is_same c =
+    let same = c.is_same.ensures.same.0 c.if-is_same.true in
     record {
       cut = uncut c.args.star.now c.requires.turned (left_of c.args.ray.now)
           (c.place_of-place.result, c.place_of-place.ensures.within, sym c.left_of_ray.ensures.left ∙ ap vector_of same ∙ c.left-left.ensures.left);
@@ -27,7 +27,7 @@ pub add_last-requires-clause-past : goal.add_last-requires-clause-past
 add_last-requires-clause-past c =
     let t = c.args.star.now in let k = c.place_of-place.result in let v = vector_of c.left-left.result in
     let past = only-past t v k
-    (λ s. true_or_false (sym (c.same_dir.ensures.same.1 (as-same (left_at t.rays.items k) c.left_of_ray.result c.left-left.result c.left_of_ray.ensures.left s)) ∙ c.if-same_dir.false))
+    (λ s. true_or_false (sym (c.is_same.ensures.same.1 (as-same (left_at t.rays.items k) c.left_of_ray.result c.left-left.result c.left_of_ray.ensures.left s)) ∙ c.if-is_same.false))
     c.place_of-place.ensures.under in
     let count : c.len.result ≡ length t.rays.items = omega (arith, c.len.ensures) in
     let next = subst (λ (n : ℕ). IsNext n k c.next_of-next.result) count c.next_of-next.ensures.next in

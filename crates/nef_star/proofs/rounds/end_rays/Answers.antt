@@ -1,5 +1,4 @@
-use Rattle.std.proofs.Common.{rules, ◌≡◌, ℕ, length, arith, subst}
-use Rattle.nef_star.specs.Rounds.{IsEnded}
+use Rattle.std.proofs.Common.{arith}
 use Rattle.nef_star.proofs.RoundStars.{ended-start}
 use Rattle.nef_star.proofs.rounds.end_rays.Goals as goal
 

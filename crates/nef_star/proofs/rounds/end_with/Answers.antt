@@ -1,4 +1,4 @@
-use Rattle.std.proofs.Common.{rules, ◌≡◌, ℕ, length, arith, refl, sym, ap, ◌∙◌, subst}
+use Rattle.std.proofs.Common.{rules, length, arith, refl, sym, ◌∙◌}
 use Rattle.std.proofs.lemmas.Option.{slice_get_read}
 use Rattle.nef_geo.specs.Shapes.{vector_of}
 use Rattle.nef_star.proofs.Needed.{true_or_false}
@@ -12,7 +12,7 @@ pub loop-end-preserved : goal.loop-end-preserved
 loop-end-preserved c =
     let a = slice_get_read c.args.ends.now (length c.args.ends.now) c.loop-end.end-index c.end-item.result refl (search rules) c.end-item.is in
     none-next c.args.ends.now c.loop-end.end-index (vector_of c.args.left.now) c.end-item.result a
-    (λ z. true_or_false (sym (c.same_dir.ensures.same.1 (same-dirs c.left.result c.args.left.now (c.left.ensures.left ∙ z))) ∙ c.if-same_dir.false))
+    (λ z. true_or_false (sym (c.is_same.ensures.same.1 (same-dirs c.left.result c.args.left.now (c.left.ensures.left ∙ z))) ∙ c.if-is_same.false))
     c.loop-end.invariant
 
 pub unreachable-requires : goal.unreachable-requires

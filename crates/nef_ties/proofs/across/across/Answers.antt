@@ -1,57 +1,61 @@
-use Rattle.std.proofs.Common.{List, sym, subst, ◌∙◌}
+use Rattle.std.proofs.Common.{sym, subst, ◌∙◌}
 use Rattle.nef_arc.proofs.SignNumbers.{not_true}
-use Rattle.nef_geo.specs.Shapes.{vector_of, place_of}
-use Rattle.nef_geo.specs.declared.plane.Plane.{Plane}
-use Rattle.nef_locate.proofs.FacetFound.{as-none}
-use Rattle.nef_ties.specs.Ties.{NoneIsPlaneWith}
-use Rattle.nef_ties.proofs.WayInward.{no-item, none-with, level-inward, are-level, not-on, none-along, linked-from, small-back}
+use Rattle.nef_geo.specs.Shapes.{vector_of}
+use Rattle.law_sphere.specs.Maps.{Item, items, OnItem}
+use Rattle.nef_edges.proofs.Places.{some-at}
+use Rattle.nef_smap.specs.Maps.{map_of}
+use Rattle.nef_complex.specs.Complexes.{corner_of, vertex_of}
+use Rattle.nef_ties.proofs.ItemCarriers.{vertex-within, item-within, corner-at}
+use Rattle.nef_ties.proofs.WayInward.{level-inward, not-on, none-along, linked-from, small-back}
 use Rattle.nef_ties.proofs.across.across.Goals as goal
 
-pub lies_on-requires-clause-map : goal.lies_on-requires-clause-map
-lies_on-requires-clause-map c = (c.requires.shows.1.maps c.args.vertex c.at-v.result.now c.at-v.ensures.element).sphere_map
+pub at-requires : goal.at-requires
+at-requires c = record { within = vertex-within c.args.c.now (corner_of c.args.k.now) c.requires.corner }
 
-pub lies_on-requires-clause-level : goal.lies_on-requires-clause-level
-lies_on-requires-clause-level c =
-    are-level c.requires.shows.0 c.args.c.now c.requires.shows.1 c.args.vertex c.args.item c.at-v.result.now c.at-v.ensures.element (vector_of c.in_ok-normal.normal) c.in_ok-normal.ensures.normal
-    c.in_ok-h.h c.in_ok-h.ensures.plane (vector_of c.plane_dir.result) (vector_of c.back-inward.result) c.plane_dir.ensures.dir c.plane_dir.ensures.in_plane c.back-inward.ensures.back
+pub item_holds-requires-clause-map : goal.item_holds-requires-clause-map
+item_holds-requires-clause-map c = (c.requires.shows.1.maps c.args.k.now.vertex c.at.result.now c.at.ensures.element).sphere_map
+
+pub item_holds-requires-clause-within : goal.item_holds-requires-clause-within
+item_holds-requires-clause-within c = item-within c.args.c.now (corner_of c.args.k.now) c.requires.corner c.at.result.now (some-at c.args.c.now.vertices c.args.k.now.vertex c.at.result.now c.at.ensures.element)
+
+pub named_from-requires-clause-within : goal.named_from-requires-clause-within
+named_from-requires-clause-within c = vertex-within c.args.c.now (corner_of c.args.k.now) c.requires.corner
 
 pub named_from-requires-clause-small : goal.named_from-requires-clause-small
 named_from-requires-clause-small c = small-back (vector_of c.plane_dir.result) (vector_of c.back-inward.result) c.back-inward.ensures.back c.plane_dir.ensures.small.each
 
 pub named_from-requires-clause-level : goal.named_from-requires-clause-level
 named_from-requires-clause-level c =
-    level-inward c.requires.shows.0 c.args.c.now c.requires.shows.1 c.args.vertex c.args.item c.at-v.result.now c.at-v.ensures.element (vector_of c.in_ok-normal.normal) c.in_ok-normal.ensures.normal
-    c.in_ok-h.h c.in_ok-h.ensures.plane (vector_of c.plane_dir.result) (vector_of c.back-inward.result) c.plane_dir.ensures.dir c.plane_dir.ensures.in_plane c.back-inward.ensures.back
+    let u = c.at.result.now in
+    let r = c.item_holds.ensures.on in
+    let b = corner-at c.args.c.now (corner_of c.args.k.now) u (some-at c.args.c.now.vertices c.args.k.now.vertex u c.at.ensures.element) r.0 r.1 in
+    level-inward c.requires.shows.0 c.args.c.now c.requires.shows.1 (corner_of c.args.k.now) (vertex_of u) r.0 b c.plane_of-h.result c.plane_of-h.ensures.plane
+    (vector_of c.plane_dir.result) (vector_of c.back-inward.result) c.plane_dir.ensures.dir c.plane_dir.ensures.in_plane c.back-inward.ensures.back
 
 pub named_from-requires-clause-no_svertex : goal.named_from-requires-clause-no_svertex
 named_from-requires-clause-no_svertex c =
-    none-along c.requires.shows.0 c.args.c.now c.requires.shows.1 c.args.vertex c.args.item c.at-v.result.now c.at-v.ensures.element (vector_of c.in_ok-normal.normal) c.in_ok-normal.ensures.normal
-    c.in_ok-h.h c.in_ok-h.ensures.plane (vector_of c.plane_dir.result) (vector_of c.back-inward.result) c.plane_dir.ensures.dir c.plane_dir.ensures.in_plane c.back-inward.ensures.back
-    (c.lies_on.ensures.on.0 c.if-not-lies_on.false)
+    let u = c.at.result.now in
+    let r = c.item_holds.ensures.on in
+    let b = corner-at c.args.c.now (corner_of c.args.k.now) u (some-at c.args.c.now.vertices c.args.k.now.vertex u c.at.ensures.element) r.0 r.1 in
+    none-along c.requires.shows.0 c.args.c.now c.requires.shows.1 (corner_of c.args.k.now) (vertex_of u) r.0 b c.plane_of-h.result c.plane_of-h.ensures.plane
+    (vector_of c.plane_dir.result) (vector_of c.back-inward.result) c.plane_dir.ensures.dir c.plane_dir.ensures.in_plane c.back-inward.ensures.back (r.2.0 c.if-not-item_holds.false)
 
-pub returns-in_err-normal : goal.returns-in_err-normal
-returns-in_err-normal c = record {
-  linked = as-none _ _ c.from_residual.result c.from_residual.ensures
-      (no-item c.requires.shows.0 c.args.c.now c.requires.shows.1 c.args.vertex c.args.item c.at-v.result.now c.at-v.ensures.element c.in_err-normal.ensures.normal);
-}
-
-pub returns-in_err-h : goal.returns-in_err-h
-returns-in_err-h c = record {
-  linked = as-none _ _ c.from_residual-in_err-h.result c.from_residual-in_err-h.ensures
-      (none-with c.requires.shows.0 c.args.c.now c.requires.shows.1 c.args.vertex c.args.item c.at-v.result.now c.at-v.ensures.element (vector_of c.in_ok-normal.normal) c.in_ok-normal.ensures.normal
-      (subst (λ (hs : List Plane). NoneIsPlaneWith (place_of c.at-v.result.now.point) (vector_of c.in_ok-normal.normal) hs) c.as_slice.ensures.all c.in_err-h.ensures.plane));
-}
-
-pub returns-then-not-lies_on : goal.returns-then-not-lies_on
-returns-then-not-lies_on c = record {
-  linked = not-on c.requires.shows.0 c.args.c.now c.requires.shows.1 c.args.vertex c.args.item c.at-v.result.now c.at-v.ensures.element (vector_of c.in_ok-normal.normal) c.in_ok-normal.ensures.normal
-      c.in_ok-h.h c.in_ok-h.ensures.plane (vector_of c.plane_dir.result) (vector_of c.back-inward.result) c.plane_dir.ensures.dir c.plane_dir.ensures.in_plane c.back-inward.ensures.back
-      (λ o. not_true (sym c.if-not-lies_on.true ∙ c.lies_on.ensures.on.1 o));
-}
+pub returns-then-not-item_holds : goal.returns-then-not-item_holds
+returns-then-not-item_holds c =
+    let u = c.at.result.now in
+    let r = c.item_holds.ensures.on in
+    let b = corner-at c.args.c.now (corner_of c.args.k.now) u (some-at c.args.c.now.vertices c.args.k.now.vertex u c.at.ensures.element) r.0 r.1 in
+    record {
+      linked = not-on c.requires.shows.0 c.args.c.now c.requires.shows.1 (corner_of c.args.k.now) (vertex_of u) r.0 b c.plane_of-h.result c.plane_of-h.ensures.plane
+          (vector_of c.plane_dir.result) (vector_of c.back-inward.result) c.plane_dir.ensures.dir c.plane_dir.ensures.in_plane c.back-inward.ensures.back (λ o. not_true (sym c.if-not-item_holds.true ∙ r.2.1 o));
+    }
 
 pub returns : goal.returns
-returns c = record {
-  linked = linked-from c.requires.shows.0 c.args.c.now c.requires.shows.1 c.args.vertex c.args.item c.at-v.result.now c.at-v.ensures.element (vector_of c.in_ok-normal.normal) c.in_ok-normal.ensures.normal
-      c.in_ok-h.h c.in_ok-h.ensures.plane (vector_of c.plane_dir.result) (vector_of c.back-inward.result) c.plane_dir.ensures.dir c.plane_dir.ensures.in_plane c.back-inward.ensures.back
-      (c.lies_on.ensures.on.0 c.if-not-lies_on.false) c.named_from.result c.named_from.ensures.named;
-}
+returns c =
+    let u = c.at.result.now in
+    let r = c.item_holds.ensures.on in
+    let b = corner-at c.args.c.now (corner_of c.args.k.now) u (some-at c.args.c.now.vertices c.args.k.now.vertex u c.at.ensures.element) r.0 r.1 in
+    record {
+      linked = linked-from c.requires.shows.0 c.args.c.now c.requires.shows.1 (corner_of c.args.k.now) (vertex_of u) r.0 b c.plane_of-h.result c.plane_of-h.ensures.plane
+          (vector_of c.plane_dir.result) (vector_of c.back-inward.result) c.plane_dir.ensures.dir c.plane_dir.ensures.in_plane c.back-inward.ensures.back (r.2.0 c.if-not-item_holds.false) c.named_from.result c.named_from.ensures.named;
+    }

@@ -9,8 +9,8 @@ use Rattle.nef_ties.proofs.across.add_item_tie.Goals as goal
 pub returns-in_ok-push : goal.returns-in_ok-push
 returns-in_ok-push c =
     let C = complex_of c.args.c.now in
-    let i = c.args.vertex in
-    let j = c.args.item in
+    let i = c.args.k.now.vertex in
+    let j = c.args.k.now.item in
     record {
       added = subst (λ (ts : List Tie). Adds (IsTieAcross C i j) c.args.ties.now.items ts) (sym c.in_ok-push.ensures.items)
           (tie-added c.requires.shows.0 C c.requires.shows.1.shows i j c.in-Some.there c.in-Some.ensures.linked c.args.ties.now.items);
@@ -20,5 +20,5 @@ pub returns-in_default : goal.returns-in_default
 returns-in_default c =
     let C = complex_of c.args.c.now in
     record {
-      added = adds-none (IsTieAcross C c.args.vertex c.args.item) c.args.ties.now.items (tie-none c.requires.shows.0 C c.requires.shows.1.shows c.args.vertex c.args.item c.in_default.ensures.linked);
+      added = adds-none (IsTieAcross C c.args.k.now.vertex c.args.k.now.item) c.args.ties.now.items (tie-none c.requires.shows.0 C c.requires.shows.1.shows c.args.k.now.vertex c.args.k.now.item c.in_default.ensures.linked);
     }

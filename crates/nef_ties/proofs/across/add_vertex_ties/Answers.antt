@@ -1,9 +1,15 @@
 use Rattle.std.proofs.Common.{arith}
+use Rattle.nef_edges.proofs.Places.{some-at}
 use Rattle.nef_complex.specs.Complexes.{complex_of}
 use Rattle.nef_ties.specs.Ties.{IsTieAcross}
-use Rattle.nef_ties.proofs.Adding.{any-next, any-last}
+use Rattle.nef_ties.proofs.Adding.{any-next, any-all}
+use Rattle.nef_ties.proofs.ItemCarriers.{has-item}
 use Rattle.nef_ties.proofs.WayInward.{item-below}
 use Rattle.nef_ties.proofs.across.add_vertex_ties.Goals as goal
+
+pub add_item_tie-requires-clause-corner : goal.add_item_tie-requires-clause-corner
+add_item_tie-requires-clause-corner c =
+    has-item c.args.c.now c.args.vertex c.loop-item.item c.at.result.now (some-at c.args.c.now.vertices c.args.vertex c.at.result.now c.at.ensures.element) (let e = c.item_count-item-end.ensures.count in let h = c.loop-item-test.true in omega (arith, e, h))
 
 pub loop-item-preserved : goal.loop-item-preserved
 loop-item-preserved c = record {
@@ -13,8 +19,7 @@ loop-item-preserved c = record {
 pub returns : goal.returns
 returns c =
     let C = c.args.c.now in
-    let l = c.len-count.result in
     record {
-      added = any-last (IsTieAcross (complex_of C) c.args.vertex) c.loop-item.item l c.args.ties.now.items c.loop-item.ties.items c.add_item_tie-2.new.ties.items c.loop-item-test.false
-          (λ k t p. let b = item-below C c.args.vertex c.at.result.now c.at.ensures.element k t p in let e = c.len-count.ensures.len in omega (arith, b, e)) c.loop-item.invariant.added c.in_ok-add_item_tie-2.ensures.added;
+      added = any-all (IsTieAcross (complex_of C) c.args.vertex) c.loop-item.item c.args.ties.now.items c.loop-item.ties.items
+          (λ k t p. let b = item-below C c.args.vertex c.at.result.now c.at.ensures.element k t p in let e = c.item_count-item-end.ensures.count in let f = c.loop-item-test.false in omega (arith, b, e, f)) c.loop-item.invariant.added;
     }

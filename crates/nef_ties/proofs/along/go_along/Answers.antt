@@ -1,14 +1,13 @@
 use Rattle.std.proofs.Common.{sym, ◌∙◌}
 use Rattle.nef_arc.proofs.SignNumbers.{not_true}
-use Rattle.nef_smap.proofs.Found.{dir-same}
 use Rattle.nef_ties.proofs.along.go_along.Goals as goal
 
-pub returns-then-same_dir : goal.returns-then-same_dir
-returns-then-same_dir c = record {
-  along = (λ h. ((dir-same c.args.low.now.normal c.args.high.now.normal).0 (c.same_dir.ensures.same.0 c.if-same_dir.true), c.begin_and_end.ensures.ends.0 h), λ p. c.begin_and_end.ensures.ends.1 p.1);
+pub returns-then-is_same : goal.returns-then-is_same
+returns-then-is_same c = record {
+  along = (λ h. (c.is_same.ensures.direction.0 c.if-is_same.true, c.begin_and_end.ensures.ends.0 h), λ p. c.begin_and_end.ensures.ends.1 p.1);
 }
 
-pub returns-else-same_dir : goal.returns-else-same_dir
-returns-else-same_dir c = record {
-  along = (λ h. absurd (not_true (sym c.if-same_dir.false ∙ h)), λ p. c.same_dir.ensures.same.1 ((dir-same c.args.low.now.normal c.args.high.now.normal).1 p.0));
+pub returns-else-is_same : goal.returns-else-is_same
+returns-else-is_same c = record {
+  along = (λ h. absurd (not_true (sym c.if-is_same.false ∙ h)), λ p. c.is_same.ensures.direction.1 p.0);
 }

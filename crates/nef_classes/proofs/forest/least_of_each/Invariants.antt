@@ -1,6 +1,0 @@
-use Rattle.std.proofs.Common.{take}
-use Rattle.nef_classes.proofs.Trees.{AreTrees}
-use Rattle.nef_classes.proofs.forest.least_of_each.Given as goal
-
-abbrev pub invariant-loop-link : goal.invariant-loop-link
-invariant-loop-link l = AreTrees l.count (take l.link-index l.links) l.parents.items

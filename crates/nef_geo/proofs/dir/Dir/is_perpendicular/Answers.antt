@@ -1,0 +1,18 @@
+use Rattle.std.proofs.Common.{◌≡◌, IsTrue, rules, sym, ap, ◌∙◌}
+use Rattle.nef_space.specs.Vectors.{dot}
+use Rattle.nef_geo.specs.Shapes.{vector_of}
+use Rattle.nef_geo.specs.Signs.{sign_of}
+use Rattle.nef_geo.specs.declared.sign.Sign.TheVariants.{Zero}
+use Rattle.nef_geo.proofs.Signs.{zero_sign}
+use Rattle.nef_geo.proofs.dir.Dir.is_perpendicular.Goals as goal
+
+zero-if : (c : goal.After-eq) → IsTrue c.eq.result → c.dot.result ≡ Zero
+zero-if c h = search rules
+
+if-zero : (c : goal.After-eq) → c.dot.result ≡ Zero → IsTrue c.eq.result
+if-zero c h = search rules
+
+pub returns : goal.returns
+returns c = record {
+  perpendicular = (λ h. zero_sign (dot (vector_of c.args.self.now) (vector_of c.args.other.now)) (sym c.dot.ensures.dot ∙ zero-if c h), λ o. if-zero c (c.dot.ensures.dot ∙ ap sign_of o));
+}

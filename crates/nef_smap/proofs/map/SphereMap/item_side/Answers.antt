@@ -1,0 +1,16 @@
+use Rattle.std.proofs.Common.{◌+◌, ◌*◌, cond}
+use Rattle.law_sphere.specs.Maps.{item_above, item_below, above_item, below_item}
+use Rattle.nef_smap.specs.Maps.{map_of}
+use Rattle.nef_smap.proofs.SideLists.{side-of}
+use Rattle.nef_smap.proofs.SideNumbers.{number-one}
+use Rattle.nef_smap.proofs.map.SphereMap.item_side.Goals as goal
+
+pub returns : goal.returns
+returns c =
+    let m = c.args.self.now in
+    let above = c.args.above in
+    let e = c.around_sides.ensures.count in
+    let f = c.from.ensures in
+    let n = c.around_sides.result + 2 * c.args.number + c.from.result in
+    let s = side-of m n c.args.number above c.requires.within (cc) in
+    record { number = number-one (map_of m) n (cond above (above_item c.args.number) (below_item c.args.number)) (cond above (item_above s.0) (item_below s.0)) s.2; side = s }

@@ -1,0 +1,137 @@
+-- The map that is made of the pieces of simplified stars is built from these stars, and its numbers are small.
+use Rattle.std.proofs.Common.{◌≡◌, ℕ, zero, suc, List, [], ◌∷◌, map, Option, Some, None, option_map, MatchOption, true, refl, sym, ap, subst, ◌∙◌, inl, inr}
+use Rattle.std.specs.List.{All}
+use Rattle.nef_space.specs.Limits.{normal_limit, svertex_limit}
+use Rattle.nef_space.specs.Vectors.{Vector, IsAtMost}
+use Rattle.nef_space.specs.declared.label.Label.{Label}
+use Rattle.nef_geo.specs.Shapes.{vector_of}
+use Rattle.law_sphere.specs.Maps.{At, Svertex, Arc, Loop, Item, items_then, item_normal}
+use Rattle.law_sphere.specs.Least.{InOrder, ArcBelow}
+use Rattle.law_sphere.specs.Stars.{Ray as PlainRay, Star as PlainStar, IsStraight}
+use Rattle.law_build.specs.Raw.{IsBare, IsRawOf}
+use Rattle.law_build.specs.From.{svertex_at, IsArcFrom, IsLoopFrom, raw_loop, straight_loop, IsRawLabel, IsBuiltFrom}
+use Rattle.nef_star.specs.Stars.{ray_of, star_of, IsStar}
+use Rattle.nef_smap.specs.declared.map.SArc.{SArc}
+use Rattle.nef_smap.specs.declared.map.SLoop.{SLoop}
+use Rattle.nef_smap.specs.declared.map.RawStars.{RawStars}
+use Rattle.nef_smap.specs.declared.map.SphereMap.{SphereMap}
+use Rattle.nef_smap.specs.Maps.{svertex_of, arc_of, loop_of, map_of, raw_of, IsSmall}
+use Rattle.nef_smap.proofs.Lists.{at-map, map-at, at-within}
+use Rattle.nef_spair.specs.declared.pieces.Pieces.{Pieces}
+use Rattle.nef_spair.specs.Made.{IsMadeOf}
+use Rattle.nef_spair.specs.Pieces.{ArePiecesOf, IsChosen}
+use Rattle.nef_spair.proofs.OneKind.{no-loop-was, loop-was, none-was}
+use Rattle.nef_spair.proofs.Places.{all-at}
+use Rattle.nef_spair.proofs.Built.{map-none, first-same, kept-stars, plain-from, plain-needed, plain-all, plain-ordered}
+
+pub none-some : {A : Type 0} (o : Option A) (x : A) → o ≡ None → o ≡ Some x → ⊥
+none-some o x e f = let i : None ≡ Some x = sym e ∙ f in cc
+
+module _ (q : RawStars) (p : Pieces) (m : SphereMap) (pieces : ArePiecesOf q p) (made : IsMadeOf p m) where
+  abbrev K : List PlainStar
+  K = map star_of p.kept.items
+
+  -- ---- arcs
+  arcs-from : (k : ℕ) (a : Arc) → At (map arc_of m.arcs) k a → IsArcFrom K a
+  arcs-from k a h = let b = at-map arc_of m.arcs k a h in let w = made.arcs in subst (IsArcFrom K) b.2 (w.from k b.0 b.1)
+
+  arcs-all : (i k : ℕ) (t : PlainStar) (r : PlainRay) → At K i t → At t.rays k r → r.ahead ≡ true → (j : ℕ) × (a : Arc) × At (map arc_of m.arcs) j a × (a.source ≡ i) × (a.normal ≡ r.normal)
+  arcs-all i k t r h b f =
+      let u = at-map star_of p.kept.items i t h in
+      let v = at-map ray_of u.0.rays.items k r (subst (λ (x : PlainStar). At x.rays k r) (sym u.2) b) in
+      let w = made.arcs in
+      let o = w.all i k u.0 v.0 u.1 v.1 (ap (λ (x : PlainRay). x.ahead) v.2 ∙ f) (inl (at-within p.kept.items i u.0 u.1)) in
+      (o.0, arc_of o.1, map-at arc_of m.arcs o.0 o.1 o.2, o.3, ap vector_of o.4 ∙ ap (λ (x : PlainRay). x.normal) v.2)
+
+  arcs-ordered : InOrder ArcBelow (map arc_of m.arcs)
+  arcs-ordered i k x y l a b =
+      let u = at-map arc_of m.arcs i x a in let v = at-map arc_of m.arcs k y b in
+      subst (ArcBelow x) v.2 (subst (λ (z : Arc). ArcBelow z (arc_of v.0)) u.2 (made.ordered i k u.0 v.0 l u.1 v.1))
+
+  -- ---- the sloop
+  chosen-from : (c : SLoop) → IsChosen p.kept.items p.circles.items p.sloop c → IsLoopFrom (raw_of q) K (loop_of c)
+  chosen-from c (inl (given, proper)) = raw_loop (ap (option_map loop_of) (sym pieces.sloop ∙ given)) proper
+  chosen-from c (inr (k, listed, bare)) =
+      let w = pieces.circles in let f = w.from k c listed in
+      straight_loop f.0 (star_of f.1) (map-at star_of q.stars f.0 f.1 f.2) f.3.0 (subst (IsBare K) (ap (λ (l : Loop). l.normal) f.3.1) bare) f.3.1
+
+  loop-from : (l : Loop) → option_map loop_of m.sloop ≡ Some l → IsLoopFrom (raw_of q) K l
+  loop-from l e =
+      let c = loop-was m.sloop l e in
+      let found = subst (λ (o : Option SLoop). MatchOption o ((d : SLoop) → IsChosen p.kept.items p.circles.items p.sloop d → ⊥) (IsChosen p.kept.items p.circles.items p.sloop)) c.1 made.sloop in
+      subst (IsLoopFrom (raw_of q) K) c.2 (chosen-from c.0 found)
+
+  -- the circle that a loop comes from is chosen, where none is
+  choice : (l : Loop) → IsLoopFrom (raw_of q) K l → (c : SLoop) × IsChosen p.kept.items p.circles.items p.sloop c
+  choice l (raw_loop e proper) =
+      let c = loop-was q.sloop l e in
+      (c.0, inl (pieces.sloop ∙ c.1, λ a b. proper (sym (ap (λ (x : Loop). x.above) c.2) ∙ a ∙ ap (λ (x : Loop). x.mark) c.2) (sym (ap (λ (x : Loop). x.below) c.2) ∙ b ∙ ap (λ (x : Loop). x.mark) c.2)))
+  choice l (straight_loop j t a s bare e) =
+      let u = at-map star_of q.stars j t a in
+      let v : (s : IsStraight (star_of u.0)) × IsBare K s.first.normal = subst (λ (x : PlainStar). (s : IsStraight x) × IsBare K s.first.normal) (sym u.2) (s, bare) in
+      let w = pieces.circles in let f = w.all j u.0 u.1 v.0 in
+      let same = ap (λ (x : Loop). x.normal) f.3.1 ∙ ap (λ (x : PlainRay). x.normal) (first-same (star_of u.0) f.3.0 v.0) in
+      (f.1, inr (f.0, f.2, subst (IsBare K) (sym same) v.1))
+
+  loop-all : (l : Loop) → IsLoopFrom (raw_of q) K l → (k : Loop) × (option_map loop_of m.sloop ≡ Some k)
+  loop-all l h = by m.sloop made.sloop
+    where
+      by : (o : Option SLoop) → MatchOption o ((d : SLoop) → IsChosen p.kept.items p.circles.items p.sloop d → ⊥) (IsChosen p.kept.items p.circles.items p.sloop) → (k : Loop) × (option_map loop_of o ≡ Some k)
+      by None none = let c = choice l h in absurd (none c.0 c.1)
+      by (Some c) w = (loop_of c, refl)
+
+  -- ---- the one face
+  no-svertices : K ≡ [] → m.svertices ≡ []
+  no-svertices e = none-was m.svertices (made.svertices ∙ ap (map svertex_at) e)
+
+  ground-alone : {L : Vector → Label} → IsRawOf (raw_of q) L → K ≡ [] → option_map loop_of m.sloop ≡ None → (l : Label) × (m.ground ≡ Some l) × IsRawLabel (raw_of q) l
+  ground-alone {L} raw e f = by p.face pieces.face (made.ground (no-svertices e) (no-loop-was m.sloop f))
+    where
+      by : (o : Option Label) → MatchOption o ((q.ground ≡ None) × (q.stars ≡ []) × (q.sloop ≡ None)) (IsRawLabel (raw_of q)) → m.ground ≡ o → (l : Label) × (m.ground ≡ Some l) × IsRawLabel (raw_of q) l
+      by (Some l) w g = (l, g, w)
+      by None w g =
+          let r = raw.ground_alone (ap (map star_of) w.1) (ap (option_map loop_of) w.2) in
+          absurd (none-some q.ground r.0 w.0 r.1)
+
+  pub built-from : {L : Vector → Label} → IsRawOf (raw_of q) L → IsBuiltFrom (raw_of q) (map_of m)
+  built-from raw = record {
+    kept = K;
+    kept_from = plain-from q p pieces;
+    kept_needed = plain-needed q p pieces;
+    kept_all = plain-all q p pieces;
+    kept_ordered = plain-ordered q p pieces raw.ordered;
+    mark = made.mark ∙ pieces.mark;
+    svertices = made.svertices;
+    arcs_from = arcs-from;
+    arcs_all = arcs-all;
+    arcs_ordered = arcs-ordered;
+    loop_from = loop-from;
+    loop_all = loop-all;
+    ground_alone = ground-alone raw;
+    ground_not = λ l e. let o = made.ground_not l e in (map-none svertex_at K (sym made.svertices ∙ ap (map svertex_of) o.0), ap (option_map loop_of) o.1);
+  }
+
+  -- ---- sizes
+  module _ (stars : All IsStar q.stars) (circle : (l : SLoop) → q.sloop ≡ Some l → IsAtMost normal_limit (vector_of l.normal)) where
+    way-small : (k : ℕ) (v : Svertex) → At (map svertex_of m.svertices) k v → IsAtMost svertex_limit v.way
+    way-small k v a =
+        let t = at-map svertex_at K k v (subst (λ (l : List Svertex). At l k v) made.svertices a) in
+        let u = at-map star_of p.kept.items k t.0 t.1 in
+        let s = all-at IsStar p.kept.items (kept-stars q p pieces stars) k u.0 u.1 in
+        subst (λ (x : Svertex). IsAtMost svertex_limit x.way) t.2 (subst (λ (x : PlainStar). IsAtMost svertex_limit x.axis) u.2 s.turned.axis_small)
+
+    chosen-small : (c : SLoop) → IsChosen p.kept.items p.circles.items p.sloop c → IsAtMost normal_limit (vector_of c.normal)
+    chosen-small c (inl (given, proper)) = circle c (sym pieces.sloop ∙ given)
+    chosen-small c (inr (k, listed, bare)) = let w = pieces.circles in all-at (λ (x : SLoop). IsAtMost normal_limit (vector_of x.normal)) p.circles.items w.small k c listed
+
+    items-small : (arcs : List SArc) (o : Option SLoop) → ((k : ℕ) (a : SArc) → At arcs k a → IsAtMost normal_limit (vector_of a.normal))
+        → MatchOption o ((d : SLoop) → IsChosen p.kept.items p.circles.items p.sloop d → ⊥) (IsChosen p.kept.items p.circles.items p.sloop)
+        → (k : ℕ) (x : Item) → At (items_then (map arc_of arcs) (option_map loop_of o)) k x → IsAtMost normal_limit (item_normal x)
+    items-small [] None f w k x a = absurd a
+    items-small [] (Some c) f w zero x a = subst (λ (y : Item). IsAtMost normal_limit (item_normal y)) a (chosen-small c w)
+    items-small [] (Some c) f w (suc k) x a = absurd a
+    items-small (b ∷ arcs) o f w zero x a = subst (λ (y : Item). IsAtMost normal_limit (item_normal y)) a (f 0 b refl)
+    items-small (b ∷ arcs) o f w (suc k) x a = items-small arcs o (λ j c h. f (suc j) c h) w k x a
+
+    pub small : IsSmall (map_of m)
+    small = record { svertices = way-small; normals = items-small m.arcs m.sloop (let w = made.arcs in w.small) made.sloop }
