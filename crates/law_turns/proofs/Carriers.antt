@@ -11,7 +11,7 @@ use Rattle.nef_space.specs.Vectors.{IsDirection, IsZero, cross}
 use Rattle.nef_case.specs.Turns.{Triple, ordered, has_bit, negated_if, turned}
 use Rattle.law_near.specs.Cells.{side, frame, carriers}
 use Rattle.law_complex.specs.Shows.{SamePlane, Carriers}
-use Rattle.law_turns.specs.Turned.{disordered, unturned, turned_vector, turned_form, turned_set, is_odd}
+use Rattle.law_turns.specs.Turned.{disordered, unturned, turned_vector, turned_plane, turned_set, is_odd}
 use Rattle.law_turns.specs.Complexes.{signed_form, AreTurnedPlanes}
 use Rattle.law_turns.proofs.Coordinates.{SignBlind, each-turned, each-back, turned-back}
 use Rattle.law_turns.proofs.Turning.{direction-there, zero_cross-there}
@@ -107,28 +107,28 @@ unit-frame h (inr (inr (p, q, inr r))) s = inr (inr (inr (inr (inr (inl (same-fo
 abbrev pub unturned_form : ℕ → Form → Form
 unturned_form k h = let t = unturned k (h.a, h.b, h.c) in form t.0 t.1 t.2 h.d
 
-pub form-back : (k : ℕ) (h : Form) → turned_form k (unturned_form k h) ≡ h
+pub form-back : (k : ℕ) (h : Form) → turned_plane k (unturned_form k h) ≡ h
 form-back k h = ap (λ (t : Triple). form t.0 t.1 t.2 h.d) (turned-back k (numbers h))
 
 abbrev pub IsTurnedOf : ℕ → List Form → Form → Type 0
-IsTurnedOf k hs g = (h : Form) × Lies hs h × (g ≡ turned_form k h)
+IsTurnedOf k hs g = (h : Form) × Lies hs h × (g ≡ turned_plane k h)
 
 module _ (k : ℕ) where
-  frame-there : (h : Form) → Lies frame h → Lies frame (turned_form k h)
-  frame-there h l = let (u, e) = frame-unit h l in unit-frame (turned_form k h) (unit-turned k (numbers h) u) e
+  frame-there : (h : Form) → Lies frame h → Lies frame (turned_plane k h)
+  frame-there h l = let (u, e) = frame-unit h l in unit-frame (turned_plane k h) (unit-turned k (numbers h) u) e
 
   frame-from : (g : Form) → Lies frame g → IsTurnedOf k frame g
   frame-from g l = let (u, e) = frame-unit g l in (unturned_form k g, unit-frame (unturned_form k g) (unit-unturned k (numbers g) u) e, sym (form-back k g))
 
   -- what holds of the halves of two operands
-  two-there : (as' bs cs ds : List Form) → ((h : Form) → Lies as' h → Lies cs (turned_form k h)) → ((h : Form) → Lies bs h → Lies ds (turned_form k h)) → (h : Form) → Lies (as' ++ bs) h → Lies (cs ++ ds) (turned_form k h)
-  two-there as' bs cs ds f g h l = ⊎_elim (λ m. lies-left cs ds (turned_form k h) (f h m)) (λ m. lies-right cs ds (turned_form k h) (g h m)) (lies-append as' bs h l)
+  two-there : (as' bs cs ds : List Form) → ((h : Form) → Lies as' h → Lies cs (turned_plane k h)) → ((h : Form) → Lies bs h → Lies ds (turned_plane k h)) → (h : Form) → Lies (as' ++ bs) h → Lies (cs ++ ds) (turned_plane k h)
+  two-there as' bs cs ds f g h l = ⊎_elim (λ m. lies-left cs ds (turned_plane k h) (f h m)) (λ m. lies-right cs ds (turned_plane k h) (g h m)) (lies-append as' bs h l)
 
   two-from : (as' bs cs ds : List Form) → ((h : Form) → Lies cs h → IsTurnedOf k as' h) → ((h : Form) → Lies ds h → IsTurnedOf k bs h) → (h : Form) → Lies (cs ++ ds) h → IsTurnedOf k (as' ++ bs) h
   two-from as' bs cs ds f g h l = ⊎_elim (λ m. let (r, a, e) = f h m in (r, lies-left as' bs r a, e)) (λ m. let (r, a, e) = g h m in (r, lies-right as' bs r a, e)) (lies-append cs ds h l)
 
-  pub halves-there : (s : Set) (h : Form) → Lies (halves s) h → Lies (halves (turned_set k s)) (turned_form k h)
-  halves-there (Set.half g c) h (inl e) = inl (ap (turned_form k) e)
+  pub halves-there : (s : Set) (h : Form) → Lies (halves s) h → Lies (halves (turned_set k s)) (turned_plane k h)
+  halves-there (Set.half g c) h (inl e) = inl (ap (turned_plane k) e)
   halves-there (Set.half g c) h (inr e) = absurd e
   halves-there Set.empty h l = absurd l
   halves-there Set.full h l = absurd l
@@ -157,7 +157,7 @@ module _ (k : ℕ) where
   halves-from (Set.border a) g l = halves-from a g l
   halves-from (Set.regular a) g l = halves-from a g l
 
-  pub carrier-there : (s : Set) (h : Form) → Lies (carriers s) h → Lies (carriers (turned_set k s)) (turned_form k h)
+  pub carrier-there : (s : Set) (h : Form) → Lies (carriers s) h → Lies (carriers (turned_set k s)) (turned_plane k h)
   carrier-there s h l = two-there frame (halves s) frame (halves (turned_set k s)) frame-there (halves-there s) h l
 
   pub carrier-from : (s : Set) (g : Form) → Lies (carriers (turned_set k s)) g → IsTurnedOf k (carriers s) g
@@ -186,15 +186,15 @@ module _ (k : ℕ) where
   plane-parts : (g h : Form) → SamePlane g h → IsZero (cross (normal_of g) (normal_of h))
   plane-parts g h S = (let e = S.bc in omega (arith, ints, e), let e = S.ac in omega (arith, ints, e), let e = S.ab in omega (arith, ints, e))
 
-  pub same_plane-turned : (g h : Form) → SamePlane (turned_form k g) (turned_form k h) ↔ SamePlane g h
+  pub same_plane-turned : (g h : Form) → SamePlane (turned_plane k g) (turned_plane k h) ↔ SamePlane g h
   same_plane-turned g h = (
     λ S.
         let e = each-back (SameOffsets g.d h.d) (offsets-blind g.d h.d) k (numbers g) (numbers h) (S.ad, S.bd, S.cd) in
         plane-from g h ((direction-there (turned_vector k) (is_odd k) (turning k) (normal_of g)).0 S.is_plane) ((direction-there (turned_vector k) (is_odd k) (turning k) (normal_of h)).0 S.is_other_plane)
-        ((zero_cross-there (turned_vector k) (is_odd k) (turning k) (normal_of g) (normal_of h)).0 (plane-parts (turned_form k g) (turned_form k h) S)) e.0 e.1 e.2,
+        ((zero_cross-there (turned_vector k) (is_odd k) (turning k) (normal_of g) (normal_of h)).0 (plane-parts (turned_plane k g) (turned_plane k h) S)) e.0 e.1 e.2,
     λ S.
         let e = each-turned (SameOffsets g.d h.d) (offsets-blind g.d h.d) k (numbers g) (numbers h) (S.ad, S.bd, S.cd) in
-        plane-from (turned_form k g) (turned_form k h) ((direction-there (turned_vector k) (is_odd k) (turning k) (normal_of g)).1 S.is_plane) ((direction-there (turned_vector k) (is_odd k) (turning k) (normal_of h)).1 S.is_other_plane)
+        plane-from (turned_plane k g) (turned_plane k h) ((direction-there (turned_vector k) (is_odd k) (turning k) (normal_of g)).1 S.is_plane) ((direction-there (turned_vector k) (is_odd k) (turning k) (normal_of h)).1 S.is_other_plane)
         ((zero_cross-there (turned_vector k) (is_odd k) (turning k) (normal_of g) (normal_of h)).1 (plane-parts g h S)) e.0 e.1 e.2,
   )
 
@@ -214,15 +214,15 @@ module _ (k : ℕ) where
       minor a b c d e = ring (a ∷ d ∷ []) (neg (at 0) ⊗ at 1) (neg (at 0 ⊗ at 1)) tt ∙ ap neg_ℤ e ∙ ring (b ∷ c ∷ []) (neg (at 0 ⊗ at 1)) (neg (at 0) ⊗ at 1) tt
   signed-plane false g h S = S
 
-  turned-plane : (b : Bool) (g h f : Form) → h ≡ signed_form b (turned_form k g) → SamePlane g f → SamePlane h (turned_form k f)
-  turned-plane b g h f e S = subst (λ (r : Form). SamePlane r (turned_form k f)) (sym e) (signed-plane b (turned_form k g) (turned_form k f) ((same_plane-turned g f).1 S))
+  turned-plane : (b : Bool) (g h f : Form) → h ≡ signed_form b (turned_plane k g) → SamePlane g f → SamePlane h (turned_plane k f)
+  turned-plane b g h f e S = subst (λ (r : Form). SamePlane r (turned_plane k f)) (sym e) (signed-plane b (turned_plane k g) (turned_plane k f) ((same_plane-turned g f).1 S))
 
   pub carriers-turned : (s : Set) (gs hs : List Form) → Carriers s gs → AreTurnedPlanes k gs hs → Carriers (turned_set k s) hs
   carriers-turned s gs hs C T = record {
     each = λ j h a.
         let (i, g, b, l, e) = T.each j h a in
         let (f, m, S) = C.each i g l in
-        (turned_form k f, carrier-there s f m, turned-plane b g h f e S);
+        (turned_plane k f, carrier-there s f m, turned-plane b g h f e S);
     all = λ f' l.
         let (f, m, e) = carrier-from s f' l in
         let (i, g, a, S) = C.all f m in

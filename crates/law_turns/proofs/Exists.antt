@@ -19,7 +19,7 @@ use Rattle.law_cones.proofs.Lowest.{below-trans, below-either, below-itself}
 use Rattle.law_turns.specs.Complexes.{signed_form}
 use Rattle.law_turns.proofs.Turning.{sign-twice}
 use Rattle.law_turns.proofs.Carriers.{same-form}
-use Rattle.law_turns.specs.Turned.{turned_form, turned_vector, unturned_vector, differ, is_odd, signed}
+use Rattle.law_turns.specs.Turned.{turned_plane, turned_vector, unturned_vector, differ, is_odd, signed}
 use Rattle.law_turns.specs.Maps.{turned_svertex, IsTurnedArc, IsTurnedOption, HasTurnedLists}
 use Rattle.law_turns.proofs.Vectors.{back-vector, direction-turned, signed-turned, signed-twice}
 use Rattle.law_turns.proofs.Numbers.{normal-choice, primitive-turned}
@@ -40,7 +40,7 @@ one-svertex vs o i j u v a b e = elim (cases_order i j) [
       (λ l. absurd (below-itself v.way (subst (λ (r : Vector). VectorBelow v.way r) e (o j i v u l b a)))) apart
 ]
 
-abbrev SameArc : Arc → Arc → Type 0
+abbrev pub SameArc : Arc → Arc → Type 0
 SameArc a b = (a.normal ≡ b.normal) × (a.source ≡ b.source)
 
 arc_below-trans : (a b c : Arc) → ArcBelow a b → ArcBelow b c → ArcBelow a c
@@ -76,11 +76,36 @@ module _ (k : ℕ) where
       by false true h = absurd (both-normal m (subst IsNormal h hn) hm)
 
   -- and so are planes with such normals
-  pub one-plane : (b c : Bool) (g h : Form) → IsNormal (normal_of g) → IsNormal (normal_of h) → signed_form b (turned_form k g) ≡ signed_form c (turned_form k h) → g ≡ h
+  pub one-plane : (b c : Bool) (g h : Form) → IsNormal (normal_of g) → IsNormal (normal_of h) → signed_form b (turned_plane k g) ≡ signed_form c (turned_plane k h) → g ≡ h
   one-plane b c g h hg hh e =
       let (same, n) = one-origin b c (normal_of g) (normal_of h) hg hh (ap normal_of e) in
       let d = ap (λ (r : Form). r.d) e ∙ ap (λ (r : Bool). negated_if r h.d) (sym same) in
       same-form _ _ _ _ _ _ _ _ (ap (λ (r : Vector). r.x) n) (ap (λ (r : Vector). r.y) n) (ap (λ (r : Vector). r.z) n) (sym (sign-twice b g.d) ∙ ap (negated_if b) d ∙ sign-twice b h.d)
+
+-- an arc's image, where svertices get the numbers that the function gives
+abbrev pub IsArcImage : ℕ → (ℕ → ℕ) → Arc → Arc → Type 0
+IsArcImage k vertex a b = (flip : Bool) × IsTurnedArc k vertex flip a b × IsNormal b.normal × IsPrimitive b.normal
+
+pub image-number : (k : ℕ) (M : Map) → Shaped M → (i j : ℕ) (v w : Svertex) → At M.svertices i v → At M.svertices j w → turned_vector k v.way ≡ turned_vector k w.way → i ≡ j
+image-number k M V i j v w a b e = V.svertices_apart i j v w a b (subst (λ (r : Vector). SameDirection v.way r) (turned-one k v.way w.way e) (way-self v.way (V.svertex_ways i v a)))
+
+module _ (k : ℕ) (M : Map) (V : Shaped M) (us : List Svertex) (vertex : ℕ → ℕ) (has : (i : ℕ) (v : Svertex) → At M.svertices i v → At us (vertex i) (turned_svertex k v)) where
+  number-one : (i j : ℕ) (v w : Svertex) → At M.svertices i v → At M.svertices j w → vertex i ≡ vertex j → i ≡ j
+  number-one i j v w a b e =
+      image-number k M V i j v w a b (ap (λ (r : Svertex). r.way) (at-one us (vertex j) (turned_svertex k v) (turned_svertex k w) (subst (λ (n : ℕ). At us n (turned_svertex k v)) e (has i v a)) (has j w b)))
+
+  -- images that are one in the order of arcs are of one arc
+  pub one-arc : (i j : ℕ) (a c x y : Arc) → At M.arcs i a → At M.arcs j c → IsArcImage k vertex a x → IsArcImage k vertex c y → SameArc x y → i ≡ j
+  one-arc i j a c x y at-a at-c (p, s, _, _) (q, t, _, _) (e, d) =
+      let (pq, n) = one-origin k p q a.normal c.normal (V.normals i (arc_item a) (at-arc M.arcs M.loop i a at-a)) (V.normals j (arc_item c) (at-arc M.arcs M.loop j c at-c)) (sym s.normal ∙ e ∙ t.normal) in
+      let t' = subst (λ (r : Bool). IsTurnedArc k vertex r c y) (sym pq) t in
+      by (differ (is_odd k) p) n (sym s.source ∙ d ∙ t'.source)
+    where
+      by : (w : Bool) → a.normal ≡ c.normal → vertex (cond w a.target a.source) ≡ vertex (cond w c.target c.source) → i ≡ j
+      by true n h = let b = V.arcs_between i a at-a in let b' = V.arcs_between j c at-c in
+          arcs-end M V i j a c at-a at-c n (number-one a.target c.target b.target b'.target b.has_target b'.has_target h)
+      by false n h = let b = V.arcs_between i a at-a in let b' = V.arcs_between j c at-c in
+          arcs-begin M V i j a c at-a at-c n (number-one a.source c.source b.source b'.source b.has_source b'.has_source h)
 
 module _ (k : ℕ) (M : Map) (V : Shaped M) (O : Ordered M) where
   abbrev images : List Svertex
@@ -98,14 +123,11 @@ module _ (k : ℕ) (M : Map) (V : Shaped M) (O : Ordered M) where
       let (v, b, e) = at-map (turned_svertex k) M.svertices i u a in
       (i, v, b, sym e)
 
-  same-number : (i j : ℕ) (v w : Svertex) → At M.svertices i v → At M.svertices j w → f k v.way ≡ f k w.way → i ≡ j
-  same-number i j v w a b e = V.svertices_apart i j v w a b (subst (λ (r : Vector). SameDirection v.way r) (turned-one k v.way w.way e) (way-self v.way (V.svertex_ways i v a)))
-
   placed : (i : ℕ) (v : Svertex) → At M.svertices i v → (j : ℕ) × At S.list j (turned_svertex k v)
   placed i v a =
       let (y, l, e) = S.all (turned_svertex k v) (at-lies images i (turned_svertex k v) (map-at (turned_svertex k) M.svertices i v a)) in
       let (m, w, b, h) = origin y l in
-      let same = same-number i m v w a b (e ∙ ap (λ (r : Svertex). r.way) h) in
+      let same = image-number k M V i m v w a b (e ∙ ap (λ (r : Svertex). r.way) h) in
       let one = at-one M.svertices m v w (subst (λ (n : ℕ). At M.svertices n v) same a) b in
       let (j, c) = lies-at S.list y l in
       (j, subst (λ (r : Svertex). At S.list j r) (h ∙ ap (turned_svertex k) (sym one)) c)
@@ -121,13 +143,9 @@ module _ (k : ℕ) (M : Map) (V : Shaped M) (O : Ordered M) where
       let (i, v, b, e) = origin u (at-lies S.list j u a) in
       (i, v, b, one-svertex S.list S-order (vertex i) j (turned_svertex k v) u (vertex-has i v b) a (sym (ap (λ (r : Svertex). r.way) e)))
 
-  vertex-one : (i j : ℕ) (v w : Svertex) → At M.svertices i v → At M.svertices j w → vertex i ≡ vertex j → i ≡ j
-  vertex-one i j v w a b e =
-      same-number i j v w a b (ap (λ (r : Svertex). r.way) (at-one S.list (vertex j) (turned_svertex k v) (turned_svertex k w) (subst (λ (n : ℕ). At S.list n (turned_svertex k v)) e (vertex-has i v a)) (vertex-has j w b)))
-
   -- ---- arcs
   abbrev IsImage : ℕ → Arc → Arc → Type 0
-  IsImage i a b = (flip : Bool) × IsTurnedArc k vertex flip a b × IsNormal b.normal × IsPrimitive b.normal
+  IsImage i a b = IsArcImage k vertex a b
 
   image-arc : (i : ℕ) (a : Arc) → At M.arcs i a → (b : Arc) × IsImage i a b
   image-arc i a l =
@@ -157,25 +175,12 @@ module _ (k : ℕ) (M : Map) (V : Shaped M) (O : Ordered M) where
       let (a, c, s) = A1.sound i b m in
       (i, a, c, s)
 
-  -- images that are one in the order are of one arc
-  same-origin : (i j : ℕ) (a c x y : Arc) → At M.arcs i a → At M.arcs j c → IsImage i a x → IsImage j c y → SameArc x y → i ≡ j
-  same-origin i j a c x y at-a at-c (p, s, _, _) (q, t, _, _) (e, d) =
-      let (pq, n) = one-origin k p q a.normal c.normal (V.normals i (arc_item a) (at-arc M.arcs M.loop i a at-a)) (V.normals j (arc_item c) (at-arc M.arcs M.loop j c at-c)) (sym s.normal ∙ e ∙ t.normal) in
-      let t' = subst (λ (r : Bool). IsTurnedArc k vertex r c y) (sym pq) t in
-      by (differ (is_odd k) p) n (sym s.source ∙ d ∙ t'.source)
-    where
-      by : (w : Bool) → a.normal ≡ c.normal → vertex (cond w a.target a.source) ≡ vertex (cond w c.target c.source) → i ≡ j
-      by true n h = let b = V.arcs_between i a at-a in let b' = V.arcs_between j c at-c in
-          arcs-end M V i j a c at-a at-c n (vertex-one a.target c.target b.target b'.target b.has_target b'.has_target h)
-      by false n h = let b = V.arcs_between i a at-a in let b' = V.arcs_between j c at-c in
-          arcs-begin M V i j a c at-a at-c n (vertex-one a.source c.source b.source b'.source b.has_source b'.has_source h)
-
   arcs-there : (i : ℕ) (a : Arc) → At M.arcs i a → (j : ℕ) × (b : Arc) × (flip : Bool) × At A.list j b × IsTurnedArc k vertex flip a b
   arcs-there i a l =
       let (x, m, s) = A1.all i a l in
       let (y, n, e) = A.all x (at-lies A1.list i x m) in
       let (j, c, d, t) = arc-origin y n in
-      let same = same-origin i j a c x y l d s t e in
+      let same = one-arc k M V S.list vertex vertex-has i j a c x y l d s t e in
       let one = at-one M.arcs j c a d (subst (λ (n : ℕ). At M.arcs n a) same l) in
       let (h, o) = lies-at A.list y n in
       (h, y, t.0, o, subst (λ (r : Arc). IsTurnedArc k vertex t.0 r y) one t.1)

@@ -14,7 +14,7 @@ use Rattle.law_build.proofs.BuiltAxes.{at-map, map-at}
 use Rattle.law_cones.proofs.Listing.{lies-at, at-lies, Mapped, map-list, Sorted, sort, chain-order}
 use Rattle.law_complex.specs.Complexes.{Vertex, Complex}
 use Rattle.law_complex.specs.Shows.{Shows}
-use Rattle.law_turns.specs.Turned.{turned_form, turned_place}
+use Rattle.law_turns.specs.Turned.{turned_plane, turned_place}
 use Rattle.law_turns.specs.Complexes.{AreTurnedPlanes, AreTurnedVertices}
 use Rattle.law_turns.specs.Maps.{IsTurnedMap}
 use Rattle.law_turns.proofs.Carriers.{same-form}
@@ -59,7 +59,7 @@ same-itself p = record { along_x = refl; along_y = refl; along_z = refl }
 
 module _ (k : ℕ) (gs : List Form) where
   abbrev images : List Form
-  images = map (turned_form k) gs
+  images = map (turned_plane k) gs
 
   P : Sorted FormBelow (λ g h. g ≡ h) images
   P = sort FormBelow (λ g h. g ≡ h) (λ g h i. below-trans (form_numbers g) (form_numbers h) (form_numbers i)) (λ g. refl) form-either images
@@ -70,10 +70,10 @@ module _ (k : ℕ) (gs : List Form) where
     record {
       each = λ j h a.
           let (i, b) = lies-at images h (P.sound h (at-lies P.list j h a)) in
-          let (g, c, e) = at-map (turned_form k) gs i h b in
+          let (g, c, e) = at-map (turned_plane k) gs i h b in
           (i, g, false, c, sym e);
       all = λ i g a.
-          let (h, l, e) = P.all (turned_form k g) (at-lies images i (turned_form k g) (map-at (turned_form k) gs i g a)) in
+          let (h, l, e) = P.all (turned_plane k g) (at-lies images i (turned_plane k g) (map-at (turned_plane k) gs i g a)) in
           let (j, b) = lies-at P.list h l in
           (j, h, false, b, sym e);
       ordered = chain-order FormBelow (λ g h. g ≡ h) P.list P.chain;

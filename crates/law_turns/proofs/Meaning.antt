@@ -7,7 +7,7 @@ use Rattle.nef_space.specs.Local.{HasLabel, SameSet, Germ, Flat, HasFlat, FlatDi
 use Rattle.nef_space.specs.declared.label.Label.{Label}
 use Rattle.nef_space.specs.declared.label.Label.TheVariants.{Out, Not, In}
 use Rattle.law_near.specs.Cones.{NearGerm}
-use Rattle.law_turns.specs.Turned.{turned_vector, turned_form, turned_place, turned_set}
+use Rattle.law_turns.specs.Turned.{turned_vector, turned_plane, turned_place, turned_set}
 use Rattle.law_turns.proofs.Vectors.{every-vector, blend-turned, direction-turned, direction_cross-turned, zero_triple-turned}
 use Rattle.law_turns.proofs.Places.{form-turned, every-place, step-turned, between-turned, same_place-turned, frame-turned, within-turned}
 
@@ -16,7 +16,7 @@ module _ (k : ℕ) where
   abbrev pub Alike : (Place → Type 0) → (Place → Type 0) → Type 0
   Alike P Q = (p : Place) → P (turned_place k p) ↔ Q p
 
-  half-alike : (h : Form) (c : Bool) → Alike (InHalf (turned_form k h) c) (InHalf h c)
+  half-alike : (h : Form) (c : Bool) → Alike (InHalf (turned_plane k h) c) (InHalf h c)
   half-alike h false p = (subst (λ (i : ℤ). i <ℤ pos 0) (form-turned k h p), subst (λ (i : ℤ). i <ℤ pos 0) (sym (form-turned k h p)))
   half-alike h true p = (subst (λ (i : ℤ). i ≤ℤ pos 0) (form-turned k h p), subst (λ (i : ℤ). i ≤ℤ pos 0) (sym (form-turned k h p)))
 

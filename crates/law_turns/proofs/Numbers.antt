@@ -10,7 +10,7 @@ use Rattle.nef_case.specs.Turns.{Triple, negated_if, turned}
 use Rattle.law_sphere.specs.Vectors.{IsPrimitive}
 use Rattle.law_sphere.proofs.Kind.{away}
 use Rattle.law_sphere.proofs.Builder.{normal-or}
-use Rattle.law_turns.specs.Turned.{triple_of, turned_vector, turned_form, turned_place, place_numbers, signed}
+use Rattle.law_turns.specs.Turned.{triple_of, turned_vector, turned_plane, turned_place, place_numbers, signed}
 use Rattle.law_turns.specs.Complexes.{signed_form}
 use Rattle.law_turns.proofs.Coordinates.{same-vector, SignBlind, each-turned, each-back}
 use Rattle.law_turns.proofs.Turning.{signed-dot, dot-signed, sign-twice}
@@ -59,7 +59,7 @@ divides-back k n b t p q r = each-back (Divides n) (divides-blind n) k t t (by _
 pub lowest_vector-turned : (k : ℕ) (b : Bool) (d : Vector) → IsLowest (vector_numbers d) → IsLowest (vector_numbers (signed b (turned_vector k d)))
 lowest_vector-turned k b d h n (p, (q, (r, z))) = let e = divides-back k n b (triple_of d) p q r in h n (e.0, (e.1, (e.2, z)))
 
-pub lowest_form-turned : (k : ℕ) (b : Bool) (g : Form) → IsLowest (form_numbers g) → IsLowest (form_numbers (signed_form b (turned_form k g)))
+pub lowest_form-turned : (k : ℕ) (b : Bool) (g : Form) → IsLowest (form_numbers g) → IsLowest (form_numbers (signed_form b (turned_plane k g)))
 lowest_form-turned k b g h n (p, (q, (r, (s, z)))) = let e = divides-back k n b (g.a, g.b, g.c) p q r in h n (e.0, (e.1, (e.2, (subst (λ (i : ℕ). n ∣ i) (size-sign b g.d) s, z))))
 
 pub lowest_place-turned : (k : ℕ) (p : Place) → IsLowest (place_numbers p) → IsLowest (place_numbers (turned_place k p))

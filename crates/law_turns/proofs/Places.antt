@@ -7,7 +7,7 @@ use Rattle.nef_space.specs.Limits.{half_side}
 use Rattle.nef_space.specs.Vectors.{Vector, SameDirection}
 use Rattle.nef_space.specs.Place.{Place, Form, form_at, slope, Ratio, step, toward, Near, Within, SamePlace, InFrame, IsAhead, IsBetween}
 use Rattle.nef_case.specs.Turns.{Triple}
-use Rattle.law_turns.specs.Turned.{vector_of, triple_of, turned_vector, turned_form, turned_place, unturned_place}
+use Rattle.law_turns.specs.Turned.{vector_of, triple_of, turned_vector, turned_plane, turned_place, unturned_place}
 use Rattle.law_turns.proofs.Coordinates.{zip-turned, IsOddFunction, SignBlind, each-turned, each-back, dots-turned, turned-back, back-turned}
 use Rattle.law_turns.proofs.Vectors.{same_direction-turned}
 
@@ -18,10 +18,10 @@ numbers p = (p.x, p.y, p.z)
 abbrev pub located : (w : ℕ) → 0 < w → Triple → Place
 located w proper t = record { x = t.0; y = t.1; z = t.2; w = w; proper = proper }
 
-pub form-turned : (k : ℕ) (h : Form) (p : Place) → form_at (turned_form k h) (turned_place k p) ≡ form_at h p
+pub form-turned : (k : ℕ) (h : Form) (p : Place) → form_at (turned_plane k h) (turned_place k p) ≡ form_at h p
 form-turned k h p = ap (λ r. r +ℤ h.d *ℤ pos p.w) (dots-turned k (h.a, h.b, h.c) (numbers p))
 
-pub slope-turned : (k : ℕ) (h : Form) (d : Vector) → slope (turned_form k h) (turned_vector k d) ≡ slope h d
+pub slope-turned : (k : ℕ) (h : Form) (d : Vector) → slope (turned_plane k h) (turned_vector k d) ≡ slope h d
 slope-turned k h d = dots-turned k (h.a, h.b, h.c) (triple_of d)
 
 -- ---- every point is the image of one

@@ -3,10 +3,10 @@ use Rattle.std.proofs.Common.{◌≡◌, ℕ, refl, ap, sym, ◌∙◌}
 use Rattle.nef_space.specs.Place.{Form, form}
 use Rattle.nef_space.specs.Sets.{Set}
 use Rattle.nef_case.specs.Turns.{Triple, Undoes, IsComposition}
-use Rattle.law_turns.specs.Turned.{turned_form, turned_set}
+use Rattle.law_turns.specs.Turned.{turned_plane, turned_set}
 
 -- what is so of forms is so of sets
-module _ (i j k : ℕ) (same : (h : Form) → turned_form i h ≡ turned_form j (turned_form k h)) where
+module _ (i j k : ℕ) (same : (h : Form) → turned_plane i h ≡ turned_plane j (turned_plane k h)) where
   two : (make : Set → Set → Set) {a b c d : Set} → a ≡ c → b ≡ d → make a b ≡ make c d
   two make {a} {b} {c} {d} e f = ap (λ (x : Set). make x b) e ∙ ap (make c) f
 

@@ -9,7 +9,7 @@ use Rattle.nef_space.specs.Place.{Place}
 use Rattle.law_sphere.specs.Least.{Least, Ordered, Cone, InOrder}
 use Rattle.law_sphere.specs.Maps.{At}
 use Rattle.law_complex.specs.Complexes.{Vertex, Complex, Edges}
-use Rattle.law_turns.specs.Turned.{turned_form, turned_place}
+use Rattle.law_turns.specs.Turned.{turned_plane, turned_place}
 use Rattle.law_turns.specs.Maps.{IsTurnedMap}
 
 -- the form, or the form of the same plane with opposite numbers
@@ -18,8 +18,8 @@ signed_form b h = form (negated_if b h.a) (negated_if b h.b) (negated_if b h.c) 
 
 -- the planes hs are the turned planes gs, in order
 pub record AreTurnedPlanes (k : ℕ) (gs hs : List Form) : Type 0 where
-  pub each : (j : ℕ) (h : Form) → At hs j h → (i : ℕ) × (g : Form) × (b : Bool) × At gs i g × (h ≡ signed_form b (turned_form k g))
-  pub all : (i : ℕ) (g : Form) → At gs i g → (j : ℕ) × (h : Form) × (b : Bool) × At hs j h × (h ≡ signed_form b (turned_form k g))
+  pub each : (j : ℕ) (h : Form) → At hs j h → (i : ℕ) × (g : Form) × (b : Bool) × At gs i g × (h ≡ signed_form b (turned_plane k g))
+  pub all : (i : ℕ) (g : Form) → At gs i g → (j : ℕ) × (h : Form) × (b : Bool) × At hs j h × (h ≡ signed_form b (turned_plane k g))
   pub ordered : InOrder (λ g h. IsBelow (form_numbers g) (form_numbers h)) hs
 
 -- the vertices vs are the turned vertices us, in order, with the turned maps

@@ -26,7 +26,7 @@ use Rattle.nef_complex.specs.declared.complex.Complex.{Complex as ProgramComplex
 use Rattle.nef_expr.specs.declared.nodes.Node.{Node}
 use Rattle.nef_expr.specs.Nodes.{node_set, IsOrdered}
 use Rattle.law_turns.specs.Nodes.{TurnOf}
-use Rattle.law_turns.specs.Turned.{turned_vector, turned_form, turned_place, turned_set, place_numbers, is_odd, signed}
+use Rattle.law_turns.specs.Turned.{turned_vector, turned_plane, turned_place, turned_set, place_numbers, is_odd, signed}
 use Rattle.law_turns.specs.Maps.{IsTurnedMap, HasTurnedLists}
 use Rattle.law_turns.specs.Complexes.{AreTurnedPlanes, AreTurnedVertices, IsTurnedComplex, ShowsVertices, signed_form}
 
@@ -71,7 +71,7 @@ abbrev pub LowestVectorTurned : Type 0
 LowestVectorTurned = (k : ℕ) (b : Bool) (d : Vector) → IsLowest (vector_numbers d) → IsLowest (vector_numbers (signed b (turned_vector k d)))
 
 abbrev pub LowestFormTurned : Type 0
-LowestFormTurned = (k : ℕ) (b : Bool) (h : Form) → IsLowest (form_numbers h) → IsLowest (form_numbers (signed_form b (turned_form k h)))
+LowestFormTurned = (k : ℕ) (b : Bool) (h : Form) → IsLowest (form_numbers h) → IsLowest (form_numbers (signed_form b (turned_plane k h)))
 
 abbrev pub LowestPlaceTurned : Type 0
 LowestPlaceTurned = (k : ℕ) (p : Place) → IsLowest (place_numbers p) → IsLowest (place_numbers (turned_place k p))
@@ -91,15 +91,15 @@ abbrev pub NormalsDiffer : Type 0
 NormalsDiffer = (k : ℕ) (b c : Bool) (n m : Vector) → IsNormal n → IsNormal m → signed b (turned_vector k n) ≡ signed c (turned_vector k m) → n ≡ m
 
 abbrev pub PlanesDiffer : Type 0
-PlanesDiffer = (k : ℕ) (b c : Bool) (g h : Form) → IsNormal (normal_of g) → IsNormal (normal_of h) → signed_form b (turned_form k g) ≡ signed_form c (turned_form k h) → g ≡ h
+PlanesDiffer = (k : ℕ) (b c : Bool) (g h : Form) → IsNormal (normal_of g) → IsNormal (normal_of h) → signed_form b (turned_plane k g) ≡ signed_form c (turned_plane k h) → g ≡ h
 
 -- ---- points
 -- a turned form is at a turned point what the form is at the point
 abbrev pub FormTurned : Type 0
-FormTurned = (k : ℕ) (h : Form) (p : Place) → form_at (turned_form k h) (turned_place k p) ≡ form_at h p
+FormTurned = (k : ℕ) (h : Form) (p : Place) → form_at (turned_plane k h) (turned_place k p) ≡ form_at h p
 
 abbrev pub SlopeTurned : Type 0
-SlopeTurned = (k : ℕ) (h : Form) (d : Vector) → slope (turned_form k h) (turned_vector k d) ≡ slope h d
+SlopeTurned = (k : ℕ) (h : Form) (d : Vector) → slope (turned_plane k h) (turned_vector k d) ≡ slope h d
 
 abbrev pub StepTurned : Type 0
 StepTurned = (k : ℕ) (p : Place) (t : Ratio) (d : Vector) → step (turned_place k p) t (turned_vector k d) ≡ turned_place k (step p t d)
@@ -207,13 +207,13 @@ ArcsEnd = (M : Map) → Shaped M → (i j : ℕ) (a b : Arc) → At M.arcs i a �
 -- ---- complexes
 -- the carriers of a turned set are the turned carriers
 abbrev pub CarrierTurned : Type 0
-CarrierTurned = (k : ℕ) (s : Set) (h : Form) → Lies (carriers s) h → Lies (carriers (turned_set k s)) (turned_form k h)
+CarrierTurned = (k : ℕ) (s : Set) (h : Form) → Lies (carriers s) h → Lies (carriers (turned_set k s)) (turned_plane k h)
 
 abbrev pub CarrierIsTurned : Type 0
-CarrierIsTurned = (k : ℕ) (s : Set) (g : Form) → Lies (carriers (turned_set k s)) g → (h : Form) × Lies (carriers s) h × (g ≡ turned_form k h)
+CarrierIsTurned = (k : ℕ) (s : Set) (g : Form) → Lies (carriers (turned_set k s)) g → (h : Form) × Lies (carriers s) h × (g ≡ turned_plane k h)
 
 abbrev pub SamePlaneTurned : Type 0
-SamePlaneTurned = (k : ℕ) (g h : Form) → SamePlane (turned_form k g) (turned_form k h) ↔ SamePlane g h
+SamePlaneTurned = (k : ℕ) (g h : Form) → SamePlane (turned_plane k g) (turned_plane k h) ↔ SamePlane g h
 
 abbrev pub CarriersTurned : Type 0
 CarriersTurned = (k : ℕ) (s : Set) (gs hs : List Form) → Carriers s gs → AreTurnedPlanes k gs hs → Carriers (turned_set k s) hs

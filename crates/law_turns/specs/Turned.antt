@@ -16,8 +16,8 @@ abbrev pub turned_vector : ℕ → Vector → Vector
 turned_vector k d = vector_of (turned k (triple_of d))
 
 -- the form with the turned normal and the same offset
-abbrev pub turned_form : ℕ → Form → Form
-turned_form k h = let t = turned k (h.a, h.b, h.c) in form t.0 t.1 t.2 h.d
+abbrev pub turned_plane : ℕ → Form → Form
+turned_plane k h = let t = turned k (h.a, h.b, h.c) in form t.0 t.1 t.2 h.d
 
 -- the point with the turned numbers and the same weight
 abbrev pub turned_place : ℕ → Place → Place
@@ -34,7 +34,7 @@ place_numbers p = p.x ∷ p.y ∷ p.z ∷ pos p.w ∷ []
 
 -- the set with the turned forms of its halves
 abbrev pub turned_set : ℕ → Set → Set
-turned_set k (Set.half h c) = Set.half (turned_form k h) c
+turned_set k (Set.half h c) = Set.half (turned_plane k h) c
 turned_set k Set.empty = Set.empty
 turned_set k Set.full = Set.full
 turned_set k (Set.both a b) = Set.both (turned_set k a) (turned_set k b)
