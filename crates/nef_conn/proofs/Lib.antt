@@ -48,3 +48,5 @@ pub mod Upright
 pub mod UprightVertex
 pub mod Good
 pub mod SidesName
+pub mod OnEdges
+pub mod Counted

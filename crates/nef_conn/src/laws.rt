@@ -2,6 +2,7 @@
 
 ghost use Rattle.nef_conn.specs.Reach.{PointsReachSides, PointsReachItems};
 ghost use Rattle.nef_conn.specs.Converse.{ArcsGoOn, ItemsName, NamesAlong, ConverseBySteps, ThirdSides, JoinedItemsAreLinked};
+ghost use Rattle.nef_conn.specs.Components.{JoinedAreAsFlat, JoinedVertices, JoinedEdges, CornersReached, SidesReached, VerticesCounted, EdgesCounted};
 ghost use Rattle.nef_conn.specs.Falls.{RaysEnd, ConverseBySegments, ConverseByItems, JoinedSidesAreLinked};
 
 /// For a complex that shows a set, each point with three flat directions is joined to a point at some side, and each
@@ -24,6 +25,20 @@ pub fn linked_laws()
     ensures converse { ConverseBySteps }
     ensures triangles { ThirdSides }
     ensures facets { JoinedItemsAreLinked }
+{}
+
+/// Joined points have equally many flat directions. Vertices are joined exactly where they are one, and points of edges
+/// exactly where the edges are one. A point in a facet is joined to a point at the item of its corner, and a point in a
+/// volume to one at the side that it has. So a complex that shows a set has as many vertices as the points with no flat
+/// direction have components, and as many edges as those with one.
+pub fn component_laws()
+    ensures flat { JoinedAreAsFlat }
+    ensures vertices { JoinedVertices }
+    ensures edges { JoinedEdges }
+    ensures corners { CornersReached }
+    ensures sides { SidesReached }
+    ensures vertices_counted { VerticesCounted }
+    ensures edges_counted { EdgesCounted }
 {}
 
 /// From each point of the frame with three flat directions the ray down ends at a skeleton point, above which a side
