@@ -1,6 +1,8 @@
-//! Tests of where points lie in complexes of sets other than the frame, and of what rays meet there.
+//! Tests of where points lie in complexes, of what rays meet there, and of the candidates of the frame.
 #![tactic(auto)]
 
+#[cfg(test)]
+mod frame;
 #[cfg(test)]
 mod half_spaces;
 #[cfg(test)]
