@@ -30,9 +30,11 @@ use Rattle.nef_complex.specs.Complexes.{vertex_of, edge_of, complex_of, ShowsSet
 use Rattle.nef_complex.proofs.Ends.{through-both, low-within, high-within, listed_edge, ends, apart}
 use Rattle.nef_complex.proofs.Reading.{got-at}
 use Rattle.nef_cand.specs.Candidates.{IsVertexOf}
+use Rattle.nef_complex.specs.Index.{AreInOrder}
 use Rattle.nef_complex.specs.Planes.{HoldsBoth}
-use Rattle.nef_cand.specs.Points.{AreHeldByTwo, IsCrossing, CrossesOne, CutsOne, Adds}
+use Rattle.nef_cand.specs.Points.{IsCrossing, CrossesOne, CutsOne, Adds}
 use Rattle.nef_cand.proofs.Adding.{adds-as, AnyAt}
+use Rattle.nef_cand.proofs.Planes.{AreHeldByTwo}
 
 -- ---- the planes of a segment
 -- forms of one plane have parallel normals
@@ -143,20 +145,6 @@ vertices-all c ps qs = adds-as (AnyAt (λ (u : Vertex) (y : Place). SamePlace (p
     (λ y a. (a.0, (vertex_of a.1, map-at vertex_of c.vertices a.0 a.1 a.2, a.3)))
     (λ y a. let v = at-map vertex_of c.vertices a.0 a.1.0 a.1.1 in (a.0, v.0, v.1, subst (λ (r : PlainVertex). SamePlace r.point y) (sym v.2) a.1.2))
 
--- ---- the edge with number i, as it is read
-module _ (s : Set) (c : Complex) (S : ShowsSet s c) (es : List Edge) (all : es ≡ c.edges) (i : ℕ) (d : Edge) (l : i < length es) where
-  pub edge-at : At c.edges i (get_or es i d)
-  edge-at = subst (λ (r : List Edge). At r i (get_or es i d)) all (get-at es i d l)
-
-  pub low-read : (get_or es i d).low < length c.vertices
-  low-read = low-within s c S.shows i (get_or es i d) edge-at
-
-  pub high-read : (get_or es i d).high < length c.vertices
-  high-read = high-within s c S.shows i (get_or es i d) edge-at
-
-  module _ (u v : Vertex) (a : slice_get c.vertices (get_or es i d).low ≡ Some u) (b : slice_get c.vertices (get_or es i d).high ≡ Some v) where
-    pub held-read : AreHeldByTwo c.carriers (place_of u.point) (place_of v.point)
-    held-read = edge-held s c S i (get_or es i d) edge-at u v (got-at c.vertices (get_or es i d).low u a) (got-at c.vertices (get_or es i d).high v b)
-
-    pub cuts-read : (hs : List Plane) (ps qs : List Point) → Adds (CrossesOne hs (place_of u.point) (place_of v.point)) ps qs → Adds (CutsEdge c hs (get_or es i d)) ps qs
-    cuts-read hs = edge-cuts c hs (get_or es i d) u v (got-at c.vertices (get_or es i d).low u a) (got-at c.vertices (get_or es i d).high v b)
+-- ---- the carriers, once each
+pub carriers-ordered : (s : Set) (c : Complex) → ShowsSet s c → AreInOrder c.carriers
+carriers-ordered s c S i j g h l a b = S.shows.carriers.ordered i j (form_of g) (form_of h) l (map-at form_of c.carriers i g (got-at c.carriers i g a)) (map-at form_of c.carriers j h (got-at c.carriers j h b))

@@ -18,19 +18,6 @@ pub record Adds (P : Place → Type 0) (ps qs : List Point) : Type 0 where
   pub added : (p : Point) → Contains qs p → Contains ps p ⊎ P (place_of p)
   pub all : (y : Place) → P y → IsListed qs y
 
--- none of the planes has P
-abbrev pub HasNone : (Plane → Type 0) → List Plane → Type 0
-HasNone P hs = (k : ℕ) (h : Plane) → At hs k h → P h → ⊥
-
--- the plane holds both points and is another than g
-abbrev pub IsOtherHolder : Plane → Place → Place → Plane → Type 0
-IsOtherHolder g p q h = HoldsBoth (form_of h) p q × (h ≡ g → ⊥)
-
--- two different planes of the list hold both points
-abbrev pub AreHeldByTwo : List Plane → Place → Place → Type 0
-AreHeldByTwo hs p q = (i : ℕ) × (k : ℕ) × (g : Plane) × (h : Plane) × At hs i g × At hs k h
-    × HoldsBoth (form_of g) p q × HoldsBoth (form_of h) p q × (g ≡ h → ⊥)
-
 -- the planes of the line hold both points, and their normals aren't parallel
 pub record IsLineThrough (l : Line) (p q : Place) : Type 0 where
   pub first : HoldsBoth (form_of l.first) p q

@@ -54,10 +54,11 @@ pub(crate) fn add_cuts(
     requires shows { (s : Set) × ShowsSet s c.now }
     ensures added { OnOk result (Adds (CutsOne (complex_of c.now) planes.now) points.old.items points.new.items) }
 {
-    for edge in c.edges.as_slice() {
+    for number in 0..c.edges.len() {
+        let edge = c.edges.at(number);
         let low = &c.vertices.at(edge.low).point;
         let high = &c.vertices.at(edge.high).point;
-        let line = line_through(c.carriers.as_slice(), low, high);
+        let line = line_through(c, number);
         add_crossings(points, &line, low, high, planes)?;
     }
     Ok(())

@@ -1,14 +1,18 @@
 //! The line of an edge, and where a plane crosses the edge.
 
-ghost use Rattle.std.specs.Prelude.{◌≡◌, ◌↔◌, IsTrue};
+ghost use Rattle.std.specs.Prelude.{◌<◌, length, ◌↔◌, IsTrue};
 ghost use Rattle.std.specs.Option.{MatchOption};
+ghost use Rattle.nef_space.specs.Lists.{IsAt};
 ghost use Rattle.nef_space.specs.Place.{Place, form_at};
+ghost use Rattle.nef_space.specs.Sets.{Set};
 ghost use Rattle.nef_geo.specs.Shapes.{place_of, form_of};
 ghost use Rattle.nef_geo.specs.Steps.{HasOppositeSigns};
-ghost use Rattle.nef_complex.specs.Planes.{HoldsBoth};
-ghost use Rattle.nef_cand.specs.Points.{HasNone, IsOtherHolder, AreHeldByTwo, IsLineThrough, IsCrossing, IsOnlyCrossing};
+ghost use Rattle.nef_complex.specs.declared.complex.Vertex.{Vertex};
+ghost use Rattle.nef_complex.specs.declared.complex.Edge.{Edge};
+ghost use Rattle.nef_complex.specs.Complexes.{ShowsSet};
+ghost use Rattle.nef_cand.specs.Points.{IsLineThrough, IsCrossing, IsOnlyCrossing};
 
-use nef_complex::holds_both;
+use nef_complex::{Complex, edge_holders};
 use nef_geo::{Plane, Point, Sign, meet, side};
 
 /// Two planes that meet in a line.
@@ -18,54 +22,17 @@ pub(crate) struct Line {
     pub second: Plane,
 }
 
-// The first of the planes that holds both points.
-fn holder(planes: &[Plane], p: &Point, q: &Point) -> Option<Plane>
-    ensures holder { MatchOption result (HasNone (λ h. HoldsBoth (form_of h) (place_of p.now) (place_of q.now)) planes.now) (λ h. HoldsBoth (form_of h) (place_of p.now) (place_of q.now)) }
+/// The line of the edge with this number: that in which the first two of the carriers that hold it meet.
+pub(crate) fn line_through(c: &Complex, number: usize) -> Line
+    requires shows { (s : Set) × ShowsSet s c.now }
+    requires within { number < length c.now.edges }
+    ensures line { (e : Edge) (u v : Vertex) → IsAt c.now.edges number e → IsAt c.now.vertices e.low u → IsAt c.now.vertices e.high v → IsLineThrough result (place_of u.point) (place_of v.point) }
 {
-    for h in planes {
-        if holds_both(h, p, q) {
-            return Some(*h);
-        }
+    let holders = edge_holders(c, number);
+    Line {
+        first: *c.carriers.at(holders[0]),
+        second: *c.carriers.at(holders[1]),
     }
-    None
-}
-
-fn is_other(g: &Plane, h: &Plane) -> bool
-    ensures other { IsTrue result ↔ (g.now ≡ h.now → ⊥) }
-{
-    *g != *h
-}
-
-fn is_other_holder(h: &Plane, p: &Point, q: &Point, besides: &Plane) -> bool
-    ensures holds { IsTrue result ↔ IsOtherHolder besides.now (place_of p.now) (place_of q.now) h.now }
-{
-    holds_both(h, p, q) && is_other(h, besides)
-}
-
-// The first of the planes that holds both points and isn't `besides`.
-fn other_holder(planes: &[Plane], p: &Point, q: &Point, besides: &Plane) -> Option<Plane>
-    ensures holder { MatchOption result (HasNone (IsOtherHolder besides.now (place_of p.now) (place_of q.now)) planes.now) (IsOtherHolder besides.now (place_of p.now) (place_of q.now)) }
-{
-    for h in planes {
-        if is_other_holder(h, p, q, besides) {
-            return Some(*h);
-        }
-    }
-    None
-}
-
-/// The line in which two of the planes that hold both points meet.
-pub(crate) fn line_through(planes: &[Plane], p: &Point, q: &Point) -> Line
-    requires held { AreHeldByTwo planes.now (place_of p.now) (place_of q.now) }
-    ensures line { IsLineThrough result (place_of p.now) (place_of q.now) }
-{
-    let Some(first) = holder(planes, p, q) else {
-        unreachable!()
-    };
-    let Some(second) = other_holder(planes, p, q, &first) else {
-        unreachable!()
-    };
-    Line { first, second }
 }
 
 // Whether the points lie strictly on different sides of the plane.

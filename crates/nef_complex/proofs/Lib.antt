@@ -8,3 +8,4 @@ pub mod SamePlanes
 pub mod IndexSteps
 pub mod PlaneSearch
 pub mod Carried
+pub mod ListedHolders

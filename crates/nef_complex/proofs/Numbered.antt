@@ -1,7 +1,7 @@
 -- Lists of the numbers that have a property, in increasing order.
-use Rattle.std.proofs.Common.{ℕ, ◌+◌, ◌<◌, List, [], ◌∷◌, ◌++◌, length, ◌↔◌, arith, sym, subst, ⊎_elim}
+use Rattle.std.proofs.Common.{◌≡◌, ℕ, ◌+◌, ◌<◌, ◌≤◌, List, [], ◌∷◌, ◌++◌, length, length-append, ◌↔◌, arith, refl, sym, ◌∙◌, subst, ⊎_elim}
 use Rattle.nef_space.specs.Lists.{IsAt}
-use Rattle.nef_smap.proofs.ClassLists.{less-or-last, is-at_within, is-at_left, is-at_last, Either, earlier, last, is-at_either}
+use Rattle.nef_smap.proofs.ClassLists.{less-or-last, is-at_one, is-at_within, is-at_left, is-at_last, Either, earlier, last, is-at_either}
 use Rattle.nef_complex.specs.Index.{AreNumbersWith}
 
 -- the number is below n and has P
@@ -46,3 +46,74 @@ numbers-all P n ns N within = record { each = λ i k a. (N.each i k a).1; all = 
 
 pub numbers-same : (P Q : ℕ → Type 0) (ns : List ℕ) → ((k : ℕ) → P k ↔ Q k) → AreNumbersWith P ns → AreNumbersWith Q ns
 numbers-same P Q ns same N = record { each = λ i k a. (same k).0 (N.each i k a); all = λ k q. N.all k ((same k).1 q); ordered = N.ordered }
+
+-- ---- a list, thinned out
+-- the number is one of the first n of the list
+abbrev pub AmongFirst : List ℕ → ℕ → ℕ → Type 0
+AmongFirst ns n k = (i : ℕ) × (i < n) × IsAt ns i k
+
+-- the numbers are those among the first n of the list that have Q
+abbrev pub AreThinned : List ℕ → (ℕ → Type 0) → ℕ → List ℕ → Type 0
+AreThinned ns Q n ms = AreNumbersWith (λ k. AmongFirst ns n k × Q k) ms
+
+pub thinned-none : (ns : List ℕ) (Q : ℕ → Type 0) → AreThinned ns Q 0 []
+thinned-none ns Q = record { each = λ i k a. cc; all = λ k (x, q). absurd (let l = x.1 in omega arith); ordered = λ i j k l h a b. cc }
+
+module _ (P Q : ℕ → Type 0) (ns : List ℕ) (N : AreNumbersWith P ns) (n k : ℕ) (here : IsAt ns n k) (ms : List ℕ) (M : AreThinned ns Q n ms) where
+  -- the next one has Q, and is added: it is greater than those before it
+  pub thinned-more : Q k → AreThinned ns Q (n + 1) (ms ++ k ∷ [])
+  thinned-more q = record {
+    each = λ i m a. each i m (is-at_either ms i m k a);
+    all = λ m (x, p). ⊎_elim
+        (λ l. let o = M.all m ((x.0, l, x.2), p) in (o.0, is-at_left ms (k ∷ []) o.0 m o.1))
+        (λ e. (length ms, subst (λ (j : ℕ). IsAt (ms ++ k ∷ []) (length ms) j) (is-at_one ns n k m here (subst (λ (i : ℕ). IsAt ns i m) e x.2)) (is-at_last ms k)))
+        (less-or-last x.0 n x.1);
+    ordered = λ i j a b l p q. ordered i j a b l (is-at_either ms i a k p) (is-at_either ms j b k q);
+  }
+    where
+      each : (i m : ℕ) → Either ms i m k → AmongFirst ns (n + 1) m × Q m
+      each i m (earlier a) = let o = M.each i m a in ((o.0.0, (let l = o.0.1 in omega arith), o.0.2), o.1)
+      each i m (last e f) = ((n, omega arith, subst (IsAt ns n) (sym f) here), subst Q (sym f) q)
+
+      ordered : (i j a b : ℕ) → i < j → Either ms i a k → Either ms j b k → a < b
+      ordered i j a b l (earlier p) (earlier r) = M.ordered i j a b l p r
+      ordered i j a b l (earlier p) (last e f) = let o = (M.each i a p).0 in subst (λ (m : ℕ). a < m) (sym f) (N.ordered o.0 n a k o.1 o.2 here)
+      ordered i j a b l (last e f) (earlier r) = let o = is-at_within ms j b r in absurd (omega arith)
+      ordered i j a b l (last e f) (last g h) = absurd (omega arith)
+
+  pub thinned-skip : (Q k → ⊥) → AreThinned ns Q (n + 1) ms
+  thinned-skip off = record {
+    each = λ i m a. let o = M.each i m a in ((o.0.0, (let l = o.0.1 in omega arith), o.0.2), o.1);
+    all = λ m (x, p). ⊎_elim (λ l. M.all m ((x.0, l, x.2), p))
+        (λ e. absurd (off (subst Q (is-at_one ns n m k (subst (λ (i : ℕ). IsAt ns i m) e x.2) here) p))) (less-or-last x.0 n x.1);
+    ordered = M.ordered;
+  }
+
+-- the list has all that have Q
+pub thinned-all : (P Q : ℕ → Type 0) (ns ms : List ℕ) (n : ℕ) → AreNumbersWith P ns → ((k : ℕ) → Q k → P k) → length ns ≤ n → AreThinned ns Q n ms → AreNumbersWith Q ms
+thinned-all P Q ns ms n N within le M = record {
+  each = λ i k a. (M.each i k a).1;
+  all = λ k q. let o = N.all k (within k q) in M.all k ((o.0, (let l = is-at_within ns o.0 k o.1 in omega arith), o.1), q);
+  ordered = M.ordered;
+}
+
+-- ---- a row for each element
+-- the rows are those of the first n elements, and each has P with its element
+pub record AreRowsTo {X : Type 0} (P : X → List ℕ → Type 0) (xs : List X) (n : ℕ) (rows : List (List ℕ)) : Type 0 where
+  pub as_many : length rows ≡ n
+  pub each : (k : ℕ) (x : X) (ns : List ℕ) → IsAt xs k x → IsAt rows k ns → P x ns
+
+pub rows-none : {X : Type 0} (P : X → List ℕ → Type 0) (xs : List X) → AreRowsTo P xs 0 []
+rows-none P xs = record { as_many = refl; each = λ k x ns a b. absurd (let l = is-at_within [] k ns b in omega arith) }
+
+pub rows-more : {X : Type 0} (P : X → List ℕ → Type 0) (xs : List X) (n : ℕ) (rows : List (List ℕ)) (x : X) (ns : List ℕ) → IsAt xs n x → P x ns → AreRowsTo P xs n rows → AreRowsTo P xs (n + 1) (rows ++ ns ∷ [])
+rows-more {X} P xs n rows x ns here p R = record {
+  as_many = let e = R.as_many in let f = length-append rows (ns ∷ []) in omega arith;
+  each = λ k y ms a b. each k y ms a (is-at_either rows k ms ns b);
+}
+  where
+    each : (k : ℕ) (y : X) (ms : List ℕ) → IsAt xs k y → Either rows k ms ns → P y ms
+    each k y ms a (earlier b) = R.each k y ms a b
+    each k y ms a (last e f) =
+        let same : x ≡ y = is-at_one xs n x y here (subst (λ (i : ℕ). IsAt xs i y) (e ∙ R.as_many) a) in
+        subst (λ (z : X). P z ms) same (subst (P x) (sym f) p)

@@ -18,7 +18,7 @@ below-trans (x ∷ xs) (y ∷ ys) (z ∷ zs) (inl h) (inr k) = inl (let e = k.0 
 below-trans (x ∷ xs) (y ∷ ys) (z ∷ zs) (inr h) (inl k) = inl (let e = h.0 in omega (arith, ints))
 below-trans (x ∷ xs) (y ∷ ys) (z ∷ zs) (inr (e, h)) (inr (f, k)) = inr (e ∙ f, below-trans xs ys zs h k)
 
-never-below : (xs : List ℤ) → IsBelow xs xs → ⊥
+pub never-below : (xs : List ℤ) → IsBelow xs xs → ⊥
 never-below [] h = h
 never-below (x ∷ xs) (inl h) = omega (arith, ints)
 never-below (x ∷ xs) (inr (e, h)) = never-below xs h

@@ -16,7 +16,7 @@ use Rattle.nef_complex.specs.declared.complex.Complex.{Complex}
 use Rattle.nef_complex.specs.declared.complex.Corner.{Corner}
 use Rattle.nef_complex.specs.declared.complex.PlaneMeet.{PlaneMeet}
 use Rattle.nef_complex.specs.declared.complex.PlaneMeet.TheVariants.{AtVertex, AtEdge}
-use Rattle.nef_complex.specs.Index.{IsIndexOf}
+use Rattle.nef_complex.specs.Index.{IsIndexOf, HasHolders}
 
 abbrev pub vertex_of : Vertex → PlainVertex
 vertex_of v = record { point = place_of v.point; map = map_of v.map }
@@ -38,11 +38,12 @@ meet_of (AtEdge k) = meets_edge k
 abbrev pub AreSorted : List Vertex → Type 0
 AreSorted vs = (i k : ℕ) (u v : Vertex) → i < k → IsAt vs i u → IsAt vs k v → IsPlaceBelow (place_of u.point) (place_of v.point)
 
--- the complex shows the set, with maps within their limits, and its index is that of its vertices and edges
+-- the complex shows the set, with maps within their limits, and its index is that of its vertices and edges and names the carriers that hold them
 pub record ShowsSet (s : Set) (c : Complex) : Type 0 where
   pub shows : Shows s (complex_of c)
   pub maps : (k : ℕ) (v : Vertex) → IsAt c.vertices k v → IsLeastMap v.map
   pub index : IsIndexOf c.vertices c.edges c.index
+  pub holders : HasHolders c.carriers c.vertices c.edges c.index
 
 -- sorted vertices with least maps, which with their edges and these carriers are a complex that shows the set
 pub record AreVerticesOf (s : Set) (carriers : List Plane) (vertices : List Vertex) : Type 0 where

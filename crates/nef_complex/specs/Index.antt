@@ -2,7 +2,7 @@
 use Rattle.std.specs.Prelude.{◌≡◌, ℕ, ◌<◌, ◌≤◌, pos, List, length, ◌↔◌}
 use Rattle.nef_space.specs.Lists.{IsAt}
 use Rattle.nef_space.specs.Numbers.{IsBelow}
-use Rattle.nef_space.specs.Place.{Form, form_at, form_numbers, normal_of}
+use Rattle.nef_space.specs.Place.{Place, Form, form_at, form_numbers, normal_of}
 use Rattle.nef_space.specs.Vectors.{SameDirection}
 use Rattle.nef_geo.specs.Shapes.{place_of, form_of}
 use Rattle.nef_geo.specs.declared.plane.Plane.{Plane}
@@ -11,6 +11,7 @@ use Rattle.nef_smap.specs.Maps.{map_of}
 use Rattle.nef_complex.specs.declared.complex.Vertex.{Vertex}
 use Rattle.nef_complex.specs.declared.complex.Edge.{Edge}
 use Rattle.nef_complex.specs.declared.index.PlaneIndex.{PlaneIndex}
+use Rattle.nef_complex.specs.Planes.{HoldsBoth}
 
 -- the plane is that of an item of some vertex
 abbrev pub HasItemIn : List Vertex → Form → Type 0
@@ -42,6 +43,37 @@ pub record IsIndexOf (vs : List Vertex) (es : List Edge) (x : PlaneIndex) : Type
   pub as_many_vertices : length x.vertices ≡ length x.planes
   pub edges : (i : ℕ) (h : Plane) (ns : List ℕ) → IsAt x.planes i h → IsAt x.edges i ns → AreNumbersWith (EdgeLiesIn vs es (form_of h)) ns
   pub vertices : (i : ℕ) (h : Plane) (ns : List ℕ) → IsAt x.planes i h → IsAt x.vertices i ns → AreNumbersWith (LiesOn vs (form_of h)) ns
+
+-- each of the numbers is that of an element
+abbrev pub AreWithin : {X : Type 0} → List X → List ℕ → Type 0
+AreWithin xs ns = (i k : ℕ) → IsAt ns i k → k < length xs
+
+-- the carrier with this number holds both points
+abbrev pub IsHolder : List Plane → Place → Place → ℕ → Type 0
+IsHolder hs a b k = (h : Plane) × IsAt hs k h × HoldsBoth (form_of h) a b
+
+-- the numbers are those of the carriers that hold both points, in increasing order
+abbrev pub AreHolders : List Plane → Place → Place → List ℕ → Type 0
+AreHolders hs a b ns = AreNumbersWith (IsHolder hs a b) ns
+
+-- for each vertex there are the numbers of the carriers that hold it
+pub record AreVertexHolders (hs : List Plane) (vs : List Vertex) (rows : List (List ℕ)) : Type 0 where
+  pub as_many : length rows ≡ length vs
+  pub each : (k : ℕ) (v : Vertex) (ns : List ℕ) → IsAt vs k v → IsAt rows k ns → AreHolders hs (place_of v.point) (place_of v.point) ns
+
+-- the numbers are those of the carriers that hold both ends of the edge
+abbrev pub AreHoldersAlong : List Plane → List Vertex → Edge → List ℕ → Type 0
+AreHoldersAlong hs vs e ns = (u w : Vertex) → IsAt vs e.low u → IsAt vs e.high w → AreHolders hs (place_of u.point) (place_of w.point) ns
+
+-- for each edge there are the numbers of the carriers that hold both of its ends
+pub record AreEdgeHolders (hs : List Plane) (vs : List Vertex) (es : List Edge) (rows : List (List ℕ)) : Type 0 where
+  pub as_many : length rows ≡ length es
+  pub each : (k : ℕ) (e : Edge) (ns : List ℕ) → IsAt es k e → IsAt rows k ns → AreHoldersAlong hs vs e ns
+
+-- the index names the carriers that hold each vertex and each edge
+pub record HasHolders (hs : List Plane) (vs : List Vertex) (es : List Edge) (x : PlaneIndex) : Type 0 where
+  pub at_vertex : AreVertexHolders hs vs x.at_vertex
+  pub at_edge : AreEdgeHolders hs vs es x.at_edge
 
 -- the carriers hold each item: some carrier has its normal and holds its vertex
 abbrev pub AreHeld : List Plane → List Vertex → Type 0

@@ -1,23 +1,29 @@
-//! The planes of the items of a complex, with the edges and the vertices of each.
+//! The planes of the items of a complex, with the edges and the vertices of each; and the carriers that hold a vertex or an
+//! edge.
 
-ghost use Rattle.std.specs.Prelude.{ℕ, IsNone, IfSome};
+ghost use Rattle.std.specs.Prelude.{ℕ, ◌<◌, length, IsNone, IfSome};
 ghost use Rattle.nef_space.specs.Lists.{IsAt};
 ghost use Rattle.nef_space.specs.Sets.{Set};
-ghost use Rattle.nef_geo.specs.Shapes.{form_of};
+ghost use Rattle.nef_geo.specs.Shapes.{form_of, place_of};
+ghost use Rattle.nef_complex.specs.declared.complex.Edge.{Edge};
+ghost use Rattle.nef_complex.specs.declared.complex.Vertex.{Vertex};
 ghost use Rattle.nef_complex.specs.Complexes.{ShowsSet};
-ghost use Rattle.nef_complex.specs.Index.{AreInOrder, HasItemIn, LiesOn, EdgeLiesIn, AreNumbersWith};
+ghost use Rattle.nef_complex.specs.Index.{AreInOrder, HasItemIn, LiesOn, EdgeLiesIn, AreNumbersWith, AreHolders, AreHoldersAlong};
 
 use crate::complex::Complex;
 use nef_geo::{List, Plane, plane_cmp};
 use std::cmp::Ordering;
 
 /// The planes of the items of all vertices, in order of their four numbers, once each; and for each of them the numbers
-/// of the edges that lie in it and those of the vertices on it, in increasing order.
+/// of the edges that lie in it and those of the vertices on it, in increasing order. Besides, for each vertex the numbers
+/// of the carriers that hold it, and for each edge those of the carriers that hold both of its ends, in increasing order.
 #[derive(Debug, Drop)]
 pub struct PlaneIndex {
     pub planes: List<Plane>,
     pub edges: List<List<usize>>,
     pub vertices: List<List<usize>>,
+    pub at_vertex: List<List<usize>>,
+    pub at_edge: List<List<usize>>,
 }
 
 /// The numbers of the edges that lie in a plane, and of the vertices on it, in increasing order.
@@ -59,4 +65,22 @@ pub fn plane_items<'a>(c: &'a Complex, h: &Plane) -> Option<PlaneItems<'a>>
         edges: c.index.edges.at(number).as_slice(),
         vertices: c.index.vertices.at(number).as_slice(),
     })
+}
+
+/// The numbers of the carriers that hold the vertex with this number, in increasing order.
+pub fn vertex_holders(c: &Complex, number: usize) -> &[usize]
+    requires shows { (s : Set) × ShowsSet s c.now }
+    requires within { number < length c.now.vertices }
+    ensures holders { (v : Vertex) → IsAt c.now.vertices number v → AreHolders c.now.carriers (place_of v.point) (place_of v.point) result.now }
+{
+    c.index.at_vertex.at(number).as_slice()
+}
+
+/// The numbers of the carriers that hold both ends of the edge with this number, in increasing order.
+pub fn edge_holders(c: &Complex, number: usize) -> &[usize]
+    requires shows { (s : Set) × ShowsSet s c.now }
+    requires within { number < length c.now.edges }
+    ensures holders { (e : Edge) → IsAt c.now.edges number e → AreHoldersAlong c.now.carriers c.now.vertices e result.now }
+{
+    c.index.at_edge.at(number).as_slice()
 }

@@ -6,11 +6,12 @@ ghost use Rattle.nef_space.specs.Vectors.{SameDirection};
 ghost use Rattle.nef_geo.specs.Shapes.{form_of, vector_of};
 ghost use Rattle.law_sphere.specs.Maps.{At, Arc, Loop};
 ghost use Rattle.nef_smap.specs.Maps.{map_of};
-ghost use Rattle.nef_complex.specs.Index.{HasItemIn, LiesOn, EdgeLiesIn, AreNumbersWith, IsIndexOf, AreHeld, AreInOrder, HaveEnds};
+ghost use Rattle.nef_complex.specs.Index.{HasItemIn, LiesOn, EdgeLiesIn, AreNumbersWith, IsIndexOf, HasHolders, AreHeld, AreInOrder, HaveEnds};
 ghost use Rattle.nef_complex.specs.Indexing.{HasNormal, AreFlags, HasOneMore};
 
 use crate::OutOfMemory;
 use crate::complex::{Complex, Edge, Vertex};
+use crate::holders::{edge_rows, vertex_rows};
 use crate::holding::{holds, plane_normal, same_dir};
 use crate::index::PlaneIndex;
 use nef_geo::{Dir, List, Plane};
@@ -153,6 +154,8 @@ fn index_of(
         planes: List::new(alloc),
         edges: List::new(alloc),
         vertices: List::new(alloc),
+        at_vertex: List::new(alloc),
+        at_edge: List::new(alloc),
     };
     for h in carriers {
         add_plane(alloc, &mut index, h, vertices, edges)?;
@@ -161,8 +164,8 @@ fn index_of(
 }
 
 impl Complex {
-    /// The complex with these carriers, vertices and edges, and with the index of its planes. The carriers stand in order,
-    /// and some of them holds each item. `OutOfMemory` says that memory was wanted and not found.
+    /// The complex with these carriers, vertices and edges, and with the index of its planes and of the carriers that hold
+    /// each vertex and edge. The carriers stand in order, and some of them holds each item. `OutOfMemory` says that memory was wanted and not found.
     pub fn of(
         alloc: Global,
         carriers: List<Plane>,
@@ -174,13 +177,24 @@ impl Complex {
         requires ends { HaveEnds vertices edges }
         ensures kept { IfOk result (λ c. (c.carriers ≡ carriers) × (c.vertices ≡ vertices) × (c.edges ≡ edges)) }
         ensures index { IfOk result (λ c. IsIndexOf c.vertices c.edges c.index) }
+        ensures holders { IfOk result (λ c. HasHolders c.carriers c.vertices c.edges c.index) }
     {
-        let index = index_of(
+        let at_vertex = vertex_rows(alloc, carriers.as_slice(), vertices.as_slice())?;
+        let at_edge = edge_rows(
+            alloc,
+            carriers.as_slice(),
+            vertices.as_slice(),
+            edges.as_slice(),
+            &at_vertex,
+        )?;
+        let mut index = index_of(
             alloc,
             carriers.as_slice(),
             vertices.as_slice(),
             edges.as_slice(),
         )?;
+        index.at_vertex = at_vertex;
+        index.at_edge = at_edge;
         Ok(Complex {
             carriers,
             vertices,

@@ -5,6 +5,7 @@
 #![tactic(auto)]
 
 mod complex;
+mod holders;
 mod holding;
 mod index;
 mod indexing;
@@ -12,6 +13,6 @@ mod vertices;
 
 pub use complex::{Complex, Corner, Edge, PlaneMeet, Vertex};
 pub use holding::{holds, holds_both, plane_normal, same_dir};
-pub use index::{PlaneIndex, PlaneItems, plane_items};
+pub use index::{PlaneIndex, PlaneItems, edge_holders, plane_items, vertex_holders};
 pub use std::alloc::AllocError as OutOfMemory;
 pub use vertices::vertex_at;

@@ -13,7 +13,7 @@ use Rattle.nef_complex.specs.declared.complex.Complex.{Complex}
 use Rattle.nef_complex.specs.declared.complex.Vertex.{Vertex}
 use Rattle.nef_complex.specs.declared.complex.Edge.{Edge}
 use Rattle.nef_complex.specs.Complexes.{vertex_of, edge_of, AreVerticesOf, ShowsSet}
-use Rattle.nef_complex.specs.Index.{IsIndexOf, AreHeld, AreInOrder, HaveEnds}
+use Rattle.nef_complex.specs.Index.{IsIndexOf, HasHolders, AreHeld, AreInOrder, HaveEnds}
 use Rattle.nef_complex.proofs.Carried.{items-held}
 use Rattle.nef_edges.specs.Pairs.{AreJoined}
 use Rattle.nef_edges.proofs.Existing.{edges-exist}
@@ -59,11 +59,12 @@ module _ (s : Set) (carriers : List Plane) (vertices : List Vertex) (V : AreVert
         vertex-within : (i : ℕ) (v : PlainVertex) → At (map vertex_of vertices) i v → i < length vertices
         vertex-within i v b = let u = map-at vertex_of vertices i v b in at-within vertices i u.0 u.1
 
-    pub shows-set : (c : Complex) → c.carriers ≡ carriers → c.vertices ≡ vertices → c.edges ≡ es → IsIndexOf c.vertices c.edges c.index → ShowsSet s c
-    shows-set c h v e I = record {
+    pub shows-set : (c : Complex) → c.carriers ≡ carriers → c.vertices ≡ vertices → c.edges ≡ es → IsIndexOf c.vertices c.edges c.index → HasHolders c.carriers c.vertices c.edges c.index → ShowsSet s c
+    shows-set c h v e I H = record {
       shows = subst (λ (hs : List Plane). Shows s (record { carriers = map form_of hs; vertices = map vertex_of c.vertices; edges = map edge_of c.edges })) (sym h)
           (subst (λ (vs : List Vertex). Shows s (record { carriers = map form_of carriers; vertices = map vertex_of vs; edges = map edge_of c.edges })) (sym v)
           (subst (λ (fs : List Edge). Shows s (record { carriers = map form_of carriers; vertices = map vertex_of vertices; edges = map edge_of fs })) (sym e) shown));
       maps = λ k u a. V.maps k u (subst (λ (vs : List Vertex). IsAt vs k u) v a);
       index = I;
+      holders = H;
     }

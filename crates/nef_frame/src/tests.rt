@@ -1,11 +1,10 @@
-//! The vertices and edges of the frame against its text, and the candidates of the frame.
+//! The vertices, edges and planes of the frame against its text.
 
 ghost use Rattle.std.specs.Prelude.{IfOk};
 ghost use Rattle.nef_space.specs.Sets.{Set};
 ghost use Rattle.nef_complex.specs.Complexes.{ShowsSet};
 
 use super::*;
-use nef_cand::{candidates, cut_candidates};
 use nef_complex::{Complex, Vertex, plane_items};
 use nef_geo::{Label, Plane};
 use std::alloc::Global;
@@ -124,13 +123,6 @@ fn empty(alloc: Global) -> Result<Complex, OutOfMemory>
     Ok(complex)
 }
 
-fn whole(alloc: Global) -> Result<Complex, OutOfMemory>
-    ensures shows { IfOk result (λ c. (s : Set) × ShowsSet s c) }
-{
-    let complex = frame(alloc, Label::In)?;
-    Ok(complex)
-}
-
 #[test]
 fn corners_of_the_empty_set(rt: HostRuntime) -> Result<(), Fail> {
     let c = frame(rt.alloc(), Label::Not)?;
@@ -175,16 +167,5 @@ fn planes_of_the_empty_set(rt: HostRuntime) -> Result<(), Fail> {
     assert!(rt; text.as_slice() == expected.as_slice());
     let middle = Plane::read(1, 0, 0, 0)?.plane();
     assert!(rt; plane_items(&c, &middle).is_none());
-    Ok(())
-}
-
-#[test]
-fn candidates_of_the_frame(rt: HostRuntime) -> Result<(), Fail> {
-    let (a, b) = (whole(rt.alloc())?, whole(rt.alloc())?);
-    let points = candidates(rt.alloc(), &a, &b)?;
-    assert!(rt; points.len() == 8);
-    let middle = Plane::read(1, 0, 0, 0)?.plane();
-    let cut = cut_candidates(rt.alloc(), &a, &middle)?;
-    assert!(rt; cut.len() == 12);
     Ok(())
 }

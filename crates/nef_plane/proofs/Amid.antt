@@ -36,7 +36,7 @@ use Rattle.nef_complex.specs.declared.complex.Complex.{Complex}
 use Rattle.nef_complex.specs.Complexes.{vertex_of, edge_of, complex_of}
 use Rattle.nef_complex.proofs.Ends.{vertex-same, listed_edge, ends, apart, edge-inside}
 use Rattle.nef_complex.proofs.Parted.{times-nought, times-pos, times-neg}
-use Rattle.nef_plane.specs.Amid.{SidesWith, IsAmid, AreAmid}
+use Rattle.nef_plane.specs.Amid.{SidesWith, IsAmid, AllSideWith, AreAmid}
 use Rattle.nef_plane.specs.Meets.{AllHold}
 use Rattle.nef_plane.proofs.Crossed.{vertex-crossed, edge-along}
 use Rattle.nef_plane.proofs.Meeting.{level-same}
@@ -188,3 +188,14 @@ module _ (s : Set) (c : Complex) (S : Shows s (complex_of c)) where
 
     pub amid-edge : IsEdgePoint (complex_of c) k y → AreAmid c.carriers a b y
     amid-edge m n h o = between-amid (form_of h) a b y (edge-inside s c S k e u v l i j y m)
+
+    -- the same, by the sides that the carriers of each end tell
+    module _ (gs : List Plane) (same : gs ≡ c.carriers) where
+      pub sides-edge : AllSideWith gs a b y → AllSideWith gs b a y → IsEdgePoint (complex_of c) k y
+      sides-edge A B = edge-amid (λ m h o. let r = subst (λ (hs : List Plane). At hs m h) (sym same) o in (A m h r, B m h r))
+
+      pub edge-low : IsEdgePoint (complex_of c) k y → AllSideWith gs a b y
+      edge-low x m h o = (amid-edge x m h (subst (λ (hs : List Plane). At hs m h) same o)).0
+
+      pub edge-high : IsEdgePoint (complex_of c) k y → AllSideWith gs b a y
+      edge-high x m h o = (amid-edge x m h (subst (λ (hs : List Plane). At hs m h) same o)).1

@@ -12,3 +12,5 @@ pub mod Reached
 pub mod Listed
 pub mod Spanned
 pub mod OnEdges
+pub mod Holding
+mod AxisSizes

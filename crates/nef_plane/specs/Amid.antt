@@ -14,5 +14,9 @@ SidesWith h a b y = form_at h a ≡ pos 0 → sign_of (form_at h y) ≡ sign_of 
 abbrev pub IsAmid : Form → Place → Place → Place → Type 0
 IsAmid h a b y = SidesWith h a b y × SidesWith h b a y
 
+-- the same for all of the planes
+abbrev pub AllSideWith : List Plane → Place → Place → Place → Type 0
+AllSideWith hs a b y = (k : ℕ) (h : Plane) → At hs k h → SidesWith (form_of h) a b y
+
 abbrev pub AreAmid : List Plane → Place → Place → Place → Type 0
 AreAmid hs a b y = (k : ℕ) (h : Plane) → At hs k h → IsAmid (form_of h) a b y

@@ -9,11 +9,13 @@ ghost use Rattle.nef_geo.specs.Shapes.{form_of, vector_of, place_of};
 ghost use Rattle.nef_geo.specs.Widths.{ray_limit};
 ghost use Rattle.law_complex.specs.Skeleton.{PlaneMeet as PlainMeet, Meets, IsFirstInPlane};
 ghost use Rattle.nef_complex.specs.Complexes.{complex_of, meet_of, ShowsSet};
-ghost use Rattle.nef_complex.specs.Index.{LiesOn, EdgeLiesIn, AreNumbersWith};
+ghost use Rattle.nef_complex.specs.Index.{LiesOn, EdgeLiesIn, AreNumbersWith, AreWithin, AreHolders};
 ghost use Rattle.nef_plane.specs.Meets.{HasNoSvertex, FromVertex, HoldsRay, IsHitThrough, AllHold, IsAcross, IsWithin, AtVertexNumber, AtEdgeNumber, AtSomeVertex, AtSomeEdge, AtVertexOrEdge, IsNearest, IsNearer, IsReachedMet, met_of, reach_of};
 
 use crate::places::{is_at_vertex, is_on_edge};
-use nef_complex::{Complex, PlaneItems, PlaneMeet, holds_both, plane_items};
+use nef_complex::{
+    Complex, PlaneItems, PlaneMeet, edge_holders, holds_both, plane_items, vertex_holders,
+};
 use nef_geo::{Dir, Hit, Plane, Point, Sign, dir_side, hit_order, ray_hit, side};
 use std::cmp::Ordering;
 
@@ -37,31 +39,28 @@ fn holds_ray(h: &Plane, p: &Point, d: &Dir) -> bool
     side(h, p) == Sign::Zero && is_along(h, d)
 }
 
-fn is_across(g: &Plane, a: &Point, b: &Point, d: &Dir) -> bool
-    ensures across { IsTrue result ↔ IsAcross (vector_of d.now) (place_of a.now) (place_of b.now) g.now }
+// The first of the carriers with these numbers that isn't along the direction. They are those that hold two points.
+pub(crate) fn plane_across(carriers: &[Plane], holders: &[usize], d: &Dir) -> Option<Plane>
+    requires within { AreWithin carriers.now holders.now }
+    ensures across { (a b : Place) → AreHolders carriers.now a b holders.now → MatchOption result (AllHold carriers.now (vector_of d.now) a b) (IsAcross (vector_of d.now) a b) }
 {
-    holds_both(g, a, b) && !is_along(g, d)
-}
-
-// The first of the planes that holds both points and isn't along the direction.
-pub(crate) fn plane_across(planes: &[Plane], a: &Point, b: &Point, d: &Dir) -> Option<Plane>
-    ensures across { MatchOption result (AllHold planes.now (vector_of d.now) (place_of a.now) (place_of b.now)) (IsAcross (vector_of d.now) (place_of a.now) (place_of b.now)) }
-{
-    for g in planes {
-        if is_across(g, a, b, d) {
+    for number in holders {
+        let g = &carriers[*number];
+        if !is_along(g, d) {
             return Some(*g);
         }
     }
     None
 }
 
-// Where the ray crosses one of the planes that hold both points.
-fn crossed_at(planes: &[Plane], a: &Point, b: &Point, p: &Point, d: &Dir) -> Option<Hit>
+// Where the ray crosses one of the carriers with these numbers, which are those that hold two points.
+fn crossed_at(carriers: &[Plane], holders: &[usize], p: &Point, d: &Dir) -> Option<Hit>
+    requires within { AreWithin carriers.now holders.now }
     requires small { IsAtMost ray_limit (vector_of d.now) }
-    ensures through { IfSome result (λ q. IsHitThrough (place_of p.now) (vector_of d.now) (place_of a.now) (place_of b.now) (reach_of q)) }
-    ensures none { IsNone result → (y : Place) → IsAhead (place_of p.now) (vector_of d.now) y → IsWithin (place_of a.now) (place_of b.now) y → AllHold planes.now (vector_of d.now) (place_of a.now) (place_of b.now) }
+    ensures through { (a b : Place) → AreHolders carriers.now a b holders.now → IfSome result (λ q. IsHitThrough (place_of p.now) (vector_of d.now) a b (reach_of q)) }
+    ensures none { (a b : Place) → AreHolders carriers.now a b holders.now → IsNone result → (y : Place) → IsAhead (place_of p.now) (vector_of d.now) y → IsWithin a b y → AllHold carriers.now (vector_of d.now) a b }
 {
-    let g = plane_across(planes, a, b, d)?;
+    let g = plane_across(carriers, holders, d)?;
     ray_hit(p, d, &g)
 }
 
@@ -89,8 +88,7 @@ fn carried_vertex_met(c: &Complex, p: &Point, d: &Dir, number: usize) -> Option<
     requires within { number < length c.now.vertices }
     ensures nearest { IsNearest met_of (place_of p.now) (vector_of d.now) (AtVertexNumber (complex_of c.now) number) result }
 {
-    let point = &c.vertices.at(number).point;
-    let at = crossed_at(c.carriers.as_slice(), point, point, p, d)?;
+    let at = crossed_at(c.carriers.as_slice(), vertex_holders(c, number), p, d)?;
     if is_at_vertex(c, number, &at) {
         Some(Met {
             meet: PlaneMeet::AtVertex(number),
@@ -123,10 +121,7 @@ fn held_edge_met(c: &Complex, h: &Plane, p: &Point, d: &Dir, number: usize) -> O
     requires held { EdgeLiesIn c.now.vertices c.now.edges (form_of h.now) number }
     ensures nearest { IsNearest met_of (place_of p.now) (vector_of d.now) (AtEdgeNumber (complex_of c.now) (form_of h.now) (vector_of d.now) number) result }
 {
-    let edge = c.edges.at(number);
-    let low = &c.vertices.at(edge.low).point;
-    let high = &c.vertices.at(edge.high).point;
-    let at = crossed_at(c.carriers.as_slice(), low, high, p, d)?;
+    let at = crossed_at(c.carriers.as_slice(), edge_holders(c, number), p, d)?;
     if is_on_edge(c, number, &at) {
         Some(Met {
             meet: PlaneMeet::AtEdge(number),

@@ -3,54 +3,33 @@
 //! The numbers of a hit are too large to be multiplied with those of a vertex. The carriers tell instead: at least three
 //! of those that hold a vertex meet there alone, and at least two of those that hold an edge meet in its line.
 
-ghost use Rattle.std.specs.Prelude.{ℕ, ◌<◌, length, ◌↔◌, IsTrue};
+ghost use Rattle.std.specs.Prelude.{◌≡◌, ◌<◌, length, ◌↔◌, IsTrue};
+ghost use Rattle.nef_space.specs.Place.{Place, form_at};
 ghost use Rattle.nef_space.specs.Sets.{Set};
 ghost use Rattle.nef_geo.specs.Shapes.{form_of, place_of, hit_place};
+ghost use Rattle.nef_geo.specs.Signs.{sign_of};
 ghost use Rattle.law_complex.specs.Skeleton.{IsVertexPoint, IsEdgePoint};
 ghost use Rattle.nef_complex.specs.Complexes.{complex_of, ShowsSet};
-ghost use Rattle.nef_plane.specs.Amid.{IsAmid, AreAmid};
+ghost use Rattle.nef_complex.specs.Index.{AreWithin, AreHolders};
+ghost use Rattle.nef_plane.specs.Amid.{AllSideWith};
 
-use nef_complex::Complex;
-use nef_geo::{Hit, Plane, Point, Sign, hit_side, side};
+use nef_complex::{Complex, vertex_holders};
+use nef_geo::{Hit, Plane, Point, hit_side, side};
 
-// Whether q lies on the side of the other point, where the plane holds one of the two.
-fn is_amid(h: &Plane, a: &Point, b: &Point, q: &Hit) -> bool
-    ensures amid { IsTrue result ↔ IsAmid (form_of h.now) (place_of a.now) (place_of b.now) (hit_place q.now) }
+// Whether q lies on the side of b, or on the plane where b does.
+fn is_beside(h: &Plane, b: &Point, q: &Hit) -> bool
+    ensures beside { IsTrue result ↔ (sign_of (form_at (form_of h.now) (hit_place q.now)) ≡ sign_of (form_at (form_of h.now) (place_of b.now))) }
 {
-    let first = side(h, a);
-    let second = side(h, b);
-    if first == Sign::Zero {
-        hit_side(h, q) == second
-    } else {
-        second != Sign::Zero || hit_side(h, q) == first
-    }
+    hit_side(h, q) == side(h, b)
 }
 
-// The same for all of the planes.
-fn are_amid(planes: &[Plane], a: &Point, b: &Point, q: &Hit) -> bool
-    ensures amid { IsTrue result ↔ AreAmid planes.now (place_of a.now) (place_of b.now) (hit_place q.now) }
+// The same for all of the carriers with these numbers, which are those that hold some point.
+fn sides_with(carriers: &[Plane], holders: &[usize], b: &Point, q: &Hit) -> bool
+    requires within { AreWithin carriers.now holders.now }
+    ensures sides { (a : Place) → AreHolders carriers.now a a holders.now → (IsTrue result ↔ AllSideWith carriers.now a (place_of b.now) (hit_place q.now)) }
 {
-    for h in planes {
-        if !is_amid(h, a, b, q) {
-            return false;
-        }
-    }
-    true
-}
-
-// Whether the plane holds q, where it holds the point: no side is asked for twice, as it would be of two equal points.
-fn is_held_with(h: &Plane, a: &Point, q: &Hit) -> bool
-    ensures held { IsTrue result ↔ IsAmid (form_of h.now) (place_of a.now) (place_of a.now) (hit_place q.now) }
-{
-    side(h, a) != Sign::Zero || hit_side(h, q) == Sign::Zero
-}
-
-// The same for all of the planes.
-fn are_held_with(planes: &[Plane], a: &Point, q: &Hit) -> bool
-    ensures held { IsTrue result ↔ AreAmid planes.now (place_of a.now) (place_of a.now) (hit_place q.now) }
-{
-    for h in planes {
-        if !is_held_with(h, a, q) {
+    for number in holders {
+        if !is_beside(&carriers[*number], b, q) {
             return false;
         }
     }
@@ -64,7 +43,7 @@ pub fn is_at_vertex(c: &Complex, number: usize, q: &Hit) -> bool
     ensures at { IsTrue result ↔ IsVertexPoint (complex_of c.now) number (hit_place q.now) }
 {
     let point = &c.vertices.at(number).point;
-    are_held_with(c.carriers.as_slice(), point, q)
+    sides_with(c.carriers.as_slice(), vertex_holders(c, number), point, q)
 }
 
 /// Whether the hit lies strictly between the ends of the edge with this number. It does, exactly where each carrier that
@@ -77,5 +56,8 @@ pub fn is_on_edge(c: &Complex, number: usize, q: &Hit) -> bool
     let edge = c.edges.at(number);
     let low = &c.vertices.at(edge.low).point;
     let high = &c.vertices.at(edge.high).point;
-    are_amid(c.carriers.as_slice(), low, high, q)
+    let carriers = c.carriers.as_slice();
+    let at_low = vertex_holders(c, edge.low);
+    let at_high = vertex_holders(c, edge.high);
+    sides_with(carriers, at_low, high, q) && sides_with(carriers, at_high, low, q)
 }

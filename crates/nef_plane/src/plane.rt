@@ -6,17 +6,19 @@ ghost use Rattle.nef_space.specs.Limits.{normal_limit, point_limit, weight_limit
 ghost use Rattle.nef_space.specs.Place.{Place, form_at, IsAhead};
 ghost use Rattle.nef_space.specs.Sets.{Set};
 ghost use Rattle.nef_space.specs.Vectors.{IsAtMost};
-ghost use Rattle.nef_geo.specs.Hits.{IsPlaceAtMost, IsCrossing};
+ghost use Rattle.nef_geo.specs.Hits.{IsPlaceAtMost};
 ghost use Rattle.nef_geo.specs.Shapes.{form_of, vector_of, place_of, hit_place, far_place};
 ghost use Rattle.nef_geo.specs.Signs.{sign_of};
 ghost use Rattle.nef_geo.specs.Widths.{upright_limit, upright_weight_limit};
 ghost use Rattle.law_complex.specs.Skeleton.{PlaneMeet as PlainMeet, Meets, IsFirstInPlane};
 ghost use Rattle.nef_complex.specs.Complexes.{complex_of, meet_of, ShowsSet};
-ghost use Rattle.nef_complex.specs.Index.{LiesOn, EdgeLiesIn, AreNumbersWith};
+ghost use Rattle.nef_complex.specs.Index.{LiesOn, EdgeLiesIn, AreNumbersWith, AreWithin, AreHolders};
 ghost use Rattle.nef_complex.specs.Planes.{HoldsBoth};
 ghost use Rattle.nef_plane.specs.Meets.{IsAlongAxis, HasNoSvertex, IsOffEdges, sweep_form, AreOpposite, IsHitThrough, NoneCrosses, IsMet, AllHold, AtVertexNumber, AtEdgeNumber, AtSomeVertex, AtSomeEdge, AtVertexOrEdge, IsNearest, IsNearer, IsReachedMet, far_met_of, far_reach_of};
 
-use nef_complex::{Complex, PlaneItems, PlaneMeet, holds_both, plane_items};
+use nef_complex::{
+    Complex, PlaneItems, PlaneMeet, edge_holders, holds_both, plane_items, vertex_holders,
+};
 use nef_geo::{Dir, FarHit, Hit, Plane, Point, Sign, far_hit, far_order, side};
 use std::cmp::Ordering;
 
@@ -58,46 +60,45 @@ fn are_opposite(h: &Plane, p: &Hit, a: &Point, b: &Point) -> bool
     across(h, p, a) == across(h, p, b).opposite()
 }
 
-// Where the ray crosses the plane, if that holds both points.
-fn plane_hit(g: &Plane, a: &Point, b: &Point, p: &Hit, d: &Dir) -> Option<FarHit>
+// Where the ray crosses the first of the carriers with these numbers that it crosses at all. They are those that hold two
+// points.
+fn hit_through(carriers: &[Plane], holders: &[usize], p: &Hit, d: &Dir) -> Option<FarHit>
+    requires within { AreWithin carriers.now holders.now }
     requires numbers { IsPlaceAtMost upright_limit upright_weight_limit (hit_place p.now) }
     requires small { IsAtMost normal_limit (vector_of d.now) }
-    ensures hit { MatchOption result (HoldsBoth (form_of g.now) (place_of a.now) (place_of b.now) → (q : Place) → IsCrossing (hit_place p.now) (vector_of d.now) (form_of g.now) q → ⊥) (λ q. IsHitThrough (hit_place p.now) (vector_of d.now) (place_of a.now) (place_of b.now) (far_reach_of q)) }
+    ensures hit { (a b : Place) → AreHolders carriers.now a b holders.now → MatchOption result (NoneCrosses carriers.now (hit_place p.now) (vector_of d.now) a b) (λ q. IsHitThrough (hit_place p.now) (vector_of d.now) a b (far_reach_of q)) }
 {
-    if holds_both(g, a, b) {
-        far_hit(p, d, g)
-    } else {
-        None
-    }
-}
-
-// Where the ray crosses the first of the planes that hold both points and that it crosses at all.
-fn hit_through(planes: &[Plane], a: &Point, b: &Point, p: &Hit, d: &Dir) -> Option<FarHit>
-    requires numbers { IsPlaceAtMost upright_limit upright_weight_limit (hit_place p.now) }
-    requires small { IsAtMost normal_limit (vector_of d.now) }
-    ensures hit { MatchOption result (NoneCrosses planes.now (hit_place p.now) (vector_of d.now) (place_of a.now) (place_of b.now)) (λ q. IsHitThrough (hit_place p.now) (vector_of d.now) (place_of a.now) (place_of b.now) (far_reach_of q)) }
-{
-    for g in planes {
-        if let Some(q) = plane_hit(g, a, b, p, d) {
+    for number in holders {
+        if let Some(q) = far_hit(p, d, &carriers[*number]) {
             return Some(q);
         }
     }
     None
 }
 
-// Where the ray meets the inside of the segment between two points of the plane, or the point that both are.
-fn met_at(planes: &[Plane], h: &Plane, p: &Hit, d: &Dir, a: &Point, b: &Point) -> Option<FarHit>
+// Where the ray meets the inside of the segment between two points of the plane, or the point that both are. The numbers are
+// those of the carriers that hold both.
+fn met_at(
+    carriers: &[Plane],
+    holders: &[usize],
+    h: &Plane,
+    p: &Hit,
+    d: &Dir,
+    a: &Point,
+    b: &Point,
+) -> Option<FarHit>
     requires on { form_at (form_of h.now) (hit_place p.now) ≡ pos 0 }
     requires numbers { IsPlaceAtMost upright_limit upright_weight_limit (hit_place p.now) }
     requires axis { IsAlongAxis (form_of h.now) (vector_of d.now) }
     requires small { IsAtMost normal_limit (vector_of d.now) }
     requires held { HoldsBoth (form_of h.now) (place_of a.now) (place_of b.now) }
+    requires holders { AreHolders carriers.now (place_of a.now) (place_of b.now) holders.now }
     ensures met { IfSome result (λ q. IsMet (form_of h.now) (hit_place p.now) (vector_of d.now) (place_of a.now) (place_of b.now) (far_place q)) }
     ensures through { IfSome result (λ q. IsHitThrough (hit_place p.now) (vector_of d.now) (place_of a.now) (place_of b.now) (far_reach_of q)) }
-    ensures none { IsNone result → (y : Place) → IsMet (form_of h.now) (hit_place p.now) (vector_of d.now) (place_of a.now) (place_of b.now) y → AllHold planes.now (vector_of d.now) (place_of a.now) (place_of b.now) }
+    ensures none { IsNone result → (y : Place) → IsMet (form_of h.now) (hit_place p.now) (vector_of d.now) (place_of a.now) (place_of b.now) y → AllHold carriers.now (vector_of d.now) (place_of a.now) (place_of b.now) }
 {
     if are_opposite(h, p, a, b) {
-        hit_through(planes, a, b, p, d)
+        hit_through(carriers, holders, p, d)
     } else {
         None
     }
@@ -105,18 +106,26 @@ fn met_at(planes: &[Plane], h: &Plane, p: &Hit, d: &Dir, a: &Point, b: &Point) -
 
 // Where the ray meets a point of the plane: a point lies on different sides of the ray's line from itself, or on it, only
 // where it lies on it.
-fn point_met_at(planes: &[Plane], h: &Plane, p: &Hit, d: &Dir, a: &Point) -> Option<FarHit>
+fn point_met_at(
+    carriers: &[Plane],
+    holders: &[usize],
+    h: &Plane,
+    p: &Hit,
+    d: &Dir,
+    a: &Point,
+) -> Option<FarHit>
     requires on { form_at (form_of h.now) (hit_place p.now) ≡ pos 0 }
     requires numbers { IsPlaceAtMost upright_limit upright_weight_limit (hit_place p.now) }
     requires axis { IsAlongAxis (form_of h.now) (vector_of d.now) }
     requires small { IsAtMost normal_limit (vector_of d.now) }
     requires held { form_at (form_of h.now) (place_of a.now) ≡ pos 0 }
+    requires holders { AreHolders carriers.now (place_of a.now) (place_of a.now) holders.now }
     ensures met { IfSome result (λ q. IsMet (form_of h.now) (hit_place p.now) (vector_of d.now) (place_of a.now) (place_of a.now) (far_place q)) }
     ensures through { IfSome result (λ q. IsHitThrough (hit_place p.now) (vector_of d.now) (place_of a.now) (place_of a.now) (far_reach_of q)) }
-    ensures none { IsNone result → (y : Place) → IsMet (form_of h.now) (hit_place p.now) (vector_of d.now) (place_of a.now) (place_of a.now) y → AllHold planes.now (vector_of d.now) (place_of a.now) (place_of a.now) }
+    ensures none { IsNone result → (y : Place) → IsMet (form_of h.now) (hit_place p.now) (vector_of d.now) (place_of a.now) (place_of a.now) y → AllHold carriers.now (vector_of d.now) (place_of a.now) (place_of a.now) }
 {
     if across(h, p, a) == Sign::Zero {
-        hit_through(planes, a, a, p, d)
+        hit_through(carriers, holders, p, d)
     } else {
         None
     }
@@ -150,7 +159,8 @@ fn held_vertex_met(c: &Complex, h: &Plane, p: &Hit, d: &Dir, number: usize) -> O
     ensures nearest { IsNearest far_met_of (hit_place p.now) (vector_of d.now) (AtVertexNumber (complex_of c.now) number) result }
 {
     let point = &c.vertices.at(number).point;
-    match point_met_at(c.carriers.as_slice(), h, p, d, point) {
+    let holders = vertex_holders(c, number);
+    match point_met_at(c.carriers.as_slice(), holders, h, p, d, point) {
         Some(at) => Some(FarMet {
             meet: PlaneMeet::AtVertex(number),
             at,
@@ -189,7 +199,8 @@ fn held_edge_met(c: &Complex, h: &Plane, p: &Hit, d: &Dir, number: usize) -> Opt
     let edge = c.edges.at(number);
     let low = &c.vertices.at(edge.low).point;
     let high = &c.vertices.at(edge.high).point;
-    match met_at(c.carriers.as_slice(), h, p, d, low, high) {
+    let holders = edge_holders(c, number);
+    match met_at(c.carriers.as_slice(), holders, h, p, d, low, high) {
         Some(at) => Some(FarMet {
             meet: PlaneMeet::AtEdge(number),
             at,
@@ -345,15 +356,14 @@ fn first_met(c: &Complex, h: &Plane, p: &Hit, d: &Dir) -> Option<FarMet>
 
 /// The first vertex or edge in the plane `h` that the ray from `p` along `d` meets strictly ahead. The point lies on the
 /// plane and is a vertex or lies strictly inside no edge in the plane; its first three numbers are at most `2^86` in
-/// size and its w at most `2^73`. The direction is the plane's axis or its opposite, with entries of at most `2^11` in
-/// size, and no svertex of a vertex at the point points along it. `None` comes exactly where nothing is met.
+/// size and its w at most `2^73`. The direction is the plane's axis or its opposite, and no svertex of a vertex at the
+/// point points along it. `None` comes exactly where nothing is met.
 pub fn first_in_plane(c: &Complex, h: &Plane, p: &Hit, d: &Dir) -> Option<PlaneMeet>
     requires shows { (s : Set) × ShowsSet s c.now }
     requires on { form_at (form_of h.now) (hit_place p.now) ≡ pos 0 }
     requires off { IsOffEdges (complex_of c.now) (form_of h.now) (hit_place p.now) }
     requires numbers { IsPlaceAtMost upright_limit upright_weight_limit (hit_place p.now) }
     requires direction { IsAlongAxis (form_of h.now) (vector_of d.now) }
-    requires small { IsAtMost normal_limit (vector_of d.now) }
     requires no_svertex { HasNoSvertex (complex_of c.now) (hit_place p.now) (vector_of d.now) }
     ensures some { IfSome result (λ m. IsFirstInPlane (complex_of c.now) (form_of h.now) (hit_place p.now) (vector_of d.now) (meet_of m)) }
     ensures none { IsNone result → (m : PlainMeet) (q : Place) → IsAhead (hit_place p.now) (vector_of d.now) q → Meets (complex_of c.now) (form_of h.now) m q → ⊥ }

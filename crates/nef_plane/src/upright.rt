@@ -14,12 +14,13 @@ ghost use Rattle.nef_geo.specs.Signs.{sign_of};
 ghost use Rattle.nef_geo.specs.Widths.{upright_limit, upright_weight_limit};
 ghost use Rattle.law_complex.specs.Skeleton.{IsOnEdges};
 ghost use Rattle.nef_complex.specs.Complexes.{complex_of, ShowsSet};
+ghost use Rattle.nef_complex.specs.Index.{AreWithin, AreHolders};
 ghost use Rattle.nef_plane.specs.Meets.{AreOpposite, IsHitThrough, IsWithin, AllHold, AtVertexNumber, IsNearest, met_of, reach_of};
 ghost use Rattle.nef_plane.specs.Upright.{gap_limit, plane_along_x, plane_along_y, InsideEdgeNumber, IsUprightMet, IsFirstOnEdges};
 
 use crate::along::{Met, nearer, plane_across};
 use crate::places::is_on_edge;
-use nef_complex::{Complex, PlaneMeet};
+use nef_complex::{Complex, PlaneMeet, edge_holders, vertex_holders};
 use nef_geo::{Dir, Hit, Plane, Point, Sign, ray_hit};
 
 /// A vertex or an edge that a ray meets, and the hit there.
@@ -91,14 +92,15 @@ fn are_parted(p: &Point, d: &Dir, a: &Point, b: &Point) -> bool
     are_parted_along_x(p, d, a, b) && are_parted_along_y(p, d, a, b)
 }
 
-// Where the ray crosses one of the planes that hold both points.
-fn upright_hit(planes: &[Plane], a: &Point, b: &Point, p: &Point, d: &Dir) -> Option<Hit>
+// Where the ray crosses one of the carriers with these numbers, which are those that hold two points.
+fn upright_hit(carriers: &[Plane], holders: &[usize], p: &Point, d: &Dir) -> Option<Hit>
+    requires within { AreWithin carriers.now holders.now }
     requires upright { IsUpright (vector_of d.now) }
-    ensures through { IfSome result (λ q. IsHitThrough (place_of p.now) (vector_of d.now) (place_of a.now) (place_of b.now) (reach_of q)) }
+    ensures through { (a b : Place) → AreHolders carriers.now a b holders.now → IfSome result (λ q. IsHitThrough (place_of p.now) (vector_of d.now) a b (reach_of q)) }
     ensures bounded { IfSome result (λ q. IsPlaceAtMost upright_limit upright_weight_limit (hit_place q)) }
-    ensures none { IsNone result → (y : Place) → IsAhead (place_of p.now) (vector_of d.now) y → IsWithin (place_of a.now) (place_of b.now) y → AllHold planes.now (vector_of d.now) (place_of a.now) (place_of b.now) }
+    ensures none { (a b : Place) → AreHolders carriers.now a b holders.now → IsNone result → (y : Place) → IsAhead (place_of p.now) (vector_of d.now) y → IsWithin a b y → AllHold carriers.now (vector_of d.now) a b }
 {
-    let g = plane_across(planes, a, b, d)?;
+    let g = plane_across(carriers, holders, d)?;
     ray_hit(p, d, &g)
 }
 
@@ -114,7 +116,7 @@ fn vertex_met(c: &Complex, p: &Point, d: &Dir, number: usize) -> Option<Met>
     if !is_in_line(p, d, point) {
         return None;
     }
-    let at = upright_hit(c.carriers.as_slice(), point, point, p, d)?;
+    let at = upright_hit(c.carriers.as_slice(), vertex_holders(c, number), p, d)?;
     Some(Met {
         meet: PlaneMeet::AtVertex(number),
         at,
@@ -135,7 +137,7 @@ fn edge_met(c: &Complex, p: &Point, d: &Dir, number: usize) -> Option<Met>
     if !are_parted(p, d, low, high) {
         return None;
     }
-    let at = upright_hit(c.carriers.as_slice(), low, high, p, d)?;
+    let at = upright_hit(c.carriers.as_slice(), edge_holders(c, number), p, d)?;
     if is_on_edge(c, number, &at) {
         Some(Met {
             meet: PlaneMeet::AtEdge(number),

@@ -95,6 +95,8 @@ fn bare(alloc: Global, first: Plane, second: Plane) -> Result<Complex, OutOfMemo
             planes: List::new(alloc),
             edges: List::new(alloc),
             vertices: List::new(alloc),
+            at_vertex: List::new(alloc),
+            at_edge: List::new(alloc),
         },
     })
 }

@@ -1,9 +1,13 @@
-//! Tests of where points lie in complexes of sets other than the frame, of what rays meet there, of the ties and facets of the
-//! frame, and of the operations of topology on maps.
+//! Tests of complexes: where points lie in sets whose places follow by hand, what rays meet, candidates, ties, facets and
+//! volumes of the frame, and what becomes of maps.
 #![tactic(auto)]
 
 #[cfg(test)]
+mod components;
+#[cfg(test)]
 mod facet_parts;
+#[cfg(test)]
+mod frame;
 #[cfg(test)]
 mod half_spaces;
 #[cfg(test)]

@@ -3,5 +3,5 @@ use Rattle.nef_cand.proofs.Adding.{AnyFirst}
 use Rattle.nef_cand.proofs.Held.{CutsEdge}
 use Rattle.nef_cand.proofs.added.add_cuts.Given as goal
 
-abbrev pub invariant-loop-edge : goal.invariant-loop-edge
-invariant-loop-edge l = record { added : Adds (AnyFirst (CutsEdge l.c l.planes) l.c.edges l.edge-index) l.fn.points.items l.points.items }
+abbrev pub invariant-loop-number : goal.invariant-loop-number
+invariant-loop-number l = record { added : Adds (AnyFirst (CutsEdge l.c l.planes) l.c.edges l.number) l.fn.points.items l.points.items }

@@ -28,11 +28,11 @@ of-requires-clause-ends c =
     have-ends V.0 c.args.carriers c.args.vertices V.1 c.from_vec-edges.result
     (paired-edges c.args.vertices c.as_slice.result.now c.in_ok-edges_of.field-0.items c.from_vec-edges.result c.as_slice.ensures.all c.from_vec-edges.ensures.all c.in_ok-edges_of.ensures.edges)
 
-if-both : {A D : Type 0} (P Q R : A → Type 0) → ((x : A) → P x → Q x → R x) → (r : Result A D) → IfOk r P → IfOk r Q → IfOk r R
-if-both P Q R f (Ok x) p q = f x p q
-if-both P Q R f (Err e) p q = tt
+if-all : {A D : Type 0} (P Q R T : A → Type 0) → ((x : A) → P x → Q x → R x → T x) → (r : Result A D) → IfOk r P → IfOk r Q → IfOk r R → IfOk r T
+if-all P Q R T f (Ok x) p q r = f x p q r
+if-all P Q R T f (Err e) p q r = tt
 
 pub returns-clause-shows : goal.returns-clause-shows
 returns-clause-shows c =
     let E = paired-edges c.args.vertices c.as_slice.result.now c.in_ok-edges_of.field-0.items c.from_vec-edges.result c.as_slice.ensures.all c.from_vec-edges.ensures.all c.in_ok-edges_of.ensures.edges in
-    if-both _ _ _ (λ d k i s V. shows-set s c.args.carriers c.args.vertices V c.from_vec-edges.result E d k.0 k.1 k.2 i) c.of.result c.of.ensures.kept c.of.ensures.index
+    if-all _ _ _ _ (λ d k i h s V. shows-set s c.args.carriers c.args.vertices V c.from_vec-edges.result E d k.0 k.1 k.2 i h) c.of.result c.of.ensures.kept c.of.ensures.index c.of.ensures.holders

@@ -1,18 +1,26 @@
 use Rattle.std.proofs.Common.{List, sym, subst}
 use Rattle.nef_geo.specs.Shapes.{place_of, hit_place}
 use Rattle.nef_geo.specs.declared.plane.Plane.{Plane}
+use Rattle.nef_complex.proofs.ListedHolders.{holders-within}
 use Rattle.nef_complex.proofs.Reading.{got-at}
-use Rattle.nef_plane.specs.Amid.{AreAmid}
+use Rattle.nef_plane.specs.Amid.{AllSideWith}
 use Rattle.nef_plane.proofs.Amid.{vertex-amid, amid-vertex}
+use Rattle.nef_plane.proofs.Holding.{vertex-held}
 use Rattle.nef_plane.proofs.places.is_at_vertex.Goals as goal
+
+pub sides_with-requires : goal.sides_with-requires
+sides_with-requires c =
+    let p = place_of c.at.result.now.point in
+    record { within = holders-within c.as_slice.result.now p p c.vertex_holders.result.now (vertex-held c.args.c.now c.args.number c.as_slice.result.now c.vertex_holders.result.now c.as_slice.ensures.all c.at.result.now c.at.ensures.element c.vertex_holders.ensures.holders) }
 
 pub returns : goal.returns
 returns c =
-    let S = c.requires.shows in let C = c.args.c.now in let v = c.at.result.now in let y = hit_place c.args.q.now in
+    let S = c.requires.shows in let C = c.args.c.now in let v = c.at.result.now in let p = place_of v.point in let y = hit_place c.args.q.now in
     let a = got-at C.vertices c.args.number v c.at.ensures.element in
+    let T = c.sides_with.ensures.sides p (vertex-held C c.args.number c.as_slice.result.now c.vertex_holders.result.now c.as_slice.ensures.all v c.at.ensures.element c.vertex_holders.ensures.holders) in
     record {
       at = (
-        λ h. vertex-amid S.0 C S.1.shows c.args.number v y a (subst (λ (gs : List Plane). AreAmid gs (place_of v.point) (place_of v.point) y) c.as_slice.ensures.all (c.are_held_with.ensures.held.0 h)),
-        λ x. c.are_held_with.ensures.held.1 (subst (λ (gs : List Plane). AreAmid gs (place_of v.point) (place_of v.point) y) (sym c.as_slice.ensures.all) (amid-vertex S.0 C S.1.shows c.args.number v y a x)),
+        λ h. let A = subst (λ (gs : List Plane). AllSideWith gs p p y) c.as_slice.ensures.all (T.0 h) in vertex-amid S.0 C S.1.shows c.args.number v y a (λ k g l. (A k g l, A k g l)),
+        λ x. T.1 (subst (λ (gs : List Plane). AllSideWith gs p p y) (sym c.as_slice.ensures.all) (λ k g l. (amid-vertex S.0 C S.1.shows c.args.number v y a x k g l).0)),
       );
     }

@@ -1,10 +1,11 @@
-use Rattle.std.proofs.Common.{List, sym, subst}
+use Rattle.std.proofs.Common.{sym, ◌∙◌, rules}
+use Rattle.nef_arc.proofs.SignNumbers.{not_true}
 use Rattle.nef_geo.specs.Shapes.{place_of, hit_place}
-use Rattle.nef_geo.specs.declared.plane.Plane.{Plane}
 use Rattle.nef_complex.proofs.Ends.{low-within, high-within}
 use Rattle.nef_complex.proofs.Reading.{got-at}
-use Rattle.nef_plane.specs.Amid.{AreAmid}
-use Rattle.nef_plane.proofs.Amid.{edge-amid, amid-edge}
+use Rattle.nef_complex.proofs.ListedHolders.{holders-within}
+use Rattle.nef_plane.proofs.Amid.{sides-edge, edge-low, edge-high}
+use Rattle.nef_plane.proofs.Holding.{vertex-held}
 use Rattle.nef_plane.proofs.places.is_on_edge.Goals as goal
 
 pub at-requires : goal.at-requires
@@ -13,13 +14,45 @@ at-requires c = let S = c.requires.shows in record { within = low-within S.0 c.a
 pub at-requires-2 : goal.at-requires-2
 at-requires-2 c = let S = c.requires.shows in record { within = high-within S.0 c.args.c.now S.1.shows c.args.number c.at-edge.result.now (got-at c.args.c.now.edges c.args.number c.at-edge.result.now c.at-edge.ensures.element) }
 
-pub returns : goal.returns
-returns c =
-    let S = c.requires.shows in let C = c.args.c.now in let e = c.at-edge.result.now in let u = c.at.result.now in let v = c.at-2.result.now in let y = hit_place c.args.q.now in
-    let a = got-at C.edges c.args.number e c.at-edge.ensures.element in let i = got-at C.vertices e.low u c.at.ensures.element in let j = got-at C.vertices e.high v c.at-2.ensures.element in
+pub vertex_holders-at_low-requires-clause-within : goal.vertex_holders-at_low-requires-clause-within
+vertex_holders-at_low-requires-clause-within c = let S = c.requires.shows in low-within S.0 c.args.c.now S.1.shows c.args.number c.at-edge.result.now (got-at c.args.c.now.edges c.args.number c.at-edge.result.now c.at-edge.ensures.element)
+
+pub vertex_holders-at_high-requires-clause-within : goal.vertex_holders-at_high-requires-clause-within
+vertex_holders-at_high-requires-clause-within c = let S = c.requires.shows in high-within S.0 c.args.c.now S.1.shows c.args.number c.at-edge.result.now (got-at c.args.c.now.edges c.args.number c.at-edge.result.now c.at-edge.ensures.element)
+
+pub sides_with-requires : goal.sides_with-requires
+sides_with-requires c =
+    let p = place_of c.at.result.now.point in
+    record { within = holders-within c.as_slice-carriers.result.now p p c.vertex_holders-at_low.result.now (vertex-held c.args.c.now c.at-edge.result.now.low c.as_slice-carriers.result.now c.vertex_holders-at_low.result.now c.as_slice-carriers.ensures.all c.at.result.now c.at.ensures.element c.vertex_holders-at_low.ensures.holders) }
+
+pub sides_with-requires-then-sides_with : goal.sides_with-requires-then-sides_with
+sides_with-requires-then-sides_with c =
+    let p = place_of c.at-2.result.now.point in
+    record { within = holders-within c.as_slice-carriers.result.now p p c.vertex_holders-at_high.result.now (vertex-held c.args.c.now c.at-edge.result.now.high c.as_slice-carriers.result.now c.vertex_holders-at_high.result.now c.as_slice-carriers.ensures.all c.at-2.result.now c.at-2.ensures.element c.vertex_holders-at_high.ensures.holders) }
+
+pub returns-then-sides_with : goal.returns-then-sides_with
+returns-then-sides_with c =
+    let S = c.requires.shows in let C = c.args.c.now in let k = c.args.number in let e = c.at-edge.result.now in let u = c.at.result.now in let v = c.at-2.result.now in let y = hit_place c.args.q.now in
+    let l = got-at C.edges k e c.at-edge.ensures.element in let i = got-at C.vertices e.low u c.at.ensures.element in let j = got-at C.vertices e.high v c.at-2.ensures.element in
+    let gs = c.as_slice-carriers.result.now in let all = c.as_slice-carriers.ensures.all in
+    let L = c.sides_with.ensures.sides (place_of u.point) (vertex-held C e.low gs c.vertex_holders-at_low.result.now all u c.at.ensures.element c.vertex_holders-at_low.ensures.holders) in
+    let H = c.sides_with-then-sides_with.ensures.sides (place_of v.point) (vertex-held C e.high gs c.vertex_holders-at_high.result.now all v c.at-2.ensures.element c.vertex_holders-at_high.ensures.holders) in
     record {
       on = (
-        λ h. edge-amid S.0 C S.1.shows c.args.number e u v a i j y (subst (λ (gs : List Plane). AreAmid gs (place_of u.point) (place_of v.point) y) c.as_slice.ensures.all (c.are_amid.ensures.amid.0 h)),
-        λ x. c.are_amid.ensures.amid.1 (subst (λ (gs : List Plane). AreAmid gs (place_of u.point) (place_of v.point) y) (sym c.as_slice.ensures.all) (amid-edge S.0 C S.1.shows c.args.number e u v a i j y x)),
+        λ t. sides-edge S.0 C S.1.shows k e u v l i j y gs all (L.0 c.if-sides_with.true) (H.0 t),
+        λ x. H.1 (edge-high S.0 C S.1.shows k e u v l i j y gs all x),
+      );
+    }
+
+pub returns-else-sides_with : goal.returns-else-sides_with
+returns-else-sides_with c =
+    let S = c.requires.shows in let C = c.args.c.now in let k = c.args.number in let e = c.at-edge.result.now in let u = c.at.result.now in let v = c.at-2.result.now in let y = hit_place c.args.q.now in
+    let l = got-at C.edges k e c.at-edge.ensures.element in let i = got-at C.vertices e.low u c.at.ensures.element in let j = got-at C.vertices e.high v c.at-2.ensures.element in
+    let gs = c.as_slice-carriers.result.now in let all = c.as_slice-carriers.ensures.all in
+    let L = c.sides_with.ensures.sides (place_of u.point) (vertex-held C e.low gs c.vertex_holders-at_low.result.now all u c.at.ensures.element c.vertex_holders-at_low.ensures.holders) in
+    record {
+      on = (
+        λ t. absurd (search (rules, t, c.if-sides_with.false)),
+        λ x. absurd (not_true (sym c.if-sides_with.false ∙ L.1 (edge-low S.0 C S.1.shows k e u v l i j y gs all x))),
       );
     }

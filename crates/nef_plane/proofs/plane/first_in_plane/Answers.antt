@@ -2,8 +2,12 @@ use Rattle.std.proofs.Common.{subst}
 use Rattle.nef_geo.specs.Shapes.{form_of, hit_place, vector_of}
 use Rattle.nef_plane.specs.Meets.{IsNearest, far_met_of}
 use Rattle.nef_plane.proofs.Axes.{axis-some}
+use Rattle.nef_plane.proofs.AxisSizes.{axis-small}
 use Rattle.nef_plane.proofs.Found.{Any, first-some, first-none}
 use Rattle.nef_plane.proofs.plane.first_in_plane.Goals as goal
+
+pub first_met-requires-clause-small : goal.first_met-requires-clause-small
+first_met-requires-clause-small c = axis-small c.args.h.now c.args.d.now c.requires.direction
 
 pub returns-in-Some-clause-some : goal.returns-in-Some-clause-some
 returns-in-Some-clause-some c =

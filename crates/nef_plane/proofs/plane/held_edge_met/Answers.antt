@@ -1,6 +1,7 @@
-use Rattle.std.proofs.Common.{List, refl, subst}
+use Rattle.std.proofs.Common.{List, refl, sym, subst}
 use Rattle.nef_geo.specs.Shapes.{form_of, place_of, hit_place, vector_of}
 use Rattle.nef_geo.specs.declared.plane.Plane.{Plane}
+use Rattle.nef_complex.specs.Index.{AreHolders}
 use Rattle.nef_plane.specs.Meets.{AllHold}
 use Rattle.nef_complex.proofs.Ends.{low-within, high-within}
 use Rattle.nef_plane.proofs.Swept.{swept-edge, swept-no_edge}
@@ -21,6 +22,15 @@ at-requires-2 c = let S = c.requires.shows in record { within = high-within S.0 
 pub met_at-requires-clause-held : goal.met_at-requires-clause-held
 met_at-requires-clause-held c =
     held-edge c.args.c.now.vertices c.args.c.now.edges (form_of c.args.h.now) c.args.number c.at-edge.result.now c.at.result.now c.at-2.result.now c.at-edge.ensures.element c.at.ensures.element c.at-2.ensures.element c.requires.held
+
+pub edge_holders-holders-requires-clause-within : goal.edge_holders-holders-requires-clause-within
+edge_holders-holders-requires-clause-within c = let l = c.requires.held in is-at_within c.args.c.now.edges c.args.number l.0 l.1
+
+pub met_at-requires-clause-holders : goal.met_at-requires-clause-holders
+met_at-requires-clause-holders c =
+    let a = place_of c.at.result.now.point in let b = place_of c.at-2.result.now.point in
+    subst (λ (gs : List Plane). AreHolders gs a b c.edge_holders-holders.result.now) (sym c.as_slice.ensures.all)
+    (c.edge_holders-holders.ensures.holders c.at-edge.result.now c.at-edge.ensures.element c.at.result.now c.at-2.result.now c.at.ensures.element c.at-2.ensures.element)
 
 pub returns-in-Some : goal.returns-in-Some
 returns-in-Some c =

@@ -1,6 +1,7 @@
-use Rattle.std.proofs.Common.{List, refl, subst}
+use Rattle.std.proofs.Common.{List, refl, sym, subst}
 use Rattle.nef_geo.specs.Shapes.{form_of, place_of, hit_place, vector_of}
 use Rattle.nef_geo.specs.declared.plane.Plane.{Plane}
+use Rattle.nef_complex.specs.Index.{AreHolders}
 use Rattle.nef_plane.specs.Meets.{AllHold}
 use Rattle.nef_plane.proofs.Swept.{swept-vertex, swept-no_vertex}
 use Rattle.nef_smap.proofs.ClassLists.{is-at_within}
@@ -13,6 +14,12 @@ at-requires c = let l = c.requires.held in record { within = is-at_within c.args
 
 pub point_met_at-requires-clause-held : goal.point_met_at-requires-clause-held
 point_met_at-requires-clause-held c = held-vertex c.args.c.now.vertices (form_of c.args.h.now) c.args.number c.at.result.now c.at.ensures.element c.requires.held
+
+pub vertex_holders-holders-requires-clause-within : goal.vertex_holders-holders-requires-clause-within
+vertex_holders-holders-requires-clause-within c = let l = c.requires.held in is-at_within c.args.c.now.vertices c.args.number l.0 l.1
+
+pub point_met_at-requires-clause-holders : goal.point_met_at-requires-clause-holders
+point_met_at-requires-clause-holders c = let p = place_of c.at.result.now.point in subst (λ (gs : List Plane). AreHolders gs p p c.vertex_holders-holders.result.now) (sym c.as_slice.ensures.all) (c.vertex_holders-holders.ensures.holders c.at.result.now c.at.ensures.element)
 
 pub returns-in-Some : goal.returns-in-Some
 returns-in-Some c =

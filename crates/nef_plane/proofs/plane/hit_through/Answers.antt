@@ -1,18 +1,43 @@
-use Rattle.std.proofs.Common.{arith}
+use Rattle.std.proofs.Common.{ℕ, length, get_or, arith, rules, refl}
+use Rattle.std.proofs.lemmas.Option.{slice_get_read}
 use Rattle.nef_space.specs.Place.{Place}
 use Rattle.nef_geo.specs.Hits.{IsCrossing}
-use Rattle.nef_geo.specs.Shapes.{place_of, form_of, hit_place, vector_of}
+use Rattle.nef_geo.specs.Shapes.{form_of, hit_place, vector_of}
 use Rattle.nef_geo.specs.declared.plane.Plane.{Plane}
-use Rattle.nef_smap.proofs.Lists.{at-within}
-use Rattle.nef_complex.specs.Planes.{HoldsBoth}
-use Rattle.nef_complex.proofs.Reading.{none-more}
+use Rattle.nef_smap.proofs.ClassLists.{is-at_get}
+use Rattle.nef_complex.proofs.ListedHolders.{listed-more, holder-holds, all-holders}
 use Rattle.nef_plane.proofs.plane.hit_through.Goals as goal
 
-pub loop-g-preserved : goal.loop-g-preserved
-loop-g-preserved c =
-    let p = hit_place c.args.p.now in let d = vector_of c.args.d.now in let a = place_of c.args.a.now in let b = place_of c.args.b.now in
-    λ k g l m H q x. none-more (λ (g : Plane). HoldsBoth (form_of g) a b × ((q : Place) × IsCrossing p d (form_of g) q)) c.args.planes.now c.loop-g.g-index c.g-item.result c.loop-g-test.true c.g-item.is
-    (λ k g l m r. c.loop-g.invariant k g l m r.0 r.1.0 r.1.1) (λ r. c.in_default.ensures.hit r.0 r.1.0 r.1.1) k g l m (H, (q, x))
+pub returns-in-Some : goal.returns-in-Some
+returns-in-Some c = record {
+  hit = λ a b H.
+      let hs = c.args.carriers.now in
+      let ns = c.args.holders.now in
+      let n = c.loop-number.number-index in
+      let k : ℕ = get_or ns n 0 in
+      let g = c.index-carriers-number.result in
+      let at_n = is-at_get ns n 0 c.loop-number-test.true in
+      record {
+        plane = g;
+        holds = holder-holds hs a b ns H n k g at_n (slice_get_read hs (length hs) k g refl (c.requires.within n k at_n) c.index-carriers-number.is);
+        crosses = c.in-Some.ensures.crossing;
+        reached = c.in-Some.ensures.step;
+      };
+}
+
+pub loop-number-preserved : goal.loop-number-preserved
+loop-number-preserved c =
+    let hs = c.args.carriers.now in
+    let ns = c.args.holders.now in
+    let n = c.loop-number.number-index in
+    let k : ℕ = get_or ns n 0 in
+    let g = c.index-carriers-number.result in
+    let at_n = is-at_get ns n 0 c.loop-number-test.true in
+    listed-more hs ns n k g (λ (h : Plane). (q : Place) → IsCrossing (hit_place c.args.p.now) (vector_of c.args.d.now) (form_of h) q → ⊥) at_n
+    (slice_get_read hs (length hs) k g refl (c.requires.within n k at_n) c.index-carriers-number.is) c.loop-number.invariant (c.in_default.ensures.none.0 refl)
 
 pub returns : goal.returns
-returns c = record { hit = λ k g a. let l = at-within c.args.planes.now k g a in c.loop-g.invariant k g (let t = c.loop-g-test.false in omega (arith, l)) a }
+returns c = record {
+  hit = λ a b H k g l h. all-holders c.args.carriers.now a b c.args.holders.now H (λ (h : Plane). (q : Place) → IsCrossing (hit_place c.args.p.now) (vector_of c.args.d.now) (form_of h) q → ⊥) c.loop-number.number-index
+      (let f = c.loop-number-test.false in omega arith) c.loop-number.invariant k g l h;
+}

@@ -1,11 +1,10 @@
-use Rattle.std.specs.Prelude.{ℕ, ◌<◌}
+use Rattle.std.specs.Prelude.{ℕ}
 use Rattle.nef_space.specs.Place.{Place}
 use Rattle.nef_geo.specs.Hits.{IsCrossing}
-use Rattle.nef_geo.specs.Shapes.{place_of, form_of, hit_place, vector_of}
+use Rattle.nef_geo.specs.Shapes.{form_of, hit_place, vector_of}
 use Rattle.nef_geo.specs.declared.plane.Plane.{Plane}
-use Rattle.law_sphere.specs.Maps.{At}
-use Rattle.nef_complex.specs.Planes.{HoldsBoth}
+use Rattle.nef_complex.proofs.ListedHolders.{AllListed}
 use Rattle.nef_plane.proofs.plane.hit_through.Given as goal
 
-abbrev pub invariant-loop-g : goal.invariant-loop-g
-invariant-loop-g l = (k : ℕ) (g : Plane) → k < l.g-index → At l.planes k g → HoldsBoth (form_of g) (place_of l.a) (place_of l.b) → (q : Place) → IsCrossing (hit_place l.p) (vector_of l.d) (form_of g) q → ⊥
+abbrev pub invariant-loop-number : goal.invariant-loop-number
+invariant-loop-number l = AllListed l.carriers l.holders l.number-index (λ (g : Plane). (q : Place) → IsCrossing (hit_place l.p) (vector_of l.d) (form_of g) q → ⊥)

@@ -1,0 +1,100 @@
+-- A direction along the axis of a plane is as small as the axis: it is in lowest terms, so its numbers divide those of the axis.
+use Rattle.std.proofs.Common.{◌≡◌, ℕ, ◌<◌, ◌≤◌, ℤ, pos, negsuc, neg_ℤ, ◌*ℤ◌, ◌<ℤ◌, ◌-ℤ◌, nat_abs, List, [], ◌∷◌, arith, refl, sym, ap, ◌∙◌, subst, ⊎_elim}
+use Rattle.std.proofs.lemmas.Int.{ints}
+use Rattle.std.proofs.lemmas.Nat.Gcd.{le_of_dvd}
+use Rattle.std.proofs.Math.Nat.{◌∣◌}
+use Rattle.law_arithmetic.proofs.Ring.{ring, at, num, neg, Poly, ◌⊕◌, ◌⊖◌, ◌⊗◌}
+use Rattle.law_arithmetic.proofs.Combination.{given, none, follows}
+use Rattle.law_arithmetic.proofs.Order.{by_order}
+use Rattle.nef_space.specs.Limits.{normal_limit}
+use Rattle.nef_space.specs.Numbers.{IsLowest}
+use Rattle.nef_space.specs.Place.{normal_of}
+use Rattle.nef_space.specs.Vectors.{Vector, dot, opposite, plane_axis, IsAtMost, SameDirection}
+use Rattle.nef_geo.specs.Shapes.{form_of, vector_of}
+use Rattle.nef_geo.specs.declared.dir.Dir.{Dir}
+use Rattle.nef_geo.specs.declared.plane.Plane.{Plane}
+use Rattle.nef_geo.proofs.Cramer.{difference}
+use Rattle.nef_geo.proofs.Euclid.{divides_same}
+use Rattle.nef_geo.proofs.InPlane.{pair_small}
+use Rattle.law_forms.proofs.Far.{nought-or}
+use Rattle.nef_complex.proofs.Parted.{times-nought}
+use Rattle.nef_plane.specs.Meets.{IsAlongAxis}
+
+-- a number that divides another is no greater, and nought where the other is
+entry : (m n p q : ℤ) (l : ℕ) → pos 0 <ℤ p → m *ℤ p ≡ n *ℤ q → nat_abs m ∣ nat_abs n → nat_abs n ≤ l → nat_abs m ≤ l
+entry m n p q l i e d s = ⊎_elim
+    (λ z. subst (λ (r : ℤ). nat_abs r ≤ l) (sym (times-nought p m i (ring (m ∷ p ∷ []) (at 1 ⊗ at 0) (at 0 ⊗ at 1) tt ∙ e ∙ ap (λ r. r *ℤ q) z ∙ ring (q ∷ []) (num (pos 0) ⊗ at 0) (num (pos 0)) tt))) (omega arith))
+    (λ f. let k = le_of_dvd (some n f) d in omega arith) (nought-or n)
+  where
+    some : (n : ℤ) → (n ≡ pos 0 → ⊥) → 0 < nat_abs n
+    some n f = by_order n (pos 0) (λ l. omega (arith, ints)) (λ o. absurd (f o)) (λ l. omega (arith, ints))
+
+module _ (d : Dir) (b : Vector) (l : ℕ) (s : SameDirection (vector_of d) b) (small : IsAtMost l b) where
+  abbrev a : Vector
+  a = vector_of d
+
+  lowest : IsLowest (a.x ∷ a.y ∷ a.z ∷ pos 0 ∷ [])
+  lowest = λ k e. d.lowest k (e.0, (e.1.0, (e.1.1.0, tt)))
+
+  nothing : (n m : ℤ) → n *ℤ pos 0 ≡ pos 0 *ℤ m
+  nothing n m = omega (arith, ints)
+
+  abbrev all : List ℤ
+  all = a.x ∷ a.y ∷ a.z ∷ b.x ∷ b.y ∷ b.z ∷ []
+
+  abbrev ab : Poly
+  ab = at 0 ⊗ at 3 ⊕ at 1 ⊗ at 4 ⊕ at 2 ⊗ at 5
+
+  abbrev aa : Poly
+  aa = at 0 ⊗ at 0 ⊕ at 1 ⊗ at 1 ⊕ at 2 ⊗ at 2
+
+  abbrev px : Poly
+  px = at 1 ⊗ at 5 ⊖ at 2 ⊗ at 4
+
+  abbrev py : Poly
+  py = at 2 ⊗ at 3 ⊖ at 0 ⊗ at 5
+
+  abbrev pz : Poly
+  pz = at 0 ⊗ at 4 ⊖ at 1 ⊗ at 3
+
+  cx : a.y *ℤ b.z -ℤ a.z *ℤ b.y ≡ pos 0
+  cx = s.parallel.0
+
+  cy : a.z *ℤ b.x -ℤ a.x *ℤ b.z ≡ pos 0
+  cy = s.parallel.1
+
+  cz : a.x *ℤ b.y -ℤ a.y *ℤ b.x ≡ pos 0
+  cz = s.parallel.2
+
+  xy : a.x *ℤ b.y ≡ a.y *ℤ b.x
+  xy = difference _ _ cz
+
+  zx : a.z *ℤ b.x ≡ a.x *ℤ b.z
+  zx = difference _ _ cy
+
+  yz : a.y *ℤ b.z ≡ a.z *ℤ b.y
+  yz = difference _ _ cx
+
+  pub along-small : IsAtMost l a
+  along-small = record {
+    of_x = entry a.x b.x (dot a b) (dot a a) l s.forward
+        (follows all (at 0 ⊗ ab) (at 3 ⊗ aa) (given (at 1) pz (num (pos 0)) cz (given (num (negsuc 0) ⊗ at 2) py (num (pos 0)) cy none)) tt)
+        (divides_same a.x b.x a.x a.y a.z (pos 0) b.x b.y b.z (pos 0) lowest refl xy (sym zx) (nothing a.x b.x)) small.of_x;
+    of_y = entry a.y b.y (dot a b) (dot a a) l s.forward
+        (follows all (at 1 ⊗ ab) (at 4 ⊗ aa) (given (at 2) px (num (pos 0)) cx (given (num (negsuc 0) ⊗ at 0) pz (num (pos 0)) cz none)) tt)
+        (divides_same a.y b.y a.x a.y a.z (pos 0) b.x b.y b.z (pos 0) lowest (sym xy) refl yz (nothing a.y b.y)) small.of_y;
+    of_z = entry a.z b.z (dot a b) (dot a a) l s.forward
+        (follows all (at 2 ⊗ ab) (at 5 ⊗ aa) (given (at 0) py (num (pos 0)) cy (given (num (negsuc 0) ⊗ at 1) px (num (pos 0)) cx none)) tt)
+        (divides_same a.z b.z a.x a.y a.z (pos 0) b.x b.y b.z (pos 0) lowest zx (sym yz) refl (nothing a.z b.z)) small.of_z;
+  }
+
+turned : (v : Vector) (l : ℕ) → IsAtMost l v → IsAtMost l (opposite v)
+turned v l m = record { of_x = one v.x m.of_x; of_y = one v.y m.of_y; of_z = one v.z m.of_z }
+  where
+    one : (x : ℤ) → nat_abs x ≤ l → nat_abs (neg_ℤ x) ≤ l
+    one x i = omega (arith, ints, i)
+
+pub axis-small : (h : Plane) (d : Dir) → IsAlongAxis (form_of h) (vector_of d) → IsAtMost normal_limit (vector_of d)
+axis-small h d = let a = plane_axis (normal_of (form_of h)) in
+    ⊎_elim (λ (s : SameDirection (vector_of d) a). along-small d a normal_limit s (pair_small h).axis)
+    (λ (s : SameDirection (vector_of d) (opposite a)). along-small d (opposite a) normal_limit s (turned a normal_limit (pair_small h).axis))

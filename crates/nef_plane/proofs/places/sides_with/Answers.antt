@@ -1,0 +1,46 @@
+use Rattle.std.proofs.Common.{◌≡◌, ℕ, length, get_or, arith, rules, refl}
+use Rattle.std.proofs.lemmas.Option.{slice_get_read}
+use Rattle.nef_space.specs.Place.{form_at}
+use Rattle.nef_geo.specs.Shapes.{place_of, hit_place, form_of}
+use Rattle.nef_geo.specs.Signs.{sign_of}
+use Rattle.nef_geo.specs.declared.plane.Plane.{Plane}
+use Rattle.nef_arc.proofs.SignNumbers.{not_true}
+use Rattle.nef_smap.proofs.ClassLists.{is-at_get}
+use Rattle.nef_complex.proofs.ListedHolders.{listed-more, holder-holds, all-holders}
+use Rattle.nef_complex.proofs.Reading.{got-at}
+use Rattle.nef_plane.proofs.places.sides_with.Goals as goal
+
+pub returns-then-not-is_beside : goal.returns-then-not-is_beside
+returns-then-not-is_beside c = record {
+  sides = λ a H.
+      let hs = c.args.carriers.now in
+      let ns = c.args.holders.now in
+      let n = c.loop-number.number-index in
+      let k : ℕ = get_or ns n 0 in
+      let g = c.index-carriers-number.result in
+      let at_n = is-at_get ns n 0 c.loop-number-test.true in
+      let here = slice_get_read hs (length hs) k g refl (c.requires.within n k at_n) c.index-carriers-number.is in (
+        λ h. absurd (not_true h),
+        λ A. absurd (search (rules, c.is_beside.ensures.beside.1 (A k g (got-at hs k g here) (holder-holds hs a a ns H n k g at_n here).0), c.if-not-is_beside.true)),
+      );
+}
+
+pub loop-number-preserved : goal.loop-number-preserved
+loop-number-preserved c =
+    let hs = c.args.carriers.now in
+    let ns = c.args.holders.now in
+    let n = c.loop-number.number-index in
+    let k : ℕ = get_or ns n 0 in
+    let g = c.index-carriers-number.result in
+    let at_n = is-at_get ns n 0 c.loop-number-test.true in
+    listed-more hs ns n k g (λ (h : Plane). sign_of (form_at (form_of h) (hit_place c.args.q.now)) ≡ sign_of (form_at (form_of h) (place_of c.args.b.now))) at_n
+    (slice_get_read hs (length hs) k g refl (c.requires.within n k at_n) c.index-carriers-number.is) c.loop-number.invariant (c.is_beside.ensures.beside.0 (search (rules, c.if-not-is_beside.false)))
+
+pub returns : goal.returns
+returns c = record {
+  sides = λ a H. (
+    λ t k h l z. all-holders c.args.carriers.now a a c.args.holders.now H (λ (h : Plane). sign_of (form_at (form_of h) (hit_place c.args.q.now)) ≡ sign_of (form_at (form_of h) (place_of c.args.b.now))) c.loop-number.number-index
+        (let f = c.loop-number-test.false in omega arith) c.loop-number.invariant k h l (z, z),
+    λ A. refl,
+  );
+}

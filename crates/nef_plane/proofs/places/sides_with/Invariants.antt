@@ -1,0 +1,10 @@
+use Rattle.std.specs.Prelude.{◌≡◌}
+use Rattle.nef_space.specs.Place.{form_at}
+use Rattle.nef_geo.specs.Shapes.{place_of, hit_place, form_of}
+use Rattle.nef_geo.specs.Signs.{sign_of}
+use Rattle.nef_geo.specs.declared.plane.Plane.{Plane}
+use Rattle.nef_complex.proofs.ListedHolders.{AllListed}
+use Rattle.nef_plane.proofs.places.sides_with.Given as goal
+
+abbrev pub invariant-loop-number : goal.invariant-loop-number
+invariant-loop-number l = AllListed l.carriers l.holders l.number-index (λ (h : Plane). sign_of (form_at (form_of h) (hit_place l.q)) ≡ sign_of (form_at (form_of h) (place_of l.b)))
