@@ -1,6 +1,6 @@
 -- What one line adds.
-use Rattle.std.proofs.Common.{◌≡◌, ℕ, ◌+◌, ◌<◌, Bool, true, false, not, ◌||◌, cond, nat_eq, List, [], ◌∷◌, ◌++◌, length, take, get_or, Option, Some, None, is_some, slice_get, if◌then◌else◌, refl, sym, ◌∙◌, ap, subst, arith, append-nil, length-append}
-use Rattle.std.specs.List.{list_any, zip, position, find}
+use Rattle.std.proofs.Common.{◌≡◌, ℕ, ◌+◌, ◌<◌, Bool, true, false, not, cond, nat_eq, List, [], ◌∷◌, ◌++◌, length, take, get_or, Option, Some, None, is_some, slice_get, if◌then◌else◌, refl, sym, ◌∙◌, ap, subst, arith, append-nil, length-append}
+use Rattle.std.specs.List.{list_any, zip, position}
 use Rattle.std.specs.Option.{option_map}
 use Rattle.std.specs.Str.{bytes_eq}
 use Rattle.std.proofs.Math.Dec.{eqb-suc-zero}
@@ -10,7 +10,7 @@ use Rattle.nef_lex.specs.Words.{words_of}
 use Rattle.nef_expr.specs.declared.nodes.Node.{Node}
 use Rattle.nef_script.specs.Table.{verb_of, roles, binds}
 use Rattle.nef_script.specs.Tests.{is_refused_for, is_unknown_command, is_among, is_taken, on_verb}
-use Rattle.nef_script.specs.Refusal.{line_refusal, kinds, bound_name}
+use Rattle.nef_script.specs.Refusal.{line_refusal, bound_name}
 use Rattle.nef_script.specs.Meaning.{IsNode, IsQuestion, IsWithin, MeansCommand, MeansWords, has_words}
 use Rattle.nef_script.specs.Checks.{command_test, command_in}
 use Rattle.nef_script.specs.Reading.{Fits, AddsWords, AddsLine, AddsCommand}
@@ -42,6 +42,8 @@ first_role verb.Cl e = (_, refl)
 first_role verb.Bd e = (_, refl)
 first_role verb.Reg e = (_, refl)
 first_role verb.Has e = cc
+first_role verb.Joined e = cc
+first_role verb.Ray e = cc
 first_role verb.Same e = cc
 first_role verb.Count e = cc
 first_role verb.Print e = cc
@@ -132,7 +134,8 @@ Fits-from names text v args passes command =
     let j = first_none (test kind.ZeroNormal) kind.ZeroNormal _ i.1 in
     let k = first_none (test kind.BadMode) kind.BadMode _ j.1 in
     let l = first_none (test kind.BadWeight) kind.BadWeight _ k.1 in
-    let m = first_none (test kind.TooManyNames) kind.TooManyNames _ l.1 in
+    let m = first_none (test kind.ZeroDirection) kind.ZeroDirection _ l.1 in
+    let n = first_none (test kind.TooManyNames) kind.TooManyNames _ m.1 in
     record {
       word_count = sym (on_command-Some (command_test kind.WordCount names) (words_of text) args v command) ∙ d.0;
       good_names = sym (on_command-Some (command_test kind.BadName names) (words_of text) args v command) ∙ e.0;
@@ -143,7 +146,8 @@ Fits-from names text v args passes command =
       normal = sym (on_command-Some (command_test kind.ZeroNormal names) (words_of text) args v command) ∙ j.0;
       mode = sym (on_command-Some (command_test kind.BadMode names) (words_of text) args v command) ∙ k.0;
       weight = sym (on_command-Some (command_test kind.BadWeight names) (words_of text) args v command) ∙ l.0;
-      room = sym (on_command-Some (command_test kind.TooManyNames names) (words_of text) args v command) ∙ m.0;
+      direction = sym (on_command-Some (command_test kind.ZeroDirection names) (words_of text) args v command) ∙ m.0;
+      room = sym (on_command-Some (command_test kind.TooManyNames names) (words_of text) args v command) ∙ n.0;
     }
 
 -- the words begin with the command

@@ -1,5 +1,5 @@
 -- The map of the bound names.
-use Rattle.std.proofs.Common.{◌≡◌, ℕ, ◌+◌, Bool, true, false, cond, List, [], ◌∷◌, ◌++◌, length, Option, Some, None, ap, sym, ◌∙◌, subst, inl, inr}
+use Rattle.std.proofs.Common.{◌≡◌, ℕ, cond, List, [], ◌∷◌, ◌++◌, length, Some, None, ap, sym, ◌∙◌, subst, inl, inr}
 use Rattle.std.specs.Bool.{Decides, one_answer}
 use Rattle.std.specs.List.{position}
 use Rattle.std.specs.Ordering.{nat_cmp}

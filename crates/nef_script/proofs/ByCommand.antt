@@ -1,5 +1,5 @@
 -- The tests of a kind, by the command of the line.
-use Rattle.std.proofs.Common.{◌≡◌, ℕ, Bool, true, false, not, ◌&&◌, cond, nat_eq, List, [], ◌∷◌, length, Option, Some, None, is_none, is_some, refl, ap, sym, ◌∙◌}
+use Rattle.std.proofs.Common.{◌≡◌, ℕ, Bool, false, nat_eq, List, [], ◌∷◌, length, Option, Some, None, is_none, refl, ap}
 use Rattle.std.specs.Option.{option_map}
 use Rattle.nef_lex.specs.Words.{words_of}
 use Rattle.nef_script.specs.Table.{verb_of}
@@ -54,4 +54,5 @@ refused-Some kind.OutOfRange names line v args e a b c d = on_command-Some (comm
 refused-Some kind.ZeroNormal names line v args e a b c d = on_command-Some (command_test kind.ZeroNormal names) (words_of line) args v e
 refused-Some kind.BadMode names line v args e a b c d = on_command-Some (command_test kind.BadMode names) (words_of line) args v e
 refused-Some kind.BadWeight names line v args e a b c d = on_command-Some (command_test kind.BadWeight names) (words_of line) args v e
+refused-Some kind.ZeroDirection names line v args e a b c d = on_command-Some (command_test kind.ZeroDirection names) (words_of line) args v e
 refused-Some kind.TooManyNames names line v args e a b c d = on_command-Some (command_test kind.TooManyNames names) (words_of line) args v e

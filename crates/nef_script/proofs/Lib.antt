@@ -6,6 +6,7 @@ pub mod Shapes
 pub mod Values
 pub mod Nodes
 pub mod Questions
+pub mod Rays
 pub mod Adding
 pub mod LineByLine
 pub mod RefusalLaws

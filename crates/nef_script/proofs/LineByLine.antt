@@ -3,21 +3,20 @@ use Rattle.std.proofs.Common.{◌≡◌, ℕ, zero, suc, ◌+◌, ◌<◌, ◌�
 use Rattle.std.specs.List.{All, filter, enumerate_from}
 use Rattle.std.proofs.Math.Seq.{take-append_seam}
 use Rattle.std.proofs.lemmas.Bool.{cases_lt, cases_Bool}
-use Rattle.std.proofs.lemmas.Grind.{common_steps}
 use Rattle.std.proofs.lemmas.List.{take-append-le}
 use Rattle.std.proofs.lemmas.List.Elements.{All-nil, All-push, All-weaker, filter-append}
-use Rattle.std.proofs.lemmas.Option.{slice_get_within, slice_get_past}
+use Rattle.std.proofs.lemmas.Option.{slice_get_within}
 use Rattle.nef_lex.specs.Lines.{lines_of}
 use Rattle.nef_lex.specs.Words.{words_of}
 use Rattle.nef_expr.specs.declared.nodes.Node.{Node}
-use Rattle.nef_script.specs.Table.{verb_of, binds}
+use Rattle.nef_script.specs.Table.{binds}
 use Rattle.nef_script.specs.Refusal.{script_limit, line_refusal, bound_name, names_of, RefusalAt, Passes, FirstRefusal}
-use Rattle.nef_script.specs.Meaning.{IsNode, IsWithin, MeansCommand, MeansWords, MeansLines, has_words}
+use Rattle.nef_script.specs.Meaning.{IsWithin, MeansCommand, MeansWords, MeansLines, has_words}
 use Rattle.nef_script.specs.Reading.{AddsLine, AddsCommand}
 use Rattle.nef_script.specs.Progress.{HasRead}
 use Rattle.nef_script.specs.declared.table.Verb.{Verb}
 use Rattle.nef_script.specs.declared.script.Command.{Command}
-use Rattle.nef_script.specs.declared.script.Command.TheVariants.{Bind, Has, Same, Count, Print}
+use Rattle.nef_script.specs.declared.script.Command.TheVariants.{Bind, Has, Joined, Ray, Same, Count, Print}
 use Rattle.nef_script.specs.declared.fault.ScriptKind.{ScriptKind}
 
 -- ---- places in lists
@@ -59,6 +58,8 @@ words_more names line (word ∷ args) nodes more c (v, is, means) = (v, is, comm
 within_more : (m n : ℕ) (c : Command) → m ≤ n → IsWithin m c → IsWithin n c
 within_more m n (Bind line k) le below = omega arith
 within_more m n (Has line k p) le below = omega arith
+within_more m n (Joined line k p q) le below = omega arith
+within_more m n (Ray line k p d) le (below, small) = (omega arith, small)
 within_more m n (Same line i j) le (first, second) = (omega arith, omega arith)
 within_more m n (Count line k) le below = omega arith
 within_more m n (Print line k name) le below = omega arith

@@ -4,7 +4,6 @@ use Rattle.std.specs.Str.{bytes_eq}
 use Rattle.nef_geo.specs.Reading.{IsPositiveMultiple}
 use Rattle.nef_geo.specs.Shapes.{given_form}
 use Rattle.nef_geo.specs.declared.plane.Oriented.{Oriented}
-use Rattle.nef_expr.specs.declared.nodes.Node.{Node}
 use Rattle.nef_expr.specs.declared.nodes.Node.TheVariants as node
 use Rattle.nef_script.specs.Meaning.{IsNode}
 use Rattle.nef_script.specs.Reading.{SecondIs, LastTwoAre, words_form}

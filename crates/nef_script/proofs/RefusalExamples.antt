@@ -1,8 +1,7 @@
 -- The first refusals of short scripts, by computation.
-use Rattle.std.proofs.Common.{◌≡◌, ℕ, zero, suc, ◌<◌, ◌≤◌, List, [], ◌∷◌, length, codes, refl, arith, lit≤, Option, Some, None}
-use Rattle.nef_lex.specs.Lines.{lines_of}
-use Rattle.nef_script.specs.Refusal.{RefusalAt, Passes, FirstRefusal, IsAccepted}
-use Rattle.nef_script.specs.Laws.{script_of, UnknownCommandExample, WordCountExample, BadNameExample, NameTakenExample, UnknownNameExample, OwnNameExample, NotANumberExample, ZeroNormalExample, BadModeExample, OutOfRangeExample, BadWeightExample, FarPointExample, FirstLineExample, AcceptedExample}
+use Rattle.std.proofs.Common.{ℕ, List, codes, refl, arith, lit≤, None}
+use Rattle.nef_script.specs.Refusal.{RefusalAt, Passes, FirstRefusal}
+use Rattle.nef_script.specs.Laws.{UnknownCommandExample, WordCountExample, BadNameExample, NameTakenExample, UnknownNameExample, OwnNameExample, NotANumberExample, ZeroNormalExample, BadModeExample, OutOfRangeExample, BadWeightExample, ZeroDirectionExample, LongDirectionExample, FarPointExample, FirstLineExample, AcceptedExample}
 use Rattle.nef_script.proofs.LineByLine.{passes_more}
 use Rattle.nef_script.specs.declared.fault.ScriptKind.TheVariants as kind
 
@@ -44,6 +43,12 @@ out_of_range = FirstRefusal.at_line 0 kind.OutOfRange (lit≤ tt) (codes "half A
 
 pub bad_weight : BadWeightExample
 bad_weight = FirstRefusal.at_line 1 kind.BadWeight (lit≤ tt) (codes "has A 0 0 0 0", refl, refl) (after_first _ (codes "empty A", refl, refl))
+
+pub zero_direction : ZeroDirectionExample
+zero_direction = FirstRefusal.at_line 1 kind.ZeroDirection (lit≤ tt) (codes "ray A 0 0 0 1 0 -0 00", refl, refl) (after_first _ (codes "empty A", refl, refl))
+
+pub long_direction : LongDirectionExample
+long_direction = FirstRefusal.at_line 1 kind.OutOfRange (lit≤ tt) (codes "ray A 2097152 0 0 1024 0 0 1025", refl, refl) (after_first _ (codes "empty A", refl, refl))
 
 pub far_point : FarPointExample
 far_point = FirstRefusal.at_line 1 kind.OutOfRange (lit≤ tt) (codes "has A 8796093022209 0 0 1", refl, refl) (after_first _ (codes "empty A", refl, refl))

@@ -1,5 +1,5 @@
 -- Words by their number.
-use Rattle.std.proofs.Common.{◌≡◌, ℕ, ◌<◌, List, [], ◌∷◌, length, get_or, refl, sym, ◌∙◌, ap, arith, subst}
+use Rattle.std.proofs.Common.{◌≡◌, ℕ, ◌<◌, List, [], ◌∷◌, length, get_or, refl, sym, ap, arith, subst}
 use Rattle.std.proofs.lemmas.List.{get_or-map, length-map}
 use denote.Ref.{Bor}
 use Rattle.nef_script.specs.Names.{pointed}
@@ -50,6 +50,19 @@ six_words (a ∷ b ∷ c ∷ d ∷ []) e = absurd (omega arith)
 six_words (a ∷ b ∷ c ∷ d ∷ f ∷ []) e = absurd (omega arith)
 six_words (a ∷ b ∷ c ∷ d ∷ f ∷ g ∷ []) e = refl
 six_words (a ∷ b ∷ c ∷ d ∷ f ∷ g ∷ h ∷ ws) e = absurd (omega arith)
+
+pub eight_words : (ws : List (List ℕ)) → length ws ≡ 8 → ws ≡ get_or ws 0 [] ∷ get_or ws 1 [] ∷ get_or ws 2 [] ∷ get_or ws 3 [] ∷ get_or ws 4 [] ∷ get_or ws 5 [] ∷ get_or ws 6 [] ∷ get_or ws 7 [] ∷ []
+eight_words [] e = absurd (omega arith)
+eight_words (a ∷ []) e = absurd (omega arith)
+eight_words (a ∷ b ∷ ws) e =
+    let six : length ws ≡ 6 = omega arith in
+    ap (λ l. a ∷ b ∷ l) (six_words ws six)
+
+pub nine_words : (ws : List (List ℕ)) → length ws ≡ 9 → ws ≡ get_or ws 0 [] ∷ get_or ws 1 [] ∷ get_or ws 2 [] ∷ get_or ws 3 [] ∷ get_or ws 4 [] ∷ get_or ws 5 [] ∷ get_or ws 6 [] ∷ get_or ws 7 [] ∷ get_or ws 8 [] ∷ []
+nine_words [] e = absurd (omega arith)
+nine_words (a ∷ ws) e =
+    let eight : length ws ≡ 8 = omega arith in
+    ap (λ l. a ∷ l) (eight_words ws eight)
 
 pub SecondIs-from : (names ws : List (List ℕ)) (i : ℕ) → length ws ≡ 2 → Names names (get_or ws 1 []) i → SecondIs names ws i
 SecondIs-from names ws i e at = subst (λ l. SecondIs names l i) (sym (two_words ws e)) at

@@ -1,11 +1,11 @@
 -- The values of a line's words, as the calls take them.
-use Rattle.std.proofs.Common.{◌≡◌, ℕ, ◌<◌, ◌^◌, ℤ, pos, ◌<ℤ◌, List, [], ◌∷◌, length, get_or, Result, Ok, Err, ◌↔◌, refl, sym, ◌∙◌, ap, subst, w64, to_z, of_z}
+use Rattle.std.proofs.Common.{◌≡◌, ℕ, ◌<◌, ◌^◌, ℤ, pos, ◌<ℤ◌, List, length, get_or, Result, Err, ◌↔◌, refl, sym, ◌∙◌, ap, subst, w64, to_z, of_z}
 use Rattle.std.proofs.lemmas.Int.{to_z-of_z}
 use Rattle.std.specs.Int.Signed.{mag}
 use Rattle.nef_space.specs.Place.{Form, form, SamePlace, normal_of}
 use Rattle.nef_space.specs.Vectors.{vector, IsZero, IsDirection}
-use Rattle.nef_geo.specs.Reading.{IsInRange, IsPositiveMultiple}
-use Rattle.nef_geo.specs.Shapes.{place_at, place_of, given_form}
+use Rattle.nef_geo.specs.Reading.{IsInRange}
+use Rattle.nef_geo.specs.Shapes.{place_at, place_of}
 use Rattle.nef_geo.specs.declared.plane.Oriented.{Oriented}
 use Rattle.nef_geo.specs.declared.point.Point.{Point}
 use Rattle.nef_geo.specs.declared.reading.PlaneFault.{PlaneFault}
@@ -13,8 +13,8 @@ use Rattle.nef_geo.specs.declared.reading.PlaneFault.TheVariants.{OutOfRange, Ze
 use denote.Ref.{Bor}
 use Rattle.nef_script.specs.Names.{pointed}
 use Rattle.nef_script.specs.Tests.{number_or_zero}
-use Rattle.nef_script.specs.Meaning.{IsGiven, IsQuotient}
-use Rattle.nef_script.specs.Reading.{number_at, words_form}
+use Rattle.nef_script.specs.Meaning.{IsQuotient}
+use Rattle.nef_script.specs.Reading.{number_at}
 use Rattle.nef_script.proofs.Failing.{no_word}
 use Rattle.nef_script.proofs.Shapes.{pointed-at}
 
@@ -32,6 +32,9 @@ quotient p x y z w x' y' z' w' is_x is_y is_z is_w positive same =
 
 pub same_form : (a b c d a' b' c' d' : ℤ) → a' ≡ a → b' ≡ b → c' ≡ c → d' ≡ d → form a' b' c' d' ≡ form a b c d
 same_form a b c d a' b' c' d' is_a is_b is_c is_d = rw (is_a, is_b, is_c, is_d) refl
+
+pub same_vector : (x y z x' y' z' : ℤ) → x' ≡ x → y' ≡ y → z' ≡ z → vector x' y' z' ≡ vector x y z
+same_vector x y z x' y' z' is_x is_y is_z = rw (is_x, is_y, is_z) refl
 
 -- a plane within the limits whose normal isn't zero is read
 pub read_succeeds : (h : Form) (r : Result Oriented PlaneFault) (f : PlaneFault) → r ≡ Err f → ((r ≡ Err OutOfRange) ↔ (¬ IsInRange h)) → ((r ≡ Err ZeroNormal) ↔ (IsInRange h × IsZero (normal_of h))) → IsInRange h → IsDirection (normal_of h) → ⊥

@@ -1,12 +1,12 @@
 -- The tests on one line, as they are worked: on one word, on a command's words, on the whole line.
-use Rattle.std.specs.Prelude.{ℕ, Bool, true, false, not, ◌&&◌, nat_eq, nat_le, List, [], ◌∷◌, Option, Some, None, is_none, option_map, length}
+use Rattle.std.specs.Prelude.{ℕ, Bool, true, false, not, ◌&&◌, nat_eq, nat_le, List, [], ◌∷◌, Option, None, option_map, length}
 use Rattle.std.specs.List.{list_any, zip}
 use Rattle.nef_space.specs.Limits.{number_limit}
 use Rattle.nef_script.specs.Table.{verb_of, roles, binds}
-use Rattle.nef_script.specs.Tests.{name_count_limit, is_bad_name, is_taken, is_unknown, is_no_number, is_past_limit, is_bad_mode, is_bad_weight, has_zero_normal}
+use Rattle.nef_script.specs.Tests.{name_count_limit, is_bad_name, is_taken, is_unknown, is_no_number, is_past_limit, is_bad_mode, is_bad_weight, has_zero_normal, has_zero_direction}
 use Rattle.nef_script.specs.declared.table.Verb.{Verb}
 use Rattle.nef_script.specs.declared.table.Role.{Role}
-use Rattle.nef_script.specs.declared.table.Role.TheVariants.{NewName, Operand, Coefficient, Mode, Weight}
+use Rattle.nef_script.specs.declared.table.Role.TheVariants.{Coefficient, Weight}
 use Rattle.nef_script.specs.declared.fault.ScriptKind.{ScriptKind}
 use Rattle.nef_script.specs.declared.fault.ScriptKind.TheVariants as kind
 
@@ -31,6 +31,7 @@ word_test _ names p = false
 abbrev pub command_test : ScriptKind → List (List ℕ) → Verb → List (List ℕ) → Bool
 command_test kind.WordCount names v args = not (nat_eq (length args) (length (roles v)))
 command_test kind.ZeroNormal names v args = has_zero_normal v args
+command_test kind.ZeroDirection names v args = has_zero_direction v args
 command_test kind.TooManyNames names v args = binds v && nat_le name_count_limit (length names)
 command_test k names v args = list_any (word_test k names) (zip (roles v) args)
 

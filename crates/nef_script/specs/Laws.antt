@@ -55,6 +55,12 @@ OutOfRangeExample = FirstRefusal (script_of (codes "half A 2049 0 0 0 shut" ∷ 
 abbrev pub BadWeightExample : Type 0
 BadWeightExample = FirstRefusal (script_of (codes "empty A" ∷ codes "has A 0 0 0 0" ∷ [])) 2 kind.BadWeight
 
+abbrev pub ZeroDirectionExample : Type 0
+ZeroDirectionExample = FirstRefusal (script_of (codes "empty A" ∷ codes "ray A 0 0 0 1 0 -0 00" ∷ [])) 2 kind.ZeroDirection
+
+abbrev pub LongDirectionExample : Type 0
+LongDirectionExample = FirstRefusal (script_of (codes "empty A" ∷ codes "ray A 2097152 0 0 1024 0 0 1025" ∷ [])) 2 kind.OutOfRange
+
 abbrev pub FarPointExample : Type 0
 FarPointExample = FirstRefusal (script_of (codes "empty A" ∷ codes "has A 8796093022209 0 0 1" ∷ [])) 2 kind.OutOfRange
 

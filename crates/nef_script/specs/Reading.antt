@@ -1,8 +1,7 @@
 -- What reading one line does.
-use Rattle.std.specs.Prelude.{◌≡◌, ℕ, ◌<◌, ◌≤◌, Bool, true, false, ℤ, pos, ◌<ℤ◌, nat_abs, get_or, List, [], ◌∷◌, ◌++◌, Option, Some, None, length, take, if◌then◌else◌}
-use Rattle.nef_space.specs.Limits.{query_limit, query_weight_limit}
+use Rattle.std.specs.Prelude.{◌≡◌, ℕ, ◌+◌, ◌<◌, ◌≤◌, Bool, true, false, ℤ, pos, ◌<ℤ◌, nat_abs, get_or, List, [], ◌∷◌, ◌++◌, None, length, take, if◌then◌else◌}
 use Rattle.nef_space.specs.Place.{Form, form, normal_of}
-use Rattle.nef_space.specs.Vectors.{IsDirection}
+use Rattle.nef_space.specs.Vectors.{Vector, vector, IsAtMost, IsDirection}
 use Rattle.nef_geo.specs.Reading.{IsInRange}
 use Rattle.nef_lex.specs.Words.{words_of}
 use Rattle.nef_expr.specs.declared.nodes.Node.{Node}
@@ -26,6 +25,7 @@ pub record Fits (names : List (List ℕ)) (v : Verb) (args : List (List ℕ)) : 
   pub normal : command_test kind.ZeroNormal names v args ≡ false
   pub mode : command_test kind.BadMode names v args ≡ false
   pub weight : command_test kind.BadWeight names v args ≡ false
+  pub direction : command_test kind.ZeroDirection names v args ≡ false
   pub room : command_test kind.TooManyNames names v args ≡ false
 
 -- the second word names the node i
@@ -72,13 +72,24 @@ number_at args i = number_or_zero (get_or args i [])
 abbrev pub words_form : List (List ℕ) → Form
 words_form args = form (number_at args 1) (number_at args 2) (number_at args 3) (number_at args 4)
 
--- the numbers of a point that is asked for, within their limits
-pub record IsAsked (args : List (List ℕ)) : Type 0 where
-  pub x_small : nat_abs (number_at args 1) ≤ query_limit
-  pub y_small : nat_abs (number_at args 2) ≤ query_limit
-  pub z_small : nat_abs (number_at args 3) ≤ query_limit
-  pub w_small : nat_abs (number_at args 4) ≤ query_weight_limit
-  pub positive : pos 0 <ℤ number_at args 4
+-- the four words from the word i on are the numbers of a point, the first three at most m in size and w at most n
+pub record HasPointAt (m n : ℕ) (args : List (List ℕ)) (i : ℕ) : Type 0 where
+  pub count : i + 4 ≤ length args
+  pub x_small : nat_abs (number_at args i) ≤ m
+  pub y_small : nat_abs (number_at args (i + 1)) ≤ m
+  pub z_small : nat_abs (number_at args (i + 2)) ≤ m
+  pub w_small : nat_abs (number_at args (i + 3)) ≤ n
+  pub positive : pos 0 <ℤ number_at args (i + 3)
+
+-- the vector of the three numbers from the word i on
+abbrev pub vector_at : List (List ℕ) → ℕ → Vector
+vector_at args i = vector (number_at args i) (number_at args (i + 1)) (number_at args (i + 2))
+
+-- the three words from the word i on are the numbers of a direction, at most m in size
+pub record HasDirectionAt (m : ℕ) (args : List (List ℕ)) (i : ℕ) : Type 0 where
+  pub count : i + 3 ≤ length args
+  pub small : IsAtMost m (vector_at args i)
+  pub some : IsDirection (vector_at args i)
 
 -- two words, of which the second is a name that is bound
 pub record HasOperand (names args : List (List ℕ)) : Type 0 where
@@ -96,11 +107,6 @@ pub record HasPlane (args : List (List ℕ)) : Type 0 where
   pub count : length args ≡ 6
   pub in_range : IsInRange (words_form args)
   pub some : IsDirection (normal_of (words_form args))
-
--- five words, of which the last four are the numbers of a point
-pub record HasPoint (args : List (List ℕ)) : Type 0 where
-  pub count : length args ≡ 5
-  pub asked : IsAsked args
 
 -- the first word is a name that is bound
 pub record HasFirstOperand (names args : List (List ℕ)) : Type 0 where

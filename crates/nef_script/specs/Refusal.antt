@@ -1,10 +1,9 @@
 -- The first refusal of a script: the first line for which some test holds, and the first such test.
-use Rattle.std.specs.Prelude.{◌≡◌, ℕ, ◌+◌, ◌<◌, ◌≤◌, Bool, true, false, List, [], ◌∷◌, ◌++◌, Option, Some, None, find, length, take, slice_get, if◌then◌else◌}
+use Rattle.std.specs.Prelude.{◌≡◌, ℕ, ◌+◌, ◌<◌, ◌≤◌, List, [], ◌∷◌, ◌++◌, Option, Some, None, find, length, take, slice_get, if◌then◌else◌}
 use Rattle.nef_lex.specs.Lines.{lines_of}
 use Rattle.nef_lex.specs.Words.{words_of}
 use Rattle.nef_script.specs.Table.{verb_of, binds}
 use Rattle.nef_script.specs.Tests.{is_refused_for, on_verb}
-use Rattle.nef_script.specs.declared.table.Verb.{Verb}
 use Rattle.nef_script.specs.declared.fault.ScriptKind.{ScriptKind}
 use Rattle.nef_script.specs.declared.fault.ScriptKind.TheVariants as kind
 
@@ -27,6 +26,7 @@ kinds =
     ∷ kind.ZeroNormal
     ∷ kind.BadMode
     ∷ kind.BadWeight
+    ∷ kind.ZeroDirection
     ∷ kind.TooManyNames
     ∷ []
 

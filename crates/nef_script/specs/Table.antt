@@ -2,6 +2,7 @@
 use Rattle.std.specs.Prelude.{ℕ, Bool, true, false, List, [], ◌∷◌, Option, codes, find, option_map}
 use Rattle.std.specs.Str.{bytes_eq}
 use Rattle.nef_space.specs.Limits.{normal_limit, offset_limit, query_limit, query_weight_limit}
+use Rattle.nef_script.specs.Limits.{ray_point_limit, ray_weight_limit, ray_direction_limit}
 use Rattle.nef_script.specs.declared.table.Verb.{Verb}
 use Rattle.nef_script.specs.declared.table.Verb.TheVariants as verb
 use Rattle.nef_script.specs.declared.table.Role.{Role}
@@ -23,6 +24,8 @@ commands =
     ∷ (codes "bd", verb.Bd)
     ∷ (codes "reg", verb.Reg)
     ∷ (codes "has", verb.Has)
+    ∷ (codes "joined", verb.Joined)
+    ∷ (codes "ray", verb.Ray)
     ∷ (codes "same", verb.Same)
     ∷ (codes "count", verb.Count)
     ∷ (codes "print", verb.Print)
@@ -47,6 +50,8 @@ roles verb.Cl = NewName ∷ Operand ∷ []
 roles verb.Bd = NewName ∷ Operand ∷ []
 roles verb.Reg = NewName ∷ Operand ∷ []
 roles verb.Has = Operand ∷ Coefficient query_limit ∷ Coefficient query_limit ∷ Coefficient query_limit ∷ Weight query_weight_limit ∷ []
+roles verb.Joined = Operand ∷ Coefficient query_limit ∷ Coefficient query_limit ∷ Coefficient query_limit ∷ Weight query_weight_limit ∷ Coefficient query_limit ∷ Coefficient query_limit ∷ Coefficient query_limit ∷ Weight query_weight_limit ∷ []
+roles verb.Ray = Operand ∷ Coefficient ray_point_limit ∷ Coefficient ray_point_limit ∷ Coefficient ray_point_limit ∷ Weight ray_weight_limit ∷ Coefficient ray_direction_limit ∷ Coefficient ray_direction_limit ∷ Coefficient ray_direction_limit ∷ []
 roles verb.Same = Operand ∷ Operand ∷ []
 roles verb.Count = Operand ∷ []
 roles verb.Print = Operand ∷ []
@@ -54,6 +59,8 @@ roles verb.Print = Operand ∷ []
 -- the command binds the name that is its first word
 abbrev pub binds : Verb → Bool
 binds verb.Has = false
+binds verb.Joined = false
+binds verb.Ray = false
 binds verb.Same = false
 binds verb.Count = false
 binds verb.Print = false

@@ -1,5 +1,5 @@
 -- The tests on one line, one for each kind of refusal, against the names that earlier lines bound.
-use Rattle.std.specs.Prelude.{ℕ, zero, suc, ◌≤◌, Bool, true, false, not, ◌&&◌, ◌||◌, nat_eq, nat_lt, nat_le, nat_abs, ℤ, pos, negsuc, List, [], ◌∷◌, Option, Some, None, is_some, is_none, unwrap_or, codes, length}
+use Rattle.std.specs.Prelude.{ℕ, Bool, false, not, ◌&&◌, ◌||◌, nat_eq, nat_lt, nat_le, nat_abs, ℤ, pos, negsuc, List, [], ◌∷◌, Option, Some, None, is_some, is_none, unwrap_or, codes, length}
 use Rattle.std.specs.List.{list_any, zip}
 use Rattle.std.specs.Str.{bytes_eq}
 use Rattle.nef_lex.specs.Words.{words_of}
@@ -80,6 +80,11 @@ abbrev pub has_zero_normal : Verb → List (List ℕ) → Bool
 has_zero_normal verb.Half (name ∷ a ∷ b ∷ c ∷ rest) = is_zero (number_or_zero a) && is_zero (number_or_zero b) && is_zero (number_or_zero c)
 has_zero_normal _ args = false
 
+-- dx, dy and dz of a ray are all zero
+abbrev pub has_zero_direction : Verb → List (List ℕ) → Bool
+has_zero_direction verb.Ray (name ∷ x ∷ y ∷ z ∷ w ∷ dx ∷ dy ∷ dz ∷ rest) = is_zero (number_or_zero dx) && is_zero (number_or_zero dy) && is_zero (number_or_zero dz)
+has_zero_direction _ args = false
+
 -- what a test says of a command, if there is one
 abbrev pub on_verb : (Verb → Bool) → Option Verb → Bool
 on_verb test None = false
@@ -113,5 +118,6 @@ is_refused_for kind.OutOfRange names line = on_words is_past_limit (words_of lin
 is_refused_for kind.ZeroNormal names line = on_command has_zero_normal (words_of line)
 is_refused_for kind.BadMode names line = on_words is_bad_mode (words_of line)
 is_refused_for kind.BadWeight names line = on_words is_bad_weight (words_of line)
+is_refused_for kind.ZeroDirection names line = on_command has_zero_direction (words_of line)
 is_refused_for kind.TooManyNames names line = on_command (λ v args. binds v && nat_le name_count_limit (length names)) (words_of line)
 is_refused_for kind.ScriptTooLong names line = false

@@ -21,6 +21,7 @@ pub enum ScriptKind {
     ZeroNormal,
     BadMode,
     BadWeight,
+    ZeroDirection,
     TooManyNames,
     ScriptTooLong,
 }
@@ -63,6 +64,7 @@ impl ScriptKind {
             ScriptKind::ZeroNormal => "zero normal",
             ScriptKind::BadMode => "mode is not open or closed",
             ScriptKind::BadWeight => "weight out of range",
+            ScriptKind::ZeroDirection => "zero direction",
             ScriptKind::TooManyNames => "too many names",
             ScriptKind::ScriptTooLong => "script too long",
         }

@@ -1,6 +1,6 @@
 //! What is true of every script, and the definitions at worked examples.
 
-ghost use Rattle.nef_script.specs.Laws.{OneRefusal, NeverBoth, Decided, UnknownCommandExample, WordCountExample, BadNameExample, NameTakenExample, UnknownNameExample, OwnNameExample, NotANumberExample, ZeroNormalExample, BadModeExample, OutOfRangeExample, BadWeightExample, FarPointExample, FirstLineExample, AcceptedExample};
+ghost use Rattle.nef_script.specs.Laws.{OneRefusal, NeverBoth, Decided, UnknownCommandExample, WordCountExample, BadNameExample, NameTakenExample, UnknownNameExample, OwnNameExample, NotANumberExample, ZeroNormalExample, BadModeExample, OutOfRangeExample, BadWeightExample, ZeroDirectionExample, LongDirectionExample, FarPointExample, FirstLineExample, AcceptedExample};
 
 /// A script is accepted, or it is refused first at one line for one kind, and never both.
 pub fn refusal_laws()
@@ -22,6 +22,8 @@ pub fn refusal_examples()
     ensures bad_mode { BadModeExample }
     ensures out_of_range { OutOfRangeExample }
     ensures bad_weight { BadWeightExample }
+    ensures zero_direction { ZeroDirectionExample }
+    ensures long_direction { LongDirectionExample }
     ensures far_point { FarPointExample }
     ensures first_line { FirstLineExample }
     ensures accepted { AcceptedExample }

@@ -1,15 +1,18 @@
 //! What the words of a line that isn't refused mean.
 
-ghost use Rattle.std.specs.Prelude.{◌≡◌, List, ℕ, ◌≤◌, ◌<◌, true, false, ℤ, nat_abs, length, IfOk, Some, [], ◌∷◌, get_or};
+ghost use Rattle.std.specs.Prelude.{◌≡◌, List, ℕ, ◌+◌, ◌≤◌, ◌<◌, true, false, ℤ, nat_abs, length, IfOk, Some, [], ◌∷◌, get_or};
 ghost use Rattle.std.specs.List.{list_any, position, zip};
 ghost use Rattle.std.specs.Str.{bytes_eq};
-ghost use Rattle.nef_space.specs.Limits.{number_limit};
+ghost use Rattle.nef_space.specs.Limits.{number_limit, query_limit, query_weight_limit};
+ghost use Rattle.nef_space.specs.Vectors.{IsAtMost};
+ghost use Rattle.nef_geo.specs.Shapes.{vector_of};
 ghost use Rattle.nef_expr.specs.Nodes.{NamesBelow};
 ghost use Rattle.nef_script.specs.Table.{binds};
 ghost use Rattle.nef_script.specs.Tests.{number_or_zero, is_among};
 ghost use Rattle.nef_script.specs.Names.{pointed};
-ghost use Rattle.nef_script.specs.Meaning.{IsNode, IsQuestion, IsQuotient, IsWithin};
-ghost use Rattle.nef_script.specs.Reading.{Fits, SecondIs, LastTwoAre, HasOperand, HasTwoOperands, HasPlane, HasPoint, HasFirstOperand, number_at};
+ghost use Rattle.nef_script.specs.Limits.{ray_point_limit, ray_weight_limit, ray_direction_limit, IsRayWithin};
+ghost use Rattle.nef_script.specs.Meaning.{IsNode, IsQuestion, IsQuotient, IsToward, IsWithin};
+ghost use Rattle.nef_script.specs.Reading.{Fits, SecondIs, LastTwoAre, HasOperand, HasTwoOperands, HasPlane, HasPointAt, HasDirectionAt, HasFirstOperand, number_at};
 ghost use Rattle.nef_script.specs.declared.table.Verb.TheVariants as verb;
 
 use crate::checks::CLOSED;
@@ -17,7 +20,7 @@ use crate::names::Names;
 use crate::script::{Command, Name};
 use crate::table::Verb;
 use nef_expr::Node;
-use nef_geo::{Plane, Point};
+use nef_geo::{Dir, Plane, Point};
 use nef_lex::{NumberWord, whole_number};
 use std::alloc::{AllocError, Global};
 
@@ -89,17 +92,29 @@ fn half_space(args: &[&[u8]]) -> Node
     }
 }
 
-// The point of the four numbers.
-fn asked_point(args: &[&[u8]]) -> Point
-    requires point { HasPoint (pointed args.now) }
-    ensures point { IsQuotient result (number_at (pointed args.now) 1) (number_at (pointed args.now) 2) (number_at (pointed args.now) 3) (number_at (pointed args.now) 4) }
+// The point of the four numbers from the word i on.
+fn asked_point(args: &[&[u8]], i: usize) -> Point
+    requires point { HasPointAt query_limit query_weight_limit (pointed args.now) i }
+    ensures point { IsQuotient result (number_at (pointed args.now) i) (number_at (pointed args.now) (i + 1)) (number_at (pointed args.now) (i + 2)) (number_at (pointed args.now) (i + 3)) }
 {
     Point::of(
-        number(args[1]),
-        number(args[2]),
-        number(args[3]),
-        number(args[4]),
+        number(args[i]),
+        number(args[i + 1]),
+        number(args[i + 2]),
+        number(args[i + 3]),
     )
+}
+
+// The direction of the three numbers from the word i on.
+fn asked_direction(args: &[&[u8]], i: usize) -> Dir
+    requires direction { HasDirectionAt ray_direction_limit (pointed args.now) i }
+    ensures toward { IsToward result (number_at (pointed args.now) i) (number_at (pointed args.now) (i + 1)) (number_at (pointed args.now) (i + 2)) }
+    ensures small { IsAtMost ray_direction_limit (vector_of result) }
+{
+    match Dir::of(number(args[i]), number(args[i + 1]), number(args[i + 2])) {
+        Some(dir) => dir,
+        None => unreachable!(),
+    }
 }
 
 /// The node of a command that binds a name.
@@ -134,7 +149,9 @@ pub(crate) fn node_of(names: &Names, verb: Verb, args: &[&[u8]]) -> Node
         Verb::Cl => Node::Cl(second_operand(names, args)),
         Verb::Bd => Node::Bd(second_operand(names, args)),
         Verb::Reg => Node::Reg(second_operand(names, args)),
-        Verb::Has | Verb::Same | Verb::Count | Verb::Print => unreachable!(),
+        Verb::Has | Verb::Joined | Verb::Ray | Verb::Same | Verb::Count | Verb::Print => {
+            unreachable!()
+        }
     }
 }
 
@@ -154,8 +171,26 @@ pub(crate) fn question_of(
     let node = first_operand(names, args);
     match verb {
         Verb::Has => {
-            let point = asked_point(args);
+            let point = asked_point(args, 1);
             Ok(Command::Has { line, node, point })
+        }
+        Verb::Joined => {
+            let (first, second) = (asked_point(args, 1), asked_point(args, 5));
+            Ok(Command::Joined {
+                line,
+                node,
+                first,
+                second,
+            })
+        }
+        Verb::Ray => {
+            let (point, dir) = (asked_point(args, 1), asked_direction(args, 5));
+            Ok(Command::Ray {
+                line,
+                node,
+                point,
+                dir,
+            })
         }
         Verb::Same => {
             let right = second_operand(names, args);

@@ -15,7 +15,8 @@ use std::alloc::Global;
 // The most bytes of a script.
 const SCRIPT_LIMIT: usize = 1_048_576;
 
-/// The script that the bytes spell.
+/// The script that the bytes spell. Its commands name nodes that it has, and its rays keep their
+/// limits.
 ///
 /// `Refused` says where the script is refused first, and for what: a script that is too long at
 /// line 0, and otherwise the first line for which some test holds, with the first such test in the

@@ -5,7 +5,7 @@ ghost use Rattle.std.specs.List.{list_any, list_all, zip};
 ghost use Rattle.std.specs.Option.{option_map};
 ghost use Rattle.nef_lex.specs.Words.{words_of};
 ghost use Rattle.nef_script.specs.Names.{pointed};
-ghost use Rattle.nef_script.specs.Tests.{is_bad_byte, has_zero_normal, is_refused_for};
+ghost use Rattle.nef_script.specs.Tests.{is_bad_byte, has_zero_normal, has_zero_direction, is_refused_for};
 ghost use Rattle.nef_script.specs.Refusal.{line_refusal};
 ghost use Rattle.nef_script.specs.Checks.{is_readable, word_test, command_test, command_in};
 
@@ -20,7 +20,7 @@ const LINE_LIMIT: usize = 256;
 const NAME_COUNT_LIMIT: usize = 4096;
 
 // The kinds in the order of their tests.
-const KINDS: [ScriptKind; 13] = [
+const KINDS: [ScriptKind; 14] = [
     ScriptKind::LineTooLong,
     ScriptKind::BadByte,
     ScriptKind::UnknownCommand,
@@ -33,6 +33,7 @@ const KINDS: [ScriptKind; 13] = [
     ScriptKind::ZeroNormal,
     ScriptKind::BadMode,
     ScriptKind::BadWeight,
+    ScriptKind::ZeroDirection,
     ScriptKind::TooManyNames,
 ];
 
@@ -87,6 +88,7 @@ fn command_fails(kind: ScriptKind, names: &Names, verb: Verb, args: &[&[u8]]) ->
     match kind {
         ScriptKind::WordCount => args.len() != verb.roles().len(),
         ScriptKind::ZeroNormal => has_zero_normal(verb, args),
+        ScriptKind::ZeroDirection => has_zero_direction(verb, args),
         ScriptKind::TooManyNames => verb.binds() && names.len() >= NAME_COUNT_LIMIT,
         _ => some_word_fails(kind, names, verb.roles(), args),
     }
@@ -99,6 +101,19 @@ fn has_zero_normal(verb: Verb, args: &[&[u8]]) -> bool
     match verb {
         Verb::Half => match args {
             [_, a, b, c, ..] => is_zero(a) && is_zero(b) && is_zero(c),
+            _ => false,
+        },
+        _ => false,
+    }
+}
+
+// Whether dx, dy and dz of a ray are all zero.
+fn has_zero_direction(verb: Verb, args: &[&[u8]]) -> bool
+    ensures zero { result ≡ has_zero_direction verb (pointed args.now) }
+{
+    match verb {
+        Verb::Ray => match args {
+            [_, _, _, _, _, x, y, z, ..] => is_zero(x) && is_zero(y) && is_zero(z),
             _ => false,
         },
         _ => false,

@@ -3,7 +3,7 @@
 ghost use Rattle.std.specs.Prelude.{◌≡◌, IfOk};
 
 use nef_expr::Nodes;
-use nef_geo::{List, Point};
+use nef_geo::{Dir, List, Point};
 use std::alloc::{AllocError, Global};
 use std::marker::Model;
 
@@ -51,6 +51,22 @@ pub enum Command {
         line: u64,
         node: usize,
         point: Point,
+    },
+    /// Whether a way within one part of the set joins the two points is asked.
+    Joined {
+        line: u64,
+        node: usize,
+        first: Point,
+        second: Point,
+    },
+    /// Where the label first changes along the ray from the point is asked. The first three numbers of
+    /// the point are at most `2^21` in size, its w is at most `2^10`, and the entries of the direction
+    /// are at most `2^10` in size.
+    Ray {
+        line: u64,
+        node: usize,
+        point: Point,
+        dir: Dir,
     },
     /// Whether the two sets are the same is asked.
     Same {

@@ -25,6 +25,8 @@ pub enum Verb {
     Bd,
     Reg,
     Has,
+    Joined,
+    Ray,
     Same,
     Count,
     Print,
@@ -46,7 +48,7 @@ pub enum Role {
 }
 
 // Each command's word.
-const COMMANDS: [(&[u8], Verb); 16] = [
+const COMMANDS: [(&[u8], Verb); 18] = [
     (b"half", Verb::Half),
     (b"empty", Verb::Empty),
     (b"full", Verb::Full),
@@ -60,12 +62,15 @@ const COMMANDS: [(&[u8], Verb); 16] = [
     (b"bd", Verb::Bd),
     (b"reg", Verb::Reg),
     (b"has", Verb::Has),
+    (b"joined", Verb::Joined),
+    (b"ray", Verb::Ray),
     (b"same", Verb::Same),
     (b"count", Verb::Count),
     (b"print", Verb::Print),
 ];
 
-// The limits of the numbers: a plane's, and those of a point that is asked for.
+// The limits of the numbers: a plane's, those of a point that is asked for, and those of a ray's
+// start and direction.
 const NORMAL: Role = Role::Coefficient(NORMAL_LIMIT);
 
 const OFFSET: Role = Role::Coefficient(OFFSET_LIMIT);
@@ -73,6 +78,12 @@ const OFFSET: Role = Role::Coefficient(OFFSET_LIMIT);
 const PLACE: Role = Role::Coefficient(1 << 43);
 
 const WEIGHT: Role = Role::Weight(1 << 32);
+
+const RAY_PLACE: Role = Role::Coefficient(1 << 21);
+
+const RAY_WEIGHT: Role = Role::Weight(1 << 10);
+
+const RAY_ENTRY: Role = Role::Coefficient(1 << 10);
 
 // The first command of the table that has this word.
 fn verb_in(table: &[(&[u8], Verb)], word: &[u8]) -> Option<Verb>
@@ -105,6 +116,31 @@ impl Verb {
                 &[Role::NewName, Role::Operand]
             }
             Verb::Has => &[Role::Operand, PLACE, PLACE, PLACE, WEIGHT],
+            Verb::Joined => {
+                &[
+                    Role::Operand,
+                    PLACE,
+                    PLACE,
+                    PLACE,
+                    WEIGHT,
+                    PLACE,
+                    PLACE,
+                    PLACE,
+                    WEIGHT,
+                ]
+            }
+            Verb::Ray => {
+                &[
+                    Role::Operand,
+                    RAY_PLACE,
+                    RAY_PLACE,
+                    RAY_PLACE,
+                    RAY_WEIGHT,
+                    RAY_ENTRY,
+                    RAY_ENTRY,
+                    RAY_ENTRY,
+                ]
+            }
             Verb::Same => &[Role::Operand, Role::Operand],
             Verb::Count | Verb::Print => &[Role::Operand],
         }
@@ -114,6 +150,9 @@ impl Verb {
     pub(crate) fn binds(self) -> bool
         ensures binds { result ≡ binds self }
     {
-        !matches!(self, Verb::Has | Verb::Same | Verb::Count | Verb::Print)
+        !matches!(
+            self,
+            Verb::Has | Verb::Joined | Verb::Ray | Verb::Same | Verb::Count | Verb::Print
+        )
     }
 }

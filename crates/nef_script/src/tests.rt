@@ -1,68 +1,89 @@
 use super::*;
+use std::alloc::Global;
 use std::test::Fail;
 
-#[test]
-fn refusals(rt: HostRuntime) {
-    let rows: [(&[u8], u64, ScriptKind); 27] = [
-        (b"ball A", 1, ScriptKind::UnknownCommand),
-        (b"half A 1 0 0 closed", 1, ScriptKind::WordCount),
-        (b"empty 1A", 1, ScriptKind::BadName),
-        (b"empty A\nfull A", 2, ScriptKind::NameTaken),
-        (b"and C A B", 1, ScriptKind::UnknownName),
-        (b"half A 1 0 0 1.5 closed", 1, ScriptKind::NotANumber),
-        (b"half A 0 0 0 5 closed", 1, ScriptKind::ZeroNormal),
-        (b"half A 1 0 0 0 shut", 1, ScriptKind::BadMode),
-        (b"half A 2049 0 0 0 shut", 1, ScriptKind::OutOfRange),
-        (b"empty A\nhas A 0 0 0 0", 2, ScriptKind::BadWeight),
-        (
-            b"empty A\nhas A 8796093022209 0 0 1",
-            2,
-            ScriptKind::OutOfRange,
-        ),
-        (
-            b"half A 2048 0 0 0 closed\nhas A 0 0 0 1\nhalf B 2049 0 0 0 closed",
-            3,
-            ScriptKind::OutOfRange,
-        ),
-        // Two faults on one line, and a fault on an earlier line.
-        (b"ball\x07 A", 1, ScriptKind::BadByte),
-        (b"full A # \x7f", 1, ScriptKind::BadByte),
-        (b"empty 1A B", 1, ScriptKind::WordCount),
-        (b"empty A\nand A 1 2", 2, ScriptKind::BadName),
-        (b"empty A\nand A B C", 2, ScriptKind::NameTaken),
-        (b"not A A", 1, ScriptKind::UnknownName),
-        (b"has B x 0 0 1", 1, ScriptKind::UnknownName),
-        (b"half A 2049 0 0 +1 open", 1, ScriptKind::NotANumber),
-        (
-            b"half A 99999999999999999999 0 0 0 open",
-            1,
-            ScriptKind::OutOfRange,
-        ),
-        (b"half A 0 0 0 4194305 open", 1, ScriptKind::OutOfRange),
-        (b"half A 0 -0 00 0 shut", 1, ScriptKind::ZeroNormal),
-        (
-            b"empty A\nhas A 8796093022209 0 0 0",
-            2,
-            ScriptKind::OutOfRange,
-        ),
-        (b"empty A\nhas A 0 0 0 4294967297", 2, ScriptKind::BadWeight),
-        (b"half A 1 0 0 0 shut\nball A", 1, ScriptKind::BadMode),
-        (b"empty A\n\n# none\r\nempty A", 4, ScriptKind::NameTaken),
-    ];
-    for (script, line, kind) in rows {
-        let fault = parse(rt.alloc(), script).err();
-        assert_eq!(rt;
-            fault,
-            Some(ScriptFault::Refused { line, kind }),
-            "of {script:?}"
-        );
+// Each row is a script, with its lines between the `/`, and its first refusal. The rows from the bad
+// byte on hold two faults on one line, or a fault on an earlier line.
+const REFUSALS: &str = "ball A => line 1: unknown command
+turn B A 1 => line 1: unknown command
+half A 1 0 0 closed => line 1: wrong number of words
+empty A / ray A 0 0 0 1 0 0 => line 2: wrong number of words
+empty A / joined A 0 0 0 1 0 0 0 => line 2: wrong number of words
+empty 1A => line 1: bad name
+empty A / full A => line 2: name taken
+and C A B => line 1: unknown name
+half A 1 0 0 1.5 closed => line 1: not a number
+half A 2049 0 0 0 shut => line 1: coefficient out of range
+half A 0 0 0 4194305 open => line 1: coefficient out of range
+empty A / has A 8796093022209 0 0 1 => line 2: coefficient out of range
+empty A / joined A 0 0 0 1 0 0 -8796093022209 1 => line 2: coefficient out of range
+empty A / ray A 0 -2097153 0 1 1 0 0 => line 2: coefficient out of range
+empty A / ray A 0 0 0 1 0 0 1025 => line 2: coefficient out of range
+half A 0 0 0 5 closed => line 1: zero normal
+half A 1 0 0 0 shut => line 1: mode is not open or closed
+empty A / has A 0 0 0 0 => line 2: weight out of range
+empty A / has A 0 0 0 4294967297 => line 2: weight out of range
+empty A / joined A 0 0 0 1 0 0 0 0 => line 2: weight out of range
+empty A / joined A 0 0 0 4294967297 0 0 0 1 => line 2: weight out of range
+empty A / ray A 0 0 0 1025 1 0 0 => line 2: weight out of range
+empty A / ray A 0 0 0 1 0 -0 00 => line 2: zero direction
+half A 2048 0 0 0 closed / has A 0 0 0 1 / half B 2049 0 0 0 closed => line 3: coefficient out of range
+ball\x07 A => line 1: bad byte
+full A # \x7f => line 1: bad byte
+empty 1A B => line 1: wrong number of words
+empty A / and A 1 2 => line 2: bad name
+empty A / and A B C => line 2: name taken
+not A A => line 1: unknown name
+has B x 0 0 1 => line 1: unknown name
+ray A 0 0 0 1 0 0 0 => line 1: unknown name
+joined A 0 0 0 x 0 0 0 1 => line 1: unknown name
+half A 2049 0 0 +1 open => line 1: not a number
+empty A / ray A 2097153 0 0 1 0 0 x => line 2: not a number
+half A 99999999999999999999 0 0 0 open => line 1: coefficient out of range
+half A 0 -0 00 0 shut => line 1: zero normal
+empty A / has A 8796093022209 0 0 0 => line 2: coefficient out of range
+empty A / joined A 0 0 0 0 0 8796093022209 0 1 => line 2: coefficient out of range
+empty A / ray A 0 0 0 0 1025 0 0 => line 2: coefficient out of range
+empty A / ray A 0 0 0 0 0 0 0 => line 2: weight out of range
+half A 1 0 0 0 shut / ball A => line 1: mode is not open or closed
+empty A / ray A 0 0 0 1 0 0 0 / ball A => line 2: zero direction
+empty A /  / # none\r / empty A => line 4: name taken";
+
+// The lines between the `/`.
+fn unfolded(alloc: Global, script: &str) -> Result<String, OutOfMemory> {
+    let mut lines = String::new(alloc);
+    for line in script.split(" / ") {
+        lines.push_str(line)?;
+        lines.push('\n')?;
     }
+    Ok(lines)
+}
+
+// The script's first refusal, as it is printed.
+fn refusal(alloc: Global, script: &str) -> Result<String, OutOfMemory> {
+    match parse(alloc, unfolded(alloc, script)?.as_bytes()) {
+        Err(ScriptFault::Refused { line, kind }) => format!(in alloc; "line {line}: {kind}"),
+        Err(ScriptFault::OutOfMemory) => Err(OutOfMemory),
+        Ok(_) => String::from_str(alloc, "none"),
+    }
+}
+
+#[test]
+fn refusals(rt: HostRuntime) -> Result<(), Fail> {
+    for row in REFUSALS.split('\n') {
+        let Some((script, wanted)) = row.split_once(" => ") else {
+            panic!(rt; "no row: {row}");
+        };
+        let found = refusal(rt.alloc(), script)?;
+        assert_eq!(rt; found.as_str(), wanted, "of {script}");
+    }
+    Ok(())
 }
 
 #[test]
 fn commands_of_a_script(rt: HostRuntime) -> Result<(), Fail> {
     let text =
-        b"# a corner\r\nhalf a -1 0 0 0 open\nhalf b 0 2 0 -4 closed # two\r\n\nand\tC a b\nhas C 8796093022208 -0 007 4294967296\nsame C a\ncount C\nprint C";
+        b"# a corner\r\nhalf a -1 0 0 0 open\nhalf b 0 2 0 -4 closed # two\r\n\nand\tC a b\nhas C 8796093022208 -0 007 4294967296\nsame C a\ncount C\nprint C\njoined C 2 4 -6 8 0 0 -8796093022208 1\nray a 2097152 -0 8 1024 -1024 0 0512";
     let script = parse(rt.alloc(), text)?;
     assert_eq!(rt; script.nodes().len(), 3);
     let mut lines = Vec::new(rt.alloc());
@@ -85,6 +106,29 @@ fn commands_of_a_script(rt: HostRuntime) -> Result<(), Fail> {
                 assert_eq!(rt; name.as_bytes(), b"C".as_slice());
                 (*line, *node, 4)
             }
+            Command::Joined {
+                line,
+                node,
+                first,
+                second,
+            } => {
+                assert_eq!(rt; (first.x(), first.y(), first.z(), first.w()), (1, 2, -3, 4));
+                assert_eq!(rt; (second.z(), second.w()), (-8796093022208, 1));
+                (*line, *node, 5)
+            }
+            Command::Ray {
+                line,
+                node,
+                point,
+                dir,
+            } => {
+                assert_eq!(rt;
+                    (point.x(), point.y(), point.z(), point.w()),
+                    (262144, 0, 1, 128)
+                );
+                assert_eq!(rt; (dir.x(), dir.y(), dir.z()), (-2, 0, 1));
+                (*line, *node, 6)
+            }
         })?;
     }
     let want = [
@@ -95,6 +139,8 @@ fn commands_of_a_script(rt: HostRuntime) -> Result<(), Fail> {
         (7, 2, 2),
         (8, 2, 3),
         (9, 2, 4),
+        (10, 2, 5),
+        (11, 0, 6),
     ];
     assert_eq!(rt; lines.as_slice(), want.as_slice());
     Ok(())

@@ -1,24 +1,16 @@
 -- What words choose.
-use Rattle.std.specs.Prelude.{ℕ, Bool, ◌+◌, ◌-◌, ◌*◌, ◌&&◌, List, [], ◌∷◌, Some, None, Option, codes, nat_le, if◌then◌else◌, option_and_then, option_map, bytes_eq}
+use Rattle.std.specs.Prelude.{ℕ, ◌&&◌, List, [], ◌∷◌, Some, None, Option, codes, nat_le, if◌then◌else◌, option_and_then, option_map, bytes_eq}
 use Rattle.std.specs.Borrow.{Bor}
 use Rattle.clap.specs.Words.{Text, Kinds, fault_of}
+use Rattle.nef_lex.specs.Numbers.{is_digits, decimal_value}
 use Rattle.nef_core.specs.declared.how.BoardKind.{BoardKind}
 use Rattle.nef_core.specs.declared.how.BoardKind.TheVariants.{Lock, Free}
 use Rattle.nef_words.specs.declared.options.Options.{Options}
 use Rattle.nef_words.specs.Usage.{usage, given}
 
-abbrev pub is_digit : ℕ → Bool
-is_digit c = nat_le 48 c && nat_le c 57
-
--- the number that a value and the digits behind it spell
-abbrev pub value_from : ℕ → List ℕ → Option ℕ
-value_from value [] = Some value
-value_from value (c ∷ cs) = if is_digit c then value_from (10 * value + (c - 48)) cs else None
-
--- the number that one digit or more spell
+-- the number that one digit or more spell, each of which counts for the power of ten of its place
 abbrev pub value_of : List ℕ → Option ℕ
-value_of [] = None
-value_of (c ∷ cs) = value_from 0 (c ∷ cs)
+value_of text = if is_digits text then Some (decimal_value text) else None
 
 abbrev pub from_one_to : ℕ → ℕ → Option ℕ
 from_one_to most value = if nat_le 1 value && nat_le value most then Some value else None

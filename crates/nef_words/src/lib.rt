@@ -4,11 +4,13 @@
 //! are a function of the words.
 #![tactic(auto)]
 
+mod line;
 mod number;
 mod options;
 #[cfg(test)]
 mod tests;
 mod words;
 
+pub use line::line_words;
 pub use options::{DEFAULT_WORKERS, MOST_STAIRS, MOST_WORKERS, Options, WordsFault};
 pub use words::read_words;

@@ -1,6 +1,7 @@
-use crate::{Options, WordsFault, read_words};
+use crate::{Options, WordsFault, line_words, read_words};
 use nef_core::{BoardKind, How};
 use std::alloc::{AllocError, Global};
+use std::io::{Error, ErrorKind};
 use std::test::Fail;
 
 fn read(alloc: Global, words: &[&str]) -> Result<Result<Options, WordsFault>, AllocError> {
@@ -124,5 +125,23 @@ fn refused_words(rt: HostRuntime) -> Result<(), Fail> {
         refused
     );
     assert_eq!(rt; read(alloc, &["--workers", "2", "x"])?, refused);
+    Ok(())
+}
+
+#[test]
+fn words_of_a_line(rt: HostRuntime) -> Result<(), Fail> {
+    let mut line = Vec::new(rt.alloc());
+    for word in ["nef", "--stairs", "3"] {
+        line.push(String::from_str(rt.alloc(), word)?)?;
+    }
+    let given = Ok(line);
+    match line_words(&given) {
+        Ok(words) => assert_eq!(rt; read_words(rt.alloc(), words), boxes(3)),
+        Err(_) => panic!(rt; "the words are text"),
+    }
+    let unreadable = Err(Error::from(ErrorKind::InvalidData));
+    assert_eq!(rt; line_words(&unreadable).err(), Some(WordsFault::Refused));
+    let unheld = Err(Error::from(ErrorKind::OutOfMemory));
+    assert_eq!(rt; line_words(&unheld).err(), Some(WordsFault::OutOfMemory));
     Ok(())
 }

@@ -1,7 +1,7 @@
 //! Reads the words as one command.
-ghost use Rattle.std.specs.Prelude.{◌≡◌, ◌≤◌, [], Some, None, IfOk, IfErr, IfSome, MatchResult, map, string_bytes};
-ghost use Rattle.clap.specs.Words.{fault_of, found_of, matches_of, rows_of, HasKind};
-ghost use Rattle.nef_words.specs.Usage.{usage};
+ghost use Rattle.std.specs.Prelude.{◌≡◌, ◌≤◌, false, [], Some, None, IfOk, IfErr, IfSome, MatchResult, map, string_bytes};
+ghost use Rattle.clap.specs.Words.{fault_of, found_of, matches_of, rows_of, rule_of, HasKind};
+ghost use Rattle.nef_words.specs.Usage.{usage, option_named};
 ghost use Rattle.nef_words.specs.Chosen.{most_stairs, options_of, options_of_values, text_in};
 
 use crate::number::read_number;
@@ -11,25 +11,24 @@ use clap::{Arg, ArgAction, ArgMatches, Command, Error};
 use nef_core::{BoardKind, How};
 use std::alloc::Global;
 
+// The option of this name, which takes one value.
+fn value_option<'a>(alloc: Global, name: &'a str) -> Arg<'a>
+    ensures rule { rule_of result ≡ option_named name.entry.now }
+    ensures local { result.global ≡ false }
+{
+    Arg::new(alloc, name).long(name).action(ArgAction::Set)
+}
+
 // What the words give each option.
 fn matched<'a>(alloc: Global, words: &'a [String]) -> Result<ArgMatches<'a>, Error>
     ensures ok { IfOk result (λ m. (fault_of usage (map string_bytes words.entry.now) ≡ []) × (rows_of (found_of m) ≡ matches_of usage (map string_bytes words.entry.now))) }
     ensures err { IfErr result (λ e. HasKind (fault_of usage (map string_bytes words.entry.now)) e) }
 {
-    let workers = Arg::new(alloc, "workers")
-        .long("workers")
-        .action(ArgAction::Set);
-    let board = Arg::new(alloc, "board")
-        .long("board")
-        .action(ArgAction::Set);
-    let stairs = Arg::new(alloc, "stairs")
-        .long("stairs")
-        .action(ArgAction::Set);
     let command = Command::new(alloc, "nef")
         .no_binary_name(true)
-        .arg(workers)?
-        .arg(board)?
-        .arg(stairs)?;
+        .arg(value_option(alloc, "workers"))?
+        .arg(value_option(alloc, "board"))?
+        .arg(value_option(alloc, "stairs"))?;
     command.try_get_matches_from(words)
 }
 

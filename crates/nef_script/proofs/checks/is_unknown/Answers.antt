@@ -1,4 +1,4 @@
-use Rattle.std.proofs.Common.{◌≡◌, ◌∙◌, Bool, true, false, refl, ap, sym, is_some, not}
+use Rattle.std.proofs.Common.{◌≡◌, ◌∙◌, Bool, true, false, ap, sym, is_some, not}
 use Rattle.std.specs.Str.{bytes_eq}
 use Rattle.nef_script.specs.Tests.{is_unknown, is_among}
 use Rattle.nef_script.proofs.Positions.{position-any}

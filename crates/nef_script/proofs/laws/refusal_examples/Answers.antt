@@ -1,4 +1,4 @@
-use Rattle.nef_script.proofs.RefusalExamples.{unknown_command, word_count, bad_name, name_taken, unknown_name, own_name, not_a_number, zero_normal, bad_mode, out_of_range, bad_weight, far_point, first_line, accepted}
+use Rattle.nef_script.proofs.RefusalExamples.{unknown_command, word_count, bad_name, name_taken, unknown_name, own_name, not_a_number, zero_normal, bad_mode, out_of_range, bad_weight, zero_direction, long_direction, far_point, first_line, accepted}
 use Rattle.nef_script.proofs.laws.refusal_examples.Goals as goal
 
 pub returns : goal.returns
@@ -14,6 +14,8 @@ returns c = record {
   bad_mode = bad_mode;
   out_of_range = out_of_range;
   bad_weight = bad_weight;
+  zero_direction = zero_direction;
+  long_direction = long_direction;
   far_point = far_point;
   first_line = first_line;
   accepted = accepted;

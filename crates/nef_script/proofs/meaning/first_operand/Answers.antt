@@ -1,4 +1,4 @@
-use Rattle.std.proofs.Common.{◌<◌, sym, subst, length}
+use Rattle.std.proofs.Common.{◌<◌, sym, subst}
 use Rattle.nef_script.specs.Meaning.{Names}
 use Rattle.nef_script.proofs.Shapes.{pointed-at, length-pointed}
 use Rattle.nef_script.proofs.meaning.first_operand.Goals as goal

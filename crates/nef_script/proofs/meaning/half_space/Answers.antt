@@ -1,11 +1,10 @@
-use Rattle.std.proofs.Common.{◌≡◌, ◌<◌, length, arith, sym, subst, ◌∙◌, ap, [], ◌∷◌, get_or, codes}
+use Rattle.std.proofs.Common.{◌≡◌, length, arith, sym, subst, ◌∙◌, ap, codes}
 use Rattle.std.specs.Str.{bytes_eq}
-use Rattle.nef_space.specs.Place.{form, normal_of}
+use Rattle.nef_space.specs.Place.{normal_of}
 use Rattle.nef_space.specs.Vectors.{IsDirection}
 use Rattle.nef_geo.specs.Reading.{IsInRange, IsPositiveMultiple}
 use Rattle.nef_geo.specs.Shapes.{given_form}
 use Rattle.nef_script.specs.Names.{pointed}
-use Rattle.nef_script.specs.Reading.{number_at, words_form}
 use Rattle.nef_script.proofs.Shapes.{pointed-at, length-pointed}
 use Rattle.nef_script.proofs.Nodes.{IsNode-Half}
 use Rattle.nef_script.proofs.Values.{passed_number, same_form, read_succeeds}

@@ -1,4 +1,4 @@
-use Rattle.std.proofs.Common.{◌≡◌, ◌∙◌, sym, ap, subst, arith, ◌<◌, length, Some}
+use Rattle.std.proofs.Common.{◌≡◌, ◌∙◌, sym, subst, arith, ◌<◌, length}
 use Rattle.nef_script.specs.Names.{pointed}
 use Rattle.nef_script.specs.Meaning.{Names}
 use Rattle.nef_script.proofs.Shapes.{pointed-at, length-pointed, LastTwoAre-from}

@@ -1,12 +1,12 @@
-use Rattle.std.proofs.Common.{◌≡◌, ◌∷◌, Err, sym, ◌∙◌, ap, subst}
+use Rattle.std.proofs.Common.{◌≡◌, Err, sym, ◌∙◌, ap, subst}
 use Rattle.std.proofs.lemmas.Result.{err_from_is_err_and}
-use Rattle.nef_lex.specs.Lines.{lines_of, line_shown}
+use Rattle.nef_lex.specs.Lines.{lines_of}
 use Rattle.nef_script.specs.Refusal.{FirstRefusal}
 use Rattle.nef_script.specs.Meaning.{MeansLines}
 use Rattle.nef_script.specs.Progress.{HasRead}
 use Rattle.nef_script.specs.declared.fault.ScriptFault.TheVariants.{Refused}
 use Rattle.nef_script.specs.declared.fault.ScriptKind.TheVariants.{ScriptTooLong}
-use Rattle.nef_script.proofs.LineByLine.{HasRead-start, HasRead-next, HasRead-refused, HasRead-end}
+use Rattle.nef_script.proofs.LineByLine.{HasRead-next, HasRead-refused, HasRead-end}
 use Rattle.nef_script.proofs.parser.parse.Goals as goal
 
 pub returns-then-bytes-gt-SCRIPT_LIMIT-clause-refused : goal.returns-then-bytes-gt-SCRIPT_LIMIT-clause-refused

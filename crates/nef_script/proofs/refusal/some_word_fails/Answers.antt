@@ -1,4 +1,4 @@
-use Rattle.std.proofs.Common.{◌≡◌, ◌+◌, true, false, ◌||◌, drop, sym, ◌∙◌, ap}
+use Rattle.std.proofs.Common.{◌+◌, ◌||◌, drop, sym, ◌∙◌, ap}
 use Rattle.std.specs.List.{list_any, zip}
 use Rattle.nef_script.specs.Names.{pointed}
 use Rattle.nef_script.specs.Checks.{word_test}

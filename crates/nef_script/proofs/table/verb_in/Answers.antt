@@ -1,10 +1,8 @@
-use Rattle.std.proofs.Common.{◌≡◌, ℕ, List, Option, Some, None, rules, sym, ◌∙◌, ap, refl}
-use Rattle.std.specs.List.{find}
+use Rattle.std.proofs.Common.{rules, sym, ◌∙◌, ap}
 use Rattle.std.specs.Str.{bytes_eq}
 use Rattle.std.specs.Option.{option_map}
 use Rattle.std.proofs.lemmas.Iterator.{YieldsList-from_slice}
 use Rattle.std.proofs.lemmas.Iterator.Search.{find_from_yields_List}
-use Rattle.nef_script.specs.Table.{commands}
 use Rattle.nef_script.proofs.table.verb_in.Goals as goal
 use borrow.Author.Tests.{tests}
 

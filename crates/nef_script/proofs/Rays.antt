@@ -1,0 +1,58 @@
+-- The numbers of a ray's start are no larger than those that its words spell, since a point has its lowest terms.
+use Rattle.std.proofs.Common.{◌≡◌, ℕ, ◌+◌, ◌*◌, ◌<◌, ◌≤◌, List, ℤ, pos, ◌*ℤ◌, ◌<ℤ◌, nat_abs, sym, ◌∙◌, ap, subst, arith}
+use Rattle.std.proofs.Math.IntN.{*ℤ_comm}
+use Rattle.std.proofs.Math.Nat.{mul-le-mul, le_of_mul-le-mul_left, mul_comm}
+use Rattle.std.proofs.lemmas.Int.{ints, unsigned_abs-mul}
+use Rattle.std.proofs.lemmas.Nat.Gcd.{le_of_dvd}
+use Rattle.nef_space.specs.Place.{SamePlace}
+use Rattle.nef_space.specs.Vectors.{IsAtMost}
+use Rattle.nef_geo.specs.Hits.{IsPlaceAtMost}
+use Rattle.nef_geo.specs.Shapes.{place_at, place_of, vector_of}
+use Rattle.nef_geo.specs.declared.dir.Dir.{Dir}
+use Rattle.nef_geo.specs.declared.point.Point.{Point}
+use Rattle.nef_geo.proofs.Euclid.{divides_same}
+use Rattle.nef_script.specs.Limits.{ray_point_limit, ray_weight_limit, ray_direction_limit, IsRayWithin}
+use Rattle.nef_script.specs.Meaning.{IsQuotient}
+use Rattle.nef_script.specs.Reading.{HasPointAt, number_at}
+
+-- x/w is y/v, where v is at most w
+numerator_small : (x y : ℤ) (w v m : ℕ) → x *ℤ pos v ≡ y *ℤ pos w → v ≤ w → 0 < w → nat_abs x ≤ m → nat_abs y ≤ m
+numerator_small x y w v m e le positive small =
+    let sizes : nat_abs x * v ≡ nat_abs y * w = sym (unsigned_abs-mul x (pos v)) ∙ ap nat_abs e ∙ unsigned_abs-mul y (pos w) in
+    let most : nat_abs x * v ≤ m * w = mul-le-mul small le in
+    let turned : w * nat_abs y ≤ w * m = subst (λ n. n ≤ w * m) (mul_comm (nat_abs y) w) (subst (λ n. nat_abs y * w ≤ n) (mul_comm m w) (subst (λ n. n ≤ m * w) sizes most)) in
+    le_of_mul-le-mul_left turned positive
+
+as_pos : (w : ℤ) → pos 0 <ℤ w → pos (nat_abs w) ≡ w
+as_pos w positive = omega (arith, ints)
+
+some_size : (w : ℤ) → pos 0 <ℤ w → 0 < nat_abs w
+some_size w positive = omega (arith, ints)
+
+-- a point's w is the least of all that its numbers may be divided by
+weight_small : (p : Point) (x y z w : ℤ) (positive : pos 0 <ℤ w) → SamePlace (place_at x y z w positive) (place_of p) → nat_abs p.w ≤ nat_abs w
+weight_small p x y z w positive same =
+    let m = pos (nat_abs p.w) in
+    let n = pos (nat_abs w) in
+    let divides = divides_same m n p.x p.y p.z p.w x y z n p.lowest
+    (*ℤ_comm m x ∙ same.along_x) (*ℤ_comm m y ∙ same.along_y) (*ℤ_comm m z ∙ same.along_z) (ap (λ v. v *ℤ n) (as_pos p.w p.proper)) in
+    le_of_dvd (some_size w positive) divides
+
+start_small : (p : Point) (x y z w : ℤ) (m n : ℕ) → IsQuotient p x y z w → nat_abs x ≤ m → nat_abs y ≤ m → nat_abs z ≤ m → nat_abs w ≤ n → IsPlaceAtMost m n (place_of p)
+start_small p x y z w m n (positive, same) x_small y_small z_small w_small =
+    let le = weight_small p x y z w positive same in
+    let some = some_size w positive in
+    record {
+      numbers = record {
+        of_x = numerator_small x p.x (nat_abs w) (nat_abs p.w) m same.along_x le some x_small;
+        of_y = numerator_small y p.y (nat_abs w) (nat_abs p.w) m same.along_y le some y_small;
+        of_z = numerator_small z p.z (nat_abs w) (nat_abs p.w) m same.along_z le some z_small;
+      };
+      weight = omega arith;
+    }
+
+pub IsRayWithin-from : (p : Point) (d : Dir) (ws : List (List ℕ)) (i : ℕ) → HasPointAt ray_point_limit ray_weight_limit ws i → IsQuotient p (number_at ws i) (number_at ws (i + 1)) (number_at ws (i + 2)) (number_at ws (i + 3)) → IsAtMost ray_direction_limit (vector_of d) → IsRayWithin p d
+IsRayWithin-from p d ws i has quotient direction = record {
+  start = start_small p _ _ _ _ ray_point_limit ray_weight_limit quotient has.x_small has.y_small has.z_small has.w_small;
+  direction = direction;
+}
