@@ -1,6 +1,6 @@
 //! Std's readers and writers as a source and a sink. What standard input gave and what standard
 //! output took is told by nobody, so these few lines are trusted for it.
-ghost use Rattle.std.specs.Prelude.{◌≡◌, ◌<◌, ◌≤◌, IfOk, OnErr, length, take};
+ghost use Rattle.std.specs.Prelude.{◌≡◌, ◌<◌, ◌≤◌, IfOk, OnOk, OnErr, length, take};
 ghost use Rattle.std.specs.Io.KnownBytes.{Appends, Keeps};
 ghost use Rattle.nef_io.specs.Bytes.{Rose};
 
@@ -72,6 +72,7 @@ impl<W: Write> Sink for IntoWriter<W> {
         ensures holds { IfOk result (λ n. Appends (W.contents self.old.writer) (W.contents self.new.writer) (take n piece.now)) }
         ensures keeps { OnErr result (Keeps (W.contents self.old.writer) (W.contents self.new.writer)) }
         ensures failed { OnErr result (Rose self.old.faults self.new.faults) }
+        ensures quiet { OnOk result (self.new.faults ≡ self.old.faults) }
         ensures count { self.old.faults ≤ self.new.faults }
     {
         match self.writer.write(piece) {

@@ -1,5 +1,5 @@
 //! What is read from, what is written to, and what is told of each job.
-ghost use Rattle.std.specs.Prelude.{◌≡◌, ℕ, ◌<◌, ◌≤◌, IfOk, OnErr, Option, List, [], take, length};
+ghost use Rattle.std.specs.Prelude.{◌≡◌, ℕ, ◌<◌, ◌≤◌, IfOk, OnOk, OnErr, Option, List, [], take, length};
 ghost use Rattle.std.specs.Io.KnownBytes.{Consumes, Keeps, IsAtEnd};
 ghost use Rattle.nef_io.specs.Bytes.{Rose, Grows};
 
@@ -18,13 +18,14 @@ pub trait Source {
 
     /// Reads the next bytes into the front of `buf`, at most as many as it holds, and returns how many
     /// they were. That is 0 only at the end; a source that tells its rest, and has bytes left, gives at
-    /// least one. At `Failed` the rest is what it was.
+    /// least one. At `Failed` the rest is what it was. The count rises at `Failed` alone.
     fn read(&mut self, buf: &mut [u8]) -> Result<usize, Failed>
         requires { 0 < length buf.old }
         ensures within { IfOk result (λ n. n ≤ length buf.new) }
         ensures bytes { IfOk result (λ n. Consumes (rest self.old) (rest self.new) (take n buf.new)) }
         ensures end { IfOk result (λ n. n ≡ 0 → IsAtEnd (rest self.new)) }
         ensures failed { OnErr result (Rose (faults self.old) (faults self.new) × Keeps (rest self.old) (rest self.new)) }
+        ensures quiet { OnOk result (faults self.new ≡ faults self.old) }
         ensures count { faults self.old ≤ faults self.new };
 }
 
@@ -39,12 +40,13 @@ pub trait Sink {
     ghost faults: { Self → ℕ };
 
     /// Takes bytes from the front of `piece`, one at least, and returns how many. At `Failed` it took
-    /// none.
+    /// none. The count rises at `Failed` alone.
     fn write(&mut self, piece: &[u8]) -> Result<usize, Failed>
         requires { 0 < length piece.now }
         ensures within { IfOk result (λ n. (0 < n) × (n ≤ length piece.now)) }
         ensures bytes { IfOk result (λ n. Grows (written self.old) (written self.new) (take n piece.now)) }
         ensures failed { OnErr result (Rose (faults self.old) (faults self.new) × Grows (written self.old) (written self.new) []) }
+        ensures quiet { OnOk result (faults self.new ≡ faults self.old) }
         ensures count { faults self.old ≤ faults self.new };
 }
 

@@ -10,17 +10,29 @@ use Rattle.nef_complex.specs.declared.complex.Edge.{Edge}
 use Rattle.nef_unique.proofs.Vertices.{set-vertices}
 use Rattle.nef_parts.specs.declared.parts.Parts.{Parts}
 use Rattle.nef_parts.specs.Text.{line, numbers, text}
-use Rattle.law_text.proofs.SameText.{same-set_text, text-set}
+use Rattle.law_text.proofs.SameText.{same-set_text, text-set, spelled-holds}
 use Rattle.nef_expr.specs.declared.nodes.Node.{Node}
 use Rattle.nef_expr.specs.Nodes.{node_set}
 use Rattle.nef_script.specs.declared.script.Command.{Command}
 use Rattle.nef_script.specs.declared.script.Command.TheVariants.{Bind, Has, Same, Count, Print}
 use Rattle.nef_shell.specs.Output.{IsWrittenOf, IsSameAnswer, IsPiece, IsOutput, count_line, framed, printed, line_end, answer_of}
-use Rattle.nef_shell.specs.Prints.{IsPrinted, AreTextsCompared}
+use Rattle.nef_shell.specs.Prints.{IsPrinted, AreTextsCompared, AreTextsMeant}
+use Rattle.nef_shell.specs.Written.{TextTells}
+use Rattle.law_complex.proofs.FacetNames.{facet-of}
+use Rattle.law_complex.proofs.Skeletons.{belongs-holds}
+use Rattle.nef_locate.proofs.Cones.{facet-at}
 
 pub same-texts : (s t : Set) (x y : List ℕ) → IsWrittenOf s text x → IsWrittenOf t text y → (x ≡ y) ↔ SameSet s t
 same-texts s t x y (c, p, S, P, e) (d, q, T, Q, f) =
     (λ g. text-set s t c d p q S T (sym e ∙ g ∙ f), λ h. e ∙ (same-set_text s t c d p q S T h P Q).1 ∙ sym f)
+
+-- the text of a set spells the complex that shows it, and tells which points belong to it
+pub text-tells : (s : Set) (x : List ℕ) → IsWrittenOf s text x → TextTells s x
+text-tells s x (c, p, S, P, e) =
+    record {
+      spelled = (c, (S.shows.edges, (p, P, e)));
+      holds = λ d y spells inside. spelled-holds (λ s C p S inside. belongs-holds s C S (facet-at s C S) (facet-of s C S) p inside) s c d p x y S e spells inside;
+    }
 
 pub printed-one : (s t : Set) (name x y : List ℕ) → SameSet s t → IsWrittenOf s (printed name) x → IsWrittenOf t (printed name) y → x ≡ y
 printed-one s t name x y same (c, p, S, P, e) (d, q, T, Q, f) =
@@ -127,3 +139,6 @@ texts-compared nodes commands output is =
       compared = λ i j k l x y p q.
           same-texts (node_set nodes k) (node_set nodes l) x y (printed-written nodes commands output i k x is p) (printed-written nodes commands output j l y is q);
     }
+
+pub texts-meant : (nodes : List Node) (commands : List Command) (output : List ℕ) → IsOutput nodes commands output → AreTextsMeant nodes commands output
+texts-meant nodes commands output is i k x p = text-tells (node_set nodes k) x (printed-written nodes commands output i k x is p)

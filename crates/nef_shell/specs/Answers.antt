@@ -1,4 +1,4 @@
--- What each status says of the source and of the sink.
+-- What a run leaves of the source and of the sink.
 use Rattle.std.specs.Prelude.{◌≡◌, ℕ, ◌+◌, List, Option, Some, None, IsSome, option_map, take, length, ◌⊎◌}
 use Rattle.std.specs.Io.KnownBytes.{Consumes, IsAtEnd}
 use Rattle.nef_io.specs.Bytes.{Rose, Grows, GrowsWithin}
@@ -12,6 +12,7 @@ use Rattle.nef_script.specs.Stairs.{stairs_text}
 use Rattle.nef_shell.specs.declared.status.Status.{Status}
 use Rattle.nef_shell.specs.Output.{IsOutput, refusal_line, words_line}
 use Rattle.nef_shell.specs.Status.{MatchStatus}
+use Rattle.nef_shell.specs.Traffic.{Traffic, IsQuiet}
 
 -- the words of the command line are accepted
 abbrev pub AreAccepted : List (List ℕ) → Type 0
@@ -28,8 +29,8 @@ IsScriptFor None old new bytes = Consumes old new bytes × IsAtEnd new
 IsScriptFor (Some n) old new bytes = (bytes ≡ stairs_text n) × (new ≡ old)
 
 -- the bytes are the script that the words have run
-abbrev pub IsScript : List (List ℕ) → Option (List ℕ) → Option (List ℕ) → List ℕ → Type 0
-IsScript words old new bytes = (stairs : Option ℕ) × GiveStairs words stairs × IsScriptFor stairs old new bytes
+abbrev pub IsScript : List (List ℕ) → Traffic → List ℕ → Type 0
+IsScript words io bytes = (stairs : Option ℕ) × GiveStairs words stairs × IsScriptFor stairs io.before.rest io.after.rest bytes
 
 -- the script is accepted, and these are its nodes and its commands
 pub record IsWorked (bytes : List ℕ) (nodes : List Node) (commands : List Command) : Type 0 where
@@ -42,40 +43,40 @@ pub record IsRead (old new : Option (List ℕ)) (bytes : List ℕ) : Type 0 wher
   pub whole : IsAtEnd new ⊎ (length bytes ≡ script_limit + 1)
 
 -- the whole output of the script that the words have run
-pub record HasOutput (words : List (List ℕ)) (old new before after : Option (List ℕ)) : Type 0 where
+pub record HasOutput (words : List (List ℕ)) (io : Traffic) : Type 0 where
   pub bytes : List ℕ
   pub nodes : List Node
   pub commands : List Command
   pub output : List ℕ
-  pub script : IsScript words old new bytes
+  pub script : IsScript words io bytes
   pub worked : IsWorked bytes nodes commands
   pub is_output : IsOutput nodes commands output
-  pub written : Grows before after output
+  pub written : Grows io.before.written io.after.written output
 
 -- the line of the refusal of the script that the source had
-pub record HasRefusal (old new before after : Option (List ℕ)) (line : ℕ) (kind : ScriptKind) : Type 0 where
+pub record HasRefusal (io : Traffic) (line : ℕ) (kind : ScriptKind) : Type 0 where
   pub bytes : List ℕ
-  pub read : IsRead old new bytes
+  pub read : IsRead io.before.rest io.after.rest bytes
   pub refused : FirstRefusal bytes line kind
-  pub written : Grows before after (refusal_line line kind)
+  pub written : Grows io.before.written io.after.written (refusal_line line kind)
 
 -- some front of what the script defines: of the line of its refusal, where the source had it, or of the output of some number of its first commands
-pub data HasFront (words : List (List ℕ)) (old new before after : Option (List ℕ)) : Type 0 where
-  of_refusal : (bytes : List ℕ) (line : ℕ) (kind : ScriptKind) → GiveStairs words None → IsRead old new bytes → FirstRefusal bytes line kind → GrowsWithin before after (refusal_line line kind) → HasFront words old new before after
-  of_output : (bytes : List ℕ) (nodes : List Node) (commands : List Command) (count : ℕ) (output : List ℕ) → IsScript words old new bytes → IsWorked bytes nodes commands → IsOutput nodes (take count commands) output → GrowsWithin before after output → HasFront words old new before after
+pub data HasFront (words : List (List ℕ)) (io : Traffic) : Type 0 where
+  of_refusal : (bytes : List ℕ) (line : ℕ) (kind : ScriptKind) → GiveStairs words None → IsRead io.before.rest io.after.rest bytes → FirstRefusal bytes line kind → GrowsWithin io.before.written io.after.written (refusal_line line kind) → HasFront words io
+  of_output : (bytes : List ℕ) (nodes : List Node) (commands : List Command) (count : ℕ) (output : List ℕ) → IsScript words io bytes → IsWorked bytes nodes commands → IsOutput nodes (take count commands) output → GrowsWithin io.before.written io.after.written output → HasFront words io
 
 -- some front of what the words and the script define: of the line of refused words, or of what the script defines
-pub data HasDefinedFront (words : List (List ℕ)) (old new before after : Option (List ℕ)) : Type 0 where
-  of_words : (AreAccepted words → ⊥) → GrowsWithin before after words_line → HasDefinedFront words old new before after
-  of_script : AreAccepted words → HasFront words old new before after → HasDefinedFront words old new before after
+pub data HasDefinedFront (words : List (List ℕ)) (io : Traffic) : Type 0 where
+  of_words : (AreAccepted words → ⊥) → GrowsWithin io.before.written io.after.written words_line → HasDefinedFront words io
+  of_script : AreAccepted words → HasFront words io → HasDefinedFront words io
 
--- what each status says of a run with accepted words: of the rest of the source and its count of faults, and of what the sink took and its count
-abbrev pub HasEnded : List (List ℕ) → Status → Option (List ℕ) → Option (List ℕ) → Option (List ℕ) → Option (List ℕ) → ℕ → ℕ → ℕ → ℕ → Type 0
-HasEnded words status old new before after f f' g g' =
+-- what each status says of a run with accepted words
+abbrev pub HasEnded : List (List ℕ) → Status → Traffic → Type 0
+HasEnded words status io =
     MatchStatus status
-    (HasOutput words old new before after)
-    (λ line kind. GiveStairs words None × HasRefusal old new before after line kind)
+    (HasOutput words io × IsQuiet io)
+    (λ line kind. GiveStairs words None × HasRefusal io line kind × IsQuiet io)
     ⊥
-    (GiveStairs words None × Rose f f' × (after ≡ before))
-    (Rose g g' × HasFront words old new before after)
-    ((after ≡ before) ⊎ HasFront words old new before after)
+    (GiveStairs words None × Rose io.before.read_faults io.after.read_faults × (io.after.written ≡ io.before.written))
+    (Rose io.before.write_faults io.after.write_faults × HasFront words io)
+    ((io.after.written ≡ io.before.written) ⊎ HasFront words io)

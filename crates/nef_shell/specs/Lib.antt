@@ -1,9 +1,11 @@
 pub mod Status
+pub mod Traffic
 pub mod Output
 pub mod Answers
+pub mod Written
 pub mod Prints
+pub mod Ended
 pub mod Commands
 pub mod Operations
 pub mod Stops
-pub mod Written
 pub mod NoScripts

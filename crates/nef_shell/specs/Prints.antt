@@ -1,12 +1,12 @@
--- The texts in an output, and what they tell of each other.
-use Rattle.std.specs.Prelude.{◌≡◌, ℕ, List, ◌∷◌, ◌++◌, ◌↔◌, Option, length}
+-- The texts in an output, and what they tell of their sets and of each other.
+use Rattle.std.specs.Prelude.{◌≡◌, ℕ, List, ◌∷◌, ◌++◌, ◌↔◌, length}
 use Rattle.nef_space.specs.Local.{SameSet}
 use Rattle.nef_expr.specs.declared.nodes.Node.{Node}
 use Rattle.nef_expr.specs.Nodes.{node_set}
 use Rattle.nef_script.specs.declared.script.Command.{Command}
 use Rattle.nef_script.specs.declared.script.Command.TheVariants.{Print}
 use Rattle.nef_shell.specs.Output.{framed, IsOutput}
-use Rattle.nef_shell.specs.Answers.{HasOutput}
+use Rattle.nef_shell.specs.Written.{TextTells}
 
 -- The command with this number prints node k, and x is the text in its place in the output.
 pub record IsPrinted (nodes : List Node) (commands : List Command) (output : List ℕ) (number k : ℕ) (x : List ℕ) : Type 0 where
@@ -27,6 +27,7 @@ pub record AreTextsCompared (nodes : List Node) (commands : List Command) (outpu
   pub printed : (front back : List Command) (line k : ℕ) (name : List ℕ) → commands ≡ front ++ Print line k name ∷ back → (x : List ℕ) × IsPrinted nodes commands output (length front) k x
   pub compared : (i j k l : ℕ) (x y : List ℕ) → IsPrinted nodes commands output i k x → IsPrinted nodes commands output j l y → (x ≡ y) ↔ SameSet (node_set nodes k) (node_set nodes l)
 
--- The same of the whole output of the script that the words have run.
-abbrev pub HasComparedTexts : List (List ℕ) → Option (List ℕ) → Option (List ℕ) → Option (List ℕ) → Option (List ℕ) → Type 0
-HasComparedTexts words old new before after = (h : HasOutput words old new before after) × AreTextsCompared h.nodes h.commands h.output
+-- Each text that is printed of a node tells the node's set: some complex is spelled by it, and a point of the frame belongs to each complex that it spells exactly where
+-- the node's expression holds there.
+abbrev pub AreTextsMeant : List Node → List Command → List ℕ → Type 0
+AreTextsMeant nodes commands output = (i k : ℕ) (x : List ℕ) → IsPrinted nodes commands output i k x → TextTells (node_set nodes k) x

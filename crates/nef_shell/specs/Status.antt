@@ -63,3 +63,12 @@ abbrev pub EndsWords : Status → Type 0
 EndsWords Words = Unit {0}
 EndsWords OutOfMemory = Unit {0}
 EndsWords _ = ⊥
+
+-- the run came to an end of its own: the script was worked to its end, or it or the words were refused
+abbrev pub EndsByItself : Status → Type 0
+EndsByItself Done = Unit {0}
+EndsByItself (Refused line kind) = Unit {0}
+EndsByItself Words = Unit {0}
+EndsByItself ReadFault = ⊥
+EndsByItself WriteFault = ⊥
+EndsByItself OutOfMemory = ⊥

@@ -17,6 +17,11 @@ TextsTellSets = (s t : Set) (x y : List ℕ) → IsWrittenOf s text x → IsWrit
 abbrev pub PiecesAreOne : Type 0
 PiecesAreOne = (s t : Set) (name x y : List ℕ) → SameSet s t → (IsWrittenOf s (printed name) x → IsWrittenOf t (printed name) y → x ≡ y) × (IsWrittenOf s count_line x → IsWrittenOf t count_line y → x ≡ y)
 
--- a point of the frame belongs to a complex that the text spells exactly where the set holds
+-- the text spells some complex, and a point of the frame belongs to each complex that it spells exactly where the set holds
+pub record TextTells (s : Set) (x : List ℕ) : Type 0 where
+  pub spelled : (d : Complex) × Spells x d
+  pub holds : (d : Complex) (y : Place) → Spells x d → InFrame y → Belongs (complex_of d) y ↔ Holds s y
+
+-- so does the text of each set
 abbrev pub TextHolds : Type 0
-TextHolds = (s : Set) (x : List ℕ) (d : Complex) (y : Place) → IsWrittenOf s text x → Spells x d → InFrame y → Belongs (complex_of d) y ↔ Holds s y
+TextHolds = (s : Set) (x : List ℕ) → IsWrittenOf s text x → TextTells s x

@@ -73,7 +73,8 @@ impl From<AllocError> for NoScript {
 fn read_script<S: Source>(alloc: Global, source: &mut S) -> Result<Script, NoScript>
     ensures script { IfOk result (λ s. (bytes : List ℕ) × (Consumes (S.rest source.old) (S.rest source.new) bytes × IsAtEnd (S.rest source.new)) × IsWorked bytes s.nodes s.commands) }
     ensures within { IfOk result (λ s. All (IsWithin (length s.nodes)) s.commands) }
-    ensures refused { (line : ℕ) (kind : Kind) → result ≡ Err (NoScript.Refused line kind) → (bytes : List ℕ) × IsRead (S.rest source.old) (S.rest source.new) bytes × FirstRefusal bytes line kind }
+    ensures refused { (line : ℕ) (kind : Kind) → result ≡ Err (NoScript.Refused line kind) → (bytes : List ℕ) × IsRead (S.rest source.old) (S.rest source.new) bytes × FirstRefusal bytes line kind × (S.faults source.new ≡ S.faults source.old) }
+    ensures quiet { IfOk result (λ _. S.faults source.new ≡ S.faults source.old) }
     ensures fault { result ≡ Err NoScript.ReadFault → Rose (S.faults source.old) (S.faults source.new) }
 {
     let bytes = read_all(alloc, source)?;
@@ -108,7 +109,8 @@ pub(crate) fn script_for<S: Source>(
     ensures script { IfOk result (λ s. (bytes : List ℕ) × IsScriptFor stairs (S.rest source.old) (S.rest source.new) bytes × IsWorked bytes s.nodes s.commands) }
     ensures within { IfOk result (λ s. All (IsWithin (length s.nodes)) s.commands) }
     ensures workable { IfOk result (λ s. AreWorkable s.nodes s.commands) }
-    ensures refused { (line : ℕ) (kind : Kind) → result ≡ Err (NoScript.Refused line kind) → (stairs ≡ None) × ((bytes : List ℕ) × IsRead (S.rest source.old) (S.rest source.new) bytes × FirstRefusal bytes line kind) }
+    ensures refused { (line : ℕ) (kind : Kind) → result ≡ Err (NoScript.Refused line kind) → (stairs ≡ None) × ((bytes : List ℕ) × IsRead (S.rest source.old) (S.rest source.new) bytes × FirstRefusal bytes line kind × (S.faults source.new ≡ S.faults source.old)) }
+    ensures quiet { IfOk result (λ _. S.faults source.new ≡ S.faults source.old) }
     ensures fault { result ≡ Err NoScript.ReadFault → (stairs ≡ None) × Rose (S.faults source.old) (S.faults source.new) }
     ensures unread { (n : ℕ) → stairs ≡ Some n → (S.rest source.new ≡ S.rest source.old) × (S.faults source.new ≡ S.faults source.old) }
 {

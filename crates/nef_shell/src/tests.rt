@@ -16,6 +16,7 @@ mod extreme;
 mod failing;
 mod generated;
 mod texts;
+mod writes;
 
 // A script with `/` between its lines, and what it writes, in the same form.
 const ANSWERS: &str = "half A 1 0 0 0 closed / has A 0 0 0 1 => in
@@ -129,6 +130,14 @@ const LOCKED_CALLS: [u64; 20] = [3, 3, 3, 3, 3, 3, 3, 3, 3, 3, 3, 3, 1, 1, 1, 1,
 
 // The same where it has none.
 const FREE_CALLS: [u64; 20] = [3, 3, 3, 3, 3, 3, 3, 3, 3, 3, 3, 3, 1, 1, 1, 1, 1, 1, 0, 42];
+
+// One statement of each kind on one set, with the twelve candidates of a half-space, and of each
+// kind on two.
+const STATEMENTS: &str = "half A 1 0 0 0 closed / not N A / int I A / cl C A / bd D A / reg R A / \
+    half B 0 1 0 0 closed / or O A B / diff E A B / xor X A B";
+
+// A line that is refused behind others that are not.
+const REFUSED_AT_THE_END: &str = "half A 1 0 0 0 closed / has A 0 0 0 1 / ball B";
 
 // The texts between the `/`, each with its line end.
 fn unfolded(alloc: Global, text: &str) -> Result<String, AllocError> {
@@ -317,6 +326,40 @@ fn jobs_counted(rt: HostRuntime) -> Result<(), Fail> {
     let status = told(&rt, alloc, &words, CORNER, &gate)?;
     assert_eq!(rt; status, Status::Done);
     assert_eq!(rt; gate.calls(alloc)?.as_slice(), FREE_CALLS.as_slice());
+    Ok(())
+}
+
+// Seven statements have twelve jobs, and three have eighteen.
+#[test]
+fn jobs_of_each_kind(rt: HostRuntime) -> Result<(), Fail> {
+    let alloc = rt.alloc();
+    let mut wanted = Vec::new(alloc);
+    for job in 0..18 {
+        wanted.push(if job < 12 { 10 } else { 3 })?;
+    }
+    wanted.push(0)?;
+    for board in ["lock", "free"] {
+        let gate = Counting::new(alloc, 18)?;
+        let words = ["--workers", "3", "--board", board];
+        let status = told(&rt, alloc, &words, STATEMENTS, &gate)?;
+        assert_eq!(rt; status, Status::Done);
+        let free = if board == "free" { 138 } else { 0 };
+        wanted.push(free)?;
+        assert_eq!(rt; gate.calls(alloc)?.as_slice(), wanted.as_slice(), "{board}");
+        wanted.truncate(19);
+    }
+    Ok(())
+}
+
+// Nothing of a refused script is worked.
+#[test]
+fn no_job_of_a_refused_script(rt: HostRuntime) -> Result<(), Fail> {
+    let alloc = rt.alloc();
+    let gate = Counting::new(alloc, 1)?;
+    let status = told(&rt, alloc, &[], REFUSED_AT_THE_END, &gate)?;
+    let kind = ScriptKind::UnknownCommand;
+    assert_eq!(rt; status, Status::Refused { line: 3, kind });
+    assert_eq!(rt; gate.calls(alloc)?.as_slice(), [0, 0, 0].as_slice());
     Ok(())
 }
 

@@ -1,14 +1,13 @@
 //! The top call.
 
-ghost use Rattle.std.specs.Prelude.{◌≡◌, ◌≤◌, ◌⊎◌, ℕ, List, None, Some, IfSome, map, string_bytes};
+ghost use Rattle.std.specs.Prelude.{◌≡◌, ◌≤◌, ℕ, List, None, Some, IfSome, map, string_bytes};
 ghost use Rattle.nef_io.specs.Bytes.{Rose, Grows, GrowsWithin};
-ghost use Rattle.nef_script.specs.Refusal.{FirstRefusal, IsAccepted};
 ghost use Rattle.nef_script.specs.Stairs.{most_stairs};
-ghost use Rattle.nef_script.specs.declared.fault.ScriptKind.{ScriptKind as Kind};
-ghost use Rattle.nef_shell.specs.Status.{MatchStatus, IfDone, IfRefused, IfWords, IfReadFault, IfWriteFault, IfOutOfMemory, EndsDone, EndsRefused, EndsWords};
+ghost use Rattle.nef_shell.specs.Status.{MatchStatus};
 ghost use Rattle.nef_shell.specs.Output.{refusal_line, words_line};
-ghost use Rattle.nef_shell.specs.Answers.{AreAccepted, GiveStairs, HasOutput, HasRefusal, HasDefinedFront, HasEnded};
-ghost use Rattle.nef_shell.specs.Prints.{HasComparedTexts};
+ghost use Rattle.nef_shell.specs.Answers.{GiveStairs, HasEnded};
+ghost use Rattle.nef_shell.specs.Ended.{RunEnds};
+ghost use Rattle.nef_shell.specs.Traffic.{traffic, IsUnread};
 
 use crate::line::refusal_line;
 use crate::script::{NoScript, script_for};
@@ -26,7 +25,7 @@ use std::thread::Threads;
 fn refuse<K: Sink>(alloc: Global, sink: &mut K, line: u64, kind: ScriptKind) -> Status
     ensures status { MatchStatus result
         ⊥
-        (λ l k. (l ≡ line) × (k ≡ kind) × Grows (K.written sink.old) (K.written sink.new) (refusal_line line kind))
+        (λ l k. (l ≡ line) × (k ≡ kind) × Grows (K.written sink.old) (K.written sink.new) (refusal_line line kind) × (K.faults sink.new ≡ K.faults sink.old))
         ⊥
         ⊥
         (Rose (K.faults sink.old) (K.faults sink.new) × GrowsWithin (K.written sink.old) (K.written sink.new) (refusal_line line kind))
@@ -46,7 +45,7 @@ fn refuse_words<K: Sink>(sink: &mut K) -> Status
     ensures status { MatchStatus result
         ⊥
         (λ l k. ⊥)
-        (Grows (K.written sink.old) (K.written sink.new) words_line)
+        (Grows (K.written sink.old) (K.written sink.new) words_line × (K.faults sink.new ≡ K.faults sink.old))
         ⊥
         (Rose (K.faults sink.old) (K.faults sink.new) × GrowsWithin (K.written sink.old) (K.written sink.new) words_line)
         ⊥ }
@@ -68,8 +67,8 @@ fn run_script<R: Threads + Wait + Sync, S: Source, K: Sink, G: Gate + Sync>(
 ) -> Status
     requires workers { (1 ≤ options.now.how.workers) × (options.now.how.workers ≤ 64) }
     requires stairs { IfSome options.now.stairs (λ n. (1 ≤ n) × (n ≤ most_stairs)) }
-    ensures status { (words : List (List ℕ)) → GiveStairs words options.now.stairs → HasEnded words result (S.rest source.old) (S.rest source.new) (K.written sink.old) (K.written sink.new) (S.faults source.old) (S.faults source.new) (K.faults sink.old) (K.faults sink.new) }
-    ensures unread { (n : ℕ) → options.now.stairs ≡ Some n → (S.rest source.new ≡ S.rest source.old) × (S.faults source.new ≡ S.faults source.old) }
+    ensures status { (words : List (List ℕ)) → GiveStairs words options.now.stairs → HasEnded words result (traffic S.rest S.faults K.written K.faults source.old source.new sink.old sink.new) }
+    ensures unread { (n : ℕ) → options.now.stairs ≡ Some n → IsUnread (traffic S.rest S.faults K.written K.faults source.old source.new sink.old sink.new) }
 {
     let script = match script_for(alloc, options.stairs, source) {
         Ok(script) => script,
@@ -96,7 +95,7 @@ fn run_script<R: Threads + Wait + Sync, S: Source, K: Sink, G: Gate + Sync>(
 ///
 /// * `Done`: the sink took the output of the script and nothing else; the source is at its end, or, with
 ///   `--stairs`, as it was. Of any two texts that are printed: they are equal exactly where their sets
-///   are the same.
+///   are the same. A point of the frame belongs to what a printed text spells exactly where the set holds.
 /// * `Refused`: the words give no `--stairs`, the script is refused, and nothing was worked; the sink
 ///   took exactly `line L: TEXT` and LF.
 /// * `Words`: the words are refused, and the sink took exactly `words refused` and LF. The source
@@ -106,6 +105,9 @@ fn run_script<R: Threads + Wait + Sync, S: Source, K: Sink, G: Gate + Sync>(
 /// * `WriteFault`: the sink's count of faults rose, or stands at its last value; the sink took some
 ///   front of what the words and the script define.
 /// * `OutOfMemory`: memory was wanted and not found; the sink took some front of it.
+///
+/// At `Done`, `Refused` and `Words` no count of faults rose. Where no count rises, each status comes where
+/// its cause holds, unless memory is wanted.
 pub fn run<R: Threads + Wait + Sync, S: Source, K: Sink, G: Gate + Sync>(
     rt: &R,
     alloc: Global,
@@ -114,24 +116,7 @@ pub fn run<R: Threads + Wait + Sync, S: Source, K: Sink, G: Gate + Sync>(
     sink: &mut K,
     gate: &G,
 ) -> Status
-    ensures done { IfDone result (AreAccepted (map string_bytes words.now) × HasOutput (map string_bytes words.now) (S.rest source.old) (S.rest source.new) (K.written sink.old) (K.written sink.new)) }
-    ensures refused { IfRefused result (λ line kind. GiveStairs (map string_bytes words.now) None × HasRefusal (S.rest source.old) (S.rest source.new) (K.written sink.old) (K.written sink.new) line kind) }
-    ensures words { IfWords result (¬ AreAccepted (map string_bytes words.now) × Grows (K.written sink.old) (K.written sink.new) words_line) }
-    ensures read_fault { IfReadFault result (GiveStairs (map string_bytes words.now) None × Rose (S.faults source.old) (S.faults source.new) × (K.written sink.new ≡ K.written sink.old)) }
-    ensures write_fault { IfWriteFault result (Rose (K.faults sink.old) (K.faults sink.new) × HasDefinedFront (map string_bytes words.now) (S.rest source.old) (S.rest source.new) (K.written sink.old) (K.written sink.new)) }
-    ensures out_of_memory { IfOutOfMemory result ((K.written sink.new ≡ K.written sink.old) ⊎ HasDefinedFront (map string_bytes words.now) (S.rest source.old) (S.rest source.new) (K.written sink.old) (K.written sink.new)) }
-
-    // Of any two texts that are printed: they are equal exactly where their sets are the same.
-    ensures compared { IfDone result (HasComparedTexts (map string_bytes words.now) (S.rest source.old) (S.rest source.new) (K.written sink.old) (K.written sink.new)) }
-
-    // The source is looked at only where the words are accepted and give no `--stairs`.
-    ensures unread { ¬ GiveStairs (map string_bytes words.now) None → (S.rest source.new ≡ S.rest source.old) × (S.faults source.new ≡ S.faults source.old) }
-
-    // Where no count rises, each status comes where its cause holds, unless memory is wanted.
-    ensures finishes { GiveStairs (map string_bytes words.now) None → (bytes : List ℕ) → S.rest source.old ≡ Some bytes → IsAccepted bytes → ¬ Rose (S.faults source.old) (S.faults source.new) → ¬ Rose (K.faults sink.old) (K.faults sink.new) → EndsDone result }
-    ensures finishes_stairs { (n : ℕ) → GiveStairs (map string_bytes words.now) (Some n) → ¬ Rose (K.faults sink.old) (K.faults sink.new) → EndsDone result }
-    ensures refuses { GiveStairs (map string_bytes words.now) None → (bytes : List ℕ) (line : ℕ) (kind : Kind) → S.rest source.old ≡ Some bytes → FirstRefusal bytes line kind → ¬ Rose (S.faults source.old) (S.faults source.new) → ¬ Rose (K.faults sink.old) (K.faults sink.new) → EndsRefused result line kind }
-    ensures refuses_words { ¬ AreAccepted (map string_bytes words.now) → ¬ Rose (K.faults sink.old) (K.faults sink.new) → EndsWords result }
+    ensures ends { RunEnds (map string_bytes words.now) result (traffic S.rest S.faults K.written K.faults source.old source.new sink.old sink.new) }
 {
     match read_words(alloc, words) {
         Ok(options) => run_script(rt, alloc, &options, source, sink, gate),

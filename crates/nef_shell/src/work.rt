@@ -57,6 +57,7 @@ fn work_command<R: Threads + Wait + Sync, K: Sink, G: Gate + Sync>(
     ensures stopped { IfErr result (λ stop. MatchStop stop
         (Rose (K.faults sink.old) (K.faults sink.new) × ((piece : List ℕ) × IsPiece sets.old.nodes.now command.now piece × GrowsWithin (K.written sink.old) (K.written sink.new) piece))
         (K.written sink.new ≡ K.written sink.old)) }
+    ensures quiet { OnOk result (K.faults sink.new ≡ K.faults sink.old) }
     ensures count { K.faults sink.old ≤ K.faults sink.new }
 {
     match command {
@@ -100,6 +101,7 @@ pub(crate) fn work<R: Threads + Wait + Sync, K: Sink, G: Gate + Sync>(
     requires within { All (IsWithin (length script.now.nodes)) script.now.commands }
     requires workable { AreWorkable script.now.nodes script.now.commands }
     ensures done { OnOk result ((output : List ℕ) × IsOutput script.now.nodes script.now.commands output × Grows (K.written sink.old) (K.written sink.new) output) }
+    ensures quiet { OnOk result (K.faults sink.new ≡ K.faults sink.old) }
     ensures stopped { IfErr result (λ stop. MatchStop stop (Rose (K.faults sink.old) (K.faults sink.new)) (Unit {0})) }
     ensures front { IfErr result (λ _. (count : ℕ) × (output : List ℕ) × IsOutput script.now.nodes (take count script.now.commands) output × GrowsWithin (K.written sink.old) (K.written sink.new) output) }
 {

@@ -2,7 +2,7 @@
 
 use super::{owned, unfolded};
 use crate::{code, run};
-use nef_io::{MemSink, MemSource, OpenGate, SureSource};
+use nef_io::{MemSink, MemSource, OpenGate, SureSink, SureSource};
 use std::alloc::Global;
 use std::sync::Wait;
 use std::test::Fail;
@@ -25,9 +25,10 @@ fn reading_gives<R: Threads + Wait + Sync>(
     let words = owned(alloc, &[])?;
     let script = unfolded(alloc, SCRIPT)?;
     let mut source = MemSource::new(alloc, script.as_bytes(), 10, &[fails])?;
-    let mut sink = MemSink::new(alloc, 64, 64, &[])?;
+    let mut room = [0u8; 64];
+    let mut sink = SureSink::new(&mut room);
     let ended = run(rt, alloc, &words, &mut source, &mut sink, &OpenGate);
-    Ok(code(&ended) == status && sink.taken() == output)
+    Ok(code(&ended) == status && sink.kept() == output)
 }
 
 // Whether the run with these words ends with this status, and the sink took this.

@@ -13,7 +13,7 @@ returns-in_err-bytes-clause-refused g c = λ line kind e.
     let given : gave.0 ≡ Refused line kind = cc in
     let alone = too_long-alone _ line kind (sym gave.2 ∙ given) in
     let long = c.read_all.ensures.long (c.in_err-bytes.was ∙ ap Err alone.0) in
-    (long.0, record { taken = long.1; whole = inr long.2 }, subst (λ z. FirstRefusal long.0 z kind) (sym alone.1) (subst (FirstRefusal long.0 0) (sym alone.2) (too-long long.0 long.2)))
+    (long.0, record { taken = long.1; whole = inr long.2 }, subst (λ z. FirstRefusal long.0 z kind) (sym alone.1) (subst (FirstRefusal long.0 0) (sym alone.2) (too-long long.0 long.2)), c.read_all.ensures.quiet_too_long (c.in_err-bytes.was ∙ ap Err alone.0))
 
 pub returns-in_err-bytes-clause-fault : goal.returns-in_err-bytes-clause-fault
 returns-in_err-bytes-clause-fault g c = λ e.
@@ -29,7 +29,7 @@ returns-in_err-script-clause-refused g c = λ line kind e.
     let returned = sym gave.1 ∙ e in
     let given : gave.0 ≡ Refused line kind = cc in
     let refused = c.parse.ensures.refused line kind (c.in_err-script.was ∙ ap Err (refused-alone _ line kind (sym gave.2 ∙ given))) in
-    (c.deref.result.now, record { taken = read.0; whole = inl read.1 }, refused)
+    (c.deref.result.now, record { taken = read.0; whole = inl read.1 }, refused, c.in_ok-bytes.ensures.quiet)
 
 pub returns-in_err-script-clause-fault : goal.returns-in_err-script-clause-fault
 returns-in_err-script-clause-fault g c = λ e.

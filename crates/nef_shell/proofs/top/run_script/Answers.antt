@@ -6,7 +6,7 @@ use Rattle.nef_shell.proofs.top.run_script.Goals as goal
 pub returns-in-Err-Refused-clause-status : goal.returns-in-Err-Refused-clause-status
 returns-in-Err-Refused-clause-status g c words given =
     let refused = c.script_for.ensures.refused _ _ (c.in-Err-Refused.is ∙ ap Err c.in-Err-Refused.field-0-is) in
-    refused-status words c.refuse.result _ _ _ _ _ _ _ _ refused.1.0 _ _ (subst (GiveStairs words) refused.0 given) refused.1.1 refused.1.2 c.refuse.ensures.status
+    refused-status words c.refuse.result _ _ _ _ (subst (GiveStairs words) refused.0 given) refused.1.1 refused.1.2 refused.1.3 c.refuse.ensures.status
 
 pub returns-in-Err-WriteFault-clause-status : goal.returns-in-Err-WriteFault-clause-status
 returns-in-Err-WriteFault-clause-status g c words given =

@@ -104,6 +104,7 @@ loop-now-preserved g c =
     let stays = rw (uses, same, same_after) at released.kept in
     record {
       count = omega (arith, worked.count);
+      quiet = worked.quiet ∙ so_far.quiet;
       written = (
         so_far.written.0 ++ done.0,
         output-next nodes items now item _ _ c.loop-now-test.true c.command-item.is so_far.written.1 done.1,

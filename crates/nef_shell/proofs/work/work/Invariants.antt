@@ -9,6 +9,7 @@ use Rattle.nef_shell.proofs.work.work.Given as goal
 abbrev pub invariant-loop-now : goal.invariant-loop-now
 invariant-loop-now g l = record {
   count : g.K.Sink.faults l.fn.sink ≤ g.K.Sink.faults l.sink;
+  quiet : g.K.Sink.faults l.sink ≡ g.K.Sink.faults l.fn.sink;
   written : (output : List ℕ) × IsOutput l.script.nodes (take l.now l.command-items) output × Grows (g.K.Sink.written l.fn.sink) (g.K.Sink.written l.sink) output;
   nodes : l.sets.nodes.now ≡ l.script.nodes;
   last : AreLastUses l.script.nodes l.script.commands l.sets.last_uses.items;
