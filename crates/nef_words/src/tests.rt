@@ -1,4 +1,10 @@
+<<<<<<< HEAD
 use crate::{Options, WordsFault, line_words, read_words};
+=======
+ghost use Rattle.std.specs.Prelude.{◌≤◌};
+
+use crate::{Options, WordsFault, read_words};
+>>>>>>> boards
 use nef_core::{BoardKind, How};
 use std::alloc::{AllocError, Global};
 use std::io::{Error, ErrorKind};
@@ -12,7 +18,9 @@ fn read(alloc: Global, words: &[&str]) -> Result<Result<Options, WordsFault>, Al
     Ok(read_words(alloc, owned.as_slice()))
 }
 
-fn options(workers: u32, board: BoardKind) -> Result<Options, WordsFault> {
+fn options(workers: u32, board: BoardKind) -> Result<Options, WordsFault>
+    requires { (1 ≤ workers) × (workers ≤ 64) }
+{
     Ok(Options {
         how: How { workers, board },
         stairs: None,

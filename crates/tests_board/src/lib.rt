@@ -8,4 +8,8 @@ mod gates;
 #[cfg(test)]
 mod jobs;
 #[cfg(test)]
+mod pools;
+#[cfg(test)]
 mod tests;
+#[cfg(test)]
+mod told;
