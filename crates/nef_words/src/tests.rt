@@ -1,10 +1,6 @@
-<<<<<<< HEAD
-use crate::{Options, WordsFault, line_words, read_words};
-=======
 ghost use Rattle.std.specs.Prelude.{◌≤◌};
 
-use crate::{Options, WordsFault, read_words};
->>>>>>> boards
+use crate::{Options, WordsFault, line_words, read_words};
 use nef_core::{BoardKind, How};
 use std::alloc::{AllocError, Global};
 use std::io::{Error, ErrorKind};
