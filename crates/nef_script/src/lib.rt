@@ -18,7 +18,7 @@ pub use laws::{refusal_examples, refusal_laws};
 pub use parser::parse;
 pub use script::{Command, Name, Script};
 pub use std::alloc::AllocError as OutOfMemory;
-pub use steps::{MOST_STAIRS, stairs};
+pub use steps::stairs;
 
 #[cfg(test)]
 mod tests;

@@ -9,9 +9,6 @@ use crate::OutOfMemory;
 use itoa::Buffer;
 use std::alloc::Global;
 
-/// The most boxes of a script of stairs.
-pub const MOST_STAIRS: u32 = 32;
-
 // The bytes in front, and the number after them.
 fn numbered(alloc: Global, front: &[u8], number: u32) -> Result<Vec<u8>, OutOfMemory>
     ensures bytes { IfOk result (λ v. v.items ≡ front.now ++ decimal number) }

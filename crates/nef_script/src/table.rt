@@ -7,7 +7,10 @@ ghost use Rattle.std.specs.Str.{bytes_eq};
 ghost use Rattle.nef_script.specs.Table.{verb_of, roles, binds};
 ghost use Rattle.nef_script.specs.Checks.{is_readable};
 
-use nef_geo::{NORMAL_LIMIT, OFFSET_LIMIT};
+use nef_space::{
+    NORMAL_LIMIT, OFFSET_LIMIT, QUERY_LIMIT, QUERY_WEIGHT_LIMIT, RAY_ENTRY_LIMIT, RAY_LIMIT,
+    RAY_WEIGHT_LIMIT,
+};
 
 /// The first word of a line.
 #[derive(Debug, Clone, Copy, PartialEq, Eq)]
@@ -75,15 +78,15 @@ const NORMAL: Role = Role::Coefficient(NORMAL_LIMIT);
 
 const OFFSET: Role = Role::Coefficient(OFFSET_LIMIT);
 
-const PLACE: Role = Role::Coefficient(1 << 43);
+const PLACE: Role = Role::Coefficient(QUERY_LIMIT);
 
-const WEIGHT: Role = Role::Weight(1 << 32);
+const WEIGHT: Role = Role::Weight(QUERY_WEIGHT_LIMIT);
 
-const RAY_PLACE: Role = Role::Coefficient(1 << 21);
+const RAY_PLACE: Role = Role::Coefficient(RAY_LIMIT);
 
-const RAY_WEIGHT: Role = Role::Weight(1 << 10);
+const RAY_WEIGHT: Role = Role::Weight(RAY_WEIGHT_LIMIT);
 
-const RAY_ENTRY: Role = Role::Coefficient(1 << 10);
+const RAY_ENTRY: Role = Role::Coefficient(RAY_ENTRY_LIMIT);
 
 // The first command of the table that has this word.
 fn verb_in(table: &[(&[u8], Verb)], word: &[u8]) -> Option<Verb>

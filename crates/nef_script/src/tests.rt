@@ -1,4 +1,5 @@
 use super::*;
+use nef_space::MOST_STAIRS;
 use std::alloc::Global;
 use std::test::Fail;
 

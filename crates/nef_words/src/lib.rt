@@ -12,5 +12,5 @@ mod tests;
 mod words;
 
 pub use line::line_words;
-pub use options::{DEFAULT_WORKERS, MOST_STAIRS, MOST_WORKERS, Options, WordsFault};
+pub use options::{DEFAULT_WORKERS, MOST_WORKERS, Options, WordsFault};
 pub use words::read_words;

@@ -8,16 +8,13 @@ pub const DEFAULT_WORKERS: u32 = 1;
 /// The greatest number of workers.
 pub const MOST_WORKERS: u32 = 64;
 
-/// The greatest number of boxes of the generated script.
-pub const MOST_STAIRS: u32 = 32;
-
 /// How the program is to run.
 #[derive(Debug, Clone, Copy, PartialEq, Eq)]
 pub struct Options {
     /// By how many workers, 1 to [`MOST_WORKERS`], and over which board.
     pub how: How,
     /// The number of boxes of the generated script that is run in place of the input, 1 to
-    /// [`MOST_STAIRS`]. It is `None` where no word gives it: then the input is run.
+    /// `MOST_STAIRS` of `nef_space`. It is `None` where no word gives it: then the input is run.
     pub stairs: Option<u32>,
 }
 

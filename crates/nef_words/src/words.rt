@@ -5,10 +5,11 @@ ghost use Rattle.nef_words.specs.Usage.{usage, option_named};
 ghost use Rattle.nef_words.specs.Chosen.{most_stairs, options_of, options_of_values, text_in};
 
 use crate::number::read_number;
-use crate::options::{DEFAULT_WORKERS, MOST_STAIRS, MOST_WORKERS, Options, WordsFault};
+use crate::options::{DEFAULT_WORKERS, MOST_WORKERS, Options, WordsFault};
 use clap::error::ErrorKind;
 use clap::{Arg, ArgAction, ArgMatches, Command, Error};
 use nef_core::{BoardKind, How};
+use nef_space::MOST_STAIRS;
 use std::alloc::Global;
 
 // The option of this name, which takes one value.
