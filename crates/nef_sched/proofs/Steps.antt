@@ -1,5 +1,5 @@
 -- Each kind of step keeps the queue's rule, and what a pass learns from it.
-use Rattle.std.proofs.Common.{◌≡◌, ◌≢◌, ℕ, zero, suc, ◌+◌, ◌-◌, ◌^◌, ◌<◌, ◌≤◌, List, [], ◌∷◌, ◌++◌, length, set, refl, ap, sym, ◌∙◌, arith, ◌⊎◌, inl, inr, ⊎_elim, subst, take, drop, slice_index_or, Option, Some, None, Bool, true, false, ◌||◌}
+use Rattle.std.proofs.Common.{◌≡◌, ◌≢◌, ℕ, zero, suc, ◌+◌, ◌^◌, ◌<◌, ◌≤◌, List, [], ◌∷◌, ◌++◌, length, set, refl, ap, sym, ◌∙◌, arith, ◌⊎◌, inl, inr, ⊎_elim, subst, take, drop, slice_index_or, Option, Some, None, Bool, true, false, ◌||◌}
 use Rattle.std.proofs.lemmas.List.{length-append, length-take-le}
 use mathlib.Core.Option.{some, some-injective, some-ne-none}
 use lib.ListN.{get_elem?}
@@ -7,8 +7,8 @@ use Rattle.crossbeam_queue.specs.Fifo.{Pushes, Pops, Forks, Merges, Learns, Held
 use Rattle.crossbeam_queue.proofs.Lists.{at_set, at_snoc}
 use Rattle.nef_sched.specs.declared.view.View.{View}
 use Rattle.nef_sched.specs.Counts.{weigh, one, times, Differ, IsDealt}
-use Rattle.nef_sched.specs.Line.{numbers_in, ends_in, EndsLast}
-use Rattle.nef_sched.specs.Views.{whole, first_view, put, took, at_end, cut, share, both, spent, total}
+use Rattle.nef_sched.specs.Line.{numbers_in, ends_in}
+use Rattle.nef_sched.specs.Views.{whole, first_view, put, took, at_end, cut, share, both, spent}
 use Rattle.nef_sched.specs.Rule.{Fits, Shows, Kept, Sees, Took, TookEach}
 use Rattle.nef_sched.specs.Laws.{PassesAgree, NoneTwice, NoneTakenIsLeft, NoneIsLost, EndedIsEmpty}
 use Rattle.nef_sched.specs.declared.pass.RoundPass.{RoundPass}

@@ -1,5 +1,5 @@
 -- What holds between any two steps of a round's queue.
-use Rattle.std.specs.Prelude.{◌≡◌, ℕ, Bool, true, false, ◌+◌, ◌^◌, ◌<◌, List, [], length, Option, Some, None}
+use Rattle.std.specs.Prelude.{◌≡◌, ℕ, true, false, ◌+◌, ◌^◌, ◌<◌, List, [], length, Option, Some, None}
 use mathlib.Core.Option.{some}
 use lib.ListN.{get_elem?}
 use Rattle.nef_sched.specs.declared.view.View.{View}

@@ -1,4 +1,4 @@
-use Rattle.std.proofs.Common.{◌≡◌, [], ◌∷◌, ◌+◌, ◌∙◌, arith, sym, subst, ℕ, length}
+use Rattle.std.proofs.Common.{◌≡◌, [], ◌∷◌, ◌∙◌, arith, subst, ℕ, length}
 use Rattle.std.proofs.lemmas.List.{length-append}
 use Rattle.nef_pool.proofs.Kept.{kept_next, right_next}
 use Rattle.nef_pool.proofs.pool.filled.Goals as goal
