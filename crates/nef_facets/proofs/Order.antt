@@ -1,5 +1,5 @@
 -- Listed corners in order.
-use Rattle.std.proofs.Common.{◌≡◌, ◌≢◌, ℕ, pos, Bool, true, false, cond, ◌⊎◌, List, get_or, arith, inl, inr, ⊎_elim, refl, ap, subst, sym, ◌∙◌}
+use Rattle.std.proofs.Common.{◌≡◌, ◌≢◌, ℕ, ◌<◌, pos, Bool, true, false, cond, ◌⊎◌, List, get_or, arith, inl, inr, ⊎_elim, refl, ap, subst, sym, ◌∙◌}
 use Rattle.std.specs.Prelude.{eqb, ltb}
 use Rattle.std.specs.List.Sorted.{IsPartitionedBy, IsPartitionPoint}
 use Rattle.std.proofs.Math.Nat.{eq-or-lt_of_le}

@@ -2,24 +2,21 @@
 use Rattle.std.proofs.Common.{◌≡◌, ℕ, pos, List, [], ◌∷◌, ◌++◌, refl, ap, sym, ◌∙◌, subst}
 use Rattle.nef_space.specs.Place.{Place, Form, form_at, normal_of, toward}
 use Rattle.nef_space.specs.Sets.{Set}
-use Rattle.nef_space.specs.Vectors.{Vector, opposite, IsNormal, SameDirection, plane_dir}
-use Rattle.nef_geo.specs.Shapes.{form_of}
+use Rattle.nef_space.specs.Vectors.{Vector, opposite, SameDirection, plane_dir}
 use Rattle.law_forms.proofs.Between.{place-toward}
 use Rattle.law_forms.proofs.Directions.{dot-zero, direction-left, direction-right}
 use Rattle.law_sphere.specs.Maps.{At, Item, items, item_normal, OnItem}
 use Rattle.law_sphere.proofs.Compare.{SameDirection-turned, SameDirection-trans, way-self}
 use Rattle.law_sphere.proofs.Forms.{on-direction, on-level}
 use Rattle.law_sphere.proofs.Lists.{at-one}
-use Rattle.nef_smap.proofs.Lists.{at-map}
 use Rattle.law_complex.specs.Complexes.{Vertex, Complex, Corner, IsCorner}
 use Rattle.law_complex.specs.Shows.{Shows}
 use Rattle.law_complex.specs.Skeleton.{item_plane, RayNames}
 use Rattle.law_complex.proofs.FacetAngles.{through-at}
 use Rattle.law_complex.proofs.FacetNames.{through-level}
 use Rattle.law_complex.proofs.Ways.{same-itself}
-use Rattle.nef_complex.specs.declared.complex.Complex.{Complex as ProgramComplex}
 use Rattle.nef_complex.specs.declared.complex.Corner.{Corner as ProgramCorner}
-use Rattle.nef_complex.specs.Complexes.{complex_of, corner_of, ShowsSet}
+use Rattle.nef_complex.specs.Complexes.{corner_of}
 use Rattle.nef_classes.specs.declared.table.Cell.{Cell}
 use Rattle.nef_classes.specs.declared.table.Tie.{Tie}
 use Rattle.law_links.specs.Links.{LinkAcross}

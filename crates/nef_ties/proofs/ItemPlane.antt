@@ -1,29 +1,12 @@
 -- The way inward in the plane of an item.
-use Rattle.std.proofs.Common.{◌≡◌, ℕ, ℤ, pos, ◌+ℤ◌, ◌*ℤ◌, Bool, true, false, cond, ◌&&◌, [], ◌∷◌, subst, ◌↔◌}
+use Rattle.std.proofs.Common.{◌≡◌, ℕ, ℤ, pos, ◌+ℤ◌, ◌*ℤ◌, Bool, true, false, cond, ◌&&◌, [], ◌∷◌, subst}
 use Rattle.std.specs.Ordering.{int_eq}
 use Rattle.law_arithmetic.proofs.Combination.{given, none, follows}
-use Rattle.law_arithmetic.proofs.Order.{nought-is}
 use Rattle.law_arithmetic.proofs.Ring.{ring, at, num, ◌⊕◌, ◌⊗◌}
 use Rattle.nef_space.specs.Limits.{axis_factor}
-use Rattle.nef_space.specs.Local.{Flat}
-use Rattle.nef_space.specs.Place.{Place, Form, form_at, normal_of, toward}
-use Rattle.nef_space.specs.Sets.{Set}
-use Rattle.nef_space.specs.Vectors.{Vector, dot, blend, IsDirection, IsNormal, SameDirection, plane_dir, beside_x, beside_y, beside_z}
-use Rattle.law_near.specs.Laws.{FacetSupport}
-use Rattle.law_near.proofs.Supports.{facet-support}
+use Rattle.nef_space.specs.Vectors.{Vector, blend, IsDirection, SameDirection, plane_dir, beside_x, beside_y, beside_z}
 use Rattle.law_forms.specs.Homogeneous.{SameUpToFactor, of_direction}
 use Rattle.law_forms.proofs.Directions.{same-factor, factor-same}
-use Rattle.law_sphere.specs.Maps.{At, Item, item_normal, OnItem}
-use Rattle.law_sphere.proofs.Compare.{SameDirection-turned}
-use Rattle.law_sphere.proofs.Forms.{on-direction, on-level}
-use Rattle.law_complex.specs.Complexes.{Vertex, Complex, Corner, IsCorner}
-use Rattle.law_complex.specs.Shows.{Shows}
-use Rattle.law_complex.proofs.Edges.{near_point, way-near}
-use Rattle.law_complex.proofs.FacetPoints.{IsInFacetOf, beside-vertex}
-use Rattle.law_complex.proofs.FacetSides.{flats-one, level-way}
-use Rattle.law_complex.proofs.FacetWays.{plane-back}
-use Rattle.law_complex.proofs.Planes.{plane-turned, plane-point, plane-slope}
-use Rattle.law_complex.proofs.Ways.{onward, onward-way}
 use Rattle.nef_locate.proofs.SamePlanes.{opposed, same-test, alike}
 
 -- ---- the way inward

@@ -4,7 +4,7 @@ use Rattle.std.proofs.lemmas.Int.{ints}
 use Rattle.nef_space.specs.Place.{Place, Form, normal_of, slope}
 use Rattle.nef_space.specs.Sets.{Set}
 use Rattle.nef_space.specs.Vectors.{Vector, opposite, IsAtMost, SameDirection, plane_dir}
-use Rattle.nef_geo.specs.Shapes.{form_of, place_of}
+use Rattle.nef_geo.specs.Shapes.{form_of}
 use Rattle.nef_geo.specs.Widths.{ray_limit, plane_dir_limit}
 use Rattle.nef_geo.specs.declared.plane.Plane.{Plane}
 use Rattle.law_sphere.specs.Maps.{At, Item, items, item_normal, OnItem}

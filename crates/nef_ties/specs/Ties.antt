@@ -1,12 +1,10 @@
 -- Corners as elements of the table of items, and which ties join them.
-use Rattle.std.specs.Prelude.{◌≡◌, ℕ, ◌<◌, pos, List, length, ◌⊎◌, Option}
+use Rattle.std.specs.Prelude.{◌≡◌, ℕ, List, ◌⊎◌, Option}
 use Rattle.std.specs.List.{Contains}
 use Rattle.std.specs.Option.{MatchOption}
-use Rattle.nef_space.specs.Place.{Place, Form, form_at, normal_of}
+use Rattle.nef_space.specs.Place.{Place, Form}
 use Rattle.nef_space.specs.Vectors.{Vector, SameDirection}
-use Rattle.nef_geo.specs.Shapes.{form_of}
-use Rattle.nef_geo.specs.declared.plane.Plane.{Plane}
-use Rattle.law_sphere.specs.Maps.{At, Arc, Map, items}
+use Rattle.law_sphere.specs.Maps.{At, Arc, Map}
 use Rattle.law_complex.specs.Complexes.{Vertex, Edge, Complex, Corner, HasEnds}
 use Rattle.law_complex.specs.Skeleton.{RayNames}
 use Rattle.nef_complex.specs.Complexes.{corner_of}

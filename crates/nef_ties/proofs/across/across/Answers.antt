@@ -1,9 +1,7 @@
-use Rattle.std.proofs.Common.{sym, subst, ◌∙◌}
+use Rattle.std.proofs.Common.{sym, ◌∙◌}
 use Rattle.nef_arc.proofs.SignNumbers.{not_true}
 use Rattle.nef_geo.specs.Shapes.{vector_of}
-use Rattle.law_sphere.specs.Maps.{Item, items, OnItem}
 use Rattle.nef_edges.proofs.Places.{some-at}
-use Rattle.nef_smap.specs.Maps.{map_of}
 use Rattle.nef_complex.specs.Complexes.{corner_of, vertex_of}
 use Rattle.nef_ties.proofs.ItemCarriers.{vertex-within, item-within, corner-at}
 use Rattle.nef_ties.proofs.WayInward.{level-inward, not-on, none-along, linked-from, small-back}
