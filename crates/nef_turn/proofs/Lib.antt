@@ -7,4 +7,5 @@ pub mod MovedSvertices
 pub mod TurnedArcs
 pub mod MadeMaps
 pub mod TurnedVertices
+pub mod Pairing
 pub mod Steps

@@ -12,7 +12,7 @@ use Rattle.nef_complex.proofs.Reading.{got-at}
 use Rattle.nef_edges.proofs.Places.{at-some}
 use Rattle.law_turns.specs.Turned.{turned_set}
 use Rattle.law_turns.specs.Complexes.{AreTurnedPlanes, AreTurnedVertices}
-use Rattle.law_turns.proofs.Pairing.{paired-turned}
+use Rattle.nef_turn.proofs.Pairing.{paired-turned}
 use Rattle.nef_turn.specs.Turning.{HaveLeastMaps}
 
 module _ (s : Set) (c : Complex) (S : ShowsSet s c) where
