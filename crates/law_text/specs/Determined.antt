@@ -1,11 +1,13 @@
 -- The parts and the text of a complex are determined by its vertices and edges, and so by the set.
 use Rattle.std.specs.Prelude.{◌≡◌, ℕ, List, ◌↔◌}
+use Rattle.nef_case.specs.Turns.{Undoes}
 use Rattle.nef_space.specs.Local.{SameSet}
 use Rattle.nef_space.specs.Place.{Place, InFrame}
 use Rattle.nef_space.specs.Sets.{Set, Holds}
 use Rattle.law_complex.specs.Belongs.{Belongs}
 use Rattle.nef_complex.specs.declared.complex.Complex.{Complex}
 use Rattle.nef_complex.specs.Complexes.{complex_of, ShowsSet}
+use Rattle.law_turns.specs.Turned.{turned_set}
 use Rattle.nef_parts.specs.declared.parts.Parts.{Parts}
 use Rattle.nef_parts.specs.Numbers.{IsParts}
 use Rattle.nef_parts.specs.Text.{text, Spells}
@@ -17,6 +19,10 @@ SamePartsOfSame = (c d : Complex) (p : Parts) → c.vertices ≡ d.vertices → 
 -- complexes that show one set have the same parts, and so the same text
 abbrev pub SameSetSameText : Type 0
 SameSetSameText = (s t : Set) (c d : Complex) (p q : Parts) → ShowsSet s c → ShowsSet t d → SameSet s t → IsParts (complex_of c) p → IsParts (complex_of d) q → (p ≡ q) × (text c p ≡ text d q)
+
+-- so a set that is turned by some turn, and then by the turn that undoes it, has its text again
+abbrev pub TurnedBackSameText : Type 0
+TurnedBackSameText = (j k : ℕ) (s : Set) (c d : Complex) (p q : Parts) → Undoes j k → ShowsSet s c → ShowsSet (turned_set j (turned_set k s)) d → IsParts (complex_of c) p → IsParts (complex_of d) q → text c p ≡ text d q
 
 -- and sets whose complexes have one text are one
 abbrev pub SameTextSameSet : Type 0

@@ -11,7 +11,5 @@ pub mod Twice
 pub mod TurnedLists
 pub mod Numbers
 pub mod ArcEnds
-pub mod Nodes
 pub mod Exists
-pub mod Pairing
 pub mod ListsExist

@@ -1,5 +1,5 @@
 -- The laws on turns. Each is cited by a clause of a public function. A number of a turn is any number: those from 48 on are turns too.
-use Rattle.std.specs.Prelude.{◌≡◌, ℕ, ◌↔◌, List, map, Bool}
+use Rattle.std.specs.Prelude.{◌≡◌, ℕ, ◌↔◌, List, Bool}
 use Rattle.law_arithmetic.specs.Signs.{Lies}
 use Rattle.nef_case.specs.Turns.{negated_if, Undoes, IsComposition}
 use Rattle.nef_space.specs.Vectors.{Vector, dot, cross, triple, IsDirection, SameDirection, IsOpposite, IsAtMost, IsNormal, triple_of as vector_numbers}
@@ -16,16 +16,6 @@ use Rattle.law_sphere.specs.Vectors.{IsPrimitive}
 use Rattle.law_sphere.specs.Least.{Least, Ordered, Cone}
 use Rattle.law_complex.specs.Complexes.{Vertex, Complex}
 use Rattle.law_complex.specs.Shows.{SamePlane, Carriers, Shows}
-use Rattle.nef_geo.specs.Shapes.{form_of}
-use Rattle.nef_geo.specs.declared.plane.Plane.{Plane}
-use Rattle.nef_smap.specs.Maps.{map_of, IsLeastMap}
-use Rattle.nef_smap.specs.declared.map.SphereMap.{SphereMap}
-use Rattle.nef_complex.specs.Complexes.{vertex_of, ShowsSet, AreVerticesOf}
-use Rattle.nef_complex.specs.declared.complex.Vertex.{Vertex as ProgramVertex}
-use Rattle.nef_complex.specs.declared.complex.Complex.{Complex as ProgramComplex}
-use Rattle.nef_expr.specs.declared.nodes.Node.{Node}
-use Rattle.nef_expr.specs.Nodes.{node_set, IsOrdered}
-use Rattle.law_turns.specs.Nodes.{TurnOf}
 use Rattle.law_turns.specs.Turned.{turned_vector, turned_plane, turned_place, turned_set, place_numbers, is_odd, signed}
 use Rattle.law_turns.specs.Maps.{IsTurnedMap, HasTurnedLists}
 use Rattle.law_turns.specs.Complexes.{AreTurnedPlanes, AreTurnedVertices, IsTurnedComplex, ShowsVertices, signed_form}
@@ -163,13 +153,6 @@ SetTurnedBack = (j k : ℕ) (s : Set) → Undoes j k → turned_set j (turned_se
 abbrev pub SetTurnedTwice : Type 0
 SetTurnedTwice = (i j k : ℕ) (s : Set) → IsComposition i j k → turned_set i s ≡ turned_set j (turned_set k s)
 
--- the set of a node's turned image is the turned set, so it holds at a turned point exactly where the node's holds at the point
-abbrev pub NodeTurned : Type 0
-NodeTurned = (ns : List Node) (t k l : ℕ) → IsOrdered ns → TurnOf ns t k l → node_set ns l ≡ turned_set t (node_set ns k)
-
-abbrev pub NodeHoldsTurned : Type 0
-NodeHoldsTurned = (ns : List Node) (t k l : ℕ) (p : Place) → IsOrdered ns → TurnOf ns t k l → Holds (node_set ns l) (turned_place t p) ↔ Holds (node_set ns k) p
-
 -- ---- sphere maps
 -- a turned map has a direction's label at the turned direction
 abbrev pub MapLabelTurned : Type 0
@@ -232,13 +215,3 @@ TurnedPlanesExist = (k : ℕ) (gs : List Form) → (hs : List Form) × AreTurned
 
 abbrev pub TurnedVerticesExist : Type 0
 TurnedVerticesExist = (k : ℕ) (s : Set) (C : Complex) → Shows s C → (vs : List Vertex) × AreTurnedVertices k C.vertices vs
-
--- ---- the program's complexes
--- a turned map of a least map of the program is one
-abbrev pub LeastMapTurned : Type 0
-LeastMapTurned = (k : ℕ) (m n : SphereMap) → IsLeastMap m → IsTurnedMap k (map_of m) (map_of n) → Ordered (map_of n) → IsLeastMap n
-
--- the turned planes and vertices, paired, are a complex that shows the turned set
-abbrev pub PairedTurned : Type 0
-PairedTurned = (k : ℕ) (s : Set) (c : ProgramComplex) (hs : List Plane) (vs : List ProgramVertex) → ShowsSet s c → AreTurnedPlanes k (map form_of c.carriers) (map form_of hs)
-    → AreTurnedVertices k (map vertex_of c.vertices) (map vertex_of vs) → AreVerticesOf (turned_set k s) hs vs

@@ -1,5 +1,4 @@
 pub mod Turned
 pub mod Maps
 pub mod Complexes
-pub mod Nodes
 pub mod Laws

@@ -1,6 +1,6 @@
 //! The laws, grouped by their subject.
 
-ghost use Rattle.law_turns.specs.Laws.{DotTurned, CrossTurned, TripleTurned, DirectionTurned, SameDirectionTurned, OppositeTurned, ArcTurned, EachVectorIsTurned, AtMostTurned, PrimitiveTurned, LowestVectorTurned, LowestFormTurned, LowestPlaceTurned, NormalExists, NormalIsOne, VectorsDiffer, NormalsDiffer, PlanesDiffer, FormTurned, SlopeTurned, StepTurned, TowardTurned, AheadTurned, BetweenTurned, SamePlaceTurned, WithinTurned, FrameTurned, EachPlaceIsTurned, HoldsTurned, LabelTurned, SameSetTurned, GermTurned, NearGermTurned, FlatTurned, FlatDimTurned, VertexTurned, JoinedTurned, SetTurnedBack, SetTurnedTwice, NodeTurned, NodeHoldsTurned, MapLabelTurned, NearLabelTurned, MapTurned, LeastTurned, ConeTurned, ListsTurned, TurnedExists, ArcsBegin, ArcsEnd, CarrierTurned, CarrierIsTurned, SamePlaneTurned, CarriersTurned, VerticesTurned, ShowsTurned, TurnedPlanesExist, TurnedVerticesExist, LeastMapTurned, PairedTurned};
+ghost use Rattle.law_turns.specs.Laws.{DotTurned, CrossTurned, TripleTurned, DirectionTurned, SameDirectionTurned, OppositeTurned, ArcTurned, EachVectorIsTurned, AtMostTurned, PrimitiveTurned, LowestVectorTurned, LowestFormTurned, LowestPlaceTurned, NormalExists, NormalIsOne, VectorsDiffer, NormalsDiffer, PlanesDiffer, FormTurned, SlopeTurned, StepTurned, TowardTurned, AheadTurned, BetweenTurned, SamePlaceTurned, WithinTurned, FrameTurned, EachPlaceIsTurned, HoldsTurned, LabelTurned, SameSetTurned, GermTurned, NearGermTurned, FlatTurned, FlatDimTurned, VertexTurned, JoinedTurned, SetTurnedBack, SetTurnedTwice, MapLabelTurned, NearLabelTurned, MapTurned, LeastTurned, ConeTurned, ListsTurned, TurnedExists, ArcsBegin, ArcsEnd, CarrierTurned, CarrierIsTurned, SamePlaneTurned, CarriersTurned, VerticesTurned, ShowsTurned, TurnedPlanesExist, TurnedVerticesExist};
 
 /// Turned vectors have the products of the vectors, and their cross and triple products up to the sign of the turn. They lie
 /// to one another as the vectors do; about a normal the sense of way is kept with the sign of the turn.
@@ -47,7 +47,6 @@ pub fn place_laws()
 
 /// A turned set holds at a turned point exactly where the set holds at the point, whatever the set is made of. It has the
 /// labels, germs, flat directions and joined points of the set, at the turned points. Turned back it is the set.
-/// The same holds of the sets of nodes.
 pub fn set_laws()
     ensures holds { HoldsTurned }
     ensures labels { LabelTurned }
@@ -60,8 +59,6 @@ pub fn set_laws()
     ensures joined { JoinedTurned }
     ensures back { SetTurnedBack }
     ensures twice { SetTurnedTwice }
-    ensures nodes { NodeTurned }
-    ensures node_holds { NodeHoldsTurned }
 {}
 
 /// A turned map has the map's labels, at the turned directions. It is valid, least, and shows the turned set at the turned
@@ -80,7 +77,7 @@ pub fn map_laws()
 {}
 
 /// The carriers of a turned set are the turned carriers, and a turned complex shows the turned set.
-/// The program's planes and vertices that are turned are ready to be paired. There always are such planes and vertices.
+/// There always are turned planes and vertices, in order.
 pub fn complex_laws()
     ensures carrier { CarrierTurned }
     ensures only_carriers { CarrierIsTurned }
@@ -90,6 +87,4 @@ pub fn complex_laws()
     ensures shows { ShowsTurned }
     ensures planes_exist { TurnedPlanesExist }
     ensures vertices_exist { TurnedVerticesExist }
-    ensures least_maps { LeastMapTurned }
-    ensures paired { PairedTurned }
 {}

@@ -1,3 +1,4 @@
 pub mod Nodes
 pub mod Plain
+pub mod Turns
 pub mod Laws

@@ -1,3 +1,7 @@
+use Rattle.std.proofs.Common.{subst}
+use Rattle.nef_space.specs.Sets.{Set}
+use Rattle.nef_complex.specs.Complexes.{ShowsSet}
+use Rattle.law_turns.proofs.Twice.{set-back}
 use Rattle.law_complex.proofs.FacetNames.{facet-of}
 use Rattle.law_complex.proofs.Skeletons.{belongs-holds}
 use Rattle.nef_locate.proofs.Cones.{facet-at}
@@ -9,6 +13,9 @@ returns-clause-same_parts x = same-parts
 
 pub returns-clause-same_text : goal.returns-clause-same_text
 returns-clause-same_text x = same-set_text
+
+pub returns-clause-turned_back : goal.returns-clause-turned_back
+returns-clause-turned_back x = λ j k s c d p q h S T P Q. (same-set_text s s c d p q S (subst (λ (t : Set). ShowsSet t d) (set-back j k s h) T) (λ y i. (λ a. a, λ a. a)) P Q).1
 
 pub returns-clause-same_set : goal.returns-clause-same_set
 returns-clause-same_set x = text-set

@@ -1,6 +1,5 @@
 use Rattle.law_turns.proofs.Carriers.{carrier-there, carrier-from, same_plane-turned, carriers-turned}
 use Rattle.law_turns.proofs.Complexes.{vertices-turned, shows-turned}
-use Rattle.law_turns.proofs.Pairing.{least_map-turned, paired-turned}
 use Rattle.law_turns.proofs.ListsExist.{planes_exist, vertices_exist}
 use Rattle.law_turns.proofs.laws.complex_laws.Goals as goal
 
@@ -21,12 +20,6 @@ returns-clause-vertices c = vertices-turned
 
 pub returns-clause-shows : goal.returns-clause-shows
 returns-clause-shows c = shows-turned
-
-pub returns-clause-least_maps : goal.returns-clause-least_maps
-returns-clause-least_maps c = least_map-turned
-
-pub returns-clause-paired : goal.returns-clause-paired
-returns-clause-paired c = paired-turned
 
 pub returns-clause-planes_exist : goal.returns-clause-planes_exist
 returns-clause-planes_exist c = planes_exist

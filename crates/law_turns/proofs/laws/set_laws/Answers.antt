@@ -1,10 +1,6 @@
-use Rattle.std.proofs.Common.{sym, subst}
-use Rattle.nef_space.specs.Sets.{Set, Holds}
-use Rattle.nef_expr.specs.Nodes.{node_set}
 use Rattle.law_turns.specs.Turned.{turned_place}
 use Rattle.law_turns.proofs.Meaning.{holds-turned, label-turned, same_set-turned, germ-turned, near_germ-turned, flat-turned, flat_dim-turned, joined-turned}
 use Rattle.law_turns.proofs.Twice.{set-back, set-twice}
-use Rattle.law_turns.proofs.Nodes.{node-turned}
 use Rattle.law_turns.proofs.laws.set_laws.Goals as goal
 
 pub returns-clause-holds : goal.returns-clause-holds
@@ -39,13 +35,3 @@ returns-clause-back c = set-back
 
 pub returns-clause-twice : goal.returns-clause-twice
 returns-clause-twice c = set-twice
-
-pub returns-clause-nodes : goal.returns-clause-nodes
-returns-clause-nodes c = λ ns t k l ordered turn. node-turned ns ordered t k l turn
-
-pub returns-clause-node_holds : goal.returns-clause-node_holds
-returns-clause-node_holds c = λ ns t k l p ordered turn.
-    let e = node-turned ns ordered t k l turn in (
-      λ h. (holds-turned t (node_set ns k) p).0 (subst (λ (s : Set). Holds s (turned_place t p)) e h),
-      λ h. subst (λ (s : Set). Holds s (turned_place t p)) (sym e) ((holds-turned t (node_set ns k) p).1 h),
-    )

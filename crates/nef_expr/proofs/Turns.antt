@@ -7,7 +7,7 @@ use Rattle.nef_expr.specs.declared.nodes.Node.TheVariants as node
 use Rattle.nef_expr.specs.Nodes.{set_of, sets_after, node_set, IsOrdered}
 use Rattle.nef_expr.proofs.Sets.{each-set}
 use Rattle.law_turns.specs.Turned.{turned_set}
-use Rattle.law_turns.specs.Nodes.{IsNode, TurnOf, of_half, of_empty, of_full, of_and, of_or, of_diff, of_xor, of_not, of_int, of_cl, of_bd, of_reg}
+use Rattle.nef_expr.specs.Turns.{IsNode, TurnOf, of_half, of_empty, of_full, of_and, of_or, of_diff, of_xor, of_not, of_int, of_cl, of_bd, of_reg}
 
 module _ (ns : List Node) (ordered : IsOrdered ns) (t : ℕ) where
   made : (k : ℕ) (n : Node) → IsNode ns k n → node_set ns k ≡ set_of (sets_after [] ns) n

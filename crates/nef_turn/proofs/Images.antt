@@ -1,0 +1,44 @@
+-- Lists of images, made one after the other.
+use Rattle.std.proofs.Common.{◌≡◌, ℕ, zero, suc, ◌+◌, ◌<◌, ◌≤◌, List, [], ◌∷◌, ◌++◌, length, get_or, arith, refl, sym, ap, subst, ◌∙◌, ⊎_elim}
+use Rattle.law_sphere.specs.Maps.{At}
+use Rattle.law_sphere.proofs.Lists.{at-one}
+use Rattle.nef_smap.proofs.Lists.{at-within}
+use Rattle.nef_edges.proofs.Places.{at-more, read-at}
+use Rattle.nef_turn.specs.Images.{AreImages}
+
+length-more : {A : Type 0} (xs : List A) (x : A) → length (xs ++ x ∷ []) ≡ length xs + 1
+length-more [] x = refl
+length-more (y ∷ ys) x = let e = length-more ys x in omega (arith, e)
+
+at-length : {A : Type 0} (xs : List A) (k : ℕ) → k < length xs → (x : A) × At xs k x
+at-length [] k l = absurd (omega arith)
+at-length (y ∷ ys) zero l = (y, refl)
+at-length (y ∷ ys) (suc k) l = at-length ys k (omega arith)
+
+module _ {A B : Type 0} (R : ℕ → A → B → Type 0) (xs : List A) where
+  pub images-none : AreImages R 0 xs []
+  images-none = record { count = refl; each = λ j y a. absurd a }
+
+  pub images-more : (n : ℕ) (ys : List B) (x : A) (y : B) → AreImages R n xs ys → At xs n x → R n x y → AreImages R (n + 1) xs (ys ++ y ∷ [])
+  images-more n ys x y I a r = record {
+    count = length-more ys y ∙ ap (λ m. m + 1) I.count;
+    each = λ j z b. ⊎_elim (λ c. I.each j z c)
+        (λ (e, f). (x, subst (λ m. At xs m x) (sym (e ∙ I.count)) a, subst (λ m. R m x z) (sym (e ∙ I.count)) (subst (λ (w : B). R n x w) f r)))
+        (at-more ys y j z b);
+  }
+
+  -- where each element has its image, there is one at each place
+  pub images-all : (ys : List B) → AreImages R (length xs) xs ys → (i : ℕ) (x : A) → At xs i x → (y : B) × At ys i y × R i x y
+  images-all ys I i x a =
+      let l = at-within xs i x a in
+      let count = I.count in
+      let (y, b) = at-length ys i (omega (arith, l, count)) in
+      let (z, c, r) = I.each i y b in
+      (y, b, subst (λ (w : A). R i w y) (at-one xs i z x c a) r)
+
+  -- ---- one step of a loop, and its end
+  pub images-step : (i : ℕ) (x : A) (ys zs : List B) (y : B) → i < length xs → x ≡ get_or xs i x → AreImages R i xs ys → R i x y → zs ≡ ys ++ y ∷ [] → AreImages R (i + 1) xs zs
+  images-step i x ys zs y l e I r f = subst (AreImages R (i + 1) xs) (sym f) (images-more i ys x y I (read-at xs i x l e) r)
+
+  pub images-end : (i : ℕ) (ys : List B) → length xs ≤ i → i ≤ length xs → AreImages R i xs ys → AreImages R (length xs) xs ys
+  images-end i ys l h I = subst (λ n. AreImages R n xs ys) (let e : i ≡ length xs = omega (arith, l, h) in e) I

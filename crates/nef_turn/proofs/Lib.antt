@@ -1,0 +1,11 @@
+pub mod Images
+pub mod Sorting
+pub mod Orders
+pub mod Exact
+pub mod TurnedCarriers
+pub mod MovedSvertices
+pub mod TurnedArcs
+pub mod MadeMaps
+pub mod TurnedVertices
+pub mod Pairing
+pub mod Steps

@@ -1,0 +1,81 @@
+-- The orders of planes, directions and points by which turned items are sorted.
+use Rattle.std.proofs.Common.{◌≡◌, List, Ordering, Less, Equal, Greater, inl, inr, refl, sym, ap, ◌∙◌}
+use Rattle.std.specs.Ordering.{MatchOrdering}
+use Rattle.std.specs.Cmp.{IsTotalOrder}
+use Rattle.std.specs.List.Sorted.{IsPermutation, IsSorted}
+use Rattle.std.proofs.lemmas.Cmp.{int_cmp_total, on_total, then_total, tied_itself}
+use Rattle.nef_space.specs.Numbers.{IsBelow}
+use Rattle.nef_space.specs.Place.{form_numbers}
+use Rattle.nef_space.specs.Vectors.{Vector, triple_of}
+use Rattle.nef_geo.specs.Shapes.{form_of, place_of, vector_of}
+use Rattle.nef_geo.specs.declared.dir.Dir.{Dir}
+use Rattle.nef_geo.specs.declared.plane.Plane.{Plane}
+use Rattle.nef_geo.proofs.Orders.{plane_order, plane-ordered, dir_order, dir-ordered}
+use Rattle.law_sphere.specs.Vectors.{VectorBelow}
+use Rattle.law_sphere.specs.Least.{InOrder}
+use Rattle.nef_complex.specs.declared.complex.Vertex.{Vertex}
+use Rattle.nef_cand.proofs.Order.{point_order, point-ordered, point_total, one-order}
+use Rattle.nef_turn.specs.declared.moved.Moved.{Moved}
+use Rattle.nef_turn.specs.Images.{AreApart}
+use Rattle.nef_turn.specs.Turning.{IsMovedBelow, HaveSameWay, IsVertexBelow, AreAtOnePlace}
+use Rattle.nef_turn.proofs.Sorting.{sorted-in_order, still-apart}
+
+-- ---- planes
+plane_total : IsTotalOrder plane_order
+plane_total = then_total (on_total (λ (h : Plane). h.a) int_cmp_total) (then_total (on_total (λ (h : Plane). h.b) int_cmp_total) (then_total (on_total (λ (h : Plane). h.c) int_cmp_total) (on_total (λ (h : Plane). h.d) int_cmp_total)))
+
+abbrev pub IsPlaneBelow : Plane → Plane → Type 0
+IsPlaneBelow g h = IsBelow (form_numbers (form_of g)) (form_numbers (form_of h))
+
+abbrev pub IsOnePlane : Plane → Plane → Type 0
+IsOnePlane g h = g ≡ h
+
+pub planes-in_order : (xs ys : List Plane) → IsPermutation xs ys → AreApart IsOnePlane xs → IsSorted plane_order ys → InOrder IsPlaneBelow ys
+planes-in_order = sorted-in_order plane_order plane_total IsPlaneBelow IsOnePlane (λ g h. plane-ordered g h (plane_order g h) refl)
+    (λ g h e. ap (plane_order g) (sym e) ∙ tied_itself plane_total g)
+
+-- ---- directions
+abbrev pub moved_order : Moved → Moved → Ordering
+moved_order u w = dir_order u.svertex.dir w.svertex.dir
+
+dir_total : IsTotalOrder dir_order
+dir_total = then_total (on_total (λ (d : Dir). d.x) int_cmp_total) (then_total (on_total (λ (d : Dir). d.y) int_cmp_total) (on_total (λ (d : Dir). d.z) int_cmp_total))
+
+moved_total : IsTotalOrder moved_order
+moved_total = on_total (λ (u : Moved). u.svertex.dir) dir_total
+
+-- the order of the numbers is that of the vectors
+below-vector : (u v : Vector) → IsBelow (triple_of u) (triple_of v) → VectorBelow u v
+below-vector u v (inl h) = inl h
+below-vector u v (inr (e, inl h)) = inr (inl (e, h))
+below-vector u v (inr (e, inr (f, inl h))) = inr (inr (e, f, h))
+below-vector u v (inr (e, inr (f, inr h))) = absurd h.1
+
+moved-ranks : (u w : Moved) → MatchOrdering (moved_order u w) (IsMovedBelow u w) (HaveSameWay u w) (IsMovedBelow w u)
+moved-ranks u w = by (moved_order u w) (dir-ordered u.svertex.dir w.svertex.dir (moved_order u w) refl)
+  where
+    by : (o : Ordering) → MatchOrdering o (IsBelow (triple_of (vector_of u.svertex.dir)) (triple_of (vector_of w.svertex.dir))) (HaveSameWay u w) (IsBelow (triple_of (vector_of w.svertex.dir)) (triple_of (vector_of u.svertex.dir)))
+        → MatchOrdering o (IsMovedBelow u w) (HaveSameWay u w) (IsMovedBelow w u)
+    by Less h = below-vector (vector_of u.svertex.dir) (vector_of w.svertex.dir) h
+    by Equal h = h
+    by Greater h = below-vector (vector_of w.svertex.dir) (vector_of u.svertex.dir) h
+
+moved-equal : (u w : Moved) → HaveSameWay u w → moved_order u w ≡ Equal
+moved-equal u w e = ap (dir_order u.svertex.dir) (sym e) ∙ tied_itself dir_total u.svertex.dir
+
+pub moved-in_order : (xs ys : List Moved) → IsPermutation xs ys → AreApart HaveSameWay xs → IsSorted moved_order ys → InOrder IsMovedBelow ys
+moved-in_order = sorted-in_order moved_order moved_total IsMovedBelow HaveSameWay moved-ranks moved-equal
+
+pub moved-apart : (xs ys : List Moved) → IsPermutation xs ys → AreApart HaveSameWay xs → AreApart HaveSameWay ys
+moved-apart = still-apart moved_order moved_total IsMovedBelow HaveSameWay moved-ranks moved-equal
+
+-- ---- points
+abbrev pub vertex_order : Vertex → Vertex → Ordering
+vertex_order u v = point_order u.point v.point
+
+pub vertex_total : IsTotalOrder vertex_order
+vertex_total = on_total (λ (v : Vertex). v.point) point_total
+
+pub vertices-in_order : (xs ys : List Vertex) → IsPermutation xs ys → AreApart AreAtOnePlace xs → IsSorted vertex_order ys → InOrder IsVertexBelow ys
+vertices-in_order = sorted-in_order vertex_order vertex_total IsVertexBelow AreAtOnePlace (λ u v. point-ordered u.point v.point)
+    (λ u v s. one-order (place_of u.point) (place_of v.point) (point_order u.point v.point) Equal (point-ordered u.point v.point) s)

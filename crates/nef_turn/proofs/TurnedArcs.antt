@@ -1,0 +1,54 @@
+-- Turned arcs, sorted.
+use Rattle.std.proofs.Common.{ℕ, List, map, length, arith, ap, ◌∙◌, subst}
+use Rattle.std.proofs.lemmas.List.{length-map}
+use Rattle.std.specs.List.Sorted.{IsPermutation}
+use Rattle.nef_geo.specs.Shapes.{vector_of}
+use Rattle.law_sphere.specs.Maps.{At, Svertex, Shaped}
+use Rattle.law_sphere.specs.Least.{InOrder}
+use Rattle.law_build.proofs.BuiltAxes.{at-map, map-at}
+use Rattle.nef_smap.specs.Maps.{svertex_of, arc_of, map_of}
+use Rattle.nef_smap.specs.declared.map.SArc.{SArc}
+use Rattle.nef_smap.specs.declared.map.SphereMap.{SphereMap}
+use Rattle.nef_smap.proofs.Lists.{at-within}
+use Rattle.nef_smap.proofs.Primitive.{dir-primitive}
+use Rattle.nef_spair.specs.Arcs.{IsArcBelow, AreApart}
+use Rattle.law_turns.specs.Maps.{turned_svertex}
+use Rattle.law_turns.proofs.Exists.{IsArcImage as IsPlainImage, one-arc}
+use Rattle.nef_turn.specs.Images.{AreImages}
+use Rattle.nef_turn.specs.Turning.{HaveEnds, IsArcImage, Renumbers, AreTurnedArcs, number_in}
+use Rattle.nef_turn.proofs.Images.{images-all}
+use Rattle.nef_turn.proofs.Sorting.{was-listed, still-listed}
+
+module _ (k : ℕ) (m : SphereMap) (V : Shaped (map_of m)) (ns : List ℕ) (R : Renumbers k m.svertices ns) where
+  pub ends-within : HaveEnds (length ns) m.arcs
+  ends-within i a l =
+      let b = V.arcs_between i (arc_of a) (map-at arc_of m.arcs i a l) in
+      let s = at-within (map svertex_of m.svertices) a.source b.source b.has_source in
+      let t = at-within (map svertex_of m.svertices) a.target b.target b.has_target in
+      let c = R.count in
+      let e = length-map m.svertices svertex_of in
+      (omega (arith, s, c, e), omega (arith, t, c, e))
+
+  has : (i : ℕ) (v : Svertex) → At (map svertex_of m.svertices) i v → At (map svertex_of R.svertices) (number_in ns i) (turned_svertex k v)
+  has i v a =
+      let (w, b, e) = at-map svertex_of m.svertices i v a in
+      let (u, c, q) = R.placed i w b in
+      subst (λ (r : Svertex). At (map svertex_of R.svertices) (number_in ns i) r) (q ∙ ap (turned_svertex k) e) (map-at svertex_of R.svertices (number_in ns i) u c)
+
+  plain : (a b : SArc) → IsArcImage k ns 0 a b → IsPlainImage k (number_in ns) (arc_of a) (arc_of b)
+  plain a b (flip, t, n) = (flip, t, n, dir-primitive b.normal)
+
+  module _ (xs : List SArc) (I : AreImages (IsArcImage k ns) (length m.arcs) m.arcs xs) where
+    pub arcs-apart : AreApart xs
+    arcs-apart i j x y a b t =
+        let (v, c, p) = I.each i x a in
+        let (w, d, q) = I.each j y b in
+        one-arc k (map_of m) V (map svertex_of R.svertices) (number_in ns) has i j (arc_of v) (arc_of w) (arc_of x) (arc_of y) (map-at arc_of m.arcs i v c) (map-at arc_of m.arcs j w d)
+        (plain v x p) (plain w y q) (ap vector_of t.0, t.1)
+
+    pub arcs-sorted : (ys : List SArc) → IsPermutation xs ys → InOrder IsArcBelow ys → AreTurnedArcs k ns m.arcs ys
+    arcs-sorted ys moved o = record {
+      each = λ j y a. let (i, b) = was-listed xs ys moved j y a in let (v, c, p) = I.each i y b in (i, v, c, p);
+      all = λ i v a. let (x, b, p) = images-all (IsArcImage k ns) m.arcs xs I i v a in let (j, c) = still-listed xs ys moved i x b in (j, x, c, p);
+      ordered = o;
+    }

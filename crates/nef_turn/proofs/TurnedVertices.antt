@@ -1,0 +1,58 @@
+-- Turned vertices, sorted, are those of the turned complex.
+use Rattle.std.proofs.Common.{ℕ, List, map, length, subst}
+use Rattle.std.specs.List.Sorted.{IsPermutation}
+use Rattle.nef_space.specs.Place.{SamePlace, IsPlaceBelow}
+use Rattle.nef_geo.specs.Shapes.{place_of}
+use Rattle.law_near.proofs.PlaceOrder.{place_below-apart}
+use Rattle.law_near.proofs.Rays.{same-place_sym}
+use Rattle.law_sphere.specs.Least.{InOrder, Ordered}
+use Rattle.law_build.proofs.BuiltAxes.{at-map, map-at, number-order}
+use Rattle.nef_smap.specs.Maps.{map_of}
+use Rattle.law_complex.specs.Complexes.{Vertex as PlainVertex}
+use Rattle.nef_complex.specs.Complexes.{vertex_of, AreSorted}
+use Rattle.nef_complex.specs.declared.complex.Vertex.{Vertex}
+use Rattle.nef_edges.proofs.Places.{at-some}
+use Rattle.law_turns.specs.Turned.{turned_place}
+use Rattle.law_turns.specs.Maps.{IsTurnedMap}
+use Rattle.law_turns.specs.Complexes.{AreTurnedVertices}
+use Rattle.law_turns.proofs.Places.{same_place-turned}
+use Rattle.law_turns.proofs.Complexes.{place-through}
+use Rattle.nef_turn.specs.Images.{AreImages, AreApart}
+use Rattle.nef_turn.specs.Turning.{IsVertexImage, IsVertexBelow, AreAtOnePlace}
+use Rattle.nef_turn.proofs.Images.{images-all}
+use Rattle.nef_turn.proofs.Sorting.{was-listed, still-listed}
+
+module _ (k : ℕ) (us vs : List Vertex) (I : AreImages (IsVertexImage k) (length us) us vs) where
+  pub vertices-apart : AreSorted us → AreApart AreAtOnePlace vs
+  vertices-apart S i j x y a b s =
+      let (u, c, (p, _, _)) = I.each i x a in
+      let (w, d, (q, _, _)) = I.each j y b in
+      let pu = place_of u.point in
+      let pw = place_of w.point in
+      let turned = place-through (turned_place k pu) (place_of x.point) (turned_place k pw) (same-place_sym (place_of x.point) (turned_place k pu) p) (place-through (place_of x.point) (place_of y.point) (turned_place k pw) s q) in
+      let same = (same_place-turned k pu pw).0 turned in
+      number-order i j (λ l. absurd (place_below-apart pu pw (S i j u w l (at-some us i u c) (at-some us j w d)) same)) (λ e. e)
+      (λ l. absurd (place_below-apart pw pu (S j i w u l (at-some us j w d) (at-some us i u c)) (same-place_sym pu pw same)))
+
+  pub vertices-turned : (ws : List Vertex) → IsPermutation vs ws → InOrder IsVertexBelow ws → AreTurnedVertices k (map vertex_of us) (map vertex_of ws)
+  vertices-turned ws moved o = record {
+    each = λ j v a.
+        let (y, b, e) = at-map vertex_of ws j v a in
+        let (i, c) = was-listed vs ws moved j y b in
+        let (u, d, (s, t, r)) = I.each i y c in
+        (i, vertex_of u, map-at vertex_of us i u d, subst (λ (z : PlainVertex). SamePlace z.point (turned_place k (place_of u.point))) e s, subst (λ (z : PlainVertex). IsTurnedMap k (map_of u.map) z.map) e t);
+    all = λ i v a.
+        let (u, b, e) = at-map vertex_of us i v a in
+        let (y, c, (s, t, r)) = images-all (IsVertexImage k) us vs I i u b in
+        let (j, d) = still-listed vs ws moved i y c in
+        (j, vertex_of y, map-at vertex_of ws j y d, subst (λ (z : PlainVertex). SamePlace (place_of y.point) (turned_place k z.point)) e s);
+    ordered = λ i j u v l a b.
+        let (x, c, e) = at-map vertex_of ws i u a in
+        let (y, d, f) = at-map vertex_of ws j v b in
+        subst (λ (z : PlainVertex). IsPlaceBelow z.point v.point) e (subst (λ (z : PlainVertex). IsPlaceBelow (place_of x.point) z.point) f (o i j x y l c d));
+    maps_ordered = λ j v a.
+        let (y, b, e) = at-map vertex_of ws j v a in
+        let (i, c) = was-listed vs ws moved j y b in
+        let (u, d, (s, t, r)) = I.each i y c in
+        subst (λ (z : PlainVertex). Ordered z.map) e r;
+  }

@@ -1,0 +1,97 @@
+-- What the steps of turning give: turned carriers, svertices, arcs and vertices.
+use Rattle.std.specs.Prelude.{◌≡◌, ℕ, ◌<◌, List, length, slice_index_or, Bool}
+use Rattle.nef_space.specs.Place.{SamePlace, IsPlaceBelow}
+use Rattle.nef_space.specs.Vectors.{IsNormal}
+use Rattle.nef_geo.specs.Shapes.{form_of, place_of, vector_of}
+use Rattle.nef_geo.specs.declared.plane.Plane.{Plane}
+use Rattle.law_sphere.specs.Vectors.{VectorBelow}
+use Rattle.law_sphere.specs.Maps.{At}
+use Rattle.law_sphere.specs.Least.{InOrder, Ordered}
+use Rattle.nef_smap.specs.Maps.{svertex_of, arc_of, loop_of, map_of, IsLeastMap}
+use Rattle.nef_smap.specs.declared.map.SVertex.{SVertex}
+use Rattle.nef_smap.specs.declared.map.SArc.{SArc}
+use Rattle.nef_smap.specs.declared.map.SLoop.{SLoop}
+use Rattle.nef_complex.specs.declared.complex.Vertex.{Vertex}
+use Rattle.nef_spair.specs.Arcs.{IsArcBelow}
+use Rattle.law_turns.specs.Turned.{turned_plane, turned_place}
+use Rattle.law_turns.specs.Complexes.{signed_form}
+use Rattle.law_turns.specs.Maps.{turned_svertex, IsTurnedArc, IsTurnedLoop, IsTurnedMap}
+use Rattle.nef_turn.specs.declared.moved.Moved.{Moved}
+
+-- ---- carriers
+abbrev pub IsTurnedCarrier : ℕ → ℕ → Plane → Plane → Type 0
+IsTurnedCarrier k j g h = (flip : Bool) × (form_of h ≡ signed_form flip (turned_plane k (form_of g)))
+
+-- ---- svertices
+-- the svertex with the old number j, turned
+abbrev pub IsMoved : ℕ → ℕ → SVertex → Moved → Type 0
+IsMoved k j v u = (u.old ≡ j) × (svertex_of u.svertex ≡ turned_svertex k (svertex_of v))
+
+abbrev pub IsMovedBelow : Moved → Moved → Type 0
+IsMovedBelow u w = VectorBelow (vector_of u.svertex.dir) (vector_of w.svertex.dir)
+
+abbrev pub HaveSameWay : Moved → Moved → Type 0
+HaveSameWay u w = u.svertex.dir ≡ w.svertex.dir
+
+abbrev pub HaveSameNumber : Moved → Moved → Type 0
+HaveSameNumber u w = u.old ≡ w.old
+
+-- us are the turned svertices vs, in order
+pub record AreMoved (k : ℕ) (vs : List SVertex) (us : List Moved) : Type 0 where
+  pub count : length us ≡ length vs
+  pub each : (j : ℕ) (u : Moved) → At us j u → (v : SVertex) × At vs u.old v × (svertex_of u.svertex ≡ turned_svertex k (svertex_of v))
+  pub all : (i : ℕ) (v : SVertex) → At vs i v → (j : ℕ) × (u : Moved) × At us j u × (u.old ≡ i)
+  pub apart : (i j : ℕ) (u w : Moved) → At us i u → At us j w → HaveSameNumber u w → i ≡ j
+  pub ordered : InOrder IsMovedBelow us
+
+abbrev pub AreWithin : List Moved → Type 0
+AreWithin us = (j : ℕ) (u : Moved) → At us j u → u.old < length us
+
+-- of each of the first n svertices the new number stands at the place with the old one
+abbrev pub AreNumbers : ℕ → List Moved → List ℕ → Type 0
+AreNumbers n us ns = (j : ℕ) (u : Moved) → j < n → At us j u → At ns u.old j
+
+abbrev pub IsOfMoved : ℕ → Moved → SVertex → Type 0
+IsOfMoved j u v = v ≡ u.svertex
+
+-- the number at the place
+abbrev pub number_in : List ℕ → ℕ → ℕ
+number_in ns i = slice_index_or ns i 0
+
+-- the numbers are those of the turned svertices in some list
+pub record Renumbers (k : ℕ) (vs : List SVertex) (ns : List ℕ) : Type 0 where
+  pub count : length ns ≡ length vs
+  pub svertices : List SVertex
+  pub placed : (i : ℕ) (v : SVertex) → At vs i v → (u : SVertex) × At svertices (number_in ns i) u × (svertex_of u ≡ turned_svertex k (svertex_of v))
+
+-- ---- arcs and sloops
+abbrev pub HasEnds : ℕ → SArc → Type 0
+HasEnds n a = (a.source < n) × (a.target < n)
+
+abbrev pub HaveEnds : ℕ → List SArc → Type 0
+HaveEnds n arcs = (i : ℕ) (a : SArc) → At arcs i a → HasEnds n a
+
+abbrev pub IsArcImage : ℕ → List ℕ → ℕ → SArc → SArc → Type 0
+IsArcImage k ns j a b = (flip : Bool) × IsTurnedArc k (number_in ns) flip (arc_of a) (arc_of b) × IsNormal (vector_of b.normal)
+
+-- the images are the turned arcs, in order
+pub record AreTurnedArcs (k : ℕ) (ns : List ℕ) (arcs images : List SArc) : Type 0 where
+  pub each : (j : ℕ) (b : SArc) → At images j b → (i : ℕ) × (a : SArc) × At arcs i a × IsArcImage k ns 0 a b
+  pub all : (i : ℕ) (a : SArc) → At arcs i a → (j : ℕ) × (b : SArc) × At images j b × IsArcImage k ns 0 a b
+  pub ordered : InOrder IsArcBelow images
+
+abbrev pub IsLoopImage : ℕ → SLoop → SLoop → Type 0
+IsLoopImage k l m = (flip : Bool) × IsTurnedLoop k flip (loop_of l) (loop_of m) × IsNormal (vector_of m.normal)
+
+-- ---- vertices
+abbrev pub IsVertexImage : ℕ → ℕ → Vertex → Vertex → Type 0
+IsVertexImage k j u v = SamePlace (place_of v.point) (turned_place k (place_of u.point)) × IsTurnedMap k (map_of u.map) (map_of v.map) × Ordered (map_of v.map)
+
+abbrev pub IsVertexBelow : Vertex → Vertex → Type 0
+IsVertexBelow u v = IsPlaceBelow (place_of u.point) (place_of v.point)
+
+abbrev pub AreAtOnePlace : Vertex → Vertex → Type 0
+AreAtOnePlace u v = SamePlace (place_of u.point) (place_of v.point)
+
+abbrev pub HaveLeastMaps : List Vertex → Type 0
+HaveLeastMaps vs = (j : ℕ) (v : Vertex) → At vs j v → IsLeastMap v.map
