@@ -11,9 +11,9 @@ use Rattle.law_complex.proofs.FacetNames.{facet-of}
 use Rattle.law_complex.proofs.FacetPoints.{facet-point}
 use Rattle.law_complex.proofs.FacetWays.{dim-same}
 use Rattle.law_complex.proofs.Skeletons.{free-flat}
-use Rattle.nef_conn.proofs.Counted.{corners-reached, sides-reached}
+use Rattle.nef_conn.proofs.Reaching.{corners-reached, sides-reached}
 use Rattle.nef_conn.proofs.OnEdges.{joined-as_flat, joined-vertices, joined-edges}
-use Rattle.nef_conn.proofs.RaysEnd.{facet-at}
+use Rattle.law_links.proofs.Down.{facet-at}
 use Rattle.nef_complex.specs.Complexes.{complex_of, ShowsSet}
 use Rattle.nef_complex.specs.declared.complex.Complex.{Complex}
 use Rattle.nef_parts.specs.Numbers.{IsParts}

@@ -1,4 +1,4 @@
-use Rattle.std.proofs.Common.{◌≡◌, ◌↔◌, IsTrue}
+use Rattle.std.proofs.Common.{rules, ◌≡◌, ◌↔◌, IsTrue}
 use Rattle.nef_geo.specs.Shapes.{place_of}
 use Rattle.nef_volumes.proofs.JoinedParts.{joined-parts}
 use Rattle.nef_volumes.proofs.connected.joined.Goals as goal
