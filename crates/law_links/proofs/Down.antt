@@ -39,7 +39,7 @@ use Rattle.law_links.proofs.SidePoints.{at-side}
 use Rattle.law_links.proofs.SideLinks.{JoinsSides, PointTied, above-point}
 
 module _ (s : Set) (C : Complex) (S : Shows s C) where
-  facet-at : FacetAt s C
+  pub facet-at : FacetAt s C
   facet-at k v x y c F = let p = facet-point s C S k v x y c F in (p.dim, p.flat, p.label, p.sided)
 
   -- ---- a way without skeleton points ties the points close to both its ends

@@ -1,49 +1,19 @@
--- Points in facets and volumes are joined to points at items and sides; and components are counted by points of each class.
-use Rattle.std.proofs.Common.{◌≡◌, ℕ, zero, suc, ◌<◌, arith, refl, ap, inl, inr, List, [], ◌∷◌, length, subst}
+-- Components are counted by a point of each class.
+use Rattle.std.proofs.Common.{◌≡◌, ℕ, zero, suc, ◌<◌, arith, refl, ap, List, [], ◌∷◌, length, subst}
 use Rattle.nef_space.specs.Local.{FlatDim, Joined}
 use Rattle.nef_space.specs.Place.{Place, toward}
 use Rattle.nef_space.specs.Sets.{Set}
-use Rattle.nef_space.specs.Vectors.{opposite, up}
-use Rattle.law_near.proofs.Between.{between-turned}
-use Rattle.law_near.proofs.Decisions.{ahead}
 use Rattle.law_near.proofs.Even.{joined-itself, joined-both}
-use Rattle.law_near.proofs.Rays.{same-place_sym}
 use Rattle.law_forms.proofs.Directions.{direction-left}
 use Rattle.law_sphere.specs.Maps.{At}
 use Rattle.law_complex.specs.Skeleton.{IsVertexPoint, IsEdgePoint}
 use Rattle.law_complex.proofs.Edges.{near_point, near-between, edge-points}
-use Rattle.law_complex.proofs.FacetEdges.{ahead-back}
-use Rattle.law_complex.proofs.FacetNames.{facet-of}
 use Rattle.law_complex.proofs.FacetWays.{dim-same}
 use Rattle.law_complex.proofs.Joining.{edges-complete}
-use Rattle.law_complex.proofs.Skeletons.{free-flat}
 use Rattle.law_complex.proofs.Ways.{same-itself}
-use Rattle.law_links.specs.Components.{IsEvenAfter}
-use Rattle.law_links.proofs.Across.{corner-across}
-use Rattle.law_links.proofs.Down.{above-tied}
-use Rattle.law_links.proofs.ItemPoints.{at-item}
-use Rattle.law_links.proofs.Ties.{tied-both, tied-ray}
-use Rattle.nef_conn.specs.Components.{CornersReached, SidesReached, HasComponents, VerticesCounted, EdgesCounted}
+use Rattle.nef_conn.specs.Components.{HasComponents, VerticesCounted, EdgesCounted}
 use Rattle.nef_conn.proofs.OnEdges.{joined-vertices, joined-edges}
-use Rattle.nef_conn.proofs.RaysEnd.{facet-at}
 use Rattle.nef_conn.proofs.Reached.{within}
-
--- ---- facets and volumes
-pub corners-reached : CornersReached
-corners-reached s C p k S H =
-    let A = corner-across s C S p k H in
-    (ahead s A.vertex.point A.way, at-item s C S k A.vertex A.item A.corner A.way A.on, A.tied.0)
-
-pub sides-reached : SidesReached
-sides-reached s C p x S u (off, R) =
-    let z = R.place in
-    let P = above-tied s C S u x R.label R.has z R.spot R.is_spot R.above in
-    let t = tied-ray s 3 z p up (ahead-back p z (opposite up) R.ahead) even in
-    (P.0, P.1, (tied-both s p (ahead s z up) P.0 t P.2).0)
-  where
-    even : IsEvenAfter s 3 R.place p
-    even r (inl b) = free-flat s C S (facet-at s C S) (facet-of s C S) r (R.first r (between-turned R.place p r b))
-    even r (inr e) = dim-same s p r 3 (same-place_sym r p e) (free-flat s C S (facet-at s C S) (facet-of s C S) p off)
 
 -- ---- a list with a point for each number
 record Chosen (n : ℕ) (P : ℕ → Place → Type 0) : Type 0 where
@@ -84,7 +54,7 @@ components-by s k n P some flat one reach =
       },
     )
 
-at-some : {A : Type 0} (xs : List A) (k : ℕ) → k < length xs → (x : A) × At xs k x
+pub at-some : {A : Type 0} (xs : List A) (k : ℕ) → k < length xs → (x : A) × At xs k x
 at-some [] k l = absurd (omega arith)
 at-some (x ∷ xs) zero l = (x, refl)
 at-some (x ∷ xs) (suc k) l = at-some xs k (omega arith)

@@ -1,14 +1,12 @@
--- Points of one vertex and of one edge are joined just with one another, and those of a facet and of a volume reach its items and its sides; what it is that points have so many components.
+-- Points of one vertex and of one edge are joined just with one another; what it is that points have so many components.
 use Rattle.std.specs.Prelude.{◌≡◌, ℕ, List, length, ◌↔◌}
 use Rattle.nef_space.specs.Local.{FlatDim, Joined}
 use Rattle.nef_space.specs.Place.{Place}
 use Rattle.nef_space.specs.Sets.{Set}
 use Rattle.law_sphere.specs.Maps.{At}
-use Rattle.law_complex.specs.Complexes.{Complex, Corner}
+use Rattle.law_complex.specs.Complexes.{Complex}
 use Rattle.law_complex.specs.Shows.{Shows}
-use Rattle.law_complex.specs.Skeleton.{IsVertexPoint, IsEdgePoint, HasCorner}
-use Rattle.law_complex.specs.Rays.{VertexSide, HasVolumeSide}
-use Rattle.law_links.specs.Components.{IsAtItem, IsAtSide, IsUpright}
+use Rattle.law_complex.specs.Skeleton.{IsVertexPoint, IsEdgePoint}
 
 -- joined points have equally many flat directions
 abbrev pub JoinedAreAsFlat : Type 0
@@ -22,14 +20,6 @@ JoinedVertices = (s : Set) (C : Complex) (i j : ℕ) (p q : Place) → Shows s C
 abbrev pub JoinedEdges : Type 0
 JoinedEdges = (s : Set) (C : Complex) (i j : ℕ) (p q : Place) → Shows s C → IsEdgePoint C i p → IsEdgePoint C j q → Joined s p q ↔ (i ≡ j)
 
--- a point in a facet is joined to a point at the item of its corner
-abbrev pub CornersReached : Type 0
-CornersReached = (s : Set) (C : Complex) (p : Place) (k : Corner) → Shows s C → HasCorner C p k → (q : Place) × IsAtItem s C k q × Joined s p q
-
--- a point in a volume is joined to a point at the side that it has, where up is above each item
-abbrev pub SidesReached : Type 0
-SidesReached = (s : Set) (C : Complex) (p : Place) (x : VertexSide) → Shows s C → IsUpright C → HasVolumeSide C p x → (q : Place) × IsAtSide s C x q × Joined s p q
-
 -- the points of the list have k flat directions, no two of them are joined, and each point with k flat directions is joined to one of them
 pub record AreComponents (s : Set) (k : ℕ) (ps : List Place) : Type 0 where
   pub flat : (i : ℕ) (p : Place) → At ps i p → FlatDim s p k
@@ -39,6 +29,10 @@ pub record AreComponents (s : Set) (k : ℕ) (ps : List Place) : Type 0 where
 -- the points with k flat directions have n components
 abbrev pub HasComponents : Set → ℕ → ℕ → Type 0
 HasComponents s k n = (ps : List Place) × (length ps ≡ n) × AreComponents s k ps
+
+-- there is just one such number
+abbrev pub OneCount : Type 0
+OneCount = (s : Set) (k m n : ℕ) → HasComponents s k m → HasComponents s k n → m ≡ n
 
 -- vertices and edges are the components of the points with no flat direction and with one
 abbrev pub VerticesCounted : Type 0

@@ -11,7 +11,7 @@ use Rattle.law_complex.specs.Shows.{Shows}
 use Rattle.law_complex.specs.Rays.{VertexSide, HasSideLabel, RayDown}
 use Rattle.law_links.specs.Links.{VolumeLink}
 use Rattle.law_links.specs.Components.{IsAtSide, IsUpright}
-use Rattle.nef_conn.specs.Converse.{AreLinkedWhereJoined}
+use Rattle.nef_conn.specs.Items.{AreLinkedWhereJoined}
 
 -- sides whose points are joined are of one class of links, where up is above each item
 abbrev pub JoinedSidesAreLinked : Type 0

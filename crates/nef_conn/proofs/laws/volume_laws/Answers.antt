@@ -1,6 +1,6 @@
-use Rattle.nef_conn.proofs.laws.sides_laws.Goals as goal
+use Rattle.nef_conn.proofs.laws.volume_laws.Goals as goal
 use Rattle.nef_conn.proofs.Steps.{joined-items_linked}
-use Rattle.nef_conn.proofs.Converse.{converse-by_segments}
+use Rattle.nef_conn.proofs.SidePaths.{converse-by_segments}
 use Rattle.nef_conn.proofs.RaysEnd.{rays-end}
 use Rattle.nef_conn.proofs.SidesName.{converse-by_items, converse-for_all}
 

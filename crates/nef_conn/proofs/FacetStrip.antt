@@ -4,7 +4,7 @@ use Rattle.std.proofs.lemmas.Int.{ints}
 use Rattle.law_arithmetic.specs.Signs.{sign}
 use Rattle.law_arithmetic.proofs.Ring.{ring, at, num, ◌⊕◌, ◌⊖◌, ◌⊗◌, Poly}
 use Rattle.law_arithmetic.proofs.Order.{mul_pos, mul_nonneg, cancel_lt, cancel_le, by_order, sign-scaled, nought-is}
-use Rattle.nef_space.specs.Local.{FlatDim}
+use Rattle.nef_space.specs.Local.{Flat, FlatDim, IsVertex}
 use Rattle.nef_space.specs.Place.{Place, Form, form_at, normal_of, slope, plane_through, SamePlace, toward, IsBetween}
 use Rattle.nef_space.specs.Sets.{Set}
 use Rattle.nef_space.specs.Vectors.{Vector, opposite, dot, cross, triple, IsZero, IsDirection, IsNormal, SameDirection}
@@ -13,7 +13,7 @@ use Rattle.law_near.proofs.Between.{between-turned}
 use Rattle.law_near.proofs.Rays.{signs-same, same-place_sym}
 use Rattle.law_near.proofs.FlatDecided.{triple-dot}
 use Rattle.law_forms.proofs.Near.{slope-toward}
-use Rattle.law_forms.proofs.Between.{toward-place, place-toward}
+use Rattle.law_forms.proofs.Between.{toward-place, place-toward, between-same}
 use Rattle.law_forms.proofs.Directions.{zero-decided, dot-zero, direction-right}
 use Rattle.law_cyclic.proofs.Directions.{level-opposite-back}
 use Rattle.law_sphere.specs.Maps.{At}
@@ -30,7 +30,7 @@ use Rattle.law_complex.specs.Laws.{IsFlatIn}
 use Rattle.law_complex.proofs.Ways.{same-itself}
 use Rattle.law_complex.proofs.FacetWays.{dim-same}
 use Rattle.law_complex.proofs.Planes.{plane-way}
-use Rattle.law_complex.proofs.FacetAngles.{same-by, aligned, through-at, through-slope, angle, turn_form, turn-at, angle-turned, angle-self, angle-inside, between-plus, between-minus}
+use Rattle.law_complex.proofs.FacetAngles.{same-by, aligned, through-at, through-slope, angle, turn_form, turn-at, angle-turned, angle-self, angle-start, angle-inside, between-plus, between-minus}
 use Rattle.law_complex.proofs.FacetTriangle.{HalfEdge, plane-between, below-or}
 use Rattle.law_near.proofs.Flats.{vector-same}
 use Rattle.law_complex.proofs.FacetNames.{weight}
@@ -39,8 +39,15 @@ use Rattle.nef_conn.proofs.Onward.{level-kept}
 use Rattle.nef_conn.proofs.WayInward.{opposite-same}
 use Rattle.nef_conn.proofs.Named.{twice}
 use Rattle.nef_conn.proofs.Sweep.{minus-any, cut-of}
-use Rattle.nef_conn.proofs.Triangles.{SideWithin, third-side, at-corner, on-second}
+use Rattle.nef_conn.specs.Items.{IsInTriangle, LiesAlong}
+use Rattle.nef_conn.proofs.OneNamed.{place-trans}
+use Rattle.nef_conn.proofs.Triangles.{half-to, never-along, third-side, at-corner, on-second}
 use Rattle.nef_conn.proofs.Sector.{Seen, seen-level}
+
+-- from a to c, both left out, the points lie within a facet, a itself being on no edge, or on an edge: on that of a, or a is on none
+abbrev pub SideWithin : Set → Place → Place → Type 0
+SideWithin s a c = (((FlatDim s a 1 → ⊥) × ((r : Place) → IsBetween a r c → FlatDim s r 2)) ⊎ (FlatDim s a 1 × Flat s a (toward a c) × ((r : Place) → IsBetween a r c → FlatDim s r 1)))
+    ⊎ ((FlatDim s a 1 → ⊥) × ((r : Place) → IsBetween a r c → FlatDim s r 1 × Flat s r (toward a c)))
 
 -- ---- forms with one normal
 -- on its plane, a form has the sign of the slope from there
@@ -79,6 +86,17 @@ level-same_place F p q e z = nought-is (form_at F q) (sym (signs-same (F ∷ [])
 
 plus-same_place : (F : Form) (p q : Place) → SamePlace p q → pos 0 <ℤ form_at F p → pos 0 <ℤ form_at F q
 plus-same_place F p q e h = same-plus (form_at F p) (form_at F q) (sym (signs-same (F ∷ []) p q e F (inl refl))) h
+
+no-minus : (F : Form) (p q : Place) → SamePlace p q → pos 0 ≤ℤ form_at F p → pos 0 ≤ℤ form_at F q
+no-minus F p q e h = by_order (form_at F p) (pos 0) (λ l. omega (arith, ints)) (λ z. let w = level-same_place F p q e z in omega (arith, ints)) (λ l. let w = plus-same_place F p q e l in omega (arith, ints))
+
+no-plus : (F : Form) (p q : Place) → SamePlace p q → form_at F p ≤ℤ pos 0 → form_at F q ≤ℤ pos 0
+no-plus F p q e h = by_order (form_at F q) (pos 0) (λ l. omega (arith, ints)) (λ z. omega (arith, ints)) (λ l. let w = plus-same_place F q p (same-place_sym p q e) l in omega (arith, ints))
+
+-- an edge that ends at an equal point
+half-same : (s : Set) (t x y : Place) → SamePlace x y → HalfEdge s t x → HalfEdge s t y
+half-same s t x y e E = half-to s t y (λ z. E.leads (place-toward t x (place-trans t y x (toward-place t y z) (same-place_sym x y e)))) E.one
+    (λ r m. E.all r (between-same t r y t r x (same-itself t) (same-itself r) (same-place_sym x y e) m))
 
 -- ---- in plain numbers, so that no tactic sees what a triple is made of
 first-plain : (ac vd av cd ad cv : ℤ) → ac *ℤ vd ≡ av *ℤ cd -ℤ ad *ℤ cv → pos 0 <ℤ ac → pos 0 ≤ℤ av → pos 0 ≤ℤ cd → pos 0 <ℤ ad → cv ≤ℤ pos 0 → pos 0 ≤ℤ vd
@@ -246,11 +264,6 @@ module _ (s : Set) (C : Complex) (S : Shows s C) (h g : Form) (d : Vector) (y z 
   -- ---- the third side of a triangle with one side from y's line to z
   module _ (a c : Place) (on-a : form_at h a ≡ pos 0) (on-c : form_at h c ≡ pos 0) (start : form_at Near_line a ≡ pos 0) (near-c : pos 0 ≤ℤ form_at Near_line c) (far-c : form_at Far_line c ≤ℤ pos 0) (turn : pos 0 <ℤ angle m a z c)
       (first : (r : Place) → IsBetween a r z → FlatDim s r 2) (second : SideWithin s a c) (corner : (i : ℕ) (v : Vertex) (t : Place) → At C.vertices i v → SamePlace a v.point → IsBetween z t c → HalfEdge s t v.point → ⊥) where
-    third-of : ((r : Place) → IsBetween z r c → (i : ℕ) → IsVertexPoint C i r → ⊥)
-        → ((i : ℕ) (v : Vertex) (t : Place) → At C.vertices i v → form_at g v.point ≡ pos 0 → pos 0 ≤ℤ form_at (turn_form m a z) v.point → form_at (turn_form m a c) v.point ≤ℤ pos 0 → pos 0 <ℤ form_at (turn_form m z c) v.point → IsBetween z t c → HalfEdge s t v.point → ⊥)
-        → (r : Place) → IsBetween z r c → FlatDim s r 2
-    third-of none ends = third-side s C S g m-some a z c (T.too a on-a) (T.too z T.on_z) (T.too c on-c) turn first second flat-g none ends
-
     none-between : (r : Place) → IsBetween z r c → (i : ℕ) → IsVertexPoint C i r → ⊥
     none-between r b i (v, at-i, e) =
         let back = same-place_sym v.point r e in
@@ -263,8 +276,8 @@ module _ (s : Set) (C : Complex) (S : Shows s C) (h g : Form) (d : Vector) (y z 
         (λ l. omega (arith, ints))
 
     -- a vertex of the triangle is its corner on y's line
-    module _ (i : ℕ) (v : Vertex) (t : Place) (at-i : At C.vertices i v) (on-g : form_at g v.point ≡ pos 0) (P : pos 0 ≤ℤ form_at (turn_form m a z) v.point) (R : form_at (turn_form m a c) v.point ≤ℤ pos 0) (G : pos 0 <ℤ form_at (turn_form m z c) v.point)
-        (amid : IsBetween z t c) (E : HalfEdge s t v.point) where
+    module _ (i : ℕ) (v : Vertex) (at-i : At C.vertices i v) (on-g : form_at g v.point ≡ pos 0) (P : pos 0 ≤ℤ form_at (turn_form m a z) v.point) (R : form_at (turn_form m a c) v.point ≤ℤ pos 0) (G : pos 0 <ℤ form_at (turn_form m z c) v.point)
+        (apart : SamePlace a v.point → ⊥) where
       abbrev p : Place
       p = v.point
 
@@ -338,11 +351,40 @@ module _ (s : Set) (C : Complex) (S : Shows s C) (h g : Form) (d : Vector) (y z 
 
       ends-not : ⊥
       ends-not = by_order (form_at (turn_form m a z) p) (pos 0) (λ l. omega (arith, ints))
-          (λ e. corner i v t at-i (at-corner s C S g m-some a z c (T.too a on-a) (T.too z T.on_z) (T.too c on-c) turn p on-g e on-second_line) amid E)
-          (λ l. not-amid (on-second s C S g m-some a z c (T.too a on-a) (T.too z T.on_z) (T.too c on-c) turn p on-g on-second_line l G))
+          (λ e. apart (at-corner s g m-some a z c (T.too a on-a) (T.too z T.on_z) (T.too c on-c) turn p on-g e on-second_line))
+          (λ l. not-amid (on-second s g m-some a z c (T.too a on-a) (T.too z T.on_z) (T.too c on-c) turn p on-g on-second_line l G))
+
+    -- an edge from the third side that comes to a vertex doesn't pass a, nor end there
+    passes : (t x : Place) → IsBetween z t c → IsVertex s x → HalfEdge s t x → IsBetween t a x ⊎ SamePlace a x → ⊥
+    passes t x amid vertex E (inl d) = by second
+      where
+        by : SideWithin s a c → ⊥
+        by (inl (inl w)) = w.0 (E.all a d)
+        by (inl (inr w)) = never-along s g m-some a z c (T.too a on-a) (T.too z T.on_z) (T.too c on-c) turn t x a amid E d (turn-at m a c a ∙ angle-start m a c) w.1
+        by (inr w) = w.0 (E.all a d)
+    passes t x amid vertex E (inr o) =
+        let (i, v, at-i, e) = S.complete x vertex in
+        corner i v t at-i (place-trans a x v.point o (same-place_sym v.point x e)) amid (half-same s t x v.point (same-place_sym v.point x e) E)
+
+    none : (r : Place) → IsVertex s r → form_at g r ≡ pos 0 → IsInTriangle (normal_of g) a z c r → (SamePlace a r → ⊥) → ⊥
+    none r vertex on (p, q, o) apart =
+        let (i, v, at-i, e) = S.complete r vertex in
+        let back = same-place_sym v.point r e in
+        ⊎_elim
+        (λ l. ends-not i v at-i (level-same_place g r v.point back on)
+        (no-minus (turn_form m a z) r v.point back (subst (λ x. pos 0 ≤ℤ x) (sym (turn-at m a z r)) p))
+        (no-plus (turn_form m a c) r v.point back (subst (λ x. x ≤ℤ pos 0) (sym (turn-at m a c r)) q))
+        (plus-same_place (turn_form m z c) r v.point back (subst (λ x. pos 0 <ℤ x) (sym (turn-at m z c r)) l))
+        (λ z. apart (place-trans a v.point r z e)))
+        (λ d. none-between r d i (v, at-i, e)) o
+
+    along-second : SideWithin s a c → LiesAlong s a c
+    along-second (inl (inl w)) = inl w.1
+    along-second (inl (inr w)) = inr w.2
+    along-second (inr w) = inr (λ r d. (w.1 r d).0)
 
     pub fan : (r : Place) → IsBetween z r c → FlatDim s r 2
-    fan = third-of none-between ends-not
+    fan = third-side s g m-some a z c (T.too a on-a) (T.too z T.on_z) (T.too c on-c) turn first (along-second second) flat-g passes none
 
   -- ---- an edge that leads from y's line to z's line, at z or behind it, would cross the way to z
   module _ (p b x : Place) (on-p : form_at h p ≡ pos 0) (on-b : form_at h b ≡ pos 0) (on-x : form_at h x ≡ pos 0) (near-p : form_at Near_line p ≡ pos 0) (near-b : form_at Near_line b ≡ pos 0) (upward : SameDirection (toward b p) d) (far-x : form_at Far_line x ≡ pos 0)

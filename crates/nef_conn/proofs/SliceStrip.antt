@@ -21,8 +21,8 @@ use Rattle.law_sphere.proofs.Turning.{turns}
 use Rattle.law_sphere.proofs.Vectors.{same-plus, same-minus}
 use Rattle.law_complex.specs.Laws.{IsFlatIn}
 use Rattle.law_complex.proofs.FacetAngles.{through-at, angle, turn-at, angle-turned, angle-inside, between-plus}
-use Rattle.nef_conn.specs.Converse.{IsInTriangle}
-use Rattle.nef_conn.proofs.Planar.{Lies-along, on-second, at-corner, third-side}
+use Rattle.nef_conn.specs.Items.{IsInTriangle, LiesAlong}
+use Rattle.nef_conn.proofs.Triangles.{on-second, at-corner, never-passes, third-side}
 
 -- ---- signs of products
 nonneg-by : (t u : ℤ) → pos 0 <ℤ t → pos 0 ≤ℤ (t *ℤ u) → pos 0 ≤ℤ u
@@ -131,7 +131,7 @@ module _ (t : Set) (h : Form) (hn : IsDirection (normal_of h)) (level : slope h 
 
   -- ---- a triangle with one side on the line of its start
   module _ (y b c : Place) (on-y : form_at h y ≡ pos 0) (on-b : form_at h b ≡ pos 0) (on-c : form_at h c ≡ pos 0) (down : SameDirection (toward y c) (opposite up)) (side : pos 0 <ℤ lam n y b) (clear : Clear y b)
-      (first : (r : Place) → IsBetween y r b → FlatDim t r 2) (second : Lies-along t y c) (F : IsFlatIn t h b)
+      (first : (r : Place) → IsBetween y r b → FlatDim t r 2) (second : LiesAlong t y c) (F : IsFlatIn t h b)
       (corner : (x : Place) → IsBetween b x c → ((r : Place) → IsBetween x r y → FlatDim t r 1) → ⊥) where
     turn : pos 0 <ℤ angle n y b c
     turn = same-plus (lam n y b) (angle n y b c) (down-turn n (toward y b) (toward y c) down) side
@@ -202,11 +202,11 @@ module _ (t : Set) (h : Form) (hn : IsDirection (normal_of h)) (level : slope h 
                 ∙ ring (c ∷ ry ∷ y ∷ rc ∷ []) (neg (at 0 ⊗ at 1 ⊖ at 2 ⊗ at 3)) (neg (at 0) ⊗ at 1 ⊖ neg (at 2) ⊗ at 3) tt
 
     pub along-start : (r : Place) → IsBetween b r c → FlatDim t r 2
-    along-start = third-side t h hn y b c on-y on-b on-c turn first second F corner none
+    along-start = third-side t h hn y b c on-y on-b on-c turn first second F (never-passes t y b c corner) none
 
   -- ---- a triangle with one side on the line of its end
   module _ (y b c : Place) (on-y : form_at h y ≡ pos 0) (on-b : form_at h b ≡ pos 0) (on-c : form_at h c ≡ pos 0) (down : SameDirection (toward b c) (opposite up)) (side : pos 0 <ℤ lam n y b) (clear : Clear y b)
-      (first : (r : Place) → IsBetween y r b → FlatDim t r 2) (second : Lies-along t y c) (F : IsFlatIn t h b)
+      (first : (r : Place) → IsBetween y r b → FlatDim t r 2) (second : LiesAlong t y c) (F : IsFlatIn t h b)
       (corner : (x : Place) → IsBetween b x c → ((r : Place) → IsBetween x r y → FlatDim t r 1) → ⊥) where
     at-b : pos 0 <ℤ angle n b c y
     at-b =
@@ -265,7 +265,7 @@ module _ (t : Set) (h : Form) (hn : IsDirection (normal_of h)) (level : slope h 
             omega (arith, ints)
 
     pub along-end : (r : Place) → IsBetween b r c → FlatDim t r 2
-    along-end = third-side t h hn y b c on-y on-b on-c end-turn first second F corner none-end
+    along-end = third-side t h hn y b c on-y on-b on-c end-turn first second F (never-passes t y b c corner) none-end
 
   -- ---- a triangle with its start at b, and one point on the line of y
   module _ (b q y : Place) (on-b : form_at h b ≡ pos 0) (on-q : form_at h q ≡ pos 0) (on-y : form_at h y ≡ pos 0) (tri-turn : pos 0 <ℤ angle n b q y) (side-b : pos 0 <ℤ lam n y b) (side-q : pos 0 <ℤ lam n y q) (before-b : pos 0 <ℤ lam n q b) (clear : Clear y b)
@@ -325,4 +325,4 @@ module _ (t : Set) (h : Form) (hn : IsDirection (normal_of h)) (level : slope h 
                 ∙ ring (c ∷ ry ∷ y ∷ rc ∷ []) (neg (at 0 ⊗ at 1 ⊖ at 2 ⊗ at 3)) (neg (at 0) ⊗ at 1 ⊖ neg (at 2) ⊗ at 3) tt
 
     pub along-back : (r : Place) → IsBetween q r y → FlatDim t r 2
-    along-back = third-side t h hn b q y on-b on-q on-y tri-turn first (inl second) F corner none-back
+    along-back = third-side t h hn b q y on-b on-q on-y tri-turn first (inl second) F (never-passes t b q y corner) none-back

@@ -26,11 +26,12 @@ use Rattle.law_complex.proofs.FacetNames.{weight, normal-scaled}
 use Rattle.law_complex.proofs.FacetEnds.{facet-behind}
 use Rattle.law_links.specs.Links.{FacetLink}
 use Rattle.law_links.proofs.Across.{through-same}
-use Rattle.nef_conn.specs.Converse.{way_inward, NamesFor, NamesOfSegments, ConverseBySegments}
-use Rattle.nef_conn.proofs.Onward.{level-kept, level-back}
+use Rattle.nef_conn.specs.Items.{way_inward, NamesFor, NamesOfSegments, ConverseBySegments}
+use Rattle.law_cyclic.proofs.Directions.{level-of_opposite}
+use Rattle.nef_conn.proofs.Onward.{level-kept}
 use Rattle.nef_conn.proofs.WayInward.{opposite-same, names-same, dir-level, dir-same}
 use Rattle.nef_conn.proofs.Reached.{items-name}
-use Rattle.nef_conn.proofs.SameRay.{chain-both, chain-back}
+use Rattle.nef_conn.proofs.Chain.{chain-both, chain-back}
 
 -- ---- an even segment from a point of a facet stays in its plane
 module _ (s : Set) (h : Form) (r t : Place) (on : form_at h r ≡ pos 0) (F : IsFlatIn s h r) (even : IsEven s 2 r t) where
@@ -65,7 +66,7 @@ module _ (s : Set) (C : Complex) (S : Shows s C) (names : NamesOfSegments s C) (
       let m = facet-behind s C S h t N on-t d some level G in
       let c = m.2.0 in
       let named : RayNames C h t d c = (m.0, m.1, m.2.1) in
-      chain-both C k c l (names h d r t k c N on F inward even a named) (walk rs t q c l on-t G named path b)
+      chain-both (FacetLink C) k c l (names h d r t k c N on F inward even a named) (walk rs t q c l on-t G named path b)
 
 module _ (s : Set) (C : Complex) (S : Shows s C) (names : NamesOfSegments s C) (j i : Corner) (v w : Vertex) (x y : Item) (K : IsCorner C j v x) (L : IsCorner C i w y) (p q : Place) (k l : Corner)
     (A : NamesFor s C j v x p k) (B : NamesFor s C i w y q l) (J : Joined s p q) where
@@ -115,7 +116,7 @@ module _ (s : Set) (C : Complex) (S : Shows s C) (names : NamesOfSegments s C) (
   inward = opposite-same (plane_dir (normal_of h)) (plane_dir (item_normal x)) (dir-same (normal_of h) (item_normal x) (SameDirection-turned (item_normal x) (normal_of h) to-h))
 
   level : slope h (way_inward x) ≡ pos 0
-  level = level-kept (item_normal x) (normal_of h) (way_inward x) to-h (level-back (item_normal x) (plane_dir (item_normal x)) (dir-level (item_normal x)))
+  level = level-kept (item_normal x) (normal_of h) (way_inward x) to-h (level-of_opposite (item_normal x) (plane_dir (item_normal x)) (dir-level (item_normal x)))
 
   pub joined-names : Chained (FacetLink C) k l
   joined-names = walk s C S names h h-normal (way_inward x) inward (direction-right (opposite (plane_dir (normal_of h))) (way_inward x) inward) level J.1 p q k l A.on_plane A.flat A.named path named-q
@@ -131,4 +132,4 @@ converse-by_segments s C S names j i p q a b t =
     let l = B.1 in
     let way = joined-both s y p z (joined-turned s p y (A.2.joined p a)) (joined-both s p q z t (B.2.joined q b)) in
     let one = joined-names s C S names j i a.vertex b.vertex a.item b.item a.corner b.corner y z k l A.2 B.2 way in
-    chain-both C j k i A.3 (chain-both C k l i one (chain-back C i l B.3))
+    chain-both (FacetLink C) j k i A.3 (chain-both (FacetLink C) k l i one (chain-back (FacetLink C) i l B.3))

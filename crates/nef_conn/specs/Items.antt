@@ -2,8 +2,8 @@
 use Rattle.std.specs.Prelude.{◌≡◌, ℕ, pos, ◌<ℤ◌, ◌≤ℤ◌, ◌⊎◌, ◌↔◌}
 use Rattle.law_arithmetic.specs.Signs.{sign}
 use Rattle.nef_space.specs.Lists.{Chained}
-use Rattle.nef_space.specs.Local.{Flat, FlatDim, IsEven, Joined}
-use Rattle.nef_space.specs.Place.{Place, Form, form_at, normal_of, plane_through, toward, IsBetween}
+use Rattle.nef_space.specs.Local.{FlatDim, IsVertex, IsEven, Joined}
+use Rattle.nef_space.specs.Place.{Place, Form, form_at, normal_of, plane_through, toward, SamePlace, IsBetween}
 use Rattle.nef_space.specs.Sets.{Set}
 use Rattle.nef_space.specs.Vectors.{Vector, opposite, cross, triple, IsNormal, SameDirection, plane_dir}
 use Rattle.law_sphere.specs.Maps.{At, Arc, arc_item, Item, item_normal}
@@ -83,12 +83,13 @@ ConverseBySteps = (s : Set) (C : Complex) → Shows s C → NamesOfSteps s C →
 abbrev pub IsInTriangle : Vector → Place → Place → Place → Place → Type 0
 IsInTriangle n a b c r = (pos 0 ≤ℤ triple n (toward a b) (toward a r)) × (triple n (toward a c) (toward a r) ≤ℤ pos 0) × ((pos 0 <ℤ triple n (toward b c) (toward b r)) ⊎ IsBetween b r c)
 
--- from a, itself counted, to c, left out, the points lie on one edge, or, a itself being on no edge, within a facet
-abbrev pub LiesWithin : Set → Place → Place → Type 0
-LiesWithin s a c = ((FlatDim s a 1 → ⊥) × ((r : Place) → IsBetween a r c → FlatDim s r 2)) ⊎ (FlatDim s a 1 × Flat s a (toward a c) × ((r : Place) → IsBetween a r c → FlatDim s r 1))
+-- from a to c, both left out, the points lie within a facet, or on an edge
+abbrev pub LiesAlong : Set → Place → Place → Type 0
+LiesAlong s a c = ((r : Place) → IsBetween a r c → FlatDim s r 2) ⊎ ((r : Place) → IsBetween a r c → FlatDim s r 1)
 
--- where one side of a triangle lies within a facet, and one within it or on an edge, and no vertex of its plane in it, the third side lies within the facet
+-- where one side of a triangle lies within a facet, and one within it or on an edge, no edge leads from the third side to the corner between both, and no other vertex lies in the triangle, the third side lies within the facet
 abbrev pub ThirdSides : Type 0
-ThirdSides = (s : Set) (C : Complex) (h : Form) (a b c : Place) → Shows s C → IsNormal (normal_of h) → form_at h a ≡ pos 0 → form_at h b ≡ pos 0 → form_at h c ≡ pos 0
-    → pos 0 <ℤ triple (normal_of h) (toward a b) (toward a c) → IsFlatIn s h b → ((r : Place) → IsBetween a r b → FlatDim s r 2) → LiesWithin s a c
-    → ((k : ℕ) (v : Vertex) → At C.vertices k v → form_at h v.point ≡ pos 0 → IsInTriangle (normal_of h) a b c v.point → ⊥) → (r : Place) → IsBetween b r c → FlatDim s r 2
+ThirdSides = (s : Set) (h : Form) (a b c : Place) → IsNormal (normal_of h) → form_at h a ≡ pos 0 → form_at h b ≡ pos 0 → form_at h c ≡ pos 0
+    → pos 0 <ℤ triple (normal_of h) (toward a b) (toward a c) → IsFlatIn s h b → ((r : Place) → IsBetween a r b → FlatDim s r 2) → LiesAlong s a c
+    → ((t : Place) → IsBetween b t c → ((r : Place) → IsBetween t r a → FlatDim s r 1) → ⊥)
+    → ((r : Place) → IsVertex s r → form_at h r ≡ pos 0 → IsInTriangle (normal_of h) a b c r → (SamePlace a r → ⊥) → ⊥) → (r : Place) → IsBetween b r c → FlatDim s r 2

@@ -24,7 +24,7 @@ use Rattle.law_links.specs.Links.{VolumeLink}
 use Rattle.law_links.specs.Components.{IsAtSide, IsUpright}
 use Rattle.law_links.proofs.SideSight.{side-sees}
 use Rattle.law_links.proofs.SidePoints.{at-side, one-side}
-use Rattle.nef_conn.specs.Falls.{SidesName, NamesOfFreeSegments, ConverseBySegments}
+use Rattle.nef_conn.specs.Sides.{SidesName, NamesOfFreeSegments, ConverseBySegments}
 use Rattle.nef_conn.proofs.Chain.{chain-both, chain-one, chain-back}
 use Rattle.nef_conn.proofs.RaysEnd.{rays-end}
 

@@ -1,4 +1,4 @@
-use Rattle.nef_conn.proofs.laws.linked_laws.Goals as goal
+use Rattle.nef_conn.proofs.laws.facet_laws.Goals as goal
 use Rattle.nef_conn.proofs.Onward.{arcs-go_on}
 use Rattle.nef_conn.proofs.Reached.{items-name}
 use Rattle.nef_conn.proofs.SameRay.{names-along}
