@@ -1,3 +1,4 @@
+pub mod PlaneTests
 pub mod PlaneOrder
 pub mod Merging
 pub mod Vertices
