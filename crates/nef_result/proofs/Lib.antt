@@ -1,4 +1,3 @@
-pub mod PlaneTests
 pub mod PlaneOrder
 pub mod Merging
 pub mod Vertices

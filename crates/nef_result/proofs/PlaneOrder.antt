@@ -16,7 +16,7 @@ use Rattle.nef_geo.specs.Shapes.{form_of}
 use Rattle.nef_geo.specs.declared.plane.Plane.{Plane}
 use Rattle.nef_geo.proofs.Orders.{plane_order, plane-ordered}
 use Rattle.law_sphere.specs.Maps.{At}
-use Rattle.nef_result.proofs.PlaneTests.{plane_test, tested-equal}
+use Rattle.nef_cand.proofs.Planes.{plane_test, tested-equal}
 use Rattle.nef_result.specs.Results.{ArePlanesInOrder}
 
 plane_total : IsTotalOrder plane_order

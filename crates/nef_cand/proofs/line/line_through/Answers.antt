@@ -5,7 +5,7 @@ use Rattle.nef_complex.proofs.Ends.{low-within, high-within}
 use Rattle.nef_complex.proofs.ListedHolders.{holders-within}
 use Rattle.nef_complex.proofs.Reading.{got-at}
 use Rattle.nef_cand.proofs.Held.{edge-held, carriers-ordered}
-use Rattle.nef_cand.proofs.Planes.{two-listed, first-two}
+use Rattle.nef_cand.proofs.EdgeLines.{two-listed, first-two}
 use Rattle.nef_cand.proofs.line.line_through.Goals as goal
 
 pub bounds-holders-0 : goal.bounds-holders-0

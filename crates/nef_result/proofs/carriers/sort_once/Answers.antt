@@ -2,7 +2,7 @@ use Rattle.std.proofs.Common.{List, sym, subst}
 use Rattle.std.specs.List.{Contains}
 use Rattle.std.proofs.lemmas.List.Filters.{dedup_is}
 use Rattle.nef_geo.specs.declared.plane.Plane.{Plane}
-use Rattle.nef_result.proofs.PlaneTests.{plane_test}
+use Rattle.nef_cand.proofs.Planes.{plane_test}
 use Rattle.nef_result.specs.Results.{ArePlanesInOrder}
 use Rattle.nef_result.proofs.PlaneOrder.{once-in_order, once-kept, once-only}
 use Rattle.nef_result.proofs.carriers.sort_once.Goals as goal
