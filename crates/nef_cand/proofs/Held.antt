@@ -34,7 +34,7 @@ use Rattle.nef_complex.specs.Index.{AreInOrder}
 use Rattle.nef_complex.specs.Planes.{HoldsBoth}
 use Rattle.nef_cand.specs.Points.{IsCrossing, CrossesOne, CutsOne, Adds}
 use Rattle.nef_cand.proofs.Adding.{adds-as, AnyAt}
-use Rattle.nef_cand.proofs.Planes.{AreHeldByTwo}
+use Rattle.nef_cand.proofs.EdgeLines.{AreHeldByTwo}
 
 -- ---- the planes of a segment
 -- forms of one plane have parallel normals

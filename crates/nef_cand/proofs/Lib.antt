@@ -2,6 +2,7 @@ pub mod Signs
 pub mod Crossing
 pub mod Adding
 pub mod Planes
+pub mod EdgeLines
 pub mod Held
 pub mod Order
 pub mod Complete

@@ -1,54 +1,65 @@
--- The line of an edge: the first two of the carriers that hold it are different planes, so they meet in it.
-use Rattle.std.proofs.Common.{◌≡◌, ℕ, ◌<◌, ◌≤◌, List, length, arith, sym, subst, ⊎_elim}
-use Rattle.std.proofs.lemmas.Bool.{cases_lt}
-use Rattle.nef_space.specs.Lists.{IsAt}
-use Rattle.nef_space.specs.Numbers.{IsBelow}
-use Rattle.nef_space.specs.Place.{Place, form_numbers, normal_of}
+-- Planes that are tested for equality, and two that hold one point.
+use Rattle.std.proofs.Common.{◌≡◌, ℤ, pos, ◌-ℤ◌, ◌*ℤ◌, ◌<ℤ◌, Bool, true, false, [], ◌∷◌, arith, refl, ap, sym, subst, ◌∙◌}
+use Rattle.std.proofs.lemmas.Int.{ints}
+use Rattle.std.specs.Bool.{IsTrue}
+use Rattle.std.specs.Ordering.{int_eq}
+use Rattle.std.specs.Prelude.{◌&&◌}
+use Rattle.std.proofs.lemmas.Bool.Decides.{Decides-int_eq}
+use lib.Dec.{T}
+use Rattle.law_arithmetic.proofs.Ring.{ring, Poly, at, num, ◌⊕◌, ◌⊖◌, ◌⊗◌}
+use Rattle.law_arithmetic.proofs.Combination.{given, none, follows_times}
+use Rattle.nef_space.specs.Place.{Place, Form, form_at, normal_of}
+use Rattle.nef_space.specs.Vectors.{cross, IsZero}
+use Rattle.nef_geo.specs.Meet.{IsSamePlane}
 use Rattle.nef_geo.specs.Shapes.{form_of}
 use Rattle.nef_geo.specs.declared.plane.Plane.{Plane}
-use Rattle.law_sphere.specs.Maps.{At}
-use Rattle.nef_smap.proofs.ClassLists.{is-at_one, is-at_within}
-use Rattle.nef_smap.proofs.SideLists.{get-from_at}
-use Rattle.nef_complex.specs.Index.{AreHolders, AreInOrder}
+use Rattle.nef_geo.proofs.Unique.{same_planes_equal}
 use Rattle.nef_complex.specs.Planes.{HoldsBoth}
-use Rattle.nef_complex.proofs.PlaneSearch.{never-below}
 use Rattle.nef_complex.proofs.SamePlanes.{parallel-equal}
 use Rattle.nef_cand.specs.Points.{IsLineThrough}
 
--- two different planes of the list hold both points
-abbrev pub AreHeldByTwo : List Plane → Place → Place → Type 0
-AreHeldByTwo hs p q = (i : ℕ) × (k : ℕ) × (g : Plane) × (h : Plane) × At hs i g × At hs k h
-    × HoldsBoth (form_of g) p q × HoldsBoth (form_of h) p q × (g ≡ h → ⊥)
+-- ---- the program's test of equality
+abbrev pub plane_test : Plane → Plane → Bool
+plane_test g h = int_eq g.a h.a && (int_eq g.b h.b && (int_eq g.c h.c && int_eq g.d h.d))
 
--- two planes through both points
-line-of : (g h : Plane) (p q : Place) → HoldsBoth (form_of g) p q → HoldsBoth (form_of h) p q → (h ≡ g → ⊥) → IsLineThrough (record { first = g; second = h }) p q
+all_four : (p q r s : Bool) → true ≡ (p && (q && (r && s))) → IsTrue p × IsTrue q × IsTrue r × IsTrue s
+all_four true true true true h = (refl, refl, refl, refl)
+all_four true true true false h = absurd (subst T h tt)
+all_four true true false s h = absurd (subst T h tt)
+all_four true false r s h = absurd (subst T h tt)
+all_four false q r s h = absurd (subst T h tt)
+
+pub tested-equal : (g h : Plane) → true ≡ plane_test g h → g ≡ h
+tested-equal g h e =
+    let t = all_four (int_eq g.a h.a) (int_eq g.b h.b) (int_eq g.c h.c) (int_eq g.d h.d) e in
+    same_planes_equal g h (same (form_of g) (form_of h) ((Decides-int_eq g.a h.a).0 t.0) ((Decides-int_eq g.b h.b).0 t.1) ((Decides-int_eq g.c h.c).0 t.2) ((Decides-int_eq g.d h.d).0 t.3))
+  where
+    turned : (a b c d : ℤ) → a ≡ c → b ≡ d → a *ℤ d -ℤ b *ℤ c ≡ pos 0
+    turned a b c d e f = ap (λ r. r *ℤ d -ℤ b *ℤ c) e ∙ ap (λ r. c *ℤ d -ℤ r *ℤ c) f ∙ ring (c ∷ d ∷ []) (at 0 ⊗ at 1 ⊖ at 1 ⊗ at 0) (num (pos 0)) tt
+
+    across : (a b c d : ℤ) → a ≡ c → b ≡ d → a *ℤ d ≡ c *ℤ b
+    across a b c d e f = ap (λ r. r *ℤ d) e ∙ ap (λ r. c *ℤ r) (sym f)
+
+    same : (f k : Form) → f.a ≡ k.a → f.b ≡ k.b → f.c ≡ k.c → f.d ≡ k.d → IsSamePlane f k
+    same f k a b c d = record {
+      parallel = (turned f.b f.c k.b k.c b c, turned f.c f.a k.c k.a c a, turned f.a f.b k.a k.b a b);
+      along_a = across f.a f.d k.a k.d a d;
+      along_b = across f.b f.d k.b k.d b d;
+      along_c = across f.c f.d k.c k.d c d;
+    }
+
+itself : (x : ℤ) → int_eq x x ≡ true
+itself x = (Decides-int_eq x x).1 refl
+
+pub tested-other : (g h : Plane) → false ≡ plane_test g h → g ≡ h → ⊥
+tested-other g h e same =
+    let equal : false ≡ true = e ∙ ap (plane_test g) (sym same) ∙ rw (itself g.a, itself g.b, itself g.c, itself g.d) refl in
+    subst T (sym equal) tt
+
+-- ---- two planes through both points
+pub line-of : (g h : Plane) (p q : Place) → HoldsBoth (form_of g) p q → HoldsBoth (form_of h) p q → (h ≡ g → ⊥) → IsLineThrough (record { first = g; second = h }) p q
 line-of g h p q i k n = record {
   first = i;
   second = k;
   independent = λ z. n (sym (parallel-equal g h p z i.0 k.0));
 }
-
-module _ (hs : List Plane) (p q : Place) (ns : List ℕ) (H : AreHolders hs p q ns) where
-  -- so at least two are listed
-  pub two-listed : AreHeldByTwo hs p q → 1 < length ns
-  two-listed (i, k, g, h, a, b, x, y, n) = ⊎_elim (λ l. l) (λ l. absurd (n (same l))) (cases_lt 1 (length ns))
-    where
-      here : (m j : ℕ) → length ns ≤ 1 → IsAt ns m j → IsAt ns 0 j
-      here m j l c = let w = is-at_within ns m j c in let z : m ≡ 0 = omega arith in subst (λ (r : ℕ). IsAt ns r j) z c
-
-      same : length ns ≤ 1 → g ≡ h
-      same l =
-          let o = H.all i (g, get-from_at hs i g a, x) in
-          let r = H.all k (h, get-from_at hs k h b, y) in
-          let e : i ≡ k = is-at_one ns 0 i k (here o.0 i l o.1) (here r.0 k l r.1) in
-          is-at_one hs k g h (subst (λ (m : ℕ). IsAt hs m g) e (get-from_at hs i g a)) (get-from_at hs k h b)
-
-  -- and the first two are different, since each carrier is listed once
-  pub first-two : AreInOrder hs → (i k : ℕ) (g h : Plane) → IsAt ns 0 i → IsAt ns 1 k → IsAt hs i g → IsAt hs k h → IsLineThrough (record { first = g; second = h }) p q
-  first-two order i k g h a b c d =
-      let o = H.each 0 i a in
-      let r = H.each 1 k b in
-      line-of g h p q
-      (subst (λ (f : Plane). HoldsBoth (form_of f) p q) (is-at_one hs i o.0 g o.1 c) o.2)
-      (subst (λ (f : Plane). HoldsBoth (form_of f) p q) (is-at_one hs k r.0 h r.1 d) r.2)
-      (λ e. never-below (form_numbers (form_of g)) (subst (λ (f : Plane). IsBelow (form_numbers (form_of g)) (form_numbers (form_of f))) e (order i k g h (H.ordered 0 1 i k (omega arith) a b) c d)))

@@ -15,4 +15,4 @@ pub use complex::{Complex, Corner, Edge, PlaneMeet, Vertex};
 pub use holding::{holds, holds_both, plane_normal, same_dir};
 pub use index::{PlaneIndex, PlaneItems, edge_holders, plane_items, vertex_holders};
 pub use std::alloc::AllocError as OutOfMemory;
-pub use vertices::vertex_at;
+pub use vertices::{find_vertex, vertex_at};

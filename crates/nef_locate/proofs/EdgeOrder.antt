@@ -1,25 +1,29 @@
 -- A point of an edge comes between the edge's ends in the order of vertices.
-use Rattle.std.proofs.Common.{ℕ, pos, arith, inl, inr}
+use Rattle.std.proofs.Common.{ℕ, ◌<◌, ◌≤◌, pos, arith, inl, inr, ⊎_elim}
+use Rattle.std.proofs.lemmas.Bool.{cases_lt}
 use Rattle.std.proofs.lemmas.Int.{ints}
 use Rattle.law_arithmetic.proofs.Order.{by_order}
 use Rattle.nef_space.specs.Place.{Place as PlainPlace, toward, SamePlace, IsBetween, IsPlaceBelow}
 use Rattle.nef_space.specs.Sets.{Set}
 use Rattle.nef_space.specs.Vectors.{IsNormal}
-use Rattle.nef_geo.specs.Shapes.{place_of}
-use Rattle.law_near.proofs.PlaceOrder.{place_below-same, same-place_below}
+use Rattle.nef_geo.specs.Shapes.{place_of, hit_place}
+use Rattle.nef_geo.specs.declared.hit.Hit.{Hit}
+use Rattle.law_near.proofs.PlaceOrder.{place_below-same, same-place_below, place_below-trans, place_below-apart}
 use Rattle.law_near.proofs.Rays.{same-place_sym}
 use Rattle.law_sphere.specs.Maps.{At}
 use Rattle.law_sphere.proofs.Compare.{SameDirection-turned}
 use Rattle.nef_smap.proofs.Lists.{map-at}
+use Rattle.nef_smap.proofs.SideLists.{get-from_at}
 use Rattle.law_complex.specs.Shows.{Shows}
 use Rattle.law_complex.specs.Skeleton.{IsEdgePoint}
-use Rattle.law_complex.proofs.Ways.{between-way}
+use Rattle.law_complex.proofs.Ways.{between-way, same-itself}
 use Rattle.nef_complex.specs.declared.complex.Vertex.{Vertex}
 use Rattle.nef_complex.specs.declared.complex.Edge.{Edge}
 use Rattle.nef_complex.specs.declared.complex.Complex.{Complex}
 use Rattle.nef_complex.specs.Complexes.{edge_of, vertex_of, complex_of}
 use Rattle.nef_complex.proofs.Ends.{edge-inside}
 use Rattle.nef_edges.proofs.Rays.{toward-normal, normal-kept}
+use Rattle.nef_locate.specs.Rays.{PartsVertices}
 
 -- where q - p begins with a positive number, q is a later point
 normal-below : (p q : PlainPlace) → IsNormal (toward p q) → IsPlaceBelow p q
@@ -57,3 +61,14 @@ module _ (s : Set) (c : Complex) (S : Shows s (complex_of c)) (k : ℕ) (e : Edg
   edge-order p y o x =
       let b = between-order low y high ends-order (edge-inside s c S k e u v l i j y x) in
       (place_below-same low y p b.0 o, same-place_below p y high (same-place_sym y p o) b.1)
+
+  -- so where the vertices before number n come before the point, and the others after it, the lower end is one of the first n and the upper one isn't
+  pub edge-parted : (q : Hit) (n : ℕ) → PartsVertices c q n → IsEdgePoint (complex_of c) k (hit_place q) → (e.low < n) × (n ≤ e.high)
+  edge-parted q n (p, o, below, above) x =
+      let b = edge-order (place_of p) (hit_place q) o x in (
+        ⊎_elim (λ m. m) (λ m. absurd (never low (place_of p) b.0 (above e.low u m (get-from_at c.vertices e.low u i)))) (cases_lt e.low n),
+        ⊎_elim (λ m. absurd (never (place_of p) high b.1 (below e.high v m (get-from_at c.vertices e.high v j)))) (λ m. m) (cases_lt e.high n),
+      )
+    where
+      never : (a b : PlainPlace) → IsPlaceBelow a b → IsPlaceBelow b a → ⊥
+      never a b g h = place_below-apart a a (place_below-trans a b a g h) (same-itself a)

@@ -1,19 +1,22 @@
 -- What a ray meets of the skeleton, carrier by carrier.
-use Rattle.std.specs.Prelude.{◌≡◌, ℕ, ◌⊎◌, Option, Some, None}
-use Rattle.nef_space.specs.Place.{Place as PlainPlace, Form, IsAhead, IsBetween}
+use Rattle.std.specs.Prelude.{◌≡◌, ℕ, pos, ◌⊎◌, Option, Some, None}
+use Rattle.nef_space.specs.Place.{Place as PlainPlace, Form, plane_through, SamePlace, IsAhead, IsBetween}
 use Rattle.nef_space.specs.Sets.{Set}
-use Rattle.nef_space.specs.Vectors.{Vector}
+use Rattle.nef_space.specs.Vectors.{Vector, vector}
 use Rattle.nef_space.specs.declared.label.Label.{Label}
 use Rattle.nef_geo.specs.Hits.{IsReached}
-use Rattle.nef_geo.specs.Shapes.{hit_place}
+use Rattle.nef_geo.specs.Shapes.{hit_place, place_of}
 use Rattle.nef_geo.specs.declared.hit.Hit.{Hit}
+use Rattle.nef_geo.specs.declared.point.Point.{Point}
 use Rattle.law_sphere.specs.Maps.{Side}
 use Rattle.law_complex.specs.Complexes.{Complex}
 use Rattle.law_complex.specs.Laws.{IsFlatIn}
 use Rattle.law_complex.specs.Rays.{IsAbove}
 use Rattle.law_complex.specs.Skeleton.{Spot, IsSpot, IsOnEdges, IsSkeletonPoint}
+use Rattle.nef_complex.specs.declared.complex.Complex.{Complex as ProgramComplex}
 use Rattle.nef_complex.specs.declared.complex.PlaneMeet.{PlaneMeet}
 use Rattle.nef_complex.specs.declared.complex.PlaneMeet.TheVariants.{AtVertex, AtEdge}
+use Rattle.nef_complex.specs.Complexes.{AreBelow, AreAbove}
 use Rattle.nef_locate.specs.declared.place.Place.{Place}
 use Rattle.nef_locate.specs.declared.place.Place.TheVariants as place
 use Rattle.nef_locate.specs.declared.ray.Met.{Met}
@@ -67,3 +70,11 @@ IsOfSkeleton _ = Unit {0}
 abbrev pub IsSideAbove : Complex → Place → Place → Type 0
 IsSideAbove C floor a = (i : ℕ) × (j : ℕ) × (o : Side) × (l : Label) × (a ≡ place.InVolume i j) × IsSideOf C i j o l
     × ((y : PlainPlace) → IsPlaceAt C y floor → (t : Spot) × IsSpot C t y × IsAbove C y t (record { vertex = i; side = o }))
+
+-- the hit is a point before which the first n vertices come, and after which the others do
+abbrev pub PartsVertices : ProgramComplex → Hit → ℕ → Type 0
+PartsVertices c q n = (p : Point) × SamePlace (hit_place q) (place_of p) × AreBelow c.vertices n p × AreAbove c.vertices n p
+
+-- the plane through y on which x stays the same
+abbrev pub x_form : PlainPlace → Form
+x_form y = plane_through (vector (pos 1) (pos 0) (pos 0)) y

@@ -15,6 +15,7 @@ mod place;
 mod plane;
 mod point;
 mod ray;
+mod span;
 #[cfg(test)]
 mod tests;
 

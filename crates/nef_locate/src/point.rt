@@ -1,9 +1,9 @@
 //! Where a point lies in a complex.
 
-ghost use Rattle.std.specs.Prelude.{◌≡◌, ℕ, ◌<◌, length, pos, ◌↔◌, IsTrue, IsNone, IfSome};
+ghost use Rattle.std.specs.Prelude.{◌≡◌, ℕ, ◌<◌, ◌≤◌, length, pos, ◌↔◌, IsTrue, IsNone, IfSome};
 ghost use Rattle.std.specs.Option.{MatchOption};
 ghost use Rattle.nef_space.specs.Local.{FlatDim};
-ghost use Rattle.nef_space.specs.Place.{InClosedFrame, form_at, SamePlace, IsPlaceBelow};
+ghost use Rattle.nef_space.specs.Place.{InClosedFrame, form_at};
 ghost use Rattle.nef_space.specs.Sets.{Set};
 ghost use Rattle.nef_geo.specs.Hits.{IsPlaceAtMost};
 ghost use Rattle.nef_geo.specs.Shapes.{form_of, place_of, hit_place};
@@ -12,18 +12,17 @@ ghost use Rattle.nef_geo.specs.declared.plane.Plane.{Plane};
 ghost use Rattle.law_sphere.specs.Maps.{At};
 ghost use Rattle.law_complex.specs.Laws.{IsFlatIn};
 ghost use Rattle.law_complex.specs.Skeleton.{IsEdgePoint, IsOnEdges, IsSkeletonPoint, HasCorner};
-ghost use Rattle.nef_complex.specs.Complexes.{complex_of, corner_of, ShowsSet};
+ghost use Rattle.nef_complex.specs.Complexes.{complex_of, corner_of, ShowsSet, AreBelow, AreAbove};
 ghost use Rattle.nef_locate.specs.Places.{IsPlaceIn, IsPlaceAt, place_dimension};
-ghost use Rattle.nef_locate.specs.Rays.{IsSkeletonAt};
+ghost use Rattle.nef_locate.specs.Rays.{IsSkeletonAt, PartsVertices};
 
 use crate::above::side_above;
 use crate::facet::in_facet;
 use crate::place::Place;
 use crate::ray::first_hit;
-use nef_complex::{Complex, Corner, vertex_at};
-use nef_geo::{Hit, Plane, Point, Sign, hit_at, hit_side, lex_cmp, up};
+use nef_complex::{Complex, Corner, Edge, find_vertex};
+use nef_geo::{Hit, Plane, Point, Sign, hit_at, hit_side, up};
 use nef_plane::is_on_edge;
-use std::cmp::Ordering;
 
 // The corner of a point in a facet of the plane.
 fn corner_in(c: &Complex, h: &Plane, q: &Hit) -> Option<Corner>
@@ -58,43 +57,55 @@ fn corner_at(c: &Complex, q: &Hit) -> Option<Corner>
     None
 }
 
-// Whether the one point comes before the other in the order of vertices.
-fn is_before(p: &Point, q: &Point) -> bool
-    ensures before { IsTrue result ↔ IsPlaceBelow (place_of p.now) (place_of q.now) }
+// Whether the first vertices, so many of them, have the lower end of the edge among them and not the upper one.
+fn is_parted(edge: &Edge, before: usize) -> bool
+    ensures parted { IsTrue result ↔ ((edge.now.low < before) × (before ≤ edge.now.high)) }
 {
-    match lex_cmp(p, q) {
-        Ordering::Less => true,
-        Ordering::Equal => false,
-        Ordering::Greater => false,
-    }
+    edge.low < before && before <= edge.high
 }
 
-// Whether the point, which is the hit, lies on the edge with this number. It lies on none but between whose ends it comes
-// in the order of vertices, which is told without the carriers.
-fn is_on(c: &Complex, number: usize, p: &Point, hit: &Hit) -> bool
+// Whether the hit, a point before which so many vertices come, lies on the edge with this number. It lies on none but
+// between whose ends it comes in the order of vertices, which their numbers tell.
+fn is_on(c: &Complex, number: usize, before: usize, hit: &Hit) -> bool
     requires shows { (s : Set) × ShowsSet s c.now }
     requires within { number < length c.now.edges }
-    requires same { SamePlace (hit_place hit.now) (place_of p.now) }
+    requires parts { PartsVertices c.now hit.now before }
     ensures on { IsTrue result ↔ IsEdgePoint (complex_of c.now) number (hit_place hit.now) }
 {
-    let edge = c.edges.at(number);
-    let low = &c.vertices.at(edge.low).point;
-    let high = &c.vertices.at(edge.high).point;
-    is_before(low, p) && is_before(p, high) && is_on_edge(c, number, hit)
+    is_parted(c.edges.at(number), before) && is_on_edge(c, number, hit)
 }
 
-// The number of the edge on which the point, which is the hit, lies.
-fn edge_at(c: &Complex, p: &Point, hit: &Hit) -> Option<usize>
+// The number of the edge on which the hit lies, a point before which so many vertices come.
+fn edge_at(c: &Complex, before: usize, hit: &Hit) -> Option<usize>
     requires shows { (s : Set) × ShowsSet s c.now }
-    requires same { SamePlace (hit_place hit.now) (place_of p.now) }
+    requires parts { PartsVertices c.now hit.now before }
     ensures edge { MatchOption result ((k : ℕ) → IsEdgePoint (complex_of c.now) k (hit_place hit.now) → ⊥) (λ k. IsEdgePoint (complex_of c.now) k (hit_place hit.now)) }
 {
     for number in 0..c.edges.len() {
-        if is_on(c, number, p, hit) {
+        if is_on(c, number, before, hit) {
             return Some(number);
         }
     }
     None
+}
+
+// Where a point of the skeleton lies that is no vertex. So many vertices come before it, and the others after it.
+fn off_vertices(c: &Complex, p: &Point, before: usize) -> Option<Place>
+    requires shows { (s : Set) × ShowsSet s c.now }
+    requires framed { InClosedFrame (place_of p.now) }
+    requires before { AreBelow c.now.vertices before p.now }
+    requires after { AreAbove c.now.vertices before p.now }
+    ensures at { IfSome result (IsSkeletonAt (complex_of c.now) (place_of p.now)) }
+    ensures none { IsNone result → IsSkeletonPoint (complex_of c.now) (place_of p.now) → ⊥ }
+{
+    let hit = hit_at(p);
+    if let Some(number) = edge_at(c, before, &hit) {
+        return Some(Place::OnEdge(number));
+    }
+    match corner_at(c, &hit) {
+        Some(corner) => Some(Place::InFacet(corner)),
+        None => None,
+    }
 }
 
 // Where a point of the skeleton lies.
@@ -104,16 +115,9 @@ fn on_skeleton(c: &Complex, p: &Point) -> Option<Place>
     ensures at { IfSome result (IsSkeletonAt (complex_of c.now) (place_of p.now)) }
     ensures none { IsNone result → IsSkeletonPoint (complex_of c.now) (place_of p.now) → ⊥ }
 {
-    if let Some(number) = vertex_at(c, p) {
-        return Some(Place::Vertex(number));
-    }
-    let hit = hit_at(p);
-    if let Some(number) = edge_at(c, p, &hit) {
-        return Some(Place::OnEdge(number));
-    }
-    match corner_at(c, &hit) {
-        Some(corner) => Some(Place::InFacet(corner)),
-        None => None,
+    match find_vertex(c, p) {
+        Ok(number) => Some(Place::Vertex(number)),
+        Err(before) => off_vertices(c, p, before),
     }
 }
 

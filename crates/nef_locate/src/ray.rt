@@ -1,6 +1,7 @@
 //! What a ray up or down first meets.
 
 ghost use Rattle.std.specs.Prelude.{◌≡◌, ◌⊎◌, ◌↔◌, IsTrue, IsNone, IfSome};
+ghost use Rattle.nef_space.specs.Lists.{IsAt};
 ghost use Rattle.nef_space.specs.Place.{Place as PlainPlace, InClosedFrame, IsAhead};
 ghost use Rattle.nef_space.specs.Sets.{Set};
 ghost use Rattle.nef_space.specs.Vectors.{Vector, IsDirection, opposite, up};
@@ -15,6 +16,7 @@ ghost use Rattle.nef_locate.specs.Rays.{IsMet, IsReachedMet, IsSooner, IsNotBefo
 use crate::facet::in_facet;
 use crate::hit::is_framed;
 use crate::place::Place;
+use crate::span::is_spanned;
 use nef_complex::{Complex, PlaneMeet};
 use nef_geo::{Dir, Hit, Plane, Point, hit_order, ray_hit};
 use nef_plane::first_on_edges;
@@ -65,10 +67,18 @@ fn met_on_edges(c: &Complex, p: &Point, d: &Dir) -> Option<Met>
     })
 }
 
-// What the ray meets first of what it met before, which is `best`, and of the facets in the plane. It meets no vertex and
-// no edge before `best`.
-fn nearer(c: &Complex, h: &Plane, p: &Point, d: &Dir, best: Option<Met>) -> Option<Met>
+// What the ray meets first of what it met before, which is `best`, and of the facets in the plane, which has this number in
+// the index. It meets no vertex and no edge before `best`.
+fn nearer(
+    c: &Complex,
+    number: usize,
+    h: &Plane,
+    p: &Point,
+    d: &Dir,
+    best: Option<Met>,
+) -> Option<Met>
     requires shows { (s : Set) × ShowsSet s c.now }
+    requires number { IsAt c.now.index.planes number h.now }
     requires upright { IsUpright (vector_of d.now) }
     requires best { IfSome best (IsMet (complex_of c.now) (place_of p.now) (vector_of d.now)) }
     requires edges { HasNoneBefore (complex_of c.now) (place_of p.now) (vector_of d.now) best }
@@ -79,6 +89,9 @@ fn nearer(c: &Complex, h: &Plane, p: &Point, d: &Dir, best: Option<Met>) -> Opti
     let Some(hit) = ray_hit(p, d, h) else {
         return best;
     };
+    if !is_spanned(c, number, &hit) {
+        return best;
+    }
     if !is_sooner(&hit, &best) {
         return best;
     }
@@ -107,7 +120,7 @@ pub fn first_hit(c: &Complex, p: &Point, d: &Dir) -> Option<Place>
 {
     let mut best = met_on_edges(c, p, d);
     for number in 0..c.index.planes.len() {
-        best = nearer(c, c.index.planes.at(number), p, d, best);
+        best = nearer(c, number, c.index.planes.at(number), p, d, best);
     }
     match best {
         Some(met) => Some(met.place),

@@ -1,5 +1,5 @@
 -- A point is strictly between the ends of an edge, or is a vertex, exactly where all carriers see it so.
-use Rattle.std.proofs.Common.{◌≡◌, ℕ, ◌<◌, ℤ, pos, ◌+ℤ◌, ◌-ℤ◌, ◌*ℤ◌, ◌<ℤ◌, arith, ap, sym, ◌∙◌, ⊎_elim, subst, [], ◌∷◌}
+use Rattle.std.proofs.Common.{◌≡◌, ℕ, ◌<◌, ℤ, pos, ◌+ℤ◌, ◌-ℤ◌, ◌*ℤ◌, ◌<ℤ◌, arith, ap, sym, ◌∙◌, ⊎_elim, subst, List, [], ◌∷◌}
 use Rattle.std.proofs.lemmas.Int.{ints}
 use Rattle.law_arithmetic.proofs.Ring.{ring, at, num, ◌⊕◌, ◌⊖◌, ◌⊗◌}
 use Rattle.law_arithmetic.proofs.Order.{mul_pos, mul_neg, by_order}
@@ -8,6 +8,7 @@ use Rattle.nef_space.specs.Sets.{Set}
 use Rattle.nef_space.specs.Vectors.{opposite, dot, cross, IsZero, IsDirection, SameDirection}
 use Rattle.nef_geo.specs.Shapes.{form_of, place_of}
 use Rattle.nef_geo.specs.Signs.{sign_of}
+use Rattle.nef_geo.specs.declared.plane.Plane.{Plane}
 use Rattle.nef_geo.specs.declared.sign.Sign.TheVariants.{Minus, Zero, Plus}
 use Rattle.nef_geo.proofs.Signs.{sign_of-positive, sign_of-negative}
 use Rattle.nef_arc.proofs.SignNumbers.{zero_sign}

@@ -9,5 +9,5 @@ mod upright;
 
 pub use along::first_along_dir;
 pub use places::{is_at_vertex, is_on_edge};
-pub use plane::first_in_plane;
+pub use plane::{first_in_plane, x_side};
 pub use upright::{EdgeHit, first_on_edges};

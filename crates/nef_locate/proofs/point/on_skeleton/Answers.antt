@@ -1,38 +1,10 @@
-use Rattle.std.proofs.Common.{refl}
-use Rattle.nef_geo.specs.Shapes.{place_of, hit_place}
-use Rattle.law_near.proofs.Rays.{same-place_sym}
-use Rattle.nef_complex.specs.Complexes.{complex_of, corner_of}
-use Rattle.nef_locate.proofs.EqualPoints.{vertex-same, edge-same, corner-same, point-same, closed-same}
-use Rattle.nef_locate.proofs.Located.{vertices-sorted, vertex-at, edge-at, corner-at, off-edges}
+use Rattle.nef_geo.specs.Shapes.{place_of}
+use Rattle.nef_complex.specs.Complexes.{complex_of}
+use Rattle.nef_locate.proofs.Located.{vertices-sorted, vertex-at}
 use Rattle.nef_locate.proofs.point.on_skeleton.Goals as goal
 
-pub vertex_at-requires : goal.vertex_at-requires
-vertex_at-requires c = let S = c.requires.shows in record { sorted = vertices-sorted S.0 c.args.c.now S.1 }
+pub find_vertex-requires : goal.find_vertex-requires
+find_vertex-requires c = let S = c.requires.shows in record { sorted = vertices-sorted S.0 c.args.c.now S.1 }
 
-pub returns-in-Some-clause-at : goal.returns-in-Some-clause-at
-returns-in-Some-clause-at c = vertex-at (complex_of c.args.c.now) (place_of c.args.p.now) c.in-Some.number c.in-Some.ensures.found
-
-pub returns-in-Some-edge_at-clause-at : goal.returns-in-Some-edge_at-clause-at
-returns-in-Some-edge_at-clause-at c =
-    let C = complex_of c.args.c.now in let p = place_of c.args.p.now in
-    edge-at C p c.in-Some-edge_at.number (edge-same (hit_place c.hit_at-hit.result) p c.hit_at-hit.ensures.same C c.in-Some-edge_at.number c.in-Some-edge_at.ensures.edge)
-
-pub corner_at-requires-clause-framed : goal.corner_at-requires-clause-framed
-corner_at-requires-clause-framed c =
-    let p = place_of c.args.p.now in let q = hit_place c.hit_at-hit.result in
-    closed-same p q (same-place_sym q p c.hit_at-hit.ensures.same) c.requires.framed
-
-pub corner_at-requires-clause-off : goal.corner_at-requires-clause-off
-corner_at-requires-clause-off c =
-    let C = complex_of c.args.c.now in let p = place_of c.args.p.now in let q = hit_place c.hit_at-hit.result in
-    off-edges C q (λ k v. c.in_default.ensures.none refl k (vertex-same q p c.hit_at-hit.ensures.same C k v)) c.in_default-edge_at.ensures.edge
-
-pub returns-in-Some-corner_at-clause-at : goal.returns-in-Some-corner_at-clause-at
-returns-in-Some-corner_at-clause-at c =
-    let C = complex_of c.args.c.now in let p = place_of c.args.p.now in
-    corner-at C p c.in-Some-corner_at.corner (corner-same C (hit_place c.hit_at-hit.result) p c.hit_at-hit.ensures.same (corner_of c.in-Some-corner_at.corner) c.in-Some-corner_at.ensures.corner)
-
-pub returns-in-None-clause-none : goal.returns-in-None-clause-none
-returns-in-None-clause-none c =
-    let C = complex_of c.args.c.now in let p = place_of c.args.p.now in let q = hit_place c.hit_at-hit.result in
-    λ e o. c.in-None.ensures.none refl (point-same C p q (same-place_sym q p c.hit_at-hit.ensures.same) o)
+pub returns-in-Ok-clause-at : goal.returns-in-Ok-clause-at
+returns-in-Ok-clause-at c = vertex-at (complex_of c.args.c.now) (place_of c.args.p.now) c.in-Ok.number c.in-Ok.ensures.found

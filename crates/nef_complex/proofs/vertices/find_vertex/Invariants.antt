@@ -1,6 +1,6 @@
 use Rattle.std.proofs.Common.{◌-◌, ◌≤◌, length}
 use Rattle.nef_complex.specs.Complexes.{AreBelow, AreAbove}
-use Rattle.nef_complex.proofs.vertices.vertex_at.Given as goal
+use Rattle.nef_complex.proofs.vertices.find_vertex.Given as goal
 
 abbrev pub invariant-loop-low : goal.invariant-loop-low
 invariant-loop-low l = (l.low ≤ l.high) × (l.high ≤ length l.vertices) × AreBelow l.vertices l.low l.p × AreAbove l.vertices l.high l.p
