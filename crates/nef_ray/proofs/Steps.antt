@@ -5,7 +5,7 @@ use Rattle.law_arithmetic.specs.Signs.{sign}
 use Rattle.law_arithmetic.proofs.Machine.{Code, load, wrap, ◌⊞◌, ◌⊠◌, Limited, exact_of}
 use Rattle.law_arithmetic.proofs.Order.{mul_pos, nought-is}
 use Rattle.law_arithmetic.proofs.Ring.{ring, at, num, neg, ◌⊕◌, ◌⊗◌}
-use Rattle.nef_space.specs.Limits.{normal_limit, offset_limit}
+use Rattle.nef_space.specs.Limits.{normal_limit, offset_limit, ray_direction_limit, ray_point_limit, ray_weight_limit}
 use Rattle.nef_space.specs.Place.{Place, Form, form_at, slope, SamePlace}
 use Rattle.nef_space.specs.Vectors.{Vector, IsAtMost}
 use Rattle.nef_geo.specs.Hits.{IsCrossing, IsPlaceAtMost}
@@ -18,7 +18,7 @@ use Rattle.nef_geo.proofs.Crossings.{IsReachedBy, IsCrossing-reached, opposite-c
 use Rattle.nef_geo.proofs.Places.{form_at-place_of, pos_size}
 use Rattle.law_near.proofs.Rays.{sign-same, same-place_sym}
 use Rattle.law_complex.proofs.FacetEdges.{ahead-same}
-use Rattle.nef_ray.specs.Widths.{ray_point_limit, ray_weight_limit, ray_direction_limit, start_form_limit, ray_slope_limit}
+use Rattle.nef_ray.specs.Widths.{start_form_limit, ray_slope_limit}
 
 -- ---- a plane's form at the start
 abbrev pub form_sizes : List ℕ

@@ -1,5 +1,6 @@
 -- Changes of the label along a ray.
 use Rattle.std.specs.Prelude.{◌≡◌, Option, Some, None}
+use Rattle.nef_space.specs.Limits.{ray_direction_limit, ray_point_limit, ray_weight_limit}
 use Rattle.nef_space.specs.Local.{HasLabel, Germ}
 use Rattle.nef_space.specs.Place.{Place, SamePlace, IsAhead, IsBetween}
 use Rattle.nef_space.specs.Sets.{Set}
@@ -12,7 +13,6 @@ use Rattle.nef_ray.specs.declared.ray.Ray.{Ray}
 use Rattle.nef_ray.specs.declared.ray.RayEnd.{RayEnd}
 use Rattle.nef_ray.specs.declared.nearer.Change.{Change}
 use Rattle.nef_ray.specs.Ends.{Changes}
-use Rattle.nef_ray.specs.Widths.{ray_point_limit, ray_weight_limit, ray_direction_limit}
 
 -- the numbers of the ray are within its limits
 pub record IsSmall (ray : Ray) : Type 0 where

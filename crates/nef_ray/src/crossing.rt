@@ -1,11 +1,12 @@
 //! Where a ray crosses a plane, as a point.
 
 ghost use Rattle.std.specs.Prelude.{◌≡◌, ◌≤◌, pos, ◌+ℤ◌, ◌*ℤ◌, ◌<ℤ◌, nat_abs};
+ghost use Rattle.nef_space.specs.Limits.{ray_direction_limit, ray_point_limit, ray_weight_limit};
 ghost use Rattle.nef_space.specs.Place.{Place, form_at, slope, SamePlace};
 ghost use Rattle.nef_space.specs.Vectors.{IsAtMost};
 ghost use Rattle.nef_geo.specs.Hits.{IsCrossing, IsPlaceAtMost};
 ghost use Rattle.nef_geo.specs.Shapes.{form_of, vector_of, place_at, place_of};
-ghost use Rattle.nef_ray.specs.Widths.{ray_point_limit, ray_weight_limit, ray_direction_limit, start_form_limit, ray_slope_limit};
+ghost use Rattle.nef_ray.specs.Widths.{start_form_limit, ray_slope_limit};
 
 use nef_geo::{Dir, Plane, Point};
 

@@ -1,6 +1,7 @@
 //! The end of a ray.
 
 ghost use Rattle.std.specs.Prelude.{IfOk};
+ghost use Rattle.nef_space.specs.Limits.{ray_direction_limit, ray_point_limit, ray_weight_limit};
 ghost use Rattle.nef_space.specs.Place.{InFrame};
 ghost use Rattle.nef_space.specs.Sets.{Set};
 ghost use Rattle.nef_space.specs.Vectors.{IsAtMost};
@@ -8,7 +9,6 @@ ghost use Rattle.nef_geo.specs.Hits.{IsPlaceAtMost};
 ghost use Rattle.nef_geo.specs.Shapes.{vector_of, place_of};
 ghost use Rattle.nef_complex.specs.Complexes.{ShowsSet};
 ghost use Rattle.nef_ray.specs.Ends.{IsRayEnd};
-ghost use Rattle.nef_ray.specs.Widths.{ray_point_limit, ray_weight_limit, ray_direction_limit};
 
 use crate::OutOfMemory;
 use crate::change::label_after;

@@ -3,11 +3,10 @@ use Rattle.std.proofs.Common.{◌≡◌, ℕ, zero, suc, ◌+◌, ◌<◌, ◌�
 use Rattle.std.specs.List.{list_any, zip}
 use Rattle.std.proofs.lemmas.Bool.{ltb-false, leb-true, eqb-true}
 use Rattle.std.proofs.lemmas.Int.{ints}
-use Rattle.nef_space.specs.Limits.{query_limit, query_weight_limit}
+use Rattle.nef_space.specs.Limits.{query_limit, query_weight_limit, ray_direction_limit, ray_point_limit, ray_weight_limit}
 use Rattle.nef_space.specs.Vectors.{vector, IsDirection}
 use Rattle.nef_geo.specs.declared.dir.Dir.{Dir}
 use Rattle.nef_geo.specs.declared.point.Point.{Point}
-use Rattle.nef_script.specs.Limits.{ray_point_limit, ray_weight_limit, ray_direction_limit}
 use Rattle.nef_script.specs.Table.{roles}
 use Rattle.nef_script.specs.Tests.{is_from_one_to, is_zero, is_past_limit, is_bad_weight, has_zero_direction}
 use Rattle.nef_script.specs.Meaning.{Names, IsQuestion, IsQuotient, IsToward}

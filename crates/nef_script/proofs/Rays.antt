@@ -4,6 +4,7 @@ use Rattle.std.proofs.Math.IntN.{*ℤ_comm}
 use Rattle.std.proofs.Math.Nat.{mul-le-mul, le_of_mul-le-mul_left, mul_comm}
 use Rattle.std.proofs.lemmas.Int.{ints, unsigned_abs-mul}
 use Rattle.std.proofs.lemmas.Nat.Gcd.{le_of_dvd}
+use Rattle.nef_space.specs.Limits.{ray_direction_limit, ray_point_limit, ray_weight_limit}
 use Rattle.nef_space.specs.Place.{SamePlace}
 use Rattle.nef_space.specs.Vectors.{IsAtMost}
 use Rattle.nef_geo.specs.Hits.{IsPlaceAtMost}
@@ -11,7 +12,7 @@ use Rattle.nef_geo.specs.Shapes.{place_at, place_of, vector_of}
 use Rattle.nef_geo.specs.declared.dir.Dir.{Dir}
 use Rattle.nef_geo.specs.declared.point.Point.{Point}
 use Rattle.nef_geo.proofs.Euclid.{divides_same}
-use Rattle.nef_script.specs.Limits.{ray_point_limit, ray_weight_limit, ray_direction_limit, IsRayWithin}
+use Rattle.nef_script.specs.Limits.{IsRayWithin}
 use Rattle.nef_script.specs.Meaning.{IsQuotient}
 use Rattle.nef_script.specs.Reading.{HasPointAt, number_at}
 

@@ -2,8 +2,9 @@
 use Rattle.std.proofs.Common.{◌≡◌, ℕ, zero, suc, ◌+◌, ◌-◌, ◌*◌, ◌<◌, ◌≤◌, Bool, true, false, ◌&&◌, nat_eq, List, [], ◌∷◌, ◌++◌, length, if◌then◌else◌, refl, sym, subst, arith, append-nil, append_assoc, length-append}
 use Rattle.std.specs.List.{flat_map, range_with_len}
 use Rattle.std.specs.Fmt.{digits}
+use Rattle.nef_space.specs.Limits.{most_stairs}
 use Rattle.nef_script.specs.Refusal.{names_of, IsAccepted}
-use Rattle.nef_script.specs.Stairs.{most_stairs, or_line, count_line, box_name, whole_name, step_box, join_lines, step_lines, stairs_lines, stairs_text}
+use Rattle.nef_script.specs.Stairs.{or_line, count_line, box_name, whole_name, step_box, join_lines, step_lines, stairs_lines, stairs_text}
 use Rattle.nef_script.proofs.Accepted.{passes_after, and_parts, passes_after-append, accepted_lines}
 
 -- the lines of the k boxes from i on pass, one box after the other, and after each box the count of all so far would

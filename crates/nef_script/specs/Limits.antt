@@ -1,21 +1,11 @@
 -- The limits of the numbers of rays.
 use Rattle.std.specs.Prelude.{ℕ, ◌^◌}
+use Rattle.nef_space.specs.Limits.{ray_direction_limit, ray_point_limit, ray_weight_limit}
 use Rattle.nef_space.specs.Vectors.{IsAtMost}
 use Rattle.nef_geo.specs.Hits.{IsPlaceAtMost}
 use Rattle.nef_geo.specs.Shapes.{place_of, vector_of}
 use Rattle.nef_geo.specs.declared.dir.Dir.{Dir}
 use Rattle.nef_geo.specs.declared.point.Point.{Point}
-
--- the size of the first three numbers of a ray's start, and its greatest w
-abbrev pub ray_point_limit : ℕ
-ray_point_limit = 2 ^ 21
-
-abbrev pub ray_weight_limit : ℕ
-ray_weight_limit = 2 ^ 10
-
--- the size of the numbers of its direction
-abbrev pub ray_direction_limit : ℕ
-ray_direction_limit = 2 ^ 10
 
 -- the numbers of the ray from the point along the direction are within these limits
 pub record IsRayWithin (p : Point) (d : Dir) : Type 0 where

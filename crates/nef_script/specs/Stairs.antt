@@ -4,10 +4,6 @@ use Rattle.std.specs.List.{join_with_byte, range_with_len}
 use Rattle.std.specs.Fmt.{decimal, signed_decimal}
 use Rattle.nef_script.specs.Laws.{script_of}
 
--- the most boxes
-abbrev pub most_stairs : ℕ
-most_stairs = 32
-
 -- the words with one blank between
 abbrev pub joined_words : List (List ℕ) → List ℕ
 joined_words words = join_with_byte 32 words

@@ -1,8 +1,7 @@
 -- The commands of the language, and what the words after each of them are.
 use Rattle.std.specs.Prelude.{ℕ, Bool, true, false, List, [], ◌∷◌, Option, codes, find, option_map}
 use Rattle.std.specs.Str.{bytes_eq}
-use Rattle.nef_space.specs.Limits.{normal_limit, offset_limit, query_limit, query_weight_limit}
-use Rattle.nef_script.specs.Limits.{ray_point_limit, ray_weight_limit, ray_direction_limit}
+use Rattle.nef_space.specs.Limits.{normal_limit, offset_limit, query_limit, query_weight_limit, ray_direction_limit, ray_point_limit, ray_weight_limit}
 use Rattle.nef_script.specs.declared.table.Verb.{Verb}
 use Rattle.nef_script.specs.declared.table.Verb.TheVariants as verb
 use Rattle.nef_script.specs.declared.table.Role.{Role}

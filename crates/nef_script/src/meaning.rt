@@ -3,14 +3,14 @@
 ghost use Rattle.std.specs.Prelude.{◌≡◌, List, ℕ, ◌+◌, ◌≤◌, ◌<◌, true, false, ℤ, nat_abs, length, IfOk, Some, [], ◌∷◌, get_or};
 ghost use Rattle.std.specs.List.{list_any, position, zip};
 ghost use Rattle.std.specs.Str.{bytes_eq};
-ghost use Rattle.nef_space.specs.Limits.{number_limit, query_limit, query_weight_limit};
+ghost use Rattle.nef_space.specs.Limits.{number_limit, query_limit, query_weight_limit, ray_direction_limit, ray_point_limit, ray_weight_limit};
 ghost use Rattle.nef_space.specs.Vectors.{IsAtMost};
 ghost use Rattle.nef_geo.specs.Shapes.{vector_of};
 ghost use Rattle.nef_expr.specs.Nodes.{NamesBelow};
 ghost use Rattle.nef_script.specs.Table.{binds};
 ghost use Rattle.nef_script.specs.Tests.{number_or_zero, is_among};
 ghost use Rattle.nef_script.specs.Names.{pointed};
-ghost use Rattle.nef_script.specs.Limits.{ray_point_limit, ray_weight_limit, ray_direction_limit, IsRayWithin};
+ghost use Rattle.nef_script.specs.Limits.{IsRayWithin};
 ghost use Rattle.nef_script.specs.Meaning.{IsNode, IsQuestion, IsQuotient, IsToward, IsWithin};
 ghost use Rattle.nef_script.specs.Reading.{Fits, SecondIs, LastTwoAre, HasOperand, HasTwoOperands, HasPlane, HasPointAt, HasDirectionAt, HasFirstOperand, number_at};
 ghost use Rattle.nef_script.specs.declared.table.Verb.TheVariants as verb;

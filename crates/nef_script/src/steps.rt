@@ -1,9 +1,10 @@
 //! The script of boxes that stand as stairs.
 
 ghost use Rattle.std.specs.Prelude.{◌≡◌, ℕ, ◌+◌, ◌*◌, ◌<◌, ◌≤◌, pos, [], ◌∷◌, ◌++◌, codes, decimal, IfOk, OnOk};
+ghost use Rattle.nef_space.specs.Limits.{most_stairs};
 ghost use Rattle.nef_script.specs.Laws.{script_of};
 ghost use Rattle.nef_script.specs.Refusal.{IsAccepted};
-ghost use Rattle.nef_script.specs.Stairs.{most_stairs, joined_words, and_line, count_line, half_lines, and_lines, whole_name, step_box, join_lines, step_lines, stairs_text};
+ghost use Rattle.nef_script.specs.Stairs.{joined_words, and_line, count_line, half_lines, and_lines, whole_name, step_box, join_lines, step_lines, stairs_text};
 
 use crate::OutOfMemory;
 use itoa::Buffer;

@@ -3,11 +3,12 @@
 ghost use Rattle.std.specs.Prelude.{◌≡◌, ◌≤◌, ℕ, List, None, Some, IfOk, IfSome, length};
 ghost use Rattle.std.specs.List.{All};
 ghost use Rattle.std.specs.Io.KnownBytes.{Consumes, IsAtEnd};
+ghost use Rattle.nef_space.specs.Limits.{most_stairs};
 ghost use Rattle.nef_io.specs.Bytes.{Rose};
 ghost use Rattle.nef_script.specs.declared.fault.ScriptKind.{ScriptKind as Kind};
 ghost use Rattle.nef_script.specs.Meaning.{IsWithin};
 ghost use Rattle.nef_script.specs.Refusal.{FirstRefusal};
-ghost use Rattle.nef_script.specs.Stairs.{most_stairs, stairs_text};
+ghost use Rattle.nef_script.specs.Stairs.{stairs_text};
 ghost use Rattle.nef_shell.specs.Answers.{IsRead, IsScriptFor, IsWorked};
 ghost use Rattle.nef_shell.specs.Commands.{AreWorkable};
 

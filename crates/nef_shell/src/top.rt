@@ -1,8 +1,8 @@
 //! The top call.
 
 ghost use Rattle.std.specs.Prelude.{◌≡◌, ◌≤◌, ℕ, List, None, Some, IfSome, map, string_bytes};
+ghost use Rattle.nef_space.specs.Limits.{most_stairs};
 ghost use Rattle.nef_io.specs.Bytes.{Rose, Grows, GrowsWithin};
-ghost use Rattle.nef_script.specs.Stairs.{most_stairs};
 ghost use Rattle.nef_shell.specs.Status.{MatchStatus};
 ghost use Rattle.nef_shell.specs.Output.{refusal_line, words_line};
 ghost use Rattle.nef_shell.specs.Answers.{GiveStairs, HasEnded};

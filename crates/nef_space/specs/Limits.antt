@@ -35,6 +35,21 @@ query_limit = 2 ^ 43
 abbrev pub query_weight_limit : ℕ
 query_weight_limit = 2 ^ 32
 
+-- the size of x, y and z of the point that a script's ray starts from, and its greatest w
+abbrev pub ray_point_limit : ℕ
+ray_point_limit = 2 ^ 21
+
+abbrev pub ray_weight_limit : ℕ
+ray_weight_limit = 2 ^ 10
+
+-- the size of the numbers of its direction
+abbrev pub ray_direction_limit : ℕ
+ray_direction_limit = 2 ^ 10
+
+-- the most boxes of the generated script
+abbrev pub most_stairs : ℕ
+most_stairs = 32
+
 -- the size of a whole number that a script's word may spell
 abbrev pub number_limit : ℕ
 number_limit = 2 ^ 62

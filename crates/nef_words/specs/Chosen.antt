@@ -1,6 +1,7 @@
 -- What words choose.
 use Rattle.std.specs.Prelude.{ℕ, ◌&&◌, List, [], ◌∷◌, Some, None, Option, codes, nat_le, if◌then◌else◌, option_and_then, option_map, bytes_eq}
 use Rattle.std.specs.Borrow.{Bor}
+use Rattle.nef_space.specs.Limits.{most_stairs}
 use Rattle.clap.specs.Words.{Text, Kinds, fault_of}
 use Rattle.nef_lex.specs.Numbers.{is_digits, decimal_value}
 use Rattle.nef_core.specs.declared.how.BoardKind.{BoardKind}
@@ -25,10 +26,6 @@ default_workers = 1
 
 abbrev pub most_workers : ℕ
 most_workers = 64
-
--- the greatest number of boxes of the generated script
-abbrev pub most_stairs : ℕ
-most_stairs = 32
 
 -- the number of workers that a value gives
 abbrev pub workers_of : Option Text → Option ℕ

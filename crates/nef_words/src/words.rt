@@ -1,8 +1,9 @@
 //! Reads the words as one command.
 ghost use Rattle.std.specs.Prelude.{◌≡◌, ◌≤◌, false, [], Some, None, IfOk, IfErr, IfSome, MatchResult, map, string_bytes};
+ghost use Rattle.nef_space.specs.Limits.{most_stairs};
 ghost use Rattle.clap.specs.Words.{fault_of, found_of, matches_of, rows_of, rule_of, HasKind};
 ghost use Rattle.nef_words.specs.Usage.{usage, option_named};
-ghost use Rattle.nef_words.specs.Chosen.{most_stairs, options_of, options_of_values, text_in};
+ghost use Rattle.nef_words.specs.Chosen.{options_of, options_of_values, text_in};
 
 use crate::number::read_number;
 use crate::options::{DEFAULT_WORKERS, MOST_WORKERS, Options, WordsFault};

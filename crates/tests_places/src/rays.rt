@@ -2,12 +2,12 @@
 //! label changes at the point or just after it, the point, and the label there or just after it.
 
 ghost use Rattle.std.specs.Prelude.{◌≤◌, nat_abs, IsTrue};
+ghost use Rattle.nef_space.specs.Limits.{ray_direction_limit, ray_point_limit, ray_weight_limit};
 ghost use Rattle.nef_space.specs.Sets.{Set};
 ghost use Rattle.nef_space.specs.Vectors.{IsAtMost};
 ghost use Rattle.nef_geo.specs.Hits.{IsPlaceAtMost};
 ghost use Rattle.nef_geo.specs.Shapes.{vector_of, place_of};
 ghost use Rattle.nef_complex.specs.Complexes.{ShowsSet};
-ghost use Rattle.nef_ray.specs.Widths.{ray_point_limit, ray_weight_limit, ray_direction_limit};
 
 use crate::questions::numbers;
 use crate::sets::{combination, intersection};

@@ -1,7 +1,7 @@
 use Rattle.std.proofs.Common.{◌+◌, ◌≤◌, sym, subst, length, arith}
+use Rattle.nef_space.specs.Limits.{ray_direction_limit}
 use Rattle.nef_space.specs.Vectors.{IsAtMost, SameDirection}
 use Rattle.nef_geo.specs.Shapes.{vector_of}
-use Rattle.nef_script.specs.Limits.{ray_direction_limit}
 use Rattle.nef_script.proofs.Shapes.{length-pointed}
 use Rattle.nef_script.proofs.Values.{passed_number, same_vector}
 use Rattle.nef_script.proofs.meaning.asked_direction.Goals as goal
