@@ -1,4 +1,3 @@
-use Rattle.law_turns.specs.Turned.{turned_place}
 use Rattle.law_turns.proofs.Meaning.{holds-turned, label-turned, same_set-turned, germ-turned, near_germ-turned, flat-turned, flat_dim-turned, joined-turned}
 use Rattle.law_turns.proofs.Twice.{set-back, set-twice}
 use Rattle.law_turns.proofs.laws.set_laws.Goals as goal
