@@ -13,8 +13,6 @@ ghost use Rattle.nef_smap.specs.Maps.{map_of, IsSphereMap, IsLeastMap};
 ghost use Rattle.nef_star.specs.Ops.{op_label};
 ghost use Rattle.nef_combine.specs.Sets.{op_set};
 
-#[cfg(test)]
-mod tests;
 
 use nef_smap::SphereMap;
 use nef_sover::overlay;

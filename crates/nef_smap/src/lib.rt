@@ -20,8 +20,6 @@ mod side;
 mod sight;
 mod simple;
 mod stars;
-#[cfg(test)]
-mod tests;
 
 pub use duplicate::copy;
 pub use item::Item;

@@ -5,8 +5,6 @@ mod axes;
 mod circle;
 mod overlaid;
 mod stars;
-#[cfg(test)]
-mod tests;
 mod tracks;
 
 pub use nef_smap::OutOfMemory;

@@ -8,8 +8,6 @@ mod needless;
 mod op;
 mod rounds;
 mod star;
-#[cfg(test)]
-mod tests;
 
 pub use combining::merge;
 pub use laws::star_laws;

@@ -25,6 +25,4 @@ mod starts;
 #[cfg(test)]
 mod ties;
 #[cfg(test)]
-mod topology;
-#[cfg(test)]
 mod walls;

@@ -1,27 +1,15 @@
 //! Maps of one plane, overlaid.
 
-ghost use Rattle.nef_space.specs.Limits.{normal_limit};
-ghost use Rattle.nef_space.specs.Vectors.{IsAtMost};
-ghost use Rattle.nef_geo.specs.Shapes.{vector_of};
 ghost use Rattle.nef_smap.specs.Maps.{IsSphereMap};
 
-use super::*;
-use nef_geo::{Dir, Label, List};
+use crate::directions::dir;
+use nef_geo::{Label, List};
 use nef_smap::{SLoop, SphereMap};
+use nef_sover::overlay;
 use nef_star::Op;
 use std::alloc::Global;
 use std::process::Abort;
 use std::test::Fail;
-
-fn dir(rt: &impl Abort, d: (i8, i8, i8)) -> Dir
-    ensures small { IsAtMost normal_limit (vector_of result) }
-{
-    let (x, y, z) = (i64::from(d.0), i64::from(d.1), i64::from(d.2));
-    match Dir::of(x, y, z) {
-        Some(dir) => dir,
-        None => panic!(rt; "zero is no direction"),
-    }
-}
 
 // The closed half-space below a plane, at a point of the plane.
 fn half(rt: &impl Abort, alloc: Global, normal: (i8, i8, i8)) -> SphereMap

@@ -1,37 +1,17 @@
 //! Stars of planes through one axis, what combining them gives, and what is needless in them.
 
-ghost use Rattle.std.specs.Prelude.{◌≡◌, ◌↔◌, IsTrue, IfOk};
+ghost use Rattle.std.specs.Prelude.{◌≡◌, IfOk};
 ghost use Rattle.nef_space.specs.Limits.{normal_limit};
-ghost use Rattle.nef_space.specs.Vectors.{IsAtMost, IsNormal};
+ghost use Rattle.nef_space.specs.Vectors.{IsAtMost};
 ghost use Rattle.nef_geo.specs.Shapes.{vector_of};
 ghost use Rattle.nef_star.specs.Stars.{IsStar};
 
-use super::*;
+use crate::directions::{dir, is_normal};
 use nef_geo::{Dir, Label, Sign, dot};
+use nef_star::{Op, OutOfMemory, Ray, Star, is_plain, is_straight, merge, simplify};
 use std::alloc::Global;
 use std::process::Abort;
 use std::test::Fail;
-
-fn dir(rt: &impl Abort, x: i8, y: i8, z: i8) -> Dir
-    ensures small { IsAtMost normal_limit (vector_of result) }
-{
-    match Dir::of(i64::from(x), i64::from(y), i64::from(z)) {
-        Some(dir) => dir,
-        None => panic!(rt; "zero is no direction"),
-    }
-}
-
-fn is_normal(d: &Dir) -> bool
-    ensures normal { IsTrue result ↔ IsNormal (vector_of d.now) }
-{
-    if d.x() != 0 {
-        d.x() > 0
-    } else if d.y() != 0 {
-        d.y() > 0
-    } else {
-        d.z() > 0
-    }
-}
 
 // The star of a plane through the axis, with labels on it and on the two sides.
 fn plane_star(
@@ -63,10 +43,10 @@ fn plane_star(
 
 #[test]
 fn quarters(rt: HostRuntime) -> Result<(), Fail> {
-    let axis = dir(&rt, 0, 0, 1);
+    let axis = dir(&rt, (0, 0, 1));
     let (not, within) = (Label::Not, Label::In);
-    let right = plane_star(&rt, rt.alloc(), axis, dir(&rt, 1, 0, 0), not, within, not)?;
-    let above = plane_star(&rt, rt.alloc(), axis, dir(&rt, 0, 1, 0), not, within, not)?;
+    let right = plane_star(&rt, rt.alloc(), axis, dir(&rt, (1, 0, 0)), not, within, not)?;
+    let above = plane_star(&rt, rt.alloc(), axis, dir(&rt, (0, 1, 0)), not, within, not)?;
     let mut both = merge(rt.alloc(), &right, &above, Op::And)?;
     // The first ray goes to the right, and the next one up.
     assert_eq!(rt; both.sectors(), [within, not, not, not].as_slice());
@@ -80,7 +60,7 @@ fn quarters(rt: HostRuntime) -> Result<(), Fail> {
 
 #[test]
 fn nothing_of_itself(rt: HostRuntime) -> Result<(), Fail> {
-    let (axis, normal) = (dir(&rt, 0, 0, 1), dir(&rt, 1, 0, 0));
+    let (axis, normal) = (dir(&rt, (0, 0, 1)), dir(&rt, (1, 0, 0)));
     let half = plane_star(
         &rt,
         rt.alloc(),
@@ -101,7 +81,7 @@ fn nothing_of_itself(rt: HostRuntime) -> Result<(), Fail> {
 
 #[test]
 fn wall_stays(rt: HostRuntime) -> Result<(), Fail> {
-    let (axis, normal) = (dir(&rt, 0, 0, 1), dir(&rt, 1, 0, 0));
+    let (axis, normal) = (dir(&rt, (0, 0, 1)), dir(&rt, (1, 0, 0)));
     let mut wall = plane_star(
         &rt,
         rt.alloc(),

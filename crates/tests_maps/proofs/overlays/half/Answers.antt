@@ -3,7 +3,7 @@ use Rattle.std.proofs.lemmas.Int.{ints}
 use Rattle.nef_space.specs.declared.label.Label.TheVariants.{Not, In}
 use Rattle.nef_geo.specs.Shapes.{vector_of}
 use Rattle.nef_sover.proofs.SloopMaps.{normal-by, sloop-map}
-use Rattle.nef_sover.proofs.tests.half.Goals as goal
+use Rattle.tests_maps.proofs.overlays.half.Goals as goal
 
 pub returns : goal.returns
 returns g c =

@@ -1,41 +1,17 @@
 //! What interior, closure, boundary and complement make of maps of one plane and of two.
 
-ghost use Rattle.std.specs.Prelude.{◌↔◌, IsTrue, IfOk};
-ghost use Rattle.nef_space.specs.Limits.{normal_limit};
-ghost use Rattle.nef_space.specs.Vectors.{IsAtMost, IsNormal};
-ghost use Rattle.nef_geo.specs.Shapes.{vector_of};
+ghost use Rattle.std.specs.Prelude.{IfOk};
 ghost use Rattle.nef_smap.specs.Maps.{IsSphereMap, IsLeastMap};
 
+use crate::directions::{dir, is_normal};
 use nef_combine::combine;
-use nef_geo::{Dir, Label};
+use nef_geo::Label;
 use nef_smap::{OutOfMemory, SArc, SLoop, SphereMap, plane_map};
 use nef_star::Op;
 use nef_stopo::{boundary, closure, complement, interior};
 use std::alloc::Global;
 use std::process::Abort;
 use std::test::Fail;
-
-fn dir(rt: &impl Abort, d: (i8, i8, i8)) -> Dir
-    ensures small { IsAtMost normal_limit (vector_of result) }
-{
-    let (x, y, z) = (i64::from(d.0), i64::from(d.1), i64::from(d.2));
-    match Dir::of(x, y, z) {
-        Some(dir) => dir,
-        None => panic!(rt; "zero is no direction"),
-    }
-}
-
-fn is_normal(d: &Dir) -> bool
-    ensures normal { IsTrue result ↔ IsNormal (vector_of d.now) }
-{
-    if d.x() != 0 {
-        d.x() > 0
-    } else if d.y() != 0 {
-        d.y() > 0
-    } else {
-        d.z() > 0
-    }
-}
 
 // The map of a plane through the point: its labels are those above the plane, on it and below it.
 fn plane(

@@ -1,12 +1,10 @@
 //! Maps of planes combined: what they are, and what they say of the directions of a small lattice.
 
-ghost use Rattle.std.specs.Prelude.{◌↔◌, IsTrue, IfOk};
-ghost use Rattle.nef_space.specs.Limits.{normal_limit};
-ghost use Rattle.nef_space.specs.Vectors.{IsAtMost, IsNormal};
-ghost use Rattle.nef_geo.specs.Shapes.{vector_of};
+ghost use Rattle.std.specs.Prelude.{IfOk};
 ghost use Rattle.nef_smap.specs.Maps.{IsSphereMap, IsLeastMap};
 
-use super::*;
+use crate::directions::{dir, is_normal};
+use nef_combine::{OutOfMemory, combine};
 use nef_geo::{Dir, Label, Sign, dot};
 use nef_smap::{SArc, SLoop, SVertex, SphereMap, label_at, plane_map, sfaces};
 use nef_spair::{Kind, kind};
@@ -18,28 +16,6 @@ use std::test::Fail;
 const NOT: Label = Label::Not;
 
 const IN: Label = Label::In;
-
-fn dir(rt: &impl Abort, d: (i8, i8, i8)) -> Dir
-    ensures small { IsAtMost normal_limit (vector_of result) }
-{
-    let (x, y, z) = (i64::from(d.0), i64::from(d.1), i64::from(d.2));
-    match Dir::of(x, y, z) {
-        Some(dir) => dir,
-        None => panic!(rt; "zero is no direction"),
-    }
-}
-
-fn is_normal(d: &Dir) -> bool
-    ensures normal { IsTrue result ↔ IsNormal (vector_of d.now) }
-{
-    if d.x() != 0 {
-        d.x() > 0
-    } else if d.y() != 0 {
-        d.y() > 0
-    } else {
-        d.z() > 0
-    }
-}
 
 // The half-space on the side of a plane to which the normal doesn't point, at a point of the plane.
 fn below(rt: &impl Abort, alloc: Global, normal: (i8, i8, i8), closed: bool) -> SphereMap

@@ -1,37 +1,19 @@
 //! The sides of a map made by hand, a copy of it, and where directions lie on the maps of a plane and of one face.
 
-ghost use Rattle.std.specs.Prelude.{◌↔◌, IsTrue};
 ghost use Rattle.nef_space.specs.Limits.{normal_limit};
-ghost use Rattle.nef_space.specs.Vectors.{IsAtMost, IsNormal};
+ghost use Rattle.nef_space.specs.Vectors.{IsAtMost};
 ghost use Rattle.nef_geo.specs.Shapes.{vector_of};
 ghost use Rattle.nef_smap.specs.Maps.{IsSphereMap};
 
-use super::*;
+use crate::directions::{dir, is_normal};
 use nef_geo::{Dir, Label, List};
+use nef_smap::{
+    OutOfMemory, SArc, SLoop, SPlace, SVertex, SphereMap, at, copy, face_map, label_at, plane_map,
+    sfaces, side_label, sides, star_at,
+};
 use std::alloc::Global;
 use std::process::Abort;
 use std::test::Fail;
-
-fn dir(rt: &impl Abort, x: i8, y: i8, z: i8) -> Dir
-    ensures small { IsAtMost normal_limit (vector_of result) }
-{
-    match Dir::of(i64::from(x), i64::from(y), i64::from(z)) {
-        Some(dir) => dir,
-        None => panic!(rt; "zero is no direction"),
-    }
-}
-
-fn is_normal(d: &Dir) -> bool
-    ensures normal { IsTrue result ↔ IsNormal (vector_of d.now) }
-{
-    if d.x() != 0 {
-        d.x() > 0
-    } else if d.y() != 0 {
-        d.y() > 0
-    } else {
-        d.z() > 0
-    }
-}
 
 // In on the plane, Out on the side to which the normal points, Not on the other.
 fn plane(rt: &impl Abort, alloc: Global, normal: Dir) -> SphereMap
@@ -59,7 +41,7 @@ fn by_hand(rt: &impl Abort, alloc: Global) -> Result<SphereMap, OutOfMemory> {
     ] {
         let (x, y, z) = d;
         svertices.push(SVertex {
-            dir: dir(rt, x, y, z),
+            dir: dir(rt, (x, y, z)),
             mark: Label::In,
             around,
         })?;
@@ -68,7 +50,7 @@ fn by_hand(rt: &impl Abort, alloc: Global) -> Result<SphereMap, OutOfMemory> {
     arcs.push(SArc {
         source: 1,
         target: 2,
-        normal: dir(rt, 1, 1, -1),
+        normal: dir(rt, (1, 1, -1)),
         mark: Label::Not,
         pos: Label::In,
         neg: Label::Not,
@@ -78,7 +60,7 @@ fn by_hand(rt: &impl Abort, alloc: Global) -> Result<SphereMap, OutOfMemory> {
         svertices,
         arcs,
         sloop: Some(SLoop {
-            normal: dir(rt, 0, 0, 1),
+            normal: dir(rt, (0, 0, 1)),
             mark: Label::In,
             pos: Label::Not,
             neg: Label::Out,
@@ -116,27 +98,27 @@ fn items_by_number(rt: HostRuntime) -> Result<(), Fail> {
     }
     assert_eq!(rt; marks.as_slice(), [Label::Not, Label::In].as_slice());
     assert_eq!(rt; numbers.as_slice(), [1, 2, 3, 4].as_slice());
-    assert_eq!(rt; map.item_with(&dir(&rt, 1, 1, -1)), Some(0));
-    assert_eq!(rt; map.item_with(&dir(&rt, 0, 0, 1)), Some(1));
-    assert_eq!(rt; map.item_with(&dir(&rt, 0, 0, -1)), None);
+    assert_eq!(rt; map.item_with(&dir(&rt, (1, 1, -1))), Some(0));
+    assert_eq!(rt; map.item_with(&dir(&rt, (0, 0, 1))), Some(1));
+    assert_eq!(rt; map.item_with(&dir(&rt, (0, 0, -1))), None);
     Ok(())
 }
 
 #[test]
 fn item_through_a_direction(rt: HostRuntime) {
-    let normal = dir(&rt, 1, 1, -1);
+    let normal = dir(&rt, (1, 1, -1));
     let map = plane(&rt, rt.alloc(), normal);
-    assert_eq!(rt; map.item_through(&normal, &dir(&rt, 1, 0, 1)), Some(0));
-    assert_eq!(rt; map.item_through(&normal, &dir(&rt, 1, 0, 0)), None);
+    assert_eq!(rt; map.item_through(&normal, &dir(&rt, (1, 0, 1))), Some(0));
+    assert_eq!(rt; map.item_through(&normal, &dir(&rt, (1, 0, 0))), None);
     assert_eq!(rt;
-        map.item_through(&dir(&rt, 0, 0, 1), &dir(&rt, 1, 0, 0)),
+        map.item_through(&dir(&rt, (0, 0, 1)), &dir(&rt, (1, 0, 0))),
         None
     );
 }
 
 #[test]
 fn neighbours_of_a_plane(rt: HostRuntime) {
-    let map = plane(&rt, rt.alloc(), dir(&rt, 1, 1, -1));
+    let map = plane(&rt, rt.alloc(), dir(&rt, (1, 1, -1)));
     for (d, side) in [
         ((0, 0, 1), -1),
         ((0, 0, -1), 1),
@@ -148,7 +130,7 @@ fn neighbours_of_a_plane(rt: HostRuntime) {
         ((-1, 1, 1), -1),
     ] {
         let (x, y, z) = d;
-        let d = dir(&rt, x, y, z);
+        let d = dir(&rt, (x, y, z));
         let (place, label) = match side {
             0 => (SPlace::Loop, Label::In),
             1 => (SPlace::Face(0), Label::Out),
@@ -161,8 +143,8 @@ fn neighbours_of_a_plane(rt: HostRuntime) {
 
 #[test]
 fn star_on_a_plane(rt: HostRuntime) -> Result<(), Fail> {
-    let map = plane(&rt, rt.alloc(), dir(&rt, 1, 1, -1));
-    let star = star_at(rt.alloc(), &map, &dir(&rt, 1, -1, 0))?;
+    let map = plane(&rt, rt.alloc(), dir(&rt, (1, 1, -1)));
+    let star = star_at(rt.alloc(), &map, &dir(&rt, (1, -1, 0)))?;
     assert_eq!(rt; star.sectors(), [Label::Out, Label::Not].as_slice());
     assert_eq!(rt; star.mark(), Label::In);
     Ok(())
@@ -171,7 +153,7 @@ fn star_on_a_plane(rt: HostRuntime) -> Result<(), Fail> {
 #[test]
 fn one_face(rt: HostRuntime) {
     let map = face_map(rt.alloc(), Label::In, Label::Not);
-    let d = dir(&rt, -1, 2, 3);
+    let d = dir(&rt, (-1, 2, 3));
     assert_eq!(rt; sides(&map), 1);
     assert_eq!(rt; at(&map, &d), SPlace::Face(0));
     assert_eq!(rt; label_at(&map, &d), Label::Not);
@@ -182,7 +164,7 @@ fn sfaces_of_simple_maps(rt: HostRuntime) -> Result<(), Fail> {
     let face = face_map(rt.alloc(), Label::In, Label::Not);
     let one = sfaces(rt.alloc(), &face)?;
     assert_eq!(rt; one.as_slice(), [0].as_slice());
-    let halves = plane(&rt, rt.alloc(), dir(&rt, 1, 1, -1));
+    let halves = plane(&rt, rt.alloc(), dir(&rt, (1, 1, -1)));
     let two = sfaces(rt.alloc(), &halves)?;
     assert_eq!(rt; two.as_slice(), [0, 1].as_slice());
     Ok(())

@@ -9,7 +9,7 @@ use Rattle.nef_arc.proofs.SignNumbers.{zero_sign}
 use Rattle.nef_star.specs.declared.star.Ray.{Ray}
 use Rattle.nef_star.specs.Stars.{IsRay}
 use Rattle.nef_star.proofs.Straight.{plane-star-of}
-use Rattle.nef_star.proofs.tests.plane_star.Goals as goal
+use Rattle.tests_maps.proofs.stars.plane_star.Goals as goal
 
 pub returns-clause-star : goal.returns-clause-star
 returns-clause-star g c =
