@@ -2,17 +2,14 @@
 use Rattle.std.proofs.Common.{◌≡◌, ℕ, zero, suc, ◌+◌, ◌<◌, pos, List, [], ◌∷◌, ◌++◌, length, arith, refl, ap, sym, ◌∙◌, subst, inl, inr, ⊎_elim, ◌⊎◌, append_assoc, length-append}
 use Rattle.std.proofs.lemmas.Int.{ints}
 use Rattle.nef_space.specs.Lists.{IsAt}
-use Rattle.law_sphere.specs.Maps.{At, Item, items}
+use Rattle.law_sphere.specs.Maps.{At, items}
 use Rattle.law_sphere.proofs.Lists.{at-one}
 use Rattle.nef_classes.proofs.ClassLists.{Either, earlier, last, is-at_either, is-at_last, is-at_left, is-at_within, is-at_some, less-or-last}
-use Rattle.nef_edges.proofs.Places.{some-at, at-within, map-at}
-use Rattle.law_complex.specs.Complexes.{Vertex as PlainVertex, Complex as PlainComplex, Corner as PlainCorner, IsCorner}
-use Rattle.nef_complex.specs.declared.complex.Vertex.{Vertex}
-use Rattle.nef_complex.specs.declared.complex.Complex.{Complex}
+use Rattle.nef_edges.proofs.Places.{some-at, at-within}
+use Rattle.law_complex.specs.Complexes.{Vertex as PlainVertex, Complex as PlainComplex, Corner as PlainCorner}
 use Rattle.nef_complex.specs.declared.complex.Corner.{Corner}
-use Rattle.nef_complex.specs.Complexes.{vertex_of, complex_of, corner_of}
+use Rattle.nef_complex.specs.Complexes.{corner_of}
 use Rattle.nef_parts.specs.Cycles.{IsCornerBelow}
-use Rattle.nef_smap.specs.Maps.{map_of}
 use Rattle.nef_facets.specs.Corners.{corner_from, corners_at, HasItem, AreCorners}
 use Rattle.nef_facets.proofs.Lists.{is-at_parts, is-at_second}
 
