@@ -5,7 +5,7 @@ use Rattle.law_arithmetic.proofs.Ring.{ring, at, num, ◌⊗◌}
 use Rattle.nef_space.specs.Local.{FlatDim}
 use Rattle.nef_space.specs.Place.{Place, Form, form_at, normal_of, slope, plane_through, SamePlace, toward, IsBetween}
 use Rattle.nef_space.specs.Sets.{Set}
-use Rattle.nef_space.specs.Vectors.{Vector, opposite, dot, triple, IsDirection, SameDirection, plane_dir}
+use Rattle.nef_space.specs.Vectors.{Vector, opposite, dot, triple, IsDirection, SameDirection, plane_axis, plane_dir}
 use Rattle.law_near.specs.Cells.{carriers}
 use Rattle.law_near.specs.Laws.{Drop}
 use Rattle.law_near.proofs.Decisions.{ahead}
@@ -25,16 +25,16 @@ use Rattle.law_sphere.proofs.Turn.{turn-same}
 use Rattle.law_sphere.proofs.Arcs.{at-arc, level-same}
 use Rattle.law_complex.specs.Complexes.{Vertex, Edge, Complex, Corner, HasEnds, IsCorner}
 use Rattle.law_complex.specs.Shows.{Shows}
-use Rattle.law_complex.specs.Skeleton.{item_plane, IsVertexPoint, IsEdgePoint, PlaneMeet, meets_vertex, meets_edge, LiesIn, IsFirstInPlane, IsCornerAt, RayNames}
+use Rattle.law_complex.specs.Skeleton.{item_plane, IsVertexPoint, IsEdgePoint, PlaneMeet, meets_vertex, meets_edge, LiesIn, IsFirstInPlane, IsCornerAt, RayNames, HasCorner}
 use Rattle.law_complex.specs.Laws.{IsFlatIn}
 use Rattle.law_complex.proofs.Ways.{between-way, between-start, between-outer, same-itself}
 use Rattle.law_complex.proofs.Edges.{near_point, near-between, way-near}
 use Rattle.law_complex.proofs.FacetSides.{level-way}
 use Rattle.law_complex.proofs.FacetWays.{dim-same, plane-ahead, end-meets}
-use Rattle.law_complex.proofs.FacetPoints.{IsInFacetOf, beside-vertex}
+use Rattle.law_complex.proofs.FacetPoints.{IsInFacetOf, beside-vertex, facet-point}
 use Rattle.law_complex.proofs.FacetEdges.{ahead-back, ahead-same}
 use Rattle.law_complex.proofs.FacetAngles.{through-at}
-use Rattle.law_complex.proofs.FacetNames.{through-level}
+use Rattle.law_complex.proofs.FacetNames.{through-level, axis-in}
 use Rattle.law_links.specs.Links.{LinkAcross}
 use Rattle.law_links.proofs.Ties.{beside-close, beside-ahead, beside-cell, IsTied, tied-cell, tied-both, tied-ahead, tied-ray}
 use Rattle.law_links.proofs.EdgeEnds.{edge-ways, tied-low, EndsOnSide, close_way, on-close, tied-close_way, AreTiedItems, dot-opposite}
@@ -219,3 +219,17 @@ module _ (s : Set) (C : Complex) (S : Shows s C) (j k : Corner) (L : LinkAcross 
 
   pub across-tied : AreTiedItems s C j k
   across-tied = let N = L.named in tied-items N.0 N.1 N.2
+
+-- ---- the corner of a facet point
+-- a point is tied to the points close to the corner that it has
+pub corner-across : (s : Set) (C : Complex) → Shows s C → (y : Place) (k : Corner) (H : HasCorner C y k) → IsAcross s C (normal_of (item_plane H.vertex H.item)) y k
+corner-across s C S y k H =
+    let n = item_normal H.item in
+    let p = H.vertex.point in
+    let F = facet-point s C S H.beside H.vertex H.item y H.is_beside H.facet_point in
+    let plane = item_plane H.vertex H.item in
+    let some = normal-is (S.cones H.beside.vertex H.vertex H.is_beside.vertex).valid.shaped H.beside.item H.item H.is_beside.item in
+    let axis = axis-in n some in
+    let flat : IsFlatIn s plane y = (F.dim, λ d. let a = through-level n d p in let b = F.flat d in (λ g. a.0 (b.0 g), λ o. b.1 (a.1 o))) in
+    let on : form_at plane y ≡ pos 0 = through-at n p y ∙ on-level H.vertex.map H.item (toward p y) H.facet_point.on_item in
+    across s C S plane y on flat (plane_axis n) ((through-level n (plane_axis n) p).0 axis.1) k H.named

@@ -1,11 +1,11 @@
 -- A ray down ties the points below a vertex to those above the point where it ends, and these to a side there.
-use Rattle.std.proofs.Common.{◌≡◌, ℕ, ◌+◌, pos, arith, sym, ◌∙◌, ⊎_elim, subst}
+use Rattle.std.proofs.Common.{◌≡◌, ℕ, ◌+◌, arith, sym, ◌∙◌, ⊎_elim, subst}
 use Rattle.law_arithmetic.specs.Signs.{nought, plus}
 use Rattle.law_arithmetic.proofs.Order.{sign-plus}
 use Rattle.nef_space.specs.Local.{FlatDim}
-use Rattle.nef_space.specs.Place.{Place, form_at, normal_of, SamePlace, toward, IsBetween}
+use Rattle.nef_space.specs.Place.{Place, normal_of, SamePlace, toward, IsBetween}
 use Rattle.nef_space.specs.Sets.{Set}
-use Rattle.nef_space.specs.Vectors.{Vector, opposite, blend, dot, SameDirection, up, plane_axis}
+use Rattle.nef_space.specs.Vectors.{Vector, opposite, blend, dot, SameDirection, up}
 use Rattle.nef_space.specs.declared.label.Label.{Label}
 use Rattle.law_near.specs.Cells.{carriers}
 use Rattle.law_near.proofs.Decisions.{ahead}
@@ -15,7 +15,6 @@ use Rattle.law_near.proofs.Between.{between-turned, between-inner}
 use Rattle.law_forms.proofs.Directions.{self-pos, direction-left}
 use Rattle.law_sphere.specs.Maps.{At, item_normal, item_above, item_mark, item_below, HasSide, Sees}
 use Rattle.law_sphere.proofs.Vectors.{normal-is}
-use Rattle.law_sphere.proofs.Forms.{on-level}
 use Rattle.law_sphere.proofs.Lists.{at-one}
 use Rattle.law_sphere.proofs.Shot.{way-at}
 use Rattle.law_sphere.proofs.Compare.{SameDirection-turned, SameDirection-trans}
@@ -23,26 +22,24 @@ use Rattle.law_complex.specs.Complexes.{Vertex, Edge, Complex, Corner, HasEnds}
 use Rattle.law_complex.specs.Shows.{Shows}
 use Rattle.law_complex.specs.Skeleton.{item_plane, IsVertexPoint, IsEdgePoint, Spot, at_vertex, on_edge, in_facet, IsSpot, IsSkeletonPoint}
 use Rattle.law_complex.specs.Rays.{VertexSide, HasSideLabel, IsAbove}
-use Rattle.law_complex.specs.Laws.{IsFlatIn}
 use Rattle.law_complex.proofs.Ways.{between-way}
 use Rattle.law_complex.proofs.Edges.{near_point, near-between}
 use Rattle.law_complex.proofs.FacetWays.{dim-same}
 use Rattle.law_complex.proofs.FacetPoints.{facet-point}
 use Rattle.law_complex.proofs.FacetEdges.{ahead-back}
-use Rattle.law_complex.proofs.FacetAngles.{through-at}
-use Rattle.law_complex.proofs.FacetNames.{through-level, axis-in, facet-of}
+use Rattle.law_complex.proofs.FacetNames.{facet-of}
 use Rattle.law_complex.proofs.Skeletons.{FacetAt, skeleton-or_flat}
 use Rattle.law_links.specs.Links.{LinkDown}
 use Rattle.law_links.specs.Components.{IsUpright}
 use Rattle.law_links.proofs.Ties.{ahead-way, ahead-cells, IsTied, tied-cell, tied-turned, tied-both, tied-ahead, tied-ray}
 use Rattle.law_links.proofs.NearVertex.{tied-off}
 use Rattle.law_links.proofs.EdgeEnds.{edge-ways, tied-low, tied-turn}
-use Rattle.law_links.proofs.Across.{across, through-same}
+use Rattle.law_links.proofs.Across.{corner-across, through-same}
 use Rattle.law_links.proofs.SidePoints.{at-side}
 use Rattle.law_links.proofs.SideLinks.{JoinsSides, PointTied, above-point}
 
 module _ (s : Set) (C : Complex) (S : Shows s C) where
-  facet-at : FacetAt s C
+  pub facet-at : FacetAt s C
   facet-at k v x y c F = let p = facet-point s C S k v x y c F in (p.dim, p.flat, p.label, p.sided)
 
   -- ---- a way without skeleton points ties the points close to both its ends
@@ -103,10 +100,7 @@ module _ (s : Set) (C : Complex) (S : Shows s C) where
         let F = facet-point s C S H.beside H.vertex H.item z H.is_beside H.facet_point in
         let plane = item_plane H.vertex H.item in
         let some = normal-is (S.cones H.beside.vertex H.vertex H.is_beside.vertex).valid.shaped H.beside.item H.item H.is_beside.item in
-        let axis = axis-in n some in
-        let flat : IsFlatIn s plane z = (F.dim, λ d. let a = through-level n d p in let b = F.flat d in (λ g. a.0 (b.0 g), λ o. b.1 (a.1 o))) in
-        let on : form_at plane z ≡ pos 0 = through-at n p z ∙ on-level H.vertex.map H.item (toward p z) H.facet_point.on_item in
-        let A = across s C S plane z on flat (plane_axis n) ((through-level n (plane_axis n) p).0 axis.1) k H.named in
+        let A = corner-across s C S z k H in
         let high = sign-plus (dot n up) (upright H.beside H.vertex H.item H.is_beside) in
         let turn = tied-off s z n (item_above H.item) (item_mark H.item) (item_below H.item) F.sided up n (λ o. let x : plus ≡ nought = sym high ∙ o in cc) (sign-plus (dot n n) (self-pos n some) ∙ sym high) in
         let q = ahead s A.vertex.point A.way in

@@ -23,13 +23,14 @@ use Rattle.law_links.proofs.Across.{through-same}
 use Rattle.law_links.proofs.NearVertex.{facet-near}
 use Rattle.law_links.proofs.Ties.{ahead-toward, even-after}
 use Rattle.law_links.proofs.ItemPoints.{on_item-way}
-use Rattle.nef_conn.proofs.Onward.{level-back, level-kept}
+use Rattle.law_cyclic.proofs.Directions.{level-of_opposite}
+use Rattle.nef_conn.proofs.Onward.{level-kept}
 use Rattle.nef_conn.proofs.WayInward.{opposite-same, dir-same, names-same}
 use Rattle.nef_conn.proofs.Named
-use Rattle.nef_conn.proofs.Named.{chain-here, chain-before}
-use Rattle.nef_conn.specs.Converse.{way_inward}
+use Rattle.nef_conn.proofs.Chain.{chain-here, chain-before}
+use Rattle.nef_conn.specs.Items.{way_inward}
 use Rattle.nef_conn.proofs.Sector.{Through, Stops}
-use Rattle.nef_conn.proofs.Strip.{Strip, m-some, short-of, angle-ahead}
+use Rattle.nef_conn.proofs.FacetStrip.{Strip, m-some, short-of, angle-ahead}
 use Rattle.nef_conn.proofs.Beside.{turn-to, near, near-onward, Beside, off-edges, fan-beside}
 
 module _ (s : Set) (C : Complex) (S : Shows s C) (h g : Form) (d : Vector) (y z : Place) (T : Strip s C h g d y z) where
@@ -49,7 +50,7 @@ module _ (s : Set) (C : Complex) (S : Shows s C) (h g : Form) (d : Vector) (y z 
   some-opposite e i q = i (let a = q.0 in omega (arith, ints), let a = q.1 in omega (arith, ints), let a = q.2 in omega (arith, ints))
 
   level-opposite : dot n (opposite d) ≡ pos 0
-  level-opposite = level-back n d T.level
+  level-opposite = level-of_opposite n d T.level
 
   module _ (k : Corner) (N : Is_beside k) where
     abbrev v : Vertex
@@ -120,5 +121,5 @@ module _ (s : Set) (C : Complex) (S : Shows s C) (h g : Form) (d : Vector) (y z 
             ahead = up;
             clear = λ r b. reach r (between-turned q z r b);
             named = names-same C (item_plane v N.item) h q (Named.on-q s C S k v N.item N.corner o) q-on one e d one-way found.2.0 (found.0, found.1, found.2.1);
-            chain = chain-before C k found.2.0 found.2.0 (inl (inr link)) (chain-here C found.2.0);
+            chain = chain-before (FacetLink C) k found.2.0 found.2.0 (inl (inr link)) (chain-here (FacetLink C) found.2.0);
           }

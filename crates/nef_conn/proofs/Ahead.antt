@@ -25,9 +25,9 @@ use Rattle.law_complex.proofs.FacetAngles.{through-at}
 use Rattle.law_complex.proofs.FacetEdges.{ahead-back}
 use Rattle.law_links.specs.Links.{FacetLink}
 use Rattle.nef_conn.proofs.Reached.{Rises, never-both, toward-normal, within}
-use Rattle.nef_conn.proofs.SameRay.{chain-both}
+use Rattle.nef_conn.proofs.Chain.{chain-both}
 use Rattle.nef_conn.proofs.Sector.{Through, Stops, turned}
-use Rattle.nef_conn.proofs.Strip.{Strip, m-some, turn-z}
+use Rattle.nef_conn.proofs.FacetStrip.{Strip, m-some, turn-z}
 use Rattle.nef_conn.proofs.Beside.{near, near-onward}
 use Rattle.nef_conn.proofs.Beside as lies
 use Rattle.nef_conn.proofs.AlongEdge.{Goes_on, along-edge}
@@ -58,7 +58,7 @@ module _ (s : Set) (C : Complex) (S : Shows s C) (h g : Form) (d : Vector) (y z 
       through : Through N.vertex.map N.item n m (toward N.vertex.point z) d → Chained (FacetLink C) k l ⊎ Goes_on s C S h g d y z T k N
       through E =
           let A = facet-ahead s C S h g d y z T k N E inward in
-          ⊎_elim (λ c. inl (chain-both C k A.corner l A.chain c))
+          ⊎_elim (λ c. inl (chain-both (FacetLink C) k A.corner l A.chain c))
           (λ r. let M = r.0 in
           let b = SameDirection-trans (toward N.vertex.point A.place) d (toward A.place M.vertex.point) A.ahead (SameDirection-turned (toward A.place M.vertex.point) d r.1) in
           inr (A.corner, M, A.chain, SameDirection-trans (toward N.vertex.point M.vertex.point) (toward N.vertex.point A.place) d (SameDirection-turned (toward N.vertex.point A.place) (toward N.vertex.point M.vertex.point) (between-way N.vertex.point A.place M.vertex.point b)) A.ahead))
@@ -69,7 +69,7 @@ module _ (s : Set) (C : Complex) (S : Shows s C) (h g : Form) (d : Vector) (y z 
     run : (f : ℕ) (k : Corner) → Is_beside k → Left k.vertex f → Chained (FacetLink C) k l
     run zero k N e = absurd (spent k.vertex N.vertex N.corner.vertex e)
     run (suc f) k N e = ⊎_elim (λ c. c)
-        (λ (r : Goes_on s C S h g d y z T k N). chain-both C k r.0 l r.2 (run f r.0 r.1 (burn k.vertex (r.0).vertex f N.vertex r.1.vertex N.corner.vertex r.1.corner.vertex r.3 e)))
+        (λ (r : Goes_on s C S h g d y z T k N). chain-both (FacetLink C) k r.0 l r.2 (run f r.0 r.1 (burn k.vertex (r.0).vertex f N.vertex r.1.vertex N.corner.vertex r.1.corner.vertex r.3 e)))
         (step k N)
 
   -- vertices ahead have greater numbers, or smaller

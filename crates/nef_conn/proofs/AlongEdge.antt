@@ -17,12 +17,12 @@ use Rattle.law_complex.proofs.FacetWays.{plane-ahead}
 use Rattle.law_links.specs.Links.{FacetLink}
 use Rattle.law_links.proofs.EdgeEnds.{right-turn}
 use Rattle.law_links.proofs.ItemPoints.{on_item-way}
-use Rattle.nef_conn.proofs.Onward.{level-back}
+use Rattle.law_cyclic.proofs.Directions.{level-of_opposite}
 use Rattle.nef_conn.proofs.WayInward.{opposite-same}
-use Rattle.nef_conn.proofs.Named.{chain-here, chain-before}
+use Rattle.nef_conn.proofs.Chain.{chain-here, chain-before}
 use Rattle.nef_conn.proofs.Sector.{Seen, end_of, seen-back, Through, Stops, turned}
 use Rattle.nef_conn.proofs.Leads.{Leads, leads, link-of}
-use Rattle.nef_conn.proofs.Strip.{Strip, m-some, short-of, angle-ahead, turn-z}
+use Rattle.nef_conn.proofs.FacetStrip.{Strip, m-some, short-of, angle-ahead, turn-z}
 use Rattle.nef_conn.proofs.Beside.{turn-to, near, near-onward, hidden, Beside, off-edges, fan-beside, seen-beside}
 
 pub opposite-normal : (m a b : Vector) → triple (opposite m) a b ≡ neg_ℤ (triple m a b)
@@ -56,7 +56,7 @@ module _ (s : Set) (C : Complex) (S : Shows s C) (h g : Form) (d : Vector) (y z 
   some-opposite e i q = i (let a = q.0 in omega (arith, ints), let a = q.1 in omega (arith, ints), let a = q.2 in omega (arith, ints))
 
   level-opposite : dot n (opposite d) ≡ pos 0
-  level-opposite = level-back n d T.level
+  level-opposite = level-of_opposite n d T.level
 
   -- a linked corner of a vertex ahead, beside which z lies too
   abbrev pub Goes_on : (k : Corner) → Is_beside k → Type 0
@@ -129,7 +129,7 @@ module _ (s : Set) (C : Complex) (S : Shows s C) (h g : Form) (d : Vector) (y z 
             (turned n (opposite m) Back (some-opposite m some-m) v1.map V (toward v1.point z) (opposite d) (some-opposite d T.some) level-opposite turn-right l.item x K.item same on) in (
               l,
               record { vertex = v1; item = x; corner = K; same = same; on_plane = on1; on_line = near1; on = on; all = λ r b. reach r (between-turned v1.point z r b) },
-              chain-before C k l l link (chain-here C l),
+              chain-before (FacetLink C) k l l link (chain-here (FacetLink C) l),
               up,
             )
 

@@ -39,7 +39,7 @@ use Rattle.nef_conn.proofs.AtItems.{facet-even}
 use Rattle.nef_conn.proofs.FirstMet.{all-flat, first-met}
 
 -- no way leads from a point to itself
-ahead-zero : (s : Set) (p : Place) (d : Vector) → IsZero d → SamePlace p (ahead s p d)
+pub ahead-zero : (s : Set) (p : Place) (d : Vector) → IsZero d → SamePlace p (ahead s p d)
 ahead-zero s p d z = record { along_x = one p.x d.x z.0; along_y = one p.y d.y z.1; along_z = one p.z d.z z.2 }
   where
     one : (x e : ℤ) → e ≡ pos 0 → x *ℤ pos (p.w * (sample s p d).b) ≡ (x *ℤ pos (sample s p d).b +ℤ pos 1 *ℤ pos p.w *ℤ e) *ℤ pos p.w

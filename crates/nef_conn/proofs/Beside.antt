@@ -30,10 +30,10 @@ use Rattle.law_complex.proofs.FacetAngles.{angle, turn_form, turn-at, angle-turn
 use Rattle.law_complex.proofs.FacetTriangle.{HalfEdge, plane-between}
 use Rattle.nef_conn.proofs.Onward.{back-triple}
 use Rattle.nef_conn.proofs.Sweep.{minus-any, cut-of}
-use Rattle.nef_conn.proofs.Triangles.{SideWithin}
+use Rattle.nef_conn.proofs.FacetStrip.{SideWithin}
 use Rattle.nef_conn.proofs.Sector.{end_of, Through, Stops, turned}
 use Rattle.nef_conn.proofs.Leads.{Leads, leads}
-use Rattle.nef_conn.proofs.Strip.{Strip, Near_line, Far_line, m-some, turn-k, strip, near-turn, short-of, turn-z, angle-ahead, angle-over, angle-under, On_far_line, at_start, ahead_of, behind_of, on-far_line, fan, not-at, not-behind, toward-turned}
+use Rattle.nef_conn.proofs.FacetStrip.{Strip, Near_line, Far_line, m-some, turn-k, strip, near-turn, short-of, turn-z, angle-ahead, angle-over, angle-under, On_far_line, at_start, ahead_of, behind_of, on-far_line, fan, not-at, not-behind, toward-turned}
 
 -- the same turns by the same ways
 turn-from : (m a b f : Vector) → IsDirection m → IsDirection f → SameDirection a b → pos 0 <ℤ triple m a f → pos 0 <ℤ triple m b f

@@ -1,5 +1,5 @@
 -- Chains of links, whatever is linked: they are joined end to end, and led back.
-use Rattle.std.proofs.Common.{refl, sym, inl, inr, ⊎_elim, List, [], ◌∷◌, subst}
+use Rattle.std.proofs.Common.{refl, sym, ◌⊎◌, inl, inr, ⊎_elim, List, [], ◌∷◌, subst}
 use Rattle.nef_space.specs.Lists.{IsChain, Chained}
 
 module _ {X : Type 0} (Link : X → X → Type 0) where
@@ -22,3 +22,6 @@ module _ {X : Type 0} (Link : X → X → Type 0) where
 
   pub chain-back : (x y : X) → Chained Link x y → Chained Link y x
   chain-back x y (ys, c) = turned x y ys c
+
+  pub chain-before : (x y z : X) → Link x y ⊎ Link y x → Chained Link y z → Chained Link x z
+  chain-before x y z a (ys, c) = (y ∷ ys, (a, c))

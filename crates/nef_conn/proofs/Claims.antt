@@ -45,7 +45,7 @@ use Rattle.law_links.specs.Links.{VolumeLink}
 use Rattle.law_links.specs.Components.{IsUpright, IsEvenAfter}
 use Rattle.law_links.proofs.EdgeEnds.{dot-opposite}
 use Rattle.law_links.proofs.Ties.{ahead-close, ahead-toward, tied-ray}
-use Rattle.nef_conn.specs.Converse.{AreLinkedWhereJoined}
+use Rattle.nef_conn.specs.Items.{AreLinkedWhereJoined}
 use Rattle.nef_conn.proofs.Named.{twice}
 use Rattle.nef_conn.specs.Slices.{sliced}
 use Rattle.nef_conn.proofs.Chain.{chain-both}
@@ -59,7 +59,7 @@ use Rattle.nef_conn.proofs.NearOver.{up-some, blend-rises}
 use Rattle.nef_conn.proofs.OneOver.{over-one, facet-dim, edge-dim, vertex-dim}
 use Rattle.nef_conn.proofs.RaysEnd.{tied-dim}
 use Rattle.nef_conn.proofs.Silhouettes.{sliced-off, germs-inside, resliced, two-of, germs-of, three-of, no-vertices, some-flat, even-hit, flatness}
-use Rattle.nef_conn.proofs.VolumeStrip.{lam, Clear}
+use Rattle.nef_conn.proofs.SliceStrip.{lam, Clear}
 
 module _ (s : Set) (C : Complex) (S : Shows s C) (upright : IsUpright C) (linked : AreLinkedWhereJoined s C) (h : Form) (hn : IsDirection (normal_of h)) (level : slope h up ≡ pos 0) where
   abbrev n : Vector

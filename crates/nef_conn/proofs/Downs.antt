@@ -29,9 +29,9 @@ use Rattle.law_links.specs.Links.{VolumeLink}
 use Rattle.law_links.specs.Components.{IsUpright, IsEvenAfter, IsAtSide}
 use Rattle.law_links.proofs.SideSight.{sees-way}
 use Rattle.law_links.proofs.EdgeEnds.{dot-opposite}
-use Rattle.nef_conn.specs.Converse.{AreLinkedWhereJoined}
+use Rattle.nef_conn.specs.Items.{AreLinkedWhereJoined}
 use Rattle.nef_conn.proofs.Chain.{chain-one}
-use Rattle.nef_conn.proofs.Converse.{side-label, inside-label}
+use Rattle.nef_conn.proofs.SidePaths.{side-label, inside-label}
 use Rattle.nef_conn.proofs.Leaves.{BesideVertex, toward-same}
 use Rattle.nef_conn.proofs.Touch.{no-way}
 

@@ -54,7 +54,7 @@ use Rattle.law_links.proofs.Across.{through-same}
 use Rattle.law_links.proofs.EdgeEnds.{EdgeWays, edge-ways, dot-opposite}
 use Rattle.law_links.proofs.NearVertex.{free-dim}
 use Rattle.law_links.proofs.Ties.{ahead-close, ahead-toward, dim-cell, tied-ray, tied-turned}
-use Rattle.nef_conn.specs.Converse.{AreLinkedWhereJoined, IsInTriangle}
+use Rattle.nef_conn.specs.Items.{AreLinkedWhereJoined, IsInTriangle}
 use Rattle.nef_conn.specs.Slices.{sliced}
 use Rattle.nef_conn.proofs.Chain.{chain-both}
 use Rattle.nef_conn.proofs.Claims.{Claim}
@@ -64,11 +64,11 @@ use Rattle.nef_conn.proofs.Fans.{mixed, mixed-between, mixed-toward}
 use Rattle.nef_conn.proofs.Leaves.{Beside-point, turn-beside}
 use Rattle.nef_conn.proofs.Near.{Wedge}
 use Rattle.nef_conn.proofs.NearOver.{up-some}
-use Rattle.nef_conn.proofs.Planar.{on-second, at-corner, third-side}
+use Rattle.nef_conn.proofs.Triangles.{on-second, at-corner, never-passes, third-side}
 use Rattle.nef_conn.proofs.RaysEnd.{ray-down, tied-dim}
 use Rattle.nef_conn.proofs.Silhouettes.{germs-inside, resliced, sliced-ahead, two-of, three-of, no-vertices}
 use Rattle.nef_conn.proofs.Slice.{unsliced}
-use Rattle.nef_conn.proofs.VolumeStrip.{lam, up_line, lam-at, lam-turned, down-turn, slope-to, inside-level, Clear}
+use Rattle.nef_conn.proofs.SliceStrip.{lam, up_line, lam-at, lam-turned, down-turn, slope-to, inside-level, Clear}
 use Rattle.nef_conn.proofs.Touch.{Seer, bound, Frame, Touch, edge-frame, vertex-frame, same-seers, touched, no-way}
 
 -- the plane along up through two points
@@ -449,7 +449,7 @@ module _ (s : Set) (C : Complex) (S : Shows s C) (upright : IsUpright C) (linked
 
       -- so the way from v to u is free
       pub way-two : (r : Place) → IsBetween u r v.point → FlatDim (sliced s h) r 2
-      way-two = third-side (sliced s h) h hn y u v.point on-y on-u on-v turn near-y (inr edge-y) F corner none-in
+      way-two = third-side (sliced s h) h hn y u v.point on-y on-u on-v turn near-y (inr edge-y) F (never-passes (sliced s h) y u v.point corner) none-in
 
       pub way-three : (r : Place) → IsBetween v.point r u → FlatDim s r 3
       way-three r c =

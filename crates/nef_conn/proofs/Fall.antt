@@ -40,11 +40,10 @@ use Rattle.law_complex.proofs.Planes.{plane-way}
 use Rattle.law_complex.proofs.Ways.{between-way, between-cases, same-itself}
 use Rattle.law_links.proofs.EdgeEnds.{opposite-way}
 use Rattle.law_links.proofs.Ties.{ahead-way, dim-cell}
-use Rattle.nef_conn.proofs.Triangles.{cut-up}
 use Rattle.nef_conn.proofs.Fans.{off-close, off-dim}
 use Rattle.nef_conn.proofs.Near.{Wedge}
-use Rattle.nef_conn.proofs.Planar.{half-to, around-halves, across-way, ends-level}
-use Rattle.nef_conn.proofs.VolumeStrip.{lam, up_line, lam-at, lam-turned, lam-sum, down-turn, Clear}
+use Rattle.nef_conn.proofs.Triangles.{cut-up, half-to, around-halves, across-way, ends-level}
+use Rattle.nef_conn.proofs.SliceStrip.{lam, up_line, lam-at, lam-turned, lam-sum, down-turn, Clear}
 
 -- ---- where an edge comes to a corner of a triangle
 module _ (t : Set) (a x : Place) (apart : SamePlace a x → ⊥) (edge : (r : Place) → IsBetween x r a → FlatDim t r 1) where

@@ -43,7 +43,8 @@ use Rattle.law_complex.proofs.Ways.{between-way, between-cases, between-outer, s
 use Rattle.law_links.specs.Links.{VolumeLink}
 use Rattle.law_links.specs.Components.{IsUpright}
 use Rattle.law_links.proofs.EdgeEnds.{opposite-way, dot-opposite}
-use Rattle.nef_conn.specs.Converse.{AreLinkedWhereJoined}
+use Rattle.law_links.proofs.Down.{facet-at}
+use Rattle.nef_conn.specs.Items.{AreLinkedWhereJoined}
 use Rattle.nef_conn.proofs.SameRay.{on-ray}
 use Rattle.nef_conn.proofs.Sweep.{Crosses, crosses-or, crosses-first, crosses-second, level-end, level-start, cut-of}
 use Rattle.nef_conn.specs.Slices.{minus_form, sliced}
@@ -52,12 +53,13 @@ use Rattle.nef_conn.proofs.Claims.{Claim, beside-fall}
 use Rattle.nef_conn.proofs.Fall.{lam-zero}
 use Rattle.nef_conn.proofs.Hits.{ray-over}
 use Rattle.nef_conn.proofs.NearOver.{up-some}
-use Rattle.nef_conn.proofs.OneOver.{over-place, same-place_trans}
+use Rattle.nef_conn.proofs.OneOver.{over-place}
+use Rattle.nef_conn.proofs.OneNamed.{place-trans}
 use Rattle.nef_conn.proofs.Leaves.{toward-same}
-use Rattle.nef_conn.proofs.RaysEnd.{facet-at, ray-down}
+use Rattle.nef_conn.proofs.RaysEnd.{ray-down}
 use Rattle.nef_conn.proofs.Silhouettes.{germs-inside, two-of}
 use Rattle.nef_conn.proofs.Slice.{germ-on, germ-off}
-use Rattle.nef_conn.proofs.VolumeStrip.{lam, up_line, lam-at, lam-turned, lam-sum, Clear}
+use Rattle.nef_conn.proofs.SliceStrip.{lam, up_line, lam-at, lam-turned, lam-sum, Clear}
 
 -- ---- the slice by a plane and by its opposite form have one cone at each point of the plane
 minus-level : (h : Form) (p : Place) → form_at (minus_form h) p ≡ neg_ℤ (form_at h p)
@@ -153,7 +155,7 @@ module _ (s : Set) (C : Complex) (S : Shows s C) (upright : IsUpright C) (linked
   one-start p q x z R T e = one-end p q x z R T (by (on-ray p R.place T.place (SameDirection-trans (toward p R.place) (opposite up) (toward p T.place) R.ahead (SameDirection-turned (toward p T.place) (opposite up) way))))
     where
       some : IsDirection (toward p T.place)
-      some o = direction-left (toward q T.place) (opposite up) T.ahead (place-toward q T.place (same-place_trans q p T.place (same-place_sym p q e) (toward-place p T.place o)))
+      some o = direction-left (toward q T.place) (opposite up) T.ahead (place-toward q T.place (place-trans q p T.place (same-place_sym p q e) (toward-place p T.place o)))
 
       way : SameDirection (toward p T.place) (opposite up)
       way = SameDirection-trans (toward p T.place) (toward q T.place) (opposite up) (toward-same p q T.place e some) T.ahead

@@ -33,12 +33,12 @@ use Rattle.law_complex.proofs.FacetEdges.{ahead-same}
 use Rattle.law_complex.proofs.FacetAngles.{between-level, Cut}
 use Rattle.law_complex.proofs.FacetTriangle.{HalfEdge, edge-halves, plane-between}
 use Rattle.law_links.specs.Links.{FacetLink}
-use Rattle.nef_conn.proofs.Onward.{level-back}
-use Rattle.nef_conn.proofs.Named.{chain-here}
+use Rattle.law_cyclic.proofs.Directions.{level-of_opposite}
+use Rattle.nef_conn.proofs.Chain.{chain-here}
 use Rattle.nef_conn.proofs.Sweep.{cut-of}
 use Rattle.nef_conn.proofs.Triangles.{across-way}
 use Rattle.nef_conn.proofs.OneNamed.{one-named}
-use Rattle.nef_conn.proofs.Strip.{Strip, m-some, level-m, strip, near-turn, beyond, short-of, angle-ahead, angle-over, On_far_line, at_start, ahead_of, behind_of, on-far_line, fan, not-at, not-behind}
+use Rattle.nef_conn.proofs.FacetStrip.{Strip, m-some, level-m, strip, near-turn, beyond, short-of, angle-ahead, angle-over, On_far_line, at_start, ahead_of, behind_of, on-far_line, fan, not-at, not-behind}
 use Rattle.nef_conn.proofs.Beside.{near, far, near-onward, Beside, beside-facet, vertex-not}
 use Rattle.nef_conn.proofs.OverEdge.{first-on}
 
@@ -156,6 +156,6 @@ module _ (s : Set) (C : Complex) (S : Shows s C) (h g : Form) (d : Vector) (y z 
     pub from-facet : (k l : Corner) → RayNames C h b d k → RayNames C h z d l → Chained (FacetLink C) k l ⊎ ((N : Beside s C S h g d y z T k) × SameDirection (toward b N.vertex.point) d)
     from-facet k l (meets_vertex i, I, c) named = inr (at-vertex k i I I.meets c)
     from-facet k l (meets_edge i, I, c) named = inl (
-        let one = one-named s C S h z d (λ q. T.some (let x = q.0 in omega (arith, ints), let x = q.1 in omega (arith, ints), let x = q.2 in omega (arith, ints))) (level-back n d T.level) k l (meets_edge i, at-edge i I I.meets, c) named in
-        subst (λ (j : Corner). Chained (FacetLink C) k j) one (chain-here C k)
+        let one = one-named s C S h z d (λ q. T.some (let x = q.0 in omega (arith, ints), let x = q.1 in omega (arith, ints), let x = q.2 in omega (arith, ints))) (level-of_opposite n d T.level) k l (meets_edge i, at-edge i I I.meets, c) named in
+        subst (λ (j : Corner). Chained (FacetLink C) k j) one (chain-here (FacetLink C) k)
         )

@@ -66,7 +66,7 @@ use Rattle.law_complex.proofs.Ways.{between-way, between-outer, same-itself}
 use Rattle.law_links.specs.Links.{VolumeLink}
 use Rattle.law_links.specs.Components.{IsUpright}
 use Rattle.law_links.proofs.EdgeEnds.{edge-ways, dot-opposite}
-use Rattle.nef_conn.specs.Converse.{AreLinkedWhereJoined}
+use Rattle.nef_conn.specs.Items.{AreLinkedWhereJoined}
 use Rattle.nef_conn.specs.Slices.{minus_form, sliced}
 use Rattle.nef_conn.proofs.Claims.{Claim, not-flat}
 use Rattle.nef_conn.proofs.Downs.{vertex-down, svertex-down, vertex-falls}
@@ -75,7 +75,8 @@ use Rattle.nef_conn.proofs.FreeSegments.{segment-in, minus-off, minus-slice}
 use Rattle.nef_conn.proofs.Leaves.{Beside-point}
 use Rattle.nef_conn.proofs.Lexical.{normal-below, normal-way, before-between, down-before, below-decided}
 use Rattle.nef_conn.proofs.NearOver.{up-some}
-use Rattle.nef_conn.proofs.OneOver.{below-normal, same-vertex, same-place_trans}
+use Rattle.nef_conn.proofs.Reached.{toward-normal}
+use Rattle.nef_conn.proofs.OneNamed.{one-vertex, place-trans}
 use Rattle.nef_conn.proofs.Tally.{tally, tally-mono, tally-strict}
 use Rattle.law_near.proofs.Alike.{FlatDim-one, FlatDim-by_germs}
 use Rattle.law_near.proofs.Decisions.{ahead, near-ahead}
@@ -93,7 +94,7 @@ use Rattle.law_links.proofs.NearVertex.{free-dim}
 use Rattle.law_links.proofs.Ties.{ahead-cells, dim-cell, tied-ray, tied-turned}
 use Rattle.nef_conn.proofs.Near.{Wedge}
 use Rattle.nef_conn.proofs.RaysEnd.{tied-dim}
-use Rattle.nef_conn.proofs.VolumeStrip.{lam, Clear}
+use Rattle.nef_conn.proofs.SliceStrip.{lam, Clear}
 use Rattle.nef_conn.proofs.Touch.{edge-frame}
 use Rattle.nef_conn.proofs.UprightVertex.{down-edge}
 use Rattle.nef_conn.proofs.Vertices.{claim-at}
@@ -245,7 +246,7 @@ module _ (s : Set) (C : Complex) (S : Shows s C) (upright : IsUpright C) (linked
 
       v-before : IsPlaceBelow v.point y
       v-before = normal-below v.point y (normal-way (toward v.point w.point) (toward v.point y) (SameDirection-turned (toward v.point y) (toward v.point w.point) (between-way v.point y w.point b))
-          (below-normal v.point w.point (S.ordered e.low e.high v w (let E = S.edges.edges k e a in E.upward) H.low H.high)))
+          (toward-normal v.point w.point (S.ordered e.low e.high v w (let E = S.edges.edges k e a in E.upward) H.low H.high)))
 
       fewer-v : before s C v.point < before s C y
       fewer-v = let A = vertex-event v.point (S.vertices e.low v H.low) in before-strict v.point y A.0 v-before A.1 A.2
@@ -323,7 +324,7 @@ module _ (s : Set) (C : Complex) (S : Shows s C) (upright : IsUpright C) (linked
         where
           by : (k : ℕ) (u : Svertex) → At v.map.svertices k u → SameDirection u.way (opposite up) → Aside
           by k u hu runs b x z on-b side clear first-free three inside (inl (i', v', a', e', T)) R w3 w2 =
-              let p = same-vertex s C S i i' v v' a a' (same-place_trans v.point y v'.point e (same-place_sym v'.point y e')) in
+              let p = one-vertex s C S i i' v v' a a' (place-trans v.point y v'.point e (same-place_sym v'.point y e')) in
               let a1 = subst (λ (q : ℕ). At C.vertices q v') (sym p) a' in
               let one = at-one C.vertices i v v' a a1 in
               let hu' = subst (λ (q : Vertex). At q.map.svertices k u) one hu in

@@ -26,7 +26,7 @@ use Rattle.law_links.proofs.Across.{across, across-tied}
 use Rattle.law_links.proofs.EdgeEnds.{edge-ways, AreTiedItems, corner_of, along-tied}
 use Rattle.law_links.proofs.ItemPoints.{at-item}
 use Rattle.law_links.proofs.Ties.{IsTied}
-use Rattle.nef_conn.specs.Converse.{AreLinkedWhereJoined}
+use Rattle.nef_conn.specs.Items.{AreLinkedWhereJoined}
 use Rattle.nef_conn.proofs.Chain.{chain-both, chain-one, chain-back, chain-here}
 use Rattle.nef_conn.proofs.Touch.{bound, Touch, vertex-frame, edge-frame, no-way}
 

@@ -42,7 +42,7 @@ use Rattle.nef_conn.proofs.Fall.{corner-two, corner-wedge, corner-edge, Run, run
 use Rattle.nef_conn.proofs.Near.{Wedge, wedge-of, wedge-way}
 use Rattle.nef_conn.proofs.Fans.{IsOff, off-close, off-ahead, off-between, off-dim}
 use Rattle.nef_conn.proofs.NearOver.{up-some, blend-rises}
-use Rattle.nef_conn.proofs.VolumeStrip.{lam, up_line, lam-at, lam-turned, lam-sum, down-turn, Clear, slope-to, along-start, along-end, along-back}
+use Rattle.nef_conn.proofs.SliceStrip.{lam, up_line, lam-at, lam-turned, lam-sum, down-turn, Clear, slope-to, along-start, along-end, along-back}
 
 neg-dot : (m u : Vector) → dot (opposite m) u ≡ neg_ℤ (dot m u)
 neg-dot m u = ring (m.x ∷ m.y ∷ m.z ∷ u.x ∷ u.y ∷ u.z ∷ []) (neg (at 0) ⊗ at 3 ⊕ neg (at 1) ⊗ at 4 ⊕ neg (at 2) ⊗ at 5) (neg (at 0 ⊗ at 3 ⊕ at 1 ⊗ at 4 ⊕ at 2 ⊗ at 5)) tt

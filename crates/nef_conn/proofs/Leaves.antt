@@ -32,14 +32,15 @@ use Rattle.law_links.specs.Links.{VolumeLink}
 use Rattle.law_links.specs.Components.{IsUpright, IsEvenAfter}
 use Rattle.law_links.proofs.EdgeEnds.{EdgeWays, edge-ways, opposite-way}
 use Rattle.law_links.proofs.Ties.{tied-ray}
-use Rattle.nef_conn.specs.Converse.{AreLinkedWhereJoined}
+use Rattle.nef_conn.specs.Items.{AreLinkedWhereJoined}
 use Rattle.nef_conn.proofs.SameRay.{on-ray}
 use Rattle.nef_conn.proofs.Chain.{chain-both, chain-back}
 use Rattle.nef_conn.proofs.Hits.{OverEdge, OverFacet, Over, ItemAt, over-item, above}
 use Rattle.nef_conn.proofs.Near.{Above, Wedge, wedge-on, slot, to-slot}
 use Rattle.nef_conn.proofs.NearOver.{high-frame, two-views}
-use Rattle.nef_conn.proofs.OneOver.{vertex-dim, edge-dim, facet-dim, same-vertex, same-place_trans}
-use Rattle.nef_conn.proofs.Planar.{half-to}
+use Rattle.nef_conn.proofs.OneOver.{vertex-dim, edge-dim, facet-dim}
+use Rattle.nef_conn.proofs.OneNamed.{one-vertex, place-trans}
+use Rattle.nef_conn.proofs.Triangles.{half-to}
 use Rattle.nef_conn.proofs.RaysEnd.{tied-dim}
 use Rattle.nef_conn.proofs.Touch.{Seer, bound, Frame, Touch, vertex-frame, edge-frame, touched, turn-touch, same-seers, no-way}
 
@@ -159,7 +160,7 @@ module _ (s : Set) (C : Complex) (S : Shows s C) (upright : IsUpright C) (linked
             let k = wedge-on s 3 y f g m (omega arith) wedge in
             let o = touched s C S y F (blend m g 1 f) k.0 in
             let p = subst (λ (r : Vector). Seer i v o.0 r) (no-way o.1.steps (blend m g 1 f)) o.1.seer in
-            let same = same-vertex s C S i j v w a b (same-place_trans v.point y w.point e at-y) in
+            let same = one-vertex s C S i j v w a b (place-trans v.point y w.point e at-y) in
             chain-both (VolumeLink C) x o.0 h (turn-touch s C S y F f (blend m g 1 f) free k.0 k.1 x o.0 T o.1)
             (by o.0 p (subst (λ (r : ℕ). At C.vertices r w) (sym same) b) (subst (λ (r : ℕ). Seer r w h (blend n d 1 up)) (sym same) U))
           where

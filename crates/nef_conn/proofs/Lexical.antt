@@ -12,7 +12,7 @@ use Rattle.law_forms.proofs.Directions.{same-factor}
 use Rattle.law_sphere.proofs.Compare.{SameDirection-turned}
 use Rattle.law_complex.proofs.FacetEdges.{ahead-back}
 use Rattle.nef_conn.proofs.Named.{twice}
-use Rattle.nef_conn.proofs.OneOver.{below-normal}
+use Rattle.nef_conn.proofs.Reached.{toward-normal}
 
 pub normal-below : (p q : Place) → IsNormal (toward p q) → IsPlaceBelow p q
 normal-below p q n = by_order (toward p q).x (pos 0)
@@ -67,7 +67,7 @@ before-between y p u q a b c =
     let m = mixed-of p u q c in
     normal-below u y (normal-sum m.k m.i m.j m.some_k m.some_i m.some_j (toward p y) (toward q y) (toward u y)
     (each m.k m.i m.j p.x u.x q.x y.x m.sum.is_x m.sum.is_w) (each m.k m.i m.j p.y u.y q.y y.y m.sum.is_y m.sum.is_w) (each m.k m.i m.j p.z u.z q.z y.z m.sum.is_z m.sum.is_w)
-    (below-normal p y a) (below-normal q y b))
+    (toward-normal p y a) (toward-normal q y b))
   where
     each : (k i j : ℕ) (a b c d : ℤ) → pos k *ℤ b ≡ pos i *ℤ a +ℤ pos j *ℤ c → pos k *ℤ pos u.w ≡ pos i *ℤ pos p.w +ℤ pos j *ℤ pos q.w
         → pos k *ℤ (d *ℤ pos u.w -ℤ b *ℤ pos y.w) ≡ pos i *ℤ (d *ℤ pos p.w -ℤ a *ℤ pos y.w) +ℤ pos j *ℤ (d *ℤ pos q.w -ℤ c *ℤ pos y.w)

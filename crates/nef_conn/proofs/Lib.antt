@@ -7,12 +7,12 @@ pub mod Named
 pub mod Faces
 pub mod Reached
 pub mod SameRay
-pub mod Segments
+pub mod ItemPaths
 pub mod Triangles
 pub mod Sweep
 pub mod OneNamed
 pub mod Sector
-pub mod Strip
+pub mod FacetStrip
 pub mod Leads
 pub mod Beside
 pub mod AlongEdge
@@ -23,9 +23,8 @@ pub mod Ahead
 pub mod Steps
 pub mod Chain
 pub mod RaysEnd
-pub mod Converse
+pub mod SidePaths
 pub mod Slice
-pub mod Planar
 pub mod Touch
 pub mod Fans
 pub mod Hits
@@ -33,7 +32,7 @@ pub mod OneOver
 pub mod Near
 pub mod NearOver
 pub mod Leaves
-pub mod VolumeStrip
+pub mod SliceStrip
 pub mod Fall
 pub mod Land
 pub mod Silhouettes
@@ -48,3 +47,7 @@ pub mod Upright
 pub mod UprightVertex
 pub mod Good
 pub mod SidesName
+pub mod OnEdges
+pub mod Counted
+pub mod Reaching
+pub mod OneCount

@@ -6,7 +6,7 @@
 --   and names the arc at its lower end, which is this one or linked with it along the edge.
 -- * an arc ends at the svertex of d. Then the arc at the other end of the edge is linked with it, has the same plane, and lies further along d, where
 --   the number of its vertex is greater for each such step, or smaller for each. So this comes to an end, by induction on the vertices left.
-use Rattle.std.proofs.Common.{◌≡◌, ℕ, pos, ◌<ℤ◌, arith, refl, sym, ◌∙◌, ◌⊎◌, inl, inr, ⊎_elim, [], ◌∷◌, subst}
+use Rattle.std.proofs.Common.{◌≡◌, ℕ, pos, ◌<ℤ◌, arith, sym, ◌∙◌, ◌⊎◌, inl, inr, ⊎_elim, subst}
 use Rattle.std.proofs.lemmas.Int.{ints}
 use Rattle.nef_space.specs.Lists.{Chained}
 use Rattle.nef_space.specs.Local.{FlatDim}
@@ -48,16 +48,10 @@ use Rattle.law_links.proofs.ItemPoints.{at-item, item-has_point, one-item}
 use Rattle.law_links.proofs.ItemLinks.{items-joined}
 use Rattle.law_links.proofs.EdgeEnds.{EdgeWays, edge-ways, tied-low, EndsOnSide, end-level, close_way, on-close, tied-close_way}
 use Rattle.law_links.proofs.Across.{through-same}
-use Rattle.nef_conn.specs.Converse.{way_inward, NamesFor}
+use Rattle.nef_conn.proofs.Chain.{chain-here, chain-before}
+use Rattle.nef_conn.specs.Items.{way_inward, NamesFor}
 use Rattle.nef_conn.proofs.Onward.{level-kept}
 use Rattle.nef_conn.proofs.WayInward.{on-too, opposite-same, names-same, dir-level, dir-some, dir-same}
-
--- ---- chains
-pub chain-here : (C : Complex) (j : Corner) → Chained (FacetLink C) j j
-chain-here C j = ([], refl)
-
-pub chain-before : (C : Complex) (j k l : Corner) → FacetLink C j k ⊎ FacetLink C k j → Chained (FacetLink C) k l → Chained (FacetLink C) j l
-chain-before C j k l a (ys, c) = (k ∷ ys, (a, c))
 
 -- ---- planes
 own-plane : (n : Vector) (p : Place) → form_at (plane_through n p) p ≡ pos 0
@@ -110,10 +104,10 @@ module _ (s : Set) (C : Complex) (S : Shows s C) (j : Corner) (v : Vertex) (x : 
           );
           joined = λ p a.
               let m = item-has_point s C S i w y L in
-              joined-both s p m.0 q (items-joined s C j i p m.0 S (chain-before C j i i link (chain-here C i)) a m.1) (N.joined m.0 m.1);
+              joined-both s p m.0 q (items-joined s C j i p m.0 S (chain-before (FacetLink C) j i i link (chain-here (FacetLink C) i)) a m.1) (N.joined m.0 m.1);
           named = names-same C g h q N.on_plane on-q one-normal (way_inward y) (way_inward x) (opposite-same (plane_dir (item_normal y)) (plane_dir (item_normal x)) (dir-same (item_normal y) (item_normal x) same)) k N.named;
         },
-        chain-before C j i k link chain,
+        chain-before (FacetLink C) j i k link chain,
       )
 
 -- ---- where the way inward lies on the item
@@ -177,7 +171,7 @@ module _ (s : Set) (C : Complex) (S : Shows s C) (j : Corner) (v : Vertex) (x : 
           joined = λ y a. (one-item s C S j y q a (at-item s C S j v x K d o)).0;
           named = (m, I, found.2.1);
         },
-        chain-before C j k k (inl (inr across)) (chain-here C k),
+        chain-before (FacetLink C) j k k (inl (inr across)) (chain-here (FacetLink C) k),
       )
 
 -- ---- where the arc lies on the side of its edge to which the way back leads: at the lower end of the edge
@@ -285,5 +279,5 @@ module _ (s : Set) (C : Complex) (S : Shows s C) (i : ℕ) (e : Edge) (at-i : At
         joined = λ r a. joined-both s r (ahead s v.point near) y (one-item s C S k r (ahead s v.point near) a (at-item s C S k v (arc_item c) K near on-near)).0 (joined-turned s y (ahead s v.point near) tied.0);
         named = (meets_edge i, first-met, corner-met);
       },
-      chain-here C k,
+      chain-here (FacetLink C) k,
     )

@@ -9,13 +9,12 @@ use Rattle.law_sphere.proofs.Shot.{product-off}
 use Rattle.law_sphere.proofs.StepOff.{blend-turned}
 use Rattle.nef_space.specs.Lists.{Chained}
 use Rattle.nef_space.specs.Local.{FlatDim}
-use Rattle.nef_space.specs.Place.{Place, SamePlace, toward, IsBetween}
+use Rattle.nef_space.specs.Place.{Place, toward, IsBetween}
 use Rattle.nef_space.specs.Sets.{Set}
 use Rattle.nef_space.specs.Vectors.{Vector, blend, dot, IsZero, IsDirection, SameDirection, up}
 use Rattle.law_near.proofs.Alike.{FlatDim-one}
 use Rattle.law_near.proofs.Decisions.{ahead}
 use Rattle.law_near.proofs.Flats.{vector-same}
-use Rattle.law_near.proofs.Germs.{sample}
 use Rattle.law_forms.proofs.Directions.{same-factor, factor-same, direction-left}
 use Rattle.law_forms.proofs.Far.{nought-or, same-nought}
 use Rattle.law_sphere.specs.Forms.{forms, SameSigns}
@@ -34,6 +33,7 @@ use Rattle.law_links.specs.Components.{IsUpright}
 use Rattle.law_links.proofs.NearVertex.{free-dim}
 use Rattle.law_links.proofs.SideSight.{sees-above}
 use Rattle.law_links.proofs.Ties.{ahead-toward, ahead-way, dim-cell, even-after, IsTied}
+use Rattle.nef_conn.proofs.AtSides.{ahead-zero}
 use Rattle.nef_conn.proofs.Chain.{chain-both}
 use Rattle.nef_conn.proofs.Fans.{IsOff, fan}
 use Rattle.nef_conn.proofs.Hits.{ItemAt, above}
@@ -91,14 +91,6 @@ wedge-on s k y f g m sm all = (subst (λ (v : Vector). FlatDim s (ahead s y v) k
 
     both : (i j : ℕ) → blend (i + j) f (j * m) g ≡ blend i f j (blend m g 1 f)
     both i j = vector-same (blend (i + j) f (j * m) g) (blend i f j (blend m g 1 f)) (one i j f.x g.x) (one i j f.y g.y) (one i j f.z g.z)
-
--- no way leads from a point to itself
-pub ahead-zero : (s : Set) (p : Place) (d : Vector) → IsZero d → SamePlace p (ahead s p d)
-ahead-zero s p d z = record { along_x = one p.x d.x z.0; along_y = one p.y d.y z.1; along_z = one p.z d.z z.2 }
-  where
-    one : (x e : ℤ) → e ≡ pos 0 → x *ℤ pos (p.w * (sample s p d).b) ≡ (x *ℤ pos (sample s p d).b +ℤ pos 1 *ℤ pos p.w *ℤ e) *ℤ pos p.w
-    one x e h = subst (λ (r : ℤ). x *ℤ pos (p.w * (sample s p d).b) ≡ (x *ℤ pos (sample s p d).b +ℤ pos 1 *ℤ pos p.w *ℤ r) *ℤ pos p.w) (sym h)
-        (ring (pos p.w ∷ x ∷ pos (sample s p d).b ∷ []) (at 1 ⊗ (at 0 ⊗ at 2)) ((at 1 ⊗ at 2 ⊕ num (pos 1) ⊗ at 0 ⊗ num (pos 0)) ⊗ at 0) tt)
 
 -- ---- beside a facet
 module _ (s : Set) (C : Complex) (S : Shows s C) (upright : IsUpright C) where

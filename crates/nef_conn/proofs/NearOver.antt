@@ -43,7 +43,7 @@ use Rattle.law_links.proofs.NearVertex.{facet-near}
 use Rattle.law_links.proofs.SidePoints.{level-opposite}
 use Rattle.law_links.proofs.SideSight.{sees-around}
 use Rattle.law_links.proofs.Ties.{ahead-close, ahead-toward, tied-turned, tied-both, tied-ahead}
-use Rattle.nef_conn.specs.Converse.{AreLinkedWhereJoined, EndsAt}
+use Rattle.nef_conn.specs.Items.{AreLinkedWhereJoined, EndsAt}
 use Rattle.nef_conn.proofs.Onward.{side-of}
 use Rattle.nef_conn.proofs.FirstMet.{all-flat}
 use Rattle.nef_conn.proofs.Chain.{chain-both, chain-back, chain-one}

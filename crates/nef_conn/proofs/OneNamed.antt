@@ -1,8 +1,10 @@
 -- What a ray within a plane first meets, and the corner there, are one.
-use Rattle.std.proofs.Common.{◌≡◌, ℕ, pos, ◌<ℤ◌, ◌+ℤ◌, ◌*ℤ◌, arith, ap, sym, ◌∙◌, inl, inr, ◌⊎◌, ⊎_elim, [], ◌∷◌, subst}
+use Rattle.std.proofs.Common.{◌≡◌, ℕ, ◌<◌, pos, ◌<ℤ◌, ◌+ℤ◌, ◌*ℤ◌, arith, ap, sym, ◌∙◌, inl, inr, ◌⊎◌, ⊎_elim, [], ◌∷◌, subst}
 use Rattle.std.proofs.lemmas.Bool.{cases_order}
+use Rattle.std.proofs.lemmas.Int.{ints}
 use Rattle.law_arithmetic.proofs.Order.{by_order}
 use Rattle.law_arithmetic.proofs.Ring.{ring, at, num, ◌⊕◌, ◌⊗◌}
+use Rattle.nef_space.specs.Numbers.{IsBelow}
 use Rattle.nef_space.specs.Place.{Place, Form, normal_of, slope, toward, SamePlace, IsBetween}
 use Rattle.nef_space.specs.Sets.{Set}
 use Rattle.nef_space.specs.Vectors.{Vector, dot, cross, opposite, blend, triple, IsDirection, IsZero, IsNormal, SameDirection}
@@ -23,7 +25,7 @@ use Rattle.law_sphere.proofs.Lists.{at-one}
 use Rattle.law_sphere.proofs.Parallel.{parallel-trans}
 use Rattle.law_sphere.proofs.Shot.{way-at}
 use Rattle.law_sphere.proofs.Vectors.{dot-comb, nought-if, normal-direction}
-use Rattle.law_complex.specs.Complexes.{Vertex, Edge, Complex, Corner, HasEnds, IsEdge}
+use Rattle.law_complex.specs.Complexes.{Vertex, Edge, Complex, Corner, HasEnds, IsEdge, IsEdgeBelow}
 use Rattle.law_complex.specs.Shows.{Shows}
 use Rattle.law_complex.specs.Skeleton.{IsEdgePoint, PlaneMeet, meets_vertex, meets_edge, Meets, IsFirstInPlane, IsArcOnSide, IsCornerAt, RayNames}
 use Rattle.law_complex.proofs.Edges.{edge-points}
@@ -36,7 +38,7 @@ use Rattle.nef_conn.proofs.WayInward.{opposite-same, side-turned}
 use Rattle.nef_conn.proofs.SameRay.{on-ray}
 use Rattle.nef_conn.proofs.Reached.{toward-normal}
 
-place-trans : (p q r : Place) → SamePlace p q → SamePlace q r → SamePlace p r
+pub place-trans : (p q r : Place) → SamePlace p q → SamePlace q r → SamePlace p r
 place-trans p q r e f = factor-place p r (same-trans (of_place p) (of_place q) (of_place r) (place-factor p q e) (place-factor q r f))
 
 normals-same : (a b : Vector) → IsNormal a → IsNormal b → IsZero (cross a b) → SameDirection a b
@@ -105,9 +107,15 @@ corners-same j k e f = ap (λ n. make n j.item) e ∙ ap (λ n. make k.vertex n)
     make : ℕ → ℕ → Corner
     make a b = record { vertex = a; item = b }
 
+-- no edge comes before itself in the order
+never-below : (a b : ℕ) → IsBelow (pos a ∷ pos b ∷ []) (pos a ∷ pos b ∷ []) → ⊥
+never-below a b (inl h) = omega (arith, ints)
+never-below a b (inr (e, inl h)) = omega (arith, ints)
+never-below a b (inr (e, inr (f, h))) = h
+
 module _ (s : Set) (C : Complex) (S : Shows s C) where
   -- ---- vertices and edges
-  one-vertex : (i k : ℕ) (v w : Vertex) → At C.vertices i v → At C.vertices k w → SamePlace v.point w.point → i ≡ k
+  pub one-vertex : (i k : ℕ) (v w : Vertex) → At C.vertices i v → At C.vertices k w → SamePlace v.point w.point → i ≡ k
   one-vertex i k v w a b e = ⊎_elim (λ z. z)
       (λ o. ⊎_elim (λ l. absurd (place_below-apart v.point w.point (S.ordered i k v w l a b) e)) (λ l. absurd (place_below-apart w.point v.point (S.ordered k i w v l b a) (same-place_sym v.point w.point e))) o)
       (cases_order i k)
@@ -204,6 +212,19 @@ module _ (s : Set) (C : Complex) (S : Shows s C) where
       let f = at-one C.vertices e.low v E.low_vertex H.low E.is_low in
       let g = at-one C.vertices e.high w E.high_vertex H.high E.is_high in
       (e, E, a, subst (λ (x : Vertex). IsBetween E.low_vertex.point z x.point) g (subst (λ (x : Vertex). IsBetween x.point z w.point) f b))
+
+  -- two edges with one number stand in one place, so points lie on one edge where one point is common
+  pub one-edge : (i k : ℕ) (z : Place) → IsEdgePoint C i z → IsEdgePoint C k z → i ≡ k
+  one-edge i k z x y =
+      let E = edge-inside i z x in
+      let F = edge-inside k z y in
+      one-place_of i k E.0 F.0 E.2 F.2 (one-edge_through i k E.0 F.0 E.1 F.1 z E.2 F.2 E.3 F.3)
+    where
+      apart : (i k : ℕ) (e f : Edge) → At C.edges i e → At C.edges k f → e ≡ f → i < k → ⊥
+      apart i k e f a b same l = never-below e.low e.low_svertex (subst (λ (g : Edge). IsEdgeBelow e g) (sym same) (S.edges.ordered i k e f l a b))
+
+      one-place_of : (i k : ℕ) (e f : Edge) → At C.edges i e → At C.edges k f → e ≡ f → i ≡ k
+      one-place_of i k e f a b same = ⊎_elim (λ n. n) (λ o. ⊎_elim (λ l. absurd (apart i k e f a b same l)) (λ l. absurd (apart k i f e b a (sym same) l)) o) (cases_order i k)
 
   -- ---- what is first met
   module _ (h : Form) (f : Vector) (j : Corner) where

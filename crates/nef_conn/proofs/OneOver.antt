@@ -1,11 +1,9 @@
 -- Sides above one place, or above points of one edge or one facet, are linked.
 use Rattle.std.proofs.Common.{◌≡◌, ℕ, ◌≤◌, arith, ap, sym, ◌∙◌, ◌⊎◌, inl, inr, ⊎_elim, List, subst}
-use Rattle.std.proofs.lemmas.Int.{ints}
-use Rattle.std.proofs.lemmas.Bool.{cases_order}
 use Rattle.law_arithmetic.specs.Signs.{sign}
 use Rattle.nef_space.specs.Lists.{Chained}
 use Rattle.nef_space.specs.Local.{Flat, FlatDim, Joined, IsEven}
-use Rattle.nef_space.specs.Place.{Place, SamePlace, toward, IsBetween, IsPlaceBelow}
+use Rattle.nef_space.specs.Place.{Place, SamePlace, toward, IsBetween}
 use Rattle.nef_space.specs.Sets.{Set}
 use Rattle.nef_space.specs.Vectors.{Vector, blend, dot, cross, opposite, IsZero, IsDirection, IsNormal, SameDirection, zero_vector, up}
 use Rattle.law_near.specs.Cells.{carriers}
@@ -13,11 +11,8 @@ use Rattle.law_near.proofs.Alike.{FlatDim-one, Flat-by_germs}
 use Rattle.law_near.proofs.Between.{between-turned, between-inner}
 use Rattle.law_near.proofs.Decisions.{ahead}
 use Rattle.law_near.proofs.Even.{even-germs}
-use Rattle.law_near.proofs.PlaceOrder.{place_below-apart}
 use Rattle.law_near.proofs.Rays.{signs-same, same-place_sym}
-use Rattle.law_forms.proofs.Between.{toward-place, between-same, place-factor, factor-place}
-use Rattle.law_forms.proofs.Sums.{same-trans}
-use Rattle.law_forms.specs.Homogeneous.{of_place}
+use Rattle.law_forms.proofs.Between.{toward-place, between-same}
 use Rattle.law_forms.proofs.Directions.{zero-decided, direction-left}
 use Rattle.law_forms.proofs.Far.{nought-or, same-nought}
 use Rattle.law_sphere.specs.Forms.{forms, SameSigns}
@@ -41,21 +36,15 @@ use Rattle.law_sphere.proofs.Vectors.{normal-direction}
 use Rattle.law_near.proofs.FlatDecided.{flat_dim-of}
 use Rattle.law_links.proofs.NearVertex.{facet-near}
 use Rattle.law_links.proofs.Ties.{joined-even, tied-turned, even-cell}
-use Rattle.nef_conn.specs.Converse.{AreLinkedWhereJoined}
+use Rattle.nef_conn.proofs.OneNamed.{place-trans, one-vertex}
+use Rattle.nef_conn.specs.Items.{AreLinkedWhereJoined}
 use Rattle.nef_conn.proofs.SameRay.{on-ray}
 use Rattle.nef_conn.proofs.Hits.{OverVertex, OverEdge, OverFacet, Over, over-item, side-is}
 use Rattle.law_near.proofs.Even.{joined-both}
-use Rattle.nef_conn.proofs.Planar.{half-to}
+use Rattle.nef_conn.proofs.Triangles.{half-to}
+use Rattle.nef_conn.proofs.Reached.{toward-normal}
 use Rattle.nef_conn.proofs.RaysEnd.{tied-dim}
 use Rattle.nef_conn.proofs.Touch.{Seer, bound, same-seers, no-way}
-
--- ---- order
--- the way from a point to one above it in the order is a normal
-pub below-normal : (p q : Place) → IsPlaceBelow p q → IsNormal (toward p q)
-below-normal p q (inl h) = record { first = omega (arith, ints); second = λ e. omega (arith, ints); third = λ e f. omega (arith, ints) }
-below-normal p q (inr (a, inl h)) = record { first = omega (arith, ints); second = λ e. omega (arith, ints); third = λ e f. omega (arith, ints) }
-below-normal p q (inr (a, inr (c, inl h))) = record { first = omega (arith, ints); second = λ e. omega (arith, ints); third = λ e f. omega (arith, ints) }
-below-normal p q (inr (a, inr (c, inr h))) = absurd h.1
 
 -- ---- directions close to two vectors of one way
 pub ways-same : (gs : List Vector) (d e f : Vector) (k l : ℕ) → SameDirection d e → amount gs f ≤ k → amount gs f ≤ l → SameSigns gs (blend k d 1 f) (blend l e 1 f)
@@ -114,16 +103,7 @@ module _ (s : Set) (v w z v' w' z' : Place) (b : IsBetween v z w) (b' : IsBetwee
       by (inr (inl f)) = f
       by (inr (inr c)) = absurd (one-zero v' (all v' (between-inner v z' w v' moved (between-turned z' v v' c))) zero')
 
-pub same-place_trans : (p q r : Place) → SamePlace p q → SamePlace q r → SamePlace p r
-same-place_trans p q r e f = factor-place p r (same-trans (of_place p) (of_place q) (of_place r) (place-factor p q e) (place-factor q r f))
-
 module _ (s : Set) (C : Complex) (S : Shows s C) where
-  -- ---- vertices
-  pub same-vertex : (i k : ℕ) (v w : Vertex) → At C.vertices i v → At C.vertices k w → SamePlace v.point w.point → i ≡ k
-  same-vertex i k v w a b e = ⊎_elim (λ g. g) (λ o. ⊎_elim
-      (λ l. absurd (place_below-apart v.point w.point (S.ordered i k v w l a b) e))
-      (λ l. absurd (place_below-apart w.point v.point (S.ordered k i w v l b a) (same-place_sym v.point w.point e))) o) (cases_order i k)
-
   -- sides of one vertex, by whatever number and record
   pub seers-linked : (i k : ℕ) (v w : Vertex) (x y : VertexSide) (d e f : Vector) (m n : ℕ) → At C.vertices i v → At C.vertices k w → i ≡ k → SameDirection d e → bound s v f ≤ m → bound s w f ≤ n
       → Seer i v x (blend m d 1 f) → Seer k w y (blend n e 1 f) → Chained (VolumeLink C) x y
@@ -136,7 +116,7 @@ module _ (s : Set) (C : Complex) (S : Shows s C) where
 
   pub vertices-over : (z z' : Place) (x y : VertexSide) → SamePlace z z' → OverVertex s C S z x → OverVertex s C S z' y → Chained (VolumeLink C) x y
   vertices-over z z' x y e (i, v, a, f, T) (k, w, b, g, U) =
-      let n = same-vertex i k v w a b (same-place_trans v.point z w.point f (same-place_trans z z' w.point e (same-place_sym w.point z' g))) in
+      let n = one-vertex s C S i k v w a b (place-trans v.point z w.point f (place-trans z z' w.point e (same-place_sym w.point z' g))) in
       let b' = subst (λ (j : ℕ). At C.vertices j w) (sym n) b in
       let one = at-one C.vertices i w v b' a in
       let q = subst (λ (u : Vertex). Seer i u y (blend U.steps zero_vector 1 up)) one (subst (λ (j : ℕ). Seer j w y (blend U.steps zero_vector 1 up)) (sym n) U.seer) in
@@ -144,14 +124,14 @@ module _ (s : Set) (C : Complex) (S : Shows s C) where
 
   -- ---- edges
   edge-zero : (k : ℕ) (e : Edge) (v w : Vertex) → At C.edges k e → HasEnds C e v w → IsNormal (toward v.point w.point)
-  edge-zero k e v w a H = below-normal v.point w.point (S.ordered e.low e.high v w (let E = S.edges.edges k e a in E.upward) H.low H.high)
+  edge-zero k e v w a H = toward-normal v.point w.point (S.ordered e.low e.high v w (let E = S.edges.edges k e a in E.upward) H.low H.high)
 
   pub edges-over : (z z' : Place) (x y : VertexSide) → IsEven s 1 z z' → OverEdge s C S z x → OverEdge s C S z' y → Chained (VolumeLink C) x y
   edges-over z z' x y even (k, e, v, w, a, H, b, T) (k', e', v', w', a', H', b', U) =
       let W = edge-ways s C S k e v w a H in
       let W' = edge-ways s C S k' e' v' w' a' H' in
       let ways = SameDirection-trans W.low.way (toward v.point w.point) W'.low.way (SameDirection-turned (toward v.point w.point) W.low.way W.onward) (SameDirection-trans (toward v.point w.point) (toward v'.point w'.point) W'.low.way same W'.onward) in
-      seers-linked e.low e'.low v v' x y W.low.way W'.low.way up T.steps U.steps H.low H'.low (same-vertex e.low e'.low v v' H.low H'.low low) ways T.large U.large T.seer U.seer
+      seers-linked e.low e'.low v v' x y W.low.way W'.low.way up T.steps U.steps H.low H'.low (one-vertex s C S e.low e'.low v v' H.low H'.low low) ways T.large U.large T.seer U.seer
     where
       one : FlatDim s z 1
       one = (edge-points s C k e v w z S a H b).0

@@ -3,7 +3,6 @@ use Rattle.std.proofs.Common.{◌≡◌, ℕ, ◌+◌, pos, ◌<ℤ◌, ◌+ℤ�
 use Rattle.std.proofs.lemmas.Int.{ints}
 use Rattle.law_arithmetic.specs.Signs.{sign}
 use Rattle.law_arithmetic.proofs.Ring.{ring, at, num, neg, ◌⊕◌, ◌⊖◌, ◌⊗◌}
-use Rattle.law_arithmetic.proofs.Combination.{given, none, follows}
 use Rattle.nef_space.specs.Local.{Germ}
 use Rattle.nef_space.specs.Place.{Place, toward}
 use Rattle.nef_space.specs.Sets.{Set}
@@ -17,6 +16,7 @@ use Rattle.law_near.proofs.Even.{joined-germs}
 use Rattle.law_near.proofs.NearGerms.{steep}
 use Rattle.law_near.proofs.Supports.{square-cross}
 use Rattle.law_forms.proofs.Directions.{dot-comm, direction-right}
+use Rattle.law_cyclic.proofs.Directions.{level-of_opposite}
 use Rattle.law_sphere.specs.Forms.{forms}
 use Rattle.law_sphere.specs.Maps.{At, Svertex, Arc, Item, arc_item, loop_item, items, item_normal, Map, OnItem, NearLabel, Valid}
 use Rattle.law_sphere.proofs.Vectors.{normal-is, dot-comb, same-plus, same-minus, nought-if}
@@ -39,13 +39,9 @@ use Rattle.law_links.specs.Links.{LinkAlong}
 use Rattle.law_links.proofs.NearVertex.{facet-near}
 use Rattle.law_links.proofs.Ties.{IsTied, tied-turned, tied-both, tied-ahead}
 use Rattle.law_links.proofs.EdgeEnds.{EdgeWays, edge-ways, ends-tied, EndsOnSide, end-level, close_way, on-close, tied-close_way, tied-turn, corner_of, opposite-way, left-turn, right-turn}
-use Rattle.nef_conn.specs.Converse.{EndsAt, ArcsGoOn}
+use Rattle.nef_conn.specs.Items.{EndsAt, ArcsGoOn}
 
 -- ---- directions of a plane
-pub level-back : (n d : Vector) → dot n d ≡ pos 0 → dot n (opposite d) ≡ pos 0
-level-back n d z = follows (n.x ∷ n.y ∷ n.z ∷ d.x ∷ d.y ∷ d.z ∷ []) (at 0 ⊗ neg (at 3) ⊕ at 1 ⊗ neg (at 4) ⊕ at 2 ⊗ neg (at 5)) (num (pos 0))
-    (given (neg (num (pos 1))) (at 0 ⊗ at 3 ⊕ at 1 ⊗ at 4 ⊕ at 2 ⊗ at 5) (num (pos 0)) z none) tt
-
 -- what lies in a plane lies in each plane with the same normal
 pub level-kept : (n m d : Vector) → SameDirection n m → dot n d ≡ pos 0 → dot m d ≡ pos 0
 level-kept n m d w z = dot-comm m d ∙ level-way d n m w (dot-comm d n ∙ z)
@@ -174,7 +170,7 @@ module _ (s : Set) (C : Complex) (S : Shows s C) (i a : ℕ) (v : Vertex) (j b :
   t-some = direction-right (opposite u) t t-way
 
   level-t : dot n t ≡ pos 0
-  level-t = level-way n (opposite u) t t-way (level-back n u level-u)
+  level-t = level-way n (opposite u) t t-way (level-of_opposite n u level-u)
 
   level-d : dot n d ≡ pos 0
   level-d =
@@ -243,7 +239,7 @@ module _ (c : Arc) (a : ℕ) (u : Vector) (normal-some : IsDirection c.normal) (
   side-of (inl e) = record { way = g; level = square-cross c.normal u; some = g-some; ends = inl (e, left) }
   side-of (inr e) = record {
     way = opposite g;
-    level = level-back c.normal g (square-cross c.normal u);
+    level = level-of_opposite c.normal g (square-cross c.normal u);
     some = λ z. g-some (let x = z.0 in omega (arith, ints), let y = z.1 in omega (arith, ints), let w = z.2 in omega (arith, ints));
     ends = inr (e, let h = left in let r = right-turn c.normal u g in omega (arith, ints));
   }

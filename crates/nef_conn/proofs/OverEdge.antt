@@ -25,12 +25,13 @@ use Rattle.law_complex.proofs.Ways.{between-way, between-ends}
 use Rattle.law_complex.proofs.FacetWays.{two-off, meets-on}
 use Rattle.law_links.specs.Links.{FacetLink}
 use Rattle.law_links.proofs.EdgeEnds.{right-turn}
-use Rattle.nef_conn.proofs.Onward.{level-back, back-triple}
-use Rattle.nef_conn.proofs.Named.{chain-here, chain-before}
+use Rattle.law_cyclic.proofs.Directions.{level-of_opposite}
+use Rattle.nef_conn.proofs.Onward.{back-triple}
+use Rattle.nef_conn.proofs.Chain.{chain-here, chain-before}
 use Rattle.nef_conn.proofs.OneNamed.{one-met, one-corner}
 use Rattle.nef_conn.proofs.Sector.{Seen, end_of, Stops}
 use Rattle.nef_conn.proofs.Leads.{Leads, edge-point, edge-lies_in, link-of}
-use Rattle.nef_conn.proofs.Strip.{Strip, m-some, beyond, angle-over}
+use Rattle.nef_conn.proofs.FacetStrip.{Strip, m-some, beyond, angle-over}
 use Rattle.nef_conn.proofs.AlongEdge.{opposite-normal}
 use Rattle.nef_conn.proofs.Beside.{turn-to, far, edge-of, on-other, meets-far, on-x, way-x, ahead-x, Beside, off-edges, fan-beside}
 
@@ -51,7 +52,7 @@ module _ (s : Set) (C : Complex) (S : Shows s C) (h g : Form) (d : Vector) (y z 
   some-opposite e i q = i (let a = q.0 in omega (arith, ints), let a = q.1 in omega (arith, ints), let a = q.2 in omega (arith, ints))
 
   level-opposite : dot n (opposite d) ≡ pos 0
-  level-opposite = level-back n d T.level
+  level-opposite = level-of_opposite n d T.level
 
   -- what the ray from z first meets
   pub first-on : (x : Place) (q : PlaneMeet) → SameDirection (toward z x) d → Meets C h q x → ((r : Place) → IsBetween z r x → FlatDim s r 2) → IsFirstInPlane C h z d q
@@ -172,7 +173,7 @@ module _ (s : Set) (C : Complex) (S : Shows s C) (h g : Form) (d : Vector) (y z 
                 same-here,
                 subst (λ (j : ℕ). IsArcOnSide v j n (opposite d) E.arc) (sym q) (arc-side T.seen (way-at v.map.svertices a E.svertex E.end)),
               ) in
-              subst (λ (j : Corner). Chained (FacetLink C) k j) (one-corner s C S h (opposite d) (some-opposite d T.some) level-opposite k l (meets_edge L.number) here (e, f, b, at-e, is, at-f, at-b, nb, side)) (chain-here C k)
+              subst (λ (j : Corner). Chained (FacetLink C) k j) (one-corner s C S h (opposite d) (some-opposite d T.some) level-opposite k l (meets_edge L.number) here (e, f, b, at-e, is, at-f, at-b, nb, side)) (chain-here (FacetLink C) k)
           by (inr (p, q, r, t, H)) =
               let low = ap (λ (j : Edge). j.low) one in
               let other = at-one C.vertices L.edge.low f L.other (subst (λ (j : ℕ). At C.vertices j f) low at-f) H.low in
@@ -182,7 +183,7 @@ module _ (s : Set) (C : Complex) (S : Shows s C) (h g : Form) (d : Vector) (y z 
                 vertex = subst (λ (j : ℕ). At C.vertices j L.other) (sym there) L.is_there;
                 item = at-arc L.other.map.arcs L.other.map.loop l.item b (subst (λ (x : Vertex). At x.map.arcs l.item b) other at-b);
               } in
-              chain-before C k l l (link-of s C k.vertex a v E.svertex L n k l E.arc b refl there corner-here K same-here nb (other-end T.seen b on-side)) (chain-here C l)
+              chain-before (FacetLink C) k l l (link-of s C k.vertex a v E.svertex L n k l E.arc b refl there corner-here K same-here nb (other-end T.seen b on-side)) (chain-here (FacetLink C) l)
 
       pub over-edge : (l : Corner) → RayNames C h z d l → Chained (FacetLink C) k l
       over-edge l (q, J, c) = met-named l (one-met s C S h (opposite d) l z d (meets_edge L.number) q edge-met J c)

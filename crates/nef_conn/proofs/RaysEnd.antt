@@ -38,25 +38,23 @@ use Rattle.law_complex.proofs.FacetEdges.{ahead-back}
 use Rattle.law_complex.proofs.FacetNames.{weight, normal-scaled, through-level, axis-in, facet-of, facets-complete}
 use Rattle.law_complex.proofs.FacetPoints.{facet-point}
 use Rattle.law_complex.proofs.FacetWays.{dim-same}
-use Rattle.law_complex.proofs.Skeletons.{FacetAt, way-ends, skeleton-not_flat, skeleton-or_flat}
+use Rattle.law_complex.proofs.Skeletons.{way-ends, skeleton-not_flat, skeleton-or_flat}
 use Rattle.law_links.specs.Components.{IsEvenAfter, IsUpright}
 use Rattle.law_links.proofs.Across.{across}
+use Rattle.law_links.proofs.Down.{facet-at}
 use Rattle.law_links.proofs.EdgeEnds.{edge-ways, tied-low, tied-turn}
 use Rattle.law_links.proofs.SideSight.{seen-free, sees-around}
 use Rattle.law_links.proofs.Ties.{ahead-cells, dim-cell, IsTied, tied-both, tied-ahead, tied-ray}
 use Rattle.nef_conn.proofs.AtSides.{side-toward}
 use Rattle.nef_conn.proofs.FirstMet.{all-flat}
 use Rattle.nef_conn.proofs.Named.{twice}
-use Rattle.nef_conn.specs.Falls.{RaysEnd}
+use Rattle.nef_conn.specs.Sides.{RaysEnd}
 
 -- what is tied is as flat
 pub tied-dim : (s : Set) (p q : Place) (k : ℕ) → IsTied s p q → FlatDim s p k → FlatDim s q k
 tied-dim s p q k t = FlatDim-by_germs s s p q (joined-germs s p q t.0) k
 
 module _ (s : Set) (C : Complex) (S : Shows s C) where
-  pub facet-at : FacetAt s C
-  facet-at k v x y c F = let p = facet-point s C S k v x y c F in (p.dim, p.flat, p.label, p.sided)
-
   -- some side sees a direction toward which three directions are flat
   pub seen-toward : (i : ℕ) (v : Vertex) (a : At C.vertices i v) (d : Vector) → FlatDim s (ahead s v.point d) 3 → (l : Label) × SeenAs v.map d l
   seen-toward i v a d f =
@@ -69,7 +67,7 @@ module _ (s : Set) (C : Complex) (S : Shows s C) where
   free-above p z on f clear =
       let back = subst (λ (r : Vector). SameDirection (toward z p) r) (twice up) (ahead-back p z (opposite up) on) in
       let even : IsEvenAfter s 3 z p = λ r o. ⊎_elim
-      (λ b. ⊎_elim (λ g. g) (λ k. absurd (clear r (between-turned z p r b) k)) (skeleton-or_flat s C S facet-at (facet-of s C S) r))
+      (λ b. ⊎_elim (λ g. g) (λ k. absurd (clear r (between-turned z p r b) k)) (skeleton-or_flat s C S (facet-at s C S) (facet-of s C S) r))
       (λ e. dim-same s p r 3 (same-place_sym r p e) f) o in
       tied-dim s p (ahead s z up) 3 (tied-ray s 3 z p up back even) f
 
@@ -203,7 +201,7 @@ module _ (s : Set) (C : Complex) (S : Shows s C) where
     pub ray-down : (p : Place) → InFrame p → FlatDim s p 3 → (x : VertexSide) × RayDown C p x
     ray-down p i f =
         let down = opposite up in
-        let W = way-ends s C S facet-at (facet-of s C S) p down (λ z. let e = z.2 in omega (arith, ints)) i (λ o. skeleton-not_flat s C S facet-at (facet-of s C S) p o f) in
+        let W = way-ends s C S (facet-at s C S) (facet-of s C S) p down (λ z. let e = z.2 in omega (arith, ints)) i (λ o. skeleton-not_flat s C S (facet-at s C S) (facet-of s C S) p o f) in
         let K = covered W.place (free-above p W.place W.ahead f W.clear) W.spot W.is_spot in (
           K.0,
           record { place = W.place; spot = W.spot; ahead = W.ahead; is_spot = W.is_spot; first = W.clear; above = K.2; label = K.1; has = K.3 },

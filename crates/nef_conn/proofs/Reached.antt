@@ -23,8 +23,9 @@ use Rattle.law_complex.proofs.FacetAngles.{through-at}
 use Rattle.law_complex.proofs.FacetEdges.{ahead-back}
 use Rattle.law_links.specs.Links.{FacetLink}
 use Rattle.law_links.proofs.EdgeEnds.{EndsOnSide, end-level, corner_of, right-turn}
-use Rattle.nef_conn.specs.Converse.{EndsAt, way_inward, ItemsName}
-use Rattle.nef_conn.proofs.Onward.{level-back, EdgeAway, from-low, from-high, arc-there, goes-on, link-up, link-down}
+use Rattle.nef_conn.specs.Items.{EndsAt, way_inward, ItemsName}
+use Rattle.law_cyclic.proofs.Directions.{level-of_opposite}
+use Rattle.nef_conn.proofs.Onward.{EdgeAway, from-low, from-high, arc-there, goes-on, link-up, link-down}
 use Rattle.nef_conn.proofs.WayInward.{opposite-same, dir-level, dir-some, dir-same}
 use Rattle.nef_conn.proofs.Named.{twice, Reaches, carried, onward-named, edge-named, side-same}
 use Rattle.nef_conn.proofs.Faces.{leads-away}
@@ -72,7 +73,7 @@ module _ (s : Set) (C : Complex) (S : Shows s C) (j : Corner) (v : Vertex) (c : 
   f-some = subst IsDirection (sym (twice (plane_dir c.normal))) (dir-some c.normal n-some)
 
   level-d : dot c.normal d ≡ pos 0
-  level-d = level-back c.normal (plane_dir c.normal) (dir-level c.normal)
+  level-d = level-of_opposite c.normal (plane_dir c.normal) (dir-level c.normal)
 
   d-some : IsDirection d
   d-some z = dir-some c.normal n-some (let x = z.0 in omega (arith, ints), let y = z.1 in omega (arith, ints), let w = z.2 in omega (arith, ints))
@@ -259,5 +260,5 @@ items-name s C j v (loop_item l) S K =
     let i = normal-is (S.cones j.vertex v K.vertex).valid.shaped j.item (loop_item l) K.item in
     onward-named s C S j v (loop_item l) K (record {
       direction = λ z. dir-some l.normal i (let x = z.0 in omega (arith, ints), let y = z.1 in omega (arith, ints), let w = z.2 in omega (arith, ints));
-      level = level-back l.normal (plane_dir l.normal) (dir-level l.normal);
+      level = level-of_opposite l.normal (plane_dir l.normal) (dir-level l.normal);
     })

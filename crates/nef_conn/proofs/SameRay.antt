@@ -1,9 +1,8 @@
--- Points along a ray within a facet name the same corners; and chains of links.
-use Rattle.std.proofs.Common.{◌≡◌, pos, ◌<ℤ◌, ◌-ℤ◌, arith, refl, sym, ◌⊎◌, inl, inr, ⊎_elim, List, [], ◌∷◌, subst}
+-- Points along a ray within a facet name the same corners.
+use Rattle.std.proofs.Common.{◌≡◌, pos, ◌<ℤ◌, ◌-ℤ◌, arith, ◌⊎◌, inl, inr, ⊎_elim, [], ◌∷◌}
 use Rattle.std.proofs.lemmas.Int.{ints}
 use Rattle.law_arithmetic.proofs.Order.{by_order}
 use Rattle.law_arithmetic.proofs.Ring.{ring, at, num, ◌⊕◌, ◌⊖◌, ◌⊗◌}
-use Rattle.nef_space.specs.Lists.{IsChain, Chained}
 use Rattle.nef_space.specs.Local.{IsEven}
 use Rattle.nef_space.specs.Place.{Place, Form, SamePlace, toward, IsBetween}
 use Rattle.nef_space.specs.Sets.{Set}
@@ -13,14 +12,13 @@ use Rattle.law_forms.proofs.Between.{toward-place}
 use Rattle.law_forms.proofs.Directions.{direction-left}
 use Rattle.law_sphere.proofs.Vectors.{nought-if}
 use Rattle.law_sphere.proofs.Compare.{SameDirection-turned, SameDirection-trans}
-use Rattle.law_complex.specs.Complexes.{Complex, Corner}
+use Rattle.law_complex.specs.Complexes.{Complex}
 use Rattle.law_complex.specs.Shows.{Shows}
 use Rattle.law_complex.specs.Skeleton.{PlaneMeet, Meets, IsFirstInPlane}
 use Rattle.law_complex.proofs.Ways.{between-way, between-cases, between-outer}
 use Rattle.law_complex.proofs.FacetWays.{two-off, meets-on}
 use Rattle.law_complex.proofs.FacetAngles.{aligned, cross-back}
-use Rattle.law_links.specs.Links.{FacetLink}
-use Rattle.nef_conn.specs.Converse.{NamesAlong}
+use Rattle.nef_conn.specs.Items.{NamesAlong}
 
 -- of two points ahead on one ray one lies before the other, or they are one
 pub on-ray : (v p q : Place) → SameDirection (toward v p) (toward v q) → IsBetween v p q ⊎ (SamePlace p q ⊎ IsBetween v q p)
@@ -80,22 +78,3 @@ names-along s C h y z d k S w even = (
   λ N. let I = N.1 in (N.0, from-here s C S h y z d w even N.0 I, N.2),
   λ N. let I = N.1 in (N.0, from-there s C S h y z d w even N.0 I, N.2),
 )
-
--- ---- chains
-module _ (C : Complex) where
-  abbrev pub Linked : Corner → Corner → Type 0
-  Linked j k = Chained (FacetLink C) j k
-
-  after : (j k l : Corner) (is : List Corner) → IsChain (FacetLink C) j is k → Linked k l → Linked j l
-  after j k l [] e c = subst (λ (i : Corner). Linked i l) (sym e) c
-  after j k l (i ∷ is) (a, c) d = let r = after i k l is c d in (i ∷ r.0, (a, r.1))
-
-  pub chain-both : (j k l : Corner) → Linked j k → Linked k l → Linked j l
-  chain-both j k l (is, c) d = after j k l is c d
-
-  turned-chain : (j k : Corner) (is : List Corner) → IsChain (FacetLink C) j is k → Linked k j
-  turned-chain j k [] e = ([], sym e)
-  turned-chain j k (i ∷ is) (a, c) = chain-both k i j (turned-chain i k is c) (j ∷ [], (⊎_elim (λ x. inr x) (λ x. inl x) a, refl))
-
-  pub chain-back : (j k : Corner) → Linked j k → Linked k j
-  chain-back j k (is, c) = turned-chain j k is c

@@ -49,19 +49,20 @@ use Rattle.law_links.proofs.EdgeEnds.{opposite-way}
 use Rattle.law_links.proofs.NearVertex.{free-dim}
 use Rattle.law_links.proofs.SideSight.{side-sees, sees-way, seen-free}
 use Rattle.law_links.proofs.Ties.{ahead-close, ahead-toward, dim-cell, even-after}
-use Rattle.nef_conn.specs.Converse.{AreLinkedWhereJoined}
-use Rattle.nef_conn.specs.Falls.{SidesName, NamesOfFreeSegments, ConverseByItems, ConverseForAll}
+use Rattle.law_links.proofs.Down.{facet-at}
+use Rattle.nef_conn.specs.Items.{AreLinkedWhereJoined}
+use Rattle.nef_conn.specs.Sides.{SidesName, NamesOfFreeSegments, ConverseByItems, ConverseForAll}
 use Rattle.nef_conn.specs.Slices.{sliced}
 use Rattle.nef_conn.proofs.Chain.{chain-here}
-use Rattle.nef_conn.proofs.Converse.{side-label, label-inside, converse-by_segments}
+use Rattle.nef_conn.proofs.SidePaths.{side-label, label-inside, converse-by_segments}
 use Rattle.nef_conn.proofs.Downs.{vertex-falls}
 use Rattle.nef_conn.proofs.EdgeFalls.{vertex-slice}
 use Rattle.nef_conn.proofs.FreeSegments.{segment-names}
 use Rattle.nef_conn.proofs.Good.{all-good}
 use Rattle.nef_conn.proofs.NearOver.{up-some}
-use Rattle.nef_conn.proofs.RaysEnd.{facet-at, ray-down}
+use Rattle.nef_conn.proofs.RaysEnd.{ray-down}
 use Rattle.nef_conn.proofs.Silhouettes.{sliced-signs, sliced-ahead, germs-inside, two-of}
-use Rattle.nef_conn.proofs.VolumeStrip.{lam, up_line, lam-at, lam-turned, Clear}
+use Rattle.nef_conn.proofs.SliceStrip.{lam, up_line, lam-at, lam-turned, Clear}
 use Rattle.nef_conn.proofs.Touch.{bound, no-way}
 
 module _ (s : Set) (C : Complex) (S : Shows s C) (upright : IsUpright C) (linked : AreLinkedWhereJoined s C) where

@@ -39,15 +39,16 @@ use Rattle.law_complex.proofs.FacetAngles.{through-at}
 use Rattle.law_complex.proofs.FacetEdges.{ahead-back, ahead-same}
 use Rattle.law_links.specs.Links.{FacetLink}
 use Rattle.law_links.proofs.EdgeEnds.{opposite-way, right-turn}
-use Rattle.nef_conn.specs.Converse.{line_form, HasClearStrip, NamesOfSteps, JoinedItemsAreLinked}
-use Rattle.nef_conn.proofs.Onward.{level-back}
+use Rattle.nef_conn.specs.Items.{line_form, HasClearStrip, NamesOfSteps, JoinedItemsAreLinked}
+use Rattle.law_cyclic.proofs.Directions.{level-of_opposite}
 use Rattle.nef_conn.proofs.WayInward.{dir-level}
-use Rattle.nef_conn.proofs.Named.{twice, chain-here}
+use Rattle.nef_conn.proofs.Chain.{chain-here}
+use Rattle.nef_conn.proofs.Named.{twice}
 use Rattle.nef_conn.proofs.SameRay.{names-along}
-use Rattle.nef_conn.proofs.Segments.{even-on, even-flat}
+use Rattle.nef_conn.proofs.ItemPaths.{even-on, even-flat}
 use Rattle.nef_conn.proofs.Sweep.{converse-by_steps}
 use Rattle.nef_conn.proofs.OneNamed.{one-named}
-use Rattle.nef_conn.proofs.Strip.{Strip, toward-turned}
+use Rattle.nef_conn.proofs.FacetStrip.{Strip, toward-turned}
 use Rattle.nef_conn.proofs.AlongEdge.{opposite-normal}
 use Rattle.nef_conn.proofs.Ahead.{strip-names}
 
@@ -77,7 +78,7 @@ module _ (s : Set) (C : Complex) (S : Shows s C) (h : Form) (d : Vector) (y z : 
   some = direction-right (opposite (plane_dir n)) d inward
 
   level : slope h d ≡ pos 0
-  level = level-way n (opposite (plane_dir n)) d inward (level-back n (plane_dir n) (dir-level n))
+  level = level-way n (opposite (plane_dir n)) d inward (level-of_opposite n (plane_dir n) (dir-level n))
 
   on-z : form_at h z ≡ pos 0
   on-z = even-on s h y z on F even
@@ -139,10 +140,10 @@ module _ (s : Set) (C : Complex) (S : Shows s C) (h : Form) (d : Vector) (y z : 
   back-some q = some (let x = q.0 in omega (arith, ints), let x = q.1 in omega (arith, ints), let x = q.2 in omega (arith, ints))
 
   same-corner : k ≡ l → Chained (FacetLink C) k l
-  same-corner e = subst (λ (j : Corner). Chained (FacetLink C) k j) e (chain-here C k)
+  same-corner e = subst (λ (j : Corner). Chained (FacetLink C) k j) e (chain-here (FacetLink C) k)
 
   one-place : SamePlace y z → Chained (FacetLink C) k l
-  one-place e = same-corner (one-named s C S h y d back-some (level-back n d level) k l a (b.0, first b.1, b.2))
+  one-place e = same-corner (one-named s C S h y d back-some (level-of_opposite n d level) k l a (b.0, first b.1, b.2))
     where
       first : IsFirstInPlane C h z d b.0 → IsFirstInPlane C h y d b.0
       first I = record {
@@ -161,10 +162,10 @@ module _ (s : Set) (C : Complex) (S : Shows s C) (h : Form) (d : Vector) (y z : 
   one-line t = ⊎_elim (λ q. one-place (toward-place y z q)) (λ i. by (beside (toward y z) d i some (parallel-in_plane n (toward y z) d n-some (plane-way h y z on on-z) level t))) (zero-decided (toward y z))
     where
       by : Beside (toward y z) d → Chained (FacetLink C) k l
-      by (same_way w) = same-corner (one-named s C S h z d back-some (level-back n d level) k l ((names-along s C h y z d k S w even).0 a) b)
+      by (same_way w) = same-corner (one-named s C S h z d back-some (level-of_opposite n d level) k l ((names-along s C h y z d k S w even).0 a) b)
       by (other_way o) =
           let w = subst (λ (r : Vector). SameDirection r d) (toward-turned y z) (opposite-way (toward y z) d o) in
-          same-corner (one-named s C S h y d back-some (level-back n d level) k l a ((names-along s C h z y d l S w even-back).0 b))
+          same-corner (one-named s C S h y d back-some (level-of_opposite n d level) k l a ((names-along s C h z y d l S w even-back).0 b))
 
   pub step-names : Chained (FacetLink C) k l
   step-names = by_order (triple n (toward y z) d) (pos 0)

@@ -26,11 +26,11 @@ use Rattle.law_complex.proofs.FacetAngles.{between-plus, between-minus, cut-at, 
 use Rattle.law_complex.proofs.FacetTriangle.{below-or}
 use Rattle.law_links.specs.Links.{FacetLink}
 use Rattle.law_links.proofs.Ties.{same-between}
-use Rattle.nef_conn.specs.Converse.{line_form, NamesOfSteps, ConverseBySteps}
-use Rattle.nef_conn.proofs.Onward.{level-back}
+use Rattle.nef_conn.specs.Items.{line_form, NamesOfSteps, ConverseBySteps}
+use Rattle.law_cyclic.proofs.Directions.{level-of_opposite}
 use Rattle.nef_conn.proofs.WayInward.{dir-level}
-use Rattle.nef_conn.proofs.SameRay.{chain-both, chain-back}
-use Rattle.nef_conn.proofs.Segments.{even-on, even-flat, converse-by_segments}
+use Rattle.nef_conn.proofs.Chain.{chain-both, chain-back}
+use Rattle.nef_conn.proofs.ItemPaths.{even-on, even-flat, converse-by_segments}
 use Rattle.nef_conn.proofs.Triangles.{cut-up}
 
 -- ---- the sign of a form between two points
@@ -150,7 +150,7 @@ module _ (s : Set) (C : Complex) (S : Shows s C) (steps : NamesOfSteps s C) (h :
   some = direction-right (opposite (plane_dir (normal_of h))) d inward
 
   level : slope h d ≡ pos 0
-  level = level-way (normal_of h) (opposite (plane_dir (normal_of h))) d inward (level-back (normal_of h) (plane_dir (normal_of h)) (dir-level (normal_of h)))
+  level = level-way (normal_of h) (opposite (plane_dir (normal_of h))) d inward (level-of_opposite (normal_of h) (plane_dir (normal_of h)) (dir-level (normal_of h)))
 
   -- the form of the line along d through a vertex
   abbrev Line : Vertex → Form
@@ -176,7 +176,7 @@ module _ (s : Set) (C : Complex) (S : Shows s C) (steps : NamesOfSteps s C) (h :
           let left = steps h d y r k c.0 N on F inward first (λ i u p q off. keeps-start (Line u) y r z m (none i u p q) off) a c.1 in
           let right = steps h d z r l c.0 N (even-on s h y z on F even) (even-flat s h y z on F even) inward (second-back s y r z even m)
           (λ i u p q off. keeps-start (Line u) z r y (between-turned y z r m) (λ x. none i u p q (turned-crossing (Line u) y z x)) off) b c.1 in
-          chain-both C k c.0 l left (chain-back C l c.0 right)
+          chain-both (FacetLink C) k c.0 l left (chain-back (FacetLink C) l c.0 right)
 
   sweep : (xs : List Vertex) (y z : Place) (k l : Corner) → form_at h y ≡ pos 0 → IsFlatIn s h y → IsEven s 2 y z → RayNames C h y d k → RayNames C h z d l
       → ((i : ℕ) (u : Vertex) → At C.vertices i u → form_at h u.point ≡ pos 0 → Crosses (Line u) y z → (j : ℕ) × At xs j u) → Chained (FacetLink C) k l
@@ -189,7 +189,7 @@ module _ (s : Set) (C : Complex) (S : Shows s C) (steps : NamesOfSteps s C) (h :
       let on-r = even-on s h y r on F first in
       let G = even-flat s h y r on F first in
       let c = named-at r on-r G in
-      chain-both C k c.0 l
+      chain-both (FacetLink C) k c.0 l
       (sweep xs y r k c.0 on F first a c.1 (λ i u p q o. later x xs u (only i u p q (crosses-first (Line u) y r z t.between o)) (λ e. level-end (Line x) y r t.level (subst (λ (w : Vertex). Crosses (Line w) y r) (sym e) o))))
       (sweep xs r z c.0 l on-r G (second-part s y r z even t.between) c.1 b
       (λ i u p q o. later x xs u (only i u p q (crosses-second (Line u) y r z t.between o)) (λ e. level-start (Line x) r z t.level (subst (λ (w : Vertex). Crosses (Line w) r z) (sym e) o)))))

@@ -1,41 +1,38 @@
--- Where a side of a triangle lies within a facet, another within it or on an edge, and no vertex in it, the third side lies within the facet: an edge that crosses it would leave the triangle by another side.
-use Rattle.std.proofs.Common.{◌≡◌, ℕ, ℤ, pos, ◌-ℤ◌, ◌*ℤ◌, ◌<ℤ◌, ◌≤ℤ◌, arith, ap, sym, ◌∙◌, ◌⊎◌, inl, inr, ⊎_elim, [], ◌∷◌, subst}
+-- Where a side of a triangle lies within a facet of a set, another within it or on an edge, and no vertex in it but the corner between both, the third side lies within the facet: an edge that crosses it would leave the triangle by another side.
+use Rattle.std.proofs.Common.{◌≡◌, zero, suc, ℤ, pos, ◌-ℤ◌, ◌*ℤ◌, ◌<ℤ◌, ◌≤ℤ◌, arith, refl, ap, sym, ◌∙◌, ◌⊎◌, inl, inr, ⊎_elim, [], ◌∷◌, subst}
 use Rattle.std.proofs.lemmas.Int.{ints}
 use Rattle.law_arithmetic.proofs.Ring.{ring, at, num, ◌⊖◌, ◌⊗◌}
-use Rattle.law_arithmetic.proofs.Order.{mul_pos, by_order}
-use Rattle.nef_space.specs.Local.{Flat, FlatDim}
+use Rattle.law_arithmetic.proofs.Order.{mul_pos, by_order, sign-plus}
+use Rattle.law_arithmetic.specs.Signs.{nought, plus, sign}
+use Rattle.nef_space.specs.Local.{Flat, FlatDim, IsVertex}
 use Rattle.nef_space.specs.Place.{Place, Form, form_at, normal_of, slope, SamePlace, toward, IsBetween}
 use Rattle.nef_space.specs.Sets.{Set}
 use Rattle.nef_space.specs.Vectors.{Vector, cross, IsZero, IsDirection}
 use Rattle.law_near.specs.Cells.{carriers}
-use Rattle.law_near.specs.Laws.{Drop}
-use Rattle.law_near.proofs.Alike.{germs-by_cell, FlatDim-one, Flat-by_germs}
+use Rattle.law_near.specs.Laws.{Drop, IsFlatBelow, EdgeAround}
+use Rattle.law_near.proofs.Alike.{FlatDim-one, Flat-by_germs}
 use Rattle.law_near.proofs.Between.{between-turned, between-inner}
-use Rattle.law_near.proofs.Edges.{even-until}
-use Rattle.law_near.proofs.Even.{even-germs, span-1}
+use Rattle.law_near.proofs.Edges.{start-close, start-toward, even-until, edge-around}
+use Rattle.law_near.proofs.Even.{even-germs, flat-way, span-1}
 use Rattle.law_near.proofs.FlatDecided.{cross-turned}
 use Rattle.law_near.proofs.Rays.{signs-same, same-place_sym}
-use Rattle.law_forms.proofs.Near.{slope-toward}
+use Rattle.law_forms.proofs.Near.{reach_all, slope-toward}
 use Rattle.law_forms.proofs.Between.{toward-place, place-toward, between-same}
-use Rattle.law_forms.proofs.Directions.{dot-zero, zero-decided}
-use Rattle.law_sphere.specs.Maps.{At}
+use Rattle.law_forms.proofs.Directions.{dot-zero, zero-decided, direction-right}
 use Rattle.law_sphere.proofs.KindFlats.{in-span}
-use Rattle.law_sphere.proofs.Vectors.{normal-direction}
 use Rattle.law_sphere.proofs.Parallel.{parallel-in_plane, parallel-trans}
+use Rattle.law_sphere.proofs.Vectors.{normal-direction}
 use Rattle.law_sphere.proofs.Compare.{SameDirection-turned, SameDirection-trans, way-self}
-use Rattle.law_complex.specs.Complexes.{Vertex, Complex}
-use Rattle.law_complex.specs.Shows.{Shows}
-use Rattle.law_complex.specs.Skeleton.{IsVertexPoint, IsOnEdges}
 use Rattle.law_complex.specs.Laws.{IsFlatIn}
 use Rattle.law_complex.proofs.FacetSides.{level-way}
 use Rattle.law_complex.proofs.Planes.{plane-way}
-use Rattle.law_complex.proofs.Ways.{between-way, between-start, between-ends, same-itself}
+use Rattle.law_complex.proofs.Ways.{between-way, between-start, between-ends, between-outer, same-itself}
 use Rattle.law_complex.proofs.Edges.{near_point, near-between}
 use Rattle.law_complex.proofs.FacetEdges.{not-along}
-use Rattle.law_complex.proofs.FacetWays.{dim-same, even-by, plane-back, below-on, ends-lie}
+use Rattle.law_complex.proofs.FacetWays.{even-by, plane-back, plane-onward, flat-onto}
 use Rattle.law_complex.proofs.FacetAngles.{same-by, same-by-minus, zero-by, Cut, cross-back, aligned, angle, turn_form, turn-at, angle-turned, angle-self, angle-start, angle-inside, between-plus, between-minus, between-level, cut-at}
-use Rattle.law_complex.proofs.FacetTriangle.{HalfEdge, edge-halves, plane-between, below-or}
-use Rattle.nef_conn.specs.Converse.{LiesWithin, ThirdSides}
+use Rattle.law_complex.proofs.FacetTriangle.{HalfEdge, plane-between, below-or}
+use Rattle.nef_conn.specs.Items.{IsInTriangle, LiesAlong, ThirdSides}
 
 -- ---- the slope of a form from and to its plane
 module _ (F : Form) (p q : Place) where
@@ -61,14 +58,43 @@ module _ (F : Form) (p q : Place) where
       let w = ring (pos q.w ∷ []) (at 0 ⊗ num (pos 0)) (num (pos 0)) tt in
       omega (arith, ints)
 
-  rises : form_at F p ≡ pos 0 → pos 0 <ℤ form_at F q → pos 0 <ℤ slope F (toward p q)
+  pub rises : form_at F p ≡ pos 0 → pos 0 <ℤ form_at F q → pos 0 <ℤ slope F (toward p q)
   rises x y = rising (form_at F p) (form_at F q) (slope F (toward p q)) (slope-toward F p q) x y
 
-  falls-to : form_at F q ≡ pos 0 → pos 0 <ℤ form_at F p → slope F (toward p q) <ℤ pos 0
+  pub falls-to : form_at F q ≡ pos 0 → pos 0 <ℤ form_at F p → slope F (toward p q) <ℤ pos 0
   falls-to x y = falling-to (form_at F p) (form_at F q) (slope F (toward p q)) (slope-toward F p q) x y
 
-  falls : form_at F p ≡ pos 0 → form_at F q <ℤ pos 0 → slope F (toward p q) <ℤ pos 0
+  pub falls : form_at F p ≡ pos 0 → form_at F q <ℤ pos 0 → slope F (toward p q) <ℤ pos 0
   falls x y = falling (form_at F p) (form_at F q) (slope F (toward p q)) (slope-toward F p q) x y
+
+-- where a form rises through nought
+pub cut-up : (h : Form) (p q : Place) → IsDirection (toward p q) → form_at h p <ℤ pos 0 → pos 0 <ℤ form_at h q → Cut h p q
+cut-up h p q i x y =
+    let k = cut-at h q p (λ z. i (place-toward p q (same-place_sym q p (toward-place q p z)))) y x in
+    record { place = k.place; between = between-turned q p k.place k.between; level = k.level }
+
+-- ---- edges of a set
+pub half-to : (s : Set) (t c : Place) → IsDirection (toward t c) → FlatDim s t 1 → ((r : Place) → IsBetween t r c → FlatDim s r 1) → HalfEdge s t c
+half-to s t c i one all =
+    let q = near_point s t c in
+    let b = near-between s t c i in
+    record {
+      leads = i;
+      one = one;
+      all = all;
+      flat = subst (Flat s t) (start-toward (reach_all (carriers s) t) t c) (flat-way s 1 t q one (all q b) (start-close (reach_all (carriers s) t) t c) (between-start t q c b));
+    }
+
+pub around-halves : (s : Set) (t : Place) (E : EdgeAround s t) → HalfEdge s t E.source × HalfEdge s t E.target
+around-halves s t E =
+    let one = E.even t E.between in
+    let back = between-turned E.source E.target t E.between in (
+      half-to s t E.source (between-start-back back) one (λ r b. E.even r (between-turned E.target E.source r (between-outer E.target t r E.source back b))),
+      half-to s t E.target (direction-right (toward E.source t) (toward t E.target) E.between) one (λ r b. E.even r (between-outer E.source t r E.target E.between b)),
+    )
+  where
+    between-start-back : IsBetween E.target t E.source → IsDirection (toward t E.source)
+    between-start-back b = direction-right (toward E.target t) (toward t E.source) b
 
 -- an edge of the plane that a way with two flat directions comes to runs across the way
 pub across-way : (s : Set) (y t c : Place) → IsDirection (toward y t) → ((r : Place) → IsBetween y r t → FlatDim s r 2) → HalfEdge s t c → IsZero (cross (toward y t) (toward y c)) → ⊥
@@ -78,22 +104,24 @@ across-way s y t c i all E o =
     let back : IsDirection (toward t y) = λ z. i (place-toward y t (same-place_sym t y (toward-place t y z))) in
     not-along s t y (toward t y) (way-self (toward t y) back) E.one (all (near_point s t y) (between-turned t y (near_point s t y) (near-between s t y back))) (span-1 s t (toward t c) (toward t y) E.leads E.flat b)
 
--- or a itself is on no edge, and from there to c, both left out, the points lie on one edge
-abbrev pub SideWithin : Set → Place → Place → Type 0
-SideWithin s a c = LiesWithin s a c ⊎ ((FlatDim s a 1 → ⊥) × ((r : Place) → IsBetween a r c → FlatDim s r 1 × Flat s r (toward a c)))
-
--- where a form rises through nought
-pub cut-up : (h : Form) (p q : Place) → IsDirection (toward p q) → form_at h p <ℤ pos 0 → pos 0 <ℤ form_at h q → Cut h p q
-cut-up h p q i x y =
-    let k = cut-at h q p (λ z. i (place-toward p q (same-place_sym q p (toward-place q p z)))) y x in
-    record { place = k.place; between = between-turned q p k.place k.between; level = k.level }
-
 -- the direction of an edge is flat all along it
 flat-on : (s : Set) (p r q : Place) → FlatDim s p 1 → Flat s p (toward p q) → ((u : Place) → IsBetween p u q → FlatDim s u 1) → IsBetween p r q → Flat s r (toward p q)
 flat-on s p r q one flat all b = Flat-by_germs s s p r (even-germs s 1 p r (even-by s 1 p r one (λ u d. all u (between-inner p r q u b d)) (all r b))) (toward p q) flat
 
+-- the edge at the end of a way within a facet lies in the facet's plane
+pub ends-level : (s : Set) (h : Form) (q z : Place) → IsDirection (toward q z) → IsFlatIn s h q → ((r : Place) → IsBetween q r z → FlatDim s r 2) → form_at h z ≡ pos 0 → (E : EdgeAround s z) → (form_at h E.source ≡ pos 0) × (form_at h E.target ≡ pos 0)
+ends-level s h q z i F all on E =
+    let H = around-halves s z E in
+    let each = λ (c : Place) (K : HalfEdge s z c). plane-onward h z c ((F.1 (toward z c)).0 (flat-onto s 2 q z i F.0 all (toward z c) K.flat)) on in
+    (each E.source H.0, each E.target H.1)
+
+-- a way along edges from t to v, which is a, or a way over a
+pub never-passes : (s : Set) (a b c : Place) → ((t : Place) → IsBetween b t c → ((r : Place) → IsBetween t r a → FlatDim s r 1) → ⊥) → (t v : Place) → IsBetween b t c → IsVertex s v → HalfEdge s t v → IsBetween t a v ⊎ SamePlace a v → ⊥
+never-passes s a b c corner t v amid vertex E (inl d) = corner t amid (λ r m. E.all r (between-inner t a v r d m))
+never-passes s a b c corner t v amid vertex E (inr o) = corner t amid (λ r m. E.all r (between-same t r a t r v (same-itself t) (same-itself r) o m))
+
 -- ---- the triangle of a, b and c
-module _ (s : Set) (C : Complex) (S : Shows s C) (h : Form) (hn : IsDirection (normal_of h)) (a b c : Place) (on-a : form_at h a ≡ pos 0) (on-b : form_at h b ≡ pos 0) (on-c : form_at h c ≡ pos 0)
+module _ (s : Set) (h : Form) (hn : IsDirection (normal_of h)) (a b c : Place) (on-a : form_at h a ≡ pos 0) (on-b : form_at h b ≡ pos 0) (on-c : form_at h c ≡ pos 0)
     (turn : pos 0 <ℤ angle (normal_of h) a b c) where
   abbrev n : Vector
   n = normal_of h
@@ -136,7 +164,7 @@ module _ (s : Set) (C : Complex) (S : Shows s C) (h : Form) (hn : IsDirection (n
   G-a = subst (λ x. pos 0 <ℤ x) (sym (turn-at n b c a)) (angle-inside n a b c turn)
 
   -- what lies on the line of a side, and on the inner side of the other two, lies on the side
-  on-first : (x : Place) → form_at h x ≡ pos 0 → form_at P x ≡ pos 0 → form_at R x <ℤ pos 0 → pos 0 <ℤ form_at G x → IsBetween a x b
+  pub on-first : (x : Place) → form_at h x ≡ pos 0 → form_at P x ≡ pos 0 → form_at R x <ℤ pos 0 → pos 0 <ℤ form_at G x → IsBetween a x b
   on-first x on e r g =
       let o = parallel-in_plane n (toward a b) (toward a x) hn (plane-way h a b on-a on-b) (plane-way h a x on-a on) (sym (turn-at n a b x) ∙ e) in
       let u = same-by-minus (normal_of R) (toward a b) (toward a x) o (falls R a b R-a R-b) (falls R a x R-a r) in
@@ -154,14 +182,24 @@ module _ (s : Set) (C : Complex) (S : Shows s C) (h : Form) (hn : IsDirection (n
   pub at-corner : (x : Place) → form_at h x ≡ pos 0 → form_at P x ≡ pos 0 → form_at R x ≡ pos 0 → SamePlace a x
   at-corner x on p r =
       let o = parallel-in_plane n (toward a b) (toward a x) hn (plane-way h a b on-a on-b) (plane-way h a x on-a on) (sym (turn-at n a b x) ∙ p) in
-      toward-place a x (zero-by (normal_of R) (toward a b) (toward a x) o (falls R a b R-a R-b) (level-from R a x R-a r))
-    where
-      level-from : (F : Form) (p q : Place) → form_at F p ≡ pos 0 → form_at F q ≡ pos 0 → slope F (toward p q) ≡ pos 0
-      level-from F p q e f = plane-way F p q e f
+      toward-place a x (zero-by (normal_of R) (toward a b) (toward a x) o (falls R a b R-a R-b) (plane-way R a x R-a r))
 
-  module _ (first : (r : Place) → IsBetween a r b → FlatDim s r 2) (second : SideWithin s a c) (F : IsFlatIn s h b) where
+  -- an edge from a point t of the third side isn't parallel to the second side where it comes to its line
+  pub never-along : (t v x : Place) → IsBetween b t c → HalfEdge s t v → IsBetween t x v → form_at R x ≡ pos 0 → Flat s x (toward a c) → ⊥
+  never-along t v x amid E d z here =
+      let there = flat-on s t x v E.one E.flat E.all d in
+      let way = ⊎_elim (λ y. y) (λ f. absurd ((E.all x d).1 (toward a c, toward t v, f, here, there))) (zero-decided (cross (toward a c) (toward t v))) in
+      let some : IsDirection (toward a c) = λ y. let m = rises P a c P-a P-c in let k = dot-zero (normal_of P) (toward a c) y in omega (arith, ints) in
+      let level = in-span (normal_of R) (toward a c) (toward t v) some way (plane-way R a c R-a R-c) in
+      let to-x = level-way (normal_of R) (toward t v) (toward t x) (SameDirection-turned (toward t x) (toward t v) (between-way t x v d)) level in
+      let k = plane-back R t x to-x z in
+      let r = between-minus R c t b (between-turned b c t amid) R-c R-b in
+      omega (arith, ints)
+
+  module _ (first : (r : Place) → IsBetween a r b → FlatDim s r 2) (second : LiesAlong s a c) (F : IsFlatIn s h b)
+      (corner : (t v : Place) → IsBetween b t c → IsVertex s v → HalfEdge s t v → IsBetween t a v ⊎ SamePlace a v → ⊥) where
     -- an edge from a point t of the third side, to the side of a, ends in the triangle
-    module _ (t : Place) (amid : IsBetween b t c) (v : Vertex) (on-v : form_at h v.point ≡ pos 0) (E : HalfEdge s t v.point) (inward : pos 0 <ℤ form_at G v.point) where
+    module _ (t : Place) (amid : IsBetween b t c) (v : Place) (vertex : IsVertex s v) (on-v : form_at h v ≡ pos 0) (E : HalfEdge s t v) (inward : pos 0 <ℤ form_at G v) where
       on-t : form_at h t ≡ pos 0
       on-t = plane-between h b t c amid on-b on-c
 
@@ -174,60 +212,58 @@ module _ (s : Set) (C : Complex) (S : Shows s C) (h : Form) (hn : IsDirection (n
       G-t : form_at G t ≡ pos 0
       G-t = plane-between G b t c amid G-b G-c
 
-      on-x : (x : Place) → IsBetween t x v.point → form_at h x ≡ pos 0
-      on-x x d = plane-between h t x v.point d on-t on-v
+      on-x : (x : Place) → IsBetween t x v → form_at h x ≡ pos 0
+      on-x x d = plane-between h t x v d on-t on-v
 
-      G-x : (x : Place) → IsBetween t x v.point → pos 0 <ℤ form_at G x
-      G-x x d = between-plus G v.point x t (between-turned t v.point x d) inward (let e = G-t in omega (arith, ints))
-
-      -- the direction of the second side isn't flat at its points
-      not-along_second : (x : Place) → IsBetween t x v.point → form_at R x ≡ pos 0 → Flat s x (toward a c) → ⊥
-      not-along_second x d z here =
-          let there = flat-on s t x v.point E.one E.flat E.all d in
-          let way = ⊎_elim (λ y. y) (λ f. absurd ((E.all x d).1 (toward a c, toward t v.point, f, here, there))) (zero-decided (cross (toward a c) (toward t v.point))) in
-          let some : IsDirection (toward a c) = λ y. let m = rises P a c P-a P-c in let k = dot-zero (normal_of P) (toward a c) y in omega (arith, ints) in
-          let level = in-span (normal_of R) (toward a c) (toward t v.point) some way (plane-way R a c R-a R-c) in
-          let to-x = level-way (normal_of R) (toward t v.point) (toward t x) (SameDirection-turned (toward t x) (toward t v.point) (between-way t x v.point d)) level in
-          let k = plane-back R t x to-x z in
-          let r = R-t in
-          omega (arith, ints)
+      G-x : (x : Place) → IsBetween t x v → pos 0 <ℤ form_at G x
+      G-x x d = between-plus G v x t (between-turned t v x d) inward (let e = G-t in omega (arith, ints))
 
       -- it doesn't run through a point of the second side, which lies within a facet, or on an edge, to which the edge from t would be parallel
-      off-second : (x : Place) → IsBetween t x v.point → form_at R x ≡ pos 0 → IsBetween a x c ⊎ SamePlace a x → SideWithin s a c → ⊥
-      off-second x d z (inl o) (inl (inl w)) = let j = FlatDim-one s x 1 2 (E.all x d) (w.1 x o) in cc
-      off-second x d z (inr o) (inl (inl w)) = w.0 (dim-same s x a 1 (same-place_sym a x o) (E.all x d))
-      off-second x d z o (inl (inr w)) = not-along_second x d z (⊎_elim (λ m. flat-on s a x c w.0 w.1 w.2 m) (λ e. Flat-by_germs s s a x (germs-by_cell s a x (signs-same (carriers s) a x e)) (toward a c) w.1) o)
-      off-second x d z (inl o) (inr w) = not-along_second x d z (w.1 x o).1
-      off-second x d z (inr o) (inr w) = w.0 (dim-same s x a 1 (same-place_sym a x o) (E.all x d))
+      off-second : (x : Place) → IsBetween t x v → form_at R x ≡ pos 0 → IsBetween a x c ⊎ SamePlace a x → LiesAlong s a c → ⊥
+      off-second x d z (inl o) (inl w) = let j = FlatDim-one s x 1 2 (E.all x d) (w x o) in cc
+      off-second x d z (inr o) w = corner t v amid vertex E (inl (between-same t x v t a v (same-itself t) (same-place_sym a x o) (same-itself v) d))
+      off-second x d z (inl o) (inr w) =
+          let some-x = direction-right (toward a x) (toward x c) o in
+          let K = half-to s x c some-x (w x o) (λ r m. w r (between-outer a x r c o m)) in
+          let same = SameDirection-trans (toward x c) (toward a x) (toward a c) (SameDirection-turned (toward a x) (toward x c) o) (between-way a x c o) in
+          never-along t v x amid E d z (span-1 s x (toward x c) (toward a c) some-x K.flat same.parallel)
 
       -- it doesn't cross the second side
-      not-second : (x : Place) → IsBetween t x v.point → form_at R x ≡ pos 0 → pos 0 <ℤ form_at P x → ⊥
+      not-second : (x : Place) → IsBetween t x v → form_at R x ≡ pos 0 → pos 0 <ℤ form_at P x → ⊥
       not-second x d e p = off-second x d e (inl (on-second x (on-x x d) e p (G-x x d))) second
 
       -- nor the first
-      not-first : (x : Place) → IsBetween t x v.point → form_at P x ≡ pos 0 → ⊥
+      not-first : (x : Place) → IsBetween t x v → form_at P x ≡ pos 0 → ⊥
       not-first x d e = by_order (form_at R x) (pos 0)
           (λ l. let j = FlatDim-one s x 1 2 (E.all x d) (first x (on-first x (on-x x d) e l (G-x x d))) in cc)
           (λ z. off-second x d z (inr (at-corner x (on-x x d) e z)) second)
           (λ l.
           let k = cut-back l in
-          not-second k.place (between-inner t x v.point k.place d k.between) k.level (between-plus P t k.place x k.between P-t (omega (arith, ints))))
+          not-second k.place (between-inner t x v k.place d k.between) k.level (between-plus P t k.place x k.between P-t (omega (arith, ints))))
         where
           cut-back : pos 0 <ℤ form_at R x → Cut R t x
-          cut-back l = cut-up R t x (between-start t x v.point d) R-t l
+          cut-back l = cut-up R t x (between-start t x v d) R-t l
 
-      ends-in : (pos 0 ≤ℤ form_at P v.point) × (form_at R v.point ≤ℤ pos 0)
+      ends-in : (pos 0 ≤ℤ form_at P v) × (form_at R v ≤ℤ pos 0)
       ends-in = ⊎_elim
-          (λ l. absurd (let k = cut-at P t v.point E.leads P-t l in not-first k.place k.between k.level))
+          (λ l. absurd (let k = cut-at P t v E.leads P-t l in not-first k.place k.between k.level))
           (λ l. (
             l,
-            by_order (form_at R v.point) (pos 0) (λ m. omega (arith, ints)) (λ m. omega (arith, ints))
-                (λ m. absurd (let k = cut-up R t v.point E.leads R-t m in not-second k.place k.between k.level (between-plus P t k.place v.point k.between P-t l))),
-          )) (below-or (form_at P v.point))
+            by_order (form_at R v) (pos 0) (λ m. omega (arith, ints)) (λ m. omega (arith, ints))
+                (λ m. absurd (let k = cut-up R t v E.leads R-t m in not-second k.place k.between k.level (between-plus P t k.place v k.between P-t l))),
+          )) (below-or (form_at P v))
 
     -- so no edge crosses the third side
-    module _ (no-vertex : (r : Place) → IsBetween b r c → (k : ℕ) → IsVertexPoint C k r → ⊥)
-        (no-end : (k : ℕ) (v : Vertex) (t : Place) → At C.vertices k v → form_at h v.point ≡ pos 0 → pos 0 ≤ℤ form_at P v.point → form_at R v.point ≤ℤ pos 0 → pos 0 <ℤ form_at G v.point → IsBetween b t c → HalfEdge s t v.point → ⊥) where
+    module _ (none : (r : Place) → IsVertex s r → form_at h r ≡ pos 0 → IsInTriangle (normal_of h) a b c r → (SamePlace a r → ⊥) → ⊥) where
+      in-side : (r : Place) → IsBetween b r c → IsInTriangle (normal_of h) a b c r
+      in-side r d =
+          let q = between-turned b c r d in
+          let x = between-plus P c r b q P-c (let f = P-b in omega (arith, ints)) in
+          let y = between-minus R c r b q R-c R-b in
+          let f = turn-at n a b r in
+          let g = turn-at n a c r in
+          (omega (arith, ints), omega (arith, ints), inr d)
+
       module _ (t : Place) (amid : IsBetween b t c) (all : (r : Place) → IsBetween b r t → FlatDim s r 2) where
         leads : IsDirection (toward b t)
         leads = between-start b t c amid
@@ -238,43 +274,34 @@ module _ (s : Set) (C : Complex) (S : Shows s C) (h : Form) (hn : IsDirection (n
         level-amid : form_at G t ≡ pos 0
         level-amid = plane-between G b t c amid G-b G-c
 
-        none-inward : (k : ℕ) (v : Vertex) → At C.vertices k v → form_at h v.point ≡ pos 0 → HalfEdge s t v.point → pos 0 <ℤ form_at G v.point → ⊥
-        none-inward k v at-k on-v E l = let e = ends-in t amid v on-v E l in no-end k v t at-k on-v e.0 e.1 l amid E
+        none-inward : (v : Place) → IsVertex s v → form_at h v ≡ pos 0 → HalfEdge s t v → pos 0 <ℤ form_at G v → ⊥
+        none-inward v vertex on-v E l =
+            let e = ends-in t amid v vertex on-v E l in
+            ⊎_elim (λ z. corner t v amid vertex E (inr (toward-place a v z)))
+            (λ i. none v vertex on-v (subst (λ x. pos 0 ≤ℤ x) (turn-at n a b v) e.0, subst (λ x. x ≤ℤ pos 0) (turn-at n a c v) e.1, inl (subst (λ x. pos 0 <ℤ x) (turn-at n b c v) l)) (λ o. i (place-toward a v o))) (zero-decided (toward a v))
 
-        none-along : (v : Vertex) → form_at h v.point ≡ pos 0 → HalfEdge s t v.point → form_at G v.point ≡ pos 0 → ⊥
-        none-along v on-v E e = across-way s b t v.point leads all E
-            (parallel-trans (toward b t) (toward b c) (toward b v.point) (between-ends b t c amid) (let w = between-way b t c amid in w.parallel)
-            (parallel-in_plane n (toward b c) (toward b v.point) hn (plane-way h b c on-b on-c) (plane-way h b v.point on-b on-v) (sym (turn-at n b c v.point) ∙ e)))
+        none-along : (v : Place) → form_at h v ≡ pos 0 → HalfEdge s t v → form_at G v ≡ pos 0 → ⊥
+        none-along v on-v E e = across-way s b t v leads all E
+            (parallel-trans (toward b t) (toward b c) (toward b v) (between-ends b t c amid) (let w = between-way b t c amid in w.parallel)
+            (parallel-in_plane n (toward b c) (toward b v) hn (plane-way h b c on-b on-c) (plane-way h b v on-b on-v) (sym (turn-at n b c v) ∙ e)))
 
-        none-here : IsOnEdges C t → ⊥
-        none-here (k, inl p) = no-vertex t amid k p
-        none-here (k, inr (e, v, u, o, H, m)) =
-            let lie = ends-lie s C S h b t leads F.0 F.1 all on-amid k e v u o H m in
-            let half = edge-halves s C S k e v u t o H m in
-            by_order (form_at G v.point) (pos 0)
-            (λ l. none-inward e.high u H.high lie.1 half.1 (between-level G v.point t u.point m level-amid l))
-            (λ z. none-along v lie.0 half.0 z)
-            (λ l. none-inward e.low v H.low lie.0 half.0 l)
+        minus-none : sign (form_at G a) ≡ sign (form_at G t) → ⊥
+        minus-none u = let x : plus ≡ nought = sym (sign-plus (form_at G a) G-a) ∙ u ∙ ap sign level-amid in cc
+
+        none-here : IsFlatBelow s 2 t → ⊥
+        none-here (zero, l, f) = none t f on-amid (in-side t amid) (λ o. minus-none (signs-same (G ∷ []) a t o G (inl refl)))
+        none-here (suc zero, l, f) =
+            let E = edge-around s t f in
+            let lie = ends-level s h b t leads F all on-amid E in
+            let half = around-halves s t E in
+            by_order (form_at G E.source) (pos 0)
+            (λ m. none-inward E.target E.target_is_vertex lie.1 half.1 (between-level G E.source t E.target E.between level-amid m))
+            (λ z. none-along E.source lie.0 half.0 z)
+            (λ m. none-inward E.source E.source_is_vertex lie.0 half.0 m)
+        none-here (suc (suc k), l, f) = absurd (omega arith)
 
       pub third-side : (r : Place) → IsBetween b r c → FlatDim s r 2
-      third-side = ⊎_elim (λ f. f) (λ (D : Drop s 2 b c). absurd (none-here D.at_place D.between D.even_before (below-on s C S D.at_place D.drops))) (even-until s 2 b c F.0 ((F.1 (toward b c)).1 (plane-way h b c on-b on-c)))
+      third-side = ⊎_elim (λ f. f) (λ (D : Drop s 2 b c). absurd (none-here D.at_place D.between D.even_before D.drops)) (even-until s 2 b c F.0 ((F.1 (toward b c)).1 (plane-way h b c on-b on-c)))
 
 pub third-sides : ThirdSides
-third-sides s C h a b c S N on-a on-b on-c turn F first second none =
-    third-side s C S h (normal-direction (normal_of h) N) a b c on-a on-b on-c turn first (inl second) F no-vertex no-end
-  where
-    n : Vector
-    n = normal_of h
-
-    no-end : (k : ℕ) (v : Vertex) (t : Place) → At C.vertices k v → form_at h v.point ≡ pos 0 → pos 0 ≤ℤ form_at (turn_form n a b) v.point → form_at (turn_form n a c) v.point ≤ℤ pos 0 → pos 0 <ℤ form_at (turn_form n b c) v.point → IsBetween b t c → HalfEdge s t v.point → ⊥
-    no-end k v t at-k on-v p r g d E = none k v at-k on-v (subst (λ x. pos 0 ≤ℤ x) (turn-at n a b v.point) p, subst (λ x. x ≤ℤ pos 0) (turn-at n a c v.point) r, inl (subst (λ x. pos 0 <ℤ x) (turn-at n b c v.point) g))
-
-    no-vertex : (r : Place) → IsBetween b r c → (k : ℕ) → IsVertexPoint C k r → ⊥
-    no-vertex r d k (v, at-k, e) =
-        let m = between-same b r c b v.point c (same-itself b) (same-place_sym v.point r e) (same-itself c) d in
-        let q = between-turned b c v.point m in
-        let x = between-plus (turn_form n a b) c v.point b q (subst (λ x. pos 0 <ℤ x) (sym (turn-at n a b c)) turn) (let f = turn-at n a b b ∙ angle-self n a b in omega (arith, ints)) in
-        let y = between-minus (turn_form n a c) c v.point b q (turn-at n a c c ∙ angle-self n a c) (let f = turn-at n a c b in let g = angle-turned n a c b in let t = turn in omega (arith, ints)) in
-        let f = turn-at n a b v.point in
-        let g = turn-at n a c v.point in
-        none k v at-k (plane-between h b v.point c m on-b on-c) (omega (arith, ints), omega (arith, ints), inr m)
+third-sides s h a b c N on-a on-b on-c turn F first second corner none = third-side s h (normal-direction (normal_of h) N) a b c on-a on-b on-c turn first second F (never-passes s a b c corner) none

@@ -48,7 +48,7 @@ use Rattle.law_links.proofs.NearVertex.{free-dim}
 use Rattle.law_links.proofs.SideLinks.{both-opposite}
 use Rattle.law_links.proofs.SideSight.{free-close}
 use Rattle.law_links.proofs.Ties.{even-fan, dim-cell, ahead-cells, tied-cell, tied-both, tied-ahead, tied-ray, tied-turned}
-use Rattle.nef_conn.specs.Converse.{AreLinkedWhereJoined}
+use Rattle.nef_conn.specs.Items.{AreLinkedWhereJoined}
 use Rattle.nef_conn.proofs.Named.{twice}
 use Rattle.nef_conn.specs.Slices.{sliced}
 use Rattle.nef_conn.proofs.Chain.{chain-both}
@@ -62,7 +62,7 @@ use Rattle.nef_conn.proofs.Near.{Wedge, wedge-way, wedge-on}
 use Rattle.nef_conn.proofs.NearOver.{up-some, blend-rises}
 use Rattle.nef_conn.proofs.RaysEnd.{tied-dim}
 use Rattle.nef_conn.proofs.Silhouettes.{germs-inside, toward-end, sliced-ahead, two-of, three-of}
-use Rattle.nef_conn.proofs.VolumeStrip.{lam, up_line, lam-at, lam-sum, Clear, along-start}
+use Rattle.nef_conn.proofs.SliceStrip.{lam, up_line, lam-at, lam-sum, Clear, along-start}
 use Rattle.nef_conn.proofs.Touch.{Seer, bound, Touch, edge-frame, vertex-frame, same-seers, touched, no-way}
 
 pub up-square : (m : Vector) → dot (cross m up) up ≡ pos 0

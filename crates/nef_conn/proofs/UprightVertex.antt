@@ -29,7 +29,7 @@ use Rattle.law_links.proofs.EdgeEnds.{EdgeWays, edge-ways, opposite-way, dot-opp
 use Rattle.law_links.proofs.SideLinks.{both-opposite}
 use Rattle.law_links.proofs.SideSight.{sees-around}
 use Rattle.law_links.proofs.Ties.{tied-ray}
-use Rattle.nef_conn.specs.Converse.{AreLinkedWhereJoined}
+use Rattle.nef_conn.specs.Items.{AreLinkedWhereJoined}
 use Rattle.nef_conn.proofs.Named.{twice}
 use Rattle.nef_conn.specs.Slices.{sliced}
 use Rattle.nef_conn.proofs.Chain.{chain-both, chain-back, chain-one}
@@ -41,9 +41,9 @@ use Rattle.nef_conn.proofs.Leaves.{toward-same}
 use Rattle.nef_conn.proofs.Lexical.{normal-way}
 use Rattle.nef_conn.proofs.Near.{Wedge, wedge-way, wedge-on}
 use Rattle.nef_conn.proofs.NearOver.{blend-rises}
-use Rattle.nef_conn.proofs.OneOver.{below-normal}
+use Rattle.nef_conn.proofs.Reached.{toward-normal}
 use Rattle.nef_conn.proofs.RaysEnd.{tied-dim}
-use Rattle.nef_conn.proofs.VolumeStrip.{lam, Clear}
+use Rattle.nef_conn.proofs.SliceStrip.{lam, Clear}
 use Rattle.nef_conn.proofs.Touch.{Seer, bound, Touch, vertex-frame, meet, touched, turn-touch, no-way}
 use Rattle.nef_conn.proofs.Upright.{lone-along, aside-any, up-square, beside-edge}
 
@@ -176,7 +176,7 @@ module _ (s : Set) (C : Complex) (S : Shows s C) (upright : IsUpright C) (linked
             let is = at-one v.map.svertices j W.low u (subst (λ (q : ℕ). At v.map.svertices q W.low) at-svertex (subst (λ (q : Vertex). At q.map.svertices e.low_svertex W.low) one W.is_low)) b in
             let g = subst (λ (q : Svertex). SameDirection q.way (opposite up)) (sym is) runs in
             let m = normal-way (toward l.point w.point) (opposite up) (SameDirection-trans (toward l.point w.point) W.low.way (opposite up) W.onward g)
-            (below-normal l.point w.point (S.ordered e.low e.high l w (let E = S.edges.edges k e d in E.upward) H.low H.high)) in
+            (toward-normal l.point w.point (S.ordered e.low e.high l w (let E = S.edges.edges k e d in E.upward) H.low H.high)) in
             let q = m.first in
             absurd (omega (arith, ints))
 

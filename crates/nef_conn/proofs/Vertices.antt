@@ -32,7 +32,8 @@ use Rattle.law_links.specs.Links.{VolumeLink}
 use Rattle.law_links.specs.Components.{IsUpright, IsEvenAfter}
 use Rattle.law_links.proofs.EdgeEnds.{dot-opposite}
 use Rattle.law_links.proofs.Ties.{ahead-close, dim-cell, tied-ray}
-use Rattle.nef_conn.specs.Converse.{AreLinkedWhereJoined}
+use Rattle.law_links.proofs.Down.{facet-at}
+use Rattle.nef_conn.specs.Items.{AreLinkedWhereJoined}
 use Rattle.nef_conn.specs.Slices.{sliced}
 use Rattle.nef_conn.proofs.Chain.{chain-both}
 use Rattle.nef_conn.proofs.Fall.{lam-zero}
@@ -42,10 +43,10 @@ use Rattle.nef_conn.proofs.Land.{Landing, search, Blocked, near-b, near-down, on
 use Rattle.nef_conn.proofs.Leaves.{Beside-point, turn-beside, near-over}
 use Rattle.nef_conn.proofs.Near.{Wedge, wedge-of, wedge-way}
 use Rattle.nef_conn.proofs.NearOver.{blend-rises}
-use Rattle.nef_conn.proofs.RaysEnd.{facet-at, free-above, ray-down, tied-dim}
+use Rattle.nef_conn.proofs.RaysEnd.{free-above, ray-down, tied-dim}
 use Rattle.nef_conn.proofs.Silhouettes.{sliced-signs, sliced-off, sliced-ahead, germs-inside, toward-end, two-of, germs-of, three-of, lands, some-flat, even-hit, flatness}
 use Rattle.nef_conn.proofs.Claims.{Claim, up-side, not-flat, beside-fall}
-use Rattle.nef_conn.proofs.VolumeStrip.{lam, Clear}
+use Rattle.nef_conn.proofs.SliceStrip.{lam, Clear}
 
 module _ (s : Set) (C : Complex) (S : Shows s C) (upright : IsUpright C) (linked : AreLinkedWhereJoined s C) (h : Form) (hn : IsDirection (normal_of h)) (level : slope h up ≡ pos 0) where
   abbrev n : Vector

@@ -1,4 +1,5 @@
 pub mod Reach
-pub mod Converse
+pub mod Items
 pub mod Slices
-pub mod Falls
+pub mod Sides
+pub mod Components

@@ -7,4 +7,4 @@
 
 mod laws;
 
-pub use laws::{linked_laws, reach_laws, sides_laws};
+pub use laws::{component_laws, facet_laws, reach_laws, volume_laws};

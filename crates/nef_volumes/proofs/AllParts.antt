@@ -18,23 +18,13 @@ use Rattle.nef_parts.specs.declared.parts.Facet.{Facet}
 use Rattle.nef_facets.specs.Facets.{IsFacetParts}
 use Rattle.nef_volumes.specs.Labels.{AreVolumeLabels}
 use Rattle.nef_volumes.specs.Parts.{HasItem, IsFirstCorner, HasFirst, AreFacetsOf}
+use Rattle.nef_volumes.proofs.Components.{numbered-item}
 use Rattle.nef_volumes.proofs.FacetSides.{chain-above, chain-below}
 use Rattle.nef_volumes.proofs.VolumeLabels.{numbered-side}
 
 module _ (C : Complex) (planes : List Plane) (marks : List Label) (cycles : List (List Cycle)) (facet_of : List (List ℕ))
     (F : IsFacetParts C (record { planes = planes; marks = marks; cycles = cycles; facet_of = facet_of })) where
   -- ---- the first corners of facets
-  item-at : (k : Corner) (n : ℕ) → IsFacetOf facet_of k n → HasItem C k
-  item-at k n (row, e, h) =
-      let N = F.numbers in
-      let S = N.shape in
-      let l = is-at_within facet_of k.vertex row e in
-      let v = is-at_some C.vertices k.vertex (let a = S.as_many in omega (arith, l, a)) in
-      let a = at-from_get C.vertices k.vertex v.0 v.1 in
-      let c = S.row k.vertex v.0 row a e in
-      let x = at-some (items v.0.map) k.item (let w = is-at_within row k.item n h in omega (arith, w, c)) in
-      (v.0, x.0, record { vertex = a; item = x.1 })
-
   first-corner : (n : ℕ) (xs : List Cycle) → Cycles C (λ k. IsFacetOf facet_of k n) (cycle_corners xs) → (j : Corner) → IsFacetOf facet_of j n → (k : ProgramCorner) × IsFirstCorner xs k × IsFacetOf facet_of (corner_of k) n
   first-corner n [] Y j p = let r = Y.complete j p in absurd r.3
   first-corner n (x ∷ xs) Y j p = by x.corners refl (Y.cycles 0 (map corner_of x.corners) refl) (λ k h. Y.within 0 0 (map corner_of x.corners) k refl h)
@@ -50,7 +40,7 @@ module _ (C : Complex) (planes : List Plane) (marks : List Label) (cycles : List
       first-corner n xs (F.cycles n xs a) j.0 j.1
 
   pub all-first : (n : ℕ) (xs : List Cycle) → IsAt cycles n xs → HasFirst C xs
-  all-first n xs a = let r = first-of n xs a in (r.0, r.1, item-at (corner_of r.0) n r.2)
+  all-first n xs a = let r = first-of n xs a in (r.0, r.1, numbered-item C facet_of F.numbers (corner_of r.0) n r.2)
 
   module _ (rows : List (List ℕ)) (N : VolumeNumbers C rows) (ls : List Label) (L : AreVolumeLabels C rows ls) (fs : List Facet) (A : AreFacetsOf C rows planes marks cycles fs) where
     -- the side of another item of the facet is of the same volume

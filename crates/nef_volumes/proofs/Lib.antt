@@ -15,5 +15,7 @@ pub mod OutsideSide
 pub mod VolumeLabels
 pub mod FacetSides
 pub mod FacetLists
+pub mod Components
 pub mod AllParts
-pub mod EqualNumbers
+pub mod JoinedParts
+pub mod PartNumbers

@@ -1,22 +1,51 @@
--- Points at items of one facet are joined, and those at sides of one volume.
-use Rattle.std.specs.Prelude.{ℕ}
+-- Facets and volumes as components: points at items and sides are joined exactly where these have one number; the parts in which points lie; and the numbers of parts as numbers of components.
+use Rattle.std.specs.Prelude.{◌≡◌, ℕ, length, ◌↔◌}
+use Rattle.nef_space.specs.Lists.{IsInTable}
 use Rattle.nef_space.specs.Local.{Joined}
 use Rattle.nef_space.specs.Place.{Place}
 use Rattle.nef_space.specs.Sets.{Set}
-use Rattle.law_complex.specs.Complexes.{Corner}
-use Rattle.law_complex.specs.Rays.{VertexSide}
+use Rattle.law_complex.specs.Complexes.{Complex as PlainComplex, Corner}
+use Rattle.law_complex.specs.Skeleton.{IsVertexPoint, IsEdgePoint, HasCorner}
+use Rattle.law_complex.specs.Rays.{VertexSide, HasVolumeSide}
+use Rattle.law_links.specs.Components.{IsAtItem, IsAtSide}
+use Rattle.nef_conn.specs.Components.{HasComponents}
 use Rattle.nef_complex.specs.Complexes.{complex_of, ShowsSet}
 use Rattle.nef_complex.specs.declared.complex.Complex.{Complex}
-use Rattle.law_links.specs.Components.{IsAtItem, IsAtSide}
 use Rattle.nef_parts.specs.Numbers.{IsFacetOf, IsVolumeOf}
 use Rattle.nef_parts.specs.declared.parts.Parts.{Parts}
+use Rattle.nef_volumes.specs.declared.connected.Part.{Part}
+use Rattle.nef_volumes.specs.declared.connected.Part.TheVariants as part
 
--- points at items with one facet number are joined
-abbrev pub FacetsJoined : Complex → Parts → Type 0
-FacetsJoined c p = (s : Set) (j k : Corner) (n : ℕ) (y z : Place) → ShowsSet s c → IsFacetOf p.facet_of j n → IsFacetOf p.facet_of k n
-    → IsAtItem s (complex_of c) j y → IsAtItem s (complex_of c) k z → Joined s y z
+-- points at two items are joined exactly where the items have one facet number
+abbrev pub FacetsAreComponents : Complex → Parts → Type 0
+FacetsAreComponents c p = (s : Set) (j k : Corner) (m n : ℕ) (y z : Place) → ShowsSet s c → IsFacetOf p.facet_of j m → IsFacetOf p.facet_of k n
+    → IsAtItem s (complex_of c) j y → IsAtItem s (complex_of c) k z → Joined s y z ↔ (m ≡ n)
 
--- points at sides with one volume number are joined
-abbrev pub VolumesJoined : Complex → Parts → Type 0
-VolumesJoined c p = (s : Set) (x w : VertexSide) (n : ℕ) (y z : Place) → ShowsSet s c → IsVolumeOf (complex_of c) p.volume_of x n → IsVolumeOf (complex_of c) p.volume_of w n
-    → IsAtSide s (complex_of c) x y → IsAtSide s (complex_of c) w z → Joined s y z
+-- points at two sides are joined exactly where the sides have one volume number
+abbrev pub VolumesAreComponents : Complex → Parts → Type 0
+VolumesAreComponents c p = (s : Set) (x w : VertexSide) (m n : ℕ) (y z : Place) → ShowsSet s c → IsVolumeOf (complex_of c) p.volume_of x m → IsVolumeOf (complex_of c) p.volume_of w n
+    → IsAtSide s (complex_of c) x y → IsAtSide s (complex_of c) w z → Joined s y z ↔ (m ≡ n)
+
+-- the numbers of vertices, edges, facets and volumes are those of the components of the points with no, one, two and three flat directions
+abbrev pub AreCounted : Complex → Parts → Type 0
+AreCounted c p = (s : Set) → ShowsSet s c
+    → HasComponents s 0 (length c.vertices) × HasComponents s 1 (length c.edges) × HasComponents s 2 (length p.facets) × HasComponents s 3 (length p.volumes)
+
+-- ---- the part in which a point lies
+-- the corner has a facet number
+abbrev pub HasFacet : Parts → Corner → Type 0
+HasFacet p k = (n : ℕ) × IsFacetOf p.facet_of k n
+
+-- side j of vertex i has the volume number n
+abbrev pub IsNumberAt : Parts → ℕ → ℕ → ℕ → Type 0
+IsNumberAt p i j n = IsInTable p.volume_of i j n
+
+abbrev pub HasSideNumber : Parts → ℕ → ℕ → Type 0
+HasSideNumber p i j = (n : ℕ) × IsNumberAt p i j n
+
+-- y is the vertex, lies on the edge, or has a corner of the facet or a side of the volume
+abbrev pub IsPartAt : PlainComplex → Parts → Place → Part → Type 0
+IsPartAt C p y (part.Vertex n) = IsVertexPoint C n y
+IsPartAt C p y (part.Edge n) = IsEdgePoint C n y
+IsPartAt C p y (part.Facet n) = (k : Corner) × HasCorner C y k × IsFacetOf p.facet_of k n
+IsPartAt C p y (part.Volume n) = (x : VertexSide) × HasVolumeSide C y x × IsVolumeOf C p.volume_of x n

@@ -6,7 +6,7 @@ ghost use Rattle.nef_space.specs.Sets.{Set};
 ghost use Rattle.nef_complex.specs.Complexes.{complex_of, corner_of, ShowsSet};
 ghost use Rattle.nef_parts.specs.declared.parts.Cycle.{Cycle as PlainCycle};
 ghost use Rattle.nef_parts.specs.Numbers.{IsVolumeOf, VolumeNumbers, IsParts};
-ghost use Rattle.nef_volumes.specs.Joins.{FacetsJoined, VolumesJoined};
+ghost use Rattle.nef_volumes.specs.Joins.{FacetsAreComponents, VolumesAreComponents, AreCounted};
 ghost use Rattle.nef_volumes.specs.Parts.{HasItem, side_beside, HasFirst, IsBeside, AreFacetsOf};
 
 use crate::OutOfMemory;
@@ -87,13 +87,16 @@ fn list_facets(
     Ok(facets)
 }
 
-/// The facets and volumes of the complex, with their numbers. Points at items of one facet are joined, and so are points
-/// at sides of one volume. `OutOfMemory` says that memory was wanted and not found.
+/// The facets and volumes of the complex, with their numbers. Points at items are joined exactly where the items have one
+/// facet number, and points at sides where the sides have one volume number. So there are as many vertices, edges, facets
+/// and volumes as the points with no, one, two and three flat directions have connected components; the outside is one.
+/// `OutOfMemory` says that memory was wanted and not found.
 pub fn parts(alloc: Global, c: &Complex) -> Result<Parts, OutOfMemory>
     requires shows { (s : Set) × ShowsSet s c.now }
     ensures parts { IfOk result (λ p. IsParts (complex_of c.now) p) }
-    ensures items_joined { IfOk result (λ p. FacetsJoined c.now p) }
-    ensures sides_joined { IfOk result (λ p. VolumesJoined c.now p) }
+    ensures items_joined { IfOk result (λ p. FacetsAreComponents c.now p) }
+    ensures sides_joined { IfOk result (λ p. VolumesAreComponents c.now p) }
+    ensures counted { IfOk result (λ p. AreCounted c.now p) }
 {
     let FacetParts {
         planes,

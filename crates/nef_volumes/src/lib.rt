@@ -1,12 +1,14 @@
 //! The volumes of a complex, and all its parts.
 //!
 //! Volumes are the classes of sides that links join: sides of one sface, sides along an edge and across a facet, sides
-//! down a ray, and those of the outside. Source: Granados et al., "Boolean Operations on 3D Selective Nef Complexes", ESA
+//! down a ray, and those of the outside. They and the facets are the connected components of the points with as many flat
+//! directions. Source: Granados et al., "Boolean Operations on 3D Selective Nef Complexes", ESA
 //! 2003.
 #![tactic(auto)]
 
 mod all;
 mod below;
+mod connected;
 mod edges;
 mod items;
 mod labels;
@@ -15,9 +17,8 @@ mod numbers;
 mod outside;
 mod sface;
 mod spots;
-#[cfg(test)]
-mod tests;
 
 pub use all::parts;
+pub use connected::joined;
 pub use numbers::volume_numbers;
 pub use std::alloc::AllocError as OutOfMemory;

@@ -1,6 +1,9 @@
-//! Tests of where points lie in complexes of sets other than the frame, and of what rays meet there.
+//! Tests of where points lie in complexes of sets other than the frame, of what rays meet there, and of the parts of
+//! complexes and which points are joined.
 #![tactic(auto)]
 
+#[cfg(test)]
+mod components;
 #[cfg(test)]
 mod half_spaces;
 #[cfg(test)]

@@ -1,0 +1,32 @@
+-- A point in a facet is joined to a point at the item of its corner, and a point in a volume to one at the side that it has.
+use Rattle.std.proofs.Common.{inl, inr}
+use Rattle.nef_space.specs.Vectors.{opposite, up}
+use Rattle.law_near.proofs.Between.{between-turned}
+use Rattle.law_near.proofs.Decisions.{ahead}
+use Rattle.law_near.proofs.Rays.{same-place_sym}
+use Rattle.law_complex.proofs.FacetEdges.{ahead-back}
+use Rattle.law_complex.proofs.FacetNames.{facet-of}
+use Rattle.law_complex.proofs.FacetWays.{dim-same}
+use Rattle.law_complex.proofs.Skeletons.{free-flat}
+use Rattle.law_links.specs.Components.{IsEvenAfter}
+use Rattle.law_links.proofs.Across.{corner-across}
+use Rattle.law_links.proofs.Down.{above-tied, facet-at}
+use Rattle.law_links.proofs.ItemPoints.{at-item}
+use Rattle.law_links.proofs.Ties.{tied-both, tied-ray}
+use Rattle.nef_conn.specs.Reach.{CornersReached, SidesReached}
+
+pub corners-reached : CornersReached
+corners-reached s C p k S H =
+    let A = corner-across s C S p k H in
+    (ahead s A.vertex.point A.way, at-item s C S k A.vertex A.item A.corner A.way A.on, A.tied.0)
+
+pub sides-reached : SidesReached
+sides-reached s C p x S u (off, R) =
+    let z = R.place in
+    let P = above-tied s C S u x R.label R.has z R.spot R.is_spot R.above in
+    let t = tied-ray s 3 z p up (ahead-back p z (opposite up) R.ahead) even in
+    (P.0, P.1, (tied-both s p (ahead s z up) P.0 t P.2).0)
+  where
+    even : IsEvenAfter s 3 R.place p
+    even r (inl b) = free-flat s C S (facet-at s C S) (facet-of s C S) r (R.first r (between-turned R.place p r b))
+    even r (inr e) = dim-same s p r 3 (same-place_sym r p e) (free-flat s C S (facet-at s C S) (facet-of s C S) p off)
