@@ -3,9 +3,8 @@ use Rattle.std.proofs.Common.{◌≡◌, ℕ, List, [], ◌∷◌, map, arith, r
 use Rattle.nef_space.specs.Lists.{IsAt, Chained}
 use Rattle.nef_space.specs.declared.label.Label.{Label}
 use Rattle.nef_geo.specs.declared.plane.Plane.{Plane}
-use Rattle.law_sphere.specs.Maps.{At, Item, items, item_above, item_below}
-use Rattle.nef_smap.proofs.ClassLists.{is-at_one, is-at_within, is-at_some}
-use Rattle.nef_smap.proofs.SideLists.{at-from_get, at-some}
+use Rattle.law_sphere.specs.Maps.{At, Item, item_above, item_below}
+use Rattle.nef_smap.proofs.ClassLists.{is-at_one, is-at_within}
 use Rattle.law_complex.specs.Complexes.{Vertex, Complex, Corner, IsCorner}
 use Rattle.law_complex.specs.Rays.{VertexSide, HasSideLabel}
 use Rattle.nef_complex.specs.Complexes.{corner_of}

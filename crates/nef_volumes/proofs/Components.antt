@@ -1,17 +1,15 @@
 -- Points at items are joined exactly where the items have one facet number, and points at sides where the sides have one volume number; so facets and volumes are the components of the points with two flat directions and with three.
 use Rattle.std.proofs.Common.{◌≡◌, ℕ, ◌<◌, inr, List, length, arith, subst}
 use Rattle.std.proofs.lemmas.List.{length-map}
-use Rattle.nef_space.specs.Lists.{Chained}
 use Rattle.nef_space.specs.Local.{FlatDim, Joined}
 use Rattle.nef_space.specs.Place.{Place}
 use Rattle.nef_space.specs.Sets.{Set}
 use Rattle.nef_space.specs.declared.label.Label.{Label}
-use Rattle.law_sphere.specs.Maps.{At, Item, items}
+use Rattle.law_sphere.specs.Maps.{Item, items}
 use Rattle.nef_smap.proofs.ClassLists.{is-at_within, is-at_some}
 use Rattle.nef_smap.proofs.SideLists.{at-from_get, at-some, side-has}
 use Rattle.nef_smap.proofs.Lists.{at-within}
 use Rattle.law_complex.specs.Complexes.{Vertex, Complex as PlainComplex, Corner, IsCorner}
-use Rattle.law_complex.specs.Shows.{Shows}
 use Rattle.law_complex.specs.Rays.{VertexSide, HasSideLabel}
 use Rattle.law_complex.proofs.Ways.{same-itself}
 use Rattle.nef_complex.specs.Complexes.{vertex_of, edge_of, complex_of, ShowsSet}
@@ -150,4 +148,4 @@ module _ (c : Complex) (p : Parts) (I : IsParts (complex_of c) p) where
 
   -- THE NUMBERS OF PARTS ARE THOSE OF COMPONENTS
   pub are-counted : AreCounted c p
-  are-counted s S = counted-with s S (length c.vertices) (length c.edges) (length-map vertex_of c.vertices) (length-map edge_of c.edges)
+  are-counted s S = counted-with s S (length c.vertices) (length c.edges) (length-map c.vertices vertex_of) (length-map c.edges edge_of)

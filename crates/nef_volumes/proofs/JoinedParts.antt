@@ -1,5 +1,5 @@
 -- Points are joined exactly where they lie in one part.
-use Rattle.std.proofs.Common.{◌≡◌, ℕ, arith, refl, ap, subst, ◌↔◌}
+use Rattle.std.proofs.Common.{rules, IsTrue, nat_eq, ◌≡◌, ℕ, arith, refl, ap, subst, ◌↔◌}
 use Rattle.nef_space.specs.Local.{FlatDim, Joined}
 use Rattle.nef_space.specs.Place.{Place}
 use Rattle.nef_space.specs.Sets.{Set}
@@ -11,14 +11,14 @@ use Rattle.law_complex.proofs.FacetNames.{facet-of}
 use Rattle.law_complex.proofs.FacetPoints.{facet-point}
 use Rattle.law_complex.proofs.FacetWays.{dim-same}
 use Rattle.law_complex.proofs.Skeletons.{free-flat}
-use Rattle.nef_conn.proofs.Counted.{corners-reached, sides-reached}
+use Rattle.nef_conn.proofs.Reaching.{corners-reached, sides-reached}
 use Rattle.nef_conn.proofs.OnEdges.{joined-as_flat, joined-vertices, joined-edges}
-use Rattle.nef_conn.proofs.RaysEnd.{facet-at}
+use Rattle.law_links.proofs.Down.{facet-at}
 use Rattle.nef_complex.specs.Complexes.{complex_of, ShowsSet}
 use Rattle.nef_complex.specs.declared.complex.Complex.{Complex}
 use Rattle.nef_parts.specs.Numbers.{IsParts}
 use Rattle.nef_parts.specs.declared.parts.Parts.{Parts}
-use Rattle.nef_volumes.specs.Joins.{IsPartAt}
+use Rattle.nef_volumes.specs.Joins.{IsPartAt, same_part}
 use Rattle.nef_volumes.specs.declared.connected.Part.{Part}
 use Rattle.nef_volumes.specs.declared.connected.Part.TheVariants.{Vertex, Edge, Facet, Volume}
 use Rattle.nef_volumes.proofs.Components.{facets-are_components, volumes-are_components}
@@ -97,3 +97,37 @@ module _ (s : Set) (c : Complex) (p : Parts) (S : ShowsSet s c) (I : IsParts (co
       λ e. one-joined b (subst (λ (r : Part). IsPartAt (complex_of c) p y r) e A) B,
       λ J. joined-same a b A B J (one-kind a b A B J),
     )
+
+-- ---- the test of parts
+number-true : (m n : ℕ) → IsTrue (nat_eq m n) → m ≡ n
+number-true m n h = search rules
+
+number-one : (m n : ℕ) → m ≡ n → IsTrue (nat_eq m n)
+number-one m n e = search rules
+
+pub same-true : (a b : Part) → IsTrue (same_part a b) → a ≡ b
+same-true (Vertex m) (Vertex n) h = ap (λ i. Vertex i) (number-true m n h)
+same-true (Edge m) (Edge n) h = ap (λ i. Edge i) (number-true m n h)
+same-true (Facet m) (Facet n) h = ap (λ i. Facet i) (number-true m n h)
+same-true (Volume m) (Volume n) h = ap (λ i. Volume i) (number-true m n h)
+same-true (Vertex m) (Edge n) h = cc
+same-true (Vertex m) (Facet n) h = cc
+same-true (Vertex m) (Volume n) h = cc
+same-true (Edge m) (Vertex n) h = cc
+same-true (Edge m) (Facet n) h = cc
+same-true (Edge m) (Volume n) h = cc
+same-true (Facet m) (Vertex n) h = cc
+same-true (Facet m) (Edge n) h = cc
+same-true (Facet m) (Volume n) h = cc
+same-true (Volume m) (Vertex n) h = cc
+same-true (Volume m) (Edge n) h = cc
+same-true (Volume m) (Facet n) h = cc
+
+same-itself_part : (a : Part) → IsTrue (same_part a a)
+same-itself_part (Vertex n) = number-one n n refl
+same-itself_part (Edge n) = number-one n n refl
+same-itself_part (Facet n) = number-one n n refl
+same-itself_part (Volume n) = number-one n n refl
+
+pub same-one : (a b : Part) → a ≡ b → IsTrue (same_part a b)
+same-one a b e = subst (λ (r : Part). IsTrue (same_part a r)) e (same-itself_part a)

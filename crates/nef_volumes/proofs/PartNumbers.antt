@@ -1,5 +1,5 @@
 -- The numbers of the part in which a point lies are those of its place in the complex.
-use Rattle.std.proofs.Common.{◌≡◌, ℕ, ◌<◌, List, length, arith, subst}
+use Rattle.std.proofs.Common.{ℕ, ◌<◌, List, length, arith, subst}
 use Rattle.nef_space.specs.Lists.{IsAt, IsInTable}
 use Rattle.nef_space.specs.Place.{Place, InFrame, InClosedFrame}
 use Rattle.nef_smap.proofs.ClassLists.{is-at_one, is-at_within, is-at_some}

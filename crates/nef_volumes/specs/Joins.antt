@@ -1,5 +1,5 @@
 -- Facets and volumes as components: points at items and sides are joined exactly where these have one number; the parts in which points lie; and the numbers of parts as numbers of components.
-use Rattle.std.specs.Prelude.{◌≡◌, ℕ, length, ◌↔◌}
+use Rattle.std.specs.Prelude.{◌≡◌, ℕ, length, ◌↔◌, Bool, false, nat_eq}
 use Rattle.nef_space.specs.Lists.{IsInTable}
 use Rattle.nef_space.specs.Local.{Joined}
 use Rattle.nef_space.specs.Place.{Place}
@@ -49,3 +49,11 @@ IsPartAt C p y (part.Vertex n) = IsVertexPoint C n y
 IsPartAt C p y (part.Edge n) = IsEdgePoint C n y
 IsPartAt C p y (part.Facet n) = (k : Corner) × HasCorner C y k × IsFacetOf p.facet_of k n
 IsPartAt C p y (part.Volume n) = (x : VertexSide) × HasVolumeSide C y x × IsVolumeOf C p.volume_of x n
+
+-- whether the parts are one
+abbrev pub same_part : Part → Part → Bool
+same_part (part.Vertex m) (part.Vertex n) = nat_eq m n
+same_part (part.Edge m) (part.Edge n) = nat_eq m n
+same_part (part.Facet m) (part.Facet n) = nat_eq m n
+same_part (part.Volume m) (part.Volume n) = nat_eq m n
+same_part _ _ = false

@@ -139,7 +139,7 @@ fn joined_at_a_wall(rt: HostRuntime) -> Result<(), Fail> {
     assert_joined(&rt, rt.alloc(), &c, WALL_ROWS)
 }
 
-// The origin, with its prism along x.
+// The origin alone.
 const ORIGIN: [[i64; 4]; 6] = [
     [1, 0, 0, 0],
     [-1, 0, 0, 0],
@@ -156,7 +156,13 @@ const PRICKED_ROWS: &str = "\
 
 #[test]
 fn joined_at_a_pricked_wall(rt: HostRuntime) -> Result<(), Fail> {
-    let c = combination(&rt, rt.alloc(), Op::Diff, WALL.as_slice(), ORIGIN.as_slice())?;
+    let c = combination(
+        &rt,
+        rt.alloc(),
+        Op::Diff,
+        WALL.as_slice(),
+        ORIGIN.as_slice(),
+    )?;
     assert_joined(&rt, rt.alloc(), &c, PRICKED_ROWS)
 }
 
