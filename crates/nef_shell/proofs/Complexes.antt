@@ -1,8 +1,10 @@
 -- The complexes of nodes: each is made of those of its operands, and is kept as long as a command looks at it.
-use Rattle.std.proofs.Common.{◌≡◌, ℕ, ◌+◌, ◌<◌, ◌≤◌, arith, refl, sym, ◌∙◌, subst, List, [], ◌∷◌, length, Option, Some, None, IfSome, Result, Ok, Err, IfOk, inl, inr}
+use Rattle.std.proofs.Common.{◌≡◌, ◌⊎◌, ℕ, ◌+◌, ◌<◌, ◌≤◌, ap, arith, refl, sym, ◌∙◌, subst, List, [], ◌∷◌, length, Option, Some, None, IfSome, Result, Ok, Err, IfOk, inl, inr}
 use Rattle.std.specs.Prelude.{slice_get, slice_index, slice_index_or}
-use Rattle.std.proofs.lemmas.Bool.{cases_lt}
-use Rattle.std.proofs.lemmas.Option.{get_or_from_slice_get}
+use Rattle.std.proofs.lemmas.Bool.{cases_lt, cases_eq}
+use Rattle.std.proofs.lemmas.List.{get_or-set_same, get_or-set_other, length-set}
+use Rattle.std.proofs.Math.ListN.{set}
+use Rattle.std.proofs.lemmas.Option.{get_or_from_slice_get, slice_get_within, slice_get-get_or}
 use Rattle.nef_space.specs.Sets.{Set}
 use Rattle.nef_complex.specs.declared.complex.Complex.{Complex}
 use Rattle.nef_complex.specs.Complexes.{ShowsSet}
@@ -11,9 +13,9 @@ use Rattle.nef_expr.specs.declared.nodes.Node.TheVariants as node
 use Rattle.nef_expr.specs.Nodes.{set_of, sets_after, node_set, NamesBelow}
 use Rattle.nef_expr.proofs.Sets.{each-set}
 use Rattle.nef_script.specs.declared.script.Command.{Command}
-use Rattle.nef_script.specs.declared.script.Command.TheVariants.{Bind, Has, Same, Count, Print}
-use Rattle.nef_shell.specs.Commands.{IsOperand, Binds, bound_by}
-use Rattle.nef_shell.specs.Operations.{set_by, IsKept, IsGrown}
+use Rattle.nef_script.specs.declared.script.Command.TheVariants.{Bind, Has, Joined, Ray, Same, Count, Print}
+use Rattle.nef_shell.specs.Commands.{IsOperand, Binds, bound_by, IsWorkable}
+use Rattle.nef_shell.specs.Operations.{set_by, IsKept, IsGone, IsGrown}
 use Rattle.nef_shell.specs.declared.operation.Operation.{Operation}
 
 -- what the operation gives shows the set of the node that is made by it
@@ -37,6 +39,8 @@ some-then (Some k) P p = p k refl
 pub binds-one : (c : Command) (k : ℕ) → Binds c k → bound_by (c ∷ []) ≡ 1
 binds-one (Bind line n) k b = refl
 binds-one (Has line n p) k b = absurd b
+binds-one (Joined line n p q) k b = absurd b
+binds-one (Ray line n p d) k b = absurd b
 binds-one (Same line i j) k b = absurd b
 binds-one (Count line n) k b = absurd b
 binds-one (Print line n name) k b = absurd b
@@ -49,3 +53,31 @@ kept-next nodes n now uses old mid new kept grown count stays k within later = s
   | inl before ↦ grown.earlier k (kept k before (omega arith))
   | inr added ↦ grown.added k added (omega arith)
 ])
+
+-- a command that can be worked binds the node that it adds
+pub adds-bound : (nodes : List Node) (n k : ℕ) (c : Command) → IsWorkable nodes n c → n ≤ k → k < n + bound_by (c ∷ []) → Binds c k
+adds-bound nodes n k (Bind line j) workable past within = let next = workable.next j refl in omega (arith, next.0)
+adds-bound nodes n k (Has line j p) workable past within = absurd (omega arith)
+adds-bound nodes n k (Joined line j p q) workable past within = absurd (omega arith)
+adds-bound nodes n k (Ray line j p d) workable past within = absurd (omega arith)
+adds-bound nodes n k (Same line i j) workable past within = absurd (omega arith)
+adds-bound nodes n k (Count line j) workable past within = absurd (omega arith)
+adds-bound nodes n k (Print line j name) workable past within = absurd (omega arith)
+
+-- where one number of a list is exchanged, each is as before or the new one
+pub index-set : (xs : List ℕ) (j k now : ℕ) → j < length xs → (slice_index (set xs j now) k ≡ slice_index xs k) ⊎ ((Some j ≡ Some k) × (slice_index (set xs j now) k ≡ now))
+index-set xs j k now within = elim (cases_eq k j) [
+  | inl e ↦ inr (ap (λ z. Some z) (sym e), subst (λ z. slice_index (set xs j now) z ≡ now) (sym e) (get_or-set_same xs j now 0 within))
+  | inr n ↦ inl (get_or-set_other xs j k now 0 n)
+]
+
+-- a complex is let go
+pub gone-here : (list : List (Option Complex)) (k : ℕ) → k < length list → IsGone (set list k None) k
+gone-here list k within = slice_get-get_or (set list k None) k None (rw (length-set list k None) within) ∙ ap (λ z. Some z) (get_or-set_same list k None None within)
+
+-- and so are those that were
+pub gone-stays : (list : List (Option Complex)) (k j : ℕ) → k < length list → IsGone list j → IsGone (set list k None) j
+gone-stays list k j within gone = elim (cases_eq j k) [
+  | inl e ↦ subst (IsGone (set list k None)) (sym e) (gone-here list k within)
+  | inr n ↦ slice_get-get_or (set list k None) j None (rw (length-set list k None) (slice_get_within list j None gone)) ∙ ap (λ z. Some z) (get_or-set_other list k j None None n ∙ get_or_from_slice_get list j None None gone)
+]

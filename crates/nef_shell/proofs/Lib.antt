@@ -4,3 +4,4 @@ pub mod Outputs
 pub mod Statuses
 pub mod Pieces
 pub mod Causes
+pub mod GivenWords

@@ -20,7 +20,7 @@ use Rattle.nef_script.specs.Meaning.{Names, IsNode, IsQuestion, MeansCommand, Me
 use Rattle.nef_script.specs.declared.table.Verb.{Verb}
 use Rattle.nef_script.specs.declared.table.Verb.TheVariants as verb
 use Rattle.nef_script.specs.declared.script.Command.{Command}
-use Rattle.nef_script.specs.declared.script.Command.TheVariants.{Bind, Has, Same, Count, Print}
+use Rattle.nef_script.specs.declared.script.Command.TheVariants.{Bind, Has, Joined, Ray, Same, Count, Print}
 use Rattle.nef_script.proofs.Adding.{Fits-from, some_word}
 use Rattle.nef_shell.specs.Commands.{IsOperand, LooksAt, Binds, bound_by, IsWorkable, AreWorkable}
 
@@ -67,6 +67,10 @@ record Facts (nodes : List Node) (names : List (List ℕ)) (binding : Bool) (c :
 
 question-facts : (names : List (List ℕ)) (nodes : List Node) (line : ℕ) (v : Verb) (args : List (List ℕ)) (c : Command) → IsQuestion names line v args c → Facts nodes names false c
 question-facts names nodes line verb.Has (name ∷ x ∷ y ∷ z ∷ w ∷ []) c (k, p, at, quotient, is) =
+    rw is (record { count = refl; next = λ j b. absurd b; earlier = λ j e. rw e (names-below names name k at) })
+question-facts names nodes line verb.Joined (name ∷ x ∷ y ∷ z ∷ w ∷ x2 ∷ y2 ∷ z2 ∷ w2 ∷ []) c (k, p, q, at, first, second, is) =
+    rw is (record { count = refl; next = λ j b. absurd b; earlier = λ j e. rw e (names-below names name k at) })
+question-facts names nodes line verb.Ray (name ∷ x ∷ y ∷ z ∷ w ∷ dx ∷ dy ∷ dz ∷ []) c (k, p, d, at, quotient, toward, is) =
     rw is (record { count = refl; next = λ j b. absurd b; earlier = λ j e. rw e (names-below names name k at) })
 question-facts names nodes line verb.Same (left ∷ right ∷ []) c (i, j, p, q, is) =
     rw is (record { count = refl; next = λ k b. absurd b; earlier = λ k s. elim s [ inl e ↦ rw e (names-below names left i p) | inr e ↦ rw e (names-below names right j q) ] })
@@ -219,6 +223,8 @@ script-goes bytes nodes commands accepted h = goes nodes [] (lines_of bytes) [] 
 pub bound_by-cons : (c : Command) (cs : List Command) → bound_by (c ∷ cs) ≡ bound_by (c ∷ []) + bound_by cs
 bound_by-cons (Bind line k) cs = omega arith
 bound_by-cons (Has line k p) cs = omega arith
+bound_by-cons (Joined line k p q) cs = omega arith
+bound_by-cons (Ray line k p d) cs = omega arith
 bound_by-cons (Same line i j) cs = omega arith
 bound_by-cons (Count line k) cs = omega arith
 bound_by-cons (Print line k name) cs = omega arith

@@ -3,7 +3,8 @@ use Rattle.std.proofs.Common.{◌≡◌, ◌↔◌, ℕ, ◌+◌, ◌<◌, ◌�
 use Rattle.std.proofs.lemmas.List.{take_more}
 use Rattle.std.proofs.Math.Seq.{take-append-add, take-length}
 use Rattle.std.specs.Prelude.{IsTrue}
-use Rattle.nef_space.specs.Local.{SameSet}
+use Rattle.nef_space.specs.Local.{Joined, SameSet}
+use Rattle.nef_space.specs.Place.{Place, InFrame}
 use Rattle.nef_space.specs.Sets.{Set}
 use Rattle.nef_io.specs.Bytes.{Rose, Grows, GrowsWithin}
 use Rattle.nef_expr.specs.declared.nodes.Node.{Node}
@@ -11,7 +12,7 @@ use Rattle.nef_script.specs.declared.script.Command.{Command}
 use Rattle.nef_shell.specs.declared.stop.Stop.{Stop}
 use Rattle.nef_shell.specs.declared.stop.Stop.TheVariants.{WriteFault, OutOfMemory}
 use Rattle.nef_shell.specs.Stops.{MatchStop}
-use Rattle.nef_shell.specs.Output.{same_answer, IsSameAnswer, IsPiece, IsOutput}
+use Rattle.nef_shell.specs.Output.{same_answer, joined_answer, IsSameAnswer, IsJoinedAnswer, IsPiece, IsOutput}
 
 -- one more command
 pub output-more : (nodes : List Node) (cs : List Command) (c : Command) (output piece : List ℕ) → IsOutput nodes cs output → IsPiece nodes c piece → IsOutput nodes (cs ++ c ∷ []) (output ++ piece)
@@ -69,3 +70,8 @@ grows_within-none (Some bs) = (0, sym (append-nil bs))
 pub same-piece : (s t : Set) (same : Bool) → IsTrue same ↔ SameSet s t → IsSameAnswer s t (same_answer same)
 same-piece s t true e = inl (e.0 refl, refl)
 same-piece s t false e = inr (λ h. (let f : false ≡ true = e.1 h in cc), refl)
+
+-- the answer says whether the two points are joined
+pub joined-piece : (s : Set) (p q : Place) (joined : Bool) → InFrame p → InFrame q → IsTrue joined ↔ Joined s p q → IsJoinedAnswer s p q (joined_answer joined)
+joined-piece s p q true P Q e = IsJoinedAnswer.joined P Q (e.0 refl) refl
+joined-piece s p q false P Q e = IsJoinedAnswer.apart P Q (λ h. (let f : false ≡ true = e.1 h in cc)) refl

@@ -4,7 +4,12 @@ use Rattle.std.proofs.lemmas.List.{append_cancel_left, append_cancel_right}
 use Rattle.nef_space.specs.Local.{SameSet}
 use Rattle.nef_space.specs.Sets.{Set}
 use Rattle.law_near.proofs.Germs.{label-one}
-use Rattle.nef_geo.specs.Shapes.{place_of}
+use Rattle.nef_space.specs.Place.{Place}
+use Rattle.nef_space.specs.Vectors.{Vector}
+use Rattle.nef_geo.specs.Shapes.{place_of, vector_of}
+use Rattle.nef_geo.proofs.Unique.{same_places_equal}
+use Rattle.nef_geo.specs.declared.point.Point.{Point}
+use Rattle.nef_ray.proofs.OneEnd.{one-end}
 use Rattle.nef_complex.specs.declared.complex.Vertex.{Vertex}
 use Rattle.nef_complex.specs.declared.complex.Edge.{Edge}
 use Rattle.nef_unique.proofs.Vertices.{set-vertices}
@@ -14,10 +19,11 @@ use Rattle.law_text.proofs.SameText.{same-set_text, text-set, spelled-holds}
 use Rattle.nef_expr.specs.declared.nodes.Node.{Node}
 use Rattle.nef_expr.specs.Nodes.{node_set}
 use Rattle.nef_script.specs.declared.script.Command.{Command}
-use Rattle.nef_script.specs.declared.script.Command.TheVariants.{Bind, Has, Same, Count, Print}
-use Rattle.nef_shell.specs.Output.{IsWrittenOf, IsSameAnswer, IsPiece, IsOutput, count_line, framed, printed, line_end, answer_of}
+use Rattle.nef_script.specs.declared.script.Command.TheVariants.{Bind, Has, Joined, Ray, Same, Count, Print}
+use Rattle.nef_shell.specs.Output.{IsWrittenOf, IsSameAnswer, IsJoinedAnswer, IsRayAnswer, IsPiece, IsOutput, change_word, count_line, framed, printed, line_end, spaced, answer_of}
 use Rattle.nef_shell.specs.Prints.{IsPrinted, AreTextsCompared, AreTextsMeant}
-use Rattle.nef_shell.specs.Written.{TextTells}
+use Rattle.nef_shell.specs.Written.{TextTells, CountTells}
+use Rattle.nef_volumes.proofs.Components.{are-counted}
 use Rattle.law_complex.proofs.FacetNames.{facet-of}
 use Rattle.law_complex.proofs.Skeletons.{belongs-holds}
 use Rattle.nef_locate.proofs.Cones.{facet-at}
@@ -32,6 +38,22 @@ text-tells s x (c, p, S, P, e) =
     record {
       spelled = (c, (S.shows.edges, (p, P, e)));
       holds = λ d y spells inside. spelled-holds (λ s C p S inside. belongs-holds s C S (facet-at s C S) (facet-of s C S) p inside) s c d p x y S e spells inside;
+    }
+
+-- the counted numbers are those of components
+pub count-tells : (s : Set) (x : List ℕ) → IsWrittenOf s count_line x → CountTells s x
+count-tells s x (c, p, S, P, e) =
+    let counted = are-counted c p P s S in
+    record {
+      vertices = length c.vertices;
+      edges = length c.edges;
+      facets = length p.facets;
+      volumes = length p.volumes;
+      is = e;
+      no_direction = counted.0;
+      one_direction = counted.1;
+      two_directions = counted.2;
+      three_directions = counted.3;
     }
 
 pub printed-one : (s t : Set) (name x y : List ℕ) → SameSet s t → IsWrittenOf s (printed name) x → IsWrittenOf t (printed name) y → x ≡ y
@@ -54,9 +76,33 @@ answered-one s t x y a b = elim a [
   | inr differ ↦ elim b [ inl one ↦ absurd (differ.0 one.0) | inr also ↦ differ.1 ∙ sym also.1 ]
 ]
 
+joined-one : (s : Set) (p q : Place) (x y : List ℕ) → IsJoinedAnswer s p q x → IsJoinedAnswer s p q y → x ≡ y
+joined-one s p q x y (IsJoinedAnswer.outside out e) (IsJoinedAnswer.outside out' f) = e ∙ sym f
+joined-one s p q x y (IsJoinedAnswer.outside out e) (IsJoinedAnswer.joined P Q j f) = absurd (out (P, Q))
+joined-one s p q x y (IsJoinedAnswer.outside out e) (IsJoinedAnswer.apart P Q j f) = absurd (out (P, Q))
+joined-one s p q x y (IsJoinedAnswer.joined P Q j e) (IsJoinedAnswer.outside out f) = absurd (out (P, Q))
+joined-one s p q x y (IsJoinedAnswer.joined P Q j e) (IsJoinedAnswer.joined P' Q' j' f) = e ∙ sym f
+joined-one s p q x y (IsJoinedAnswer.joined P Q j e) (IsJoinedAnswer.apart P' Q' a f) = absurd (a j)
+joined-one s p q x y (IsJoinedAnswer.apart P Q a e) (IsJoinedAnswer.outside out f) = absurd (out (P, Q))
+joined-one s p q x y (IsJoinedAnswer.apart P Q a e) (IsJoinedAnswer.joined P' Q' j f) = absurd (a j)
+joined-one s p q x y (IsJoinedAnswer.apart P Q a e) (IsJoinedAnswer.apart P' Q' a' f) = e ∙ sym f
+
+-- a ray has one end, whose point has one form
+ended-one : (s : Set) (p : Place) (d : Vector) (x y : List ℕ) → IsRayAnswer s p d x → IsRayAnswer s p d y → x ≡ y
+ended-one s p d x y (IsRayAnswer.outside out e) (IsRayAnswer.outside out' f) = e ∙ sym f
+ended-one s p d x y (IsRayAnswer.outside out e) (IsRayAnswer.ends P a h f) = absurd (out P)
+ended-one s p d x y (IsRayAnswer.ends P a h e) (IsRayAnswer.outside out f) = absurd (out P)
+ended-one s p d x y (IsRayAnswer.ends P a h e) (IsRayAnswer.ends P' b k f) =
+    let one = one-end s p d (place_of a.point) (place_of b.point) a.after b.after a.label b.label h k in
+    e ∙ ap (λ z. change_word z ++ spaced a.point.x ++ spaced a.point.y ++ spaced a.point.z ++ spaced a.point.w ++ answer_of a.label) one.1
+    ∙ ap (λ (r : Point). change_word b.after ++ spaced r.x ++ spaced r.y ++ spaced r.z ++ spaced r.w ++ answer_of a.label) (same_places_equal a.point b.point one.0)
+    ∙ ap (λ l. change_word b.after ++ spaced b.point.x ++ spaced b.point.y ++ spaced b.point.z ++ spaced b.point.w ++ answer_of l) one.2 ∙ sym f
+
 piece-one : (nodes : List Node) (c : Command) (x y : List ℕ) → IsPiece nodes c x → IsPiece nodes c y → x ≡ y
 piece-one nodes (Bind _ k) x y a b = a ∙ sym b
 piece-one nodes (Has _ k p) x y (l, has, e) (m, also, f) = e ∙ ap answer_of (label-one (node_set nodes k) (place_of p) l m has also) ∙ sym f
+piece-one nodes (Joined _ k p q) x y a b = joined-one (node_set nodes k) (place_of p) (place_of q) x y a b
+piece-one nodes (Ray _ k p d) x y a b = ended-one (node_set nodes k) (place_of p) (vector_of d) x y a b
 piece-one nodes (Same _ i j) x y a b = answered-one (node_set nodes i) (node_set nodes j) x y a b
 piece-one nodes (Count _ k) x y a b = counted-one (node_set nodes k) (node_set nodes k) x y (same-itself (node_set nodes k)) a b
 piece-one nodes (Print _ k name) x y a b = printed-one (node_set nodes k) (node_set nodes k) name x y (same-itself (node_set nodes k)) a b

@@ -70,6 +70,17 @@ pub data HasDefinedFront (words : List (List ℕ)) (io : Traffic) : Type 0 where
   of_words : (AreAccepted words → ⊥) → GrowsWithin io.before.written io.after.written words_line → HasDefinedFront words io
   of_script : AreAccepted words → HasFront words io → HasDefinedFront words io
 
+-- what each status says of a run with refused words
+abbrev pub RefusesWords : Status → Traffic → Type 0
+RefusesWords status io =
+    MatchStatus status
+    ⊥
+    (λ line kind. ⊥)
+    (Grows io.before.written io.after.written words_line × (io.after.write_faults ≡ io.before.write_faults))
+    ⊥
+    (Rose io.before.write_faults io.after.write_faults × GrowsWithin io.before.written io.after.written words_line)
+    ⊥
+
 -- what each status says of a run with accepted words
 abbrev pub HasEnded : List (List ℕ) → Status → Traffic → Type 0
 HasEnded words status io =

@@ -3,7 +3,7 @@ use Rattle.std.specs.Prelude.{◌≡◌, ℕ, ◌+◌, ◌<◌, ◌≤◌, List,
 use Rattle.nef_expr.specs.declared.nodes.Node.{Node}
 use Rattle.nef_expr.specs.declared.nodes.Node.TheVariants as node
 use Rattle.nef_script.specs.declared.script.Command.{Command}
-use Rattle.nef_script.specs.declared.script.Command.TheVariants.{Bind, Has, Same, Count, Print}
+use Rattle.nef_script.specs.declared.script.Command.TheVariants.{Bind, Has, Joined, Ray, Same, Count, Print}
 
 -- node k is an operand of the node
 abbrev pub IsOperand : ℕ → Node → Type 0
@@ -24,6 +24,8 @@ IsOperand k (node.Reg i) = k ≡ i
 abbrev pub LooksAt : List Node → Command → ℕ → Type 0
 LooksAt nodes (Bind line n) k = IsOperand k (slice_index_or nodes n node.Empty)
 LooksAt nodes (Has line n p) k = k ≡ n
+LooksAt nodes (Joined line n p q) k = k ≡ n
+LooksAt nodes (Ray line n p d) k = k ≡ n
 LooksAt nodes (Same line i j) k = (k ≡ i) ⊎ (k ≡ j)
 LooksAt nodes (Count line n) k = k ≡ n
 LooksAt nodes (Print line n name) k = k ≡ n
@@ -33,6 +35,8 @@ abbrev pub bound_by : List Command → ℕ
 bound_by [] = 0
 bound_by (Bind line k ∷ cs) = 1 + bound_by cs
 bound_by (Has line k p ∷ cs) = bound_by cs
+bound_by (Joined line k p q ∷ cs) = bound_by cs
+bound_by (Ray line k p d ∷ cs) = bound_by cs
 bound_by (Same line i j ∷ cs) = bound_by cs
 bound_by (Count line k ∷ cs) = bound_by cs
 bound_by (Print line k name ∷ cs) = bound_by cs
@@ -41,6 +45,8 @@ bound_by (Print line k name ∷ cs) = bound_by cs
 abbrev pub Binds : Command → ℕ → Type 0
 Binds (Bind line n) k = k ≡ n
 Binds (Has line n p) k = ⊥
+Binds (Joined line n p q) k = ⊥
+Binds (Ray line n p d) k = ⊥
 Binds (Same line i j) k = ⊥
 Binds (Count line n) k = ⊥
 Binds (Print line n name) k = ⊥
@@ -57,3 +63,7 @@ AreWorkable nodes cs = (i : ℕ) (c : Command) → slice_get cs i ≡ Some c →
 -- at each node's place the number of a command that none comes after which looks at it
 abbrev pub AreLastUses : List Node → List Command → List ℕ → Type 0
 AreLastUses nodes cs uses = (i k : ℕ) (c : Command) → slice_get cs i ≡ Some c → LooksAt nodes c k → i ≤ slice_index uses k
+
+-- it is 0, or the number of a command that looks at the node
+abbrev pub AreUses : List Node → List Command → List ℕ → Type 0
+AreUses nodes cs uses = (k : ℕ) → k < length nodes → (slice_index uses k ≡ 0) ⊎ ((c : Command) × (slice_get cs (slice_index uses k) ≡ Some c) × LooksAt nodes c k)

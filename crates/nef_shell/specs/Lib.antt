@@ -5,6 +5,7 @@ pub mod Answers
 pub mod Written
 pub mod Prints
 pub mod Ended
+pub mod Program
 pub mod Commands
 pub mod Operations
 pub mod Stops

@@ -1,5 +1,5 @@
 -- The sets of operations, and the sets that are kept.
-use Rattle.std.specs.Prelude.{◌≡◌, ℕ, ◌+◌, ◌<◌, ◌≤◌, List, Option, Some, slice_get, length}
+use Rattle.std.specs.Prelude.{◌≡◌, ℕ, ◌+◌, ◌<◌, ◌≤◌, List, Option, Some, None, slice_get, slice_index, length}
 use Rattle.nef_space.specs.Sets.{Set}
 use Rattle.nef_geo.specs.Shapes.{given_form}
 use Rattle.nef_combine.specs.Sets.{op_set}
@@ -30,8 +30,17 @@ HasOperands n (Binary op i j) = IsOperand i n × IsOperand j n
 abbrev pub IsKept : List Node → List (Option Complex) → ℕ → Type 0
 IsKept nodes list k = (c : Complex) × (slice_get list k ≡ Some (Some c)) × ShowsSet (node_set nodes k) c
 
--- n more nodes have their complexes, and so has each earlier one that had it
+-- the complex of node k was let go
+abbrev pub IsGone : List (Option Complex) → ℕ → Type 0
+IsGone list k = slice_get list k ≡ Some None
+
+-- no complex is kept whose last use is among the first n commands
+abbrev pub IsLean : List ℕ → ℕ → List (Option Complex) → Type 0
+IsLean uses n list = (k : ℕ) → k < length list → slice_index uses k < n → IsGone list k
+
+-- n more nodes have their complexes, and so has each earlier one that had it; one that was let go stays away
 pub record IsGrown (nodes : List Node) (n : ℕ) (old new : List (Option Complex)) : Type 0 where
   pub count : length new ≡ length old + n
   pub earlier : (k : ℕ) → IsKept nodes old k → IsKept nodes new k
+  pub gone : (k : ℕ) → IsGone old k → IsGone new k
   pub added : (k : ℕ) → length old ≤ k → k < length new → IsKept nodes new k

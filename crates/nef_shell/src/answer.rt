@@ -1,7 +1,7 @@
 //! The answers to questions.
 
 ghost use Rattle.std.specs.Prelude.{◌≡◌};
-ghost use Rattle.nef_shell.specs.Output.{answer_of, same_answer};
+ghost use Rattle.nef_shell.specs.Output.{answer_of, joined_answer, same_answer};
 
 use nef_geo::Label;
 
@@ -21,4 +21,11 @@ pub(crate) fn same_answer(same: bool) -> &'static [u8]
     ensures bytes { result.now ≡ same_answer same }
 {
     if same { b"same\n" } else { b"differs\n" }
+}
+
+/// The line that says whether two points are joined.
+pub(crate) fn joined_answer(joined: bool) -> &'static [u8]
+    ensures bytes { result.now ≡ joined_answer joined }
+{
+    if joined { b"joined\n" } else { b"apart\n" }
 }

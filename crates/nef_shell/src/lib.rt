@@ -9,12 +9,15 @@ mod answer;
 mod comparison;
 #[cfg(test)]
 mod empty_text;
+mod entry;
 #[cfg(test)]
 mod gates;
+mod joining;
 mod laws;
 mod line;
 mod listing;
 mod operation;
+mod ray_end;
 mod script;
 mod sets;
 mod status;
@@ -24,6 +27,7 @@ mod uses;
 mod work;
 
 pub use comparison::same_text;
+pub use entry::program;
 pub use laws::written_laws;
 pub use status::{Status, code};
 pub use top::run;

@@ -1,14 +1,14 @@
 //! The complexes of the nodes.
 
-ghost use Rattle.std.specs.Prelude.{◌≡◌, ◌≤◌, ◌<◌, ◌↔◌, ℕ, [], IfOk, IfSome, IsTrue, OnOk, All, length, slice_index, slice_index_or, vec_len};
+ghost use Rattle.std.specs.Prelude.{◌≡◌, ◌+◌, ◌≤◌, ◌<◌, ◌↔◌, ◌⊎◌, ℕ, Some, [], IfOk, IfSome, IsTrue, OnOk, All, length, slice_index, slice_index_or, vec_len};
 ghost use Rattle.nef_space.specs.Local.{SameSet};
 ghost use Rattle.nef_space.specs.Sets.{Set};
 ghost use Rattle.nef_complex.specs.Complexes.{ShowsSet};
 ghost use Rattle.nef_expr.specs.Nodes.{node_set};
 ghost use Rattle.nef_expr.specs.declared.nodes.Node.TheVariants as node;
 ghost use Rattle.nef_script.specs.Meaning.{IsWithin};
-ghost use Rattle.nef_shell.specs.Commands.{IsOperand, LooksAt, Binds, AreLastUses};
-ghost use Rattle.nef_shell.specs.Operations.{IsKept, IsGrown};
+ghost use Rattle.nef_shell.specs.Commands.{IsOperand, LooksAt, Binds, AreLastUses, AreUses};
+ghost use Rattle.nef_shell.specs.Operations.{IsKept, IsGone, IsLean, IsGrown};
 
 use crate::operation::{Operation, operation_of};
 use crate::uses::{bound_node, last_uses, looked_at};
@@ -40,6 +40,7 @@ impl<'a> Sets<'a> {
         ensures nodes { IfOk result (λ t. t.nodes.now ≡ script.entry.now.nodes) }
         ensures none { IfOk result (λ t. t.list.items ≡ []) }
         ensures last { IfOk result (λ t. AreLastUses script.entry.now.nodes script.entry.now.commands t.last_uses.items) }
+        ensures used { IfOk result (λ t. AreUses script.entry.now.nodes script.entry.now.commands t.last_uses.items) }
     {
         Ok(Sets {
             nodes: script.nodes(),
@@ -117,6 +118,8 @@ impl<'a> Sets<'a> {
         requires within { IfSome node (λ k. (k < length self.old.list.items) × (k < vec_len self.old.last_uses)) }
         ensures count { length self.new.list.items ≡ length self.old.list.items }
         ensures kept { (k : ℕ) → now < slice_index self.old.last_uses.items k → IsKept self.old.nodes.now self.old.list.items k → IsKept self.new.nodes.now self.new.list.items k }
+        ensures gone { (k : ℕ) → node ≡ Some k → slice_index self.old.last_uses.items k ≤ now → IsGone self.new.list.items k }
+        ensures stays { (k : ℕ) → IsGone self.old.list.items k → IsGone self.new.list.items k }
         ensures nodes { self.new.nodes ≡ self.old.nodes }
         ensures uses { self.new.last_uses ≡ self.old.last_uses }
     {
@@ -133,8 +136,10 @@ impl<'a> Sets<'a> {
         requires within { IsWithin (length self.old.nodes.now) command.now }
         requires earlier { (k : ℕ) → LooksAt self.old.nodes.now command.now k → k < length self.old.list.items }
         requires bound { (k : ℕ) → Binds command.now k → k < length self.old.list.items }
+        requires used { (k : ℕ) → k < length self.old.list.items → slice_index self.old.last_uses.items k < now + 1 → IsGone self.old.list.items k ⊎ (LooksAt self.old.nodes.now command.now k ⊎ Binds command.now k) }
         ensures count { length self.new.list.items ≡ length self.old.list.items }
         ensures kept { (k : ℕ) → now < slice_index self.old.last_uses.items k → IsKept self.old.nodes.now self.old.list.items k → IsKept self.new.nodes.now self.new.list.items k }
+        ensures lean { IsLean self.old.last_uses.items (now + 1) self.new.list.items }
         ensures nodes { self.new.nodes ≡ self.old.nodes }
         ensures uses { self.new.last_uses ≡ self.old.last_uses }
     {

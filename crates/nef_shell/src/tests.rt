@@ -1,7 +1,6 @@
 use crate::empty_text::EMPTY_TEXT;
 use crate::gates::{Counting, Holding};
 use crate::{Status, code, run, same_text};
-use nef_expr::{Node, Nodes};
 use nef_io::{Gate, MemSink, OpenGate, SureSource};
 use nef_ops::constant;
 use nef_script::ScriptKind;
@@ -96,6 +95,58 @@ half A 1 0 0 4194304 closed / empty E / same A E / half F 0 0 1 -2048 open / ful
     same F U => same / same
 full U / not N U / empty E / same N E => same";
 
+// Where rays end in a half-space with its boundary, in one without, and in a box.
+const RAYS: &str =
+    "half A 1 0 0 0 closed / ray A -1 0 0 1 1 0 0 / ray A 1 0 0 2 1 0 0 => after 0 0 0 1 not \
+    / at 2048 0 0 1 frame
+half B 1 0 0 0 open / ray B -1 0 0 1 1 0 0 => at 0 0 0 1 not
+half Ca -1 0 0 0 closed / half Cb 1 0 0 -1 closed / half Cc 0 -1 0 0 closed / half Cd 0 \
+    1 0 -1 closed / half Ce 0 0 -1 0 closed / half Cf 0 0 1 -1 closed / and Cg Ca Cb / \
+    and Ch Cg Cc / and Ci Ch Cd / and Cj Ci Ce / and C Cj Cf / ray C -1 1 1 2 1 0 0 / \
+    ray C 1 1 1 2 1 0 0 / ray C -1 -1 -1 1 1 1 1 / ray C 0 0 0 1 -1 0 0 / ray C 2048 0 0 \
+    1 1 0 0 => at 0 1 1 2 in / after 2 1 1 2 not / at 0 0 0 1 in / at -2048 0 0 1 frame \
+    / frame";
+
+// Points that may be joined: in two boxes; in a plate with a hole; in a box that a wall parts, and in one
+// whose wall has a hole; in two boxes with a common edge, and round them.
+const JOINS: &str =
+    "half Aa -1 0 0 0 closed / half Ab 1 0 0 -1 closed / half Ac 0 -1 0 0 closed / half Ad 0 \
+    1 0 -1 closed / half Ae 0 0 -1 0 closed / half Af 0 0 1 -1 closed / and Ag Aa Ab / \
+    and Ah Ag Ac / and Ai Ah Ad / and Aj Ai Ae / and A Aj Af / half Ba -1 0 0 2 closed / \
+    half Bb 1 0 0 -3 closed / half Bc 0 -1 0 0 closed / half Bd 0 1 0 -1 closed / half \
+    Be 0 0 -1 0 closed / half Bf 0 0 1 -1 closed / and Bg Ba Bb / and Bh Bg Bc / and Bi \
+    Bh Bd / and Bj Bi Be / and B Bj Bf / or U A B / joined U 1 1 1 2 5 1 1 2 / joined U \
+    1 1 1 4 3 3 3 4 / joined U -1 0 0 1 5 0 0 1 / joined U 0 1 1 2 0 1 3 4 / joined U 0 \
+    0 0 1 1 0 0 1 / joined U 0 0 0 1 0 0 0 7 / joined U 2048 0 0 1 0 0 0 1 / joined U 0 \
+    0 0 1 0 2048 0 1 => apart / joined / joined / joined / apart / joined / frame / \
+    frame
+half Pa -1 0 0 -10 closed / half Pb 1 0 0 -10 closed / half Pc 0 -1 0 -10 closed / half \
+    Pd 0 1 0 -10 closed / half Pe 0 0 -1 0 closed / half Pf 0 0 1 -2 closed / and Pg Pa \
+    Pb / and Ph Pg Pc / and Pi Ph Pd / and Pj Pi Pe / and P Pj Pf / half a 0 1 0 -4 open \
+    / half b 0 -1 0 -4 open / half c 2 1 0 -8 open / half d -2 -1 0 -8 open / half e 2 \
+    -1 0 -8 open / half f -2 1 0 -8 open / and g a b / and h g c / and i h d / and j i e \
+    / and H j f / diff K P H / joined K 9 9 2 1 -9 -9 2 1 / joined K 9 9 2 2 -9 -9 2 2 \
+    => joined / joined
+half Aa -1 0 0 0 closed / half Ab 1 0 0 -1 closed / half Ac 0 -1 0 0 closed / half Ad 0 \
+    1 0 -1 closed / half Ae 0 0 -1 0 closed / half Af 0 0 1 -1 closed / and Ag Aa Ab / \
+    and Ah Ag Ac / and Ai Ah Ad / and Aj Ai Ae / and A Aj Af / half Wa 2 0 0 -1 closed / \
+    half Wb -2 0 0 1 closed / and W Wa Wb / diff D A W / joined D 1 2 2 4 3 2 2 4 / \
+    joined D 1 1 1 4 1 3 3 4 => apart / joined
+half Aa -1 0 0 0 closed / half Ab 1 0 0 -1 closed / half Ac 0 -1 0 0 closed / half Ad 0 \
+    1 0 -1 closed / half Ae 0 0 -1 0 closed / half Af 0 0 1 -1 closed / and Ag Aa Ab / \
+    and Ah Ag Ac / and Ai Ah Ad / and Aj Ai Ae / and A Aj Af / half Wa 2 0 0 -1 closed / \
+    half Wb -2 0 0 1 closed / and W Wa Wb / half Ha 0 -4 0 1 open / half Hb 0 4 0 -3 \
+    open / half Hc 0 0 -4 1 open / half Hd 0 0 4 -3 open / and He Ha Hb / and Hf He Hc / \
+    and H Hf Hd / diff V W H / diff D A V / joined D 1 2 2 4 3 2 2 4 / joined D 2 2 2 4 \
+    1 2 2 4 => joined / joined
+half Aa -1 0 0 0 closed / half Ab 1 0 0 -1 closed / half Ac 0 -1 0 0 closed / half Ad 0 \
+    1 0 -1 closed / half Ae 0 0 -1 0 closed / half Af 0 0 1 -1 closed / and Ag Aa Ab / \
+    and Ah Ag Ac / and Ai Ah Ad / and Aj Ai Ae / and A Aj Af / half Ba -1 0 0 1 closed / \
+    half Bb 1 0 0 -2 closed / half Bc 0 -1 0 1 closed / half Bd 0 1 0 -2 closed / half \
+    Be 0 0 -1 0 closed / half Bf 0 0 1 -1 closed / and Bg Ba Bb / and Bh Bg Bc / and Bi \
+    Bh Bd / and Bj Bi Be / and B Bj Bf / or E A B / joined E 1 1 1 2 3 3 1 2 / joined E \
+    -1 3 1 2 3 -1 1 2 => apart / joined";
+
 // A refused script, and the line that it gives.
 const REFUSALS: &str = "ball A => line 1: unknown command
 half A 1 0 0 closed => line 1: wrong number of words
@@ -108,6 +159,7 @@ half A 1 0 0 0 shut => line 1: mode is not open or closed
 half A 2049 0 0 0 shut => line 1: coefficient out of range
 empty A / has A 0 0 0 0 => line 2: weight out of range
 empty A / has A 8796093022209 0 0 1 => line 2: coefficient out of range
+empty A / ray A 0 0 0 1 0 0 0 => line 2: zero direction
 empty A \x07 => line 1: bad byte
 half A 2048 0 0 0 closed / has A 0 0 0 1 / half B 2049 0 0 0 closed => line 3: coefficient out of range
 half A 2049 0 0 0 closed / has A 0 0 0 1 => line 1: coefficient out of range";
@@ -240,6 +292,8 @@ fn fits_by<R: Threads + Wait + Sync>(
             && fits(rt, alloc, &words, SOLIDS, 0)?
             && fits(rt, alloc, &words, COUNTS, 0)?
             && fits(rt, alloc, &words, COMPARISONS, 0)?
+            && fits(rt, alloc, &words, RAYS, 0)?
+            && fits(rt, alloc, &words, JOINS, 0)?
             && fits(rt, alloc, &words, REFUSALS, 1)?;
         if !all {
             return Ok(false);
@@ -271,21 +325,16 @@ fn text_of_the_empty_set(rt: HostRuntime) -> Result<(), Fail> {
     Ok(())
 }
 
-// The empty set of one list against both nodes of another.
+// The empty set against itself and the whole frame.
 #[test]
 fn texts_compared(rt: HostRuntime) -> Result<(), Fail> {
     let alloc = rt.alloc();
-    let mut left = Nodes::new(alloc);
-    left.push(Node::Empty)?;
-    let mut right = Nodes::new(alloc);
-    right.push(Node::Full)?;
-    right.push(Node::Empty)?;
     let empty = constant(alloc, false)?;
     let full = constant(alloc, true)?;
     let p = parts(alloc, &empty)?;
     let q = parts(alloc, &full)?;
-    assert!(rt; same_text(alloc, &left, 0, &empty, &p, &right, 1, &empty, &p)?);
-    assert!(rt; !same_text(alloc, &left, 0, &empty, &p, &right, 0, &full, &q)?);
+    assert!(rt; same_text(alloc, &empty, &p, &empty, &p)?);
+    assert!(rt; !same_text(alloc, &empty, &p, &full, &q)?);
     Ok(())
 }
 

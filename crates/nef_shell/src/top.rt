@@ -40,8 +40,8 @@ fn refuse<K: Sink>(alloc: Global, sink: &mut K, line: u64, kind: ScriptKind) -> 
     }
 }
 
-// Writes the line of refused words.
-fn refuse_words<K: Sink>(sink: &mut K) -> Status
+/// Writes the line of refused words.
+pub(crate) fn refuse_words<K: Sink>(sink: &mut K) -> Status
     ensures status { MatchStatus result
         ⊥
         (λ l k. ⊥)

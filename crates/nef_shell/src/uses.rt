@@ -3,7 +3,7 @@
 ghost use Rattle.std.specs.Prelude.{◌≡◌, ◌≤◌, ◌<◌, ◌↔◌, ◌⊎◌, ℕ, Some, IfOk, IfSome, All, length, slice_index, vec_len};
 ghost use Rattle.nef_expr.specs.Nodes.{NamesBelow};
 ghost use Rattle.nef_script.specs.Meaning.{IsWithin};
-ghost use Rattle.nef_shell.specs.Commands.{IsOperand, LooksAt, AreLastUses, Binds};
+ghost use Rattle.nef_shell.specs.Commands.{IsOperand, LooksAt, AreLastUses, AreUses, Binds};
 
 use nef_expr::{Node, Nodes};
 use nef_script::{Command, Script};
@@ -31,9 +31,11 @@ pub(crate) fn looked_at(nodes: &Nodes, command: &Command) -> (Option<usize>, Opt
     match command {
         Command::Bind { node, .. } => operands(nodes.get(*node)),
         Command::Same { left, right, .. } => (Some(*left), Some(*right)),
-        Command::Has { node, .. } | Command::Count { node, .. } | Command::Print { node, .. } => {
-            (Some(*node), None)
-        }
+        Command::Has { node, .. }
+        | Command::Joined { node, .. }
+        | Command::Ray { node, .. }
+        | Command::Count { node, .. }
+        | Command::Print { node, .. } => (Some(*node), None),
     }
 }
 
@@ -52,6 +54,7 @@ fn mark(uses: &mut [usize], node: Option<usize>, now: usize)
     requires within { IfSome node (λ k. k < length uses.old) }
     ensures length { length uses.new ≡ length uses.old }
     ensures later { (i k : ℕ) → i ≤ now → i ≤ slice_index uses.old k → i ≤ slice_index uses.new k }
+    ensures exact { (k : ℕ) → (slice_index uses.new k ≡ slice_index uses.old k) ⊎ ((node ≡ Some k) × (slice_index uses.new k ≡ now)) }
     ensures marked { (k : ℕ) → node ≡ Some k → now ≤ slice_index uses.new k }
 {
     if let Some(k) = node {
@@ -64,6 +67,7 @@ pub(crate) fn last_uses(alloc: Global, script: &Script) -> Result<Vec<usize>, Al
     requires within { All (IsWithin (length script.now.nodes)) script.now.commands }
     ensures count { IfOk result (λ v. vec_len v ≡ length script.now.nodes) }
     ensures last { IfOk result (λ v. AreLastUses script.now.nodes script.now.commands v.items) }
+    ensures uses { IfOk result (λ v. AreUses script.now.nodes script.now.commands v.items) }
 {
     let nodes = script.nodes();
     let mut uses = vec![in alloc; 0; nodes.len()]?;

@@ -12,7 +12,9 @@ ghost use Rattle.nef_shell.specs.Operations.{IsKept, IsGrown};
 ghost use Rattle.nef_shell.specs.Stops.{MatchStop};
 
 use crate::answer::{answer, same_answer};
+use crate::joining::joined_piece;
 use crate::listing::{count_piece, print_piece};
+use crate::ray_end::ray_piece;
 use crate::sets::Sets;
 use crate::stop::Stop;
 use nef_core::How;
@@ -48,6 +50,7 @@ fn work_command<R: Threads + Wait + Sync, K: Sink, G: Gate + Sync>(
     gate: &G,
 ) -> Result<(), Stop>
     requires workers { (1 ≤ how.now.workers) × (how.now.workers ≤ 64) }
+    requires within { IsWithin (length sets.old.nodes.now) command.now }
     requires workable { IsWorkable sets.old.nodes.now (length sets.old.list.items) command.now }
     requires kept { (k : ℕ) → LooksAt sets.old.nodes.now command.now k → IsKept sets.old.nodes.now sets.old.list.items k }
     ensures done { OnOk result ((piece : List ℕ) × IsPiece sets.old.nodes.now command.now piece × Grows (K.written sink.old) (K.written sink.new) piece) }
@@ -68,6 +71,26 @@ fn work_command<R: Threads + Wait + Sync, K: Sink, G: Gate + Sync>(
         Command::Has { node, point, .. } => {
             let label = label_at(sets, *node, point);
             put_all(sink, answer(label))?;
+            Ok(())
+        }
+        Command::Joined {
+            node,
+            first,
+            second,
+            ..
+        } => {
+            let piece = joined_piece(alloc, sets.get(*node), first, second)?;
+            put_all(sink, piece)?;
+            Ok(())
+        }
+        Command::Ray {
+            node,
+            point,
+            dir,
+            ..
+        } => {
+            let piece = ray_piece(alloc, sets.get(*node), point, dir)?;
+            put_all(sink, &piece)?;
             Ok(())
         }
         Command::Same { left, right, .. } => {

@@ -66,7 +66,7 @@ fn last_two_alike<R: Threads + Wait + Sync>(
     };
     let (a, b) = (sets.get(i), sets.get(j));
     let (p, q) = (parts(alloc, a)?, parts(alloc, b)?);
-    let alike = same_text(alloc, nodes, i, a, &p, nodes, j, b, &q)?;
+    let alike = same_text(alloc, a, &p, b, &q)?;
     Ok(alike)
 }
 

@@ -1,24 +1,21 @@
 use Rattle.std.proofs.Common.{◌≡◌, ◌∙◌, sym}
 use Rattle.std.proofs.lemmas.Slice.Eq.{slice_eq-Decides}
 use Rattle.std.proofs.lemmas.Bool.Decides.{Decides-eqb}
-use Rattle.nef_expr.specs.Nodes.{node_set}
 use Rattle.nef_parts.specs.Text.{text}
 use Rattle.law_text.proofs.SameText.{same-set_text, text-set}
 use Rattle.nef_shell.proofs.comparison.same_text.Goals as goal
 
 pub returns-clause-same : goal.returns-clause-same
-returns-clause-same c =
+returns-clause-same c s t S T =
     let a = c.args.a.now in
     let b = c.args.b.now in
     let p = c.args.p.now in
     let q = c.args.q.now in
-    let s = node_set c.args.left.now c.args.i in
-    let t = node_set c.args.right.now c.args.j in
     let tells = slice_eq-Decides Decides-eqb _ _ _ c.eq.ensures in (
       λ h.
           let one : text a p ≡ text b q = sym c.in_ok-first.ensures.text ∙ sym c.as_slice.ensures.value ∙ tells.0 h ∙ c.as_slice-2.ensures.value ∙ c.in_ok-second.ensures.text in
-          text-set s t a b p q c.requires.first c.requires.second one,
+          text-set s t a b p q S T one,
       λ same.
-          let one : text a p ≡ text b q = (same-set_text s t a b p q c.requires.first c.requires.second same c.requires.first_parts c.requires.second_parts).1 in
+          let one : text a p ≡ text b q = (same-set_text s t a b p q S T same c.requires.first_parts c.requires.second_parts).1 in
           tells.1 (c.as_slice.ensures.value ∙ c.in_ok-first.ensures.text ∙ one ∙ sym c.in_ok-second.ensures.text ∙ sym c.as_slice-2.ensures.value),
     )

@@ -1,4 +1,4 @@
-use Rattle.nef_shell.proofs.Pieces.{same-texts, printed-one, counted-one, text-tells}
+use Rattle.nef_shell.proofs.Pieces.{same-texts, printed-one, counted-one, text-tells, count-tells}
 use Rattle.nef_shell.proofs.laws.written_laws.Goals as goal
 
 pub returns-clause-texts : goal.returns-clause-texts
@@ -9,3 +9,6 @@ returns-clause-pieces z s t name x y same = (printed-one s t name x y same, coun
 
 pub returns-clause-holds : goal.returns-clause-holds
 returns-clause-holds z s x is = text-tells s x is
+
+pub returns-clause-counts : goal.returns-clause-counts
+returns-clause-counts z s x is = count-tells s x is

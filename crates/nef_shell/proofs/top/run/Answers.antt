@@ -1,5 +1,4 @@
-use Rattle.std.proofs.Common.{refl}
-use Rattle.nef_shell.proofs.Statuses.{stairs-given, run-ends, words-end, no-memory-ends}
+use Rattle.nef_shell.proofs.Statuses.{stairs-given, run-ends}
 use Rattle.nef_shell.proofs.top.run.Goals as goal
 
 pub returns-in-Ok : goal.returns-in-Ok

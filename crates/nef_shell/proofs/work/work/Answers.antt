@@ -1,11 +1,12 @@
-use Rattle.std.proofs.Common.{◌≡◌, ◌+◌, ◌<◌, ◌++◌, ◌∷◌, [], ◌∙◌, ap, sym, refl, subst, arith, length, take, Some}
-use Rattle.std.specs.Prelude.{slice_get}
+use Rattle.std.proofs.Common.{◌≡◌, ◌+◌, ◌<◌, ◌++◌, ◌∷◌, [], ◌∙◌, ap, sym, refl, subst, arith, length, take, Some, inl, inr}
+use Rattle.std.specs.Prelude.{slice_get, slice_index}
+use Rattle.std.proofs.lemmas.Bool.{cases_lt}
 use Rattle.std.proofs.lemmas.List.{take_more}
 use Rattle.std.proofs.lemmas.Option.{slice_get_read}
 use Rattle.std.proofs.lemmas.Result.{err_from_is_err_and}
-use Rattle.nef_shell.specs.Commands.{LooksAt, AreLastUses, bound_by}
-use Rattle.nef_shell.specs.Operations.{IsKept, IsGrown}
-use Rattle.nef_shell.proofs.Complexes.{binds-one, kept-next}
+use Rattle.nef_shell.specs.Commands.{LooksAt, AreLastUses, AreUses, IsWorkable, bound_by}
+use Rattle.nef_shell.specs.Operations.{IsKept, IsLean, IsGrown}
+use Rattle.nef_shell.proofs.Complexes.{binds-one, adds-bound, kept-next}
 use Rattle.nef_shell.proofs.Meaning.{bound_by-push}
 use Rattle.nef_shell.proofs.Outputs.{output-next, grows-more, front-at, stop-rose, grows_within-none}
 use Rattle.nef_shell.proofs.work.work.Goals as goal
@@ -82,6 +83,41 @@ release-requires-clause-bound g c k binds =
     let count = worked.grown.count in
     omega (arith, next.0, binds-one item k binds)
 
+pub release-requires-clause-used : goal.release-requires-clause-used
+release-requires-clause-used g c k within used =
+    let nodes = c.args.script.now.nodes in
+    let items = c.commands-command-items.result.now in
+    let item = c.command-item.result in
+    let now = c.loop-now.now in
+    let so_far = c.loop-now.invariant in
+    let worked = c.in_ok-work_command.ensures in
+    let all = c.commands-command-items.ensures.commands in
+    let old = c.loop-now.sets in
+    let mid = c.work_command.new.sets in
+    let same : mid.nodes.now ≡ nodes = ap (λ z. z.now) worked.nodes ∙ so_far.nodes in
+    let at : slice_get c.args.script.now.commands now ≡ Some item = subst (λ z. slice_get z now ≡ Some item) all (slice_get_read items _ now item refl (omega arith) c.command-item.is) in
+    let bound : length old.list.items ≡ bound_by (take now c.args.script.now.commands) = so_far.bound ∙ ap (λ z. bound_by (take now z)) all in
+    let workable : IsWorkable nodes (length old.list.items) item = subst (λ z. IsWorkable nodes z item) (sym bound) (c.requires.workable now item at) in
+    let uses : slice_index mid.last_uses.items k ≡ slice_index old.last_uses.items k = ap (λ z. slice_index z.items k) worked.uses in
+    let grown = worked.grown in
+    elim (cases_lt k (length old.list.items)) [
+      | inr added ↦ inr (inr (adds-bound nodes (length old.list.items) k item workable (omega arith) (omega (arith, grown.count))))
+      | inl before ↦ elim (cases_lt (slice_index old.last_uses.items k) now) [
+        | inl earlier ↦ inl (grown.gone k (so_far.lean k before earlier))
+        | inr here ↦ elim (so_far.used k (omega (arith, mid.counted.1, ap length same))) [
+          | inl zero ↦ absurd (
+              let first : now ≡ 0 = omega (arith, uses) in
+              let none : length old.list.items ≡ bound_by (take 0 c.args.script.now.commands) = subst (λ z. length old.list.items ≡ bound_by (take z c.args.script.now.commands)) first bound in
+              omega arith)
+          | inr (d, seen, looks) ↦
+              let last : slice_index old.last_uses.items k ≡ now = omega (arith, uses) in
+              let found : Some d ≡ Some item = sym seen ∙ ap (slice_get c.args.script.now.commands) last ∙ at in
+              let one : d ≡ item = cc in
+              inr (inl (subst (λ z. LooksAt z item k) (sym same) (subst (λ z. LooksAt nodes z k) one looks)))
+        ]
+      ]
+    ]
+
 pub loop-now-preserved : goal.loop-now-preserved
 loop-now-preserved g c =
     let nodes = c.args.script.now.nodes in
@@ -112,6 +148,8 @@ loop-now-preserved g c =
       );
       nodes = same_after;
       last = subst (AreLastUses nodes c.args.script.now.commands) (sym uses_after) so_far.last;
+      used = subst (AreUses nodes c.args.script.now.commands) (sym uses_after) so_far.used;
+      lean = subst (λ z. IsLean z (now + 1) new.list.items) (sym (ap (λ z. z.items) released.uses)) released.lean;
       bound = released.count ∙ grown.count ∙ ap (λ z. z + bound_by (item ∷ [])) so_far.bound ∙ sym (bound_by-push (take now items) item) ∙ ap bound_by (sym next);
       kept = λ k within later. kept-next nodes (bound_by (item ∷ [])) now old.last_uses.items old.list.items mid.list.items new.list.items so_far.kept grown released.count stays k within (rw uses_after at later);
     }

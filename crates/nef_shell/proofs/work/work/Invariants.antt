@@ -1,8 +1,8 @@
 use Rattle.std.proofs.Common.{◌≡◌, ℕ, ◌<◌, ◌≤◌, take, List, length}
 use Rattle.std.specs.Prelude.{slice_index}
 use Rattle.nef_io.specs.Bytes.{Grows}
-use Rattle.nef_shell.specs.Commands.{bound_by, AreLastUses}
-use Rattle.nef_shell.specs.Operations.{IsKept}
+use Rattle.nef_shell.specs.Commands.{bound_by, AreLastUses, AreUses}
+use Rattle.nef_shell.specs.Operations.{IsKept, IsLean}
 use Rattle.nef_shell.specs.Output.{IsOutput}
 use Rattle.nef_shell.proofs.work.work.Given as goal
 
@@ -14,5 +14,7 @@ invariant-loop-now g l = record {
   nodes : l.sets.nodes.now ≡ l.script.nodes;
   last : AreLastUses l.script.nodes l.script.commands l.sets.last_uses.items;
   bound : length l.sets.list.items ≡ bound_by (take l.now l.command-items);
+  used : AreUses l.script.nodes l.script.commands l.sets.last_uses.items;
+  lean : IsLean l.sets.last_uses.items l.now l.sets.list.items;
   kept : (k : ℕ) → k < length l.sets.list.items → l.now ≤ slice_index l.sets.last_uses.items k → IsKept l.script.nodes l.sets.list.items k;
 }

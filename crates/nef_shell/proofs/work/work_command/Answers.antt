@@ -35,7 +35,7 @@ returns-in_err-put_all-in-Count-clause-stopped g c =
     let p = err_from_is_err_and c.from_residual-in_err-put_all-in-Count.result c.from_residual-in_err-put_all-in-Count.ensures.1 in
     let piece = c.in_ok-piece-in-Count.piece in
     let set = node_set c.args.sets.now.nodes.now c.in-Count.node in
-    rw (p.1, p.2) (c.in_err-put_all-in-Count.ensures.failed, (piece.items, rw c.in-Count.is (c.in_ok-piece-in-Count.ensures.piece set c.get.ensures.shows), rw (← c.deref.ensures.value) c.in_err-put_all-in-Count.ensures.part))
+    rw (p.1, p.2) (c.in_err-put_all-in-Count.ensures.failed, (piece.items, rw c.in-Count.is (c.in_ok-piece-in-Count.ensures.piece set c.get-in-Count.ensures.shows), rw (← c.deref-in-Count.ensures.value) c.in_err-put_all-in-Count.ensures.part))
 
 pub returns-in_err-put_all-in-Print-clause-stopped : goal.returns-in_err-put_all-in-Print-clause-stopped
 returns-in_err-put_all-in-Print-clause-stopped g c =
@@ -53,10 +53,41 @@ pub returns-in_ok-put_all-in-Count-clause-done : goal.returns-in_ok-put_all-in-C
 returns-in_ok-put_all-in-Count-clause-done g c =
     let piece = c.in_ok-piece-in-Count.piece in
     let set = node_set c.args.sets.now.nodes.now c.in-Count.node in
-    (piece.items, rw c.in-Count.is (c.in_ok-piece-in-Count.ensures.piece set c.get.ensures.shows), rw (← c.deref.ensures.value) c.in_ok-put_all-in-Count.ensures.ok)
+    (piece.items, rw c.in-Count.is (c.in_ok-piece-in-Count.ensures.piece set c.get-in-Count.ensures.shows), rw (← c.deref-in-Count.ensures.value) c.in_ok-put_all-in-Count.ensures.ok)
 
 pub returns-in_ok-put_all-in-Print-clause-done : goal.returns-in_ok-put_all-in-Print-clause-done
 returns-in_ok-put_all-in-Print-clause-done g c =
     let piece = c.in_ok-piece-in-Print.piece in
     let set = node_set c.args.sets.now.nodes.now c.in-Print.node in
     (piece.items, rw c.in-Print.is (c.in_ok-piece-in-Print.ensures.piece set c.get-in-Print.ensures.shows), rw (← c.deref-in-Print.ensures.value) c.in_ok-put_all-in-Print.ensures.ok)
+
+pub ray_piece-requires : goal.ray_piece-requires
+ray_piece-requires g c =
+    let within = rw c.in-Ray.is at c.requires.within in
+    record { shows = (node_set c.args.sets.now.nodes.now c.in-Ray.node, c.get-in-Ray.ensures.shows); within = within.1 }
+
+pub returns-in_err-put_all-in-Joined-clause-stopped : goal.returns-in_err-put_all-in-Joined-clause-stopped
+returns-in_err-put_all-in-Joined-clause-stopped g c =
+    let p = err_from_is_err_and c.from_residual-in_err-put_all-in-Joined.result c.from_residual-in_err-put_all-in-Joined.ensures.1 in
+    let piece = c.in_ok-piece-in-Joined.piece in
+    let set = node_set c.args.sets.now.nodes.now c.in-Joined.node in
+    rw (p.1, p.2) (c.in_err-put_all-in-Joined.ensures.failed, (piece.now, rw c.in-Joined.is (c.in_ok-piece-in-Joined.ensures.piece set c.get.ensures.shows), c.in_err-put_all-in-Joined.ensures.part))
+
+pub returns-in_ok-put_all-in-Joined-clause-done : goal.returns-in_ok-put_all-in-Joined-clause-done
+returns-in_ok-put_all-in-Joined-clause-done g c =
+    let piece = c.in_ok-piece-in-Joined.piece in
+    let set = node_set c.args.sets.now.nodes.now c.in-Joined.node in
+    (piece.now, rw c.in-Joined.is (c.in_ok-piece-in-Joined.ensures.piece set c.get.ensures.shows), c.in_ok-put_all-in-Joined.ensures.ok)
+
+pub returns-in_err-put_all-in-Ray-clause-stopped : goal.returns-in_err-put_all-in-Ray-clause-stopped
+returns-in_err-put_all-in-Ray-clause-stopped g c =
+    let p = err_from_is_err_and c.from_residual-in_err-put_all-in-Ray.result c.from_residual-in_err-put_all-in-Ray.ensures.1 in
+    let piece = c.in_ok-piece-in-Ray.piece in
+    let set = node_set c.args.sets.now.nodes.now c.in-Ray.node in
+    rw (p.1, p.2) (c.in_err-put_all-in-Ray.ensures.failed, (piece.items, rw c.in-Ray.is (c.in_ok-piece-in-Ray.ensures.piece set c.get-in-Ray.ensures.shows), rw (← c.deref.ensures.value) c.in_err-put_all-in-Ray.ensures.part))
+
+pub returns-in_ok-put_all-in-Ray-clause-done : goal.returns-in_ok-put_all-in-Ray-clause-done
+returns-in_ok-put_all-in-Ray-clause-done g c =
+    let piece = c.in_ok-piece-in-Ray.piece in
+    let set = node_set c.args.sets.now.nodes.now c.in-Ray.node in
+    (piece.items, rw c.in-Ray.is (c.in_ok-piece-in-Ray.ensures.piece set c.get-in-Ray.ensures.shows), rw (← c.deref.ensures.value) c.in_ok-put_all-in-Ray.ensures.ok)

@@ -1,4 +1,5 @@
-use Rattle.std.proofs.Common.{arith, inl, inr}
+use Rattle.std.proofs.Common.{◌∙◌, ap, arith, inl, inr}
+use Rattle.std.specs.Prelude.{slice_index}
 use Rattle.nef_shell.proofs.Complexes.{some-then}
 use Rattle.nef_shell.proofs.sets.Sets.release.Goals as goal
 
@@ -28,3 +29,21 @@ release_one-requires-3 c = record {
       let count_again = c.release_one-2.ensures.count in
       (omega arith, omega arith));
 }
+
+pub returns-clause-lean : goal.returns-clause-lean
+returns-clause-lean c k within used =
+    let one = c.release_one.ensures in
+    let two = c.release_one-2.ensures in
+    let three = c.release_one-3.ensures in
+    let second_uses = ap (λ z. slice_index z.items k) one.uses in
+    let third_uses = ap (λ z. slice_index z.items k) two.uses ∙ second_uses in
+    elim (c.requires.used k (omega (arith, one.count, two.count, three.count)) used) [
+      | inl gone ↦ three.stays k (two.stays k (one.stays k gone))
+      | inr more ↦ elim more [
+        | inl looks ↦ elim ((c.looked_at-first.ensures.looked_at k).0 looks) [
+          | inl first ↦ three.stays k (two.stays k (one.gone k first (omega arith)))
+          | inr second ↦ three.stays k (two.gone k second (omega (arith, second_uses)))
+        ]
+        | inr binds ↦ three.gone k ((c.bound_node.ensures.bound k).0 binds) (omega (arith, third_uses))
+      ]
+    ]

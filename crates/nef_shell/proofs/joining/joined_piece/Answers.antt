@@ -1,0 +1,13 @@
+use Rattle.std.proofs.Common.{sym, subst}
+use Rattle.nef_geo.specs.Shapes.{place_of}
+use Rattle.nef_shell.specs.Output.{IsJoinedAnswer}
+use Rattle.nef_shell.proofs.Outputs.{joined-piece}
+use Rattle.nef_shell.proofs.joining.joined_piece.Goals as goal
+
+pub returns : goal.returns
+returns c =
+    let p = place_of c.args.first.now in
+    let q = place_of c.args.second.now in
+    let first = c.in_frame.ensures.in_frame.0 c.if-not-in_frame.false in
+    let second = c.in_frame-2.ensures.in_frame.0 c.if-not-in_frame-2.false in
+    record { piece = λ s S. subst (λ z. IsJoinedAnswer s p q z) (sym c.joined_answer.ensures.bytes) (joined-piece s p q c.joined.result first second (c.joined.ensures.joined s S)) }
