@@ -1,15 +1,16 @@
 -- An index is put together carrier by carrier.
-use Rattle.std.proofs.Common.{◌≡◌, ℕ, ◌+◌, ◌<◌, ◌≤◌, pos, List, [], ◌∷◌, ◌++◌, length, length-append, Bool, true, IsTrue, ◌↔◌, arith, refl, ap, sym, ◌∙◌, subst, ⊎_elim}
+use Rattle.std.proofs.Common.{◌≡◌, ℕ, ◌+◌, ◌<◌, ◌≤◌, pos, List, [], ◌∷◌, ◌++◌, length, length-append, Bool, true, false, Option, Some, None, is_some, IsTrue, ◌↔◌, arith, refl, ap, sym, ◌∙◌, subst, ⊎_elim}
+use Rattle.std.specs.Option.{MatchOption}
 use Rattle.nef_space.specs.Lists.{IsAt}
 use Rattle.nef_space.specs.Numbers.{IsBelow}
 use Rattle.nef_space.specs.Place.{Form, form_at, form_numbers, normal_of}
 use Rattle.nef_space.specs.Vectors.{Vector, SameDirection}
 use Rattle.nef_geo.specs.Shapes.{form_of, place_of}
 use Rattle.nef_geo.specs.declared.plane.Plane.{Plane}
-use Rattle.law_sphere.specs.Maps.{item_normal}
+use Rattle.law_sphere.specs.Maps.{At, Map, Item, items, item_normal}
 use Rattle.law_sphere.proofs.Compare.{SameDirection-turned, SameDirection-trans}
 use Rattle.nef_smap.specs.Maps.{map_of}
-use Rattle.nef_smap.proofs.ClassLists.{less-or-last, is-at_one, is-at_within, is-at_left, is-at_last, Either, earlier, last, is-at_either}
+use Rattle.nef_classes.proofs.ClassLists.{less-or-last, is-at_one, is-at_within, is-at_left, is-at_last, Either, earlier, last, is-at_either}
 use Rattle.nef_complex.specs.declared.complex.Vertex.{Vertex}
 use Rattle.nef_complex.specs.declared.complex.Edge.{Edge}
 use Rattle.nef_complex.specs.declared.index.PlaneIndex.{PlaneIndex}
@@ -64,6 +65,18 @@ edge-flags vs es h flags k e F a (f, b, l, u) =
     (subst (λ (r : Edge). IsAt flags r.low true) same ((F.set f.low).1 l), subst (λ (r : Edge). IsAt flags r.high true) same ((F.set f.high).1 u))
 
 -- ---- items
+-- the number of the first item with the normal, if there is one
+abbrev pub IsWith : Map → Vector → Option ℕ → Type 0
+IsWith M n o = MatchOption o ((k : ℕ) (x : Item) → At (items M) k x → SameDirection (item_normal x) n → ⊥) (λ k. (x : Item) × At (items M) k x × SameDirection (item_normal x) n)
+
+pub with-normal : (M : Map) (n : Vector) (o : Option ℕ) → is_some o ≡ true → IsWith M n o → HasNormal M n
+with-normal M n None e f = absurd cc
+with-normal M n (Some k) e h = (k, h.0, h.1, h.2)
+
+pub without-normal : (M : Map) (n : Vector) (o : Option ℕ) → is_some o ≡ false → IsWith M n o → HasNormal M n → ⊥
+without-normal M n None e f h = f h.0 h.1 h.2 h.3
+without-normal M n (Some k) e g h = absurd cc
+
 module _ (vs : List Vertex) (h : Form) (n : Vector) (w : SameDirection (normal_of h) n) where
   -- a vertex on the plane has an item with its normal
   pub item-in : (k : ℕ) (v : Vertex) → IsAt vs k v → LiesOn vs h k → HasNormal (map_of v.map) n → HasItemIn vs h

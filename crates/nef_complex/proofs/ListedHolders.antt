@@ -5,7 +5,7 @@ use Rattle.nef_space.specs.Place.{Place}
 use Rattle.nef_geo.specs.Shapes.{form_of}
 use Rattle.nef_geo.specs.declared.plane.Plane.{Plane}
 use Rattle.law_sphere.specs.Maps.{At}
-use Rattle.nef_smap.proofs.ClassLists.{less-or-last, is-at_one, is-at_within}
+use Rattle.nef_classes.proofs.ClassLists.{less-or-last, is-at_one, is-at_within}
 use Rattle.nef_smap.proofs.SideLists.{get-from_at}
 use Rattle.nef_complex.specs.Index.{AreWithin, AreHolders}
 use Rattle.nef_complex.specs.Planes.{HoldsBoth}

@@ -22,13 +22,6 @@ pub fn holds_both(h: &Plane, a: &Point, b: &Point) -> bool
     holds(h, a) && holds(h, b)
 }
 
-/// Whether the directions are equal.
-pub fn same_dir(a: &Dir, b: &Dir) -> bool
-    ensures same { IsTrue result ↔ (a.now ≡ b.now) }
-{
-    a == b
-}
-
 /// The direction of the plane's normal.
 pub fn plane_normal(h: &Plane) -> Dir
     ensures normal { SameDirection (normal_of (form_of h.now)) (vector_of result) }

@@ -2,50 +2,17 @@
 
 ghost use Rattle.std.specs.Prelude.{◌≡◌, ◌<◌, ◌⊎◌, ℕ, length, Some, true, ◌↔◌, IsTrue, IfOk, OnOk};
 ghost use Rattle.nef_space.specs.Lists.{IsAt};
-ghost use Rattle.nef_space.specs.Vectors.{SameDirection};
-ghost use Rattle.nef_geo.specs.Shapes.{form_of, vector_of};
-ghost use Rattle.law_sphere.specs.Maps.{At, Arc, Loop};
-ghost use Rattle.nef_smap.specs.Maps.{map_of};
+ghost use Rattle.nef_geo.specs.Shapes.{form_of};
 ghost use Rattle.nef_complex.specs.Index.{HasItemIn, LiesOn, EdgeLiesIn, AreNumbersWith, IsIndexOf, HasHolders, AreHeld, AreInOrder, HaveEnds};
-ghost use Rattle.nef_complex.specs.Indexing.{HasNormal, AreFlags, HasOneMore};
+ghost use Rattle.nef_complex.specs.Indexing.{AreFlags, HasOneMore};
 
 use crate::OutOfMemory;
 use crate::complex::{Complex, Edge, Vertex};
 use crate::holders::{edge_rows, vertex_rows};
-use crate::holding::{holds, plane_normal, same_dir};
+use crate::holding::{holds, plane_normal};
 use crate::index::PlaneIndex;
-use nef_geo::{Dir, List, Plane};
-use nef_smap::SphereMap;
+use nef_geo::{List, Plane};
 use std::alloc::Global;
-
-// Whether some arc of the map has the normal.
-fn has_arc(map: &SphereMap, normal: &Dir) -> bool
-    ensures arc { IsTrue result ↔ ((k : ℕ) × (a : Arc) × At (map_of map.now).arcs k a × SameDirection a.normal (vector_of normal.now)) }
-{
-    for arc in map.arcs.as_slice() {
-        if same_dir(&arc.normal, normal) {
-            return true;
-        }
-    }
-    false
-}
-
-// Whether the map has a sloop with the normal.
-fn has_sloop(map: &SphereMap, normal: &Dir) -> bool
-    ensures sloop { IsTrue result ↔ ((l : Loop) × ((map_of map.now).loop ≡ Some l) × SameDirection l.normal (vector_of normal.now)) }
-{
-    match &map.sloop {
-        Some(circle) => same_dir(&circle.normal, normal),
-        None => false,
-    }
-}
-
-// Whether some item of the map has the normal.
-fn has_normal(map: &SphereMap, normal: &Dir) -> bool
-    ensures normal { IsTrue result ↔ HasNormal (map_of map.now) (vector_of normal.now) }
-{
-    has_arc(map, normal) || has_sloop(map, normal)
-}
 
 // For each vertex, whether it lies on the plane.
 fn flags_on(alloc: Global, h: &Plane, vertices: &[Vertex]) -> Result<Vec<bool>, OutOfMemory>
@@ -108,7 +75,7 @@ fn has_item(h: &Plane, vertices: &[Vertex], on: &[usize]) -> bool
 {
     let normal = plane_normal(h);
     for number in on {
-        if has_normal(&vertices[*number].map, &normal) {
+        if vertices[*number].map.item_with(&normal).is_some() {
             return true;
         }
     }

@@ -12,7 +12,7 @@ mod indexing;
 mod vertices;
 
 pub use complex::{Complex, Corner, Edge, PlaneMeet, Vertex};
-pub use holding::{holds, holds_both, plane_normal, same_dir};
+pub use holding::{holds, holds_both, plane_normal};
 pub use index::{PlaneIndex, PlaneItems, edge_holders, plane_items, vertex_holders};
 pub use std::alloc::AllocError as OutOfMemory;
 pub use vertices::{find_vertex, vertex_at};

@@ -1,32 +1,29 @@
 -- Corners by the items and arcs that were found.
-use Rattle.std.proofs.Common.{◌≡◌, ℕ, pos, length, Some, slice_get, refl, sym, ap, ◌∙◌, ◌⊎◌, inl, inr, ⊎_elim, subst}
+use Rattle.std.proofs.Common.{◌≡◌, ℕ, Some, slice_get, refl, sym, ap, ◌∙◌, ◌⊎◌, inl, inr, ⊎_elim, subst}
 use Rattle.nef_space.specs.Place.{Place, Form, normal_of}
-use Rattle.nef_space.specs.Vectors.{Vector, IsDirection, SameDirection, dot, triple}
+use Rattle.nef_space.specs.Vectors.{Vector, IsDirection, SameDirection, triple}
 use Rattle.nef_geo.specs.Shapes.{vector_of}
 use Rattle.nef_geo.specs.Signs.{sign_of}
 use Rattle.nef_geo.specs.declared.sign.Sign.{Sign}
 use Rattle.nef_geo.specs.declared.sign.Sign.TheVariants.{Minus, Plus}
 use Rattle.nef_geo.proofs.Signs.{sign_of-positive, sign_of-negative}
-use Rattle.law_sphere.specs.Maps.{At, Loop, arc_item, loop_item, item_normal, items, way_of}
-use Rattle.law_sphere.proofs.Arcs.{at-arc, loop-at, level-same}
+use Rattle.law_sphere.specs.Maps.{At, item_normal, way_of}
 use Rattle.law_sphere.proofs.Compare.{SameDirection-turned, SameDirection-trans, way-self}
 use Rattle.law_sphere.proofs.Lists.{at-one}
-use Rattle.law_sphere.proofs.Shot.{arc-at}
 use Rattle.nef_smap.specs.declared.map.SArc.{SArc}
 use Rattle.nef_smap.specs.declared.map.SVertex.{SVertex}
-use Rattle.nef_smap.specs.declared.map.SphereMap.{SphereMap}
+use Rattle.nef_smap.specs.Items.{IsItemThrough}
 use Rattle.nef_smap.specs.Maps.{arc_of, map_of}
 use Rattle.nef_smap.proofs.ArcEnds.{at-map}
 use Rattle.nef_smap.proofs.Axes.{plus-of, minus-of}
 use Rattle.nef_smap.proofs.CloseSigns.{way-from_get}
-use Rattle.nef_smap.proofs.MapLists.{loop-listed}
 use Rattle.law_complex.specs.Complexes.{Vertex as PlainVertex, Edge as PlainEdge, Complex as PlainComplex, Corner}
 use Rattle.law_complex.specs.Skeleton.{PlaneMeet, meets_vertex, meets_edge, Meets, IsArcOnSide, IsCornerAt}
 use Rattle.nef_complex.specs.declared.complex.Vertex.{Vertex}
 use Rattle.nef_complex.specs.declared.complex.Edge.{Edge}
 use Rattle.nef_complex.specs.declared.complex.Complex.{Complex}
 use Rattle.nef_complex.specs.Complexes.{vertex_of, edge_of, complex_of}
-use Rattle.nef_locate.specs.Facets.{IsArcThrough, IsItemThrough, IsArcBeside, HasMet}
+use Rattle.nef_locate.specs.Facets.{IsArcBeside, HasMet}
 use Rattle.nef_locate.proofs.SamePlanes.{side-turned}
 
 -- the side of an arc by the turn from its svertex to a direction
@@ -78,24 +75,6 @@ module _ (c : Complex) (h : Form) (n d : Vector) (w : SameDirection (normal_of h
         let side = subst (λ (y : PlainEdge). IsArcOnSide v y.low_svertex (normal_of h) d a) same-edge o in
         f k.item (subst (λ (y : PlainVertex). IsArcBeside y g.low_svertex n d k.item) same
         (a, t, SameDirection-trans a.normal (normal_of h) n s w, side-turned v g.low_svertex (normal_of h) n d d a w (way-self d some) side))
-
--- ---- an item of a map
-module _ (m : SphereMap) (n d : Vector) where
-  pub arc-item : (k : ℕ) → IsArcThrough (map_of m) n d k → IsItemThrough (map_of m) n d k
-  arc-item k (a, l, s, o) = (arc_item a, at-arc (map_of m).arcs (map_of m).loop k a l, s, o)
-
-  -- a sloop stands after the arcs
-  pub sloop-item : IsDirection d → dot n d ≡ pos 0 → (k : ℕ) → k ≡ length m.arcs → (l : Loop) × ((map_of m).loop ≡ Some l) × SameDirection l.normal n → IsItemThrough (map_of m) n d k
-  sloop-item some level k e (l, is, s) = (
-    loop_item l,
-    subst (λ (j : ℕ). At (items (map_of m)) j (loop_item l)) (sym e) (loop-listed m.arcs m.sloop l is),
-    s,
-    record { direction = some; level = level-same n l.normal d d (SameDirection-turned l.normal n s) (way-self d some) level },
-  )
-
-  pub no-item : ((k : ℕ) → IsArcThrough (map_of m) n d k → ⊥) → ((l : Loop) × ((map_of m).loop ≡ Some l) × SameDirection l.normal n → ⊥) → (k : ℕ) → IsItemThrough (map_of m) n d k → ⊥
-  no-item f g k (arc_item a, l, s, o) = f k (a, arc-at (map_of m).arcs (map_of m).loop k a l, s, o)
-  no-item f g k (loop_item c, l, s, o) = g (c, loop-at (map_of m).arcs (map_of m).loop k c l, s)
 
 -- ---- what is met is listed
 pub met-listed : (C : PlainComplex) (h : Form) (m : PlaneMeet) (q : Place) → Meets C h m q → HasMet C m

@@ -1,17 +1,17 @@
 -- The numbers of the sides that see the upward direction, or what is close to a svertex toward it.
-use Rattle.std.proofs.Common.{◌≡◌, ℕ, zero, suc, ◌+◌, ◌*◌, ◌-◌, ◌<◌, ℤ, pos, negsuc, ◌<ℤ◌, arith, refl, ap, sym, ◌∙◌, ◌++◌, List, [], ◌∷◌, length, length-append, Bool, true, false, not, cond, Option, Some, None, is_some, slice_get, subst}
-use mir.Val.{bool_byte}
+use Rattle.std.proofs.Common.{◌≡◌, ℕ, zero, suc, ◌<◌, ℤ, pos, negsuc, ◌<ℤ◌, arith, refl, ap, sym, ◌∙◌, length, Bool, true, false, Some, slice_get, subst}
 use Rattle.std.proofs.lemmas.Int.{ints}
 use Rattle.std.proofs.lemmas.List.{length-map}
-use Rattle.nef_space.specs.Vectors.{Vector, IsDirection, dot, cross, triple, up}
+use Rattle.nef_space.specs.Vectors.{Vector, IsDirection, SameDirection, dot, cross, triple, up}
 use Rattle.nef_geo.specs.Shapes.{vector_of}
 use Rattle.nef_geo.specs.Signs.{sign_of}
+use Rattle.nef_geo.proofs.InPlane.{up-direction}
 use Rattle.nef_geo.specs.declared.sign.Sign.{Sign}
 use Rattle.nef_geo.specs.declared.sign.Sign.TheVariants.{Plus}
 use Rattle.nef_space.specs.declared.label.Label.{Label}
 use Rattle.law_near.proofs.FlatDecided.{cross-turned}
 use Rattle.law_forms.proofs.Directions.{dot-comm}
-use Rattle.law_sphere.specs.Maps.{At, Svertex, Arc, Loop, Map, Item, arc_item, loop_item, items_then, items, item_above, item_below, Side, around_svertex, above_item, below_item, whole, HasSide, way_of, Shaped}
+use Rattle.law_sphere.specs.Maps.{At, Svertex, Arc, Map, Item, arc_item, items, OnItem, IsFree, item_above, item_below, Side, around_svertex, above_item, below_item, HasSide, way_of}
 use Rattle.law_sphere.proofs.Arcs.{at-arc}
 use Rattle.law_sphere.proofs.Forms.{on-level}
 use Rattle.law_sphere.proofs.Lists.{at-one}
@@ -19,13 +19,11 @@ use Rattle.law_sphere.proofs.Shot.{way-at}
 use Rattle.nef_smap.specs.declared.map.SArc.{SArc}
 use Rattle.nef_smap.specs.declared.map.SVertex.{SVertex}
 use Rattle.nef_smap.specs.declared.map.SphereMap.{SphereMap}
-use Rattle.nef_smap.specs.declared.map.SPlace.TheVariants as place
 use Rattle.nef_smap.specs.Maps.{map_of, svertex_of, arc_of, IsSphereMap}
-use Rattle.nef_smap.specs.Sides.{labelled, svertex_sides, item_sides, sides_of, IsSide, IsPlaceOf}
+use Rattle.nef_smap.specs.Sides.{IsSide}
 use Rattle.nef_smap.specs.SideNumbers.{number_of, arounds_before}
 use Rattle.nef_smap.proofs.Lists.{at-within}
-use Rattle.nef_smap.proofs.MapLists.{length-items, loop-listed}
-use Rattle.nef_smap.proofs.SideLists.{at-some, length-item_sides}
+use Rattle.nef_smap.proofs.SideLists.{at-some}
 use Rattle.nef_smap.proofs.SideNumbers.{side-number}
 use Rattle.nef_smap.proofs.Upward.{map-ahead, map-across}
 use Rattle.law_complex.specs.Rays.{SeesNear}
@@ -35,48 +33,14 @@ use Rattle.nef_locate.proofs.NearSides.{begin-sees, end-sees, lone-sees, no-arc}
 
 -- ---- the upward direction lies in a face
 module _ (m : SphereMap) (S : IsSphereMap m) where
-  pub no-svertex : (k : ℕ) → IsPlaceOf (map_of m) up (place.SVertex k) → ⊥
-  no-svertex k (v, a, w) = map-across m S k v a (cross-turned v.way up w.parallel)
+  pub no-svertex : (k : ℕ) (v : Svertex) → At (map_of m).svertices k v → SameDirection v.way up → ⊥
+  no-svertex k v a w = map-across m S k v a (cross-turned v.way up w.parallel)
 
-  pub not-on_arc : (k : ℕ) → IsPlaceOf (map_of m) up (place.Arc k) → ⊥
-  not-on_arc k (a, h, o) =
-      let z = on-level (map_of m) (arc_item a) up o in
-      let p = map-ahead m S k (arc_item a) (at-arc (map_of m).arcs (map_of m).loop k a h) in
-      omega (arith, ints)
+  no-item : (k : ℕ) (x : Item) → At (items (map_of m)) k x → OnItem (map_of m) x up → ⊥
+  no-item k x a o = let z = on-level (map_of m) x up o in let p = map-ahead m S k x a in omega (arith, ints)
 
-  pub not-on_loop : IsPlaceOf (map_of m) up place.Loop → ⊥
-  not-on_loop (l, e, o) =
-      let z = on-level (map_of m) (loop_item l) up o in
-      let p = map-ahead m S (length m.arcs) (loop_item l) (loop-listed m.arcs m.sloop l e) in
-      omega (arith, ints)
-
--- ---- how many sides a map with items has
-pub items-counted : (m : SphereMap) (n k : ℕ) (b : Bool) → n ≡ length m.arcs → k ≡ bool_byte b → b ≡ is_some m.sloop → n + k ≡ length (items (map_of m))
-items-counted m n k b e f g = let h = length-items m.arcs m.sloop in let i = f ∙ ap bool_byte g in omega (arith, e, h, i)
-
-module _ (M : Map) (V : Shaped M) (k : ℕ) (x : Item) (h : At (items M) k x) where
-  not-bare : (as' : List Arc) (o : Option Loop) → At (items_then as' o) k x → ((j : ℕ) (a : Arc) → At as' j a → ⊥) → o ≡ None → ⊥
-  not-bare [] None h f e = h
-  not-bare [] (Some l) h f e = cc
-  not-bare (a ∷ as') o h f e = f 0 a refl
-
-  no-face : (o : Option Label) → M.face ≡ o → o ≡ None
-  no-face None e = refl
-  no-face (Some l) e =
-      let g = V.ground_not l e in
-      absurd (not-bare M.arcs M.loop h (λ j a i. let b = V.arcs_between j a i in subst (λ (vs : List Svertex). At vs a.source b.source) g.0 b.has_source) g.1)
-
-  pub sides-count : length (sides_of M) ≡ length (svertex_sides 0 M.svertices) + 2 * length (items M)
-  sides-count =
-      let i = length-append (svertex_sides 0 M.svertices ++ item_sides 0 (items M)) (labelled whole M.face) in
-      let j = length-append (svertex_sides 0 M.svertices) (item_sides 0 (items M)) in
-      let f = length-item_sides 0 (items M) in
-      let z : length (labelled whole M.face) ≡ 0 = ap (λ (o : Option Label). length (labelled whole o)) (no-face M.face refl) in
-      omega arith
-
-  pub item-number : (b : Bool) → length (sides_of M) - 2 * (length (items M) - k) + bool_byte (not b) ≡ number_of M (cond b (above_item k) (below_item k))
-  item-number true = let e = sides-count in let l = at-within (items M) k x h in omega arith
-  item-number false = let e = sides-count in let l = at-within (items M) k x h in omega arith
+  pub up-free : IsFree (map_of m) up
+  up-free = record { direction = up-direction; off_svertices = no-svertex; off_items = no-item }
 
 -- ---- close to a svertex
 pub some-svertex : (m : SphereMap) (k : ℕ) → k < length m.svertices → (v : Svertex) × At (map_of m).svertices k v

@@ -1,5 +1,5 @@
 -- A facet of a plane lies, by its x, between the first and the last of the vertices on the plane.
-use Rattle.std.proofs.Common.{◌≡◌, ℕ, zero, suc, ◌+◌, ◌-◌, ◌<◌, ◌≤◌, ℤ, pos, neg_ℤ, ◌+ℤ◌, ◌-ℤ◌, ◌*ℤ◌, ◌<ℤ◌, ◌≤ℤ◌, List, [], ◌∷◌, length, ◌↔◌, arith, refl, sym, ap, ◌∙◌, subst, ⊎_elim}
+use Rattle.std.proofs.Common.{◌≡◌, ℕ, ◌+◌, ◌<◌, ℤ, pos, neg_ℤ, ◌-ℤ◌, ◌*ℤ◌, ◌≤ℤ◌, List, [], ◌∷◌, length, ◌↔◌, arith, refl, sym, ap, ◌∙◌, subst, ⊎_elim}
 use Rattle.std.proofs.lemmas.Bool.{cases_lt}
 use Rattle.std.proofs.lemmas.Int.{ints}
 use Rattle.law_arithmetic.proofs.Order.{by_order}
@@ -13,8 +13,7 @@ use Rattle.nef_geo.specs.declared.plane.Plane.{Plane}
 use Rattle.nef_geo.specs.declared.sign.Sign.{Sign}
 use Rattle.nef_geo.specs.declared.sign.Sign.TheVariants.{Minus, Zero, Plus}
 use Rattle.nef_geo.proofs.Signs.{sign_of-positive, sign_of-negative}
-use Rattle.law_sphere.specs.Maps.{At}
-use Rattle.nef_smap.proofs.ClassLists.{is-at_one, is-at_within}
+use Rattle.nef_classes.proofs.ClassLists.{is-at_one, is-at_within}
 use Rattle.nef_smap.proofs.Lists.{at-map}
 use Rattle.nef_smap.proofs.SideLists.{get-from_at}
 use Rattle.law_complex.specs.Complexes.{Vertex as PlainVertex}

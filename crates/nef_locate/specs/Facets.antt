@@ -1,17 +1,9 @@
--- Items of a plane that lie at a direction or beside an edge.
+-- Items of a plane that lie beside an edge.
 use Rattle.std.specs.Prelude.{ℕ}
 use Rattle.nef_space.specs.Vectors.{Vector, SameDirection}
-use Rattle.law_sphere.specs.Maps.{At, Arc, Item, arc_item, Map, items, item_normal, OnItem}
+use Rattle.law_sphere.specs.Maps.{At, Arc}
 use Rattle.law_complex.specs.Complexes.{Vertex, Edge, Complex}
 use Rattle.law_complex.specs.Skeleton.{PlaneMeet, meets_vertex, meets_edge, IsArcOnSide}
-
--- d lies on the arc with this number, which has the normal n
-abbrev pub IsArcThrough : Map → Vector → Vector → ℕ → Type 0
-IsArcThrough M n d k = (a : Arc) × At M.arcs k a × SameDirection a.normal n × OnItem M (arc_item a) d
-
--- d lies on the item with this number, which has the normal n
-abbrev pub IsItemThrough : Map → Vector → Vector → ℕ → Type 0
-IsItemThrough M n d k = (x : Item) × At (items M) k x × SameDirection (item_normal x) n × OnItem M x d
 
 -- the arc with this number has the normal n and leaves svertex s on the side to which d points
 abbrev pub IsArcBeside : Vertex → ℕ → Vector → Vector → ℕ → Type 0

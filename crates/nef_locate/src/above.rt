@@ -1,13 +1,12 @@
 //! The side of a vertex above a point of the skeleton.
 
-ghost use Rattle.std.specs.Prelude.{◌≡◌, ◌+◌, ◌<◌, ◌≤◌, length, cond};
+ghost use Rattle.std.specs.Prelude.{◌≡◌, ◌+◌, ◌<◌, length};
 ghost use Rattle.nef_space.specs.Sets.{Set};
 ghost use Rattle.nef_space.specs.Vectors.{up};
 ghost use Rattle.nef_space.specs.declared.label.Label.{Label};
-ghost use Rattle.law_sphere.specs.Maps.{Side, items, way_of, above_item, below_item};
+ghost use Rattle.law_sphere.specs.Maps.{Side, way_of};
 ghost use Rattle.nef_smap.specs.Maps.{map_of, arc_of, IsSphereMap};
-ghost use Rattle.nef_smap.specs.Sides.{IsSide, SideSees};
-ghost use Rattle.nef_smap.specs.SideNumbers.{number_of, arounds_before};
+ghost use Rattle.nef_smap.specs.Sides.{IsSide};
 ghost use Rattle.law_complex.specs.Rays.{SeesNear};
 ghost use Rattle.nef_complex.specs.Complexes.{complex_of, ShowsSet};
 ghost use Rattle.nef_locate.specs.Places.{IsPlaceIn};
@@ -17,45 +16,7 @@ ghost use Rattle.nef_locate.specs.Rays.{IsOfSkeleton, IsSideAbove};
 use crate::place::Place;
 use nef_complex::Complex;
 use nef_geo::{Sign, triple, up};
-use nef_smap::{SArc, SPlace, SphereMap, at, sides};
-
-/// How many of the first svertices have a label round them: the number of the side round the next one, if it has one.
-pub fn arounds(map: &SphereMap, count: usize) -> usize
-    requires within { count ≤ length map.now.svertices }
-    ensures arounds { result ≡ arounds_before (map_of map.now).svertices count }
-{
-    let mut found = 0;
-    for number in 0..count {
-        if map.svertices.at(number).around.is_some() {
-            found += 1;
-        }
-    }
-    found
-}
-
-/// The number of a side of the item with this number: of that to which its normal points, or of the other.
-pub fn item_side(map: &SphereMap, item: usize, above: bool) -> usize
-    requires map { IsSphereMap map.now }
-    requires within { item < length (items (map_of map.now)) }
-    ensures number { result ≡ number_of (map_of map.now) (cond above (above_item item) (below_item item)) }
-{
-    let count = sides(map);
-    let items = map.arcs.len() + usize::from(map.sloop.is_some());
-    count - 2 * (items - item) + usize::from(!above)
-}
-
-// The number of the side that sees the upward direction.
-fn side_upward(map: &SphereMap) -> usize
-    requires map { IsSphereMap map.now }
-    ensures side { SideSees (map_of map.now) result up }
-{
-    match at(map, &up()) {
-        SPlace::Face(side) => side,
-        SPlace::SVertex(_) => unreachable!(),
-        SPlace::Arc(_) => unreachable!(),
-        SPlace::Loop => unreachable!(),
-    }
-}
+use nef_smap::{SArc, SphereMap};
 
 // The number of the svertex where the arc begins, or where it ends.
 fn arc_end(arc: &SArc, begins: bool) -> usize
@@ -119,11 +80,11 @@ fn side_near(map: &SphereMap, svertex: usize) -> usize
     ensures side { (o : Side) × (l : Label) × IsSide (map_of map.now) result o l × SeesNear (map_of map.now) o (way_of (map_of map.now).svertices svertex) up }
 {
     if let Some(arc) = last_arc(map, svertex, true) {
-        return item_side(map, arc, true);
+        return map.item_side(arc, true);
     }
     match last_arc(map, svertex, false) {
-        Some(arc) => item_side(map, arc, false),
-        None => arounds(map, svertex),
+        Some(arc) => map.item_side(arc, false),
+        None => map.around_side(svertex),
     }
 }
 
@@ -137,7 +98,7 @@ pub fn side_above(c: &Complex, floor: &Place) -> Place
     match *floor {
         Place::Vertex(number) => Place::InVolume {
             vertex: number,
-            side: side_upward(&c.vertices.at(number).map),
+            side: c.vertices.at(number).map.face_toward(&up()),
         },
         Place::OnEdge(number) => {
             let edge = c.edges.at(number);
@@ -148,7 +109,11 @@ pub fn side_above(c: &Complex, floor: &Place) -> Place
         }
         Place::InFacet(corner) => Place::InVolume {
             vertex: corner.vertex,
-            side: item_side(&c.vertices.at(corner.vertex).map, corner.item, true),
+            side: c
+                .vertices
+                .at(corner.vertex)
+                .map
+                .item_side(corner.item, true),
         },
         Place::InVolume { .. } => unreachable!(),
     }

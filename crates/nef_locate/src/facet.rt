@@ -4,87 +4,26 @@ ghost use Rattle.std.specs.Prelude.{◌≡◌, ℕ, ◌<◌, length, pos, Some, 
 ghost use Rattle.nef_space.specs.Place.{form_at, normal_of, InClosedFrame};
 ghost use Rattle.nef_space.specs.Sets.{Set};
 ghost use Rattle.nef_space.specs.Vectors.{SameDirection, dot};
-ghost use Rattle.law_sphere.specs.Maps.{At, Loop, Item, item_normal, arc_item, OnItem};
+ghost use Rattle.law_sphere.specs.Maps.{Item, item_normal};
 ghost use Rattle.nef_geo.specs.Hits.{IsPlaceAtMost};
 ghost use Rattle.nef_geo.specs.Shapes.{form_of, vector_of, hit_place};
 ghost use Rattle.nef_geo.specs.Widths.{upright_limit, upright_weight_limit};
-ghost use Rattle.nef_smap.specs.Maps.{map_of, arc_of, IsSphereMap};
 ghost use Rattle.law_complex.specs.Complexes.{Vertex as PlainVertex, Corner as PlainCorner, IsCorner};
 ghost use Rattle.law_complex.specs.Laws.{IsFlatIn};
 ghost use Rattle.law_complex.specs.Skeleton.{PlaneMeet as PlainMeet, Meets, IsCornerAt, HasCorner};
 ghost use Rattle.nef_complex.specs.Complexes.{complex_of, corner_of, meet_of, vertex_of, ShowsSet};
-ghost use Rattle.nef_locate.specs.Facets.{IsArcThrough, IsItemThrough, IsArcBeside, HasMet};
+ghost use Rattle.nef_locate.specs.Facets.{IsArcBeside, HasMet};
 
-use nef_arc::{Arc, strictly_on};
-use nef_complex::{Complex, Corner, PlaneMeet, Vertex, plane_items, plane_normal, same_dir};
+use nef_complex::{Complex, Corner, PlaneMeet, Vertex, plane_items, plane_normal};
 use nef_geo::{Dir, Hit, Plane, Sign, plane_axis, triple};
 use nef_plane::first_in_plane;
-use nef_smap::{SArc, SphereMap};
-
-/// Whether the direction lies strictly on the arc, which is one of the map's.
-pub fn passes(map: &SphereMap, arc: &SArc, d: &Dir) -> bool
-    requires map { IsSphereMap map.now }
-    requires arc { (i : ℕ) × At (map_of map.now).arcs i (arc_of arc.now) }
-    ensures on { IsTrue result ↔ OnItem (map_of map.now) (arc_item (arc_of arc.now)) (vector_of d.now) }
-{
-    let source = map.svertices.at(arc.source).dir;
-    let target = map.svertices.at(arc.target).dir;
-    strictly_on(&Arc::of(source, target, arc.normal), d)
-}
-
-// Whether the arc has the normal and the direction lies on it.
-fn passes_in(map: &SphereMap, arc: &SArc, normal: &Dir, d: &Dir) -> bool
-    requires map { IsSphereMap map.now }
-    requires arc { (i : ℕ) × At (map_of map.now).arcs i (arc_of arc.now) }
-    ensures on { IsTrue result ↔ (SameDirection (vector_of arc.now.normal) (vector_of normal.now) × OnItem (map_of map.now) (arc_item (arc_of arc.now)) (vector_of d.now)) }
-{
-    same_dir(&arc.normal, normal) && passes(map, arc, d)
-}
-
-// The number of the arc with the normal on which the direction lies.
-fn arc_through(map: &SphereMap, normal: &Dir, d: &Dir) -> Option<usize>
-    requires map { IsSphereMap map.now }
-    ensures arc { MatchOption result ((k : ℕ) → IsArcThrough (map_of map.now) (vector_of normal.now) (vector_of d.now) k → ⊥) (IsArcThrough (map_of map.now) (vector_of normal.now) (vector_of d.now)) }
-{
-    for (number, arc) in map.arcs.as_slice().iter().enumerate() {
-        if passes_in(map, arc, normal, d) {
-            return Some(number);
-        }
-    }
-    None
-}
-
-// Whether the map has a sloop with the normal.
-fn has_sloop(map: &SphereMap, normal: &Dir) -> bool
-    ensures sloop { IsTrue result ↔ ((l : Loop) × ((map_of map.now).loop ≡ Some l) × SameDirection l.normal (vector_of normal.now)) }
-{
-    match &map.sloop {
-        Some(circle) => same_dir(&circle.normal, normal),
-        None => false,
-    }
-}
-
-// The number of the item with the normal on which the direction lies. The direction is perpendicular to the normal, so
-// it lies on a sloop with it.
-fn item_through(map: &SphereMap, normal: &Dir, d: &Dir) -> Option<usize>
-    requires map { IsSphereMap map.now }
-    requires level { dot (vector_of normal.now) (vector_of d.now) ≡ pos 0 }
-    ensures item { MatchOption result ((k : ℕ) → IsItemThrough (map_of map.now) (vector_of normal.now) (vector_of d.now) k → ⊥) (IsItemThrough (map_of map.now) (vector_of normal.now) (vector_of d.now)) }
-{
-    if let Some(number) = arc_through(map, normal, d) {
-        return Some(number);
-    }
-    if has_sloop(map, normal) {
-        return Some(map.arcs.len());
-    }
-    None
-}
+use nef_smap::SArc;
 
 // Whether the arc has the normal and leaves the svertex on the side that the turn from the svertex to a direction tells.
 fn leaves_on(arc: &SArc, svertex: usize, normal: &Dir, turn: Sign) -> bool
     ensures leaves { IsTrue result ↔ (SameDirection (vector_of arc.now.normal) (vector_of normal.now) × (((arc.now.source ≡ svertex) × (turn ≡ Sign.Plus)) ⊎ ((arc.now.target ≡ svertex) × (turn ≡ Sign.Minus)))) }
 {
-    same_dir(&arc.normal, normal)
+    arc.normal.is_same(normal)
         && match turn {
             Sign::Plus => arc.source == svertex,
             Sign::Zero => false,
@@ -118,7 +57,7 @@ pub fn corner_toward(c: &Complex, h: &Plane, d: &Dir, met: PlaneMeet) -> Option<
     let normal = plane_normal(h);
     match met {
         PlaneMeet::AtVertex(vertex) => {
-            let item = item_through(&c.vertices.at(vertex).map, &normal, d)?;
+            let item = c.vertices.at(vertex).map.item_through(&normal, d)?;
             Some(Corner { vertex, item })
         }
         PlaneMeet::AtEdge(number) => {

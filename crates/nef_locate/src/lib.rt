@@ -19,8 +19,8 @@ mod span;
 #[cfg(test)]
 mod tests;
 
-pub use above::{arounds, item_side, side_above};
-pub use facet::{corner_toward, in_facet, passes};
+pub use above::side_above;
+pub use facet::{corner_toward, in_facet};
 pub use label::place_label;
 pub use local::local_map;
 pub use maps::place_map;

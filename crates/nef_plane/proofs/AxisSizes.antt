@@ -3,7 +3,7 @@ use Rattle.std.proofs.Common.{◌≡◌, ℕ, ◌<◌, ◌≤◌, ℤ, pos, negs
 use Rattle.std.proofs.lemmas.Int.{ints}
 use Rattle.std.proofs.lemmas.Nat.Gcd.{le_of_dvd}
 use Rattle.std.specs.Int.{◌∣◌}
-use Rattle.law_arithmetic.proofs.Ring.{ring, at, num, neg, Poly, ◌⊕◌, ◌⊖◌, ◌⊗◌}
+use Rattle.law_arithmetic.proofs.Ring.{ring, at, num, Poly, ◌⊕◌, ◌⊖◌, ◌⊗◌}
 use Rattle.law_arithmetic.proofs.Combination.{given, none, follows}
 use Rattle.law_arithmetic.proofs.Order.{by_order}
 use Rattle.nef_space.specs.Limits.{normal_limit}

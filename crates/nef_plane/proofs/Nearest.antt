@@ -5,7 +5,7 @@ use Rattle.nef_space.specs.Place.{Place, toward, IsAhead, IsBetween}
 use Rattle.nef_space.specs.Vectors.{Vector}
 use Rattle.law_forms.proofs.Between.{between-same}
 use Rattle.law_near.proofs.Between.{between-inner}
-use Rattle.nef_smap.proofs.ClassLists.{is-at_one, is-at_within}
+use Rattle.nef_classes.proofs.ClassLists.{is-at_one, is-at_within}
 use Rattle.nef_space.specs.Lists.{IsAt}
 use Rattle.law_sphere.proofs.Compare.{SameDirection-turned, SameDirection-trans}
 use Rattle.law_complex.proofs.Ways.{between-way, same-itself}

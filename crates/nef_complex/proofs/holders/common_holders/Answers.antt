@@ -1,9 +1,9 @@
-use Rattle.std.proofs.Common.{ℕ, ◌+◌, List, length, get_or, arith, refl, sym, ap, subst, ◌∙◌, Vec, Global}
+use Rattle.std.proofs.Common.{ℕ, ◌+◌, length, get_or, arith, refl, sym, ap, subst, ◌∙◌, Vec, Global}
 use Rattle.std.proofs.lemmas.Option.{slice_get_read}
 use Rattle.nef_arc.proofs.SignNumbers.{not_true}
 use Rattle.nef_geo.specs.Shapes.{form_of, place_of}
 use Rattle.nef_geo.specs.declared.plane.Plane.{Plane}
-use Rattle.nef_smap.proofs.ClassLists.{is-at_get, is-at_one}
+use Rattle.nef_classes.proofs.ClassLists.{is-at_get, is-at_one}
 use Rattle.nef_complex.specs.Index.{IsHolder}
 use Rattle.nef_complex.specs.Planes.{HoldsBoth}
 use Rattle.nef_complex.proofs.Numbered.{AreThinned, thinned-none, thinned-more, thinned-skip, thinned-all}

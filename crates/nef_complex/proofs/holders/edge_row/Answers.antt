@@ -1,6 +1,6 @@
-use Rattle.std.proofs.Common.{◌≡◌, ℕ, List, length, get_or, slice_get, Some, Result, Ok, Err, IfOk, arith, sym, subst}
+use Rattle.std.proofs.Common.{◌≡◌, ℕ, List, get_or, slice_get, Some, Result, Ok, Err, IfOk, arith, sym, subst}
 use Rattle.nef_geo.specs.Shapes.{place_of}
-use Rattle.nef_smap.proofs.ClassLists.{is-at_get, is-at_one, is-at_some, is-at_within}
+use Rattle.nef_classes.proofs.ClassLists.{is-at_get, is-at_one, is-at_some, is-at_within}
 use Rattle.nef_complex.specs.declared.complex.Vertex.{Vertex}
 use Rattle.nef_complex.specs.Index.{AreHolders}
 use Rattle.nef_complex.proofs.holders.edge_row.Goals as goal

@@ -1,6 +1,6 @@
 use Rattle.std.proofs.Common.{◌+◌, get_or, arith, sym, subst}
 use Rattle.nef_space.specs.declared.label.Label.TheVariants.{Out}
-use Rattle.nef_smap.proofs.ClassLists.{is-at_get}
+use Rattle.nef_classes.proofs.ClassLists.{is-at_get}
 use Rattle.nef_complex.specs.declared.complex.Edge.{Edge}
 use Rattle.nef_complex.specs.Index.{AreHoldersAlong}
 use Rattle.nef_complex.proofs.Numbered.{AreRowsTo, rows-none, rows-more}

@@ -1,4 +1,3 @@
-use Rattle.std.specs.Prelude.{ℕ, List}
 use Rattle.nef_complex.specs.Index.{AreHoldersAlong}
 use Rattle.nef_complex.proofs.Numbered.{AreRowsTo}
 use Rattle.nef_complex.proofs.holders.edge_rows.Given as goal

@@ -1,7 +1,7 @@
 use Rattle.std.proofs.Common.{ℕ, ◌+◌, true, false, get_or, arith, sym, ap, subst, ◌∙◌, Vec, Global}
 use Rattle.nef_arc.proofs.SignNumbers.{not_true}
 use Rattle.nef_space.specs.Lists.{IsAt}
-use Rattle.nef_smap.proofs.ClassLists.{is-at_get, is-at_one, is-at_within}
+use Rattle.nef_classes.proofs.ClassLists.{is-at_get, is-at_one, is-at_within}
 use Rattle.nef_complex.specs.Index.{AreNumbersWith}
 use Rattle.nef_complex.proofs.Numbered.{Before, numbers-more, numbers-skip, numbers-all}
 use Rattle.nef_complex.proofs.indexing.numbers_set.Goals.{then-flag+in_ok-push, else-flag}

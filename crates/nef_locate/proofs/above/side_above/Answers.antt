@@ -1,6 +1,9 @@
 use Rattle.std.proofs.Common.{refl, sym, subst}
-use Rattle.law_sphere.specs.Maps.{items}
+use Rattle.nef_space.specs.Vectors.{Vector}
+use Rattle.law_sphere.specs.Maps.{items, IsFree}
+use Rattle.nef_locate.proofs.UpwardSides.{up-free}
 use Rattle.nef_smap.specs.Maps.{map_of}
+use Rattle.nef_smap.specs.Sides.{SideSees}
 use Rattle.nef_smap.proofs.Lists.{at-within}
 use Rattle.nef_complex.specs.Complexes.{vertex_of, edge_of, complex_of, corner_of}
 use Rattle.nef_locate.specs.declared.place.Place.{Place}
@@ -17,13 +20,20 @@ at-requires c =
     let p = subst (IsPlaceIn (complex_of c.args.c.now)) c.in-Vertex.is c.requires.place in
     record { within = image-within vertex_of c.args.c.now.vertices c.in-Vertex.number p.0 p.1 }
 
-pub side_upward-requires : goal.side_upward-requires
-side_upward-requires c = let S = c.requires.shows.1 in let M = S.maps c.in-Vertex.number c.at.result.now c.at.ensures.element in record { map = M.sphere_map }
+pub face_toward-requires-clause-map : goal.face_toward-requires-clause-map
+face_toward-requires-clause-map c = let S = c.requires.shows.1 in let M = S.maps c.in-Vertex.number c.at.result.now c.at.ensures.element in M.sphere_map
+
+pub face_toward-requires-clause-free : goal.face_toward-requires-clause-free
+face_toward-requires-clause-free c =
+    let S = c.requires.shows.1 in
+    let M = S.maps c.in-Vertex.number c.at.result.now c.at.ensures.element in
+    let m = c.at.result.now.map in
+    subst (IsFree (map_of m)) (sym c.up.ensures.up) (up-free m M.sphere_map)
 
 pub returns-in-Vertex : goal.returns-in-Vertex
 returns-in-Vertex c = record {
-  above = subst (λ (p : Place). IsSideAbove (complex_of c.args.c.now) p (place.InVolume c.in-Vertex.number c.side_upward.result)) (sym c.in-Vertex.is)
-      (above-vertex c.args.c.now c.in-Vertex.number c.side_upward.result c.at.result.now c.at.ensures.element c.side_upward.ensures.side);
+  above = subst (λ (p : Place). IsSideAbove (complex_of c.args.c.now) p (place.InVolume c.in-Vertex.number c.face_toward.result)) (sym c.in-Vertex.is)
+      (above-vertex c.args.c.now c.in-Vertex.number c.face_toward.result c.at.result.now c.at.ensures.element (subst (λ (d : Vector). SideSees (map_of c.at.result.now.map) c.face_toward.result d) c.up.ensures.up c.face_toward.ensures.side));
 }
 
 pub at-edge-requires : goal.at-edge-requires
@@ -51,15 +61,12 @@ at-requires-in-InFacet c =
     let p = subst (IsPlaceIn (complex_of c.args.c.now)) c.in-InFacet.is c.requires.place in
     record { within = image-within vertex_of c.args.c.now.vertices c.in-InFacet.corner.vertex p.0 p.2.vertex }
 
-pub item_side-requires-clause-map : goal.item_side-requires-clause-map
-item_side-requires-clause-map c = let S = c.requires.shows.1 in let M = S.maps c.in-InFacet.corner.vertex c.at-in-InFacet.result.now c.at-in-InFacet.ensures.element in M.sphere_map
-
-pub item_side-requires-clause-within : goal.item_side-requires-clause-within
-item_side-requires-clause-within c =
+pub item_side-requires : goal.item_side-requires
+item_side-requires c =
     let p = subst (IsPlaceIn (complex_of c.args.c.now)) c.in-InFacet.is c.requires.place in
     let u = c.at-in-InFacet.result.now in
     let i = corner-read c.args.c.now.vertices (complex_of c.args.c.now) (corner_of c.in-InFacet.corner) u p.1 refl c.at-in-InFacet.ensures.element p.0 p.2 in
-    at-within (items (map_of u.map)) c.in-InFacet.corner.item p.1 i.item
+    record { within = at-within (items (map_of u.map)) c.in-InFacet.corner.item p.1 i.item }
 
 pub returns-in-InFacet : goal.returns-in-InFacet
 returns-in-InFacet c =

@@ -5,12 +5,12 @@ use Rattle.nef_smap.proofs.Lists.{at-within}
 use Rattle.nef_locate.proofs.UpwardSides.{some-svertex, near-begin, near-end, near-alone}
 use Rattle.nef_locate.proofs.above.side_near.Goals as goal
 
-pub item_side-requires-clause-within : goal.item_side-requires-clause-within
-item_side-requires-clause-within c =
+pub item_side-requires : goal.item_side-requires
+item_side-requires c =
     let m = c.args.map.now in
     let M = map_of m in
     let L = c.in-Some.ensures.last in
-    at-within (items M) c.in-Some.arc (arc_item L.arc) (at-arc M.arcs M.loop c.in-Some.arc L.arc L.listed)
+    record { within = at-within (items M) c.in-Some.arc (arc_item L.arc) (at-arc M.arcs M.loop c.in-Some.arc L.arc L.listed) }
 
 pub returns-in-Some : goal.returns-in-Some
 returns-in-Some c =
@@ -18,12 +18,12 @@ returns-in-Some c =
     let v = some-svertex m c.args.svertex c.requires.within in
     record { side = near-begin m c.requires.map c.args.svertex v.0 v.1 c.in-Some.arc c.in-Some.ensures.last c.item_side.result c.item_side.ensures.number }
 
-pub item_side-requires-in-Some-last_arc-clause-within : goal.item_side-requires-in-Some-last_arc-clause-within
-item_side-requires-in-Some-last_arc-clause-within c =
+pub item_side-requires-in-Some-last_arc : goal.item_side-requires-in-Some-last_arc
+item_side-requires-in-Some-last_arc c =
     let m = c.args.map.now in
     let M = map_of m in
     let L = c.in-Some-last_arc.ensures.last in
-    at-within (items M) c.in-Some-last_arc.arc (arc_item L.arc) (at-arc M.arcs M.loop c.in-Some-last_arc.arc L.arc L.listed)
+    record { within = at-within (items M) c.in-Some-last_arc.arc (arc_item L.arc) (at-arc M.arcs M.loop c.in-Some-last_arc.arc L.arc L.listed) }
 
 pub returns-in-Some-last_arc : goal.returns-in-Some-last_arc
 returns-in-Some-last_arc c =
@@ -37,4 +37,4 @@ pub returns-in-None : goal.returns-in-None
 returns-in-None c =
     let m = c.args.map.now in
     let v = some-svertex m c.args.svertex c.requires.within in
-    record { side = near-alone m c.requires.map c.args.svertex v.0 v.1 c.in_default.ensures.last c.in-None.ensures.last c.arounds.result c.arounds.ensures.arounds }
+    record { side = near-alone m c.requires.map c.args.svertex v.0 v.1 c.in_default.ensures.last c.in-None.ensures.last c.around_side.result c.around_side.ensures.number }

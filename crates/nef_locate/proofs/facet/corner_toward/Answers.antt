@@ -1,5 +1,4 @@
 use Rattle.std.proofs.Common.{sym, subst}
-use Rattle.nef_space.specs.Place.{normal_of}
 use Rattle.nef_geo.specs.Shapes.{form_of, vector_of}
 use Rattle.law_complex.specs.Skeleton.{IsCornerAt}
 use Rattle.nef_complex.specs.declared.complex.PlaneMeet.{PlaneMeet}
@@ -9,7 +8,6 @@ use Rattle.nef_locate.proofs.EdgeStars.{low-within, low-svertex}
 use Rattle.nef_locate.proofs.FacetFound.{as-none}
 use Rattle.nef_locate.proofs.ItemsFound.{vertex-some, vertex-none, edge-some, edge-none}
 use Rattle.nef_locate.proofs.Marks.{image-within}
-use Rattle.nef_locate.proofs.SamePlanes.{level-kept}
 use Rattle.nef_locate.proofs.facet.corner_toward.Goals as goal
 
 pub at-requires : goal.at-requires
@@ -17,11 +15,8 @@ at-requires c =
     let p = subst (λ (m : PlaneMeet). HasMet (complex_of c.args.c.now) (meet_of m)) c.in-AtVertex.is c.requires.met in
     record { within = image-within vertex_of c.args.c.now.vertices c.in-AtVertex.vertex p.0 p.1 }
 
-pub item_through-requires-clause-map : goal.item_through-requires-clause-map
-item_through-requires-clause-map c = (c.requires.shows.1.maps c.in-AtVertex.vertex c.at.result.now c.at.ensures.element).sphere_map
-
-pub item_through-requires-clause-level : goal.item_through-requires-clause-level
-item_through-requires-clause-level c = level-kept (normal_of (form_of c.args.h.now)) (vector_of c.plane_normal-normal.result) (vector_of c.args.d.now) c.plane_normal-normal.ensures.normal c.requires.level
+pub item_through-requires : goal.item_through-requires
+item_through-requires c = record { map = (c.requires.shows.1.maps c.in-AtVertex.vertex c.at.result.now c.at.ensures.element).sphere_map }
 
 pub returns-in_err-item-in-AtVertex : goal.returns-in_err-item-in-AtVertex
 returns-in_err-item-in-AtVertex c =

@@ -1,7 +1,6 @@
 use Rattle.std.proofs.Common.{◌≡◌, sym, ◌∙◌, inl, inr, ⊎_elim, IsTrue, ◌↔◌, nat_eq, rules}
 use Rattle.nef_arc.proofs.SignNumbers.{not_true}
 use Rattle.nef_geo.specs.declared.sign.Sign.TheVariants.{Minus, Zero, Plus}
-use Rattle.nef_smap.proofs.Found.{dir-same}
 use Rattle.nef_locate.proofs.facet.leaves_on.Goals as goal
 
 plus-minus : Plus ≡ Minus → ⊥
@@ -19,7 +18,7 @@ returns-in-Plus c =
     let test : IsTrue (nat_eq a.source c.args.svertex) ↔ (a.source ≡ c.args.svertex) = search rules in
     record {
       leaves = (
-        λ h. ((dir-same a.normal c.args.normal.now).0 (c.same_dir.ensures.same.0 c.if-same_dir.true), inl (test.0 h, c.in-Plus.is)),
+        λ h. (c.is_same.ensures.direction.0 c.if-is_same.true, inl (test.0 h, c.in-Plus.is)),
         λ p. ⊎_elim (λ x. test.1 x.0) (λ x. absurd (plus-minus (sym c.in-Plus.is ∙ x.1))) p.1,
       );
     }
@@ -30,7 +29,7 @@ returns-in-Minus c =
     let test : IsTrue (nat_eq a.target c.args.svertex) ↔ (a.target ≡ c.args.svertex) = search rules in
     record {
       leaves = (
-        λ h. ((dir-same a.normal c.args.normal.now).0 (c.same_dir.ensures.same.0 c.if-same_dir.true), inr (test.0 h, c.in-Minus.is)),
+        λ h. (c.is_same.ensures.direction.0 c.if-is_same.true, inr (test.0 h, c.in-Minus.is)),
         λ p. ⊎_elim (λ x. absurd (plus-minus (sym x.1 ∙ c.in-Minus.is))) (λ x. test.1 x.0) p.1,
       );
     }
@@ -40,7 +39,7 @@ returns-in-Zero c = record {
   leaves = (λ h. absurd (not_true h), λ p. absurd (⊎_elim (λ x. zero-plus (sym c.in-Zero.is ∙ x.1)) (λ x. zero-minus (sym c.in-Zero.is ∙ x.1)) p.1));
 }
 
-pub returns-else-same_dir : goal.returns-else-same_dir
-returns-else-same_dir c = record {
-  leaves = (λ h. absurd (not_true (sym c.if-same_dir.false ∙ h)), λ p. c.same_dir.ensures.same.1 ((dir-same c.args.arc.now.normal c.args.normal.now).1 p.0));
+pub returns-else-is_same : goal.returns-else-is_same
+returns-else-is_same c = record {
+  leaves = (λ h. absurd (not_true (sym c.if-is_same.false ∙ h)), λ p. c.is_same.ensures.direction.1 p.0);
 }

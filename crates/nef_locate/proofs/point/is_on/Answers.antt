@@ -1,6 +1,6 @@
 use Rattle.std.proofs.Common.{rules, sym, ◌∙◌}
 use Rattle.nef_arc.proofs.SignNumbers.{not_true}
-use Rattle.nef_smap.proofs.ClassLists.{is-at_some}
+use Rattle.nef_classes.proofs.ClassLists.{is-at_some}
 use Rattle.nef_complex.proofs.Ends.{low-within, high-within}
 use Rattle.nef_complex.proofs.Reading.{got-at}
 use Rattle.nef_locate.proofs.EdgeOrder.{edge-parted}

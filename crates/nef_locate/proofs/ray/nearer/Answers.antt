@@ -2,7 +2,7 @@ use Rattle.std.proofs.Common.{refl, rules, IsTrue}
 use Rattle.nef_geo.specs.Shapes.{form_of, vector_of, place_of, hit_place}
 use Rattle.nef_complex.specs.Complexes.{complex_of}
 use Rattle.law_complex.proofs.FacetWays.{meets-on}
-use Rattle.nef_smap.proofs.ClassLists.{is-at_within}
+use Rattle.nef_classes.proofs.ClassLists.{is-at_within}
 use Rattle.nef_plane.proofs.Spanned.{upright-some}
 use Rattle.nef_locate.proofs.Located.{corner-at}
 use Rattle.nef_locate.proofs.RayMeets.{reached-of, none-outside, stays, taken, passed, found, sooner-off}

@@ -1,8 +1,6 @@
-use Rattle.std.proofs.Common.{◌≡◌, ◌+◌, ◌-◌, ◌<◌, [], length, arith, rules}
-use Rattle.nef_space.specs.Lists.{IsAt}
-use Rattle.nef_geo.specs.Shapes.{form_of, hit_place}
-use Rattle.nef_smap.proofs.ClassLists.{is-at_some, is-at_within}
-use Rattle.nef_complex.specs.Index.{LiesOn}
+use Rattle.std.proofs.Common.{◌-◌, arith, rules}
+use Rattle.nef_geo.specs.Shapes.{hit_place}
+use Rattle.nef_classes.proofs.ClassLists.{is-at_some, is-at_within}
 use Rattle.nef_locate.proofs.XSpans.{some-length, from-first, to-last}
 use Rattle.nef_locate.proofs.span.is_spanned.Goals as goal
 

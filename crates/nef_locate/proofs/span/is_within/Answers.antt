@@ -2,7 +2,7 @@ use Rattle.std.proofs.Common.{pos, ◌≤ℤ◌, sym, ◌∙◌, subst}
 use Rattle.nef_space.specs.Place.{form_at}
 use Rattle.nef_geo.specs.Shapes.{place_of, hit_place}
 use Rattle.nef_arc.proofs.SignNumbers.{not_true}
-use Rattle.nef_smap.proofs.ClassLists.{is-at_one}
+use Rattle.nef_classes.proofs.ClassLists.{is-at_one}
 use Rattle.nef_complex.specs.declared.complex.Vertex.{Vertex}
 use Rattle.nef_locate.specs.Rays.{x_form}
 use Rattle.nef_locate.proofs.span.is_within.Goals as goal

@@ -1,7 +1,7 @@
 use Rattle.std.proofs.Common.{◌≡◌, List, None, refl, rules, sym, subst}
 use Rattle.nef_geo.specs.Shapes.{place_of, vector_of}
 use Rattle.nef_geo.specs.declared.plane.Plane.{Plane}
-use Rattle.nef_smap.proofs.ClassLists.{is-at_some}
+use Rattle.nef_classes.proofs.ClassLists.{is-at_some}
 use Rattle.nef_complex.specs.Complexes.{complex_of}
 use Rattle.nef_complex.proofs.ListedHolders.{holders-within}
 use Rattle.nef_complex.proofs.Reading.{got-at}

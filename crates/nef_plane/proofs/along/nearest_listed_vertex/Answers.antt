@@ -4,7 +4,7 @@ use Rattle.nef_complex.specs.Complexes.{complex_of}
 use Rattle.nef_plane.specs.Meets.{AtVertexNumber, met_of}
 use Rattle.nef_plane.proofs.Listed.{vertex-listed}
 use Rattle.nef_plane.proofs.Nearest.{listed-more, listed-all}
-use Rattle.nef_smap.proofs.ClassLists.{is-at_get, is-at_within}
+use Rattle.nef_classes.proofs.ClassLists.{is-at_get, is-at_within}
 use Rattle.nef_plane.proofs.along.nearest_listed_vertex.Goals as goal
 
 pub carried_vertex_met-requires-clause-within : goal.carried_vertex_met-requires-clause-within

@@ -3,7 +3,7 @@ use Rattle.std.proofs.lemmas.Option.{slice_get_read}
 use Rattle.nef_space.specs.Place.{slope}
 use Rattle.nef_geo.specs.Shapes.{form_of, vector_of}
 use Rattle.nef_geo.specs.declared.plane.Plane.{Plane}
-use Rattle.nef_smap.proofs.ClassLists.{is-at_get}
+use Rattle.nef_classes.proofs.ClassLists.{is-at_get}
 use Rattle.nef_complex.proofs.ListedHolders.{listed-more, holder-holds, all-holders}
 use Rattle.nef_plane.proofs.along.plane_across.Goals as goal
 

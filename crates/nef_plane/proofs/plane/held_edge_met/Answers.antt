@@ -5,7 +5,7 @@ use Rattle.nef_complex.specs.Index.{AreHolders}
 use Rattle.nef_plane.specs.Meets.{AllHold}
 use Rattle.nef_complex.proofs.Ends.{low-within, high-within}
 use Rattle.nef_plane.proofs.Swept.{swept-edge, swept-no_edge}
-use Rattle.nef_smap.proofs.ClassLists.{is-at_within}
+use Rattle.nef_classes.proofs.ClassLists.{is-at_within}
 use Rattle.nef_complex.proofs.Reading.{got-at}
 use Rattle.nef_plane.proofs.Listed.{held-edge}
 use Rattle.nef_plane.proofs.plane.held_edge_met.Goals as goal

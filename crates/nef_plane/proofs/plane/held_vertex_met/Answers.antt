@@ -4,7 +4,7 @@ use Rattle.nef_geo.specs.declared.plane.Plane.{Plane}
 use Rattle.nef_complex.specs.Index.{AreHolders}
 use Rattle.nef_plane.specs.Meets.{AllHold}
 use Rattle.nef_plane.proofs.Swept.{swept-vertex, swept-no_vertex}
-use Rattle.nef_smap.proofs.ClassLists.{is-at_within}
+use Rattle.nef_classes.proofs.ClassLists.{is-at_within}
 use Rattle.nef_complex.proofs.Reading.{got-at}
 use Rattle.nef_plane.proofs.Listed.{held-vertex}
 use Rattle.nef_plane.proofs.plane.held_vertex_met.Goals as goal

@@ -1,6 +1,6 @@
 use Rattle.std.proofs.Common.{get_or, arith}
 use Rattle.nef_geo.specs.Shapes.{form_of, hit_place, vector_of}
-use Rattle.nef_smap.proofs.ClassLists.{is-at_get}
+use Rattle.nef_classes.proofs.ClassLists.{is-at_get}
 use Rattle.nef_complex.specs.Complexes.{complex_of}
 use Rattle.nef_plane.specs.Meets.{AtVertexNumber, far_met_of}
 use Rattle.nef_plane.proofs.Listed.{vertex-listed}

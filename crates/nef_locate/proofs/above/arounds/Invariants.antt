@@ -1,7 +1,0 @@
-use Rattle.std.proofs.Common.{◌≡◌, ◌≤◌}
-use Rattle.nef_smap.specs.Maps.{map_of}
-use Rattle.nef_smap.specs.SideNumbers.{arounds_before}
-use Rattle.nef_locate.proofs.above.arounds.Given as goal
-
-abbrev pub invariant-loop-number : goal.invariant-loop-number
-invariant-loop-number l = (l.found ≡ arounds_before (map_of l.map).svertices l.number) × (l.found ≤ l.number)
