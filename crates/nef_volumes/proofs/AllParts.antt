@@ -4,7 +4,7 @@ use Rattle.nef_space.specs.Lists.{IsAt, Chained}
 use Rattle.nef_space.specs.declared.label.Label.{Label}
 use Rattle.nef_geo.specs.declared.plane.Plane.{Plane}
 use Rattle.law_sphere.specs.Maps.{At, Item, item_above, item_below}
-use Rattle.nef_smap.proofs.ClassLists.{is-at_one, is-at_within}
+use Rattle.nef_classes.proofs.ClassLists.{is-at_one, is-at_within}
 use Rattle.law_complex.specs.Complexes.{Vertex, Complex, Corner, IsCorner}
 use Rattle.law_complex.specs.Rays.{VertexSide, HasSideLabel}
 use Rattle.nef_complex.specs.Complexes.{corner_of}
@@ -16,7 +16,8 @@ use Rattle.nef_parts.specs.declared.parts.Cycle.{Cycle}
 use Rattle.nef_parts.specs.declared.parts.Facet.{Facet}
 use Rattle.nef_facets.specs.Facets.{IsFacetParts}
 use Rattle.nef_volumes.specs.Labels.{AreVolumeLabels}
-use Rattle.nef_volumes.specs.Parts.{HasItem, IsFirstCorner, HasFirst, AreFacetsOf}
+use Rattle.nef_ties.specs.Carriers.{HasItem}
+use Rattle.nef_volumes.specs.Parts.{IsFirstCorner, HasFirst, AreFacetsOf}
 use Rattle.nef_volumes.proofs.Components.{numbered-item}
 use Rattle.nef_volumes.proofs.FacetSides.{chain-above, chain-below}
 use Rattle.nef_volumes.proofs.VolumeLabels.{numbered-side}

@@ -6,7 +6,7 @@ use Rattle.nef_space.specs.Sets.{Set}
 use Rattle.nef_space.specs.Vectors.{opposite, up}
 use Rattle.law_sphere.specs.Maps.{At, Side, around_svertex, above_item, below_item, Sees}
 use Rattle.law_sphere.proofs.Lists.{at-one}
-use Rattle.nef_smap.proofs.Chains.{chain-trans, chain-turned}
+use Rattle.nef_classes.proofs.Chains.{chain-trans, chain-turned}
 use Rattle.law_complex.specs.Complexes.{Vertex, Edge, Complex, Corner}
 use Rattle.law_complex.specs.Shows.{Shows}
 use Rattle.law_complex.specs.Rays.{VertexSide, RayDown}

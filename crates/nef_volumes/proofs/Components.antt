@@ -6,7 +6,7 @@ use Rattle.nef_space.specs.Place.{Place}
 use Rattle.nef_space.specs.Sets.{Set}
 use Rattle.nef_space.specs.declared.label.Label.{Label}
 use Rattle.law_sphere.specs.Maps.{Item, items}
-use Rattle.nef_smap.proofs.ClassLists.{is-at_within, is-at_some}
+use Rattle.nef_classes.proofs.ClassLists.{is-at_within, is-at_some}
 use Rattle.nef_smap.proofs.SideLists.{at-from_get, at-some, side-has}
 use Rattle.nef_smap.proofs.Lists.{at-within}
 use Rattle.law_complex.specs.Complexes.{Vertex, Complex as PlainComplex, Corner, IsCorner}
@@ -28,7 +28,7 @@ use Rattle.nef_conn.proofs.Steps.{joined-items_linked}
 use Rattle.nef_parts.specs.Numbers.{IsFacetOf, IsVolumeOf, FacetNumbers, IsParts}
 use Rattle.nef_parts.specs.declared.parts.Parts.{Parts}
 use Rattle.nef_volumes.specs.Joins.{FacetsAreComponents, VolumesAreComponents, AreCounted}
-use Rattle.nef_volumes.specs.Parts.{HasItem}
+use Rattle.nef_ties.specs.Carriers.{HasItem}
 use Rattle.nef_volumes.proofs.SideLabels.{upright}
 use Rattle.nef_volumes.proofs.VolumeLabels.{numbered-side}
 

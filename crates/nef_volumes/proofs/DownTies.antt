@@ -2,7 +2,7 @@
 use Rattle.std.proofs.Common.{◌≡◌, ℕ, ◌+◌, ◌<◌, ◌⊎◌, inl, inr, List, [], ◌∷◌, ◌++◌, arith, sym, subst}
 use Rattle.std.specs.List.{Contains}
 use Rattle.std.proofs.lemmas.List.Elements.{Contains-append_left, Contains-push, Contains-push_cases}
-use Rattle.nef_smap.proofs.ClassLists.{less-or-last}
+use Rattle.nef_classes.proofs.ClassLists.{less-or-last}
 use Rattle.law_complex.specs.Complexes.{Complex}
 use Rattle.law_complex.specs.Rays.{VertexSide}
 use Rattle.nef_classes.specs.declared.table.Tie.{Tie}

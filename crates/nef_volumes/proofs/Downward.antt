@@ -20,7 +20,7 @@ use Rattle.nef_smap.specs.declared.map.SphereMap.{SphereMap}
 use Rattle.nef_smap.specs.declared.map.SPlace.TheVariants as place
 use Rattle.nef_smap.specs.Maps.{map_of, IsSphereMap}
 use Rattle.nef_smap.specs.Sides.{LabelledSide, sides_of, IsSide, SideSees, IsPlaceOf}
-use Rattle.nef_smap.proofs.ClassLists.{is-at_one}
+use Rattle.nef_classes.proofs.ClassLists.{is-at_one}
 use Rattle.nef_smap.proofs.MapLists.{loop-listed}
 use Rattle.nef_smap.proofs.SideLists.{side-has}
 use Rattle.nef_smap.proofs.SideNumbers.{number-one}

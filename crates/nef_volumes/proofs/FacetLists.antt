@@ -7,7 +7,7 @@ use Rattle.law_sphere.specs.Maps.{At, items, item_above, item_below, HasSide}
 use Rattle.nef_smap.specs.Maps.{map_of}
 use Rattle.nef_smap.specs.Sides.{sides_of}
 use Rattle.nef_smap.specs.SideNumbers.{number_of}
-use Rattle.nef_smap.proofs.ClassLists.{is-at_one, is-at_within, is-at_some, is-at_left, is-at_last, less-or-last}
+use Rattle.nef_classes.proofs.ClassLists.{is-at_one, is-at_within, is-at_some, is-at_left, is-at_last, less-or-last}
 use Rattle.nef_smap.proofs.Lists.{at-within}
 use Rattle.nef_smap.proofs.SideNumbers.{side-number}
 use Rattle.law_complex.specs.Complexes.{Vertex, Complex as PlainComplex, Corner as PlainCorner}
@@ -18,7 +18,8 @@ use Rattle.nef_parts.specs.Numbers.{IsVolumeOf, VolumeNumbers}
 use Rattle.nef_parts.specs.declared.parts.Cycle.{Cycle}
 use Rattle.nef_parts.specs.declared.parts.Facet.{Facet}
 use Rattle.nef_volumes.specs.Ties.{side_at}
-use Rattle.nef_volumes.specs.Parts.{HasItem, side_beside, IsBeside, AreFacetsOf}
+use Rattle.nef_ties.specs.Carriers.{HasItem}
+use Rattle.nef_volumes.specs.Parts.{side_beside, IsBeside, AreFacetsOf}
 use Rattle.nef_volumes.proofs.ReadVertex.{vertex-there, vertex-read, vertex-within}
 
 -- ---- the volume at a side of an item

@@ -3,7 +3,7 @@ use Rattle.std.proofs.Common.{◌≡◌, ℕ, inl, inr, refl, sym, subst}
 use Rattle.nef_space.specs.Lists.{Chained}
 use Rattle.law_sphere.specs.Maps.{At, Item, arc_item, Side, item_above, item_below, above_item, below_item}
 use Rattle.law_sphere.proofs.Arcs.{at-arc}
-use Rattle.nef_smap.proofs.Chains.{chain-link, chain-map}
+use Rattle.nef_classes.proofs.Chains.{chain-link, chain-map}
 use Rattle.nef_space.specs.Place.{Place, Form}
 use Rattle.nef_space.specs.Vectors.{Vector}
 use Rattle.law_complex.specs.Complexes.{Vertex, Complex, Corner, IsCorner}
@@ -11,7 +11,7 @@ use Rattle.law_complex.specs.Skeleton.{meets_vertex, meets_edge, RayNames}
 use Rattle.law_complex.specs.Rays.{VertexSide}
 use Rattle.law_links.specs.Links.{LinkAlong, FacetLink, IsSideOf, above_arcs, below_arcs, VolumeLink}
 use Rattle.nef_parts.specs.Numbers.{above_of, below_of}
-use Rattle.nef_volumes.specs.Parts.{HasItem}
+use Rattle.nef_ties.specs.Carriers.{HasItem}
 
 module _ (C : Complex) where
   -- ---- there are items at linked corners

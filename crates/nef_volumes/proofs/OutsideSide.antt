@@ -92,7 +92,7 @@ corner-vertex s = (tt, λ (d, i, F). let f = FlatCone-from_flat s corner d F in 
 
 -- ---- the side above it
 upward-seen : (m : SphereMap) → IsSphereMap m → MapLabel (map_of m) up Out → SeenAs (map_of m) up Out
-upward-seen m S (at_svertex k v a w e) = absurd (no-svertex m S k (v, a, w))
+upward-seen m S (at_svertex k v a w e) = absurd (no-svertex m S k v a w)
 upward-seen m S (on_item k x a o e) = let z = on-level (map_of m) x up o in let p = map-ahead m S k x a in absurd (omega (arith, ints, z, p))
 upward-seen m S (seen h) = h
 

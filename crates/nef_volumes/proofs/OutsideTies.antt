@@ -6,11 +6,11 @@ use Rattle.nef_space.specs.declared.label.Label.TheVariants.{Out}
 use Rattle.law_sphere.specs.Maps.{Side}
 use Rattle.nef_smap.specs.Maps.{map_of}
 use Rattle.nef_smap.specs.Sides.{sides_of, IsSide}
-use Rattle.nef_smap.proofs.ClassLists.{is-at_within}
+use Rattle.nef_classes.proofs.ClassLists.{is-at_within}
 use Rattle.nef_smap.specs.SideNumbers.{number_of}
 use Rattle.nef_smap.proofs.SideLists.{side-has}
 use Rattle.nef_smap.proofs.SideNumbers.{side-number, number-one}
-use Rattle.nef_smap.proofs.Chains.{chain-trans, chain-turned}
+use Rattle.nef_classes.proofs.Chains.{chain-trans, chain-turned}
 use Rattle.law_complex.specs.Complexes.{Vertex, Complex}
 use Rattle.nef_complex.specs.Complexes.{vertex_of, complex_of}
 use Rattle.nef_complex.specs.declared.complex.Complex.{Complex as ProgramComplex}

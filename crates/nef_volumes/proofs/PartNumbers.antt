@@ -2,7 +2,7 @@
 use Rattle.std.proofs.Common.{ℕ, ◌<◌, List, length, arith, subst}
 use Rattle.nef_space.specs.Lists.{IsAt, IsInTable}
 use Rattle.nef_space.specs.Place.{Place, InFrame, InClosedFrame}
-use Rattle.nef_smap.proofs.ClassLists.{is-at_one, is-at_within, is-at_some}
+use Rattle.nef_classes.proofs.ClassLists.{is-at_one, is-at_within, is-at_some}
 use Rattle.nef_smap.proofs.Lists.{at-within}
 use Rattle.nef_smap.specs.Sides.{sides_of}
 use Rattle.law_complex.specs.Complexes.{Complex as PlainComplex, Corner}
@@ -11,7 +11,7 @@ use Rattle.nef_locate.specs.declared.place.Place.TheVariants as place
 use Rattle.nef_parts.specs.Numbers.{IsParts}
 use Rattle.nef_parts.specs.declared.parts.Parts.{Parts}
 use Rattle.nef_volumes.specs.Joins.{HasFacet, IsNumberAt, HasSideNumber, IsPartAt}
-use Rattle.nef_volumes.specs.Parts.{HasItem}
+use Rattle.nef_ties.specs.Carriers.{HasItem}
 use Rattle.nef_volumes.specs.declared.connected.Part.TheVariants.{Volume}
 use Rattle.nef_volumes.proofs.Components.{item-numbered}
 

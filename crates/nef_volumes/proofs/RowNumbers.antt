@@ -11,7 +11,7 @@ use Rattle.nef_smap.specs.Sides.{sides_of}
 use Rattle.nef_smap.proofs.Lists.{map-at}
 use Rattle.nef_smap.proofs.SideLists.{side-has, at-from_get, get-from_at}
 use Rattle.nef_smap.proofs.SideNumbers.{number-one}
-use Rattle.nef_smap.proofs.ClassLists.{is-at_within, is-at_some}
+use Rattle.nef_classes.proofs.ClassLists.{is-at_within, is-at_some}
 use Rattle.law_complex.specs.Complexes.{Complex}
 use Rattle.law_complex.specs.Shows.{Shows}
 use Rattle.law_complex.specs.Rays.{VertexSide, HasSideLabel}

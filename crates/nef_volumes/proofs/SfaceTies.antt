@@ -14,8 +14,8 @@ use Rattle.nef_smap.specs.Maps.{map_of}
 use Rattle.nef_smap.specs.SideNumbers.{number_of}
 use Rattle.nef_smap.proofs.SideLists.{side-has}
 use Rattle.nef_smap.proofs.SideNumbers.{side-number, number-one}
-use Rattle.nef_smap.proofs.ClassLists.{is-at_one, is-at_within, is-at_some, is-at_take, less-or-last}
-use Rattle.nef_smap.proofs.Chains.{chain-here, chain-link, chain-trans, chain-turned}
+use Rattle.nef_classes.proofs.ClassLists.{is-at_one, is-at_within, is-at_some, is-at_take, less-or-last}
+use Rattle.nef_classes.proofs.Chains.{chain-here, chain-link, chain-trans, chain-turned}
 use Rattle.law_complex.specs.Complexes.{Vertex, Complex}
 use Rattle.law_complex.specs.Rays.{VertexSide}
 use Rattle.nef_classes.proofs.Cutting.{take-at}

@@ -11,8 +11,8 @@ use Rattle.nef_smap.specs.SideNumbers.{number_of}
 use Rattle.nef_smap.proofs.Lists.{map-at}
 use Rattle.nef_smap.proofs.SideLists.{get-from_at}
 use Rattle.nef_smap.proofs.SideNumbers.{side-number}
-use Rattle.nef_smap.proofs.ClassLists.{is-at_one, is-at_within, is-at_get, is-at_is}
-use Rattle.nef_smap.proofs.Chains.{chain-here, chain-link, chain-map}
+use Rattle.nef_classes.proofs.ClassLists.{is-at_one, is-at_within, is-at_get, is-at_is}
+use Rattle.nef_classes.proofs.Chains.{chain-here, chain-link, chain-map}
 use Rattle.law_complex.specs.Complexes.{Vertex, Complex}
 use Rattle.law_complex.specs.Rays.{VertexSide}
 use Rattle.nef_classes.specs.Tables.{IsCellIn, AreTied, AreTiedWithin}

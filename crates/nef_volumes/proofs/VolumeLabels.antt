@@ -14,7 +14,7 @@ use Rattle.nef_smap.specs.SideNumbers.{number_of}
 use Rattle.nef_smap.proofs.Lists.{at-within}
 use Rattle.nef_smap.proofs.SideLists.{side-has}
 use Rattle.nef_smap.proofs.SideNumbers.{side-number, number-one as number-is}
-use Rattle.nef_smap.proofs.ClassLists.{is-at_one, is-at_within, is-at_some, is-at_left, is-at_last, less-or-last}
+use Rattle.nef_classes.proofs.ClassLists.{is-at_one, is-at_within, is-at_some, is-at_left, is-at_last, less-or-last}
 use Rattle.law_complex.specs.Complexes.{Vertex, Complex}
 use Rattle.law_complex.specs.Rays.{VertexSide, HasSideLabel}
 use Rattle.nef_complex.specs.Complexes.{complex_of, ShowsSet}

@@ -3,19 +3,15 @@ use Rattle.std.specs.Prelude.{◌≡◌, ℕ, List, length, Bool}
 use Rattle.nef_space.specs.Lists.{IsAt}
 use Rattle.nef_space.specs.declared.label.Label.{Label}
 use Rattle.nef_geo.specs.declared.plane.Plane.{Plane}
-use Rattle.law_sphere.specs.Maps.{Item}
-use Rattle.law_complex.specs.Complexes.{Vertex, Complex, Corner, IsCorner}
+use Rattle.law_complex.specs.Complexes.{Complex, Corner}
 use Rattle.law_complex.specs.Rays.{VertexSide}
 use Rattle.nef_complex.specs.Complexes.{corner_of}
 use Rattle.nef_complex.specs.declared.complex.Corner.{Corner as ProgramCorner}
 use Rattle.nef_parts.specs.Numbers.{IsVolumeOf, above_of, below_of}
 use Rattle.nef_parts.specs.declared.parts.Cycle.{Cycle}
 use Rattle.nef_parts.specs.declared.parts.Facet.{Facet}
+use Rattle.nef_ties.specs.Carriers.{HasItem}
 use Rattle.nef_volumes.specs.Ties.{side_at}
-
--- there is an item at the corner
-abbrev pub HasItem : Complex → Corner → Type 0
-HasItem C k = (v : Vertex) × (x : Item) × IsCorner C k v x
 
 -- the upper or the lower side of the item at the corner
 abbrev pub side_beside : Bool → Corner → VertexSide

@@ -7,7 +7,8 @@ ghost use Rattle.nef_complex.specs.Complexes.{complex_of, corner_of, ShowsSet};
 ghost use Rattle.nef_parts.specs.declared.parts.Cycle.{Cycle as PlainCycle};
 ghost use Rattle.nef_parts.specs.Numbers.{IsVolumeOf, VolumeNumbers, IsParts};
 ghost use Rattle.nef_volumes.specs.Joins.{FacetsAreComponents, VolumesAreComponents, AreCounted};
-ghost use Rattle.nef_volumes.specs.Parts.{HasItem, side_beside, HasFirst, IsBeside, AreFacetsOf};
+ghost use Rattle.nef_ties.specs.Carriers.{HasItem};
+ghost use Rattle.nef_volumes.specs.Parts.{side_beside, HasFirst, IsBeside, AreFacetsOf};
 
 use crate::OutOfMemory;
 use crate::labels::volume_labels;
@@ -15,7 +16,6 @@ use crate::numbers::volume_numbers;
 use nef_complex::{Complex, Corner};
 use nef_facets::{FacetParts, facets};
 use nef_geo::{Label, List, Plane};
-use nef_locate::item_side;
 use nef_parts::{Cycle, Facet, Parts};
 use std::alloc::Global;
 
@@ -27,7 +27,7 @@ fn volume_at(c: &Complex, volume_of: &List<List<usize>>, corner: &Corner, above:
     ensures volume { IsVolumeOf (complex_of c.now) volume_of.now (side_beside above (corner_of corner.now)) result }
 {
     let map = &c.vertices.at(corner.vertex).map;
-    let side = item_side(map, corner.item, above);
+    let side = map.item_side(corner.item, above);
     let row = volume_of.at(corner.vertex);
     *row.at(side)
 }

@@ -9,7 +9,6 @@ use crate::OutOfMemory;
 use crate::spots::spot;
 use nef_classes::{Cell, Tie};
 use nef_complex::Complex;
-use nef_locate::arounds;
 use std::alloc::Global;
 
 // The element of the side round the svertex of the vertex.
@@ -20,7 +19,7 @@ fn around_spot(c: &Complex, vertex: usize, svertex: usize) -> Option<Cell>
 {
     let map = &c.vertices.at(vertex).map;
     match map.svertices.at(svertex).around {
-        Some(_) => Some(spot(c, vertex, arounds(map, svertex))),
+        Some(_) => Some(spot(c, vertex, map.around_side(svertex))),
         None => None,
     }
 }

@@ -11,7 +11,6 @@ use crate::OutOfMemory;
 use crate::spots::spot;
 use nef_classes::{Cell, Tie};
 use nef_complex::Complex;
-use nef_locate::item_side;
 use std::alloc::Global;
 
 // The element of a side of the item: of that to which its normal points, or of the other.
@@ -21,7 +20,7 @@ fn item_spot(c: &Complex, item: &Cell, above: bool) -> Cell
     ensures spot { IsItemSide (complex_of c.now) above item.now result }
 {
     let map = &c.vertices.at(item.row).map;
-    spot(c, item.row, item_side(map, item.column, above))
+    spot(c, item.row, map.item_side(item.column, above))
 }
 
 // The tie of the upper, or of the lower, sides of two tied items.

@@ -5,11 +5,8 @@ use Rattle.nef_volumes.proofs.all.volume_at.Goals as goal
 pub at-requires : goal.at-requires
 at-requires c = record { within = corner-within c.args.c.now (corner_of c.args.corner.now) c.requires.corner }
 
-pub item_side-side-requires-clause-map : goal.item_side-side-requires-clause-map
-item_side-side-requires-clause-map c = (c.requires.shows.1.maps c.args.corner.now.vertex c.at.result.now c.at.ensures.element).sphere_map
-
-pub item_side-side-requires-clause-within : goal.item_side-side-requires-clause-within
-item_side-side-requires-clause-within c = item-within c.args.c.now (corner_of c.args.corner.now) c.requires.corner c.at.result.now c.at.ensures.element
+pub item_side-side-requires : goal.item_side-side-requires
+item_side-side-requires c = record { within = item-within c.args.c.now (corner_of c.args.corner.now) c.requires.corner c.at.result.now c.at.ensures.element }
 
 pub at-requires-2 : goal.at-requires-2
 at-requires-2 c = record {

@@ -2,7 +2,7 @@ use Rattle.std.proofs.Common.{sym, ◌∙◌}
 use Rattle.nef_arc.proofs.SignNumbers.{not_true}
 use Rattle.nef_smap.specs.Maps.{map_of}
 use Rattle.nef_smap.specs.Sides.{sides_of}
-use Rattle.nef_smap.proofs.ClassLists.{is-at_within}
+use Rattle.nef_classes.proofs.ClassLists.{is-at_within}
 use Rattle.nef_locate.proofs.FacetFound.{as-none}
 use Rattle.nef_volumes.proofs.Downward.{out-none, nothing-below, tie-down}
 use Rattle.nef_volumes.proofs.below.down_tie.Goals as goal

@@ -11,8 +11,8 @@ use Rattle.nef_volumes.proofs.edges.around_spot.Goals as goal
 pub at-requires-2 : goal.at-requires-2
 at-requires-2 c = record { within = svertex-within c.args.c.now c.args.vertex c.at.result.now c.at.ensures.element c.args.svertex c.requires.svertex }
 
-pub arounds-requires : goal.arounds-requires
-arounds-requires c = record { within = let l = svertex-within c.args.c.now c.args.vertex c.at.result.now c.at.ensures.element c.args.svertex c.requires.svertex in omega (arith, l) }
+pub around_side-requires : goal.around_side-requires
+around_side-requires c = record { within = let l = svertex-within c.args.c.now c.args.vertex c.at.result.now c.at.ensures.element c.args.svertex c.requires.svertex in omega (arith, l) }
 
 pub returns-in-Some : goal.returns-in-Some
 returns-in-Some c =
@@ -26,7 +26,7 @@ returns-in-Some c =
         vertex-there c.args.c.now c.args.vertex u c.at.ensures.element,
         map-at svertex_of u.map.svertices c.args.svertex sv (at-from_get u.map.svertices c.args.svertex sv c.at-2.ensures.element),
         c.in-Some.is,
-        c.spot.ensures.spot ∙ ap (side_spot c.args.vertex) c.arounds.ensures.arounds,
+        c.spot.ensures.spot ∙ ap (side_spot c.args.vertex) c.around_side.ensures.number,
       );
     }
 

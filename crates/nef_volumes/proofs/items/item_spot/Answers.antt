@@ -14,14 +14,11 @@ at-requires c =
     let r = item-there (complex_of c.args.c.now) c.args.item.now c.requires.within in
     record { within = vertex-within c.args.c.now c.args.item.now.row r.0 r.2 }
 
-pub item_side-requires-clause-map : goal.item_side-requires-clause-map
-item_side-requires-clause-map c = (c.requires.shows.1.maps c.args.item.now.row c.at.result.now c.at.ensures.element).sphere_map
-
-pub item_side-requires-clause-within : goal.item_side-requires-clause-within
-item_side-requires-clause-within c =
+pub item_side-requires : goal.item_side-requires
+item_side-requires c =
     let r = item-there (complex_of c.args.c.now) c.args.item.now c.requires.within in
     let one = vertex-read c.args.c.now c.args.item.now.row c.at.result.now r.0 c.at.ensures.element r.2 in
-    at-within (items (map_of c.at.result.now.map)) c.args.item.now.column r.1 (subst (λ (v : Vertex). At (items v.map) c.args.item.now.column r.1) one r.3)
+    record { within = at-within (items (map_of c.at.result.now.map)) c.args.item.now.column r.1 (subst (λ (v : Vertex). At (items v.map) c.args.item.now.column r.1) one r.3) }
 
 pub spot-requires : goal.spot-requires
 spot-requires c =

@@ -2,7 +2,7 @@ use Rattle.std.proofs.Common.{◌+◌, ◌<◌, List, length, get_or, arith, sym
 use Rattle.nef_arc.proofs.SignNumbers.{not_true}
 use Rattle.nef_space.specs.declared.label.Label.{Label}
 use Rattle.nef_smap.specs.Maps.{map_of}
-use Rattle.nef_smap.proofs.ClassLists.{is-at_get}
+use Rattle.nef_classes.proofs.ClassLists.{is-at_get}
 use Rattle.nef_volumes.specs.Labels.{AreLabelsTo}
 use Rattle.nef_volumes.proofs.VolumeLabels.{labels-start, labels-more, labels-pass, labels-all}
 use Rattle.nef_volumes.proofs.labels.add_labels.Goals as goal
