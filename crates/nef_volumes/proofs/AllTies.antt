@@ -14,8 +14,8 @@ use Rattle.nef_classes.specs.Tables.{AreTied}
 use Rattle.nef_classes.specs.declared.table.Tie.{Tie}
 use Rattle.law_links.specs.Links.{LinkAlong, LinkAcross, IsSideOf, LinkInSface, AreSidesAlong, above_arcs, below_arcs, around_ends, LinkAcrossFacet, LinkDown, LinkOutside, VolumeLink}
 use Rattle.nef_ties.specs.Ties.{cell_of}
-use Rattle.nef_volumes.specs.Ties.{outside_spot, AreLinks, AreTiedSides, AreTiesOf, AreTiedOutside, AreTiesDown, LinkOfItems, LinkOfEnds, LinkOfFacets, AreTiedCorners, AreItemTies}
-use Rattle.nef_volumes.proofs.SideSpots.{tie-chain, more-tied, more-sides, both-links, links-as, one-spot}
+use Rattle.nef_volumes.specs.Ties.{outside_cell, AreLinks, AreTiedSides, AreTiesOf, AreTiedOutside, AreTiesDown, LinkOfItems, LinkOfEnds, LinkOfFacets, AreTiedCorners, AreItemTies}
+use Rattle.nef_volumes.proofs.SideCells.{tie-chain, more-tied, more-sides, both-links, links-as, one-cell}
 use Rattle.nef_volumes.proofs.BelowTies.{linked, one-below}
 
 -- lists of ties of two links together
@@ -146,7 +146,7 @@ module _ (s : Set) (C : Complex) (S : Shows s C) (outside sface items ends down 
       let (a, b, A, B, k) = h in
       let (p, q, P, Q, l) = i in
       let ts = outside ++ sface ++ items ++ ends ++ down in
-      let m = tie-chain ts t b q (in-down t c) (one-spot C z t.first b f B) (one-spot C w t.second q g Q) in
+      let m = tie-chain ts t b q (in-down t c) (one-cell C z t.first b f B) (one-cell C w t.second q g Q) in
       (a, p, A, P, chain-trans (AreTied ts) a b p k (chain-trans (AreTied ts) b q p m (chain-turned (AreTied ts) p q l)))
 
   links-all : (x y : VertexSide) → VolumeLink C x y → AreTiedSides C (outside ++ sface ++ items ++ ends ++ down) x y
@@ -164,7 +164,7 @@ module _ (s : Set) (C : Complex) (S : Shows s C) (outside sface items ends down 
 pub all-outside : (C : Complex) (outside sface items ends down : List Tie) → AreTiedOutside C outside → AreTiedOutside C (outside ++ sface ++ items ++ ends ++ down)
 all-outside C outside sface items ends down f x h =
     let r = f x h in
-    (r.0, r.1, more-tied outside (outside ++ sface ++ items ++ ends ++ down) (λ t c. Contains-append_left (outside ++ sface ++ items ++ ends) down t (Contains-append_left (outside ++ sface ++ items) ends t (Contains-append_left (outside ++ sface) items t (Contains-append_left outside sface t c)))) outside_spot r.0 r.2)
+    (r.0, r.1, more-tied outside (outside ++ sface ++ items ++ ends ++ down) (λ t c. Contains-append_left (outside ++ sface ++ items ++ ends) down t (Contains-append_left (outside ++ sface ++ items) ends t (Contains-append_left (outside ++ sface) items t (Contains-append_left outside sface t c)))) outside_cell r.0 r.2)
 
 -- the ties of items that are linked along edges, and of those that are linked across facets
 pub items-linked : (C : Complex) (along across ts us : List Tie) → ((j k : Corner) → AreTied along (cell_of j) (cell_of k) ↔ LinkAlong C j k) → ((j k : Corner) → AreTied across (cell_of j) (cell_of k) ↔ LinkAcross C j k)

@@ -38,8 +38,8 @@ use Rattle.nef_locate.specs.declared.place.Place.{Place as ComplexPlace}
 use Rattle.nef_locate.specs.declared.place.Place.TheVariants as position
 use Rattle.nef_locate.specs.Places.{IsPlaceAt, IsFirstHit}
 use Rattle.nef_locate.specs.Rays.{IsSideAbove}
-use Rattle.nef_volumes.specs.Ties.{side_spot, IsSpotOf, IsBelow, IsSpotBelow, IsTieDown}
-use Rattle.nef_volumes.proofs.SideSpots.{spot-numbered}
+use Rattle.nef_volumes.specs.Ties.{side_cell, IsCellOf, IsBelow, IsFloorCell, IsTieDown}
+use Rattle.nef_volumes.proofs.SideCells.{cell-numbered}
 use Rattle.nef_volumes.proofs.ReadVertex.{vertex-there, vertex-read, vertex-within}
 
 -- ---- the downward direction lies in a face
@@ -94,14 +94,14 @@ module _ (s : Set) (c : Complex) (S : ShowsSet s c) (i : ℕ) (u : ProgramVertex
     pub above-within : (j k : ℕ) → IsSideAbove (complex_of c) floor (position.InVolume j k) → j < length c.vertices
     above-within j k (m, n, o, l, is, (v, a, g), f) = let w = vertex-within c m v a in let q : j ≡ m = cc in omega (arith, w, q)
 
-    pub spot-above : (j k : ℕ) → IsSideAbove (complex_of c) floor (position.InVolume j k) → (a : Cell) → a ≡ side_spot j k → IsSpotBelow (complex_of c) i a
-    spot-above j k (m, n, o, l, is, (v, b, g), f) a h =
+    pub cell-above : (j k : ℕ) → IsSideAbove (complex_of c) floor (position.InVolume j k) → (a : Cell) → a ≡ side_cell j k → IsFloorCell (complex_of c) i a
+    cell-above j k (m, n, o, l, is, (v, b, g), f) a h =
         let x : VertexSide = record { vertex = m; side = o } in
         let p : j ≡ m = cc in
         let q : k ≡ n = cc in
-        let r : side_spot m n ≡ a = sym (h ∙ ap (λ (t : ℕ). side_spot t k) p ∙ ap (λ (t : ℕ). side_spot m t) q) in
+        let r : side_cell m n ≡ a = sym (h ∙ ap (λ (t : ℕ). side_cell t k) p ∙ ap (λ (t : ℕ). side_cell m t) q) in
         let y = side-has v.map n o l g in
-        (x, subst (IsSpotOf (complex_of c) x) r (spot-numbered (complex_of c) m n v o l b y (number-one v.map n o l g)), (vertex_of u, vertex-there c i u e, ray-of x l (v, b, y) f))
+        (x, subst (IsCellOf (complex_of c) x) r (cell-numbered (complex_of c) m n v o l b y (number-one v.map n o l g)), (vertex_of u, vertex-there c i u e, ray-of x l (v, b, y) f))
 
   -- the ray ends nowhere
   pub none-below : ((q : Place) → IsAhead (place_of u.point) (opposite up) q → IsSkeletonPoint (complex_of c) q → ⊥) → (x : VertexSide) → IsBelow (complex_of c) i x → ⊥
@@ -127,7 +127,7 @@ module _ (s : Set) (c : Complex) (S : ShowsSet s c) (i : ℕ) (u : ProgramVertex
     pub nothing-below : ((x : VertexSide) → IsBelow (complex_of c) i x → ⊥) → (x y : VertexSide) → x.vertex ≡ i → LinkDown (complex_of c) x y → ⊥
     nothing-below apart x y f L = apart y (L.vertex, subst (λ (n : ℕ). At (complex_of c).vertices n L.vertex) f L.is_vertex, L.down)
 
-    pub tie-down : ((o : Side) × IsSide (map_of u.map) j o Out → ⊥) → (a b : Cell) → a ≡ side_spot i j → IsSpotBelow (complex_of c) i b → IsTieDown (complex_of c) i (record { first = a; second = b })
+    pub tie-down : ((o : Side) × IsSide (map_of u.map) j o Out → ⊥) → (a b : Cell) → a ≡ side_cell i j → IsFloorCell (complex_of c) i b → IsTieDown (complex_of c) i (record { first = a; second = b })
     tie-down not a b f (y, Y, (v, h, R)) =
         let (o, l, g, w) = seen in
         let x : VertexSide = record { vertex = i; side = o } in
@@ -137,7 +137,7 @@ module _ (s : Set) (c : Complex) (S : ShowsSet s c) (i : ℕ) (u : ProgramVertex
           x,
           y,
           refl,
-          subst (IsSpotOf (complex_of c) x) (sym f) (spot-numbered (complex_of c) i j (vertex_of u) o l there has (number-one (map_of u.map) j o l g)),
+          subst (IsCellOf (complex_of c) x) (sym f) (cell-numbered (complex_of c) i j (vertex_of u) o l there has (number-one (map_of u.map) j o l g)),
           Y,
           record { vertex = vertex_of u; is_vertex = there; label = l; has = has; not_out = λ z. not (o, subst (λ (k : Label). IsSide (map_of u.map) j o k) z g); sees = w; down = subst (λ (q : Vertex). RayDown (complex_of c) q.point y) one R },
         )

@@ -16,7 +16,7 @@ use Rattle.nef_complex.specs.declared.complex.Edge.{Edge as ProgramEdge}
 use Rattle.nef_complex.specs.declared.complex.Vertex.{Vertex as ProgramVertex}
 use Rattle.nef_classes.specs.declared.table.Cell.{Cell}
 use Rattle.nef_classes.specs.declared.table.Tie.{Tie}
-use Rattle.nef_volumes.specs.Ties.{HasSvertex, IsAroundSpot, IsTieOfEnds}
+use Rattle.nef_volumes.specs.Ties.{HasSvertex, IsAroundCell, IsTieOfEnds}
 use Rattle.nef_volumes.proofs.ReadVertex.{edge-there, edge-read, vertex-read, vertex-within}
 
 module _ (s : Set) (c : Complex) (S : ShowsSet s c) (k : ℕ) (e : ProgramEdge) (i : slice_get c.edges k ≡ Some e) where
@@ -32,11 +32,11 @@ module _ (s : Set) (c : Complex) (S : ShowsSet s c) (k : ℕ) (e : ProgramEdge) 
   pub high-end : HasSvertex (complex_of c) e.high e.high_svertex
   high-end = let E = S.shows.edges.edges k (edge_of e) (edge-there c k e i) in (E.high_vertex, E.high_end, E.is_high, E.arrives)
 
-  pub none-low : ((a : Cell) → IsAroundSpot (complex_of c) e.low e.low_svertex a → ⊥) → (t : Tie) → IsTieOfEnds (complex_of c) k t → ⊥
-  none-low apart t (d, a, f, g) = apart t.first (subst (λ (r : Edge). IsAroundSpot (complex_of c) r.low r.low_svertex t.first) (edge-read c k e d i a) f)
+  pub none-low : ((a : Cell) → IsAroundCell (complex_of c) e.low e.low_svertex a → ⊥) → (t : Tie) → IsTieOfEnds (complex_of c) k t → ⊥
+  none-low apart t (d, a, f, g) = apart t.first (subst (λ (r : Edge). IsAroundCell (complex_of c) r.low r.low_svertex t.first) (edge-read c k e d i a) f)
 
-  pub none-high : ((a : Cell) → IsAroundSpot (complex_of c) e.high e.high_svertex a → ⊥) → (t : Tie) → IsTieOfEnds (complex_of c) k t → ⊥
-  none-high apart t (d, a, f, g) = apart t.second (subst (λ (r : Edge). IsAroundSpot (complex_of c) r.high r.high_svertex t.second) (edge-read c k e d i a) g)
+  pub none-high : ((a : Cell) → IsAroundCell (complex_of c) e.high e.high_svertex a → ⊥) → (t : Tie) → IsTieOfEnds (complex_of c) k t → ⊥
+  none-high apart t (d, a, f, g) = apart t.second (subst (λ (r : Edge). IsAroundCell (complex_of c) r.high r.high_svertex t.second) (edge-read c k e d i a) g)
 
 -- ---- the svertices of the program's vertices
 module _ (c : Complex) (i : ℕ) (u : ProgramVertex) (a : slice_get c.vertices i ≡ Some u) (k : ℕ) where
@@ -46,7 +46,7 @@ module _ (c : Complex) (i : ℕ) (u : ProgramVertex) (a : slice_get c.vertices i
       let n = length-map u.map.svertices svertex_of in
       omega (arith, l, n)
 
-  pub none-around : (sv : SVertex) → slice_get u.map.svertices k ≡ Some sv → sv.around ≡ None → (b : Cell) → IsAroundSpot (complex_of c) i k b → ⊥
+  pub none-around : (sv : SVertex) → slice_get u.map.svertices k ≡ Some sv → sv.around ≡ None → (b : Cell) → IsAroundCell (complex_of c) i k b → ⊥
   none-around sv e n b (v, x, l, f, g, h, m) =
       let d = subst (λ (w : Vertex). At w.map.svertices k x) (vertex-read c i u v a f) g in
       let one = at-one (map svertex_of u.map.svertices) k x (svertex_of sv) d (map-at svertex_of u.map.svertices k sv (at-from_get u.map.svertices k sv e)) in

@@ -17,8 +17,8 @@ use Rattle.law_links.specs.Links.{IsSideOf}
 use Rattle.nef_parts.specs.Numbers.{count_items}
 use Rattle.nef_ties.specs.Ties.{cell_of, corner_at, Adds, Any}
 use Rattle.nef_ties.proofs.Adding.{adds-both}
-use Rattle.nef_volumes.specs.Ties.{side_spot, IsSpotOf, IsEndOf, AreTiedSides, AreTiesOf, side_at, IsItemSide, IsSideTie, IsTieOfItems, LinkOfItems, LinkOfEnds, IsAroundSpot, IsTieOfEnds}
-use Rattle.nef_volumes.proofs.SideSpots.{tie-chain, spot-is}
+use Rattle.nef_volumes.specs.Ties.{side_cell, IsCellOf, IsEndOf, AreTiedSides, AreTiesOf, side_at, IsItemSide, IsSideTie, IsTieOfItems, LinkOfItems, LinkOfEnds, IsAroundCell, IsTieOfEnds}
+use Rattle.nef_volumes.proofs.SideCells.{tie-chain, cell-is}
 use Rattle.nef_volumes.proofs.OutsideTies.{only-added}
 
 -- there is an item at each element of the table of items
@@ -37,7 +37,7 @@ one-tie : (a b c d : Cell) → a ≡ c → b ≡ d → ◌≡◌ {A = Tie} (reco
 one-tie a b c d e f = cc
 
 item_side-one : (C : Complex) (b : Bool) (i a c : Cell) → IsItemSide C b i a → IsItemSide C b i c → a ≡ c
-item_side-one C b i a c (v, f, e) (w, g, h) = e ∙ ap (λ (u : Vertex). side_spot i.row (number_of u.map (side_at b i.column))) (at-one C.vertices i.row v w f g) ∙ sym h
+item_side-one C b i a c (v, f, e) (w, g, h) = e ∙ ap (λ (u : Vertex). side_cell i.row (number_of u.map (side_at b i.column))) (at-one C.vertices i.row v w f g) ∙ sym h
 
 pub side_tie-one : (C : Complex) (b : Bool) (t u w : Tie) → IsSideTie C b t u → IsSideTie C b t w → u ≡ w
 side_tie-one C b t u w (f, g) (h, i) = one-tie u.first u.second w.first w.second (item_side-one C b t.first u.first w.first f h) (item_side-one C b t.second u.second w.second g i)
@@ -64,11 +64,11 @@ module _ (C : Complex) (items : List Tie) (W : AreTiedWithin (map count_items C.
     side-there : (l : Label) × HasSideLabel C (side_of b i) l
     side-there = let r = item-there C i w in (cond b (item_above r.1) (item_below r.1), (r.0, r.2, has-side r.0 i.column r.1 b r.3))
 
-    end-there : IsSpotOf C (side_of b i) a
+    end-there : IsCellOf C (side_of b i) a
     end-there =
         let h = side-there in
-        let k = spot-is C (side_of b i) h.1.0 h.0 h.1.1 h.1.2 in
-        subst (IsSpotOf C (side_of b i)) (ap (λ (u : Vertex). side_spot i.row (number_of u.map (side_at b i.column))) (at-one C.vertices i.row h.1.0 s.0 h.1.1 s.1) ∙ sym s.2) k
+        let k = cell-is C (side_of b i) h.1.0 h.0 h.1.1 h.1.2 in
+        subst (IsCellOf C (side_of b i)) (ap (λ (u : Vertex). side_cell i.row (number_of u.map (side_at b i.column))) (at-one C.vertices i.row h.1.0 s.0 h.1.1 s.1) ∙ sym s.2) k
 
   of-sides : (b : Bool) (k : ℕ) (t u : Tie) → IsAt items k t → IsSideTie C b t u
       → ((x y : VertexSide) (j l : Corner) → x ≡ side_of b t.first → y ≡ side_of b t.second → j ≡ corner_at t.first → l ≡ corner_at t.second → (m : Label) × HasSideLabel C x m → (n : Label) × HasSideLabel C y n
@@ -99,17 +99,17 @@ module _ (C : Complex) (items : List Tie) (W : AreTiedWithin (map count_items C.
       ))
 
   -- the element of a side of an item
-  spot-there : (b : Bool) (i : Cell) (j : Corner) (x : VertexSide) → i ≡ cell_of j → IsSideOf C x j.vertex (side_at b j.item) → (a : Cell) × IsSpotOf C x a × IsItemSide C b i a
-  spot-there b i j x e (l, f, g, (v, a, h)) =
-      let s = side_spot x.vertex (number_of v.map x.side) in
-      let p : s ≡ side_spot j.vertex (number_of v.map (side_at b j.item)) = ap (λ (n : ℕ). side_spot n (number_of v.map x.side)) f ∙ ap (λ (o : Side). side_spot j.vertex (number_of v.map o)) g in
-      (s, spot-is C x v l a h, subst (λ (r : Cell). IsItemSide C b r s) (sym e) (v, subst (λ (n : ℕ). At C.vertices n v) f a, p))
+  cell-there : (b : Bool) (i : Cell) (j : Corner) (x : VertexSide) → i ≡ cell_of j → IsSideOf C x j.vertex (side_at b j.item) → (a : Cell) × IsCellOf C x a × IsItemSide C b i a
+  cell-there b i j x e (l, f, g, (v, a, h)) =
+      let s = side_cell x.vertex (number_of v.map x.side) in
+      let p : s ≡ side_cell j.vertex (number_of v.map (side_at b j.item)) = ap (λ (n : ℕ). side_cell n (number_of v.map x.side)) f ∙ ap (λ (o : Side). side_cell j.vertex (number_of v.map o)) g in
+      (s, cell-is C x v l a h, subst (λ (r : Cell). IsItemSide C b r s) (sym e) (v, subst (λ (n : ℕ). At C.vertices n v) f a, p))
 
   tied : (b : Bool) (x y : VertexSide) (j k : Corner) → Link j k → ((t u : Tie) → IsSideTie C b t u → IsSideTie C true t u ⊎ IsSideTie C false t u) → IsSideOf C x j.vertex (side_at b j.item) → IsSideOf C y k.vertex (side_at b k.item) → AreTiedSides C ts x y
   tied b x y j k L either f g =
       let (n, t, i, e, h) = L in
-      let p = spot-there b t.first j x e f in
-      let q = spot-there b t.second k y h g in
+      let p = cell-there b t.first j x e f in
+      let q = cell-there b t.second k y h g in
       let u : Tie = record { first = p.0; second = q.0 } in
       let c = A.all u (n, (t, i, either t u (p.2, q.2))) in
       (p.0, q.0, p.1, q.1, tie-chain ts u p.0 q.0 c refl refl)
@@ -123,22 +123,22 @@ module _ (C : Complex) (items : List Tie) (W : AreTiedWithin (map count_items C.
   items-tied = record { only = only; all = all }
 
 -- ---- the sides round the ends of edges
-around-one : (C : Complex) (i k : ℕ) (a b : Cell) → IsAroundSpot C i k a → IsAroundSpot C i k b → a ≡ b
-around-one C i k a b (v, u, l, f, g, h, e) (w, x, m, p, q, r, s) = e ∙ ap (λ (z : Vertex). side_spot i (number_of z.map (around_svertex k))) (at-one C.vertices i v w f p) ∙ sym s
+around-one : (C : Complex) (i k : ℕ) (a b : Cell) → IsAroundCell C i k a → IsAroundCell C i k b → a ≡ b
+around-one C i k a b (v, u, l, f, g, h, e) (w, x, m, p, q, r, s) = e ∙ ap (λ (z : Vertex). side_cell i (number_of z.map (around_svertex k))) (at-one C.vertices i v w f p) ∙ sym s
 
 pub ends-one : (C : Complex) (k : ℕ) (t u : Tie) → IsTieOfEnds C k t → IsTieOfEnds C k u → t ≡ u
 ends-one C k t u (e, a, f, g) (d, b, h, i) =
     let one = at-one C.edges k d e b a in
-    let h' = subst (λ (r : Edge). IsAroundSpot C r.low r.low_svertex u.first) one h in
-    let i' = subst (λ (r : Edge). IsAroundSpot C r.high r.high_svertex u.second) one i in
+    let h' = subst (λ (r : Edge). IsAroundCell C r.low r.low_svertex u.first) one h in
+    let i' = subst (λ (r : Edge). IsAroundCell C r.high r.high_svertex u.second) one i in
     one-tie t.first t.second u.first u.second (around-one C e.low e.low_svertex t.first u.first f h') (around-one C e.high e.high_svertex t.second u.second g i')
 
 module _ (C : Complex) (ts : List Tie) (A : Adds (Any (IsTieOfEnds C)) [] ts) where
   abbrev around_of : ℕ → ℕ → VertexSide
   around_of i k = record { vertex = i; side = around_svertex k }
 
-  end-round : (i k : ℕ) (a : Cell) → IsAroundSpot C i k a → IsSpotOf C (around_of i k) a × IsSideOf C (around_of i k) i (around_svertex k)
-  end-round i k a (v, u, l, f, g, h, e) = (subst (IsSpotOf C (around_of i k)) (sym e) (spot-is C (around_of i k) v l f (u, g, h)), (l, refl, refl, (v, f, (u, g, h))))
+  end-round : (i k : ℕ) (a : Cell) → IsAroundCell C i k a → IsCellOf C (around_of i k) a × IsSideOf C (around_of i k) i (around_svertex k)
+  end-round i k a (v, u, l, f, g, h, e) = (subst (IsCellOf C (around_of i k)) (sym e) (cell-is C (around_of i k) v l f (u, g, h)), (l, refl, refl, (v, f, (u, g, h))))
 
   ends-only : (t : Tie) → Contains ts t → (x : VertexSide) × (y : VertexSide) × IsEndOf C x t.first × IsEndOf C y t.second × LinkOfEnds C x y
   ends-only t c =
@@ -147,11 +147,11 @@ module _ (C : Complex) (ts : List Tie) (A : Adds (Any (IsTieOfEnds C)) [] ts) wh
       let q = end-round e.high e.high_svertex t.second g in
       (around_of e.low e.low_svertex, around_of e.high e.high_svertex, inl p.0, inl q.0, (k, e, a, p.1, q.1))
 
-  round-there : (i k : ℕ) (x : VertexSide) → IsSideOf C x i (around_svertex k) → (a : Cell) × IsSpotOf C x a × IsAroundSpot C i k a
+  round-there : (i k : ℕ) (x : VertexSide) → IsSideOf C x i (around_svertex k) → (a : Cell) × IsCellOf C x a × IsAroundCell C i k a
   round-there i k x (l, f, g, (v, a, h)) =
-      let s = side_spot x.vertex (number_of v.map x.side) in
+      let s = side_cell x.vertex (number_of v.map x.side) in
       let u = subst (λ (o : Side). HasSide v.map o l) g h in
-      (s, spot-is C x v l a h, (v, u.0, l, subst (λ (n : ℕ). At C.vertices n v) f a, u.1, u.2, ap (λ (n : ℕ). side_spot n (number_of v.map x.side)) f ∙ ap (λ (o : Side). side_spot i (number_of v.map o)) g))
+      (s, cell-is C x v l a h, (v, u.0, l, subst (λ (n : ℕ). At C.vertices n v) f a, u.1, u.2, ap (λ (n : ℕ). side_cell n (number_of v.map x.side)) f ∙ ap (λ (o : Side). side_cell i (number_of v.map o)) g))
 
   ends-all : (x y : VertexSide) → LinkOfEnds C x y → AreTiedSides C ts x y
   ends-all x y (k, e, a, f, g) =

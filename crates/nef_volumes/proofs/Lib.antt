@@ -1,6 +1,6 @@
 pub mod Agree
 pub mod ReadVertex
-pub mod SideSpots
+pub mod SideCells
 pub mod OutsideTies
 pub mod SfaceTies
 pub mod ItemTies

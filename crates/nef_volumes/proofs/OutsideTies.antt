@@ -23,8 +23,8 @@ use Rattle.nef_classes.specs.declared.table.Cell.{Cell}
 use Rattle.nef_classes.specs.declared.table.Tie.{Tie}
 use Rattle.law_links.specs.Links.{LinkOutside}
 use Rattle.nef_ties.specs.Ties.{Adds, Any}
-use Rattle.nef_volumes.specs.Ties.{outside_spot, side_spot, IsSpotOf, IsEndOf, AreTiedSides, AreTiesOf, AreTiedOutside, IsTieOutside}
-use Rattle.nef_volumes.proofs.SideSpots.{tie-chain, spot-is, spot-numbered}
+use Rattle.nef_volumes.specs.Ties.{outside_cell, side_cell, IsCellOf, IsEndOf, AreTiedSides, AreTiesOf, AreTiedOutside, IsTieOutside}
+use Rattle.nef_volumes.proofs.SideCells.{tie-chain, cell-is, cell-numbered}
 
 -- all elements of a list that was empty have P
 pub only-added : {X : Type 0} (P : X → Type 0) (xs : List X) → Adds P [] xs → (x : X) → Contains xs x → P x
@@ -40,16 +40,16 @@ module _ (C : Complex) (ts : List Tie) (A : Adds (Any (λ i. Any (IsTieOutside C
       let h = side-has v.map s o Out n.3 in
       let y : VertexSide = record { vertex = i; side = o } in
       let out : HasSideLabel C y Out = (v, a, h) in
-      let spot = spot-numbered C i s v o Out a h (number-one v.map s o Out n.3) in
-      (y, y, inr (ap (λ (u : Tie). u.first) p.1.1.1, out), inl (subst (IsSpotOf C y) (sym (ap (λ (u : Tie). u.second) p.1.1.1)) spot), (out, out))
+      let cell = cell-numbered C i s v o Out a h (number-one v.map s o Out n.3) in
+      (y, y, inr (ap (λ (u : Tie). u.first) p.1.1.1, out), inl (subst (IsCellOf C y) (sym (ap (λ (u : Tie). u.second) p.1.1.1)) cell), (out, out))
 
-  from-outside : (x : VertexSide) (h : HasSideLabel C x Out) → (a : Cell) × IsSpotOf C x a × Chained (AreTied ts) outside_spot a
+  from-outside : (x : VertexSide) (h : HasSideLabel C x Out) → (a : Cell) × IsCellOf C x a × Chained (AreTied ts) outside_cell a
   from-outside x (v, a, h) =
       let s = number_of v.map x.side in
-      let b = side_spot x.vertex s in
-      let t : Tie = record { first = outside_spot; second = b } in
+      let b = side_cell x.vertex s in
+      let t : Tie = record { first = outside_cell; second = b } in
       let c = A.all t (x.vertex, (s, ((v, x.side, a, side-number v.map x.side Out h), refl))) in
-      (b, spot-is C x v Out a h, tie-chain ts t outside_spot b c refl refl)
+      (b, cell-is C x v Out a h, tie-chain ts t outside_cell b c refl refl)
 
   pub outside-all : AreTiedOutside C ts
   outside-all x h = from-outside x h
@@ -58,7 +58,7 @@ module _ (C : Complex) (ts : List Tie) (A : Adds (Any (λ i. Any (IsTieOutside C
   all x y (g, h) =
       let a = from-outside x g in
       let b = from-outside y h in
-      (a.0, b.0, a.1, b.1, chain-trans (AreTied ts) a.0 outside_spot b.0 (chain-turned (AreTied ts) outside_spot a.0 a.2) b.2)
+      (a.0, b.0, a.1, b.1, chain-trans (AreTied ts) a.0 outside_cell b.0 (chain-turned (AreTied ts) outside_cell a.0 a.2) b.2)
 
   -- THE SIDES OUTSIDE ARE TIED
   pub outside-tied : AreTiesOf C (LinkOutside C) ts
@@ -66,10 +66,10 @@ module _ (C : Complex) (ts : List Tie) (A : Adds (Any (λ i. Any (IsTieOutside C
 
 -- ---- the loop over the sides of a vertex
 module _ (c : ProgramComplex) (i s : ℕ) (u : ProgramVertex) (e : slice_get c.vertices i ≡ Some u) (ts : List Tie) where
-  pub outside-added : (o : Side) × IsSide (map_of u.map) s o Out → (a b : Cell) → a ≡ outside_spot → b ≡ side_spot i s → Adds (IsTieOutside (complex_of c) i s) ts (ts ++ record { first = a; second = b } ∷ [])
+  pub outside-added : (o : Side) × IsSide (map_of u.map) s o Out → (a b : Cell) → a ≡ outside_cell → b ≡ side_cell i s → Adds (IsTieOutside (complex_of c) i s) ts (ts ++ record { first = a; second = b } ∷ [])
   outside-added (o, g) a b f h =
       let t : Tie = record { first = a; second = b } in
-      let is : t ≡ record { first = outside_spot; second = side_spot i s } = cc in
+      let is : t ≡ record { first = outside_cell; second = side_cell i s } = cc in
       adds-one (IsTieOutside (complex_of c) i s) ts t ((vertex_of u, o, vertex-there c i u e, g), is) (λ y p. is ∙ sym p.1)
 
   pub outside-none : ((o : Side) × IsSide (map_of u.map) s o Out → ⊥) → Adds (IsTieOutside (complex_of c) i s) ts ts

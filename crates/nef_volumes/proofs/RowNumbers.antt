@@ -21,18 +21,18 @@ use Rattle.nef_classes.specs.declared.table.Tie.{Tie}
 use Rattle.law_links.specs.Links.{VolumeLink}
 use Rattle.law_links.specs.Components.{IsUpright}
 use Rattle.nef_parts.specs.Numbers.{HasRows, count_sides, IsSideNumber, IsVolumeOf, IsSideBelow, VolumeNumbers}
-use Rattle.nef_volumes.specs.Ties.{outside_spot, side_spot, row_counts, IsSpotOf, IsEndOf, AreTiesOf, AreTiedOutside}
-use Rattle.nef_volumes.proofs.SideSpots.{contains-at, one-spot, not-outside, ends-linked, ties-chains}
+use Rattle.nef_volumes.specs.Ties.{outside_cell, side_cell, row_counts, IsCellOf, IsEndOf, AreTiesOf, AreTiedOutside}
+use Rattle.nef_volumes.proofs.SideCells.{contains-at, one-cell, not-outside, ends-linked, ties-chains}
 use Rattle.nef_volumes.proofs.SideLabels.{chain-label}
 
 -- the element of the side with a number
-pub number-spot : (C : Complex) (x : VertexSide) (j : ℕ) → IsSideNumber C x j → IsSpotOf C x (side_spot x.vertex j)
-number-spot C x j N = record {
+pub number-cell : (C : Complex) (x : VertexSide) (j : ℕ) → IsSideNumber C x j → IsCellOf C x (side_cell x.vertex j)
+number-cell C x j N = record {
   vertex = N.vertex;
   is_vertex = N.is_vertex;
   label = N.label;
   has = side-has N.vertex.map j x.side N.label N.is_side;
-  is_spot = ap (side_spot x.vertex) (number-one N.vertex.map j x.side N.label N.is_side);
+  is_cell = ap (side_cell x.vertex) (number-one N.vertex.map j x.side N.label N.is_side);
 }
 
 module _ (s : Set) (C : Complex) (S : Shows s C) (up : IsUpright C) (ts : List Tie) (T : AreTiesOf C (VolumeLink C) ts) (O : AreTiedOutside C ts)
@@ -47,59 +47,59 @@ module _ (s : Set) (C : Complex) (S : Shows s C) (up : IsUpright C) (ts : List T
   later : (i k n : ℕ) → IsInTable rest i k n → IsInTable (first ∷ rest) (i + 1) k n
   later i k n h = let e : i + 1 ≡ suc i = omega arith in rw e h
 
-  spot-number : (x : VertexSide) (n : ℕ) (X : IsVolumeOf C rest x n) → IsCellNumber (first ∷ rest) (side_spot x.vertex X.0) n
-  spot-number x n (j, a, h) = later x.vertex j n h
+  cell-number : (x : VertexSide) (n : ℕ) (X : IsVolumeOf C rest x n) → IsCellNumber (first ∷ rest) (side_cell x.vertex X.0) n
+  cell-number x n (j, a, h) = later x.vertex j n h
 
   by_class : (x y : VertexSide) (m n : ℕ) → IsVolumeOf C rest x m → IsVolumeOf C rest y n → (m ≡ n) ↔ Chained (VolumeLink C) x y
   by_class x y m n X Y =
-      let a = side_spot x.vertex X.0 in
-      let b = side_spot y.vertex Y.0 in
-      let f = N.by_class a b m n (spot-number x m X) (spot-number y n Y) in
-      let g = ties-chains C ts T x y a b (number-spot C x X.0 X.1) (number-spot C y Y.0 Y.1) in
+      let a = side_cell x.vertex X.0 in
+      let b = side_cell y.vertex Y.0 in
+      let f = N.by_class a b m n (cell-number x m X) (cell-number y n Y) in
+      let g = ties-chains C ts T x y a b (number-cell C x X.0 X.1) (number-cell C y Y.0 Y.1) in
       (λ e. g.0 (f.0 e), λ c. f.1 (g.1 c))
 
   -- ---- the outside has the number 0
   first-one : length first ≡ 1
   first-one = H.row 0 1 first refl refl
 
-  none-before : (b : Cell) → IsCellBelow b outside_spot → ⊥
+  none-before : (b : Cell) → IsCellBelow b outside_cell → ⊥
   none-before b (inl h) = omega (arith, ints, h)
   none-before b (inr (e, inl h)) = omega (arith, ints, h)
   none-before b (inr (e, inr (f, h))) = h
 
-  outside-zero : (n : ℕ) → IsCellNumber (first ∷ rest) outside_spot n → n ≡ 0
+  outside-zero : (n : ℕ) → IsCellNumber (first ∷ rest) outside_cell n → n ≡ 0
   outside-zero zero h = refl
-  outside-zero (suc n) h = let r = N.by_appearance outside_spot 0 (suc n) h (omega arith) (omega arith) in absurd (none-before r.0 r.1)
+  outside-zero (suc n) h = let r = N.by_appearance outside_cell 0 (suc n) h (omega arith) (omega arith) in absurd (none-before r.0 r.1)
 
-  outside-number : IsCellNumber (first ∷ rest) outside_spot 0
+  outside-number : IsCellNumber (first ∷ rest) outside_cell 0
   outside-number =
       let r = is-at_some first 0 (let e = first-one in omega (arith, e)) in
-      subst (λ (n : ℕ). IsCellNumber (first ∷ rest) outside_spot n) (outside-zero r.0 (first, refl, r.1)) (first, refl, r.1)
+      subst (λ (n : ℕ). IsCellNumber (first ∷ rest) outside_cell n) (outside-zero r.0 (first, refl, r.1)) (first, refl, r.1)
 
   -- a chain from the outside leads to sides outside
-  chain-outside : (us : List Cell) (x : VertexSide) (a : Cell) (l : Label) → IsSpotOf C x a → HasSideLabel C x l → IsChain (AreTied ts) outside_spot us a → l ≡ Out
+  chain-outside : (us : List Cell) (x : VertexSide) (a : Cell) (l : Label) → IsCellOf C x a → HasSideLabel C x l → IsChain (AreTied ts) outside_cell us a → l ≡ Out
   chain-outside [] x a l f h e = absurd (not-outside C x a f (sym e))
   chain-outside (b ∷ us) x a l f h (k, c) =
       let (z, o) = end k in
-      sym (chain-label s C S up z x Out l (ends-linked C ts T outside_spot a z x (b ∷ us, (k, c)) (inr (refl, o)) (inl f)) o h)
+      sym (chain-label s C S up z x Out l (ends-linked C ts T outside_cell a z x (b ∷ us, (k, c)) (inr (refl, o)) (inl f)) o h)
     where
-      outside-end : (z : VertexSide) (d : Cell) → d ≡ outside_spot → IsEndOf C z d → (y : VertexSide) × HasSideLabel C y Out
+      outside-end : (z : VertexSide) (d : Cell) → d ≡ outside_cell → IsEndOf C z d → (y : VertexSide) × HasSideLabel C y Out
       outside-end z d e (inl g) = absurd (not-outside C z d g e)
       outside-end z d e (inr g) = (z, g.1)
 
-      end : AreTied ts outside_spot b ⊎ AreTied ts b outside_spot → (y : VertexSide) × HasSideLabel C y Out
+      end : AreTied ts outside_cell b ⊎ AreTied ts b outside_cell → (y : VertexSide) × HasSideLabel C y Out
       end (inl (k, t, i, e, g)) = let r = T.only t (contains-at ts k t i) in outside-end r.0 t.first e r.2
       end (inr (k, t, i, e, g)) = let r = T.only t (contains-at ts k t i) in outside-end r.1 t.second g r.3
 
   outside : (x : VertexSide) (n : ℕ) (l : Label) → IsVolumeOf C rest x n → HasSideLabel C x l → (n ≡ 0) ↔ (l ≡ Out)
   outside x n l X h =
-      let a = side_spot x.vertex X.0 in
-      let f = number-spot C x X.0 X.1 in
-      let g = N.by_class outside_spot a 0 n outside-number (spot-number x n X) in
+      let a = side_cell x.vertex X.0 in
+      let f = number-cell C x X.0 X.1 in
+      let g = N.by_class outside_cell a 0 n outside-number (cell-number x n X) in
       (λ e. let c = g.0 (sym e) in chain-outside c.0 x a l f h c.1, λ e. sym (g.1 (tied a f (subst (HasSideLabel C x) e h))))
     where
-      tied : (a : Cell) → IsSpotOf C x a → HasSideLabel C x Out → Chained (AreTied ts) outside_spot a
-      tied a f o = let r = O x o in subst (λ (b : Cell). Chained (AreTied ts) outside_spot b) (one-spot C x r.0 a r.1 f) r.2
+      tied : (a : Cell) → IsCellOf C x a → HasSideLabel C x Out → Chained (AreTied ts) outside_cell a
+      tied a f o = let r = O x o in subst (λ (b : Cell). Chained (AreTied ts) outside_cell b) (one-cell C x r.0 a r.1 f) r.2
 
   -- ---- by appearance
   abbrev Appears : VertexSide → ℕ → Type 0
@@ -124,19 +124,19 @@ module _ (s : Set) (C : Complex) (S : Shows s C) (up : IsUpright C) (ts : List T
       let g = is-at_some (sides_of v.0.map) k (let l = is-at_within row k m h in omega (arith, l, c)) in
       (record { vertex = i; side = g.0.0 }, refl, record { vertex = v.0; is_vertex = a; label = g.0.1; is_side = g.1 })
 
-  before : (x : VertexSide) (m : ℕ) (j : ℕ) → IsSideNumber C x j → 1 ≤ m → (i k : ℕ) → IsCellBelow (record { row = i; column = k }) (side_spot x.vertex j) → IsInTable (first ∷ rest) i k m → Appears x m
+  before : (x : VertexSide) (m : ℕ) (j : ℕ) → IsSideNumber C x j → 1 ≤ m → (i k : ℕ) → IsCellBelow (record { row = i; column = k }) (side_cell x.vertex j) → IsInTable (first ∷ rest) i k m → Appears x m
   before x m j X l zero k b h = absurd (in-first k m l h)
   before x m j X l (suc i) k b h =
       let (y, e, Y) = side-at i k m h in
       (y, (k, j, Y, X, order y e b), (k, Y, subst (λ (n : ℕ). IsInTable rest n k m) (sym e) h))
     where
-      order : (y : VertexSide) → y.vertex ≡ i → IsCellBelow (record { row = suc i; column = k }) (side_spot x.vertex j) → IsBelow (pos y.vertex ∷ pos k ∷ []) (pos x.vertex ∷ pos j ∷ [])
+      order : (y : VertexSide) → y.vertex ≡ i → IsCellBelow (record { row = suc i; column = k }) (side_cell x.vertex j) → IsBelow (pos y.vertex ∷ pos k ∷ []) (pos x.vertex ∷ pos j ∷ [])
       order y e (inl h) = inl (omega (arith, ints, h, e))
       order y e (inr (f, h)) = inr (ap pos (e ∙ (let g : suc i ≡ x.vertex + 1 = cc in omega (arith, g))), h)
 
   by_appearance : (x : VertexSide) (m n : ℕ) → IsVolumeOf C rest x n → 1 ≤ m → m < n → Appears x m
   by_appearance x m n X l h =
-      let r = N.by_appearance (side_spot x.vertex X.0) m n (spot-number x n X) (omega arith) h in
+      let r = N.by_appearance (side_cell x.vertex X.0) m n (cell-number x n X) (omega arith) h in
       before x m X.0 X.1 l r.0.row r.0.column r.1 r.2
 
   -- THE NUMBERS OF THE ROWS AFTER THE FIRST ARE THOSE OF THE VOLUMES

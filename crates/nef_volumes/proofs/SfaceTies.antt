@@ -24,14 +24,14 @@ use Rattle.nef_classes.specs.declared.table.Cell.{Cell}
 use Rattle.nef_classes.specs.declared.table.Tie.{Tie}
 use Rattle.law_links.specs.Links.{LinkInSface}
 use Rattle.nef_ties.specs.Ties.{Adds, Any}
-use Rattle.nef_volumes.specs.Ties.{side_spot, IsSpotOf, IsEndOf, AreTiedSides, AreTiesOf}
+use Rattle.nef_volumes.specs.Ties.{side_cell, IsCellOf, IsEndOf, AreTiedSides, AreTiesOf}
 use Rattle.nef_volumes.specs.Ties.{tie_within, IsFirstPlace, IsTieNumbered, AreInOneSface, IsTieInSface, AddsInSfaces}
 use Rattle.nef_complex.specs.Complexes.{vertex_of, complex_of}
 use Rattle.nef_complex.specs.declared.complex.Complex.{Complex as ProgramComplex}
 use Rattle.nef_complex.specs.declared.complex.Vertex.{Vertex as ProgramVertex}
 use Rattle.nef_ties.proofs.Adding.{adds-one, adds-none}
 use Rattle.nef_volumes.proofs.ReadVertex.{vertex-there, vertex-read}
-use Rattle.nef_volumes.proofs.SideSpots.{tie-chain, more-tied, spot-is, spot-numbered}
+use Rattle.nef_volumes.proofs.SideCells.{tie-chain, more-tied, cell-is, cell-numbered}
 
 -- ---- chains of numbers and of sides
 module _ (M : Map) where
@@ -67,7 +67,7 @@ module _ (M : Map) where
 -- the ties of the first n vertices' sfaces
 pub record AreTiedBelow (C : Complex) (n : ℕ) (ts : List Tie) : Type 0 where
   pub only : (t : Tie) → Contains ts t → Any (IsTieInSface C) t
-  pub tied : (i r s : ℕ) → i < n → AreInOneSface C i r s → Chained (AreTied ts) (side_spot i r) (side_spot i s)
+  pub tied : (i r s : ℕ) → i < n → AreInOneSface C i r s → Chained (AreTied ts) (side_cell i r) (side_cell i s)
 
 pub below-none : (C : Complex) (ts : List Tie) → ts ≡ [] → AreTiedBelow C 0 ts
 below-none C ts e = record {
@@ -79,8 +79,8 @@ pub below-more : (C : Complex) (n : ℕ) (ts us : List Tie) → AreTiedBelow C n
 below-more C n ts us B A = record {
   only = λ t c. ⊎_elim (λ h. B.only t h) (λ h. (n, h)) (A.added t c);
   tied = λ i r s l h. ⊎_elim
-      (λ m. more-tied ts us A.kept (side_spot i r) (side_spot i s) (B.tied i r s m h))
-      (λ e. subst (λ (k : ℕ). Chained (AreTied us) (side_spot k r) (side_spot k s)) (sym e) (A.tied r s (subst (λ (k : ℕ). AreInOneSface C k r s) e h)))
+      (λ m. more-tied ts us A.kept (side_cell i r) (side_cell i s) (B.tied i r s m h))
+      (λ e. subst (λ (k : ℕ). Chained (AreTied us) (side_cell k r) (side_cell k s)) (sym e) (A.tied r s (subst (λ (k : ℕ). AreInOneSface C k r s) e h)))
       (less-or-last i n l);
 }
 
@@ -97,8 +97,8 @@ module _ (C : Complex) (n : ℕ) (ts : List Tie) (B : AreTiedBelow C n ts) (whol
       let y : VertexSide = record { vertex = i; side = p } in (
         x,
         y,
-        inl (subst (IsSpotOf C x) (sym (ap (λ (u : Tie). u.first) e)) (spot-numbered C i r v o k a ho (number-one v.map r o k g.1))),
-        inl (subst (IsSpotOf C y) (sym (ap (λ (u : Tie). u.second) e)) (spot-numbered C i s v p q a hp (number-one v.map s p q h.1))),
+        inl (subst (IsCellOf C x) (sym (ap (λ (u : Tie). u.first) e)) (cell-numbered C i r v o k a ho (number-one v.map r o k g.1))),
+        inl (subst (IsCellOf C y) (sym (ap (λ (u : Tie). u.second) e)) (cell-numbered C i s v p q a hp (number-one v.map s p q h.1))),
         record {
           vertex = v;
           is_vertex = a;
@@ -124,11 +124,11 @@ module _ (C : Complex) (n : ℕ) (ts : List Tie) (B : AreTiedBelow C n ts) (whol
       let e = L.one_vertex in
       let b = subst (λ (k : ℕ). At C.vertices k v) (sym e) L.is_vertex in
       let d = B.tied x.vertex r s (whole x.vertex v L.is_vertex) (v, L.is_vertex, within M x.side L.one L.has, within M y.side L.other L.has_other, c) in (
-        side_spot x.vertex r,
-        side_spot y.vertex s,
-        spot-is C x v L.one L.is_vertex L.has,
-        spot-is C y v L.other b L.has_other,
-        subst (λ (k : ℕ). Chained (AreTied ts) (side_spot x.vertex r) (side_spot k s)) (sym e) d,
+        side_cell x.vertex r,
+        side_cell y.vertex s,
+        cell-is C x v L.one L.is_vertex L.has,
+        cell-is C y v L.other b L.has_other,
+        subst (λ (k : ℕ). Chained (AreTied ts) (side_cell x.vertex r) (side_cell k s)) (sym e) d,
       )
 
   -- THE SIDES OF EACH SFACE ARE TIED
@@ -167,7 +167,7 @@ first-taken ns s n r f =
 
 -- ---- the ties of a side
 module _ (i s : ℕ) (ns : List ℕ) (n : ℕ) (at_s : IsAt ns s n) (ts : List Tie) where
-  pub numbered-added : (r : ℕ) → IsFirstPlace (take s ns) n r → (a b : Cell) → a ≡ side_spot i r → b ≡ side_spot i s
+  pub numbered-added : (r : ℕ) → IsFirstPlace (take s ns) n r → (a b : Cell) → a ≡ side_cell i r → b ≡ side_cell i s
       → Adds (Any (IsTieNumbered i ns s)) ts (ts ++ record { first = a; second = b } ∷ [])
   numbered-added r f a b e g =
       let t : Tie = record { first = a; second = b } in
@@ -191,15 +191,15 @@ module _ (c : ProgramComplex) (i : ℕ) (u : ProgramVertex) (e : slice_get c.ver
       let q = is-at_within ns s n h in
       (r, s, (vertex_of u, vertex-there c i u e, omega (arith, m, p), omega (arith, m, q), (F.numbered.by_class r s n n f.0 h).0 refl), w)
 
-  to-first : (n f k : ℕ) → IsFirstPlace ns n f → IsAt ns k n → Chained (AreTied ys) (side_spot i f) (side_spot i k)
+  to-first : (n f k : ℕ) → IsFirstPlace ns n f → IsAt ns k n → Chained (AreTied ys) (side_cell i f) (side_cell i k)
   to-first n f k p a = by (cases_order f k)
     where
-      by : (f ≡ k) ⊎ ((f < k) ⊎ (k < f)) → Chained (AreTied ys) (side_spot i f) (side_spot i k)
-      by (inl o) = subst (λ (j : ℕ). Chained (AreTied ys) (side_spot i f) (side_spot i j)) o (chain-here (AreTied ys) (side_spot i f))
-      by (inr (inl l)) = tie-chain ys (tie_within i f k) (side_spot i f) (side_spot i k) (A.all (tie_within i f k) (k, (f, (l, n, p, a, refl)))) refl refl
+      by : (f ≡ k) ⊎ ((f < k) ⊎ (k < f)) → Chained (AreTied ys) (side_cell i f) (side_cell i k)
+      by (inl o) = subst (λ (j : ℕ). Chained (AreTied ys) (side_cell i f) (side_cell i j)) o (chain-here (AreTied ys) (side_cell i f))
+      by (inr (inl l)) = tie-chain ys (tie_within i f k) (side_cell i f) (side_cell i k) (A.all (tie_within i f k) (k, (f, (l, n, p, a, refl)))) refl refl
       by (inr (inr l)) = absurd (p.1 k l a)
 
-  tied : (r s : ℕ) → AreInOneSface (complex_of c) i r s → Chained (AreTied ys) (side_spot i r) (side_spot i s)
+  tied : (r s : ℕ) → AreInOneSface (complex_of c) i r s → Chained (AreTied ys) (side_cell i r) (side_cell i s)
   tied r s (v, a, l, m, ch) =
       let one = vertex-read c i u v e a in
       let many = F.as_many in
@@ -209,8 +209,8 @@ module _ (c : ProgramComplex) (i : ℕ) (u : ProgramVertex) (e : slice_get c.ver
       let h = is-at_some ns s (omega (arith, many, m')) in
       let same = (F.numbered.by_class r s g.0 h.0 g.1 h.1).1 (subst (λ (x : Vertex). Chained (SeeOneWay x.map) r s) one ch) in
       let f = first-place ns g.0 r g.1 in
-      chain-trans (AreTied ys) (side_spot i r) (side_spot i f.0) (side_spot i s)
-      (chain-turned (AreTied ys) (side_spot i f.0) (side_spot i r) (to-first g.0 f.0 r f.1 g.1))
+      chain-trans (AreTied ys) (side_cell i r) (side_cell i f.0) (side_cell i s)
+      (chain-turned (AreTied ys) (side_cell i f.0) (side_cell i r) (to-first g.0 f.0 r f.1 g.1))
       (to-first g.0 f.0 s f.1 (subst (IsAt ns s) (sym same) h.1))
 
   pub numbered-sface : AddsInSfaces (complex_of c) i xs ys

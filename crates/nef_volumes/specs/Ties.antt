@@ -21,28 +21,28 @@ abbrev pub Finds : {X : Type 0} → Option X → (X → Type 0) → Type 0
 Finds {X} found P = MatchOption found ((x : X) → P x → ⊥) P
 
 -- the element of the outside, alone in the first row
-abbrev pub outside_spot : Cell
-outside_spot = record { row = 0; column = 0 }
+abbrev pub outside_cell : Cell
+outside_cell = record { row = 0; column = 0 }
 
 -- the element of side number s of vertex i; the vertices' rows come after that of the outside
-abbrev pub side_spot : ℕ → ℕ → Cell
-side_spot i s = record { row = i + 1; column = s }
+abbrev pub side_cell : ℕ → ℕ → Cell
+side_cell i s = record { row = i + 1; column = s }
 
 -- how many elements the rows have
 abbrev pub row_counts : Complex → List ℕ
 row_counts C = 1 ∷ map count_sides C.vertices
 
 -- the element is that of the side
-pub record IsSpotOf (C : Complex) (x : VertexSide) (a : Cell) : Type 0 where
+pub record IsCellOf (C : Complex) (x : VertexSide) (a : Cell) : Type 0 where
   pub vertex : Vertex
   pub is_vertex : At C.vertices x.vertex vertex
   pub label : Label
   pub has : HasSide vertex.map x.side label
-  pub is_spot : a ≡ side_spot x.vertex (number_of vertex.map x.side)
+  pub is_cell : a ≡ side_cell x.vertex (number_of vertex.map x.side)
 
 -- the element is that of the side, or the side is outside and the element is that of the outside
 abbrev pub IsEndOf : Complex → VertexSide → Cell → Type 0
-IsEndOf C x a = IsSpotOf C x a ⊎ ((a ≡ outside_spot) × HasSideLabel C x Out)
+IsEndOf C x a = IsCellOf C x a ⊎ ((a ≡ outside_cell) × HasSideLabel C x Out)
 
 -- each tie joins elements of linked sides
 abbrev pub AreLinks : Complex → (VertexSide → VertexSide → Type 0) → List Tie → Type 0
@@ -50,7 +50,7 @@ AreLinks C Link ts = (t : Tie) → Contains ts t → (x : VertexSide) × (y : Ve
 
 -- ties lead from the element of one side to that of the other
 abbrev pub AreTiedSides : Complex → List Tie → VertexSide → VertexSide → Type 0
-AreTiedSides C ts x y = (a : Cell) × (b : Cell) × IsSpotOf C x a × IsSpotOf C y b × Chained (AreTied ts) a b
+AreTiedSides C ts x y = (a : Cell) × (b : Cell) × IsCellOf C x a × IsCellOf C y b × Chained (AreTied ts) a b
 
 -- the ties join elements of linked sides, and lead to each linked side
 pub record AreTiesOf (C : Complex) (Link : VertexSide → VertexSide → Type 0) (ts : List Tie) : Type 0 where
@@ -64,12 +64,12 @@ HasNumber C i s l = (v : Vertex) × (o : Side) × At C.vertices i v × IsSide v.
 
 -- the tie joins the outside with side s of vertex i, which has the label Out
 abbrev pub IsTieOutside : Complex → ℕ → ℕ → Tie → Type 0
-IsTieOutside C i s t = HasNumber C i s Out × (t ≡ record { first = outside_spot; second = side_spot i s })
+IsTieOutside C i s t = HasNumber C i s Out × (t ≡ record { first = outside_cell; second = side_cell i s })
 
 -- ---- sfaces
 -- the tie of sides r and s of vertex i
 abbrev pub tie_within : ℕ → ℕ → ℕ → Tie
-tie_within i r s = record { first = side_spot i r; second = side_spot i s }
+tie_within i r s = record { first = side_cell i r; second = side_cell i s }
 
 -- r is the first place of the number
 abbrev pub IsFirstPlace : List ℕ → ℕ → ℕ → Type 0
@@ -91,7 +91,7 @@ IsTieInSface C i t = (r : ℕ) × (s : ℕ) × AreInOneSface C i r s × (t ≡ t
 pub record AddsInSfaces (C : Complex) (i : ℕ) (ts us : List Tie) : Type 0 where
   pub kept : (t : Tie) → Contains ts t → Contains us t
   pub added : (t : Tie) → Contains us t → Contains ts t ⊎ IsTieInSface C i t
-  pub tied : (r s : ℕ) → AreInOneSface C i r s → Chained (AreTied us) (side_spot i r) (side_spot i s)
+  pub tied : (r s : ℕ) → AreInOneSface C i r s → Chained (AreTied us) (side_cell i r) (side_cell i s)
 
 -- ---- sides of items
 abbrev pub side_at : Bool → ℕ → Side
@@ -99,7 +99,7 @@ side_at above k = cond above (above_item k) (below_item k)
 
 -- the element is that of the upper or the lower side of the item
 abbrev pub IsItemSide : Complex → Bool → Cell → Cell → Type 0
-IsItemSide C above x a = (v : Vertex) × At C.vertices x.row v × (a ≡ side_spot x.row (number_of v.map (side_at above x.column)))
+IsItemSide C above x a = (v : Vertex) × At C.vertices x.row v × (a ≡ side_cell x.row (number_of v.map (side_at above x.column)))
 
 -- the tie joins the upper, or the lower, sides of the items that the other tie joins
 abbrev pub IsSideTie : Complex → Bool → Tie → Tie → Type 0
@@ -129,13 +129,13 @@ abbrev pub HasSvertex : Complex → ℕ → ℕ → Type 0
 HasSvertex C i k = (v : Vertex) × (u : Svertex) × At C.vertices i v × At v.map.svertices k u
 
 -- the element is that of the side round svertex k of vertex i
-abbrev pub IsAroundSpot : Complex → ℕ → ℕ → Cell → Type 0
-IsAroundSpot C i k a = (v : Vertex) × (u : Svertex) × (l : Label) × At C.vertices i v × At v.map.svertices k u × (u.around ≡ Some l)
-    × (a ≡ side_spot i (number_of v.map (around_svertex k)))
+abbrev pub IsAroundCell : Complex → ℕ → ℕ → Cell → Type 0
+IsAroundCell C i k a = (v : Vertex) × (u : Svertex) × (l : Label) × At C.vertices i v × At v.map.svertices k u × (u.around ≡ Some l)
+    × (a ≡ side_cell i (number_of v.map (around_svertex k)))
 
 -- the tie joins the sides round the ends of edge k
 abbrev pub IsTieOfEnds : Complex → ℕ → Tie → Type 0
-IsTieOfEnds C k t = (e : Edge) × At C.edges k e × IsAroundSpot C e.low e.low_svertex t.first × IsAroundSpot C e.high e.high_svertex t.second
+IsTieOfEnds C k t = (e : Edge) × At C.edges k e × IsAroundCell C e.low e.low_svertex t.first × IsAroundCell C e.high e.high_svertex t.second
 
 -- ---- rays down
 -- the side lies above the point where the ray down from vertex i ends
@@ -144,7 +144,7 @@ IsBelow C i x = (v : Vertex) × At C.vertices i v × RayDown C v.point x
 
 -- the tie joins a side of vertex i with a side that the link down the ray joins with it
 abbrev pub IsTieDown : Complex → ℕ → Tie → Type 0
-IsTieDown C i t = (x : VertexSide) × (y : VertexSide) × (x.vertex ≡ i) × IsSpotOf C x t.first × IsSpotOf C y t.second × LinkDown C x y
+IsTieDown C i t = (x : VertexSide) × (y : VertexSide) × (x.vertex ≡ i) × IsCellOf C x t.first × IsCellOf C y t.second × LinkDown C x y
 
 -- no side of vertex i has a link down
 abbrev pub HasNoLinkDown : Complex → ℕ → Type 0
@@ -156,8 +156,8 @@ pub record AreTiesDown (C : Complex) (ts : List Tie) : Type 0 where
   pub all : (x y : VertexSide) → LinkDown C x y → (t : Tie) × Contains ts t × IsTieDown C x.vertex t
 
 -- the element is that of a side above the point where the ray down from vertex i ends
-abbrev pub IsSpotBelow : Complex → ℕ → Cell → Type 0
-IsSpotBelow C i a = (x : VertexSide) × IsSpotOf C x a × IsBelow C i x
+abbrev pub IsFloorCell : Complex → ℕ → Cell → Type 0
+IsFloorCell C i a = (x : VertexSide) × IsCellOf C x a × IsBelow C i x
 
 -- ---- all together
 -- the ties of the sides of items that are linked along edges or across facets
@@ -169,4 +169,4 @@ AreItemTies C ts = AreTiesOf C (LinkOfItems C (LinkOfFacets C)) ts
 
 -- ties lead from the outside to each side that has the label Out
 abbrev pub AreTiedOutside : Complex → List Tie → Type 0
-AreTiedOutside C ts = (x : VertexSide) → HasSideLabel C x Out → (a : Cell) × IsSpotOf C x a × Chained (AreTied ts) outside_spot a
+AreTiedOutside C ts = (x : VertexSide) → HasSideLabel C x Out → (a : Cell) × IsCellOf C x a × Chained (AreTied ts) outside_cell a

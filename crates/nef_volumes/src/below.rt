@@ -8,11 +8,11 @@ ghost use Rattle.nef_smap.specs.Maps.{map_of, IsSphereMap};
 ghost use Rattle.nef_smap.specs.Sides.{SideSees};
 ghost use Rattle.law_complex.specs.Rays.{VertexSide};
 ghost use Rattle.nef_complex.specs.Complexes.{complex_of, ShowsSet};
-ghost use Rattle.nef_volumes.specs.Ties.{IsBelow, IsSpotBelow, HasNoLinkDown, IsTieDown, AreTiesDown};
+ghost use Rattle.nef_volumes.specs.Ties.{IsBelow, IsFloorCell, HasNoLinkDown, IsTieDown, AreTiesDown};
 
 use crate::OutOfMemory;
+use crate::cells::cell;
 use crate::outside::is_outside;
-use crate::spots::spot;
 use nef_classes::{Cell, Tie};
 use nef_complex::Complex;
 use nef_geo::up;
@@ -34,14 +34,14 @@ fn side_downward(map: &SphereMap) -> usize
 }
 
 // The element of the side above what the ray down from the vertex first meets.
-fn spot_below(c: &Complex, vertex: usize) -> Option<Cell>
+fn floor_cell(c: &Complex, vertex: usize) -> Option<Cell>
     requires shows { (s : Set) × ShowsSet s c.now }
     requires within { vertex < length c.now.vertices }
-    ensures below { MatchOption result ((x : VertexSide) → IsBelow (complex_of c.now) vertex x → ⊥) (IsSpotBelow (complex_of c.now) vertex) }
+    ensures below { MatchOption result ((x : VertexSide) → IsBelow (complex_of c.now) vertex x → ⊥) (IsFloorCell (complex_of c.now) vertex) }
 {
     let floor = first_hit(c, &c.vertices.at(vertex).point, &up().back())?;
     match side_above(c, &floor) {
-        Place::InVolume { vertex, side } => Some(spot(c, vertex, side)),
+        Place::InVolume { vertex, side } => Some(cell(c, vertex, side)),
         Place::Vertex(_) => unreachable!(),
         Place::OnEdge(_) => unreachable!(),
         Place::InFacet(_) => unreachable!(),
@@ -59,8 +59,8 @@ fn down_tie(c: &Complex, vertex: usize) -> Option<Tie>
     if is_outside(map, side) {
         return None;
     }
-    let second = spot_below(c, vertex)?;
-    let first = spot(c, vertex, side);
+    let second = floor_cell(c, vertex)?;
+    let first = cell(c, vertex, side);
     Some(Tie { first, second })
 }
 

@@ -3,23 +3,23 @@
 ghost use Rattle.std.specs.Prelude.{◌<◌, length, IfOk};
 ghost use Rattle.nef_space.specs.Sets.{Set};
 ghost use Rattle.nef_complex.specs.Complexes.{complex_of, ShowsSet};
-ghost use Rattle.nef_volumes.specs.Ties.{AreTiesOf, Finds, HasSvertex, IsAroundSpot, IsTieOfEnds, LinkOfEnds};
+ghost use Rattle.nef_volumes.specs.Ties.{AreTiesOf, Finds, HasSvertex, IsAroundCell, IsTieOfEnds, LinkOfEnds};
 
 use crate::OutOfMemory;
-use crate::spots::spot;
+use crate::cells::cell;
 use nef_classes::{Cell, Tie};
 use nef_complex::Complex;
 use std::alloc::Global;
 
 // The element of the side round the svertex of the vertex.
-fn around_spot(c: &Complex, vertex: usize, svertex: usize) -> Option<Cell>
+fn around_cell(c: &Complex, vertex: usize, svertex: usize) -> Option<Cell>
     requires within { vertex < length c.now.vertices }
     requires svertex { HasSvertex (complex_of c.now) vertex svertex }
-    ensures spot { Finds result (IsAroundSpot (complex_of c.now) vertex svertex) }
+    ensures cell { Finds result (IsAroundCell (complex_of c.now) vertex svertex) }
 {
     let map = &c.vertices.at(vertex).map;
     match map.svertices.at(svertex).around {
-        Some(_) => Some(spot(c, vertex, map.around_side(svertex))),
+        Some(_) => Some(cell(c, vertex, map.around_side(svertex))),
         None => None,
     }
 }
@@ -31,8 +31,8 @@ fn ends_tie(c: &Complex, number: usize) -> Option<Tie>
     ensures tie { Finds result (IsTieOfEnds (complex_of c.now) number) }
 {
     let edge = c.edges.at(number);
-    let first = around_spot(c, edge.low, edge.low_svertex)?;
-    let second = around_spot(c, edge.high, edge.high_svertex)?;
+    let first = around_cell(c, edge.low, edge.low_svertex)?;
+    let second = around_cell(c, edge.high, edge.high_svertex)?;
     Some(Tie { first, second })
 }
 

@@ -8,19 +8,19 @@ ghost use Rattle.nef_classes.specs.Tables.{IsCellIn, AreTiedWithin};
 ghost use Rattle.nef_volumes.specs.Ties.{AreTiesOf, AreTiedCorners, IsItemSide, IsSideTie, LinkOfItems};
 
 use crate::OutOfMemory;
-use crate::spots::spot;
+use crate::cells::cell;
 use nef_classes::{Cell, Tie};
 use nef_complex::Complex;
 use std::alloc::Global;
 
 // The element of a side of the item: of that to which its normal points, or of the other.
-fn item_spot(c: &Complex, item: &Cell, above: bool) -> Cell
+fn item_cell(c: &Complex, item: &Cell, above: bool) -> Cell
     requires shows { (s : Set) × ShowsSet s c.now }
     requires within { IsCellIn (map count_items (complex_of c.now).vertices) item.now }
-    ensures spot { IsItemSide (complex_of c.now) above item.now result }
+    ensures cell { IsItemSide (complex_of c.now) above item.now result }
 {
     let map = &c.vertices.at(item.row).map;
-    spot(c, item.row, map.item_side(item.column, above))
+    cell(c, item.row, map.item_side(item.column, above))
 }
 
 // The tie of the upper, or of the lower, sides of two tied items.
@@ -31,8 +31,8 @@ fn side_tie(c: &Complex, tie: &Tie, above: bool) -> Tie
     ensures tie { IsSideTie (complex_of c.now) above tie.now result }
 {
     Tie {
-        first: item_spot(c, &tie.first, above),
-        second: item_spot(c, &tie.second, above),
+        first: item_cell(c, &tie.first, above),
+        second: item_cell(c, &tie.second, above),
     }
 }
 

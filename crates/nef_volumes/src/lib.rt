@@ -8,6 +8,7 @@
 
 mod all;
 mod below;
+mod cells;
 mod connected;
 mod edges;
 mod items;
@@ -16,7 +17,6 @@ mod links;
 mod numbers;
 mod outside;
 mod sface;
-mod spots;
 
 pub use all::parts;
 pub use connected::joined;

@@ -11,7 +11,7 @@ ghost use Rattle.nef_ties.specs.Ties.{Adds, Any};
 ghost use Rattle.nef_volumes.specs.Ties.{AreTiesOf, AreTiedOutside, IsTieOutside};
 
 use crate::OutOfMemory;
-use crate::spots::{outside, spot};
+use crate::cells::{cell, outside};
 use nef_classes::Tie;
 use nef_complex::Complex;
 use nef_geo::Label;
@@ -37,7 +37,7 @@ fn add_outside_sides(ties: &mut Vec<Tie>, c: &Complex, vertex: usize) -> Result<
         if is_outside(map, side) {
             ties.push(Tie {
                 first: outside(),
-                second: spot(c, vertex, side),
+                second: cell(c, vertex, side),
             })?;
         }
     }

@@ -9,7 +9,7 @@ ghost use Rattle.nef_ties.specs.Ties.{Adds, Any};
 ghost use Rattle.nef_volumes.specs.Ties.{AreTiesOf, IsFirstPlace, IsTieNumbered, AddsInSfaces};
 
 use crate::OutOfMemory;
-use crate::spots::spot;
+use crate::cells::cell;
 use nef_classes::Tie;
 use nef_complex::Complex;
 use nef_smap::sfaces;
@@ -36,8 +36,8 @@ fn add_first(
 {
     if let Some(first) = first_place(&numbers[..side], numbers[side]) {
         ties.push(Tie {
-            first: spot(c, vertex, first),
-            second: spot(c, vertex, side),
+            first: cell(c, vertex, first),
+            second: cell(c, vertex, side),
         })?;
     }
     Ok(())

@@ -27,5 +27,5 @@ returns-in_err-second c = record {
 pub returns : goal.returns
 returns c = record {
   tie = tie-down c.requires.shows.0 c.args.c.now c.requires.shows.1 c.args.vertex c.at.result.now c.at.ensures.element c.side_downward-side.result c.side_downward-side.ensures.side
-      (λ p. not_true (sym c.if-is_outside.false ∙ c.is_outside.ensures.out.1 p)) c.spot-first.result c.in_ok-second.second c.spot-first.ensures.spot c.in_ok-second.ensures.below;
+      (λ p. not_true (sym c.if-is_outside.false ∙ c.is_outside.ensures.out.1 p)) c.cell-first.result c.in_ok-second.second c.cell-first.ensures.cell c.in_ok-second.ensures.below;
 }

@@ -4,7 +4,7 @@ use Rattle.nef_classes.specs.declared.table.Tie.{Tie}
 use Rattle.nef_complex.specs.Complexes.{complex_of}
 use Rattle.law_links.specs.Links.{VolumeLink}
 use Rattle.nef_volumes.specs.Ties.{row_counts}
-use Rattle.nef_volumes.proofs.SideSpots.{ties-within}
+use Rattle.nef_volumes.proofs.SideCells.{ties-within}
 use Rattle.nef_volumes.proofs.SideLabels.{upright}
 use Rattle.nef_volumes.proofs.RowNumbers.{rest-numbered}
 use Rattle.nef_volumes.proofs.numbers.volume_numbers.Goals as goal

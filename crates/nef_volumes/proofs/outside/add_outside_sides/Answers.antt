@@ -22,7 +22,7 @@ loop-side-preserved c =
     any-next (IsTieOutside (complex_of C) i) s c.args.ties.now.items now c.if-is_outside.ties.items c.loop-side.invariant
     (elim c.if-is_outside.branch [
       | then-is_outside+in_ok-push w ↦ subst (λ (ts : List Tie). Adds (IsTieOutside (complex_of C) i s) now ts) (sym (ap (λ v. v.items) w.ties-is ∙ w.in_ok-push.ensures.items))
-          (outside-added C i s u c.at.ensures.element now (c.is_outside.ensures.out.0 w.if-is_outside.true) w.outside.result w.spot.result w.outside.ensures.outside w.spot.ensures.spot)
+          (outside-added C i s u c.at.ensures.element now (c.is_outside.ensures.out.0 w.if-is_outside.true) w.outside.result w.cell.result w.outside.ensures.outside w.cell.ensures.cell)
       | else-is_outside w ↦ subst (λ (ts : List Tie). Adds (IsTieOutside (complex_of C) i s) now ts) (sym (ap (λ v. v.items) w.ties-is))
           (outside-none C i s u c.at.ensures.element now (λ p. not_true (sym w.if-is_outside.false ∙ c.is_outside.ensures.out.1 p)))
     ])

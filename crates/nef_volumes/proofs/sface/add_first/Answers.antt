@@ -12,10 +12,10 @@ returns-in_ok-push c =
     let now = c.args.ties.now.items in
     let at_s = is-at_get ns s 0 c.requires.within in
     let first = c.in-Some.ensures.place in
-    let a = c.spot.ensures.spot in let b = c.spot-in-Some.ensures.spot in
+    let a = c.cell.ensures.cell in let b = c.cell-in-Some.ensures.cell in
     record {
       added = subst (λ (ts : List Tie). Adds (Any (IsTieNumbered i ns s)) now ts) (sym c.in_ok-push.ensures.items)
-          (numbered-added i s ns (get_or ns s 0) at_s now c.in-Some.first first c.spot.result c.spot-in-Some.result a b);
+          (numbered-added i s ns (get_or ns s 0) at_s now c.in-Some.first first c.cell.result c.cell-in-Some.result a b);
     }
 
 pub returns-in_default : goal.returns-in_default

@@ -20,7 +20,7 @@ use Rattle.nef_classes.specs.declared.table.Cell.{Cell}
 use Rattle.nef_classes.specs.declared.table.Tie.{Tie}
 use Rattle.law_links.specs.Links.{VolumeLink}
 use Rattle.nef_parts.specs.Numbers.{count_sides}
-use Rattle.nef_volumes.specs.Ties.{outside_spot, side_spot, row_counts, IsSpotOf, IsEndOf, AreLinks, AreTiedSides, AreTiesOf}
+use Rattle.nef_volumes.specs.Ties.{outside_cell, side_cell, row_counts, IsCellOf, IsEndOf, AreLinks, AreTiedSides, AreTiesOf}
 use Rattle.nef_volumes.proofs.Agree.{chains-agree}
 
 -- ---- ties of a list
@@ -47,22 +47,22 @@ module _ (C : Complex) where
   links-as Link Other ts f g t c = let r = g t c in (r.0, r.1, r.2, r.3, f r.0 r.1 r.4)
 
   -- ---- the element of a side
-  pub spot-is : (x : VertexSide) (v : Vertex) (l : Label) → At C.vertices x.vertex v → HasSide v.map x.side l → IsSpotOf C x (side_spot x.vertex (number_of v.map x.side))
-  spot-is x v l a h = record { vertex = v; is_vertex = a; label = l; has = h; is_spot = refl }
+  pub cell-is : (x : VertexSide) (v : Vertex) (l : Label) → At C.vertices x.vertex v → HasSide v.map x.side l → IsCellOf C x (side_cell x.vertex (number_of v.map x.side))
+  cell-is x v l a h = record { vertex = v; is_vertex = a; label = l; has = h; is_cell = refl }
 
   -- that with this number
-  pub spot-numbered : (i s : ℕ) (v : Vertex) (o : Side) (l : Label) → At C.vertices i v → HasSide v.map o l → s ≡ number_of v.map o → IsSpotOf C (record { vertex = i; side = o }) (side_spot i s)
-  spot-numbered i s v o l a h e = record { vertex = v; is_vertex = a; label = l; has = h; is_spot = ap (side_spot i) e }
+  pub cell-numbered : (i s : ℕ) (v : Vertex) (o : Side) (l : Label) → At C.vertices i v → HasSide v.map o l → s ≡ number_of v.map o → IsCellOf C (record { vertex = i; side = o }) (side_cell i s)
+  cell-numbered i s v o l a h e = record { vertex = v; is_vertex = a; label = l; has = h; is_cell = ap (side_cell i) e }
 
-  pub one-spot : (x : VertexSide) (a b : Cell) → IsSpotOf C x a → IsSpotOf C x b → a ≡ b
-  one-spot x a b A B = A.is_spot ∙ ap (λ (v : Vertex). side_spot x.vertex (number_of v.map x.side)) (at-one C.vertices x.vertex A.vertex B.vertex A.is_vertex B.is_vertex) ∙ sym B.is_spot
+  pub one-cell : (x : VertexSide) (a b : Cell) → IsCellOf C x a → IsCellOf C x b → a ≡ b
+  one-cell x a b A B = A.is_cell ∙ ap (λ (v : Vertex). side_cell x.vertex (number_of v.map x.side)) (at-one C.vertices x.vertex A.vertex B.vertex A.is_vertex B.is_vertex) ∙ sym B.is_cell
 
   same-side : (i j : ℕ) (o p : Side) → i ≡ j → o ≡ p → ◌≡◌ {A = VertexSide} (record { vertex = i; side = o }) (record { vertex = j; side = p })
   same-side i j o p e f = cc
 
-  pub one-side : (x y : VertexSide) (a : Cell) → IsSpotOf C x a → IsSpotOf C y a → x ≡ y
+  pub one-side : (x y : VertexSide) (a : Cell) → IsCellOf C x a → IsCellOf C y a → x ≡ y
   one-side x y a A B =
-      let e = sym A.is_spot ∙ B.is_spot in
+      let e = sym A.is_cell ∙ B.is_cell in
       let r : x.vertex + 1 ≡ y.vertex + 1 = ap (λ (s : Cell). s.row) e in
       let i : x.vertex ≡ y.vertex = omega (arith, r) in
       let n : number_of A.vertex.map x.side ≡ number_of B.vertex.map y.side = ap (λ (s : Cell). s.column) e in
@@ -73,8 +73,8 @@ module _ (C : Complex) where
       let p = is-at_one (sides_of A.vertex.map) (number_of A.vertex.map x.side) (x.side, A.label) (y.side, B.label) g (subst (λ (k : ℕ). IsSide A.vertex.map k y.side B.label) m h) in
       same-side x.vertex y.vertex x.side y.side i (ap (λ (q : LabelledSide). q.0) p)
 
-  pub not-outside : (x : VertexSide) (a : Cell) → IsSpotOf C x a → a ≡ outside_spot → ⊥
-  not-outside x a A e = let r : x.vertex + 1 ≡ 0 = ap (λ (s : Cell). s.row) (sym A.is_spot ∙ e) in omega (arith, r)
+  pub not-outside : (x : VertexSide) (a : Cell) → IsCellOf C x a → a ≡ outside_cell → ⊥
+  not-outside x a A e = let r : x.vertex + 1 ≡ 0 = ap (λ (s : Cell). s.row) (sym A.is_cell ∙ e) in omega (arith, r)
 
   -- ---- chains of ties are chains of links
   end-one : (a : Cell) (x y : VertexSide) → IsEndOf C x a → IsEndOf C y a → Chained (VolumeLink C) x y
@@ -92,14 +92,14 @@ module _ (C : Complex) where
     pub ends-linked : (a b : Cell) (x y : VertexSide) → Chained (AreTied ts) a b → IsEndOf C x a → IsEndOf C y b → Chained (VolumeLink C) x y
     ends-linked a b x y c f g = chains-agree (AreTied ts) (VolumeLink C) (λ s z. IsEndOf C z s) end-one link-of a b x y c f g
 
-    spot-one : (x : VertexSide) (a b : Cell) → IsSpotOf C x a → IsSpotOf C x b → Chained (AreTied ts) a b
-    spot-one x a b f g = subst (λ (s : Cell). Chained (AreTied ts) a s) (one-spot x a b f g) (chain-here (AreTied ts) a)
+    cell-one : (x : VertexSide) (a b : Cell) → IsCellOf C x a → IsCellOf C x b → Chained (AreTied ts) a b
+    cell-one x a b f g = subst (λ (s : Cell). Chained (AreTied ts) a s) (one-cell x a b f g) (chain-here (AreTied ts) a)
 
-    pub sides-tied : (x y : VertexSide) (a b : Cell) → Chained (VolumeLink C) x y → IsSpotOf C x a → IsSpotOf C y b → Chained (AreTied ts) a b
-    sides-tied x y a b c f g = chains-agree (VolumeLink C) (AreTied ts) (IsSpotOf C) spot-one T.all x y a b c f g
+    pub sides-tied : (x y : VertexSide) (a b : Cell) → Chained (VolumeLink C) x y → IsCellOf C x a → IsCellOf C y b → Chained (AreTied ts) a b
+    sides-tied x y a b c f g = chains-agree (VolumeLink C) (AreTied ts) (IsCellOf C) cell-one T.all x y a b c f g
 
     -- THE CHAINS OF TIES ARE THE CHAINS OF LINKS
-    pub ties-chains : (x y : VertexSide) (a b : Cell) → IsSpotOf C x a → IsSpotOf C y b → Chained (AreTied ts) a b ↔ Chained (VolumeLink C) x y
+    pub ties-chains : (x y : VertexSide) (a b : Cell) → IsCellOf C x a → IsCellOf C y b → Chained (AreTied ts) a b ↔ Chained (VolumeLink C) x y
     ties-chains x y a b f g = (λ c. ends-linked a b x y c (inl f) (inl g), λ c. sides-tied x y a b c f g)
 
   -- ---- ties are within the table
@@ -107,7 +107,7 @@ module _ (C : Complex) where
   end-within x a (inl f) =
       let i = get-from_at (map count_sides C.vertices) x.vertex (count_sides f.vertex) (map-at count_sides C.vertices x.vertex f.vertex f.is_vertex) in
       let n = side-number f.vertex.map x.side f.label f.has in
-      subst (IsCellIn (row_counts C)) (sym f.is_spot) (record { count = count_sides f.vertex; is_row = next x.vertex (count_sides f.vertex) i; within = is-at_within (sides_of f.vertex.map) (number_of f.vertex.map x.side) (x.side, f.label) n })
+      subst (IsCellIn (row_counts C)) (sym f.is_cell) (record { count = count_sides f.vertex; is_row = next x.vertex (count_sides f.vertex) i; within = is-at_within (sides_of f.vertex.map) (number_of f.vertex.map x.side) (x.side, f.label) n })
     where
       next : (k n : ℕ) → IsAt (map count_sides C.vertices) k n → IsAt (row_counts C) (k + 1) n
       next k n i = let e : k + 1 ≡ suc k = omega arith in rw e i
