@@ -3,3 +3,4 @@ pub mod OneEnd
 pub mod Nearest
 pub mod Found
 pub mod Steps
+pub mod Listed
