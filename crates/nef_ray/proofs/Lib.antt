@@ -4,3 +4,4 @@ pub mod Nearest
 pub mod Found
 pub mod Steps
 pub mod Listed
+pub mod Nearness

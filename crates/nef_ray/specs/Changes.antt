@@ -1,5 +1,6 @@
 -- Changes of the label along a ray.
-use Rattle.std.specs.Prelude.{◌≡◌, ℕ, List, Option, Some, None}
+use Rattle.std.specs.Prelude.{◌≡◌, ℕ, ◌*ℤ◌, Bool, List, Option, Some, None}
+use Rattle.std.specs.Ordering.{int_cmp, is_lt}
 use Rattle.std.specs.List.{Contains}
 use Rattle.nef_space.specs.Limits.{ray_direction_limit, ray_point_limit, ray_weight_limit}
 use Rattle.nef_space.specs.Local.{HasLabel, Germ}
@@ -55,3 +56,7 @@ IsListed xs h = (x : Crossed) × Contains xs x × (x.plane ≡ h)
 -- each plane of the list that the ray crosses is among those crossed
 abbrev pub AreAllCrossed : List Plane → Ray → List Crossed → Type 0
 AreAllCrossed hs ray xs = (k : ℕ) (h : Plane) → At hs k h → (y : Place) → IsCrossing (place_of ray.from) (vector_of ray.along) (form_of h) y → IsListed xs h
+
+-- one crossing has the smaller step
+abbrev pub crossed_lt : Crossed → Crossed → Bool
+crossed_lt x y = is_lt (int_cmp (x.at.num *ℤ y.at.den) (y.at.num *ℤ x.at.den))

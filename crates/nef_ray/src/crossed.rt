@@ -1,7 +1,7 @@
 //! The carriers that a ray crosses, in the order of the steps at which it does.
 
-ghost use Rattle.std.specs.Prelude.{IfOk};
-ghost use Rattle.nef_ray.specs.Changes.{IsSmall, AreAllCrossed};
+ghost use Rattle.std.specs.Prelude.{IfOk, IsSortedBy};
+ghost use Rattle.nef_ray.specs.Changes.{IsSmall, AreAllCrossed, crossed_lt};
 
 use crate::OutOfMemory;
 use crate::ray::Ray;
@@ -39,6 +39,7 @@ pub(crate) fn sorted_crossed(
 ) -> Result<Vec<Crossed>, OutOfMemory>
     requires small { IsSmall ray.now }
     ensures all { IfOk result (λ v. AreAllCrossed c.now.carriers ray.now v.items) }
+    ensures sorted { IfOk result (λ v. IsSortedBy crossed_lt v.items) }
 {
     let mut crossed = all_crossed(alloc, c, ray)?;
     crossed.sort_unstable_by(|x, y| hit_order(&x.at, &y.at));
