@@ -1,5 +1,5 @@
 -- The nearest change at a crossing of a carrier is the end of the ray, and there is one.
-use Rattle.std.proofs.Common.{ℕ, Option, Some, None, ◌⊎◌, ⊎_elim, sym, subst}
+use Rattle.std.proofs.Common.{◌≡◌, ℕ, ◌<◌, ◌≤◌, List, length, Option, Some, None, ◌⊎◌, ⊎_elim, arith, sym, subst}
 use Rattle.law_arithmetic.specs.Signs.{Lies}
 use Rattle.nef_space.specs.Local.{Germ}
 use Rattle.nef_space.specs.Place.{Place, Form, InFrame, InClosedFrame}
@@ -13,17 +13,19 @@ use Rattle.nef_geo.specs.declared.plane.Plane.{Plane}
 use Rattle.law_near.specs.Cells.{carriers}
 use Rattle.law_near.proofs.Rays.{same-place_sym}
 use Rattle.law_sphere.specs.Maps.{At}
-use Rattle.nef_smap.proofs.Lists.{at-map}
+use Rattle.nef_smap.proofs.Lists.{at-map, at-within}
 use Rattle.law_complex.proofs.FacetEdges.{ahead-same}
 use Rattle.law_complex.proofs.Planes.{plane-turned, plane-point, plane-slope}
 use Rattle.law_complex.proofs.Ways.{same-itself}
 use Rattle.nef_complex.specs.declared.complex.Complex.{Complex}
 use Rattle.nef_complex.specs.Complexes.{ShowsSet}
+use Rattle.nef_ray.specs.declared.crossed.Crossed.{Crossed}
 use Rattle.nef_ray.specs.declared.nearer.Change.{Change}
 use Rattle.nef_ray.specs.declared.ray.Ray.{Ray}
-use Rattle.nef_ray.specs.Changes.{IsUnchanged, IsAlong, IsChangeOf, IsNotBefore}
+use Rattle.nef_ray.specs.Changes.{IsUnchanged, IsAlong, IsChangeOf, IsNotBefore, IsListed, AreAllCrossed}
 use Rattle.nef_ray.specs.Ends.{IsRayEnd}
 use Rattle.nef_ray.proofs.Along.{label-stays, changes-somewhere}
+use Rattle.nef_ray.proofs.Listed.{each-listed}
 
 -- at each crossing of a carrier in the closed frame nothing changes, or it doesn't lie before the change
 abbrev pub AllSeen : Set → Complex → Place → Vector → Label → Option Change → Type 0
@@ -40,6 +42,17 @@ module _ (s : Set) (c : Complex) (S : ShowsSet s c) (p : Place) (d : Vector) (m 
 
   pub end-none : InFrame p → IsDirection d → Germ s p d m → AllSeen s c p d m None → ⊥
   end-none inside some germ A = changes-somewhere s p d m inside germ some (λ f l y X i. ⊎_elim (λ u. u) (λ n. absurd n) (seen None A f l y X i))
+
+-- so it is where each crossing among those listed is so
+pub all-seen : (s : Set) (c : Complex) (ray : Ray) (best : Option Change) (xs zs : List Crossed) (n : ℕ) → zs ≡ xs → length zs ≤ n → AreAllCrossed c.carriers ray xs
+    → ((k : ℕ) (x : Crossed) → k < n → At zs k x → (y : Place) → IsCrossing (place_of ray.from) (vector_of ray.along) (form_of x.plane) y → InClosedFrame y
+    → IsUnchanged s (vector_of ray.along) ray.before y ⊎ IsNotBefore (place_of ray.from) y best)
+    → AllSeen s c (place_of ray.from) (vector_of ray.along) ray.before best
+all-seen s c ray best xs zs n e l A f k h a y X i =
+    let d = vector_of ray.along in let p = place_of ray.from in
+    each-listed (λ (g : Plane). (y : Place) → IsCrossing p d (form_of g) y → InClosedFrame y → IsUnchanged s d ray.before y ⊎ IsNotBefore p y best) zs
+    (λ j x b z Z o. let w = at-within zs j x b in f j x (omega (arith, l, w)) b z Z o) h
+    (subst (λ (vs : List Crossed). IsListed vs h) (sym e) (A k h a y X)) y X i
 
 pub end-some : (s : Set) (c : Complex) → ShowsSet s c → (ray : Ray) (x : Change) → InFrame (place_of ray.from) → Germ s (place_of ray.from) (vector_of ray.along) ray.before
     → IsAlong ray x → IsChangeOf s (vector_of ray.along) ray.before x.end → AllSeen s c (place_of ray.from) (vector_of ray.along) ray.before (Some x)

@@ -3,3 +3,5 @@ pub mod OneEnd
 pub mod Nearest
 pub mod Found
 pub mod Steps
+pub mod Listed
+pub mod Nearness

@@ -1,14 +1,19 @@
 -- Changes of the label along a ray.
-use Rattle.std.specs.Prelude.{◌≡◌, Option, Some, None}
+use Rattle.std.specs.Prelude.{◌≡◌, ℕ, ◌*ℤ◌, Bool, List, Option, Some, None}
+use Rattle.std.specs.Ordering.{int_cmp, is_lt}
+use Rattle.std.specs.List.{Contains}
 use Rattle.nef_space.specs.Limits.{ray_direction_limit, ray_point_limit, ray_weight_limit}
 use Rattle.nef_space.specs.Local.{HasLabel, Germ}
 use Rattle.nef_space.specs.Place.{Place, SamePlace, IsAhead, IsBetween}
 use Rattle.nef_space.specs.Sets.{Set}
 use Rattle.nef_space.specs.Vectors.{Vector, IsAtMost}
 use Rattle.nef_space.specs.declared.label.Label.{Label}
-use Rattle.nef_geo.specs.Hits.{IsReached, IsPlaceAtMost}
-use Rattle.nef_geo.specs.Shapes.{vector_of, place_of, hit_place}
+use Rattle.nef_geo.specs.Hits.{IsCrossing, IsReached, IsPlaceAtMost}
+use Rattle.nef_geo.specs.Shapes.{form_of, vector_of, place_of, hit_place}
 use Rattle.nef_geo.specs.declared.hit.Hit.{Hit}
+use Rattle.nef_geo.specs.declared.plane.Plane.{Plane}
+use Rattle.law_sphere.specs.Maps.{At}
+use Rattle.nef_ray.specs.declared.crossed.Crossed.{Crossed}
 use Rattle.nef_ray.specs.declared.ray.Ray.{Ray}
 use Rattle.nef_ray.specs.declared.ray.RayEnd.{RayEnd}
 use Rattle.nef_ray.specs.declared.nearer.Change.{Change}
@@ -43,3 +48,15 @@ IsSooner d q (Some x) = IsAhead (hit_place q) d (hit_place x.at)
 abbrev pub IsNotBefore : Place → Place → Option Change → Type 0
 IsNotBefore p y None = ⊥
 IsNotBefore p y (Some x) = IsBetween p y (hit_place x.at) → ⊥
+
+-- the plane is among those crossed
+abbrev pub IsListed : List Crossed → Plane → Type 0
+IsListed xs h = (x : Crossed) × Contains xs x × (x.plane ≡ h)
+
+-- each plane of the list that the ray crosses is among those crossed
+abbrev pub AreAllCrossed : List Plane → Ray → List Crossed → Type 0
+AreAllCrossed hs ray xs = (k : ℕ) (h : Plane) → At hs k h → (y : Place) → IsCrossing (place_of ray.from) (vector_of ray.along) (form_of h) y → IsListed xs h
+
+-- one crossing has the smaller step
+abbrev pub crossed_lt : Crossed → Crossed → Bool
+crossed_lt x y = is_lt (int_cmp (x.at.num *ℤ y.at.den) (y.at.num *ℤ x.at.den))

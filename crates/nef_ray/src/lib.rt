@@ -6,6 +6,7 @@
 #![tactic(auto)]
 
 mod change;
+mod crossed;
 mod crossing;
 mod laws;
 mod nearer;

@@ -12,6 +12,7 @@ ghost use Rattle.nef_ray.specs.Ends.{IsRayEnd};
 
 use crate::OutOfMemory;
 use crate::change::label_after;
+use crate::crossed::sorted_crossed;
 use crate::nearer::nearer;
 use nef_complex::Complex;
 use nef_geo::{Dir, Label, Point};
@@ -49,9 +50,11 @@ pub fn ray_end(alloc: Global, c: &Complex, p: &Point, d: &Dir) -> Result<RayEnd,
         along: *d,
         before: label_after(alloc, c, p, d)?,
     };
+    let crossed = sorted_crossed(alloc, c, &ray)?;
     let mut best = None;
-    for number in 0..c.carriers.len() {
-        best = nearer(alloc, c, &ray, c.carriers.at(number), best)?;
+    // After the first change the rest are passed over, since none of them is nearer.
+    for next in crossed.as_slice() {
+        best = nearer(alloc, c, &ray, &next.plane, best)?;
     }
     match best {
         Some(change) => Ok(change.end),

@@ -1,0 +1,6 @@
+use Rattle.nef_ray.proofs.Listed.{AreFirstCrossed}
+use Rattle.nef_ray.proofs.crossed.all_crossed.Given as goal
+
+-- the carriers so far that the ray crosses are listed
+abbrev pub invariant-loop-number : goal.invariant-loop-number
+invariant-loop-number l = record { all : AreFirstCrossed l.c.carriers l.ray l.number l.crossed.items }
