@@ -5,9 +5,9 @@ use Rattle.nef_space.specs.Vectors.{Vector, IsDirection, SameDirection, IsNormal
 use Rattle.nef_space.specs.declared.label.Label.{Label}
 use Rattle.law_sphere.specs.Vectors.{IsPrimitive, VectorBelow}
 use Rattle.law_cyclic.specs.Arcs.{IsStrictlyOn}
-use Rattle.law_sphere.specs.Maps.{At, Svertex, Arc, Loop, Map, Item, arc_item, loop_item, items, items_then, item_normal, item_above, item_mark, item_below, way_of, OnItem, IsFree, HasArc, ArcBetween, Shaped}
+use Rattle.law_sphere.specs.Maps.{At, MapVertex, Arc, MapSloop, Map, Item, arc_item, sloop_item, items, items_then, item_normal, item_pos, item_mark, item_neg, dir_of, OnItem, IsFree, HasArc, ArcBetween, Shaped}
 use Rattle.law_sphere.specs.Least.{ArcBelow, Ordered}
-use Rattle.law_border.specs.Marks.{exchanged, exchanged_svertex, exchanged_arc, exchanged_loop, exchanged_map}
+use Rattle.law_border.specs.Marks.{exchanged, exchanged_svertex, exchanged_arc, exchanged_sloop, exchanged_map}
 use Rattle.law_border.proofs.Listed.{option-was, none-was}
 use Rattle.law_build.proofs.BuiltAxes.{at-map, map-at, map-empty}
 
@@ -18,28 +18,28 @@ twice Label.In = refl
 
 abbrev pub exchanged_item : Item → Item
 exchanged_item (arc_item a) = arc_item (exchanged_arc a)
-exchanged_item (loop_item l) = loop_item (exchanged_loop l)
+exchanged_item (sloop_item l) = sloop_item (exchanged_sloop l)
 
-pub item-same : (x : Item) → (item_normal (exchanged_item x) ≡ item_normal x) × (item_above (exchanged_item x) ≡ exchanged (item_above x)) × (item_mark (exchanged_item x) ≡ exchanged (item_mark x)) × (item_below (exchanged_item x) ≡ exchanged (item_below x))
+pub item-same : (x : Item) → (item_normal (exchanged_item x) ≡ item_normal x) × (item_pos (exchanged_item x) ≡ exchanged (item_pos x)) × (item_mark (exchanged_item x) ≡ exchanged (item_mark x)) × (item_neg (exchanged_item x) ≡ exchanged (item_neg x))
 item-same (arc_item a) = (refl, refl, refl, refl)
-item-same (loop_item l) = (refl, refl, refl, refl)
+item-same (sloop_item l) = (refl, refl, refl, refl)
 
 -- ---- lists and options
-items-was : (as' : List Arc) (o : Option Loop) (i : ℕ) (y : Item) → At (items_then (map exchanged_arc as') (option_map exchanged_loop o)) i y → (x : Item) × At (items_then as' o) i x × (exchanged_item x ≡ y)
+items-was : (as' : List Arc) (o : Option MapSloop) (i : ℕ) (y : Item) → At (items_then (map exchanged_arc as') (option_map exchanged_sloop o)) i y → (x : Item) × At (items_then as' o) i x × (exchanged_item x ≡ y)
 items-was [] None i y a = absurd a
-items-was [] (Some l) zero y e = (loop_item l, refl, e)
+items-was [] (Some l) zero y e = (sloop_item l, refl, e)
 items-was [] (Some l) (suc i) y a = absurd a
 items-was (r ∷ as') o zero y e = (arc_item r, refl, e)
 items-was (r ∷ as') o (suc i) y a = items-was as' o i y a
 
-items-are : (as' : List Arc) (o : Option Loop) (i : ℕ) (x : Item) → At (items_then as' o) i x → At (items_then (map exchanged_arc as') (option_map exchanged_loop o)) i (exchanged_item x)
+items-are : (as' : List Arc) (o : Option MapSloop) (i : ℕ) (x : Item) → At (items_then as' o) i x → At (items_then (map exchanged_arc as') (option_map exchanged_sloop o)) i (exchanged_item x)
 items-are [] None i x a = absurd a
 items-are [] (Some l) zero x e = ap exchanged_item e
 items-are [] (Some l) (suc i) x a = absurd a
 items-are (r ∷ as') o zero x e = ap exchanged_item e
 items-are (r ∷ as') o (suc i) x a = items-are as' o i x a
 
-pub way-same : (vs : List Svertex) (k : ℕ) → way_of (map exchanged_svertex vs) k ≡ way_of vs k
+pub way-same : (vs : List MapVertex) (k : ℕ) → dir_of (map exchanged_svertex vs) k ≡ dir_of vs k
 way-same [] k = refl
 way-same (v ∷ vs) zero = refl
 way-same (v ∷ vs) (suc k) = way-same vs k
@@ -48,33 +48,33 @@ module _ (M : Map) where
   abbrev N : Map
   N = exchanged_map M
 
-  pub svertex-was : (k : ℕ) (u : Svertex) → At N.svertices k u → (v : Svertex) × At M.svertices k v × (exchanged_svertex v ≡ u)
+  pub svertex-was : (k : ℕ) (u : MapVertex) → At N.svertices k u → (v : MapVertex) × At M.svertices k v × (exchanged_svertex v ≡ u)
   svertex-was k u a = at-map exchanged_svertex M.svertices k u a
 
   pub arc-was : (k : ℕ) (b : Arc) → At N.arcs k b → (a : Arc) × At M.arcs k a × (exchanged_arc a ≡ b)
   arc-was k b h = at-map exchanged_arc M.arcs k b h
 
   pub item-was : (i : ℕ) (y : Item) → At (items N) i y → (x : Item) × At (items M) i x × (exchanged_item x ≡ y)
-  item-was i y a = items-was M.arcs M.loop i y a
+  item-was i y a = items-was M.arcs M.sloop i y a
 
   pub item-is : (i : ℕ) (x : Item) → At (items M) i x → At (items N) i (exchanged_item x)
-  item-is i x a = items-are M.arcs M.loop i x a
+  item-is i x a = items-are M.arcs M.sloop i x a
 
-  pub face-was : (m : Label) → N.face ≡ Some m → (l : Label) × (M.face ≡ Some l) × (exchanged l ≡ m)
-  face-was m e = option-was exchanged M.face m e
+  pub ground-was : (m : Label) → N.ground ≡ Some m → (l : Label) × (M.ground ≡ Some l) × (exchanged l ≡ m)
+  ground-was m e = option-was exchanged M.ground m e
 
-  pub around-was : (v : Svertex) (m : Label) → option_map exchanged v.around ≡ Some m → (l : Label) × (v.around ≡ Some l) × (exchanged l ≡ m)
+  pub around-was : (v : MapVertex) (m : Label) → option_map exchanged v.around ≡ Some m → (l : Label) × (v.around ≡ Some l) × (exchanged l ≡ m)
   around-was v m e = option-was exchanged v.around m e
 
   pub on-was : (x : Item) (d : Vector) → OnItem N (exchanged_item x) d → OnItem M x d
-  on-was (loop_item l) d o = o
-  on-was (arc_item a) d o = subst (λ (w : Vector). IsStrictlyOn a.normal (way_of M.svertices a.source) w d) (way-same M.svertices a.target)
-      (subst (λ (w : Vector). IsStrictlyOn a.normal w (way_of N.svertices a.target) d) (way-same M.svertices a.source) o)
+  on-was (sloop_item l) d o = o
+  on-was (arc_item a) d o = subst (λ (w : Vector). IsStrictlyOn a.normal (dir_of M.svertices a.source) w d) (way-same M.svertices a.target)
+      (subst (λ (w : Vector). IsStrictlyOn a.normal w (dir_of N.svertices a.target) d) (way-same M.svertices a.source) o)
 
   pub on-is : (x : Item) (d : Vector) → OnItem M x d → OnItem N (exchanged_item x) d
-  on-is (loop_item l) d o = o
-  on-is (arc_item a) d o = subst (λ (w : Vector). IsStrictlyOn a.normal (way_of N.svertices a.source) w d) (sym (way-same M.svertices a.target))
-      (subst (λ (w : Vector). IsStrictlyOn a.normal w (way_of M.svertices a.target) d) (sym (way-same M.svertices a.source)) o)
+  on-is (sloop_item l) d o = o
+  on-is (arc_item a) d o = subst (λ (w : Vector). IsStrictlyOn a.normal (dir_of N.svertices a.source) w d) (sym (way-same M.svertices a.target))
+      (subst (λ (w : Vector). IsStrictlyOn a.normal w (dir_of M.svertices a.target) d) (sym (way-same M.svertices a.source)) o)
 
   pub free-was : (d : Vector) → IsFree N d → IsFree M d
   free-was d F = record {
@@ -90,7 +90,7 @@ module _ (M : Map) where
   has-arc_is k (i, a, h, e) = (i, exchanged_arc a, map-at exchanged_arc M.arcs i a h, e)
 
   module _ (V : Shaped M) where
-    svertex-of : (P : Svertex → Type 0) (k : ℕ) (u : Svertex) → At N.svertices k u → ((v : Svertex) → At M.svertices k v → P (exchanged_svertex v)) → P u
+    svertex-of : (P : MapVertex → Type 0) (k : ℕ) (u : MapVertex) → At N.svertices k u → ((v : MapVertex) → At M.svertices k v → P (exchanged_svertex v)) → P u
     svertex-of P k u a f = let v = svertex-was k u a in subst P v.2 (f v.0 v.1)
 
     item-of : (P : Item → Type 0) (i : ℕ) (y : Item) → At (items N) i y → ((x : Item) → At (items M) i x → P (exchanged_item x)) → P y
@@ -108,23 +108,23 @@ module _ (M : Map) where
 
     pub exchanged-shaped : Shaped N
     exchanged-shaped = record {
-      svertex_ways = λ k u a. svertex-of (λ z. IsDirection z.way) k u a (λ v b. V.svertex_ways k v b);
-      svertices_apart = λ i k u w a b. svertex-of (λ z. SameDirection z.way w.way → i ≡ k) i u a (λ v h. svertex-of (λ z. SameDirection v.way z.way → i ≡ k) k w b (λ x g. V.svertices_apart i k v x h g));
+      svertex_dirs = λ k u a. svertex-of (λ z. IsDirection z.dir) k u a (λ v b. V.svertex_dirs k v b);
+      svertices_apart = λ i k u w a b. svertex-of (λ z. SameDirection z.dir w.dir → i ≡ k) i u a (λ v h. svertex-of (λ z. SameDirection v.dir z.dir → i ≡ k) k w b (λ x g. V.svertices_apart i k v x h g));
       normals = λ i y a. item-of (λ z. IsNormal (item_normal z)) i y a (λ x b. subst IsNormal (sym (item-same x).0) (V.normals i x b));
       arcs_between = λ k b h. let a = arc-was k b h in subst (ArcBetween N) a.2 (between k a.0 a.1);
-      no_svertex_on_item = λ i k u y a b. svertex-of (λ z. OnItem N y z.way → ⊥) i u a (λ v h. item-of (λ z. OnItem N z v.way → ⊥) k y b (λ x g o. V.no_svertex_on_item i k v x h g (on-was x v.way o)));
+      no_svertex_on_item = λ i k u y a b. svertex-of (λ z. OnItem N y z.dir → ⊥) i u a (λ v h. item-of (λ z. OnItem N z v.dir → ⊥) k y b (λ x g o. V.no_svertex_on_item i k v x h g (on-was x v.dir o)));
       no_items_meet = λ i k y z d a b. item-of (λ r. OnItem N r d → OnItem N z d → i ≡ k) i y a (λ x h. item-of (λ r. OnItem N (exchanged_item x) d → OnItem N r d → i ≡ k) k z b (λ w g o p. V.no_items_meet i k x w d h g (on-was x d o) (on-was w d p)));
       around_lone = λ k u a n. svertex-of (λ z. (m : Label) × (z.around ≡ Some m)) k u a (λ v h. let r = V.around_lone k v h (λ x. n (has-arc_is k x)) in (exchanged r.0, ap (option_map exchanged) r.1));
       around_not = λ k u a x. svertex-of (λ z. z.around ≡ None) k u a (λ v h. ap (option_map exchanged) (V.around_not k v h (has-arc_was k x)));
-      ground_alone = λ z e. let r = V.ground_alone (map-empty exchanged_svertex M.svertices z) (none-was exchanged_loop M.loop e) in (exchanged r.0, ap (option_map exchanged) r.1);
-      ground_not = λ m e. let l = face-was m e in let g = V.ground_not l.0 l.1 in (ap (map exchanged_svertex) g.0, ap (option_map exchanged_loop) g.1);
+      ground_alone = λ z e. let r = V.ground_alone (map-empty exchanged_svertex M.svertices z) (none-was exchanged_sloop M.sloop e) in (exchanged r.0, ap (option_map exchanged) r.1);
+      ground_not = λ m e. let l = ground-was m e in let g = V.ground_not l.0 l.1 in (ap (map exchanged_svertex) g.0, ap (option_map exchanged_sloop) g.1);
     }
 
   pub exchanged-ordered : Ordered M → Ordered N
   exchanged-ordered O = record {
-    ways_lowest = λ k u a. let v = svertex-was k u a in subst (λ (z : Svertex). IsPrimitive z.way) v.2 (O.ways_lowest k v.0 v.1);
+    dirs_lowest = λ k u a. let v = svertex-was k u a in subst (λ (z : MapVertex). IsPrimitive z.dir) v.2 (O.dirs_lowest k v.0 v.1);
     normals_lowest = λ i y a. let x = item-was i y a in subst (λ (z : Item). IsPrimitive (item_normal z)) x.2 (subst IsPrimitive (sym (item-same x.0).0) (O.normals_lowest i x.0 x.1));
     svertices = λ i k u w l a b. let v = svertex-was i u a in let x = svertex-was k w b in
-        subst (λ (z : Svertex). VectorBelow z.way w.way) v.2 (subst (λ (z : Svertex). VectorBelow v.0.way z.way) x.2 (O.svertices i k v.0 x.0 l v.1 x.1));
+        subst (λ (z : MapVertex). VectorBelow z.dir w.dir) v.2 (subst (λ (z : MapVertex). VectorBelow v.0.dir z.dir) x.2 (O.svertices i k v.0 x.0 l v.1 x.1));
     arcs = λ i k b c l a h. let r = arc-was i b a in let s = arc-was k c h in subst (λ (z : Arc). ArcBelow z c) r.2 (subst (ArcBelow (exchanged_arc r.0)) s.2 (O.arcs i k r.0 s.0 l r.1 s.1));
   }

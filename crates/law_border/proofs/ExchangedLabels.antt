@@ -3,7 +3,7 @@ use Rattle.std.proofs.Common.{◌≡◌, ℕ, refl, ap, sym, ◌∙◌, subst, S
 use Rattle.law_arithmetic.proofs.Order.{Sign, minus, nought, plus, sign}
 use Rattle.nef_space.specs.Vectors.{Vector, IsDirection, cross, dot, blend}
 use Rattle.nef_space.specs.declared.label.Label.{Label}
-use Rattle.law_sphere.specs.Maps.{At, Svertex, Map, Item, item_normal, item_above, item_mark, item_below, OnItem, IsFree, HasArc, MapLabel, at_svertex, on_item, NearLabel, Shaped, Valid}
+use Rattle.law_sphere.specs.Maps.{At, MapVertex, Map, Item, item_normal, item_pos, item_mark, item_neg, OnItem, IsFree, HasArc, MapLabel, at_svertex, on_item, NearLabel, Shaped, Valid}
 use Rattle.law_sphere.specs.Forms.{forms}
 use Rattle.law_sphere.specs.Least.{by_side, NearPlain, NearStraight, Least}
 use Rattle.law_sphere.specs.Labelling.{Labelling, Near, Plain, Agrees}
@@ -11,15 +11,15 @@ use Rattle.law_sphere.specs.Kinds.{Full}
 use Rattle.law_sphere.proofs.Labels.{label-exists, label-unique, label-direction}
 use Rattle.law_sphere.proofs.NearItems.{near-free, near-item}
 use Rattle.law_sphere.proofs.Lone.{near-lone}
-use Rattle.law_sphere.proofs.Compare.{way-self}
+use Rattle.law_sphere.proofs.Compare.{dir-self}
 use Rattle.law_sphere.proofs.Built.{agrees-valid, agrees-label, label-agrees}
-use Rattle.law_build.proofs.RawFaces.{not-both, only-face}
+use Rattle.law_build.proofs.RawGround.{not-both, only-ground}
 use Rattle.law_border.specs.Topology.{complement, TopologyLabel, IsTopologyMap}
 use Rattle.law_border.specs.Marks.{exchanged, exchanged_svertex, exchanged_map}
 use Rattle.law_border.specs.Laws.{ExchangedMap}
 use Rattle.law_border.proofs.Made.{exchange-made}
 use Rattle.law_border.proofs.PlaceLabels.{topology-one, topology-exists, topology-labels}
-use Rattle.law_border.proofs.Exchanged.{twice, exchanged_item, item-same, svertex-was, item-was, face-was, around-was, on-was, free-was, exchanged-shaped, exchanged-ordered}
+use Rattle.law_border.proofs.Exchanged.{twice, exchanged_item, item-same, svertex-was, item-was, ground-was, around-was, on-was, free-was, exchanged-shaped, exchanged-ordered}
 
 side-exchanged : (a m b : Label) (s : Sign) → exchanged (by_side a m b s) ≡ by_side (exchanged a) (exchanged m) (exchanged b) s
 side-exchanged a m b minus = refl
@@ -47,48 +47,48 @@ module _ (M : Map) (V : Valid M) where
       subst (MapLabel M d) (sym (twice a.0) ∙ ap exchanged e) a.1
 
   -- ---- piece by piece
-  beside : (x : Item) (d e : Vector) → NearLabel M d e (by_side (item_above x) (item_mark x) (item_below x) (sign (dot (item_normal x) e)))
-      → Near F d e (by_side (item_above (exchanged_item x)) (item_mark (exchanged_item x)) (item_below (exchanged_item x)) (sign (dot (item_normal (exchanged_item x)) e)))
+  beside : (x : Item) (d e : Vector) → NearLabel M d e (by_side (item_pos x) (item_mark x) (item_neg x) (sign (dot (item_normal x) e)))
+      → Near F d e (by_side (item_pos (exchanged_item x)) (item_mark (exchanged_item x)) (item_neg (exchanged_item x)) (sign (dot (item_normal (exchanged_item x)) e)))
   beside x d e n = subst (Near F d e) sides (near-turned d e _ n)
     where
-      sides : exchanged (by_side (item_above x) (item_mark x) (item_below x) (sign (dot (item_normal x) e)))
-          ≡ by_side (item_above (exchanged_item x)) (item_mark (exchanged_item x)) (item_below (exchanged_item x)) (sign (dot (item_normal (exchanged_item x)) e))
+      sides : exchanged (by_side (item_pos x) (item_mark x) (item_neg x) (sign (dot (item_normal x) e)))
+          ≡ by_side (item_pos (exchanged_item x)) (item_mark (exchanged_item x)) (item_neg (exchanged_item x)) (sign (dot (item_normal (exchanged_item x)) e))
       sides =
           let s = item-same x in
-          side-exchanged (item_above x) (item_mark x) (item_below x) (sign (dot (item_normal x) e))
-          ∙ ap (λ l. by_side l (exchanged (item_mark x)) (exchanged (item_below x)) (sign (dot (item_normal x) e))) (sym s.1)
-          ∙ ap (λ l. by_side (item_above (exchanged_item x)) l (exchanged (item_below x)) (sign (dot (item_normal x) e))) (sym s.2)
-          ∙ ap (λ l. by_side (item_above (exchanged_item x)) (item_mark (exchanged_item x)) l (sign (dot (item_normal x) e))) (sym s.3)
-          ∙ ap (λ v. by_side (item_above (exchanged_item x)) (item_mark (exchanged_item x)) (item_below (exchanged_item x)) (sign (dot v e))) (sym s.0)
+          side-exchanged (item_pos x) (item_mark x) (item_neg x) (sign (dot (item_normal x) e))
+          ∙ ap (λ l. by_side l (exchanged (item_mark x)) (exchanged (item_neg x)) (sign (dot (item_normal x) e))) (sym s.1)
+          ∙ ap (λ l. by_side (item_pos (exchanged_item x)) l (exchanged (item_neg x)) (sign (dot (item_normal x) e))) (sym s.2)
+          ∙ ap (λ l. by_side (item_pos (exchanged_item x)) (item_mark (exchanged_item x)) l (sign (dot (item_normal x) e))) (sym s.3)
+          ∙ ap (λ v. by_side (item_pos (exchanged_item x)) (item_mark (exchanged_item x)) (item_neg (exchanged_item x)) (sign (dot v e))) (sym s.0)
 
-  lone : (k : ℕ) (v : Svertex) → At M.svertices k v → (l : Label) → v.around ≡ Some l → HasArc M k → ⊥
+  lone : (k : ℕ) (v : MapVertex) → At M.svertices k v → (l : Label) → v.around ≡ Some l → HasArc M k → ⊥
   lone k v a l e h = not-both v.around l (V.shaped.around_not k v a h) e
 
-  around : (k : ℕ) (v : Svertex) (m : Label) (e : Vector) → At M.svertices k v → (exchanged_svertex v).around ≡ Some m → IsDirection (cross v.way e) → Near F v.way e m
-  around k v m e a q f = let l = around-was M v m q in subst (Near F v.way e) l.2 (near-turned v.way e l.0 (near-lone M V k v a (lone k v a l.0 l.1) l.0 l.1 e f))
+  around : (k : ℕ) (v : MapVertex) (m : Label) (e : Vector) → At M.svertices k v → (exchanged_svertex v).around ≡ Some m → IsDirection (cross v.dir e) → Near F v.dir e m
+  around k v m e a q f = let l = around-was M v m q in subst (Near F v.dir e) l.2 (near-turned v.dir e l.0 (near-lone M V k v a (lone k v a l.0 l.1) l.0 l.1 e f))
 
   free : (d : Vector) → IsFree M d → Plain F d
   free d G m x e f =
       let a = label-exists M V d G.direction in
       subst (Near F d e) (topology-one M V complement d (exchanged a.0) m (turned d a.0 a.1) x) (near-turned d e a.0 (near-free M V d G a.0 a.1 e))
 
-  face : (m : Label) (d : Vector) → N.face ≡ Some m → IsDirection d → F d m
-  face m d e h =
-      let l = face-was M m e in
+  ground : (m : Label) (d : Vector) → N.ground ≡ Some m → IsDirection d → F d m
+  ground m d e h =
+      let l = ground-was M m e in
       let g = V.shaped.ground_not l.0 l.1 in
       let a = label-exists M V d h in
-      subst (F d) (ap exchanged (only-face M V.shaped g.0 g.1 l.0 l.1 d a.0 a.1) ∙ l.2) (turned d a.0 a.1)
+      subst (F d) (ap exchanged (only-ground M V.shaped g.0 g.1 l.0 l.1 d a.0 a.1) ∙ l.2) (turned d a.0 a.1)
 
   agrees : Agrees N F
   agrees = record {
-    svertices = λ k u a. let v = svertex-was M k u a in subst (λ (z : Svertex). F z.way z.mark) v.2 (turned v.0.way v.0.mark (at_svertex k v.0 v.1 (way-self v.0.way (V.shaped.svertex_ways k v.0 v.1)) refl));
+    svertices = λ k u a. let v = svertex-was M k u a in subst (λ (z : MapVertex). F z.dir z.mark) v.2 (turned v.0.dir v.0.mark (at_svertex k v.0 v.1 (dir-self v.0.dir (V.shaped.svertex_dirs k v.0 v.1)) refl));
     marks = λ i y d a. let x = item-was M i y a in
         subst (λ (z : Item). OnItem N z d → F d (item_mark z)) x.2 (λ o. subst (F d) (sym (item-same x.0).2) (turned d (item_mark x.0) (on_item i x.0 x.1 (on-was M x.0 d o) refl)));
     beside = λ i y d e a o f. let x = item-was M i y a in
-        subst (λ (z : Item). OnItem N z d → Near F d e (by_side (item_above z) (item_mark z) (item_below z) (sign (dot (item_normal z) e)))) x.2 (λ p. beside x.0 d e (near-item M V d i x.0 x.1 (on-was M x.0 d p) e)) o;
-    lone = λ k u m e a. let v = svertex-was M k u a in subst (λ (z : Svertex). z.around ≡ Some m → IsDirection (cross z.way e) → Near F z.way e m) v.2 (around k v.0 m e v.1);
+        subst (λ (z : Item). OnItem N z d → Near F d e (by_side (item_pos z) (item_mark z) (item_neg z) (sign (dot (item_normal z) e)))) x.2 (λ p. beside x.0 d e (near-item M V d i x.0 x.1 (on-was M x.0 d p) e)) o;
+    lone = λ k u m e a. let v = svertex-was M k u a in subst (λ (z : MapVertex). z.around ≡ Some m → IsDirection (cross z.dir e) → Near F z.dir e m) v.2 (around k v.0 m e v.1);
     free = λ d G. free d (free-was M d G);
-    face = face;
+    ground = ground;
   }
 
   shaped : Shaped N
@@ -121,19 +121,19 @@ module _ (M : Map) (V : Valid M) where
     normal = P.normal;
     direction = P.direction;
     level = P.level;
-    above = exchanged P.above;
+    pos = exchanged P.pos;
     label = exchanged P.label;
-    below = exchanged P.below;
+    neg = exchanged P.neg;
     at_d = label-back d P.label P.at_d;
-    near = λ e f. subst (NearLabel M d e) (side-exchanged P.above P.label P.below (sign (dot P.normal e))) (near-back d e _ (P.near e f));
+    near = λ e f. subst (NearLabel M d e) (side-exchanged P.pos P.label P.neg (sign (dot P.normal e))) (near-back d e _ (P.near e f));
   }
 
   exchanged-least : Least M → Least N
   exchanged-least L = record {
-    no_plain = λ k u a. let v = svertex-was M k u a in subst (λ (z : Svertex). NearPlain N z.way → ⊥) v.2 (λ P. L.no_plain k v.0 v.1 (plain-back v.0.way P));
-    no_straight = λ k u a. let v = svertex-was M k u a in subst (λ (z : Svertex). NearStraight N z.way → ⊥) v.2 (λ P. L.no_straight k v.0 v.1 (straight-back v.0.way P));
+    no_plain = λ k u a. let v = svertex-was M k u a in subst (λ (z : MapVertex). NearPlain N z.dir → ⊥) v.2 (λ P. L.no_plain k v.0 v.1 (plain-back v.0.dir P));
+    no_straight = λ k u a. let v = svertex-was M k u a in subst (λ (z : MapVertex). NearStraight N z.dir → ⊥) v.2 (λ P. L.no_straight k v.0 v.1 (straight-back v.0.dir P));
     items_differ = λ i y a. let x = item-was M i y a in let s = item-same x.0 in
-        subst (λ (z : Item). item_above z ≡ item_mark z → item_below z ≡ item_mark z → ⊥) x.2 (λ p q. L.items_differ i x.0 x.1 (same (item_above x.0) (item_mark x.0) (sym s.1 ∙ p ∙ s.2)) (same (item_below x.0) (item_mark x.0) (sym s.3 ∙ q ∙ s.2)));
+        subst (λ (z : Item). item_pos z ≡ item_mark z → item_neg z ≡ item_mark z → ⊥) x.2 (λ p q. L.items_differ i x.0 x.1 (same (item_pos x.0) (item_mark x.0) (sym s.1 ∙ p ∙ s.2)) (same (item_neg x.0) (item_mark x.0) (sym s.3 ∙ q ∙ s.2)));
   }
     where
       same : (k l : Label) → exchanged k ≡ exchanged l → k ≡ l

@@ -7,7 +7,7 @@ use Rattle.law_arithmetic.proofs.Order.{sign, sign-plus, sign-minus}
 use Rattle.nef_space.specs.Vectors.{Vector, IsDirection, dot, blend}
 use Rattle.nef_space.specs.declared.label.Label.{Label}
 use Rattle.law_forms.proofs.Directions.{zero-decided, self-pos}
-use Rattle.law_sphere.specs.Maps.{At, Svertex, Loop, Map, Item, arc_item, loop_item, items, item_normal, item_above, item_mark, item_below, OnItem, Side, around_svertex, above_item, below_item, whole, HasSide, MapLabel, at_svertex, on_item, seen, Valid}
+use Rattle.law_sphere.specs.Maps.{At, MapVertex, MapSloop, Map, Item, arc_item, sloop_item, items, item_normal, item_pos, item_mark, item_neg, OnItem, Side, around_svertex, pos_item, neg_item, whole, HasSide, MapLabel, at_svertex, on_item, seen, Valid}
 use Rattle.law_sphere.specs.Forms.{gather, axis_x}
 use Rattle.law_sphere.specs.Least.{by_side}
 use Rattle.law_sphere.specs.Kinds.{Full}
@@ -18,12 +18,12 @@ use Rattle.law_sphere.proofs.Shot.{arc-at, item-point}
 use Rattle.law_sphere.proofs.Labels.{label-exists, label-unique, label-direction}
 use Rattle.law_sphere.proofs.NearItems.{near-item}
 use Rattle.law_sphere.proofs.Lone.{near-lone}
-use Rattle.law_sphere.proofs.Compare.{way-self}
-use Rattle.law_sphere.proofs.Arcs.{at-loop, loop-at, at-arc}
+use Rattle.law_sphere.proofs.Compare.{dir-self}
+use Rattle.law_sphere.proofs.Arcs.{at-sloop, sloop-at, at-arc}
 use Rattle.law_sphere.proofs.Kind.{away, away-dot}
-use Rattle.law_build.proofs.RawFaces.{not-both, only-face}
+use Rattle.law_build.proofs.RawGround.{not-both, only-ground}
 use Rattle.law_border.specs.Topology.{Topology, MarkLabel}
-use Rattle.law_border.specs.Marks.{label_from, option_labels, svertex_labels, arc_labels, loop_labels, map_labels}
+use Rattle.law_border.specs.Marks.{label_from, option_labels, svertex_labels, arc_labels, sloop_labels, map_labels}
 use Rattle.law_border.specs.Laws.{TopologyMark}
 use Rattle.law_border.proofs.Made.{made}
 
@@ -39,32 +39,32 @@ lies-option (Some m) l (inr a) = absurd a
 option-lies : (o : Option Label) (l : Label) → o ≡ Some l → Lies (option_labels o) l
 option-lies o l e = subst (λ (r : Option Label). Lies (option_labels r) l) (sym e) (inl refl)
 
-lies-loop : (o : Option Loop) (l : Label) → Lies (loop_labels o) l → (c : Loop) × (o ≡ Some c) × Lies (c.above ∷ c.mark ∷ c.below ∷ []) l
-lies-loop None l a = absurd a
-lies-loop (Some c) l a = (c, refl, a)
+lies-sloop : (o : Option MapSloop) (l : Label) → Lies (sloop_labels o) l → (c : MapSloop) × (o ≡ Some c) × Lies (c.pos ∷ c.mark ∷ c.neg ∷ []) l
+lies-sloop None l a = absurd a
+lies-sloop (Some c) l a = (c, refl, a)
 
-loop-lies : (o : Option Loop) (c : Loop) (l : Label) → o ≡ Some c → Lies (c.above ∷ c.mark ∷ c.below ∷ []) l → Lies (loop_labels o) l
-loop-lies o c l e a = subst (λ (r : Option Loop). Lies (loop_labels r) l) (sym e) a
+sloop-lies : (o : Option MapSloop) (c : MapSloop) (l : Label) → o ≡ Some c → Lies (c.pos ∷ c.mark ∷ c.neg ∷ []) l → Lies (sloop_labels o) l
+sloop-lies o c l e a = subst (λ (r : Option MapSloop). Lies (sloop_labels r) l) (sym e) a
 
 -- the labels of an item
 abbrev item_labels : Item → List Label
-item_labels x = item_above x ∷ item_mark x ∷ item_below x ∷ []
+item_labels x = item_pos x ∷ item_mark x ∷ item_neg x ∷ []
 
 module _ (M : Map) (V : Valid M) where
   -- ---- each label of a direction is listed
   abbrev later : List Label
-  later = gather arc_labels M.arcs ++ (loop_labels M.loop ++ option_labels M.face)
+  later = gather arc_labels M.arcs ++ (sloop_labels M.sloop ++ option_labels M.ground)
 
-  svertex-listed : (k : ℕ) (v : Svertex) (l : Label) → At M.svertices k v → Lies (svertex_labels v) l → Lies (map_labels M) l
+  svertex-listed : (k : ℕ) (v : MapVertex) (l : Label) → At M.svertices k v → Lies (svertex_labels v) l → Lies (map_labels M) l
   svertex-listed k v l a m = lies-left (gather svertex_labels M.svertices) later l (gather-has svertex_labels M.svertices k v l a m)
 
   item-listed : (i : ℕ) (x : Item) (l : Label) → At (items M) i x → Lies (item_labels x) l → Lies (map_labels M) l
-  item-listed i (arc_item r) l a m = lies-right (gather svertex_labels M.svertices) later l (lies-left (gather arc_labels M.arcs) (loop_labels M.loop ++ option_labels M.face) l (gather-has arc_labels M.arcs i r l (arc-at M.arcs M.loop i r a) m))
-  item-listed i (loop_item c) l a m = lies-right (gather svertex_labels M.svertices) later l (lies-right (gather arc_labels M.arcs) (loop_labels M.loop ++ option_labels M.face) l
-      (lies-left (loop_labels M.loop) (option_labels M.face) l (loop-lies M.loop c l (loop-at M.arcs M.loop i c a) m)))
+  item-listed i (arc_item r) l a m = lies-right (gather svertex_labels M.svertices) later l (lies-left (gather arc_labels M.arcs) (sloop_labels M.sloop ++ option_labels M.ground) l (gather-has arc_labels M.arcs i r l (arc-at M.arcs M.sloop i r a) m))
+  item-listed i (sloop_item c) l a m = lies-right (gather svertex_labels M.svertices) later l (lies-right (gather arc_labels M.arcs) (sloop_labels M.sloop ++ option_labels M.ground) l
+      (lies-left (sloop_labels M.sloop) (option_labels M.ground) l (sloop-lies M.sloop c l (sloop-at M.arcs M.sloop i c a) m)))
 
-  face-listed : (l : Label) → M.face ≡ Some l → Lies (map_labels M) l
-  face-listed l e = lies-right (gather svertex_labels M.svertices) later l (lies-right (gather arc_labels M.arcs) (loop_labels M.loop ++ option_labels M.face) l (lies-right (loop_labels M.loop) (option_labels M.face) l (option-lies M.face l e)))
+  ground-listed : (l : Label) → M.ground ≡ Some l → Lies (map_labels M) l
+  ground-listed l e = lies-right (gather svertex_labels M.svertices) later l (lies-right (gather arc_labels M.arcs) (sloop_labels M.sloop ++ option_labels M.ground) l (lies-right (sloop_labels M.sloop) (option_labels M.ground) l (option-lies M.ground l e)))
 
   label-listed : (d : Vector) (l : Label) → MapLabel M d l → Lies (map_labels M) l
   label-listed d l (at_svertex k v a w e) = svertex-listed k v l a (inl e)
@@ -73,25 +73,25 @@ module _ (M : Map) (V : Valid M) where
     where
       by : (o : Side) → HasSide M o l → Lies (map_labels M) l
       by (around_svertex k) (v, a, e) = svertex-listed k v l a (inr (option-lies v.around l e))
-      by (above_item i) (x, a, e) = item-listed i x l a (inl e)
-      by (below_item i) (x, a, e) = item-listed i x l a (inr (inr (inl e)))
-      by whole e = face-listed l e
+      by (pos_item i) (x, a, e) = item-listed i x l a (inl e)
+      by (neg_item i) (x, a, e) = item-listed i x l a (inr (inr (inl e)))
+      by whole e = ground-listed l e
 
   -- ---- each listed label is a direction's
-  svertex-found : (k : ℕ) (v : Svertex) (l : Label) → At M.svertices k v → Lies (svertex_labels v) l → (d : Vector) × MapLabel M d l
-  svertex-found k v l a (inl e) = (v.way, at_svertex k v a (way-self v.way (V.shaped.svertex_ways k v a)) e)
+  svertex-found : (k : ℕ) (v : MapVertex) (l : Label) → At M.svertices k v → Lies (svertex_labels v) l → (d : Vector) × MapLabel M d l
+  svertex-found k v l a (inl e) = (v.dir, at_svertex k v a (dir-self v.dir (V.shaped.svertex_dirs k v a)) e)
   svertex-found k v l a (inr m) =
-      let h = V.shaped.svertex_ways k v a in
-      let y = circle-point v.way h in
+      let h = V.shaped.svertex_dirs k v a in
+      let y = circle-point v.dir h in
       let o = y.1 in
       let r = lies-option v.around l m in
-      let n = near-lone M V k v a (λ x. not-both v.around l (V.shaped.around_not k v a x) r) l r y.0 (apart v.way v.way y.0 (λ z. let p = self-pos v.way h in omega (arith, ints)) o.level o.direction) in
-      (blend n.0 v.way 1 y.0, n.1 n.0 (omega arith))
+      let n = near-lone M V k v a (λ x. not-both v.around l (V.shaped.around_not k v a x) r) l r y.0 (apart v.dir v.dir y.0 (λ z. let p = self-pos v.dir h in omega (arith, ints)) o.level o.direction) in
+      (blend n.0 v.dir 1 y.0, n.1 n.0 (omega arith))
 
   item-found : (i : ℕ) (x : Item) (l : Label) → At (items M) i x → Lies (item_labels x) l → (d : Vector) × MapLabel M d l
   item-found i x l a m = by (item-point M V.shaped i x a) m
     where
-      beside : (y : Vector) → OnItem M x y → (e : Vector) → by_side (item_above x) (item_mark x) (item_below x) (sign (dot (item_normal x) e)) ≡ l → (d : Vector) × MapLabel M d l
+      beside : (y : Vector) → OnItem M x y → (e : Vector) → by_side (item_pos x) (item_mark x) (item_neg x) (sign (dot (item_normal x) e)) ≡ l → (d : Vector) × MapLabel M d l
       beside y o e q = let n = near-item M V y i x a o e in (blend n.0 y 1 e, subst (MapLabel M (blend n.0 y 1 e)) q (n.1 n.0 (omega arith)))
 
       up : pos 0 <ℤ dot (item_normal x) (item_normal x)
@@ -101,28 +101,28 @@ module _ (M : Map) (V : Valid M) where
       down = let e = away-dot (item_normal x) (item_normal x) in let h = up in omega (arith, ints)
 
       by : (y : Vector) × OnItem M x y → Lies (item_labels x) l → (d : Vector) × MapLabel M d l
-      by (y, o) (inl e) = beside y o (item_normal x) (ap (by_side (item_above x) (item_mark x) (item_below x)) (sign-plus (dot (item_normal x) (item_normal x)) up) ∙ e)
+      by (y, o) (inl e) = beside y o (item_normal x) (ap (by_side (item_pos x) (item_mark x) (item_neg x)) (sign-plus (dot (item_normal x) (item_normal x)) up) ∙ e)
       by (y, o) (inr (inl e)) = (y, on_item i x a o e)
-      by (y, o) (inr (inr (inl e))) = beside y o (away (item_normal x)) (ap (by_side (item_above x) (item_mark x) (item_below x)) (sign-minus (dot (item_normal x) (away (item_normal x))) down) ∙ e)
+      by (y, o) (inr (inr (inl e))) = beside y o (away (item_normal x)) (ap (by_side (item_pos x) (item_mark x) (item_neg x)) (sign-minus (dot (item_normal x) (away (item_normal x))) down) ∙ e)
       by (y, o) (inr (inr (inr e))) = absurd e
 
-  face-found : (l : Label) → M.face ≡ Some l → (d : Vector) × MapLabel M d l
-  face-found l e =
+  ground-found : (l : Label) → M.ground ≡ Some l → (d : Vector) × MapLabel M d l
+  ground-found l e =
       let g = V.shaped.ground_not l e in
       let h : IsDirection axis_x = λ z. let x = z.0 in omega (arith, ints) in
       let a = label-exists M V axis_x h in
-      (axis_x, subst (MapLabel M axis_x) (only-face M V.shaped g.0 g.1 l e axis_x a.0 a.1) a.1)
+      (axis_x, subst (MapLabel M axis_x) (only-ground M V.shaped g.0 g.1 l e axis_x a.0 a.1) a.1)
 
   label-found : (l : Label) → Lies (map_labels M) l → (d : Vector) × MapLabel M d l
   label-found l m = ⊎_elim
       (λ x. let r = lies-gather svertex_labels M.svertices l x in svertex-found r.0 r.1 l r.2 r.3)
       (λ x. ⊎_elim
-      (λ y. let r = lies-gather arc_labels M.arcs l y in item-found r.0 (arc_item r.1) l (at-arc M.arcs M.loop r.0 r.1 r.2) r.3)
+      (λ y. let r = lies-gather arc_labels M.arcs l y in item-found r.0 (arc_item r.1) l (at-arc M.arcs M.sloop r.0 r.1 r.2) r.3)
       (λ y. ⊎_elim
-      (λ z. let c = lies-loop M.loop l z in let i = at-loop M.arcs M.loop c.0 c.1 in item-found i.0 (loop_item c.0) l i.1 c.2)
-      (λ z. face-found l (lies-option M.face l z))
-      (lies-append (loop_labels M.loop) (option_labels M.face) l y))
-      (lies-append (gather arc_labels M.arcs) (loop_labels M.loop ++ option_labels M.face) l x))
+      (λ z. let c = lies-sloop M.sloop l z in let i = at-sloop M.arcs M.sloop c.0 c.1 in item-found i.0 (sloop_item c.0) l i.1 c.2)
+      (λ z. ground-found l (lies-option M.ground l z))
+      (lies-append (sloop_labels M.sloop) (option_labels M.ground) l y))
+      (lies-append (gather arc_labels M.arcs) (sloop_labels M.sloop ++ option_labels M.ground) l x))
       (lies-append (gather svertex_labels M.svertices) later l m)
 
   full-one : (e : Vector) (k l : Label) → Full M e k → Full M e l → k ≡ l

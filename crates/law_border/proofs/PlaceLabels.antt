@@ -8,7 +8,7 @@ use Rattle.nef_space.specs.declared.label.Label.{Label}
 use Rattle.law_forms.proofs.Far.{nought-or}
 use Rattle.law_forms.proofs.Directions.{self-pos}
 use Rattle.law_forms.proofs.Representatives.{representative, representative_directions}
-use Rattle.law_sphere.specs.Maps.{At, Map, Item, items, item_normal, item_above, item_mark, item_below, OnItem, IsFree, MapLabel, on_item, NearLabel, Valid}
+use Rattle.law_sphere.specs.Maps.{At, Map, Item, items, item_normal, item_pos, item_mark, item_neg, OnItem, IsFree, MapLabel, on_item, NearLabel, Valid}
 use Rattle.law_sphere.specs.Forms.{SameSigns, forms}
 use Rattle.law_sphere.specs.Least.{by_side}
 use Rattle.law_sphere.specs.Labelling.{Labelling}
@@ -63,16 +63,16 @@ module _ (M : Map) (V : Valid M) where
   pub free-made : (k : Topology) (d : Vector) (m : Label) → IsFree M d → MapLabel M d m → TopologyLabel k M d (face_label k m)
   free-made k d m F a = even-made k d m a (near-free M V d F m a)
 
-  pub item-made : (k : Topology) (d : Vector) (i : ℕ) (x : Item) → At (items M) i x → OnItem M x d → TopologyLabel k M d (label_from k (item_mark x) (item_above x ∷ item_below x ∷ []))
-  item-made k d i x a o = made-at k d (item_mark x) (item_above x ∷ item_below x ∷ []) (on_item i x a o refl) (λ e. (side (sign (dot n e)), near-item M V d i x a o e, listed (sign (dot n e)))) found
+  pub item-made : (k : Topology) (d : Vector) (i : ℕ) (x : Item) → At (items M) i x → OnItem M x d → TopologyLabel k M d (label_from k (item_mark x) (item_pos x ∷ item_neg x ∷ []))
+  item-made k d i x a o = made-at k d (item_mark x) (item_pos x ∷ item_neg x ∷ []) (on_item i x a o refl) (λ e. (side (sign (dot n e)), near-item M V d i x a o e, listed (sign (dot n e)))) found
     where
       n : Vector
       n = item_normal x
 
       side : Sign → Label
-      side = by_side (item_above x) (item_mark x) (item_below x)
+      side = by_side (item_pos x) (item_mark x) (item_neg x)
 
-      listed : (s : Sign) → (item_mark x ≡ by_side (item_above x) (item_mark x) (item_below x) s) ⊎ Lies (item_above x ∷ item_below x ∷ []) (by_side (item_above x) (item_mark x) (item_below x) s)
+      listed : (s : Sign) → (item_mark x ≡ by_side (item_pos x) (item_mark x) (item_neg x) s) ⊎ Lies (item_pos x ∷ item_neg x ∷ []) (by_side (item_pos x) (item_mark x) (item_neg x) s)
       listed minus = inr (inr (inl refl))
       listed nought = inl refl
       listed plus = inr (inl refl)
@@ -83,9 +83,9 @@ module _ (M : Map) (V : Valid M) where
       down : dot (item_normal x) (away (item_normal x)) <ℤ pos 0
       down = let e = away-dot (item_normal x) (item_normal x) in let h = up in omega (arith, ints)
 
-      found : (l : Label) → Lies (item_above x ∷ item_below x ∷ []) l → (e : Vector) × NearLabel M d e l
-      found l (inl e) = (item_normal x, subst (NearLabel M d (item_normal x)) (ap (by_side (item_above x) (item_mark x) (item_below x)) (sign-plus (dot (item_normal x) (item_normal x)) up) ∙ e) (near-item M V d i x a o (item_normal x)))
-      found l (inr (inl e)) = (away (item_normal x), subst (NearLabel M d (away (item_normal x))) (ap (by_side (item_above x) (item_mark x) (item_below x)) (sign-minus (dot (item_normal x) (away (item_normal x))) down) ∙ e) (near-item M V d i x a o (away (item_normal x))))
+      found : (l : Label) → Lies (item_pos x ∷ item_neg x ∷ []) l → (e : Vector) × NearLabel M d e l
+      found l (inl e) = (item_normal x, subst (NearLabel M d (item_normal x)) (ap (by_side (item_pos x) (item_mark x) (item_neg x)) (sign-plus (dot (item_normal x) (item_normal x)) up) ∙ e) (near-item M V d i x a o (item_normal x)))
+      found l (inr (inl e)) = (away (item_normal x), subst (NearLabel M d (away (item_normal x))) (ap (by_side (item_pos x) (item_mark x) (item_neg x)) (sign-minus (dot (item_normal x) (away (item_normal x))) down) ∙ e) (near-item M V d i x a o (away (item_normal x))))
       found l (inr (inr e)) = absurd e
 
   -- ---- each direction, by finitely many near it

@@ -7,7 +7,7 @@ use Rattle.nef_space.specs.Vectors.{Vector, IsDirection, dot, SameDirection, IsN
 use Rattle.nef_space.specs.declared.label.Label.{Label}
 use Rattle.law_cyclic.specs.Arcs.{IsOnCircle}
 use Rattle.law_sphere.specs.Vectors.{IsPrimitive, VectorBelow}
-use Rattle.law_sphere.specs.Maps.{At, Svertex, Loop, Map, Item, loop_item, items, item_normal, item_above, item_mark, item_below, OnItem, IsFree, MapLabel, Valid}
+use Rattle.law_sphere.specs.Maps.{At, MapVertex, MapSloop, Map, Item, sloop_item, items, item_normal, item_pos, item_mark, item_neg, OnItem, IsFree, MapLabel, Valid}
 use Rattle.law_sphere.specs.Forms.{forms, Keeps}
 use Rattle.law_sphere.specs.Least.{by_side, InOrder, Ordered}
 use Rattle.law_sphere.specs.Stars.{Star}
@@ -19,18 +19,18 @@ use Rattle.law_sphere.proofs.Forms.{axes-forms, on-direction, on-level, PlaceOf,
 use Rattle.law_sphere.proofs.Labels.{label-exists}
 use Rattle.law_sphere.proofs.Around.{free-around, item-stays, free-beside}
 use Rattle.law_sphere.proofs.NearItems.{label-beside, label-around}
-use Rattle.law_sphere.proofs.Compare.{way-self, SameDirection-turned}
-use Rattle.law_sphere.proofs.Arcs.{at-loop, level-same}
+use Rattle.law_sphere.proofs.Compare.{dir-self, SameDirection-turned}
+use Rattle.law_sphere.proofs.Arcs.{at-sloop, level-same}
 use Rattle.law_sphere.proofs.Along.{not-even}
 use Rattle.law_sphere.proofs.Flips.{directed-by, far_directed-by, planes-parallel}
 use Rattle.law_build.specs.Raw.{RawMap, Of, IsLabelling, ShowsLabels, IsBare, IsRawOf}
 use Rattle.law_build.specs.Overlays.{OnSvertex}
 use Rattle.law_build.proofs.Chosen.{chosen, chosen-is, chosen-labelling}
 use Rattle.law_build.proofs.SideLabels.{normals-same_way}
-use Rattle.law_build.proofs.LoneLoops.{item-loop, loop-normal}
-use Rattle.law_build.proofs.RawFaces.{none-at, no-item, only-face}
+use Rattle.law_build.proofs.LoneSloops.{item-sloop, sloop-normal}
+use Rattle.law_build.proofs.RawGround.{none-at, no-item, only-ground}
 use Rattle.law_border.specs.Topology.{Topology, TopologyLabel}
-use Rattle.law_border.specs.Marks.{label_from, face_label, loop_by, IsRemarkedAt, IsTopologyRaw}
+use Rattle.law_border.specs.Marks.{label_from, face_label, sloop_by, IsRemarkedAt, IsTopologyRaw}
 use Rattle.law_border.specs.Laws.{TopologyLabelling, TopologyOneLabel, TopologyStars}
 use Rattle.law_border.proofs.Listed.{option-was, none-was}
 use Rattle.law_build.proofs.KeptStars.{at-other, none-left}
@@ -39,12 +39,12 @@ use Rattle.law_border.proofs.RemarkedStars.{is-by, near-by, remarked-shows}
 
 -- what an item's mark becomes
 abbrev pub item_label : Topology → Item → Label
-item_label k x = label_from k (item_mark x) (item_above x ∷ item_below x ∷ [])
+item_label k x = label_from k (item_mark x) (item_pos x ∷ item_neg x ∷ [])
 
 module _ (K : Topology) (M : Map) (V : Valid M) (L : Vector → Label) (top : (d : Vector) → IsDirection d → TopologyLabel K M d (L d)) where
   -- ---- items and faces
   -- on an item the labels are those of its sides and its mark
-  pub item-straight : (i : ℕ) (x : Item) → At (items M) i x → (d : Vector) → OnItem M x d → StraightAt (Of L) (item_normal x) (face_label K (item_above x)) (item_label K x) (face_label K (item_below x)) d
+  pub item-straight : (i : ℕ) (x : Item) → At (items M) i x → (d : Vector) → OnItem M x d → StraightAt (Of L) (item_normal x) (face_label K (item_pos x)) (item_label K x) (face_label K (item_neg x)) d
   item-straight i x a d o = record {
     level = on-level M x d o;
     at_d = is-by K M V L top d h (item_label K x) (item-made M V K d i x a o);
@@ -58,25 +58,25 @@ module _ (K : Topology) (M : Map) (V : Valid M) (L : Vector → Label) (top : (d
       h = on-direction M x d o
 
       side : Sign → Label
-      side = by_side (face_label K (item_above x)) (item_label K x) (face_label K (item_below x))
+      side = by_side (face_label K (item_pos x)) (item_label K x) (face_label K (item_neg x))
 
       close : (e : Vector) (k : ℕ) → amount (forms M) e ≤ k
-          → L (blend k d 1 e) ≡ by_side (face_label K (item_above x)) (item_label K x) (face_label K (item_below x)) (sign (dot (item_normal x) (blend k d 1 e)))
+          → L (blend k d 1 e) ≡ by_side (face_label K (item_pos x)) (item_label K x) (face_label K (item_neg x)) (sign (dot (item_normal x) (blend k d 1 e)))
       close e k s = by_order (dot (item_normal x) (blend k d 1 e)) (pos 0)
-          (λ l. beside (item_below x) (λ z. omega (arith, ints)) (subst (MapLabel M (blend k d 1 e)) (ap (by_side (item_above x) (item_mark x) (item_below x)) (sign-minus (dot (item_normal x) (blend k d 1 e)) l)) here)
+          (λ l. beside (item_neg x) (λ z. omega (arith, ints)) (subst (MapLabel M (blend k d 1 e)) (ap (by_side (item_pos x) (item_mark x) (item_neg x)) (sign-minus (dot (item_normal x) (blend k d 1 e)) l)) here)
           ∙ ap sides (sym (sign-minus (dot (item_normal x) (blend k d 1 e)) l)))
           (λ z. is-by K M V L top (blend k d 1 e) (far_directed-by (forms M) (axes-forms M) d e k s (on-direction M x d o)) (item_label K x)
           (item-made M V K (blend k d 1 e) i x a (item-stays M V.shaped d (blend k d 1 e) kept i x a z o)) ∙ ap sides (sym (ap sign z)))
-          (λ l. beside (item_above x) (λ z. omega (arith, ints)) (subst (MapLabel M (blend k d 1 e)) (ap (by_side (item_above x) (item_mark x) (item_below x)) (sign-plus (dot (item_normal x) (blend k d 1 e)) l)) here)
+          (λ l. beside (item_pos x) (λ z. omega (arith, ints)) (subst (MapLabel M (blend k d 1 e)) (ap (by_side (item_pos x) (item_mark x) (item_neg x)) (sign-plus (dot (item_normal x) (blend k d 1 e)) l)) here)
           ∙ ap sides (sym (sign-plus (dot (item_normal x) (blend k d 1 e)) l)))
         where
           sides : Sign → Label
-          sides = by_side (face_label K (item_above x)) (item_label K x) (face_label K (item_below x))
+          sides = by_side (face_label K (item_pos x)) (item_label K x) (face_label K (item_neg x))
 
           kept : Keeps (forms M) d (blend k d 1 e)
           kept = far-keeps (forms M) d e k s
 
-          here : MapLabel M (blend k d 1 e) (by_side (item_above x) (item_mark x) (item_below x) (sign (dot (item_normal x) (blend k d 1 e))))
+          here : MapLabel M (blend k d 1 e) (by_side (item_pos x) (item_mark x) (item_neg x) (sign (dot (item_normal x) (blend k d 1 e))))
           here = label-beside M V.shaped d (blend k d 1 e) kept i x a o
 
           beside : (l : Label) → (dot (item_normal x) (blend k d 1 e) ≡ pos 0 → ⊥) → MapLabel M (blend k d 1 e) l → L (blend k d 1 e) ≡ face_label K l
@@ -103,10 +103,10 @@ module _ (K : Topology) (M : Map) (V : Valid M) (L : Vector → Label) (top : (d
     module _ (O : Ordered M) (R : RawMap) (T : IsTopologyRaw K M R) where
       -- ---- stars
       record Svertices (k : ℕ) (u : Star) : Type 0 where
-        svertex : Svertex
+        svertex : MapVertex
         listed : At M.svertices k svertex
-        remarked : IsRemarkedAt K M svertex.way u
-        axis : u.axis ≡ svertex.way
+        remarked : IsRemarkedAt K M svertex.dir u
+        axis : u.axis ≡ svertex.dir
 
       svertex-of : (k : ℕ) (u : Star) → At R.stars k u → Svertices k u
       svertex-of k u a =
@@ -115,7 +115,7 @@ module _ (K : Topology) (M : Map) (V : Valid M) (L : Vector → Label) (top : (d
           let m = r.remarked in
           record { svertex = v.0; listed = v.1; remarked = r; axis = m.axis ∙ r.axis }
 
-      star-of : (k : ℕ) (v : Svertex) → At M.svertices k v → (u : Star) × At R.stars k u × (u.axis ≡ v.way)
+      star-of : (k : ℕ) (v : MapVertex) → At M.svertices k v → (u : Star) × At R.stars k u × (u.axis ≡ v.dir)
       star-of k v a =
           let u = at-other M.svertices R.stars k v (sym T.as_many) a in
           let r = T.stars k v u.0 a u.1 in
@@ -129,77 +129,77 @@ module _ (K : Topology) (M : Map) (V : Valid M) (L : Vector → Label) (top : (d
       in-order i k t u l a b =
           let x = svertex-of i t a in
           let y = svertex-of k u b in
-          subst (λ (v : Vector). VectorBelow v u.axis) (sym x.axis) (subst (VectorBelow x.svertex.way) (sym y.axis) (O.svertices i k x.svertex y.svertex l x.listed y.listed))
+          subst (λ (v : Vector). VectorBelow v u.axis) (sym x.axis) (subst (VectorBelow x.svertex.dir) (sym y.axis) (O.svertices i k x.svertex y.svertex l x.listed y.listed))
 
       smooth : (d : Vector) → IsDirection d → ((k : ℕ) (t : Star) → At R.stars k t → SameDirection t.axis d → ⊥) → IsSmooth (Of L) d
       smooth d h none = by (place_of M d h)
         where
           by : PlaceOf M d → IsSmooth (Of L) d
           by (svertex_place k v a w) = let s = star-of k v a in absurd (none k s.0 s.1 (subst (λ (x : Vector). SameDirection x d) (sym s.2) w))
-          by (item_place i x a o) = straight (item_normal x) (face_label K (item_above x)) (item_label K x) (face_label K (item_below x)) (normal-is V.shaped i x a) (item-straight i x a d o)
+          by (item_place i x a o) = straight (item_normal x) (face_label K (item_pos x)) (item_label K x) (face_label K (item_neg x)) (normal-is V.shaped i x a) (item-straight i x a d o)
           by (free_place F) = let a = label-exists M V d h in plain (face_label K a.0) (free-plain d F a.0 a.1)
 
       -- ---- the circle
-      loop-was : (l : Loop) → R.loop ≡ Some l → (c : Loop) × (M.loop ≡ Some c) × (loop_by K c ≡ l)
-      loop-was l e = option-was (loop_by K) M.loop l (sym T.loop ∙ e)
+      sloop-was : (l : MapSloop) → R.sloop ≡ Some l → (c : MapSloop) × (M.sloop ≡ Some c) × (sloop_by K c ≡ l)
+      sloop-was l e = option-was (sloop_by K) M.sloop l (sym T.sloop ∙ e)
 
-      raw-loop_normal : (l : Loop) → R.loop ≡ Some l → IsNormal l.normal
-      raw-loop_normal l e = let c = loop-was l e in subst (λ (z : Loop). IsNormal z.normal) c.2 (loop-normal M V.shaped c.0 c.1)
+      raw-sloop_normal : (l : MapSloop) → R.sloop ≡ Some l → IsNormal l.normal
+      raw-sloop_normal l e = let c = sloop-was l e in subst (λ (z : MapSloop). IsNormal z.normal) c.2 (sloop-normal M V.shaped c.0 c.1)
 
-      raw-loop_lowest : (l : Loop) → R.loop ≡ Some l → IsPrimitive l.normal
-      raw-loop_lowest l e = let c = loop-was l e in let i = at-loop M.arcs M.loop c.0 c.1 in subst (λ (z : Loop). IsPrimitive z.normal) c.2 (O.normals_lowest i.0 (loop_item c.0) i.1)
+      raw-sloop_lowest : (l : MapSloop) → R.sloop ≡ Some l → IsPrimitive l.normal
+      raw-sloop_lowest l e = let c = sloop-was l e in let i = at-sloop M.arcs M.sloop c.0 c.1 in subst (λ (z : MapSloop). IsPrimitive z.normal) c.2 (O.normals_lowest i.0 (sloop_item c.0) i.1)
 
-      raw-loop_bare : (l : Loop) → R.loop ≡ Some l → IsBare R.stars l.normal
-      raw-loop_bare l e = let c = loop-was l e in let i = at-loop M.arcs M.loop c.0 c.1 in
-          subst (λ (z : Loop). IsBare R.stars z.normal) c.2 (λ k t a z.
+      raw-sloop_bare : (l : MapSloop) → R.sloop ≡ Some l → IsBare R.stars l.normal
+      raw-sloop_bare l e = let c = sloop-was l e in let i = at-sloop M.arcs M.sloop c.0 c.1 in
+          subst (λ (z : MapSloop). IsBare R.stars z.normal) c.2 (λ k t a z.
           let s = svertex-of k t a in
-          V.shaped.no_svertex_on_item k i.0 s.svertex (loop_item c.0) s.listed i.1 (record { direction = V.shaped.svertex_ways k s.svertex s.listed; level = subst (λ (v : Vector). dot c.0.normal v ≡ pos 0) s.axis z }))
+          V.shaped.no_svertex_on_item k i.0 s.svertex (sloop_item c.0) s.listed i.1 (record { direction = V.shaped.svertex_dirs k s.svertex s.listed; level = subst (λ (v : Vector). dot c.0.normal v ≡ pos 0) s.axis z }))
 
-      raw-loop_labels : (l : Loop) (y : Vector) → R.loop ≡ Some l → IsOnCircle l.normal y → StraightAt (Of L) l.normal l.above l.mark l.below y
-      raw-loop_labels l y e = let c = loop-was l e in let i = at-loop M.arcs M.loop c.0 c.1 in
-          subst (λ (z : Loop). IsOnCircle z.normal y → StraightAt (Of L) z.normal z.above z.mark z.below y) c.2 (λ o. item-straight i.0 (loop_item c.0) i.1 y o)
+      raw-sloop_labels : (l : MapSloop) (y : Vector) → R.sloop ≡ Some l → IsOnCircle l.normal y → StraightAt (Of L) l.normal l.pos l.mark l.neg y
+      raw-sloop_labels l y e = let c = sloop-was l e in let i = at-sloop M.arcs M.sloop c.0 c.1 in
+          subst (λ (z : MapSloop). IsOnCircle z.normal y → StraightAt (Of L) z.normal z.pos z.mark z.neg y) c.2 (λ o. item-straight i.0 (sloop_item c.0) i.1 y o)
 
       -- no svertex lies on a bare circle
       bare-off : (n : Vector) → IsDirection n → IsBare R.stars n → (d : Vector) → IsOnCircle n d → OnSvertex M d → ⊥
       bare-off n h bare d o (k, v, a, w) =
           let s = star-of k v a in
-          bare k s.0 s.1 (subst (λ (x : Vector). dot n x ≡ pos 0) (sym s.2) (level-same n n d v.way (way-self n h) (SameDirection-turned v.way d w) o.level))
+          bare k s.0 s.1 (subst (λ (x : Vector). dot n x ≡ pos 0) (sym s.2) (level-same n n d v.dir (dir-self n h) (SameDirection-turned v.dir d w) o.level))
 
-      raw-loop_all : (n y : Vector) (a m b : Label) → IsNormal n → IsBare R.stars n → IsOnCircle n y → Proper a m b → StraightAt (Of L) n a m b y → (l : Loop) × (R.loop ≡ Some l) × SameDirection n l.normal
-      raw-loop_all n y a m b hn bare o proper p = by (place_of M y o.direction)
+      raw-sloop_all : (n y : Vector) (a m b : Label) → IsNormal n → IsBare R.stars n → IsOnCircle n y → Proper a m b → StraightAt (Of L) n a m b y → (l : MapSloop) × (R.sloop ≡ Some l) × SameDirection n l.normal
+      raw-sloop_all n y a m b hn bare o proper p = by (place_of M y o.direction)
         where
           h : IsDirection n
           h = normal-direction n hn
 
-          by : PlaceOf M y → (l : Loop) × (R.loop ≡ Some l) × SameDirection n l.normal
+          by : PlaceOf M y → (l : MapSloop) × (R.sloop ≡ Some l) × SameDirection n l.normal
           by (svertex_place k v q w) = absurd (bare-off n h bare y o (k, v, q, w))
           by (free_place F) = let q = label-exists M V y o.direction in absurd (plain-not_proper n y a m b (face_label K q.0) h o.direction p (free-plain y F q.0 q.1) proper)
           by (item_place i x q c) =
-              let z = planes-parallel (forms M) (Of L) of-labels (axes-forms M) n a m b proper h (item_normal x) (face_label K (item_above x)) (item_label K x) (face_label K (item_below x)) y o.direction p (item-straight i x q y c) in
-              let r = item-loop M V.shaped n (bare-off n h bare) i x q (normals-same_way n (item_normal x) hn (V.shaped.normals i x q) z) in
-              (loop_by K r.0, T.loop ∙ ap (option_map (loop_by K)) r.1, r.2)
+              let z = planes-parallel (forms M) (Of L) of-labels (axes-forms M) n a m b proper h (item_normal x) (face_label K (item_pos x)) (item_label K x) (face_label K (item_neg x)) y o.direction p (item-straight i x q y c) in
+              let r = item-sloop M V.shaped n (bare-off n h bare) i x q (normals-same_way n (item_normal x) hn (V.shaped.normals i x q) z) in
+              (sloop_by K r.0, T.sloop ∙ ap (option_map (sloop_by K)) r.1, r.2)
 
       -- ---- the face
-      raw-ground_alone : R.stars ≡ [] → R.loop ≡ None → (m : Label) × (R.face ≡ Some m)
+      raw-ground_alone : R.stars ≡ [] → R.sloop ≡ None → (m : Label) × (R.ground ≡ Some m)
       raw-ground_alone z e =
-          let r = V.shaped.ground_alone (none-left R.stars M.svertices T.as_many z) (none-was (loop_by K) M.loop (sym T.loop ∙ e)) in
-          (face_label K r.0, T.face ∙ ap (option_map (face_label K)) r.1)
+          let r = V.shaped.ground_alone (none-left R.stars M.svertices T.as_many z) (none-was (sloop_by K) M.sloop (sym T.sloop ∙ e)) in
+          (face_label K r.0, T.ground ∙ ap (option_map (face_label K)) r.1)
 
-      face-was : (m : Label) → R.face ≡ Some m → (c : Label) × (M.face ≡ Some c) × (face_label K c ≡ m)
-      face-was m e = option-was (face_label K) M.face m (sym T.face ∙ e)
+      ground-was : (m : Label) → R.ground ≡ Some m → (c : Label) × (M.ground ≡ Some c) × (face_label K c ≡ m)
+      ground-was m e = option-was (face_label K) M.ground m (sym T.ground ∙ e)
 
-      raw-ground_not : (m : Label) → R.face ≡ Some m → (R.stars ≡ []) × (R.loop ≡ None)
-      raw-ground_not m e = let c = face-was m e in let g = V.shaped.ground_not c.0 c.1 in (none-left M.svertices R.stars (sym T.as_many) g.0, T.loop ∙ ap (option_map (loop_by K)) g.1)
+      raw-ground_not : (m : Label) → R.ground ≡ Some m → (R.stars ≡ []) × (R.sloop ≡ None)
+      raw-ground_not m e = let c = ground-was m e in let g = V.shaped.ground_not c.0 c.1 in (none-left M.svertices R.stars (sym T.as_many) g.0, T.sloop ∙ ap (option_map (sloop_by K)) g.1)
 
-      raw-ground_label : (m : Label) (d : Vector) → R.face ≡ Some m → IsDirection d → L d ≡ m
+      raw-ground_label : (m : Label) (d : Vector) → R.ground ≡ Some m → IsDirection d → L d ≡ m
       raw-ground_label m d e h =
-          let c = face-was m e in
+          let c = ground-was m e in
           let g = V.shaped.ground_not c.0 c.1 in
           let a = label-exists M V d h in
-          let b = subst (MapLabel M d) (only-face M V.shaped g.0 g.1 c.0 c.1 d a.0 a.1) a.1 in
+          let b = subst (MapLabel M d) (only-ground M V.shaped g.0 g.1 c.0 c.1 d a.0 a.1) a.1 in
           is-by K M V L top d h (face_label K c.0) (free-made M V K d c.0 (free g.0 g.1) b) ∙ c.2
         where
-          free : M.svertices ≡ [] → M.loop ≡ None → IsFree M d
+          free : M.svertices ≡ [] → M.sloop ≡ None → IsFree M d
           free z q = record { direction = h; off_svertices = λ k v a w. none-at M.svertices k v z a; off_items = λ i x a o. no-item M V.shaped z q i x a }
 
       pub raw-topology : IsRawOf R L
@@ -207,11 +207,11 @@ module _ (K : Topology) (M : Map) (V : Valid M) (L : Vector → Label) (top : (d
         stars = shows;
         ordered = in-order;
         smooth = smooth;
-        loop_normal = raw-loop_normal;
-        loop_lowest = raw-loop_lowest;
-        loop_bare = raw-loop_bare;
-        loop_labels = raw-loop_labels;
-        loop_all = raw-loop_all;
+        sloop_normal = raw-sloop_normal;
+        sloop_lowest = raw-sloop_lowest;
+        sloop_bare = raw-sloop_bare;
+        sloop_labels = raw-sloop_labels;
+        sloop_all = raw-sloop_all;
         ground_alone = raw-ground_alone;
         ground_not = raw-ground_not;
         ground_label = raw-ground_label;

@@ -12,15 +12,15 @@ use Rattle.law_near.proofs.FlatDecided.{triple-dot}
 use Rattle.law_sphere.specs.Maps.{At, Map, NearLabel, Valid}
 use Rattle.law_sphere.specs.Forms.{SameSigns, axes, forms, arc_forms}
 use Rattle.law_sphere.specs.Least.{by_side}
-use Rattle.law_sphere.specs.Stars.{Ray, Star, ray_way, across, OnRay, PastRay, NextRay, StarLabel, on_ray, in_sector, in_only_sector, StarShows, Follows}
+use Rattle.law_sphere.specs.Stars.{Ray, Star, ray_dir, across, OnRay, PastRay, NextRay, StarLabel, on_ray, in_sector, in_only_sector, StarShows, Follows}
 use Rattle.law_sphere.proofs.Forms.{axes-forms}
 use Rattle.law_sphere.proofs.StarKinds.{across-side}
 use Rattle.law_sphere.proofs.Simplified.{across-same, next-ray, previous, ray-level}
 use Rattle.law_sphere.proofs.Generic.{amount, far-keeps, far-level}
 use Rattle.law_sphere.proofs.Places.{IsStrictlyOn-stays}
 use Rattle.law_sphere.proofs.Parallel.{past_source, arc-point, circle-point}
-use Rattle.law_sphere.proofs.Labels.{way-signs, label-by_signs, near-from_far, far-from_near}
-use Rattle.law_sphere.proofs.Compare.{way-self}
+use Rattle.law_sphere.proofs.Labels.{dir-signs, label-by_signs, near-from_far, far-from_near}
+use Rattle.law_sphere.proofs.Compare.{dir-self}
 use Rattle.law_sphere.proofs.Turn.{IsStrictlyOn-same}
 use Rattle.law_sphere.proofs.Kind.{away, away-dot}
 use Rattle.law_sphere.proofs.KindFlats.{in-span}
@@ -41,8 +41,8 @@ module _ (t : Star) (M : Map) (V : Valid M) (W : IsWellFormed t) (S : StarShows 
   abbrev d : Vector
   d = t.axis
 
-  way-at : (k : ℕ) (r : Ray) → At t.rays k r → (dot d (ray_way t r) ≡ pos 0) × IsDirection (ray_way t r)
-  way-at k r a = ray-level t W.axis r (W.rays k r a)
+  dir-at : (k : ℕ) (r : Ray) → At t.rays k r → (dot d (ray_dir t r) ≡ pos 0) × IsDirection (ray_dir t r)
+  dir-at k r a = ray-level t W.axis r (W.rays k r a)
 
   -- ---- near what is near the axis
   far-off_axis : (e c : Vector) (i : ℕ) → amount axes (cross d c) ≤ i → IsDirection (cross d e) → IsDirection (cross d (blend i e 1 c))
@@ -52,9 +52,9 @@ module _ (t : Star) (M : Map) (V : Valid M) (W : IsWellFormed t) (S : StarShows 
   star-near e c l low f g k hk =
       near-onward M V d e c l k (low + amount axes (cross d c)) W.axis hk (λ i h. S.labels (blend i e 1 c) l (far-off_axis e c i (omega arith) f) (g i (omega arith)))
 
-  ray-found : (k : ℕ) (r : Ray) → At t.rays k r → NearLabel M d (ray_way t r) r.mark
-  ray-found k r a = let w = way-at k r a in
-      S.labels (ray_way t r) r.mark (off-axis d (ray_way t r) W.axis w.1 w.0) (on_ray k r a (across-same d (ray_way t r) W.axis w.1 w.0) refl)
+  ray-found : (k : ℕ) (r : Ray) → At t.rays k r → NearLabel M d (ray_dir t r) r.mark
+  ray-found k r a = let w = dir-at k r a in
+      S.labels (ray_dir t r) r.mark (off-axis d (ray_dir t r) W.axis w.1 w.0) (on_ray k r a (across-same d (ray_dir t r) W.axis w.1 w.0) refl)
 
   -- ---- a ray and the sectors beside it
   pub record Sides (k : ℕ) (r : Ray) : Type 0 where
@@ -74,7 +74,7 @@ module _ (t : Star) (M : Map) (V : Valid M) (W : IsWellFormed t) (S : StarShows 
 
   module _ (k : ℕ) (r : Ray) (a : At t.rays k r) (D : Sides k r) where
     abbrev s : Vector
-    s = ray_way t r
+    s = ray_dir t r
 
     abbrev sides : List Label
     sides = D.before ∷ D.after ∷ []
@@ -83,7 +83,7 @@ module _ (t : Star) (M : Map) (V : Valid M) (W : IsWellFormed t) (S : StarShows 
     side = by_side D.after r.mark D.before
 
     s-off : IsDirection (cross d s)
-    s-off = let w = way-at k r a in off-axis d s W.axis w.1 w.0
+    s-off = let w = dir-at k r a in off-axis d s W.axis w.1 w.0
 
     -- close to the axis along the ray, whatever the side
     near-side : (i : ℕ) → amount (forms M) s ≤ i → (c : Vector) → NearLabel M (blend i d 1 s) c (side (sign (triple d s c)))
@@ -112,7 +112,7 @@ module _ (t : Star) (M : Map) (V : Valid M) (W : IsWellFormed t) (S : StarShows 
     -- the signs close to the axis are the same for all directions on the ray
     on-signs : (e : Vector) → OnRay t r e → (j i : ℕ) → amount (forms M) s ≤ j → amount (forms M) e ≤ i → SameSigns (forms M) (blend j d 1 s) (blend i d 1 e)
     on-signs e o j i hj hi g m = ⊎_elim
-        (λ z. far-level (forms M) d e i hi g z ∙ sym (sign-scaled (dot d d) (dot g e) (self-pos d W.axis)) ∙ ap sign (sym (across-side g d e z)) ∙ way-signs s (across d e) g (let w = way-at k r a in w.1) o ∙ sym (far-level (forms M) d s j hj g z))
+        (λ z. far-level (forms M) d e i hi g z ∙ sym (sign-scaled (dot d d) (dot g e) (self-pos d W.axis)) ∙ ap sign (sym (across-side g d e z)) ∙ dir-signs s (across d e) g (let w = dir-at k r a in w.1) o ∙ sym (far-level (forms M) d s j hj g z))
         (λ f. far-keeps (forms M) d e i hi g m f ∙ sym (far-keeps (forms M) d s j hj g m f)) (nought-or (dot g d))
 
     pub ray-made : (e : Vector) → OnRay t r e → (i : ℕ) → amount (forms M) e ≤ i → (K : Topology) → TopologyLabel K M (blend i d 1 e) (label_from K r.mark sides)
@@ -127,11 +127,11 @@ module _ (t : Star) (M : Map) (V : Valid M) (W : IsWellFormed t) (S : StarShows 
       → (i : ℕ) → amount (forms M) e ≤ i → TopologyLabel K M (blend i d 1 e) (face_label K l)
   sector-made K k q r l e a n o b f i h = even-made M V K (blend i d 1 e) l
       (far-from_near M V d e i h l (S.labels e l f (in_sector k q r a n o b)))
-      (λ c. star-near e c l (amount (arc_forms d (ray_way t q) (ray_way t r)) (across d c)) f (λ j s. in_sector k q r a n (stays c j s) b) i h)
+      (λ c. star-near e c l (amount (arc_forms d (ray_dir t q) (ray_dir t r)) (across d c)) f (λ j s. in_sector k q r a n (stays c j s) b) i h)
     where
-      stays : (c : Vector) (j : ℕ) → amount (arc_forms d (ray_way t q) (ray_way t r)) (across d c) ≤ j → PastRay t q r (blend j e 1 c)
-      stays c j s = IsStrictlyOn-stays d (ray_way t q) (ray_way t r) (across d e) (across d (blend j e 1 c))
-          (λ g m z. ap (λ (v : Vector). sign (dot g v)) (across-blend d e c j) ∙ far-keeps (arc_forms d (ray_way t q) (ray_way t r)) (across d e) (across d c) j s g m z) (across-level d (blend j e 1 c)) o
+      stays : (c : Vector) (j : ℕ) → amount (arc_forms d (ray_dir t q) (ray_dir t r)) (across d c) ≤ j → PastRay t q r (blend j e 1 c)
+      stays c j s = IsStrictlyOn-stays d (ray_dir t q) (ray_dir t r) (across d e) (across d (blend j e 1 c))
+          (λ g m z. ap (λ (v : Vector). sign (dot g v)) (across-blend d e c j) ∙ far-keeps (arc_forms d (ray_dir t q) (ray_dir t r)) (across d e) (across d c) j s g m z) (across-level d (blend j e 1 c)) o
 
   pub only-made : (K : Topology) (l : Label) (e : Vector) → t.rays ≡ [] → At t.sectors zero l → IsDirection (cross d e) → (i : ℕ) → amount (forms M) e ≤ i → TopologyLabel K M (blend i d 1 e) (face_label K l)
   only-made K l e z b f i h = even-made M V K (blend i d 1 e) l (far-from_near M V d e i h l (S.labels e l f (in_only_sector z b))) (λ c. star-near e c l 0 f (λ j s. in_only_sector z b) i h)
@@ -155,16 +155,16 @@ module _ (t : Star) (M : Map) (V : Valid M) (W : IsWellFormed t) (S : StarShows 
   sector-found : (k : ℕ) (q : Ray) (l : Label) → At t.rays k q → At t.sectors k l → (e : Vector) × NearLabel M d e l
   sector-found k q l a b =
       let n = next-ray t.rays k q a in
-      let w = way-at k q a in
-      let v = way-at n.1 n.0 n.2 in
-      let s = ray_way t q in
-      let p = ray_way t n.0 in
+      let w = dir-at k q a in
+      let v = dir-at n.1 n.0 n.2 in
+      let s = ray_dir t q in
+      let p = ray_dir t n.0 in
       let K = amount (cross p d ∷ []) (cross d s) in
       let y = past_source d s K in
       let o = arc-point d s p W.axis w.1 v.1 w.0 v.0 K (omega arith) in
       let h = o.on_circle.direction in
       let z = o.on_circle.level in
-      (y, S.labels y l (off-axis d y W.axis h z) (in_sector k q n.0 a n.3 (IsStrictlyOn-same d d s s p p y (across d y) (way-self d W.axis) (way-self s w.1) (way-self p v.1) (across-same d y W.axis h z) o) b))
+      (y, S.labels y l (off-axis d y W.axis h z) (in_sector k q n.0 a n.3 (IsStrictlyOn-same d d s s p p y (across d y) (dir-self d W.axis) (dir-self s w.1) (dir-self p v.1) (across-same d y W.axis h z) o) b))
 
   only-found : (l : Label) → t.rays ≡ [] → At t.sectors zero l → (e : Vector) × NearLabel M d e l
   only-found l z b = let y = circle-point d W.axis in let o = y.1 in (y.0, S.labels y.0 l (off-axis d y.0 W.axis o.direction o.level) (in_only_sector z b))
@@ -195,6 +195,6 @@ module _ (t : Star) (M : Map) (V : Valid M) (W : IsWellFormed t) (S : StarShows 
 
       found : (l : Label) → Lies (star_labels t) l → (e : Vector) × NearLabel M d e l
       found l x = ⊎_elim
-          (λ y. let k = lies-at (map ray_mark t.rays) l y in let r = at-map ray_mark t.rays k.0 l k.1 in (ray_way t r.0, subst (NearLabel M d (ray_way t r.0)) r.2 (ray-found k.0 r.0 r.1)))
+          (λ y. let k = lies-at (map ray_mark t.rays) l y in let r = at-map ray_mark t.rays k.0 l k.1 in (ray_dir t r.0, subst (NearLabel M d (ray_dir t r.0)) r.2 (ray-found k.0 r.0 r.1)))
           (λ y. let k = lies-at t.sectors l y in sectors-found k.0 l k.1)
           (lies-append (map ray_mark t.rays) t.sectors l x)

@@ -3,7 +3,7 @@ use Rattle.std.specs.Prelude.{◌≡◌, ℕ, List, [], ◌∷◌, ◌++◌, map
 use Rattle.nef_space.specs.Vectors.{Vector}
 use Rattle.nef_space.specs.declared.label.Label.{Label}
 use Rattle.nef_space.specs.declared.label.Label.TheVariants.{Out, Not, In}
-use Rattle.law_sphere.specs.Maps.{At, Svertex, Arc, Loop, Map}
+use Rattle.law_sphere.specs.Maps.{At, MapVertex, Arc, MapSloop, Map}
 use Rattle.law_sphere.specs.Forms.{gather}
 use Rattle.law_sphere.specs.Stars.{Ray, Star, StarShows, Follows}
 use Rattle.law_build.specs.Raw.{RawMap, IsWellFormed}
@@ -55,18 +55,18 @@ abbrev pub option_labels : Option Label → List Label
 option_labels None = []
 option_labels (Some l) = l ∷ []
 
-abbrev pub svertex_labels : Svertex → List Label
+abbrev pub svertex_labels : MapVertex → List Label
 svertex_labels v = v.mark ∷ option_labels v.around
 
 abbrev pub arc_labels : Arc → List Label
-arc_labels a = a.above ∷ a.mark ∷ a.below ∷ []
+arc_labels a = a.pos ∷ a.mark ∷ a.neg ∷ []
 
-abbrev pub loop_labels : Option Loop → List Label
-loop_labels None = []
-loop_labels (Some l) = l.above ∷ l.mark ∷ l.below ∷ []
+abbrev pub sloop_labels : Option MapSloop → List Label
+sloop_labels None = []
+sloop_labels (Some l) = l.pos ∷ l.mark ∷ l.neg ∷ []
 
 abbrev pub map_labels : Map → List Label
-map_labels M = gather svertex_labels M.svertices ++ (gather arc_labels M.arcs ++ (loop_labels M.loop ++ option_labels M.face))
+map_labels M = gather svertex_labels M.svertices ++ (gather arc_labels M.arcs ++ (sloop_labels M.sloop ++ option_labels M.ground))
 
 -- ---- stars and circles
 abbrev pub ray_mark : Ray → Label
@@ -96,29 +96,29 @@ pub record IsRemarkedAt (k : Topology) (M : Map) (d : Vector) (u : Star) : Type 
   pub shows : StarShows star M
   pub remarked : IsRemarked k star u
 
-abbrev pub loop_by : Topology → Loop → Loop
-loop_by k l = record { normal = l.normal; above = face_label k l.above; mark = label_from k l.mark (l.above ∷ l.below ∷ []); below = face_label k l.below }
+abbrev pub sloop_by : Topology → MapSloop → MapSloop
+sloop_by k l = record { normal = l.normal; pos = face_label k l.pos; mark = label_from k l.mark (l.pos ∷ l.neg ∷ []); neg = face_label k l.neg }
 
 -- a star for each svertex of the map, in order; the map's mark, its sloop and its one face with what they become
 pub record IsTopologyRaw (k : Topology) (M : Map) (R : RawMap) : Type 0 where
   pub mark : R.mark ≡ label_from k M.mark (map_labels M)
   pub as_many : length R.stars ≡ length M.svertices
-  pub stars : (i : ℕ) (v : Svertex) (u : Star) → At M.svertices i v → At R.stars i u → IsRemarkedAt k M v.way u
-  pub loop : R.loop ≡ option_map (loop_by k) M.loop
-  pub face : R.face ≡ option_map (face_label k) M.face
+  pub stars : (i : ℕ) (v : MapVertex) (u : Star) → At M.svertices i v → At R.stars i u → IsRemarkedAt k M v.dir u
+  pub sloop : R.sloop ≡ option_map (sloop_by k) M.sloop
+  pub ground : R.ground ≡ option_map (face_label k) M.ground
 
 -- ---- all labels exchanged
 abbrev pub exchanged : Label → Label
 exchanged = face_label complement
 
-abbrev pub exchanged_svertex : Svertex → Svertex
-exchanged_svertex v = record { way = v.way; mark = exchanged v.mark; around = option_map exchanged v.around }
+abbrev pub exchanged_svertex : MapVertex → MapVertex
+exchanged_svertex v = record { dir = v.dir; mark = exchanged v.mark; around = option_map exchanged v.around }
 
 abbrev pub exchanged_arc : Arc → Arc
-exchanged_arc a = record { normal = a.normal; source = a.source; target = a.target; above = exchanged a.above; mark = exchanged a.mark; below = exchanged a.below }
+exchanged_arc a = record { normal = a.normal; source = a.source; target = a.target; pos = exchanged a.pos; mark = exchanged a.mark; neg = exchanged a.neg }
 
-abbrev pub exchanged_loop : Loop → Loop
-exchanged_loop l = record { normal = l.normal; above = exchanged l.above; mark = exchanged l.mark; below = exchanged l.below }
+abbrev pub exchanged_sloop : MapSloop → MapSloop
+exchanged_sloop l = record { normal = l.normal; pos = exchanged l.pos; mark = exchanged l.mark; neg = exchanged l.neg }
 
 -- the map with In and Not exchanged everywhere
 abbrev pub exchanged_map : Map → Map
@@ -126,6 +126,6 @@ exchanged_map M = record {
   mark = exchanged M.mark;
   svertices = map exchanged_svertex M.svertices;
   arcs = map exchanged_arc M.arcs;
-  loop = option_map exchanged_loop M.loop;
-  face = option_map exchanged M.face;
+  sloop = option_map exchanged_sloop M.sloop;
+  ground = option_map exchanged M.ground;
 }

@@ -4,10 +4,10 @@ use Rattle.nef_space.specs.Vectors.{Vector, IsDirection, cross, dot, SameDirecti
 use Rattle.nef_space.specs.declared.label.Label.{Label}
 use Rattle.law_cyclic.specs.Arcs.{IsStrictlyOn}
 use Rattle.law_sphere.specs.Vectors.{IsPrimitive, VectorBelow}
-use Rattle.law_sphere.specs.Maps.{At, Svertex, Arc, Map, way_of, ArcBetween}
+use Rattle.law_sphere.specs.Maps.{At, MapVertex, Arc, Map, dir_of, ArcBetween}
 use Rattle.law_sphere.specs.Least.{ArcBelow}
 use Rattle.law_sphere.specs.Builds.{StraightAfter, Proper}
-use Rattle.law_sphere.specs.Stars.{Star, ray_way, IsRay}
+use Rattle.law_sphere.specs.Stars.{Star, ray_dir, IsRay}
 use Rattle.law_sphere.proofs.Vectors.{normal-direction, nought-if}
 use Rattle.law_sphere.proofs.Compare.{SameDirection-turned}
 use Rattle.law_sphere.proofs.Equal.{lowest-same}
@@ -62,28 +62,28 @@ module _ (gs : List Vector) (L : Vector → Label) (R : RawMap) (M : Map) (C : I
       level_target = arc-from.target.level;
     }
 
-    pub arc-proper : Proper a.above a.mark a.below
+    pub arc-proper : Proper a.pos a.mark a.neg
     arc-proper x y =
         let q = follows-at arc-from.star.rays arc-from.before arc-from.number arc-from.ray arc-from.follows arc-from.has_ray in
-        kept-simple gs L R M C a.source arc-from.star arc-from.has_star arc-from.before arc-from.number q.0 arc-from.ray a.below a.above q.1 arc-from.has_ray arc-from.follows arc-from.below arc-from.above
+        kept-simple gs L R M C a.source arc-from.star arc-from.has_star arc-from.before arc-from.number q.0 arc-from.ray a.neg a.pos q.1 arc-from.has_ray arc-from.follows arc-from.neg arc-from.pos
         (sym arc-from.mark ∙ sym y) (sym arc-from.mark ∙ sym x)
 
-    ahead-way : ray_way arc-from.star arc-from.ray ≡ cross a.normal arc-from.star.axis
+    ahead-way : ray_dir arc-from.star arc-from.ray ≡ cross a.normal arc-from.star.axis
     ahead-way = ap (λ b. cond b (cross arc-from.ray.normal arc-from.star.axis) (cross arc-from.star.axis arc-from.ray.normal)) arc-from.ahead ∙ ap (λ v. cross v arc-from.star.axis) (sym arc-from.normal)
 
-    pub arc-after : StraightAfter F a.normal a.above a.mark a.below arc-from.star.axis
-    arc-after = ray-after gs L C.labelling arc-from.star shows a.normal a.above a.mark a.below arc-proper a.normal arc-level arc-from.before arc-from.number arc-from.ray arc-from.has_ray ahead-way
-        (λ z. shows.star.axis (nought-if a.normal arc-from.star.axis arc-direction z arc-level)) arc-from.follows arc-from.above arc-from.below (sym arc-from.mark)
+    pub arc-after : StraightAfter F a.normal a.pos a.mark a.neg arc-from.star.axis
+    arc-after = ray-after gs L C.labelling arc-from.star shows a.normal a.pos a.mark a.neg arc-proper a.normal arc-level arc-from.before arc-from.number arc-from.ray arc-from.has_ray ahead-way
+        (λ z. shows.star.axis (nought-if a.normal arc-from.star.axis arc-direction z arc-level)) arc-from.follows arc-from.pos arc-from.neg (sym arc-from.mark)
 
-    pub arc-labels : StraightAfter F a.normal a.above a.mark a.below (way_of M.svertices a.source)
-    arc-labels = subst (StraightAfter F a.normal a.above a.mark a.below) (sym (axis-at gs L R M C a.source arc-from.star arc-from.has_star)) arc-after
+    pub arc-labels : StraightAfter F a.normal a.pos a.mark a.neg (dir_of M.svertices a.source)
+    arc-labels = subst (StraightAfter F a.normal a.pos a.mark a.neg) (sym (axis-at gs L R M C a.source arc-from.star arc-from.has_star)) arc-after
 
-    pub arc-passes_none : (i : ℕ) (v : Svertex) → At M.svertices i v → IsStrictlyOn a.normal (way_of M.svertices a.source) (way_of M.svertices a.target) v.way → ⊥
+    pub arc-passes_none : (i : ℕ) (v : MapVertex) → At M.svertices i v → IsStrictlyOn a.normal (dir_of M.svertices a.source) (dir_of M.svertices a.target) v.dir → ⊥
     arc-passes_none i v b o =
         let x = svertex-star gs L R M C i v b in
-        arc-from.target.none_before i x.0 x.1 (subst (IsStrictlyOn a.normal arc-from.star.axis arc-from.target.first.axis) (sym (ap (λ (r : Svertex). r.way) x.2))
-        (subst (λ (r : Vector). IsStrictlyOn a.normal r arc-from.target.first.axis v.way) (axis-at gs L R M C a.source arc-from.star arc-from.has_star)
-        (subst (λ (r : Vector). IsStrictlyOn a.normal (way_of M.svertices a.source) r v.way) (axis-at gs L R M C a.target arc-from.target.first arc-from.target.listed) o)))
+        arc-from.target.none_before i x.0 x.1 (subst (IsStrictlyOn a.normal arc-from.star.axis arc-from.target.first.axis) (sym (ap (λ (r : MapVertex). r.dir) x.2))
+        (subst (λ (r : Vector). IsStrictlyOn a.normal r arc-from.target.first.axis v.dir) (axis-at gs L R M C a.source arc-from.star arc-from.has_star)
+        (subst (λ (r : Vector). IsStrictlyOn a.normal (dir_of M.svertices a.source) r v.dir) (axis-at gs L R M C a.target arc-from.target.first arc-from.target.listed) o)))
 
   -- ---- all arcs
   pub arcs-apart : (i k : ℕ) (a b : Arc) → At M.arcs i a → At M.arcs k b → SameDirection a.normal b.normal → a.source ≡ b.source → i ≡ k
@@ -101,9 +101,9 @@ module _ (gs : List Vector) (L : Vector → Label) (R : RawMap) (M : Map) (C : I
       let z = C.built.arcs_all k x.0 t x.1 h x.2 y.0 in
       (z.0, z.1, z.2, z.3, subst (SameDirection n) (sym z.4) (SameDirection-turned x.1.normal n y.1))
 
-  pub arcs-all : (k : ℕ) (v : Svertex) (n : Vector) (a m b : Label) → At M.svertices k v → IsNormal n → dot n v.way ≡ pos 0 → Proper a m b → StraightAfter F n a m b v.way
+  pub arcs-all : (k : ℕ) (v : MapVertex) (n : Vector) (a m b : Label) → At M.svertices k v → IsNormal n → dot n v.dir ≡ pos 0 → Proper a m b → StraightAfter F n a m b v.dir
       → (i : ℕ) × (c : Arc) × At M.arcs i c × (c.source ≡ k) × SameDirection n c.normal
   arcs-all k v n a m b h hn ln proper after =
       let x = svertex-star gs L R M C k v h in
-      let e = ap (λ (r : Svertex). r.way) (sym x.2) in
+      let e = ap (λ (r : MapVertex). r.dir) (sym x.2) in
       kept-arc k x.0 n a m b x.1 hn (subst (λ (r : Vector). dot n r ≡ pos 0) e ln) proper (subst (StraightAfter F n a m b) e after)

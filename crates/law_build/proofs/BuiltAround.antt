@@ -4,15 +4,15 @@ use Rattle.std.proofs.lemmas.Int.{ints}
 use Rattle.nef_space.specs.Vectors.{Vector, IsDirection, cross, dot, IsZero, SameDirection, IsNormal}
 use Rattle.nef_space.specs.declared.label.Label.{Label}
 use Rattle.law_cyclic.specs.Arcs.{IsStrictlyOn}
-use Rattle.law_sphere.specs.Maps.{At, Svertex, Arc, Map, HasArc}
+use Rattle.law_sphere.specs.Maps.{At, MapVertex, Arc, Map, HasArc}
 use Rattle.law_sphere.specs.Labelling.{Near, StraightAt, IsSmooth}
 use Rattle.law_sphere.specs.Builds.{StraightAfter, Proper}
-use Rattle.law_sphere.specs.Stars.{Ray, Star, ray_way, in_only_sector}
+use Rattle.law_sphere.specs.Stars.{Ray, Star, ray_dir, in_only_sector}
 use Rattle.law_sphere.proofs.Vectors.{normal-direction, nought-if}
 use Rattle.law_sphere.proofs.Generic.{amount}
 use Rattle.law_sphere.proofs.Lists.{at-one}
 use Rattle.law_sphere.proofs.Parallel.{past_source, arc-point}
-use Rattle.law_sphere.proofs.Compare.{SameDirection-turned, way-self}
+use Rattle.law_sphere.proofs.Compare.{SameDirection-turned, dir-self}
 use Rattle.law_sphere.proofs.Turn.{IsStrictlyOn-same, ends-together}
 use Rattle.law_sphere.proofs.Arcs.{level-same}
 use Rattle.law_sphere.proofs.Kind.{away}
@@ -73,7 +73,7 @@ module _ (gs : List Vector) (L : Vector → Label) (R : RawMap) (M : Map) (C : I
     where
       smooth : (w : Vector) → IsStrictlyOn n s t w → IsSmooth F w
       smooth w p = smooth-off gs L R M C w p.on_circle.direction (λ k u c q. clear k u c
-          (IsStrictlyOn-same n n s s t t w u.axis (way-self n hn) (way-self s hs') (way-self t ht) (SameDirection-turned u.axis w q) p))
+          (IsStrictlyOn-same n n s s t t w u.axis (dir-self n hn) (dir-self s hs') (dir-self t ht) (SameDirection-turned u.axis w q) p))
 
   -- ---- back along the circle of n from the kept star t to the kept star v, with none between
   module _ (k : ℕ) (t : Star) (h : At kept k t) (n : Vector) (a m b : Label) (normal : IsNormal n) (lt : dot n t.axis ≡ pos 0) (proper : Proper a m b) (after : StraightAfter F (away n) b m a t.axis) where
@@ -109,7 +109,7 @@ module _ (gs : List Vector) (L : Vector → Label) (R : RawMap) (M : Map) (C : I
             ic,
             kept-apart gs L R M C c.target k A.target.first t A.target.listed h
                 (ends-together n v.axis A.target.first.axis s hn hv hf hs' lv lf lt
-                (λ o. A.target.none_before k t h (IsStrictlyOn-same n c.normal v.axis A.star.axis A.target.first.axis A.target.first.axis s s w star-is (way-self A.target.first.axis hf) (way-self s hs') o))
+                (λ o. A.target.none_before k t h (IsStrictlyOn-same n c.normal v.axis A.star.axis A.target.first.axis A.target.first.axis s s w star-is (dir-self A.target.first.axis hf) (dir-self s hs') o))
                 (λ o. clear c.target A.target.first A.target.listed (reversed n v.axis s A.target.first.axis hv o))),
           )
             where
@@ -120,10 +120,10 @@ module _ (gs : List Vector) (L : Vector → Label) (R : RawMap) (M : Map) (C : I
               hf = kept-axis gs L R M C c.target A.target.first A.target.listed
 
               lf : dot n A.target.first.axis ≡ pos 0
-              lf = level-same c.normal n A.target.first.axis A.target.first.axis (SameDirection-turned n c.normal w) (way-self A.target.first.axis hf) A.target.level
+              lf = level-same c.normal n A.target.first.axis A.target.first.axis (SameDirection-turned n c.normal w) (dir-self A.target.first.axis hf) A.target.level
 
               star-is : SameDirection v.axis A.star.axis
-              star-is = subst (λ (r : Star). SameDirection v.axis r.axis) (at-one kept j v A.star g (subst (λ (q : ℕ). At kept q A.star) src A.has_star)) (way-self v.axis hv)
+              star-is = subst (λ (r : Star). SameDirection v.axis r.axis) (at-one kept j v A.star g (subst (λ (q : ℕ). At kept q A.star) src A.has_star)) (dir-self v.axis hv)
 
     -- an arc ends at t
     pub back-arc : (i : ℕ) × (c : Arc) × At M.arcs i c × (c.target ≡ k)
@@ -194,43 +194,43 @@ module _ (gs : List Vector) (L : Vector → Label) (R : RawMap) (M : Map) (C : I
           hu : IsDirection A.target.first.axis
           hu = kept-axis gs L R M C c.target A.target.first A.target.listed
 
-          proper : Proper c.above c.mark c.below
+          proper : Proper c.pos c.mark c.neg
           proper = arc-proper gs L R M C i c ic
 
-          labels : (w : Vector) → IsStrictlyOn c.normal A.star.axis A.target.first.axis w → StraightAt F c.normal c.above c.mark c.below w
-          labels = labels-on c.normal c.above c.mark c.below proper hn A.star.axis A.target.first.axis hs' hu (arc-level gs L R M C i c ic) A.target.level A.target.none_before (arc-after gs L R M C i c ic)
+          labels : (w : Vector) → IsStrictlyOn c.normal A.star.axis A.target.first.axis w → StraightAt F c.normal c.pos c.mark c.neg w
+          labels = labels-on c.normal c.pos c.mark c.neg proper hn A.star.axis A.target.first.axis hs' hu (arc-level gs L R M C i c ic) A.target.level A.target.none_before (arc-after gs L R M C i c ic)
 
-          close : StraightAfter F (away c.normal) c.below c.mark c.above A.target.first.axis
+          close : StraightAfter F (away c.normal) c.neg c.mark c.pos A.target.first.axis
           close = (
             amount (cross s (away n) ∷ []) (cross (away n) u),
             λ l g.
                 let y = past_source (away n) u l in
                 let o = reversed (away n) u s y hu (arc-point (away n) u s (away-direction n hn) hu hs' (away-level n u A.target.level) (away-level n s (arc-level gs L R M C i c ic)) l g) in
-                flipped F n c.above c.mark c.below y (labels y (subst (λ (r : Vector). IsStrictlyOn r s u y) (away-twice n) o)),
+                flipped F n c.pos c.mark c.neg y (labels y (subst (λ (r : Vector). IsStrictlyOn r s u y) (away-twice n) o)),
           )
 
-          end : (j : ℕ) × (r : Ray) × At A.target.first.rays j r × SameDirection (ray_way A.target.first r) (cross (away c.normal) A.target.first.axis)
-          end = ray-there gs L C.labelling A.target.first (kept-shows gs L R M C c.target A.target.first A.target.listed) (away c.normal) c.below c.mark c.above (λ x y. proper y x)
+          end : (j : ℕ) × (r : Ray) × At A.target.first.rays j r × SameDirection (ray_dir A.target.first r) (cross (away c.normal) A.target.first.axis)
+          end = ray-there gs L C.labelling A.target.first (kept-shows gs L R M C c.target A.target.first A.target.listed) (away c.normal) c.neg c.mark c.pos (λ x y. proper y x)
               (away-direction c.normal hn) (away-level c.normal A.target.first.axis A.target.level) close
 
   -- ---- the label round a svertex
-  pub around-lone : (k : ℕ) (v : Svertex) → At M.svertices k v → (HasArc M k → ⊥) → (m : Label) × (v.around ≡ Some m)
+  pub around-lone : (k : ℕ) (v : MapVertex) → At M.svertices k v → (HasArc M k → ⊥) → (m : Label) × (v.around ≡ Some m)
   around-lone k v h none =
       let x = svertex-star gs L R M C k v h in
       let S = kept-shows gs L R M C k x.0 x.1 in
       let y = lone-around x.0.rays x.0.sectors S.star.as_many (λ j r a. none (ray-arc k x.0 x.1 j r a)) in
-      (y.0, sym (ap (λ (r : Svertex). r.around) x.2) ∙ y.1)
+      (y.0, sym (ap (λ (r : MapVertex). r.around) x.2) ∙ y.1)
 
-  pub around-not : (k : ℕ) (v : Svertex) → At M.svertices k v → HasArc M k → v.around ≡ None
+  pub around-not : (k : ℕ) (v : MapVertex) → At M.svertices k v → HasArc M k → v.around ≡ None
   around-not k v h arc =
       let x = svertex-star gs L R M C k v h in
       let y = arc-ray k x.0 x.1 arc in
-      sym (ap (λ (r : Svertex). r.around) x.2) ∙ ray-around x.0.rays x.0.sectors y.0 y.1 y.2
+      sym (ap (λ (r : MapVertex). r.around) x.2) ∙ ray-around x.0.rays x.0.sectors y.0 y.1 y.2
 
-  pub around-near : (k : ℕ) (v : Svertex) (m : Label) (e : Vector) → At M.svertices k v → v.around ≡ Some m → IsDirection (cross v.way e) → Near F v.way e m
+  pub around-near : (k : ℕ) (v : MapVertex) (m : Label) (e : Vector) → At M.svertices k v → v.around ≡ Some m → IsDirection (cross v.dir e) → Near F v.dir e m
   around-near k v m e h q f =
       let x = svertex-star gs L R M C k v h in
       let S = kept-shows gs L R M C k x.0 x.1 in
-      let way = ap (λ (r : Svertex). r.way) x.2 in
-      let y = around-some x.0.rays x.0.sectors m (ap (λ (r : Svertex). r.around) x.2 ∙ q) in
+      let way = ap (λ (r : MapVertex). r.dir) x.2 in
+      let y = around-some x.0.rays x.0.sectors m (ap (λ (r : MapVertex). r.around) x.2 ∙ q) in
       subst (λ (r : Vector). Near F r e m) way (S.labels e m (subst (λ (r : Vector). IsDirection (cross r e)) (sym way) f) (in_only_sector y.0 y.1))

@@ -5,13 +5,13 @@ use Rattle.law_arithmetic.proofs.Order.{by_order}
 use Rattle.nef_space.specs.Vectors.{Vector, IsDirection, SameDirection}
 use Rattle.nef_space.specs.declared.label.Label.{Label}
 use Rattle.law_sphere.specs.Vectors.{VectorBelow}
-use Rattle.law_sphere.specs.Maps.{At, Svertex, Map, way_of}
+use Rattle.law_sphere.specs.Maps.{At, MapVertex, Map, dir_of}
 use Rattle.law_sphere.specs.Labelling.{IsSmooth, plain, straight}
 use Rattle.law_sphere.specs.Stars.{Star, IsPlain, IsStraight, IsSimplified}
 use Rattle.law_sphere.proofs.Vectors.{normal-direction}
 use Rattle.law_sphere.proofs.Lists.{Found, search_list}
 use Rattle.law_sphere.proofs.Places.{SameDirection-decided}
-use Rattle.law_sphere.proofs.Shot.{way-at}
+use Rattle.law_sphere.proofs.Shot.{dir-at}
 use Rattle.law_sphere.proofs.Equal.{lowest-same}
 use Rattle.law_build.specs.Raw.{RawMap, Of, IsLabelling, ShowsLabels, IsRawOf}
 use Rattle.law_build.specs.From.{AreSimplified, svertex_at, IsBuiltFrom}
@@ -74,21 +74,21 @@ module _ (gs : List Vector) (L : Vector → Label) (R : RawMap) (M : Map) (C : I
       never {x} {y} l e = vector-below_not y (subst (λ (r : Vector). VectorBelow r y) e l)
 
   -- ---- svertices
-  pub svertex-star : (k : ℕ) (v : Svertex) → At M.svertices k v → (t : Star) × At kept k t × (svertex_at t ≡ v)
-  svertex-star k v a = at-map svertex_at kept k v (subst (λ (vs : List Svertex). At vs k v) C.built.svertices a)
+  pub svertex-star : (k : ℕ) (v : MapVertex) → At M.svertices k v → (t : Star) × At kept k t × (svertex_at t ≡ v)
+  svertex-star k v a = at-map svertex_at kept k v (subst (λ (vs : List MapVertex). At vs k v) C.built.svertices a)
 
   pub star-svertex : (k : ℕ) (t : Star) → At kept k t → At M.svertices k (svertex_at t)
-  star-svertex k t a = subst (λ (vs : List Svertex). At vs k (svertex_at t)) (sym C.built.svertices) (map-at svertex_at kept k t a)
+  star-svertex k t a = subst (λ (vs : List MapVertex). At vs k (svertex_at t)) (sym C.built.svertices) (map-at svertex_at kept k t a)
 
-  pub axis-at : (k : ℕ) (t : Star) → At kept k t → way_of M.svertices k ≡ t.axis
-  axis-at k t a = way-at M.svertices k (svertex_at t) (star-svertex k t a)
+  pub axis-at : (k : ℕ) (t : Star) → At kept k t → dir_of M.svertices k ≡ t.axis
+  axis-at k t a = dir-at M.svertices k (svertex_at t) (star-svertex k t a)
 
   -- ---- off the kept stars the labels are plain or straight
   smooth-at : (j : ℕ) (t : Star) → At R.stars j t → IsPlain t ⊎ IsStraight t → IsSmooth F t.axis
   smooth-at j t a (inl P) = plain t.mark (star-plain gs L C.labelling t (C.raw.stars j t a) P)
   smooth-at j t a (inr K) =
       let S = C.raw.stars j t a in
-      straight K.first.normal K.above t.mark K.below (normal-direction K.first.normal (star-normal gs L C.labelling t S K)) (star-straight gs L C.labelling t S K)
+      straight K.first.normal K.pos t.mark K.neg (normal-direction K.first.normal (star-normal gs L C.labelling t S K)) (star-straight gs L C.labelling t S K)
 
   pub smooth-off : (d : Vector) → IsDirection d → ((k : ℕ) (t : Star) → At kept k t → SameDirection t.axis d → ⊥) → IsSmooth F d
   smooth-off d h off = by (search_list R.stars (λ k t. SameDirection t.axis d) (λ k t. SameDirection-decided t.axis d))

@@ -6,7 +6,7 @@ use Rattle.nef_space.specs.Vectors.{Vector, IsDirection, cross, dot, IsOpposite,
 use Rattle.nef_space.specs.declared.label.Label.{Label}
 use Rattle.law_forms.proofs.Directions.{dot-comm, dot-zero, self-pos, zero-decided}
 use Rattle.law_near.proofs.Decided.{Decided}
-use Rattle.law_sphere.specs.Maps.{At, Svertex, Loop, Map}
+use Rattle.law_sphere.specs.Maps.{At, MapVertex, MapSloop, Map}
 use Rattle.law_sphere.specs.Least.{by_side}
 use Rattle.law_sphere.specs.Labelling.{Near, Plain, StraightAt, IsSmooth, plain, straight}
 use Rattle.law_sphere.specs.Builds.{Proper}
@@ -24,7 +24,7 @@ use Rattle.law_build.specs.Raw.{RawMap, Of}
 use Rattle.law_build.specs.From.{svertex_at, IsRawLabel}
 use Rattle.law_build.proofs.BuiltLabels.{with_axes, labelling}
 use Rattle.law_build.proofs.BuiltAxes.{IsMade, map-empty, smooth-off}
-use Rattle.law_build.proofs.BuiltLoops.{loop-all}
+use Rattle.law_build.proofs.BuiltSloops.{sloop-all}
 
 some-some : {A : Type 0} (x y : A) → ◌≡◌ {A = Option A} (Some x) (Some y) → x ≡ y
 some-some x y e = cc
@@ -48,20 +48,20 @@ module _ (gs : List Vector) (L : Vector → Label) (R : RawMap) (M : Map) (C : I
   kept = C.built.kept
 
   -- ---- neither svertex nor sloop
-  module _ (no_star : kept ≡ []) (no_loop : M.loop ≡ None) where
+  module _ (no_star : kept ≡ []) (no_sloop : M.sloop ≡ None) where
     nothing : {X : Type 0} (k : ℕ) (t : Star) → At kept k t → X
     nothing k t a = absurd (subst (λ (ts : List Star). At ts k t) no_star a)
 
-    no-svertex : (k : ℕ) (v : Svertex) → At M.svertices k v → ⊥
-    no-svertex k v a = subst (λ (vs : List Svertex). At vs k v) (C.built.svertices ∙ ap (map svertex_at) no_star) a
+    no-svertex : (k : ℕ) (v : MapVertex) → At M.svertices k v → ⊥
+    no-svertex k v a = subst (λ (vs : List MapVertex). At vs k v) (C.built.svertices ∙ ap (map svertex_at) no_star) a
 
     never-proper : (n : Vector) (a m b : Label) (d : Vector) → IsDirection n → IsDirection d → StraightAt F n a m b d → Proper a m b → ⊥
     never-proper n a m b d hn hd p q = ⊎_elim
-        (λ x. found (loop-all gs L R M C n d a m b x hd (λ k v c z. no-svertex k v c) q p))
-        (λ x. found (loop-all gs L R M C (away n) d b m a x hd (λ k v c z. no-svertex k v c) (λ u v. q v u) (flipped F n a m b d p))) (normal-or n hn)
+        (λ x. found (sloop-all gs L R M C n d a m b x hd (λ k v c z. no-svertex k v c) q p))
+        (λ x. found (sloop-all gs L R M C (away n) d b m a x hd (λ k v c z. no-svertex k v c) (λ u v. q v u) (flipped F n a m b d p))) (normal-or n hn)
       where
-        found : {P : Loop → Type 0} → (l : Loop) × (M.loop ≡ Some l) × P l → ⊥
-        found x = none-some M.loop x.0 no_loop x.1
+        found : {P : MapSloop → Type 0} → (l : MapSloop) × (M.sloop ≡ Some l) × P l → ⊥
+        found x = none-some M.sloop x.0 no_sloop x.1
 
     plain-everywhere : (d : Vector) → IsDirection d → Plain F d
     plain-everywhere d hd m f e h = by (smooth-off gs L R M C d hd (λ k t a w. nothing k t a))
@@ -108,25 +108,25 @@ module _ (gs : List Vector) (L : Vector → Label) (R : RawMap) (M : Map) (C : I
             short-way x e hx he (λ q. let b = q.backward in omega (arith, ints)) ∙ short-way d x hd hx (λ q. let b = q.backward in omega (arith, ints))
 
   -- ---- the one face
-  pub ground-label : (m : Label) (d : Vector) → M.face ≡ Some m → IsDirection d → F d m
+  pub ground-label : (m : Label) (d : Vector) → M.ground ≡ Some m → IsDirection d → F d m
   ground-label m d e hd = by (subst (IsRawLabel R) (some-some g.0 m (sym g.1 ∙ e)) g.2)
     where
-      n : (kept ≡ []) × (M.loop ≡ None)
+      n : (kept ≡ []) × (M.sloop ≡ None)
       n = C.built.ground_not m e
 
-      g : (l : Label) × (M.face ≡ Some l) × IsRawLabel R l
+      g : (l : Label) × (M.ground ≡ Some l) × IsRawLabel R l
       g = C.built.ground_alone n.0 n.1
 
       by : IsRawLabel R m → F d m
       by (inl q) = C.raw.ground_label m d q hd
       by (inr (inl (k, t, a, q))) = let S = C.raw.stars k t a in one-label n.0 n.1 t.axis d S.star.axis hd ∙ S.mark ∙ q
       by (inr (inr (l, f, q))) =
-          let y = circle-point l.normal (normal-direction l.normal (C.raw.loop_normal l f)) in
-          let s = C.raw.loop_labels l y.0 f y.1 in
+          let y = circle-point l.normal (normal-direction l.normal (C.raw.sloop_normal l f)) in
+          let s = C.raw.sloop_labels l y.0 f y.1 in
           one-label n.0 n.1 y.0 d y.1.direction hd ∙ s.at_d ∙ q
 
-  pub ground-alone : M.svertices ≡ [] → M.loop ≡ None → (m : Label) × (M.face ≡ Some m)
+  pub ground-alone : M.svertices ≡ [] → M.sloop ≡ None → (m : Label) × (M.ground ≡ Some m)
   ground-alone v l = let x = C.built.ground_alone (map-empty svertex_at kept (sym C.built.svertices ∙ v)) l in (x.0, x.1)
 
-  pub ground-not : (m : Label) → M.face ≡ Some m → (M.svertices ≡ []) × (M.loop ≡ None)
+  pub ground-not : (m : Label) → M.ground ≡ Some m → (M.svertices ≡ []) × (M.sloop ≡ None)
   ground-not m e = let x = C.built.ground_not m e in (C.built.svertices ∙ ap (map svertex_at) x.0, x.1)

@@ -4,7 +4,7 @@ use Rattle.law_arithmetic.proofs.Order.{sign}
 use Rattle.nef_space.specs.Vectors.{Vector, IsDirection, cross, dot, blend}
 use Rattle.nef_space.specs.declared.label.Label.{Label}
 use Rattle.law_near.proofs.Supports.{square-cross}
-use Rattle.law_sphere.specs.Maps.{At, Svertex, Map, MapLabel, NearLabel, Valid}
+use Rattle.law_sphere.specs.Maps.{At, MapVertex, Map, MapLabel, NearLabel, Valid}
 use Rattle.law_sphere.specs.Least.{by_side, NearPlain, NearStraight, Least, Ordered}
 use Rattle.law_sphere.specs.Labelling.{Near, PlainAt, StraightAt, IsSmooth, plain, straight}
 use Rattle.law_sphere.specs.Builds.{Kept}
@@ -94,9 +94,9 @@ module _ (gs : List Vector) (L : Vector → Label) (R : RawMap) (M : Map) (C : I
           normal = n;
           direction = hn;
           level = p.level;
-          above = a;
+          pos = a;
           label = m;
-          below = b;
+          neg = b;
           at_d = (labels t.axis m S.star.axis).1 p.at_d;
           near = λ e f. near-map t.axis e (by_side a m b (sign (dot n e))) S.star.axis (p.near e);
         }
@@ -114,7 +114,7 @@ module _ (gs : List Vector) (L : Vector → Label) (R : RawMap) (M : Map) (C : I
   pub made-kept : Kept M F
   made-kept k v h s =
       let x = svertex-star gs L R M C k v h in
-      kept-not_smooth k x.0 x.1 (subst (IsSmooth F) (sym (ap (λ (r : Svertex). r.way) x.2)) s)
+      kept-not_smooth k x.0 x.1 (subst (IsSmooth F) (sym (ap (λ (r : MapVertex). r.dir) x.2)) s)
 
 pub from-stars : (gs : List Vector) (L : Vector → Label) (R : RawMap) (M : Map) → IsLabelling gs L → IsRawOf R L → AreSimplified R.stars → IsBuiltFrom R M
     → Valid M × Least M × Ordered M × ((d : Vector) → IsDirection d → MapLabel M d (L d))

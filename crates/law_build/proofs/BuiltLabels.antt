@@ -12,10 +12,10 @@ use Rattle.law_sphere.specs.Least.{by_side, Least}
 use Rattle.law_sphere.specs.Labelling.{Labelling, Near, PlainAt, StraightAt, IsSmooth, plain, straight}
 use Rattle.law_sphere.specs.Builds.{IsBuilt, Kept}
 use Rattle.law_sphere.proofs.Generic.{amount, far-keeps, far-level}
-use Rattle.law_sphere.proofs.Labels.{way-signs}
-use Rattle.law_sphere.proofs.Compare.{way-self}
-use Rattle.law_sphere.proofs.Turn.{way-directed}
-use Rattle.law_sphere.proofs.Labels.{way-direction}
+use Rattle.law_sphere.proofs.Labels.{dir-signs}
+use Rattle.law_sphere.proofs.Compare.{dir-self}
+use Rattle.law_sphere.proofs.Turn.{dir-directed}
+use Rattle.law_sphere.proofs.Labels.{dir-direction}
 use Rattle.law_sphere.proofs.Arcs.{level-same}
 use Rattle.law_sphere.proofs.Lone.{near-same_signs}
 use Rattle.law_sphere.proofs.KindFlats.{in-span}
@@ -59,16 +59,16 @@ module _ (gs : List Vector) (L : Vector → Label) (I : IsLabelling gs L) where
   near-same_way d c e m w (n, f) = (
     n + amount hs e,
     λ k l. let j : amount hs e ≤ k = omega arith in
-        (labelling gs L I).cells (blend k d 1 e) (blend k c 1 e) m (far d e k j (way-directed d c w)) (far c e k j (way-direction d c w)) (near-same_signs hs d c e k j w) (f k (omega arith)),
+        (labelling gs L I).cells (blend k d 1 e) (blend k c 1 e) m (far d e k j (dir-directed d c w)) (far c e k j (dir-direction d c w)) (near-same_signs hs d c e k j w) (f k (omega arith)),
   )
 
   at-same_way : (d c : Vector) (m : Label) → SameDirection d c → F d m → F c m
-  at-same_way d c m w a = (labelling gs L I).cells d c m (way-directed d c w) (way-direction d c w) (λ g l. way-signs d c g (way-directed d c w) w) a
+  at-same_way d c m w a = (labelling gs L I).cells d c m (dir-directed d c w) (dir-direction d c w) (λ g l. dir-signs d c g (dir-directed d c w) w) a
 
   pub smooth-same_way : (d c : Vector) → SameDirection d c → IsSmooth F d → IsSmooth F c
   smooth-same_way d c w (plain m p) = plain m (record { at_d = at-same_way d c m w p.at_d; near = λ e. near-same_way d c e m w (p.near e) })
   smooth-same_way d c w (straight n a m b hn p) = straight n a m b hn (record {
-    level = level-same n n d c (way-self n hn) w p.level;
+    level = level-same n n d c (dir-self n hn) w p.level;
     at_d = at-same_way d c m w p.at_d;
     near = λ e. near-same_way d c e (by_side a m b (sign (dot n e))) w (p.near e);
   })

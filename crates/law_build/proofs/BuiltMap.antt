@@ -3,17 +3,17 @@ use Rattle.std.proofs.Common.{◌≡◌, ℕ, pos, ap, sym, List, subst, Some}
 use Rattle.nef_space.specs.Vectors.{Vector, IsDirection, dot, SameDirection, IsNormal}
 use Rattle.nef_space.specs.declared.label.Label.{Label}
 use Rattle.law_sphere.specs.Vectors.{IsPrimitive, VectorBelow}
-use Rattle.law_sphere.specs.Maps.{At, Svertex, Loop, Map, Item, arc_item, loop_item, items, item_normal, OnItem}
+use Rattle.law_sphere.specs.Maps.{At, MapVertex, MapSloop, Map, Item, arc_item, sloop_item, items, item_normal, OnItem}
 use Rattle.law_sphere.specs.Least.{Ordered}
 use Rattle.law_sphere.specs.Builds.{IsBuilt}
 use Rattle.law_sphere.proofs.Shot.{arc-at}
-use Rattle.law_sphere.proofs.Arcs.{loop-at}
+use Rattle.law_sphere.proofs.Arcs.{sloop-at}
 use Rattle.law_build.specs.Raw.{RawMap, Of}
 use Rattle.law_build.specs.From.{svertex_at}
 use Rattle.law_build.proofs.BuiltAxes.{IsMade, kept-shows, kept-axis, kept-apart, svertex-star, star-svertex, smooth-off}
 use Rattle.law_build.proofs.BuiltArcs.{arc-normal, arc-lowest, arc-between, arc-proper, arc-labels, arc-passes_none, arcs-apart, arcs-all}
 use Rattle.law_build.proofs.BuiltAround.{around-lone, around-not, around-near}
-use Rattle.law_build.proofs.BuiltLoops.{IsNeeded, loop-needed, loop-all}
+use Rattle.law_build.proofs.BuiltSloops.{IsNeeded, sloop-needed, sloop-all}
 use Rattle.law_build.proofs.BuiltGround.{ground-label, ground-alone, ground-not}
 
 module _ (gs : List Vector) (L : Vector → Label) (R : RawMap) (M : Map) (C : IsMade gs L R M) where
@@ -21,39 +21,39 @@ module _ (gs : List Vector) (L : Vector → Label) (R : RawMap) (M : Map) (C : I
   F = Of L
 
   -- the svertex's star, its way and its mark
-  svertex-direction : (k : ℕ) (v : Svertex) → At M.svertices k v → IsDirection v.way
-  svertex-direction k v h = let x = svertex-star gs L R M C k v h in subst (λ (u : Svertex). IsDirection u.way) x.2 (kept-axis gs L R M C k x.0 x.1)
+  svertex-direction : (k : ℕ) (v : MapVertex) → At M.svertices k v → IsDirection v.dir
+  svertex-direction k v h = let x = svertex-star gs L R M C k v h in subst (λ (u : MapVertex). IsDirection u.dir) x.2 (kept-axis gs L R M C k x.0 x.1)
 
-  svertices-apart : (i k : ℕ) (u v : Svertex) → At M.svertices i u → At M.svertices k v → SameDirection u.way v.way → i ≡ k
+  svertices-apart : (i k : ℕ) (u v : MapVertex) → At M.svertices i u → At M.svertices k v → SameDirection u.dir v.dir → i ≡ k
   svertices-apart i k u v g h w =
       let x = svertex-star gs L R M C i u g in
       let y = svertex-star gs L R M C k v h in
-      kept-apart gs L R M C i k x.0 y.0 x.1 y.1 (subst (λ (r : Vector). SameDirection r y.0.axis) (sym (ap (λ (r : Svertex). r.way) x.2)) (subst (SameDirection u.way) (sym (ap (λ (r : Svertex). r.way) y.2)) w))
+      kept-apart gs L R M C i k x.0 y.0 x.1 y.1 (subst (λ (r : Vector). SameDirection r y.0.axis) (sym (ap (λ (r : MapVertex). r.dir) x.2)) (subst (SameDirection u.dir) (sym (ap (λ (r : MapVertex). r.dir) y.2)) w))
 
-  svertex-mark : (k : ℕ) (v : Svertex) → At M.svertices k v → F v.way v.mark
-  svertex-mark k v h = let x = svertex-star gs L R M C k v h in subst (λ (u : Svertex). F u.way u.mark) x.2 (let S = kept-shows gs L R M C k x.0 x.1 in S.mark)
+  svertex-mark : (k : ℕ) (v : MapVertex) → At M.svertices k v → F v.dir v.mark
+  svertex-mark k v h = let x = svertex-star gs L R M C k v h in subst (λ (u : MapVertex). F u.dir u.mark) x.2 (let S = kept-shows gs L R M C k x.0 x.1 in S.mark)
 
-  needed : (l : Loop) → M.loop ≡ Some l → IsNeeded F C.built.kept l
-  needed l e = loop-needed gs L R M C l (C.built.loop_from l e)
+  needed : (l : MapSloop) → M.sloop ≡ Some l → IsNeeded F C.built.kept l
+  needed l e = sloop-needed gs L R M C l (C.built.sloop_from l e)
 
   item-is_normal : (k : ℕ) (x : Item) → At (items M) k x → IsNormal (item_normal x)
-  item-is_normal k (arc_item a) h = arc-normal gs L R M C k a (arc-at M.arcs M.loop k a h)
-  item-is_normal k (loop_item l) h = let N = needed l (loop-at M.arcs M.loop k l h) in N.normal
+  item-is_normal k (arc_item a) h = arc-normal gs L R M C k a (arc-at M.arcs M.sloop k a h)
+  item-is_normal k (sloop_item l) h = let N = needed l (sloop-at M.arcs M.sloop k l h) in N.normal
 
   item-lowest : (k : ℕ) (x : Item) → At (items M) k x → IsPrimitive (item_normal x)
-  item-lowest k (arc_item a) h = arc-lowest gs L R M C k a (arc-at M.arcs M.loop k a h)
-  item-lowest k (loop_item l) h = let N = needed l (loop-at M.arcs M.loop k l h) in N.lowest
+  item-lowest k (arc_item a) h = arc-lowest gs L R M C k a (arc-at M.arcs M.sloop k a h)
+  item-lowest k (sloop_item l) h = let N = needed l (sloop-at M.arcs M.sloop k l h) in N.lowest
 
-  item-passes_none : (i k : ℕ) (v : Svertex) (x : Item) → At M.svertices i v → At (items M) k x → OnItem M x v.way → ⊥
-  item-passes_none i k v (arc_item a) g h o = arc-passes_none gs L R M C k a (arc-at M.arcs M.loop k a h) i v g o
-  item-passes_none i k v (loop_item l) g h o =
+  item-passes_none : (i k : ℕ) (v : MapVertex) (x : Item) → At M.svertices i v → At (items M) k x → OnItem M x v.dir → ⊥
+  item-passes_none i k v (arc_item a) g h o = arc-passes_none gs L R M C k a (arc-at M.arcs M.sloop k a h) i v g o
+  item-passes_none i k v (sloop_item l) g h o =
       let x = svertex-star gs L R M C i v g in
-      let N = needed l (loop-at M.arcs M.loop k l h) in
-      N.bare i x.0 x.1 (subst (λ (r : Vector). dot l.normal r ≡ pos 0) (sym (ap (λ (r : Svertex). r.way) x.2)) o.level)
+      let N = needed l (sloop-at M.arcs M.sloop k l h) in
+      N.bare i x.0 x.1 (subst (λ (r : Vector). dot l.normal r ≡ pos 0) (sym (ap (λ (r : MapVertex). r.dir) x.2)) o.level)
 
   pub made-built : IsBuilt M F
   made-built = record {
-    svertex_ways = svertex-direction;
+    svertex_dirs = svertex-direction;
     svertices_apart = svertices-apart;
     svertex_marks = svertex-mark;
     smooth = λ d h off. smooth-off gs L R M C d h (λ k t a w. off k (svertex_at t) (star-svertex gs L R M C k t a) w);
@@ -64,9 +64,9 @@ module _ (gs : List Vector) (L : Vector → Label) (R : RawMap) (M : Map) (C : I
     arc_proper = arc-proper gs L R M C;
     arcs_apart = arcs-apart gs L R M C;
     arcs_all = arcs-all gs L R M C;
-    loop_labels = λ l e. let N = needed l e in (N.point, N.direction, N.labels);
-    loop_proper = λ l e. let N = needed l e in N.proper;
-    loop_all = loop-all gs L R M C;
+    sloop_labels = λ l e. let N = needed l e in (N.point, N.direction, N.labels);
+    sloop_proper = λ l e. let N = needed l e in N.proper;
+    sloop_all = sloop-all gs L R M C;
     around_lone = around-lone gs L R M C;
     around_not = around-not gs L R M C;
     around_near = around-near gs L R M C;
@@ -77,11 +77,11 @@ module _ (gs : List Vector) (L : Vector → Label) (R : RawMap) (M : Map) (C : I
 
   pub made-ordered : Ordered M
   made-ordered = record {
-    ways_lowest = λ k v h. let x = svertex-star gs L R M C k v h in subst (λ (u : Svertex). IsPrimitive u.way) x.2 (let S = kept-shows gs L R M C k x.0 x.1 in S.star.axis_lowest);
+    dirs_lowest = λ k v h. let x = svertex-star gs L R M C k v h in subst (λ (u : MapVertex). IsPrimitive u.dir) x.2 (let S = kept-shows gs L R M C k x.0 x.1 in S.star.axis_lowest);
     normals_lowest = item-lowest;
     svertices = λ i k u v l g h.
         let x = svertex-star gs L R M C i u g in
         let y = svertex-star gs L R M C k v h in
-        subst (λ (r : Vector). VectorBelow r v.way) (ap (λ (r : Svertex). r.way) x.2) (subst (VectorBelow x.0.axis) (ap (λ (r : Svertex). r.way) y.2) (C.built.kept_ordered i k x.0 y.0 l x.1 y.1));
+        subst (λ (r : Vector). VectorBelow r v.dir) (ap (λ (r : MapVertex). r.dir) x.2) (subst (VectorBelow x.0.axis) (ap (λ (r : MapVertex). r.dir) y.2) (C.built.kept_ordered i k x.0 y.0 l x.1 y.1));
     arcs = C.built.arcs_ordered;
   }

@@ -52,12 +52,12 @@ module _ (R Q : RawMap) (L : Vector → Label) (W : IsRawOf R L) (K : IsKeptRaw 
     ordered = λ i k s u l a b. let x = was i s a in let y = was k u b in
         subst (λ (r : Vector). VectorBelow r u.axis) (sym x.2.axis) (subst (VectorBelow x.0.axis) (sym y.2.axis) (W.ordered i k x.0 y.0 l x.1 y.1));
     smooth = λ d h off. W.smooth d h (λ k t a w. let x = became k t a in off k x.0 x.1 (subst (λ (r : Vector). SameDirection r d) (sym x.2.axis) w));
-    loop_normal = λ l e. W.loop_normal l (sym K.loop ∙ e);
-    loop_lowest = λ l e. W.loop_lowest l (sym K.loop ∙ e);
-    loop_bare = λ l e. bare-after l.normal (W.loop_bare l (sym K.loop ∙ e));
-    loop_labels = λ l y e o. W.loop_labels l y (sym K.loop ∙ e) o;
-    loop_all = λ n y a m b hn bare o p s. let x = W.loop_all n y a m b hn (bare-before n bare) o p s in (x.0, K.loop ∙ x.1, x.2);
-    ground_alone = λ n z. let x = W.ground_alone (none-left Q.stars R.stars K.stars.as_many n) (sym K.loop ∙ z) in (x.0, K.same_ground ∙ x.1);
-    ground_not = λ m e. let x = W.ground_not m (sym K.same_ground ∙ e) in (none-left R.stars Q.stars (sym K.stars.as_many) x.0, K.loop ∙ x.1);
+    sloop_normal = λ l e. W.sloop_normal l (sym K.sloop ∙ e);
+    sloop_lowest = λ l e. W.sloop_lowest l (sym K.sloop ∙ e);
+    sloop_bare = λ l e. bare-after l.normal (W.sloop_bare l (sym K.sloop ∙ e));
+    sloop_labels = λ l y e o. W.sloop_labels l y (sym K.sloop ∙ e) o;
+    sloop_all = λ n y a m b hn bare o p s. let x = W.sloop_all n y a m b hn (bare-before n bare) o p s in (x.0, K.sloop ∙ x.1, x.2);
+    ground_alone = λ n z. let x = W.ground_alone (none-left Q.stars R.stars K.stars.as_many n) (sym K.sloop ∙ z) in (x.0, K.same_ground ∙ x.1);
+    ground_not = λ m e. let x = W.ground_not m (sym K.same_ground ∙ e) in (none-left R.stars Q.stars (sym K.stars.as_many) x.0, K.sloop ∙ x.1);
     ground_label = λ m d e h. W.ground_label m d (sym K.same_ground ∙ e) h;
   }

@@ -1,9 +1,9 @@
 pub mod Chosen
 pub mod SideLabels
 pub mod Merged
-pub mod LoneLoops
-pub mod AllLoops
-pub mod RawFaces
+pub mod LoneSloops
+pub mod AllSloops
+pub mod RawGround
 pub mod BuiltLabels
 pub mod KeptStars
 pub mod RayClose
@@ -12,7 +12,7 @@ pub mod StarSmooth
 pub mod BuiltAxes
 pub mod BuiltArcs
 pub mod BuiltAround
-pub mod BuiltLoops
+pub mod BuiltSloops
 pub mod BuiltGround
 pub mod BuiltMap
 pub mod StarRays

@@ -7,12 +7,12 @@ use Rattle.nef_space.specs.Vectors.{Vector, IsDirection, cross, dot, IsZero, Sam
 use Rattle.nef_space.specs.declared.label.Label.{Label}
 use Rattle.law_forms.proofs.Directions.{zero-decided, self-pos}
 use Rattle.law_cyclic.specs.Arcs.{IsOnCircle}
-use Rattle.law_sphere.specs.Maps.{At, Svertex, Map, Item, items, item_normal, OnItem, Valid}
+use Rattle.law_sphere.specs.Maps.{At, MapVertex, Map, Item, items, item_normal, OnItem, Valid}
 use Rattle.law_sphere.specs.Least.{by_side}
 use Rattle.law_sphere.specs.Stars.{Star}
 use Rattle.law_sphere.specs.Labelling.{Near, StraightAt, IsSmooth, plain, straight, ByOp}
 use Rattle.law_sphere.proofs.Labels.{label-direction}
-use Rattle.law_sphere.proofs.Compare.{way-self, SameDirection-turned}
+use Rattle.law_sphere.proofs.Compare.{dir-self, SameDirection-turned}
 use Rattle.law_sphere.proofs.Arcs.{level-same}
 use Rattle.law_sphere.proofs.Labellings.{op-labelling}
 use Rattle.law_sphere.proofs.Smooth.{op-smooth}
@@ -79,10 +79,10 @@ module _ (A B : Map) (op : Label → Label → Label) (R : RawMap) (L : Vector �
   no-axis d none x = let c = raw.complete d x in none c.0 c.1 c.2 c.3
 
   module _ (d : Vector) (h : IsDirection d) (off : IsAxis A B d → ⊥) where
-    pub off-first : (k : ℕ) (v : Svertex) → At A.svertices k v → SameDirection v.way d → ⊥
+    pub off-first : (k : ℕ) (v : MapVertex) → At A.svertices k v → SameDirection v.dir d → ⊥
     off-first k v a w = off (inl (k, v, a, w))
 
-    pub off-second : (k : ℕ) (v : Svertex) → At B.svertices k v → SameDirection v.way d → ⊥
+    pub off-second : (k : ℕ) (v : MapVertex) → At B.svertices k v → SameDirection v.dir d → ⊥
     off-second k v a w = off (inr (inl (k, v, a, w)))
 
     -- items of the two that meet have one plane
@@ -103,4 +103,4 @@ module _ (A B : Map) (op : Label → Label → Label) (R : RawMap) (L : Vector �
 
   -- no axis lies on a bare circle
   pub bare-off_axes : (n d : Vector) → IsDirection n → IsBare R.stars n → IsOnCircle n d → IsAxis A B d → ⊥
-  bare-off_axes n d h bare o x = let c = raw.complete d x in bare c.0 c.1 c.2 (level-same n n d c.1.axis (way-self n h) (SameDirection-turned c.1.axis d c.3) o.level)
+  bare-off_axes n d h bare o x = let c = raw.complete d x in bare c.0 c.1 c.2 (level-same n n d c.1.axis (dir-self n h) (SameDirection-turned c.1.axis d c.3) o.level)

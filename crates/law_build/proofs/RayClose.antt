@@ -11,7 +11,7 @@ use Rattle.law_near.proofs.Flats.{vector-same}
 use Rattle.law_near.proofs.FlatDecided.{triple-dot}
 use Rattle.law_sphere.specs.Maps.{At}
 use Rattle.law_sphere.specs.Least.{by_side}
-use Rattle.law_sphere.specs.Stars.{Ray, Star, ray_way, across, NextRay, StarLabel, on_ray, in_sector, Follows}
+use Rattle.law_sphere.specs.Stars.{Ray, Star, ray_dir, across, NextRay, StarLabel, on_ray, in_sector, Follows}
 use Rattle.law_sphere.proofs.Vectors.{triple-middle, same-plus}
 use Rattle.law_sphere.proofs.Generic.{amount, far-keeps, far-level}
 use Rattle.law_sphere.proofs.Parallel.{parallel-in_plane}
@@ -123,9 +123,9 @@ module _ (t : Star) (W : IsWellFormed t) (j k : ℕ) (r : Ray) (h : At t.rays k 
   d = t.axis
 
   abbrev w : Vector
-  w = ray_way t r
+  w = ray_dir t r
 
-  at-ray : (i : ℕ) (q : Ray) → At t.rays i q → (dot d (ray_way t q) ≡ pos 0) × IsDirection (ray_way t q)
+  at-ray : (i : ℕ) (q : Ray) → At t.rays i q → (dot d (ray_dir t q) ≡ pos 0) × IsDirection (ray_dir t q)
   at-ray i q c = ray-level t W.axis q (W.rays i q c)
 
   close-minus : (e : Vector) → triple d w e <ℤ pos 0 → Close t w e b
@@ -133,7 +133,7 @@ module _ (t : Star) (W : IsWellFormed t) (j k : ℕ) (r : Ray) (h : At t.rays k 
       let p = follows-at t.rays j k r f h in
       let x = at-ray k r h in
       let y = at-ray j p.0 p.1 in
-      (amount (cross (ray_way t p.0) (away d) ∷ []) e, λ i g. in_sector j p.0 r p.1 p.2 (close-before d w (ray_way t p.0) e W.axis x.1 y.1 x.0 y.0 l i g) below)
+      (amount (cross (ray_dir t p.0) (away d) ∷ []) e, λ i g. in_sector j p.0 r p.1 p.2 (close-before d w (ray_dir t p.0) e W.axis x.1 y.1 x.0 y.0 l i g) below)
 
   close-nought : (e : Vector) → triple d w e ≡ pos 0 → Close t w e r.mark
   close-nought e z = let x = at-ray k r h in (amount (w ∷ []) e, λ i g. on_ray k r h (close-on d w w e W.axis x.1 x.1 x.0 x.0 i z g) refl)
@@ -143,7 +143,7 @@ module _ (t : Star) (W : IsWellFormed t) (j k : ℕ) (r : Ray) (h : At t.rays k 
       let p = next-ray t.rays k r h in
       let x = at-ray k r h in
       let y = at-ray p.1 p.0 p.2 in
-      (amount (cross (ray_way t p.0) d ∷ []) e, λ i g. in_sector k r p.0 h p.3 (close-after d w (ray_way t p.0) e W.axis x.1 y.1 x.0 y.0 i l g) above)
+      (amount (cross (ray_dir t p.0) d ∷ []) e, λ i g. in_sector k r p.0 h p.3 (close-after d w (ray_dir t p.0) e W.axis x.1 y.1 x.0 y.0 i l g) above)
 
   pub ray-close : (e : Vector) → Close t w e (by_side a r.mark b (sign (triple d w e)))
   ray-close e = by_order (triple d w e) (pos 0)

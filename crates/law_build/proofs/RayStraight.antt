@@ -13,7 +13,7 @@ use Rattle.law_sphere.specs.Forms.{Keeps, point_forms, arc_forms}
 use Rattle.law_sphere.specs.Least.{by_side}
 use Rattle.law_sphere.specs.Labelling.{Near}
 use Rattle.law_sphere.specs.Builds.{StraightAfter, Proper}
-use Rattle.law_sphere.specs.Stars.{Ray, Star, ray_way, across, OnRay, StarLabel, on_ray, in_sector, in_only_sector, Follows}
+use Rattle.law_sphere.specs.Stars.{Ray, Star, ray_dir, across, OnRay, StarLabel, on_ray, in_sector, in_only_sector, Follows}
 use Rattle.law_sphere.proofs.Vectors.{dot-comb, nought-if}
 use Rattle.law_sphere.proofs.Generic.{amount, far-keeps}
 use Rattle.law_sphere.proofs.Places.{parallel-back, IsStrictlyOn-stays}
@@ -59,9 +59,9 @@ across-keeps gs d w e i h g l f =
 star-or : (t : Star) (w : Vector) (l : Label) → StarLabel t w l → ((k : ℕ) × (r : Ray) × At t.rays k r × OnRay t r w) ⊎ ((e : Vector) → Close t w e l)
 star-or t w l (on_ray k r a o m) = inl (k, r, a, o)
 star-or t w l (in_sector k q r a n o s) = inr (λ e.
-    let forms = arc_forms t.axis (ray_way t q) (ray_way t r) in (
+    let forms = arc_forms t.axis (ray_dir t q) (ray_dir t r) in (
       amount (each (across t.axis) forms) e,
-      λ i h. in_sector k q r a n (IsStrictlyOn-stays t.axis (ray_way t q) (ray_way t r) (across t.axis w) (across t.axis (blend i w 1 e)) (across-keeps forms t.axis w e i h) (across-level t.axis (blend i w 1 e)) o) s,
+      λ i h. in_sector k q r a n (IsStrictlyOn-stays t.axis (ray_dir t q) (ray_dir t r) (across t.axis w) (across t.axis (blend i w 1 e)) (across-keeps forms t.axis w e i h) (across-level t.axis (blend i w 1 e)) o) s,
     ))
 star-or t w l (in_only_sector n s) = inr (λ e. (0, λ i h. in_only_sector n s))
 
@@ -85,7 +85,7 @@ module _ (gs : List Vector) (L : Vector → Label) (I : IsLabelling gs L) (t : S
       still j k z = off (parallel-back d w (blend j w 1 e) (far-keeps (point_forms d) w e j k) z)
 
   -- at the axis, straight in the plane of the form u that has the ray on it
-  pub ray-after : (u : Vector) → dot u d ≡ pos 0 → (j k : ℕ) (r : Ray) → At t.rays k r → ray_way t r ≡ cross u d → IsDirection (cross u d) → Follows t.rays j k → At t.sectors k a → At t.sectors j b → r.mark ≡ m
+  pub ray-after : (u : Vector) → dot u d ≡ pos 0 → (j k : ℕ) (r : Ray) → At t.rays k r → ray_dir t r ≡ cross u d → IsDirection (cross u d) → Follows t.rays j k → At t.sectors k a → At t.sectors j b → r.mark ≡ m
       → StraightAfter F u a m b d
   ray-after u lu j k r h way hw f above below e = (x.0 + amount hs w, λ i l. record { level = level-blend u d w i 1 lu (square-cross u d); at_d = x.1 i (omega arith); near = λ v. close v i (omega arith) })
     where
@@ -98,18 +98,18 @@ module _ (gs : List Vector) (L : Vector → Label) (I : IsLabelling gs L) (t : S
       x : Near F d (cross u d) m
       x = S.labels (cross u d) m off (on_ray k r h (subst (λ (v : Vector). SameDirection v (across d (cross u d))) (sym way) (across-same d (cross u d) S.star.axis hw (beside-level u d))) e)
 
-      side : (v : Vector) → by_side a r.mark b (sign (triple d (ray_way t r) v)) ≡ by_side a m b (sign (dot u v))
-      side v = ap (λ l. by_side a l b (sign (triple d (ray_way t r) v))) e
+      side : (v : Vector) → by_side a r.mark b (sign (triple d (ray_dir t r) v)) ≡ by_side a m b (sign (dot u v))
+      side v = ap (λ l. by_side a l b (sign (triple d (ray_dir t r) v))) e
           ∙ ap (by_side a m b) (ap (λ q. sign (triple d q v)) way ∙ ap sign (turn-ahead u d v lu) ∙ sign-scaled (dot d d) (dot u v) (self-pos d S.star.axis))
 
       close : (v : Vector) (i : ℕ) → amount hs (cross u d) ≤ i → Near F (blend i d 1 (cross u d)) v (by_side a m b (sign (dot u v)))
       close v i h' = close-near (cross u d) v (by_side a m b (sign (dot u v))) off
-          (subst (λ (q : Vector). Close t q v (by_side a m b (sign (dot u v)))) way (subst (Close t (ray_way t r) v) (side v) (ray-close t S.star j k r h f a b above below v))) i h'
+          (subst (λ (q : Vector). Close t q v (by_side a m b (sign (dot u v)))) way (subst (Close t (ray_dir t r) v) (side v) (ray-close t S.star j k r h f a b above below v))) i h'
 
   -- where the labels are straight close after the axis in the plane of n, a ray leaves along it
-  pub ray-there : IsDirection n → dot n d ≡ pos 0 → StraightAfter F n a m b d → (k : ℕ) × (r : Ray) × At t.rays k r × SameDirection (ray_way t r) (cross n d)
+  pub ray-there : IsDirection n → dot n d ≡ pos 0 → StraightAfter F n a m b d → (k : ℕ) × (r : Ray) × At t.rays k r × SameDirection (ray_dir t r) (cross n d)
   ray-there hn ln after = ⊎_elim
-      (λ x. (x.0, x.1, x.2, SameDirection-trans (ray_way t x.1) (across d w) w x.3 (SameDirection-turned w (across d w) (across-same d w S.star.axis hw lw))))
+      (λ x. (x.0, x.1, x.2, SameDirection-trans (ray_dir t x.1) (across d w) w x.3 (SameDirection-turned w (across d w) (across-same d w S.star.axis hw lw))))
       (λ c. absurd (even c))
       (star-or t w y.0 y.1)
     where

@@ -5,19 +5,19 @@ use Rattle.nef_space.specs.Vectors.{Vector, IsDirection, cross, dot, IsZero, Sam
 use Rattle.nef_space.specs.declared.label.Label.{Label}
 use Rattle.law_forms.proofs.Directions.{dot-comm}
 use Rattle.law_cyclic.specs.Arcs.{IsOnCircle}
-use Rattle.law_sphere.specs.Maps.{At, Svertex, Loop, Map, Item, loop_item, items, item_normal, item_above, item_mark, item_below, OnItem, IsFree, MapLabel, on_item, NearLabel, Shaped, Valid}
+use Rattle.law_sphere.specs.Maps.{At, MapVertex, MapSloop, Map, Item, sloop_item, items, item_normal, item_pos, item_mark, item_neg, OnItem, IsFree, MapLabel, on_item, NearLabel, Shaped, Valid}
 use Rattle.law_sphere.specs.Least.{by_side}
 use Rattle.law_sphere.specs.Labelling.{Near, StraightAt, ByOp}
 use Rattle.std.specs.Prelude.{Some}
 use Rattle.law_sphere.proofs.Vectors.{normal-direction}
 use Rattle.law_sphere.proofs.Lists.{at-one}
 use Rattle.law_sphere.proofs.Forms.{PlaceOf, svertex_place, item_place, free_place, place_of}
-use Rattle.law_sphere.proofs.Labels.{label-exists, way-signs}
+use Rattle.law_sphere.proofs.Labels.{label-exists, dir-signs}
 use Rattle.law_sphere.proofs.Around.{Beside, same_way, other_way, beside}
 use Rattle.law_sphere.proofs.NearItems.{near-free, near-item}
 use Rattle.law_sphere.proofs.Compare.{normals-not_opposite}
-use Rattle.law_sphere.proofs.Turn.{way-directed}
-use Rattle.law_sphere.proofs.Arcs.{at-loop}
+use Rattle.law_sphere.proofs.Turn.{dir-directed}
+use Rattle.law_sphere.proofs.Arcs.{at-sloop}
 
 -- parallel normals go the same way
 pub normals-same_way : (n m : Vector) → IsNormal n → IsNormal m → IsZero (cross n m) → SameDirection n m
@@ -28,15 +28,15 @@ normals-same_way n m h k z = by (beside n m (normal-direction n h) (normal-direc
     by (other_way w) = absurd (normals-not_opposite n m h k w)
 
 pub side-same_way : (n m e : Vector) → SameDirection n m → sign (dot m e) ≡ sign (dot n e)
-side-same_way n m e w = ap sign (dot-comm m e) ∙ way-signs n m e (way-directed n m w) w ∙ ap sign (dot-comm e n)
+side-same_way n m e w = ap sign (dot-comm m e) ∙ dir-signs n m e (dir-directed n m w) w ∙ ap sign (dot-comm e n)
 
 -- the labels of the map at d, and close to d above, in and below the plane of n
 pub record SidesAt (M : Map) (n d : Vector) : Type 0 where
-  pub above : Label
+  pub pos : Label
   pub label : Label
-  pub below : Label
+  pub neg : Label
   pub at_d : MapLabel M d label
-  pub near : (e : Vector) → NearLabel M d e (by_side above label below (sign (dot n e)))
+  pub near : (e : Vector) → NearLabel M d e (by_side pos label neg (sign (dot n e)))
 
 even-side : (m : Label) (s : Sign) → by_side m m m s ≡ m
 even-side m minus = refl
@@ -51,24 +51,24 @@ op-side op a m b c o g plus = refl
 module _ (M : Map) (V : Valid M) (n d : Vector) where
   pub free-sides : IsFree M d → SidesAt M n d
   free-sides F = let a = label-exists M V d F.direction in record {
-    above = a.0;
+    pos = a.0;
     label = a.0;
-    below = a.0;
+    neg = a.0;
     at_d = a.1;
     near = λ e. subst (NearLabel M d e) (sym (even-side a.0 (sign (dot n e)))) (near-free M V d F a.0 a.1 e);
   }
 
   pub item-sides : (i : ℕ) (x : Item) → At (items M) i x → OnItem M x d → SameDirection n (item_normal x) → SidesAt M n d
   item-sides i x a o w = record {
-    above = item_above x;
+    pos = item_pos x;
     label = item_mark x;
-    below = item_below x;
+    neg = item_neg x;
     at_d = on_item i x a o refl;
-    near = λ e. subst (NearLabel M d e) (ap (by_side (item_above x) (item_mark x) (item_below x)) (side-same_way n (item_normal x) e w)) (near-item M V d i x a o e);
+    near = λ e. subst (NearLabel M d e) (ap (by_side (item_pos x) (item_mark x) (item_neg x)) (side-same_way n (item_normal x) e w)) (near-item M V d i x a o e);
   }
 
   -- off the svertices and off the items of other planes
-  pub sides-at : IsDirection d → IsNormal n → ((k : ℕ) (v : Svertex) → At M.svertices k v → SameDirection v.way d → ⊥)
+  pub sides-at : IsDirection d → IsNormal n → ((k : ℕ) (v : MapVertex) → At M.svertices k v → SameDirection v.dir d → ⊥)
       → ((i : ℕ) (x : Item) → At (items M) i x → OnItem M x d → IsZero (cross n (item_normal x))) → SidesAt M n d
   sides-at h hn off flat = by (place_of M d h)
     where
@@ -78,24 +78,24 @@ module _ (M : Map) (V : Valid M) (n d : Vector) where
       by (free_place F) = free-sides F
 
 -- an item that the sloop's circle meets is the sloop
-pub own-item : (M : Map) → Shaped M → (l : Loop) → M.loop ≡ Some l → (d : Vector) → IsOnCircle l.normal d → (i : ℕ) (x : Item) → At (items M) i x → OnItem M x d → x ≡ loop_item l
+pub own-item : (M : Map) → Shaped M → (l : MapSloop) → M.sloop ≡ Some l → (d : Vector) → IsOnCircle l.normal d → (i : ℕ) (x : Item) → At (items M) i x → OnItem M x d → x ≡ sloop_item l
 own-item M V l e d c i x a o =
-    let j = at-loop M.arcs M.loop l e in
-    let q = V.no_items_meet i j.0 x (loop_item l) d a j.1 o c in
-    at-one (items M) j.0 x (loop_item l) (subst (λ (r : ℕ). At (items M) r x) q a) j.1
+    let j = at-sloop M.arcs M.sloop l e in
+    let q = V.no_items_meet i j.0 x (sloop_item l) d a j.1 o c in
+    at-one (items M) j.0 x (sloop_item l) (subst (λ (r : ℕ). At (items M) r x) q a) j.1
 
 -- the sides of two maps make those of op
 pub joined-sides : (A B : Map) (op : Label → Label → Label) (n d : Vector) → dot n d ≡ pos 0 → (p : SidesAt A n d) (q : SidesAt B n d)
-    → StraightAt (ByOp A B op) n (op p.above q.above) (op p.label q.label) (op p.below q.below) d
+    → StraightAt (ByOp A B op) n (op p.pos q.pos) (op p.label q.label) (op p.neg q.neg) d
 joined-sides A B op n d z p q = record {
   level = z;
   at_d = (p.label, q.label, p.at_d, q.at_d, refl);
-  near = λ e. subst (Near (ByOp A B op) d e) (op-side op p.above p.label p.below q.above q.label q.below (sign (dot n e))) (both e (p.near e) (q.near e));
+  near = λ e. subst (Near (ByOp A B op) d e) (op-side op p.pos p.label p.neg q.pos q.label q.neg (sign (dot n e))) (both e (p.near e) (q.near e));
 }
   where
-    both : (e : Vector) → NearLabel A d e (by_side p.above p.label p.below (sign (dot n e))) → NearLabel B d e (by_side q.above q.label q.below (sign (dot n e)))
-        → Near (ByOp A B op) d e (op (by_side p.above p.label p.below (sign (dot n e))) (by_side q.above q.label q.below (sign (dot n e))))
-    both e (i, f) (j, g) = (i + j, λ k s. (by_side p.above p.label p.below (sign (dot n e)), by_side q.above q.label q.below (sign (dot n e)), f k (omega arith), g k (omega arith), refl))
+    both : (e : Vector) → NearLabel A d e (by_side p.pos p.label p.neg (sign (dot n e))) → NearLabel B d e (by_side q.pos q.label q.neg (sign (dot n e)))
+        → Near (ByOp A B op) d e (op (by_side p.pos p.label p.neg (sign (dot n e))) (by_side q.pos q.label q.neg (sign (dot n e))))
+    both e (i, f) (j, g) = (i + j, λ k s. (by_side p.pos p.label p.neg (sign (dot n e)), by_side q.pos q.label q.neg (sign (dot n e)), f k (omega arith), g k (omega arith), refl))
 
 -- where both are free there is one label all about
 pub free-joined : (A B : Map) (op : Label → Label → Label) (V : Valid A) (W : Valid B) (n d : Vector) → dot n d ≡ pos 0 → IsFree A d → IsFree B d → (c : Label) × StraightAt (ByOp A B op) n c c c d

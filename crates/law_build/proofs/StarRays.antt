@@ -10,10 +10,10 @@ use Rattle.law_near.proofs.FlatDecided.{cross-turned}
 use Rattle.law_sphere.specs.Vectors.{VectorBelow}
 use Rattle.law_sphere.specs.Maps.{At, Map, NearLabel, Valid}
 use Rattle.law_sphere.specs.Least.{NearStraight}
-use Rattle.law_sphere.specs.Stars.{Ray, Star, ray_way, across, in_sector, IsRay, StarShows, IsStraight, IsSimplified}
+use Rattle.law_sphere.specs.Stars.{Ray, Star, ray_dir, across, in_sector, IsRay, StarShows, IsStraight, IsSimplified}
 use Rattle.law_sphere.proofs.Vectors.{normal-direction, same-plus, nought-if, direction-by}
 use Rattle.law_sphere.proofs.Parallel.{parallel-in_plane, parallel-trans}
-use Rattle.law_sphere.proofs.Labels.{way-signs}
+use Rattle.law_sphere.proofs.Labels.{dir-signs}
 use Rattle.law_sphere.proofs.Around.{Beside, same_way, other_way, beside, opposites}
 use Rattle.law_sphere.proofs.Compare.{SameDirection-turned, normals-not_opposite}
 use Rattle.law_sphere.proofs.Turn.{whole-passes}
@@ -48,7 +48,7 @@ turned-last d a w =
     (num (pos 0) ⊖ (dx ⊗ (wy ⊗ vz ⊖ wz ⊗ vy) ⊕ dy ⊗ (wz ⊗ vx ⊖ wx ⊗ vz) ⊕ dz ⊗ (wx ⊗ vy ⊖ wy ⊗ vx))) tt
 
 -- parallel rays have parallel normals
-normals-parallel : (t : Star) → IsDirection t.axis → (q r : Ray) → IsRay t q → IsRay t r → IsZero (cross (ray_way t q) (ray_way t r)) → IsZero (cross q.normal r.normal)
+normals-parallel : (t : Star) → IsDirection t.axis → (q r : Ray) → IsRay t q → IsRay t r → IsZero (cross (ray_dir t q) (ray_dir t r)) → IsZero (cross q.normal r.normal)
 normals-parallel t hd q r A B z = parallel-in_plane d a b hd (dot-comm d a ∙ A.level) (dot-comm d b ∙ B.level)
     (nought-is (triple d a b) (sym (sign-scaled (dot d d) (triple d a b) (self-pos d hd)) ∙ ap sign (beside-turn d a b A.level B.level ∙ by q.ahead r.ahead z)))
   where
@@ -73,7 +73,7 @@ normals-parallel t hd q r A B z = parallel-in_plane d a b hd (dot-comm d a ∙ A
         omega (arith, ints)
 
 -- rays along one line have one normal
-one-normal : (t : Star) → IsWellFormed t → (i k : ℕ) (q r : Ray) → At t.rays i q → At t.rays k r → IsZero (cross (ray_way t q) (ray_way t r)) → q.normal ≡ r.normal
+one-normal : (t : Star) → IsWellFormed t → (i k : ℕ) (q r : Ray) → At t.rays i q → At t.rays k r → IsZero (cross (ray_dir t q) (ray_dir t r)) → q.normal ≡ r.normal
 one-normal t W i k q r g h z = by (beside q.normal r.normal (normal-direction q.normal A.normal) (normal-direction r.normal B.normal) (normals-parallel t W.axis q r A B z))
   where
     A : IsRay t q
@@ -87,24 +87,24 @@ one-normal t W i k q r g h z = by (beside q.normal r.normal (normal-direction q.
     by (other_way w) = absurd (normals-not_opposite q.normal r.normal A.normal B.normal w)
 
 -- along one line the first ray goes ahead, and the other back
-first-ahead : (t : Star) → IsWellFormed t → (k : ℕ) (q r : Ray) → At t.rays zero q → At t.rays (suc k) r → IsZero (cross (ray_way t q) (ray_way t r)) → (q.normal ≡ r.normal) × (q.ahead ≡ true) × (r.ahead ≡ false)
+first-ahead : (t : Star) → IsWellFormed t → (k : ℕ) (q r : Ray) → At t.rays zero q → At t.rays (suc k) r → IsZero (cross (ray_dir t q) (ray_dir t r)) → (q.normal ≡ r.normal) × (q.ahead ≡ true) × (r.ahead ≡ false)
 first-ahead t W k q r g h z = ⊎_elim (λ l. absurd (vector-below_not r.normal (subst (λ (v : Vector). VectorBelow v r.normal) (one-normal t W zero (suc k) q r g h z) l))) (λ x. x) (W.least_first k q r g h)
 
 -- no other ray goes the way of the first
-first-alone : (t : Star) → IsWellFormed t → (k : ℕ) (q r : Ray) → At t.rays zero q → At t.rays (suc k) r → SameDirection (ray_way t q) (ray_way t r) → ⊥
+first-alone : (t : Star) → IsWellFormed t → (k : ℕ) (q r : Ray) → At t.rays zero q → At t.rays (suc k) r → SameDirection (ray_dir t q) (ray_dir t r) → ⊥
 first-alone t W k q r g h w = back q.normal t.axis ways
   where
     x : (q.normal ≡ r.normal) × (q.ahead ≡ true) × (r.ahead ≡ false)
     x = first-ahead t W k q r g h w.parallel
 
-    ahead : ray_way t q ≡ cross q.normal t.axis
+    ahead : ray_dir t q ≡ cross q.normal t.axis
     ahead = ap (λ b. cond b (cross q.normal t.axis) (cross t.axis q.normal)) x.1
 
-    behind : ray_way t r ≡ cross t.axis q.normal
+    behind : ray_dir t r ≡ cross t.axis q.normal
     behind = ap (λ b. cond b (cross r.normal t.axis) (cross t.axis r.normal)) x.2 ∙ ap (λ v. cross t.axis v) (sym x.0)
 
     ways : SameDirection (cross q.normal t.axis) (cross t.axis q.normal)
-    ways = subst (λ (v : Vector). SameDirection v (cross t.axis q.normal)) ahead (subst (SameDirection (ray_way t q)) behind w)
+    ways = subst (λ (v : Vector). SameDirection v (cross t.axis q.normal)) ahead (subst (SameDirection (ray_dir t q)) behind w)
 
     back : (n d : Vector) → SameDirection (cross n d) (cross d n) → ⊥
     back n d s =
@@ -123,8 +123,8 @@ two-straight t W T = record {
   first = T.first;
   second = T.second;
   two_rays = T.two_rays;
-  above = s.0;
-  below = s.1;
+  pos = s.0;
+  neg = s.1;
   two_sectors = s.2;
   one_normal = x.0;
   first_ahead = x.1;
@@ -151,24 +151,24 @@ module _ (t : Star) (W : IsWellFormed t) (M : Map) (V : Valid M) (S : StarShows 
   abbrev d : Vector
   d = t.axis
 
-  at-ray : (k : ℕ) (r : Ray) → At t.rays k r → (dot d (ray_way t r) ≡ pos 0) × IsDirection (ray_way t r)
+  at-ray : (k : ℕ) (r : Ray) → At t.rays k r → (dot d (ray_dir t r) ≡ pos 0) × IsDirection (ray_dir t r)
   at-ray k r a = ray-level t W.axis r (W.rays k r a)
 
   -- all rays lie along one line
-  one-line : (i k : ℕ) (q r : Ray) → At t.rays i q → At t.rays k r → IsZero (cross (ray_way t q) (ray_way t r))
-  one-line i k q r a b = parallel-trans (ray_way t q) w (ray_way t r) (λ z. W.axis (nought-if P.normal d P.direction z P.level)) (cross-turned w (ray_way t q) (along i q a)) (along k r b)
+  one-line : (i k : ℕ) (q r : Ray) → At t.rays i q → At t.rays k r → IsZero (cross (ray_dir t q) (ray_dir t r))
+  one-line i k q r a b = parallel-trans (ray_dir t q) w (ray_dir t r) (λ z. W.axis (nought-if P.normal d P.direction z P.level)) (cross-turned w (ray_dir t q) (along i q a)) (along k r b)
     where
       w : Vector
       w = cross P.normal d
 
-      along : (k : ℕ) (r : Ray) → At t.rays k r → IsZero (cross (cross P.normal d) (ray_way t r))
-      along k r a = let x = at-ray k r a in along-meet P.normal d (ray_way t r) x.0 (straight-level t M V S simple P k r a)
+      along : (k : ℕ) (r : Ray) → At t.rays k r → IsZero (cross (cross P.normal d) (ray_dir t r))
+      along k r a = let x = at-ray k r a in along-meet P.normal d (ray_dir t r) x.0 (straight-level t M V S simple P k r a)
 
   -- all other rays go the other way
-  other-rays : (k : ℕ) (q r : Ray) → At t.rays zero q → At t.rays (suc k) r → IsOpposite (ray_way t q) (ray_way t r)
-  other-rays k q r a b = by (beside (ray_way t q) (ray_way t r) (let x = at-ray zero q a in x.1) (let x = at-ray (suc k) r b in x.1) (one-line zero (suc k) q r a b))
+  other-rays : (k : ℕ) (q r : Ray) → At t.rays zero q → At t.rays (suc k) r → IsOpposite (ray_dir t q) (ray_dir t r)
+  other-rays k q r a b = by (beside (ray_dir t q) (ray_dir t r) (let x = at-ray zero q a in x.1) (let x = at-ray (suc k) r b in x.1) (one-line zero (suc k) q r a b))
     where
-      by : Beside (ray_way t q) (ray_way t r) → IsOpposite (ray_way t q) (ray_way t r)
+      by : Beside (ray_dir t q) (ray_dir t r) → IsOpposite (ray_dir t q) (ray_dir t r)
       by (same_way w) = absurd (first-alone t W k q r a b w)
       by (other_way o) = o
 
@@ -177,43 +177,43 @@ module _ (t : Star) (W : IsWellFormed t) (M : Map) (V : Valid M) (S : StarShows 
   no-third q r s a b c = not-even t M V S simple zero q a u (λ z. let p = self-pos u x.1 in omega (arith, ints)) l.0 (all u (off-axis d u W.axis x.1 x.0) refl) all
     where
       u : Vector
-      u = ray_way t q
+      u = ray_dir t q
 
-      x : (dot d (ray_way t q) ≡ pos 0) × IsDirection (ray_way t q)
+      x : (dot d (ray_dir t q) ≡ pos 0) × IsDirection (ray_dir t q)
       x = at-ray zero q a
 
-      y : (dot d (ray_way t r) ≡ pos 0) × IsDirection (ray_way t r)
+      y : (dot d (ray_dir t r) ≡ pos 0) × IsDirection (ray_dir t r)
       y = at-ray (suc zero) r b
 
-      z : (dot d (ray_way t s) ≡ pos 0) × IsDirection (ray_way t s)
+      z : (dot d (ray_dir t s) ≡ pos 0) × IsDirection (ray_dir t s)
       z = at-ray (suc (suc zero)) s c
 
       l : (m : Label) × At t.sectors (suc zero) m
       l = sector-there t W.as_many (suc zero) r b
 
-      both : SameDirection (ray_way t r) (ray_way t s)
-      both = opposites (ray_way t q) (ray_way t r) (ray_way t s) x.1 (other-rays zero q r a b) (other-rays (suc zero) q s a c)
+      both : SameDirection (ray_dir t r) (ray_dir t s)
+      both = opposites (ray_dir t q) (ray_dir t r) (ray_dir t s) x.1 (other-rays zero q r a b) (other-rays (suc zero) q s a c)
 
-      all : (e : Vector) → IsDirection (cross d e) → sign (dot (ray_way t q) e) ≡ sign (dot (ray_way t q) (ray_way t q)) → NearLabel M d e l.0
-      all e f g = S.labels e l.0 f (in_sector (suc zero) r s b (inl c) (whole-passes d (ray_way t r) (ray_way t s) v W.axis y.1 z.1 (direction-by u v (λ i. let h = front in omega (arith, ints))) y.0 z.0 (across-level d e) both off) l.1)
+      all : (e : Vector) → IsDirection (cross d e) → sign (dot (ray_dir t q) e) ≡ sign (dot (ray_dir t q) (ray_dir t q)) → NearLabel M d e l.0
+      all e f g = S.labels e l.0 f (in_sector (suc zero) r s b (inl c) (whole-passes d (ray_dir t r) (ray_dir t s) v W.axis y.1 z.1 (direction-by u v (λ i. let h = front in omega (arith, ints))) y.0 z.0 (across-level d e) both off) l.1)
         where
           v : Vector
           v = across d e
 
-          front : pos 0 <ℤ dot (ray_way t q) (across d e)
+          front : pos 0 <ℤ dot (ray_dir t q) (across d e)
           front = same-plus (dot u u) (dot u v) (ap sign (across-side u d e (dot-comm u d ∙ x.0)) ∙ sign-scaled (dot d d) (dot u e) (self-pos d W.axis) ∙ g) (self-pos u x.1)
 
-          off : SameDirection (ray_way t s) (across d e) → ⊥
+          off : SameDirection (ray_dir t s) (across d e) → ⊥
           off w =
               let o = other-rays (suc zero) q s a c in
-              let h = same-plus (dot u v) (dot u (ray_way t s)) (sym (way-signs (ray_way t s) v u z.1 w)) front in
+              let h = same-plus (dot u v) (dot u (ray_dir t s)) (sym (dir-signs (ray_dir t s) v u z.1 w)) front in
               let k = o.backward in
               omega (arith, ints)
 
   pub rays-apart : RaysApart t
   rays-apart zero zero q r a b w = refl
   rays-apart zero (suc k) q r a b w = absurd (first-alone t W k q r a b w)
-  rays-apart (suc i) zero q r a b w = absurd (first-alone t W i r q b a (SameDirection-turned (ray_way t q) (ray_way t r) w))
+  rays-apart (suc i) zero q r a b w = absurd (first-alone t W i r q b a (SameDirection-turned (ray_dir t q) (ray_dir t r) w))
   rays-apart (suc i) (suc k) q r a b w = number-order i k (λ l. absurd (third t.rays k r l refl b)) (λ e. ap suc e) (λ l. absurd (third t.rays i q l refl a))
     where
       -- a list with a place beyond the second has three elements

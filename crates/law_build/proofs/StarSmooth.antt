@@ -11,7 +11,7 @@ use Rattle.law_near.proofs.Flats.{vector-same}
 use Rattle.law_sphere.specs.Maps.{At}
 use Rattle.law_sphere.specs.Labelling.{Near, PlainAt, StraightAt}
 use Rattle.law_sphere.specs.Builds.{Proper}
-use Rattle.law_sphere.specs.Stars.{Ray, Star, ray_way, in_only_sector, IsRay, IsPlain, IsStraight, IsSimplified}
+use Rattle.law_sphere.specs.Stars.{Ray, Star, ray_dir, in_only_sector, IsRay, IsPlain, IsStraight, IsSimplified}
 use Rattle.law_sphere.proofs.Vectors.{same-plus}
 use Rattle.law_sphere.proofs.Parallel.{parallel-in_plane}
 use Rattle.law_sphere.proofs.Compare.{normals-not_opposite}
@@ -26,8 +26,8 @@ module _ (gs : List Vector) (L : Vector → Label) (I : IsLabelling gs L) (t : S
   pub star-plain : IsPlain t → PlainAt (Of L) t.axis t.mark
   star-plain P = plain-from gs L I t.axis t.mark S.star.axis S.mark (λ e f. S.labels e t.mark f (in_only_sector P.no_ray (subst (λ (ls : List Label). At ls zero t.mark) (sym P.one_sector) refl)))
 
-  pub star-straight : (K : IsStraight t) → StraightAt (Of L) K.first.normal K.above t.mark K.below t.axis
-  star-straight K = straight-from gs L I K.first.normal K.above t.mark K.below t.axis S.star.axis (straight_star-level t S.star.rays K S.star.axis) S.mark
+  pub star-straight : (K : IsStraight t) → StraightAt (Of L) K.first.normal K.pos t.mark K.neg t.axis
+  star-straight K = straight-from gs L I K.first.normal K.pos t.mark K.neg t.axis S.star.axis (straight_star-level t S.star.rays K S.star.axis) S.mark
       (λ e f. let x = S.star.each e f in subst (Near (Of L) t.axis e) (straight_star-label t S.star.rays K S.star.axis e x.0 x.1) (S.labels e x.0 f x.1))
 
   pub star-normal : (K : IsStraight t) → IsNormal K.first.normal
@@ -37,10 +37,10 @@ pub straight-first : (t : Star) (K : IsStraight t) → At t.rays zero K.first
 straight-first t K = subst (λ (rs : List Ray). At rs zero K.first) (sym K.two_rays) refl
 
 -- a simplified straight star has another label beside the plane
-pub straight-proper : (t : Star) (K : IsStraight t) → IsSimplified t → Proper K.above t.mark K.below
-straight-proper t K simple x y = simple (suc zero) zero K.second K.first K.below K.above
+pub straight-proper : (t : Star) (K : IsStraight t) → IsSimplified t → Proper K.pos t.mark K.neg
+straight-proper t K simple x y = simple (suc zero) zero K.second K.first K.neg K.pos
     (subst (λ (rs : List Ray). At rs (suc zero) K.second) (sym K.two_rays) refl) (straight-first t K) (inr (sym (ap (length {A = Ray}) K.two_rays), refl))
-    (subst (λ (ls : List Label). At ls (suc zero) K.below) (sym K.two_sectors) refl) (subst (λ (ls : List Label). At ls zero K.above) (sym K.two_sectors) refl)
+    (subst (λ (ls : List Label). At ls (suc zero) K.neg) (sym K.two_sectors) refl) (subst (λ (ls : List Label). At ls zero K.pos) (sym K.two_sectors) refl)
     (K.first_mark ∙ sym y) (K.first_mark ∙ sym x)
 
 -- ---- normals
@@ -92,7 +92,7 @@ pub away-level : (n d : Vector) → dot n d ≡ pos 0 → dot (away n) d ≡ pos
 away-level n d z = let e = dot-away n d in omega (arith, ints)
 
 -- a ray along the circle of a normal goes ahead and has that normal's direction
-pub ray-ahead : (t : Star) (r : Ray) (n : Vector) → IsDirection t.axis → IsRay t r → IsNormal n → dot n t.axis ≡ pos 0 → SameDirection (ray_way t r) (cross n t.axis) → (r.ahead ≡ true) × SameDirection r.normal n
+pub ray-ahead : (t : Star) (r : Ray) (n : Vector) → IsDirection t.axis → IsRay t r → IsNormal n → dot n t.axis ≡ pos 0 → SameDirection (ray_dir t r) (cross n t.axis) → (r.ahead ≡ true) × SameDirection r.normal n
 ray-ahead t r n hd A hn ln = by r.ahead refl
   where
     by : (b : Bool) → r.ahead ≡ b → SameDirection (cond b (cross r.normal t.axis) (cross t.axis r.normal)) (cross n t.axis) → (r.ahead ≡ true) × SameDirection r.normal n

@@ -4,7 +4,7 @@ use Rattle.nef_space.specs.Vectors.{Vector, dot, cross, IsDirection}
 use Rattle.nef_space.specs.declared.label.Label.{Label}
 use Rattle.law_cyclic.specs.Arcs.{IsStrictlyOn}
 use Rattle.law_sphere.specs.Vectors.{VectorBelow}
-use Rattle.law_sphere.specs.Maps.{At, Svertex, Arc, Loop, Map}
+use Rattle.law_sphere.specs.Maps.{At, MapVertex, Arc, MapSloop, Map}
 use Rattle.law_sphere.specs.Least.{InOrder, ArcBelow}
 use Rattle.law_sphere.specs.Stars.{Ray, Star, StarLabel, IsPlain, IsStraight, Follows, IsSimplified}
 use Rattle.law_sphere.specs.Builds.{Proper}
@@ -26,8 +26,8 @@ pub record AreKept (ts us : List Star) : Type 0 where
 pub record IsKeptRaw (R Q : RawMap) : Type 0 where
   pub mark : Q.mark ≡ R.mark
   pub stars : AreKept R.stars Q.stars
-  pub loop : Q.loop ≡ R.loop
-  pub same_ground : Q.face ≡ R.face
+  pub sloop : Q.sloop ≡ R.sloop
+  pub same_ground : Q.ground ≡ R.ground
 
 -- no ray of a star has the mark of both its sectors
 abbrev pub AreSimplified : List Star → Type 0
@@ -39,8 +39,8 @@ around_of [] [] = None
 around_of [] (l ∷ ls) = Some l
 around_of (r ∷ rs) ls = None
 
-abbrev pub svertex_at : Star → Svertex
-svertex_at t = record { way = t.axis; mark = t.mark; around = around_of t.rays t.sectors }
+abbrev pub svertex_at : Star → MapVertex
+svertex_at t = record { dir = t.axis; mark = t.mark; around = around_of t.rays t.sectors }
 
 -- of the axes on the circle of n the one with number j comes first after the axis of t, counterclockwise; t's own comes last
 pub record IsFirstAfter (kept : List Star) (n : Vector) (t : Star) (j : ℕ) : Type 0 where
@@ -60,23 +60,23 @@ pub record IsArcFrom (kept : List Star) (a : Arc) : Type 0 where
   pub ahead : ray.ahead ≡ true
   pub normal : a.normal ≡ ray.normal
   pub mark : a.mark ≡ ray.mark
-  pub above : At star.sectors number a.above
+  pub pos : At star.sectors number a.pos
   pub follows : Follows star.rays before number
-  pub below : At star.sectors before a.below
+  pub neg : At star.sectors before a.neg
   pub target : IsFirstAfter kept a.normal star a.target
 
 -- the circle of a straight star
-abbrev pub loop_at : (t : Star) → IsStraight t → Loop
-loop_at t s = record { normal = s.first.normal; above = s.above; mark = t.mark; below = s.below }
+abbrev pub sloop_at : (t : Star) → IsStraight t → MapSloop
+sloop_at t s = record { normal = s.first.normal; pos = s.pos; mark = t.mark; neg = s.neg }
 
 -- the circle of the raw map, or of a straight star of it that no kept axis lies on
-pub data IsLoopFrom (R : RawMap) (kept : List Star) (l : Loop) : Type 0 where
-  raw_loop : R.loop ≡ Some l → Proper l.above l.mark l.below → IsLoopFrom R kept l
-  straight_loop : (k : ℕ) (t : Star) → At R.stars k t → (s : IsStraight t) → IsBare kept s.first.normal → l ≡ loop_at t s → IsLoopFrom R kept l
+pub data IsSloopFrom (R : RawMap) (kept : List Star) (l : MapSloop) : Type 0 where
+  raw_sloop : R.sloop ≡ Some l → Proper l.pos l.mark l.neg → IsSloopFrom R kept l
+  straight_sloop : (k : ℕ) (t : Star) → At R.stars k t → (s : IsStraight t) → IsBare kept s.first.normal → l ≡ sloop_at t s → IsSloopFrom R kept l
 
 -- one of the labels of a raw map
 abbrev pub IsRawLabel : RawMap → Label → Type 0
-IsRawLabel R m = (R.face ≡ Some m) ⊎ ((k : ℕ) × (t : Star) × At R.stars k t × (t.mark ≡ m)) ⊎ ((l : Loop) × (R.loop ≡ Some l) × (l.mark ≡ m))
+IsRawLabel R m = (R.ground ≡ Some m) ⊎ ((k : ℕ) × (t : Star) × At R.stars k t × (t.mark ≡ m)) ⊎ ((l : MapSloop) × (R.sloop ≡ Some l) × (l.mark ≡ m))
 
 -- M is made of the simplified stars of R: those that are neither plain nor straight become its svertices, their rays its arcs
 pub record IsBuiltFrom (R : RawMap) (M : Map) : Type 0 where
@@ -90,7 +90,7 @@ pub record IsBuiltFrom (R : RawMap) (M : Map) : Type 0 where
   pub arcs_from : (k : ℕ) (a : Arc) → At M.arcs k a → IsArcFrom kept a
   pub arcs_all : (i k : ℕ) (t : Star) (r : Ray) → At kept i t → At t.rays k r → r.ahead ≡ true → (j : ℕ) × (a : Arc) × At M.arcs j a × (a.source ≡ i) × (a.normal ≡ r.normal)
   pub arcs_ordered : InOrder ArcBelow M.arcs
-  pub loop_from : (l : Loop) → M.loop ≡ Some l → IsLoopFrom R kept l
-  pub loop_all : (l : Loop) → IsLoopFrom R kept l → (k : Loop) × (M.loop ≡ Some k)
-  pub ground_alone : kept ≡ [] → M.loop ≡ None → (m : Label) × (M.face ≡ Some m) × IsRawLabel R m
-  pub ground_not : (m : Label) → M.face ≡ Some m → (kept ≡ []) × (M.loop ≡ None)
+  pub sloop_from : (l : MapSloop) → M.sloop ≡ Some l → IsSloopFrom R kept l
+  pub sloop_all : (l : MapSloop) → IsSloopFrom R kept l → (k : MapSloop) × (M.sloop ≡ Some k)
+  pub ground_alone : kept ≡ [] → M.sloop ≡ None → (m : Label) × (M.ground ≡ Some m) × IsRawLabel R m
+  pub ground_not : (m : Label) → M.ground ≡ Some m → (kept ≡ []) × (M.sloop ≡ None)

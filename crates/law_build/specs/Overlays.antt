@@ -4,7 +4,7 @@ use Rattle.nef_space.specs.Vectors.{Vector, IsDirection, cross, opposite, SameDi
 use Rattle.nef_space.specs.declared.label.Label.{Label}
 use Rattle.law_cyclic.specs.Arcs.{IsOnCircle}
 use Rattle.law_sphere.specs.Vectors.{IsPrimitive, VectorBelow}
-use Rattle.law_sphere.specs.Maps.{At, Svertex, Loop, Item, Map, items, item_normal, OnItem, NearLabel}
+use Rattle.law_sphere.specs.Maps.{At, MapVertex, MapSloop, Item, Map, items, item_normal, OnItem, NearLabel}
 use Rattle.law_sphere.specs.Least.{InOrder}
 use Rattle.law_sphere.specs.Stars.{Star, StarLabel}
 use Rattle.law_sphere.specs.Labelling.{ByOp}
@@ -12,7 +12,7 @@ use Rattle.law_build.specs.Raw.{RawMap, IsWellFormed}
 
 -- d is a svertex of the map
 abbrev pub OnSvertex : Map → Vector → Type 0
-OnSvertex M d = (k : ℕ) × (v : Svertex) × At M.svertices k v × SameDirection v.way d
+OnSvertex M d = (k : ℕ) × (v : MapVertex) × At M.svertices k v × SameDirection v.dir d
 
 -- an item of A and an item of B with another normal meet at d
 pub record IsCrossing (A B : Map) (d : Vector) : Type 0 where
@@ -42,26 +42,26 @@ pub record IsMerged (A B : Map) (op : Label → Label → Label) (t : Star) : Ty
   pub labels : (e : Vector) (l : Label) → IsDirection (cross t.axis e) → StarLabel t e l → NearByOp A B op t.axis e l
 
 -- the sloop of A or of B that no axis lies on
-abbrev pub IsLoneLoop : Map → Map → Loop → Type 0
-IsLoneLoop A B l = ((A.loop ≡ Some l) ⊎ (B.loop ≡ Some l)) × ((d : Vector) → IsOnCircle l.normal d → IsAxis A B d → ⊥)
+abbrev pub IsLoneSloop : Map → Map → MapSloop → Type 0
+IsLoneSloop A B l = ((A.sloop ≡ Some l) ⊎ (B.sloop ≡ Some l)) × ((d : Vector) → IsOnCircle l.normal d → IsAxis A B d → ⊥)
 
 -- the circle l has a lone sloop's normal, and op of both maps' labels on it and beside it
-pub record IsMergedLoop (A B : Map) (op : Label → Label → Label) (l : Loop) : Type 0 where
-  pub lone : Loop
-  pub is_lone : IsLoneLoop A B lone
+pub record IsMergedSloop (A B : Map) (op : Label → Label → Label) (l : MapSloop) : Type 0 where
+  pub lone : MapSloop
+  pub is_lone : IsLoneSloop A B lone
   pub normal : l.normal ≡ lone.normal
   pub lowest : IsPrimitive l.normal
   pub mark : (d : Vector) → IsOnCircle l.normal d → ByOp A B op d l.mark
-  pub above : (d : Vector) → IsOnCircle l.normal d → NearByOp A B op d l.normal l.above
-  pub below : (d : Vector) → IsOnCircle l.normal d → NearByOp A B op d (opposite l.normal) l.below
+  pub pos : (d : Vector) → IsOnCircle l.normal d → NearByOp A B op d l.normal l.pos
+  pub neg : (d : Vector) → IsOnCircle l.normal d → NearByOp A B op d (opposite l.normal) l.neg
 
 -- op of both grounds
 abbrev pub IsMergedGround : Map → Map → (Label → Label → Label) → Label → Type 0
-IsMergedGround A B op m = (k : Label) × (l : Label) × (A.face ≡ Some k) × (B.face ≡ Some l) × (op k l ≡ m)
+IsMergedGround A B op m = (k : Label) × (l : Label) × (A.ground ≡ Some k) × (B.ground ≡ Some l) × (op k l ≡ m)
 
 -- the map has a svertex or a sloop
 abbrev pub HasItem : Map → Type 0
-HasItem M = (M.svertices ≡ [] → ⊥) ⊎ IsSome M.loop
+HasItem M = (M.svertices ≡ [] → ⊥) ⊎ IsSome M.sloop
 
 -- a star for each svertex and crossing of the two maps, in order, once each; the lone circle; the one label of two maps without items
 pub record Raw (R : RawMap) (A B : Map) (op : Label → Label → Label) : Type 0 where
@@ -69,5 +69,5 @@ pub record Raw (R : RawMap) (A B : Map) (op : Label → Label → Label) : Type 
   pub merged : (k : ℕ) (t : Star) → At R.stars k t → IsMerged A B op t
   pub complete : (d : Vector) → IsAxis A B d → (k : ℕ) × (t : Star) × At R.stars k t × SameDirection t.axis d
   pub ordered : InOrder (λ t u. VectorBelow t.axis u.axis) R.stars
-  pub circle : MatchOption R.loop ((l : Loop) → IsLoneLoop A B l → ⊥) (IsMergedLoop A B op)
-  pub face : MatchOption R.face (HasItem A ⊎ HasItem B) (IsMergedGround A B op)
+  pub circle : MatchOption R.sloop ((l : MapSloop) → IsLoneSloop A B l → ⊥) (IsMergedSloop A B op)
+  pub ground : MatchOption R.ground (HasItem A ⊎ HasItem B) (IsMergedGround A B op)

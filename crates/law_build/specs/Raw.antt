@@ -4,7 +4,7 @@ use Rattle.nef_space.specs.Vectors.{Vector, IsDirection, cross, dot, SameDirecti
 use Rattle.nef_space.specs.declared.label.Label.{Label}
 use Rattle.law_cyclic.specs.Arcs.{IsOnCircle}
 use Rattle.law_sphere.specs.Vectors.{IsPrimitive, VectorBelow}
-use Rattle.law_sphere.specs.Maps.{At, Loop}
+use Rattle.law_sphere.specs.Maps.{At, MapSloop}
 use Rattle.law_sphere.specs.Forms.{SameSigns}
 use Rattle.law_sphere.specs.Least.{InOrder}
 use Rattle.law_sphere.specs.Stars.{Ray, Star, IsRay, StarLabel}
@@ -15,8 +15,8 @@ use Rattle.law_sphere.specs.Builds.{Proper}
 pub record RawMap : Type 0 where
   pub mark : Label
   pub stars : List Star
-  pub loop : Option Loop
-  pub face : Option Label
+  pub sloop : Option MapSloop
+  pub ground : Option Label
 
 -- a label for each direction, as a relation
 abbrev pub Of : (Vector → Label) → Vector → Label → Type 0
@@ -61,12 +61,12 @@ pub record IsRawOf (R : RawMap) (L : Vector → Label) : Type 0 where
   pub stars : (k : ℕ) (t : Star) → At R.stars k t → ShowsLabels t L
   pub ordered : InOrder (λ t u. VectorBelow t.axis u.axis) R.stars
   pub smooth : (d : Vector) → IsDirection d → ((k : ℕ) (t : Star) → At R.stars k t → SameDirection t.axis d → ⊥) → IsSmooth (Of L) d
-  pub loop_normal : (l : Loop) → R.loop ≡ Some l → IsNormal l.normal
-  pub loop_lowest : (l : Loop) → R.loop ≡ Some l → IsPrimitive l.normal
-  pub loop_bare : (l : Loop) → R.loop ≡ Some l → IsBare R.stars l.normal
-  pub loop_labels : (l : Loop) (y : Vector) → R.loop ≡ Some l → IsOnCircle l.normal y → StraightAt (Of L) l.normal l.above l.mark l.below y
-  pub loop_all : (n y : Vector) (a m b : Label) → IsNormal n → IsBare R.stars n → IsOnCircle n y → Proper a m b → StraightAt (Of L) n a m b y
-      → (l : Loop) × (R.loop ≡ Some l) × SameDirection n l.normal
-  pub ground_alone : R.stars ≡ [] → R.loop ≡ None → (m : Label) × (R.face ≡ Some m)
-  pub ground_not : (m : Label) → R.face ≡ Some m → (R.stars ≡ []) × (R.loop ≡ None)
-  pub ground_label : (m : Label) (d : Vector) → R.face ≡ Some m → IsDirection d → L d ≡ m
+  pub sloop_normal : (l : MapSloop) → R.sloop ≡ Some l → IsNormal l.normal
+  pub sloop_lowest : (l : MapSloop) → R.sloop ≡ Some l → IsPrimitive l.normal
+  pub sloop_bare : (l : MapSloop) → R.sloop ≡ Some l → IsBare R.stars l.normal
+  pub sloop_labels : (l : MapSloop) (y : Vector) → R.sloop ≡ Some l → IsOnCircle l.normal y → StraightAt (Of L) l.normal l.pos l.mark l.neg y
+  pub sloop_all : (n y : Vector) (a m b : Label) → IsNormal n → IsBare R.stars n → IsOnCircle n y → Proper a m b → StraightAt (Of L) n a m b y
+      → (l : MapSloop) × (R.sloop ≡ Some l) × SameDirection n l.normal
+  pub ground_alone : R.stars ≡ [] → R.sloop ≡ None → (m : Label) × (R.ground ≡ Some m)
+  pub ground_not : (m : Label) → R.ground ≡ Some m → (R.stars ≡ []) × (R.sloop ≡ None)
+  pub ground_label : (m : Label) (d : Vector) → R.ground ≡ Some m → IsDirection d → L d ≡ m

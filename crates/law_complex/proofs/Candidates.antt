@@ -16,7 +16,7 @@ use Rattle.law_near.proofs.Supports.{flat-plane, square-cross}
 use Rattle.law_near.proofs.Even.{span-3}
 use Rattle.law_forms.proofs.Far.{nought-or}
 use Rattle.law_forms.proofs.Directions.{zero-decided}
-use Rattle.law_sphere.specs.Maps.{At, way_of}
+use Rattle.law_sphere.specs.Maps.{At, dir_of}
 use Rattle.law_sphere.proofs.Lists.{at-one}
 use Rattle.law_sphere.proofs.Parallel.{circle-point}
 use Rattle.law_sphere.proofs.KindFlats.{in-span}

@@ -24,7 +24,7 @@ use Rattle.law_near.proofs.FlatDecided.{flat_dim-of}
 use Rattle.law_forms.proofs.Far.{nought-or}
 use Rattle.law_forms.proofs.Directions.{self-pos}
 use Rattle.law_sphere.specs.Least.{by_side, NearPlain, NearStraight, Least, Cone}
-use Rattle.law_sphere.specs.Maps.{At, Map, Svertex, MapLabel, NearLabel}
+use Rattle.law_sphere.specs.Maps.{At, Map, MapVertex, MapLabel, NearLabel}
 use Rattle.law_sphere.proofs.Vectors.{direction-by}
 use Rattle.law_sphere.proofs.Labels.{label-direction, label-unique, near-exists}
 

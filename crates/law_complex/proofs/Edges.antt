@@ -24,12 +24,12 @@ use Rattle.law_forms.proofs.Near.{reach_all}
 use Rattle.law_forms.proofs.Directions.{direction-left, direction-right}
 use Rattle.law_forms.proofs.Between.{between-same, place-toward, toward-place}
 use Rattle.law_complex.proofs.Ways.{between-way, between-rest, between-outer, between-start, between-ends, same-itself}
-use Rattle.law_sphere.proofs.Compare.{SameDirection-turned, SameDirection-trans, way-self}
+use Rattle.law_sphere.proofs.Compare.{SameDirection-turned, SameDirection-trans, dir-self}
 use Rattle.law_sphere.proofs.Lists.{at-one}
-use Rattle.law_sphere.proofs.Shot.{way-at}
+use Rattle.law_sphere.proofs.Shot.{dir-at}
 use Rattle.law_sphere.proofs.Labels.{label-unique}
 use Rattle.law_sphere.specs.Least.{by_side, NearPlain, NearStraight, Least, Cone}
-use Rattle.law_sphere.specs.Maps.{At, Map, Svertex, MapLabel, at_svertex, NearLabel, way_of}
+use Rattle.law_sphere.specs.Maps.{At, Map, MapVertex, MapLabel, at_svertex, NearLabel, dir_of}
 use Rattle.law_complex.specs.Complexes.{Vertex, Edge, Complex, HasEnds, IsEdge}
 use Rattle.law_complex.specs.Shows.{Shows}
 use Rattle.law_complex.specs.Skeleton.{IsEdgePoint}
@@ -61,9 +61,9 @@ module _ (M : Map) (s : Set) (p : Place) (K : Cone M s p) (d : Vector) (some : I
         normal = n;
         direction = i;
         level = level;
-        above = a.0;
+        pos = a.0;
         label = m.0;
-        below = b.0;
+        neg = b.0;
         at_d = label-near m.0 m.1;
         near = λ e _. near-label M s p K d e (by_side a.0 m.0 b.0 (sign (dot n e))) some ((near e (by_side a.0 m.0 b.0 (sign (dot n e)))).0 (plane-sides s q n flat a.0 m.0 b.0 a.1 m.1 b.1 i e));
       }
@@ -104,8 +104,8 @@ module _ (s : Set) (p : Place) where
         Flat-from_cone s (near_point y) d (flat-by_signs s (near_point y) (toward p (near_point y)) d (λ h _ _. slope-same h (toward p (near_point y)) d way-near) f)
 
 -- ---- the points of an edge
-abbrev pub IsAlongSvertex : Set → Vertex → Svertex → Label → Place → Type 0
-IsAlongSvertex s v u m y = FlatDim s y 1 × ((d : Vector) → Flat s y d ↔ IsZero (cross u.way d)) × HasLabel s y m × ((d : Vector) (l : Label) → Germ s y d l ↔ NearLabel v.map u.way d l)
+abbrev pub IsAlongSvertex : Set → Vertex → MapVertex → Label → Place → Type 0
+IsAlongSvertex s v u m y = FlatDim s y 1 × ((d : Vector) → Flat s y d ↔ IsZero (cross u.dir d)) × HasLabel s y m × ((d : Vector) (l : Label) → Germ s y d l ↔ NearLabel v.map u.dir d l)
 
 module _ (s : Set) (C : Complex) (S : Shows s C) where
   -- a point equal to a vertex of the set is the point of a listed vertex
@@ -114,37 +114,37 @@ module _ (s : Set) (C : Complex) (S : Shows s C) where
       let u = S.complete x f in
       none u.0 u.1 u.2 (between-same p x w p u.1.point w (same-itself p) (same-place_sym u.1.point x u.3) (same-itself w) b)
 
-  module _ (i k : ℕ) (v : Vertex) (u : Svertex) (a : At C.vertices i v) (b : At v.map.svertices k u) where
+  module _ (i k : ℕ) (v : Vertex) (u : MapVertex) (a : At C.vertices i v) (b : At v.map.svertices k u) where
     abbrev K : Cone v.map s v.point
     K = S.cones i v a
 
-    some : IsDirection u.way
-    some = K.valid.shaped.svertex_ways k u b
+    some : IsDirection u.dir
+    some = K.valid.shaped.svertex_dirs k u b
 
-    pub near-one : (y : Place) → SameDirection (toward v.point y) u.way → FlatDim s (near_point s v.point y) 1
-    near-one y w = one-at v.map s v.point K u.way some (near_point s v.point y) (near-germs s v.point u.way y w) ((S.least i v a).no_plain k u b) ((S.least i v a).no_straight k u b) (near-flat s v.point u.way y w)
+    pub near-one : (y : Place) → SameDirection (toward v.point y) u.dir → FlatDim s (near_point s v.point y) 1
+    near-one y w = one-at v.map s v.point K u.dir some (near_point s v.point y) (near-germs s v.point u.dir y w) ((S.least i v a).no_plain k u b) ((S.least i v a).no_straight k u b) (near-flat s v.point u.dir y w)
 
     -- up to the first vertex the cone is that near v
-    pub along-svertex : (w y : Place) → SameDirection (toward v.point w) u.way → IsBetween v.point y w → ((j : ℕ) (x : Vertex) → At C.vertices j x → IsBetween v.point x.point w → ⊥) → IsAlongSvertex s v u u.mark y
+    pub along-svertex : (w y : Place) → SameDirection (toward v.point w) u.dir → IsBetween v.point y w → ((j : ℕ) (x : Vertex) → At C.vertices j x → IsBetween v.point x.point w → ⊥) → IsAlongSvertex s v u u.mark y
     along-svertex w y way on none =
-        let to_y : SameDirection (toward v.point y) u.way = SameDirection-trans (toward v.point y) (toward v.point w) u.way (between-way v.point y w on) way in
+        let to_y : SameDirection (toward v.point y) u.dir = SameDirection-trans (toward v.point y) (toward v.point w) u.dir (between-way v.point y w on) way in
         let q = near_point s v.point y in
         let n = reach_all (carriers s) v.point in
-        let c : IsBetween v.point q y = start-between n v.point y (direction-left (toward v.point y) u.way to_y) in
+        let c : IsBetween v.point q y = start-between n v.point y (direction-left (toward v.point y) u.dir to_y) in
         let d : IsBetween q y w = between-rest v.point q y w c on in
         let f = near-one y to_y in
-        let to_w : SameDirection u.way (toward q w) = SameDirection-trans u.way (toward v.point y) (toward q w) (SameDirection-turned (toward v.point y) u.way to_y)
+        let to_w : SameDirection u.dir (toward q w) = SameDirection-trans u.dir (toward v.point y) (toward q w) (SameDirection-turned (toward v.point y) u.dir to_y)
         (SameDirection-trans (toward v.point y) (toward y w) (toward q w) on (SameDirection-turned (toward q w) (toward y w) (way-end q y w d))) in
-        let even = go w q f (between-outer-of w y q c on) none (Flat-from_cone s q (toward q w) (flat-by_signs s q u.way (toward q w) (λ h _ _. slope-same h u.way (toward q w) to_w) (FlatCone-from_flat s q u.way (near-flat s v.point u.way y to_y)))) in
+        let even = go w q f (between-outer-of w y q c on) none (Flat-from_cone s q (toward q w) (flat-by_signs s q u.dir (toward q w) (λ h _ _. slope-same h u.dir (toward q w) to_w) (FlatCone-from_flat s q u.dir (near-flat s v.point u.dir y to_y)))) in
         let e : IsEven s 1 q y = λ r h. at-point w q y f even d r h in
         let same = even-germs s 1 q y e in
         let one = e y (inr (inr (same-itself y))) in (
           one,
-          λ g. flat-parallel y one (Flat-by_germs s s q y same u.way (near-flat s v.point u.way y to_y)) g,
+          λ g. flat-parallel y one (Flat-by_germs s s q y same u.dir (near-flat s v.point u.dir y to_y)) g,
           (labels-by_germs s q y same u.mark).0 (near-mark y to_y),
           λ g l. (
-            λ h. near-label v.map s v.point K u.way g l some ((near-germs s v.point u.way y to_y g l).0 ((same g l).1 h)),
-            λ h. (same g l).0 ((near-germs s v.point u.way y to_y g l).1 (near-germ v.map s v.point K u.way g l h)),
+            λ h. near-label v.map s v.point K u.dir g l some ((near-germs s v.point u.dir y to_y g l).0 ((same g l).1 h)),
+            λ h. (same g l).0 ((near-germs s v.point u.dir y to_y g l).1 (near-germ v.map s v.point K u.dir g l h)),
           ),
         )
       where
@@ -169,31 +169,31 @@ module _ (s : Set) (C : Complex) (S : Shows s C) where
         at-point w q y f even d r (inr (inl c)) = even r (between-inner q y w r d c)
         at-point w q y f even d r (inr (inr e)) = FlatDim-by_germs s s y r (germs-by_cell s y r (signs-same (carriers s) y r (same-place_sym r y e))) 1 (even y d)
 
-        flat-parallel : (y : Place) → FlatDim s y 1 → Flat s y u.way → (g : Vector) → Flat s y g ↔ IsZero (cross u.way g)
+        flat-parallel : (y : Place) → FlatDim s y 1 → Flat s y u.dir → (g : Vector) → Flat s y g ↔ IsZero (cross u.dir g)
         flat-parallel y one flat g =
             let l = flat-line s y one in
-            let p = (l.2 u.way).0 flat in
-            (λ h. parallel-both l.0 u.way g l.1 p ((l.2 g).0 h), λ z. span-1 s y u.way g some flat z)
+            let p = (l.2 u.dir).0 flat in
+            (λ h. parallel-both l.0 u.dir g l.1 p ((l.2 g).0 h), λ z. span-1 s y u.dir g some flat z)
 
-        near-mark : (y : Place) → (w : SameDirection (toward v.point y) u.way) → HasLabel s (near_point s v.point y) u.mark
+        near-mark : (y : Place) → (w : SameDirection (toward v.point y) u.dir) → HasLabel s (near_point s v.point y) u.mark
         near-mark y w =
             let q = near_point s v.point y in
             let m = label_of s q in
-            let l = label-near v.map s v.point K u.way some q (near-germs s v.point u.way y w) m.0 m.1 in
-            subst (HasLabel s q) (label-unique v.map K.valid u.way m.0 u.mark l (at_svertex k u b (way-self u.way some) refl)) m.1
+            let l = label-near v.map s v.point K u.dir some q (near-germs s v.point u.dir y w) m.0 m.1 in
+            subst (HasLabel s q) (label-unique v.map K.valid u.dir m.0 u.mark l (at_svertex k u b (dir-self u.dir some) refl)) m.1
 
 -- the svertices of an edge
-svertex-way : (e : Edge) (v : Vertex) (u : Svertex) → At v.map.svertices e.low_svertex u → way_of v.map.svertices e.low_svertex ≡ u.way
-svertex-way e v u a = way-at v.map.svertices e.low_svertex u a
+svertex-dir : (e : Edge) (v : Vertex) (u : MapVertex) → At v.map.svertices e.low_svertex u → dir_of v.map.svertices e.low_svertex ≡ u.dir
+svertex-dir e v u a = dir-at v.map.svertices e.low_svertex u a
 
 abbrev IsAlongEdge : Set → Edge → Vertex → Place → Type 0
-IsAlongEdge s e v y = FlatDim s y 1 × ((d : Vector) → Flat s y d ↔ IsZero (cross (way_of v.map.svertices e.low_svertex) d)) × HasLabel s y e.mark
-    × ((d : Vector) (l : Label) → Germ s y d l ↔ NearLabel v.map (way_of v.map.svertices e.low_svertex) d l)
+IsAlongEdge s e v y = FlatDim s y 1 × ((d : Vector) → Flat s y d ↔ IsZero (cross (dir_of v.map.svertices e.low_svertex) d)) × HasLabel s y e.mark
+    × ((d : Vector) (l : Label) → Germ s y d l ↔ NearLabel v.map (dir_of v.map.svertices e.low_svertex) d l)
 
 edge-points_of : (s : Set) (C : Complex) (S : Shows s C) (e : Edge) (E : IsEdge C.vertices e) (y : Place) → IsBetween E.low_vertex.point y E.high_vertex.point → IsAlongEdge s e E.low_vertex y
 edge-points_of s C S e E y b =
     let r = along-svertex s C S e.low e.low_svertex E.low_vertex E.low_end E.is_low E.leaves E.high_vertex.point y E.ahead b E.first in
-    let w = sym (svertex-way e E.low_vertex E.low_end E.leaves) in (
+    let w = sym (svertex-dir e E.low_vertex E.low_end E.leaves) in (
       r.0,
       subst (λ (d : Vector). (g : Vector) → Flat s y g ↔ IsZero (cross d g)) w r.1,
       subst (HasLabel s y) (sym E.mark) r.2,
@@ -209,12 +209,12 @@ edge-points s C k e v w y S a H b =
     (subst (λ (x : Vertex). IsBetween E.low_vertex.point y x.point) (sym g) (subst (λ (x : Vertex). IsBetween x.point y w.point) (sym f) b)))
 
 -- the edge runs along its lower svertex
-pub edge-way : (s : Set) (C : Complex) (k : ℕ) (e : Edge) (v w : Vertex) → Shows s C → At C.edges k e → HasEnds C e v w → IsZero (cross (way_of v.map.svertices e.low_svertex) (toward v.point w.point))
+pub edge-way : (s : Set) (C : Complex) (k : ℕ) (e : Edge) (v w : Vertex) → Shows s C → At C.edges k e → HasEnds C e v w → IsZero (cross (dir_of v.map.svertices e.low_svertex) (toward v.point w.point))
 edge-way s C k e v w S a H =
     let E = S.edges.edges k e a in
     let f = at-one C.vertices e.low E.low_vertex v E.is_low H.low in
     let g = at-one C.vertices e.high E.high_vertex w E.is_high H.high in
-    subst (λ (x : Vertex). IsZero (cross (way_of x.map.svertices e.low_svertex) (toward x.point w.point))) f
-    (subst (λ (x : Vertex). IsZero (cross (way_of E.low_vertex.map.svertices e.low_svertex) (toward E.low_vertex.point x.point))) g
-    (subst (λ (d : Vector). IsZero (cross d (toward E.low_vertex.point E.high_vertex.point))) (sym (svertex-way e E.low_vertex E.low_end E.leaves))
-    (cross-turned (toward E.low_vertex.point E.high_vertex.point) E.low_end.way E.ahead.parallel)))
+    subst (λ (x : Vertex). IsZero (cross (dir_of x.map.svertices e.low_svertex) (toward x.point w.point))) f
+    (subst (λ (x : Vertex). IsZero (cross (dir_of E.low_vertex.map.svertices e.low_svertex) (toward E.low_vertex.point x.point))) g
+    (subst (λ (d : Vector). IsZero (cross d (toward E.low_vertex.point E.high_vertex.point))) (sym (svertex-dir e E.low_vertex E.low_end E.leaves))
+    (cross-turned (toward E.low_vertex.point E.high_vertex.point) E.low_end.dir E.ahead.parallel)))

@@ -10,14 +10,14 @@ use Rattle.law_near.proofs.FlatDecided.{triple-dot, cross-turned}
 use Rattle.law_forms.proofs.Far.{same-nought}
 use Rattle.law_forms.proofs.Directions.{self-pos, dot-zero, dot-comm, direction-left}
 use Rattle.law_sphere.specs.Forms.{Keeps, arc_forms, forms}
-use Rattle.law_sphere.specs.Maps.{At, Svertex, Arc, Map, arc_item, items, way_of, Shaped}
+use Rattle.law_sphere.specs.Maps.{At, MapVertex, Arc, Map, arc_item, items, dir_of, Shaped}
 use Rattle.law_sphere.proofs.Vectors.{triple-middle, normal-is, same-plus, same-minus}
 use Rattle.law_sphere.proofs.Generic.{amount, far-keeps}
 use Rattle.law_sphere.proofs.Places.{kept-plus, kept-minus, SameDirection-decided}
 use Rattle.law_sphere.proofs.Forms.{item-forms}
 use Rattle.law_sphere.proofs.Parallel.{parallel-in_plane}
-use Rattle.law_sphere.proofs.Shot.{way-at, arc-at}
-use Rattle.law_sphere.proofs.Labels.{way-signs}
+use Rattle.law_sphere.proofs.Shot.{dir-at, arc-at}
+use Rattle.law_sphere.proofs.Labels.{dir-signs}
 use Rattle.law_sphere.proofs.Around.{opposite-triple, triple-turned, turn-plus, Beside, same_way, other_way, beside, IsStrictlyOn-back, direction-around, svertex-around}
 use Rattle.law_sphere.proofs.Compare.{SameDirection-turned, SameDirection-trans}
 use Rattle.law_sphere.proofs.Turn.{after-target}
@@ -40,15 +40,15 @@ module _ (n s t y : Vector) (hs : IsDirection s) (ht : IsDirection t) (ls : dot 
       by (other_way w) = let h = o.just_half w in absurd (omega (arith, ints))
 
 -- ---- close to the way of a svertex
-module _ (M : Map) (V : Shaped M) (j : ℕ) (u : Svertex) (b : At M.svertices j u) (f : Vector) (K : ℕ) (large : amount (forms M) f ≤ K) where
+module _ (M : Map) (V : Shaped M) (j : ℕ) (u : MapVertex) (b : At M.svertices j u) (f : Vector) (K : ℕ) (large : amount (forms M) f ≤ K) where
   abbrev w : Vector
-  w = u.way
+  w = u.dir
 
   abbrev c : Vector
   c = blend K w 1 f
 
   hw : IsDirection w
-  hw = V.svertex_ways j u b
+  hw = V.svertex_dirs j u b
 
   keeps : Keeps (forms M) w c
   keeps = far-keeps (forms M) w f K large
@@ -72,13 +72,13 @@ module _ (M : Map) (V : Shaped M) (j : ℕ) (u : Svertex) (b : At M.svertices j 
     n = a.normal
 
     abbrev s : Vector
-    s = way_of M.svertices a.source
+    s = dir_of M.svertices a.source
 
     abbrev t : Vector
-    t = way_of M.svertices a.target
+    t = dir_of M.svertices a.target
 
     ends : Ends M a
-    ends = ends-of M V i a (arc-at M.arcs M.loop i a d)
+    ends = ends-of M V i a (arc-at M.arcs M.sloop i a d)
 
     hn : IsDirection n
     hn = normal-is V i (arc_item a) d
@@ -96,14 +96,14 @@ module _ (M : Map) (V : Shaped M) (j : ℕ) (u : Svertex) (b : At M.svertices j 
     -- the signs at an end that goes the way of w
     keeps-at : (e : Vector) → SameDirection e w → Keeps (arc_forms n s t) e c
     keeps-at e q g l o =
-        let same = way-signs w e g hw (SameDirection-turned e w q) in
+        let same = dir-signs w e g hw (SameDirection-turned e w q) in
         arc-keeps g l (λ z. o (same-nought (dot g w) (dot g e) same z)) ∙ sym same
 
     turn-at : (e : Vector) → SameDirection e w → sign (triple n e c) ≡ sign (triple n w f)
     turn-at e q = turn-middle n c w e (SameDirection-turned e w q) ∙ ap sign (turn n)
       where
         turn-middle : (n a b c : Vector) → SameDirection b c → sign (triple n c a) ≡ sign (triple n b a)
-        turn-middle n a b c w = ap sign (triple-middle n c a) ∙ way-signs b c (cross a n) (direction-left b c w) w ∙ ap sign (sym (triple-middle n b a))
+        turn-middle n a b c w = ap sign (triple-middle n c a) ∙ dir-signs b c (cross a n) (direction-left b c w) w ∙ ap sign (sym (triple-middle n b a))
 
     -- where the arc is met close to w, it ends there, on this side
     module _ (o : IsStrictlyOn n s t c) where
@@ -130,7 +130,7 @@ module _ (M : Map) (V : Shaped M) (j : ℕ) (u : Svertex) (b : At M.svertices j 
 
       pub source-meets : a.source ≡ j → pos 0 <ℤ triple n w f → IsStrictlyOn n s t c
       source-meets e h =
-          let is : s ≡ w = way-at M.svertices a.source u (subst (λ (r : ℕ). At M.svertices r u) (sym e) b) in
+          let is : s ≡ w = dir-at M.svertices a.source u (subst (λ (r : ℕ). At M.svertices r u) (sym e) b) in
           subst (λ (r : Vector). IsStrictlyOn n r t c) (sym is) (record {
             on_circle = on-circle;
             not_source = off;
@@ -151,7 +151,7 @@ module _ (M : Map) (V : Shaped M) (j : ℕ) (u : Svertex) (b : At M.svertices j 
 
       pub target-meets : a.target ≡ j → triple n w f <ℤ pos 0 → IsStrictlyOn n s t c
       target-meets e h =
-          let is : t ≡ w = way-at M.svertices a.target u (subst (λ (r : ℕ). At M.svertices r u) (sym e) b) in
+          let is : t ≡ w = dir-at M.svertices a.target u (subst (λ (r : ℕ). At M.svertices r u) (sym e) b) in
           subst (λ (r : Vector). IsStrictlyOn n s r c) (sym is) (record {
             on_circle = on-circle;
             not_source = λ q. off (SameDirection-trans w s c (SameDirection-turned s w (back q)) q);

@@ -15,7 +15,7 @@ use Rattle.law_forms.proofs.Far.{nought-or, same-nought, same-off}
 use Rattle.law_forms.proofs.Directions.{dot-zero}
 use Rattle.law_sphere.specs.Forms.{SameSigns, forms}
 use Rattle.law_sphere.specs.Least.{by_side, NearStraight, Least}
-use Rattle.law_sphere.specs.Maps.{At, Map, Item, items, item_normal, item_above, item_mark, item_below, OnItem, MapLabel, NearLabel, Valid}
+use Rattle.law_sphere.specs.Maps.{At, Map, Item, items, item_normal, item_pos, item_mark, item_neg, OnItem, MapLabel, NearLabel, Valid}
 use Rattle.law_sphere.proofs.Vectors.{normal-direction, normal-is, dot-comb}
 use Rattle.law_sphere.proofs.Generic.{amount, far-keeps, far-level}
 use Rattle.law_sphere.proofs.Forms.{PlaceOf, svertex_place, item_place, free_place, place_of}
@@ -76,14 +76,14 @@ pub record ItemAt (s : Set) (M : Map) (c : Vector) (q : Place) (n : Vector) : Ty
   pub listed : At (items M) number item
   pub on : OnItem M item c
   pub same : SameDirection (item_normal item) n
-  pub sided : IsSided s q (item_normal item) (item_above item) (item_mark item) (item_below item)
+  pub sided : IsSided s q (item_normal item) (item_pos item) (item_mark item) (item_neg item)
 
 module _ (s : Set) (M : Map) (V : Valid M) (L : Least M) (c : Vector) (q : Place) (near : (e : Vector) (l : Label) → Germ s q e l → NearLabel M c e l) where
   pub germ-there : (e : Vector) (l : Label) → NearLabel M c e l → Germ s q e l
   germ-there e l a = let g = germ_of s q e in subst (Germ s q e) (near-unique M V c e g.0 l (near e g.0 g.1) a) g.1
 
-  pub item-sided : (k : ℕ) (x : Item) → At (items M) k x → OnItem M x c → IsSided s q (item_normal x) (item_above x) (item_mark x) (item_below x)
-  item-sided k x a o e = germ-there e (by_side (item_above x) (item_mark x) (item_below x) (sign (dot (item_normal x) e))) (near-item M V c k x a o e)
+  pub item-sided : (k : ℕ) (x : Item) → At (items M) k x → OnItem M x c → IsSided s q (item_normal x) (item_pos x) (item_mark x) (item_neg x)
+  item-sided k x a o e = germ-there e (by_side (item_pos x) (item_mark x) (item_neg x) (sign (dot (item_normal x) e))) (near-item M V c k x a o e)
 
   module _ (some : IsDirection c) (n : Vector) (normal : IsNormal n) (flat : FlatAre s q n) (dim : FlatDim s q 2) (level : dot n c ≡ pos 0) where
     abbrev mark : (m : Label) × HasLabel s q m
@@ -101,9 +101,9 @@ module _ (s : Set) (M : Map) (V : Valid M) (L : Least M) (c : Vector) (q : Place
           normal = n;
           direction = i;
           level = level;
-          above = a.0;
+          pos = a.0;
           label = mark.0;
-          below = b.0;
+          neg = b.0;
           at_d = at-c;
           near = λ e _. near e (by_side a.0 mark.0 b.0 (sign (dot n e))) (plane-sides s q n flat a.0 mark.0 b.0 a.1 mark.1 b.1 i e);
         }
@@ -122,6 +122,6 @@ module _ (s : Set) (M : Map) (V : Valid M) (L : Least M) (c : Vector) (q : Place
               listed = a;
               on = o;
               same = flats-one s q (item_normal x) n (V.shaped.normals k x a) normal
-                  (sided-flats s q (item_normal x) (item_above x) (item_mark x) (item_below x) all (normal-is V.shaped k x a) (L.items_differ k x a)) flat;
+                  (sided-flats s q (item_normal x) (item_pos x) (item_mark x) (item_neg x) all (normal-is V.shaped k x a) (L.items_differ k x a)) flat;
               sided = all;
             }

@@ -16,14 +16,14 @@ use Rattle.law_near.proofs.Flats.{FlatCone-from_flat, vector-same}
 use Rattle.law_near.proofs.FlatDecided.{near-of_flat}
 use Rattle.law_forms.proofs.Directions.{factor-same, direction-left, direction-right}
 use Rattle.law_sphere.specs.Forms.{forms}
-use Rattle.law_sphere.specs.Maps.{At, Svertex, Arc, Item, arc_item, loop_item, items, item_normal, way_of, OnItem, NearLabel, Valid}
+use Rattle.law_sphere.specs.Maps.{At, MapVertex, Arc, Item, arc_item, sloop_item, items, item_normal, dir_of, OnItem, NearLabel, Valid}
 use Rattle.law_sphere.proofs.Vectors.{normal-direction, dot-comb, same-plus, same-minus}
 use Rattle.law_sphere.proofs.Generic.{amount, far-keeps}
 use Rattle.law_sphere.proofs.Lists.{at-one}
-use Rattle.law_sphere.proofs.Shot.{way-at, arc-at}
+use Rattle.law_sphere.proofs.Shot.{dir-at, arc-at}
 use Rattle.law_sphere.proofs.Parallel.{parallel-in_plane}
 use Rattle.law_sphere.proofs.Around.{direction-around}
-use Rattle.law_sphere.proofs.Compare.{SameDirection-turned, SameDirection-trans, way-self}
+use Rattle.law_sphere.proofs.Compare.{SameDirection-turned, SameDirection-trans, dir-self}
 use Rattle.law_sphere.proofs.Turn.{turn-same}
 use Rattle.law_sphere.proofs.Arcs.{level-same}
 use Rattle.law_complex.specs.Complexes.{Vertex, Edge, Complex, HasEnds}
@@ -76,23 +76,23 @@ not-along s t y f w one two flat =
 
 -- ---- beside an edge
 module _ (s : Set) (C : Complex) (S : Shows s C) (i : ℕ) (e : Edge) (v w : Vertex) (z : Place) (a : At C.edges i e) (H : HasEnds C e v w) (b : IsBetween v.point z w.point) where
-  pub low-end : (u : Svertex) × At v.map.svertices e.low_svertex u
+  pub low-end : (u : MapVertex) × At v.map.svertices e.low_svertex u
   low-end =
       let E = S.edges.edges i e a in
       (E.low_end, subst (λ (x : Vertex). At x.map.svertices e.low_svertex E.low_end) (at-one C.vertices e.low E.low_vertex v E.is_low H.low) E.leaves)
 
-  abbrev u : Svertex
+  abbrev u : MapVertex
   u = low-end.0
 
-  pub way-is : way_of v.map.svertices e.low_svertex ≡ u.way
-  way-is = way-at v.map.svertices e.low_svertex u low-end.1
+  pub way-is : dir_of v.map.svertices e.low_svertex ≡ u.dir
+  way-is = dir-at v.map.svertices e.low_svertex u low-end.1
 
   V : Valid v.map
   V = (S.cones e.low v H.low).valid
 
   -- a direction of the lower end close to the edge, on the side of f
   abbrev beside : Vector → Vector
-  beside f = blend (amount (forms v.map) f) u.way 1 f
+  beside f = blend (amount (forms v.map) f) u.dir 1 f
 
   module _ (f : Vector) (y : Place) (t : SameDirection (toward z y) f) where
     abbrev q : Place
@@ -101,30 +101,30 @@ module _ (s : Set) (C : Complex) (S : Shows s C) (i : ℕ) (e : Edge) (v w : Ver
     near-edge : (g : Vector) (l : Label) → Germ s q g l → NearLabel v.map (beside f) g l
     near-edge g l h =
         let n = (near-germs s z f y t g l).0 h in
-        near-near v.map V u.way f g (amount (forms v.map) f) (omega arith) l n.0
+        near-near v.map V u.dir f g (amount (forms v.map) f) (omega arith) l n.0
         (λ k m. subst (λ (d : Vector). NearLabel v.map d (blend k f 1 g) l) way-is (((edge-points s C i e v w z S a H b).3 (blend k f 1 g) l).0 (n.1 k m)))
 
-    beside-level : (n : Vector) → dot n u.way ≡ pos 0 → dot n f ≡ pos 0 → dot n (beside f) ≡ pos 0
-    beside-level n x o = let k = amount (forms v.map) f in dot-comb n (pos k) u.way (pos 1) f ∙ zero (dot n u.way) (dot n f) (pos k) x o
+    beside-level : (n : Vector) → dot n u.dir ≡ pos 0 → dot n f ≡ pos 0 → dot n (beside f) ≡ pos 0
+    beside-level n x o = let k = amount (forms v.map) f in dot-comb n (pos k) u.dir (pos 1) f ∙ zero (dot n u.dir) (dot n f) (pos k) x o
       where
         zero : (a b k : ℤ) → a ≡ pos 0 → b ≡ pos 0 → k *ℤ a +ℤ pos 1 *ℤ b ≡ pos 0
         zero a b k x o = follows (a ∷ b ∷ k ∷ []) (at 2 ⊗ at 0 ⊕ num (pos 1) ⊗ at 1) (num (pos 0)) (given (at 2) (at 0) (num (pos 0)) x (given (num (pos 1)) (at 1) (num (pos 0)) o none)) tt
 
     -- where two directions are flat close to the edge, f leads away from it
-    across : FlatDim s q 2 → (n : Vector) → IsDirection n → dot n u.way ≡ pos 0 → dot n f ≡ pos 0 → triple n u.way f ≡ pos 0 → ⊥
+    across : FlatDim s q 2 → (n : Vector) → IsDirection n → dot n u.dir ≡ pos 0 → dot n f ≡ pos 0 → triple n u.dir f ≡ pos 0 → ⊥
     across two n j x o r =
         let E = edge-points s C i e v w z S a H b in
-        let c = parallel-in_plane n u.way f j x o r in
+        let c = parallel-in_plane n u.dir f j x o r in
         not-along s z y f t E.0 two ((E.1 f).1 (subst (λ (d : Vector). IsZero (cross d f)) (sym way-is) c))
 
-    module _ (n : Vector) (normal : IsNormal n) (level : dot n u.way ≡ pos 0) (along : dot n f ≡ pos 0) where
+    module _ (n : Vector) (normal : IsNormal n) (level : dot n u.dir ≡ pos 0) (along : dot n f ≡ pos 0) where
       beside-direction : IsDirection (beside f)
-      beside-direction = direction-around v.map V.shaped u.way (beside f) (far-keeps (forms v.map) u.way f (amount (forms v.map) f) (omega arith)) (V.shaped.svertex_ways e.low_svertex u low-end.1)
+      beside-direction = direction-around v.map V.shaped u.dir (beside f) (far-keeps (forms v.map) u.dir f (amount (forms v.map) f) (omega arith)) (V.shaped.svertex_dirs e.low_svertex u low-end.1)
 
-      same-turn : (m : Vector) → SameDirection m n → sign (triple m u.way f) ≡ sign (triple n u.way f)
+      same-turn : (m : Vector) → SameDirection m n → sign (triple m u.dir f) ≡ sign (triple n u.dir f)
       same-turn m x =
           let j = direction-right (toward z y) f t in
-          turn-same n m u.way u.way f f (SameDirection-turned m n x) (way-self u.way (V.shaped.svertex_ways e.low_svertex u low-end.1)) (way-self f j)
+          turn-same n m u.dir u.dir f f (SameDirection-turned m n x) (dir-self u.dir (V.shaped.svertex_dirs e.low_svertex u low-end.1)) (dir-self f j)
 
       -- ---- an arc of the plane leaves the edge on that side
       pub arc-beside : FlatDim s q 2 → FlatAre s q n → (k : ℕ) × (c : Arc) × At v.map.arcs k c × SameDirection c.normal n × IsArcOnSide v e.low_svertex n f c
@@ -133,28 +133,28 @@ module _ (s : Set) (C : Complex) (S : Shows s C) (i : ℕ) (e : Edge) (v w : Ver
           by x.item x.number x.listed x.on x.same
         where
           arc : (c : Arc) (k : ℕ) → At (items v.map) k (arc_item c) → OnItem v.map (arc_item c) (beside f) → SameDirection c.normal n → IsArcOnSide v e.low_svertex n f c
-          arc c k l o r = by_order (triple n u.way f) (pos 0)
+          arc c k l o r = by_order (triple n u.dir f) (pos 0)
               (λ h. inr (
-                target-met v.map V.shaped e.low_svertex u low-end.1 f (amount (forms v.map) f) (omega arith) k c l o (same-minus (triple n u.way f) (triple c.normal u.way f) (same-turn c.normal r) h),
+                target-met v.map V.shaped e.low_svertex u low-end.1 f (amount (forms v.map) f) (omega arith) k c l o (same-minus (triple n u.dir f) (triple c.normal u.dir f) (same-turn c.normal r) h),
                 subst (λ (d : Vector). triple n d f <ℤ pos 0) (sym way-is) h,
               ))
               (λ h. absurd (across two n (normal-direction n normal) level along h))
               (λ h. inl (
-                source-met v.map V.shaped e.low_svertex u low-end.1 f (amount (forms v.map) f) (omega arith) k c l o (same-plus (triple n u.way f) (triple c.normal u.way f) (same-turn c.normal r) h),
+                source-met v.map V.shaped e.low_svertex u low-end.1 f (amount (forms v.map) f) (omega arith) k c l o (same-plus (triple n u.dir f) (triple c.normal u.dir f) (same-turn c.normal r) h),
                 subst (λ (d : Vector). pos 0 <ℤ triple n d f) (sym way-is) h,
               ))
 
           by : (x : Item) (k : ℕ) → At (items v.map) k x → OnItem v.map x (beside f) → SameDirection (item_normal x) n → (k : ℕ) × (c : Arc) × At v.map.arcs k c × SameDirection c.normal n × IsArcOnSide v e.low_svertex n f c
-          by (arc_item c) k l o r = (k, c, arc-at v.map.arcs v.map.loop k c l, r, arc c k l o r)
-          by (loop_item c) k l o r =
-              let j = V.shaped.svertex_ways e.low_svertex u low-end.1 in
-              absurd (V.shaped.no_svertex_on_item e.low_svertex k u (loop_item c) low-end.1 l (record { direction = j; level = level-same n c.normal u.way u.way (SameDirection-turned c.normal n r) (way-self u.way j) level }))
+          by (arc_item c) k l o r = (k, c, arc-at v.map.arcs v.map.sloop k c l, r, arc c k l o r)
+          by (sloop_item c) k l o r =
+              let j = V.shaped.svertex_dirs e.low_svertex u low-end.1 in
+              absurd (V.shaped.no_svertex_on_item e.low_svertex k u (sloop_item c) low-end.1 l (record { direction = j; level = level-same n c.normal u.dir u.dir (SameDirection-turned c.normal n r) (dir-self u.dir j) level }))
 
       -- ---- and such an arc has the labels there
-      pub sided-beside : (k : ℕ) (c : Arc) → At (items v.map) k (arc_item c) → SameDirection c.normal n → IsArcOnSide v e.low_svertex n f c → IsSided s q c.normal c.above c.mark c.below
+      pub sided-beside : (k : ℕ) (c : Arc) → At (items v.map) k (arc_item c) → SameDirection c.normal n → IsArcOnSide v e.low_svertex n f c → IsSided s q c.normal c.pos c.mark c.neg
       sided-beside k c l r side = item-sided s v.map V (S.least e.low v H.low) (beside f) q near-edge k (arc_item c) l (⊎_elim
-          (λ h. source-meets v.map V.shaped e.low_svertex u low-end.1 f (amount (forms v.map) f) (omega arith) k c l on-plane h.0 (same-plus (triple n u.way f) (triple c.normal u.way f) (same-turn c.normal r) (subst (λ (d : Vector). pos 0 <ℤ triple n d f) way-is h.1)))
-          (λ h. target-meets v.map V.shaped e.low_svertex u low-end.1 f (amount (forms v.map) f) (omega arith) k c l on-plane h.0 (same-minus (triple n u.way f) (triple c.normal u.way f) (same-turn c.normal r) (subst (λ (d : Vector). triple n d f <ℤ pos 0) way-is h.1))) side)
+          (λ h. source-meets v.map V.shaped e.low_svertex u low-end.1 f (amount (forms v.map) f) (omega arith) k c l on-plane h.0 (same-plus (triple n u.dir f) (triple c.normal u.dir f) (same-turn c.normal r) (subst (λ (d : Vector). pos 0 <ℤ triple n d f) way-is h.1)))
+          (λ h. target-meets v.map V.shaped e.low_svertex u low-end.1 f (amount (forms v.map) f) (omega arith) k c l on-plane h.0 (same-minus (triple n u.dir f) (triple c.normal u.dir f) (same-turn c.normal r) (subst (λ (d : Vector). triple n d f <ℤ pos 0) way-is h.1))) side)
         where
           on-plane : dot c.normal (beside f) ≡ pos 0
-          on-plane = level-same n c.normal (beside f) (beside f) (SameDirection-turned c.normal n r) (way-self (beside f) beside-direction) (beside-level n level along)
+          on-plane = level-same n c.normal (beside f) (beside f) (SameDirection-turned c.normal n r) (dir-self (beside f) beside-direction) (beside-level n level along)

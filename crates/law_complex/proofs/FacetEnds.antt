@@ -15,7 +15,7 @@ use Rattle.law_near.proofs.Edges.{flat_way-end, even-until}
 use Rattle.law_forms.proofs.Between.{between-same}
 use Rattle.law_forms.proofs.Directions.{dot-comm, direction-left, direction-right}
 use Rattle.law_sphere.specs.Least.{by_side}
-use Rattle.law_sphere.specs.Maps.{At, Item, arc_item, items, item_normal, item_above, item_mark, item_below, way_of}
+use Rattle.law_sphere.specs.Maps.{At, Item, arc_item, items, item_normal, item_pos, item_mark, item_neg, dir_of}
 use Rattle.law_sphere.proofs.Lists.{at-one}
 use Rattle.law_sphere.proofs.KindFlats.{in-span}
 use Rattle.law_sphere.proofs.Compare.{SameDirection-turned, SameDirection-trans}
@@ -36,7 +36,7 @@ use Rattle.law_complex.proofs.FacetEdges.{ahead-back, ahead-same, low-end, way-i
 
 -- the lower end of an edge of a plane leads along the plane
 low-level : (s : Set) (C : Complex) (S : Shows s C) (h : Form) (i : ℕ) (e : Edge) (v w : Vertex) (z : Place) → (a : At C.edges i e) (H : HasEnds C e v w) (b : IsBetween v.point z w.point) → LiesIn C h i
-    → dot (normal_of h) (low-end s C S i e v w z a H b).0.way ≡ pos 0
+    → dot (normal_of h) (low-end s C S i e v w z a H b).0.dir ≡ pos 0
 low-level s C S h i e v w z a H b (g, x, y, c, G, p, q) =
     let same = at-one C.edges i e g a c in
     let f = at-one C.vertices e.low x v (subst (λ (r : Edge). At C.vertices r.low x) (sym same) G.low) H.low in
@@ -44,7 +44,7 @@ low-level s C S h i e v w z a H b (g, x, y, c, G, p, q) =
     let on-v = subst (λ (r : Vertex). form_at h r.point ≡ pos 0) f p in
     let on-w = subst (λ (r : Vertex). form_at h r.point ≡ pos 0) k q in
     let way = edge-way s C i e v w S a H in
-    let along = in-span (normal_of h) (toward v.point w.point) (way_of v.map.svertices e.low_svertex) (between-ends v.point z w.point b) (cross-turned (way_of v.map.svertices e.low_svertex) (toward v.point w.point) way) (plane-way h v.point w.point on-v on-w) in
+    let along = in-span (normal_of h) (toward v.point w.point) (dir_of v.map.svertices e.low_svertex) (between-ends v.point z w.point b) (cross-turned (dir_of v.map.svertices e.low_svertex) (toward v.point w.point) way) (plane-way h v.point w.point on-v on-w) in
     subst (λ (d : Vector). dot (normal_of h) d ≡ pos 0) (way-is s C S i e v w z a H b) along
 
 -- a plane of the same normal has the same directions
@@ -139,19 +139,19 @@ module _ (s : Set) (C : Complex) (S : Shows s C) (h : Form) (y : Place) (normal 
       carried : IsInFacetOf s x y
       carried =
           let even = even-to s 2 q y (direction-left (toward q y) (opposite d) to-y) at-q.dim flat-on clear last in
-          in-facet s C S k v x c y (sided-carried s q y (item_normal x) (item_above x) (item_mark x) (item_below x) (even-germs s 2 q y even) at-q.sided)
+          in-facet s C S k v x c y (sided-carried s q y (item_normal x) (item_pos x) (item_mark x) (item_neg x) (even-germs s 2 q y even) at-q.sided)
 
       -- what is claimed of y
-      settled : IsFlatIn s h y × ((u : Vertex) (o : Item) → IsCorner C k u o → HasLabel s y (item_mark o) × ((e : Vector) → Germ s y e (by_side (item_above o) (item_mark o) (item_below o) (sign (dot (item_normal o) e)))))
+      settled : IsFlatIn s h y × ((u : Vertex) (o : Item) → IsCorner C k u o → HasLabel s y (item_mark o) × ((e : Vector) → Germ s y e (by_side (item_pos o) (item_mark o) (item_neg o) (sign (dot (item_normal o) e)))))
       settled =
           let F = carried in (
             (F.dim, flats-normal s y (item_normal x) n r F.flat),
-            λ u o e. subst (λ (o : Item). HasLabel s y (item_mark o) × ((e : Vector) → Germ s y e (by_side (item_above o) (item_mark o) (item_below o) (sign (dot (item_normal o) e)))))
+            λ u o e. subst (λ (o : Item). HasLabel s y (item_mark o) × ((e : Vector) → Germ s y e (by_side (item_pos o) (item_mark o) (item_neg o) (sign (dot (item_normal o) e)))))
                 (corner-one C k v u x o c e) (F.label, F.sided),
           )
 
     by-vertex : (i : ℕ) → IsVertexPoint C i z → IsCornerAt C h (opposite d) (meets_vertex i) k
-        → IsFlatIn s h y × ((u : Vertex) (o : Item) → IsCorner C k u o → HasLabel s y (item_mark o) × ((e : Vector) → Germ s y e (by_side (item_above o) (item_mark o) (item_below o) (sign (dot (item_normal o) e)))))
+        → IsFlatIn s h y × ((u : Vertex) (o : Item) → IsCorner C k u o → HasLabel s y (item_mark o) × ((e : Vector) → Germ s y e (by_side (item_pos o) (item_mark o) (item_neg o) (sign (dot (item_normal o) e)))))
     by-vertex i (u, a, e) (v, x, f, c, r, o) =
         let same = at-one C.vertices i u v a (subst (λ (j : ℕ). At C.vertices j v) f c.vertex) in
         let at-z = subst (λ (w : Vertex). SamePlace w.point z) same e in
@@ -162,7 +162,7 @@ module _ (s : Set) (C : Complex) (S : Shows s C) (h : Form) (y : Place) (normal 
         settled v x c r q (between-turned z y q b) (beside-vertex s C S k v x c (opposite d) o y way)
 
     by-edge : (i : ℕ) → IsEdgePoint C i z × LiesIn C h i → IsCornerAt C h (opposite d) (meets_edge i) k
-        → IsFlatIn s h y × ((u : Vertex) (o : Item) → IsCorner C k u o → HasLabel s y (item_mark o) × ((e : Vector) → Germ s y e (by_side (item_above o) (item_mark o) (item_below o) (sign (dot (item_normal o) e)))))
+        → IsFlatIn s h y × ((u : Vertex) (o : Item) → IsCorner C k u o → HasLabel s y (item_mark o) × ((e : Vector) → Germ s y e (by_side (item_pos o) (item_mark o) (item_neg o) (sign (dot (item_normal o) e)))))
     by-edge i ((g, u, w, b, G, t), lies) (e, v, c, a, f, l, o, r, side) =
         let same = at-one C.edges i g e b a in
         let G' = subst (λ (j : Edge). HasEnds C j u w) same G in
@@ -172,11 +172,11 @@ module _ (s : Set) (C : Complex) (S : Shows s C) (h : Form) (y : Place) (normal 
         let way = ahead-back y z d I.ahead in
         let q = near_point s z y in
         let m = near-between s z y (direction-left (toward z y) (opposite d) way) in
-        let corner : IsCorner C k v (arc_item c) = record { vertex = subst (λ (j : ℕ). At C.vertices j v) (sym f) l; item = at-arc v.map.arcs v.map.loop k.item c o } in
+        let corner : IsCorner C k v (arc_item c) = record { vertex = subst (λ (j : ℕ). At C.vertices j v) (sym f) l; item = at-arc v.map.arcs v.map.sloop k.item c o } in
         let all = sided-beside s C S i e v w z a H t' (opposite d) y way n normal (low-level s C S h i e v w z a H t' lies) level-back k.item c corner.item r side in
         settled v (arc_item c) corner r q (between-turned z y q m) (in-facet s C S k v (arc_item c) corner q all)
 
   pub facet-from_behind : (off : (n : PlaneMeet) → Meets C h n y → ⊥) (m : PlaneMeet) (k : Corner) → IsFirstInPlane C h y d m → IsCornerAt C h (opposite d) m k
-      → IsFlatIn s h y × ((u : Vertex) (o : Item) → IsCorner C k u o → HasLabel s y (item_mark o) × ((e : Vector) → Germ s y e (by_side (item_above o) (item_mark o) (item_below o) (sign (dot (item_normal o) e)))))
+      → IsFlatIn s h y × ((u : Vertex) (o : Item) → IsCorner C k u o → HasLabel s y (item_mark o) × ((e : Vector) → Germ s y e (by_side (item_pos o) (item_mark o) (item_neg o) (sign (dot (item_normal o) e)))))
   facet-from_behind off (meets_vertex i) k I c = by-vertex off (meets_vertex i) k I i I.meets c
   facet-from_behind off (meets_edge i) k I c = by-edge off (meets_edge i) k I i I.meets c

@@ -22,7 +22,7 @@ use Rattle.law_sphere.proofs.Shot.{product-off}
 use Rattle.law_sphere.proofs.Builder.{normal-or}
 use Rattle.law_sphere.proofs.Kind.{away}
 use Rattle.law_sphere.proofs.Flips.{dot-away}
-use Rattle.law_sphere.proofs.Compare.{way-self}
+use Rattle.law_sphere.proofs.Compare.{dir-self}
 use Rattle.law_complex.specs.Complexes.{Vertex, Complex, Corner, IsCorner}
 use Rattle.law_complex.specs.Shows.{Shows}
 use Rattle.law_complex.specs.Skeleton.{IsFacetPoint, item_plane, RayNames, HasCorner}
@@ -96,7 +96,7 @@ module _ (s : Set) (C : Complex) (S : Shows s C) where
     beside =
         let v = sees-vertex s C S h (normal-direction (normal_of h) normal) y on F in
         let p = v.vertex.point in
-        let x = item-seen s C S h y normal on (toward y p) v.leads (plane-way h y p on v.level) F p (way-self (toward y p) v.leads) v.clear v.number v.vertex v.listed (same-itself p) in
+        let x = item-seen s C S h y normal on (toward y p) v.leads (plane-way h y p on v.level) F p (dir-self (toward y p) v.leads) v.clear v.number v.vertex v.listed (same-itself p) in
         record {
           corner = record { vertex = v.number; item = x.number };
           vertex = v.vertex;

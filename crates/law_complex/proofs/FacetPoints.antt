@@ -8,11 +8,11 @@ use Rattle.law_near.specs.Laws.{SameGerms, Drop}
 use Rattle.law_near.proofs.Even.{even-germs}
 use Rattle.law_forms.proofs.Directions.{direction-right}
 use Rattle.law_sphere.specs.Least.{by_side}
-use Rattle.law_sphere.specs.Maps.{Item, item_normal, item_above, item_mark, item_below, OnItem}
+use Rattle.law_sphere.specs.Maps.{Item, item_normal, item_pos, item_mark, item_neg, OnItem}
 use Rattle.law_sphere.proofs.Vectors.{normal-is}
 use Rattle.law_sphere.proofs.Forms.{on-direction, on-level}
 use Rattle.law_sphere.proofs.NearItems.{near-item}
-use Rattle.law_sphere.proofs.Compare.{SameDirection-turned, SameDirection-trans, way-self}
+use Rattle.law_sphere.proofs.Compare.{SameDirection-turned, SameDirection-trans, dir-self}
 use Rattle.law_complex.specs.Complexes.{Vertex, Complex, Corner, IsCorner}
 use Rattle.law_complex.specs.Shows.{Shows}
 use Rattle.law_complex.specs.Skeleton.{IsFacetPoint}
@@ -27,18 +27,18 @@ pub record IsInFacetOf (s : Set) (x : Item) (y : Place) : Type 0 where
   pub dim : FlatDim s y 2
   pub flat : FlatAre s y (item_normal x)
   pub label : HasLabel s y (item_mark x)
-  pub sided : IsSided s y (item_normal x) (item_above x) (item_mark x) (item_below x)
+  pub sided : IsSided s y (item_normal x) (item_pos x) (item_mark x) (item_neg x)
 
 module _ (s : Set) (C : Complex) (S : Shows s C) where
   -- what has the sides of an item has its flat directions
-  pub in-facet : (k : Corner) (v : Vertex) (x : Item) → IsCorner C k v x → (y : Place) → IsSided s y (item_normal x) (item_above x) (item_mark x) (item_below x) → IsInFacetOf s x y
+  pub in-facet : (k : Corner) (v : Vertex) (x : Item) → IsCorner C k v x → (y : Place) → IsSided s y (item_normal x) (item_pos x) (item_mark x) (item_neg x) → IsInFacetOf s x y
   in-facet k v x c y all =
       let i = normal-is (S.cones k.vertex v c.vertex).valid.shaped k.item x c.item in
       let o = (S.least k.vertex v c.vertex).items_differ k.item x c.item in
       record {
-        dim = sided-dim s y (item_normal x) (item_above x) (item_mark x) (item_below x) all i o;
-        flat = sided-flats s y (item_normal x) (item_above x) (item_mark x) (item_below x) all i o;
-        label = sided-label s y (item_normal x) (item_above x) (item_mark x) (item_below x) all;
+        dim = sided-dim s y (item_normal x) (item_pos x) (item_mark x) (item_neg x) all i o;
+        flat = sided-flats s y (item_normal x) (item_pos x) (item_mark x) (item_neg x) all i o;
+        label = sided-label s y (item_normal x) (item_pos x) (item_mark x) (item_neg x) all;
         sided = all;
       }
 
@@ -48,7 +48,7 @@ module _ (s : Set) (C : Complex) (S : Shows s C) where
     beside-vertex =
         let K = S.cones k.vertex v c.vertex in
         in-facet k v x c (near_point s v.point y) (λ e.
-        let l = by_side (item_above x) (item_mark x) (item_below x) (sign (dot (item_normal x) e)) in
+        let l = by_side (item_pos x) (item_mark x) (item_neg x) (sign (dot (item_normal x) e)) in
         (near-germs s v.point d y w e l).1 (near-germ v.map s v.point K d e l (near-item v.map K.valid d k.item x c.item o e)))
 
   module _ (k : Corner) (v : Vertex) (x : Item) (y : Place) (c : IsCorner C k v x) (F : IsFacetPoint C v x y) where
@@ -65,11 +65,11 @@ module _ (s : Set) (C : Complex) (S : Shows s C) where
     between = near-between s p y i
 
     close : IsInFacetOf s x q
-    close = beside-vertex k v x c (toward p y) F.on_item y (way-self (toward p y) i)
+    close = beside-vertex k v x c (toward p y) F.on_item y (dir-self (toward p y) i)
 
     flat-on : Flat s q (toward q y)
     flat-on =
-        let w = SameDirection-trans (toward p y) (toward p q) (toward q y) (SameDirection-turned (toward p q) (toward p y) (way-near s p (toward p y) y (way-self (toward p y) i))) between in
+        let w = SameDirection-trans (toward p y) (toward p q) (toward q y) (SameDirection-turned (toward p q) (toward p y) (way-near s p (toward p y) y (dir-self (toward p y) i))) between in
         (close.flat (toward q y)).1 (level-way (item_normal x) (toward p y) (toward q y) w (on-level v.map x (toward p y) F.on_item))
 
     clear : Drop s 2 q y → ⊥
@@ -79,4 +79,4 @@ module _ (s : Set) (C : Complex) (S : Shows s C) where
     same = even-germs s 2 q y (even-to s 2 q y (direction-right (toward p q) (toward q y) between) close.dim flat-on clear (λ b. F.off_edges (below-on s C S y b)))
 
     pub facet-point : IsInFacetOf s x y
-    facet-point = in-facet k v x c y (sided-carried s q y (item_normal x) (item_above x) (item_mark x) (item_below x) same close.sided)
+    facet-point = in-facet k v x c y (sided-carried s q y (item_normal x) (item_pos x) (item_mark x) (item_neg x) same close.sided)

@@ -21,7 +21,7 @@ use Rattle.law_forms.proofs.Directions.{self-pos, dot-zero, dot-comm, direction-
 use Rattle.law_sphere.specs.Least.{by_side}
 use Rattle.law_sphere.proofs.Shot.{product-off}
 use Rattle.law_sphere.proofs.Vectors.{normal-direction}
-use Rattle.law_sphere.proofs.Labels.{way-signs}
+use Rattle.law_sphere.proofs.Labels.{dir-signs}
 use Rattle.law_sphere.proofs.Places.{row_x, row_y, row_z, row_x-is, row_y-is, row_z-is}
 use Rattle.law_sphere.proofs.Parallel.{circle-point, row-level}
 use Rattle.law_sphere.proofs.Around.{Beside, same_way, other_way, beside}
@@ -34,7 +34,7 @@ IsSided s q n a m b = (e : Vector) → Germ s q e (by_side a m b (sign (dot n e)
 
 -- a direction of the same way lies in the plane too
 pub level-way : (n d e : Vector) → SameDirection d e → dot n d ≡ pos 0 → dot n e ≡ pos 0
-level-way n d e w z = same-nought (dot n d) (dot n e) (way-signs d e n (direction-left d e w) w) z
+level-way n d e w z = same-nought (dot n d) (dot n e) (dir-signs d e n (direction-left d e w) w) z
 
 pub sided-carried : (s : Set) (q y : Place) (n : Vector) (a m b : Label) → SameGerms s q y → IsSided s q n a m b → IsSided s y n a m b
 sided-carried s q y n a m b same all e = (same e (by_side a m b (sign (dot n e)))).0 (all e)

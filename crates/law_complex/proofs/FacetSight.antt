@@ -20,7 +20,7 @@ use Rattle.law_forms.proofs.Far.{nought-or}
 use Rattle.law_sphere.specs.Maps.{At}
 use Rattle.law_sphere.proofs.Vectors.{positive-or, same-plus}
 use Rattle.law_sphere.proofs.Parallel.{parallel-in_plane, circle-point}
-use Rattle.law_sphere.proofs.Compare.{way-self}
+use Rattle.law_sphere.proofs.Compare.{dir-self}
 use Rattle.law_sphere.proofs.Turn.{turn-last}
 use Rattle.law_complex.specs.Complexes.{Vertex, Complex}
 use Rattle.law_complex.specs.Shows.{Shows}
@@ -53,7 +53,7 @@ visible-at s C h y t k v a e on i all = record {
   vertex = v;
   listed = a;
   level = nought-is (form_at h v.point) (sign-same h v.point t e ∙ ap sign on);
-  leads = direction-left (toward y v.point) (toward y t) (ahead-same y t v.point (toward y t) e (way-self (toward y t) i));
+  leads = direction-left (toward y v.point) (toward y t) (ahead-same y t v.point (toward y t) e (dir-self (toward y t) i));
   clear = λ r b. all r (between-same y r v.point y r t (same-itself y) (same-itself r) e b);
 }
 
@@ -68,7 +68,7 @@ module _ (s : Set) (C : Complex) (S : Shows s C) (h : Form) (hn : IsDirection (n
       let a = cross-back (toward y t) c t (aligned y t c o) in
       let b = cross-back (toward t c) y t (cross-turned (toward y t) (toward t c) a) in
       let back : IsDirection (toward t y) = λ z. i (place-toward y t (same-place_sym t y (toward-place t y z))) in
-      not-along s t y (toward t y) (way-self (toward t y) back) E.one (all (near_point s t y) (between-turned t y (near_point s t y) (near-between s t y back))) (span-1 s t (toward t c) (toward t y) E.leads E.flat b)
+      not-along s t y (toward t y) (dir-self (toward t y) back) E.one (all (near_point s t y) (between-turned t y (near_point s t y) (near-between s t y back))) (span-1 s t (toward t c) (toward t y) E.leads E.flat b)
 
   -- ---- from a point z of an edge that y sees, with the end w of the edge to the left
   module _ (z : Place) (j : ℕ) (w : Vertex) (listed : At C.vertices j w) (on-z : form_at h z ≡ pos 0) (on-w : form_at h w.point ≡ pos 0)

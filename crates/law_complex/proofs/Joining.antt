@@ -21,12 +21,12 @@ use Rattle.law_near.proofs.Rays.{same-place_sym, signs-same}
 use Rattle.law_near.proofs.Edges.{start-close, flat_way-end, edge-around}
 use Rattle.law_near.specs.Laws.{EdgeAround, WayEnd}
 use Rattle.law_sphere.specs.Least.{by_side, NearPlain, NearStraight, Least, Cone}
-use Rattle.law_sphere.specs.Maps.{At, Map, Svertex, MapLabel, way_of}
-use Rattle.law_sphere.proofs.Compare.{SameDirection-turned, SameDirection-trans, way-self, Matched}
+use Rattle.law_sphere.specs.Maps.{At, Map, MapVertex, MapLabel, dir_of}
+use Rattle.law_sphere.proofs.Compare.{SameDirection-turned, SameDirection-trans, dir-self, Matched}
 use Rattle.law_sphere.proofs.Unique.{neither-svertex}
 use Rattle.law_sphere.proofs.Labels.{label-unique}
 use Rattle.law_sphere.proofs.Lists.{at-one}
-use Rattle.law_sphere.proofs.Shot.{way-at}
+use Rattle.law_sphere.proofs.Shot.{dir-at}
 use Rattle.law_sphere.proofs.Parallel.{circle-point}
 use Rattle.law_sphere.proofs.KindFlats.{in-span}
 use Rattle.law_complex.specs.Complexes.{Vertex, Edge, Complex, HasEnds, IsEdge}
@@ -71,9 +71,9 @@ module _ (s : Set) (p : Place) (M : Map) (K : Cone M s p) (L : Least M) (d : Vec
       dot-turned : (u v : Vector) → dot u v ≡ dot v u
       dot-turned u v = ring (u.x ∷ u.y ∷ u.z ∷ v.x ∷ v.y ∷ v.z ∷ []) (at 0 ⊗ at 3 ⊕ at 1 ⊗ at 4 ⊕ at 2 ⊗ at 5) (at 3 ⊗ at 0 ⊕ at 4 ⊗ at 1 ⊕ at 5 ⊗ at 2) tt
   not-smooth (inr P) =
-      one.1 (sided-two s q P.normal d P.above P.label P.below
-      (sided P.normal P.above P.label P.below P.level P.at_d (λ e i.
-      let l = by_side P.above P.label P.below (sign (dot P.normal e)) in
+      one.1 (sided-two s q P.normal d P.pos P.label P.neg
+      (sided P.normal P.pos P.label P.neg P.level P.at_d (λ e i.
+      let l = by_side P.pos P.label P.neg (sign (dot P.normal e)) in
       (near-germs s p d y w e l).1 (near-germ M s p K d e l (P.near e i))))
       P.direction some P.level)
 
@@ -92,12 +92,12 @@ pub record Joins (C : Complex) (i a j b : ℕ) : Type 0 where
 pub record EdgeBetween (C : Complex) (i j : ℕ) (v w : Vertex) : Type 0 where
   pub source : ℕ
   pub target : ℕ
-  pub source_end : Svertex
-  pub target_end : Svertex
+  pub source_end : MapVertex
+  pub target_end : MapVertex
   pub leaves : At v.map.svertices source source_end
   pub arrives : At w.map.svertices target target_end
-  pub ahead : SameDirection source_end.way (toward v.point w.point)
-  pub behind : SameDirection target_end.way (toward w.point v.point)
+  pub ahead : SameDirection source_end.dir (toward v.point w.point)
+  pub behind : SameDirection target_end.dir (toward w.point v.point)
   pub edge : Joins C i source j target
 
 module _ (s : Set) (C : Complex) (S : Shows s C) where
@@ -106,11 +106,11 @@ module _ (s : Set) (C : Complex) (S : Shows s C) where
     back z = leads (place-toward v.point w.point (same-place_sym w.point v.point (toward-place w.point v.point z)))
 
     pub from-v : Matched v.map (toward v.point w.point)
-    from-v = svertex-toward s v.point v.map (S.cones i v a) (S.least i v a) (toward v.point w.point) w.point (way-self (toward v.point w.point) leads)
+    from-v = svertex-toward s v.point v.map (S.cones i v a) (S.least i v a) (toward v.point w.point) w.point (dir-self (toward v.point w.point) leads)
         (one (near_point s v.point w.point) (near-between s v.point w.point leads))
 
     pub from-w : Matched w.map (toward w.point v.point)
-    from-w = svertex-toward s w.point w.map (S.cones j w b) (S.least j w b) (toward w.point v.point) v.point (way-self (toward w.point v.point) back)
+    from-w = svertex-toward s w.point w.map (S.cones j w b) (S.least j w b) (toward w.point v.point) v.point (dir-self (toward w.point v.point) back)
         (one (near_point s w.point v.point) (between-turned w.point v.point (near_point s w.point v.point) (near-between s w.point v.point back)))
 
     none-between : (k : ℕ) (x : Vertex) → At C.vertices k x → IsBetween v.point x.point w.point → ⊥
@@ -175,9 +175,9 @@ module _ (s : Set) (C : Complex) (S : Shows s C) where
       leaves = from-v.listed;
       arrives = from-w.listed;
       upward = up;
-      ahead = SameDirection-turned from-v.svertex.way (toward v.point w.point) from-v.same;
+      ahead = SameDirection-turned from-v.svertex.dir (toward v.point w.point) from-v.same;
       first = none-between;
-      back = opposite-ways from-v.svertex.way from-w.svertex.way (toward v.point w.point) (toward w.point v.point) from-v.same from-w.same (opposite-ends v.point w.point leads);
+      back = opposite-ways from-v.svertex.dir from-w.svertex.dir (toward v.point w.point) (toward w.point v.point) from-v.same from-w.same (opposite-ends v.point w.point leads);
       mark = refl;
     }
 
@@ -235,15 +235,15 @@ module _ (s : Set) (C : Complex) (S : Shows s C) where
       point i j v w a b E h (inr c) = (E.edge.number, (E.edge.edge, w, v, E.edge.listed, record { low = subst (λ (k : ℕ). At C.vertices k w) (sym c.0) b; high = subst (λ (k : ℕ). At C.vertices k v) (sym c.2) a }, between-turned v.point w.point y h))
 
   -- ---- each svertex is an end of an edge
-  module _ (i k : ℕ) (v : Vertex) (u : Svertex) (a : At C.vertices i v) (b : At v.map.svertices k u) where
+  module _ (i k : ℕ) (v : Vertex) (u : MapVertex) (a : At C.vertices i v) (b : At v.map.svertices k u) where
     abbrev ahead_of : Place
-    ahead_of = onward v.point u.way
+    ahead_of = onward v.point u.dir
 
-    way_out : IsDirection u.way
-    way_out = (S.cones i v a).valid.shaped.svertex_ways k u b
+    way_out : IsDirection u.dir
+    way_out = (S.cones i v a).valid.shaped.svertex_dirs k u b
 
-    ahead-way : SameDirection (toward v.point ahead_of) u.way
-    ahead-way = onward-way v.point u.way way_out
+    ahead-way : SameDirection (toward v.point ahead_of) u.dir
+    ahead-way = onward-way v.point u.dir way_out
 
     abbrev close : Place
     close = near_point s v.point ahead_of
@@ -252,15 +252,15 @@ module _ (s : Set) (C : Complex) (S : Shows s C) where
     close-one = near-one s C S i k v u a b ahead_of ahead-way
 
     -- the end of the flat way is a vertex
-    abbrev way_end : WayEnd s 1 close u.way
-    way_end = flat_way-end s 1 close u.way (omega arith) close-one way_out (near-flat s v.point u.way ahead_of ahead-way)
+    abbrev way_end : WayEnd s 1 close u.dir
+    way_end = flat_way-end s 1 close u.dir (omega arith) close-one way_out (near-flat s v.point u.dir ahead_of ahead-way)
 
     end-vertex : IsVertex s way_end.at_place
     end-vertex = let l : way_end.drops.0 ≡ 0 = (let h = way_end.drops.1 in omega arith) in subst (FlatDim s way_end.at_place) l way_end.drops.2
 
     -- the point close to v lies between v and that end
     close-between : IsBetween v.point close way_end.at_place
-    close-between = SameDirection-trans (toward v.point close) u.way (toward close way_end.at_place) (way-near s v.point u.way ahead_of ahead-way) (SameDirection-turned (toward close way_end.at_place) u.way way_end.is_ahead)
+    close-between = SameDirection-trans (toward v.point close) u.dir (toward close way_end.at_place) (way-near s v.point u.dir ahead_of ahead-way) (SameDirection-turned (toward close way_end.at_place) u.dir way_end.is_ahead)
 
     all-one : (r : Place) → IsBetween v.point r way_end.at_place → FlatDim s r 1
     all-one r h = by (between-cases v.point close way_end.at_place r close-between h)
@@ -276,7 +276,7 @@ module _ (s : Set) (C : Complex) (S : Shows s C) where
         let x = way_end.at_place in
         let t : IsBetween v.point close w.1.point = between-same v.point close x v.point close w.1.point (same-itself v.point) (same-itself close) (same-place_sym w.1.point x w.3) close-between in
         let E = edge-between i w.0 v w.1 a w.2 (between-ends v.point close w.1.point t) (λ r h. all-one r (between-same v.point r w.1.point v.point r x (same-itself v.point) (same-itself r) w.3 h)) in
-        let way : SameDirection E.source_end.way u.way = SameDirection-trans E.source_end.way (toward v.point w.1.point) u.way E.ahead
-        (SameDirection-trans (toward v.point w.1.point) (toward v.point close) u.way (SameDirection-turned (toward v.point close) (toward v.point w.1.point) (between-way v.point close w.1.point t)) (way-near s v.point u.way ahead_of ahead-way)) in
+        let way : SameDirection E.source_end.dir u.dir = SameDirection-trans E.source_end.dir (toward v.point w.1.point) u.dir E.ahead
+        (SameDirection-trans (toward v.point w.1.point) (toward v.point close) u.dir (SameDirection-turned (toward v.point close) (toward v.point w.1.point) (between-way v.point close w.1.point t)) (way-near s v.point u.dir ahead_of ahead-way)) in
         let same : E.source ≡ k = (S.cones i v a).valid.shaped.svertices_apart E.source k E.source_end u E.leaves b way in
         (E.edge.number, E.edge.edge, E.edge.listed, ⊎_elim (λ c. inl (c.0, c.1 ∙ same)) (λ c. inr (c.2, c.3 ∙ same)) E.edge.joins)

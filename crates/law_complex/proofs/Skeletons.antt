@@ -28,11 +28,11 @@ use Rattle.law_forms.proofs.Near.{reach_all}
 use Rattle.law_forms.proofs.Between.{toward-place, place-toward}
 use Rattle.law_forms.proofs.Directions.{factor-same, direction-left, direction-right}
 use Rattle.law_sphere.specs.Least.{by_side, Cone}
-use Rattle.law_sphere.specs.Maps.{At, Svertex, Item, items, item_normal, item_above, item_mark, item_below, way_of, MapLabel, NearLabel}
+use Rattle.law_sphere.specs.Maps.{At, MapVertex, Item, items, item_normal, item_pos, item_mark, item_neg, dir_of, MapLabel, NearLabel}
 use Rattle.law_sphere.proofs.Labels.{label-exists, near-exists}
 use Rattle.law_sphere.proofs.Lists.{at-one}
-use Rattle.law_sphere.proofs.Shot.{way-at}
-use Rattle.law_sphere.proofs.Compare.{SameDirection-turned, SameDirection-trans, way-self}
+use Rattle.law_sphere.proofs.Shot.{dir-at}
+use Rattle.law_sphere.proofs.Compare.{SameDirection-turned, SameDirection-trans, dir-self}
 use Rattle.law_complex.specs.Complexes.{Vertex, Edge, Complex, Corner, HasEnds, IsCorner}
 use Rattle.law_complex.specs.Shows.{Shows}
 use Rattle.law_complex.specs.Skeleton.{IsVertexPoint, IsEdgePoint, IsOnEdges, IsFacetPoint, Spot, at_vertex, on_edge, in_facet, IsSpot, IsSkeletonPoint, HasCorner}
@@ -44,17 +44,17 @@ use Rattle.law_complex.proofs.Edges.{near_point, near-between, edge-points}
 use Rattle.law_complex.proofs.Joining.{edges-complete}
 
 -- only listed svertices have a way
-pub way-listed : (vs : List Svertex) (k : ℕ) → IsDirection (way_of vs k) → (u : Svertex) × At vs k u
-way-listed [] k i = absurd (i (refl, refl, refl))
-way-listed (v ∷ vs) zero i = (v, refl)
-way-listed (v ∷ vs) (suc k) i = way-listed vs k i
+pub dir-listed : (vs : List MapVertex) (k : ℕ) → IsDirection (dir_of vs k) → (u : MapVertex) × At vs k u
+dir-listed [] k i = absurd (i (refl, refl, refl))
+dir-listed (v ∷ vs) zero i = (v, refl)
+dir-listed (v ∷ vs) (suc k) i = dir-listed vs k i
 
 -- ---- facets, as far as skeletons need them
 -- a facet point has the labels of its item on it and beside it, and just the directions of its plane are flat
 abbrev pub FacetAt : Set → Complex → Type 0
 FacetAt s C = (k : Corner) (v : Vertex) (x : Item) (y : Place) → IsCorner C k v x → IsFacetPoint C v x y
     → FlatDim s y 2 × ((d : Vector) → Flat s y d ↔ (dot (item_normal x) d ≡ pos 0)) × HasLabel s y (item_mark x)
-    × ((d : Vector) → Germ s y d (by_side (item_above x) (item_mark x) (item_below x) (sign (dot (item_normal x) d))))
+    × ((d : Vector) → Germ s y d (by_side (item_pos x) (item_mark x) (item_neg x) (sign (dot (item_normal x) d))))
 
 -- a point with two flat directions is a facet point
 abbrev pub FacetOf : Set → Complex → Type 0
@@ -109,7 +109,7 @@ module _ (s : Set) (C : Complex) (S : Shows s C) (facet-at : FacetAt s C) (facet
   spot-toward (on_edge k) y (e, v, w, a, H, b) d l (g, u, c, q, n) =
       let f = at-one C.edges k g e c a in
       let h = at-one C.vertices e.low u v (subst (λ (r : Edge). At C.vertices r.low u) f q) H.low in
-      ((edge-points s C k e v w y S a H b).3 d l).1 (subst (λ (r : Vertex). NearLabel r.map (way_of r.map.svertices e.low_svertex) d l) h (subst (λ (r : Edge). NearLabel u.map (way_of u.map.svertices r.low_svertex) d l) f n))
+      ((edge-points s C k e v w y S a H b).3 d l).1 (subst (λ (r : Vertex). NearLabel r.map (dir_of r.map.svertices e.low_svertex) d l) h (subst (λ (r : Edge). NearLabel u.map (dir_of u.map.svertices r.low_svertex) d l) f n))
   spot-toward (in_facet k) y (v, x, a, F) d l (u, z, b, m) = by (subst (λ (r : Item). ItemLabel r d l) (corner-one k u v z x b a) m)
     where
       corner-one : (k : Corner) (u v : Vertex) (z x : Item) → IsCorner C k u z → IsCorner C k v x → z ≡ x
@@ -117,8 +117,8 @@ module _ (s : Set) (C : Complex) (S : Shows s C) (facet-at : FacetAt s C) (facet
           let f = at-one C.vertices k.vertex u v b.vertex a.vertex in
           at-one (items v.map) k.item z x (subst (λ (r : Vertex). At (items r.map) k.item z) f b.item) a.item
 
-      side : (t : Sign) → sign (dot (item_normal x) d) ≡ t → (r : Label) → by_side (item_above x) (item_mark x) (item_below x) t ≡ r → Germ s y d r
-      side t e r f = subst (Germ s y d) (ap (λ q. by_side (item_above x) (item_mark x) (item_below x) q) e ∙ f) ((facet-at k v x y a F).3 d)
+      side : (t : Sign) → sign (dot (item_normal x) d) ≡ t → (r : Label) → by_side (item_pos x) (item_mark x) (item_neg x) t ≡ r → Germ s y d r
+      side t e r f = subst (Germ s y d) (ap (λ q. by_side (item_pos x) (item_mark x) (item_neg x) q) e ∙ f) ((facet-at k v x y a F).3 d)
 
       by : ItemLabel x d l → Germ s y d l
       by (inl h) = side plus (sign-plus (dot (item_normal x) d) h.0) l h.1
@@ -137,14 +137,14 @@ module _ (s : Set) (C : Complex) (S : Shows s C) (facet-at : FacetAt s C) (facet
       let E = S.edges.edges k e a in
       let f = at-one C.vertices e.low E.low_vertex v E.is_low H.low in
       let u = subst (λ (r : Vertex). At r.map.svertices e.low_svertex E.low_end) f E.leaves in
-      let way = subst IsDirection (sym (way-at v.map.svertices e.low_svertex E.low_end u)) ((S.cones e.low v H.low).valid.shaped.svertex_ways e.low_svertex E.low_end u) in
-      let m = near-exists v.map (S.cones e.low v H.low).valid (way_of v.map.svertices e.low_svertex) d way in
+      let way = subst IsDirection (sym (dir-at v.map.svertices e.low_svertex E.low_end u)) ((S.cones e.low v H.low).valid.shaped.svertex_dirs e.low_svertex E.low_end u) in
+      let m = near-exists v.map (S.cones e.low v H.low).valid (dir_of v.map.svertices e.low_svertex) d way in
       (m.0, (e, v, a, H.low, m.1))
   toward-exists (in_facet k) y (v, x, a, F) d i =
       by_order (dot (item_normal x) d) (pos 0)
-      (λ l. (item_below x, (v, x, a, inr (inr (l, refl)))))
+      (λ l. (item_neg x, (v, x, a, inr (inr (l, refl)))))
       (λ e. (item_mark x, (v, x, a, inr (inl (e, refl)))))
-      (λ l. (item_above x, (v, x, a, inl (l, refl))))
+      (λ l. (item_pos x, (v, x, a, inl (l, refl))))
 
   -- ---- free ways
   same-dims : (p q : Place) → SameGerms s p q → (k : ℕ) → FlatDim s p k → FlatDim s q k

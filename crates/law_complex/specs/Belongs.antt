@@ -4,7 +4,7 @@ use Rattle.nef_space.specs.Place.{Place, toward, IsBetween}
 use Rattle.nef_space.specs.Vectors.{Vector, dot}
 use Rattle.nef_space.specs.declared.label.Label.{Label}
 use Rattle.nef_space.specs.declared.label.Label.TheVariants.{In}
-use Rattle.law_sphere.specs.Maps.{At, Item, item_normal, item_mark, item_above, item_below, way_of, MapLabel, NearLabel}
+use Rattle.law_sphere.specs.Maps.{At, Item, item_normal, item_mark, item_pos, item_neg, dir_of, MapLabel, NearLabel}
 use Rattle.law_complex.specs.Complexes.{Vertex, Edge, Complex, IsCorner}
 use Rattle.law_complex.specs.Skeleton.{Spot, at_vertex, on_edge, in_facet, IsSpot, IsSkeletonPoint}
 
@@ -16,12 +16,12 @@ SpotMark C (in_facet k) l = (v : Vertex) × (x : Item) × IsCorner C k v x × (i
 
 -- the label on the side of the item to which d points
 abbrev pub ItemLabel : Item → Vector → Label → Type 0
-ItemLabel x d l = ((pos 0 <ℤ dot (item_normal x) d) × (item_above x ≡ l)) ⊎ ((dot (item_normal x) d ≡ pos 0) × (item_mark x ≡ l)) ⊎ ((dot (item_normal x) d <ℤ pos 0) × (item_below x ≡ l))
+ItemLabel x d l = ((pos 0 <ℤ dot (item_normal x) d) × (item_pos x ≡ l)) ⊎ ((dot (item_normal x) d ≡ pos 0) × (item_mark x ≡ l)) ⊎ ((dot (item_normal x) d <ℤ pos 0) × (item_neg x ≡ l))
 
 -- the label from a skeleton point toward d
 abbrev pub Towards : Complex → Spot → Vector → Label → Type 0
 Towards C (at_vertex k) d l = (v : Vertex) × At C.vertices k v × MapLabel v.map d l
-Towards C (on_edge k) d l = (e : Edge) × (v : Vertex) × At C.edges k e × At C.vertices e.low v × NearLabel v.map (way_of v.map.svertices e.low_svertex) d l
+Towards C (on_edge k) d l = (e : Edge) × (v : Vertex) × At C.edges k e × At C.vertices e.low v × NearLabel v.map (dir_of v.map.svertices e.low_svertex) d l
 Towards C (in_facet k) d l = (v : Vertex) × (x : Item) × IsCorner C k v x × ItemLabel x d l
 
 -- p, which is no skeleton point itself, sees the skeleton point y

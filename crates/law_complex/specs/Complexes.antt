@@ -5,7 +5,7 @@ use Rattle.nef_space.specs.Place.{Place, Form, IsAhead, IsBetween}
 use Rattle.nef_space.specs.Vectors.{IsOpposite}
 use Rattle.nef_space.specs.declared.label.Label.{Label}
 use Rattle.law_sphere.specs.Least.{InOrder}
-use Rattle.law_sphere.specs.Maps.{At, Svertex, Item, Map, items}
+use Rattle.law_sphere.specs.Maps.{At, MapVertex, Item, Map, items}
 
 pub record Vertex : Type 0 where
   pub point : Place
@@ -43,16 +43,16 @@ pub record IsCorner (C : Complex) (k : Corner) (v : Vertex) (x : Item) : Type 0 
 pub record IsEdge (vs : List Vertex) (e : Edge) : Type 0 where
   pub low_vertex : Vertex
   pub high_vertex : Vertex
-  pub low_end : Svertex
-  pub high_end : Svertex
+  pub low_end : MapVertex
+  pub high_end : MapVertex
   pub is_low : At vs e.low low_vertex
   pub is_high : At vs e.high high_vertex
   pub leaves : At low_vertex.map.svertices e.low_svertex low_end
   pub arrives : At high_vertex.map.svertices e.high_svertex high_end
   pub upward : e.low < e.high
-  pub ahead : IsAhead low_vertex.point low_end.way high_vertex.point
+  pub ahead : IsAhead low_vertex.point low_end.dir high_vertex.point
   pub first : (k : ℕ) (v : Vertex) → At vs k v → IsBetween low_vertex.point v.point high_vertex.point → ⊥
-  pub back : IsOpposite low_end.way high_end.way
+  pub back : IsOpposite low_end.dir high_end.dir
   pub mark : e.mark ≡ low_end.mark
 
 abbrev pub IsEdgeBelow : Edge → Edge → Type 0

@@ -6,7 +6,7 @@ use Rattle.nef_space.specs.Vectors.{Vector, IsDirection, IsNormal, IsZero, cross
 use Rattle.nef_space.specs.Sets.{Set, Holds}
 use Rattle.nef_space.specs.declared.label.Label.{Label}
 use Rattle.nef_space.specs.Local.{HasLabel, Germ, Flat, FlatDim, IsVertex}
-use Rattle.law_sphere.specs.Maps.{At, Item, item_normal, item_above, item_mark, item_below, way_of, MapLabel, NearLabel}
+use Rattle.law_sphere.specs.Maps.{At, Item, item_normal, item_pos, item_mark, item_neg, dir_of, MapLabel, NearLabel}
 use Rattle.law_sphere.specs.Least.{by_side}
 use Rattle.law_complex.specs.Complexes.{Vertex, Edge, Complex, Corner, HasEnds, IsCorner}
 use Rattle.law_complex.specs.Shows.{Shows}
@@ -17,8 +17,8 @@ use Rattle.law_complex.specs.Belongs.{SpotMark, Towards, SeesSpot, Belongs}
 -- on an edge one direction is flat, that of the edge; the label is the edge's mark, and the germs are those near the svertex of its lower end
 abbrev pub EdgePoints : Type 0
 EdgePoints = (s : Set) (C : Complex) (k : ℕ) (e : Edge) (v w : Vertex) (y : Place) → Shows s C → At C.edges k e → HasEnds C e v w → IsBetween v.point y w.point
-    → FlatDim s y 1 × ((d : Vector) → Flat s y d ↔ IsZero (cross (way_of v.map.svertices e.low_svertex) d)) × HasLabel s y e.mark
-    × ((d : Vector) (l : Label) → Germ s y d l ↔ NearLabel v.map (way_of v.map.svertices e.low_svertex) d l)
+    → FlatDim s y 1 × ((d : Vector) → Flat s y d ↔ IsZero (cross (dir_of v.map.svertices e.low_svertex) d)) × HasLabel s y e.mark
+    × ((d : Vector) (l : Label) → Germ s y d l ↔ NearLabel v.map (dir_of v.map.svertices e.low_svertex) d l)
 
 -- and each point with one flat direction lies on an edge
 abbrev pub EdgesComplete : Type 0
@@ -26,7 +26,7 @@ EdgesComplete = (s : Set) (C : Complex) (y : Place) → Shows s C → FlatDim s 
 
 -- each svertex is an end of an edge: the lower one or the higher one
 abbrev pub SvertexHasEdge : Type 0
-SvertexHasEdge = (s : Set) (C : Complex) (i j : ℕ) (v : Vertex) → Shows s C → At C.vertices i v → (IsDirection (way_of v.map.svertices j))
+SvertexHasEdge = (s : Set) (C : Complex) (i j : ℕ) (v : Vertex) → Shows s C → At C.vertices i v → (IsDirection (dir_of v.map.svertices j))
     → (k : ℕ) × (e : Edge) × At C.edges k e × (((e.low ≡ i) × (e.low_svertex ≡ j)) ⊎ ((e.high ≡ i) × (e.high_svertex ≡ j)))
 
 -- ---- facets
@@ -34,7 +34,7 @@ SvertexHasEdge = (s : Set) (C : Complex) (i j : ℕ) (v : Vertex) → Shows s C 
 abbrev pub FacetPoints : Type 0
 FacetPoints = (s : Set) (C : Complex) (k : Corner) (v : Vertex) (x : Item) (y : Place) → Shows s C → IsCorner C k v x → IsFacetPoint C v x y
     → FlatDim s y 2 × ((d : Vector) → Flat s y d ↔ (dot (item_normal x) d ≡ pos 0)) × HasLabel s y (item_mark x)
-    × ((d : Vector) → Germ s y d (by_side (item_above x) (item_mark x) (item_below x) (sign (dot (item_normal x) d))))
+    × ((d : Vector) → Germ s y d (by_side (item_pos x) (item_mark x) (item_neg x) (sign (dot (item_normal x) d))))
 
 -- the point y has two flat directions, those of the plane h
 abbrev pub IsFlatIn : Set → Form → Place → Type 0
@@ -52,7 +52,7 @@ FacetBehind = (s : Set) (C : Complex) (h : Form) (y : Place) (d : Vector) → Sh
 abbrev pub FacetFromBehind : Type 0
 FacetFromBehind = (s : Set) (C : Complex) (h : Form) (y : Place) (d : Vector) (m : PlaneMeet) (k : Corner) → Shows s C → IsNormal (normal_of h) → form_at h y ≡ pos 0
     → ((n : PlaneMeet) → Meets C h n y → ⊥) → IsDirection d → slope h d ≡ pos 0 → IsFirstInPlane C h y d m → IsCornerAt C h (opposite d) m k
-    → IsFlatIn s h y × ((v : Vertex) (x : Item) → IsCorner C k v x → HasLabel s y (item_mark x) × ((e : Vector) → Germ s y e (by_side (item_above x) (item_mark x) (item_below x) (sign (dot (item_normal x) e)))))
+    → IsFlatIn s h y × ((v : Vertex) (x : Item) → IsCorner C k v x → HasLabel s y (item_mark x) × ((e : Vector) → Germ s y e (by_side (item_pos x) (item_mark x) (item_neg x) (sign (dot (item_normal x) e)))))
 
 -- ---- the skeleton
 -- a point is a skeleton point exactly where not all directions are flat

@@ -3,7 +3,7 @@ use Rattle.std.specs.Prelude.{◌≡◌, ℕ, ◌≤◌}
 use Rattle.nef_space.specs.Place.{Place, IsAhead, IsBetween}
 use Rattle.nef_space.specs.Vectors.{Vector, blend, opposite, up}
 use Rattle.nef_space.specs.declared.label.Label.{Label}
-use Rattle.law_sphere.specs.Maps.{At, Map, Side, above_item, way_of, HasSide, Sees}
+use Rattle.law_sphere.specs.Maps.{At, Map, Side, pos_item, dir_of, HasSide, Sees}
 use Rattle.law_complex.specs.Complexes.{Vertex, Edge, Complex, Corner}
 use Rattle.law_complex.specs.Skeleton.{Spot, at_vertex, on_edge, in_facet, IsSpot, IsSkeletonPoint, HasCorner}
 
@@ -23,8 +23,8 @@ SeesNear M o d e = (n : ℕ) × ((k : ℕ) → n ≤ k → Sees M o (blend k d 1
 -- the side lies above the skeleton point y
 abbrev pub IsAbove : Complex → Place → Spot → VertexSide → Type 0
 IsAbove C y (at_vertex k) x = (v : Vertex) × At C.vertices k v × (x.vertex ≡ k) × Sees v.map x.side up
-IsAbove C y (on_edge k) x = (e : Edge) × (v : Vertex) × At C.edges k e × At C.vertices e.low v × (x.vertex ≡ e.low) × SeesNear v.map x.side (way_of v.map.svertices e.low_svertex) up
-IsAbove C y (in_facet j) x = (k : Corner) × HasCorner C y k × (x.vertex ≡ k.vertex) × (x.side ≡ above_item k.item)
+IsAbove C y (on_edge k) x = (e : Edge) × (v : Vertex) × At C.edges k e × At C.vertices e.low v × (x.vertex ≡ e.low) × SeesNear v.map x.side (dir_of v.map.svertices e.low_svertex) up
+IsAbove C y (in_facet j) x = (k : Corner) × HasCorner C y k × (x.vertex ≡ k.vertex) × (x.side ≡ pos_item k.item)
 
 -- the ray down from p ends at a skeleton point, above which the side lies
 pub record RayDown (C : Complex) (p : Place) (x : VertexSide) : Type 0 where

@@ -2,7 +2,7 @@
 use Rattle.std.specs.Prelude.{◌≡◌, ℕ, pos, ◌<ℤ◌, ◌⊎◌}
 use Rattle.nef_space.specs.Place.{Place, Form, form_at, normal_of, plane_through, SamePlace, toward, IsAhead, IsBetween}
 use Rattle.nef_space.specs.Vectors.{Vector, opposite, triple, SameDirection, plane_axis}
-use Rattle.law_sphere.specs.Maps.{At, Arc, Item, items, item_normal, OnItem, way_of}
+use Rattle.law_sphere.specs.Maps.{At, Arc, Item, items, item_normal, OnItem, dir_of}
 use Rattle.law_complex.specs.Complexes.{Vertex, Edge, Complex, Corner, HasEnds, IsCorner}
 
 -- the form of the plane of an item
@@ -65,7 +65,7 @@ pub record IsFirstInPlane (C : Complex) (h : Form) (p : Place) (d : Vector) (m :
 -- ---- corners
 -- the arc leaves svertex s of its map on the side of the edge to which f points, seen from the normal n
 abbrev pub IsArcOnSide : Vertex → ℕ → Vector → Vector → Arc → Type 0
-IsArcOnSide v s n f a = ((a.source ≡ s) × (pos 0 <ℤ triple n (way_of v.map.svertices s) f)) ⊎ ((a.target ≡ s) × (triple n (way_of v.map.svertices s) f <ℤ pos 0))
+IsArcOnSide v s n f a = ((a.source ≡ s) × (pos 0 <ℤ triple n (dir_of v.map.svertices s) f)) ⊎ ((a.target ≡ s) × (triple n (dir_of v.map.svertices s) f <ℤ pos 0))
 
 -- the corner in the plane h that lies in the direction f from what is met
 abbrev pub IsCornerAt : Complex → Form → Vector → PlaneMeet → Corner → Type 0

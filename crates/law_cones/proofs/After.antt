@@ -15,13 +15,13 @@ use Rattle.law_sphere.specs.Builds.{StraightAfter, Proper}
 use Rattle.law_sphere.proofs.Vectors.{dot-comb, nought-if}
 use Rattle.law_sphere.proofs.Generic.{amount, far-same}
 use Rattle.law_sphere.proofs.Parallel.{past_source}
-use Rattle.law_sphere.proofs.Labels.{way-signs}
-use Rattle.law_sphere.proofs.Compare.{way-self}
+use Rattle.law_sphere.proofs.Labels.{dir-signs}
+use Rattle.law_sphere.proofs.Compare.{dir-self}
 use Rattle.law_sphere.proofs.Kind.{away, away-dot}
-use Rattle.law_sphere.proofs.Turn.{way-directed}
+use Rattle.law_sphere.proofs.Turn.{dir-directed}
 use Rattle.law_sphere.proofs.Arcs.{level-same}
 use Rattle.law_sphere.proofs.Flips.{Axial}
-use Rattle.law_cones.proofs.Signs.{leading, leading-nought, far-leading, far-direction, straight-carried, straight-above, straight-below}
+use Rattle.law_cones.proofs.Signs.{leading, leading-nought, far-leading, far-direction, straight-carried, straight-pos, straight-neg}
 use Rattle.law_cones.proofs.Smooth.{FormOf, proper-form, parallel-by, straight-if}
 
 pub cross-some : (n d : Vector) → IsDirection n → IsDirection d → dot n d ≡ pos 0 → IsDirection (cross n d)
@@ -52,10 +52,10 @@ cross-same n u d w hd q =
 
 module _ (gs : List Vector) (F : Vector → Label → Type 0) (L : Labelling gs F) (axial : Axial gs) where
   pub record After (n d : Vector) : Type 0 where
-    pub above : Label
+    pub pos : Label
     pub mark : Label
-    pub below : Label
-    pub labels : StraightAfter F n above mark below d
+    pub neg : Label
+    pub labels : StraightAfter F n pos mark neg d
 
   past-level : (n d : Vector) (i : ℕ) → dot n d ≡ pos 0 → dot n (past_source n d i) ≡ pos 0
   past-level n d i q =
@@ -72,10 +72,10 @@ module _ (gs : List Vector) (F : Vector → Label → Type 0) (L : Labelling gs 
       let r = leading-nought (dot g d) (dot g c) (sym (far-leading gs d c k (omega arith) g l) ∙ ap sign e) in parallel-by n d g hd q r.0 r.1 in
       let p = straight-if gs F L axial n z hn hz (past-level n d k q) one in
       record {
-        above = _;
+        pos = _;
         mark = _;
-        below = _;
-        labels = (k, λ i l. straight-carried gs F L axial n n _ _ _ z (past_source n d i) hz (far-direction gs F L axial d c i l hd) (way-self n hn) (past-level n d i q) (far-same gs d c k i (omega arith) l) p);
+        neg = _;
+        labels = (k, λ i l. straight-carried gs F L axial n n _ _ _ z (past_source n d i) hz (far-direction gs F L axial d c i l hd) (dir-self n hn) (past-level n d i q) (far-same gs d c k i (omega arith) l) p);
       }
 
   -- the same circle
@@ -83,11 +83,11 @@ module _ (gs : List Vector) (F : Vector → Label → Type 0) (L : Labelling gs 
   after-same n u a m b d hd q w (k, f) = (
     k + amount gs (cross n d) + amount gs (cross u d),
     λ i l.
-        let hn = way-directed n u w in
+        let hn = dir-directed n u w in
         let v = cross-same n u d w hd q in
         straight-carried gs F L axial n u a m b (past_source n d i) (past_source u d i) (far-direction gs F L axial d (cross n d) i (omega arith) hd) (far-direction gs F L axial d (cross u d) i (omega arith) hd) w
-        (past-level u d i (level-same n u d d w (way-self d hd) q))
-        (λ g j. far-leading gs d (cross u d) i (omega arith) g j ∙ ap (leading (sign (dot g d))) (way-signs (cross n d) (cross u d) g (way-directed (cross n d) (cross u d) v) v) ∙ sym (far-leading gs d (cross n d) i (omega arith) g j))
+        (past-level u d i (level-same n u d d w (dir-self d hd) q))
+        (λ g j. far-leading gs d (cross u d) i (omega arith) g j ∙ ap (leading (sign (dot g d))) (dir-signs (cross n d) (cross u d) g (dir-directed (cross n d) (cross u d) v) v) ∙ sym (far-leading gs d (cross n d) i (omega arith) g j))
         (f i (omega arith)),
   )
 
@@ -101,9 +101,9 @@ module _ (gs : List Vector) (F : Vector → Label → Type 0) (L : Labelling gs 
       let h = self-pos n hn in
       let w = away-dot n n in
       let down : dot n (away n) <ℤ pos 0 = omega (arith, ints) in (
-        straight-above gs F L axial n a m b z n a' hz p h (subst (Near F z n) (ap (by_side a' m' b') (sign-plus (dot n n) h)) (r.near n)),
+        straight-pos gs F L axial n a m b z n a' hz p h (subst (Near F z n) (ap (by_side a' m' b') (sign-plus (dot n n) h)) (r.near n)),
         L.one z m m' hz p.at_d r.at_d,
-        straight-below gs F L axial n a m b z (away n) b' hz p down (subst (Near F z (away n)) (ap (by_side a' m' b') (sign-minus (dot n (away n)) down)) (r.near (away n))),
+        straight-neg gs F L axial n a m b z (away n) b' hz p down (subst (Near F z (away n)) (ap (by_side a' m' b') (sign-minus (dot n (away n)) down)) (r.near (away n))),
       )
 
   pub after-form : (n : Vector) (a m b : Label) (d : Vector) → IsDirection n → IsDirection d → Proper a m b → StraightAfter F n a m b d → FormOf gs F L axial n

@@ -7,26 +7,26 @@ use Rattle.nef_space.specs.declared.label.Label.{Label}
 use Rattle.law_near.proofs.Decided.{Decided}
 use Rattle.law_cyclic.specs.Arcs.{IsStrictlyOn}
 use Rattle.law_sphere.specs.Vectors.{IsPrimitive}
-use Rattle.law_sphere.specs.Maps.{At, Svertex, Arc, Loop, Map, Item, arc_item, loop_item, items, item_normal, way_of, OnItem, ArcBetween, HasArc}
+use Rattle.law_sphere.specs.Maps.{At, MapVertex, Arc, MapSloop, Map, Item, arc_item, sloop_item, items, item_normal, dir_of, OnItem, ArcBetween, HasArc}
 use Rattle.law_sphere.specs.Forms.{axes}
 use Rattle.law_sphere.specs.Least.{Ordered}
 use Rattle.law_sphere.specs.Labelling.{Labelling, Near}
 use Rattle.law_sphere.specs.Builds.{StraightAfter, IsBuilt, Kept}
-use Rattle.law_sphere.proofs.Shot.{way-at, arc-at}
+use Rattle.law_sphere.proofs.Shot.{dir-at, arc-at}
 use Rattle.law_sphere.proofs.Compare.{SameDirection-turned}
 use Rattle.law_sphere.proofs.Equal.{lowest-same}
 use Rattle.law_sphere.proofs.Unique.{HasArc-decided, beside-d}
-use Rattle.law_sphere.proofs.Arcs.{loop-at}
+use Rattle.law_sphere.proofs.Arcs.{sloop-at}
 use Rattle.law_sphere.proofs.Flips.{Axial}
 use Rattle.law_sphere.proofs.BuiltLeast.{labelling-more}
 use Rattle.law_cones.proofs.Listing.{Mapped, map-list, none-empty, empty-none}
 use Rattle.law_cones.proofs.Signs.{near-of}
 use Rattle.law_cones.proofs.SmoothDecided.{smooth-decided}
-use Rattle.law_cones.proofs.Ways.{Ways, ways, ways-one}
+use Rattle.law_cones.proofs.Dirs.{Dirs, dirs, dirs-one}
 use Rattle.law_cones.proofs.Rays.{IsArc, Arcs, arcs, arc-one}
 use Rattle.law_cones.proofs.Behind.{Arrives, lone-around}
-use Rattle.law_cones.proofs.Sloops.{IsSloop, Sloop, sloop}
-use Rattle.law_cones.proofs.Face.{Face, face}
+use Rattle.law_cones.proofs.Sloops.{IsSloop, SloopThere, sloop}
+use Rattle.law_cones.proofs.Ground.{Ground, ground}
 
 -- a map that is built of the labelling, in order and with the mark
 pub record BuiltMap (F : Vector → Label → Type 0) (mark : Label) : Type 0 where
@@ -36,7 +36,7 @@ pub record BuiltMap (F : Vector → Label → Type 0) (mark : Label) : Type 0 wh
   pub ordered : Ordered map
   pub marked : map.mark ≡ mark
 
-module _ (gs : List Vector) (F : Vector → Label → Type 0) (L : Labelling gs F) (axial : Axial gs) (W : Ways gs F L axial) (A : Arcs gs F L axial W) (S : Sloop gs F L axial W) (K : Face gs F L axial W S) (mark : Label) where
+module _ (gs : List Vector) (F : Vector → Label → Type 0) (L : Labelling gs F) (axial : Axial gs) (W : Dirs gs F L axial) (A : Arcs gs F L axial W) (S : SloopThere gs F L axial W) (K : Ground gs F L axial W S) (mark : Label) where
   -- ---- svertices
   -- the label round a svertex without arcs
   record Lone (k : ℕ) (w : Vector) (o : Option Label) : Type 0 where
@@ -45,28 +45,28 @@ module _ (gs : List Vector) (F : Vector → Label → Type 0) (L : Labelling gs 
     is : o ≡ Some label
     near : (e : Vector) → IsDirection (cross w e) → Near F w e label
 
-  record Shown (k : ℕ) (w : Vector) (v : Svertex) : Type 0 where
-    way : v.way ≡ w
+  record Shown (k : ℕ) (w : Vector) (v : MapVertex) : Type 0 where
+    dir : v.dir ≡ w
     mark_is : F w v.mark
     around : (Arrives A.list k × (v.around ≡ None)) ⊎ Lone k w v.around
 
   -- the arcs alone
   abbrev bare : Map
-  bare = record { mark = mark; svertices = []; arcs = A.list; loop = None; face = None }
+  bare = record { mark = mark; svertices = []; arcs = A.list; sloop = None; ground = None }
 
-  shown : (k : ℕ) (w : Vector) → At W.list k w → (v : Svertex) × Shown k w v
+  shown : (k : ℕ) (w : Vector) → At W.list k w → (v : MapVertex) × Shown k w v
   shown k w h = by (HasArc-decided bare k) (L.exists w hw) (beside-d w hw)
     where
       hw : IsDirection w
       hw = W.direction k w h
 
-      by : Decided (Arrives A.list k) → ((m : Label) × F w m) → ((e : Vector) × IsDirection (cross w e)) → (v : Svertex) × Shown k w v
-      by (inl x) (m, f) b = (record { way = w; mark = m; around = None }, record { way = refl; mark_is = f; around = inl (x, refl) })
+      by : Decided (Arrives A.list k) → ((m : Label) × F w m) → ((e : Vector) × IsDirection (cross w e)) → (v : MapVertex) × Shown k w v
+      by (inl x) (m, f) b = (record { dir = w; mark = m; around = None }, record { dir = refl; mark_is = f; around = inl (x, refl) })
       by (inr n) (m, f) (e, off) =
           let l = near-of gs F L axial w e (W.direction k w h) in (
-            record { way = w; mark = m; around = Some l.0 },
+            record { dir = w; mark = m; around = Some l.0 },
             record {
-              way = refl;
+              dir = refl;
               mark_is = f;
               around = inr (record { lone = n; label = l.0; is = refl; near = λ u out. lone-around gs F L axial W A k w h n e u off out l.0 l.1 });
             },
@@ -76,51 +76,51 @@ module _ (gs : List Vector) (F : Vector → Label → Type 0) (L : Labelling gs 
   svertices = map-list W.list Shown shown
 
   abbrev M : Map
-  M = record { mark = mark; svertices = svertices.list; arcs = A.list; loop = S.loop; face = K.label }
+  M = record { mark = mark; svertices = svertices.list; arcs = A.list; sloop = S.sloop; ground = K.label }
 
-  shows : (k : ℕ) (v : Svertex) → At svertices.list k v → Shown k v.way v
-  shows k v a = let r = svertices.sound k v a in subst (λ (w : Vector). Shown k w v) (sym r.2.way) r.2
+  shows : (k : ℕ) (v : MapVertex) → At svertices.list k v → Shown k v.dir v
+  shows k v a = let r = svertices.sound k v a in subst (λ (w : Vector). Shown k w v) (sym r.2.dir) r.2
 
-  listed : (k : ℕ) (v : Svertex) → At svertices.list k v → At W.list k v.way
-  listed k v a = let r = svertices.sound k v a in subst (At W.list k) (sym r.2.way) r.1
+  listed : (k : ℕ) (v : MapVertex) → At svertices.list k v → At W.list k v.dir
+  listed k v a = let r = svertices.sound k v a in subst (At W.list k) (sym r.2.dir) r.1
 
-  at-way : (k : ℕ) (w : Vector) → At W.list k w → (v : Svertex) × At svertices.list k v × (v.way ≡ w)
-  at-way k w h = let r = svertices.all k w h in (r.0, r.1, r.2.way)
+  at-dir : (k : ℕ) (w : Vector) → At W.list k w → (v : MapVertex) × At svertices.list k v × (v.dir ≡ w)
+  at-dir k w h = let r = svertices.all k w h in (r.0, r.1, r.2.dir)
 
-  way-is : (k : ℕ) (w : Vector) → At W.list k w → way_of svertices.list k ≡ w
-  way-is k w h = let r = at-way k w h in way-at svertices.list k r.0 r.1 ∙ r.2
+  dir-is : (k : ℕ) (w : Vector) → At W.list k w → dir_of svertices.list k ≡ w
+  dir-is k w h = let r = at-dir k w h in dir-at svertices.list k r.0 r.1 ∙ r.2
 
   -- the svertices decide the directions without them
-  off-ways : (n : Vector) → ((k : ℕ) (v : Svertex) → At svertices.list k v → dot n v.way ≡ pos 0 → ⊥) → (k : ℕ) (w : Vector) → At W.list k w → dot n w ≡ pos 0 → ⊥
-  off-ways n f k w h z = let r = at-way k w h in f k r.0 r.1 (subst (λ (u : Vector). dot n u ≡ pos 0) (sym r.2) z)
+  off-dirs : (n : Vector) → ((k : ℕ) (v : MapVertex) → At svertices.list k v → dot n v.dir ≡ pos 0 → ⊥) → (k : ℕ) (w : Vector) → At W.list k w → dot n w ≡ pos 0 → ⊥
+  off-dirs n f k w h z = let r = at-dir k w h in f k r.0 r.1 (subst (λ (u : Vector). dot n u ≡ pos 0) (sym r.2) z)
 
   -- ---- items
   an_arc : (k : ℕ) (a : Arc) → At (items M) k (arc_item a) → IsArc gs F L axial W a
-  an_arc k a h = A.each k a (arc-at A.list S.loop k a h)
+  an_arc k a h = A.each k a (arc-at A.list S.sloop k a h)
 
-  a_sloop : (k : ℕ) (l : Loop) → At (items M) k (loop_item l) → IsSloop gs F L axial W l
-  a_sloop k l h = S.each l (loop-at A.list S.loop k l h)
+  a_sloop : (k : ℕ) (l : MapSloop) → At (items M) k (sloop_item l) → IsSloop gs F L axial W l
+  a_sloop k l h = S.each l (sloop-at A.list S.sloop k l h)
 
   normals : (k : ℕ) (x : Item) → At (items M) k x → IsNormal (item_normal x)
   normals k (arc_item a) h = (an_arc k a h).normal
-  normals k (loop_item l) h = (a_sloop k l h).normal
+  normals k (sloop_item l) h = (a_sloop k l h).normal
 
   lowest_normals : (k : ℕ) (x : Item) → At (items M) k x → IsPrimitive (item_normal x)
   lowest_normals k (arc_item a) h = (an_arc k a h).primitive
-  lowest_normals k (loop_item l) h = (a_sloop k l h).primitive
+  lowest_normals k (sloop_item l) h = (a_sloop k l h).primitive
 
-  no-svertex : (i k : ℕ) (v : Svertex) (x : Item) → At svertices.list i v → At (items M) k x → OnItem M x v.way → ⊥
+  no-svertex : (i k : ℕ) (v : MapVertex) (x : Item) → At svertices.list i v → At (items M) k x → OnItem M x v.dir → ⊥
   no-svertex i k v (arc_item a) b h o =
       let e = an_arc k a h in
-      e.clear i v.way (listed i v b) (subst (λ (t : Vector). IsStrictlyOn a.normal e.source t v.way) (way-is a.target e.target e.has_target)
-      (subst (λ (s : Vector). IsStrictlyOn a.normal s (way_of svertices.list a.target) v.way) (way-is a.source e.source e.has_source) o))
-  no-svertex i k v (loop_item l) b h o = (a_sloop k l h).clear i v.way (listed i v b) o.level
+      e.clear i v.dir (listed i v b) (subst (λ (t : Vector). IsStrictlyOn a.normal e.source t v.dir) (dir-is a.target e.target e.has_target)
+      (subst (λ (s : Vector). IsStrictlyOn a.normal s (dir_of svertices.list a.target) v.dir) (dir-is a.source e.source e.has_source) o))
+  no-svertex i k v (sloop_item l) b h o = (a_sloop k l h).clear i v.dir (listed i v b) o.level
 
   between : (k : ℕ) (a : Arc) → At A.list k a → ArcBetween M a
   between k a h =
       let e = A.each k a h in
-      let s = at-way a.source e.source e.has_source in
-      let t = at-way a.target e.target e.has_target in
+      let s = at-dir a.source e.source e.has_source in
+      let t = at-dir a.target e.target e.has_target in
       record {
         source = s.0;
         target = t.0;
@@ -130,30 +130,30 @@ module _ (gs : List Vector) (F : Vector → Label → Type 0) (L : Labelling gs 
         level_target = subst (λ (u : Vector). dot a.normal u ≡ pos 0) (sym t.2) e.level_target;
       }
 
-  after-source : (k : ℕ) (a : Arc) → At A.list k a → StraightAfter F a.normal a.above a.mark a.below (way_of svertices.list a.source)
-  after-source k a h = let e = A.each k a h in subst (StraightAfter F a.normal a.above a.mark a.below) (sym (way-is a.source e.source e.has_source)) e.labels
+  after-source : (k : ℕ) (a : Arc) → At A.list k a → StraightAfter F a.normal a.pos a.mark a.neg (dir_of svertices.list a.source)
+  after-source k a h = let e = A.each k a h in subst (StraightAfter F a.normal a.pos a.mark a.neg) (sym (dir-is a.source e.source e.has_source)) e.labels
 
   -- ---- the faces round svertices
-  around-lone : (k : ℕ) (v : Svertex) → At svertices.list k v → (HasArc M k → ⊥) → (m : Label) × (v.around ≡ Some m)
+  around-lone : (k : ℕ) (v : MapVertex) → At svertices.list k v → (HasArc M k → ⊥) → (m : Label) × (v.around ≡ Some m)
   around-lone k v a f = ⊎_elim (λ x. absurd (f x.0)) (λ l. (l.label, l.is)) (shows k v a).around
 
-  around-not : (k : ℕ) (v : Svertex) → At svertices.list k v → HasArc M k → v.around ≡ None
+  around-not : (k : ℕ) (v : MapVertex) → At svertices.list k v → HasArc M k → v.around ≡ None
   around-not k v a x = ⊎_elim (λ y. y.1) (λ l. absurd (l.lone x)) (shows k v a).around
 
-  around-near : (k : ℕ) (v : Svertex) (m : Label) (e : Vector) → At svertices.list k v → v.around ≡ Some m → IsDirection (cross v.way e) → Near F v.way e m
+  around-near : (k : ℕ) (v : MapVertex) (m : Label) (e : Vector) → At svertices.list k v → v.around ≡ Some m → IsDirection (cross v.dir e) → Near F v.dir e m
   around-near k v m e a q off = ⊎_elim
       (λ y. absurd (none-some m (sym y.1 ∙ q)))
-      (λ l. subst (Near F v.way e) (same_Some l.label m (sym l.is ∙ q)) (l.near e off))
+      (λ l. subst (Near F v.dir e) (same_Some l.label m (sym l.is ∙ q)) (l.near e off))
       (shows k v a).around
 
   -- ---- all of it
   is-built : IsBuilt M F
   is-built = record {
-    svertex_ways = λ k v a. W.direction k v.way (listed k v a);
-    svertices_apart = λ i k u v a b w. ways-one gs F L axial W i k u.way v.way (listed i u a) (listed k v b) w;
+    svertex_dirs = λ k v a. W.direction k v.dir (listed k v a);
+    svertices_apart = λ i k u v a b w. dirs-one gs F L axial W i k u.dir v.dir (listed i u a) (listed k v b) w;
     svertex_marks = λ k v a. (shows k v a).mark_is;
     smooth = λ d h f. ⊎_elim (λ s. s)
-        (λ n. let r = W.all d h n in let v = at-way r.0 r.1 r.2 in absurd (f r.0 v.0 v.1 (subst (λ (w : Vector). SameDirection w d) (sym v.2) (SameDirection-turned d r.1 r.3))))
+        (λ n. let r = W.all d h n in let v = at-dir r.0 r.1 r.2 in absurd (f r.0 v.0 v.1 (subst (λ (w : Vector). SameDirection w d) (sym v.2) (SameDirection-turned d r.1 r.3))))
         (smooth-decided gs F L axial d h);
     normals = normals;
     arcs_between = between;
@@ -161,15 +161,15 @@ module _ (gs : List Vector) (F : Vector → Label → Type 0) (L : Labelling gs 
     arc_labels = after-source;
     arc_proper = λ k a h. (A.each k a h).proper;
     arcs_apart = λ i k a b x y w q. arc-one A.list A.order i k a b x y (same-normals i k a b x y w, q);
-    arcs_all = λ k v n a m b h hn q p f. A.all n k hn (record { way = v.way; listed = listed k v h; level = q; above = a; mark = m; below = b; labels = f; proper = p });
-    loop_labels = λ l e. let s = S.each l e in (s.point, s.direction, s.labels);
-    loop_proper = λ l e. (S.each l e).proper;
-    loop_all = λ n y a m b hn hy f p s. S.all n hn (record { clear = off-ways n f; point = y; direction = hy; above = a; mark = m; below = b; labels = s; proper = p });
+    arcs_all = λ k v n a m b h hn q p f. A.all n k hn (record { dir = v.dir; listed = listed k v h; level = q; pos = a; mark = m; neg = b; labels = f; proper = p });
+    sloop_labels = λ l e. let s = S.each l e in (s.point, s.direction, s.labels);
+    sloop_proper = λ l e. (S.each l e).proper;
+    sloop_all = λ n y a m b hn hy f p s. S.all n hn (record { clear = off-dirs n f; point = y; direction = hy; pos = a; mark = m; neg = b; labels = s; proper = p });
     around_lone = around-lone;
     around_not = around-not;
     around_near = around-near;
-    ground_alone = λ e o. K.alone (none-empty W.list (λ k w h. let r = at-way k w h in empty-none svertices.list e k r.0 r.1)) o;
-    ground_not = λ m q. let r = K.only m q in (none-empty svertices.list (λ k v a. empty-none W.list r.0 k v.way (listed k v a)), r.1);
+    ground_alone = λ e o. K.alone (none-empty W.list (λ k w h. let r = at-dir k w h in empty-none svertices.list e k r.0 r.1)) o;
+    ground_not = λ m q. let r = K.only m q in (none-empty svertices.list (λ k v a. empty-none W.list r.0 k v.dir (listed k v a)), r.1);
     ground_label = λ m d q h. K.everywhere m d q h;
   }
     where
@@ -180,11 +180,11 @@ module _ (gs : List Vector) (F : Vector → Label → Type 0) (L : Labelling gs 
   assembled = record {
     map = M;
     built = is-built;
-    kept = λ k v a s. W.rough k v.way (listed k v a) s;
+    kept = λ k v a s. W.rough k v.dir (listed k v a) s;
     ordered = record {
-      ways_lowest = λ k v a. W.primitive k v.way (listed k v a);
+      dirs_lowest = λ k v a. W.primitive k v.dir (listed k v a);
       normals_lowest = lowest_normals;
-      svertices = λ i k u v l a b. W.order i k u.way v.way l (listed i u a) (listed k v b);
+      svertices = λ i k u v l a b. W.order i k u.dir v.dir l (listed i u a) (listed k v b);
       arcs = A.order;
     };
     marked = refl;
@@ -196,7 +196,7 @@ labelling-map gs F L mark =
     let hs = axes ++ gs in
     let K = labelling-more gs hs F (λ g l. lies-right axes gs g l) L in
     let axial : Axial hs = λ g l. lies-left axes gs g l in
-    let W = ways hs F K axial in
+    let W = dirs hs F K axial in
     let A = arcs hs F K axial W in
     let S = sloop hs F K axial W in
-    assembled hs F K axial W A S (face hs F K axial W S) mark
+    assembled hs F K axial W A S (ground hs F K axial W S) mark

@@ -13,7 +13,7 @@ use Rattle.law_sphere.proofs.Vectors.{normal-direction}
 use Rattle.law_sphere.proofs.Lists.{at-one}
 use Rattle.law_sphere.proofs.Generic.{amount}
 use Rattle.law_sphere.proofs.Parallel.{past_source, arc-point}
-use Rattle.law_sphere.proofs.Compare.{SameDirection-turned, way-self}
+use Rattle.law_sphere.proofs.Compare.{SameDirection-turned, dir-self}
 use Rattle.law_sphere.proofs.Turn.{IsStrictlyOn-same, ends-together}
 use Rattle.law_sphere.proofs.Arcs.{level-same}
 use Rattle.law_sphere.proofs.Kind.{away}
@@ -24,7 +24,7 @@ use Rattle.law_sphere.proofs.Builder.{normal-or}
 use Rattle.law_cones.proofs.Smooth.{even-or}
 use Rattle.law_cones.proofs.SmoothDecided.{smooth-decided}
 use Rattle.law_cones.proofs.Lone.{lone-near}
-use Rattle.law_cones.proofs.Ways.{Ways, ways-one}
+use Rattle.law_cones.proofs.Dirs.{Dirs, dirs-one}
 use Rattle.law_cones.proofs.Rays.{IsArc, Arcs}
 
 -- an arc of the list begins or ends at svertex k
@@ -37,7 +37,7 @@ away-twice n = vector-same (away (away n)) n (one n.x) (one n.y) (one n.z)
     one : (x : ℤ) → negsuc 0 *ℤ (negsuc 0 *ℤ x +ℤ pos 0 *ℤ x) +ℤ pos 0 *ℤ (negsuc 0 *ℤ x +ℤ pos 0 *ℤ x) ≡ x
     one x = let y = num (negsuc 0) ⊗ at 0 ⊕ num (pos 0) ⊗ at 0 in ring (x ∷ []) (num (negsuc 0) ⊗ y ⊕ num (pos 0) ⊗ y) (at 0) tt
 
-module _ (gs : List Vector) (F : Vector → Label → Type 0) (L : Labelling gs F) (axial : Axial gs) (W : Ways gs F L axial) (A : Arcs gs F L axial W) where
+module _ (gs : List Vector) (F : Vector → Label → Type 0) (L : Labelling gs F) (axial : Axial gs) (W : Dirs gs F L axial) (A : Arcs gs F L axial W) where
   -- w is svertex k, and the labels close before it on the circle of n are a, m and b
   module _ (n : Vector) (normal : IsNormal n) (k : ℕ) (w : Vector) (h : At W.list k w) (lw : dot n w ≡ pos 0) (a m b : Label) (proper : Proper a m b) (before : StraightAfter F (away n) b m a w) where
     hn : IsDirection n
@@ -63,7 +63,7 @@ module _ (gs : List Vector) (F : Vector → Label → Type 0) (L : Labelling gs 
       back-smooth : (y : Vector) → IsStrictlyOn (away n) w s y → IsSmooth F y
       back-smooth y o = ⊎_elim (λ r. r) (λ f.
           let v = W.all y o.on_circle.direction f in
-          absurd (clear v.0 v.1 v.2 (IsStrictlyOn-same (away n) (away n) w w s s y v.1 (way-self (away n) ha) (way-self w hw) (way-self s hs) v.3 o)))
+          absurd (clear v.0 v.1 v.2 (IsStrictlyOn-same (away n) (away n) w w s s y v.1 (dir-self (away n) ha) (dir-self w hw) (dir-self s hs) v.3 o)))
           (smooth-decided gs F L axial y o.on_circle.direction)
 
       back-labels : (y : Vector) → IsStrictlyOn (away n) w s y → StraightAt F (away n) b m a y
@@ -80,10 +80,10 @@ module _ (gs : List Vector) (F : Vector → Label → Type 0) (L : Labelling gs 
       )
 
       arrives : (i : ℕ) × (c : Arc) × At A.list i c × (c.target ≡ k)
-      arrives = by (A.all n j normal (record { way = s; listed = g; level = ls; above = a; mark = m; below = b; labels = after; proper = proper }))
+      arrives = by (A.all n j normal (record { dir = s; listed = g; level = ls; pos = a; mark = m; neg = b; labels = after; proper = proper }))
         where
           by : (i : ℕ) × (c : Arc) × At A.list i c × (c.source ≡ j) × SameDirection n c.normal → (i : ℕ) × (c : Arc) × At A.list i c × (c.target ≡ k)
-          by (i, c, ic, src, q) = (i, c, ic, ways-one gs F L axial W c.target k (A.each i c ic).target w (A.each i c ic).has_target h together)
+          by (i, c, ic, src, q) = (i, c, ic, dirs-one gs F L axial W c.target k (A.each i c ic).target w (A.each i c ic).has_target h together)
             where
               e : IsArc gs F L axial W c
               e = A.each i c ic
@@ -98,11 +98,11 @@ module _ (gs : List Vector) (F : Vector → Label → Type 0) (L : Labelling gs 
               ht = W.direction c.target e.target e.has_target
 
               lt : dot n e.target ≡ pos 0
-              lt = level-same c.normal n e.target e.target qt (way-self e.target ht) e.level_target
+              lt = level-same c.normal n e.target e.target qt (dir-self e.target ht) e.level_target
 
               together : SameDirection (A.each i c ic).target w
               together = ends-together n s e.target w hn hs ht hw ls lt lw
-                  (λ o. e.clear k w h (IsStrictlyOn-same n c.normal s e.source e.target e.target w w q (subst (SameDirection s) (sym source-is) (way-self s hs)) (way-self e.target ht) (way-self w hw) o))
+                  (λ o. e.clear k w h (IsStrictlyOn-same n c.normal s e.source e.target e.target w w q (subst (SameDirection s) (sym source-is) (dir-self s hs)) (dir-self e.target ht) (dir-self w hw) o))
                   (λ o. clear c.target e.target e.has_target (reversed n s w e.target hs o))
 
     pub behind : (i : ℕ) × (c : Arc) × At A.list i c × (c.target ≡ k)
@@ -118,7 +118,7 @@ module _ (gs : List Vector) (F : Vector → Label → Type 0) (L : Labelling gs 
   module _ (k : ℕ) (w : Vector) (h : At W.list k w) (lone : Arrives A.list k → ⊥) where
     even : (n : Vector) (a m b : Label) → IsDirection n → dot n w ≡ pos 0 → StraightAfter F n a m b w → (a ≡ m) × (b ≡ m)
     even n a m b hn q f = even-or a m b (λ p. ⊎_elim
-        (λ x. let r = A.all n k x (record { way = w; listed = h; level = q; above = a; mark = m; below = b; labels = f; proper = p }) in lone (r.0, r.1, r.2, inl r.3))
+        (λ x. let r = A.all n k x (record { dir = w; listed = h; level = q; pos = a; mark = m; neg = b; labels = f; proper = p }) in lone (r.0, r.1, r.2, inl r.3))
         (λ x.
         let r = behind (away n) x k w h (let e = dot-away n w in omega (arith, ints)) b m a (λ u v. p v u) (subst (λ (u : Vector). StraightAfter F u a m b w) (sym (away-twice n)) f) in
         lone (r.0, r.1, r.2, inr r.3))

@@ -5,10 +5,10 @@ pub mod Smooth
 pub mod SmoothDecided
 pub mod After
 pub mod Lone
-pub mod Ways
+pub mod Dirs
 pub mod Rays
 pub mod Behind
 pub mod Sloops
-pub mod Face
+pub mod Ground
 pub mod Assembled
 pub mod Cones

@@ -68,7 +68,7 @@ module _ (gs : List Vector) (F : Vector → Label → Type 0) (L : Labelling gs 
       where
         by : After gs F L axial n d → Near G y e m
         by r =
-            let ev = even n r.above r.mark r.below off level r.labels in
+            let ev = even n r.pos r.mark r.neg off level r.labels in
             let i = r.labels.0 + amount gs (cross n d) in
             let z = past_source n d i in
             let hz = far-direction gs F L axial d (cross n d) i (omega arith) hd in
@@ -79,7 +79,7 @@ module _ (gs : List Vector) (F : Vector → Label → Type 0) (L : Labelling gs 
             let u = blend k z 1 e in
             let hu = far-direction gs F L axial z e k (omega arith) hz in
             let su = λ (g : Vector) (l : Lies gs g). far-leading gs z e k (omega arith) g l in
-            let at_u = subst (F u) (even-side r.above r.mark r.below (sign (dot n e)) ev.0 ev.1 ∙ mm) (near-back gs F L axial z e u _ hz hu su (p.near e)) in (
+            let at_u = subst (F u) (even-side r.pos r.mark r.neg (sign (dot n e)) ev.0 ev.1 ∙ mm) (near-back gs F L axial z e u _ hz hu su (p.near e)) in (
               k,
               λ j l. near-at gs F L axial d (blend j y 1 e) u m hd hu
                   (λ g q. su g q ∙ ap (λ s. leading s (sign (dot g e))) (sz g q) ∙ leading-joined (sign (dot g d)) (sign (dot g y)) (sign (dot g e)) ∙ ap (leading (sign (dot g d))) (sym (far-leading gs y e j l g q))) at_u,

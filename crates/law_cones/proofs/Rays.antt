@@ -14,7 +14,7 @@ use Rattle.law_sphere.specs.Labelling.{Labelling}
 use Rattle.law_sphere.specs.Builds.{StraightAfter, Proper}
 use Rattle.law_sphere.proofs.Vectors.{normal-direction}
 use Rattle.law_sphere.proofs.Lists.{at-one}
-use Rattle.law_sphere.proofs.Compare.{way-self}
+use Rattle.law_sphere.proofs.Compare.{dir-self}
 use Rattle.law_sphere.proofs.Arcs.{level-same}
 use Rattle.law_sphere.proofs.Firsts.{First, first-after}
 use Rattle.law_sphere.proofs.Flips.{Axial}
@@ -22,7 +22,7 @@ use Rattle.law_cones.proofs.Listing.{lies-at, at-lies, at-or, numbers, at-number
 use Rattle.law_cones.proofs.Lowest.{below-trans, below-either, below-itself}
 use Rattle.law_cones.proofs.Smooth.{proper-decided}
 use Rattle.law_cones.proofs.After.{After, after-of, after-same, after-one, after-form}
-use Rattle.law_cones.proofs.Ways.{Plane, plane-direction, Planes, planes, Ways}
+use Rattle.law_cones.proofs.Dirs.{Plane, plane-direction, Planes, planes, Dirs}
 
 -- ---- the order of arcs
 abbrev pub SameArc : Arc → Arc → Type 0
@@ -62,7 +62,7 @@ arc-one as' o i k a b x y s = ⊎_elim
 abbrev spot : Plane → ℕ → Plane × ℕ
 spot p k = (p, k)
 
-module _ (gs : List Vector) (F : Vector → Label → Type 0) (L : Labelling gs F) (axial : Axial gs) (W : Ways gs F L axial) where
+module _ (gs : List Vector) (F : Vector → Label → Type 0) (L : Labelling gs F) (axial : Axial gs) (W : Dirs gs F L axial) where
   pub record IsArc (a : Arc) : Type 0 where
     pub normal : IsNormal a.normal
     pub primitive : IsPrimitive a.normal
@@ -72,20 +72,20 @@ module _ (gs : List Vector) (F : Vector → Label → Type 0) (L : Labelling gs 
     pub has_target : At W.list a.target target
     pub level_source : dot a.normal source ≡ pos 0
     pub level_target : dot a.normal target ≡ pos 0
-    pub labels : StraightAfter F a.normal a.above a.mark a.below source
-    pub proper : Proper a.above a.mark a.below
+    pub labels : StraightAfter F a.normal a.pos a.mark a.neg source
+    pub proper : Proper a.pos a.mark a.neg
     pub clear : (j : ℕ) (x : Vector) → At W.list j x → IsStrictlyOn a.normal source target x → ⊥
 
   -- a circle that is needed close after a svertex
   pub record Needed (n : Vector) (k : ℕ) : Type 0 where
-    pub way : Vector
-    pub listed : At W.list k way
-    pub level : dot n way ≡ pos 0
-    pub above : Label
+    pub dir : Vector
+    pub listed : At W.list k dir
+    pub level : dot n dir ≡ pos 0
+    pub pos : Label
     pub mark : Label
-    pub below : Label
-    pub labels : StraightAfter F n above mark below way
-    pub proper : Proper above mark below
+    pub neg : Label
+    pub labels : StraightAfter F n pos mark neg dir
+    pub proper : Proper pos mark neg
 
   pub record Arcs : Type 0 where
     pub list : List Arc
@@ -99,19 +99,19 @@ module _ (gs : List Vector) (F : Vector → Label → Type 0) (L : Labelling gs 
     source : a.source ≡ k
 
   made : (p : Plane) (k : ℕ) → Needed p.normal k → (a : Arc) × Made p k a
-  made p k e = by (first-after p.normal e.way (plane-direction p) (W.direction k e.way e.listed) e.level W.list)
+  made p k e = by (first-after p.normal e.dir (plane-direction p) (W.direction k e.dir e.listed) e.level W.list)
     where
-      by : First p.normal e.way W.list → (a : Arc) × Made p k a
+      by : First p.normal e.dir W.list → (a : Arc) × Made p k a
       by f = ⊎_elim (λ q. arc k (subst (At W.list k) q e.listed)) (λ j. arc j.0 j.1) f.listed
         where
           arc : (j : ℕ) → At W.list j f.target → (a : Arc) × Made p k a
           arc j t = (
-            record { normal = p.normal; source = k; target = j; above = e.above; mark = e.mark; below = e.below },
+            record { normal = p.normal; source = k; target = j; pos = e.pos; mark = e.mark; neg = e.neg },
             record {
               is_arc = record {
                 normal = p.is_normal;
                 primitive = p.primitive;
-                source = e.way;
+                source = e.dir;
                 target = f.target;
                 has_source = e.listed;
                 has_target = t;
@@ -131,18 +131,18 @@ module _ (gs : List Vector) (F : Vector → Label → Type 0) (L : Labelling gs 
     where
       on : (w : Vector) → At W.list k w → (q : dot p.normal w ≡ pos 0) → After gs F L axial p.normal w → Decided (Needed p.normal k)
       on w h q r = ⊎_elim
-          (λ x. inl (record { way = w; listed = h; level = q; above = r.above; mark = r.mark; below = r.below; labels = r.labels; proper = x }))
+          (λ x. inl (record { dir = w; listed = h; level = q; pos = r.pos; mark = r.mark; neg = r.neg; labels = r.labels; proper = x }))
           (λ f. inr (λ e.
-          let c = subst (StraightAfter F p.normal e.above e.mark e.below) (at-one W.list k e.way w e.listed h) e.labels in
-          let s = after-one gs F L axial p.normal r.above r.mark r.below w e.above e.mark e.below (plane-direction p) (W.direction k w h) r.labels c in
+          let c = subst (StraightAfter F p.normal e.pos e.mark e.neg) (at-one W.list k e.dir w e.listed h) e.labels in
+          let s = after-one gs F L axial p.normal r.pos r.mark r.neg w e.pos e.mark e.neg (plane-direction p) (W.direction k w h) r.labels c in
           f (λ x y. e.proper (sym s.0 ∙ x ∙ s.1) (sym s.2 ∙ y ∙ s.1))))
-          (proper-decided r.above r.mark r.below)
+          (proper-decided r.pos r.mark r.neg)
 
       by : ((w : Vector) × At W.list k w) ⊎ ((w : Vector) → At W.list k w → ⊥) → Decided (Needed p.normal k)
-      by (inr f) = inr (λ e. f e.way e.listed)
+      by (inr f) = inr (λ e. f e.dir e.listed)
       by (inl (w, h)) = ⊎_elim
           (λ q. on w h q (after-of gs F L axial p.normal w (plane-direction p) (W.direction k w h) q))
-          (λ f. inr (λ e. f (subst (λ (v : Vector). dot p.normal v ≡ pos 0) (at-one W.list k e.way w e.listed h) e.level)))
+          (λ f. inr (λ e. f (subst (λ (v : Vector). dot p.normal v ≡ pos 0) (at-one W.list k e.dir w e.listed h) e.level)))
           (nought-or (dot p.normal w))
 
   -- the arcs in any order
@@ -158,20 +158,20 @@ module _ (gs : List Vector) (F : Vector → Label → Type 0) (L : Labelling gs 
     order = chain-order ArcBelow SameArc r.list r.chain;
     each = λ i a h. let x = c.sound a (r.sound a (at-lies r.list i a h)) in x.2.is_arc;
     all = λ n k hn e.
-        let hw = W.direction k e.way e.listed in
-        let f = after-form gs F L axial n e.above e.mark e.below e.way (normal-direction n hn) hw e.proper e.labels in
+        let hw = W.direction k e.dir e.listed in
+        let f = after-form gs F L axial n e.pos e.mark e.neg e.dir (normal-direction n hn) hw e.proper e.labels in
         let p = ps.all n hn f in
         let q : Needed p.0.normal k = record {
-          way = e.way;
+          dir = e.dir;
           listed = e.listed;
-          level = level-same n p.0.normal e.way e.way p.2 (way-self e.way hw) e.level;
-          above = e.above;
+          level = level-same n p.0.normal e.dir e.dir p.2 (dir-self e.dir hw) e.level;
+          pos = e.pos;
           mark = e.mark;
-          below = e.below;
-          labels = after-same gs F L axial n p.0.normal e.above e.mark e.below e.way hw e.level p.2 e.labels;
+          neg = e.neg;
+          labels = after-same gs F L axial n p.0.normal e.pos e.mark e.neg e.dir hw e.level p.2 e.labels;
           proper = e.proper;
         } in
-        let a = c.all (spot p.0 k) (lies-pairs spot ps.list (numbers W.list) p.0 k p.1 (at-number W.list k e.way e.listed)) q in
+        let a = c.all (spot p.0 k) (lies-pairs spot ps.list (numbers W.list) p.0 k p.1 (at-number W.list k e.dir e.listed)) q in
         let s = r.all a.0 a.1 in
         let i = lies-at r.list s.0 s.1 in
         (i.0, s.0, i.1, same-source k a.0 s.0 s.2 a.2.source, same-normal n p.0.normal a.0 s.0 s.2 a.2.normal p.2);

@@ -12,8 +12,8 @@ use Rattle.law_sphere.specs.Forms.{SameSigns}
 use Rattle.law_sphere.specs.Least.{by_side}
 use Rattle.law_sphere.specs.Labelling.{Labelling, Near, StraightAt}
 use Rattle.law_sphere.proofs.Generic.{amount, far-keeps, far-level}
-use Rattle.law_sphere.proofs.Labels.{way-signs}
-use Rattle.law_sphere.proofs.Turn.{way-directed}
+use Rattle.law_sphere.proofs.Labels.{dir-signs}
+use Rattle.law_sphere.proofs.Turn.{dir-directed}
 use Rattle.law_sphere.proofs.Flips.{Axial, far_directed-by}
 
 -- ---- signs
@@ -80,7 +80,7 @@ parallel-signs g h d e hg p s = one d ∙ ap (sign_times (sign (dot g h))) s ∙
 
 -- the same plane from its two normals
 pub plane-signs : (n u d : Vector) → SameDirection n u → sign (dot u d) ≡ sign (dot n d)
-plane-signs n u d w = ap sign (dot-comm u d) ∙ way-signs n u d (way-directed n u w) w ∙ ap sign (dot-comm d n)
+plane-signs n u d w = ap sign (dot-comm u d) ∙ dir-signs n u d (dir-directed n u w) w ∙ ap sign (dot-comm d n)
 
 -- ---- near labels
 module _ (gs : List Vector) (F : Vector → Label → Type 0) (L : Labelling gs F) (axial : Axial gs) where
@@ -126,8 +126,8 @@ module _ (gs : List Vector) (F : Vector → Label → Type 0) (L : Labelling gs 
   }
 
   -- the labels of a straight direction are one
-  pub straight-above : (n : Vector) (a m b : Label) (z e : Vector) (l : Label) → IsDirection z → StraightAt F n a m b z → pos 0 <ℤ dot n e → Near F z e l → a ≡ l
-  straight-above n a m b z e l h p q f = near-one z e a l h (subst (Near F z e) (ap (by_side a m b) (sign-plus (dot n e) q)) (p.near e)) f
+  pub straight-pos : (n : Vector) (a m b : Label) (z e : Vector) (l : Label) → IsDirection z → StraightAt F n a m b z → pos 0 <ℤ dot n e → Near F z e l → a ≡ l
+  straight-pos n a m b z e l h p q f = near-one z e a l h (subst (Near F z e) (ap (by_side a m b) (sign-plus (dot n e) q)) (p.near e)) f
 
-  pub straight-below : (n : Vector) (a m b : Label) (z e : Vector) (l : Label) → IsDirection z → StraightAt F n a m b z → dot n e <ℤ pos 0 → Near F z e l → b ≡ l
-  straight-below n a m b z e l h p q f = near-one z e b l h (subst (Near F z e) (ap (by_side a m b) (sign-minus (dot n e) q)) (p.near e)) f
+  pub straight-neg : (n : Vector) (a m b : Label) (z e : Vector) (l : Label) → IsDirection z → StraightAt F n a m b z → dot n e <ℤ pos 0 → Near F z e l → b ≡ l
+  straight-neg n a m b z e l h p q f = near-one z e b l h (subst (Near F z e) (ap (by_side a m b) (sign-minus (dot n e) q)) (p.near e)) f

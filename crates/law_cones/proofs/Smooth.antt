@@ -22,7 +22,7 @@ use Rattle.law_sphere.proofs.Places.{direction-decided}
 use Rattle.law_sphere.proofs.Kind.{away, away-dot}
 use Rattle.law_sphere.proofs.Flips.{label-eq, Axial}
 use Rattle.law_cones.proofs.Listing.{lies-at, at-lies}
-use Rattle.law_cones.proofs.Signs.{leading, leading-self, leading-same, leading-off, far-leading, parallel-signs, near-of, near-at, near-by_signs, straight-above, straight-below}
+use Rattle.law_cones.proofs.Signs.{leading, leading-self, leading-same, leading-off, far-leading, parallel-signs, near-of, near-at, near-by_signs, straight-pos, straight-neg}
 
 -- where two planes meet in a line and a form is nought both there and across, it is a multiple of the first plane's
 pub parallel-by : (n d g : Vector) → IsDirection d → dot n d ≡ pos 0 → dot g d ≡ pos 0 → dot g (cross n d) ≡ pos 0 → IsZero (cross n g)
@@ -116,8 +116,8 @@ module _ (gs : List Vector) (F : Vector → Label → Type 0) (L : Labelling gs 
           let x = turned n k in
           let y = turned (away n) j in
           let w = away-dot n n in
-          proper (straight-above gs F L axial n a m b d (blend k c 1 n) m hd p (omega (arith, ints)) (flat n k (omega arith)))
-          (straight-below gs F L axial n a m b d (blend j c 1 (away n)) m hd p (omega (arith, ints)) (flat (away n) j (omega arith)))
+          proper (straight-pos gs F L axial n a m b d (blend k c 1 n) m hd p (omega (arith, ints)) (flat n k (omega arith)))
+          (straight-neg gs F L axial n a m b d (blend j c 1 (away n)) m hd p (omega (arith, ints)) (flat (away n) j (omega arith)))
 
     pub proper-form : FormOf n
     proper-form = by (search_list gs (λ k g. IsDirection g × IsZero (cross n g)) (λ k g. decided-both (direction-decided g) (zero-decided (cross n g))))

@@ -16,13 +16,13 @@ use Rattle.law_sphere.specs.Labelling.{Labelling, Near, PlainAt, StraightAt, IsS
 use Rattle.law_sphere.specs.Builds.{Proper}
 use Rattle.law_sphere.proofs.Lists.{Found, search_list}
 use Rattle.law_sphere.proofs.Places.{direction-decided}
-use Rattle.law_sphere.proofs.Labels.{way-signs, way-direction}
+use Rattle.law_sphere.proofs.Labels.{dir-signs, dir-direction}
 use Rattle.law_sphere.proofs.Around.{Beside, same_way, other_way, beside}
-use Rattle.law_sphere.proofs.Compare.{way-self}
+use Rattle.law_sphere.proofs.Compare.{dir-self}
 use Rattle.law_sphere.proofs.Kind.{away, away-dot}
 use Rattle.law_sphere.proofs.Flips.{label-eq, dot-away, away-direction, flipped, straight-same_way, Axial}
 use Rattle.law_cones.proofs.Listing.{lies-at}
-use Rattle.law_cones.proofs.Signs.{leading, near-of, near-by_signs, near-one, straight-carried, straight-above, straight-below}
+use Rattle.law_cones.proofs.Signs.{leading, near-of, near-by_signs, near-one, straight-carried, straight-pos, straight-neg}
 use Rattle.law_cones.proofs.Smooth.{FormOf, proper-form, away-cross, proper-decided, even-side, even-or, label, beyond}
 
 module _ (gs : List Vector) (F : Vector → Label → Type 0) (L : Labelling gs F) (axial : Axial gs) where
@@ -67,9 +67,9 @@ module _ (gs : List Vector) (F : Vector → Label → Type 0) (L : Labelling gs 
     straight-named n a c b hn p =
         let q = self-pos n hn in
         let w = away-dot n n in (
-          straight-above gs F L axial n a c b d n _ h p q (near-of gs F L axial d n h).1,
+          straight-pos gs F L axial n a c b d n _ h p q (near-of gs F L axial d n h).1,
           L.one d c m h p.at_d (L.exists d h).1,
-          straight-below gs F L axial n a c b d (away n) _ h p (omega (arith, ints)) (near-of gs F L axial d (away n) h).1,
+          straight-neg gs F L axial n a c b d (away n) _ h p (omega (arith, ints)) (near-of gs F L axial d (away n) h).1,
         )
 
     pub named : (n : Vector) (a c b : Label) → IsDirection n → StraightAt F n a c b d → Straight n
@@ -112,14 +112,14 @@ module _ (gs : List Vector) (F : Vector → Label → Type 0) (L : Labelling gs 
   smooth-same d e h w s = by s
     where
       he : IsDirection e
-      he = way-direction d e w
+      he = dir-direction d e w
 
       same : SameSigns gs d e
-      same g l = way-signs d e g h w
+      same g l = dir-signs d e g h w
 
       by : IsSmooth F d → IsSmooth F e
       by (plain m p) = plain m (record {
         at_d = L.cells d e m h he same p.at_d;
         near = λ u. near-by_signs gs F L axial d u e u m h he (λ g l. ap (λ r. leading r (sign (dot g u))) (same g l)) (p.near u);
       })
-      by (straight n a m b hn p) = straight n a m b hn (straight-carried gs F L axial n n a m b d e h he (way-self n hn) (same-nought (dot n d) (dot n e) (way-signs d e n h w) p.level) same p)
+      by (straight n a m b hn p) = straight n a m b hn (straight-carried gs F L axial n n a m b d e h he (dir-self n hn) (same-nought (dot n d) (dot n e) (dir-signs d e n h w) p.level) same p)

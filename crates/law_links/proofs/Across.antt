@@ -15,12 +15,12 @@ use Rattle.law_near.proofs.Edges.{even-until, start-close}
 use Rattle.law_forms.proofs.Near.{reach_all}
 use Rattle.law_forms.proofs.Between.{between-same}
 use Rattle.law_forms.proofs.Directions.{factor-same, direction-left, direction-right}
-use Rattle.law_sphere.specs.Maps.{At, Item, arc_item, item_normal, way_of, OnItem}
+use Rattle.law_sphere.specs.Maps.{At, Item, arc_item, item_normal, dir_of, OnItem}
 use Rattle.law_sphere.proofs.Vectors.{same-plus, same-minus, normal-is}
 use Rattle.law_sphere.proofs.Forms.{on-level}
 use Rattle.law_sphere.proofs.Lists.{at-one}
-use Rattle.law_sphere.proofs.Shot.{way-at}
-use Rattle.law_sphere.proofs.Compare.{SameDirection-turned, SameDirection-trans, way-self}
+use Rattle.law_sphere.proofs.Shot.{dir-at}
+use Rattle.law_sphere.proofs.Compare.{SameDirection-turned, SameDirection-trans, dir-self}
 use Rattle.law_sphere.proofs.Turn.{turn-same}
 use Rattle.law_sphere.proofs.Arcs.{at-arc, level-same}
 use Rattle.law_complex.specs.Complexes.{Vertex, Edge, Complex, Corner, HasEnds, IsCorner}
@@ -44,10 +44,10 @@ pub record IsAcross (s : Set) (C : Complex) (n : Vector) (y : Place) (k : Corner
   pub vertex : Vertex
   pub item : Item
   pub corner : IsCorner C k vertex item
-  pub way : Vector
-  pub on : OnItem vertex.map item way
+  pub dir : Vector
+  pub on : OnItem vertex.map item dir
   pub same : SameDirection (item_normal item) n
-  pub tied : IsTied s y (ahead s vertex.point way)
+  pub tied : IsTied s y (ahead s vertex.point dir)
 
 module _ (s : Set) (C : Complex) (S : Shows s C) (h : Form) (y : Place) (on : form_at h y ≡ pos 0) (F : IsFlatIn s h y) (d : Vector) (level : slope h d ≡ pos 0) where
   abbrev n : Vector
@@ -86,7 +86,7 @@ module _ (s : Set) (C : Complex) (S : Shows s C) (h : Form) (y : Place) (on : fo
           vertex = v;
           item = x;
           corner = c;
-          way = opposite d;
+          dir = opposite d;
           on = o;
           same = r;
           tied = tied-back v.point (subst (λ (w : Vertex). SamePlace w.point z) same e);
@@ -100,7 +100,7 @@ module _ (s : Set) (C : Complex) (S : Shows s C) (h : Form) (y : Place) (on : fo
         along (subst (λ (j : Vertex). HasEnds C e j w) one G') (subst (λ (j : Vertex). IsBetween j.point z w.point) one t)
       where
         corner : IsCorner C k v (arc_item c)
-        corner = record { vertex = subst (λ (j : ℕ). At C.vertices j v) (sym f) l; item = at-arc v.map.arcs v.map.loop k.item c o }
+        corner = record { vertex = subst (λ (j : ℕ). At C.vertices j v) (sym f) l; item = at-arc v.map.arcs v.map.sloop k.item c o }
 
         along : HasEnds C e v w → IsBetween v.point z w.point → IsAcross s C n y k
         along H t =
@@ -108,23 +108,23 @@ module _ (s : Set) (C : Complex) (S : Shows s C) (h : Form) (y : Place) (on : fo
             let q = opposite d in
             let back = ahead-back y z d I.ahead in
             let some = direction-right (toward z y) q back in
-            let way : way_of v.map.svertices e.low_svertex ≡ W.low.way = way-at v.map.svertices e.low_svertex W.low W.is_low in
-            let turn = turn-same n c.normal W.low.way W.low.way q q (SameDirection-turned c.normal n r) (way-self W.low.way (direction-right (toward v.point w.point) W.low.way W.onward)) (way-self q some) in
-            let flat = level-same n c.normal q q (SameDirection-turned c.normal n r) (way-self q some) level-back in
-            let ends : EndsOnSide e.low_svertex W.low.way q c = ⊎_elim
-            (λ x. inl (x.0, same-plus (triple n W.low.way q) (triple c.normal W.low.way q) turn (subst (λ (b : Vector). pos 0 <ℤ triple n b q) way x.1)))
-            (λ x. inr (x.0, same-minus (triple n W.low.way q) (triple c.normal W.low.way q) turn (subst (λ (b : Vector). triple n b q <ℤ pos 0) way x.1))) side in
+            let way : dir_of v.map.svertices e.low_svertex ≡ W.low.dir = dir-at v.map.svertices e.low_svertex W.low W.is_low in
+            let turn = turn-same n c.normal W.low.dir W.low.dir q q (SameDirection-turned c.normal n r) (dir-self W.low.dir (direction-right (toward v.point w.point) W.low.dir W.onward)) (dir-self q some) in
+            let flat = level-same n c.normal q q (SameDirection-turned c.normal n r) (dir-self q some) level-back in
+            let ends : EndsOnSide e.low_svertex W.low.dir q c = ⊎_elim
+            (λ x. inl (x.0, same-plus (triple n W.low.dir q) (triple c.normal W.low.dir q) turn (subst (λ (b : Vector). pos 0 <ℤ triple n b q) way x.1)))
+            (λ x. inr (x.0, same-minus (triple n W.low.dir q) (triple c.normal W.low.dir q) turn (subst (λ (b : Vector). triple n b q <ℤ pos 0) way x.1))) side in
             let near = close_way s C S k v c corner e.low_svertex W.low W.is_low q in
-            let beside = ahead s (ahead s v.point W.low.way) q in
+            let beside = ahead s (ahead s v.point W.low.dir) q in
             record {
               vertex = v;
               item = arc_item c;
               corner = corner;
-              way = near;
+              dir = near;
               on = on-close s C S k v c corner e.low_svertex W.low W.is_low q flat ends;
               same = r;
               tied = tied-both s y (ahead s z q) (ahead s v.point near) (tied-back z (same-itself z))
-                  (tied-both s (ahead s z q) beside (ahead s v.point near) (tied-ahead s z (ahead s v.point W.low.way) q (tied-low s C S i e v w a H z t))
+                  (tied-both s (ahead s z q) beside (ahead s v.point near) (tied-ahead s z (ahead s v.point W.low.dir) q (tied-low s C S i e v w a H z t))
                   (tied-close_way s C S k v c corner e.low_svertex W.low W.is_low q));
             }
 
@@ -205,15 +205,15 @@ module _ (s : Set) (C : Complex) (S : Shows s C) (j k : Corner) (L : LinkAcross 
           vertex = v;
           item = x;
           corner = L.corner;
-          way = d;
+          dir = d;
           on = L.inward;
           other_vertex = A.vertex;
           other_item = A.item;
           other_corner = A.corner;
-          other_way = A.way;
+          other_way = A.dir;
           other_on = A.on;
           one_normal = SameDirection-trans (item_normal x) (normal_of plane) (item_normal A.item) (through-same (item_normal x) p n-some) (SameDirection-turned (item_normal A.item) (normal_of plane) A.same);
-          tied = tied-both s (ahead s p d) y (ahead s A.vertex.point A.way)
+          tied = tied-both s (ahead s p d) y (ahead s A.vertex.point A.dir)
               (tied-cell s (ahead s p d) y (beside-cell s p d (ahead s p d) y (beside-ahead s p d) (beside-close s p d y (start-close (reach_all (carriers s) p) p I.place) way))) A.tied;
         }
 

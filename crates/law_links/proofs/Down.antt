@@ -13,10 +13,10 @@ use Rattle.law_near.proofs.NearGerms.{steep}
 use Rattle.law_near.proofs.Rays.{signs-same, same-place_sym}
 use Rattle.law_near.proofs.Between.{between-turned, between-inner}
 use Rattle.law_forms.proofs.Directions.{self-pos, direction-left}
-use Rattle.law_sphere.specs.Maps.{At, item_normal, item_above, item_mark, item_below, HasSide, Sees}
+use Rattle.law_sphere.specs.Maps.{At, item_normal, item_pos, item_mark, item_neg, HasSide, Sees}
 use Rattle.law_sphere.proofs.Vectors.{normal-is}
 use Rattle.law_sphere.proofs.Lists.{at-one}
-use Rattle.law_sphere.proofs.Shot.{way-at}
+use Rattle.law_sphere.proofs.Shot.{dir-at}
 use Rattle.law_sphere.proofs.Compare.{SameDirection-turned, SameDirection-trans}
 use Rattle.law_complex.specs.Complexes.{Vertex, Edge, Complex, Corner, HasEnds}
 use Rattle.law_complex.specs.Shows.{Shows}
@@ -36,7 +36,7 @@ use Rattle.law_links.proofs.NearVertex.{tied-off}
 use Rattle.law_links.proofs.EdgeEnds.{edge-ways, tied-low, tied-turn}
 use Rattle.law_links.proofs.Across.{corner-across, through-same}
 use Rattle.law_links.proofs.SidePoints.{at-side}
-use Rattle.law_links.proofs.SideLinks.{JoinsSides, PointTied, above-point}
+use Rattle.law_links.proofs.SideLinks.{JoinsSides, PointTied, pos-point}
 
 module _ (s : Set) (C : Complex) (S : Shows s C) where
   pub facet-at : FacetAt s C
@@ -82,10 +82,10 @@ module _ (s : Set) (C : Complex) (S : Shows s C) where
         let one = at-one C.vertices e.low u v G'.low c in
         let H = subst (λ (j : Vertex). HasEnds C e j w) one G' in
         let W = edge-ways s C S k e v w a H in
-        let d = W.low.way in
+        let d = W.low.dir in
         let n = sight.0 + steep (carriers s) up in
         let m = subst (λ (i : ℕ). At C.vertices i v) (sym f) c in
-        let sees = subst (λ (r : Vector). Sees v.map y.side (blend n r 1 up)) (way-at v.map.svertices e.low_svertex W.low W.is_low) (sight.1 n (omega arith)) in
+        let sees = subst (λ (r : Vector). Sees v.map y.side (blend n r 1 up)) (dir-at v.map.svertices e.low_svertex W.low W.is_low) (sight.1 n (omega arith)) in
         let q = ahead s v.point (blend n d 1 up) in
         let p = ahead s (ahead s v.point d) up in (
           q,
@@ -102,11 +102,11 @@ module _ (s : Set) (C : Complex) (S : Shows s C) where
         let some = normal-is (S.cones H.beside.vertex H.vertex H.is_beside.vertex).valid.shaped H.beside.item H.item H.is_beside.item in
         let A = corner-across s C S z k H in
         let high = sign-plus (dot n up) (upright H.beside H.vertex H.item H.is_beside) in
-        let turn = tied-off s z n (item_above H.item) (item_mark H.item) (item_below H.item) F.sided up n (λ o. let x : plus ≡ nought = sym high ∙ o in cc) (sign-plus (dot n n) (self-pos n some) ∙ sym high) in
-        let q = ahead s A.vertex.point A.way in
+        let turn = tied-off s z n (item_pos H.item) (item_mark H.item) (item_neg H.item) F.sided up n (λ o. let x : plus ≡ nought = sym high ∙ o in cc) (sign-plus (dot n n) (self-pos n some) ∙ sym high) in
+        let q = ahead s A.vertex.point A.dir in
         let m = item_normal A.item in
         let way = SameDirection-trans n (normal_of plane) m (through-same n p some) (SameDirection-turned m (normal_of plane) A.same) in
-        let P = above-point s C S k A.vertex A.item A.corner A.way A.on y f e in (
+        let P = pos-point s C S k A.vertex A.item A.corner A.dir A.on y f e in (
           P.0,
           P.1,
           tied-both s (ahead s z up) (ahead s z n) P.0 turn

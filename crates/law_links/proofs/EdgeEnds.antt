@@ -16,12 +16,12 @@ use Rattle.law_near.proofs.FlatDecided.{triple-dot}
 use Rattle.law_near.proofs.Supports.{square-cross}
 use Rattle.law_forms.proofs.Directions.{self-pos, direction-left, direction-right}
 use Rattle.law_sphere.specs.Forms.{forms}
-use Rattle.law_sphere.specs.Maps.{At, Svertex, Arc, Item, arc_item, item_normal, way_of, OnItem, Shaped}
+use Rattle.law_sphere.specs.Maps.{At, MapVertex, Arc, Item, arc_item, item_normal, dir_of, OnItem, Shaped}
 use Rattle.law_sphere.proofs.Vectors.{dot-comb, normal-is, same-plus, same-minus, nought-if}
 use Rattle.law_sphere.proofs.Generic.{amount}
 use Rattle.law_sphere.proofs.Lists.{at-one}
-use Rattle.law_sphere.proofs.Shot.{way-at, arc-at}
-use Rattle.law_sphere.proofs.Compare.{SameDirection-trans, way-self}
+use Rattle.law_sphere.proofs.Shot.{dir-at, arc-at}
+use Rattle.law_sphere.proofs.Compare.{SameDirection-trans, dir-self}
 use Rattle.law_sphere.proofs.Turn.{turn-same}
 use Rattle.law_sphere.proofs.Arcs.{at-arc, ends-of, level-same}
 use Rattle.law_complex.specs.Complexes.{Vertex, Edge, Complex, Corner, HasEnds, IsCorner}
@@ -37,12 +37,12 @@ use Rattle.law_links.proofs.Ties.{ahead-ahead, IsTied, tied-cell, tied-turned, t
 -- ---- the ends of an edge
 -- the svertices from which an edge goes
 pub record EdgeWays (e : Edge) (v w : Vertex) : Type 0 where
-  pub low : Svertex
-  pub high : Svertex
+  pub low : MapVertex
+  pub high : MapVertex
   pub is_low : At v.map.svertices e.low_svertex low
   pub is_high : At w.map.svertices e.high_svertex high
-  pub onward : SameDirection (toward v.point w.point) low.way
-  pub back : IsOpposite low.way high.way
+  pub onward : SameDirection (toward v.point w.point) low.dir
+  pub back : IsOpposite low.dir high.dir
 
 pub opposite-way : (d e : Vector) → IsOpposite d e → SameDirection (opposite d) e
 opposite-way d e o = record {
@@ -71,22 +71,22 @@ module _ (s : Set) (C : Complex) (S : Shows s C) (k : ℕ) (e : Edge) (v w : Ver
   even-behind y b r (inl c) = (edge-points s C k e v w r S a H (between-turned w.point v.point r (between-inner w.point y v.point r (between-turned v.point w.point y b) c))).0
   even-behind y b r (inr f) = dim-same s y r 1 (same-place_sym r y f) (edge-points s C k e v w y S a H b).0
 
-  pub tied-low : (y : Place) → IsBetween v.point y w.point → IsTied s y (ahead s v.point edge-ways.low.way)
-  tied-low y b = tied-ray s 1 v.point y edge-ways.low.way (SameDirection-trans (toward v.point y) (toward v.point w.point) edge-ways.low.way (between-way v.point y w.point b) edge-ways.onward) (even-before y b)
+  pub tied-low : (y : Place) → IsBetween v.point y w.point → IsTied s y (ahead s v.point edge-ways.low.dir)
+  tied-low y b = tied-ray s 1 v.point y edge-ways.low.dir (SameDirection-trans (toward v.point y) (toward v.point w.point) edge-ways.low.dir (between-way v.point y w.point b) edge-ways.onward) (even-before y b)
 
-  pub tied-high : (y : Place) → IsBetween v.point y w.point → IsTied s y (ahead s w.point edge-ways.high.way)
+  pub tied-high : (y : Place) → IsBetween v.point y w.point → IsTied s y (ahead s w.point edge-ways.high.dir)
   tied-high y b =
       let E = edge-ways in
       let c = between-turned v.point w.point y b in
-      tied-ray s 1 w.point y E.high.way (SameDirection-trans (toward w.point y) (toward w.point v.point) E.high.way (between-way w.point y v.point c)
-      (SameDirection-trans (toward w.point v.point) (opposite E.low.way) E.high.way (ahead-back v.point w.point E.low.way E.onward) (opposite-way E.low.way E.high.way E.back))) (even-behind y b)
+      tied-ray s 1 w.point y E.high.dir (SameDirection-trans (toward w.point y) (toward w.point v.point) E.high.dir (between-way w.point y v.point c)
+      (SameDirection-trans (toward w.point v.point) (opposite E.low.dir) E.high.dir (ahead-back v.point w.point E.low.dir E.onward) (opposite-way E.low.dir E.high.dir E.back))) (even-behind y b)
 
   -- so the points close to both ends are tied, beside the edge too
-  pub ends-tied : IsTied s (ahead s v.point edge-ways.low.way) (ahead s w.point edge-ways.high.way)
+  pub ends-tied : IsTied s (ahead s v.point edge-ways.low.dir) (ahead s w.point edge-ways.high.dir)
   ends-tied =
       let y = near_point s v.point w.point in
-      let b = near-between s v.point w.point (direction-left (toward v.point w.point) edge-ways.low.way edge-ways.onward) in
-      tied-both s (ahead s v.point edge-ways.low.way) y (ahead s w.point edge-ways.high.way) (tied-turned s y (ahead s v.point edge-ways.low.way) (tied-low y b)) (tied-high y b)
+      let b = near-between s v.point w.point (direction-left (toward v.point w.point) edge-ways.low.dir edge-ways.onward) in
+      tied-both s (ahead s v.point edge-ways.low.dir) y (ahead s w.point edge-ways.high.dir) (tied-turned s y (ahead s v.point edge-ways.low.dir) (tied-low y b)) (tied-high y b)
 
 -- off p toward u, and from there toward f
 pub tied-turn : (s : Set) (p : Place) (u f : Vector) (k : ℕ) → steep (carriers s) f ≤ k → IsTied s (ahead s (ahead s p u) f) (ahead s p (blend k u 1 f))
@@ -97,27 +97,27 @@ tied-turn s p u f k large = tied-cell s (ahead s (ahead s p u) f) (ahead s p (bl
 abbrev pub EndsOnSide : ℕ → Vector → Vector → Arc → Type 0
 EndsOnSide j u f c = ((c.source ≡ j) × (pos 0 <ℤ triple c.normal u f)) ⊎ ((c.target ≡ j) × (triple c.normal u f <ℤ pos 0))
 
-module _ (s : Set) (C : Complex) (S : Shows s C) (k : Corner) (v : Vertex) (c : Arc) (corner : IsCorner C k v (arc_item c)) (j : ℕ) (u : Svertex) (b : At v.map.svertices j u) where
+module _ (s : Set) (C : Complex) (S : Shows s C) (k : Corner) (v : Vertex) (c : Arc) (corner : IsCorner C k v (arc_item c)) (j : ℕ) (u : MapVertex) (b : At v.map.svertices j u) where
   abbrev V : Shaped v.map
   V = (S.cones k.vertex v corner.vertex).valid.shaped
 
-  pub end-level : (c.source ≡ j) ⊎ (c.target ≡ j) → dot c.normal u.way ≡ pos 0
+  pub end-level : (c.source ≡ j) ⊎ (c.target ≡ j) → dot c.normal u.dir ≡ pos 0
   end-level =
-      let E = ends-of v.map V k.item c (arc-at v.map.arcs v.map.loop k.item c corner.item) in
-      let w = way-at v.map.svertices j u b in
+      let E = ends-of v.map V k.item c (arc-at v.map.arcs v.map.sloop k.item c corner.item) in
+      let w = dir-at v.map.svertices j u b in
       ⊎_elim
-      (λ e. subst (λ (d : Vector). dot c.normal d ≡ pos 0) w (subst (λ (i : ℕ). dot c.normal (way_of v.map.svertices i) ≡ pos 0) e E.source_level))
-      (λ e. subst (λ (d : Vector). dot c.normal d ≡ pos 0) w (subst (λ (i : ℕ). dot c.normal (way_of v.map.svertices i) ≡ pos 0) e E.target_level))
+      (λ e. subst (λ (d : Vector). dot c.normal d ≡ pos 0) w (subst (λ (i : ℕ). dot c.normal (dir_of v.map.svertices i) ≡ pos 0) e E.source_level))
+      (λ e. subst (λ (d : Vector). dot c.normal d ≡ pos 0) w (subst (λ (i : ℕ). dot c.normal (dir_of v.map.svertices i) ≡ pos 0) e E.target_level))
 
   -- a direction on the arc close to the svertex
   abbrev pub close_way : Vector → Vector
-  close_way f = blend (amount (forms v.map) f + steep (carriers s) f) u.way 1 f
+  close_way f = blend (amount (forms v.map) f + steep (carriers s) f) u.dir 1 f
 
-  module _ (f : Vector) (level : dot c.normal f ≡ pos 0) (side : EndsOnSide j u.way f c) where
-    level-close : dot c.normal u.way ≡ pos 0 → dot c.normal (close_way f) ≡ pos 0
+  module _ (f : Vector) (level : dot c.normal f ≡ pos 0) (side : EndsOnSide j u.dir f c) where
+    level-close : dot c.normal u.dir ≡ pos 0 → dot c.normal (close_way f) ≡ pos 0
     level-close z =
         let i = amount (forms v.map) f + steep (carriers s) f in
-        dot-comb c.normal (pos i) u.way (pos 1) f ∙ ap (λ r. pos i *ℤ r +ℤ pos 1 *ℤ dot c.normal f) z ∙ ap (λ r. pos i *ℤ pos 0 +ℤ pos 1 *ℤ r) level ∙ ring (pos i ∷ []) (at 0 ⊗ num (pos 0) ⊕ num (pos 1) ⊗ num (pos 0)) (num (pos 0)) tt
+        dot-comb c.normal (pos i) u.dir (pos 1) f ∙ ap (λ r. pos i *ℤ r +ℤ pos 1 *ℤ dot c.normal f) z ∙ ap (λ r. pos i *ℤ pos 0 +ℤ pos 1 *ℤ r) level ∙ ring (pos i ∷ []) (at 0 ⊗ num (pos 0) ⊕ num (pos 1) ⊗ num (pos 0)) (num (pos 0)) tt
 
     pub on-close : OnItem v.map (arc_item c) (close_way f)
     on-close =
@@ -126,8 +126,8 @@ module _ (s : Set) (C : Complex) (S : Shows s C) (k : Corner) (v : Vertex) (c : 
         (λ e. source-meets v.map V j u b f i (omega arith) k.item c corner.item (level-close (end-level (inl e.0))) e.0 e.1)
         (λ e. target-meets v.map V j u b f i (omega arith) k.item c corner.item (level-close (end-level (inr e.0))) e.0 e.1) side
 
-  pub tied-close_way : (f : Vector) → IsTied s (ahead s (ahead s v.point u.way) f) (ahead s v.point (close_way f))
-  tied-close_way f = tied-turn s v.point u.way f (amount (forms v.map) f + steep (carriers s) f) (omega arith)
+  pub tied-close_way : (f : Vector) → IsTied s (ahead s (ahead s v.point u.dir) f) (ahead s v.point (close_way f))
+  tied-close_way f = tied-turn s v.point u.dir f (amount (forms v.map) f + steep (carriers s) f) (omega arith)
 
 -- ---- linked items
 -- a point close to the vertex on one item, and one on the other, are tied, and the items have one normal
@@ -135,15 +135,15 @@ pub record AreTiedItems (s : Set) (C : Complex) (j k : Corner) : Type 0 where
   pub vertex : Vertex
   pub item : Item
   pub corner : IsCorner C j vertex item
-  pub way : Vector
-  pub on : OnItem vertex.map item way
+  pub dir : Vector
+  pub on : OnItem vertex.map item dir
   pub other_vertex : Vertex
   pub other_item : Item
   pub other_corner : IsCorner C k other_vertex other_item
   pub other_way : Vector
   pub other_on : OnItem other_vertex.map other_item other_way
   pub one_normal : SameDirection (item_normal item) (item_normal other_item)
-  pub tied : IsTied s (ahead s vertex.point way) (ahead s other_vertex.point other_way)
+  pub tied : IsTied s (ahead s vertex.point dir) (ahead s other_vertex.point other_way)
 
 abbrev pub corner_of : ℕ → ℕ → Corner
 corner_of i j = record { vertex = i; item = j }
@@ -175,79 +175,79 @@ module _ (s : Set) (C : Complex) (S : Shows s C) (k : ℕ) (e : Edge) (a : At C.
   abbrev W : EdgeWays e v w
   W = edge-ways s C S k e v w a A.ends
 
-  abbrev u : Svertex
+  abbrev u : MapVertex
   u = W.low
 
-  abbrev t : Svertex
+  abbrev t : MapVertex
   t = W.high
 
   low-corner : IsCorner C (corner_of e.low i) v (arc_item A.low_arc)
-  low-corner = record { vertex = A.ends.low; item = at-arc v.map.arcs v.map.loop i A.low_arc A.is_low }
+  low-corner = record { vertex = A.ends.low; item = at-arc v.map.arcs v.map.sloop i A.low_arc A.is_low }
 
   high-corner : IsCorner C (corner_of e.high j) w (arc_item A.high_arc)
-  high-corner = record { vertex = A.ends.high; item = at-arc w.map.arcs w.map.loop j A.high_arc A.is_high }
+  high-corner = record { vertex = A.ends.high; item = at-arc w.map.arcs w.map.sloop j A.high_arc A.is_high }
 
   n-some : IsDirection A.low_arc.normal
   n-some = normal-is (S.cones e.low v A.ends.low).valid.shaped i (arc_item A.low_arc) low-corner.item
 
-  u-some : IsDirection u.way
-  u-some = direction-right (toward v.point w.point) u.way W.onward
+  u-some : IsDirection u.dir
+  u-some = direction-right (toward v.point w.point) u.dir W.onward
 
-  along-by : (f : Vector) → dot A.low_arc.normal f ≡ pos 0 → IsDirection f → EndsOnSide e.low_svertex u.way f A.low_arc → EndsOnSide e.high_svertex t.way f A.high_arc → AreTiedItems s C (corner_of e.low i) (corner_of e.high j)
+  along-by : (f : Vector) → dot A.low_arc.normal f ≡ pos 0 → IsDirection f → EndsOnSide e.low_svertex u.dir f A.low_arc → EndsOnSide e.high_svertex t.dir f A.high_arc → AreTiedItems s C (corner_of e.low i) (corner_of e.high j)
   along-by f level some p q =
       let n = A.low_arc.normal in
       let m = A.high_arc.normal in
       let c = close_way s C S (corner_of e.low i) v A.low_arc low-corner e.low_svertex u W.is_low f in
       let d = close_way s C S (corner_of e.high j) w A.high_arc high-corner e.high_svertex t W.is_high f in
-      let x = ahead s (ahead s v.point u.way) f in
-      let y = ahead s (ahead s w.point t.way) f in
+      let x = ahead s (ahead s v.point u.dir) f in
+      let y = ahead s (ahead s w.point t.dir) f in
       record {
         vertex = v;
         item = arc_item A.low_arc;
         corner = low-corner;
-        way = c;
+        dir = c;
         on = on-close s C S (corner_of e.low i) v A.low_arc low-corner e.low_svertex u W.is_low f level p;
         other_vertex = w;
         other_item = arc_item A.high_arc;
         other_corner = high-corner;
         other_way = d;
-        other_on = on-close s C S (corner_of e.high j) w A.high_arc high-corner e.high_svertex t W.is_high f (level-same n m f f A.one_normal (way-self f some) level) q;
+        other_on = on-close s C S (corner_of e.high j) w A.high_arc high-corner e.high_svertex t W.is_high f (level-same n m f f A.one_normal (dir-self f some) level) q;
         one_normal = A.one_normal;
         tied = tied-both s (ahead s v.point c) x (ahead s w.point d)
             (tied-turned s x (ahead s v.point c) (tied-close_way s C S (corner_of e.low i) v A.low_arc low-corner e.low_svertex u W.is_low f))
-            (tied-both s x y (ahead s w.point d) (tied-ahead s (ahead s v.point u.way) (ahead s w.point t.way) f (ends-tied s C S k e v w a A.ends))
+            (tied-both s x y (ahead s w.point d) (tied-ahead s (ahead s v.point u.dir) (ahead s w.point t.dir) f (ends-tied s C S k e v w a A.ends))
             (tied-close_way s C S (corner_of e.high j) w A.high_arc high-corner e.high_svertex t W.is_high f));
       }
 
   -- at the other end the turn is the other one
-  turn-there : (f : Vector) → IsDirection f → sign (triple A.high_arc.normal t.way f) ≡ sign (neg_ℤ (triple A.low_arc.normal u.way f))
-  turn-there f some = turn-same A.low_arc.normal A.high_arc.normal (opposite u.way) t.way f f A.one_normal (opposite-way u.way t.way W.back) (way-self f some) ∙ ap sign (back-turn A.low_arc.normal u.way f)
+  turn-there : (f : Vector) → IsDirection f → sign (triple A.high_arc.normal t.dir f) ≡ sign (neg_ℤ (triple A.low_arc.normal u.dir f))
+  turn-there f some = turn-same A.low_arc.normal A.high_arc.normal (opposite u.dir) t.dir f f A.one_normal (opposite-way u.dir t.dir W.back) (dir-self f some) ∙ ap sign (back-turn A.low_arc.normal u.dir f)
 
   pub along-tied : AreTiedItems s C (corner_of e.low i) (corner_of e.high j)
   along-tied = ⊎_elim from-source from-target A.one_way
     where
-      low-level : (A.low_arc.source ≡ e.low_svertex) ⊎ (A.low_arc.target ≡ e.low_svertex) → dot A.low_arc.normal u.way ≡ pos 0
+      low-level : (A.low_arc.source ≡ e.low_svertex) ⊎ (A.low_arc.target ≡ e.low_svertex) → dot A.low_arc.normal u.dir ≡ pos 0
       low-level o = end-level s C S (corner_of e.low i) v A.low_arc low-corner e.low_svertex u W.is_low o
 
       from-source : (A.low_arc.source ≡ e.low_svertex) × (A.high_arc.target ≡ e.high_svertex) → AreTiedItems s C (corner_of e.low i) (corner_of e.high j)
       from-source o =
           let n = A.low_arc.normal in
-          let f = cross n u.way in
-          let h = left-turn n u.way n-some u-some (low-level (inl o.0)) in
-          let some : IsDirection f = λ z. u-some (nought-if n u.way n-some z (low-level (inl o.0))) in
-          along-by f (square-cross n u.way) some (inl (o.0, h)) (inr (o.1, same-minus (neg_ℤ (triple n u.way f)) (triple A.high_arc.normal t.way f) (turn-there f some) (omega (arith, ints))))
+          let f = cross n u.dir in
+          let h = left-turn n u.dir n-some u-some (low-level (inl o.0)) in
+          let some : IsDirection f = λ z. u-some (nought-if n u.dir n-some z (low-level (inl o.0))) in
+          along-by f (square-cross n u.dir) some (inl (o.0, h)) (inr (o.1, same-minus (neg_ℤ (triple n u.dir f)) (triple A.high_arc.normal t.dir f) (turn-there f some) (omega (arith, ints))))
 
       from-target : (A.low_arc.target ≡ e.low_svertex) × (A.high_arc.source ≡ e.high_svertex) → AreTiedItems s C (corner_of e.low i) (corner_of e.high j)
       from-target o =
           let n = A.low_arc.normal in
-          let g = cross n u.way in
+          let g = cross n u.dir in
           let f = opposite g in
-          let h = left-turn n u.way n-some u-some (low-level (inr o.0)) in
-          let r = right-turn n u.way g in
+          let h = left-turn n u.dir n-some u-some (low-level (inr o.0)) in
+          let r = right-turn n u.dir g in
           let z = dot-opposite n g in
-          let y = square-cross n u.way in
-          let some : IsDirection f = λ z. u-some (nought-if n u.way n-some (back-zero g z) (low-level (inr o.0))) in
-          along-by f (omega (arith, ints)) some (inr (o.0, omega (arith, ints))) (inl (o.1, same-plus (neg_ℤ (triple n u.way f)) (triple A.high_arc.normal t.way f) (turn-there f some) (omega (arith, ints))))
+          let y = square-cross n u.dir in
+          let some : IsDirection f = λ z. u-some (nought-if n u.dir n-some (back-zero g z) (low-level (inr o.0))) in
+          along-by f (omega (arith, ints)) some (inr (o.0, omega (arith, ints))) (inl (o.1, same-plus (neg_ℤ (triple n u.dir f)) (triple A.high_arc.normal t.dir f) (turn-there f some) (omega (arith, ints))))
         where
           back-zero : (g : Vector) → IsZero (opposite g) → IsZero g
           back-zero g z = (let a = z.0 in omega (arith, ints), let a = z.1 in omega (arith, ints), let a = z.2 in omega (arith, ints))

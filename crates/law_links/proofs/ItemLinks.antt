@@ -23,9 +23,9 @@ module _ (s : Set) (C : Complex) (S : Shows s C) where
 
   joins-items : (j k : Corner) → AreTiedItems s C j k → JoinsPoints Corner (FacetLink C) s (IsAtItem s C) j k
   joins-items j k T = (
-    ahead s T.vertex.point T.way,
+    ahead s T.vertex.point T.dir,
     ahead s T.other_vertex.point T.other_way,
-    at-item s C S j T.vertex T.item T.corner T.way T.on,
+    at-item s C S j T.vertex T.item T.corner T.dir T.on,
     at-item s C S k T.other_vertex T.other_item T.other_corner T.other_way T.other_on,
     T.tied.0,
   )

@@ -6,10 +6,10 @@ use Rattle.nef_space.specs.Vectors.{Vector, SameDirection}
 use Rattle.law_near.proofs.Decisions.{ahead}
 use Rattle.law_sphere.specs.Maps.{At, Map, Item, items, OnItem}
 use Rattle.law_sphere.proofs.Forms.{OnItem-by_signs, on-direction}
-use Rattle.law_sphere.proofs.Labels.{way-signs}
+use Rattle.law_sphere.proofs.Labels.{dir-signs}
 use Rattle.law_sphere.proofs.Lists.{at-one}
 use Rattle.law_sphere.proofs.Shot.{item-point}
-use Rattle.law_sphere.proofs.Compare.{SameDirection-turned, way-self}
+use Rattle.law_sphere.proofs.Compare.{SameDirection-turned, dir-self}
 use Rattle.law_complex.specs.Complexes.{Vertex, Complex, Corner, IsCorner}
 use Rattle.law_complex.specs.Shows.{Shows}
 use Rattle.law_links.specs.Components.{IsEvenAfter, IsAtItem, ItemsHavePoints}
@@ -18,7 +18,7 @@ use Rattle.law_links.proofs.NearVertex.{facet-near, item-tied}
 
 -- the same way lies on the item
 pub on_item-way : (M : Map) (x : Item) (d e : Vector) → SameDirection d e → OnItem M x d → OnItem M x e
-on_item-way M x d e w o = OnItem-by_signs M x d e (λ g l. way-signs d e g (on-direction M x d o) w) o
+on_item-way M x d e w o = OnItem-by_signs M x d e (λ g l. dir-signs d e g (on-direction M x d o) w) o
 
 module _ (s : Set) (C : Complex) (S : Shows s C) where
   pub at-item : (k : Corner) (v : Vertex) (x : Item) → IsCorner C k v x → (d : Vector) → OnItem v.map x d → IsAtItem s C k (ahead s v.point d)
@@ -35,7 +35,7 @@ module _ (s : Set) (C : Complex) (S : Shows s C) where
 
   -- a point at an item is tied to the points close to the vertex
   tied-close : (v : Vertex) (x : Item) (p : Place) → OnItem v.map x (toward v.point p) → IsEvenAfter s 2 v.point p → IsTied s p (ahead s v.point (toward v.point p))
-  tied-close v x p o even = tied-ray s 2 v.point p (toward v.point p) (way-self (toward v.point p) (on-direction v.map x (toward v.point p) o)) even
+  tied-close v x p o even = tied-ray s 2 v.point p (toward v.point p) (dir-self (toward v.point p) (on-direction v.map x (toward v.point p) o)) even
 
   pub one-item : (k : Corner) (p q : Place) → IsAtItem s C k p → IsAtItem s C k q → IsTied s p q
   one-item k p q a b =

@@ -11,7 +11,7 @@ use Rattle.law_cyclic.specs.Arcs.{IsStrictlyOn}
 use Rattle.law_near.proofs.Decisions.{ahead, near-ahead}
 use Rattle.law_near.proofs.NearGerms.{sign-large}
 use Rattle.law_sphere.specs.Least.{by_side, Cone}
-use Rattle.law_sphere.specs.Maps.{Map, Arc, Item, arc_item, loop_item, item_normal, item_above, item_mark, item_below, OnItem, IsFree, way_of, Shaped}
+use Rattle.law_sphere.specs.Maps.{Map, Arc, Item, arc_item, sloop_item, item_normal, item_pos, item_mark, item_neg, OnItem, IsFree, dir_of, Shaped}
 use Rattle.law_sphere.proofs.Vectors.{dot-comb, normal-is}
 use Rattle.law_sphere.proofs.Generic.{amount}
 use Rattle.law_sphere.proofs.Labels.{label-exists, mixed-sign}
@@ -69,7 +69,7 @@ module _ (s : Set) (C : Complex) (S : Shows s C) (k : Corner) (v : Vertex) (x : 
 
   pub facet-near : (d : Vector) → OnItem v.map x d → IsInFacetOf s x (ahead s v.point d)
   facet-near d o = in-facet s C S k v x c (ahead s v.point d) (λ e.
-      let l = by_side (item_above x) (item_mark x) (item_below x) (sign (dot (item_normal x) e)) in
+      let l = by_side (item_pos x) (item_mark x) (item_neg x) (sign (dot (item_normal x) e)) in
       (near-ahead s v.point d e l).1 (near-germ v.map s v.point K d e l (near-item v.map K.valid d k.item x c.item o e)))
 
   item-fan : (d e : Vector) → OnItem v.map x d → OnItem v.map x e → ((i j : ℕ) → 0 < i → 0 < j → OnItem v.map x (blend i d j e)) → IsTied s (ahead s v.point d) (ahead s v.point e)
@@ -95,10 +95,10 @@ module _ (s : Set) (C : Complex) (S : Shows s C) (k : Corner) (v : Vertex) where
     n = r.normal
 
     abbrev u : Vector
-    u = way_of v.map.svertices r.source
+    u = dir_of v.map.svertices r.source
 
     abbrev w : Vector
-    w = way_of v.map.svertices r.target
+    w = dir_of v.map.svertices r.target
 
     abbrev y : Vector
     y = past_source n u (amount (cross w n ∷ []) (cross n u))
@@ -106,7 +106,7 @@ module _ (s : Set) (C : Complex) (S : Shows s C) (k : Corner) (v : Vertex) where
     from-y : (f : Vector) → IsStrictlyOn n u w f → Reached y f
     from-y f o =
         let V = (S.cones k.vertex v c.vertex).valid.shaped in
-        let E = ends-of v.map V k.item r (arc-at v.map.arcs v.map.loop k.item r c.item) in
+        let E = ends-of v.map V k.item r (arc-at v.map.arcs v.map.sloop k.item r c.item) in
         arc-all n u w (normal-is V k.item (arc_item r) c.item) E.source_direction E.target_direction E.source_level E.target_level (λ g. Reached y g)
         (λ g h z t. onward y g h (same-way g h z) t)
         (λ g h i j all t. onward y g h (item-fan s C S k v (arc_item r) c g h i j all) t)
@@ -116,7 +116,7 @@ module _ (s : Set) (C : Complex) (S : Shows s C) (k : Corner) (v : Vertex) where
     arc-tied d e a b = onward d y e (from-y e b) (turned y d (from-y d a))
 
   pub item-tied : (x : Item) → IsCorner C k v x → (d e : Vector) → OnItem v.map x d → OnItem v.map x e → IsTied s (ahead s v.point d) (ahead s v.point e)
-  item-tied (loop_item l) c d e a b = circle-all l.normal (normal-is (S.cones k.vertex v c.vertex).valid.shaped k.item (loop_item l) c.item) (λ f. Reached d f)
+  item-tied (sloop_item l) c d e a b = circle-all l.normal (normal-is (S.cones k.vertex v c.vertex).valid.shaped k.item (sloop_item l) c.item) (λ f. Reached d f)
       (λ f g w t. onward d f g (same-way f g w) t)
-      (λ f g i j all t. onward d f g (item-fan s C S k v (loop_item l) c f g i j all) t) d e a b (tied-itself s (ahead s v.point d))
+      (λ f g i j all t. onward d f g (item-fan s C S k v (sloop_item l) c f g i j all) t) d e a b (tied-itself s (ahead s v.point d))
   item-tied (arc_item r) c d e a b = arc-tied r c d e a b

@@ -11,7 +11,7 @@ use Rattle.law_near.proofs.Decisions.{ahead}
 use Rattle.law_near.proofs.NearGerms.{steep}
 use Rattle.law_forms.proofs.Directions.{self-pos, dot-comm, direction-right}
 use Rattle.law_sphere.specs.Forms.{forms}
-use Rattle.law_sphere.specs.Maps.{At, Svertex, Item, item_normal, item_above, item_below, OnItem, Side, around_svertex, above_item, below_item, HasSide, Sees, Shaped}
+use Rattle.law_sphere.specs.Maps.{At, MapVertex, Item, item_normal, item_pos, item_neg, OnItem, Side, around_svertex, pos_item, neg_item, HasSide, Sees, Shaped}
 use Rattle.law_sphere.proofs.Generic.{amount}
 use Rattle.law_sphere.proofs.Vectors.{nought-if, normal-is}
 use Rattle.law_sphere.proofs.Lists.{at-one}
@@ -19,12 +19,12 @@ use Rattle.law_sphere.proofs.Walk.{cross-direction_right}
 use Rattle.law_complex.specs.Complexes.{Vertex, Edge, Complex, Corner, HasEnds, IsCorner}
 use Rattle.law_complex.specs.Shows.{Shows}
 use Rattle.law_complex.specs.Rays.{VertexSide}
-use Rattle.law_links.specs.Links.{IsSideOf, LinkInSface, AreSidesAlong, above_arcs, below_arcs, around_ends, LinkAlongEdge, LinkAcrossFacet, VolumeLink}
+use Rattle.law_links.specs.Links.{IsSideOf, LinkInSface, AreSidesAlong, pos_arcs, neg_arcs, around_ends, LinkAlongEdge, LinkAcrossFacet, VolumeLink}
 use Rattle.law_links.specs.Components.{IsAtSide}
 use Rattle.law_links.proofs.Ties.{ahead-way, IsTied, tied-cell, tied-turned, tied-both, tied-ahead}
 use Rattle.law_links.proofs.EdgeEnds.{edge-ways, ends-tied, tied-turn, AreTiedItems, dot-opposite, along-tied}
 use Rattle.law_links.proofs.Across.{across-tied}
-use Rattle.law_links.proofs.SideSight.{sees-above, sees-below, sees-around, lone-of, aside, side-sees}
+use Rattle.law_links.proofs.SideSight.{sees-pos, sees-neg, sees-around, lone-of, aside, side-sees}
 use Rattle.law_links.proofs.SidePoints.{at-side, level-opposite, one-sface}
 use Rattle.law_links.proofs.Chains.{JoinsPoints}
 
@@ -65,51 +65,51 @@ module _ (s : Set) (C : Complex) (S : Shows s C) where
     tied-beside : (f : Vector) → IsTied s (ahead s (ahead s v.point d) f) (ahead s v.point (beside f))
     tied-beside f = tied-turn s v.point d f (amount (forms v.map) f + steep (carriers s) f) (omega arith)
 
-    pub above-point : y.side ≡ above_item k.item → PointTied s C y (ahead s (ahead s v.point d) n)
-    above-point f =
+    pub pos-point : y.side ≡ pos_item k.item → PointTied s C y (ahead s (ahead s v.point d) n)
+    pos-point f =
         let h = n-long in
         let g = beside n in
-        let sight = sees-above v.map V k.item x c.item d n o (λ z. omega (arith, ints)) (amount (forms v.map) n + steep (carriers s) n) (omega arith) h in
+        let sight = sees-pos v.map V k.item x c.item d n o (λ z. omega (arith, ints)) (amount (forms v.map) n + steep (carriers s) n) (omega arith) h in
         let t = sym f in (
           ahead s v.point g,
-          at-side s C S y v (item_above x) listed (subst (λ (r : Side). HasSide v.map r (item_above x)) t (x, c.item, refl)) g (subst (λ (r : Side). Sees v.map r g) t sight),
+          at-side s C S y v (item_pos x) listed (subst (λ (r : Side). HasSide v.map r (item_pos x)) t (x, c.item, refl)) g (subst (λ (r : Side). Sees v.map r g) t sight),
           tied-beside n,
         )
 
-    pub below-point : y.side ≡ below_item k.item → PointTied s C y (ahead s (ahead s v.point d) (opposite n))
-    below-point f =
+    pub neg-point : y.side ≡ neg_item k.item → PointTied s C y (ahead s (ahead s v.point d) (opposite n))
+    neg-point f =
         let h = n-long in
         let r = dot-opposite n n in
         let m = opposite n in
         let g = beside m in
-        let sight = sees-below v.map V k.item x c.item d m o (λ z. omega (arith, ints)) (amount (forms v.map) m + steep (carriers s) m) (omega arith) (omega (arith, ints)) in
+        let sight = sees-neg v.map V k.item x c.item d m o (λ z. omega (arith, ints)) (amount (forms v.map) m + steep (carriers s) m) (omega arith) (omega (arith, ints)) in
         let t = sym f in (
           ahead s v.point g,
-          at-side s C S y v (item_below x) listed (subst (λ (r : Side). HasSide v.map r (item_below x)) t (x, c.item, refl)) g (subst (λ (r : Side). Sees v.map r g) t sight),
+          at-side s C S y v (item_neg x) listed (subst (λ (r : Side). HasSide v.map r (item_neg x)) t (x, c.item, refl)) g (subst (λ (r : Side). Sees v.map r g) t sight),
           tied-beside m,
         )
 
   -- ---- the same sides of tied items
   module _ (j k : Corner) (T : AreTiedItems s C j k) (x y : VertexSide) (e : x.vertex ≡ j.vertex) (f : y.vertex ≡ k.vertex) where
     -- from the points beside the one to those beside the other
-    between : (g h : Vector) → SameDirection g h → IsTied s (ahead s (ahead s T.vertex.point T.way) g) (ahead s (ahead s T.other_vertex.point T.other_way) h)
+    between : (g h : Vector) → SameDirection g h → IsTied s (ahead s (ahead s T.vertex.point T.dir) g) (ahead s (ahead s T.other_vertex.point T.other_way) h)
     between g h w =
-        let p = ahead s T.vertex.point T.way in
+        let p = ahead s T.vertex.point T.dir in
         let q = ahead s T.other_vertex.point T.other_way in
         tied-both s (ahead s p g) (ahead s q g) (ahead s q h) (tied-ahead s p q g T.tied) (tied-cell s (ahead s q g) (ahead s q h) (ahead-way s q g h w))
 
-    joins-by : (g h : Vector) → SameDirection g h → PointTied s C x (ahead s (ahead s T.vertex.point T.way) g) → PointTied s C y (ahead s (ahead s T.other_vertex.point T.other_way) h) → JoinsSides s C x y
+    joins-by : (g h : Vector) → SameDirection g h → PointTied s C x (ahead s (ahead s T.vertex.point T.dir) g) → PointTied s C y (ahead s (ahead s T.other_vertex.point T.other_way) h) → JoinsSides s C x y
     joins-by g h w P Q =
-        let p = ahead s (ahead s T.vertex.point T.way) g in
+        let p = ahead s (ahead s T.vertex.point T.dir) g in
         let q = ahead s (ahead s T.other_vertex.point T.other_way) h in
         (P.0, Q.0, P.1, Q.1, (tied-both s P.0 p Q.0 (tied-turned s p P.0 P.2) (tied-both s p q Q.0 (between g h w) Q.2)).0)
 
-    pub joins-above : x.side ≡ above_item j.item → y.side ≡ above_item k.item → JoinsSides s C x y
-    joins-above a b = joins-by (item_normal T.item) (item_normal T.other_item) T.one_normal (above-point j T.vertex T.item T.corner T.way T.on x e a) (above-point k T.other_vertex T.other_item T.other_corner T.other_way T.other_on y f b)
+    pub joins-pos : x.side ≡ pos_item j.item → y.side ≡ pos_item k.item → JoinsSides s C x y
+    joins-pos a b = joins-by (item_normal T.item) (item_normal T.other_item) T.one_normal (pos-point j T.vertex T.item T.corner T.dir T.on x e a) (pos-point k T.other_vertex T.other_item T.other_corner T.other_way T.other_on y f b)
 
-    pub joins-below : x.side ≡ below_item j.item → y.side ≡ below_item k.item → JoinsSides s C x y
-    joins-below a b = joins-by (opposite (item_normal T.item)) (opposite (item_normal T.other_item)) (both-opposite (item_normal T.item) (item_normal T.other_item) T.one_normal)
-        (below-point j T.vertex T.item T.corner T.way T.on x e a) (below-point k T.other_vertex T.other_item T.other_corner T.other_way T.other_on y f b)
+    pub joins-neg : x.side ≡ neg_item j.item → y.side ≡ neg_item k.item → JoinsSides s C x y
+    joins-neg a b = joins-by (opposite (item_normal T.item)) (opposite (item_normal T.other_item)) (both-opposite (item_normal T.item) (item_normal T.other_item) T.one_normal)
+        (neg-point j T.vertex T.item T.corner T.dir T.on x e a) (neg-point k T.other_vertex T.other_item T.other_corner T.other_way T.other_on y f b)
 
   -- ---- in one sface
   pub joins-in_sface : (x y : VertexSide) → LinkInSface C x y → JoinsSides s C x y
@@ -127,18 +127,18 @@ module _ (s : Set) (C : Complex) (S : Shows s C) where
 
   -- ---- around both ends of an edge
   -- a point at the side around a svertex, on the side of f
-  around-point : (y : VertexSide) (j : ℕ) (v : Vertex) (l : Label) (u : Svertex) → At C.vertices y.vertex v → HasSide v.map y.side l → y.side ≡ around_svertex j → At v.map.svertices j u → (f : Vector) → IsDirection (cross u.way f)
-      → PointTied s C y (ahead s (ahead s v.point u.way) f)
+  around-point : (y : VertexSide) (j : ℕ) (v : Vertex) (l : Label) (u : MapVertex) → At C.vertices y.vertex v → HasSide v.map y.side l → y.side ≡ around_svertex j → At v.map.svertices j u → (f : Vector) → IsDirection (cross u.dir f)
+      → PointTied s C y (ahead s (ahead s v.point u.dir) f)
   around-point y j v l u a h e b f apart =
       let V = (S.cones y.vertex v a).valid.shaped in
       let K = amount (forms v.map) f + steep (carriers s) f in
       let own : HasSide v.map (around_svertex j) l = subst (λ (r : Side). HasSide v.map r l) e h in
       let same = at-one v.map.svertices j own.0 u own.1 b in
-      let lone = lone-of v.map V j u l b (subst (λ (r : Svertex). r.around ≡ Some l) same own.2) in
+      let lone = lone-of v.map V j u l b (subst (λ (r : MapVertex). r.around ≡ Some l) same own.2) in
       let sight = sees-around v.map V j u b lone f K (omega arith) apart in (
-        ahead s v.point (blend K u.way 1 f),
-        at-side s C S y v l a h (blend K u.way 1 f) (subst (λ (r : Side). Sees v.map r (blend K u.way 1 f)) (sym e) sight),
-        tied-turn s v.point u.way f K (omega arith),
+        ahead s v.point (blend K u.dir 1 f),
+        at-side s C S y v l a h (blend K u.dir 1 f) (subst (λ (r : Side). Sees v.map r (blend K u.dir 1 f)) (sym e) sight),
+        tied-turn s v.point u.dir f K (omega arith),
       )
 
   module _ (number : ℕ) (e : Edge) (is_edge : At C.edges number e) (x y : VertexSide) (o q : Side) (X : IsSideOf C x e.low o) (Y : IsSideOf C y e.high q) where
@@ -150,20 +150,20 @@ module _ (s : Set) (C : Complex) (S : Shows s C) where
         let W = edge-ways s C S number e v w is_edge H in
         let u = W.low in
         let t = W.high in
-        let hu = direction-right (toward v.point w.point) u.way W.onward in
-        let ht = (S.cones e.high w H.high).valid.shaped.svertex_ways e.high_svertex t W.is_high in
-        let f = aside u.way hu in
-        let level = level-opposite f.0 u.way t.way W.back (dot-comm f.0 u.way ∙ f.2) in
-        let apart : IsDirection (cross t.way f.0) = λ z. cross-direction_right u.way f.0 f.1 (nought-if t.way f.0 ht z (dot-comm t.way f.0 ∙ level)) in
+        let hu = direction-right (toward v.point w.point) u.dir W.onward in
+        let ht = (S.cones e.high w H.high).valid.shaped.svertex_dirs e.high_svertex t W.is_high in
+        let f = aside u.dir hu in
+        let level = level-opposite f.0 u.dir t.dir W.back (dot-comm f.0 u.dir ∙ f.2) in
+        let apart : IsDirection (cross t.dir f.0) = λ z. cross-direction_right u.dir f.0 f.1 (nought-if t.dir f.0 ht z (dot-comm t.dir f.0 ∙ level)) in
         let P = around-point x e.low_svertex v X.0 u X.3.1 X.3.2 (X.2 ∙ a) W.is_low f.0 f.1 in
         let Q = around-point y e.high_svertex w Y.0 t Y.3.1 Y.3.2 (Y.2 ∙ b) W.is_high f.0 apart in
-        let c = ahead s (ahead s v.point u.way) f.0 in
-        let d = ahead s (ahead s w.point t.way) f.0 in
-        (P.0, Q.0, P.1, Q.1, (tied-both s P.0 c Q.0 (tied-turned s c P.0 P.2) (tied-both s c d Q.0 (tied-ahead s (ahead s v.point u.way) (ahead s w.point t.way) f.0 (ends-tied s C S number e v w is_edge H)) Q.2)).0)
+        let c = ahead s (ahead s v.point u.dir) f.0 in
+        let d = ahead s (ahead s w.point t.dir) f.0 in
+        (P.0, Q.0, P.1, Q.1, (tied-both s P.0 c Q.0 (tied-turned s c P.0 P.2) (tied-both s c d Q.0 (tied-ahead s (ahead s v.point u.dir) (ahead s w.point t.dir) f.0 (ends-tied s C S number e v w is_edge H)) Q.2)).0)
 
     joins-along_by : AreSidesAlong C e o q → JoinsSides s C x y
-    joins-along_by (above_arcs i j A a b) = let T = along-tied s C S number e is_edge i j A in joins-above (record { vertex = e.low; item = i }) (record { vertex = e.high; item = j }) T x y X.1 Y.1 (X.2 ∙ a) (Y.2 ∙ b)
-    joins-along_by (below_arcs i j A a b) = let T = along-tied s C S number e is_edge i j A in joins-below (record { vertex = e.low; item = i }) (record { vertex = e.high; item = j }) T x y X.1 Y.1 (X.2 ∙ a) (Y.2 ∙ b)
+    joins-along_by (pos_arcs i j A a b) = let T = along-tied s C S number e is_edge i j A in joins-pos (record { vertex = e.low; item = i }) (record { vertex = e.high; item = j }) T x y X.1 Y.1 (X.2 ∙ a) (Y.2 ∙ b)
+    joins-along_by (neg_arcs i j A a b) = let T = along-tied s C S number e is_edge i j A in joins-neg (record { vertex = e.low; item = i }) (record { vertex = e.high; item = j }) T x y X.1 Y.1 (X.2 ∙ a) (Y.2 ∙ b)
     joins-along_by (around_ends a b) = around-ends a b
 
   pub joins-along : (x y : VertexSide) → LinkAlongEdge C x y → JoinsSides s C x y
@@ -173,4 +173,4 @@ module _ (s : Set) (C : Complex) (S : Shows s C) where
   pub joins-across : (x y : VertexSide) → LinkAcrossFacet C x y → JoinsSides s C x y
   joins-across x y L =
       let T = across-tied s C S L.here L.there L.across in
-      ⊎_elim (λ p. joins-above L.here L.there T x y p.0.1 p.1.1 p.0.2 p.1.2) (λ p. joins-below L.here L.there T x y p.0.1 p.1.1 p.0.2 p.1.2) L.sides
+      ⊎_elim (λ p. joins-pos L.here L.there T x y p.0.1 p.1.1 p.0.2 p.1.2) (λ p. joins-neg L.here L.there T x y p.0.1 p.1.1 p.0.2 p.1.2) L.sides

@@ -20,17 +20,17 @@ use Rattle.law_near.proofs.FlatDecided.{cross-turned}
 use Rattle.law_forms.proofs.Directions.{self-pos, dot-comm}
 use Rattle.law_sphere.specs.Forms.{forms}
 use Rattle.law_sphere.specs.Least.{Cone}
-use Rattle.law_sphere.specs.Maps.{At, Svertex, Map, Item, items, item_normal, item_above, item_mark, item_below, OnItem, IsFree, Side, around_svertex, above_item, below_item, whole, HasSide, IsClear, Reaches, Sees, directly, by_way_of, InOneSface, here, link, HasArc, Shaped}
+use Rattle.law_sphere.specs.Maps.{At, MapVertex, Map, Item, items, item_normal, item_pos, item_mark, item_neg, OnItem, IsFree, Side, around_svertex, pos_item, neg_item, whole, HasSide, IsClear, Reaches, Sees, directly, by_way_of, InOneSface, here, link, HasArc, Shaped}
 use Rattle.law_sphere.proofs.Generic.{amount}
 use Rattle.law_sphere.proofs.Lists.{at-one}
 use Rattle.law_sphere.proofs.Vectors.{nought-if, normal-is, same-minus}
 use Rattle.law_sphere.proofs.Places.{IsOpposite-decided}
 use Rattle.law_sphere.proofs.Parallel.{parallel-trans}
 use Rattle.law_sphere.proofs.StepOff.{blend-turned}
-use Rattle.law_sphere.proofs.Labels.{way-signs}
+use Rattle.law_sphere.proofs.Labels.{dir-signs}
 use Rattle.law_sphere.proofs.Around.{Beside, same_way, other_way, beside}
 use Rattle.law_sphere.proofs.Walk.{cross-direction_right}
-use Rattle.law_sphere.proofs.Compare.{SameDirection-turned, way-self}
+use Rattle.law_sphere.proofs.Compare.{SameDirection-turned, dir-self}
 use Rattle.law_complex.specs.Complexes.{Vertex, Complex, IsCorner}
 use Rattle.law_complex.specs.Shows.{Shows}
 use Rattle.law_complex.specs.Rays.{VertexSide}
@@ -109,9 +109,9 @@ module _ (M : Map) (s : Set) (p : Place) (K : Cone M s p) where
   V = K.valid.shaped
 
   -- a map with nothing on it
-  module _ (l : Label) (face : M.face ≡ Some l) where
+  module _ (l : Label) (ground : M.ground ≡ Some l) where
     whole-dim : (d : Vector) → IsDirection d → FlatDim s (ahead s p d) 3
-    whole-dim d i = free-dim M s p K d (free-whole M V l face d i)
+    whole-dim d i = free-dim M s p K d (free-whole M V l ground d i)
 
     whole-step : (d e : Vector) → IsDirection d → IsDirection e → (IsOpposite d e → ⊥) → IsTied s (ahead s p d) (ahead s p e)
     whole-step d e i j off = tied-even s 3 (ahead s p d) (ahead s p e) (even-fan s p d e 3 (whole-dim d i) (whole-dim e j) (λ a b sa sb. whole-dim (blend a d b e) (blend-direction d e a b sa sb i j off)))
@@ -126,58 +126,58 @@ module _ (M : Map) (s : Set) (p : Place) (K : Cone M s p) where
             tied-both s (ahead s p d) (ahead s p f) (ahead s p e) (whole-step d f i m (λ w. let b = w.backward in omega (arith, ints))) (whole-step f e m j (λ w. let b = w.backward in omega (arith, ints)))
 
   -- a svertex without arcs
-  module _ (k : ℕ) (u : Svertex) (a : At M.svertices k u) (lone : HasArc M k → ⊥) where
+  module _ (k : ℕ) (u : MapVertex) (a : At M.svertices k u) (lone : HasArc M k → ⊥) where
     abbrev z : Place
-    z = ahead s p u.way
+    z = ahead s p u.dir
 
-    around-dim : (d : Vector) → IsDirection (cross u.way d) → FlatDim s (ahead s z d) 3
+    around-dim : (d : Vector) → IsDirection (cross u.dir d) → FlatDim s (ahead s z d) 3
     around-dim d i =
         let n = amount (forms M) d + steep (carriers s) d in
-        dim-cell s (ahead s p (blend n u.way 1 d)) (ahead s z d) 3 (same-sym (carriers s) (ahead s z d) (ahead s p (blend n u.way 1 d)) (ahead-ahead s p u.way d n (omega arith)))
-        (free-dim M s p K (blend n u.way 1 d) (free-close M V k u a lone d n (omega arith) i))
+        dim-cell s (ahead s p (blend n u.dir 1 d)) (ahead s z d) 3 (same-sym (carriers s) (ahead s z d) (ahead s p (blend n u.dir 1 d)) (ahead-ahead s p u.dir d n (omega arith)))
+        (free-dim M s p K (blend n u.dir 1 d) (free-close M V k u a lone d n (omega arith) i))
 
-    cross-blend : (d e : Vector) (i j : ℕ) → blend i (cross u.way d) j (cross u.way e) ≡ cross u.way (blend i d j e)
-    cross-blend d e i j = vector-same (blend i (cross u.way d) j (cross u.way e)) (cross u.way (blend i d j e))
-        (one u.way.y u.way.z d.y d.z e.y e.z) (one u.way.z u.way.x d.z d.x e.z e.x) (one u.way.x u.way.y d.x d.y e.x e.y)
+    cross-blend : (d e : Vector) (i j : ℕ) → blend i (cross u.dir d) j (cross u.dir e) ≡ cross u.dir (blend i d j e)
+    cross-blend d e i j = vector-same (blend i (cross u.dir d) j (cross u.dir e)) (cross u.dir (blend i d j e))
+        (one u.dir.y u.dir.z d.y d.z e.y e.z) (one u.dir.z u.dir.x d.z d.x e.z e.x) (one u.dir.x u.dir.y d.x d.y e.x e.y)
       where
         one : (a b c d e f : ℤ) → pos i *ℤ (a *ℤ d -ℤ b *ℤ c) +ℤ pos j *ℤ (a *ℤ f -ℤ b *ℤ e) ≡ a *ℤ (pos i *ℤ d +ℤ pos j *ℤ f) -ℤ b *ℤ (pos i *ℤ c +ℤ pos j *ℤ e)
         one a b c d e f = ring (pos i ∷ pos j ∷ a ∷ b ∷ c ∷ d ∷ e ∷ f ∷ []) (at 0 ⊗ (at 2 ⊗ at 5 ⊖ at 3 ⊗ at 4) ⊕ at 1 ⊗ (at 2 ⊗ at 7 ⊖ at 3 ⊗ at 6))
             (at 2 ⊗ (at 0 ⊗ at 5 ⊕ at 1 ⊗ at 7) ⊖ at 3 ⊗ (at 0 ⊗ at 4 ⊕ at 1 ⊗ at 6)) tt
 
-    around-step : (d e : Vector) → IsDirection (cross u.way d) → IsDirection (cross u.way e) → (IsOpposite (cross u.way d) (cross u.way e) → ⊥) → IsTied s (ahead s z d) (ahead s z e)
+    around-step : (d e : Vector) → IsDirection (cross u.dir d) → IsDirection (cross u.dir e) → (IsOpposite (cross u.dir d) (cross u.dir e) → ⊥) → IsTied s (ahead s z d) (ahead s z e)
     around-step d e i j off = tied-even s 3 (ahead s z d) (ahead s z e) (even-fan s z d e 3 (around-dim d i) (around-dim e j)
-        (λ b c sb sc. around-dim (blend b d c e) (subst IsDirection (cross-blend d e b c) (blend-direction (cross u.way d) (cross u.way e) b c sb sc i j off))))
+        (λ b c sb sc. around-dim (blend b d c e) (subst IsDirection (cross-blend d e b c) (blend-direction (cross u.dir d) (cross u.dir e) b c sb sc i j off))))
 
-    pub around-tied : (d e : Vector) → IsDirection (cross u.way d) → IsDirection (cross u.way e) → IsTied s (ahead s z d) (ahead s z e)
-    around-tied d e i j = ⊎_elim by (λ off. around-step d e i j off) (IsOpposite-decided (cross u.way d) (cross u.way e))
+    pub around-tied : (d e : Vector) → IsDirection (cross u.dir d) → IsDirection (cross u.dir e) → IsTied s (ahead s z d) (ahead s z e)
+    around-tied d e i j = ⊎_elim by (λ off. around-step d e i j off) (IsOpposite-decided (cross u.dir d) (cross u.dir e))
       where
-        square : (x : Vector) → dot x (cross u.way x) ≡ pos 0
-        square x = ring (u.way.x ∷ u.way.y ∷ u.way.z ∷ x.x ∷ x.y ∷ x.z ∷ []) (at 3 ⊗ (at 1 ⊗ at 5 ⊖ at 2 ⊗ at 4) ⊕ at 4 ⊗ (at 2 ⊗ at 3 ⊖ at 0 ⊗ at 5) ⊕ at 5 ⊗ (at 0 ⊗ at 4 ⊖ at 1 ⊗ at 3)) (num (pos 0)) tt
+        square : (x : Vector) → dot x (cross u.dir x) ≡ pos 0
+        square x = ring (u.dir.x ∷ u.dir.y ∷ u.dir.z ∷ x.x ∷ x.y ∷ x.z ∷ []) (at 3 ⊗ (at 1 ⊗ at 5 ⊖ at 2 ⊗ at 4) ⊕ at 4 ⊗ (at 2 ⊗ at 3 ⊖ at 0 ⊗ at 5) ⊕ at 5 ⊗ (at 0 ⊗ at 4 ⊖ at 1 ⊗ at 3)) (num (pos 0)) tt
 
-        by : IsOpposite (cross u.way d) (cross u.way e) → IsTied s (ahead s z d) (ahead s z e)
+        by : IsOpposite (cross u.dir d) (cross u.dir e) → IsTied s (ahead s z d) (ahead s z e)
         by o =
-            let m = cross u.way d in
-            let h : IsDirection (cross u.way m) = λ y. i (nought-if u.way m (V.svertex_ways k u a) y (square-cross u.way d)) in
+            let m = cross u.dir d in
+            let h : IsDirection (cross u.dir m) = λ y. i (nought-if u.dir m (V.svertex_dirs k u a) y (square-cross u.dir d)) in
             let q = square m in
-            let r = level-opposite (cross u.way m) m (cross u.way e) o (dot-comm (cross u.way m) m ∙ q) in
+            let r = level-opposite (cross u.dir m) m (cross u.dir e) o (dot-comm (cross u.dir m) m ∙ q) in
             tied-both s (ahead s z d) (ahead s z m) (ahead s z e) (around-step d m i h (λ w. let b = w.backward in omega (arith, ints))) (around-step m e h j (λ w. let b = w.backward in omega (arith, ints)))
 
     -- an arrival at the svertex is tied to the points all around it
-    pub tied-around : (d y : Vector) → IsClear M d y → SameDirection u.way y → IsTied s (ahead s p d) (ahead s z d)
+    pub tied-around : (d y : Vector) → IsClear M d y → SameDirection u.dir y → IsTied s (ahead s p d) (ahead s z d)
     tied-around d y c w = tied-both s (ahead s p d) (ahead s (ahead s p y) d) (ahead s z d) (tied-end M s p K d y c)
-        (tied-cell s (ahead s (ahead s p y) d) (ahead s z d) (ahead-cells s (ahead s p y) z d (ahead-way s p y u.way (SameDirection-turned u.way y w))))
+        (tied-cell s (ahead s (ahead s p y) d) (ahead s z d) (ahead-cells s (ahead s p y) z d (ahead-way s p y u.dir (SameDirection-turned u.dir y w))))
 
-    apart-end : (d y : Vector) → IsClear M d y → SameDirection u.way y → IsDirection (cross u.way d)
-    apart-end d y c w o = by (beside u.way d (V.svertex_ways k u a) c.start.direction o)
+    apart-end : (d y : Vector) → IsClear M d y → SameDirection u.dir y → IsDirection (cross u.dir d)
+    apart-end d y c w o = by (beside u.dir d (V.svertex_dirs k u a) c.start.direction o)
       where
-        by : Beside u.way d → ⊥
+        by : Beside u.dir d → ⊥
         by (same_way q) = c.start.off_svertices k u a q
         by (other_way q) = c.short (record {
-          parallel = parallel-trans d u.way y (V.svertex_ways k u a) (cross-turned u.way d o) w.parallel;
-          backward = let h = q.backward in let e = same-minus (dot d u.way) (dot d y) (way-signs u.way y d (V.svertex_ways k u a) w) (let g = dot-comm d u.way in omega (arith, ints)) in e;
+          parallel = parallel-trans d u.dir y (V.svertex_dirs k u a) (cross-turned u.dir d o) w.parallel;
+          backward = let h = q.backward in let e = same-minus (dot d u.dir) (dot d y) (dir-signs u.dir y d (V.svertex_dirs k u a) w) (let g = dot-comm d u.dir in omega (arith, ints)) in e;
         })
 
-    pub lone-tied : (d e x y : Vector) → IsClear M d x → SameDirection u.way x → IsClear M e y → SameDirection u.way y → IsTied s (ahead s p d) (ahead s p e)
+    pub lone-tied : (d e x y : Vector) → IsClear M d x → SameDirection u.dir x → IsClear M e y → SameDirection u.dir y → IsTied s (ahead s p d) (ahead s p e)
     lone-tied d e x y c v b w = tied-both s (ahead s p d) (ahead s z d) (ahead s p e) (tied-around d x c v)
         (tied-both s (ahead s z d) (ahead s z e) (ahead s p e) (around-tied d e (apart-end d x c v) (apart-end e y b w)) (tied-turned s (ahead s p e) (ahead s z e) (tied-around e y b w)))
 
@@ -197,7 +197,7 @@ module _ (s : Set) (C : Complex) (S : Shows s C) (i : ℕ) (v : Vertex) (listed 
     item-arrival : (d y f : Vector) → IsClear v.map d y → OnItem v.map x y → (sign (dot (item_normal x) d) ≡ nought → ⊥) → sign (dot (item_normal x) f) ≡ sign (dot (item_normal x) d)
         → IsTied s (ahead s v.point d) (ahead s (ahead s v.point y) f)
     item-arrival d y f c o off same = tied-both s (ahead s v.point d) (ahead s (ahead s v.point y) d) (ahead s (ahead s v.point y) f) (tied-end v.map s v.point K d y c)
-        (let F = facet-near s C S (corner_of i k) v x corner y o in tied-off s (ahead s v.point y) (item_normal x) (item_above x) (item_mark x) (item_below x) F.sided d f off same)
+        (let F = facet-near s C S (corner_of i k) v x corner y o in tied-off s (ahead s v.point y) (item_normal x) (item_pos x) (item_mark x) (item_neg x) F.sided d f off same)
 
     item-arrivals : (d y e t f : Vector) → IsClear v.map d y → OnItem v.map x y → IsClear v.map e t → OnItem v.map x t → (sign (dot (item_normal x) f) ≡ nought → ⊥)
         → sign (dot (item_normal x) d) ≡ sign (dot (item_normal x) f) → sign (dot (item_normal x) e) ≡ sign (dot (item_normal x) f) → IsTied s (ahead s v.point d) (ahead s v.point e)
@@ -210,15 +210,15 @@ module _ (s : Set) (C : Complex) (S : Shows s C) (i : ℕ) (v : Vertex) (listed 
 
   arrivals : (o : Side) (l : Label) → HasSide v.map o l → (d y e t : Vector) → IsClear v.map d y → Reaches v.map o d y → IsClear v.map e t → Reaches v.map o e t → IsTied s (ahead s v.point d) (ahead s v.point e)
   arrivals (around_svertex k) l (u, a, f) d y e t c (w, b, m) g (r, h, n) =
-      let one = λ (q : Svertex) (j : At v.map.svertices k q). at-one v.map.svertices k q u j a in
-      lone-tied v.map s v.point K k u a (lone-of v.map K.valid.shaped k u l a f) d e y t c (subst (λ (q : Svertex). SameDirection q.way y) (one w b) m) g (subst (λ (q : Svertex). SameDirection q.way t) (one r h) n)
-  arrivals (above_item k) l has d y e t c (x, a, o, h) g (z, b, q, m) =
+      let one = λ (q : MapVertex) (j : At v.map.svertices k q). at-one v.map.svertices k q u j a in
+      lone-tied v.map s v.point K k u a (lone-of v.map K.valid.shaped k u l a f) d e y t c (subst (λ (q : MapVertex). SameDirection q.dir y) (one w b) m) g (subst (λ (q : MapVertex). SameDirection q.dir t) (one r h) n)
+  arrivals (pos_item k) l has d y e t c (x, a, o, h) g (z, b, q, m) =
       let same = at-one (items v.map) k z x b a in
       let n = item_normal x in
       let up = sign-plus (dot n n) (self-pos n (normal-is K.valid.shaped k x a)) in
       item-arrivals k x a d y e t n c o g (subst (λ (r : Item). OnItem v.map r t) same q) (λ w. let j : plus ≡ nought = sym up ∙ w in cc) (sign-plus (dot n d) h ∙ sym up)
       (sign-plus (dot n e) (subst (λ (r : Item). pos 0 <ℤ dot (item_normal r) e) same m) ∙ sym up)
-  arrivals (below_item k) l has d y e t c (x, a, o, h) g (z, b, q, m) =
+  arrivals (neg_item k) l has d y e t c (x, a, o, h) g (z, b, q, m) =
       let same = at-one (items v.map) k z x b a in
       let n = item_normal x in
       let up = self-pos n (normal-is K.valid.shaped k x a) in
@@ -246,7 +246,7 @@ module _ (s : Set) (C : Complex) (S : Shows s C) (i : ℕ) (v : Vertex) (listed 
 -- ---- all points at one side are joined
 module _ (s : Set) (C : Complex) (S : Shows s C) where
   pub side-close : (v : Vertex) (o : Side) (p : Place) → Sees v.map o (toward v.point p) → IsEvenAfter s 3 v.point p → IsTied s p (ahead s v.point (toward v.point p))
-  side-close v o p a even = tied-ray s 3 v.point p (toward v.point p) (way-self (toward v.point p) (let F = seen-free v.map o (toward v.point p) a in F.direction)) even
+  side-close v o p a even = tied-ray s 3 v.point p (toward v.point p) (dir-self (toward v.point p) (let F = seen-free v.map o (toward v.point p) a in F.direction)) even
 
   pub one-side : (x : VertexSide) (p q : Place) → IsAtSide s C x p → IsAtSide s C x q → IsTied s p q
   one-side x p q a b =

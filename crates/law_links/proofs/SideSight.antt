@@ -13,7 +13,7 @@ use Rattle.law_forms.proofs.Directions.{self-pos, dot-comm, dot-zero, zero-decid
 use Rattle.law_forms.proofs.Far.{same-nought}
 use Rattle.law_near.proofs.Flats.{vector-same}
 use Rattle.law_sphere.specs.Forms.{forms, Keeps}
-use Rattle.law_sphere.specs.Maps.{At, Svertex, Map, Item, arc_item, loop_item, items, item_normal, OnItem, way_of, IsFree, Side, around_svertex, above_item, below_item, whole, HasSide, IsClear, Reaches, Sees, directly, by_way_of, HasArc, Shaped}
+use Rattle.law_sphere.specs.Maps.{At, MapVertex, Map, Item, arc_item, sloop_item, items, item_normal, OnItem, dir_of, IsFree, Side, around_svertex, pos_item, neg_item, whole, HasSide, IsClear, Reaches, Sees, directly, by_way_of, HasArc, Shaped}
 use Rattle.law_sphere.proofs.Vectors.{dot-comb, normal-is, same-plus, same-minus, nought-if}
 use Rattle.law_sphere.proofs.Generic.{amount, far-keeps, far-level}
 use Rattle.law_sphere.proofs.Places.{kept-nought}
@@ -23,19 +23,19 @@ use Rattle.law_sphere.proofs.Shot.{arc-at, item-point}
 use Rattle.law_sphere.proofs.Direct.{cross-between, between-off_target}
 use Rattle.law_sphere.proofs.StepOff.{blend-turned}
 use Rattle.law_sphere.proofs.Sight.{clear-self}
-use Rattle.law_sphere.proofs.Labels.{way-signs}
+use Rattle.law_sphere.proofs.Labels.{dir-signs}
 use Rattle.law_sphere.proofs.NearItems.{keeps-between, kept-not_opposite, opposite-turned}
 use Rattle.law_sphere.proofs.Around.{Beside, same_way, other_way, beside, direction-around, svertex-around, free-beside, IsStrictlyOn-back}
-use Rattle.law_sphere.proofs.Compare.{SameDirection-turned, SameDirection-trans, way-self}
+use Rattle.law_sphere.proofs.Compare.{SameDirection-turned, SameDirection-trans, dir-self}
 use Rattle.law_sphere.proofs.Walk.{between-direction}
-use Rattle.law_sphere.proofs.Arcs.{ends-of, loop-at}
+use Rattle.law_sphere.proofs.Arcs.{ends-of, sloop-at}
 use Rattle.law_links.proofs.EdgeEnds.{dot-opposite}
 
 -- ---- the same way
 module _ (M : Map) (d e : Vector) (w : SameDirection d e) where
   clear-way : (y : Vector) → IsClear M d y → IsClear M e y
   clear-way y c = record {
-    start = free-by_signs M d e (λ g l. way-signs d e g c.start.direction w) c.start;
+    start = free-by_signs M d e (λ g l. dir-signs d e g c.start.direction w) c.start;
     direction = c.direction;
     short = λ o. c.short (record {
       parallel = parallel-trans d e y (direction-right d e w) w.parallel o.parallel;
@@ -43,7 +43,7 @@ module _ (M : Map) (d e : Vector) (w : SameDirection d e) where
           let h = o.backward in
           let p = dot-comm e y in
           let q = dot-comm d y in
-          let m = same-minus (dot y e) (dot y d) (sym (way-signs d e y c.start.direction w)) (omega (arith, ints)) in
+          let m = same-minus (dot y e) (dot y d) (sym (dir-signs d e y c.start.direction w)) (omega (arith, ints)) in
           omega (arith, ints);
     });
     between = λ i j si sj.
@@ -65,8 +65,8 @@ module _ (M : Map) (d e : Vector) (w : SameDirection d e) where
 
   reaches-way : (o : Side) (y : Vector) → IsDirection d → Reaches M o d y → Reaches M o e y
   reaches-way (around_svertex k) y i r = r
-  reaches-way (above_item k) y i (x, a, o, h) = (x, a, o, same-plus (dot (item_normal x) d) (dot (item_normal x) e) (way-signs d e (item_normal x) i w) h)
-  reaches-way (below_item k) y i (x, a, o, h) = (x, a, o, same-minus (dot (item_normal x) d) (dot (item_normal x) e) (way-signs d e (item_normal x) i w) h)
+  reaches-way (pos_item k) y i (x, a, o, h) = (x, a, o, same-plus (dot (item_normal x) d) (dot (item_normal x) e) (dir-signs d e (item_normal x) i w) h)
+  reaches-way (neg_item k) y i (x, a, o, h) = (x, a, o, same-minus (dot (item_normal x) d) (dot (item_normal x) e) (dir-signs d e (item_normal x) i w) h)
   reaches-way whole y i r = tt
 
   pub sees-way : (o : Side) → Sees M o d → Sees M o e
@@ -114,76 +114,76 @@ module _ (M : Map) (V : Shaped M) (k : ℕ) (x : Item) (a : At (items M) k x) (c
         (between-off_target (item_normal x) g c i j si (on-level M x c on) off-plane);
   }
 
-  pub sees-above : pos 0 <ℤ dot (item_normal x) f → Sees M (above_item k) g
-  sees-above h = directly c clear (x, a, on, same-plus (dot (item_normal x) f) (dot (item_normal x) g) turn h)
+  pub sees-pos : pos 0 <ℤ dot (item_normal x) f → Sees M (pos_item k) g
+  sees-pos h = directly c clear (x, a, on, same-plus (dot (item_normal x) f) (dot (item_normal x) g) turn h)
 
-  pub sees-below : dot (item_normal x) f <ℤ pos 0 → Sees M (below_item k) g
-  sees-below h = directly c clear (x, a, on, same-minus (dot (item_normal x) f) (dot (item_normal x) g) turn h)
+  pub sees-neg : dot (item_normal x) f <ℤ pos 0 → Sees M (neg_item k) g
+  sees-neg h = directly c clear (x, a, on, same-minus (dot (item_normal x) f) (dot (item_normal x) g) turn h)
 
 -- ---- around a svertex without arcs
-module _ (M : Map) (V : Shaped M) (k : ℕ) (u : Svertex) (a : At M.svertices k u) (lone : HasArc M k → ⊥) where
-  hu : IsDirection u.way
-  hu = V.svertex_ways k u a
+module _ (M : Map) (V : Shaped M) (k : ℕ) (u : MapVertex) (a : At M.svertices k u) (lone : HasArc M k → ⊥) where
+  hu : IsDirection u.dir
+  hu = V.svertex_dirs k u a
 
-  pub free-around_lone : (x : Vector) → Keeps (forms M) u.way x → IsDirection (cross u.way x) → IsFree M x
+  pub free-around_lone : (x : Vector) → Keeps (forms M) u.dir x → IsDirection (cross u.dir x) → IsFree M x
   free-around_lone x keeps apart = record {
-    direction = direction-around M V u.way x keeps hu;
-    off_svertices = λ i v b w. let o = svertex-around M V u.way x keeps i v b hu w in apart (let t = SameDirection-trans u.way v.way x (SameDirection-turned v.way u.way o) w in t.parallel);
+    direction = direction-around M V u.dir x keeps hu;
+    off_svertices = λ i v b w. let o = svertex-around M V u.dir x keeps i v b hu w in apart (let t = SameDirection-trans u.dir v.dir x (SameDirection-turned v.dir u.dir o) w in t.parallel);
     off_items = off;
   }
     where
       off : (i : ℕ) (y : Item) → At (items M) i y → OnItem M y x → ⊥
-      off i (loop_item l) b o = V.no_svertex_on_item k i u (loop_item l) a b (record { direction = hu; level = kept-nought l.normal u.way x (keeps l.normal (item-forms M i (loop_item l) l.normal b (inl refl))) o.level })
+      off i (sloop_item l) b o = V.no_svertex_on_item k i u (sloop_item l) a b (record { direction = hu; level = kept-nought l.normal u.dir x (keeps l.normal (item-forms M i (sloop_item l) l.normal b (inl refl))) o.level })
       off i (arc_item r) b o =
-          let E = ends-of M V i r (arc-at M.arcs M.loop i r b) in
-          V.no_svertex_on_item k i u (arc_item r) a b (IsStrictlyOn-back r.normal (way_of M.svertices r.source) (way_of M.svertices r.target) u.way x (normal-is V i (arc_item r) b)
+          let E = ends-of M V i r (arc-at M.arcs M.sloop i r b) in
+          V.no_svertex_on_item k i u (arc_item r) a b (IsStrictlyOn-back r.normal (dir_of M.svertices r.source) (dir_of M.svertices r.target) u.dir x (normal-is V i (arc_item r) b)
           E.source_direction E.target_direction E.source_level E.target_level (λ g l. keeps g (item-forms M i (arc_item r) g b l)) hu
-          (λ w. lone (i, r, arc-at M.arcs M.loop i r b, inl (V.svertices_apart r.source k E.source u E.has_source a (subst (λ (d : Vector). SameDirection d u.way) E.source_is w))))
-          (λ w. lone (i, r, arc-at M.arcs M.loop i r b, inr (V.svertices_apart r.target k E.target u E.has_target a (subst (λ (d : Vector). SameDirection d u.way) E.target_is w)))) o)
+          (λ w. lone (i, r, arc-at M.arcs M.sloop i r b, inl (V.svertices_apart r.source k E.source u E.has_source a (subst (λ (d : Vector). SameDirection d u.dir) E.source_is w))))
+          (λ w. lone (i, r, arc-at M.arcs M.sloop i r b, inr (V.svertices_apart r.target k E.target u E.has_target a (subst (λ (d : Vector). SameDirection d u.dir) E.target_is w)))) o)
 
-  module _ (f : Vector) (K : ℕ) (large : amount (forms M) f ≤ K) (apart : IsDirection (cross u.way f)) where
+  module _ (f : Vector) (K : ℕ) (large : amount (forms M) f ≤ K) (apart : IsDirection (cross u.dir f)) where
     abbrev round : Vector
-    round = blend K u.way 1 f
+    round = blend K u.dir 1 f
 
-    keeps-round : Keeps (forms M) u.way round
-    keeps-round = far-keeps (forms M) u.way f K large
+    keeps-round : Keeps (forms M) u.dir round
+    keeps-round = far-keeps (forms M) u.dir f K large
 
     pub free-close : IsFree M round
-    free-close = free-around_lone round keeps-round (cross-between u.way f K 1 (omega arith) apart)
+    free-close = free-around_lone round keeps-round (cross-between u.dir f K 1 (omega arith) apart)
 
     pub sees-around : Sees M (around_svertex k) round
-    sees-around = directly u.way (record {
+    sees-around = directly u.dir (record {
       start = free-close;
       direction = hu;
-      short = λ q. kept-not_opposite u.way round (λ h l. keeps-round h (axes-forms M h l)) (opposite-turned round u.way q);
-      between = λ i j si sj. free-around_lone (blend i round j u.way) (subst (Keeps (forms M) u.way) (blend-turned j i u.way round) (keeps-between (forms M) u.way round j i sj si keeps-round))
-          (subst (λ (v : Vector). IsDirection (cross u.way v)) (sym (gathered i j)) (cross-between u.way f (i * K + j) i si apart));
-    }) (u, a, way-self u.way hu)
+      short = λ q. kept-not_opposite u.dir round (λ h l. keeps-round h (axes-forms M h l)) (opposite-turned round u.dir q);
+      between = λ i j si sj. free-around_lone (blend i round j u.dir) (subst (Keeps (forms M) u.dir) (blend-turned j i u.dir round) (keeps-between (forms M) u.dir round j i sj si keeps-round))
+          (subst (λ (v : Vector). IsDirection (cross u.dir v)) (sym (gathered i j)) (cross-between u.dir f (i * K + j) i si apart));
+    }) (u, a, dir-self u.dir hu)
       where
         one : (i j : ℕ) (x y : ℤ) → pos i *ℤ (pos K *ℤ x +ℤ pos 1 *ℤ y) +ℤ pos j *ℤ x ≡ pos (i * K + j) *ℤ x +ℤ pos i *ℤ y
         one i j x y = ring (pos i ∷ pos j ∷ pos K ∷ x ∷ y ∷ []) (at 0 ⊗ (at 2 ⊗ at 3 ⊕ num (pos 1) ⊗ at 4) ⊕ at 1 ⊗ at 3) ((at 0 ⊗ at 2 ⊕ at 1) ⊗ at 3 ⊕ at 0 ⊗ at 4) tt
 
-        gathered : (i j : ℕ) → blend i round j u.way ≡ blend (i * K + j) u.way i f
-        gathered i j = vector-same (blend i round j u.way) (blend (i * K + j) u.way i f) (one i j u.way.x f.x) (one i j u.way.y f.y) (one i j u.way.z f.z)
+        gathered : (i j : ℕ) → blend i round j u.dir ≡ blend (i * K + j) u.dir i f
+        gathered i j = vector-same (blend i round j u.dir) (blend (i * K + j) u.dir i f) (one i j u.dir.x f.x) (one i j u.dir.y f.y) (one i j u.dir.z f.z)
 
 -- a svertex with its own side has no arc
-pub lone-of : (M : Map) → Shaped M → (k : ℕ) (u : Svertex) (l : Label) → At M.svertices k u → u.around ≡ Some l → HasArc M k → ⊥
+pub lone-of : (M : Map) → Shaped M → (k : ℕ) (u : MapVertex) (l : Label) → At M.svertices k u → u.around ≡ Some l → HasArc M k → ⊥
 lone-of M V k u l a e h = let f = sym e ∙ V.around_not k u a h in cc
 
 -- ---- a map with a side of the whole sphere has nothing on it
-pub free-whole : (M : Map) → Shaped M → (l : Label) → M.face ≡ Some l → (d : Vector) → IsDirection d → IsFree M d
+pub free-whole : (M : Map) → Shaped M → (l : Label) → M.ground ≡ Some l → (d : Vector) → IsDirection d → IsFree M d
 free-whole M V l e d i = record {
   direction = i;
   off_svertices = λ k v a w. none k v a;
   off_items = off;
 }
   where
-    none : (k : ℕ) (v : Svertex) → At M.svertices k v → ⊥
-    none k v a = subst (λ (vs : List Svertex). At vs k v) (let g = V.ground_not l e in g.0) a
+    none : (k : ℕ) (v : MapVertex) → At M.svertices k v → ⊥
+    none k v a = subst (λ (vs : List MapVertex). At vs k v) (let g = V.ground_not l e in g.0) a
 
     off : (k : ℕ) (x : Item) → At (items M) k x → OnItem M x d → ⊥
-    off k (arc_item r) a o = let E = ends-of M V k r (arc-at M.arcs M.loop k r a) in none r.source E.source E.has_source
-    off k (loop_item r) a o = let f = sym (loop-at M.arcs M.loop k r a) ∙ (let g = V.ground_not l e in g.1) in cc
+    off k (arc_item r) a o = let E = ends-of M V k r (arc-at M.arcs M.sloop k r a) in none r.source E.source E.has_source
+    off k (sloop_item r) a o = let f = sym (sloop-at M.arcs M.sloop k r a) ∙ (let g = V.ground_not l e in g.1) in cc
 
 -- a direction that isn't parallel to u
 pub aside : (u : Vector) → IsDirection u → (f : Vector) × IsDirection (cross u f) × (dot u f ≡ pos 0)
@@ -192,23 +192,23 @@ aside u i = let c = circle-point u i in (c.0, (λ z. c.1.direction (nought-if u 
 -- ---- each side sees some direction
 pub side-sees : (M : Map) → Shaped M → (o : Side) (l : Label) → HasSide M o l → (d : Vector) × Sees M o d
 side-sees M V (around_svertex k) l (u, a, e) =
-    let f = aside u.way (V.svertex_ways k u a) in
+    let f = aside u.dir (V.svertex_dirs k u a) in
     let K = amount (forms M) f.0 in
-    (blend K u.way 1 f.0, sees-around M V k u a (lone-of M V k u l a e) f.0 K (omega arith) f.1)
-side-sees M V (above_item k) l (x, a, e) =
+    (blend K u.dir 1 f.0, sees-around M V k u a (lone-of M V k u l a e) f.0 K (omega arith) f.1)
+side-sees M V (pos_item k) l (x, a, e) =
     let n = item_normal x in
     let y = item-point M V k x a in
     let K = amount (forms M) n in
     let h = self-pos n (normal-is V k x a) in
-    (blend K y.0 1 n, sees-above M V k x a y.0 n y.1 (λ z. omega (arith, ints)) K (omega arith) h)
-side-sees M V (below_item k) l (x, a, e) =
+    (blend K y.0 1 n, sees-pos M V k x a y.0 n y.1 (λ z. omega (arith, ints)) K (omega arith) h)
+side-sees M V (neg_item k) l (x, a, e) =
     let n = item_normal x in
     let f = opposite n in
     let y = item-point M V k x a in
     let K = amount (forms M) f in
     let h = self-pos n (normal-is V k x a) in
     let r = dot-opposite n n in
-    (blend K y.0 1 f, sees-below M V k x a y.0 f y.1 (λ z. omega (arith, ints)) K (omega arith) (omega (arith, ints)))
+    (blend K y.0 1 f, sees-neg M V k x a y.0 f y.1 (λ z. omega (arith, ints)) K (omega arith) (omega (arith, ints)))
 side-sees M V whole l e =
     let d = vector (pos 1) (pos 0) (pos 0) in
     let F = free-whole M V l e d (λ z. let q = z.0 in omega (arith, ints)) in

@@ -3,7 +3,7 @@ use Rattle.std.specs.Prelude.{◌≡◌, ℕ, ◌⊎◌}
 use Rattle.nef_space.specs.Vectors.{SameDirection, opposite, plane_dir, up}
 use Rattle.nef_space.specs.declared.label.Label.{Label}
 use Rattle.nef_space.specs.declared.label.Label.TheVariants.{Out}
-use Rattle.law_sphere.specs.Maps.{At, Arc, Item, item_normal, OnItem, Side, around_svertex, above_item, below_item, HasSide, Sees, InOneSface}
+use Rattle.law_sphere.specs.Maps.{At, Arc, Item, item_normal, OnItem, Side, around_svertex, pos_item, neg_item, HasSide, Sees, InOneSface}
 use Rattle.law_complex.specs.Complexes.{Vertex, Edge, Complex, Corner, HasEnds, IsCorner}
 use Rattle.law_complex.specs.Skeleton.{item_plane, RayNames}
 use Rattle.law_complex.specs.Rays.{VertexSide, HasSideLabel, RayDown}
@@ -59,8 +59,8 @@ pub record LinkInSface (C : Complex) (x y : VertexSide) : Type 0 where
 
 -- the sides o of the lower and p of the higher end of an edge are one side along it: the same side of two arcs along it, or those around it
 pub data AreSidesAlong (C : Complex) (e : Edge) (o p : Side) : Type 0 where
-  above_arcs : (i j : ℕ) → AreAlong C e i j → o ≡ above_item i → p ≡ above_item j → AreSidesAlong C e o p
-  below_arcs : (i j : ℕ) → AreAlong C e i j → o ≡ below_item i → p ≡ below_item j → AreSidesAlong C e o p
+  pos_arcs : (i j : ℕ) → AreAlong C e i j → o ≡ pos_item i → p ≡ pos_item j → AreSidesAlong C e o p
+  neg_arcs : (i j : ℕ) → AreAlong C e i j → o ≡ neg_item i → p ≡ neg_item j → AreSidesAlong C e o p
   around_ends : o ≡ around_svertex e.low_svertex → p ≡ around_svertex e.high_svertex → AreSidesAlong C e o p
 
 -- the link along an edge
@@ -79,8 +79,8 @@ pub record LinkAcrossFacet (C : Complex) (x y : VertexSide) : Type 0 where
   pub here : Corner
   pub there : Corner
   pub across : LinkAcross C here there
-  pub sides : (IsSideOf C x here.vertex (above_item here.item) × IsSideOf C y there.vertex (above_item there.item))
-      ⊎ (IsSideOf C x here.vertex (below_item here.item) × IsSideOf C y there.vertex (below_item there.item))
+  pub sides : (IsSideOf C x here.vertex (pos_item here.item) × IsSideOf C y there.vertex (pos_item there.item))
+      ⊎ (IsSideOf C x here.vertex (neg_item here.item) × IsSideOf C y there.vertex (neg_item there.item))
 
 -- the link down a ray joins a side that sees straight down, and isn't outside, with the side above the point where the ray down from its vertex ends
 pub record LinkDown (C : Complex) (x y : VertexSide) : Type 0 where

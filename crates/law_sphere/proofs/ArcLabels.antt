@@ -14,7 +14,7 @@ use Rattle.law_sphere.proofs.Generic.{amount}
 use Rattle.law_sphere.proofs.Parallel.{past_source, arc-point, there-ahead, parallel-in_plane, parallel-trans}
 use Rattle.law_near.proofs.FlatDecided.{cross-turned, triple-dot}
 use Rattle.law_sphere.proofs.Shot.{product-off}
-use Rattle.law_sphere.proofs.Labels.{way-signs}
+use Rattle.law_sphere.proofs.Labels.{dir-signs}
 use Rattle.law_sphere.proofs.Around.{Beside, same_way, other_way, beside, opposites, triple-turned, opposite-triple, turn-plus}
 use Rattle.law_sphere.proofs.Compare.{SameDirection-trans}
 use Rattle.law_sphere.proofs.Turn.{turn-last}
@@ -80,7 +80,7 @@ module _ (gs : List Vector) (F : Vector → Label → Type 0) (L : Labelling gs 
       (zero-decided (cross d e))
     where
       same : Beside d e → P e
-      same (same_way w) = cells gs F L directed far_directed n a m b proper d e hd o.on_circle.direction (λ g l. way-signs d e g hd w) o.on_circle.level p
+      same (same_way w) = cells gs F L directed far_directed n a m b proper d e hd o.on_circle.direction (λ g l. dir-signs d e g hd w) o.on_circle.level p
       same (other_way w) = absurd (off w)
 
   level-blend : (d e : Vector) (i j : ℕ) → dot n d ≡ pos 0 → dot n e ≡ pos 0 → dot n (blend i d j e) ≡ pos 0

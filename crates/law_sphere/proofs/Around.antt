@@ -5,7 +5,7 @@ use Rattle.law_arithmetic.proofs.Ring.{ring, at, num, ◌⊕◌, ◌⊖◌, ◌�
 use Rattle.law_arithmetic.proofs.Combination.{follows, given, none}
 use Rattle.law_arithmetic.proofs.Order.{by_order, mul_pos, sign-scaled}
 use Rattle.nef_space.specs.Vectors.{Vector, IsDirection, triple, cross, dot, IsZero, SameDirection, IsOpposite}
-use Rattle.law_sphere.specs.Maps.{At, Svertex, Map, Item, arc_item, loop_item, items, item_normal, way_of, OnItem, IsFree, Shaped}
+use Rattle.law_sphere.specs.Maps.{At, MapVertex, Map, Item, arc_item, sloop_item, items, item_normal, dir_of, OnItem, IsFree, Shaped}
 use Rattle.law_cyclic.specs.Arcs.{IsStrictlyOn}
 use Rattle.law_sphere.specs.Forms.{Keeps, arc_forms, forms}
 use Rattle.law_sphere.proofs.Vectors.{normal-is, triple-middle, nought-if, same-plus, same-minus}
@@ -15,8 +15,8 @@ use Rattle.law_sphere.proofs.Places.{kept-nought, kept-minus, direction-stays, S
 use Rattle.law_sphere.proofs.Forms.{axes-forms, svertex-forms, item-forms, on-direction, on-level, OnItem-stays, OnItem-by_signs}
 use Rattle.law_sphere.proofs.Parallel.{parallel-in_plane, parallel-trans}
 use Rattle.law_near.proofs.FlatDecided.{cross-turned, triple-dot}
-use Rattle.law_sphere.proofs.Shot.{way-at, arc-at}
-use Rattle.law_sphere.proofs.Labels.{way-signs}
+use Rattle.law_sphere.proofs.Shot.{dir-at, arc-at}
+use Rattle.law_sphere.proofs.Labels.{dir-signs}
 
 -- ---- opposite to an end
 -- where d is opposite to s, the turn from d to t is the other one than that from s to t
@@ -173,18 +173,18 @@ module _ (M : Map) (V : Shaped M) (d e : Vector) (k : Keeps (forms M) d e) where
   pub direction-around : IsDirection d → IsDirection e
   direction-around f = direction-stays d e (λ g l. k g (axes-forms M g l)) f
 
-  pub svertex-around : (i : ℕ) (v : Svertex) → At M.svertices i v → IsDirection d → SameDirection v.way e → SameDirection v.way d
-  svertex-around i v a f w = SameDirection-back v.way d e (λ g l. k g (svertex-forms M i v g a l)) f w
+  pub svertex-around : (i : ℕ) (v : MapVertex) → At M.svertices i v → IsDirection d → SameDirection v.dir e → SameDirection v.dir d
+  svertex-around i v a f w = SameDirection-back v.dir d e (λ g l. k g (svertex-forms M i v g a l)) f w
 
   -- an item close to d is met at d or has an end there
-  pub item-around : (i : ℕ) (x : Item) → At (items M) i x → IsDirection d → ((j : ℕ) (v : Svertex) → At M.svertices j v → SameDirection v.way d → ⊥) → OnItem M x e → OnItem M x d
-  item-around i (loop_item l) a f n o = record { direction = f; level = kept-nought l.normal d e (k l.normal (item-forms M i (loop_item l) l.normal a (inl refl))) o.level }
+  pub item-around : (i : ℕ) (x : Item) → At (items M) i x → IsDirection d → ((j : ℕ) (v : MapVertex) → At M.svertices j v → SameDirection v.dir d → ⊥) → OnItem M x e → OnItem M x d
+  item-around i (sloop_item l) a f n o = record { direction = f; level = kept-nought l.normal d e (k l.normal (item-forms M i (sloop_item l) l.normal a (inl refl))) o.level }
   item-around i (arc_item r) a f n o =
-      let b = V.arcs_between i r (arc-at M.arcs M.loop i r a) in
-      let s = sym (way-at M.svertices r.source b.source b.has_source) in
-      let t = sym (way-at M.svertices r.target b.target b.has_target) in
-      IsStrictlyOn-back r.normal (way_of M.svertices r.source) (way_of M.svertices r.target) d e (normal-is V i (arc_item r) a)
-      (subst IsDirection s (V.svertex_ways r.source b.source b.has_source)) (subst IsDirection t (V.svertex_ways r.target b.target b.has_target))
+      let b = V.arcs_between i r (arc-at M.arcs M.sloop i r a) in
+      let s = sym (dir-at M.svertices r.source b.source b.has_source) in
+      let t = sym (dir-at M.svertices r.target b.target b.has_target) in
+      IsStrictlyOn-back r.normal (dir_of M.svertices r.source) (dir_of M.svertices r.target) d e (normal-is V i (arc_item r) a)
+      (subst IsDirection s (V.svertex_dirs r.source b.source b.has_source)) (subst IsDirection t (V.svertex_dirs r.target b.target b.has_target))
       (subst (λ (v : Vector). dot r.normal v ≡ pos 0) s b.level_source) (subst (λ (v : Vector). dot r.normal v ≡ pos 0) t b.level_target)
       (λ g l. k g (item-forms M i (arc_item r) g a l)) f
       (λ w. n r.source b.source b.has_source (subst (λ (v : Vector). SameDirection v d) (sym s) w))
@@ -197,8 +197,8 @@ module _ (M : Map) (V : Shaped M) (d e : Vector) (k : Keeps (forms M) d e) where
     off_items = λ i x a o. F.off_items i x a (item-around i x a F.direction F.off_svertices o);
   }
 
-  pub on_item-off_svertices : (i : ℕ) (x : Item) → At (items M) i x → OnItem M x d → (j : ℕ) (v : Svertex) → At M.svertices j v → SameDirection v.way d → ⊥
-  on_item-off_svertices i x a o j v b w = V.no_svertex_on_item j i v x b a (OnItem-by_signs M x d v.way (λ g l. sym (way-signs v.way d g (V.svertex_ways j v b) w)) o)
+  pub on_item-off_svertices : (i : ℕ) (x : Item) → At (items M) i x → OnItem M x d → (j : ℕ) (v : MapVertex) → At M.svertices j v → SameDirection v.dir d → ⊥
+  on_item-off_svertices i x a o j v b w = V.no_svertex_on_item j i v x b a (OnItem-by_signs M x d v.dir (λ g l. sym (dir-signs v.dir d g (V.svertex_dirs j v b) w)) o)
 
   -- close to an item, on it where in its plane
   pub item-stays : (i : ℕ) (x : Item) → At (items M) i x → dot (item_normal x) e ≡ pos 0 → OnItem M x d → OnItem M x e

@@ -5,7 +5,7 @@ use Rattle.law_arithmetic.proofs.Order.{Sign, minus, nought, plus, sign, by_orde
 use Rattle.nef_space.specs.Vectors.{Vector, IsDirection, cross, dot, SameDirection, IsNormal}
 use Rattle.nef_space.specs.declared.label.Label.{Label}
 use Rattle.law_near.proofs.Supports.{square-cross}
-use Rattle.law_sphere.specs.Maps.{At, Svertex, Arc, Loop, Map, Item, arc_item, loop_item, items, items_then, item_normal, item_above, item_mark, item_below, way_of, OnItem, IsFree, Shaped}
+use Rattle.law_sphere.specs.Maps.{At, MapVertex, Arc, MapSloop, Map, Item, arc_item, sloop_item, items, items_then, item_normal, item_pos, item_mark, item_neg, dir_of, OnItem, IsFree, Shaped}
 use Rattle.law_cyclic.specs.Arcs.{IsStrictlyOn}
 use Rattle.law_sphere.specs.Least.{by_side}
 use Rattle.law_sphere.specs.Labelling.{Labelling, Near, Plain, Agrees, StraightAt, IsSmooth, plain, straight}
@@ -18,41 +18,41 @@ use Rattle.law_sphere.proofs.Lists.{Found, search_list, at-one}
 use Rattle.law_sphere.proofs.Places.{IsStrictlyOn-decided}
 use Rattle.law_sphere.proofs.Forms.{on-direction, OnItem-by_signs}
 use Rattle.law_sphere.proofs.Parallel.{past_source, arc-point}
-use Rattle.law_sphere.proofs.Shot.{way-at, arc-at}
-use Rattle.law_sphere.proofs.Labels.{way-signs}
+use Rattle.law_sphere.proofs.Shot.{dir-at, arc-at}
+use Rattle.law_sphere.proofs.Labels.{dir-signs}
 use Rattle.law_sphere.proofs.Around.{Beside, same_way, other_way, beside}
-use Rattle.law_sphere.proofs.Compare.{SameDirection-turned, way-self, normals-not_opposite}
+use Rattle.law_sphere.proofs.Compare.{SameDirection-turned, dir-self, normals-not_opposite}
 use Rattle.law_sphere.proofs.Turn.{IsStrictlyOn-same, whole-passes, ends-together}
-use Rattle.law_sphere.proofs.Arcs.{Ends, at-arc, at-loop, loop-at, level-same}
+use Rattle.law_sphere.proofs.Arcs.{Ends, at-arc, at-sloop, sloop-at, level-same}
 use Rattle.law_sphere.proofs.Kind.{away}
 use Rattle.law_sphere.proofs.Along.{onward}
 use Rattle.law_sphere.proofs.ArcLabels.{arc-along}
 use Rattle.law_sphere.proofs.Firsts.{First, first-after, begin-together}
-use Rattle.law_sphere.proofs.Flips.{label-eq, dot-away, away-direction, reversed, flipped, unflipped, Axial, directed-by, far_directed-by, planes-parallel, loop-along}
+use Rattle.law_sphere.proofs.Flips.{label-eq, dot-away, away-direction, reversed, flipped, unflipped, Axial, directed-by, far_directed-by, planes-parallel, sloop-along}
 
 -- ---- lists
-abbrev pub ways : List Svertex → List Vector
-ways [] = []
-ways (v ∷ vs) = v.way ∷ ways vs
+abbrev pub dirs : List MapVertex → List Vector
+dirs [] = []
+dirs (v ∷ vs) = v.dir ∷ dirs vs
 
-pub at-ways : (vs : List Svertex) (k : ℕ) (v : Svertex) → At vs k v → At (ways vs) k v.way
-at-ways [] k v a = absurd a
-at-ways (u ∷ vs) zero v e = ap (λ (r : Svertex). r.way) e
-at-ways (u ∷ vs) (suc k) v a = at-ways vs k v a
+pub at-dirs : (vs : List MapVertex) (k : ℕ) (v : MapVertex) → At vs k v → At (dirs vs) k v.dir
+at-dirs [] k v a = absurd a
+at-dirs (u ∷ vs) zero v e = ap (λ (r : MapVertex). r.dir) e
+at-dirs (u ∷ vs) (suc k) v a = at-dirs vs k v a
 
-pub ways-at : (vs : List Svertex) (k : ℕ) (x : Vector) → At (ways vs) k x → (v : Svertex) × At vs k v × (v.way ≡ x)
-ways-at [] k x a = absurd a
-ways-at (u ∷ vs) zero x e = (u, refl, e)
-ways-at (u ∷ vs) (suc k) x a = ways-at vs k x a
+pub dirs-at : (vs : List MapVertex) (k : ℕ) (x : Vector) → At (dirs vs) k x → (v : MapVertex) × At vs k v × (v.dir ≡ x)
+dirs-at [] k x a = absurd a
+dirs-at (u ∷ vs) zero x e = (u, refl, e)
+dirs-at (u ∷ vs) (suc k) x a = dirs-at vs k x a
 
-loops-one : (as' : List Arc) (o : Option Loop) (i k : ℕ) (l c : Loop) → At (items_then as' o) i (loop_item l) → At (items_then as' o) k (loop_item c) → i ≡ k
-loops-one [] None i k l c a b = absurd a
-loops-one [] (Some m) zero zero l c a b = refl
-loops-one [] (Some m) zero (suc k) l c a b = absurd b
-loops-one [] (Some m) (suc i) k l c a b = absurd a
-loops-one (x ∷ as') o zero k l c a b = cc
-loops-one (x ∷ as') o (suc i) zero l c a b = cc
-loops-one (x ∷ as') o (suc i) (suc k) l c a b = ap suc (loops-one as' o i k l c a b)
+sloops-one : (as' : List Arc) (o : Option MapSloop) (i k : ℕ) (l c : MapSloop) → At (items_then as' o) i (sloop_item l) → At (items_then as' o) k (sloop_item c) → i ≡ k
+sloops-one [] None i k l c a b = absurd a
+sloops-one [] (Some m) zero zero l c a b = refl
+sloops-one [] (Some m) zero (suc k) l c a b = absurd b
+sloops-one [] (Some m) (suc i) k l c a b = absurd a
+sloops-one (x ∷ as') o zero k l c a b = cc
+sloops-one (x ∷ as') o (suc i) zero l c a b = cc
+sloops-one (x ∷ as') o (suc i) (suc k) l c a b = ap suc (sloops-one as' o i k l c a b)
 
 -- one of the two normals of a plane is in normal form
 pub normal-or : (n : Vector) → IsDirection n → IsNormal n ⊎ IsNormal (away n)
@@ -71,8 +71,8 @@ module _ (gs : List Vector) (F : Vector → Label → Type 0) (L : Labelling gs 
   b-ends : (k : ℕ) (a : Arc) → At M.arcs k a → Ends M a
   b-ends k a h =
       let b = B.arcs_between k a h in
-      let e = way-at M.svertices a.source b.source b.has_source in
-      let f = way-at M.svertices a.target b.target b.has_target in
+      let e = dir-at M.svertices a.source b.source b.has_source in
+      let f = dir-at M.svertices a.target b.target b.has_target in
       record {
         source = b.source;
         target = b.target;
@@ -80,8 +80,8 @@ module _ (gs : List Vector) (F : Vector → Label → Type 0) (L : Labelling gs 
         has_target = b.has_target;
         source_is = e;
         target_is = f;
-        source_direction = subst IsDirection (sym e) (B.svertex_ways a.source b.source b.has_source);
-        target_direction = subst IsDirection (sym f) (B.svertex_ways a.target b.target b.has_target);
+        source_direction = subst IsDirection (sym e) (B.svertex_dirs a.source b.source b.has_source);
+        target_direction = subst IsDirection (sym f) (B.svertex_dirs a.target b.target b.has_target);
         source_level = subst (λ (r : Vector). dot a.normal r ≡ pos 0) (sym e) b.level_source;
         target_level = subst (λ (r : Vector). dot a.normal r ≡ pos 0) (sym f) b.level_target;
       }
@@ -91,74 +91,74 @@ module _ (gs : List Vector) (F : Vector → Label → Type 0) (L : Labelling gs 
 
   -- what lies on an item is plain or straight
   on-smooth : (k : ℕ) (x : Item) → At (items M) k x → (d : Vector) → OnItem M x d → IsSmooth F d
-  on-smooth k x a d o = B.smooth d (on-direction M x d o) (λ j v b w. B.no_svertex_on_item j k v x b a (OnItem-by_signs M x d v.way (λ g i. sym (way-signs v.way d g (B.svertex_ways j v b) w)) o))
+  on-smooth k x a d o = B.smooth d (on-direction M x d o) (λ j v b w. B.no_svertex_on_item j k v x b a (OnItem-by_signs M x d v.dir (λ g i. sym (dir-signs v.dir d g (B.svertex_dirs j v b) w)) o))
 
-  pub item-proper : (k : ℕ) (x : Item) → At (items M) k x → Proper (item_above x) (item_mark x) (item_below x)
-  item-proper k (arc_item a) h = B.arc_proper k a (arc-at M.arcs M.loop k a h)
-  item-proper k (loop_item l) h = B.loop_proper l (loop-at M.arcs M.loop k l h)
+  pub item-proper : (k : ℕ) (x : Item) → At (items M) k x → Proper (item_pos x) (item_mark x) (item_neg x)
+  item-proper k (arc_item a) h = B.arc_proper k a (arc-at M.arcs M.sloop k a h)
+  item-proper k (sloop_item l) h = B.sloop_proper l (sloop-at M.arcs M.sloop k l h)
 
   -- everywhere on an item the labels are the item's
-  everywhere : (k : ℕ) (x : Item) → At (items M) k x → (d : Vector) → OnItem M x d → StraightAt F (item_normal x) (item_above x) (item_mark x) (item_below x) d
+  everywhere : (k : ℕ) (x : Item) → At (items M) k x → (d : Vector) → OnItem M x d → StraightAt F (item_normal x) (item_pos x) (item_mark x) (item_neg x) d
   everywhere k (arc_item a) h d o =
-      let j = arc-at M.arcs M.loop k a h in
+      let j = arc-at M.arcs M.sloop k a h in
       let e = b-ends k a j in
-      let s = way_of M.svertices a.source in
-      let t = way_of M.svertices a.target in
+      let s = dir_of M.svertices a.source in
+      let t = dir_of M.svertices a.target in
       let r = B.arc_labels k a j in
       let K = amount (cross t a.normal ∷ []) (cross a.normal s) + r.0 in
-      arc-along gs F L (directed-by gs axial) (far_directed-by gs axial) a.normal a.above a.mark a.below (B.arc_proper k a j) (b-normal k (arc_item a) h) s t
+      arc-along gs F L (directed-by gs axial) (far_directed-by gs axial) a.normal a.pos a.mark a.neg (B.arc_proper k a j) (b-normal k (arc_item a) h) s t
       e.source_direction e.target_direction e.source_level e.target_level (λ w p. on-smooth k (arc_item a) h w p) K (omega arith) (r.1 K (omega arith)) d o
-  everywhere k (loop_item l) h d o =
-      let q = loop-at M.arcs M.loop k l h in
-      let y = B.loop_labels l q in
-      loop-along gs F L axial l.normal l.above l.mark l.below (B.loop_proper l q) (b-normal k (loop_item l) h) (λ w p. on-smooth k (loop_item l) h w p) y.0 y.1 y.2 d o
+  everywhere k (sloop_item l) h d o =
+      let q = sloop-at M.arcs M.sloop k l h in
+      let y = B.sloop_labels l q in
+      sloop-along gs F L axial l.normal l.pos l.mark l.neg (B.sloop_proper l q) (b-normal k (sloop_item l) h) (λ w p. on-smooth k (sloop_item l) h w p) y.0 y.1 y.2 d o
 
   -- two items that share a direction lie in one plane
   one-plane : (i k : ℕ) (x y : Item) (d : Vector) → At (items M) i x → At (items M) k y → OnItem M x d → OnItem M y d → SameDirection (item_normal x) (item_normal y)
   one-plane i k x y d a b o p = by (beside (item_normal x) (item_normal y) (b-normal i x a) (b-normal k y b)
-      (planes-parallel gs F L axial (item_normal x) (item_above x) (item_mark x) (item_below x) (item-proper i x a) (b-normal i x a) (item_normal y) (item_above y) (item_mark y) (item_below y) d (on-direction M x d o) (everywhere i x a d o) (everywhere k y b d p)))
+      (planes-parallel gs F L axial (item_normal x) (item_pos x) (item_mark x) (item_neg x) (item-proper i x a) (b-normal i x a) (item_normal y) (item_pos y) (item_mark y) (item_neg y) d (on-direction M x d o) (everywhere i x a d o) (everywhere k y b d p)))
     where
       by : Beside (item_normal x) (item_normal y) → SameDirection (item_normal x) (item_normal y)
       by (same_way w) = w
       by (other_way w) = absurd (normals-not_opposite (item_normal x) (item_normal y) (B.normals i x a) (B.normals k y b) w)
 
   -- an arc doesn't share its plane with the sloop
-  arc-off_loop : (i k : ℕ) (a : Arc) (l : Loop) → At (items M) i (arc_item a) → At (items M) k (loop_item l) → SameDirection a.normal l.normal → ⊥
-  arc-off_loop i k a l h j w =
-      let e = b-ends i a (arc-at M.arcs M.loop i a h) in
-      let z = B.svertex_ways a.source e.source e.has_source in
-      B.no_svertex_on_item a.source k e.source (loop_item l) e.has_source j (record {
+  arc-off_sloop : (i k : ℕ) (a : Arc) (l : MapSloop) → At (items M) i (arc_item a) → At (items M) k (sloop_item l) → SameDirection a.normal l.normal → ⊥
+  arc-off_sloop i k a l h j w =
+      let e = b-ends i a (arc-at M.arcs M.sloop i a h) in
+      let z = B.svertex_dirs a.source e.source e.has_source in
+      B.no_svertex_on_item a.source k e.source (sloop_item l) e.has_source j (record {
         direction = z;
-        level = level-same a.normal l.normal e.source.way e.source.way w (way-self e.source.way z) (subst (λ (v : Vector). dot a.normal v ≡ pos 0) e.source_is e.source_level);
+        level = level-same a.normal l.normal e.source.dir e.source.dir w (dir-self e.source.dir z) (subst (λ (v : Vector). dot a.normal v ≡ pos 0) e.source_is e.source_level);
       })
 
   none-meet : (i k : ℕ) (x y : Item) (d : Vector) → At (items M) i x → At (items M) k y → OnItem M x d → OnItem M y d → i ≡ k
-  none-meet i k (loop_item l) (loop_item c) d a b o p = loops-one M.arcs M.loop i k l c a b
-  none-meet i k (arc_item x) (loop_item c) d a b o p = absurd (arc-off_loop i k x c a b (one-plane i k (arc_item x) (loop_item c) d a b o p))
-  none-meet i k (loop_item l) (arc_item y) d a b o p = absurd (arc-off_loop k i y l b a (one-plane k i (arc_item y) (loop_item l) d b a p o))
+  none-meet i k (sloop_item l) (sloop_item c) d a b o p = sloops-one M.arcs M.sloop i k l c a b
+  none-meet i k (arc_item x) (sloop_item c) d a b o p = absurd (arc-off_sloop i k x c a b (one-plane i k (arc_item x) (sloop_item c) d a b o p))
+  none-meet i k (sloop_item l) (arc_item y) d a b o p = absurd (arc-off_sloop k i y l b a (one-plane k i (arc_item y) (sloop_item l) d b a p o))
   none-meet i k (arc_item x) (arc_item y) d a b o p =
-      let u = arc-at M.arcs M.loop i x a in
-      let v = arc-at M.arcs M.loop k y b in
+      let u = arc-at M.arcs M.sloop i x a in
+      let v = arc-at M.arcs M.sloop k y b in
       let e = b-ends i x u in
       let f = b-ends k y v in
       let w = one-plane i k (arc_item x) (arc_item y) d a b o p in
       let wt = SameDirection-turned x.normal y.normal w in
-      let s = way_of M.svertices x.source in
-      let t = way_of M.svertices x.target in
-      let s' = way_of M.svertices y.source in
-      let t' = way_of M.svertices y.target in
-      let self = λ (r : Vector) (h : IsDirection r). way-self r h in
+      let s = dir_of M.svertices x.source in
+      let t = dir_of M.svertices x.target in
+      let s' = dir_of M.svertices y.source in
+      let t' = dir_of M.svertices y.target in
+      let self = λ (r : Vector) (h : IsDirection r). dir-self r h in
       let q = begin-together x.normal s t s' t' d (b-normal i (arc_item x) a) e.source_direction e.target_direction f.source_direction f.target_direction e.source_level e.target_level
       (level-same y.normal x.normal s' s' wt (self s' f.source_direction) f.source_level) (level-same y.normal x.normal t' t' wt (self t' f.target_direction) f.target_level) o
       (IsStrictlyOn-same y.normal x.normal s' s' t' t' d d wt (self s' f.source_direction) (self t' f.target_direction) (self d o.on_circle.direction) p)
       (λ z. B.no_svertex_on_item y.source i f.source (arc_item x) f.has_source a (subst (λ (r : Vector). IsStrictlyOn x.normal s t r) f.source_is z))
       (λ z. B.no_svertex_on_item x.source k e.source (arc_item y) e.has_source b (subst (λ (r : Vector). IsStrictlyOn y.normal s' t' r) e.source_is
       (IsStrictlyOn-same x.normal y.normal s' s' t' t' s s w (self s' f.source_direction) (self t' f.target_direction) (self s e.source_direction) z))) in
-      B.arcs_apart i k x y u v w (B.svertices_apart x.source y.source e.source f.source e.has_source f.has_source (subst (λ (r : Vector). SameDirection r f.source.way) e.source_is (subst (SameDirection s) f.source_is q)))
+      B.arcs_apart i k x y u v w (B.svertices_apart x.source y.source e.source f.source e.has_source f.has_source (subst (λ (r : Vector). SameDirection r f.source.dir) e.source_is (subst (SameDirection s) f.source_is q)))
 
   pub built-shaped : Shaped M
   built-shaped = record {
-    svertex_ways = B.svertex_ways;
+    svertex_dirs = B.svertex_dirs;
     svertices_apart = B.svertices_apart;
     normals = B.normals;
     arcs_between = B.arcs_between;
@@ -188,16 +188,16 @@ module _ (gs : List Vector) (F : Vector → Label → Type 0) (L : Labelling gs 
     level-back w z = let e = dot-away n w in omega (arith, ints)
 
     -- s is the last svertex before d
-    module _ (k : ℕ) (v : Svertex) (h : At M.svertices k v) (ls : dot n v.way ≡ pos 0) (clear : (j : ℕ) (x : Vector) → At (ways M.svertices) j x → IsStrictlyOn (away n) d v.way x → ⊥) where
+    module _ (k : ℕ) (v : MapVertex) (h : At M.svertices k v) (ls : dot n v.dir ≡ pos 0) (clear : (j : ℕ) (x : Vector) → At (dirs M.svertices) j x → IsStrictlyOn (away n) d v.dir x → ⊥) where
       abbrev s : Vector
-      s = v.way
+      s = v.dir
 
       hs : IsDirection s
-      hs = B.svertex_ways k v h
+      hs = B.svertex_dirs k v h
 
       back-smooth : (w : Vector) → IsStrictlyOn (away n) d s w → IsSmooth F w
-      back-smooth w o = B.smooth w o.on_circle.direction (λ j u c q. clear j u.way (at-ways M.svertices j u c)
-          (IsStrictlyOn-same (away n) (away n) d d s s w u.way (way-self (away n) ha) (way-self d G.direction) (way-self s hs) (SameDirection-turned u.way w q) o))
+      back-smooth w o = B.smooth w o.on_circle.direction (λ j u c q. clear j u.dir (at-dirs M.svertices j u c)
+          (IsStrictlyOn-same (away n) (away n) d d s s w u.dir (dir-self (away n) ha) (dir-self d G.direction) (dir-self s hs) (SameDirection-turned u.dir w q) o))
 
       back-labels : (w : Vector) → IsStrictlyOn (away n) d s w → StraightAt F (away n) b m a w
       back-labels w o =
@@ -219,45 +219,45 @@ module _ (gs : List Vector) (F : Vector → Label → Type 0) (L : Labelling gs 
       caught = by (B.arcs_all k v n a m b h normal ls proper after)
         where
           by : (i : ℕ) × (c : Arc) × At M.arcs i c × (c.source ≡ k) × SameDirection n c.normal → ⊥
-          by (i, c, ic, src, w) = cases (IsStrictlyOn-decided n s (way_of M.svertices c.target) d) (IsStrictlyOn-decided n s d (way_of M.svertices c.target))
+          by (i, c, ic, src, w) = cases (IsStrictlyOn-decided n s (dir_of M.svertices c.target) d) (IsStrictlyOn-decided n s d (dir_of M.svertices c.target))
             where
               e : Ends M c
               e = b-ends i c ic
 
-              source-is : way_of M.svertices c.source ≡ s
-              source-is = e.source_is ∙ ap (λ (r : Svertex). r.way) (at-one M.svertices k e.source v (subst (λ (j : ℕ). At M.svertices j e.source) src e.has_source) h)
+              source-is : dir_of M.svertices c.source ≡ s
+              source-is = e.source_is ∙ ap (λ (r : MapVertex). r.dir) (at-one M.svertices k e.source v (subst (λ (j : ℕ). At M.svertices j e.source) src e.has_source) h)
 
-              target-level : dot n (way_of M.svertices c.target) ≡ pos 0
-              target-level = level-same c.normal n (way_of M.svertices c.target) (way_of M.svertices c.target) (SameDirection-turned n c.normal w) (way-self (way_of M.svertices c.target) e.target_direction) e.target_level
+              target-level : dot n (dir_of M.svertices c.target) ≡ pos 0
+              target-level = level-same c.normal n (dir_of M.svertices c.target) (dir_of M.svertices c.target) (SameDirection-turned n c.normal w) (dir-self (dir_of M.svertices c.target) e.target_direction) e.target_level
 
-              cases : Decided (IsStrictlyOn n s (way_of M.svertices c.target) d) → Decided (IsStrictlyOn n s d (way_of M.svertices c.target)) → ⊥
-              cases (inl o) y = G.off_items i (arc_item c) (at-arc M.arcs M.loop i c ic)
-                  (IsStrictlyOn-same n c.normal s (way_of M.svertices c.source) (way_of M.svertices c.target) (way_of M.svertices c.target) d d w (subst (SameDirection s) (sym source-is) (way-self s hs))
-                  (way-self (way_of M.svertices c.target) e.target_direction) (way-self d G.direction) o)
-              cases (inr f) (inl o) = clear c.target (way_of M.svertices c.target) (subst (At (ways M.svertices) c.target) (sym e.target_is) (at-ways M.svertices c.target e.target e.has_target)) (reversed n s d (way_of M.svertices c.target) hs o)
+              cases : Decided (IsStrictlyOn n s (dir_of M.svertices c.target) d) → Decided (IsStrictlyOn n s d (dir_of M.svertices c.target)) → ⊥
+              cases (inl o) y = G.off_items i (arc_item c) (at-arc M.arcs M.sloop i c ic)
+                  (IsStrictlyOn-same n c.normal s (dir_of M.svertices c.source) (dir_of M.svertices c.target) (dir_of M.svertices c.target) d d w (subst (SameDirection s) (sym source-is) (dir-self s hs))
+                  (dir-self (dir_of M.svertices c.target) e.target_direction) (dir-self d G.direction) o)
+              cases (inr f) (inl o) = clear c.target (dir_of M.svertices c.target) (subst (At (dirs M.svertices) c.target) (sym e.target_is) (at-dirs M.svertices c.target e.target e.has_target)) (reversed n s d (dir_of M.svertices c.target) hs o)
               cases (inr f) (inr g) = G.off_svertices c.target e.target e.has_target (subst (λ (r : Vector). SameDirection r d) e.target_is
-                  (ends-together n s (way_of M.svertices c.target) d hn hs e.target_direction G.direction ls target-level p.level f g))
+                  (ends-together n s (dir_of M.svertices c.target) d hn hs e.target_direction G.direction ls target-level p.level f g))
 
     -- with a svertex on the circle, or none
     straight-free : ⊥
-    straight-free = by (search_list M.svertices (λ k v. dot n v.way ≡ pos 0) (λ k v. nought-or (dot n v.way)))
+    straight-free = by (search_list M.svertices (λ k v. dot n v.dir ≡ pos 0) (λ k v. nought-or (dot n v.dir)))
       where
-        at-listed : (s : Vector) → dot (away n) s ≡ pos 0 → ((j : ℕ) (x : Vector) → At (ways M.svertices) j x → IsStrictlyOn (away n) d s x → ⊥) → (k : ℕ) → (v : Svertex) × At M.svertices k v × (v.way ≡ s) → ⊥
-        at-listed s l none k (v, h, e) = caught k v h (level-back v.way (subst (λ (r : Vector). dot (away n) r ≡ pos 0) (sym e) l)) (λ j x c o. none j x c (subst (λ (r : Vector). IsStrictlyOn (away n) d r x) e o))
+        at-listed : (s : Vector) → dot (away n) s ≡ pos 0 → ((j : ℕ) (x : Vector) → At (dirs M.svertices) j x → IsStrictlyOn (away n) d s x → ⊥) → (k : ℕ) → (v : MapVertex) × At M.svertices k v × (v.dir ≡ s) → ⊥
+        at-listed s l none k (v, h, e) = caught k v h (level-back v.dir (subst (λ (r : Vector). dot (away n) r ≡ pos 0) (sym e) l)) (λ j x c o. none j x c (subst (λ (r : Vector). IsStrictlyOn (away n) d r x) e o))
 
-        by : Found M.svertices (λ k v. dot n v.way ≡ pos 0) ⊎ ((k : ℕ) (v : Svertex) → At M.svertices k v → dot n v.way ≡ pos 0 → ⊥) → ⊥
-        by (inr none) = loop (B.loop_all n d a m b normal G.direction none proper p)
+        by : Found M.svertices (λ k v. dot n v.dir ≡ pos 0) ⊎ ((k : ℕ) (v : MapVertex) → At M.svertices k v → dot n v.dir ≡ pos 0 → ⊥) → ⊥
+        by (inr none) = sloop (B.sloop_all n d a m b normal G.direction none proper p)
           where
-            loop : (l : Loop) × (M.loop ≡ Some l) × SameDirection n l.normal → ⊥
-            loop (l, q, w) = let i = at-loop M.arcs M.loop l q in G.off_items i.0 (loop_item l) i.1 (record { direction = G.direction; level = level-same n l.normal d d w (way-self d G.direction) p.level })
-        by (inl f) = first (first-after (away n) d ha G.direction (level-away d p.level) (ways M.svertices))
+            sloop : (l : MapSloop) × (M.sloop ≡ Some l) × SameDirection n l.normal → ⊥
+            sloop (l, q, w) = let i = at-sloop M.arcs M.sloop l q in G.off_items i.0 (sloop_item l) i.1 (record { direction = G.direction; level = level-same n l.normal d d w (dir-self d G.direction) p.level })
+        by (inl f) = first (first-after (away n) d ha G.direction (level-away d p.level) (dirs M.svertices))
           where
-            first : First (away n) d (ways M.svertices) → ⊥
+            first : First (away n) d (dirs M.svertices) → ⊥
             first r = ⊎_elim
-                (λ e. r.none_before f.number f.element.way (at-ways M.svertices f.number f.element f.listed) (subst (λ (q : Vector). IsStrictlyOn (away n) d q f.element.way) e
-                (whole-passes (away n) d d f.element.way ha G.direction G.direction (B.svertex_ways f.number f.element f.listed) (level-away d p.level) (level-away d p.level) (level-away f.element.way f.holds) (way-self d G.direction)
-                (λ w. G.off_svertices f.number f.element f.listed (SameDirection-turned d f.element.way w)))))
-                (λ k. at-listed r.target r.level r.none_before k.0 (ways-at M.svertices k.0 r.target k.1)) r.listed
+                (λ e. r.none_before f.number f.element.dir (at-dirs M.svertices f.number f.element f.listed) (subst (λ (q : Vector). IsStrictlyOn (away n) d q f.element.dir) e
+                (whole-passes (away n) d d f.element.dir ha G.direction G.direction (B.svertex_dirs f.number f.element f.listed) (level-away d p.level) (level-away d p.level) (level-away f.element.dir f.holds) (dir-self d G.direction)
+                (λ w. G.off_svertices f.number f.element f.listed (SameDirection-turned d f.element.dir w)))))
+                (λ k. at-listed r.target r.level r.none_before k.0 (dirs-at M.svertices k.0 r.target k.1)) r.listed
 
   -- free directions are plain
   free-plain : (d : Vector) → IsFree M d → Plain F d
@@ -292,5 +292,5 @@ module _ (gs : List Vector) (F : Vector → Label → Type 0) (L : Labelling gs 
     beside = λ k x d e a o f. let r = everywhere k x a d o in r.near e;
     lone = λ k v m e a q f. B.around_near k v m e a q f;
     free = free-plain;
-    face = B.ground_label;
+    ground = B.ground_label;
   }

@@ -5,7 +5,7 @@ use Rattle.std.proofs.Math.Nat.{mul-pos}
 use Rattle.law_arithmetic.proofs.Order.{sign-plus, sign-minus}
 use Rattle.nef_space.specs.Vectors.{Vector, IsDirection, cross, dot, IsZero, SameDirection, blend}
 use Rattle.nef_space.specs.declared.label.Label.{Label}
-use Rattle.law_sphere.specs.Maps.{Svertex, Map, items, item_normal, item_above, item_mark, item_below, IsFree, Side, around_svertex, above_item, below_item, whole, HasSide, IsClear, Reaches, Sees, directly, by_way_of, MapLabel, at_svertex, on_item, seen, InOneSface, here, link, Shaped, Valid}
+use Rattle.law_sphere.specs.Maps.{MapVertex, Map, items, item_normal, item_pos, item_mark, item_neg, IsFree, Side, around_svertex, pos_item, neg_item, whole, HasSide, IsClear, Reaches, Sees, directly, by_way_of, MapLabel, at_svertex, on_item, seen, InOneSface, here, link, Shaped, Valid}
 use Rattle.law_sphere.specs.Least.{by_side}
 use Rattle.law_sphere.specs.Labelling.{Labelling, Near, Agrees}
 use Rattle.law_near.proofs.Decided.{Decided}
@@ -17,7 +17,7 @@ use Rattle.law_sphere.proofs.Parallel.{apart, parallel-trans}
 use Rattle.law_near.proofs.FlatDecided.{cross-turned}
 use Rattle.law_sphere.proofs.Direct.{cross-between}
 use Rattle.law_sphere.proofs.StepOff.{blend-turned}
-use Rattle.law_sphere.proofs.Labels.{way-signs, way-direction, label-exists}
+use Rattle.law_sphere.proofs.Labels.{dir-signs, dir-direction, label-exists}
 use Rattle.law_sphere.proofs.Around.{Beside, same_way, other_way, beside}
 use Rattle.law_sphere.proofs.Compare.{SameDirection-turned, SameDirection-trans}
 use Rattle.law_sphere.proofs.Lone.{near-same_signs}
@@ -32,9 +32,9 @@ some-some {A} x y e = ap (get x) e
 
 -- a side of a map has one label
 pub side-one : (M : Map) (o : Side) (k l : Label) → HasSide M o k → HasSide M o l → k ≡ l
-side-one M (around_svertex i) k l (v, a, e) (u, b, f) = some-some k l (sym e ∙ ap (λ (r : Svertex). r.around) (at-one M.svertices i v u a b) ∙ f)
-side-one M (above_item i) k l (x, a, e) (y, b, f) = sym e ∙ ap item_above (at-one (items M) i x y a b) ∙ f
-side-one M (below_item i) k l (x, a, e) (y, b, f) = sym e ∙ ap item_below (at-one (items M) i x y a b) ∙ f
+side-one M (around_svertex i) k l (v, a, e) (u, b, f) = some-some k l (sym e ∙ ap (λ (r : MapVertex). r.around) (at-one M.svertices i v u a b) ∙ f)
+side-one M (pos_item i) k l (x, a, e) (y, b, f) = sym e ∙ ap item_pos (at-one (items M) i x y a b) ∙ f
+side-one M (neg_item i) k l (x, a, e) (y, b, f) = sym e ∙ ap item_neg (at-one (items M) i x y a b) ∙ f
 side-one M whole k l e f = some-some k l (sym e ∙ f)
 
 module _ (gs : List Vector) (F : Vector → Label → Type 0) (L : Labelling gs F) (M : Map) (S : Shaped M) (A : Agrees M F) where
@@ -70,33 +70,33 @@ module _ (gs : List Vector) (F : Vector → Label → Type 0) (L : Labelling gs 
   near-way y v e w f m (n, g) = (
     n + amount gs e,
     λ k h. L.cells (blend k v 1 e) (blend k y 1 e) m
-        (between-direction v e k 1 (omega arith) (λ z. f (parallel-trans y v e (way-direction y v (SameDirection-turned v y w)) (cross-turned v y w.parallel) z)))
+        (between-direction v e k 1 (omega arith) (λ z. f (parallel-trans y v e (dir-direction y v (SameDirection-turned v y w)) (cross-turned v y w.parallel) z)))
         (between-direction y e k 1 (omega arith) f) (near-same_signs gs v y e k (omega arith) w) (g k (omega arith)),
   )
 
   reached : (a y : Vector) → IsClear M a y → (o : Side) (m : Label) → HasSide M o m → Reaches M o a y → F a m
-  reached a y c (above_item k) m (x, h, e) (z, b, on, l) =
+  reached a y c (pos_item k) m (x, h, e) (z, b, on, l) =
       let q = at-one (items M) k z x b h in
       let f = apart (item_normal z) a y (λ w. omega (arith, ints)) (on-level M z y on) c.direction in
-      from_near a y c f m (subst (Near F y a) (ap (by_side (item_above z) (item_mark z) (item_below z)) (sign-plus (dot (item_normal z) a) l) ∙ ap item_above q ∙ e) (A.beside k z y a b on (cross-direction_turned a y f)))
-  reached a y c (below_item k) m (x, h, e) (z, b, on, l) =
+      from_near a y c f m (subst (Near F y a) (ap (by_side (item_pos z) (item_mark z) (item_neg z)) (sign-plus (dot (item_normal z) a) l) ∙ ap item_pos q ∙ e) (A.beside k z y a b on (cross-direction_turned a y f)))
+  reached a y c (neg_item k) m (x, h, e) (z, b, on, l) =
       let q = at-one (items M) k z x b h in
       let f = apart (item_normal z) a y (λ w. omega (arith, ints)) (on-level M z y on) c.direction in
-      from_near a y c f m (subst (Near F y a) (ap (by_side (item_above z) (item_mark z) (item_below z)) (sign-minus (dot (item_normal z) a) l) ∙ ap item_below q ∙ e) (A.beside k z y a b on (cross-direction_turned a y f)))
+      from_near a y c f m (subst (Near F y a) (ap (by_side (item_pos z) (item_mark z) (item_neg z)) (sign-minus (dot (item_normal z) a) l) ∙ ap item_neg q ∙ e) (A.beside k z y a b on (cross-direction_turned a y f)))
   reached a y c (around_svertex k) m (v, h, e) (u, b, w) = by (zero-decided (cross a y))
     where
       by : Decided (IsZero (cross a y)) → F a m
       by (inl z) = along (beside y a c.direction c.start.direction (cross-turned a y z))
         where
           along : Beside y a → F a m
-          along (same_way s) = absurd (c.start.off_svertices k u b (SameDirection-trans u.way y a w s))
+          along (same_way s) = absurd (c.start.off_svertices k u b (SameDirection-trans u.dir y a w s))
           along (other_way s) = absurd (c.short (record { parallel = z; backward = let p = dot-comm a y in let r = s.backward in omega (arith, ints) }))
       by (inr f) =
           let q = at-one M.svertices k v u h b in
           let g = cross-direction_turned a y f in
-          let n = A.lone k u m a b (sym (ap (λ (r : Svertex). r.around) q) ∙ e) (λ z. g (parallel-trans y u.way a (way-direction y u.way (SameDirection-turned u.way y w)) (cross-turned u.way y w.parallel) z)) in
-          from_near a y c f m (near-way y u.way a w g m n)
-  reached a y c whole m h t = A.face m a h c.start.direction
+          let n = A.lone k u m a b (sym (ap (λ (r : MapVertex). r.around) q) ∙ e) (λ z. g (parallel-trans y u.dir a (dir-direction y u.dir (SameDirection-turned u.dir y w)) (cross-turned u.dir y w.parallel) z)) in
+          from_near a y c f m (near-way y u.dir a w g m n)
+  reached a y c whole m h t = A.ground m a h c.start.direction
 
   -- a side that sees d has the label of d
   pub side-label : (d : Vector) (o : Side) (m : Label) → HasSide M o m → Sees M o d → F d m
@@ -115,7 +115,7 @@ module _ (gs : List Vector) (F : Vector → Label → Type 0) (L : Labelling gs 
   agrees-valid = record { shaped = S; one_label = sface-label }
 
   pub agrees-label : (d : Vector) (m : Label) → MapLabel M d m → F d m
-  agrees-label d m (at_svertex k v a w e) = subst (λ (r : Label). F d r) e (L.cells v.way d v.mark (S.svertex_ways k v a) (way-direction v.way d w) (λ g l. way-signs v.way d g (S.svertex_ways k v a) w) (A.svertices k v a))
+  agrees-label d m (at_svertex k v a w e) = subst (λ (r : Label). F d r) e (L.cells v.dir d v.mark (S.svertex_dirs k v a) (dir-direction v.dir d w) (λ g l. dir-signs v.dir d g (S.svertex_dirs k v a) w) (A.svertices k v a))
   agrees-label d m (on_item k x a o e) = subst (λ (r : Label). F d r) e (A.marks k x d a o)
   agrees-label d m (seen s) = side-label d s.side m s.has s.sees
 

@@ -8,7 +8,7 @@ use Rattle.nef_space.specs.Sets.{Set}
 use Rattle.nef_space.specs.declared.label.Label.{Label}
 use Rattle.nef_space.specs.Local.{HasLabel, Germ}
 use Rattle.law_near.specs.Cells.{carriers}
-use Rattle.law_sphere.specs.Maps.{At, Svertex, Map, MapLabel, NearLabel, Valid}
+use Rattle.law_sphere.specs.Maps.{At, MapVertex, Map, MapLabel, NearLabel, Valid}
 use Rattle.law_sphere.specs.Forms.{SameSigns, axes, forms}
 use Rattle.law_sphere.specs.Least.{by_side, NearPlain, NearStraight, Least, Cone}
 use Rattle.law_sphere.specs.Labelling.{Labelling, Near, IsSmooth, plain, straight, ByOp}
@@ -64,18 +64,18 @@ module _ (gs : List Vector) (F : Vector → Label → Type 0) (L : Labelling gs 
   straight-labels : (d : Vector) → IsDirection d → NearStraight M d → IsSmooth F d
   straight-labels d h P =
       let a = (built-labels d P.label h).0 P.at_d in
-      straight P.normal P.above P.label P.below P.direction (record {
+      straight P.normal P.pos P.label P.neg P.direction (record {
         level = P.level;
         at_d = a;
         near = λ e. ⊎_elim
-            (λ z. subst (Near F d e) (ap (by_side P.above P.label P.below) (sym (ap sign (in-span P.normal d e h z P.level)))) (near-parallel d e P.label h z a))
-            (λ f. near-labels d e (by_side P.above P.label P.below (sign (dot P.normal e))) h (P.near e f)) (zero-decided (cross d e));
+            (λ z. subst (Near F d e) (ap (by_side P.pos P.label P.neg) (sym (ap sign (in-span P.normal d e h z P.level)))) (near-parallel d e P.label h z a))
+            (λ f. near-labels d e (by_side P.pos P.label P.neg (sign (dot P.normal e))) h (P.near e f)) (zero-decided (cross d e));
       })
 
-  pub built-least : ((k : ℕ) (v : Svertex) → At M.svertices k v → IsSmooth F v.way → ⊥) → Least M
+  pub built-least : ((k : ℕ) (v : MapVertex) → At M.svertices k v → IsSmooth F v.dir → ⊥) → Least M
   built-least kept = record {
-    no_plain = λ k v a p. kept k v a (plain-labels v.way (B.svertex_ways k v a) p);
-    no_straight = λ k v a p. kept k v a (straight-labels v.way (B.svertex_ways k v a) p);
+    no_plain = λ k v a p. kept k v a (plain-labels v.dir (B.svertex_dirs k v a) p);
+    no_straight = λ k v a p. kept k v a (straight-labels v.dir (B.svertex_dirs k v a) p);
     items_differ = λ k x a. item-proper gs F L axial M B k x a;
   }
 

@@ -7,7 +7,7 @@ use Rattle.law_arithmetic.proofs.Order.{Sign, minus, nought, plus, sign, sign-pl
 use Rattle.nef_space.specs.Vectors.{Vector, IsDirection, cross, dot, IsZero, SameDirection, IsOpposite, IsNormal, blend}
 use Rattle.nef_space.specs.declared.label.Label.{Label}
 use Rattle.law_sphere.specs.Vectors.{comb}
-use Rattle.law_sphere.specs.Maps.{At, Svertex, Map, Item, items, item_normal, item_above, item_mark, item_below, OnItem, IsFree, MapLabel, at_svertex, on_item, NearLabel, Valid}
+use Rattle.law_sphere.specs.Maps.{At, MapVertex, Map, Item, items, item_normal, item_pos, item_mark, item_neg, OnItem, IsFree, MapLabel, at_svertex, on_item, NearLabel, Valid}
 use Rattle.law_sphere.specs.Least.{by_side, NearPlain, NearStraight, Least, SameLabels}
 use Rattle.law_near.proofs.FlatDecided.{cross-turned}
 use Rattle.law_sphere.proofs.Shot.{product-off}
@@ -15,7 +15,7 @@ use Rattle.law_sphere.proofs.Vectors.{normal-is, normal-direction, dot-comb}
 use Rattle.law_forms.proofs.Far.{nought-or}
 use Rattle.law_forms.proofs.Directions.{dot-comm, zero-decided, self-pos}
 use Rattle.law_sphere.proofs.Forms.{on-direction, PlaceOf, svertex_place, item_place, free_place, place_of}
-use Rattle.law_sphere.proofs.Labels.{label-direction, way-joined, label-exists, label-unique, near-unique}
+use Rattle.law_sphere.proofs.Labels.{label-direction, dir-joined, label-exists, label-unique, near-unique}
 use Rattle.law_sphere.proofs.Around.{turn-minus, Beside, same_way, other_way, beside, on_item-off_svertices}
 use Rattle.law_sphere.proofs.NearItems.{near-free, near-item, free-plain, item-straight}
 
@@ -24,10 +24,10 @@ pub SameDirection-turned : (d e : Vector) → SameDirection d e → SameDirectio
 SameDirection-turned d e w = record { parallel = cross-turned d e w.parallel; forward = let c = dot-comm e d in let h = w.forward in omega (arith, ints) }
 
 pub SameDirection-trans : (c d e : Vector) → SameDirection c d → SameDirection d e → SameDirection c e
-SameDirection-trans c d e a b = way-joined c e d a (SameDirection-turned d e b)
+SameDirection-trans c d e a b = dir-joined c e d a (SameDirection-turned d e b)
 
-pub way-self : (v : Vector) → IsDirection v → SameDirection v v
-way-self v h = record { parallel = by; forward = self-pos v h }
+pub dir-self : (v : Vector) → IsDirection v → SameDirection v v
+dir-self v h = record { parallel = by; forward = self-pos v h }
   where
     by : IsZero (cross v v)
     by = let xs = v.x ∷ v.y ∷ v.z ∷ [] in (
@@ -81,26 +81,26 @@ plain-carried : (M N : Map) → SameLabels M N → (d : Vector) → NearPlain M 
 plain-carried M N s d p = record { label = p.label; at_d = s d p.label p.at_d; near = λ e f. near-carried M N s d e p.label (p.near e f) }
 
 straight-carried : (M N : Map) → SameLabels M N → (d : Vector) → NearStraight M d → NearStraight N d
-straight-carried M N s d p = record { normal = p.normal; direction = p.direction; level = p.level; above = p.above; label = p.label; below = p.below; at_d = s d p.label p.at_d; near = λ e f. near-carried M N s d e _ (p.near e f) }
+straight-carried M N s d p = record { normal = p.normal; direction = p.direction; level = p.level; pos = p.pos; label = p.label; neg = p.neg; at_d = s d p.label p.at_d; near = λ e f. near-carried M N s d e _ (p.near e f) }
 
 -- ---- svertices
 pub record Matched (N : Map) (d : Vector) : Type 0 where
   pub number : ℕ
-  pub svertex : Svertex
+  pub svertex : MapVertex
   pub listed : At N.svertices number svertex
-  pub same : SameDirection svertex.way d
+  pub same : SameDirection svertex.dir d
 
 -- a svertex of a least map is one of any map with the same labels
-pub svertex-matched : (M N : Map) → Valid M → Valid N → Least M → SameLabels N M → (k : ℕ) (v : Svertex) → At M.svertices k v → Matched N v.way
-svertex-matched M N V W L s k v a = by (place_of N v.way (V.shaped.svertex_ways k v a))
+pub svertex-matched : (M N : Map) → Valid M → Valid N → Least M → SameLabels N M → (k : ℕ) (v : MapVertex) → At M.svertices k v → Matched N v.dir
+svertex-matched M N V W L s k v a = by (place_of N v.dir (V.shaped.svertex_dirs k v a))
   where
-    by : PlaceOf N v.way → Matched N v.way
+    by : PlaceOf N v.dir → Matched N v.dir
     by (svertex_place l u b w) = record { number = l; svertex = u; listed = b; same = w }
-    by (item_place l x b o) = absurd (L.no_straight k v a (straight-carried N M s v.way (item-straight N W v.way l x b o)))
-    by (free_place F) = absurd (L.no_plain k v a (plain-carried N M s v.way (free-plain N W v.way F)))
+    by (item_place l x b o) = absurd (L.no_straight k v a (straight-carried N M s v.dir (item-straight N W v.dir l x b o)))
+    by (free_place F) = absurd (L.no_plain k v a (plain-carried N M s v.dir (free-plain N W v.dir F)))
 
-pub svertex-mark : (M N : Map) → Valid N → SameLabels M N → (k l : ℕ) (v u : Svertex) → At M.svertices k v → At N.svertices l u → SameDirection u.way v.way → SameDirection v.way v.way → v.mark ≡ u.mark
-svertex-mark M N W s k l v u a b w r = label-unique N W v.way v.mark u.mark (s v.way v.mark (at_svertex k v a r refl)) (at_svertex l u b w refl)
+pub svertex-mark : (M N : Map) → Valid N → SameLabels M N → (k l : ℕ) (v u : MapVertex) → At M.svertices k v → At N.svertices l u → SameDirection u.dir v.dir → SameDirection v.dir v.dir → v.mark ≡ u.mark
+svertex-mark M N W s k l v u a b w r = label-unique N W v.dir v.mark u.mark (s v.dir v.mark (at_svertex k v a r refl)) (at_svertex l u b w refl)
 
 -- ---- items
 pub record MatchedItem (N : Map) (x : Item) (d : Vector) : Type 0 where
@@ -109,16 +109,16 @@ pub record MatchedItem (N : Map) (x : Item) (d : Vector) : Type 0 where
   pub listed : At (items N) number item
   pub on : OnItem N item d
   pub same : SameDirection (item_normal x) (item_normal item)
-  pub same_above : item_above x ≡ item_above item
+  pub same_pos : item_pos x ≡ item_pos item
   pub same_mark : item_mark x ≡ item_mark item
-  pub same_below : item_below x ≡ item_below item
+  pub same_neg : item_neg x ≡ item_neg item
 
 module _ (M N : Map) (V : Valid M) (W : Valid N) (L : Least M) (K : Least N) (s : SameLabels M N) (i : ℕ) (x : Item) (a : At (items M) i x) (d : Vector) (o : OnItem M x d) where
   abbrev n : Vector
   n = item_normal x
 
   abbrev sides : Sign → Label
-  sides = by_side (item_above x) (item_mark x) (item_below x)
+  sides = by_side (item_pos x) (item_mark x) (item_neg x)
 
   there : (e : Vector) → NearLabel N d e (sides (sign (dot n e)))
   there e = near-carried M N s d e _ (near-item M V d i x a o e)
@@ -126,14 +126,14 @@ module _ (M N : Map) (V : Valid M) (W : Valid N) (L : Least M) (K : Least N) (s 
   at_there : MapLabel N d (item_mark x)
   at_there = s d (item_mark x) (on_item i x a o refl)
 
-  there-above : (e : Vector) (m : Label) → pos 0 <ℤ dot n e → NearLabel N d e m → item_above x ≡ m
-  there-above e m h b = ap sides (sym (sign-plus (dot n e) h)) ∙ near-unique N W d e _ m (there e) b
+  there-pos : (e : Vector) (m : Label) → pos 0 <ℤ dot n e → NearLabel N d e m → item_pos x ≡ m
+  there-pos e m h b = ap sides (sym (sign-plus (dot n e) h)) ∙ near-unique N W d e _ m (there e) b
 
   there-mark : (e : Vector) (m : Label) → dot n e ≡ pos 0 → NearLabel N d e m → item_mark x ≡ m
   there-mark e m h b = ap sides (sym (ap sign h)) ∙ near-unique N W d e _ m (there e) b
 
-  there-below : (e : Vector) (m : Label) → dot n e <ℤ pos 0 → NearLabel N d e m → item_below x ≡ m
-  there-below e m h b = ap sides (sym (sign-minus (dot n e) h)) ∙ near-unique N W d e _ m (there e) b
+  there-neg : (e : Vector) (m : Label) → dot n e <ℤ pos 0 → NearLabel N d e m → item_neg x ≡ m
+  there-neg e m h b = ap sides (sym (sign-minus (dot n e) h)) ∙ near-unique N W d e _ m (there e) b
 
   abbrev down : Vector
   down = comb (negsuc 0) n (pos 0) n
@@ -148,10 +148,10 @@ module _ (M N : Map) (V : Valid M) (W : Valid N) (L : Least M) (K : Least N) (s 
   not_free F =
       let b = label-exists N W d F.direction in
       let m = label-unique N W d (item_mark x) b.0 at_there b.1 in
-      let u = there-above n b.0 n-up (near-free N W d F b.0 b.1 n) in
+      let u = there-pos n b.0 n-up (near-free N W d F b.0 b.1 n) in
       let e = down-is n n in
       let p = n-up in
-      let v = there-below down b.0 (omega (arith, ints)) (near-free N W d F b.0 b.1 down) in
+      let v = there-neg down b.0 (omega (arith, ints)) (near-free N W d F b.0 b.1 down) in
       L.items_differ i x a (u ∙ sym m) (v ∙ sym m)
 
   module _ (j : ℕ) (y : Item) (b : At (items N) j y) (q : OnItem N y d) where
@@ -159,7 +159,7 @@ module _ (M N : Map) (V : Valid M) (W : Valid N) (L : Least M) (K : Least N) (s 
     m = item_normal y
 
     abbrev m_sides : Sign → Label
-    m_sides = by_side (item_above y) (item_mark y) (item_below y)
+    m_sides = by_side (item_pos y) (item_mark y) (item_neg y)
 
     near_there : (e : Vector) (t : Sign) → sign (dot m e) ≡ t → NearLabel N d e (m_sides t)
     near_there e t h = subst (λ (r : Sign). NearLabel N d e (m_sides r)) h (near-item N W d j y b q e)
@@ -191,11 +191,11 @@ module _ (M N : Map) (V : Valid M) (W : Valid N) (L : Least M) (K : Least N) (s 
     parallel = ⊎_elim (λ z. z) (λ f. absurd (
         let h = across-above f in
         let l = across-level in
-        let u = there-above across (item_mark y) h (near_there across nought (ap sign l)) in
+        let u = there-pos across (item_mark y) h (near_there across nought (ap sign l)) in
         let c = down-is m across in
         let e = down-is n across in
         let z : dot m back ≡ pos 0 = omega (arith, ints) in
-        let v = there-below back (item_mark y) (omega (arith, ints)) (near_there back nought (ap sign z)) in
+        let v = there-neg back (item_mark y) (omega (arith, ints)) (near_there back nought (ap sign z)) in
         L.items_differ i x a (u ∙ sym marks) (v ∙ sym marks))) (zero-decided (cross n m))
 
     same-way : SameDirection n m
@@ -219,9 +219,9 @@ module _ (M N : Map) (V : Valid M) (W : Valid N) (L : Least M) (K : Least N) (s 
           listed = b;
           on = q;
           same = w;
-          same_above = there-above n (item_above y) p (near_there n plus (sign-plus (dot m n) (omega (arith, ints))));
+          same_pos = there-pos n (item_pos y) p (near_there n plus (sign-plus (dot m n) (omega (arith, ints))));
           same_mark = marks;
-          same_below = there-below down (item_below y) (omega (arith, ints)) (near_there down minus (sign-minus (dot m down) (omega (arith, ints))));
+          same_neg = there-neg down (item_neg y) (omega (arith, ints)) (near_there down minus (sign-minus (dot m down) (omega (arith, ints))));
         }
 
   -- where an item of M lies, there lies one of N, in the same plane and with the same labels
@@ -231,6 +231,6 @@ module _ (M N : Map) (V : Valid M) (W : Valid N) (L : Least M) (K : Least N) (s 
       by : PlaceOf N d → MatchedItem N x d
       by (svertex_place l u b w) =
           let r = svertex-matched N M W V K s l u b in
-          absurd (on_item-off_svertices M V.shaped d d (λ g l f. refl) i x a o r.number r.svertex r.listed (SameDirection-trans r.svertex.way u.way d r.same w))
+          absurd (on_item-off_svertices M V.shaped d d (λ g l f. refl) i x a o r.number r.svertex r.listed (SameDirection-trans r.svertex.dir u.dir d r.same w))
       by (item_place j y b q) = matched-item j y b q
       by (free_place F) = absurd (not_free F)

@@ -22,7 +22,7 @@ use Rattle.law_sphere.proofs.Parallel.{apart, parallel-trans, circle-point}
 use Rattle.law_near.proofs.FlatDecided.{cross-turned}
 use Rattle.law_sphere.proofs.Direct.{cross-self}
 use Rattle.law_sphere.proofs.Labels.{label-direction, label-unique}
-use Rattle.law_sphere.proofs.Arcs.{at-loop}
+use Rattle.law_sphere.proofs.Arcs.{at-sloop}
 use Rattle.law_sphere.proofs.KindFlats.{volume-flat, facet-flat, facet-only}
 use Rattle.law_sphere.proofs.KindLaws.{KindOf, flat-kind, edge-flat, edge-only}
 
@@ -64,7 +64,7 @@ module _ (M : Map) (s : Set) (p : Place) (C : Cone M s p) where
   facet-dimension L n K = (two, none)
     where
       hn : IsDirection n
-      hn = let V = C.valid in let i = at-loop M.arcs M.loop K.loop K.has_loop in subst IsDirection K.normal (normal-is V.shaped i.0 _ i.1)
+      hn = let V = C.valid in let i = at-sloop M.arcs M.sloop K.sloop K.has_sloop in subst IsDirection K.normal (normal-is V.shaped i.0 _ i.1)
 
       two : HasFlat s p 2
       two =
@@ -89,7 +89,7 @@ module _ (M : Map) (s : Set) (p : Place) (C : Cone M s p) where
   edge-dimension L d K = ((d, hd, flat-map d (edge-flat M C.valid d K)), none)
     where
       hd : IsDirection d
-      hd z = let o = K.opposite in let b = o.backward in let e = dot-zero K.first.way K.second.way (subst IsZero (sym K.named) z) in omega (arith, ints)
+      hd z = let o = K.opposite in let b = o.backward in let e = dot-zero K.first.dir K.second.dir (subst IsZero (sym K.named) z) in omega (arith, ints)
 
       none : HasFlat s p 2 → ⊥
       none (e, f, t, x, y) = t (parallel-trans e d f hd (cross-turned d e (edge-only M C.valid L d K e (map-flat e x))) (edge-only M C.valid L d K f (map-flat f y)))

@@ -7,7 +7,7 @@ use Rattle.law_arithmetic.specs.Signs.{Lies}
 use Rattle.nef_space.specs.Vectors.{Vector, IsDirection, cross, dot, IsZero, SameDirection, blend}
 use Rattle.nef_space.specs.declared.label.Label.{Label}
 use Rattle.law_sphere.specs.Vectors.{comb}
-use Rattle.law_sphere.specs.Maps.{At, Svertex, Map, Item, items, item_normal, item_above, item_below, OnItem, IsFree, Side, above_item, below_item, HasSide, IsClear, Reaches, Shaped}
+use Rattle.law_sphere.specs.Maps.{At, MapVertex, Map, Item, items, item_normal, item_pos, item_neg, OnItem, IsFree, Side, pos_item, neg_item, HasSide, IsClear, Reaches, Shaped}
 use Rattle.law_sphere.proofs.Vectors.{normal-is, dot-comb, comb-dot, direction-by}
 use Rattle.law_forms.proofs.Far.{nought-or}
 use Rattle.law_forms.proofs.Directions.{square_pos}
@@ -90,7 +90,7 @@ module _ (M : Map) (V : Shaped M) (d : Vector) (k : ℕ) (x : Item) (here : At (
   n = item_normal x
 
   abbrev spots : List Vector
-  spots = gather (λ (v : Svertex). cross d v.way ∷ []) M.svertices
+  spots = gather (λ (v : MapVertex). cross d v.dir ∷ []) M.svertices
 
   abbrev planes : List Vector
   planes = gather (λ (y : Item). item_normal y ∷ []) (items M)
@@ -101,8 +101,8 @@ module _ (M : Map) (V : Shaped M) (d : Vector) (k : ℕ) (x : Item) (here : At (
   abbrev avoided : List Vector
   avoided = spots ++ (planes ++ slides)
 
-  spot-in : (l : ℕ) (v : Svertex) → At M.svertices l v → Lies avoided (cross d v.way)
-  spot-in l v a = lies-left spots (planes ++ slides) (cross d v.way) (gather-has (λ (v : Svertex). cross d v.way ∷ []) M.svertices l v (cross d v.way) a (inl refl))
+  spot-in : (l : ℕ) (v : MapVertex) → At M.svertices l v → Lies avoided (cross d v.dir)
+  spot-in l v a = lies-left spots (planes ++ slides) (cross d v.dir) (gather-has (λ (v : MapVertex). cross d v.dir ∷ []) M.svertices l v (cross d v.dir) a (inl refl))
 
   plane-in : (l : ℕ) (y : Item) → At (items M) l y → Lies avoided (item_normal y)
   plane-in l y a = lies-right spots (planes ++ slides) (item_normal y) (lies-left planes slides (item_normal y) (gather-has (λ (y : Item). item_normal y ∷ []) (items M) l y (item_normal y) a (inl refl)))
@@ -126,7 +126,7 @@ module _ (M : Map) (V : Shaped M) (d : Vector) (k : ℕ) (x : Item) (here : At (
     on = OnItem-stays M x y (slid n d e.vector) kept (slid-level n d e.vector) o;
     across = f;
     flat = λ l z h a b. product-off (dot n d *ℤ dot n d) (dot (item_normal z) e.vector) square (e.off (item_normal z) (plane-in l z h) (normal-is V l z h)) (sym (slid-square n d (item_normal z) e.vector a) ∙ b);
-    off = λ l v h g b. product-off (dot n d *ℤ dot n d) (dot (cross d v.way) e.vector) square (e.off (cross d v.way) (spot-in l v h) g) (sym (slid-square n d (cross d v.way) e.vector (cross-self d v.way)) ∙ b);
+    off = λ l v h g b. product-off (dot n d *ℤ dot n d) (dot (cross d v.dir) e.vector) square (e.off (cross d v.dir) (spot-in l v h) g) (sym (slid-square n d (cross d v.dir) e.vector (cross-self d v.dir)) ∙ b);
   }
     where
       kept : Keeps (item_forms M x) y (slid n d e.vector)
@@ -162,7 +162,7 @@ module _ (M : Map) (V : Shaped M) (d : Vector) (F : IsFree M d) where
         short = λ o. h o.parallel;
         between = λ i j si sj. record {
           direction = direction-by g (blend i d j c) (between-off_target g d c i j si l t.across);
-          off_svertices = λ k v a m. miss-between d v.way c i j sj (V.svertex_ways k v a) (t.off k v a) h m;
+          off_svertices = λ k v a m. miss-between d v.dir c i j sj (V.svertex_dirs k v a) (t.off k v a) h m;
           off_items = λ k x a o. s.unmet k x a i j si sj o;
         };
       }
@@ -172,6 +172,6 @@ module _ (M : Map) (V : Shaped M) (d : Vector) (F : IsFree M d) where
       let s = shot M V d k x h f in
       let t = s.target in
       by_order (dot (item_normal t.item) d) (pos 0)
-      (λ l. record { side = below_item t.number; label = item_below t.item; has = (t.item, t.listed, refl); point = s.at_vector; clear = target-clear s; reached = (t.item, t.listed, t.on, l) })
+      (λ l. record { side = neg_item t.number; label = item_neg t.item; has = (t.item, t.listed, refl); point = s.at_vector; clear = target-clear s; reached = (t.item, t.listed, t.on, l) })
       (λ e. absurd (t.across e))
-      (λ l. record { side = above_item t.number; label = item_above t.item; has = (t.item, t.listed, refl); point = s.at_vector; clear = target-clear s; reached = (t.item, t.listed, t.on, l) })
+      (λ l. record { side = pos_item t.number; label = item_pos t.item; has = (t.item, t.listed, refl); point = s.at_vector; clear = target-clear s; reached = (t.item, t.listed, t.on, l) })

@@ -9,14 +9,14 @@ use Rattle.nef_space.specs.Sets.{Set}
 use Rattle.nef_space.specs.declared.label.Label.{Label}
 use Rattle.law_near.proofs.Germs.{Germ-unique, label-one}
 use Rattle.law_sphere.specs.Vectors.{IsPrimitive, VectorBelow}
-use Rattle.law_sphere.specs.Maps.{At, Svertex, Arc, Loop, Map, arc_item, loop_item, way_of, MapLabel, Valid}
+use Rattle.law_sphere.specs.Maps.{At, MapVertex, Arc, MapSloop, Map, arc_item, sloop_item, dir_of, MapLabel, Valid}
 use Rattle.law_sphere.specs.Least.{Least, SameLabels, MatchedArc, Within, ArcBelow, InOrder, Ordered, Cone}
 use Rattle.law_forms.proofs.Directions.{self-pos}
 use Rattle.law_near.proofs.Flats.{vector-same}
-use Rattle.law_sphere.proofs.Labels.{label-direction, label-unique, way-direction}
+use Rattle.law_sphere.proofs.Labels.{label-direction, label-unique, dir-direction}
 use Rattle.law_sphere.proofs.Compare.{scaled-coordinates, labels-turned, SameDirection-turned}
-use Rattle.law_sphere.proofs.Arcs.{Ends, ends-of, at-arc, at-loop}
-use Rattle.law_sphere.proofs.Turn.{way-directed}
+use Rattle.law_sphere.proofs.Arcs.{Ends, ends-of, at-arc, at-sloop}
+use Rattle.law_sphere.proofs.Turn.{dir-directed}
 use Rattle.law_sphere.proofs.Unique.{within}
 
 -- ---- lowest terms
@@ -49,8 +49,8 @@ unit-factor k l e h i = by_order k (pos 1) (λ m. absurd (omega (arith, ints))) 
 
 pub lowest-same : (u v : Vector) → SameDirection u v → IsPrimitive u → IsPrimitive v → u ≡ v
 lowest-same u v w l m =
-    let hu = way-directed u v w in
-    let hv = way-direction u v w in
+    let hu = dir-directed u v w in
+    let hv = dir-direction u v w in
     let p = multiple u v w.parallel hu l in
     let q = multiple v u (SameDirection-turned u v w).parallel hv m in
     let k = dot l.by v in
@@ -114,40 +114,40 @@ same-lists {A} Below asym (x ∷ xs) (y ∷ ys) o p f g =
     later x y xs ys o e k a m (suc l, h) = (l, h)
 
 -- ---- records
-svertex-equal : (v u : Svertex) → v.way ≡ u.way → v.mark ≡ u.mark → v.around ≡ u.around → v ≡ u
-svertex-equal v u a b c = ap (λ r. record { way = r; mark = v.mark; around = v.around }) a ∙ ap (λ r. record { way = u.way; mark = r; around = v.around }) b ∙ ap (λ r. record { way = u.way; mark = u.mark; around = r }) c
+svertex-equal : (v u : MapVertex) → v.dir ≡ u.dir → v.mark ≡ u.mark → v.around ≡ u.around → v ≡ u
+svertex-equal v u a b c = ap (λ r. record { dir = r; mark = v.mark; around = v.around }) a ∙ ap (λ r. record { dir = u.dir; mark = r; around = v.around }) b ∙ ap (λ r. record { dir = u.dir; mark = u.mark; around = r }) c
 
-arc-equal : (a b : Arc) → a.normal ≡ b.normal → a.source ≡ b.source → a.target ≡ b.target → a.above ≡ b.above → a.mark ≡ b.mark → a.below ≡ b.below → a ≡ b
+arc-equal : (a b : Arc) → a.normal ≡ b.normal → a.source ≡ b.source → a.target ≡ b.target → a.pos ≡ b.pos → a.mark ≡ b.mark → a.neg ≡ b.neg → a ≡ b
 arc-equal a b n s t f m g =
-    ap (λ r. record { normal = r; source = a.source; target = a.target; above = a.above; mark = a.mark; below = a.below }) n
-    ∙ ap (λ r. record { normal = b.normal; source = r; target = a.target; above = a.above; mark = a.mark; below = a.below }) s
-    ∙ ap (λ r. record { normal = b.normal; source = b.source; target = r; above = a.above; mark = a.mark; below = a.below }) t
-    ∙ ap (λ r. record { normal = b.normal; source = b.source; target = b.target; above = r; mark = a.mark; below = a.below }) f
-    ∙ ap (λ r. record { normal = b.normal; source = b.source; target = b.target; above = b.above; mark = r; below = a.below }) m
-    ∙ ap (λ r. record { normal = b.normal; source = b.source; target = b.target; above = b.above; mark = b.mark; below = r }) g
+    ap (λ r. record { normal = r; source = a.source; target = a.target; pos = a.pos; mark = a.mark; neg = a.neg }) n
+    ∙ ap (λ r. record { normal = b.normal; source = r; target = a.target; pos = a.pos; mark = a.mark; neg = a.neg }) s
+    ∙ ap (λ r. record { normal = b.normal; source = b.source; target = r; pos = a.pos; mark = a.mark; neg = a.neg }) t
+    ∙ ap (λ r. record { normal = b.normal; source = b.source; target = b.target; pos = r; mark = a.mark; neg = a.neg }) f
+    ∙ ap (λ r. record { normal = b.normal; source = b.source; target = b.target; pos = b.pos; mark = r; neg = a.neg }) m
+    ∙ ap (λ r. record { normal = b.normal; source = b.source; target = b.target; pos = b.pos; mark = b.mark; neg = r }) g
 
-loop-equal : (a b : Loop) → a.normal ≡ b.normal → a.above ≡ b.above → a.mark ≡ b.mark → a.below ≡ b.below → a ≡ b
-loop-equal a b n f m g =
-    ap (λ r. record { normal = r; above = a.above; mark = a.mark; below = a.below }) n
-    ∙ ap (λ r. record { normal = b.normal; above = r; mark = a.mark; below = a.below }) f
-    ∙ ap (λ r. record { normal = b.normal; above = b.above; mark = r; below = a.below }) m
-    ∙ ap (λ r. record { normal = b.normal; above = b.above; mark = b.mark; below = r }) g
+sloop-equal : (a b : MapSloop) → a.normal ≡ b.normal → a.pos ≡ b.pos → a.mark ≡ b.mark → a.neg ≡ b.neg → a ≡ b
+sloop-equal a b n f m g =
+    ap (λ r. record { normal = r; pos = a.pos; mark = a.mark; neg = a.neg }) n
+    ∙ ap (λ r. record { normal = b.normal; pos = r; mark = a.mark; neg = a.neg }) f
+    ∙ ap (λ r. record { normal = b.normal; pos = b.pos; mark = r; neg = a.neg }) m
+    ∙ ap (λ r. record { normal = b.normal; pos = b.pos; mark = b.mark; neg = r }) g
 
-map-equal : (M N : Map) → M.mark ≡ N.mark → M.svertices ≡ N.svertices → M.arcs ≡ N.arcs → M.loop ≡ N.loop → M.face ≡ N.face → M ≡ N
+map-equal : (M N : Map) → M.mark ≡ N.mark → M.svertices ≡ N.svertices → M.arcs ≡ N.arcs → M.sloop ≡ N.sloop → M.ground ≡ N.ground → M ≡ N
 map-equal M N a b c d e =
-    ap (λ r. record { mark = r; svertices = M.svertices; arcs = M.arcs; loop = M.loop; face = M.face }) a
-    ∙ ap (λ r. record { mark = N.mark; svertices = r; arcs = M.arcs; loop = M.loop; face = M.face }) b
-    ∙ ap (λ r. record { mark = N.mark; svertices = N.svertices; arcs = r; loop = M.loop; face = M.face }) c
-    ∙ ap (λ r. record { mark = N.mark; svertices = N.svertices; arcs = N.arcs; loop = r; face = M.face }) d
-    ∙ ap (λ r. record { mark = N.mark; svertices = N.svertices; arcs = N.arcs; loop = N.loop; face = r }) e
+    ap (λ r. record { mark = r; svertices = M.svertices; arcs = M.arcs; sloop = M.sloop; ground = M.ground }) a
+    ∙ ap (λ r. record { mark = N.mark; svertices = r; arcs = M.arcs; sloop = M.sloop; ground = M.ground }) b
+    ∙ ap (λ r. record { mark = N.mark; svertices = N.svertices; arcs = r; sloop = M.sloop; ground = M.ground }) c
+    ∙ ap (λ r. record { mark = N.mark; svertices = N.svertices; arcs = N.arcs; sloop = r; ground = M.ground }) d
+    ∙ ap (λ r. record { mark = N.mark; svertices = N.svertices; arcs = N.arcs; sloop = N.sloop; ground = r }) e
 
 -- ---- maps that hold the same things
 module _ (M N : Map) (V : Valid M) (W : Valid N) (O : Ordered M) (P : Ordered N) where
-  carry-svertex : Within M N → (k : ℕ) (v : Svertex) → At M.svertices k v → (l : ℕ) × At N.svertices l v
+  carry-svertex : Within M N → (k : ℕ) (v : MapVertex) → At M.svertices k v → (l : ℕ) × At N.svertices l v
   carry-svertex w k v a =
       let m = w.svertices k v a in
-      let e = svertex-equal v m.svertex (lowest-same v.way m.svertex.way m.way (O.ways_lowest k v a) (P.ways_lowest m.number m.svertex m.listed)) m.mark m.around in
-      (m.number, subst (λ (r : Svertex). At N.svertices m.number r) (sym e) m.listed)
+      let e = svertex-equal v m.svertex (lowest-same v.dir m.svertex.dir m.dir (O.dirs_lowest k v a) (P.dirs_lowest m.number m.svertex m.listed)) m.mark m.around in
+      (m.number, subst (λ (r : MapVertex). At N.svertices m.number r) (sym e) m.listed)
 
   carry-arc : Within M N → M.svertices ≡ N.svertices → (k : ℕ) (a : Arc) → At M.arcs k a → (l : ℕ) × At N.arcs l a
   carry-arc w q k a h = by (w.arcs k a h)
@@ -155,39 +155,39 @@ module _ (M N : Map) (V : Valid M) (W : Valid N) (O : Ordered M) (P : Ordered N)
       by : MatchedArc M N a → (l : ℕ) × At N.arcs l a
       by m = with_ends (ends-of M V.shaped k a h) (ends-of N W.shaped m.number m.arc m.listed)
         where
-          number-same : (i j : ℕ) (u v : Svertex) → At M.svertices i u → At N.svertices j v → way_of M.svertices i ≡ u.way → way_of N.svertices j ≡ v.way → SameDirection (way_of M.svertices i) (way_of N.svertices j) → i ≡ j
-          number-same i j u v a b e f s = V.shaped.svertices_apart i j u v a (subst (λ (r : List Svertex). At r j v) (sym q) b) (subst (λ (r : Vector). SameDirection r v.way) e (subst (λ (r : Vector). SameDirection (way_of M.svertices i) r) f s))
+          number-same : (i j : ℕ) (u v : MapVertex) → At M.svertices i u → At N.svertices j v → dir_of M.svertices i ≡ u.dir → dir_of N.svertices j ≡ v.dir → SameDirection (dir_of M.svertices i) (dir_of N.svertices j) → i ≡ j
+          number-same i j u v a b e f s = V.shaped.svertices_apart i j u v a (subst (λ (r : List MapVertex). At r j v) (sym q) b) (subst (λ (r : Vector). SameDirection r v.dir) e (subst (λ (r : Vector). SameDirection (dir_of M.svertices i) r) f s))
 
           with_ends : Ends M a → Ends N m.arc → (l : ℕ) × At N.arcs l a
           with_ends x y =
-              let n = lowest-same a.normal m.arc.normal m.normal (O.normals_lowest k (arc_item a) (at-arc M.arcs M.loop k a h)) (P.normals_lowest m.number (arc_item m.arc) (at-arc N.arcs N.loop m.number m.arc m.listed)) in
+              let n = lowest-same a.normal m.arc.normal m.normal (O.normals_lowest k (arc_item a) (at-arc M.arcs M.sloop k a h)) (P.normals_lowest m.number (arc_item m.arc) (at-arc N.arcs N.sloop m.number m.arc m.listed)) in
               let s = number-same a.source m.arc.source x.source y.source x.has_source y.has_source x.source_is y.source_is m.source in
               let t = number-same a.target m.arc.target x.target y.target x.has_target y.has_target x.target_is y.target_is m.target in
-              (m.number, subst (λ (r : Arc). At N.arcs m.number r) (sym (arc-equal a m.arc n s t m.above m.mark m.below)) m.listed)
+              (m.number, subst (λ (r : Arc). At N.arcs m.number r) (sym (arc-equal a m.arc n s t m.pos m.mark m.neg)) m.listed)
 
 module _ (M N : Map) (V : Valid M) (W : Valid N) (O : Ordered M) (P : Ordered N) (w : Within M N) (x : Within N M) where
   svertices-same : M.svertices ≡ N.svertices
-  svertices-same = same-lists (λ (u v : Svertex). VectorBelow u.way v.way) (λ u v. vector-below u.way v.way) M.svertices N.svertices O.svertices P.svertices (carry-svertex M N V W O P w) (carry-svertex N M W V P O x)
+  svertices-same = same-lists (λ (u v : MapVertex). VectorBelow u.dir v.dir) (λ u v. vector-below u.dir v.dir) M.svertices N.svertices O.svertices P.svertices (carry-svertex M N V W O P w) (carry-svertex N M W V P O x)
 
   arcs-same : M.arcs ≡ N.arcs
   arcs-same = same-lists ArcBelow arc-below M.arcs N.arcs O.arcs P.arcs (carry-arc M N V W O P w svertices-same) (carry-arc N M W V P O x (sym svertices-same))
 
-  loops-same : M.loop ≡ N.loop
-  loops-same = by M.loop N.loop refl refl
+  sloops-same : M.sloop ≡ N.sloop
+  sloops-same = by M.sloop N.sloop refl refl
     where
-      by : (o p : Option Loop) → M.loop ≡ o → N.loop ≡ p → M.loop ≡ N.loop
+      by : (o p : Option MapSloop) → M.sloop ≡ o → N.sloop ≡ p → M.sloop ≡ N.sloop
       by None None e f = e ∙ sym f
-      by None (Some l) e f = let m = x.loop l f in let z = m.listed in cc
-      by (Some l) None e f = let m = w.loop l e in let z = m.listed in cc
+      by None (Some l) e f = let m = x.sloop l f in let z = m.listed in cc
+      by (Some l) None e f = let m = w.sloop l e in let z = m.listed in cc
       by (Some l) (Some k) e f =
-          let m = w.loop l e in
-          let i = at-loop M.arcs M.loop l e in
-          let j = at-loop N.arcs N.loop m.loop m.listed in
-          let n = lowest-same l.normal m.loop.normal m.normal (O.normals_lowest i.0 (loop_item l) i.1) (P.normals_lowest j.0 (loop_item m.loop) j.1) in
-          e ∙ ap (λ (r : Loop). Some r) (loop-equal l m.loop n m.above m.mark m.below) ∙ sym m.listed
+          let m = w.sloop l e in
+          let i = at-sloop M.arcs M.sloop l e in
+          let j = at-sloop N.arcs N.sloop m.sloop m.listed in
+          let n = lowest-same l.normal m.sloop.normal m.normal (O.normals_lowest i.0 (sloop_item l) i.1) (P.normals_lowest j.0 (sloop_item m.sloop) j.1) in
+          e ∙ ap (λ (r : MapSloop). Some r) (sloop-equal l m.sloop n m.pos m.mark m.neg) ∙ sym m.listed
 
   pub maps-same : M.mark ≡ N.mark → M ≡ N
-  maps-same e = map-equal M N e svertices-same arcs-same loops-same w.face
+  maps-same e = map-equal M N e svertices-same arcs-same sloops-same w.ground
 
 pub least-unique : (M N : Map) → Valid M → Valid N → Ordered M → Ordered N → Least M → Least N → M.mark ≡ N.mark → SameLabels M N → M ≡ N
 least-unique M N V W O P L K e s =

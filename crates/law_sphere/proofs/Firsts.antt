@@ -14,7 +14,7 @@ use Rattle.law_sphere.proofs.Places.{IsStrictlyOn-decided, SameDirection-decided
 use Rattle.law_sphere.proofs.Parallel.{parallel-in_plane}
 use Rattle.law_near.proofs.FlatDecided.{cross-turned}
 use Rattle.law_sphere.proofs.Around.{Beside, same_way, other_way, beside, opposites, triple-turned, opposite-triple, turn-minus}
-use Rattle.law_sphere.proofs.Compare.{SameDirection-turned, SameDirection-trans, way-self}
+use Rattle.law_sphere.proofs.Compare.{SameDirection-turned, SameDirection-trans, dir-self}
 use Rattle.law_sphere.proofs.Turn.{turn-last, ends-together}
 
 -- signs in c g = e b + a d
@@ -117,7 +117,7 @@ module _ (n s : Vector) (hn : IsDirection n) (hs : IsDirection s) (ls : dot n s 
           (IsStrictlyOn-decided n s r.target x)
         where
           shorter : IsStrictlyOn n s r.target x → (k : ℕ) (y : Vector) → At (x ∷ xs) k y → IsStrictlyOn n s x y → ⊥
-          shorter o zero y e p = p.not_target (subst (SameDirection x) e (way-self x o.on_circle.direction))
+          shorter o zero y e p = p.not_target (subst (SameDirection x) e (dir-self x o.on_circle.direction))
           shorter o (suc k) y a p = r.none_before k y a (nested n s r.target hn hs r.direction ls r.level x y o p)
 
           same : (IsStrictlyOn n s r.target x → ⊥) → (k : ℕ) (y : Vector) → At (x ∷ xs) k y → IsStrictlyOn n s r.target y → ⊥

@@ -7,7 +7,7 @@ use Rattle.law_arithmetic.proofs.Order.{sign, sign-plus, sign-minus, by_order, m
 use Rattle.nef_space.specs.Vectors.{Vector, IsDirection, cross, dot, IsZero, blend}
 use Rattle.nef_space.specs.declared.label.Label.{Label}
 use Rattle.law_sphere.specs.Vectors.{comb}
-use Rattle.law_sphere.specs.Maps.{At, Svertex, Map, MapLabel, NearLabel, Valid}
+use Rattle.law_sphere.specs.Maps.{At, MapVertex, Map, MapLabel, NearLabel, Valid}
 use Rattle.law_sphere.specs.Forms.{SameSigns, forms}
 use Rattle.law_sphere.specs.Least.{by_side, NearStraight, Least}
 use Rattle.law_sphere.specs.Kinds.{Full, FlatMap}
@@ -83,12 +83,12 @@ module _ (M : Map) (V : Valid M) (d : Vector) (F : FlatMap M d) (v : Vector) (of
   abbrev z_of : Vector → ℤ
   z_of e = dot e d *ℤ dot v v -ℤ dot e v *ℤ dot v d
 
-  record Parts (e : Vector) : Type 0 where
+  record Components (e : Vector) : Type 0 where
     in_x : dot n n *ℤ e.x ≡ x_of e *ℤ v.x +ℤ dot n e *ℤ n.x +ℤ z_of e *ℤ d.x
     in_y : dot n n *ℤ e.y ≡ x_of e *ℤ v.y +ℤ dot n e *ℤ n.y +ℤ z_of e *ℤ d.y
     in_z : dot n n *ℤ e.z ≡ x_of e *ℤ v.z +ℤ dot n e *ℤ n.z +ℤ z_of e *ℤ d.z
 
-  parts : (e : Vector) → Parts e
+  parts : (e : Vector) → Components e
   parts e =
       let ex = at 0 in let ey = at 1 in let ez = at 2 in
       let vx = at 3 in let vy = at 4 in let vz = at 5 in
@@ -199,7 +199,7 @@ module _ (M : Map) (V : Valid M) (d : Vector) (F : FlatMap M d) (v : Vector) (of
   flat-straight = by (label-exists M V v hv) (near-exists M V v n hv) (near-exists M V v down hv)
     where
       by : (m : Label) × MapLabel M v m → (a : Label) × NearLabel M v n a → (b : Label) × NearLabel M v down b → NearStraight M v
-      by (m, l) (a, p) (b, q) = record { normal = n; direction = off; level = cross-self v d; above = a; label = m; below = b; at_d = l; near = near }
+      by (m, l) (a, p) (b, q) = record { normal = n; direction = off; level = cross-self v d; pos = a; label = m; neg = b; at_d = l; near = near }
         where
           near : (e : Vector) → IsDirection (cross v e) → NearLabel M v e (by_side a m b (sign (dot n e)))
           near e f = at_e (near-exists M V v e hv)
@@ -216,5 +216,5 @@ module _ (M : Map) (V : Valid M) (d : Vector) (F : FlatMap M d) (v : Vector) (of
 
 -- ---- least maps
 module _ (M : Map) (V : Valid M) (L : Least M) (d : Vector) (F : FlatMap M d) where
-  pub flat-svertex : (k : ℕ) (v : Svertex) → At M.svertices k v → IsZero (cross v.way d)
-  flat-svertex k v a = ⊎_elim (λ z. z) (λ f. absurd (L.no_straight k v a (flat-straight M V d F v.way f))) (zero-decided (cross v.way d))
+  pub flat-svertex : (k : ℕ) (v : MapVertex) → At M.svertices k v → IsZero (cross v.dir d)
+  flat-svertex k v a = ⊎_elim (λ z. z) (λ f. absurd (L.no_straight k v a (flat-straight M V d F v.dir f))) (zero-decided (cross v.dir d))

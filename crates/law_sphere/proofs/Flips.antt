@@ -19,7 +19,7 @@ use Rattle.law_sphere.proofs.Parallel.{apart, parallel-trans}
 use Rattle.law_near.proofs.FlatDecided.{cross-turned}
 use Rattle.law_sphere.proofs.Generic.{amount, far-keeps}
 use Rattle.law_sphere.proofs.Places.{direction-stays}
-use Rattle.law_sphere.proofs.Labels.{way-signs}
+use Rattle.law_sphere.proofs.Labels.{dir-signs}
 use Rattle.law_sphere.proofs.Around.{Beside, same_way, other_way, beside, triple-turned, opposite-triple, turn-minus}
 use Rattle.law_sphere.proofs.Kind.{away, away-dot}
 use Rattle.law_sphere.proofs.Walk.{crossings, between-direction}
@@ -91,7 +91,7 @@ straight-same_way F n u a m b d hn w p = record {
 }
   where
     same : (e : Vector) → sign (dot u e) ≡ sign (dot n e)
-    same e = ap sign (dot-comm u e) ∙ way-signs n u e hn w ∙ ap sign (dot-comm e n)
+    same e = ap sign (dot-comm u e) ∙ dir-signs n u e hn w ∙ ap sign (dot-comm e n)
 
 -- ---- forms that hold the axes
 abbrev pub Axial : List Vector → Type 0
@@ -137,8 +137,8 @@ module _ (gs : List Vector) (F : Vector → Label → Type 0) (L : Labelling gs 
           proper (al ∙ sym ml) (bl ∙ sym ml)
 
   -- round a circle that is plain or straight everywhere
-  pub loop-along : ((d : Vector) → IsOnCircle n d → IsSmooth F d) → (y : Vector) → IsDirection y → StraightAt F n a m b y → (d : Vector) → IsOnCircle n d → StraightAt F n a m b d
-  loop-along smooth y hy p d o = ⊎_elim
+  pub sloop-along : ((d : Vector) → IsOnCircle n d → IsSmooth F d) → (y : Vector) → IsDirection y → StraightAt F n a m b y → (d : Vector) → IsOnCircle n d → StraightAt F n a m b d
+  sloop-along smooth y hy p d o = ⊎_elim
       (λ z. by (beside y d hy o.direction z))
       (λ f. go y d f o p) (zero-decided (cross y d))
     where
@@ -150,7 +150,7 @@ module _ (gs : List Vector) (F : Vector → Label → Type 0) (L : Labelling gs 
           (λ i j si sj. smooth (blend i d j e) (record { direction = between-direction d e i j sj f; level = level-blend d e i j p.level o.level })) p
 
       by : Beside y d → StraightAt F n a m b d
-      by (same_way w) = cells gs F L (directed-by gs axial) (far_directed-by gs axial) n a m b proper y d hy o.direction (λ g l. way-signs y d g hy w) o.level p
+      by (same_way w) = cells gs F L (directed-by gs axial) (far_directed-by gs axial) n a m b proper y d hy o.direction (λ g l. dir-signs y d g hy w) o.level p
       by (other_way w) =
           let q = cross n y in
           let hq : IsDirection q = λ z. hy (nought-if n y hn z p.level) in

@@ -4,7 +4,7 @@ use Rattle.law_arithmetic.specs.Signs.{Lies}
 use Rattle.nef_space.specs.Vectors.{Vector, IsDirection, dot, SameDirection}
 use Rattle.law_sphere.proofs.Lists.{Found, search_list, gather, gather-has}
 use Rattle.law_arithmetic.proofs.Lists.{lies-left, lies-right}
-use Rattle.law_sphere.specs.Maps.{At, Svertex, Map, Item, arc_item, loop_item, items, item_normal, way_of, OnItem, IsFree}
+use Rattle.law_sphere.specs.Maps.{At, MapVertex, Map, Item, arc_item, sloop_item, items, item_normal, dir_of, OnItem, IsFree}
 pub use Rattle.law_sphere.specs.Forms.{item_forms, forms}
 use Rattle.law_near.proofs.Decided.{Decided}
 use Rattle.law_forms.proofs.Far.{same-nought}
@@ -13,35 +13,35 @@ use Rattle.law_sphere.proofs.Places.{direction-decided, SameDirection-decided, I
 
 -- ---- the forms
 pub axes-forms : (M : Map) (g : Vector) → Lies axes g → Lies (forms M) g
-axes-forms M g l = lies-left axes (gather (λ v. point_forms v.way) M.svertices ++ gather (item_forms M) (items M)) g l
+axes-forms M g l = lies-left axes (gather (λ v. point_forms v.dir) M.svertices ++ gather (item_forms M) (items M)) g l
 
-pub svertex-forms : (M : Map) (k : ℕ) (v : Svertex) (g : Vector) → At M.svertices k v → Lies (point_forms v.way) g → Lies (forms M) g
-svertex-forms M k v g a l = lies-right axes (gather (λ v. point_forms v.way) M.svertices ++ gather (item_forms M) (items M)) g (lies-left (gather (λ v. point_forms v.way) M.svertices) (gather (item_forms M) (items M)) g (gather-has (λ v. point_forms v.way) M.svertices k v g a l))
+pub svertex-forms : (M : Map) (k : ℕ) (v : MapVertex) (g : Vector) → At M.svertices k v → Lies (point_forms v.dir) g → Lies (forms M) g
+svertex-forms M k v g a l = lies-right axes (gather (λ v. point_forms v.dir) M.svertices ++ gather (item_forms M) (items M)) g (lies-left (gather (λ v. point_forms v.dir) M.svertices) (gather (item_forms M) (items M)) g (gather-has (λ v. point_forms v.dir) M.svertices k v g a l))
 
 pub item-forms : (M : Map) (k : ℕ) (x : Item) (g : Vector) → At (items M) k x → Lies (item_forms M x) g → Lies (forms M) g
-item-forms M k x g a l = lies-right axes (gather (λ v. point_forms v.way) M.svertices ++ gather (item_forms M) (items M)) g (lies-right (gather (λ v. point_forms v.way) M.svertices) (gather (item_forms M) (items M)) g (gather-has (item_forms M) (items M) k x g a l))
+item-forms M k x g a l = lies-right axes (gather (λ v. point_forms v.dir) M.svertices ++ gather (item_forms M) (items M)) g (lies-right (gather (λ v. point_forms v.dir) M.svertices) (gather (item_forms M) (items M)) g (gather-has (item_forms M) (items M) k x g a l))
 
 pub normal-form : (M : Map) (x : Item) → Lies (item_forms M x) (item_normal x)
 normal-form M (arc_item a) = inl refl
-normal-form M (loop_item l) = inl refl
+normal-form M (sloop_item l) = inl refl
 
 -- ---- items
 pub on-direction : (M : Map) (x : Item) (d : Vector) → OnItem M x d → IsDirection d
 on-direction M (arc_item a) d o = o.on_circle.direction
-on-direction M (loop_item l) d o = o.direction
+on-direction M (sloop_item l) d o = o.direction
 
 pub on-level : (M : Map) (x : Item) (d : Vector) → OnItem M x d → dot (item_normal x) d ≡ pos 0
 on-level M (arc_item a) d o = o.on_circle.level
-on-level M (loop_item l) d o = o.level
+on-level M (sloop_item l) d o = o.level
 
 pub OnItem-decided : (M : Map) (x : Item) (d : Vector) → Decided (OnItem M x d)
-OnItem-decided M (arc_item a) d = IsStrictlyOn-decided a.normal (way_of M.svertices a.source) (way_of M.svertices a.target) d
-OnItem-decided M (loop_item l) d = IsOnCircle-decided l.normal d
+OnItem-decided M (arc_item a) d = IsStrictlyOn-decided a.normal (dir_of M.svertices a.source) (dir_of M.svertices a.target) d
+OnItem-decided M (sloop_item l) d = IsOnCircle-decided l.normal d
 
 -- in its plane, a direction with the signs of one on the item is on the item
 pub OnItem-stays : (M : Map) (x : Item) (d e : Vector) → Keeps (item_forms M x) d e → dot (item_normal x) e ≡ pos 0 → OnItem M x d → OnItem M x e
-OnItem-stays M (arc_item a) d e k z o = IsStrictlyOn-stays a.normal (way_of M.svertices a.source) (way_of M.svertices a.target) d e k z o
-OnItem-stays M (loop_item l) d e k z o = IsOnCircle-stays l.normal d e k z o
+OnItem-stays M (arc_item a) d e k z o = IsStrictlyOn-stays a.normal (dir_of M.svertices a.source) (dir_of M.svertices a.target) d e k z o
+OnItem-stays M (sloop_item l) d e k z o = IsOnCircle-stays l.normal d e k z o
 
 pub OnItem-by_signs : (M : Map) (x : Item) (d e : Vector) → SameSigns (item_forms M x) d e → OnItem M x d → OnItem M x e
 OnItem-by_signs M x d e s o = OnItem-stays M x d e (same-keeps (item_forms M x) d e s) (same-nought (dot (item_normal x) d) (dot (item_normal x) e) (s (item_normal x) (normal-form M x)) (on-level M x d o)) o
@@ -57,8 +57,8 @@ module _ (M : Map) (d e : Vector) (s : SameSigns (forms M) d e) where
   pub direction-by_signs : IsDirection d → IsDirection e
   direction-by_signs f = direction-stays d e (λ g l y. s g (axes-forms M g l)) f
 
-  pub at_svertex-by_signs : (k : ℕ) (v : Svertex) → At M.svertices k v → IsDirection e → SameDirection v.way d → SameDirection v.way e
-  at_svertex-by_signs k v a f w = SameDirection-by_signs v.way d e (λ g l. s g (svertex-forms M k v g a l)) f w
+  pub at_svertex-by_signs : (k : ℕ) (v : MapVertex) → At M.svertices k v → IsDirection e → SameDirection v.dir d → SameDirection v.dir e
+  at_svertex-by_signs k v a f w = SameDirection-by_signs v.dir d e (λ g l. s g (svertex-forms M k v g a l)) f w
 
   pub on_item-by_signs : (k : ℕ) (x : Item) → At (items M) k x → OnItem M x d → OnItem M x e
   on_item-by_signs k x a o = OnItem-by_signs M x d e (λ g l. s g (item-forms M k x g a l)) o
@@ -72,14 +72,14 @@ free-by_signs M d e s f = record {
 
 -- where a direction lies
 pub data PlaceOf (M : Map) (d : Vector) : Type 0 where
-  svertex_place : (k : ℕ) (v : Svertex) → At M.svertices k v → SameDirection v.way d → PlaceOf M d
+  svertex_place : (k : ℕ) (v : MapVertex) → At M.svertices k v → SameDirection v.dir d → PlaceOf M d
   item_place : (k : ℕ) (x : Item) → At (items M) k x → OnItem M x d → PlaceOf M d
   free_place : IsFree M d → PlaceOf M d
 
 pub place_of : (M : Map) (d : Vector) → IsDirection d → PlaceOf M d
-place_of M d f = by (search_list M.svertices (λ k v. SameDirection v.way d) (λ k v. SameDirection-decided v.way d)) (search_list (items M) (λ k x. OnItem M x d) (λ k x. OnItem-decided M x d))
+place_of M d f = by (search_list M.svertices (λ k v. SameDirection v.dir d) (λ k v. SameDirection-decided v.dir d)) (search_list (items M) (λ k x. OnItem M x d) (λ k x. OnItem-decided M x d))
   where
-    by : Found M.svertices (λ k v. SameDirection v.way d) ⊎ ((k : ℕ) (v : Svertex) → At M.svertices k v → SameDirection v.way d → ⊥)
+    by : Found M.svertices (λ k v. SameDirection v.dir d) ⊎ ((k : ℕ) (v : MapVertex) → At M.svertices k v → SameDirection v.dir d → ⊥)
         → Found (items M) (λ k x. OnItem M x d) ⊎ ((k : ℕ) (x : Item) → At (items M) k x → OnItem M x d → ⊥) → PlaceOf M d
     by (inl r) i = svertex_place r.number r.element r.listed r.holds
     by (inr n) (inl r) = item_place r.number r.element r.listed r.holds

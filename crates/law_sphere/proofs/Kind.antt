@@ -6,7 +6,7 @@ use Rattle.law_arithmetic.proofs.Ring.{ring, at, num, ◌⊕◌, ◌⊖◌, ◌�
 use Rattle.law_arithmetic.proofs.Order.{sign, sign-plus, sign-minus, by_order}
 use Rattle.nef_space.specs.Vectors.{Vector, IsDirection, cross, vector, dot, IsZero, blend}
 use Rattle.law_sphere.specs.Vectors.{comb}
-use Rattle.law_sphere.specs.Maps.{At, Loop, Map, Item, loop_item, items, item_normal, item_above, item_mark, item_below, OnItem, MapLabel, on_item, NearLabel, Valid}
+use Rattle.law_sphere.specs.Maps.{At, MapSloop, Map, Item, sloop_item, items, item_normal, item_pos, item_mark, item_neg, OnItem, MapLabel, on_item, NearLabel, Valid}
 use Rattle.law_sphere.specs.Forms.{SameSigns, forms}
 use Rattle.law_sphere.specs.Least.{by_side, Least}
 use Rattle.law_sphere.specs.Kinds.{Full, FlatMap}
@@ -21,7 +21,7 @@ use Rattle.law_sphere.proofs.Labels.{label-by_signs, near-unique}
 use Rattle.law_sphere.proofs.NearItems.{near-item}
 use Rattle.law_sphere.proofs.Compare.{scaled-coordinates}
 use Rattle.law_sphere.proofs.Walk.{cross-direction_turned, between-direction}
-use Rattle.law_sphere.proofs.Arcs.{at-loop}
+use Rattle.law_sphere.proofs.Arcs.{at-sloop}
 use Rattle.law_sphere.proofs.FlatMaps.{scaled-signs, full-label, flat-onward}
 
 -- ---- items hold the flat directions
@@ -57,14 +57,14 @@ module _ (M : Map) (V : Valid M) (L : Least M) (d : Vector) (F : FlatMap M d) wh
           ) in
           let u = near-unique M V y d _ _ (near-item M V y i x a o d) p in
           let w = near-unique M V y (away d) _ _ (near-item M V y i x a o (away d)) q in
-          let side = by_side (item_above x) (item_mark x) (item_below x) in
+          let side = by_side (item_pos x) (item_mark x) (item_neg x) in
           by_order (dot (item_normal x) d) (pos 0)
           (λ g. L.items_differ i x a (ap side (sym (sign-plus (dot (item_normal x) (away d)) (omega (arith, ints)))) ∙ w) (ap side (sym (sign-minus (dot (item_normal x) d) g)) ∙ u))
           f
           (λ g. L.items_differ i x a (ap side (sym (sign-plus (dot (item_normal x) d) g)) ∙ u) (ap side (sym (sign-minus (dot (item_normal x) (away d)) (omega (arith, ints)))) ∙ w))
 
-  pub flat-loop : (l : Loop) → M.loop ≡ Some l → dot l.normal d ≡ pos 0
-  flat-loop l e = let i = at-loop M.arcs M.loop l e in let p = circle-point l.normal (normal-is V.shaped i.0 (loop_item l) i.1) in flat-item i.0 (loop_item l) i.1 p.0 p.1
+  pub flat-sloop : (l : MapSloop) → M.sloop ≡ Some l → dot l.normal d ≡ pos 0
+  flat-sloop l e = let i = at-sloop M.arcs M.sloop l e in let p = circle-point l.normal (normal-is V.shaped i.0 (sloop_item l) i.1) in flat-item i.0 (sloop_item l) i.1 p.0 p.1
 
   -- along a flat direction there is the mark of the map
   pub flat-mark : IsDirection d → MapLabel M d M.mark

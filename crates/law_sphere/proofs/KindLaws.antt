@@ -7,7 +7,7 @@ use Rattle.law_arithmetic.proofs.Order.{sign, mul_neg, sign-scaled}
 use Rattle.nef_space.specs.Vectors.{Vector, IsDirection, cross, triple, dot, IsZero, SameDirection, IsOpposite, blend}
 use Rattle.nef_space.specs.declared.label.Label.{Label}
 use Rattle.law_sphere.specs.Vectors.{comb}
-use Rattle.law_sphere.specs.Maps.{At, Svertex, Loop, Map, loop_item, item_mark, IsFree, IsClear, MapLabel, at_svertex, on_item, NearLabel, Valid}
+use Rattle.law_sphere.specs.Maps.{At, MapVertex, MapSloop, Map, sloop_item, item_mark, IsFree, IsClear, MapLabel, at_svertex, on_item, NearLabel, Valid}
 use Rattle.law_sphere.specs.Least.{by_side, NearPlain, NearStraight, Least}
 use Rattle.law_sphere.specs.Kinds.{Full, FlatMap, IsInVolume, IsInFacet, IsOnEdge}
 use Rattle.law_sphere.proofs.Vectors.{dot-comb, triple-middle, same-minus}
@@ -17,15 +17,15 @@ use Rattle.law_sphere.proofs.Forms.{PlaceOf, svertex_place, item_place, free_pla
 use Rattle.law_sphere.proofs.Parallel.{parallel-trans}
 use Rattle.law_near.proofs.FlatDecided.{cross-turned}
 use Rattle.law_near.proofs.Flats.{vector-same}
-use Rattle.law_sphere.proofs.Labels.{label-direction, label-exists, label-unique, way-signs, clear-label}
+use Rattle.law_sphere.proofs.Labels.{label-direction, label-exists, label-unique, dir-signs, clear-label}
 use Rattle.law_sphere.proofs.Around.{Beside, same_way, other_way, beside, opposites, opposite-triple, turn-plus}
 use Rattle.law_sphere.proofs.NearItems.{free-plain, item-straight}
-use Rattle.law_sphere.proofs.Compare.{SameDirection-turned, way-self}
+use Rattle.law_sphere.proofs.Compare.{SameDirection-turned, dir-self}
 use Rattle.law_sphere.proofs.Walk.{between-direction, cross-direction_right}
-use Rattle.law_sphere.proofs.Arcs.{at-loop}
-use Rattle.law_sphere.proofs.Unique.{face-label}
+use Rattle.law_sphere.proofs.Arcs.{at-sloop}
+use Rattle.law_sphere.proofs.Unique.{ground-label}
 use Rattle.law_sphere.proofs.FlatMaps.{full-label, flat-onward, flat-svertex}
-use Rattle.law_sphere.proofs.Kind.{away, away-dot, flat-loop, flat-mark, flat-parallel}
+use Rattle.law_sphere.proofs.Kind.{away, away-dot, flat-sloop, flat-mark, flat-parallel}
 use Rattle.law_sphere.proofs.KindFlats.{svertex-parallel, at-second, axis-label, arc-moved, off-moved, off-svertices, hu}
 use Rattle.law_sphere.proofs.Direct.{cross-self}
 
@@ -50,7 +50,7 @@ flat-from_onward M V d on e b a sb m = (
 -- ---- edges
 module _ (M : Map) (V : Valid M) (d : Vector) (K : IsOnEdge M d) where
   abbrev u : Vector
-  u = K.first.way
+  u = K.first.dir
 
   module _ (e : Vector) (off : IsDirection (cross u e)) where
     moved-free : IsFree M e → (b : ℕ) (a : ℤ) → 0 < b → IsFree M (comb (pos b) e a u)
@@ -84,7 +84,7 @@ module _ (M : Map) (V : Valid M) (d : Vector) (K : IsOnEdge M d) where
     moved-label b a sb m l = by (place_of M e (cross-direction_right u e off))
       where
         by : PlaceOf M e → MapLabel M (comb (pos b) e a u) m
-        by (svertex_place k v h w) = absurd (off (parallel-trans u v.way e (V.shaped.svertex_ways k v h) (svertex-parallel M V d K k v h) w.parallel))
+        by (svertex_place k v h w) = absurd (off (parallel-trans u v.dir e (V.shaped.svertex_dirs k v h) (svertex-parallel M V d K k v h) w.parallel))
         by (item_place k x h o) = on_item k x h (arc-moved M V d K e off b a sb k x h o) (label-unique M V e (item_mark x) m (on_item k x h o refl) l)
         by (free_place F) =
             let G = moved-free F b a sb in
@@ -123,13 +123,13 @@ module _ (M : Map) (V : Valid M) (d : Vector) (K : IsOnEdge M d) where
               one p q x y h = follows (p ∷ q ∷ x ∷ y ∷ pos b ∷ a ∷ []) (at 0 ⊗ (at 4 ⊗ at 3 ⊕ at 5 ⊗ at 1) ⊖ at 1 ⊗ (at 4 ⊗ at 2 ⊕ at 5 ⊗ at 0)) (num (pos 0)) (given (at 4) (at 0 ⊗ at 3 ⊖ at 1 ⊗ at 2) (num (pos 0)) h none) tt
 
   pub edge-flat : FlatMap M d
-  edge-flat = subst (FlatMap M) K.named (flat-parallel M V u K.second.way (hu M V d K) (let o = K.opposite in o.parallel) first-flat)
+  edge-flat = subst (FlatMap M) K.named (flat-parallel M V u K.second.dir (hu M V d K) (let o = K.opposite in o.parallel) first-flat)
 
 pub edge-only : (M : Map) → Valid M → Least M → (d : Vector) → IsOnEdge M d → (e : Vector) → FlatMap M e → IsZero (cross d e)
 edge-only M V L d K e F = subst (λ (r : Vector). IsZero (cross r e)) K.named (flat-svertex M V L e F (suc zero) K.second (at-second M.svertices K.first K.second K.two_svertices))
 
 pub edge-direction : (M : Map) → Valid M → (d : Vector) → IsOnEdge M d → IsDirection d
-edge-direction M V d K = subst IsDirection K.named (V.shaped.svertex_ways (suc zero) K.second (at-second M.svertices K.first K.second K.two_svertices))
+edge-direction M V d K = subst IsDirection K.named (V.shaped.svertex_dirs (suc zero) K.second (at-second M.svertices K.first K.second K.two_svertices))
 
 -- ---- which kind
 two-listed : {A : Type 0} (xs : List A) (k l : ℕ) (x y : A) → At xs k x → At xs l y → (k ≡ l → ⊥) → ((i : ℕ) (z : A) → At xs i z → (i ≡ k) ⊎ (i ≡ l))
@@ -157,95 +157,95 @@ pub data KindOf (M : Map) : Type 0 where
 module _ (M : Map) (V : Valid M) (L : Least M) (d : Vector) (h : IsDirection d) (F : FlatMap M d) where
   -- without svertices
   bare-kind : M.svertices ≡ [] → KindOf M
-  bare-kind e = by M.loop refl
+  bare-kind e = by M.sloop refl
     where
-      by : (o : Option Loop) → M.loop ≡ o → KindOf M
+      by : (o : Option MapSloop) → M.sloop ≡ o → KindOf M
       by None q = let g = V.shaped.ground_alone e q in
-          of_volume (record { no_svertex = e; no_loop = q; same_mark = g.1 ∙ ap (λ (r : Label). Some r) (label-unique M V d g.0 M.mark (face-label M V g.0 g.1 d h) (flat-mark M V L d F h)) })
-      by (Some l) q = let i = at-loop M.arcs M.loop l q in
+          of_volume (record { no_svertex = e; no_sloop = q; same_mark = g.1 ∙ ap (λ (r : Label). Some r) (label-unique M V d g.0 M.mark (ground-label M V g.0 g.1 d h) (flat-mark M V L d F h)) })
+      by (Some l) q = let i = at-sloop M.arcs M.sloop l q in
           of_facet l.normal (record {
             no_svertex = e;
-            loop = l;
-            has_loop = q;
-            same_mark = label-unique M V d l.mark M.mark (on_item i.0 (loop_item l) i.1 (record { direction = h; level = flat-loop M V L d F l q }) refl) (flat-mark M V L d F h);
+            sloop = l;
+            has_sloop = q;
+            same_mark = label-unique M V d l.mark M.mark (on_item i.0 (sloop_item l) i.1 (record { direction = h; level = flat-sloop M V L d F l q }) refl) (flat-mark M V L d F h);
             normal = refl;
           })
 
-  module _ (k : ℕ) (v : Svertex) (a : At M.svertices k v) where
-    hv : IsDirection v.way
-    hv = V.shaped.svertex_ways k v a
+  module _ (k : ℕ) (v : MapVertex) (a : At M.svertices k v) where
+    hv : IsDirection v.dir
+    hv = V.shaped.svertex_dirs k v a
 
-    Fv : FlatMap M v.way
-    Fv = flat-parallel M V d v.way h (cross-turned v.way d (flat-svertex M V L d F k v a)) F
+    Fv : FlatMap M v.dir
+    Fv = flat-parallel M V d v.dir h (cross-turned v.dir d (flat-svertex M V L d F k v a)) F
 
     -- what is near the opposite of v is near v
-    near-over : (e : Vector) → IsDirection (cross v.way e) → (m : Label) → NearLabel M (away v.way) e m → NearLabel M v.way e m
-    near-over e f m (n, g) = (n, λ i l. subst (λ (r : Vector). MapLabel M r m) (eq i) (flat-onward M v.way Fv (blend i (away v.way) 1 e) 1 (pos (2 * i)) (omega arith) m (subst IsDirection (sym (eq i)) (between-direction v.way e i 1 (omega arith) f)) (g i l)))
+    near-over : (e : Vector) → IsDirection (cross v.dir e) → (m : Label) → NearLabel M (away v.dir) e m → NearLabel M v.dir e m
+    near-over e f m (n, g) = (n, λ i l. subst (λ (r : Vector). MapLabel M r m) (eq i) (flat-onward M v.dir Fv (blend i (away v.dir) 1 e) 1 (pos (2 * i)) (omega arith) m (subst IsDirection (sym (eq i)) (between-direction v.dir e i 1 (omega arith) f)) (g i l)))
       where
-        eq : (i : ℕ) → comb (pos 1) (blend i (away v.way) 1 e) (pos (2 * i)) v.way ≡ blend i v.way 1 e
-        eq i = let w = v.way in vector-same (comb (pos 1) (blend i (away w) 1 e) (pos (2 * i)) w) (blend i w 1 e) (one w.x e.x) (one w.y e.y) (one w.z e.z)
+        eq : (i : ℕ) → comb (pos 1) (blend i (away v.dir) 1 e) (pos (2 * i)) v.dir ≡ blend i v.dir 1 e
+        eq i = let w = v.dir in vector-same (comb (pos 1) (blend i (away w) 1 e) (pos (2 * i)) w) (blend i w 1 e) (one w.x e.x) (one w.y e.y) (one w.z e.z)
           where
             one : (x y : ℤ) → pos 1 *ℤ (pos i *ℤ (negsuc 0 *ℤ x +ℤ pos 0 *ℤ x) +ℤ pos 1 *ℤ y) +ℤ pos (2 * i) *ℤ x ≡ pos i *ℤ x +ℤ pos 1 *ℤ y
             one x y = ring (pos i ∷ x ∷ y ∷ []) (num (pos 1) ⊗ (at 0 ⊗ (num (negsuc 0) ⊗ at 1 ⊕ num (pos 0) ⊗ at 1) ⊕ num (pos 1) ⊗ at 2) ⊕ num (pos 2) ⊗ at 0 ⊗ at 1) (at 0 ⊗ at 1 ⊕ num (pos 1) ⊗ at 2) tt
 
-    away-opposite : IsOpposite v.way (away v.way)
-    away-opposite = record { parallel = par; backward = let e = away-dot v.way v.way in let p = self-pos v.way hv in omega (arith, ints) }
+    away-opposite : IsOpposite v.dir (away v.dir)
+    away-opposite = record { parallel = par; backward = let e = away-dot v.dir v.dir in let p = self-pos v.dir hv in omega (arith, ints) }
       where
-        par : IsZero (cross v.way (away v.way))
-        par = let w = v.way in let xs = w.x ∷ w.y ∷ w.z ∷ [] in (
+        par : IsZero (cross v.dir (away v.dir))
+        par = let w = v.dir in let xs = w.x ∷ w.y ∷ w.z ∷ [] in (
           ring xs (at 1 ⊗ (num (negsuc 0) ⊗ at 2 ⊕ num (pos 0) ⊗ at 2) ⊖ at 2 ⊗ (num (negsuc 0) ⊗ at 1 ⊕ num (pos 0) ⊗ at 1)) (num (pos 0)) tt,
           ring xs (at 2 ⊗ (num (negsuc 0) ⊗ at 0 ⊕ num (pos 0) ⊗ at 0) ⊖ at 0 ⊗ (num (negsuc 0) ⊗ at 2 ⊕ num (pos 0) ⊗ at 2)) (num (pos 0)) tt,
           ring xs (at 0 ⊗ (num (negsuc 0) ⊗ at 1 ⊕ num (pos 0) ⊗ at 1) ⊖ at 1 ⊗ (num (negsuc 0) ⊗ at 0 ⊕ num (pos 0) ⊗ at 0)) (num (pos 0)) tt,
         )
 
-    away-direction : IsDirection (away v.way)
-    away-direction z = let o = away-opposite in let e = dot-zero v.way (away v.way) z in let b = o.backward in omega (arith, ints)
+    away-direction : IsDirection (away v.dir)
+    away-direction z = let o = away-opposite in let e = dot-zero v.dir (away v.dir) z in let b = o.backward in omega (arith, ints)
 
-    away-off : (e : Vector) → IsDirection (cross v.way e) → IsDirection (cross (away v.way) e)
-    away-off e f z = f (parallel-trans v.way (away v.way) e away-direction (let o = away-opposite in o.parallel) z)
+    away-off : (e : Vector) → IsDirection (cross v.dir e) → IsDirection (cross (away v.dir) e)
+    away-off e f z = f (parallel-trans v.dir (away v.dir) e away-direction (let o = away-opposite in o.parallel) z)
 
-    v-mark : MapLabel M v.way M.mark
-    v-mark = flat-mark M V L v.way Fv hv
+    v-mark : MapLabel M v.dir M.mark
+    v-mark = flat-mark M V L v.dir Fv hv
 
-    away-mark : MapLabel M (away v.way) M.mark
-    away-mark = flat-mark M V L (away v.way) (flat-parallel M V v.way (away v.way) hv (let o = away-opposite in o.parallel) Fv) away-direction
+    away-mark : MapLabel M (away v.dir) M.mark
+    away-mark = flat-mark M V L (away v.dir) (flat-parallel M V v.dir (away v.dir) hv (let o = away-opposite in o.parallel) Fv) away-direction
 
     -- the opposite is a svertex too
     record Partner : Type 0 where
       number : ℕ
-      svertex : Svertex
+      svertex : MapVertex
       listed : At M.svertices number svertex
-      same : SameDirection svertex.way (away v.way)
+      same : SameDirection svertex.dir (away v.dir)
 
     partner : Partner
-    partner = by (place_of M (away v.way) away-direction)
+    partner = by (place_of M (away v.dir) away-direction)
       where
-        plain : NearPlain M (away v.way) → NearPlain M v.way
-        plain p = record { label = p.label; at_d = subst (λ (r : Label). MapLabel M v.way r) (label-unique M V (away v.way) M.mark p.label away-mark p.at_d) v-mark; near = λ e f. near-over e f p.label (p.near e (away-off e f)) }
+        plain : NearPlain M (away v.dir) → NearPlain M v.dir
+        plain p = record { label = p.label; at_d = subst (λ (r : Label). MapLabel M v.dir r) (label-unique M V (away v.dir) M.mark p.label away-mark p.at_d) v-mark; near = λ e f. near-over e f p.label (p.near e (away-off e f)) }
 
-        straight : NearStraight M (away v.way) → NearStraight M v.way
+        straight : NearStraight M (away v.dir) → NearStraight M v.dir
         straight p = record {
           normal = p.normal;
           direction = p.direction;
-          level = let e = away-dot p.normal v.way in let l = p.level in omega (arith, ints);
-          above = p.above;
+          level = let e = away-dot p.normal v.dir in let l = p.level in omega (arith, ints);
+          pos = p.pos;
           label = p.label;
-          below = p.below;
-          at_d = subst (λ (r : Label). MapLabel M v.way r) (label-unique M V (away v.way) M.mark p.label away-mark p.at_d) v-mark;
-          near = λ e f. near-over e f (by_side p.above p.label p.below (sign (dot p.normal e))) (p.near e (away-off e f));
+          neg = p.neg;
+          at_d = subst (λ (r : Label). MapLabel M v.dir r) (label-unique M V (away v.dir) M.mark p.label away-mark p.at_d) v-mark;
+          near = λ e f. near-over e f (by_side p.pos p.label p.neg (sign (dot p.normal e))) (p.near e (away-off e f));
         }
 
-        by : PlaceOf M (away v.way) → Partner
+        by : PlaceOf M (away v.dir) → Partner
         by (svertex_place l u b w) = record { number = l; svertex = u; listed = b; same = w }
-        by (item_place l x b o) = absurd (L.no_straight k v a (straight (item-straight M V (away v.way) l x b o)))
-        by (free_place G) = absurd (L.no_plain k v a (plain (free-plain M V (away v.way) G)))
+        by (item_place l x b o) = absurd (L.no_straight k v a (straight (item-straight M V (away v.dir) l x b o)))
+        by (free_place G) = absurd (L.no_plain k v a (plain (free-plain M V (away v.dir) G)))
 
-    no-loop : M.loop ≡ None
-    no-loop = by M.loop refl
+    no-sloop : M.sloop ≡ None
+    no-sloop = by M.sloop refl
       where
-        by : (o : Option Loop) → M.loop ≡ o → M.loop ≡ None
+        by : (o : Option MapSloop) → M.sloop ≡ o → M.sloop ≡ None
         by None q = q
-        by (Some l) q = let i = at-loop M.arcs M.loop l q in absurd (V.shaped.no_svertex_on_item k i.0 v (loop_item l) a i.1 (record { direction = hv; level = flat-loop M V L v.way Fv l q }))
+        by (Some l) q = let i = at-sloop M.arcs M.sloop l q in absurd (V.shaped.no_svertex_on_item k i.0 v (sloop_item l) a i.1 (record { direction = hv; level = flat-sloop M V L v.dir Fv l q }))
 
     edge-kind : KindOf M
     edge-kind = by partner
@@ -253,42 +253,42 @@ module _ (M : Map) (V : Valid M) (L : Least M) (d : Vector) (h : IsDirection d) 
         by : Partner → KindOf M
         by p = at_two (two-listed M.svertices k p.number v p.svertex a p.listed apart-numbers all)
           where
-            opp : IsOpposite v.way p.svertex.way
+            opp : IsOpposite v.dir p.svertex.dir
             opp = record {
-              parallel = parallel-trans v.way (away v.way) p.svertex.way away-direction (let o = away-opposite in o.parallel) (cross-turned p.svertex.way (away v.way) (let s = p.same in s.parallel));
-              backward = let o = away-opposite in same-minus (dot v.way (away v.way)) (dot v.way p.svertex.way) (sym (way-signs p.svertex.way (away v.way) v.way (V.shaped.svertex_ways p.number p.svertex p.listed) p.same)) o.backward;
+              parallel = parallel-trans v.dir (away v.dir) p.svertex.dir away-direction (let o = away-opposite in o.parallel) (cross-turned p.svertex.dir (away v.dir) (let s = p.same in s.parallel));
+              backward = let o = away-opposite in same-minus (dot v.dir (away v.dir)) (dot v.dir p.svertex.dir) (sym (dir-signs p.svertex.dir (away v.dir) v.dir (V.shaped.svertex_dirs p.number p.svertex p.listed) p.same)) o.backward;
             }
 
             apart-numbers : k ≡ p.number → ⊥
             apart-numbers e =
                 let q = at-one M.svertices k v p.svertex a (subst (λ (r : ℕ). At M.svertices r p.svertex) (sym e) p.listed) in
-                let o = subst (λ (r : Svertex). IsOpposite v.way r.way) (sym q) opp in
-                let b = o.backward in let s = self-pos v.way hv in omega (arith, ints)
+                let o = subst (λ (r : MapVertex). IsOpposite v.dir r.dir) (sym q) opp in
+                let b = o.backward in let s = self-pos v.dir hv in omega (arith, ints)
 
-            all : (i : ℕ) (z : Svertex) → At M.svertices i z → (i ≡ k) ⊎ (i ≡ p.number)
-            all i z b = at_beside (beside v.way z.way hv (V.shaped.svertex_ways i z b) (cross-turned z.way v.way (flat-svertex M V L v.way Fv i z b)))
+            all : (i : ℕ) (z : MapVertex) → At M.svertices i z → (i ≡ k) ⊎ (i ≡ p.number)
+            all i z b = at_beside (beside v.dir z.dir hv (V.shaped.svertex_dirs i z b) (cross-turned z.dir v.dir (flat-svertex M V L v.dir Fv i z b)))
               where
-                at_beside : Beside v.way z.way → (i ≡ k) ⊎ (i ≡ p.number)
-                at_beside (same_way w) = inl (V.shaped.svertices_apart i k z v b a (SameDirection-turned v.way z.way w))
-                at_beside (other_way o) = inr (V.shaped.svertices_apart i p.number z p.svertex b p.listed (SameDirection-turned p.svertex.way z.way (opposites v.way p.svertex.way z.way hv opp o)))
+                at_beside : Beside v.dir z.dir → (i ≡ k) ⊎ (i ≡ p.number)
+                at_beside (same_way w) = inl (V.shaped.svertices_apart i k z v b a (SameDirection-turned v.dir z.dir w))
+                at_beside (other_way o) = inr (V.shaped.svertices_apart i p.number z p.svertex b p.listed (SameDirection-turned p.svertex.dir z.dir (opposites v.dir p.svertex.dir z.dir hv opp o)))
 
             mark-v : v.mark ≡ M.mark
-            mark-v = label-unique M V v.way v.mark M.mark (at_svertex k v a (way-self v.way hv) refl) v-mark
+            mark-v = label-unique M V v.dir v.mark M.mark (at_svertex k v a (dir-self v.dir hv) refl) v-mark
 
             mark-p : p.svertex.mark ≡ M.mark
-            mark-p = label-unique M V (away v.way) p.svertex.mark M.mark (at_svertex p.number p.svertex p.listed p.same refl) away-mark
+            mark-p = label-unique M V (away v.dir) p.svertex.mark M.mark (at_svertex p.number p.svertex p.listed p.same refl) away-mark
 
             at_two : (M.svertices ≡ v ∷ p.svertex ∷ []) ⊎ (M.svertices ≡ p.svertex ∷ v ∷ []) → KindOf M
-            at_two (inl e) = of_edge p.svertex.way (record { first = v; second = p.svertex; two_svertices = e; opposite = opp; first_mark = mark-v; second_mark = mark-p; no_loop = no-loop; named = refl })
-            at_two (inr e) = of_edge v.way (record { first = p.svertex; second = v; two_svertices = e; opposite = turned; first_mark = mark-p; second_mark = mark-v; no_loop = no-loop; named = refl })
+            at_two (inl e) = of_edge p.svertex.dir (record { first = v; second = p.svertex; two_svertices = e; opposite = opp; first_mark = mark-v; second_mark = mark-p; no_sloop = no-sloop; named = refl })
+            at_two (inr e) = of_edge v.dir (record { first = p.svertex; second = v; two_svertices = e; opposite = turned; first_mark = mark-p; second_mark = mark-v; no_sloop = no-sloop; named = refl })
               where
-                turned : IsOpposite p.svertex.way v.way
-                turned = record { parallel = cross-turned v.way p.svertex.way (let o = opp in o.parallel); backward = let e = dot-comm p.svertex.way v.way in let o = opp in let b = o.backward in omega (arith, ints) }
+                turned : IsOpposite p.svertex.dir v.dir
+                turned = record { parallel = cross-turned v.dir p.svertex.dir (let o = opp in o.parallel); backward = let e = dot-comm p.svertex.dir v.dir in let o = opp in let b = o.backward in omega (arith, ints) }
 
   -- a least map that stays the same along a direction is that of a volume, a facet or an edge
   pub flat-kind : KindOf M
   flat-kind = ⊎_elim (λ f. edge-kind f.number f.element f.listed) (λ n. bare-kind (empty M.svertices n)) (search_list M.svertices (λ k v. Unit {0}) (λ k v. inl tt))
     where
-      empty : (vs : List Svertex) → ((k : ℕ) (v : Svertex) → At vs k v → Unit {0} → ⊥) → vs ≡ []
+      empty : (vs : List MapVertex) → ((k : ℕ) (v : MapVertex) → At vs k v → Unit {0} → ⊥) → vs ≡ []
       empty [] n = refl
       empty (v ∷ vs) n = absurd (n zero v refl tt)

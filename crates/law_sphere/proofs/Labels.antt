@@ -7,7 +7,7 @@ use Rattle.law_arithmetic.proofs.Order.{sign, sign-plus, sign-minus, by_order, m
 use Rattle.law_arithmetic.specs.Signs.{Lies}
 use Rattle.nef_space.specs.Vectors.{Vector, IsDirection, dot, SameDirection, IsOpposite, blend}
 use Rattle.nef_space.specs.declared.label.Label.{Label}
-use Rattle.law_sphere.specs.Maps.{At, Svertex, Map, Item, items, item_mark, OnItem, IsFree, IsClear, Sees, directly, by_way_of, SeenAs, MapLabel, at_svertex, on_item, seen, NearLabel, Valid}
+use Rattle.law_sphere.specs.Maps.{At, MapVertex, Map, Item, items, item_mark, OnItem, IsFree, IsClear, Sees, directly, by_way_of, SeenAs, MapLabel, at_svertex, on_item, seen, NearLabel, Valid}
 use Rattle.law_sphere.proofs.Vectors.{dot-comb, same-plus, same-minus}
 use Rattle.law_forms.proofs.Far.{same-nought}
 use Rattle.law_forms.proofs.Directions.{self-pos, dot-zero}
@@ -20,8 +20,8 @@ use Rattle.law_near.proofs.FlatDecided.{cross-turned}
 use Rattle.law_sphere.proofs.Sight.{free-seen, clear-one_label, free-one_label}
 
 -- ---- the same way
-pub way-signs : (v d g : Vector) → IsDirection v → SameDirection v d → sign (dot g d) ≡ sign (dot g v)
-way-signs v d g h w =
+pub dir-signs : (v d g : Vector) → IsDirection v → SameDirection v d → sign (dot g d) ≡ sign (dot g v)
+dir-signs v d g h w =
     let o = num (pos 0) in
     let gx = at 0 in let gy = at 1 in let gz = at 2 in
     let vx = at 3 in let vy = at 4 in let vz = at 5 in
@@ -33,14 +33,14 @@ way-signs v d g h w =
     (given (gy ⊗ vx ⊖ gx ⊗ vy) (vx ⊗ dy ⊖ vy ⊗ dx) o w.parallel.2 none))) tt in
     sym (sign-scaled (dot v v) (dot g d) (self-pos v h)) ∙ ap sign e ∙ sign-scaled (dot v d) (dot g v) w.forward
 
-pub way-direction : (v d : Vector) → SameDirection v d → IsDirection d
-way-direction v d w z = let e = dot-zero v d z in let h = w.forward in omega (arith, ints)
+pub dir-direction : (v d : Vector) → SameDirection v d → IsDirection d
+dir-direction v d w z = let e = dot-zero v d z in let h = w.forward in omega (arith, ints)
 
 -- two that go the way of d
-pub way-joined : (v u d : Vector) → SameDirection v d → SameDirection u d → SameDirection v u
-way-joined v u d a b = record {
-  parallel = parallel-trans v d u (way-direction v d a) a.parallel (cross-turned u d b.parallel);
-  forward = plus-by (self-pos d (way-direction v d a)) (mul_pos (dot v d) (dot u d) a.forward b.forward);
+pub dir-joined : (v u d : Vector) → SameDirection v d → SameDirection u d → SameDirection v u
+dir-joined v u d a b = record {
+  parallel = parallel-trans v d u (dir-direction v d a) a.parallel (cross-turned u d b.parallel);
+  forward = plus-by (self-pos d (dir-direction v d a)) (mul_pos (dot v d) (dot u d) a.forward b.forward);
 }
   where
     -- (v.u)(d.d) - (v.d)(u.d) = (v x d).(u x d)
@@ -100,7 +100,7 @@ sees-free M d m s = by s.sees
     by (by_way_of c y a b r) = a.start
 
 pub label-direction : (M : Map) (d : Vector) (m : Label) → MapLabel M d m → IsDirection d
-label-direction M d m (at_svertex k v a w e) = way-direction v.way d w
+label-direction M d m (at_svertex k v a w e) = dir-direction v.dir d w
 label-direction M d m (on_item k x a o e) = on-direction M x d o
 label-direction M d m (seen s) = (sees-free M d m s).direction
 
@@ -113,13 +113,13 @@ module _ (M : Map) (V : Valid M) where
       by (item_place k x a o) = (item_mark x, on_item k x a o refl)
       by (free_place F) = let s = free-seen M V.shaped d F in (s.0, seen s.1)
 
-  on-svertex : (k l : ℕ) (v : Svertex) (x : Item) (d : Vector) → At M.svertices k v → At (items M) l x → SameDirection v.way d → OnItem M x d → ⊥
-  on-svertex k l v x d a b w o = V.shaped.no_svertex_on_item k l v x a b (OnItem-by_signs M x d v.way (λ g i. sym (way-signs v.way d g (V.shaped.svertex_ways k v a) w)) o)
+  on-svertex : (k l : ℕ) (v : MapVertex) (x : Item) (d : Vector) → At M.svertices k v → At (items M) l x → SameDirection v.dir d → OnItem M x d → ⊥
+  on-svertex k l v x d a b w o = V.shaped.no_svertex_on_item k l v x a b (OnItem-by_signs M x d v.dir (λ g i. sym (dir-signs v.dir d g (V.shaped.svertex_dirs k v a) w)) o)
 
   pub label-unique : (d : Vector) (m n : Label) → MapLabel M d m → MapLabel M d n → m ≡ n
   label-unique d m n (at_svertex k v a w e) (at_svertex l u b x f) =
-      let i = V.shaped.svertices_apart k l v u a b (way-joined v.way u.way d w x) in
-      sym e ∙ ap (λ (r : Svertex). r.mark) (at-one M.svertices l v u (subst (λ (r : ℕ). At M.svertices r v) i a) b) ∙ f
+      let i = V.shaped.svertices_apart k l v u a b (dir-joined v.dir u.dir d w x) in
+      sym e ∙ ap (λ (r : MapVertex). r.mark) (at-one M.svertices l v u (subst (λ (r : ℕ). At M.svertices r v) i a) b) ∙ f
   label-unique d m n (at_svertex k v a w e) (on_item l x b o f) = absurd (on-svertex k l v x d a b w o)
   label-unique d m n (at_svertex k v a w e) (seen s) = absurd ((sees-free M d n s).off_svertices k v a w)
   label-unique d m n (on_item k x a o e) (at_svertex l u b w f) = absurd (on-svertex l k u x d b a w o)
@@ -133,7 +133,7 @@ module _ (M : Map) (V : Valid M) where
 
   -- the signs of the forms determine the label
   pub label-by_signs : (d e : Vector) → SameSigns (forms M) d e → (m : Label) → MapLabel M d m → MapLabel M e m
-  label-by_signs d e s m (at_svertex k v a w q) = at_svertex k v a (at_svertex-by_signs M d e s k v a (direction-by_signs M d e s (way-direction v.way d w)) w) q
+  label-by_signs d e s m (at_svertex k v a w q) = at_svertex k v a (at_svertex-by_signs M d e s k v a (direction-by_signs M d e s (dir-direction v.dir d w)) w) q
   label-by_signs d e s m (on_item k x a o q) = on_item k x a (on_item-by_signs M d e s k x a o) q
   label-by_signs d e s m (seen t) =
       let F = sees-free M d m t in

@@ -5,7 +5,7 @@ use Rattle.law_arithmetic.proofs.Ring.{ring, at, num, ◌⊗◌}
 use Rattle.law_arithmetic.proofs.Order.{Sign, sign, sign-plus, sign-minus, by_order}
 use Rattle.nef_space.specs.Vectors.{Vector, dot, IsOpposite, blend}
 use Rattle.nef_space.specs.declared.label.Label.{Label}
-use Rattle.law_sphere.specs.Maps.{At, Map, Item, items, item_normal, item_above, item_mark, item_below, OnItem, IsFree, above_item, below_item, IsClear, directly, MapLabel, on_item, seen, NearLabel, Shaped, Valid}
+use Rattle.law_sphere.specs.Maps.{At, Map, Item, items, item_normal, item_pos, item_mark, item_neg, OnItem, IsFree, pos_item, neg_item, IsClear, directly, MapLabel, on_item, seen, NearLabel, Shaped, Valid}
 use Rattle.law_sphere.specs.Forms.{Keeps, axes, forms}
 use Rattle.law_sphere.specs.Least.{by_side, NearPlain, NearStraight}
 use Rattle.law_near.proofs.FlatDecided.{cross-turned}
@@ -63,14 +63,14 @@ module _ (M : Map) (V : Shaped M) (d w : Vector) (k : Keeps (forms M) d w) where
           (between-off_target (item_normal x) w d p q sp (on-level M x d o) f);
     }
 
-    pub label-beside : MapLabel M w (by_side (item_above x) (item_mark x) (item_below x) (sign (dot (item_normal x) w)))
+    pub label-beside : MapLabel M w (by_side (item_pos x) (item_mark x) (item_neg x) (sign (dot (item_normal x) w)))
     label-beside = by_order (dot (item_normal x) w) (pos 0)
-        (λ l. subst (λ (s : Sign). MapLabel M w (by_side (item_above x) (item_mark x) (item_below x) s)) (sym (sign-minus (dot (item_normal x) w) l))
-        (seen (record { side = below_item i; has = (x, a, refl); sees = directly d (clear-beside (λ z. omega (arith, ints))) (x, a, o, l) })))
-        (λ z. subst (λ (s : Sign). MapLabel M w (by_side (item_above x) (item_mark x) (item_below x) s)) (sym (ap sign z))
+        (λ l. subst (λ (s : Sign). MapLabel M w (by_side (item_pos x) (item_mark x) (item_neg x) s)) (sym (sign-minus (dot (item_normal x) w) l))
+        (seen (record { side = neg_item i; has = (x, a, refl); sees = directly d (clear-beside (λ z. omega (arith, ints))) (x, a, o, l) })))
+        (λ z. subst (λ (s : Sign). MapLabel M w (by_side (item_pos x) (item_mark x) (item_neg x) s)) (sym (ap sign z))
         (on_item i x a (item-stays M V d w k i x a z o) refl))
-        (λ l. subst (λ (s : Sign). MapLabel M w (by_side (item_above x) (item_mark x) (item_below x) s)) (sym (sign-plus (dot (item_normal x) w) l))
-        (seen (record { side = above_item i; has = (x, a, refl); sees = directly d (clear-beside (λ z. omega (arith, ints))) (x, a, o, l) })))
+        (λ l. subst (λ (s : Sign). MapLabel M w (by_side (item_pos x) (item_mark x) (item_neg x) s)) (sym (sign-plus (dot (item_normal x) w) l))
+        (seen (record { side = pos_item i; has = (x, a, refl); sees = directly d (clear-beside (λ z. omega (arith, ints))) (x, a, o, l) })))
 
 module _ (M : Map) (V : Valid M) (d w : Vector) (k : Keeps (forms M) d w) where
   -- close to a free direction
@@ -88,11 +88,11 @@ module _ (M : Map) (V : Valid M) (d : Vector) where
       near-from_far M V d e k (omega arith) m (label-around M V d (blend k d 1 e) (far-keeps (forms M) d e k (omega arith)) F m a)
 
   -- near a direction on an item there are the item's labels
-  pub near-item : (i : ℕ) (x : Item) → At (items M) i x → OnItem M x d → (e : Vector) → NearLabel M d e (by_side (item_above x) (item_mark x) (item_below x) (sign (dot (item_normal x) e)))
+  pub near-item : (i : ℕ) (x : Item) → At (items M) i x → OnItem M x d → (e : Vector) → NearLabel M d e (by_side (item_pos x) (item_mark x) (item_neg x) (sign (dot (item_normal x) e)))
   near-item i x a o e =
       let k = amount (forms M) e in
       let w = blend k d 1 e in
-      near-from_far M V d e k (omega arith) _ (subst (λ (s : Sign). MapLabel M w (by_side (item_above x) (item_mark x) (item_below x) s))
+      near-from_far M V d e k (omega arith) _ (subst (λ (s : Sign). MapLabel M w (by_side (item_pos x) (item_mark x) (item_neg x) s))
       (far-level (forms M) d e k (omega arith) (item_normal x) (on-level M x d o)) (label-beside M V.shaped d w (far-keeps (forms M) d e k (omega arith)) i x a o))
 
   pub free-plain : IsFree M d → NearPlain M d
@@ -103,9 +103,9 @@ module _ (M : Map) (V : Valid M) (d : Vector) where
     normal = item_normal x;
     direction = normal-is V.shaped i x a;
     level = on-level M x d o;
-    above = item_above x;
+    pos = item_pos x;
     label = item_mark x;
-    below = item_below x;
+    neg = item_neg x;
     at_d = on_item i x a o refl;
     near = λ e f. near-item i x a o e;
   }

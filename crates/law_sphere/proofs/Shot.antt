@@ -6,7 +6,7 @@ use Rattle.law_arithmetic.proofs.Ring.{ring, at, num, ◌⊕◌, ◌⊖◌, ◌�
 use Rattle.law_arithmetic.proofs.Order.{sign, nought-is, by_order}
 use Rattle.nef_space.specs.Vectors.{Vector, IsDirection, cross, dot, blend}
 use Rattle.law_arithmetic.proofs.Order.{sign-scaled}
-use Rattle.law_sphere.specs.Maps.{At, Svertex, Arc, Loop, Map, Item, arc_item, loop_item, items, items_then, item_normal, way_of, OnItem, Shaped}
+use Rattle.law_sphere.specs.Maps.{At, MapVertex, Arc, MapSloop, Map, Item, arc_item, sloop_item, items, items_then, item_normal, dir_of, OnItem, Shaped}
 use Rattle.law_sphere.proofs.Vectors.{normal-is, dot-comb}
 use Rattle.law_forms.proofs.Far.{nought-or}
 use Rattle.law_sphere.proofs.Generic.{SameSigns, amount}
@@ -18,12 +18,12 @@ pub product-off : (k x : ℤ) → pos 0 <ℤ k → (x ≡ pos 0 → ⊥) → k *
 product-off k x h f z = f (nought-is x (sym (sign-scaled k x h) ∙ ap sign z))
 
 -- ---- lists of a map
-pub way-at : (vs : List Svertex) (k : ℕ) (v : Svertex) → At vs k v → way_of vs k ≡ v.way
-way-at [] k v a = absurd a
-way-at (u ∷ vs) zero v e = ap (λ (r : Svertex). r.way) e
-way-at (u ∷ vs) (suc k) v a = way-at vs k v a
+pub dir-at : (vs : List MapVertex) (k : ℕ) (v : MapVertex) → At vs k v → dir_of vs k ≡ v.dir
+dir-at [] k v a = absurd a
+dir-at (u ∷ vs) zero v e = ap (λ (r : MapVertex). r.dir) e
+dir-at (u ∷ vs) (suc k) v a = dir-at vs k v a
 
-pub arc-at : (as' : List Arc) (o : Option Loop) (k : ℕ) (a : Arc) → At (items_then as' o) k (arc_item a) → At as' k a
+pub arc-at : (as' : List Arc) (o : Option MapSloop) (k : ℕ) (a : Arc) → At (items_then as' o) k (arc_item a) → At as' k a
 arc-at [] None k a h = absurd h
 arc-at [] (Some l) zero a e = cc
 arc-at [] (Some l) (suc k) a h = absurd h
@@ -31,23 +31,23 @@ arc-at (b ∷ as') o zero a e = ap arc_of e
   where
     arc_of : Item → Arc
     arc_of (arc_item x) = x
-    arc_of (loop_item l) = b
+    arc_of (sloop_item l) = b
 arc-at (b ∷ as') o (suc k) a h = arc-at as' o k a h
 
 -- each item of a valid map has a point
 pub item-point : (M : Map) → Shaped M → (k : ℕ) (x : Item) → At (items M) k x → (y : Vector) × OnItem M x y
-item-point M V k (loop_item l) h = circle-point l.normal (normal-is V k (loop_item l) h)
+item-point M V k (sloop_item l) h = circle-point l.normal (normal-is V k (sloop_item l) h)
 item-point M V k' (arc_item a) h =
-    let b = V.arcs_between k' a (arc-at M.arcs M.loop k' a h) in
-    let e = sym (way-at M.svertices a.source b.source b.has_source) in
-    let f = sym (way-at M.svertices a.target b.target b.has_target) in
+    let b = V.arcs_between k' a (arc-at M.arcs M.sloop k' a h) in
+    let e = sym (dir-at M.svertices a.source b.source b.has_source) in
+    let f = sym (dir-at M.svertices a.target b.target b.has_target) in
     let n = a.normal in
-    let u = way_of M.svertices a.source in
-    let w = way_of M.svertices a.target in
+    let u = dir_of M.svertices a.source in
+    let w = dir_of M.svertices a.target in
     let k = amount (cross w n ∷ []) (cross n u) in (
       past_source n u k,
       arc-point n u w (normal-is V k' (arc_item a) h)
-          (subst IsDirection e (V.svertex_ways a.source b.source b.has_source)) (subst IsDirection f (V.svertex_ways a.target b.target b.has_target))
+          (subst IsDirection e (V.svertex_dirs a.source b.source b.has_source)) (subst IsDirection f (V.svertex_dirs a.target b.target b.has_target))
           (subst (λ (r : Vector). dot n r ≡ pos 0) e b.level_source) (subst (λ (r : Vector). dot n r ≡ pos 0) f b.level_target) k (omega arith),
     )
 
@@ -61,7 +61,7 @@ module _ (M : Map) (d : Vector) where
     pub on : OnItem M item c
     pub across : dot (item_normal item) d ≡ pos 0 → ⊥
     pub flat : (k : ℕ) (x : Item) → At (items M) k x → dot (item_normal x) d ≡ pos 0 → dot (item_normal x) c ≡ pos 0 → ⊥
-    pub off : (k : ℕ) (v : Svertex) → At M.svertices k v → IsDirection (cross d v.way) → dot (cross d v.way) c ≡ pos 0 → ⊥
+    pub off : (k : ℕ) (v : MapVertex) → At M.svertices k v → IsDirection (cross d v.dir) → dot (cross d v.dir) c ≡ pos 0 → ⊥
 
   abbrev pub Unmet : Vector → Item → Type 0
   Unmet c x = (i j : ℕ) → 0 < i → 0 < j → OnItem M x (blend i d j c) → ⊥
@@ -128,7 +128,7 @@ module _ (M : Map) (d : Vector) where
       on = o;
       across = f;
       flat = λ l y h z e. let a = some-p f in product-off (pos p) (dot (item_normal y) c) (omega (arith, ints)) (t.flat l y h z) (less (item_normal y) z e);
-      off = λ l v h g e. let a = some-p f in product-off (pos p) (dot (cross d v.way) c) (omega (arith, ints)) (t.off l v h g) (less (cross d v.way) (square d v.way) e);
+      off = λ l v h g e. let a = some-p f in product-off (pos p) (dot (cross d v.dir) c) (omega (arith, ints)) (t.off l v h g) (less (cross d v.dir) (square d v.dir) e);
     }
       where
         less : (g : Vector) → dot g d ≡ pos 0 → dot g meet ≡ pos 0 → pos p *ℤ dot g c ≡ pos 0

@@ -5,7 +5,7 @@ use Rattle.law_arithmetic.proofs.Ring.{ring, at, num, ◌⊕◌, ◌⊖◌, ◌�
 use Rattle.law_arithmetic.proofs.Order.{sign, sign-scaled}
 use Rattle.nef_space.specs.Vectors.{Vector, cross, dot, IsZero, SameDirection, blend}
 use Rattle.nef_space.specs.declared.label.Label.{Label}
-use Rattle.law_sphere.specs.Maps.{At, Svertex, Arc, Loop, Map, Item, arc_item, loop_item, items, items_then, item_normal, IsFree, Side, around_svertex, whole, HasSide, IsClear, Sees, directly, by_way_of, SeenAs, Shaped, Valid, here, link}
+use Rattle.law_sphere.specs.Maps.{At, MapVertex, Arc, MapSloop, Map, Item, arc_item, sloop_item, items, items_then, item_normal, IsFree, Side, around_svertex, whole, HasSide, IsClear, Sees, directly, by_way_of, SeenAs, Shaped, Valid, here, link}
 use Rattle.law_sphere.proofs.Vectors.{normal-is, dot-comb}
 use Rattle.law_forms.proofs.Far.{nought-or}
 use Rattle.law_forms.proofs.Directions.{self-pos}
@@ -62,14 +62,14 @@ level-or : (M : Map) (d : Vector) → Found (items M) (Crosses d) ⊎ AllLevel M
 level-or M d = ⊎_elim (λ f. inl f) (λ n. inr (λ k x a. ⊎_elim (λ z. z) (λ g. absurd (n k x a g)) (nought-or (dot (item_normal x) d))))
     (search_list (items M) (Crosses d) (λ k x. decided-not (nought-or (dot (item_normal x) d))))
 
-empty-arcs : (as' : List Arc) (o : Option Loop) → ((k : ℕ) (x : Item) → At (items_then as' o) k x → ⊥) → (k : ℕ) (a : Arc) → At as' k a → ⊥
+empty-arcs : (as' : List Arc) (o : Option MapSloop) → ((k : ℕ) (x : Item) → At (items_then as' o) k x → ⊥) → (k : ℕ) (a : Arc) → At as' k a → ⊥
 empty-arcs [] o n k a h = h
 empty-arcs (b ∷ as') o n k a h = n zero (arc_item b) refl
 
-empty-loop : (as' : List Arc) (o : Option Loop) → ((k : ℕ) (x : Item) → At (items_then as' o) k x → ⊥) → o ≡ None
-empty-loop [] None n = refl
-empty-loop [] (Some l) n = absurd (n zero (loop_item l) refl)
-empty-loop (b ∷ as') o n = absurd (n zero (arc_item b) refl)
+empty-sloop : (as' : List Arc) (o : Option MapSloop) → ((k : ℕ) (x : Item) → At (items_then as' o) k x → ⊥) → o ≡ None
+empty-sloop [] None n = refl
+empty-sloop [] (Some l) n = absurd (n zero (sloop_item l) refl)
+empty-sloop (b ∷ as') o n = absurd (n zero (arc_item b) refl)
 
 module _ (M : Map) (V : Shaped M) where
   -- d sees by a direct path, e by way of d
@@ -94,21 +94,21 @@ module _ (M : Map) (V : Shaped M) where
       }
 
   -- a map without items, but with a svertex
-  by_svertex : (d e : Vector) → IsFree M d → IsFree M e → ((k : ℕ) (x : Item) → At (items M) k x → ⊥) → (k : ℕ) (v : Svertex) → At M.svertices k v → SeesBoth M d e
+  by_svertex : (d e : Vector) → IsFree M d → IsFree M e → ((k : ℕ) (x : Item) → At (items M) k x → ⊥) → (k : ℕ) (v : MapVertex) → At M.svertices k v → SeesBoth M d e
   by_svertex d e F G n k v a =
-      let ds = d ∷ e ∷ v.way ∷ [] in
+      let ds = d ∷ e ∷ v.dir ∷ [] in
       let o = outlook M ds d in
       let H = outlook-free M ds V o 0 d refl F.direction in
-      let h = V.svertex_ways k v a in
-      let c = outlook-svertex M ds V o H n (suc (suc zero)) v.way refl h in
-      let w : SameDirection v.way v.way = record { parallel = self-parallel v.way; forward = self-pos v.way h } in
-      let r = V.around_lone k v a (λ t. empty-arcs M.arcs M.loop n t.0 t.1 t.2) in
+      let h = V.svertex_dirs k v a in
+      let c = outlook-svertex M ds V o H n (suc (suc zero)) v.dir refl h in
+      let w : SameDirection v.dir v.dir = record { parallel = self-parallel v.dir; forward = self-pos v.dir h } in
+      let r = V.around_lone k v a (λ t. empty-arcs M.arcs M.sloop n t.0 t.1 t.2) in
       record {
         side = around_svertex k;
         label = r.0;
         has = (v, a, r.1);
-        left = by_way_of o.vector v.way (outlook-clear M ds V o 0 d refl F.direction F (λ l y b. absurd (n l y b))) c (v, a, w);
-        right = by_way_of o.vector v.way (outlook-clear M ds V o (suc zero) e refl G.direction G (λ l y b. absurd (n l y b))) c (v, a, w);
+        left = by_way_of o.vector v.dir (outlook-clear M ds V o 0 d refl F.direction F (λ l y b. absurd (n l y b))) c (v, a, w);
+        right = by_way_of o.vector v.dir (outlook-clear M ds V o (suc zero) e refl G.direction G (λ l y b. absurd (n l y b))) c (v, a, w);
       }
     where
       self-parallel : (v : Vector) → IsZero (cross v v)
@@ -118,12 +118,12 @@ module _ (M : Map) (V : Shaped M) where
         ring xs (at 0 ⊗ at 1 ⊖ at 1 ⊗ at 0) (num (pos 0)) tt,
       )
 
-  by_ground : (d e : Vector) → IsFree M d → IsFree M e → ((k : ℕ) (x : Item) → At (items M) k x → ⊥) → ((k : ℕ) (v : Svertex) → At M.svertices k v → ⊥) → SeesBoth M d e
+  by_ground : (d e : Vector) → IsFree M d → IsFree M e → ((k : ℕ) (x : Item) → At (items M) k x → ⊥) → ((k : ℕ) (v : MapVertex) → At M.svertices k v → ⊥) → SeesBoth M d e
   by_ground d e F G n s =
-      let r = V.ground_alone (empty M.svertices s) (empty-loop M.arcs M.loop n) in
+      let r = V.ground_alone (empty M.svertices s) (empty-sloop M.arcs M.sloop n) in
       record { side = whole; label = r.0; has = r.1; left = directly d (clear-self M d F) tt; right = directly e (clear-self M e G) tt }
     where
-      empty : (vs : List Svertex) → ((k : ℕ) (v : Svertex) → At vs k v → ⊥) → vs ≡ []
+      empty : (vs : List MapVertex) → ((k : ℕ) (v : MapVertex) → At vs k v → ⊥) → vs ≡ []
       empty [] s = refl
       empty (v ∷ vs) s = absurd (s zero v refl)
 

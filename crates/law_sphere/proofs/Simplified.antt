@@ -9,7 +9,7 @@ use Rattle.nef_space.specs.declared.label.Label.{Label}
 use Rattle.law_sphere.specs.Maps.{At, Map, NearLabel, Valid}
 use Rattle.law_cyclic.specs.Arcs.{IsStrictlyOn}
 use Rattle.law_sphere.specs.Least.{by_side, NearPlain, NearStraight}
-use Rattle.law_sphere.specs.Stars.{Ray, Star, ray_way, across, NextRay, on_ray, in_sector, IsRay, StarShows, Follows, IsSimplified}
+use Rattle.law_sphere.specs.Stars.{Ray, Star, ray_dir, across, NextRay, on_ray, in_sector, IsRay, StarShows, Follows, IsSimplified}
 use Rattle.law_sphere.proofs.Vectors.{normal-direction, nought-if}
 use Rattle.law_forms.proofs.Far.{nought-or}
 use Rattle.law_forms.proofs.Directions.{self-pos, dot-comm}
@@ -17,7 +17,7 @@ use Rattle.law_sphere.proofs.Generic.{amount, far-keeps}
 use Rattle.law_sphere.proofs.Parallel.{past_source, arc-point, apart}
 use Rattle.law_near.proofs.Flats.{vector-same}
 use Rattle.law_sphere.proofs.Labels.{near-unique}
-use Rattle.law_sphere.proofs.Compare.{way-self}
+use Rattle.law_sphere.proofs.Compare.{dir-self}
 use Rattle.law_sphere.proofs.Turn.{IsStrictlyOn-same}
 use Rattle.law_sphere.proofs.Kind.{away}
 use Rattle.law_sphere.proofs.Flips.{away-direction, dot-away, reversed}
@@ -75,7 +75,7 @@ previous rs zero r a = let x = last-of rs r a in (x.0, x.1, x.2, inr (x.3, refl)
 previous rs (suc k) r a = let x = before rs k r a in (k, x.0, x.1, inl refl, inl a)
 
 -- a ray leaves at right angles to the axis
-pub ray-level : (t : Star) → IsDirection t.axis → (r : Ray) → IsRay t r → (dot t.axis (ray_way t r) ≡ pos 0) × IsDirection (ray_way t r)
+pub ray-level : (t : Star) → IsDirection t.axis → (r : Ray) → IsRay t r → (dot t.axis (ray_dir t r) ≡ pos 0) × IsDirection (ray_dir t r)
 ray-level t axis r = by r.ahead
   where
     by : (b : Bool) → IsRay t r → (dot t.axis (cond b (cross r.normal t.axis) (cross t.axis r.normal)) ≡ pos 0) × IsDirection (cond b (cross r.normal t.axis) (cross t.axis r.normal))
@@ -99,64 +99,64 @@ module _ (t : Star) (M : Map) (V : Valid M) (S : StarShows t M) (simple : IsSimp
   abbrev d : Vector
   d = t.axis
 
-  pub way-level : (k : ℕ) (r : Ray) → At t.rays k r → (dot d (ray_way t r) ≡ pos 0) × IsDirection (ray_way t r)
+  pub way-level : (k : ℕ) (r : Ray) → At t.rays k r → (dot d (ray_dir t r) ≡ pos 0) × IsDirection (ray_dir t r)
   way-level k r a = ray-level t S.axis r (S.rays k r a)
 
   pub off-axis : (e : Vector) → IsDirection e → dot d e ≡ pos 0 → IsDirection (cross d e)
   off-axis e h z = apart d d e (λ y. let p = self-pos d S.axis in omega (arith, ints)) z h
 
   -- the label on a ray, and in a sector
-  pub ray-label : (k : ℕ) (r : Ray) → At t.rays k r → NearLabel M d (ray_way t r) r.mark
+  pub ray-label : (k : ℕ) (r : Ray) → At t.rays k r → NearLabel M d (ray_dir t r) r.mark
   ray-label k r a = let w = way-level k r a in
-      S.labels (ray_way t r) r.mark (off-axis (ray_way t r) w.1 w.0) (on_ray k r a (across-same d (ray_way t r) S.axis w.1 w.0) refl)
+      S.labels (ray_dir t r) r.mark (off-axis (ray_dir t r) w.1 w.0) (on_ray k r a (across-same d (ray_dir t r) S.axis w.1 w.0) refl)
 
-  pub sector-label : (k : ℕ) (q r : Ray) (l : Label) → At t.rays k q → NextRay t.rays k r → At t.sectors k l → (e : Vector) → IsStrictlyOn d (ray_way t q) (ray_way t r) e → NearLabel M d e l
+  pub sector-label : (k : ℕ) (q r : Ray) (l : Label) → At t.rays k q → NextRay t.rays k r → At t.sectors k l → (e : Vector) → IsStrictlyOn d (ray_dir t q) (ray_dir t r) e → NearLabel M d e l
   sector-label k q r l a n s e o =
       let h = o.on_circle.direction in
       let z = o.on_circle.level in
-      S.labels e l (off-axis e h z) (in_sector k q r a n (IsStrictlyOn-same d d (ray_way t q) (ray_way t q) (ray_way t r) (ray_way t r) e (across d e)
-      (way-self d S.axis) (way-self (ray_way t q) (let w = way-level k q a in w.1)) (way-self (ray_way t r) (next-direction n)) (across-same d e S.axis h z) o) s)
+      S.labels e l (off-axis e h z) (in_sector k q r a n (IsStrictlyOn-same d d (ray_dir t q) (ray_dir t q) (ray_dir t r) (ray_dir t r) e (across d e)
+      (dir-self d S.axis) (dir-self (ray_dir t q) (let w = way-level k q a in w.1)) (dir-self (ray_dir t r) (next-direction n)) (across-same d e S.axis h z) o) s)
     where
-      next-direction : NextRay t.rays k r → IsDirection (ray_way t r)
+      next-direction : NextRay t.rays k r → IsDirection (ray_dir t r)
       next-direction (inl b) = let w = way-level (suc k) r b in w.1
       next-direction (inr b) = let w = way-level zero r b.1 in w.1
 
   -- close to a ray on both sides, the signs of u that aren't nought on the ray
-  module _ (u : Vector) (k : ℕ) (r : Ray) (a : At t.rays k r) (f : dot u (ray_way t r) ≡ pos 0 → ⊥) where
+  module _ (u : Vector) (k : ℕ) (r : Ray) (a : At t.rays k r) (f : dot u (ray_dir t r) ≡ pos 0 → ⊥) where
     abbrev w : Vector
-    w = ray_way t r
+    w = ray_dir t r
 
     -- counterclockwise after the ray
-    after-ray : (q : Ray) (j : ℕ) → At t.rays j q → (e : Vector) × IsStrictlyOn d w (ray_way t q) e × (sign (dot u e) ≡ sign (dot u w))
+    after-ray : (q : Ray) (j : ℕ) → At t.rays j q → (e : Vector) × IsStrictlyOn d w (ray_dir t q) e × (sign (dot u e) ≡ sign (dot u w))
     after-ray q j b =
         let x = way-level k r a in
         let y = way-level j q b in
         let c = cross d w in
-        let K = amount (cross (ray_way t q) d ∷ []) c + amount (u ∷ []) c in
-        (past_source d w K, arc-point d w (ray_way t q) S.axis x.1 y.1 x.0 y.0 K (omega arith), far-keeps (u ∷ []) w c K (omega arith) u (inl refl) f)
+        let K = amount (cross (ray_dir t q) d ∷ []) c + amount (u ∷ []) c in
+        (past_source d w K, arc-point d w (ray_dir t q) S.axis x.1 y.1 x.0 y.0 K (omega arith), far-keeps (u ∷ []) w c K (omega arith) u (inl refl) f)
 
     -- and before it
-    before-ray : (q : Ray) (j : ℕ) → At t.rays j q → (e : Vector) × IsStrictlyOn d (ray_way t q) w e × (sign (dot u e) ≡ sign (dot u w))
+    before-ray : (q : Ray) (j : ℕ) → At t.rays j q → (e : Vector) × IsStrictlyOn d (ray_dir t q) w e × (sign (dot u e) ≡ sign (dot u w))
     before-ray q j b =
         let x = way-level k r a in
         let y = way-level j q b in
         let m = away d in
         let hm = away-direction d S.axis in
         let c = cross m w in
-        let K = amount (cross (ray_way t q) m ∷ []) c + amount (u ∷ []) c in
+        let K = amount (cross (ray_dir t q) m ∷ []) c + amount (u ∷ []) c in
         let lx : dot m w ≡ pos 0 = (let e = dot-away d w in let z = x.0 in omega (arith, ints)) in
-        let ly : dot m (ray_way t q) ≡ pos 0 = (let e = dot-away d (ray_way t q) in let z = y.0 in omega (arith, ints)) in
+        let ly : dot m (ray_dir t q) ≡ pos 0 = (let e = dot-away d (ray_dir t q) in let z = y.0 in omega (arith, ints)) in
         let e = past_source m w K in
-        let o = arc-point m w (ray_way t q) hm x.1 y.1 lx ly K (omega arith) in
-        let p = reversed m w (ray_way t q) e x.1 o in
-        (e, IsStrictlyOn-same (away m) d (ray_way t q) (ray_way t q) w w e e (twice d S.axis) (way-self (ray_way t q) y.1) (way-self w x.1) (way-self e o.on_circle.direction) p, far-keeps (u ∷ []) w c K (omega arith) u (inl refl) f)
+        let o = arc-point m w (ray_dir t q) hm x.1 y.1 lx ly K (omega arith) in
+        let p = reversed m w (ray_dir t q) e x.1 o in
+        (e, IsStrictlyOn-same (away m) d (ray_dir t q) (ray_dir t q) w w e e (twice d S.axis) (dir-self (ray_dir t q) y.1) (dir-self w x.1) (dir-self e o.on_circle.direction) p, far-keeps (u ∷ []) w c K (omega arith) u (inl refl) f)
       where
         twice : (d : Vector) → IsDirection d → SameDirection (away (away d)) d
-        twice d h = subst (λ (v : Vector). SameDirection v d) (sym (away-twice d)) (way-self d h)
+        twice d h = subst (λ (v : Vector). SameDirection v d) (sym (away-twice d)) (dir-self d h)
 
   -- one label on a ray and close to it on both sides: not in a simplified star
-  pub not-even : (k : ℕ) (r : Ray) (a : At t.rays k r) (u : Vector) → (dot u (ray_way t r) ≡ pos 0 → ⊥) → (m : Label) → NearLabel M d (ray_way t r) m
-      → ((e : Vector) → IsDirection (cross d e) → sign (dot u e) ≡ sign (dot u (ray_way t r)) → NearLabel M d e m) → ⊥
+  pub not-even : (k : ℕ) (r : Ray) (a : At t.rays k r) (u : Vector) → (dot u (ray_dir t r) ≡ pos 0 → ⊥) → (m : Label) → NearLabel M d (ray_dir t r) m
+      → ((e : Vector) → IsDirection (cross d e) → sign (dot u e) ≡ sign (dot u (ray_dir t r)) → NearLabel M d e m) → ⊥
   not-even k r a u f m n all =
       let x = next-ray t.rays k r a in
       let y = previous t.rays k r a in
@@ -166,7 +166,7 @@ module _ (t : Star) (M : Map) (V : Valid M) (S : StarShows t M) (simple : IsSimp
       let g = before-ray u k r a f y.1 y.0 y.2 in
       let o = e.1 in
       let q = g.1 in
-      let mark = near-unique M V d (ray_way t r) r.mark m (ray-label k r a) n in
+      let mark = near-unique M V d (ray_dir t r) r.mark m (ray-label k r a) n in
       let one = near-unique M V d e.0 s.0 m (sector-label k r x.0 s.0 a x.3 s.1 e.0 o) (all e.0 (off-axis e.0 o.on_circle.direction o.on_circle.level) e.2) in
       let two = near-unique M V d g.0 p.0 m (sector-label y.0 y.1 r p.0 y.2 y.4 p.1 g.0 q) (all g.0 (off-axis g.0 q.on_circle.direction q.on_circle.level) g.2) in
       simple y.0 k y.1 r p.0 s.0 y.2 a y.3 p.1 s.1 (mark ∙ sym two) (mark ∙ sym one)
@@ -175,12 +175,12 @@ module _ (t : Star) (M : Map) (V : Valid M) (S : StarShows t M) (simple : IsSimp
   pub plain-no_ray : NearPlain M d → (k : ℕ) (r : Ray) → At t.rays k r → ⊥
   plain-no_ray P k r a =
       let w = way-level k r a in
-      not-even k r a (ray_way t r) (λ z. let p = self-pos (ray_way t r) w.1 in omega (arith, ints)) P.label (P.near (ray_way t r) (off-axis (ray_way t r) w.1 w.0)) (λ e f g. P.near e f)
+      not-even k r a (ray_dir t r) (λ z. let p = self-pos (ray_dir t r) w.1 in omega (arith, ints)) P.label (P.near (ray_dir t r) (off-axis (ray_dir t r) w.1 w.0)) (λ e f g. P.near e f)
 
   -- at a straight direction each ray lies in the plane
-  pub straight-level : (P : NearStraight M d) → (k : ℕ) (r : Ray) → At t.rays k r → dot P.normal (ray_way t r) ≡ pos 0
+  pub straight-level : (P : NearStraight M d) → (k : ℕ) (r : Ray) → At t.rays k r → dot P.normal (ray_dir t r) ≡ pos 0
   straight-level P k r a = ⊎_elim (λ z. z) (λ f. absurd (
       let w = way-level k r a in
-      let side = by_side P.above P.label P.below in
-      not-even k r a P.normal f (side (sign (dot P.normal (ray_way t r)))) (P.near (ray_way t r) (off-axis (ray_way t r) w.1 w.0))
-      (λ e g s. subst (NearLabel M d e) (ap side s) (P.near e g)))) (nought-or (dot P.normal (ray_way t r)))
+      let side = by_side P.pos P.label P.neg in
+      not-even k r a P.normal f (side (sign (dot P.normal (ray_dir t r)))) (P.near (ray_dir t r) (off-axis (ray_dir t r) w.1 w.0))
+      (λ e g s. subst (NearLabel M d e) (ap side s) (P.near e g)))) (nought-or (dot P.normal (ray_dir t r)))

@@ -3,17 +3,17 @@ use Rattle.std.proofs.Common.{◌≡◌, ℕ, ◌+◌, arith, refl, ap, sym, ◌
 use Rattle.law_arithmetic.proofs.Order.{Sign, minus, nought, plus, sign}
 use Rattle.nef_space.specs.Vectors.{Vector, IsDirection, cross, dot, IsZero, SameDirection}
 use Rattle.nef_space.specs.declared.label.Label.{Label}
-use Rattle.law_sphere.specs.Maps.{At, Svertex, Map, Item, items, item_normal, item_above, item_mark, item_below, OnItem, IsFree, on_item, NearLabel, Valid}
+use Rattle.law_sphere.specs.Maps.{At, MapVertex, Map, Item, items, item_normal, item_pos, item_mark, item_neg, OnItem, IsFree, on_item, NearLabel, Valid}
 use Rattle.law_sphere.specs.Least.{by_side}
 use Rattle.law_sphere.specs.Labelling.{Near, ByOp, IsSmooth, plain, straight}
 use Rattle.law_sphere.proofs.Vectors.{normal-is}
 use Rattle.law_forms.proofs.Directions.{dot-comm}
 use Rattle.law_sphere.proofs.Forms.{on-level, PlaceOf, svertex_place, item_place, free_place, place_of}
-use Rattle.law_sphere.proofs.Labels.{label-exists, way-signs}
+use Rattle.law_sphere.proofs.Labels.{label-exists, dir-signs}
 use Rattle.law_sphere.proofs.Around.{Beside, same_way, other_way, beside}
 use Rattle.law_sphere.proofs.NearItems.{near-free, near-item}
 use Rattle.law_sphere.proofs.Compare.{normals-not_opposite}
-use Rattle.law_sphere.proofs.Turn.{way-directed}
+use Rattle.law_sphere.proofs.Turn.{dir-directed}
 
 module _ (A B : Map) (op : Label → Label → Label) (V : Valid A) (W : Valid B) (d : Vector) (h : IsDirection d) where
   abbrev F : Vector → Label → Type 0
@@ -40,22 +40,22 @@ module _ (A B : Map) (op : Label → Label → Label) (V : Valid A) (W : Valid B
   item-free : (i : ℕ) (x : Item) → At (items A) i x → OnItem A x d → IsFree B d → IsSmooth F d
   item-free i x q o g =
       let b = label-exists B W d h in
-      straight (item_normal x) (op (item_above x) b.0) (op (item_mark x) b.0) (op (item_below x) b.0) (normal-is V.shaped i x q) (record {
+      straight (item_normal x) (op (item_pos x) b.0) (op (item_mark x) b.0) (op (item_neg x) b.0) (normal-is V.shaped i x q) (record {
         level = on-level A x d o;
         at_d = (item_mark x, b.0, on_item i x q o refl, b.1, refl);
         near = λ e. let s = sign (dot (item_normal x) e) in
-            subst (Near F d e) (ap (op (by_side (item_above x) (item_mark x) (item_below x) s)) (sym (flat-side b.0 s)) ∙ op-side (item_above x) (item_mark x) (item_below x) b.0 b.0 b.0 s)
+            subst (Near F d e) (ap (op (by_side (item_pos x) (item_mark x) (item_neg x) s)) (sym (flat-side b.0 s)) ∙ op-side (item_pos x) (item_mark x) (item_neg x) b.0 b.0 b.0 s)
             (near-op e _ b.0 (near-item A V d i x q o e) (near-free B W d g b.0 b.1 e));
       })
 
   free-item : IsFree A d → (j : ℕ) (y : Item) → At (items B) j y → OnItem B y d → IsSmooth F d
   free-item f j y r o =
       let a = label-exists A V d h in
-      straight (item_normal y) (op a.0 (item_above y)) (op a.0 (item_mark y)) (op a.0 (item_below y)) (normal-is W.shaped j y r) (record {
+      straight (item_normal y) (op a.0 (item_pos y)) (op a.0 (item_mark y)) (op a.0 (item_neg y)) (normal-is W.shaped j y r) (record {
         level = on-level B y d o;
         at_d = (a.0, item_mark y, a.1, on_item j y r o refl, refl);
         near = λ e. let s = sign (dot (item_normal y) e) in
-            subst (Near F d e) (ap (λ u. op u (by_side (item_above y) (item_mark y) (item_below y) s)) (sym (flat-side a.0 s)) ∙ op-side a.0 a.0 a.0 (item_above y) (item_mark y) (item_below y) s)
+            subst (Near F d e) (ap (λ u. op u (by_side (item_pos y) (item_mark y) (item_neg y) s)) (sym (flat-side a.0 s)) ∙ op-side a.0 a.0 a.0 (item_pos y) (item_mark y) (item_neg y) s)
             (near-op e a.0 _ (near-free A V d f a.0 a.1 e) (near-item B W d j y r o e));
       })
 
@@ -64,17 +64,17 @@ module _ (A B : Map) (op : Label → Label → Label) (V : Valid A) (W : Valid B
     where
       by : Beside (item_normal x) (item_normal y) → IsSmooth F d
       by (other_way w) = absurd (normals-not_opposite (item_normal x) (item_normal y) (V.shaped.normals i x q) (W.shaped.normals j y r) w)
-      by (same_way w) = straight (item_normal x) (op (item_above x) (item_above y)) (op (item_mark x) (item_mark y)) (op (item_below x) (item_below y)) (normal-is V.shaped i x q) (record {
+      by (same_way w) = straight (item_normal x) (op (item_pos x) (item_pos y)) (op (item_mark x) (item_mark y)) (op (item_neg x) (item_neg y)) (normal-is V.shaped i x q) (record {
         level = on-level A x d o;
         at_d = (item_mark x, item_mark y, on_item i x q o refl, on_item j y r p refl, refl);
         near = λ e. let s = sign (dot (item_normal x) e) in
-            let t = ap sign (dot-comm (item_normal y) e) ∙ way-signs (item_normal x) (item_normal y) e (way-directed (item_normal x) (item_normal y) w) w ∙ ap sign (dot-comm e (item_normal x)) in
-            subst (Near F d e) (ap (λ u. op (by_side (item_above x) (item_mark x) (item_below x) s) (by_side (item_above y) (item_mark y) (item_below y) u)) t ∙ op-side (item_above x) (item_mark x) (item_below x) (item_above y) (item_mark y) (item_below y) s)
+            let t = ap sign (dot-comm (item_normal y) e) ∙ dir-signs (item_normal x) (item_normal y) e (dir-directed (item_normal x) (item_normal y) w) w ∙ ap sign (dot-comm e (item_normal x)) in
+            subst (Near F d e) (ap (λ u. op (by_side (item_pos x) (item_mark x) (item_neg x) s) (by_side (item_pos y) (item_mark y) (item_neg y) u)) t ∙ op-side (item_pos x) (item_mark x) (item_neg x) (item_pos y) (item_mark y) (item_neg y) s)
             (near-op e _ _ (near-item A V d i x q o e) (near-item B W d j y r p e));
       })
 
   -- off the axes of the overlay, op of the two maps is plain or straight
-  pub op-smooth : ((k : ℕ) (v : Svertex) → At A.svertices k v → SameDirection v.way d → ⊥) → ((k : ℕ) (v : Svertex) → At B.svertices k v → SameDirection v.way d → ⊥)
+  pub op-smooth : ((k : ℕ) (v : MapVertex) → At A.svertices k v → SameDirection v.dir d → ⊥) → ((k : ℕ) (v : MapVertex) → At B.svertices k v → SameDirection v.dir d → ⊥)
       → ((i j : ℕ) (x y : Item) → At (items A) i x → At (items B) j y → OnItem A x d → OnItem B y d → IsZero (cross (item_normal x) (item_normal y))) → IsSmooth F d
   op-smooth a b c = by (place_of A d h) (place_of B d h)
     where

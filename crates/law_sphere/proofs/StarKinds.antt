@@ -9,12 +9,12 @@ use Rattle.nef_space.specs.declared.label.Label.{Label}
 use Rattle.law_sphere.specs.Maps.{At, Map, NearLabel}
 use Rattle.law_cyclic.specs.Arcs.{IsStrictlyOn}
 use Rattle.law_sphere.specs.Least.{by_side, NearPlain, NearStraight}
-use Rattle.law_sphere.specs.Stars.{Ray, Star, ray_way, across, OnRay, NextRay, StarLabel, on_ray, in_sector, in_only_sector, IsRay, StarOf, IsPlain, IsStraight}
+use Rattle.law_sphere.specs.Stars.{Ray, Star, ray_dir, across, OnRay, NextRay, StarLabel, on_ray, in_sector, in_only_sector, IsRay, StarOf, IsPlain, IsStraight}
 use Rattle.law_near.proofs.FlatDecided.{cross-turned}
 use Rattle.law_sphere.proofs.Vectors.{normal-direction}
 use Rattle.law_forms.proofs.Directions.{dot-comm, self-pos}
-use Rattle.law_sphere.proofs.Labels.{way-signs}
-use Rattle.law_sphere.proofs.Turn.{way-directed}
+use Rattle.law_sphere.proofs.Labels.{dir-signs}
+use Rattle.law_sphere.proofs.Turn.{dir-directed}
 
 pub none-at : {A : Type 0} (xs : List A) (k : ℕ) (x : A) → xs ≡ [] → At xs k x → ⊥
 none-at {A} xs k x e a = subst (λ (r : List A). At r k x) e a
@@ -85,10 +85,10 @@ module _ (t : Star) (rays : (k : ℕ) (r : Ray) → At t.rays k r → IsRay t r)
   pub straight_star-normal : IsNormal n
   straight_star-normal = let r = rays zero K.first first-at in r.normal
 
-  ahead : ray_way t K.first ≡ cross n d
+  ahead : ray_dir t K.first ≡ cross n d
   ahead = ap (λ b. cond b (cross K.first.normal d) (cross d K.first.normal)) K.first_ahead
 
-  behind : ray_way t K.second ≡ cross d n
+  behind : ray_dir t K.second ≡ cross d n
   behind = ap (λ b. cond b (cross K.second.normal d) (cross d K.second.normal)) K.second_behind ∙ ap (λ v. cross d v) (sym K.one_normal)
 
   dd : pos 0 <ℤ dot d d
@@ -99,7 +99,7 @@ module _ (t : Star) (rays : (k : ℕ) (r : Ray) → At t.rays k r → IsRay t r)
   side-of e = ap sign (across-side n d e straight_star-level) ∙ sign-scaled (dot d d) (dot n e) dd
 
   level-on : (w : Vector) (e : Vector) → dot n w ≡ pos 0 → SameDirection w (across d e) → sign (dot n e) ≡ nought
-  level-on w e z s = sym (side-of e) ∙ way-signs w (across d e) n (way-directed w (across d e) s) s ∙ ap sign z
+  level-on w e z s = sym (side-of e) ∙ dir-signs w (across d e) n (dir-directed w (across d e) s) s ∙ ap sign z
 
   ahead-level : dot n (cross n d) ≡ pos 0
   ahead-level = ring (n.x ∷ n.y ∷ n.z ∷ d.x ∷ d.y ∷ d.z ∷ []) (at 0 ⊗ (at 1 ⊗ at 5 ⊖ at 2 ⊗ at 4) ⊕ at 1 ⊗ (at 2 ⊗ at 3 ⊖ at 0 ⊗ at 5) ⊕ at 2 ⊗ (at 0 ⊗ at 4 ⊖ at 1 ⊗ at 3)) (num (pos 0)) tt
@@ -153,39 +153,39 @@ module _ (t : Star) (rays : (k : ℕ) (r : Ray) → At t.rays k r → IsRay t r)
   listed-one k r a = ray-one k r (subst (λ (q : List Ray). At q k r) K.two_rays a)
 
   -- the star's label is that of the side
-  pub straight_star-label : (e : Vector) (l : Label) → StarLabel t e l → l ≡ by_side K.above t.mark K.below (sign (dot n e))
+  pub straight_star-label : (e : Vector) (l : Label) → StarLabel t e l → l ≡ by_side K.pos t.mark K.neg (sign (dot n e))
   straight_star-label e l (on_ray k r a o q) = ⊎_elim
-      (λ c. sym q ∙ ap (λ (x : Ray). x.mark) (sym c.1) ∙ K.first_mark ∙ ap (by_side K.above t.mark K.below) (sym (level-on (cross n d) e ahead-level (subst (λ (w : Vector). SameDirection w (across d e)) ahead (subst (λ (x : Ray). OnRay t x e) (sym c.1) o)))))
-      (λ c. sym q ∙ ap (λ (x : Ray). x.mark) (sym c.1) ∙ K.second_mark ∙ ap (by_side K.above t.mark K.below) (sym (level-on (cross d n) e behind-level (subst (λ (w : Vector). SameDirection w (across d e)) behind (subst (λ (x : Ray). OnRay t x e) (sym c.1) o))))) (listed-one k r a)
+      (λ c. sym q ∙ ap (λ (x : Ray). x.mark) (sym c.1) ∙ K.first_mark ∙ ap (by_side K.pos t.mark K.neg) (sym (level-on (cross n d) e ahead-level (subst (λ (w : Vector). SameDirection w (across d e)) ahead (subst (λ (x : Ray). OnRay t x e) (sym c.1) o)))))
+      (λ c. sym q ∙ ap (λ (x : Ray). x.mark) (sym c.1) ∙ K.second_mark ∙ ap (by_side K.pos t.mark K.neg) (sym (level-on (cross d n) e behind-level (subst (λ (w : Vector). SameDirection w (across d e)) behind (subst (λ (x : Ray). OnRay t x e) (sym c.1) o))))) (listed-one k r a)
   straight_star-label e l (in_only_sector z s) = absurd (none-at t.rays zero K.first z first-at)
   straight_star-label e l (in_sector k q r a x o s) = by (listed-one k q a) x
     where
-      sector : At (K.above ∷ K.below ∷ []) k l
+      sector : At (K.pos ∷ K.neg ∷ []) k l
       sector = subst (λ (w : List Label). At w k l) K.two_sectors s
 
       rays-length : length t.rays ≡ 2
       rays-length = ap (length {A = Ray}) K.two_rays
 
-      first-next : K.first ≡ q → K.second ≡ r → l ≡ K.above → l ≡ by_side K.above t.mark K.below (sign (dot n e))
-      first-next f g h = h ∙ ap (by_side K.above t.mark K.below) (sym (past-first e (subst (λ (w : Vector). IsStrictlyOn d w (cross d n) (across d e)) (ap (ray_way t) (sym f) ∙ ahead) (subst (λ (w : Vector). IsStrictlyOn d (ray_way t q) w (across d e)) (ap (ray_way t) (sym g) ∙ behind) o))))
+      first-next : K.first ≡ q → K.second ≡ r → l ≡ K.pos → l ≡ by_side K.pos t.mark K.neg (sign (dot n e))
+      first-next f g h = h ∙ ap (by_side K.pos t.mark K.neg) (sym (past-first e (subst (λ (w : Vector). IsStrictlyOn d w (cross d n) (across d e)) (ap (ray_dir t) (sym f) ∙ ahead) (subst (λ (w : Vector). IsStrictlyOn d (ray_dir t q) w (across d e)) (ap (ray_dir t) (sym g) ∙ behind) o))))
 
-      second-next : K.second ≡ q → K.first ≡ r → l ≡ K.below → l ≡ by_side K.above t.mark K.below (sign (dot n e))
-      second-next f g h = h ∙ ap (by_side K.above t.mark K.below) (sym (past-second e (subst (λ (w : Vector). IsStrictlyOn d w (cross n d) (across d e)) (ap (ray_way t) (sym f) ∙ behind) (subst (λ (w : Vector). IsStrictlyOn d (ray_way t q) w (across d e)) (ap (ray_way t) (sym g) ∙ ahead) o))))
+      second-next : K.second ≡ q → K.first ≡ r → l ≡ K.neg → l ≡ by_side K.pos t.mark K.neg (sign (dot n e))
+      second-next f g h = h ∙ ap (by_side K.pos t.mark K.neg) (sym (past-second e (subst (λ (w : Vector). IsStrictlyOn d w (cross n d) (across d e)) (ap (ray_dir t) (sym f) ∙ behind) (subst (λ (w : Vector). IsStrictlyOn d (ray_dir t q) w (across d e)) (ap (ray_dir t) (sym g) ∙ ahead) o))))
 
-      by : ((k ≡ zero) × (K.first ≡ q)) ⊎ ((k ≡ suc zero) × (K.second ≡ q)) → NextRay t.rays k r → l ≡ by_side K.above t.mark K.below (sign (dot n e))
-      by (inl c) (inl y) = ⊎_elim (λ z. let p = z.0 in let u = c.0 in absurd (omega arith)) (λ z. first-next c.1 z.1 (sym (subst (λ (i : ℕ). At (K.above ∷ K.below ∷ []) i l) c.0 sector))) (listed-one (suc k) r y)
+      by : ((k ≡ zero) × (K.first ≡ q)) ⊎ ((k ≡ suc zero) × (K.second ≡ q)) → NextRay t.rays k r → l ≡ by_side K.pos t.mark K.neg (sign (dot n e))
+      by (inl c) (inl y) = ⊎_elim (λ z. let p = z.0 in let u = c.0 in absurd (omega arith)) (λ z. first-next c.1 z.1 (sym (subst (λ (i : ℕ). At (K.pos ∷ K.neg ∷ []) i l) c.0 sector))) (listed-one (suc k) r y)
       by (inl c) (inr y) = let p = y.0 in let u = c.0 in let w = rays-length in absurd (omega arith)
       by (inr c) (inl y) = ⊎_elim (λ z. let p = z.0 in let u = c.0 in absurd (omega arith)) (λ z. let p = z.0 in let u = c.0 in absurd (omega arith)) (listed-one (suc k) r y)
-      by (inr c) (inr y) = ⊎_elim (λ z. second-next c.1 z.1 (sym (subst (λ (i : ℕ). At (K.above ∷ K.below ∷ []) i l) c.0 sector))) (λ z. let p = z.0 in absurd (omega arith)) (listed-one zero r y.1)
+      by (inr c) (inr y) = ⊎_elim (λ z. second-next c.1 z.1 (sym (subst (λ (i : ℕ). At (K.pos ∷ K.neg ∷ []) i l) c.0 sector))) (λ z. let p = z.0 in absurd (omega arith)) (listed-one zero r y.1)
 
 pub straight-star : (t : Star) (M : Map) (d : Vector) → IsDirection d → StarOf t M d → IsStraight t → NearStraight M d
 straight-star t M d h S K = record {
   normal = K.first.normal;
   direction = normal-direction K.first.normal (straight_star-normal t S.rays K axis);
   level = subst (λ (r : Vector). dot K.first.normal r ≡ pos 0) S.axis (straight_star-level t S.rays K axis);
-  above = K.above;
+  pos = K.pos;
   label = t.mark;
-  below = K.below;
+  neg = K.neg;
   at_d = S.mark;
   near = λ e f. let x = S.labels e f in subst (NearLabel M d e) (straight_star-label t S.rays K axis e x.0 x.1) x.2;
 }

@@ -4,7 +4,7 @@ use Rattle.std.proofs.lemmas.Int.{ints}
 use Rattle.law_arithmetic.specs.Signs.{Lies}
 use Rattle.nef_space.specs.Vectors.{Vector, IsDirection, cross, dot, IsZero, SameDirection, blend}
 use Rattle.law_near.proofs.Meets.{cross-none}
-use Rattle.law_sphere.specs.Maps.{At, Svertex, Map, Item, items, item_normal, IsFree, IsClear, Shaped}
+use Rattle.law_sphere.specs.Maps.{At, MapVertex, Map, Item, items, item_normal, IsFree, IsClear, Shaped}
 use Rattle.law_sphere.proofs.Vectors.{normal-is}
 use Rattle.law_near.proofs.Decided.{Decided}
 use Rattle.law_forms.proofs.Directions.{zero-decided, dot-zero}
@@ -30,7 +30,7 @@ apart-by_rows v x h off z = by (zero-decided (row_x v)) (zero-decided (row_y v))
 
 module _ (M : Map) (ds : List Vector) where
   abbrev joins : Vector → List Vector
-  joins d = point_forms d ++ gather (λ (v : Svertex). cross d v.way ∷ []) M.svertices
+  joins d = point_forms d ++ gather (λ (v : MapVertex). cross d v.dir ∷ []) M.svertices
 
   abbrev avoided : List Vector
   avoided = gather (λ (y : Item). item_normal y ∷ []) (items M) ++ gather joins ds
@@ -40,7 +40,7 @@ module _ (M : Map) (ds : List Vector) where
     pub vector : Vector
     pub planes : (k : ℕ) (y : Item) → At (items M) k y → IsDirection (item_normal y) → dot (item_normal y) vector ≡ pos 0 → ⊥
     pub apart : (k : ℕ) (d : Vector) → At ds k d → IsDirection d → IsDirection (cross d vector)
-    pub misses : (k : ℕ) (d : Vector) → At ds k d → (l : ℕ) (v : Svertex) → At M.svertices l v → IsDirection (cross d v.way) → dot (cross d v.way) vector ≡ pos 0 → ⊥
+    pub misses : (k : ℕ) (d : Vector) → At ds k d → (l : ℕ) (v : MapVertex) → At M.svertices l v → IsDirection (cross d v.dir) → dot (cross d v.dir) vector ≡ pos 0 → ⊥
 
   pub outlook : Vector → Outlook
   outlook s = by (generic avoided s)
@@ -49,8 +49,8 @@ module _ (M : Map) (ds : List Vector) where
       by e = record {
         vector = e.vector;
         planes = λ k y a f. e.off (item_normal y) (lies-left (gather (λ (y : Item). item_normal y ∷ []) (items M)) (gather joins ds) (item_normal y) (gather-has (λ (y : Item). item_normal y ∷ []) (items M) k y (item_normal y) a (inl refl))) f;
-        apart = λ k d a f. apart-by_rows d e.vector f (λ g l. e.off g (joined k d a g (lies-left (point_forms d) (gather (λ (v : Svertex). cross d v.way ∷ []) M.svertices) g l)));
-        misses = λ k d a l v h. e.off (cross d v.way) (joined k d a (cross d v.way) (lies-right (point_forms d) (gather (λ (v : Svertex). cross d v.way ∷ []) M.svertices) (cross d v.way) (gather-has (λ (v : Svertex). cross d v.way ∷ []) M.svertices l v (cross d v.way) h (inl refl))));
+        apart = λ k d a f. apart-by_rows d e.vector f (λ g l. e.off g (joined k d a g (lies-left (point_forms d) (gather (λ (v : MapVertex). cross d v.dir ∷ []) M.svertices) g l)));
+        misses = λ k d a l v h. e.off (cross d v.dir) (joined k d a (cross d v.dir) (lies-right (point_forms d) (gather (λ (v : MapVertex). cross d v.dir ∷ []) M.svertices) (cross d v.dir) (gather-has (λ (v : MapVertex). cross d v.dir ∷ []) M.svertices l v (cross d v.dir) h (inl refl))));
       }
         where
           joined : (k : ℕ) (d : Vector) → At ds k d → (g : Vector) → Lies (joins d) g → Lies avoided g
@@ -63,7 +63,7 @@ module _ (M : Map) (ds : List Vector) where
     pub outlook-free : IsFree M x.vector
     outlook-free = record {
       direction = outlook-direction;
-      off_svertices = λ l v a m. miss d v.way x.vector (V.svertex_ways l v a) (x.misses k d here l v a) (x.apart k d here h) m;
+      off_svertices = λ l v a m. miss d v.dir x.vector (V.svertex_dirs l v a) (x.misses k d here l v a) (x.apart k d here h) m;
       off_items = λ l y a o. x.planes l y a (normal-is V l y a) (on-level M y x.vector o);
     }
 
@@ -75,7 +75,7 @@ module _ (M : Map) (ds : List Vector) where
       short = λ o. x.apart k d here h o.parallel;
       between = λ i j si sj. record {
         direction = between-direction i j sj;
-        off_svertices = λ l v a m. miss-between d v.way x.vector i j sj (V.svertex_ways l v a) (x.misses k d here l v a) (x.apart k d here h) m;
+        off_svertices = λ l v a m. miss-between d v.dir x.vector i j sj (V.svertex_dirs l v a) (x.misses k d here l v a) (x.apart k d here h) m;
         off_items = λ l y a o. between-off (item_normal y) d x.vector i j sj (level l y a) (x.planes l y a (normal-is V l y a)) (on-level M y (blend i d j x.vector) o);
       };
     }
@@ -105,7 +105,7 @@ outlook-svertex M ds V x F empty k v here h = record {
   short = λ o. x.apart k v here h (cross-turned x.vector v o.parallel);
   between = λ i j si sj. record {
     direction = subst IsDirection (blend-turned j i v x.vector) (direction j i si);
-    off_svertices = λ l w a m. miss-between v w.way x.vector j i si (V.svertex_ways l w a) (x.misses k v here l w a) (x.apart k v here h) (subst (SameDirection w.way) (blend-turned i j x.vector v) m);
+    off_svertices = λ l w a m. miss-between v w.dir x.vector j i si (V.svertex_dirs l w a) (x.misses k v here l w a) (x.apart k v here h) (subst (SameDirection w.dir) (blend-turned i j x.vector v) m);
     off_items = λ l y a o. empty l y a;
   };
 }

@@ -8,14 +8,14 @@ use Rattle.nef_space.specs.Vectors.{Vector, IsDirection, cross, dot, IsZero, Sam
 use Rattle.nef_space.specs.declared.label.Label.{Label}
 use Rattle.law_sphere.specs.Maps.{At, Map, NearLabel, Valid}
 use Rattle.law_sphere.specs.Least.{by_side, NearStraight}
-use Rattle.law_sphere.specs.Stars.{Ray, Star, ray_way, StarShows, IsSimplified}
+use Rattle.law_sphere.specs.Stars.{Ray, Star, ray_dir, StarShows, IsSimplified}
 use Rattle.law_sphere.proofs.Vectors.{nought-if, same-minus}
 use Rattle.law_forms.proofs.Directions.{self-pos, dot-comm}
 use Rattle.law_sphere.proofs.Parallel.{parallel-trans}
 use Rattle.law_near.proofs.FlatDecided.{cross-turned}
-use Rattle.law_sphere.proofs.Labels.{near-unique, label-unique, way-signs}
+use Rattle.law_sphere.proofs.Labels.{near-unique, label-unique, dir-signs}
 use Rattle.law_sphere.proofs.Around.{Beside, same_way, other_way, beside, opposites}
-use Rattle.law_sphere.proofs.Compare.{way-self, SameDirection-turned, SameDirection-trans}
+use Rattle.law_sphere.proofs.Compare.{dir-self, SameDirection-turned, SameDirection-trans}
 use Rattle.law_sphere.proofs.Turn.{whole-passes}
 use Rattle.law_sphere.proofs.Kind.{away, away-dot}
 use Rattle.law_sphere.proofs.Flips.{away-direction}
@@ -23,13 +23,13 @@ use Rattle.law_sphere.proofs.Simplified.{way-level, off-axis, ray-label, sector-
 
 -- no two rays go the same way
 abbrev pub RaysApart : Star → Type 0
-RaysApart t = (i k : ℕ) (q r : Ray) → At t.rays i q → At t.rays k r → SameDirection (ray_way t q) (ray_way t r) → i ≡ k
+RaysApart t = (i k : ℕ) (q r : Ray) → At t.rays i q → At t.rays k r → SameDirection (ray_dir t q) (ray_dir t r) → i ≡ k
 
 pub record TwoRays (t : Star) : Type 0 where
   pub first : Ray
   pub second : Ray
   pub two_rays : t.rays ≡ first ∷ second ∷ []
-  pub opposite : IsOpposite (ray_way t first) (ray_way t second)
+  pub opposite : IsOpposite (ray_dir t first) (ray_dir t second)
   pub first_mark : first.mark ≡ t.mark
   pub second_mark : second.mark ≡ t.mark
 
@@ -57,22 +57,22 @@ module _ (t : Star) (M : Map) (V : Valid M) (S : StarShows t M) (simple : IsSimp
   w0 = cross n d
 
   abbrev side : Sign → Label
-  side = by_side P.above P.label P.below
+  side = by_side P.pos P.label P.neg
 
   w0-direction : IsDirection w0
   w0-direction z = S.axis (nought-if n d P.direction z P.level)
 
   -- each ray goes along n x d or its opposite
-  along-plane : (k : ℕ) (r : Ray) → At t.rays k r → Beside w0 (ray_way t r)
+  along-plane : (k : ℕ) (r : Ray) → At t.rays k r → Beside w0 (ray_dir t r)
   along-plane k r a =
       let x = way-level t M V S simple k r a in
-      beside w0 (ray_way t r) w0-direction x.1 (along-meet n d (ray_way t r) x.0 (straight-level t M V S simple P k r a))
+      beside w0 (ray_dir t r) w0-direction x.1 (along-meet n d (ray_dir t r) x.0 (straight-level t M V S simple P k r a))
 
   ray-mark : (k : ℕ) (r : Ray) → At t.rays k r → r.mark ≡ P.label
   ray-mark k r a =
       let x = way-level t M V S simple k r a in
-      near-unique M V d (ray_way t r) r.mark P.label (ray-label t M V S simple k r a)
-      (subst (NearLabel M d (ray_way t r)) (ap side (ap sign (straight-level t M V S simple P k r a))) (P.near (ray_way t r) (off-axis t M V S simple (ray_way t r) x.1 x.0)))
+      near-unique M V d (ray_dir t r) r.mark P.label (ray-label t M V S simple k r a)
+      (subst (NearLabel M d (ray_dir t r)) (ap side (ap sign (straight-level t M V S simple P k r a))) (P.near (ray_dir t r) (off-axis t M V S simple (ray_dir t r) x.1 x.0)))
 
   star-mark : P.label ≡ t.mark
   star-mark = label-unique M V d P.label t.mark P.at_d S.mark
@@ -84,7 +84,7 @@ module _ (t : Star) (M : Map) (V : Valid M) (S : StarShows t M) (simple : IsSimp
       let l = ap (length {A = Ray}) e in
       let s = S.sectors zero r a in
       let x = way-level t M V S simple zero r a in
-      let w = ray_way t r in
+      let w = ray_dir t r in
       let z = straight-level t M V S simple P zero r a in
       let dn = dot-comm d n ∙ P.level in
       let hd = away-direction w x.1 in
@@ -98,20 +98,20 @@ module _ (t : Star) (M : Map) (V : Valid M) (S : StarShows t M) (simple : IsSimp
       last-one : length t.rays ≡ 1 → suc zero ≡ length t.rays
       last-one l = sym l
 
-      level-back : dot n (ray_way t r) ≡ pos 0 → dot n (away (ray_way t r)) ≡ pos 0 -ℤ dot n (ray_way t r) → dot n (away (ray_way t r)) ≡ pos 0
+      level-back : dot n (ray_dir t r) ≡ pos 0 → dot n (away (ray_dir t r)) ≡ pos 0 -ℤ dot n (ray_dir t r) → dot n (away (ray_dir t r)) ≡ pos 0
       level-back z e = omega (arith, ints)
 
-      label-at : (r : Ray) → At t.rays zero r → (l : Label) → At t.sectors zero l → suc zero ≡ length t.rays → (e : Vector) → IsDirection e → dot d e ≡ pos 0 → (SameDirection (ray_way t r) e → ⊥) → NearLabel M d e l
+      label-at : (r : Ray) → At t.rays zero r → (l : Label) → At t.sectors zero l → suc zero ≡ length t.rays → (e : Vector) → IsDirection e → dot d e ≡ pos 0 → (SameDirection (ray_dir t r) e → ⊥) → NearLabel M d e l
       label-at r a l s q e he z f =
           let x = way-level t M V S simple zero r a in
-          sector-label t M V S simple zero r r l a (inr (q, a)) s e (whole-passes d (ray_way t r) (ray_way t r) e S.axis x.1 x.1 he x.0 x.0 z (way-self (ray_way t r) x.1) f)
+          sector-label t M V S simple zero r r l a (inr (q, a)) s e (whole-passes d (ray_dir t r) (ray_dir t r) e S.axis x.1 x.1 he x.0 x.0 z (dir-self (ray_dir t r) x.1) f)
 
   -- two rays on one side of the axis
-  both-same : (i k : ℕ) (q r : Ray) → At t.rays i q → At t.rays k r → SameDirection w0 (ray_way t q) → SameDirection w0 (ray_way t r) → i ≡ k
-  both-same i k q r a b x y = apart-rays i k q r a b (SameDirection-trans (ray_way t q) w0 (ray_way t r) (SameDirection-turned w0 (ray_way t q) x) y)
+  both-same : (i k : ℕ) (q r : Ray) → At t.rays i q → At t.rays k r → SameDirection w0 (ray_dir t q) → SameDirection w0 (ray_dir t r) → i ≡ k
+  both-same i k q r a b x y = apart-rays i k q r a b (SameDirection-trans (ray_dir t q) w0 (ray_dir t r) (SameDirection-turned w0 (ray_dir t q) x) y)
 
-  both-other : (i k : ℕ) (q r : Ray) → At t.rays i q → At t.rays k r → IsOpposite w0 (ray_way t q) → IsOpposite w0 (ray_way t r) → i ≡ k
-  both-other i k q r a b x y = apart-rays i k q r a b (opposites w0 (ray_way t q) (ray_way t r) w0-direction x y)
+  both-other : (i k : ℕ) (q r : Ray) → At t.rays i q → At t.rays k r → IsOpposite w0 (ray_dir t q) → IsOpposite w0 (ray_dir t r) → i ≡ k
+  both-other i k q r a b x y = apart-rays i k q r a b (opposites w0 (ray_dir t q) (ray_dir t r) w0-direction x y)
 
   pub straight-rays : (t.rays ≡ []) ⊎ TwoRays t
   straight-rays = by t.rays refl
@@ -128,25 +128,25 @@ module _ (t : Star) (M : Map) (V : Valid M) (S : StarShows t M) (simple : IsSimp
       one-two : suc zero ≡ suc (suc zero) → ⊥
       one-two e = omega arith
 
-      two : (q r : Ray) → t.rays ≡ q ∷ r ∷ [] → IsOpposite (ray_way t q) (ray_way t r) → TwoRays t
+      two : (q r : Ray) → t.rays ≡ q ∷ r ∷ [] → IsOpposite (ray_dir t q) (ray_dir t r) → TwoRays t
       two q r e o = record { first = q; second = r; two_rays = e; opposite = o; first_mark = ray-mark zero q (listed (q ∷ r ∷ []) e zero q refl) ∙ star-mark; second_mark = ray-mark (suc zero) r (listed (q ∷ r ∷ []) e (suc zero) r refl) ∙ star-mark }
 
       flip : (u v w : Vector) → IsDirection u → SameDirection u v → IsOpposite u w → IsOpposite v w
       flip u v w h s o = record {
         parallel = parallel-trans v u w h (cross-turned u v s.parallel) o.parallel;
-        backward = same-minus (dot u w) (dot v w) (ap sign (dot-comm v w) ∙ way-signs u v w h s ∙ ap sign (dot-comm w u)) o.backward;
+        backward = same-minus (dot u w) (dot v w) (ap sign (dot-comm v w) ∙ dir-signs u v w h s ∙ ap sign (dot-comm w u)) o.backward;
       }
 
       opposite-turned : (v w : Vector) → IsOpposite v w → IsOpposite w v
       opposite-turned v w o = record { parallel = cross-turned v w o.parallel; backward = let e = dot-comm w v in let b = o.backward in omega (arith, ints) }
 
-      pair : (q r : Ray) → t.rays ≡ q ∷ r ∷ [] → Beside w0 (ray_way t q) → Beside w0 (ray_way t r) → TwoRays t
+      pair : (q r : Ray) → t.rays ≡ q ∷ r ∷ [] → Beside w0 (ray_dir t q) → Beside w0 (ray_dir t r) → TwoRays t
       pair q r e (same_way x) (same_way y) = absurd (zero-one (both-same zero (suc zero) q r (listed (q ∷ r ∷ []) e zero q refl) (listed (q ∷ r ∷ []) e (suc zero) r refl) x y))
       pair q r e (other_way x) (other_way y) = absurd (zero-one (both-other zero (suc zero) q r (listed (q ∷ r ∷ []) e zero q refl) (listed (q ∷ r ∷ []) e (suc zero) r refl) x y))
-      pair q r e (same_way x) (other_way y) = two q r e (flip w0 (ray_way t q) (ray_way t r) w0-direction x y)
-      pair q r e (other_way x) (same_way y) = two q r e (opposite-turned (ray_way t r) (ray_way t q) (flip w0 (ray_way t r) (ray_way t q) w0-direction y x))
+      pair q r e (same_way x) (other_way y) = two q r e (flip w0 (ray_dir t q) (ray_dir t r) w0-direction x y)
+      pair q r e (other_way x) (same_way y) = two q r e (opposite-turned (ray_dir t r) (ray_dir t q) (flip w0 (ray_dir t r) (ray_dir t q) w0-direction y x))
 
-      three : (q r s : Ray) → At t.rays zero q → At t.rays (suc zero) r → At t.rays (suc (suc zero)) s → Beside w0 (ray_way t q) → Beside w0 (ray_way t r) → Beside w0 (ray_way t s) → ⊥
+      three : (q r s : Ray) → At t.rays zero q → At t.rays (suc zero) r → At t.rays (suc (suc zero)) s → Beside w0 (ray_dir t q) → Beside w0 (ray_dir t r) → Beside w0 (ray_dir t s) → ⊥
       three q r s a b c (same_way x) (same_way y) z = zero-one (both-same zero (suc zero) q r a b x y)
       three q r s a b c (other_way x) (other_way y) z = zero-one (both-other zero (suc zero) q r a b x y)
       three q r s a b c (same_way x) (other_way y) (same_way z) = zero-two (both-same zero (suc (suc zero)) q s a c x z)

@@ -13,36 +13,36 @@ use Rattle.law_forms.proofs.Directions.{dot-comm, self-pos, dot-zero}
 use Rattle.law_sphere.proofs.Places.{SameDirection-decided, kept-minus}
 use Rattle.law_sphere.proofs.Parallel.{parallel-trans, parallel-in_plane}
 use Rattle.law_near.proofs.FlatDecided.{cross-turned, triple-dot}
-use Rattle.law_sphere.proofs.Labels.{way-signs, way-direction}
+use Rattle.law_sphere.proofs.Labels.{dir-signs, dir-direction}
 use Rattle.law_sphere.proofs.Around.{opposite-triple, triple-turned, turn-plus, turn-minus, opposites, Beside, same_way, other_way, beside}
 use Rattle.law_sphere.proofs.Compare.{SameDirection-turned, SameDirection-trans}
 
 -- ---- the same ways make the same turns
-pub way-directed : (s d : Vector) → SameDirection s d → IsDirection s
-way-directed s d w = way-direction d s (SameDirection-turned s d w)
+pub dir-directed : (s d : Vector) → SameDirection s d → IsDirection s
+dir-directed s d w = dir-direction d s (SameDirection-turned s d w)
 
 turn-first : (n m a b : Vector) → SameDirection n m → sign (triple m a b) ≡ sign (triple n a b)
-turn-first n m a b w = ap sign (dot-comm m (cross a b)) ∙ way-signs n m (cross a b) (way-directed n m w) w ∙ ap sign (dot-comm (cross a b) n)
+turn-first n m a b w = ap sign (dot-comm m (cross a b)) ∙ dir-signs n m (cross a b) (dir-directed n m w) w ∙ ap sign (dot-comm (cross a b) n)
 
 pub turn-last : (n a b c : Vector) → SameDirection b c → sign (triple n a c) ≡ sign (triple n a b)
-turn-last n a b c w = ap sign (triple-dot n a c) ∙ way-signs b c (cross n a) (way-directed b c w) w ∙ ap sign (sym (triple-dot n a b))
+turn-last n a b c w = ap sign (triple-dot n a c) ∙ dir-signs b c (cross n a) (dir-directed b c w) w ∙ ap sign (sym (triple-dot n a b))
 
 turn-middle : (n a b c : Vector) → SameDirection b c → sign (triple n c a) ≡ sign (triple n b a)
-turn-middle n a b c w = ap sign (triple-middle n c a) ∙ way-signs b c (cross a n) (way-directed b c w) w ∙ ap sign (sym (triple-middle n b a))
+turn-middle n a b c w = ap sign (triple-middle n c a) ∙ dir-signs b c (cross a n) (dir-directed b c w) w ∙ ap sign (sym (triple-middle n b a))
 
 pub turn-same : (n m a b c d : Vector) → SameDirection n m → SameDirection a b → SameDirection c d → sign (triple m b d) ≡ sign (triple n a c)
 turn-same n m a b c d u v w = turn-first n m b d u ∙ turn-last n b c d w ∙ turn-middle n c a b v
 
 IsOpposite-same : (s u t v : Vector) → SameDirection s u → SameDirection t v → IsOpposite u v → IsOpposite s t
 IsOpposite-same s u t v a b o = record {
-  parallel = parallel-trans s u t (way-direction s u a) a.parallel (parallel-trans u v t (way-direction t v b) o.parallel (cross-turned t v b.parallel));
-  backward = same-minus (dot u v) (dot s t) (sym (way-signs t v u (way-directed t v b) b ∙ ap sign (dot-comm u t) ∙ way-signs s u t (way-directed s u a) a ∙ ap sign (dot-comm t s))) o.backward;
+  parallel = parallel-trans s u t (dir-direction s u a) a.parallel (parallel-trans u v t (dir-direction t v b) o.parallel (cross-turned t v b.parallel));
+  backward = same-minus (dot u v) (dot s t) (sym (dir-signs t v u (dir-directed t v b) b ∙ ap sign (dot-comm u t) ∙ dir-signs s u t (dir-directed s u a) a ∙ ap sign (dot-comm t s))) o.backward;
 }
 
 -- an arc with the same normal and ends has the same points
 pub IsStrictlyOn-same : (n m s u t v d e : Vector) → SameDirection n m → SameDirection s u → SameDirection t v → SameDirection d e → IsStrictlyOn n s t d → IsStrictlyOn m u v e
 IsStrictlyOn-same n m s u t v d e a b c w o = record {
-  on_circle = record { direction = way-direction d e w; level = same-nought (dot n d) (dot m e) (ap sign (dot-comm m e) ∙ way-signs n m e (way-directed n m a) a ∙ ap sign (dot-comm e n) ∙ way-signs d e n (way-directed d e w) w) o.on_circle.level };
+  on_circle = record { direction = dir-direction d e w; level = same-nought (dot n d) (dot m e) (ap sign (dot-comm m e) ∙ dir-signs n m e (dir-directed n m a) a ∙ ap sign (dot-comm e n) ∙ dir-signs d e n (dir-directed d e w) w) o.on_circle.level };
   not_source = λ x. o.not_source (SameDirection-trans s u d b (SameDirection-trans u e d x (SameDirection-turned d e w)));
   not_target = λ x. o.not_target (SameDirection-trans t v d c (SameDirection-trans v e d x (SameDirection-turned d e w)));
   less_than_half = λ h. let r = o.less_than_half (same-plus (triple m u v) (triple n s t) (sym (turn-same n m s u t v a b c)) h) in

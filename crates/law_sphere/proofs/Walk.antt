@@ -17,7 +17,7 @@ use Rattle.law_near.proofs.FlatDecided.{cross-turned}
 use Rattle.law_near.proofs.Flats.{vector-same}
 use Rattle.law_sphere.proofs.Direct.{cross-between}
 use Rattle.law_sphere.proofs.StepOff.{blend-turned}
-use Rattle.law_sphere.proofs.Labels.{way-signs}
+use Rattle.law_sphere.proofs.Labels.{dir-signs}
 use Rattle.law_sphere.proofs.Around.{Beside, same_way, other_way, beside}
 
 pub cross-direction_right : (d e : Vector) → IsDirection (cross d e) → IsDirection e
@@ -138,5 +138,5 @@ module _ (gs : List Vector) (F : Vector → Label → Type 0) (L : Labelling gs 
       (zero-decided (cross d e))
     where
       along : Beside d e → F e m
-      along (same_way w) = L.cells d e m hd he (λ g l. way-signs d e g hd w) a
+      along (same_way w) = L.cells d e m hd he (λ g l. dir-signs d e g hd w) a
       along (other_way o) = absurd (off o)

@@ -2,7 +2,7 @@
 use Rattle.std.specs.Prelude.{◌≡◌, pos, ◌-ℤ◌, List, [], ◌∷◌, ◌++◌}
 use Rattle.law_arithmetic.specs.Signs.{sign, Lies}
 use Rattle.nef_space.specs.Vectors.{Vector, cross, vector, dot}
-use Rattle.law_sphere.specs.Maps.{Map, Item, arc_item, loop_item, items, way_of}
+use Rattle.law_sphere.specs.Maps.{Map, Item, arc_item, sloop_item, items, dir_of}
 
 abbrev pub SameSigns : List Vector → Vector → Vector → Type 0
 SameSigns gs d e = (g : Vector) → Lies gs g → sign (dot g e) ≡ sign (dot g d)
@@ -44,8 +44,8 @@ gather f [] = []
 gather f (x ∷ xs) = f x ++ gather f xs
 
 abbrev pub item_forms : Map → Item → List Vector
-item_forms M (arc_item a) = arc_forms a.normal (way_of M.svertices a.source) (way_of M.svertices a.target)
-item_forms M (loop_item l) = l.normal ∷ axes
+item_forms M (arc_item a) = arc_forms a.normal (dir_of M.svertices a.source) (dir_of M.svertices a.target)
+item_forms M (sloop_item l) = l.normal ∷ axes
 
 abbrev pub forms : Map → List Vector
-forms M = axes ++ (gather (λ v. point_forms v.way) M.svertices ++ gather (item_forms M) (items M))
+forms M = axes ++ (gather (λ v. point_forms v.dir) M.svertices ++ gather (item_forms M) (items M))

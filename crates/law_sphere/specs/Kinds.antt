@@ -3,7 +3,7 @@ use Rattle.std.specs.Prelude.{◌≡◌, ℕ, ◌<◌, ℤ, pos, [], ◌∷◌, 
 use Rattle.nef_space.specs.Vectors.{Vector, IsZero, IsOpposite}
 use Rattle.nef_space.specs.declared.label.Label.{Label}
 use Rattle.law_sphere.specs.Vectors.{comb}
-use Rattle.law_sphere.specs.Maps.{Svertex, Loop, Map, MapLabel}
+use Rattle.law_sphere.specs.Maps.{MapVertex, MapSloop, Map, MapLabel}
 
 -- the label toward e, which is the mark of the map where e is nought
 abbrev pub Full : Map → Vector → Label → Type 0
@@ -15,23 +15,23 @@ FlatMap M d = (e : Vector) (b : ℕ) (a : ℤ) → 0 < b → (m : Label) → Ful
 
 pub record IsInVolume (M : Map) : Type 0 where
   pub no_svertex : M.svertices ≡ []
-  pub no_loop : M.loop ≡ None
-  pub same_mark : M.face ≡ Some M.mark
+  pub no_sloop : M.sloop ≡ None
+  pub same_mark : M.ground ≡ Some M.mark
 
 pub record IsInFacet (M : Map) (n : Vector) : Type 0 where
   pub no_svertex : M.svertices ≡ []
-  pub loop : Loop
-  pub has_loop : M.loop ≡ Some loop
-  pub same_mark : loop.mark ≡ M.mark
-  pub normal : loop.normal ≡ n
+  pub sloop : MapSloop
+  pub has_sloop : M.sloop ≡ Some sloop
+  pub same_mark : sloop.mark ≡ M.mark
+  pub normal : sloop.normal ≡ n
 
 -- the greater direction is the second svertex's
 pub record IsOnEdge (M : Map) (d : Vector) : Type 0 where
-  pub first : Svertex
-  pub second : Svertex
+  pub first : MapVertex
+  pub second : MapVertex
   pub two_svertices : M.svertices ≡ first ∷ second ∷ []
-  pub opposite : IsOpposite first.way second.way
+  pub opposite : IsOpposite first.dir second.dir
   pub first_mark : first.mark ≡ M.mark
   pub second_mark : second.mark ≡ M.mark
-  pub no_loop : M.loop ≡ None
-  pub named : second.way ≡ d
+  pub no_sloop : M.sloop ≡ None
+  pub named : second.dir ≡ d

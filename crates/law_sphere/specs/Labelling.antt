@@ -3,7 +3,7 @@ use Rattle.std.specs.Prelude.{◌≡◌, ℕ, ◌≤◌, pos, List, Some}
 use Rattle.law_arithmetic.specs.Signs.{sign}
 use Rattle.nef_space.specs.Vectors.{Vector, IsDirection, cross, dot, blend}
 use Rattle.nef_space.specs.declared.label.Label.{Label}
-use Rattle.law_sphere.specs.Maps.{At, Svertex, Map, Item, items, item_normal, item_above, item_mark, item_below, OnItem, IsFree, MapLabel}
+use Rattle.law_sphere.specs.Maps.{At, MapVertex, Map, Item, items, item_normal, item_pos, item_mark, item_neg, OnItem, IsFree, MapLabel}
 use Rattle.law_sphere.specs.Forms.{SameSigns}
 use Rattle.law_sphere.specs.Least.{by_side}
 
@@ -22,12 +22,12 @@ Plain F d = (m : Label) → F d m → (e : Vector) → IsDirection (cross d e) �
 
 -- at each place of the map, and near it, the labels are those of the map's svertex, item, or face
 pub record Agrees (M : Map) (F : Vector → Label → Type 0) : Type 0 where
-  pub svertices : (k : ℕ) (v : Svertex) → At M.svertices k v → F v.way v.mark
+  pub svertices : (k : ℕ) (v : MapVertex) → At M.svertices k v → F v.dir v.mark
   pub marks : (k : ℕ) (x : Item) (d : Vector) → At (items M) k x → OnItem M x d → F d (item_mark x)
-  pub beside : (k : ℕ) (x : Item) (d e : Vector) → At (items M) k x → OnItem M x d → IsDirection (cross d e) → Near F d e (by_side (item_above x) (item_mark x) (item_below x) (sign (dot (item_normal x) e)))
-  pub lone : (k : ℕ) (v : Svertex) (m : Label) (e : Vector) → At M.svertices k v → v.around ≡ Some m → IsDirection (cross v.way e) → Near F v.way e m
+  pub beside : (k : ℕ) (x : Item) (d e : Vector) → At (items M) k x → OnItem M x d → IsDirection (cross d e) → Near F d e (by_side (item_pos x) (item_mark x) (item_neg x) (sign (dot (item_normal x) e)))
+  pub lone : (k : ℕ) (v : MapVertex) (m : Label) (e : Vector) → At M.svertices k v → v.around ≡ Some m → IsDirection (cross v.dir e) → Near F v.dir e m
   pub free : (d : Vector) → IsFree M d → Plain F d
-  pub face : (m : Label) (d : Vector) → M.face ≡ Some m → IsDirection d → F d m
+  pub ground : (m : Label) (d : Vector) → M.ground ≡ Some m → IsDirection d → F d m
 
 -- op of the labels of two maps
 abbrev pub ByOp : Map → Map → (Label → Label → Label) → Vector → Label → Type 0

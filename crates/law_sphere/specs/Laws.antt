@@ -6,7 +6,7 @@ use Rattle.nef_space.specs.Vectors.{Vector, IsDirection, cross, dot, blend, Same
 use Rattle.nef_space.specs.Sets.{Set}
 use Rattle.nef_space.specs.declared.label.Label.{Label}
 use Rattle.nef_space.specs.Local.{HasLabel, Germ, Flat, FlatDim}
-use Rattle.law_sphere.specs.Maps.{At, Map, Svertex, Item, items, item_normal, OnItem, IsFree, IsClear, HasSide, Side, Sees, SeenAs, MapLabel, NearLabel, Shaped, Valid}
+use Rattle.law_sphere.specs.Maps.{At, Map, MapVertex, Item, items, item_normal, OnItem, IsFree, IsClear, HasSide, Side, Sees, SeenAs, MapLabel, NearLabel, Shaped, Valid}
 use Rattle.law_sphere.specs.Forms.{SameSigns, Keeps, forms}
 use Rattle.law_sphere.specs.Least.{NearPlain, NearStraight, Least, SameLabels, Ordered, Cone}
 use Rattle.law_sphere.specs.Labelling.{Agrees, ByOp, IsSmooth}
@@ -20,12 +20,12 @@ GenericVector = (gs : List Vector) (v : Vector) → (w : Vector) × Keeps gs v w
 -- each direction lies on a svertex or an item, or is free
 abbrev pub PlacesDecided : Type 0
 PlacesDecided = (M : Map) (d : Vector) → IsDirection d
-    → ((k : ℕ) × (v : Svertex) × At M.svertices k v × SameDirection v.way d) ⊎ ((k : ℕ) × (x : Item) × At (items M) k x × OnItem M x d) ⊎ IsFree M d
+    → ((k : ℕ) × (v : MapVertex) × At M.svertices k v × SameDirection v.dir d) ⊎ ((k : ℕ) × (x : Item) × At (items M) k x × OnItem M x d) ⊎ IsFree M d
 
 -- the signs of the map's forms say where a direction lies
 abbrev pub PlacesBySigns : Type 0
 PlacesBySigns = (M : Map) (d e : Vector) → SameSigns (forms M) d e → IsDirection d
-    → ((k : ℕ) (v : Svertex) → At M.svertices k v → SameDirection v.way d → SameDirection v.way e)
+    → ((k : ℕ) (v : MapVertex) → At M.svertices k v → SameDirection v.dir d → SameDirection v.dir e)
     × ((k : ℕ) (x : Item) → At (items M) k x → OnItem M x d → OnItem M x e)
     × (IsFree M d → IsFree M e)
 
@@ -61,7 +61,7 @@ NearIsFar = (M : Map) (d e : Vector) → Valid M → IsDirection d → (n : ℕ)
 -- d is a svertex of a least map exactly where it isn't plain or straight
 abbrev pub SvertexExactly : Type 0
 SvertexExactly = (M : Map) (d : Vector) → Valid M → Least M → IsDirection d
-    → ((k : ℕ) × (v : Svertex) × At M.svertices k v × SameDirection v.way d) ↔ (NearPlain M d ⊎ NearStraight M d → ⊥)
+    → ((k : ℕ) × (v : MapVertex) × At M.svertices k v × SameDirection v.dir d) ↔ (NearPlain M d ⊎ NearStraight M d → ⊥)
 
 -- two least maps with one mark and one label in every direction are equal
 abbrev pub LeastUnique : Type 0
@@ -98,6 +98,6 @@ SetBuild = (M : Map) (s : Set) (p : Place) → HasLabel s p M.mark → IsBuilt M
 -- off the svertices and crossings of two maps, op of them is plain or straight
 abbrev pub OpSmooth : Type 0
 OpSmooth = (A B : Map) (op : Label → Label → Label) → Valid A → Valid B → (d : Vector) → IsDirection d
-    → ((k : ℕ) (v : Svertex) → At A.svertices k v → SameDirection v.way d → ⊥) → ((k : ℕ) (v : Svertex) → At B.svertices k v → SameDirection v.way d → ⊥)
+    → ((k : ℕ) (v : MapVertex) → At A.svertices k v → SameDirection v.dir d → ⊥) → ((k : ℕ) (v : MapVertex) → At B.svertices k v → SameDirection v.dir d → ⊥)
     → ((i j : ℕ) (x y : Item) → At (items A) i x → At (items B) j y → OnItem A x d → OnItem B y d → IsZero (cross (item_normal x) (item_normal y)))
     → IsSmooth (ByOp A B op) d

@@ -7,7 +7,7 @@ use Rattle.nef_space.specs.declared.label.Label.{Label}
 use Rattle.nef_space.specs.Local.{HasLabel, Germ}
 use Rattle.nef_space.specs.Sets.{Set}
 use Rattle.law_sphere.specs.Vectors.{IsPrimitive, VectorBelow}
-use Rattle.law_sphere.specs.Maps.{At, Svertex, Arc, Loop, Map, Item, items, item_normal, item_above, item_mark, item_below, way_of, MapLabel, NearLabel, Valid}
+use Rattle.law_sphere.specs.Maps.{At, MapVertex, Arc, MapSloop, Map, Item, items, item_normal, item_pos, item_mark, item_neg, dir_of, MapLabel, NearLabel, Valid}
 
 -- the label above, in or below a plane
 abbrev pub by_side : Label → Label → Label → Sign → Label
@@ -26,16 +26,16 @@ pub record NearStraight (M : Map) (d : Vector) : Type 0 where
   pub normal : Vector
   pub direction : IsDirection normal
   pub level : dot normal d ≡ pos 0
-  pub above : Label
+  pub pos : Label
   pub label : Label
-  pub below : Label
+  pub neg : Label
   pub at_d : MapLabel M d label
-  pub near : (e : Vector) → IsDirection (cross d e) → NearLabel M d e (by_side above label below (sign (dot normal e)))
+  pub near : (e : Vector) → IsDirection (cross d e) → NearLabel M d e (by_side pos label neg (sign (dot normal e)))
 
 pub record Least (M : Map) : Type 0 where
-  pub no_plain : (k : ℕ) (v : Svertex) → At M.svertices k v → NearPlain M v.way → ⊥
-  pub no_straight : (k : ℕ) (v : Svertex) → At M.svertices k v → NearStraight M v.way → ⊥
-  pub items_differ : (k : ℕ) (x : Item) → At (items M) k x → item_above x ≡ item_mark x → item_below x ≡ item_mark x → ⊥
+  pub no_plain : (k : ℕ) (v : MapVertex) → At M.svertices k v → NearPlain M v.dir → ⊥
+  pub no_straight : (k : ℕ) (v : MapVertex) → At M.svertices k v → NearStraight M v.dir → ⊥
+  pub items_differ : (k : ℕ) (x : Item) → At (items M) k x → item_pos x ≡ item_mark x → item_neg x ≡ item_mark x → ⊥
 
 -- each label of M is one of N
 abbrev pub SameLabels : Map → Map → Type 0
@@ -48,34 +48,34 @@ pub record MatchedArc (M N : Map) (a : Arc) : Type 0 where
   pub arc : Arc
   pub listed : At N.arcs number arc
   pub normal : SameDirection a.normal arc.normal
-  pub source : SameDirection (way_of M.svertices a.source) (way_of N.svertices arc.source)
-  pub target : SameDirection (way_of M.svertices a.target) (way_of N.svertices arc.target)
-  pub above : a.above ≡ arc.above
+  pub source : SameDirection (dir_of M.svertices a.source) (dir_of N.svertices arc.source)
+  pub target : SameDirection (dir_of M.svertices a.target) (dir_of N.svertices arc.target)
+  pub pos : a.pos ≡ arc.pos
   pub mark : a.mark ≡ arc.mark
-  pub below : a.below ≡ arc.below
+  pub neg : a.neg ≡ arc.neg
 
-pub record MatchedLoop (N : Map) (l : Loop) : Type 0 where
-  pub loop : Loop
-  pub listed : N.loop ≡ Some loop
-  pub normal : SameDirection l.normal loop.normal
-  pub above : l.above ≡ loop.above
-  pub mark : l.mark ≡ loop.mark
-  pub below : l.below ≡ loop.below
+pub record MatchedSloop (N : Map) (l : MapSloop) : Type 0 where
+  pub sloop : MapSloop
+  pub listed : N.sloop ≡ Some sloop
+  pub normal : SameDirection l.normal sloop.normal
+  pub pos : l.pos ≡ sloop.pos
+  pub mark : l.mark ≡ sloop.mark
+  pub neg : l.neg ≡ sloop.neg
 
-pub record MatchedSvertex (N : Map) (v : Svertex) : Type 0 where
+pub record MatchedSvertex (N : Map) (v : MapVertex) : Type 0 where
   pub number : ℕ
-  pub svertex : Svertex
+  pub svertex : MapVertex
   pub listed : At N.svertices number svertex
-  pub way : SameDirection v.way svertex.way
+  pub dir : SameDirection v.dir svertex.dir
   pub mark : v.mark ≡ svertex.mark
   pub around : v.around ≡ svertex.around
 
 -- all that M holds N holds too, up to the lengths of vectors and the order of the lists
 pub record Within (M N : Map) : Type 0 where
-  pub svertices : (k : ℕ) (v : Svertex) → At M.svertices k v → MatchedSvertex N v
+  pub svertices : (k : ℕ) (v : MapVertex) → At M.svertices k v → MatchedSvertex N v
   pub arcs : (k : ℕ) (a : Arc) → At M.arcs k a → MatchedArc M N a
-  pub loop : (l : Loop) → M.loop ≡ Some l → MatchedLoop N l
-  pub face : M.face ≡ N.face
+  pub sloop : (l : MapSloop) → M.sloop ≡ Some l → MatchedSloop N l
+  pub ground : M.ground ≡ N.ground
 
 -- the orders of the lists, and directions in lowest terms
 abbrev pub ArcBelow : Arc → Arc → Type 0
@@ -85,9 +85,9 @@ abbrev pub InOrder : {A : Type 0} → (A → A → Type 0) → List A → Type 0
 InOrder {A} Below xs = (i k : ℕ) (x y : A) → i < k → At xs i x → At xs k y → Below x y
 
 pub record Ordered (M : Map) : Type 0 where
-  pub ways_lowest : (k : ℕ) (v : Svertex) → At M.svertices k v → IsPrimitive v.way
+  pub dirs_lowest : (k : ℕ) (v : MapVertex) → At M.svertices k v → IsPrimitive v.dir
   pub normals_lowest : (k : ℕ) (x : Item) → At (items M) k x → IsPrimitive (item_normal x)
-  pub svertices : InOrder (λ (u v : Svertex). VectorBelow u.way v.way) M.svertices
+  pub svertices : InOrder (λ (u v : MapVertex). VectorBelow u.dir v.dir) M.svertices
   pub arcs : InOrder ArcBelow M.arcs
 
 -- the map shows the set close to p

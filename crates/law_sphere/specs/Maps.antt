@@ -11,8 +11,8 @@ At (y ∷ ys) zero x = y ≡ x
 At (y ∷ ys) (suc k) x = At ys k x
 
 -- ---- places
-pub record Svertex : Type 0 where
-  pub way : Vector
+pub record MapVertex : Type 0 where
+  pub dir : Vector
   pub mark : Label
   pub around : Option Label
 
@@ -20,86 +20,86 @@ pub record Arc : Type 0 where
   pub normal : Vector
   pub source : ℕ
   pub target : ℕ
-  pub above : Label
+  pub pos : Label
   pub mark : Label
-  pub below : Label
+  pub neg : Label
 
-pub record Loop : Type 0 where
+pub record MapSloop : Type 0 where
   pub normal : Vector
-  pub above : Label
+  pub pos : Label
   pub mark : Label
-  pub below : Label
+  pub neg : Label
 
 pub record Map : Type 0 where
   pub mark : Label
-  pub svertices : List Svertex
+  pub svertices : List MapVertex
   pub arcs : List Arc
-  pub loop : Option Loop
-  pub face : Option Label
+  pub sloop : Option MapSloop
+  pub ground : Option Label
 
 -- an item is an arc or the sloop
 pub data Item : Type 0 where
   arc_item : Arc → Item
-  loop_item : Loop → Item
+  sloop_item : MapSloop → Item
 
-abbrev pub loop_items : Option Loop → List Item
-loop_items None = []
-loop_items (Some l) = loop_item l ∷ []
+abbrev pub sloop_items : Option MapSloop → List Item
+sloop_items None = []
+sloop_items (Some l) = sloop_item l ∷ []
 
-abbrev pub items_then : List Arc → Option Loop → List Item
-items_then [] o = loop_items o
+abbrev pub items_then : List Arc → Option MapSloop → List Item
+items_then [] o = sloop_items o
 items_then (a ∷ as') o = arc_item a ∷ items_then as' o
 
 -- the items by their numbers: the arcs, then the sloop
 abbrev pub items : Map → List Item
-items M = items_then M.arcs M.loop
+items M = items_then M.arcs M.sloop
 
 abbrev pub item_normal : Item → Vector
 item_normal (arc_item a) = a.normal
-item_normal (loop_item l) = l.normal
+item_normal (sloop_item l) = l.normal
 
-abbrev pub item_above : Item → Label
-item_above (arc_item a) = a.above
-item_above (loop_item l) = l.above
+abbrev pub item_pos : Item → Label
+item_pos (arc_item a) = a.pos
+item_pos (sloop_item l) = l.pos
 
 abbrev pub item_mark : Item → Label
 item_mark (arc_item a) = a.mark
-item_mark (loop_item l) = l.mark
+item_mark (sloop_item l) = l.mark
 
-abbrev pub item_below : Item → Label
-item_below (arc_item a) = a.below
-item_below (loop_item l) = l.below
+abbrev pub item_neg : Item → Label
+item_neg (arc_item a) = a.neg
+item_neg (sloop_item l) = l.neg
 
-abbrev pub way_of : List Svertex → ℕ → Vector
-way_of [] k = vector (pos 0) (pos 0) (pos 0)
-way_of (v ∷ vs) zero = v.way
-way_of (v ∷ vs) (suc k) = way_of vs k
+abbrev pub dir_of : List MapVertex → ℕ → Vector
+dir_of [] k = vector (pos 0) (pos 0) (pos 0)
+dir_of (v ∷ vs) zero = v.dir
+dir_of (v ∷ vs) (suc k) = dir_of vs k
 
 -- d lies strictly on the arc, or on the sloop
 abbrev pub OnItem : Map → Item → Vector → Type 0
-OnItem M (arc_item a) d = IsStrictlyOn a.normal (way_of M.svertices a.source) (way_of M.svertices a.target) d
-OnItem M (loop_item l) d = IsOnCircle l.normal d
+OnItem M (arc_item a) d = IsStrictlyOn a.normal (dir_of M.svertices a.source) (dir_of M.svertices a.target) d
+OnItem M (sloop_item l) d = IsOnCircle l.normal d
 
 -- d is a direction on no svertex and on no item
 pub record IsFree (M : Map) (d : Vector) : Type 0 where
   pub direction : IsDirection d
-  pub off_svertices : (k : ℕ) (v : Svertex) → At M.svertices k v → SameDirection v.way d → ⊥
+  pub off_svertices : (k : ℕ) (v : MapVertex) → At M.svertices k v → SameDirection v.dir d → ⊥
   pub off_items : (k : ℕ) (x : Item) → At (items M) k x → OnItem M x d → ⊥
 
 -- ---- sides and sight
 -- what a side is a side of: the svertex or the item with a number, or the whole sphere
 pub data Side : Type 0 where
   around_svertex : ℕ → Side
-  above_item : ℕ → Side
-  below_item : ℕ → Side
+  pos_item : ℕ → Side
+  neg_item : ℕ → Side
   whole : Side
 
 -- the map has this side, with this label
 abbrev pub HasSide : Map → Side → Label → Type 0
-HasSide M (around_svertex k) m = (v : Svertex) × At M.svertices k v × (v.around ≡ Some m)
-HasSide M (above_item k) m = (x : Item) × At (items M) k x × (item_above x ≡ m)
-HasSide M (below_item k) m = (x : Item) × At (items M) k x × (item_below x ≡ m)
-HasSide M whole m = M.face ≡ Some m
+HasSide M (around_svertex k) m = (v : MapVertex) × At M.svertices k v × (v.around ≡ Some m)
+HasSide M (pos_item k) m = (x : Item) × At (items M) k x × (item_pos x ≡ m)
+HasSide M (neg_item k) m = (x : Item) × At (items M) k x × (item_neg x ≡ m)
+HasSide M whole m = M.ground ≡ Some m
 
 -- the short way from the free direction a to the direction b passes free directions alone
 pub record IsClear (M : Map) (a b : Vector) : Type 0 where
@@ -110,9 +110,9 @@ pub record IsClear (M : Map) (a b : Vector) : Type 0 where
 
 -- y is a point of the side's item, and who comes to it from a comes from that side
 abbrev pub Reaches : Map → Side → Vector → Vector → Type 0
-Reaches M (around_svertex k) a y = (v : Svertex) × At M.svertices k v × SameDirection v.way y
-Reaches M (above_item k) a y = (x : Item) × At (items M) k x × OnItem M x y × (pos 0 <ℤ dot (item_normal x) a)
-Reaches M (below_item k) a y = (x : Item) × At (items M) k x × OnItem M x y × (dot (item_normal x) a <ℤ pos 0)
+Reaches M (around_svertex k) a y = (v : MapVertex) × At M.svertices k v × SameDirection v.dir y
+Reaches M (pos_item k) a y = (x : Item) × At (items M) k x × OnItem M x y × (pos 0 <ℤ dot (item_normal x) a)
+Reaches M (neg_item k) a y = (x : Item) × At (items M) k x × OnItem M x y × (dot (item_normal x) a <ℤ pos 0)
 Reaches M whole a y = Unit {0}
 
 -- the side sees the free direction d: by a direct path to y, or by a path that turns at c
@@ -128,7 +128,7 @@ pub record SeenAs (M : Map) (d : Vector) (m : Label) : Type 0 where
 
 -- the map's label of the direction d
 pub data MapLabel (M : Map) (d : Vector) (m : Label) : Type 0 where
-  at_svertex : (k : ℕ) (v : Svertex) → At M.svertices k v → SameDirection v.way d → v.mark ≡ m → MapLabel M d m
+  at_svertex : (k : ℕ) (v : MapVertex) → At M.svertices k v → SameDirection v.dir d → v.mark ≡ m → MapLabel M d m
   on_item : (k : ℕ) (x : Item) → At (items M) k x → OnItem M x d → item_mark x ≡ m → MapLabel M d m
   seen : SeenAs M d m → MapLabel M d m
 
@@ -150,25 +150,25 @@ HasArc M k = (i : ℕ) × (a : Arc) × At M.arcs i a × ((a.source ≡ k) ⊎ (a
 
 -- the arc goes from one svertex to another, or to the same, on the circle of its normal
 pub record ArcBetween (M : Map) (a : Arc) : Type 0 where
-  pub source : Svertex
-  pub target : Svertex
+  pub source : MapVertex
+  pub target : MapVertex
   pub has_source : At M.svertices a.source source
   pub has_target : At M.svertices a.target target
-  pub level_source : dot a.normal source.way ≡ pos 0
-  pub level_target : dot a.normal target.way ≡ pos 0
+  pub level_source : dot a.normal source.dir ≡ pos 0
+  pub level_target : dot a.normal target.dir ≡ pos 0
 
 -- the items of the map fit together: validity but for the labels, the orders of the lists and the sizes of the numbers
 pub record Shaped (M : Map) : Type 0 where
-  pub svertex_ways : (k : ℕ) (v : Svertex) → At M.svertices k v → IsDirection v.way
-  pub svertices_apart : (i k : ℕ) (u v : Svertex) → At M.svertices i u → At M.svertices k v → SameDirection u.way v.way → i ≡ k
+  pub svertex_dirs : (k : ℕ) (v : MapVertex) → At M.svertices k v → IsDirection v.dir
+  pub svertices_apart : (i k : ℕ) (u v : MapVertex) → At M.svertices i u → At M.svertices k v → SameDirection u.dir v.dir → i ≡ k
   pub normals : (k : ℕ) (x : Item) → At (items M) k x → IsNormal (item_normal x)
   pub arcs_between : (k : ℕ) (a : Arc) → At M.arcs k a → ArcBetween M a
-  pub no_svertex_on_item : (i k : ℕ) (v : Svertex) (x : Item) → At M.svertices i v → At (items M) k x → OnItem M x v.way → ⊥
+  pub no_svertex_on_item : (i k : ℕ) (v : MapVertex) (x : Item) → At M.svertices i v → At (items M) k x → OnItem M x v.dir → ⊥
   pub no_items_meet : (i k : ℕ) (x y : Item) (d : Vector) → At (items M) i x → At (items M) k y → OnItem M x d → OnItem M y d → i ≡ k
-  pub around_lone : (k : ℕ) (v : Svertex) → At M.svertices k v → (HasArc M k → ⊥) → (m : Label) × (v.around ≡ Some m)
-  pub around_not : (k : ℕ) (v : Svertex) → At M.svertices k v → HasArc M k → v.around ≡ None
-  pub ground_alone : M.svertices ≡ [] → M.loop ≡ None → (m : Label) × (M.face ≡ Some m)
-  pub ground_not : (m : Label) → M.face ≡ Some m → (M.svertices ≡ []) × (M.loop ≡ None)
+  pub around_lone : (k : ℕ) (v : MapVertex) → At M.svertices k v → (HasArc M k → ⊥) → (m : Label) × (v.around ≡ Some m)
+  pub around_not : (k : ℕ) (v : MapVertex) → At M.svertices k v → HasArc M k → v.around ≡ None
+  pub ground_alone : M.svertices ≡ [] → M.sloop ≡ None → (m : Label) × (M.ground ≡ Some m)
+  pub ground_not : (m : Label) → M.ground ≡ Some m → (M.svertices ≡ []) × (M.sloop ≡ None)
 
 -- a valid map, but for the orders of the lists and the sizes of the numbers, which say nothing of directions
 pub record Valid (M : Map) : Type 0 where

@@ -17,19 +17,19 @@ pub record Star : Type 0 where
   pub mark : Label
 
 -- the direction in which a ray leaves the axis
-abbrev pub ray_way : Star → Ray → Vector
-ray_way t r = cond r.ahead (cross r.normal t.axis) (cross t.axis r.normal)
+abbrev pub ray_dir : Star → Ray → Vector
+ray_dir t r = cond r.ahead (cross r.normal t.axis) (cross t.axis r.normal)
 
 -- the part of e at right angles to the axis d
 abbrev pub across : Vector → Vector → Vector
 across d e = cross (cross d e) d
 
 abbrev pub OnRay : Star → Ray → Vector → Type 0
-OnRay t r e = SameDirection (ray_way t r) (across t.axis e)
+OnRay t r e = SameDirection (ray_dir t r) (across t.axis e)
 
 -- e lies strictly between the rays q and r, counterclockwise; where they are the same ray, off it
 abbrev pub PastRay : Star → Ray → Ray → Vector → Type 0
-PastRay t q r e = IsStrictlyOn t.axis (ray_way t q) (ray_way t r) (across t.axis e)
+PastRay t q r e = IsStrictlyOn t.axis (ray_dir t q) (ray_dir t r) (across t.axis e)
 
 -- r is the ray after ray k; the first ray follows the last
 abbrev pub NextRay : List Ray → ℕ → Ray → Type 0
@@ -63,9 +63,9 @@ pub record IsStraight (t : Star) : Type 0 where
   pub first : Ray
   pub second : Ray
   pub two_rays : t.rays ≡ first ∷ second ∷ []
-  pub above : Label
-  pub below : Label
-  pub two_sectors : t.sectors ≡ above ∷ below ∷ []
+  pub pos : Label
+  pub neg : Label
+  pub two_sectors : t.sectors ≡ pos ∷ neg ∷ []
   pub one_normal : first.normal ≡ second.normal
   pub first_ahead : first.ahead ≡ true
   pub second_behind : second.ahead ≡ false

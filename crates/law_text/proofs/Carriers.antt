@@ -11,9 +11,9 @@ use Rattle.law_complex.specs.Belongs.{SpotMark, Towards, SeesSpot, Belongs, on_s
 use Rattle.law_complex.specs.Complexes.{Vertex, Edge, Complex, Corner, HasEnds, IsCorner}
 use Rattle.law_complex.specs.Skeleton.{IsEdgePoint, IsOnEdges, IsFacetPoint, Spot, at_vertex, on_edge, in_facet, IsSpot, IsSkeletonPoint, PlaneMeet, meets_vertex, meets_edge, LiesIn, Meets, IsFirstInPlane, IsCornerAt, RayNames, HasCorner}
 use Rattle.law_complex.specs.Rays.{VertexSide, IsAbove, RayDown}
-use Rattle.law_links.specs.Links.{AreAlong, LinkAlong, LinkAcross, FacetLink, LinkInSface, AreSidesAlong, above_arcs, below_arcs, around_ends, LinkAlongEdge, LinkAcrossFacet, LinkDown, VolumeLink}
+use Rattle.law_links.specs.Links.{AreAlong, LinkAlong, LinkAcross, FacetLink, LinkInSface, AreSidesAlong, pos_arcs, neg_arcs, around_ends, LinkAlongEdge, LinkAcrossFacet, LinkDown, VolumeLink}
 use Rattle.nef_parts.specs.Cycles.{IsNextArc, NextCorner, StepsTo, IsCycle, Cycles}
-use Rattle.nef_parts.specs.Numbers.{HasRows, count_items, count_sides, IsSideNumber, IsVolumeOf, IsSideBelow, FacetNumbers, VolumeNumbers, above_of, below_of, IsFacetAt, IsFacet, IsVolume, IsParts, cycle_corners}
+use Rattle.nef_parts.specs.Numbers.{HasRows, count_items, count_sides, IsSideNumber, IsVolumeOf, IsSideBelow, FacetNumbers, VolumeNumbers, pos_of, neg_of, IsFacetAt, IsFacet, IsVolume, IsParts, cycle_corners}
 use Rattle.nef_parts.specs.declared.parts.Facet.{Facet}
 use Rattle.nef_parts.specs.declared.parts.Parts.{Parts}
 
@@ -117,8 +117,8 @@ module _ (vs : List Vertex) (es : List Edge) where
   in-sface hs gs x y l = record { vertex = l.vertex; is_vertex = l.is_vertex; one_vertex = l.one_vertex; one = l.one; other = l.other; has = l.has; has_other = l.has_other; one_sface = l.one_sface }
 
   sides-along : (hs gs : List Form) (e : Edge) (o p : Side) → AreSidesAlong (made hs vs es) e o p → AreSidesAlong (made gs vs es) e o p
-  sides-along hs gs e o p (above_arcs i j a f g) = above_arcs i j (along-arcs hs gs e i j a) f g
-  sides-along hs gs e o p (below_arcs i j a f g) = below_arcs i j (along-arcs hs gs e i j a) f g
+  sides-along hs gs e o p (pos_arcs i j a f g) = pos_arcs i j (along-arcs hs gs e i j a) f g
+  sides-along hs gs e o p (neg_arcs i j a f g) = neg_arcs i j (along-arcs hs gs e i j a) f g
   sides-along hs gs e o p (around_ends f g) = around_ends f g
 
   along-edge : (hs gs : List Form) (x y : VertexSide) → LinkAlongEdge (made hs vs es) x y → LinkAlongEdge (made gs vs es) x y
@@ -217,8 +217,8 @@ module _ (vs : List Vertex) (es : List Edge) where
     through = a.through;
     normal = a.normal;
     mark = a.mark;
-    above = volume-of hs gs p.volume_of (above_of k) f.pos a.above;
-    below = volume-of hs gs p.volume_of (below_of k) f.neg a.below;
+    pos = volume-of hs gs p.volume_of (pos_of k) f.pos a.pos;
+    neg = volume-of hs gs p.volume_of (neg_of k) f.neg a.neg;
   }
 
   facet-too : (hs gs : List Form) (p : Parts) (n : ℕ) (f : Facet) → IsFacet (made hs vs es) p n f → IsFacet (made gs vs es) p n f

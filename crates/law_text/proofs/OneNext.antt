@@ -11,14 +11,14 @@ use Rattle.law_sphere.specs.Maps.{At, Arc, arc_item}
 use Rattle.law_sphere.proofs.Vectors.{normal-is, same-minus, nought-if}
 use Rattle.law_sphere.proofs.Lists.{at-one}
 use Rattle.law_sphere.proofs.Arcs.{at-arc}
-use Rattle.law_sphere.proofs.Compare.{SameDirection-turned, SameDirection-trans, way-self}
+use Rattle.law_sphere.proofs.Compare.{SameDirection-turned, SameDirection-trans, dir-self}
 use Rattle.law_sphere.proofs.Turn.{turn-same}
 use Rattle.law_complex.specs.Complexes.{Vertex, Edge, Complex, Corner, IsCorner}
 use Rattle.law_complex.specs.Shows.{Shows}
 use Rattle.law_links.proofs.EdgeEnds.{end-level, close_way, on-close, corner_of}
 use Rattle.nef_parts.specs.Cycles.{Leads, IsNextArc}
 use Rattle.nef_facets.proofs.EdgeViews.{EdgeFrom, edge-from, one-vertex, one-svertex}
-use Rattle.nef_facets.proofs.NextCorners.{turned-level, arc-no_loop, corner-same}
+use Rattle.nef_facets.proofs.NextCorners.{turned-level, arc-no_sloop, corner-same}
 use Rattle.law_text.proofs.OneCycles.{HasOneNext}
 
 level-back : (n u : Vector) → dot n (cross u n) ≡ pos 0
@@ -41,35 +41,35 @@ module _ (s : Set) (C : Complex) (S : Shows s C) (i a j b : ℕ) (V : EdgeFrom s
   v = V.from
 
   first : IsCorner C (corner_of i k) v (arc_item c)
-  first = record { vertex = V.is_from; item = at-arc v.map.arcs v.map.loop k c at-k }
+  first = record { vertex = V.is_from; item = at-arc v.map.arcs v.map.sloop k c at-k }
 
   second : IsCorner C (corner_of i l) v (arc_item e)
-  second = record { vertex = V.is_from; item = at-arc v.map.arcs v.map.loop l e at-l }
+  second = record { vertex = V.is_from; item = at-arc v.map.arcs v.map.sloop l e at-l }
 
   abbrev g : Vector
-  g = cross V.start.way c.normal
+  g = cross V.start.dir c.normal
 
-  u-is : IsDirection V.start.way
-  u-is = direction-right (toward v.point V.to.point) V.start.way V.onward
+  u-is : IsDirection V.start.dir
+  u-is = direction-right (toward v.point V.to.point) V.start.dir V.onward
 
   n-is : IsDirection c.normal
   n-is = normal-is (S.cones i v V.is_from).valid.shaped k (arc_item c) first.item
 
-  level-is : dot c.normal V.start.way ≡ pos 0
+  level-is : dot c.normal V.start.dir ≡ pos 0
   level-is = end-level s C S (corner_of i k) v c first a V.start V.is_start (inr enters)
 
   g-is : IsDirection g
-  g-is z = u-is (nought-if c.normal V.start.way n-is (cross-turned V.start.way c.normal z) level-is)
+  g-is z = u-is (nought-if c.normal V.start.dir n-is (cross-turned V.start.dir c.normal z) level-is)
 
-  right-is : triple c.normal V.start.way g <ℤ pos 0
-  right-is = right-of c.normal V.start.way g-is
+  right-is : triple c.normal V.start.dir g <ℤ pos 0
+  right-is = right-of c.normal V.start.dir g-is
 
   one-arc-into : k ≡ l
   one-arc-into = (S.cones i v V.is_from).valid.shaped.no_items_meet k l (arc_item c) (arc_item e)
       (close_way s C S (corner_of i k) v c first a V.start V.is_start g) first.item second.item
-      (on-close s C S (corner_of i k) v c first a V.start V.is_start g (level-back c.normal V.start.way) (inr (enters, right-is)))
-      (on-close s C S (corner_of i l) v e second a V.start V.is_start g (turned-level c.normal e.normal g w (level-back c.normal V.start.way))
-      (inr (also, same-minus (triple c.normal V.start.way g) (triple e.normal V.start.way g) (turn-same c.normal e.normal V.start.way V.start.way g g w (way-self V.start.way u-is) (way-self g g-is)) right-is)))
+      (on-close s C S (corner_of i k) v c first a V.start V.is_start g (level-back c.normal V.start.dir) (inr (enters, right-is)))
+      (on-close s C S (corner_of i l) v e second a V.start V.is_start g (turned-level c.normal e.normal g w (level-back c.normal V.start.dir))
+      (inr (also, same-minus (triple c.normal V.start.dir g) (triple e.normal V.start.dir g) (turn-same c.normal e.normal V.start.dir V.start.dir g g w (dir-self V.start.dir u-is) (dir-self g g-is)) right-is)))
 
 turned-edge : (e : Edge) (i a j b : ℕ) → Leads e i a j b → Leads e j b i a
 turned-edge e i a j b (inl (f, g, h, k)) = inr (h, k, f, g)
@@ -94,6 +94,6 @@ module _ (s : Set) (C : Complex) (S : Shows s C) where
   one-next j k l (inl x) (inl y) =
       let e = at-one C.vertices j.vertex y.here x.here y.is_here x.is_here in
       arcs-one j k l x y (at-one x.here.map.arcs j.item y.this_arc x.this_arc (subst (λ (v : Vertex). At v.map.arcs j.item y.this_arc) e y.is_this) x.is_this)
-  one-next j k l (inl x) (inr (e, v, o, h)) = absurd (arc-no_loop s C S j x.here v x.this_arc o x.is_here x.is_this h)
-  one-next j k l (inr (e, v, o, h)) (inl y) = absurd (arc-no_loop s C S j y.here v y.this_arc o y.is_here y.is_this h)
+  one-next j k l (inl x) (inr (e, v, o, h)) = absurd (arc-no_sloop s C S j x.here v x.this_arc o x.is_here x.is_this h)
+  one-next j k l (inr (e, v, o, h)) (inl y) = absurd (arc-no_sloop s C S j y.here v y.this_arc o y.is_here y.is_this h)
   one-next j k l (inr x) (inr y) = sym (x.0) ∙ y.0

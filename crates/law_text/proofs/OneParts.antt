@@ -21,7 +21,7 @@ use Rattle.nef_complex.specs.declared.complex.Corner.{Corner as CornerValue}
 use Rattle.nef_complex.specs.Complexes.{corner_of}
 use Rattle.law_links.specs.Links.{FacetLink, VolumeLink}
 use Rattle.nef_parts.specs.Cycles.{IsCornerBelow, Cycles}
-use Rattle.nef_parts.specs.Numbers.{count_items, count_sides, IsFacetOf, IsSideNumber, IsVolumeOf, IsSideBelow, above_of, below_of, IsFacet, IsParts, cycle_corners}
+use Rattle.nef_parts.specs.Numbers.{count_items, count_sides, IsFacetOf, IsSideNumber, IsVolumeOf, IsSideBelow, pos_of, neg_of, IsFacet, IsParts, cycle_corners}
 use Rattle.nef_parts.specs.declared.parts.Cycle.{Cycle}
 use Rattle.nef_parts.specs.declared.parts.Facet.{Facet}
 use Rattle.nef_parts.specs.declared.parts.Parts.{Parts}
@@ -164,8 +164,8 @@ module _ (C : Complex) (one : HasOneNext C) (p q : Parts) (P : IsParts C p) (Q :
       (cross-turned (normal_of (form_of f.plane)) (item_normal (c.1)) a.normal.parallel) (cross-turned (normal_of (form_of g.plane)) (item_normal (c.1)) b.normal.parallel))
       a.through b.through)
       (a.mark ∙ sym b.mark)
-      (volume-one C p.volume_of (above_of k) f.pos g.pos a.above (subst (λ (rows : List (List ℕ)). IsVolumeOf C rows (above_of k) g.pos) (sym volume-numbers) b.above))
-      (volume-one C p.volume_of (below_of k) f.neg g.neg a.below (subst (λ (rows : List (List ℕ)). IsVolumeOf C rows (below_of k) g.neg) (sym volume-numbers) b.below))
+      (volume-one C p.volume_of (pos_of k) f.pos g.pos a.pos (subst (λ (rows : List (List ℕ)). IsVolumeOf C rows (pos_of k) g.pos) (sym volume-numbers) b.pos))
+      (volume-one C p.volume_of (neg_of k) f.neg g.neg a.neg (subst (λ (rows : List (List ℕ)). IsVolumeOf C rows (neg_of k) g.neg) (sym volume-numbers) b.neg))
       (map-one (λ (x : Cycle). map corner_of x.corners) cycle-one f.cycles g.cycles (cycles-one C one (λ k. IsFacetOf p.facet_of k n) (cycle_corners f.cycles) (cycle_corners g.cycles) F.cycles cycles))
 
   facets-one : p.facets ≡ q.facets

@@ -14,7 +14,7 @@ use Rattle.nef_smap.specs.declared.map.SVertex.{SVertex}
 use Rattle.nef_smap.specs.declared.map.SArc.{SArc}
 use Rattle.nef_smap.specs.declared.map.SLoop.{SLoop}
 use Rattle.nef_complex.specs.declared.complex.Vertex.{Vertex}
-use Rattle.nef_unique.proofs.Injective.{dir-one, svertex-equal, arc-equal, loop-equal, map-equal, vertex-equal}
+use Rattle.nef_unique.proofs.Injective.{dir-one, svertex-equal, arc-equal, sloop-equal, map-equal, vertex-equal}
 use Rattle.nef_parts.specs.Text.{Word, label_word, option_word, vertex_line, svertex_line, arc_line, sloop_line, vertex_text}
 use Rattle.law_text.proofs.Lines.{ArePlain, Starts, Lacks, same-head, line-starts, line-ends, starts-onto, starts-lacks}
 use Rattle.law_text.proofs.Words.{decimal-plain, signed-plain, label-plain, option-plain, label-one, option-one}
@@ -112,7 +112,7 @@ sloop-reads : Reads SLoop SLoop Any (λ (l : SLoop). l) sloop_line
 sloop-reads l k x y P Q e =
     let r = line-ends (108 ∷ []) (sloop_words l) (108 ∷ []) (sloop_words k) x y (sloop-plain l) (sloop-plain k) e in
     let n = dir-read l.normal k.normal (ap (nth 1) r.0) (ap (nth 2) r.0) (ap (nth 3) r.0) in
-    (loop-equal l k n (label-one l.mark k.mark (ap (nth 4) r.0)) (label-one l.pos k.pos (ap (nth 5) r.0)) (label-one l.neg k.neg (ap (nth 6) r.0)), r.1)
+    (sloop-equal l k n (label-one l.mark k.mark (ap (nth 4) r.0)) (label-one l.pos k.pos (ap (nth 5) r.0)) (label-one l.neg k.neg (ap (nth 6) r.0)), r.1)
 
 sloop-lists : ReadsAll SLoop SLoop Any (λ (l : SLoop). l) sloop_line 108
 sloop-lists = all-read SLoop SLoop Any (λ (l : SLoop). l) sloop_line 108 sloop-starts sloop-reads (λ _ _. tt)

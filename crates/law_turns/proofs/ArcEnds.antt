@@ -3,7 +3,7 @@ use Rattle.std.proofs.Common.{◌≡◌, ℕ, pos, neg_ℤ, true, ap, sym, ◌�
 use Rattle.nef_space.specs.Vectors.{Vector, dot, IsDirection, SameDirection, opposite}
 use Rattle.law_cyclic.specs.Arcs.{IsStrictlyOn}
 use Rattle.law_cyclic.proofs.Directions.{way_back_passes_the_same}
-use Rattle.law_sphere.specs.Maps.{At, Arc, arc_item, Map, items, way_of, Shaped}
+use Rattle.law_sphere.specs.Maps.{At, Arc, arc_item, Map, items, dir_of, Shaped}
 use Rattle.law_sphere.proofs.Shot.{item-point}
 use Rattle.law_sphere.proofs.Arcs.{Ends, ends-of, at-arc}
 use Rattle.law_sphere.proofs.Vectors.{normal-is}
@@ -21,22 +21,22 @@ module _ (M : Map) (V : Shaped M) (i j : ℕ) (a b : Arc) (at-a : At M.arcs i a)
   D = ends-of M V j b at-b
 
   abbrev s : Vector
-  s = way_of M.svertices a.source
+  s = dir_of M.svertices a.source
 
   abbrev t : Vector
-  t = way_of M.svertices a.target
+  t = dir_of M.svertices a.target
 
   abbrev u : Vector
-  u = way_of M.svertices b.source
+  u = dir_of M.svertices b.source
 
   abbrev v : Vector
-  v = way_of M.svertices b.target
+  v = dir_of M.svertices b.target
 
   item-a : At (items M) i (arc_item a)
-  item-a = at-arc M.arcs M.loop i a at-a
+  item-a = at-arc M.arcs M.sloop i a at-a
 
   item-b : At (items M) j (arc_item b)
-  item-b = at-arc M.arcs M.loop j b at-b
+  item-b = at-arc M.arcs M.sloop j b at-b
 
   n-is : IsDirection n
   n-is = normal-is V i (arc_item a) item-a
@@ -52,17 +52,17 @@ module _ (M : Map) (V : Shaped M) (i j : ℕ) (a b : Arc) (at-a : At M.arcs i a)
   joined e f =
       let (y, on) = item-point M V i (arc_item a) item-a in
       V.no_items_meet i j (arc_item a) (arc_item b) y item-a item-b on
-      (subst (λ (k : ℕ). IsStrictlyOn b.normal u (way_of M.svertices k) y) f (subst (λ (k : ℕ). IsStrictlyOn b.normal (way_of M.svertices k) t y) e (subst (λ (r : Vector). IsStrictlyOn r s t y) normal on)))
+      (subst (λ (k : ℕ). IsStrictlyOn b.normal u (dir_of M.svertices k) y) f (subst (λ (k : ℕ). IsStrictlyOn b.normal (dir_of M.svertices k) t y) e (subst (λ (r : Vector). IsStrictlyOn r s t y) normal on)))
 
   pub arcs-begin : a.source ≡ b.source → i ≡ j
   arcs-begin e = joined e (V.svertices_apart a.target b.target E.target D.target E.has_target D.has_target
-      (subst (λ (r : Vector). SameDirection r D.target.way) E.target_is (subst (λ (r : Vector). SameDirection t r) D.target_is together)))
+      (subst (λ (r : Vector). SameDirection r D.target.dir) E.target_is (subst (λ (r : Vector). SameDirection t r) D.target_is together)))
     where
       together : SameDirection t v
       together = ends-together n s t v n-is E.source_direction E.target_direction D.target_direction E.source_level E.target_level v-level
           (λ on. V.no_svertex_on_item b.target i D.target (arc_item a) D.has_target item-a (subst (λ (r : Vector). IsStrictlyOn n s t r) D.target_is on))
           (λ on. V.no_svertex_on_item a.target j E.target (arc_item b) E.has_target item-b
-          (subst (λ (r : Vector). IsStrictlyOn b.normal u v r) E.target_is (subst (λ (k : ℕ). IsStrictlyOn b.normal (way_of M.svertices k) v t) e (subst (λ (r : Vector). IsStrictlyOn r s v t) normal on))))
+          (subst (λ (r : Vector). IsStrictlyOn b.normal u v r) E.target_is (subst (λ (k : ℕ). IsStrictlyOn b.normal (dir_of M.svertices k) v t) e (subst (λ (r : Vector). IsStrictlyOn r s v t) normal on))))
 
   -- about the opposite normal both begin where they ended
   back : (p q x : Vector) → IsDirection p → IsDirection q → dot n p ≡ pos 0 → dot n q ≡ pos 0 → IsStrictlyOn (opposite n) q p x → IsStrictlyOn n p q x
@@ -70,7 +70,7 @@ module _ (M : Map) (V : Shaped M) (i j : ℕ) (a b : Arc) (at-a : At M.arcs i a)
 
   pub arcs-end : a.target ≡ b.target → i ≡ j
   arcs-end f = joined (V.svertices_apart a.source b.source E.source D.source E.has_source D.has_source
-      (subst (λ (r : Vector). SameDirection r D.source.way) E.source_is (subst (λ (r : Vector). SameDirection s r) D.source_is together))) f
+      (subst (λ (r : Vector). SameDirection r D.source.dir) E.source_is (subst (λ (r : Vector). SameDirection s r) D.source_is together))) f
     where
       level-opposite : (x : Vector) → dot n x ≡ pos 0 → dot (opposite n) x ≡ pos 0
       level-opposite x e = signed-dot true n x ∙ ap neg_ℤ e
@@ -81,5 +81,5 @@ module _ (M : Map) (V : Shaped M) (i j : ℕ) (a b : Arc) (at-a : At M.arcs i a)
           (λ on. V.no_svertex_on_item b.source i D.source (arc_item a) D.has_source item-a
           (subst (λ (r : Vector). IsStrictlyOn n s t r) D.source_is (back s t u E.source_direction E.target_direction E.source_level E.target_level on)))
           (λ on. V.no_svertex_on_item a.source j E.source (arc_item b) E.has_source item-b
-          (subst (λ (r : Vector). IsStrictlyOn b.normal u v r) E.source_is (subst (λ (k : ℕ). IsStrictlyOn b.normal u (way_of M.svertices k) s) f
+          (subst (λ (r : Vector). IsStrictlyOn b.normal u v r) E.source_is (subst (λ (k : ℕ). IsStrictlyOn b.normal u (dir_of M.svertices k) s) f
           (subst (λ (r : Vector). IsStrictlyOn r u t s) normal (back u t s D.source_direction E.target_direction u-level E.target_level on)))))

@@ -6,12 +6,12 @@ use Rattle.nef_space.specs.Vectors.{Vector, SameDirection, IsNormal}
 use Rattle.nef_space.specs.Place.{Form, normal_of}
 use Rattle.nef_case.specs.Turns.{negated_if}
 use Rattle.law_sphere.specs.Vectors.{IsPrimitive, VectorBelow}
-use Rattle.law_sphere.specs.Maps.{At, Svertex, Arc, Loop, Item, arc_item, loop_item, Map, items, item_normal, Shaped}
+use Rattle.law_sphere.specs.Maps.{At, MapVertex, Arc, MapSloop, Item, arc_item, sloop_item, Map, items, item_normal, Shaped}
 use Rattle.law_sphere.specs.Least.{InOrder, ArcBelow, Ordered}
 use Rattle.law_sphere.proofs.Lists.{at-one}
-use Rattle.law_sphere.proofs.Compare.{way-self}
+use Rattle.law_sphere.proofs.Compare.{dir-self}
 use Rattle.law_sphere.proofs.Shot.{arc-at}
-use Rattle.law_sphere.proofs.Arcs.{loop-at, at-loop, at-arc}
+use Rattle.law_sphere.proofs.Arcs.{sloop-at, at-sloop, at-arc}
 use Rattle.law_sphere.proofs.Vectors.{normal-is}
 use Rattle.law_build.proofs.BuiltAxes.{at-map, map-at}
 use Rattle.law_cones.proofs.Listing.{lies-at, at-lies, Mapped, map-list, Sorted, sort, chain-order}
@@ -27,17 +27,17 @@ use Rattle.law_turns.proofs.TurnedLists.{chosen, chosen-has, both-normal}
 use Rattle.law_turns.proofs.ArcEnds.{arcs-begin, arcs-end}
 
 -- ---- the orders of svertices and of arcs
-abbrev WayBelow : Svertex → Svertex → Type 0
-WayBelow u v = VectorBelow u.way v.way
+abbrev WayBelow : MapVertex → MapVertex → Type 0
+WayBelow u v = VectorBelow u.dir v.dir
 
-abbrev SameWay : Svertex → Svertex → Type 0
-SameWay u v = u.way ≡ v.way
+abbrev SameWay : MapVertex → MapVertex → Type 0
+SameWay u v = u.dir ≡ v.dir
 
-one-svertex : (vs : List Svertex) → InOrder WayBelow vs → (i j : ℕ) (u v : Svertex) → At vs i u → At vs j v → u.way ≡ v.way → i ≡ j
+one-svertex : (vs : List MapVertex) → InOrder WayBelow vs → (i j : ℕ) (u v : MapVertex) → At vs i u → At vs j v → u.dir ≡ v.dir → i ≡ j
 one-svertex vs o i j u v a b e = elim (cases_order i j) [
   | inl same ↦ same
-  | inr apart ↦ ⊎_elim (λ l. absurd (below-itself v.way (subst (λ (r : Vector). VectorBelow r v.way) e (o i j u v l a b))))
-      (λ l. absurd (below-itself v.way (subst (λ (r : Vector). VectorBelow v.way r) e (o j i v u l b a)))) apart
+  | inr apart ↦ ⊎_elim (λ l. absurd (below-itself v.dir (subst (λ (r : Vector). VectorBelow r v.dir) e (o i j u v l a b))))
+      (λ l. absurd (below-itself v.dir (subst (λ (r : Vector). VectorBelow v.dir r) e (o j i v u l b a)))) apart
 ]
 
 abbrev pub SameArc : Arc → Arc → Type 0
@@ -86,18 +86,18 @@ module _ (k : ℕ) where
 abbrev pub IsArcImage : ℕ → (ℕ → ℕ) → Arc → Arc → Type 0
 IsArcImage k vertex a b = (flip : Bool) × IsTurnedArc k vertex flip a b × IsNormal b.normal × IsPrimitive b.normal
 
-pub image-number : (k : ℕ) (M : Map) → Shaped M → (i j : ℕ) (v w : Svertex) → At M.svertices i v → At M.svertices j w → turned_vector k v.way ≡ turned_vector k w.way → i ≡ j
-image-number k M V i j v w a b e = V.svertices_apart i j v w a b (subst (λ (r : Vector). SameDirection v.way r) (turned-one k v.way w.way e) (way-self v.way (V.svertex_ways i v a)))
+pub image-number : (k : ℕ) (M : Map) → Shaped M → (i j : ℕ) (v w : MapVertex) → At M.svertices i v → At M.svertices j w → turned_vector k v.dir ≡ turned_vector k w.dir → i ≡ j
+image-number k M V i j v w a b e = V.svertices_apart i j v w a b (subst (λ (r : Vector). SameDirection v.dir r) (turned-one k v.dir w.dir e) (dir-self v.dir (V.svertex_dirs i v a)))
 
-module _ (k : ℕ) (M : Map) (V : Shaped M) (us : List Svertex) (vertex : ℕ → ℕ) (has : (i : ℕ) (v : Svertex) → At M.svertices i v → At us (vertex i) (turned_svertex k v)) where
-  number-one : (i j : ℕ) (v w : Svertex) → At M.svertices i v → At M.svertices j w → vertex i ≡ vertex j → i ≡ j
+module _ (k : ℕ) (M : Map) (V : Shaped M) (us : List MapVertex) (vertex : ℕ → ℕ) (has : (i : ℕ) (v : MapVertex) → At M.svertices i v → At us (vertex i) (turned_svertex k v)) where
+  number-one : (i j : ℕ) (v w : MapVertex) → At M.svertices i v → At M.svertices j w → vertex i ≡ vertex j → i ≡ j
   number-one i j v w a b e =
-      image-number k M V i j v w a b (ap (λ (r : Svertex). r.way) (at-one us (vertex j) (turned_svertex k v) (turned_svertex k w) (subst (λ (n : ℕ). At us n (turned_svertex k v)) e (has i v a)) (has j w b)))
+      image-number k M V i j v w a b (ap (λ (r : MapVertex). r.dir) (at-one us (vertex j) (turned_svertex k v) (turned_svertex k w) (subst (λ (n : ℕ). At us n (turned_svertex k v)) e (has i v a)) (has j w b)))
 
   -- images that are one in the order of arcs are of one arc
   pub one-arc : (i j : ℕ) (a c x y : Arc) → At M.arcs i a → At M.arcs j c → IsArcImage k vertex a x → IsArcImage k vertex c y → SameArc x y → i ≡ j
   one-arc i j a c x y at-a at-c (p, s, _, _) (q, t, _, _) (e, d) =
-      let (pq, n) = one-origin k p q a.normal c.normal (V.normals i (arc_item a) (at-arc M.arcs M.loop i a at-a)) (V.normals j (arc_item c) (at-arc M.arcs M.loop j c at-c)) (sym s.normal ∙ e ∙ t.normal) in
+      let (pq, n) = one-origin k p q a.normal c.normal (V.normals i (arc_item a) (at-arc M.arcs M.sloop i a at-a)) (V.normals j (arc_item c) (at-arc M.arcs M.sloop j c at-c)) (sym s.normal ∙ e ∙ t.normal) in
       let t' = subst (λ (r : Bool). IsTurnedArc k vertex r c y) (sym pq) t in
       by (differ (is_odd k) p) n (sym s.source ∙ d ∙ t'.source)
     where
@@ -108,40 +108,40 @@ module _ (k : ℕ) (M : Map) (V : Shaped M) (us : List Svertex) (vertex : ℕ �
           arcs-begin M V i j a c at-a at-c n (number-one a.source c.source b.source b'.source b.has_source b'.has_source h)
 
 module _ (k : ℕ) (M : Map) (V : Shaped M) (O : Ordered M) where
-  abbrev images : List Svertex
+  abbrev images : List MapVertex
   images = map (turned_svertex k) M.svertices
 
   S : Sorted WayBelow SameWay images
-  S = sort WayBelow SameWay (λ u v w. below-trans u.way v.way w.way) (λ u. refl) (λ u v. below-either u.way v.way) images
+  S = sort WayBelow SameWay (λ u v w. below-trans u.dir v.dir w.dir) (λ u. refl) (λ u v. below-either u.dir v.dir) images
 
   S-order : InOrder WayBelow S.list
   S-order = chain-order WayBelow SameWay S.list S.chain
 
-  origin : (u : Svertex) → Lies S.list u → (i : ℕ) × (v : Svertex) × At M.svertices i v × (u ≡ turned_svertex k v)
+  origin : (u : MapVertex) → Lies S.list u → (i : ℕ) × (v : MapVertex) × At M.svertices i v × (u ≡ turned_svertex k v)
   origin u l =
       let (i, a) = lies-at images u (S.sound u l) in
       let (v, b, e) = at-map (turned_svertex k) M.svertices i u a in
       (i, v, b, sym e)
 
-  placed : (i : ℕ) (v : Svertex) → At M.svertices i v → (j : ℕ) × At S.list j (turned_svertex k v)
+  placed : (i : ℕ) (v : MapVertex) → At M.svertices i v → (j : ℕ) × At S.list j (turned_svertex k v)
   placed i v a =
       let (y, l, e) = S.all (turned_svertex k v) (at-lies images i (turned_svertex k v) (map-at (turned_svertex k) M.svertices i v a)) in
       let (m, w, b, h) = origin y l in
-      let same = image-number k M V i m v w a b (e ∙ ap (λ (r : Svertex). r.way) h) in
+      let same = image-number k M V i m v w a b (e ∙ ap (λ (r : MapVertex). r.dir) h) in
       let one = at-one M.svertices m v w (subst (λ (n : ℕ). At M.svertices n v) same a) b in
       let (j, c) = lies-at S.list y l in
-      (j, subst (λ (r : Svertex). At S.list j r) (h ∙ ap (turned_svertex k) (sym one)) c)
+      (j, subst (λ (r : MapVertex). At S.list j r) (h ∙ ap (turned_svertex k) (sym one)) c)
 
   abbrev vertex : ℕ → ℕ
   vertex = chosen M.svertices zero (λ i v a. (placed i v a).0)
 
-  vertex-has : (i : ℕ) (v : Svertex) → At M.svertices i v → At S.list (vertex i) (turned_svertex k v)
+  vertex-has : (i : ℕ) (v : MapVertex) → At M.svertices i v → At S.list (vertex i) (turned_svertex k v)
   vertex-has = chosen-has M.svertices zero (λ i v a. (placed i v a).0) (λ i v j. At S.list j (turned_svertex k v)) (λ i v a. (placed i v a).1)
 
-  vertex-from : (j : ℕ) (u : Svertex) → At S.list j u → (i : ℕ) × (v : Svertex) × At M.svertices i v × (vertex i ≡ j)
+  vertex-from : (j : ℕ) (u : MapVertex) → At S.list j u → (i : ℕ) × (v : MapVertex) × At M.svertices i v × (vertex i ≡ j)
   vertex-from j u a =
       let (i, v, b, e) = origin u (at-lies S.list j u a) in
-      (i, v, b, one-svertex S.list S-order (vertex i) j (turned_svertex k v) u (vertex-has i v b) a (sym (ap (λ (r : Svertex). r.way) e)))
+      (i, v, b, one-svertex S.list S-order (vertex i) j (turned_svertex k v) u (vertex-has i v b) a (sym (ap (λ (r : MapVertex). r.dir) e)))
 
   -- ---- arcs
   abbrev IsImage : ℕ → Arc → Arc → Type 0
@@ -149,18 +149,18 @@ module _ (k : ℕ) (M : Map) (V : Shaped M) (O : Ordered M) where
 
   image-arc : (i : ℕ) (a : Arc) → At M.arcs i a → (b : Arc) × IsImage i a b
   image-arc i a l =
-      let item = at-arc M.arcs M.loop i a l in
+      let item = at-arc M.arcs M.sloop i a l in
       let (flip, n) = normal-choice (f k a.normal) ((direction-turned k a.normal).1 (normal-is V i (arc_item a) item)) in
       let w = differ (is_odd k) flip in (
         record {
           normal = signed flip (f k a.normal);
           source = vertex (cond w a.target a.source);
           target = vertex (cond w a.source a.target);
-          above = cond flip a.below a.above;
+          pos = cond flip a.neg a.pos;
           mark = a.mark;
-          below = cond flip a.above a.below;
+          neg = cond flip a.pos a.neg;
         },
-        (flip, record { normal = refl; source = refl; target = refl; above = refl; mark = refl; below = refl }, n, primitive-turned k flip a.normal (O.normals_lowest i (arc_item a) item)),
+        (flip, record { normal = refl; source = refl; target = refl; pos = refl; mark = refl; neg = refl }, n, primitive-turned k flip a.normal (O.normals_lowest i (arc_item a) item)),
       )
 
   A1 : Mapped M.arcs IsImage
@@ -186,35 +186,35 @@ module _ (k : ℕ) (M : Map) (V : Shaped M) (O : Ordered M) where
       (h, y, t.0, o, subst (λ (r : Arc). IsTurnedArc k vertex t.0 r y) one t.1)
 
   -- ---- the sloop
-  abbrev IsLoopImage : Option Loop → Option Loop → Type 0
-  IsLoopImage o q = IsTurnedOption k o q × ((m : Loop) → q ≡ Some m → IsNormal m.normal × IsPrimitive m.normal)
+  abbrev IsSloopImage : Option MapSloop → Option MapSloop → Type 0
+  IsSloopImage o q = IsTurnedOption k o q × ((m : MapSloop) → q ≡ Some m → IsNormal m.normal × IsPrimitive m.normal)
 
-  image-loop : (o : Option Loop) → M.loop ≡ o → (q : Option Loop) × IsLoopImage o q
-  image-loop None e = (None, (tt, λ m h. cc))
-  image-loop (Some l) e =
-      let (i, a) = at-loop M.arcs M.loop l e in
-      let (flip, n) = normal-choice (f k l.normal) ((direction-turned k l.normal).1 (normal-is V i (loop_item l) a)) in
-      let p = primitive-turned k flip l.normal (O.normals_lowest i (loop_item l) a) in
-      let made : Loop = record { normal = signed flip (f k l.normal); above = cond flip l.below l.above; mark = l.mark; below = cond flip l.above l.below } in
-      (Some made, ((flip, record { normal = refl; above = refl; mark = refl; below = refl }), λ m h. subst (λ (r : Loop). IsNormal r.normal × IsPrimitive r.normal) (one made m h) (n, p)))
+  image-sloop : (o : Option MapSloop) → M.sloop ≡ o → (q : Option MapSloop) × IsSloopImage o q
+  image-sloop None e = (None, (tt, λ m h. cc))
+  image-sloop (Some l) e =
+      let (i, a) = at-sloop M.arcs M.sloop l e in
+      let (flip, n) = normal-choice (f k l.normal) ((direction-turned k l.normal).1 (normal-is V i (sloop_item l) a)) in
+      let p = primitive-turned k flip l.normal (O.normals_lowest i (sloop_item l) a) in
+      let made : MapSloop = record { normal = signed flip (f k l.normal); pos = cond flip l.neg l.pos; mark = l.mark; neg = cond flip l.pos l.neg } in
+      (Some made, ((flip, record { normal = refl; pos = refl; mark = refl; neg = refl }), λ m h. subst (λ (r : MapSloop). IsNormal r.normal × IsPrimitive r.normal) (one made m h) (n, p)))
     where
-      one : (x y : Loop) → Some x ≡ Some y → x ≡ y
+      one : (x y : MapSloop) → Some x ≡ Some y → x ≡ y
       one x y h = ap (λ o. or x o) h
         where
-          or : Loop → Option Loop → Loop
+          or : MapSloop → Option MapSloop → MapSloop
           or x None = x
           or x (Some z) = z
 
-  Q : (q : Option Loop) × IsLoopImage M.loop q
-  Q = image-loop M.loop refl
+  Q : (q : Option MapSloop) × IsSloopImage M.sloop q
+  Q = image-sloop M.sloop refl
 
   pub turned_map : Map
-  turned_map = record { mark = M.mark; svertices = S.list; arcs = A.list; loop = Q.0; face = M.face }
+  turned_map = record { mark = M.mark; svertices = S.list; arcs = A.list; sloop = Q.0; ground = M.ground }
 
   item-normals : (j : ℕ) (y : Item) → At (items turned_map) j y → IsNormal (item_normal y) × IsPrimitive (item_normal y)
   unfolding turned_map
   item-normals j (arc_item b) a = let (i, c, d, s) = arc-origin b (at-lies A.list j b (arc-at A.list Q.0 j b a)) in (s.2, s.3)
-  item-normals j (loop_item m) a = Q.1.1 m (loop-at A.list Q.0 j m a)
+  item-normals j (sloop_item m) a = Q.1.1 m (sloop-at A.list Q.0 j m a)
 
   pub has-lists : HasTurnedLists k M turned_map
   unfolding turned_map
@@ -224,19 +224,19 @@ module _ (k : ℕ) (M : Map) (V : Shaped M) (O : Ordered M) where
     svertices_from = vertex-from;
     arcs = arcs-there;
     arcs_from = λ j b a. let (i, c, d, s) = arc-origin b (at-lies A.list j b a) in (i, c, s.0, d, s.1);
-    loop = Q.1.0;
+    sloop = Q.1.0;
     normals = λ j y a. (item-normals j y a).0;
     arcs_ordered = chain-order ArcBelow SameArc A.list A.chain;
     mark = refl;
-    same_face = refl;
+    same_ground = refl;
   }
 
   pub turned-ordered : Ordered turned_map
   unfolding turned_map
   turned-ordered = record {
-    ways_lowest = λ j u a.
+    dirs_lowest = λ j u a.
         let (i, v, b, e) = origin u (at-lies S.list j u a) in
-        subst (λ (r : Svertex). IsPrimitive r.way) (sym e) (primitive-turned k false v.way (O.ways_lowest i v b));
+        subst (λ (r : MapVertex). IsPrimitive r.dir) (sym e) (primitive-turned k false v.dir (O.dirs_lowest i v b));
     normals_lowest = λ j y a. (item-normals j y a).1;
     svertices = S-order;
     arcs = chain-order ArcBelow SameArc A.list A.chain;

@@ -4,7 +4,7 @@ use Rattle.std.proofs.lemmas.Int.{ints}
 use Rattle.law_arithmetic.specs.Signs.{sign}
 use Rattle.nef_space.specs.Vectors.{Vector, dot, cross, IsDirection, SameDirection, blend}
 use Rattle.nef_space.specs.declared.label.Label.{Label}
-use Rattle.law_sphere.specs.Maps.{At, Svertex, Item, Map, items, item_normal, item_above, item_mark, item_below, OnItem, IsFree, Side, around_svertex, above_item, below_item, whole, HasSide, IsClear, Reaches, Sees, directly, by_way_of, MapLabel, at_svertex, on_item, seen, NearLabel, InOneSface, here, link}
+use Rattle.law_sphere.specs.Maps.{At, MapVertex, Item, Map, items, item_normal, item_pos, item_mark, item_neg, OnItem, IsFree, Side, around_svertex, pos_item, neg_item, whole, HasSide, IsClear, Reaches, Sees, directly, by_way_of, MapLabel, at_svertex, on_item, seen, NearLabel, InOneSface, here, link}
 use Rattle.law_sphere.specs.Least.{by_side, NearPlain, NearStraight}
 use Rattle.law_turns.specs.Turned.{signed}
 use Rattle.law_turns.proofs.Turning.{Turning, direction-there, direction_cross-there, same_direction-there, opposite-there, dot-there}
@@ -13,18 +13,18 @@ use Rattle.law_turns.proofs.Turning.{Turning, direction-there, direction_cross-t
 pub record ItemImage (f : Vector → Vector) (flip : Bool) (M N : Map) (x y : Item) : Type 0 where
   pub on : (d : Vector) → OnItem M x d → OnItem N y (f d)
   pub normal : item_normal y ≡ signed flip (f (item_normal x))
-  pub above : item_above y ≡ cond flip (item_below x) (item_above x)
+  pub pos : item_pos y ≡ cond flip (item_neg x) (item_pos x)
   pub mark : item_mark y ≡ item_mark x
-  pub below : item_below y ≡ cond flip (item_above x) (item_below x)
+  pub neg : item_neg y ≡ cond flip (item_pos x) (item_neg x)
 
 -- all of M has its image in N
 pub record Image (f : Vector → Vector) (M N : Map) : Type 0 where
   pub vertex : ℕ → ℕ
   pub item : ℕ → ℕ
   pub flip : ℕ → Bool
-  pub svertices : (i : ℕ) (v : Svertex) → At M.svertices i v → (u : Svertex) × At N.svertices (vertex i) u × (u.way ≡ f v.way) × (u.mark ≡ v.mark) × (u.around ≡ v.around)
+  pub svertices : (i : ℕ) (v : MapVertex) → At M.svertices i v → (u : MapVertex) × At N.svertices (vertex i) u × (u.dir ≡ f v.dir) × (u.mark ≡ v.mark) × (u.around ≡ v.around)
   pub items_there : (i : ℕ) (x : Item) → At (items M) i x → (y : Item) × At (items N) (item i) y × ItemImage f (flip i) M N x y
-  pub same_face : N.face ≡ M.face
+  pub same_ground : N.ground ≡ M.ground
 
 positive-sign : (x y : ℤ) → y ≡ neg_ℤ x → pos 0 <ℤ x → y <ℤ pos 0
 positive-sign x y e h = omega (arith, ints, e, h)
@@ -36,24 +36,24 @@ negative-sign x y e h = omega (arith, ints, e, h)
 module _ (f g : Vector → Vector) (odd : Bool) (F : Turning f odd) (fg : (d : Vector) → f (g d) ≡ d) (gf : (d : Vector) → g (f d) ≡ d) (M N : Map) (I : Image f M N) (J : Image g N M) where
   pub side_there : Side → Side
   side_there (around_svertex i) = around_svertex (I.vertex i)
-  side_there (above_item i) = cond (I.flip i) (below_item (I.item i)) (above_item (I.item i))
-  side_there (below_item i) = cond (I.flip i) (above_item (I.item i)) (below_item (I.item i))
+  side_there (pos_item i) = cond (I.flip i) (neg_item (I.item i)) (pos_item (I.item i))
+  side_there (neg_item i) = cond (I.flip i) (pos_item (I.item i)) (neg_item (I.item i))
   side_there whole = whole
 
-  above-has : (b : Bool) (j : ℕ) (x y : Item) (m : Label) → At (items N) j y → ItemImage f b M N x y → item_above x ≡ m → HasSide N (cond b (below_item j) (above_item j)) m
-  above-has true j x y m a i e = (y, a, i.below ∙ e)
-  above-has false j x y m a i e = (y, a, i.above ∙ e)
+  pos-has : (b : Bool) (j : ℕ) (x y : Item) (m : Label) → At (items N) j y → ItemImage f b M N x y → item_pos x ≡ m → HasSide N (cond b (neg_item j) (pos_item j)) m
+  pos-has true j x y m a i e = (y, a, i.neg ∙ e)
+  pos-has false j x y m a i e = (y, a, i.pos ∙ e)
 
-  below-has : (b : Bool) (j : ℕ) (x y : Item) (m : Label) → At (items N) j y → ItemImage f b M N x y → item_below x ≡ m → HasSide N (cond b (above_item j) (below_item j)) m
-  below-has true j x y m a i e = (y, a, i.above ∙ e)
-  below-has false j x y m a i e = (y, a, i.below ∙ e)
+  neg-has : (b : Bool) (j : ℕ) (x y : Item) (m : Label) → At (items N) j y → ItemImage f b M N x y → item_neg x ≡ m → HasSide N (cond b (pos_item j) (neg_item j)) m
+  neg-has true j x y m a i e = (y, a, i.pos ∙ e)
+  neg-has false j x y m a i e = (y, a, i.neg ∙ e)
 
   pub has-there : (o : Side) (m : Label) → HasSide M o m → HasSide N (side_there o) m
   unfolding side_there
   has-there (around_svertex i) m (v, a, e) = let u = I.svertices i v a in (u.0, u.1, u.4 ∙ e)
-  has-there (above_item i) m (x, a, e) = let y = I.items_there i x a in above-has (I.flip i) (I.item i) x y.0 m y.1 y.2 e
-  has-there (below_item i) m (x, a, e) = let y = I.items_there i x a in below-has (I.flip i) (I.item i) x y.0 m y.1 y.2 e
-  has-there whole m e = I.same_face ∙ e
+  has-there (pos_item i) m (x, a, e) = let y = I.items_there i x a in pos-has (I.flip i) (I.item i) x y.0 m y.1 y.2 e
+  has-there (neg_item i) m (x, a, e) = let y = I.items_there i x a in neg-has (I.flip i) (I.item i) x y.0 m y.1 y.2 e
+  has-there whole m e = I.same_ground ∙ e
 
   -- ---- sight
   pub free-there : (d : Vector) → IsFree M d → IsFree N (f d)
@@ -61,7 +61,7 @@ module _ (f g : Vector → Vector) (odd : Bool) (F : Turning f odd) (fg : (d : V
     direction = (direction-there f odd F d).1 h.direction;
     off_svertices = λ k v a s.
         let u = J.svertices k v a in
-        h.off_svertices (J.vertex k) u.0 u.1 ((same_direction-there f odd F u.0.way d).0 (subst (λ (r : Vector). SameDirection r (f d)) (sym (fg v.way) ∙ ap f (sym u.2)) s));
+        h.off_svertices (J.vertex k) u.0 u.1 ((same_direction-there f odd F u.0.dir d).0 (subst (λ (r : Vector). SameDirection r (f d)) (sym (fg v.dir) ∙ ap f (sym u.2)) s));
     off_items = λ k y a on.
         let x = J.items_there k y a in
         h.off_items (J.item k) x.0 x.1 (subst (λ (r : Vector). OnItem M x.0 r) (gf d) (x.2.on (f d) on));
@@ -75,21 +75,21 @@ module _ (f g : Vector → Vector) (odd : Bool) (F : Turning f odd) (fg : (d : V
     between = λ i j some some'. subst (λ (r : Vector). IsFree N r) (sym (F.blends i a j b)) (free-there (blend i a j b) (h.between i j some some'));
   }
 
-  above-reaches : (b : Bool) (j : ℕ) (x y : Item) (a d : Vector) → At (items N) j y → ItemImage f b M N x y → OnItem M x d → pos 0 <ℤ dot (item_normal x) a → Reaches N (cond b (below_item j) (above_item j)) (f a) (f d)
-  above-reaches true j x y a d l i on h = (y, l, i.on d on, positive-sign (dot (item_normal x) a) (dot (item_normal y) (f a)) (ap (λ (r : Vector). dot r (f a)) i.normal ∙ dot-there f odd F true (item_normal x) a) h)
-  above-reaches false j x y a d l i on h = (y, l, i.on d on, subst (λ (r : ℤ). pos 0 <ℤ r) (sym (ap (λ (r : Vector). dot r (f a)) i.normal ∙ dot-there f odd F false (item_normal x) a)) h)
+  pos-reaches : (b : Bool) (j : ℕ) (x y : Item) (a d : Vector) → At (items N) j y → ItemImage f b M N x y → OnItem M x d → pos 0 <ℤ dot (item_normal x) a → Reaches N (cond b (neg_item j) (pos_item j)) (f a) (f d)
+  pos-reaches true j x y a d l i on h = (y, l, i.on d on, positive-sign (dot (item_normal x) a) (dot (item_normal y) (f a)) (ap (λ (r : Vector). dot r (f a)) i.normal ∙ dot-there f odd F true (item_normal x) a) h)
+  pos-reaches false j x y a d l i on h = (y, l, i.on d on, subst (λ (r : ℤ). pos 0 <ℤ r) (sym (ap (λ (r : Vector). dot r (f a)) i.normal ∙ dot-there f odd F false (item_normal x) a)) h)
 
-  below-reaches : (b : Bool) (j : ℕ) (x y : Item) (a d : Vector) → At (items N) j y → ItemImage f b M N x y → OnItem M x d → dot (item_normal x) a <ℤ pos 0 → Reaches N (cond b (above_item j) (below_item j)) (f a) (f d)
-  below-reaches true j x y a d l i on h = (y, l, i.on d on, negative-sign (dot (item_normal x) a) (dot (item_normal y) (f a)) (ap (λ (r : Vector). dot r (f a)) i.normal ∙ dot-there f odd F true (item_normal x) a) h)
-  below-reaches false j x y a d l i on h = (y, l, i.on d on, subst (λ (r : ℤ). r <ℤ pos 0) (sym (ap (λ (r : Vector). dot r (f a)) i.normal ∙ dot-there f odd F false (item_normal x) a)) h)
+  neg-reaches : (b : Bool) (j : ℕ) (x y : Item) (a d : Vector) → At (items N) j y → ItemImage f b M N x y → OnItem M x d → dot (item_normal x) a <ℤ pos 0 → Reaches N (cond b (pos_item j) (neg_item j)) (f a) (f d)
+  neg-reaches true j x y a d l i on h = (y, l, i.on d on, negative-sign (dot (item_normal x) a) (dot (item_normal y) (f a)) (ap (λ (r : Vector). dot r (f a)) i.normal ∙ dot-there f odd F true (item_normal x) a) h)
+  neg-reaches false j x y a d l i on h = (y, l, i.on d on, subst (λ (r : ℤ). r <ℤ pos 0) (sym (ap (λ (r : Vector). dot r (f a)) i.normal ∙ dot-there f odd F false (item_normal x) a)) h)
 
   pub reaches-there : (o : Side) (a d : Vector) → Reaches M o a d → Reaches N (side_there o) (f a) (f d)
   unfolding side_there
   reaches-there (around_svertex i) a d (v, l, s) =
       let u = I.svertices i v l in
-      (u.0, u.1, subst (λ (r : Vector). SameDirection r (f d)) (sym u.2) ((same_direction-there f odd F v.way d).1 s))
-  reaches-there (above_item i) a d (x, l, on, h) = let y = I.items_there i x l in above-reaches (I.flip i) (I.item i) x y.0 a d y.1 y.2 on h
-  reaches-there (below_item i) a d (x, l, on, h) = let y = I.items_there i x l in below-reaches (I.flip i) (I.item i) x y.0 a d y.1 y.2 on h
+      (u.0, u.1, subst (λ (r : Vector). SameDirection r (f d)) (sym u.2) ((same_direction-there f odd F v.dir d).1 s))
+  reaches-there (pos_item i) a d (x, l, on, h) = let y = I.items_there i x l in pos-reaches (I.flip i) (I.item i) x y.0 a d y.1 y.2 on h
+  reaches-there (neg_item i) a d (x, l, on, h) = let y = I.items_there i x l in neg-reaches (I.flip i) (I.item i) x y.0 a d y.1 y.2 on h
   reaches-there whole a d h = h
 
   pub sees-there : (o : Side) (d : Vector) → Sees M o d → Sees N (side_there o) (f d)
@@ -100,7 +100,7 @@ module _ (f g : Vector → Vector) (odd : Bool) (F : Turning f odd) (fg : (d : V
   pub label-there : (d : Vector) (m : Label) → MapLabel M d m → MapLabel N (f d) m
   label-there d m (at_svertex i v a s e) =
       let u = I.svertices i v a in
-      at_svertex (I.vertex i) u.0 u.1 (subst (λ (r : Vector). SameDirection r (f d)) (sym u.2) ((same_direction-there f odd F v.way d).1 s)) (u.3 ∙ e)
+      at_svertex (I.vertex i) u.0 u.1 (subst (λ (r : Vector). SameDirection r (f d)) (sym u.2) ((same_direction-there f odd F v.dir d).1 s)) (u.3 ∙ e)
   label-there d m (on_item i x a on e) =
       let y = I.items_there i x a in
       on_item (I.item i) y.0 y.1 (y.2.on d on) (y.2.mark ∙ e)
@@ -130,10 +130,10 @@ module _ (f g : Vector → Vector) (odd : Bool) (F : Turning f odd) (fg : (d : V
     normal = f h.normal;
     direction = (direction-there f odd F h.normal).1 h.direction;
     level = F.dots h.normal d ∙ h.level;
-    above = h.above;
+    pos = h.pos;
     label = h.label;
-    below = h.below;
+    neg = h.neg;
     at_d = label-there d h.label h.at_d;
-    near = every (λ (e : Vector). IsDirection (cross (f d) e) → NearLabel N (f d) e (by_side h.above h.label h.below (sign (dot (f h.normal) e))))
-        (λ e c. subst (λ (r : ℤ). NearLabel N (f d) (f e) (by_side h.above h.label h.below (sign r))) (sym (F.dots h.normal e)) (near-there d e (by_side h.above h.label h.below (sign (dot h.normal e))) (h.near e ((direction_cross-there f odd F d e).0 c))));
+    near = every (λ (e : Vector). IsDirection (cross (f d) e) → NearLabel N (f d) e (by_side h.pos h.label h.neg (sign (dot (f h.normal) e))))
+        (λ e c. subst (λ (r : ℤ). NearLabel N (f d) (f e) (by_side h.pos h.label h.neg (sign r))) (sym (F.dots h.normal e)) (near-there d e (by_side h.pos h.label h.neg (sign (dot h.normal e))) (h.near e ((direction_cross-there f odd F d e).0 c))));
   }

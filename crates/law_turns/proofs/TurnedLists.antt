@@ -4,10 +4,10 @@ use Rattle.std.proofs.lemmas.Int.{ints}
 use Rattle.std.proofs.lemmas.Bool.{cases_order}
 use Rattle.nef_space.specs.Vectors.{Vector, IsNormal}
 use Rattle.law_sphere.specs.Vectors.{VectorBelow}
-use Rattle.law_sphere.specs.Maps.{At, Svertex, Arc, Loop, Item, arc_item, loop_item, Map, items, items_then}
+use Rattle.law_sphere.specs.Maps.{At, MapVertex, Arc, MapSloop, Item, arc_item, sloop_item, Map, items, items_then}
 use Rattle.law_sphere.specs.Least.{InOrder, ArcBelow}
 use Rattle.law_sphere.proofs.Shot.{arc-at}
-use Rattle.law_sphere.proofs.Arcs.{loop-at, at-loop, at-arc}
+use Rattle.law_sphere.proofs.Arcs.{sloop-at, at-sloop, at-arc}
 use Rattle.law_turns.specs.Turned.{turned_vector, signed}
 use Rattle.law_turns.specs.Maps.{IsTurnedArc, IsTurnedItem, IsTurnedOption, IsTurnedMap, HasTurnedLists}
 
@@ -58,14 +58,14 @@ one-place as' o i j a b h k e f = elim (cases_order i j) [
   | inr apart ↦ ⊎_elim (λ l. absurd (arc_below-not a b e f (o i j a b l h k))) (λ l. absurd (arc_below-not b a (sym e) (sym f) (o j i b a l k h))) apart
 ]
 
-loop-place : (as' : List Arc) (o : Option Loop) (i j : ℕ) (l m : Loop) → At (items_then as' o) i (loop_item l) → At (items_then as' o) j (loop_item m) → i ≡ j
-loop-place [] None i j l m h k = absurd h
-loop-place [] (Some n) zero zero l m h k = refl
-loop-place [] (Some n) zero (suc j) l m h k = absurd k
-loop-place [] (Some n) (suc i) j l m h k = absurd h
-loop-place (a ∷ as') o zero j l m h k = cc
-loop-place (a ∷ as') o (suc i) zero l m h k = cc
-loop-place (a ∷ as') o (suc i) (suc j) l m h k = ap suc (loop-place as' o i j l m h k)
+sloop-place : (as' : List Arc) (o : Option MapSloop) (i j : ℕ) (l m : MapSloop) → At (items_then as' o) i (sloop_item l) → At (items_then as' o) j (sloop_item m) → i ≡ j
+sloop-place [] None i j l m h k = absurd h
+sloop-place [] (Some n) zero zero l m h k = refl
+sloop-place [] (Some n) zero (suc j) l m h k = absurd k
+sloop-place [] (Some n) (suc i) j l m h k = absurd h
+sloop-place (a ∷ as') o zero j l m h k = cc
+sloop-place (a ∷ as') o (suc i) zero l m h k = cc
+sloop-place (a ∷ as') o (suc i) (suc j) l m h k = ap suc (sloop-place as' o i j l m h k)
 
 module _ (k : ℕ) (M N : Map) (T : HasTurnedLists k M N) where
   abbrev Pair : Type 0
@@ -79,29 +79,29 @@ module _ (k : ℕ) (M N : Map) (T : HasTurnedLists k M N) where
 
   image-of : (i : ℕ) (x : Item) → At (items M) i x → (p : Pair) × HasImage i x p
   image-of i (arc_item a) h =
-      let (j, b, flip, l, t) = T.arcs i a (arc-at M.arcs M.loop i a h) in
-      ((j, flip), (arc_item b, at-arc N.arcs N.loop j b l, t))
-  image-of i (loop_item l) h = by N.loop refl (subst (λ (o : Option Loop). IsTurnedOption k o N.loop) (loop-at M.arcs M.loop i l h) T.loop)
+      let (j, b, flip, l, t) = T.arcs i a (arc-at M.arcs M.sloop i a h) in
+      ((j, flip), (arc_item b, at-arc N.arcs N.sloop j b l, t))
+  image-of i (sloop_item l) h = by N.sloop refl (subst (λ (o : Option MapSloop). IsTurnedOption k o N.sloop) (sloop-at M.arcs M.sloop i l h) T.sloop)
     where
-      by : (o : Option Loop) → N.loop ≡ o → IsTurnedOption k (Some l) N.loop → (p : Pair) × HasImage i (loop_item l) p
-      by None e t = absurd (subst (λ (o : Option Loop). IsTurnedOption k (Some l) o) e t)
+      by : (o : Option MapSloop) → N.sloop ≡ o → IsTurnedOption k (Some l) N.sloop → (p : Pair) × HasImage i (sloop_item l) p
+      by None e t = absurd (subst (λ (o : Option MapSloop). IsTurnedOption k (Some l) o) e t)
       by (Some m) e t =
-          let (flip, s) = subst (λ (o : Option Loop). IsTurnedOption k (Some l) o) e t in
-          let (j, b) = at-loop N.arcs N.loop m e in
-          ((j, flip), (loop_item m, b, s))
+          let (flip, s) = subst (λ (o : Option MapSloop). IsTurnedOption k (Some l) o) e t in
+          let (j, b) = at-sloop N.arcs N.sloop m e in
+          ((j, flip), (sloop_item m, b, s))
 
   origin-of : (j : ℕ) (y : Item) → At (items N) j y → HasOrigin j y
   origin-of j (arc_item b) h =
-      let (i, a, flip, l, t) = T.arcs_from j b (arc-at N.arcs N.loop j b h) in
-      (i, arc_item a, flip, at-arc M.arcs M.loop i a l, t)
-  origin-of j (loop_item m) h = by M.loop refl (subst (λ (o : Option Loop). IsTurnedOption k M.loop o) (loop-at N.arcs N.loop j m h) T.loop)
+      let (i, a, flip, l, t) = T.arcs_from j b (arc-at N.arcs N.sloop j b h) in
+      (i, arc_item a, flip, at-arc M.arcs M.sloop i a l, t)
+  origin-of j (sloop_item m) h = by M.sloop refl (subst (λ (o : Option MapSloop). IsTurnedOption k M.sloop o) (sloop-at N.arcs N.sloop j m h) T.sloop)
     where
-      by : (o : Option Loop) → M.loop ≡ o → IsTurnedOption k M.loop (Some m) → HasOrigin j (loop_item m)
-      by None e t = absurd (subst (λ (o : Option Loop). IsTurnedOption k o (Some m)) e t)
+      by : (o : Option MapSloop) → M.sloop ≡ o → IsTurnedOption k M.sloop (Some m) → HasOrigin j (sloop_item m)
+      by None e t = absurd (subst (λ (o : Option MapSloop). IsTurnedOption k o (Some m)) e t)
       by (Some l) e t =
-          let (flip, s) = subst (λ (o : Option Loop). IsTurnedOption k o (Some m)) e t in
-          let (i, a) = at-loop M.arcs M.loop l e in
-          (i, loop_item l, flip, a, s)
+          let (flip, s) = subst (λ (o : Option MapSloop). IsTurnedOption k o (Some m)) e t in
+          let (i, a) = at-sloop M.arcs M.sloop l e in
+          (i, sloop_item l, flip, a, s)
 
   abbrev image : ℕ → Pair
   image = chosen (items M) (zero, false) (λ i x a. (image-of i x a).0)
@@ -114,12 +114,12 @@ module _ (k : ℕ) (M N : Map) (T : HasTurnedLists k M N) where
   one-image i j b c (arc_item a) (arc_item y) (arc_item z) h l s t =
       let same = one-normal b c (turned_vector k a.normal) (subst IsNormal s.normal (T.normals i (arc_item y) h)) (subst IsNormal t.normal (T.normals j (arc_item z) l)) in
       let t' = subst (λ (r : Bool). IsTurnedArc k T.vertex r a z) (sym same) t in
-      one-place N.arcs T.arcs_ordered i j y z (arc-at N.arcs N.loop i y h) (arc-at N.arcs N.loop j z l) (s.normal ∙ sym t'.normal) (s.source ∙ sym t'.source)
-  one-image i j b c (arc_item a) (arc_item y) (loop_item z) h l s t = absurd t
-  one-image i j b c (arc_item a) (loop_item y) z h l s t = absurd s
-  one-image i j b c (loop_item a) (arc_item y) z h l s t = absurd s
-  one-image i j b c (loop_item a) (loop_item y) (arc_item z) h l s t = absurd t
-  one-image i j b c (loop_item a) (loop_item y) (loop_item z) h l s t = loop-place N.arcs N.loop i j y z h l
+      one-place N.arcs T.arcs_ordered i j y z (arc-at N.arcs N.sloop i y h) (arc-at N.arcs N.sloop j z l) (s.normal ∙ sym t'.normal) (s.source ∙ sym t'.source)
+  one-image i j b c (arc_item a) (arc_item y) (sloop_item z) h l s t = absurd t
+  one-image i j b c (arc_item a) (sloop_item y) z h l s t = absurd s
+  one-image i j b c (sloop_item a) (arc_item y) z h l s t = absurd s
+  one-image i j b c (sloop_item a) (sloop_item y) (arc_item z) h l s t = absurd t
+  one-image i j b c (sloop_item a) (sloop_item y) (sloop_item z) h l s t = sloop-place N.arcs N.sloop i j y z h l
 
   abbrev back : ℕ → ℕ
   back = chosen (items N) zero (λ j y a. (origin-of j y a).0)
@@ -137,10 +137,10 @@ module _ (k : ℕ) (M N : Map) (T : HasTurnedLists k M N) where
   abbrev vertex_back : ℕ → ℕ
   vertex_back = chosen N.svertices zero (λ j u a. (T.svertices_from j u a).0)
 
-  abbrev IsVertexOrigin : ℕ → Svertex → ℕ → Type 0
-  IsVertexOrigin j u i = (v : Svertex) × At M.svertices i v × (T.vertex i ≡ j)
+  abbrev IsVertexOrigin : ℕ → MapVertex → ℕ → Type 0
+  IsVertexOrigin j u i = (v : MapVertex) × At M.svertices i v × (T.vertex i ≡ j)
 
-  vertex_back-has : (j : ℕ) (u : Svertex) → At N.svertices j u → IsVertexOrigin j u (vertex_back j)
+  vertex_back-has : (j : ℕ) (u : MapVertex) → At N.svertices j u → IsVertexOrigin j u (vertex_back j)
   vertex_back-has = chosen-has N.svertices zero (λ j u a. (T.svertices_from j u a).0) IsVertexOrigin (λ j u a. let r = T.svertices_from j u a in (r.1, r.2, r.3))
 
   pub lists-turned : IsTurnedMap k M N
@@ -156,5 +156,5 @@ module _ (k : ℕ) (M N : Map) (T : HasTurnedLists k M N) where
     items_from = back-has;
     normals = T.normals;
     mark = T.mark;
-    same_face = T.same_face;
+    same_ground = T.same_ground;
   }

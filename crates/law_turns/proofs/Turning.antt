@@ -138,13 +138,13 @@ opposite-twice : (v : Vector) → opposite (signed true v) ≡ v
 opposite-twice v = same-vector _ _ _ _ _ _ (neg_ℤ-neg_ℤ v.x) (neg_ℤ-neg_ℤ v.y) (neg_ℤ-neg_ℤ v.z)
 
 -- what is passed about the image of the normal, or its opposite. The ends are exchanged where the sense is
-pub way-there : (f : Vector → Vector) (odd : Bool) → Turning f odd → (flip : Bool) (n s t d : Vector) → IsDirection n → IsOnCircle n s → IsOnCircle n t
+pub dir-there : (f : Vector → Vector) (odd : Bool) → Turning f odd → (flip : Bool) (n s t d : Vector) → IsDirection n → IsOnCircle n s → IsOnCircle n t
     → IsStrictlyOn (signed flip (f n)) (cond (differ odd flip) (f t) (f s)) (cond (differ odd flip) (f s) (f t)) (f d) ↔ IsStrictlyOn n s t d
-way-there f true F true n s t d h p q = arc-there f true F n s t d
-way-there f true F false n s t d h p q =
+dir-there f true F true n s t d h p q = arc-there f true F n s t d
+dir-there f true F false n s t d h p q =
     let e = arc_back-there f true F n s t d h p q in (
       λ i. e.0 (subst (λ (r : Vector). IsStrictlyOn r (f t) (f s) (f d)) (sym (opposite-twice (f n))) i),
       λ i. subst (λ (r : Vector). IsStrictlyOn r (f t) (f s) (f d)) (opposite-twice (f n)) (e.1 i),
     )
-way-there f false F true n s t d h p q = arc_back-there f false F n s t d h p q
-way-there f false F false n s t d h p q = arc-there f false F n s t d
+dir-there f false F true n s t d h p q = arc_back-there f false F n s t d h p q
+dir-there f false F false n s t d h p q = arc-there f false F n s t d

@@ -1,12 +1,12 @@
 -- When a sphere map is the turned image of another.
 use Rattle.std.specs.Prelude.{◌≡◌, ℕ, Bool, cond, Option, Some, None}
 use Rattle.nef_space.specs.Vectors.{IsNormal}
-use Rattle.law_sphere.specs.Maps.{At, Svertex, Arc, Loop, Item, arc_item, loop_item, Map, items, item_normal}
+use Rattle.law_sphere.specs.Maps.{At, MapVertex, Arc, MapSloop, Item, arc_item, sloop_item, Map, items, item_normal}
 use Rattle.law_sphere.specs.Least.{InOrder, ArcBelow}
 use Rattle.law_turns.specs.Turned.{turned_vector, differ, is_odd, signed}
 
-abbrev pub turned_svertex : ℕ → Svertex → Svertex
-turned_svertex k v = record { way = turned_vector k v.way; mark = v.mark; around = v.around }
+abbrev pub turned_svertex : ℕ → MapVertex → MapVertex
+turned_svertex k v = record { dir = turned_vector k v.dir; mark = v.mark; around = v.around }
 
 -- the arc b is the turned arc a. Where its normal is opposite to the turned one, the labels beside it are exchanged. Its ends are exchanged
 -- where the turn is odd or the normal is opposite, and not both. The function gives the numbers that svertices have after the turn
@@ -14,21 +14,21 @@ pub record IsTurnedArc (k : ℕ) (vertex : ℕ → ℕ) (flip : Bool) (a b : Arc
   pub normal : b.normal ≡ signed flip (turned_vector k a.normal)
   pub source : b.source ≡ vertex (cond (differ (is_odd k) flip) a.target a.source)
   pub target : b.target ≡ vertex (cond (differ (is_odd k) flip) a.source a.target)
-  pub above : b.above ≡ cond flip a.below a.above
+  pub pos : b.pos ≡ cond flip a.neg a.pos
   pub mark : b.mark ≡ a.mark
-  pub below : b.below ≡ cond flip a.above a.below
+  pub neg : b.neg ≡ cond flip a.pos a.neg
 
-pub record IsTurnedLoop (k : ℕ) (flip : Bool) (l m : Loop) : Type 0 where
+pub record IsTurnedSloop (k : ℕ) (flip : Bool) (l m : MapSloop) : Type 0 where
   pub normal : m.normal ≡ signed flip (turned_vector k l.normal)
-  pub above : m.above ≡ cond flip l.below l.above
+  pub pos : m.pos ≡ cond flip l.neg l.pos
   pub mark : m.mark ≡ l.mark
-  pub below : m.below ≡ cond flip l.above l.below
+  pub neg : m.neg ≡ cond flip l.pos l.neg
 
 abbrev pub IsTurnedItem : ℕ → (ℕ → ℕ) → Bool → Item → Item → Type 0
 IsTurnedItem k vertex flip (arc_item a) (arc_item b) = IsTurnedArc k vertex flip a b
-IsTurnedItem k vertex flip (arc_item a) (loop_item m) = ⊥
-IsTurnedItem k vertex flip (loop_item l) (arc_item b) = ⊥
-IsTurnedItem k vertex flip (loop_item l) (loop_item m) = IsTurnedLoop k flip l m
+IsTurnedItem k vertex flip (arc_item a) (sloop_item m) = ⊥
+IsTurnedItem k vertex flip (sloop_item l) (arc_item b) = ⊥
+IsTurnedItem k vertex flip (sloop_item l) (sloop_item m) = IsTurnedSloop k flip l m
 
 -- the items of N are the turned items of M, each once, in any order, with normals in normal form; mark and face are the same
 pub record IsTurnedMap (k : ℕ) (M N : Map) : Type 0 where
@@ -39,31 +39,31 @@ pub record IsTurnedMap (k : ℕ) (M N : Map) : Type 0 where
   pub item_back : ℕ → ℕ
   -- which normals are opposite to the turned ones, by the item's number in M
   pub flip : ℕ → Bool
-  pub svertices : (i : ℕ) (v : Svertex) → At M.svertices i v → At N.svertices (vertex i) (turned_svertex k v)
-  pub svertices_from : (j : ℕ) (u : Svertex) → At N.svertices j u → (v : Svertex) × At M.svertices (vertex_back j) v × (vertex (vertex_back j) ≡ j)
+  pub svertices : (i : ℕ) (v : MapVertex) → At M.svertices i v → At N.svertices (vertex i) (turned_svertex k v)
+  pub svertices_from : (j : ℕ) (u : MapVertex) → At N.svertices j u → (v : MapVertex) × At M.svertices (vertex_back j) v × (vertex (vertex_back j) ≡ j)
   pub items_there : (i : ℕ) (x : Item) → At (items M) i x → (y : Item) × At (items N) (item i) y × IsTurnedItem k vertex (flip i) x y
   pub items_from : (j : ℕ) (y : Item) → At (items N) j y → (x : Item) × At (items M) (item_back j) x × (item (item_back j) ≡ j)
   pub normals : (j : ℕ) (y : Item) → At (items N) j y → IsNormal (item_normal y)
   pub mark : N.mark ≡ M.mark
-  pub same_face : N.face ≡ M.face
+  pub same_ground : N.ground ≡ M.ground
 
 -- both have a sloop, the one the other turned, or neither has
-abbrev pub IsTurnedOption : ℕ → Option Loop → Option Loop → Type 0
+abbrev pub IsTurnedOption : ℕ → Option MapSloop → Option MapSloop → Type 0
 IsTurnedOption k None None = Unit {0}
 IsTurnedOption k None (Some m) = ⊥
 IsTurnedOption k (Some l) None = ⊥
-IsTurnedOption k (Some l) (Some m) = (flip : Bool) × IsTurnedLoop k flip l m
+IsTurnedOption k (Some l) (Some m) = (flip : Bool) × IsTurnedSloop k flip l m
 
 -- the lists of N have the turned items of M and no other, in order
 pub record HasTurnedLists (k : ℕ) (M N : Map) : Type 0 where
   -- the number in N of each svertex of M
   pub vertex : ℕ → ℕ
-  pub svertices : (i : ℕ) (v : Svertex) → At M.svertices i v → At N.svertices (vertex i) (turned_svertex k v)
-  pub svertices_from : (j : ℕ) (u : Svertex) → At N.svertices j u → (i : ℕ) × (v : Svertex) × At M.svertices i v × (vertex i ≡ j)
+  pub svertices : (i : ℕ) (v : MapVertex) → At M.svertices i v → At N.svertices (vertex i) (turned_svertex k v)
+  pub svertices_from : (j : ℕ) (u : MapVertex) → At N.svertices j u → (i : ℕ) × (v : MapVertex) × At M.svertices i v × (vertex i ≡ j)
   pub arcs : (i : ℕ) (a : Arc) → At M.arcs i a → (j : ℕ) × (b : Arc) × (flip : Bool) × At N.arcs j b × IsTurnedArc k vertex flip a b
   pub arcs_from : (j : ℕ) (b : Arc) → At N.arcs j b → (i : ℕ) × (a : Arc) × (flip : Bool) × At M.arcs i a × IsTurnedArc k vertex flip a b
-  pub loop : IsTurnedOption k M.loop N.loop
+  pub sloop : IsTurnedOption k M.sloop N.sloop
   pub normals : (j : ℕ) (y : Item) → At (items N) j y → IsNormal (item_normal y)
   pub arcs_ordered : InOrder ArcBelow N.arcs
   pub mark : N.mark ≡ M.mark
-  pub same_face : N.face ≡ M.face
+  pub same_ground : N.ground ≡ M.ground

@@ -13,7 +13,6 @@ ghost use Rattle.nef_smap.specs.Maps.{map_of, IsSphereMap, IsLeastMap};
 ghost use Rattle.nef_star.specs.Ops.{op_label};
 ghost use Rattle.nef_combine.specs.Sets.{op_set};
 
-
 use nef_smap::SphereMap;
 use nef_sover::overlay;
 use nef_spair::build;

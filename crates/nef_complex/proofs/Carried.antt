@@ -15,7 +15,7 @@ use Rattle.law_near.proofs.Decisions.{ahead, near-ahead}
 use Rattle.law_near.proofs.Germs.{sample, sample-short}
 use Rattle.law_near.proofs.Supports.{facet-support}
 use Rattle.law_sphere.specs.Least.{by_side}
-use Rattle.law_sphere.specs.Maps.{At, Item, item_normal, item_above, item_mark, item_below}
+use Rattle.law_sphere.specs.Maps.{At, Item, item_normal, item_pos, item_mark, item_neg}
 use Rattle.law_sphere.proofs.Compare.{SameDirection-turned}
 use Rattle.law_sphere.proofs.NearItems.{near-item}
 use Rattle.law_sphere.proofs.Shot.{item-point}
@@ -46,7 +46,7 @@ carried s C k v x S c =
     let o = item-point v.map K.valid.shaped k.item x c.item in
     let q : Place = ahead s v.point o.0 in
     let F = in-facet s C S k v x c q (λ e.
-    let l = by_side (item_above x) (item_mark x) (item_below x) (sign (dot (item_normal x) e)) in
+    let l = by_side (item_pos x) (item_mark x) (item_neg x) (sign (dot (item_normal x) e)) in
     (near-ahead s v.point o.0 e l).1 (near-germ v.map s v.point K o.0 e l (near-item v.map K.valid o.0 k.item x c.item o.1 e))) in
     let H = facet-support s q F.dim in
     let f : Form = H.plane in

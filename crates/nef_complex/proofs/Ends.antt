@@ -71,7 +71,7 @@ module _ (s : Set) (c : Complex) (S : Shows s (complex_of c)) (k : ℕ) (e : Edg
       let f = at-one (complex_of c).vertices e.low E.low_vertex (vertex_of u) E.is_low ends.low in
       let g = at-one (complex_of c).vertices e.high E.high_vertex (vertex_of v) E.is_high ends.high in
       subst (λ (w : PlainVertex). IsDirection (toward low w.point)) g (subst (λ (w : PlainVertex). IsDirection (toward w.point E.high_vertex.point)) f
-      (direction-left (toward E.low_vertex.point E.high_vertex.point) E.low_end.way E.ahead))
+      (direction-left (toward E.low_vertex.point E.high_vertex.point) E.low_end.dir E.ahead))
 
   -- what holds of the ends of the edge with this number
   pub of-ends : (P : Place → Place → Type 0) (f : PlainEdge) (x z : PlainVertex) → At (complex_of c).edges k f → HasEnds (complex_of c) f x z → P x.point z.point → P low high

@@ -14,7 +14,7 @@ use Rattle.law_sphere.specs.Maps.{At}
 use Rattle.law_sphere.proofs.Builder.{normal-or}
 use Rattle.law_sphere.proofs.Kind.{away}
 use Rattle.law_sphere.proofs.Lists.{at-one}
-use Rattle.law_sphere.proofs.Compare.{SameDirection-turned, SameDirection-trans, way-self}
+use Rattle.law_sphere.proofs.Compare.{SameDirection-turned, SameDirection-trans, dir-self}
 use Rattle.law_sphere.proofs.Vectors.{normal-direction}
 use Rattle.law_complex.specs.Complexes.{Vertex, Complex, Corner}
 use Rattle.law_complex.specs.Shows.{Shows}
@@ -97,10 +97,10 @@ module _ (s : Set) (C : Complex) (S : Shows s C) (h g : Form) (d : Vector) (y z 
       (λ i u a e. omega arith) (suc k.vertex) k N (omega arith)
 
   comes-to : (k : Corner) → Is_beside k → Chained (FacetLink C) k l
-  comes-to k N = ⊎_elim (λ M. rising (d, M, way-self d T.some) k N)
+  comes-to k N = ⊎_elim (λ M. rising (d, M, dir-self d T.some) k N)
       (λ M. let e = vector-same (away d) (opposite d) (omega (arith, ints)) (omega (arith, ints)) (omega (arith, ints)) in
       let O = subst IsNormal e M in
-      falling (opposite d, O, way-self (opposite d) (normal-direction (opposite d) O)) k N) (normal-or d T.some)
+      falling (opposite d, O, dir-self (opposite d) (normal-direction (opposite d) O)) k N) (normal-or d T.some)
 
   pub strip-names : (on : form_at h y ≡ pos 0) (F : IsFlatIn s h y) → ((r : Place) → IsBetween y r z → FlatDim s r 2) → (k : Corner) → RayNames C h y d k → Chained (FacetLink C) k l
   strip-names on F clear k a = ⊎_elim (λ c. c) (λ r. comes-to k r.0) (from-facet s C S h g d y z T y on start F clear k l a named)

@@ -73,7 +73,7 @@ module _ (s : Set) (C : Complex) (S : Shows s C) (h g : Form) (d : Vector) (y z 
     Ends_before = Stops v.map N.item n m (toward w z) d T.seen
 
     -- ---- where the item is an arc that ends at a svertex in the direction d
-    module _ (E : Ends_before) (way : SameDirection E.svertex.way d) where
+    module _ (E : Ends_before) (way : SameDirection E.svertex.dir d) where
       abbrev a : ℕ
       a = end_of n m T.seen E.arc
 
@@ -84,7 +84,7 @@ module _ (s : Set) (C : Complex) (S : Shows s C) (h g : Form) (d : Vector) (y z 
       v1 = L.other
 
       up : SameDirection (toward w v1.point) d
-      up = SameDirection-trans (toward w v1.point) E.svertex.way d L.onward way
+      up = SameDirection-trans (toward w v1.point) E.svertex.dir d L.onward way
 
       on1 : form_at h v1.point ≡ pos 0
       on1 = plane-ahead h w v1.point d up T.level N.on_plane
@@ -94,15 +94,15 @@ module _ (s : Set) (C : Complex) (S : Shows s C) (h g : Form) (d : Vector) (y z 
 
       reach : (r : Place) → IsBetween z r v1.point → FlatDim s r 2
       reach = fan-beside s C S h g d y z T k N v1.point on1 (let e = near1 in omega (arith, ints)) (let l = short-of s C S h g d y z T v1.point near1 in omega (arith, ints)) (angle-ahead s C S h g d y z T w v1.point N.on_line up)
-          (inr (off-edges s C S h g d y z T k N, L.along)) (λ e i q p r. E.between e i q p (turn-to m e (toward w v1.point) E.svertex.way L.onward r))
+          (inr (off-edges s C S h g d y z T k N, L.along)) (λ e i q p r. E.between e i q p (turn-to m e (toward w v1.point) E.svertex.dir L.onward r))
 
       -- the item toward z there begins at the edge
       module _ (l : Corner) (x : Item) (K : IsCorner C l v1 x) (same : SameDirection (item_normal x) n) (on : OnItem v1.map x (toward v1.point z)) (is : l.vertex ≡ L.there) where
         V : Shaped v1.map
         V = (S.cones l.vertex v1 K.vertex).valid.shaped
 
-        back-way : SameDirection (opposite d) L.end.way
-        back-way = SameDirection-trans (opposite d) (opposite E.svertex.way) L.end.way (opposite-same d E.svertex.way (SameDirection-turned E.svertex.way d way)) L.back
+        back-way : SameDirection (opposite d) L.end.dir
+        back-way = SameDirection-trans (opposite d) (opposite E.svertex.dir) L.end.dir (opposite-same d E.svertex.dir (SameDirection-turned E.svertex.dir d way)) L.back
 
         abbrev Back : Seen n (opposite m)
         Back = seen-back n m T.seen
@@ -113,19 +113,19 @@ module _ (s : Set) (C : Complex) (S : Shows s C) (h g : Form) (d : Vector) (y z 
         linked : Stops v1.map x n (opposite m) (toward v1.point z) (opposite d) Back → FacetLink C k l ⊎ FacetLink C l k
         linked t = ⊎_elim at-end (λ q. absurd (amid q)) t.before
           where
-            amid : pos 0 <ℤ triple (opposite m) t.svertex.way (opposite d) → ⊥
-            amid q = hidden s C S h g d y z T l.vertex (end_of n (opposite m) Back t.arc) v1 t.svertex K.vertex t.end on1 near1 t.level (let e = both-opposite m t.svertex.way d in omega (arith, ints)) w N.on_plane N.on_line up N.all
-                (inr (let e = opposite-normal m (toward v1.point z) t.svertex.way in let f = triple-turned m t.svertex.way (toward v1.point z) in let l = t.left in omega (arith, ints)))
+            amid : pos 0 <ℤ triple (opposite m) t.svertex.dir (opposite d) → ⊥
+            amid q = hidden s C S h g d y z T l.vertex (end_of n (opposite m) Back t.arc) v1 t.svertex K.vertex t.end on1 near1 t.level (let e = both-opposite m t.svertex.dir d in omega (arith, ints)) w N.on_plane N.on_line up N.all
+                (inr (let e = opposite-normal m (toward v1.point z) t.svertex.dir in let f = triple-turned m t.svertex.dir (toward v1.point z) in let l = t.left in omega (arith, ints)))
 
-            at-end : SameDirection t.svertex.way (opposite d) → FacetLink C k l ⊎ FacetLink C l k
+            at-end : SameDirection t.svertex.dir (opposite d) → FacetLink C k l ⊎ FacetLink C l k
             at-end q =
-                let one = V.svertices_apart (end_of n (opposite m) Back t.arc) L.there_end t.svertex L.end t.end L.is_end (SameDirection-trans t.svertex.way (opposite d) L.end.way q back-way) in
+                let one = V.svertices_apart (end_of n (opposite m) Back t.arc) L.there_end t.svertex L.end t.end L.is_end (SameDirection-trans t.svertex.dir (opposite d) L.end.dir q back-way) in
                 link-of s C k.vertex a v E.svertex L n k l E.arc t.arc refl is (subst (λ (r : Item). IsCorner C k v r) E.is_arc N.corner) (subst (λ (r : Item). IsCorner C l v1 r) t.is_arc K)
                 (subst (λ (r : Item). SameDirection (item_normal r) n) E.is_arc N.same) (subst (λ (r : Item). SameDirection (item_normal r) n) t.is_arc same) (ends-match n m T.seen E.arc t.arc a L.there_end refl one)
 
         goes-on : Goes_on k N
         goes-on =
-            let link = ⊎_elim (λ (t : Through v1.map x n (opposite m) (toward v1.point z) (opposite d)). absurd (V.no_svertex_on_item L.there_end l.item L.end x L.is_end K.item (on_item-way v1.map x (opposite d) L.end.way back-way t.on))) linked
+            let link = ⊎_elim (λ (t : Through v1.map x n (opposite m) (toward v1.point z) (opposite d)). absurd (V.no_svertex_on_item L.there_end l.item L.end x L.is_end K.item (on_item-way v1.map x (opposite d) L.end.dir back-way t.on))) linked
             (turned n (opposite m) Back (some-opposite m some-m) v1.map V (toward v1.point z) (opposite d) (some-opposite d T.some) level-opposite turn-right l.item x K.item same on) in (
               l,
               record { vertex = v1; item = x; corner = K; same = same; on_plane = on1; on_line = near1; on = on; all = λ r b. reach r (between-turned v1.point z r b) },

@@ -19,7 +19,7 @@ use Rattle.law_near.proofs.Rays.{signs-same, same-place_sym}
 use Rattle.law_near.proofs.Topology.{near-germ_zero}
 use Rattle.law_sphere.specs.Least.{NearPlain}
 use Rattle.law_sphere.specs.Maps.{At, MapLabel, at_svertex, on_item, seen, SeenAs}
-use Rattle.law_sphere.proofs.Compare.{way-self}
+use Rattle.law_sphere.proofs.Compare.{dir-self}
 use Rattle.law_sphere.proofs.Forms.{on-direction}
 use Rattle.law_sphere.proofs.Unique.{svertex-neither}
 use Rattle.law_complex.specs.Complexes.{Vertex, Complex}
@@ -52,8 +52,8 @@ record NearVertex (s : Set) (C : Complex) (p : Place) : Type 0 where
   number : ℕ
   vertex : Vertex
   listed : At C.vertices number vertex
-  way : Vector
-  tied : IsTied s p (ahead s vertex.point way)
+  dir : Vector
+  tied : IsTied s p (ahead s vertex.point dir)
 
 module _ (s : Set) (C : Complex) (S : Shows s C) where
   -- what lies off a point that is tied to one close to a vertex, lies close to the vertex
@@ -65,7 +65,7 @@ module _ (s : Set) (C : Complex) (S : Shows s C) where
           number = i;
           vertex = v;
           listed = a;
-          way = blend n u 1 f;
+          dir = blend n u 1 f;
           tied = tied-both s (ahead s y f) (ahead s (ahead s v.point u) f) (ahead s v.point (blend n u 1 f)) (tied-ahead s y (ahead s v.point u) f t) (tied-turn s v.point u f n (omega arith));
         }
 
@@ -79,18 +79,18 @@ module _ (s : Set) (C : Complex) (S : Shows s C) where
             number = i;
             vertex = v;
             listed = a;
-            way = f;
+            dir = f;
             tied = tied-cell s (ahead s y f) (ahead s v.point f) (ahead-cells s y v.point f (signs-same (carriers s) y v.point (same-place_sym v.point y e)));
           }
       by (suc zero) g =
           let (k, p) = edges-complete s C S y g in
           let (e, v, w, a, H, b) = p in
           let W = edge-ways s C S k e v w a H in
-          turned-near y f e.low v H.low W.low.way (tied-low s C S k e v w a H y b)
+          turned-near y f e.low v H.low W.low.dir (tied-low s C S k e v w a H y b)
       by (suc (suc zero)) g =
           let (k, v, x, c, F) = facet-of s C S y g in
           let u = toward v.point y in
-          turned-near y f k.vertex v c.vertex u (tied-ray s 2 v.point y u (way-self u (on-direction v.map x u F.on_item)) (facet-even s C S k v x y c F))
+          turned-near y f k.vertex v c.vertex u (tied-ray s 2 v.point y u (dir-self u (on-direction v.map x u F.on_item)) (facet-even s C S k v x y c F))
       by (suc (suc (suc zero))) g = absurd (not g)
       by (suc (suc (suc (suc k)))) g = absurd g.0
 
@@ -99,13 +99,13 @@ module _ (s : Set) (C : Complex) (S : Shows s C) where
       let M = first-met s p f in
       let d = toward M.place p in
       let N = off-met M.place M.not_flat d in
-      let t = tied-ray s 3 M.place p d (way-self d M.apart) M.even in
+      let t = tied-ray s 3 M.place p d (dir-self d M.apart) M.even in
       record {
         number = N.number;
         vertex = N.vertex;
         listed = N.listed;
-        way = N.way;
-        tied = tied-both s p (ahead s M.place d) (ahead s N.vertex.point N.way) t N.tied;
+        dir = N.dir;
+        tied = tied-both s p (ahead s M.place d) (ahead s N.vertex.point N.dir) t N.tied;
       }
 
   -- ---- some side sees the direction
@@ -142,12 +142,12 @@ module _ (s : Set) (C : Complex) (S : Shows s C) where
   reaches : (p : Place) → FlatDim s p 3 → NearVertex s C p → (x : VertexSide) × (q : Place) × IsAtSide s C x q × Joined s p q
   reaches p f N =
       let v = N.vertex in
-      let q = ahead s v.point N.way in
+      let q = ahead s v.point N.dir in
       let g = FlatDim-by_germs s s p q (joined-germs s p q N.tied.0) 3 f in
       let l = label_of s q in
-      let o = side-toward N.number v N.listed N.way g l.0 (λ e. flat-germ s q e l.0 (all-flat s q g e) l.1) in
+      let o = side-toward N.number v N.listed N.dir g l.0 (λ e. flat-germ s q e l.0 (all-flat s q g e) l.1) in
       let x : VertexSide = record { vertex = N.number; side = o.side } in
-      (x, q, at-side s C S x v l.0 N.listed o.has N.way o.sees, N.tied.0)
+      (x, q, at-side s C S x v l.0 N.listed o.has N.dir o.sees, N.tied.0)
 
 -- POINTS IN VOLUMES REACH SIDES
 pub points-reach_sides : PointsReachSides

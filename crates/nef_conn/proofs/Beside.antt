@@ -11,10 +11,10 @@ use Rattle.law_near.proofs.Rays.{same-place_sym}
 use Rattle.law_forms.proofs.Between.{between-same, toward-place, place-toward}
 use Rattle.law_near.proofs.FlatDecided.{triple-dot}
 use Rattle.law_forms.proofs.Directions.{dot-zero}
-use Rattle.law_sphere.specs.Maps.{At, Svertex, Item, item_normal, OnItem}
+use Rattle.law_sphere.specs.Maps.{At, MapVertex, Item, item_normal, OnItem}
 use Rattle.law_sphere.proofs.Vectors.{same-plus}
 use Rattle.law_sphere.proofs.Around.{triple-turned}
-use Rattle.law_sphere.proofs.Compare.{SameDirection-turned, SameDirection-trans, way-self}
+use Rattle.law_sphere.proofs.Compare.{SameDirection-turned, SameDirection-trans, dir-self}
 use Rattle.law_sphere.proofs.Turn.{turn-last, turn-same}
 use Rattle.law_complex.specs.Complexes.{Vertex, Complex, Corner, IsCorner}
 use Rattle.law_complex.specs.Shows.{Shows}
@@ -37,7 +37,7 @@ use Rattle.nef_conn.proofs.FacetStrip.{Strip, Near_line, Far_line, m-some, turn-
 
 -- the same turns by the same ways
 turn-from : (m a b f : Vector) → IsDirection m → IsDirection f → SameDirection a b → pos 0 <ℤ triple m a f → pos 0 <ℤ triple m b f
-turn-from m a b f i j w h = same-plus (triple m a f) (triple m b f) (turn-same m m a b f f (way-self m i) w (way-self f j)) h
+turn-from m a b f i j w h = same-plus (triple m a f) (triple m b f) (turn-same m m a b f f (dir-self m i) w (dir-self f j)) h
 
 pub turn-to : (m f a b : Vector) → SameDirection a b → pos 0 <ℤ triple m f a → pos 0 <ℤ triple m f b
 turn-to m f a b w h = same-plus (triple m f a) (triple m f b) (turn-last m f a b w) h
@@ -74,13 +74,13 @@ module _ (s : Set) (C : Complex) (S : Shows s C) (h g : Form) (d : Vector) (y z 
   some-m = m-some s C S h g d y z T
 
   near-level : slope near d ≡ pos 0
-  near-level = (through-level (cross d m) d y).0 (sym (turn-k s C S h g d y z T d) ∙ no-turn m d d (way-self d T.some))
+  near-level = (through-level (cross d m) d y).0 (sym (turn-k s C S h g d y z T d) ∙ no-turn m d d (dir-self d T.some))
 
   pub near-onward : (a c : Place) → SameDirection (toward a c) d → form_at near a ≡ pos 0 → form_at near c ≡ pos 0
   near-onward a c w e = plane-ahead near a c d w near-level e
 
   -- ---- the edge of a svertex that leads to the right of y's line comes to z's line
-  module _ (i a : ℕ) (v : Vertex) (u : Svertex) (at-i : At C.vertices i v) (at-a : At v.map.svertices a u) (on : form_at h v.point ≡ pos 0) (on-line : form_at near v.point ≡ pos 0) (level : dot n u.way ≡ pos 0) (right : pos 0 <ℤ triple m u.way d) where
+  module _ (i a : ℕ) (v : Vertex) (u : MapVertex) (at-i : At C.vertices i v) (at-a : At v.map.svertices a u) (on : form_at h v.point ≡ pos 0) (on-line : form_at near v.point ≡ pos 0) (level : dot n u.dir ≡ pos 0) (right : pos 0 <ℤ triple m u.dir d) where
     pub edge-of : Leads s C i a v u
     edge-of = leads s C S i a v u at-i at-a
 
@@ -88,11 +88,11 @@ module _ (s : Set) (C : Complex) (S : Shows s C) (h g : Form) (d : Vector) (y z 
     L = edge-of
 
     pub on-other : form_at h L.other.point ≡ pos 0
-    on-other = plane-ahead h v.point L.other.point u.way L.onward level on
+    on-other = plane-ahead h v.point L.other.point u.dir L.onward level on
 
     near-other : pos 0 <ℤ form_at near L.other.point
     near-other = same-plus (triple m (toward v.point L.other.point) d) (form_at near L.other.point) (sym (near-turn s C S h g d y z T v.point L.other.point on-line))
-        (turn-from m u.way (toward v.point L.other.point) d some-m T.some (SameDirection-turned (toward v.point L.other.point) u.way L.onward) right)
+        (turn-from m u.dir (toward v.point L.other.point) d some-m T.some (SameDirection-turned (toward v.point L.other.point) u.dir L.onward) right)
 
     pub meets-far : Cut far v.point L.other.point
     meets-far = cut-of far v.point L.other.point (inr (short-of s C S h g d y z T v.point on-line, strip s C S h g d y z T L.there L.other L.is_there on-other near-other))
@@ -103,8 +103,8 @@ module _ (s : Set) (C : Complex) (S : Shows s C) (h g : Form) (d : Vector) (y z 
     pub on-x : form_at h x ≡ pos 0
     on-x = plane-between h v.point x L.other.point meets-far.between on on-other
 
-    pub way-x : SameDirection (toward v.point x) u.way
-    way-x = SameDirection-trans (toward v.point x) (toward v.point L.other.point) u.way (between-way v.point x L.other.point meets-far.between) L.onward
+    pub way-x : SameDirection (toward v.point x) u.dir
+    way-x = SameDirection-trans (toward v.point x) (toward v.point L.other.point) u.dir (between-way v.point x L.other.point meets-far.between) L.onward
 
     edge-until : (r : Place) → IsBetween v.point r x ⊎ SamePlace r x → FlatDim s r 1
     edge-until r (inl b) = (L.along r (between-inner v.point x L.other.point r meets-far.between b)).0
@@ -112,30 +112,30 @@ module _ (s : Set) (C : Complex) (S : Shows s C) (h g : Form) (d : Vector) (y z 
 
     -- it isn't in the way of a facet point behind
     pub hidden : (b : Place) → form_at h b ≡ pos 0 → form_at near b ≡ pos 0 → SameDirection (toward b v.point) d → ((r : Place) → IsBetween b r z → FlatDim s r 2)
-        → SameDirection u.way (toward v.point z) ⊎ (pos 0 <ℤ triple m u.way (toward v.point z)) → ⊥
+        → SameDirection u.dir (toward v.point z) ⊎ (pos 0 <ℤ triple m u.dir (toward v.point z)) → ⊥
     hidden b on-b near-b up clear low = by (on-far_line s C S h g d y z T x on-x meets-far.level)
       where
         by : On_far_line s C S h g d y z T x → ⊥
         by (at_start e) = not-at s C S h g d y z T v.point b x on on-b on-x on-line near-b up meets-far.level clear edge-until e
         by (behind_of w) = not-behind s C S h g d y z T v.point b x on on-b on-x on-line near-b up meets-far.level clear edge-until w
         by (ahead_of w) =
-            let over = turn-to m (toward v.point z) (toward v.point x) u.way way-x (angle-over s C S h g d y z T v.point x on-line w) in
-            let r = triple-turned m u.way (toward v.point z) in
-            ⊎_elim (λ q. let e = no-turn m u.way (toward v.point z) q in omega (arith, ints)) (λ q. omega (arith, ints)) low
+            let over = turn-to m (toward v.point z) (toward v.point x) u.dir way-x (angle-over s C S h g d y z T v.point x on-line w) in
+            let r = triple-turned m u.dir (toward v.point z) in
+            ⊎_elim (λ q. let e = no-turn m u.dir (toward v.point z) q in omega (arith, ints)) (λ q. omega (arith, ints)) low
 
     -- where it leads to the left of z it comes to a point ahead of z
-    pub ahead-x : pos 0 <ℤ triple m (toward v.point z) u.way → SameDirection (toward z x) d
+    pub ahead-x : pos 0 <ℤ triple m (toward v.point z) u.dir → SameDirection (toward z x) d
     ahead-x up = by (on-far_line s C S h g d y z T x on-x meets-far.level)
       where
         over : pos 0 <ℤ angle m v.point z x
-        over = turn-to m (toward v.point z) u.way (toward v.point x) (SameDirection-turned (toward v.point x) u.way way-x) up
+        over = turn-to m (toward v.point z) u.dir (toward v.point x) (SameDirection-turned (toward v.point x) u.dir way-x) up
 
         by : On_far_line s C S h g d y z T x → SameDirection (toward z x) d
         by (ahead_of w) = w
         by (behind_of w) = absurd (let l = angle-under s C S h g d y z T v.point x on-line w in let o = over in omega (arith, ints))
         by (at_start e) = absurd (
             let some : IsDirection (toward v.point z) = λ q. let o = turn-z s C S h g d y z T v.point on-line in let k = turn-k s C S h g d y z T (toward v.point z) in let f = dot-zero (cross d m) (toward v.point z) q in omega (arith, ints) in
-            let w = ahead-same v.point z x (toward v.point z) (same-place_sym z x e) (way-self (toward v.point z) some) in
+            let w = ahead-same v.point z x (toward v.point z) (same-place_sym z x e) (dir-self (toward v.point z) some) in
             let o = no-turn m (toward v.point z) (toward v.point x) (SameDirection-turned (toward v.point x) (toward v.point z) w) in
             let l = over in omega (arith, ints))
 
@@ -172,7 +172,7 @@ module _ (s : Set) (C : Complex) (S : Shows s C) (h g : Form) (d : Vector) (y z 
           let a = amid-angle m w z c t turn b in
           let some : IsDirection (toward w t) = λ q. let f = no-turn-zero q in let l = a.0 in omega (arith, ints) in
           let on = holds (toward w t) some (plane-way h w t N.on_plane (plane-between h z t c b T.on_z on-c)) a.0 a.1 in
-          let F = beside-vertex s C S k N.vertex N.item N.corner (toward w t) on t (way-self (toward w t) some) in
+          let F = beside-vertex s C S k N.vertex N.item N.corner (toward w t) on t (dir-self (toward w t) some) in
           let r = near_point s w t in
           let back = between-same t r w t r v.point (same-itself t) (same-itself r) e (between-turned w t r (near-between s w t some)) in
           let j = FlatDim-one s r 1 2 (E.all r back) F.dim in cc
@@ -194,7 +194,7 @@ module _ (s : Set) (C : Complex) (S : Shows s C) (h g : Form) (d : Vector) (y z 
 
     pub seen-beside : (k : Corner) × (x : Item) × IsCorner C k v x × SameDirection (item_normal x) n × OnItem v.map x (toward v.point z) × (k.vertex ≡ i)
     seen-beside =
-        let X = item-seen s C S h z T.normal T.on_z (toward z v.point) some-there (plane-way h z v.point T.on_z on) T.flat v.point (way-self (toward z v.point) some-there) all i v at-i (same-itself v.point) in (
+        let X = item-seen s C S h z T.normal T.on_z (toward z v.point) some-there (plane-way h z v.point T.on_z on) T.flat v.point (dir-self (toward z v.point) some-there) all i v at-i (same-itself v.point) in (
           record { vertex = i; item = X.number },
           X.item,
           record { vertex = at-i; item = X.listed },
@@ -222,7 +222,7 @@ module _ (s : Set) (C : Complex) (S : Shows s C) (h g : Form) (d : Vector) (y z 
       where
         stop : Stops v.map x n m (opposite d) (toward v.point z) T.seen → ⊥
         stop t =
-            let u = t.svertex.way in
+            let u = t.svertex.dir in
             hidden k.vertex (end_of n m T.seen t.arc) v t.svertex K.vertex t.end on near-v t.level (let e = back-triple m d u in let f = triple-turned m d u in let l = t.left in omega (arith, ints)) b on-b near-b up clear t.before
 
     pub beside-facet : Beside k

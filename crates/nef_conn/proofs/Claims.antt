@@ -28,8 +28,8 @@ use Rattle.law_near.proofs.Skeleton.{flat_dim-nearby}
 use Rattle.law_near.proofs.Supports.{flat-plane}
 use Rattle.law_forms.proofs.Near.{reach_all, slope-toward}
 use Rattle.law_forms.proofs.Directions.{zero-decided, dot-comm, direction-left}
-use Rattle.law_sphere.proofs.Compare.{SameDirection-turned, SameDirection-trans, way-self}
-use Rattle.law_sphere.proofs.Labels.{way-signs}
+use Rattle.law_sphere.proofs.Compare.{SameDirection-turned, SameDirection-trans, dir-self}
+use Rattle.law_sphere.proofs.Labels.{dir-signs}
 use Rattle.law_complex.specs.Complexes.{Complex}
 use Rattle.law_complex.specs.Shows.{Shows}
 use Rattle.law_complex.specs.Rays.{VertexSide, RayDown}
@@ -86,7 +86,7 @@ module _ (s : Set) (C : Complex) (S : Shows s C) (upright : IsUpright C) (linked
       let at-c : form_at (plane_through m y) c ≡ pos 0 = through-at m y c ∙ level-way m g (toward y c) (SameDirection-turned (toward y c) g to) z in
       let at-b = through-at m y b in
       let e = slope-toward (plane_through m y) b c in
-      let w = way-signs (opposite up) (toward b c) (normal_of (plane_through m y)) down-some (SameDirection-turned (toward b c) (opposite up) below) in
+      let w = dir-signs (opposite up) (toward b c) (normal_of (plane_through m y)) down-some (SameDirection-turned (toward b c) (opposite up) below) in
       let u = through-slope m y (opposite up) in
       let d = dot-opposite m up in
       plain (dot m (toward y b)) (dot m up) (slope (plane_through m y) (toward b c)) (slope (plane_through m y) (opposite up)) (form_at (plane_through m y) c) (form_at (plane_through m y) b) (dot m (opposite up)) e at-c at-b w u d
@@ -173,7 +173,7 @@ module _ (s : Set) (C : Complex) (S : Shows s C) (upright : IsUpright C) (linked
 
     corner : (u : Place) → (SamePlace y u → ⊥) → ((r : Place) → IsBetween u r y → FlatDim (sliced s h) r 1) → (c : Place) → SameDirection (toward y c) (opposite up) → IsBetween b u c → ⊥
     corner u off edge c way m = ⊎_elim (λ two. corner-two (sliced s h) y u off edge two)
-        (λ w. corner-wedge (sliced s h) y u off edge b c m (wedge-way (sliced s h) 2 y (toward y b) (toward y b) (opposite up) (toward y c) (way-self (toward y b) some-b) (SameDirection-turned (toward y c) (opposite up) way)
+        (λ w. corner-wedge (sliced s h) y u off edge b c m (wedge-way (sliced s h) 2 y (toward y b) (toward y b) (opposite up) (toward y c) (dir-self (toward y b) some-b) (SameDirection-turned (toward y c) (opposite up) way)
         (λ i j si sj. blend-rises (cross n up) (toward y b) (toward y c) i j si (subst (λ (v : ℤ). pos 0 <ℤ v) (triple-dot n up (toward y b)) side) (let e = triple-dot n up (toward y c) in let l = lam-down n y c way in omega (arith, ints))) w)) start
       where
         some-b : IsDirection (toward y b)
@@ -215,7 +215,7 @@ module _ (s : Set) (C : Complex) (S : Shows s C) (upright : IsUpright C) (linked
     back = subst (λ (v : Vector). SameDirection (toward y' y) v) (twice up) (ahead-back y y' (opposite up) down)
 
     up-wedge : Wedge s 3 y' up (toward y' b)
-    up-wedge = wedge-way s 3 y' (toward y' y) up (toward y' b) (toward y' b) back (way-self (toward y' b) some-y')
+    up-wedge = wedge-way s 3 y' (toward y' y) up (toward y' b) (toward y' b) back (dir-self (toward y' b) some-y')
         (λ i j si sj. turned-some i j si sj)
         (subst (λ (v : Vector). Wedge s 3 y' v (toward y' b)) (start-toward (reach_all (carriers (sliced s h)) y') y' y)
         (subst (λ (v : Vector). Wedge s 3 y' (toward y' r) v) (start-toward (reach_all (carriers (sliced s h)) y') y' b)
@@ -250,7 +250,7 @@ module _ (s : Set) (C : Complex) (S : Shows s C) (upright : IsUpright C) (linked
         by-part u (inr e) = dim-same s (near_point (sliced s h) y' y) u 3 (same-place_sym u (near_point (sliced s h) y' y) e) (second (near_point (sliced s h) y' y) amid-r).0
 
     pub free-toward : FlatDim s (ahead s y' (toward y' b)) 3
-    free-toward = tied-dim s b (ahead s y' (toward y' b)) 3 (tied-ray s 3 y' b (toward y' b) (way-self (toward y' b) some-y') even) three
+    free-toward = tied-dim s b (ahead s y' (toward y' b)) 3 (tied-ray s 3 y' b (toward y' b) (dir-self (toward y' b) some-y') even) three
       where
         even : IsEvenAfter s 3 y' b
         even u (inl m) = free-b u (between-turned y' b u m)

@@ -78,4 +78,4 @@ edges-counted s C S = components-by s 1 (length C.edges) (IsEdgePoint C) some
         let v = E.low_vertex in
         let w = E.high_vertex in
         let m = near_point s v.point w.point in
-        (m, (e.0, v, w, e.1, record { low = E.is_low; high = E.is_high }, near-between s v.point w.point (direction-left (toward v.point w.point) E.low_end.way E.ahead)))
+        (m, (e.0, v, w, e.1, record { low = E.is_low; high = E.is_high }, near-between s v.point w.point (direction-left (toward v.point w.point) E.low_end.dir E.ahead)))

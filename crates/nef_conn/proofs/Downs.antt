@@ -14,7 +14,7 @@ use Rattle.law_forms.proofs.Directions.{direction-left}
 use Rattle.law_forms.proofs.Far.{nought-or, same-nought}
 use Rattle.law_sphere.specs.Forms.{forms, Keeps}
 use Rattle.law_near.proofs.Between.{between-inner}
-use Rattle.law_sphere.specs.Maps.{At, Svertex, Map, Item, items, item_normal, IsFree, Sees, Shaped}
+use Rattle.law_sphere.specs.Maps.{At, MapVertex, Map, Item, items, item_normal, IsFree, Sees, Shaped}
 use Rattle.law_sphere.proofs.Around.{direction-around, svertex-around}
 use Rattle.law_sphere.proofs.Compare.{SameDirection-turned, SameDirection-trans}
 use Rattle.law_sphere.proofs.Forms.{PlaceOf, svertex_place, item_place, free_place, place_of, item-forms, normal-form, on-level}
@@ -57,37 +57,37 @@ module _ (s : Set) (C : Complex) (S : Shows s C) (upright : IsUpright C) (linked
     low k x h = let e = dot-opposite (item_normal x) up in let u = upright (record { vertex = i; item = k }) v x (record { vertex = a; item = h }) in omega (arith, ints)
 
     -- from a vertex down is free, or an edge runs down
-    pub vertex-down : IsFree v.map (opposite up) ⊎ ((k : ℕ) × (u : Svertex) × At v.map.svertices k u × SameDirection u.way (opposite up))
+    pub vertex-down : IsFree v.map (opposite up) ⊎ ((k : ℕ) × (u : MapVertex) × At v.map.svertices k u × SameDirection u.dir (opposite up))
     vertex-down = by (place_of v.map (opposite up) down-some)
       where
-        by : PlaceOf v.map (opposite up) → IsFree v.map (opposite up) ⊎ ((k : ℕ) × (u : Svertex) × At v.map.svertices k u × SameDirection u.way (opposite up))
+        by : PlaceOf v.map (opposite up) → IsFree v.map (opposite up) ⊎ ((k : ℕ) × (u : MapVertex) × At v.map.svertices k u × SameDirection u.dir (opposite up))
         by (free_place f) = inl f
         by (item_place k x h o) = let l = low k x h in let e = on-level v.map x (opposite up) o in absurd (omega (arith, ints))
         by (svertex_place k u h w) = inr (k, u, h, w)
 
     -- close to a svertex
-    pub svertex-down : (j : ℕ) (u : Svertex) → At v.map.svertices j u → IsDirection (cross u.way up) → (K : ℕ) → amount (forms v.map) (opposite up) ≤ K → IsFree v.map (blend K u.way 1 (opposite up))
-    svertex-down j u b aside K large = by (place_of v.map (blend K u.way 1 (opposite up)) (direction-around v.map V u.way (blend K u.way 1 (opposite up)) keeps (V.svertex_ways j u b)))
+    pub svertex-down : (j : ℕ) (u : MapVertex) → At v.map.svertices j u → IsDirection (cross u.dir up) → (K : ℕ) → amount (forms v.map) (opposite up) ≤ K → IsFree v.map (blend K u.dir 1 (opposite up))
+    svertex-down j u b aside K large = by (place_of v.map (blend K u.dir 1 (opposite up)) (direction-around v.map V u.dir (blend K u.dir 1 (opposite up)) keeps (V.svertex_dirs j u b)))
       where
-        keeps : Keeps (forms v.map) u.way (blend K u.way 1 (opposite up))
-        keeps = far-keeps (forms v.map) u.way (opposite up) K large
+        keeps : Keeps (forms v.map) u.dir (blend K u.dir 1 (opposite up))
+        keeps = far-keeps (forms v.map) u.dir (opposite up) K large
 
         one : (a b c d : ℤ) → a *ℤ (pos K *ℤ b +ℤ pos 1 *ℤ d) -ℤ b *ℤ (pos K *ℤ a +ℤ pos 1 *ℤ c) ≡ pos 0 → a *ℤ d -ℤ b *ℤ c ≡ pos 0
         one a b c d e = sym (ring (pos K ∷ a ∷ b ∷ c ∷ d ∷ []) (at 1 ⊗ (at 0 ⊗ at 2 ⊕ num (pos 1) ⊗ at 4) ⊖ at 2 ⊗ (at 0 ⊗ at 1 ⊕ num (pos 1) ⊗ at 3)) (at 1 ⊗ at 4 ⊖ at 2 ⊗ at 3) tt) ∙ e
 
-        by : PlaceOf v.map (blend K u.way 1 (opposite up)) → IsFree v.map (blend K u.way 1 (opposite up))
+        by : PlaceOf v.map (blend K u.dir 1 (opposite up)) → IsFree v.map (blend K u.dir 1 (opposite up))
         by (free_place f) = f
         by (item_place k x h o) =
-            let e = on-level v.map x (blend K u.way 1 (opposite up)) o in
+            let e = on-level v.map x (blend K u.dir 1 (opposite up)) o in
             let l = low k x h in
             absurd (⊎_elim
-            (λ z. let m = same-nought (dot (item_normal x) (blend K u.way 1 (opposite up))) (dot (item_normal x) (opposite up)) (sym (far-level (forms v.map) u.way (opposite up) K large (item_normal x) z)) e in omega (arith, ints))
-            (λ n. n (same-nought (dot (item_normal x) (blend K u.way 1 (opposite up))) (dot (item_normal x) u.way) (sym (keeps (item_normal x) (item-forms v.map k x (item_normal x) h (normal-form v.map x)) n)) e))
-            (nought-or (dot (item_normal x) u.way)))
+            (λ z. let m = same-nought (dot (item_normal x) (blend K u.dir 1 (opposite up))) (dot (item_normal x) (opposite up)) (sym (far-level (forms v.map) u.dir (opposite up) K large (item_normal x) z)) e in omega (arith, ints))
+            (λ n. n (same-nought (dot (item_normal x) (blend K u.dir 1 (opposite up))) (dot (item_normal x) u.dir) (sym (keeps (item_normal x) (item-forms v.map k x (item_normal x) h (normal-form v.map x)) n)) e))
+            (nought-or (dot (item_normal x) u.dir)))
         by (svertex_place k q h w) =
-            let d = u.way in
-            let o = svertex-around v.map V d (blend K d 1 (opposite up)) keeps k q h (V.svertex_ways j u b) w in
-            let p = SameDirection-trans d q.way (blend K d 1 (opposite up)) (SameDirection-turned q.way d o) w in
+            let d = u.dir in
+            let o = svertex-around v.map V d (blend K d 1 (opposite up)) keeps k q h (V.svertex_dirs j u b) w in
+            let p = SameDirection-trans d q.dir (blend K d 1 (opposite up)) (SameDirection-turned q.dir d o) w in
             let z = p.parallel in
             absurd (aside (along-up d (one d.y d.z (neg_ℤ up.y) (neg_ℤ up.z) z.0, one d.z d.x (neg_ℤ up.z) (neg_ℤ up.x) z.1, one d.x d.y (neg_ℤ up.x) (neg_ℤ up.y) z.2)))
 

@@ -31,10 +31,10 @@ use Rattle.law_forms.proofs.Far.{nought-or, same-nought}
 use Rattle.law_sphere.specs.Forms.{forms, SameSigns}
 use Rattle.law_sphere.specs.Maps.{At}
 use Rattle.law_sphere.proofs.Around.{triple-turned}
-use Rattle.law_sphere.proofs.Compare.{SameDirection-turned, SameDirection-trans, way-self}
+use Rattle.law_sphere.proofs.Compare.{SameDirection-turned, SameDirection-trans, dir-self}
 use Rattle.law_sphere.proofs.Direct.{cross-self}
 use Rattle.law_sphere.proofs.Generic.{amount, far-keeps, far-level}
-use Rattle.law_sphere.proofs.Labels.{way-signs}
+use Rattle.law_sphere.proofs.Labels.{dir-signs}
 use Rattle.law_sphere.proofs.Parallel.{parallel-trans}
 use Rattle.law_sphere.proofs.Turn.{turn-last, turn-same}
 use Rattle.law_sphere.proofs.Vectors.{same-plus, same-minus}
@@ -166,11 +166,11 @@ module _ (s : Set) (h : Form) (hn : IsDirection (normal_of h)) (level : slope h 
 -- signs close to d toward f, and close to one of the same way toward g, where both lie on one side of each plane through d
 pub ways-toward : (gs : List Vector) (d e f g : Vector) (k l : ℕ) → SameDirection d e → ((m : Vector) → dot m e ≡ pos 0 → sign (dot m g) ≡ sign (dot m f)) → amount gs f ≤ k → amount gs g ≤ l → SameSigns gs (blend k d 1 f) (blend l e 1 g)
 ways-toward gs d e f g k l w alike h i p m = ⊎_elim
-    (λ z. let o = same-nought (dot p d) (dot p e) (way-signs d e p (direction-left d e w) w) z in far-level gs e g l i p o ∙ alike p o ∙ sym (far-level gs d f k h p z))
-    (λ n. far-keeps gs e g l i p m (λ z. n (same-nought (dot p e) (dot p d) (sym (way-signs d e p (direction-left d e w) w)) z)) ∙ way-signs d e p (direction-left d e w) w ∙ sym (far-keeps gs d f k h p m n))
+    (λ z. let o = same-nought (dot p d) (dot p e) (dir-signs d e p (direction-left d e w) w) z in far-level gs e g l i p o ∙ alike p o ∙ sym (far-level gs d f k h p z))
+    (λ n. far-keeps gs e g l i p m (λ z. n (same-nought (dot p e) (dot p d) (sym (dir-signs d e p (direction-left d e w) w)) z)) ∙ dir-signs d e p (direction-left d e w) w ∙ sym (far-keeps gs d f k h p m n))
     (nought-or (dot p d))
 
-module _ (s : Set) (C : Complex) (S : Shows s C) (upright : IsUpright C) (linked : AreLinkedWhereJoined s C) (k : ℕ) (e : Edge) (v w : Vertex) (a : At C.edges k e) (H : HasEnds C e v w) (aside : IsDirection (cross (edge-ways s C S k e v w a H).low.way up)) where
+module _ (s : Set) (C : Complex) (S : Shows s C) (upright : IsUpright C) (linked : AreLinkedWhereJoined s C) (k : ℕ) (e : Edge) (v w : Vertex) (a : At C.edges k e) (H : HasEnds C e v w) (aside : IsDirection (cross (edge-ways s C S k e v w a H).low.dir up)) where
   abbrev W : EdgeWays e v w
   W = edge-ways s C S k e v w a H
 
@@ -187,7 +187,7 @@ module _ (s : Set) (C : Complex) (S : Shows s C) (upright : IsUpright C) (linked
   n = normal_of h
 
   m-some : IsDirection m
-  m-some z = aside (parallel-trans W.low.way D up (direction-left D W.low.way W.onward) (let o = SameDirection-turned D W.low.way W.onward in o.parallel) (cross-turned up D z))
+  m-some z = aside (parallel-trans W.low.dir D up (direction-left D W.low.dir W.onward) (let o = SameDirection-turned D W.low.dir W.onward in o.parallel) (cross-turned up D z))
 
   pub hn : IsDirection (normal_of (plane_of v.point w.point))
   hn = direction-right m n (through-same m v.point m-some)
@@ -215,8 +215,8 @@ module _ (s : Set) (C : Complex) (S : Shows s C) (upright : IsUpright C) (linked
   free-below r c =
       let F = edge-frame s C S k e v w r a H c in
       let K = amount (forms v.map) (opposite up) + steep (carriers s) (opposite up) in
-      tied-dim s (ahead s v.point (blend K W.low.way 1 (opposite up))) (ahead s r (opposite up)) 3 (tied-turned s (ahead s r (opposite up)) (ahead s v.point (blend K W.low.way 1 (opposite up))) (F.tied (opposite up) K (omega arith)))
-      (free-dim v.map s v.point (S.cones e.low v H.low) (blend K W.low.way 1 (opposite up)) (svertex-down s C S upright linked e.low v H.low e.low_svertex W.low W.is_low aside K (omega arith)))
+      tied-dim s (ahead s v.point (blend K W.low.dir 1 (opposite up))) (ahead s r (opposite up)) 3 (tied-turned s (ahead s r (opposite up)) (ahead s v.point (blend K W.low.dir 1 (opposite up))) (F.tied (opposite up) K (omega arith)))
+      (free-dim v.map s v.point (S.cones e.low v H.low) (blend K W.low.dir 1 (opposite up)) (svertex-down s C S upright linked e.low v H.low e.low_svertex W.low W.is_low aside K (omega arith)))
 
   -- in the frame or not all along it
   inside-along : (p r : Place) → IsBetween v.point p w.point → IsBetween v.point r w.point → InFrame (ahead s p (opposite up)) → InFrame (ahead s r (opposite up))
@@ -224,7 +224,7 @@ module _ (s : Set) (C : Complex) (S : Shows s C) (upright : IsUpright C) (linked
       let F = edge-frame s C S k e v w p a H c in
       let G = edge-frame s C S k e v w r a H d in
       let K = amount (forms v.map) (opposite up) + steep (carriers s) (opposite up) in
-      let u = ahead s v.point (blend K W.low.way 1 (opposite up)) in
+      let u = ahead s v.point (blend K W.low.dir 1 (opposite up)) in
       germs-inside s u (ahead s r (opposite up)) (joined-germs s u (ahead s r (opposite up)) (joined-turned s (ahead s r (opposite up)) u (G.tied (opposite up) K (omega arith)).0))
       (germs-inside s (ahead s p (opposite up)) u (joined-germs s (ahead s p (opposite up)) u (F.tied (opposite up) K (omega arith)).0) i)
 
@@ -249,7 +249,7 @@ module _ (s : Set) (C : Complex) (S : Shows s C) (upright : IsUpright C) (linked
     side =
         let p : pos 0 <ℤ triple m up D = self-pos m m-some in
         let q = same-plus (triple m up D) (triple m up (toward v.point y)) (turn-last m up D (toward v.point y) (SameDirection-turned (toward v.point y) D (between-way v.point y w.point b))) p in
-        same-plus (triple m up (toward v.point y)) (lam n v.point y) (turn-same m n up up (toward v.point y) (toward v.point y) (through-same m v.point m-some) (way-self up up-some) (way-self (toward v.point y) (between-start v.point y w.point b))) q
+        same-plus (triple m up (toward v.point y)) (lam n v.point y) (turn-same m n up up (toward v.point y) (toward v.point y) (through-same m v.point m-some) (dir-self up up-some) (dir-self (toward v.point y) (between-start v.point y w.point b))) q
 
     -- the lines from v through the vertices of the slice
     abbrev hs : List Form
@@ -470,7 +470,7 @@ module _ (s : Set) (C : Complex) (S : Shows s C) (upright : IsUpright C) (linked
     way-some u o z = let f = lam-zero n v.point u z in let l = side-u u o in omega (arith, ints)
 
     free-to : (u : Place) (o : Part u) → FlatDim s (ahead s v.point (toward v.point u)) 3
-    free-to u o = tied-dim s u (ahead s v.point (toward v.point u)) 3 (tied-ray s 3 v.point u (toward v.point u) (way-self (toward v.point u) (way-some u o)) even) (three-u u o)
+    free-to u o = tied-dim s u (ahead s v.point (toward v.point u)) 3 (tied-ray s 3 v.point u (toward v.point u) (dir-self (toward v.point u) (way-some u o)) even) (three-u u o)
       where
         even : IsEvenAfter s 3 v.point u
         even r (inl c) = way-three u o r c
@@ -513,7 +513,7 @@ module _ (s : Set) (C : Complex) (S : Shows s C) (upright : IsUpright C) (linked
         let f = slope-toward N y r0 in
         let g = through-at p v.point y ∙ z in
         let c = through-at p v.point r0 in
-        let i = way-signs (opposite up) (toward y r0) (normal_of N) down-some (SameDirection-turned (toward y r0) (opposite up) to-r0) in
+        let i = dir-signs (opposite up) (toward y r0) (normal_of N) down-some (SameDirection-turned (toward y r0) (opposite up) to-r0) in
         let j = through-slope p v.point (opposite up) in
         plain (slope N (toward y r0)) (form_at N r0) (form_at N y) (dot p (toward v.point r0)) (slope N (opposite up)) (dot p (opposite up)) f g c i j
       where
@@ -536,10 +536,10 @@ module _ (s : Set) (C : Complex) (S : Shows s C) (upright : IsUpright C) (linked
     first-link =
         let U = touch-a.1 in
         let q = subst (λ (g : Vector). Seer e.low v touch-a.0 g) (no-way U.steps a') U.seer in
-        let way = SameDirection-trans W.low.way D (toward v.point y) (SameDirection-turned D W.low.way W.onward) (SameDirection-turned (toward v.point y) D (between-way v.point y w.point b)) in
-        same-seers s C S e.low v H.low x touch-a.0 (blend T.steps W.low.way 1 (opposite up)) a' T.seer q
-        (subst (λ (g : Vector). SameSigns (forms v.map) (blend T.steps W.low.way 1 (opposite up)) g) (sym (mixed-toward v.point (bound s v (toward v.point r0) + 1) y 1 r0 K-some))
-        (ways-toward (forms v.map) W.low.way (toward v.point y) (opposite up) (toward v.point r0) T.steps (bound s v (toward v.point r0) + 1) way alike (let l = T.large in omega arith) (omega arith)))
+        let way = SameDirection-trans W.low.dir D (toward v.point y) (SameDirection-turned D W.low.dir W.onward) (SameDirection-turned (toward v.point y) D (between-way v.point y w.point b)) in
+        same-seers s C S e.low v H.low x touch-a.0 (blend T.steps W.low.dir 1 (opposite up)) a' T.seer q
+        (subst (λ (g : Vector). SameSigns (forms v.map) (blend T.steps W.low.dir 1 (opposite up)) g) (sym (mixed-toward v.point (bound s v (toward v.point r0) + 1) y 1 r0 K-some))
+        (ways-toward (forms v.map) W.low.dir (toward v.point y) (opposite up) (toward v.point r0) T.steps (bound s v (toward v.point r0) + 1) way alike (let l = T.large in omega arith) (omega arith)))
 
     wedge-v : Wedge s 3 v.point a' (toward v.point r0)
     wedge-v i j si sj =

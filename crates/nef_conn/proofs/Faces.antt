@@ -9,7 +9,7 @@ use Rattle.law_forms.proofs.Directions.{dot-zero}
 use Rattle.law_sphere.proofs.Vectors.{same-plus, same-minus}
 use Rattle.law_sphere.proofs.Parallel.{parallel-in_plane}
 use Rattle.law_sphere.proofs.Around.{Beside, same_way, other_way, beside, opposites, triple-turned}
-use Rattle.law_sphere.proofs.Compare.{way-self}
+use Rattle.law_sphere.proofs.Compare.{dir-self}
 use Rattle.law_sphere.proofs.Turn.{turn-same}
 use Rattle.law_links.proofs.EdgeEnds.{opposite-way, right-turn}
 use Rattle.nef_conn.proofs.Onward.{back-triple}
@@ -36,10 +36,10 @@ module _ (n s t d : Vector) (hn : IsDirection n) (hs : IsDirection s) (ht : IsDi
 
   -- behind the source the turn to the target is the other one
   turn-behind_source : IsOpposite s d → sign (triple n d t) ≡ sign (neg_ℤ (triple n s t))
-  turn-behind_source o = turn-same n n (opposite s) d t t (way-self n hn) (opposite-way s d o) (way-self t ht) ∙ ap sign (back-triple n s t)
+  turn-behind_source o = turn-same n n (opposite s) d t t (dir-self n hn) (opposite-way s d o) (dir-self t ht) ∙ ap sign (back-triple n s t)
 
   turn-behind_target : IsOpposite t d → sign (triple n s d) ≡ sign (neg_ℤ (triple n s t))
-  turn-behind_target o = turn-same n n s s (opposite t) d (way-self n hn) (way-self s hs) (opposite-way t d o) ∙ ap sign (right-turn n s t)
+  turn-behind_target o = turn-same n n s s (opposite t) d (dir-self n hn) (dir-self s hs) (opposite-way t d o) ∙ ap sign (right-turn n s t)
 
   module _ (off : IsStrictlyOn n s t d → ⊥) where
     abbrev Away : Type 0

@@ -20,7 +20,7 @@ use Rattle.law_sphere.specs.Maps.{At}
 use Rattle.law_sphere.proofs.Vectors.{triple-middle, same-plus, same-minus}
 use Rattle.law_sphere.proofs.Around.{triple-turned, Beside, same_way, other_way, beside}
 use Rattle.law_sphere.proofs.Parallel.{parallel-in_plane}
-use Rattle.law_sphere.proofs.Compare.{SameDirection-turned, SameDirection-trans, way-self}
+use Rattle.law_sphere.proofs.Compare.{SameDirection-turned, SameDirection-trans, dir-self}
 use Rattle.law_sphere.proofs.Turn.{turn-last, turn-same}
 use Rattle.law_sphere.proofs.Turning.{turns}
 use Rattle.law_complex.specs.Complexes.{Vertex, Complex}
@@ -233,7 +233,7 @@ module _ (s : Set) (C : Complex) (S : Shows s C) (h g : Form) (d : Vector) (y z 
   angle-over a x e w =
       let t = turn-back a e in
       let r = triple-turned m d (toward z a) in
-      let u = turn-same m m d (toward z x) (toward z a) (toward z a) (way-self m m-some) (SameDirection-turned (toward z x) d w) (way-self (toward z a) (λ n. let q = dot-zero k (toward z a) n in let i = turn-k (toward z a) in omega (arith, ints))) in
+      let u = turn-same m m d (toward z x) (toward z a) (toward z a) (dir-self m m-some) (SameDirection-turned (toward z x) d w) (dir-self (toward z a) (λ n. let q = dot-zero k (toward z a) n in let i = turn-k (toward z a) in omega (arith, ints))) in
       angle-inside m x a z (angle-inside m z x a (same-plus (triple m d (toward z a)) (angle m z x a) u (omega (arith, ints))))
 
   pub angle-under : (a x : Place) → form_at Near_line a ≡ pos 0 → SameDirection (toward z x) (opposite d) → angle m a z x <ℤ pos 0

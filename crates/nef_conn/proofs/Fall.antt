@@ -132,7 +132,7 @@ module _ (t : Set) (h : Form) (hn : IsDirection (normal_of h)) (level : slope h 
     pub place : Place
     pub on : form_at h place ≡ pos 0
     pub line : lam n b place ≡ pos 0
-    pub way : SameDirection (toward y place) g
+    pub dir : SameDirection (toward y place) g
     pub before : (r : Place) → IsBetween y r place → FlatDim t r 1
     pub here : FlatDim t place 1
 
@@ -145,7 +145,7 @@ module _ (t : Set) (h : Form) (hn : IsDirection (normal_of h)) (level : slope h 
           place = k.place;
           on = plane-between h y k.place c k.between on-y on;
           line = sym (lam-at n b k.place) ∙ k.level;
-          way = between-way y k.place c k.between;
+          dir = between-way y k.place c k.between;
           before = λ r d. all r (between-inner y k.place c r k.between d);
           here = all k.place k.between;
         }
@@ -214,7 +214,7 @@ module _ (t : Set) (h : Form) (hn : IsDirection (normal_of h)) (level : slope h 
             place = R.place;
             on = R.on;
             line = R.line;
-            way = SameDirection-trans (toward y R.place) (toward y c) (toward y q) R.way (SameDirection-turned (toward y q) (toward y c) to-c);
+            dir = SameDirection-trans (toward y R.place) (toward y c) (toward y q) R.dir (SameDirection-turned (toward y q) (toward y c) to-c);
             before = R.before;
             here = R.here;
           }

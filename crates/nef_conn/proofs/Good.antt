@@ -53,9 +53,9 @@ use Rattle.law_forms.proofs.Directions.{dot-zero, direction-left, direction-righ
 use Rattle.law_forms.proofs.Far.{nought-or}
 use Rattle.law_forms.proofs.Near.{slope-toward}
 use Rattle.law_sphere.specs.Forms.{gather}
-use Rattle.law_sphere.specs.Maps.{At, Svertex}
-use Rattle.law_sphere.proofs.Compare.{SameDirection-turned, SameDirection-trans, way-self}
-use Rattle.law_sphere.proofs.Labels.{way-signs}
+use Rattle.law_sphere.specs.Maps.{At, MapVertex}
+use Rattle.law_sphere.proofs.Compare.{SameDirection-turned, SameDirection-trans, dir-self}
+use Rattle.law_sphere.proofs.Labels.{dir-signs}
 use Rattle.law_sphere.proofs.Lists.{gather-has}
 use Rattle.law_sphere.proofs.Vectors.{same-plus, same-minus}
 use Rattle.law_complex.specs.Complexes.{Vertex, Edge, Complex, HasEnds}
@@ -86,7 +86,7 @@ use Rattle.law_near.proofs.NearGerms.{steep}
 use Rattle.law_sphere.specs.Forms.{forms}
 use Rattle.law_sphere.proofs.Generic.{amount}
 use Rattle.law_sphere.proofs.Lists.{at-one}
-use Rattle.law_sphere.proofs.Shot.{way-at}
+use Rattle.law_sphere.proofs.Shot.{dir-at}
 use Rattle.law_complex.proofs.Edges.{near_point, near-between, edge-points}
 use Rattle.law_complex.proofs.FacetWays.{dim-same}
 use Rattle.law_links.specs.Components.{IsEvenAfter}
@@ -129,7 +129,7 @@ down-some z = let e = z.2 in omega (arith, ints)
 module _ (y r : Place) (down : SameDirection (toward y r) (opposite up)) where
   module _ (f : Form) where
     same : sign (slope f (toward y r)) ≡ sign (slope f (opposite up))
-    same = way-signs (opposite up) (toward y r) (normal_of f) down-some (SameDirection-turned (toward y r) (opposite up) down)
+    same = dir-signs (opposite up) (toward y r) (normal_of f) down-some (SameDirection-turned (toward y r) (opposite up) down)
 
     -- from the values at both
     falls-plain : (a b m : ℤ) → m ≡ pos y.w *ℤ b -ℤ pos r.w *ℤ a → m <ℤ pos 0 → pos 0 ≤ℤ b → pos 0 <ℤ a
@@ -173,19 +173,19 @@ along-down d z = (each d.y d.z up.y up.z z.0, each d.z d.x up.z up.x z.1, each d
 
 -- ---- along an edge
 module _ (s : Set) (C : Complex) (S : Shows s C) (k : ℕ) (e : Edge) (v w : Vertex) (a : At C.edges k e) (H : HasEnds C e v w) where
-  edge-some : IsDirection (edge-ways s C S k e v w a H).low.way
-  edge-some = let W = edge-ways s C S k e v w a H in direction-right (toward v.point w.point) W.low.way W.onward
+  edge-some : IsDirection (edge-ways s C S k e v w a H).low.dir
+  edge-some = let W = edge-ways s C S k e v w a H in direction-right (toward v.point w.point) W.low.dir W.onward
 
-  edge-flat : (y : Place) → IsBetween v.point y w.point → Flat s y (edge-ways s C S k e v w a H).low.way
+  edge-flat : (y : Place) → IsBetween v.point y w.point → Flat s y (edge-ways s C S k e v w a H).low.dir
   edge-flat y b =
       let W = edge-ways s C S k e v w a H in
       let E = edge-points s C k e v w y S a H b in
-      (E.1 W.low.way).1 (subst (λ (r : Vector). IsZero (cross r W.low.way)) (sym (way-at v.map.svertices e.low_svertex W.low W.is_low)) (let o = way-self W.low.way edge-some in o.parallel))
+      (E.1 W.low.dir).1 (subst (λ (r : Vector). IsZero (cross r W.low.dir)) (sym (dir-at v.map.svertices e.low_svertex W.low W.is_low)) (let o = dir-self W.low.dir edge-some in o.parallel))
 
   -- toward a direction along it the set is no flatter
-  edge-not_up : (y : Place) → IsBetween v.point y w.point → (d : Vector) → IsZero (cross (edge-ways s C S k e v w a H).low.way d) → FlatDim s (ahead s y d) 3 → ⊥
+  edge-not_up : (y : Place) → IsBetween v.point y w.point → (d : Vector) → IsZero (cross (edge-ways s C S k e v w a H).low.dir d) → FlatDim s (ahead s y d) 3 → ⊥
   edge-not_up y b d z f =
-      let g = span-1 s y (edge-ways s C S k e v w a H).low.way d edge-some (edge-flat y b) z in
+      let g = span-1 s y (edge-ways s C S k e v w a H).low.dir d edge-some (edge-flat y b) z in
       let one = (edge-points s C k e v w y S a H b).0 in
       let o = FlatDim-by_germs s s y (ahead s y d) (λ p l. let i = near-of_flat s y d (FlatCone-from_flat s y d g) p l in let h = near-ahead s y d p l in (λ m. h.1 (i.0 m), λ m. i.1 (h.0 m))) 1 one in
       let j = FlatDim-one s (ahead s y d) 1 3 o f in
@@ -237,7 +237,7 @@ module _ (s : Set) (C : Complex) (S : Shows s C) (upright : IsUpright C) (linked
             (every (carriers s) (λ g. sign_at g r ≡ nought → slope g up ≡ pos 0) (λ g. decided-to (is_nought (sign_at g r)) (nought-or (slope g up))))
 
     -- what falls from an edge
-    module _ (k : ℕ) (e : Edge) (v w : Vertex) (a : At C.edges k e) (H : HasEnds C e v w) (b : IsBetween v.point y w.point) (aside : IsDirection (cross (edge-ways s C S k e v w a H).low.way up)) where
+    module _ (k : ℕ) (e : Edge) (v w : Vertex) (a : At C.edges k e) (H : HasEnds C e v w) (b : IsBetween v.point y w.point) (aside : IsDirection (cross (edge-ways s C S k e v w a H).low.dir up)) where
       abbrev hA : Form
       hA = plane_of v.point w.point
 
@@ -303,8 +303,8 @@ module _ (s : Set) (C : Complex) (S : Shows s C) (upright : IsUpright C) (linked
         free-down : FlatDim s (ahead s y (opposite up)) 3
         free-down = tied-dim s (near_point s y R.place) (ahead s y (opposite up)) 3 (tied-ray s 3 y (near_point s y R.place) (opposite up) to-half even) (free (near_point s y R.place) half).0
 
-        aside : IsDirection (cross (edge-ways s C S k e v w a H).low.way up)
-        aside z = edge-not_up s C S k e v w a H y b (opposite up) (along-down (edge-ways s C S k e v w a H).low.way z) free-down
+        aside : IsDirection (cross (edge-ways s C S k e v w a H).low.dir up)
+        aside z = edge-not_up s C S k e v w a H y b (opposite up) (along-down (edge-ways s C S k e v w a H).low.dir z) free-down
 
     -- ---- where down isn't free an edge runs down
     module _ (h : Form) (hn : IsDirection (normal_of h)) (level : slope h up ≡ pos 0) (on : form_at h y ≡ pos 0) (corner : FlatDim (sliced s h) y 0) where
@@ -322,7 +322,7 @@ module _ (s : Set) (C : Complex) (S : Shows s C) (upright : IsUpright C) (linked
           (λ q. inr (λ b x z on-b side clear first-free three inside B R w3 w2. by q.0 q.1 q.2 q.3 b x z on-b side clear first-free three inside B R w3 w2))
           (vertex-down s C S upright linked i v a)
         where
-          by : (k : ℕ) (u : Svertex) → At v.map.svertices k u → SameDirection u.way (opposite up) → Aside
+          by : (k : ℕ) (u : MapVertex) → At v.map.svertices k u → SameDirection u.dir (opposite up) → Aside
           by k u hu runs b x z on-b side clear first-free three inside (inl (i', v', a', e', T)) R w3 w2 =
               let p = one-vertex s C S i i' v v' a a' (place-trans v.point y v'.point e (same-place_sym v'.point y e')) in
               let a1 = subst (λ (q : ℕ). At C.vertices q v') (sym p) a' in
@@ -340,12 +340,12 @@ module _ (s : Set) (C : Complex) (S : Shows s C) (upright : IsUpright C) (linked
           let W = edge-ways s C S k e v w a H in
           let K = amount (forms v.map) (opposite up) + steep (carriers s) (opposite up) in
           let F = edge-frame s C S k e v w y a H b in
-          tied-dim s (ahead s v.point (blend K W.low.way 1 (opposite up))) (ahead s y (opposite up)) 3 (tied-turned s (ahead s y (opposite up)) (ahead s v.point (blend K W.low.way 1 (opposite up))) (F.tied (opposite up) K (omega arith)))
-          (free-dim v.map s v.point (S.cones e.low v H.low) (blend K W.low.way 1 (opposite up)) (svertex-down s C S upright linked e.low v H.low e.low_svertex W.low W.is_low aside K (omega arith)))
+          tied-dim s (ahead s v.point (blend K W.low.dir 1 (opposite up))) (ahead s y (opposite up)) 3 (tied-turned s (ahead s y (opposite up)) (ahead s v.point (blend K W.low.dir 1 (opposite up))) (F.tied (opposite up) K (omega arith)))
+          (free-dim v.map s v.point (S.cones e.low v H.low) (blend K W.low.dir 1 (opposite up)) (svertex-down s C S upright linked e.low v H.low e.low_svertex W.low W.is_low aside K (omega arith)))
           )
         where
-          aside : IsDirection (cross (edge-ways s C S k e v w a H).low.way up)
-          aside z = not-flat s C S upright linked h hn level y up on level up-some corner (span-1 s y (edge-ways s C S k e v w a H).low.way up (edge-some s C S k e v w a H) (edge-flat s C S k e v w a H y b) z)
+          aside : IsDirection (cross (edge-ways s C S k e v w a H).low.dir up)
+          aside z = not-flat s C S upright linked h hn level y up on level up-some corner (span-1 s y (edge-ways s C S k e v w a H).low.dir up (edge-some s C S k e v w a H) (edge-flat s C S k e v w a H y b) z)
 
     pub good-step : Good y
     good-step h hn level on f b x z on-b side clear first-free three inside B R =

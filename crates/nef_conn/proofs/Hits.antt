@@ -8,10 +8,10 @@ use Rattle.nef_space.specs.Vectors.{Vector, blend, up, plane_axis}
 use Rattle.nef_space.specs.declared.label.Label.{Label}
 use Rattle.law_near.proofs.Decisions.{ahead}
 use Rattle.law_near.proofs.Even.{joined-turned, joined-both}
-use Rattle.law_sphere.specs.Maps.{At, Item, item_normal, item_above, above_item, OnItem, Side, HasSide, Sees}
+use Rattle.law_sphere.specs.Maps.{At, Item, item_normal, item_pos, pos_item, OnItem, Side, HasSide, Sees}
 use Rattle.law_sphere.proofs.Forms.{on-level}
 use Rattle.law_sphere.proofs.Lists.{at-one}
-use Rattle.law_sphere.proofs.Shot.{way-at}
+use Rattle.law_sphere.proofs.Shot.{dir-at}
 use Rattle.law_sphere.proofs.Vectors.{normal-is}
 use Rattle.law_complex.specs.Complexes.{Vertex, Edge, Complex, Corner, HasEnds, IsCorner}
 use Rattle.law_complex.specs.Shows.{Shows}
@@ -21,7 +21,7 @@ use Rattle.law_complex.specs.Laws.{IsFlatIn}
 use Rattle.law_complex.proofs.FacetAngles.{through-at}
 use Rattle.law_complex.proofs.FacetNames.{through-level, axis-in}
 use Rattle.law_complex.proofs.FacetPoints.{facet-point}
-use Rattle.law_links.specs.Links.{FacetLink, VolumeLink, above_arcs}
+use Rattle.law_links.specs.Links.{FacetLink, VolumeLink, pos_arcs}
 use Rattle.law_links.proofs.Across.{across, across-tied}
 use Rattle.law_links.proofs.EdgeEnds.{edge-ways, AreTiedItems, corner_of, along-tied}
 use Rattle.law_links.proofs.ItemPoints.{at-item}
@@ -32,7 +32,7 @@ use Rattle.nef_conn.proofs.Touch.{bound, Touch, vertex-frame, edge-frame, no-way
 
 -- ---- the upper sides of linked items are linked
 abbrev pub above : Corner → VertexSide
-above k = record { vertex = k.vertex; side = above_item k.item }
+above k = record { vertex = k.vertex; side = pos_item k.item }
 
 -- a side by its vertex and what it is a side of
 pub side-is : (x : VertexSide) (i : ℕ) (o : Side) → x.vertex ≡ i → x.side ≡ o → (P : VertexSide → Type 0) → P (record { vertex = i; side = o }) → P x
@@ -46,7 +46,7 @@ module _ (s : Set) (C : Complex) (S : Shows s C) where
       (subst (λ (b : ℕ). AreTiedItems s C (corner_of L.edge.low j.item) (corner_of b k.item)) (sym L.to_high) (along-tied s C S L.number L.edge L.is_edge j.item k.item L.along))
   facet-tied j k (inr L) = across-tied s C S j k L
 
-  above-label : (k : Corner) (v : Vertex) (x : Item) → IsCorner C k v x → HasSideLabel C (above k) (item_above x)
+  above-label : (k : Corner) (v : Vertex) (x : Item) → IsCorner C k v x → HasSideLabel C (above k) (item_pos x)
   above-label k v x c = (v, c.vertex, (x, c.item, refl))
 
   facet-volume : (j k : Corner) → FacetLink C j k → VolumeLink C (above j) (above k)
@@ -57,19 +57,19 @@ module _ (s : Set) (C : Complex) (S : Shows s C) where
         number = L.number;
         edge = L.edge;
         is_edge = L.is_edge;
-        low_side = above_item j.item;
-        high_side = above_item k.item;
-        is_low = (item_above T.item, L.from_low, refl, above-label j T.vertex T.item T.corner);
-        is_high = (item_above T.other_item, L.to_high, refl, above-label k T.other_vertex T.other_item T.other_corner);
-        along = above_arcs j.item k.item L.along refl refl;
+        low_side = pos_item j.item;
+        high_side = pos_item k.item;
+        is_low = (item_pos T.item, L.from_low, refl, above-label j T.vertex T.item T.corner);
+        is_high = (item_pos T.other_item, L.to_high, refl, above-label k T.other_vertex T.other_item T.other_corner);
+        along = pos_arcs j.item k.item L.along refl refl;
       }))
       by T (inr L) = inr (inr (inl (record {
         here = j;
         there = k;
         across = L;
         sides = inl (
-          (item_above T.item, refl, refl, above-label j T.vertex T.item T.corner),
-          (item_above T.other_item, refl, refl, above-label k T.other_vertex T.other_item T.other_corner),
+          (item_pos T.item, refl, refl, above-label j T.vertex T.item T.corner),
+          (item_pos T.other_item, refl, refl, above-label k T.other_vertex T.other_item T.other_corner),
         );
       })))
 
@@ -93,7 +93,7 @@ module _ (s : Set) (C : Complex) (S : Shows s C) where
 
   -- it is the upper side of an item to a point of which z is tied
   abbrev pub OverFacet : Place → VertexSide → Type 0
-  OverFacet z x = (k : Corner) × (v : Vertex) × (y : Item) × IsCorner C k v y × ((d : Vector) × OnItem v.map y d × IsTied s z (ahead s v.point d)) × (x.vertex ≡ k.vertex) × (x.side ≡ above_item k.item)
+  OverFacet z x = (k : Corner) × (v : Vertex) × (y : Item) × IsCorner C k v y × ((d : Vector) × OnItem v.map y d × IsTied s z (ahead s v.point d)) × (x.vertex ≡ k.vertex) × (x.side ≡ pos_item k.item)
 
   abbrev pub Over : Place → VertexSide → Type 0
   Over z x = OverVertex z x ⊎ OverEdge z x ⊎ OverFacet z x
@@ -140,7 +140,7 @@ module _ (s : Set) (C : Complex) (S : Shows s C) where
             here = f;
             label = l;
             has = seer-at x l v e.low has c f;
-            sees = subst (λ (r : Vector). Sees v.map x.side (blend n r 1 up)) (way-at v.map.svertices e.low_svertex W.low W.is_low) (sight.1 n (omega arith));
+            sees = subst (λ (r : Vector). Sees v.map x.side (blend n r 1 up)) (dir-at v.map.svertices e.low_svertex W.low W.is_low) (sight.1 n (omega arith));
           };
         },
       ))
@@ -152,7 +152,7 @@ module _ (s : Set) (C : Complex) (S : Shows s C) where
       let flat : IsFlatIn s (item_plane H.vertex H.item) z = (G.dim, λ d. let a = through-level n d p in let b = G.flat d in (λ g. a.0 (b.0 g), λ o. b.1 (a.1 o))) in
       let on : form_at (item_plane H.vertex H.item) z ≡ pos 0 = through-at n p z ∙ on-level H.vertex.map H.item (toward p z) H.facet_point.on_item in
       let A = across s C S (item_plane H.vertex H.item) z on flat (plane_axis n) ((through-level n (plane_axis n) p).0 (axis-in n some).1) k H.named in
-      inr (inr (k, A.vertex, A.item, A.corner, (A.way, A.on, A.tied), f, e))
+      inr (inr (k, A.vertex, A.item, A.corner, (A.dir, A.on, A.tied), f, e))
 
   pub ray-over : (p : Place) (x : VertexSide) (R : RayDown C p x) → Over R.place x
   ray-over p x R = over-of R.spot R.place x R.label R.is_spot R.above R.has
@@ -169,4 +169,4 @@ module _ (s : Set) (C : Complex) (S : Shows s C) where
 
     pub over-item : (z : Place) (x : VertexSide) (j : Corner) → OverFacet z x → ItemAt z j → Chained (VolumeLink C) x (above j)
     over-item z x j (k, v, y, c, (d, o, t), f, e) J =
-        side-is x k.vertex (above_item k.item) f e (λ (r : VertexSide). Chained (VolumeLink C) r (above j)) (items-above z k j (v, y, c, (d, o, t.0)) J)
+        side-is x k.vertex (pos_item k.item) f e (λ (r : VertexSide). Chained (VolumeLink C) r (above j)) (items-above z k j (v, y, c, (d, o, t.0)) J)

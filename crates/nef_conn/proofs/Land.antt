@@ -25,7 +25,7 @@ use Rattle.law_forms.proofs.Near.{reach_all}
 use Rattle.law_forms.proofs.Between.{toward-place, place-toward}
 use Rattle.law_forms.proofs.Directions.{dot-zero, direction-left}
 use Rattle.law_sphere.proofs.Around.{Beside, same_way, other_way, beside, triple-turned}
-use Rattle.law_sphere.proofs.Compare.{SameDirection-turned, SameDirection-trans, way-self}
+use Rattle.law_sphere.proofs.Compare.{SameDirection-turned, SameDirection-trans, dir-self}
 use Rattle.law_sphere.proofs.Parallel.{parallel-in_plane}
 use Rattle.law_sphere.proofs.Turn.{turn-last}
 use Rattle.law_sphere.proofs.Vectors.{same-plus, same-minus}
@@ -97,7 +97,7 @@ module _ (t : Set) (h : Form) (hn : IsDirection (normal_of h)) (level : slope h 
     -- ---- where what falls from b lands
     pub record Landing (g : Vector) : Type 0 where
       pub place : Place
-      pub way : SameDirection (toward y' place) g
+      pub dir : SameDirection (toward y' place) g
       pub on : form_at h place ≡ pos 0
       pub below : SameDirection (toward b place) (opposite up)
       pub free : (r : Place) → IsBetween b r place → FlatDim t r 2
@@ -115,7 +115,7 @@ module _ (t : Set) (h : Form) (hn : IsDirection (normal_of h)) (level : slope h 
           angle-inside n R.place y' b (angle-inside n b R.place y' (omega (arith, ints)))
 
       some-R : IsDirection (toward y' R.place)
-      some-R = direction-left (toward y' R.place) g R.way
+      some-R = direction-left (toward y' R.place) g R.dir
 
       off-y' : (x : Place) → IsBetween b x R.place → SamePlace y' x → ⊥
       off-y' x m e =
@@ -130,7 +130,7 @@ module _ (t : Set) (h : Form) (hn : IsDirection (normal_of h)) (level : slope h 
       landing-by : ((x : Place) → IsBetween b x R.place → ((r : Place) → IsBetween x r y' → FlatDim t r 1) → ⊥) → Landing g
       landing-by corner = record {
         place = R.place;
-        way = R.way;
+        dir = R.dir;
         on = R.on;
         below = under;
         free = along-end t h hn level y' b R.place on-y' on-b R.on under side' clear' (λ r m. to-b r (between-turned y' b r m)) (inr R.before) F corner;
@@ -320,7 +320,7 @@ module _ (t : Set) (h : Form) (hn : IsDirection (normal_of h)) (level : slope h 
 
         over-b : angle n r0 b K.1.place <ℤ pos 0 → ⊥
         over-b l =
-            let k = cut-at (turn_form n r0 b) y' K.1.place (direction-left (toward y' K.1.place) K.0 K.1.way) (let e = turn-at n r0 b y' in let m = at-start in omega (arith, ints)) (let e = turn-at n r0 b K.1.place in omega (arith, ints)) in
+            let k = cut-at (turn_form n r0 b) y' K.1.place (direction-left (toward y' K.1.place) K.0 K.1.dir) (let e = turn-at n r0 b y' in let m = at-start in omega (arith, ints)) (let e = turn-at n r0 b K.1.place in omega (arith, ints)) in
             clash k.place (K.1.before k.place k.between) (to-r0-free k.place (between-turned r0 b k.place (on-way k.place k.between (sym (turn-at n r0 b k.place) ∙ k.level))))
           where
             on-way : (x : Place) → IsBetween y' x K.1.place → angle n r0 b x ≡ pos 0 → IsBetween r0 x b
@@ -454,7 +454,7 @@ module _ (t : Set) (h : Form) (hn : IsDirection (normal_of h)) (level : slope h 
         R = run-near t h hn level y b on-y on-b side clear (ahead t y (toward y D.at_place)) on-q' close one aside-q'
 
         way-R : SameDirection (toward y R.place) (toward y D.at_place)
-        way-R = SameDirection-trans (toward y R.place) (toward y (ahead t y (toward y D.at_place))) (toward y D.at_place) R.way to-q'
+        way-R = SameDirection-trans (toward y R.place) (toward y (ahead t y (toward y D.at_place))) (toward y D.at_place) R.dir to-q'
 
         -- it lies to the left of the way to b
         turn-q : pos 0 <ℤ angle n y b D.at_place
@@ -481,12 +481,12 @@ module _ (t : Set) (h : Form) (hn : IsDirection (normal_of h)) (level : slope h 
             (wedge-of t 2 y near-b D.at_place off-near (off-between t y near-b D.at_place near-down off-near off-down D.between) (between-start near-b D.at_place near-down D.between) D.even_before)
 
         wedge-R : Wedge t 2 y (toward y b) (toward y R.place)
-        wedge-R = wedge-way t 2 y (toward y b) (toward y b) (toward y D.at_place) (toward y R.place) (way-self (toward y b) to-b-some) (SameDirection-turned (toward y R.place) (toward y D.at_place) way-R)
+        wedge-R = wedge-way t 2 y (toward y b) (toward y b) (toward y D.at_place) (toward y R.place) (dir-self (toward y b) to-b-some) (SameDirection-turned (toward y R.place) (toward y D.at_place) way-R)
             (λ i j si sj. blend-rises (cross n up) (toward y b) (toward y R.place) i j si (subst (λ (v : ℤ). pos 0 <ℤ v) (triple-dot n up (toward y b)) side)
             (let e = triple-dot n up (toward y R.place) in let l = slope-to n y b R.place side R.line in omega (arith, ints))) wedge-q
 
         turned-run : Run t h hn level y b (toward y D.at_place)
-        turned-run = record { place = R.place; on = R.on; line = R.line; way = way-R; before = R.before; here = R.here }
+        turned-run = record { place = R.place; on = R.on; line = R.line; dir = way-R; before = R.before; here = R.here }
 
         land : Landing y b on-y on-b side clear (λ r m. first r (between-turned b y r m)) F (toward y D.at_place)
         land = land-vertex y b on-y on-b side clear (λ r m. first r (between-turned b y r m)) F (toward y D.at_place) turned-run under wedge-R

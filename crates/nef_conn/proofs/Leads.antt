@@ -5,7 +5,7 @@ use Rattle.nef_space.specs.Place.{Place, Form, form_at, toward, IsBetween}
 use Rattle.nef_space.specs.Sets.{Set}
 use Rattle.nef_space.specs.Vectors.{Vector, opposite, SameDirection}
 use Rattle.law_near.proofs.Between.{between-turned}
-use Rattle.law_sphere.specs.Maps.{At, Svertex, Arc, arc_item, way_of}
+use Rattle.law_sphere.specs.Maps.{At, MapVertex, Arc, arc_item, dir_of}
 use Rattle.law_sphere.proofs.Lists.{at-one}
 use Rattle.law_sphere.proofs.Shot.{arc-at}
 use Rattle.law_sphere.proofs.Compare.{SameDirection-turned, SameDirection-trans}
@@ -22,23 +22,23 @@ use Rattle.nef_conn.proofs.WayInward.{opposite-same}
 use Rattle.nef_conn.proofs.Named.{twice}
 
 -- an edge leads from svertex a of vertex i, which is v, whose svertex u is, to the svertex there_end of the vertex there, which is other
-pub record Leads (s : Set) (C : Complex) (i a : ℕ) (v : Vertex) (u : Svertex) : Type 0 where
+pub record Leads (s : Set) (C : Complex) (i a : ℕ) (v : Vertex) (u : MapVertex) : Type 0 where
   pub number : ℕ
   pub edge : Edge
   pub listed : At C.edges number edge
   pub there : ℕ
   pub there_end : ℕ
   pub other : Vertex
-  pub end : Svertex
+  pub end : MapVertex
   pub is_there : At C.vertices there other
   pub is_end : At other.map.svertices there_end end
-  pub onward : SameDirection (toward v.point other.point) u.way
-  pub back : SameDirection (opposite u.way) end.way
+  pub onward : SameDirection (toward v.point other.point) u.dir
+  pub back : SameDirection (opposite u.dir) end.dir
   pub along : (r : Place) → IsBetween v.point r other.point → FlatDim s r 1 × Flat s r (toward v.point other.point)
   pub which : ((edge.low ≡ i) × (edge.low_svertex ≡ a) × (edge.high ≡ there) × (edge.high_svertex ≡ there_end) × HasEnds C edge v other)
       ⊎ ((edge.high ≡ i) × (edge.high_svertex ≡ a) × (edge.low ≡ there) × (edge.low_svertex ≡ there_end) × HasEnds C edge other v)
 
-module _ (s : Set) (C : Complex) (S : Shows s C) (i a : ℕ) (v : Vertex) (u : Svertex) (at-i : At C.vertices i v) (at-a : At v.map.svertices a u) where
+module _ (s : Set) (C : Complex) (S : Shows s C) (i a : ℕ) (v : Vertex) (u : MapVertex) (at-i : At C.vertices i v) (at-a : At v.map.svertices a u) where
   from-low : (n : ℕ) (e : Edge) → At C.edges n e → e.low ≡ i → e.low_svertex ≡ a → Leads s C i a v u
   from-low n e at-n low sv =
       let E = S.edges.edges n e at-n in
@@ -56,8 +56,8 @@ module _ (s : Set) (C : Complex) (S : Shows s C) (i a : ℕ) (v : Vertex) (u : S
         end = W.high;
         is_there = E.is_high;
         is_end = W.is_high;
-        onward = subst (λ (t : Svertex). SameDirection (toward v.point w.point) t.way) one W.onward;
-        back = subst (λ (t : Svertex). SameDirection (opposite t.way) W.high.way) one (opposite-way W.low.way W.high.way W.back);
+        onward = subst (λ (t : MapVertex). SameDirection (toward v.point w.point) t.dir) one W.onward;
+        back = subst (λ (t : MapVertex). SameDirection (opposite t.dir) W.high.dir) one (opposite-way W.low.dir W.high.dir W.back);
         along = λ r b. let P = edge-points s C n e v w r S at-n H b in (P.0, (P.1 (toward v.point w.point)).1 (edge-way s C n e v w S at-n H));
         which = inl (low, sv, refl, refl, H);
       }
@@ -69,7 +69,7 @@ module _ (s : Set) (C : Complex) (S : Shows s C) (i a : ℕ) (v : Vertex) (u : S
       let H : HasEnds C e w v = record { low = E.is_low; high = subst (λ (j : ℕ). At C.vertices j v) (sym high) at-i } in
       let W = edge-ways s C S n e w v at-n H in
       let one = at-one v.map.svertices a W.high u (subst (λ (j : ℕ). At v.map.svertices j W.high) sv W.is_high) at-a in
-      let away = opposite-way W.low.way W.high.way W.back in
+      let away = opposite-way W.low.dir W.high.dir W.back in
       record {
         number = n;
         edge = e;
@@ -80,10 +80,10 @@ module _ (s : Set) (C : Complex) (S : Shows s C) (i a : ℕ) (v : Vertex) (u : S
         end = W.low;
         is_there = E.is_low;
         is_end = W.is_low;
-        onward = subst (λ (t : Svertex). SameDirection (toward v.point w.point) t.way) one (SameDirection-trans (toward v.point w.point) (opposite W.low.way) W.high.way (ahead-back w.point v.point W.low.way W.onward) away);
-        back = subst (λ (t : Svertex). SameDirection (opposite t.way) W.low.way) one
-            (subst (λ (d : Vector). SameDirection (opposite W.high.way) d) (twice W.low.way) (opposite-same W.high.way (opposite W.low.way) (SameDirection-turned (opposite W.low.way) W.high.way away)));
-        along = λ r b. let P = edge-points s C n e w v r S at-n H (between-turned v.point w.point r b) in (P.0, (P.1 (toward v.point w.point)).1 (cross-back (way_of w.map.svertices e.low_svertex) w.point v.point (edge-way s C n e w v S at-n H)));
+        onward = subst (λ (t : MapVertex). SameDirection (toward v.point w.point) t.dir) one (SameDirection-trans (toward v.point w.point) (opposite W.low.dir) W.high.dir (ahead-back w.point v.point W.low.dir W.onward) away);
+        back = subst (λ (t : MapVertex). SameDirection (opposite t.dir) W.low.dir) one
+            (subst (λ (d : Vector). SameDirection (opposite W.high.dir) d) (twice W.low.dir) (opposite-same W.high.dir (opposite W.low.dir) (SameDirection-turned (opposite W.low.dir) W.high.dir away)));
+        along = λ r b. let P = edge-points s C n e w v r S at-n H (between-turned v.point w.point r b) in (P.0, (P.1 (toward v.point w.point)).1 (cross-back (dir_of w.map.svertices e.low_svertex) w.point v.point (edge-way s C n e w v S at-n H)));
         which = inr (high, sv, refl, refl, H);
       }
 
@@ -95,7 +95,7 @@ module _ (s : Set) (C : Complex) (S : Shows s C) (i a : ℕ) (v : Vertex) (u : S
       by (n, e, at-n, inr x) = from-high n e at-n x.0 x.1
 
 -- what lies between its ends lies on the edge
-module _ (s : Set) (C : Complex) (i a : ℕ) (v : Vertex) (u : Svertex) (L : Leads s C i a v u) where
+module _ (s : Set) (C : Complex) (i a : ℕ) (v : Vertex) (u : MapVertex) (L : Leads s C i a v u) where
   pub edge-point : (x : Place) → IsBetween v.point x L.other.point → IsEdgePoint C L.number x
   edge-point x b = by L.which
     where
@@ -118,10 +118,10 @@ module _ (s : Set) (C : Complex) (i a : ℕ) (v : Vertex) (u : Svertex) (L : Lea
   link-of n k l c b at-k at-l K M w x o = by L.which
     where
       at-c : At v.map.arcs k.item c
-      at-c = arc-at v.map.arcs v.map.loop k.item c K.item
+      at-c = arc-at v.map.arcs v.map.sloop k.item c K.item
 
       at-b : At L.other.map.arcs l.item b
-      at-b = arc-at L.other.map.arcs L.other.map.loop l.item b M.item
+      at-b = arc-at L.other.map.arcs L.other.map.sloop l.item b M.item
 
       by : ((L.edge.low ≡ i) × (L.edge.low_svertex ≡ a) × (L.edge.high ≡ L.there) × (L.edge.high_svertex ≡ L.there_end) × HasEnds C L.edge v L.other)
           ⊎ ((L.edge.high ≡ i) × (L.edge.high_svertex ≡ a) × (L.edge.low ≡ L.there) × (L.edge.low_svertex ≡ L.there_end) × HasEnds C L.edge L.other v) → FacetLink C k l ⊎ FacetLink C l k

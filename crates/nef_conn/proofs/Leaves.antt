@@ -15,7 +15,7 @@ use Rattle.law_forms.proofs.Between.{toward-place, between-same}
 use Rattle.law_forms.proofs.Directions.{zero-decided, direction-left}
 use Rattle.law_sphere.specs.Forms.{forms, SameSigns}
 use Rattle.law_forms.proofs.Far.{nought-or, same-nought}
-use Rattle.law_sphere.proofs.Labels.{way-signs}
+use Rattle.law_sphere.proofs.Labels.{dir-signs}
 use Rattle.law_sphere.proofs.Lists.{at-one}
 use Rattle.law_sphere.specs.Maps.{At}
 use Rattle.law_sphere.proofs.Around.{Beside, same_way, other_way, beside}
@@ -99,8 +99,8 @@ module _ (s : Set) (y z v w : Place) (vertex : FlatDim s y 0) (all : (r : Place)
 -- directions close to g toward f, and close to one of the same way toward up, have the same signs where f points to the side of up
 ways-above : (s : Set) (C : Complex) (S : Shows s C) (upright : IsUpright C) (gs : List Vector) (g d f : Vector) (k l : ℕ) → SameDirection g d → Above s C S upright g f → amount gs f ≤ k → amount gs up ≤ l → SameSigns gs (blend k g 1 f) (blend l d 1 up)
 ways-above s C S upright gs g d f k l w up-side h i p m = ⊎_elim
-    (λ z. far-level gs d up l i p (same-nought (dot p g) (dot p d) (way-signs g d p (direction-left g d w) w) z) ∙ sym (up-side p z) ∙ sym (far-level gs g f k h p z))
-    (λ n. far-keeps gs d up l i p m (λ z. n (same-nought (dot p d) (dot p g) (sym (way-signs g d p (direction-left g d w) w)) z)) ∙ way-signs g d p (direction-left g d w) w ∙ sym (far-keeps gs g f k h p m n))
+    (λ z. far-level gs d up l i p (same-nought (dot p g) (dot p d) (dir-signs g d p (direction-left g d w) w) z) ∙ sym (up-side p z) ∙ sym (far-level gs g f k h p z))
+    (λ n. far-keeps gs d up l i p m (λ z. n (same-nought (dot p d) (dot p g) (sym (dir-signs g d p (direction-left g d w) w)) z)) ∙ dir-signs g d p (direction-left g d w) w ∙ sym (far-keeps gs g f k h p m n))
     (nought-or (dot p g))
 
 module _ (s : Set) (C : Complex) (S : Shows s C) (upright : IsUpright C) (linked : AreLinkedWhereJoined s C) where
@@ -197,8 +197,8 @@ module _ (s : Set) (C : Complex) (S : Shows s C) (upright : IsUpright C) (linked
               moved c f = toward-same y c z f (direction-left (toward y z) g to)
 
           low : SamePlace y v'.point → Chained (VolumeLink C) x x'
-          low f = at-end e'.low v' H.low (edge-ways s C S k e' v' w' a' H).low.way f
-              (from-end v'.point f (edge-ways s C S k e' v' w' a' H).low.way (SameDirection-trans (toward v'.point z) (toward v'.point w'.point) (edge-ways s C S k e' v' w' a' H).low.way (between-way v'.point z w'.point b) (edge-ways s C S k e' v' w' a' H).onward)) x' U.steps U.large U.seer
+          low f = at-end e'.low v' H.low (edge-ways s C S k e' v' w' a' H).low.dir f
+              (from-end v'.point f (edge-ways s C S k e' v' w' a' H).low.dir (SameDirection-trans (toward v'.point z) (toward v'.point w'.point) (edge-ways s C S k e' v' w' a' H).low.dir (between-way v'.point z w'.point b) (edge-ways s C S k e' v' w' a' H).onward)) x' U.steps U.large U.seer
 
           high : SamePlace y w'.point → Chained (VolumeLink C) x x'
           high f =
@@ -206,10 +206,10 @@ module _ (s : Set) (C : Complex) (S : Shows s C) (upright : IsUpright C) (linked
               let o = touched s C S z G up free' in
               let c = between-turned v'.point w'.point z b in
               let E = edge-ways s C S k e' v' w' a' H in
-              let d = SameDirection-trans (toward w'.point z) (toward w'.point v'.point) E.high.way (between-way w'.point z v'.point c)
-              (SameDirection-trans (toward w'.point v'.point) (opposite E.low.way) E.high.way (ahead-back v'.point w'.point E.low.way E.onward) (opposite-way E.low.way E.high.way E.back)) in
+              let d = SameDirection-trans (toward w'.point z) (toward w'.point v'.point) E.high.dir (between-way w'.point z v'.point c)
+              (SameDirection-trans (toward w'.point v'.point) (opposite E.low.dir) E.high.dir (ahead-back v'.point w'.point E.low.dir E.onward) (opposite-way E.low.dir E.high.dir E.back)) in
               chain-both (VolumeLink C) x o.0 x'
-              (at-end e'.high w' H.high E.high.way f (from-end w'.point f E.high.way d) o.0 o.1.steps o.1.large o.1.seer)
+              (at-end e'.high w' H.high E.high.dir f (from-end w'.point f E.high.dir d) o.0 o.1.steps o.1.large o.1.seer)
               (chain-back (VolumeLink C) x' o.0 (two-views s C S upright linked k e' v' w' a' H z b free' x' o.0 U o.1))
 
     -- ---- all of them, from a vertex or an edge

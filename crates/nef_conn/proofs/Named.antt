@@ -21,11 +21,11 @@ use Rattle.law_near.proofs.Between.{between-turned}
 use Rattle.law_near.proofs.Flats.{vector-same}
 use Rattle.law_forms.proofs.Between.{place-toward}
 use Rattle.law_forms.proofs.Directions.{dot-zero, direction-left, direction-right}
-use Rattle.law_sphere.specs.Maps.{At, Arc, Item, arc_item, item_normal, way_of, OnItem}
+use Rattle.law_sphere.specs.Maps.{At, Arc, Item, arc_item, item_normal, dir_of, OnItem}
 use Rattle.law_sphere.proofs.Vectors.{normal-is, same-plus, same-minus}
 use Rattle.law_sphere.proofs.Forms.{on-direction, on-level}
-use Rattle.law_sphere.proofs.Shot.{way-at, arc-at}
-use Rattle.law_sphere.proofs.Compare.{SameDirection-turned, SameDirection-trans, way-self}
+use Rattle.law_sphere.proofs.Shot.{dir-at, arc-at}
+use Rattle.law_sphere.proofs.Compare.{SameDirection-turned, SameDirection-trans, dir-self}
 use Rattle.law_sphere.proofs.Turn.{turn-same, turn-last}
 use Rattle.law_complex.specs.Complexes.{Vertex, Edge, Complex, Corner, HasEnds, IsCorner}
 use Rattle.law_complex.specs.Shows.{Shows}
@@ -180,7 +180,7 @@ module _ (s : Set) (C : Complex) (S : Shows s C) (i : ℕ) (e : Edge) (at-i : At
   W = edge-ways s C S i e v w at-i H
 
   abbrev u : Vector
-  u = W.low.way
+  u = W.low.dir
 
   abbrev f : Vector
   f = opposite (way_inward (arc_item c))
@@ -260,14 +260,14 @@ module _ (s : Set) (C : Complex) (S : Shows s C) (i : ℕ) (e : Edge) (at-i : At
 
     on-side : IsArcOnSide v e.low_svertex (normal_of sheet) f c
     on-side =
-        let way : way_of v.map.svertices e.low_svertex ≡ u = way-at v.map.svertices e.low_svertex W.low W.is_low in
-        let turn = turn-same c.normal (normal_of sheet) u u f f (through-same c.normal v.point n-some) (way-self u u-some) (way-self f f-some) in
+        let way : dir_of v.map.svertices e.low_svertex ≡ u = dir-at v.map.svertices e.low_svertex W.low W.is_low in
+        let turn = turn-same c.normal (normal_of sheet) u u f f (through-same c.normal v.point n-some) (dir-self u u-some) (dir-self f f-some) in
         ⊎_elim
         (λ r. inl (r.0, subst (λ (t : Vector). pos 0 <ℤ triple (normal_of sheet) t f) (sym way) (same-plus (triple c.normal u f) (triple (normal_of sheet) u f) turn r.1)))
         (λ r. inr (r.0, subst (λ (t : Vector). triple (normal_of sheet) t f <ℤ pos 0) (sym way) (same-minus (triple c.normal u f) (triple (normal_of sheet) u f) turn r.1))) side
 
     corner-met : IsCornerAt C sheet f (meets_edge i) k
-    corner-met = (e, v, c, at-i, low, H.low, arc-at v.map.arcs v.map.loop k.item c K.item, through-same c.normal v.point n-some, on-side)
+    corner-met = (e, v, c, at-i, low, H.low, arc-at v.map.arcs v.map.sloop k.item c K.item, through-same c.normal v.point n-some, on-side)
 
     pub edge-named : Reaches s C k v (arc_item c)
     edge-named = (

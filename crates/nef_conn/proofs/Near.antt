@@ -18,7 +18,7 @@ use Rattle.law_near.proofs.Flats.{vector-same}
 use Rattle.law_forms.proofs.Directions.{same-factor, factor-same, direction-left}
 use Rattle.law_forms.proofs.Far.{nought-or, same-nought}
 use Rattle.law_sphere.specs.Forms.{forms, SameSigns}
-use Rattle.law_sphere.specs.Maps.{At, Item, items, item_normal, item_above, OnItem, Shaped}
+use Rattle.law_sphere.specs.Maps.{At, Item, items, item_normal, item_pos, OnItem, Shaped}
 use Rattle.law_sphere.proofs.Compare.{SameDirection-turned, SameDirection-trans}
 use Rattle.law_sphere.proofs.Forms.{item-forms, normal-form, on-level, PlaceOf, svertex_place, item_place, free_place, place_of}
 use Rattle.law_sphere.proofs.Generic.{far-keeps, far-level}
@@ -31,7 +31,7 @@ use Rattle.law_complex.proofs.FacetWays.{dim-same}
 use Rattle.law_links.specs.Links.{VolumeLink}
 use Rattle.law_links.specs.Components.{IsUpright}
 use Rattle.law_links.proofs.NearVertex.{free-dim}
-use Rattle.law_links.proofs.SideSight.{sees-above}
+use Rattle.law_links.proofs.SideSight.{sees-pos}
 use Rattle.law_links.proofs.Ties.{ahead-toward, ahead-way, dim-cell, even-after, IsTied}
 use Rattle.nef_conn.proofs.AtSides.{ahead-zero}
 use Rattle.nef_conn.proofs.Chain.{chain-both}
@@ -112,7 +112,7 @@ module _ (s : Set) (C : Complex) (S : Shows s C) (upright : IsUpright C) where
     K = bound s F.vertex g
 
     abbrev a : Vector
-    a = blend K F.way 1 g
+    a = blend K F.dir 1 g
 
     tied : IsTied s (ahead s y g) (ahead s v.point a)
     tied = F.tied g K (omega arith)
@@ -130,36 +130,36 @@ module _ (s : Set) (C : Complex) (S : Shows s C) (upright : IsUpright C) where
     by-item k x h on = record {
       corner = record { vertex = F.number; item = k };
       item = (v, x, record { vertex = F.listed; item = h }, (a, on, tied.0));
-      links = λ f up-side z m l T. same-seers s C S F.number v F.listed z (above (record { vertex = F.number; item = k })) (blend T.steps F.way 1 (blend m g 1 f)) (blend m a 1 f) T.seer
-          (record { here = refl; label = item_above x; has = (x, h, refl); sees = sees-above v.map V k x h a f on (λ o. let q = high f up-side in omega (arith, ints)) m (omega arith) (high f up-side) })
+      links = λ f up-side z m l T. same-seers s C S F.number v F.listed z (above (record { vertex = F.number; item = k })) (blend T.steps F.dir 1 (blend m g 1 f)) (blend m a 1 f) T.seer
+          (record { here = refl; label = item_pos x; has = (x, h, refl); sees = sees-pos v.map V k x h a f on (λ o. let q = high f up-side in omega (arith, ints)) m (omega arith) (high f up-side) })
           (same f m l T.steps T.large);
     }
       where
         -- the item's plane holds the way and g
-        holds-way : dot (item_normal x) F.way ≡ pos 0
+        holds-way : dot (item_normal x) F.dir ≡ pos 0
         holds-way = ⊎_elim (λ z. z)
-            (λ o. absurd (o (same-nought (dot (item_normal x) a) (dot (item_normal x) F.way) (sym (far-keeps (forms v.map) F.way g K (omega arith) (item_normal x) (item-forms v.map k x (item_normal x) h (normal-form v.map x)) o)) (on-level v.map x a on))))
-            (nought-or (dot (item_normal x) F.way))
+            (λ o. absurd (o (same-nought (dot (item_normal x) a) (dot (item_normal x) F.dir) (sym (far-keeps (forms v.map) F.dir g K (omega arith) (item_normal x) (item-forms v.map k x (item_normal x) h (normal-form v.map x)) o)) (on-level v.map x a on))))
+            (nought-or (dot (item_normal x) F.dir))
 
         holds-g : dot (item_normal x) g ≡ pos 0
-        holds-g = same-nought (dot (item_normal x) a) (dot (item_normal x) g) (sym (far-level (forms v.map) F.way g K (omega arith) (item_normal x) holds-way)) (on-level v.map x a on)
+        holds-g = same-nought (dot (item_normal x) a) (dot (item_normal x) g) (sym (far-level (forms v.map) F.dir g K (omega arith) (item_normal x) holds-way)) (on-level v.map x a on)
 
         high : (f : Vector) → Above g f → pos 0 <ℤ dot (item_normal x) f
         high f up-side = same-plus (dot (item_normal x) up) (dot (item_normal x) f) (up-side (item_normal x) holds-g) (upright (record { vertex = F.number; item = k }) v x (record { vertex = F.listed; item = h }))
 
-        value : (f : Vector) (m : ℕ) (p : Vector) → dot p F.way ≡ pos 0 → dot p (blend m a 1 f) ≡ dot p (blend m g 1 f)
+        value : (f : Vector) (m : ℕ) (p : Vector) → dot p F.dir ≡ pos 0 → dot p (blend m a 1 f) ≡ dot p (blend m g 1 f)
         value f m p z =
-            dot-comb p (pos m) a (pos 1) f ∙ ap (λ r. pos m *ℤ r +ℤ pos 1 *ℤ dot p f) (dot-comb p (pos K) F.way (pos 1) g) ∙ ap (λ r. pos m *ℤ (pos K *ℤ r +ℤ pos 1 *ℤ dot p g) +ℤ pos 1 *ℤ dot p f) z
+            dot-comb p (pos m) a (pos 1) f ∙ ap (λ r. pos m *ℤ r +ℤ pos 1 *ℤ dot p f) (dot-comb p (pos K) F.dir (pos 1) g) ∙ ap (λ r. pos m *ℤ (pos K *ℤ r +ℤ pos 1 *ℤ dot p g) +ℤ pos 1 *ℤ dot p f) z
             ∙ ring (pos m ∷ pos K ∷ dot p g ∷ dot p f ∷ []) (at 0 ⊗ (at 1 ⊗ num (pos 0) ⊕ num (pos 1) ⊗ at 2) ⊕ num (pos 1) ⊗ at 3) (at 0 ⊗ at 2 ⊕ num (pos 1) ⊗ at 3) tt
             ∙ sym (dot-comb p (pos m) g (pos 1) f)
 
-        same : (f : Vector) (m : ℕ) → bound s v f ≤ m → (n : ℕ) → bound s v (blend m g 1 f) ≤ n → SameSigns (forms v.map) (blend n F.way 1 (blend m g 1 f)) (blend m a 1 f)
+        same : (f : Vector) (m : ℕ) → bound s v f ≤ m → (n : ℕ) → bound s v (blend m g 1 f) ≤ n → SameSigns (forms v.map) (blend n F.dir 1 (blend m g 1 f)) (blend m a 1 f)
         same f m l n h p i = ⊎_elim
-            (λ z. ap sign (value f m p z) ∙ sym (far-level (forms v.map) F.way (blend m g 1 f) n (omega arith) p z))
+            (λ z. ap sign (value f m p z) ∙ sym (far-level (forms v.map) F.dir (blend m g 1 f) n (omega arith) p z))
             (λ o.
-            let u = far-keeps (forms v.map) F.way g K (omega arith) p i o in
-            far-keeps (forms v.map) a f m (omega arith) p i (λ z. o (same-nought (dot p a) (dot p F.way) (sym u) z)) ∙ u ∙ sym (far-keeps (forms v.map) F.way (blend m g 1 f) n (omega arith) p i o))
-            (nought-or (dot p F.way))
+            let u = far-keeps (forms v.map) F.dir g K (omega arith) p i o in
+            far-keeps (forms v.map) a f m (omega arith) p i (λ z. o (same-nought (dot p a) (dot p F.dir) (sym u) z)) ∙ u ∙ sym (far-keeps (forms v.map) F.dir (blend m g 1 f) n (omega arith) p i o))
+            (nought-or (dot p F.dir))
 
     pub slot : Slot y F g
     slot = by (place_of v.map a some)
@@ -172,7 +172,7 @@ module _ (s : Set) (C : Complex) (S : Shows s C) (upright : IsUpright C) where
             let to-q = ahead-toward s v.point a some in
             let m = near_point s v.point q in
             let b = near-between s v.point q (direction-left (toward v.point q) a to-q) in
-            let one = near-one s C S F.number k v u F.listed h q (SameDirection-trans (toward v.point q) a u.way to-q (SameDirection-turned u.way a w)) in
+            let one = near-one s C S F.number k v u F.listed h q (SameDirection-trans (toward v.point q) a u.dir to-q (SameDirection-turned u.dir a w)) in
             let e = FlatDim-one s m 1 2 one (even-after s 2 v.point a two-there m (inl b)) in absurd (omega arith)
 
   -- what touches toward f is linked with the upper side of the item in the first direction that isn't free

@@ -11,7 +11,7 @@ use Rattle.nef_space.specs.Vectors.{Vector, blend, dot, cross, IsZero, IsDirecti
 use Rattle.law_near.specs.Laws.{Drop, IsFlatBelow}
 use Rattle.law_near.proofs.Alike.{FlatDim-one, FlatDim-by_germs}
 use Rattle.law_sphere.proofs.Parallel.{parallel-trans}
-use Rattle.law_sphere.proofs.Shot.{way-at}
+use Rattle.law_sphere.proofs.Shot.{dir-at}
 use Rattle.law_near.proofs.Decided.{Decided, decided-or}
 use Rattle.law_near.proofs.Decisions.{ahead, near-ahead}
 use Rattle.law_near.proofs.Edges.{even-until}
@@ -20,12 +20,12 @@ use Rattle.law_near.proofs.Flats.{Flat-from_cone, FlatCone-from_flat}
 use Rattle.law_near.proofs.FlatDecided.{near-of_flat}
 use Rattle.law_forms.proofs.Between.{toward-place}
 use Rattle.law_forms.proofs.Directions.{dot-zero, direction-left, direction-right}
-use Rattle.law_sphere.specs.Maps.{At, Svertex, Arc, arc_item, around_svertex, HasArc, Shaped, way_of}
+use Rattle.law_sphere.specs.Maps.{At, MapVertex, Arc, arc_item, around_svertex, HasArc, Shaped, dir_of}
 use Rattle.law_sphere.proofs.Arcs.{at-arc}
-use Rattle.law_sphere.proofs.Compare.{SameDirection-turned, way-self}
+use Rattle.law_sphere.proofs.Compare.{SameDirection-turned, dir-self}
 use Rattle.law_sphere.proofs.KindFlats.{in-span}
 use Rattle.law_sphere.proofs.Lists.{search_list}
-use Rattle.law_sphere.proofs.Labels.{way-signs}
+use Rattle.law_sphere.proofs.Labels.{dir-signs}
 use Rattle.law_sphere.proofs.NearItems.{opposite-turned}
 use Rattle.law_sphere.proofs.Vectors.{dot-comb, normal-is, same-plus}
 use Rattle.law_complex.specs.Complexes.{Vertex, Edge, Complex, HasEnds, IsCorner}
@@ -71,13 +71,13 @@ module _ (s : Set) (C : Complex) (S : Shows s C) (upright : IsUpright C) (linked
     W = edge-ways s C S k e v w a H
 
     abbrev D : Vector
-    D = W.low.way
+    D = W.low.dir
 
     abbrev low-frame : Frame s C z
     low-frame = edge-frame s C S k e v w z a H b
 
     abbrev pub high-frame : Frame s C z
-    high-frame = tied-frame s C e.high w z (edge-ways s C S k e v w a H).high.way H.high (tied-high s C S k e v w a H z b)
+    high-frame = tied-frame s C e.high w z (edge-ways s C S k e v w a H).high.dir H.high (tied-high s C S k e v w a H z b)
 
     d-some : IsDirection D
     d-some = direction-right (toward v.point w.point) D W.onward
@@ -85,8 +85,8 @@ module _ (s : Set) (C : Complex) (S : Shows s C) (upright : IsUpright C) (linked
     flat-d : Flat s z D
     flat-d = let E = edge-points s C k e v w z S a H b in (E.1 D).1 (same-parallel W.is_low)
       where
-        same-parallel : At v.map.svertices e.low_svertex W.low → IsZero (cross (way_of v.map.svertices e.low_svertex) D)
-        same-parallel h = subst (λ (r : Vector). IsZero (cross r D)) (sym (way-at v.map.svertices e.low_svertex W.low h)) (let o = way-self D d-some in o.parallel)
+        same-parallel : At v.map.svertices e.low_svertex W.low → IsZero (cross (dir_of v.map.svertices e.low_svertex) D)
+        same-parallel h = subst (λ (r : Vector). IsZero (cross r D)) (sym (dir-at v.map.svertices e.low_svertex W.low h)) (let o = dir-self D d-some in o.parallel)
 
     module _ (x y : VertexSide) (T : Touch s C z low-frame x up) (U : Touch s C z high-frame y up) where
       -- by the first direction in which a facet leaves the edge
@@ -118,11 +118,11 @@ module _ (s : Set) (C : Complex) (S : Shows s C) (upright : IsUpright C) (linked
         level-Q = level-way n h (toward z Q) (SameDirection-turned (toward z Q) h to-Q) level
 
         high-P : pos 0 <ℤ dot n (toward z P)
-        high-P = same-plus (dot n up) (dot n (toward z P)) (way-signs up (toward z P) n up-some (SameDirection-turned (toward z P) up to-P)) high
+        high-P = same-plus (dot n up) (dot n (toward z P)) (dir-signs up (toward z P) n up-some (SameDirection-turned (toward z P) up to-P)) high
 
         from : (q : Place) → IsOff s z q → IsDirection (toward z q) → pos 0 ≤ℤ dot n (toward z q) → IsDirection (toward P q) → ((r : Place) → IsBetween P r q → FlatDim s r 3) → FlatDim s (ahead s z (toward z q)) 2 → Chained (VolumeLink C) x y
         from q off i l j all dim = by-first (toward z q) dim
-            (wedge-way s 3 z (toward z P) up (toward z q) (toward z q) to-P (way-self (toward z q) i) (λ c d sc sd. blend-rises n up (toward z q) c d sc high l)
+            (wedge-way s 3 z (toward z P) up (toward z q) (toward z q) to-P (dir-self (toward z q) i) (λ c d sc sd. blend-rises n up (toward z q) c d sc high l)
             (wedge-of s 3 z P q (off-ahead s z up) off j all))
 
         dropped : Drop s 3 P Q → Chained (VolumeLink C) x y
@@ -171,28 +171,28 @@ module _ (s : Set) (C : Complex) (S : Shows s C) (upright : IsUpright C) (linked
       low-arc : (i : ℕ) (c : Arc) → At v.map.arcs i c → EndsAt c e.low_svertex → Chained (VolumeLink C) x y
       low-arc i c h o =
           let j = corner_of e.low i in
-          let K : IsCorner C j v (arc_item c) = record { vertex = H.low; item = at-arc v.map.arcs v.map.loop i c h } in
+          let K : IsCorner C j v (arc_item c) = record { vertex = H.low; item = at-arc v.map.arcs v.map.sloop i c h } in
           let some = normal-is (S.cones e.low v H.low).valid.shaped i (arc_item c) K.item in
           let level = end-level s C S j v c K e.low_svertex W.low W.is_low o in
           let F = side-of c e.low_svertex D some d-some level o in
-          let G = facet-near s C S j v (arc_item c) K (close_way s C S j v c K e.low_svertex W.low W.is_low F.way) (on-close s C S j v c K e.low_svertex W.low W.is_low F.way F.level F.ends) in
-          let t = tied-both s (ahead s z F.way) (ahead s (ahead s v.point D) F.way) (ahead s v.point (close_way s C S j v c K e.low_svertex W.low W.is_low F.way))
-          (tied-ahead s z (ahead s v.point D) F.way (tied-low s C S k e v w a H z b)) (tied-close_way s C S j v c K e.low_svertex W.low W.is_low F.way) in
-          by-facet c.normal F.way level F.level (upright j v (arc_item c) K) F.some
-          (tied-dim s (ahead s v.point (close_way s C S j v c K e.low_svertex W.low W.is_low F.way)) (ahead s z F.way) 2 (tied-turned s (ahead s z F.way) (ahead s v.point (close_way s C S j v c K e.low_svertex W.low W.is_low F.way)) t) G.dim)
+          let G = facet-near s C S j v (arc_item c) K (close_way s C S j v c K e.low_svertex W.low W.is_low F.dir) (on-close s C S j v c K e.low_svertex W.low W.is_low F.dir F.level F.ends) in
+          let t = tied-both s (ahead s z F.dir) (ahead s (ahead s v.point D) F.dir) (ahead s v.point (close_way s C S j v c K e.low_svertex W.low W.is_low F.dir))
+          (tied-ahead s z (ahead s v.point D) F.dir (tied-low s C S k e v w a H z b)) (tied-close_way s C S j v c K e.low_svertex W.low W.is_low F.dir) in
+          by-facet c.normal F.dir level F.level (upright j v (arc_item c) K) F.some
+          (tied-dim s (ahead s v.point (close_way s C S j v c K e.low_svertex W.low W.is_low F.dir)) (ahead s z F.dir) 2 (tied-turned s (ahead s z F.dir) (ahead s v.point (close_way s C S j v c K e.low_svertex W.low W.is_low F.dir)) t) G.dim)
 
       high-arc : (i : ℕ) (c : Arc) → At w.map.arcs i c → EndsAt c e.high_svertex → Chained (VolumeLink C) x y
       high-arc i c h o =
           let j = corner_of e.high i in
-          let K : IsCorner C j w (arc_item c) = record { vertex = H.high; item = at-arc w.map.arcs w.map.loop i c h } in
+          let K : IsCorner C j w (arc_item c) = record { vertex = H.high; item = at-arc w.map.arcs w.map.sloop i c h } in
           let some = normal-is (S.cones e.high w H.high).valid.shaped i (arc_item c) K.item in
           let level = end-level s C S j w c K e.high_svertex W.high W.is_high o in
-          let F = side-of c e.high_svertex W.high.way some ((S.cones e.high w H.high).valid.shaped.svertex_ways e.high_svertex W.high W.is_high) level o in
-          let G = facet-near s C S j w (arc_item c) K (close_way s C S j w c K e.high_svertex W.high W.is_high F.way) (on-close s C S j w c K e.high_svertex W.high W.is_high F.way F.level F.ends) in
-          let t = tied-both s (ahead s z F.way) (ahead s (ahead s w.point W.high.way) F.way) (ahead s w.point (close_way s C S j w c K e.high_svertex W.high W.is_high F.way))
-          (tied-ahead s z (ahead s w.point W.high.way) F.way (tied-high s C S k e v w a H z b)) (tied-close_way s C S j w c K e.high_svertex W.high W.is_high F.way) in
-          by-facet c.normal F.way (level-opposite c.normal W.high.way D (opposite-turned D W.high.way W.back) level) F.level (upright j w (arc_item c) K) F.some
-          (tied-dim s (ahead s w.point (close_way s C S j w c K e.high_svertex W.high W.is_high F.way)) (ahead s z F.way) 2 (tied-turned s (ahead s z F.way) (ahead s w.point (close_way s C S j w c K e.high_svertex W.high W.is_high F.way)) t) G.dim)
+          let F = side-of c e.high_svertex W.high.dir some ((S.cones e.high w H.high).valid.shaped.svertex_dirs e.high_svertex W.high W.is_high) level o in
+          let G = facet-near s C S j w (arc_item c) K (close_way s C S j w c K e.high_svertex W.high W.is_high F.dir) (on-close s C S j w c K e.high_svertex W.high W.is_high F.dir F.level F.ends) in
+          let t = tied-both s (ahead s z F.dir) (ahead s (ahead s w.point W.high.dir) F.dir) (ahead s w.point (close_way s C S j w c K e.high_svertex W.high W.is_high F.dir))
+          (tied-ahead s z (ahead s w.point W.high.dir) F.dir (tied-high s C S k e v w a H z b)) (tied-close_way s C S j w c K e.high_svertex W.high W.is_high F.dir) in
+          by-facet c.normal F.dir (level-opposite c.normal W.high.dir D (opposite-turned D W.high.dir W.back) level) F.level (upright j w (arc_item c) K) F.some
+          (tied-dim s (ahead s w.point (close_way s C S j w c K e.high_svertex W.high W.is_high F.dir)) (ahead s z F.dir) 2 (tied-turned s (ahead s z F.dir) (ahead s w.point (close_way s C S j w c K e.high_svertex W.high W.is_high F.dir)) t) G.dim)
 
       -- or without arcs
       module _ (lone : HasArc v.map e.low_svertex → ⊥) (lone' : HasArc w.map e.high_svertex → ⊥) where
@@ -208,7 +208,7 @@ module _ (s : Set) (C : Complex) (S : Shows s C) (upright : IsUpright C) (linked
         abbrev there : VertexSide
         there = record { vertex = e.high; side = around_svertex e.high_svertex }
 
-        off-line : (u : Vertex) (f : Svertex) → IsDirection (cross f.way up) → IsDirection (cross f.way up)
+        off-line : (u : Vertex) (f : MapVertex) → IsDirection (cross f.dir up) → IsDirection (cross f.dir up)
         off-line u f i = i
 
         not-along : IsDirection (cross D up)
@@ -220,8 +220,8 @@ module _ (s : Set) (C : Complex) (S : Shows s C) (upright : IsUpright C) (linked
             along-dim : FlatDim s z 1 → Flat s z up → FlatDim s (ahead s z up) 1
             along-dim one f = FlatDim-by_germs s s z (ahead s z up) (λ d l. let g = near-of_flat s z up (FlatCone-from_flat s z up f) d l in let h = near-ahead s z up d l in (λ m. h.1 (g.0 m), λ m. g.1 (h.0 m))) 1 one
 
-        not-along' : IsDirection (cross W.high.way up)
-        not-along' o = not-along (parallel-trans D W.high.way up (V'.svertex_ways e.high_svertex W.high W.is_high) W.back.parallel o)
+        not-along' : IsDirection (cross W.high.dir up)
+        not-along' o = not-along (parallel-trans D W.high.dir up (V'.svertex_dirs e.high_svertex W.high W.is_high) W.back.parallel o)
 
         by-around : Chained (VolumeLink C) x y
         by-around =
@@ -229,7 +229,7 @@ module _ (s : Set) (C : Complex) (S : Shows s C) (upright : IsUpright C) (linked
             let q = V'.around_lone e.high_svertex W.high W.is_high lone' in
             let c = same-seers s C S e.low v H.low x here (blend T.steps D 1 up) (blend T.steps D 1 up) T.seer
             (record { here = refl; label = r.0; has = (W.low, W.is_low, r.1); sees = sees-around v.map V e.low_svertex W.low W.is_low lone up T.steps (let l = T.large in omega arith) not-along }) (λ g l. refl) in
-            let d = same-seers s C S e.high w H.high y there (blend U.steps W.high.way 1 up) (blend U.steps W.high.way 1 up) U.seer
+            let d = same-seers s C S e.high w H.high y there (blend U.steps W.high.dir 1 up) (blend U.steps W.high.dir 1 up) U.seer
             (record { here = refl; label = q.0; has = (W.high, W.is_high, q.1); sees = sees-around w.map V' e.high_svertex W.high W.is_high lone' up U.steps (let l = U.large in omega arith) not-along' }) (λ g l. refl) in
             let m = chain-one (VolumeLink C) here there (inr (inl (record {
               number = k;

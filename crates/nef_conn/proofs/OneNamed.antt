@@ -17,13 +17,13 @@ use Rattle.law_near.proofs.Between.{between-turned, between-inner}
 use Rattle.law_near.proofs.PlaceOrder.{place_below-apart}
 use Rattle.law_near.proofs.Rays.{same-place_sym}
 use Rattle.law_sphere.specs.Forms.{forms}
-use Rattle.law_sphere.specs.Maps.{At, Svertex, Arc, arc_item, items, OnItem, Map, way_of, Shaped}
+use Rattle.law_sphere.specs.Maps.{At, MapVertex, Arc, arc_item, items, OnItem, Map, dir_of, Shaped}
 use Rattle.law_sphere.proofs.Arcs.{at-arc, Ends, ends-of}
-use Rattle.law_sphere.proofs.Compare.{SameDirection-turned, SameDirection-trans, way-self, normals-not_opposite}
+use Rattle.law_sphere.proofs.Compare.{SameDirection-turned, SameDirection-trans, dir-self, normals-not_opposite}
 use Rattle.law_sphere.proofs.Generic.{amount}
 use Rattle.law_sphere.proofs.Lists.{at-one}
 use Rattle.law_sphere.proofs.Parallel.{parallel-trans}
-use Rattle.law_sphere.proofs.Shot.{way-at}
+use Rattle.law_sphere.proofs.Shot.{dir-at}
 use Rattle.law_sphere.proofs.Vectors.{dot-comb, nought-if, normal-direction}
 use Rattle.law_complex.specs.Complexes.{Vertex, Edge, Complex, Corner, HasEnds, IsEdge, IsEdgeBelow}
 use Rattle.law_complex.specs.Shows.{Shows}
@@ -57,49 +57,49 @@ edge-same e f h i j k l =
 
 -- ---- arcs beside a svertex
 -- of one plane one arc leaves a svertex on one side
-module _ (M : Map) (V : Shaped M) (j : ℕ) (u : Svertex) (b : At M.svertices j u) (n f : Vector) (some : IsDirection f) (level : dot n f ≡ pos 0) where
+module _ (M : Map) (V : Shaped M) (j : ℕ) (u : MapVertex) (b : At M.svertices j u) (n f : Vector) (some : IsDirection f) (level : dot n f ≡ pos 0) where
   abbrev K : ℕ
   K = amount (forms M) f
 
   abbrev c : Vector
-  c = blend K u.way 1 f
+  c = blend K u.dir 1 f
 
   module _ (p : Place) (i : ℕ) (a : Arc) (l : At M.arcs i a) (w : SameDirection a.normal n) where
     abbrev at_point : Vertex
     at_point = record { point = p; map = M }
 
-    svertex-way : way_of M.svertices j ≡ u.way
-    svertex-way = way-at M.svertices j u b
+    svertex-dir : dir_of M.svertices j ≡ u.dir
+    svertex-dir = dir-at M.svertices j u b
 
     listed : At (items M) i (arc_item a)
-    listed = at-arc M.arcs M.loop i a l
+    listed = at-arc M.arcs M.sloop i a l
 
     arc-ends : Ends M a
     arc-ends = ends-of M V i a l
 
-    level-close : dot a.normal u.way ≡ pos 0 → dot a.normal c ≡ pos 0
-    level-close z = dot-comb a.normal (pos K) u.way (pos 1) f ∙ ap (λ r. pos K *ℤ r +ℤ pos 1 *ℤ dot a.normal f) z
+    level-close : dot a.normal u.dir ≡ pos 0 → dot a.normal c ≡ pos 0
+    level-close z = dot-comb a.normal (pos K) u.dir (pos 1) f ∙ ap (λ r. pos K *ℤ r +ℤ pos 1 *ℤ dot a.normal f) z
         ∙ ap (λ r. pos K *ℤ pos 0 +ℤ pos 1 *ℤ r) (level-kept n a.normal f (SameDirection-turned a.normal n w) level) ∙ ring (pos K ∷ []) (at 0 ⊗ num (pos 0) ⊕ num (pos 1) ⊗ num (pos 0)) (num (pos 0)) tt
 
     turned : IsArcOnSide at_point j n f a → IsArcOnSide at_point j a.normal f a
-    turned o = side-turned at_point j n a.normal f f a (SameDirection-turned a.normal n w) (way-self f some) o
+    turned o = side-turned at_point j n a.normal f f a (SameDirection-turned a.normal n w) (dir-self f some) o
 
     met : IsArcOnSide at_point j n f a → OnItem M (arc_item a) c
     met o = ⊎_elim from to (turned o)
       where
-        from : (a.source ≡ j) × (pos 0 <ℤ triple a.normal (way_of M.svertices j) f) → OnItem M (arc_item a) c
+        from : (a.source ≡ j) × (pos 0 <ℤ triple a.normal (dir_of M.svertices j) f) → OnItem M (arc_item a) c
         from (e, h) = source-meets M V j u b f K (omega arith) i a listed
-            (level-close (subst (λ (r : Vector). dot a.normal r ≡ pos 0) svertex-way (subst (λ (k : ℕ). dot a.normal (way_of M.svertices k) ≡ pos 0) e arc-ends.source_level)))
-            e (subst (λ (r : Vector). pos 0 <ℤ triple a.normal r f) svertex-way h)
+            (level-close (subst (λ (r : Vector). dot a.normal r ≡ pos 0) svertex-dir (subst (λ (k : ℕ). dot a.normal (dir_of M.svertices k) ≡ pos 0) e arc-ends.source_level)))
+            e (subst (λ (r : Vector). pos 0 <ℤ triple a.normal r f) svertex-dir h)
 
-        to : (a.target ≡ j) × (triple a.normal (way_of M.svertices j) f <ℤ pos 0) → OnItem M (arc_item a) c
+        to : (a.target ≡ j) × (triple a.normal (dir_of M.svertices j) f <ℤ pos 0) → OnItem M (arc_item a) c
         to (e, h) = target-meets M V j u b f K (omega arith) i a listed
-            (level-close (subst (λ (r : Vector). dot a.normal r ≡ pos 0) svertex-way (subst (λ (k : ℕ). dot a.normal (way_of M.svertices k) ≡ pos 0) e arc-ends.target_level)))
-            e (subst (λ (r : Vector). triple a.normal r f <ℤ pos 0) svertex-way h)
+            (level-close (subst (λ (r : Vector). dot a.normal r ≡ pos 0) svertex-dir (subst (λ (k : ℕ). dot a.normal (dir_of M.svertices k) ≡ pos 0) e arc-ends.target_level)))
+            e (subst (λ (r : Vector). triple a.normal r f <ℤ pos 0) svertex-dir h)
 
   one-arc : (p : Place) (i k : ℕ) (a e : Arc) → At M.arcs i a → At M.arcs k e → SameDirection a.normal n → SameDirection e.normal n
       → IsArcOnSide (record { point = p; map = M }) j n f a → IsArcOnSide (record { point = p; map = M }) j n f e → i ≡ k
-  one-arc p i k a e l m w r o q = V.no_items_meet i k (arc_item a) (arc_item e) c (at-arc M.arcs M.loop i a l) (at-arc M.arcs M.loop k e m) (met p i a l w o) (met p k e m r q)
+  one-arc p i k a e l m w r o q = V.no_items_meet i k (arc_item a) (arc_item e) c (at-arc M.arcs M.sloop i a l) (at-arc M.arcs M.sloop k e m) (met p i a l w o) (met p k e m r q)
 
 corners-same : (j k : Corner) → j.vertex ≡ k.vertex → j.item ≡ k.item → j ≡ k
 corners-same j k e f = ap (λ n. make n j.item) e ∙ ap (λ n. make k.vertex n) f
@@ -125,11 +125,11 @@ module _ (s : Set) (C : Complex) (S : Shows s C) where
 
   -- the way of an edge
   module _ (e : Edge) (E : IsEdge C.vertices e) where
-    way-is : way_of E.low_vertex.map.svertices e.low_svertex ≡ E.low_end.way
-    way-is = way-at E.low_vertex.map.svertices e.low_svertex E.low_end E.leaves
+    way-is : dir_of E.low_vertex.map.svertices e.low_svertex ≡ E.low_end.dir
+    way-is = dir-at E.low_vertex.map.svertices e.low_svertex E.low_end E.leaves
 
-    flat-on : IsZero (cross E.low_end.way E.low_end.way)
-    flat-on = (way-self E.low_end.way ((shaped e.low E.low_vertex E.is_low).svertex_ways e.low_svertex E.low_end E.leaves)).parallel
+    flat-on : IsZero (cross E.low_end.dir E.low_end.dir)
+    flat-on = (dir-self E.low_end.dir ((shaped e.low E.low_vertex E.is_low).svertex_dirs e.low_svertex E.low_end E.leaves)).parallel
 
     upward : IsNormal (toward E.low_vertex.point E.high_vertex.point)
     upward = toward-normal E.low_vertex.point E.high_vertex.point (S.ordered e.low e.high E.low_vertex E.high_vertex E.upward E.is_low E.is_high)
@@ -150,10 +150,10 @@ module _ (s : Set) (C : Complex) (S : Shows s C) where
     high_f = F.high_vertex.point
 
     abbrev way_e : Vector
-    way_e = E.low_end.way
+    way_e = E.low_end.dir
 
     abbrev way_f : Vector
-    way_f = F.low_end.way
+    way_f = F.low_end.dir
 
     to-e : SameDirection (toward low_e z) way_e
     to-e = SameDirection-trans (toward low_e z) (toward low_e high_e) way_e (between-way low_e z high_e b) E.ahead
@@ -199,11 +199,11 @@ module _ (s : Set) (C : Complex) (S : Shows s C) where
         let leaves = subst (λ (x : Vertex). At x.map.svertices e.low_svertex E.low_end) one E.leaves in
         let arrives = subst (λ (x : Vertex). At x.map.svertices e.high_svertex E.high_end) other E.arrives in
         let m = (shaped f.low F.low_vertex F.is_low).svertices_apart e.low_svertex f.low_svertex E.low_end F.low_end leaves F.leaves ways in
-        let back = SameDirection-trans E.high_end.way (opposite way_e) F.high_end.way (SameDirection-turned (opposite way_e) E.high_end.way (opposite-way way_e E.high_end.way E.back))
-        (SameDirection-trans (opposite way_e) (opposite way_f) F.high_end.way (opposite-same way_e way_f ways) (opposite-way way_f F.high_end.way F.back)) in
+        let back = SameDirection-trans E.high_end.dir (opposite way_e) F.high_end.dir (SameDirection-turned (opposite way_e) E.high_end.dir (opposite-way way_e E.high_end.dir E.back))
+        (SameDirection-trans (opposite way_e) (opposite way_f) F.high_end.dir (opposite-same way_e way_f ways) (opposite-way way_f F.high_end.dir F.back)) in
         let n = (shaped f.high F.high_vertex F.is_high).svertices_apart e.high_svertex f.high_svertex E.high_end F.high_end arrives F.arrives back in
         let start = at-one F.low_vertex.map.svertices f.low_svertex E.low_end F.low_end (subst (λ (j : ℕ). At F.low_vertex.map.svertices j E.low_end) m leaves) F.leaves in
-        edge-same e f g m h n (E.mark ∙ ap (λ (x : Svertex). x.mark) start ∙ sym F.mark)
+        edge-same e f g m h n (E.mark ∙ ap (λ (x : MapVertex). x.mark) start ∙ sym F.mark)
 
   -- the point of an edge is between the ends that the edge has
   edge-inside : (k : ℕ) (z : Place) → IsEdgePoint C k z → (e : Edge) × (E : IsEdge C.vertices e) × At C.edges k e × IsBetween E.low_vertex.point z E.high_vertex.point

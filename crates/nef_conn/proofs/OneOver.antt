@@ -16,11 +16,11 @@ use Rattle.law_forms.proofs.Between.{toward-place, between-same}
 use Rattle.law_forms.proofs.Directions.{zero-decided, direction-left}
 use Rattle.law_forms.proofs.Far.{nought-or, same-nought}
 use Rattle.law_sphere.specs.Forms.{forms, SameSigns}
-use Rattle.law_sphere.specs.Maps.{At, above_item}
+use Rattle.law_sphere.specs.Maps.{At, pos_item}
 use Rattle.law_sphere.proofs.Around.{Beside, same_way, other_way, beside}
-use Rattle.law_sphere.proofs.Compare.{SameDirection-turned, SameDirection-trans, normals-not_opposite, way-self}
+use Rattle.law_sphere.proofs.Compare.{SameDirection-turned, SameDirection-trans, normals-not_opposite, dir-self}
 use Rattle.law_sphere.proofs.Generic.{amount, far-keeps, far-level}
-use Rattle.law_sphere.proofs.Labels.{way-signs}
+use Rattle.law_sphere.proofs.Labels.{dir-signs}
 use Rattle.law_sphere.proofs.Lists.{at-one}
 use Rattle.law_complex.specs.Complexes.{Vertex, Edge, Complex, HasEnds}
 use Rattle.law_complex.specs.Shows.{Shows}
@@ -49,8 +49,8 @@ use Rattle.nef_conn.proofs.Touch.{Seer, bound, same-seers, no-way}
 -- ---- directions close to two vectors of one way
 pub ways-same : (gs : List Vector) (d e f : Vector) (k l : ℕ) → SameDirection d e → amount gs f ≤ k → amount gs f ≤ l → SameSigns gs (blend k d 1 f) (blend l e 1 f)
 ways-same gs d e f k l w h i g m = ⊎_elim
-    (λ z. far-level gs e f l i g (same-nought (dot g d) (dot g e) (way-signs d e g (direction-left d e w) w) z) ∙ sym (far-level gs d f k h g z))
-    (λ n. far-keeps gs e f l i g m (λ z. n (same-nought (dot g e) (dot g d) (sym (way-signs d e g (direction-left d e w) w)) z)) ∙ way-signs d e g (direction-left d e w) w ∙ sym (far-keeps gs d f k h g m n))
+    (λ z. far-level gs e f l i g (same-nought (dot g d) (dot g e) (dir-signs d e g (direction-left d e w) w) z) ∙ sym (far-level gs d f k h g z))
+    (λ n. far-keeps gs e f l i g m (λ z. n (same-nought (dot g e) (dot g d) (sym (dir-signs d e g (direction-left d e w) w)) z)) ∙ dir-signs d e g (direction-left d e w) w ∙ sym (far-keeps gs d f k h g m n))
     (nought-or (dot g d))
 
 -- ---- the lower ends of two edges on one line
@@ -130,8 +130,8 @@ module _ (s : Set) (C : Complex) (S : Shows s C) where
   edges-over z z' x y even (k, e, v, w, a, H, b, T) (k', e', v', w', a', H', b', U) =
       let W = edge-ways s C S k e v w a H in
       let W' = edge-ways s C S k' e' v' w' a' H' in
-      let ways = SameDirection-trans W.low.way (toward v.point w.point) W'.low.way (SameDirection-turned (toward v.point w.point) W.low.way W.onward) (SameDirection-trans (toward v.point w.point) (toward v'.point w'.point) W'.low.way same W'.onward) in
-      seers-linked e.low e'.low v v' x y W.low.way W'.low.way up T.steps U.steps H.low H'.low (one-vertex s C S e.low e'.low v v' H.low H'.low low) ways T.large U.large T.seer U.seer
+      let ways = SameDirection-trans W.low.dir (toward v.point w.point) W'.low.dir (SameDirection-turned (toward v.point w.point) W.low.dir W.onward) (SameDirection-trans (toward v.point w.point) (toward v'.point w'.point) W'.low.dir same W'.onward) in
+      seers-linked e.low e'.low v v' x y W.low.dir W'.low.dir up T.steps U.steps H.low H'.low (one-vertex s C S e.low e'.low v v' H.low H'.low low) ways T.large U.large T.seer U.seer
     where
       one : FlatDim s z 1
       one = (edge-points s C k e v w z S a H b).0
@@ -185,7 +185,7 @@ module _ (s : Set) (C : Complex) (S : Shows s C) where
           by-way i (other_way o) = same-place_sym v'.point v.point (later-low s v'.point w'.point z' v.point w.point z b' b back all' all (S.vertices e'.low v' H'.low) (S.vertices e.low v H.low) turned (λ r c. even r (inr (inl (between-turned z' z r c)))))
             where
               turned : SameDirection (toward z' z) (toward v'.point w'.point)
-              turned = SameDirection-trans (toward z' z) (opposite (toward z z')) (toward v'.point w'.point) (ahead-back z z' (toward z z') (way-self (toward z z') i))
+              turned = SameDirection-trans (toward z' z) (opposite (toward z z')) (toward v'.point w'.point) (ahead-back z z' (toward z z') (dir-self (toward z z') i))
                   (SameDirection-trans (opposite (toward z z')) (toward v.point w.point) (toward v'.point w'.point) (opposite-way (toward z z') (toward v.point w.point) (opposite-turned (toward v.point w.point) (toward z z') o)) same)
 
   -- ---- how flat the set is where sides lie above
@@ -204,7 +204,7 @@ module _ (s : Set) (C : Complex) (S : Shows s C) where
     facets-over z z' x y J A B = by B
       where
         by : OverFacet s C S z' y → Chained (VolumeLink C) x y
-        by (k, v, i, c, (d, o, t), f, g) = side-is y k.vertex (above_item k.item) f g (λ (r : VertexSide). Chained (VolumeLink C) x r) (over-item s C S linked z x k A (v, i, c, (d, o, joined-both s z z' (ahead s v.point d) J t.0)))
+        by (k, v, i, c, (d, o, t), f, g) = side-is y k.vertex (pos_item k.item) f g (λ (r : VertexSide). Chained (VolumeLink C) x r) (over-item s C S linked z x k A (v, i, c, (d, o, joined-both s z z' (ahead s v.point d) J t.0)))
 
     -- ---- all of them
     dims : (z z' : Place) (j k l : ℕ) → IsEven s k z z' → FlatDim s z j → FlatDim s z' l → (j ≡ k) × (l ≡ k)

@@ -18,13 +18,13 @@ use Rattle.law_near.proofs.Supports.{square-cross}
 use Rattle.law_forms.proofs.Directions.{dot-comm, direction-right}
 use Rattle.law_cyclic.proofs.Directions.{level-of_opposite}
 use Rattle.law_sphere.specs.Forms.{forms}
-use Rattle.law_sphere.specs.Maps.{At, Svertex, Arc, Item, arc_item, loop_item, items, item_normal, Map, OnItem, NearLabel, Valid}
+use Rattle.law_sphere.specs.Maps.{At, MapVertex, Arc, Item, arc_item, sloop_item, items, item_normal, Map, OnItem, NearLabel, Valid}
 use Rattle.law_sphere.proofs.Vectors.{normal-is, dot-comb, same-plus, same-minus, nought-if}
 use Rattle.law_sphere.proofs.Generic.{amount, far-keeps}
 use Rattle.law_sphere.proofs.Shot.{arc-at}
 use Rattle.law_sphere.proofs.NearItems.{opposite-turned}
 use Rattle.law_sphere.proofs.Around.{direction-around}
-use Rattle.law_sphere.proofs.Compare.{SameDirection-turned, SameDirection-trans, way-self}
+use Rattle.law_sphere.proofs.Compare.{SameDirection-turned, SameDirection-trans, dir-self}
 use Rattle.law_sphere.proofs.Turn.{turn-same}
 use Rattle.law_sphere.proofs.Arcs.{at-arc}
 use Rattle.law_complex.specs.Complexes.{Vertex, Edge, Complex, Corner, HasEnds, IsCorner}
@@ -54,15 +54,15 @@ back-triple n u f = ring (n.x ∷ n.y ∷ n.z ∷ u.x ∷ u.y ∷ u.z ∷ f.x �
 -- ---- an edge seen from one of its ends
 -- an edge leads from svertex a of vertex i, which is v, to svertex b of vertex j, which is w
 pub record EdgeAway (s : Set) (C : Complex) (i a : ℕ) (v : Vertex) (j b : ℕ) (w : Vertex) : Type 0 where
-  pub start : Svertex
-  pub end : Svertex
+  pub start : MapVertex
+  pub end : MapVertex
   pub is_from : At C.vertices i v
   pub is_to : At C.vertices j w
   pub is_start : At v.map.svertices a start
   pub is_end : At w.map.svertices b end
-  pub onward : SameDirection (toward v.point w.point) start.way
-  pub back : IsOpposite start.way end.way
-  pub tied : IsTied s (ahead s v.point start.way) (ahead s w.point end.way)
+  pub onward : SameDirection (toward v.point w.point) start.dir
+  pub back : IsOpposite start.dir end.dir
+  pub tied : IsTied s (ahead s v.point start.dir) (ahead s w.point end.dir)
 
 module _ (s : Set) (C : Complex) (S : Shows s C) (n : ℕ) (e : Edge) (at_n : At C.edges n e) (v w : Vertex) (H : HasEnds C e v w) where
   abbrev W : EdgeWays e v w
@@ -89,9 +89,9 @@ module _ (s : Set) (C : Complex) (S : Shows s C) (n : ℕ) (e : Edge) (at_n : At
     is_to = H.low;
     is_start = W.is_high;
     is_end = W.is_low;
-    onward = SameDirection-trans (toward w.point v.point) (opposite W.low.way) W.high.way (ahead-back v.point w.point W.low.way W.onward) (opposite-way W.low.way W.high.way W.back);
-    back = opposite-turned W.low.way W.high.way W.back;
-    tied = tied-turned s (ahead s v.point W.low.way) (ahead s w.point W.high.way) (ends-tied s C S n e v w at_n H);
+    onward = SameDirection-trans (toward w.point v.point) (opposite W.low.dir) W.high.dir (ahead-back v.point w.point W.low.dir W.onward) (opposite-way W.low.dir W.high.dir W.back);
+    back = opposite-turned W.low.dir W.high.dir W.back;
+    tied = tied-turned s (ahead s v.point W.low.dir) (ahead s w.point W.high.dir) (ends-tied s C S n e v w at_n H);
   }
 
 -- an arc with the normal n that ends at svertex b, whose way is t, on the side of f; and it begins there exactly where the arc c ends at a
@@ -104,21 +104,21 @@ pub record ArcThere (M : Map) (c : Arc) (a b : ℕ) (t f : Vector) : Type 0 wher
   pub side : EndsOnSide b t f arc
 
 -- ---- the arc at the other end, on the side of f
-module _ (s : Set) (C : Complex) (S : Shows s C) (i a : ℕ) (v : Vertex) (j b : ℕ) (v' : Vertex) (V : EdgeAway s C i a v j b v') (k : ℕ) (c : Arc) (listed : At v.map.arcs k c) (f : Vector) (level : dot c.normal f ≡ pos 0) (f-some : IsDirection f) (side : EndsOnSide a V.start.way f c) where
+module _ (s : Set) (C : Complex) (S : Shows s C) (i a : ℕ) (v : Vertex) (j b : ℕ) (v' : Vertex) (V : EdgeAway s C i a v j b v') (k : ℕ) (c : Arc) (listed : At v.map.arcs k c) (f : Vector) (level : dot c.normal f ≡ pos 0) (f-some : IsDirection f) (side : EndsOnSide a V.start.dir f c) where
   abbrev here : Corner
   here = corner_of i k
 
   corner : IsCorner C here v (arc_item c)
-  corner = record { vertex = V.is_from; item = at-arc v.map.arcs v.map.loop k c listed }
+  corner = record { vertex = V.is_from; item = at-arc v.map.arcs v.map.sloop k c listed }
 
   abbrev n : Vector
   n = c.normal
 
   abbrev u : Vector
-  u = V.start.way
+  u = V.start.dir
 
   abbrev t : Vector
-  t = V.end.way
+  t = V.end.dir
 
   n-some : IsDirection n
   n-some = normal-is (S.cones i v V.is_from).valid.shaped k (arc_item c) corner.item
@@ -189,18 +189,18 @@ module _ (s : Set) (C : Complex) (S : Shows s C) (i a : ℕ) (v : Vertex) (j b :
 
   -- seen from the other end f lies on the other side
   turned : (m : Vector) → SameDirection n m → sign (triple m t f) ≡ sign (neg_ℤ (triple n u f))
-  turned m w = turn-same n m (opposite u) t f f w t-way (way-self f f-some) ∙ ap sign (back-triple n u f)
+  turned m w = turn-same n m (opposite u) t f f w t-way (dir-self f f-some) ∙ ap sign (back-triple n u f)
 
   by-item : (x : Item) (l : ℕ) → At (items M) l x → OnItem M x d → SameDirection (item_normal x) n → ArcThere M c a b t f
-  by-item (loop_item e) l r o w =
-      absurd (L.shaped.no_svertex_on_item b l V.end (loop_item e) V.is_end r (record { direction = t-some; level = level-kept n e.normal t (SameDirection-turned e.normal n w) level-t }))
+  by-item (sloop_item e) l r o w =
+      absurd (L.shaped.no_svertex_on_item b l V.end (sloop_item e) V.is_end r (record { direction = t-some; level = level-kept n e.normal t (SameDirection-turned e.normal n w) level-t }))
   by-item (arc_item e) l r o w = ⊎_elim from-source from-target side
     where
       same : SameDirection n e.normal
       same = SameDirection-turned e.normal n w
 
       made : ((c.source ≡ a) × (e.target ≡ b)) ⊎ ((c.target ≡ a) × (e.source ≡ b)) → EndsOnSide b t f e → ArcThere M c a b t f
-      made one z = record { number = l; arc = e; listed = arc-at M.arcs M.loop l e r; one_normal = same; one_way = one; side = z }
+      made one z = record { number = l; arc = e; listed = arc-at M.arcs M.sloop l e r; one_normal = same; one_way = one; side = z }
 
       from-source : (c.source ≡ a) × (pos 0 <ℤ triple n u f) → ArcThere M c a b t f
       from-source (x, h) =
@@ -220,10 +220,10 @@ module _ (s : Set) (C : Complex) (S : Shows s C) (i a : ℕ) (v : Vertex) (j b :
 -- ---- on the side on which it is
 -- a direction of the arc's plane on the side of a svertex on which the arc lies
 pub record SideOf (c : Arc) (a : ℕ) (u : Vector) : Type 0 where
-  pub way : Vector
-  pub level : dot c.normal way ≡ pos 0
-  pub some : IsDirection way
-  pub ends : EndsOnSide a u way c
+  pub dir : Vector
+  pub level : dot c.normal dir ≡ pos 0
+  pub some : IsDirection dir
+  pub ends : EndsOnSide a u dir c
 
 module _ (c : Arc) (a : ℕ) (u : Vector) (normal-some : IsDirection c.normal) (u-some : IsDirection u) (level-at : dot c.normal u ≡ pos 0) where
   abbrev g : Vector
@@ -236,9 +236,9 @@ module _ (c : Arc) (a : ℕ) (u : Vector) (normal-some : IsDirection c.normal) (
   left = left-turn c.normal u normal-some u-some level-at
 
   pub side-of : EndsAt c a → SideOf c a u
-  side-of (inl e) = record { way = g; level = square-cross c.normal u; some = g-some; ends = inl (e, left) }
+  side-of (inl e) = record { dir = g; level = square-cross c.normal u; some = g-some; ends = inl (e, left) }
   side-of (inr e) = record {
-    way = opposite g;
+    dir = opposite g;
     level = level-of_opposite c.normal g (square-cross c.normal u);
     some = λ z. g-some (let x = z.0 in omega (arith, ints), let y = z.1 in omega (arith, ints), let w = z.2 in omega (arith, ints));
     ends = inr (e, let h = left in let r = right-turn c.normal u g in omega (arith, ints));
@@ -246,17 +246,17 @@ module _ (c : Arc) (a : ℕ) (u : Vector) (normal-some : IsDirection c.normal) (
 
 module _ (s : Set) (C : Complex) (S : Shows s C) (i a : ℕ) (v : Vertex) (j b : ℕ) (v' : Vertex) (V : EdgeAway s C i a v j b v') (k : ℕ) (c : Arc) (listed : At v.map.arcs k c) where
   own : IsCorner C (corner_of i k) v (arc_item c)
-  own = record { vertex = V.is_from; item = at-arc v.map.arcs v.map.loop k c listed }
+  own = record { vertex = V.is_from; item = at-arc v.map.arcs v.map.sloop k c listed }
 
-  pub goes-on : (o : EndsAt c a) → (f : Vector) × ArcThere v'.map c a b V.end.way f
+  pub goes-on : (o : EndsAt c a) → (f : Vector) × ArcThere v'.map c a b V.end.dir f
   goes-on o =
-      let F = side-of c a V.start.way (normal-is (S.cones i v V.is_from).valid.shaped k (arc_item c) own.item) (direction-right (toward v.point v'.point) V.start.way V.onward)
+      let F = side-of c a V.start.dir (normal-is (S.cones i v V.is_from).valid.shaped k (arc_item c) own.item) (direction-right (toward v.point v'.point) V.start.dir V.onward)
       (end-level s C S (corner_of i k) v c own a V.start V.is_start o) o in
-      (F.way, arc-there s C S i a v j b v' V k c listed F.way F.level F.some F.ends)
+      (F.dir, arc-there s C S i a v j b v' V k c listed F.dir F.level F.some F.ends)
 
 -- ---- the links
 module _ (s : Set) (C : Complex) (S : Shows s C) (n : ℕ) (e : Edge) (at_n : At C.edges n e) (v w : Vertex) (H : HasEnds C e v w) (j : Corner) (c : Arc) where
-  pub link-up : (f : Vector) → j.vertex ≡ e.low → At v.map.arcs j.item c → (A : ArcThere w.map c e.low_svertex e.high_svertex (from-low s C S n e at_n v w H).end.way f) → LinkAlong C j (corner_of e.high A.number)
+  pub link-up : (f : Vector) → j.vertex ≡ e.low → At v.map.arcs j.item c → (A : ArcThere w.map c e.low_svertex e.high_svertex (from-low s C S n e at_n v w H).end.dir f) → LinkAlong C j (corner_of e.high A.number)
   link-up f low l A = record {
     number = n;
     edge = e;
@@ -266,7 +266,7 @@ module _ (s : Set) (C : Complex) (S : Shows s C) (n : ℕ) (e : Edge) (at_n : At
     along = record { low_vertex = v; high_vertex = w; ends = H; low_arc = c; high_arc = A.arc; is_low = l; is_high = A.listed; one_normal = A.one_normal; one_way = A.one_way };
   }
 
-  pub link-down : (f : Vector) → j.vertex ≡ e.high → At w.map.arcs j.item c → (A : ArcThere v.map c e.high_svertex e.low_svertex (from-high s C S n e at_n v w H).end.way f) → LinkAlong C (corner_of e.low A.number) j
+  pub link-down : (f : Vector) → j.vertex ≡ e.high → At w.map.arcs j.item c → (A : ArcThere v.map c e.high_svertex e.low_svertex (from-high s C S n e at_n v w H).end.dir f) → LinkAlong C (corner_of e.low A.number) j
   link-down f high l A = record {
     number = n;
     edge = e;
@@ -289,7 +289,7 @@ module _ (s : Set) (C : Complex) (S : Shows s C) (n : ℕ) (e : Edge) (at_n : At
 pub arcs-go_on : ArcsGoOn
 arcs-go_on s C n e j v c S at_n K =
     let E = S.edges.edges n e at_n in
-    let l = arc-at v.map.arcs v.map.loop j.item c K.item in (
+    let l = arc-at v.map.arcs v.map.sloop j.item c K.item in (
       λ low o.
           let is = subst (λ (i : ℕ). At C.vertices i v) low K.vertex in
           let H : HasEnds C e v E.high_vertex = record { low = is; high = E.is_high } in

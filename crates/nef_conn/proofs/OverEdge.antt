@@ -10,12 +10,12 @@ use Rattle.nef_space.specs.Vectors.{Vector, opposite, dot, triple, IsDirection, 
 use Rattle.law_near.proofs.Between.{between-inner}
 use Rattle.law_near.proofs.Even.{span-1}
 use Rattle.law_forms.proofs.Directions.{direction-right}
-use Rattle.law_sphere.specs.Maps.{At, Arc, Item, arc_item, item_normal, way_of}
+use Rattle.law_sphere.specs.Maps.{At, Arc, Item, arc_item, item_normal, dir_of}
 use Rattle.law_sphere.proofs.Vectors.{same-plus, same-minus, normal-direction}
 use Rattle.law_sphere.proofs.Arcs.{at-arc}
 use Rattle.law_sphere.proofs.Lists.{at-one}
-use Rattle.law_sphere.proofs.Shot.{arc-at, way-at}
-use Rattle.law_sphere.proofs.Compare.{SameDirection-turned, way-self}
+use Rattle.law_sphere.proofs.Shot.{arc-at, dir-at}
+use Rattle.law_sphere.proofs.Compare.{SameDirection-turned, dir-self}
 use Rattle.law_sphere.proofs.Turn.{turn-same}
 use Rattle.law_complex.specs.Complexes.{Vertex, Edge, Complex, Corner, HasEnds, IsCorner}
 use Rattle.law_complex.specs.Shows.{Shows}
@@ -69,12 +69,12 @@ module _ (s : Set) (C : Complex) (S : Shows s C) (h g : Form) (d : Vector) (y z 
     Ends_before = Stops v.map N.item n m (toward w z) d T.seen
 
     -- ---- where it is an arc that ends before: z's ray comes to its edge
-    module _ (E : Ends_before) (right : pos 0 <ℤ triple m E.svertex.way d) where
+    module _ (E : Ends_before) (right : pos 0 <ℤ triple m E.svertex.dir d) where
       abbrev a : ℕ
       a = end_of n m T.seen E.arc
 
       abbrev u : Vector
-      u = E.svertex.way
+      u = E.svertex.dir
 
       abbrev L : Leads s C k.vertex a v E.svertex
       L = edge-of s C S h g d y z T k.vertex a v E.svertex N.corner.vertex E.end N.on_plane N.on_line E.level right
@@ -120,27 +120,27 @@ module _ (s : Set) (C : Complex) (S : Shows s C) (h g : Form) (d : Vector) (y z 
 
       -- seen from the normal
       turn-n : SameDirection n m → pos 0 <ℤ triple n u d
-      turn-n q = same-plus (triple m u d) (triple n u d) (turn-same m n u u d d (SameDirection-turned n m q) (way-self u u-some) (way-self d T.some)) right
+      turn-n q = same-plus (triple m u d) (triple n u d) (turn-same m n u u d d (SameDirection-turned n m q) (dir-self u u-some) (dir-self d T.some)) right
 
       turn-opposite : SameDirection (opposite n) m → triple n u d <ℤ pos 0
       turn-opposite q =
-          let h = same-plus (triple m u d) (triple (opposite n) u d) (turn-same m (opposite n) u u d d (SameDirection-turned (opposite n) m q) (way-self u u-some) (way-self d T.some)) right in
+          let h = same-plus (triple m u d) (triple (opposite n) u d) (turn-same m (opposite n) u u d d (SameDirection-turned (opposite n) m q) (dir-self u u-some) (dir-self d T.some)) right in
           let e = opposite-normal n u d in omega (arith, ints)
 
       -- the arc lies on the side of its edge to which the way back leads
-      arc-side : (O : Seen n m) → way_of v.map.svertices (end_of n m O E.arc) ≡ u → IsArcOnSide v (end_of n m O E.arc) n (opposite d) E.arc
+      arc-side : (O : Seen n m) → dir_of v.map.svertices (end_of n m O E.arc) ≡ u → IsArcOnSide v (end_of n m O E.arc) n (opposite d) E.arc
       arc-side (inl q) e = inr (refl, subst (λ (r : Vector). triple n r (opposite d) <ℤ pos 0) (sym e) (let f = right-turn n u d in let l = turn-n q in omega (arith, ints)))
       arc-side (inr q) e = inl (refl, subst (λ (r : Vector). pos 0 <ℤ triple n r (opposite d)) (sym e) (let f = right-turn n u d in let l = turn-opposite q in omega (arith, ints)))
 
       -- and seen from the other end of the edge an arc on that side begins where this one ends
-      there-sign : sign (triple n (way_of L.other.map.svertices L.there_end) (opposite d)) ≡ sign (triple n u d)
+      there-sign : sign (triple n (dir_of L.other.map.svertices L.there_end) (opposite d)) ≡ sign (triple n u d)
       there-sign =
-          let e = way-at L.other.map.svertices L.there_end L.end L.is_end in
+          let e = dir-at L.other.map.svertices L.there_end L.end L.is_end in
           let f = back-triple n u (opposite d) in
           let r = right-turn n u d in
           let i : IsDirection n = normal-direction n T.normal in
           let o = some-opposite d T.some in
-          ap (λ (r : Vector). sign (triple n r (opposite d))) e ∙ turn-same n n (opposite u) L.end.way (opposite d) (opposite d) (way-self n i) L.back (way-self (opposite d) o)
+          ap (λ (r : Vector). sign (triple n r (opposite d))) e ∙ turn-same n n (opposite u) L.end.dir (opposite d) (opposite d) (dir-self n i) L.back (dir-self (opposite d) o)
           ∙ ap sign (plain (triple n (opposite u) (opposite d)) (triple n u (opposite d)) (triple n u d) f r)
         where
           plain : (x y z : ℤ) → x ≡ neg_ℤ y → y ≡ neg_ℤ z → x ≡ z
@@ -148,8 +148,8 @@ module _ (s : Set) (C : Complex) (S : Shows s C) (h g : Form) (d : Vector) (y z 
 
       other-end : (O : Seen n m) (b : Arc) → IsArcOnSide L.other L.there_end n (opposite d) b → ((E.arc.target ≡ end_of n m O E.arc) × (b.source ≡ L.there_end)) ⊎ ((E.arc.source ≡ end_of n m O E.arc) × (b.target ≡ L.there_end))
       other-end (inl q) b (inl z) = inl (refl, z.0)
-      other-end (inl q) b (inr z) = absurd (let l = same-minus (triple n (way_of L.other.map.svertices L.there_end) (opposite d)) (triple n u d) (sym there-sign) z.1 in let r = turn-n q in omega (arith, ints))
-      other-end (inr q) b (inl z) = absurd (let l = same-plus (triple n (way_of L.other.map.svertices L.there_end) (opposite d)) (triple n u d) (sym there-sign) z.1 in let r = turn-opposite q in omega (arith, ints))
+      other-end (inl q) b (inr z) = absurd (let l = same-minus (triple n (dir_of L.other.map.svertices L.there_end) (opposite d)) (triple n u d) (sym there-sign) z.1 in let r = turn-n q in omega (arith, ints))
+      other-end (inr q) b (inl z) = absurd (let l = same-plus (triple n (dir_of L.other.map.svertices L.there_end) (opposite d)) (triple n u d) (sym there-sign) z.1 in let r = turn-opposite q in omega (arith, ints))
       other-end (inr q) b (inr z) = inr (refl, z.0)
 
       -- so the corner that the ray names there is this one, or linked with it along the edge
@@ -169,9 +169,9 @@ module _ (s : Set) (C : Complex) (S : Shows s C) (h g : Form) (d : Vector) (y z 
                 L.listed,
                 sym p,
                 H.low,
-                arc-at v.map.arcs v.map.loop k.item E.arc corner-here.item,
+                arc-at v.map.arcs v.map.sloop k.item E.arc corner-here.item,
                 same-here,
-                subst (λ (j : ℕ). IsArcOnSide v j n (opposite d) E.arc) (sym q) (arc-side T.seen (way-at v.map.svertices a E.svertex E.end)),
+                subst (λ (j : ℕ). IsArcOnSide v j n (opposite d) E.arc) (sym q) (arc-side T.seen (dir-at v.map.svertices a E.svertex E.end)),
               ) in
               subst (λ (j : Corner). Chained (FacetLink C) k j) (one-corner s C S h (opposite d) (some-opposite d T.some) level-opposite k l (meets_edge L.number) here (e, f, b, at-e, is, at-f, at-b, nb, side)) (chain-here (FacetLink C) k)
           by (inr (p, q, r, t, H)) =
@@ -181,7 +181,7 @@ module _ (s : Set) (C : Complex) (S : Shows s C) (h g : Form) (d : Vector) (y z 
               let on-side = subst (λ (j : ℕ). IsArcOnSide L.other j n (opposite d) b) (ap (λ (j : Edge). j.low_svertex) one ∙ t) (subst (λ (x : Vertex). IsArcOnSide x e.low_svertex n (opposite d) b) other side) in
               let K : IsCorner C l L.other (arc_item b) = record {
                 vertex = subst (λ (j : ℕ). At C.vertices j L.other) (sym there) L.is_there;
-                item = at-arc L.other.map.arcs L.other.map.loop l.item b (subst (λ (x : Vertex). At x.map.arcs l.item b) other at-b);
+                item = at-arc L.other.map.arcs L.other.map.sloop l.item b (subst (λ (x : Vertex). At x.map.arcs l.item b) other at-b);
               } in
               chain-before (FacetLink C) k l l (link-of s C k.vertex a v E.svertex L n k l E.arc b refl there corner-here K same-here nb (other-end T.seen b on-side)) (chain-here (FacetLink C) l)
 

@@ -17,7 +17,7 @@ use Rattle.law_near.proofs.NearGerms.{steep}
 use Rattle.law_near.proofs.Rays.{signs-same, same-place_sym}
 use Rattle.law_forms.proofs.Far.{nought-or, same-nought}
 use Rattle.law_sphere.specs.Forms.{forms}
-use Rattle.law_sphere.specs.Maps.{At, Svertex, Map, Item, arc_item, items, item_normal, item_above, IsFree, Side, around_svertex, above_item, HasSide, IsClear, by_way_of, SeenAs, HasArc, Shaped}
+use Rattle.law_sphere.specs.Maps.{At, MapVertex, Map, Item, arc_item, items, item_normal, item_pos, IsFree, Side, around_svertex, pos_item, HasSide, IsClear, by_way_of, SeenAs, HasArc, Shaped}
 use Rattle.law_sphere.proofs.Arcs.{at-arc}
 use Rattle.law_sphere.proofs.Around.{Beside, same_way, other_way, beside}
 use Rattle.law_sphere.proofs.Direct.{direct}
@@ -26,7 +26,7 @@ use Rattle.law_sphere.proofs.Generic.{amount, far-keeps, far-level, far-same}
 use Rattle.law_sphere.proofs.Labels.{same-clear}
 use Rattle.law_sphere.proofs.Lists.{search_list}
 use Rattle.law_sphere.proofs.NearItems.{kept-not_opposite}
-use Rattle.law_sphere.proofs.Shot.{way-at}
+use Rattle.law_sphere.proofs.Shot.{dir-at}
 use Rattle.law_sphere.proofs.Vectors.{normal-is}
 use Rattle.law_complex.specs.Complexes.{Vertex, Complex, Corner, IsCorner}
 use Rattle.law_complex.specs.Shows.{Shows}
@@ -74,7 +74,7 @@ module _ (s : Set) (C : Complex) (S : Shows s C) where
   module _ (upright : IsUpright C) where
     -- ---- above an edge
     -- where close to a svertex three directions are flat toward up, one side sees all directions close to it toward up
-    module _ (i : ℕ) (v : Vertex) (a : At C.vertices i v) (j : ℕ) (u : Svertex) (b : At v.map.svertices j u) where
+    module _ (i : ℕ) (v : Vertex) (a : At C.vertices i v) (j : ℕ) (u : MapVertex) (b : At v.map.svertices j u) where
       abbrev M : Map
       M = v.map
 
@@ -85,10 +85,10 @@ module _ (s : Set) (C : Complex) (S : Shows s C) where
       N = amount (forms v.map) up + steep (carriers s) up
 
       abbrev near : ℕ → Vector
-      near k = blend k u.way 1 up
+      near k = blend k u.dir 1 up
 
       module _ (F : IsFree v.map (near N)) where
-        by-item : (k : ℕ) (x : Item) → At (items v.map) k x → (o : Side) × (l : Label) × HasSide v.map o l × SeesNear v.map o u.way up
+        by-item : (k : ℕ) (x : Item) → At (items v.map) k x → (o : Side) × (l : Label) × HasSide v.map o l × SeesNear v.map o u.dir up
         by-item k x h =
             let r = direct v.map V (near N) F k x h off in (
               r.side,
@@ -102,31 +102,31 @@ module _ (s : Set) (C : Complex) (S : Shows s C) where
 
             off : dot (item_normal x) (near N) ≡ pos 0 → ⊥
             off z = ⊎_elim
-                (λ e. let m = same-nought (dot (item_normal x) (near N)) (dot (item_normal x) up) (sym (far-level (forms v.map) u.way up N (omega arith) (item_normal x) e)) z in let y = high in omega (arith, ints))
-                (λ n. n (same-nought (dot (item_normal x) (near N)) (dot (item_normal x) u.way) (sym (far-keeps (forms v.map) u.way up N (omega arith) (item_normal x) (item-forms v.map k x (item_normal x) h (normal-form v.map x)) n)) z))
-                (nought-or (dot (item_normal x) u.way))
+                (λ e. let m = same-nought (dot (item_normal x) (near N)) (dot (item_normal x) up) (sym (far-level (forms v.map) u.dir up N (omega arith) (item_normal x) e)) z in let y = high in omega (arith, ints))
+                (λ n. n (same-nought (dot (item_normal x) (near N)) (dot (item_normal x) u.dir) (sym (far-keeps (forms v.map) u.dir up N (omega arith) (item_normal x) (item-forms v.map k x (item_normal x) h (normal-form v.map x)) n)) z))
+                (nought-or (dot (item_normal x) u.dir))
 
             back : (m : ℕ) → N ≤ m → IsClear v.map (near m) (near N)
-            back m l = same-clear v.map (near m) (near N) (far-same (forms v.map) u.way up m N (omega arith) (omega arith))
-                (free-by_signs v.map (near N) (near m) (far-same (forms v.map) u.way up N m (omega arith) (omega arith)) F)
+            back m l = same-clear v.map (near m) (near N) (far-same (forms v.map) u.dir up m N (omega arith) (omega arith))
+                (free-by_signs v.map (near N) (near m) (far-same (forms v.map) u.dir up N m (omega arith) (omega arith)) F)
 
         -- without items the svertex has a side around it
-        apart : IsDirection (cross u.way up)
-        apart z = by (beside u.way (near N) (V.svertex_ways j u b) F.direction (level z))
+        apart : IsDirection (cross u.dir up)
+        apart z = by (beside u.dir (near N) (V.svertex_dirs j u b) F.direction (level z))
           where
             one : (a b c d : ℤ) → a *ℤ d -ℤ b *ℤ c ≡ pos 0 → a *ℤ (pos N *ℤ b +ℤ pos 1 *ℤ d) -ℤ b *ℤ (pos N *ℤ a +ℤ pos 1 *ℤ c) ≡ pos 0
             one a b c d e = ring (pos N ∷ a ∷ b ∷ c ∷ d ∷ []) (at 1 ⊗ (at 0 ⊗ at 2 ⊕ num (pos 1) ⊗ at 4) ⊖ at 2 ⊗ (at 0 ⊗ at 1 ⊕ num (pos 1) ⊗ at 3)) (at 1 ⊗ at 4 ⊖ at 2 ⊗ at 3) tt ∙ e
 
-            level : IsZero (cross u.way up) → IsZero (cross u.way (near N))
-            level z = (one u.way.y u.way.z up.y up.z z.0, one u.way.z u.way.x up.z up.x z.1, one u.way.x u.way.y up.x up.y z.2)
+            level : IsZero (cross u.dir up) → IsZero (cross u.dir (near N))
+            level z = (one u.dir.y u.dir.z up.y up.z z.0, one u.dir.z u.dir.x up.z up.x z.1, one u.dir.x u.dir.y up.x up.y z.2)
 
-            by : Beside u.way (near N) → ⊥
+            by : Beside u.dir (near N) → ⊥
             by (same_way w) = F.off_svertices j u b w
-            by (other_way o) = kept-not_opposite u.way (near N) (λ g l. far-keeps (forms v.map) u.way up N (omega arith) g (axes-forms v.map g l)) o
+            by (other_way o) = kept-not_opposite u.dir (near N) (λ g l. far-keeps (forms v.map) u.dir up N (omega arith) g (axes-forms v.map g l)) o
 
-        bare : ((k : ℕ) (x : Item) → At (items v.map) k x → Unit {0} → ⊥) → (o : Side) × (l : Label) × HasSide v.map o l × SeesNear v.map o u.way up
+        bare : ((k : ℕ) (x : Item) → At (items v.map) k x → Unit {0} → ⊥) → (o : Side) × (l : Label) × HasSide v.map o l × SeesNear v.map o u.dir up
         bare none =
-            let lone : HasArc v.map j → ⊥ = λ h. none h.0 (arc_item h.1) (at-arc v.map.arcs v.map.loop h.0 h.1 h.2) tt in
+            let lone : HasArc v.map j → ⊥ = λ h. none h.0 (arc_item h.1) (at-arc v.map.arcs v.map.sloop h.0 h.1 h.2) tt in
             let r = V.around_lone j u b lone in (
               around_svertex j,
               r.0,
@@ -134,7 +134,7 @@ module _ (s : Set) (C : Complex) (S : Shows s C) where
               (N, λ m l. sees-around v.map V j u b lone up m (omega arith) apart),
             )
 
-        pub seen-near : (o : Side) × (l : Label) × HasSide v.map o l × SeesNear v.map o u.way up
+        pub seen-near : (o : Side) × (l : Label) × HasSide v.map o l × SeesNear v.map o u.dir up
         seen-near = ⊎_elim (λ f. by-item f.number f.element f.listed) bare (search_list (items v.map) (λ k x. Unit {0}) (λ k x. inl tt))
 
     -- ---- above what is met
@@ -155,14 +155,14 @@ module _ (s : Set) (C : Complex) (S : Shows s C) where
       over-edge : (k : ℕ) → IsEdgePoint C k z → Covers z (on_edge k)
       over-edge k (e, v, w, a, H, b) =
           let W = edge-ways s C S k e v w a H in
-          let d = W.low.way in
+          let d = W.low.dir in
           let N = amount (forms v.map) up + steep (carriers s) up in
           let t = tied-both s (ahead s z up) (ahead s (ahead s v.point d) up) (ahead s v.point (blend N d 1 up)) (tied-ahead s z (ahead s v.point d) up (tied-low s C S k e v w a H z b)) (tied-turn s v.point d up N (omega arith)) in
           let g = seen-toward e.low v H.low (blend N d 1 up) (tied-dim s (ahead s z up) (ahead s v.point (blend N d 1 up)) 3 t f) in
           let r = seen-near e.low v H.low e.low_svertex W.low W.is_low (seen-free v.map g.1.side (blend N d 1 up) g.1.sees) in (
             record { vertex = e.low; side = r.0 },
             r.1,
-            (e, v, a, H.low, refl, subst (λ (y : Vector). SeesNear v.map r.0 y up) (sym (way-at v.map.svertices e.low_svertex W.low W.is_low)) r.3),
+            (e, v, a, H.low, refl, subst (λ (y : Vector). SeesNear v.map r.0 y up) (sym (dir-at v.map.svertices e.low_svertex W.low W.is_low)) r.3),
             (v, H.low, r.2),
           )
 
@@ -186,8 +186,8 @@ module _ (s : Set) (C : Complex) (S : Shows s C) where
               let flat : IsFlatIn s (item_plane H.vertex H.item) z = (G.dim, λ d. let a = through-level n d p in let b = G.flat d in (λ g. a.0 (b.0 g), λ o. b.1 (a.1 o))) in
               let on : form_at (item_plane H.vertex H.item) z ≡ pos 0 = through-at n p z ∙ on-level H.vertex.map H.item (toward p z) H.facet_point.on_item in
               let A = across s C S (item_plane H.vertex H.item) z on flat (plane_axis n) ((through-level n (plane_axis n) p).0 (axis-in n some).1) j H.named in (
-                record { vertex = j.vertex; side = above_item j.item },
-                item_above A.item,
+                record { vertex = j.vertex; side = pos_item j.item },
+                item_pos A.item,
                 (j, H, refl, refl),
                 (A.vertex, A.corner.vertex, (A.item, A.corner.item, refl)),
               )

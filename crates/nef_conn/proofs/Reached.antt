@@ -6,11 +6,11 @@ use Rattle.nef_space.specs.Place.{Place, form_at, toward, IsPlaceBelow}
 use Rattle.nef_space.specs.Sets.{Set}
 use Rattle.nef_space.specs.Vectors.{Vector, opposite, dot, triple, IsDirection, IsNormal, SameDirection, IsOpposite, plane_dir}
 use Rattle.law_near.proofs.Decided.{Decided}
-use Rattle.law_sphere.specs.Maps.{At, Svertex, Arc, arc_item, loop_item, way_of, OnItem}
+use Rattle.law_sphere.specs.Maps.{At, MapVertex, Arc, arc_item, sloop_item, dir_of, OnItem}
 use Rattle.law_sphere.proofs.Vectors.{normal-is}
 use Rattle.law_sphere.proofs.Forms.{OnItem-decided}
 use Rattle.law_sphere.proofs.Places.{SameDirection-decided}
-use Rattle.law_sphere.proofs.Shot.{way-at, arc-at}
+use Rattle.law_sphere.proofs.Shot.{dir-at, arc-at}
 use Rattle.law_sphere.proofs.Around.{triple-turned}
 use Rattle.law_sphere.proofs.Compare.{SameDirection-turned, SameDirection-trans, normals-not_opposite}
 use Rattle.law_sphere.proofs.Arcs.{at-arc, Ends, ends-of}
@@ -39,7 +39,7 @@ within (y ∷ ys) (suc k) x h = omega (arith, within ys k x h)
 far-on : (s : Set) (C : Complex) (S : Shows s C) (i a : ℕ) (v : Vertex) (j b : ℕ) (w : Vertex) (V : EdgeAway s C i a v j b w) (k : Corner) (c : Arc) (K : IsCorner C k v (arc_item c)) → EndsAt c a
     → form_at (item_plane v (arc_item c)) w.point ≡ pos 0
 far-on s C S i a v j b w V k c K o =
-    through-at c.normal v.point w.point ∙ level-way c.normal V.start.way (toward v.point w.point) (SameDirection-turned (toward v.point w.point) V.start.way V.onward) (end-level s C S k v c K a V.start V.is_start o)
+    through-at c.normal v.point w.point ∙ level-way c.normal V.start.dir (toward v.point w.point) (SameDirection-turned (toward v.point w.point) V.start.dir V.onward) (end-level s C S k v c K a V.start V.is_start o)
 
 -- a linked arc of the same plane, at a vertex ahead the way inward
 pub record StepOn (C : Complex) (j : Corner) (v : Vertex) (c : Arc) : Type 0 where
@@ -61,7 +61,7 @@ module _ (s : Set) (C : Complex) (S : Shows s C) (j : Corner) (v : Vertex) (c : 
   f = opposite d
 
   listed : At v.map.arcs j.item c
-  listed = arc-at v.map.arcs v.map.loop j.item c K.item
+  listed = arc-at v.map.arcs v.map.sloop j.item c K.item
 
   n-some : IsDirection c.normal
   n-some = normal-is (S.cones j.vertex v K.vertex).valid.shaped j.item (arc_item c) K.item
@@ -79,7 +79,7 @@ module _ (s : Set) (C : Complex) (S : Shows s C) (j : Corner) (v : Vertex) (c : 
   d-some z = dir-some c.normal n-some (let x = z.0 in omega (arith, ints), let y = z.1 in omega (arith, ints), let w = z.2 in omega (arith, ints))
 
   -- ---- at a svertex on whose side the way back leads
-  module _ (a : ℕ) (u : Svertex) (is-u : At v.map.svertices a u) (side : EndsOnSide a (way_of v.map.svertices a) f c) where
+  module _ (a : ℕ) (u : MapVertex) (is-u : At v.map.svertices a u) (side : EndsOnSide a (dir_of v.map.svertices a) f c) where
     faced : Reaches s C j v (arc_item c)
     faced = by (svertex-edge s C S j.vertex a v u K.vertex is-u)
       where
@@ -88,8 +88,8 @@ module _ (s : Set) (C : Complex) (S : Shows s C) (j : Corner) (v : Vertex) (c : 
             let E = S.edges.edges n e at-n in
             let H : HasEnds C e v E.high_vertex = record { low = subst (λ (i : ℕ). At C.vertices i v) (sym low) K.vertex; high = E.is_high } in
             let V = from-low s C S n e at-n v E.high_vertex H in
-            let there = subst (λ (i : ℕ). EndsOnSide i (way_of v.map.svertices i) f c) (sym sv) side in
-            edge-named s C S n e at-n v E.high_vertex H j c K (sym low) (subst (λ (t : Vector). EndsOnSide e.low_svertex t f c) (way-at v.map.svertices e.low_svertex V.start V.is_start) there)
+            let there = subst (λ (i : ℕ). EndsOnSide i (dir_of v.map.svertices i) f c) (sym sv) side in
+            edge-named s C S n e at-n v E.high_vertex H j c K (sym low) (subst (λ (t : Vector). EndsOnSide e.low_svertex t f c) (dir-at v.map.svertices e.low_svertex V.start V.is_start) there)
 
         high-end : (n : ℕ) (e : Edge) → At C.edges n e → e.high ≡ j.vertex → e.high_svertex ≡ a → Reaches s C j v (arc_item c)
         high-end n e at-n high sv =
@@ -97,23 +97,23 @@ module _ (s : Set) (C : Complex) (S : Shows s C) (j : Corner) (v : Vertex) (c : 
             let w = E.low_vertex in
             let H : HasEnds C e w v = record { low = E.is_low; high = subst (λ (i : ℕ). At C.vertices i v) (sym high) K.vertex } in
             let V = from-high s C S n e at-n w v H in
-            let there = subst (λ (i : ℕ). EndsOnSide i (way_of v.map.svertices i) f c) (sym sv) side in
-            let here = subst (λ (t : Vector). EndsOnSide e.high_svertex t f c) (way-at v.map.svertices e.high_svertex V.start V.is_start) there in
+            let there = subst (λ (i : ℕ). EndsOnSide i (dir_of v.map.svertices i) f c) (sym sv) side in
+            let here = subst (λ (t : Vector). EndsOnSide e.high_svertex t f c) (dir-at v.map.svertices e.high_svertex V.start V.is_start) there in
             let A = arc-there s C S e.high e.high_svertex v e.low e.low_svertex w V j.item c listed f level-f f-some here in
             let k = corner_of e.low A.number in
-            let L : IsCorner C k w (arc_item A.arc) = record { vertex = E.is_low; item = at-arc w.map.arcs w.map.loop A.number A.arc A.listed } in
+            let L : IsCorner C k w (arc_item A.arc) = record { vertex = E.is_low; item = at-arc w.map.arcs w.map.sloop A.number A.arc A.listed } in
             let same = SameDirection-turned c.normal A.arc.normal A.one_normal in
             let turned = opposite-same d (way_inward (arc_item A.arc)) (opposite-same (plane_dir c.normal) (plane_dir A.arc.normal) (dir-same c.normal A.arc.normal A.one_normal)) in
             carried s C S j v (arc_item c) K k w (arc_item A.arc) L (inr (inl (link-down s C S n e at-n w v H j c f (sym high) listed A))) same
             (far-on s C S e.high e.high_svertex v e.low e.low_svertex w V j c K (⊎_elim (λ r. inl r.0) (λ r. inr r.0) here))
-            (edge-named s C S n e at-n w v H k A.arc L refl (side-same e.low_svertex V.end.way f (opposite (way_inward (arc_item A.arc))) A.arc turned A.side))
+            (edge-named s C S n e at-n w v H k A.arc L refl (side-same e.low_svertex V.end.dir f (opposite (way_inward (arc_item A.arc))) A.arc turned A.side))
 
         by : ((n : ℕ) × (e : Edge) × At C.edges n e × (((e.low ≡ j.vertex) × (e.low_svertex ≡ a)) ⊎ ((e.high ≡ j.vertex) × (e.high_svertex ≡ a)))) → Reaches s C j v (arc_item c)
         by (n, e, at-n, inl x) = low-end n e at-n x.0 x.1
         by (n, e, at-n, inr x) = high-end n e at-n x.0 x.1
 
   -- ---- along an edge that leads the way inward
-  module _ (a : ℕ) (u : Svertex) (is-u : At v.map.svertices a u) (o : EndsAt c a) (w : SameDirection (way_of v.map.svertices a) d) where
+  module _ (a : ℕ) (u : MapVertex) (is-u : At v.map.svertices a u) (o : EndsAt c a) (w : SameDirection (dir_of v.map.svertices a) d) where
     step-on : StepOn C j v c
     step-on = by-edge (svertex-edge s C S j.vertex a v u K.vertex is-u)
       where
@@ -123,17 +123,17 @@ module _ (s : Set) (C : Complex) (S : Shows s C) (j : Corner) (v : Vertex) (c : 
             let H : HasEnds C e v E.high_vertex = record { low = subst (λ (i : ℕ). At C.vertices i v) (sym low) K.vertex; high = E.is_high } in
             let V = from-low s C S n e at-n v E.high_vertex H in
             let ends = subst (λ (i : ℕ). EndsAt c i) (sym sv) o in
-            let way = subst (λ (t : Vector). SameDirection t d) (way-at v.map.svertices e.low_svertex V.start V.is_start) (subst (λ (i : ℕ). SameDirection (way_of v.map.svertices i) d) (sym sv) w) in
+            let way = subst (λ (t : Vector). SameDirection t d) (dir-at v.map.svertices e.low_svertex V.start V.is_start) (subst (λ (i : ℕ). SameDirection (dir_of v.map.svertices i) d) (sym sv) w) in
             let A = goes-on s C S e.low e.low_svertex v e.high e.high_svertex E.high_vertex V j.item c listed ends in
             record {
               corner = corner_of e.high A.1.number;
               vertex = E.high_vertex;
               arc = A.1.arc;
-              is_corner = record { vertex = E.is_high; item = at-arc E.high_vertex.map.arcs E.high_vertex.map.loop A.1.number A.1.arc A.1.listed };
+              is_corner = record { vertex = E.is_high; item = at-arc E.high_vertex.map.arcs E.high_vertex.map.sloop A.1.number A.1.arc A.1.listed };
               link = inl (inl (link-up s C S n e at-n v E.high_vertex H j c A.0 (sym low) listed A.1));
               same = SameDirection-turned c.normal A.1.arc.normal A.1.one_normal;
               on_plane = far-on s C S e.low e.low_svertex v e.high e.high_svertex E.high_vertex V j c K ends;
-              ahead = SameDirection-trans (toward v.point E.high_vertex.point) V.start.way d V.onward way;
+              ahead = SameDirection-trans (toward v.point E.high_vertex.point) V.start.dir d V.onward way;
               order = inl (subst (λ (i : ℕ). i < e.high) low E.upward, S.ordered e.low e.high v E.high_vertex E.upward H.low H.high);
             }
 
@@ -144,17 +144,17 @@ module _ (s : Set) (C : Complex) (S : Shows s C) (j : Corner) (v : Vertex) (c : 
             let H : HasEnds C e x v = record { low = E.is_low; high = subst (λ (i : ℕ). At C.vertices i v) (sym high) K.vertex } in
             let V = from-high s C S n e at-n x v H in
             let ends = subst (λ (i : ℕ). EndsAt c i) (sym sv) o in
-            let way = subst (λ (t : Vector). SameDirection t d) (way-at v.map.svertices e.high_svertex V.start V.is_start) (subst (λ (i : ℕ). SameDirection (way_of v.map.svertices i) d) (sym sv) w) in
+            let way = subst (λ (t : Vector). SameDirection t d) (dir-at v.map.svertices e.high_svertex V.start V.is_start) (subst (λ (i : ℕ). SameDirection (dir_of v.map.svertices i) d) (sym sv) w) in
             let A = goes-on s C S e.high e.high_svertex v e.low e.low_svertex x V j.item c listed ends in
             record {
               corner = corner_of e.low A.1.number;
               vertex = x;
               arc = A.1.arc;
-              is_corner = record { vertex = E.is_low; item = at-arc x.map.arcs x.map.loop A.1.number A.1.arc A.1.listed };
+              is_corner = record { vertex = E.is_low; item = at-arc x.map.arcs x.map.sloop A.1.number A.1.arc A.1.listed };
               link = inr (inl (link-down s C S n e at-n x v H j c A.0 (sym high) listed A.1));
               same = SameDirection-turned c.normal A.1.arc.normal A.1.one_normal;
               on_plane = far-on s C S e.high e.high_svertex v e.low e.low_svertex x V j c K ends;
-              ahead = SameDirection-trans (toward v.point x.point) V.start.way d V.onward way;
+              ahead = SameDirection-trans (toward v.point x.point) V.start.dir d V.onward way;
               order = inr (subst (λ (i : ℕ). e.low < i) high E.upward, S.ordered e.low e.high x v E.upward H.low H.high);
             }
 
@@ -167,10 +167,10 @@ module _ (s : Set) (C : Complex) (S : Shows s C) (j : Corner) (v : Vertex) (c : 
   ends = ends-of v.map (S.cones j.vertex v K.vertex).valid.shaped j.item c listed
 
   abbrev from : Vector
-  from = way_of v.map.svertices c.source
+  from = dir_of v.map.svertices c.source
 
   abbrev to : Vector
-  to = way_of v.map.svertices c.target
+  to = dir_of v.map.svertices c.target
 
   pub three-ways : Reaches s C j v (arc_item c) ⊎ StepOn C j v c
   three-ways = by (SameDirection-decided from d) (SameDirection-decided to d) (OnItem-decided v.map (arc_item c) d)
@@ -256,9 +256,9 @@ module _ (s : Set) (C : Complex) (S : Shows s C) where
 
 pub items-name : ItemsName
 items-name s C j v (arc_item c) S K = arc-reaches s C S j v c K
-items-name s C j v (loop_item l) S K =
-    let i = normal-is (S.cones j.vertex v K.vertex).valid.shaped j.item (loop_item l) K.item in
-    onward-named s C S j v (loop_item l) K (record {
+items-name s C j v (sloop_item l) S K =
+    let i = normal-is (S.cones j.vertex v K.vertex).valid.shaped j.item (sloop_item l) K.item in
+    onward-named s C S j v (sloop_item l) K (record {
       direction = λ z. dir-some l.normal i (let x = z.0 in omega (arith, ints), let y = z.1 in omega (arith, ints), let w = z.2 in omega (arith, ints));
       level = level-of_opposite l.normal (plane_dir l.normal) (dir-level l.normal);
     })

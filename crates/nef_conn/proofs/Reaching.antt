@@ -18,7 +18,7 @@ use Rattle.nef_conn.specs.Reach.{CornersReached, SidesReached}
 pub corners-reached : CornersReached
 corners-reached s C p k S H =
     let A = corner-across s C S p k H in
-    (ahead s A.vertex.point A.way, at-item s C S k A.vertex A.item A.corner A.way A.on, A.tied.0)
+    (ahead s A.vertex.point A.dir, at-item s C S k A.vertex A.item A.corner A.dir A.on, A.tied.0)
 
 pub sides-reached : SidesReached
 sides-reached s C p x S u (off, R) =

@@ -9,14 +9,14 @@ use Rattle.law_cyclic.proofs.StrictlyOn.{same_test}
 use Rattle.law_cyclic.proofs.Cyclic.{Says, says_both, says_one, says_passes, says_same, implied, FourTest, every_four, holds_at_four}
 use Rattle.law_cyclic.proofs.Directions.{way_back_passes_the_same, level-opposite}
 use Rattle.nef_conn.proofs.Named.{twice}
-use Rattle.law_sphere.specs.Maps.{At, Svertex, Arc, Item, arc_item, loop_item, items, item_normal, Map, OnItem, way_of, Shaped}
+use Rattle.law_sphere.specs.Maps.{At, MapVertex, Arc, Item, arc_item, sloop_item, items, item_normal, Map, OnItem, dir_of, Shaped}
 use Rattle.law_near.proofs.Decided.{Decided}
 use Rattle.law_sphere.proofs.Vectors.{normal-is, same-plus, same-minus, positive-or, negative-or}
 use Rattle.law_sphere.proofs.Around.{triple-turned}
 use Rattle.law_sphere.proofs.Arcs.{Ends, ends-of}
-use Rattle.law_sphere.proofs.Compare.{SameDirection-turned, SameDirection-trans, way-self}
+use Rattle.law_sphere.proofs.Compare.{SameDirection-turned, SameDirection-trans, dir-self}
 use Rattle.law_sphere.proofs.Forms.{on-direction, on-level}
-use Rattle.law_sphere.proofs.Shot.{arc-at, way-at}
+use Rattle.law_sphere.proofs.Shot.{arc-at, dir-at}
 use Rattle.law_sphere.proofs.Turn.{turn-last, IsStrictlyOn-same}
 use Rattle.nef_conn.proofs.Onward.{level-kept}
 use Rattle.nef_conn.proofs.WayInward.{opposite-same}
@@ -96,11 +96,11 @@ seen-back n m (inr w) = inl (subst (λ (r : Vector). SameDirection r (opposite m
 
 module _ (n m : Vector) (O : Seen n m) (m-some : IsDirection m) (M : Map) (V : Shaped M) where
   abbrev way : ℕ → Vector
-  way k = way_of M.svertices k
+  way k = dir_of M.svertices k
 
   module _ (k : ℕ) (c : Arc) (listed : At (items M) k (arc_item c)) (same : SameDirection c.normal n) where
     abbrev E : Ends M c
-    E = ends-of M V k c (arc-at M.arcs M.loop k c listed)
+    E = ends-of M V k c (arc-at M.arcs M.sloop k c listed)
 
     at-source : IsOnCircle c.normal (way c.source)
     at-source = record { direction = E.source_direction; level = E.source_level }
@@ -115,27 +115,27 @@ module _ (n m : Vector) (O : Seen n m) (m-some : IsDirection m) (M : Map) (V : S
     seen-on e o = by O
       where
         self : SameDirection e e
-        self = way-self e (on-direction M (arc_item c) e o)
+        self = dir-self e (on-direction M (arc_item c) e o)
 
         by : (O : Seen n m) → IsStrictlyOn m (way (start_of n m O c)) (way (end_of n m O c)) e
-        by (inl w) = IsStrictlyOn-same c.normal m (way c.source) (way c.source) (way c.target) (way c.target) e e (SameDirection-trans c.normal n m same w) (way-self (way c.source) E.source_direction) (way-self (way c.target) E.target_direction) self o
+        by (inl w) = IsStrictlyOn-same c.normal m (way c.source) (way c.source) (way c.target) (way c.target) e e (SameDirection-trans c.normal n m same w) (dir-self (way c.source) E.source_direction) (dir-self (way c.target) E.target_direction) self o
         by (inr w) = IsStrictlyOn-same (opposite c.normal) m (way c.target) (way c.target) (way c.source) (way c.source) e e (SameDirection-trans (opposite c.normal) (opposite n) m (opposite-same c.normal n same) w)
-            (way-self (way c.target) E.target_direction) (way-self (way c.source) E.source_direction) self ((way_back_passes_the_same c.normal (way c.source) (way c.target) e n-some at-source at-target).1 o)
+            (dir-self (way c.target) E.target_direction) (dir-self (way c.source) E.source_direction) self ((way_back_passes_the_same c.normal (way c.source) (way c.target) e n-some at-source at-target).1 o)
 
     on-seen : (e : Vector) → IsStrictlyOn m (way (start_of n m O c)) (way (end_of n m O c)) e → OnItem M (arc_item c) e
     on-seen e o = by O o
       where
         by : (O : Seen n m) → IsStrictlyOn m (way (start_of n m O c)) (way (end_of n m O c)) e → OnItem M (arc_item c) e
-        by (inl w) o = IsStrictlyOn-same m c.normal (way c.source) (way c.source) (way c.target) (way c.target) e e (SameDirection-turned c.normal m (SameDirection-trans c.normal n m same w)) (way-self (way c.source) E.source_direction) (way-self (way c.target) E.target_direction) (way-self e o.on_circle.direction) o
+        by (inl w) o = IsStrictlyOn-same m c.normal (way c.source) (way c.source) (way c.target) (way c.target) e e (SameDirection-turned c.normal m (SameDirection-trans c.normal n m same w)) (dir-self (way c.source) E.source_direction) (dir-self (way c.target) E.target_direction) (dir-self e o.on_circle.direction) o
         by (inr w) o = (way_back_passes_the_same c.normal (way c.source) (way c.target) e n-some at-source at-target).0
             (IsStrictlyOn-same m (opposite c.normal) (way c.target) (way c.target) (way c.source) (way c.source) e e (SameDirection-turned (opposite c.normal) m (SameDirection-trans (opposite c.normal) (opposite n) m (opposite-same c.normal n same) w))
-            (way-self (way c.target) E.target_direction) (way-self (way c.source) E.source_direction) (way-self e o.on_circle.direction) o)
+            (dir-self (way c.target) E.target_direction) (dir-self (way c.source) E.source_direction) (dir-self e o.on_circle.direction) o)
 
     -- the end of the arc
-    end-listed : (u : Svertex) × At M.svertices (end_of n m O c) u
+    end-listed : (u : MapVertex) × At M.svertices (end_of n m O c) u
     end-listed = by O
       where
-        by : (O : Seen n m) → (u : Svertex) × At M.svertices (end_of n m O c) u
+        by : (O : Seen n m) → (u : MapVertex) × At M.svertices (end_of n m O c) u
         by (inl w) = (E.target, E.has_target)
         by (inr w) = (E.source, E.has_source)
 
@@ -166,20 +166,20 @@ pub record Through (M : Map) (x : Item) (n m f g : Vector) : Type 0 where
 pub record Stops (M : Map) (x : Item) (n m f g : Vector) (O : Seen n m) : Type 0 where
   pub arc : Arc
   pub is_arc : x ≡ arc_item arc
-  pub svertex : Svertex
+  pub svertex : MapVertex
   pub end : At M.svertices (end_of n m O arc) svertex
-  pub level : dot n svertex.way ≡ pos 0
-  pub left : pos 0 <ℤ triple m f svertex.way
-  pub before : SameDirection svertex.way g ⊎ (pos 0 <ℤ triple m svertex.way g)
-  pub between : (e : Vector) → IsDirection e → dot n e ≡ pos 0 → pos 0 <ℤ triple m f e → pos 0 <ℤ triple m e svertex.way → OnItem M x e
+  pub level : dot n svertex.dir ≡ pos 0
+  pub left : pos 0 <ℤ triple m f svertex.dir
+  pub before : SameDirection svertex.dir g ⊎ (pos 0 <ℤ triple m svertex.dir g)
+  pub between : (e : Vector) → IsDirection e → dot n e ≡ pos 0 → pos 0 <ℤ triple m f e → pos 0 <ℤ triple m e svertex.dir → OnItem M x e
 
 module _ (n m : Vector) (O : Seen n m) (m-some : IsDirection m) (M : Map) (V : Shaped M) (f g : Vector) (g-some : IsDirection g) (level : dot n g ≡ pos 0) (turn : pos 0 <ℤ triple m f g) where
   module _ (k : ℕ) (c : Arc) (listed : At (items M) k (arc_item c)) (same : SameDirection c.normal n) (on : OnItem M (arc_item c) f) where
     abbrev s : Vector
-    s = way_of M.svertices (start_of n m O c)
+    s = dir_of M.svertices (start_of n m O c)
 
     abbrev t : Vector
-    t = way_of M.svertices (end_of n m O c)
+    t = dir_of M.svertices (end_of n m O c)
 
     at-f : IsOnCircle m f
     at-f = record { direction = on-direction M (arc_item c) f on; level = seen-level n m f O (level-kept c.normal n f same (on-level M (arc_item c) f on)) }
@@ -217,9 +217,9 @@ module _ (n m : Vector) (O : Seen n m) (m-some : IsDirection m) (M : Map) (V : S
             absurd (none p (omega (arith, ints)))
 
     stops : pos 0 <ℤ triple m f t → SameDirection g t ⊎ (triple m g t <ℤ pos 0) → Stops M (arc_item c) n m f g O
-    stops h o = let u = end-listed n m O m-some M V k c listed same in by u.0 u.1 (way-at M.svertices (end_of n m O c) u.0 u.1)
+    stops h o = let u = end-listed n m O m-some M V k c listed same in by u.0 u.1 (dir-at M.svertices (end_of n m O c) u.0 u.1)
       where
-        by : (u : Svertex) → At M.svertices (end_of n m O c) u → t ≡ u.way → Stops M (arc_item c) n m f g O
+        by : (u : MapVertex) → At M.svertices (end_of n m O c) u → t ≡ u.dir → Stops M (arc_item c) n m f g O
         by u a e = record {
           arc = c;
           is_arc = refl;
@@ -227,7 +227,7 @@ module _ (n m : Vector) (O : Seen n m) (m-some : IsDirection m) (M : Map) (V : S
           end = a;
           level = subst (λ (r : Vector). dot n r ≡ pos 0) e (end-level n m O m-some M V k c listed same);
           left = subst (λ (r : Vector). pos 0 <ℤ triple m f r) e h;
-          before = ⊎_elim (λ w. inl (SameDirection-turned g u.way (subst (λ (r : Vector). SameDirection g r) e w))) (λ q. inr (let x = subst (λ (r : Vector). triple m g r <ℤ pos 0) e q in let y = triple-turned m g u.way in omega (arith, ints))) o;
+          before = ⊎_elim (λ w. inl (SameDirection-turned g u.dir (subst (λ (r : Vector). SameDirection g r) e w))) (λ q. inr (let x = subst (λ (r : Vector). triple m g r <ℤ pos 0) e q in let y = triple-turned m g u.dir in omega (arith, ints))) o;
           between = λ v i z p q. before-end h v i z p (subst (λ (r : Vector). pos 0 <ℤ triple m v r) (sym e) q);
         }
 
@@ -247,6 +247,6 @@ module _ (n m : Vector) (O : Seen n m) (m-some : IsDirection m) (M : Map) (V : S
 
   pub turned : (k : ℕ) (x : Item) → At (items M) k x → SameDirection (item_normal x) n → OnItem M x f → Through M x n m f g ⊎ Stops M x n m f g O
   turned k (arc_item c) listed same on = arc-turned k c listed same on
-  turned k (loop_item l) listed same on =
+  turned k (sloop_item l) listed same on =
       let back = SameDirection-turned l.normal n same in
       inl (record { on = record { direction = g-some; level = level-kept n l.normal g back level }; between = λ e i z p q. record { direction = i; level = level-kept n l.normal e back z } })

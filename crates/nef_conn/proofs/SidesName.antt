@@ -27,7 +27,7 @@ use Rattle.law_forms.proofs.Directions.{zero-decided, dot-zero, self-pos, direct
 use Rattle.law_sphere.specs.Maps.{At, HasSide, Sees, here}
 use Rattle.law_sphere.proofs.Lists.{at-one}
 use Rattle.law_sphere.proofs.Around.{Beside, same_way, other_way, beside}
-use Rattle.law_sphere.proofs.Compare.{SameDirection-turned, SameDirection-trans, way-self}
+use Rattle.law_sphere.proofs.Compare.{SameDirection-turned, SameDirection-trans, dir-self}
 use Rattle.law_sphere.proofs.Direct.{cross-self}
 use Rattle.law_sphere.proofs.Turn.{turn-last, turn-same}
 use Rattle.law_sphere.proofs.Vectors.{same-plus}
@@ -259,7 +259,7 @@ module _ (s : Set) (C : Complex) (S : Shows s C) (upright : IsUpright C) (linked
         side =
             let p : pos 0 <ℤ triple m up d = self-pos m slanted in
             let p' = same-plus (triple m up d) (triple m up (toward v.point b)) (turn-last m up d (toward v.point b) (SameDirection-turned (toward v.point b) d to-b)) p in
-            same-plus (triple m up (toward v.point b)) (lam n v.point b) (turn-same m n up up (toward v.point b) (toward v.point b) (through-same m v.point slanted) (way-self up up-some) (way-self (toward v.point b) (direction-left (toward v.point b) d to-b))) p'
+            same-plus (triple m up (toward v.point b)) (lam n v.point b) (turn-same m n up up (toward v.point b) (toward v.point b) (through-same m v.point slanted) (dir-self up up-some) (dir-self (toward v.point b) (direction-left (toward v.point b) d to-b))) p'
 
         clear : Clear (sliced s h) h hn level v.point b
         clear r vertex on g i = by ((all-vertices (sliced s h)).2 r vertex)

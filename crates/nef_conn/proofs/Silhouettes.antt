@@ -144,7 +144,7 @@ module _ (s : Set) (C : Complex) (S : Shows s C) (upright : IsUpright C) (linked
     flatness = (flat_dim-of s L.place).0
 
     some-way : IsDirection (toward y' L.place)
-    some-way = direction-left (toward y' L.place) g L.way
+    some-way = direction-left (toward y' L.place) g L.dir
 
     along : (r : Place) → IsBetween y' r L.place → SameGerms s L.place r
     along r m =

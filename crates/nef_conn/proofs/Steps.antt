@@ -26,7 +26,7 @@ use Rattle.law_forms.proofs.Between.{toward-place, between-same}
 use Rattle.law_forms.proofs.Directions.{zero-decided, direction-right}
 use Rattle.law_sphere.proofs.Around.{triple-turned, Beside, same_way, other_way, beside}
 use Rattle.law_sphere.proofs.Parallel.{parallel-in_plane}
-use Rattle.law_sphere.proofs.Compare.{way-self}
+use Rattle.law_sphere.proofs.Compare.{dir-self}
 use Rattle.law_sphere.proofs.Vectors.{normal-direction}
 use Rattle.law_complex.specs.Complexes.{Vertex, Complex, Corner}
 use Rattle.law_complex.specs.Shows.{Shows}
@@ -95,7 +95,7 @@ module _ (s : Set) (C : Complex) (S : Shows s C) (h : Form) (d : Vector) (y z : 
   strip-right : pos 0 <ℤ triple n (toward y z) d → Strip s C h h d y z
   strip-right t = record {
     normal = N;
-    seen = inl (way-self n n-some);
+    seen = inl (dir-self n n-some);
     too = λ p e. e;
     back = λ p e. e;
     some = some;
@@ -114,7 +114,7 @@ module _ (s : Set) (C : Complex) (S : Shows s C) (h : Form) (d : Vector) (y z : 
   strip-left : triple n (toward y z) d <ℤ pos 0 → Strip s C h (flip h) d y z
   strip-left t = record {
     normal = N;
-    seen = inr (way-self (opposite n) (λ q. n-some (let x = q.0 in omega (arith, ints), let x = q.1 in omega (arith, ints), let x = q.2 in omega (arith, ints))));
+    seen = inr (dir-self (opposite n) (λ q. n-some (let x = q.0 in omega (arith, ints), let x = q.1 in omega (arith, ints), let x = q.2 in omega (arith, ints))));
     too = λ p e. let f = flip-at h p in omega (arith, ints);
     back = λ p e. let f = flip-at h p in omega (arith, ints);
     some = some;

@@ -103,8 +103,8 @@ pub record Frame (s : Set) (C : Complex) (y : Place) : Type 0 where
   pub number : ℕ
   pub vertex : Vertex
   pub listed : At C.vertices number vertex
-  pub way : Vector
-  pub tied : (f : Vector) (k : ℕ) → steep (carriers s) f ≤ k → IsTied s (ahead s y f) (ahead s vertex.point (blend k way 1 f))
+  pub dir : Vector
+  pub tied : (f : Vector) (k : ℕ) → steep (carriers s) f ≤ k → IsTied s (ahead s y f) (ahead s vertex.point (blend k dir 1 f))
 
 abbrev pub bound : Set → Vertex → Vector → ℕ
 bound s v f = amount (forms v.map) f + steep (carriers s) f
@@ -113,7 +113,7 @@ bound s v f = amount (forms v.map) f + steep (carriers s) f
 pub record Touch (s : Set) (C : Complex) (y : Place) (F : Frame s C y) (x : VertexSide) (f : Vector) : Type 0 where
   pub steps : ℕ
   pub large : bound s F.vertex f ≤ steps
-  pub seer : Seer F.number F.vertex x (blend steps F.way 1 f)
+  pub seer : Seer F.number F.vertex x (blend steps F.dir 1 f)
 
 pub no-way : (k : ℕ) (f : Vector) → blend k zero_vector 1 f ≡ f
 no-way k f = vector-same (blend k zero_vector 1 f) f (one f.x) (one f.y) (one f.z)
@@ -127,7 +127,7 @@ vertex-frame s C i v y a e = record {
   number = i;
   vertex = v;
   listed = a;
-  way = zero_vector;
+  dir = zero_vector;
   tied = λ f k l. subst (λ (g : Vector). IsTied s (ahead s y f) (ahead s v.point g)) (sym (no-way k f))
       (tied-cell s (ahead s y f) (ahead s v.point f) (ahead-cells s y v.point f (signs-same (carriers s) y v.point (same-place_sym v.point y e))));
 }
@@ -138,12 +138,12 @@ tied-frame s C i v y d a t = record {
   number = i;
   vertex = v;
   listed = a;
-  way = d;
+  dir = d;
   tied = λ f k l. tied-both s (ahead s y f) (ahead s (ahead s v.point d) f) (ahead s v.point (blend k d 1 f)) (tied-ahead s y (ahead s v.point d) f t) (tied-turn s v.point d f k l);
 }
 
 abbrev pub edge-frame : (s : Set) (C : Complex) (S : Shows s C) (k : ℕ) (e : Edge) (v w : Vertex) (y : Place) → At C.edges k e → (H : HasEnds C e v w) → IsBetween v.point y w.point → Frame s C y
-edge-frame s C S k e v w y a H b = tied-frame s C e.low v y (edge-ways s C S k e v w a H).low.way H.low (tied-low s C S k e v w a H y b)
+edge-frame s C S k e v w y a H b = tied-frame s C e.low v y (edge-ways s C S k e v w a H).low.dir H.low (tied-low s C S k e v w a H y b)
 
 module _ (s : Set) (C : Complex) (S : Shows s C) (y : Place) (F : Frame s C y) where
   abbrev M : Map
@@ -153,23 +153,23 @@ module _ (s : Set) (C : Complex) (S : Shows s C) (y : Place) (F : Frame s C y) w
   Free f = FlatDim s (ahead s y f) 3
 
   -- toward what is flat the directions close to the way are free
-  pub free-close : (f : Vector) → Free f → (k : ℕ) → steep (carriers s) f ≤ k → IsFree M (blend k F.way 1 f)
+  pub free-close : (f : Vector) → Free f → (k : ℕ) → steep (carriers s) f ≤ k → IsFree M (blend k F.dir 1 f)
   free-close f h k l =
-      let o = seen-toward s C S F.number F.vertex F.listed (blend k F.way 1 f) (tied-dim s (ahead s y f) (ahead s F.vertex.point (blend k F.way 1 f)) 3 (F.tied f k l) h) in
-      seen-free M o.1.side (blend k F.way 1 f) o.1.sees
+      let o = seen-toward s C S F.number F.vertex F.listed (blend k F.dir 1 f) (tied-dim s (ahead s y f) (ahead s F.vertex.point (blend k F.dir 1 f)) 3 (F.tied f k l) h) in
+      seen-free M o.1.side (blend k F.dir 1 f) o.1.sees
 
   pub touched : (f : Vector) → Free f → (x : VertexSide) × Touch s C y F x f
   touched f h =
       let k = bound s F.vertex f in
-      let o = seen-toward s C S F.number F.vertex F.listed (blend k F.way 1 f) (tied-dim s (ahead s y f) (ahead s F.vertex.point (blend k F.way 1 f)) 3 (F.tied f k (omega arith)) h) in (
+      let o = seen-toward s C S F.number F.vertex F.listed (blend k F.dir 1 f) (tied-dim s (ahead s y f) (ahead s F.vertex.point (blend k F.dir 1 f)) 3 (F.tied f k (omega arith)) h) in (
         record { vertex = F.number; side = o.1.side },
         record { steps = k; large = omega arith; seer = record { here = refl; label = o.0; has = o.1.has; sees = o.1.sees } },
       )
 
   -- two sides that touch in one direction
   pub one-touch : (f : Vector) (x z : VertexSide) → Touch s C y F x f → Touch s C y F z f → Chained (VolumeLink C) x z
-  one-touch f x z p q = same-seers s C S F.number F.vertex F.listed x z (blend p.steps F.way 1 f) (blend q.steps F.way 1 f) p.seer q.seer
-      (far-same (forms M) F.way f p.steps q.steps (let l = p.large in omega arith) (let l = q.large in omega arith))
+  one-touch f x z p q = same-seers s C S F.number F.vertex F.listed x z (blend p.steps F.dir 1 f) (blend q.steps F.dir 1 f) p.seer q.seer
+      (far-same (forms M) F.dir f p.steps q.steps (let l = p.large in omega arith) (let l = q.large in omega arith))
 
   -- ---- from one direction to another
   module _ (f g : Vector) (hf : Free f) (hg : Free g) (all : (i j : ℕ) → 0 < i → 0 < j → Free (blend i f j g)) where
@@ -177,10 +177,10 @@ module _ (s : Set) (C : Complex) (S : Shows s C) (y : Place) (F : Frame s C y) w
     K = bound s F.vertex f + bound s F.vertex g
 
     abbrev a : Vector
-    a = blend K F.way 1 f
+    a = blend K F.dir 1 f
 
     abbrev b : Vector
-    b = blend K F.way 1 g
+    b = blend K F.dir 1 g
 
     module _ (i j : ℕ) (si : 0 < i) (sj : 0 < j) where
       abbrev w : Vector
@@ -189,24 +189,24 @@ module _ (s : Set) (C : Complex) (S : Shows s C) (y : Place) (F : Frame s C y) w
       abbrev k : ℕ
       k = bound s F.vertex w
 
-      at-level : (p : Vector) → dot p F.way ≡ pos 0 → dot p (blend i a j b) ≡ dot p w
+      at-level : (p : Vector) → dot p F.dir ≡ pos 0 → dot p (blend i a j b) ≡ dot p w
       at-level p z =
-          dot-comb p (pos i) a (pos j) b ∙ ap (λ r. pos i *ℤ r +ℤ pos j *ℤ dot p b) (dot-comb p (pos K) F.way (pos 1) f) ∙ ap (λ r. pos i *ℤ (pos K *ℤ dot p F.way +ℤ pos 1 *ℤ dot p f) +ℤ pos j *ℤ r) (dot-comb p (pos K) F.way (pos 1) g)
+          dot-comb p (pos i) a (pos j) b ∙ ap (λ r. pos i *ℤ r +ℤ pos j *ℤ dot p b) (dot-comb p (pos K) F.dir (pos 1) f) ∙ ap (λ r. pos i *ℤ (pos K *ℤ dot p F.dir +ℤ pos 1 *ℤ dot p f) +ℤ pos j *ℤ r) (dot-comb p (pos K) F.dir (pos 1) g)
           ∙ ap (λ r. pos i *ℤ (pos K *ℤ r +ℤ pos 1 *ℤ dot p f) +ℤ pos j *ℤ (pos K *ℤ r +ℤ pos 1 *ℤ dot p g)) z
           ∙ ring (pos i ∷ pos j ∷ pos K ∷ dot p f ∷ dot p g ∷ []) (at 0 ⊗ (at 2 ⊗ num (pos 0) ⊕ num (pos 1) ⊗ at 3) ⊕ at 1 ⊗ (at 2 ⊗ num (pos 0) ⊕ num (pos 1) ⊗ at 4)) (at 0 ⊗ at 3 ⊕ at 1 ⊗ at 4) tt
           ∙ sym (dot-comb p (pos i) f (pos j) g)
 
-      same : SameSigns (forms M) (blend k F.way 1 w) (blend i a j b)
+      same : SameSigns (forms M) (blend k F.dir 1 w) (blend i a j b)
       same p l = ⊎_elim
-          (λ z. ap sign (at-level p z) ∙ sym (far-level (forms M) F.way w k (omega arith) p z))
+          (λ z. ap sign (at-level p z) ∙ sym (far-level (forms M) F.dir w k (omega arith) p z))
           (λ n.
-          let u = far-keeps (forms M) F.way f K (omega arith) p l n in
-          let v = far-keeps (forms M) F.way g K (omega arith) p l n in
-          ap sign (dot-comb p (pos i) a (pos j) b) ∙ mixed-sign (dot p a) (dot p b) i j si sj (v ∙ sym u) ∙ u ∙ sym (far-keeps (forms M) F.way w k (omega arith) p l n))
-          (nought-or (dot p F.way))
+          let u = far-keeps (forms M) F.dir f K (omega arith) p l n in
+          let v = far-keeps (forms M) F.dir g K (omega arith) p l n in
+          ap sign (dot-comb p (pos i) a (pos j) b) ∙ mixed-sign (dot p a) (dot p b) i j si sj (v ∙ sym u) ∙ u ∙ sym (far-keeps (forms M) F.dir w k (omega arith) p l n))
+          (nought-or (dot p F.dir))
 
       between : IsFree M (blend i a j b)
-      between = free-by_signs M (blend k F.way 1 w) (blend i a j b) same (free-close w (all i j si sj) k (omega arith))
+      between = free-by_signs M (blend k F.dir 1 w) (blend i a j b) same (free-close w (all i j si sj) k (omega arith))
 
     clear : IsClear M a b
     clear = clear-by M a b (free-close f hf K (omega arith)) (free-close g hg K (omega arith)) between
@@ -215,8 +215,8 @@ module _ (s : Set) (C : Complex) (S : Shows s C) (y : Place) (F : Frame s C y) w
     turn-touch x z p q =
         let i = F.number in
         let v = F.vertex in
-        let c = same-clear M (blend p.steps F.way 1 f) a (far-same (forms M) F.way f p.steps K (let l = p.large in omega arith) (omega arith)) (seen-free M x.side (blend p.steps F.way 1 f) p.seer.sees) in
-        let d = same-clear M b (blend q.steps F.way 1 g) (far-same (forms M) F.way g K q.steps (omega arith) (let l = q.large in omega arith)) (free-close g hg K (omega arith)) in
-        let m = move s C S i v F.listed x (blend p.steps F.way 1 f) a p.seer c (free-close f hf K (omega arith)) in
+        let c = same-clear M (blend p.steps F.dir 1 f) a (far-same (forms M) F.dir f p.steps K (let l = p.large in omega arith) (omega arith)) (seen-free M x.side (blend p.steps F.dir 1 f) p.seer.sees) in
+        let d = same-clear M b (blend q.steps F.dir 1 g) (far-same (forms M) F.dir g K q.steps (omega arith) (let l = q.large in omega arith)) (free-close g hg K (omega arith)) in
+        let m = move s C S i v F.listed x (blend p.steps F.dir 1 f) a p.seer c (free-close f hf K (omega arith)) in
         let n = move s C S i v F.listed m.0 a b m.1 clear (free-close g hg K (omega arith)) in
-        chain-both (VolumeLink C) x m.0 z m.2 (chain-both (VolumeLink C) m.0 n.0 z n.2 (across-way s C S i v F.listed n.0 z b (blend q.steps F.way 1 g) n.1 d q.seer))
+        chain-both (VolumeLink C) x m.0 z m.2 (chain-both (VolumeLink C) m.0 n.0 z n.2 (across-way s C S i v F.listed n.0 z b (blend q.steps F.dir 1 g) n.1 d q.seer))

@@ -22,7 +22,7 @@ use Rattle.law_forms.proofs.Directions.{dot-zero, zero-decided, direction-right}
 use Rattle.law_sphere.proofs.KindFlats.{in-span}
 use Rattle.law_sphere.proofs.Parallel.{parallel-in_plane, parallel-trans}
 use Rattle.law_sphere.proofs.Vectors.{normal-direction}
-use Rattle.law_sphere.proofs.Compare.{SameDirection-turned, SameDirection-trans, way-self}
+use Rattle.law_sphere.proofs.Compare.{SameDirection-turned, SameDirection-trans, dir-self}
 use Rattle.law_complex.specs.Laws.{IsFlatIn}
 use Rattle.law_complex.proofs.FacetSides.{level-way}
 use Rattle.law_complex.proofs.Planes.{plane-way}
@@ -102,7 +102,7 @@ across-way s y t c i all E o =
     let a = cross-back (toward y t) c t (aligned y t c o) in
     let b = cross-back (toward t c) y t (cross-turned (toward y t) (toward t c) a) in
     let back : IsDirection (toward t y) = λ z. i (place-toward y t (same-place_sym t y (toward-place t y z))) in
-    not-along s t y (toward t y) (way-self (toward t y) back) E.one (all (near_point s t y) (between-turned t y (near_point s t y) (near-between s t y back))) (span-1 s t (toward t c) (toward t y) E.leads E.flat b)
+    not-along s t y (toward t y) (dir-self (toward t y) back) E.one (all (near_point s t y) (between-turned t y (near_point s t y) (near-between s t y back))) (span-1 s t (toward t c) (toward t y) E.leads E.flat b)
 
 -- the direction of an edge is flat all along it
 flat-on : (s : Set) (p r q : Place) → FlatDim s p 1 → Flat s p (toward p q) → ((u : Place) → IsBetween p u q → FlatDim s u 1) → IsBetween p r q → Flat s r (toward p q)

@@ -25,9 +25,9 @@ use Rattle.law_forms.proofs.Near.{reach_all, slope-toward}
 use Rattle.law_forms.proofs.Between.{place-toward, between-same}
 use Rattle.law_forms.proofs.Directions.{direction-left, direction-right}
 use Rattle.law_sphere.specs.Forms.{forms, SameSigns}
-use Rattle.law_sphere.specs.Maps.{At, Svertex, arc_item, HasArc, Shaped}
+use Rattle.law_sphere.specs.Maps.{At, MapVertex, arc_item, HasArc, Shaped}
 use Rattle.law_sphere.proofs.Arcs.{at-arc}
-use Rattle.law_sphere.proofs.Compare.{SameDirection-turned, SameDirection-trans, way-self}
+use Rattle.law_sphere.proofs.Compare.{SameDirection-turned, SameDirection-trans, dir-self}
 use Rattle.law_sphere.proofs.Generic.{amount}
 use Rattle.law_sphere.proofs.KindFlats.{in-span}
 use Rattle.law_sphere.proofs.Parallel.{parallel-trans}
@@ -81,11 +81,11 @@ lam-plus n a b c l m = plain (lam n a c) (lam n a b) (lam n b c) (lam-sum n a b 
 
 module _ (s : Set) (C : Complex) (S : Shows s C) (upright : IsUpright C) (linked : AreLinkedWhereJoined s C) where
   -- no arc ends at a svertex along up
-  pub lone-along : (i j : ℕ) (v : Vertex) (u : Svertex) → At C.vertices i v → At v.map.svertices j u → IsZero (cross u.way up) → HasArc v.map j → ⊥
+  pub lone-along : (i j : ℕ) (v : Vertex) (u : MapVertex) → At C.vertices i v → At v.map.svertices j u → IsZero (cross u.dir up) → HasArc v.map j → ⊥
   lone-along i j v u a b z (k, c, l, o) =
-      let K : IsCorner C (corner_of i k) v (arc_item c) = record { vertex = a; item = at-arc v.map.arcs v.map.loop k c l } in
+      let K : IsCorner C (corner_of i k) v (arc_item c) = record { vertex = a; item = at-arc v.map.arcs v.map.sloop k c l } in
       let e = end-level s C S (corner_of i k) v c K j u b o in
-      let f = in-span c.normal u.way up ((S.cones i v a).valid.shaped.svertex_ways j u b) z e in
+      let f = in-span c.normal u.dir up ((S.cones i v a).valid.shaped.svertex_dirs j u b) z e in
       let g = upright (corner_of i k) v (arc_item c) K in
       omega (arith, ints)
 
@@ -103,12 +103,12 @@ module _ (s : Set) (C : Complex) (S : Shows s C) (upright : IsUpright C) (linked
         omega (arith, ints)
 
     -- y is the higher end w of the edge, which runs along up
-    module _ (k : ℕ) (e : Edge) (v w : Vertex) (a : At C.edges k e) (H : HasEnds C e v w) (along : SameDirection (edge-ways s C S k e v w a H).low.way up) (y : Place) (on-y : form_at h y ≡ pos 0) (top : SamePlace w.point y) where
+    module _ (k : ℕ) (e : Edge) (v w : Vertex) (a : At C.edges k e) (H : HasEnds C e v w) (along : SameDirection (edge-ways s C S k e v w a H).low.dir up) (y : Place) (on-y : form_at h y ≡ pos 0) (top : SamePlace w.point y) where
       abbrev W : EdgeWays e v w
       W = edge-ways s C S k e v w a H
 
       to-w : SameDirection (toward v.point w.point) up
-      to-w = SameDirection-trans (toward v.point w.point) W.low.way up W.onward along
+      to-w = SameDirection-trans (toward v.point w.point) W.low.dir up W.onward along
 
       from-w : SameDirection (toward w.point v.point) (opposite up)
       from-w = ahead-back v.point w.point up to-w
@@ -133,20 +133,20 @@ module _ (s : Set) (C : Complex) (S : Shows s C) (upright : IsUpright C) (linked
       lone-low = lone-along e.low e.low_svertex v W.low H.low W.is_low (let o = along in o.parallel)
 
       -- directions that aren't along up are free beside the edge
-      free-beside : (f : Vector) → IsDirection (cross W.low.way f) → (K : ℕ) → amount (forms v.map) f ≤ K → FlatDim s (ahead s v.point (blend K W.low.way 1 f)) 3
-      free-beside f i K large = free-dim v.map s v.point (S.cones e.low v H.low) (blend K W.low.way 1 f) (free-close v.map V e.low_svertex W.low W.is_low lone-low f K large i)
+      free-beside : (f : Vector) → IsDirection (cross W.low.dir f) → (K : ℕ) → amount (forms v.map) f ≤ K → FlatDim s (ahead s v.point (blend K W.low.dir 1 f)) 3
+      free-beside f i K large = free-dim v.map s v.point (S.cones e.low v H.low) (blend K W.low.dir 1 f) (free-close v.map V e.low_svertex W.low W.is_low lone-low f K large i)
 
       module _ (b : Place) (x z : VertexSide) (on-b : form_at h b ≡ pos 0) (side : pos 0 <ℤ lam (normal_of h) y b) (clear : Clear (sliced s h) h hn level y b) (first : (r : Place) → IsBetween y r b → FlatDim s r 3) (three : FlatDim s b 3) (inside : InFrame b)
           (R : RayDown C b z) (wedge-three : Wedge s 3 y (toward y b) (opposite up)) (wedge-two : Wedge (sliced s h) 2 y (toward y b) (opposite up))
-          (K1 : ℕ) (large : bound s v (toward y b) ≤ K1) (o : VertexSide) (low : Seer e.low v o (blend K1 (edge-ways s C S k e v w a H).low.way 1 (toward y b))) (claim : FlatDim (sliced s h) v.point 0 → Claim s C S upright linked h hn level v.point) where
+          (K1 : ℕ) (large : bound s v (toward y b) ≤ K1) (o : VertexSide) (low : Seer e.low v o (blend K1 (edge-ways s C S k e v w a H).low.dir 1 (toward y b))) (claim : FlatDim (sliced s h) v.point 0 → Claim s C S upright linked h hn level v.point) where
         abbrev f : Vector
         f = toward y b
 
         some-b : IsDirection f
         some-b z = let g = lam-zero n y b z in let l = side in omega (arith, ints)
 
-        not-along : IsDirection (cross W.low.way f)
-        not-along = aside-any W.low.way (direction-left W.low.way up along) (let c = along in c.parallel) y b side
+        not-along : IsDirection (cross W.low.dir f)
+        not-along = aside-any W.low.dir (direction-left W.low.dir up along) (let c = along in c.parallel) y b side
 
         -- a point of the way from y to b, b counted
         abbrev Part : Place → Type 0
@@ -191,48 +191,48 @@ module _ (s : Set) (C : Complex) (S : Shows s C) (upright : IsUpright C) (linked
 
         -- ---- the edge, for the slice
         inside-y : InFrame (ahead s y f)
-        inside-y = germs-inside s b (ahead s y f) (joined-germs s b (ahead s y f) (tied-ray s 3 y b f (way-self f some-b) even).0) inside
+        inside-y = germs-inside s b (ahead s y f) (joined-germs s b (ahead s y f) (tied-ray s 3 y b f (dir-self f some-b) even).0) inside
           where
             even : IsEvenAfter s 3 y b
             even r c = part-three r c
 
         free-y : FlatDim s (ahead s y f) 3
-        free-y = tied-dim s b (ahead s y f) 3 (tied-ray s 3 y b f (way-self f some-b) (λ r c. part-three r c)) three
+        free-y = tied-dim s b (ahead s y f) 3 (tied-ray s 3 y b f (dir-self f some-b) (λ r c. part-three r c)) three
 
-        to-high : SameDirection (opposite up) W.high.way
-        to-high = SameDirection-trans (opposite up) (opposite W.low.way) W.high.way (both-opposite up W.low.way (SameDirection-turned W.low.way up along)) (opposite-way W.low.way W.high.way W.back)
+        to-high : SameDirection (opposite up) W.high.dir
+        to-high = SameDirection-trans (opposite up) (opposite W.low.dir) W.high.dir (both-opposite up W.low.dir (SameDirection-turned W.low.dir up along)) (opposite-way W.low.dir W.high.dir W.back)
 
-        high-level : dot (cross n up) W.high.way ≡ pos 0
-        high-level = level-way (cross n up) (opposite up) W.high.way to-high (let g = dot-opposite (cross n up) up in let c = up-square n in omega (arith, ints))
+        high-level : dot (cross n up) W.high.dir ≡ pos 0
+        high-level = level-way (cross n up) (opposite up) W.high.dir to-high (let g = dot-opposite (cross n up) up in let c = up-square n in omega (arith, ints))
 
-        wedge-high : Wedge s 3 y f W.high.way
-        wedge-high = wedge-way s 3 y f f (opposite up) W.high.way (way-self f some-b) to-high
-            (λ i j si sj. blend-rises (cross n up) f W.high.way i j si (subst (λ (c : ℤ). pos 0 <ℤ c) (triple-dot n up f) side) (let l = high-level in omega (arith, ints))) wedge-three
+        wedge-high : Wedge s 3 y f W.high.dir
+        wedge-high = wedge-way s 3 y f f (opposite up) W.high.dir (dir-self f some-b) to-high
+            (λ i j si sj. blend-rises (cross n up) f W.high.dir i j si (subst (λ (c : ℤ). pos 0 <ℤ c) (triple-dot n up f) side) (let l = high-level in omega (arith, ints))) wedge-three
 
         abbrev N : ℕ
         N = bound s v f + bound s w f + 1
 
         -- the points beside the edge lie in the frame
-        inside-low : InFrame (ahead s v.point (blend N W.low.way 1 f))
+        inside-low : InFrame (ahead s v.point (blend N W.low.dir 1 f))
         inside-low =
-            let g = wedge-on s 3 y f W.high.way N (omega arith) wedge-high in
-            let even = even-fan s y f (blend N W.high.way 1 f) 3 free-y g.0 g.1 in
-            let p = ahead s y (blend N W.high.way 1 f) in
+            let g = wedge-on s 3 y f W.high.dir N (omega arith) wedge-high in
+            let even = even-fan s y f (blend N W.high.dir 1 f) 3 free-y g.0 g.1 in
+            let p = ahead s y (blend N W.high.dir 1 f) in
             let i = germs-inside s (ahead s y f) p (even-germs s 3 (ahead s y f) p even) inside-y in
-            let t1 = tied-cell s p (ahead s w.point (blend N W.high.way 1 f)) (ahead-cells s y w.point (blend N W.high.way 1 f) (signs-same (carriers s) y w.point (same-place_sym w.point y top))) in
-            let t2 = tied-turned s (ahead s (ahead s w.point W.high.way) f) (ahead s w.point (blend N W.high.way 1 f)) (tied-turn s w.point W.high.way f N (omega arith)) in
-            let t3 = tied-ahead s (ahead s w.point W.high.way) (ahead s v.point W.low.way) f (tied-turned s (ahead s v.point W.low.way) (ahead s w.point W.high.way) (ends-tied s C S k e v w a H)) in
-            let t4 = tied-turn s v.point W.low.way f N (omega arith) in
-            let t = tied-both s p (ahead s w.point (blend N W.high.way 1 f)) (ahead s v.point (blend N W.low.way 1 f)) t1
-            (tied-both s (ahead s w.point (blend N W.high.way 1 f)) (ahead s (ahead s w.point W.high.way) f) (ahead s v.point (blend N W.low.way 1 f)) t2
-            (tied-both s (ahead s (ahead s w.point W.high.way) f) (ahead s (ahead s v.point W.low.way) f) (ahead s v.point (blend N W.low.way 1 f)) t3 t4)) in
-            germs-inside s p (ahead s v.point (blend N W.low.way 1 f)) (joined-germs s p (ahead s v.point (blend N W.low.way 1 f)) t.0) i
+            let t1 = tied-cell s p (ahead s w.point (blend N W.high.dir 1 f)) (ahead-cells s y w.point (blend N W.high.dir 1 f) (signs-same (carriers s) y w.point (same-place_sym w.point y top))) in
+            let t2 = tied-turned s (ahead s (ahead s w.point W.high.dir) f) (ahead s w.point (blend N W.high.dir 1 f)) (tied-turn s w.point W.high.dir f N (omega arith)) in
+            let t3 = tied-ahead s (ahead s w.point W.high.dir) (ahead s v.point W.low.dir) f (tied-turned s (ahead s v.point W.low.dir) (ahead s w.point W.high.dir) (ends-tied s C S k e v w a H)) in
+            let t4 = tied-turn s v.point W.low.dir f N (omega arith) in
+            let t = tied-both s p (ahead s w.point (blend N W.high.dir 1 f)) (ahead s v.point (blend N W.low.dir 1 f)) t1
+            (tied-both s (ahead s w.point (blend N W.high.dir 1 f)) (ahead s (ahead s w.point W.high.dir) f) (ahead s v.point (blend N W.low.dir 1 f)) t2
+            (tied-both s (ahead s (ahead s w.point W.high.dir) f) (ahead s (ahead s v.point W.low.dir) f) (ahead s v.point (blend N W.low.dir 1 f)) t3 t4)) in
+            germs-inside s p (ahead s v.point (blend N W.low.dir 1 f)) (joined-germs s p (ahead s v.point (blend N W.low.dir 1 f)) t.0) i
 
         edge-t : (r : Place) → IsBetween y r v.point → FlatDim (sliced s h) r 1
         edge-t r c =
             let d = on-edge r c in
             let F = edge-frame s C S k e v w r a H d in
-            let u = ahead s v.point (blend N W.low.way 1 f) in
+            let u = ahead s v.point (blend N W.low.dir 1 f) in
             let t = tied-turned s (ahead s r f) u (F.tied f N (omega arith)) in
             let same = sliced-ahead s h r f in
             edge-slice s h hn level f some-b (plane-way h y b on-y on-b) r v.point (plane-between h y r v.point c on-y on-v) on-v (direction-right (toward y r) (toward r v.point) c) (edge-dim r d)
@@ -280,7 +280,7 @@ module _ (s : Set) (C : Complex) (S : Shows s C) (upright : IsUpright C) (linked
           some-u g = let l = side-on (sliced s h) h hn level y v.point u (lam-down n y v.point down) (part-side u p) in let c = lam-zero n v.point u g in omega (arith, ints)
 
           free-to : FlatDim s (ahead s v.point (toward v.point u)) 3
-          free-to = tied-dim s u (ahead s v.point (toward v.point u)) 3 (tied-ray s 3 v.point u (toward v.point u) (way-self (toward v.point u) some-u) even) (part-three u p)
+          free-to = tied-dim s u (ahead s v.point (toward v.point u)) 3 (tied-ray s 3 v.point u (toward v.point u) (dir-self (toward v.point u) some-u) even) (part-three u p)
             where
               even : IsEvenAfter s 3 v.point u
               even r (inl c) = way-three r c
@@ -333,16 +333,16 @@ module _ (s : Set) (C : Complex) (S : Shows s C) (upright : IsUpright C) (linked
         touch-a : (o1 : VertexSide) × Touch s C v.point (vertex-frame s C e.low v v.point H.low (same-itself v.point)) o1 a'
         touch-a = touched s C S v.point (vertex-frame s C e.low v v.point H.low (same-itself v.point)) a' (free-to r' (inl amid-r'))
 
-        up-way : SameDirection W.low.way (toward v.point y)
-        up-way = SameDirection-trans W.low.way up (toward v.point y) along (SameDirection-turned (toward v.point y) up (subst (λ (g : Vector). SameDirection (toward v.point y) g) (twice up) (ahead-back y v.point (opposite up) down)))
+        up-way : SameDirection W.low.dir (toward v.point y)
+        up-way = SameDirection-trans W.low.dir up (toward v.point y) along (SameDirection-turned (toward v.point y) up (subst (λ (g : Vector). SameDirection (toward v.point y) g) (twice up) (ahead-back y v.point (opposite up) down)))
 
         first-link : Chained (VolumeLink C) o touch-a.0
         first-link =
             let U = touch-a.1 in
             let q = subst (λ (g : Vector). Seer e.low v touch-a.0 g) (no-way U.steps a') U.seer in
-            same-seers s C S e.low v H.low o touch-a.0 (blend K1 W.low.way 1 f) a' low q
-            (subst (λ (g : Vector). SameSigns (forms v.map) (blend K1 W.low.way 1 f) g) (sym (mixed-toward v.point (bound s v (toward v.point b) + 1) y 1 b M-some))
-            (ways-toward (forms v.map) W.low.way (toward v.point y) f (toward v.point b) K1 (bound s v (toward v.point b) + 1) up-way alike (let l = large in omega arith) (omega arith)))
+            same-seers s C S e.low v H.low o touch-a.0 (blend K1 W.low.dir 1 f) a' low q
+            (subst (λ (g : Vector). SameSigns (forms v.map) (blend K1 W.low.dir 1 f) g) (sym (mixed-toward v.point (bound s v (toward v.point b) + 1) y 1 b M-some))
+            (ways-toward (forms v.map) W.low.dir (toward v.point y) f (toward v.point b) K1 (bound s v (toward v.point b) + 1) up-way alike (let l = large in omega arith) (omega arith)))
 
         wedge-v : Wedge s 3 v.point a' (toward v.point b)
         wedge-v i j si sj =

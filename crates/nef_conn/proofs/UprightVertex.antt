@@ -12,8 +12,8 @@ use Rattle.law_near.proofs.FlatDecided.{triple-dot}
 use Rattle.law_near.proofs.Rays.{same-place_sym}
 use Rattle.law_forms.proofs.Directions.{direction-left}
 use Rattle.law_sphere.specs.Forms.{forms}
-use Rattle.law_sphere.specs.Maps.{At, Svertex, around_svertex, HasArc, Shaped}
-use Rattle.law_sphere.proofs.Compare.{SameDirection-turned, SameDirection-trans, way-self}
+use Rattle.law_sphere.specs.Maps.{At, MapVertex, around_svertex, HasArc, Shaped}
+use Rattle.law_sphere.proofs.Compare.{SameDirection-turned, SameDirection-trans, dir-self}
 use Rattle.law_sphere.proofs.Generic.{amount}
 use Rattle.law_sphere.proofs.Lists.{at-one}
 use Rattle.law_sphere.proofs.NearItems.{opposite-turned}
@@ -53,10 +53,10 @@ module _ (s : Set) (C : Complex) (S : Shows s C) (upright : IsUpright C) (linked
     n = normal_of h
 
     -- ---- a vertex from which an edge runs down
-    module _ (y : Place) (on-y : form_at h y ≡ pos 0) (i : ℕ) (v : Vertex) (a : At C.vertices i v) (same : SamePlace v.point y) (j : ℕ) (u : Svertex) (b : At v.map.svertices j u) (runs : SameDirection u.way (opposite up))
+    module _ (y : Place) (on-y : form_at h y ≡ pos 0) (i : ℕ) (v : Vertex) (a : At C.vertices i v) (same : SamePlace v.point y) (j : ℕ) (u : MapVertex) (b : At v.map.svertices j u) (runs : SameDirection u.dir (opposite up))
         (claims : (p : Place) → form_at h p ≡ pos 0 → IsPlaceBelow p y → IsVertex s p → FlatDim (sliced s h) p 0 → Claim s C S upright linked h hn level p) where
-      u-along : IsZero (cross u.way up)
-      u-along = along-up u.way (let o = runs in o.parallel)
+      u-along : IsZero (cross u.dir up)
+      u-along = along-up u.dir (let o = runs in o.parallel)
 
       V' : Shaped v.map
       V' = (S.cones i v a).valid.shaped
@@ -73,27 +73,27 @@ module _ (s : Set) (C : Complex) (S : Shows s C) (upright : IsUpright C) (linked
         some-f g = let l = lam-zero n y c g in let k = side in omega (arith, ints)
 
         free-f : FlatDim s (ahead s y f) 3
-        free-f = tied-dim s c (ahead s y f) 3 (tied-ray s 3 y c f (way-self f some-f) even) three
+        free-f = tied-dim s c (ahead s y f) 3 (tied-ray s 3 y c f (dir-self f some-f) even) three
           where
             even : IsEvenAfter s 3 y c
             even r (inl m) = first r m
             even r (inr g) = dim-same s c r 3 (same-place_sym r c g) three
 
-        u-some : IsDirection u.way
-        u-some = direction-left u.way (opposite up) runs
+        u-some : IsDirection u.dir
+        u-some = direction-left u.dir (opposite up) runs
 
-        u-level : dot (cross n up) u.way ≡ pos 0
-        u-level = level-way (cross n up) (opposite up) u.way (SameDirection-turned u.way (opposite up) runs) (let g = dot-opposite (cross n up) up in let k = up-square n in omega (arith, ints))
+        u-level : dot (cross n up) u.dir ≡ pos 0
+        u-level = level-way (cross n up) (opposite up) u.dir (SameDirection-turned u.dir (opposite up) runs) (let g = dot-opposite (cross n up) up in let k = up-square n in omega (arith, ints))
 
-        wedge-u : Wedge s 3 y f u.way
-        wedge-u = wedge-way s 3 y f f (opposite up) u.way (way-self f some-f) (SameDirection-turned u.way (opposite up) runs)
-            (λ p q sp sq. blend-rises (cross n up) f u.way p q sp (subst (λ (k : ℤ). pos 0 <ℤ k) (triple-dot n up f) side) (let l = u-level in omega (arith, ints))) wedge-three
+        wedge-u : Wedge s 3 y f u.dir
+        wedge-u = wedge-way s 3 y f f (opposite up) u.dir (dir-self f some-f) (SameDirection-turned u.dir (opposite up) runs)
+            (λ p q sp sq. blend-rises (cross n up) f u.dir p q sp (subst (λ (k : ℤ). pos 0 <ℤ k) (triple-dot n up f) side) (let l = u-level in omega (arith, ints))) wedge-three
 
         abbrev N : ℕ
         N = amount (forms v.map) f + 1
 
-        close : FlatDim s (ahead s y (blend N u.way 1 f)) 3 × Wedge s 3 y f (blend N u.way 1 f)
-        close = wedge-on s 3 y f u.way N (omega arith) wedge-u
+        close : FlatDim s (ahead s y (blend N u.dir 1 f)) 3 × Wedge s 3 y f (blend N u.dir 1 f)
+        close = wedge-on s 3 y f u.dir N (omega arith) wedge-u
 
         abbrev high : VertexSide
         high = record { vertex = i; side = around_svertex j }
@@ -101,11 +101,11 @@ module _ (s : Set) (C : Complex) (S : Shows s C) (upright : IsUpright C) (linked
         -- what touches toward c is linked with the side around the svertex
         to-around : Chained (VolumeLink C) x high
         to-around =
-            let o = touched s C S y (vertex-frame s C i v y a same) (blend N u.way 1 f) close.0 in
-            let p = subst (λ (g : Vector). Seer i v o.0 g) (no-way o.1.steps (blend N u.way 1 f)) o.1.seer in
+            let o = touched s C S y (vertex-frame s C i v y a same) (blend N u.dir 1 f) close.0 in
+            let p = subst (λ (g : Vector). Seer i v o.0 g) (no-way o.1.steps (blend N u.dir 1 f)) o.1.seer in
             let r = V'.around_lone j u b lone-high in
-            chain-both (VolumeLink C) x o.0 high (turn-touch s C S y (vertex-frame s C i v y a same) f (blend N u.way 1 f) free-f close.0 close.1 x o.0 T o.1)
-            (meet s C S i v a o.0 high (blend N u.way 1 f) p (record { here = refl; label = r.0; has = (u, b, r.1); sees = sees-around v.map V' j u b lone-high f N (omega arith) (aside-any s C S upright linked h hn level u.way u-some u-along y c side) }))
+            chain-both (VolumeLink C) x o.0 high (turn-touch s C S y (vertex-frame s C i v y a same) f (blend N u.dir 1 f) free-f close.0 close.1 x o.0 T o.1)
+            (meet s C S i v a o.0 high (blend N u.dir 1 f) p (record { here = refl; label = r.0; has = (u, b, r.1); sees = sees-around v.map V' j u b lone-high f N (omega arith) (aside-any s C S upright linked h hn level u.dir u-some u-along y c side) }))
 
         -- by the edge
         module _ (k : ℕ) (e : Edge) (l w : Vertex) (d : At C.edges k e) (H : HasEnds C e l w) (at-high : e.high ≡ i) (at-svertex : e.high_svertex ≡ j) where
@@ -118,12 +118,12 @@ module _ (s : Set) (C : Complex) (S : Shows s C) (upright : IsUpright C) (linked
           high-is : W.high ≡ u
           high-is = at-one v.map.svertices j W.high u (subst (λ (q : ℕ). At v.map.svertices q W.high) at-svertex (subst (λ (q : Vertex). At q.map.svertices e.high_svertex W.high) one W.is_high)) b
 
-          along : SameDirection W.low.way up
+          along : SameDirection W.low.dir up
           along =
-              let g = subst (λ (q : Svertex). SameDirection q.way (opposite up)) (sym high-is) runs in
-              let p = both-opposite W.high.way (opposite up) g in
-              let q = opposite-way W.high.way W.low.way (opposite-turned W.low.way W.high.way W.back) in
-              subst (λ (r : Vector). SameDirection W.low.way r) (twice up) (SameDirection-trans W.low.way (opposite W.high.way) (opposite (opposite up)) (SameDirection-turned (opposite W.high.way) W.low.way q) p)
+              let g = subst (λ (q : MapVertex). SameDirection q.dir (opposite up)) (sym high-is) runs in
+              let p = both-opposite W.high.dir (opposite up) g in
+              let q = opposite-way W.high.dir W.low.dir (opposite-turned W.low.dir W.high.dir W.back) in
+              subst (λ (r : Vector). SameDirection W.low.dir r) (twice up) (SameDirection-trans W.low.dir (opposite W.high.dir) (opposite (opposite up)) (SameDirection-turned (opposite W.high.dir) W.low.dir q) p)
 
           top : SamePlace w.point y
           top = subst (λ (q : Vertex). SamePlace q.point y) (sym one) same
@@ -144,7 +144,7 @@ module _ (s : Set) (C : Complex) (S : Shows s C) (upright : IsUpright C) (linked
           on-l = plane-ahead h y l.point (opposite up) (below-y) (let g = dot-opposite n up in let q = level in omega (arith, ints)) on-y
             where
               from-w : SameDirection (toward w.point l.point) (opposite up)
-              from-w = ahead-back l.point w.point up (SameDirection-trans (toward l.point w.point) W.low.way up W.onward along)
+              from-w = ahead-back l.point w.point up (SameDirection-trans (toward l.point w.point) W.low.dir up W.onward along)
 
               below-y : SameDirection (toward y l.point) (opposite up)
               below-y = SameDirection-trans (toward y l.point) (toward w.point l.point) (opposite up) (SameDirection-turned (toward w.point l.point) (toward y l.point) (toward-same w.point y l.point top (direction-left (toward w.point l.point) (opposite up) from-w))) from-w
@@ -164,7 +164,7 @@ module _ (s : Set) (C : Complex) (S : Shows s C) (upright : IsUpright C) (linked
                 is_high = (r2.0, sym at-high, ap around_svertex (sym at-svertex), (v, a, (u, b, r2.1)));
                 along = around_ends refl refl;
               }))) in
-              let seer : Seer e.low l low (blend K W.low.way 1 f) = record { here = refl; label = r.0; has = (W.low, W.is_low, r.1); sees = sees-around l.map V'' e.low_svertex W.low W.is_low lone-there f K (omega arith) (aside-any s C S upright linked h hn level W.low.way (direction-left W.low.way up along) (let o = along in o.parallel) y c side) } in
+              let seer : Seer e.low l low (blend K W.low.dir 1 f) = record { here = refl; label = r.0; has = (W.low, W.is_low, r.1); sees = sees-around l.map V'' e.low_svertex W.low W.is_low lone-there f K (omega arith) (aside-any s C S upright linked h hn level W.low.dir (direction-left W.low.dir up along) (let o = along in o.parallel) y c side) } in
               let rest = beside-edge s C S upright linked h hn level k e l w d H along y on-y top c x z on-c side clear first three inside R wedge-three wedge-two K (omega arith) low seer (λ g. claims l.point on-l lower (S.vertices e.low l H.low) g) in
               chain-both (VolumeLink C) x high z to-around (chain-both (VolumeLink C) high low z (chain-back (VolumeLink C) low high link) rest)
 
@@ -174,8 +174,8 @@ module _ (s : Set) (C : Complex) (S : Shows s C) (upright : IsUpright C) (linked
             let W = edge-ways s C S k e l w d H in
             let one = at-one C.vertices i l v (subst (λ (q : ℕ). At C.vertices q l) at-low H.low) a in
             let is = at-one v.map.svertices j W.low u (subst (λ (q : ℕ). At v.map.svertices q W.low) at-svertex (subst (λ (q : Vertex). At q.map.svertices e.low_svertex W.low) one W.is_low)) b in
-            let g = subst (λ (q : Svertex). SameDirection q.way (opposite up)) (sym is) runs in
-            let m = normal-way (toward l.point w.point) (opposite up) (SameDirection-trans (toward l.point w.point) W.low.way (opposite up) W.onward g)
+            let g = subst (λ (q : MapVertex). SameDirection q.dir (opposite up)) (sym is) runs in
+            let m = normal-way (toward l.point w.point) (opposite up) (SameDirection-trans (toward l.point w.point) W.low.dir (opposite up) W.onward g)
             (toward-normal l.point w.point (S.ordered e.low e.high l w (let E = S.edges.edges k e d in E.upward) H.low H.high)) in
             let q = m.first in
             absurd (omega (arith, ints))

@@ -17,7 +17,7 @@ use Rattle.law_near.proofs.Rays.{signs-same, same-place_sym}
 use Rattle.law_forms.proofs.Directions.{direction-left}
 use Rattle.law_sphere.proofs.Around.{triple-turned}
 use Rattle.law_complex.proofs.FacetSides.{level-way}
-use Rattle.law_sphere.proofs.Compare.{SameDirection-turned, SameDirection-trans, way-self}
+use Rattle.law_sphere.proofs.Compare.{SameDirection-turned, SameDirection-trans, dir-self}
 use Rattle.law_complex.specs.Complexes.{Complex}
 use Rattle.law_complex.specs.Shows.{Shows}
 use Rattle.law_complex.specs.Rays.{VertexSide, RayDown}
@@ -105,7 +105,7 @@ module _ (s : Set) (C : Complex) (S : Shows s C) (upright : IsUpright C) (linked
       after-P r on-r even = three-of s h hn 2 P r on-P on-r even three-P
 
       free-toward : FlatDim s (ahead s y (toward y b)) 3
-      free-toward = tied-dim s b (ahead s y (toward y b)) 3 (tied-ray s 3 y b (toward y b) (way-self (toward y b) some-b) even) three
+      free-toward = tied-dim s b (ahead s y (toward y b)) 3 (tied-ray s 3 y b (toward y b) (dir-self (toward y b) some-b) even) three
         where
           even : IsEvenAfter s 3 y b
           even u (inl m) = first u m
@@ -123,7 +123,7 @@ module _ (s : Set) (C : Complex) (S : Shows s C) (upright : IsUpright C) (linked
         hit = lands s C S upright linked h hn level y b on-y on-b side clear (λ r m. first-two r (between-turned b y r m)) F three inside (toward y K.place) K.landing z R
 
         some-L : IsDirection (toward y L.place)
-        some-L = direction-left (toward y L.place) (toward y K.place) L.way
+        some-L = direction-left (toward y L.place) (toward y K.place) L.dir
 
         to-hit : SameDirection (toward y R.place) (toward y L.place)
         to-hit = toward-end y R.place L.place hit some-L
@@ -141,8 +141,8 @@ module _ (s : Set) (C : Complex) (S : Shows s C) (upright : IsUpright C) (linked
         by-landing : Chained (VolumeLink C) x z
         by-landing =
             let k = flatness s C S upright linked h hn level y b on-y on-b side clear (λ r m. first-two r (between-turned b y r m)) F three inside (toward y K.place) K.landing z R in
-            near-over s C S upright linked y R.place x z (toward y K.place) (toward y b) (SameDirection-trans (toward y R.place) (toward y L.place) (toward y K.place) to-hit L.way)
-            (up-side s C S upright linked h hn level y b L.place (toward y K.place) L.way L.below) free-toward (free-above s C S b R.place R.ahead three R.first) wedge k
+            near-over s C S upright linked y R.place x z (toward y K.place) (toward y b) (SameDirection-trans (toward y R.place) (toward y L.place) (toward y K.place) to-hit L.dir)
+            (up-side s C S upright linked h hn level y b L.place (toward y K.place) L.dir L.below) free-toward (free-above s C S b R.place R.ahead three R.first) wedge k
             (some-flat s C S upright linked h hn level y b on-y on-b side clear (λ r m. first-two r (between-turned b y r m)) F three inside (toward y K.place) K.landing z R)
             (even-hit s C S upright linked h hn level y b on-y on-b side clear (λ r m. first-two r (between-turned b y r m)) F three inside (toward y K.place) K.landing z R)
             (not-flat s C S upright linked h hn level y (toward y R.place) on-y (level-hit) (direction-left (toward y R.place) (toward y L.place) to-hit) corner-y) B (ray-over s C S b z R)
@@ -162,7 +162,7 @@ module _ (s : Set) (C : Complex) (S : Shows s C) (upright : IsUpright C) (linked
         three-amid r m = after-P r (plane-between h P r Q m on-P on-Q) (even-by (sliced s h) 2 P r two-P (λ u k. all u (between-inner P r Q u m k)) (all r m))
 
         wedge-down : Wedge s 3 y (toward y b) (opposite up)
-        wedge-down = wedge-way s 3 y (toward y b) (toward y b) (toward y Q) (opposite up) (way-self (toward y b) some-b) to-Q
+        wedge-down = wedge-way s 3 y (toward y b) (toward y b) (toward y Q) (opposite up) (dir-self (toward y b) some-b) to-Q
             (λ i j si sj. blend-rises (cross n up) (toward y b) (opposite up) i j si (subst (λ (v : ℤ). pos 0 <ℤ v) (triple-dot n up (toward y b)) side)
             (let e = dot-opposite (cross n up) up in let f = triple-dot n up up in let g = triple-turned n up up in omega (arith, ints)))
             (subst (λ (v : Vector). Wedge s 3 y v (toward y Q)) way-P
@@ -170,7 +170,7 @@ module _ (s : Set) (C : Complex) (S : Shows s C) (upright : IsUpright C) (linked
             (apart-down (sliced s h) h hn level y b on-y on-b side clear first-two F) three-amid))
 
         wedge-two : Wedge (sliced s h) 2 y (toward y b) (opposite up)
-        wedge-two = wedge-way (sliced s h) 2 y (toward y b) (toward y b) (toward y Q) (opposite up) (way-self (toward y b) some-b) to-Q
+        wedge-two = wedge-way (sliced s h) 2 y (toward y b) (toward y b) (toward y Q) (opposite up) (dir-self (toward y b) some-b) to-Q
             (λ i j si sj. blend-rises (cross n up) (toward y b) (opposite up) i j si (subst (λ (v : ℤ). pos 0 <ℤ v) (triple-dot n up (toward y b)) side)
             (let e = dot-opposite (cross n up) up in let f = triple-dot n up up in let g = triple-turned n up up in omega (arith, ints)))
             (subst (λ (v : Vector). Wedge (sliced s h) 2 y v (toward y Q)) way-P

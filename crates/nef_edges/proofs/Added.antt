@@ -3,7 +3,7 @@ use Rattle.std.proofs.Common.{◌≡◌, ℕ, ◌+◌, ◌≤◌, pos, List, [],
 use Rattle.std.proofs.lemmas.Int.{ints}
 use Rattle.nef_space.specs.Vectors.{IsNormal}
 use Rattle.nef_geo.specs.Shapes.{vector_of}
-use Rattle.law_sphere.specs.Maps.{At, Svertex}
+use Rattle.law_sphere.specs.Maps.{At, MapVertex}
 use Rattle.law_sphere.specs.Least.{InOrder}
 use Rattle.law_sphere.proofs.Lists.{at-one}
 use Rattle.law_complex.specs.Complexes.{Vertex as PlainVertex, Edge as PlainEdge, IsEdge, IsEdgeBelow, Edges}
@@ -44,8 +44,8 @@ module _ (vs : List Vertex) (J : AreJoined (map vertex_of vs)) where
   low-end e E =
       let w = map-at vertex_of vs e.low E.low_vertex E.is_low in
       let t = map-at svertex_of w.0.map.svertices e.low_svertex E.low_end (subst (λ (x : PlainVertex). At x.map.svertices e.low_svertex E.low_end) (sym w.2) E.leaves) in
-      let n = ahead-normal E.low_vertex.point E.high_vertex.point E.low_end.way (J.ordered e.low e.high E.low_vertex E.high_vertex E.upward E.is_low E.is_high) E.ahead in
-      (w.0, t.0, w.1, t.1, subst (λ (x : Svertex). IsNormal x.way) (sym t.2) n)
+      let n = ahead-normal E.low_vertex.point E.high_vertex.point E.low_end.dir (J.ordered e.low e.high E.low_vertex E.high_vertex E.upward E.is_low E.is_high) E.ahead in
+      (w.0, t.0, w.1, t.1, subst (λ (x : MapVertex). IsNormal x.dir) (sym t.2) n)
 
   -- all svertices of vertex i have been counted
   pub edges-row : (i k : ℕ) (es : List Edge) (v : Vertex) → At vs i v → length v.map.svertices ≤ k → AreEdges vs (IsBefore i k) es → AreEdges vs (IsBefore (i + 1) 0) es
@@ -96,7 +96,7 @@ module _ (vs : List Vertex) (J : AreJoined (map vertex_of vs)) where
     mark-is =
         let w = at-one (map vertex_of vs) i E.low_vertex (vertex_of v) (subst (λ n. At (map vertex_of vs) n E.low_vertex) low-is E.is_low) (at-map vertex_of vs i v a) in
         let t = at-one (vertex_of v).map.svertices k E.low_end (svertex_of s) (subst (λ (x : PlainVertex). At x.map.svertices k E.low_end) w (subst (λ n. At E.low_vertex.map.svertices n E.low_end) end-is E.leaves)) (at-map svertex_of v.map.svertices k s b) in
-        E.mark ∙ ap (λ (x : Svertex). x.mark) t
+        E.mark ∙ ap (λ (x : MapVertex). x.mark) t
 
     new-is : P.edge ≡ edge_of new_edge
     new-is = edge-same P.edge (edge_of new_edge) low-is end-is P.high P.high_svertex mark-is

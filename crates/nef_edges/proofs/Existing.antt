@@ -8,7 +8,7 @@ use Rattle.nef_space.specs.Place.{toward, IsAhead, IsBetween, IsPlaceBelow}
 use Rattle.nef_space.specs.Vectors.{SameDirection, IsOpposite}
 use Rattle.nef_space.specs.declared.label.Label.{Label}
 use Rattle.law_near.proofs.Decided.{Decided, decided-lt}
-use Rattle.law_sphere.specs.Maps.{At, Svertex, Shaped}
+use Rattle.law_sphere.specs.Maps.{At, MapVertex, Shaped}
 use Rattle.law_sphere.specs.Least.{InOrder}
 use Rattle.law_sphere.proofs.Lists.{Found, search_list, at-one}
 use Rattle.law_sphere.proofs.Places.{SameDirection-decided, IsOpposite-decided}
@@ -39,10 +39,10 @@ module _ (vs : List Vertex) where
     not-later e f E F h i l =
         let same = at-one vs f.low E.low_vertex F.low_vertex (subst (λ k. At vs k E.low_vertex) h E.is_low) F.is_low in
         let start = at-one F.low_vertex.map.svertices f.low_svertex E.low_end F.low_end (subst (λ (v : Vertex). At v.map.svertices f.low_svertex E.low_end) same (subst (λ k. At E.low_vertex.map.svertices k E.low_end) i E.leaves)) F.leaves in
-        let p = F.low_vertex.point in let u = E.high_vertex.point in let v = F.high_vertex.point in let d = F.low_end.way in
+        let p = F.low_vertex.point in let u = E.high_vertex.point in let v = F.high_vertex.point in let d = F.low_end.dir in
         let up : f.low < e.high = (let m = E.upward in omega (arith, m, h)) in
         let below = ordered f.low e.high F.low_vertex E.high_vertex up F.is_low E.is_high in
-        let ahead = subst (λ (s : Svertex). SameDirection (toward p u) s.way) start (subst (λ (w : Vertex). SameDirection (toward w.point u) E.low_end.way) same E.ahead) in
+        let ahead = subst (λ (s : MapVertex). SameDirection (toward p u) s.dir) start (subst (λ (w : Vertex). SameDirection (toward w.point u) E.low_end.dir) same E.ahead) in
         F.first e.high E.high_vertex E.is_high
         (middle-between p u v d (ahead-normal p u d below ahead) below (ordered e.high f.high E.high_vertex F.high_vertex l E.is_high F.is_high) ahead.parallel F.ahead.parallel)
 
@@ -56,25 +56,25 @@ module _ (vs : List Vertex) where
             let start = at-one F.low_vertex.map.svertices f.low_svertex E.low_end F.low_end (subst (λ (v : Vertex). At v.map.svertices f.low_svertex E.low_end) low (subst (λ k. At E.low_vertex.map.svertices k E.low_end) i E.leaves)) F.leaves in
             let high = at-one vs f.high E.high_vertex F.high_vertex (subst (λ k. At vs k E.high_vertex) g E.is_high) F.is_high in
             let arrives = subst (λ (v : Vertex). At v.map.svertices e.high_svertex E.high_end) high E.arrives in
-            let way = opposites-same F.low_end.way E.high_end.way F.high_end.way (subst (λ (s : Svertex). IsOpposite s.way E.high_end.way) start E.back) F.back in
+            let way = opposites-same F.low_end.dir E.high_end.dir F.high_end.dir (subst (λ (s : MapVertex). IsOpposite s.dir E.high_end.dir) start E.back) F.back in
             let end = (shaped f.high F.high_vertex F.is_high).svertices_apart e.high_svertex f.high_svertex E.high_end F.high_end arrives F.arrives way in
-            edge-same e f h i g end (E.mark ∙ ap (λ (s : Svertex). s.mark) start ∙ sym F.mark)
+            edge-same e f h i g end (E.mark ∙ ap (λ (s : MapVertex). s.mark) start ∙ sym F.mark)
 
   -- ---- whether a svertex has an edge
-  module _ (i a : ℕ) (v : Vertex) (u : Svertex) (is_low : At vs i v) (leaves : At v.map.svertices a u) where
+  module _ (i a : ℕ) (v : Vertex) (u : MapVertex) (is_low : At vs i v) (leaves : At v.map.svertices a u) where
     -- what an edge from the svertex to a svertex of another vertex is
-    abbrev Leads : ℕ → Vertex → Svertex → Type 0
-    Leads j w t = (i < j) × IsAhead v.point u.way w.point × ((k : ℕ) (x : Vertex) → At vs k x → IsBetween v.point x.point w.point → ⊥) × IsOpposite u.way t.way
+    abbrev Leads : ℕ → Vertex → MapVertex → Type 0
+    Leads j w t = (i < j) × IsAhead v.point u.dir w.point × ((k : ℕ) (x : Vertex) → At vs k x → IsBetween v.point x.point w.point → ⊥) × IsOpposite u.dir t.dir
 
     none-decided : (w : Vertex) → Decided ((k : ℕ) (x : Vertex) → At vs k x → IsBetween v.point x.point w.point → ⊥)
     none-decided w =
         ⊎_elim (λ f. inr (λ none. none f.number f.element f.listed f.holds)) (λ none. inl none)
         (search_list vs (λ k x. IsBetween v.point x.point w.point) (λ k x. SameDirection-decided (toward v.point x.point) (toward x.point w.point)))
 
-    leads-decided : (j : ℕ) (w : Vertex) (t : Svertex) → Decided (Leads j w t)
-    leads-decided j w t = by (decided-lt i j) (SameDirection-decided (toward v.point w.point) u.way) (none-decided w) (IsOpposite-decided u.way t.way)
+    leads-decided : (j : ℕ) (w : Vertex) (t : MapVertex) → Decided (Leads j w t)
+    leads-decided j w t = by (decided-lt i j) (SameDirection-decided (toward v.point w.point) u.dir) (none-decided w) (IsOpposite-decided u.dir t.dir)
       where
-        by : Decided (i < j) → Decided (IsAhead v.point u.way w.point) → Decided ((k : ℕ) (x : Vertex) → At vs k x → IsBetween v.point x.point w.point → ⊥) → Decided (IsOpposite u.way t.way) → Decided (Leads j w t)
+        by : Decided (i < j) → Decided (IsAhead v.point u.dir w.point) → Decided ((k : ℕ) (x : Vertex) → At vs k x → IsBetween v.point x.point w.point → ⊥) → Decided (IsOpposite u.dir t.dir) → Decided (Leads j w t)
         by (inl h) (inl f) (inl n) (inl o) = inl (h, f, n, o)
         by (inr h) f n o = inr (λ l. h l.0)
         by (inl h) (inr f) n o = inr (λ l. f l.1)
@@ -122,9 +122,9 @@ module _ (vs : List Vertex) where
               listed = E.arrives;
               holds = (
                 subst (λ n. n < e.high) h E.upward,
-                subst (λ (s : Svertex). SameDirection (toward v.point E.high_vertex.point) s.way) start (subst (λ (x : Vertex). SameDirection (toward x.point E.high_vertex.point) E.low_end.way) low E.ahead),
+                subst (λ (s : MapVertex). SameDirection (toward v.point E.high_vertex.point) s.dir) start (subst (λ (x : Vertex). SameDirection (toward x.point E.high_vertex.point) E.low_end.dir) low E.ahead),
                 subst (λ (x : Vertex). (n : ℕ) (y : Vertex) → At vs n y → IsBetween x.point y.point E.high_vertex.point → ⊥) low E.first,
-                subst (λ (s : Svertex). IsOpposite s.way E.high_end.way) start E.back,
+                subst (λ (s : MapVertex). IsOpposite s.dir E.high_end.dir) start E.back,
               );
             })
 
@@ -134,12 +134,12 @@ module _ (vs : List Vertex) where
       no-vertex : ((v : Vertex) → At vs p.0 v → ⊥) → (e : Edge) → IsEdge vs e → e.low ≡ p.0 → ⊥
       no-vertex none e E h = none E.low_vertex (subst (λ n. At vs n E.low_vertex) h E.is_low)
 
-      no-svertex : (v : Vertex) → At vs p.0 v → ((u : Svertex) → At v.map.svertices p.1 u → ⊥) → (e : Edge) → IsEdge vs e → e.low ≡ p.0 → e.low_svertex ≡ p.1 → ⊥
+      no-svertex : (v : Vertex) → At vs p.0 v → ((u : MapVertex) → At v.map.svertices p.1 u → ⊥) → (e : Edge) → IsEdge vs e → e.low ≡ p.0 → e.low_svertex ≡ p.1 → ⊥
       no-svertex v l none e E h k =
           let low = at-one vs p.0 E.low_vertex v (subst (λ n. At vs n E.low_vertex) h E.is_low) l in
           none E.low_end (subst (λ (x : Vertex). At x.map.svertices p.1 E.low_end) low (subst (λ n. At E.low_vertex.map.svertices n E.low_end) k E.leaves))
 
-      at : (v : Vertex) → At vs p.0 v → ((u : Svertex) × At v.map.svertices p.1 u) ⊎ ((u : Svertex) → At v.map.svertices p.1 u → ⊥) → Decided ((e : Edge) × IsFrom vs p.0 p.1 e)
+      at : (v : Vertex) → At vs p.0 v → ((u : MapVertex) × At v.map.svertices p.1 u) ⊎ ((u : MapVertex) → At v.map.svertices p.1 u → ⊥) → Decided ((e : Edge) × IsFrom vs p.0 p.1 e)
       at v l (inl (u, m)) = edge-from p.0 p.1 v u l m
       at v l (inr none) = inr (λ f. no-svertex v l none f.0 f.1.0 f.1.1 f.1.2)
 
@@ -152,7 +152,7 @@ abbrev svertex_numbers : List Vertex → List (ℕ × ℕ)
 svertex_numbers [] = []
 svertex_numbers (v ∷ vs) = each (λ a. (0, a)) (numbers v.map.svertices) ++ each (λ (p : ℕ × ℕ). (suc p.0, p.1)) (svertex_numbers vs)
 
-numbers-have : (vs : List Vertex) (i a : ℕ) (v : Vertex) (u : Svertex) → At vs i v → At v.map.svertices a u → Lies (svertex_numbers vs) (i, a)
+numbers-have : (vs : List Vertex) (i a : ℕ) (v : Vertex) (u : MapVertex) → At vs i v → At v.map.svertices a u → Lies (svertex_numbers vs) (i, a)
 numbers-have [] i a v u l m = absurd l
 numbers-have (w ∷ vs) zero a v u l m =
     lies-left (each (λ a. (0, a)) (numbers w.map.svertices)) (each (λ (p : ℕ × ℕ). (suc p.0, p.1)) (svertex_numbers vs)) (0, a)

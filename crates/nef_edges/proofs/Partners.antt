@@ -10,9 +10,9 @@ use Rattle.nef_space.specs.Vectors.{opposite, IsNormal, IsZero, cross, SameDirec
 use Rattle.nef_geo.specs.Shapes.{place_of, vector_of}
 use Rattle.nef_geo.specs.declared.dir.Dir.{Dir}
 use Rattle.nef_geo.proofs.Unique.{same_directions_equal}
-use Rattle.law_sphere.specs.Maps.{At, Svertex}
+use Rattle.law_sphere.specs.Maps.{At, MapVertex}
 use Rattle.law_sphere.proofs.Lists.{at-one}
-use Rattle.law_sphere.proofs.Compare.{normals-not_opposite, way-self}
+use Rattle.law_sphere.proofs.Compare.{normals-not_opposite, dir-self}
 use Rattle.law_complex.specs.Complexes.{Vertex as PlainVertex, Edge as PlainEdge, Complex as PlainComplex, IsEdge}
 use Rattle.law_complex.specs.Shows.{Shows}
 use Rattle.law_complex.proofs.Joining.{svertex-edge}
@@ -29,7 +29,7 @@ use Rattle.nef_edges.proofs.Places.{at-within, at-map, map-at}
 use Rattle.nef_edges.proofs.Rays.{normal-kept, ahead-normal, middle-between, to_opposite, from_opposite, opposites-same}
 
 -- ---- in a complex that shows a set a svertex that leads to later points is the lower end of an edge
-pub partner : (s : Set) (C : PlainComplex) → Shows s C → (i a : ℕ) (v : PlainVertex) (u : Svertex) → At C.vertices i v → At v.map.svertices a u → IsNormal u.way → (e : PlainEdge) × IsFrom C.vertices i a e
+pub partner : (s : Set) (C : PlainComplex) → Shows s C → (i a : ℕ) (v : PlainVertex) (u : MapVertex) → At C.vertices i v → At v.map.svertices a u → IsNormal u.dir → (e : PlainEdge) × IsFrom C.vertices i a e
 partner s C S i a v u l m up = by (svertex-edge s C S i a v u l m)
   where
     -- an edge arrives from before
@@ -37,8 +37,8 @@ partner s C S i a v u l m up = by (svertex-edge s C S i a v u l m)
     higher e E h k =
         let w = at-one C.vertices i E.high_vertex v (subst (λ n. At C.vertices n E.high_vertex) h E.is_high) l in
         let t = at-one v.map.svertices a E.high_end u (subst (λ (x : PlainVertex). At x.map.svertices a E.high_end) w (subst (λ n. At E.high_vertex.map.svertices n E.high_end) k E.arrives)) m in
-        let n = ahead-normal E.low_vertex.point E.high_vertex.point E.low_end.way (S.ordered e.low e.high E.low_vertex E.high_vertex E.upward E.is_low E.is_high) E.ahead in
-        normals-not_opposite E.low_end.way u.way n up (subst (λ (x : Svertex). IsOpposite E.low_end.way x.way) t E.back)
+        let n = ahead-normal E.low_vertex.point E.high_vertex.point E.low_end.dir (S.ordered e.low e.high E.low_vertex E.high_vertex E.upward E.is_low E.is_high) E.ahead in
+        normals-not_opposite E.low_end.dir u.dir n up (subst (λ (x : MapVertex). IsOpposite E.low_end.dir x.dir) t E.back)
 
     by : (n : ℕ) × (e : PlainEdge) × At C.edges n e × (((e.low ≡ i) × (e.low_svertex ≡ a)) ⊎ ((e.high ≡ i) × (e.high_svertex ≡ a))) → (e : PlainEdge) × IsFrom C.vertices i a e
     by (n, e, b, inl c) = (e, (S.edges.edges n e b, c.0, c.1))
@@ -105,7 +105,7 @@ module _ (vs : List Vertex) (J : AreJoined (map vertex_of vs)) (hs : List Half) 
 
   along : SameDirection (vector_of f.dir) (opposite (vector_of end.0.dir))
   along = subst (λ (d : Dir). SameDirection (vector_of d) (opposite (vector_of end.0.dir))) (sym F.dir)
-      (subst (λ (x : Svertex). SameDirection x.way (opposite (vector_of end.0.dir))) end-is (subst (λ (x : Svertex). SameDirection E.low_end.way (opposite x.way)) (sym end.2) (to_opposite E.low_end.way E.high_end.way E.back)))
+      (subst (λ (x : MapVertex). SameDirection x.dir (opposite (vector_of end.0.dir))) end-is (subst (λ (x : MapVertex). SameDirection E.low_end.dir (opposite x.dir)) (sym end.2) (to_opposite E.low_end.dir E.high_end.dir E.back)))
 
   -- it is a half that arrives, on the line of f
   met : (k : ℕ) × (g : Half) × At hs k g × (g.vertex ≡ edge.high) × (g.svertex ≡ edge.high_svertex)
@@ -133,15 +133,15 @@ module _ (vs : List Vertex) (J : AreJoined (map vertex_of vs)) (hs : List Half) 
   stop-is : place_of g.point ≡ E.high_vertex.point
   stop-is = ap place_of (G.point ∙ ap (λ (x : Vertex). x.point) same-vertex) ∙ ap (λ (x : PlainVertex). x.point) high.2
 
-  way-is : vector_of f.dir ≡ E.low_end.way
-  way-is = ap vector_of F.dir ∙ ap (λ (x : Svertex). x.way) (sym end-is)
+  way-is : vector_of f.dir ≡ E.low_end.dir
+  way-is = ap vector_of F.dir ∙ ap (λ (x : MapVertex). x.dir) (sym end-is)
 
   tied : line_order g f ≡ Equal
   tied = tied_back line_total f g (line-tied f g (record {
     same_dir = same-dir;
     level = subst (λ d. IsZero (cross (toward (place_of f.point) (place_of g.point)) d)) (sym way-is)
-        (subst (λ p. IsZero (cross (toward p (place_of g.point)) E.low_end.way)) (sym start-is)
-        (subst (λ q. IsZero (cross (toward E.low_vertex.point q) E.low_end.way)) (sym stop-is) E.ahead.parallel));
+        (subst (λ p. IsZero (cross (toward p (place_of g.point)) E.low_end.dir)) (sym start-is)
+        (subst (λ q. IsZero (cross (toward E.low_vertex.point q) E.low_end.dir)) (sym stop-is) E.ahead.parallel));
   }))
 
   upward : f.vertex < g.vertex
@@ -170,7 +170,7 @@ module _ (vs : List Vertex) (J : AreJoined (map vertex_of vs)) (hs : List Half) 
 
     not-between : h.vertex < g.vertex → ⊥
     not-between l =
-        let p = E.low_vertex.point in let u = place_of H.vertex.point in let v = E.high_vertex.point in let d = E.low_end.way in
+        let p = E.low_vertex.point in let u = place_of H.vertex.point in let v = E.high_vertex.point in let d = E.low_end.dir in
         let low : At (map vertex_of vs) f.vertex E.low_vertex = subst (At (map vertex_of vs) f.vertex) (sym low-is) is-low in
         let level : IsZero (cross (toward p u) d) = subst (λ w. IsZero (cross (toward p u) w)) way-is
         (subst (λ q. IsZero (cross (toward q u) (vector_of f.dir))) start-is (subst (λ q. IsZero (cross (toward (place_of f.point) (place_of q)) (vector_of f.dir))) H.point line.level)) in
@@ -187,7 +187,7 @@ module _ (vs : List Vertex) (J : AreJoined (map vertex_of vs)) (hs : List Half) 
         let t = at-map svertex_of high.0.map.svertices h.svertex H.svertex (subst (λ (x : Vertex). At x.map.svertices h.svertex H.svertex) w H.has_svertex) in
         let r = at-map svertex_of high.0.map.svertices edge.high_svertex end.0 end.1 in
         let d = vector_of f.dir in
-        let back : SameDirection d (opposite (vector_of H.svertex.dir)) = subst (SameDirection d) (ap vector_of line.same_dir ∙ H.back) (way-self d f.dir.some) in
+        let back : SameDirection d (opposite (vector_of H.svertex.dir)) = subst (SameDirection d) (ap vector_of line.same_dir ∙ H.back) (dir-self d f.dir.some) in
         let same = opposites-same d (vector_of end.0.dir) (vector_of H.svertex.dir) (from_opposite d (vector_of end.0.dir) along) (from_opposite d (vector_of H.svertex.dir) back) in
         (J.shaped edge.high (vertex_of high.0) (at-map vertex_of vs edge.high high.0 high.1)).svertices_apart edge.high_svertex h.svertex (svertex_of end.0) (svertex_of H.svertex) r t same
 

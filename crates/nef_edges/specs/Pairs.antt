@@ -2,7 +2,7 @@
 use Rattle.std.specs.Prelude.{◌≡◌, ℕ, List, map}
 use Rattle.nef_space.specs.Place.{IsPlaceBelow}
 use Rattle.nef_space.specs.Vectors.{IsNormal}
-use Rattle.law_sphere.specs.Maps.{At, Svertex, Shaped}
+use Rattle.law_sphere.specs.Maps.{At, MapVertex, Shaped}
 use Rattle.law_sphere.specs.Least.{InOrder}
 use Rattle.law_complex.specs.Complexes.{Vertex as PlainVertex, Edge as PlainEdge, IsEdge, IsEdgeBelow}
 use Rattle.nef_complex.specs.declared.complex.Vertex.{Vertex}
@@ -17,7 +17,7 @@ IsFrom vs i a e = IsEdge vs e × (e.low ≡ i) × (e.low_svertex ≡ a)
 pub record AreJoined (vs : List PlainVertex) : Type 0 where
   pub ordered : InOrder (λ u v. IsPlaceBelow u.point v.point) vs
   pub shaped : (k : ℕ) (v : PlainVertex) → At vs k v → Shaped v.map
-  pub joined : (i a : ℕ) (v : PlainVertex) (u : Svertex) → At vs i v → At v.map.svertices a u → IsNormal u.way → (e : PlainEdge) × IsFrom vs i a e
+  pub joined : (i a : ℕ) (v : PlainVertex) (u : MapVertex) → At vs i v → At v.map.svertices a u → IsNormal u.dir → (e : PlainEdge) × IsFrom vs i a e
 
 -- the edges from the svertices that count, in order
 pub record AreEdges (vs : List Vertex) (Counts : ℕ → ℕ → Type 0) (es : List Edge) : Type 0 where

@@ -54,9 +54,9 @@ through-itself n p = ring (n.x ∷ n.y ∷ n.z ∷ p.x ∷ p.y ∷ p.z ∷ pos p
 module _ (s : Set) (C : Complex) (S : Shows s C) where
   tied-mark : (j k : Corner) (T : AreTiedItems s C j k) → item_mark T.item ≡ item_mark T.other_item
   tied-mark j k T =
-      let a = (facet-near s C S j T.vertex T.item T.corner T.way T.on).label in
+      let a = (facet-near s C S j T.vertex T.item T.corner T.dir T.on).label in
       let b = (facet-near s C S k T.other_vertex T.other_item T.other_corner T.other_way T.other_on).label in
-      let p = ahead s T.vertex.point T.way in
+      let p = ahead s T.vertex.point T.dir in
       let q = ahead s T.other_vertex.point T.other_way in
       label-one s q (item_mark T.item) (item_mark T.other_item) ((labels-by_germs s p q (joined-germs s p q T.tied.0) (item_mark T.item)).0 a) b
 
@@ -86,12 +86,12 @@ module _ (s : Set) (C : Complex) (S : Shows s C) where
     W = edge-ways s C S n e v w a A.ends
 
     low-corner : IsCorner C (corner_of e.low i) v (arc_item A.low_arc)
-    low-corner = record { vertex = A.ends.low; item = at-arc v.map.arcs v.map.loop i A.low_arc A.is_low }
+    low-corner = record { vertex = A.ends.low; item = at-arc v.map.arcs v.map.sloop i A.low_arc A.is_low }
 
     level-along : dot A.low_arc.normal (toward v.point w.point) ≡ pos 0
     level-along =
         let W = edge-ways s C S n e v w a A.ends in
-        level-way A.low_arc.normal W.low.way (toward v.point w.point) (SameDirection-turned (toward v.point w.point) W.low.way W.onward)
+        level-way A.low_arc.normal W.low.dir (toward v.point w.point) (SameDirection-turned (toward v.point w.point) W.low.dir W.onward)
         (end-level s C S (corner_of e.low i) v A.low_arc low-corner e.low_svertex W.low W.is_low (⊎_elim (λ o. inl o.0) (λ o. inr o.0) A.one_way))
 
     pub alike-ends : AreAlike C (corner_of e.low i) (corner_of e.high j)

@@ -13,7 +13,7 @@ use Rattle.law_near.proofs.PlaceOrder.{place_below-apart}
 use Rattle.law_near.proofs.Rays.{same-place_sym}
 use Rattle.law_forms.proofs.Between.{toward-place}
 use Rattle.law_forms.proofs.Directions.{direction-left}
-use Rattle.law_sphere.specs.Maps.{At, Svertex}
+use Rattle.law_sphere.specs.Maps.{At, MapVertex}
 use Rattle.law_sphere.proofs.Vectors.{nought-if}
 use Rattle.law_sphere.proofs.Lists.{at-one}
 use Rattle.law_sphere.proofs.NearItems.{opposite-turned}
@@ -55,16 +55,16 @@ on-ray v p q w = by_order (dot (toward v p) (toward p q)) (pos 0)
 pub record EdgeFrom (s : Set) (C : Complex) (i a j b : ℕ) : Type 0 where
   pub from : Vertex
   pub to : Vertex
-  pub start : Svertex
-  pub end : Svertex
+  pub start : MapVertex
+  pub end : MapVertex
   pub is_from : At C.vertices i from
   pub is_to : At C.vertices j to
   pub is_start : At from.map.svertices a start
   pub is_end : At to.map.svertices b end
-  pub onward : SameDirection (toward from.point to.point) start.way
-  pub back : IsOpposite start.way end.way
+  pub onward : SameDirection (toward from.point to.point) start.dir
+  pub back : IsOpposite start.dir end.dir
   pub clear : (k : ℕ) (v : Vertex) → At C.vertices k v → IsBetween from.point v.point to.point → ⊥
-  pub tied : IsTied s (ahead s from.point start.way) (ahead s to.point end.way)
+  pub tied : IsTied s (ahead s from.point start.dir) (ahead s to.point end.dir)
 
 relabelled : (s : Set) (C : Complex) (i a j b i' a' j' b' : ℕ) → i ≡ i' → a ≡ a' → j ≡ j' → b ≡ b' → EdgeFrom s C i a j b → EdgeFrom s C i' a' j' b'
 relabelled s C i a j b i' a' j' b' e f g h V =
@@ -112,10 +112,10 @@ module _ (s : Set) (C : Complex) (S : Shows s C) (n : ℕ) (e : Edge) (at_n : At
     is_to = ends.low;
     is_start = W.is_high;
     is_end = W.is_low;
-    onward = SameDirection-trans (toward high.point low.point) (opposite W.low.way) W.high.way (ahead-back low.point high.point W.low.way W.onward) (opposite-way W.low.way W.high.way W.back);
-    back = opposite-turned W.low.way W.high.way W.back;
+    onward = SameDirection-trans (toward high.point low.point) (opposite W.low.dir) W.high.dir (ahead-back low.point high.point W.low.dir W.onward) (opposite-way W.low.dir W.high.dir W.back);
+    back = opposite-turned W.low.dir W.high.dir W.back;
     clear = λ k v a b. clear-low k v a (between-turned high.point low.point v.point b);
-    tied = tied-turned s (ahead s low.point W.low.way) (ahead s high.point W.high.way) (ends-tied s C S n e low high at_n ends);
+    tied = tied-turned s (ahead s low.point W.low.dir) (ahead s high.point W.high.dir) (ends-tied s C S n e low high at_n ends);
   }
 
   pub edge-from : (i a j b : ℕ) → Leads e i a j b → EdgeFrom s C i a j b
@@ -123,8 +123,8 @@ module _ (s : Set) (C : Complex) (S : Shows s C) (n : ℕ) (e : Edge) (at_n : At
   edge-from i a j b (inr (f, g, h, k)) = relabelled s C e.high e.high_svertex e.low e.low_svertex i a j b f g h k from-high
 
 -- seen from where it leads
-back-way : (s : Set) (C : Complex) (i a j b : ℕ) (V : EdgeFrom s C i a j b) → SameDirection (toward V.to.point V.from.point) V.end.way
-back-way s C i a j b V = SameDirection-trans (toward V.to.point V.from.point) (opposite V.start.way) V.end.way (ahead-back V.from.point V.to.point V.start.way V.onward) (opposite-way V.start.way V.end.way V.back)
+back-way : (s : Set) (C : Complex) (i a j b : ℕ) (V : EdgeFrom s C i a j b) → SameDirection (toward V.to.point V.from.point) V.end.dir
+back-way s C i a j b V = SameDirection-trans (toward V.to.point V.from.point) (opposite V.start.dir) V.end.dir (ahead-back V.from.point V.to.point V.start.dir V.onward) (opposite-way V.start.dir V.end.dir V.back)
 
 -- ---- one edge leads to a svertex
 module _ (s : Set) (C : Complex) (S : Shows s C) (i a i' a' j b : ℕ) (V : EdgeFrom s C i a j b) (W : EdgeFrom s C i' a' j b) where
@@ -134,14 +134,14 @@ module _ (s : Set) (C : Complex) (S : Shows s C) (i a i' a' j b : ℕ) (V : Edge
   one-end : W.end ≡ V.end
   one-end = at-one V.to.map.svertices b W.end V.end (subst (λ (r : Vertex). At r.map.svertices b W.end) one-to W.is_end) V.is_end
 
-  other-way : SameDirection (toward V.to.point W.from.point) V.end.way
-  other-way = subst (λ (r : Svertex). SameDirection (toward V.to.point W.from.point) r.way) one-end (subst (λ (r : Vertex). SameDirection (toward r.point W.from.point) W.end.way) one-to (back-way s C i' a' j b W))
+  other-way : SameDirection (toward V.to.point W.from.point) V.end.dir
+  other-way = subst (λ (r : MapVertex). SameDirection (toward V.to.point W.from.point) r.dir) one-end (subst (λ (r : Vertex). SameDirection (toward r.point W.from.point) W.end.dir) one-to (back-way s C i' a' j b W))
 
   same-point : SamePlace V.from.point W.from.point
   same-point = ⊎_elim
       (λ h. absurd (W.clear i V.from V.is_from (subst (λ (r : Vertex). IsBetween W.from.point V.from.point r.point) (sym one-to) (between-turned V.to.point W.from.point V.from.point h))))
       (λ o. ⊎_elim (λ e. e) (λ h. absurd (V.clear i' W.from W.is_from (between-turned V.to.point V.from.point W.from.point h))) o)
-      (on-ray V.to.point V.from.point W.from.point (SameDirection-trans (toward V.to.point V.from.point) V.end.way (toward V.to.point W.from.point) (back-way s C i a j b V) (SameDirection-turned (toward V.to.point W.from.point) V.end.way other-way)))
+      (on-ray V.to.point V.from.point W.from.point (SameDirection-trans (toward V.to.point V.from.point) V.end.dir (toward V.to.point W.from.point) (back-way s C i a j b V) (SameDirection-turned (toward V.to.point W.from.point) V.end.dir other-way)))
 
   pub one-vertex : i ≡ i'
   one-vertex = ⊎_elim (λ e. e) (λ o. ⊎_elim
@@ -155,4 +155,4 @@ module _ (s : Set) (C : Complex) (S : Shows s C) (i a i' a' j b : ℕ) (V : Edge
   one-svertex =
       let M = (S.cones i V.from V.is_from).valid.shaped in
       M.svertices_apart a a' V.start W.start V.is_start (subst (λ (r : Vertex). At r.map.svertices a' W.start) one-from W.is_start)
-      (opposites-same V.end.way V.start.way W.start.way (opposite-turned V.start.way V.end.way V.back) (subst (λ (r : Svertex). IsOpposite r.way W.start.way) one-end (opposite-turned W.start.way W.end.way W.back)))
+      (opposites-same V.end.dir V.start.dir W.start.dir (opposite-turned V.start.dir V.end.dir V.back) (subst (λ (r : MapVertex). IsOpposite r.dir W.start.dir) one-end (opposite-turned W.start.dir W.end.dir W.back)))

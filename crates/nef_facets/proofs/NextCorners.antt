@@ -19,13 +19,13 @@ use Rattle.law_near.proofs.NearGerms.{steep}
 use Rattle.law_near.proofs.Supports.{square-cross}
 use Rattle.law_forms.proofs.Directions.{self-pos, dot-comm, direction-right}
 use Rattle.law_sphere.specs.Forms.{forms}
-use Rattle.law_sphere.specs.Maps.{At, Arc, Loop, Item, arc_item, loop_item, items, item_normal, Map, OnItem, NearLabel, Valid}
+use Rattle.law_sphere.specs.Maps.{At, Arc, MapSloop, Item, arc_item, sloop_item, items, item_normal, Map, OnItem, NearLabel, Valid}
 use Rattle.law_sphere.proofs.Vectors.{normal-is, dot-comb, same-plus, same-minus, nought-if}
 use Rattle.law_sphere.proofs.Generic.{amount, far-keeps}
 use Rattle.law_sphere.proofs.Lists.{at-one}
 use Rattle.law_sphere.proofs.Shot.{arc-at}
 use Rattle.law_sphere.proofs.Around.{direction-around}
-use Rattle.law_sphere.proofs.Compare.{SameDirection-turned, SameDirection-trans, way-self}
+use Rattle.law_sphere.proofs.Compare.{SameDirection-turned, SameDirection-trans, dir-self}
 use Rattle.law_sphere.proofs.Turn.{turn-same}
 use Rattle.law_sphere.proofs.Arcs.{at-arc}
 use Rattle.law_complex.specs.Complexes.{Vertex, Complex, Corner, IsCorner}
@@ -68,16 +68,16 @@ module _ (s : Set) (C : Complex) (S : Shows s C) (i a j b : ℕ) (V : EdgeFrom s
   here = corner_of i k
 
   pub corner : IsCorner C here V.from (arc_item c)
-  corner = record { vertex = V.is_from; item = at-arc V.from.map.arcs V.from.map.loop k c listed }
+  corner = record { vertex = V.is_from; item = at-arc V.from.map.arcs V.from.map.sloop k c listed }
 
   abbrev n : Vector
   n = c.normal
 
   abbrev u : Vector
-  u = V.start.way
+  u = V.start.dir
 
   abbrev t : Vector
-  t = V.end.way
+  t = V.end.dir
 
   abbrev f : Vector
   f = cross n u
@@ -160,19 +160,19 @@ module _ (s : Set) (C : Complex) (S : Shows s C) (i a j b : ℕ) (V : EdgeFrom s
       (flats-carried s p q n germs F.flat) (FlatDim-by_germs s s p q germs 2 F.dim) level-d
 
   right : triple n t f <ℤ pos 0
-  right = same-minus (neg_ℤ (triple n u f)) (triple n t f) (turn-same n n (opposite u) t f f (way-self n n-some) t-way (way-self f f-some) ∙ ap sign (back-triple n u f)) (let h = left in omega (arith, ints))
+  right = same-minus (neg_ℤ (triple n u f)) (triple n t f) (turn-same n n (opposite u) t f f (dir-self n n-some) t-way (dir-self f f-some) ∙ ap sign (back-triple n u f)) (let h = left in omega (arith, ints))
 
   by-item : (x : Item) (l : ℕ) → At (items M) l x → OnItem M x d → SameDirection (item_normal x) n → ArcInto M b n
   by-item (arc_item e) l r o w = record {
     number = l;
     arc = e;
-    listed = arc-at M.arcs M.loop l e r;
+    listed = arc-at M.arcs M.sloop l e r;
     target = target-met M L.shaped b V.end V.is_end f K (omega arith) l e r o
-        (same-minus (triple n t f) (triple e.normal t f) (turn-same n e.normal t t f f (SameDirection-turned e.normal n w) (way-self t t-some) (way-self f f-some)) right);
+        (same-minus (triple n t f) (triple e.normal t f) (turn-same n e.normal t t f f (SameDirection-turned e.normal n w) (dir-self t t-some) (dir-self f f-some)) right);
     one_normal = SameDirection-turned e.normal n w;
   }
-  by-item (loop_item e) l r o w =
-      absurd (L.shaped.no_svertex_on_item b l V.end (loop_item e) V.is_end r (record { direction = t-some; level = turned-level n e.normal t (SameDirection-turned e.normal n w) level-t }))
+  by-item (sloop_item e) l r o w =
+      absurd (L.shaped.no_svertex_on_item b l V.end (sloop_item e) V.is_end r (record { direction = t-some; level = turned-level n e.normal t (SameDirection-turned e.normal n w) level-t }))
 
   pub next-arc : ArcInto M b n
   next-arc = by-item found.item found.number found.listed found.on found.same
@@ -183,45 +183,45 @@ module _ (s : Set) (C : Complex) (S : Shows s C) (i a j b : ℕ) (V : EdgeFrom s
   v = V.from
 
   first : IsCorner C (corner_of i k) v (arc_item c)
-  first = record { vertex = V.is_from; item = at-arc v.map.arcs v.map.loop k c at-k }
+  first = record { vertex = V.is_from; item = at-arc v.map.arcs v.map.sloop k c at-k }
 
   second : IsCorner C (corner_of i l) v (arc_item e)
-  second = record { vertex = V.is_from; item = at-arc v.map.arcs v.map.loop l e at-l }
+  second = record { vertex = V.is_from; item = at-arc v.map.arcs v.map.sloop l e at-l }
 
   abbrev g : Vector
-  g = cross c.normal V.start.way
+  g = cross c.normal V.start.dir
 
-  u-is : IsDirection V.start.way
-  u-is = direction-right (toward v.point V.to.point) V.start.way V.onward
+  u-is : IsDirection V.start.dir
+  u-is = direction-right (toward v.point V.to.point) V.start.dir V.onward
 
   n-is : IsDirection c.normal
   n-is = normal-is (S.cones i v V.is_from).valid.shaped k (arc_item c) first.item
 
-  level-is : dot c.normal V.start.way ≡ pos 0
+  level-is : dot c.normal V.start.dir ≡ pos 0
   level-is = end-level s C S (corner_of i k) v c first a V.start V.is_start (inl leaves)
 
   g-is : IsDirection g
-  g-is z = u-is (nought-if c.normal V.start.way n-is z level-is)
+  g-is z = u-is (nought-if c.normal V.start.dir n-is z level-is)
 
-  left-is : pos 0 <ℤ triple c.normal V.start.way g
-  left-is = left-of c.normal V.start.way n-is u-is level-is
+  left-is : pos 0 <ℤ triple c.normal V.start.dir g
+  left-is = left-of c.normal V.start.dir n-is u-is level-is
 
   pub one-arc : k ≡ l
   one-arc = (S.cones i v V.is_from).valid.shaped.no_items_meet k l (arc_item c) (arc_item e)
       (close_way s C S (corner_of i k) v c first a V.start V.is_start g) first.item second.item
-      (on-close s C S (corner_of i k) v c first a V.start V.is_start g (square-cross c.normal V.start.way) (inl (leaves, left-is)))
-      (on-close s C S (corner_of i l) v e second a V.start V.is_start g (turned-level c.normal e.normal g w (square-cross c.normal V.start.way))
-      (inl (also, same-plus (triple c.normal V.start.way g) (triple e.normal V.start.way g) (turn-same c.normal e.normal V.start.way V.start.way g g w (way-self V.start.way u-is) (way-self g g-is)) left-is)))
+      (on-close s C S (corner_of i k) v c first a V.start V.is_start g (square-cross c.normal V.start.dir) (inl (leaves, left-is)))
+      (on-close s C S (corner_of i l) v e second a V.start V.is_start g (turned-level c.normal e.normal g w (square-cross c.normal V.start.dir))
+      (inl (also, same-plus (triple c.normal V.start.dir g) (triple e.normal V.start.dir g) (turn-same c.normal e.normal V.start.dir V.start.dir g g w (dir-self V.start.dir u-is) (dir-self g g-is)) left-is)))
 
 -- ---- next corners
 module _ (s : Set) (C : Complex) (S : Shows s C) where
   -- what stands where an arc is no sloop
-  pub arc-no_loop : (k : Corner) (v w : Vertex) (c : Arc) (l : Loop) → At C.vertices k.vertex v → At v.map.arcs k.item c → IsCorner C k w (loop_item l) → ⊥
-  arc-no_loop k v w c l a b h =
+  pub arc-no_sloop : (k : Corner) (v w : Vertex) (c : Arc) (l : MapSloop) → At C.vertices k.vertex v → At v.map.arcs k.item c → IsCorner C k w (sloop_item l) → ⊥
+  arc-no_sloop k v w c l a b h =
       let e = at-one C.vertices k.vertex v w a h.vertex in
-      differ (at-one (items w.map) k.item (arc_item c) (loop_item l) (subst (λ (r : Vertex). At (items r.map) k.item (arc_item c)) e (at-arc v.map.arcs v.map.loop k.item c b)) h.item)
+      differ (at-one (items w.map) k.item (arc_item c) (sloop_item l) (subst (λ (r : Vertex). At (items r.map) k.item (arc_item c)) e (at-arc v.map.arcs v.map.sloop k.item c b)) h.item)
     where
-      differ : ◌≡◌ {A = Item} (arc_item c) (loop_item l) → ⊥
+      differ : ◌≡◌ {A = Item} (arc_item c) (sloop_item l) → ⊥
       differ e = cc
 
   pub corner-same : (i j : Corner) → i.vertex ≡ j.vertex → i.item ≡ j.item → i ≡ j
@@ -245,8 +245,8 @@ module _ (s : Set) (C : Complex) (S : Shows s C) where
   next-injective i j k (inl x) (inl y) =
       let e = at-one C.vertices k.vertex x.there y.there x.is_there y.is_there in
       arcs-apart i j k x y (at-one y.there.map.arcs k.item x.that_arc y.that_arc (subst (λ (v : Vertex). At v.map.arcs k.item x.that_arc) e x.is_that) y.is_that)
-  next-injective i j k (inl x) (inr (e, v', l, h)) = absurd (arc-no_loop k x.there v' x.that_arc l x.is_there x.is_that (subst (λ (r : Corner). IsCorner C r v' (loop_item l)) e h))
-  next-injective i j k (inr (e, v', l, h)) (inl y) = absurd (arc-no_loop k y.there v' y.that_arc l y.is_there y.is_that (subst (λ (r : Corner). IsCorner C r v' (loop_item l)) e h))
+  next-injective i j k (inl x) (inr (e, v', l, h)) = absurd (arc-no_sloop k x.there v' x.that_arc l x.is_there x.is_that (subst (λ (r : Corner). IsCorner C r v' (sloop_item l)) e h))
+  next-injective i j k (inr (e, v', l, h)) (inl y) = absurd (arc-no_sloop k y.there v' y.that_arc l y.is_there y.is_that (subst (λ (r : Corner). IsCorner C r v' (sloop_item l)) e h))
   next-injective i j k (inr x) (inr y) = x.0 ∙ sym y.0
 
 -- ---- a corner and the next are linked along an edge

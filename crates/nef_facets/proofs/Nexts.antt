@@ -4,7 +4,7 @@ use Rattle.std.proofs.lemmas.Bool.{cases_order}
 use Rattle.nef_space.specs.Lists.{IsAt}
 use Rattle.nef_space.specs.Sets.{Set}
 use Rattle.nef_geo.specs.Shapes.{vector_of}
-use Rattle.law_sphere.specs.Maps.{At, Arc, Item, arc_item, loop_item, Loop}
+use Rattle.law_sphere.specs.Maps.{At, Arc, Item, arc_item, sloop_item, MapSloop}
 use Rattle.law_sphere.proofs.Lists.{at-one}
 use Rattle.law_sphere.proofs.Shot.{arc-at}
 use Rattle.law_sphere.proofs.Arcs.{at-arc, ends-of}
@@ -73,11 +73,11 @@ module _ (s : Set) (c : Complex) (S : Shows s (complex_of c)) (n : ℕ) (e : Pla
         (A.number, (A.arc, subst (λ (v : PlainVertex). At v.map.arcs A.number A.arc) g A.listed, A.target, A.one_normal))
 
     pub here-item : HasItem C (corner_of (corner i k))
-    here-item = (vertex_of u, arc_item (arc_of r), record { vertex = is-here; item = at-arc (map_of u.map).arcs (map_of u.map).loop k (arc_of r) is-this })
+    here-item = (vertex_of u, arc_item (arc_of r), record { vertex = is-here; item = at-arc (map_of u.map).arcs (map_of u.map).sloop k (arc_of r) is-this })
 
     module _ (m : ℕ) (I : IsArcInto (map_of w.map) b (vector_of r.normal) m) where
       pub there-item : HasItem C (corner_of (corner j m))
-      there-item = (vertex_of w, arc_item I.0, record { vertex = is-there; item = at-arc (map_of w.map).arcs (map_of w.map).loop m I.0 I.1 })
+      there-item = (vertex_of w, arc_item I.0, record { vertex = is-there; item = at-arc (map_of w.map).arcs (map_of w.map).sloop m I.0 I.1 })
 
       pub follows : NextCorner C (corner_of (corner i k)) (corner_of (corner j m))
       follows = inl (record {
@@ -142,13 +142,13 @@ added-all C ks i a n old new A u p h m k b (v, t, d, f, g, e) =
 -- ---- edge by edge
 pub record AreNextTo (C : PlainComplex) (ks : List Corner) (n : ℕ) (ns : List ℕ) : Type 0 where
   pub as_many : length ns ≡ length ks
-  pub loops : (i : ℕ) (k : Corner) (v : PlainVertex) (l : Loop) → IsAt ks i k → IsCorner C (corner_of k) v (loop_item l) → HasNext C ks ns i
+  pub sloops : (i : ℕ) (k : Corner) (v : PlainVertex) (l : MapSloop) → IsAt ks i k → IsCorner C (corner_of k) v (sloop_item l) → HasNext C ks ns i
   pub arcs : (m i : ℕ) (e : PlainEdge) (k : Corner) → m < n → At C.edges m e → IsAt ks i k → LeavesFrom C (corner_of k) e.low e.low_svertex ⊎ LeavesFrom C (corner_of k) e.high e.high_svertex → HasNext C ks ns i
 
 pub next-none : (C : PlainComplex) (ks : List Corner) (ns : List ℕ) → length ns ≡ length ks → ((i n : ℕ) → IsAt ns i n → n ≡ i) → AreNextTo C ks 0 ns
 next-none C ks ns e own = record {
   as_many = e;
-  loops = λ i k v l a c. let h = is-at_within ks i k a in let r = is-at_some ns i (omega arith) in (i, k, k, a, subst (λ (m : ℕ). IsAt ns i m) (own i r.0 r.1) r.1, a, inr (refl, v, l, c));
+  sloops = λ i k v l a c. let h = is-at_within ks i k a in let r = is-at_some ns i (omega arith) in (i, k, k, a, subst (λ (m : ℕ). IsAt ns i m) (own i r.0 r.1) r.1, a, inr (refl, v, l, c));
   arcs = λ m i f k h. absurd (omega arith);
 }
 
@@ -158,7 +158,7 @@ pub next-more : (C : PlainComplex) (ks : List Corner) (n : ℕ) (ns ms new : Lis
     → AreNextTo C ks (n + 1) new
 next-more C ks n ns ms new e A at-n len kept low also high = record {
   as_many = len;
-  loops = λ i k v l a c. also i (kept i (A.loops i k v l a c));
+  sloops = λ i k v l a c. also i (kept i (A.sloops i k v l a c));
   arcs = λ m i f k h b a o. ⊎_elim
       (λ g. also i (kept i (A.arcs m i f k g b a o)))
       (λ g. let same = at-one C.edges n f e (subst (λ (r : ℕ). At C.edges r f) g b) at-n in
@@ -169,10 +169,10 @@ next-more C ks n ns ms new e A at-n len kept low also high = record {
 
 module _ (s : Set) (C : PlainComplex) (S : Shows s C) (ks : List Corner) (K : AreCorners C ks) (n : ℕ) (ns : List ℕ) (A : AreNextTo C ks n ns) (all : (m : ℕ) (e : PlainEdge) → At C.edges m e → m < n) where
   at-corner : (i : ℕ) (k : Corner) → IsAt ks i k → (v : PlainVertex) (x : Item) → IsCorner C (corner_of k) v x → HasNext C ks ns i
-  at-corner i k a v (loop_item l) c = A.loops i k v l a c
+  at-corner i k a v (sloop_item l) c = A.sloops i k v l a c
   at-corner i k a v (arc_item r) c =
       let M = (S.cones k.vertex v c.vertex).valid.shaped in
-      let b = arc-at v.map.arcs v.map.loop k.item r c.item in
+      let b = arc-at v.map.arcs v.map.sloop k.item r c.item in
       let X = ends-of v.map M k.item r b in
       let E = svertex-edge s C S k.vertex r.source v X.source c.vertex X.has_source in
       A.arcs E.0 i E.1 k (all E.0 E.1 E.2) E.2 a

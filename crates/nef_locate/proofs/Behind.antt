@@ -9,9 +9,9 @@ use Rattle.law_near.proofs.Between.{between-turned, between-inner}
 use Rattle.law_near.proofs.Edges.{even-until}
 use Rattle.law_near.proofs.Even.{even-germs}
 use Rattle.law_forms.proofs.Directions.{direction-left}
-use Rattle.law_sphere.specs.Maps.{At, arc_item, Item, item_normal, way_of}
+use Rattle.law_sphere.specs.Maps.{At, arc_item, Item, item_normal, dir_of}
 use Rattle.law_sphere.proofs.Arcs.{at-arc}
-use Rattle.law_sphere.proofs.Compare.{SameDirection-turned, SameDirection-trans, way-self}
+use Rattle.law_sphere.proofs.Compare.{SameDirection-turned, SameDirection-trans, dir-self}
 use Rattle.law_sphere.proofs.Forms.{on-level}
 use Rattle.law_sphere.proofs.Vectors.{normal-direction}
 use Rattle.law_complex.specs.Complexes.{Vertex, Complex, Corner, IsCorner}
@@ -68,11 +68,11 @@ module _ (s : Set) (C : Complex) (S : Shows s C) (h : Form) (y : Place) (normal 
   -- ---- the corner
   by-edge : (i : ℕ) → IsEdgePoint C i z → (k : Corner) × IsCornerAt C h (opposite d) (meets_edge i) k
   by-edge i (e, v, w, a, H, b) =
-      let way = way_of v.map.svertices e.low_svertex in
+      let way = dir_of v.map.svertices e.low_svertex in
       let u = low-end s C S i e v w z a H b in
       let is = way-is s C S i e v w z a H b in
-      let leads : IsDirection way = subst IsDirection (sym is) ((S.cones e.low v H.low).valid.shaped.svertex_ways e.low_svertex u.0 u.1) in
-      let along = ((edge-points s C i e v w z S a H b).1 way).1 (way-self way leads).parallel in
+      let leads : IsDirection way = subst IsDirection (sym is) ((S.cones e.low v H.low).valid.shaped.svertex_dirs e.low_svertex u.0 u.1) in
+      let along = ((edge-points s C i e v w z S a H b).1 way).1 (dir-self way leads).parallel in
       let flat = (F.1 way).0 (flat-onto s 2 y z (direction-left (toward y z) d I.ahead) F.0 all way along) in
       let x = arc-beside s C S i e v w z a H b (opposite d) y to-y n normal (subst (λ (g : Vector). dot n g ≡ pos 0) is flat) (level-back n d level) (all q close) flat-close in
       (record { vertex = e.low; item = x.0 }, (e, v, x.1, a, refl, H.low, x.2, x.3, x.4))
@@ -119,4 +119,4 @@ pub corner-normal : (C : Complex) (h : Form) (d : Vector) (m : PlaneMeet) (k : C
 corner-normal C h d (meets_vertex i) k (u, o, e, b, r, t) v x c = subst (λ (w : Item). SameDirection (item_normal w) (normal_of h)) (corner-one C k u v o x b c) r
 corner-normal C h d (meets_edge i) k (e, u, a, l, p, b, t, r, side) v x c =
     subst (λ (w : Item). SameDirection (item_normal w) (normal_of h))
-    (corner-one C k u v (arc_item a) x (record { vertex = subst (λ (j : ℕ). At C.vertices j u) (sym p) b; item = at-arc u.map.arcs u.map.loop k.item a t }) c) r
+    (corner-one C k u v (arc_item a) x (record { vertex = subst (λ (j : ℕ). At C.vertices j u) (sym p) b; item = at-arc u.map.arcs u.map.sloop k.item a t }) c) r

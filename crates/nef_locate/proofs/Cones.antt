@@ -12,7 +12,7 @@ use Rattle.law_near.proofs.Rays.{signs-same}
 use Rattle.law_near.proofs.Alike.{germs-by_cell, flat-germ}
 use Rattle.law_near.proofs.Even.{span-3}
 use Rattle.nef_locate.specs.Places.{IsPlaneOf}
-use Rattle.law_sphere.specs.Maps.{Loop, Item, item_normal, item_above, item_mark, item_below, Map, MapLabel, Valid}
+use Rattle.law_sphere.specs.Maps.{MapSloop, Item, item_normal, item_pos, item_mark, item_neg, Map, MapLabel, Valid}
 use Rattle.law_sphere.specs.Least.{by_side, Cone}
 use Rattle.law_sphere.proofs.Vectors.{normal-direction}
 use Rattle.law_sphere.proofs.Forms.{on-level}
@@ -50,7 +50,7 @@ cone-flat M s y l valid mark all h f = record {
 
 -- the item of the corner has the labels of the point
 pub corner-labels : (s : Set) (C : Complex) → Shows s C → (y : Place) (k : Corner) (v : Vertex) (x : Item) → HasCorner C y k → IsCorner C k v x
-    → HasLabel s y (item_mark x) × ((d : Vector) → Germ s y d (by_side (item_above x) (item_mark x) (item_below x) (sign (dot (item_normal x) d))))
+    → HasLabel s y (item_mark x) × ((d : Vector) → Germ s y d (by_side (item_pos x) (item_mark x) (item_neg x) (sign (dot (item_normal x) d))))
 corner-labels s C S y k v x H c =
     let n = item_normal H.item in
     let p = H.vertex.point in
@@ -61,19 +61,19 @@ corner-labels s C S y k v x H c =
     (plane_axis n) axis.0 ((through-level n (plane_axis n) p).0 axis.1) (λ m e. H.facet_point.off_edges (meets-on s C S (item_plane H.vertex H.item) m y e)) r.0 k r.1 r.2).1 v x c
 
 -- a map with the labels of the corner's item is one of the point
-pub cone-of_corner : (M : Map) (s : Set) (C : Complex) → Shows s C → (y : Place) (k : Corner) (v : Vertex) (x : Item) → HasCorner C y k → IsCorner C k v x → (l : Loop) → IsPlaneOf x l
-    → Valid M → M.mark ≡ l.mark → ((d : Vector) → IsDirection d → MapLabel M d (by_side l.above l.mark l.below (sign (dot l.normal d)))) → Cone M s y
+pub cone-of_corner : (M : Map) (s : Set) (C : Complex) → Shows s C → (y : Place) (k : Corner) (v : Vertex) (x : Item) → HasCorner C y k → IsCorner C k v x → (l : MapSloop) → IsPlaneOf x l
+    → Valid M → M.mark ≡ l.mark → ((d : Vector) → IsDirection d → MapLabel M d (by_side l.pos l.mark l.neg (sign (dot l.normal d)))) → Cone M s y
 cone-of_corner M s C S y k v x H c l P valid mark all =
     let g = corner-labels s C S y k v x H c in
     record {
       valid = valid;
       mark = subst (HasLabel s y) (P.mark ∙ sym mark) g.0;
-      labels = λ d i. (by_side l.above l.mark l.below (sign (dot l.normal d)), all d i, subst (Germ s y d) (same d) (g.1 d));
+      labels = λ d i. (by_side l.pos l.mark l.neg (sign (dot l.normal d)), all d i, subst (Germ s y d) (same d) (g.1 d));
     }
   where
-    same : (d : Vector) → by_side (item_above x) (item_mark x) (item_below x) (sign (dot (item_normal x) d)) ≡ by_side l.above l.mark l.below (sign (dot l.normal d))
+    same : (d : Vector) → by_side (item_pos x) (item_mark x) (item_neg x) (sign (dot (item_normal x) d)) ≡ by_side l.pos l.mark l.neg (sign (dot l.normal d))
     same d =
-        ap (λ r. by_side r (item_mark x) (item_below x) (sign (dot (item_normal x) d))) P.above
-        ∙ ap (λ r. by_side l.above r (item_below x) (sign (dot (item_normal x) d))) P.mark
-        ∙ ap (λ r. by_side l.above l.mark r (sign (dot (item_normal x) d))) P.below
-        ∙ ap (λ r. by_side l.above l.mark l.below (sign (dot r d))) P.normal
+        ap (λ r. by_side r (item_mark x) (item_neg x) (sign (dot (item_normal x) d))) P.pos
+        ∙ ap (λ r. by_side l.pos r (item_neg x) (sign (dot (item_normal x) d))) P.mark
+        ∙ ap (λ r. by_side l.pos l.mark r (sign (dot (item_normal x) d))) P.neg
+        ∙ ap (λ r. by_side l.pos l.mark l.neg (sign (dot r d))) P.normal

@@ -11,7 +11,7 @@ use Rattle.law_near.proofs.Flats.{vector-same}
 use Rattle.law_forms.proofs.Directions.{direction-left}
 use Rattle.law_cones.proofs.Cones.{point-map}
 use Rattle.law_sphere.specs.Vectors.{VectorBelow}
-use Rattle.law_sphere.specs.Maps.{At, Svertex, Map, MapLabel, Valid}
+use Rattle.law_sphere.specs.Maps.{At, MapVertex, Map, MapLabel, Valid}
 use Rattle.law_sphere.specs.Kinds.{FlatMap}
 use Rattle.law_sphere.specs.Least.{Cone}
 use Rattle.law_sphere.specs.Stars.{Star, StarShows}
@@ -44,17 +44,17 @@ opposite-below d e N O = by (normal-kept d (opposite e) (to_opposite d e O) N)
 
 -- the svertices at both ends of an edge between these vertices
 pub record Ends (C : Complex) (e : Edge) (v w : Vertex) : Type 0 where
-  pub low_end : Svertex
-  pub high_end : Svertex
+  pub low_end : MapVertex
+  pub high_end : MapVertex
   pub is_low : At C.vertices e.low v
   pub is_high : At C.vertices e.high w
   pub leaves : At v.map.svertices e.low_svertex low_end
   pub arrives : At w.map.svertices e.high_svertex high_end
-  pub ahead : IsAhead v.point low_end.way w.point
+  pub ahead : IsAhead v.point low_end.dir w.point
   pub first : (k : ℕ) (x : Vertex) → At C.vertices k x → IsBetween v.point x.point w.point → ⊥
-  pub back : IsOpposite low_end.way high_end.way
+  pub back : IsOpposite low_end.dir high_end.dir
   pub mark : e.mark ≡ low_end.mark
-  pub normal : IsNormal low_end.way
+  pub normal : IsNormal low_end.dir
 
 pub ends-of : (s : Set) (C : Complex) → Shows s C → (e : Edge) → IsEdge C.vertices e → (v w : Vertex) → At C.vertices e.low v → At C.vertices e.high w → Ends C e v w
 ends-of s C S e E v w a b =
@@ -69,7 +69,7 @@ ends-of s C S e E v w a b =
       first = E.first;
       back = E.back;
       mark = E.mark;
-      normal = ahead-normal E.low_vertex.point E.high_vertex.point E.low_end.way (S.ordered e.low e.high E.low_vertex E.high_vertex E.upward E.is_low E.is_high) E.ahead;
+      normal = ahead-normal E.low_vertex.point E.high_vertex.point E.low_end.dir (S.ordered e.low e.high E.low_vertex E.high_vertex E.upward E.is_low E.is_high) E.ahead;
     }))
 
 module _ (s : Set) (C : Complex) (S : Shows s C) (e : Edge) (v w : Vertex) (D : Ends C e v w) where
@@ -77,26 +77,26 @@ module _ (s : Set) (C : Complex) (S : Shows s C) (e : Edge) (v w : Vertex) (D : 
   low-along y b = along-svertex s C S e.low e.low_svertex v D.low_end D.is_low D.leaves w.point y D.ahead b D.first
 
   -- from the higher end the edge runs the other way
-  back-ahead : SameDirection (toward w.point v.point) D.high_end.way
+  back-ahead : SameDirection (toward w.point v.point) D.high_end.dir
   back-ahead =
       let p = w.point in let q = v.point in
       let turned : opposite (toward p q) ≡ toward q p = vector-same (opposite (toward p q)) (toward q p) (omega (arith, ints)) (omega (arith, ints)) (omega (arith, ints)) in
-      opposites-same D.low_end.way (toward p q) D.high_end.way
-      (from_opposite D.low_end.way (toward p q) (subst (SameDirection D.low_end.way) (sym turned) (SameDirection-turned (toward q p) D.low_end.way D.ahead))) D.back
+      opposites-same D.low_end.dir (toward p q) D.high_end.dir
+      (from_opposite D.low_end.dir (toward p q) (subst (SameDirection D.low_end.dir) (sym turned) (SameDirection-turned (toward q p) D.low_end.dir D.ahead))) D.back
 
   high-along : (y : Place) → IsBetween v.point y w.point → IsAlongSvertex s w D.high_end D.high_end.mark y
   high-along y b = along-svertex s C S e.high e.high_svertex w D.high_end D.is_high D.arrives v.point y back-ahead (between-turned v.point w.point y b)
       (λ k x a z. D.first k x a (between-turned w.point v.point x.point z))
 
-  module _ (t h : Star) (T : IsWellFormed t) (H : IsWellFormed h) (low : t.axis ≡ D.low_end.way) (high : h.axis ≡ D.high_end.way) (A : StarShows t v.map) (B : StarShows h w.map) where
+  module _ (t h : Star) (T : IsWellFormed t) (H : IsWellFormed h) (low : t.axis ≡ D.low_end.dir) (high : h.axis ≡ D.high_end.dir) (A : StarShows t v.map) (B : StarShows h w.map) where
     abbrev raw : RawMap
-    raw = record { mark = e.mark; stars = h ∷ t ∷ []; loop = None; face = None }
+    raw = record { mark = e.mark; stars = h ∷ t ∷ []; sloop = None; ground = None }
 
     below : VectorBelow h.axis t.axis
-    below = subst (λ (d : Vector). VectorBelow d t.axis) (sym high) (subst (VectorBelow D.high_end.way) (sym low) (opposite-below D.low_end.way D.high_end.way D.normal D.back))
+    below = subst (λ (d : Vector). VectorBelow d t.axis) (sym high) (subst (VectorBelow D.high_end.dir) (sym low) (opposite-below D.low_end.dir D.high_end.dir D.normal D.back))
 
     against : IsOpposite h.axis t.axis
-    against = subst (λ (d : Vector). IsOpposite d t.axis) (sym high) (subst (IsOpposite D.high_end.way) (sym low) (opposite-turned D.low_end.way D.high_end.way D.back))
+    against = subst (λ (d : Vector). IsOpposite d t.axis) (sym high) (subst (IsOpposite D.high_end.dir) (sym low) (opposite-turned D.low_end.dir D.high_end.dir D.back))
 
     pub ends-raw : (y : Place) → IsBetween v.point y w.point → (N : Map) (K : Cone N s y) → IsRawOf raw (labels_of N K.valid)
     ends-raw y b N K =
@@ -128,4 +128,4 @@ module _ (s : Set) (C : Complex) (S : Shows s C) (e : Edge) (v w : Vertex) (D : 
   inner = near_point s v.point w.point
 
   pub inner-between : IsBetween v.point inner w.point
-  inner-between = near-between s v.point w.point (direction-left (toward v.point w.point) D.low_end.way D.ahead)
+  inner-between = near-between s v.point w.point (direction-left (toward v.point w.point) D.low_end.dir D.ahead)

@@ -6,7 +6,7 @@ use Rattle.nef_space.specs.Vectors.{Vector, IsDirection}
 use Rattle.nef_space.specs.declared.label.Label.{Label}
 use Rattle.nef_geo.specs.Shapes.{vector_of}
 use Rattle.nef_geo.specs.declared.dir.Dir.{Dir}
-use Rattle.law_sphere.specs.Maps.{At, Svertex as PlainSvertex, MapLabel}
+use Rattle.law_sphere.specs.Maps.{At, MapVertex as PlainSvertex, MapLabel}
 use Rattle.law_sphere.specs.Forms.{forms}
 use Rattle.law_sphere.specs.Least.{Cone}
 use Rattle.law_sphere.proofs.Lists.{at-one}
@@ -36,7 +36,7 @@ pub end-star : {E : Type 0} (m : SphereMap) (k : ℕ) (v : SVertex) → slice_ge
     → IfOk r (λ t. IsNeighbourhood (star_of t) (map_of m) (vector_of v.dir)) → IfOk r (λ t. IsEndStar m k t)
 end-star m k v e (Ok t) a b n = record {
   star = a;
-  axis = λ u h. ap (λ (d : Dir). vector_of d) b ∙ ap (λ (x : PlainSvertex). x.way) (at-one (map_of m).svertices k (svertex_of v) u (image-read svertex_of m.svertices k v e) h);
+  axis = λ u h. ap (λ (d : Dir). vector_of d) b ∙ ap (λ (x : PlainSvertex). x.dir) (at-one (map_of m).svertices k (svertex_of v) u (image-read svertex_of m.svertices k v e) h);
   shows = n.shows;
 }
 end-star m k v e (Err x) a b n = tt
@@ -67,7 +67,7 @@ module _ (s : Set) (c : Complex) (S : ShowsSet s c) (number : ℕ) (e : Edge) (r
         (image-read vertex_of c.vertices e.low v low) (image-read vertex_of c.vertices e.high w high)
 
     abbrev raw : RawMap
-    raw = record { mark = e.mark; stars = star_of h ∷ star_of t ∷ []; loop = None; face = None }
+    raw = record { mark = e.mark; stars = star_of h ∷ star_of t ∷ []; sloop = None; ground = None }
 
     -- the stars show labels
     pub edge-labels : (gs : List Vector) × (L : Vector → Label) × IsLabelling gs L × IsRawOf raw L

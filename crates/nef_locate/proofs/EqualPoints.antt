@@ -16,9 +16,9 @@ use Rattle.law_near.proofs.Alike.{germs-by_cell, Flat-by_germs, FlatDim-by_germs
 use Rattle.law_near.proofs.Flats.{vector-same}
 use Rattle.law_near.proofs.Rays.{signs-same, same-place_sym}
 use Rattle.law_sphere.specs.Maps.{Map, Item, OnItem}
-use Rattle.law_sphere.proofs.Compare.{SameDirection-turned, way-self}
+use Rattle.law_sphere.proofs.Compare.{SameDirection-turned, dir-self}
 use Rattle.law_sphere.proofs.Forms.{on-direction, OnItem-by_signs}
-use Rattle.law_sphere.proofs.Labels.{way-signs}
+use Rattle.law_sphere.proofs.Labels.{dir-signs}
 use Rattle.law_complex.specs.Complexes.{Vertex, Complex, Corner}
 use Rattle.law_complex.specs.Laws.{IsFlatIn}
 use Rattle.law_complex.specs.Skeleton.{PlaneMeet, IsVertexPoint, IsEdgePoint, IsOnEdges, IsFacetPoint, at_vertex, on_edge, in_facet, IsSkeletonPoint, IsFirstInPlane, HasCorner}
@@ -62,8 +62,8 @@ module _ (C : Complex) (p q : PlainPlace) (e : SamePlace p q) where
   on-same : (M : Map) (x : Item) (v : PlainPlace) → OnItem M x (toward v p) → OnItem M x (toward v q)
   on-same M x v o =
       let i = on-direction M x (toward v p) o in
-      let w = SameDirection-turned (toward v q) (toward v p) (ahead-same v p q (toward v p) (same-place_sym p q e) (way-self (toward v p) i)) in
-      OnItem-by_signs M x (toward v p) (toward v q) (λ g l. way-signs (toward v p) (toward v q) g i w) o
+      let w = SameDirection-turned (toward v q) (toward v p) (ahead-same v p q (toward v p) (same-place_sym p q e) (dir-self (toward v p) i)) in
+      OnItem-by_signs M x (toward v p) (toward v q) (λ g l. dir-signs (toward v p) (toward v q) g i w) o
 
   facet-same : (v : Vertex) (x : Item) → IsFacetPoint C v x p → IsFacetPoint C v x q
   facet-same v x F = record {

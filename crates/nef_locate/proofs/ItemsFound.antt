@@ -7,8 +7,8 @@ use Rattle.nef_geo.specs.Signs.{sign_of}
 use Rattle.nef_geo.specs.declared.sign.Sign.{Sign}
 use Rattle.nef_geo.specs.declared.sign.Sign.TheVariants.{Minus, Plus}
 use Rattle.nef_geo.proofs.Signs.{sign_of-positive, sign_of-negative}
-use Rattle.law_sphere.specs.Maps.{At, item_normal, way_of}
-use Rattle.law_sphere.proofs.Compare.{SameDirection-turned, SameDirection-trans, way-self}
+use Rattle.law_sphere.specs.Maps.{At, item_normal, dir_of}
+use Rattle.law_sphere.proofs.Compare.{SameDirection-turned, SameDirection-trans, dir-self}
 use Rattle.law_sphere.proofs.Lists.{at-one}
 use Rattle.nef_smap.specs.declared.map.SArc.{SArc}
 use Rattle.nef_smap.specs.declared.map.SVertex.{SVertex}
@@ -16,7 +16,7 @@ use Rattle.nef_smap.specs.Items.{IsItemThrough}
 use Rattle.nef_smap.specs.Maps.{arc_of, map_of}
 use Rattle.nef_smap.proofs.ArcEnds.{at-map}
 use Rattle.nef_smap.proofs.Axes.{plus-of, minus-of}
-use Rattle.nef_smap.proofs.CloseSigns.{way-from_get}
+use Rattle.nef_smap.proofs.CloseSigns.{dir-from_get}
 use Rattle.law_complex.specs.Complexes.{Vertex as PlainVertex, Edge as PlainEdge, Complex as PlainComplex, Corner}
 use Rattle.law_complex.specs.Skeleton.{PlaneMeet, meets_vertex, meets_edge, Meets, IsArcOnSide, IsCornerAt}
 use Rattle.nef_complex.specs.declared.complex.Vertex.{Vertex}
@@ -31,8 +31,8 @@ module _ (v : Vertex) (s : ℕ) (w : SVertex) (e : slice_get v.map.svertices s �
   abbrev Told : Type 0
   Told = ((a.source ≡ s) × (t ≡ Plus)) ⊎ ((a.target ≡ s) × (t ≡ Minus))
 
-  turn-is : t ≡ sign_of (triple n (way_of (map_of v.map).svertices s) d)
-  turn-is = turn ∙ ap (λ (p : Vector). sign_of (triple n p d)) (sym (way-from_get v.map.svertices s w e))
+  turn-is : t ≡ sign_of (triple n (dir_of (map_of v.map).svertices s) d)
+  turn-is = turn ∙ ap (λ (p : Vector). sign_of (triple n p d)) (sym (dir-from_get v.map.svertices s w e))
 
   pub told-side : Told → IsArcOnSide (vertex_of v) s n d (arc_of a)
   told-side = ⊎_elim (λ h. inl (h.0, plus-of t _ turn-is h.1)) (λ h. inr (h.0, minus-of t _ turn-is h.1))
@@ -65,7 +65,7 @@ module _ (c : Complex) (h : Form) (n d : Vector) (w : SameDirection (normal_of h
     pub edge-some : (k : ℕ) → IsArcBeside (vertex_of u) g.low_svertex n d k → IsCornerAt (complex_of c) h d (meets_edge j) (record { vertex = g.low; item = k })
     edge-some k (a, l, s, o) =
         let back = SameDirection-turned (normal_of h) n w in
-        (edge_of g, vertex_of u, a, listed_edge, refl, listed_low, l, SameDirection-trans a.normal n (normal_of h) s back, side-turned (vertex_of u) g.low_svertex n (normal_of h) d d a back (way-self d some) o)
+        (edge_of g, vertex_of u, a, listed_edge, refl, listed_low, l, SameDirection-trans a.normal n (normal_of h) s back, side-turned (vertex_of u) g.low_svertex n (normal_of h) d d a back (dir-self d some) o)
 
     pub edge-none : ((k : ℕ) → IsArcBeside (vertex_of u) g.low_svertex n d k → ⊥) → (k : Corner) → IsCornerAt (complex_of c) h d (meets_edge j) k → ⊥
     edge-none f k (q, v, a, l, r, m, t, s, o) =
@@ -74,7 +74,7 @@ module _ (c : Complex) (h : Form) (n d : Vector) (w : SameDirection (normal_of h
         let same = at-one (complex_of c).vertices g.low v (vertex_of u) at-low listed_low in
         let side = subst (λ (y : PlainEdge). IsArcOnSide v y.low_svertex (normal_of h) d a) same-edge o in
         f k.item (subst (λ (y : PlainVertex). IsArcBeside y g.low_svertex n d k.item) same
-        (a, t, SameDirection-trans a.normal (normal_of h) n s w, side-turned v g.low_svertex (normal_of h) n d d a w (way-self d some) side))
+        (a, t, SameDirection-trans a.normal (normal_of h) n s w, side-turned v g.low_svertex (normal_of h) n d d a w (dir-self d some) side))
 
 -- ---- what is met is listed
 pub met-listed : (C : PlainComplex) (h : Form) (m : PlaneMeet) (q : Place) → Meets C h m q → HasMet C m

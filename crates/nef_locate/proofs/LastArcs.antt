@@ -8,10 +8,10 @@ use Rattle.law_arithmetic.proofs.Order.{mul_pos, sign-scaled}
 use Rattle.nef_space.specs.Vectors.{Vector, IsDirection, dot, triple}
 use Rattle.law_near.proofs.FlatDecided.{triple-in_plane}
 use Rattle.law_forms.proofs.Directions.{dot-comm}
-use Rattle.law_sphere.specs.Maps.{At, Svertex, Arc, Map, way_of, Shaped}
+use Rattle.law_sphere.specs.Maps.{At, MapVertex, Arc, Map, dir_of, Shaped}
 use Rattle.law_sphere.proofs.Arcs.{ends-of}
 use Rattle.law_sphere.proofs.Lists.{at-one}
-use Rattle.law_sphere.proofs.Shot.{way-at}
+use Rattle.law_sphere.proofs.Shot.{dir-at}
 use Rattle.law_sphere.proofs.Vectors.{same-plus}
 use Rattle.nef_locate.specs.Ends.{end_of, IsLastArc, IsNoArc, IsLast}
 
@@ -42,21 +42,21 @@ later-later w a b c u hw la lb lc pa pb pc ab bc =
     let y = mul_pos (dot u c) (triple w a b) pc ab in
     same-plus (dot u b *ℤ triple w a c) (triple w a c) (sym (sign-scaled (dot u b) (triple w a c) pb)) (omega (arith, ints))
 
-module _ (M : Map) (V : Shaped M) (s : ℕ) (v : Svertex) (h : At M.svertices s v) (u : Vector) (ahead : (k : ℕ) (a : Arc) → At M.arcs k a → pos 0 <ℤ dot u a.normal) where
-  some : IsDirection (way_of M.svertices s)
-  some = subst IsDirection (sym (way-at M.svertices s v h)) (V.svertex_ways s v h)
+module _ (M : Map) (V : Shaped M) (s : ℕ) (v : MapVertex) (h : At M.svertices s v) (u : Vector) (ahead : (k : ℕ) (a : Arc) → At M.arcs k a → pos 0 <ℤ dot u a.normal) where
+  some : IsDirection (dir_of M.svertices s)
+  some = subst IsDirection (sym (dir-at M.svertices s v h)) (V.svertex_dirs s v h)
 
   -- an arc's normal lies in the plane of the svertex
-  level : (k : ℕ) (a : Arc) (begins : Bool) → At M.arcs k a → end_of a begins ≡ s → dot (way_of M.svertices s) a.normal ≡ pos 0
-  level k a true l e = let b = ends-of M V k a l in dot-comm (way_of M.svertices s) a.normal ∙ subst (λ (j : ℕ). dot a.normal (way_of M.svertices j) ≡ pos 0) e b.source_level
-  level k a false l e = let b = ends-of M V k a l in dot-comm (way_of M.svertices s) a.normal ∙ subst (λ (j : ℕ). dot a.normal (way_of M.svertices j) ≡ pos 0) e b.target_level
+  level : (k : ℕ) (a : Arc) (begins : Bool) → At M.arcs k a → end_of a begins ≡ s → dot (dir_of M.svertices s) a.normal ≡ pos 0
+  level k a true l e = let b = ends-of M V k a l in dot-comm (dir_of M.svertices s) a.normal ∙ subst (λ (j : ℕ). dot a.normal (dir_of M.svertices j) ≡ pos 0) e b.source_level
+  level k a false l e = let b = ends-of M V k a l in dot-comm (dir_of M.svertices s) a.normal ∙ subst (λ (j : ℕ). dot a.normal (dir_of M.svertices j) ≡ pos 0) e b.target_level
 
   module _ (begins : Bool) (n : ℕ) (a : Arc) (l : At M.arcs n a) where
     -- an arc before the next, or the next
     earlier : (j : ℕ) (b : Arc) → j < n + 1 → At M.arcs j b → (b ≡ a) ⊎ (j < n)
     earlier j b m i = ⊎_elim (λ e. inl (at-one M.arcs n b a (subst (λ (r : ℕ). At M.arcs r b) e i) l)) (λ k. inr k) (eq-or-lt_of_le {n = j} {m = n} (omega (arith, m)))
 
-    pub last-skip : (end_of a begins ≡ s → ⊥) → (o : Option ℕ) → IsLast M (way_of M.svertices s) s begins n o → IsLast M (way_of M.svertices s) s begins (n + 1) o
+    pub last-skip : (end_of a begins ≡ s → ⊥) → (o : Option ℕ) → IsLast M (dir_of M.svertices s) s begins n o → IsLast M (dir_of M.svertices s) s begins (n + 1) o
     last-skip off None L = λ j b m i e. ⊎_elim (λ q. off (subst (λ (r : Arc). end_of r begins ≡ s) q e)) (λ k. L j b k i e) (earlier j b m i)
     last-skip off (Some k) L = record {
       arc = L.arc;
@@ -66,28 +66,28 @@ module _ (M : Map) (V : Shaped M) (s : ℕ) (v : Svertex) (h : At M.svertices s 
     }
 
     module _ (on : end_of a begins ≡ s) where
-      itself : (b : Arc) → b ≡ a → pos 0 <ℤ triple (way_of M.svertices s) a.normal b.normal → ⊥
+      itself : (b : Arc) → b ≡ a → pos 0 <ℤ triple (dir_of M.svertices s) a.normal b.normal → ⊥
       itself b q t =
-          let y = subst (λ (r : Arc). pos 0 <ℤ triple (way_of M.svertices s) a.normal r.normal) q t in
-          let z = turn-self (way_of M.svertices s) a.normal in
+          let y = subst (λ (r : Arc). pos 0 <ℤ triple (dir_of M.svertices s) a.normal r.normal) q t in
+          let z = turn-self (dir_of M.svertices s) a.normal in
           omega (arith, ints)
 
-      pub last-first : IsNoArc M s begins n → IsLastArc M (way_of M.svertices s) s begins (n + 1) n
+      pub last-first : IsNoArc M s begins n → IsLastArc M (dir_of M.svertices s) s begins (n + 1) n
       last-first N = record { arc = a; listed = l; end = on; last = λ j b m i e. ⊎_elim (itself b) (λ k. absurd (N j b k i e)) (earlier j b m i) }
 
-      pub last-kept : (k : ℕ) → (L : IsLastArc M (way_of M.svertices s) s begins n k) → (pos 0 <ℤ triple (way_of M.svertices s) L.arc.normal a.normal → ⊥) → IsLastArc M (way_of M.svertices s) s begins (n + 1) k
+      pub last-kept : (k : ℕ) → (L : IsLastArc M (dir_of M.svertices s) s begins n k) → (pos 0 <ℤ triple (dir_of M.svertices s) L.arc.normal a.normal → ⊥) → IsLastArc M (dir_of M.svertices s) s begins (n + 1) k
       last-kept k L f = record {
         arc = L.arc;
         listed = L.listed;
         end = L.end;
-        last = λ j b m i e. ⊎_elim (λ q t. f (subst (λ (r : Arc). pos 0 <ℤ triple (way_of M.svertices s) L.arc.normal r.normal) q t)) (λ k. L.last j b k i e) (earlier j b m i);
+        last = λ j b m i e. ⊎_elim (λ q t. f (subst (λ (r : Arc). pos 0 <ℤ triple (dir_of M.svertices s) L.arc.normal r.normal) q t)) (λ k. L.last j b k i e) (earlier j b m i);
       }
 
-      pub last-taken : (k : ℕ) → (L : IsLastArc M (way_of M.svertices s) s begins n k) → pos 0 <ℤ triple (way_of M.svertices s) L.arc.normal a.normal → IsLastArc M (way_of M.svertices s) s begins (n + 1) n
+      pub last-taken : (k : ℕ) → (L : IsLastArc M (dir_of M.svertices s) s begins n k) → pos 0 <ℤ triple (dir_of M.svertices s) L.arc.normal a.normal → IsLastArc M (dir_of M.svertices s) s begins (n + 1) n
       last-taken k L f = record {
         arc = a;
         listed = l;
         end = on;
-        last = λ j b m i e. ⊎_elim (itself b) (λ o t. L.last j b o i e (later-later (way_of M.svertices s) L.arc.normal a.normal b.normal u some
+        last = λ j b m i e. ⊎_elim (itself b) (λ o t. L.last j b o i e (later-later (dir_of M.svertices s) L.arc.normal a.normal b.normal u some
             (level k L.arc begins L.listed L.end) (level n a begins l on) (level j b begins i e) (ahead k L.arc L.listed) (ahead n a l) (ahead j b i) f t)) (earlier j b m i);
       }

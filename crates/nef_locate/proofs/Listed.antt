@@ -50,7 +50,7 @@ module _ (s : Set) (c : Complex) (S : ShowsSet s c) (h : Plane) (y : Place) (on 
   at-meet (meets_edge i) q f (I, (e, v, z, a, H, l, m)) o k (g, u, b, a2, p, K, t, w, side) =
       let same = at-one C.edges i e g a a2 in
       let r = at-one C.vertices g.low v u (subst (λ (x : PlainEdge). At C.vertices x.low v) same H.low) K in
-      has-item g.low k.item u (arc_item b) K (at-arc u.map.arcs u.map.loop k.item b t) (subst (λ (x : PlainVertex). form_at (form_of h) x.point ≡ pos 0) r l) w
+      has-item g.low k.item u (arc_item b) K (at-arc u.map.arcs u.map.sloop k.item b t) (subst (λ (x : PlainVertex). form_at (form_of h) x.point ≡ pos 0) r l) w
 
   pub flat-item : HasItemIn c.vertices (form_of h)
   flat-item =

@@ -6,7 +6,7 @@ use Rattle.nef_space.specs.Place.{Place as PlainPlace, InClosedFrame, IsAhead}
 use Rattle.nef_space.specs.Sets.{Set}
 use Rattle.nef_space.specs.Vectors.{Vector, up, opposite, plane_axis}
 use Rattle.nef_space.specs.declared.label.Label.{Label}
-use Rattle.law_sphere.specs.Maps.{At, Item, arc_item, items, item_normal, item_above, Side, above_item, way_of}
+use Rattle.law_sphere.specs.Maps.{At, Item, arc_item, items, item_normal, item_pos, Side, pos_item, dir_of}
 use Rattle.law_sphere.proofs.Arcs.{at-arc}
 use Rattle.nef_smap.specs.Maps.{map_of}
 use Rattle.nef_smap.specs.SideNumbers.{number_of}
@@ -48,19 +48,19 @@ module _ (c : Complex) where
       (k, j, o, l, refl, (vertex_of u, a, i), λ y p. (at_vertex k, p, (vertex_of u, a, refl, sees)))
 
   pub above-edge : (k j : ℕ) (e : Edge) (u : Vertex) → slice_get c.edges k ≡ Some e → slice_get c.vertices e.low ≡ Some u
-      → (o : Side) × (l : Label) × IsSide (map_of u.map) j o l × SeesNear (map_of u.map) o (way_of (map_of u.map).svertices e.low_svertex) up
+      → (o : Side) × (l : Label) × IsSide (map_of u.map) j o l × SeesNear (map_of u.map) o (dir_of (map_of u.map).svertices e.low_svertex) up
       → IsSideAbove (complex_of c) (place.OnEdge k) (place.InVolume e.low j)
   above-edge k j e u q r (o, l, i, near) =
       let b = image-read edge_of c.edges k e q in
       let a = image-read vertex_of c.vertices e.low u r in
       (e.low, j, o, l, refl, (vertex_of u, a, i), λ y p. (on_edge k, p, (edge_of e, vertex_of u, b, a, refl, near)))
 
-  pub above-facet : (k : Corner) (j : ℕ) (u : Vertex) (x : Item) → slice_get c.vertices k.vertex ≡ Some u → At (items (map_of u.map)) k.item x → j ≡ number_of (map_of u.map) (above_item k.item)
+  pub above-facet : (k : Corner) (j : ℕ) (u : Vertex) (x : Item) → slice_get c.vertices k.vertex ≡ Some u → At (items (map_of u.map)) k.item x → j ≡ number_of (map_of u.map) (pos_item k.item)
       → IsSideAbove (complex_of c) (place.InFacet k) (place.InVolume k.vertex j)
   above-facet k j u x r i n =
       let a = image-read vertex_of c.vertices k.vertex u r in
-      let s = subst (λ (m : ℕ). IsSide (map_of u.map) m (above_item k.item) (item_above x)) (sym n) (side-number (map_of u.map) (above_item k.item) (item_above x) (x, i, refl)) in
-      (k.vertex, j, above_item k.item, item_above x, refl, (vertex_of u, a, s), λ y H. (in_facet H.beside, (H.vertex, H.item, H.is_beside, H.facet_point), (corner_of k, H, refl, refl)))
+      let s = subst (λ (m : ℕ). IsSide (map_of u.map) m (pos_item k.item) (item_pos x)) (sym n) (side-number (map_of u.map) (pos_item k.item) (item_pos x) (x, i, refl)) in
+      (k.vertex, j, pos_item k.item, item_pos x, refl, (vertex_of u, a, s), λ y H. (in_facet H.beside, (H.vertex, H.item, H.is_beside, H.facet_point), (corner_of k, H, refl, refl)))
 
 -- ---- volumes
 -- what is met first is of the skeleton
@@ -116,7 +116,7 @@ corner-at D y k H = record { has = in-complex H.named.0 H.named.2; at = H; skele
   where
     in-complex : (m : PlaneMeet) → IsCornerAt D (item_plane H.vertex H.item) (opposite (plane_axis (item_normal H.item))) m (corner_of k) → IsPlaceIn D (place.InFacet k)
     in-complex (meets_vertex i) (v, x, e, a, n, o) = (v, x, a)
-    in-complex (meets_edge i) (e, v, b, l, f, a, g, n, o) = (v, arc_item b, record { vertex = subst (λ (j : ℕ). At D.vertices j v) (sym f) a; item = at-arc v.map.arcs v.map.loop k.item b g })
+    in-complex (meets_edge i) (e, v, b, l, f, a, g, n, o) = (v, arc_item b, record { vertex = subst (λ (j : ℕ). At D.vertices j v) (sym f) a; item = at-arc v.map.arcs v.map.sloop k.item b g })
 
 pub vertex-at : (D : PlainComplex) (y : PlainPlace) (k : ℕ) → IsVertexPoint D k y → IsSkeletonAt D y (place.Vertex k)
 vertex-at D y k (v, a, e) = record { has = (v, a); at = (v, a, e); skeleton = (at_vertex k, (v, a, e)) }

@@ -8,23 +8,23 @@ use Rattle.law_cyclic.specs.Arcs.{IsStrictlyOn}
 use Rattle.law_cyclic.proofs.Directions.{dot-opposite}
 use Rattle.law_forms.proofs.Directions.{dot-comm, self-pos}
 use Rattle.law_sphere.specs.Forms.{forms}
-use Rattle.law_sphere.specs.Maps.{At, Svertex, Arc, Map, IsClear, around_svertex, above_item, below_item, directly, HasArc, Shaped}
-use Rattle.law_sphere.proofs.Compare.{SameDirection-turned, SameDirection-trans, way-self}
+use Rattle.law_sphere.specs.Maps.{At, MapVertex, Arc, Map, IsClear, around_svertex, pos_item, neg_item, directly, HasArc, Shaped}
+use Rattle.law_sphere.proofs.Compare.{SameDirection-turned, SameDirection-trans, dir-self}
 use Rattle.law_sphere.proofs.Generic.{amount, far-keeps}
 use Rattle.law_sphere.proofs.StepOff.{blend-turned}
-use Rattle.law_sphere.proofs.Turn.{way-directed, IsStrictlyOn-same}
+use Rattle.law_sphere.proofs.Turn.{dir-directed, IsStrictlyOn-same}
 use Rattle.nef_smap.proofs.NearSvertex.{ArcRay, end_left, ray_left, ray_side, Unrayed, same-cross, near-clear}
 use Rattle.nef_smap.proofs.SectorSees.{left-on, sector-sees, turn-from_left}
 use Rattle.law_complex.specs.Rays.{SeesNear}
 use Rattle.law_complex.proofs.FacetSides.{level-way}
 use Rattle.nef_locate.specs.Ends.{IsLastArc, IsNoArc}
 
-module _ (M : Map) (V : Shaped M) (k : ℕ) (v : Svertex) (a : At M.svertices k v) (e : Vector) (off : IsDirection (cross v.way e)) where
+module _ (M : Map) (V : Shaped M) (k : ℕ) (v : MapVertex) (a : At M.svertices k v) (e : Vector) (off : IsDirection (cross v.dir e)) where
   abbrev p : Vector
-  p = v.way
+  p = v.dir
 
   hp : IsDirection p
-  hp = V.svertex_ways k v a
+  hp = V.svertex_dirs k v a
 
   same-near : (n : ℕ) → SameDirection (cross p (blend n p 1 e)) (cross p e)
   same-near n = subst (λ (x : Vector). SameDirection (cross p x) (cross p e)) (blend-turned 1 n e p) (same-cross p e 1 n (omega arith) off)
@@ -32,22 +32,22 @@ module _ (M : Map) (V : Shaped M) (k : ℕ) (v : Svertex) (a : At M.svertices k 
   near-way : Unrayed M k p e → (n : ℕ) → amount (forms M) e ≤ n → IsClear M (blend n p 1 e) p
   near-way free n large =
       let w = blend n p 1 e in
-      near-clear M V k v a w (far-keeps (forms M) p e n large) (way-directed (cross p w) (cross p e) (same-near n)) (λ r z. free r (SameDirection-trans (ray_left r) (cross p w) (cross p e) z (same-near n)))
+      near-clear M V k v a w (far-keeps (forms M) p e n large) (dir-directed (cross p w) (cross p e) (same-near n)) (λ r z. free r (SameDirection-trans (ray_left r) (cross p w) (cross p e) z (same-near n)))
 
   -- where no ray lies between a ray and the direction, the ray's side sees what is close toward it
   ray-sees : (q : ArcRay M k) → Unrayed M k p e → ((r : ArcRay M k) → IsStrictlyOn p (ray_left q) (cross p e) (ray_left r) → ⊥) → SeesNear M (ray_side q) p e
   ray-sees q free none = (
     amount (forms M) e,
     λ n large. sector-sees M V k v a q (blend n p 1 e) (near-way free n large)
-        (λ r o. none r (IsStrictlyOn-same p p (ray_left q) (ray_left q) (cross p (blend n p 1 e)) (cross p e) (ray_left r) (ray_left r) (way-self p hp) (circle q) (same-near n) (circle r) o)),
+        (λ r o. none r (IsStrictlyOn-same p p (ray_left q) (ray_left q) (cross p (blend n p 1 e)) (cross p e) (ray_left r) (ray_left r) (dir-self p hp) (circle q) (same-near n) (circle r) o)),
   )
     where
       circle : (r : ArcRay M k) → SameDirection (ray_left r) (ray_left r)
-      circle r = let o = left-on M V k v a r in way-self (ray_left r) o.direction
+      circle r = let o = left-on M V k v a r in dir-self (ray_left r) o.direction
 
   -- a svertex without arcs
   pub lone-sees : (HasArc M k → ⊥) → SeesNear M (around_svertex k) p e
-  lone-sees none = (amount (forms M) e, λ n large. directly p (near-way (λ r. absurd (none (r.number, r.arc, r.listed, r.end))) n large) (v, a, way-self p hp))
+  lone-sees none = (amount (forms M) e, λ n large. directly p (near-way (λ r. absurd (none (r.number, r.arc, r.listed, r.end))) n large) (v, a, dir-self p hp))
 
   module _ (ahead : (j : ℕ) (b : Arc) → At M.arcs j b → pos 0 <ℤ dot b.normal e) where
     square : pos 0 <ℤ dot p p
@@ -87,7 +87,7 @@ module _ (M : Map) (V : Shaped M) (k : ℕ) (v : Svertex) (a : At M.svertices k 
 
     module _ (n : ℕ) (all : (j : ℕ) (b : Arc) → At M.arcs j b → j < n) where
       -- the last arc that begins here
-      pub begin-sees : (i : ℕ) → IsLastArc M p k true n i → SeesNear M (above_item i) p e
+      pub begin-sees : (i : ℕ) → IsLastArc M p k true n i → SeesNear M (pos_item i) p e
       begin-sees i L = ray-sees (record { number = i; arc = L.arc; listed = L.listed; end = inl L.end }) unrayed (λ r. none r.arc r.number r.listed r.end)
         where
           none : (b : Arc) (j : ℕ) → At M.arcs j b → (q : (b.source ≡ k) ⊎ (b.target ≡ k)) → IsStrictlyOn p L.arc.normal (cross p e) (end_left b q) → ⊥
@@ -95,7 +95,7 @@ module _ (M : Map) (V : Shaped M) (k : ℕ) (v : Svertex) (a : At M.svertices k 
           none b j l (inr x) o = let t = (o.less_than_half (turn-begin L.arc i L.listed L.end)).1 in let f = turn-end b j l x in omega (arith, ints)
 
       -- or, where none begins here, the last that ends here
-      pub end-sees : (i : ℕ) → IsNoArc M k true n → IsLastArc M p k false n i → SeesNear M (below_item i) p e
+      pub end-sees : (i : ℕ) → IsNoArc M k true n → IsLastArc M p k false n i → SeesNear M (neg_item i) p e
       end-sees i N L = ray-sees (record { number = i; arc = L.arc; listed = L.listed; end = inr L.end }) unrayed (λ r. none r.arc r.number r.listed r.end)
         where
           twice : (b : Arc) → triple p (opposite L.arc.normal) (opposite b.normal) ≡ triple p L.arc.normal b.normal

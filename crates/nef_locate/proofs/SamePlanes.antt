@@ -13,10 +13,10 @@ use Rattle.nef_space.specs.Vectors.{Vector, opposite, dot, cross, triple, IsDire
 use Rattle.law_forms.specs.Homogeneous.{SameUpToFactor, of_direction}
 use Rattle.law_forms.proofs.Directions.{dot-comm, direction-left, same-factor, factor-same}
 use Rattle.law_forms.proofs.Sums.{some-pos}
-use Rattle.law_sphere.specs.Maps.{Map, Item, item_normal, OnItem, Arc, way_of}
+use Rattle.law_sphere.specs.Maps.{Map, Item, item_normal, OnItem, Arc, dir_of}
 use Rattle.law_sphere.proofs.Compare.{SameDirection-turned, SameDirection-trans}
 use Rattle.law_sphere.proofs.Forms.{OnItem-by_signs}
-use Rattle.law_sphere.proofs.Labels.{way-signs}
+use Rattle.law_sphere.proofs.Labels.{dir-signs}
 use Rattle.law_sphere.proofs.Turn.{turn-last}
 use Rattle.law_sphere.proofs.Vectors.{same-plus, same-minus}
 use Rattle.law_complex.specs.Complexes.{Vertex, Complex, Corner}
@@ -91,7 +91,7 @@ opposite-same d f w =
     }) (λ z. let x = z.0 in let y = z.1 in let t = z.2 in direction-left d f w (omega (arith, ints), omega (arith, ints), omega (arith, ints)))
 
 pub on-turned : (M : Map) (x : Item) (d f : Vector) → SameDirection d f → OnItem M x d → OnItem M x f
-on-turned M x d f u o = OnItem-by_signs M x d f (λ g l. way-signs d f g (direction-left d f u) u) o
+on-turned M x d f u o = OnItem-by_signs M x d f (λ g l. dir-signs d f g (direction-left d f u) u) o
 
 pub side-turned : (v : Vertex) (s : ℕ) (n m d f : Vector) (a : Arc) → SameDirection n m → SameDirection d f → IsArcOnSide v s n d a → IsArcOnSide v s m f a
 side-turned v s n m d f a w u = ⊎_elim
@@ -99,10 +99,10 @@ side-turned v s n m d f a w u = ⊎_elim
     (λ h. inr (h.0, same-minus (triple n p d) (triple m p f) same h.1))
   where
     p : Vector
-    p = way_of v.map.svertices s
+    p = dir_of v.map.svertices s
 
     same : sign (triple m p f) ≡ sign (triple n p d)
-    same = ap sign (dot-comm m (cross p f)) ∙ way-signs n m (cross p f) (direction-left n m w) w ∙ ap sign (dot-comm (cross p f) n) ∙ turn-last n p d f u
+    same = ap sign (dot-comm m (cross p f)) ∙ dir-signs n m (cross p f) (direction-left n m w) w ∙ ap sign (dot-comm (cross p f) n) ∙ turn-last n p d f u
 
 pub corner-same : (C : Complex) (g h : Form) → SameDirection (normal_of g) (normal_of h) → (d f : Vector) → SameDirection d f → (m : PlaneMeet) (k : Corner) → IsCornerAt C g d m k → IsCornerAt C h f m k
 corner-same C g h w d f u (meets_vertex i) k (v, x, e, c, r, o) = (v, x, e, c, SameDirection-trans (item_normal x) (normal_of g) (normal_of h) r w, on-turned v.map x d f u o)

@@ -9,7 +9,7 @@ use Rattle.law_forms.proofs.Directions.{zero-decided}
 use Rattle.law_near.proofs.Flats.{vector-same}
 use Rattle.law_near.proofs.FlatDecided.{cross-turned}
 use Rattle.law_sphere.specs.Vectors.{comb, VectorBelow}
-use Rattle.law_sphere.specs.Maps.{At, Loop, Map, MapLabel, NearLabel, Valid}
+use Rattle.law_sphere.specs.Maps.{At, MapSloop, Map, MapLabel, NearLabel, Valid}
 use Rattle.law_sphere.specs.Forms.{forms}
 use Rattle.law_sphere.specs.Kinds.{FlatMap}
 use Rattle.law_sphere.specs.Least.{by_side, InOrder}
@@ -17,7 +17,7 @@ use Rattle.law_sphere.specs.Labelling.{Near, StraightAt, IsSmooth, straight}
 use Rattle.law_sphere.specs.Stars.{Star, StarLabel}
 use Rattle.law_sphere.proofs.Around.{opposites}
 use Rattle.law_sphere.proofs.FlatMaps.{flat-onward, flat-straight}
-use Rattle.law_sphere.proofs.Labels.{label-direction, label-unique, way-signs}
+use Rattle.law_sphere.proofs.Labels.{label-direction, label-unique, dir-signs}
 use Rattle.law_sphere.proofs.Vectors.{dot-comb, direction-by, nought-if}
 use Rattle.law_sphere.proofs.Walk.{cross-direction_left, between-direction}
 use Rattle.law_build.specs.Raw.{Of, IsLabelling, IsWellFormed, ShowsLabels, IsRawOf}
@@ -78,8 +78,8 @@ module _ (N : Map) (V : Valid N) where
   off-smooth : (w : Vector) → FlatMap N w → (d : Vector) → IsDirection (cross d w) → IsSmooth (Of labels_of) d
   off-smooth w F d f =
       let s = flat-straight N V w F d f in
-      straight s.normal s.above s.label s.below s.direction
-      (straight-from (forms N) labels_of are-labelling s.normal s.above s.label s.below d (cross-direction_left d w f) s.level (is-label d s.label s.at_d) (λ e g. is-near d e _ (s.near e g)))
+      straight s.normal s.pos s.label s.neg s.direction
+      (straight-from (forms N) labels_of are-labelling s.normal s.pos s.label s.neg d (cross-direction_left d w f) s.level (is-label d s.label s.at_d) (λ e g. is-near d e _ (s.near e g)))
 
   -- the side of a straight plane to which w points has the label of the plane
   across : (w : Vector) → FlatMap N w → (n y : Vector) (a m b : Label) → IsDirection y → StraightAt (Of labels_of) n a m b y → (dot n w ≡ pos 0 → ⊥) → by_side a m b (sign (dot n w)) ≡ m
@@ -94,27 +94,27 @@ module _ (N : Map) (V : Valid N) where
       value k p q e = ring (pos k ∷ q ∷ []) (at 1) (at 0 ⊗ num (pos 0) ⊕ num (pos 1) ⊗ at 1) tt ∙ ap (λ r. pos k *ℤ r +ℤ pos 1 *ℤ q) (sym e)
 
   pub two-raw : (mark : Label) (t u : Star) → IsWellFormed t → IsWellFormed u → ShowsMap N t → ShowsMap N u → FlatMap N t.axis → FlatMap N u.axis → VectorBelow t.axis u.axis → IsOpposite t.axis u.axis
-      → IsRawOf (record { mark = mark; stars = t ∷ u ∷ []; loop = None; face = None }) labels_of
+      → IsRawOf (record { mark = mark; stars = t ∷ u ∷ []; sloop = None; ground = None }) labels_of
   two-raw mark t u T U A B F G below O = record {
     stars = each;
     ordered = ordered;
     smooth = smooth;
-    loop_normal = λ l e. none l e;
-    loop_lowest = λ l e. none l e;
-    loop_bare = λ l e. none l e;
-    loop_labels = λ l y e. none l e;
-    loop_all = λ n y a m b N' bare on P st.
+    sloop_normal = λ l e. none l e;
+    sloop_lowest = λ l e. none l e;
+    sloop_bare = λ l e. none l e;
+    sloop_labels = λ l y e. none l e;
+    sloop_all = λ n y a m b N' bare on P st.
         let x = across t.axis F n y a m b on.direction st (bare 0 t refl) in
         let z = across u.axis G n y a m b on.direction st (bare 1 u refl) in
         let w = to_opposite t.axis u.axis O in
-        let q = both-sides a m b (dot n t.axis) (dot n u.axis) (sym (way-signs t.axis (opposite u.axis) n T.axis w) ∙ ap sign (dot-back n u.axis)) (bare 0 t refl) x z in
+        let q = both-sides a m b (dot n t.axis) (dot n u.axis) (sym (dir-signs t.axis (opposite u.axis) n T.axis w) ∙ ap sign (dot-back n u.axis)) (bare 0 t refl) x z in
         absurd (P q.0 q.1);
     ground_alone = λ e f. cc;
     ground_not = λ m e. cc;
     ground_label = λ m d e h. cc;
   }
     where
-      none : {A : Type 0} (l : Loop) → None ≡ Some l → A
+      none : {A : Type 0} (l : MapSloop) → None ≡ Some l → A
       none l e = cc
 
       each : (k : ℕ) (x : Star) → At (t ∷ u ∷ []) k x → ShowsLabels x labels_of

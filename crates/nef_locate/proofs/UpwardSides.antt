@@ -11,11 +11,11 @@ use Rattle.nef_geo.specs.declared.sign.Sign.TheVariants.{Plus}
 use Rattle.nef_space.specs.declared.label.Label.{Label}
 use Rattle.law_near.proofs.FlatDecided.{cross-turned}
 use Rattle.law_forms.proofs.Directions.{dot-comm}
-use Rattle.law_sphere.specs.Maps.{At, Svertex, Arc, Map, Item, arc_item, items, OnItem, IsFree, item_above, item_below, Side, around_svertex, above_item, below_item, HasSide, way_of}
+use Rattle.law_sphere.specs.Maps.{At, MapVertex, Arc, Map, Item, arc_item, items, OnItem, IsFree, item_pos, item_neg, Side, around_svertex, pos_item, neg_item, HasSide, dir_of}
 use Rattle.law_sphere.proofs.Arcs.{at-arc}
 use Rattle.law_sphere.proofs.Forms.{on-level}
 use Rattle.law_sphere.proofs.Lists.{at-one}
-use Rattle.law_sphere.proofs.Shot.{way-at}
+use Rattle.law_sphere.proofs.Shot.{dir-at}
 use Rattle.nef_smap.specs.declared.map.SArc.{SArc}
 use Rattle.nef_smap.specs.declared.map.SVertex.{SVertex}
 use Rattle.nef_smap.specs.declared.map.SphereMap.{SphereMap}
@@ -33,8 +33,8 @@ use Rattle.nef_locate.proofs.NearSides.{begin-sees, end-sees, lone-sees, no-arc}
 
 -- ---- the upward direction lies in a face
 module _ (m : SphereMap) (S : IsSphereMap m) where
-  pub no-svertex : (k : ℕ) (v : Svertex) → At (map_of m).svertices k v → SameDirection v.way up → ⊥
-  no-svertex k v a w = map-across m S k v a (cross-turned v.way up w.parallel)
+  pub no-svertex : (k : ℕ) (v : MapVertex) → At (map_of m).svertices k v → SameDirection v.dir up → ⊥
+  no-svertex k v a w = map-across m S k v a (cross-turned v.dir up w.parallel)
 
   no-item : (k : ℕ) (x : Item) → At (items (map_of m)) k x → OnItem (map_of m) x up → ⊥
   no-item k x a o = let z = on-level (map_of m) x up o in let p = map-ahead m S k x a in omega (arith, ints)
@@ -43,51 +43,51 @@ module _ (m : SphereMap) (S : IsSphereMap m) where
   up-free = record { direction = up-direction; off_svertices = no-svertex; off_items = no-item }
 
 -- ---- close to a svertex
-pub some-svertex : (m : SphereMap) (k : ℕ) → k < length m.svertices → (v : Svertex) × At (map_of m).svertices k v
+pub some-svertex : (m : SphereMap) (k : ℕ) → k < length m.svertices → (v : MapVertex) × At (map_of m).svertices k v
 some-svertex m k l = at-some (map_of m).svertices k (let e = length-map m.svertices svertex_of in omega (arith, e, l))
 
-module _ (m : SphereMap) (S : IsSphereMap m) (k : ℕ) (v : Svertex) (a : At (map_of m).svertices k v) where
+module _ (m : SphereMap) (S : IsSphereMap m) (k : ℕ) (v : MapVertex) (a : At (map_of m).svertices k v) where
   abbrev M : Map
   M = map_of m
 
   abbrev w : Vector
-  w = way_of (map_of m).svertices k
+  w = dir_of (map_of m).svertices k
 
-  off : IsDirection (cross v.way up)
-  off z = map-across m S k v a (cross-turned v.way up z)
+  off : IsDirection (cross v.dir up)
+  off z = map-across m S k v a (cross-turned v.dir up z)
 
   ahead : (j : ℕ) (b : Arc) → At (map_of m).arcs j b → pos 0 <ℤ dot b.normal up
-  ahead j b l = map-ahead m S j (arc_item b) (at-arc (map_of m).arcs (map_of m).loop j b l)
+  ahead j b l = map-ahead m S j (arc_item b) (at-arc (map_of m).arcs (map_of m).sloop j b l)
 
   all : (j : ℕ) (b : Arc) → At (map_of m).arcs j b → j < length m.arcs
   all j b l = let e = length-map m.arcs arc_of in let h = at-within (map_of m).arcs j b l in omega (arith, e)
 
   abbrev pub IsNearSide : ℕ → Type 0
-  IsNearSide r = (o : Side) × (l : Label) × IsSide (map_of m) r o l × SeesNear (map_of m) o (way_of (map_of m).svertices k) up
+  IsNearSide r = (o : Side) × (l : Label) × IsSide (map_of m) r o l × SeesNear (map_of m) o (dir_of (map_of m).svertices k) up
 
-  here : (o : Side) → SeesNear (map_of m) o v.way up → SeesNear (map_of m) o (way_of (map_of m).svertices k) up
-  here o = subst (λ (d : Vector). SeesNear (map_of m) o d up) (sym (way-at (map_of m).svertices k v a))
+  here : (o : Side) → SeesNear (map_of m) o v.dir up → SeesNear (map_of m) o (dir_of (map_of m).svertices k) up
+  here o = subst (λ (d : Vector). SeesNear (map_of m) o d up) (sym (dir-at (map_of m).svertices k v a))
 
-  there : (b : Bool) (i : ℕ) → IsLastArc (map_of m) (way_of (map_of m).svertices k) k b (length m.arcs) i → IsLastArc (map_of m) v.way k b (length m.arcs) i
-  there b i = subst (λ (d : Vector). IsLastArc (map_of m) d k b (length m.arcs) i) (way-at (map_of m).svertices k v a)
+  there : (b : Bool) (i : ℕ) → IsLastArc (map_of m) (dir_of (map_of m).svertices k) k b (length m.arcs) i → IsLastArc (map_of m) v.dir k b (length m.arcs) i
+  there b i = subst (λ (d : Vector). IsLastArc (map_of m) d k b (length m.arcs) i) (dir-at (map_of m).svertices k v a)
 
   numbered : (o : Side) (l : Label) → HasSide (map_of m) o l → (r : ℕ) → r ≡ number_of (map_of m) o → IsSide (map_of m) r o l
   numbered o l h r e = subst (λ (n : ℕ). IsSide (map_of m) n o l) (sym e) (side-number (map_of m) o l h)
 
-  pub near-begin : (i : ℕ) → IsLastArc (map_of m) (way_of (map_of m).svertices k) k true (length m.arcs) i → (r : ℕ) → r ≡ number_of (map_of m) (above_item i) → IsNearSide r
+  pub near-begin : (i : ℕ) → IsLastArc (map_of m) (dir_of (map_of m).svertices k) k true (length m.arcs) i → (r : ℕ) → r ≡ number_of (map_of m) (pos_item i) → IsNearSide r
   near-begin i L r e =
       let x = arc_item L.arc in
-      let h = at-arc (map_of m).arcs (map_of m).loop i L.arc L.listed in
+      let h = at-arc (map_of m).arcs (map_of m).sloop i L.arc L.listed in
       let V = S.valid in
-      (above_item i, item_above x, numbered (above_item i) (item_above x) (x, h, refl) r e, here (above_item i) (begin-sees (map_of m) V.shaped k v a up off ahead (length m.arcs) all i (there true i L)))
+      (pos_item i, item_pos x, numbered (pos_item i) (item_pos x) (x, h, refl) r e, here (pos_item i) (begin-sees (map_of m) V.shaped k v a up off ahead (length m.arcs) all i (there true i L)))
 
-  pub near-end : (i : ℕ) → IsNoArc (map_of m) k true (length m.arcs) → IsLastArc (map_of m) (way_of (map_of m).svertices k) k false (length m.arcs) i
-      → (r : ℕ) → r ≡ number_of (map_of m) (below_item i) → IsNearSide r
+  pub near-end : (i : ℕ) → IsNoArc (map_of m) k true (length m.arcs) → IsLastArc (map_of m) (dir_of (map_of m).svertices k) k false (length m.arcs) i
+      → (r : ℕ) → r ≡ number_of (map_of m) (neg_item i) → IsNearSide r
   near-end i N L r e =
       let x = arc_item L.arc in
-      let h = at-arc (map_of m).arcs (map_of m).loop i L.arc L.listed in
+      let h = at-arc (map_of m).arcs (map_of m).sloop i L.arc L.listed in
       let V = S.valid in
-      (below_item i, item_below x, numbered (below_item i) (item_below x) (x, h, refl) r e, here (below_item i) (end-sees (map_of m) V.shaped k v a up off ahead (length m.arcs) all i N (there false i L)))
+      (neg_item i, item_neg x, numbered (neg_item i) (item_neg x) (x, h, refl) r e, here (neg_item i) (end-sees (map_of m) V.shaped k v a up off ahead (length m.arcs) all i N (there false i L)))
 
   pub near-alone : IsNoArc (map_of m) k true (length m.arcs) → IsNoArc (map_of m) k false (length m.arcs) → (r : ℕ) → r ≡ arounds_before (map_of m).svertices k → IsNearSide r
   near-alone N O r e =
@@ -100,15 +100,15 @@ module _ (m : SphereMap) (S : IsSphereMap m) (k : ℕ) (v : Svertex) (a : At (ma
 module _ (m : SphereMap) where
   -- all arcs lie on one side of the upward direction
   pub arc-upward : IsSphereMap m → (j : ℕ) (b : Arc) → At (map_of m).arcs j b → pos 0 <ℤ dot up b.normal
-  arc-upward S j b l = let h = map-ahead m S j (arc_item b) (at-arc (map_of m).arcs (map_of m).loop j b l) in let e = dot-comm up b.normal in omega (arith, ints)
+  arc-upward S j b l = let h = map-ahead m S j (arc_item b) (at-arc (map_of m).arcs (map_of m).sloop j b l) in let e = dot-comm up b.normal in omega (arith, ints)
 
   -- the sign that is read of the turn from one arc to another is that of the turn
   pub turn-read : (s i : ℕ) (u : SVertex) (b : SArc) (x : Arc) (n : Vector) (r : Sign) → slice_get m.svertices s ≡ Some u → slice_get m.arcs i ≡ Some b → At (map_of m).arcs i x
-      → r ≡ sign_of (triple (vector_of u.dir) (vector_of b.normal) n) → r ≡ sign_of (triple (way_of (map_of m).svertices s) x.normal n)
+      → r ≡ sign_of (triple (vector_of u.dir) (vector_of b.normal) n) → r ≡ sign_of (triple (dir_of (map_of m).svertices s) x.normal n)
   turn-read s i u b x n r f g h e =
-      let w = way-at (map_of m).svertices s (svertex_of u) (image-read svertex_of m.svertices s u f) in
+      let w = dir-at (map_of m).svertices s (svertex_of u) (image-read svertex_of m.svertices s u f) in
       let y = at-one (map_of m).arcs i (arc_of b) x (image-read arc_of m.arcs i b g) h in
-      e ∙ ap (λ (v : Vector). sign_of (triple v (vector_of b.normal) n)) (sym w) ∙ ap (λ (z : Arc). sign_of (triple (way_of (map_of m).svertices s) z.normal n)) y
+      e ∙ ap (λ (v : Vector). sign_of (triple v (vector_of b.normal) n)) (sym w) ∙ ap (λ (z : Arc). sign_of (triple (dir_of (map_of m).svertices s) z.normal n)) y
 
 pub plus-turn : (z : ℤ) → Plus ≡ sign_of z → pos 0 <ℤ z
 plus-turn (pos zero) e = cc

@@ -13,9 +13,9 @@ use Rattle.law_near.proofs.Decided.{label_of}
 use Rattle.law_near.proofs.Flats.{vector-same}
 use Rattle.law_near.proofs.Germs.{Germ-unique}
 use Rattle.law_near.proofs.Rays.{Germ-same}
-use Rattle.law_sphere.specs.Maps.{At, item_normal, item_above, item_mark, item_below, seen, Side, HasSide}
+use Rattle.law_sphere.specs.Maps.{At, item_normal, item_pos, item_mark, item_neg, seen, Side, HasSide}
 use Rattle.law_sphere.specs.Least.{by_side}
-use Rattle.law_sphere.proofs.Compare.{way-self}
+use Rattle.law_sphere.proofs.Compare.{dir-self}
 use Rattle.law_sphere.proofs.Lists.{at-one}
 use Rattle.nef_smap.proofs.Lists.{at-map}
 use Rattle.nef_smap.proofs.SideLists.{get-from_at}
@@ -63,7 +63,7 @@ module _ (s : Set) (c : Complex) (S : ShowsSet s c) where
         let N = (S.shows.cones i v a).valid.shaped.normals k.item x h.1 in
         let g = (corner-labels s (complex_of c) S.shows z k v x H (record { vertex = b; item = h.1 })).1 up in
         let p = sign-plus (dot (item_normal x) up) (up-above (item_normal x) N ((small i v a).normals k.item x h.1)) in
-        subst (Germ s z up) (ap (by_side (item_above x) (item_mark x) (item_below x)) p ∙ h.2) g
+        subst (Germ s z up) (ap (by_side (item_pos x) (item_mark x) (item_neg x)) p ∙ h.2) g
 
     pub side-label : (y : Place) → HasVolumeSide (complex_of c) y (record { vertex = i; side = o }) → HasLabel s y l
     side-label y (off, R) =
@@ -78,5 +78,5 @@ module _ (s : Set) (c : Complex) (S : ShowsSet s c) where
         upward =
             let d = toward y R.place in let e = toward R.place y in
             let turned : opposite e ≡ d = vector-same (opposite e) d (omega (arith, ints)) (omega (arith, ints)) (omega (arith, ints)) in
-            let back = from_opposite d e (subst (SameDirection d) (sym turned) (way-self d (direction-left d (opposite up) R.ahead))) in
+            let back = from_opposite d e (subst (SameDirection d) (sym turned) (dir-self d (direction-left d (opposite up) R.ahead))) in
             opposites-same d up e (from_opposite d up R.ahead) back

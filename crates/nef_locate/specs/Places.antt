@@ -3,7 +3,7 @@ use Rattle.std.specs.Prelude.{◌≡◌, ℕ}
 use Rattle.nef_space.specs.Place.{Place as PlainPlace, IsAhead, IsBetween}
 use Rattle.nef_space.specs.Vectors.{Vector}
 use Rattle.nef_space.specs.declared.label.Label.{Label}
-use Rattle.law_sphere.specs.Maps.{At, Svertex, Loop, Item, item_normal, item_above, item_mark, item_below, Side}
+use Rattle.law_sphere.specs.Maps.{At, MapVertex, MapSloop, Item, item_normal, item_pos, item_mark, item_neg, Side}
 use Rattle.nef_geo.specs.Shapes.{vector_of}
 use Rattle.law_sphere.specs.Stars.{StarShows}
 use Rattle.nef_star.specs.declared.star.Star.{Star}
@@ -45,16 +45,16 @@ IsPlaceLabel C (place.InFacet k) l = SpotMark C (in_facet (corner_of k)) l
 IsPlaceLabel C (place.InVolume i j) l = (o : Side) × IsSideOf C i j o l
 
 -- the plane of the item, with its labels
-pub record IsPlaneOf (x : Item) (l : Loop) : Type 0 where
+pub record IsPlaneOf (x : Item) (l : MapSloop) : Type 0 where
   pub normal : item_normal x ≡ l.normal
-  pub above : item_above x ≡ l.above
+  pub pos : item_pos x ≡ l.pos
   pub mark : item_mark x ≡ l.mark
-  pub below : item_below x ≡ l.below
+  pub neg : item_neg x ≡ l.neg
 
 -- the star of the svertex with this number, which shows the map
 pub record IsEndStar (m : SphereMap) (k : ℕ) (t : Star) : Type 0 where
   pub star : IsStar t
-  pub axis : (u : Svertex) → At (map_of m).svertices k u → vector_of t.axis ≡ u.way
+  pub axis : (u : MapVertex) → At (map_of m).svertices k u → vector_of t.axis ≡ u.dir
   pub shows : StarShows (star_of t) (map_of m)
 
 -- the number of flat directions there

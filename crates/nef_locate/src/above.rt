@@ -4,7 +4,7 @@ ghost use Rattle.std.specs.Prelude.{◌≡◌, ◌+◌, ◌<◌, length};
 ghost use Rattle.nef_space.specs.Sets.{Set};
 ghost use Rattle.nef_space.specs.Vectors.{up};
 ghost use Rattle.nef_space.specs.declared.label.Label.{Label};
-ghost use Rattle.law_sphere.specs.Maps.{Side, way_of};
+ghost use Rattle.law_sphere.specs.Maps.{Side, dir_of};
 ghost use Rattle.nef_smap.specs.Maps.{map_of, arc_of, IsSphereMap};
 ghost use Rattle.nef_smap.specs.Sides.{IsSide};
 ghost use Rattle.law_complex.specs.Rays.{SeesNear};
@@ -37,8 +37,8 @@ fn later_arc(
     requires map { IsSphereMap map.now }
     requires within { svertex < length map.now.svertices }
     requires number { number < length map.now.arcs }
-    requires last { IsLast (map_of map.now) (way_of (map_of map.now).svertices svertex) svertex begins number last }
-    ensures last { IsLast (map_of map.now) (way_of (map_of map.now).svertices svertex) svertex begins (number + 1) result }
+    requires last { IsLast (map_of map.now) (dir_of (map_of map.now).svertices svertex) svertex begins number last }
+    ensures last { IsLast (map_of map.now) (dir_of (map_of map.now).svertices svertex) svertex begins (number + 1) result }
 {
     let arc = map.arcs.at(number);
     if arc_end(arc, begins) != svertex {
@@ -63,7 +63,7 @@ fn later_arc(
 fn last_arc(map: &SphereMap, svertex: usize, begins: bool) -> Option<usize>
     requires map { IsSphereMap map.now }
     requires within { svertex < length map.now.svertices }
-    ensures last { IsLast (map_of map.now) (way_of (map_of map.now).svertices svertex) svertex begins (length map.now.arcs) result }
+    ensures last { IsLast (map_of map.now) (dir_of (map_of map.now).svertices svertex) svertex begins (length map.now.arcs) result }
 {
     let mut last = None;
     for number in 0..map.arcs.len() {
@@ -77,7 +77,7 @@ fn last_arc(map: &SphereMap, svertex: usize, begins: bool) -> Option<usize>
 fn side_near(map: &SphereMap, svertex: usize) -> usize
     requires map { IsSphereMap map.now }
     requires within { svertex < length map.now.svertices }
-    ensures side { (o : Side) × (l : Label) × IsSide (map_of map.now) result o l × SeesNear (map_of map.now) o (way_of (map_of map.now).svertices svertex) up }
+    ensures side { (o : Side) × (l : Label) × IsSide (map_of map.now) result o l × SeesNear (map_of map.now) o (dir_of (map_of map.now).svertices svertex) up }
 {
     if let Some(arc) = last_arc(map, svertex, true) {
         return map.item_side(arc, true);

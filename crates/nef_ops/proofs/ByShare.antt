@@ -18,7 +18,7 @@ use Rattle.nef_star.specs.Ops.{op_label}
 use Rattle.nef_combine.specs.Sets.{op_set}
 use Rattle.nef_combine.proofs.Cones.{label-by_op, germ-by_op}
 use Rattle.nef_ops.specs.declared.share.Share.{Share}
-use Rattle.nef_ops.specs.declared.way.Way.TheVariants.{First, Second, NotFirst, NotSecond}
+use Rattle.nef_ops.specs.declared.choice.Choice.TheVariants.{First, Second, NotFirst, NotSecond}
 use Rattle.nef_ops.specs.Shares.{AreAlike, InShare, HasShare, Leads}
 
 -- ---- labels at one point

@@ -8,15 +8,15 @@ use Rattle.nef_smap.specs.declared.map.SVertex.{SVertex}
 use Rattle.nef_smap.specs.declared.map.SArc.{SArc}
 use Rattle.nef_smap.specs.declared.map.SLoop.{SLoop}
 use Rattle.nef_smap.specs.declared.map.SphereMap.{SphereMap}
-use Rattle.nef_smap.specs.Maps.{svertex_of, arc_of, loop_of, map_of}
+use Rattle.nef_smap.specs.Maps.{svertex_of, arc_of, sloop_of, map_of}
 use Rattle.nef_smap.proofs.Lists.{at-map, at-get}
-use Rattle.law_sphere.specs.Maps.{At, Svertex, Arc, Loop, Item, arc_item, loop_item, items, item_above, item_mark, item_below}
-use Rattle.law_sphere.specs.Maps.{Side, around_svertex, above_item, below_item, whole, HasSide, MapLabel, at_svertex, on_item, seen}
+use Rattle.law_sphere.specs.Maps.{At, MapVertex, Arc, MapSloop, Item, arc_item, sloop_item, items, item_pos, item_mark, item_neg}
+use Rattle.law_sphere.specs.Maps.{Side, around_svertex, pos_item, neg_item, whole, HasSide, MapLabel, at_svertex, on_item, seen}
 use Rattle.law_sphere.proofs.Shot.{arc-at}
-use Rattle.law_sphere.proofs.Arcs.{loop-at}
+use Rattle.law_sphere.proofs.Arcs.{sloop-at}
 use Rattle.law_border.proofs.Listed.{option-was}
 use Rattle.nef_ops.specs.declared.share.Share.TheVariants.{Nothing, Everything}
-use Rattle.nef_ops.specs.Shares.{Lacks, SvertexLacks, ArcLacks, LoopLacks, HasShare}
+use Rattle.nef_ops.specs.Shares.{Lacks, SvertexLacks, ArcLacks, SloopLacks, HasShare}
 
 -- what holds of the elements so far, and of one more
 pub all-more : {A : Type 0} (P : A → Type 0) (xs : List A) (i : ℕ) (x : A) → x ≡ get_or xs i x → P x
@@ -28,31 +28,31 @@ all-more {A} P xs i x is here before k y l h =
 module _ (l : Label) (m : SphereMap)
     (V : (k : ℕ) (v : SVertex) → At m.svertices k v → SvertexLacks l v)
     (A : (k : ℕ) (a : SArc) → At m.arcs k a → ArcLacks l a)
-    (C : (c : SLoop) → m.sloop ≡ Some c → LoopLacks l c) where
-  svertex-lacks : (k : ℕ) (v : Svertex) → At (map_of m).svertices k v → (v.mark ≡ l → ⊥) × (v.around ≡ Some l → ⊥)
+    (C : (c : SLoop) → m.sloop ≡ Some c → SloopLacks l c) where
+  svertex-lacks : (k : ℕ) (v : MapVertex) → At (map_of m).svertices k v → (v.mark ≡ l → ⊥) × (v.around ≡ Some l → ⊥)
   svertex-lacks k v h =
       let u = at-map svertex_of m.svertices k v h in
       let L = V k u.0 u.1 in
-      (λ e. L.mark (ap (λ (r : Svertex). r.mark) u.2 ∙ e), λ e. L.around (ap (λ (r : Svertex). r.around) u.2 ∙ e))
+      (λ e. L.mark (ap (λ (r : MapVertex). r.mark) u.2 ∙ e), λ e. L.around (ap (λ (r : MapVertex). r.around) u.2 ∙ e))
 
   -- above, on and below an item
-  item-lacks : (k : ℕ) (x : Item) → At (items (map_of m)) k x → (item_above x ≡ l → ⊥) × (item_mark x ≡ l → ⊥) × (item_below x ≡ l → ⊥)
+  item-lacks : (k : ℕ) (x : Item) → At (items (map_of m)) k x → (item_pos x ≡ l → ⊥) × (item_mark x ≡ l → ⊥) × (item_neg x ≡ l → ⊥)
   item-lacks k (arc_item a) h =
-      let b = at-map arc_of m.arcs k a (arc-at (map_of m).arcs (map_of m).loop k a h) in
+      let b = at-map arc_of m.arcs k a (arc-at (map_of m).arcs (map_of m).sloop k a h) in
       let L = A k b.0 b.1 in
-      (λ e. L.pos (ap (λ (r : Arc). r.above) b.2 ∙ e), λ e. L.mark (ap (λ (r : Arc). r.mark) b.2 ∙ e), λ e. L.neg (ap (λ (r : Arc). r.below) b.2 ∙ e))
-  item-lacks k (loop_item c) h =
-      let b = option-was loop_of m.sloop c (loop-at (map_of m).arcs (map_of m).loop k c h) in
+      (λ e. L.pos (ap (λ (r : Arc). r.pos) b.2 ∙ e), λ e. L.mark (ap (λ (r : Arc). r.mark) b.2 ∙ e), λ e. L.neg (ap (λ (r : Arc). r.neg) b.2 ∙ e))
+  item-lacks k (sloop_item c) h =
+      let b = option-was sloop_of m.sloop c (sloop-at (map_of m).arcs (map_of m).sloop k c h) in
       let L = C b.0 b.1 in
-      (λ e. L.pos (ap (λ (r : Loop). r.above) b.2 ∙ e), λ e. L.mark (ap (λ (r : Loop). r.mark) b.2 ∙ e), λ e. L.neg (ap (λ (r : Loop). r.below) b.2 ∙ e))
+      (λ e. L.pos (ap (λ (r : MapSloop). r.pos) b.2 ∙ e), λ e. L.mark (ap (λ (r : MapSloop). r.mark) b.2 ∙ e), λ e. L.neg (ap (λ (r : MapSloop). r.neg) b.2 ∙ e))
 
   pub map-lacks : (m.mark ≡ l → ⊥) → (m.ground ≡ Some l → ⊥) → Lacks l (map_of m)
   map-lacks own ground = record { mark = own; directions = by }
     where
       side : (o : Side) → HasSide (map_of m) o l → ⊥
       side (around_svertex k) (v, a, e) = (svertex-lacks k v a).1 e
-      side (above_item k) (x, a, e) = (item-lacks k x a).0 e
-      side (below_item k) (x, a, e) = (item-lacks k x a).2 e
+      side (pos_item k) (x, a, e) = (item-lacks k x a).0 e
+      side (neg_item k) (x, a, e) = (item-lacks k x a).2 e
       side whole e = ground e
 
       by : (d : Vector) → MapLabel (map_of m) d l → ⊥

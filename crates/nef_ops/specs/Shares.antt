@@ -12,8 +12,8 @@ use Rattle.nef_star.specs.declared.op.Op.{Op}
 use Rattle.nef_star.specs.Ops.{op_label}
 use Rattle.nef_ops.specs.declared.share.Share.{Share}
 use Rattle.nef_ops.specs.declared.share.Share.TheVariants.{Nothing, Everything, Part}
-use Rattle.nef_ops.specs.declared.way.Way.{Way}
-use Rattle.nef_ops.specs.declared.way.Way.TheVariants.{First, Second, NotFirst, NotSecond, Both}
+use Rattle.nef_ops.specs.declared.choice.Choice.{Choice}
+use Rattle.nef_ops.specs.declared.choice.Choice.TheVariants.{First, Second, NotFirst, NotSecond, Both}
 
 -- ---- labels that a map doesn't have
 -- neither the point nor a direction has the label
@@ -30,7 +30,7 @@ pub record ArcLacks (l : Label) (a : SArc) : Type 0 where
   pub pos : a.pos ≡ l → ⊥
   pub neg : a.neg ≡ l → ⊥
 
-pub record LoopLacks (l : Label) (c : SLoop) : Type 0 where
+pub record SloopLacks (l : Label) (c : SLoop) : Type 0 where
   pub mark : c.mark ≡ l → ⊥
   pub pos : c.pos ≡ l → ⊥
   pub neg : c.neg ≡ l → ⊥
@@ -60,7 +60,7 @@ AreAlike In In = Unit {0}
 
 -- ---- ways
 -- the label that the way makes of the labels of the two sets; Both is of no concern here
-abbrev pub Makes : Way → Op → Label → Label → Type 0
+abbrev pub Makes : Choice → Op → Label → Label → Type 0
 Makes First op k l = op_label op k l ≡ k
 Makes Second op k l = op_label op k l ≡ l
 Makes NotFirst op k l = op_label op k l ≡ label_not k
@@ -68,5 +68,5 @@ Makes NotSecond op k l = op_label op k l ≡ label_not l
 Makes Both op k l = Unit {0}
 
 -- the way leads to the operation's labels wherever the sets have these shares
-abbrev pub Leads : Way → Op → Share → Share → Type 0
+abbrev pub Leads : Choice → Op → Share → Share → Type 0
 Leads w op f g = (k l : Label) → AreAlike k l → InShare f k → InShare g l → Makes w op k l

@@ -6,6 +6,7 @@
 //! on 3D Selective Nef Complexes", ESA 2003.
 #![tactic(auto)]
 
+mod choice;
 mod combination;
 mod comparison;
 mod finished;
@@ -16,7 +17,6 @@ mod share;
 #[cfg(test)]
 mod tests;
 mod topology;
-mod way;
 mod whole;
 
 pub use combination::binary;

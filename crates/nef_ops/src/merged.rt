@@ -10,8 +10,8 @@ ghost use Rattle.nef_smap.specs.Maps.{map_of, IsLeastMap};
 ghost use Rattle.nef_combine.specs.Sets.{op_set};
 
 use crate::OutOfMemory;
+use crate::choice::{Choice, choice_of};
 use crate::share::share_of;
-use crate::way::{Way, way_of};
 use nef_combine::combine;
 use nef_smap::SphereMap;
 use nef_star::Op;
@@ -61,11 +61,11 @@ pub(crate) fn merged(
     ensures least { IfOk result IsLeastMap }
     ensures cone { IfOk result (λ m. (s t : Set) (p : Place) → Cone (map_of first) s p → Cone (map_of second) t p → Cone (map_of m) (op_set op s t) p) }
 {
-    match way_of(op, share_of(&first), share_of(&second)) {
-        Way::First => Ok(first),
-        Way::Second => Ok(second),
-        Way::NotFirst => complement(alloc, &first),
-        Way::NotSecond => complement(alloc, &second),
-        Way::Both => joined(alloc, first, second, op),
+    match choice_of(op, share_of(&first), share_of(&second)) {
+        Choice::First => Ok(first),
+        Choice::Second => Ok(second),
+        Choice::NotFirst => complement(alloc, &first),
+        Choice::NotSecond => complement(alloc, &second),
+        Choice::Both => joined(alloc, first, second, op),
     }
 }

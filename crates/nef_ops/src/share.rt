@@ -6,7 +6,7 @@ ghost use Rattle.nef_smap.specs.Maps.{map_of};
 ghost use Rattle.nef_smap.specs.declared.map.SVertex.{SVertex as PlainSVertex};
 ghost use Rattle.nef_smap.specs.declared.map.SArc.{SArc as PlainSArc};
 ghost use Rattle.nef_smap.specs.declared.map.SLoop.{SLoop as PlainSLoop};
-ghost use Rattle.nef_ops.specs.Shares.{Lacks, SvertexLacks, ArcLacks, LoopLacks, HasShare};
+ghost use Rattle.nef_ops.specs.Shares.{Lacks, SvertexLacks, ArcLacks, SloopLacks, HasShare};
 
 use nef_geo::Label;
 use nef_smap::{SArc, SLoop, SVertex, SphereMap};
@@ -48,7 +48,7 @@ fn arcs_lack(arcs: &[SArc], label: Label) -> bool
 
 // Whether the sloop, if there is one, doesn't have the label, nor a face beside it.
 fn sloop_lacks(sloop: Option<SLoop>, label: Label) -> bool
-    ensures lacks { IsTrue result → (c : PlainSLoop) → sloop ≡ Some c → LoopLacks label c }
+    ensures lacks { IsTrue result → (c : PlainSLoop) → sloop ≡ Some c → SloopLacks label c }
 {
     match sloop {
         Some(circle) => circle.mark != label && circle.pos != label && circle.neg != label,

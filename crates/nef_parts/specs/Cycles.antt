@@ -4,7 +4,7 @@ use Rattle.std.specs.List.{All}
 use Rattle.nef_space.specs.Numbers.{IsBelow}
 use Rattle.nef_space.specs.Vectors.{SameDirection}
 use Rattle.law_sphere.specs.Least.{InOrder}
-use Rattle.law_sphere.specs.Maps.{At, Arc, Loop, loop_item}
+use Rattle.law_sphere.specs.Maps.{At, Arc, MapSloop, sloop_item}
 use Rattle.law_complex.specs.Complexes.{Vertex, Edge, Complex, Corner, IsCorner}
 
 -- the edge leads from svertex s of vertex i to svertex t of vertex j
@@ -28,11 +28,11 @@ pub record IsNextArc (C : Complex) (j k : Corner) : Type 0 where
   pub one_normal : SameDirection this_arc.normal that_arc.normal
 
 -- a sloop is its own next corner
-abbrev pub IsNextLoop : Complex → Corner → Corner → Type 0
-IsNextLoop C j k = (j ≡ k) × (v : Vertex) × (l : Loop) × IsCorner C j v (loop_item l)
+abbrev pub IsNextSloop : Complex → Corner → Corner → Type 0
+IsNextSloop C j k = (j ≡ k) × (v : Vertex) × (l : MapSloop) × IsCorner C j v (sloop_item l)
 
 abbrev pub NextCorner : Complex → Corner → Corner → Type 0
-NextCorner C j k = IsNextArc C j k ⊎ IsNextLoop C j k
+NextCorner C j k = IsNextArc C j k ⊎ IsNextSloop C j k
 
 abbrev pub IsCornerBelow : Corner → Corner → Type 0
 IsCornerBelow j k = IsBelow (pos j.vertex ∷ pos j.item ∷ []) (pos k.vertex ∷ pos k.item ∷ [])

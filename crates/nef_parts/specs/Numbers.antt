@@ -7,7 +7,7 @@ use Rattle.nef_space.specs.Vectors.{SameDirection}
 use Rattle.nef_space.specs.declared.label.Label.{Label}
 use Rattle.nef_space.specs.declared.label.Label.TheVariants.{Out}
 use Rattle.nef_geo.specs.Shapes.{form_of}
-use Rattle.law_sphere.specs.Maps.{At, Item, items, item_normal, item_mark, above_item, below_item}
+use Rattle.law_sphere.specs.Maps.{At, Item, items, item_normal, item_mark, pos_item, neg_item}
 use Rattle.nef_smap.specs.Sides.{sides_of, IsSide}
 use Rattle.law_complex.specs.Complexes.{Vertex, Complex, Corner, IsCorner}
 use Rattle.law_complex.specs.Rays.{VertexSide, HasSideLabel}
@@ -59,19 +59,19 @@ pub record VolumeNumbers (C : Complex) (rows : List (List ℕ)) : Type 0 where
   pub numbered : NumbersClasses (VolumeLink C) (IsSideBelow C) 1 (IsVolumeOf C rows)
   pub outside : (x : VertexSide) (n : ℕ) (l : Label) → IsVolumeOf C rows x n → HasSideLabel C x l → (n ≡ 0) ↔ (l ≡ Out)
 
-abbrev pub above_of : Corner → VertexSide
-above_of k = record { vertex = k.vertex; side = above_item k.item }
+abbrev pub pos_of : Corner → VertexSide
+pos_of k = record { vertex = k.vertex; side = pos_item k.item }
 
-abbrev pub below_of : Corner → VertexSide
-below_of k = record { vertex = k.vertex; side = below_item k.item }
+abbrev pub neg_of : Corner → VertexSide
+neg_of k = record { vertex = k.vertex; side = neg_item k.item }
 
 -- the facet has what the corner has
 pub record IsFacetAt (C : Complex) (p : Parts) (f : Facet) (k : Corner) (v : Vertex) (x : Item) : Type 0 where
   pub through : form_at (form_of f.plane) v.point ≡ pos 0
   pub normal : SameDirection (normal_of (form_of f.plane)) (item_normal x)
   pub mark : f.mark ≡ item_mark x
-  pub above : IsVolumeOf C p.volume_of (above_of k) f.pos
-  pub below : IsVolumeOf C p.volume_of (below_of k) f.neg
+  pub pos : IsVolumeOf C p.volume_of (pos_of k) f.pos
+  pub neg : IsVolumeOf C p.volume_of (neg_of k) f.neg
 
 -- the corners of the cycles
 abbrev pub cycle_corners : List Cycle → List (List Corner)

@@ -84,25 +84,25 @@ module _ (C : Complex) (h : Form) (p : Place) (d : Vector) (some : IsDirection d
         (between-same v.point p w.point v.point x.point w.point (same-itself v.point) (same-place_sym x.point p o) (same-itself w.point) m))))
         (λ f. f k (e, v, w, a, H, m) (e, v, w, a, H, i.0, i.1)) off
 
-    leaves : SameDirection E.low_end.way (toward v.point w.point)
-    leaves = SameDirection-turned (toward v.point w.point) E.low_end.way
-        (subst (λ (y : Vertex). SameDirection (toward y.point w.point) E.low_end.way) low-is (subst (λ (y : Vertex). SameDirection (toward E.low_vertex.point y.point) E.low_end.way) high-is E.ahead))
+    leaves : SameDirection E.low_end.dir (toward v.point w.point)
+    leaves = SameDirection-turned (toward v.point w.point) E.low_end.dir
+        (subst (λ (y : Vertex). SameDirection (toward y.point w.point) E.low_end.dir) low-is (subst (λ (y : Vertex). SameDirection (toward E.low_vertex.point y.point) E.low_end.dir) high-is E.ahead))
 
-    arrives : SameDirection E.high_end.way (toward w.point v.point)
-    arrives = SameDirection-trans E.high_end.way (opposite E.low_end.way) (toward w.point v.point) (opposite-way E.low_end.way E.high_end.way E.back)
-        (SameDirection-turned (toward w.point v.point) (opposite E.low_end.way) (ahead-back v.point w.point E.low_end.way (SameDirection-turned E.low_end.way (toward v.point w.point) leaves)))
+    arrives : SameDirection E.high_end.dir (toward w.point v.point)
+    arrives = SameDirection-trans E.high_end.dir (opposite E.low_end.dir) (toward w.point v.point) (opposite-way E.low_end.dir E.high_end.dir E.back)
+        (SameDirection-turned (toward w.point v.point) (opposite E.low_end.dir) (ahead-back v.point w.point E.low_end.dir (SameDirection-turned E.low_end.dir (toward v.point w.point) leaves)))
 
     abbrev Found : Type 0
     Found = AtEdgeNumber C h d k (meets_edge k) q ⊎ ((j : ℕ) × (x : Vertex) × At C.vertices j x × IsBetween p x.point q)
 
     low-first : SameDirection (toward v.point w.point) d → IsBetween p v.point q
     low-first t = end-before v.point w.point q b ahead t
-        (λ o. none_there e.low e.low_svertex v E.low_end H.low o (subst (λ (y : Vertex). At y.map.svertices e.low_svertex E.low_end) low-is E.leaves) (SameDirection-trans E.low_end.way (toward v.point w.point) d leaves t))
+        (λ o. none_there e.low e.low_svertex v E.low_end H.low o (subst (λ (y : Vertex). At y.map.svertices e.low_svertex E.low_end) low-is E.leaves) (SameDirection-trans E.low_end.dir (toward v.point w.point) d leaves t))
         never-inside
 
     high-first : SameDirection (toward w.point v.point) d → IsBetween p w.point q
     high-first t = end-before w.point v.point q (between-turned v.point w.point q b) ahead t
-        (λ o. none_there e.high e.high_svertex w E.high_end H.high o (subst (λ (y : Vertex). At y.map.svertices e.high_svertex E.high_end) high-is E.arrives) (SameDirection-trans E.high_end.way (toward w.point v.point) d arrives t))
+        (λ o. none_there e.high e.high_svertex w E.high_end H.high o (subst (λ (y : Vertex). At y.map.svertices e.high_svertex E.high_end) high-is E.arrives) (SameDirection-trans E.high_end.dir (toward w.point v.point) d arrives t))
         (λ m. never-inside (between-turned w.point v.point p m))
 
     -- the edge isn't along the ray, or has an end before its point

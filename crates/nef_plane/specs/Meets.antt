@@ -10,7 +10,7 @@ use Rattle.nef_geo.specs.Signs.{sign_of}
 use Rattle.nef_geo.specs.declared.hit.FarHit.{FarHit}
 use Rattle.nef_geo.specs.declared.hit.Hit.{Hit}
 use Rattle.nef_geo.specs.declared.plane.Plane.{Plane}
-use Rattle.law_sphere.specs.Maps.{At, Svertex}
+use Rattle.law_sphere.specs.Maps.{At, MapVertex}
 use Rattle.law_complex.specs.Complexes.{Vertex, Edge, Complex, HasEnds}
 use Rattle.law_complex.specs.Skeleton.{PlaneMeet, meets_vertex, meets_edge, IsVertexPoint, IsEdgePoint, LiesIn}
 use Rattle.nef_complex.specs.Complexes.{meet_of}
@@ -24,7 +24,7 @@ IsAlongAxis h d = SameDirection d (plane_axis (normal_of h)) ⊎ SameDirection d
 
 -- where p is a vertex, none of its svertices points along d
 abbrev pub HasNoSvertex : Complex → Place → Vector → Type 0
-HasNoSvertex C p d = (k j : ℕ) (v : Vertex) (u : Svertex) → At C.vertices k v → SamePlace v.point p → At v.map.svertices j u → SameDirection u.way d → ⊥
+HasNoSvertex C p d = (k j : ℕ) (v : Vertex) (u : MapVertex) → At C.vertices k v → SamePlace v.point p → At v.map.svertices j u → SameDirection u.dir d → ⊥
 
 -- p is a vertex, or lies strictly inside no edge in the plane
 abbrev pub IsOffEdges : Complex → Form → Place → Type 0

@@ -21,7 +21,7 @@ use Rattle.nef_complex.specs.declared.complex.Complex.{Complex}
 use Rattle.nef_complex.specs.Complexes.{ShowsSet}
 use Rattle.nef_ray.specs.declared.crossed.Crossed.{Crossed}
 use Rattle.nef_ray.specs.declared.nearer.Change.{Change}
-use Rattle.nef_ray.specs.declared.ray.Ray.{Ray}
+use Rattle.nef_ray.specs.declared.ray.RayStart.{RayStart}
 use Rattle.nef_ray.specs.Changes.{IsUnchanged, IsAlong, IsChangeOf, IsNotBefore, IsListed, AreAllCrossed}
 use Rattle.nef_ray.specs.Ends.{IsRayEnd}
 use Rattle.nef_ray.proofs.Along.{label-stays, changes-somewhere}
@@ -44,7 +44,7 @@ module _ (s : Set) (c : Complex) (S : ShowsSet s c) (p : Place) (d : Vector) (m 
   end-none inside some germ A = changes-somewhere s p d m inside germ some (λ f l y X i. ⊎_elim (λ u. u) (λ n. absurd n) (seen None A f l y X i))
 
 -- so it is where each crossing among those listed is so
-pub all-seen : (s : Set) (c : Complex) (ray : Ray) (best : Option Change) (xs zs : List Crossed) (n : ℕ) → zs ≡ xs → length zs ≤ n → AreAllCrossed c.carriers ray xs
+pub all-seen : (s : Set) (c : Complex) (ray : RayStart) (best : Option Change) (xs zs : List Crossed) (n : ℕ) → zs ≡ xs → length zs ≤ n → AreAllCrossed c.carriers ray xs
     → ((k : ℕ) (x : Crossed) → k < n → At zs k x → (y : Place) → IsCrossing (place_of ray.from) (vector_of ray.along) (form_of x.plane) y → InClosedFrame y
     → IsUnchanged s (vector_of ray.along) ray.before y ⊎ IsNotBefore (place_of ray.from) y best)
     → AllSeen s c (place_of ray.from) (vector_of ray.along) ray.before best
@@ -54,7 +54,7 @@ all-seen s c ray best xs zs n e l A f k h a y X i =
     (λ j x b z Z o. let w = at-within zs j x b in f j x (omega (arith, l, w)) b z Z o) h
     (subst (λ (vs : List Crossed). IsListed vs h) (sym e) (A k h a y X)) y X i
 
-pub end-some : (s : Set) (c : Complex) → ShowsSet s c → (ray : Ray) (x : Change) → InFrame (place_of ray.from) → Germ s (place_of ray.from) (vector_of ray.along) ray.before
+pub end-some : (s : Set) (c : Complex) → ShowsSet s c → (ray : RayStart) (x : Change) → InFrame (place_of ray.from) → Germ s (place_of ray.from) (vector_of ray.along) ray.before
     → IsAlong ray x → IsChangeOf s (vector_of ray.along) ray.before x.end → AllSeen s c (place_of ray.from) (vector_of ray.along) ray.before (Some x)
     → IsRayEnd s (place_of ray.from) (vector_of ray.along) (place_of x.end.point) x.end.after x.end.label
 end-some s c S ray x inside germ M E A =

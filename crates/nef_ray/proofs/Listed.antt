@@ -13,15 +13,15 @@ use Rattle.nef_edges.proofs.Places.{at-some}
 use Rattle.nef_complex.proofs.Reading.{read-at}
 use Rattle.nef_locate.proofs.Reading.{next-all}
 use Rattle.nef_ray.specs.declared.crossed.Crossed.{Crossed}
-use Rattle.nef_ray.specs.declared.ray.Ray.{Ray}
+use Rattle.nef_ray.specs.declared.ray.RayStart.{RayStart}
 use Rattle.nef_ray.specs.Changes.{IsListed, AreAllCrossed}
 
 -- a plane that the ray crosses is among those crossed
-abbrev pub CrossedListed : Ray → List Crossed → Plane → Type 0
+abbrev pub CrossedListed : RayStart → List Crossed → Plane → Type 0
 CrossedListed ray xs h = (y : Place) → IsCrossing (place_of ray.from) (vector_of ray.along) (form_of h) y → IsListed xs h
 
 -- each of the first n planes is
-abbrev pub AreFirstCrossed : List Plane → Ray → ℕ → List Crossed → Type 0
+abbrev pub AreFirstCrossed : List Plane → RayStart → ℕ → List Crossed → Type 0
 AreFirstCrossed hs ray n xs = (k : ℕ) (h : Plane) → k < n → At hs k h → CrossedListed ray xs h
 
 -- one more is listed
@@ -32,7 +32,7 @@ pub listed-last : (xs : List Crossed) (x : Crossed) → IsListed (xs ++ x ∷ []
 listed-last xs x = (x, Contains-push xs x, refl)
 
 -- a sort keeps them
-pub sorted-kept : (hs : List Plane) (ray : Ray) (xs zs : List Crossed) → IsPermutation xs zs → AreAllCrossed hs ray xs → AreAllCrossed hs ray zs
+pub sorted-kept : (hs : List Plane) (ray : RayStart) (xs zs : List Crossed) → IsPermutation xs zs → AreAllCrossed hs ray xs → AreAllCrossed hs ray zs
 sorted-kept hs ray xs zs moved A k h a y X = let l = A k h a y X in (l.0, Contains-permutation xs zs l.0 moved l.1, l.2)
 
 -- what holds of all those listed holds of all that are crossed

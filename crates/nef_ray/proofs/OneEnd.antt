@@ -15,7 +15,7 @@ use Rattle.law_near.proofs.Flats.{vector-same, germ-toward}
 use Rattle.law_near.proofs.Germs.{Label-cells, label-one, Germ-unique}
 use Rattle.law_near.proofs.Rays.{signs-same, same-place_sym, Germ-same}
 use Rattle.law_sphere.proofs.Around.{Beside, same_way, other_way, beside}
-use Rattle.law_sphere.proofs.Compare.{SameDirection-turned, SameDirection-trans, way-self}
+use Rattle.law_sphere.proofs.Compare.{SameDirection-turned, SameDirection-trans, dir-self}
 use Rattle.law_complex.proofs.FacetEdges.{ahead-back}
 use Rattle.law_complex.proofs.Ways.{between-outer, same-itself}
 use Rattle.nef_complex.proofs.Lines.{on_line}
@@ -73,7 +73,7 @@ module _ (s : Set) (p : Place) (d : Vector) where
       by false false h i = (refl, label-one s q l m h (label m i))
       by false true h (i, g) = absurd (E.other (label-one s q l E.before h (subst (HasLabel s q) one (label F.before i))))
       by true false (h, g) i = absurd (F.other (label-one s q m F.before (label m i) (subst (HasLabel s q) (sym one) h)))
-      by true true (h, g) (i, f) = (refl, Germ-unique s q d l m g (Germ-same s r q d d m (same-place_sym q r e) (way-self d (direction-left d (toward p q) (SameDirection-turned (toward p q) d E.ahead))) f))
+      by true true (h, g) (i, f) = (refl, Germ-unique s q d l m g (Germ-same s r q d d m (same-place_sym q r e) (dir-self d (direction-left d (toward p q) (SameDirection-turned (toward p q) d E.ahead))) f))
 
 pub one-end : OneRayEnd
 one-end s p d q r a b l m E F = ⊎_elim

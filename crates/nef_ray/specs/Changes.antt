@@ -14,13 +14,13 @@ use Rattle.nef_geo.specs.declared.hit.Hit.{Hit}
 use Rattle.nef_geo.specs.declared.plane.Plane.{Plane}
 use Rattle.law_sphere.specs.Maps.{At}
 use Rattle.nef_ray.specs.declared.crossed.Crossed.{Crossed}
-use Rattle.nef_ray.specs.declared.ray.Ray.{Ray}
+use Rattle.nef_ray.specs.declared.ray.RayStart.{RayStart}
 use Rattle.nef_ray.specs.declared.ray.RayEnd.{RayEnd}
 use Rattle.nef_ray.specs.declared.nearer.Change.{Change}
 use Rattle.nef_ray.specs.Ends.{Changes}
 
 -- the numbers of the ray are within its limits
-pub record IsSmall (ray : Ray) : Type 0 where
+pub record IsSmall (ray : RayStart) : Type 0 where
   pub start : IsPlaceAtMost ray_point_limit ray_weight_limit (place_of ray.from)
   pub direction : IsAtMost ray_direction_limit (vector_of ray.along)
 
@@ -34,7 +34,7 @@ pub record IsChangeOf (s : Set) (d : Vector) (m : Label) (e : RayEnd) : Type 0 w
   pub changes : Changes s (place_of e.point) d m e.after e.label
 
 -- the hit stands at its step along the ray, and is the point of the change
-pub record IsAlong (ray : Ray) (x : Change) : Type 0 where
+pub record IsAlong (ray : RayStart) (x : Change) : Type 0 where
   pub reached : IsReached (place_of ray.from) (vector_of ray.along) x.at.num x.at.den x.at.den_sign (hit_place x.at)
   pub ahead : IsAhead (place_of ray.from) (vector_of ray.along) (hit_place x.at)
   pub same : SamePlace (hit_place x.at) (place_of x.end.point)
@@ -54,7 +54,7 @@ abbrev pub IsListed : List Crossed → Plane → Type 0
 IsListed xs h = (x : Crossed) × Contains xs x × (x.plane ≡ h)
 
 -- each plane of the list that the ray crosses is among those crossed
-abbrev pub AreAllCrossed : List Plane → Ray → List Crossed → Type 0
+abbrev pub AreAllCrossed : List Plane → RayStart → List Crossed → Type 0
 AreAllCrossed hs ray xs = (k : ℕ) (h : Plane) → At hs k h → (y : Place) → IsCrossing (place_of ray.from) (vector_of ray.along) (form_of h) y → IsListed xs h
 
 -- one crossing has the smaller step

@@ -9,7 +9,7 @@ ghost use Rattle.nef_complex.specs.Complexes.{ShowsSet};
 ghost use Rattle.nef_ray.specs.Changes.{IsUnchanged, IsChangeOf};
 
 use crate::OutOfMemory;
-use crate::ray::{Ray, RayEnd};
+use crate::ray::{RayEnd, RayStart};
 use nef_complex::Complex;
 use nef_geo::{Dir, Label, Point};
 use nef_locate::{local_map, locate, place_label};
@@ -44,7 +44,7 @@ pub(crate) fn label_after(
 pub(crate) fn change_at(
     alloc: Global,
     c: &Complex,
-    ray: &Ray,
+    ray: &RayStart,
     q: &Point,
 ) -> Result<Option<RayEnd>, OutOfMemory>
     requires shows { (s : Set) × ShowsSet s c.now }

@@ -4,7 +4,7 @@ ghost use Rattle.std.specs.Prelude.{IfOk, IsSortedBy};
 ghost use Rattle.nef_ray.specs.Changes.{IsSmall, AreAllCrossed, crossed_lt};
 
 use crate::OutOfMemory;
-use crate::ray::Ray;
+use crate::ray::RayStart;
 use nef_complex::Complex;
 use nef_geo::{Hit, Plane, hit_order, ray_hit};
 use std::alloc::Global;
@@ -17,7 +17,7 @@ pub(crate) struct Crossed {
 }
 
 // The carriers that the ray crosses.
-fn all_crossed(alloc: Global, c: &Complex, ray: &Ray) -> Result<Vec<Crossed>, OutOfMemory>
+fn all_crossed(alloc: Global, c: &Complex, ray: &RayStart) -> Result<Vec<Crossed>, OutOfMemory>
     requires small { IsSmall ray.now }
     ensures all { IfOk result (λ v. AreAllCrossed c.now.carriers ray.now v.items) }
 {
@@ -35,7 +35,7 @@ fn all_crossed(alloc: Global, c: &Complex, ray: &Ray) -> Result<Vec<Crossed>, Ou
 pub(crate) fn sorted_crossed(
     alloc: Global,
     c: &Complex,
-    ray: &Ray,
+    ray: &RayStart,
 ) -> Result<Vec<Crossed>, OutOfMemory>
     requires small { IsSmall ray.now }
     ensures all { IfOk result (λ v. AreAllCrossed c.now.carriers ray.now v.items) }

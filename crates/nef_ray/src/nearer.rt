@@ -12,7 +12,7 @@ ghost use Rattle.nef_ray.specs.Changes.{IsSmall, IsUnchanged, IsAlong, IsChangeO
 use crate::OutOfMemory;
 use crate::change::change_at;
 use crate::crossing::crossing;
-use crate::ray::{Ray, RayEnd};
+use crate::ray::{RayEnd, RayStart};
 use nef_complex::Complex;
 use nef_geo::{HALF_SIDE, Hit, Plane, Point, hit_order, ray_hit};
 use std::alloc::Global;
@@ -41,7 +41,7 @@ fn is_framed(p: &Point) -> bool
 }
 
 // Whether the hit lies before the change that was found, which it does where none was.
-fn is_sooner(ray: &Ray, hit: &Hit, best: &Option<Change>) -> bool
+fn is_sooner(ray: &RayStart, hit: &Hit, best: &Option<Change>) -> bool
     requires best { IfSome best.now (IsAlong ray.now) }
     requires reached { IsReached (place_of ray.now.from) (vector_of ray.now.along) hit.now.num hit.now.den hit.now.den_sign (hit_place hit.now) }
     ensures sooner { IsTrue result ↔ IsSooner (vector_of ray.now.along) hit.now best.now }
@@ -61,7 +61,7 @@ fn is_sooner(ray: &Ray, hit: &Hit, best: &Option<Change>) -> bool
 pub(crate) fn nearer(
     alloc: Global,
     c: &Complex,
-    ray: &Ray,
+    ray: &RayStart,
     h: &Plane,
     best: Option<Change>,
 ) -> Result<Option<Change>, OutOfMemory>

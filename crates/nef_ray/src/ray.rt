@@ -29,7 +29,7 @@ pub struct RayEnd {
 
 // A ray, and the label just after its start.
 #[derive(Debug, Clone, Copy)]
-pub(crate) struct Ray {
+pub(crate) struct RayStart {
     pub(crate) from: Point,
     pub(crate) along: Dir,
     pub(crate) before: Label,
@@ -45,7 +45,7 @@ pub fn ray_end(alloc: Global, c: &Complex, p: &Point, d: &Dir) -> Result<RayEnd,
     requires d_small { IsAtMost ray_direction_limit (vector_of d.now) }
     ensures end { IfOk result (λ e. (s : Set) → ShowsSet s c.now → IsRayEnd s (place_of p.now) (vector_of d.now) (place_of e.point) e.after e.label) }
 {
-    let ray = Ray {
+    let ray = RayStart {
         from: *p,
         along: *d,
         before: label_after(alloc, c, p, d)?,

@@ -5,9 +5,9 @@ use Rattle.nef_space.specs.Limits.{normal_limit, svertex_limit}
 use Rattle.nef_space.specs.Vectors.{Vector, IsDirection, IsAtMost, dot}
 use Rattle.law_cyclic.specs.Arcs.{IsOnCircle}
 use Rattle.nef_geo.specs.Shapes.{vector_of}
-use Rattle.law_sphere.specs.Maps.{At, arc_item, items, way_of}
+use Rattle.law_sphere.specs.Maps.{At, arc_item, items, dir_of}
 use Rattle.law_sphere.proofs.Vectors.{normal-is}
-use Rattle.law_sphere.proofs.Shot.{way-at}
+use Rattle.law_sphere.proofs.Shot.{dir-at}
 use Rattle.law_sphere.proofs.Arcs.{Ends, ends-of, at-arc}
 use Rattle.nef_smap.specs.declared.map.SVertex.{SVertex}
 use Rattle.nef_smap.specs.declared.map.SArc.{SArc}
@@ -27,7 +27,7 @@ map-at f (x ∷ xs) (suc k) y a = map-at f xs k y a
 
 -- what holds of the svertex at an end of an arc
 pub record EndOf (m : SphereMap) (a : SArc) (k : ℕ) (v : SVertex) : Type 0 where
-  pub way : way_of (map_of m).svertices k ≡ vector_of v.dir
+  pub dir : dir_of (map_of m).svertices k ≡ vector_of v.dir
   pub on : IsOnCircle (vector_of a.normal) (vector_of v.dir)
   pub small : IsAtMost svertex_limit (vector_of v.dir)
 
@@ -36,7 +36,7 @@ module _ (m : SphereMap) (S : IsSphereMap m) (i : ℕ) (a : SArc) (h : At (map_o
   ends = ends-of (map_of m) S.valid.shaped i (arc_of a) h
 
   listed : At (items (map_of m)) i (arc_item (arc_of a))
-  listed = at-arc (map_of m).arcs (map_of m).loop i (arc_of a) h
+  listed = at-arc (map_of m).arcs (map_of m).sloop i (arc_of a) h
 
   pub normal-direction : IsDirection (vector_of a.normal)
   normal-direction = normal-is S.valid.shaped i (arc_item (arc_of a)) listed
@@ -50,13 +50,13 @@ module _ (m : SphereMap) (S : IsSphereMap m) (i : ℕ) (a : SArc) (h : At (map_o
   pub target-within : a.target < length m.svertices
   target-within = let b = ends in let q = at-within (map svertex_of m.svertices) a.target b.target b.has_target in let e = length-map m.svertices svertex_of in omega arith
 
-  end-of : (k : ℕ) (v : SVertex) → slice_get m.svertices k ≡ Some v → dot (vector_of a.normal) (way_of (map_of m).svertices k) ≡ pos 0 → EndOf m a k v
+  end-of : (k : ℕ) (v : SVertex) → slice_get m.svertices k ≡ Some v → dot (vector_of a.normal) (dir_of (map_of m).svertices k) ≡ pos 0 → EndOf m a k v
   end-of k v e l =
       let b = at-map svertex_of m.svertices k v e in
-      let w = way-at (map svertex_of m.svertices) k (svertex_of v) b in
+      let w = dir-at (map svertex_of m.svertices) k (svertex_of v) b in
       record {
-        way = w;
-        on = record { direction = S.valid.shaped.svertex_ways k (svertex_of v) b; level = subst (λ (x : Vector). dot (vector_of a.normal) x ≡ pos 0) w l };
+        dir = w;
+        on = record { direction = S.valid.shaped.svertex_dirs k (svertex_of v) b; level = subst (λ (x : Vector). dot (vector_of a.normal) x ≡ pos 0) w l };
         small = S.small.svertices k (svertex_of v) b;
       }
 

@@ -8,7 +8,7 @@ use Rattle.law_forms.proofs.Far.{same-nought}
 use Rattle.nef_geo.specs.Signs.{sign_of}
 use Rattle.nef_geo.specs.declared.sign.Sign.{Sign as GeoSign}
 use Rattle.nef_geo.specs.declared.sign.Sign.TheVariants.{Minus, Zero, Plus}
-use Rattle.law_sphere.proofs.Labels.{way-signs}
+use Rattle.law_sphere.proofs.Labels.{dir-signs}
 use Rattle.nef_smap.proofs.CloseSigns.{geo-of, geo-one}
 use Rattle.nef_smap.proofs.Stands.{dot-opposite}
 
@@ -38,7 +38,7 @@ abbrev z_axis : Vector
 z_axis = vector (pos 0) (pos 0) (pos 1)
 
 axis-nought : (e a d : Vector) → IsDirection e → SameDirection e a → dot d a ≡ pos 0 → dot d e ≡ pos 0
-axis-nought e a d h w z = same-nought (dot d a) (dot d e) (sym (way-signs e a d h w)) z
+axis-nought e a d h w z = same-nought (dot d a) (dot d e) (sym (dir-signs e a d h w)) z
 
 -- a form that is nought along all axes is nought
 pub axes-nought : (d x y z : Vector) → SameDirection x_axis x → SameDirection y_axis y → SameDirection z_axis z → dot d x ≡ pos 0 → dot d y ≡ pos 0 → dot d z ≡ pos 0 → IsZero d

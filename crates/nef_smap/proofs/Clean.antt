@@ -4,7 +4,7 @@ use Rattle.std.proofs.lemmas.Int.{ints}
 use Rattle.law_arithmetic.proofs.Ring.{ring, at, num, ◌⊕◌, ◌⊖◌, ◌⊗◌}
 use Rattle.law_arithmetic.proofs.Order.{sign, by_order, mul_pos, sign-scaled}
 use Rattle.nef_space.specs.Vectors.{Vector, IsDirection, cross, dot, SameDirection}
-use Rattle.law_sphere.specs.Maps.{At, Svertex, Map, Item, items, item_normal, OnItem, IsFree, HasArc, Shaped}
+use Rattle.law_sphere.specs.Maps.{At, MapVertex, Map, Item, items, item_normal, OnItem, IsFree, HasArc, Shaped}
 use Rattle.law_sphere.specs.Forms.{Keeps, forms}
 use Rattle.law_sphere.proofs.Lists.{at-one}
 use Rattle.law_sphere.proofs.Places.{kept-plus}
@@ -16,11 +16,11 @@ use Rattle.nef_smap.proofs.Over.{Touches, meets, ends, touches-back, touches-on}
 use Rattle.nef_smap.proofs.Close.{Clean}
 
 -- no item touches a svertex without arcs
-pub lone-untouched : (M : Map) (V : Shaped M) (d : Vector) (i : ℕ) (v : Svertex) → At M.svertices i v → v.way ≡ d → (HasArc M i → ⊥) → (k : ℕ) (y : Item) → At (items M) k y → Touches M y d → ⊥
+pub lone-untouched : (M : Map) (V : Shaped M) (d : Vector) (i : ℕ) (v : MapVertex) → At M.svertices i v → v.dir ≡ d → (HasArc M i → ⊥) → (k : ℕ) (y : Item) → At (items M) k y → Touches M y d → ⊥
 lone-untouched M V d i v a e n k y b (meets p) = V.no_svertex_on_item i k v y a b (subst (OnItem M y) (sym e) p)
 lone-untouched M V d i v a e n k y b (ends j w r c s t x) =
-    let m = V.svertices_apart j i w v c a (subst (SameDirection w.way) (sym e) x) in
-    n (k, r, arc-at M.arcs M.loop k r (subst (At (items M) k) s b), ⊎_elim (λ p. inl (p ∙ m)) (λ p. inr (p ∙ m)) t)
+    let m = V.svertices_apart j i w v c a (subst (SameDirection w.dir) (sym e) x) in
+    n (k, r, arc-at M.arcs M.sloop k r (subst (At (items M) k) s b), ⊎_elim (λ p. inl (p ∙ m)) (λ p. inr (p ∙ m)) t)
 
 module _ (M : Map) (V : Shaped M) (u : Vector) (ahead : (k : ℕ) (x : Item) → At (items M) k x → pos 0 <ℤ dot (item_normal x) u) (d z : Vector) (near : Keeps (over_forms M u) d z) where
   -- the meet with a plane that holds d keeps the signs of d
@@ -50,8 +50,8 @@ module _ (M : Map) (V : Shaped M) (u : Vector) (ahead : (k : ℕ) (x : Item) →
         let c = subst (λ (r : Item). pos 0 <ℤ dot (item_normal r) z) w h in
         let l = o.below in omega (arith, ints)
 
-    pub lone-clean : (i : ℕ) (v : Svertex) → At M.svertices i v → v.way ≡ d → (HasArc M i → ⊥) → Clean M V u ahead d f z
-    lone-clean i v a e n k y b q o = lone-untouched M V d i v a e n k y b (over-at (subst IsDirection e (V.svertex_ways i v a)) k y b q o)
+    pub lone-clean : (i : ℕ) (v : MapVertex) → At M.svertices i v → v.dir ≡ d → (HasArc M i → ⊥) → Clean M V u ahead d f z
+    lone-clean i v a e n k y b q o = lone-untouched M V d i v a e n k y b (over-at (subst IsDirection e (V.svertex_dirs i v a)) k y b q o)
 
   -- below a direction on an item that item is first
   pub lower-first : (i : ℕ) (x : Item) → At (items M) i x → OnItem M x d → dot (item_normal x) z <ℤ pos 0 → IsFirstItem M u z i

@@ -7,14 +7,14 @@ use Rattle.law_arithmetic.proofs.Order.{sign, by_order, mul_pos}
 use Rattle.nef_space.specs.Vectors.{Vector, IsDirection, cross, dot, SameDirection}
 use Rattle.law_forms.proofs.Directions.{self-pos}
 use Rattle.law_forms.proofs.Far.{same-nought}
-use Rattle.law_sphere.specs.Maps.{At, Svertex, Map, Item, items, item_normal, Shaped}
+use Rattle.law_sphere.specs.Maps.{At, MapVertex, Map, Item, items, item_normal, Shaped}
 use Rattle.law_sphere.specs.Forms.{Keeps}
 use Rattle.law_sphere.proofs.Vectors.{same-plus, same-minus}
 use Rattle.law_sphere.proofs.Lists.{at-one}
 use Rattle.law_sphere.proofs.Places.{kept-plus, kept-minus}
 use Rattle.law_sphere.proofs.Forms.{item-forms, normal-form, OnItem-stays, OnItem-by_signs}
 use Rattle.law_sphere.proofs.Direct.{IsZero-times, cross-self}
-use Rattle.law_sphere.proofs.Labels.{way-signs}
+use Rattle.law_sphere.proofs.Labels.{dir-signs}
 use Rattle.nef_smap.specs.Above.{rise, over_forms, IsOver, IsFirst, IsFirstItem}
 use Rattle.nef_smap.proofs.Rise.{rise-is, rise-level, rise_form-value, rise-keeps, form-over, meridian-over}
 use Rattle.nef_smap.proofs.Over.{Touches, meets, ends, touches-back, touches-on, rises-together}
@@ -79,7 +79,7 @@ rise-over u n d v h l f hv w =
     ∙ ring (dot n u ∷ dot m m ∷ dot n d ∷ []) (at 0 ⊗ num (pos 0) ⊕ (num (pos 0) ⊖ at 1) ⊗ at 2) ((num (pos 0) ⊖ at 2) ⊗ at 1) tt in
     let rm : dot m r ≡ pos 0 = value m ∙ ap (λ z. dot n u *ℤ z +ℤ (pos 0 -ℤ dot m u) *ℤ dot n d) (cross-last u d) ∙ ap (λ z. dot n u *ℤ pos 0 +ℤ (pos 0 -ℤ z) *ℤ dot n d) (cross-self u d)
     ∙ ring (dot n u ∷ dot n d ∷ []) (at 0 ⊗ num (pos 0) ⊕ (num (pos 0) ⊖ num (pos 0)) ⊗ at 1) (num (pos 0)) tt in
-    let same = λ (g : Vector). way-signs v r g hv w in
+    let same = λ (g : Vector). dir-signs v r g hv w in
     let pa = mul_pos (dot n u) (dot m m) h ll in
     let pb = mul_pos (pos 0 -ℤ dot n d) (dot m m) (omega (arith, ints)) ll in
     record {
@@ -94,8 +94,8 @@ module _ (M : Map) (V : Shaped M) (u : Vector) (ahead : (k : ℕ) (x : Item) →
   Clean e = (k : ℕ) (x : Item) → At (items M) k x → dot (item_normal x) d ≡ pos 0 → IsOver M u x e → ⊥
 
   -- a svertex that ends an item over d
-  pub end-over : (k j : ℕ) (x : Item) (v : Svertex) → At (items M) k x → At M.svertices j v → dot (item_normal x) d <ℤ pos 0 → SameDirection v.way (rise u (item_normal x) d) → LiesOver u d v.way
-  end-over k j x v a b l w = rise-over u (item_normal x) d v.way (ahead k x a) l f (V.svertex_ways j v b) w
+  pub end-over : (k j : ℕ) (x : Item) (v : MapVertex) → At (items M) k x → At M.svertices j v → dot (item_normal x) d <ℤ pos 0 → SameDirection v.dir (rise u (item_normal x) d) → LiesOver u d v.dir
+  end-over k j x v a b l w = rise-over u (item_normal x) d v.dir (ahead k x a) l f (V.svertex_dirs j v b) w
 
   module _ (e : Vector) (near : Keeps (over_forms M u) d e) (clean : Clean e) where
     near-normal : (k : ℕ) (x : Item) → At (items M) k x → (dot (item_normal x) d ≡ pos 0 → ⊥) → sign (dot (item_normal x) e) ≡ sign (dot (item_normal x) d)
@@ -112,7 +112,7 @@ module _ (M : Map) (V : Shaped M) (u : Vector) (ahead : (k : ℕ) (x : Item) →
         (rise-direction u (item_normal x) d (ahead k x a) f) o.on
 
     -- nothing meets or ends over d: nothing lies over e
-    pub none-near : IsFirst M u d None → ((k : ℕ) (v : Svertex) → At M.svertices k v → LiesOver u d v.way → ⊥) → IsFirst M u e None
+    pub none-near : IsFirst M u d None → ((k : ℕ) (v : MapVertex) → At M.svertices k v → LiesOver u d v.dir → ⊥) → IsFirst M u e None
     none-near n s k x a o = by (over-touches k x a o)
       where
         by : Touches M x (rise u (item_normal x) d) → ⊥
@@ -120,7 +120,7 @@ module _ (M : Map) (V : Shaped M) (u : Vector) (ahead : (k : ℕ) (x : Item) →
         by (ends j v r b q t w) = s j v b (end-over k j x v a b (over-below k x a o) w)
 
     -- an item meets before anything ends
-    pub first-near : (i : ℕ) (F : IsFirstItem M u d i) → ((k : ℕ) (v : Svertex) → At M.svertices k v → LiesOver u d v.way → dot (item_normal F.item) v.way <ℤ pos 0 → ⊥) → IsFirstItem M u e i
+    pub first-near : (i : ℕ) (F : IsFirstItem M u d i) → ((k : ℕ) (v : MapVertex) → At M.svertices k v → LiesOver u d v.dir → dot (item_normal F.item) v.dir <ℤ pos 0 → ⊥) → IsFirstItem M u e i
     first-near i F s = record {
       item = F.item;
       listed = F.listed;
@@ -151,7 +151,7 @@ module _ (M : Map) (V : Shaped M) (u : Vector) (ahead : (k : ℕ) (x : Item) →
 
             lower : dot m r <ℤ pos 0 → Touches M y r → ⊥
             lower l (meets p) = let c = F.first k y a (record { below = over-below k y a o; on = p }) in omega (arith, ints)
-            lower l (ends j v q b g w z) = s j v b (end-over k j y v a b (over-below k y a o) z) (same-minus (dot m r) (dot m v.way) (sym (way-signs v.way r m (V.svertex_ways j v b) z)) l)
+            lower l (ends j v q b g w z) = s j v b (end-over k j y v a b (over-below k y a o) z) (same-minus (dot m r) (dot m v.dir) (sym (dir-signs v.dir r m (V.svertex_dirs j v b) z)) l)
 
             level : dot m r ≡ pos 0 → pos 0 ≤ℤ dot m (rise u (item_normal y) e)
             level z =

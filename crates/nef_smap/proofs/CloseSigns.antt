@@ -13,7 +13,7 @@ use Rattle.nef_smap.specs.declared.above.Lean.{Lean}
 use Rattle.nef_smap.specs.declared.above.Lean.TheVariants.{Down, Up, Along}
 use Rattle.nef_smap.specs.Above.{rise_form, first_sign}
 use Rattle.nef_smap.specs.Close.{geo_sign, toward, then_toward, close_sign, ArcPasses}
-use Rattle.law_sphere.specs.Maps.{way_of}
+use Rattle.law_sphere.specs.Maps.{dir_of}
 use Rattle.nef_smap.specs.declared.map.SVertex.{SVertex}
 use Rattle.nef_smap.specs.Maps.{svertex_of}
 use Rattle.nef_smap.proofs.Rise.{rise_form-value}
@@ -101,7 +101,7 @@ passes-alike nought A A' B B' C C' a b c = (λ p. ⊎_elim (λ x. inl (c.0 x)) (
 pub sign-test : (T : Type 0) (r : GeoSign) (s t : Sign) → (T ↔ (r ≡ geo_sign t)) → r ≡ geo_sign s → T ↔ (s ≡ t)
 sign-test T r s t d e = (λ h. geo-one s t (sym e ∙ d.0 h), λ h. d.1 (e ∙ ap geo_sign h))
 
-pub way-from_get : (vs : List SVertex) (k : ℕ) (v : SVertex) → slice_get vs k ≡ Some v → way_of (map svertex_of vs) k ≡ vector_of v.dir
-way-from_get [] k v e = cc
-way-from_get (w ∷ vs) zero v e = let f : w ≡ v = cc in ap (λ (r : SVertex). vector_of r.dir) f
-way-from_get (w ∷ vs) (suc k) v e = way-from_get vs k v e
+pub dir-from_get : (vs : List SVertex) (k : ℕ) (v : SVertex) → slice_get vs k ≡ Some v → dir_of (map svertex_of vs) k ≡ vector_of v.dir
+dir-from_get [] k v e = cc
+dir-from_get (w ∷ vs) zero v e = let f : w ≡ v = cc in ap (λ (r : SVertex). vector_of r.dir) f
+dir-from_get (w ∷ vs) (suc k) v e = dir-from_get vs k v e

@@ -9,12 +9,12 @@ use Rattle.nef_space.specs.declared.label.Label.{Label}
 use Rattle.law_near.proofs.Decided.{Decided}
 use Rattle.law_forms.proofs.Directions.{self-pos}
 use Rattle.law_forms.proofs.Far.{same-off, same-nought}
-use Rattle.law_sphere.specs.Maps.{At, Svertex, Map, Item, items, item_normal, Side, Shaped}
+use Rattle.law_sphere.specs.Maps.{At, MapVertex, Map, Item, items, item_normal, Side, Shaped}
 use Rattle.law_sphere.specs.Forms.{Keeps}
 use Rattle.law_sphere.proofs.Vectors.{same-plus, same-minus, negative-or}
 use Rattle.law_sphere.proofs.Forms.{item-forms, normal-form}
 use Rattle.law_sphere.proofs.Direct.{cross-self}
-use Rattle.law_sphere.proofs.Labels.{way-signs}
+use Rattle.law_sphere.proofs.Labels.{dir-signs}
 use Rattle.nef_smap.specs.Above.{rise, meridians, over_forms, IsFirst, IsFirstItem, first_sign, Stands}
 use Rattle.nef_smap.specs.Joined.{met, FirstNear, BelowFirsts}
 use Rattle.nef_smap.proofs.Rise.{rise-is, rise_form-value, meridian-level, form-over, meridian-over, svertex-meridian, meridians-same}
@@ -76,12 +76,12 @@ module _ (M : Map) (V : Shaped M) (u : Vector) (ahead : (k : ℕ) (x : Item) →
       by (inr n) b = inr (λ c. n c.0)
 
   abbrev Lowest : (r : Option ℕ) → IsFirst M u d r → Type 0
-  Lowest r F = Least (λ (v : Svertex). share_u u d v.way) (λ (v : Svertex). share_d u d v.way) M.svertices (λ k v. Candidate r F v.way)
+  Lowest r F = Least (λ (v : MapVertex). share_u u d v.dir) (λ (v : MapVertex). share_d u d v.dir) M.svertices (λ k v. Candidate r F v.dir)
 
   -- ---- w is the lowest svertex over d, before the first item
   module _ (r : Option ℕ) (F : IsFirst M u d r) (w : Lowest r F) where
     abbrev way : Vector
-    way = w.element.way
+    way = w.element.dir
 
     over-w : LiesOver u d way
     over-w = let h = w.holds in h.0
@@ -99,14 +99,14 @@ module _ (M : Map) (V : Shaped M) (u : Vector) (ahead : (k : ℕ) (x : Item) →
         above : pos 0 <ℤ (share_d u d way *ℤ dot n d +ℤ share_u u d way *ℤ dot n u)
         above = let p = mul_pos ll (dot n way) some-ll gt in let e = value n in omega (arith, ints)
 
-        too_low : (j : ℕ) (v : Svertex) → At M.svertices j v → SameDirection v.way (rise u n d) → (share_u u d way *ℤ share_d u d v.way) ≤ℤ (share_u u d v.way *ℤ share_d u d way) → ⊥
+        too_low : (j : ℕ) (v : MapVertex) → At M.svertices j v → SameDirection v.dir (rise u n d) → (share_u u d way *ℤ share_d u d v.dir) ≤ℤ (share_u u d v.dir *ℤ share_d u d way) → ⊥
         too_low j v b q le =
             let o = end-over M V u ahead d f k j z v a b lt q in
-            let e = over-value u d v.way n o.level in
+            let e = over-value u d v.dir n o.level in
             let i = touches-level M V k z (rise u n d) a t in
-            let y = ap (λ s. ll *ℤ s) (same-nought (dot n (rise u n d)) (dot n v.way) (sym (way-signs v.way (rise u n d) n (V.svertex_ways j v b) q)) i) in
+            let y = ap (λ s. ll *ℤ s) (same-nought (dot n (rise u n d)) (dot n v.dir) (sym (dir-signs v.dir (rise u n d) n (V.svertex_dirs j v b) q)) i) in
             let x = ring (ll ∷ []) (at 0 ⊗ num (pos 0)) (num (pos 0)) tt in
-            let c = lower-end (share_d u d way) (share_u u d way) (share_d u d v.way) (share_u u d v.way) (dot n d) (dot n u) over-w.of_d o.of_d (ahead k z a) above (omega (arith, ints)) in
+            let c = lower-end (share_d u d way) (share_u u d way) (share_d u d v.dir) (share_u u d v.dir) (dot n d) (dot n u) over-w.of_d o.of_d (ahead k z a) above (omega (arith, ints)) in
             omega (arith, ints)
 
         -- where the first item is i, what is met at the plane is before it
@@ -119,7 +119,7 @@ module _ (M : Map) (V : Shaped M) (u : Vector) (ahead : (k : ℕ) (x : Item) →
             let c = lower-meet (share_d u d way) (share_u u d way) (dot n d) (dot n u) (dot m d) (dot m u) over-w.of_d (ahead k z a) (ahead i F.item F.listed) above (omega (arith, ints)) in
             subst (λ (s : ℤ). s <ℤ pos 0) (sym (rise-is u n m d ∙ rise_form-value u n m d)) c
 
-        by : (r : Option ℕ) (F : IsFirst M u d r) → Before r F way → ((j : ℕ) (v : Svertex) → At M.svertices j v → Candidate r F v.way → (share_u u d way *ℤ share_d u d v.way) ≤ℤ (share_u u d v.way *ℤ share_d u d way))
+        by : (r : Option ℕ) (F : IsFirst M u d r) → Before r F way → ((j : ℕ) (v : MapVertex) → At M.svertices j v → Candidate r F v.dir → (share_u u d way *ℤ share_d u d v.dir) ≤ℤ (share_u u d v.dir *ℤ share_d u d way))
             → Touches M z (rise u n d) → ⊥
         by None F b low (meets p) = F k z a (record { below = lt; on = p })
         by None F b low (ends j v r c q g s) = too_low j v c s (low j v c (end-over M V u ahead d f k j z v a c lt s, tt))
@@ -128,7 +128,7 @@ module _ (M : Map) (V : Shaped M) (u : Vector) (ahead : (k : ℕ) (x : Item) →
             let m = item_normal F.item in
             too_low j v c s (low j v c (
               end-over M V u ahead d f k j z v a c lt s,
-              same-minus (dot m (rise u n d)) (dot m v.way) (sym (way-signs v.way (rise u n d) m (V.svertex_ways j v c) s)) (lower i F b),
+              same-minus (dot m (rise u n d)) (dot m v.dir) (sym (dir-signs v.dir (rise u n d) m (V.svertex_dirs j v c) s)) (lower i F b),
             ))
 
     -- e lies close to d, and o close to w and below it
@@ -224,7 +224,7 @@ module _ (M : Map) (V : Shaped M) (u : Vector) (ahead : (k : ℕ) (x : Item) →
       same-side t q x = moved M u e o (meridians-same (meridians M u) u d e o f (meridian-level M u) (λ m i. near m (meridian-over M u m i)) near-o (t ∙ sym side-o)) alike q x
 
   -- ---- all that lies over directions close to d
-  module _ (G : Side → Label) (top : Label) (firsts : (k : ℕ) (v : Svertex) → At M.svertices k v → BelowFirsts M u v.way) (joins : (k : ℕ) (v : Svertex) (a : At M.svertices k v) → (let j = firsts k v a in met G top j.left ≡ met G top j.right)) where
+  module _ (G : Side → Label) (top : Label) (firsts : (k : ℕ) (v : MapVertex) → At M.svertices k v → BelowFirsts M u v.dir) (joins : (k : ℕ) (v : MapVertex) (a : At M.svertices k v) → (let j = firsts k v a in met G top j.left ≡ met G top j.right)) where
     abbrev pub AllMeet : Label → Type 0
     AllMeet c = (e : Vector) → Keeps (over_forms M u) d e → Clean M V u ahead d f e → (dot l e ≡ pos 0 → ⊥) → (q : Option ℕ) → IsFirst M u e q → met G top q ≡ c
 
@@ -235,17 +235,17 @@ module _ (M : Map) (V : Shaped M) (u : Vector) (ahead : (k : ℕ) (x : Item) →
         at-svertex : (r : Option ℕ) (F : IsFirst M u d r) → Lowest r F → (c : Label) × AllMeet c
         at-svertex r F w = (met G top j.left, λ e near clean g q x. one e near clean g q x)
           where
-            j : BelowFirsts M u w.element.way
+            j : BelowFirsts M u w.element.dir
             j = firsts w.number w.element w.listed
 
             m : Vector
-            m = cross u w.element.way
+            m = cross u w.element.dir
 
-            met-at : (e : Vector) → Keeps (over_forms M u) d e → Clean M V u ahead d f e → (c : Vector) → sign (dot l e) ≡ sign (dot m c) → (k : Option ℕ) → FirstNear M u w.element.way (opposite u) c k
+            met-at : (e : Vector) → Keeps (over_forms M u) d e → Clean M V u ahead d f e → (c : Vector) → sign (dot l e) ≡ sign (dot m c) → (k : Option ℕ) → FirstNear M u w.element.dir (opposite u) c k
                 → (q : Option ℕ) → IsFirst M u e q → met G top q ≡ met G top k
             met-at e near clean c t k first q x =
-                let o = stand (over_forms M u) w.element.way (opposite u) c in
-                let s = stands (over_forms M u) w.element.way (opposite u) c in
+                let o = stand (over_forms M u) w.element.dir (opposite u) c in
+                let s = stands (over_forms M u) w.element.dir (opposite u) c in
                 ap (met G top) (first-one M V u ahead o q k (same-side r F w e near clean c o s t q x) (first o s))
 
             sides : (x y : ℤ) → (x ≡ pos 0 → ⊥) → (y ≡ pos 0 → ⊥) → (sign x ≡ sign y) ⊎ (sign x ≡ sign (pos 0 -ℤ y))
@@ -261,10 +261,10 @@ module _ (M : Map) (V : Shaped M) (u : Vector) (ahead : (k : ℕ) (x : Item) →
                 (sides (dot l e) (dot m j.aside) g j.off)
 
         -- no svertex is first
-        no_svertex : (r : Option ℕ) (F : IsFirst M u d r) → ((k : ℕ) (v : Svertex) → At M.svertices k v → Candidate r F v.way → ⊥) → (c : Label) × AllMeet c
+        no_svertex : (r : Option ℕ) (F : IsFirst M u d r) → ((k : ℕ) (v : MapVertex) → At M.svertices k v → Candidate r F v.dir → ⊥) → (c : Label) × AllMeet c
         no_svertex None F n = (top, λ e near clean g q x. ap (met G top) (first-one M V u ahead e q None x (none-near M V u ahead d f e near clean F (λ k v a o. n k v a (o, tt)))))
         no_svertex (Some i) F n = (met G top (Some i), λ e near clean g q x. ap (met G top) (first-one M V u ahead e q (Some i) x (first-near M V u ahead d f e near clean i F (λ k v a o b. n k v a (o, b)))))
 
         by : (r : Option ℕ) × IsFirst M u d r → (c : Label) × AllMeet c
         by (r, F) = ⊎_elim (λ w. at-svertex r F w) (λ n. no_svertex r F n)
-            (least_or (λ (v : Svertex). share_u u d v.way) (λ (v : Svertex). share_d u d v.way) M.svertices (λ k v. Candidate r F v.way) (λ k v. candidate-decided r F v.way) (λ k v a c. let o = c.0 in o.of_d))
+            (least_or (λ (v : MapVertex). share_u u d v.dir) (λ (v : MapVertex). share_d u d v.dir) M.svertices (λ k v. Candidate r F v.dir) (λ k v. candidate-decided r F v.dir) (λ k v a c. let o = c.0 in o.of_d))

@@ -10,7 +10,7 @@ use Rattle.law_near.proofs.FlatDecided.{triple-in_plane}
 use Rattle.law_near.proofs.Meets.{cross-none}
 use Rattle.law_forms.proofs.Directions.{dot-zero, square_pos}
 use Rattle.law_forms.proofs.Far.{nought-or, same-off}
-use Rattle.law_sphere.specs.Maps.{At, Svertex, Map, Item, items, item_normal, OnItem, IsClear, Shaped}
+use Rattle.law_sphere.specs.Maps.{At, MapVertex, Map, Item, items, item_normal, OnItem, IsClear, Shaped}
 use Rattle.law_sphere.specs.Forms.{Keeps, forms, gather}
 use Rattle.law_sphere.proofs.Vectors.{dot-comb, normal-is, direction-by, same-plus, same-minus}
 use Rattle.law_sphere.proofs.Generic.{amount, far-keeps, far-level}
@@ -31,13 +31,13 @@ bound-of {A} (y ∷ ys) g = let r = bound-of ys g in (g y + r.0, by r.0 r.1)
     by n h zero x e = subst (λ (r : A). g r ≤ g y + n) e (omega arith)
     by n h (suc k) x a = let q = h k x a in omega arith
 
-module _ (M : Map) (V : Shaped M) (k : ℕ) (v : Svertex) (a : At M.svertices k v) (d f : Vector) (way : IsClear M d v.way) (wide : triple v.way d f ≡ pos 0 → ⊥)
-    (none : (i j : ℕ) → 0 < i → 0 < j → (r : ArcRay M k) → SameDirection (ray_left r) (cross v.way (blend i d j f)) → ⊥) where
+module _ (M : Map) (V : Shaped M) (k : ℕ) (v : MapVertex) (a : At M.svertices k v) (d f : Vector) (way : IsClear M d v.dir) (wide : triple v.dir d f ≡ pos 0 → ⊥)
+    (none : (i j : ℕ) → 0 < i → 0 < j → (r : ArcRay M k) → SameDirection (ray_left r) (cross v.dir (blend i d j f)) → ⊥) where
   abbrev p : Vector
-  p = v.way
+  p = v.dir
 
   abbrev crosses : List Vector
-  crosses = gather (λ (u : Svertex). cross d u.way ∷ []) M.svertices
+  crosses = gather (λ (u : MapVertex). cross d u.dir ∷ []) M.svertices
 
   abbrev bend : Item → Vector
   bend x = slid (item_normal x) d f
@@ -62,17 +62,17 @@ module _ (M : Map) (V : Shaped M) (k : ℕ) (v : Svertex) (a : At M.svertices k 
     apart : IsDirection (cross d c)
     apart z = wide (sym turn ∙ dot-zero p (cross d c) z)
 
-    off_svertex : (l : ℕ) (u : Svertex) → At M.svertices l u → IsDirection (cross d u.way) → dot (cross d u.way) c ≡ pos 0 → ⊥
+    off_svertex : (l : ℕ) (u : MapVertex) → At M.svertices l u → IsDirection (cross d u.dir) → dot (cross d u.dir) c ≡ pos 0 → ⊥
     off_svertex l u b h z = ⊎_elim
         (λ y.
         let e = far-level crosses p f number (omega arith) g y in
         let o : dot g f ≡ pos 0 = nought-is (dot g f) (sym e ∙ ap sign z) in
-        wide (triple-in_plane g p d f h y (cross-self d u.way) o))
-        (λ n. same-off (dot g p) (dot g c) (far-keeps crosses p f number (omega arith) g (gather-has (λ (u : Svertex). cross d u.way ∷ []) M.svertices l u g b (inl refl)) n) n z)
+        wide (triple-in_plane g p d f h y (cross-self d u.dir) o))
+        (λ n. same-off (dot g p) (dot g c) (far-keeps crosses p f number (omega arith) g (gather-has (λ (u : MapVertex). cross d u.dir ∷ []) M.svertices l u g b (inl refl)) n) n z)
         (nought-or (dot g p))
       where
         g : Vector
-        g = cross d u.way
+        g = cross d u.dir
 
     module _ (i j : ℕ) (si : 0 < i) (sj : 0 < j) where
       abbrev w : Vector
@@ -227,11 +227,11 @@ module _ (M : Map) (V : Shaped M) (k : ℕ) (v : Svertex) (a : At M.svertices k 
       short = λ o. apart o.parallel;
       between = λ i j si sj. record {
         direction = between-direction d c i j sj apart;
-        off_svertices = λ l u b m. miss-between d u.way c i j sj (V.svertex_ways l u b) (off_svertex l u b) apart m;
+        off_svertices = λ l u b m. miss-between d u.dir c i j sj (V.svertex_dirs l u b) (off_svertex l u b) apart m;
         off_items = λ l x h o. unmet i j si sj l x h o;
       };
     }
 
   -- from some number on
-  pub far-way : (n : ℕ) × ((number : ℕ) → n ≤ number → IsClear M d (blend number v.way 1 f))
+  pub far-way : (n : ℕ) × ((number : ℕ) → n ≤ number → IsClear M d (blend number v.dir 1 f))
   far-way = (enough, λ number large. far-clear number large)

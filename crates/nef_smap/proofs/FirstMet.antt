@@ -6,7 +6,7 @@ use Rattle.law_arithmetic.proofs.Combination.{follows, given, none}
 use Rattle.law_arithmetic.proofs.Order.{sign, by_order, mul_pos, mul_nonneg, square_nonneg, sign-scaled}
 use Rattle.nef_space.specs.Vectors.{Vector, IsDirection, cross, dot, blend}
 use Rattle.law_forms.proofs.Directions.{square_pos}
-use Rattle.law_sphere.specs.Maps.{At, Svertex, Map, Item, items, item_normal, OnItem, IsFree, IsClear, Shaped}
+use Rattle.law_sphere.specs.Maps.{At, MapVertex, Map, Item, items, item_normal, OnItem, IsFree, IsClear, Shaped}
 use Rattle.law_sphere.proofs.Vectors.{dot-comb, direction-by, same-plus, same-minus}
 use Rattle.law_sphere.proofs.Forms.{on-level, on-direction, OnItem-by_signs}
 use Rattle.law_sphere.proofs.Parallel.{apart}
@@ -53,7 +53,7 @@ before-self a b x p =
 -- ---- the first of all
 module _ (M : Map) (V : Shaped M) (a b : Vector) (F : IsFree M a)
     (planes : (l : ℕ) (x : Item) → At (items M) l x → dot (item_normal x) a ≡ pos 0 → ⊥)
-    (off : (l : ℕ) (v : Svertex) → At M.svertices l v → IsDirection (cross a v.way) → dot (cross a v.way) b ≡ pos 0 → ⊥)
+    (off : (l : ℕ) (v : MapVertex) → At M.svertices l v → IsDirection (cross a v.dir) → dot (cross a v.dir) b ≡ pos 0 → ⊥)
     (k : ℕ) (first : Item) (listed : At (items M) k first) (f : IsFirstMet M a b (length (items M)) first) where
   abbrev n : Vector
   n = item_normal first
@@ -76,8 +76,8 @@ module _ (M : Map) (V : Shaped M) (a b : Vector) (F : IsFree M a)
   apart-c : IsDirection (cross a c)
   apart-c = apart n a c u level (on-direction M first c f.on)
 
-  off_c : (l : ℕ) (v : Svertex) → At M.svertices l v → IsDirection (cross a v.way) → dot (cross a v.way) c ≡ pos 0 → ⊥
-  off_c l v h g z = product-off (start *ℤ start) (dot (cross a v.way) b) (square_pos start u) (off l v h g) (sym (slid-square n a (cross a v.way) b (cross-self a v.way)) ∙ z)
+  off_c : (l : ℕ) (v : MapVertex) → At M.svertices l v → IsDirection (cross a v.dir) → dot (cross a v.dir) c ≡ pos 0 → ⊥
+  off_c l v h g z = product-off (start *ℤ start) (dot (cross a v.dir) b) (square_pos start u) (off l v h g) (sym (slid-square n a (cross a v.dir) b (cross-self a v.dir)) ∙ z)
 
   module _ (i j : ℕ) (si : 0 < i) (sj : 0 < j) (l : ℕ) (y : Item) (h : At (items M) l y) (o : OnItem M y (blend i a j c)) where
     abbrev m : Vector
@@ -151,7 +151,7 @@ module _ (M : Map) (V : Shaped M) (a b : Vector) (F : IsFree M a)
     short = λ o. apart-c o.parallel;
     between = λ i j si sj. record {
       direction = direction-by n (blend i a j c) (between-off_target n a c i j si level u);
-      off_svertices = λ l v h m. miss-between a v.way c i j sj (V.svertex_ways l v h) (off_c l v h) apart-c m;
+      off_svertices = λ l v h m. miss-between a v.dir c i j sj (V.svertex_dirs l v h) (off_c l v h) apart-c m;
       off_items = λ l y h o. unmet i j si sj l y h o;
     };
   }

@@ -8,13 +8,13 @@ use Rattle.law_arithmetic.proofs.Order.{sign, mul_pos, mul_neg, sign-scaled, nou
 use Rattle.nef_space.specs.Vectors.{Vector, IsDirection, cross, dot, SameDirection, blend}
 use Rattle.law_near.proofs.Flats.{vector-same}
 use Rattle.law_near.proofs.FlatDecided.{cross-turned}
-use Rattle.law_sphere.specs.Maps.{At, Svertex, Map, Item, items, item_normal, OnItem, IsFree, below_item, IsClear, Sees, directly, Shaped}
+use Rattle.law_sphere.specs.Maps.{At, MapVertex, Map, Item, items, item_normal, OnItem, IsFree, neg_item, IsClear, Sees, directly, Shaped}
 use Rattle.law_sphere.proofs.Vectors.{dot-comb, same-minus}
 use Rattle.law_sphere.proofs.Forms.{on-direction, on-level, OnItem-by_signs}
 use Rattle.law_sphere.proofs.Parallel.{apart}
 use Rattle.law_sphere.proofs.Direct.{cross-self, IsZero-times}
 use Rattle.law_sphere.proofs.Shot.{product-off}
-use Rattle.law_sphere.proofs.Labels.{way-signs}
+use Rattle.law_sphere.proofs.Labels.{dir-signs}
 use Rattle.nef_smap.specs.Above.{rise, IsOver, IsFirst, IsFirstItem}
 use Rattle.nef_smap.proofs.Rise.{rise-is, rise-level, rise_form-value}
 use Rattle.nef_smap.proofs.Close.{cross-last}
@@ -22,7 +22,7 @@ use Rattle.nef_smap.proofs.Close.{cross-last}
 -- no svertex lies over d or under it
 pub record Generic (M : Map) (u d : Vector) : Type 0 where
   pub apart : IsDirection (cross u d)
-  pub off : (k : ℕ) (v : Svertex) → At M.svertices k v → dot (cross u v.way) d ≡ pos 0 → ⊥
+  pub off : (k : ℕ) (v : MapVertex) → At M.svertices k v → dot (cross u v.dir) d ≡ pos 0 → ⊥
 
 module _ (M : Map) (V : Shaped M) (u : Vector) (ahead : (k : ℕ) (x : Item) → At (items M) k x → pos 0 <ℤ dot (item_normal x) u) (hu : IsDirection u) (d : Vector) (D : IsFree M d) (H : Generic M u d) where
   value : (g : Vector) (i j : ℕ) → dot g (blend i d j u) ≡ pos i *ℤ dot g d +ℤ pos j *ℤ dot g u
@@ -53,21 +53,21 @@ module _ (M : Map) (V : Shaped M) (u : Vector) (ahead : (k : ℕ) (x : Item) →
       on = OnItem-by_signs M z (blend i d j u) (rise u n d) (λ g l. at_rise-sign g) o;
     }
 
-  way-direction : (i j : ℕ) → 0 < i → IsDirection (blend i d j u)
-  way-direction i j si z = H.apart (IsZero-times (pos i) (cross u d) (omega (arith, ints))
+  dir-direction : (i j : ℕ) → 0 < i → IsDirection (blend i d j u)
+  dir-direction i j si z = H.apart (IsZero-times (pos i) (cross u d) (omega (arith, ints))
       (one u.y u.z d.y d.z z.1 z.2) (one u.z u.x d.z d.x z.2 z.0) (one u.x u.y d.x d.y z.0 z.1))
     where
       one : (a b x y : ℤ) → pos i *ℤ x +ℤ pos j *ℤ a ≡ pos 0 → pos i *ℤ y +ℤ pos j *ℤ b ≡ pos 0 → pos i *ℤ (a *ℤ y -ℤ b *ℤ x) ≡ pos 0
       one a b x y p q = let o = num (pos 0) in follows (pos i ∷ pos j ∷ a ∷ b ∷ x ∷ y ∷ []) (at 0 ⊗ (at 2 ⊗ at 5 ⊖ at 3 ⊗ at 4)) o
           (given (at 2) (at 0 ⊗ at 5 ⊕ at 1 ⊗ at 3) o q (given (o ⊖ at 3) (at 0 ⊗ at 4 ⊕ at 1 ⊗ at 2) o p none)) tt
 
-  way-off : (i j : ℕ) → 0 < i → (k : ℕ) (v : Svertex) → At M.svertices k v → SameDirection v.way (blend i d j u) → ⊥
+  way-off : (i j : ℕ) → 0 < i → (k : ℕ) (v : MapVertex) → At M.svertices k v → SameDirection v.dir (blend i d j u) → ⊥
   way-off i j si k v a w =
-      let m = cross u v.way in
-      let s = way-signs v.way (blend i d j u) m (V.svertex_ways k v a) w in
-      let z = nought-is (dot m (blend i d j u)) (s ∙ ap sign (cross-last u v.way)) in
+      let m = cross u v.dir in
+      let s = dir-signs v.dir (blend i d j u) m (V.svertex_dirs k v a) w in
+      let z = nought-is (dot m (blend i d j u)) (s ∙ ap sign (cross-last u v.dir)) in
       let e = sym (value m i j) ∙ z in
-      let q = ap (λ r. pos j *ℤ r) (cross-self u v.way) in
+      let q = ap (λ r. pos j *ℤ r) (cross-self u v.dir) in
       let o = ring (pos j ∷ []) (at 0 ⊗ num (pos 0)) (num (pos 0)) tt in
       product-off (pos i) (dot m d) (omega (arith, ints)) (H.off k v a) (omega (arith, ints))
 
@@ -78,14 +78,14 @@ module _ (M : Map) (V : Shaped M) (u : Vector) (ahead : (k : ℕ) (x : Item) →
     direction = hu;
     short = λ o. H.apart (cross-turned d u o.parallel);
     between = λ i j si sj. record {
-      direction = way-direction i j si;
+      direction = dir-direction i j si;
       off_svertices = λ k v a w. way-off i j si k v a w;
       off_items = λ k x a o. f k x a (on_way-over k x a i j si sj o);
     };
   }
 
   -- the way to the first item
-  pub first-sees : (k : ℕ) → IsFirstItem M u d k → Sees M (below_item k) d
+  pub first-sees : (k : ℕ) → IsFirstItem M u d k → Sees M (neg_item k) d
   first-sees k F = directly y clear (F.item, F.listed, F.over.on, F.over.below)
     where
       n : Vector
@@ -137,7 +137,7 @@ module _ (M : Map) (V : Shaped M) (u : Vector) (ahead : (k : ℕ) (x : Item) →
         direction = on-direction M F.item y F.over.on;
         short = λ o. apart n d y (λ z. let h = F.over.below in omega (arith, ints)) (rise-level u n d) (on-direction M F.item y F.over.on) o.parallel;
         between = λ i j si sj. subst (IsFree M) (sym (same i j)) (record {
-          direction = way-direction (i + j * p) (j * q) (omega arith);
+          direction = dir-direction (i + j * p) (j * q) (omega arith);
           off_svertices = λ l v a w. way-off (i + j * p) (j * q) (omega arith) l v a w;
           off_items = λ l z a o. unmet i j si sj l z a o;
         });

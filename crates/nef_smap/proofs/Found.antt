@@ -8,18 +8,18 @@ use Rattle.nef_space.specs.declared.label.Label.{Label}
 use Rattle.nef_geo.specs.Shapes.{vector_of}
 use Rattle.nef_geo.specs.declared.dir.Dir.{Dir}
 use Rattle.nef_geo.proofs.Unique.{same_directions_equal}
-use Rattle.law_sphere.specs.Maps.{At, Svertex, Arc, Loop, Map, Item, arc_item, loop_item, items, item_mark, OnItem, IsFree, MapLabel, at_svertex, on_item, seen, Side, whole, Sees}
+use Rattle.law_sphere.specs.Maps.{At, MapVertex, Arc, MapSloop, Map, Item, arc_item, sloop_item, items, item_mark, OnItem, IsFree, MapLabel, at_svertex, on_item, seen, Side, whole, Sees}
 use Rattle.law_sphere.proofs.Lists.{at-one}
-use Rattle.law_sphere.proofs.Arcs.{loop-at, at-arc}
+use Rattle.law_sphere.proofs.Arcs.{sloop-at, at-arc}
 use Rattle.law_sphere.proofs.Shot.{arc-at}
-use Rattle.law_sphere.proofs.Compare.{way-self}
+use Rattle.law_sphere.proofs.Compare.{dir-self}
 use Rattle.nef_smap.specs.Sides.{LabelledSide, sides_of, IsSide, SideSees, IsPlaceOf}
 use Rattle.nef_smap.specs.Maps.{svertex_of, map_of}
 use Rattle.nef_smap.specs.declared.map.SVertex.{SVertex}
 use Rattle.nef_smap.specs.declared.map.SphereMap.{SphereMap}
 use Rattle.nef_smap.specs.declared.map.SPlace.TheVariants as place
 use Rattle.nef_smap.proofs.ArcEnds.{at-map}
-use Rattle.nef_smap.proofs.MapLists.{at-within, loop-listed}
+use Rattle.nef_smap.proofs.MapLists.{at-within, sloop-listed}
 use Rattle.nef_smap.proofs.SideLists.{side-has}
 
 -- ---- searching
@@ -39,16 +39,16 @@ read {X} xs ys n x e h q = subst (λ (zs : List X). slice_get zs n ≡ Some x) e
 
 -- directions in normal form are the same where they are equal
 pub dir-same : (a b : Dir) → (a ≡ b) ↔ SameDirection (vector_of a) (vector_of b)
-dir-same a b = (λ e. subst (λ (x : Dir). SameDirection (vector_of a) (vector_of x)) e (way-self (vector_of a) a.some), λ s. same_directions_equal a b s)
+dir-same a b = (λ e. subst (λ (x : Dir). SameDirection (vector_of a) (vector_of x)) e (dir-self (vector_of a) a.some), λ s. same_directions_equal a b s)
 
 -- ---- a direction on no svertex, arc or loop
-pub free-if : (M : Map) (d : Vector) → IsDirection d → ((k : ℕ) (v : Svertex) → At M.svertices k v → SameDirection v.way d → ⊥)
-    → ((k : ℕ) (a : Arc) → At M.arcs k a → OnItem M (arc_item a) d → ⊥) → (((l : Loop) × (M.loop ≡ Some l) × OnItem M (loop_item l) d) → ⊥) → IsFree M d
-free-if M d h no_svertex no_arc no_loop = record { direction = h; off_svertices = no_svertex; off_items = by }
+pub free-if : (M : Map) (d : Vector) → IsDirection d → ((k : ℕ) (v : MapVertex) → At M.svertices k v → SameDirection v.dir d → ⊥)
+    → ((k : ℕ) (a : Arc) → At M.arcs k a → OnItem M (arc_item a) d → ⊥) → (((l : MapSloop) × (M.sloop ≡ Some l) × OnItem M (sloop_item l) d) → ⊥) → IsFree M d
+free-if M d h no_svertex no_arc no_sloop = record { direction = h; off_svertices = no_svertex; off_items = by }
   where
     by : (k : ℕ) (x : Item) → At (items M) k x → OnItem M x d → ⊥
-    by k (arc_item a) b o = no_arc k a (arc-at M.arcs M.loop k a b) o
-    by k (loop_item l) b o = no_loop (l, loop-at M.arcs M.loop k l b, o)
+    by k (arc_item a) b o = no_arc k a (arc-at M.arcs M.sloop k a b) o
+    by k (sloop_item l) b o = no_sloop (l, sloop-at M.arcs M.sloop k l b, o)
 
 -- ---- the label of a side that sees
 pub side-within : (M : Map) (s : ℕ) (d : Vector) → SideSees M s d → s < length (sides_of M)
@@ -80,14 +80,14 @@ module _ (m : SphereMap) (d : Vector) where
 
   pub label-svertex : (k : ℕ) (w : SVertex) → slice_get m.svertices k ≡ Some w → IsPlaceOf (map_of m) d (place.SVertex k) → MapLabel (map_of m) d w.mark
   label-svertex k w e (v, a, s) = let b = at-map svertex_of m.svertices k w e in
-      at_svertex k (svertex_of w) b (subst (λ (r : Svertex). SameDirection r.way d) (at-one (map svertex_of m.svertices) k v (svertex_of w) a b) s) refl
+      at_svertex k (svertex_of w) b (subst (λ (r : MapVertex). SameDirection r.dir d) (at-one (map svertex_of m.svertices) k v (svertex_of w) a b) s) refl
 
   -- the item at whose place a direction lies
   pub arc-placed : (k : ℕ) → IsPlaceOf (map_of m) d (place.Arc k) → (x : Item) × At (items (map_of m)) k x × OnItem (map_of m) x d
-  arc-placed k (a, h, o) = (arc_item a, at-arc (map_of m).arcs (map_of m).loop k a h, o)
+  arc-placed k (a, h, o) = (arc_item a, at-arc (map_of m).arcs (map_of m).sloop k a h, o)
 
-  pub loop-placed : (k : ℕ) → k ≡ length m.arcs → IsPlaceOf (map_of m) d place.Loop → (x : Item) × At (items (map_of m)) k x × OnItem (map_of m) x d
-  loop-placed k e (l, h, o) = (loop_item l, subst (λ (n : ℕ). At (items (map_of m)) n (loop_item l)) (sym e) (loop-listed m.arcs m.sloop l h), o)
+  pub sloop-placed : (k : ℕ) → k ≡ length m.arcs → IsPlaceOf (map_of m) d place.Loop → (x : Item) × At (items (map_of m)) k x × OnItem (map_of m) x d
+  sloop-placed k e (l, h, o) = (sloop_item l, subst (λ (n : ℕ). At (items (map_of m)) n (sloop_item l)) (sym e) (sloop-listed m.arcs m.sloop l h), o)
 
   pub label-item : (k : ℕ) (y : Item) (t : Label) → At (items (map_of m)) k y → t ≡ item_mark y → ((x : Item) × At (items (map_of m)) k x × OnItem (map_of m) x d) → MapLabel (map_of m) d t
   label-item k y t b e (x, a, o) = on_item k y b (subst (λ (r : Item). OnItem (map_of m) r d) (at-one (items (map_of m)) k x y a b) o) (sym e)

@@ -14,7 +14,7 @@ use Rattle.law_near.proofs.Meets.{cross-none}
 use Rattle.nef_space.specs.Lists.{IsAt}
 use Rattle.law_forms.proofs.Directions.{self-pos, square_pos}
 use Rattle.law_forms.proofs.Far.{nought-or, same-off}
-use Rattle.law_sphere.specs.Maps.{At, Svertex, Arc, Loop, Map, Item, arc_item, loop_item, items, items_then, item_normal, way_of, OnItem, IsFree, IsClear, around_svertex, above_item, below_item, whole, Sees, directly, by_way_of, HasArc, Shaped}
+use Rattle.law_sphere.specs.Maps.{At, MapVertex, Arc, MapSloop, Map, Item, arc_item, sloop_item, items, items_then, item_normal, dir_of, OnItem, IsFree, IsClear, around_svertex, pos_item, neg_item, whole, Sees, directly, by_way_of, HasArc, Shaped}
 use Rattle.law_sphere.specs.Forms.{Keeps, forms, gather}
 use Rattle.law_sphere.proofs.Vectors.{normal-is, direction-by}
 use Rattle.law_sphere.proofs.Generic.{amount, far-keeps, far-level}
@@ -28,7 +28,7 @@ use Rattle.law_sphere.proofs.Around.{free-around}
 use Rattle.law_sphere.proofs.NearItems.{clear-around}
 use Rattle.law_sphere.proofs.StepOff.{Outlook, outlook, outlook-free, outlook-clear, outlook-svertex}
 use Rattle.law_sphere.proofs.Sight.{clear-self}
-use Rattle.law_sphere.proofs.Compare.{way-self}
+use Rattle.law_sphere.proofs.Compare.{dir-self}
 use Rattle.nef_smap.specs.Linear.{IsLarge}
 use Rattle.nef_smap.specs.Sides.{SideSees, labelled, svertex_sides, item_sides}
 use Rattle.nef_smap.specs.Paths.{meet_of, IsFair, IsFirstMet}
@@ -40,10 +40,10 @@ module _ (M : Map) (V : Shaped M) (d u : Vector) (F : IsFree M d) (up : (l : ℕ
   n = a.normal
 
   abbrev s : Vector
-  s = way_of M.svertices a.source
+  s = dir_of M.svertices a.source
 
   abbrev t : Vector
-  t = way_of M.svertices a.target
+  t = dir_of M.svertices a.target
 
   abbrev beside : Vector
   beside = cross n s
@@ -52,7 +52,7 @@ module _ (M : Map) (V : Shaped M) (d u : Vector) (F : IsFree M d) (up : (l : ℕ
   b = ends-of M V 0 a h
 
   listed : At (items M) 0 (arc_item a)
-  listed = at-arc M.arcs M.loop 0 a h
+  listed = at-arc M.arcs M.sloop 0 a h
 
   hn : IsDirection n
   hn = normal-is V 0 (arc_item a) listed
@@ -76,7 +76,7 @@ module _ (M : Map) (V : Shaped M) (d u : Vector) (F : IsFree M d) (up : (l : ℕ
       (nought-or (dot (item_normal x) d))
 
   abbrev crosses : List Vector
-  crosses = gather (λ (v : Svertex). cross start v.way ∷ []) M.svertices
+  crosses = gather (λ (v : MapVertex). cross start v.dir ∷ []) M.svertices
 
   abbrev k : ℕ
   k = suc j * 2 ^ 128 + amount crosses beside + amount (cross t n ∷ []) beside
@@ -98,22 +98,22 @@ module _ (M : Map) (V : Shaped M) (d u : Vector) (F : IsFree M d) (up : (l : ℕ
       ((at 3 ⊗ at 3 ⊕ at 4 ⊗ at 4 ⊕ at 5 ⊗ at 5) ⊗ (at 0 ⊗ at 6 ⊕ at 1 ⊗ at 7 ⊕ at 2 ⊗ at 8))
       (given (num (pos 0) ⊖ (at 3 ⊗ at 6 ⊕ at 4 ⊗ at 7 ⊕ at 5 ⊗ at 8)) (at 0 ⊗ at 3 ⊕ at 1 ⊗ at 4 ⊕ at 2 ⊗ at 5) (num (pos 0)) b.source_level none) tt
 
-  off : (l : ℕ) (v : Svertex) → At M.svertices l v → IsDirection (cross start v.way) → dot (cross start v.way) end ≡ pos 0 → ⊥
+  off : (l : ℕ) (v : MapVertex) → At M.svertices l v → IsDirection (cross start v.dir) → dot (cross start v.dir) end ≡ pos 0 → ⊥
   off l v q f z = ⊎_elim
       (λ y.
       let e = far-level crosses s beside k (omega arith) g y in
       let o : dot g beside ≡ pos 0 = nought-is (dot g beside) (sym e ∙ ap sign z) in
-      let w = triple-in_plane g s beside start f y o (cross-self start v.way) in
+      let w = triple-in_plane g s beside start f y o (cross-self start v.dir) in
       let p = planes 0 (arc_item a) listed in
       by_order (dot n start) (pos 0)
       (λ c. let m = mul_pos (dot s s) (pos 0 -ℤ dot n start) (self-pos s b.source_direction) (omega (arith, ints)) in let r = turn start in let r' = ring (dot s s ∷ dot n start ∷ []) (at 0 ⊗ (num (pos 0) ⊖ at 1)) (num (pos 0) ⊖ at 0 ⊗ at 1) tt in omega (arith, ints))
       p
       (λ c. let m = mul_pos (dot s s) (dot n start) (self-pos s b.source_direction) c in let r = turn start in omega (arith, ints)))
-      (λ c. same-off (dot g s) (dot g end) (far-keeps crosses s beside k (omega arith) g (gather-has (λ (v : Svertex). cross start v.way ∷ []) M.svertices l v g q (inl refl)) c) c z)
+      (λ c. same-off (dot g s) (dot g end) (far-keeps crosses s beside k (omega arith) g (gather-has (λ (v : MapVertex). cross start v.dir ∷ []) M.svertices l v g q (inl refl)) c) c z)
       (nought-or (dot g s))
     where
       g : Vector
-      g = cross start v.way
+      g = cross start v.dir
 
   large : IsLarge j k
   large = record { first = omega arith; second = omega arith }
@@ -135,22 +135,22 @@ module _ (M : Map) (V : Shaped M) (d u : Vector) (F : IsFree M d) (up : (l : ℕ
     clear : IsClear M start (meet_of (item_normal x) start end)
     clear = first-clear M V start end start-free planes off i x q met
 
-    pub first-above : pos 0 <ℤ dot (item_normal x) (blend (2 ^ 128 + amount (forms M) u) d 1 u) → Sees M (above_item i) d
+    pub first-above : pos 0 <ℤ dot (item_normal x) (blend (2 ^ 128 + amount (forms M) u) d 1 u) → Sees M (pos_item i) d
     first-above p = by_way_of start (meet_of (item_normal x) start end) (clear-around M V d start kept F) clear (x, q, met.on, p)
 
-    pub first-below : dot (item_normal x) (blend (2 ^ 128 + amount (forms M) u) d 1 u) <ℤ pos 0 → Sees M (below_item i) d
+    pub first-below : dot (item_normal x) (blend (2 ^ 128 + amount (forms M) u) d 1 u) <ℤ pos 0 → Sees M (neg_item i) d
     first-below p = by_way_of start (meet_of (item_normal x) start end) (clear-around M V d start kept F) clear (x, q, met.on, p)
 
     pub first-parts : dot (item_normal x) (blend (2 ^ 128 + amount (forms M) u) d 1 u) ≡ pos 0 → ⊥
     first-parts = planes i x q
 
 -- ---- a map without arcs
-module _ (M : Map) (V : Shaped M) (d : Vector) (F : IsFree M d) (l : Loop) (h : At (items M) 0 (loop_item l)) (only : (i : ℕ) (x : Item) → At (items M) i x → i ≡ 0) where
+module _ (M : Map) (V : Shaped M) (d : Vector) (F : IsFree M d) (l : MapSloop) (h : At (items M) 0 (sloop_item l)) (only : (i : ℕ) (x : Item) → At (items M) i x → i ≡ 0) where
   abbrev m : Vector
   m = l.normal
 
   pub circle-off : dot l.normal d ≡ pos 0 → ⊥
-  circle-off z = F.off_items 0 (loop_item l) h (record { direction = F.direction; level = z })
+  circle-off z = F.off_items 0 (sloop_item l) h (record { direction = F.direction; level = z })
 
   -- a point of the circle to which the way misses all svertices
   far : Outlook M (d ∷ [])
@@ -179,8 +179,8 @@ module _ (M : Map) (V : Shaped M) (d : Vector) (F : IsFree M d) (l : Loop) (h : 
   across : IsDirection (cross d point)
   across = apart m d point circle-off level some
 
-  off_point : (k : ℕ) (v : Svertex) → At M.svertices k v → IsDirection (cross d v.way) → dot (cross d v.way) point ≡ pos 0 → ⊥
-  off_point k v a g z = product-off (dot m d *ℤ dot m d) (dot (cross d v.way) far.vector) (square_pos (dot m d) circle-off) (far.misses 0 d refl k v a g) (sym (slid-square m d (cross d v.way) far.vector (cross-self d v.way)) ∙ z)
+  off_point : (k : ℕ) (v : MapVertex) → At M.svertices k v → IsDirection (cross d v.dir) → dot (cross d v.dir) point ≡ pos 0 → ⊥
+  off_point k v a g z = product-off (dot m d *ℤ dot m d) (dot (cross d v.dir) far.vector) (square_pos (dot m d) circle-off) (far.misses 0 d refl k v a g) (sym (slid-square m d (cross d v.dir) far.vector (cross-self d v.dir)) ∙ z)
 
   clear-point : IsClear M d point
   clear-point = record {
@@ -189,55 +189,55 @@ module _ (M : Map) (V : Shaped M) (d : Vector) (F : IsFree M d) (l : Loop) (h : 
     short = λ o. across o.parallel;
     between = λ i j si sj. record {
       direction = direction-by m (blend i d j point) (between-off_target m d point i j si level circle-off);
-      off_svertices = λ k v a q. miss-between d v.way point i j sj (V.svertex_ways k v a) (off_point k v a) across q;
+      off_svertices = λ k v a q. miss-between d v.dir point i j sj (V.svertex_dirs k v a) (off_point k v a) across q;
       off_items = λ k x a o.
-          let e = at-one (items M) 0 x (loop_item l) (subst (λ (r : ℕ). At (items M) r x) (only k x a) a) h in
-          between-off_target m d point i j si level circle-off (on-level M (loop_item l) (blend i d j point) (subst (λ (y : Item). OnItem M y (blend i d j point)) e o));
+          let e = at-one (items M) 0 x (sloop_item l) (subst (λ (r : ℕ). At (items M) r x) (only k x a) a) h in
+          between-off_target m d point i j si level circle-off (on-level M (sloop_item l) (blend i d j point) (subst (λ (y : Item). OnItem M y (blend i d j point)) e o));
     };
   }
 
-  on_circle : OnItem M (loop_item l) point
+  on_circle : OnItem M (sloop_item l) point
   on_circle = record { direction = some; level = level }
 
-  pub circle-above : pos 0 <ℤ dot l.normal d → Sees M (above_item 0) d
-  circle-above p = directly point clear-point (loop_item l, h, on_circle, p)
+  pub circle-above : pos 0 <ℤ dot l.normal d → Sees M (pos_item 0) d
+  circle-above p = directly point clear-point (sloop_item l, h, on_circle, p)
 
-  pub circle-below : dot l.normal d <ℤ pos 0 → Sees M (below_item 0) d
-  circle-below p = directly point clear-point (loop_item l, h, on_circle, p)
+  pub circle-below : dot l.normal d <ℤ pos 0 → Sees M (neg_item 0) d
+  circle-below p = directly point clear-point (sloop_item l, h, on_circle, p)
 
 -- a map without items has one face, which its first side sees
-pub bare-seen : (M : Map) → Shaped M → (d : Vector) → IsFree M d → M.arcs ≡ [] → M.loop ≡ None → SideSees M 0 d
+pub bare-seen : (M : Map) → Shaped M → (d : Vector) → IsFree M d → M.arcs ≡ [] → M.sloop ≡ None → SideSees M 0 d
 bare-seen M V d F e f = by M.svertices refl
   where
     no_items : (l : ℕ) (x : Item) → At (items M) l x → ⊥
-    no_items l x a = subst (λ (xs : List Item). At xs l x) (ap (λ (as' : List Arc). items_then as' M.loop) e ∙ ap (items_then []) f) a
+    no_items l x a = subst (λ (xs : List Item). At xs l x) (ap (λ (as' : List Arc). items_then as' M.sloop) e ∙ ap (items_then []) f) a
 
     no_arc : (k : ℕ) → HasArc M k → ⊥
     no_arc k (i, a, g, c) = subst (λ (xs : List Arc). At xs i a) e g
 
-    around : (vs : List Svertex) (v : Svertex) (ws : List Svertex) → vs ≡ v ∷ ws → M.svertices ≡ vs → SideSees M 0 d
+    around : (vs : List MapVertex) (v : MapVertex) (ws : List MapVertex) → vs ≡ v ∷ ws → M.svertices ≡ vs → SideSees M 0 d
     around vs v ws g g' =
-        let a : At M.svertices 0 v = subst (λ (xs : List Svertex). At xs 0 v) (sym (g' ∙ g)) refl in
+        let a : At M.svertices 0 v = subst (λ (xs : List MapVertex). At xs 0 v) (sym (g' ∙ g)) refl in
         let r = V.around_lone 0 v a (no_arc 0) in
-        let h = V.svertex_ways 0 v a in
-        let ds = d ∷ v.way ∷ [] in
+        let h = V.svertex_dirs 0 v a in
+        let ds = d ∷ v.dir ∷ [] in
         let o = outlook M ds d in
         let H = outlook-free M ds V o 0 d refl F.direction in
-        let c = outlook-svertex M ds V o H no_items (suc zero) v.way refl h in
-        let s = by_way_of o.vector v.way (outlook-clear M ds V o 0 d refl F.direction F (λ l y b. absurd (no_items l y b))) c (v, a, way-self v.way h) in
-        (around_svertex 0, r.0, subst (λ (xs : List Svertex). IsAt (svertex_sides 0 xs ++ item_sides 0 (items M) ++ labelled whole M.face) 0 (around_svertex 0, r.0)) (sym (g' ∙ g)) (first-side v.around r.0 r.1), s)
+        let c = outlook-svertex M ds V o H no_items (suc zero) v.dir refl h in
+        let s = by_way_of o.vector v.dir (outlook-clear M ds V o 0 d refl F.direction F (λ l y b. absurd (no_items l y b))) c (v, a, dir-self v.dir h) in
+        (around_svertex 0, r.0, subst (λ (xs : List MapVertex). IsAt (svertex_sides 0 xs ++ item_sides 0 (items M) ++ labelled whole M.ground) 0 (around_svertex 0, r.0)) (sym (g' ∙ g)) (first-side v.around r.0 r.1), s)
       where
-        first-side : (w : Option Label) (l : Label) → w ≡ Some l → slice_get (labelled (around_svertex 0) w ++ svertex_sides 1 ws ++ item_sides 0 (items M) ++ labelled whole M.face) 0 ≡ Some (around_svertex 0, l)
+        first-side : (w : Option Label) (l : Label) → w ≡ Some l → slice_get (labelled (around_svertex 0) w ++ svertex_sides 1 ws ++ item_sides 0 (items M) ++ labelled whole M.ground) 0 ≡ Some (around_svertex 0, l)
         first-side None l q = cc
         first-side (Some k) l q = let p : k ≡ l = cc in ap (λ (r : Label). Some (around_svertex 0, r)) p
 
-    by : (vs : List Svertex) → M.svertices ≡ vs → SideSees M 0 d
+    by : (vs : List MapVertex) → M.svertices ≡ vs → SideSees M 0 d
     by [] g =
         let r = V.ground_alone g f in (
           whole,
           r.0,
-          subst (λ (xs : List Svertex). IsAt (svertex_sides 0 xs ++ item_sides 0 (items M) ++ labelled whole M.face) 0 (whole, r.0)) (sym g)
-              (subst (λ (xs : List Item). IsAt (item_sides 0 xs ++ labelled whole M.face) 0 (whole, r.0)) (sym (ap (λ (as' : List Arc). items_then as' M.loop) e ∙ ap (items_then []) f)) (only-side M.face r.0 r.1)),
+          subst (λ (xs : List MapVertex). IsAt (svertex_sides 0 xs ++ item_sides 0 (items M) ++ labelled whole M.ground) 0 (whole, r.0)) (sym g)
+              (subst (λ (xs : List Item). IsAt (item_sides 0 xs ++ labelled whole M.ground) 0 (whole, r.0)) (sym (ap (λ (as' : List Arc). items_then as' M.sloop) e ∙ ap (items_then []) f)) (only-side M.ground r.0 r.1)),
           directly d (clear-self M d F) tt,
         )
       where
@@ -258,8 +258,8 @@ up-leads n h s = by n.x n.y n.z h s.of_y s.of_z
     by (pos zero) (pos zero) c h sb sc = let f : pos 0 <ℤ c = h.third refl refl in omega (arith, ints)
 
 -- ---- the side by a test
-pub side-chosen : (M : Map) (d : Vector) (i : ℕ) (above : Bool) (z : ℤ) → (IsTrue above ↔ (pos 0 <ℤ z)) → (z ≡ pos 0 → ⊥) → (pos 0 <ℤ z → Sees M (above_item i) d) → (z <ℤ pos 0 → Sees M (below_item i) d)
-    → Sees M (cond above (above_item i) (below_item i)) d
+pub side-chosen : (M : Map) (d : Vector) (i : ℕ) (above : Bool) (z : ℤ) → (IsTrue above ↔ (pos 0 <ℤ z)) → (z ≡ pos 0 → ⊥) → (pos 0 <ℤ z → Sees M (pos_item i) d) → (z <ℤ pos 0 → Sees M (neg_item i) d)
+    → Sees M (cond above (pos_item i) (neg_item i)) d
 side-chosen M d i true z t f up down = up (t.0 refl)
 side-chosen M d i false z t f up down = by_order z (pos 0) down (λ e. absurd (f e)) (λ h. absurd (not_true (t.1 h)))
 

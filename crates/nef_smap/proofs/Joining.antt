@@ -11,18 +11,18 @@ use Rattle.law_near.proofs.FlatDecided.{cross-turned, triple-dot}
 use Rattle.law_forms.proofs.Directions.{self-pos, dot-zero, direction-left, direction-right}
 use Rattle.law_forms.proofs.Far.{same-nought}
 use Rattle.nef_geo.specs.Shapes.{vector_of}
-use Rattle.law_sphere.specs.Maps.{At, Svertex, Item, arc_item, items, item_normal}
+use Rattle.law_sphere.specs.Maps.{At, MapVertex, Item, arc_item, items, item_normal}
 use Rattle.law_sphere.proofs.Vectors.{same-plus}
 use Rattle.law_sphere.proofs.Lists.{at-one}
 use Rattle.law_sphere.proofs.Parallel.{apart, parallel-trans}
-use Rattle.law_sphere.proofs.Shot.{way-at}
-use Rattle.law_sphere.proofs.Labels.{way-signs}
+use Rattle.law_sphere.proofs.Shot.{dir-at}
+use Rattle.law_sphere.proofs.Labels.{dir-signs}
 use Rattle.law_sphere.proofs.Arcs.{at-arc}
 use Rattle.nef_smap.specs.declared.map.SArc.{SArc}
 use Rattle.nef_smap.specs.declared.map.SVertex.{SVertex}
 use Rattle.nef_smap.specs.declared.map.SphereMap.{SphereMap}
 use Rattle.nef_smap.specs.Maps.{svertex_of, arc_of, map_of, IsSphereMap}
-use Rattle.nef_smap.proofs.CloseSigns.{way-from_get}
+use Rattle.nef_smap.proofs.CloseSigns.{dir-from_get}
 use Rattle.nef_smap.proofs.MapLists.{at-within}
 use Rattle.nef_smap.proofs.Sound.{along-turn}
 use Rattle.nef_smap.proofs.Stands.{dot-opposite}
@@ -55,7 +55,7 @@ arc-listed (b ∷ as') (suc k) a e = arc-listed as' k a e
 
 -- ---- directions in a plane
 pub cross-level : (n x d : Vector) → SameDirection (cross n x) d → dot n d ≡ pos 0
-cross-level n x d w = same-nought (dot n (cross n x)) (dot n d) (way-signs (cross n x) d n (direction-left (cross n x) d w) w)
+cross-level n x d w = same-nought (dot n (cross n x)) (dot n d) (dir-signs (cross n x) d n (direction-left (cross n x) d w) w)
     (ring (n.x ∷ n.y ∷ n.z ∷ x.x ∷ x.y ∷ x.z ∷ []) (at 0 ⊗ (at 1 ⊗ at 5 ⊖ at 2 ⊗ at 4) ⊕ at 1 ⊗ (at 2 ⊗ at 3 ⊖ at 0 ⊗ at 5) ⊕ at 2 ⊗ (at 0 ⊗ at 4 ⊖ at 1 ⊗ at 3)) (num (pos 0)) tt)
 
 pub plane-some : (n x y : Vector) → IsDirection n → SameDirection (vector (pos 1) (pos 0) (pos 0)) x → SameDirection (vector (pos 0) (pos 1) (pos 0)) y → IsZero (cross n x) → IsZero (cross n y) → ⊥
@@ -86,7 +86,7 @@ module _ (n s a : Vector) (hn : IsDirection n) (ls : dot n s ≡ pos 0) (h : pos
   along-some z = let e = dot-zero (cross n s) (cross n a) z in let p = along-ahead in omega (arith, ints)
 
   pub along-forward : (r : Vector) → SameDirection (cross n a) r → pos 0 <ℤ triple n s r
-  along-forward r w = subst (λ (z : ℤ). pos 0 <ℤ z) (sym (triple-dot n s r)) (same-plus (dot (cross n s) (cross n a)) (dot (cross n s) r) (way-signs (cross n a) r (cross n s) (direction-left (cross n a) r w) w) along-ahead)
+  along-forward r w = subst (λ (z : ℤ). pos 0 <ℤ z) (sym (triple-dot n s r)) (same-plus (dot (cross n s) (cross n a)) (dot (cross n s) r) (dir-signs (cross n a) r (cross n s) (direction-left (cross n a) r w) w) along-ahead)
 
 -- such a direction isn't in the plane of u and s
 pub along-off : (n s r u : Vector) → dot n s ≡ pos 0 → dot n r ≡ pos 0 → pos 0 <ℤ triple n s r → pos 0 <ℤ dot n u → dot (cross u s) r ≡ pos 0 → ⊥
@@ -102,7 +102,7 @@ module _ (m : SphereMap) (S : IsSphereMap m) where
   normal-small k x a = let s = S.small in s.normals k x a
 
   pub arc-item_listed : (k : ℕ) (r : SArc) → slice_get m.arcs k ≡ Some r → At (items (map_of m)) k (arc_item (arc_of r))
-  arc-item_listed k r a = at-arc (map_of m).arcs (map_of m).loop k (arc_of r) (arc-listed m.arcs k r a)
+  arc-item_listed k r a = at-arc (map_of m).arcs (map_of m).sloop k (arc_of r) (arc-listed m.arcs k r a)
 
   -- a direction in the plane of an item isn't parallel to the upward direction
   pub plane-across : (k : ℕ) (x : Item) → At (items (map_of m)) k x → (d : Vector) → IsDirection d → dot (item_normal x) d ≡ pos 0 → IsDirection (cross up d)
@@ -114,11 +114,11 @@ module _ (m : SphereMap) (S : IsSphereMap m) where
         let w = S.valid in
         let e = w.shaped.arcs_between k (arc_of r) (arc-listed m.arcs k r a) in
         subst (λ (d : Vector). dot (vector_of r.normal) d ≡ pos 0)
-        (sym (way-at (map svertex_of m.svertices) r.source e.source e.has_source) ∙ way-from_get m.svertices r.source v b) e.level_source
+        (sym (dir-at (map svertex_of m.svertices) r.source e.source e.has_source) ∙ dir-from_get m.svertices r.source v b) e.level_source
 
   -- a svertex by its number
-  pub around-get : (k : ℕ) (v : SVertex) (x : Svertex) → slice_get m.svertices k ≡ Some v → At (map svertex_of m.svertices) k x → svertex_of v ≡ x
+  pub around-get : (k : ℕ) (v : SVertex) (x : MapVertex) → slice_get m.svertices k ≡ Some v → At (map svertex_of m.svertices) k x → svertex_of v ≡ x
   around-get k v x e a = at-one (map svertex_of m.svertices) k (svertex_of v) x (svertex-listed m.svertices k v e) a
 
-  pub svertex-within : (k : ℕ) (x : Svertex) → At (map svertex_of m.svertices) k x → k < length m.svertices
+  pub svertex-within : (k : ℕ) (x : MapVertex) → At (map svertex_of m.svertices) k x → k < length m.svertices
   svertex-within k x a = let l = length-map m.svertices svertex_of in let h = at-within (map svertex_of m.svertices) k x a in omega (arith, l)

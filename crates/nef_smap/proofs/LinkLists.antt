@@ -3,15 +3,15 @@ use Rattle.std.proofs.Common.{◌≡◌, ℕ, zero, suc, ◌+◌, ◌<◌, arith
 use Rattle.nef_space.specs.Lists.{IsAt}
 use Rattle.nef_space.specs.Vectors.{up}
 use Rattle.nef_space.specs.declared.label.Label.{Label}
-use Rattle.law_sphere.specs.Maps.{At, Svertex, Arc, Loop, Map, loop_item, items, items_then, around_svertex, above_item, whole}
+use Rattle.law_sphere.specs.Maps.{At, MapVertex, Arc, MapSloop, Map, sloop_item, items, items_then, around_svertex, pos_item, whole}
 use Rattle.law_sphere.proofs.Lists.{at-one}
 use Rattle.nef_classes.specs.declared.link.Link.{Link}
 use Rattle.nef_smap.specs.Sides.{labelled, svertex_sides, item_sides, sides_of}
 use Rattle.nef_classes.specs.Classes.{AreLinked}
-use Rattle.nef_smap.specs.Joined.{BelowFirsts, BelowFirst, ArcFirst, LoopFirst}
-use Rattle.nef_smap.specs.Links.{met_number, IsJoin, join_below, join_around, join_arc, join_loop, join_ground, AreJoins}
+use Rattle.nef_smap.specs.Joined.{BelowFirsts, BelowFirst, ArcFirst, SloopFirst}
+use Rattle.nef_smap.specs.Links.{met_number, IsJoin, join_below, join_around, join_arc, join_sloop, join_ground, AreJoins}
 use Rattle.nef_smap.specs.SideNumbers.{one_if, arounds_before, number_of}
-use Rattle.nef_smap.specs.JoinLinks.{JoinsBelow, JoinsAround, JoinsArc, JoinsLoop, JoinsGround, HasLink, AreEach, AreArounds, AreLoops, AreGrounds}
+use Rattle.nef_smap.specs.JoinLinks.{JoinsBelow, JoinsAround, JoinsArc, JoinsSloop, JoinsGround, HasLink, AreEach, AreArounds, AreSloops, AreGrounds}
 use Rattle.nef_smap.proofs.MapLists.{at-within}
 use Rattle.nef_smap.proofs.SideLists.{length-item_sides}
 use Rattle.nef_classes.proofs.ClassLists.{less-or-last, Either, earlier, last, is-at_either, is-at_left, is-at_last, is-at_some}
@@ -28,16 +28,16 @@ pub each-has : (P : ℕ → Link → Type 0) (n : ℕ) (ls : List Link) → AreE
 each-has P n ls E k h = let e = E.as_many in let r = is-at_some ls k (omega arith) in (k, r.0, r.1, E.each k r.0 r.1)
 
 -- ---- links for svertices that have a label round them
-pub arounds-start : (vs : List Svertex) → arounds_before vs 0 ≡ 0
+pub arounds-start : (vs : List MapVertex) → arounds_before vs 0 ≡ 0
 arounds-start [] = refl
 arounds-start (v ∷ vs) = refl
 
-pub arounds-next : (vs : List Svertex) (n : ℕ) (v : Svertex) → At vs n v → arounds_before vs (n + 1) ≡ arounds_before vs n + one_if v.around
+pub arounds-next : (vs : List MapVertex) (n : ℕ) (v : MapVertex) → At vs n v → arounds_before vs (n + 1) ≡ arounds_before vs n + one_if v.around
 arounds-next vs n v a = ap (arounds_before vs) (let e : n + 1 ≡ suc n = omega arith in e) ∙ next vs n v a
   where
-    next : (vs : List Svertex) (n : ℕ) (v : Svertex) → At vs n v → arounds_before vs (suc n) ≡ arounds_before vs n + one_if v.around
+    next : (vs : List MapVertex) (n : ℕ) (v : MapVertex) → At vs n v → arounds_before vs (suc n) ≡ arounds_before vs n + one_if v.around
     next [] n v a = absurd a
-    next (w ∷ vs) zero v a = let e = ap (λ (r : Svertex). one_if r.around) a in let f = arounds-start vs in omega arith
+    next (w ∷ vs) zero v a = let e = ap (λ (r : MapVertex). one_if r.around) a in let f = arounds-start vs in omega arith
     next (w ∷ vs) (suc n) v a = let e = next vs n v a in omega arith
 
 pub has-more : (P : Link → Type 0) (ls ms : List Link) → HasLink ls P → HasLink (ls ++ ms) P
@@ -59,43 +59,43 @@ arounds-more M n ls l j A = record {
     by i x (earlier a) = A.only i x a
     by i x (last e f) = (n, subst (JoinsAround M n) (sym f) j)
 
-pub arounds-pass : (M : Map) (n : ℕ) (ls : List Link) (v : Svertex) → At M.svertices n v → v.around ≡ None → AreArounds M n ls → AreArounds M (n + 1) ls
+pub arounds-pass : (M : Map) (n : ℕ) (ls : List Link) (v : MapVertex) → At M.svertices n v → v.around ≡ None → AreArounds M n ls → AreArounds M (n + 1) ls
 arounds-pass M n ls v b e A = record {
   only = A.only;
   each = λ k w m h a q. ⊎_elim (λ g. A.each k w m g a q) (λ g. absurd (none w m a q g)) (less-or-last k n h);
 }
   where
-    none : {k : ℕ} (w : Svertex) (m : Label) → At M.svertices k w → w.around ≡ Some m → k ≡ n → ⊥
-    none w m a q g = let r = at-one M.svertices n v w b (subst (λ (i : ℕ). At M.svertices i w) g a) in let s = sym e ∙ ap (λ (x : Svertex). x.around) r ∙ q in absurd cc
+    none : {k : ℕ} (w : MapVertex) (m : Label) → At M.svertices k w → w.around ≡ Some m → k ≡ n → ⊥
+    none w m a q g = let r = at-one M.svertices n v w b (subst (λ (i : ℕ). At M.svertices i w) g a) in let s = sym e ∙ ap (λ (x : MapVertex). x.around) r ∙ q in absurd cc
 
 -- ---- links for the sloop
-loops-one : (as' : List Arc) (o : Option Loop) (i k : ℕ) (l c : Loop) → At (items_then as' o) i (loop_item l) → At (items_then as' o) k (loop_item c) → i ≡ k
-loops-one [] None i k l c a b = absurd a
-loops-one [] (Some m) zero zero l c a b = refl
-loops-one [] (Some m) zero (suc k) l c a b = absurd b
-loops-one [] (Some m) (suc i) k l c a b = absurd a
-loops-one (x ∷ as') o zero k l c a b = cc
-loops-one (x ∷ as') o (suc i) zero l c a b = cc
-loops-one (x ∷ as') o (suc i) (suc k) l c a b = ap suc (loops-one as' o i k l c a b)
+sloops-one : (as' : List Arc) (o : Option MapSloop) (i k : ℕ) (l c : MapSloop) → At (items_then as' o) i (sloop_item l) → At (items_then as' o) k (sloop_item c) → i ≡ k
+sloops-one [] None i k l c a b = absurd a
+sloops-one [] (Some m) zero zero l c a b = refl
+sloops-one [] (Some m) zero (suc k) l c a b = absurd b
+sloops-one [] (Some m) (suc i) k l c a b = absurd a
+sloops-one (x ∷ as') o zero k l c a b = cc
+sloops-one (x ∷ as') o (suc i) zero l c a b = cc
+sloops-one (x ∷ as') o (suc i) (suc k) l c a b = ap suc (sloops-one as' o i k l c a b)
 
-pub loops-some : (M : Map) (k : ℕ) (l : Link) → JoinsLoop M k l → AreLoops M (l ∷ [])
-loops-some M k l (c, a, j) = record {
-  only = λ i x b. (k, subst (JoinsLoop M k) (only i x b) (c, a, j));
-  each = λ n d b. (zero, l, refl, subst (λ (i : ℕ). JoinsLoop M i l) (loops-one M.arcs M.loop k n c d a b) (c, a, j));
+pub sloops-some : (M : Map) (k : ℕ) (l : Link) → JoinsSloop M k l → AreSloops M (l ∷ [])
+sloops-some M k l (c, a, j) = record {
+  only = λ i x b. (k, subst (JoinsSloop M k) (only i x b) (c, a, j));
+  each = λ n d b. (zero, l, refl, subst (λ (i : ℕ). JoinsSloop M i l) (sloops-one M.arcs M.sloop k n c d a b) (c, a, j));
 }
   where
     only : (i : ℕ) (x : Link) → IsAt (l ∷ []) i x → l ≡ x
     only zero x b = let e : ◌≡◌ {A = Option Link} (Some l) (Some x) = b in cc
     only (suc i) x b = cc
 
-loop-given : (as' : List Arc) (o : Option Loop) (k : ℕ) (c : Loop) → At (items_then as' o) k (loop_item c) → o ≡ None → ⊥
-loop-given [] None k c a e = a
-loop-given [] (Some l) k c a e = absurd cc
-loop-given (x ∷ as') o zero c a e = absurd cc
-loop-given (x ∷ as') o (suc k) c a e = loop-given as' o k c a e
+sloop-given : (as' : List Arc) (o : Option MapSloop) (k : ℕ) (c : MapSloop) → At (items_then as' o) k (sloop_item c) → o ≡ None → ⊥
+sloop-given [] None k c a e = a
+sloop-given [] (Some l) k c a e = absurd cc
+sloop-given (x ∷ as') o zero c a e = absurd cc
+sloop-given (x ∷ as') o (suc k) c a e = sloop-given as' o k c a e
 
-pub loops-none : (M : Map) → M.loop ≡ None → AreLoops M []
-loops-none M e = record { only = λ i x b. cc; each = λ n d b. absurd (loop-given M.arcs M.loop n d b e) }
+pub sloops-none : (M : Map) → M.sloop ≡ None → AreSloops M []
+sloops-none M e = record { only = λ i x b. cc; each = λ n d b. absurd (sloop-given M.arcs M.sloop n d b e) }
 
 -- ---- and for the side of a map without items
 pub grounds-some : (M : Map) (l : Link) → JoinsGround M l → AreGrounds M (l ∷ [])
@@ -118,13 +118,13 @@ is-at_right (z ∷ xs) ys k x a = let r = is-at_right xs ys k x a in (suc r.0, r
 has-right : (P : Link → Type 0) (ls ms : List Link) → HasLink ms P → HasLink (ls ++ ms) P
 has-right P ls ms (i, l, a, p) = let r = is-at_right ls ms i l a in (r.0, l, r.1, p)
 
-module _ (M : Map) (below around arcs loops grounds : List Link) (nv na : ℕ) (hv : nv ≡ length M.svertices) (ha : na ≡ length M.arcs)
-    (B : AreEach (JoinsBelow M) nv below) (R : AreArounds M nv around) (A : AreEach (JoinsArc M) na arcs) (L : AreLoops M loops) (D : AreGrounds M grounds) where
+module _ (M : Map) (below around arcs sloops grounds : List Link) (nv na : ℕ) (hv : nv ≡ length M.svertices) (ha : na ≡ length M.arcs)
+    (B : AreEach (JoinsBelow M) nv below) (R : AreArounds M nv around) (A : AreEach (JoinsArc M) na arcs) (L : AreSloops M sloops) (D : AreGrounds M grounds) where
   abbrev all : List Link
-  all = below ++ around ++ arcs ++ loops ++ grounds
+  all = below ++ around ++ arcs ++ sloops ++ grounds
 
   from : (P : Link → Type 0) → HasLink (below ++ around) P → HasLink all P
-  from P h = has-more P (below ++ around ++ arcs ++ loops) grounds (has-more P (below ++ around ++ arcs) loops (has-more P (below ++ around) arcs h))
+  from P h = has-more P (below ++ around ++ arcs ++ sloops) grounds (has-more P (below ++ around ++ arcs) sloops (has-more P (below ++ around) arcs h))
 
   abbrev Linked : ℕ → ℕ → Type 0
   Linked = AreLinked all
@@ -135,8 +135,8 @@ module _ (M : Map) (below around arcs loops grounds : List Link) (nv na : ℕ) (
       (λ a3. ⊎_elim
       (λ a2. ⊎_elim (λ b. by_below i (B.each i l b)) (λ r. let k = R.only r.0 l r.1 in by_around k.0 k.1) (is-at_split below around i l a2))
       (λ b. by_arc b.0 (A.each b.0 l b.1)) (is-at_split (below ++ around) arcs i l a3))
-      (λ b. let k = L.only b.0 l b.1 in by_loop k.0 k.1) (is-at_split (below ++ around ++ arcs) loops i l a4))
-      (λ b. by_ground (D.only b.0 l b.1)) (is-at_split (below ++ around ++ arcs ++ loops) grounds i l a)
+      (λ b. let k = L.only b.0 l b.1 in by_sloop k.0 k.1) (is-at_split (below ++ around ++ arcs) sloops i l a4))
+      (λ b. by_ground (D.only b.0 l b.1)) (is-at_split (below ++ around ++ arcs ++ sloops) grounds i l a)
     where
       by_below : (k : ℕ) → JoinsBelow M k l → IsJoin M up l.first l.second
       by_below k (v, a, (j, e, f)) = join_below k v a j e f
@@ -147,8 +147,8 @@ module _ (M : Map) (below around arcs loops grounds : List Link) (nv na : ℕ) (
       by_arc : (k : ℕ) → JoinsArc M k l → IsJoin M up l.first l.second
       by_arc k (r, a, (j, e, f)) = join_arc k r a j e f
 
-      by_loop : (k : ℕ) → JoinsLoop M k l → IsJoin M up l.first l.second
-      by_loop k (r, a, (j, e, f)) = join_loop k r a j e f
+      by_sloop : (k : ℕ) → JoinsSloop M k l → IsJoin M up l.first l.second
+      by_sloop k (r, a, (j, e, f)) = join_sloop k r a j e f
 
       by_ground : JoinsGround M l → IsJoin M up l.first l.second
       by_ground (m, q, e, f) = join_ground m q e f
@@ -159,52 +159,52 @@ module _ (M : Map) (below around arcs loops grounds : List Link) (nv na : ℕ) (
     svertices = λ k v a. by_svertex k v a (each-has (JoinsBelow M) nv below B k (let h = at-within M.svertices k v a in omega arith));
     arounds = λ k v m a q. by_around k v m a q (R.each k v m (let h = at-within M.svertices k v a in omega arith) a q);
     arcs = λ k r a. by_arc k r a (each-has (JoinsArc M) na arcs A k (let h = at-within M.arcs k r a in omega arith));
-    loops = λ k r a. by_loop k r a (L.each k r a);
+    sloops = λ k r a. by_sloop k r a (L.each k r a);
     ground = λ m q. by_ground m q (D.each m q);
   }
     where
       linked : (s t : ℕ) → Linked s t → IsJoin M up s t
       linked s t (i, l, a, e, f) = subst (λ (x : ℕ). IsJoin M up x t) e (subst (λ (x : ℕ). IsJoin M up l.first x) f (only i l a))
 
-      by_svertex : (k : ℕ) (v : Svertex) → At M.svertices k v → HasLink below (JoinsBelow M k) → (j : BelowFirsts M up v.way) × Linked (met_number M j.left) (met_number M j.right)
+      by_svertex : (k : ℕ) (v : MapVertex) → At M.svertices k v → HasLink below (JoinsBelow M k) → (j : BelowFirsts M up v.dir) × Linked (met_number M j.left) (met_number M j.right)
       by_svertex k v a h =
           let r = from (JoinsBelow M k) (has-more (JoinsBelow M k) below around h) in
           let p = r.3 in
-          subst (λ (w : Svertex). (j : BelowFirsts M up w.way) × Linked (met_number M j.left) (met_number M j.right)) (at-one M.svertices k p.0 v p.1 a) (let q = p.2 in (q.0, (r.0, r.1, r.2, q.1, q.2)))
+          subst (λ (w : MapVertex). (j : BelowFirsts M up w.dir) × Linked (met_number M j.left) (met_number M j.right)) (at-one M.svertices k p.0 v p.1 a) (let q = p.2 in (q.0, (r.0, r.1, r.2, q.1, q.2)))
 
-      by_around : (k : ℕ) (v : Svertex) (m : Label) → At M.svertices k v → v.around ≡ Some m → HasLink around (JoinsAround M k) → (j : BelowFirst M up v.way) × Linked (number_of M (around_svertex k)) (met_number M j.first)
+      by_around : (k : ℕ) (v : MapVertex) (m : Label) → At M.svertices k v → v.around ≡ Some m → HasLink around (JoinsAround M k) → (j : BelowFirst M up v.dir) × Linked (number_of M (around_svertex k)) (met_number M j.first)
       by_around k v m a q h =
           let r = from (JoinsAround M k) (has-right (JoinsAround M k) below around h) in
           let p = r.3 in
-          subst (λ (w : Svertex). (j : BelowFirst M up w.way) × Linked (number_of M (around_svertex k)) (met_number M j.first)) (at-one M.svertices k p.0 v p.2 a) (let x = p.4 in (x.0, (r.0, r.1, r.2, x.1, x.2)))
+          subst (λ (w : MapVertex). (j : BelowFirst M up w.dir) × Linked (number_of M (around_svertex k)) (met_number M j.first)) (at-one M.svertices k p.0 v p.2 a) (let x = p.4 in (x.0, (r.0, r.1, r.2, x.1, x.2)))
 
-      by_arc : (k : ℕ) (r : Arc) → At M.arcs k r → HasLink arcs (JoinsArc M k) → (j : ArcFirst M up r) × Linked (number_of M (above_item k)) (met_number M j.first)
+      by_arc : (k : ℕ) (r : Arc) → At M.arcs k r → HasLink arcs (JoinsArc M k) → (j : ArcFirst M up r) × Linked (number_of M (pos_item k)) (met_number M j.first)
       by_arc k w a h =
-          let r = has-more (JoinsArc M k) (below ++ around ++ arcs ++ loops) grounds (has-more (JoinsArc M k) (below ++ around ++ arcs) loops (has-right (JoinsArc M k) (below ++ around) arcs h)) in
+          let r = has-more (JoinsArc M k) (below ++ around ++ arcs ++ sloops) grounds (has-more (JoinsArc M k) (below ++ around ++ arcs) sloops (has-right (JoinsArc M k) (below ++ around) arcs h)) in
           let p = r.3 in
-          subst (λ (x : Arc). (j : ArcFirst M up x) × Linked (number_of M (above_item k)) (met_number M j.first)) (at-one M.arcs k p.0 w p.1 a) (let q = p.2 in (q.0, (r.0, r.1, r.2, q.1, q.2)))
+          subst (λ (x : Arc). (j : ArcFirst M up x) × Linked (number_of M (pos_item k)) (met_number M j.first)) (at-one M.arcs k p.0 w p.1 a) (let q = p.2 in (q.0, (r.0, r.1, r.2, q.1, q.2)))
 
-      by_loop : (k : ℕ) (r : Loop) → At (items M) k (loop_item r) → HasLink loops (JoinsLoop M k) → (j : LoopFirst M up r) × Linked (number_of M (above_item k)) (met_number M j.first)
-      by_loop k w a h =
-          let r = has-more (JoinsLoop M k) (below ++ around ++ arcs ++ loops) grounds (has-right (JoinsLoop M k) (below ++ around ++ arcs) loops h) in
+      by_sloop : (k : ℕ) (r : MapSloop) → At (items M) k (sloop_item r) → HasLink sloops (JoinsSloop M k) → (j : SloopFirst M up r) × Linked (number_of M (pos_item k)) (met_number M j.first)
+      by_sloop k w a h =
+          let r = has-more (JoinsSloop M k) (below ++ around ++ arcs ++ sloops) grounds (has-right (JoinsSloop M k) (below ++ around ++ arcs) sloops h) in
           let p = r.3 in
-          subst (λ (x : Loop). (j : LoopFirst M up x) × Linked (number_of M (above_item k)) (met_number M j.first)) (one p.0 w (at-one (items M) k (loop_item p.0) (loop_item w) p.1 a)) (let q = p.2 in (q.0, (r.0, r.1, r.2, q.1, q.2)))
+          subst (λ (x : MapSloop). (j : SloopFirst M up x) × Linked (number_of M (pos_item k)) (met_number M j.first)) (one p.0 w (at-one (items M) k (sloop_item p.0) (sloop_item w) p.1 a)) (let q = p.2 in (q.0, (r.0, r.1, r.2, q.1, q.2)))
         where
-          one : (c d : Loop) → loop_item c ≡ loop_item d → c ≡ d
+          one : (c d : MapSloop) → sloop_item c ≡ sloop_item d → c ≡ d
           one c d e = cc
 
-      by_ground : (m : Label) → M.face ≡ Some m → HasLink grounds (JoinsGround M) → Linked (number_of M whole) (length (sides_of M))
+      by_ground : (m : Label) → M.ground ≡ Some m → HasLink grounds (JoinsGround M) → Linked (number_of M whole) (length (sides_of M))
       by_ground m q h =
-          let r = has-right (JoinsGround M) (below ++ around ++ arcs ++ loops) grounds h in
+          let r = has-right (JoinsGround M) (below ++ around ++ arcs ++ sloops) grounds h in
           let p = r.3 in
           (r.0, r.1, r.2, p.2, p.3)
 
 -- the last side
-pub whole-last : (M : Map) (m : Label) → M.face ≡ Some m → length (sides_of M) ≡ number_of M whole + 1
+pub whole-last : (M : Map) (m : Label) → M.ground ≡ Some m → length (sides_of M) ≡ number_of M whole + 1
 whole-last M m q =
     let vs = svertex_sides 0 M.svertices in
     let xs = item_sides 0 (items M) in
-    let e = length-append (vs ++ xs) (labelled whole M.face) in
+    let e = length-append (vs ++ xs) (labelled whole M.ground) in
     let f = length-append vs xs in
     let g = length-item_sides 0 (items M) in
     let h = ap (λ (o : Option Label). length (labelled whole o)) q in

@@ -1,27 +1,27 @@
 -- The svertices and items of the program's maps by their numbers.
 use Rattle.std.proofs.Common.{◌≡◌, ℕ, zero, suc, ◌<◌, ◌+◌, List, [], ◌∷◌, length, map, Option, Some, None, option_map, is_some, arith, refl, ap, slice_get}
 use mir.Val.{bool_byte}
-use Rattle.law_sphere.specs.Maps.{At, Loop, arc_item, loop_item, items_then}
+use Rattle.law_sphere.specs.Maps.{At, MapSloop, arc_item, sloop_item, items_then}
 use Rattle.nef_smap.specs.declared.map.SArc.{SArc}
 use Rattle.nef_smap.specs.declared.map.SLoop.{SLoop}
-use Rattle.nef_smap.specs.Maps.{arc_of, loop_of}
+use Rattle.nef_smap.specs.Maps.{arc_of, sloop_of}
 
-pub length-items : (as' : List SArc) (l : Option SLoop) → length (items_then (map arc_of as') (option_map loop_of l)) ≡ length as' + bool_byte (is_some l)
+pub length-items : (as' : List SArc) (l : Option SLoop) → length (items_then (map arc_of as') (option_map sloop_of l)) ≡ length as' + bool_byte (is_some l)
 length-items [] None = refl
 length-items [] (Some l) = refl
 length-items (a ∷ as') l = let e = length-items as' l in omega arith
 
-pub item-arc : (as' : List SArc) (l : Option SLoop) (k : ℕ) (a : SArc) → slice_get as' k ≡ Some a → At (items_then (map arc_of as') (option_map loop_of l)) k (arc_item (arc_of a))
+pub item-arc : (as' : List SArc) (l : Option SLoop) (k : ℕ) (a : SArc) → slice_get as' k ≡ Some a → At (items_then (map arc_of as') (option_map sloop_of l)) k (arc_item (arc_of a))
 item-arc [] l k a e = cc
 item-arc (b ∷ as') l zero a e = let f : b ≡ a = cc in ap (λ (r : SArc). arc_item (arc_of r)) f
 item-arc (b ∷ as') l (suc k) a e = item-arc as' l k a e
 
-pub item-loop : (as' : List SArc) (o : Option SLoop) (k : ℕ) (l : SLoop) → k ≡ length as' → o ≡ Some l → At (items_then (map arc_of as') (option_map loop_of o)) k (loop_item (loop_of l))
-item-loop [] None k l e f = cc
-item-loop [] (Some m) zero l e f = let g : m ≡ l = cc in ap (λ (r : SLoop). loop_item (loop_of r)) g
-item-loop [] (Some m) (suc k) l e f = absurd (omega arith)
-item-loop (b ∷ as') o zero l e f = absurd (omega arith)
-item-loop (b ∷ as') o (suc k) l e f = item-loop as' o k l (omega arith) f
+pub item-sloop : (as' : List SArc) (o : Option SLoop) (k : ℕ) (l : SLoop) → k ≡ length as' → o ≡ Some l → At (items_then (map arc_of as') (option_map sloop_of o)) k (sloop_item (sloop_of l))
+item-sloop [] None k l e f = cc
+item-sloop [] (Some m) zero l e f = let g : m ≡ l = cc in ap (λ (r : SLoop). sloop_item (sloop_of r)) g
+item-sloop [] (Some m) (suc k) l e f = absurd (omega arith)
+item-sloop (b ∷ as') o zero l e f = absurd (omega arith)
+item-sloop (b ∷ as') o (suc k) l e f = item-sloop as' o k l (omega arith) f
 
 pub at-within : {X : Type 0} (xs : List X) (k : ℕ) (x : X) → At xs k x → k < length xs
 at-within [] k x a = absurd a
@@ -29,7 +29,7 @@ at-within (y ∷ ys) zero x a = omega arith
 at-within (y ∷ ys) (suc k) x a = let h = at-within ys k x a in omega arith
 
 -- the sloop stands after the arcs
-pub loop-listed : (as' : List SArc) (o : Option SLoop) (l : Loop) → option_map loop_of o ≡ Some l → At (items_then (map arc_of as') (option_map loop_of o)) (length as') (loop_item l)
-loop-listed [] None l e = cc
-loop-listed [] (Some m) l e = let f : loop_of m ≡ l = cc in ap loop_item f
-loop-listed (a ∷ as') o l e = loop-listed as' o l e
+pub sloop-listed : (as' : List SArc) (o : Option SLoop) (l : MapSloop) → option_map sloop_of o ≡ Some l → At (items_then (map arc_of as') (option_map sloop_of o)) (length as') (sloop_item l)
+sloop-listed [] None l e = cc
+sloop-listed [] (Some m) l e = let f : sloop_of m ≡ l = cc in ap sloop_item f
+sloop-listed (a ∷ as') o l e = sloop-listed as' o l e

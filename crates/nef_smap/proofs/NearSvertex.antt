@@ -10,7 +10,7 @@ use Rattle.law_cyclic.proofs.Directions.{dot-opposite, level-same, same-first}
 use Rattle.law_near.proofs.Decided.{Decided}
 use Rattle.law_near.proofs.FlatDecided.{triple-dot, cross-turned}
 use Rattle.law_forms.proofs.Directions.{dot-comm, self-pos}
-use Rattle.law_sphere.specs.Maps.{At, Svertex, Arc, Map, Item, arc_item, loop_item, items, way_of, OnItem, IsFree, IsClear, Side, above_item, below_item, Shaped}
+use Rattle.law_sphere.specs.Maps.{At, MapVertex, Arc, Map, Item, arc_item, sloop_item, items, dir_of, OnItem, IsFree, IsClear, Side, pos_item, neg_item, Shaped}
 use Rattle.law_sphere.specs.Forms.{Keeps, arc_forms, forms}
 use Rattle.law_sphere.proofs.Vectors.{triple-middle, normal-is, same-plus, same-minus}
 use Rattle.law_sphere.proofs.Places.{kept-nought, kept-minus, SameDirection-decided}
@@ -38,8 +38,8 @@ end_left a (inl e) = a.normal
 end_left a (inr e) = opposite a.normal
 
 abbrev pub end_side : {A B : Type 0} → ℕ → A ⊎ B → Side
-end_side i (inl e) = above_item i
-end_side i (inr e) = below_item i
+end_side i (inl e) = pos_item i
+end_side i (inr e) = neg_item i
 
 -- the direction to the left of the ray, and the arc's side there
 abbrev pub ray_left : {M : Map} {k : ℕ} → ArcRay M k → Vector
@@ -130,9 +130,9 @@ module _ (n s t d w : Vector) (hn : IsDirection n) (hs : IsDirection s) (ht : Is
           omega (arith, ints)
 
 -- ---- close to svertex k
-module _ (M : Map) (V : Shaped M) (k : ℕ) (v : Svertex) (a : At M.svertices k v) (w : Vector) (kept : Keeps (forms M) v.way w) (off : IsDirection (cross v.way w)) where
+module _ (M : Map) (V : Shaped M) (k : ℕ) (v : MapVertex) (a : At M.svertices k v) (w : Vector) (kept : Keeps (forms M) v.dir w) (off : IsDirection (cross v.dir w)) where
   abbrev d : Vector
-  d = v.way
+  d = v.dir
 
   -- w lies along a ray of the svertex
   pub record AlongRay : Type 0 where
@@ -144,13 +144,13 @@ module _ (M : Map) (V : Shaped M) (k : ℕ) (v : Svertex) (a : At M.svertices k 
     n = r.normal
 
     abbrev s : Vector
-    s = way_of M.svertices r.source
+    s = dir_of M.svertices r.source
 
     abbrev t : Vector
-    t = way_of M.svertices r.target
+    t = dir_of M.svertices r.target
 
     j : At M.arcs i r
-    j = arc-at M.arcs M.loop i r h
+    j = arc-at M.arcs M.sloop i r h
 
     b : Ends M r
     b = ends-of M V i r j
@@ -186,7 +186,7 @@ module _ (M : Map) (V : Shaped M) (k : ℕ) (v : Svertex) (a : At M.svertices k 
         (λ z. absurd (off (parallel-in_plane n d w hn ld o.on_circle.level z)))
         (λ l. absurd (before-target n s t d w hn b.source_direction b.target_direction b.source_level b.target_level near ld off o (SameDirection-turned t d q) f (let e = triple-turned n w d in omega (arith, ints))))
     by (inr f) (inr g) = absurd (V.no_svertex_on_item k i v (arc_item r) a h
-        (IsStrictlyOn-back n s t d w hn b.source_direction b.target_direction b.source_level b.target_level near (V.svertex_ways k v a) f g o))
+        (IsStrictlyOn-back n s t d w hn b.source_direction b.target_direction b.source_level b.target_level near (V.svertex_dirs k v a) f g o))
 
     on_arc : AlongRay
     on_arc = by (SameDirection-decided s d) (SameDirection-decided t d)
@@ -194,18 +194,18 @@ module _ (M : Map) (V : Shaped M) (k : ℕ) (v : Svertex) (a : At M.svertices k 
   -- an item close to a svertex lies along one of its rays
   pub near-ray : (i : ℕ) (x : Item) → At (items M) i x → OnItem M x w → AlongRay
   near-ray i (arc_item r) h o = on_arc i r h o
-  near-ray i (loop_item l) h o = absurd (V.no_svertex_on_item k i v (loop_item l) a h
-      (record { direction = V.svertex_ways k v a; level = kept-nought l.normal d w (kept l.normal (item-forms M i (loop_item l) l.normal h (inl refl))) o.level }))
+  near-ray i (sloop_item l) h o = absurd (V.no_svertex_on_item k i v (sloop_item l) a h
+      (record { direction = V.svertex_dirs k v a; level = kept-nought l.normal d w (kept l.normal (item-forms M i (sloop_item l) l.normal h (inl refl))) o.level }))
 
   -- off the rays all is free
   pub near-free : (AlongRay → ⊥) → IsFree M w
   near-free n = record {
-    direction = direction-around M V d w kept (V.svertex_ways k v a);
+    direction = direction-around M V d w kept (V.svertex_dirs k v a);
     off_svertices = λ i u b z.
-        let q = svertex-around M V d w kept i u b (V.svertex_ways k v a) z in
+        let q = svertex-around M V d w kept i u b (V.svertex_dirs k v a) z in
         let e = V.svertices_apart i k u v b a q in
         let f = at-one M.svertices k u v (subst (λ (r : ℕ). At M.svertices r u) e b) a in
-        let y = subst (λ (r : Svertex). SameDirection r.way w) f z in
+        let y = subst (λ (r : MapVertex). SameDirection r.dir w) f z in
         off y.parallel;
     off_items = λ i x h o. n (near-ray i x h o);
   }
@@ -236,15 +236,15 @@ same-cross v w i j si h =
     }
 
 -- from close to the svertex the way to it is clear, off the rays
-pub near-clear : (M : Map) (V : Shaped M) (k : ℕ) (v : Svertex) (a : At M.svertices k v) (w : Vector) → Keeps (forms M) v.way w → IsDirection (cross v.way w) → Unrayed M k v.way w → IsClear M w v.way
+pub near-clear : (M : Map) (V : Shaped M) (k : ℕ) (v : MapVertex) (a : At M.svertices k v) (w : Vector) → Keeps (forms M) v.dir w → IsDirection (cross v.dir w) → Unrayed M k v.dir w → IsClear M w v.dir
 near-clear M V k v a w kept off free = record {
   start = near-free M V k v a w kept off (λ r. free r.ray r.along);
-  direction = V.svertex_ways k v a;
-  short = λ q. kept-not_opposite v.way w (λ g l. kept g (axes-forms M g l)) (opposite-turned w v.way q);
+  direction = V.svertex_dirs k v a;
+  short = λ q. kept-not_opposite v.dir w (λ g l. kept g (axes-forms M g l)) (opposite-turned w v.dir q);
   between = λ i j si sj.
-      let q = same-cross v.way w i j si off in
-      near-free M V k v a (blend i w j v.way)
-      (subst (Keeps (forms M) v.way) (blend-turned j i v.way w) (keeps-between (forms M) v.way w j i sj si kept))
-      (same-first (cross v.way (blend i w j v.way)) (cross v.way w) q)
-      (λ r. free r.ray (SameDirection-trans (ray_left r.ray) (cross v.way (blend i w j v.way)) (cross v.way w) r.along q));
+      let q = same-cross v.dir w i j si off in
+      near-free M V k v a (blend i w j v.dir)
+      (subst (Keeps (forms M) v.dir) (blend-turned j i v.dir w) (keeps-between (forms M) v.dir w j i sj si kept))
+      (same-first (cross v.dir (blend i w j v.dir)) (cross v.dir w) q)
+      (λ r. free r.ray (SameDirection-trans (ray_left r.ray) (cross v.dir (blend i w j v.dir)) (cross v.dir w) r.along q));
 }

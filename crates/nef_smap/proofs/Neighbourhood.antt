@@ -8,10 +8,10 @@ use Rattle.nef_space.specs.declared.label.Label.{Label}
 use Rattle.nef_geo.specs.Shapes.{vector_of}
 use Rattle.nef_geo.specs.declared.dir.Dir.{Dir}
 use Rattle.nef_geo.proofs.Unique.{same_directions_equal}
-use Rattle.law_sphere.specs.Maps.{At, Svertex, Map, HasArc, at_svertex, Item, items, item_normal, item_above, item_mark, item_below, OnItem, Side, HasSide, SeenAs, MapLabel, on_item, seen, NearLabel, Valid}
+use Rattle.law_sphere.specs.Maps.{At, MapVertex, Map, HasArc, at_svertex, Item, items, item_normal, item_pos, item_mark, item_neg, OnItem, Side, HasSide, SeenAs, MapLabel, on_item, seen, NearLabel, Valid}
 use Rattle.law_sphere.specs.Least.{by_side}
 use Rattle.law_sphere.specs.Stars.{Ray as PlainRay, StarLabel, on_ray, in_sector, in_only_sector, StarShows, IsStraight}
-use Rattle.law_sphere.proofs.Compare.{way-self}
+use Rattle.law_sphere.proofs.Compare.{dir-self}
 use Rattle.law_sphere.proofs.Lists.{at-one}
 use Rattle.law_sphere.proofs.Lone.{near-lone}
 use Rattle.law_sphere.proofs.StarKinds.{none-at, straight_star-label}
@@ -98,8 +98,8 @@ along-shows t M V T i x a o A = record {
       first = record { normal = item_normal x; ahead = true; mark = item_mark x };
       second = record { normal = item_normal x; ahead = false; mark = item_mark x };
       two_rays = A.rays;
-      above = item_above x;
-      below = item_below x;
+      pos = item_pos x;
+      neg = item_neg x;
       two_sectors = A.sectors;
       one_normal = refl;
       first_ahead = refl;
@@ -108,10 +108,10 @@ along-shows t M V T i x a o A = record {
       second_mark = sym A.mark;
     }
 
-    label : (e : Vector) (l : Label) → StarLabel (star_of t) e l → by_side (item_above x) (item_mark x) (item_below x) (sign (dot (item_normal x) e)) ≡ l
+    label : (e : Vector) (l : Label) → StarLabel (star_of t) e l → by_side (item_pos x) (item_mark x) (item_neg x) (sign (dot (item_normal x) e)) ≡ l
     label e l s =
         sym (straight_star-label (star_of t) (star-well_formed t T).rays straight t.axis.some e l s
-        ∙ ap (λ (m : Label). by_side (item_above x) m (item_below x) (sign (dot (item_normal x) e))) A.mark)
+        ∙ ap (λ (m : Label). by_side (item_pos x) m (item_neg x) (sign (dot (item_normal x) e))) A.mark)
 
 -- ---- where a star was made
 pub face-ok : {E : Type 0} (r : Result Star E) (M : Map) (s : ℕ) (d : Dir) (l : Label) → Valid M → SideSees M s (vector_of d) → (o : Side) × IsSide M s o l → IfOk r IsStar → IfOk r (λ t. t.axis ≡ d)
@@ -132,7 +132,7 @@ on-listed M i y d (x, a, o) b = subst (λ (z : Item). OnItem M z d) (at-one (ite
 -- ---- the two rays along an item
 module _ (x : Item) (t : Star) (q r : Ray) (n : Dir) (m a b : Label) (rays : t.rays.items ≡ q ∷ r ∷ []) (sectors : t.sectors.items ≡ a ∷ b ∷ []) (mark : t.mark ≡ m)
     (qn : q.normal ≡ n) (qa : q.ahead ≡ true) (qm : q.mark ≡ m) (rn : r.normal ≡ n) (ra : r.ahead ≡ false) (rm : r.mark ≡ m) (along : vector_of n ≡ item_normal x) where
-  pub rays-along : m ≡ item_mark x → a ≡ item_above x → b ≡ item_below x → IsStarAlong x (star_of t)
+  pub rays-along : m ≡ item_mark x → a ≡ item_pos x → b ≡ item_neg x → IsStarAlong x (star_of t)
   rays-along e f g = record {
     rays = ap (map ray_of) rays ∙ rw (ray-is q n true m qn qa qm, ray-is r n false m rn ra rm, along, e) refl;
     sectors = sectors ∙ rw (f, g) refl;
@@ -153,24 +153,24 @@ module _ (x : Item) (t : Star) (q r : Ray) (n : Dir) (m a b : Label) (rays : t.r
 
 -- ---- at a svertex
 -- the svertex of a direction, with that direction
-pub svertex-here : (m : SphereMap) (k : ℕ) (s : SVertex) (d : Dir) → IsAt m.svertices k s → (v : Svertex) × At (map_of m).svertices k v × SameDirection v.way (vector_of d)
-    → At (map_of m).svertices k (record { way = vector_of d; mark = s.mark; around = s.around })
+pub svertex-here : (m : SphereMap) (k : ℕ) (s : SVertex) (d : Dir) → IsAt m.svertices k s → (v : MapVertex) × At (map_of m).svertices k v × SameDirection v.dir (vector_of d)
+    → At (map_of m).svertices k (record { dir = vector_of d; mark = s.mark; around = s.around })
 svertex-here m k s d h (v, a, w) =
     let b = map-at svertex_of m.svertices k s (at-from_get m.svertices k s h) in
     let e : v ≡ svertex_of s = at-one (map_of m).svertices k v (svertex_of s) a b in
-    let f : s.dir ≡ d = same_directions_equal s.dir d (subst (λ (x : Svertex). SameDirection x.way (vector_of d)) e w) in
-    subst (λ (x : Dir). At (map_of m).svertices k (record { way = vector_of x; mark = s.mark; around = s.around })) f b
+    let f : s.dir ≡ d = same_directions_equal s.dir d (subst (λ (x : MapVertex). SameDirection x.dir (vector_of d)) e w) in
+    subst (λ (x : Dir). At (map_of m).svertices k (record { dir = vector_of x; mark = s.mark; around = s.around })) f b
 
-pub lone-ok : {E : Type 0} (r : Result Star E) (M : Map) (k : ℕ) (own l : Label) (around : Option Label) (d : Dir) → Valid M → At M.svertices k (record { way = vector_of d; mark = own; around = around }) → around ≡ Some l
+pub lone-ok : {E : Type 0} (r : Result Star E) (M : Map) (k : ℕ) (own l : Label) (around : Option Label) (d : Dir) → Valid M → At M.svertices k (record { dir = vector_of d; mark = own; around = around }) → around ≡ Some l
     → IfOk r IsStar → IfOk r (λ t. t.axis ≡ d) → IfOk r (λ t. t.rays.items ≡ []) → IfOk r (λ t. t.sectors.items ≡ l ∷ []) → IfOk r (λ t. t.mark ≡ own) → IfOk r (λ t. IsNeighbourhood (star_of t) M (vector_of d))
 lone-ok (Ok t) M k own l around d V a some T axis empty one mark =
-    neighbourhood-of t T M (lone-shows t M l T empty one (at_svertex k v here (way-self v.way t.axis.some) (sym mark)) (near-lone M V k v here lone l some)) d axis
+    neighbourhood-of t T M (lone-shows t M l T empty one (at_svertex k v here (dir-self v.dir t.axis.some) (sym mark)) (near-lone M V k v here lone l some)) d axis
   where
-    v : Svertex
-    v = record { way = vector_of t.axis; mark = own; around = around }
+    v : MapVertex
+    v = record { dir = vector_of t.axis; mark = own; around = around }
 
     here : At M.svertices k v
-    here = subst (λ (x : Dir). At M.svertices k (record { way = vector_of x; mark = own; around = around })) (sym axis) a
+    here = subst (λ (x : Dir). At M.svertices k (record { dir = vector_of x; mark = own; around = around })) (sym axis) a
 
     lone : HasArc M k → ⊥
     lone h = let f : Some l ≡ None = sym some ∙ V.shaped.around_not k v here h in cc

@@ -7,16 +7,16 @@ use Rattle.law_cyclic.specs.Arcs.{IsOnCircle, IsStrictlyOn}
 use Rattle.law_cyclic.proofs.Directions.{level_cross_first, same-first}
 use Rattle.law_forms.proofs.Directions.{self-pos}
 use Rattle.law_forms.proofs.Far.{nought-or}
-use Rattle.law_sphere.specs.Maps.{At, Svertex, Map, arc_item, HasSide, Sees, IsClear, on_item, seen, NearLabel, Valid}
+use Rattle.law_sphere.specs.Maps.{At, MapVertex, Map, arc_item, HasSide, Sees, IsClear, on_item, seen, NearLabel, Valid}
 use Rattle.law_sphere.specs.Forms.{SameSigns, forms}
 use Rattle.law_sphere.specs.Stars.{across}
 use Rattle.law_sphere.proofs.Arcs.{at-arc}
-use Rattle.law_sphere.proofs.Compare.{SameDirection-trans, SameDirection-turned, way-self}
+use Rattle.law_sphere.proofs.Compare.{SameDirection-trans, SameDirection-turned, dir-self}
 use Rattle.law_sphere.proofs.Generic.{amount, far-keeps, far-level}
-use Rattle.law_sphere.proofs.Labels.{way-signs, label-by_signs, near-from_far}
+use Rattle.law_sphere.proofs.Labels.{dir-signs, label-by_signs, near-from_far}
 use Rattle.law_sphere.proofs.StarKinds.{across-side}
 use Rattle.law_sphere.proofs.StepOff.{blend-turned}
-use Rattle.law_sphere.proofs.Turn.{way-directed, IsStrictlyOn-same}
+use Rattle.law_sphere.proofs.Turn.{dir-directed, IsStrictlyOn-same}
 use Rattle.nef_star.proofs.Lefts.{way-same}
 use Rattle.nef_smap.proofs.NearSvertex.{ArcRay, ray_left, ray_side, Unrayed, same-cross, near-clear}
 use Rattle.nef_smap.proofs.SectorSees.{left-on, on-end, sector-sees}
@@ -33,18 +33,18 @@ beside-signs gs p m e k hp on s h i g l = ⊎_elim level off (nought-or (dot g p
     level z =
         far-level gs p e k h g z
         ∙ sym (ap sign (across-side g p e z) ∙ sign-scaled (dot p p) (dot g e) (self-pos p hp))
-        ∙ way-signs (cross m p) (across p e) g (way-directed (cross m p) (across p e) turned) turned
+        ∙ dir-signs (cross m p) (across p e) g (dir-directed (cross m p) (across p e) turned) turned
         ∙ sym (far-level gs p (cross m p) k i g z)
 
     off : (dot g p ≡ pos 0 → ⊥) → sign (dot g (blend k p 1 e)) ≡ sign (dot g (blend k p 1 (cross m p)))
     off f = far-keeps gs p e k h g l f ∙ sym (far-keeps gs p (cross m p) k i g l f)
 
-module _ (M : Map) (V : Valid M) (k : ℕ) (v : Svertex) (a : At M.svertices k v) where
+module _ (M : Map) (V : Valid M) (k : ℕ) (v : MapVertex) (a : At M.svertices k v) where
   abbrev p : Vector
-  p = v.way
+  p = v.dir
 
   hp : IsDirection p
-  hp = V.shaped.svertex_ways k v a
+  hp = V.shaped.svertex_dirs k v a
 
   -- on a ray there is the arc's mark
   pub ray-label : (q : ArcRay M k) (e : Vector) → SameDirection (ray_left q) (cross p e) → NearLabel M p e q.arc.mark
@@ -54,7 +54,7 @@ module _ (M : Map) (V : Valid M) (k : ℕ) (v : Svertex) (a : At M.svertices k v
       let n = amount (forms M) e + amount (forms M) along + o.0 in
       near-from_far M V p e n (omega arith) q.arc.mark
       (label-by_signs M V (blend n p 1 along) (blend n p 1 e) (beside-signs (forms M) p (ray_left q) e n hp (left-on M V.shaped k v a q) s (omega arith) (omega arith)) q.arc.mark
-      (on_item q.number (arc_item q.arc) (at-arc M.arcs M.loop q.number q.arc q.listed) (o.1 n (omega arith)) refl))
+      (on_item q.number (arc_item q.arc) (at-arc M.arcs M.sloop q.number q.arc q.listed) (o.1 n (omega arith)) refl))
 
   -- in the sector after a ray there is the label of its side
   pub after-label : (q : ArcRay M k) (e : Vector) (l : Label) → IsDirection (cross p e) → HasSide M (ray_side q) l → Unrayed M k p e → ((r : ArcRay M k) → IsStrictlyOn p (ray_left q) (cross p e) (ray_left r) → ⊥) → NearLabel M p e l
@@ -70,10 +70,10 @@ module _ (M : Map) (V : Valid M) (k : ℕ) (v : Svertex) (a : At M.svertices k v
       same = subst (λ (x : Vector). SameDirection (cross p x) (cross p e)) (blend-turned 1 n e p) (same-cross p e 1 n (omega arith) off)
 
       way : IsClear M w p
-      way = near-clear M V.shaped k v a w (far-keeps (forms M) p e n (omega arith)) (way-directed (cross p w) (cross p e) same) (λ r z. free r (SameDirection-trans (ray_left r) (cross p w) (cross p e) z same))
+      way = near-clear M V.shaped k v a w (far-keeps (forms M) p e n (omega arith)) (dir-directed (cross p w) (cross p e) same) (λ r z. free r (SameDirection-trans (ray_left r) (cross p w) (cross p e) z same))
 
       circle : (r : ArcRay M k) → SameDirection (ray_left r) (ray_left r)
-      circle r = let o = left-on M V.shaped k v a r in way-self (ray_left r) o.direction
+      circle r = let o = left-on M V.shaped k v a r in dir-self (ray_left r) o.direction
 
       sees : Sees M (ray_side q) w
-      sees = sector-sees M V.shaped k v a q w way (λ r o. none r (IsStrictlyOn-same p p (ray_left q) (ray_left q) (cross p w) (cross p e) (ray_left r) (ray_left r) (way-self p hp) (circle q) same (circle r) o))
+      sees = sector-sees M V.shaped k v a q w way (λ r o. none r (IsStrictlyOn-same p p (ray_left q) (ray_left q) (cross p w) (cross p e) (ray_left r) (ray_left r) (dir-self p hp) (circle q) same (circle r) o))

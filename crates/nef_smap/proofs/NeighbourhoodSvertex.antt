@@ -10,10 +10,10 @@ use Rattle.law_cyclic.proofs.Directions.{dot-opposite, level_cross_first}
 use Rattle.law_forms.proofs.Directions.{dot-comm, self-pos}
 use Rattle.nef_geo.specs.Shapes.{vector_of}
 use Rattle.nef_geo.specs.declared.dir.Dir.{Dir}
-use Rattle.law_sphere.specs.Maps.{At, Svertex, Arc, Map, arc_item, items, OnItem, HasArc, HasSide, at_svertex, NearLabel, Valid}
+use Rattle.law_sphere.specs.Maps.{At, MapVertex, Arc, Map, arc_item, items, OnItem, HasArc, HasSide, at_svertex, NearLabel, Valid}
 use Rattle.law_sphere.specs.Stars.{StarShows}
 use Rattle.law_sphere.proofs.Arcs.{at-arc}
-use Rattle.law_sphere.proofs.Compare.{way-self}
+use Rattle.law_sphere.proofs.Compare.{dir-self}
 use Rattle.law_sphere.proofs.Lists.{at-one}
 use Rattle.nef_star.specs.Rounds.{End, AreApart, IsRound}
 use Rattle.nef_star.specs.Turning.{IsTurning, IsNext, on_ray as at_ray, in_sector as of_sector, in_only_sector as of_only_sector}
@@ -65,12 +65,12 @@ back-apart v h f =
     omega (arith, ints)
 
 -- ---- the ends of arcs at svertex k
-module _ (m : SphereMap) (V : Valid (map_of m)) (k : ℕ) (v : Svertex) (a : At (map_of m).svertices k v) where
+module _ (m : SphereMap) (V : Valid (map_of m)) (k : ℕ) (v : MapVertex) (a : At (map_of m).svertices k v) where
   abbrev M : Map
   M = map_of m
 
   abbrev p : Vector
-  p = v.way
+  p = v.dir
 
   -- the end of arc j as a ray of the svertex
   pub record EndRay (j : ℕ) (e : End) : Type 0 where
@@ -84,7 +84,7 @@ module _ (m : SphereMap) (V : Valid (map_of m)) (k : ℕ) (v : Svertex) (a : At 
   arc-listed j b h = map-at arc_of m.arcs j b (at-from_get m.arcs j b h)
 
   item-listed : (j : ℕ) (b : SArc) → IsAt m.arcs j b → At (items M) j (arc_item (arc_of b))
-  item-listed j b h = at-arc M.arcs M.loop j (arc_of b) (arc-listed j b h)
+  item-listed j b h = at-arc M.arcs M.sloop j (arc_of b) (arc-listed j b h)
 
   pub end-ray : (j : ℕ) (b : SArc) (e : End) → IsAt m.arcs j b → IsArcEnd b k e → EndRay j e
   end-ray j b e h (inl (s, f)) = record {
@@ -138,7 +138,7 @@ module _ (m : SphereMap) (V : Valid (map_of m)) (k : ℕ) (v : Svertex) (a : At 
       let f = on-end M V.shaped k v a q in
       let g = on-end M V.shaped k v a r in
       let n = f.0 + g.0 in
-      V.shaped.no_items_meet q.number r.number (arc_item q.arc) (arc_item r.arc) (blend n p 1 (cross (ray_left q) p)) (at-arc M.arcs M.loop q.number q.arc q.listed) (at-arc M.arcs M.loop r.number r.arc r.listed)
+      V.shaped.no_items_meet q.number r.number (arc_item q.arc) (arc_item r.arc) (blend n p 1 (cross (ray_left q) p)) (at-arc M.arcs M.sloop q.number q.arc q.listed) (at-arc M.arcs M.sloop r.number r.arc r.listed)
       (f.1 n (omega arith)) (subst (λ (x : Vector). OnItem M (arc_item r.arc) (blend n p 1 (cross x p))) (sym s) (g.1 n (omega arith)))
 
   normal-level : (j : ℕ) (b : SArc) (e : End) → IsAt m.arcs j b → IsArcEnd b k e → (e.0.normal ≡ b.normal) × (dot (vector_of b.normal) p ≡ pos 0)
@@ -198,12 +198,12 @@ module _ (m : SphereMap) (V : Valid (map_of m)) (k : ℕ) (v : Svertex) (a : At 
 
 -- ---- the star of the ends
 module _ (m : SphereMap) (V : Valid (map_of m)) (t : Star) (T : IsStar t) (k : ℕ) (own : Label) (around : Option Label)
-    (a : At (map_of m).svertices k (record { way = vector_of t.axis; mark = own; around = around })) (ends : List End) (A : AreArcEnds m.arcs k ends) (R : IsRound ends t) (some : 0 < length ends) where
+    (a : At (map_of m).svertices k (record { dir = vector_of t.axis; mark = own; around = around })) (ends : List End) (A : AreArcEnds m.arcs k ends) (R : IsRound ends t) (some : 0 < length ends) where
   abbrev N : Map
   N = map_of m
 
-  abbrev w : Svertex
-  w = record { way = vector_of t.axis; mark = own; around = around }
+  abbrev w : MapVertex
+  w = record { dir = vector_of t.axis; mark = own; around = around }
 
   abbrev d : Vector
   d = vector_of t.axis
@@ -292,13 +292,13 @@ module _ (m : SphereMap) (V : Valid (map_of m)) (t : Star) (T : IsStar t) (k : �
     axis = t.axis.some;
     rays = (star-well_formed t T).rays;
     sectors = sector-of t T;
-    mark = at_svertex k w a (way-self d t.axis.some) (sym f);
+    mark = at_svertex k w a (dir-self d t.axis.some) (sym f);
     labels = λ e l off s. near e off l (to-left t T.turned e off l s);
   }
 
-pub ends-ok : {E : Type 0} (r : Result Star E) (m : SphereMap) (k : ℕ) (own : Label) (around : Option Label) (d : Dir) (ends : List End) → Valid (map_of m) → At (map_of m).svertices k (record { way = vector_of d; mark = own; around = around })
+pub ends-ok : {E : Type 0} (r : Result Star E) (m : SphereMap) (k : ℕ) (own : Label) (around : Option Label) (d : Dir) (ends : List End) → Valid (map_of m) → At (map_of m).svertices k (record { dir = vector_of d; mark = own; around = around })
     → AreArcEnds m.arcs k ends → 0 < length ends → IfOk r IsStar → IfOk r (λ t. t.axis ≡ d) → IfOk r (λ t. t.mark ≡ own) → IfOk r (λ t. IsRound ends t) → IfOk r (λ t. IsNeighbourhood (star_of t) (map_of m) (vector_of d))
 ends-ok (Ok t) m k own around d ends V a A some T axis mark R =
-    let here = subst (λ (x : Dir). At (map_of m).svertices k (record { way = vector_of x; mark = own; around = around })) (sym axis) a in
+    let here = subst (λ (x : Dir). At (map_of m).svertices k (record { dir = vector_of x; mark = own; around = around })) (sym axis) a in
     neighbourhood-of t T (map_of m) (ends-show m V t T k own around here ends A R some mark) d axis
 ends-ok (Err e) m k own around d ends V a A some T axis mark R = tt

@@ -9,18 +9,18 @@ use Rattle.nef_space.specs.declared.label.Label.TheVariants.{Out}
 use Rattle.law_near.proofs.FlatDecided.{cross-turned}
 use Rattle.law_forms.proofs.Directions.{zero-decided}
 use Rattle.law_cyclic.specs.Arcs.{IsStrictlyOn}
-use Rattle.law_sphere.specs.Maps.{At, Svertex, Loop, Map, Item, arc_item, loop_item, items, item_normal, way_of, OnItem, IsFree, Side, around_svertex, above_item, below_item, whole, HasArc, HasSide, Sees, Shaped}
+use Rattle.law_sphere.specs.Maps.{At, MapVertex, MapSloop, Map, Item, arc_item, sloop_item, items, item_normal, dir_of, OnItem, IsFree, Side, around_svertex, pos_item, neg_item, whole, HasArc, HasSide, Sees, Shaped}
 use Rattle.law_sphere.specs.Labelling.{Labelling, Near, Plain, PlainAt, StraightAt, IsSmooth, straight}
 use Rattle.law_sphere.proofs.Vectors.{normal-is}
 use Rattle.law_sphere.proofs.Forms.{on-direction, on-level, axes-forms}
 use Rattle.law_sphere.proofs.Generic.{amount}
 use Rattle.law_sphere.proofs.Parallel.{apart, parallel-trans, past_source, arc-point}
-use Rattle.law_sphere.proofs.Shot.{way-at, arc-at}
+use Rattle.law_sphere.proofs.Shot.{dir-at, arc-at}
 use Rattle.law_sphere.proofs.Direct.{cross-self}
 use Rattle.law_sphere.proofs.Around.{Beside, same_way, other_way, beside}
 use Rattle.law_sphere.proofs.Walk.{cross-direction_left}
-use Rattle.law_sphere.proofs.Arcs.{loop-at}
-use Rattle.law_sphere.proofs.Flips.{Axial, directed-by, far_directed-by, loop-along}
+use Rattle.law_sphere.proofs.Arcs.{sloop-at}
+use Rattle.law_sphere.proofs.Flips.{Axial, directed-by, far_directed-by, sloop-along}
 use Rattle.law_sphere.proofs.ArcLabels.{arc-along}
 use Rattle.nef_smap.specs.Above.{over_forms, IsFirst, Stands}
 use Rattle.nef_smap.specs.Joined.{met, BelowFirst, Firsts, Joins}
@@ -32,11 +32,11 @@ use Rattle.nef_smap.proofs.Labelled.{above_forms, over-above, LabelAbove, by_one
 use Rattle.nef_smap.proofs.Clean.{lone-clean}
 use Rattle.nef_smap.proofs.Settled.{plain-free, straight-on, round-lone}
 use Rattle.nef_smap.proofs.Pole.{plain-up, plain-down}
-use Rattle.nef_smap.proofs.Upper.{upper-arc, upper-loop}
+use Rattle.nef_smap.proofs.Upper.{upper-arc, upper-sloop}
 use Rattle.nef_smap.proofs.Reached.{Sided, sides-agree}
 
 module _ (M : Map) (V : Shaped M) (u : Vector) (ahead : (k : ℕ) (x : Item) → At (items M) k x → pos 0 <ℤ dot (item_normal x) u)
-    (across : (k : ℕ) (v : Svertex) → At M.svertices k v → IsDirection (cross u v.way)) (G : Side → Label) (top : Label) (Z : Firsts M u) (J : Joins M u G top Z)
+    (across : (k : ℕ) (v : MapVertex) → At M.svertices k v → IsDirection (cross u v.dir)) (G : Side → Label) (top : Label) (Z : Firsts M u) (J : Joins M u G top Z)
     (e : Vector) (general : (g : Vector) → Lies (over_forms M u) g → IsDirection g → dot g e ≡ pos 0 → ⊥) (off_u : IsDirection (cross u e)) where
   abbrev gs : List Vector
   gs = above_forms M u e G top
@@ -77,42 +77,42 @@ module _ (M : Map) (V : Shaped M) (u : Vector) (ahead : (k : ℕ) (x : Item) →
     off-meridian : (d : Vector) → OnItem M x d → IsDirection (cross u d)
     off-meridian d o = apart n u d (λ z. let h = ahead k x a in omega (arith, ints)) (on-level M x d o) (on-direction M x d o)
 
-    some-straight : (d : Vector) (o : OnItem M x d) → StraightAt F n (over_label d (off-meridian d o)) Out (G (below_item k)) d
+    some-straight : (d : Vector) (o : OnItem M x d) → StraightAt F n (over_label d (off-meridian d o)) Out (G (neg_item k)) d
     some-straight d o = straight-on M V u ahead G top Z.svertices J.below e d (off-meridian d o) k x a o
 
     smooth : (d : Vector) → OnItem M x d → IsSmooth F d
-    smooth d o = straight n (over_label d (off-meridian d o)) Out (G (below_item k)) (normal-is V k x a) (some-straight d o)
+    smooth d o = straight n (over_label d (off-meridian d o)) Out (G (neg_item k)) (normal-is V k x a) (some-straight d o)
 
-    proper : G (above_item k) ≡ Out → G (below_item k) ≡ Out → ⊥
-    proper p q = J.never_out (above_item k) p
+    proper : G (pos_item k) ≡ Out → G (neg_item k) ≡ Out → ⊥
+    proper p q = J.never_out (pos_item k) p
 
-  straight-everywhere : (k : ℕ) (x : Item) (a : At (items M) k x) (d : Vector) → OnItem M x d → StraightAt F (item_normal x) (G (above_item k)) Out (G (below_item k)) d
-  straight-everywhere k (arc_item r) a d o = arc-along gs F L (directed-by gs axial) (far_directed-by gs axial) m (G (above_item k)) Out (G (below_item k)) (proper k (arc_item r) a) hn s t hs ht ls lt
+  straight-everywhere : (k : ℕ) (x : Item) (a : At (items M) k x) (d : Vector) → OnItem M x d → StraightAt F (item_normal x) (G (pos_item k)) Out (G (neg_item k)) d
+  straight-everywhere k (arc_item r) a d o = arc-along gs F L (directed-by gs axial) (far_directed-by gs axial) m (G (pos_item k)) Out (G (neg_item k)) (proper k (arc_item r) a) hn s t hs ht ls lt
       (λ w p. smooth k (arc_item r) a w p) K (omega arith) start d o
     where
       m : Vector
       m = r.normal
 
       s : Vector
-      s = way_of M.svertices r.source
+      s = dir_of M.svertices r.source
 
       t : Vector
-      t = way_of M.svertices r.target
+      t = dir_of M.svertices r.target
 
       hn : IsDirection r.normal
       hn = normal-is V k (arc_item r) a
 
-      hs : IsDirection (way_of M.svertices r.source)
-      hs = let b = V.arcs_between k r (arc-at M.arcs M.loop k r a) in subst IsDirection (sym (way-at M.svertices r.source b.source b.has_source)) (V.svertex_ways r.source b.source b.has_source)
+      hs : IsDirection (dir_of M.svertices r.source)
+      hs = let b = V.arcs_between k r (arc-at M.arcs M.sloop k r a) in subst IsDirection (sym (dir-at M.svertices r.source b.source b.has_source)) (V.svertex_dirs r.source b.source b.has_source)
 
-      ht : IsDirection (way_of M.svertices r.target)
-      ht = let b = V.arcs_between k r (arc-at M.arcs M.loop k r a) in subst IsDirection (sym (way-at M.svertices r.target b.target b.has_target)) (V.svertex_ways r.target b.target b.has_target)
+      ht : IsDirection (dir_of M.svertices r.target)
+      ht = let b = V.arcs_between k r (arc-at M.arcs M.sloop k r a) in subst IsDirection (sym (dir-at M.svertices r.target b.target b.has_target)) (V.svertex_dirs r.target b.target b.has_target)
 
-      ls : dot r.normal (way_of M.svertices r.source) ≡ pos 0
-      ls = let b = V.arcs_between k r (arc-at M.arcs M.loop k r a) in subst (λ (v : Vector). dot r.normal v ≡ pos 0) (sym (way-at M.svertices r.source b.source b.has_source)) b.level_source
+      ls : dot r.normal (dir_of M.svertices r.source) ≡ pos 0
+      ls = let b = V.arcs_between k r (arc-at M.arcs M.sloop k r a) in subst (λ (v : Vector). dot r.normal v ≡ pos 0) (sym (dir-at M.svertices r.source b.source b.has_source)) b.level_source
 
-      lt : dot r.normal (way_of M.svertices r.target) ≡ pos 0
-      lt = let b = V.arcs_between k r (arc-at M.arcs M.loop k r a) in subst (λ (v : Vector). dot r.normal v ≡ pos 0) (sym (way-at M.svertices r.target b.target b.has_target)) b.level_target
+      lt : dot r.normal (dir_of M.svertices r.target) ≡ pos 0
+      lt = let b = V.arcs_between k r (arc-at M.arcs M.sloop k r a) in subst (λ (v : Vector). dot r.normal v ≡ pos 0) (sym (dir-at M.svertices r.target b.target b.has_target)) b.level_target
 
       K : ℕ
       K = amount (cross t m ∷ []) (cross m s) + amount (over_forms M u) (cross m s)
@@ -123,24 +123,24 @@ module _ (M : Map) (V : Shaped M) (u : Vector) (ahead : (k : ℕ) (x : Item) →
       on-z : IsStrictlyOn m s t z
       on-z = arc-point m s t hn hs ht ls lt K (omega arith)
 
-      start : StraightAt F m (G (above_item k)) Out (G (below_item k)) z
-      start = subst (λ (c : Label). StraightAt F m c Out (G (below_item k)) z)
-          (upper-arc M V u ahead G top Z.svertices J.below k r a (Z.arcs k r (arc-at M.arcs M.loop k r a)) (J.arcs k r (arc-at M.arcs M.loop k r a)) hs ls K (omega arith) on-z (off-meridian k (arc_item r) a z on-z) (over_label z (off-meridian k (arc_item r) a z on-z))
+      start : StraightAt F m (G (pos_item k)) Out (G (neg_item k)) z
+      start = subst (λ (c : Label). StraightAt F m c Out (G (neg_item k)) z)
+          (upper-arc M V u ahead G top Z.svertices J.below k r a (Z.arcs k r (arc-at M.arcs M.sloop k r a)) (J.arcs k r (arc-at M.arcs M.sloop k r a)) hs ls K (omega arith) on-z (off-meridian k (arc_item r) a z on-z) (over_label z (off-meridian k (arc_item r) a z on-z))
           (let c = all-meet M V u ahead z (off-meridian k (arc_item r) a z on-z) G top Z.svertices J.below in c.1))
           (some-straight k (arc_item r) a z on-z)
-  straight-everywhere k (loop_item r) a d o =
-      let j = Z.loops k r a in
-      let f = off-meridian k (loop_item r) a j.point j.on in
-      loop-along gs F L axial r.normal (G (above_item k)) Out (G (below_item k)) (proper k (loop_item r) a) (normal-is V k (loop_item r) a) (λ w p. smooth k (loop_item r) a w p) j.point j.on.direction
-      (subst (λ (c : Label). StraightAt F r.normal c Out (G (below_item k)) j.point)
-      (upper-loop M V u ahead G top Z.svertices J.below k r a j (J.loops k r a) f (over_label j.point f) (let c = all-meet M V u ahead j.point f G top Z.svertices J.below in c.1))
-      (some-straight k (loop_item r) a j.point j.on)) d o
+  straight-everywhere k (sloop_item r) a d o =
+      let j = Z.sloops k r a in
+      let f = off-meridian k (sloop_item r) a j.point j.on in
+      sloop-along gs F L axial r.normal (G (pos_item k)) Out (G (neg_item k)) (proper k (sloop_item r) a) (normal-is V k (sloop_item r) a) (λ w p. smooth k (sloop_item r) a w p) j.point j.on.direction
+      (subst (λ (c : Label). StraightAt F r.normal c Out (G (neg_item k)) j.point)
+      (upper-sloop M V u ahead G top Z.svertices J.below k r a j (J.sloops k r a) f (over_label j.point f) (let c = all-meet M V u ahead j.point f G top Z.svertices J.below in c.1))
+      (some-straight k (sloop_item r) a j.point j.on)) d o
 
   -- ---- svertices without arcs
-  round : (k : ℕ) (v : Svertex) (m : Label) (w : Vector) → At M.svertices k v → v.around ≡ Some m → IsDirection (cross v.way w) → Near F v.way w (G (around_svertex k))
-  round k v m w a q h = subst (Near F v.way w) (sym meets ∙ J.around k v m a q) (round-lone M V u ahead G top Z.svertices J.below e v.way f k v a refl lone w h)
+  round : (k : ℕ) (v : MapVertex) (m : Label) (w : Vector) → At M.svertices k v → v.around ≡ Some m → IsDirection (cross v.dir w) → Near F v.dir w (G (around_svertex k))
+  round k v m w a q h = subst (Near F v.dir w) (sym meets ∙ J.around k v m a q) (round-lone M V u ahead G top Z.svertices J.below e v.dir f k v a refl lone w h)
     where
-      f : IsDirection (cross u v.way)
+      f : IsDirection (cross u v.dir)
       f = across k v a
 
       lone : HasArc M k → ⊥
@@ -149,43 +149,43 @@ module _ (M : Map) (V : Shaped M) (u : Vector) (ahead : (k : ℕ) (x : Item) →
           none-some : ◌≡◌ {A = Option Label} None (Some m) → ⊥
           none-some e = absurd cc
 
-      j : BelowFirst M u v.way
+      j : BelowFirst M u v.dir
       j = Z.arounds k v m a q
 
       l : Vector
-      l = cross u v.way
+      l = cross u v.dir
 
       y : Vector
-      y = stand (l ∷ over_forms M u) v.way (opposite u) j.aside
+      y = stand (l ∷ over_forms M u) v.dir (opposite u) j.aside
 
-      s : Stands (over_forms M u) v.way (opposite u) j.aside y
-      s g i = stands (l ∷ over_forms M u) v.way (opposite u) j.aside g (inr i)
+      s : Stands (over_forms M u) v.dir (opposite u) j.aside y
+      s g i = stands (l ∷ over_forms M u) v.dir (opposite u) j.aside g (inr i)
 
       off : dot l y ≡ pos 0 → ⊥
       off z =
           let c = dot-opposite l u in
-          let b = cross-self u v.way in
-          let t = stands-third (l ∷ over_forms M u) v.way (opposite u) j.aside y l (stands (l ∷ over_forms M u) v.way (opposite u) j.aside) (inl refl) (cross-last u v.way) (omega (arith, ints)) in
+          let b = cross-self u v.dir in
+          let t = stands-third (l ∷ over_forms M u) v.dir (opposite u) j.aside y l (stands (l ∷ over_forms M u) v.dir (opposite u) j.aside) (inl refl) (cross-last u v.dir) (omega (arith, ints)) in
           j.off (nought-is (dot l j.aside) (sym t ∙ ap sign z))
 
-      meets : met G top j.first ≡ over_label v.way f
+      meets : met G top j.first ≡ over_label v.dir f
       meets =
-          let near = stands-keeps (over_forms M u) v.way (opposite u) j.aside y s in
-          let c = all-meet M V u ahead v.way f G top Z.svertices J.below in
-          c.1 y near (lone-clean M V u ahead v.way y near f k v a refl lone) off j.first (j.is_first y s)
+          let near = stands-keeps (over_forms M u) v.dir (opposite u) j.aside y s in
+          let c = all-meet M V u ahead v.dir f G top Z.svertices J.below in
+          c.1 y near (lone-clean M V u ahead v.dir y near f k v a refl lone) off j.first (j.is_first y s)
 
   -- ---- a map without items
-  no_items : (m : Label) → M.face ≡ Some m → (k : ℕ) (x : Item) → At (items M) k x → ⊥
+  no_items : (m : Label) → M.ground ≡ Some m → (k : ℕ) (x : Item) → At (items M) k x → ⊥
   no_items m q k (arc_item r) a =
-      let b = V.arcs_between k r (arc-at M.arcs M.loop k r a) in
+      let b = V.arcs_between k r (arc-at M.arcs M.sloop k r a) in
       let g = V.ground_not m q in
-      subst (λ (vs : List Svertex). At vs r.source b.source) g.0 b.has_source
-  no_items m q k (loop_item l) a = let g = V.ground_not m q in none-some (sym g.1 ∙ loop-at M.arcs M.loop k l a)
+      subst (λ (vs : List MapVertex). At vs r.source b.source) g.0 b.has_source
+  no_items m q k (sloop_item l) a = let g = V.ground_not m q in none-some (sym g.1 ∙ sloop-at M.arcs M.sloop k l a)
     where
-      none-some : ◌≡◌ {A = Option Loop} None (Some l) → ⊥
+      none-some : ◌≡◌ {A = Option MapSloop} None (Some l) → ⊥
       none-some e = absurd cc
 
-  ground : (m : Label) (d : Vector) → M.face ≡ Some m → IsFree M d → F d (G whole)
+  ground : (m : Label) (d : Vector) → M.ground ≡ Some m → IsFree M d → F d (G whole)
   ground m d q D = by_one M u e G top V ahead d (stand (over_forms M u) d (cross u d) e) (G whole) D (stands (over_forms M u) d (cross u d) e) (λ r x. by r x)
     where
       by : (r : Option ℕ) → IsFirst M u (stand (over_forms M u) d (cross u d) e) r → met G top r ≡ G whole
@@ -197,7 +197,7 @@ module _ (M : Map) (V : Shaped M) (u : Vector) (ahead : (k : ℕ) (x : Item) →
     free = plain;
     beside = λ k x d w a o h. let s = straight-everywhere k x a d o in s.near w;
     lone = round;
-    face = ground;
+    ground = ground;
   }
 
   pub joined-agree : (d : Vector) (o p : Side) (k l : Label) → HasSide M o k → HasSide M p l → Sees M o d → Sees M p d → G o ≡ G p

@@ -6,15 +6,15 @@ use Rattle.law_arithmetic.proofs.Combination.{follows, given, none}
 use Rattle.law_arithmetic.proofs.Order.{sign, by_order, sign-scaled}
 use Rattle.law_forms.proofs.Far.{same-nought}
 use Rattle.nef_space.specs.Vectors.{Vector, IsDirection, dot, SameDirection}
-use Rattle.law_sphere.specs.Maps.{At, Svertex, Arc, Map, Item, arc_item, loop_item, items, item_normal, way_of, OnItem, Shaped}
+use Rattle.law_sphere.specs.Maps.{At, MapVertex, Arc, Map, Item, arc_item, sloop_item, items, item_normal, dir_of, OnItem, Shaped}
 use Rattle.law_sphere.specs.Forms.{SameSigns, Keeps, forms}
 use Rattle.law_sphere.proofs.Vectors.{normal-is, same-minus}
 use Rattle.law_sphere.proofs.Lists.{at-one}
 use Rattle.law_sphere.proofs.Places.{kept-nought, SameDirection-decided}
 use Rattle.law_near.proofs.Decided.{Decided}
 use Rattle.law_sphere.proofs.Forms.{item-forms, normal-form, on-level, OnItem-by_signs}
-use Rattle.law_sphere.proofs.Shot.{way-at, arc-at}
-use Rattle.law_sphere.proofs.Labels.{way-signs}
+use Rattle.law_sphere.proofs.Shot.{dir-at, arc-at}
+use Rattle.law_sphere.proofs.Labels.{dir-signs}
 use Rattle.law_sphere.proofs.Around.{IsStrictlyOn-back}
 use Rattle.nef_smap.specs.Above.{rise, meridians, IsOver, IsFirst}
 use Rattle.nef_smap.proofs.Rise.{rise-is, rise_form-value, rise-same}
@@ -22,44 +22,44 @@ use Rattle.nef_smap.proofs.Rise.{rise-is, rise_form-value, rise-same}
 -- ---- an item close to y is met at y or has an end there
 pub data Touches (M : Map) (x : Item) (y : Vector) : Type 0 where
   meets : OnItem M x y → Touches M x y
-  ends : (k : ℕ) (v : Svertex) (a : Arc) → At M.svertices k v → x ≡ arc_item a → (a.source ≡ k) ⊎ (a.target ≡ k) → SameDirection v.way y → Touches M x y
+  ends : (k : ℕ) (v : MapVertex) (a : Arc) → At M.svertices k v → x ≡ arc_item a → (a.source ≡ k) ⊎ (a.target ≡ k) → SameDirection v.dir y → Touches M x y
 
 module _ (M : Map) (V : Shaped M) where
   pub touches-back : (d e : Vector) → Keeps (forms M) d e → (i : ℕ) (x : Item) → At (items M) i x → IsDirection d → OnItem M x e → Touches M x d
-  touches-back d e k i (loop_item l) a f o = meets (record { direction = f; level = kept-nought l.normal d e (k l.normal (item-forms M i (loop_item l) l.normal a (inl refl))) o.level })
-  touches-back d e k i (arc_item r) a f o = by (SameDirection-decided (way_of M.svertices r.source) d) (SameDirection-decided (way_of M.svertices r.target) d)
+  touches-back d e k i (sloop_item l) a f o = meets (record { direction = f; level = kept-nought l.normal d e (k l.normal (item-forms M i (sloop_item l) l.normal a (inl refl))) o.level })
+  touches-back d e k i (arc_item r) a f o = by (SameDirection-decided (dir_of M.svertices r.source) d) (SameDirection-decided (dir_of M.svertices r.target) d)
     where
-      by : Decided (SameDirection (way_of M.svertices r.source) d) → Decided (SameDirection (way_of M.svertices r.target) d) → Touches M (arc_item r) d
-      by (inl w) y = let b = V.arcs_between i r (arc-at M.arcs M.loop i r a) in
-          ends r.source b.source r b.has_source refl (inl refl) (subst (λ (v : Vector). SameDirection v d) (way-at M.svertices r.source b.source b.has_source) w)
-      by (inr n) (inl w) = let b = V.arcs_between i r (arc-at M.arcs M.loop i r a) in
-          ends r.target b.target r b.has_target refl (inr refl) (subst (λ (v : Vector). SameDirection v d) (way-at M.svertices r.target b.target b.has_target) w)
+      by : Decided (SameDirection (dir_of M.svertices r.source) d) → Decided (SameDirection (dir_of M.svertices r.target) d) → Touches M (arc_item r) d
+      by (inl w) y = let b = V.arcs_between i r (arc-at M.arcs M.sloop i r a) in
+          ends r.source b.source r b.has_source refl (inl refl) (subst (λ (v : Vector). SameDirection v d) (dir-at M.svertices r.source b.source b.has_source) w)
+      by (inr n) (inl w) = let b = V.arcs_between i r (arc-at M.arcs M.sloop i r a) in
+          ends r.target b.target r b.has_target refl (inr refl) (subst (λ (v : Vector). SameDirection v d) (dir-at M.svertices r.target b.target b.has_target) w)
       by (inr n) (inr m) =
-          let b = V.arcs_between i r (arc-at M.arcs M.loop i r a) in
-          let s = sym (way-at M.svertices r.source b.source b.has_source) in
-          let t = sym (way-at M.svertices r.target b.target b.has_target) in
-          meets (IsStrictlyOn-back r.normal (way_of M.svertices r.source) (way_of M.svertices r.target) d e (normal-is V i (arc_item r) a)
-          (subst IsDirection s (V.svertex_ways r.source b.source b.has_source)) (subst IsDirection t (V.svertex_ways r.target b.target b.has_target))
+          let b = V.arcs_between i r (arc-at M.arcs M.sloop i r a) in
+          let s = sym (dir-at M.svertices r.source b.source b.has_source) in
+          let t = sym (dir-at M.svertices r.target b.target b.has_target) in
+          meets (IsStrictlyOn-back r.normal (dir_of M.svertices r.source) (dir_of M.svertices r.target) d e (normal-is V i (arc_item r) a)
+          (subst IsDirection s (V.svertex_dirs r.source b.source b.has_source)) (subst IsDirection t (V.svertex_dirs r.target b.target b.has_target))
           (subst (λ (v : Vector). dot r.normal v ≡ pos 0) s b.level_source) (subst (λ (v : Vector). dot r.normal v ≡ pos 0) t b.level_target)
           (λ g l. k g (item-forms M i (arc_item r) g a l)) f n m o)
 
   -- no item but x touches a direction on x
   pub touches-on : (i j : ℕ) (x y : Item) (d : Vector) → At (items M) i x → At (items M) j y → OnItem M x d → Touches M y d → i ≡ j
   touches-on i j x y d a b o (meets p) = V.no_items_meet i j x y d a b o p
-  touches-on i j x y d a b o (ends k v r c e q w) = absurd (V.no_svertex_on_item k i v x c a (OnItem-by_signs M x d v.way (λ g l. sym (way-signs v.way d g (V.svertex_ways k v c) w)) o))
+  touches-on i j x y d a b o (ends k v r c e q w) = absurd (V.no_svertex_on_item k i v x c a (OnItem-by_signs M x d v.dir (λ g l. sym (dir-signs v.dir d g (V.svertex_dirs k v c) w)) o))
 
   -- ends lie in the plane
-  arc_end-level : (i k : ℕ) (v : Svertex) (r : Arc) → At (items M) i (arc_item r) → At M.svertices k v → (r.source ≡ k) ⊎ (r.target ≡ k) → dot r.normal v.way ≡ pos 0
+  arc_end-level : (i k : ℕ) (v : MapVertex) (r : Arc) → At (items M) i (arc_item r) → At M.svertices k v → (r.source ≡ k) ⊎ (r.target ≡ k) → dot r.normal v.dir ≡ pos 0
   arc_end-level i k v r a c q =
-      let b = V.arcs_between i r (arc-at M.arcs M.loop i r a) in
+      let b = V.arcs_between i r (arc-at M.arcs M.sloop i r a) in
       ⊎_elim
-      (λ e. subst (λ (w : Svertex). dot r.normal w.way ≡ pos 0) (at-one M.svertices k b.source v (subst (λ (j : ℕ). At M.svertices j b.source) e b.has_source) c) b.level_source)
-      (λ e. subst (λ (w : Svertex). dot r.normal w.way ≡ pos 0) (at-one M.svertices k b.target v (subst (λ (j : ℕ). At M.svertices j b.target) e b.has_target) c) b.level_target) q
+      (λ e. subst (λ (w : MapVertex). dot r.normal w.dir ≡ pos 0) (at-one M.svertices k b.source v (subst (λ (j : ℕ). At M.svertices j b.source) e b.has_source) c) b.level_source)
+      (λ e. subst (λ (w : MapVertex). dot r.normal w.dir ≡ pos 0) (at-one M.svertices k b.target v (subst (λ (j : ℕ). At M.svertices j b.target) e b.has_target) c) b.level_target) q
 
   pub touches-level : (i : ℕ) (x : Item) (d : Vector) → At (items M) i x → Touches M x d → dot (item_normal x) d ≡ pos 0
   touches-level i x d a (meets o) = on-level M x d o
   touches-level i x d a (ends k v r c e q w) = subst (λ (y : Item). dot (item_normal y) d ≡ pos 0) (sym e)
-      (same-nought (dot r.normal v.way) (dot r.normal d) (way-signs v.way d r.normal (V.svertex_ways k v c) w) (arc_end-level i k v r (subst (At (items M) i) e a) c q))
+      (same-nought (dot r.normal v.dir) (dot r.normal d) (dir-signs v.dir d r.normal (V.svertex_dirs k v c) w) (arc_end-level i k v r (subst (At (items M) i) e a) c q))
 
 -- ---- the same signs
 -- the item lies on one side of both, or over neither

@@ -9,13 +9,13 @@ use Rattle.nef_space.specs.Vectors.{Vector, IsDirection, IsZero, cross, dot, Sam
 use Rattle.nef_space.specs.declared.label.Label.{Label}
 use Rattle.law_forms.proofs.Directions.{self-pos, dot-comm, dot-zero, zero-dot, zero-decided}
 use Rattle.law_forms.proofs.Far.{nought-or, same-off}
-use Rattle.law_sphere.specs.Maps.{At, Svertex, Map, Item, items, item_normal, IsFree, Side, Shaped}
+use Rattle.law_sphere.specs.Maps.{At, MapVertex, Map, Item, items, item_normal, IsFree, Side, Shaped}
 use Rattle.law_sphere.specs.Forms.{Keeps, forms}
 use Rattle.law_sphere.specs.Labelling.{Labelling, Near, Plain, PlainAt}
 use Rattle.law_sphere.proofs.Vectors.{dot-comb, same-plus, nought-if}
 use Rattle.law_sphere.proofs.Forms.{item-forms, normal-form}
 use Rattle.law_sphere.proofs.Generic.{amount, far-keeps, far-level}
-use Rattle.law_sphere.proofs.Labels.{way-signs, mixed-sign}
+use Rattle.law_sphere.proofs.Labels.{dir-signs, mixed-sign}
 use Rattle.law_sphere.proofs.Around.{free-around}
 use Rattle.law_sphere.proofs.Walk.{carried, cross-direction_left}
 use Rattle.law_sphere.proofs.Direct.{cross-self}
@@ -45,7 +45,7 @@ keeps-mixed : (gs : List Vector) (d y z : Vector) (i j : ℕ) → 0 < i → 0 < 
 keeps-mixed gs d y z i j si sj k h g l f = ap sign (dot-comb g (pos i) y (pos j) z) ∙ mixed-sign (dot g y) (dot g z) i j si sj (h g l f ∙ sym (k g l f)) ∙ k g l f
 
 module _ (M : Map) (V : Shaped M) (u : Vector) (ahead : (k : ℕ) (x : Item) → At (items M) k x → pos 0 <ℤ dot (item_normal x) u)
-    (G : Side → Label) (top : Label) (firsts : (k : ℕ) (v : Svertex) → At M.svertices k v → BelowFirsts M u v.way) (joins : (k : ℕ) (v : Svertex) (a : At M.svertices k v) → (let j = firsts k v a in met G top j.left ≡ met G top j.right))
+    (G : Side → Label) (top : Label) (firsts : (k : ℕ) (v : MapVertex) → At M.svertices k v → BelowFirsts M u v.dir) (joins : (k : ℕ) (v : MapVertex) (a : At M.svertices k v) → (let j = firsts k v a in met G top j.left ≡ met G top j.right))
     (e : Vector) (general : (g : Vector) → Lies (over_forms M u) g → IsDirection g → dot g e ≡ pos 0 → ⊥) (apart : IsDirection (cross u e)) where
   abbrev F : Vector → Label → Type 0
   F = LabelAbove M u e G top
@@ -68,7 +68,7 @@ module _ (M : Map) (V : Shaped M) (u : Vector) (ahead : (k : ℕ) (x : Item) →
         none j x a y s o =
             let n = item_normal x in
             let i = form-over M u n (item-forms M j x n a (normal-form M x)) in
-            let p = same-plus (dot n u) (dot n d) (way-signs u d n hu w) (ahead j x a) in
+            let p = same-plus (dot n u) (dot n d) (dir-signs u d n hu w) (ahead j x a) in
             let q = same-plus (dot n d) (dot n z) (k n i (λ c. omega (arith, ints))) p in
             let r = same-plus (dot n z) (dot n y) (stands-keeps (over_forms M u) z (cross u z) e y s n i (λ c. omega (arith, ints))) q in
             let b = o.below in omega (arith, ints)

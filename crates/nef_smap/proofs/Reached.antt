@@ -8,7 +8,7 @@ use Rattle.nef_space.specs.declared.label.Label.{Label}
 use Rattle.nef_space.specs.declared.label.Label.TheVariants.{Out}
 use Rattle.law_near.proofs.Decided.{Decided}
 use Rattle.law_forms.proofs.Directions.{dot-comm, zero-decided}
-use Rattle.law_sphere.specs.Maps.{At, Svertex, Map, Item, items, item_normal, OnItem, IsFree, Side, around_svertex, above_item, below_item, whole, HasSide, IsClear, Reaches, Sees, directly, by_way_of}
+use Rattle.law_sphere.specs.Maps.{At, MapVertex, Map, Item, items, item_normal, OnItem, IsFree, Side, around_svertex, pos_item, neg_item, whole, HasSide, IsClear, Reaches, Sees, directly, by_way_of}
 use Rattle.law_sphere.specs.Least.{by_side}
 use Rattle.law_sphere.specs.Labelling.{Labelling, Near, Plain}
 use Rattle.law_sphere.proofs.Generic.{amount}
@@ -18,7 +18,7 @@ use Rattle.law_sphere.proofs.Parallel.{apart, parallel-trans}
 use Rattle.law_near.proofs.FlatDecided.{cross-turned}
 use Rattle.law_sphere.proofs.Direct.{cross-between}
 use Rattle.law_sphere.proofs.StepOff.{blend-turned}
-use Rattle.law_sphere.proofs.Labels.{way-direction}
+use Rattle.law_sphere.proofs.Labels.{dir-direction}
 use Rattle.law_sphere.proofs.Around.{Beside, same_way, other_way, beside}
 use Rattle.law_sphere.proofs.Compare.{SameDirection-turned, SameDirection-trans}
 use Rattle.law_sphere.proofs.Lone.{near-same_signs}
@@ -27,9 +27,9 @@ use Rattle.law_sphere.proofs.Walk.{carried, left-of, between-direction, cross-di
 -- at each place of the map, and near it, the labels are those that G gives the sides
 pub record Sided (M : Map) (G : Side → Label) (F : Vector → Label → Type 0) : Type 0 where
   pub free : (d : Vector) → IsFree M d → Plain F d
-  pub beside : (k : ℕ) (x : Item) (d e : Vector) → At (items M) k x → OnItem M x d → IsDirection (cross d e) → Near F d e (by_side (G (above_item k)) Out (G (below_item k)) (sign (dot (item_normal x) e)))
-  pub lone : (k : ℕ) (v : Svertex) (m : Label) (e : Vector) → At M.svertices k v → v.around ≡ Some m → IsDirection (cross v.way e) → Near F v.way e (G (around_svertex k))
-  pub face : (m : Label) (d : Vector) → M.face ≡ Some m → IsFree M d → F d (G whole)
+  pub beside : (k : ℕ) (x : Item) (d e : Vector) → At (items M) k x → OnItem M x d → IsDirection (cross d e) → Near F d e (by_side (G (pos_item k)) Out (G (neg_item k)) (sign (dot (item_normal x) e)))
+  pub lone : (k : ℕ) (v : MapVertex) (m : Label) (e : Vector) → At M.svertices k v → v.around ≡ Some m → IsDirection (cross v.dir e) → Near F v.dir e (G (around_svertex k))
+  pub ground : (m : Label) (d : Vector) → M.ground ≡ Some m → IsFree M d → F d (G whole)
 
 module _ (gs : List Vector) (F : Vector → Label → Type 0) (L : Labelling gs F) (M : Map) (G : Side → Label) (A : Sided M G F) where
   -- labels along a clear way
@@ -61,31 +61,31 @@ module _ (gs : List Vector) (F : Vector → Label → Type 0) (L : Labelling gs 
   near-way y v e w f m (n, g) = (
     n + amount gs e,
     λ k h. L.cells (blend k v 1 e) (blend k y 1 e) m
-        (between-direction v e k 1 (omega arith) (λ z. f (parallel-trans y v e (way-direction y v (SameDirection-turned v y w)) (cross-turned v y w.parallel) z)))
+        (between-direction v e k 1 (omega arith) (λ z. f (parallel-trans y v e (dir-direction y v (SameDirection-turned v y w)) (cross-turned v y w.parallel) z)))
         (between-direction y e k 1 (omega arith) f) (near-same_signs gs v y e k (omega arith) w) (g k (omega arith)),
   )
 
   reached : (a y : Vector) → IsClear M a y → (o : Side) (m : Label) → HasSide M o m → Reaches M o a y → F a (G o)
-  reached a y c (above_item k) m h (z, b, on, l) =
+  reached a y c (pos_item k) m h (z, b, on, l) =
       let f = apart (item_normal z) a y (λ w. omega (arith, ints)) (on-level M z y on) c.direction in
-      from_near a y c f (G (above_item k)) (subst (Near F y a) (ap (by_side (G (above_item k)) Out (G (below_item k))) (sign-plus (dot (item_normal z) a) l)) (A.beside k z y a b on (cross-direction_turned a y f)))
-  reached a y c (below_item k) m h (z, b, on, l) =
+      from_near a y c f (G (pos_item k)) (subst (Near F y a) (ap (by_side (G (pos_item k)) Out (G (neg_item k))) (sign-plus (dot (item_normal z) a) l)) (A.beside k z y a b on (cross-direction_turned a y f)))
+  reached a y c (neg_item k) m h (z, b, on, l) =
       let f = apart (item_normal z) a y (λ w. omega (arith, ints)) (on-level M z y on) c.direction in
-      from_near a y c f (G (below_item k)) (subst (Near F y a) (ap (by_side (G (above_item k)) Out (G (below_item k))) (sign-minus (dot (item_normal z) a) l)) (A.beside k z y a b on (cross-direction_turned a y f)))
+      from_near a y c f (G (neg_item k)) (subst (Near F y a) (ap (by_side (G (pos_item k)) Out (G (neg_item k))) (sign-minus (dot (item_normal z) a) l)) (A.beside k z y a b on (cross-direction_turned a y f)))
   reached a y c (around_svertex k) m (v, h, e) (u, b, w) = by (zero-decided (cross a y))
     where
       by : Decided (IsZero (cross a y)) → F a (G (around_svertex k))
       by (inl z) = along (beside y a c.direction c.start.direction (cross-turned a y z))
         where
           along : Beside y a → F a (G (around_svertex k))
-          along (same_way s) = absurd (c.start.off_svertices k u b (SameDirection-trans u.way y a w s))
+          along (same_way s) = absurd (c.start.off_svertices k u b (SameDirection-trans u.dir y a w s))
           along (other_way s) = absurd (c.short (record { parallel = z; backward = let p = dot-comm a y in let r = s.backward in omega (arith, ints) }))
       by (inr f) =
           let q = at-one M.svertices k v u h b in
           let g = cross-direction_turned a y f in
-          let n = A.lone k u m a b (sym (ap (λ (r : Svertex). r.around) q) ∙ e) (λ z. g (parallel-trans y u.way a (way-direction y u.way (SameDirection-turned u.way y w)) (cross-turned u.way y w.parallel) z)) in
-          from_near a y c f (G (around_svertex k)) (near-way y u.way a w g (G (around_svertex k)) n)
-  reached a y c whole m h t = A.face m a h c.start
+          let n = A.lone k u m a b (sym (ap (λ (r : MapVertex). r.around) q) ∙ e) (λ z. g (parallel-trans y u.dir a (dir-direction y u.dir (SameDirection-turned u.dir y w)) (cross-turned u.dir y w.parallel) z)) in
+          from_near a y c f (G (around_svertex k)) (near-way y u.dir a w g (G (around_svertex k)) n)
+  reached a y c whole m h t = A.ground m a h c.start
 
   -- a side that sees d has the label of d
   side-label : (d : Vector) (o : Side) (m : Label) → HasSide M o m → Sees M o d → F d (G o)

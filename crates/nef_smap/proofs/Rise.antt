@@ -6,7 +6,7 @@ use Rattle.law_arithmetic.proofs.Order.{sign, sign_times, sign_of_product, sign-
 use Rattle.law_arithmetic.proofs.Lists.{lies-left, lies-right}
 use Rattle.law_arithmetic.specs.Signs.{Lies}
 use Rattle.nef_space.specs.Vectors.{Vector, IsDirection, cross, dot}
-use Rattle.law_sphere.specs.Maps.{At, Svertex, Map, Item, items, item_normal}
+use Rattle.law_sphere.specs.Maps.{At, MapVertex, Map, Item, items, item_normal}
 use Rattle.law_sphere.specs.Forms.{SameSigns, Keeps, gather, forms}
 use Rattle.law_sphere.proofs.Vectors.{dot-comb, comb-dot}
 use Rattle.law_sphere.proofs.Lists.{gather-has}
@@ -41,8 +41,8 @@ gather-each f P [] each b l = absurd l
 gather-each f P (x ∷ xs) each b l = append-each P (f x) (gather f xs) (λ c i. each zero x c refl i) (λ c i. gather-each f P xs (λ k y e a j. each (suc k) y e a j) c i) b l
 
 pub meridian-level : (M : Map) (u m : Vector) → Lies (meridians M u) m → dot m u ≡ pos 0
-meridian-level M u m l = append-each (λ (m : Vector). dot m u ≡ pos 0) (gather (λ (v : Svertex). cross u v.way ∷ []) M.svertices) (rise_forms M u)
-    (gather-each (λ (v : Svertex). cross u v.way ∷ []) (λ (m : Vector). dot m u ≡ pos 0) M.svertices (λ k v m a i. one (cross u v.way) (cross-self u v.way) m i))
+meridian-level M u m l = append-each (λ (m : Vector). dot m u ≡ pos 0) (gather (λ (v : MapVertex). cross u v.dir ∷ []) M.svertices) (rise_forms M u)
+    (gather-each (λ (v : MapVertex). cross u v.dir ∷ []) (λ (m : Vector). dot m u ≡ pos 0) M.svertices (λ k v m a i. one (cross u v.dir) (cross-self u v.dir) m i))
     (gather-each (λ (x : Item). gather (λ (g : Vector). rise_form u (item_normal x) g ∷ []) (forms M)) (λ (m : Vector). dot m u ≡ pos 0) (items M)
     (λ k x m a i. gather-each (λ (g : Vector). rise_form u (item_normal x) g ∷ []) (λ (m : Vector). dot m u ≡ pos 0) (forms M) (λ j g m b l. one (rise_form u (item_normal x) g) (rise_form-level u (item_normal x) g) m l) m i)) m l
   where
@@ -55,12 +55,12 @@ lies-at f [] x l = absurd l
 lies-at f (y ∷ xs) x (inl e) = inl (ap f e)
 lies-at f (y ∷ xs) x (inr l) = inr (lies-at f xs x l)
 
-pub svertex-meridian : (M : Map) (u : Vector) (k : ℕ) (v : Svertex) → At M.svertices k v → Lies (meridians M u) (cross u v.way)
-svertex-meridian M u k v a = lies-left (gather (λ (v : Svertex). cross u v.way ∷ []) M.svertices) (rise_forms M u) (cross u v.way)
-    (gather-has (λ (v : Svertex). cross u v.way ∷ []) M.svertices k v (cross u v.way) a (inl refl))
+pub svertex-meridian : (M : Map) (u : Vector) (k : ℕ) (v : MapVertex) → At M.svertices k v → Lies (meridians M u) (cross u v.dir)
+svertex-meridian M u k v a = lies-left (gather (λ (v : MapVertex). cross u v.dir ∷ []) M.svertices) (rise_forms M u) (cross u v.dir)
+    (gather-has (λ (v : MapVertex). cross u v.dir ∷ []) M.svertices k v (cross u v.dir) a (inl refl))
 
 pub rise-meridian : (M : Map) (u : Vector) (k : ℕ) (x : Item) (g : Vector) → At (items M) k x → Lies (forms M) g → Lies (meridians M u) (rise_form u (item_normal x) g)
-rise-meridian M u k x g a l = lies-right (gather (λ (v : Svertex). cross u v.way ∷ []) M.svertices) (rise_forms M u) (rise_form u (item_normal x) g)
+rise-meridian M u k x g a l = lies-right (gather (λ (v : MapVertex). cross u v.dir ∷ []) M.svertices) (rise_forms M u) (rise_form u (item_normal x) g)
     (gather-has (λ (x : Item). gather (λ (g : Vector). rise_form u (item_normal x) g ∷ []) (forms M)) (items M) k x (rise_form u (item_normal x) g) a (lies-at (rise_form u (item_normal x)) (forms M) g l))
 
 pub form-over : (M : Map) (u g : Vector) → Lies (forms M) g → Lies (over_forms M u) g

@@ -7,7 +7,7 @@ use Rattle.nef_space.specs.Lists.{Chained}
 use Rattle.nef_space.specs.Vectors.{Vector, IsDirection, cross, dot, opposite}
 use Rattle.nef_space.specs.declared.label.Label.{Label}
 use Rattle.nef_space.specs.declared.label.Label.TheVariants.{Out, Not, In}
-use Rattle.law_sphere.specs.Maps.{At, Svertex, Map, Item, arc_item, loop_item, items, item_normal, item_below, way_of, Side, around_svertex, above_item, below_item, whole, HasSide, Sees, Shaped}
+use Rattle.law_sphere.specs.Maps.{At, MapVertex, Map, Item, arc_item, sloop_item, items, item_normal, item_neg, dir_of, Side, around_svertex, pos_item, neg_item, whole, HasSide, Sees, Shaped}
 use Rattle.law_sphere.proofs.Generic.{Generic, generic}
 use Rattle.law_sphere.proofs.Places.{point_forms}
 use Rattle.law_sphere.proofs.StepOff.{apart-by_rows}
@@ -16,7 +16,7 @@ use Rattle.nef_smap.specs.Sides.{sides_of, SeeOneWay}
 use Rattle.nef_smap.specs.SideNumbers.{number_of}
 use Rattle.nef_smap.specs.Above.{over_forms}
 use Rattle.nef_smap.specs.Joined.{met, FirstNear, Firsts, Joins}
-use Rattle.nef_smap.specs.Links.{met_number, AreJoins, IsJoin, join_below, join_around, join_arc, join_loop, join_ground}
+use Rattle.nef_smap.specs.Links.{met_number, AreJoins, IsJoin, join_below, join_around, join_arc, join_sloop, join_ground}
 use Rattle.nef_smap.proofs.MapLists.{at-within}
 use Rattle.nef_smap.proofs.SideLists.{at-from_get, side-has}
 use Rattle.nef_smap.proofs.SideNumbers.{side-number, number-one}
@@ -39,7 +39,7 @@ in_if-one true false e q = absurd cc
 in_if-one false c e q = absurd cc
 
 module _ (M : Map) (V : Shaped M) (u : Vector) (ahead : (k : ℕ) (x : Item) → At (items M) k x → pos 0 <ℤ dot (item_normal x) u)
-    (across : (k : ℕ) (v : Svertex) → At M.svertices k v → IsDirection (cross u v.way)) (hu : IsDirection u) where
+    (across : (k : ℕ) (v : MapVertex) → At M.svertices k v → IsDirection (cross u v.dir)) (hu : IsDirection u) where
   abbrev count : ℕ
   count = length (sides_of M)
 
@@ -51,16 +51,16 @@ module _ (M : Map) (V : Shaped M) (u : Vector) (ahead : (k : ℕ) (x : Item) →
   met-within a b c None f = omega arith
   met-within a b c (Some k) f =
       let x = f (stand (over_forms M u) a b c) (stands (over_forms M u) a b c) in
-      number-within (below_item k) (item_below x.item) (x.item, x.listed, refl)
+      number-within (neg_item k) (item_neg x.item) (x.item, x.listed, refl)
 
   both : (s t : ℕ) {a b : ℕ} → s ≡ a → t ≡ b → a < count + 1 → b < count + 1 → (s < count + 1) × (t < count + 1)
   both s t e f p q = (subst (λ (r : ℕ). r < count + 1) (sym e) p, subst (λ (r : ℕ). r < count + 1) (sym f) q)
 
   pub join-within : (s t : ℕ) → IsJoin M u s t → (s < count + 1) × (t < count + 1)
-  join-within s t (join_below k v a j e f) = both s t e f (met-within v.way (opposite u) j.aside j.left j.left_first) (met-within v.way (opposite u) (opposite j.aside) j.right j.right_first)
-  join-within s t (join_around k v m a q j e f) = both s t e f (number-within (around_svertex k) m (v, a, q)) (met-within v.way (opposite u) j.aside j.first j.is_first)
-  join-within s t (join_arc k r h j e f) = both s t e f (number-within (above_item k) r.above (arc_item r, at-arc M.arcs M.loop k r h, refl)) (met-within (way_of M.svertices r.source) j.along u j.first j.is_first)
-  join-within s t (join_loop k r h j e f) = both s t e f (number-within (above_item k) r.above (loop_item r, h, refl)) (met-within j.point u j.aside j.first j.is_first)
+  join-within s t (join_below k v a j e f) = both s t e f (met-within v.dir (opposite u) j.aside j.left j.left_first) (met-within v.dir (opposite u) (opposite j.aside) j.right j.right_first)
+  join-within s t (join_around k v m a q j e f) = both s t e f (number-within (around_svertex k) m (v, a, q)) (met-within v.dir (opposite u) j.aside j.first j.is_first)
+  join-within s t (join_arc k r h j e f) = both s t e f (number-within (pos_item k) r.pos (arc_item r, at-arc M.arcs M.sloop k r h, refl)) (met-within (dir_of M.svertices r.source) j.along u j.first j.is_first)
+  join-within s t (join_sloop k r h j e f) = both s t e f (number-within (pos_item k) r.pos (sloop_item r, h, refl)) (met-within j.point u j.aside j.first j.is_first)
   join-within s t (join_ground m q e f) = both s t e f (number-within whole m q) (omega arith)
 
   -- ---- a number for each class of links
@@ -73,7 +73,7 @@ module _ (M : Map) (V : Shaped M) (u : Vector) (ahead : (k : ℕ) (x : Item) →
       svertices = λ k v a. let r = A.svertices k v a in r.0;
       arounds = λ k v m a q. let r = A.arounds k v m a q in r.0;
       arcs = λ k r h. let x = A.arcs k r h in x.0;
-      loops = λ k r h. let x = A.loops k r h in x.0;
+      sloops = λ k r h. let x = A.sloops k r h in x.0;
     }
 
     -- ---- sides that see one direction are of one class
@@ -96,8 +96,8 @@ module _ (M : Map) (V : Shaped M) (u : Vector) (ahead : (k : ℕ) (x : Item) →
       joins = record {
         below = λ k v a. let r = A.svertices k v a in let j = r.0 in sym (met-is j.left) ∙ label-same (met_number M j.left) (met_number M j.right) r.1 ∙ met-is j.right;
         around = λ k v m a q. let r = A.arounds k v m a q in let j = r.0 in sym (met-is j.first) ∙ sym (label-same (number_of M (around_svertex k)) (met_number M j.first) r.1);
-        arcs = λ k x h. let r = A.arcs k x h in let j = r.0 in sym (met-is j.first) ∙ sym (label-same (number_of M (above_item k)) (met_number M j.first) r.1);
-        loops = λ k x h. let r = A.loops k x h in let j = r.0 in sym (met-is j.first) ∙ sym (label-same (number_of M (above_item k)) (met_number M j.first) r.1);
+        arcs = λ k x h. let r = A.arcs k x h in let j = r.0 in sym (met-is j.first) ∙ sym (label-same (number_of M (pos_item k)) (met_number M j.first) r.1);
+        sloops = λ k x h. let r = A.sloops k x h in let j = r.0 in sym (met-is j.first) ∙ sym (label-same (number_of M (pos_item k)) (met_number M j.first) r.1);
         ground = λ m q. label-same (number_of M whole) count (A.ground m q);
         never_out = λ o. in_if-some (eqb (class (number_of M o)) c);
       }

@@ -10,16 +10,16 @@ use Rattle.law_cyclic.proofs.Directions.{dot-opposite, direction-opposite, level
 use Rattle.law_near.proofs.FlatDecided.{triple-dot, cross-turned}
 use Rattle.law_near.proofs.Meets.{cross-none}
 use Rattle.law_forms.proofs.Directions.{dot-comm, dot-zero, zero-dot, self-pos}
-use Rattle.law_sphere.specs.Maps.{At, Svertex, Map, arc_item, items, way_of, OnItem, IsClear, Reaches, Sees, directly, by_way_of, Shaped}
+use Rattle.law_sphere.specs.Maps.{At, MapVertex, Map, arc_item, items, dir_of, OnItem, IsClear, Reaches, Sees, directly, by_way_of, Shaped}
 use Rattle.law_sphere.specs.Forms.{forms}
 use Rattle.law_sphere.proofs.Vectors.{dot-comb, normal-is, same-plus}
 use Rattle.law_sphere.proofs.Generic.{amount, far-keeps}
 use Rattle.law_sphere.proofs.Parallel.{past_source, arc-point, parallel-in_plane}
-use Rattle.law_sphere.proofs.Shot.{product-off, way-at}
+use Rattle.law_sphere.proofs.Shot.{product-off, dir-at}
 use Rattle.law_sphere.proofs.Around.{triple-turned, Beside, same_way, other_way, beside}
 use Rattle.law_sphere.specs.Vectors.{comb}
 use Rattle.law_sphere.proofs.Arcs.{Ends, ends-of, at-arc}
-use Rattle.law_sphere.proofs.Compare.{SameDirection-turned, way-self}
+use Rattle.law_sphere.proofs.Compare.{SameDirection-turned, dir-self}
 use Rattle.law_sphere.proofs.Turn.{turn-last, turn-same}
 use Rattle.nef_smap.proofs.NearSvertex.{ArcRay, end_left, end_side, ray_left, ray_side, Unrayed, near-clear}
 use Rattle.nef_smap.proofs.FarWay.{far-way}
@@ -110,7 +110,7 @@ module _ (v m e : Vector) (hv : IsDirection v) (level : dot m v ≡ pos 0) where
       some z = let y = dot-zero v (cross m (cross v e)) (cross-none m (cross v e) z) in let d = behind in omega (arith, ints)
 
       turn-first : SameDirection m (cross v w) → sign (triple v (cross v w) (cross v e)) ≡ sign (triple v m (cross v e))
-      turn-first s = turn-same v v m (cross v w) (cross v e) (cross v e) (way-self v hv) s (way-self (cross v e) some)
+      turn-first s = turn-same v v m (cross v w) (cross v e) (cross v e) (dir-self v hv) s (dir-self (cross v e) some)
 
 -- v.((i e + j f) x e) = j v.(f x e), and v.(e x (k v + f)) = v.(e x f)
 turn-between : (v e f : Vector) (i j : ℕ) → triple v (blend i e j f) e ≡ pos j *ℤ triple v f e
@@ -129,15 +129,15 @@ turned-off : (v w e : Vector) → (triple v w e ≡ pos 0 → ⊥) → IsDirecti
 turned-off v w e n z = n (triple-dot v w e ∙ zero-dot (cross v w) e z)
 
 -- ---- the rays of a svertex
-module _ (M : Map) (V : Shaped M) (k : ℕ) (v : Svertex) (a : At M.svertices k v) where
+module _ (M : Map) (V : Shaped M) (k : ℕ) (v : MapVertex) (a : At M.svertices k v) where
   abbrev p : Vector
-  p = v.way
+  p = v.dir
 
   hp : IsDirection p
-  hp = V.svertex_ways k v a
+  hp = V.svertex_dirs k v a
 
-  here : (j : ℕ) → j ≡ k → way_of M.svertices j ≡ p
-  here j e = ap (way_of M.svertices) e ∙ way-at M.svertices k v a
+  here : (j : ℕ) → j ≡ k → dir_of M.svertices j ≡ p
+  here j e = ap (dir_of M.svertices) e ∙ dir-at M.svertices k v a
 
   -- what holds of the direction to the left of a ray
   left-level : (r : ArcRay M k) → dot (ray_left r) p ≡ pos 0
@@ -154,7 +154,7 @@ module _ (M : Map) (V : Shaped M) (k : ℕ) (v : Svertex) (a : At M.svertices k 
   left-direction r = by r.end
     where
       hn : IsDirection r.arc.normal
-      hn = normal-is V r.number (arc_item r.arc) (at-arc M.arcs M.loop r.number r.arc r.listed)
+      hn = normal-is V r.number (arc_item r.arc) (at-arc M.arcs M.sloop r.number r.arc r.listed)
 
       by : (q : (r.arc.source ≡ k) ⊎ (r.arc.target ≡ k)) → IsDirection (end_left r.arc q)
       by (inl e) = hn
@@ -171,16 +171,16 @@ module _ (M : Map) (V : Shaped M) (k : ℕ) (v : Svertex) (a : At M.svertices k 
       n = r.arc.normal
 
       s : Vector
-      s = way_of M.svertices r.arc.source
+      s = dir_of M.svertices r.arc.source
 
       t : Vector
-      t = way_of M.svertices r.arc.target
+      t = dir_of M.svertices r.arc.target
 
       b : Ends M r.arc
       b = ends-of M V r.number r.arc r.listed
 
       hn : IsDirection n
-      hn = normal-is V r.number (arc_item r.arc) (at-arc M.arcs M.loop r.number r.arc r.listed)
+      hn = normal-is V r.number (arc_item r.arc) (at-arc M.arcs M.sloop r.number r.arc r.listed)
 
       by : (q : (r.arc.source ≡ k) ⊎ (r.arc.target ≡ k)) → (n : ℕ) × ((number : ℕ) → n ≤ number → OnItem M (arc_item r.arc) (blend number p 1 (cross (end_left r.arc q) p)))
       by (inl e) = (
@@ -200,7 +200,7 @@ module _ (M : Map) (V : Shaped M) (k : ℕ) (v : Svertex) (a : At M.svertices k 
   at_end r d h = let f = on-end r in (f.0, λ number large. by r.end h (blend number p 1 (cross (ray_left r) p)) (f.1 number large))
     where
       listed : At (items M) r.number (arc_item r.arc)
-      listed = at-arc M.arcs M.loop r.number r.arc r.listed
+      listed = at-arc M.arcs M.sloop r.number r.arc r.listed
 
       by : (q : (r.arc.source ≡ k) ⊎ (r.arc.target ≡ k)) → pos 0 <ℤ dot (end_left r.arc q) d → (y : Vector) → OnItem M (arc_item r.arc) y → Reaches M (end_side r.number q) d y
       by (inl e) l y o = (arc_item r.arc, listed, o, l)

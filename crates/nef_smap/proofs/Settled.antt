@@ -8,7 +8,7 @@ use Rattle.nef_space.specs.declared.label.Label.{Label}
 use Rattle.nef_space.specs.declared.label.Label.TheVariants.{Out}
 use Rattle.law_forms.proofs.Directions.{self-pos}
 use Rattle.law_forms.proofs.Far.{same-off, sign-large}
-use Rattle.law_sphere.specs.Maps.{At, Svertex, Map, Item, items, item_normal, OnItem, IsFree, Side, below_item, HasArc, Shaped}
+use Rattle.law_sphere.specs.Maps.{At, MapVertex, Map, Item, items, item_normal, OnItem, IsFree, Side, neg_item, HasArc, Shaped}
 use Rattle.law_sphere.specs.Forms.{Keeps, forms}
 use Rattle.law_sphere.specs.Least.{by_side}
 use Rattle.law_sphere.specs.Labelling.{Near, PlainAt, StraightAt}
@@ -29,7 +29,7 @@ use Rattle.nef_smap.proofs.Labelled.{turned-form, LabelAbove, by_one, not_free}
 use Rattle.nef_smap.proofs.Clean.{free-clean, item-clean, lone-clean, lone-untouched, lower-first}
 
 module _ (M : Map) (V : Shaped M) (u : Vector) (ahead : (k : ℕ) (x : Item) → At (items M) k x → pos 0 <ℤ dot (item_normal x) u)
-    (G : Side → Label) (top : Label) (firsts : (k : ℕ) (v : Svertex) → At M.svertices k v → BelowFirsts M u v.way) (joins : (k : ℕ) (v : Svertex) (a : At M.svertices k v) → (let j = firsts k v a in met G top j.left ≡ met G top j.right)) (e : Vector) where
+    (G : Side → Label) (top : Label) (firsts : (k : ℕ) (v : MapVertex) → At M.svertices k v → BelowFirsts M u v.dir) (joins : (k : ℕ) (v : MapVertex) (a : At M.svertices k v) → (let j = firsts k v a in met G top j.left ≡ met G top j.right)) (e : Vector) where
   abbrev F : Vector → Label → Type 0
   F = LabelAbove M u e G top
 
@@ -109,46 +109,46 @@ module _ (M : Map) (V : Shaped M) (u : Vector) (ahead : (k : ℕ) (x : Item) →
           near w k h (free-beside M V d z (keeps-forms d z (near-keeps w k h)) i x a o (λ q. omega (arith, ints)))
           (λ y s t. item-clean M V u ahead d y s f i x a o (same-plus (dot n z) (dot n y) (t n normal-in (λ q. omega (arith, ints))) p))
 
-      below : (w : Vector) (k : ℕ) → bound w ≤ k → dot n (blend k d 1 w) <ℤ pos 0 → F (blend k d 1 w) (G (below_item i))
+      below : (w : Vector) (k : ℕ) → bound w ≤ k → dot n (blend k d 1 w) <ℤ pos 0 → F (blend k d 1 w) (G (neg_item i))
       below w k h p =
           let z = blend k d 1 w in
           let y = viewer z in
           let s = near-keeps w k h in
           let t = keeps-then (over_forms M u) d z y s (viewer-keeps z) in
           let q = same-minus (dot n z) (dot n y) (viewer-keeps z n normal-in (λ q. omega (arith, ints))) p in
-          by_one M u e G top V ahead z y (G (below_item i)) (free-beside M V d z (keeps-forms d z s) i x a o (λ q. omega (arith, ints))) (viewer-stands z)
+          by_one M u e G top V ahead z y (G (neg_item i)) (free-beside M V d z (keeps-forms d z s) i x a o (λ q. omega (arith, ints))) (viewer-stands z)
           (λ r g. ap (met G top) (first-one M V u ahead y r (Some i) g (lower-first M V u ahead d y t i x a o q)))
 
-      pub straight-on : StraightAt F n over_label Out (G (below_item i)) d
+      pub straight-on : StraightAt F n over_label Out (G (neg_item i)) d
       straight-on = record { level = on-level M x d o; at_d = on-it d o; near = λ w. (bound w, λ k h. by w k h) }
         where
-          by : (w : Vector) (k : ℕ) → bound w ≤ k → F (blend k d 1 w) (by_side over_label Out (G (below_item i)) (sign (dot n w)))
+          by : (w : Vector) (k : ℕ) → bound w ≤ k → F (blend k d 1 w) (by_side over_label Out (G (neg_item i)) (sign (dot n w)))
           by w k h =
               let z = blend k d 1 w in
               let s = far-level (over_forms M u) d w k (omega arith) n (on-level M x d o) in
-              subst (λ (t : Sign). F z (by_side over_label Out (G (below_item i)) t)) s
+              subst (λ (t : Sign). F z (by_side over_label Out (G (neg_item i)) t)) s
               (by_order (dot n z) (pos 0)
-              (λ p. subst (λ (t : Sign). F z (by_side over_label Out (G (below_item i)) t)) (sym (sign-minus (dot n z) p)) (below w k h p))
-              (λ p. subst (λ (t : Sign). F z (by_side over_label Out (G (below_item i)) t)) (sym (ap sign p)) (on-it z (item-stays M V d z (keeps-forms d z (near-keeps w k h)) i x a p o)))
-              (λ p. subst (λ (t : Sign). F z (by_side over_label Out (G (below_item i)) t)) (sym (sign-plus (dot n z) p)) (above w k h p)))
+              (λ p. subst (λ (t : Sign). F z (by_side over_label Out (G (neg_item i)) t)) (sym (sign-minus (dot n z) p)) (below w k h p))
+              (λ p. subst (λ (t : Sign). F z (by_side over_label Out (G (neg_item i)) t)) (sym (ap sign p)) (on-it z (item-stays M V d z (keeps-forms d z (near-keeps w k h)) i x a p o)))
+              (λ p. subst (λ (t : Sign). F z (by_side over_label Out (G (neg_item i)) t)) (sym (sign-plus (dot n z) p)) (above w k h p)))
 
     -- ---- svertices without arcs
-    module _ (i : ℕ) (v : Svertex) (a : At M.svertices i v) (q : v.way ≡ d) (n : HasArc M i → ⊥) where
+    module _ (i : ℕ) (v : MapVertex) (a : At M.svertices i v) (q : v.dir ≡ d) (n : HasArc M i → ⊥) where
       lone-free : (w z : Vector) → Keeps (over_forms M u) d z → IsDirection (cross d z) → IsFree M z
       lone-free w z k h = record {
         direction = direction-around M V d z (keeps-forms d z k) hd;
         off_svertices = λ j y b s.
             let t = svertex-around M V d z (keeps-forms d z k) j y b hd s in
-            let m = V.svertices_apart j i y v b a (subst (SameDirection y.way) (sym q) t) in
+            let m = V.svertices_apart j i y v b a (subst (SameDirection y.dir) (sym q) t) in
             apart-from j y b s m;
         off_items = λ j y b s. lone-untouched M V d i v a q n j y b (touches-back M V d z (keeps-forms d z k) j y b hd s);
       }
         where
           hd : IsDirection d
-          hd = subst IsDirection q (V.svertex_ways i v a)
+          hd = subst IsDirection q (V.svertex_dirs i v a)
 
-          apart-from : (j : ℕ) (y : Svertex) → At M.svertices j y → SameDirection y.way z → j ≡ i → ⊥
-          apart-from j y b s m = h (subst (λ (r : Vector). IsZero (cross r z)) (ap (λ (r : Svertex). r.way) (at-one M.svertices i y v (subst (λ (r : ℕ). At M.svertices r y) m b) a) ∙ q) s.parallel)
+          apart-from : (j : ℕ) (y : MapVertex) → At M.svertices j y → SameDirection y.dir z → j ≡ i → ⊥
+          apart-from j y b s m = h (subst (λ (r : Vector). IsZero (cross r z)) (ap (λ (r : MapVertex). r.dir) (at-one M.svertices i y v (subst (λ (r : ℕ). At M.svertices r y) m b) a) ∙ q) s.parallel)
 
       pub round-lone : (w : Vector) → IsDirection (cross d w) → Near F d w over_label
       round-lone w h = (

@@ -3,7 +3,7 @@ use Rattle.std.proofs.Common.{◌≡◌, ℕ, zero, suc, ◌+◌, ◌<◌, pos, 
 use Rattle.std.proofs.lemmas.List.{length-take-le}
 use Rattle.nef_space.specs.Lists.{IsAt, Chained}
 use Rattle.nef_space.specs.Vectors.{Vector, IsDirection, cross, dot}
-use Rattle.law_sphere.specs.Maps.{At, Svertex, Map, Item, items, item_normal, Shaped}
+use Rattle.law_sphere.specs.Maps.{At, MapVertex, Map, Item, items, item_normal, Shaped}
 use Rattle.nef_classes.specs.declared.link.Link.{Link}
 use Rattle.nef_smap.specs.Sides.{sides_of, SeeOneWay, AreSfaces}
 use Rattle.nef_smap.specs.Links.{AreJoins}
@@ -30,7 +30,7 @@ at-taken (suc n) (x ∷ xs) zero c h = cc
 at-taken (suc n) (x ∷ xs) (suc k) c h = at-taken n xs k c h
 
 module _ (M : Map) (V : Shaped M) (u : Vector) (ahead : (k : ℕ) (x : Item) → At (items M) k x → pos 0 <ℤ dot (item_normal x) u)
-    (across : (k : ℕ) (v : Svertex) → At M.svertices k v → IsDirection (cross u v.way)) (hu : IsDirection u)
+    (across : (k : ℕ) (v : MapVertex) → At M.svertices k v → IsDirection (cross u v.dir)) (hu : IsDirection u)
     (links : List Link) (A : AreJoins M u (AreLinked links)) where
   -- LINKS ARE BETWEEN SIDES AND u
   pub links-within : AreWithin (length (sides_of M) + 1) links

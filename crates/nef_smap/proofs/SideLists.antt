@@ -5,7 +5,7 @@ use mir.Val.{bool_byte}
 use Rattle.std.specs.List.{filter_map, cons_option}
 use Rattle.nef_space.specs.Lists.{IsAt}
 use Rattle.nef_space.specs.declared.label.Label.{Label}
-use Rattle.law_sphere.specs.Maps.{At, Svertex, Item, Map, items, item_above, item_below, Side, around_svertex, above_item, below_item, whole, HasSide}
+use Rattle.law_sphere.specs.Maps.{At, MapVertex, Item, Map, items, item_pos, item_neg, Side, around_svertex, pos_item, neg_item, whole, HasSide}
 use Rattle.nef_smap.specs.declared.map.SVertex.{SVertex}
 use Rattle.nef_smap.specs.declared.map.SphereMap.{SphereMap}
 use Rattle.nef_smap.specs.Maps.{svertex_of, map_of}
@@ -82,16 +82,16 @@ around-side k (v ∷ vs) s l e = by v.around s e (around-side (suc k) vs)
     by (Some m) (suc s) e go = go s l e
 
 pub item-side : (n : ℕ) (xs : List Item) (k : ℕ) (x : Item) → At xs k x
-    → At (item_sides n xs) (2 * k) (above_item (n + k), item_above x) × At (item_sides n xs) (2 * k + 1) (below_item (n + k), item_below x)
+    → At (item_sides n xs) (2 * k) (pos_item (n + k), item_pos x) × At (item_sides n xs) (2 * k + 1) (neg_item (n + k), item_neg x)
 item-side n [] k x a = absurd a
-item-side n (y ∷ xs) zero x a = rw (add-zero n) (ap (λ (r : Item). (above_item n, item_above r)) a, ap (λ (r : Item). (below_item n, item_below r)) a)
+item-side n (y ∷ xs) zero x a = rw (add-zero n) (ap (λ (r : Item). (pos_item n, item_pos r)) a, ap (λ (r : Item). (neg_item n, item_neg r)) a)
 item-side n (y ∷ xs) (suc k) x a =
     let r = item-side (suc n) xs k x a in
     let e : suc n + k ≡ n + suc k = omega arith in
     let f : 2 * suc k ≡ suc (suc (2 * k)) = omega arith in
     let g : 2 * suc k + 1 ≡ suc (suc (2 * k + 1)) = omega arith in (
-      rw f (subst (λ (i : ℕ). At (item_sides (suc n) xs) (2 * k) (above_item i, item_above x)) e r.0),
-      rw g (subst (λ (i : ℕ). At (item_sides (suc n) xs) (2 * k + 1) (below_item i, item_below x)) e r.1),
+      rw f (subst (λ (i : ℕ). At (item_sides (suc n) xs) (2 * k) (pos_item i, item_pos x)) e r.0),
+      rw g (subst (λ (i : ℕ). At (item_sides (suc n) xs) (2 * k + 1) (neg_item i, item_neg x)) e r.1),
     )
 
 -- ---- the sides of the program's maps
@@ -113,11 +113,11 @@ module _ (m : SphereMap) where
   of-items : (s i : ℕ) (y : LabelledSide) → s ≡ arounds_count + i → At of_items i y → IsAt (sides_of (map_of m)) s y
   of-items s i y e a = get-from_at (sides_of (map_of m)) s y (at-left (arounds ++ of_items) (labelled whole m.ground) s y (at-right arounds of_items i s y (let f = length-svertex_sides 0 m.svertices in omega arith) a))
 
-  pub side-above : (s k : ℕ) (x : Item) → s ≡ arounds_count + 2 * k → At (items (map_of m)) k x → IsSide (map_of m) s (above_item k) (item_above x)
-  side-above s k x e a = of-items s (2 * k) (above_item k, item_above x) e (subst (λ (i : ℕ). At of_items (2 * k) (above_item i, item_above x)) (zero-add k) (item-side 0 (items (map_of m)) k x a).0)
+  pub side-above : (s k : ℕ) (x : Item) → s ≡ arounds_count + 2 * k → At (items (map_of m)) k x → IsSide (map_of m) s (pos_item k) (item_pos x)
+  side-above s k x e a = of-items s (2 * k) (pos_item k, item_pos x) e (subst (λ (i : ℕ). At of_items (2 * k) (pos_item i, item_pos x)) (zero-add k) (item-side 0 (items (map_of m)) k x a).0)
 
-  pub side-below : (s k : ℕ) (x : Item) → s ≡ arounds_count + (2 * k + 1) → At (items (map_of m)) k x → IsSide (map_of m) s (below_item k) (item_below x)
-  side-below s k x e a = of-items s (2 * k + 1) (below_item k, item_below x) e (subst (λ (i : ℕ). At of_items (2 * k + 1) (below_item i, item_below x)) (zero-add k) (item-side 0 (items (map_of m)) k x a).1)
+  pub side-below : (s k : ℕ) (x : Item) → s ≡ arounds_count + (2 * k + 1) → At (items (map_of m)) k x → IsSide (map_of m) s (neg_item k) (item_neg x)
+  side-below s k x e a = of-items s (2 * k + 1) (neg_item k, item_neg x) e (subst (λ (i : ℕ). At of_items (2 * k + 1) (neg_item i, item_neg x)) (zero-add k) (item-side 0 (items (map_of m)) k x a).1)
 
   pub side-whole : (s : ℕ) (l : Label) → s ≡ arounds_count + 2 * length (items (map_of m)) → m.ground ≡ Some l → IsSide (map_of m) s whole l
   side-whole s l e f =
@@ -130,16 +130,16 @@ module _ (m : SphereMap) where
       by None e = cc
       by (Some k) e = let f : k ≡ l = cc in ap (λ (r : Label). (whole, r)) f
 
-  pub side-item : (s n : ℕ) (x : Item) (l : Label) → s ≡ arounds_count + n → At (items (map_of m)) (n / 2) x → l ≡ cond (eqb (n % 2) 0) (item_above x) (item_below x) → (o : Side) × IsSide (map_of m) s o l
+  pub side-item : (s n : ℕ) (x : Item) (l : Label) → s ≡ arounds_count + n → At (items (map_of m)) (n / 2) x → l ≡ cond (eqb (n % 2) 0) (item_pos x) (item_neg x) → (o : Side) × IsSide (map_of m) s o l
   side-item s n x l e a f = by (n % 2) refl f
     where
-      by : (r : ℕ) → r ≡ n % 2 → l ≡ cond (eqb r 0) (item_above x) (item_below x) → (o : Side) × IsSide (map_of m) s o l
-      by zero h g = (above_item (n / 2), subst (IsSide (map_of m) s (above_item (n / 2))) (sym g) (side-above s (n / 2) x (omega arith) a))
-      by (suc zero) h g = (below_item (n / 2), subst (IsSide (map_of m) s (below_item (n / 2))) (sym g) (side-below s (n / 2) x (omega arith) a))
+      by : (r : ℕ) → r ≡ n % 2 → l ≡ cond (eqb r 0) (item_pos x) (item_neg x) → (o : Side) × IsSide (map_of m) s o l
+      by zero h g = (pos_item (n / 2), subst (IsSide (map_of m) s (pos_item (n / 2))) (sym g) (side-above s (n / 2) x (omega arith) a))
+      by (suc zero) h g = (neg_item (n / 2), subst (IsSide (map_of m) s (neg_item (n / 2))) (sym g) (side-below s (n / 2) x (omega arith) a))
       by (suc (suc r)) h g = absurd (omega arith)
 
   pub side-of : (s k : ℕ) (above : Bool) → k < length (items (map_of m)) → s ≡ arounds_count + 2 * k + bool_byte (not above)
-      → (x : Item) × At (items (map_of m)) k x × IsSide (map_of m) s (cond above (above_item k) (below_item k)) (cond above (item_above x) (item_below x))
+      → (x : Item) × At (items (map_of m)) k x × IsSide (map_of m) s (cond above (pos_item k) (neg_item k)) (cond above (item_pos x) (item_neg x))
   side-of s k true h e = let r = at-some (items (map_of m)) k h in (r.0, r.1, side-above s k r.0 (omega arith) r.1)
   side-of s k false h e = let r = at-some (items (map_of m)) k h in (r.0, r.1, side-below s k r.0 (omega arith) r.1)
 
@@ -159,41 +159,41 @@ either-at [] ys k x a = inr (k, a)
 either-at (z ∷ zs) ys zero x a = inl a
 either-at (z ∷ zs) ys (suc k) x a = either-at zs ys k x a
 
-svertex-has : (n : ℕ) (vs : List Svertex) (s : ℕ) (o : Side) (l : Label) → At (svertex_sides n vs) s (o, l) → (i : ℕ) × (v : Svertex) × At vs i v × (v.around ≡ Some l) × (o ≡ around_svertex (n + i))
+svertex-has : (n : ℕ) (vs : List MapVertex) (s : ℕ) (o : Side) (l : Label) → At (svertex_sides n vs) s (o, l) → (i : ℕ) × (v : MapVertex) × At vs i v × (v.around ≡ Some l) × (o ≡ around_svertex (n + i))
 svertex-has n [] s o l a = absurd a
 svertex-has n (v ∷ vs) s o l a = by (λ s' b. svertex-has (suc n) vs s' o l b) (either-at (labelled (around_svertex n) v.around) (svertex_sides (suc n) vs) s (o, l) a)
   where
-    by : ((s : ℕ) → At (svertex_sides (suc n) vs) s (o, l) → (i : ℕ) × (w : Svertex) × At vs i w × (w.around ≡ Some l) × (o ≡ around_svertex (suc n + i)))
+    by : ((s : ℕ) → At (svertex_sides (suc n) vs) s (o, l) → (i : ℕ) × (w : MapVertex) × At vs i w × (w.around ≡ Some l) × (o ≡ around_svertex (suc n + i)))
         → At (labelled (around_svertex n) v.around) s (o, l) ⊎ ((j : ℕ) × At (svertex_sides (suc n) vs) j (o, l))
-        → (i : ℕ) × (w : Svertex) × At (v ∷ vs) i w × (w.around ≡ Some l) × (o ≡ around_svertex (n + i))
+        → (i : ℕ) × (w : MapVertex) × At (v ∷ vs) i w × (w.around ≡ Some l) × (o ≡ around_svertex (n + i))
     by go (inl b) = let r = labelled-has (around_svertex n) v.around s o l b in (zero, v, refl, r.1, r.0 ∙ ap around_svertex (let e : n ≡ n + zero = omega arith in e))
     by go (inr (j, b)) = let r = go j b in (suc r.0, r.1, r.2, r.3, r.4 ∙ ap around_svertex (let e : suc n + r.0 ≡ n + suc r.0 = omega arith in e))
 
 item-has : (n : ℕ) (xs : List Item) (s : ℕ) (o : Side) (l : Label) → At (item_sides n xs) s (o, l)
-    → (i : ℕ) × (x : Item) × At xs i x × (((o ≡ above_item (n + i)) × (item_above x ≡ l)) ⊎ ((o ≡ below_item (n + i)) × (item_below x ≡ l)))
+    → (i : ℕ) × (x : Item) × At xs i x × (((o ≡ pos_item (n + i)) × (item_pos x ≡ l)) ⊎ ((o ≡ neg_item (n + i)) × (item_neg x ≡ l)))
 item-has n [] s o l a = absurd a
-item-has n (x ∷ xs) zero o l a = (zero, x, refl, inl (sym (ap (λ (y : LabelledSide). y.0) a) ∙ ap above_item (let e : n ≡ n + zero = omega arith in e), ap (λ (y : LabelledSide). y.1) a))
-item-has n (x ∷ xs) (suc zero) o l a = (zero, x, refl, inr (sym (ap (λ (y : LabelledSide). y.0) a) ∙ ap below_item (let e : n ≡ n + zero = omega arith in e), ap (λ (y : LabelledSide). y.1) a))
+item-has n (x ∷ xs) zero o l a = (zero, x, refl, inl (sym (ap (λ (y : LabelledSide). y.0) a) ∙ ap pos_item (let e : n ≡ n + zero = omega arith in e), ap (λ (y : LabelledSide). y.1) a))
+item-has n (x ∷ xs) (suc zero) o l a = (zero, x, refl, inr (sym (ap (λ (y : LabelledSide). y.0) a) ∙ ap neg_item (let e : n ≡ n + zero = omega arith in e), ap (λ (y : LabelledSide). y.1) a))
 item-has n (x ∷ xs) (suc (suc s)) o l a =
     let r = item-has (suc n) xs s o l a in
     let e : suc n + r.0 ≡ n + suc r.0 = omega arith in
-    (suc r.0, r.1, r.2, ⊎_elim (λ q. inl (q.0 ∙ ap above_item e, q.1)) (λ q. inr (q.0 ∙ ap below_item e, q.1)) r.3)
+    (suc r.0, r.1, r.2, ⊎_elim (λ q. inl (q.0 ∙ ap pos_item e, q.1)) (λ q. inr (q.0 ∙ ap neg_item e, q.1)) r.3)
 
 -- a map has each of its numbered sides
 pub side-has : (M : Map) (s : ℕ) (o : Side) (l : Label) → IsSide M s o l → HasSide M o l
-side-has M s o l g = by (either-at (svertex_sides 0 M.svertices ++ item_sides 0 (items M)) (labelled whole M.face) s (o, l) (at-from_get (sides_of M) s (o, l) g))
+side-has M s o l g = by (either-at (svertex_sides 0 M.svertices ++ item_sides 0 (items M)) (labelled whole M.ground) s (o, l) (at-from_get (sides_of M) s (o, l) g))
   where
-    around : ((i : ℕ) × (v : Svertex) × At M.svertices i v × (v.around ≡ Some l) × (o ≡ around_svertex (0 + i))) → HasSide M o l
+    around : ((i : ℕ) × (v : MapVertex) × At M.svertices i v × (v.around ≡ Some l) × (o ≡ around_svertex (0 + i))) → HasSide M o l
     around (i, v, a, e, f) = subst (λ (p : Side). HasSide M p l) (sym (f ∙ ap around_svertex (zero-add i))) (v, a, e)
 
-    of_item : ((i : ℕ) × (x : Item) × At (items M) i x × (((o ≡ above_item (0 + i)) × (item_above x ≡ l)) ⊎ ((o ≡ below_item (0 + i)) × (item_below x ≡ l)))) → HasSide M o l
-    of_item (i, x, a, inl q) = subst (λ (p : Side). HasSide M p l) (sym (q.0 ∙ ap above_item (zero-add i))) (x, a, q.1)
-    of_item (i, x, a, inr q) = subst (λ (p : Side). HasSide M p l) (sym (q.0 ∙ ap below_item (zero-add i))) (x, a, q.1)
+    of_item : ((i : ℕ) × (x : Item) × At (items M) i x × (((o ≡ pos_item (0 + i)) × (item_pos x ≡ l)) ⊎ ((o ≡ neg_item (0 + i)) × (item_neg x ≡ l)))) → HasSide M o l
+    of_item (i, x, a, inl q) = subst (λ (p : Side). HasSide M p l) (sym (q.0 ∙ ap pos_item (zero-add i))) (x, a, q.1)
+    of_item (i, x, a, inr q) = subst (λ (p : Side). HasSide M p l) (sym (q.0 ∙ ap neg_item (zero-add i))) (x, a, q.1)
 
     part : At (svertex_sides 0 M.svertices) s (o, l) ⊎ ((j : ℕ) × At (item_sides 0 (items M)) j (o, l)) → HasSide M o l
     part (inl a) = around (svertex-has 0 M.svertices s o l a)
     part (inr (j, a)) = of_item (item-has 0 (items M) j o l a)
 
-    by : At (svertex_sides 0 M.svertices ++ item_sides 0 (items M)) s (o, l) ⊎ ((j : ℕ) × At (labelled whole M.face) j (o, l)) → HasSide M o l
+    by : At (svertex_sides 0 M.svertices ++ item_sides 0 (items M)) s (o, l) ⊎ ((j : ℕ) × At (labelled whole M.ground) j (o, l)) → HasSide M o l
     by (inl a) = part (either-at (svertex_sides 0 M.svertices) (item_sides 0 (items M)) s (o, l) a)
-    by (inr (j, a)) = let r = labelled-has whole M.face j o l a in subst (λ (p : Side). HasSide M p l) (sym r.0) r.1
+    by (inr (j, a)) = let r = labelled-has whole M.ground j o l a in subst (λ (p : Side). HasSide M p l) (sym r.0) r.1

@@ -1,15 +1,15 @@
 -- Each side of a map has its number, and no other.
 use Rattle.std.proofs.Common.{◌≡◌, ℕ, zero, suc, ◌+◌, ◌*◌, ◌⊎◌, inl, inr, ⊎_elim, List, [], ◌∷◌, ◌++◌, length, Option, Some, None, arith, zero-add, length-append, refl, sym, ◌∙◌, ap, subst}
 use Rattle.nef_space.specs.declared.label.Label.{Label}
-use Rattle.law_sphere.specs.Maps.{At, Svertex, Item, Map, items, Side, around_svertex, above_item, below_item, whole, HasSide}
+use Rattle.law_sphere.specs.Maps.{At, MapVertex, Item, Map, items, Side, around_svertex, pos_item, neg_item, whole, HasSide}
 use Rattle.nef_smap.specs.Sides.{LabelledSide, labelled, svertex_sides, item_sides, sides_of, IsSide}
 use Rattle.nef_smap.specs.SideNumbers.{one_if, arounds_before, number_of}
 use Rattle.nef_smap.proofs.SideLists.{at-from_get, get-from_at, at-left, at-right, length-item_sides, item-side}
 
 -- ---- where each side stands
-svertex-at : (n : ℕ) (vs : List Svertex) (k : ℕ) (v : Svertex) (l : Label) → At vs k v → v.around ≡ Some l → At (svertex_sides n vs) (arounds_before vs k) (around_svertex (n + k), l)
+svertex-at : (n : ℕ) (vs : List MapVertex) (k : ℕ) (v : MapVertex) (l : Label) → At vs k v → v.around ≡ Some l → At (svertex_sides n vs) (arounds_before vs k) (around_svertex (n + k), l)
 svertex-at n [] k v l a e = absurd a
-svertex-at n (w ∷ vs) zero v l a e = by w.around (ap (λ (r : Svertex). r.around) a ∙ e)
+svertex-at n (w ∷ vs) zero v l a e = by w.around (ap (λ (r : MapVertex). r.around) a ∙ e)
   where
     by : (f : Option Label) → f ≡ Some l → At (labelled (around_svertex n) f ++ svertex_sides (suc n) vs) 0 (around_svertex (n + zero), l)
     by None e = cc
@@ -28,32 +28,32 @@ module _ (M : Map) where
   of_items = item_sides 0 (items M)
 
   of-item : (i s : ℕ) (y : LabelledSide) → s ≡ length around + i → At of_items i y → At (sides_of M) s y
-  of-item i s y e a = at-left (around ++ of_items) (labelled whole M.face) s y (at-right around of_items i s y e a)
+  of-item i s y e a = at-left (around ++ of_items) (labelled whole M.ground) s y (at-right around of_items i s y e a)
 
   pub side-number : (o : Side) (l : Label) → HasSide M o l → IsSide M (number_of M o) o l
   side-number (around_svertex k) l (v, a, e) = get-from_at (sides_of M) (arounds_before M.svertices k) (around_svertex k, l)
-      (at-left (around ++ of_items) (labelled whole M.face) (arounds_before M.svertices k) (around_svertex k, l) (at-left around of_items (arounds_before M.svertices k) (around_svertex k, l)
+      (at-left (around ++ of_items) (labelled whole M.ground) (arounds_before M.svertices k) (around_svertex k, l) (at-left around of_items (arounds_before M.svertices k) (around_svertex k, l)
       (subst (λ (r : ℕ). At around (arounds_before M.svertices k) (around_svertex r, l)) (zero-add k) (svertex-at 0 M.svertices k v l a e))))
-  side-number (above_item k) l (x, a, e) =
+  side-number (pos_item k) l (x, a, e) =
       let s = length around + 2 * k in
-      get-from_at (sides_of M) s (above_item k, l) (of-item (2 * k) s (above_item k, l) refl
-      (subst (λ (i : ℕ). At of_items (2 * k) (above_item i, l)) (zero-add k) (subst (λ (r : Label). At of_items (2 * k) (above_item (0 + k), r)) e (item-side 0 (items M) k x a).0)))
-  side-number (below_item k) l (x, a, e) =
+      get-from_at (sides_of M) s (pos_item k, l) (of-item (2 * k) s (pos_item k, l) refl
+      (subst (λ (i : ℕ). At of_items (2 * k) (pos_item i, l)) (zero-add k) (subst (λ (r : Label). At of_items (2 * k) (pos_item (0 + k), r)) e (item-side 0 (items M) k x a).0)))
+  side-number (neg_item k) l (x, a, e) =
       let s = length around + (2 * k + 1) in
-      get-from_at (sides_of M) s (below_item k, l) (of-item (2 * k + 1) s (below_item k, l) refl
-      (subst (λ (i : ℕ). At of_items (2 * k + 1) (below_item i, l)) (zero-add k) (subst (λ (r : Label). At of_items (2 * k + 1) (below_item (0 + k), r)) e (item-side 0 (items M) k x a).1)))
+      get-from_at (sides_of M) s (neg_item k, l) (of-item (2 * k + 1) s (neg_item k, l) refl
+      (subst (λ (i : ℕ). At of_items (2 * k + 1) (neg_item i, l)) (zero-add k) (subst (λ (r : Label). At of_items (2 * k + 1) (neg_item (0 + k), r)) e (item-side 0 (items M) k x a).1)))
   side-number whole l e =
       let s = length around + 2 * length (items M) in
       let h = length-item_sides 0 (items M) in
       let i = length-append around of_items in
-      get-from_at (sides_of M) s (whole, l) (at-right (around ++ of_items) (labelled whole M.face) 0 s (whole, l) (omega arith) (by M.face e))
+      get-from_at (sides_of M) s (whole, l) (at-right (around ++ of_items) (labelled whole M.ground) 0 s (whole, l) (omega arith) (by M.ground e))
     where
       by : (g : Option Label) → g ≡ Some l → At (labelled whole g) 0 (whole, l)
       by None e = cc
       by (Some k) e = let f : k ≡ l = cc in ap (λ (r : Label). (whole, r)) f
 
 -- ---- what stands at each number
-svertex-number : (n : ℕ) (v : Svertex) (vs : List Svertex) (s : ℕ) (o : Side) (l : Label) → At (svertex_sides n (v ∷ vs)) s (o, l)
+svertex-number : (n : ℕ) (v : MapVertex) (vs : List MapVertex) (s : ℕ) (o : Side) (l : Label) → At (svertex_sides n (v ∷ vs)) s (o, l)
     → ((s : ℕ) → At (svertex_sides (suc n) vs) s (o, l) → (i : ℕ) × (o ≡ around_svertex (suc n + i)) × (s ≡ arounds_before vs i)) → (i : ℕ) × (o ≡ around_svertex (n + i)) × (s ≡ arounds_before (v ∷ vs) i)
 svertex-number n v vs s o l a go = by v.around refl s a
   where
@@ -68,18 +68,18 @@ svertex-number n v vs s o l a go = by v.around refl s a
     by (Some m) e zero b = (zero, sym (ap (λ (y : LabelledSide). y.0) b) ∙ ap around_svertex (let h : n ≡ n + zero = omega arith in h), refl)
     by (Some m) e (suc s) b = let r = later (Some m) e s b in (r.0, r.1, (let h : suc s ≡ 1 + s = omega arith in h) ∙ r.2)
 
-svertices-number : (n : ℕ) (vs : List Svertex) (s : ℕ) (o : Side) (l : Label) → At (svertex_sides n vs) s (o, l) → (i : ℕ) × (o ≡ around_svertex (n + i)) × (s ≡ arounds_before vs i)
+svertices-number : (n : ℕ) (vs : List MapVertex) (s : ℕ) (o : Side) (l : Label) → At (svertex_sides n vs) s (o, l) → (i : ℕ) × (o ≡ around_svertex (n + i)) × (s ≡ arounds_before vs i)
 svertices-number n [] s o l a = absurd a
 svertices-number n (v ∷ vs) s o l a = svertex-number n v vs s o l a (λ t b. svertices-number (suc n) vs t o l b)
 
-items-number : (n : ℕ) (xs : List Item) (s : ℕ) (o : Side) (l : Label) → At (item_sides n xs) s (o, l) → (i : ℕ) × (((o ≡ above_item (n + i)) × (s ≡ 2 * i)) ⊎ ((o ≡ below_item (n + i)) × (s ≡ 2 * i + 1)))
+items-number : (n : ℕ) (xs : List Item) (s : ℕ) (o : Side) (l : Label) → At (item_sides n xs) s (o, l) → (i : ℕ) × (((o ≡ pos_item (n + i)) × (s ≡ 2 * i)) ⊎ ((o ≡ neg_item (n + i)) × (s ≡ 2 * i + 1)))
 items-number n [] s o l a = absurd a
-items-number n (x ∷ xs) zero o l a = (zero, inl (sym (ap (λ (y : LabelledSide). y.0) a) ∙ ap above_item (let e : n ≡ n + zero = omega arith in e), refl))
-items-number n (x ∷ xs) (suc zero) o l a = (zero, inr (sym (ap (λ (y : LabelledSide). y.0) a) ∙ ap below_item (let e : n ≡ n + zero = omega arith in e), refl))
+items-number n (x ∷ xs) zero o l a = (zero, inl (sym (ap (λ (y : LabelledSide). y.0) a) ∙ ap pos_item (let e : n ≡ n + zero = omega arith in e), refl))
+items-number n (x ∷ xs) (suc zero) o l a = (zero, inr (sym (ap (λ (y : LabelledSide). y.0) a) ∙ ap neg_item (let e : n ≡ n + zero = omega arith in e), refl))
 items-number n (x ∷ xs) (suc (suc s)) o l a =
     let r = items-number (suc n) xs s o l a in
     let e : suc n + r.0 ≡ n + suc r.0 = omega arith in
-    (suc r.0, ⊎_elim (λ q. inl (q.0 ∙ ap above_item e, (let i = q.1 in let h : suc (suc s) ≡ 2 * suc r.0 = omega arith in h))) (λ q. inr (q.0 ∙ ap below_item e, (let i = q.1 in let h : suc (suc s) ≡ 2 * suc r.0 + 1 = omega arith in h))) r.1)
+    (suc r.0, ⊎_elim (λ q. inl (q.0 ∙ ap pos_item e, (let i = q.1 in let h : suc (suc s) ≡ 2 * suc r.0 = omega arith in h))) (λ q. inr (q.0 ∙ ap neg_item e, (let i = q.1 in let h : suc (suc s) ≡ 2 * suc r.0 + 1 = omega arith in h))) r.1)
 
 -- an element of two lists, with its place in the second
 either-of : {X : Type 0} (xs ys : List X) (k : ℕ) (x : X) → At (xs ++ ys) k x → At xs k x ⊎ ((j : ℕ) × At ys j x × (k ≡ length xs + j))
@@ -88,14 +88,14 @@ either-of (z ∷ zs) ys zero x a = inl a
 either-of (z ∷ zs) ys (suc k) x a = ⊎_elim (λ b. inl b) (λ r. inr (r.0, r.1, let e = r.2 in let h : suc k ≡ suc (length zs) + r.0 = omega arith in h)) (either-of zs ys k x a)
 
 pub number-one : (M : Map) (s : ℕ) (o : Side) (l : Label) → IsSide M s o l → s ≡ number_of M o
-number-one M s o l g = by (either-of (around M ++ of_items M) (labelled whole M.face) s (o, l) (at-from_get (sides_of M) s (o, l) g))
+number-one M s o l g = by (either-of (around M ++ of_items M) (labelled whole M.ground) s (o, l) (at-from_get (sides_of M) s (o, l) g))
   where
     is : (p : Side) → o ≡ p → s ≡ number_of M p → s ≡ number_of M o
     is p e q = q ∙ ap (number_of M) (sym e)
 
-    of_item : (j : ℕ) → s ≡ length (around M) + j → (i : ℕ) → ((o ≡ above_item (0 + i)) × (j ≡ 2 * i)) ⊎ ((o ≡ below_item (0 + i)) × (j ≡ 2 * i + 1)) → s ≡ number_of M o
-    of_item j e i (inl q) = is (above_item i) (q.0 ∙ ap above_item (zero-add i)) (e ∙ ap (λ r. length (around M) + r) q.1)
-    of_item j e i (inr q) = is (below_item i) (q.0 ∙ ap below_item (zero-add i)) (e ∙ ap (λ r. length (around M) + r) q.1)
+    of_item : (j : ℕ) → s ≡ length (around M) + j → (i : ℕ) → ((o ≡ pos_item (0 + i)) × (j ≡ 2 * i)) ⊎ ((o ≡ neg_item (0 + i)) × (j ≡ 2 * i + 1)) → s ≡ number_of M o
+    of_item j e i (inl q) = is (pos_item i) (q.0 ∙ ap pos_item (zero-add i)) (e ∙ ap (λ r. length (around M) + r) q.1)
+    of_item j e i (inr q) = is (neg_item i) (q.0 ∙ ap neg_item (zero-add i)) (e ∙ ap (λ r. length (around M) + r) q.1)
 
     part : At (around M) s (o, l) ⊎ ((j : ℕ) × At (of_items M) j (o, l) × (s ≡ length (around M) + j)) → s ≡ number_of M o
     part (inl a) = let r = svertices-number 0 M.svertices s o l a in is (around_svertex r.0) (r.1 ∙ ap around_svertex (zero-add r.0)) r.2
@@ -106,10 +106,10 @@ number-one M s o l g = by (either-of (around M ++ of_items M) (labelled whole M.
     last (Some m) zero a = (sym (ap (λ (y : LabelledSide). y.0) a), refl)
     last (Some m) (suc j) a = absurd a
 
-    by : At (around M ++ of_items M) s (o, l) ⊎ ((j : ℕ) × At (labelled whole M.face) j (o, l) × (s ≡ length (around M ++ of_items M) + j)) → s ≡ number_of M o
+    by : At (around M ++ of_items M) s (o, l) ⊎ ((j : ℕ) × At (labelled whole M.ground) j (o, l) × (s ≡ length (around M ++ of_items M) + j)) → s ≡ number_of M o
     by (inl a) = part (either-of (around M) (of_items M) s (o, l) a)
     by (inr (j, a, e)) =
-        let r = last M.face j a in
+        let r = last M.ground j a in
         let h = length-item_sides 0 (items M) in
         let i = length-append (around M) (of_items M) in
         let q = r.1 in

@@ -6,13 +6,13 @@ use Rattle.nef_space.specs.Vectors.{Vector, dot, IsDirection, IsNormal, IsAtMost
 use Rattle.nef_space.specs.declared.label.Label.{Label}
 use Rattle.nef_geo.specs.Shapes.{vector_of}
 use Rattle.law_sphere.specs.Vectors.{IsPrimitive}
-use Rattle.law_sphere.specs.Maps.{At, Loop, Item, loop_item, items, item_normal, MapLabel, Valid}
+use Rattle.law_sphere.specs.Maps.{At, MapSloop, Item, sloop_item, items, item_normal, MapLabel, Valid}
 use Rattle.law_sphere.specs.Least.{by_side, Least, Ordered}
 use Rattle.law_sphere.specs.Labelling.{Labelling}
-use Rattle.law_sphere.proofs.Simple.{ground_map, face-shaped, face-agrees, loop_map, loop-shaped, loop-agrees}
+use Rattle.law_sphere.proofs.Simple.{ground_map, ground-shaped, ground-agrees, sloop_map, sloop-shaped, sloop-agrees}
 use Rattle.law_sphere.proofs.Built.{agrees-valid, label-agrees}
 use Rattle.nef_smap.specs.declared.map.SLoop.{SLoop}
-use Rattle.nef_smap.specs.Maps.{loop_of, IsSmall}
+use Rattle.nef_smap.specs.Maps.{sloop_of, IsSmall}
 use Rattle.nef_smap.proofs.Primitive.{dir-primitive}
 
 -- ---- one label
@@ -20,27 +20,27 @@ module _ (k g : Label) where
   one-labelling : Labelling [] (λ d m. g ≡ m)
   one-labelling = record { exists = λ d f. (g, refl); one = λ d m n f x y. sym x ∙ y; cells = λ d e m f h s x. x }
 
-  pub face-valid : Valid (ground_map k g)
-  face-valid = agrees-valid [] (λ d m. g ≡ m) one-labelling (ground_map k g) (face-shaped k g) (face-agrees k g (λ d m. g ≡ m) (λ d f. refl) (λ d m n f x y. sym x ∙ y))
+  pub ground-valid : Valid (ground_map k g)
+  ground-valid = agrees-valid [] (λ d m. g ≡ m) one-labelling (ground_map k g) (ground-shaped k g) (ground-agrees k g (λ d m. g ≡ m) (λ d f. refl) (λ d m n f x y. sym x ∙ y))
 
-  pub face-labels : (d : Vector) → IsDirection d → MapLabel (ground_map k g) d g
-  face-labels d f = label-agrees [] (λ d m. g ≡ m) one-labelling (ground_map k g) (face-shaped k g) (face-agrees k g (λ d m. g ≡ m) (λ d f. refl) (λ d m n f x y. sym x ∙ y)) d g f refl
+  pub ground-labels : (d : Vector) → IsDirection d → MapLabel (ground_map k g) d g
+  ground-labels d f = label-agrees [] (λ d m. g ≡ m) one-labelling (ground_map k g) (ground-shaped k g) (ground-agrees k g (λ d m. g ≡ m) (λ d f. refl) (λ d m n f x y. sym x ∙ y)) d g f refl
 
-  pub face-least : Least (ground_map k g)
-  face-least = record { no_plain = λ i v a p. a; no_straight = λ i v a p. a; items_differ = λ i x a. absurd a }
+  pub ground-least : Least (ground_map k g)
+  ground-least = record { no_plain = λ i v a p. a; no_straight = λ i v a p. a; items_differ = λ i x a. absurd a }
 
-  pub face-ordered : Ordered (ground_map k g)
-  face-ordered = record { ways_lowest = λ i v a. absurd a; normals_lowest = λ i x a. absurd a; svertices = λ i j u v l a b. absurd a; arcs = λ i j u v l a b. absurd a }
+  pub ground-ordered : Ordered (ground_map k g)
+  ground-ordered = record { dirs_lowest = λ i v a. absurd a; normals_lowest = λ i x a. absurd a; svertices = λ i j u v l a b. absurd a; arcs = λ i j u v l a b. absurd a }
 
-  pub face-small : IsSmall (ground_map k g)
-  face-small = record { svertices = λ i v a. absurd a; normals = λ i x a. absurd a }
+  pub ground-small : IsSmall (ground_map k g)
+  ground-small = record { svertices = λ i v a. absurd a; normals = λ i x a. absurd a }
 
 -- ---- one plane
 module _ (l : SLoop) where
-  abbrev p : Loop
-  p = loop_of l
+  abbrev p : MapSloop
+  p = sloop_of l
 
-  only : (i : ℕ) (x : Item) → At (items (loop_map l.mark p)) i x → loop_item p ≡ x
+  only : (i : ℕ) (x : Item) → At (items (sloop_map l.mark p)) i x → sloop_item p ≡ x
   only zero x e = e
   only (suc i) x e = absurd e
 
@@ -50,17 +50,17 @@ module _ (l : SLoop) where
   side-labelling : Labelling (vector_of l.normal ∷ []) (λ d m. side d ≡ m)
   side-labelling = record { exists = λ d f. (side d, refl); one = λ d m n f x y. sym x ∙ y; cells = λ d e m f g s x. ap (by_side l.pos l.mark l.neg) (s (vector_of l.normal) (inl refl)) ∙ x }
 
-  pub plane-labels : IsNormal (vector_of l.normal) → (d : Vector) → IsDirection d → MapLabel (loop_map l.mark p) d (side d)
-  plane-labels h d f = label-agrees (vector_of l.normal ∷ []) (λ d m. side d ≡ m) side-labelling (loop_map l.mark p) (loop-shaped l.mark p h)
-      (loop-agrees l.mark p (λ d m. side d ≡ m) (λ d f. refl) (λ d m n f x y. sym x ∙ y)) d (side d) f refl
+  pub plane-labels : IsNormal (vector_of l.normal) → (d : Vector) → IsDirection d → MapLabel (sloop_map l.mark p) d (side d)
+  plane-labels h d f = label-agrees (vector_of l.normal ∷ []) (λ d m. side d ≡ m) side-labelling (sloop_map l.mark p) (sloop-shaped l.mark p h)
+      (sloop-agrees l.mark p (λ d m. side d ≡ m) (λ d f. refl) (λ d m n f x y. sym x ∙ y)) d (side d) f refl
 
-  pub plane-ordered : Ordered (loop_map l.mark p)
+  pub plane-ordered : Ordered (sloop_map l.mark p)
   plane-ordered = record {
-    ways_lowest = λ i v a. absurd a;
+    dirs_lowest = λ i v a. absurd a;
     normals_lowest = λ i x a. subst (λ (y : Item). IsPrimitive (item_normal y)) (only i x a) (dir-primitive l.normal);
     svertices = λ i j u v l a b. absurd a;
     arcs = λ i j u v l a b. absurd a;
   }
 
-  pub plane-small : IsAtMost normal_limit (vector_of l.normal) → IsSmall (loop_map l.mark p)
+  pub plane-small : IsAtMost normal_limit (vector_of l.normal) → IsSmall (sloop_map l.mark p)
   plane-small h = record { svertices = λ i v a. absurd a; normals = λ i x a. subst (λ (y : Item). IsAtMost normal_limit (item_normal y)) (only i x a) h }

@@ -11,7 +11,7 @@ use Rattle.nef_space.specs.declared.label.Label.{Label}
 use Rattle.law_near.proofs.FlatDecided.{cross-turned}
 use Rattle.law_forms.proofs.Directions.{self-pos, square_pos, zero-dot}
 use Rattle.law_forms.proofs.Far.{nought-or}
-use Rattle.law_sphere.specs.Maps.{At, Svertex, Arc, Loop, Map, Item, arc_item, loop_item, items, item_normal, item_above, way_of, OnItem, IsFree, Side, around_svertex, above_item, below_item, whole, HasSide, IsClear, Sees, directly, HasArc, Shaped}
+use Rattle.law_sphere.specs.Maps.{At, MapVertex, Arc, MapSloop, Map, Item, arc_item, sloop_item, items, item_normal, item_pos, dir_of, OnItem, IsFree, Side, around_svertex, pos_item, neg_item, whole, HasSide, IsClear, Sees, directly, HasArc, Shaped}
 use Rattle.law_sphere.specs.Forms.{Keeps, forms}
 use Rattle.law_sphere.proofs.Vectors.{normal-is, dot-comb}
 use Rattle.law_sphere.proofs.Lists.{at-one}
@@ -19,10 +19,10 @@ use Rattle.law_sphere.proofs.Forms.{item-forms, normal-form, on-direction, on-le
 use Rattle.law_sphere.proofs.Generic.{amount, far-keeps}
 use Rattle.law_sphere.proofs.Parallel.{apart, arc-point}
 use Rattle.law_sphere.proofs.Direct.{cross-self, between-off_target, cross-between}
-use Rattle.law_sphere.proofs.Shot.{way-at, arc-at}
+use Rattle.law_sphere.proofs.Shot.{dir-at, arc-at}
 use Rattle.law_sphere.proofs.StepOff.{blend-turned}
 use Rattle.law_sphere.proofs.Around.{direction-around, svertex-around, free-around, free-beside}
-use Rattle.law_sphere.proofs.Compare.{way-self}
+use Rattle.law_sphere.proofs.Compare.{dir-self}
 use Rattle.law_sphere.proofs.Arcs.{at-arc}
 use Rattle.law_sphere.proofs.NearItems.{keeps-between, kept-not_opposite, opposite-turned, clear-around}
 use Rattle.law_sphere.proofs.Forms.{axes-forms}
@@ -30,8 +30,8 @@ use Rattle.law_sphere.proofs.Sight.{clear-self, sees_both, free-seen}
 use Rattle.nef_smap.specs.Sides.{sides_of, SideSees, SeeOneWay}
 use Rattle.nef_smap.specs.SideNumbers.{number_of}
 use Rattle.nef_smap.specs.Above.{meridians, over_forms, IsFirst, first_sign, Stands}
-use Rattle.nef_smap.specs.Joined.{FirstNear, BelowFirsts, BelowFirst, ArcFirst, LoopFirst}
-use Rattle.nef_smap.specs.Links.{met_number, IsJoin, join_below, join_around, join_arc, join_loop, join_ground}
+use Rattle.nef_smap.specs.Joined.{FirstNear, BelowFirsts, BelowFirst, ArcFirst, SloopFirst}
+use Rattle.nef_smap.specs.Links.{met_number, IsJoin, join_below, join_around, join_arc, join_sloop, join_ground}
 use Rattle.nef_smap.proofs.Rise.{form-over, meridian-over, meridian-level, svertex-meridian, meridian-turn}
 use Rattle.nef_smap.proofs.Over.{touches-back, touches-level}
 use Rattle.nef_smap.proofs.Stands.{first-none, first-last, dot-opposite, far-stands, stand, stands, stands-keeps, stands-second, stands-third}
@@ -66,7 +66,7 @@ along-turn n s r u p q =
     (given (ux ⊗ (ny ⊗ rz ⊖ nz ⊗ ry) ⊕ uy ⊗ (nz ⊗ rx ⊖ nx ⊗ rz) ⊕ uz ⊗ (nx ⊗ ry ⊖ ny ⊗ rx)) (nx ⊗ sx ⊕ ny ⊗ sy ⊕ nz ⊗ sz) o p none)) tt
 
 module _ (M : Map) (V : Shaped M) (u : Vector) (ahead : (k : ℕ) (x : Item) → At (items M) k x → pos 0 <ℤ dot (item_normal x) u)
-    (across : (k : ℕ) (v : Svertex) → At M.svertices k v → IsDirection (cross u v.way)) (hu : IsDirection u) where
+    (across : (k : ℕ) (v : MapVertex) → At M.svertices k v → IsDirection (cross u v.dir)) (hu : IsDirection u) where
   -- ---- sides by their numbers
   abbrev Together : ℕ → ℕ → Type 0
   Together = Chained (SeeOneWay M)
@@ -86,7 +86,7 @@ module _ (M : Map) (V : Shaped M) (u : Vector) (ahead : (k : ℕ) (x : Item) →
   U : IsFree M u
   U = record {
     direction = hu;
-    off_svertices = λ k v a w. across k v a (cross-turned v.way u w.parallel);
+    off_svertices = λ k v a w. across k v a (cross-turned v.dir u w.parallel);
     off_items = λ k x a o. let h = ahead k x a in let e = on-level M x u o in omega (arith, ints);
   }
 
@@ -148,7 +148,7 @@ module _ (M : Map) (V : Shaped M) (u : Vector) (ahead : (k : ℕ) (x : Item) →
   -- what is met first
   met-sees : (d : Vector) → IsFree M d → Generic M u d → (r : Option ℕ) → IsFirst M u d r → ElementSees (met_number M r) d
   met-sees d D H None f = inr (refl, none-clear M V u ahead hu d D H f)
-  met-sees d D H (Some k) f = inl (side-sees (below_item k) _ d (f.item, f.listed, refl) (first-sees M V u ahead hu d D H k f))
+  met-sees d D H (Some k) f = inl (side-sees (neg_item k) _ d (f.item, f.listed, refl) (first-sees M V u ahead hu d D H k f))
 
   -- ---- directions close to c, to one side of its meridian, lie under no svertex
   module _ (c a d : Vector) (off : dot (cross u c) a ≡ pos 0 → ⊥) (aside : (m : Vector) → Lies (meridians M u) m → sign (dot m d) ≡ first_sign (sign (dot m c)) (sign (dot m a)))
@@ -164,9 +164,9 @@ module _ (M : Map) (V : Shaped M) (u : Vector) (ahead : (k : ℕ) (x : Item) →
             let y : dot u u *ℤ dot m d ≡ pos 0 = omega (arith, ints) in
             nought-is (dot m d) (sym (sign-scaled (dot u u) (dot m d) (self-pos u hu)) ∙ ap sign y)
 
-        none : (k : ℕ) (v : Svertex) → At M.svertices k v → dot (cross u v.way) d ≡ pos 0 → ⊥
+        none : (k : ℕ) (v : MapVertex) → At M.svertices k v → dot (cross u v.dir) d ≡ pos 0 → ⊥
         none k v h z =
-            let n = cross u v.way in
+            let n = cross u v.dir in
             let l = cross u c in
             let i = svertex-meridian M u k v h in
             let e = first-none (sign (dot n c)) (sign (dot n a)) (sym (aside n i) ∙ ap sign z) in
@@ -194,8 +194,8 @@ module _ (M : Map) (V : Shaped M) (u : Vector) (ahead : (k : ℕ) (x : Item) →
                 other x y g e = ⊎_elim (λ z. z) (λ h. absurd (let p = square_pos x g in let q = square_pos y h in let t = mul_pos (x *ℤ x) (y *ℤ y) p q in let s = ap (λ r. r *ℤ (x *ℤ y)) e in let i = ring (x ∷ y ∷ []) ((at 0 ⊗ at 0) ⊗ (at 1 ⊗ at 1)) ((at 0 ⊗ at 1) ⊗ (at 0 ⊗ at 1)) tt in let o = ring (x ∷ y ∷ []) (num (pos 0) ⊗ (at 0 ⊗ at 1)) (num (pos 0)) tt in omega (arith, ints))) (nought-or y)
 
   -- ---- above an item
-  upper-sees : (k : ℕ) (x : Item) (a : At (items M) k x) (z y : Vector) → OnItem M x z → Keeps (forms M) z y → pos 0 <ℤ dot (item_normal x) y → ElementSees (number_of M (above_item k)) y × IsFree M y
-  upper-sees k x a z y o h l = (inl (side-sees (above_item k) (item_above x) y (x, a, refl) (directly z clear (x, a, o, l))), free)
+  upper-sees : (k : ℕ) (x : Item) (a : At (items M) k x) (z y : Vector) → OnItem M x z → Keeps (forms M) z y → pos 0 <ℤ dot (item_normal x) y → ElementSees (number_of M (pos_item k)) y × IsFree M y
+  upper-sees k x a z y o h l = (inl (side-sees (pos_item k) (item_pos x) y (x, a, refl) (directly z clear (x, a, o, l))), free)
     where
       off : dot (item_normal x) y ≡ pos 0 → ⊥
       off e = omega (arith, ints)
@@ -216,9 +216,9 @@ module _ (M : Map) (V : Shaped M) (u : Vector) (ahead : (k : ℕ) (x : Item) →
   forms-kept d z k g l f = k g (form-over M u g l) f
 
   -- ---- below a svertex
-  module _ (k : ℕ) (v : Svertex) (a : At M.svertices k v) where
+  module _ (k : ℕ) (v : MapVertex) (a : At M.svertices k v) where
     abbrev w : Vector
-    w = v.way
+    w = v.dir
 
     abbrev o : Vector
     o = opposite u
@@ -227,7 +227,7 @@ module _ (M : Map) (V : Shaped M) (u : Vector) (ahead : (k : ℕ) (x : Item) →
     l = cross u w
 
     hw : IsDirection w
-    hw = V.svertex_ways k v a
+    hw = V.svertex_dirs k v a
 
     beside-u : IsDirection (cross w o)
     beside-u z = across k v a (one u.y u.z w.y w.z z.0, one u.z u.x w.z w.x z.1, one u.x u.y w.x w.y z.2)
@@ -236,10 +236,10 @@ module _ (M : Map) (V : Shaped M) (u : Vector) (ahead : (k : ℕ) (x : Item) →
         one a b c d e = ring (a ∷ b ∷ c ∷ d ∷ []) (at 0 ⊗ at 3 ⊖ at 1 ⊗ at 2) (at 2 ⊗ neg (at 1) ⊖ at 3 ⊗ neg (at 0)) tt ∙ e
 
     -- a direction close to w, but not w, is no svertex
-    off-svertices : (z : Vector) → Keeps (forms M) w z → IsDirection (cross w z) → (j : ℕ) (y : Svertex) → At M.svertices j y → SameDirection y.way z → ⊥
+    off-svertices : (z : Vector) → Keeps (forms M) w z → IsDirection (cross w z) → (j : ℕ) (y : MapVertex) → At M.svertices j y → SameDirection y.dir z → ⊥
     off-svertices z h f j y b s =
         let m = V.svertices_apart j k y v b a (svertex-around M V w z h j y b hw s) in
-        f (subst (λ (r : Svertex). IsZero (cross r.way z)) (at-one M.svertices k y v (subst (λ (r : ℕ). At M.svertices r y) m b) a) s.parallel)
+        f (subst (λ (r : MapVertex). IsZero (cross r.dir z)) (at-one M.svertices k y v (subst (λ (r : ℕ). At M.svertices r y) m b) a) s.parallel)
 
     -- close below w
     abbrev c : Vector
@@ -300,7 +300,7 @@ module _ (M : Map) (V : Shaped M) (u : Vector) (ahead : (k : ℕ) (x : Item) →
 
     around-joined : (m : Label) → v.around ≡ Some m → (j : BelowFirst M u w) → Together (root (number_of M (around_svertex k))) (root (met_number M j.first))
     around-joined m q j = near-one c (d j.aside j.off) c (clear-self M c c-free) c-free (d-clear j.aside j.off) (d-free j.aside j.off) (number_of M (around_svertex k)) (met_number M j.first)
-        (inl (side-sees (around_svertex k) m c (v, a, q) (directly w clear (v, a, way-self w hw)))) (sees-d j.aside j.off j.first j.is_first)
+        (inl (side-sees (around_svertex k) m c (v, a, q) (directly w clear (v, a, dir-self w hw)))) (sees-d j.aside j.off j.first j.is_first)
       where
         lone : HasArc M k → ⊥
         lone t = none-some (sym (V.around_not k v a t) ∙ q)
@@ -330,8 +330,8 @@ module _ (M : Map) (V : Shaped M) (u : Vector) (ahead : (k : ℕ) (x : Item) →
         }
 
   -- ---- above a sloop
-  loop-joined : (k : ℕ) (r : Loop) → At (items M) k (loop_item r) → (j : LoopFirst M u r) → Together (root (number_of M (above_item k))) (root (met_number M j.first))
-  loop-joined k r a j = one-direction y sees.1 (number_of M (above_item k)) (met_number M j.first) sees.0 (met-sees y sees.1 generic j.first (j.is_first y s))
+  sloop-joined : (k : ℕ) (r : MapSloop) → At (items M) k (sloop_item r) → (j : SloopFirst M u r) → Together (root (number_of M (pos_item k))) (root (met_number M j.first))
+  sloop-joined k r a j = one-direction y sees.1 (number_of M (pos_item k)) (met_number M j.first) sees.0 (met-sees y sees.1 generic j.first (j.is_first y s))
     where
       p : Vector
       p = j.point
@@ -349,11 +349,11 @@ module _ (M : Map) (V : Shaped M) (u : Vector) (ahead : (k : ℕ) (x : Item) →
       n = r.normal
 
       above : pos 0 <ℤ dot r.normal y
-      above = plus-is (dot n y) (stands-second (over_forms M u) p u j.aside y n s (form-over M u n (item-forms M k (loop_item r) n a (normal-form M (loop_item r)))) j.on.level
-          ∙ ap (λ t. first_sign t (sign (dot n j.aside))) (sign-plus (dot n u) (ahead k (loop_item r) a)))
+      above = plus-is (dot n y) (stands-second (over_forms M u) p u j.aside y n s (form-over M u n (item-forms M k (sloop_item r) n a (normal-form M (sloop_item r)))) j.on.level
+          ∙ ap (λ t. first_sign t (sign (dot n j.aside))) (sign-plus (dot n u) (ahead k (sloop_item r) a)))
 
-      sees : ElementSees (number_of M (above_item k)) y × IsFree M y
-      sees = upper-sees k (loop_item r) a p y j.on (forms-kept p y (stands-keeps (over_forms M u) p u j.aside y s)) above
+      sees : ElementSees (number_of M (pos_item k)) y × IsFree M y
+      sees = upper-sees k (sloop_item r) a p y j.on (forms-kept p y (stands-keeps (over_forms M u) p u j.aside y s)) above
 
       aside : (m : Vector) → Lies (meridians M u) m → sign (dot m y) ≡ first_sign (sign (dot m j.point)) (sign (dot m j.aside))
       aside m i = s m (meridian-over M u m i) ∙ ap (λ t. first_sign (sign (dot m p)) (first_sign t (sign (dot m j.aside)))) (ap sign (meridian-level M u m i))
@@ -363,32 +363,32 @@ module _ (M : Map) (V : Shaped M) (u : Vector) (ahead : (k : ℕ) (x : Item) →
           (sym (stands-third (l ∷ over_forms M u) p u j.aside y l (stands (l ∷ over_forms M u) p u j.aside) (inl refl) (cross-last u p) (cross-self u p)) ∙ ap sign z)))
 
   -- ---- above an arc
-  arc-joined : (k : ℕ) (r : Arc) (a : At (items M) k (arc_item r)) (j : ArcFirst M u r) → Together (root (number_of M (above_item k))) (root (met_number M j.first))
-  arc-joined k r a j = one-direction y sees.1 (number_of M (above_item k)) (met_number M j.first) sees.0 (met-sees y sees.1 generic j.first (j.is_first y y-stands))
+  arc-joined : (k : ℕ) (r : Arc) (a : At (items M) k (arc_item r)) (j : ArcFirst M u r) → Together (root (number_of M (pos_item k))) (root (met_number M j.first))
+  arc-joined k r a j = one-direction y sees.1 (number_of M (pos_item k)) (met_number M j.first) sees.0 (met-sees y sees.1 generic j.first (j.is_first y y-stands))
     where
       n : Vector
       n = r.normal
 
       s : Vector
-      s = way_of M.svertices r.source
+      s = dir_of M.svertices r.source
 
       t : Vector
-      t = way_of M.svertices r.target
+      t = dir_of M.svertices r.target
 
       hn : IsDirection r.normal
       hn = normal-is V k (arc_item r) a
 
-      hs : IsDirection (way_of M.svertices r.source)
-      hs = let b = V.arcs_between k r (arc-at M.arcs M.loop k r a) in subst IsDirection (sym (way-at M.svertices r.source b.source b.has_source)) (V.svertex_ways r.source b.source b.has_source)
+      hs : IsDirection (dir_of M.svertices r.source)
+      hs = let b = V.arcs_between k r (arc-at M.arcs M.sloop k r a) in subst IsDirection (sym (dir-at M.svertices r.source b.source b.has_source)) (V.svertex_dirs r.source b.source b.has_source)
 
-      ht : IsDirection (way_of M.svertices r.target)
-      ht = let b = V.arcs_between k r (arc-at M.arcs M.loop k r a) in subst IsDirection (sym (way-at M.svertices r.target b.target b.has_target)) (V.svertex_ways r.target b.target b.has_target)
+      ht : IsDirection (dir_of M.svertices r.target)
+      ht = let b = V.arcs_between k r (arc-at M.arcs M.sloop k r a) in subst IsDirection (sym (dir-at M.svertices r.target b.target b.has_target)) (V.svertex_dirs r.target b.target b.has_target)
 
-      ls : dot r.normal (way_of M.svertices r.source) ≡ pos 0
-      ls = let b = V.arcs_between k r (arc-at M.arcs M.loop k r a) in subst (λ (v : Vector). dot r.normal v ≡ pos 0) (sym (way-at M.svertices r.source b.source b.has_source)) b.level_source
+      ls : dot r.normal (dir_of M.svertices r.source) ≡ pos 0
+      ls = let b = V.arcs_between k r (arc-at M.arcs M.sloop k r a) in subst (λ (v : Vector). dot r.normal v ≡ pos 0) (sym (dir-at M.svertices r.source b.source b.has_source)) b.level_source
 
-      lt : dot r.normal (way_of M.svertices r.target) ≡ pos 0
-      lt = let b = V.arcs_between k r (arc-at M.arcs M.loop k r a) in subst (λ (v : Vector). dot r.normal v ≡ pos 0) (sym (way-at M.svertices r.target b.target b.has_target)) b.level_target
+      lt : dot r.normal (dir_of M.svertices r.target) ≡ pos 0
+      lt = let b = V.arcs_between k r (arc-at M.arcs M.sloop k r a) in subst (λ (v : Vector). dot r.normal v ≡ pos 0) (sym (dir-at M.svertices r.target b.target b.has_target)) b.level_target
 
       K : ℕ
       K = amount (cross t n ∷ []) (cross n s) + amount (over_forms M u) (cross n s)
@@ -418,7 +418,7 @@ module _ (M : Map) (V : Shaped M) (u : Vector) (ahead : (k : ℕ) (x : Item) →
       above = plus-is (dot n y) (stands-second (over_forms M u) z u l y n near-z (form-over M u n (item-forms M k (arc_item r) n a (normal-form M (arc_item r)))) (on-level M (arc_item r) z on-z)
           ∙ ap (λ t. first_sign t (sign (dot n l))) (sign-plus (dot n u) (ahead k (arc_item r) a)))
 
-      sees : ElementSees (number_of M (above_item k)) y × IsFree M y
+      sees : ElementSees (number_of M (pos_item k)) y × IsFree M y
       sees = upper-sees k (arc_item r) a z y on-z (forms-kept z y (stands-keeps (over_forms M u) z u l y near-z)) above
 
       aside : (m : Vector) → Lies (meridians M u) m → sign (dot m y) ≡ first_sign (sign (dot m s)) (sign (dot m j.along))
@@ -442,6 +442,6 @@ module _ (M : Map) (V : Shaped M) (u : Vector) (ahead : (k : ℕ) (x : Item) →
   pub sound : (s t : ℕ) → IsJoin M u s t → Together (root s) (root t)
   sound s t (join_below k v a j e f) = between s t e f (below-joined k v a j)
   sound s t (join_around k v m a q j e f) = between s t e f (around-joined k v a m q j)
-  sound s t (join_arc k r h j e f) = between s t e f (arc-joined k r (at-arc M.arcs M.loop k r h) j)
-  sound s t (join_loop k r h j e f) = between s t e f (loop-joined k r h j)
+  sound s t (join_arc k r h j e f) = between s t e f (arc-joined k r (at-arc M.arcs M.sloop k r h) j)
+  sound s t (join_sloop k r h j e f) = between s t e f (sloop-joined k r h j)
   sound s t (join_ground m q e f) = between s t e f (one-direction u U (number_of M whole) (length (sides_of M)) (inl (side-sees whole m u q (directly u (clear-self M u U) tt))) (inr (refl, clear-self M u U)))

@@ -12,13 +12,13 @@ use Rattle.law_near.proofs.Decided.{Decided}
 use Rattle.law_forms.proofs.Directions.{self-pos, square_pos, zero-dot}
 use Rattle.law_forms.proofs.Far.{nought-or}
 use Rattle.nef_geo.specs.Shapes.{vector_of}
-use Rattle.law_sphere.specs.Maps.{At, Svertex, Arc, Loop, Map, Item, arc_item, loop_item, items, item_normal, way_of, ArcBetween, Shaped}
+use Rattle.law_sphere.specs.Maps.{At, MapVertex, Arc, MapSloop, Map, Item, arc_item, sloop_item, items, item_normal, dir_of, ArcBetween, Shaped}
 use Rattle.law_sphere.specs.Forms.{axis_x, axis_y, axis_z}
 use Rattle.law_sphere.proofs.Vectors.{normal-is}
 use Rattle.law_sphere.proofs.Places.{axis_x-is, axis_y-is, axis_z-is}
 use Rattle.law_sphere.proofs.Forms.{item-forms, normal-form, axes-forms}
 use Rattle.law_sphere.proofs.Direct.{cross-self}
-use Rattle.law_sphere.proofs.Shot.{way-at, arc-at}
+use Rattle.law_sphere.proofs.Shot.{dir-at, arc-at}
 use Rattle.nef_smap.specs.declared.above.Close.{Close}
 use Rattle.nef_smap.specs.declared.map.SArc.{SArc}
 use Rattle.nef_smap.specs.declared.map.SphereMap.{SphereMap}
@@ -82,8 +82,8 @@ module _ (m : SphereMap) (S : IsSphereMap m) where
   pub map-ahead : (k : ℕ) (x : Item) → At (items M) k x → pos 0 <ℤ dot (item_normal x) up
   map-ahead k x a = let v = S.valid in let s = S.small in normal-ahead (item_normal x) (v.shaped.normals k x a) (s.normals k x a)
 
-  pub map-across : (k : ℕ) (v : Svertex) → At M.svertices k v → IsDirection (cross up v.way)
-  map-across k v a = let w = S.valid in let s = S.small in svertex-across v.way (w.shaped.svertex_ways k v a) (s.svertices k v a)
+  pub map-across : (k : ℕ) (v : MapVertex) → At M.svertices k v → IsDirection (cross up v.dir)
+  map-across k v a = let w = S.valid in let s = S.small in svertex-across v.dir (w.shaped.svertex_dirs k v a) (s.svertices k v a)
 
   -- ---- what lies over directions close to one
   module _ (w : Close) (off : dot (cross up (vector_of w.at)) (vector_of w.aside) ≡ pos 0 → ⊥) (d : Vector) (close : IsClose m w d) where
@@ -113,17 +113,17 @@ module _ (m : SphereMap) (S : IsSphereMap m) where
             rise-is up n g at ∙ nought-is (dot f at) r.0
 
     -- no end of an item lies over d
-    end-off : (k : ℕ) (v : Svertex) → At M.svertices k v → dot (cross up v.way) d ≡ pos 0 → ⊥
+    end-off : (k : ℕ) (v : MapVertex) → At M.svertices k v → dot (cross up v.dir) d ≡ pos 0 → ⊥
     end-off k v a z =
-        let f = cross up v.way in
+        let f = cross up v.dir in
         let i = svertex-meridian M up k v a in
         let level = rise-level-of v in
         let s = sym (level-sign f w level) ∙ sym (close f (meridian-over M up f i)) ∙ ap sign z in
         let r = first-none (sign (dot f (vector_of w.at))) (sign (dot f (vector_of w.aside))) s in
         aside-off up (vector_of w.at) (vector_of w.aside) f off level (map-across k v a) (nought-is (dot f (vector_of w.at)) r.0) (nought-is (dot f (vector_of w.aside)) r.1)
       where
-        rise-level-of : (v : Svertex) → dot (cross up v.way) up ≡ pos 0
-        rise-level-of v = cross-self up v.way
+        rise-level-of : (v : MapVertex) → dot (cross up v.dir) up ≡ pos 0
+        rise-level-of v = cross-self up v.dir
 
     pub below-is : (k : ℕ) (x : Item) → At (items M) k x → close_sign (item_normal x) w ≡ minus ↔ dot (item_normal x) d <ℤ pos 0
     below-is k x a =
@@ -138,14 +138,14 @@ module _ (m : SphereMap) (S : IsSphereMap m) where
         let g = item_normal y in
         ap sign (rise-is up n g d) ∙ close (rise_form up n g) (meridian-over M up (rise_form up n g) (rise-meridian M up k x g a (item-forms M l y g b (normal-form M y))))
 
-    pub loop-over : (k : ℕ) (l : Loop) → At (items M) k (loop_item l) → close_sign l.normal w ≡ minus ↔ IsOver M up (loop_item l) d
-    loop-over k l a = let b = below-is k (loop_item l) a in (
-      λ h. record { below = b.0 h; on = record { direction = some-rise k (loop_item l) a; level = rise-level up l.normal d } },
+    pub sloop-over : (k : ℕ) (l : MapSloop) → At (items M) k (sloop_item l) → close_sign l.normal w ≡ minus ↔ IsOver M up (sloop_item l) d
+    sloop-over k l a = let b = below-is k (sloop_item l) a in (
+      λ h. record { below = b.0 h; on = record { direction = some-rise k (sloop_item l) a; level = rise-level up l.normal d } },
       λ o. b.1 o.below,
     )
 
     pub arc-over : (k : ℕ) (r : Arc) → At (items M) k (arc_item r)
-        → ((close_sign r.normal w ≡ minus) × ArcPasses (sign (triple r.normal (way_of M.svertices r.source) (way_of M.svertices r.target))) (close_sign (cross up (way_of M.svertices r.source)) w ≡ plus) (close_sign (cross up (way_of M.svertices r.target)) w ≡ minus) (r.source ≡ r.target))
+        → ((close_sign r.normal w ≡ minus) × ArcPasses (sign (triple r.normal (dir_of M.svertices r.source) (dir_of M.svertices r.target))) (close_sign (cross up (dir_of M.svertices r.source)) w ≡ plus) (close_sign (cross up (dir_of M.svertices r.target)) w ≡ minus) (r.source ≡ r.target))
         ↔ IsOver M up (arc_item r) d
     arc-over k r a = (
       λ h. record { below = let b = below-is k (arc_item r) a in b.0 h.0; on = passes-on n s t d up hn hs ht ls lt hy off_s off_t E E? one two (let p = alike in p.0 h.1) },
@@ -156,42 +156,42 @@ module _ (m : SphereMap) (S : IsSphereMap m) where
         n = r.normal
 
         s : Vector
-        s = way_of M.svertices r.source
+        s = dir_of M.svertices r.source
 
         t : Vector
-        t = way_of M.svertices r.target
+        t = dir_of M.svertices r.target
 
         between : ArcBetween M r
-        between = V.arcs_between k r (arc-at M.arcs M.loop k r a)
+        between = V.arcs_between k r (arc-at M.arcs M.sloop k r a)
 
-        s-is : way_of M.svertices r.source ≡ between.source.way
-        s-is = way-at M.svertices r.source between.source between.has_source
+        s-is : dir_of M.svertices r.source ≡ between.source.dir
+        s-is = dir-at M.svertices r.source between.source between.has_source
 
-        t-is : way_of M.svertices r.target ≡ between.target.way
-        t-is = way-at M.svertices r.target between.target between.has_target
+        t-is : dir_of M.svertices r.target ≡ between.target.dir
+        t-is = dir-at M.svertices r.target between.target between.has_target
 
         hn : IsDirection r.normal
         hn = normal-is V k (arc_item r) a
 
-        hs : IsDirection (way_of M.svertices r.source)
-        hs = subst IsDirection (sym s-is) (V.svertex_ways r.source between.source between.has_source)
+        hs : IsDirection (dir_of M.svertices r.source)
+        hs = subst IsDirection (sym s-is) (V.svertex_dirs r.source between.source between.has_source)
 
-        ht : IsDirection (way_of M.svertices r.target)
-        ht = subst IsDirection (sym t-is) (V.svertex_ways r.target between.target between.has_target)
+        ht : IsDirection (dir_of M.svertices r.target)
+        ht = subst IsDirection (sym t-is) (V.svertex_dirs r.target between.target between.has_target)
 
-        ls : dot r.normal (way_of M.svertices r.source) ≡ pos 0
+        ls : dot r.normal (dir_of M.svertices r.source) ≡ pos 0
         ls = subst (λ (v : Vector). dot r.normal v ≡ pos 0) (sym s-is) between.level_source
 
-        lt : dot r.normal (way_of M.svertices r.target) ≡ pos 0
+        lt : dot r.normal (dir_of M.svertices r.target) ≡ pos 0
         lt = subst (λ (v : Vector). dot r.normal v ≡ pos 0) (sym t-is) between.level_target
 
         hy : IsDirection (rise up r.normal d)
         hy = some-rise k (arc_item r) a
 
-        off_s : dot (cross up (way_of M.svertices r.source)) d ≡ pos 0 → ⊥
+        off_s : dot (cross up (dir_of M.svertices r.source)) d ≡ pos 0 → ⊥
         off_s = subst (λ (v : Vector). dot (cross up v) d ≡ pos 0 → ⊥) (sym s-is) (end-off r.source between.source between.has_source)
 
-        off_t : dot (cross up (way_of M.svertices r.target)) d ≡ pos 0 → ⊥
+        off_t : dot (cross up (dir_of M.svertices r.target)) d ≡ pos 0 → ⊥
         off_t = subst (λ (v : Vector). dot (cross up v) d ≡ pos 0 → ⊥) (sym t-is) (end-off r.target between.target between.has_target)
 
         E : Type 0
@@ -200,20 +200,20 @@ module _ (m : SphereMap) (S : IsSphereMap m) where
         E? : Decided (r.source ≡ r.target)
         E? = ⊎_elim (λ h. inl h.1) (λ h. inr h.1) (eqb_tells r.source r.target)
 
-        one : r.source ≡ r.target → way_of M.svertices r.source ≡ way_of M.svertices r.target
-        one e = ap (way_of M.svertices) e
+        one : r.source ≡ r.target → dir_of M.svertices r.source ≡ dir_of M.svertices r.target
+        one e = ap (dir_of M.svertices) e
 
-        two : (r.source ≡ r.target → ⊥) → SameDirection (way_of M.svertices r.source) (way_of M.svertices r.target) → ⊥
+        two : (r.source ≡ r.target → ⊥) → SameDirection (dir_of M.svertices r.source) (dir_of M.svertices r.target) → ⊥
         two f w = f (V.svertices_apart r.source r.target between.source between.target between.has_source between.has_target
-            (subst (λ (v : Vector). SameDirection v between.target.way) s-is (subst (SameDirection (way_of M.svertices r.source)) t-is w)))
+            (subst (λ (v : Vector). SameDirection v between.target.dir) s-is (subst (SameDirection (dir_of M.svertices r.source)) t-is w)))
 
-        end-sign : (v : Svertex) (j : ℕ) → At M.svertices j v → sign (dot (cross up v.way) d) ≡ close_sign (cross up v.way) w
-        end-sign v j b = close (cross up v.way) (meridian-over M up (cross up v.way) (svertex-meridian M up j v b))
+        end-sign : (v : MapVertex) (j : ℕ) → At M.svertices j v → sign (dot (cross up v.dir) d) ≡ close_sign (cross up v.dir) w
+        end-sign v j b = close (cross up v.dir) (meridian-over M up (cross up v.dir) (svertex-meridian M up j v b))
 
-        s-sign : sign (dot (cross up (way_of M.svertices r.source)) d) ≡ close_sign (cross up (way_of M.svertices r.source)) w
+        s-sign : sign (dot (cross up (dir_of M.svertices r.source)) d) ≡ close_sign (cross up (dir_of M.svertices r.source)) w
         s-sign = subst (λ (v : Vector). sign (dot (cross up v) d) ≡ close_sign (cross up v) w) (sym s-is) (end-sign between.source r.source between.has_source)
 
-        t-sign : sign (dot (cross up (way_of M.svertices r.target)) d) ≡ close_sign (cross up (way_of M.svertices r.target)) w
+        t-sign : sign (dot (cross up (dir_of M.svertices r.target)) d) ≡ close_sign (cross up (dir_of M.svertices r.target)) w
         t-sign = subst (λ (v : Vector). sign (dot (cross up v) d) ≡ close_sign (cross up v) w) (sym t-is) (end-sign between.target r.target between.has_target)
 
         alike : ArcPasses (sign (triple n s t)) (close_sign (cross up s) w ≡ plus) (close_sign (cross up t) w ≡ minus) E ↔ ArcPasses (sign (triple n s t)) (sign (dot (cross up s) d) ≡ plus) (sign (dot (cross up t) d) ≡ minus) E
@@ -223,7 +223,7 @@ module _ (m : SphereMap) (S : IsSphereMap m) where
   -- ---- the ends of an arc
   pub ends-within : (k : ℕ) (r : SArc) → At (items M) k (arc_item (arc_of r)) → (r.source < length m.svertices) × (r.target < length m.svertices)
   ends-within k r a =
-      let b = V.arcs_between k (arc_of r) (arc-at M.arcs M.loop k (arc_of r) a) in
+      let b = V.arcs_between k (arc_of r) (arc-at M.arcs M.sloop k (arc_of r) a) in
       let l = length-map m.svertices svertex_of in
       let p = at-within M.svertices r.source b.source b.has_source in
       let q = at-within M.svertices r.target b.target b.has_target in

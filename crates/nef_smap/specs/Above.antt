@@ -43,7 +43,7 @@ rise_forms M u = gather (λ (x : Item). gather (λ (g : Vector). rise_form u (it
 
 -- and those that say on which side of each svertex's meridian it is
 abbrev pub meridians : Map → Vector → List Vector
-meridians M u = gather (λ v. cross u v.way ∷ []) M.svertices ++ rise_forms M u
+meridians M u = gather (λ v. cross u v.dir ∷ []) M.svertices ++ rise_forms M u
 
 -- all forms that matter for what lies over a direction
 abbrev pub over_forms : Map → Vector → List Vector

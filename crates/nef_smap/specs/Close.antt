@@ -8,7 +8,7 @@ use Rattle.nef_geo.specs.declared.sign.Sign.TheVariants.{Minus, Zero, Plus}
 use Rattle.nef_smap.specs.declared.above.Close.{Close}
 use Rattle.nef_smap.specs.declared.above.Lean.{Lean}
 use Rattle.nef_smap.specs.declared.above.Lean.TheVariants.{Down, Up, Along}
-use Rattle.law_sphere.specs.Maps.{way_of}
+use Rattle.law_sphere.specs.Maps.{dir_of}
 use Rattle.nef_smap.specs.declared.map.SArc.{SArc}
 use Rattle.nef_smap.specs.declared.map.SphereMap.{SphereMap}
 use Rattle.nef_smap.specs.Maps.{map_of}
@@ -51,6 +51,6 @@ ArcPasses nought S T E = E ⊎ S
 -- the way up from the directions passes the arc where it crosses the arc's circle
 abbrev pub PassesArc : SphereMap → SArc → Close → Type 0
 PassesArc m a w =
-    let s = way_of (map_of m).svertices a.source in
-    let t = way_of (map_of m).svertices a.target in
+    let s = dir_of (map_of m).svertices a.source in
+    let t = dir_of (map_of m).svertices a.target in
     ArcPasses (sign (triple (vector_of a.normal) s t)) (close_sign (cross up s) w ≡ plus) (close_sign (cross up t) w ≡ minus) (a.source ≡ a.target)

@@ -1,14 +1,14 @@
 -- An arc or the sloop of the program as an item of any size, and items by their normals.
 use Rattle.std.specs.Prelude.{ℕ}
 use Rattle.nef_space.specs.Vectors.{Vector, SameDirection}
-use Rattle.law_sphere.specs.Maps.{At, Item as PlainItem, arc_item, loop_item, Map, items, item_normal, OnItem}
+use Rattle.law_sphere.specs.Maps.{At, Item as PlainItem, arc_item, sloop_item, Map, items, item_normal, OnItem}
 use Rattle.nef_smap.specs.declared.item.Item.{Item}
 use Rattle.nef_smap.specs.declared.item.Item.TheVariants as item
-use Rattle.nef_smap.specs.Maps.{arc_of, loop_of}
+use Rattle.nef_smap.specs.Maps.{arc_of, sloop_of}
 
 abbrev pub item_of : Item → PlainItem
 item_of (item.Arc a) = arc_item (arc_of a)
-item_of (item.Loop l) = loop_item (loop_of l)
+item_of (item.Loop l) = sloop_item (sloop_of l)
 
 -- d lies on the item with this number, which has the normal n
 abbrev pub IsItemThrough : Map → Vector → Vector → ℕ → Type 0

@@ -3,29 +3,29 @@ use Rattle.std.specs.Prelude.{◌≡◌, ℕ, ◌<◌, List, length, Some}
 use Rattle.nef_space.specs.Lists.{IsAt}
 use Rattle.nef_space.specs.Vectors.{up}
 use Rattle.nef_space.specs.declared.label.Label.{Label}
-use Rattle.law_sphere.specs.Maps.{At, Svertex, Arc, Loop, Map, loop_item, items, around_svertex, above_item, whole}
+use Rattle.law_sphere.specs.Maps.{At, MapVertex, Arc, MapSloop, Map, sloop_item, items, around_svertex, pos_item, whole}
 use Rattle.nef_classes.specs.declared.link.Link.{Link}
 use Rattle.nef_smap.specs.Sides.{sides_of}
 use Rattle.nef_smap.specs.SideNumbers.{number_of}
-use Rattle.nef_smap.specs.Joined.{BelowFirsts, BelowFirst, ArcFirst, LoopFirst}
+use Rattle.nef_smap.specs.Joined.{BelowFirsts, BelowFirst, ArcFirst, SloopFirst}
 use Rattle.nef_smap.specs.Links.{met_number}
 
 -- what lies over the directions just below svertex k on both sides of its meridian
 abbrev pub JoinsBelow : Map → ℕ → Link → Type 0
-JoinsBelow M k l = (v : Svertex) × At M.svertices k v × ((j : BelowFirsts M up v.way) × (l.first ≡ met_number M j.left) × (l.second ≡ met_number M j.right))
+JoinsBelow M k l = (v : MapVertex) × At M.svertices k v × ((j : BelowFirsts M up v.dir) × (l.first ≡ met_number M j.left) × (l.second ≡ met_number M j.right))
 
 -- the side round svertex k with what lies over the directions just below it
 abbrev pub JoinsAround : Map → ℕ → Link → Type 0
-JoinsAround M k l = (v : Svertex) × (m : Label) × At M.svertices k v × (v.around ≡ Some m)
-    × ((j : BelowFirst M up v.way) × (l.first ≡ number_of M (around_svertex k)) × (l.second ≡ met_number M j.first))
+JoinsAround M k l = (v : MapVertex) × (m : Label) × At M.svertices k v × (v.around ≡ Some m)
+    × ((j : BelowFirst M up v.dir) × (l.first ≡ number_of M (around_svertex k)) × (l.second ≡ met_number M j.first))
 
 -- the upper side of arc k with what lies over it
 abbrev pub JoinsArc : Map → ℕ → Link → Type 0
-JoinsArc M k l = (a : Arc) × At M.arcs k a × ((j : ArcFirst M up a) × (l.first ≡ number_of M (above_item k)) × (l.second ≡ met_number M j.first))
+JoinsArc M k l = (a : Arc) × At M.arcs k a × ((j : ArcFirst M up a) × (l.first ≡ number_of M (pos_item k)) × (l.second ≡ met_number M j.first))
 
 -- and that of the sloop
-abbrev pub JoinsLoop : Map → ℕ → Link → Type 0
-JoinsLoop M k l = (c : Loop) × At (items M) k (loop_item c) × ((j : LoopFirst M up c) × (l.first ≡ number_of M (above_item k)) × (l.second ≡ met_number M j.first))
+abbrev pub JoinsSloop : Map → ℕ → Link → Type 0
+JoinsSloop M k l = (c : MapSloop) × At (items M) k (sloop_item c) × ((j : SloopFirst M up c) × (l.first ≡ number_of M (pos_item k)) × (l.second ≡ met_number M j.first))
 
 -- link k of the list does what P says, for each k below n
 pub record AreEach (P : ℕ → Link → Type 0) (n : ℕ) (ls : List Link) : Type 0 where
@@ -39,18 +39,18 @@ HasLink ls P = (i : ℕ) × (l : Link) × IsAt ls i l × P l
 -- a link for each of the first n svertices that have a label round them
 pub record AreArounds (M : Map) (n : ℕ) (ls : List Link) : Type 0 where
   pub only : (i : ℕ) (l : Link) → IsAt ls i l → (k : ℕ) × JoinsAround M k l
-  pub each : (k : ℕ) (v : Svertex) (m : Label) → k < n → At M.svertices k v → v.around ≡ Some m → HasLink ls (JoinsAround M k)
+  pub each : (k : ℕ) (v : MapVertex) (m : Label) → k < n → At M.svertices k v → v.around ≡ Some m → HasLink ls (JoinsAround M k)
 
 -- the side of a map without items with the upward direction
 abbrev pub JoinsGround : Map → Link → Type 0
-JoinsGround M l = (m : Label) × (M.face ≡ Some m) × (l.first ≡ number_of M whole) × (l.second ≡ length (sides_of M))
+JoinsGround M l = (m : Label) × (M.ground ≡ Some m) × (l.first ≡ number_of M whole) × (l.second ≡ length (sides_of M))
 
 -- a link for the sloop, if there is one
-pub record AreLoops (M : Map) (ls : List Link) : Type 0 where
-  pub only : (i : ℕ) (l : Link) → IsAt ls i l → (k : ℕ) × JoinsLoop M k l
-  pub each : (k : ℕ) (c : Loop) → At (items M) k (loop_item c) → HasLink ls (JoinsLoop M k)
+pub record AreSloops (M : Map) (ls : List Link) : Type 0 where
+  pub only : (i : ℕ) (l : Link) → IsAt ls i l → (k : ℕ) × JoinsSloop M k l
+  pub each : (k : ℕ) (c : MapSloop) → At (items M) k (sloop_item c) → HasLink ls (JoinsSloop M k)
 
 -- a link for the side of a map without items, if there is one
 pub record AreGrounds (M : Map) (ls : List Link) : Type 0 where
   pub only : (i : ℕ) (l : Link) → IsAt ls i l → JoinsGround M l
-  pub each : (m : Label) → M.face ≡ Some m → HasLink ls (JoinsGround M)
+  pub each : (m : Label) → M.ground ≡ Some m → HasLink ls (JoinsGround M)

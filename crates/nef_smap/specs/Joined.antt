@@ -4,13 +4,13 @@ use Rattle.nef_space.specs.Vectors.{Vector, dot, cross, triple, opposite}
 use Rattle.nef_space.specs.declared.label.Label.{Label}
 use Rattle.nef_space.specs.declared.label.Label.TheVariants.{Out}
 use Rattle.law_cyclic.specs.Arcs.{IsOnCircle}
-use Rattle.law_sphere.specs.Maps.{At, Svertex, Arc, Loop, Map, loop_item, items, way_of, Side, around_svertex, above_item, below_item, whole}
+use Rattle.law_sphere.specs.Maps.{At, MapVertex, Arc, MapSloop, Map, sloop_item, items, dir_of, Side, around_svertex, pos_item, neg_item, whole}
 use Rattle.nef_smap.specs.Above.{IsFirst, over_forms, Stands}
 
 -- the label of what is met first: of the lower side of an item, or of u
 abbrev pub met : (Side → Label) → Label → Option ℕ → Label
 met G top None = top
-met G top (Some k) = G (below_item k)
+met G top (Some k) = G (neg_item k)
 
 -- what lies over all directions that are close to a, toward b, and there toward c
 abbrev pub FirstNear : Map → Vector → Vector → Vector → Vector → Option ℕ → Type 0
@@ -36,12 +36,12 @@ pub record BelowFirst (M : Map) (u w : Vector) : Type 0 where
 pub record ArcFirst (M : Map) (u : Vector) (a : Arc) : Type 0 where
   pub along : Vector
   pub level : dot a.normal along ≡ pos 0
-  pub forward : pos 0 <ℤ triple a.normal (way_of M.svertices a.source) along
+  pub forward : pos 0 <ℤ triple a.normal (dir_of M.svertices a.source) along
   pub first : Option ℕ
-  pub is_first : FirstNear M u (way_of M.svertices a.source) along u first
+  pub is_first : FirstNear M u (dir_of M.svertices a.source) along u first
 
 -- what lies over one of the directions of a sloop
-pub record LoopFirst (M : Map) (u : Vector) (l : Loop) : Type 0 where
+pub record SloopFirst (M : Map) (u : Vector) (l : MapSloop) : Type 0 where
   pub point : Vector
   pub on : IsOnCircle l.normal point
   pub aside : Vector
@@ -51,16 +51,16 @@ pub record LoopFirst (M : Map) (u : Vector) (l : Loop) : Type 0 where
 
 -- what the sides of a map are joined with
 pub record Firsts (M : Map) (u : Vector) : Type 0 where
-  pub svertices : (k : ℕ) (v : Svertex) → At M.svertices k v → BelowFirsts M u v.way
-  pub arounds : (k : ℕ) (v : Svertex) (m : Label) → At M.svertices k v → v.around ≡ Some m → BelowFirst M u v.way
+  pub svertices : (k : ℕ) (v : MapVertex) → At M.svertices k v → BelowFirsts M u v.dir
+  pub arounds : (k : ℕ) (v : MapVertex) (m : Label) → At M.svertices k v → v.around ≡ Some m → BelowFirst M u v.dir
   pub arcs : (k : ℕ) (a : Arc) → At M.arcs k a → ArcFirst M u a
-  pub loops : (k : ℕ) (l : Loop) → At (items M) k (loop_item l) → LoopFirst M u l
+  pub sloops : (k : ℕ) (l : MapSloop) → At (items M) k (sloop_item l) → SloopFirst M u l
 
 -- the labels agree at the joins: on both sides just below each svertex, and round it where it has no arc; above each item, and over it; and no label is Out
 pub record Joins (M : Map) (u : Vector) (G : Side → Label) (top : Label) (F : Firsts M u) : Type 0 where
-  pub below : (k : ℕ) (v : Svertex) (a : At M.svertices k v) → (let j = F.svertices k v a in met G top j.left ≡ met G top j.right)
-  pub around : (k : ℕ) (v : Svertex) (m : Label) (a : At M.svertices k v) (q : v.around ≡ Some m) → (let j = F.arounds k v m a q in met G top j.first ≡ G (around_svertex k))
-  pub arcs : (k : ℕ) (a : Arc) (h : At M.arcs k a) → (let j = F.arcs k a h in met G top j.first ≡ G (above_item k))
-  pub loops : (k : ℕ) (l : Loop) (h : At (items M) k (loop_item l)) → (let j = F.loops k l h in met G top j.first ≡ G (above_item k))
-  pub ground : (m : Label) → M.face ≡ Some m → G whole ≡ top
+  pub below : (k : ℕ) (v : MapVertex) (a : At M.svertices k v) → (let j = F.svertices k v a in met G top j.left ≡ met G top j.right)
+  pub around : (k : ℕ) (v : MapVertex) (m : Label) (a : At M.svertices k v) (q : v.around ≡ Some m) → (let j = F.arounds k v m a q in met G top j.first ≡ G (around_svertex k))
+  pub arcs : (k : ℕ) (a : Arc) (h : At M.arcs k a) → (let j = F.arcs k a h in met G top j.first ≡ G (pos_item k))
+  pub sloops : (k : ℕ) (l : MapSloop) (h : At (items M) k (sloop_item l)) → (let j = F.sloops k l h in met G top j.first ≡ G (pos_item k))
+  pub ground : (m : Label) → M.ground ≡ Some m → G whole ≡ top
   pub never_out : (o : Side) → G o ≡ Out → ⊥

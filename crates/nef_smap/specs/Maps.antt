@@ -1,10 +1,11 @@
 -- The program's sphere maps as maps of any size, and what holds of each.
-use Rattle.std.specs.Prelude.{◌≡◌, ℕ, map, Some, option_map}
+use Rattle.nef_space.specs.declared.label.Label.{Label}
+use Rattle.std.specs.Prelude.{◌≡◌, ℕ, map, Some, option_map, Option}
 use Rattle.std.specs.List.{All}
 use Rattle.nef_space.specs.Limits.{normal_limit, svertex_limit}
 use Rattle.nef_space.specs.Vectors.{IsAtMost}
 use Rattle.nef_geo.specs.Shapes.{vector_of}
-use Rattle.law_sphere.specs.Maps.{At, Svertex, Arc, Loop, Item, Map, items, item_normal, Valid}
+use Rattle.law_sphere.specs.Maps.{At, MapVertex, Arc, MapSloop, Item, Map, items, item_normal, Valid}
 use Rattle.law_sphere.specs.Least.{Least, Ordered}
 use Rattle.law_build.specs.Raw.{RawMap}
 use Rattle.nef_star.specs.Stars.{star_of, IsStar}
@@ -14,24 +15,24 @@ use Rattle.nef_smap.specs.declared.map.SLoop.{SLoop}
 use Rattle.nef_smap.specs.declared.map.SphereMap.{SphereMap}
 use Rattle.nef_smap.specs.declared.map.RawStars.{RawStars}
 
-abbrev pub svertex_of : SVertex → Svertex
-svertex_of v = record { way = vector_of v.dir; mark = v.mark; around = v.around }
+abbrev pub svertex_of : SVertex → MapVertex
+svertex_of v = record { dir = vector_of v.dir; mark = v.mark; around = v.around }
 
 abbrev pub arc_of : SArc → Arc
-arc_of a = record { normal = vector_of a.normal; source = a.source; target = a.target; above = a.pos; mark = a.mark; below = a.neg }
+arc_of a = record { normal = vector_of a.normal; source = a.source; target = a.target; pos = a.pos; mark = a.mark; neg = a.neg }
 
-abbrev pub loop_of : SLoop → Loop
-loop_of l = record { normal = vector_of l.normal; above = l.pos; mark = l.mark; below = l.neg }
+abbrev pub sloop_of : SLoop → MapSloop
+sloop_of l = record { normal = vector_of l.normal; pos = l.pos; mark = l.mark; neg = l.neg }
 
 abbrev pub map_of : SphereMap → Map
-map_of m = record { mark = m.mark; svertices = map svertex_of m.svertices; arcs = map arc_of m.arcs; loop = option_map loop_of m.sloop; face = m.ground }
+map_of m = let ground : Option Label = m.ground in record { mark = m.mark; svertices = map svertex_of m.svertices; arcs = map arc_of m.arcs; sloop = option_map sloop_of m.sloop; ground = ground }
 
 abbrev pub raw_of : RawStars → RawMap
-raw_of r = record { mark = r.mark; stars = map star_of r.stars; loop = option_map loop_of r.sloop; face = r.ground }
+raw_of r = let ground : Option Label = r.ground in record { mark = r.mark; stars = map star_of r.stars; sloop = option_map sloop_of r.sloop; ground = ground }
 
 -- the numbers of svertices and of normals are within their limits
 pub record IsSmall (M : Map) : Type 0 where
-  pub svertices : (k : ℕ) (v : Svertex) → At M.svertices k v → IsAtMost svertex_limit v.way
+  pub svertices : (k : ℕ) (v : MapVertex) → At M.svertices k v → IsAtMost svertex_limit v.dir
   pub normals : (k : ℕ) (x : Item) → At (items M) k x → IsAtMost normal_limit (item_normal x)
 
 -- what holds of every sphere map

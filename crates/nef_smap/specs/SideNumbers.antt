@@ -1,7 +1,7 @@
 -- The numbers of a map's sides.
 use Rattle.std.specs.Prelude.{ℕ, zero, suc, ◌+◌, ◌*◌, List, [], ◌∷◌, length, Option, Some, None}
 use Rattle.nef_space.specs.declared.label.Label.{Label}
-use Rattle.law_sphere.specs.Maps.{Svertex, Map, items, Side, around_svertex, above_item, below_item, whole}
+use Rattle.law_sphere.specs.Maps.{MapVertex, Map, items, Side, around_svertex, pos_item, neg_item, whole}
 use Rattle.nef_smap.specs.Sides.{svertex_sides}
 
 -- one if there is a label
@@ -10,7 +10,7 @@ one_if None = 0
 one_if (Some l) = 1
 
 -- how many of the first k svertices have a label round them
-abbrev pub arounds_before : List Svertex → ℕ → ℕ
+abbrev pub arounds_before : List MapVertex → ℕ → ℕ
 arounds_before [] k = 0
 arounds_before (v ∷ vs) zero = 0
 arounds_before (v ∷ vs) (suc k) = one_if v.around + arounds_before vs k
@@ -18,6 +18,6 @@ arounds_before (v ∷ vs) (suc k) = one_if v.around + arounds_before vs k
 -- the number of a side, by the order in which a map's sides are listed
 abbrev pub number_of : Map → Side → ℕ
 number_of M (around_svertex k) = arounds_before M.svertices k
-number_of M (above_item k) = length (svertex_sides 0 M.svertices) + 2 * k
-number_of M (below_item k) = length (svertex_sides 0 M.svertices) + (2 * k + 1)
+number_of M (pos_item k) = length (svertex_sides 0 M.svertices) + 2 * k
+number_of M (neg_item k) = length (svertex_sides 0 M.svertices) + (2 * k + 1)
 number_of M whole = length (svertex_sides 0 M.svertices) + 2 * length (items M)

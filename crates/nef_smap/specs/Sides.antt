@@ -3,7 +3,7 @@ use Rattle.std.specs.Prelude.{◌≡◌, ℕ, suc, ◌<◌, List, [], ◌∷◌,
 use Rattle.nef_space.specs.Lists.{IsAt, NumbersClasses}
 use Rattle.nef_space.specs.Vectors.{Vector, SameDirection}
 use Rattle.nef_space.specs.declared.label.Label.{Label}
-use Rattle.law_sphere.specs.Maps.{At, Svertex, Arc, Loop, Item, arc_item, loop_item, Map, items, item_above, item_below, OnItem, Side, around_svertex, above_item, below_item, whole, Sees}
+use Rattle.law_sphere.specs.Maps.{At, MapVertex, Arc, MapSloop, Item, arc_item, sloop_item, Map, items, item_pos, item_neg, OnItem, Side, around_svertex, pos_item, neg_item, whole, Sees}
 use Rattle.nef_smap.specs.declared.map.SPlace.{SPlace}
 use Rattle.nef_smap.specs.declared.map.SPlace.TheVariants as place
 
@@ -16,18 +16,18 @@ labelled o None = []
 labelled o (Some l) = (o, l) ∷ []
 
 -- the sides of svertices, from number k on
-abbrev pub svertex_sides : ℕ → List Svertex → List LabelledSide
+abbrev pub svertex_sides : ℕ → List MapVertex → List LabelledSide
 svertex_sides k [] = []
 svertex_sides k (v ∷ vs) = labelled (around_svertex k) v.around ++ svertex_sides (suc k) vs
 
 -- the sides of items, from number k on
 abbrev pub item_sides : ℕ → List Item → List LabelledSide
 item_sides k [] = []
-item_sides k (x ∷ xs) = (above_item k, item_above x) ∷ (below_item k, item_below x) ∷ item_sides (suc k) xs
+item_sides k (x ∷ xs) = (pos_item k, item_pos x) ∷ (neg_item k, item_neg x) ∷ item_sides (suc k) xs
 
 -- the sides by their numbers: those of svertices without arcs, then both of each item, then the whole
 abbrev pub sides_of : Map → List LabelledSide
-sides_of M = svertex_sides 0 M.svertices ++ item_sides 0 (items M) ++ labelled whole M.face
+sides_of M = svertex_sides 0 M.svertices ++ item_sides 0 (items M) ++ labelled whole M.ground
 
 -- side s is this side, with this label
 abbrev pub IsSide : Map → ℕ → Side → Label → Type 0
@@ -39,9 +39,9 @@ SideSees M s d = (o : Side) × (l : Label) × IsSide M s o l × Sees M o d
 
 -- the direction d lies at this place of the map
 abbrev pub IsPlaceOf : Map → Vector → SPlace → Type 0
-IsPlaceOf M d (place.SVertex k) = (v : Svertex) × At M.svertices k v × SameDirection v.way d
+IsPlaceOf M d (place.SVertex k) = (v : MapVertex) × At M.svertices k v × SameDirection v.dir d
 IsPlaceOf M d (place.Arc k) = (a : Arc) × At M.arcs k a × OnItem M (arc_item a) d
-IsPlaceOf M d place.Loop = (l : Loop) × (M.loop ≡ Some l) × OnItem M (loop_item l) d
+IsPlaceOf M d place.Loop = (l : MapSloop) × (M.sloop ≡ Some l) × OnItem M (sloop_item l) d
 IsPlaceOf M d (place.Face s) = SideSees M s d
 
 -- sides s and t see one direction

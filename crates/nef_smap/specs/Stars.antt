@@ -2,7 +2,7 @@
 use Rattle.std.specs.Prelude.{◌≡◌, ℕ, List, [], ◌∷◌, ◌⊎◌, true, false}
 use Rattle.nef_space.specs.Lists.{IsAt}
 use Rattle.nef_space.specs.Vectors.{Vector}
-use Rattle.law_sphere.specs.Maps.{Map, Item, item_normal, item_above, item_mark, item_below}
+use Rattle.law_sphere.specs.Maps.{Map, Item, item_normal, item_pos, item_mark, item_neg}
 use Rattle.law_sphere.specs.Stars.{Star, StarOf, StarShows}
 use Rattle.nef_star.specs.Rounds.{End}
 use Rattle.nef_smap.specs.declared.map.SArc.{SArc}
@@ -26,5 +26,5 @@ pub record AreArcEnds (as' : List SArc) (k : ℕ) (ends : List End) : Type 0 whe
 -- the two rays along an item that the axis lies on, with the labels beside it
 pub record IsStarAlong (x : Item) (t : Star) : Type 0 where
   pub rays : t.rays ≡ record { normal = item_normal x; ahead = true; mark = item_mark x } ∷ record { normal = item_normal x; ahead = false; mark = item_mark x } ∷ []
-  pub sectors : t.sectors ≡ item_above x ∷ item_below x ∷ []
+  pub sectors : t.sectors ≡ item_pos x ∷ item_neg x ∷ []
   pub mark : t.mark ≡ item_mark x

@@ -4,7 +4,7 @@ ghost use Rattle.std.specs.Prelude.{◌≡◌, ◌<◌, ◌^◌, ◌↔◌, ℕ,
 ghost use Rattle.nef_space.specs.Vectors.{Vector, dot, SameDirection};
 ghost use Rattle.law_cyclic.specs.Arcs.{IsOnCircle};
 ghost use Rattle.nef_arc.specs.Arcs.{normal_vector, IsOn};
-ghost use Rattle.law_sphere.specs.Maps.{At, Item as PlainItem, items, item_normal, item_above, item_mark, item_below, arc_item, OnItem};
+ghost use Rattle.law_sphere.specs.Maps.{At, Item as PlainItem, items, item_normal, item_pos, item_mark, item_neg, arc_item, OnItem};
 ghost use Rattle.nef_geo.specs.Shapes.{vector_of};
 ghost use Rattle.nef_geo.specs.Signs.{sign_of};
 ghost use Rattle.nef_smap.specs.Maps.{arc_of, map_of, IsSphereMap};
@@ -44,7 +44,7 @@ impl Item {
 
     /// The label on the side to which the normal points if `above`, and on the other if not.
     pub fn label(&self, above: bool) -> Label
-        ensures label { result ≡ cond above (item_above (item_of self.now)) (item_below (item_of self.now)) }
+        ensures label { result ≡ cond above (item_pos (item_of self.now)) (item_neg (item_of self.now)) }
     {
         match (self, above) {
             (Item::Arc(arc), true) => arc.pos,

@@ -5,12 +5,12 @@ ghost use Rattle.nef_space.specs.Limits.{normal_limit, svertex_limit};
 ghost use Rattle.nef_space.specs.Vectors.{vector, dot, cross, up, opposite, IsAtMost, IsDirection, SameDirection};
 ghost use Rattle.nef_geo.specs.Shapes.{vector_of};
 ghost use Rattle.nef_space.specs.declared.label.Label.{Label};
-ghost use Rattle.law_sphere.specs.Maps.{At, Svertex as PlainSvertex, items, around_svertex, above_item, below_item};
+ghost use Rattle.law_sphere.specs.Maps.{At, MapVertex as PlainSvertex, items, around_svertex, pos_item, neg_item};
 ghost use Rattle.nef_smap.specs.SideNumbers.{number_of};
 ghost use Rattle.nef_smap.specs.Maps.{map_of, IsSphereMap};
 ghost use Rattle.nef_smap.specs.Joined.{FirstNear};
 ghost use Rattle.nef_smap.specs.Links.{met_number};
-ghost use Rattle.nef_smap.specs.JoinLinks.{JoinsBelow, JoinsAround, JoinsArc, JoinsLoop};
+ghost use Rattle.nef_smap.specs.JoinLinks.{JoinsBelow, JoinsAround, JoinsArc, JoinsSloop};
 
 use crate::above::{Close, Lean, above};
 use crate::map::{SLoop, SphereMap};
@@ -191,10 +191,10 @@ fn in_plane(normal: &Dir) -> Dir
 }
 
 // Joins the side above the sloop, the last of the items, with what lies over one of its directions.
-pub(crate) fn join_loop(map: &SphereMap, circle: &SLoop) -> Link
+pub(crate) fn join_sloop(map: &SphereMap, circle: &SLoop) -> Link
     requires map { IsSphereMap map.now }
     requires circle { map.now.sloop ≡ Some circle.now }
-    ensures joins { JoinsLoop (map_of map.now) (length map.now.arcs) result }
+    ensures joins { JoinsSloop (map_of map.now) (length map.now.arcs) result }
 {
     let at = in_plane(&circle.normal);
     let way = Close {

@@ -35,7 +35,7 @@ fn arc_at(map: &SphereMap, d: &Dir) -> Option<usize>
     None
 }
 
-fn is_on_loop(map: &SphereMap, d: &Dir) -> bool
+fn is_on_sloop(map: &SphereMap, d: &Dir) -> bool
     ensures on { IsTrue result ↔ IsPlaceOf (map_of map.now) (vector_of d.now) SPlace.Loop }
 {
     match &map.sloop {
@@ -55,7 +55,7 @@ pub fn at(map: &SphereMap, d: &Dir) -> SPlace
     if let Some(number) = arc_at(map, d) {
         return SPlace::Arc(number);
     }
-    if is_on_loop(map, d) {
+    if is_on_sloop(map, d) {
         return SPlace::Loop;
     }
     SPlace::Face(map.face_toward(d))

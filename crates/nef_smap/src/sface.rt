@@ -5,11 +5,11 @@ ghost use Rattle.nef_space.specs.Vectors.{up};
 ghost use Rattle.nef_smap.specs.Maps.{map_of, IsSphereMap};
 ghost use Rattle.nef_smap.specs.Sides.{AreSfaces};
 ghost use Rattle.nef_classes.specs.Classes.{AreLinked};
-ghost use Rattle.nef_smap.specs.JoinLinks.{JoinsBelow, JoinsArc, AreEach, AreArounds, AreLoops, AreGrounds};
+ghost use Rattle.nef_smap.specs.JoinLinks.{JoinsBelow, JoinsArc, AreEach, AreArounds, AreSloops, AreGrounds};
 ghost use Rattle.nef_smap.specs.Links.{AreJoins};
 
 use crate::OutOfMemory;
-use crate::join::{join_arc, join_around, join_below, join_loop};
+use crate::join::{join_arc, join_around, join_below, join_sloop};
 use crate::map::SphereMap;
 use crate::side::sides;
 use nef_classes::{Link, class_numbers, class_of_each};
@@ -56,15 +56,15 @@ fn around_links(alloc: Global, map: &SphereMap) -> Result<Vec<Link>, OutOfMemory
 }
 
 // A link for the sloop.
-fn loop_links(alloc: Global, map: &SphereMap) -> Result<Vec<Link>, OutOfMemory>
+fn sloop_links(alloc: Global, map: &SphereMap) -> Result<Vec<Link>, OutOfMemory>
     requires map { IsSphereMap map.now }
-    ensures links { IfOk result (λ v. AreLoops (map_of map.now) v.items) }
+    ensures links { IfOk result (λ v. AreSloops (map_of map.now) v.items) }
 {
     let mut links = Vec::new(alloc);
     let Some(circle) = &map.sloop else {
         return Ok(links);
     };
-    links.push(join_loop(map, circle))?;
+    links.push(join_sloop(map, circle))?;
     Ok(links)
 }
 
@@ -95,8 +95,8 @@ fn links(alloc: Global, map: &SphereMap) -> Result<Vec<Link>, OutOfMemory>
     links.extend_from_slice(around.as_slice())?;
     let arcs = arc_links(alloc, map)?;
     links.extend_from_slice(arcs.as_slice())?;
-    let loops = loop_links(alloc, map)?;
-    links.extend_from_slice(loops.as_slice())?;
+    let sloops = sloop_links(alloc, map)?;
+    links.extend_from_slice(sloops.as_slice())?;
     let grounds = ground_links(alloc, map)?;
     links.extend_from_slice(grounds.as_slice())?;
     Ok(links)

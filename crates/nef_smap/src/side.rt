@@ -2,7 +2,7 @@
 
 ghost use Rattle.std.specs.Prelude.{◌≡◌, ◌<◌, ◌≤◌, ◌^◌, length, slice_get, cond};
 ghost use Rattle.std.specs.List.{filter_map};
-ghost use Rattle.law_sphere.specs.Maps.{At, Item, Side, above_item, below_item, items, item_above, item_below};
+ghost use Rattle.law_sphere.specs.Maps.{At, Item, Side, pos_item, neg_item, items, item_pos, item_neg};
 ghost use Rattle.nef_smap.specs.Maps.{map_of};
 ghost use Rattle.nef_smap.specs.Sides.{IsSide, sides_of};
 ghost use Rattle.nef_smap.specs.SideNumbers.{number_of, arounds_before};
@@ -81,8 +81,8 @@ impl SphereMap {
     /// other if not.
     pub fn item_side(&self, number: usize, above: bool) -> usize
         requires within { number < length (items (map_of self.now)) }
-        ensures number { result ≡ number_of (map_of self.now) (cond above (above_item number) (below_item number)) }
-        ensures side { (x : Item) × At (items (map_of self.now)) number x × IsSide (map_of self.now) result (cond above (above_item number) (below_item number)) (cond above (item_above x) (item_below x)) }
+        ensures number { result ≡ number_of (map_of self.now) (cond above (pos_item number) (neg_item number)) }
+        ensures side { (x : Item) × At (items (map_of self.now)) number x × IsSide (map_of self.now) result (cond above (pos_item number) (neg_item number)) (cond above (item_pos x) (item_neg x)) }
     {
         let within = number < self.item_count();
         prove!(within);

@@ -1,7 +1,7 @@
 //! The side that sees a free direction.
 
 ghost use Rattle.std.specs.Prelude.{◌≡◌, ◌<◌, length, [], cond};
-ghost use Rattle.law_sphere.specs.Maps.{At, Item as PlainItem, above_item, below_item, items, item_above, item_below, IsFree};
+ghost use Rattle.law_sphere.specs.Maps.{At, Item as PlainItem, pos_item, neg_item, items, item_pos, item_neg, IsFree};
 ghost use Rattle.nef_geo.specs.Shapes.{vector_of};
 ghost use Rattle.nef_smap.specs.Maps.{map_of, IsSphereMap};
 ghost use Rattle.nef_smap.specs.Sides.{SideSees};

@@ -14,17 +14,17 @@ use nef_geo::{Dir, Label, List};
 use std::alloc::Global;
 
 /// The map without items: the point has the label `mark`, and each direction the label `face`. It takes no memory.
-pub fn face_map(alloc: Global, mark: Label, face: Label) -> SphereMap
+pub fn face_map(alloc: Global, mark: Label, ground: Label) -> SphereMap
     ensures map { IsLeastMap result }
     ensures mark { result.mark ≡ mark }
-    ensures labels { (d : Vector) → IsDirection d → MapLabel (map_of result) d face }
+    ensures labels { (d : Vector) → IsDirection d → MapLabel (map_of result) d ground }
 {
     SphereMap {
         mark,
         svertices: List::new(alloc),
         arcs: List::new(alloc),
         sloop: None,
-        ground: Some(face),
+        ground: Some(ground),
     }
 }
 

@@ -4,7 +4,7 @@ ghost use Rattle.std.specs.Prelude.{◌≡◌, ◌++◌, ℕ, pos, [], ◌∷◌
 ghost use Rattle.nef_space.specs.Limits.{normal_limit, svertex_limit};
 ghost use Rattle.nef_space.specs.Vectors.{SameDirection, IsAtMost, IsNormal, dot};
 ghost use Rattle.nef_geo.specs.Shapes.{vector_of};
-ghost use Rattle.law_sphere.specs.Maps.{At, Item as PlainItem, Svertex, items, item_normal, OnItem};
+ghost use Rattle.law_sphere.specs.Maps.{At, Item as PlainItem, MapVertex, items, item_normal, OnItem};
 ghost use Rattle.nef_star.specs.Stars.{star_of, IsStar};
 ghost use Rattle.nef_smap.specs.Maps.{map_of, IsSphereMap};
 ghost use Rattle.nef_smap.specs.Items.{item_of};
@@ -129,7 +129,7 @@ fn star_at_svertex(
 ) -> Result<Star, OutOfMemory>
     requires map { IsSphereMap map.now }
     requires small { IsAtMost svertex_limit (vector_of d.now) }
-    requires at { (v : Svertex) × At (map_of map.now).svertices number v × SameDirection v.way (vector_of d.now) }
+    requires at { (v : MapVertex) × At (map_of map.now).svertices number v × SameDirection v.dir (vector_of d.now) }
     ensures star { IfOk result (λ t. IsStar t) }
     ensures axis { IfOk result (λ t. t.axis ≡ d.now) }
     ensures shows { IfOk result (λ t. IsNeighbourhood (star_of t) (map_of map.now) (vector_of d.now)) }

@@ -12,13 +12,13 @@ use Rattle.law_cyclic.specs.Arcs.{IsOnCircle}
 use Rattle.law_cyclic.proofs.StrictlyOn.{same-sym}
 use Rattle.law_cyclic.proofs.Directions.{level-same, level_cross_first, level_cross_second}
 use Rattle.law_sphere.specs.Vectors.{IsPrimitive}
-use Rattle.law_sphere.specs.Maps.{At, Loop, Item, arc_item, loop_item, Map, items, item_normal, OnItem, IsFree, IsClear, MapLabel, NearLabel, on_item, Valid}
+use Rattle.law_sphere.specs.Maps.{At, MapSloop, Item, arc_item, sloop_item, Map, items, item_normal, OnItem, IsFree, IsClear, MapLabel, NearLabel, on_item, Valid}
 use Rattle.law_sphere.specs.Least.{by_side, Ordered}
 use Rattle.law_sphere.proofs.Vectors.{dot-comb, nought-if, normal-direction}
 use Rattle.law_sphere.proofs.Parallel.{parallel-trans}
 use Rattle.law_sphere.proofs.Around.{Beside, same_way, other_way, beside}
 use Rattle.law_sphere.proofs.Shot.{arc-at}
-use Rattle.law_sphere.proofs.Arcs.{loop-at, at-loop}
+use Rattle.law_sphere.proofs.Arcs.{sloop-at, at-sloop}
 use Rattle.law_sphere.proofs.Equal.{lowest-same}
 use Rattle.law_sphere.proofs.Compare.{normals-not_opposite}
 use Rattle.law_sphere.proofs.Walk.{between-direction}
@@ -87,17 +87,17 @@ module _ (M : Map) (V : Valid M) (O : Ordered M) (n : Vector) (N : IsNormal n) (
       by (other_way w) = absurd (normals-not_opposite n (item_normal x) N (V.shaped.normals k x a) w)
 
   -- it is no arc, whose source would lie on the circle
-  off-item : ((l : Loop) → M.loop ≡ Some l → l.normal ≡ n → ⊥) → (k : ℕ) (x : Item) (d : Vector) → At (items M) k x → OnItem M x d → dot n d ≡ pos 0 → ⊥
-  off-item absent k (loop_item l) d a o z = absent l (loop-at M.arcs M.loop k l a) (sym (item-normal k (loop_item l) d a o z))
+  off-item : ((l : MapSloop) → M.sloop ≡ Some l → l.normal ≡ n → ⊥) → (k : ℕ) (x : Item) (d : Vector) → At (items M) k x → OnItem M x d → dot n d ≡ pos 0 → ⊥
+  off-item absent k (sloop_item l) d a o z = absent l (sloop-at M.arcs M.sloop k l a) (sym (item-normal k (sloop_item l) d a o z))
   off-item absent k (arc_item r) d a o z =
-      let b = V.shaped.arcs_between k r (arc-at M.arcs M.loop k r a) in
-      U.svertices r.source b.source b.has_source (subst (λ (m : Vector). dot m b.source.way ≡ pos 0) (sym (item-normal k (arc_item r) d a o z)) b.level_source)
+      let b = V.shaped.arcs_between k r (arc-at M.arcs M.sloop k r a) in
+      U.svertices r.source b.source b.has_source (subst (λ (m : Vector). dot m b.source.dir ≡ pos 0) (sym (item-normal k (arc_item r) d a o z)) b.level_source)
 
   -- where the map has no sloop on it, its directions are free
-  pub free-circle : ((l : Loop) → M.loop ≡ Some l → l.normal ≡ n → ⊥) → (d : Vector) → IsOnCircle n d → IsFree M d
+  pub free-circle : ((l : MapSloop) → M.sloop ≡ Some l → l.normal ≡ n → ⊥) → (d : Vector) → IsOnCircle n d → IsFree M d
   free-circle absent d o = record {
     direction = o.direction;
-    off_svertices = λ k v a w. U.svertices k v a (level-same n d v.way (same-sym v.way d w) o.level);
+    off_svertices = λ k v a w. U.svertices k v a (level-same n d v.dir (same-sym v.dir d w) o.level);
     off_items = λ k x a p. off-item absent k x d a p o.level;
   }
 
@@ -105,20 +105,20 @@ module _ (M : Map) (V : Valid M) (O : Ordered M) (n : Vector) (N : IsNormal n) (
 dot-opposite : (n : Vector) → dot n (opposite n) ≡ pos 0 -ℤ dot n n
 dot-opposite n = ring (n.x ∷ n.y ∷ n.z ∷ []) (at 0 ⊗ neg (at 0) ⊕ at 1 ⊗ neg (at 1) ⊕ at 2 ⊗ neg (at 2)) (num (pos 0) ⊖ (at 0 ⊗ at 0 ⊕ at 1 ⊗ at 1 ⊕ at 2 ⊗ at 2)) tt
 
-module _ (M : Map) (V : Valid M) (l : Loop) (e : M.loop ≡ Some l) where
-  number : (k : ℕ) × At (items M) k (loop_item l)
-  number = at-loop M.arcs M.loop l e
+module _ (M : Map) (V : Valid M) (l : MapSloop) (e : M.sloop ≡ Some l) where
+  number : (k : ℕ) × At (items M) k (sloop_item l)
+  number = at-sloop M.arcs M.sloop l e
 
   normal-way : IsDirection l.normal
-  normal-way = normal-direction l.normal (V.shaped.normals number.0 (loop_item l) number.1)
+  normal-way = normal-direction l.normal (V.shaped.normals number.0 (sloop_item l) number.1)
 
-  pub loop-mark : (d : Vector) → IsOnCircle l.normal d → MapLabel M d l.mark
-  loop-mark d o = on_item number.0 (loop_item l) number.1 o refl
+  pub sloop-mark : (d : Vector) → IsOnCircle l.normal d → MapLabel M d l.mark
+  sloop-mark d o = on_item number.0 (sloop_item l) number.1 o refl
 
-  pub loop-above : (d : Vector) → IsOnCircle l.normal d → NearLabel M d l.normal l.above
-  loop-above d o = subst (NearLabel M d l.normal) (ap (by_side l.above l.mark l.below) (sign-plus (dot l.normal l.normal) (self-pos l.normal normal-way))) (near-item M V d number.0 (loop_item l) number.1 o l.normal)
+  pub sloop-pos : (d : Vector) → IsOnCircle l.normal d → NearLabel M d l.normal l.pos
+  sloop-pos d o = subst (NearLabel M d l.normal) (ap (by_side l.pos l.mark l.neg) (sign-plus (dot l.normal l.normal) (self-pos l.normal normal-way))) (near-item M V d number.0 (sloop_item l) number.1 o l.normal)
 
-  pub loop-below : (d : Vector) → IsOnCircle l.normal d → NearLabel M d (opposite l.normal) l.below
-  loop-below d o =
+  pub sloop-neg : (d : Vector) → IsOnCircle l.normal d → NearLabel M d (opposite l.normal) l.neg
+  sloop-neg d o =
       let p = self-pos l.normal normal-way in let q = dot-opposite l.normal in
-      subst (NearLabel M d (opposite l.normal)) (ap (by_side l.above l.mark l.below) (sign-minus (dot l.normal (opposite l.normal)) (omega (arith, ints)))) (near-item M V d number.0 (loop_item l) number.1 o (opposite l.normal))
+      subst (NearLabel M d (opposite l.normal)) (ap (by_side l.pos l.mark l.neg) (sign-minus (dot l.normal (opposite l.normal)) (omega (arith, ints)))) (near-item M V d number.0 (sloop_item l) number.1 o (opposite l.normal))

@@ -78,5 +78,5 @@ module _ (m : SphereMap) (S : IsSphereMap m) where
   pub svertices-all : (i : ℕ) (ds es : List Axis) → length m.svertices ≤ i → Adds (AnyFirst IsAlong m.svertices i) ds es → Adds (IsOnSvertex (map_of m)) ds es
   svertices-all i ds es l p = adds-as (AnyAt IsAlong m.svertices) (IsOnSvertex (map_of m)) ds es
       (λ c d a. let r = a.3 in ((a.0, svertex_of a.1, map-at svertex_of m.svertices a.0 a.1 a.2, r.0), r.1))
-      (λ c d o. let a = o.0 in let v = at-map svertex_of m.svertices a.0 a.1 a.2 in (a.0, v.0, v.1, (subst (λ w. SameDirection w d) (ap (λ u. u.way) (sym v.2)) a.3, o.1)))
+      (λ c d o. let a = o.0 in let v = at-map svertex_of m.svertices a.0 a.1 a.2 in (a.0, v.0, v.1, (subst (λ w. SameDirection w d) (ap (λ u. u.dir) (sym v.2)) a.3, o.1)))
       (any-all IsAlong m.svertices i ds es l p)

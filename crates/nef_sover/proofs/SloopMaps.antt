@@ -9,31 +9,31 @@ use Rattle.nef_geo.specs.Shapes.{vector_of}
 use Rattle.law_sphere.specs.Vectors.{IsPrimitive}
 use Rattle.law_sphere.specs.Maps.{At, Item, items, item_normal}
 use Rattle.law_sphere.specs.Least.{Ordered}
-use Rattle.law_sphere.proofs.Simple.{loop_map, loop-valid}
+use Rattle.law_sphere.proofs.Simple.{sloop_map, sloop-valid}
 use Rattle.nef_smap.specs.declared.map.SVertex.{SVertex}
 use Rattle.nef_smap.specs.declared.map.SArc.{SArc}
 use Rattle.nef_smap.specs.declared.map.SLoop.{SLoop}
-use Rattle.nef_smap.specs.Maps.{loop_of, IsSphereMap}
+use Rattle.nef_smap.specs.Maps.{sloop_of, IsSphereMap}
 use Rattle.nef_smap.proofs.Primitive.{dir-primitive}
 
 pub normal-by : (n : Vector) → IsDirection n → pos 0 ≤ℤ n.x → pos 0 ≤ℤ n.y → pos 0 ≤ℤ n.z → IsNormal n
 normal-by n h x y z = record { first = x; second = λ e. y; third = λ e f. by_order n.z (pos 0) (λ l. absurd (omega (arith, ints))) (λ g. absurd (h (e, f, g))) (λ l. l) }
 
 module _ (k : Label) (s : SLoop) (N : IsNormal (vector_of s.normal)) (small : IsAtMost normal_limit (vector_of s.normal)) where
-  only : (P : Vector → Type 0) → P (vector_of s.normal) → (i : ℕ) (x : Item) → At (items (loop_map k (loop_of s))) i x → P (item_normal x)
+  only : (P : Vector → Type 0) → P (vector_of s.normal) → (i : ℕ) (x : Item) → At (items (sloop_map k (sloop_of s))) i x → P (item_normal x)
   only P p zero x e = subst (λ (y : Item). P (item_normal y)) e p
   only P p (suc i) x e = absurd e
 
-  ordered : Ordered (loop_map k (loop_of s))
+  ordered : Ordered (sloop_map k (sloop_of s))
   ordered = record {
-    ways_lowest = λ i v a. absurd a;
+    dirs_lowest = λ i v a. absurd a;
     normals_lowest = only IsPrimitive (dir-primitive s.normal);
     svertices = λ i j u v l a b. absurd a;
     arcs = λ i j u v l a b. absurd a;
   }
 
   plain : IsSphereMap (record { mark = k; svertices = []; arcs = []; sloop = Some s; ground = None })
-  plain = record { valid = loop-valid k (loop_of s) N; ordered = ordered; small = record { svertices = λ i v a. absurd a; normals = only (IsAtMost normal_limit) small } }
+  plain = record { valid = sloop-valid k (sloop_of s) N; ordered = ordered; small = record { svertices = λ i v a. absurd a; normals = only (IsAtMost normal_limit) small } }
 
   pub sloop-map : (vs : List SVertex) (as' : List SArc) → vs ≡ [] → as' ≡ [] → IsSphereMap (record { mark = k; svertices = vs; arcs = as'; sloop = Some s; ground = None })
   sloop-map vs as' p q =

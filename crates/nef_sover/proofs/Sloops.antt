@@ -11,29 +11,29 @@ use Rattle.nef_geo.proofs.Products.{kept}
 use Rattle.law_cyclic.specs.Arcs.{IsOnCircle}
 use Rattle.law_cyclic.proofs.StrictlyOn.{same-sym}
 use Rattle.law_cyclic.proofs.Directions.{level-same}
-use Rattle.law_sphere.specs.Maps.{Loop, loop_item, Map, IsFree, MapLabel, NearLabel}
-use Rattle.law_sphere.proofs.Arcs.{at-loop}
-use Rattle.law_build.specs.Overlays.{IsAxis, IsLoneLoop, IsMergedLoop}
+use Rattle.law_sphere.specs.Maps.{MapSloop, sloop_item, Map, IsFree, MapLabel, NearLabel}
+use Rattle.law_sphere.proofs.Arcs.{at-sloop}
+use Rattle.law_build.specs.Overlays.{IsAxis, IsLoneSloop, IsMergedSloop}
 use Rattle.nef_smap.specs.declared.map.SLoop.{SLoop}
 use Rattle.nef_smap.specs.declared.map.SphereMap.{SphereMap}
-use Rattle.nef_smap.specs.Maps.{loop_of, map_of, IsSphereMap}
+use Rattle.nef_smap.specs.Maps.{sloop_of, map_of, IsSphereMap}
 use Rattle.nef_smap.proofs.Primitive.{dir-primitive}
 use Rattle.nef_smap.proofs.WellFormed.{dir-equal}
 use Rattle.nef_sover.specs.declared.axes.Axis.{Axis}
 use Rattle.nef_sover.specs.Axes.{AreAxes}
 use Rattle.nef_sover.specs.Circles.{AreOff, IsUncrossed, HasLabels, HasOpLabels, IsLoneNormal}
-use Rattle.nef_sover.proofs.Bare.{one-label, near-circle, free-circle, loop-mark, loop-above, loop-below}
+use Rattle.nef_sover.proofs.Bare.{one-label, near-circle, free-circle, sloop-mark, sloop-pos, sloop-neg}
 use Rattle.nef_sover.proofs.Lone.{uncrossed-a, uncrossed-b}
 
-loop-from : (o : Option SLoop) (l : Loop) → option_map loop_of o ≡ Some l → (s : SLoop) × (o ≡ Some s) × (loop_of s ≡ l)
-loop-from None l e = cc
-loop-from (Some s) l e = (s, refl, some_is e)
+sloop-from : (o : Option SLoop) (l : MapSloop) → option_map sloop_of o ≡ Some l → (s : SLoop) × (o ≡ Some s) × (sloop_of s ≡ l)
+sloop-from None l e = cc
+sloop-from (Some s) l e = (s, refl, some_is e)
   where
-    get : Loop → Option Loop → Loop
+    get : MapSloop → Option MapSloop → MapSloop
     get d None = d
     get d (Some x) = x
 
-    some_is : {x y : Loop} → ◌≡◌ {A = Option Loop} (Some x) (Some y) → x ≡ y
+    some_is : {x y : MapSloop} → ◌≡◌ {A = Option MapSloop} (Some x) (Some y) → x ≡ y
     some_is {x} e = ap (get x) e
 
 -- ---- the lone normal
@@ -51,15 +51,15 @@ module _ (a b : SphereMap) (ds : List Axis) (X : AreAxes (map_of a) (map_of b) d
   axes-off n off e c z = off (vector_of e.dir) (record { direction = e.dir.some; level = z }) (X.axis e c)
 
   lone-of : (m : SphereMap) → IsSphereMap m → (s : SLoop) (n : Dir) → m.sloop ≡ Some s → s.normal ≡ n → AreOff ds (vector_of n)
-      → ((map_of m).loop ≡ Some (loop_of s) → (A.loop ≡ Some (loop_of s)) ⊎ (B.loop ≡ Some (loop_of s))) → IsLoneNormal A B n
+      → ((map_of m).sloop ≡ Some (sloop_of s) → (A.sloop ≡ Some (sloop_of s)) ⊎ (B.sloop ≡ Some (sloop_of s))) → IsLoneNormal A B n
   lone-of m S s n e q off side =
-      let f = ap (option_map loop_of) e in let r = at-loop (map_of m).arcs (map_of m).loop (loop_of s) f in
+      let f = ap (option_map sloop_of) e in let r = at-sloop (map_of m).arcs (map_of m).sloop (sloop_of s) f in
       record {
-        lone = loop_of s;
+        lone = sloop_of s;
         is_lone = (side f, off-axes (vector_of s.normal) (subst (λ (d : Dir). AreOff ds (vector_of d)) (sym q) off));
         is_normal = ap vector_of (sym q);
-        small = subst (λ (d : Dir). IsAtMost normal_limit (vector_of d)) q (S.small.normals r.0 (loop_item (loop_of s)) r.1);
-        normal = subst (λ (d : Dir). IsNormal (vector_of d)) q (S.valid.shaped.normals r.0 (loop_item (loop_of s)) r.1);
+        small = subst (λ (d : Dir). IsAtMost normal_limit (vector_of d)) q (S.small.normals r.0 (sloop_item (sloop_of s)) r.1);
+        normal = subst (λ (d : Dir). IsNormal (vector_of d)) q (S.valid.shaped.normals r.0 (sloop_item (sloop_of s)) r.1);
       }
 
   pub lone-first : IsSphereMap a → (s : SLoop) (n : Dir) → a.sloop ≡ Some s → s.normal ≡ n → AreOff ds (vector_of n) → IsLoneNormal A B n
@@ -68,32 +68,32 @@ module _ (a b : SphereMap) (ds : List Axis) (X : AreAxes (map_of a) (map_of b) d
   pub lone-second : IsSphereMap b → (s : SLoop) (n : Dir) → b.sloop ≡ Some s → s.normal ≡ n → AreOff ds (vector_of n) → IsLoneNormal A B n
   lone-second S s n e q off = lone-of b S s n e q off (λ f. inr f)
 
-  pub lone-none : ((s : SLoop) → a.sloop ≡ Some s → AreOff ds (vector_of s.normal) → ⊥) → ((s : SLoop) → b.sloop ≡ Some s → AreOff ds (vector_of s.normal) → ⊥) → (l : Loop) → IsLoneLoop A B l → ⊥
+  pub lone-none : ((s : SLoop) → a.sloop ≡ Some s → AreOff ds (vector_of s.normal) → ⊥) → ((s : SLoop) → b.sloop ≡ Some s → AreOff ds (vector_of s.normal) → ⊥) → (l : MapSloop) → IsLoneSloop A B l → ⊥
   lone-none f g l h = by h.0
     where
-      by : (A.loop ≡ Some l) ⊎ (B.loop ≡ Some l) → ⊥
-      by (inl e) = let s = loop-from a.sloop l e in f s.0 s.1 (axes-off (vector_of s.0.normal) (subst (λ (k : Loop). (d : Vector) → IsOnCircle k.normal d → IsAxis A B d → ⊥) (sym s.2) h.1))
-      by (inr e) = let s = loop-from b.sloop l e in g s.0 s.1 (axes-off (vector_of s.0.normal) (subst (λ (k : Loop). (d : Vector) → IsOnCircle k.normal d → IsAxis A B d → ⊥) (sym s.2) h.1))
+      by : (A.sloop ≡ Some l) ⊎ (B.sloop ≡ Some l) → ⊥
+      by (inl e) = let s = sloop-from a.sloop l e in f s.0 s.1 (axes-off (vector_of s.0.normal) (subst (λ (k : MapSloop). (d : Vector) → IsOnCircle k.normal d → IsAxis A B d → ⊥) (sym s.2) h.1))
+      by (inr e) = let s = sloop-from b.sloop l e in g s.0 s.1 (axes-off (vector_of s.0.normal) (subst (λ (k : MapSloop). (d : Vector) → IsOnCircle k.normal d → IsAxis A B d → ⊥) (sym s.2) h.1))
 
 -- ---- a map's labels along a circle
 module _ (m : SphereMap) (S : IsSphereMap m) (n : Dir) where
   pub along-sloop : (s : SLoop) → m.sloop ≡ Some s → s.normal ≡ n → HasLabels (map_of m) (vector_of n) s
-  along-sloop s e q = let f = ap (option_map loop_of) e in subst (λ (d : Dir). HasLabels (map_of m) (vector_of d) s) q (record {
-    mark = loop-mark (map_of m) S.valid (loop_of s) f;
-    above = loop-above (map_of m) S.valid (loop_of s) f;
-    below = loop-below (map_of m) S.valid (loop_of s) f;
+  along-sloop s e q = let f = ap (option_map sloop_of) e in subst (λ (d : Dir). HasLabels (map_of m) (vector_of d) s) q (record {
+    mark = sloop-mark (map_of m) S.valid (sloop_of s) f;
+    pos = sloop-pos (map_of m) S.valid (sloop_of s) f;
+    neg = sloop-neg (map_of m) S.valid (sloop_of s) f;
   })
 
   pub along-face : IsNormal (vector_of n) → IsUncrossed (map_of m) (vector_of n) → ((s : SLoop) → m.sloop ≡ Some s → s.normal ≡ n → ⊥)
       → (d : Vector) (k : Label) → IsOnCircle (vector_of n) d → MapLabel (map_of m) d k → (l : SLoop) → l.mark ≡ k → l.pos ≡ k → l.neg ≡ k → HasLabels (map_of m) (vector_of n) l
   along-face N U absent d k o a l em ep en = record {
     mark = λ e p. subst (MapLabel (map_of m) e) (sym em) (one-label (map_of m) S.valid (vector_of n) n.some free d e k o p a);
-    above = λ e p. subst (NearLabel (map_of m) e (vector_of n)) (sym ep) (near-circle (map_of m) S.valid (vector_of n) n.some free d e (vector_of n) k o p a);
-    below = λ e p. subst (NearLabel (map_of m) e (opposite (vector_of n))) (sym en) (near-circle (map_of m) S.valid (vector_of n) n.some free d e (opposite (vector_of n)) k o p a);
+    pos = λ e p. subst (NearLabel (map_of m) e (vector_of n)) (sym ep) (near-circle (map_of m) S.valid (vector_of n) n.some free d e (vector_of n) k o p a);
+    neg = λ e p. subst (NearLabel (map_of m) e (opposite (vector_of n))) (sym en) (near-circle (map_of m) S.valid (vector_of n) n.some free d e (opposite (vector_of n)) k o p a);
   }
     where
-      none-there : (c : Loop) → (map_of m).loop ≡ Some c → c.normal ≡ vector_of n → ⊥
-      none-there c e q = let s = loop-from m.sloop c e in absent s.0 s.1 (dir-equal s.0.normal n (ap (λ (x : Loop). x.normal) s.2 ∙ q))
+      none-there : (c : MapSloop) → (map_of m).sloop ≡ Some c → c.normal ≡ vector_of n → ⊥
+      none-there c e q = let s = sloop-from m.sloop c e in absent s.0 s.1 (dir-equal s.0.normal n (ap (λ (x : MapSloop). x.normal) s.2 ∙ q))
 
       free : (e : Vector) → IsOnCircle (vector_of n) e → IsFree (map_of m) e
       free = free-circle (map_of m) S.valid S.ordered (vector_of n) N (dir-primitive n) U none-there
@@ -103,19 +103,19 @@ module _ (A B : Map) (op : Label → Label → Label) (n : Dir) where
   pub along-both : (p q l : SLoop) → HasLabels A (vector_of n) p → HasLabels B (vector_of n) q → l.mark ≡ op p.mark q.mark → l.pos ≡ op p.pos q.pos → l.neg ≡ op p.neg q.neg → HasOpLabels A B op (vector_of n) l
   along-both p q l P Q em ep en = record {
     mark = λ d o. (p.mark, q.mark, P.mark d o, Q.mark d o, sym em);
-    above = λ d o. (p.pos, q.pos, P.above d o, Q.above d o, sym ep);
-    below = λ d o. (p.neg, q.neg, P.below d o, Q.below d o, sym en);
+    pos = λ d o. (p.pos, q.pos, P.pos d o, Q.pos d o, sym ep);
+    neg = λ d o. (p.neg, q.neg, P.neg d o, Q.neg d o, sym en);
   }
 
-  pub merged-loop : (l : SLoop) → IsLoneNormal A B n → l.normal ≡ n → HasOpLabels A B op (vector_of n) l → IsMergedLoop A B op (loop_of l)
-  merged-loop l L q H = let G = subst (λ (d : Dir). HasOpLabels A B op (vector_of d) l) (sym q) H in record {
+  pub merged-sloop : (l : SLoop) → IsLoneNormal A B n → l.normal ≡ n → HasOpLabels A B op (vector_of n) l → IsMergedSloop A B op (sloop_of l)
+  merged-sloop l L q H = let G = subst (λ (d : Dir). HasOpLabels A B op (vector_of d) l) (sym q) H in record {
     lone = L.lone;
     is_lone = L.is_lone;
     normal = ap vector_of q ∙ L.is_normal;
     lowest = dir-primitive l.normal;
     mark = G.mark;
-    above = G.above;
-    below = G.below;
+    pos = G.pos;
+    neg = G.neg;
   }
 
 module _ (a b : SphereMap) (S : IsSphereMap a) (T : IsSphereMap b) (n : Dir) (L : IsLoneNormal (map_of a) (map_of b) n) where

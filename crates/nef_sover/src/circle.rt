@@ -6,11 +6,11 @@ ghost use Rattle.nef_space.specs.Vectors.{IsAtMost, IsNormal};
 ghost use Rattle.nef_geo.specs.Shapes.{vector_of};
 ghost use Rattle.nef_geo.specs.declared.dir.Dir.{Dir};
 ghost use Rattle.law_cyclic.specs.Arcs.{IsOnCircle};
-ghost use Rattle.law_sphere.specs.Maps.{Loop};
-ghost use Rattle.law_build.specs.Overlays.{IsLoneLoop, IsMergedLoop};
+ghost use Rattle.law_sphere.specs.Maps.{MapSloop};
+ghost use Rattle.law_build.specs.Overlays.{IsLoneSloop, IsMergedSloop};
 ghost use Rattle.nef_star.specs.Ops.{op_label};
 ghost use Rattle.nef_smap.specs.declared.map.SLoop.{SLoop};
-ghost use Rattle.nef_smap.specs.Maps.{loop_of, map_of, IsSphereMap};
+ghost use Rattle.nef_smap.specs.Maps.{sloop_of, map_of, IsSphereMap};
 ghost use Rattle.nef_sover.specs.Axes.{AreAxes};
 ghost use Rattle.nef_sover.specs.Circles.{AreOff, IsBareNormal, IsUncrossed, HasLabels, HasOpLabels, IsLoneNormal};
 
@@ -53,7 +53,7 @@ fn lone_normal(a: &SphereMap, b: &SphereMap, axes: &[Axis]) -> Option<Dir>
     requires first { IsSphereMap a.now }
     requires second { IsSphereMap b.now }
     requires axes { AreAxes (map_of a.now) (map_of b.now) axes.now }
-    ensures lone { MatchOption result ((l : Loop) → IsLoneLoop (map_of a.now) (map_of b.now) l → ⊥) (IsLoneNormal (map_of a.now) (map_of b.now)) }
+    ensures lone { MatchOption result ((l : MapSloop) → IsLoneSloop (map_of a.now) (map_of b.now) l → ⊥) (IsLoneNormal (map_of a.now) (map_of b.now)) }
 {
     match bare_normal(&a.sloop, axes) {
         Some(normal) => Some(normal),
@@ -148,7 +148,7 @@ pub(crate) fn merged_sloop(
     requires first { IsSphereMap a.now }
     requires second { IsSphereMap b.now }
     requires axes { AreAxes (map_of a.now) (map_of b.now) axes.now }
-    ensures circle { IfOk result (λ o. MatchOption (option_map loop_of o) ((l : Loop) → IsLoneLoop (map_of a.now) (map_of b.now) l → ⊥) (IsMergedLoop (map_of a.now) (map_of b.now) (op_label op))) }
+    ensures circle { IfOk result (λ o. MatchOption (option_map sloop_of o) ((l : MapSloop) → IsLoneSloop (map_of a.now) (map_of b.now) l → ⊥) (IsMergedSloop (map_of a.now) (map_of b.now) (op_label op))) }
     ensures small { IfOk result (λ o. (l : SLoop) → o ≡ Some l → IsAtMost normal_limit (vector_of l.normal)) }
 {
     let Some(normal) = lone_normal(a, b, axes) else {

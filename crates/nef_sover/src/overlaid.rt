@@ -18,7 +18,7 @@ use std::alloc::Global;
 fn merged_ground(a: &SphereMap, b: &SphereMap, op: Op) -> Option<Label>
     requires first { IsSphereMap a.now }
     requires second { IsSphereMap b.now }
-    ensures face { MatchOption result (HasItem (map_of a.now) ⊎ HasItem (map_of b.now)) (IsMergedGround (map_of a.now) (map_of b.now) (op_label op)) }
+    ensures ground { MatchOption result (HasItem (map_of a.now) ⊎ HasItem (map_of b.now)) (IsMergedGround (map_of a.now) (map_of b.now) (op_label op)) }
 {
     match (a.ground, b.ground) {
         (Some(first), Some(second)) => Some(op.label(first, second)),

@@ -13,7 +13,7 @@ use Rattle.law_build.specs.Overlays.{Raw}
 use Rattle.law_build.proofs.KeptStars.{kept-show}
 use Rattle.law_build.proofs.BuiltKept.{from-stars}
 use Rattle.law_build.proofs.Chosen.{op-labels}
-use Rattle.law_build.proofs.RawFaces.{raw-shows_op}
+use Rattle.law_build.proofs.RawGround.{raw-shows_op}
 use Rattle.nef_smap.specs.declared.map.RawStars.{RawStars}
 use Rattle.nef_smap.specs.declared.map.SphereMap.{SphereMap}
 use Rattle.nef_smap.specs.Maps.{map_of, raw_of, IsLeastMap, IsRawStars}

@@ -10,7 +10,7 @@ use Rattle.law_build.specs.From.{IsKeptStar, IsKeptRaw, AreSimplified}
 use Rattle.nef_star.specs.declared.star.Star.{Star}
 use Rattle.nef_star.specs.Stars.{star_of, IsStar}
 use Rattle.nef_smap.specs.declared.map.RawStars.{RawStars}
-use Rattle.nef_smap.specs.Maps.{loop_of, raw_of}
+use Rattle.nef_smap.specs.Maps.{sloop_of, raw_of}
 use Rattle.nef_smap.proofs.Lists.{at-map, map-at, at-within, get-at}
 use Rattle.nef_smap.proofs.WellFormed.{star-well_formed}
 use Rattle.nef_spair.specs.declared.pieces.Pieces.{Pieces}
@@ -32,7 +32,7 @@ module _ (r q : RawStars) (w : AreSimple r.stars q.stars) where
           let u = at-map star_of r.stars k t a in let v = at-map star_of q.stars k s b in
           subst (λ (x : PlainStar). IsKeptStar x s) u.2 (subst (λ (x : PlainStar). IsKeptStar (star_of u.0) x) v.2 (one k u.0 v.0 u.1 v.1));
     };
-    loop = ap (option_map loop_of) sloop;
+    sloop = ap (option_map sloop_of) sloop;
     same_ground = ground;
   }
     where

@@ -5,22 +5,22 @@ use Rattle.nef_space.specs.Limits.{normal_limit, svertex_limit}
 use Rattle.nef_space.specs.Vectors.{Vector, IsAtMost}
 use Rattle.nef_space.specs.declared.label.Label.{Label}
 use Rattle.nef_geo.specs.Shapes.{vector_of}
-use Rattle.law_sphere.specs.Maps.{At, Svertex, Arc, Loop, Item, items_then, item_normal}
+use Rattle.law_sphere.specs.Maps.{At, MapVertex, Arc, MapSloop, Item, items_then, item_normal}
 use Rattle.law_sphere.specs.Least.{InOrder, ArcBelow}
 use Rattle.law_sphere.specs.Stars.{Ray as PlainRay, Star as PlainStar, IsStraight}
 use Rattle.law_build.specs.Raw.{IsBare, IsRawOf}
-use Rattle.law_build.specs.From.{svertex_at, IsArcFrom, IsLoopFrom, raw_loop, straight_loop, IsRawLabel, IsBuiltFrom}
+use Rattle.law_build.specs.From.{svertex_at, IsArcFrom, IsSloopFrom, raw_sloop, straight_sloop, IsRawLabel, IsBuiltFrom}
 use Rattle.nef_star.specs.Stars.{ray_of, star_of, IsStar}
 use Rattle.nef_smap.specs.declared.map.SArc.{SArc}
 use Rattle.nef_smap.specs.declared.map.SLoop.{SLoop}
 use Rattle.nef_smap.specs.declared.map.RawStars.{RawStars}
 use Rattle.nef_smap.specs.declared.map.SphereMap.{SphereMap}
-use Rattle.nef_smap.specs.Maps.{svertex_of, arc_of, loop_of, map_of, raw_of, IsSmall}
+use Rattle.nef_smap.specs.Maps.{svertex_of, arc_of, sloop_of, map_of, raw_of, IsSmall}
 use Rattle.nef_smap.proofs.Lists.{at-map, map-at, at-within}
 use Rattle.nef_spair.specs.declared.pieces.Pieces.{Pieces}
 use Rattle.nef_spair.specs.Made.{IsMadeOf}
 use Rattle.nef_spair.specs.Pieces.{ArePiecesOf, IsChosen}
-use Rattle.nef_spair.proofs.OneKind.{no-loop-was, loop-was, none-was}
+use Rattle.nef_spair.proofs.OneKind.{no-sloop-was, sloop-was, none-was}
 use Rattle.nef_spair.proofs.Places.{all-at}
 use Rattle.nef_spair.proofs.Built.{map-none, first-same, kept-stars, plain-from, plain-needed, plain-all, plain-ordered}
 
@@ -49,48 +49,48 @@ module _ (q : RawStars) (p : Pieces) (m : SphereMap) (pieces : ArePiecesOf q p) 
       subst (ArcBelow x) v.2 (subst (λ (z : Arc). ArcBelow z (arc_of v.0)) u.2 (made.ordered i k u.0 v.0 l u.1 v.1))
 
   -- ---- the sloop
-  chosen-from : (c : SLoop) → IsChosen p.kept.items p.circles.items p.sloop c → IsLoopFrom (raw_of q) K (loop_of c)
-  chosen-from c (inl (given, proper)) = raw_loop (ap (option_map loop_of) (sym pieces.sloop ∙ given)) proper
+  chosen-from : (c : SLoop) → IsChosen p.kept.items p.circles.items p.sloop c → IsSloopFrom (raw_of q) K (sloop_of c)
+  chosen-from c (inl (given, proper)) = raw_sloop (ap (option_map sloop_of) (sym pieces.sloop ∙ given)) proper
   chosen-from c (inr (k, listed, bare)) =
       let w = pieces.circles in let f = w.from k c listed in
-      straight_loop f.0 (star_of f.1) (map-at star_of q.stars f.0 f.1 f.2) f.3.0 (subst (IsBare K) (ap (λ (l : Loop). l.normal) f.3.1) bare) f.3.1
+      straight_sloop f.0 (star_of f.1) (map-at star_of q.stars f.0 f.1 f.2) f.3.0 (subst (IsBare K) (ap (λ (l : MapSloop). l.normal) f.3.1) bare) f.3.1
 
-  loop-from : (l : Loop) → option_map loop_of m.sloop ≡ Some l → IsLoopFrom (raw_of q) K l
-  loop-from l e =
-      let c = loop-was m.sloop l e in
+  sloop-from : (l : MapSloop) → option_map sloop_of m.sloop ≡ Some l → IsSloopFrom (raw_of q) K l
+  sloop-from l e =
+      let c = sloop-was m.sloop l e in
       let found = subst (λ (o : Option SLoop). MatchOption o ((d : SLoop) → IsChosen p.kept.items p.circles.items p.sloop d → ⊥) (IsChosen p.kept.items p.circles.items p.sloop)) c.1 made.sloop in
-      subst (IsLoopFrom (raw_of q) K) c.2 (chosen-from c.0 found)
+      subst (IsSloopFrom (raw_of q) K) c.2 (chosen-from c.0 found)
 
   -- the circle that a loop comes from is chosen, where none is
-  choice : (l : Loop) → IsLoopFrom (raw_of q) K l → (c : SLoop) × IsChosen p.kept.items p.circles.items p.sloop c
-  choice l (raw_loop e proper) =
-      let c = loop-was q.sloop l e in
-      (c.0, inl (pieces.sloop ∙ c.1, λ a b. proper (sym (ap (λ (x : Loop). x.above) c.2) ∙ a ∙ ap (λ (x : Loop). x.mark) c.2) (sym (ap (λ (x : Loop). x.below) c.2) ∙ b ∙ ap (λ (x : Loop). x.mark) c.2)))
-  choice l (straight_loop j t a s bare e) =
+  choice : (l : MapSloop) → IsSloopFrom (raw_of q) K l → (c : SLoop) × IsChosen p.kept.items p.circles.items p.sloop c
+  choice l (raw_sloop e proper) =
+      let c = sloop-was q.sloop l e in
+      (c.0, inl (pieces.sloop ∙ c.1, λ a b. proper (sym (ap (λ (x : MapSloop). x.pos) c.2) ∙ a ∙ ap (λ (x : MapSloop). x.mark) c.2) (sym (ap (λ (x : MapSloop). x.neg) c.2) ∙ b ∙ ap (λ (x : MapSloop). x.mark) c.2)))
+  choice l (straight_sloop j t a s bare e) =
       let u = at-map star_of q.stars j t a in
       let v : (s : IsStraight (star_of u.0)) × IsBare K s.first.normal = subst (λ (x : PlainStar). (s : IsStraight x) × IsBare K s.first.normal) (sym u.2) (s, bare) in
       let w = pieces.circles in let f = w.all j u.0 u.1 v.0 in
-      let same = ap (λ (x : Loop). x.normal) f.3.1 ∙ ap (λ (x : PlainRay). x.normal) (first-same (star_of u.0) f.3.0 v.0) in
+      let same = ap (λ (x : MapSloop). x.normal) f.3.1 ∙ ap (λ (x : PlainRay). x.normal) (first-same (star_of u.0) f.3.0 v.0) in
       (f.1, inr (f.0, f.2, subst (IsBare K) (sym same) v.1))
 
-  loop-all : (l : Loop) → IsLoopFrom (raw_of q) K l → (k : Loop) × (option_map loop_of m.sloop ≡ Some k)
-  loop-all l h = by m.sloop made.sloop
+  sloop-all : (l : MapSloop) → IsSloopFrom (raw_of q) K l → (k : MapSloop) × (option_map sloop_of m.sloop ≡ Some k)
+  sloop-all l h = by m.sloop made.sloop
     where
-      by : (o : Option SLoop) → MatchOption o ((d : SLoop) → IsChosen p.kept.items p.circles.items p.sloop d → ⊥) (IsChosen p.kept.items p.circles.items p.sloop) → (k : Loop) × (option_map loop_of o ≡ Some k)
+      by : (o : Option SLoop) → MatchOption o ((d : SLoop) → IsChosen p.kept.items p.circles.items p.sloop d → ⊥) (IsChosen p.kept.items p.circles.items p.sloop) → (k : MapSloop) × (option_map sloop_of o ≡ Some k)
       by None none = let c = choice l h in absurd (none c.0 c.1)
-      by (Some c) w = (loop_of c, refl)
+      by (Some c) w = (sloop_of c, refl)
 
   -- ---- the one face
   no-svertices : K ≡ [] → m.svertices ≡ []
   no-svertices e = none-was m.svertices (made.svertices ∙ ap (map svertex_at) e)
 
-  ground-alone : {L : Vector → Label} → IsRawOf (raw_of q) L → K ≡ [] → option_map loop_of m.sloop ≡ None → (l : Label) × (m.ground ≡ Some l) × IsRawLabel (raw_of q) l
-  ground-alone {L} raw e f = by p.face pieces.face (made.ground (no-svertices e) (no-loop-was m.sloop f))
+  ground-alone : {L : Vector → Label} → IsRawOf (raw_of q) L → K ≡ [] → option_map sloop_of m.sloop ≡ None → (l : Label) × (m.ground ≡ Some l) × IsRawLabel (raw_of q) l
+  ground-alone {L} raw e f = by p.ground pieces.ground (made.ground (no-svertices e) (no-sloop-was m.sloop f))
     where
       by : (o : Option Label) → MatchOption o ((q.ground ≡ None) × (q.stars ≡ []) × (q.sloop ≡ None)) (IsRawLabel (raw_of q)) → m.ground ≡ o → (l : Label) × (m.ground ≡ Some l) × IsRawLabel (raw_of q) l
       by (Some l) w g = (l, g, w)
       by None w g =
-          let r = raw.ground_alone (ap (map star_of) w.1) (ap (option_map loop_of) w.2) in
+          let r = raw.ground_alone (ap (map star_of) w.1) (ap (option_map sloop_of) w.2) in
           absurd (none-some q.ground r.0 w.0 r.1)
 
   pub built-from : {L : Vector → Label} → IsRawOf (raw_of q) L → IsBuiltFrom (raw_of q) (map_of m)
@@ -105,20 +105,20 @@ module _ (q : RawStars) (p : Pieces) (m : SphereMap) (pieces : ArePiecesOf q p) 
     arcs_from = arcs-from;
     arcs_all = arcs-all;
     arcs_ordered = arcs-ordered;
-    loop_from = loop-from;
-    loop_all = loop-all;
+    sloop_from = sloop-from;
+    sloop_all = sloop-all;
     ground_alone = ground-alone raw;
-    ground_not = λ l e. let o = made.ground_not l e in (map-none svertex_at K (sym made.svertices ∙ ap (map svertex_of) o.0), ap (option_map loop_of) o.1);
+    ground_not = λ l e. let o = made.ground_not l e in (map-none svertex_at K (sym made.svertices ∙ ap (map svertex_of) o.0), ap (option_map sloop_of) o.1);
   }
 
   -- ---- sizes
   module _ (stars : All IsStar q.stars) (circle : (l : SLoop) → q.sloop ≡ Some l → IsAtMost normal_limit (vector_of l.normal)) where
-    way-small : (k : ℕ) (v : Svertex) → At (map svertex_of m.svertices) k v → IsAtMost svertex_limit v.way
+    way-small : (k : ℕ) (v : MapVertex) → At (map svertex_of m.svertices) k v → IsAtMost svertex_limit v.dir
     way-small k v a =
-        let t = at-map svertex_at K k v (subst (λ (l : List Svertex). At l k v) made.svertices a) in
+        let t = at-map svertex_at K k v (subst (λ (l : List MapVertex). At l k v) made.svertices a) in
         let u = at-map star_of p.kept.items k t.0 t.1 in
         let s = all-at IsStar p.kept.items (kept-stars q p pieces stars) k u.0 u.1 in
-        subst (λ (x : Svertex). IsAtMost svertex_limit x.way) t.2 (subst (λ (x : PlainStar). IsAtMost svertex_limit x.axis) u.2 s.turned.axis_small)
+        subst (λ (x : MapVertex). IsAtMost svertex_limit x.dir) t.2 (subst (λ (x : PlainStar). IsAtMost svertex_limit x.axis) u.2 s.turned.axis_small)
 
     chosen-small : (c : SLoop) → IsChosen p.kept.items p.circles.items p.sloop c → IsAtMost normal_limit (vector_of c.normal)
     chosen-small c (inl (given, proper)) = circle c (sym pieces.sloop ∙ given)
@@ -126,7 +126,7 @@ module _ (q : RawStars) (p : Pieces) (m : SphereMap) (pieces : ArePiecesOf q p) 
 
     items-small : (arcs : List SArc) (o : Option SLoop) → ((k : ℕ) (a : SArc) → At arcs k a → IsAtMost normal_limit (vector_of a.normal))
         → MatchOption o ((d : SLoop) → IsChosen p.kept.items p.circles.items p.sloop d → ⊥) (IsChosen p.kept.items p.circles.items p.sloop)
-        → (k : ℕ) (x : Item) → At (items_then (map arc_of arcs) (option_map loop_of o)) k x → IsAtMost normal_limit (item_normal x)
+        → (k : ℕ) (x : Item) → At (items_then (map arc_of arcs) (option_map sloop_of o)) k x → IsAtMost normal_limit (item_normal x)
     items-small [] None f w k x a = absurd a
     items-small [] (Some c) f w zero x a = subst (λ (y : Item). IsAtMost normal_limit (item_normal y)) a (chosen-small c w)
     items-small [] (Some c) f w (suc k) x a = absurd a

@@ -32,7 +32,7 @@ pub ray-leaves : (t : Star) → IsTurned t → (k : ℕ) (r : Ray) → At t.rays
 ray-leaves t T k r h = all-at (IsRay (vector_of t.axis)) t.rays.items T.rays k r h
 
 module _ (kept : List Star) (a : PlainArc) (t : Star) (r : Ray) (number before : ℕ) (T : IsTurned t) (star : At kept a.source t) (ray : At t.rays.items number r) (ahead : r.ahead ≡ true)
-    (normal : a.normal ≡ vector_of r.normal) (mark : a.mark ≡ r.mark) (above : a.above ≡ get_or t.sectors.items number Out) (below : a.below ≡ get_or t.sectors.items before Out)
+    (normal : a.normal ≡ vector_of r.normal) (mark : a.mark ≡ r.mark) (above : a.pos ≡ get_or t.sectors.items number Out) (below : a.neg ≡ get_or t.sectors.items before Out)
     (follows : (before + 1 ≡ number) ⊎ ((before + 1 ≡ length t.sectors.items) × (number ≡ 0))) (target : IsFirstAfter (map star_of kept) a.normal (star_of t) a.target) where
   sectors : length t.sectors.items ≡ length t.rays.items
   sectors = as-many-sectors t T number r ray
@@ -63,9 +63,9 @@ module _ (kept : List Star) (a : PlainArc) (t : Star) (r : Ray) (number before :
     ahead = ahead;
     normal = normal;
     mark = mark;
-    above = label number a.above (omega (arith, within, sectors)) above;
+    pos = label number a.pos (omega (arith, within, sectors)) above;
     follows = follow;
-    below = label before a.below before_within below;
+    neg = label before a.neg before_within below;
     target = target;
   }
 

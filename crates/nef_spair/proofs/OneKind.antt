@@ -10,7 +10,7 @@ use Rattle.nef_geo.specs.Shapes.{vector_of}
 use Rattle.nef_geo.specs.declared.dir.Dir.{Dir}
 use Rattle.nef_geo.proofs.Directions.{dot-itself}
 use Rattle.nef_geo.proofs.Unique.{same_directions_equal}
-use Rattle.law_sphere.specs.Maps.{Map, Svertex, Loop}
+use Rattle.law_sphere.specs.Maps.{Map, MapVertex, MapSloop}
 use Rattle.law_sphere.specs.Least.{Least, Cone}
 use Rattle.law_sphere.specs.Kinds.{IsInVolume, IsInFacet, IsOnEdge}
 use Rattle.law_sphere.proofs.Kind.{flat-parallel}
@@ -20,7 +20,7 @@ use Rattle.law_sphere.proofs.Dimensions.{map-flat, flat-map, volume-dimension, f
 use Rattle.nef_smap.specs.declared.map.SVertex.{SVertex}
 use Rattle.nef_smap.specs.declared.map.SLoop.{SLoop}
 use Rattle.nef_smap.specs.declared.map.SphereMap.{SphereMap}
-use Rattle.nef_smap.specs.Maps.{svertex_of, loop_of, map_of}
+use Rattle.nef_smap.specs.Maps.{svertex_of, sloop_of, map_of}
 use Rattle.nef_smap.proofs.WellFormed.{dir-equal}
 use Rattle.nef_spair.specs.declared.answer.Kind.{Kind}
 use Rattle.nef_spair.specs.declared.answer.Kind.TheVariants.{Vertex, OnEdge, InFacet, InVolume}
@@ -29,7 +29,7 @@ use Rattle.nef_spair.specs.Kinds.{IsVertex, IsKind, KindFits}
 -- ---- no two kinds
 module _ (M : Map) where
   volume-facet : (n : Vector) → IsInVolume M → IsInFacet M n → ⊥
-  volume-facet n v f = let e : None ≡ Some f.loop = sym v.no_loop ∙ f.has_loop in cc
+  volume-facet n v f = let e : None ≡ Some f.sloop = sym v.no_sloop ∙ f.has_sloop in cc
 
   volume-edge : (d : Vector) → IsInVolume M → IsOnEdge M d → ⊥
   volume-edge d v e = let i : [] ≡ e.first ∷ e.second ∷ [] = sym v.no_svertex ∙ e.two_svertices in cc
@@ -38,12 +38,12 @@ module _ (M : Map) where
   facet-edge n d f e = let i : [] ≡ e.first ∷ e.second ∷ [] = sym f.no_svertex ∙ e.two_svertices in cc
 
   one-facet : (n m : Vector) → IsInFacet M n → IsInFacet M m → n ≡ m
-  one-facet n m f g = let i : Some f.loop ≡ Some g.loop = sym f.has_loop ∙ g.has_loop in let l : f.loop ≡ g.loop = cc in sym f.normal ∙ ap (λ (l : Loop). l.normal) l ∙ g.normal
+  one-facet n m f g = let i : Some f.sloop ≡ Some g.sloop = sym f.has_sloop ∙ g.has_sloop in let l : f.sloop ≡ g.sloop = cc in sym f.normal ∙ ap (λ (l : MapSloop). l.normal) l ∙ g.normal
 
   one-edge : (d e : Vector) → IsOnEdge M d → IsOnEdge M e → d ≡ e
   one-edge d e f g =
       let i : f.first ∷ f.second ∷ [] ≡ g.first ∷ g.second ∷ [] = sym f.two_svertices ∙ g.two_svertices in let s : f.second ≡ g.second = cc in
-      sym f.named ∙ ap (λ (v : Svertex). v.way) s ∙ g.named
+      sym f.named ∙ ap (λ (v : MapVertex). v.dir) s ∙ g.named
 
   pub one-kind : (k l : Kind) → IsKind M k → IsKind M l → k ≡ l
   one-kind Vertex Vertex h i = refl
@@ -93,26 +93,26 @@ pub none-was : (vs : List SVertex) → map svertex_of vs ≡ [] → vs ≡ []
 none-was [] e = refl
 none-was (v ∷ vs) e = let i : svertex_of v ∷ map svertex_of vs ≡ [] = e in absurd (cc)
 
-pub two-were : (vs : List SVertex) (v w : Svertex) → map svertex_of vs ≡ v ∷ w ∷ [] → (a : SVertex) × (b : SVertex) × (vs ≡ a ∷ b ∷ []) × (svertex_of a ≡ v) × (svertex_of b ≡ w)
+pub two-were : (vs : List SVertex) (v w : MapVertex) → map svertex_of vs ≡ v ∷ w ∷ [] → (a : SVertex) × (b : SVertex) × (vs ≡ a ∷ b ∷ []) × (svertex_of a ≡ v) × (svertex_of b ≡ w)
 two-were [] v w e = absurd (cc)
 two-were (a ∷ []) v w e = let i : svertex_of a ∷ [] ≡ v ∷ w ∷ [] = e in absurd (cc)
 two-were (a ∷ b ∷ []) v w e = let i : svertex_of a ∷ svertex_of b ∷ [] ≡ v ∷ w ∷ [] = e in (a, b, refl, cc, cc)
 two-were (a ∷ b ∷ c ∷ vs) v w e = let i : svertex_of a ∷ svertex_of b ∷ svertex_of c ∷ map svertex_of vs ≡ v ∷ w ∷ [] = e in absurd (cc)
 
-pub no-loop-was : (o : Option SLoop) → option_map loop_of o ≡ None → o ≡ None
-no-loop-was None e = refl
-no-loop-was (Some l) e = let i : Some (loop_of l) ≡ None = e in absurd (cc)
+pub no-sloop-was : (o : Option SLoop) → option_map sloop_of o ≡ None → o ≡ None
+no-sloop-was None e = refl
+no-sloop-was (Some l) e = let i : Some (sloop_of l) ≡ None = e in absurd (cc)
 
-pub loop-was : (o : Option SLoop) (l : Loop) → option_map loop_of o ≡ Some l → (c : SLoop) × (o ≡ Some c) × (loop_of c ≡ l)
-loop-was None l e = let i : None ≡ Some l = e in absurd (cc)
-loop-was (Some c) l e = let i : Some (loop_of c) ≡ Some l = e in (c, refl, cc)
+pub sloop-was : (o : Option SLoop) (l : MapSloop) → option_map sloop_of o ≡ Some l → (c : SLoop) × (o ≡ Some c) × (sloop_of c ≡ l)
+sloop-was None l e = let i : None ≡ Some l = e in absurd (cc)
+sloop-was (Some c) l e = let i : Some (sloop_of c) ≡ Some l = e in (c, refl, cc)
 
 module _ (m : SphereMap) where
   pub volume-then : IsInVolume (map_of m) → (m.svertices ≡ []) × (m.sloop ≡ None) × (m.ground ≡ Some m.mark)
-  volume-then v = (none-was m.svertices v.no_svertex, no-loop-was m.sloop v.no_loop, v.same_mark)
+  volume-then v = (none-was m.svertices v.no_svertex, no-sloop-was m.sloop v.no_sloop, v.same_mark)
 
   pub facet-then : (n : Vector) → IsInFacet (map_of m) n → (l : SLoop) × (m.svertices ≡ []) × (m.sloop ≡ Some l) × (l.mark ≡ m.mark)
-  facet-then n f = let l = loop-was m.sloop f.loop f.has_loop in (l.0, none-was m.svertices f.no_svertex, l.1, ap (λ (c : Loop). c.mark) l.2 ∙ f.same_mark)
+  facet-then n f = let l = sloop-was m.sloop f.sloop f.has_sloop in (l.0, none-was m.svertices f.no_svertex, l.1, ap (λ (c : MapSloop). c.mark) l.2 ∙ f.same_mark)
 
   pub edge-if : (a b : SVertex) → m.svertices ≡ a ∷ b ∷ [] → m.sloop ≡ None → a.mark ≡ m.mark → b.mark ≡ m.mark → IsOpposite (vector_of a.dir) (vector_of b.dir) → IsOnEdge (map_of m) (vector_of b.dir)
   edge-if a b e f g h o = record {
@@ -122,7 +122,7 @@ module _ (m : SphereMap) where
     opposite = o;
     first_mark = g;
     second_mark = h;
-    no_loop = ap (option_map loop_of) f;
+    no_sloop = ap (option_map sloop_of) f;
     named = refl;
   }
 
@@ -132,10 +132,10 @@ module _ (m : SphereMap) where
         t.0,
         t.1,
         t.2,
-        no-loop-was m.sloop e.no_loop,
-        ap (λ (v : Svertex). v.mark) t.3 ∙ e.first_mark,
-        ap (λ (v : Svertex). v.mark) t.4 ∙ e.second_mark,
-        subst (λ (v : Svertex). IsOpposite (vector_of t.0.dir) v.way) (sym t.4) (subst (λ (v : Svertex). IsOpposite v.way e.second.way) (sym t.3) e.opposite),
+        no-sloop-was m.sloop e.no_sloop,
+        ap (λ (v : MapVertex). v.mark) t.3 ∙ e.first_mark,
+        ap (λ (v : MapVertex). v.mark) t.4 ∙ e.second_mark,
+        subst (λ (v : MapVertex). IsOpposite (vector_of t.0.dir) v.dir) (sym t.4) (subst (λ (v : MapVertex). IsOpposite v.dir e.second.dir) (sym t.3) e.opposite),
       )
 
   pub edge-fields : (d : Vector) → IsOnEdge (map_of m) d → (a b : SVertex) → m.svertices ≡ a ∷ b ∷ [] → (a.mark ≡ m.mark) × (b.mark ≡ m.mark) × IsOpposite (vector_of a.dir) (vector_of b.dir)

@@ -5,33 +5,33 @@ use Rattle.nef_space.specs.Vectors.{Vector, IsAtMost}
 use Rattle.nef_space.specs.declared.label.Label.{Label}
 use Rattle.nef_space.specs.declared.label.Label.TheVariants.{Out}
 use Rattle.nef_geo.specs.Shapes.{vector_of}
-use Rattle.law_sphere.specs.Maps.{Loop}
+use Rattle.law_sphere.specs.Maps.{MapSloop}
 use Rattle.law_sphere.specs.Stars.{Ray as PlainRay, IsPlain, IsStraight}
-use Rattle.law_build.specs.From.{loop_at}
+use Rattle.law_build.specs.From.{sloop_at}
 use Rattle.nef_star.specs.declared.star.Ray.{Ray}
 use Rattle.nef_star.specs.declared.star.Star.{Star}
 use Rattle.nef_star.specs.Stars.{ray_of, star_of}
 use Rattle.nef_smap.specs.declared.map.SLoop.{SLoop}
-use Rattle.nef_smap.specs.Maps.{loop_of}
+use Rattle.nef_smap.specs.Maps.{sloop_of}
 use Rattle.nef_spair.specs.Pieces.{IsDropped, IsCircleOf, AreCircles}
 use Rattle.nef_spair.proofs.Places.{at-before, at-last, at-more, all-at, at-all}
 
 -- ---- the circle of a straight star
-loop-same : (l k : Loop) → l.normal ≡ k.normal → l.above ≡ k.above → l.mark ≡ k.mark → l.below ≡ k.below → l ≡ k
-loop-same l k a b c d =
-    ap (λ (x : Vector). let r : Loop = record { normal = x; above = l.above; mark = l.mark; below = l.below } in r) a
-    ∙ ap (λ (x : Label). let r : Loop = record { normal = k.normal; above = x; mark = l.mark; below = l.below } in r) b
-    ∙ ap (λ (x : Label). let r : Loop = record { normal = k.normal; above = k.above; mark = x; below = l.below } in r) c
-    ∙ ap (λ (x : Label). let r : Loop = record { normal = k.normal; above = k.above; mark = k.mark; below = x } in r) d
+sloop-same : (l k : MapSloop) → l.normal ≡ k.normal → l.pos ≡ k.pos → l.mark ≡ k.mark → l.neg ≡ k.neg → l ≡ k
+sloop-same l k a b c d =
+    ap (λ (x : Vector). let r : MapSloop = record { normal = x; pos = l.pos; mark = l.mark; neg = l.neg } in r) a
+    ∙ ap (λ (x : Label). let r : MapSloop = record { normal = k.normal; pos = x; mark = l.mark; neg = l.neg } in r) b
+    ∙ ap (λ (x : Label). let r : MapSloop = record { normal = k.normal; pos = k.pos; mark = x; neg = l.neg } in r) c
+    ∙ ap (λ (x : Label). let r : MapSloop = record { normal = k.normal; pos = k.pos; mark = k.mark; neg = x } in r) d
 
 first-ray : (rays : List Ray) (r : Ray) (p q : PlainRay) → map ray_of rays ≡ p ∷ q ∷ [] → r ≡ get_or rays 0 r → ray_of r ≡ p
 first-ray [] r p q e f = absurd (cc)
 first-ray (s ∷ rays) r p q e f = let i : ray_of s ∷ map ray_of rays ≡ p ∷ q ∷ [] = e in let j : ray_of s ≡ p = cc in ap ray_of f ∙ j
 
 pub circle-is : (t : Star) (s : IsStraight (star_of t)) (r : Ray) (c : SLoop) → r ≡ get_or t.rays.items 0 r → c.normal ≡ r.normal → c.mark ≡ t.mark
-    → c.pos ≡ get_or t.sectors.items 0 Out → c.neg ≡ get_or t.sectors.items 1 Out → loop_of c ≡ loop_at (star_of t) s
+    → c.pos ≡ get_or t.sectors.items 0 Out → c.neg ≡ get_or t.sectors.items 1 Out → sloop_of c ≡ sloop_at (star_of t) s
 circle-is t s r c e n m p q =
-    loop-same (loop_of c) (loop_at (star_of t) s) (ap vector_of n ∙ ap (λ (x : PlainRay). x.normal) (first-ray t.rays.items r s.first s.second s.two_rays e)) (p ∙ ap (λ (l : List Label). get_or l 0 Out) s.two_sectors) m
+    sloop-same (sloop_of c) (sloop_at (star_of t) s) (ap vector_of n ∙ ap (λ (x : PlainRay). x.normal) (first-ray t.rays.items r s.first s.second s.two_rays e)) (p ∙ ap (λ (l : List Label). get_or l 0 Out) s.two_sectors) m
     (q ∙ ap (λ (l : List Label). get_or l 1 Out) s.two_sectors)
 
 pub not-dropped : (t : Star) → (IsPlain (star_of t) → ⊥) → (IsStraight (star_of t) → ⊥) → IsDropped t → ⊥
@@ -41,17 +41,17 @@ not-dropped t n m (inr s) = m s
 -- ---- the circles of more stars
 
 module _ (ts : List Star) (cs : List SLoop) (t : Star) (w : AreCircles ts cs) where
-  pub circles-more : (c : SLoop) → IsCircleOf (star_of t) (loop_of c) → IsAtMost normal_limit (vector_of c.normal) → AreCircles (ts ++ t ∷ []) (cs ++ c ∷ [])
+  pub circles-more : (c : SLoop) → IsCircleOf (star_of t) (sloop_of c) → IsAtMost normal_limit (vector_of c.normal) → AreCircles (ts ++ t ∷ []) (cs ++ c ∷ [])
   circles-more c i small = record {
     from = λ k d h.
         elim (at-more cs c k d h) [
           | inl a ↦ let f = w.from k d a in (f.0, f.1, at-before ts (t ∷ []) f.0 f.1 f.2, f.3)
-          | inr a ↦ (length ts, t, at-last ts t, subst (λ (x : SLoop). IsCircleOf (star_of t) (loop_of x)) a.1 i)
+          | inr a ↦ (length ts, t, at-last ts t, subst (λ (x : SLoop). IsCircleOf (star_of t) (sloop_of x)) a.1 i)
         ];
     all = λ j u h s.
         elim (at-more ts t j u h) [
           | inl a ↦ let f = w.all j u a s in (f.0, f.1, at-before cs (c ∷ []) f.0 f.1 f.2, f.3)
-          | inr a ↦ (length cs, c, at-last cs c, subst (λ (x : Star). IsCircleOf (star_of x) (loop_of c)) a.1 i)
+          | inr a ↦ (length cs, c, at-last cs c, subst (λ (x : Star). IsCircleOf (star_of x) (sloop_of c)) a.1 i)
         ];
     small = at-all (λ (x : SLoop). IsAtMost normal_limit (vector_of x.normal)) (cs ++ c ∷ []) (λ k d h.
         elim (at-more cs c k d h) [

@@ -28,7 +28,7 @@ use Rattle.nef_star.specs.Stars.{star_of, left_of, left_at, sector_count, IsRayB
 use Rattle.nef_star.proofs.RayOrder.{ray-below-self}
 use Rattle.nef_star.proofs.Needed.{true_or_false}
 use Rattle.nef_smap.specs.declared.map.RawStars.{RawStars}
-use Rattle.nef_smap.specs.Maps.{loop_of, raw_of, IsRawStars}
+use Rattle.nef_smap.specs.Maps.{sloop_of, raw_of, IsRawStars}
 use Rattle.nef_spair.proofs.OneKind.{back-opposite}
 use Rattle.nef_spair.proofs.FromPieces.{none-some}
 use Rattle.nef_spair.proofs.Answered.{HasLabels}
@@ -115,18 +115,18 @@ straight-star t q r e f small level thin normal same ahead behind =
 -- ---- one label everywhere
 everywhere : (r : RawStars) (l : Label) → r.stars ≡ [] → r.sloop ≡ None → r.ground ≡ Some l → IsRawOf (raw_of r) (λ (d : Vector). l)
 everywhere r l e f g =
-    let no_star : (raw_of r).stars ≡ [] = ap (map star_of) e in let no_loop : (raw_of r).loop ≡ None = ap (option_map loop_of) f in
+    let no_star : (raw_of r).stars ≡ [] = ap (map star_of) e in let no_sloop : (raw_of r).sloop ≡ None = ap (option_map sloop_of) f in
     record {
       stars = λ k t a. absurd (nothing k t a);
       ordered = λ i k x y h a. absurd (nothing i x a);
       smooth = λ d h a. plain l (record { at_d = refl; near = λ x. (0, λ k h. refl) });
-      loop_normal = λ c h. absurd (none-some (raw_of r).loop c no_loop h);
-      loop_lowest = λ c h. absurd (none-some (raw_of r).loop c no_loop h);
-      loop_bare = λ c h. absurd (none-some (raw_of r).loop c no_loop h);
-      loop_labels = λ c y h. absurd (none-some (raw_of r).loop c no_loop h);
-      loop_all = λ n y a m b h i j proper s. absurd (improper n y a m b h proper s);
+      sloop_normal = λ c h. absurd (none-some (raw_of r).sloop c no_sloop h);
+      sloop_lowest = λ c h. absurd (none-some (raw_of r).sloop c no_sloop h);
+      sloop_bare = λ c h. absurd (none-some (raw_of r).sloop c no_sloop h);
+      sloop_labels = λ c y h. absurd (none-some (raw_of r).sloop c no_sloop h);
+      sloop_all = λ n y a m b h i j proper s. absurd (improper n y a m b h proper s);
       ground_alone = λ h i. (l, g);
-      ground_not = λ m h. (no_star, no_loop);
+      ground_not = λ m h. (no_star, no_sloop);
       ground_label = λ m d h i. let k : Some l ≡ Some m = sym g ∙ h in cc;
     }
   where

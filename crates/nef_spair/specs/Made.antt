@@ -19,7 +19,7 @@ pub record IsMadeOf (p : Pieces) (m : SphereMap) : Type 0 where
   pub arcs : AreArcs p.kept.items (length p.kept.items) 0 m.arcs
   pub ordered : InOrder IsArcBelow m.arcs
   pub sloop : MatchOption m.sloop ((c : SLoop) → IsChosen p.kept.items p.circles.items p.sloop c → ⊥) (IsChosen p.kept.items p.circles.items p.sloop)
-  pub ground : m.svertices ≡ [] → m.sloop ≡ None → m.ground ≡ p.face
+  pub ground : m.svertices ≡ [] → m.sloop ≡ None → m.ground ≡ p.ground
   pub ground_not : (l : Label) → m.ground ≡ Some l → (m.svertices ≡ []) × (m.sloop ≡ None)
 
 -- the map is made of the pieces of the simplified stars

@@ -5,16 +5,16 @@ use Rattle.nef_space.specs.Limits.{normal_limit}
 use Rattle.nef_space.specs.Vectors.{IsAtMost}
 use Rattle.nef_space.specs.declared.label.Label.{Label}
 use Rattle.nef_geo.specs.Shapes.{vector_of}
-use Rattle.law_sphere.specs.Maps.{At, Loop}
+use Rattle.law_sphere.specs.Maps.{At, MapSloop}
 use Rattle.law_sphere.specs.Stars.{Star as PlainStar, IsPlain, IsStraight, IsSimplified}
 use Rattle.law_sphere.specs.Builds.{Proper}
 use Rattle.law_build.specs.Raw.{IsBare}
-use Rattle.law_build.specs.From.{loop_at, IsRawLabel}
+use Rattle.law_build.specs.From.{sloop_at, IsRawLabel}
 use Rattle.nef_star.specs.declared.star.Star.{Star}
 use Rattle.nef_star.specs.Stars.{star_of, IsStar, IsKept}
 use Rattle.nef_smap.specs.declared.map.SLoop.{SLoop}
 use Rattle.nef_smap.specs.declared.map.RawStars.{RawStars}
-use Rattle.nef_smap.specs.Maps.{loop_of, raw_of}
+use Rattle.nef_smap.specs.Maps.{sloop_of, raw_of}
 use Rattle.nef_spair.specs.declared.pieces.Pieces.{Pieces}
 
 -- s is t without needless rays
@@ -37,25 +37,25 @@ AreOthers P [] ys = ys ≡ []
 AreOthers {A} P (x ∷ xs) ys = ((P x → ⊥) × (zs : List A) × (ys ≡ x ∷ zs) × AreOthers P xs zs) ⊎ (P x × AreOthers P xs ys)
 
 -- the circle of a straight star
-abbrev pub IsCircleOf : PlainStar → Loop → Type 0
-IsCircleOf t l = (s : IsStraight t) × (l ≡ loop_at t s)
+abbrev pub IsCircleOf : PlainStar → MapSloop → Type 0
+IsCircleOf t l = (s : IsStraight t) × (l ≡ sloop_at t s)
 
 -- the circles of the straight stars
 pub record AreCircles (ts : List Star) (cs : List SLoop) : Type 0 where
-  pub from : (k : ℕ) (c : SLoop) → At cs k c → (j : ℕ) × (t : Star) × At ts j t × IsCircleOf (star_of t) (loop_of c)
-  pub all : (j : ℕ) (t : Star) → At ts j t → IsStraight (star_of t) → (k : ℕ) × (c : SLoop) × At cs k c × IsCircleOf (star_of t) (loop_of c)
+  pub from : (k : ℕ) (c : SLoop) → At cs k c → (j : ℕ) × (t : Star) × At ts j t × IsCircleOf (star_of t) (sloop_of c)
+  pub all : (j : ℕ) (t : Star) → At ts j t → IsStraight (star_of t) → (k : ℕ) × (c : SLoop) × At cs k c × IsCircleOf (star_of t) (sloop_of c)
   pub small : All (λ c. IsAtMost normal_limit (vector_of c.normal)) cs
 
 -- one of the labels of a raw map, where it has one
-abbrev pub IsFaceOf : RawStars → Option Label → Type 0
-IsFaceOf r o = MatchOption o ((r.ground ≡ None) × (r.stars ≡ []) × (r.sloop ≡ None)) (IsRawLabel (raw_of r))
+abbrev pub IsGroundOf : RawStars → Option Label → Type 0
+IsGroundOf r o = MatchOption o ((r.ground ≡ None) × (r.stars ≡ []) × (r.sloop ≡ None)) (IsRawLabel (raw_of r))
 
 pub record ArePiecesOf (r : RawStars) (p : Pieces) : Type 0 where
   pub mark : p.mark ≡ r.mark
   pub kept : AreOthers IsDropped r.stars p.kept.items
   pub circles : AreCircles r.stars p.circles.items
   pub sloop : p.sloop ≡ r.sloop
-  pub face : IsFaceOf r p.face
+  pub ground : IsGroundOf r p.ground
 
 -- no star has its axis on the circle
 abbrev pub IsBareCircle : List Star → SLoop → Type 0

@@ -52,12 +52,12 @@ fn svertices_of(alloc: Global, kept: &[Star]) -> Result<Vec<SVertex>, OutOfMemor
 }
 
 // The label of the one face, where there is neither svertex nor sloop.
-fn ground_of(svertices: &[SVertex], sloop: Option<SLoop>, face: Option<Label>) -> Option<Label>
-    ensures alone { svertices.now ≡ [] → sloop ≡ None → result ≡ face }
+fn ground_of(svertices: &[SVertex], sloop: Option<SLoop>, ground: Option<Label>) -> Option<Label>
+    ensures alone { svertices.now ≡ [] → sloop ≡ None → result ≡ ground }
     ensures only { (l : Label) → result ≡ Some l → (svertices.now ≡ []) × (sloop ≡ None) }
 {
     if svertices.is_empty() && sloop.is_none() {
-        face
+        ground
     } else {
         None
     }
@@ -72,7 +72,7 @@ pub(crate) fn map_of_pieces(alloc: Global, pieces: Pieces) -> Result<SphereMap, 
     let mut arcs = arcs_of(alloc, &pieces.kept)?;
     sort_arcs(&mut arcs);
     let sloop = sloop_of(&pieces);
-    let ground = ground_of(&svertices, sloop, pieces.face);
+    let ground = ground_of(&svertices, sloop, pieces.ground);
     Ok(SphereMap {
         mark: pieces.mark,
         svertices: List::from_vec(svertices),

@@ -12,5 +12,5 @@ pub(crate) struct Pieces {
     pub(crate) kept: Vec<Star>,
     pub(crate) circles: Vec<SLoop>,
     pub(crate) sloop: Option<SLoop>,
-    pub(crate) face: Option<Label>,
+    pub(crate) ground: Option<Label>,
 }

@@ -8,8 +8,8 @@ ghost use Rattle.nef_space.specs.Limits.{normal_limit};
 ghost use Rattle.nef_space.specs.Vectors.{IsAtMost};
 ghost use Rattle.nef_geo.specs.Shapes.{vector_of};
 ghost use Rattle.nef_star.specs.Stars.{star_of, IsStar};
-ghost use Rattle.nef_smap.specs.Maps.{loop_of, raw_of, IsRawStars};
-ghost use Rattle.nef_spair.specs.Pieces.{IsDropped, AreOthers, IsCircleOf, AreCircles, AreSimple, IsFaceOf, ArePiecesOf};
+ghost use Rattle.nef_smap.specs.Maps.{sloop_of, raw_of, IsRawStars};
+ghost use Rattle.nef_spair.specs.Pieces.{IsDropped, AreOthers, IsCircleOf, AreCircles, AreSimple, IsGroundOf, ArePiecesOf};
 
 use crate::OutOfMemory;
 use crate::pieces::Pieces;
@@ -34,7 +34,7 @@ pub(crate) fn simplified(stars: List<Star>) -> List<Star>
 fn circle_of(star: &Star) -> SLoop
     requires star { IsStar star.now }
     requires straight { IsStraight (star_of star.now) }
-    ensures circle { IsCircleOf (star_of star.now) (loop_of result) }
+    ensures circle { IsCircleOf (star_of star.now) (sloop_of result) }
     ensures small { IsAtMost normal_limit (vector_of result.normal) }
 {
     SLoop {
@@ -47,7 +47,7 @@ fn circle_of(star: &Star) -> SLoop
 
 // One of the labels of a raw map.
 fn some_label(raw: &RawStars) -> Option<Label>
-    ensures face { IsFaceOf raw.now result }
+    ensures ground { IsGroundOf raw.now result }
 {
     if raw.ground.is_some() {
         return raw.ground;
@@ -81,13 +81,13 @@ pub(crate) fn pieces_of(alloc: Global, raw: RawStars) -> Result<Pieces, OutOfMem
     requires stars { All IsStar raw.stars }
     ensures pieces { IfOk result (ArePiecesOf raw) }
 {
-    let face = some_label(&raw);
+    let ground = some_label(&raw);
     let (kept, circles) = parted(alloc, raw.stars)?;
     Ok(Pieces {
         mark: raw.mark,
         kept,
         circles,
         sloop: raw.sloop,
-        face,
+        ground,
     })
 }

@@ -10,7 +10,7 @@ use Rattle.law_cyclic.specs.Arcs.{IsOnCircle, IsStrictlyOn, Passes}
 use Rattle.law_cyclic.proofs.Directions.{level_cross_first}
 use Rattle.law_sphere.specs.Maps.{At}
 use Rattle.law_cyclic.specs.Arcs.{IsStrictlyOn}
-use Rattle.law_sphere.specs.Stars.{Ray as PlainRay, ray_way, NextRay, StarLabel, on_ray, in_sector, in_only_sector}
+use Rattle.law_sphere.specs.Stars.{Ray as PlainRay, ray_dir, NextRay, StarLabel, on_ray, in_sector, in_only_sector}
 use Rattle.law_near.proofs.Flats.{vector-same}
 use Rattle.nef_star.specs.declared.star.Ray.{Ray}
 use Rattle.nef_star.specs.declared.star.Star.{Star}
@@ -74,7 +74,7 @@ turned n a = vector-same (cross a n) (way a (opposite n)) (one a.y n.z a.z n.y) 
     one : (p q r s : ℤ) → p *ℤ q -ℤ r *ℤ s ≡ neg_ℤ s *ℤ r -ℤ neg_ℤ q *ℤ p
     one p q r s = ring (p ∷ q ∷ r ∷ s ∷ []) (at 0 ⊗ at 1 ⊖ at 2 ⊗ at 3) (neg (at 3) ⊗ at 2 ⊖ neg (at 1) ⊗ at 0) tt
 
-way-of : (t : Star) (r : Ray) → ray_way (star_of t) (ray_of r) ≡ way (vector_of t.axis) (left_of r)
+way-of : (t : Star) (r : Ray) → ray_dir (star_of t) (ray_of r) ≡ way (vector_of t.axis) (left_of r)
 way-of t r = by r.ahead
   where
     by : (b : Bool) → cond b (cross (vector_of r.normal) (vector_of t.axis)) (cross (vector_of t.axis) (vector_of r.normal)) ≡ way (vector_of t.axis) (cond b (vector_of r.normal) (opposite (vector_of r.normal)))
@@ -109,8 +109,8 @@ module _ (t : Star) (T : IsTurned t) (e : Vector) (off : IsDirection (cross (vec
   pub left-on : IsOnCircle (vector_of t.axis) (cross (vector_of t.axis) e)
   left-on = record { direction = off; level = level_cross_first (vector_of t.axis) e }
 
-  at-way : (k : ℕ) (p : PlainRay) (r : IsRayAt t.rays.items k p) → ray_way (star_of t) p ≡ way (vector_of t.axis) (left_at t.rays.items k)
-  at-way k p r = ap (ray_way (star_of t)) (sym r.is) ∙ way-of t r.ray ∙ ap (way (vector_of t.axis)) r.left
+  at-way : (k : ℕ) (p : PlainRay) (r : IsRayAt t.rays.items k p) → ray_dir (star_of t) p ≡ way (vector_of t.axis) (left_at t.rays.items k)
+  at-way k p r = ap (ray_dir (star_of t)) (sym r.is) ∙ way-of t r.ray ∙ ap (way (vector_of t.axis)) r.left
 
   on-left : (k : ℕ) → k < length t.rays.items → IsOnCircle (vector_of t.axis) (left_at t.rays.items k)
   on-left k h = T.counterclockwise.circle k h
@@ -119,7 +119,7 @@ module _ (t : Star) (T : IsTurned t) (e : Vector) (off : IsDirection (cross (vec
   length-rays = length-map t.rays.items ray_of
 
   from-sector : (k j : ℕ) (q r : PlainRay) (l : Label) → k < length t.rays.items → IsRayAt t.rays.items k q → IsNext (length t.rays.items) k j → j < length t.rays.items → IsRayAt t.rays.items j r
-      → IsStrictlyOn (vector_of t.axis) (ray_way (star_of t) q) (ray_way (star_of t) r) (way (vector_of t.axis) (cross (vector_of t.axis) e)) → At t.sectors.items k l → LeftGives t (cross (vector_of t.axis) e) l
+      → IsStrictlyOn (vector_of t.axis) (ray_dir (star_of t) q) (ray_dir (star_of t) r) (way (vector_of t.axis) (cross (vector_of t.axis) e)) → At t.sectors.items k l → LeftGives t (cross (vector_of t.axis) e) l
   from-sector k j q r l h qk x i rj p s =
       of_sector k j h x
       (passes-way (vector_of t.axis) axis _ _ _ (on-left k h) left-on (on-left j i) (rw (← at-way k q qk, ← at-way j r rj) (passes _ _ _ _ p)))

@@ -8,14 +8,14 @@ use Rattle.nef_space.specs.Sets.{Set}
 use Rattle.nef_space.specs.Vectors.{Vector, IsDirection, IsAtMost}
 use Rattle.nef_space.specs.declared.label.Label.{Label}
 use Rattle.nef_geo.specs.Shapes.{vector_of}
-use Rattle.law_sphere.specs.Maps.{At, Svertex, Loop, MapLabel, loop_item}
+use Rattle.law_sphere.specs.Maps.{At, MapVertex, MapSloop, MapLabel, sloop_item}
 use Rattle.law_sphere.specs.Forms.{forms}
 use Rattle.law_sphere.specs.Least.{Cone}
 use Rattle.law_sphere.specs.Stars.{Star as PlainStar}
-use Rattle.law_sphere.proofs.Arcs.{at-loop}
+use Rattle.law_sphere.proofs.Arcs.{at-sloop}
 use Rattle.law_build.specs.Raw.{IsLabelling, IsRawOf}
 use Rattle.law_border.specs.Topology.{Topology, set_by, IsTopologyMap, MarkLabel}
-use Rattle.law_border.specs.Marks.{label_from, face_label, loop_by, map_labels, IsRemarkedAt, IsTopologyRaw}
+use Rattle.law_border.specs.Marks.{label_from, face_label, sloop_by, map_labels, IsRemarkedAt, IsTopologyRaw}
 use Rattle.law_build.proofs.KeptStars.{at-other}
 use Rattle.law_border.proofs.RawTopology.{topology-stars}
 use Rattle.law_border.proofs.MarkMade.{topology-mark}
@@ -25,41 +25,41 @@ use Rattle.nef_star.specs.Stars.{star_of, IsStar}
 use Rattle.nef_smap.specs.declared.map.SLoop.{SLoop}
 use Rattle.nef_smap.specs.declared.map.SphereMap.{SphereMap}
 use Rattle.nef_smap.specs.declared.map.RawStars.{RawStars}
-use Rattle.nef_smap.specs.Maps.{svertex_of, loop_of, map_of, raw_of, IsSphereMap, IsLeastMap, IsRawStars}
+use Rattle.nef_smap.specs.Maps.{svertex_of, sloop_of, map_of, raw_of, IsSphereMap, IsLeastMap, IsRawStars}
 use Rattle.nef_smap.proofs.Lists.{at-map}
 use Rattle.nef_spair.proofs.Places.{at-all}
 use Rattle.nef_stopo.specs.Stars.{AreRemarked}
 
 -- a circle was one with the same normal
-loop-was : (k : Topology) (r s : Option SLoop) (l : SLoop) → option_map loop_of r ≡ option_map (loop_by k) (option_map loop_of s) → r ≡ Some l
+sloop-was : (k : Topology) (r s : Option SLoop) (l : SLoop) → option_map sloop_of r ≡ option_map (sloop_by k) (option_map sloop_of s) → r ≡ Some l
     → (c : SLoop) × (s ≡ Some c) × (vector_of l.normal ≡ vector_of c.normal)
-loop-was k None s l e f = cc
-loop-was k (Some q) None l e f = cc
-loop-was k (Some q) (Some c) l e f =
+sloop-was k None s l e f = cc
+sloop-was k (Some q) None l e f = cc
+sloop-was k (Some q) (Some c) l e f =
     let g : q ≡ l = cc in
-    let h : loop_of q ≡ loop_by k (loop_of c) = cc in
-    (c, refl, subst (λ (x : SLoop). vector_of x.normal ≡ vector_of c.normal) g (ap (λ (x : Loop). x.normal) h))
+    let h : sloop_of q ≡ sloop_by k (sloop_of c) = cc in
+    (c, refl, subst (λ (x : SLoop). vector_of x.normal ≡ vector_of c.normal) g (ap (λ (x : MapSloop). x.normal) h))
 
 module _ (k : Topology) (m : SphereMap) (S : IsSphereMap m) (r : RawStars) (mark : r.mark ≡ label_from k m.mark (map_labels (map_of m))) (M : AreRemarked k m (length m.svertices) r.stars)
-    (sloop : option_map loop_of r.sloop ≡ option_map (loop_by k) (option_map loop_of m.sloop)) (ground : r.ground ≡ option_map (face_label k) m.ground) where
+    (sloop : option_map sloop_of r.sloop ≡ option_map (sloop_by k) (option_map sloop_of m.sloop)) (ground : r.ground ≡ option_map (face_label k) m.ground) where
   is-star : (i : ℕ) (u : Star) → At r.stars i u → IsStar u
   is-star i u a = let v = at-other r.stars m.svertices i u M.as_many a in (M.stars i v.0 u v.1 a).0
 
   circle-small : (l : SLoop) → r.sloop ≡ Some l → IsAtMost normal_limit (vector_of l.normal)
   circle-small l e =
-      let c = loop-was k r.sloop m.sloop l sloop e in
+      let c = sloop-was k r.sloop m.sloop l sloop e in
       let N = map_of m in
-      let i = at-loop N.arcs N.loop (loop_of c.0) (ap (option_map loop_of) c.1) in
-      subst (IsAtMost normal_limit) (sym c.2) (S.small.normals i.0 (loop_item (loop_of c.0)) i.1)
+      let i = at-sloop N.arcs N.sloop (sloop_of c.0) (ap (option_map sloop_of) c.1) in
+      subst (IsAtMost normal_limit) (sym c.2) (S.small.normals i.0 (sloop_item (sloop_of c.0)) i.1)
 
   pub raw-stars : IsRawStars r
   raw-stars = record { stars = at-all IsStar r.stars is-star; circle_small = circle-small }
 
-  star-remarked : (i : ℕ) (v : Svertex) (u : PlainStar) → At (map svertex_of m.svertices) i v → At (map star_of r.stars) i u → IsRemarkedAt k (map_of m) v.way u
+  star-remarked : (i : ℕ) (v : MapVertex) (u : PlainStar) → At (map svertex_of m.svertices) i v → At (map star_of r.stars) i u → IsRemarkedAt k (map_of m) v.dir u
   star-remarked i v u a b =
       let w = at-map svertex_of m.svertices i v a in
       let x = at-map star_of r.stars i u b in
-      subst (λ (y : Svertex). IsRemarkedAt k (map_of m) y.way u) w.2
+      subst (λ (y : MapVertex). IsRemarkedAt k (map_of m) y.dir u) w.2
       (subst (IsRemarkedAt k (map_of m) (vector_of w.0.dir)) x.2 (M.stars i w.0 x.0 w.1 x.1).1)
 
   pub topology-raw : IsTopologyRaw k (map_of m) (raw_of r)
@@ -67,8 +67,8 @@ module _ (k : Topology) (m : SphereMap) (S : IsSphereMap m) (r : RawStars) (mark
     mark = mark;
     as_many = length-map r.stars star_of ∙ M.as_many ∙ sym (length-map m.svertices svertex_of);
     stars = star-remarked;
-    loop = sloop;
-    face = ground;
+    sloop = sloop;
+    ground = ground;
   }
 
 -- ---- what is built

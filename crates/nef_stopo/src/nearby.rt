@@ -3,9 +3,9 @@
 ghost use Rattle.std.specs.Prelude.{◌≡◌, List, [], ◌∷◌, ◌++◌, map};
 ghost use Rattle.nef_space.specs.declared.label.Label.{Label};
 ghost use Rattle.law_sphere.specs.Forms.{gather};
-ghost use Rattle.law_border.specs.Marks.{is_in, ray_mark, star_labels, svertex_labels, arc_labels, loop_labels, option_labels, map_labels};
+ghost use Rattle.law_border.specs.Marks.{is_in, ray_mark, star_labels, svertex_labels, arc_labels, sloop_labels, option_labels, map_labels};
 ghost use Rattle.nef_star.specs.Stars.{ray_of, star_of};
-ghost use Rattle.nef_smap.specs.Maps.{svertex_of, arc_of, loop_of, map_of};
+ghost use Rattle.nef_smap.specs.Maps.{svertex_of, arc_of, sloop_of, map_of};
 ghost use Rattle.std.specs.Prelude.{option_map};
 ghost use Rattle.nef_stopo.specs.Labels.{nearby_of};
 
@@ -125,7 +125,7 @@ fn near_arcs(arcs: &[SArc]) -> Nearby
 }
 
 fn near_circle(circle: Option<SLoop>) -> Nearby
-    ensures { result ≡ nearby_of (loop_labels (option_map loop_of circle)) }
+    ensures { result ≡ nearby_of (sloop_labels (option_map sloop_of circle)) }
 {
     match circle {
         Some(circle) => near_item(circle.pos, circle.mark, circle.neg),

@@ -1,8 +1,8 @@
 //! The operations of topology, and what each makes of labels.
 
 ghost use Rattle.std.specs.Prelude.{◌≡◌, option_map};
-ghost use Rattle.law_border.specs.Marks.{in_by, label_by, face_label, loop_by};
-ghost use Rattle.nef_smap.specs.Maps.{loop_of};
+ghost use Rattle.law_border.specs.Marks.{in_by, label_by, face_label, sloop_by};
+ghost use Rattle.nef_smap.specs.Maps.{sloop_of};
 ghost use Rattle.nef_stopo.specs.Labels.{topology_of};
 
 use crate::nearby::{Nearby, is_in};
@@ -57,7 +57,7 @@ impl Topology {
 
     // The circle with what its labels become.
     fn circle(self, circle: SLoop) -> SLoop
-        ensures circle { loop_of result ≡ loop_by (topology_of self) (loop_of circle) }
+        ensures circle { sloop_of result ≡ sloop_by (topology_of self) (sloop_of circle) }
     {
         let near = Nearby::of(circle.pos).and(Nearby::of(circle.neg));
         SLoop {
@@ -70,7 +70,7 @@ impl Topology {
 
     /// The sloop, if there is one, with what its labels become.
     pub(crate) fn sloop(self, sloop: Option<SLoop>) -> Option<SLoop>
-        ensures sloop { option_map loop_of result ≡ option_map (loop_by (topology_of self)) (option_map loop_of sloop) }
+        ensures sloop { option_map sloop_of result ≡ option_map (sloop_by (topology_of self)) (option_map sloop_of sloop) }
     {
         sloop.map(|circle| self.circle(circle))
     }

@@ -6,7 +6,7 @@ use Rattle.nef_space.specs.Vectors.{Vector, opposite, SameDirection, plane_dir}
 use Rattle.law_forms.proofs.Between.{place-toward}
 use Rattle.law_forms.proofs.Directions.{dot-zero, direction-left, direction-right}
 use Rattle.law_sphere.specs.Maps.{At, Item, items, item_normal, OnItem}
-use Rattle.law_sphere.proofs.Compare.{SameDirection-turned, SameDirection-trans, way-self}
+use Rattle.law_sphere.proofs.Compare.{SameDirection-turned, SameDirection-trans, dir-self}
 use Rattle.law_sphere.proofs.Forms.{on-direction, on-level}
 use Rattle.law_sphere.proofs.Lists.{at-one}
 use Rattle.law_complex.specs.Complexes.{Vertex, Complex, Corner, IsCorner}
@@ -90,7 +90,7 @@ module _ (s : Set) (C : Complex) (S : Shows s C) where
       let x = L.item in
       let d = inward_of x in
       let N = link-is C j v x L.corner l M in
-      let some = opposite-same d d (way-self d (on-direction v.map x d L.inward)) in
+      let some = opposite-same d d (dir-self d (on-direction v.map x d L.inward)) in
       let level = (through-level (item_normal x) (opposite d) v.point).0 (level-back (item_normal x) d (on-level v.map x d L.inward)) in
       one-named s C S (item_plane v x) v.point d (direction-left (opposite d) (opposite d) some) level k l L.named N.1
 
@@ -100,7 +100,7 @@ module _ (s : Set) (C : Complex) (S : Shows s C) where
       let n = one-vertex s C S k j.vertex w v a b.vertex e in
       let f = at-one C.vertices j.vertex w v (subst (λ (r : ℕ). At C.vertices r w) n a) b.vertex in
       let listed = subst (λ (r : Vertex). At r.map.svertices i u) f t in
-      (S.cones j.vertex v b.vertex).valid.shaped.no_svertex_on_item i j.item u x listed b.item (on-turned v.map x d u.way (SameDirection-turned u.way d q) o)
+      (S.cones j.vertex v b.vertex).valid.shaped.no_svertex_on_item i j.item u x listed b.item (on-turned v.map x d u.dir (SameDirection-turned u.dir d q) o)
 
 -- ---- the tie of a link
 abbrev pub tie_to : ℕ → ℕ → ProgramCorner → Tie

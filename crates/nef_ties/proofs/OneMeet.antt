@@ -15,13 +15,13 @@ use Rattle.law_near.proofs.Flats.{vector-same}
 use Rattle.law_near.proofs.PlaceOrder.{place_below-apart}
 use Rattle.law_near.proofs.Rays.{same-place_sym}
 use Rattle.law_sphere.specs.Forms.{forms}
-use Rattle.law_sphere.specs.Maps.{At, Svertex, Arc, arc_item, items, OnItem, Map, way_of, Shaped}
+use Rattle.law_sphere.specs.Maps.{At, MapVertex, Arc, arc_item, items, OnItem, Map, dir_of, Shaped}
 use Rattle.law_sphere.proofs.Arcs.{at-arc, Ends, ends-of}
 use Rattle.law_sphere.proofs.Around.{Beside, same_way, other_way, beside}
-use Rattle.law_sphere.proofs.Compare.{SameDirection-turned, SameDirection-trans, way-self}
+use Rattle.law_sphere.proofs.Compare.{SameDirection-turned, SameDirection-trans, dir-self}
 use Rattle.law_sphere.proofs.Generic.{amount}
 use Rattle.law_sphere.proofs.Lists.{at-one}
-use Rattle.law_sphere.proofs.Shot.{way-at}
+use Rattle.law_sphere.proofs.Shot.{dir-at}
 use Rattle.law_sphere.proofs.Vectors.{dot-comb}
 use Rattle.law_complex.specs.Complexes.{Vertex, Edge, Complex, Corner, HasEnds, IsEdge}
 use Rattle.law_complex.specs.Shows.{Shows}
@@ -55,49 +55,49 @@ ray-cases p x z d a b = ⊎_elim (λ e. inr (inl e)) (λ o. by (beside (toward x
 
 -- ---- arcs beside a svertex
 -- of one plane one arc leaves a svertex on one side
-module _ (M : Map) (V : Shaped M) (j : ℕ) (u : Svertex) (b : At M.svertices j u) (n f : Vector) (some : IsDirection f) (level : dot n f ≡ pos 0) where
+module _ (M : Map) (V : Shaped M) (j : ℕ) (u : MapVertex) (b : At M.svertices j u) (n f : Vector) (some : IsDirection f) (level : dot n f ≡ pos 0) where
   abbrev K : ℕ
   K = amount (forms M) f
 
   abbrev c : Vector
-  c = blend K u.way 1 f
+  c = blend K u.dir 1 f
 
   module _ (p : Place) (i : ℕ) (a : Arc) (l : At M.arcs i a) (w : SameDirection a.normal n) where
     abbrev at_point : Vertex
     at_point = record { point = p; map = M }
 
-    svertex-way : way_of M.svertices j ≡ u.way
-    svertex-way = way-at M.svertices j u b
+    svertex-dir : dir_of M.svertices j ≡ u.dir
+    svertex-dir = dir-at M.svertices j u b
 
     listed : At (items M) i (arc_item a)
-    listed = at-arc M.arcs M.loop i a l
+    listed = at-arc M.arcs M.sloop i a l
 
     arc-ends : Ends M a
     arc-ends = ends-of M V i a l
 
-    level-close : dot a.normal u.way ≡ pos 0 → dot a.normal c ≡ pos 0
-    level-close z = dot-comb a.normal (pos K) u.way (pos 1) f ∙ ap (λ r. pos K *ℤ r +ℤ pos 1 *ℤ dot a.normal f) z
+    level-close : dot a.normal u.dir ≡ pos 0 → dot a.normal c ≡ pos 0
+    level-close z = dot-comb a.normal (pos K) u.dir (pos 1) f ∙ ap (λ r. pos K *ℤ r +ℤ pos 1 *ℤ dot a.normal f) z
         ∙ ap (λ r. pos K *ℤ pos 0 +ℤ pos 1 *ℤ r) (level-kept n a.normal f (SameDirection-turned a.normal n w) level) ∙ ring (pos K ∷ []) (at 0 ⊗ num (pos 0) ⊕ num (pos 1) ⊗ num (pos 0)) (num (pos 0)) tt
 
     turned : IsArcOnSide at_point j n f a → IsArcOnSide at_point j a.normal f a
-    turned o = side-turned at_point j n a.normal f f a (SameDirection-turned a.normal n w) (way-self f some) o
+    turned o = side-turned at_point j n a.normal f f a (SameDirection-turned a.normal n w) (dir-self f some) o
 
     pub met : IsArcOnSide at_point j n f a → OnItem M (arc_item a) c
     met o = ⊎_elim from to (turned o)
       where
-        from : (a.source ≡ j) × (pos 0 <ℤ triple a.normal (way_of M.svertices j) f) → OnItem M (arc_item a) c
+        from : (a.source ≡ j) × (pos 0 <ℤ triple a.normal (dir_of M.svertices j) f) → OnItem M (arc_item a) c
         from (e, h) = source-meets M V j u b f K (omega arith) i a listed
-            (level-close (subst (λ (r : Vector). dot a.normal r ≡ pos 0) svertex-way (subst (λ (k : ℕ). dot a.normal (way_of M.svertices k) ≡ pos 0) e arc-ends.source_level)))
-            e (subst (λ (r : Vector). pos 0 <ℤ triple a.normal r f) svertex-way h)
+            (level-close (subst (λ (r : Vector). dot a.normal r ≡ pos 0) svertex-dir (subst (λ (k : ℕ). dot a.normal (dir_of M.svertices k) ≡ pos 0) e arc-ends.source_level)))
+            e (subst (λ (r : Vector). pos 0 <ℤ triple a.normal r f) svertex-dir h)
 
-        to : (a.target ≡ j) × (triple a.normal (way_of M.svertices j) f <ℤ pos 0) → OnItem M (arc_item a) c
+        to : (a.target ≡ j) × (triple a.normal (dir_of M.svertices j) f <ℤ pos 0) → OnItem M (arc_item a) c
         to (e, h) = target-meets M V j u b f K (omega arith) i a listed
-            (level-close (subst (λ (r : Vector). dot a.normal r ≡ pos 0) svertex-way (subst (λ (k : ℕ). dot a.normal (way_of M.svertices k) ≡ pos 0) e arc-ends.target_level)))
-            e (subst (λ (r : Vector). triple a.normal r f <ℤ pos 0) svertex-way h)
+            (level-close (subst (λ (r : Vector). dot a.normal r ≡ pos 0) svertex-dir (subst (λ (k : ℕ). dot a.normal (dir_of M.svertices k) ≡ pos 0) e arc-ends.target_level)))
+            e (subst (λ (r : Vector). triple a.normal r f <ℤ pos 0) svertex-dir h)
 
   pub one-arc : (p : Place) (i k : ℕ) (a e : Arc) → At M.arcs i a → At M.arcs k e → SameDirection a.normal n → SameDirection e.normal n
       → IsArcOnSide (record { point = p; map = M }) j n f a → IsArcOnSide (record { point = p; map = M }) j n f e → i ≡ k
-  one-arc p i k a e l m w r o q = V.no_items_meet i k (arc_item a) (arc_item e) c (at-arc M.arcs M.loop i a l) (at-arc M.arcs M.loop k e m) (met p i a l w o) (met p k e m r q)
+  one-arc p i k a e l m w r o q = V.no_items_meet i k (arc_item a) (arc_item e) c (at-arc M.arcs M.sloop i a l) (at-arc M.arcs M.sloop k e m) (met p i a l w o) (met p k e m r q)
 
 corners-same : (j k : Corner) → j.vertex ≡ k.vertex → j.item ≡ k.item → j ≡ k
 corners-same j k e f = ap (λ n. make n j.item) e ∙ ap (λ n. make k.vertex n) f
@@ -117,11 +117,11 @@ module _ (s : Set) (C : Complex) (S : Shows s C) where
 
   -- the way of an edge
   module _ (e : Edge) (E : IsEdge C.vertices e) where
-    way-is : way_of E.low_vertex.map.svertices e.low_svertex ≡ E.low_end.way
-    way-is = way-at E.low_vertex.map.svertices e.low_svertex E.low_end E.leaves
+    way-is : dir_of E.low_vertex.map.svertices e.low_svertex ≡ E.low_end.dir
+    way-is = dir-at E.low_vertex.map.svertices e.low_svertex E.low_end E.leaves
 
-    flat-on : IsZero (cross E.low_end.way E.low_end.way)
-    flat-on = (way-self E.low_end.way ((shaped e.low E.low_vertex E.is_low).svertex_ways e.low_svertex E.low_end E.leaves)).parallel
+    flat-on : IsZero (cross E.low_end.dir E.low_end.dir)
+    flat-on = (dir-self E.low_end.dir ((shaped e.low E.low_vertex E.is_low).svertex_dirs e.low_svertex E.low_end E.leaves)).parallel
 
   module _ (i k : ℕ) (e f : Edge) (E : IsEdge C.vertices e) (F : IsEdge C.vertices f) (z : Place) (a : At C.edges i e) (c : At C.edges k f)
       (b : IsBetween E.low_vertex.point z E.high_vertex.point) (d : IsBetween F.low_vertex.point z F.high_vertex.point) where
@@ -132,10 +132,10 @@ module _ (s : Set) (C : Complex) (S : Shows s C) where
     low_f = F.low_vertex.point
 
     abbrev way_e : Vector
-    way_e = E.low_end.way
+    way_e = E.low_end.dir
 
     abbrev way_f : Vector
-    way_f = F.low_end.way
+    way_f = F.low_end.dir
 
     to-e : SameDirection (toward low_e z) way_e
     to-e = SameDirection-trans (toward low_e z) (toward low_e E.high_vertex.point) way_e (between-way low_e z E.high_vertex.point b) E.ahead

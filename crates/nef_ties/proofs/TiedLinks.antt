@@ -57,7 +57,7 @@ module _ (C : Complex) where
   met-in : (h : Form) (f : Vector) (m : PlaneMeet) (k : Corner) → IsCornerAt C h f m k → IsCellIn (map count_items C.vertices) (cell_of k)
   met-in h f (meets_vertex i) k (v, x, e, c, r, o) = cell-in k v x c
   met-in h f (meets_edge i) k (e, v, a, l, p, b, t, r, o) =
-      cell-in k v (arc_item a) (record { vertex = subst (λ (j : ℕ). At C.vertices j v) (sym p) b; item = at-arc v.map.arcs v.map.loop k.item a t })
+      cell-in k v (arc_item a) (record { vertex = subst (λ (j : ℕ). At C.vertices j v) (sym p) b; item = at-arc v.map.arcs v.map.sloop k.item a t })
 
   pub across-in : (j k : Corner) → LinkAcross C j k → IsCellIn (map count_items C.vertices) (cell_of j) × IsCellIn (map count_items C.vertices) (cell_of k)
   across-in j k L =
@@ -69,8 +69,8 @@ module _ (C : Complex) where
       let A = L.along in
       let v = A.low_vertex in
       let w = A.high_vertex in (
-        cell-in j v (arc_item A.low_arc) (record { vertex = subst (λ (i : ℕ). At C.vertices i v) (sym L.from_low) A.ends.low; item = at-arc v.map.arcs v.map.loop j.item A.low_arc A.is_low }),
-        cell-in k w (arc_item A.high_arc) (record { vertex = subst (λ (i : ℕ). At C.vertices i w) (sym L.to_high) A.ends.high; item = at-arc w.map.arcs w.map.loop k.item A.high_arc A.is_high }),
+        cell-in j v (arc_item A.low_arc) (record { vertex = subst (λ (i : ℕ). At C.vertices i v) (sym L.from_low) A.ends.low; item = at-arc v.map.arcs v.map.sloop j.item A.low_arc A.is_low }),
+        cell-in k w (arc_item A.high_arc) (record { vertex = subst (λ (i : ℕ). At C.vertices i w) (sym L.to_high) A.ends.high; item = at-arc w.map.arcs w.map.sloop k.item A.high_arc A.is_high }),
       )
 
   -- ---- the ties of links along edges

@@ -3,12 +3,12 @@ use Rattle.std.proofs.Common.{◌≡◌, ℕ, List, map, length, Option, Some, N
 use Rattle.nef_space.specs.Vectors.{Vector, IsNormal}
 use Rattle.nef_geo.specs.Shapes.{vector_of}
 use Rattle.law_sphere.specs.Vectors.{IsPrimitive, VectorBelow}
-use Rattle.law_sphere.specs.Maps.{At, Svertex, Arc, Loop, Item, arc_item, loop_item, items, item_normal}
+use Rattle.law_sphere.specs.Maps.{At, MapVertex, Arc, MapSloop, Item, arc_item, sloop_item, items, item_normal}
 use Rattle.law_sphere.specs.Least.{InOrder, ArcBelow, Ordered}
 use Rattle.law_sphere.proofs.Shot.{arc-at}
-use Rattle.law_sphere.proofs.Arcs.{loop-at}
+use Rattle.law_sphere.proofs.Arcs.{sloop-at}
 use Rattle.law_build.proofs.BuiltAxes.{at-map, map-at}
-use Rattle.nef_smap.specs.Maps.{svertex_of, arc_of, loop_of, map_of}
+use Rattle.nef_smap.specs.Maps.{svertex_of, arc_of, sloop_of, map_of}
 use Rattle.nef_smap.specs.declared.map.SLoop.{SLoop}
 use Rattle.nef_smap.specs.declared.map.SphereMap.{SphereMap}
 use Rattle.nef_smap.proofs.Primitive.{dir-primitive}
@@ -24,12 +24,12 @@ pub record IsMade (k : ℕ) (m n : SphereMap) (us : List Moved) (ns : List ℕ) 
   pub numbers : AreNumbers (length us) us ns
   pub svertices : AreImages IsOfMoved (length us) us n.svertices
   pub arcs : AreTurnedArcs k ns m.arcs n.arcs
-  pub sloop : IsTurnedOption k (option_map loop_of m.sloop) (option_map loop_of n.sloop)
+  pub sloop : IsTurnedOption k (option_map sloop_of m.sloop) (option_map sloop_of n.sloop)
   pub upward : (l : SLoop) → n.sloop ≡ Some l → IsNormal (vector_of l.normal)
   pub mark : n.mark ≡ m.mark
   pub ground : n.ground ≡ m.ground
 
-sloop-from : (o : Option SLoop) (l : Loop) → option_map loop_of o ≡ Some l → (s : SLoop) × (o ≡ Some s) × (loop_of s ≡ l)
+sloop-from : (o : Option SLoop) (l : MapSloop) → option_map sloop_of o ≡ Some l → (s : SLoop) × (o ≡ Some s) × (sloop_of s ≡ l)
 sloop-from None l e = cc
 sloop-from (Some s) l e = (s, refl, cc)
 
@@ -43,12 +43,12 @@ module _ (k : ℕ) (m n : SphereMap) (us : List Moved) (ns : List ℕ) (I : IsMa
       let (i, x, d, (flip, t, up)) = I.arcs.each j y c in
       subst (λ (r : Arc). Good r.normal) e (dir-primitive y.normal, up)
 
-  loop-good : (l : Loop) → option_map loop_of n.sloop ≡ Some l → Good l.normal
-  loop-good l e = let (s, f, g) = sloop-from n.sloop l e in subst (λ (r : Loop). Good r.normal) g (dir-primitive s.normal, I.upward s f)
+  sloop-good : (l : MapSloop) → option_map sloop_of n.sloop ≡ Some l → Good l.normal
+  sloop-good l e = let (s, f, g) = sloop-from n.sloop l e in subst (λ (r : MapSloop). Good r.normal) g (dir-primitive s.normal, I.upward s f)
 
   item-good : (j : ℕ) (y : Item) → At (items (map_of n)) j y → Good (item_normal y)
-  item-good j (arc_item b) a = arc-good j b (arc-at (map arc_of n.arcs) (option_map loop_of n.sloop) j b a)
-  item-good j (loop_item l) a = loop-good l (loop-at (map arc_of n.arcs) (option_map loop_of n.sloop) j l a)
+  item-good j (arc_item b) a = arc-good j b (arc-at (map arc_of n.arcs) (option_map sloop_of n.sloop) j b a)
+  item-good j (sloop_item l) a = sloop-good l (sloop-at (map arc_of n.arcs) (option_map sloop_of n.sloop) j l a)
 
   arcs-in_order : InOrder ArcBelow (map arc_of n.arcs)
   arcs-in_order i j a b l p q =
@@ -56,13 +56,13 @@ module _ (k : ℕ) (m n : SphereMap) (us : List Moved) (ns : List ℕ) (I : IsMa
       let (y, d, f) = at-map arc_of n.arcs j b q in
       subst (λ (r : Arc). ArcBelow r b) e (subst (λ (r : Arc). ArcBelow (arc_of x) r) f (I.arcs.ordered i j x y l c d))
 
-  ways-in_order : InOrder (λ (u v : Svertex). VectorBelow u.way v.way) (map svertex_of n.svertices)
+  ways-in_order : InOrder (λ (u v : MapVertex). VectorBelow u.dir v.dir) (map svertex_of n.svertices)
   ways-in_order i j u v l p q =
       let (x, c, e) = at-map svertex_of n.svertices i u p in
       let (y, d, f) = at-map svertex_of n.svertices j v q in
       let (s, g, h) = I.svertices.each i x c in
       let (t, r, w) = I.svertices.each j y d in
-      subst (λ (z : Svertex). VectorBelow z.way v.way) (ap svertex_of (sym h) ∙ e) (subst (λ (z : Svertex). VectorBelow (svertex_of s.svertex).way z.way) (ap svertex_of (sym w) ∙ f) (I.moved.ordered i j s t l g r))
+      subst (λ (z : MapVertex). VectorBelow z.dir v.dir) (ap svertex_of (sym h) ∙ e) (subst (λ (z : MapVertex). VectorBelow (svertex_of s.svertex).dir z.dir) (ap svertex_of (sym w) ∙ f) (I.moved.ordered i j s t l g r))
 
   pub made-lists : HasTurnedLists k (map_of m) (map_of n)
   made-lists = record {
@@ -70,7 +70,7 @@ module _ (k : ℕ) (m n : SphereMap) (us : List Moved) (ns : List ℕ) (I : IsMa
     svertices = λ i v a.
         let (x, b, e) = at-map svertex_of m.svertices i v a in
         let (y, c, q) = placed k m.svertices us ns I.moved I.numbers n.svertices I.svertices i x b in
-        subst (λ (r : Svertex). At (map svertex_of n.svertices) (number_in ns i) r) (q ∙ ap (turned_svertex k) e) (map-at svertex_of n.svertices (number_in ns i) y c);
+        subst (λ (r : MapVertex). At (map svertex_of n.svertices) (number_in ns i) r) (q ∙ ap (turned_svertex k) e) (map-at svertex_of n.svertices (number_in ns i) y c);
     svertices_from = λ j u a.
         let (y, c, e) = at-map svertex_of n.svertices j u a in
         let (w, d, f) = I.svertices.each j y c in
@@ -84,16 +84,16 @@ module _ (k : ℕ) (m n : SphereMap) (us : List Moved) (ns : List ℕ) (I : IsMa
         let (y, c, e) = at-map arc_of n.arcs j b l in
         let (i, x, d, (flip, t, up)) = I.arcs.each j y c in
         (i, arc_of x, flip, map-at arc_of m.arcs i x d, subst (λ (r : Arc). IsTurnedArc k (number_in ns) flip (arc_of x) r) e t);
-    loop = I.sloop;
+    sloop = I.sloop;
     normals = λ j y a. (item-good j y a).1;
     arcs_ordered = arcs-in_order;
     mark = I.mark;
-    same_face = I.ground;
+    same_ground = I.ground;
   }
 
   pub made-ordered : Ordered (map_of n)
   made-ordered = record {
-    ways_lowest = λ j u a. let (y, c, e) = at-map svertex_of n.svertices j u a in subst (λ (r : Svertex). IsPrimitive r.way) e (dir-primitive y.dir);
+    dirs_lowest = λ j u a. let (y, c, e) = at-map svertex_of n.svertices j u a in subst (λ (r : MapVertex). IsPrimitive r.dir) e (dir-primitive y.dir);
     normals_lowest = λ j y a. (item-good j y a).0;
     svertices = ways-in_order;
     arcs = arcs-in_order;

@@ -6,7 +6,7 @@ use Rattle.std.proofs.lemmas.List.{get_or-set_same, get_or-set_other}
 use Rattle.std.proofs.lemmas.List.Sorted.{length_permutation}
 use Rattle.std.specs.List.Sorted.{IsPermutation}
 use Rattle.nef_geo.specs.Shapes.{vector_of}
-use Rattle.law_sphere.specs.Maps.{At, Svertex, Shaped}
+use Rattle.law_sphere.specs.Maps.{At, MapVertex, Shaped}
 use Rattle.law_sphere.specs.Least.{InOrder}
 use Rattle.law_sphere.proofs.Lists.{at-one}
 use Rattle.law_build.proofs.BuiltAxes.{map-at}
@@ -27,7 +27,7 @@ use Rattle.nef_turn.proofs.Sorting.{was-listed, still-listed}
 use Rattle.nef_turn.proofs.Orders.{moved-apart}
 
 way-of : (k : ℕ) (u : Moved) (v : SVertex) → svertex_of u.svertex ≡ turned_svertex k (svertex_of v) → vector_of u.svertex.dir ≡ turned_vector k (vector_of v.dir)
-way-of k u v e = ap (λ (r : Svertex). r.way) e
+way-of k u v e = ap (λ (r : MapVertex). r.dir) e
 
 -- ---- in order
 module _ (k : ℕ) (m : SphereMap) (V : Shaped (map_of m)) (us : List Moved) (I : AreImages (IsMoved k) (length m.svertices) m.svertices us) where

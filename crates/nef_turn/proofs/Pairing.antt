@@ -6,7 +6,7 @@ use Rattle.nef_space.specs.Sets.{Set}
 use Rattle.nef_space.specs.Vectors.{Vector, IsAtMost}
 use Rattle.nef_geo.specs.Shapes.{form_of}
 use Rattle.nef_geo.specs.declared.plane.Plane.{Plane}
-use Rattle.law_sphere.specs.Maps.{At, Svertex, Map, Shaped}
+use Rattle.law_sphere.specs.Maps.{At, MapVertex, Map, Shaped}
 use Rattle.law_sphere.specs.Least.{Ordered}
 use Rattle.law_build.proofs.BuiltAxes.{at-map, map-at}
 use Rattle.nef_smap.specs.Maps.{map_of, IsSmall, IsLeastMap}
@@ -33,7 +33,7 @@ module _ (k : ℕ) where
   small-turned M N V R S = record {
     svertices = λ j u a.
         let (v, b, e, i) = svertex-from k M N V R j u a in
-        subst (λ (r : Svertex). IsAtMost svertex_limit r.way) (sym e) (at_most-turned k false svertex_limit v.way (S.svertices (R.vertex_back j) v b));
+        subst (λ (r : MapVertex). IsAtMost svertex_limit r.dir) (sym e) (at_most-turned k false svertex_limit v.dir (S.svertices (R.vertex_back j) v b));
     normals = λ j y a.
         let (x, b, t, i) = item-from k M N V R j y a in
         subst (λ (r : Vector). IsAtMost normal_limit r) (sym (item-normal k M N V R (R.flip (R.item_back j)) x y t)) (at_most-turned k (R.flip (R.item_back j)) normal_limit _ (S.normals (R.item_back j) x b));

@@ -3,7 +3,7 @@ use Rattle.std.proofs.Common.{ℕ, List, map, length, arith, ap, ◌∙◌, subs
 use Rattle.std.proofs.lemmas.List.{length-map}
 use Rattle.std.specs.List.Sorted.{IsPermutation}
 use Rattle.nef_geo.specs.Shapes.{vector_of}
-use Rattle.law_sphere.specs.Maps.{At, Svertex, Shaped}
+use Rattle.law_sphere.specs.Maps.{At, MapVertex, Shaped}
 use Rattle.law_sphere.specs.Least.{InOrder}
 use Rattle.law_build.proofs.BuiltAxes.{at-map, map-at}
 use Rattle.nef_smap.specs.Maps.{svertex_of, arc_of, map_of}
@@ -29,11 +29,11 @@ module _ (k : ℕ) (m : SphereMap) (V : Shaped (map_of m)) (ns : List ℕ) (R : 
       let e = length-map m.svertices svertex_of in
       (omega (arith, s, c, e), omega (arith, t, c, e))
 
-  has : (i : ℕ) (v : Svertex) → At (map svertex_of m.svertices) i v → At (map svertex_of R.svertices) (number_in ns i) (turned_svertex k v)
+  has : (i : ℕ) (v : MapVertex) → At (map svertex_of m.svertices) i v → At (map svertex_of R.svertices) (number_in ns i) (turned_svertex k v)
   has i v a =
       let (w, b, e) = at-map svertex_of m.svertices i v a in
       let (u, c, q) = R.placed i w b in
-      subst (λ (r : Svertex). At (map svertex_of R.svertices) (number_in ns i) r) (q ∙ ap (turned_svertex k) e) (map-at svertex_of R.svertices (number_in ns i) u c)
+      subst (λ (r : MapVertex). At (map svertex_of R.svertices) (number_in ns i) r) (q ∙ ap (turned_svertex k) e) (map-at svertex_of R.svertices (number_in ns i) u c)
 
   plain : (a b : SArc) → IsArcImage k ns 0 a b → IsPlainImage k (number_in ns) (arc_of a) (arc_of b)
   plain a b (flip, t, n) = (flip, t, n, dir-primitive b.normal)

@@ -7,7 +7,7 @@ use Rattle.nef_geo.specs.declared.plane.Plane.{Plane}
 use Rattle.law_sphere.specs.Vectors.{VectorBelow}
 use Rattle.law_sphere.specs.Maps.{At}
 use Rattle.law_sphere.specs.Least.{InOrder, Ordered}
-use Rattle.nef_smap.specs.Maps.{svertex_of, arc_of, loop_of, map_of, IsLeastMap}
+use Rattle.nef_smap.specs.Maps.{svertex_of, arc_of, sloop_of, map_of, IsLeastMap}
 use Rattle.nef_smap.specs.declared.map.SVertex.{SVertex}
 use Rattle.nef_smap.specs.declared.map.SArc.{SArc}
 use Rattle.nef_smap.specs.declared.map.SLoop.{SLoop}
@@ -15,7 +15,7 @@ use Rattle.nef_complex.specs.declared.complex.Vertex.{Vertex}
 use Rattle.nef_spair.specs.Arcs.{IsArcBelow}
 use Rattle.law_turns.specs.Turned.{turned_plane, turned_place}
 use Rattle.law_turns.specs.Complexes.{signed_form}
-use Rattle.law_turns.specs.Maps.{turned_svertex, IsTurnedArc, IsTurnedLoop, IsTurnedMap}
+use Rattle.law_turns.specs.Maps.{turned_svertex, IsTurnedArc, IsTurnedSloop, IsTurnedMap}
 use Rattle.nef_turn.specs.declared.moved.Moved.{Moved}
 
 -- ---- carriers
@@ -80,8 +80,8 @@ pub record AreTurnedArcs (k : ℕ) (ns : List ℕ) (arcs images : List SArc) : T
   pub all : (i : ℕ) (a : SArc) → At arcs i a → (j : ℕ) × (b : SArc) × At images j b × IsArcImage k ns 0 a b
   pub ordered : InOrder IsArcBelow images
 
-abbrev pub IsLoopImage : ℕ → SLoop → SLoop → Type 0
-IsLoopImage k l m = (flip : Bool) × IsTurnedLoop k flip (loop_of l) (loop_of m) × IsNormal (vector_of m.normal)
+abbrev pub IsSloopImage : ℕ → SLoop → SLoop → Type 0
+IsSloopImage k l m = (flip : Bool) × IsTurnedSloop k flip (sloop_of l) (sloop_of m) × IsNormal (vector_of m.normal)
 
 -- ---- vertices
 abbrev pub IsVertexImage : ℕ → ℕ → Vertex → Vertex → Type 0

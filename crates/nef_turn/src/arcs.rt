@@ -7,11 +7,11 @@ ghost use Rattle.nef_space.specs.Vectors.{IsNormal};
 ghost use Rattle.nef_geo.specs.Shapes.{vector_of};
 ghost use Rattle.law_sphere.specs.Least.{InOrder};
 ghost use Rattle.law_sphere.specs.Maps.{Shaped};
-ghost use Rattle.nef_smap.specs.Maps.{loop_of, map_of};
+ghost use Rattle.nef_smap.specs.Maps.{sloop_of, map_of};
 ghost use Rattle.nef_spair.specs.Arcs.{IsArcBelow, IsTwin, AreApart};
 ghost use Rattle.law_turns.specs.Maps.{IsTurnedOption};
 ghost use Rattle.nef_turn.specs.Images.{AreImages};
-ghost use Rattle.nef_turn.specs.Turning.{HasEnds, HaveEnds, IsArcImage, IsLoopImage, Renumbers, AreTurnedArcs};
+ghost use Rattle.nef_turn.specs.Turning.{HasEnds, HaveEnds, IsArcImage, IsSloopImage, Renumbers, AreTurnedArcs};
 
 use crate::OutOfMemory;
 use crate::turn::Turn;
@@ -110,8 +110,8 @@ pub(crate) fn turned_arcs(
 }
 
 // The turned sloop. The normal form exchanges the sides where it is opposite to the turned normal.
-fn turned_loop(turn: &Turn, sloop: &SLoop) -> SLoop
-    ensures turned { IsLoopImage turn.now.number sloop.now result }
+fn turned_sloop(turn: &Turn, sloop: &SLoop) -> SLoop
+    ensures turned { IsSloopImage turn.now.number sloop.now result }
 {
     let normal = turned_normal(turn, &sloop.normal);
     let (pos, neg) = exchanged_if(normal.flipped, sloop.pos, sloop.neg);
@@ -125,11 +125,11 @@ fn turned_loop(turn: &Turn, sloop: &SLoop) -> SLoop
 
 /// The turned sloop, if there is one.
 pub(crate) fn turned_sloop(turn: &Turn, sloop: Option<SLoop>) -> Option<SLoop>
-    ensures turned { IsTurnedOption turn.now.number (option_map loop_of sloop) (option_map loop_of result) }
+    ensures turned { IsTurnedOption turn.now.number (option_map sloop_of sloop) (option_map sloop_of result) }
     ensures normal { IfSome result (λ l. IsNormal (vector_of l.normal)) }
 {
     match sloop {
-        Some(sloop) => Some(turned_loop(turn, &sloop)),
+        Some(sloop) => Some(turned_sloop(turn, &sloop)),
         None => None,
     }
 }

@@ -19,8 +19,8 @@ use Rattle.nef_smap.specs.declared.map.SArc.{SArc}
 use Rattle.nef_smap.specs.declared.map.SLoop.{SLoop}
 use Rattle.nef_smap.specs.contracts.map.SVertexPartialEq.TheImpl.{eq-value as svertex_eq}
 use Rattle.nef_smap.specs.contracts.map.SArcPartialEq.TheImpl.{eq-value as arc_eq}
-use Rattle.nef_smap.specs.contracts.map.SLoopPartialEq.TheImpl.{eq-value as loop_eq}
-use Rattle.nef_unique.proofs.Injective.{dir-one, svertex-equal, arc-equal, loop-equal}
+use Rattle.nef_smap.specs.contracts.map.SLoopPartialEq.TheImpl.{eq-value as sloop_eq}
+use Rattle.nef_unique.proofs.Injective.{dir-one, svertex-equal, arc-equal, sloop-equal}
 
 -- the test says whether two values are equal
 abbrev pub IsTest : (A : Type 0) → (A → A → Bool) → Type 0
@@ -102,12 +102,12 @@ arc-decides a b =
     (Decides-and _ _ (Decides-eqb a.source b.source) (Decides-and _ _ (Decides-eqb a.target b.target) (Decides-and _ _ (dir-decides a.normal b.normal)
     (Decides-and _ _ (label-decides a.mark b.mark) (Decides-and _ _ (label-decides a.pos b.pos) (label-decides a.neg b.neg))))))
 
-abbrev pub loop_test : SLoop → SLoop → Bool
-loop_test = loop_eq.it
+abbrev pub sloop_test : SLoop → SLoop → Bool
+sloop_test = sloop_eq.it
 
-pub loop-decides : IsTest SLoop loop_test
-loop-decides l k =
-    Decides-like (loop_test l k)
-    (λ h. loop-equal l k h.0 h.1.0 h.1.1.0 h.1.1.1)
+pub sloop-decides : IsTest SLoop sloop_test
+sloop-decides l k =
+    Decides-like (sloop_test l k)
+    (λ h. sloop-equal l k h.0 h.1.0 h.1.1.0 h.1.1.1)
     (λ h. (ap (λ (r : SLoop). r.normal) h, (ap (λ (r : SLoop). r.mark) h, (ap (λ (r : SLoop). r.pos) h, ap (λ (r : SLoop). r.neg) h))))
     (Decides-and _ _ (dir-decides l.normal k.normal) (Decides-and _ _ (label-decides l.mark k.mark) (Decides-and _ _ (label-decides l.pos k.pos) (label-decides l.neg k.neg))))

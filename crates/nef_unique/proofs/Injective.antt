@@ -6,9 +6,9 @@ use Rattle.nef_space.specs.declared.label.Label.{Label}
 use Rattle.nef_geo.specs.Shapes.{vector_of}
 use Rattle.nef_geo.specs.declared.dir.Dir.{Dir}
 use Rattle.nef_geo.proofs.Unique.{same_directions_equal}
-use Rattle.law_sphere.specs.Maps.{Svertex, Arc, Loop, Map}
-use Rattle.law_sphere.proofs.Compare.{way-self}
-use Rattle.nef_smap.specs.Maps.{svertex_of, arc_of, loop_of, map_of}
+use Rattle.law_sphere.specs.Maps.{MapVertex, Arc, MapSloop, Map}
+use Rattle.law_sphere.proofs.Compare.{dir-self}
+use Rattle.nef_smap.specs.Maps.{svertex_of, arc_of, sloop_of, map_of}
 use Rattle.nef_smap.specs.declared.map.SVertex.{SVertex}
 use Rattle.nef_smap.specs.declared.map.SArc.{SArc}
 use Rattle.nef_smap.specs.declared.map.SLoop.{SLoop}
@@ -36,7 +36,7 @@ option-one {A} f one (Some x) (Some y) e = let h : f x ≡ f y = cc in ap (λ (r
 
 -- ---- what a map holds
 pub dir-one : (d e : Dir) → vector_of d ≡ vector_of e → d ≡ e
-dir-one d e q = same_directions_equal d e (subst (SameDirection (vector_of d)) q (way-self (vector_of d) d.some))
+dir-one d e q = same_directions_equal d e (subst (SameDirection (vector_of d)) q (dir-self (vector_of d) d.some))
 
 pub svertex-equal : (v u : SVertex) → v.dir ≡ u.dir → v.mark ≡ u.mark → v.around ≡ u.around → v ≡ u
 svertex-equal v u a b c =
@@ -44,8 +44,8 @@ svertex-equal v u a b c =
     ∙ ap (λ r. record { dir = u.dir; mark = r; around = v.around }) b
     ∙ ap (λ r. record { dir = u.dir; mark = u.mark; around = r }) c
 
-pub loop-equal : (l k : SLoop) → l.normal ≡ k.normal → l.mark ≡ k.mark → l.pos ≡ k.pos → l.neg ≡ k.neg → l ≡ k
-loop-equal l k n m f g =
+pub sloop-equal : (l k : SLoop) → l.normal ≡ k.normal → l.mark ≡ k.mark → l.pos ≡ k.pos → l.neg ≡ k.neg → l ≡ k
+sloop-equal l k n m f g =
     ap (λ r. record { normal = r; mark = l.mark; pos = l.pos; neg = l.neg }) n
     ∙ ap (λ r. record { normal = k.normal; mark = r; pos = l.pos; neg = l.neg }) m
     ∙ ap (λ r. record { normal = k.normal; mark = k.mark; pos = r; neg = l.neg }) f
@@ -85,23 +85,23 @@ map-equal m n a b c d e =
 
 -- ---- by what they stand for
 svertex-one : (v u : SVertex) → svertex_of v ≡ svertex_of u → v ≡ u
-svertex-one v u e = svertex-equal v u (dir-one v.dir u.dir (ap (λ (r : Svertex). r.way) e)) (ap (λ (r : Svertex). r.mark) e) (ap (λ (r : Svertex). r.around) e)
+svertex-one v u e = svertex-equal v u (dir-one v.dir u.dir (ap (λ (r : MapVertex). r.dir) e)) (ap (λ (r : MapVertex). r.mark) e) (ap (λ (r : MapVertex). r.around) e)
 
 arc-one : (a b : SArc) → arc_of a ≡ arc_of b → a ≡ b
 arc-one a b e =
     arc-equal a b (ap (λ (r : Arc). r.source) e) (ap (λ (r : Arc). r.target) e) (dir-one a.normal b.normal (ap (λ (r : Arc). r.normal) e))
-    (ap (λ (r : Arc). r.mark) e) (ap (λ (r : Arc). r.above) e) (ap (λ (r : Arc). r.below) e)
+    (ap (λ (r : Arc). r.mark) e) (ap (λ (r : Arc). r.pos) e) (ap (λ (r : Arc). r.neg) e)
 
-loop-one : (l k : SLoop) → loop_of l ≡ loop_of k → l ≡ k
-loop-one l k e = loop-equal l k (dir-one l.normal k.normal (ap (λ (r : Loop). r.normal) e)) (ap (λ (r : Loop). r.mark) e) (ap (λ (r : Loop). r.above) e) (ap (λ (r : Loop). r.below) e)
+sloop-one : (l k : SLoop) → sloop_of l ≡ sloop_of k → l ≡ k
+sloop-one l k e = sloop-equal l k (dir-one l.normal k.normal (ap (λ (r : MapSloop). r.normal) e)) (ap (λ (r : MapSloop). r.mark) e) (ap (λ (r : MapSloop). r.pos) e) (ap (λ (r : MapSloop). r.neg) e)
 
 pub map_of-one : (m n : SphereMap) → map_of m ≡ map_of n → m ≡ n
 map_of-one m n e =
     map-equal m n (ap (λ (r : Map). r.mark) e)
     (map-one svertex_of svertex-one m.svertices n.svertices (ap (λ (r : Map). r.svertices) e))
     (map-one arc_of arc-one m.arcs n.arcs (ap (λ (r : Map). r.arcs) e))
-    (option-one loop_of loop-one m.sloop n.sloop (ap (λ (r : Map). r.loop) e))
-    (ap (λ (r : Map). r.face) e)
+    (option-one sloop_of sloop-one m.sloop n.sloop (ap (λ (r : Map). r.sloop) e))
+    (ap (λ (r : Map). r.ground) e)
 
 -- ---- what a complex holds
 pub vertex-equal : (v u : Vertex) → v.point ≡ u.point → v.map ≡ u.map → v ≡ u

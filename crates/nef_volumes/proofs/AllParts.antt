@@ -3,7 +3,7 @@ use Rattle.std.proofs.Common.{◌≡◌, ℕ, List, [], ◌∷◌, map, arith, r
 use Rattle.nef_space.specs.Lists.{IsAt, Chained}
 use Rattle.nef_space.specs.declared.label.Label.{Label}
 use Rattle.nef_geo.specs.declared.plane.Plane.{Plane}
-use Rattle.law_sphere.specs.Maps.{At, Item, item_above, item_below}
+use Rattle.law_sphere.specs.Maps.{At, Item, item_pos, item_neg}
 use Rattle.nef_classes.proofs.ClassLists.{is-at_one, is-at_within}
 use Rattle.law_complex.specs.Complexes.{Vertex, Complex, Corner, IsCorner}
 use Rattle.law_complex.specs.Rays.{VertexSide, HasSideLabel}
@@ -11,7 +11,7 @@ use Rattle.nef_complex.specs.Complexes.{corner_of}
 use Rattle.nef_complex.specs.declared.complex.Corner.{Corner as ProgramCorner}
 use Rattle.law_links.specs.Links.{VolumeLink}
 use Rattle.nef_parts.specs.Cycles.{IsCycle, Cycles}
-use Rattle.nef_parts.specs.Numbers.{IsFacetOf, IsVolumeOf, VolumeNumbers, above_of, below_of, IsFacetAt, cycle_corners, IsFacet, IsParts}
+use Rattle.nef_parts.specs.Numbers.{IsFacetOf, IsVolumeOf, VolumeNumbers, pos_of, neg_of, IsFacetAt, cycle_corners, IsFacet, IsParts}
 use Rattle.nef_parts.specs.declared.parts.Cycle.{Cycle}
 use Rattle.nef_parts.specs.declared.parts.Facet.{Facet}
 use Rattle.nef_facets.specs.Facets.{IsFacetParts}
@@ -19,7 +19,7 @@ use Rattle.nef_volumes.specs.Labels.{AreVolumeLabels}
 use Rattle.nef_ties.specs.Carriers.{HasItem}
 use Rattle.nef_volumes.specs.Parts.{IsFirstCorner, HasFirst, AreFacetsOf}
 use Rattle.nef_volumes.proofs.Components.{numbered-item}
-use Rattle.nef_volumes.proofs.FacetSides.{chain-above, chain-below}
+use Rattle.nef_volumes.proofs.FacetSides.{chain-pos, chain-neg}
 use Rattle.nef_volumes.proofs.VolumeLabels.{numbered-side}
 
 module _ (C : Complex) (planes : List Plane) (marks : List Label) (cycles : List (List Cycle)) (facet_of : List (List ℕ))
@@ -60,8 +60,8 @@ module _ (C : Complex) (planes : List Plane) (marks : List Label) (cycles : List
           through = q.0;
           normal = q.1;
           mark = F.marks n f.mark k v x (A.mark n f a) p K;
-          above = same-volume (above_of (corner_of r.0)) (above_of k) (item_above x) f.pos B.0 (v, K.vertex, (x, K.item, refl)) (chain-above C (corner_of r.0) k c);
-          below = same-volume (below_of (corner_of r.0)) (below_of k) (item_below x) f.neg B.1 (v, K.vertex, (x, K.item, refl)) (chain-below C (corner_of r.0) k c);
+          pos = same-volume (pos_of (corner_of r.0)) (pos_of k) (item_pos x) f.pos B.0 (v, K.vertex, (x, K.item, refl)) (chain-pos C (corner_of r.0) k c);
+          neg = same-volume (neg_of (corner_of r.0)) (neg_of k) (item_neg x) f.neg B.1 (v, K.vertex, (x, K.item, refl)) (chain-neg C (corner_of r.0) k c);
         }
 
     facet-is : (n : ℕ) (f : Facet) → IsAt fs n f → IsFacet C (record { facets = fs; volumes = ls; facet_of = facet_of; volume_of = rows }) n f

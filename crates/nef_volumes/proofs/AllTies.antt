@@ -4,7 +4,7 @@ use Rattle.std.specs.List.{Contains}
 use Rattle.std.proofs.lemmas.List.Elements.{Contains-append_left, Contains-append_right}
 use Rattle.nef_space.specs.Sets.{Set}
 use Rattle.nef_space.specs.Vectors.{opposite, up}
-use Rattle.law_sphere.specs.Maps.{At, Side, around_svertex, above_item, below_item, Sees}
+use Rattle.law_sphere.specs.Maps.{At, Side, around_svertex, pos_item, neg_item, Sees}
 use Rattle.law_sphere.proofs.Lists.{at-one}
 use Rattle.nef_classes.proofs.Chains.{chain-trans, chain-turned}
 use Rattle.law_complex.specs.Complexes.{Vertex, Edge, Complex, Corner}
@@ -12,7 +12,7 @@ use Rattle.law_complex.specs.Shows.{Shows}
 use Rattle.law_complex.specs.Rays.{VertexSide, RayDown}
 use Rattle.nef_classes.specs.Tables.{AreTied}
 use Rattle.nef_classes.specs.declared.table.Tie.{Tie}
-use Rattle.law_links.specs.Links.{LinkAlong, LinkAcross, IsSideOf, LinkInSface, AreSidesAlong, above_arcs, below_arcs, around_ends, LinkAcrossFacet, LinkDown, LinkOutside, VolumeLink}
+use Rattle.law_links.specs.Links.{LinkAlong, LinkAcross, IsSideOf, LinkInSface, AreSidesAlong, pos_arcs, neg_arcs, around_ends, LinkAcrossFacet, LinkDown, LinkOutside, VolumeLink}
 use Rattle.nef_ties.specs.Ties.{cell_of}
 use Rattle.nef_volumes.specs.Ties.{outside_cell, AreLinks, AreTiedSides, AreTiesOf, AreTiedOutside, AreTiesDown, LinkOfItems, LinkOfEnds, LinkOfFacets, AreTiedCorners, AreItemTies}
 use Rattle.nef_volumes.proofs.SideCells.{tie-chain, more-tied, more-sides, both-links, links-as, one-cell}
@@ -40,7 +40,7 @@ items-tied_both C L M N ts us f g A B = ties-as C (λ x y. LinkOfItems C L x y �
     forth x y (inl (j, k, l, h)) = (j, k, g j k (inl l), h)
     forth x y (inr (j, k, l, h)) = (j, k, g j k (inr l), h)
 
-    back : (x y : VertexSide) (j k : Corner) → L j k ⊎ M j k → (IsSideOf C x j.vertex (above_item j.item) × IsSideOf C y k.vertex (above_item k.item)) ⊎ (IsSideOf C x j.vertex (below_item j.item) × IsSideOf C y k.vertex (below_item k.item)) → LinkOfItems C L x y ⊎ LinkOfItems C M x y
+    back : (x y : VertexSide) (j k : Corner) → L j k ⊎ M j k → (IsSideOf C x j.vertex (pos_item j.item) × IsSideOf C y k.vertex (pos_item k.item)) ⊎ (IsSideOf C x j.vertex (neg_item j.item) × IsSideOf C y k.vertex (neg_item k.item)) → LinkOfItems C L x y ⊎ LinkOfItems C M x y
     back x y j k (inl l) h = inl (j, k, l, h)
     back x y j k (inr l) h = inr (j, k, l, h)
 
@@ -57,21 +57,21 @@ module _ (C : Complex) where
     number = A.number;
     edge = A.edge;
     is_edge = A.is_edge;
-    low_side = above_item j.item;
-    high_side = above_item k.item;
-    is_low = at-low x j.vertex A.edge.low (above_item j.item) A.from_low f;
-    is_high = at-low y k.vertex A.edge.high (above_item k.item) A.to_high g;
-    along = above_arcs j.item k.item A.along refl refl;
+    low_side = pos_item j.item;
+    high_side = pos_item k.item;
+    is_low = at-low x j.vertex A.edge.low (pos_item j.item) A.from_low f;
+    is_high = at-low y k.vertex A.edge.high (pos_item k.item) A.to_high g;
+    along = pos_arcs j.item k.item A.along refl refl;
   }))
   of-items x y (j, k, inl A, inr (f, g)) = inr (inl (record {
     number = A.number;
     edge = A.edge;
     is_edge = A.is_edge;
-    low_side = below_item j.item;
-    high_side = below_item k.item;
-    is_low = at-low x j.vertex A.edge.low (below_item j.item) A.from_low f;
-    is_high = at-low y k.vertex A.edge.high (below_item k.item) A.to_high g;
-    along = below_arcs j.item k.item A.along refl refl;
+    low_side = neg_item j.item;
+    high_side = neg_item k.item;
+    is_low = at-low x j.vertex A.edge.low (neg_item j.item) A.from_low f;
+    is_high = at-low y k.vertex A.edge.high (neg_item k.item) A.to_high g;
+    along = neg_arcs j.item k.item A.along refl refl;
   }))
   of-items x y (j, k, inr A, h) = inr (inr (inl (record { here = j; there = k; across = A; sides = h })))
 
@@ -82,17 +82,17 @@ module _ (C : Complex) where
   ItemsOrEnds x y = LinkOfItems C (LinkOfFacets C) x y ⊎ LinkOfEnds C x y
 
   from-along : (x y : VertexSide) (n : ℕ) (e : Edge) → At C.edges n e → (o p : Side) → IsSideOf C x e.low o → IsSideOf C y e.high p → AreSidesAlong C e o p → ItemsOrEnds x y
-  from-along x y n e a o p f g (above_arcs i j A q r) = inl (
+  from-along x y n e a o p f g (pos_arcs i j A q r) = inl (
     record { vertex = e.low; item = i },
     record { vertex = e.high; item = j },
     inl (record { number = n; edge = e; is_edge = a; from_low = refl; to_high = refl; along = A }),
-    inl (as-side x e.low o (above_item i) q f, as-side y e.high p (above_item j) r g),
+    inl (as-side x e.low o (pos_item i) q f, as-side y e.high p (pos_item j) r g),
   )
-  from-along x y n e a o p f g (below_arcs i j A q r) = inl (
+  from-along x y n e a o p f g (neg_arcs i j A q r) = inl (
     record { vertex = e.low; item = i },
     record { vertex = e.high; item = j },
     inl (record { number = n; edge = e; is_edge = a; from_low = refl; to_high = refl; along = A }),
-    inr (as-side x e.low o (below_item i) q f, as-side y e.high p (below_item j) r g),
+    inr (as-side x e.low o (neg_item i) q f, as-side y e.high p (neg_item j) r g),
   )
   from-along x y n e a o p f g (around_ends q r) = inr (n, e, a, as-side x e.low o (around_svertex e.low_svertex) q f, as-side y e.high p (around_svertex e.high_svertex) r g)
 

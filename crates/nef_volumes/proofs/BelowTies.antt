@@ -10,7 +10,7 @@ use Rattle.law_near.proofs.Rays.{same-place_sym}
 use Rattle.law_cones.proofs.Smooth.{parallel-by}
 use Rattle.law_build.proofs.SideLabels.{normals-same_way}
 use Rattle.law_forms.proofs.Between.{between-same}
-use Rattle.law_sphere.specs.Maps.{At, item_normal, above_item, Side, way_of, HasSide, Sees, InOneSface, here, link}
+use Rattle.law_sphere.specs.Maps.{At, item_normal, pos_item, Side, dir_of, HasSide, Sees, InOneSface, here, link}
 use Rattle.law_sphere.proofs.Compare.{SameDirection-turned, SameDirection-trans}
 use Rattle.law_sphere.proofs.Forms.{on-level}
 use Rattle.law_sphere.proofs.Vectors.{normal-is}
@@ -62,12 +62,12 @@ module _ (s : Set) (C : Complex) (S : Shows s C) where
       }
 
   linked-near : (e : Edge) (x y : VertexSide) (v w : Vertex) (l m : Label) → At C.vertices e.low v → At C.vertices e.low w → x.vertex ≡ e.low → y.vertex ≡ e.low → HasSideLabel C x l → HasSideLabel C y m
-      → SeesNear v.map x.side (way_of v.map.svertices e.low_svertex) up → SeesNear w.map y.side (way_of w.map.svertices e.low_svertex) up → LinkInSface C x y
+      → SeesNear v.map x.side (dir_of v.map.svertices e.low_svertex) up → SeesNear w.map y.side (dir_of w.map.svertices e.low_svertex) up → LinkInSface C x y
   linked-near e x y v w l m a b f g h i (n, o) (k, p) =
       let one = at-one C.vertices e.low w v b a in
-      let d = blend (n + k) (way_of v.map.svertices e.low_svertex) 1 up in
+      let d = blend (n + k) (dir_of v.map.svertices e.low_svertex) 1 up in
       linked x y v l m (subst (λ (r : ℕ). At C.vertices r v) (sym f) a) (g ∙ sym f) h i d (o (n + k) (omega arith))
-      (subst (λ (r : Vertex). Sees r.map y.side (blend (n + k) (way_of r.map.svertices e.low_svertex) 1 up)) one (p (n + k) (omega arith)))
+      (subst (λ (r : Vertex). Sees r.map y.side (blend (n + k) (dir_of r.map.svertices e.low_svertex) 1 up)) one (p (n + k) (omega arith)))
 
   -- ---- where two rays end
   one-end : (p : Place) (x y : VertexSide) (R : RayDown C p x) (Q : RayDown C p y) → SamePlace Q.place R.place
@@ -169,13 +169,13 @@ module _ (s : Set) (C : Complex) (S : Shows s C) where
     same-above q z o (on_edge k) (on_edge j) p r (e, v, a, b, f, sx) (g, w, c, d, h, sy) =
         let i = edges-one k j q z e g o p r a c in
         linked-near e x y v w l m b (subst (λ (n : Edge). At C.vertices n.low w) (sym i) d) f (h ∙ ap (λ (n : Edge). n.low) (sym i)) has has_other sx
-        (subst (λ (n : Edge). SeesNear w.map y.side (way_of w.map.svertices n.low_svertex) up) (sym i) sy)
+        (subst (λ (n : Edge). SeesNear w.map y.side (dir_of w.map.svertices n.low_svertex) up) (sym i) sy)
     same-above q z o (on_edge k) (in_facet j) p r a (c, H, e, f) = absurd (off z c H k (inr (edge-like q z k o p)))
     same-above q z o (in_facet k) (at_vertex j) p r (c, H, e, f) b = absurd (off q c H j (inl (vertex-like z q j (same-place_sym q z o) r)))
     same-above q z o (in_facet k) (on_edge j) p r (c, H, e, f) b = absurd (off q c H j (inr (edge-like z q j (same-place_sym q z o) r)))
     same-above q z o (in_facet k) (in_facet j) p r (c, H, e, f) (d, K, g, h) =
         let i = corner-one z c d (corner-like C q z o c H) K in
-        linked-same x y l m (g ∙ ap (λ (n : Corner). n.vertex) (sym i) ∙ sym e) (f ∙ ap (λ (n : Corner). above_item n.item) i ∙ sym h) has has_other
+        linked-same x y l m (g ∙ ap (λ (n : Corner). n.vertex) (sym i) ∙ sym e) (f ∙ ap (λ (n : Corner). pos_item n.item) i ∙ sym h) has has_other
 
   -- TWO SIDES ABOVE THE POINT WHERE A RAY DOWN ENDS ARE OF ONE SFACE
   pub one-below : (p : Place) (x y : VertexSide) → RayDown C p x → RayDown C p y → LinkInSface C x y

@@ -13,7 +13,7 @@ use Rattle.nef_space.specs.declared.label.Label.TheVariants.{Out}
 use Rattle.nef_geo.specs.Shapes.{place_of}
 use Rattle.law_near.proofs.Alike.{FlatDim-one}
 use Rattle.law_near.proofs.Frames.{flat_dim-outside}
-use Rattle.law_sphere.specs.Maps.{At, arc_item, loop_item, Side, HasSide, Sees, here, link}
+use Rattle.law_sphere.specs.Maps.{At, arc_item, sloop_item, Side, HasSide, Sees, here, link}
 use Rattle.law_sphere.proofs.Arcs.{at-arc}
 use Rattle.law_sphere.proofs.Forms.{on-level}
 use Rattle.nef_smap.specs.declared.map.SphereMap.{SphereMap}
@@ -21,7 +21,7 @@ use Rattle.nef_smap.specs.declared.map.SPlace.TheVariants as place
 use Rattle.nef_smap.specs.Maps.{map_of, IsSphereMap}
 use Rattle.nef_smap.specs.Sides.{LabelledSide, sides_of, IsSide, SideSees, IsPlaceOf}
 use Rattle.nef_classes.proofs.ClassLists.{is-at_one}
-use Rattle.nef_smap.proofs.MapLists.{loop-listed}
+use Rattle.nef_smap.proofs.MapLists.{sloop-listed}
 use Rattle.nef_smap.proofs.SideLists.{side-has}
 use Rattle.nef_smap.proofs.SideNumbers.{number-one}
 use Rattle.nef_smap.proofs.Upward.{map-ahead, map-across}
@@ -52,16 +52,16 @@ turned u v z = (
 
 module _ (m : SphereMap) (S : IsSphereMap m) where
   pub no-svertex : (k : ℕ) → IsPlaceOf (map_of m) (opposite up) (place.SVertex k) → ⊥
-  no-svertex k (v, a, w) = map-across m S k v a (turned up v.way w.parallel)
+  no-svertex k (v, a, w) = map-across m S k v a (turned up v.dir w.parallel)
 
   never-level : (n : Vector) → pos 0 <ℤ dot n up → dot n (opposite up) ≡ pos 0 → ⊥
   never-level n p z = let e = dot-opposite n up in let f = sym e ∙ z in omega (arith, ints, p, f)
 
   pub not-on_arc : (k : ℕ) → IsPlaceOf (map_of m) (opposite up) (place.Arc k) → ⊥
-  not-on_arc k (a, h, o) = never-level a.normal (map-ahead m S k (arc_item a) (at-arc (map_of m).arcs (map_of m).loop k a h)) (on-level (map_of m) (arc_item a) (opposite up) o)
+  not-on_arc k (a, h, o) = never-level a.normal (map-ahead m S k (arc_item a) (at-arc (map_of m).arcs (map_of m).sloop k a h)) (on-level (map_of m) (arc_item a) (opposite up) o)
 
-  pub not-on_loop : IsPlaceOf (map_of m) (opposite up) place.Loop → ⊥
-  not-on_loop (l, e, o) = never-level l.normal (map-ahead m S (length m.arcs) (loop_item l) (loop-listed m.arcs m.sloop l e)) (on-level (map_of m) (loop_item l) (opposite up) o)
+  pub not-on_sloop : IsPlaceOf (map_of m) (opposite up) place.Loop → ⊥
+  not-on_sloop (l, e, o) = never-level l.normal (map-ahead m S (length m.arcs) (sloop_item l) (sloop-listed m.arcs m.sloop l e)) (on-level (map_of m) (sloop_item l) (opposite up) o)
 
 -- ---- vertices lie in the closed frame
 framed : (s : Set) (y : Place) → FlatDim s y 0 → InClosedFrame y

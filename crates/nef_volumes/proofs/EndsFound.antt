@@ -3,7 +3,7 @@ use Rattle.std.proofs.Common.{◌≡◌, ℕ, ◌<◌, length, map, Option, Some
 use Rattle.std.proofs.lemmas.List.{length-map}
 use Rattle.nef_space.specs.declared.label.Label.{Label}
 use Rattle.nef_space.specs.Sets.{Set}
-use Rattle.law_sphere.specs.Maps.{At, Svertex}
+use Rattle.law_sphere.specs.Maps.{At, MapVertex}
 use Rattle.law_sphere.proofs.Lists.{at-one}
 use Rattle.nef_smap.specs.declared.map.SVertex.{SVertex}
 use Rattle.nef_smap.specs.Maps.{svertex_of}
@@ -50,7 +50,7 @@ module _ (c : Complex) (i : ℕ) (u : ProgramVertex) (a : slice_get c.vertices i
   none-around sv e n b (v, x, l, f, g, h, m) =
       let d = subst (λ (w : Vertex). At w.map.svertices k x) (vertex-read c i u v a f) g in
       let one = at-one (map svertex_of u.map.svertices) k x (svertex_of sv) d (map-at svertex_of u.map.svertices k sv (at-from_get u.map.svertices k sv e)) in
-      some-none l (sym h ∙ ap (λ (r : Svertex). r.around) one ∙ n)
+      some-none l (sym h ∙ ap (λ (r : MapVertex). r.around) one ∙ n)
     where
       some-none : (m : Label) → ◌≡◌ {A = Option Label} (Some m) None → ⊥
       some-none m q = absurd cc

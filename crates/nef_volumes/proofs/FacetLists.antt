@@ -3,7 +3,7 @@ use Rattle.std.proofs.Common.{◌≡◌, ℕ, ◌<◌, ⊎_elim, List, [], ◌�
 use Rattle.nef_space.specs.Lists.{IsAt}
 use Rattle.nef_space.specs.declared.label.Label.{Label}
 use Rattle.nef_geo.specs.declared.plane.Plane.{Plane}
-use Rattle.law_sphere.specs.Maps.{At, items, item_above, item_below, HasSide}
+use Rattle.law_sphere.specs.Maps.{At, items, item_pos, item_neg, HasSide}
 use Rattle.nef_smap.specs.Maps.{map_of}
 use Rattle.nef_smap.specs.Sides.{sides_of}
 use Rattle.nef_smap.specs.SideNumbers.{number_of}
@@ -35,8 +35,8 @@ module _ (c : Complex) (k : PlainCorner) (h : HasItem (complex_of c) k) where
     item-within = at-within (items (map_of u.map)) k.item h.1 there
 
     side-has_label : (b : Bool) → (l : Label) × HasSide (map_of u.map) (side_at b k.item) l
-    side-has_label true = (item_above h.1, (h.1, there, refl))
-    side-has_label false = (item_below h.1, (h.1, there, refl))
+    side-has_label true = (item_pos h.1, (h.1, there, refl))
+    side-has_label false = (item_neg h.1, (h.1, there, refl))
 
     module _ (rows : List (List ℕ)) (N : VolumeNumbers (complex_of c) rows) (row : List ℕ) (i : IsAt rows k.vertex row) (b : Bool) (s : ℕ) (f : s ≡ number_of (map_of u.map) (side_at b k.item)) where
       pub side-within : s < length row

@@ -3,7 +3,7 @@ use Rattle.std.proofs.Common.{◌≡◌, ℕ, ◌⊎◌, inl, inr, List, [], map
 use Rattle.std.specs.List.{Contains}
 use Rattle.nef_space.specs.Lists.{IsAt}
 use Rattle.nef_space.specs.declared.label.Label.{Label}
-use Rattle.law_sphere.specs.Maps.{At, Item, items, item_above, item_below, Side, around_svertex, above_item, below_item, HasSide}
+use Rattle.law_sphere.specs.Maps.{At, Item, items, item_pos, item_neg, Side, around_svertex, pos_item, neg_item, HasSide}
 use Rattle.law_sphere.proofs.Lists.{at-one}
 use Rattle.nef_smap.specs.SideNumbers.{number_of}
 use Rattle.nef_smap.proofs.Lists.{at-map}
@@ -29,7 +29,7 @@ item-there C a w =
     let x = at-some (items r.0.map) a.column (omega (arith, n, l)) in
     (r.0, x.0, r.1, x.1)
 
-has-side : (v : Vertex) (k : ℕ) (x : Item) (b : Bool) → At (items v.map) k x → HasSide v.map (side_at b k) (cond b (item_above x) (item_below x))
+has-side : (v : Vertex) (k : ℕ) (x : Item) (b : Bool) → At (items v.map) k x → HasSide v.map (side_at b k) (cond b (item_pos x) (item_neg x))
 has-side v k x true i = (x, i, refl)
 has-side v k x false i = (x, i, refl)
 
@@ -62,7 +62,7 @@ module _ (C : Complex) (items : List Tie) (W : AreTiedWithin (map count_items C.
   -- the side of the item at an element
   module _ (b : Bool) (i a : Cell) (w : IsCellIn (map count_items C.vertices) i) (s : IsItemSide C b i a) where
     side-there : (l : Label) × HasSideLabel C (side_of b i) l
-    side-there = let r = item-there C i w in (cond b (item_above r.1) (item_below r.1), (r.0, r.2, has-side r.0 i.column r.1 b r.3))
+    side-there = let r = item-there C i w in (cond b (item_pos r.1) (item_neg r.1), (r.0, r.2, has-side r.0 i.column r.1 b r.3))
 
     end-there : IsCellOf C (side_of b i) a
     end-there =
@@ -72,7 +72,7 @@ module _ (C : Complex) (items : List Tie) (W : AreTiedWithin (map count_items C.
 
   of-sides : (b : Bool) (k : ℕ) (t u : Tie) → IsAt items k t → IsSideTie C b t u
       → ((x y : VertexSide) (j l : Corner) → x ≡ side_of b t.first → y ≡ side_of b t.second → j ≡ corner_at t.first → l ≡ corner_at t.second → (m : Label) × HasSideLabel C x m → (n : Label) × HasSideLabel C y n
-      → ((IsSideOf C x j.vertex (above_item j.item) × IsSideOf C y l.vertex (above_item l.item)) ⊎ (IsSideOf C x j.vertex (below_item j.item) × IsSideOf C y l.vertex (below_item l.item))))
+      → ((IsSideOf C x j.vertex (pos_item j.item) × IsSideOf C y l.vertex (pos_item l.item)) ⊎ (IsSideOf C x j.vertex (neg_item j.item) × IsSideOf C y l.vertex (neg_item l.item))))
       → (x : VertexSide) × (y : VertexSide) × IsEndOf C x u.first × IsEndOf C y u.second × LinkOfItems C Link x y
   of-sides b k t u i (f, g) both =
       let w = W k t i in
@@ -90,12 +90,12 @@ module _ (C : Complex) (items : List Tie) (W : AreTiedWithin (map count_items C.
     where
       by : (k : ℕ) (t : Tie) → IsAt items k t → IsSideTie C true t u ⊎ IsSideTie C false t u → (x : VertexSide) × (y : VertexSide) × IsEndOf C x u.first × IsEndOf C y u.second × LinkOfItems C Link x y
       by k t i (inl s) = of-sides true k t u i s (λ x y j l d e f g (m, h) (n, p). inl (
-        (m, ap (λ (z : VertexSide). z.vertex) d ∙ ap (λ (z : Corner). z.vertex) (sym f), ap (λ (z : VertexSide). z.side) d ∙ ap (λ (z : Corner). above_item z.item) (sym f), h),
-        (n, ap (λ (z : VertexSide). z.vertex) e ∙ ap (λ (z : Corner). z.vertex) (sym g), ap (λ (z : VertexSide). z.side) e ∙ ap (λ (z : Corner). above_item z.item) (sym g), p),
+        (m, ap (λ (z : VertexSide). z.vertex) d ∙ ap (λ (z : Corner). z.vertex) (sym f), ap (λ (z : VertexSide). z.side) d ∙ ap (λ (z : Corner). pos_item z.item) (sym f), h),
+        (n, ap (λ (z : VertexSide). z.vertex) e ∙ ap (λ (z : Corner). z.vertex) (sym g), ap (λ (z : VertexSide). z.side) e ∙ ap (λ (z : Corner). pos_item z.item) (sym g), p),
       ))
       by k t i (inr s) = of-sides false k t u i s (λ x y j l d e f g (m, h) (n, p). inr (
-        (m, ap (λ (z : VertexSide). z.vertex) d ∙ ap (λ (z : Corner). z.vertex) (sym f), ap (λ (z : VertexSide). z.side) d ∙ ap (λ (z : Corner). below_item z.item) (sym f), h),
-        (n, ap (λ (z : VertexSide). z.vertex) e ∙ ap (λ (z : Corner). z.vertex) (sym g), ap (λ (z : VertexSide). z.side) e ∙ ap (λ (z : Corner). below_item z.item) (sym g), p),
+        (m, ap (λ (z : VertexSide). z.vertex) d ∙ ap (λ (z : Corner). z.vertex) (sym f), ap (λ (z : VertexSide). z.side) d ∙ ap (λ (z : Corner). neg_item z.item) (sym f), h),
+        (n, ap (λ (z : VertexSide). z.vertex) e ∙ ap (λ (z : Corner). z.vertex) (sym g), ap (λ (z : VertexSide). z.side) e ∙ ap (λ (z : Corner). neg_item z.item) (sym g), p),
       ))
 
   -- the element of a side of an item

@@ -14,7 +14,7 @@ use Rattle.law_near.specs.Cones.{slide, FlatCone}
 use Rattle.law_near.proofs.Flats.{FlatCone-from_flat}
 use Rattle.law_near.proofs.Rays.{Germ-same, same-place_sym}
 use Rattle.law_sphere.specs.Maps.{At, MapLabel, at_svertex, on_item, seen, SeenAs}
-use Rattle.law_sphere.proofs.Compare.{way-self}
+use Rattle.law_sphere.proofs.Compare.{dir-self}
 use Rattle.law_sphere.proofs.Forms.{on-level}
 use Rattle.nef_smap.specs.declared.map.SphereMap.{SphereMap}
 use Rattle.nef_smap.specs.Maps.{map_of, IsSphereMap}
@@ -101,7 +101,7 @@ pub out-side : (s : Set) (c : Complex) → ShowsSet s c → (x : VertexSide) × 
 out-side s c S =
     let (i, v, a, e) = S.shows.complete corner (corner-vertex s) in
     let (u, b, f) = at-map vertex_of c.vertices i v a in
-    let g = Germ-same s corner v.point up up Out (same-place_sym v.point corner e) (way-self up up-direction) (beyond-x s up (omega (arith, ints))) in
+    let g = Germ-same s corner v.point up up Out (same-place_sym v.point corner e) (dir-self up up-direction) (beyond-x s up (omega (arith, ints))) in
     let l = germ-label v.map s v.point (S.shows.cones i v a) up Out up-direction g in
     let M = S.maps i u (get-from_at c.vertices i u b) in
     let h = upward-seen u.map M.sphere_map (subst (λ (w : Vertex). MapLabel w.map up Out) (sym f) l) in

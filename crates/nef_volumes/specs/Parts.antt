@@ -7,7 +7,7 @@ use Rattle.law_complex.specs.Complexes.{Complex, Corner}
 use Rattle.law_complex.specs.Rays.{VertexSide}
 use Rattle.nef_complex.specs.Complexes.{corner_of}
 use Rattle.nef_complex.specs.declared.complex.Corner.{Corner as ProgramCorner}
-use Rattle.nef_parts.specs.Numbers.{IsVolumeOf, above_of, below_of}
+use Rattle.nef_parts.specs.Numbers.{IsVolumeOf, pos_of, neg_of}
 use Rattle.nef_parts.specs.declared.parts.Cycle.{Cycle}
 use Rattle.nef_parts.specs.declared.parts.Facet.{Facet}
 use Rattle.nef_ties.specs.Carriers.{HasItem}
@@ -27,7 +27,7 @@ HasFirst C xs = (k : ProgramCorner) × IsFirstCorner xs k × HasItem C (corner_o
 
 -- the facet's volumes are those beside the first corner
 abbrev pub IsBeside : Complex → List (List ℕ) → Facet → Type 0
-IsBeside C rows f = (k : ProgramCorner) → IsFirstCorner f.cycles k → IsVolumeOf C rows (above_of (corner_of k)) f.pos × IsVolumeOf C rows (below_of (corner_of k)) f.neg
+IsBeside C rows f = (k : ProgramCorner) → IsFirstCorner f.cycles k → IsVolumeOf C rows (pos_of (corner_of k)) f.pos × IsVolumeOf C rows (neg_of (corner_of k)) f.neg
 
 -- the facets have the planes, the marks and the cycles, and the volumes beside these
 pub record AreFacetsOf (C : Complex) (rows : List (List ℕ)) (planes : List Plane) (marks : List Label) (cycles : List (List Cycle)) (fs : List Facet) : Type 0 where

@@ -4,7 +4,7 @@ use Rattle.std.specs.List.{Contains}
 use Rattle.nef_space.specs.Lists.{IsAt, Chained}
 use Rattle.nef_space.specs.declared.label.Label.{Label}
 use Rattle.nef_space.specs.declared.label.Label.TheVariants.{Out}
-use Rattle.law_sphere.specs.Maps.{At, Svertex, Side, around_svertex, above_item, below_item, HasSide}
+use Rattle.law_sphere.specs.Maps.{At, MapVertex, Side, around_svertex, pos_item, neg_item, HasSide}
 use Rattle.nef_smap.specs.Sides.{sides_of, IsSide, SeeOneWay}
 use Rattle.nef_smap.specs.SideNumbers.{number_of}
 use Rattle.law_complex.specs.Complexes.{Vertex, Edge, Complex, Corner}
@@ -95,7 +95,7 @@ pub record AddsInSfaces (C : Complex) (i : ℕ) (ts us : List Tie) : Type 0 wher
 
 -- ---- sides of items
 abbrev pub side_at : Bool → ℕ → Side
-side_at above k = cond above (above_item k) (below_item k)
+side_at above k = cond above (pos_item k) (neg_item k)
 
 -- the element is that of the upper or the lower side of the item
 abbrev pub IsItemSide : Complex → Bool → Cell → Cell → Type 0
@@ -116,8 +116,8 @@ AreTiedCorners ts j k = AreTied ts (cell_of j) (cell_of k)
 -- both are upper sides of linked items, or both are lower sides
 abbrev pub LinkOfItems : Complex → (Corner → Corner → Type 0) → VertexSide → VertexSide → Type 0
 LinkOfItems C Link x y = (j : Corner) × (k : Corner) × Link j k
-    × ((IsSideOf C x j.vertex (above_item j.item) × IsSideOf C y k.vertex (above_item k.item))
-    ⊎ (IsSideOf C x j.vertex (below_item j.item) × IsSideOf C y k.vertex (below_item k.item)))
+    × ((IsSideOf C x j.vertex (pos_item j.item) × IsSideOf C y k.vertex (pos_item k.item))
+    ⊎ (IsSideOf C x j.vertex (neg_item j.item) × IsSideOf C y k.vertex (neg_item k.item)))
 
 -- ---- edges
 -- both are the sides round the ends of an edge
@@ -126,11 +126,11 @@ LinkOfEnds C x y = (k : ℕ) × (e : Edge) × At C.edges k e
     × IsSideOf C x e.low (around_svertex e.low_svertex) × IsSideOf C y e.high (around_svertex e.high_svertex)
 
 abbrev pub HasSvertex : Complex → ℕ → ℕ → Type 0
-HasSvertex C i k = (v : Vertex) × (u : Svertex) × At C.vertices i v × At v.map.svertices k u
+HasSvertex C i k = (v : Vertex) × (u : MapVertex) × At C.vertices i v × At v.map.svertices k u
 
 -- the element is that of the side round svertex k of vertex i
 abbrev pub IsAroundCell : Complex → ℕ → ℕ → Cell → Type 0
-IsAroundCell C i k a = (v : Vertex) × (u : Svertex) × (l : Label) × At C.vertices i v × At v.map.svertices k u × (u.around ≡ Some l)
+IsAroundCell C i k a = (v : Vertex) × (u : MapVertex) × (l : Label) × At C.vertices i v × At v.map.svertices k u × (u.around ≡ Some l)
     × (a ≡ side_cell i (number_of v.map (around_svertex k)))
 
 -- the tie joins the sides round the ends of edge k

@@ -161,8 +161,8 @@ fn one_face(rt: HostRuntime) {
 
 #[test]
 fn sfaces_of_simple_maps(rt: HostRuntime) -> Result<(), Fail> {
-    let face = face_map(rt.alloc(), Label::In, Label::Not);
-    let one = sfaces(rt.alloc(), &face)?;
+    let ground = face_map(rt.alloc(), Label::In, Label::Not);
+    let one = sfaces(rt.alloc(), &ground)?;
     assert_eq!(rt; one.as_slice(), [0].as_slice());
     let halves = plane(&rt, rt.alloc(), dir(&rt, (1, 1, -1)));
     let two = sfaces(rt.alloc(), &halves)?;

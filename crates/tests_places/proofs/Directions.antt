@@ -6,7 +6,7 @@ use Rattle.nef_space.specs.Vectors.{SameDirection}
 use Rattle.nef_geo.specs.Shapes.{place_of, vector_of}
 use Rattle.nef_geo.specs.declared.dir.Dir.{Dir}
 use Rattle.nef_geo.proofs.Unique.{same_directions_equal}
-use Rattle.law_sphere.specs.Maps.{At, Svertex}
+use Rattle.law_sphere.specs.Maps.{At, MapVertex}
 use Rattle.nef_smap.specs.Maps.{svertex_of}
 use Rattle.nef_smap.proofs.Lists.{at-map, at-within}
 use Rattle.law_complex.specs.Complexes.{Vertex as PlainVertex}
@@ -36,7 +36,7 @@ no-svertex c p d N k j v u a o b w =
     by : (y : Vertex) → At c.vertices k y → vertex_of y ≡ v → ⊥
     by y l e =
         let r = at-map svertex_of y.map.svertices j u (subst (λ (t : PlainVertex). At t.map.svertices j u) (sym e) b) in
-        N k y l (v, a, o) j r.0 r.1 (same_directions_equal r.0.dir d (subst (λ (t : Svertex). SameDirection t.way (vector_of d)) (sym r.2) w))
+        N k y l (v, a, o) j r.0 r.1 (same_directions_equal r.0.dir d (subst (λ (t : MapVertex). SameDirection t.dir (vector_of d)) (sym r.2) w))
 
 pub all-clear : (c : Complex) (p : Place) (d : Dir) → ((k : ℕ) → k < length c.vertices → IsClearVertex c p d k) → HasNoSvertex (complex_of c) p (vector_of d)
 all-clear c p d f = no-svertex c p d (λ k v a. f k (at-within c.vertices k v a) v a)

@@ -2,7 +2,7 @@ use Rattle.std.proofs.Common.{◌∙◌}
 use Rattle.law_sphere.specs.Forms.{forms}
 use Rattle.std.specs.Prelude.{◌++◌}
 use Rattle.law_build.proofs.Chosen.{op-labels}
-use Rattle.law_build.proofs.RawFaces.{raw-shows_op}
+use Rattle.law_build.proofs.RawGround.{raw-shows_op}
 use Rattle.nef_smap.specs.Maps.{map_of, raw_of}
 use Rattle.nef_star.specs.Ops.{op_label}
 use Rattle.nef_combine.proofs.Cones.{cone-by_op}

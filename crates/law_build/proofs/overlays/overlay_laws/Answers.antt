@@ -1,6 +1,6 @@
 -- The laws of overlays, from the lemmas.
 use Rattle.law_build.proofs.Chosen.{map-labelling, op-labels}
-use Rattle.law_build.proofs.RawFaces.{raw-shows_op}
+use Rattle.law_build.proofs.RawGround.{raw-shows_op}
 use Rattle.law_build.proofs.overlays.overlay_laws.Goals as goal
 
 pub returns-clause-map : goal.returns-clause-map

@@ -1,5 +1,5 @@
 use Rattle.std.proofs.Common.{◌≡◌, ℕ, length, arith, subst}
-use Rattle.law_sphere.specs.Maps.{way_of}
+use Rattle.law_sphere.specs.Maps.{dir_of}
 use Rattle.nef_smap.specs.Maps.{map_of}
 use Rattle.nef_locate.specs.Ends.{IsLast}
 use Rattle.nef_locate.proofs.above.last_arc.Goals as goal
@@ -11,4 +11,4 @@ pub returns : goal.returns
 returns c =
     let m = c.args.map.now in
     let e : c.loop-number.number ≡ length m.arcs = omega (arith, c.len-number-end.ensures.len, c.loop-number-test.false, c.loop-number.auto.number-end) in
-    record { last = subst (λ (n : ℕ). IsLast (map_of m) (way_of (map_of m).svertices c.args.svertex) c.args.svertex c.args.begins n c.loop-number.last) e c.loop-number.invariant }
+    record { last = subst (λ (n : ℕ). IsLast (map_of m) (dir_of (map_of m).svertices c.args.svertex) c.args.svertex c.args.begins n c.loop-number.last) e c.loop-number.invariant }

@@ -1,7 +1,7 @@
-use Rattle.law_sphere.specs.Maps.{way_of}
+use Rattle.law_sphere.specs.Maps.{dir_of}
 use Rattle.nef_smap.specs.Maps.{map_of}
 use Rattle.nef_locate.specs.Ends.{IsLast}
 use Rattle.nef_locate.proofs.above.last_arc.Given as goal
 
 abbrev pub invariant-loop-number : goal.invariant-loop-number
-invariant-loop-number l = IsLast (map_of l.map) (way_of (map_of l.map).svertices l.svertex) l.svertex l.begins l.number l.last
+invariant-loop-number l = IsLast (map_of l.map) (dir_of (map_of l.map).svertices l.svertex) l.svertex l.begins l.number l.last

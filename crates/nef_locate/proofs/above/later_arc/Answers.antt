@@ -2,7 +2,7 @@ use Rattle.std.proofs.Common.{◌≡◌, ◌≢◌, sym, ◌∙◌, rules, subst
 use Rattle.nef_space.specs.Vectors.{triple, up}
 use Rattle.nef_geo.specs.Shapes.{vector_of}
 use Rattle.nef_geo.specs.declared.sign.Sign.TheVariants.{Plus}
-use Rattle.law_sphere.specs.Maps.{way_of}
+use Rattle.law_sphere.specs.Maps.{dir_of}
 use Rattle.nef_smap.specs.Maps.{map_of, arc_of}
 use Rattle.nef_locate.specs.Ends.{end_of, IsLast}
 use Rattle.nef_locate.proofs.LastArcs.{last-skip, last-first, last-kept, last-taken}
@@ -21,7 +21,7 @@ returns-then-arc_end-svertex c =
 pub at-requires-in-Some : goal.at-requires-in-Some
 at-requires-in-Some c =
     let m = c.args.map.now in
-    let L = subst (IsLast (map_of m) (way_of (map_of m).svertices c.args.svertex) c.args.svertex c.args.begins c.args.number) c.in-Some.is c.requires.last in
+    let L = subst (IsLast (map_of m) (dir_of (map_of m).svertices c.args.svertex) c.args.svertex c.args.begins c.args.number) c.in-Some.is c.requires.last in
     record { within = image-within arc_of m.arcs c.in-Some.before L.arc L.listed }
 
 pub returns-in-None : goal.returns-in-None
@@ -32,7 +32,7 @@ returns-in-None c =
     let on : end_of (arc_of a) c.args.begins ≡ s = let f = c.arc_end.ensures.end in search (rules, f) in
     record {
       last = last-first (map_of m) V.shaped s v.0 v.1 up (arc-upward m c.requires.map) c.args.begins c.args.number (arc_of a) (image-read arc_of m.arcs c.args.number a c.at-arc.ensures.element) on
-          (subst (IsLast (map_of m) (way_of (map_of m).svertices s) s c.args.begins c.args.number) c.in-None.is c.requires.last);
+          (subst (IsLast (map_of m) (dir_of (map_of m).svertices s) s c.args.begins c.args.number) c.in-None.is c.requires.last);
     }
 
 pub returns-then-eq : goal.returns-then-eq
@@ -41,12 +41,12 @@ returns-then-eq c =
     let v = some-svertex m s c.requires.within in
     let a = c.at-arc.result.now in
     let on : end_of (arc_of a) c.args.begins ≡ s = let f = c.arc_end.ensures.end in search (rules, f) in
-    let L = subst (IsLast (map_of m) (way_of (map_of m).svertices s) s c.args.begins c.args.number) c.in-Some.is c.requires.last in
+    let L = subst (IsLast (map_of m) (dir_of (map_of m).svertices s) s c.args.begins c.args.number) c.in-Some.is c.requires.last in
     let read = turn-read m s c.in-Some.before c.at.result.now c.at-in-Some.result.now L.arc (vector_of a.normal) c.triple-turn.result c.at.ensures.element c.at-in-Some.ensures.element L.listed c.triple-turn.ensures.triple in
     let plus : c.triple-turn.result ≡ Plus = search rules in
     record {
       last = last-taken (map_of m) V.shaped s v.0 v.1 up (arc-upward m c.requires.map) c.args.begins c.args.number (arc_of a) (image-read arc_of m.arcs c.args.number a c.at-arc.ensures.element) on c.in-Some.before L
-          (plus-turn (triple (way_of (map_of m).svertices s) L.arc.normal (vector_of a.normal)) (sym plus ∙ read));
+          (plus-turn (triple (dir_of (map_of m).svertices s) L.arc.normal (vector_of a.normal)) (sym plus ∙ read));
     }
 
 pub returns-else-eq : goal.returns-else-eq
@@ -55,9 +55,9 @@ returns-else-eq c =
     let v = some-svertex m s c.requires.within in
     let a = c.at-arc.result.now in
     let on : end_of (arc_of a) c.args.begins ≡ s = let f = c.arc_end.ensures.end in search (rules, f) in
-    let L = subst (IsLast (map_of m) (way_of (map_of m).svertices s) s c.args.begins c.args.number) c.in-Some.is c.requires.last in
+    let L = subst (IsLast (map_of m) (dir_of (map_of m).svertices s) s c.args.begins c.args.number) c.in-Some.is c.requires.last in
     let read = turn-read m s c.in-Some.before c.at.result.now c.at-in-Some.result.now L.arc (vector_of a.normal) c.triple-turn.result c.at.ensures.element c.at-in-Some.ensures.element L.listed c.triple-turn.ensures.triple in
     let other : c.triple-turn.result ≢ Plus = search rules in
     let kept = last-kept (map_of m) V.shaped s v.0 v.1 up (arc-upward m c.requires.map) c.args.begins c.args.number (arc_of a) (image-read arc_of m.arcs c.args.number a c.at-arc.ensures.element) on c.in-Some.before L
-    (λ t. other (read ∙ turn-plus (triple (way_of (map_of m).svertices s) L.arc.normal (vector_of a.normal)) t)) in
+    (λ t. other (read ∙ turn-plus (triple (dir_of (map_of m).svertices s) L.arc.normal (vector_of a.normal)) t)) in
     record { last = kept }

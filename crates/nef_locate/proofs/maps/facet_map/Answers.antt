@@ -1,7 +1,7 @@
 use Rattle.std.proofs.Common.{refl, sym, subst, ◌∙◌}
 use Rattle.nef_space.specs.Limits.{normal_limit}
 use Rattle.nef_space.specs.Vectors.{IsNormal, IsAtMost}
-use Rattle.nef_smap.specs.Maps.{map_of, loop_of}
+use Rattle.nef_smap.specs.Maps.{map_of, sloop_of}
 use Rattle.nef_complex.specs.Complexes.{vertex_of, complex_of, corner_of}
 use Rattle.nef_locate.proofs.Marks.{image-within, corner-read}
 use Rattle.nef_locate.proofs.Cones.{cone-of_corner}
@@ -36,12 +36,12 @@ returns-clause-least c =
     let i = corner-read c.args.c.now.vertices (complex_of c.args.c.now) (corner_of c.args.corner.now) c.at.result.now p.1 refl c.at.ensures.element p.0 p.2 in
     let S = c.requires.shows.1 in
     let P = c.plane_of-plane.ensures.plane p.1 i.item in
-    c.plane_map.ensures.least (λ e f. (S.maps c.args.corner.now.vertex c.at.result.now c.at.ensures.element).least.items_differ c.args.corner.now.item p.1 i.item (P.above ∙ e ∙ sym P.mark) (P.below ∙ f ∙ sym P.mark))
+    c.plane_map.ensures.least (λ e f. (S.maps c.args.corner.now.vertex c.at.result.now c.at.ensures.element).least.items_differ c.args.corner.now.item p.1 i.item (P.pos ∙ e ∙ sym P.mark) (P.neg ∙ f ∙ sym P.mark))
 
 pub returns-clause-cone : goal.returns-clause-cone
 returns-clause-cone c s y S H =
     let p = c.requires.place in
     let i = corner-read c.args.c.now.vertices (complex_of c.args.c.now) (corner_of c.args.corner.now) c.at.result.now p.1 refl c.at.ensures.element p.0 p.2 in
     let P = c.plane_of-plane.ensures.plane p.1 i.item in
-    cone-of_corner (map_of c.plane_map.result) s (complex_of c.args.c.now) S.shows y (corner_of c.args.corner.now) (vertex_of c.at.result.now) p.1 H i (loop_of c.plane_of-plane.result) P
+    cone-of_corner (map_of c.plane_map.result) s (complex_of c.args.c.now) S.shows y (corner_of c.args.corner.now) (vertex_of c.at.result.now) p.1 H i (sloop_of c.plane_of-plane.result) P
     c.plane_map.ensures.map.valid c.plane_map.ensures.mark c.plane_map.ensures.labels

@@ -1,11 +1,11 @@
 use Rattle.std.proofs.Common.{refl, arith, is_some, ap, subst}
 use mir.Val.{bool_byte}
-use Rattle.law_sphere.specs.Maps.{Item, items, arc_item, loop_item}
+use Rattle.law_sphere.specs.Maps.{Item, items, arc_item, sloop_item}
 use Rattle.law_sphere.proofs.Lists.{at-one}
 use Rattle.nef_smap.specs.declared.map.SLoop.{SLoop}
-use Rattle.nef_smap.specs.Maps.{map_of, arc_of, loop_of}
+use Rattle.nef_smap.specs.Maps.{map_of, arc_of, sloop_of}
 use Rattle.nef_smap.proofs.Lists.{at-within}
-use Rattle.nef_smap.proofs.MapLists.{length-items, item-arc, item-loop}
+use Rattle.nef_smap.proofs.MapLists.{length-items, item-arc, item-sloop}
 use Rattle.nef_locate.specs.Places.{IsPlaneOf}
 use Rattle.nef_locate.proofs.plane.plane_of.Goals as goal
 
@@ -17,7 +17,7 @@ returns-then-item-len c =
     record {
       plane = λ x h.
           let e = at-one (items (map_of m)) c.args.item (arc_item (arc_of a)) x (item-arc m.arcs m.sloop c.args.item a c.at-arc.ensures.element) h in
-          subst (λ (r : Item). IsPlaneOf r (loop_of l)) e (record { normal = refl; above = refl; mark = refl; below = refl });
+          subst (λ (r : Item). IsPlaneOf r (sloop_of l)) e (record { normal = refl; pos = refl; mark = refl; neg = refl });
     }
 
 pub unreachable-requires : goal.unreachable-requires
@@ -38,6 +38,6 @@ returns c =
     let n = at-within (items (map_of m)) c.args.item w.0 w.1 in
     record {
       plane = λ x h.
-          let g = at-one (items (map_of m)) c.args.item (loop_item (loop_of l)) x (item-loop m.arcs m.sloop c.args.item l (omega arith) c.in-Some.is) h in
-          subst (λ (r : Item). IsPlaneOf r (loop_of l)) g (record { normal = refl; above = refl; mark = refl; below = refl });
+          let g = at-one (items (map_of m)) c.args.item (sloop_item (sloop_of l)) x (item-sloop m.arcs m.sloop c.args.item l (omega arith) c.in-Some.is) h in
+          subst (λ (r : Item). IsPlaneOf r (sloop_of l)) g (record { normal = refl; pos = refl; mark = refl; neg = refl });
     }

@@ -6,7 +6,7 @@ use Rattle.nef_geo.specs.Shapes.{form_of, vector_of, place_of}
 use Rattle.nef_complex.specs.Complexes.{ShowsSet}
 use Rattle.nef_ray.specs.declared.crossed.Crossed.{Crossed}
 use Rattle.nef_ray.specs.declared.nearer.Change.{Change}
-use Rattle.nef_ray.specs.declared.ray.Ray.{Ray}
+use Rattle.nef_ray.specs.declared.ray.RayStart.{RayStart}
 use Rattle.nef_ray.specs.Changes.{IsUnchanged, IsAlong, IsChangeOf, IsNotBefore}
 use Rattle.nef_ray.proofs.Found.{AllSeen, all-seen, end-some, end-none}
 use Rattle.nef_ray.proofs.Listed.{next-read}
@@ -25,7 +25,7 @@ loop-next-preserved c =
 pub unreachable-requires : goal.unreachable-requires
 unreachable-requires c =
     let C = c.args.c.now in let p = place_of c.args.p.now in let d = vector_of c.args.d.now in let m = c.in_ok-label_after.field-0 in let S = c.requires.shows in
-    let ray : Ray = record { from = c.args.p.now; along = c.args.d.now; before = m } in
+    let ray : RayStart = record { from = c.args.p.now; along = c.args.d.now; before = m } in
     end-none S.0 C S.1 p d m c.requires.framed c.args.d.now.some (c.in_ok-label_after.ensures.germ S.0 S.1)
     (subst (AllSeen S.0 C p d m) c.in-None.is
     (all-seen S.0 C ray c.loop-next.best c.in_ok-crossed.crossed.items c.as_slice-next-items.result.now c.loop-next.next-index c.as_slice-next-items.ensures.value c.loop-next-test.false c.in_ok-crossed.ensures.all
@@ -34,7 +34,7 @@ unreachable-requires c =
 pub returns : goal.returns
 returns c =
     let C = c.args.c.now in let p = place_of c.args.p.now in let d = vector_of c.args.d.now in let m = c.in_ok-label_after.field-0 in
-    let ray : Ray = record { from = c.args.p.now; along = c.args.d.now; before = m } in
+    let ray : RayStart = record { from = c.args.p.now; along = c.args.d.now; before = m } in
     record {
       end = λ s S.
           end-some s C S ray c.in-Some.change c.requires.framed (c.in_ok-label_after.ensures.germ s S)

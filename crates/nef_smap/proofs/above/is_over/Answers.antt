@@ -3,12 +3,12 @@ use Rattle.law_arithmetic.specs.Signs.{minus}
 use Rattle.nef_space.specs.Vectors.{Vector, dot, up}
 use Rattle.nef_geo.specs.declared.sign.Sign.TheVariants.{Minus}
 use Rattle.law_sphere.specs.Maps.{At, Item, items, item_normal}
-use Rattle.nef_smap.specs.Maps.{map_of, arc_of, loop_of}
+use Rattle.nef_smap.specs.Maps.{map_of, arc_of, sloop_of}
 use Rattle.nef_smap.specs.Items.{item_of}
 use Rattle.nef_smap.specs.Above.{IsOver}
 use Rattle.nef_smap.specs.Close.{geo_sign, close_sign}
 use Rattle.nef_smap.proofs.CloseSigns.{geo-one}
-use Rattle.nef_smap.proofs.Upward.{map-ahead, below-is, loop-over, arc-over, ends-within}
+use Rattle.nef_smap.proofs.Upward.{map-ahead, below-is, sloop-over, arc-over, ends-within}
 use Rattle.nef_smap.proofs.above.is_over.Goals as goal
 
 false_true : IsTrue false → ⊥
@@ -65,6 +65,6 @@ returns-in-Loop c =
     let n' = ap (λ (y : Item). close_sign (item_normal y) c.args.way.now) (sym x) ∙ n in
     record {
       over = λ d close.
-          let o = loop-over c.args.map.now c.requires.map c.args.way.now c.requires.off d close l.0 (loop_of c.in-Loop.field-0) a in
+          let o = sloop-over c.args.map.now c.requires.map c.args.way.now c.requires.off d close l.0 (sloop_of c.in-Loop.field-0) a in
           subst (λ (y : Item). IsTrue true ↔ IsOver (map_of c.args.map.now) up y d) (sym x) (λ h. o.0 n', λ h. refl);
     }

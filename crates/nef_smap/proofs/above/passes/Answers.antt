@@ -3,10 +3,10 @@ use Rattle.nef_geo.specs.declared.sign.Sign.TheVariants.{Minus, Plus}
 use Rattle.law_arithmetic.specs.Signs.{Sign, minus, plus, sign}
 use Rattle.nef_space.specs.Vectors.{Vector, cross, triple, up}
 use Rattle.nef_geo.specs.Shapes.{vector_of}
-use Rattle.law_sphere.specs.Maps.{way_of}
+use Rattle.law_sphere.specs.Maps.{dir_of}
 use Rattle.nef_smap.specs.Maps.{map_of}
 use Rattle.nef_smap.specs.Close.{close_sign, ArcPasses}
-use Rattle.nef_smap.proofs.CloseSigns.{geo-of, sign-test, passes-alike, way-from_get}
+use Rattle.nef_smap.proofs.CloseSigns.{geo-of, sign-test, passes-alike, dir-from_get}
 use Rattle.nef_smap.proofs.above.passes.Goals as goal
 
 pub returns : goal.returns
@@ -15,8 +15,8 @@ returns c =
     let w = c.args.way.now in
     let s = vector_of c.at.result.now.dir in
     let t = vector_of c.at-2.result.now.dir in
-    let s' = way-from_get c.args.map.now.svertices arc.source c.at.result.now c.at.ensures.element in
-    let t' = way-from_get c.args.map.now.svertices arc.target c.at-2.result.now c.at-2.ensures.element in
+    let s' = dir-from_get c.args.map.now.svertices arc.source c.at.result.now c.at.ensures.element in
+    let t' = dir-from_get c.args.map.now.svertices arc.target c.at-2.result.now c.at-2.ensures.element in
     let turn : Sign = sign (triple (vector_of arc.normal) s t) in
     let passed = c.is_passed.ensures.passed turn (c.triple-turn.ensures.triple ∙ geo-of (triple (vector_of arc.normal) s t)) in
     let d1 : IsTrue c.eq-past_source.result ↔ (c.turn.result ≡ Plus) = search rules in
@@ -27,6 +27,6 @@ returns c =
     let alike = passes-alike turn (IsTrue c.eq-past_source.result) (close_sign (cross up s) w ≡ plus) (IsTrue c.eq-before_target.result) (close_sign (cross up t) w ≡ minus) (IsTrue (nat_eq arc.source arc.target)) (arc.source ≡ arc.target) past before d3 in
     let at : Vector → Vector → Type 0 = λ x y. IsTrue c.is_passed.result ↔ ArcPasses (sign (triple (vector_of arc.normal) x y)) (close_sign (cross up x) w ≡ plus) (close_sign (cross up y) w ≡ minus) (arc.source ≡ arc.target) in
     record {
-      passes = subst (λ (x : Vector). at x (way_of (map_of c.args.map.now).svertices arc.target)) (sym s')
+      passes = subst (λ (x : Vector). at x (dir_of (map_of c.args.map.now).svertices arc.target)) (sym s')
           (subst (λ (y : Vector). at s y) (sym t') (λ h. alike.0 (passed.0 h), λ h. passed.1 (alike.1 h)));
     }

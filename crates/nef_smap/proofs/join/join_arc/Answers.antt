@@ -4,7 +4,7 @@ use Rattle.nef_geo.specs.Shapes.{vector_of}
 use Rattle.law_sphere.specs.Maps.{arc_item, items}
 use Rattle.nef_smap.specs.Maps.{map_of, arc_of}
 use Rattle.nef_smap.specs.Joined.{FirstNear}
-use Rattle.nef_smap.proofs.CloseSigns.{way-from_get}
+use Rattle.nef_smap.proofs.CloseSigns.{dir-from_get}
 use Rattle.nef_smap.proofs.MapLists.{at-within}
 use Rattle.nef_smap.proofs.Upward.{ends-within, map-ahead}
 use Rattle.nef_smap.proofs.Joining.{arc-listed, arc-item_listed, source-level, normal-small, cross-level, along-some, along-forward, along-off, dir-small}
@@ -54,7 +54,7 @@ returns c =
     let r = c.at-arc.result.now in
     let n = vector_of r.normal in
     let s = vector_of c.at.result.now.dir in
-    let w = way-from_get m.svertices r.source c.at.result.now c.at.ensures.element in
+    let w = dir-from_get m.svertices r.source c.at.result.now c.at.ensures.element in
     let l = source-level m c.requires.map c.args.number r c.at-arc.ensures.element c.at.result.now c.at.ensures.element in
     let y = vector_of c.in-Some.aside in
     record {

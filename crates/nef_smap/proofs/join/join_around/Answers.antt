@@ -1,7 +1,7 @@
 use Rattle.std.proofs.Common.{◌≡◌, subst}
 use Rattle.nef_space.specs.Vectors.{up}
 use Rattle.nef_geo.specs.Shapes.{vector_of}
-use Rattle.law_sphere.specs.Maps.{Svertex, around_svertex}
+use Rattle.law_sphere.specs.Maps.{MapVertex, around_svertex}
 use Rattle.nef_smap.specs.SideNumbers.{number_of}
 use Rattle.nef_smap.specs.Links.{met_number}
 use Rattle.nef_smap.specs.Maps.{map_of}
@@ -31,7 +31,7 @@ returns c =
         a.1,
         a.2,
         a.3,
-        subst (λ (v : Svertex). (j : BelowFirst M up v.way) × (c.args.side ≡ number_of M (around_svertex c.args.number)) × (c.number_below.result ≡ met_number M j.first)) e
+        subst (λ (v : MapVertex). (j : BelowFirst M up v.dir) × (c.args.side ≡ number_of M (around_svertex c.args.number)) × (c.number_below.result ≡ met_number M j.first)) e
             (record { aside = vector_of c.beside-aside.result; off = c.beside-aside.ensures.off; first = n.0; is_first = n.2 }, c.requires.side, n.1),
       );
     }

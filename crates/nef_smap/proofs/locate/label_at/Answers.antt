@@ -2,7 +2,7 @@ use Rattle.nef_geo.specs.Shapes.{vector_of}
 use Rattle.law_sphere.specs.Maps.{items}
 use Rattle.nef_smap.specs.Items.{item_of}
 use Rattle.nef_smap.specs.Maps.{map_of}
-use Rattle.nef_smap.proofs.Found.{svertex-within, side-within, label-svertex, arc-placed, loop-placed, label-item, label-by_side}
+use Rattle.nef_smap.proofs.Found.{svertex-within, side-within, label-svertex, arc-placed, sloop-placed, label-item, label-by_side}
 use Rattle.nef_smap.proofs.MapLists.{at-within}
 use Rattle.nef_smap.proofs.locate.label_at.Goals as goal
 
@@ -16,7 +16,7 @@ item_at-requires c =
 
 pub item_at-requires-in-Loop : goal.item_at-requires-in-Loop
 item_at-requires-in-Loop c =
-    let r = loop-placed c.args.map.now (vector_of c.args.d.now) c.len.result c.len.ensures.len c.in-Loop.ensures.place in
+    let r = sloop-placed c.args.map.now (vector_of c.args.d.now) c.len.result c.len.ensures.len c.in-Loop.ensures.place in
     record { within = at-within (items (map_of c.args.map.now)) c.len.result r.0 r.1 }
 
 pub side_label-requires : goal.side_label-requires
@@ -35,7 +35,7 @@ pub returns-in-Loop : goal.returns-in-Loop
 returns-in-Loop c =
     let m = c.args.map.now in
     let d = vector_of c.args.d.now in
-    record { label = label-item m d c.len.result (item_of c.item_at-in-Loop.result) c.mark-in-Loop.result c.item_at-in-Loop.ensures.item c.mark-in-Loop.ensures.mark (loop-placed m d c.len.result c.len.ensures.len c.in-Loop.ensures.place) }
+    record { label = label-item m d c.len.result (item_of c.item_at-in-Loop.result) c.mark-in-Loop.result c.item_at-in-Loop.ensures.item c.mark-in-Loop.ensures.mark (sloop-placed m d c.len.result c.len.ensures.len c.in-Loop.ensures.place) }
 
 pub returns-in-Face : goal.returns-in-Face
 returns-in-Face c = record { label = label-by_side (map_of c.args.map.now) c.in-Face.side (vector_of c.args.d.now) c.side_label.result c.in-Face.ensures.place c.side_label.ensures.label }

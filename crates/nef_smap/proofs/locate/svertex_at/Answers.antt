@@ -1,7 +1,7 @@
 use Rattle.std.proofs.Common.{length, arith, ap, sym, ◌∙◌}
 use Rattle.nef_arc.proofs.SignNumbers.{not_true}
 use Rattle.nef_geo.specs.Shapes.{vector_of}
-use Rattle.law_sphere.specs.Maps.{Svertex}
+use Rattle.law_sphere.specs.Maps.{MapVertex}
 use Rattle.nef_space.specs.Vectors.{SameDirection}
 use Rattle.nef_smap.specs.Maps.{svertex_of}
 use Rattle.nef_smap.proofs.ArcEnds.{at-map}
@@ -18,11 +18,11 @@ returns-then-is_same c = record {
 }
 
 pub loop-number-preserved : goal.loop-number-preserved
-loop-number-preserved c = next-none svertex_of c.args.map.now.svertices (λ (v : Svertex). SameDirection v.way (vector_of c.args.d.now)) c.loop-number.number c.svertex-item.result (read c.args.map.now.svertices c.as_slice-svertex-items.result.now c.loop-number.number c.svertex-item.result c.as_slice-svertex-items.ensures.all c.loop-number-test.true c.svertex-item.is) c.loop-number.invariant
+loop-number-preserved c = next-none svertex_of c.args.map.now.svertices (λ (v : MapVertex). SameDirection v.dir (vector_of c.args.d.now)) c.loop-number.number c.svertex-item.result (read c.args.map.now.svertices c.as_slice-svertex-items.result.now c.loop-number.number c.svertex-item.result c.as_slice-svertex-items.ensures.all c.loop-number-test.true c.svertex-item.is) c.loop-number.invariant
     (λ s. not_true (sym c.if-is_same.false ∙ c.is_same.ensures.direction.1 s))
 
 pub returns : goal.returns
 returns c = record {
-  svertex = λ k (v, a, s). all-none svertex_of c.args.map.now.svertices (λ (v : Svertex). SameDirection v.way (vector_of c.args.d.now)) c.loop-number.number
+  svertex = λ k (v, a, s). all-none svertex_of c.args.map.now.svertices (λ (v : MapVertex). SameDirection v.dir (vector_of c.args.d.now)) c.loop-number.number
       (let e = ap length c.as_slice-svertex-items.ensures.all in let f = c.loop-number-test.false in omega arith) c.loop-number.invariant k v a s;
 }

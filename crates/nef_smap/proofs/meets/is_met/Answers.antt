@@ -29,7 +29,7 @@ returns-then-not-are_opposite c = record {
 pub is_met_on_arc-requires-clause-arc : goal.is_met_on_arc-requires-clause-arc
 is_met_on_arc-requires-clause-arc c =
     let m = map_of c.args.map.now in
-    (c.requires.item.0, arc-at m.arcs m.loop c.requires.item.0 _ (subst (λ (it : Item). At (items m) c.requires.item.0 (item_of it)) c.in-Arc.is c.requires.item.1))
+    (c.requires.item.0, arc-at m.arcs m.sloop c.requires.item.0 _ (subst (λ (it : Item). At (items m) c.requires.item.0 (item_of it)) c.in-Arc.is c.requires.item.1))
 
 pub returns-in-Arc : goal.returns-in-Arc
 returns-in-Arc c = record {

@@ -9,7 +9,7 @@ use Rattle.nef_arc.proofs.SignNumbers.{read_sign, five_signs, between_read, test
 use Rattle.nef_geo.specs.Shapes.{vector_of}
 use Rattle.nef_geo.specs.Signs.{sign_of}
 use Rattle.nef_geo.proofs.Products.{IsAtMost-weaken, cross_is}
-use Rattle.law_sphere.specs.Maps.{way_of}
+use Rattle.law_sphere.specs.Maps.{dir_of}
 use Rattle.law_sphere.proofs.Direct.{slid-level}
 use Rattle.nef_smap.specs.Maps.{map_of}
 use Rattle.nef_smap.specs.Paths.{meet_of}
@@ -76,7 +76,7 @@ returns c = record {
       (read_sign c.number-4.result c.sign_where_met.result _ c.number-4.type_inv c.number-4.ensures.number y)
       (read_sign c.number-5.result c.opposite.result _ c.number-5.type_inv c.number-5.ensures.number z)
       c.between.ensures.value in
-      subst (λ (u : Vector). IsTrue c.between.result ↔ IsStrictlyOn n u (way_of (map_of m).svertices a.target) p) (sym s.way)
-      (subst (λ (u : Vector). IsTrue c.between.result ↔ IsStrictlyOn n from u p) (sym t.way)
+      subst (λ (u : Vector). IsTrue c.between.result ↔ IsStrictlyOn n u (dir_of (map_of m).svertices a.target) p) (sym s.dir)
+      (subst (λ (u : Vector). IsTrue c.between.result ↔ IsStrictlyOn n from u p) (sym t.dir)
       (rw answer (λ h. law.0 (test_of h), λ h. true_of _ (law.1 h))));
 }

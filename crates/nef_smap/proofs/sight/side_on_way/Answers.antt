@@ -2,7 +2,7 @@ use Rattle.std.proofs.Common.{ℕ, ◌+◌, ◌^◌, arith, ap, sym, ◌∙◌, 
 use Rattle.nef_space.specs.Vectors.{Vector, dot, cross, blend, up}
 use Rattle.nef_geo.specs.Shapes.{vector_of}
 use Rattle.nef_geo.specs.Signs.{sign_of}
-use Rattle.law_sphere.specs.Maps.{At, Item, items, item_normal, way_of}
+use Rattle.law_sphere.specs.Maps.{At, Item, items, item_normal, dir_of}
 use Rattle.law_sphere.specs.Forms.{forms}
 use Rattle.law_sphere.proofs.Generic.{amount}
 use Rattle.law_sphere.proofs.Lists.{at-one}
@@ -46,13 +46,13 @@ returns c =
     let v = source-end m S 0 arc h c.at.result.now c.at.ensures.element in
     let w = c.way_to-way.result in
     let n = vector_of arc.normal in
-    let s = way_of M.svertices arc.source in
+    let s = dir_of M.svertices arc.source in
     let f = c.first_met-first.ensures.first in
     let i = c.first_met-first.result in
     let x = f.0 in
     let q = f.1 in
     let first = firsts-carried M (length (items M)) x (wide_vector w.start) (wide_vector w.upward) (wide_vector w.end) (wide_vector w.beside) d up s (cross n s)
-    c.way_to-way.ensures.start c.way_to-way.ensures.upward (c.way_to-way.ensures.end ∙ sym v.way) (c.way_to-way.ensures.beside ∙ ap (cross n) (sym v.way)) f.2 in
+    c.way_to-way.ensures.start c.way_to-way.ensures.upward (c.way_to-way.ensures.end ∙ sym v.dir) (c.way_to-way.ensures.beside ∙ ap (cross n) (sym v.dir)) f.2 in
     let leads = λ (l : ℕ) (y : Item) (k : At (items M) l y). up-leads (item_normal y) (S.valid.shaped.normals l y k) (S.small.normals l y k) in
     let V = S.valid.shaped in
     let F = c.requires.free in

@@ -1,7 +1,7 @@
 use Rattle.std.proofs.Common.{refl}
 use Rattle.nef_geo.specs.declared.dir.Dir.{Dir}
-use Rattle.law_sphere.specs.Maps.{Loop}
-use Rattle.law_build.specs.Overlays.{IsLoneLoop}
+use Rattle.law_sphere.specs.Maps.{MapSloop}
+use Rattle.law_build.specs.Overlays.{IsLoneSloop}
 use Rattle.nef_smap.specs.Maps.{map_of}
 use Rattle.nef_sover.specs.Circles.{IsBareNormal, IsLoneNormal}
 use Rattle.nef_sover.proofs.Places.{match-option}
@@ -17,7 +17,7 @@ pub returns-in-None : goal.returns-in-None
 returns-in-None c =
     let a = c.args.a.now in let b = c.args.b.now in let ds = c.args.axes.now in
     record {
-      lone = match-option c.bare_normal-in-None.result ((n : Dir) → IsBareNormal b.sloop ds n → ⊥) ((l : Loop) → IsLoneLoop (map_of a) (map_of b) l → ⊥)
+      lone = match-option c.bare_normal-in-None.result ((n : Dir) → IsBareNormal b.sloop ds n → ⊥) ((l : MapSloop) → IsLoneSloop (map_of a) (map_of b) l → ⊥)
           (IsBareNormal b.sloop ds) (IsLoneNormal (map_of a) (map_of b))
           (λ g. lone-none a b ds c.requires.axes (λ s e off. c.in-None.ensures.bare s.normal (s, e, refl, off)) (λ s e off. g s.normal (s, e, refl, off)))
           (λ n h. lone-second a b ds c.requires.axes c.requires.second h.0 n h.1 h.2 h.3) c.bare_normal-in-None.ensures.bare;

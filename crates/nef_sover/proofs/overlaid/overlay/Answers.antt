@@ -17,7 +17,7 @@ returns-clause-raw c =
       complete = all-complete A B op ds ts X Z;
       ordered = all-ordered A B op ds ts X Z;
       circle = c.in_ok-sloop.ensures.circle;
-      face = c.merged_ground.ensures.face;
+      ground = c.merged_ground.ensures.ground;
     }
 
 pub returns-clause-stars : goal.returns-clause-stars

@@ -1,14 +1,14 @@
 use Rattle.std.proofs.Common.{refl}
-use Rattle.law_sphere.specs.Maps.{arc_item, loop_item}
-use Rattle.law_sphere.proofs.Arcs.{loop-at}
+use Rattle.law_sphere.specs.Maps.{arc_item, sloop_item}
+use Rattle.law_sphere.proofs.Arcs.{sloop-at}
 use Rattle.law_sphere.proofs.Shot.{arc-at}
-use Rattle.nef_smap.specs.Maps.{map_of, arc_of, loop_of}
+use Rattle.nef_smap.specs.Maps.{map_of, arc_of, sloop_of}
 use Rattle.nef_sover.proofs.tracks.track_at.Goals as goal
 
 pub great_arc-requires-clause-arc : goal.great_arc-requires-clause-arc
 great_arc-requires-clause-arc c =
     let M = map_of c.args.map.now in
-    (c.args.number, arc-at M.arcs M.loop c.args.number (arc_of c.in-Arc.arc) c.in-Arc.ensures.item)
+    (c.args.number, arc-at M.arcs M.sloop c.args.number (arc_of c.in-Arc.arc) c.in-Arc.ensures.item)
 
 pub returns-in-Arc : goal.returns-in-Arc
 returns-in-Arc c =
@@ -18,18 +18,18 @@ returns-in-Arc c =
       track = (
         arc_item a,
         c.in-Arc.ensures.item,
-        record { normal = c.great_arc.ensures.normal; on = c.great_arc.ensures.on; place = λ d o. (a, arc-at M.arcs M.loop c.args.number a c.in-Arc.ensures.item, o) },
+        record { normal = c.great_arc.ensures.normal; on = c.great_arc.ensures.on; place = λ d o. (a, arc-at M.arcs M.sloop c.args.number a c.in-Arc.ensures.item, o) },
       );
     }
 
 pub returns-in-Loop : goal.returns-in-Loop
 returns-in-Loop c =
     let M = map_of c.args.map.now in
-    let l = loop_of c.in-Loop.circle in
+    let l = sloop_of c.in-Loop.circle in
     record {
       track = (
-        loop_item l,
+        sloop_item l,
         c.in-Loop.ensures.item,
-        record { normal = refl; on = λ d. (λ o. o, λ o. o); place = λ d o. (l, loop-at M.arcs M.loop c.args.number l c.in-Loop.ensures.item, o) },
+        record { normal = refl; on = λ d. (λ o. o, λ o. o); place = λ d o. (l, sloop-at M.arcs M.sloop c.args.number l c.in-Loop.ensures.item, o) },
       );
     }

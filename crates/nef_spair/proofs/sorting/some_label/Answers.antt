@@ -7,4 +7,4 @@ use Rattle.nef_spair.proofs.sorting.some_label.Goals as goal
 pub returns : goal.returns
 returns c =
     let s = c.at.result.now in
-    record { face = inr (inl (0, star_of s, map-at star_of c.args.raw.now.stars 0 s (some-at c.args.raw.now.stars 0 s c.at.ensures.element), sym c.mark.ensures.mark)) }
+    record { ground = inr (inl (0, star_of s, map-at star_of c.args.raw.now.stars 0 s (some-at c.args.raw.now.stars 0 s c.at.ensures.element), sym c.mark.ensures.mark)) }

@@ -1,7 +1,7 @@
 -- Each svertex has its image, at its place.
 use Rattle.std.proofs.Common.{List, sym, subst, refl, ap}
 use Rattle.nef_space.specs.Vectors.{Vector}
-use Rattle.law_sphere.specs.Maps.{Svertex}
+use Rattle.law_sphere.specs.Maps.{MapVertex}
 use Rattle.nef_turn.specs.declared.moved.Moved.{Moved}
 use Rattle.nef_turn.specs.Images.{AreImages}
 use Rattle.nef_turn.specs.Turning.{IsMoved}
@@ -18,7 +18,7 @@ loop-old-preserved c =
     let v = c.index-svertices-old.result in record {
       images = images-step (IsMoved c.args.turn.now.number) c.args.svertices.now c.loop-old.old v c.loop-old.images.items c.push.new.self.items _
           c.loop-old-test.true c.index-svertices-old.is c.loop-old.invariant.images
-          (refl, ap (λ (w : Vector). let s : Svertex = record { way = w; mark = v.mark; around = v.around } in s) c.turned_dir.ensures.turned) c.in_ok-push.ensures.items;
+          (refl, ap (λ (w : Vector). let s : MapVertex = record { dir = w; mark = v.mark; around = v.around } in s) c.turned_dir.ensures.turned) c.in_ok-push.ensures.items;
     }
 
 pub returns : goal.returns

@@ -3,7 +3,7 @@ use Rattle.std.specs.Bool.{Decides}
 use Rattle.std.proofs.lemmas.Bool.Decides.{Decides-at}
 use Rattle.nef_smap.specs.declared.map.SphereMap.{SphereMap}
 use Rattle.nef_unique.proofs.Injective.{map-equal}
-use Rattle.nef_unique.proofs.Decides.{label_test, svertex_test, arc_test, loop_test, label-decides, svertex-decides, arc-decides, loop-decides, option-decides, lists-decide, both-decide, first-fails}
+use Rattle.nef_unique.proofs.Decides.{label_test, svertex_test, arc_test, sloop_test, label-decides, svertex-decides, arc-decides, sloop-decides, option-decides, lists-decide, both-decide, first-fails}
 use Rattle.nef_unique.proofs.comparison.same_map.Goals as goal
 use Rattle.nef_unique.proofs.comparison.same_map.Goals.{then-eq, else-eq, then-eq-2, else-eq-2, then-eq-3, else-eq-3}
 
@@ -21,7 +21,7 @@ returns-then-eq-4 c =
       | else-eq-2 w ↦ first-fails s w.if-eq-2.false w.value-is
     ] in
     let l : Decides c.if-eq-3.value ((((a.mark ≡ b.mark) × (a.svertices ≡ b.svertices)) × (a.arcs ≡ b.arcs)) × (a.sloop ≡ b.sloop)) = elim c.if-eq-3.branch [
-      | then-eq-3 w ↦ both-decide t w.if-eq-3.true (Decides-at _ _ w.eq-then-eq-3.ensures (option-decides loop_test loop-decides a.sloop b.sloop)) w.value-is
+      | then-eq-3 w ↦ both-decide t w.if-eq-3.true (Decides-at _ _ w.eq-then-eq-3.ensures (option-decides sloop_test sloop-decides a.sloop b.sloop)) w.value-is
       | else-eq-3 w ↦ first-fails t w.if-eq-3.false w.value-is
     ] in
     let g = Decides-at _ _ c.eq-then-eq-4.ensures (option-decides label_test label-decides a.ground b.ground) in
@@ -42,7 +42,7 @@ returns-else-eq-4 c =
       | else-eq-2 w ↦ first-fails s w.if-eq-2.false w.value-is
     ] in
     let l : Decides c.if-eq-3.value ((((a.mark ≡ b.mark) × (a.svertices ≡ b.svertices)) × (a.arcs ≡ b.arcs)) × (a.sloop ≡ b.sloop)) = elim c.if-eq-3.branch [
-      | then-eq-3 w ↦ both-decide t w.if-eq-3.true (Decides-at _ _ w.eq-then-eq-3.ensures (option-decides loop_test loop-decides a.sloop b.sloop)) w.value-is
+      | then-eq-3 w ↦ both-decide t w.if-eq-3.true (Decides-at _ _ w.eq-then-eq-3.ensures (option-decides sloop_test sloop-decides a.sloop b.sloop)) w.value-is
       | else-eq-3 w ↦ first-fails t w.if-eq-3.false w.value-is
     ] in
     record {

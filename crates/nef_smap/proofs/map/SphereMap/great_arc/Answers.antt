@@ -2,7 +2,7 @@ use Rattle.std.proofs.Common.{◌≡◌, sym, ap, ◌∙◌, subst, ◌↔◌}
 use Rattle.nef_space.specs.Vectors.{Vector}
 use Rattle.law_cyclic.specs.Arcs.{IsStrictlyOn}
 use Rattle.nef_geo.specs.Shapes.{vector_of}
-use Rattle.law_sphere.specs.Maps.{way_of}
+use Rattle.law_sphere.specs.Maps.{dir_of}
 use Rattle.nef_smap.specs.Maps.{map_of}
 use Rattle.nef_smap.proofs.ArcEnds.{source-within, target-within, source-end, target-end}
 use Rattle.nef_smap.proofs.map.SphereMap.great_arc.Goals as goal
@@ -34,6 +34,6 @@ returns c =
     let t = target-end c.args.self.now c.requires.map c.requires.arc.0 a c.requires.arc.1 c.at-2.result.now c.at-2.ensures.element in
     record {
       normal = ap vector_of c.of.ensures.normal;
-      on = λ d. same-arc (vector_of b.normal) (vector_of a.normal) (vector_of b.source) (way_of m.svertices a.source) (vector_of b.target) (way_of m.svertices a.target) d (ap vector_of c.of.ensures.normal)
-          (ap vector_of c.of.ensures.source ∙ sym s.way) (ap vector_of c.of.ensures.target ∙ sym t.way);
+      on = λ d. same-arc (vector_of b.normal) (vector_of a.normal) (vector_of b.source) (dir_of m.svertices a.source) (vector_of b.target) (dir_of m.svertices a.target) d (ap vector_of c.of.ensures.normal)
+          (ap vector_of c.of.ensures.source ∙ sym s.dir) (ap vector_of c.of.ensures.target ∙ sym t.dir);
     }

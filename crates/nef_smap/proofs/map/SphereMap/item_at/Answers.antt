@@ -1,6 +1,6 @@
 use Rattle.std.proofs.Common.{arith, is_some, ap}
 use mir.Val.{bool_byte}
-use Rattle.nef_smap.proofs.MapLists.{length-items, item-arc, item-loop}
+use Rattle.nef_smap.proofs.MapLists.{length-items, item-arc, item-sloop}
 use Rattle.nef_smap.proofs.map.SphereMap.item_at.Goals as goal
 
 pub returns-then-number-len : goal.returns-then-number-len
@@ -16,4 +16,4 @@ pub returns : goal.returns
 returns c =
     let e = length-items c.args.self.now.arcs c.args.self.now.sloop in
     let f = ap (λ o. bool_byte (is_some o)) c.in-Some.is in
-    record { item = item-loop c.args.self.now.arcs c.args.self.now.sloop c.args.number c.in-Some.circle (omega arith) c.in-Some.is }
+    record { item = item-sloop c.args.self.now.arcs c.args.self.now.sloop c.args.number c.in-Some.circle (omega arith) c.in-Some.is }

@@ -1,5 +1,5 @@
 use Rattle.std.proofs.Common.{◌+◌, ◌*◌, cond}
-use Rattle.law_sphere.specs.Maps.{item_above, item_below, above_item, below_item}
+use Rattle.law_sphere.specs.Maps.{item_pos, item_neg, pos_item, neg_item}
 use Rattle.nef_smap.specs.Maps.{map_of}
 use Rattle.nef_smap.proofs.SideLists.{side-of}
 use Rattle.nef_smap.proofs.SideNumbers.{number-one}
@@ -13,4 +13,4 @@ returns c =
     let f = c.from.ensures in
     let n = c.around_sides.result + 2 * c.args.number + c.from.result in
     let s = side-of m n c.args.number above c.requires.within (cc) in
-    record { number = number-one (map_of m) n (cond above (above_item c.args.number) (below_item c.args.number)) (cond above (item_above s.0) (item_below s.0)) s.2; side = s }
+    record { number = number-one (map_of m) n (cond above (pos_item c.args.number) (neg_item c.args.number)) (cond above (item_pos s.0) (item_neg s.0)) s.2; side = s }

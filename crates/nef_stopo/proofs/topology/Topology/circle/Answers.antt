@@ -12,7 +12,7 @@ returns c =
     let mark = label-near k l.mark c.label.result c.and-near.result sides c.label.ensures.label (c.and-near.ensures (l.pos ∷ []) (l.neg ∷ []) c.of.ensures c.of-2.ensures) in
     record {
       circle =
-          ap (λ (x : Label). record { normal = n; above = x; mark = c.label.result; below = c.face_label-2.result }) c.face_label.ensures.label
-          ∙ ap (λ (x : Label). record { normal = n; above = face_label k l.pos; mark = x; below = c.face_label-2.result }) mark
-          ∙ ap (λ (x : Label). record { normal = n; above = face_label k l.pos; mark = label_from k l.mark sides; below = x }) c.face_label-2.ensures.label;
+          ap (λ (x : Label). record { normal = n; pos = x; mark = c.label.result; neg = c.face_label-2.result }) c.face_label.ensures.label
+          ∙ ap (λ (x : Label). record { normal = n; pos = face_label k l.pos; mark = x; neg = c.face_label-2.result }) mark
+          ∙ ap (λ (x : Label). record { normal = n; pos = face_label k l.pos; mark = label_from k l.mark sides; neg = x }) c.face_label-2.ensures.label;
     }

@@ -20,8 +20,8 @@ use Rattle.law_sphere.proofs.Builder.{normal-or}
 use Rattle.law_cones.proofs.Listing.{empty-none}
 use Rattle.law_cones.proofs.Smooth.{even-side, even-or}
 use Rattle.law_cones.proofs.SmoothDecided.{smooth-decided}
-use Rattle.law_cones.proofs.Ways.{Ways}
-use Rattle.law_cones.proofs.Sloops.{Sloop}
+use Rattle.law_cones.proofs.Dirs.{Dirs}
+use Rattle.law_cones.proofs.Sloops.{SloopThere}
 
 pub empty-or : {A : Type 0} (xs : List A) → Decided (xs ≡ [])
 empty-or [] = inl refl
@@ -60,27 +60,27 @@ module _ (gs : List Vector) (F : Vector → Label → Type 0) (L : Labelling gs 
             go c e q.direction he (λ p. let b = p.backward in omega (arith, ints)) m (go d c hd q.direction (λ p. let b = p.backward in let z = q.level in omega (arith, ints)) m f)
 
   -- ---- the face of a map without items
-  module _ (W : Ways gs F L axial) (S : Sloop gs F L axial W) where
-    pub record Face : Type 0 where
+  module _ (W : Dirs gs F L axial) (S : SloopThere gs F L axial W) where
+    pub record Ground : Type 0 where
       pub label : Option Label
-      pub alone : W.list ≡ [] → S.loop ≡ None → (m : Label) × (label ≡ Some m)
-      pub only : (m : Label) → label ≡ Some m → (W.list ≡ []) × (S.loop ≡ None)
+      pub alone : W.list ≡ [] → S.sloop ≡ None → (m : Label) × (label ≡ Some m)
+      pub only : (m : Label) → label ≡ Some m → (W.list ≡ []) × (S.sloop ≡ None)
       pub everywhere : (m : Label) (d : Vector) → label ≡ Some m → IsDirection d → F d m
 
     axis-direction : IsDirection axis_x
     axis-direction z = let x = z.0 in omega (arith, ints)
 
-    alike : W.list ≡ [] → S.loop ≡ None → (d e : Vector) → IsDirection d → IsDirection e → (m : Label) → F d m → F e m
+    alike : W.list ≡ [] → S.sloop ≡ None → (d e : Vector) → IsDirection d → IsDirection e → (m : Label) → F d m → F e m
     alike e o = one-label
         (λ d h. ⊎_elim (λ s. s) (λ f. let r = W.all d h f in absurd (empty-none W.list e r.0 r.1 r.2)) (smooth-decided gs F L axial d h))
         (λ n y a m b hn hy q p.
-        let r = S.all n hn (record { clear = λ k w h z. empty-none W.list e k w h; point = y; direction = hy; above = a; mark = m; below = b; labels = p; proper = q }) in
+        let r = S.all n hn (record { clear = λ k w h z. empty-none W.list e k w h; point = y; direction = hy; pos = a; mark = m; neg = b; labels = p; proper = q }) in
         none-some r.0 (sym o ∙ r.1))
 
-    pub face : Face
-    face = by (decided-both (empty-or W.list) (none-or S.loop)) (L.exists axis_x axis-direction)
+    pub ground : Ground
+    ground = by (decided-both (empty-or W.list) (none-or S.sloop)) (L.exists axis_x axis-direction)
       where
-        by : Decided ((W.list ≡ []) × (S.loop ≡ None)) → ((m : Label) × F axis_x m) → Face
+        by : Decided ((W.list ≡ []) × (S.sloop ≡ None)) → ((m : Label) × F axis_x m) → Ground
         by (inl (e, o)) (m, f) = record {
           label = Some m;
           alone = λ x y. (m, refl);

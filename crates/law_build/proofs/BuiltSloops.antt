@@ -9,7 +9,7 @@ use Rattle.law_forms.proofs.Far.{nought-or}
 use Rattle.law_forms.proofs.Directions.{self-pos, zero-decided}
 use Rattle.law_near.proofs.Supports.{square-cross}
 use Rattle.law_sphere.specs.Vectors.{IsPrimitive}
-use Rattle.law_sphere.specs.Maps.{At, Svertex, Loop, Map}
+use Rattle.law_sphere.specs.Maps.{At, MapVertex, MapSloop, Map}
 use Rattle.law_sphere.specs.Least.{by_side}
 use Rattle.law_sphere.specs.Labelling.{Near, StraightAt, IsSmooth}
 use Rattle.law_sphere.specs.Builds.{Proper}
@@ -18,27 +18,27 @@ use Rattle.law_sphere.proofs.Vectors.{normal-direction}
 use Rattle.law_sphere.proofs.Lists.{Found, search_list}
 use Rattle.law_sphere.proofs.Parallel.{circle-point}
 use Rattle.law_sphere.proofs.Around.{Beside, same_way, other_way, beside}
-use Rattle.law_sphere.proofs.Compare.{SameDirection-turned, way-self, normals-not_opposite}
+use Rattle.law_sphere.proofs.Compare.{SameDirection-turned, dir-self, normals-not_opposite}
 use Rattle.law_sphere.proofs.Arcs.{level-same}
 use Rattle.law_sphere.proofs.Kind.{away, away-dot}
 use Rattle.law_sphere.proofs.Along.{near-one, not-even}
-use Rattle.law_sphere.proofs.Flips.{directed-by, far_directed-by, straight-same_way, planes-parallel, loop-along}
+use Rattle.law_sphere.proofs.Flips.{directed-by, far_directed-by, straight-same_way, planes-parallel, sloop-along}
 use Rattle.law_build.specs.Raw.{RawMap, Of, ShowsLabels, IsBare}
-use Rattle.law_build.specs.From.{svertex_at, loop_at, IsLoopFrom, raw_loop, straight_loop}
+use Rattle.law_build.specs.From.{svertex_at, sloop_at, IsSloopFrom, raw_sloop, straight_sloop}
 use Rattle.law_build.proofs.BuiltLabels.{with_axes, labelling, axial}
 use Rattle.law_build.proofs.RayStraight.{beside-level}
 use Rattle.law_build.proofs.StarSmooth.{star-plain, star-straight, star-normal, straight-first, straight-proper}
 use Rattle.law_build.proofs.BuiltAxes.{IsMade, star-svertex, smooth-off}
 
 -- what holds of a circle that may become the sloop
-pub record IsNeeded (F : Vector → Label → Type 0) (kept : List Star) (l : Loop) : Type 0 where
+pub record IsNeeded (F : Vector → Label → Type 0) (kept : List Star) (l : MapSloop) : Type 0 where
   pub normal : IsNormal l.normal
   pub lowest : IsPrimitive l.normal
   pub bare : IsBare kept l.normal
   pub point : Vector
   pub direction : IsDirection point
-  pub labels : StraightAt F l.normal l.above l.mark l.below point
-  pub proper : Proper l.above l.mark l.below
+  pub labels : StraightAt F l.normal l.pos l.mark l.neg point
+  pub proper : Proper l.pos l.mark l.neg
 
 module _ (gs : List Vector) (L : Vector → Label) (R : RawMap) (M : Map) (C : IsMade gs L R M) where
   abbrev F : Vector → Label → Type 0
@@ -50,19 +50,19 @@ module _ (gs : List Vector) (L : Vector → Label) (R : RawMap) (M : Map) (C : I
   abbrev kept : List Star
   kept = C.built.kept
 
-  pub loop-needed : (l : Loop) → IsLoopFrom R kept l → IsNeeded F kept l
-  loop-needed l (raw_loop e p) =
-      let hn = normal-direction l.normal (C.raw.loop_normal l e) in
+  pub sloop-needed : (l : MapSloop) → IsSloopFrom R kept l → IsNeeded F kept l
+  sloop-needed l (raw_sloop e p) =
+      let hn = normal-direction l.normal (C.raw.sloop_normal l e) in
       let y = circle-point l.normal hn in record {
-        normal = C.raw.loop_normal l e;
-        lowest = C.raw.loop_lowest l e;
-        bare = λ k t a z. let x = C.built.kept_from k t a in C.raw.loop_bare l e x.0 t x.1 z;
+        normal = C.raw.sloop_normal l e;
+        lowest = C.raw.sloop_lowest l e;
+        bare = λ k t a z. let x = C.built.kept_from k t a in C.raw.sloop_bare l e x.0 t x.1 z;
         point = y.0;
         direction = y.1.direction;
-        labels = C.raw.loop_labels l y.0 e y.1;
+        labels = C.raw.sloop_labels l y.0 e y.1;
         proper = p;
       }
-  loop-needed l (straight_loop k t a K bare e) = subst (IsNeeded F kept) (sym e) (record {
+  sloop-needed l (straight_sloop k t a K bare e) = subst (IsNeeded F kept) (sym e) (record {
     normal = star-normal gs L C.labelling t S K;
     lowest = S.star.rays_lowest zero K.first (straight-first t K);
     bare = bare;
@@ -82,10 +82,10 @@ module _ (gs : List Vector) (L : Vector → Label) (R : RawMap) (M : Map) (C : I
 
     -- all round the circle the labels are the same
     round : (d : Vector) → IsOnCircle n d → StraightAt F n a m b d
-    round d o = loop-along hs F (labelling gs L C.labelling) (axial gs) n a m b proper hn smooth y hy p d o
+    round d o = sloop-along hs F (labelling gs L C.labelling) (axial gs) n a m b proper hn smooth y hy p d o
       where
         smooth : (d : Vector) → IsOnCircle n d → IsSmooth F d
-        smooth d o = smooth-off gs L R M C d o.direction (λ k t c w. bare k t c (level-same n n d t.axis (way-self n hn) (SameDirection-turned t.axis d w) o.level))
+        smooth d o = smooth-off gs L R M C d o.direction (λ k t c w. bare k t c (level-same n n d t.axis (dir-self n hn) (SameDirection-turned t.axis d w) o.level))
 
     parallel-at : (u : Vector) (c l g : Label) (d : Vector) → IsOnCircle n d → StraightAt F u c l g d → IsZero (cross n u)
     parallel-at u c l g d o q = planes-parallel hs F (labelling gs L C.labelling) (axial gs) n a m b proper hn u c l g d o.direction (round d o) q
@@ -119,16 +119,16 @@ module _ (gs : List Vector) (L : Vector → Label) (R : RawMap) (M : Map) (C : I
         below = one (away n) b g (subst (Near F y (away n)) (minus-side a m b) (p.near (away n))) (subst (Near F y (away n)) (minus-side c l g) (q.near (away n)))
 
   -- two circles meet, and where both are needed they are the same
-  one-circle : (n : Vector) (a m b : Label) → IsNormal n → IsBare kept n → Proper a m b → (y : Vector) → IsDirection y → StraightAt F n a m b y → (l : Loop) → IsNeeded F kept l → SameDirection n l.normal
+  one-circle : (n : Vector) (a m b : Label) → IsNormal n → IsBare kept n → Proper a m b → (y : Vector) → IsDirection y → StraightAt F n a m b y → (l : MapSloop) → IsNeeded F kept l → SameDirection n l.normal
   one-circle n a m b normal bare proper y hy p l N = same-normal n a m b normal bare proper y hy p l.normal N.normal (⊎_elim (λ z. z) (λ f. met f) (zero-decided (cross n l.normal)))
     where
       met : IsDirection (cross n l.normal) → IsZero (cross n l.normal)
-      met f = parallel-at n a m b normal bare proper y hy p l.normal l.above l.mark l.below (cross n l.normal) (record { direction = f; level = square-cross n l.normal })
-          (round l.normal l.above l.mark l.below N.normal N.bare N.proper N.point N.direction N.labels (cross n l.normal) (record { direction = f; level = beside-level n l.normal }))
+      met f = parallel-at n a m b normal bare proper y hy p l.normal l.pos l.mark l.neg (cross n l.normal) (record { direction = f; level = square-cross n l.normal })
+          (round l.normal l.pos l.mark l.neg N.normal N.bare N.proper N.point N.direction N.labels (cross n l.normal) (record { direction = f; level = beside-level n l.normal }))
 
-  pub loop-all : (n y : Vector) (a m b : Label) → IsNormal n → IsDirection y → ((k : ℕ) (v : Svertex) → At M.svertices k v → dot n v.way ≡ pos 0 → ⊥) → Proper a m b → StraightAt F n a m b y
-      → (l : Loop) × (M.loop ≡ Some l) × SameDirection n l.normal
-  loop-all n y a m b normal hy off proper p = by (search_list R.stars (λ k t. dot n t.axis ≡ pos 0) (λ k t. nought-or (dot n t.axis)))
+  pub sloop-all : (n y : Vector) (a m b : Label) → IsNormal n → IsDirection y → ((k : ℕ) (v : MapVertex) → At M.svertices k v → dot n v.dir ≡ pos 0 → ⊥) → Proper a m b → StraightAt F n a m b y
+      → (l : MapSloop) × (M.sloop ≡ Some l) × SameDirection n l.normal
+  sloop-all n y a m b normal hy off proper p = by (search_list R.stars (λ k t. dot n t.axis ≡ pos 0) (λ k t. nought-or (dot n t.axis)))
     where
       bare : IsBare kept n
       bare k t h z = off k (svertex_at t) (star-svertex gs L R M C k t h) z
@@ -136,10 +136,10 @@ module _ (gs : List Vector) (L : Vector → Label) (R : RawMap) (M : Map) (C : I
       hn : IsDirection n
       hn = normal-direction n normal
 
-      listed : (l : Loop) → IsLoopFrom R kept l → (k : Loop) × (M.loop ≡ Some k) × SameDirection n k.normal
-      listed l f = let x = C.built.loop_all l f in (x.0, x.1, one-circle n a m b normal bare proper y hy p x.0 (loop-needed x.0 (C.built.loop_from x.0 x.1)))
+      listed : (l : MapSloop) → IsSloopFrom R kept l → (k : MapSloop) × (M.sloop ≡ Some k) × SameDirection n k.normal
+      listed l f = let x = C.built.sloop_all l f in (x.0, x.1, one-circle n a m b normal bare proper y hy p x.0 (sloop-needed x.0 (C.built.sloop_from x.0 x.1)))
 
-      at-star : (k : ℕ) (t : Star) (h : At R.stars k t) → dot n t.axis ≡ pos 0 → IsPlain t ⊎ IsStraight t ⊎ ((j : ℕ) × At kept j t) → (l : Loop) × (M.loop ≡ Some l) × SameDirection n l.normal
+      at-star : (k : ℕ) (t : Star) (h : At R.stars k t) → dot n t.axis ≡ pos 0 → IsPlain t ⊎ IsStraight t ⊎ ((j : ℕ) × At kept j t) → (l : MapSloop) × (M.sloop ≡ Some l) × SameDirection n l.normal
       at-star k t h z (inl P) =
           let S = C.raw.stars k t h in
           let q = star-plain gs L C.labelling t S P in
@@ -149,15 +149,15 @@ module _ (gs : List Vector) (L : Vector → Label) (R : RawMap) (M : Map) (C : I
           let S = C.raw.stars k t h in
           let u = K.first.normal in
           let w = same-normal n a m b normal bare proper y hy p u (star-normal gs L C.labelling t S K)
-          (parallel-at n a m b normal bare proper y hy p u K.above t.mark K.below t.axis (record { direction = S.star.axis; level = z }) (star-straight gs L C.labelling t S K)) in
-          listed (loop_at t K) (straight_loop k t h K (λ i v c x. bare i v c (level-same u n v.axis v.axis (SameDirection-turned n u w) (way-self v.axis (let T = C.built.kept_from i v c in let V = C.raw.stars T.0 v T.1 in V.star.axis)) x)) refl)
+          (parallel-at n a m b normal bare proper y hy p u K.pos t.mark K.neg t.axis (record { direction = S.star.axis; level = z }) (star-straight gs L C.labelling t S K)) in
+          listed (sloop_at t K) (straight_sloop k t h K (λ i v c x. bare i v c (level-same u n v.axis v.axis (SameDirection-turned n u w) (dir-self v.axis (let T = C.built.kept_from i v c in let V = C.raw.stars T.0 v T.1 in V.star.axis)) x)) refl)
       at-star k t h z (inr (inr j)) = absurd (bare j.0 t j.1 z)
 
-      by : Found R.stars (λ k t. dot n t.axis ≡ pos 0) ⊎ ((k : ℕ) (t : Star) → At R.stars k t → dot n t.axis ≡ pos 0 → ⊥) → (l : Loop) × (M.loop ≡ Some l) × SameDirection n l.normal
+      by : Found R.stars (λ k t. dot n t.axis ≡ pos 0) ⊎ ((k : ℕ) (t : Star) → At R.stars k t → dot n t.axis ≡ pos 0 → ⊥) → (l : MapSloop) × (M.sloop ≡ Some l) × SameDirection n l.normal
       by (inl f) = at-star f.number f.element f.listed f.holds (C.built.kept_all f.number f.element f.listed)
       by (inr none) =
-          let x = C.raw.loop_all n y a m b normal none (record { direction = hy; level = p.level }) proper p in
+          let x = C.raw.sloop_all n y a m b normal none (record { direction = hy; level = p.level }) proper p in
           let l = x.0 in
-          let q = C.raw.loop_labels l y x.1 (record { direction = hy; level = level-same n l.normal y y x.2 (way-self y hy) p.level }) in
-          let back = straight-same_way F l.normal n l.above l.mark l.below y (normal-direction l.normal (C.raw.loop_normal l x.1)) (SameDirection-turned n l.normal x.2) q in
-          listed l (raw_loop x.1 (straight-one n a m b normal bare proper y hy p l.above l.mark l.below back))
+          let q = C.raw.sloop_labels l y x.1 (record { direction = hy; level = level-same n l.normal y y x.2 (dir-self y hy) p.level }) in
+          let back = straight-same_way F l.normal n l.pos l.mark l.neg y (normal-direction l.normal (C.raw.sloop_normal l x.1)) (SameDirection-turned n l.normal x.2) q in
+          listed l (raw_sloop x.1 (straight-one n a m b normal bare proper y hy p l.pos l.mark l.neg back))

@@ -19,7 +19,7 @@ use Rattle.law_sphere.proofs.Vectors.{normal-direction}
 use Rattle.law_sphere.proofs.Lists.{Found, search_list}
 use Rattle.law_sphere.proofs.Places.{direction-decided}
 use Rattle.law_sphere.proofs.Parallel.{parallel-trans}
-use Rattle.law_sphere.proofs.Labels.{way-direction}
+use Rattle.law_sphere.proofs.Labels.{dir-direction}
 use Rattle.law_sphere.proofs.Around.{Beside, same_way, other_way, beside}
 use Rattle.law_sphere.proofs.Compare.{SameDirection-turned, SameDirection-trans, normals-not_opposite}
 use Rattle.law_sphere.proofs.Equal.{lowest-same}
@@ -72,7 +72,7 @@ plane-of g h = by (lowest g h)
           },
           turned l.direction l.same.parallel,
         ))
-        (normal-or l.direction (way-direction g l.direction l.same))
+        (normal-or l.direction (dir-direction g l.direction l.same))
       where
         turned : (u : Vector) → IsZero (cross g u) → IsZero (cross g (away u))
         turned u z =
@@ -108,7 +108,7 @@ module _ (gs : List Vector) (F : Vector → Label → Type 0) (L : Labelling gs 
           same n h p (other_way o) = absurd (normals-not_opposite n p.normal h p.is_normal o)
 
   -- ---- svertices
-  pub record Ways : Type 0 where
+  pub record Dirs : Type 0 where
     pub list : List Vector
     pub order : InOrder VectorBelow list
     pub primitive : (k : ℕ) (w : Vector) → At list k w → IsPrimitive w
@@ -116,8 +116,8 @@ module _ (gs : List Vector) (F : Vector → Label → Type 0) (L : Labelling gs 
     pub rough : (k : ℕ) (w : Vector) → At list k w → IsSmooth F w → ⊥
     pub all : (d : Vector) → IsDirection d → (IsSmooth F d → ⊥) → (k : ℕ) × (w : Vector) × At list k w × SameDirection d w
 
-  pub ways-one : (W : Ways) (i k : ℕ) (u w : Vector) → At W.list i u → At W.list k w → SameDirection u w → i ≡ k
-  ways-one W i k u w a b s = order-one W.list W.order i k w (subst (At W.list i) (lowest-same u w s (W.primitive i u a) (W.primitive k w b)) a) b
+  pub dirs-one : (W : Dirs) (i k : ℕ) (u w : Vector) → At W.list i u → At W.list k w → SameDirection u w → i ≡ k
+  dirs-one W i k u w a b s = order-one W.list W.order i k w (subst (At W.list i) (lowest-same u w s (W.primitive i u a) (W.primitive k w b)) a) b
 
   -- two forms whose planes cross at d
   pub record Crossing (d : Vector) : Type 0 where
@@ -169,25 +169,25 @@ module _ (gs : List Vector) (F : Vector → Label → Type 0) (L : Labelling gs 
       smooth : (v : Vector) → IsDirection v → Decided (IsSmooth F v) → ((w : Vector) × Gives v w) ⊎ (Wanted v → ⊥)
       smooth v h (inl s) = inr (λ w. w.1 s)
       smooth v h (inr f) = let l = lowest v h in
-          inl (l.direction, (l.same, l.primitive, λ s. f (smooth-same gs F L axial l.direction v (way-direction v l.direction l.same) (SameDirection-turned v l.direction l.same) s)))
+          inl (l.direction, (l.same, l.primitive, λ s. f (smooth-same gs F L axial l.direction v (dir-direction v l.direction l.same) (SameDirection-turned v l.direction l.same) s)))
 
-  pub ways : Ways
-  ways = by (collect (pairs cross gs gs) Gives Wanted given-by)
+  pub dirs : Dirs
+  dirs = by (collect (pairs cross gs gs) Gives Wanted given-by)
     where
-      by : Collected (pairs cross gs gs) Gives Wanted → Ways
+      by : Collected (pairs cross gs gs) Gives Wanted → Dirs
       by c = then (sort VectorBelow (λ u w. u ≡ w) below-trans (λ u. refl) below-either c.list)
         where
-          then : Sorted VectorBelow (λ u w. u ≡ w) c.list → Ways
+          then : Sorted VectorBelow (λ u w. u ≡ w) c.list → Dirs
           then r = record {
             list = r.list;
             order = chain-order VectorBelow (λ u w. u ≡ w) r.list r.chain;
             primitive = λ k w a. (gives k w a).1.1;
-            direction = λ k w a. let g = gives k w a in way-direction g.0 w g.1.0;
+            direction = λ k w a. let g = gives k w a in dir-direction g.0 w g.1.0;
             rough = λ k w a. (gives k w a).1.2;
             all = λ d hd rough.
                 let x = crossing-of d hd rough in
                 let v = cross x.first x.second in
-                let hv = way-direction d v (SameDirection-turned v d x.same) in
+                let hv = dir-direction d v (SameDirection-turned v d x.same) in
                 let g = c.all v (lies-pairs cross gs gs x.first x.second x.first_listed x.second_listed) (hv, λ s. rough (smooth-same gs F L axial v d hv x.same s)) in
                 let s = r.all g.0 g.1 in
                 let k = lies-at r.list s.0 s.1 in

@@ -7,21 +7,21 @@ use Rattle.law_forms.proofs.Directions.{zero-decided}
 use Rattle.law_near.proofs.FlatDecided.{cross-turned}
 use Rattle.law_arithmetic.proofs.Lists.{lies-left}
 use Rattle.law_cyclic.specs.Arcs.{IsOnCircle}
-use Rattle.law_sphere.specs.Maps.{At, Loop, Map, Item, loop_item, items, item_normal, OnItem, IsFree, Valid}
+use Rattle.law_sphere.specs.Maps.{At, MapSloop, Map, Item, sloop_item, items, item_normal, OnItem, IsFree, Valid}
 use Rattle.law_sphere.specs.Forms.{forms}
 use Rattle.law_sphere.specs.Labelling.{Labelling, StraightAt, ByOp}
 use Rattle.law_sphere.specs.Builds.{Proper}
 use Rattle.law_sphere.proofs.Vectors.{normal-direction}
 use Rattle.law_sphere.proofs.Forms.{PlaceOf, svertex_place, item_place, free_place, place_of, axes-forms, on-level}
-use Rattle.law_sphere.proofs.Compare.{way-self, SameDirection-turned, SameDirection-trans}
-use Rattle.law_sphere.proofs.Arcs.{at-loop, level-same}
+use Rattle.law_sphere.proofs.Compare.{dir-self, SameDirection-turned, SameDirection-trans}
+use Rattle.law_sphere.proofs.Arcs.{at-sloop, level-same}
 use Rattle.law_sphere.proofs.Labellings.{op-labelling}
 use Rattle.law_sphere.proofs.Flips.{planes-parallel}
 use Rattle.law_build.specs.Raw.{RawMap, Of, IsBare}
-use Rattle.law_build.specs.Overlays.{IsAxis, IsLoneLoop, Raw}
+use Rattle.law_build.specs.Overlays.{IsAxis, IsLoneSloop, Raw}
 use Rattle.law_build.proofs.SideLabels.{normals-same_way, SidesAt, free-sides, item-sides, sides-at, joined-sides, free-joined}
 use Rattle.law_build.proofs.Merged.{is-of, straight-of, straight-two, off-second, one-plane, bare-off_axes}
-use Rattle.law_build.proofs.LoneLoops.{item-loop, merged-loop, no-loop, lone-normal}
+use Rattle.law_build.proofs.LoneSloops.{item-sloop, merged-sloop, no-sloop, lone-normal}
 
 -- the direction in which two planes meet
 meet-level : (n m : Vector) → (dot n (cross n m) ≡ pos 0) × (dot m (cross n m) ≡ pos 0)
@@ -30,17 +30,17 @@ meet-level n m =
     let cx = at 1 ⊗ at 5 ⊖ at 2 ⊗ at 4 in let cy = at 2 ⊗ at 3 ⊖ at 0 ⊗ at 5 in let cz = at 0 ⊗ at 4 ⊖ at 1 ⊗ at 3 in
     (ring xs (at 0 ⊗ cx ⊕ at 1 ⊗ cy ⊕ at 2 ⊗ cz) (num (pos 0)) tt, ring xs (at 3 ⊗ cx ⊕ at 4 ⊗ cy ⊕ at 5 ⊗ cz) (num (pos 0)) tt)
 
-some-one : (l c : Loop) → ◌≡◌ {A = Option Loop} (Some l) (Some c) → l ≡ c
+some-one : (l c : MapSloop) → ◌≡◌ {A = Option MapSloop} (Some l) (Some c) → l ≡ c
 some-one l c e = ap get e
   where
-    get : Option Loop → Loop
+    get : Option MapSloop → MapSloop
     get None = l
     get (Some x) = x
 
 module _ (A B : Map) (op : Label → Label → Label) (R : RawMap) (L : Vector → Label) (V : Valid A) (W : Valid B) (raw : Raw R A B op)
     (labels : (d : Vector) → IsDirection d → ByOp A B op d (L d)) where
   -- two lone sloops have one circle
-  lone-across : (l c : Loop) → IsLoneLoop A B l → A.loop ≡ Some l → B.loop ≡ Some c → IsZero (cross l.normal c.normal)
+  lone-across : (l c : MapSloop) → IsLoneSloop A B l → A.sloop ≡ Some l → B.sloop ≡ Some c → IsZero (cross l.normal c.normal)
   lone-across l c (x, off) e f = ⊎_elim (λ z. z) by (zero-decided (cross l.normal c.normal))
     where
       by : IsDirection (cross l.normal c.normal) → IsZero (cross l.normal c.normal)
@@ -48,23 +48,23 @@ module _ (A B : Map) (op : Label → Label → Label) (R : RawMap) (L : Vector �
           let d = cross l.normal c.normal in
           let z = meet-level l.normal c.normal in
           let o : IsOnCircle l.normal d = record { direction = h; level = z.0 } in
-          let i = at-loop A.arcs A.loop l e in
-          let j = at-loop B.arcs B.loop c f in
-          one-plane A B op R L V W raw labels d h (off d o) i.0 j.0 (loop_item l) (loop_item c) i.1 j.1 o (record { direction = h; level = z.1 })
+          let i = at-sloop A.arcs A.sloop l e in
+          let j = at-sloop B.arcs B.sloop c f in
+          one-plane A B op R L V W raw labels d h (off d o) i.0 j.0 (sloop_item l) (sloop_item c) i.1 j.1 o (record { direction = h; level = z.1 })
 
-  lone-parallel : (l c : Loop) → IsLoneLoop A B l → IsLoneLoop A B c → IsZero (cross l.normal c.normal)
+  lone-parallel : (l c : MapSloop) → IsLoneSloop A B l → IsLoneSloop A B c → IsZero (cross l.normal c.normal)
   lone-parallel l c p q = by p.0 q.0
     where
       own : l ≡ c → IsZero (cross l.normal c.normal)
-      own e = subst (λ (r : Loop). IsZero (cross l.normal r.normal)) e (let w = way-self l.normal (normal-direction l.normal (lone-normal A B op R L V W raw labels l p)) in w.parallel)
+      own e = subst (λ (r : MapSloop). IsZero (cross l.normal r.normal)) e (let w = dir-self l.normal (normal-direction l.normal (lone-normal A B op R L V W raw labels l p)) in w.parallel)
 
-      by : (A.loop ≡ Some l) ⊎ (B.loop ≡ Some l) → (A.loop ≡ Some c) ⊎ (B.loop ≡ Some c) → IsZero (cross l.normal c.normal)
+      by : (A.sloop ≡ Some l) ⊎ (B.sloop ≡ Some l) → (A.sloop ≡ Some c) ⊎ (B.sloop ≡ Some c) → IsZero (cross l.normal c.normal)
       by (inl e) (inl f) = own (some-one l c (sym e ∙ f))
       by (inr e) (inr f) = own (some-one l c (sym e ∙ f))
       by (inl e) (inr f) = lone-across l c p e f
       by (inr e) (inl f) = cross-turned c.normal l.normal (lone-across c l q f e)
 
-  lone-same_way : (l c : Loop) → IsLoneLoop A B l → IsLoneLoop A B c → SameDirection l.normal c.normal
+  lone-same_way : (l c : MapSloop) → IsLoneSloop A B l → IsLoneSloop A B c → SameDirection l.normal c.normal
   lone-same_way l c p q = normals-same_way l.normal c.normal (lone-normal A B op R L V W raw labels l p) (lone-normal A B op R L V W raw labels c q) (lone-parallel l c p q)
 
   of-labels : Labelling (forms A ++ forms B) (Of L)
@@ -83,42 +83,42 @@ module _ (A B : Map) (op : Label → Label → Label) (R : RawMap) (L : Vector �
     parallel : (u : Vector) → IsNormal u → dot u y ≡ pos 0 → SidesAt A u y → SidesAt B u y → SameDirection n u
     parallel u hu z s t = normals-same_way n u hn hu
         (planes-parallel (forms A ++ forms B) (Of L) of-labels (λ g l. lies-left (forms A) (forms B) g (axes-forms A g l)) n a m b proper (normal-direction n hn) u
-        (op s.above t.above) (op s.label t.label) (op s.below t.below) y o.direction p
-        (straight-of A B op R L V W raw labels u (op s.above t.above) (op s.label t.label) (op s.below t.below) y (joined-sides A B op u y z s t)))
+        (op s.pos t.pos) (op s.label t.label) (op s.neg t.neg) y o.direction p
+        (straight-of A B op R L V W raw labels u (op s.pos t.pos) (op s.label t.label) (op s.neg t.neg) y (joined-sides A B op u y z s t)))
 
     -- the lone sloop is the raw map's circle
-    is-circle : (l : Loop) → (A.loop ≡ Some l) ⊎ (B.loop ≡ Some l) → SameDirection n l.normal → (c : Loop) × (R.loop ≡ Some c) × SameDirection n c.normal
-    is-circle l x w = by R.loop refl
+    is-circle : (l : MapSloop) → (A.sloop ≡ Some l) ⊎ (B.sloop ≡ Some l) → SameDirection n l.normal → (c : MapSloop) × (R.sloop ≡ Some c) × SameDirection n c.normal
+    is-circle l x w = by R.sloop refl
       where
-        lone : IsLoneLoop A B l
-        lone = (x, λ d c. off d (record { direction = c.direction; level = level-same l.normal n d d (SameDirection-turned n l.normal w) (way-self d c.direction) c.level }))
+        lone : IsLoneSloop A B l
+        lone = (x, λ d c. off d (record { direction = c.direction; level = level-same l.normal n d d (SameDirection-turned n l.normal w) (dir-self d c.direction) c.level }))
 
-        by : (q : Option Loop) → R.loop ≡ q → (c : Loop) × (R.loop ≡ Some c) × SameDirection n c.normal
-        by None e = absurd (no-loop A B op R L V W raw labels e l lone)
+        by : (q : Option MapSloop) → R.sloop ≡ q → (c : MapSloop) × (R.sloop ≡ Some c) × SameDirection n c.normal
+        by None e = absurd (no-sloop A B op R L V W raw labels e l lone)
         by (Some c) e =
-            let g = merged-loop A B op R L V W raw labels c e in
+            let g = merged-sloop A B op R L V W raw labels c e in
             (c, e, subst (SameDirection n) (sym g.normal) (SameDirection-trans n l.normal g.lone.normal w (lone-same_way l g.lone lone g.is_lone)))
 
-    by-first : (i : ℕ) (x : Item) → At (items A) i x → OnItem A x y → (c : Loop) × (R.loop ≡ Some c) × SameDirection n c.normal
+    by-first : (i : ℕ) (x : Item) → At (items A) i x → OnItem A x y → (c : MapSloop) × (R.sloop ≡ Some c) × SameDirection n c.normal
     by-first i x h q =
         let u = V.shaped.normals i x h in
         let k = normal-direction (item_normal x) u in
         let z = on-level A x y q in
-        let w = parallel (item_normal x) u z (item-sides A V (item_normal x) y i x h q (way-self (item_normal x) k))
+        let w = parallel (item_normal x) u z (item-sides A V (item_normal x) y i x h q (dir-self (item_normal x) k))
         (sides-at B W (item_normal x) y o.direction u (off-second A B op R L V W raw labels y o.direction (off y o)) (λ j v r t. one-plane A B op R L V W raw labels y o.direction (off y o) i j x v h r q t)) in
-        let r = item-loop A V.shaped n (λ d c s. off d c (inl s)) i x h w in
+        let r = item-sloop A V.shaped n (λ d c s. off d c (inl s)) i x h w in
         is-circle r.0 (inl r.1) r.2
 
-    by-second : (i : ℕ) (x : Item) → At (items B) i x → OnItem B x y → IsFree A y → (c : Loop) × (R.loop ≡ Some c) × SameDirection n c.normal
+    by-second : (i : ℕ) (x : Item) → At (items B) i x → OnItem B x y → IsFree A y → (c : MapSloop) × (R.sloop ≡ Some c) × SameDirection n c.normal
     by-second i x h q F =
         let u = W.shaped.normals i x h in
         let k = normal-direction (item_normal x) u in
-        let w = parallel (item_normal x) u (on-level B x y q) (free-sides A V (item_normal x) y F) (item-sides B W (item_normal x) y i x h q (way-self (item_normal x) k)) in
-        let r = item-loop B W.shaped n (λ d c s. off d c (inr (inl s))) i x h w in
+        let w = parallel (item_normal x) u (on-level B x y q) (free-sides A V (item_normal x) y F) (item-sides B W (item_normal x) y i x h q (dir-self (item_normal x) k)) in
+        let r = item-sloop B W.shaped n (λ d c s. off d c (inr (inl s))) i x h w in
         is-circle r.0 (inr r.1) r.2
 
-    pub raw-loop_all : (c : Loop) × (R.loop ≡ Some c) × SameDirection n c.normal
-    raw-loop_all = by (place_of A y o.direction) (place_of B y o.direction)
+    pub raw-sloop_all : (c : MapSloop) × (R.sloop ≡ Some c) × SameDirection n c.normal
+    raw-sloop_all = by (place_of A y o.direction) (place_of B y o.direction)
       where
         plain : IsFree A y → IsFree B y → ⊥
         plain F G =
@@ -126,7 +126,7 @@ module _ (A B : Map) (op : Label → Label → Label) (R : RawMap) (L : Vector �
             let e = straight-two A B op R L V W raw labels n a m b r.0 r.0 r.0 y (normal-direction n hn) p (straight-of A B op R L V W raw labels n r.0 r.0 r.0 y r.1) in
             proper (e.0 ∙ sym e.1) (e.2 ∙ sym e.1)
 
-        by : PlaceOf A y → PlaceOf B y → (c : Loop) × (R.loop ≡ Some c) × SameDirection n c.normal
+        by : PlaceOf A y → PlaceOf B y → (c : MapSloop) × (R.sloop ≡ Some c) × SameDirection n c.normal
         by (svertex_place k v h w) x = absurd (off y o (inl (k, v, h, w)))
         by (item_place i x h q) r = by-first i x h q
         by (free_place F) (svertex_place k v h w) = absurd (off y o (inr (inl (k, v, h, w))))

@@ -1,39 +1,39 @@
 use Rattle.std.proofs.Common.{ℕ, length, arith, refl, ap, ◌∙◌}
 use Rattle.nef_geo.specs.Shapes.{vector_of}
-use Rattle.law_sphere.specs.Maps.{loop_item, items, above_item}
+use Rattle.law_sphere.specs.Maps.{sloop_item, items, pos_item}
 use Rattle.nef_smap.specs.SideNumbers.{number_of}
-use Rattle.nef_smap.specs.Maps.{map_of, loop_of}
-use Rattle.nef_smap.proofs.MapLists.{at-within, item-loop}
+use Rattle.nef_smap.specs.Maps.{map_of, sloop_of}
+use Rattle.nef_smap.proofs.MapLists.{at-within, item-sloop}
 use Rattle.nef_smap.proofs.Joining.{normal-small, plane-across}
-use Rattle.nef_smap.proofs.join.join_loop.Goals as goal
+use Rattle.nef_smap.proofs.join.join_sloop.Goals as goal
 
 pub in_plane-at-requires : goal.in_plane-at-requires
 in_plane-at-requires c =
     let m = c.args.map.now in
-    record { small = normal-small m c.requires.map (length m.arcs) (loop_item (loop_of c.args.circle.now)) (item-loop m.arcs m.sloop (length m.arcs) c.args.circle.now refl c.requires.circle) }
+    record { small = normal-small m c.requires.map (length m.arcs) (sloop_item (sloop_of c.args.circle.now)) (item-sloop m.arcs m.sloop (length m.arcs) c.args.circle.now refl c.requires.circle) }
 
 pub beside-requires : goal.beside-requires
 beside-requires c =
     let m = c.args.map.now in
     record {
-      apart = plane-across m c.requires.map (length m.arcs) (loop_item (loop_of c.args.circle.now)) (item-loop m.arcs m.sloop (length m.arcs) c.args.circle.now refl c.requires.circle)
+      apart = plane-across m c.requires.map (length m.arcs) (sloop_item (sloop_of c.args.circle.now)) (item-sloop m.arcs m.sloop (length m.arcs) c.args.circle.now refl c.requires.circle)
           (vector_of c.in_plane-at.result) c.in_plane-at.result.some c.in_plane-at.ensures.level;
     }
 
 pub item_side-requires : goal.item_side-requires
 item_side-requires c =
     let m = c.args.map.now in
-    let h = at-within (items (map_of m)) (length m.arcs) (loop_item (loop_of c.args.circle.now)) (item-loop m.arcs m.sloop (length m.arcs) c.args.circle.now refl c.requires.circle) in
+    let h = at-within (items (map_of m)) (length m.arcs) (sloop_item (sloop_of c.args.circle.now)) (item-sloop m.arcs m.sloop (length m.arcs) c.args.circle.now refl c.requires.circle) in
     record { within = omega (arith, c.len.ensures.len) }
 
 pub returns : goal.returns
 returns c =
     let m = c.args.map.now in
     let M = map_of m in
-    let l = item-loop m.arcs m.sloop (length m.arcs) c.args.circle.now refl c.requires.circle in
+    let l = item-sloop m.arcs m.sloop (length m.arcs) c.args.circle.now refl c.requires.circle in
     record {
       joins = (
-        loop_of c.args.circle.now,
+        sloop_of c.args.circle.now,
         l,
         (
           record {
@@ -44,7 +44,7 @@ returns c =
             first = c.above.result;
             is_first = c.above.ensures.first;
           },
-          c.item_side.ensures.number ∙ ap (λ (k : ℕ). number_of M (above_item k)) c.len.ensures.len,
+          c.item_side.ensures.number ∙ ap (λ (k : ℕ). number_of M (pos_item k)) c.len.ensures.len,
           c.met_number.ensures.number,
         ),
       );
