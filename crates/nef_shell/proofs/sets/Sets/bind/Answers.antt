@@ -20,6 +20,7 @@ grown : (nodes : List Node) (old new : List (Option Complex)) (c : Complex) → 
 grown nodes old new c e s = subst (IsGrown nodes 1 old) (sym e) (record {
   count = let f = length-append old (Some c ∷ []) in omega arith;
   earlier = λ k (d, a, t). (d, kept-left old (Some c ∷ []) k (Some d) a, t);
+  gone = λ k a. kept-left old (Some c ∷ []) k None a;
   added = λ k l m. let f = length-append old (Some c ∷ []) in let z : length old ≡ k = omega arith in subst (IsKept nodes (old ++ Some c ∷ [])) z (c, at-last old (Some c), s);
 })
 
