@@ -110,7 +110,7 @@ pub(crate) fn turned_arcs(
 }
 
 // The turned sloop. The normal form exchanges the sides where it is opposite to the turned normal.
-fn turned_sloop(turn: &Turn, sloop: &SLoop) -> SLoop
+fn turned_circle(turn: &Turn, sloop: &SLoop) -> SLoop
     ensures turned { IsSloopImage turn.now.number sloop.now result }
 {
     let normal = turned_normal(turn, &sloop.normal);
@@ -129,7 +129,7 @@ pub(crate) fn turned_sloop(turn: &Turn, sloop: Option<SLoop>) -> Option<SLoop>
     ensures normal { IfSome result (λ l. IsNormal (vector_of l.normal)) }
 {
     match sloop {
-        Some(sloop) => Some(turned_sloop(turn, &sloop)),
+        Some(sloop) => Some(turned_circle(turn, &sloop)),
         None => None,
     }
 }
