@@ -12,6 +12,7 @@ pub mod FacetArcs
 pub mod FacetPoints
 pub mod FacetEdges
 pub mod FacetEnds
+pub mod EqualPoints
 pub mod FacetAngles
 pub mod FacetTriangle
 pub mod FacetSight

@@ -1,14 +1,15 @@
 -- Directions from point to point along a segment.
-use Rattle.std.proofs.Common.{◌≡◌, ℕ, ◌*◌, ℤ, pos, ◌+ℤ◌, ◌-ℤ◌, ◌*ℤ◌, arith, refl, ◌⊎◌, inl, inr, ⊎_elim, [], ◌∷◌}
+use Rattle.std.proofs.Common.{◌≡◌, ℕ, ◌*◌, ℤ, pos, neg_ℤ, ◌+ℤ◌, ◌-ℤ◌, ◌*ℤ◌, arith, refl, ◌⊎◌, inl, inr, ⊎_elim, [], ◌∷◌}
 use Rattle.std.proofs.Math.Nat.{mul-pos}
-use Rattle.law_arithmetic.proofs.Ring.{ring, at, num, ◌⊕◌, ◌⊖◌, ◌⊗◌}
+use Rattle.law_arithmetic.proofs.Ring.{ring, at, num, neg, ◌⊕◌, ◌⊖◌, ◌⊗◌}
 use Rattle.std.proofs.lemmas.Int.{ints}
+use Rattle.law_arithmetic.proofs.Combination.{given, none, follows}
 use Rattle.nef_space.specs.Place.{Place, step, SamePlace, toward, IsBetween}
-use Rattle.nef_space.specs.Vectors.{Vector, SameDirection, IsDirection}
+use Rattle.nef_space.specs.Vectors.{Vector, opposite, SameDirection, IsDirection}
 use Rattle.law_forms.specs.Homogeneous.{SameUpToFactor, of_place, of_direction}
-use Rattle.law_forms.proofs.Between.{from-start, factor-place}
-use Rattle.law_forms.proofs.Sums.{past-mixed, before-at-after}
-use Rattle.law_forms.proofs.Directions.{factor-same, direction-left, direction-right}
+use Rattle.law_forms.proofs.Between.{from-start, place-factor, factor-place}
+use Rattle.law_forms.proofs.Sums.{same-trans, past-mixed, before-at-after}
+use Rattle.law_forms.proofs.Directions.{same-factor, factor-same, direction-left, direction-right}
 use Rattle.law_near.proofs.Between.{mixed-of, between-of, between-turned, between-inner}
 use Rattle.law_near.proofs.Rays.{same-place_sym}
 use Rattle.law_sphere.proofs.Compare.{SameDirection-turned, SameDirection-trans}
@@ -50,6 +51,9 @@ between-start p u q b = direction-left (toward p u) (toward u q) b
 pub same-itself : (p : Place) → SamePlace p p
 same-itself p = record { along_x = refl; along_y = refl; along_z = refl }
 
+pub same-place_trans : (p q r : Place) → SamePlace p q → SamePlace q r → SamePlace p r
+same-place_trans p q r e f = factor-place p r (same-trans (of_place p) (of_place q) (of_place r) (place-factor p q e) (place-factor q r f))
+
 -- with m between p and q, a point between p and q is before, at or after m
 pub between-cases : (p m q r : Place) → IsBetween p m q → IsBetween p r q → IsBetween p r m ⊎ SamePlace r m ⊎ IsBetween m r q
 between-cases p m q r b c =
@@ -80,3 +84,21 @@ onward-way p d i = SameDirection-turned d (toward p (onward p d)) (factor-same d
   where
     each : (x e : ℤ) → pos (p.w * p.w) *ℤ e ≡ pos 1 *ℤ ((x *ℤ pos 1 +ℤ pos 1 *ℤ pos p.w *ℤ e) *ℤ pos p.w -ℤ x *ℤ pos (p.w * 1))
     each x e = ring (pos p.w ∷ x ∷ e ∷ []) (at 0 ⊗ at 0 ⊗ at 2) (num (pos 1) ⊗ ((at 1 ⊗ num (pos 1) ⊕ num (pos 1) ⊗ at 0 ⊗ at 2) ⊗ at 0 ⊖ at 1 ⊗ (at 0 ⊗ num (pos 1)))) tt
+
+-- ---- opposite directions
+pub opposed : (k l : ℕ) (x y : ℤ) → pos k *ℤ x ≡ pos l *ℤ y → pos k *ℤ neg_ℤ x ≡ pos l *ℤ neg_ℤ y
+opposed k l x y e = follows (pos k ∷ pos l ∷ x ∷ y ∷ []) (at 0 ⊗ neg (at 2)) (at 1 ⊗ neg (at 3)) (given (neg (num (pos 1))) (at 0 ⊗ at 2) (at 1 ⊗ at 3) e none) tt
+
+pub opposite-same : (d f : Vector) → SameDirection d f → SameDirection (opposite d) (opposite f)
+opposite-same d f w =
+    let F = same-factor d f w in
+    factor-same (opposite d) (opposite f) (record {
+      k = F.k;
+      l = F.l;
+      some_k = F.some_k;
+      some_l = F.some_l;
+      is_x = opposed F.k F.l d.x f.x F.is_x;
+      is_y = opposed F.k F.l d.y f.y F.is_y;
+      is_z = opposed F.k F.l d.z f.z F.is_z;
+      is_w = F.is_w;
+    }) (λ z. let x = z.0 in let y = z.1 in let t = z.2 in direction-left d f w (omega (arith, ints), omega (arith, ints), omega (arith, ints)))

@@ -83,7 +83,10 @@ abbrev pub IsCut : Complex → Complex → Place → Type 0
 IsCut C D y = (k : ℕ) × (e : Edge) × (v : Vertex) × (w : Vertex) × (i : ℕ) × (h : Form) × At C.edges k e × HasEnds C e v w × IsBetween v.point y w.point
     × At D.carriers i h × (form_at h y ≡ pos 0) × (HoldsEdge h v w → ⊥)
 
--- where both operands are flat along a direction, so is what is made of them: a point that is no vertex of s or t, and no cut of one's edges by the other's carriers, has a direction that is flat for both
+-- y is a vertex of the intersection, the union, the difference or the symmetric difference
+abbrev pub IsVertexOfBoth : Set → Set → Place → Type 0
+IsVertexOfBoth s t y = IsVertex (Set.both s t) y ⊎ IsVertex (Set.either s t) y ⊎ IsVertex (Set.less s t) y ⊎ IsVertex (Set.one_of s t) y
+
+-- such a vertex is one of s or of t, or a cut of one's edges by the other's carriers
 abbrev pub CandidatesSuffice : Type 0
-CandidatesSuffice = (s t : Set) (C D : Complex) (y : Place) → Shows s C → Shows t D → (IsVertex s y → ⊥) → (IsVertex t y → ⊥) → (IsCut C D y → ⊥) → (IsCut D C y → ⊥)
-    → (d : Vector) × IsDirection d × Flat s y d × Flat t y d
+CandidatesSuffice = (s t : Set) (C D : Complex) (y : Place) → Shows s C → Shows t D → IsVertexOfBoth s t y → IsVertex s y ⊎ IsVertex t y ⊎ IsCut C D y ⊎ IsCut D C y

@@ -11,8 +11,8 @@ pub fn edge_laws()
     ensures svertices { SvertexHasEdge }
 {}
 
-/// What is made of two sets has its vertices among the vertices of both and the points where an edge of the one
-/// crosses a carrier of the other.
+/// A vertex of the intersection, the union, the difference or the symmetric difference of two sets is a vertex of one of
+/// them, or a point where an edge of the one crosses a carrier of the other.
 pub fn candidate_laws()
     ensures suffice { CandidatesSuffice }
 {}

@@ -13,9 +13,11 @@ use Rattle.law_complex.specs.Skeleton.{IsEdgePoint, IsOnEdges, IsFacetPoint, Spo
 use Rattle.law_complex.specs.Rays.{VertexSide, IsAbove, RayDown}
 use Rattle.law_links.specs.Links.{AreAlong, LinkAlong, LinkAcross, FacetLink, LinkInSface, AreSidesAlong, pos_arcs, neg_arcs, around_ends, LinkAlongEdge, LinkAcrossFacet, LinkDown, VolumeLink}
 use Rattle.nef_parts.specs.Cycles.{IsNextArc, NextCorner, StepsTo, IsCycle, Cycles}
-use Rattle.nef_parts.specs.Numbers.{HasRows, count_items, count_sides, IsSideNumber, IsVolumeOf, IsSideBelow, FacetNumbers, VolumeNumbers, pos_of, neg_of, IsFacetAt, IsFacet, IsVolume, IsParts, cycle_corners}
+use Rattle.nef_parts.specs.Numbers.{HasRows, count_items, count_sides, IsSideNumber, IsVolumeOf, IsSideBelow, FacetNumbers, VolumeNumbers, pos_of, neg_of, IsFacetAt, IsFacet, IsVolume, IsParts, cycle_corners, shell_sides}
+use Rattle.nef_parts.specs.Shells.{ShellLink, IsNamed, IsShell, Shells}
 use Rattle.nef_parts.specs.declared.parts.Facet.{Facet}
 use Rattle.nef_parts.specs.declared.parts.Parts.{Parts}
+use Rattle.nef_parts.specs.declared.parts.Side.{Side as NamedSide}
 
 abbrev pub made : List Form → List Vertex → List Edge → Complex
 made hs vs es = record { carriers = hs; vertices = vs; edges = es }
@@ -234,6 +236,36 @@ module _ (vs : List Vertex) (es : List Edge) where
     labels = λ x m b h. a.labels x m (volume-of gs hs p.volume_of x n b) h;
   }
 
+  -- ---- shells
+  shell-link : (hs gs : List Form) (x y : VertexSide) → ShellLink (made hs vs es) x y → ShellLink (made gs vs es) x y
+  shell-link hs gs x y l =
+      ⊎_elim (λ a. inl (in-sface hs gs x y a))
+      (λ r. inr (⊎_elim (λ a. inl (along-edge hs gs x y a)) (λ a. inr (across-facet hs gs x y a)) r)) l
+
+  shell-chain : (hs gs : List Form) (x y : VertexSide) → Chained (ShellLink (made hs vs es)) x y → Chained (ShellLink (made gs vs es)) x y
+  shell-chain hs gs x y c = chain-map (ShellLink (made hs vs es)) (ShellLink (made gs vs es)) (λ (x : VertexSide). x) (λ x y l. chain-link (ShellLink (made gs vs es)) x y (shell-link hs gs x y l)) x y c
+
+  named : (hs gs : List Form) (s : NamedSide) (x : VertexSide) → IsNamed (made hs vs es) s x → IsNamed (made gs vs es) s x
+  named hs gs s x (e, n) = (e, side-number hs gs x s.side n)
+
+  shell-too : (hs gs : List Form) (h : List NamedSide) → IsShell (made hs vs es) h → IsShell (made gs vs es) h
+  shell-too hs gs h a = record {
+    some = a.some;
+    sides = λ s l. let r = a.sides s l in (r.0, named hs gs s (r.0) (r.1));
+    class = λ s t x y l m n.
+        let f = a.class s t x y l (named gs hs s x m) (named gs hs t y n) in
+        (λ k. shell-chain hs gs x y (f.0 k), λ c. f.1 (shell-chain gs hs x y c));
+    ordered = a.ordered;
+  }
+
+  shells-too : (hs gs : List Form) (P Q : VertexSide → Type 0) → ((x : VertexSide) → P x → Q x) → ((x : VertexSide) → Q x → P x) → (xs : List (List NamedSide)) → Shells (made hs vs es) P xs → Shells (made gs vs es) Q xs
+  shells-too hs gs P Q to from xs a = record {
+    shells = λ i h b. shell-too hs gs h (a.shells i h b);
+    within = λ i h s x b l n. to x (a.within i h s x b l (named gs hs s x n));
+    complete = λ x b. let r = a.complete x (from x b) in (r.0, r.1, r.2, r.3, r.4, named hs gs (r.2) x (r.5));
+    ordered = a.ordered;
+  }
+
   pub parts-too : (hs gs : List Form) (p : Parts) → IsParts (made hs vs es) p → IsParts (made gs vs es) p
   parts-too hs gs p a = record {
     facet_numbers = facet-numbers hs gs p.facet_of a.facet_numbers;
@@ -242,6 +274,9 @@ module _ (vs : List Vertex) (es : List Edge) where
     all_facets = a.all_facets;
     volumes = λ n l b. volume-too hs gs p n l (a.volumes n l b);
     all_volumes = λ x n b. a.all_volumes x n (volume-of gs hs p.volume_of x n b);
+    sface_numbers = record { as_many = a.sface_numbers.as_many; row = a.sface_numbers.row };
+    as_many_shells = a.as_many_shells;
+    shells = λ n xs b. shells-too hs gs (λ x. IsVolumeOf (made hs vs es) p.volume_of x n) (λ x. IsVolumeOf (made gs vs es) p.volume_of x n) (λ x v. volume-of hs gs p.volume_of x n v) (λ x v. volume-of gs hs p.volume_of x n v) (shell_sides xs) (a.shells n xs b);
   }
 
   -- ---- what belongs

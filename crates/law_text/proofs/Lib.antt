@@ -8,5 +8,6 @@ mod Numbering
 mod Rows
 mod OneCycles
 mod OneNext
+mod OneShells
 mod OneParts
 pub mod SameText

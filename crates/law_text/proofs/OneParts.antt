@@ -21,14 +21,17 @@ use Rattle.nef_complex.specs.declared.complex.Corner.{Corner as CornerValue}
 use Rattle.nef_complex.specs.Complexes.{corner_of}
 use Rattle.law_links.specs.Links.{FacetLink, VolumeLink}
 use Rattle.nef_parts.specs.Cycles.{IsCornerBelow, Cycles}
-use Rattle.nef_parts.specs.Numbers.{count_items, count_sides, IsFacetOf, IsSideNumber, IsVolumeOf, IsSideBelow, pos_of, neg_of, IsFacet, IsParts, cycle_corners}
+use Rattle.nef_parts.specs.Numbers.{count_items, count_sides, IsFacetOf, IsSideNumber, IsVolumeOf, IsSideBelow, pos_of, neg_of, IsFacet, IsParts, cycle_corners, shell_sides}
+use Rattle.nef_parts.specs.Shells.{Shells}
 use Rattle.nef_parts.specs.declared.parts.Cycle.{Cycle}
 use Rattle.nef_parts.specs.declared.parts.Facet.{Facet}
 use Rattle.nef_parts.specs.declared.parts.Parts.{Parts}
+use Rattle.nef_parts.specs.declared.parts.Shell.{Shell}
 use Rattle.nef_unique.proofs.Injective.{map-one}
 use Rattle.law_text.proofs.Numbering.{IsEarlier, numbers-one}
 use Rattle.law_text.proofs.Rows.{list-one, rows-one, rows-both, table-one}
 use Rattle.law_text.proofs.OneCycles.{HasOneNext, cycles-one}
+use Rattle.law_text.proofs.OneShells.{sfaces-one, shells-one}
 
 -- ---- values
 corner-one : (j k : CornerValue) → corner_of j ≡ corner_of k → j ≡ k
@@ -45,12 +48,17 @@ facet-equal f g a b c d e =
     ∙ ap (λ r. record { plane = g.plane; mark = g.mark; pos = g.pos; neg = r; cycles = f.cycles }) d
     ∙ ap (λ r. record { plane = g.plane; mark = g.mark; pos = g.pos; neg = g.neg; cycles = r }) e
 
-parts-equal : (p q : Parts) → p.facets ≡ q.facets → p.volumes ≡ q.volumes → p.facet_of ≡ q.facet_of → p.volume_of ≡ q.volume_of → p ≡ q
-parts-equal p q a b c d =
-    ap (λ r. record { facets = r; volumes = p.volumes; facet_of = p.facet_of; volume_of = p.volume_of }) a
-    ∙ ap (λ r. record { facets = q.facets; volumes = r; facet_of = p.facet_of; volume_of = p.volume_of }) b
-    ∙ ap (λ r. record { facets = q.facets; volumes = q.volumes; facet_of = r; volume_of = p.volume_of }) c
-    ∙ ap (λ r. record { facets = q.facets; volumes = q.volumes; facet_of = q.facet_of; volume_of = r }) d
+parts-equal : (p q : Parts) → p.facets ≡ q.facets → p.volumes ≡ q.volumes → p.facet_of ≡ q.facet_of → p.volume_of ≡ q.volume_of → p.sface_of ≡ q.sface_of → p.shells ≡ q.shells → p ≡ q
+parts-equal p q a b c d e f =
+    ap (λ r. record { facets = r; volumes = p.volumes; facet_of = p.facet_of; volume_of = p.volume_of; sface_of = p.sface_of; shells = p.shells }) a
+    ∙ ap (λ r. record { facets = q.facets; volumes = r; facet_of = p.facet_of; volume_of = p.volume_of; sface_of = p.sface_of; shells = p.shells }) b
+    ∙ ap (λ r. record { facets = q.facets; volumes = q.volumes; facet_of = r; volume_of = p.volume_of; sface_of = p.sface_of; shells = p.shells }) c
+    ∙ ap (λ r. record { facets = q.facets; volumes = q.volumes; facet_of = q.facet_of; volume_of = r; sface_of = p.sface_of; shells = p.shells }) d
+    ∙ ap (λ r. record { facets = q.facets; volumes = q.volumes; facet_of = q.facet_of; volume_of = q.volume_of; sface_of = r; shells = p.shells }) e
+    ∙ ap (λ r. record { facets = q.facets; volumes = q.volumes; facet_of = q.facet_of; volume_of = q.volume_of; sface_of = q.sface_of; shells = r }) f
+
+shell-equal : (g h : Shell) → g.sides ≡ h.sides → g ≡ h
+shell-equal g h e = ap (λ r. record { sides = r }) e
 
 -- planes through one point with parallel normals are one
 plane-one : (g h : Plane) (y : Place) → IsZero (cross (normal_of (form_of g)) (normal_of (form_of h))) → form_at (form_of g) y ≡ pos 0 → form_at (form_of h) y ≡ pos 0 → g ≡ h
@@ -186,5 +194,20 @@ module _ (C : Complex) (one : HasOneNext C) (p q : Parts) (P : IsParts C p) (Q :
       let i = has-label C x ((s.1).0) ((s.1).1) in
       (P.volumes n l a).labels x (i.0) (s.1) (i.1) ∙ sym ((Q.volumes n m b).labels x (i.0) (subst (λ (rows : List (List ℕ)). IsVolumeOf C rows x n) volume-numbers (s.1)) (i.1)))
 
+  sface-numbers : p.sface_of ≡ q.sface_of
+  sface-numbers = list-one p.sface_of q.sface_of (P.sface_numbers.as_many ∙ sym Q.sface_numbers.as_many)
+      (λ i m n a b.
+      let w = is-at_within p.sface_of i m a in
+      let e = P.sface_numbers.as_many in
+      let v = is-at_some C.vertices i (omega (arith, w, e)) in
+      let c = at-from_get C.vertices i (v.0) (v.1) in
+      sfaces-one ((v.0).map) m n (P.sface_numbers.row i (v.0) m c a) (Q.sface_numbers.row i (v.0) n c b))
+
+  shells-same : p.shells ≡ q.shells
+  shells-same = list-one p.shells q.shells (P.as_many_shells ∙ ap (λ (ls : List Label). length ls) volumes-one ∙ sym Q.as_many_shells)
+      (λ n x y a b. map-one (λ (h : Shell). h.sides) shell-equal x y
+      (shells-one C (side-number-one C) (λ z. IsVolumeOf C p.volume_of z n) (shell_sides x) (shell_sides y) (P.shells n x a)
+      (subst (λ (rows : List (List ℕ)). Shells C (λ z. IsVolumeOf C rows z n) (shell_sides y)) (sym volume-numbers) (Q.shells n y b))))
+
   pub parts-one : p ≡ q
-  parts-one = parts-equal p q facets-one volumes-one facet-numbers volume-numbers
+  parts-one = parts-equal p q facets-one volumes-one facet-numbers volume-numbers sface-numbers shells-same

@@ -1,5 +1,5 @@
 -- The vertices that a text tells.
-use Rattle.std.proofs.Common.{◌≡◌, ℕ, ℤ, pos, negsuc, ◌<◌, ◌≤◌, ◌^◌, nat_abs, arith, refl, ap, sym, ◌∙◌, List, [], ◌∷◌, ◌++◌, get_or, Option, Some, None, option_to_list}
+use Rattle.std.proofs.Common.{◌≡◌, ℕ, ℤ, pos, negsuc, ◌<◌, ◌≤◌, ◌^◌, nat_abs, arith, refl, ap, sym, ◌∙◌, List, [], ◌∷◌, ◌++◌, get_or, map, append_assoc, Option, Some, None, option_to_list}
 use lib.Signed.{mag}
 use Rattle.std.specs.Fmt.{decimal, signed_decimal}
 use Rattle.std.specs.List.{flat_map}
@@ -15,9 +15,13 @@ use Rattle.nef_smap.specs.declared.map.SArc.{SArc}
 use Rattle.nef_smap.specs.declared.map.SLoop.{SLoop}
 use Rattle.nef_complex.specs.declared.complex.Vertex.{Vertex}
 use Rattle.nef_unique.proofs.Injective.{dir-one, svertex-equal, arc-equal, sloop-equal, map-equal, vertex-equal}
-use Rattle.nef_parts.specs.Text.{Word, label_word, option_word, vertex_line, svertex_line, arc_line, sloop_line, vertex_text}
+use Rattle.nef_complex.specs.declared.complex.Complex.{Complex}
+use Rattle.nef_core.specs.declared.how.TextVersion.{TextVersion}
+use Rattle.nef_core.specs.declared.how.TextVersion.TheVariants.{One, Two}
+use Rattle.nef_parts.specs.declared.parts.Parts.{Parts}
+use Rattle.nef_parts.specs.Text.{Word, label_word, option_word, numbers, vertex_line, svertex_line, arc_line, sloop_line, vertex_text, sface_line, faced_text, with_rows, vertices_text}
 use Rattle.law_text.proofs.Lines.{ArePlain, Starts, Lacks, same-head, line-starts, line-ends, starts-onto, starts-lacks}
-use Rattle.law_text.proofs.Words.{decimal-plain, signed-plain, label-plain, option-plain, label-one, option-one}
+use Rattle.law_text.proofs.Words.{decimal-plain, numbers-plain, signed-plain, label-plain, option-plain, label-one, option-one}
 use Rattle.law_text.proofs.Lists.{Reads, ReadsAll, Any, all-lack, all-read, four_parts}
 
 -- the n-th word of a line
@@ -204,5 +208,48 @@ before-vertex v x =
     let t = vertex_text v in
     (starts-lacks 118 115 t x s (λ e. omega arith), starts-lacks 118 97 t x s (λ e. omega arith), starts-lacks 118 108 t x s (λ e. omega arith))
 
-pub vertex-lists : ReadsAll Vertex Vertex FollowsVertex (λ (v : Vertex). v) vertex_text 118
+vertex-lists : ReadsAll Vertex Vertex FollowsVertex (λ (v : Vertex). v) vertex_text 118
 vertex-lists = all-read Vertex Vertex FollowsVertex (λ (v : Vertex). v) vertex_text 118 vertex-starts vertex-reads before-vertex
+
+-- ---- vertices with the numbers of their sfaces
+face-plain : (ns : List ℕ) → ArePlain ((103 ∷ []) ∷ numbers ns)
+face-plain ns = ((omega arith, tt), numbers-plain ns)
+
+face-starts : (ns : List ℕ) → Starts 103 (sface_line ns)
+face-starts ns = line-starts 103 [] (numbers ns)
+
+face-follows : (ns : List ℕ) (x : List ℕ) → FollowsVertex (sface_line ns ++ x)
+face-follows ns x =
+    let s = face-starts ns in
+    let t = sface_line ns in
+    (starts-lacks 103 115 t x s (λ e. omega arith), starts-lacks 103 97 t x s (λ e. omega arith), starts-lacks 103 108 t x s (λ e. omega arith))
+
+abbrev Faced : Type 0
+Faced = Vertex × List ℕ
+
+faced-starts : (v : Faced) → Starts 118 (faced_text v)
+faced-starts v = starts-onto 118 (vertex_text v.0) (sface_line v.1) (vertex-starts v.0)
+
+faced-reads : Reads Faced Vertex Any (λ (v : Faced). v.0) faced_text
+faced-reads v u x y P Q e =
+    let f = sym (append_assoc (vertex_text v.0) (sface_line v.1) x) ∙ e ∙ append_assoc (vertex_text u.0) (sface_line u.1) y in
+    let r = vertex-reads v.0 u.0 (sface_line v.1 ++ x) (sface_line u.1 ++ y) (face-follows v.1 x) (face-follows u.1 y) f in
+    (r.0, (line-ends (103 ∷ []) (numbers v.1) (103 ∷ []) (numbers u.1) x y (face-plain v.1) (face-plain u.1) r.1).1)
+
+faced-lists : ReadsAll Faced Vertex Any (λ (v : Faced). v.0) faced_text 118
+faced-lists = all-read Faced Vertex Any (λ (v : Faced). v.0) faced_text 118 faced-starts faced-reads (λ _ _. tt)
+
+pub with-rows_firsts : {X Y : Type 0} (xs : List X) (rows : List (List Y)) → map (λ (x : X × List Y). x.0) (with_rows xs rows) ≡ xs
+with-rows_firsts [] rows = refl
+with-rows_firsts {X} (x ∷ xs) [] = ap (λ (ys : List X). x ∷ ys) (with-rows_firsts xs [])
+with-rows_firsts {X} (x ∷ xs) (row ∷ rows) = ap (λ (ys : List X). x ∷ ys) (with-rows_firsts xs rows)
+
+-- the vertices, as the version has them
+pub vertices-listed : (version : TextVersion) (c d : Complex) (p q : Parts) (x y : List ℕ) → FollowsVertex x → FollowsVertex y → Lacks 118 x → Lacks 118 y
+    → vertices_text version c p ++ x ≡ vertices_text version d q ++ y → (c.vertices ≡ d.vertices) × (x ≡ y)
+vertices-listed One c d p q x y P Q h k e =
+    let r = vertex-lists c.vertices d.vertices x y P Q h k e in
+    (sym (map-id c.vertices) ∙ r.0 ∙ map-id d.vertices, r.1)
+vertices-listed Two c d p q x y P Q h k e =
+    let r = faced-lists (with_rows c.vertices p.sface_of) (with_rows d.vertices q.sface_of) x y tt tt h k e in
+    (sym (with-rows_firsts c.vertices p.sface_of) ∙ r.0 ∙ with-rows_firsts d.vertices q.sface_of, r.1)

@@ -1,13 +1,14 @@
 -- What the text of a complex tells.
 use Rattle.std.specs.Prelude.{◌≡◌}
 use Rattle.nef_complex.specs.declared.complex.Complex.{Complex}
+use Rattle.nef_core.specs.declared.how.TextVersion.{TextVersion}
 use Rattle.nef_parts.specs.declared.parts.Parts.{Parts}
 use Rattle.nef_parts.specs.Text.{counts, text}
 
--- complexes with one text have the same vertices: the same points, with equal maps
+-- complexes with one text, in either version, have the same vertices: the same points, with equal maps
 abbrev pub TextReadsBack : Type 0
-TextReadsBack = (c d : Complex) (p q : Parts) → text c p ≡ text d q → c.vertices ≡ d.vertices
+TextReadsBack = (version : TextVersion) (c d : Complex) (p q : Parts) → text version c p ≡ text version d q → c.vertices ≡ d.vertices
 
--- complexes with one text have as many vertices, edges, facets and volumes
+-- complexes with one text, in either version, have as many vertices, edges, facets and volumes
 abbrev pub CountsRead : Type 0
-CountsRead = (c d : Complex) (p q : Parts) → text c p ≡ text d q → counts c p ≡ counts d q
+CountsRead = (version : TextVersion) (c d : Complex) (p q : Parts) → text version c p ≡ text version d q → counts c p ≡ counts d q

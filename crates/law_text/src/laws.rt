@@ -3,14 +3,15 @@
 ghost use Rattle.law_text.specs.Laws.{TextReadsBack, CountsRead};
 ghost use Rattle.law_text.specs.Determined.{SamePartsOfSame, SameSetSameText, TurnedBackSameText, SameTextSameSet, SpelledHolds};
 
-/// Complexes with one text have the same vertices, with equal maps, and as many edges, facets and volumes.
+/// Complexes with one text, in either version, have the same vertices, with equal maps, and as many edges, facets and
+/// volumes.
 pub fn text_laws()
     ensures vertices { TextReadsBack }
     ensures counts { CountsRead }
 {}
 
 /// Complexes with the same vertices and edges have the same parts, whatever their carriers; complexes that show one set
-/// have the same parts and the same text, so that a set that is turned and then turned back has its text again; sets whose
+/// have the same parts and the same text in each version, so that a set that is turned and then turned back has its text again; sets whose
 /// complexes have one text are one; and a point of the frame belongs to what a set's text spells exactly where the set
 /// holds.
 pub fn determined_laws()

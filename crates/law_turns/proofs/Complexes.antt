@@ -14,6 +14,7 @@ use Rattle.law_sphere.specs.Maps.{At, Map}
 use Rattle.law_sphere.specs.Least.{Cone}
 use Rattle.law_complex.specs.Complexes.{Vertex, Complex}
 use Rattle.law_complex.specs.Shows.{Shows}
+use Rattle.law_complex.proofs.Ways.{same-place_trans}
 use Rattle.law_turns.specs.Turned.{turned_place, turned_set}
 use Rattle.law_turns.specs.Complexes.{AreTurnedVertices, IsTurnedComplex, ShowsVertices}
 use Rattle.law_turns.proofs.Places.{every-place, same_place-turned}
@@ -33,9 +34,6 @@ cone-same M s p q e K =
 vertex-same : (s : Set) (p q : Place) → SamePlace p q → IsVertex s p → IsVertex s q
 vertex-same s p q e V = FlatDim-by_germs s s p q (germs-by_cell s p q (signs-same (carriers s) p q e)) 0 V
 
-pub place-through : (p q r : Place) → SamePlace p q → SamePlace q r → SamePlace p r
-place-through p q r e f = factor-place p r (same-trans (of_place p) (of_place q) (of_place r) (place-factor p q e) (place-factor q r f))
-
 module _ (k : ℕ) (s : Set) where
   pub vertices-turned : (us vs : List Vertex) → ShowsVertices s us → AreTurnedVertices k us vs → ShowsVertices (turned_set k s) vs
   vertices-turned us vs S T = record {
@@ -46,7 +44,7 @@ module _ (k : ℕ) (s : Set) where
         (λ p h.
         let (i, u, b, e) = S.complete p ((flat_dim-turned k s p 0).0 h) in
         let (j, v, a, d) = T.all i u b in
-        (j, v, a, place-through v.point (turned_place k u.point) (turned_place k p) d ((same_place-turned k u.point p).1 e)));
+        (j, v, a, same-place_trans v.point (turned_place k u.point) (turned_place k p) d ((same_place-turned k u.point p).1 e)));
     cones = λ j v a.
         let (i, u, b, e, m) = T.each j v a in
         cone-same v.map (turned_set k s) (turned_place k u.point) v.point (same-place_sym v.point (turned_place k u.point) e) (cone-turned k u.map v.map m s u.point (S.cones i u b));

@@ -18,7 +18,7 @@ use Rattle.law_turns.specs.Turned.{turned_plane, turned_place}
 use Rattle.law_turns.specs.Complexes.{AreTurnedPlanes, AreTurnedVertices}
 use Rattle.law_turns.specs.Maps.{IsTurnedMap}
 use Rattle.law_turns.proofs.Carriers.{same-form}
-use Rattle.law_turns.proofs.Complexes.{place-through}
+use Rattle.law_complex.proofs.Ways.{same-place_trans}
 use Rattle.law_turns.proofs.Exists.{turned_map, has-lists, turned-ordered}
 use Rattle.law_turns.proofs.TurnedLists.{lists-turned}
 
@@ -120,7 +120,7 @@ module _ (k : ℕ) (s : Set) (C : Complex) (S : Shows s C) where
           let (v, b, h) = M.all i u a in
           let (w, l, e) = V.all v (at-lies M.list i v b) in
           let (j, c) = lies-at V.list w l in
-          (j, w, c, place-through w.point v.point (turned_place k u.point) (same-place_sym v.point w.point e) h.0);
+          (j, w, c, same-place_trans w.point v.point (turned_place k u.point) (same-place_sym v.point w.point e) h.0);
       ordered = chain-order Below Same V.list V.chain;
       maps_ordered = λ j v a. let (i, u, b, h) = from v (at-lies V.list j v a) in h.2;
     },

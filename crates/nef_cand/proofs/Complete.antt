@@ -17,11 +17,11 @@ use Rattle.law_sphere.proofs.Lists.{search_list, Found}
 use Rattle.nef_smap.proofs.Lists.{at-within, at-get, map-at, at-map}
 use Rattle.law_complex.specs.Complexes.{Vertex, Edge, Complex, HasEnds}
 use Rattle.law_complex.specs.Shows.{Shows}
-use Rattle.law_complex.specs.Laws.{IsCut, HoldsEdge}
+use Rattle.law_complex.specs.Laws.{IsCut, HoldsEdge, IsVertexOfBoth}
 use Rattle.law_complex.proofs.Candidates.{candidates-suffice}
 use Rattle.nef_complex.specs.declared.complex.Complex.{Complex as ProgramComplex}
 use Rattle.nef_complex.specs.Complexes.{complex_of}
-use Rattle.nef_cand.specs.Candidates.{IsListed, AreExactly, IsVertexOf, AreCandidates, IsVertexOfBoth}
+use Rattle.nef_cand.specs.Candidates.{IsListed, AreExactly, IsVertexOf, AreCandidates}
 use Rattle.nef_cand.specs.Points.{Adds, CutsOne}
 use Rattle.nef_complex.proofs.Reading.{read-at}
 use Rattle.nef_cand.proofs.Adding.{adds-both, adds-as}
@@ -50,27 +50,16 @@ added-exactly P ps qs a o same = record {
     by p (inr h) = h
 
 -- ---- all vertices of the combinations
--- where a direction is flat there is no vertex
-pub never-flat : (s : Set) (y : Place) (d : Vector) → IsDirection d → Flat s y d → IsVertex s y → ⊥
-never-flat s y d i f v = v.1 (d, i, f)
-
-combined-flat : (s t : Set) (y : Place) (d : Vector) → IsDirection d → Flat s y d → Flat t y d → IsVertexOfBoth s t y → ⊥
-combined-flat s t y d i f g (inl v) = never-flat (Set.both s t) y d i (flat-of_two Set.both label_and and-label s t y d f g) v
-combined-flat s t y d i f g (inr (inl v)) = never-flat (Set.either s t) y d i (flat-of_two Set.either label_or or-label s t y d f g) v
-combined-flat s t y d i f g (inr (inr (inl v))) = never-flat (Set.less s t) y d i (flat-of_two Set.less label_less less-label s t y d f g) v
-combined-flat s t y d i f g (inr (inr (inr v))) = never-flat (Set.one_of s t) y d i (flat-of_two Set.one_of label_one_of one_of-label s t y d f g) v
-
 pub vertex-of : (s : Set) (C : Complex) (y : Place) → Shows s C → IsVertex s y → IsVertexOf C y
 vertex-of s C y S v = let f = S.complete y v in (f.0, (f.1, f.2, f.3))
 
 pub vertices-listed : (s t : Set) (C D : Complex) (ps : List Point) (y : Place) → AreCandidates C D ps → Shows s C → Shows t D → IsVertexOfBoth s t y → IsListed ps y
-vertices-listed s t C D ps y A S T v = ⊎_elim (λ h. h) (λ n. absurd (off n)) (listed-decided ps y)
+vertices-listed s t C D ps y A S T v = A.all y (candidate (candidates-suffice s t C D y S T v))
   where
-    off : (IsListed ps y → ⊥) → ⊥
-    off n =
-        let d = candidates-suffice s t C D y S T (λ u. n (A.all y (inl (vertex-of s C y S u)))) (λ u. n (A.all y (inr (inl (vertex-of t D y T u)))))
-        (λ u. n (A.all y (inr (inr (inl u))))) (λ u. n (A.all y (inr (inr (inr u))))) in
-        combined-flat s t y d.0 d.1 d.2 d.3 v
+    candidate : IsVertex s y ⊎ IsVertex t y ⊎ IsCut C D y ⊎ IsCut D C y → IsVertexOf C y ⊎ IsVertexOf D y ⊎ IsCut C D y ⊎ IsCut D C y
+    candidate (inl u) = inl (vertex-of s C y S u)
+    candidate (inr (inl u)) = inr (inl (vertex-of t D y T u))
+    candidate (inr (inr u)) = inr (inr u)
 
 -- ---- what the program collects
 -- y lies strictly inside an edge of C, on one of these planes, which doesn't hold the edge

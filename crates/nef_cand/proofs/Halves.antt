@@ -23,6 +23,7 @@ use Rattle.law_near.specs.Cones.{combination}
 use Rattle.law_near.proofs.Alike.{HasFlat-fewer}
 use Rattle.law_near.proofs.FlatDecided.{flat_dim-of}
 use Rattle.law_near.proofs.FlatOperations.{flat-combination}
+use Rattle.law_complex.proofs.Candidates.{never-flat}
 use Rattle.law_complex.specs.Complexes.{Complex}
 use Rattle.law_complex.specs.Shows.{Shows, SamePlane}
 use Rattle.law_complex.specs.Skeleton.{IsEdgePoint}
@@ -36,7 +37,7 @@ use Rattle.nef_cand.specs.Points.{Adds, CutsOne}
 use Rattle.nef_cand.proofs.Adding.{adds-both, adds-as}
 use Rattle.nef_complex.proofs.Parted.{times-nought}
 use Rattle.nef_cand.proofs.Order.{ArePlacesInOrder}
-use Rattle.nef_cand.proofs.Complete.{listed-decided, added-exactly, never-flat, vertex-of}
+use Rattle.nef_cand.proofs.Complete.{listed-decided, added-exactly, vertex-of}
 
 -- ---- what is flat for a half
 -- a half holds where its form has the sign

@@ -2,8 +2,6 @@
 use Rattle.std.specs.Prelude.{◌≡◌, ℕ, pos, ◌⊎◌, List}
 use Rattle.std.specs.List.{Contains}
 use Rattle.nef_space.specs.Place.{Place, Form, form_at, SamePlace, InClosedFrame, IsPlaceBelow, IsBetween}
-use Rattle.nef_space.specs.Sets.{Set}
-use Rattle.nef_space.specs.Local.{IsVertex}
 use Rattle.nef_geo.specs.Shapes.{place_of}
 use Rattle.nef_geo.specs.declared.point.Point.{Point}
 use Rattle.law_sphere.specs.Maps.{At}
@@ -42,7 +40,3 @@ AreCandidates C D ps = AreExactly (λ y. IsVertexOf C y ⊎ IsVertexOf D y ⊎ I
 -- the vertices of the complex, and the points where an edge of it crosses the plane
 abbrev pub AreCutCandidates : Complex → Form → List Point → Type 0
 AreCutCandidates C h ps = AreExactly (λ y. IsVertexOf C y ⊎ IsCutBy C h y) ps
-
--- y is a vertex of the intersection, the union, the difference or the symmetric difference
-abbrev pub IsVertexOfBoth : Set → Set → Place → Type 0
-IsVertexOfBoth s t y = IsVertex (Set.both s t) y ⊎ IsVertex (Set.either s t) y ⊎ IsVertex (Set.less s t) y ⊎ IsVertex (Set.one_of s t) y

@@ -6,8 +6,9 @@ ghost use Rattle.nef_space.specs.Sets.{Set};
 ghost use Rattle.nef_space.specs.Local.{IsVertex};
 ghost use Rattle.nef_geo.specs.Shapes.{form_of};
 ghost use Rattle.law_complex.specs.Shows.{SamePlane};
+ghost use Rattle.law_complex.specs.Laws.{IsVertexOfBoth};
 ghost use Rattle.nef_complex.specs.Complexes.{complex_of, ShowsSet};
-ghost use Rattle.nef_cand.specs.Candidates.{IsListed, AreCandidates, AreCutCandidates, AreFramed, IsVertexOfBoth};
+ghost use Rattle.nef_cand.specs.Candidates.{IsListed, AreCandidates, AreCutCandidates, AreFramed};
 
 use crate::OutOfMemory;
 use crate::added::{add_cuts, add_vertices, sort_once};

@@ -1,9 +1,10 @@
 -- Lines written word by word.
-use Rattle.std.proofs.Common.{◌≡◌, List, ℕ, ℤ, [], ◌∷◌, ◌++◌, refl, ap, sym, ◌∙◌, append_assoc}
-use Rattle.std.proofs.lemmas.List.{append-nil}
+use Rattle.std.proofs.Common.{◌≡◌, List, ℕ, zero, suc, ℤ, ◌+◌, ◌<◌, ◌≤◌, [], ◌∷◌, ◌++◌, length, take, Some, slice_get, arith, refl, ap, sym, ◌∙◌, append_assoc}
+use Rattle.std.proofs.lemmas.List.{append-nil, take_more, take_all}
+use Rattle.std.proofs.lemmas.Option.{get_or_from_slice_get}
 use Rattle.std.specs.Fmt.{signed_decimal}
 use Rattle.std.specs.List.{flat_map, join_with_byte}
-use Rattle.nef_parts.specs.Text.{Word, line}
+use Rattle.nef_parts.specs.Text.{Word, line, with_rows}
 use Rattle.nef_canon.specs.Words.{blanked}
 
 pub blanked-append : (us vs : List Word) → blanked (us ++ vs) ≡ blanked us ++ blanked vs
@@ -45,3 +46,29 @@ two_pairs o s t a b c d e f = more-words o [] s t (a ∷ b ∷ []) (c ∷ d ∷ 
 
 pub paired : (o s : List ℕ) (m n k l : ℤ) → s ≡ o ++ blanked (signed_decimal m ∷ signed_decimal n ∷ []) → m ≡ k → n ≡ l → s ≡ o ++ blanked (signed_decimal k ∷ signed_decimal l ∷ [])
 paired o s m n k l e f g = e ∙ ap (λ (x : ℤ). o ++ blanked (signed_decimal x ∷ signed_decimal n ∷ [])) f ∙ ap (λ (x : ℤ). o ++ blanked (signed_decimal k ∷ signed_decimal x ∷ [])) g
+
+-- ---- elements with their rows
+length-with_rows : {X Y : Type 0} (xs : List X) (rows : List (List Y)) → length (with_rows xs rows) ≡ length xs
+length-with_rows [] rows = refl
+length-with_rows (x ∷ xs) [] = ap suc (length-with_rows xs [])
+length-with_rows (x ∷ xs) (row ∷ rows) = ap suc (length-with_rows xs rows)
+
+at-with_rows : {X Y : Type 0} (xs : List X) (rows : List (List Y)) (k : ℕ) (x : X) (row : List Y) → slice_get xs k ≡ Some x → slice_get rows k ≡ Some row → slice_get (with_rows xs rows) k ≡ Some (x, row)
+at-with_rows [] rows k x row a b = cc
+at-with_rows (y ∷ xs) [] k x row a b = cc
+at-with_rows (y ∷ xs) (r ∷ rows) zero x row a b = cc
+at-with_rows (y ∷ xs) (r ∷ rows) (suc k) x row a b = at-with_rows xs rows k x row a b
+
+-- the text of an element with its row more
+pub row-more : {X Y : Type 0} (f : X × List Y → List ℕ) (xs : List X) (rows : List (List Y)) (k : ℕ) (x : X) (row : List Y) → slice_get xs k ≡ Some x → slice_get rows k ≡ Some row → k < length xs
+    → (o s t : List ℕ) → s ≡ o ++ flat_map f (take k (with_rows xs rows)) → t ≡ s ++ f (x, row) → t ≡ o ++ flat_map f (take (k + 1) (with_rows xs rows))
+row-more {X} {Y} f xs rows k x row a b l o s t e g =
+    let zs = with_rows xs rows in
+    let z : X × List Y = (x, row) in
+    let n = length-with_rows xs rows in
+    let more : take (k + 1) zs ≡ take k zs ++ z ∷ [] = take_more zs k z (omega (arith, n, l)) ∙ ap (λ (w : X × List Y). take k zs ++ w ∷ []) (get_or_from_slice_get zs k z z (at-with_rows xs rows k x row a b)) in
+    g ∙ ap (λ (r : List ℕ). r ++ f z) e ∙ append_assoc o (flat_map f (take k zs)) (f z) ∙ ap (λ (r : List ℕ). o ++ r) (sym (flat_map-last f (take k zs) z) ∙ ap (flat_map f) (sym more))
+
+-- all elements
+pub rows-all : {X Y : Type 0} (f : X × List Y → List ℕ) (xs : List X) (rows : List (List Y)) (k : ℕ) → length xs ≤ k → flat_map f (take k (with_rows xs rows)) ≡ flat_map f (with_rows xs rows)
+rows-all f xs rows k l = ap (flat_map f) (take_all k (with_rows xs rows) (let n = length-with_rows xs rows in omega (arith, n, l)))

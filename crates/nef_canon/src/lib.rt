@@ -5,6 +5,7 @@
 mod facets;
 mod maps;
 mod text;
+mod volumes;
 mod words;
 
 pub use std::alloc::AllocError as OutOfMemory;

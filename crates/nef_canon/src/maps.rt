@@ -1,11 +1,13 @@
 //! The lines of vertices with their sphere maps.
 
-ghost use Rattle.std.specs.Prelude.{◌≡◌, ◌++◌, flat_map, option_to_list, OnOk};
-ghost use Rattle.nef_parts.specs.Text.{svertex_line, arc_line, sloop_line, vertex_line, vertex_text};
+ghost use Rattle.std.specs.Prelude.{◌≡◌, ◌++◌, flat_map, option_to_list, length, OnOk};
+ghost use Rattle.nef_parts.specs.Text.{numbers, svertex_line, arc_line, sloop_line, vertex_line, vertex_text, sface_line, faced_text, with_rows};
+ghost use Rattle.nef_canon.specs.Words.{blanked};
 
 use crate::OutOfMemory;
 use crate::words::{add_count, add_dir, add_label, add_labels, add_option, add_point};
 use nef_complex::Vertex;
+use nef_geo::List;
 use nef_smap::{SArc, SLoop, SVertex};
 
 fn add_svertex(text: &mut Vec<u8>, v: &SVertex) -> Result<(), OutOfMemory>
@@ -94,6 +96,44 @@ pub(crate) fn add_vertices(text: &mut Vec<u8>, vertices: &[Vertex]) -> Result<()
 {
     for v in vertices {
         add_vertex(text, v)?;
+    }
+    Ok(())
+}
+
+// Adds a blank and the number for each number.
+fn add_counts(text: &mut Vec<u8>, counts: &[usize]) -> Result<(), OutOfMemory>
+    ensures added { OnOk result (text.new.items ≡ text.old.items ++ blanked (numbers counts.now)) }
+{
+    for count in counts {
+        add_count(text, *count)?;
+    }
+    Ok(())
+}
+
+fn add_faces(text: &mut Vec<u8>, faces: &[usize]) -> Result<(), OutOfMemory>
+    ensures added { OnOk result (text.new.items ≡ text.old.items ++ sface_line faces.now) }
+{
+    text.push(b'g')?;
+    add_counts(text, faces)?;
+    text.push(b'\n')?;
+    Ok(())
+}
+
+/// Adds the vertices as `add_vertices` does, each followed by the numbers of the sfaces of its sides.
+pub(crate) fn add_faced_vertices(
+    text: &mut Vec<u8>,
+    vertices: &List<Vertex>,
+    sface_of: &List<List<usize>>,
+) -> Result<(), OutOfMemory>
+    requires as_many { length sface_of.now ≡ length vertices.now }
+    ensures added { OnOk result (text.new.items ≡ text.old.items ++ flat_map faced_text (with_rows vertices.now sface_of.now)) }
+{
+    let count = vertices.len();
+    for number in 0..count {
+        let v = vertices.at(number);
+        add_vertex(text, v)?;
+        let faces = sface_of.at(number);
+        add_faces(text, faces.as_slice())?;
     }
     Ok(())
 }

@@ -1,5 +1,5 @@
 -- An index is put together carrier by carrier.
-use Rattle.std.proofs.Common.{◌≡◌, ℕ, ◌+◌, ◌<◌, ◌≤◌, pos, List, [], ◌∷◌, ◌++◌, length, length-append, Bool, true, false, Option, Some, None, is_some, IsTrue, ◌↔◌, arith, refl, ap, sym, ◌∙◌, subst, ⊎_elim}
+use Rattle.std.proofs.Common.{◌≡◌, ℕ, ◌+◌, ◌<◌, ◌≤◌, pos, List, [], ◌∷◌, ◌++◌, length, length-append, true, false, Option, Some, None, is_some, arith, refl, ap, sym, ◌∙◌, subst, ⊎_elim}
 use Rattle.std.specs.Option.{MatchOption}
 use Rattle.nef_space.specs.Lists.{IsAt}
 use Rattle.nef_space.specs.Numbers.{IsBelow}
@@ -15,54 +15,8 @@ use Rattle.nef_complex.specs.declared.complex.Vertex.{Vertex}
 use Rattle.nef_complex.specs.declared.complex.Edge.{Edge}
 use Rattle.nef_complex.specs.declared.index.PlaneIndex.{PlaneIndex}
 use Rattle.nef_complex.specs.Index.{HasItemIn, LiesOn, EdgeLiesIn, AreNumbersWith, IsIndexOf, AreHeld, AreInOrder}
-use Rattle.nef_complex.specs.Indexing.{HasNormal, AreFlags, HasOneMore}
-use Rattle.nef_complex.proofs.Numbered.{Before, numbers-same}
+use Rattle.nef_complex.specs.Indexing.{HasNormal, HasOneMore}
 use Rattle.nef_complex.proofs.SamePlanes.{parallel-equal}
-
--- ---- flags
--- there are n flags, for the first n vertices
-pub record AreFlagsTo (vs : List Vertex) (h : Form) (n : ℕ) (flags : List Bool) : Type 0 where
-  pub as_many : length flags ≡ n
-  pub set : (k : ℕ) → IsAt flags k true ↔ Before (LiesOn vs h) n k
-
-pub flags-none : (vs : List Vertex) (h : Form) → AreFlagsTo vs h 0 []
-flags-none vs h = record { as_many = refl; set = λ k. (λ a. cc, λ (l, p). absurd (omega arith)) }
-
-pub flags-more : (vs : List Vertex) (h : Form) (n : ℕ) (flags : List Bool) (v : Vertex) (b : Bool) → AreFlagsTo vs h n flags → IsAt vs n v → IsTrue b ↔ (form_at h (place_of v.point) ≡ pos 0) → AreFlagsTo vs h (n + 1) (flags ++ b ∷ [])
-flags-more vs h n flags v b F a t = record {
-  as_many = let e = F.as_many in let f = length-append flags (b ∷ []) in omega arith;
-  set = λ k. (λ c. forth k (is-at_either flags k true b c), λ (l, p). ⊎_elim (λ m. is-at_left flags (b ∷ []) k true ((F.set k).1 (m, p))) (λ e. back k p e) (less-or-last k n l));
-}
-  where
-    forth : (k : ℕ) → Either flags k true b → Before (LiesOn vs h) (n + 1) k
-    forth k (earlier c) = let o = (F.set k).0 c in (omega arith, o.1)
-    forth k (last e f) = let m : k ≡ n = e ∙ F.as_many in (omega arith, (v, subst (λ (i : ℕ). IsAt vs i v) (sym m) a, t.0 (sym f)))
-
-    back : (k : ℕ) → LiesOn vs h k → k ≡ n → IsAt (flags ++ b ∷ []) k true
-    back k (w, c, z) e =
-        let same : w ≡ v = is-at_one vs n w v (subst (λ (i : ℕ). IsAt vs i w) e c) a in
-        let yes : b ≡ true = t.1 (subst (λ (r : Vertex). form_at h (place_of r.point) ≡ pos 0) same z) in
-        subst (λ (i : ℕ). IsAt (flags ++ b ∷ []) i true) (F.as_many ∙ sym e) (subst (λ (r : Bool). IsAt (flags ++ b ∷ []) (length flags) r) yes (is-at_last flags b))
-
-pub flags-all : (vs : List Vertex) (h : Form) (n : ℕ) (flags : List Bool) → n ≡ length vs → AreFlagsTo vs h n flags → AreFlags vs h flags
-flags-all vs h n flags e F = record {
-  as_many = F.as_many ∙ e;
-  set = λ k. (λ a. ((F.set k).0 a).1, λ (v, a, z). (F.set k).1 (let w = is-at_within vs k v a in omega arith, (v, a, z)));
-}
-
--- the numbers of the flags that are set are those of the vertices on the plane
-pub flagged-numbers : (vs : List Vertex) (h : Form) (flags read : List Bool) (ns : List ℕ) → read ≡ flags → AreFlags vs h flags → AreNumbersWith (λ k. IsAt read k true) ns → AreNumbersWith (LiesOn vs h) ns
-flagged-numbers vs h flags read ns e F N = numbers-same (λ k. IsAt read k true) (LiesOn vs h) ns (subst (AreFlags vs h) (sym e) F).set N
-
--- ---- edges
--- the edge lies in the plane exactly where the flags of its ends are set
-pub edge-in : (vs : List Vertex) (es : List Edge) (h : Form) (flags : List Bool) (k : ℕ) (e : Edge) → AreFlags vs h flags → IsAt es k e → IsAt flags e.low true → IsAt flags e.high true → EdgeLiesIn vs es h k
-edge-in vs es h flags k e F a l u = (e, a, (F.set e.low).0 l, (F.set e.high).0 u)
-
-pub edge-flags : (vs : List Vertex) (es : List Edge) (h : Form) (flags : List Bool) (k : ℕ) (e : Edge) → AreFlags vs h flags → IsAt es k e → EdgeLiesIn vs es h k → IsAt flags e.low true × IsAt flags e.high true
-edge-flags vs es h flags k e F a (f, b, l, u) =
-    let same : f ≡ e = is-at_one es k f e b a in
-    (subst (λ (r : Edge). IsAt flags r.low true) same ((F.set f.low).1 l), subst (λ (r : Edge). IsAt flags r.high true) same ((F.set f.high).1 u))
 
 -- ---- items
 -- the number of the first item with the normal, if there is one

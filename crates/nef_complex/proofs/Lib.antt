@@ -9,3 +9,5 @@ pub mod IndexSteps
 pub mod PlaneSearch
 pub mod Carried
 pub mod ListedHolders
+pub mod Turned
+pub mod Spanning

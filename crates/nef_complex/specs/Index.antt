@@ -11,6 +11,8 @@ use Rattle.nef_smap.specs.Maps.{map_of}
 use Rattle.nef_complex.specs.declared.complex.Vertex.{Vertex}
 use Rattle.nef_complex.specs.declared.complex.Edge.{Edge}
 use Rattle.nef_complex.specs.declared.index.PlaneIndex.{PlaneIndex}
+use Rattle.nef_complex.specs.declared.spans.Span.{Span}
+use Rattle.nef_complex.specs.Spans.{IsInSpan}
 use Rattle.nef_complex.specs.Planes.{HoldsBoth}
 
 -- the plane is that of an item of some vertex
@@ -70,10 +72,32 @@ pub record AreEdgeHolders (hs : List Plane) (vs : List Vertex) (es : List Edge) 
   pub as_many : length rows ≡ length es
   pub each : (k : ℕ) (e : Edge) (ns : List ℕ) → IsAt es k e → IsAt rows k ns → AreHoldersAlong hs vs e ns
 
--- the index names the carriers that hold each vertex and each edge
+-- for each carrier there are the numbers of the vertices on it
+pub record AreCarrierVertices (hs : List Plane) (vs : List Vertex) (rows : List (List ℕ)) : Type 0 where
+  pub as_many : length rows ≡ length hs
+  pub each : (k : ℕ) (h : Plane) (ns : List ℕ) → IsAt hs k h → IsAt rows k ns → AreNumbersWith (LiesOn vs (form_of h)) ns
+
+-- for each carrier there are the numbers of the edges that lie in it
+pub record AreCarrierEdges (hs : List Plane) (vs : List Vertex) (es : List Edge) (rows : List (List ℕ)) : Type 0 where
+  pub as_many : length rows ≡ length hs
+  pub each : (k : ℕ) (h : Plane) (ns : List ℕ) → IsAt hs k h → IsAt rows k ns → AreNumbersWith (EdgeLiesIn vs es (form_of h)) ns
+
+-- the span holds the vertices on the plane
+abbrev pub IsSpanOn : List Vertex → Form → Span → Type 0
+IsSpanOn vs h s = (k : ℕ) (v : Vertex) → IsAt vs k v → form_at h (place_of v.point) ≡ pos 0 → IsInSpan s (place_of v.point)
+
+-- for each carrier there is a span that holds the vertices on it
+pub record AreSpans (hs : List Plane) (vs : List Vertex) (spans : List Span) : Type 0 where
+  pub as_many : length spans ≡ length hs
+  pub each : (k : ℕ) (h : Plane) (s : Span) → IsAt hs k h → IsAt spans k s → IsSpanOn vs (form_of h) s
+
+-- the index names the carriers that hold each vertex and each edge, and what each carrier holds and where that lies
 pub record HasHolders (hs : List Plane) (vs : List Vertex) (es : List Edge) (x : PlaneIndex) : Type 0 where
   pub at_vertex : AreVertexHolders hs vs x.at_vertex
   pub at_edge : AreEdgeHolders hs vs es x.at_edge
+  pub on_carrier : AreCarrierVertices hs vs x.on_carrier
+  pub in_carrier : AreCarrierEdges hs vs es x.in_carrier
+  pub spans : AreSpans hs vs x.spans
 
 -- the carriers hold each item: some carrier has its normal and holds its vertex
 abbrev pub AreHeld : List Plane → List Vertex → Type 0

@@ -1,5 +1,5 @@
 -- What the steps of an index's making give.
-use Rattle.std.specs.Prelude.{◌≡◌, ℕ, List, [], ◌∷◌, ◌++◌, length, ◌↔◌, Bool, true}
+use Rattle.std.specs.Prelude.{◌≡◌, ℕ, ◌<◌, ◌⊎◌, List, [], ◌∷◌, ◌++◌, length}
 use Rattle.nef_space.specs.Lists.{IsAt}
 use Rattle.nef_space.specs.Place.{Form}
 use Rattle.nef_space.specs.Vectors.{Vector, SameDirection}
@@ -15,10 +15,27 @@ use Rattle.nef_complex.specs.Index.{HasItemIn, LiesOn, EdgeLiesIn, AreNumbersWit
 abbrev pub HasNormal : Map → Vector → Type 0
 HasNormal M n = (j : ℕ) × (x : Item) × At (items M) j x × SameDirection (item_normal x) n
 
--- there is a flag for each vertex, and it is set exactly where the vertex lies on the plane
-pub record AreFlags (vs : List Vertex) (h : Form) (flags : List Bool) : Type 0 where
-  pub as_many : length flags ≡ length vs
-  pub set : (k : ℕ) → IsAt flags k true ↔ LiesOn vs h k
+-- the numbers are below n, and no two of them are equal
+pub record AreOnce (n : ℕ) (ns : List ℕ) : Type 0 where
+  pub below : (i k : ℕ) → IsAt ns i k → k < n
+  pub once : (i j k : ℕ) → i < j → IsAt ns i k → IsAt ns j k → ⊥
+
+-- those of each row are
+abbrev pub AreRowsOfOnce : ℕ → List (List ℕ) → Type 0
+AreRowsOfOnce n rows = (i : ℕ) (row : List ℕ) → IsAt rows i row → AreOnce n row
+
+-- one of the first n of the numbers is k
+abbrev pub IsAmongFirst : List ℕ → ℕ → ℕ → Type 0
+IsAmongFirst ns n k = (i : ℕ) × (i < n) × IsAt ns i k
+
+-- each of the new rows is an old one, with m at its end where the row is one of the first n that are listed
+pub record HaveOneMore (listed : List ℕ) (n m : ℕ) (old new : List (List ℕ)) : Type 0 where
+  pub as_many : length new ≡ length old
+  pub each : (k : ℕ) (row : List ℕ) → IsAt new k row → (was : List ℕ) × IsAt old k was × ((IsAmongFirst listed n k × (row ≡ was ++ m ∷ [])) ⊎ ((IsAmongFirst listed n k → ⊥) × (row ≡ was)))
+
+-- row i has the number k
+abbrev pub HasNumber : List (List ℕ) → ℕ → ℕ → Type 0
+HasNumber rows k i = (row : List ℕ) × IsAt rows i row × (j : ℕ) × IsAt row j k
 
 -- after all others the new index has the plane of an item, with the numbers of the edges in it and of the vertices on it
 pub record HasOneMore (vs : List Vertex) (es : List Edge) (h : Plane) (old new : PlaneIndex) : Type 0 where

@@ -1,4 +1,5 @@
 pub mod Complexes
 pub mod Planes
+pub mod Spans
 pub mod Index
 pub mod Indexing

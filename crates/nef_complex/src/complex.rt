@@ -24,8 +24,9 @@ pub struct Edge {
 
 /// A complex. The carriers are the planes of the halves that the set was made of and the six planes of the frame, in
 /// order of their four numbers, once each; they depend on how the set was made. Vertices stand in increasing order of
-/// their points, edges in increasing order of their lower vertex and its svertex. The index is a function of the vertices
-/// and the edges.
+/// their points, edges in increasing order of their lower vertex and its svertex. The index is to be that of these
+/// vertices and edges: the type doesn't keep that, `Complex::of` makes it so, and whoever reads the index asks for a
+/// complex that shows a set, which has the right one.
 #[derive(Debug, Drop)]
 pub struct Complex {
     pub carriers: List<Plane>,

@@ -8,15 +8,18 @@ ghost use Rattle.nef_geo.specs.Shapes.{form_of, place_of};
 ghost use Rattle.nef_complex.specs.declared.complex.Edge.{Edge};
 ghost use Rattle.nef_complex.specs.declared.complex.Vertex.{Vertex};
 ghost use Rattle.nef_complex.specs.Complexes.{ShowsSet};
-ghost use Rattle.nef_complex.specs.Index.{AreInOrder, HasItemIn, LiesOn, EdgeLiesIn, AreNumbersWith, AreHolders, AreHoldersAlong};
+ghost use Rattle.nef_complex.specs.Index.{AreInOrder, HasItemIn, LiesOn, EdgeLiesIn, AreNumbersWith, AreHolders, AreHoldersAlong, IsSpanOn};
+ghost use Rattle.nef_geo.specs.declared.plane.Plane.{Plane};
 
 use crate::complex::Complex;
+use crate::spans::Span;
 use nef_geo::{List, Plane, plane_cmp};
 use std::cmp::Ordering;
 
 /// The planes of the items of all vertices, in order of their four numbers, once each; and for each of them the numbers
 /// of the edges that lie in it and those of the vertices on it, in increasing order. Besides, for each vertex the numbers
-/// of the carriers that hold it, and for each edge those of the carriers that hold both of its ends, in increasing order.
+/// of the carriers that hold it, and for each edge those of the carriers that hold both of its ends, in increasing order;
+/// and for each carrier the numbers of the vertices on it, those of the edges in it, and a span of these vertices.
 #[derive(Debug, Drop)]
 pub struct PlaneIndex {
     pub planes: List<Plane>,
@@ -24,6 +27,9 @@ pub struct PlaneIndex {
     pub vertices: List<List<usize>>,
     pub at_vertex: List<List<usize>>,
     pub at_edge: List<List<usize>>,
+    pub on_carrier: List<List<usize>>,
+    pub in_carrier: List<List<usize>>,
+    pub spans: List<Span>,
 }
 
 /// The numbers of the edges that lie in a plane, and of the vertices on it, in increasing order.
@@ -83,4 +89,26 @@ pub fn edge_holders(c: &Complex, number: usize) -> &[usize]
     ensures holders { (e : Edge) → IsAt c.now.edges number e → AreHoldersAlong c.now.carriers c.now.vertices e result.now }
 {
     c.index.at_edge.at(number).as_slice()
+}
+
+/// The edges that lie in the carrier with this number, and the vertices on it.
+pub fn carrier_items<'a>(c: &'a Complex, number: usize) -> PlaneItems<'a>
+    requires shows { (s : Set) × ShowsSet s c.now }
+    requires within { number < length c.now.carriers }
+    ensures edges { (h : Plane) → IsAt c.now.carriers number h → AreNumbersWith (EdgeLiesIn c.now.vertices c.now.edges (form_of h)) result.edges.now }
+    ensures vertices { (h : Plane) → IsAt c.now.carriers number h → AreNumbersWith (LiesOn c.now.vertices (form_of h)) result.vertices.now }
+{
+    PlaneItems {
+        edges: c.index.in_carrier.at(number).as_slice(),
+        vertices: c.index.on_carrier.at(number).as_slice(),
+    }
+}
+
+/// A span of the vertices on the carrier with this number.
+pub fn carrier_span(c: &Complex, number: usize) -> &Span
+    requires shows { (s : Set) × ShowsSet s c.now }
+    requires within { number < length c.now.carriers }
+    ensures span { (h : Plane) → IsAt c.now.carriers number h → IsSpanOn c.now.vertices (form_of h) result.now }
+{
+    c.index.spans.at(number)
 }

@@ -1,72 +1,20 @@
 //! Complexes put together from carriers, vertices and edges.
 
-ghost use Rattle.std.specs.Prelude.{◌≡◌, ◌<◌, ◌⊎◌, ℕ, length, Some, true, ◌↔◌, IsTrue, IfOk, OnOk};
-ghost use Rattle.nef_space.specs.Lists.{IsAt};
+ghost use Rattle.std.specs.Prelude.{◌≡◌, ◌⊎◌, List as Sequence, length, ◌↔◌, IsTrue, IfOk, OnOk};
 ghost use Rattle.nef_geo.specs.Shapes.{form_of};
-ghost use Rattle.nef_complex.specs.Index.{HasItemIn, LiesOn, EdgeLiesIn, AreNumbersWith, IsIndexOf, HasHolders, AreHeld, AreInOrder, HaveEnds};
-ghost use Rattle.nef_complex.specs.Indexing.{AreFlags, HasOneMore};
+ghost use Rattle.nef_complex.specs.declared.complex.Edge.{Edge};
+ghost use Rattle.nef_complex.specs.Index.{HasItemIn, LiesOn, EdgeLiesIn, AreNumbersWith, IsIndexOf, HasHolders, AreHeld, AreInOrder, HaveEnds, AreCarrierVertices, AreCarrierEdges};
+ghost use Rattle.nef_complex.specs.Indexing.{HasOneMore};
 
 use crate::OutOfMemory;
 use crate::complex::{Complex, Edge, Vertex};
 use crate::holders::{edge_rows, vertex_rows};
-use crate::holding::{holds, plane_normal};
+use crate::holding::plane_normal;
 use crate::index::PlaneIndex;
+use crate::spans::spans_of;
+use crate::turning::turned;
 use nef_geo::{List, Plane};
 use std::alloc::Global;
-
-// For each vertex, whether it lies on the plane.
-fn flags_on(alloc: Global, h: &Plane, vertices: &[Vertex]) -> Result<Vec<bool>, OutOfMemory>
-    ensures flags { IfOk result (λ v. AreFlags vertices.now (form_of h.now) v.items) }
-{
-    let mut flags = Vec::new(alloc);
-    for vertex in vertices {
-        flags.push(holds(h, &vertex.point))?;
-    }
-    Ok(flags)
-}
-
-// The numbers of the flags that are set.
-fn numbers_set(alloc: Global, flags: &[bool]) -> Result<Vec<usize>, OutOfMemory>
-    ensures numbers { IfOk result (λ v. AreNumbersWith (λ k. IsAt flags.now k true) v.items) }
-{
-    let mut numbers = Vec::new(alloc);
-    for (number, flag) in flags.iter().enumerate() {
-        if *flag {
-            numbers.push(number)?;
-        }
-    }
-    Ok(numbers)
-}
-
-// Whether the flags of both ends are set.
-fn both_set(edge: &Edge, flags: &[bool]) -> bool
-    requires low { edge.now.low < length flags.now }
-    requires high { edge.now.high < length flags.now }
-    ensures set { IsTrue result ↔ (IsAt flags.now edge.now.low true × IsAt flags.now edge.now.high true) }
-{
-    flags[edge.low] && flags[edge.high]
-}
-
-// The numbers of the edges in the plane.
-fn edges_in(
-    alloc: Global,
-    h: &Plane,
-    vertices: &[Vertex],
-    edges: &[Edge],
-    flags: &[bool],
-) -> Result<Vec<usize>, OutOfMemory>
-    requires flags { AreFlags vertices.now (form_of h.now) flags.now }
-    requires ends { HaveEnds vertices.now edges.now }
-    ensures numbers { IfOk result (λ v. AreNumbersWith (EdgeLiesIn vertices.now edges.now (form_of h.now)) v.items) }
-{
-    let mut numbers = Vec::new(alloc);
-    for (number, edge) in edges.iter().enumerate() {
-        if both_set(edge, flags) {
-            numbers.push(number)?;
-        }
-    }
-    Ok(numbers)
-}
 
 // Whether a vertex on the plane, whose numbers are given, has an item in it.
 fn has_item(h: &Plane, vertices: &[Vertex], on: &[usize]) -> bool
@@ -82,40 +30,47 @@ fn has_item(h: &Plane, vertices: &[Vertex], on: &[usize]) -> bool
     false
 }
 
-// Adds the plane with its edges and vertices, where a vertex has an item in it.
+// A list with the same numbers.
+fn copied(alloc: Global, numbers: &[usize]) -> Result<List<usize>, OutOfMemory>
+    ensures same { IfOk result (λ v. v ≡ numbers.now) }
+{
+    Ok(List::from_vec(Vec::from_slice(alloc, numbers)?))
+}
+
+// Adds the plane with the vertices on it and the edges in it, where a vertex has an item in it.
 fn add_plane(
     alloc: Global,
     index: &mut PlaneIndex,
     h: &Plane,
     vertices: &[Vertex],
-    edges: &[Edge],
+    on: &[usize],
+    within: &[usize],
 ) -> Result<(), OutOfMemory>
-    requires ends { HaveEnds vertices.now edges.now }
-    ensures added { OnOk result (HasOneMore vertices.now edges.now h.now index.old index.new ⊎ ((index.new ≡ index.old) × ¬ HasItemIn vertices.now (form_of h.now))) }
+    requires on { AreNumbersWith (LiesOn vertices.now (form_of h.now)) on.now }
+    ensures added { (es : Sequence Edge) → AreNumbersWith (EdgeLiesIn vertices.now es (form_of h.now)) within.now → OnOk result (HasOneMore vertices.now es h.now index.old index.new ⊎ ((index.new ≡ index.old) × ¬ HasItemIn vertices.now (form_of h.now))) }
 {
-    let flags = flags_on(alloc, h, vertices)?;
-    let on = numbers_set(alloc, flags.as_slice())?;
-    if !has_item(h, vertices, on.as_slice()) {
+    if !has_item(h, vertices, on) {
         return Ok(());
     }
-    let within = edges_in(alloc, h, vertices, edges, flags.as_slice())?;
     index.planes.push(*h)?;
-    index.edges.push(List::from_vec(within))?;
-    index.vertices.push(List::from_vec(on))?;
+    index.edges.push(copied(alloc, within)?)?;
+    index.vertices.push(copied(alloc, on)?)?;
     Ok(())
 }
 
-// The index of the planes of all items, each of which is a carrier.
+// The index of the planes of all items, each of which is a carrier. The vertices and edges of each carrier are given.
 fn index_of(
     alloc: Global,
     carriers: &[Plane],
     vertices: &[Vertex],
-    edges: &[Edge],
+    on_carrier: &List<List<usize>>,
+    in_carrier: &List<List<usize>>,
 ) -> Result<PlaneIndex, OutOfMemory>
     requires ordered { AreInOrder carriers.now }
     requires held { AreHeld carriers.now vertices.now }
-    requires ends { HaveEnds vertices.now edges.now }
-    ensures index { IfOk result (λ x. IsIndexOf vertices.now edges.now x) }
+    requires on { AreCarrierVertices carriers.now vertices.now on_carrier.now }
+    requires within { length in_carrier.now ≡ length carriers.now }
+    ensures index { IfOk result (λ x. (es : Sequence Edge) → AreCarrierEdges carriers.now vertices.now es in_carrier.now → IsIndexOf vertices.now es x) }
 {
     let mut index = PlaneIndex {
         planes: List::new(alloc),
@@ -123,9 +78,14 @@ fn index_of(
         vertices: List::new(alloc),
         at_vertex: List::new(alloc),
         at_edge: List::new(alloc),
+        on_carrier: List::new(alloc),
+        in_carrier: List::new(alloc),
+        spans: List::new(alloc),
     };
-    for h in carriers {
-        add_plane(alloc, &mut index, h, vertices, edges)?;
+    for (number, h) in carriers.iter().enumerate() {
+        let on = on_carrier.at(number).as_slice();
+        let within = in_carrier.at(number).as_slice();
+        add_plane(alloc, &mut index, h, vertices, on, within)?;
     }
     Ok(index)
 }
@@ -154,14 +114,21 @@ impl Complex {
             edges.as_slice(),
             &at_vertex,
         )?;
+        let on_carrier = turned(alloc, at_vertex.as_slice(), carriers.len())?;
+        let in_carrier = turned(alloc, at_edge.as_slice(), carriers.len())?;
+        let spans = spans_of(alloc, vertices.as_slice(), on_carrier.as_slice())?;
         let mut index = index_of(
             alloc,
             carriers.as_slice(),
             vertices.as_slice(),
-            edges.as_slice(),
+            &on_carrier,
+            &in_carrier,
         )?;
         index.at_vertex = at_vertex;
         index.at_edge = at_edge;
+        index.on_carrier = on_carrier;
+        index.in_carrier = in_carrier;
+        index.spans = spans;
         Ok(Complex {
             carriers,
             vertices,

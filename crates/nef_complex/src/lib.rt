@@ -9,10 +9,15 @@ mod holders;
 mod holding;
 mod index;
 mod indexing;
+mod spans;
+mod turning;
 mod vertices;
 
 pub use complex::{Complex, Corner, Edge, PlaneMeet, Vertex};
 pub use holding::{holds, holds_both, plane_normal};
-pub use index::{PlaneIndex, PlaneItems, edge_holders, plane_items, vertex_holders};
+pub use index::{
+    PlaneIndex, PlaneItems, carrier_items, carrier_span, edge_holders, plane_items, vertex_holders,
+};
+pub use spans::{Bounds, Span};
 pub use std::alloc::AllocError as OutOfMemory;
 pub use vertices::{find_vertex, vertex_at};

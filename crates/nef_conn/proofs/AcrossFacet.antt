@@ -25,7 +25,8 @@ use Rattle.law_links.proofs.Ties.{ahead-toward, even-after}
 use Rattle.law_links.proofs.ItemPoints.{on_item-way}
 use Rattle.law_cyclic.proofs.Directions.{level-of_opposite}
 use Rattle.nef_conn.proofs.Onward.{level-kept}
-use Rattle.nef_conn.proofs.WayInward.{opposite-same, dir-same, names-same}
+use Rattle.law_complex.proofs.Ways.{opposite-same}
+use Rattle.nef_conn.proofs.WayInward.{dir-same, names-same}
 use Rattle.nef_conn.proofs.Named
 use Rattle.nef_conn.proofs.Chain.{chain-here, chain-before}
 use Rattle.nef_conn.specs.Items.{way_inward}

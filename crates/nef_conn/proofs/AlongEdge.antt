@@ -18,7 +18,7 @@ use Rattle.law_links.specs.Links.{FacetLink}
 use Rattle.law_links.proofs.EdgeEnds.{right-turn}
 use Rattle.law_links.proofs.ItemPoints.{on_item-way}
 use Rattle.law_cyclic.proofs.Directions.{level-of_opposite}
-use Rattle.nef_conn.proofs.WayInward.{opposite-same}
+use Rattle.law_complex.proofs.Ways.{opposite-same}
 use Rattle.nef_conn.proofs.Chain.{chain-here, chain-before}
 use Rattle.nef_conn.proofs.Sector.{Seen, end_of, seen-back, Through, Stops, turned}
 use Rattle.nef_conn.proofs.Leads.{Leads, leads, link-of}

@@ -27,7 +27,7 @@ use Rattle.law_complex.specs.Complexes.{Vertex, Complex}
 use Rattle.law_complex.specs.Shows.{Shows}
 use Rattle.law_complex.specs.Skeleton.{IsVertexPoint}
 use Rattle.law_complex.specs.Laws.{IsFlatIn}
-use Rattle.law_complex.proofs.Ways.{same-itself}
+use Rattle.law_complex.proofs.Ways.{same-itself, opposite-same, same-place_trans}
 use Rattle.law_complex.proofs.FacetWays.{dim-same}
 use Rattle.law_complex.proofs.Planes.{plane-way}
 use Rattle.law_complex.proofs.FacetAngles.{same-by, aligned, through-at, through-slope, angle, turn_form, turn-at, angle-turned, angle-self, angle-start, angle-inside, between-plus, between-minus}
@@ -36,11 +36,9 @@ use Rattle.law_near.proofs.Flats.{vector-same}
 use Rattle.law_complex.proofs.FacetNames.{weight}
 use Rattle.law_links.proofs.EdgeEnds.{opposite-way, right-turn, dot-opposite}
 use Rattle.nef_conn.proofs.Onward.{level-kept}
-use Rattle.nef_conn.proofs.WayInward.{opposite-same}
 use Rattle.nef_conn.proofs.Named.{twice}
 use Rattle.nef_conn.proofs.Sweep.{minus-any, cut-of}
 use Rattle.nef_conn.specs.Items.{IsInTriangle, LiesAlong}
-use Rattle.nef_conn.proofs.OneNamed.{place-trans}
 use Rattle.nef_conn.proofs.Triangles.{half-to, never-along, third-side, at-corner, on-second}
 use Rattle.nef_conn.proofs.Sector.{Seen, seen-level}
 
@@ -95,7 +93,7 @@ no-plus F p q e h = by_order (form_at F q) (pos 0) (λ l. omega (arith, ints)) (
 
 -- an edge that ends at an equal point
 half-same : (s : Set) (t x y : Place) → SamePlace x y → HalfEdge s t x → HalfEdge s t y
-half-same s t x y e E = half-to s t y (λ z. E.leads (place-toward t x (place-trans t y x (toward-place t y z) (same-place_sym x y e)))) E.one
+half-same s t x y e E = half-to s t y (λ z. E.leads (place-toward t x (same-place_trans t y x (toward-place t y z) (same-place_sym x y e)))) E.one
     (λ r m. E.all r (between-same t r y t r x (same-itself t) (same-itself r) (same-place_sym x y e) m))
 
 -- ---- in plain numbers, so that no tactic sees what a triple is made of
@@ -364,7 +362,7 @@ module _ (s : Set) (C : Complex) (S : Shows s C) (h g : Form) (d : Vector) (y z 
         by (inr w) = w.0 (E.all a d)
     passes t x amid vertex E (inr o) =
         let (i, v, at-i, e) = S.complete x vertex in
-        corner i v t at-i (place-trans a x v.point o (same-place_sym v.point x e)) amid (half-same s t x v.point (same-place_sym v.point x e) E)
+        corner i v t at-i (same-place_trans a x v.point o (same-place_sym v.point x e)) amid (half-same s t x v.point (same-place_sym v.point x e) E)
 
     none : (r : Place) → IsVertex s r → form_at g r ≡ pos 0 → IsInTriangle (normal_of g) a z c r → (SamePlace a r → ⊥) → ⊥
     none r vertex on (p, q, o) apart =
@@ -375,7 +373,7 @@ module _ (s : Set) (C : Complex) (S : Shows s C) (h g : Form) (d : Vector) (y z 
         (no-minus (turn_form m a z) r v.point back (subst (λ x. pos 0 ≤ℤ x) (sym (turn-at m a z r)) p))
         (no-plus (turn_form m a c) r v.point back (subst (λ x. x ≤ℤ pos 0) (sym (turn-at m a c r)) q))
         (plus-same_place (turn_form m z c) r v.point back (subst (λ x. pos 0 <ℤ x) (sym (turn-at m z c r)) l))
-        (λ z. apart (place-trans a v.point r z e)))
+        (λ z. apart (same-place_trans a v.point r z e)))
         (λ d. none-between r d i (v, at-i, e)) o
 
     along-second : SideWithin s a c → LiesAlong s a c

@@ -39,7 +39,7 @@ use Rattle.law_complex.proofs.FacetTriangle.{plane-between}
 use Rattle.law_complex.proofs.FacetWays.{dim-same, plane-ahead, even-by}
 use Rattle.law_complex.proofs.Planes.{plane-way}
 use Rattle.law_complex.proofs.Skeletons.{skeleton-not_flat, skeleton-or_flat}
-use Rattle.law_complex.proofs.Ways.{between-way, between-cases, between-outer, same-itself}
+use Rattle.law_complex.proofs.Ways.{between-way, between-cases, between-outer, same-itself, same-place_trans}
 use Rattle.law_links.specs.Links.{VolumeLink}
 use Rattle.law_links.specs.Components.{IsUpright}
 use Rattle.law_links.proofs.EdgeEnds.{opposite-way, dot-opposite}
@@ -54,7 +54,6 @@ use Rattle.nef_conn.proofs.Fall.{lam-zero}
 use Rattle.nef_conn.proofs.Hits.{ray-over}
 use Rattle.nef_conn.proofs.NearOver.{up-some}
 use Rattle.nef_conn.proofs.OneOver.{over-place}
-use Rattle.nef_conn.proofs.OneNamed.{place-trans}
 use Rattle.nef_conn.proofs.Leaves.{toward-same}
 use Rattle.nef_conn.proofs.RaysEnd.{ray-down}
 use Rattle.nef_conn.proofs.Silhouettes.{germs-inside, two-of}
@@ -155,7 +154,7 @@ module _ (s : Set) (C : Complex) (S : Shows s C) (upright : IsUpright C) (linked
   one-start p q x z R T e = one-end p q x z R T (by (on-ray p R.place T.place (SameDirection-trans (toward p R.place) (opposite up) (toward p T.place) R.ahead (SameDirection-turned (toward p T.place) (opposite up) way))))
     where
       some : IsDirection (toward p T.place)
-      some o = direction-left (toward q T.place) (opposite up) T.ahead (place-toward q T.place (place-trans q p T.place (same-place_sym p q e) (toward-place p T.place o)))
+      some o = direction-left (toward q T.place) (opposite up) T.ahead (place-toward q T.place (same-place_trans q p T.place (same-place_sym p q e) (toward-place p T.place o)))
 
       way : SameDirection (toward p T.place) (opposite up)
       way = SameDirection-trans (toward p T.place) (toward q T.place) (opposite up) (toward-same p q T.place e some) T.ahead

@@ -62,7 +62,7 @@ use Rattle.law_complex.specs.Complexes.{Vertex, Edge, Complex, HasEnds}
 use Rattle.law_complex.specs.Shows.{Shows}
 use Rattle.law_complex.specs.Rays.{VertexSide, RayDown}
 use Rattle.law_complex.proofs.FacetAngles.{through-at}
-use Rattle.law_complex.proofs.Ways.{between-way, between-outer, same-itself}
+use Rattle.law_complex.proofs.Ways.{between-way, between-outer, same-itself, same-place_trans}
 use Rattle.law_links.specs.Links.{VolumeLink}
 use Rattle.law_links.specs.Components.{IsUpright}
 use Rattle.law_links.proofs.EdgeEnds.{edge-ways, dot-opposite}
@@ -76,7 +76,7 @@ use Rattle.nef_conn.proofs.Leaves.{Beside-point}
 use Rattle.nef_conn.proofs.Lexical.{normal-below, normal-way, before-between, down-before, below-decided}
 use Rattle.nef_conn.proofs.NearOver.{up-some}
 use Rattle.nef_conn.proofs.Reached.{toward-normal}
-use Rattle.nef_conn.proofs.OneNamed.{one-vertex, place-trans}
+use Rattle.nef_conn.proofs.OneNamed.{one-vertex}
 use Rattle.nef_conn.proofs.Tally.{tally, tally-mono, tally-strict}
 use Rattle.law_near.proofs.Alike.{FlatDim-one, FlatDim-by_germs}
 use Rattle.law_near.proofs.Decisions.{ahead, near-ahead}
@@ -324,7 +324,7 @@ module _ (s : Set) (C : Complex) (S : Shows s C) (upright : IsUpright C) (linked
         where
           by : (k : ℕ) (u : MapVertex) → At v.map.svertices k u → SameDirection u.dir (opposite up) → Aside
           by k u hu runs b x z on-b side clear first-free three inside (inl (i', v', a', e', T)) R w3 w2 =
-              let p = one-vertex s C S i i' v v' a a' (place-trans v.point y v'.point e (same-place_sym v'.point y e')) in
+              let p = one-vertex s C S i i' v v' a a' (same-place_trans v.point y v'.point e (same-place_sym v'.point y e')) in
               let a1 = subst (λ (q : ℕ). At C.vertices q v') (sym p) a' in
               let one = at-one C.vertices i v v' a a1 in
               let hu' = subst (λ (q : Vertex). At q.map.svertices k u) one hu in

@@ -18,7 +18,7 @@ use Rattle.law_complex.specs.Complexes.{Vertex, Complex, Corner, IsCorner}
 use Rattle.law_complex.specs.Shows.{Shows}
 use Rattle.law_complex.specs.Skeleton.{item_plane, RayNames}
 use Rattle.law_complex.specs.Laws.{IsFlatIn}
-use Rattle.law_complex.proofs.Ways.{between-way, between-start, same-itself}
+use Rattle.law_complex.proofs.Ways.{between-way, between-start, same-itself, opposite-same}
 use Rattle.law_complex.proofs.Edges.{near_point, near-between}
 use Rattle.law_complex.proofs.FacetSides.{level-way, flats-carried, flats-one}
 use Rattle.law_complex.proofs.FacetWays.{plane-onward}
@@ -29,7 +29,7 @@ use Rattle.law_links.proofs.Across.{through-same}
 use Rattle.nef_conn.specs.Items.{way_inward, NamesFor, NamesOfSegments, ConverseBySegments}
 use Rattle.law_cyclic.proofs.Directions.{level-of_opposite}
 use Rattle.nef_conn.proofs.Onward.{level-kept}
-use Rattle.nef_conn.proofs.WayInward.{opposite-same, names-same, dir-level, dir-same}
+use Rattle.nef_conn.proofs.WayInward.{names-same, dir-level, dir-same}
 use Rattle.nef_conn.proofs.Reached.{items-name}
 use Rattle.nef_conn.proofs.Chain.{chain-both, chain-back}
 

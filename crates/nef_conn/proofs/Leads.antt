@@ -18,7 +18,7 @@ use Rattle.law_complex.proofs.FacetAngles.{cross-back}
 use Rattle.law_complex.proofs.FacetEdges.{ahead-back}
 use Rattle.law_links.specs.Links.{FacetLink}
 use Rattle.law_links.proofs.EdgeEnds.{edge-ways, opposite-way}
-use Rattle.nef_conn.proofs.WayInward.{opposite-same}
+use Rattle.law_complex.proofs.Ways.{opposite-same}
 use Rattle.nef_conn.proofs.Named.{twice}
 
 -- an edge leads from svertex a of vertex i, which is v, whose svertex u is, to the svertex there_end of the vertex there, which is other

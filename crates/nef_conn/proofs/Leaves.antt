@@ -27,7 +27,7 @@ use Rattle.law_complex.specs.Rays.{VertexSide}
 use Rattle.law_complex.proofs.Edges.{edge-points, edge-way}
 use Rattle.law_complex.proofs.FacetEdges.{ahead-back}
 use Rattle.law_complex.proofs.FacetWays.{dim-same}
-use Rattle.law_complex.proofs.Ways.{between-way, between-ends, between-outer, same-itself}
+use Rattle.law_complex.proofs.Ways.{between-way, between-ends, between-outer, same-itself, same-place_trans}
 use Rattle.law_links.specs.Links.{VolumeLink}
 use Rattle.law_links.specs.Components.{IsUpright, IsEvenAfter}
 use Rattle.law_links.proofs.EdgeEnds.{EdgeWays, edge-ways, opposite-way}
@@ -39,7 +39,7 @@ use Rattle.nef_conn.proofs.Hits.{OverEdge, OverFacet, Over, ItemAt, over-item, a
 use Rattle.nef_conn.proofs.Near.{Above, Wedge, wedge-on, slot, to-slot}
 use Rattle.nef_conn.proofs.NearOver.{high-frame, two-views}
 use Rattle.nef_conn.proofs.OneOver.{vertex-dim, edge-dim, facet-dim}
-use Rattle.nef_conn.proofs.OneNamed.{one-vertex, place-trans}
+use Rattle.nef_conn.proofs.OneNamed.{one-vertex}
 use Rattle.nef_conn.proofs.Triangles.{half-to}
 use Rattle.nef_conn.proofs.RaysEnd.{tied-dim}
 use Rattle.nef_conn.proofs.Touch.{Seer, bound, Frame, Touch, vertex-frame, edge-frame, touched, turn-touch, same-seers, no-way}
@@ -160,7 +160,7 @@ module _ (s : Set) (C : Complex) (S : Shows s C) (upright : IsUpright C) (linked
             let k = wedge-on s 3 y f g m (omega arith) wedge in
             let o = touched s C S y F (blend m g 1 f) k.0 in
             let p = subst (λ (r : Vector). Seer i v o.0 r) (no-way o.1.steps (blend m g 1 f)) o.1.seer in
-            let same = one-vertex s C S i j v w a b (place-trans v.point y w.point e at-y) in
+            let same = one-vertex s C S i j v w a b (same-place_trans v.point y w.point e at-y) in
             chain-both (VolumeLink C) x o.0 h (turn-touch s C S y F f (blend m g 1 f) free k.0 k.1 x o.0 T o.1)
             (by o.0 p (subst (λ (r : ℕ). At C.vertices r w) (sym same) b) (subst (λ (r : ℕ). Seer r w h (blend n d 1 up)) (sym same) U))
           where

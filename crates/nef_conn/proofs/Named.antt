@@ -32,7 +32,7 @@ use Rattle.law_complex.specs.Shows.{Shows}
 use Rattle.law_complex.specs.Skeleton.{item_plane, PlaneMeet, meets_edge, Meets, IsFirstInPlane, IsArcOnSide, IsCornerAt}
 use Rattle.law_complex.specs.Laws.{IsFlatIn}
 use Rattle.law_complex.proofs.Cones.{FlatAre}
-use Rattle.law_complex.proofs.Ways.{between-way, between-cases, same-itself}
+use Rattle.law_complex.proofs.Ways.{between-way, between-cases, same-itself, opposite-same}
 use Rattle.law_complex.proofs.Edges.{near_point, near-between}
 use Rattle.law_complex.proofs.FacetSides.{level-way, flats-carried}
 use Rattle.law_complex.proofs.FacetWays.{plane-ahead, two-off, meets-on}
@@ -51,7 +51,7 @@ use Rattle.law_links.proofs.Across.{through-same}
 use Rattle.nef_conn.proofs.Chain.{chain-here, chain-before}
 use Rattle.nef_conn.specs.Items.{way_inward, NamesFor}
 use Rattle.nef_conn.proofs.Onward.{level-kept}
-use Rattle.nef_conn.proofs.WayInward.{on-too, opposite-same, names-same, dir-level, dir-some, dir-same}
+use Rattle.nef_conn.proofs.WayInward.{on-too, names-same, dir-level, dir-some, dir-same}
 
 -- ---- planes
 own-plane : (n : Vector) (p : Place) → form_at (plane_through n p) p ≡ pos 0

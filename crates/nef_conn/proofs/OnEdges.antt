@@ -22,11 +22,11 @@ use Rattle.law_complex.specs.Shows.{Shows}
 use Rattle.law_complex.proofs.Edges.{near_point, near-between, edge-points, edge-way}
 use Rattle.law_complex.proofs.FacetEdges.{ahead-back}
 use Rattle.law_complex.proofs.FacetWays.{dim-same}
-use Rattle.law_complex.proofs.Ways.{between-way, between-outer, between-ends, between-start, same-itself}
+use Rattle.law_complex.proofs.Ways.{between-way, between-outer, between-ends, between-start, same-itself, same-place_trans}
 use Rattle.law_links.proofs.EdgeEnds.{opposite-way}
 use Rattle.law_links.proofs.Ties.{joined-even, joined-cell}
 use Rattle.nef_conn.specs.Components.{JoinedAreAsFlat, JoinedVertices, JoinedEdges}
-use Rattle.nef_conn.proofs.OneNamed.{place-trans, one-vertex, one-edge}
+use Rattle.nef_conn.proofs.OneNamed.{one-vertex, one-edge}
 use Rattle.nef_conn.proofs.SameRay.{on-ray}
 
 pub joined-as_flat : JoinedAreAsFlat
@@ -52,7 +52,7 @@ module _ (s : Set) where
 
   vertex-path : (p : Place) (rs : List Place) (q : Place) → IsEvenPath s 0 p rs q → SamePlace p q
   vertex-path p [] q e = vertex-stays p q e
-  vertex-path p (r ∷ rs) q (e, f) = place-trans p r q (vertex-stays p r e) (vertex-path r rs q f)
+  vertex-path p (r ∷ rs) q (e, f) = same-place_trans p r q (vertex-stays p r e) (vertex-path r rs q f)
 
 pub joined-vertices : JoinedVertices
 joined-vertices s C i j p q S (v, a, e) (w, b, f) = (to, from)
@@ -61,13 +61,13 @@ joined-vertices s C i j p q S (v, a, e) (w, b, f) = (to, from)
     to (k, rs, g, path) =
         let zero = FlatDim-one s p k 0 g (dim-same s v.point p 0 e (S.vertices i v a)) in
         let same = vertex-path s p rs q (subst (λ (n : ℕ). IsEvenPath s n p rs q) zero path) in
-        one-vertex s C S i j v w a b (place-trans v.point p w.point e (place-trans p q w.point same (same-place_sym w.point q f)))
+        one-vertex s C S i j v w a b (same-place_trans v.point p w.point e (same-place_trans p q w.point same (same-place_sym w.point q f)))
 
     from : i ≡ j → Joined s p q
     from n =
         let one = at-one C.vertices j v w (subst (λ (m : ℕ). At C.vertices m v) n a) b in
         let same = subst (λ (u : Vertex). SamePlace u.point q) (sym one) f in
-        joined-cell s p q (signs-same (carriers s) p q (place-trans p v.point q (same-place_sym v.point p e) same))
+        joined-cell s p q (signs-same (carriers s) p q (same-place_trans p v.point q (same-place_sym v.point p e) same))
 
 -- ---- edges
 module _ (s : Set) (C : Complex) (S : Shows s C) (k : ℕ) (e : Edge) (v w : Vertex) (a : At C.edges k e) (H : HasEnds C e v w) where

@@ -31,15 +31,12 @@ use Rattle.law_complex.specs.Skeleton.{IsEdgePoint, PlaneMeet, meets_vertex, mee
 use Rattle.law_complex.proofs.Edges.{edge-points}
 use Rattle.law_complex.proofs.FacetArcs.{source-meets, target-meets}
 use Rattle.law_complex.proofs.FacetEdges.{ahead-back}
-use Rattle.law_complex.proofs.Ways.{between-way, between-outer, same-itself}
+use Rattle.law_complex.proofs.Ways.{between-way, between-outer, same-itself, opposite-same, same-place_trans}
 use Rattle.law_links.proofs.EdgeEnds.{opposite-way}
 use Rattle.nef_conn.proofs.Onward.{level-kept}
-use Rattle.nef_conn.proofs.WayInward.{opposite-same, side-turned}
+use Rattle.nef_conn.proofs.WayInward.{side-turned}
 use Rattle.nef_conn.proofs.SameRay.{on-ray}
 use Rattle.nef_conn.proofs.Reached.{toward-normal}
-
-pub place-trans : (p q r : Place) → SamePlace p q → SamePlace q r → SamePlace p r
-place-trans p q r e f = factor-place p r (same-trans (of_place p) (of_place q) (of_place r) (place-factor p q e) (place-factor q r f))
 
 normals-same : (a b : Vector) → IsNormal a → IsNormal b → IsZero (cross a b) → SameDirection a b
 normals-same a b h k z = by_order (dot a b) (pos 0)
@@ -231,14 +228,14 @@ module _ (s : Set) (C : Complex) (S : Shows s C) where
     -- two things at one point have one corner
     one-place : (m n : PlaneMeet) (x z : Place) → SamePlace x z → Meets C h m x → Meets C h n z → IsCornerAt C h f n j → IsCornerAt C h f m j
     one-place (meets_vertex i) (meets_vertex k) x z e (v, a, p) (w, b, q) c =
-        let same = place-trans v.point z w.point (place-trans v.point x z p e) (same-place_sym w.point z q) in
+        let same = same-place_trans v.point z w.point (same-place_trans v.point x z p e) (same-place_sym w.point z q) in
         subst (λ (r : ℕ). IsCornerAt C h f (meets_vertex r) j) (sym (one-vertex i k v w a b same)) c
     one-place (meets_vertex i) (meets_edge k) x z e (v, a, p) (q, l) c =
         let E = edge-inside k z q in
-        absurd (E.1.first i v a (between-same E.1.low_vertex.point z E.1.high_vertex.point E.1.low_vertex.point v.point E.1.high_vertex.point (same-itself E.1.low_vertex.point) (same-place_sym v.point z (place-trans v.point x z p e)) (same-itself E.1.high_vertex.point) E.3))
+        absurd (E.1.first i v a (between-same E.1.low_vertex.point z E.1.high_vertex.point E.1.low_vertex.point v.point E.1.high_vertex.point (same-itself E.1.low_vertex.point) (same-place_sym v.point z (same-place_trans v.point x z p e)) (same-itself E.1.high_vertex.point) E.3))
     one-place (meets_edge i) (meets_vertex k) x z e (p, l) (w, b, q) c =
         let E = edge-inside i x p in
-        absurd (E.1.first k w b (between-same E.1.low_vertex.point x E.1.high_vertex.point E.1.low_vertex.point w.point E.1.high_vertex.point (same-itself E.1.low_vertex.point) (same-place_sym w.point x (place-trans w.point z x q (same-place_sym x z e))) (same-itself E.1.high_vertex.point) E.3))
+        absurd (E.1.first k w b (between-same E.1.low_vertex.point x E.1.high_vertex.point E.1.low_vertex.point w.point E.1.high_vertex.point (same-itself E.1.low_vertex.point) (same-place_sym w.point x (same-place_trans w.point z x q (same-place_sym x z e))) (same-itself E.1.high_vertex.point) E.3))
     one-place (meets_edge i) (meets_edge k) x z e (p, l) (q, m) (g, u, a, t, l', b', t', w', o') =
         let E = edge-inside i x p in
         let F = edge-inside k z q in

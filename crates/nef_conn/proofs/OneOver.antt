@@ -28,7 +28,7 @@ use Rattle.law_complex.specs.Rays.{VertexSide}
 use Rattle.law_complex.proofs.Edges.{edge-points, edge-way}
 use Rattle.law_complex.proofs.FacetEdges.{ahead-back}
 use Rattle.law_complex.proofs.FacetWays.{dim-same}
-use Rattle.law_complex.proofs.Ways.{between-way, between-cases, same-itself}
+use Rattle.law_complex.proofs.Ways.{between-way, between-cases, same-itself, same-place_trans}
 use Rattle.law_links.specs.Links.{VolumeLink}
 use Rattle.law_links.proofs.EdgeEnds.{edge-ways, opposite-way}
 use Rattle.law_sphere.proofs.NearItems.{opposite-turned}
@@ -36,7 +36,7 @@ use Rattle.law_sphere.proofs.Vectors.{normal-direction}
 use Rattle.law_near.proofs.FlatDecided.{flat_dim-of}
 use Rattle.law_links.proofs.NearVertex.{facet-near}
 use Rattle.law_links.proofs.Ties.{joined-even, tied-turned, even-cell}
-use Rattle.nef_conn.proofs.OneNamed.{place-trans, one-vertex}
+use Rattle.nef_conn.proofs.OneNamed.{one-vertex}
 use Rattle.nef_conn.specs.Items.{AreLinkedWhereJoined}
 use Rattle.nef_conn.proofs.SameRay.{on-ray}
 use Rattle.nef_conn.proofs.Hits.{OverVertex, OverEdge, OverFacet, Over, over-item, side-is}
@@ -116,7 +116,7 @@ module _ (s : Set) (C : Complex) (S : Shows s C) where
 
   pub vertices-over : (z z' : Place) (x y : VertexSide) → SamePlace z z' → OverVertex s C S z x → OverVertex s C S z' y → Chained (VolumeLink C) x y
   vertices-over z z' x y e (i, v, a, f, T) (k, w, b, g, U) =
-      let n = one-vertex s C S i k v w a b (place-trans v.point z w.point f (place-trans z z' w.point e (same-place_sym w.point z' g))) in
+      let n = one-vertex s C S i k v w a b (same-place_trans v.point z w.point f (same-place_trans z z' w.point e (same-place_sym w.point z' g))) in
       let b' = subst (λ (j : ℕ). At C.vertices j w) (sym n) b in
       let one = at-one C.vertices i w v b' a in
       let q = subst (λ (u : Vertex). Seer i u y (blend U.steps zero_vector 1 up)) one (subst (λ (j : ℕ). Seer j w y (blend U.steps zero_vector 1 up)) (sym n) U.seer) in

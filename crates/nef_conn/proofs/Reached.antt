@@ -26,7 +26,8 @@ use Rattle.law_links.proofs.EdgeEnds.{EndsOnSide, end-level, corner_of, right-tu
 use Rattle.nef_conn.specs.Items.{EndsAt, way_inward, ItemsName}
 use Rattle.law_cyclic.proofs.Directions.{level-of_opposite}
 use Rattle.nef_conn.proofs.Onward.{EdgeAway, from-low, from-high, arc-there, goes-on, link-up, link-down}
-use Rattle.nef_conn.proofs.WayInward.{opposite-same, dir-level, dir-some, dir-same}
+use Rattle.law_complex.proofs.Ways.{opposite-same}
+use Rattle.nef_conn.proofs.WayInward.{dir-level, dir-some, dir-same}
 use Rattle.nef_conn.proofs.Named.{twice, Reaches, carried, onward-named, edge-named, side-same}
 use Rattle.nef_conn.proofs.Faces.{leads-away}
 

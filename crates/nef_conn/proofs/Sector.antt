@@ -19,7 +19,7 @@ use Rattle.law_sphere.proofs.Forms.{on-direction, on-level}
 use Rattle.law_sphere.proofs.Shot.{arc-at, dir-at}
 use Rattle.law_sphere.proofs.Turn.{turn-last, IsStrictlyOn-same}
 use Rattle.nef_conn.proofs.Onward.{level-kept}
-use Rattle.nef_conn.proofs.WayInward.{opposite-same}
+use Rattle.law_complex.proofs.Ways.{opposite-same}
 
 -- ---- laws of four directions
 says_plus : (z : ℤ) → Says (pos 0 <ℤ z) (is_plus (sgn z))

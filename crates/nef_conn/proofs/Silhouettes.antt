@@ -37,7 +37,7 @@ use Rattle.law_complex.proofs.FacetNames.{facet-of}
 use Rattle.law_complex.proofs.FacetTriangle.{plane-between}
 use Rattle.law_complex.proofs.FacetWays.{dim-same, even-by}
 use Rattle.law_complex.proofs.Skeletons.{skeleton-not_flat, skeleton-or_flat}
-use Rattle.law_complex.proofs.Ways.{between-outer, same-itself}
+use Rattle.law_complex.proofs.Ways.{between-outer, same-itself, same-place_trans}
 use Rattle.law_links.specs.Components.{IsUpright, IsEvenAfter}
 use Rattle.law_links.proofs.Ties.{beside-ahead, beside-cell}
 use Rattle.nef_conn.specs.Items.{AreLinkedWhereJoined}
@@ -46,7 +46,6 @@ use Rattle.nef_conn.specs.Slices.{plane_set, sliced}
 use Rattle.nef_conn.proofs.SidePaths.{label-inside, inside-label}
 use Rattle.nef_conn.proofs.Fans.{IsOff}
 use Rattle.nef_conn.proofs.Land.{Landing}
-use Rattle.nef_conn.proofs.OneNamed.{place-trans}
 use Rattle.nef_conn.proofs.Slice.{germ-on, germ-off, free-slice, unsliced}
 use Rattle.nef_conn.proofs.SliceStrip.{lam, Clear, back-way}
 
@@ -86,7 +85,7 @@ resliced s h p q on-p on-q same v l = (there s h p q on-p on-q same v l, there s
 pub toward-end : (y p c : Place) → SamePlace p c → IsDirection (toward y c) → SameDirection (toward y p) (toward y c)
 toward-end y p c e i =
     subst (λ (v : Vector). SameDirection v (toward y c)) (sym (back-way p y)) (subst (λ (v : Vector). SameDirection (opposite (toward p y)) v) (sym (back-way c y))
-    (both-opposite (toward p y) (toward c y) (toward-same p c y e (λ z. i (place-toward y c (place-trans y p c (same-place_sym p y (toward-place p y z)) e))))))
+    (both-opposite (toward p y) (toward c y) (toward-same p c y e (λ z. i (place-toward y c (same-place_trans y p c (same-place_sym p y (toward-place p y z)) e))))))
 
 module _ (s : Set) (h : Form) (hn : IsDirection (normal_of h)) where
   abbrev t : Set
@@ -167,4 +166,4 @@ module _ (s : Set) (C : Complex) (S : Shows s C) (upright : IsUpright C) (linked
 
     pub even-hit : IsEvenAfter s flatness y' R.place
     even-hit r (inl m) = edge-flat r (between-same y' r R.place y' r L.place (same-itself y') (same-itself r) lands m)
-    even-hit r (inr e) = dim-same s L.place r flatness (place-trans L.place R.place r (same-place_sym R.place L.place lands) (same-place_sym r R.place e)) (flat_dim-of s L.place).1
+    even-hit r (inr e) = dim-same s L.place r flatness (same-place_trans L.place R.place r (same-place_sym R.place L.place lands) (same-place_sym r R.place e)) (flat_dim-of s L.place).1

@@ -23,6 +23,7 @@ use Rattle.law_complex.specs.Complexes.{Vertex, Complex, Corner}
 use Rattle.law_complex.specs.Skeleton.{PlaneMeet, meets_vertex, meets_edge, LiesIn, Meets, IsFirstInPlane, IsArcOnSide, IsCornerAt, RayNames}
 use Rattle.law_complex.proofs.FacetWays.{plane-onward}
 use Rattle.law_complex.proofs.Planes.{plane-way}
+use Rattle.law_complex.proofs.Ways.{opposed, opposite-same}
 use Rattle.law_links.proofs.ItemPoints.{on_item-way}
 use Rattle.nef_conn.proofs.Onward.{level-kept}
 
@@ -37,23 +38,6 @@ module _ (g h : Form) (y : Place) (on_g : form_at g y ≡ pos 0) (on_h : form_at
   meets-too : (C : Complex) (m : PlaneMeet) (q : Place) → Meets C g m q → Meets C h m q
   meets-too C (meets_vertex k) q x = x
   meets-too C (meets_edge k) q x = (x.0, lies-too C k x.1)
-
-opposed : (k l : ℕ) (x y : ℤ) → pos k *ℤ x ≡ pos l *ℤ y → pos k *ℤ neg_ℤ x ≡ pos l *ℤ neg_ℤ y
-opposed k l x y e = follows (pos k ∷ pos l ∷ x ∷ y ∷ []) (at 0 ⊗ neg (at 2)) (at 1 ⊗ neg (at 3)) (given (neg (num (pos 1))) (at 0 ⊗ at 2) (at 1 ⊗ at 3) e none) tt
-
-pub opposite-same : (d f : Vector) → SameDirection d f → SameDirection (opposite d) (opposite f)
-opposite-same d f w =
-    let F = same-factor d f w in
-    factor-same (opposite d) (opposite f) (record {
-      k = F.k;
-      l = F.l;
-      some_k = F.some_k;
-      some_l = F.some_l;
-      is_x = opposed F.k F.l d.x f.x F.is_x;
-      is_y = opposed F.k F.l d.y f.y F.is_y;
-      is_z = opposed F.k F.l d.z f.z F.is_z;
-      is_w = F.is_w;
-    }) (λ z. let x = z.0 in let y = z.1 in let t = z.2 in direction-left d f w (omega (arith, ints), omega (arith, ints), omega (arith, ints)))
 
 pub side-turned : (v : Vertex) (s : ℕ) (n m d f : Vector) (a : Arc) → SameDirection n m → SameDirection d f → IsArcOnSide v s n d a → IsArcOnSide v s m f a
 side-turned v s n m d f a w u = ⊎_elim

@@ -10,6 +10,15 @@ pub enum BoardKind {
     Free,
 }
 
+/// Which version of a set's canonical text is meant.
+#[derive(Debug, Clone, Copy, PartialEq, Eq)]
+pub enum TextVersion {
+    /// The text of the vertices, edges, facets and volumes.
+    One,
+    /// That text with the faces of each vertex and the shells of each volume.
+    Two,
+}
+
 /// How an operation runs: by how many workers, over which board.
 ///
 /// There are 1 to 64 workers: who makes a value shows it, and who reads the number knows it.

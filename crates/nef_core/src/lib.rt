@@ -8,7 +8,7 @@ mod laws;
 mod machine;
 
 pub use board::{Board, Claim, Receipt};
-pub use how::{BoardKind, How};
+pub use how::{BoardKind, How, TextVersion};
 pub use job::Job;
 pub use laws::{every_claim_is_accounted_for, every_schedule};
 pub use machine::{Event, Machine, Slot};

@@ -1,3 +1,9 @@
 pub mod Sets
 pub mod Holding
 pub mod Turns
+pub mod Places
+pub mod Operands
+pub mod Chains
+pub mod Halves
+pub mod Marks
+pub mod Tables

@@ -1,5 +1,5 @@
 -- The sets that the nodes of a script stand for.
-use Rattle.std.specs.Prelude.{◌≡◌, ℕ, ◌<◌, List, [], ◌∷◌, ◌++◌, Some, slice_get, slice_index_or}
+use Rattle.std.specs.Prelude.{◌≡◌, ℕ, ◌<◌, List, [], ◌∷◌, ◌++◌, ◌⊎◌, Some, slice_get, slice_index_or}
 use Rattle.nef_space.specs.Sets.{Set}
 use Rattle.nef_geo.specs.Shapes.{given_form}
 use Rattle.nef_expr.specs.declared.nodes.Node.{Node}
@@ -46,6 +46,21 @@ NamesBelow n (node.Int i) = i < n
 NamesBelow n (node.Cl i) = i < n
 NamesBelow n (node.Bd i) = i < n
 NamesBelow n (node.Reg i) = i < n
+
+-- node k is an operand of the node
+abbrev pub IsOperand : ℕ → Node → Type 0
+IsOperand k (node.Half o c) = ⊥
+IsOperand k node.Empty = ⊥
+IsOperand k node.Full = ⊥
+IsOperand k (node.And i j) = (k ≡ i) ⊎ (k ≡ j)
+IsOperand k (node.Or i j) = (k ≡ i) ⊎ (k ≡ j)
+IsOperand k (node.Diff i j) = (k ≡ i) ⊎ (k ≡ j)
+IsOperand k (node.Xor i j) = (k ≡ i) ⊎ (k ≡ j)
+IsOperand k (node.Not i) = k ≡ i
+IsOperand k (node.Int i) = k ≡ i
+IsOperand k (node.Cl i) = k ≡ i
+IsOperand k (node.Bd i) = k ≡ i
+IsOperand k (node.Reg i) = k ≡ i
 
 -- each node names earlier nodes only
 abbrev pub IsOrdered : List Node → Type 0

@@ -59,6 +59,14 @@ impl Nodes {
         }
     }
 
+    /// The list of nodes, each of which names earlier ones.
+    pub(crate) fn from_list(list: Vec<Node>) -> Nodes
+        requires ordered { IsOrdered list.items }
+        ensures nodes { result ≡ list.items }
+    {
+        Nodes { list }
+    }
+
     /// Adds a node, whose operands are earlier nodes, and gives its number. `OutOfMemory` says that
     /// memory was wanted and not found; the nodes are then as they were.
     pub fn push(&mut self, node: Node) -> Result<usize, OutOfMemory>

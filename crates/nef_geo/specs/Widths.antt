@@ -48,6 +48,10 @@ upright_weight_limit = 2 ^ 73
 abbrev pub upright_form_limit : ℕ
 upright_form_limit = 2 ^ 99
 
+-- a point's coordinate times such a hit's w, less the hit's coordinate times the point's w
+abbrev pub ratio_limit : ℕ
+ratio_limit = 15 * 2 ^ 118
+
 -- the numbers of the second direction of a plane, and the sum of their sizes
 abbrev pub plane_dir_limit : ℕ
 plane_dir_limit = 2 ^ 35 + 2 ^ 11

@@ -65,6 +65,7 @@ impl Oriented {
     /// The sign of the given `a x + b y + c z + d w` at the point's numbers.
     pub fn side(&self, p: &Point) -> Sign
         ensures side { result ≡ sign_of (form_at (given_form self.now) (place_of p.now)) }
+        ensures width { nat_abs (form_at (given_form self.now) (place_of p.now)) ≤ point_form_limit }
     {
         let sign = Sign::of(form(&self.plane, p));
         if self.flipped { sign.opposite() } else { sign }

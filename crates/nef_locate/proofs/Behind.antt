@@ -27,8 +27,8 @@ use Rattle.law_complex.proofs.FacetNames.{facets-complete}
 use Rattle.law_complex.proofs.FacetPoints.{facet-point}
 use Rattle.law_complex.proofs.FacetSides.{level-way, flats-one, flats-carried}
 use Rattle.law_complex.proofs.FacetWays.{plane-ahead, end-meets, flat-onto, even-by}
-use Rattle.law_complex.proofs.Ways.{between-way, between-start}
-use Rattle.nef_locate.proofs.SamePlanes.{level-back, scaled-same, opposite-same, axis-same, first-same, corner-same}
+use Rattle.law_complex.proofs.Ways.{between-way, between-start, opposite-same}
+use Rattle.nef_locate.proofs.SamePlanes.{level-back, scaled-same, axis-same, first-same, corner-same}
 
 module _ (s : Set) (C : Complex) (S : Shows s C) (h : Form) (y : Place) (normal : IsNormal (normal_of h)) (on : form_at h y ≡ pos 0) (d : Vector) (some : IsDirection d) (level : slope h d ≡ pos 0)
     (F : IsFlatIn s h y) (m : PlaneMeet) (I : IsFirstInPlane C h y d m) where

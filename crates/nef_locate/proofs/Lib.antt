@@ -6,7 +6,6 @@ pub mod TwoStars
 pub mod EdgeEnds
 pub mod EdgeCones
 pub mod EdgeStars
-pub mod EqualPoints
 pub mod CarrierPoints
 pub mod RayMeets
 pub mod LastArcs

@@ -30,7 +30,7 @@ use Rattle.nef_locate.specs.declared.ray.Met.{Met}
 use Rattle.nef_locate.specs.Places.{IsFirstHit}
 use Rattle.nef_locate.specs.Rays.{IsMet, IsReachedMet, IsSooner, IsNotBefore, HasNoneBefore}
 use Rattle.nef_locate.proofs.CarrierPoints.{skeleton-carrier, crossed}
-use Rattle.nef_locate.proofs.EqualPoints.{ahead-from, flat-same}
+use Rattle.law_complex.proofs.EqualPoints.{ahead-from, flat-same}
 use Rattle.nef_locate.proofs.Listed.{flat-listed}
 
 -- ---- the order along a ray

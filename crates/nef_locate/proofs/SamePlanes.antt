@@ -25,6 +25,7 @@ use Rattle.law_complex.proofs.FacetNames.{axis-in}
 use Rattle.law_complex.proofs.FacetSides.{level-way}
 use Rattle.law_complex.proofs.FacetWays.{plane-onward}
 use Rattle.law_complex.proofs.Planes.{plane-way}
+use Rattle.law_complex.proofs.Ways.{opposed}
 
 -- ---- planes
 -- what lies in a plane lies in each plane with the same normal
@@ -73,23 +74,6 @@ first-same C g h y on_g on_h w d f u m I = record {
 }
 
 -- ---- corners
-pub opposed : (k l : ℕ) (x y : ℤ) → pos k *ℤ x ≡ pos l *ℤ y → pos k *ℤ neg_ℤ x ≡ pos l *ℤ neg_ℤ y
-opposed k l x y e = follows (pos k ∷ pos l ∷ x ∷ y ∷ []) (at 0 ⊗ neg (at 2)) (at 1 ⊗ neg (at 3)) (given (neg (num (pos 1))) (at 0 ⊗ at 2) (at 1 ⊗ at 3) e none) tt
-
-pub opposite-same : (d f : Vector) → SameDirection d f → SameDirection (opposite d) (opposite f)
-opposite-same d f w =
-    let F = same-factor d f w in
-    factor-same (opposite d) (opposite f) (record {
-      k = F.k;
-      l = F.l;
-      some_k = F.some_k;
-      some_l = F.some_l;
-      is_x = opposed F.k F.l d.x f.x F.is_x;
-      is_y = opposed F.k F.l d.y f.y F.is_y;
-      is_z = opposed F.k F.l d.z f.z F.is_z;
-      is_w = F.is_w;
-    }) (λ z. let x = z.0 in let y = z.1 in let t = z.2 in direction-left d f w (omega (arith, ints), omega (arith, ints), omega (arith, ints)))
-
 pub on-turned : (M : Map) (x : Item) (d f : Vector) → SameDirection d f → OnItem M x d → OnItem M x f
 on-turned M x d f u o = OnItem-by_signs M x d f (λ g l. dir-signs d f g (direction-left d f u) u) o
 

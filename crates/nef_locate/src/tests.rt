@@ -39,6 +39,9 @@ fn lone_vertex(alloc: Global) -> Result<Complex, OutOfMemory>
             vertices: List::new(alloc),
             at_vertex: List::new(alloc),
             at_edge: List::new(alloc),
+            on_carrier: List::new(alloc),
+            in_carrier: List::new(alloc),
+            spans: List::new(alloc),
         },
     })
 }

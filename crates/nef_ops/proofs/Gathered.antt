@@ -22,7 +22,8 @@ use Rattle.law_complex.specs.Shows.{Carriers, SamePlane}
 use Rattle.nef_complex.specs.declared.complex.Vertex.{Vertex}
 use Rattle.nef_complex.specs.declared.complex.Complex.{Complex}
 use Rattle.nef_complex.specs.Complexes.{vertex_of, ShowsSet}
-use Rattle.nef_cand.specs.Candidates.{IsListed, IsVertexOfBoth}
+use Rattle.law_complex.specs.Laws.{IsVertexOfBoth}
+use Rattle.nef_cand.specs.Candidates.{IsListed}
 use Rattle.nef_result.specs.Results.{AreMapsOf}
 use Rattle.nef_ops.specs.declared.op.UnaryOp.{UnaryOp}
 use Rattle.nef_ops.specs.Nodes.{unary_set}

@@ -1,6 +1,6 @@
 //! All jobs of an operation, worked over the board that was chosen.
 
-ghost use Rattle.std.specs.Prelude.{◌≡◌, ℕ, ◌≤◌, IfOk, Some, slice_get, vec_len};
+ghost use Rattle.std.specs.Prelude.{◌≡◌, ℕ, ◌≤◌, ◌/◌, min, max, IfOk, Some, slice_get, vec_len};
 
 use crate::OutOfMemory;
 use nef_board::LockBoard;
@@ -12,8 +12,22 @@ use std::alloc::Global;
 use std::sync::Wait;
 use std::thread::Threads;
 
-/// One right result for each job, in the order of the jobs, worked by as many workers and over the board that `how`
-/// names.
+// How many jobs pay for one more worker: starting a thread costs as much as some dozens of jobs.
+const JOBS_FOR_A_WORKER: u64 = 32;
+
+// Two workers run beside each other however few jobs there are.
+const FEWEST_WORKERS: u64 = 2;
+
+// How many of the workers work so many jobs.
+fn crew(workers: u32, jobs: u64) -> u32
+    ensures crew { result ≡ min workers (max 2 (jobs / 32)) }
+{
+    let paid = (jobs / JOBS_FOR_A_WORKER).max(FEWEST_WORKERS);
+    u64::from(workers).min(paid) as u32
+}
+
+/// One right result for each job, in the order of the jobs, over the board that `how` names, worked by as many workers as
+/// it names where there are many jobs, and by fewer where there are few.
 pub(crate) fn finished<R: Threads + Wait + Sync, J: Job, G: Gate + Sync>(
     rt: &R,
     alloc: Global,
@@ -26,15 +40,16 @@ pub(crate) fn finished<R: Threads + Wait + Sync, J: Job, G: Gate + Sync>(
     ensures len { IfOk result (λ v. vec_len v ≡ J.count job.now) }
     ensures right { IfOk result (λ v. (i : ℕ) (out : _) → slice_get v.items i ≡ Some out → J.right job.now i out) }
 {
-    let seats = how.workers + 1;
+    let workers = crew(how.workers, job.jobs());
+    let seats = workers + 1;
     match how.board {
         BoardKind::Lock => {
             let (board, pass) = LockBoard::new(rt, alloc, job, seats)?;
-            finish(rt, alloc, board, pass, job, how.workers, gate)
+            finish(rt, alloc, board, pass, job, workers, gate)
         }
         BoardKind::Free => {
             let (board, pass) = FreeBoard::new(alloc, job, seats)?;
-            finish(rt, alloc, board, pass, job, how.workers, gate)
+            finish(rt, alloc, board, pass, job, workers, gate)
         }
     }
 }

@@ -49,13 +49,14 @@ impl<'a> Job for HalfJob<'a> {
     fn work(&self, alloc: Global, job: u64) -> Result<SphereMap, OutOfMemory> {
         let point = &self.points[job as usize];
         let whole = local_map(alloc, self.whole, point)?;
-        let map = half_map(alloc, &whole, self.oriented, self.closed, point)?;
+        let map = half_map(alloc, whole, self.oriented, self.closed, point)?;
         Ok(map)
     }
 }
 
-// The complex of the half, from that of the whole frame.
-fn cut<R: Threads + Wait + Sync, G: Gate + Sync>(
+/// The complex of a half of the frame, as `half` makes it, from the complex of the whole frame, which a caller that makes
+/// many halves has made once.
+pub fn half_within<R: Threads + Wait + Sync, G: Gate + Sync>(
     rt: &R,
     alloc: Global,
     whole: &Complex,
@@ -64,7 +65,7 @@ fn cut<R: Threads + Wait + Sync, G: Gate + Sync>(
     how: &How,
     gate: &G,
 ) -> Result<Complex, OutOfMemory>
-    requires workers { how.now.workers ≤ 64 }
+    requires workers { (1 ≤ how.now.workers) × (how.now.workers ≤ 64) }
     requires whole { ShowsSet Set.full whole.now }
     ensures shows { IfOk result (λ c. ShowsSet (Set.half (given_form oriented.now) closed) c) }
 {
@@ -98,6 +99,6 @@ pub fn half<R: Threads + Wait + Sync, G: Gate + Sync>(
     ensures shows { IfOk result (λ c. ShowsSet (Set.half (given_form oriented.now) closed) c) }
 {
     let whole = frame(alloc, Label::In)?;
-    let complex = cut(rt, alloc, &whole, oriented, closed, how, gate)?;
+    let complex = half_within(rt, alloc, &whole, oriented, closed, how, gate)?;
     Ok(complex)
 }

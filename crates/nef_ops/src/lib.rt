@@ -21,7 +21,7 @@ mod whole;
 
 pub use combination::binary;
 pub use comparison::same;
-pub use half_space::half;
+pub use half_space::{half, half_within};
 pub use op::UnaryOp;
 pub use std::alloc::AllocError as OutOfMemory;
 pub use topology::unary;

@@ -1,3 +1,5 @@
+pub mod Sides
 pub mod Cycles
+pub mod Shells
 pub mod Numbers
 pub mod Text

@@ -8,15 +8,19 @@ use Rattle.nef_space.specs.declared.label.Label.{Label}
 use Rattle.nef_space.specs.declared.label.Label.TheVariants.{Out}
 use Rattle.nef_geo.specs.Shapes.{form_of}
 use Rattle.law_sphere.specs.Maps.{At, Item, items, item_normal, item_mark, pos_item, neg_item}
-use Rattle.nef_smap.specs.Sides.{sides_of, IsSide}
+use Rattle.nef_smap.specs.Sides.{sides_of}
 use Rattle.law_complex.specs.Complexes.{Vertex, Complex, Corner, IsCorner}
 use Rattle.law_complex.specs.Rays.{VertexSide, HasSideLabel}
 use Rattle.nef_complex.specs.Complexes.{corner_of}
 use Rattle.law_links.specs.Links.{FacetLink, VolumeLink}
 use Rattle.nef_parts.specs.Cycles.{IsCornerBelow, Cycles}
+pub use Rattle.nef_parts.specs.Sides.{IsSideNumber}
+use Rattle.nef_parts.specs.Shells.{SfaceNumbers, Shells}
 use Rattle.nef_parts.specs.declared.parts.Cycle.{Cycle}
 use Rattle.nef_parts.specs.declared.parts.Facet.{Facet}
 use Rattle.nef_parts.specs.declared.parts.Parts.{Parts}
+use Rattle.nef_parts.specs.declared.parts.Shell.{Shell}
+use Rattle.nef_parts.specs.declared.parts.Side.{Side}
 
 -- the table has a row for each vertex, and in it a number for each of its things, of which there are count v
 pub record HasRows (C : Complex) (count : Vertex → ℕ) (rows : List (List ℕ)) : Type 0 where
@@ -32,13 +36,6 @@ count_sides v = length (sides_of v.map)
 -- the item at the corner has this number in the table
 abbrev pub IsFacetOf : List (List ℕ) → Corner → ℕ → Type 0
 IsFacetOf rows k n = IsInTable rows k.vertex k.item n
-
--- side number j of vertex i
-pub record IsSideNumber (C : Complex) (x : VertexSide) (j : ℕ) : Type 0 where
-  pub vertex : Vertex
-  pub is_vertex : At C.vertices x.vertex vertex
-  pub label : Label
-  pub is_side : IsSide vertex.map j x.side label
 
 -- the side has this number in the table
 abbrev pub IsVolumeOf : Complex → List (List ℕ) → VertexSide → ℕ → Type 0
@@ -87,7 +84,11 @@ pub record IsVolume (C : Complex) (p : Parts) (n : ℕ) (l : Label) : Type 0 whe
   pub some : (x : VertexSide) × IsVolumeOf C p.volume_of x n
   pub labels : (x : VertexSide) (m : Label) → IsVolumeOf C p.volume_of x n → HasSideLabel C x m → l ≡ m
 
--- the facets and volumes of the complex, with their numbers
+-- the sides of the shells
+abbrev pub shell_sides : List Shell → List (List Side)
+shell_sides hs = map (λ (h : Shell). h.sides) hs
+
+-- the facets and volumes of the complex, with their numbers and shells
 pub record IsParts (C : Complex) (p : Parts) : Type 0 where
   pub facet_numbers : FacetNumbers C p.facet_of
   pub volume_numbers : VolumeNumbers C p.volume_of
@@ -95,3 +96,6 @@ pub record IsParts (C : Complex) (p : Parts) : Type 0 where
   pub all_facets : (k : Corner) (n : ℕ) → IsFacetOf p.facet_of k n → n < length p.facets
   pub volumes : (n : ℕ) (l : Label) → IsAt p.volumes n l → IsVolume C p n l
   pub all_volumes : (x : VertexSide) (n : ℕ) → IsVolumeOf C p.volume_of x n → n < length p.volumes
+  pub sface_numbers : SfaceNumbers C p.sface_of
+  pub as_many_shells : length p.shells ≡ length p.volumes
+  pub shells : (n : ℕ) (hs : List Shell) → IsAt p.shells n hs → Shells C (λ x. IsVolumeOf C p.volume_of x n) (shell_sides hs)

@@ -1,4 +1,4 @@
--- The text of a complex with its parts.
+-- The text of a complex with its parts, in both versions.
 use Rattle.std.specs.Prelude.{◌≡◌, ℕ, ℤ, List, [], ◌∷◌, ◌++◌, length, Option, option_to_list, codes, map, flat_map}
 use Rattle.std.specs.List.{join_with_byte}
 use Rattle.std.specs.Option.{option_map_or}
@@ -19,7 +19,11 @@ use Rattle.nef_complex.specs.Complexes.{vertex_of, edge_of, complex_of}
 use Rattle.law_complex.specs.Complexes.{Edges}
 use Rattle.nef_parts.specs.declared.parts.Cycle.{Cycle}
 use Rattle.nef_parts.specs.declared.parts.Facet.{Facet}
+use Rattle.nef_core.specs.declared.how.TextVersion.{TextVersion}
+use Rattle.nef_core.specs.declared.how.TextVersion.TheVariants.{One, Two}
 use Rattle.nef_parts.specs.declared.parts.Parts.{Parts}
+use Rattle.nef_parts.specs.declared.parts.Shell.{Shell}
+use Rattle.nef_parts.specs.declared.parts.Side.{Side}
 use Rattle.nef_parts.specs.Numbers.{IsParts}
 
 abbrev pub Word : Type 0
@@ -87,20 +91,55 @@ facet_text f = facet_line f ++ flat_map cycle_line f.cycles
 abbrev pub volume_line : Label → List ℕ
 volume_line l = line (codes "w" ∷ label_word l ∷ [])
 
+-- the numbers of the sfaces of a vertex's sides
+abbrev pub sface_line : List ℕ → List ℕ
+sface_line ns = line (codes "g" ∷ [] ++ numbers ns)
+
+abbrev pub side_words : Side → List Word
+side_words s = numbers (s.vertex ∷ s.side ∷ [])
+
+abbrev pub shell_line : Shell → List ℕ
+shell_line h = line (codes "h" ∷ [] ++ flat_map side_words h.sides)
+
+-- a vertex with the numbers of its sfaces, and a volume with its shells
+abbrev pub faced_text : Vertex × List ℕ → List ℕ
+faced_text x = vertex_text x.0 ++ sface_line x.1
+
+abbrev pub shelled_text : Label × List Shell → List ℕ
+shelled_text x = volume_line x.0 ++ flat_map shell_line x.1
+
+-- each element with its row; where there is none, with an empty one
+abbrev pub with_rows : {X Y : Type 0} → List X → List (List Y) → List (X × List Y)
+with_rows [] rows = []
+with_rows (x ∷ xs) [] = (x, []) ∷ with_rows xs []
+with_rows (x ∷ xs) (row ∷ rows) = (x, row) ∷ with_rows xs rows
+
 -- the numbers of vertices, edges, facets and volumes
 abbrev pub counts : Complex → Parts → List ℕ
 counts c p = length c.vertices ∷ length c.edges ∷ length p.facets ∷ length p.volumes ∷ []
 
-abbrev pub first_line : Complex → Parts → List ℕ
-first_line c p = line (codes "nef3" ∷ codes "1" ∷ [] ++ numbers (counts c p))
+abbrev pub version_word : TextVersion → Word
+version_word One = codes "1"
+version_word Two = codes "2"
 
-abbrev pub text : Complex → Parts → List ℕ
-text c p = first_line c p ++ flat_map vertex_text c.vertices ++ flat_map edge_line c.edges ++ flat_map facet_text p.facets ++ flat_map volume_line p.volumes
+abbrev pub first_line : TextVersion → Complex → Parts → List ℕ
+first_line version c p = line (codes "nef3" ∷ version_word version ∷ [] ++ numbers (counts c p))
+
+abbrev pub vertices_text : TextVersion → Complex → Parts → List ℕ
+vertices_text One c p = flat_map vertex_text c.vertices
+vertices_text Two c p = flat_map faced_text (with_rows c.vertices p.sface_of)
+
+abbrev pub volumes_text : TextVersion → Parts → List ℕ
+volumes_text One p = flat_map volume_line p.volumes
+volumes_text Two p = flat_map shelled_text (with_rows p.volumes p.shells)
+
+abbrev pub text : TextVersion → Complex → Parts → List ℕ
+text version c p = first_line version c p ++ vertices_text version c p ++ flat_map edge_line c.edges ++ flat_map facet_text p.facets ++ volumes_text version p
 
 -- the bytes are the text of the complex
-abbrev pub Text : Complex → List ℕ → Type 0
-Text c bytes = (p : Parts) × IsParts (complex_of c) p × (bytes ≡ text c p)
+abbrev pub Text : TextVersion → Complex → List ℕ → Type 0
+Text version c bytes = (p : Parts) × IsParts (complex_of c) p × (bytes ≡ text version c p)
 
 -- the bytes spell the complex, but for its carriers: it has the vertices of the text, and their edges
-abbrev pub Spells : List ℕ → Complex → Type 0
-Spells bytes c = Edges (map vertex_of c.vertices) (map edge_of c.edges) × Text c bytes
+abbrev pub Spells : TextVersion → List ℕ → Complex → Type 0
+Spells version bytes c = Edges (map vertex_of c.vertices) (map edge_of c.edges) × Text version c bytes

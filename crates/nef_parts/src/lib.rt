@@ -5,4 +5,4 @@
 
 mod parts;
 
-pub use parts::{Cycle, Facet, Parts};
+pub use parts::{Cycle, Facet, Parts, Shell, Side};

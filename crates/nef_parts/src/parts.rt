@@ -21,12 +21,28 @@ pub struct Facet {
     pub cycles: List<Cycle>,
 }
 
+/// A side of a vertex, by the vertex's number and by its own among the sides of the vertex. Both count from 0.
+#[derive(Debug, Clone, Copy, PartialEq, Eq, Drop)]
+pub struct Side {
+    pub vertex: usize,
+    pub side: usize,
+}
+
+/// A connected piece of a volume's boundary: its sides, by vertices and then by numbers.
+#[derive(Debug, Drop)]
+pub struct Shell {
+    pub sides: List<Side>,
+}
+
 /// The facets and the labels of the volumes, in the order of their numbers; for each vertex the numbers of the facets of
-/// its items, and the numbers of the volumes of its sides. Volume 0 is the outside of the frame. Numbers count from 0.
+/// its items, and the numbers of the volumes and of the sfaces of its sides; for each volume its shells in the order of
+/// their first sides. Volume 0 is the outside of the frame. Numbers count from 0.
 #[derive(Debug, Drop)]
 pub struct Parts {
     pub facets: List<Facet>,
     pub volumes: List<Label>,
     pub facet_of: List<List<usize>>,
     pub volume_of: List<List<usize>>,
+    pub sface_of: List<List<usize>>,
+    pub shells: List<List<Shell>>,
 }

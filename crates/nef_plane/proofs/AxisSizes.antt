@@ -1,5 +1,5 @@
--- A direction along the axis of a plane is as small as the axis: it is in lowest terms, so its numbers divide those of the axis.
-use Rattle.std.proofs.Common.{◌≡◌, ℕ, ◌<◌, ◌≤◌, ℤ, pos, negsuc, neg_ℤ, ◌*ℤ◌, ◌<ℤ◌, ◌-ℤ◌, nat_abs, List, [], ◌∷◌, arith, refl, sym, ap, ◌∙◌, subst, ⊎_elim}
+-- A direction along the axis of a plane, or along its second direction, is as small as that: it is in lowest terms, so its numbers divide those of the other.
+use Rattle.std.proofs.Common.{◌≡◌, ℕ, ◌<◌, ◌≤◌, ℤ, pos, negsuc, neg_ℤ, ◌*ℤ◌, ◌<ℤ◌, ◌-ℤ◌, nat_abs, List, [], ◌∷◌, arith, refl, sym, ap, ◌∙◌, subst, inl, inr, ⊎_elim}
 use Rattle.std.proofs.lemmas.Int.{ints}
 use Rattle.std.proofs.lemmas.Nat.Gcd.{le_of_dvd}
 use Rattle.std.specs.Int.{◌∣◌}
@@ -8,17 +8,19 @@ use Rattle.law_arithmetic.proofs.Combination.{given, none, follows}
 use Rattle.law_arithmetic.proofs.Order.{by_order}
 use Rattle.nef_space.specs.Limits.{normal_limit}
 use Rattle.nef_space.specs.Numbers.{IsLowest}
-use Rattle.nef_space.specs.Place.{normal_of}
-use Rattle.nef_space.specs.Vectors.{Vector, dot, opposite, plane_axis, IsAtMost, SameDirection}
+use Rattle.nef_space.specs.Place.{Place, normal_of}
+use Rattle.nef_space.specs.Vectors.{Vector, dot, opposite, plane_axis, plane_dir, IsAtMost, SameDirection}
 use Rattle.nef_geo.specs.Shapes.{form_of, vector_of}
+use Rattle.nef_geo.specs.Widths.{ray_limit, plane_dir_limit}
 use Rattle.nef_geo.specs.declared.dir.Dir.{Dir}
 use Rattle.nef_geo.specs.declared.plane.Plane.{Plane}
 use Rattle.nef_geo.proofs.Cramer.{difference}
 use Rattle.nef_geo.proofs.Euclid.{divides_same}
-use Rattle.nef_geo.proofs.InPlane.{pair_small}
+use Rattle.nef_geo.proofs.InPlane.{pair_small, dir-size}
 use Rattle.law_forms.proofs.Far.{nought-or}
+use Rattle.law_complex.specs.Complexes.{Complex}
 use Rattle.nef_complex.proofs.Parted.{times-nought}
-use Rattle.nef_plane.specs.Meets.{IsAlongAxis}
+use Rattle.nef_plane.specs.Meets.{IsAlongAxis, IsAlongDir, IsWithinDirection}
 
 -- a number that divides another is no greater, and nought where the other is
 entry : (m n p q : ℤ) (l : ℕ) → pos 0 <ℤ p → m *ℤ p ≡ n *ℤ q → nat_abs m ∣ nat_abs n → nat_abs n ≤ l → nat_abs m ≤ l
@@ -98,3 +100,14 @@ pub axis-small : (h : Plane) (d : Dir) → IsAlongAxis (form_of h) (vector_of d)
 axis-small h d = let a = plane_axis (normal_of (form_of h)) in
     ⊎_elim (λ (s : SameDirection (vector_of d) a). along-small d a normal_limit s (pair_small h).axis)
     (λ (s : SameDirection (vector_of d) (opposite a)). along-small d (opposite a) normal_limit s (turned a normal_limit (pair_small h).axis))
+
+-- along the second direction too
+dir-small : (h : Plane) (d : Dir) → IsAlongDir (form_of h) (vector_of d) → IsAtMost plane_dir_limit (vector_of d)
+dir-small h d = let a = plane_dir (normal_of (form_of h)) in
+    ⊎_elim (λ (s : SameDirection (vector_of d) a). along-small d a plane_dir_limit s (let z = dir-size h in z.each))
+    (λ (s : SameDirection (vector_of d) (opposite a)). along-small d (opposite a) plane_dir_limit s (turned a plane_dir_limit (let z = dir-size h in z.each)))
+
+-- so every ray within the plane has the numbers of a ray from a vertex
+pub within-small : (C : Complex) (p : Place) (h : Plane) (d : Dir) → IsWithinDirection C (form_of h) p (vector_of d) → IsAtMost ray_limit (vector_of d)
+within-small C p h d (inl a) = let s = axis-small h d a in record { of_x = omega (arith, s.of_x); of_y = omega (arith, s.of_y); of_z = omega (arith, s.of_z) }
+within-small C p h d (inr (v, a)) = let s = dir-small h d a in record { of_x = omega (arith, s.of_x); of_y = omega (arith, s.of_y); of_z = omega (arith, s.of_z) }

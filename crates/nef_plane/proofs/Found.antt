@@ -19,7 +19,7 @@ use Rattle.law_complex.specs.Complexes.{Vertex as PlainVertex, Edge as PlainEdge
 use Rattle.law_complex.specs.Shows.{Shows}
 use Rattle.law_complex.specs.Skeleton.{PlaneMeet as PlainMeet, meets_vertex, meets_edge, Meets, IsFirstInPlane}
 use Rattle.law_complex.proofs.Planes.{plane-way}
-use Rattle.law_complex.proofs.Ways.{same-itself}
+use Rattle.law_complex.proofs.Ways.{same-itself, same-place_trans}
 use Rattle.nef_complex.specs.declared.complex.Vertex.{Vertex}
 use Rattle.nef_complex.specs.declared.complex.Edge.{Edge}
 use Rattle.nef_complex.specs.declared.complex.Complex.{Complex}
@@ -38,7 +38,7 @@ pub not-end : (p q r : Place) → IsBetween p q r → SamePlace q r → ⊥
 not-end p q r b s = direction-right (toward p q) (toward q r) b (place-toward q r s)
 
 pub both-same : (a b q : Place) → SamePlace a q → SamePlace b q → SamePlace a b
-both-same a b q i j = factor-place a b (same-trans (of_place a) (of_place q) (of_place b) (place-factor a q i) (place-factor q b (same-place_sym b q j)))
+both-same a b q i j = same-place_trans a q b i (same-place_sym b q j)
 
 pub from-vertex : (c : Complex) (k : ℕ) (v : Vertex) → At c.vertices k v → (P : Place → Type 0) → P (place_of v.point) → FromVertex (complex_of c) k P
 from-vertex c k v a P h x l = subst (λ (r : PlainVertex). P r.point) (at-one (complex_of c).vertices k (vertex_of v) x (map-at vertex_of c.vertices k v a) l) h

@@ -3,7 +3,7 @@ use Rattle.std.specs.Prelude.{◌≡◌, ℕ, ℤ, pos, ◌<ℤ◌, neg_ℤ, con
 use Rattle.std.specs.Option.{MatchOption}
 use Rattle.std.specs.Ordering.{int_eq}
 use Rattle.nef_space.specs.Place.{Place, Form, form_at, slope, normal_of, plane_through, toward, SamePlace, IsAhead, IsBetween}
-use Rattle.nef_space.specs.Vectors.{Vector, vector, cross, opposite, plane_axis, IsZero, SameDirection}
+use Rattle.nef_space.specs.Vectors.{Vector, vector, cross, opposite, plane_axis, plane_dir, IsZero, SameDirection}
 use Rattle.nef_geo.specs.Hits.{IsCrossing, IsReached}
 use Rattle.nef_geo.specs.Shapes.{form_of, hit_place, far_place}
 use Rattle.nef_geo.specs.Signs.{sign_of}
@@ -21,6 +21,14 @@ use Rattle.nef_plane.specs.declared.plane.FarMet.{FarMet}
 -- the direction is that of the plane's axis, or its opposite
 abbrev pub IsAlongAxis : Form → Vector → Type 0
 IsAlongAxis h d = SameDirection d (plane_axis (normal_of h)) ⊎ SameDirection d (opposite (plane_axis (normal_of h)))
+
+-- the direction is the second one of the plane, or its opposite
+abbrev pub IsAlongDir : Form → Vector → Type 0
+IsAlongDir h d = SameDirection d (plane_dir (normal_of h)) ⊎ SameDirection d (opposite (plane_dir (normal_of h)))
+
+-- a ray within the plane goes along the axis, or from a vertex along the second direction
+abbrev pub IsWithinDirection : Complex → Form → Place → Vector → Type 0
+IsWithinDirection C h p d = IsAlongAxis h d ⊎ (((k : ℕ) × IsVertexPoint C k p) × IsAlongDir h d)
 
 -- where p is a vertex, none of its svertices points along d
 abbrev pub HasNoSvertex : Complex → Place → Vector → Type 0

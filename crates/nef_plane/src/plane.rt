@@ -9,7 +9,7 @@ ghost use Rattle.nef_space.specs.Vectors.{vector, IsAtMost};
 ghost use Rattle.nef_geo.specs.Hits.{IsPlaceAtMost};
 ghost use Rattle.nef_geo.specs.Shapes.{form_of, vector_of, place_of, hit_place, far_place};
 ghost use Rattle.nef_geo.specs.Signs.{sign_of};
-ghost use Rattle.nef_geo.specs.Widths.{upright_limit, upright_weight_limit};
+ghost use Rattle.nef_geo.specs.Widths.{upright_limit, upright_weight_limit, ratio_limit};
 ghost use Rattle.law_complex.specs.Skeleton.{PlaneMeet as PlainMeet, Meets, IsFirstInPlane};
 ghost use Rattle.nef_complex.specs.Complexes.{complex_of, meet_of, ShowsSet};
 ghost use Rattle.nef_complex.specs.Index.{LiesOn, EdgeLiesIn, AreNumbersWith, AreWithin, AreHolders};
@@ -36,6 +36,7 @@ fn ratio_sign(x: i64, w: i64, y: i128, v: i128) -> Sign
     requires y_small { nat_abs y ≤ upright_limit }
     requires v_small { nat_abs v ≤ upright_weight_limit }
     ensures sign { result ≡ sign_of (x *ℤ v -ℤ y *ℤ w) }
+    ensures width { nat_abs (x *ℤ v -ℤ y *ℤ w) ≤ ratio_limit }
 {
     Sign::of(x as i128 * v - y * w as i128)
 }
@@ -45,6 +46,7 @@ fn ratio_sign(x: i64, w: i64, y: i128, v: i128) -> Sign
 pub fn x_side(p: &Hit, a: &Point) -> Sign
     requires numbers { IsPlaceAtMost upright_limit upright_weight_limit (hit_place p.now) }
     ensures side { result ≡ sign_of (form_at (plane_through (vector (pos 1) (pos 0) (pos 0)) (hit_place p.now)) (place_of a.now)) }
+    ensures width { nat_abs (form_at (plane_through (vector (pos 1) (pos 0) (pos 0)) (hit_place p.now)) (place_of a.now)) ≤ ratio_limit }
 {
     ratio_sign(a.x(), a.w(), p.x(), p.w())
 }
@@ -363,11 +365,9 @@ fn first_met(c: &Complex, h: &Plane, p: &Hit, d: &Dir) -> Option<FarMet>
     }
 }
 
-/// The first vertex or edge in the plane `h` that the ray from `p` along `d` meets strictly ahead. The point lies on the
-/// plane and is a vertex or lies strictly inside no edge in the plane; its first three numbers are at most `2^86` in
-/// size and its w at most `2^73`. The direction is the plane's axis or its opposite, and no svertex of a vertex at the
-/// point points along it. `None` comes exactly where nothing is met.
-pub fn first_in_plane(c: &Complex, h: &Plane, p: &Hit, d: &Dir) -> Option<PlaneMeet>
+// The first vertex or edge in the plane `h` that the ray from `p` along `d` meets strictly ahead. The direction is the
+// plane's axis or its opposite. `None` comes exactly where nothing is met.
+pub(crate) fn first_along_axis(c: &Complex, h: &Plane, p: &Hit, d: &Dir) -> Option<PlaneMeet>
     requires shows { (s : Set) × ShowsSet s c.now }
     requires on { form_at (form_of h.now) (hit_place p.now) ≡ pos 0 }
     requires off { IsOffEdges (complex_of c.now) (form_of h.now) (hit_place p.now) }

@@ -32,7 +32,7 @@ use Rattle.law_sphere.proofs.Compare.{SameDirection-turned, SameDirection-trans}
 use Rattle.nef_geo.specs.Hits.{IsCrossing}
 use Rattle.law_complex.proofs.FacetEdges.{ahead-back}
 use Rattle.nef_plane.proofs.Nearest.{between-ahead}
-use Rattle.nef_locate.proofs.EqualPoints.{ahead-from}
+use Rattle.law_complex.proofs.EqualPoints.{ahead-from}
 use Rattle.nef_ray.specs.Changes.{IsUnchanged}
 
 -- ---- the closed frame

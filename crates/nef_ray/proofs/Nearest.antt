@@ -15,7 +15,7 @@ use Rattle.law_near.proofs.Germs.{Label-cells}
 use Rattle.law_near.proofs.Rays.{signs-same}
 use Rattle.law_sphere.proofs.Compare.{SameDirection-turned, SameDirection-trans}
 use Rattle.nef_complex.proofs.Lines.{one-crossing}
-use Rattle.nef_locate.proofs.EqualPoints.{ahead-from}
+use Rattle.law_complex.proofs.EqualPoints.{ahead-from}
 use Rattle.nef_locate.proofs.RayMeets.{at-hit}
 use Rattle.nef_ray.specs.declared.nearer.Change.{Change}
 use Rattle.nef_ray.specs.Changes.{IsUnchanged, IsSooner, IsNotBefore}

@@ -24,13 +24,13 @@ use Rattle.law_near.proofs.Combine.{shorter}
 use Rattle.law_build.proofs.SideLabels.{side-same_way}
 use Rattle.law_sphere.specs.Labelling.{ByOp}
 use Rattle.law_sphere.specs.Least.{Cone, by_side}
-use Rattle.law_sphere.specs.Maps.{MapLabel, Valid}
+use Rattle.law_sphere.specs.Maps.{Map, MapLabel, Valid}
 use Rattle.nef_star.specs.Ops.{op_label}
 use Rattle.nef_star.specs.declared.op.Op.TheVariants.{And}
-use Rattle.nef_smap.specs.Maps.{map_of, IsSphereMap, IsLeastMap}
+use Rattle.nef_smap.specs.Maps.{map_of, IsSphereMap}
 use Rattle.nef_smap.specs.declared.map.SphereMap.{SphereMap}
 use Rattle.nef_edges.proofs.Rays.{normal-kept}
-use Rattle.nef_result.specs.Halves.{inside_label, side_label, sign_beside, IsMapOfPlane, IsMapOfHalf}
+use Rattle.nef_result.specs.Halves.{inside_label, side_label, IsMapOfPlane}
 
 -- ---- the label of a half
 module _ (f : Form) (closed : Bool) (q : Place) where
@@ -70,7 +70,29 @@ module _ (f : Form) (closed : Bool) (q : Place) where
       and-in Not n = refl
       and-in In n = refl
 
+-- ---- signs of the two kinds
+is-minus : (z : ℤ) → Minus ≡ sign_of z → sign z ≡ minus
+is-minus (pos zero) e = let i : Minus ≡ Zero = e in absurd (cc)
+is-minus (pos (suc n)) e = let i : Minus ≡ Plus = e in absurd (cc)
+is-minus (negsuc n) e = refl
+
+is-nought : (z : ℤ) → Zero ≡ sign_of z → sign z ≡ nought
+is-nought (pos zero) e = refl
+is-nought (pos (suc n)) e = let i : Zero ≡ Plus = e in absurd (cc)
+is-nought (negsuc n) e = let i : Zero ≡ Minus = e in absurd (cc)
+
+is-plus : (z : ℤ) → Plus ≡ sign_of z → sign z ≡ plus
+is-plus (pos zero) e = let i : Plus ≡ Zero = e in absurd (cc)
+is-plus (pos (suc n)) e = refl
+is-plus (negsuc n) e = let i : Plus ≡ Minus = e in absurd (cc)
+
 -- ---- its germs
+-- the sign of a form close to a point in some direction, from its sign at the point and that of its slope
+abbrev pub sign_beside : Sign → Sign → Sign
+sign_beside minus t = minus
+sign_beside nought t = t
+sign_beside plus t = plus
+
 -- the sign of the form one short step from the point
 sign-stepped : (f : Form) (p : Place) (t : Ratio) (d : Vector) → IsShort (span f p d) t → sign_at f (step p t d) ≡ sign_beside (sign_at f p) (sign (slope f d))
 sign-stepped f p t d h = by (sign_at f p) refl
@@ -96,16 +118,62 @@ half-germ f closed p d l (n, some, g) = (
       (half-label f closed (step p t d) l (g t (shorter n (n + span f p d) t (omega arith) h))),
 )
 
-pub half-cone : (f : Form) (closed : Bool) (p : Place) (W H M : SphereMap) → Cone (map_of W) Set.full p → IsMapOfHalf f closed p H → Valid (map_of M) → M.mark ≡ op_label And W.mark H.mark
-    → ((d : Vector) (l : Label) → IsDirection d → MapLabel (map_of M) d l ↔ ByOp (map_of W) (map_of H) (op_label And) d l) → Cone (map_of M) (Set.half f closed) p
-half-cone f closed p W H M C I valid mark labels = record {
+-- at a point of the plane
+pub half-cone : (f : Form) (closed : Bool) (p : Place) (W H M : SphereMap) → Zero ≡ sign_of (form_at f p) → Cone (map_of W) Set.full p → IsMapOfPlane f closed H → Valid (map_of M)
+    → M.mark ≡ op_label And W.mark H.mark → ((d : Vector) (l : Label) → IsDirection d → MapLabel (map_of M) d l ↔ ByOp (map_of W) (map_of H) (op_label And) d l) → Cone (map_of M) (Set.half f closed) p
+half-cone f closed p W H M on C I valid mark labels = record {
   valid = valid;
-  mark = subst (HasLabel (Set.half f closed) p) (sym (mark ∙ ap (op_label And W.mark) I.mark)) (half-label f closed p W.mark C.mark);
-  labels = λ d e.
-      let a = C.labels d e in
-      let k = side_label closed (sign_beside (sign_at f p) (sign (slope f d))) in
-      (op_label And a.0 k, (labels d (op_label And a.0 k) e).1 (a.0, k, a.1, I.labels d e, refl), half-germ f closed p d a.0 a.2);
+  mark = subst (HasLabel (Set.half f closed) p) (sym (mark ∙ ap (op_label And W.mark) (I.mark ∙ ap (side_label closed) (sym e)))) (half-label f closed p W.mark C.mark);
+  labels = λ d i.
+      let a = C.labels d i in
+      let k = side_label closed (sign (slope f d)) in (
+        op_label And a.0 k,
+        (labels d (op_label And a.0 k) i).1 (a.0, k, a.1, I.labels d i, refl),
+        subst (λ s. Germ (Set.half f closed) p d (op_label And a.0 (side_label closed (sign_beside s (sign (slope f d)))))) e (half-germ f closed p d a.0 a.2),
+      );
 }
+  where
+    e : sign_at f p ≡ nought
+    e = is-nought (form_at f p) on
+
+-- at a point off the plane: on one side of it the set has the labels of the half
+module _ (f : Form) (closed : Bool) (p : Place) (s : Set) (M : Map) (side : Sign) (at : sign_at f p ≡ side) (beside : (t : Sign) → sign_beside side t ≡ side)
+    (same : (q : Place) (l : Label) → sign_at f q ≡ side → HasLabel s q l → HasLabel (Set.half f closed) q l) where
+  off-germ : (d : Vector) (l : Label) → Germ s p d l → Germ (Set.half f closed) p d l
+  off-germ d l (n, some, g) = (
+    n + span f p d,
+    omega (arith, some),
+    λ t h. same (step p t d) l
+        (sign-stepped f p t d (shorter (span f p d) (n + span f p d) t (omega arith) h) ∙ ap (λ r. sign_beside r (sign (slope f d))) at ∙ beside (sign (slope f d)))
+        (g t (shorter n (n + span f p d) t (omega arith) h)),
+  )
+
+  off-cone : Cone M s p → Cone M (Set.half f closed) p
+  off-cone C = record {
+    valid = C.valid;
+    mark = same p M.mark at C.mark;
+    labels = λ d i. let a = C.labels d i in (a.0, a.1, off-germ d a.0 a.2);
+  }
+
+-- where the form is negative
+below-label : (f : Form) (closed : Bool) (q : Place) (l : Label) → sign_at f q ≡ minus → HasLabel Set.full q l → HasLabel (Set.half f closed) q l
+unfolding Holds
+below-label f closed q Out e h = h
+below-label f closed q Not e h = absurd (h.1 tt)
+below-label f closed q In e h = in-frame f closed q h minus e
+
+pub below-cone : (f : Form) (closed : Bool) (p : Place) (M : Map) → Minus ≡ sign_of (form_at f p) → Cone M Set.full p → Cone M (Set.half f closed) p
+below-cone f closed p M e = off-cone f closed p Set.full M minus (is-minus (form_at f p) e) (λ t. refl) (below-label f closed)
+
+-- where it is positive
+above-label : (f : Form) (closed : Bool) (q : Place) (l : Label) → sign_at f q ≡ plus → HasLabel (Set.other Set.full) q l → HasLabel (Set.half f closed) q l
+unfolding Holds
+above-label f closed q Out e h = h
+above-label f closed q Not e h = in-frame f closed q (h.0, tt) plus e
+above-label f closed q In e h = absurd (h.1 tt)
+
+pub above-cone : (f : Form) (closed : Bool) (p : Place) (M : Map) → Plus ≡ sign_of (form_at f p) → Cone M (Set.other Set.full) p → Cone M (Set.half f closed) p
+above-cone f closed p M e = off-cone f closed p (Set.other Set.full) M plus (is-plus (form_at f p) e) (λ t. refl) (above-label f closed)
 
 -- ---- the map of the plane
 -- the slope of the given form, which may be turned
@@ -143,44 +211,6 @@ plane-shown o closed turned n m a b M u same e f g valid mark labels = record {
       (same-sides a m b (inside_label o.flipped) (inside_label closed) (inside_label (not o.flipped)) (sign (dot n d)) (f ∙ ap inside_label u) e (g ∙ ap (λ k. inside_label (not k)) u)
       ∙ plane-label (form_of o.plane) n o.flipped closed d same) (labels d i);
 }
-
--- ---- the map of the half by the side of the point
-is-minus : (z : ℤ) → Minus ≡ sign_of z → sign z ≡ minus
-is-minus (pos zero) e = let i : Minus ≡ Zero = e in absurd (cc)
-is-minus (pos (suc n)) e = let i : Minus ≡ Plus = e in absurd (cc)
-is-minus (negsuc n) e = refl
-
-is-nought : (z : ℤ) → Zero ≡ sign_of z → sign z ≡ nought
-is-nought (pos zero) e = refl
-is-nought (pos (suc n)) e = let i : Zero ≡ Plus = e in absurd (cc)
-is-nought (negsuc n) e = let i : Zero ≡ Minus = e in absurd (cc)
-
-is-plus : (z : ℤ) → Plus ≡ sign_of z → sign z ≡ plus
-is-plus (pos zero) e = let i : Plus ≡ Zero = e in absurd (cc)
-is-plus (pos (suc n)) e = refl
-is-plus (negsuc n) e = let i : Plus ≡ Minus = e in absurd (cc)
-
-module _ (f : Form) (closed : Bool) (p : Place) (M : SphereMap) where
-  at-side : (s : Sign) (l : Label) → sign_at f p ≡ s → ((t : Sign) → l ≡ side_label closed (sign_beside s t)) → l ≡ side_label closed s → IsSphereMap M → M.mark ≡ l
-      → ((d : Vector) → IsDirection d → MapLabel (map_of M) d l) → IsMapOfHalf f closed p M
-  at-side s l e beside here valid mark labels = record {
-    map = valid;
-    mark = mark ∙ here ∙ ap (side_label closed) (sym e);
-    labels = λ d i. subst (MapLabel (map_of M) d) (beside (sign (slope f d)) ∙ ap (λ r. side_label closed (sign_beside r (sign (slope f d)))) (sym e)) (labels d i);
-  }
-
-  pub inside-shown : Minus ≡ sign_of (form_at f p) → IsLeastMap M → M.mark ≡ In → ((d : Vector) → IsDirection d → MapLabel (map_of M) d In) → IsMapOfHalf f closed p M
-  inside-shown e L = at-side minus In (is-minus (form_at f p) e) (λ t. refl) refl L.sphere_map
-
-  pub outside-shown : Plus ≡ sign_of (form_at f p) → IsLeastMap M → M.mark ≡ Not → ((d : Vector) → IsDirection d → MapLabel (map_of M) d Not) → IsMapOfHalf f closed p M
-  outside-shown e L = at-side plus Not (is-plus (form_at f p) e) (λ t. refl) refl L.sphere_map
-
-  pub on-shown : Zero ≡ sign_of (form_at f p) → IsMapOfPlane f closed M → IsMapOfHalf f closed p M
-  on-shown e I = record {
-    map = I.map;
-    mark = I.mark ∙ ap (side_label closed) (sym (is-nought (form_at f p) e));
-    labels = λ d i. subst (λ r. MapLabel (map_of M) d (side_label closed (sign_beside r (sign (slope f d))))) (sym (is-nought (form_at f p) e)) (I.labels d i);
-  }
 
 -- ---- the normal's direction
 -- a number as the machine keeps it

@@ -8,13 +8,14 @@ ghost use Rattle.nef_space.specs.Vectors.{IsNormal, IsAtMost, SameDirection};
 ghost use Rattle.nef_geo.specs.Shapes.{form_of, given_form, place_of, vector_of};
 ghost use Rattle.law_sphere.specs.Least.{Cone};
 ghost use Rattle.nef_smap.specs.Maps.{map_of, IsLeastMap};
-ghost use Rattle.nef_result.specs.Halves.{inside_label, IsMapOfPlane, IsMapOfHalf};
+ghost use Rattle.nef_result.specs.Halves.{inside_label, IsMapOfPlane};
 
 use crate::OutOfMemory;
 use nef_combine::combine;
 use nef_geo::{Dir, Label, Oriented, Plane, Point, Sign};
-use nef_smap::{SLoop, SphereMap, face_map, plane_map};
+use nef_smap::{SLoop, SphereMap, plane_map};
 use nef_star::Op;
+use nef_stopo::complement;
 use std::alloc::Global;
 
 // The label of points of the frame that a set holds at, or doesn't.
@@ -52,33 +53,31 @@ fn map_of_plane(alloc: Global, oriented: &Oriented, closed: bool) -> SphereMap
     )
 }
 
-// The map of the half, as if there were no frame.
-fn map_of_half(alloc: Global, oriented: &Oriented, closed: bool, p: &Point) -> SphereMap
-    ensures map { IsMapOfHalf (given_form oriented.now) closed (place_of p.now) result }
-{
-    match oriented.side(p) {
-        Sign::Minus => face_map(alloc, Label::In, Label::In),
-        Sign::Zero => map_of_plane(alloc, oriented, closed),
-        Sign::Plus => face_map(alloc, Label::Not, Label::Not),
-    }
-}
-
 /// The least map of a half at `p`, from the whole frame's map there: the half has the points of the frame where the
 /// given `a x + b y + c z + d w` is negative, and those where it is zero if it is closed. `OutOfMemory` says that memory
-/// was wanted and not found.
+/// was wanted and not found; where the number is negative none is wanted.
 pub fn half_map(
     alloc: Global,
-    whole: &SphereMap,
+    whole: SphereMap,
     oriented: &Oriented,
     closed: bool,
     p: &Point,
 ) -> Result<SphereMap, OutOfMemory>
-    requires whole { IsLeastMap whole.now }
-    requires frame { Cone (map_of whole.now) Set.full (place_of p.now) }
+    requires whole { IsLeastMap whole }
+    requires frame { Cone (map_of whole) Set.full (place_of p.now) }
     ensures least { IfOk result (λ m. IsLeastMap m) }
     ensures cone { IfOk result (λ m. Cone (map_of m) (Set.half (given_form oriented.now) closed) (place_of p.now)) }
 {
-    let half = map_of_half(alloc, oriented, closed, p);
-    let map = combine(alloc, whole, &half, Op::And)?;
-    Ok(map)
+    match oriented.side(p) {
+        Sign::Minus => Ok(whole),
+        Sign::Zero => {
+            let half = map_of_plane(alloc, oriented, closed);
+            let map = combine(alloc, &whole, &half, Op::And)?;
+            Ok(map)
+        }
+        Sign::Plus => {
+            let map = complement(alloc, &whole)?;
+            Ok(map)
+        }
+    }
 }

@@ -64,7 +64,7 @@ fn add_half(
     let oriented = Plane::read(a, 0, 0, d)?;
     match whole_map(alloc, &origin) {
         Some(whole) => {
-            let map = half_map(alloc, &whole, &oriented, closed, &origin)?;
+            let map = half_map(alloc, whole, &oriented, closed, &origin)?;
             add_map(text, &map)?;
             Ok(())
         }
@@ -97,6 +97,9 @@ fn bare(alloc: Global, first: Plane, second: Plane) -> Result<Complex, OutOfMemo
             vertices: List::new(alloc),
             at_vertex: List::new(alloc),
             at_edge: List::new(alloc),
+            on_carrier: List::new(alloc),
+            in_carrier: List::new(alloc),
+            spans: List::new(alloc),
         },
     })
 }

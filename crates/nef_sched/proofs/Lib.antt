@@ -2,3 +2,4 @@ pub mod Totals
 pub mod Lines
 pub mod Steps
 pub mod Outs
+pub mod Marking

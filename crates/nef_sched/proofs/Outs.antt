@@ -22,6 +22,12 @@ module _ {X : Type 0} where
   kept_none (x ∷ xs) zero out e = e
   kept_none (x ∷ xs) (suc i) out e = kept_none xs i out e
 
+  pub none_none : (list : List (Option X)) (k : ℕ) → ((j : ℕ) → kept list j ≡ None) → kept (list ++ None ∷ []) k ≡ None
+  none_none [] zero h = refl
+  none_none [] (suc k) h = refl
+  none_none (x ∷ xs) zero h = h 0
+  none_none (x ∷ xs) (suc k) h = none_none xs k (λ j. h (suc j))
+
   pub sound_none : (size : ℕ) (fits : ℕ → X → Type 0) (list : List (Option X)) → AreSound size fits list → AreSound (size + 1) fits (list ++ None ∷ [])
   sound_none size fits list s = ((let l = s.0 in omega (arith, length-append list (None ∷ []))), λ i out e. s.1 i out (kept_none list i out e))
 
@@ -133,6 +139,12 @@ times_above (x ∷ xs) n h =
 pub differ_next : (xs : List ℕ) (n : ℕ) → Differ xs → All (λ i. i < n) xs → Differ (xs ++ n ∷ [])
 differ_next xs n d h = differ_more xs n d (times_above xs n h)
 
--- what is kept below n and at n is kept below its successor
-pub kept_next : {X : Type 0} (list : List (Option X)) (n : ℕ) → ((k : ℕ) → k < n → IsKept list k) → IsKept list n → (k : ℕ) → k < n + 1 → IsKept list k
-kept_next list n below at k low = elim (same_or_not k n) [ inl e ↦ subst (IsKept list) (sym e) at | inr d ↦ below k (omega arith) ]
+-- what holds below n and at n holds below its successor
+pub all_next : (P : ℕ → Type 0) (n : ℕ) → ((k : ℕ) → k < n → P k) → P n → (k : ℕ) → k < n + 1 → P k
+all_next P n below at k low = elim (same_or_not k n) [ inl e ↦ subst P (sym e) at | inr d ↦ below k (omega arith) ]
+
+-- within the list it doesn't matter what is read behind it
+pub any_default : (xs : List ℕ) (k d : ℕ) → k < length xs → slice_index_or xs k d ≡ slice_index_or xs k 0
+any_default [] k d low = absurd (omega arith)
+any_default (x ∷ xs) zero d low = refl
+any_default (x ∷ xs) (suc k) d low = any_default xs k d (omega arith)

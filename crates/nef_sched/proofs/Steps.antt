@@ -1,6 +1,7 @@
 -- Each kind of step keeps the queue's rule, and what a pass learns from it.
-use Rattle.std.proofs.Common.{◌≡◌, ◌≢◌, ℕ, zero, suc, ◌+◌, ◌^◌, ◌<◌, ◌≤◌, List, [], ◌∷◌, ◌++◌, length, set, refl, ap, sym, ◌∙◌, arith, ◌⊎◌, inl, inr, ⊎_elim, subst, take, drop, slice_index_or, Option, Some, None, Bool, true, false, ◌||◌}
+use Rattle.std.proofs.Common.{◌≡◌, ◌≢◌, ℕ, zero, suc, ◌+◌, ◌^◌, ◌<◌, ◌≤◌, List, [], ◌∷◌, ◌++◌, length, set, refl, ap, sym, ◌∙◌, arith, ◌⊎◌, inl, inr, ⊎_elim, subst, take, drop, slice_index_or, slice_get, Option, Some, None, Bool, true, false, ◌||◌}
 use Rattle.std.proofs.lemmas.List.{length-append, length-take-le}
+use Rattle.std.proofs.lemmas.Option.{slice_get_within}
 use mathlib.Core.Option.{some, some-injective, some-ne-none}
 use lib.ListN.{get_elem?}
 use Rattle.crossbeam_queue.specs.Fifo.{Pushes, Pops, Forks, Merges, Learns, Held}
@@ -10,7 +11,7 @@ use Rattle.nef_sched.specs.Counts.{weigh, one, times, Differ, IsDealt}
 use Rattle.nef_sched.specs.Line.{numbers_in, ends_in}
 use Rattle.nef_sched.specs.Views.{whole, first_view, put, took, at_end, cut, share, both, spent}
 use Rattle.nef_sched.specs.Rule.{Fits, Shows, Kept, Sees, Took, TookEach}
-use Rattle.nef_sched.specs.Laws.{PassesAgree, NoneTwice, NoneTakenIsLeft, NoneIsLost, EndedIsEmpty}
+use Rattle.nef_sched.specs.Laws.{NumbersAreKnown, PassesAgree, NoneTwice, NoneTakenIsLeft, NoneIsLost, EndedIsEmpty}
 use Rattle.nef_sched.specs.declared.pass.RoundPass.{RoundPass}
 use Rattle.nef_sched.specs.Rounds.{parts, known, taken, ended, any_ended, total_parts, times_taken, numbers_of}
 use Rattle.nef_sched.proofs.Totals.{weigh_append, weigh_one, counts, counts_itself, total_set, total_snoc, at_most, two_at_most, all_of_one}
@@ -433,3 +434,14 @@ ended_snoc (q ∷ qs) p = ap (λ b. ended q || b) (ended_snoc qs p) ∙ or_swap 
 pub none_ended : (ps : List RoundPass) → length ps ≡ 0 → any_ended ps ≡ false
 none_ended [] e = refl
 none_ended (p ∷ ps) e = absurd (omega arith)
+
+last_known : (ps : List RoundPass) → 0 < length ps → (j : ℕ) × (q : RoundPass) × (slice_get ps j ≡ Some q) × (numbers_of ps ≡ known q)
+last_known [] low = absurd (omega arith)
+last_known (p ∷ []) low = (0, p, refl, refl)
+last_known (p ∷ q ∷ ps) low = let l = last_known (q ∷ ps) (omega arith) in (suc l.0, l.1, l.2, l.3)
+
+pub numbers_are_known : NumbersAreKnown
+numbers_are_known ps i p agreed at =
+    let within = slice_get_within ps i p at in
+    let l = last_known ps (omega arith) in
+    agreed i l.0 p l.1 at l.2 ∙ sym l.3

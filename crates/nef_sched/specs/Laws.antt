@@ -1,5 +1,5 @@
 -- What each kind of step keeps, and what the rule says of any two passes.
-use Rattle.std.specs.Prelude.{◌≡◌, ◌≢◌, ℕ, true, false, ◌+◌, ◌^◌, ◌<◌, ◌≤◌, ◌⊎◌, List, [], ◌∷◌, Option, Some, None}
+use Rattle.std.specs.Prelude.{◌≡◌, ◌≢◌, ℕ, true, false, ◌+◌, ◌^◌, ◌<◌, ◌≤◌, ◌⊎◌, List, [], ◌∷◌, Option, Some, None, slice_get}
 use mathlib.Core.Option.{some}
 use lib.ListN.{get_elem?}
 use Rattle.crossbeam_queue.specs.Fifo.{Pushes, Pops, Forks, Merges}
@@ -8,6 +8,8 @@ use Rattle.nef_sched.specs.Counts.{times}
 use Rattle.nef_sched.specs.Line.{numbers_in}
 use Rattle.nef_sched.specs.Views.{first_view, put, cut, share, both, spent, total}
 use Rattle.nef_sched.specs.Rule.{Kept, Took}
+use Rattle.nef_sched.specs.declared.pass.RoundPass.{RoundPass}
+use Rattle.nef_sched.specs.Rounds.{known, numbers_of, AreAgreed}
 
 abbrev pub BeginKeeps : Type 0
 BeginKeeps = Kept [] (first_view ∷ [])
@@ -54,3 +56,7 @@ NoneIsLost = (items : List (Option ℕ)) (views : List View) (i : ℕ) (v : View
 -- where some pass has ended, the queue holds no number
 abbrev pub EndedIsEmpty : Type 0
 EndedIsEmpty = (items : List (Option ℕ)) (views : List View) (i : ℕ) (v : View) → Kept items views → get_elem? views i ≡ some v → v.ended ≡ true → numbers_in items ≡ []
+
+-- where any two passes of a list know the same numbers, as those of one round do, each of them knows the numbers that are told of the list
+abbrev pub NumbersAreKnown : Type 0
+NumbersAreKnown = (ps : List RoundPass) (i : ℕ) (p : RoundPass) → AreAgreed ps → slice_get ps i ≡ Some p → known p ≡ numbers_of ps

@@ -5,4 +5,5 @@ pub mod Rule
 pub mod Rounds
 pub mod Laws
 pub mod Results
+pub mod Marks
 pub mod Workers

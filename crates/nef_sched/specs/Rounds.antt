@@ -1,5 +1,5 @@
 -- What clauses say of a round and of its passes.
-use Rattle.std.specs.Prelude.{◌≡◌, ℕ, Bool, false, ◌+◌, ◌≤◌, ◌||◌, List, [], ◌∷◌, length, vec_capacity}
+use Rattle.std.specs.Prelude.{◌≡◌, ℕ, Bool, false, ◌+◌, ◌≤◌, ◌||◌, List, [], ◌∷◌, length, vec_capacity, slice_get, Some}
 use Rattle.crossbeam_queue.specs.Passes.{view, IsPassOf}
 use Rattle.nef_sched.specs.declared.pass.Round.{Round}
 use Rattle.nef_sched.specs.declared.pass.RoundPass.{RoundPass}
@@ -37,7 +37,7 @@ abbrev pub any_ended : List RoundPass → Bool
 any_ended [] = false
 any_ended (p ∷ ps) = ended p || any_ended ps
 
--- the numbers of the round, which every pass knows: those of the last pass
+-- the numbers of the round, which every pass of its list knows: those of the last pass
 abbrev pub numbers_of : List RoundPass → List ℕ
 numbers_of [] = []
 numbers_of (p ∷ []) = known p
@@ -45,3 +45,7 @@ numbers_of (p ∷ q ∷ ps) = numbers_of (q ∷ ps)
 
 abbrev pub TookAll : RoundPass → Type 0
 TookAll p = (x : ℕ) → times x (taken p) ≡ times x (known p)
+
+-- any two passes of the list know the same numbers
+abbrev pub AreAgreed : List RoundPass → Type 0
+AreAgreed ps = (i j : ℕ) (p q : RoundPass) → slice_get ps i ≡ Some p → slice_get ps j ≡ Some q → known p ≡ known q

@@ -1,13 +1,16 @@
 //! Works a stage round after round.
-ghost use Rattle.std.specs.Prelude.{◌≡◌, ℕ, false, ◌<◌, ◌≤◌, ◌↔◌, length, All, IfOk, IfSome, IsTrue, Some, slice_get, slice_index_or, vec_len};
+ghost use Rattle.std.specs.Prelude.{◌≡◌, ℕ, false, ◌<◌, ◌≤◌, ◌↔◌, length, All, IfOk, IfSome, IsTrue, None, Some, slice_get, slice_index_or, vec_len};
 ghost use Rattle.nef_sched.specs.declared.pass.RoundPass.{RoundPass};
 ghost use Rattle.nef_sched.specs.declared.worked.Worked.{Worked};
 ghost use Rattle.nef_sched.specs.Counts.{Differ};
+ghost use Rattle.nef_sched.specs.Marks.{IsMarked, IsUnmarked, IsAwaited, NeedsOf};
 ghost use Rattle.nef_sched.specs.Rounds.{Belongs, parts, known, total_parts};
 ghost use Rattle.nef_sched.specs.Results.{kept, IsKept, IsReady, AreSound, AreFitting};
 ghost use Rattle.nef_sched.specs.Workers.{total_worked};
 
 use crate::OutOfMemory;
+use crate::lean::let_go;
+use crate::marks::mark_all;
 use crate::pass::{Round, RoundPass};
 use crate::stage::{Results, Stage};
 use crate::worked::Worked;
@@ -34,24 +37,51 @@ pub fn run_ahead<R: Threads + Wait + Sync, T: Stage>(
     ensures len { IfOk result (λ v. vec_len v ≡ T.size stage.now) }
     ensures fits { IfOk result (λ v. (i : ℕ) (out : _) → slice_get v.items i ≡ Some out → T.fits stage.now i out) }
 {
+    let wanted = vec![in alloc; true; stage.count()]?;
+    let list = run_lean(rt, alloc, stage, workers, &wanted)?;
+    all_of(alloc, stage, list)
+}
+
+/// Works every number of the stage in the rounds of [`run_ahead`], and returns at each number's
+/// place its result, which fits, where `wanted` has the number marked, and `None` where it hasn't.
+///
+/// `wanted` has a place for each number. A result that isn't wanted is let go at the end of the
+/// round after which no number that isn't worked yet needs it.
+///
+/// `OutOfMemory` says that memory was wanted and not found; the results are gone then.
+pub fn run_lean<R: Threads + Wait + Sync, T: Stage>(
+    rt: &R,
+    alloc: Global,
+    stage: &T,
+    workers: u32,
+    wanted: &[bool],
+) -> Result<Vec<Option<T::Out>>, OutOfMemory>
+    requires workers { 1 ≤ workers }
+    requires workable { T.workable stage.now }
+    requires wanted { length wanted.now ≡ T.size stage.now }
+    ensures fits { IfOk result (λ v. AreSound (T.size stage.now) (T.fits stage.now) v.items) }
+    ensures wanted { IfOk result (λ v. (i : ℕ) → IsMarked wanted.now i → IsKept v.items i) }
+    ensures lean { IfOk result (λ v. (i : ℕ) → IsUnmarked wanted.now i → kept v.items i ≡ None) }
+{
     let mut done = no_results::<T>(alloc, stage)?;
+    let mut marks = vec![in alloc; false; stage.count()]?;
+    let worked = marks.as_mut_slice();
     for _ in rt.forever() {
-        let numbers = ready(alloc, stage, &done)?;
+        let numbers = ready(alloc, stage, &done, worked)?;
         if numbers.is_empty() {
             break;
         }
-        done = if numbers.len() == 1 {
-            work_one(alloc, stage, numbers[0], true, done)?
-        } else {
-            work_round(rt, alloc, stage, workers, numbers.as_slice(), done)?
-        };
+        done = work_ready(rt, alloc, stage, workers, &numbers, done)?;
+        mark_all(worked, &numbers);
+        done = let_go(alloc, stage, wanted, worked, done)?;
     }
-    all_of(alloc, stage, done)
+    Ok(done.list)
 }
 
 // No number has a result.
 fn no_results<T: Stage>(alloc: Global, stage: &T) -> Result<Results<T::Out>, OutOfMemory>
-    ensures { IfOk result (λ r. AreSound (T.size stage.now) (T.fits stage.now) r.list.items) }
+    ensures sound { IfOk result (λ r. AreSound (T.size stage.now) (T.fits stage.now) r.list.items) }
+    ensures none { IfOk result (λ r. (k : ℕ) → kept r.list.items k ≡ None) }
 {
     let mut list = Vec::with_capacity(alloc, stage.count())?;
     for _ in 0..stage.count() {
@@ -76,38 +106,43 @@ fn is_ready<T: Stage>(stage: &T, done: &Results<T::Out>, number: usize) -> bool
     requires workable { T.workable stage.now }
     requires sound { AreSound (T.size stage.now) (T.fits stage.now) done.now.list.items }
     ensures yes { IsTrue result → IsReady (T.fits stage.now) (T.first stage.now number) (T.second stage.now number) done.now.list.items }
-    ensures all { ((k : ℕ) → k < number → IsKept done.now.list.items k) → IsTrue result }
+    ensures all { ((k : ℕ) → k < number → NeedsOf (T.first stage.now) (T.second stage.now) number k → IsKept done.now.list.items k) → IsTrue result }
 {
     let needs = stage.needs(number);
     is_there(done, needs.first) && is_there(done, needs.second)
 }
 
-// The number has no result, and what it needs is there.
-fn is_due<T: Stage>(stage: &T, done: &Results<T::Out>, number: usize) -> bool
+// The number isn't worked yet, and what it needs is there.
+fn is_due<T: Stage>(stage: &T, done: &Results<T::Out>, worked: &[bool], number: usize) -> bool
     requires number { number < T.size stage.now }
     requires workable { T.workable stage.now }
     requires sound { AreSound (T.size stage.now) (T.fits stage.now) done.now.list.items }
+    requires worked { length worked.now ≡ T.size stage.now }
+    requires awaited { (k : ℕ) → IsMarked worked.now k → IsAwaited (T.first stage.now) (T.second stage.now) worked.now k → IsKept done.now.list.items k }
     ensures yes { IsTrue result → IsReady (T.fits stage.now) (T.first stage.now number) (T.second stage.now number) done.now.list.items }
-    ensures no { ((k : ℕ) → k < number → IsKept done.now.list.items k) → result ≡ false → IsKept done.now.list.items number }
+    ensures no { ((k : ℕ) → k < number → IsMarked worked.now k) → result ≡ false → IsMarked worked.now number }
 {
-    done.get(number).is_none() && is_ready(stage, done, number)
+    !worked[number] && is_ready(stage, done, number)
 }
 
-// The numbers that have no result and can be worked.
+// The numbers that aren't worked yet and can be.
 fn ready<T: Stage>(
     alloc: Global,
     stage: &T,
     done: &Results<T::Out>,
+    worked: &[bool],
 ) -> Result<Vec<usize>, OutOfMemory>
     requires workable { T.workable stage.now }
     requires sound { AreSound (T.size stage.now) (T.fits stage.now) done.now.list.items }
+    requires worked { length worked.now ≡ T.size stage.now }
+    requires awaited { (k : ℕ) → IsMarked worked.now k → IsAwaited (T.first stage.now) (T.second stage.now) worked.now k → IsKept done.now.list.items k }
     ensures differ { IfOk result (λ v. Differ v.items) }
     ensures each { IfOk result (λ v. All (λ i. (i < T.size stage.now) × IsReady (T.fits stage.now) (T.first stage.now i) (T.second stage.now i) done.now.list.items) v.items) }
-    ensures none { IfOk result (λ v. vec_len v ≡ 0 → (k : ℕ) → k < T.size stage.now → IsKept done.now.list.items k) }
+    ensures none { IfOk result (λ v. vec_len v ≡ 0 → (k : ℕ) → k < T.size stage.now → IsMarked worked.now k) }
 {
     let mut numbers = Vec::new(alloc);
     for number in 0..stage.count() {
-        if is_due(stage, done, number) {
+        if is_due(stage, done, worked, number) {
             numbers.push(number)?;
         }
     }
@@ -128,6 +163,7 @@ fn work_one<T: Stage>(
     requires there { IsReady (T.fits stage.now) (T.first stage.now number) (T.second stage.now number) done.list.items }
     ensures sound { IfOk result (λ r. AreSound (T.size stage.now) (T.fits stage.now) r.list.items) }
     ensures still { IfOk result (λ r. (k : ℕ) → IsKept done.list.items k → IsKept r.list.items k) }
+    ensures there { IfOk result (λ r. IsKept r.list.items number) }
 {
     let out = stage.work(alloc, number, alone, &done)?;
     done.list[number] = Some(out);
@@ -249,6 +285,7 @@ fn work_left<T: Stage>(
     requires there { IsReady (T.fits stage.now) (T.first stage.now number) (T.second stage.now number) done.list.items }
     ensures sound { IfOk result (λ r. AreSound (T.size stage.now) (T.fits stage.now) r.list.items) }
     ensures still { IfOk result (λ r. (k : ℕ) → IsKept done.list.items k → IsKept r.list.items k) }
+    ensures there { IfOk result (λ r. IsKept r.list.items number) }
 {
     if done.get(number).is_some() {
         return Ok(done);
@@ -267,6 +304,8 @@ fn work_rest<T: Stage>(
     requires sound { AreSound (T.size stage.now) (T.fits stage.now) done.list.items }
     requires each { All (λ i. (i < T.size stage.now) × IsReady (T.fits stage.now) (T.first stage.now i) (T.second stage.now i) done.list.items) numbers.now }
     ensures sound { IfOk result (λ r. AreSound (T.size stage.now) (T.fits stage.now) r.list.items) }
+    ensures still { IfOk result (λ r. (k : ℕ) → IsKept done.list.items k → IsKept r.list.items k) }
+    ensures there { IfOk result (λ r. All (IsKept r.list.items) numbers.now) }
 {
     for number in numbers {
         done = work_left(alloc, stage, *number, done)?;
@@ -290,6 +329,8 @@ fn work_round<R: Threads + Wait + Sync, T: Stage>(
     requires differ { Differ numbers.now }
     requires each { All (λ i. (i < T.size stage.now) × IsReady (T.fits stage.now) (T.first stage.now i) (T.second stage.now i) done.list.items) numbers.now }
     ensures sound { IfOk result (λ r. AreSound (T.size stage.now) (T.fits stage.now) r.list.items) }
+    ensures still { IfOk result (λ r. (k : ℕ) → IsKept done.list.items k → IsKept r.list.items k) }
+    ensures there { IfOk result (λ r. All (IsKept r.list.items) numbers.now) }
 {
     let (round, passes) = Round::new(rt, alloc, numbers, workers)?;
     let worked = work_apart(rt, alloc, stage, &done, &round, passes)?;
@@ -298,20 +339,46 @@ fn work_round<R: Threads + Wait + Sync, T: Stage>(
     work_rest(alloc, stage, numbers, done)
 }
 
+// Works the numbers of a round: a single one by the caller.
+fn work_ready<R: Threads + Wait + Sync, T: Stage>(
+    rt: &R,
+    alloc: Global,
+    stage: &T,
+    workers: u32,
+    numbers: &[usize],
+    done: Results<T::Out>,
+) -> Result<Results<T::Out>, OutOfMemory>
+    requires workers { 1 ≤ workers }
+    requires workable { T.workable stage.now }
+    requires sound { AreSound (T.size stage.now) (T.fits stage.now) done.list.items }
+    requires some { 0 < length numbers.now }
+    requires differ { Differ numbers.now }
+    requires each { All (λ i. (i < T.size stage.now) × IsReady (T.fits stage.now) (T.first stage.now i) (T.second stage.now i) done.list.items) numbers.now }
+    ensures sound { IfOk result (λ r. AreSound (T.size stage.now) (T.fits stage.now) r.list.items) }
+    ensures still { IfOk result (λ r. (k : ℕ) → IsKept done.list.items k → IsKept r.list.items k) }
+    ensures there { IfOk result (λ r. All (IsKept r.list.items) numbers.now) }
+{
+    if numbers.len() == 1 {
+        work_one(alloc, stage, numbers[0], true, done)
+    } else {
+        work_round(rt, alloc, stage, workers, numbers, done)
+    }
+}
+
 // Every number has its result: the results alone.
 fn all_of<T: Stage>(
     alloc: Global,
     stage: &T,
-    done: Results<T::Out>,
+    list: Vec<Option<T::Out>>,
 ) -> Result<Vec<T::Out>, OutOfMemory>
-    requires sound { AreSound (T.size stage.now) (T.fits stage.now) done.list.items }
-    requires all { (k : ℕ) → k < T.size stage.now → IsKept done.list.items k }
+    requires sound { AreSound (T.size stage.now) (T.fits stage.now) list.items }
+    requires all { (k : ℕ) → k < T.size stage.now → IsKept list.items k }
     ensures len { IfOk result (λ v. vec_len v ≡ T.size stage.now) }
     ensures fits { IfOk result (λ v. (i : ℕ) (out : _) → slice_get v.items i ≡ Some out → T.fits stage.now i out) }
 {
     let _stage = stage;
-    let mut outs = Vec::with_capacity(alloc, done.list.len())?;
-    for slot in done.list {
+    let mut outs = Vec::with_capacity(alloc, list.len())?;
+    for slot in list {
         let Some(out) = slot else { unreachable!() };
         outs.push(out)?;
     }

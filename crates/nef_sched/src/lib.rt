@@ -3,6 +3,8 @@
 
 mod ahead;
 mod laws;
+mod lean;
+mod marks;
 mod pass;
 mod round;
 mod rule;
@@ -12,7 +14,7 @@ mod tests;
 mod view;
 mod worked;
 
-pub use ahead::run_ahead;
+pub use ahead::{run_ahead, run_lean};
 pub use laws::{passes_agree, steps_keep_the_rule};
 pub use pass::{Round, RoundPass};
 pub use round::Taken;

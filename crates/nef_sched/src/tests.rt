@@ -1,7 +1,7 @@
 //! A round of the numbers 4 and 7, and a stage of five numbers.
 ghost use Rattle.std.specs.Prelude.{◌≡◌, ◌==◌, if◌then◌else◌, nat_lt, Some, None};
 
-use crate::{Needs, OutOfMemory, Results, Round, Stage, Taken, run_ahead};
+use crate::{Needs, OutOfMemory, Results, Round, Stage, Taken, run_ahead, run_lean};
 use std::alloc::Global;
 use std::sync::atomic::{AtomicBool, AtomicU64, Ordering};
 use std::test::Fail;
@@ -61,10 +61,21 @@ fn what_is_left_is_told(rt: HostRuntime) -> Result<(), Fail> {
 }
 
 // Five numbers: 2 needs 0 and 1, 3 needs 2, 4 needs 2 and 1. A result is one more than the sum of
-// those that it needs. Calls in which the number is alone are counted.
+// those that it needs. Calls in which the number is alone are counted, and those for which the result
+// of 0 isn't there.
 #[derive(Drop)]
 struct Sums {
     alone: AtomicU64,
+    without_first: AtomicU64,
+}
+
+impl Sums {
+    fn new() -> Sums {
+        Sums {
+            alone: AtomicU64::new(0),
+            without_first: AtomicU64::new(0),
+        }
+    }
 }
 
 fn first_of(i: usize) -> Option<usize>
@@ -126,6 +137,9 @@ impl Stage for Sums {
         if alone {
             self.alone.fetch_add(1, Ordering::SeqCst);
         }
+        if done.get(0).is_none() {
+            self.without_first.fetch_add(1, Ordering::SeqCst);
+        }
         let sum = value_of(done, first_of(i)).wrapping_add(value_of(done, second_of(i)));
         Ok(sum.wrapping_add(1))
     }
@@ -133,12 +147,25 @@ impl Stage for Sums {
 
 #[test]
 fn results_come_in_order(rt: HostRuntime) -> Result<(), Fail> {
-    let stage = Sums {
-        alone: AtomicU64::new(0),
-    };
+    let stage = Sums::new();
     let results = run_ahead(&rt, rt.alloc(), &stage, 2)?;
     assert_eq!(rt; results.as_slice(), [1, 1, 3, 4, 5].as_slice());
     assert_eq!(rt; stage.alone.load(Ordering::SeqCst), 1);
+    assert_eq!(rt; stage.without_first.load(Ordering::SeqCst), 2);
+    Ok(())
+}
+
+// The result of 0 is let go once 2 is worked, so it isn't there for 0, 1, 3 and 4.
+#[test]
+fn wanted_results_stay(rt: HostRuntime) -> Result<(), Fail> {
+    let stage = Sums::new();
+    let wanted = [false, false, false, true, false];
+    let results = run_lean(&rt, rt.alloc(), &stage, 2, &wanted)?;
+    assert_eq!(rt;
+        results.as_slice(),
+        [None, None, None, Some(4), None].as_slice()
+    );
+    assert_eq!(rt; stage.without_first.load(Ordering::SeqCst), 4);
     Ok(())
 }
 

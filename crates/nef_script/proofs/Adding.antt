@@ -1,28 +1,39 @@
 -- What one line adds.
-use Rattle.std.proofs.Common.{◌≡◌, ℕ, ◌+◌, ◌<◌, Bool, true, false, not, cond, nat_eq, List, [], ◌∷◌, ◌++◌, length, take, get_or, Option, Some, None, is_some, slice_get, if◌then◌else◌, refl, sym, ◌∙◌, ap, subst, arith, append-nil, length-append}
+use Rattle.std.proofs.Common.{◌≡◌, ℕ, ◌+◌, ◌<◌, ◌≤◌, ◌⊎◌, ℤ, pos, inl, inr, Bool, true, false, not, cond, nat_eq, List, [], ◌∷◌, ◌++◌, length, take, get_or, Option, Some, None, is_some, slice_get, if◌then◌else◌, refl, sym, ◌∙◌, ap, subst, arith, append-nil, length-append}
 use Rattle.std.specs.List.{list_any, zip, position}
 use Rattle.std.specs.Option.{option_map}
 use Rattle.std.specs.Str.{bytes_eq}
 use Rattle.std.proofs.Math.Dec.{eqb-suc-zero}
-use Rattle.std.proofs.lemmas.Option.{slice_get-get_or}
-use Rattle.std.proofs.lemmas.Grind.{common_steps}
+use Rattle.std.proofs.lemmas.Option.{slice_get_within, get_or_from_slice_get}
 use Rattle.nef_lex.specs.Words.{words_of}
 use Rattle.nef_expr.specs.declared.nodes.Node.{Node}
-use Rattle.nef_script.specs.Table.{verb_of, roles, binds}
+use Rattle.nef_expr.specs.declared.nodes.Node.TheVariants as node
+use Rattle.nef_expr.specs.Nodes.{IsOperand}
+use Rattle.nef_expr.specs.Turns.{TurnOf}
+use Rattle.nef_expr.specs.Table.{Table, origin, HasOrigin, IsCopyOf}
+use Rattle.nef_expr.specs.Copying.{Extends, Stays}
+use Rattle.nef_expr.proofs.Places.{slice_get-seam, place-push}
+use Rattle.nef_expr.proofs.Chains.{pair-of}
+use Rattle.nef_expr.proofs.Tables.{extends-length}
+use Rattle.nef_script.specs.Table.{verb_of, roles, binds, is_own}
+use Rattle.nef_script.specs.Limits.{KeepsRayLimits}
 use Rattle.nef_script.specs.Tests.{is_refused_for, is_unknown_command, is_among, is_taken, on_verb}
 use Rattle.nef_script.specs.Refusal.{line_refusal, bound_name}
-use Rattle.nef_script.specs.Meaning.{IsNode, IsQuestion, IsWithin, MeansCommand, MeansWords, has_words}
+use Rattle.nef_script.specs.Meaning.{Names, IsNode, IsQuestion, IsTurn, MeansCommand, MeansWords, has_words, adds_base}
 use Rattle.nef_script.specs.Checks.{command_test, command_in}
-use Rattle.nef_script.specs.Reading.{Fits, AddsWords, AddsLine, AddsCommand}
+use Rattle.nef_script.specs.Reading.{Fits, State, sets_of, IsSound, Step, AddsWords, AddsLine, AddsCommand, number_at}
 use Rattle.nef_script.specs.declared.table.Verb.{Verb}
 use Rattle.nef_script.specs.declared.table.Verb.TheVariants as verb
 use Rattle.nef_script.specs.declared.table.Role.{Role}
 use Rattle.nef_script.specs.declared.table.Role.TheVariants.{NewName}
 use Rattle.nef_script.specs.declared.script.Command.{Command}
-use Rattle.nef_script.specs.declared.script.Command.TheVariants.{Bind}
+use Rattle.nef_script.specs.declared.script.Command.TheVariants.{Bind, Turn}
 use Rattle.nef_script.specs.declared.fault.ScriptKind.{ScriptKind}
 use Rattle.nef_script.specs.declared.fault.ScriptKind.TheVariants as kind
-use Rattle.nef_script.proofs.ByCommand.{on_command-Some, some_value}
+use Rattle.nef_script.proofs.ByCommand.{on_command-Some, on_command-None, some_value}
+use Rattle.nef_script.proofs.Looking.{node-operands, question-asks}
+use Rattle.nef_script.proofs.More.{names-more, node-more, own-binding, own-binds, ask-owns}
+use Rattle.nef_script.proofs.Shapes.{three_words}
 use Rattle.nef_script.proofs.Positions.{position-any}
 use Rattle.nef_script.proofs.Questions.{or_parts, count_is}
 
@@ -41,6 +52,7 @@ first_role verb.Int e = (_, refl)
 first_role verb.Cl e = (_, refl)
 first_role verb.Bd e = (_, refl)
 first_role verb.Reg e = (_, refl)
+first_role verb.Turn e = (_, refl)
 first_role verb.Has e = cc
 first_role verb.Joined e = cc
 first_role verb.Ray e = cc
@@ -76,42 +88,133 @@ take_one : (ws : List (List ℕ)) → 0 < length ws → get_or ws 0 [] ∷ [] �
 take_one [] some = absurd (omega arith)
 take_one (w ∷ ws) some = refl
 
-slice_get-last : (nodes : List Node) (n : Node) (k : ℕ) → k ≡ length nodes → slice_get (nodes ++ n ∷ []) k ≡ Some n
-slice_get-last nodes n k e =
-    let within : k < length (nodes ++ n ∷ []) = rw length-append (omega arith) in
-    let last : get_or (nodes ++ n ∷ []) k n ≡ n = grind (arith, common_steps) in
-    slice_get-get_or (nodes ++ n ∷ []) k n within ∙ ap Some last
+slice_get-end : {X : Type 0} (xs : List X) (x : X) (k : ℕ) → k ≡ length xs → slice_get (xs ++ x ∷ []) k ≡ Some x
+slice_get-end xs x k e = subst (λ (j : ℕ). slice_get (xs ++ x ∷ []) j ≡ Some x) (sym e) (slice_get-seam xs x [])
 
-pub AddsWords-bind : (number : ℕ) (v : Verb) (ws names : List (List ℕ)) (nodes : List Node) (commands : List Command) (n : Node) (k : ℕ) (new_names : List (List ℕ)) (new_nodes : List Node) (new_commands : List Command) → binds v ≡ true → 0 < length ws → length nodes ≡ length names → k ≡ length nodes → IsNode names v ws n → new_names ≡ names ++ get_or ws 0 [] ∷ [] → new_nodes ≡ nodes ++ n ∷ [] → new_commands ≡ commands ++ Bind number k ∷ [] → AddsWords number v ws names nodes commands new_names new_nodes new_commands
-AddsWords-bind number v ws names nodes commands n k new_names new_nodes new_commands e some level is_k is_node names_are nodes_are commands_are =
-    let longer_nodes : length new_nodes ≡ length nodes + 1 = ap length nodes_are ∙ length-append nodes (n ∷ []) in
-    let longer_names : length new_names ≡ length names + 1 = ap length names_are ∙ length-append names (get_or ws 0 [] ∷ []) in
+-- a name more, and its node
+module _ (old new : State) (sound : IsSound old) (word : List ℕ) (k : ℕ) (names_are : new.names ≡ old.names ++ word ∷ []) (bound_are : new.bound ≡ old.bound ++ k ∷ []) where
+  bound-stays : Extends old.bound new.bound
+  bound-stays = (k ∷ [], bound_are)
+
+  bound-next : slice_get new.bound (length old.names) ≡ Some k
+  bound-next = subst (λ (xs : List ℕ). slice_get xs (length old.names) ≡ Some k) (sym bound_are) (slice_get-end old.bound k (length old.names) (sym sound.level))
+
+  bound-is : (i l : ℕ) → slice_get new.bound i ≡ Some l → (slice_get old.bound i ≡ Some l) ⊎ (l ≡ k)
+  bound-is i l at = elim (place-push old.bound k i l (subst (λ (xs : List ℕ). slice_get xs i ≡ Some l) bound_are at)) [
+    | inl before ↦ inl before.1
+    | inr here ↦ inr here.1
+  ]
+
+  sound-next : length old.table.nodes ≤ length new.table.nodes → k < length new.table.nodes → new.table.bases ≤ old.table.bases + 1 → IsSound new
+  sound-next more within bases =
+      let names = ap length names_are ∙ length-append old.names (word ∷ []) in
+      let bound = ap length bound_are ∙ length-append old.bound (k ∷ []) in
+      let level = sound.level in let few = sound.few in
+      record {
+        level = omega (arith, names, bound, level);
+        within = λ i l at. elim (bound-is i l at) [
+          | inl before ↦ (let b = sound.within i l before in omega (arith, more, b))
+          | inr here ↦ rw here within
+        ];
+        few = omega (arith, names, few, bases);
+      }
+
+module _ (number : ℕ) (v : Verb) (ws : List (List ℕ)) (old new : State) (sound : IsSound old) (some : 0 < length ws) (names_are : new.names ≡ old.names ++ get_or ws 0 [] ∷ []) where
+  -- the node of a line
+  pub AddsWords-node : (n : Node) (k : ℕ) → is_own v ≡ true → k ≡ length old.table.nodes → IsNode old.names old.bound v ws n → new.bound ≡ old.bound ++ k ∷ [] → new.table.nodes ≡ old.table.nodes ++ n ∷ [] → new.table.origins ≡ old.table.origins ++ origin old.table.bases 0 ∷ [] → HasOrigin new.table.origins k (origin old.table.bases 0) → new.table.bases ≡ old.table.bases + 1 → new.commands ≡ old.commands ++ Bind number k ∷ [] → AddsWords number v ws old new
+  AddsWords-node n k own is_k is_node bound_are nodes_are origins_are has_origin bases_are commands_are =
+      let longer : length new.table.nodes ≡ length old.table.nodes + 1 = ap length nodes_are ∙ length-append old.table.nodes (n ∷ []) in
+      let at : slice_get new.table.nodes k ≡ Some n = subst (λ (xs : List Node). slice_get xs k ≡ Some n) (sym nodes_are) (slice_get-end old.table.nodes n k is_k) in
+      let e = own-binds v own in
+      let stays = bound-stays old new sound (get_or ws 0 []) k names_are bound_are in
+      record {
+        command = Bind number k;
+        names_are = names_are ∙ ap (λ l. old.names ++ l) (rw e (take_one ws some));
+        bases_are = bases_are ∙ ap (λ l. old.table.bases + l) (rw own refl);
+        sound = sound-next old new sound (get_or ws 0 []) k names_are bound_are (omega (arith, longer)) (omega (arith, longer, is_k)) (omega (arith, bases_are));
+        step = record {
+          nodes_stay = (n ∷ [], nodes_are);
+          origins_stay = (origin old.table.bases 0 ∷ [], origins_are);
+          bound_stay = stays;
+          commands_are = commands_are;
+          within = omega (arith, longer, is_k);
+          turns = tt;
+          looks = λ l looks. node-operands old.names old.bound v ws n is_node l (subst (IsOperand l) (get_or_from_slice_get new.table.nodes k n node.Empty at) looks);
+          binds = bound-is old new sound (get_or ws 0 []) k names_are bound_are;
+        };
+        means = subst (λ t. MeansCommand old.names old.table.bases number v ws t (sets_of new) (Bind number k)) (sym e) (
+          k,
+          bound-next old new sound (get_or ws 0 []) k names_are bound_are,
+          own-binding old.names old.table.bases number v ws (sets_of new) k (Bind number k) own (n, at, node-more old.names old.bound new.bound stays v ws n is_node, has_origin, refl),
+        );
+      }
+
+-- a question
+pub AddsWords-ask : (number : ℕ) (v : Verb) (ws : List (List ℕ)) (old new : State) (c : Command) → IsSound old → binds v ≡ false → IsQuestion old.names old.bound number v ws c → KeepsRayLimits c → new.names ≡ old.names → new.bound ≡ old.bound → new.table ≡ old.table → new.commands ≡ old.commands ++ c ∷ [] → AddsWords number v ws old new
+AddsWords-ask number v ws old new c sound e is rays names_are bound_are table_is commands_are =
+    let asks = question-asks old.names old.bound new.table.nodes number v ws c is in
+    let nodes_are = ap (λ (t : Table). t.nodes) table_is in
+    let below : (i k : ℕ) → slice_get old.bound i ≡ Some k → k < length new.table.nodes = λ i k at. subst (λ (xs : List Node). k < length xs) (sym nodes_are) (sound.within i k at) in
     record {
-      more_names = get_or ws 0 [] ∷ [];
-      more_nodes = n ∷ [];
-      command = Bind number k;
-      bound = rw e (take_one ws some);
-      names_are = names_are;
-      nodes_are = nodes_are;
-      commands_are = commands_are;
-      level = omega arith;
-      means = subst (λ t. MeansCommand names number v ws t new_nodes (Bind number k)) (sym e) (n, subst (λ l. slice_get l (length names) ≡ Some n) (sym nodes_are) (slice_get-last nodes n (length names) (sym level)), is_node, ap (Bind number) (is_k ∙ level));
-      within = omega arith;
+      command = c;
+      names_are = names_are ∙ sym (append-nil old.names) ∙ ap (λ l. old.names ++ l) (rw e refl);
+      bases_are = ap (λ (t : Table). t.bases) table_is ∙ sym (plus-none old.table.bases) ∙ ap (λ l. old.table.bases + l) (rw (ask-owns v e) refl);
+      sound = record {
+        level = ap length bound_are ∙ sound.level ∙ ap length (sym names_are);
+        within = λ i k at. below i k (subst (λ (xs : List ℕ). slice_get xs i ≡ Some k) bound_are at);
+        few = (let f = sound.few in let b = ap (λ (t : Table). t.bases) table_is in let l = ap length names_are in omega (arith, f, b, l));
+      };
+      step = record {
+        nodes_stay = ([], nodes_are ∙ sym (append-nil old.table.nodes));
+        origins_stay = ([], ap (λ (t : Table). t.origins) table_is ∙ sym (append-nil old.table.origins));
+        bound_stay = ([], bound_are ∙ sym (append-nil old.bound));
+        commands_are = commands_are;
+        within = asks.within (length new.table.nodes) below rays;
+        turns = asks.turns;
+        looks = asks.looks;
+        binds = λ i k at. inl (subst (λ (xs : List ℕ). slice_get xs i ≡ Some k) bound_are at);
+      };
+      means = subst (λ t. MeansCommand old.names old.table.bases number v ws t (sets_of new) c) (sym e) (subst (λ (xs : List ℕ). IsQuestion old.names xs number v ws c) (sym bound_are) is);
     }
+  where
+    plus-none : (n : ℕ) → n + 0 ≡ n
+    plus-none n = omega arith
 
-pub AddsWords-ask : (number : ℕ) (v : Verb) (ws names : List (List ℕ)) (nodes : List Node) (commands : List Command) (c : Command) (new_commands : List Command) → binds v ≡ false → length nodes ≡ length names → IsQuestion names number v ws c → IsWithin (length names) c → new_commands ≡ commands ++ c ∷ [] → AddsWords number v ws names nodes commands names nodes new_commands
-AddsWords-ask number v ws names nodes commands c new_commands e level is within commands_are = record {
-  more_names = [];
-  more_nodes = [];
-  command = c;
-  bound = rw e refl;
-  names_are = sym (append-nil names);
-  nodes_are = sym (append-nil nodes);
-  commands_are = commands_are;
-  level = level;
-  means = subst (λ t. MeansCommand names number v ws t nodes c) (sym e) is;
-  within = subst (λ n. IsWithin n c) (sym level) within;
-}
+-- a turned copy
+pub AddsWords-turn : (number : ℕ) (ws : List (List ℕ)) (old new : State) (from t k : ℕ) → IsSound old → length ws ≡ 3 → Names old.names old.bound (get_or ws 1 []) from → number_at ws 2 ≡ pos t → t < 48 → TurnOf new.table.nodes t from k → IsCopyOf new.table.origins t from k → Stays old.table new.table → new.names ≡ old.names ++ get_or ws 0 [] ∷ [] → new.bound ≡ old.bound ++ k ∷ [] → new.commands ≡ old.commands ++ Turn number k from t ∷ [] → AddsWords number verb.Turn ws old new
+AddsWords-turn number ws old new from t k sound count named number_is below turn copy stay names_are bound_are commands_are =
+    let stays = bound-stays old new sound (get_or ws 0 []) k names_are bound_are in
+    let p = pair-of new.table.nodes t from k turn in
+    let within_k = slice_get_within new.table.nodes k p.m p.m_is in
+    let within_from = slice_get_within new.table.nodes from p.n p.n_is in
+    let longer = extends-length old.table.nodes new.table.nodes stay.nodes in
+    let bases = stay.bases in
+    let some : 0 < length ws = omega (arith, count) in
+    record {
+      command = Turn number k from t;
+      names_are = names_are ∙ ap (λ l. old.names ++ l) (take_one ws some);
+      bases_are = bases ∙ plus-none old.table.bases;
+      sound = sound-next old new sound (get_or ws 0 []) k names_are bound_are longer within_k (omega (arith, bases));
+      step = record {
+        nodes_stay = stay.nodes;
+        origins_stay = stay.origins;
+        bound_stay = stays;
+        commands_are = commands_are;
+        within = (within_k, within_from, below);
+        turns = turn;
+        looks = λ l same. rw same (named.0, named.2);
+        binds = bound-is old new sound (get_or ws 0 []) k names_are bound_are;
+      };
+      means = (
+        k,
+        bound-next old new sound (get_or ws 0 []) k names_are bound_are,
+        subst (λ l. IsTurn old.names number l (sets_of new) k (Turn number k from t)) (sym (three_words ws count))
+            (from, t, names-more old.names old.bound new.bound stays (get_or ws 1 []) from named, number_is, turn, copy, refl),
+      );
+    }
+  where
+    plus-none : (n : ℕ) → n ≡ n + 0
+    plus-none n = omega arith
 
 -- ---- a line that no kind refuses
 
@@ -169,19 +272,22 @@ bound_of word [] v e = none (binds v)
     none false = refl
 bound_of word (name ∷ rest) v e = ap (λ o. if on_verb binds o then name ∷ [] else []) e
 
-pub AddsLine-words : (number : ℕ) (text : List ℕ) (v : Verb) (args names : List (List ℕ)) (nodes : List Node) (commands : List Command) (new_names : List (List ℕ)) (new_nodes : List Node) (new_commands : List Command) → line_refusal names text ≡ None → command_in (words_of text) ≡ Some (v, args) → AddsWords number v args names nodes commands new_names new_nodes new_commands → AddsLine number text names nodes commands new_names new_nodes new_commands
-AddsLine-words number text v args names nodes commands new_names new_nodes new_commands passes command adds =
+-- the line adds a base exactly where its command does
+bases-of : (text : List ℕ) (v : Verb) (args : List (List ℕ)) → command_in (words_of text) ≡ Some (v, args) → adds_base text ≡ is_own v
+bases-of text v args command = on_command-Some (λ u rest. is_own u) (words_of text) args v command
+
+pub AddsLine-words : (number : ℕ) (text : List ℕ) (v : Verb) (args : List (List ℕ)) (old new : State) → line_refusal old.names text ≡ None → command_in (words_of text) ≡ Some (v, args) → AddsWords number v args old new → AddsLine number text old new
+AddsLine-words number text v args old new passes command adds =
     let first = first_word (words_of text) args v command in
-    let bound : bound_name (words_of text) ≡ adds.more_names = ap bound_name first.1 ∙ bound_of first.0 args v first.2 ∙ sym adds.bound in
+    let bound : bound_name (words_of text) ≡ (if binds v then take 1 args else []) = ap bound_name first.1 ∙ bound_of first.0 args v first.2 in
     let filled : has_words text ≡ true = ap (λ ws. not (nat_eq (length ws) 0)) first.1 ∙ ap not (eqb-suc-zero (length args)) in
     record {
       passes = passes;
-      more_nodes = adds.more_nodes;
-      names_are = adds.names_are ∙ ap (λ l. names ++ l) (sym bound);
-      nodes_are = adds.nodes_are;
-      level = adds.level;
-      command = subst (λ t. AddsCommand t names number text new_nodes commands new_commands) (sym filled)
-          (adds.command, adds.commands_are, subst (λ ws. MeansWords names number ws new_nodes adds.command) (sym first.1) (v, first.2, adds.means), adds.within);
+      names_are = adds.names_are ∙ ap (λ l. old.names ++ l) (sym bound);
+      bases_are = adds.bases_are ∙ ap (λ b. old.table.bases + (if b then 1 else 0)) (sym (bases-of text v args command));
+      sound = adds.sound;
+      command = subst (λ t. AddsCommand t number text old new) (sym filled)
+          (adds.command, adds.step, subst (λ ws. MeansWords old.names old.table.bases number ws (sets_of new) adds.command) (sym first.1) (v, first.2, adds.means));
     }
 
 no_words : (words : List (List ℕ)) → command_in words ≡ None → is_unknown_command words ≡ false → words ≡ []
@@ -192,9 +298,9 @@ no_words (word ∷ rest) e known = pick (verb_of word) refl e
     pick None is e = (let odd : is_unknown_command (word ∷ rest) ≡ true = ap (λ o. not (is_some o)) is in cc)
     pick (Some u) is e = cc
 
-pub AddsLine-blank : (number : ℕ) (text : List ℕ) (names : List (List ℕ)) (nodes : List Node) (commands : List Command) → length nodes ≡ length names → line_refusal names text ≡ None → command_in (words_of text) ≡ None → AddsLine number text names nodes commands names nodes commands
-AddsLine-blank number text names nodes commands level passes command =
-    let test = λ (k : ScriptKind). is_refused_for k names text in
+pub AddsLine-blank : (number : ℕ) (text : List ℕ) (old : State) → IsSound old → line_refusal old.names text ≡ None → command_in (words_of text) ≡ None → AddsLine number text old old
+AddsLine-blank number text old sound passes command =
+    let test = λ (k : ScriptKind). is_refused_for k old.names text in
     let a = first_none (test kind.LineTooLong) kind.LineTooLong _ passes in
     let b = first_none (test kind.BadByte) kind.BadByte _ a.1 in
     let c = first_none (test kind.UnknownCommand) kind.UnknownCommand _ b.1 in
@@ -202,9 +308,11 @@ AddsLine-blank number text names nodes commands level passes command =
     let blank : has_words text ≡ false = ap (λ ws. not (nat_eq (length ws) 0)) none in
     record {
       passes = passes;
-      more_nodes = [];
-      names_are = sym (ap (λ ws. names ++ bound_name ws) none ∙ append-nil names);
-      nodes_are = sym (append-nil nodes);
-      level = level;
-      command = subst (λ t. AddsCommand t names number text nodes commands commands) (sym blank) refl;
+      names_are = sym (ap (λ ws. old.names ++ bound_name ws) none ∙ append-nil old.names);
+      bases_are = plus-none old.table.bases ∙ ap (λ b. old.table.bases + (if b then 1 else 0)) (sym (on_command-None (λ u rest. is_own u) (words_of text) command));
+      sound = sound;
+      command = subst (λ t. AddsCommand t number text old old) (sym blank) (refl, refl, refl);
     }
+  where
+    plus-none : (n : ℕ) → n ≡ n + 0
+    plus-none n = omega arith

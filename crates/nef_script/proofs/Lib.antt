@@ -5,6 +5,8 @@ pub mod ByCommand
 pub mod Shapes
 pub mod Values
 pub mod Nodes
+pub mod More
+pub mod Looking
 pub mod Questions
 pub mod Rays
 pub mod Adding

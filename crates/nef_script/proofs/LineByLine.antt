@@ -9,32 +9,18 @@ use Rattle.std.proofs.lemmas.Option.{slice_get_within}
 use Rattle.nef_lex.specs.Lines.{lines_of}
 use Rattle.nef_lex.specs.Words.{words_of}
 use Rattle.nef_expr.specs.declared.nodes.Node.{Node}
-use Rattle.nef_script.specs.Table.{binds}
 use Rattle.nef_script.specs.Refusal.{script_limit, line_refusal, bound_name, names_of, RefusalAt, Passes, FirstRefusal}
-use Rattle.nef_script.specs.Meaning.{IsWithin, MeansCommand, MeansWords, MeansLines, has_words}
-use Rattle.nef_script.specs.Reading.{AddsLine, AddsCommand}
+use Rattle.nef_script.specs.Meaning.{Sets, IsWithin, MeansWords, MeansLines, has_words, adds_base, bases_of}
+use Rattle.nef_script.specs.Commands.{LooksAt, AreBoundBefore, IsBound, TurnsRight}
+use Rattle.nef_script.specs.Reading.{State, state, sets_of, IsSound, Step, AddsLine, AddsCommand}
+use Rattle.nef_script.proofs.Looking.{all-at, within-more, turns-more, looks-before}
+use Rattle.nef_script.proofs.More.{MoreSets, words-more}
+use Rattle.nef_expr.specs.Table.{Table, table}
+use Rattle.nef_expr.proofs.Places.{slice_get-left, slice_get-seam, place-push}
+use Rattle.nef_expr.proofs.Tables.{extends-length}
 use Rattle.nef_script.specs.Progress.{HasRead}
-use Rattle.nef_script.specs.declared.table.Verb.{Verb}
 use Rattle.nef_script.specs.declared.script.Command.{Command}
-use Rattle.nef_script.specs.declared.script.Command.TheVariants.{Bind, Has, Joined, Ray, Same, Count, Print}
 use Rattle.nef_script.specs.declared.fault.ScriptKind.{ScriptKind}
-
--- ---- places in lists
-
-pub slice_get-left : {X : Type 0} (xs ys : List X) (k : ℕ) (x : X) → slice_get xs k ≡ Some x → slice_get (xs ++ ys) k ≡ Some x
-slice_get-left [] ys k x e = cc
-slice_get-left (z ∷ xs) ys zero x e = e
-slice_get-left (z ∷ xs) ys (suc k) x e = slice_get-left xs ys k x e
-
-pub slice_get-seam : {X : Type 0} (xs : List X) (y : X) (ys : List X) → slice_get (xs ++ y ∷ ys) (length xs) ≡ Some y
-slice_get-seam [] y ys = refl
-slice_get-seam (x ∷ xs) y ys = slice_get-seam xs y ys
-
--- a place below the end is one of the first list
-pub slice_get-below : {X : Type 0} (xs ys : List X) (k : ℕ) → k < length xs → slice_get (xs ++ ys) k ≡ slice_get xs k
-slice_get-below [] ys k below = absurd (omega arith)
-slice_get-below (x ∷ xs) ys zero below = refl
-slice_get-below (x ∷ xs) ys (suc k) below = slice_get-below xs ys k (omega arith)
 
 -- ---- the names
 
@@ -45,95 +31,67 @@ names_of-append (x ∷ xs) ys = ap (λ l. bound_name (words_of x) ++ l) (names_o
 pub names_of-push : (xs : List (List ℕ)) (x : List ℕ) → names_of (xs ++ x ∷ []) ≡ names_of xs ++ bound_name (words_of x)
 names_of-push xs x = names_of-append xs (x ∷ []) ∙ ap (λ l. names_of xs ++ l) (append-nil (bound_name (words_of x)))
 
--- ---- more nodes
-
-command_more : (names : List (List ℕ)) (line : ℕ) (v : Verb) (args : List (List ℕ)) (t : Bool) (nodes more : List Node) (c : Command) → MeansCommand names line v args t nodes c → MeansCommand names line v args t (nodes ++ more) c
-command_more names line v args true nodes more c (n, at, is, same) = (n, slice_get-left nodes more (length names) n at, is, same)
-command_more names line v args false nodes more c is = is
-
-words_more : (names : List (List ℕ)) (line : ℕ) (words : List (List ℕ)) (nodes more : List Node) (c : Command) → MeansWords names line words nodes c → MeansWords names line words (nodes ++ more) c
-words_more names line [] nodes more c means = means
-words_more names line (word ∷ args) nodes more c (v, is, means) = (v, is, command_more names line v args (binds v) nodes more c means)
-
-within_more : (m n : ℕ) (c : Command) → m ≤ n → IsWithin m c → IsWithin n c
-within_more m n (Bind line k) le below = omega arith
-within_more m n (Has line k p) le below = omega arith
-within_more m n (Joined line k p q) le below = omega arith
-within_more m n (Ray line k p d) le (below, small) = (omega arith, small)
-within_more m n (Same line i j) le (first, second) = (omega arith, omega arith)
-within_more m n (Count line k) le below = omega arith
-within_more m n (Print line k name) le below = omega arith
-
 -- ---- one more line
 
 -- what a place among the lines means
-abbrev LineMeans : List (List ℕ) → List Node → List Command → ℕ → List ℕ → Type 0
-LineMeans lines nodes commands n line = (c : Command) × (slice_get commands (length (filter has_words (take n lines))) ≡ Some c) × MeansWords (names_of (take n lines)) (n + 1) (words_of line) nodes c
+abbrev LineMeans : List (List ℕ) → Sets → List Command → ℕ → List ℕ → Type 0
+LineMeans lines sets commands n line = (c : Command) × (slice_get commands (length (filter has_words (take n lines))) ≡ Some c) × MeansWords (names_of (take n lines)) (bases_of (take n lines)) (n + 1) (words_of line) sets c
 
-count_push : (done : List (List ℕ)) (text : List ℕ) (t : Bool) → has_words text ≡ t → length (filter has_words (done ++ text ∷ [])) ≡ length (filter has_words done) + (if t then 1 else 0)
-count_push done text t e =
-    ap length (filter-append has_words done (text ∷ []))
-    ∙ length-append (filter has_words done) (filter has_words (text ∷ []))
-    ∙ ap (λ n. length (filter has_words done) + n) (one t e)
+count_push : (test : List ℕ → Bool) (done : List (List ℕ)) (text : List ℕ) (t : Bool) → test text ≡ t → length (filter test (done ++ text ∷ [])) ≡ length (filter test done) + (if t then 1 else 0)
+count_push test done text t e =
+    ap length (filter-append test done (text ∷ []))
+    ∙ length-append (filter test done) (filter test (text ∷ []))
+    ∙ ap (λ n. length (filter test done) + n) (one t e)
   where
-    one : (t : Bool) → has_words text ≡ t → length (filter has_words (text ∷ [])) ≡ (if t then 1 else 0)
+    one : (t : Bool) → test text ≡ t → length (filter test (text ∷ [])) ≡ (if t then 1 else 0)
     one true e = ap (λ b. length (cond b (text ∷ []) [])) e
     one false e = ap (λ b. length (cond b (text ∷ []) [])) e
 
 -- the command of an earlier line stays
-earlier : (done : List (List ℕ)) (text : List ℕ) (nodes more : List Node) (commands extra : List Command) (n : ℕ) (line : List ℕ) → n < length done → LineMeans done nodes commands n line → LineMeans (done ++ text ∷ []) (nodes ++ more) (commands ++ extra) n line
-earlier done text nodes more commands extra n line below (c, at, means) =
+earlier : (done : List (List ℕ)) (text : List ℕ) (old new : Sets) (more : MoreSets old new) (commands extra : List Command) (n : ℕ) (line : List ℕ) → n < length done → LineMeans done old commands n line → LineMeans (done ++ text ∷ []) new (commands ++ extra) n line
+earlier done text old new more commands extra n line below (c, at, means) =
     let le : n ≤ length done = omega arith in
     let same : take n (done ++ text ∷ []) ≡ take n done = rw take-append-le refl in
-    subst (λ l. (c : Command) × (slice_get (commands ++ extra) (length (filter has_words l)) ≡ Some c) × MeansWords (names_of l) (n + 1) (words_of line) (nodes ++ more) c) (sym same)
-    (c, slice_get-left commands extra _ c at, words_more (names_of (take n done)) (n + 1) (words_of line) nodes more c means)
+    subst (λ l. (c : Command) × (slice_get (commands ++ extra) (length (filter has_words l)) ≡ Some c) × MeansWords (names_of l) (bases_of l) (n + 1) (words_of line) new c) (sym same)
+    (c, slice_get-left commands extra _ c at, words-more old new more (names_of (take n done)) (bases_of (take n done)) (n + 1) (words_of line) c means)
 
 -- the command of the new line
-last : (done : List (List ℕ)) (text : List ℕ) (nodes : List Node) (commands : List Command) (c : Command) → length commands ≡ length (filter has_words done) → MeansWords (names_of done) (length done + 1) (words_of text) nodes c → LineMeans (done ++ text ∷ []) nodes (commands ++ c ∷ []) (length done) text
-last done text nodes commands c count means =
-    subst (λ l. (d : Command) × (slice_get (commands ++ c ∷ []) (length (filter has_words l)) ≡ Some d) × MeansWords (names_of l) (length done + 1) (words_of text) nodes d) (sym (take-append_seam done (text ∷ [])))
+last : (done : List (List ℕ)) (text : List ℕ) (sets : Sets) (commands : List Command) (c : Command) → length commands ≡ length (filter has_words done) → MeansWords (names_of done) (bases_of done) (length done + 1) (words_of text) sets c → LineMeans (done ++ text ∷ []) sets (commands ++ c ∷ []) (length done) text
+last done text sets commands c count means =
+    subst (λ l. (d : Command) × (slice_get (commands ++ c ∷ []) (length (filter has_words l)) ≡ Some d) × MeansWords (names_of l) (bases_of l) (length done + 1) (words_of text) sets d) (sym (take-append_seam done (text ∷ [])))
     (c, subst (λ k. slice_get (commands ++ c ∷ []) k ≡ Some c) count (slice_get-seam commands c []), means)
 
--- each place in the longer list is an earlier one or the last
-place : (done : List (List ℕ)) (text : List ℕ) (n : ℕ) (line : List ℕ) → slice_get (done ++ text ∷ []) n ≡ Some line → ((n < length done) × (slice_get done n ≡ Some line)) ⊎ ((n ≡ length done) × (line ≡ text))
-place done text n line at = elim (cases_lt n (length done)) [
-  | inl below ↦ inl (below, sym (slice_get-below done (text ∷ []) n below) ∙ at)
-  | inr past ↦ (
-      let within : n < length (done ++ text ∷ []) = slice_get_within (done ++ text ∷ []) n line at in
-      let longer = length-append done (text ∷ []) in
-      let here : n ≡ length done = omega arith in
-      let found : Some text ≡ Some line = sym (slice_get-seam done text []) ∙ ap (slice_get (done ++ text ∷ [])) (sym here) ∙ at in
-      inr (here, cc))
-]
+names-next : (done : List (List ℕ)) (number : ℕ) (text : List ℕ) (old new : State) → old.names ≡ names_of done → AddsLine number text old new → new.names ≡ names_of (done ++ text ∷ [])
+names-next done number text old new names_are adds = adds.names_are ∙ ap (λ l. l ++ bound_name (words_of text)) names_are ∙ sym (names_of-push done text)
 
-node_count-push : (done : List (List ℕ)) (number : ℕ) (text : List ℕ) (nodes : List Node) (commands : List Command) (names : List (List ℕ)) (new_names : List (List ℕ)) (new_nodes : List Node) (new_commands : List Command) → names ≡ names_of done → AddsLine number text names nodes commands new_names new_nodes new_commands → new_names ≡ names_of (done ++ text ∷ [])
-node_count-push done number text nodes commands names new_names new_nodes new_commands names_are adds = adds.names_are ∙ ap (λ l. l ++ bound_name (words_of text)) names_are ∙ sym (names_of-push done text)
+bases-next : (done : List (List ℕ)) (number : ℕ) (text : List ℕ) (old new : State) → old.table.bases ≡ bases_of done → AddsLine number text old new → new.table.bases ≡ bases_of (done ++ text ∷ [])
+bases-next done number text old new bases_are adds = adds.bases_are ∙ ap (λ n. n + (if adds_base text then 1 else 0)) bases_are ∙ sym (count_push adds_base done text (adds_base text) refl)
 
-MeansLines-words : (done : List (List ℕ)) (text : List ℕ) (nodes more : List Node) (commands : List Command) (c : Command) → has_words text ≡ true → MeansLines done nodes commands → length (nodes ++ more) ≡ length (names_of (done ++ text ∷ [])) → MeansWords (names_of done) (length done + 1) (words_of text) (nodes ++ more) c → MeansLines (done ++ text ∷ []) (nodes ++ more) (commands ++ c ∷ [])
-MeansLines-words done text nodes more commands c filled means count is =
-    let counted = count_push done text true filled in
+MeansLines-words : (done : List (List ℕ)) (text : List ℕ) (old new : Sets) → MoreSets old new → (commands : List Command) (c : Command) → has_words text ≡ true → MeansLines done old commands → length new.bound ≡ length (names_of (done ++ text ∷ [])) → MeansWords (names_of done) (bases_of done) (length done + 1) (words_of text) new c → MeansLines (done ++ text ∷ []) new (commands ++ c ∷ [])
+MeansLines-words done text old new more commands c filled means count is =
+    let counted = count_push has_words done text true filled in
     let longer = length-append commands (c ∷ []) in
-    let old = means.command_count in
+    let before = means.command_count in
     record {
-      node_count = count;
+      bound_count = count;
       command_count = omega arith;
-      each = λ n line at some. elim (place done text n line at) [
-        | inl below ↦ earlier done text nodes more commands (c ∷ []) n line below.0 (means.each n line below.1 some)
-        | inr here ↦ subst (λ m. LineMeans (done ++ text ∷ []) (nodes ++ more) (commands ++ c ∷ []) m line) (sym here.0)
-            (subst (λ l. LineMeans (done ++ text ∷ []) (nodes ++ more) (commands ++ c ∷ []) (length done) l) (sym here.1)
-            (last done text (nodes ++ more) commands c means.command_count is))
+      each = λ n line at some. elim (place-push done text n line at) [
+        | inl below ↦ earlier done text old new more commands (c ∷ []) n line below.0 (means.each n line below.1 some)
+        | inr here ↦ subst (λ m. LineMeans (done ++ text ∷ []) new (commands ++ c ∷ []) m line) (sym here.0)
+            (subst (λ l. LineMeans (done ++ text ∷ []) new (commands ++ c ∷ []) (length done) l) (sym here.1)
+            (last done text new commands c means.command_count is))
       ];
     }
 
-MeansLines-blank : (done : List (List ℕ)) (text : List ℕ) (nodes more : List Node) (commands : List Command) → has_words text ≡ false → MeansLines done nodes commands → length (nodes ++ more) ≡ length (names_of (done ++ text ∷ [])) → MeansLines (done ++ text ∷ []) (nodes ++ more) commands
-MeansLines-blank done text nodes more commands blank means count =
-    let counted = count_push done text false blank in
-    let old = means.command_count in
+MeansLines-blank : (done : List (List ℕ)) (text : List ℕ) (old new : Sets) → MoreSets old new → (commands : List Command) → has_words text ≡ false → MeansLines done old commands → length new.bound ≡ length (names_of (done ++ text ∷ [])) → MeansLines (done ++ text ∷ []) new commands
+MeansLines-blank done text old new more commands blank means count =
+    let counted = count_push has_words done text false blank in
+    let before = means.command_count in
     record {
-      node_count = count;
+      bound_count = count;
       command_count = omega arith;
-      each = λ n line at some. elim (place done text n line at) [
-        | inl below ↦ subst (λ cs. LineMeans (done ++ text ∷ []) (nodes ++ more) cs n line) (append-nil commands) (earlier done text nodes more commands [] n line below.0 (means.each n line below.1 some))
+      each = λ n line at some. elim (place-push done text n line at) [
+        | inl below ↦ subst (λ cs. LineMeans (done ++ text ∷ []) new cs n line) (append-nil commands) (earlier done text old new more commands [] n line below.0 (means.each n line below.1 some))
         | inr here ↦ (let odd = ap has_words (sym here.1) in cc)
       ];
     }
@@ -152,17 +110,27 @@ passes_more lines n before here m below = elim (cases_lt m n) [
 
 -- ---- progress
 
-pub HasRead-start : (lines : List (List ℕ)) → HasRead lines (enumerate_from 1 lines) [] [] []
+abbrev pub first_state : State
+first_state = state [] [] (table [] [] 0) []
+
+pub sound-start : IsSound first_state
+sound-start = record { level = refl; within = λ i k at. cc; few = omega arith }
+
+pub HasRead-start : (lines : List (List ℕ)) → HasRead lines (enumerate_from 1 lines) first_state
 HasRead-start lines = record {
   done = [];
   rest = lines;
   split = refl;
   left_are = refl;
   names_are = refl;
-  level = refl;
+  bases_are = refl;
+  sound = sound-start;
   passes = λ m below. absurd (omega arith);
-  means = record { node_count = refl; command_count = refl; each = λ n line at some. cc };
+  means = record { bound_count = refl; command_count = refl; each = λ n line at some. cc };
   within = All-nil (IsWithin 0);
+  turns = All-nil (TurnsRight []);
+  before = λ i c at. cc;
+  bound = λ i k at. cc;
 }
 
 abbrev numbered : ℕ → List ℕ → ℕ × List ℕ
@@ -181,66 +149,119 @@ next_of number text left m (r ∷ rest) e =
     cons_tail : (p q : ℕ × List ℕ) (ps qs : List (ℕ × List ℕ)) → p ∷ ps ≡ q ∷ qs → ps ≡ qs
     cons_tail p q ps qs f = cc
 
-pub HasRead-refused : (bytes : List ℕ) (number : ℕ) (text : List ℕ) (left : List (ℕ × List ℕ)) (names : List (List ℕ)) (nodes : List Node) (commands : List Command) (k : ScriptKind) → length bytes ≤ script_limit → HasRead (lines_of bytes) ((number, text) ∷ left) names nodes commands → line_refusal names text ≡ Some k → FirstRefusal bytes number k
-HasRead-refused bytes number text left names nodes commands k short read refused =
+pub HasRead-refused : (bytes : List ℕ) (number : ℕ) (text : List ℕ) (left : List (ℕ × List ℕ)) (s : State) (k : ScriptKind) → length bytes ≤ script_limit → HasRead (lines_of bytes) ((number, text) ∷ left) s → line_refusal s.names text ≡ Some k → FirstRefusal bytes number k
+HasRead-refused bytes number text left s k short read refused =
     let next = next_of number text left (length read.done + 1) read.rest read.left_are in
     let split : lines_of bytes ≡ read.done ++ text ∷ next.0 = read.split ∙ ap (λ l. read.done ++ l) next.1 in
     let is = ap (λ l. line_refusal l text) (sym read.names_are) ∙ refused in
     subst (λ n. FirstRefusal bytes n k) (sym next.2) (FirstRefusal.at_line (length read.done) k short (here_at (lines_of bytes) read.done next.0 text (Some k) split is) read.passes)
 
-within_all : (m n : ℕ) (commands : List Command) → m ≤ n → All (IsWithin m) commands → All (IsWithin n) commands
-within_all m n commands le all = All-weaker (IsWithin m) (IsWithin n) (λ c below. within_more m n c le below) commands all
+-- ---- one more line, of all that is read
+module _ (done : List (List ℕ)) (text : List ℕ) (old new : State) (means : MeansLines done (sets_of old) old.commands) (within : All (IsWithin (length old.table.nodes)) old.commands) (turns : All (TurnsRight old.table.nodes) old.commands) (before : AreBoundBefore old.table.nodes old.commands) (bound : (i k : ℕ) → slice_get old.bound i ≡ Some k → IsBound old.commands k) (level : length new.bound ≡ length (names_of (done ++ text ∷ []))) where
+  -- what is read with it
+  pub record Read : Type 0 where
+    pub meaning : MeansLines (done ++ text ∷ []) (sets_of new) new.commands
+    pub in_range : All (IsWithin (length new.table.nodes)) new.commands
+    pub turned : All (TurnsRight new.table.nodes) new.commands
+    pub looked : AreBoundBefore new.table.nodes new.commands
+    pub named : (i k : ℕ) → slice_get new.bound i ≡ Some k → IsBound new.commands k
 
--- what the lines mean with one more line
-means_next : (done : List (List ℕ)) (number : ℕ) (text : List ℕ) (nodes : List Node) (commands : List Command) (names : List (List ℕ)) (new_nodes : List Node) (new_commands : List Command) (more : List Node) → names ≡ names_of done → number ≡ length done + 1 → new_nodes ≡ nodes ++ more → length (nodes ++ more) ≡ length (names_of (done ++ text ∷ [])) → MeansLines done nodes commands → All (IsWithin (length nodes)) commands → AddsCommand (has_words text) names number text new_nodes commands new_commands → MeansLines (done ++ text ∷ []) new_nodes new_commands × All (IsWithin (length new_nodes)) new_commands
-means_next done number text nodes commands names new_nodes new_commands more names_are number_is nodes_are level means within adds =
-    let longer = ap length nodes_are ∙ length-append nodes more in
-    let kept = within_all (length nodes) (length new_nodes) commands (omega arith) within in
-    elim (cases_Bool (has_words text)) [
-      | inl filled ↦ (
-          let found = subst (λ t. AddsCommand t names number text new_nodes commands new_commands) filled adds in
-          let with_nodes = subst (λ l. MeansWords names number (words_of text) l found.0) nodes_are found.2 in
-          let with_number = subst (λ n. MeansWords names n (words_of text) (nodes ++ more) found.0) number_is with_nodes in
-          let is = subst (λ l. MeansWords l (length done + 1) (words_of text) (nodes ++ more) found.0) names_are with_number in
-          let made = MeansLines-words done text nodes more commands found.0 filled means level is in (
-            subst (λ l. MeansLines (done ++ text ∷ []) l new_commands) (sym nodes_are) (subst (MeansLines (done ++ text ∷ []) (nodes ++ more)) (sym found.1) made),
-            subst (All (IsWithin (length new_nodes))) (sym found.1) (All-push (IsWithin (length new_nodes)) commands found.0 kept found.3),
-          ))
-      | inr blank ↦ (
-          let same = subst (λ t. AddsCommand t names number text new_nodes commands new_commands) blank adds in
-          let made = MeansLines-blank done text nodes more commands blank means level in (
-            subst (λ l. MeansLines (done ++ text ∷ []) l new_commands) (sym nodes_are) (subst (MeansLines (done ++ text ∷ []) (nodes ++ more)) (sym same) made),
-            subst (All (IsWithin (length new_nodes))) (sym same) kept,
-          ))
+  module _ (c : Command) (filled : has_words text ≡ true) (step : Step old new c) (is : MeansWords (names_of done) (bases_of done) (length done + 1) (words_of text) (sets_of new) c) where
+    abbrev commands : List Command
+    commands = old.commands ++ c ∷ []
+
+    longer : length old.table.nodes ≤ length new.table.nodes
+    longer = extends-length old.table.nodes new.table.nodes step.nodes_stay
+
+    -- a command at a place is an earlier one or the new one
+    bound-more : (k : ℕ) → IsBound old.commands k → IsBound commands k
+    bound-more k (i, d, at, binds) = (i, d, slice_get-left old.commands (c ∷ []) i d at, binds)
+
+    all-before : AreBoundBefore new.table.nodes commands
+    all-before i d at k looks = elim (place-push old.commands c i d at) [
+      | inl there ↦ (
+          let w : IsWithin (length old.table.nodes) d = all-at (IsWithin (length old.table.nodes)) old.commands i d within there.1 in
+          let b = before i d there.1 k (looks-before old.table.nodes new.table.nodes d step.nodes_stay w k looks) in
+          (b.0, b.1, b.2, slice_get-left old.commands (c ∷ []) b.0 b.1 b.3, b.4))
+      | inr here ↦ (
+          let found = step.looks k (subst (λ (x : Command). LooksAt new.table.nodes x k) here.1 looks) in
+          let b = bound found.0 k found.1 in
+          let l = slice_get_within old.commands b.0 b.1 b.2 in
+          (b.0, b.1, omega (arith, l, here.0), slice_get-left old.commands (c ∷ []) b.0 b.1 b.2, b.3))
     ]
 
-pub HasRead-next : (lines : List (List ℕ)) (number : ℕ) (text : List ℕ) (left : List (ℕ × List ℕ)) (names : List (List ℕ)) (nodes : List Node) (commands : List Command) (new_names : List (List ℕ)) (new_nodes : List Node) (new_commands : List Command) → HasRead lines ((number, text) ∷ left) names nodes commands → AddsLine number text names nodes commands new_names new_nodes new_commands → HasRead lines left new_names new_nodes new_commands
-HasRead-next lines number text left names nodes commands new_names new_nodes new_commands read adds =
+    all-bound : (i k : ℕ) → slice_get new.bound i ≡ Some k → IsBound commands k
+    all-bound i k at = elim (step.binds i k at) [
+      | inl there ↦ bound-more k (bound i k there)
+      | inr binds ↦ (length old.commands, c, slice_get-seam old.commands c [], binds)
+    ]
+
+    pub read-words : Read
+    read-words = record {
+      meaning = subst (λ (cs : List Command). MeansLines (done ++ text ∷ []) (sets_of new) cs) (sym step.commands_are)
+          (MeansLines-words done text (sets_of old) (sets_of new) (record { nodes = step.nodes_stay; origins = step.origins_stay; bound = step.bound_stay }) old.commands c filled means level is);
+      in_range = subst (All (IsWithin (length new.table.nodes))) (sym step.commands_are)
+          (All-push (IsWithin (length new.table.nodes)) old.commands c (All-weaker (IsWithin (length old.table.nodes)) (IsWithin (length new.table.nodes)) (λ d w. within-more (length old.table.nodes) (length new.table.nodes) d longer w) old.commands within) step.within);
+      turned = subst (All (TurnsRight new.table.nodes)) (sym step.commands_are)
+          (All-push (TurnsRight new.table.nodes) old.commands c (All-weaker (TurnsRight old.table.nodes) (TurnsRight new.table.nodes) (λ d w. turns-more old.table.nodes new.table.nodes d step.nodes_stay w) old.commands turns) step.turns);
+      looked = subst (AreBoundBefore new.table.nodes) (sym step.commands_are) all-before;
+      named = λ i k at. subst (λ (cs : List Command). IsBound cs k) (sym step.commands_are) (all-bound i k at);
+    }
+
+  pub read-blank : has_words text ≡ false → new.bound ≡ old.bound → new.table ≡ old.table → new.commands ≡ old.commands → Read
+  read-blank blank bound_is table_is commands_are =
+      let nodes_are = ap (λ (t : Table). t.nodes) table_is in
+      record {
+        meaning = subst (λ (cs : List Command). MeansLines (done ++ text ∷ []) (sets_of new) cs) (sym commands_are)
+            (MeansLines-blank done text (sets_of old) (sets_of new)
+            (record { nodes = ([], nodes_are ∙ sym (append-nil old.table.nodes)); origins = ([], ap (λ (t : Table). t.origins) table_is ∙ sym (append-nil old.table.origins)); bound = ([], bound_is ∙ sym (append-nil old.bound)) })
+            old.commands blank means level);
+        in_range = subst (All (IsWithin (length new.table.nodes))) (sym commands_are) (subst (λ (ns : List Node). All (IsWithin (length ns)) old.commands) (sym nodes_are) within);
+        turned = subst (All (TurnsRight new.table.nodes)) (sym commands_are) (subst (λ (ns : List Node). All (TurnsRight ns) old.commands) (sym nodes_are) turns);
+        looked = subst (AreBoundBefore new.table.nodes) (sym commands_are) (subst (λ (ns : List Node). AreBoundBefore ns old.commands) (sym nodes_are) before);
+        named = λ i k at. subst (λ (cs : List Command). IsBound cs k) (sym commands_are) (bound i k (subst (λ (xs : List ℕ). slice_get xs i ≡ Some k) bound_is at));
+      }
+
+read-next : (done : List (List ℕ)) (text : List ℕ) (number : ℕ) (old new : State) (means : MeansLines done (sets_of old) old.commands) (within : All (IsWithin (length old.table.nodes)) old.commands) (turns : All (TurnsRight old.table.nodes) old.commands) (before : AreBoundBefore old.table.nodes old.commands) (bound : (i k : ℕ) → slice_get old.bound i ≡ Some k → IsBound old.commands k) (level : length new.bound ≡ length (names_of (done ++ text ∷ []))) → old.names ≡ names_of done → old.table.bases ≡ bases_of done → number ≡ length done + 1 → (t : Bool) → has_words text ≡ t → AddsCommand t number text old new → Read done text old new means within turns before bound level
+read-next done text number old new means within turns before bound level names_are bases_are number_is true filled (c, step, is) =
+    read-words done text old new means within turns before bound level c filled step
+    (subst (λ (n : ℕ). MeansWords (names_of done) (bases_of done) n (words_of text) (sets_of new) c) number_is
+    (subst (λ (n : ℕ). MeansWords (names_of done) n number (words_of text) (sets_of new) c) bases_are
+    (subst (λ (l : List (List ℕ)). MeansWords l old.table.bases number (words_of text) (sets_of new) c) names_are is)))
+read-next done text number old new means within turns before bound level names_are bases_are number_is false blank (bound_is, table_is, commands_are) = read-blank done text old new means within turns before bound level blank bound_is table_is commands_are
+
+pub HasRead-next : (lines : List (List ℕ)) (number : ℕ) (text : List ℕ) (left : List (ℕ × List ℕ)) (old new : State) → HasRead lines ((number, text) ∷ left) old → AddsLine number text old new → HasRead lines left new
+HasRead-next lines number text left old new read adds =
     let done = read.done in
     let next = next_of number text left (length done + 1) read.rest read.left_are in
     let split : lines ≡ done ++ text ∷ next.0 = read.split ∙ ap (λ l. done ++ l) next.1 in
     let longer : length (done ++ text ∷ []) ≡ length done + 1 = length-append done (text ∷ []) in
-    let names_are : new_names ≡ names_of (done ++ text ∷ []) = node_count-push done number text nodes commands names new_names new_nodes new_commands read.names_are adds in
+    let names_are : new.names ≡ names_of (done ++ text ∷ []) = names-next done number text old new read.names_are adds in
     let is = ap (λ l. line_refusal l text) (sym read.names_are) ∙ adds.passes in
-    let level : length (nodes ++ adds.more_nodes) ≡ length (names_of (done ++ text ∷ [])) = ap length (sym adds.nodes_are) ∙ adds.level ∙ ap length names_are in
-    let made = means_next done number text nodes commands names new_nodes new_commands adds.more_nodes read.names_are next.2 adds.nodes_are level read.means read.within adds.command in
+    let sound = adds.sound in
+    let level : length new.bound ≡ length (names_of (done ++ text ∷ [])) = sound.level ∙ ap length names_are in
+    let made = read-next done text number old new read.means read.within read.turns read.before read.bound level read.names_are read.bases_are next.2 (has_words text) refl adds.command in
     record {
       done = done ++ text ∷ [];
       rest = next.0;
       split = split ∙ sym (append_assoc done (text ∷ []) next.0);
       left_are = next.3 ∙ ap (λ n. enumerate_from (n + 1) next.0) (sym longer);
       names_are = names_are;
-      level = adds.level;
+      bases_are = bases-next done number text old new read.bases_are adds;
+      sound = adds.sound;
       passes = subst (Passes lines) (sym longer) (passes_more lines (length done) read.passes (here_at lines done next.0 text None split is));
-      means = made.0;
-      within = made.1;
+      means = made.meaning;
+      within = made.in_range;
+      turns = made.turned;
+      before = made.looked;
+      bound = made.named;
     }
 
-pub HasRead-end : (lines : List (List ℕ)) (names : List (List ℕ)) (nodes : List Node) (commands : List Command) → HasRead lines [] names nodes commands → Passes lines (length lines) × MeansLines lines nodes commands
-HasRead-end lines names nodes commands read =
+pub HasRead-end : (lines : List (List ℕ)) (s : State) → HasRead lines [] s → Passes lines (length lines) × MeansLines lines (sets_of s) s.commands × (s.table.bases ≡ bases_of lines)
+HasRead-end lines s read =
     let none : read.rest ≡ [] = empty _ read.rest read.left_are in
     let all : lines ≡ read.done = read.split ∙ ap (λ l. read.done ++ l) none ∙ append-nil read.done in
-    (subst (λ n. Passes lines n) (ap length (sym all)) read.passes, subst (λ l. MeansLines l nodes commands) (sym all) read.means)
+    (subst (λ n. Passes lines n) (ap length (sym all)) read.passes, subst (λ l. MeansLines l (sets_of s) s.commands) (sym all) read.means, read.bases_are ∙ ap bases_of (sym all))
   where
     empty : (m : ℕ) (rest : List (List ℕ)) → [] ≡ enumerate_from m rest → rest ≡ []
     empty m [] e = refl

@@ -8,10 +8,10 @@ use Rattle.nef_space.specs.Vectors.{vector, IsDirection}
 use Rattle.nef_geo.specs.declared.dir.Dir.{Dir}
 use Rattle.nef_geo.specs.declared.point.Point.{Point}
 use Rattle.nef_script.specs.Table.{roles}
-use Rattle.nef_script.specs.Tests.{is_from_one_to, is_zero, is_past_limit, is_bad_weight, has_zero_direction}
+use Rattle.nef_script.specs.Tests.{is_from_one_to, is_from_zero_to, is_zero, is_past_limit, is_bad_weight, has_zero_direction}
 use Rattle.nef_script.specs.Meaning.{Names, IsQuestion, IsQuotient, IsToward}
 use Rattle.nef_script.specs.Checks.{word_test}
-use Rattle.nef_script.specs.Reading.{Fits, HasPointAt, HasDirectionAt, number_at}
+use Rattle.nef_script.specs.Reading.{Fits, HasPointAt, HasDirectionAt, HasTurn, number_at}
 use Rattle.nef_script.specs.declared.table.Verb.{Verb}
 use Rattle.nef_script.specs.declared.table.Verb.TheVariants as verb
 use Rattle.nef_script.specs.declared.table.Role.{Role}
@@ -63,6 +63,18 @@ weight_within names v ws i n fits within role =
     let passes = word_passes (word_test kind.BadWeight names) (roles v) ws i fits.weight within (omega arith) in
     let here : is_bad_weight (Weight n, get_or ws i []) ≡ false = subst (λ r. is_bad_weight (r, get_or ws i []) ≡ false) role passes in
     from_one n (number_at ws i) (true_from_not _ here)
+
+-- the turn of a line that nothing refuses
+pub HasTurn-from : (names ws : List (List ℕ)) → Fits names verb.Turn ws → HasTurn names ws
+HasTurn-from names ws fits =
+    let count : length ws ≡ 3 = count_is names verb.Turn ws fits in
+    let passes = word_passes (word_test kind.OutOfRange names) (roles verb.Turn) ws 2 fits.within (omega arith) (omega arith) in
+    let bound = word_passes (word_test kind.UnknownName names) (roles verb.Turn) ws 1 fits.known (omega arith) (omega arith) in
+    record { count = count; known = true_from_not _ bound; number = true_from_not _ passes }
+
+pub from_zero : (most : ℕ) (z : ℤ) → is_from_zero_to most z ≡ true → (n : ℕ) × (z ≡ pos n) × (n ≤ most)
+from_zero most (pos n) e = (n, refl, leb-true n most e)
+from_zero most (negsuc n) e = cc
 
 -- the numbers of a point, by their roles
 pub HasPointAt-from : (names : List (List ℕ)) (v : Verb) (ws : List (List ℕ)) (i m n : ℕ) → Fits names v ws → i + 4 ≤ length (roles v) → get_or (roles v) i NewName ≡ Coefficient m → get_or (roles v) (i + 1) NewName ≡ Coefficient m → get_or (roles v) (i + 2) NewName ≡ Coefficient m → get_or (roles v) (i + 3) NewName ≡ Weight n → HasPointAt m n ws i
@@ -123,11 +135,11 @@ HasPoint-of_Ray names ws fits = HasPointAt-from names verb.Ray ws 1 ray_point_li
 
 -- ---- the questions, from what the words give
 
-pub IsQuestion-Has : (names : List (List ℕ)) (line : ℕ) (ws : List (List ℕ)) (k : ℕ) (p : Point) → Fits names verb.Has ws → Names names (get_or ws 0 []) k → IsQuotient p (number_at ws 1) (number_at ws 2) (number_at ws 3) (number_at ws 4) → IsQuestion names line verb.Has ws (Has line k p)
-IsQuestion-Has names line ws k p fits at quotient = subst (λ l. IsQuestion names line verb.Has l (Has line k p)) (sym (five_words ws (count_is names verb.Has ws fits))) (k, p, at, quotient, refl)
+pub IsQuestion-Has : (names : List (List ℕ)) (bound : List ℕ) (line : ℕ) (ws : List (List ℕ)) (k : ℕ) (p : Point) → Fits names verb.Has ws → Names names bound (get_or ws 0 []) k → IsQuotient p (number_at ws 1) (number_at ws 2) (number_at ws 3) (number_at ws 4) → IsQuestion names bound line verb.Has ws (Has line k p)
+IsQuestion-Has names bound line ws k p fits at quotient = subst (λ l. IsQuestion names bound line verb.Has l (Has line k p)) (sym (five_words ws (count_is names verb.Has ws fits))) (k, p, at, quotient, refl)
 
-pub IsQuestion-Joined : (names : List (List ℕ)) (line : ℕ) (ws : List (List ℕ)) (k : ℕ) (p q : Point) → Fits names verb.Joined ws → Names names (get_or ws 0 []) k → IsQuotient p (number_at ws 1) (number_at ws 2) (number_at ws 3) (number_at ws 4) → IsQuotient q (number_at ws 5) (number_at ws 6) (number_at ws 7) (number_at ws 8) → IsQuestion names line verb.Joined ws (Joined line k p q)
-IsQuestion-Joined names line ws k p q fits at first second = subst (λ l. IsQuestion names line verb.Joined l (Joined line k p q)) (sym (nine_words ws (count_is names verb.Joined ws fits))) (k, p, q, at, first, second, refl)
+pub IsQuestion-Joined : (names : List (List ℕ)) (bound : List ℕ) (line : ℕ) (ws : List (List ℕ)) (k : ℕ) (p q : Point) → Fits names verb.Joined ws → Names names bound (get_or ws 0 []) k → IsQuotient p (number_at ws 1) (number_at ws 2) (number_at ws 3) (number_at ws 4) → IsQuotient q (number_at ws 5) (number_at ws 6) (number_at ws 7) (number_at ws 8) → IsQuestion names bound line verb.Joined ws (Joined line k p q)
+IsQuestion-Joined names bound line ws k p q fits at first second = subst (λ l. IsQuestion names bound line verb.Joined l (Joined line k p q)) (sym (nine_words ws (count_is names verb.Joined ws fits))) (k, p, q, at, first, second, refl)
 
-pub IsQuestion-Ray : (names : List (List ℕ)) (line : ℕ) (ws : List (List ℕ)) (k : ℕ) (p : Point) (d : Dir) → Fits names verb.Ray ws → Names names (get_or ws 0 []) k → IsQuotient p (number_at ws 1) (number_at ws 2) (number_at ws 3) (number_at ws 4) → IsToward d (number_at ws 5) (number_at ws 6) (number_at ws 7) → IsQuestion names line verb.Ray ws (Ray line k p d)
-IsQuestion-Ray names line ws k p d fits at start toward = subst (λ l. IsQuestion names line verb.Ray l (Ray line k p d)) (sym (eight_words ws (count_is names verb.Ray ws fits))) (k, p, d, at, start, toward, refl)
+pub IsQuestion-Ray : (names : List (List ℕ)) (bound : List ℕ) (line : ℕ) (ws : List (List ℕ)) (k : ℕ) (p : Point) (d : Dir) → Fits names verb.Ray ws → Names names bound (get_or ws 0 []) k → IsQuotient p (number_at ws 1) (number_at ws 2) (number_at ws 3) (number_at ws 4) → IsToward d (number_at ws 5) (number_at ws 6) (number_at ws 7) → IsQuestion names bound line verb.Ray ws (Ray line k p d)
+IsQuestion-Ray names bound line ws k p d fits at start toward = subst (λ l. IsQuestion names bound line verb.Ray l (Ray line k p d)) (sym (eight_words ws (count_is names verb.Ray ws fits))) (k, p, d, at, start, toward, refl)

@@ -64,8 +64,8 @@ nine_words (a ∷ ws) e =
     let eight : length ws ≡ 8 = omega arith in
     ap (λ l. a ∷ l) (eight_words ws eight)
 
-pub SecondIs-from : (names ws : List (List ℕ)) (i : ℕ) → length ws ≡ 2 → Names names (get_or ws 1 []) i → SecondIs names ws i
-SecondIs-from names ws i e at = subst (λ l. SecondIs names l i) (sym (two_words ws e)) at
+pub SecondIs-from : (names : List (List ℕ)) (bound : List ℕ) (ws : List (List ℕ)) (i : ℕ) → length ws ≡ 2 → Names names bound (get_or ws 1 []) i → SecondIs names bound ws i
+SecondIs-from names bound ws i e at = subst (λ l. SecondIs names bound l i) (sym (two_words ws e)) at
 
-pub LastTwoAre-from : (names ws : List (List ℕ)) (i j : ℕ) → length ws ≡ 3 → Names names (get_or ws 1 []) i → Names names (get_or ws 2 []) j → LastTwoAre names ws i j
-LastTwoAre-from names ws i j e at_second at_third = subst (λ l. LastTwoAre names l i j) (sym (three_words ws e)) (at_second, at_third)
+pub LastTwoAre-from : (names : List (List ℕ)) (bound : List ℕ) (ws : List (List ℕ)) (i j : ℕ) → length ws ≡ 3 → Names names bound (get_or ws 1 []) i → Names names bound (get_or ws 2 []) j → LastTwoAre names bound ws i j
+LastTwoAre-from names bound ws i j e at_second at_third = subst (λ l. LastTwoAre names bound l i j) (sym (three_words ws e)) (at_second, at_third)

@@ -6,7 +6,7 @@ use Rattle.nef_script.specs.Table.{verb_of, roles, binds}
 use Rattle.nef_script.specs.Tests.{name_count_limit, is_bad_name, is_taken, is_unknown, is_no_number, is_past_limit, is_bad_mode, is_bad_weight, has_zero_normal, has_zero_direction}
 use Rattle.nef_script.specs.declared.table.Verb.{Verb}
 use Rattle.nef_script.specs.declared.table.Role.{Role}
-use Rattle.nef_script.specs.declared.table.Role.TheVariants.{Coefficient, Weight}
+use Rattle.nef_script.specs.declared.table.Role.TheVariants.{Coefficient, Weight, Index}
 use Rattle.nef_script.specs.declared.fault.ScriptKind.{ScriptKind}
 use Rattle.nef_script.specs.declared.fault.ScriptKind.TheVariants as kind
 
@@ -14,6 +14,7 @@ use Rattle.nef_script.specs.declared.fault.ScriptKind.TheVariants as kind
 abbrev pub is_readable : Role → Bool
 is_readable (Coefficient limit) = nat_le limit number_limit
 is_readable (Weight most) = nat_le most number_limit
+is_readable (Index most) = nat_le most number_limit
 is_readable _ = true
 
 -- what a kind says of one word in its role

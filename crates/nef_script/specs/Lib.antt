@@ -3,6 +3,7 @@ pub mod Table
 pub mod Tests
 pub mod Refusal
 pub mod Meaning
+pub mod Commands
 pub mod Texts
 pub mod Names
 pub mod Checks

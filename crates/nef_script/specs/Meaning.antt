@@ -11,16 +11,20 @@ use Rattle.nef_geo.specs.declared.dir.Dir.{Dir}
 use Rattle.nef_geo.specs.declared.point.Point.{Point}
 use Rattle.nef_expr.specs.declared.nodes.Node.{Node}
 use Rattle.nef_expr.specs.declared.nodes.Node.TheVariants as node
+use Rattle.nef_expr.specs.declared.origin.Origin.{Origin}
+use Rattle.nef_expr.specs.Nodes.{IsOrdered}
+use Rattle.nef_expr.specs.Turns.{TurnOf}
+use Rattle.nef_expr.specs.Table.{origin, HasOrigin, AreOrigins, IsCopyOf}
 use Rattle.nef_lex.specs.Lines.{lines_of}
 use Rattle.nef_lex.specs.Words.{words_of}
 use Rattle.nef_script.specs.Limits.{IsRayWithin}
-use Rattle.nef_script.specs.Table.{verb_of, binds}
-use Rattle.nef_script.specs.Tests.{number_or_zero}
+use Rattle.nef_script.specs.Table.{verb_of, binds, is_own}
+use Rattle.nef_script.specs.Tests.{number_or_zero, on_command}
 use Rattle.nef_script.specs.Refusal.{names_of}
 use Rattle.nef_script.specs.declared.table.Verb.{Verb}
 use Rattle.nef_script.specs.declared.table.Verb.TheVariants as verb
 use Rattle.nef_script.specs.declared.script.Command.{Command}
-use Rattle.nef_script.specs.declared.script.Command.TheVariants.{Bind, Has, Joined, Ray, Same, Count, Print}
+use Rattle.nef_script.specs.declared.script.Command.TheVariants.{Bind, Turn, Has, Joined, Ray, Same, Count, Print}
 
 -- the oriented plane's given form is the form of these numbers, up to a positive factor
 abbrev pub IsGiven : Oriented → ℤ → ℤ → ℤ → ℤ → Type 0
@@ -34,61 +38,89 @@ IsQuotient p x y z w = (positive : pos 0 <ℤ w) × SamePlace (place_at x y z w 
 abbrev pub IsToward : Dir → ℤ → ℤ → ℤ → Type 0
 IsToward d x y z = SameDirection (vector x y z) (vector_of d)
 
--- the k-th name that is bound names the node k
-abbrev pub Names : List (List ℕ) → List ℕ → ℕ → Type 0
-Names names word k = position (bytes_eq word) names ≡ Some k
+-- the name names the node k: the place of the name among the names is that of k among their nodes
+abbrev pub Names : List (List ℕ) → List ℕ → List ℕ → ℕ → Type 0
+Names names bound word k = (i : ℕ) × (position (bytes_eq word) names ≡ Some i) × (slice_get bound i ≡ Some k)
 
--- the node that a line binds its name to, by the command and the words after it
-abbrev pub IsNode : List (List ℕ) → Verb → List (List ℕ) → Node → Type 0
-IsNode names verb.Half (name ∷ a ∷ b ∷ c ∷ d ∷ mode ∷ []) n = (o : Oriented) × (n ≡ node.Half o (bytes_eq mode (codes "closed"))) × IsGiven o (number_or_zero a) (number_or_zero b) (number_or_zero c) (number_or_zero d)
-IsNode names verb.Empty args n = n ≡ node.Empty
-IsNode names verb.Full args n = n ≡ node.Full
-IsNode names verb.And (name ∷ left ∷ right ∷ []) n = (i : ℕ) × (j : ℕ) × Names names left i × Names names right j × (n ≡ node.And i j)
-IsNode names verb.Or (name ∷ left ∷ right ∷ []) n = (i : ℕ) × (j : ℕ) × Names names left i × Names names right j × (n ≡ node.Or i j)
-IsNode names verb.Diff (name ∷ left ∷ right ∷ []) n = (i : ℕ) × (j : ℕ) × Names names left i × Names names right j × (n ≡ node.Diff i j)
-IsNode names verb.Xor (name ∷ left ∷ right ∷ []) n = (i : ℕ) × (j : ℕ) × Names names left i × Names names right j × (n ≡ node.Xor i j)
-IsNode names verb.Not (name ∷ operand ∷ []) n = (i : ℕ) × Names names operand i × (n ≡ node.Not i)
-IsNode names verb.Int (name ∷ operand ∷ []) n = (i : ℕ) × Names names operand i × (n ≡ node.Int i)
-IsNode names verb.Cl (name ∷ operand ∷ []) n = (i : ℕ) × Names names operand i × (n ≡ node.Cl i)
-IsNode names verb.Bd (name ∷ operand ∷ []) n = (i : ℕ) × Names names operand i × (n ≡ node.Bd i)
-IsNode names verb.Reg (name ∷ operand ∷ []) n = (i : ℕ) × Names names operand i × (n ≡ node.Reg i)
-IsNode names _ args n = ⊥
+-- the node that a line adds and binds its name to, by the command and the words after it
+abbrev pub IsNode : List (List ℕ) → List ℕ → Verb → List (List ℕ) → Node → Type 0
+IsNode names bound verb.Half (name ∷ a ∷ b ∷ c ∷ d ∷ mode ∷ []) n = (o : Oriented) × (n ≡ node.Half o (bytes_eq mode (codes "closed"))) × IsGiven o (number_or_zero a) (number_or_zero b) (number_or_zero c) (number_or_zero d)
+IsNode names bound verb.Empty args n = n ≡ node.Empty
+IsNode names bound verb.Full args n = n ≡ node.Full
+IsNode names bound verb.And (name ∷ left ∷ right ∷ []) n = (i : ℕ) × (j : ℕ) × Names names bound left i × Names names bound right j × (n ≡ node.And i j)
+IsNode names bound verb.Or (name ∷ left ∷ right ∷ []) n = (i : ℕ) × (j : ℕ) × Names names bound left i × Names names bound right j × (n ≡ node.Or i j)
+IsNode names bound verb.Diff (name ∷ left ∷ right ∷ []) n = (i : ℕ) × (j : ℕ) × Names names bound left i × Names names bound right j × (n ≡ node.Diff i j)
+IsNode names bound verb.Xor (name ∷ left ∷ right ∷ []) n = (i : ℕ) × (j : ℕ) × Names names bound left i × Names names bound right j × (n ≡ node.Xor i j)
+IsNode names bound verb.Not (name ∷ operand ∷ []) n = (i : ℕ) × Names names bound operand i × (n ≡ node.Not i)
+IsNode names bound verb.Int (name ∷ operand ∷ []) n = (i : ℕ) × Names names bound operand i × (n ≡ node.Int i)
+IsNode names bound verb.Cl (name ∷ operand ∷ []) n = (i : ℕ) × Names names bound operand i × (n ≡ node.Cl i)
+IsNode names bound verb.Bd (name ∷ operand ∷ []) n = (i : ℕ) × Names names bound operand i × (n ≡ node.Bd i)
+IsNode names bound verb.Reg (name ∷ operand ∷ []) n = (i : ℕ) × Names names bound operand i × (n ≡ node.Reg i)
+IsNode names bound _ args n = ⊥
 
 -- the command of a line that binds no name
-abbrev pub IsQuestion : List (List ℕ) → ℕ → Verb → List (List ℕ) → Command → Type 0
-IsQuestion names line verb.Has (name ∷ x ∷ y ∷ z ∷ w ∷ []) c = (k : ℕ) × (p : Point) × Names names name k × IsQuotient p (number_or_zero x) (number_or_zero y) (number_or_zero z) (number_or_zero w) × (c ≡ Has line k p)
-IsQuestion names line verb.Joined (name ∷ x ∷ y ∷ z ∷ w ∷ x2 ∷ y2 ∷ z2 ∷ w2 ∷ []) c = (k : ℕ) × (p : Point) × (q : Point) × Names names name k × IsQuotient p (number_or_zero x) (number_or_zero y) (number_or_zero z) (number_or_zero w) × IsQuotient q (number_or_zero x2) (number_or_zero y2) (number_or_zero z2) (number_or_zero w2) × (c ≡ Joined line k p q)
-IsQuestion names line verb.Ray (name ∷ x ∷ y ∷ z ∷ w ∷ dx ∷ dy ∷ dz ∷ []) c = (k : ℕ) × (p : Point) × (d : Dir) × Names names name k × IsQuotient p (number_or_zero x) (number_or_zero y) (number_or_zero z) (number_or_zero w) × IsToward d (number_or_zero dx) (number_or_zero dy) (number_or_zero dz) × (c ≡ Ray line k p d)
-IsQuestion names line verb.Same (left ∷ right ∷ []) c = (i : ℕ) × (j : ℕ) × Names names left i × Names names right j × (c ≡ Same line i j)
-IsQuestion names line verb.Count (name ∷ []) c = (k : ℕ) × Names names name k × (c ≡ Count line k)
-IsQuestion names line verb.Print (name ∷ []) c = (k : ℕ) × Names names name k × (c ≡ Print line k name)
-IsQuestion names line _ args c = ⊥
+abbrev pub IsQuestion : List (List ℕ) → List ℕ → ℕ → Verb → List (List ℕ) → Command → Type 0
+IsQuestion names bound line verb.Has (name ∷ x ∷ y ∷ z ∷ w ∷ []) c = (k : ℕ) × (p : Point) × Names names bound name k × IsQuotient p (number_or_zero x) (number_or_zero y) (number_or_zero z) (number_or_zero w) × (c ≡ Has line k p)
+IsQuestion names bound line verb.Joined (name ∷ x ∷ y ∷ z ∷ w ∷ x2 ∷ y2 ∷ z2 ∷ w2 ∷ []) c = (k : ℕ) × (p : Point) × (q : Point) × Names names bound name k × IsQuotient p (number_or_zero x) (number_or_zero y) (number_or_zero z) (number_or_zero w) × IsQuotient q (number_or_zero x2) (number_or_zero y2) (number_or_zero z2) (number_or_zero w2) × (c ≡ Joined line k p q)
+IsQuestion names bound line verb.Ray (name ∷ x ∷ y ∷ z ∷ w ∷ dx ∷ dy ∷ dz ∷ []) c = (k : ℕ) × (p : Point) × (d : Dir) × Names names bound name k × IsQuotient p (number_or_zero x) (number_or_zero y) (number_or_zero z) (number_or_zero w) × IsToward d (number_or_zero dx) (number_or_zero dy) (number_or_zero dz) × (c ≡ Ray line k p d)
+IsQuestion names bound line verb.Same (left ∷ right ∷ []) c = (i : ℕ) × (j : ℕ) × Names names bound left i × Names names bound right j × (c ≡ Same line i j)
+IsQuestion names bound line verb.Count (name ∷ []) c = (k : ℕ) × Names names bound name k × (c ≡ Count line k)
+IsQuestion names bound line verb.Print (name ∷ []) c = (k : ℕ) × Names names bound name k × (c ≡ Print line k name)
+IsQuestion names bound line _ args c = ⊥
 
--- the line, whose number counts from 1, adds its node and its command
-abbrev pub MeansCommand : List (List ℕ) → ℕ → Verb → List (List ℕ) → Bool → List Node → Command → Type 0
-MeansCommand names line v args true nodes c = (n : Node) × (slice_get nodes (length names) ≡ Some n) × IsNode names v args n × (c ≡ Bind line (length names))
-MeansCommand names line v args false nodes c = IsQuestion names line v args c
+-- the nodes of a script with the origin of each, and the node of each name that is bound, in order
+pub record Sets : Type 0 where
+  pub nodes : List Node
+  pub origins : List Origin
+  pub bound : List ℕ
 
-abbrev pub MeansWords : List (List ℕ) → ℕ → List (List ℕ) → List Node → Command → Type 0
-MeansWords names line [] nodes c = ⊥
-MeansWords names line (word ∷ args) nodes c = (v : Verb) × (verb_of word ≡ Some v) × MeansCommand names line v args (binds v) nodes c
+-- the line adds the node k, which is the next base
+abbrev pub IsBind : List (List ℕ) → ℕ → ℕ → Verb → List (List ℕ) → Sets → ℕ → Command → Type 0
+IsBind names bases line v args sets k c = (n : Node) × (slice_get sets.nodes k ≡ Some n) × IsNode names sets.bound v args n × HasOrigin sets.origins k (origin bases 0) × (c ≡ Bind line k)
+
+-- the node k is the turned copy of the operand's node
+abbrev pub IsTurn : List (List ℕ) → ℕ → List (List ℕ) → Sets → ℕ → Command → Type 0
+IsTurn names line (name ∷ operand ∷ number ∷ []) sets k c = (from : ℕ) × (t : ℕ) × Names names sets.bound operand from × (number_or_zero number ≡ pos t) × TurnOf sets.nodes t from k × IsCopyOf sets.origins t from k × (c ≡ Turn line k from t)
+IsTurn names line args sets k c = ⊥
+
+abbrev pub IsBinding : List (List ℕ) → ℕ → ℕ → Verb → List (List ℕ) → Sets → ℕ → Command → Type 0
+IsBinding names bases line verb.Turn args sets k c = IsTurn names line args sets k c
+IsBinding names bases line v args sets k c = IsBind names bases line v args sets k c
+
+-- what a line means, whose number counts from 1, after lines that bind these names, and this many of them to nodes of their own. A line that binds a name binds it to the next node of the list
+abbrev pub MeansCommand : List (List ℕ) → ℕ → ℕ → Verb → List (List ℕ) → Bool → Sets → Command → Type 0
+MeansCommand names bases line v args true sets c = (k : ℕ) × (slice_get sets.bound (length names) ≡ Some k) × IsBinding names bases line v args sets k c
+MeansCommand names bases line v args false sets c = IsQuestion names sets.bound line v args c
+
+abbrev pub MeansWords : List (List ℕ) → ℕ → ℕ → List (List ℕ) → Sets → Command → Type 0
+MeansWords names bases line [] sets c = ⊥
+MeansWords names bases line (word ∷ args) sets c = (v : Verb) × (verb_of word ≡ Some v) × MeansCommand names bases line v args (binds v) sets c
 
 -- the line has words
 abbrev pub has_words : List ℕ → Bool
 has_words line = not (nat_eq (length (words_of line)) 0)
 
--- the lines mean the nodes and the commands: each line that binds a name adds one node, each line with words adds one command, in order
-pub record MeansLines (lines : List (List ℕ)) (nodes : List Node) (commands : List Command) : Type 0 where
-  pub node_count : length nodes ≡ length (names_of lines)
-  pub command_count : length commands ≡ length (filter has_words lines)
-  pub each : (n : ℕ) (line : List ℕ) → slice_get lines n ≡ Some line → has_words line ≡ true → (c : Command) × (slice_get commands (length (filter has_words (take n lines))) ≡ Some c) × MeansWords (names_of (take n lines)) (n + 1) (words_of line) nodes c
+-- the line binds its name to a node of its own
+abbrev pub adds_base : List ℕ → Bool
+adds_base line = on_command (λ v args. is_own v) (words_of line)
 
+abbrev pub bases_of : List (List ℕ) → ℕ
+bases_of lines = length (filter adds_base lines)
+
+-- the lines mean the sets and the commands: each line with words has one command, in order; each line that binds a name has one node
+pub record MeansLines (lines : List (List ℕ)) (sets : Sets) (commands : List Command) : Type 0 where
+  pub bound_count : length sets.bound ≡ length (names_of lines)
+  pub command_count : length commands ≡ length (filter has_words lines)
+  pub each : (n : ℕ) (line : List ℕ) → slice_get lines n ≡ Some line → has_words line ≡ true → (c : Command) × (slice_get commands (length (filter has_words (take n lines))) ≡ Some c) × MeansWords (names_of (take n lines)) (bases_of (take n lines)) (n + 1) (words_of line) sets c
+
+-- and each node names earlier nodes only, and is a base or the turned copy of one, with as many bases as there are lines that bind a name to a node of their own; no two nodes have both base and turn in common
 abbrev pub MeansScript : List ℕ → List Node → List Command → Type 0
-MeansScript bytes nodes commands = MeansLines (lines_of bytes) nodes commands
+MeansScript bytes nodes commands = (sets : Sets) × (sets.nodes ≡ nodes) × IsOrdered nodes × MeansLines (lines_of bytes) sets commands × AreOrigins sets.nodes sets.origins (bases_of (lines_of bytes))
 
 -- the nodes that a command speaks of are among the first n, and a ray keeps its limits
 abbrev pub IsWithin : ℕ → Command → Type 0
 IsWithin n (Bind line k) = k < n
+IsWithin n (Turn line k j t) = (k < n) × (j < n) × (t < 48)
 IsWithin n (Has line k p) = k < n
 IsWithin n (Joined line k p q) = k < n
 IsWithin n (Ray line k p d) = (k < n) × IsRayWithin p d

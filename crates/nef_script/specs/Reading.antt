@@ -1,14 +1,16 @@
 -- What reading one line does.
-use Rattle.std.specs.Prelude.{◌≡◌, ℕ, ◌+◌, ◌<◌, ◌≤◌, Bool, true, false, ℤ, pos, ◌<ℤ◌, nat_abs, get_or, List, [], ◌∷◌, ◌++◌, None, length, take, if◌then◌else◌}
+use Rattle.std.specs.Prelude.{◌≡◌, ℕ, ◌+◌, ◌<◌, ◌≤◌, Bool, true, false, ℤ, pos, ◌<ℤ◌, nat_abs, get_or, List, [], ◌∷◌, ◌++◌, ◌⊎◌, None, Some, length, take, slice_get, if◌then◌else◌}
 use Rattle.nef_space.specs.Place.{Form, form, normal_of}
 use Rattle.nef_space.specs.Vectors.{Vector, vector, IsAtMost, IsDirection}
 use Rattle.nef_geo.specs.Reading.{IsInRange}
 use Rattle.nef_lex.specs.Words.{words_of}
-use Rattle.nef_expr.specs.declared.nodes.Node.{Node}
-use Rattle.nef_script.specs.Table.{binds}
-use Rattle.nef_script.specs.Tests.{number_or_zero, is_among}
+use Rattle.nef_expr.specs.Table.{Table}
+use Rattle.nef_expr.specs.Copying.{Extends}
+use Rattle.nef_script.specs.Table.{binds, is_own, last_turn}
+use Rattle.nef_script.specs.Tests.{number_or_zero, is_among, is_from_zero_to}
 use Rattle.nef_script.specs.Refusal.{line_refusal, bound_name}
-use Rattle.nef_script.specs.Meaning.{Names, MeansCommand, MeansWords, IsWithin, has_words}
+use Rattle.nef_script.specs.Meaning.{Names, Sets, MeansCommand, MeansWords, IsWithin, has_words, adds_base}
+use Rattle.nef_script.specs.Commands.{LooksAt, Binds, TurnsRight}
 use Rattle.nef_script.specs.Checks.{command_test}
 use Rattle.nef_script.specs.declared.table.Verb.{Verb}
 use Rattle.nef_script.specs.declared.script.Command.{Command}
@@ -29,40 +31,65 @@ pub record Fits (names : List (List ℕ)) (v : Verb) (args : List (List ℕ)) : 
   pub room : command_test kind.TooManyNames names v args ≡ false
 
 -- the second word names the node i
-abbrev pub SecondIs : List (List ℕ) → List (List ℕ) → ℕ → Type 0
-SecondIs names (first ∷ second ∷ []) i = Names names second i
-SecondIs names args i = ⊥
+abbrev pub SecondIs : List (List ℕ) → List ℕ → List (List ℕ) → ℕ → Type 0
+SecondIs names bound (first ∷ second ∷ []) i = Names names bound second i
+SecondIs names bound args i = ⊥
 
 -- the second and the third word name the nodes i and j
-abbrev pub LastTwoAre : List (List ℕ) → List (List ℕ) → ℕ → ℕ → Type 0
-LastTwoAre names (first ∷ second ∷ third ∷ []) i j = Names names second i × Names names third j
-LastTwoAre names args i j = ⊥
+abbrev pub LastTwoAre : List (List ℕ) → List ℕ → List (List ℕ) → ℕ → ℕ → Type 0
+LastTwoAre names bound (first ∷ second ∷ third ∷ []) i j = Names names bound second i × Names names bound third j
+LastTwoAre names bound args i j = ⊥
 
--- what a command and the words after it add to the names, the nodes and the commands of the lines before it
-pub record AddsWords (number : ℕ) (v : Verb) (args : List (List ℕ)) (names : List (List ℕ)) (nodes : List Node) (commands : List Command) (new_names : List (List ℕ)) (new_nodes : List Node) (new_commands : List Command) : Type 0 where
-  pub more_names : List (List ℕ)
-  pub more_nodes : List Node
+-- what is read so far: the names with their nodes, the nodes with their origins, and the commands
+pub record State : Type 0 where
+  pub names : List (List ℕ)
+  pub bound : List ℕ
+  pub table : Table
+  pub commands : List Command
+
+abbrev pub state : List (List ℕ) → List ℕ → Table → List Command → State
+state names bound table commands = record { names = names; bound = bound; table = table; commands = commands }
+
+abbrev pub sets_of : State → Sets
+sets_of s = record { nodes = s.table.nodes; origins = s.table.origins; bound = s.bound }
+
+-- each name has its node, and there are no more bases than names
+pub record IsSound (s : State) : Type 0 where
+  pub level : length s.bound ≡ length s.names
+  pub within : (i k : ℕ) → slice_get s.bound i ≡ Some k → k < length s.table.nodes
+  pub few : s.table.bases ≤ length s.names
+
+-- one command more
+pub record Step (old new : State) (c : Command) : Type 0 where
+  pub nodes_stay : Extends old.table.nodes new.table.nodes
+  pub origins_stay : Extends old.table.origins new.table.origins
+  pub bound_stay : Extends old.bound new.bound
+  pub commands_are : new.commands ≡ old.commands ++ c ∷ []
+  pub within : IsWithin (length new.table.nodes) c
+  pub turns : TurnsRight new.table.nodes c
+  pub looks : (k : ℕ) → LooksAt new.table.nodes c k → (i : ℕ) × (slice_get old.bound i ≡ Some k)
+  pub binds : (i k : ℕ) → slice_get new.bound i ≡ Some k → (slice_get old.bound i ≡ Some k) ⊎ Binds c k
+
+-- what a command and the words after it add to what is read
+pub record AddsWords (number : ℕ) (v : Verb) (args : List (List ℕ)) (old new : State) : Type 0 where
   pub command : Command
-  pub bound : more_names ≡ (if binds v then take 1 args else [])
-  pub names_are : new_names ≡ names ++ more_names
-  pub nodes_are : new_nodes ≡ nodes ++ more_nodes
-  pub commands_are : new_commands ≡ commands ++ command ∷ []
-  pub level : length new_nodes ≡ length new_names
-  pub means : MeansCommand names number v args (binds v) new_nodes command
-  pub within : IsWithin (length new_nodes) command
+  pub names_are : new.names ≡ old.names ++ (if binds v then take 1 args else [])
+  pub bases_are : new.table.bases ≡ old.table.bases + (if is_own v then 1 else 0)
+  pub sound : IsSound new
+  pub step : Step old new command
+  pub means : MeansCommand old.names old.table.bases number v args (binds v) (sets_of new) command
 
--- what a line adds to them
-abbrev pub AddsCommand : Bool → List (List ℕ) → ℕ → List ℕ → List Node → List Command → List Command → Type 0
-AddsCommand false names number text nodes old new = new ≡ old
-AddsCommand true names number text nodes old new = (c : Command) × (new ≡ old ++ c ∷ []) × MeansWords names number (words_of text) nodes c × IsWithin (length nodes) c
+-- what a line adds to it
+abbrev pub AddsCommand : Bool → ℕ → List ℕ → State → State → Type 0
+AddsCommand false number text old new = (new.bound ≡ old.bound) × (new.table ≡ old.table) × (new.commands ≡ old.commands)
+AddsCommand true number text old new = (c : Command) × Step old new c × MeansWords old.names old.table.bases number (words_of text) (sets_of new) c
 
-pub record AddsLine (number : ℕ) (text : List ℕ) (names : List (List ℕ)) (nodes : List Node) (commands : List Command) (new_names : List (List ℕ)) (new_nodes : List Node) (new_commands : List Command) : Type 0 where
-  pub passes : line_refusal names text ≡ None
-  pub more_nodes : List Node
-  pub names_are : new_names ≡ names ++ bound_name (words_of text)
-  pub nodes_are : new_nodes ≡ nodes ++ more_nodes
-  pub level : length new_nodes ≡ length new_names
-  pub command : AddsCommand (has_words text) names number text new_nodes commands new_commands
+pub record AddsLine (number : ℕ) (text : List ℕ) (old new : State) : Type 0 where
+  pub passes : line_refusal old.names text ≡ None
+  pub names_are : new.names ≡ old.names ++ bound_name (words_of text)
+  pub bases_are : new.table.bases ≡ old.table.bases + (if adds_base text then 1 else 0)
+  pub sound : IsSound new
+  pub command : AddsCommand (has_words text) number text old new
 
 -- the number that the word at a place spells, or 0
 abbrev pub number_at : List (List ℕ) → ℕ → ℤ
@@ -95,6 +122,12 @@ pub record HasDirectionAt (m : ℕ) (args : List (List ℕ)) (i : ℕ) : Type 0 
 pub record HasOperand (names args : List (List ℕ)) : Type 0 where
   pub count : length args ≡ 2
   pub known : is_among (get_or args 1 []) names ≡ true
+
+-- three words, of which the second is a name that is bound, and the third a number from 0 to 47
+pub record HasTurn (names args : List (List ℕ)) : Type 0 where
+  pub count : length args ≡ 3
+  pub known : is_among (get_or args 1 []) names ≡ true
+  pub number : is_from_zero_to last_turn (number_at args 2) ≡ true
 
 -- three words, of which the second and the third are names that are bound
 pub record HasTwoOperands (names args : List (List ℕ)) : Type 0 where

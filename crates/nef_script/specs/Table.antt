@@ -5,7 +5,11 @@ use Rattle.nef_space.specs.Limits.{normal_limit, offset_limit, query_limit, quer
 use Rattle.nef_script.specs.declared.table.Verb.{Verb}
 use Rattle.nef_script.specs.declared.table.Verb.TheVariants as verb
 use Rattle.nef_script.specs.declared.table.Role.{Role}
-use Rattle.nef_script.specs.declared.table.Role.TheVariants.{NewName, Operand, Coefficient, Mode, Weight}
+use Rattle.nef_script.specs.declared.table.Role.TheVariants.{NewName, Operand, Coefficient, Mode, Weight, Index}
+
+-- turns are counted from 0 to this one
+abbrev pub last_turn : ℕ
+last_turn = 47
 
 -- each command's word
 abbrev pub commands : List (List ℕ × Verb)
@@ -22,6 +26,7 @@ commands =
     ∷ (codes "cl", verb.Cl)
     ∷ (codes "bd", verb.Bd)
     ∷ (codes "reg", verb.Reg)
+    ∷ (codes "turn", verb.Turn)
     ∷ (codes "has", verb.Has)
     ∷ (codes "joined", verb.Joined)
     ∷ (codes "ray", verb.Ray)
@@ -48,6 +53,7 @@ roles verb.Int = NewName ∷ Operand ∷ []
 roles verb.Cl = NewName ∷ Operand ∷ []
 roles verb.Bd = NewName ∷ Operand ∷ []
 roles verb.Reg = NewName ∷ Operand ∷ []
+roles verb.Turn = NewName ∷ Operand ∷ Index last_turn ∷ []
 roles verb.Has = Operand ∷ Coefficient query_limit ∷ Coefficient query_limit ∷ Coefficient query_limit ∷ Weight query_weight_limit ∷ []
 roles verb.Joined = Operand ∷ Coefficient query_limit ∷ Coefficient query_limit ∷ Coefficient query_limit ∷ Weight query_weight_limit ∷ Coefficient query_limit ∷ Coefficient query_limit ∷ Coefficient query_limit ∷ Weight query_weight_limit ∷ []
 roles verb.Ray = Operand ∷ Coefficient ray_point_limit ∷ Coefficient ray_point_limit ∷ Coefficient ray_point_limit ∷ Weight ray_weight_limit ∷ Coefficient ray_direction_limit ∷ Coefficient ray_direction_limit ∷ Coefficient ray_direction_limit ∷ []
@@ -64,3 +70,8 @@ binds verb.Same = false
 binds verb.Count = false
 binds verb.Print = false
 binds _ = true
+
+-- the command binds its name to a node of its own
+abbrev pub is_own : Verb → Bool
+is_own verb.Turn = false
+is_own v = binds v

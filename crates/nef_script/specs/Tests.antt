@@ -9,7 +9,7 @@ use Rattle.nef_script.specs.Table.{verb_of, roles, binds}
 use Rattle.nef_script.specs.declared.table.Verb.{Verb}
 use Rattle.nef_script.specs.declared.table.Verb.TheVariants as verb
 use Rattle.nef_script.specs.declared.table.Role.{Role}
-use Rattle.nef_script.specs.declared.table.Role.TheVariants.{NewName, Operand, Coefficient, Mode, Weight}
+use Rattle.nef_script.specs.declared.table.Role.TheVariants.{NewName, Operand, Coefficient, Mode, Weight, Index}
 use Rattle.nef_script.specs.declared.fault.ScriptKind.{ScriptKind}
 use Rattle.nef_script.specs.declared.fault.ScriptKind.TheVariants as kind
 
@@ -44,6 +44,11 @@ abbrev pub is_from_one_to : ℕ → ℤ → Bool
 is_from_one_to most (pos n) = nat_le 1 n && nat_le n most
 is_from_one_to most (negsuc n) = false
 
+-- from 0 to most
+abbrev pub is_from_zero_to : ℕ → ℤ → Bool
+is_from_zero_to most (pos n) = nat_le n most
+is_from_zero_to most (negsuc n) = false
+
 -- what is wrong with one word of a role
 abbrev pub is_bad_name : Role × List ℕ → Bool
 is_bad_name (NewName, word) = not (is_name word)
@@ -61,10 +66,12 @@ is_unknown names (_, word) = false
 abbrev pub is_no_number : Role × List ℕ → Bool
 is_no_number (Coefficient limit, word) = not (is_number word)
 is_no_number (Weight most, word) = not (is_number word)
+is_no_number (Index most, word) = not (is_number word)
 is_no_number (_, word) = false
 
 abbrev pub is_past_limit : Role × List ℕ → Bool
 is_past_limit (Coefficient limit, word) = nat_lt limit (nat_abs (number_or_zero word))
+is_past_limit (Index most, word) = not (is_from_zero_to most (number_or_zero word))
 is_past_limit (_, word) = false
 
 abbrev pub is_bad_mode : Role × List ℕ → Bool

@@ -20,7 +20,7 @@ fn is_bad_name(role: Role, word: &[u8]) -> bool
 {
     match role {
         Role::NewName | Role::Operand => !is_name(word),
-        Role::Coefficient(_) | Role::Mode | Role::Weight(_) => false,
+        Role::Coefficient(_) | Role::Mode | Role::Weight(_) | Role::Index(_) => false,
     }
 }
 
@@ -49,7 +49,7 @@ fn is_no_number(role: Role, word: &[u8]) -> bool
     ensures no_number { result ≡ is_no_number (role, word.now) }
 {
     match role {
-        Role::Coefficient(_) | Role::Weight(_) => match whole_number(word) {
+        Role::Coefficient(_) | Role::Weight(_) | Role::Index(_) => match whole_number(word) {
             NumberWord::NotOne => true,
             NumberWord::Beyond | NumberWord::Value(_) => false,
         },
@@ -57,7 +57,7 @@ fn is_no_number(role: Role, word: &[u8]) -> bool
     }
 }
 
-// Whether a number is past its limit.
+// Whether a number is past its limit, or isn't from 0 to its last one.
 fn is_past_limit(role: Role, word: &[u8]) -> bool
     requires readable { is_readable role ≡ true }
     ensures past_limit { result ≡ is_past_limit (role, word.now) }
@@ -67,6 +67,11 @@ fn is_past_limit(role: Role, word: &[u8]) -> bool
             NumberWord::NotOne => false,
             NumberWord::Beyond => true,
             NumberWord::Value(number) => number.unsigned_abs() > limit,
+        },
+        Role::Index(most) => match whole_number(word) {
+            NumberWord::NotOne => false,
+            NumberWord::Beyond => true,
+            NumberWord::Value(number) => number < 0 || number.unsigned_abs() > most,
         },
         _ => false,
     }

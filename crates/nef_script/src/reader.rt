@@ -1,20 +1,22 @@
 //! Reads a script line by line.
 
-ghost use Rattle.std.specs.Prelude.{◌≡◌, ℕ, length, IfOk, Some, [], true};
-ghost use Rattle.std.specs.List.{position};
-ghost use Rattle.nef_script.specs.Table.{binds};
+ghost use Rattle.std.specs.Prelude.{◌≡◌, ℕ, ◌*◌, ◌≤◌, length, IfOk, Some, [], true, false};
+ghost use Rattle.nef_expr.specs.Nodes.{IsOrdered};
+ghost use Rattle.nef_expr.specs.Table.{AreOrigins};
+ghost use Rattle.nef_script.specs.Table.{binds, is_own};
 ghost use Rattle.nef_script.specs.Names.{pointed};
 ghost use Rattle.nef_script.specs.Refusal.{line_refusal};
-ghost use Rattle.nef_script.specs.Reading.{Fits, AddsLine, AddsWords};
+ghost use Rattle.nef_script.specs.Reading.{Fits, IsSound, AddsLine, AddsWords, state};
 ghost use Rattle.nef_script.specs.declared.fault.ScriptKind.{ScriptKind as Kind};
+ghost use Rattle.nef_script.specs.declared.table.Verb.TheVariants as verb;
 
 use crate::fault::ScriptFault;
-use crate::meaning::{node_of, question_of};
+use crate::meaning::{node_of, question_of, turn_of};
 use crate::names::Names;
 use crate::refusal::{command_of, line_refusal};
 use crate::script::{Command, Script};
 use crate::table::Verb;
-use nef_expr::Nodes;
+use nef_expr::TurnedNodes;
 use nef_geo::List;
 use nef_lex::{Line, words};
 use std::alloc::{AllocError, Global};
@@ -23,40 +25,53 @@ use std::alloc::{AllocError, Global};
 #[derive(Drop)]
 pub(crate) struct Reader<'a> {
     names: Names<'a>,
-    nodes: Nodes,
+    /// The node of each name, in order.
+    bound: Vec<usize>,
+    sets: TurnedNodes,
     commands: List<Command>,
 }
 
 impl<'a> Reader<'a> {
     pub(crate) fn new(alloc: Global) -> Reader<'a>
         ensures names { result.names ≡ [] }
-        ensures nodes { result.nodes ≡ [] }
+        ensures bound { result.bound.items ≡ [] }
+        ensures nodes { result.sets.nodes ≡ [] }
+        ensures origins { result.sets.origins ≡ [] }
+        ensures bases { result.sets.bases ≡ 0 }
         ensures commands { result.commands ≡ [] }
     {
         Reader {
             names: Names::new(alloc),
-            nodes: Nodes::new(alloc),
+            bound: Vec::new(alloc),
+            sets: TurnedNodes::new(alloc),
             commands: List::new(alloc),
         }
     }
 
     /// The script that the lines make.
     pub(crate) fn finish(self) -> Script
-        ensures nodes { result.nodes ≡ self.entry.nodes }
+        ensures nodes { result.nodes ≡ self.entry.sets.nodes }
+        ensures few { length result.nodes ≤ 48 * self.entry.sets.bases }
+        ensures ordered { IsOrdered result.nodes }
+        ensures origins { AreOrigins result.nodes self.entry.sets.origins self.entry.sets.bases }
         ensures commands { result.commands ≡ self.entry.commands }
     {
         let Reader {
             names: _names,
-            nodes,
+            bound: _bound,
+            sets,
             commands,
         } = self;
-        Script { nodes, commands }
+        Script {
+            nodes: sets.into_nodes(),
+            commands,
+        }
     }
 
     /// Reads the next line.
     pub(crate) fn read_line(&mut self, alloc: Global, line: Line<'a>) -> Result<(), ScriptFault>
-        requires level { length self.old.nodes ≡ length self.old.names }
-        ensures adds { IfOk result (λ _. AddsLine line.entry.number line.entry.text.now self.old.names self.old.nodes self.old.commands self.new.names self.new.nodes self.new.commands) }
+        requires sound { IsSound (state self.old.names self.old.bound.items self.old.sets self.old.commands) }
+        ensures adds { IfOk result (λ _. AddsLine line.entry.number line.entry.text.now (state self.old.names self.old.bound.items self.old.sets self.old.commands) (state self.new.names self.new.bound.items self.new.sets self.new.commands)) }
         ensures refused { (n : ℕ) (kind : Kind) → result ≡ Err (ScriptFault.Refused n kind) → (n ≡ line.entry.number) × (line_refusal self.old.names line.entry.text.now ≡ Some kind) }
     {
         let words = words(alloc, line.text)?;
@@ -80,18 +95,69 @@ impl<'a> Reader<'a> {
         verb: Verb,
         args: &[&'a [u8]],
     ) -> Result<(), AllocError>
-        requires level { length self.old.nodes ≡ length self.old.names }
+        requires sound { IsSound (state self.old.names self.old.bound.items self.old.sets self.old.commands) }
         requires fits { Fits self.old.names verb (pointed args.now) }
-        ensures adds { IfOk result (λ _. AddsWords line verb (pointed args.now) self.old.names self.old.nodes self.old.commands self.new.names self.new.nodes self.new.commands) }
+        ensures adds { IfOk result (λ _. AddsWords line verb (pointed args.now) (state self.old.names self.old.bound.items self.old.sets self.old.commands) (state self.new.names self.new.bound.items self.new.sets self.new.commands)) }
     {
-        if verb.binds() {
-            let node = self.nodes.push(node_of(&self.names, verb, args))?;
-            self.names.push(args[0])?;
-            self.commands.push(Command::Bind { line, node })?;
+        if verb == Verb::Turn {
+            self.add_turn(alloc, line, args)
+        } else if verb.binds() {
+            self.add_node(line, verb, args)
         } else {
-            let question = question_of(alloc, line, &self.names, verb, args)?;
-            self.commands.push(question)?;
+            self.add_question(alloc, line, verb, args)
         }
+    }
+
+    // Adds the node of a line, and binds its name to it.
+    fn add_node(&mut self, line: u64, verb: Verb, args: &[&'a [u8]]) -> Result<(), AllocError>
+        requires sound { IsSound (state self.old.names self.old.bound.items self.old.sets self.old.commands) }
+        requires fits { Fits self.old.names verb (pointed args.now) }
+        requires own { is_own verb ≡ true }
+        ensures adds { IfOk result (λ _. AddsWords line verb (pointed args.now) (state self.old.names self.old.bound.items self.old.sets self.old.commands) (state self.new.names self.new.bound.items self.new.sets self.new.commands)) }
+    {
+        let node = self
+            .sets
+            .push(node_of(&self.names, &self.bound, verb, args))?;
+        self.names.push(args[0])?;
+        self.bound.push(node)?;
+        self.commands.push(Command::Bind { line, node })?;
+        Ok(())
+    }
+
+    // Adds the turned copy of a node, and binds the line's name to it.
+    fn add_turn(&mut self, alloc: Global, line: u64, args: &[&'a [u8]]) -> Result<(), AllocError>
+        requires sound { IsSound (state self.old.names self.old.bound.items self.old.sets self.old.commands) }
+        requires fits { Fits self.old.names verb.Turn (pointed args.now) }
+        ensures adds { IfOk result (λ _. AddsWords line verb.Turn (pointed args.now) (state self.old.names self.old.bound.items self.old.sets self.old.commands) (state self.new.names self.new.bound.items self.new.sets self.new.commands)) }
+    {
+        let (from, turn) = turn_of(&self.names, &self.bound, args);
+        let node = self.sets.turn(alloc, from, usize::from(turn))?;
+        self.names.push(args[0])?;
+        self.bound.push(node)?;
+        self.commands.push(Command::Turn {
+            line,
+            node,
+            from,
+            turn,
+        })?;
+        Ok(())
+    }
+
+    // Adds the question of a line.
+    fn add_question(
+        &mut self,
+        alloc: Global,
+        line: u64,
+        verb: Verb,
+        args: &[&'a [u8]],
+    ) -> Result<(), AllocError>
+        requires sound { IsSound (state self.old.names self.old.bound.items self.old.sets self.old.commands) }
+        requires fits { Fits self.old.names verb (pointed args.now) }
+        requires asks { binds verb ≡ false }
+        ensures adds { IfOk result (λ _. AddsWords line verb (pointed args.now) (state self.old.names self.old.bound.items self.old.sets self.old.commands) (state self.new.names self.new.bound.items self.new.sets self.new.commands)) }
+    {
+        let question = question_of(alloc, line, &self.names, &self.bound, verb, args)?;
+        self.commands.push(question)?;
         Ok(())
     }
 }

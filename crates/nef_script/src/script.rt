@@ -46,6 +46,13 @@ pub enum Command {
         line: u64,
         node: usize,
     },
+    /// A name is bound to the node, which is the turned image of the node `from` under the turn `turn`, from 0 to 47.
+    Turn {
+        line: u64,
+        node: usize,
+        from: usize,
+        turn: u8,
+    },
     /// Where the point lies is asked.
     Has {
         line: u64,
@@ -87,7 +94,7 @@ pub enum Command {
     },
 }
 
-/// The nodes that the lines bind names to, and the commands, one for each line with words.
+/// The nodes that the lines make, and the commands, one for each line with words.
 #[derive(Drop)]
 pub struct Script {
     pub(crate) nodes: Nodes,
@@ -95,7 +102,8 @@ pub struct Script {
 }
 
 impl Script {
-    /// The node of each line that binds a name, in order.
+    /// The nodes of the lines that bind names, each after its operands: one for each line but those that turn, and for these
+    /// the turned copies that aren't there yet.
     pub fn nodes(&self) -> &Nodes
         ensures nodes { result.now ≡ self.now.nodes }
     {

@@ -27,6 +27,7 @@ pub enum Verb {
     Cl,
     Bd,
     Reg,
+    Turn,
     Has,
     Joined,
     Ray,
@@ -48,10 +49,12 @@ pub enum Role {
     Mode,
     /// A whole number from 1 to this one.
     Weight(u64),
+    /// A whole number from 0 to this one.
+    Index(u64),
 }
 
 // Each command's word.
-const COMMANDS: [(&[u8], Verb); 18] = [
+const COMMANDS: [(&[u8], Verb); 19] = [
     (b"half", Verb::Half),
     (b"empty", Verb::Empty),
     (b"full", Verb::Full),
@@ -64,6 +67,7 @@ const COMMANDS: [(&[u8], Verb); 18] = [
     (b"cl", Verb::Cl),
     (b"bd", Verb::Bd),
     (b"reg", Verb::Reg),
+    (b"turn", Verb::Turn),
     (b"has", Verb::Has),
     (b"joined", Verb::Joined),
     (b"ray", Verb::Ray),
@@ -87,6 +91,9 @@ const RAY_PLACE: Role = Role::Coefficient(RAY_LIMIT);
 const RAY_WEIGHT: Role = Role::Weight(RAY_WEIGHT_LIMIT);
 
 const RAY_ENTRY: Role = Role::Coefficient(RAY_ENTRY_LIMIT);
+
+// The number of the last turn.
+const TURN: Role = Role::Index(47);
 
 // The first command of the table that has this word.
 fn verb_in(table: &[(&[u8], Verb)], word: &[u8]) -> Option<Verb>
@@ -118,6 +125,7 @@ impl Verb {
             Verb::Not | Verb::Int | Verb::Cl | Verb::Bd | Verb::Reg => {
                 &[Role::NewName, Role::Operand]
             }
+            Verb::Turn => &[Role::NewName, Role::Operand, TURN],
             Verb::Has => &[Role::Operand, PLACE, PLACE, PLACE, WEIGHT],
             Verb::Joined => {
                 &[

@@ -1,83 +1,146 @@
 -- The complexes of nodes: each is made of those of its operands, and is kept as long as a command looks at it.
-use Rattle.std.proofs.Common.{◌≡◌, ◌⊎◌, ℕ, ◌+◌, ◌<◌, ◌≤◌, ap, arith, refl, sym, ◌∙◌, subst, List, [], ◌∷◌, length, Option, Some, None, IfSome, Result, Ok, Err, IfOk, inl, inr}
-use Rattle.std.specs.Prelude.{slice_get, slice_index, slice_index_or}
-use Rattle.std.proofs.lemmas.Bool.{cases_lt, cases_eq}
-use Rattle.std.proofs.lemmas.List.{get_or-set_same, get_or-set_other, length-set}
-use Rattle.std.proofs.Math.ListN.{set}
-use Rattle.std.proofs.lemmas.Option.{get_or_from_slice_get, slice_get_within, slice_get-get_or}
+use Rattle.std.proofs.Common.{◌≡◌, ◌⊎◌, ℕ, Bool, true, false, ◌+◌, ◌<◌, ◌≤◌, ap, arith, refl, sym, ◌∙◌, subst, List, [], ◌∷◌, length, Option, Some, None, IfSome, Result, Ok, Err, IfOk, inl, inr}
+use Rattle.std.specs.Prelude.{slice_get, slice_set, slice_index, is_some}
+use Rattle.std.proofs.lemmas.Bool.{cases_eq}
+use Rattle.std.proofs.lemmas.List.{length-set}
+use Rattle.std.proofs.lemmas.Option.{slice_get_within}
+use Rattle.nef_core.proofs.Places.{get_set_here, get_set_other}
 use Rattle.nef_space.specs.Sets.{Set}
 use Rattle.nef_complex.specs.declared.complex.Complex.{Complex}
 use Rattle.nef_complex.specs.Complexes.{ShowsSet}
 use Rattle.nef_expr.specs.declared.nodes.Node.{Node}
 use Rattle.nef_expr.specs.declared.nodes.Node.TheVariants as node
-use Rattle.nef_expr.specs.Nodes.{set_of, sets_after, node_set, NamesBelow}
+use Rattle.nef_combine.specs.Sets.{op_set}
+use Rattle.law_turns.specs.Turned.{turned_set}
+use Rattle.nef_star.specs.declared.op.Op.{Op}
+use Rattle.nef_ops.specs.Nodes.{unary_set}
+use Rattle.nef_ops.specs.declared.op.UnaryOp.{UnaryOp}
+use Rattle.nef_expr.specs.Nodes.{operand, set_of, sets_after, node_set, NamesBelow, IsOperand}
 use Rattle.nef_expr.proofs.Sets.{each-set}
 use Rattle.nef_script.specs.declared.script.Command.{Command}
-use Rattle.nef_script.specs.declared.script.Command.TheVariants.{Bind, Has, Joined, Ray, Same, Count, Print}
-use Rattle.nef_shell.specs.Commands.{IsOperand, Binds, bound_by, IsWorkable}
-use Rattle.nef_shell.specs.Operations.{set_by, IsKept, IsGone, IsGrown}
+use Rattle.nef_script.specs.declared.script.Command.TheVariants.{Bind, Turn, Has, Joined, Ray, Same, Count, Print}
+use Rattle.nef_script.specs.Meaning.{IsWithin}
+use Rattle.nef_script.specs.Commands.{Binds}
+use Rattle.nef_shell.specs.Operations.{set_by, first_operand, second_operand, HasOperand, IsLent, AreLent, AreShown, IsKept, IsGone, AreBound}
 use Rattle.nef_shell.specs.declared.operation.Operation.{Operation}
+use Rattle.nef_shell.specs.declared.operation.Operation.TheVariants.{Unary, Binary, Turned}
 
--- what the operation gives shows the set of the node that is made by it
-pub made-shows : {E : Type 0} (r : Result Complex E) (nodes : List Node) (k : ℕ) (n : Node) (op : Operation) → slice_get nodes k ≡ Some n → NamesBelow k n → ((ss : List Set) → set_of ss n ≡ set_by ss op)
-    → IfOk r (λ c. ShowsSet (set_by (sets_after [] nodes) op) c) → IfOk r (λ c. ShowsSet (node_set nodes k) c)
-made-shows (Ok c) nodes k n op at below by shows = subst (λ s. ShowsSet s c) (sym (each-set nodes k n at below ∙ by (sets_after [] nodes))) shows
-made-shows (Err e) nodes k n op at below by shows = tt
+-- the operation of a node makes its set
+pub node-by : (nodes : List Node) (k : ℕ) (n : Node) (op : Operation) → slice_get nodes k ≡ Some n → NamesBelow k n → ((ss : List Set) → set_of ss n ≡ set_by ss op) → node_set nodes k ≡ set_by (sets_after [] nodes) op
+node-by nodes k n op at below by = each-set nodes k n at below ∙ by (sets_after [] nodes)
 
 pub ok-then : {E : Type 0} (r : Result Complex E) (P Q : Complex → Type 0) → ((c : Complex) → P c → Q c) → IfOk r P → IfOk r Q
 ok-then (Ok c) P Q then p = then c p
 ok-then (Err e) P Q then p = tt
 
-pub operand-kept : (nodes : List Node) (list : List (Option Complex)) (k i : ℕ) (n : Node) → slice_get nodes k ≡ Some n → ((j : ℕ) → IsOperand j (slice_index_or nodes k node.Empty) → IsKept nodes list j) → IsOperand i n → IsKept nodes list i
-operand-kept nodes list k i n at kept is = kept i (subst (IsOperand i) (sym (get_or_from_slice_get nodes k n node.Empty at)) is)
-
 pub some-then : (o : Option ℕ) (P : ℕ → Type 0) → ((k : ℕ) → o ≡ Some k → P k) → IfSome o P
 some-then None P p = tt
 some-then (Some k) P p = p k refl
 
--- a command that binds a node binds one
-pub binds-one : (c : Command) (k : ℕ) → Binds c k → bound_by (c ∷ []) ≡ 1
-binds-one (Bind line n) k b = refl
-binds-one (Has line n p) k b = absurd b
-binds-one (Joined line n p q) k b = absurd b
-binds-one (Ray line n p d) k b = absurd b
-binds-one (Same line i j) k b = absurd b
-binds-one (Count line n) k b = absurd b
-binds-one (Print line n name) k b = absurd b
+-- what an operation on one set makes of the complex that is lent
+pub unary-made : {E : Type 0} (r : Result Complex E) (operation : Operation) (op : UnaryOp) (i : ℕ) (first second : Option Complex) (a : Complex) → operation ≡ Unary op i → first ≡ Some a
+    → IfOk r (λ c. (s : Set) → ShowsSet s a → ShowsSet (unary_set op s) c) → IfOk r (λ c. (ss : List Set) → AreLent ss operation first second → ShowsSet (set_by ss operation) c)
+unary-made r _ op i first second a e f shows = rw e (ok-then r _ _ (λ c h ss lent. h (operand ss i) (subst (IsLent ss (Some i)) f lent.0)) shows)
 
--- after one more command each complex is there that a later command looks at
-pub kept-next : (nodes : List Node) (n now : ℕ) (uses : List ℕ) (old mid new : List (Option Complex))
-    → ((k : ℕ) → k < length old → now ≤ slice_index uses k → IsKept nodes old k) → IsGrown nodes n old mid → length new ≡ length mid
-    → ((k : ℕ) → now < slice_index uses k → IsKept nodes mid k → IsKept nodes new k) → (k : ℕ) → k < length new → now + 1 ≤ slice_index uses k → IsKept nodes new k
-kept-next nodes n now uses old mid new kept grown count stays k within later = stays k (omega arith) (elim (cases_lt k (length old)) [
-  | inl before ↦ grown.earlier k (kept k before (omega arith))
-  | inr added ↦ grown.added k added (omega arith)
-])
+-- and one on two
+pub binary-made : {E : Type 0} (r : Result Complex E) (operation : Operation) (op : Op) (i j : ℕ) (first second : Option Complex) (a b : Complex) → operation ≡ Binary op i j → first ≡ Some a → second ≡ Some b
+    → IfOk r (λ c. (s t : Set) → ShowsSet s a → ShowsSet t b → ShowsSet (op_set op s t) c) → IfOk r (λ c. (ss : List Set) → AreLent ss operation first second → ShowsSet (set_by ss operation) c)
+binary-made r _ op i j first second a b e f g shows = rw e (ok-then r _ _ (λ c h ss lent. h (operand ss i) (operand ss j) (subst (IsLent ss (Some i)) f lent.0) (subst (IsLent ss (Some j)) g lent.1)) shows)
 
--- a command that can be worked binds the node that it adds
-pub adds-bound : (nodes : List Node) (n k : ℕ) (c : Command) → IsWorkable nodes n c → n ≤ k → k < n + bound_by (c ∷ []) → Binds c k
-adds-bound nodes n k (Bind line j) workable past within = let next = workable.next j refl in omega (arith, next.0)
-adds-bound nodes n k (Has line j p) workable past within = absurd (omega arith)
-adds-bound nodes n k (Joined line j p q) workable past within = absurd (omega arith)
-adds-bound nodes n k (Ray line j p d) workable past within = absurd (omega arith)
-adds-bound nodes n k (Same line i j) workable past within = absurd (omega arith)
-adds-bound nodes n k (Count line j) workable past within = absurd (omega arith)
-adds-bound nodes n k (Print line j name) workable past within = absurd (omega arith)
+-- a complex is put in the place of none: each that was there stays, and no other is there
+pub bound-put : (nodes : List Node) (list : List (Option Complex)) (n : ℕ) (c : Complex) → n < length list → IsGone list n → ShowsSet (node_set nodes n) c → AreBound nodes (λ k. k ≡ n) list (slice_set list n (Some c))
+bound-put nodes list n c within gone shows = record {
+  count = length-set list n (Some c);
+  stays = λ k d at. elim (cases_eq k n) [
+    | inl e ↦ let same : slice_get list n ≡ Some (Some d) = subst (λ z. slice_get list z ≡ Some (Some d)) e at in absurd (not-both n d gone same)
+    | inr other ↦ get_set_other list n k (Some c) other ∙ at
+  ];
+  gone = λ k g. elim (cases_eq k n) [ inl e ↦ inr e | inr other ↦ inl (get_set_other list n k (Some c) other ∙ g) ];
+  bound = λ k e. (c, subst (λ z. slice_get (slice_set list n (Some c)) z ≡ Some (Some c)) (sym e) (get_set_here list n (Some c) within), subst (λ z. ShowsSet (node_set nodes z) c) (sym e) shows);
+}
+  where
+    not-both : (k : ℕ) (d : Complex) → slice_get list k ≡ Some None → slice_get list k ≡ Some (Some d) → ⊥
+    not-both k d e f = let g : Some None ≡ Some (Some d) = sym e ∙ f in cc
 
--- where one number of a list is exchanged, each is as before or the new one
-pub index-set : (xs : List ℕ) (j k now : ℕ) → j < length xs → (slice_index (set xs j now) k ≡ slice_index xs k) ⊎ ((Some j ≡ Some k) × (slice_index (set xs j now) k ≡ now))
-index-set xs j k now within = elim (cases_eq k j) [
-  | inl e ↦ inr (ap (λ z. Some z) (sym e), subst (λ z. slice_index (set xs j now) z ≡ now) (sym e) (get_or-set_same xs j now 0 within))
-  | inr n ↦ inl (get_or-set_other xs j k now 0 n)
+-- where a node's complex is there already
+pub bound-there : (nodes : List Node) (list : List (Option Complex)) (n : ℕ) (c : Complex) → slice_get list n ≡ Some (Some c) → AreShown nodes list → AreBound nodes (λ k. k ≡ n) list list
+bound-there nodes list n c there shown = record { count = refl; stays = λ k d at. at; gone = λ k g. inl g; bound = λ k e. subst (IsKept nodes list) (sym e) (c, there, shown n c there) }
+
+-- and shows its node's set
+pub shown-put : (nodes : List Node) (list : List (Option Complex)) (n : ℕ) (c : Complex) → n < length list → AreShown nodes list → ShowsSet (node_set nodes n) c → AreShown nodes (slice_set list n (Some c))
+shown-put nodes list n c within shown shows k d at = elim (cases_eq k n) [
+  | inl e ↦
+      let there : slice_get (slice_set list n (Some c)) k ≡ Some (Some c) = subst (λ z. slice_get (slice_set list n (Some c)) z ≡ Some (Some c)) (sym e) (get_set_here list n (Some c) within) in
+      let same : c ≡ d = cc in
+      subst (ShowsSet (node_set nodes k)) same (subst (λ z. ShowsSet (node_set nodes z) c) (sym e) shows)
+  | inr other ↦ shown k d (sym (get_set_other list n k (Some c) other) ∙ at)
 ]
 
--- a complex is let go
-pub gone-here : (list : List (Option Complex)) (k : ℕ) → k < length list → IsGone (set list k None) k
-gone-here list k within = slice_get-get_or (set list k None) k None (rw (length-set list k None) within) ∙ ap (λ z. Some z) (get_or-set_same list k None None within)
-
--- and so are those that were
-pub gone-stays : (list : List (Option Complex)) (k j : ℕ) → k < length list → IsGone list j → IsGone (set list k None) j
-gone-stays list k j within gone = elim (cases_eq j k) [
-  | inl e ↦ subst (IsGone (set list k None)) (sym e) (gone-here list k within)
-  | inr n ↦ slice_get-get_or (set list k None) j None (rw (length-set list k None) (slice_get_within list j None gone)) ∙ ap (λ z. Some z) (get_or-set_other list k j None None n ∙ get_or_from_slice_get list j None None gone)
+-- a complex is let go, and the others show what they showed
+pub shown-less : (nodes : List Node) (list : List (Option Complex)) (n : ℕ) → n < length list → AreShown nodes list → AreShown nodes (slice_set list n None)
+shown-less nodes list n within shown k d at = elim (cases_eq k n) [
+  | inl e ↦
+      let there : slice_get (slice_set list n None) k ≡ Some None = subst (λ z. slice_get (slice_set list n None) z ≡ Some None) (sym e) (get_set_here list n None within) in
+      absurd (let f : Some None ≡ Some (Some d) = sym there ∙ at in cc)
+  | inr other ↦ shown k d (sym (get_set_other list n k None other) ∙ at)
 ]
+
+-- a command that binds a node has it bound
+pub binds-that : (nodes : List Node) (c : Command) (line n : ℕ) (old new : List (Option Complex)) → c ≡ Bind line n → AreBound nodes (λ k. k ≡ n) old new → AreBound nodes (Binds c) old new
+binds-that nodes c line n old new e b = rw e (record { count = b.count; stays = b.stays; gone = b.gone; bound = b.bound })
+
+pub turns-that : (nodes : List Node) (c : Command) (line n i t : ℕ) (old new : List (Option Complex)) → c ≡ Turn line n i t → AreBound nodes (λ k. k ≡ n) old new → AreBound nodes (Binds c) old new
+turns-that nodes c line n i t old new e b = rw e (record { count = b.count; stays = b.stays; gone = b.gone; bound = b.bound })
+
+-- a complex that stays is kept
+pub stays-kept : (nodes : List Node) (InQuestion : ℕ → Type 0) (old new : List (Option Complex)) (k : ℕ) → AreBound nodes InQuestion old new → IsKept nodes old k → IsKept nodes new k
+stays-kept nodes InQuestion old new k b (c, at, shows) = (c, b.stays k c at, shows)
+
+-- the operands of a node that names nodes below n are below n
+pub operand-below : (n k : ℕ) (m : Node) → NamesBelow n m → IsOperand k m → k < n
+operand-below n k (node.Half o c) below is = absurd is
+operand-below n k node.Empty below is = absurd is
+operand-below n k node.Full below is = absurd is
+operand-below n k (node.And i j) below is = elim is [ inl e ↦ rw e below.0 | inr e ↦ rw e below.1 ]
+operand-below n k (node.Or i j) below is = elim is [ inl e ↦ rw e below.0 | inr e ↦ rw e below.1 ]
+operand-below n k (node.Diff i j) below is = elim is [ inl e ↦ rw e below.0 | inr e ↦ rw e below.1 ]
+operand-below n k (node.Xor i j) below is = elim is [ inl e ↦ rw e below.0 | inr e ↦ rw e below.1 ]
+operand-below n k (node.Not i) below is = rw is below
+operand-below n k (node.Int i) below is = rw is below
+operand-below n k (node.Cl i) below is = rw is below
+operand-below n k (node.Bd i) below is = rw is below
+operand-below n k (node.Reg i) below is = rw is below
+
+-- the others are kept that a later command looks at
+pub kept-less : (nodes : List Node) (list : List (Option Complex)) (uses : List ℕ) (n k now : ℕ) → slice_index uses n ≤ now → now < slice_index uses k → IsKept nodes list k → IsKept nodes (slice_set list n None) k
+kept-less nodes list uses n k now done later (c, at, shows) = elim (cases_eq k n) [
+  | inl e ↦ let same : slice_index uses k ≡ slice_index uses n = ap (slice_index uses) e in absurd (omega arith)
+  | inr other ↦ (c, get_set_other list n k None other ∙ at, shows)
+]
+
+pub gone-here : (list : List (Option Complex)) (n k : ℕ) → n < length list → Some n ≡ Some k → IsGone (slice_set list n None) k
+gone-here list n k within e = let same : n ≡ k = cc in subst (IsGone (slice_set list n None)) same (get_set_here list n None within)
+
+pub gone-stays : (list : List (Option Complex)) (n k : ℕ) → n < length list → IsGone list k → IsGone (slice_set list n None) k
+gone-stays list n k within gone = elim (cases_eq k n) [
+  | inl e ↦ subst (IsGone (slice_set list n None)) (sym e) (get_set_here list n None within)
+  | inr other ↦ get_set_other list n k None other ∙ gone
+]
+
+-- whether a complex is there tells it
+pub there-of : (o : Option (Option Complex)) (x : Option Complex) → o ≡ Some x → is_some x ≡ true → (c : Complex) × (o ≡ Some (Some c))
+there-of o None e is = absurd (let f : false ≡ true = is in cc)
+there-of o (Some c) e is = (c, e)
+
+pub none-of : (o : Option (Option Complex)) (x : Option Complex) → o ≡ Some x → is_some x ≡ false → o ≡ Some None
+none-of o None e is = e
+none-of o (Some c) e is = absurd (let f : true ≡ false = is in cc)
+
+-- the turned complex of the one that is lent
+pub turned-made : {E : Type 0} (r : Result Complex E) (operation : Operation) (t i : ℕ) (first second : Option Complex) (a : Complex) → operation ≡ Turned t i → first ≡ Some a
+    → IfOk r (λ c. (s : Set) → ShowsSet s a → ShowsSet (turned_set t s) c) → IfOk r (λ c. (ss : List Set) → AreLent ss operation first second → ShowsSet (set_by ss operation) c)
+turned-made r _ t i first second a e f shows = rw e (ok-then r _ _ (λ c h ss lent. h (operand ss i) (subst (IsLent ss (Some i)) f lent.0)) shows)
+
+-- the complexes of both operands are lent
+pub both-lent : (ss : List Set) (op : Operation) (first second : Option ℕ) (a b : Option Complex) → first ≡ first_operand op → second ≡ second_operand op → IsLent ss first a → IsLent ss second b → AreLent ss op a b
+both-lent ss op first second a b e f p q = (subst (λ z. IsLent ss z a) e p, subst (λ z. IsLent ss z b) f q)

@@ -7,6 +7,7 @@ use Rattle.nef_space.specs.Local.{Joined, SameSet}
 use Rattle.nef_space.specs.Place.{Place, InFrame}
 use Rattle.nef_space.specs.Sets.{Set}
 use Rattle.nef_io.specs.Bytes.{Rose, Grows, GrowsWithin}
+use Rattle.nef_core.specs.declared.how.TextVersion.{TextVersion}
 use Rattle.nef_expr.specs.declared.nodes.Node.{Node}
 use Rattle.nef_script.specs.declared.script.Command.{Command}
 use Rattle.nef_shell.specs.declared.stop.Stop.{Stop}
@@ -15,10 +16,10 @@ use Rattle.nef_shell.specs.Stops.{MatchStop}
 use Rattle.nef_shell.specs.Output.{same_answer, joined_answer, IsSameAnswer, IsJoinedAnswer, IsPiece, IsOutput}
 
 -- one more command
-pub output-more : (nodes : List Node) (cs : List Command) (c : Command) (output piece : List ℕ) → IsOutput nodes cs output → IsPiece nodes c piece → IsOutput nodes (cs ++ c ∷ []) (output ++ piece)
-output-more nodes [] c output piece none is = (piece, [], is, refl, ap (λ z. z ++ piece) none ∙ sym (append-nil piece))
-output-more nodes (d ∷ cs) c output piece (first, rest, first_is, rest_is, whole) is =
-    (first, rest ++ piece, first_is, output-more nodes cs c rest piece rest_is is, ap (λ z. z ++ piece) whole ∙ append_assoc first rest piece)
+pub output-more : (version : TextVersion) (nodes : List Node) (cs : List Command) (c : Command) (output piece : List ℕ) → IsOutput version nodes cs output → IsPiece version nodes c piece → IsOutput version nodes (cs ++ c ∷ []) (output ++ piece)
+output-more version nodes [] c output piece none is = (piece, [], is, refl, ap (λ z. z ++ piece) none ∙ sym (append-nil piece))
+output-more version nodes (d ∷ cs) c output piece (first, rest, first_is, rest_is, whole) is =
+    (first, rest ++ piece, first_is, output-more version nodes cs c rest piece rest_is is, ap (λ z. z ++ piece) whole ∙ append_assoc first rest piece)
 
 pub grows-more : (a b c : Option (List ℕ)) (xs ys : List ℕ) → Grows a b xs → Grows b c ys → Grows a c (xs ++ ys)
 grows-more a b None xs ys h k = tt
@@ -36,21 +37,21 @@ pub grows_within-all : (a b : Option (List ℕ)) (xs : List ℕ) → Grows a b x
 grows_within-all a b xs h = (length xs, subst (λ z. Grows a b z) (sym (take-length xs)) h)
 
 -- the output of the commands so far, and of one more
-pub output-next : (nodes : List Node) (cs : List Command) (i : ℕ) (c : Command) (output piece : List ℕ) → i < length cs → c ≡ get_or cs i c → IsOutput nodes (take i cs) output → IsPiece nodes c piece → IsOutput nodes (take (i + 1) cs) (output ++ piece)
-output-next nodes cs i c output piece within at so_far is =
+pub output-next : (version : TextVersion) (nodes : List Node) (cs : List Command) (i : ℕ) (c : Command) (output piece : List ℕ) → i < length cs → c ≡ get_or cs i c → IsOutput version nodes (take i cs) output → IsPiece version nodes c piece → IsOutput version nodes (take (i + 1) cs) (output ++ piece)
+output-next version nodes cs i c output piece within at so_far is =
     let next : take (i + 1) cs ≡ take i cs ++ c ∷ [] = take_more cs i c within ∙ ap (λ z. take i cs ++ z ∷ []) (sym at) in
-    subst (λ z. IsOutput nodes z (output ++ piece)) (sym next) (output-more nodes (take i cs) c output piece so_far is)
+    subst (λ z. IsOutput version nodes z (output ++ piece)) (sym next) (output-more version nodes (take i cs) c output piece so_far is)
 
 -- a front of the output of some number of the first commands
-abbrev pub FrontOf : List Node → List Command → Option (List ℕ) → Option (List ℕ) → Type 0
-FrontOf nodes cs before after = (count : ℕ) × (output : List ℕ) × IsOutput nodes (take count cs) output × GrowsWithin before after output
+abbrev pub FrontOf : TextVersion → List Node → List Command → Option (List ℕ) → Option (List ℕ) → Type 0
+FrontOf version nodes cs before after = (count : ℕ) × (output : List ℕ) × IsOutput version nodes (take count cs) output × GrowsWithin before after output
 
 -- what was written where the work stopped at a command
-pub front-at : (stop : Stop) (nodes : List Node) (cs : List Command) (i : ℕ) (c : Command) (first before after : Option (List ℕ)) (g g' : ℕ) (output : List ℕ) → i < length cs → c ≡ get_or cs i c → IsOutput nodes (take i cs) output → Grows first before output
-    → MatchStop stop (Rose g g' × ((piece : List ℕ) × IsPiece nodes c piece × GrowsWithin before after piece)) (after ≡ before) → FrontOf nodes cs first after
-front-at WriteFault nodes cs i c first before after g g' output within at so_far grown (rose, (piece, is, part)) =
-    (i + 1, output ++ piece, output-next nodes cs i c output piece within at so_far is, grows_within-more first before after output piece grown part)
-front-at OutOfMemory nodes cs i c first before after g g' output within at so_far grown same =
+pub front-at : (version : TextVersion) (stop : Stop) (nodes : List Node) (cs : List Command) (i : ℕ) (c : Command) (first before after : Option (List ℕ)) (g g' : ℕ) (output : List ℕ) → i < length cs → c ≡ get_or cs i c → IsOutput version nodes (take i cs) output → Grows first before output
+    → MatchStop stop (Rose g g' × ((piece : List ℕ) × IsPiece version nodes c piece × GrowsWithin before after piece)) (after ≡ before) → FrontOf version nodes cs first after
+front-at version WriteFault nodes cs i c first before after g g' output within at so_far grown (rose, (piece, is, part)) =
+    (i + 1, output ++ piece, output-next version nodes cs i c output piece within at so_far is, grows_within-more first before after output piece grown part)
+front-at version OutOfMemory nodes cs i c first before after g g' output within at so_far grown same =
     (i, output, so_far, grows_within-all first after output (subst (λ z. Grows first z output) (sym same) grown))
 
 pub rose-from : (first old new : ℕ) → first ≤ old → Rose old new → Rose first new

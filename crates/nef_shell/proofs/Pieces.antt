@@ -13,13 +13,15 @@ use Rattle.nef_ray.proofs.OneEnd.{one-end}
 use Rattle.nef_complex.specs.declared.complex.Vertex.{Vertex}
 use Rattle.nef_complex.specs.declared.complex.Edge.{Edge}
 use Rattle.nef_unique.proofs.Vertices.{set-vertices}
+use Rattle.nef_core.specs.declared.how.TextVersion.{TextVersion}
+use Rattle.nef_core.specs.declared.how.TextVersion.TheVariants.{One}
 use Rattle.nef_parts.specs.declared.parts.Parts.{Parts}
 use Rattle.nef_parts.specs.Text.{line, numbers, text}
 use Rattle.law_text.proofs.SameText.{same-set_text, text-set, spelled-holds}
 use Rattle.nef_expr.specs.declared.nodes.Node.{Node}
 use Rattle.nef_expr.specs.Nodes.{node_set}
 use Rattle.nef_script.specs.declared.script.Command.{Command}
-use Rattle.nef_script.specs.declared.script.Command.TheVariants.{Bind, Has, Joined, Ray, Same, Count, Print}
+use Rattle.nef_script.specs.declared.script.Command.TheVariants.{Bind, Turn, Has, Joined, Ray, Same, Count, Print}
 use Rattle.nef_shell.specs.Output.{IsWrittenOf, IsSameAnswer, IsJoinedAnswer, IsRayAnswer, IsPiece, IsOutput, change_word, count_line, framed, printed, line_end, spaced, answer_of}
 use Rattle.nef_shell.specs.Prints.{IsPrinted, AreTextsCompared, AreTextsMeant}
 use Rattle.nef_shell.specs.Written.{TextTells, CountTells}
@@ -28,16 +30,16 @@ use Rattle.law_complex.proofs.FacetNames.{facet-of}
 use Rattle.law_complex.proofs.Skeletons.{belongs-holds}
 use Rattle.nef_locate.proofs.Cones.{facet-at}
 
-pub same-texts : (s t : Set) (x y : List ℕ) → IsWrittenOf s text x → IsWrittenOf t text y → (x ≡ y) ↔ SameSet s t
-same-texts s t x y (c, p, S, P, e) (d, q, T, Q, f) =
-    (λ g. text-set s t c d p q S T (sym e ∙ g ∙ f), λ h. e ∙ (same-set_text s t c d p q S T h P Q).1 ∙ sym f)
+pub same-texts : (version : TextVersion) (s t : Set) (x y : List ℕ) → IsWrittenOf s (text version) x → IsWrittenOf t (text version) y → (x ≡ y) ↔ SameSet s t
+same-texts version s t x y (c, p, S, P, e) (d, q, T, Q, f) =
+    (λ g. text-set version s t c d p q S T (sym e ∙ g ∙ f), λ h. e ∙ (same-set_text version s t c d p q S T h P Q).1 ∙ sym f)
 
 -- the text of a set spells the complex that shows it, and tells which points belong to it
-pub text-tells : (s : Set) (x : List ℕ) → IsWrittenOf s text x → TextTells s x
-text-tells s x (c, p, S, P, e) =
+pub text-tells : (version : TextVersion) (s : Set) (x : List ℕ) → IsWrittenOf s (text version) x → TextTells version s x
+text-tells version s x (c, p, S, P, e) =
     record {
       spelled = (c, (S.shows.edges, (p, P, e)));
-      holds = λ d y spells inside. spelled-holds (λ s C p S inside. belongs-holds s C S (facet-at s C S) (facet-of s C S) p inside) s c d p x y S e spells inside;
+      holds = λ d y spells inside. spelled-holds (λ s C p S inside. belongs-holds s C S (facet-at s C S) (facet-of s C S) p inside) version s c d p x y S e spells inside;
     }
 
 -- the counted numbers are those of components
@@ -56,16 +58,16 @@ count-tells s x (c, p, S, P, e) =
       three_directions = counted.3;
     }
 
-pub printed-one : (s t : Set) (name x y : List ℕ) → SameSet s t → IsWrittenOf s (printed name) x → IsWrittenOf t (printed name) y → x ≡ y
-printed-one s t name x y same (c, p, S, P, e) (d, q, T, Q, f) =
-    e ∙ ap (λ (r : List ℕ). codes "polyhedron " ++ name ++ line_end ++ r ++ codes "end" ++ line_end) (same-set_text s t c d p q S T same P Q).1 ∙ sym f
+pub printed-one : (version : TextVersion) (s t : Set) (name x y : List ℕ) → SameSet s t → IsWrittenOf s (printed version name) x → IsWrittenOf t (printed version name) y → x ≡ y
+printed-one version s t name x y same (c, p, S, P, e) (d, q, T, Q, f) =
+    e ∙ ap (λ (r : List ℕ). codes "polyhedron " ++ name ++ line_end ++ r ++ codes "end" ++ line_end) (same-set_text version s t c d p q S T same P Q).1 ∙ sym f
 
 pub counted-one : (s t : Set) (x y : List ℕ) → SameSet s t → IsWrittenOf s count_line x → IsWrittenOf t count_line y → x ≡ y
 counted-one s t x y same (c, p, S, P, e) (d, q, T, Q, f) =
     let v = set-vertices s t c d S T same in
     e ∙ ap (λ (vs : List Vertex). line (numbers (length vs ∷ length c.edges ∷ length p.facets ∷ length p.volumes ∷ []))) v.0
     ∙ ap (λ (es : List Edge). line (numbers (length d.vertices ∷ length es ∷ length p.facets ∷ length p.volumes ∷ []))) v.1
-    ∙ ap (λ (r : Parts). line (numbers (length d.vertices ∷ length d.edges ∷ length r.facets ∷ length r.volumes ∷ []))) (same-set_text s t c d p q S T same P Q).0 ∙ sym f
+    ∙ ap (λ (r : Parts). line (numbers (length d.vertices ∷ length d.edges ∷ length r.facets ∷ length r.volumes ∷ []))) (same-set_text One s t c d p q S T same P Q).0 ∙ sym f
 
 same-itself : (s : Set) → SameSet s s
 same-itself s p l = (λ h. h, λ h. h)
@@ -98,35 +100,36 @@ ended-one s p d x y (IsRayAnswer.ends P a h e) (IsRayAnswer.ends P' b k f) =
     ∙ ap (λ (r : Point). change_word b.after ++ spaced r.x ++ spaced r.y ++ spaced r.z ++ spaced r.w ++ answer_of a.label) (same_places_equal a.point b.point one.0)
     ∙ ap (λ l. change_word b.after ++ spaced b.point.x ++ spaced b.point.y ++ spaced b.point.z ++ spaced b.point.w ++ answer_of l) one.2 ∙ sym f
 
-piece-one : (nodes : List Node) (c : Command) (x y : List ℕ) → IsPiece nodes c x → IsPiece nodes c y → x ≡ y
-piece-one nodes (Bind _ k) x y a b = a ∙ sym b
-piece-one nodes (Has _ k p) x y (l, has, e) (m, also, f) = e ∙ ap answer_of (label-one (node_set nodes k) (place_of p) l m has also) ∙ sym f
-piece-one nodes (Joined _ k p q) x y a b = joined-one (node_set nodes k) (place_of p) (place_of q) x y a b
-piece-one nodes (Ray _ k p d) x y a b = ended-one (node_set nodes k) (place_of p) (vector_of d) x y a b
-piece-one nodes (Same _ i j) x y a b = answered-one (node_set nodes i) (node_set nodes j) x y a b
-piece-one nodes (Count _ k) x y a b = counted-one (node_set nodes k) (node_set nodes k) x y (same-itself (node_set nodes k)) a b
-piece-one nodes (Print _ k name) x y a b = printed-one (node_set nodes k) (node_set nodes k) name x y (same-itself (node_set nodes k)) a b
+piece-one : (version : TextVersion) (nodes : List Node) (c : Command) (x y : List ℕ) → IsPiece version nodes c x → IsPiece version nodes c y → x ≡ y
+piece-one version nodes (Bind _ k) x y a b = a ∙ sym b
+piece-one version nodes (Turn _ k i t) x y a b = a ∙ sym b
+piece-one version nodes (Has _ k p) x y (l, has, e) (m, also, f) = e ∙ ap answer_of (label-one (node_set nodes k) (place_of p) l m has also) ∙ sym f
+piece-one version nodes (Joined _ k p q) x y a b = joined-one (node_set nodes k) (place_of p) (place_of q) x y a b
+piece-one version nodes (Ray _ k p d) x y a b = ended-one (node_set nodes k) (place_of p) (vector_of d) x y a b
+piece-one version nodes (Same _ i j) x y a b = answered-one (node_set nodes i) (node_set nodes j) x y a b
+piece-one version nodes (Count _ k) x y a b = counted-one (node_set nodes k) (node_set nodes k) x y (same-itself (node_set nodes k)) a b
+piece-one version nodes (Print _ k name) x y a b = printed-one version (node_set nodes k) (node_set nodes k) name x y (same-itself (node_set nodes k)) a b
 
-output-one : (nodes : List Node) (cs : List Command) (x y : List ℕ) → IsOutput nodes cs x → IsOutput nodes cs y → x ≡ y
-output-one nodes [] x y a b = a ∙ sym b
-output-one nodes (c ∷ cs) x y (u, v, first, rest, whole) (u', v', first', rest', whole') =
-    whole ∙ ap (λ z. z ++ v) (piece-one nodes c u u' first first') ∙ ap (λ z. u' ++ z) (output-one nodes cs v v' rest rest') ∙ sym whole'
+output-one : (version : TextVersion) (nodes : List Node) (cs : List Command) (x y : List ℕ) → IsOutput version nodes cs x → IsOutput version nodes cs y → x ≡ y
+output-one version nodes [] x y a b = a ∙ sym b
+output-one version nodes (c ∷ cs) x y (u, v, first, rest, whole) (u', v', first', rest', whole') =
+    whole ∙ ap (λ z. z ++ v) (piece-one version nodes c u u' first first') ∙ ap (λ z. u' ++ z) (output-one version nodes cs v v' rest rest') ∙ sym whole'
 
 -- the piece of a command among others
-record HasPiece (nodes : List Node) (front : List Command) (c : Command) (back : List Command) (output : List ℕ) : Type 0 where
+record HasPiece (version : TextVersion) (nodes : List Node) (front : List Command) (c : Command) (back : List Command) (output : List ℕ) : Type 0 where
   before : List ℕ
   piece : List ℕ
   after : List ℕ
-  first : IsOutput nodes front before
-  is : IsPiece nodes c piece
-  last : IsOutput nodes back after
+  first : IsOutput version nodes front before
+  is : IsPiece version nodes c piece
+  last : IsOutput version nodes back after
   whole : output ≡ before ++ piece ++ after
 
-output-split : (nodes : List Node) (front : List Command) (c : Command) (back : List Command) (output : List ℕ) → IsOutput nodes (front ++ c ∷ back) output → HasPiece nodes front c back output
-output-split nodes [] c back output (u, v, first, rest, whole) =
+output-split : (version : TextVersion) (nodes : List Node) (front : List Command) (c : Command) (back : List Command) (output : List ℕ) → IsOutput version nodes (front ++ c ∷ back) output → HasPiece version nodes front c back output
+output-split version nodes [] c back output (u, v, first, rest, whole) =
     record { before = []; piece = u; after = v; first = refl; is = first; last = rest; whole = whole }
-output-split nodes (d ∷ front) c back output (u, v, first, rest, whole) =
-    let h = output-split nodes front c back v rest in
+output-split version nodes (d ∷ front) c back output (u, v, first, rest, whole) =
+    let h = output-split version nodes front c back v rest in
     record {
       before = u ++ h.before;
       piece = h.piece;
@@ -145,24 +148,24 @@ between-lines name x y e =
     append_cancel_left head x y (append_cancel_right (head ++ x) (head ++ y) (codes "end") before_end)
 
 -- the text in the place of a command that prints is the text of its set
-printed-written : (nodes : List Node) (commands : List Command) (output : List ℕ) (i k : ℕ) (x : List ℕ) → IsOutput nodes commands output → IsPrinted nodes commands output i k x → IsWrittenOf (node_set nodes k) text x
-printed-written nodes commands output i k x is p =
-    let h = output-split nodes p.front (Print p.line k p.name) p.back output (subst (λ z. IsOutput nodes z output) p.command is) in
+printed-written : (version : TextVersion) (nodes : List Node) (commands : List Command) (output : List ℕ) (i k : ℕ) (x : List ℕ) → IsOutput version nodes commands output → IsPrinted version nodes commands output i k x → IsWrittenOf (node_set nodes k) (text version) x
+printed-written version nodes commands output i k x is p =
+    let h = output-split version nodes p.front (Print p.line k p.name) p.back output (subst (λ z. IsOutput version nodes z output) p.command is) in
     let (c, q, S, Q, e) = h.is in
-    let before = output-one nodes p.front p.before h.before p.first h.first in
-    let after = output-one nodes p.back p.after h.after p.last h.last in
+    let before = output-one version nodes p.front p.before h.before p.first h.first in
+    let after = output-one version nodes p.back p.after h.after p.last h.last in
     let whole : p.before ++ framed p.name x ++ p.after ≡ p.before ++ h.piece ++ p.after =
     sym p.whole ∙ h.whole ∙ ap (λ z. z ++ h.piece ++ h.after) (sym before) ∙ ap (λ z. p.before ++ h.piece ++ z) (sym after) in
     let piece = append_cancel_left p.before (framed p.name x) h.piece (append_cancel_right (p.before ++ framed p.name x) (p.before ++ h.piece) p.after whole) in
-    (c, q, S, Q, between-lines p.name x (text c q) (piece ∙ e))
+    (c, q, S, Q, between-lines p.name x (text version c q) (piece ∙ e))
 
 -- a command that prints has its text
-has-printed : (nodes : List Node) (commands : List Command) (output : List ℕ) → IsOutput nodes commands output → (front back : List Command) (number k : ℕ) (name : List ℕ) → commands ≡ front ++ Print number k name ∷ back
-    → (x : List ℕ) × IsPrinted nodes commands output (length front) k x
-has-printed nodes commands output is front back number k name at =
-    let h = output-split nodes front (Print number k name) back output (subst (λ z. IsOutput nodes z output) at is) in
+has-printed : (version : TextVersion) (nodes : List Node) (commands : List Command) (output : List ℕ) → IsOutput version nodes commands output → (front back : List Command) (number k : ℕ) (name : List ℕ) → commands ≡ front ++ Print number k name ∷ back
+    → (x : List ℕ) × IsPrinted version nodes commands output (length front) k x
+has-printed version nodes commands output is front back number k name at =
+    let h = output-split version nodes front (Print number k name) back output (subst (λ z. IsOutput version nodes z output) at is) in
     let (c, q, S, Q, e) = h.is in (
-      text c q,
+      text version c q,
       record {
         front = front;
         back = back;
@@ -178,13 +181,13 @@ has-printed nodes commands output is front back number k name at =
       },
     )
 
-pub texts-compared : (nodes : List Node) (commands : List Command) (output : List ℕ) → IsOutput nodes commands output → AreTextsCompared nodes commands output
-texts-compared nodes commands output is =
+pub texts-compared : (version : TextVersion) (nodes : List Node) (commands : List Command) (output : List ℕ) → IsOutput version nodes commands output → AreTextsCompared version nodes commands output
+texts-compared version nodes commands output is =
     record {
-      printed = has-printed nodes commands output is;
+      printed = has-printed version nodes commands output is;
       compared = λ i j k l x y p q.
-          same-texts (node_set nodes k) (node_set nodes l) x y (printed-written nodes commands output i k x is p) (printed-written nodes commands output j l y is q);
+          same-texts version (node_set nodes k) (node_set nodes l) x y (printed-written version nodes commands output i k x is p) (printed-written version nodes commands output j l y is q);
     }
 
-pub texts-meant : (nodes : List Node) (commands : List Command) (output : List ℕ) → IsOutput nodes commands output → AreTextsMeant nodes commands output
-texts-meant nodes commands output is i k x p = text-tells (node_set nodes k) x (printed-written nodes commands output i k x is p)
+pub texts-meant : (version : TextVersion) (nodes : List Node) (commands : List Command) (output : List ℕ) → IsOutput version nodes commands output → AreTextsMeant version nodes commands output
+texts-meant version nodes commands output is i k x p = text-tells version (node_set nodes k) x (printed-written version nodes commands output i k x is p)

@@ -13,15 +13,18 @@ use Rattle.nef_shell.specs.declared.status.Status.TheVariants.{Done, Refused, Wo
 use Rattle.nef_shell.specs.Status.{MatchStatus, IfDone, IfRefused, IfWords, IfReadFault, IfWriteFault, IfOutOfMemory, EndsByItself, EndsDone, EndsRefused}
 use Rattle.nef_shell.specs.Traffic.{Traffic, IsUnread, IsQuiet}
 use Rattle.nef_shell.specs.Output.{refusal_line, words_line}
-use Rattle.nef_shell.specs.Answers.{AreAccepted, GiveStairs, IsScriptFor, IsRead, HasOutput, HasRefusal, HasFront, HasDefinedFront, HasEnded}
+use Rattle.nef_shell.specs.Answers.{AreAccepted, GiveStairs, GiveText, IsScriptFor, IsRead, HasOutput, HasRefusal, HasFront, HasDefinedFront, HasEnded}
 use Rattle.nef_shell.specs.Ended.{RunEnds}
 use Rattle.nef_script.proofs.RefusalLaws.{one_refusal, never_both}
 use Rattle.nef_shell.specs.Prints.{AreTextsCompared, AreTextsMeant}
 use Rattle.nef_shell.proofs.Pieces.{texts-compared, texts-meant}
 
--- what the words choose tells what they give `--stairs`
+-- what the words choose tells what they give `--stairs`, and which version of the text
 pub stairs-given : (words : List (List ℕ)) (o : Options) → options_of words ≡ Some o → GiveStairs words o.stairs
 stairs-given words o is = ap (option_map (λ options. options.stairs)) is
+
+pub text-given : (words : List (List ℕ)) (o : Options) → options_of words ≡ Some o → GiveText words o.text
+text-given words o is = ap (option_map (λ options. options.text)) is
 
 -- and they give it one value
 stairs-one : (words : List (List ℕ)) (s t : Option ℕ) → GiveStairs words s → GiveStairs words t → s ≡ t
@@ -204,16 +207,16 @@ run-ends words s io o is ended unread =
     out_of_memory WriteFault facts = tt
     out_of_memory OutOfMemory facts = elim facts [ inl same ↦ inl same | inr front ↦ inr (HasDefinedFront.of_script accepted front) ]
 
-    compared : (s : Status) → IfDone s ((h : HasOutput words io) → AreTextsCompared h.nodes h.commands h.output)
-    compared Done = λ h. texts-compared h.nodes h.commands h.output h.is_output
+    compared : (s : Status) → IfDone s ((h : HasOutput words io) → AreTextsCompared h.version h.nodes h.commands h.output)
+    compared Done = λ h. texts-compared h.version h.nodes h.commands h.output h.is_output
     compared (Refused l k) = tt
     compared Words = tt
     compared ReadFault = tt
     compared WriteFault = tt
     compared OutOfMemory = tt
 
-    meant : (s : Status) → IfDone s ((h : HasOutput words io) → AreTextsMeant h.nodes h.commands h.output)
-    meant Done = λ h. texts-meant h.nodes h.commands h.output h.is_output
+    meant : (s : Status) → IfDone s ((h : HasOutput words io) → AreTextsMeant h.version h.nodes h.commands h.output)
+    meant Done = λ h. texts-meant h.version h.nodes h.commands h.output h.is_output
     meant (Refused l k) = tt
     meant Words = tt
     meant ReadFault = tt

@@ -2,6 +2,7 @@
 use Rattle.std.specs.Prelude.{◌≡◌, ℕ, ◌+◌, List, Option, Some, None, IsSome, option_map, take, length, ◌⊎◌}
 use Rattle.std.specs.Io.KnownBytes.{Consumes, IsAtEnd}
 use Rattle.nef_io.specs.Bytes.{Rose, Grows, GrowsWithin}
+use Rattle.nef_core.specs.declared.how.TextVersion.{TextVersion}
 use Rattle.nef_words.specs.Chosen.{options_of}
 use Rattle.nef_expr.specs.declared.nodes.Node.{Node}
 use Rattle.nef_script.specs.declared.fault.ScriptKind.{ScriptKind}
@@ -21,6 +22,10 @@ AreAccepted words = IsSome (options_of words)
 -- the words are accepted, and this is the value that they give `--stairs`, or that they give none
 abbrev pub GiveStairs : List (List ℕ) → Option ℕ → Type 0
 GiveStairs words stairs = option_map (λ options. options.stairs) (options_of words) ≡ Some stairs
+
+-- the words are accepted, and this is the version of the text that they choose
+abbrev pub GiveText : List (List ℕ) → TextVersion → Type 0
+GiveText words version = option_map (λ options. options.text) (options_of words) ≡ Some version
 
 -- the bytes are the script that is run: all that the source still had, which is then at its end; or, for a value of `--stairs`, the generated script, and the source
 -- has what it had
@@ -42,15 +47,17 @@ pub record IsRead (old new : Option (List ℕ)) (bytes : List ℕ) : Type 0 wher
   pub taken : Consumes old new bytes
   pub whole : IsAtEnd new ⊎ (length bytes ≡ script_limit + 1)
 
--- the whole output of the script that the words have run
+-- the whole output of the script that the words have run, with texts of the version that they choose
 pub record HasOutput (words : List (List ℕ)) (io : Traffic) : Type 0 where
   pub bytes : List ℕ
   pub nodes : List Node
   pub commands : List Command
   pub output : List ℕ
+  pub version : TextVersion
+  pub chosen : GiveText words version
   pub script : IsScript words io bytes
   pub worked : IsWorked bytes nodes commands
-  pub is_output : IsOutput nodes commands output
+  pub is_output : IsOutput version nodes commands output
   pub written : Grows io.before.written io.after.written output
 
 -- the line of the refusal of the script that the source had
@@ -63,7 +70,7 @@ pub record HasRefusal (io : Traffic) (line : ℕ) (kind : ScriptKind) : Type 0 w
 -- some front of what the script defines: of the line of its refusal, where the source had it, or of the output of some number of its first commands
 pub data HasFront (words : List (List ℕ)) (io : Traffic) : Type 0 where
   of_refusal : (bytes : List ℕ) (line : ℕ) (kind : ScriptKind) → GiveStairs words None → IsRead io.before.rest io.after.rest bytes → FirstRefusal bytes line kind → GrowsWithin io.before.written io.after.written (refusal_line line kind) → HasFront words io
-  of_output : (bytes : List ℕ) (nodes : List Node) (commands : List Command) (count : ℕ) (output : List ℕ) → IsScript words io bytes → IsWorked bytes nodes commands → IsOutput nodes (take count commands) output → GrowsWithin io.before.written io.after.written output → HasFront words io
+  of_output : (bytes : List ℕ) (nodes : List Node) (commands : List Command) (count : ℕ) (output : List ℕ) (version : TextVersion) → GiveText words version → IsScript words io bytes → IsWorked bytes nodes commands → IsOutput version nodes (take count commands) output → GrowsWithin io.before.written io.after.written output → HasFront words io
 
 -- some front of what the words and the script define: of the line of refused words, or of what the script defines
 pub data HasDefinedFront (words : List (List ℕ)) (io : Traffic) : Type 0 where

@@ -20,8 +20,8 @@ pub record RunEnds (words : List (List ℕ)) (status : Status) (io : Traffic) : 
   pub out_of_memory : IfOutOfMemory status ((io.after.written ≡ io.before.written) ⊎ HasDefinedFront words io)
   -- of the output that `done` speaks of: of any two texts that are printed, they are equal exactly where their sets are the same; and a point of the frame belongs to what a text
   -- spells exactly where the set holds
-  pub compared : IfDone status ((h : HasOutput words io) → AreTextsCompared h.nodes h.commands h.output)
-  pub meant : IfDone status ((h : HasOutput words io) → AreTextsMeant h.nodes h.commands h.output)
+  pub compared : IfDone status ((h : HasOutput words io) → AreTextsCompared h.version h.nodes h.commands h.output)
+  pub meant : IfDone status ((h : HasOutput words io) → AreTextsMeant h.version h.nodes h.commands h.output)
   -- the source is looked at only where the words are accepted and give no `--stairs`
   pub unread : (GiveStairs words None → ⊥) → IsUnread io
   -- no count rises in a run that is done or that refuses

@@ -10,3 +10,4 @@ pub mod Commands
 pub mod Operations
 pub mod Stops
 pub mod NoScripts
+pub mod Bindings

@@ -1,16 +1,16 @@
 -- The sets of operations, and the sets that are kept.
-use Rattle.std.specs.Prelude.{◌≡◌, ℕ, ◌+◌, ◌<◌, ◌≤◌, List, Option, Some, None, slice_get, slice_index, length}
+use Rattle.std.specs.Prelude.{◌≡◌, ◌⊎◌, ℕ, ◌<◌, List, Option, Some, None, slice_get, slice_index, length}
 use Rattle.nef_space.specs.Sets.{Set}
 use Rattle.nef_geo.specs.Shapes.{given_form}
+use Rattle.law_turns.specs.Turned.{turned_set}
 use Rattle.nef_combine.specs.Sets.{op_set}
 use Rattle.nef_complex.specs.declared.complex.Complex.{Complex}
 use Rattle.nef_complex.specs.Complexes.{ShowsSet}
 use Rattle.nef_expr.specs.declared.nodes.Node.{Node}
 use Rattle.nef_expr.specs.Nodes.{operand, node_set}
 use Rattle.nef_ops.specs.Nodes.{constant_set, unary_set}
-use Rattle.nef_shell.specs.Commands.{IsOperand}
 use Rattle.nef_shell.specs.declared.operation.Operation.{Operation}
-use Rattle.nef_shell.specs.declared.operation.Operation.TheVariants.{Constant, Half, Unary, Binary}
+use Rattle.nef_shell.specs.declared.operation.Operation.TheVariants.{Constant, Half, Unary, Binary, Turned}
 
 -- what the operation makes of the sets of the first nodes
 abbrev pub set_by : List Set → Operation → Set
@@ -18,19 +18,54 @@ set_by ss (Constant full) = constant_set full
 set_by ss (Half o c) = Set.half (given_form o) c
 set_by ss (Unary op i) = unary_set op (operand ss i)
 set_by ss (Binary op i j) = op_set op (operand ss i) (operand ss j)
+set_by ss (Turned t i) = turned_set t (operand ss i)
 
--- the operation's operands are the node's
-abbrev pub HasOperands : Node → Operation → Type 0
-HasOperands n (Constant full) = Unit {0}
-HasOperands n (Half o c) = Unit {0}
-HasOperands n (Unary op i) = IsOperand i n
-HasOperands n (Binary op i j) = IsOperand i n × IsOperand j n
+-- the numbers of its operands
+abbrev pub first_operand : Operation → Option ℕ
+first_operand (Constant full) = None
+first_operand (Half o c) = None
+first_operand (Unary op i) = Some i
+first_operand (Binary op i j) = Some i
+first_operand (Turned t i) = Some i
+
+abbrev pub second_operand : Operation → Option ℕ
+second_operand (Constant full) = None
+second_operand (Half o c) = None
+second_operand (Unary op i) = None
+second_operand (Binary op i j) = Some j
+second_operand (Turned t i) = None
+
+-- a turn is one of the 48
+abbrev pub HasTurn : Operation → Type 0
+HasTurn (Constant full) = Unit {0}
+HasTurn (Half o c) = Unit {0}
+HasTurn (Unary op i) = Unit {0}
+HasTurn (Binary op i j) = Unit {0}
+HasTurn (Turned t i) = t < 48
+
+-- node k is an operand of the operation
+abbrev pub HasOperand : Operation → ℕ → Type 0
+HasOperand op k = (first_operand op ≡ Some k) ⊎ (second_operand op ≡ Some k)
+
+-- the complex is there if there is an operand, and shows the operand's set
+abbrev pub IsLent : List Set → Option ℕ → Option Complex → Type 0
+IsLent ss None c = Unit {0}
+IsLent ss (Some i) None = ⊥
+IsLent ss (Some i) (Some c) = ShowsSet (operand ss i) c
+
+-- so are those of the operation's operands
+abbrev pub AreLent : List Set → Operation → Option Complex → Option Complex → Type 0
+AreLent ss op c d = IsLent ss (first_operand op) c × IsLent ss (second_operand op) d
+
+-- each complex that is there shows the set of its node
+abbrev pub AreShown : List Node → List (Option Complex) → Type 0
+AreShown nodes list = (k : ℕ) (c : Complex) → slice_get list k ≡ Some (Some c) → ShowsSet (node_set nodes k) c
 
 -- the complex of node k is there, and shows the node's set
 abbrev pub IsKept : List Node → List (Option Complex) → ℕ → Type 0
 IsKept nodes list k = (c : Complex) × (slice_get list k ≡ Some (Some c)) × ShowsSet (node_set nodes k) c
 
--- the complex of node k was let go
+-- it isn't there: not yet, or no longer
 abbrev pub IsGone : List (Option Complex) → ℕ → Type 0
 IsGone list k = slice_get list k ≡ Some None
 
@@ -38,9 +73,9 @@ IsGone list k = slice_get list k ≡ Some None
 abbrev pub IsLean : List ℕ → ℕ → List (Option Complex) → Type 0
 IsLean uses n list = (k : ℕ) → k < length list → slice_index uses k < n → IsGone list k
 
--- n more nodes have their complexes, and so has each earlier one that had it; one that was let go stays away
-pub record IsGrown (nodes : List Node) (n : ℕ) (old new : List (Option Complex)) : Type 0 where
-  pub count : length new ≡ length old + n
-  pub earlier : (k : ℕ) → IsKept nodes old k → IsKept nodes new k
-  pub gone : (k : ℕ) → IsGone old k → IsGone new k
-  pub added : (k : ℕ) → length old ≤ k → k < length new → IsKept nodes new k
+-- the nodes in question have their complexes; each complex that was there stays, and no other is there
+pub record AreBound (nodes : List Node) (InQuestion : ℕ → Type 0) (old new : List (Option Complex)) : Type 0 where
+  pub count : length new ≡ length old
+  pub stays : (k : ℕ) (c : Complex) → slice_get old k ≡ Some (Some c) → slice_get new k ≡ Some (Some c)
+  pub gone : (k : ℕ) → IsGone old k → IsGone new k ⊎ InQuestion k
+  pub bound : (k : ℕ) → InQuestion k → IsKept nodes new k

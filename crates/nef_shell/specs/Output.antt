@@ -10,6 +10,7 @@ use Rattle.nef_space.specs.declared.label.Label.TheVariants.{Out, Not, In}
 use Rattle.nef_geo.specs.Shapes.{place_of, vector_of}
 use Rattle.nef_complex.specs.declared.complex.Complex.{Complex}
 use Rattle.nef_complex.specs.Complexes.{ShowsSet, complex_of}
+use Rattle.nef_core.specs.declared.how.TextVersion.{TextVersion}
 use Rattle.nef_parts.specs.declared.parts.Parts.{Parts}
 use Rattle.nef_parts.specs.Numbers.{IsParts}
 use Rattle.nef_parts.specs.Text.{line, numbers, counts, text}
@@ -19,7 +20,7 @@ use Rattle.nef_expr.specs.declared.nodes.Node.{Node}
 use Rattle.nef_expr.specs.Nodes.{node_set}
 use Rattle.nef_script.specs.declared.fault.ScriptKind.{ScriptKind}
 use Rattle.nef_script.specs.declared.script.Command.{Command}
-use Rattle.nef_script.specs.declared.script.Command.TheVariants.{Bind, Has, Joined, Ray, Same, Count, Print}
+use Rattle.nef_script.specs.declared.script.Command.TheVariants.{Bind, Turn, Has, Joined, Ray, Same, Count, Print}
 use Rattle.nef_script.specs.Texts.{kind_text}
 
 -- each line ends with LF
@@ -69,8 +70,8 @@ abbrev pub framed : List ℕ → List ℕ → List ℕ
 framed name x = codes "polyhedron " ++ name ++ line_end ++ x ++ codes "end" ++ line_end
 
 -- the text of a complex under its name
-abbrev pub printed : List ℕ → Complex → Parts → List ℕ
-printed name c p = framed name (text c p)
+abbrev pub printed : TextVersion → List ℕ → Complex → Parts → List ℕ
+printed version name c p = framed name (text version c p)
 
 -- the answer to whether s and t are one
 abbrev pub IsSameAnswer : Set → Set → List ℕ → Type 0
@@ -92,17 +93,18 @@ pub data IsRayAnswer (s : Set) (p : Place) (d : Vector) (piece : List ℕ) : Typ
 abbrev pub IsWrittenOf : Set → (Complex → Parts → List ℕ) → List ℕ → Type 0
 IsWrittenOf s written piece = (c : Complex) × (p : Parts) × ShowsSet s c × IsParts (complex_of c) p × (piece ≡ written c p)
 
--- what one command writes: nothing where it binds a name, and else the answer to what it asks
-abbrev pub IsPiece : List Node → Command → List ℕ → Type 0
-IsPiece nodes (Bind _ k) piece = piece ≡ []
-IsPiece nodes (Has _ k p) piece = (l : Label) × HasLabel (node_set nodes k) (place_of p) l × (piece ≡ answer_of l)
-IsPiece nodes (Joined _ k p q) piece = IsJoinedAnswer (node_set nodes k) (place_of p) (place_of q) piece
-IsPiece nodes (Ray _ k p d) piece = IsRayAnswer (node_set nodes k) (place_of p) (vector_of d) piece
-IsPiece nodes (Same _ i j) piece = IsSameAnswer (node_set nodes i) (node_set nodes j) piece
-IsPiece nodes (Count _ k) piece = IsWrittenOf (node_set nodes k) count_line piece
-IsPiece nodes (Print _ k name) piece = IsWrittenOf (node_set nodes k) (printed name) piece
+-- what one command writes, where texts are of this version: nothing where it binds a name, and else the answer to what it asks
+abbrev pub IsPiece : TextVersion → List Node → Command → List ℕ → Type 0
+IsPiece version nodes (Bind _ k) piece = piece ≡ []
+IsPiece version nodes (Turn _ k i t) piece = piece ≡ []
+IsPiece version nodes (Has _ k p) piece = (l : Label) × HasLabel (node_set nodes k) (place_of p) l × (piece ≡ answer_of l)
+IsPiece version nodes (Joined _ k p q) piece = IsJoinedAnswer (node_set nodes k) (place_of p) (place_of q) piece
+IsPiece version nodes (Ray _ k p d) piece = IsRayAnswer (node_set nodes k) (place_of p) (vector_of d) piece
+IsPiece version nodes (Same _ i j) piece = IsSameAnswer (node_set nodes i) (node_set nodes j) piece
+IsPiece version nodes (Count _ k) piece = IsWrittenOf (node_set nodes k) count_line piece
+IsPiece version nodes (Print _ k name) piece = IsWrittenOf (node_set nodes k) (printed version name) piece
 
 -- the pieces of the commands, in order
-abbrev pub IsOutput : List Node → List Command → List ℕ → Type 0
-IsOutput nodes [] output = output ≡ []
-IsOutput nodes (c ∷ cs) output = (piece : List ℕ) × (rest : List ℕ) × IsPiece nodes c piece × IsOutput nodes cs rest × (output ≡ piece ++ rest)
+abbrev pub IsOutput : TextVersion → List Node → List Command → List ℕ → Type 0
+IsOutput version nodes [] output = output ≡ []
+IsOutput version nodes (c ∷ cs) output = (piece : List ℕ) × (rest : List ℕ) × IsPiece version nodes c piece × IsOutput version nodes cs rest × (output ≡ piece ++ rest)

@@ -1,6 +1,7 @@
 -- The texts in an output, and what they tell of their sets and of each other.
 use Rattle.std.specs.Prelude.{◌≡◌, ℕ, List, ◌∷◌, ◌++◌, ◌↔◌, length}
 use Rattle.nef_space.specs.Local.{SameSet}
+use Rattle.nef_core.specs.declared.how.TextVersion.{TextVersion}
 use Rattle.nef_expr.specs.declared.nodes.Node.{Node}
 use Rattle.nef_expr.specs.Nodes.{node_set}
 use Rattle.nef_script.specs.declared.script.Command.{Command}
@@ -9,7 +10,7 @@ use Rattle.nef_shell.specs.Output.{framed, IsOutput}
 use Rattle.nef_shell.specs.Written.{TextTells}
 
 -- The command with this number prints node k, and x is the text in its place in the output.
-pub record IsPrinted (nodes : List Node) (commands : List Command) (output : List ℕ) (number k : ℕ) (x : List ℕ) : Type 0 where
+pub record IsPrinted (version : TextVersion) (nodes : List Node) (commands : List Command) (output : List ℕ) (number k : ℕ) (x : List ℕ) : Type 0 where
   pub front : List Command
   pub back : List Command
   pub line : ℕ
@@ -18,16 +19,16 @@ pub record IsPrinted (nodes : List Node) (commands : List Command) (output : Lis
   pub after : List ℕ
   pub place : number ≡ length front
   pub command : commands ≡ front ++ Print line k name ∷ back
-  pub first : IsOutput nodes front before
-  pub last : IsOutput nodes back after
+  pub first : IsOutput version nodes front before
+  pub last : IsOutput version nodes back after
   pub whole : output ≡ before ++ framed name x ++ after
 
 -- Each command that prints has its text in the output, and two texts are equal exactly where the sets are the same.
-pub record AreTextsCompared (nodes : List Node) (commands : List Command) (output : List ℕ) : Type 0 where
-  pub printed : (front back : List Command) (line k : ℕ) (name : List ℕ) → commands ≡ front ++ Print line k name ∷ back → (x : List ℕ) × IsPrinted nodes commands output (length front) k x
-  pub compared : (i j k l : ℕ) (x y : List ℕ) → IsPrinted nodes commands output i k x → IsPrinted nodes commands output j l y → (x ≡ y) ↔ SameSet (node_set nodes k) (node_set nodes l)
+pub record AreTextsCompared (version : TextVersion) (nodes : List Node) (commands : List Command) (output : List ℕ) : Type 0 where
+  pub printed : (front back : List Command) (line k : ℕ) (name : List ℕ) → commands ≡ front ++ Print line k name ∷ back → (x : List ℕ) × IsPrinted version nodes commands output (length front) k x
+  pub compared : (i j k l : ℕ) (x y : List ℕ) → IsPrinted version nodes commands output i k x → IsPrinted version nodes commands output j l y → (x ≡ y) ↔ SameSet (node_set nodes k) (node_set nodes l)
 
 -- Each text that is printed of a node tells the node's set: some complex is spelled by it, and a point of the frame belongs to each complex that it spells exactly where
 -- the node's expression holds there.
-abbrev pub AreTextsMeant : List Node → List Command → List ℕ → Type 0
-AreTextsMeant nodes commands output = (i k : ℕ) (x : List ℕ) → IsPrinted nodes commands output i k x → TextTells (node_set nodes k) x
+abbrev pub AreTextsMeant : TextVersion → List Node → List Command → List ℕ → Type 0
+AreTextsMeant version nodes commands output = (i k : ℕ) (x : List ℕ) → IsPrinted version nodes commands output i k x → TextTells version (node_set nodes k) x

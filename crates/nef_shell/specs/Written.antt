@@ -7,25 +7,26 @@ use Rattle.law_complex.specs.Belongs.{Belongs}
 use Rattle.nef_conn.specs.Components.{HasComponents}
 use Rattle.nef_complex.specs.declared.complex.Complex.{Complex}
 use Rattle.nef_complex.specs.Complexes.{complex_of}
+use Rattle.nef_core.specs.declared.how.TextVersion.{TextVersion}
 use Rattle.nef_parts.specs.Text.{line, numbers, text, Spells}
 use Rattle.nef_shell.specs.Output.{IsWrittenOf, count_line, printed}
 
--- the texts of two sets are equal exactly where the sets are the same
+-- the texts of two sets, in one version, are equal exactly where the sets are the same
 abbrev pub TextsTellSets : Type 0
-TextsTellSets = (s t : Set) (x y : List ℕ) → IsWrittenOf s text x → IsWrittenOf t text y → (x ≡ y) ↔ SameSet s t
+TextsTellSets = (version : TextVersion) (s t : Set) (x y : List ℕ) → IsWrittenOf s (text version) x → IsWrittenOf t (text version) y → (x ≡ y) ↔ SameSet s t
 
 -- a command has one piece: what it prints and what it counts are determined by the set
 abbrev pub PiecesAreOne : Type 0
-PiecesAreOne = (s t : Set) (name x y : List ℕ) → SameSet s t → (IsWrittenOf s (printed name) x → IsWrittenOf t (printed name) y → x ≡ y) × (IsWrittenOf s count_line x → IsWrittenOf t count_line y → x ≡ y)
+PiecesAreOne = (version : TextVersion) (s t : Set) (name x y : List ℕ) → SameSet s t → (IsWrittenOf s (printed version name) x → IsWrittenOf t (printed version name) y → x ≡ y) × (IsWrittenOf s count_line x → IsWrittenOf t count_line y → x ≡ y)
 
 -- the text spells some complex, and a point of the frame belongs to each complex that it spells exactly where the set holds
-pub record TextTells (s : Set) (x : List ℕ) : Type 0 where
-  pub spelled : (d : Complex) × Spells x d
-  pub holds : (d : Complex) (y : Place) → Spells x d → InFrame y → Belongs (complex_of d) y ↔ Holds s y
+pub record TextTells (version : TextVersion) (s : Set) (x : List ℕ) : Type 0 where
+  pub spelled : (d : Complex) × Spells version x d
+  pub holds : (d : Complex) (y : Place) → Spells version x d → InFrame y → Belongs (complex_of d) y ↔ Holds s y
 
 -- so does the text of each set
 abbrev pub TextHolds : Type 0
-TextHolds = (s : Set) (x : List ℕ) → IsWrittenOf s text x → TextTells s x
+TextHolds = (version : TextVersion) (s : Set) (x : List ℕ) → IsWrittenOf s (text version) x → TextTells version s x
 
 -- the four numbers are those of the connected components of the points with no, one, two and three flat directions, over all of space
 pub record CountTells (s : Set) (x : List ℕ) : Type 0 where

@@ -92,3 +92,39 @@ impl Gate for Holding {
         self.limit_reached.store(true, Ordering::SeqCst);
     }
 }
+
+/// Holds the first job 0 that it hears of until a second one began, for so many turns at most.
+#[derive(Drop)]
+pub struct Pairing {
+    began: AtomicU64,
+    limit_reached: AtomicBool,
+}
+
+impl Pairing {
+    pub fn new() -> Pairing {
+        Pairing {
+            began: AtomicU64::new(0),
+            limit_reached: AtomicBool::new(false),
+        }
+    }
+
+    /// Whether the job was held for all the turns.
+    pub fn limit_reached(&self) -> bool {
+        self.limit_reached.load(Ordering::SeqCst)
+    }
+}
+
+impl Gate for Pairing {
+    fn before(&self, job: u64, _free: bool) {
+        if job != 0 || self.began.fetch_add(1, Ordering::SeqCst) != 0 {
+            return;
+        }
+        for _ in 0..TURNS {
+            if self.began.load(Ordering::SeqCst) > 1 {
+                return;
+            }
+            thread::yield_now();
+        }
+        self.limit_reached.store(true, Ordering::SeqCst);
+    }
+}

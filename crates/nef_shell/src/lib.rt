@@ -5,7 +5,9 @@
 //! status says.
 #![tactic(auto)]
 
+mod ahead;
 mod answer;
+mod bindings;
 mod comparison;
 #[cfg(test)]
 mod empty_text;
@@ -20,6 +22,7 @@ mod operation;
 mod ray_end;
 mod script;
 mod sets;
+mod stage;
 mod status;
 mod stop;
 mod top;

@@ -9,6 +9,7 @@ ghost use Rattle.nef_shell.specs.Output.{count_line, printed, IsWrittenOf};
 use itoa::Buffer;
 use nef_canon::write_text;
 use nef_complex::Complex;
+use nef_core::TextVersion;
 use nef_parts::Parts;
 use nef_script::Name;
 use nef_volumes::parts;
@@ -36,11 +37,12 @@ fn printed(
     name: &Name,
     complex: &Complex,
     parts: &Parts,
+    version: TextVersion,
 ) -> Result<Vec<u8>, AllocError>
     requires parts { IsParts (complex_of complex.now) parts.now }
-    ensures bytes { IfOk result (λ v. v.items ≡ printed name.now complex.now parts.now) }
+    ensures bytes { IfOk result (λ v. v.items ≡ printed version name.now complex.now parts.now) }
 {
-    let text = write_text(alloc, complex, parts)?;
+    let text = write_text(alloc, complex, parts, version)?;
     let mut bytes = Vec::from_slice(alloc, b"polyhedron ")?;
     bytes.extend_from_slice(name.as_bytes())?;
     bytes.push(b'\n')?;
@@ -59,15 +61,17 @@ pub(crate) fn count_piece(alloc: Global, complex: &Complex) -> Result<Vec<u8>, A
     count_line(alloc, complex, &parts)
 }
 
-/// The text of the set that the complex shows, under its name. `AllocError` says that memory was wanted and not found.
+/// The text of the set that the complex shows, in this version, under its name. `AllocError` says that memory was wanted
+/// and not found.
 pub(crate) fn print_piece(
     alloc: Global,
     name: &Name,
     complex: &Complex,
+    version: TextVersion,
 ) -> Result<Vec<u8>, AllocError>
     requires shows { (s : Set) × ShowsSet s complex.now }
-    ensures piece { IfOk result (λ v. (s : Set) → ShowsSet s complex.now → IsWrittenOf s (printed name.now) v.items) }
+    ensures piece { IfOk result (λ v. (s : Set) → ShowsSet s complex.now → IsWrittenOf s (printed version name.now) v.items) }
 {
     let parts = parts(alloc, complex)?;
-    printed(alloc, name, complex, &parts)
+    printed(alloc, name, complex, &parts, version)
 }

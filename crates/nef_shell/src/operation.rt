@@ -1,14 +1,23 @@
 //! The operation that makes a node's set.
 
-ghost use Rattle.std.specs.Prelude.{◌≡◌, List};
+ghost use Rattle.std.specs.Prelude.{◌≡◌, ◌↔◌, ◌≤◌, ℕ, List, Some, IfOk, IsSome};
+ghost use Rattle.std.specs.Option.{option_copied};
 ghost use Rattle.nef_space.specs.Sets.{Set};
-ghost use Rattle.nef_expr.specs.Nodes.{set_of};
-ghost use Rattle.nef_shell.specs.Operations.{set_by, HasOperands};
+ghost use Rattle.nef_complex.specs.Complexes.{ShowsSet};
+ghost use Rattle.nef_expr.specs.Nodes.{set_of, IsOperand};
+ghost use Rattle.nef_shell.specs.Operations.{set_by, first_operand, second_operand, HasOperand, HasTurn, AreLent};
 
+use nef_complex::Complex;
+use nef_core::How;
 use nef_expr::Node;
 use nef_geo::Oriented;
-use nef_ops::UnaryOp;
+use nef_io::Gate;
+use nef_ops::{UnaryOp, binary, constant, half, unary};
 use nef_star::Op;
+use nef_turn::turn_complex;
+use std::alloc::{AllocError, Global};
+use std::sync::Wait;
+use std::thread::Threads;
 
 /// An operation on sets, which are named by the numbers of their nodes.
 #[derive(Debug, Clone, Copy)]
@@ -19,12 +28,29 @@ pub(crate) enum Operation {
     Half { oriented: Oriented, closed: bool },
     Unary(UnaryOp, usize),
     Binary(Op, usize, usize),
+    /// The turned set, under the turn with this number, which is below 48.
+    Turned(usize, usize),
+}
+
+impl Operation {
+    /// The numbers of its operands.
+    pub(crate) fn operands(&self) -> (Option<usize>, Option<usize>)
+        ensures first { result.0 ≡ first_operand self.now }
+        ensures second { result.1 ≡ second_operand self.now }
+    {
+        match *self {
+            Operation::Constant(_) | Operation::Half { .. } => (None, None),
+            Operation::Unary(_, i) | Operation::Turned(_, i) => (Some(i), None),
+            Operation::Binary(_, i, j) => (Some(i), Some(j)),
+        }
+    }
 }
 
 /// The operation that makes the node's set of those of earlier nodes.
 pub(crate) fn operation_of(node: &Node) -> Operation
     ensures set { (ss : List Set) → set_of ss node.now ≡ set_by ss result }
-    ensures operands { HasOperands node.now result }
+    ensures operands { (k : ℕ) → IsOperand k node.now ↔ HasOperand result k }
+    ensures turn { HasTurn result }
 {
     match *node {
         Node::Half { oriented, closed } => Operation::Half { oriented, closed },
@@ -39,5 +65,43 @@ pub(crate) fn operation_of(node: &Node) -> Operation
         Node::Cl(i) => Operation::Unary(UnaryOp::Cl, i),
         Node::Bd(i) => Operation::Unary(UnaryOp::Bd, i),
         Node::Reg(i) => Operation::Unary(UnaryOp::Reg, i),
+    }
+}
+
+// The complex of an operand that there is.
+fn given<'a>(complex: Option<&'a Complex>) -> &'a Complex
+    requires there { IsSome (option_copied complex) }
+    ensures same { option_copied complex.entry ≡ Some result.now }
+{
+    match complex {
+        Some(complex) => complex,
+        None => unreachable!(),
+    }
+}
+
+/// The complex that the operation makes of those of its operands. `AllocError` says that memory was
+/// wanted and not found.
+pub(crate) fn made<R: Threads + Wait + Sync, G: Gate + Sync>(
+    rt: &R,
+    alloc: Global,
+    operation: Operation,
+    first: Option<&Complex>,
+    second: Option<&Complex>,
+    how: &How,
+    gate: &G,
+) -> Result<Complex, AllocError>
+    requires workers { (1 ≤ how.now.workers) × (how.now.workers ≤ 64) }
+    requires turn { HasTurn operation }
+    requires operands { (ss : List Set) × AreLent ss operation (option_copied first) (option_copied second) }
+    ensures shows { IfOk result (λ c. (ss : List Set) → AreLent ss operation (option_copied first.entry) (option_copied second.entry) → ShowsSet (set_by ss operation) c) }
+{
+    match operation {
+        Operation::Constant(full) => constant(alloc, full),
+        Operation::Half { oriented, closed } => half(rt, alloc, &oriented, closed, how, gate),
+        Operation::Unary(op, _) => unary(rt, alloc, op, given(first), how, gate),
+        Operation::Binary(op, _, _) => {
+            binary(rt, alloc, op, given(first), given(second), how, gate)
+        }
+        Operation::Turned(turn, _) => turn_complex(alloc, given(first), turn),
     }
 }

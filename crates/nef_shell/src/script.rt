@@ -6,11 +6,11 @@ ghost use Rattle.std.specs.Io.KnownBytes.{Consumes, IsAtEnd};
 ghost use Rattle.nef_space.specs.Limits.{most_stairs};
 ghost use Rattle.nef_io.specs.Bytes.{Rose};
 ghost use Rattle.nef_script.specs.declared.fault.ScriptKind.{ScriptKind as Kind};
+ghost use Rattle.nef_script.specs.Commands.{AreBoundBefore, TurnsRight};
 ghost use Rattle.nef_script.specs.Meaning.{IsWithin};
 ghost use Rattle.nef_script.specs.Refusal.{FirstRefusal};
 ghost use Rattle.nef_script.specs.Stairs.{stairs_text};
 ghost use Rattle.nef_shell.specs.Answers.{IsRead, IsScriptFor, IsWorked};
-ghost use Rattle.nef_shell.specs.Commands.{AreWorkable};
 
 use nef_io::{ReadAll, Source, read_all};
 use nef_script::{Script, ScriptFault, ScriptKind, parse, stairs};
@@ -74,6 +74,8 @@ impl From<AllocError> for NoScript {
 fn read_script<S: Source>(alloc: Global, source: &mut S) -> Result<Script, NoScript>
     ensures script { IfOk result (λ s. (bytes : List ℕ) × (Consumes (S.rest source.old) (S.rest source.new) bytes × IsAtEnd (S.rest source.new)) × IsWorked bytes s.nodes s.commands) }
     ensures within { IfOk result (λ s. All (IsWithin (length s.nodes)) s.commands) }
+    ensures turned { IfOk result (λ s. All (TurnsRight s.nodes) s.commands) }
+    ensures bound_before { IfOk result (λ s. AreBoundBefore s.nodes s.commands) }
     ensures refused { (line : ℕ) (kind : Kind) → result ≡ Err (NoScript.Refused line kind) → (bytes : List ℕ) × IsRead (S.rest source.old) (S.rest source.new) bytes × FirstRefusal bytes line kind × (S.faults source.new ≡ S.faults source.old) }
     ensures quiet { IfOk result (λ _. S.faults source.new ≡ S.faults source.old) }
     ensures fault { result ≡ Err NoScript.ReadFault → Rose (S.faults source.old) (S.faults source.new) }
@@ -89,6 +91,8 @@ fn stairs_script(alloc: Global, boxes: u32) -> Result<Script, AllocError>
     requires most { boxes ≤ most_stairs }
     ensures script { IfOk result (λ s. IsWorked (stairs_text boxes) s.nodes s.commands) }
     ensures within { IfOk result (λ s. All (IsWithin (length s.nodes)) s.commands) }
+    ensures turned { IfOk result (λ s. All (TurnsRight s.nodes) s.commands) }
+    ensures bound_before { IfOk result (λ s. AreBoundBefore s.nodes s.commands) }
 {
     let bytes = stairs(alloc, boxes)?;
     match parse(alloc, &bytes) {
@@ -109,7 +113,8 @@ pub(crate) fn script_for<S: Source>(
     requires stairs { IfSome stairs (λ n. (1 ≤ n) × (n ≤ most_stairs)) }
     ensures script { IfOk result (λ s. (bytes : List ℕ) × IsScriptFor stairs (S.rest source.old) (S.rest source.new) bytes × IsWorked bytes s.nodes s.commands) }
     ensures within { IfOk result (λ s. All (IsWithin (length s.nodes)) s.commands) }
-    ensures workable { IfOk result (λ s. AreWorkable s.nodes s.commands) }
+    ensures turned { IfOk result (λ s. All (TurnsRight s.nodes) s.commands) }
+    ensures bound_before { IfOk result (λ s. AreBoundBefore s.nodes s.commands) }
     ensures refused { (line : ℕ) (kind : Kind) → result ≡ Err (NoScript.Refused line kind) → (stairs ≡ None) × ((bytes : List ℕ) × IsRead (S.rest source.old) (S.rest source.new) bytes × FirstRefusal bytes line kind × (S.faults source.new ≡ S.faults source.old)) }
     ensures quiet { IfOk result (λ _. S.faults source.new ≡ S.faults source.old) }
     ensures fault { result ≡ Err NoScript.ReadFault → (stairs ≡ None) × Rose (S.faults source.old) (S.faults source.new) }

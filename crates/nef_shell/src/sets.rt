@@ -1,52 +1,84 @@
 //! The complexes of the nodes.
 
-ghost use Rattle.std.specs.Prelude.{◌≡◌, ◌+◌, ◌≤◌, ◌<◌, ◌↔◌, ◌⊎◌, ℕ, Some, [], IfOk, IfSome, IsTrue, OnOk, All, length, slice_index, slice_index_or, vec_len};
+ghost use Rattle.std.specs.Prelude.{◌≡◌, ◌+◌, ◌≤◌, ◌<◌, ◌↔◌, ◌⊎◌, ℕ, Option, Some, IfOk, IfSome, IsTrue, OnOk, All, length, slice_index, slice_index_or, vec_len, []};
+ghost use Rattle.std.specs.Option.{option_copied};
 ghost use Rattle.nef_space.specs.Local.{SameSet};
-ghost use Rattle.nef_space.specs.Sets.{Set};
 ghost use Rattle.nef_complex.specs.Complexes.{ShowsSet};
-ghost use Rattle.nef_expr.specs.Nodes.{node_set};
-ghost use Rattle.nef_expr.specs.declared.nodes.Node.TheVariants as node;
+ghost use Rattle.nef_expr.specs.Nodes.{node_set, sets_after, IsOperand};
+ghost use Rattle.nef_expr.specs.Turns.{TurnOf};
+ghost use Rattle.nef_expr.specs.declared.nodes.Node.TheVariants as variant;
+ghost use Rattle.nef_script.specs.Commands.{LooksAt, Binds};
 ghost use Rattle.nef_script.specs.Meaning.{IsWithin};
-ghost use Rattle.nef_shell.specs.Commands.{IsOperand, LooksAt, Binds, AreLastUses, AreUses};
-ghost use Rattle.nef_shell.specs.Operations.{IsKept, IsGone, IsLean, IsGrown};
+ghost use Rattle.nef_shell.specs.Commands.{AreLastUses, AreUses};
+ghost use Rattle.nef_shell.specs.Operations.{set_by, HasOperand, HasTurn, IsLent, AreShown, IsKept, IsGone, IsLean, AreBound};
 
-use crate::operation::{Operation, operation_of};
+use crate::operation::{Operation, made, operation_of};
 use crate::uses::{bound_node, last_uses, looked_at};
 use nef_complex::Complex;
 use nef_core::How;
 use nef_expr::Nodes;
 use nef_io::Gate;
-use nef_ops::{binary, constant, half, same, unary};
+use nef_ops::same;
 use nef_script::{Command, Script};
 use std::alloc::{AllocError, Global};
 use std::sync::Wait;
 use std::thread::Threads;
 
-/// The complexes of a script's nodes: of each node from the command that binds it to the last one
-/// that looks at it.
+/// The complexes of a script's nodes: of each node that a command binds, from that command to the last
+/// one that looks at it.
 #[derive(Drop)]
 pub(crate) struct Sets<'a> {
     nodes: &'a Nodes,
     last_uses: Vec<usize>,
-    // In the order of the nodes.
+    // A place for each node, in their order.
     list: Vec<Option<Complex>>,
-    ghost counted: { (vec_len last_uses ≡ length nodes.now) × (vec_len list ≤ length nodes.now) },
+    ghost counted: { (vec_len last_uses ≡ length nodes.now) × (vec_len list ≡ length nodes.now) },
+}
+
+/// So many places without a complex. `AllocError` says that memory was wanted and not found.
+pub(crate) fn no_complexes(alloc: Global, count: usize) -> Result<Vec<Option<Complex>>, AllocError>
+    ensures count { IfOk result (λ v. vec_len v ≡ count) }
+    ensures none { IfOk result (λ v. (k : ℕ) → k < count → IsGone v.items k) }
+{
+    let mut list = Vec::with_capacity(alloc, count)?;
+    for _ in 0..count {
+        list.push(None)?;
+    }
+    Ok(list)
 }
 
 impl<'a> Sets<'a> {
-    /// No complex so far. `AllocError` says that memory was wanted and not found.
-    pub(crate) fn new(alloc: Global, script: &'a Script) -> Result<Sets<'a>, AllocError>
+    /// These complexes of the script's nodes, at the nodes' places. `AllocError` says that memory was
+    /// wanted and not found.
+    pub(crate) fn of(
+        alloc: Global,
+        script: &'a Script,
+        list: Vec<Option<Complex>>,
+    ) -> Result<Sets<'a>, AllocError>
         requires within { All (IsWithin (length script.now.nodes)) script.now.commands }
+        requires count { vec_len list ≡ length script.now.nodes }
         ensures nodes { IfOk result (λ t. t.nodes.now ≡ script.entry.now.nodes) }
-        ensures none { IfOk result (λ t. t.list.items ≡ []) }
+        ensures list { IfOk result (λ t. t.list ≡ list) }
         ensures last { IfOk result (λ t. AreLastUses script.entry.now.nodes script.entry.now.commands t.last_uses.items) }
         ensures used { IfOk result (λ t. AreUses script.entry.now.nodes script.entry.now.commands t.last_uses.items) }
     {
         Ok(Sets {
             nodes: script.nodes(),
             last_uses: last_uses(alloc, script)?,
-            list: Vec::new(alloc),
+            list,
         })
+    }
+
+    /// No complex so far. `AllocError` says that memory was wanted and not found.
+    pub(crate) fn new(alloc: Global, script: &'a Script) -> Result<Sets<'a>, AllocError>
+        requires within { All (IsWithin (length script.now.nodes)) script.now.commands }
+        ensures nodes { IfOk result (λ t. t.nodes.now ≡ script.entry.now.nodes) }
+        ensures none { IfOk result (λ t. (k : ℕ) → k < length t.list.items → IsGone t.list.items k) }
+        ensures last { IfOk result (λ t. AreLastUses script.entry.now.nodes script.entry.now.commands t.last_uses.items) }
+        ensures used { IfOk result (λ t. AreUses script.entry.now.nodes script.entry.now.commands t.last_uses.items) }
+    {
+        let list = no_complexes(alloc, script.nodes().len())?;
+        Sets::of(alloc, script, list)
     }
 
     /// The complex of the node.
@@ -60,6 +92,17 @@ impl<'a> Sets<'a> {
         }
     }
 
+    // The complex of the node, if there is a node.
+    fn lent(&self, node: Option<usize>) -> Option<&Complex>
+        requires kept { IfSome node (IsKept self.now.nodes.now self.now.list.items) }
+        ensures lent { IsLent (sets_after [] self.now.nodes.now) node (option_copied result) }
+    {
+        match node {
+            Some(k) => Some(self.get(k)),
+            None => None,
+        }
+    }
+
     /// Whether the two nodes stand for one set.
     pub(crate) fn same(&self, left: usize, right: usize) -> bool
         requires first { IsKept self.now.nodes.now self.now.list.items left }
@@ -70,53 +113,93 @@ impl<'a> Sets<'a> {
         same(self.nodes, left, a, self.nodes, right, b)
     }
 
-    // The complex of the next node, made of those of its operands.
-    fn made<R: Threads + Wait + Sync, G: Gate + Sync>(
-        &self,
-        rt: &R,
-        alloc: Global,
-        how: &How,
-        gate: &G,
-    ) -> Result<Complex, AllocError>
-        requires workers { (1 ≤ how.now.workers) × (how.now.workers ≤ 64) }
-        requires next { length self.now.list.items < length self.now.nodes.now }
-        requires operands { (k : ℕ) → IsOperand k (slice_index_or self.now.nodes.now (length self.now.list.items) node.Empty) → IsKept self.now.nodes.now self.now.list.items k }
-        ensures shows { IfOk result (λ c. ShowsSet (node_set self.now.nodes.now (length self.now.list.items)) c) }
-    {
-        match operation_of(self.nodes.get(self.list.len())) {
-            Operation::Constant(full) => constant(alloc, full),
-            Operation::Half { oriented, closed } => half(rt, alloc, &oriented, closed, how, gate),
-            Operation::Unary(op, i) => unary(rt, alloc, op, self.get(i), how, gate),
-            Operation::Binary(op, i, j) => {
-                binary(rt, alloc, op, self.get(i), self.get(j), how, gate)
-            }
-        }
-    }
-
-    /// Works the next node. `AllocError` says that memory was wanted and not found.
-    pub(crate) fn bind<R: Threads + Wait + Sync, G: Gate + Sync>(
+    // Works the node by the operation that makes its set, unless its complex is there.
+    fn put<R: Threads + Wait + Sync, G: Gate + Sync>(
         &mut self,
         rt: &R,
         alloc: Global,
+        node: usize,
+        operation: Operation,
         how: &How,
         gate: &G,
     ) -> Result<(), AllocError>
         requires workers { (1 ≤ how.now.workers) × (how.now.workers ≤ 64) }
-        requires next { length self.old.list.items < length self.old.nodes.now }
-        requires operands { (k : ℕ) → IsOperand k (slice_index_or self.old.nodes.now (length self.old.list.items) node.Empty) → IsKept self.old.nodes.now self.old.list.items k }
-        ensures grown { OnOk result (IsGrown self.old.nodes.now 1 self.old.list.items self.new.list.items) }
+        requires node { node < length self.old.nodes.now }
+        requires turn { HasTurn operation }
+        requires set { node_set self.old.nodes.now node ≡ set_by (sets_after [] self.old.nodes.now) operation }
+        requires shown { AreShown self.old.nodes.now self.old.list.items }
+        requires operands { (k : ℕ) → HasOperand operation k → IsKept self.old.nodes.now self.old.list.items k }
+        ensures shown { OnOk result (AreShown self.new.nodes.now self.new.list.items) }
+        ensures bound { OnOk result (AreBound self.old.nodes.now (λ k. k ≡ node) self.old.list.items self.new.list.items) }
         ensures nodes { self.new.nodes ≡ self.old.nodes }
         ensures uses { self.new.last_uses ≡ self.old.last_uses }
     {
-        let complex = self.made(rt, alloc, how, gate)?;
-        self.list.push(Some(complex))?;
+        if self.list[node].is_some() {
+            return Ok(());
+        }
+        let (first, second) = operation.operands();
+        let (a, b) = (self.lent(first), self.lent(second));
+        let complex = made(rt, alloc, operation, a, b, how, gate)?;
+        self.list[node] = Some(complex);
         Ok(())
+    }
+
+    /// Works the node. `AllocError` says that memory was wanted and not found.
+    pub(crate) fn bind<R: Threads + Wait + Sync, G: Gate + Sync>(
+        &mut self,
+        rt: &R,
+        alloc: Global,
+        node: usize,
+        how: &How,
+        gate: &G,
+    ) -> Result<(), AllocError>
+        requires workers { (1 ≤ how.now.workers) × (how.now.workers ≤ 64) }
+        requires node { node < length self.old.nodes.now }
+        requires shown { AreShown self.old.nodes.now self.old.list.items }
+        requires operands { (k : ℕ) → IsOperand k (slice_index_or self.old.nodes.now node variant.Empty) → IsKept self.old.nodes.now self.old.list.items k }
+        ensures shown { OnOk result (AreShown self.new.nodes.now self.new.list.items) }
+        ensures bound { OnOk result (AreBound self.old.nodes.now (λ k. k ≡ node) self.old.list.items self.new.list.items) }
+        ensures nodes { self.new.nodes ≡ self.old.nodes }
+        ensures uses { self.new.last_uses ≡ self.old.last_uses }
+    {
+        let operation = operation_of(self.nodes.get(node));
+        self.put(rt, alloc, node, operation, how, gate)
+    }
+
+    /// Works the node as the image of the node `from` under the turn, which is below 48. `AllocError`
+    /// says that memory was wanted and not found.
+    pub(crate) fn turn<R: Threads + Wait + Sync, G: Gate + Sync>(
+        &mut self,
+        rt: &R,
+        alloc: Global,
+        node: usize,
+        from: usize,
+        turn: u8,
+        how: &How,
+        gate: &G,
+    ) -> Result<(), AllocError>
+        requires workers { (1 ≤ how.now.workers) × (how.now.workers ≤ 64) }
+        requires node { node < length self.old.nodes.now }
+        requires turn { turn < 48 }
+        requires image { TurnOf self.old.nodes.now turn from node }
+        requires shown { AreShown self.old.nodes.now self.old.list.items }
+        requires kept { IsKept self.old.nodes.now self.old.list.items from }
+        ensures shown { OnOk result (AreShown self.new.nodes.now self.new.list.items) }
+        ensures bound { OnOk result (AreBound self.old.nodes.now (λ k. k ≡ node) self.old.list.items self.new.list.items) }
+        ensures nodes { self.new.nodes ≡ self.old.nodes }
+        ensures uses { self.new.last_uses ≡ self.old.last_uses }
+    {
+        // Each node names earlier ones, so the image of a node has the turned set.
+        let _count = self.nodes.len();
+        let operation = Operation::Turned(usize::from(turn), from);
+        self.put(rt, alloc, node, operation, how, gate)
     }
 
     // Lets the complex of the node go, if there is a node and no command after this one looks at it.
     fn release_one(&mut self, node: Option<usize>, now: usize)
-        requires within { IfSome node (λ k. (k < length self.old.list.items) × (k < vec_len self.old.last_uses)) }
+        requires within { IfSome node (λ k. k < length self.old.nodes.now) }
         ensures count { length self.new.list.items ≡ length self.old.list.items }
+        ensures shown { AreShown self.old.nodes.now self.old.list.items → AreShown self.new.nodes.now self.new.list.items }
         ensures kept { (k : ℕ) → now < slice_index self.old.last_uses.items k → IsKept self.old.nodes.now self.old.list.items k → IsKept self.new.nodes.now self.new.list.items k }
         ensures gone { (k : ℕ) → node ≡ Some k → slice_index self.old.last_uses.items k ≤ now → IsGone self.new.list.items k }
         ensures stays { (k : ℕ) → IsGone self.old.list.items k → IsGone self.new.list.items k }
@@ -134,10 +217,9 @@ impl<'a> Sets<'a> {
     /// command, counted from 0.
     pub(crate) fn release(&mut self, command: &Command, now: usize)
         requires within { IsWithin (length self.old.nodes.now) command.now }
-        requires earlier { (k : ℕ) → LooksAt self.old.nodes.now command.now k → k < length self.old.list.items }
-        requires bound { (k : ℕ) → Binds command.now k → k < length self.old.list.items }
         requires used { (k : ℕ) → k < length self.old.list.items → slice_index self.old.last_uses.items k < now + 1 → IsGone self.old.list.items k ⊎ (LooksAt self.old.nodes.now command.now k ⊎ Binds command.now k) }
         ensures count { length self.new.list.items ≡ length self.old.list.items }
+        ensures shown { AreShown self.old.nodes.now self.old.list.items → AreShown self.new.nodes.now self.new.list.items }
         ensures kept { (k : ℕ) → now < slice_index self.old.last_uses.items k → IsKept self.old.nodes.now self.old.list.items k → IsKept self.new.nodes.now self.new.list.items k }
         ensures lean { IsLean self.old.last_uses.items (now + 1) self.new.list.items }
         ensures nodes { self.new.nodes ≡ self.old.nodes }

@@ -1,6 +1,7 @@
 use crate::empty_text::EMPTY_TEXT;
 use crate::gates::{Counting, Holding};
 use crate::{Status, code, run, same_text};
+use nef_core::TextVersion;
 use nef_io::{Gate, MemSink, OpenGate, SureSource};
 use nef_ops::constant;
 use nef_script::ScriptKind;
@@ -10,11 +11,13 @@ use std::sync::Wait;
 use std::test::Fail;
 use std::thread::Threads;
 
+mod ahead;
 mod compared;
 mod extreme;
 mod failing;
 mod generated;
 mod texts;
+mod turned;
 mod writes;
 
 // A script with `/` between its lines, and what it writes, in the same form.
@@ -333,8 +336,8 @@ fn texts_compared(rt: HostRuntime) -> Result<(), Fail> {
     let full = constant(alloc, true)?;
     let p = parts(alloc, &empty)?;
     let q = parts(alloc, &full)?;
-    assert!(rt; same_text(alloc, &empty, &p, &empty, &p)?);
-    assert!(rt; !same_text(alloc, &empty, &p, &full, &q)?);
+    assert!(rt; same_text(alloc, TextVersion::Two, &empty, &p, &empty, &p)?);
+    assert!(rt; !same_text(alloc, TextVersion::Two, &empty, &p, &full, &q)?);
     Ok(())
 }
 

@@ -1,21 +1,25 @@
 //! The top call.
 
-ghost use Rattle.std.specs.Prelude.{◌≡◌, ◌≤◌, ℕ, List, None, Some, IfSome, map, string_bytes};
+ghost use Rattle.std.specs.Prelude.{◌≡◌, ◌≤◌, ℕ, List, None, Some, IfSome, map, string_bytes, All, OnOk, IfErr, length, take};
 ghost use Rattle.nef_space.specs.Limits.{most_stairs};
 ghost use Rattle.nef_io.specs.Bytes.{Rose, Grows, GrowsWithin};
+ghost use Rattle.nef_script.specs.Commands.{AreBoundBefore, TurnsRight};
+ghost use Rattle.nef_script.specs.Meaning.{IsWithin};
 ghost use Rattle.nef_shell.specs.Status.{MatchStatus};
-ghost use Rattle.nef_shell.specs.Output.{refusal_line, words_line};
-ghost use Rattle.nef_shell.specs.Answers.{GiveStairs, HasEnded};
+ghost use Rattle.nef_shell.specs.Stops.{MatchStop};
+ghost use Rattle.nef_shell.specs.Output.{IsOutput, refusal_line, words_line};
+ghost use Rattle.nef_shell.specs.Answers.{GiveStairs, GiveText, HasEnded};
 ghost use Rattle.nef_shell.specs.Ended.{RunEnds};
 ghost use Rattle.nef_shell.specs.Traffic.{traffic, IsUnread};
 
+use crate::ahead::work_ahead;
 use crate::line::refusal_line;
 use crate::script::{NoScript, script_for};
 use crate::status::Status;
 use crate::stop::Stop;
 use crate::work::work;
 use nef_io::{Gate, Sink, Source, put_all};
-use nef_script::ScriptKind;
+use nef_script::{Script, ScriptKind};
 use nef_words::{Options, WordsFault, read_words};
 use std::alloc::Global;
 use std::sync::Wait;
@@ -56,6 +60,31 @@ pub(crate) fn refuse_words<K: Sink>(sink: &mut K) -> Status
     }
 }
 
+// Works the script in the order that the options choose.
+fn work_script<R: Threads + Wait + Sync, K: Sink, G: Gate + Sync>(
+    rt: &R,
+    alloc: Global,
+    options: &Options,
+    script: &Script,
+    sink: &mut K,
+    gate: &G,
+) -> Result<(), Stop>
+    requires workers { (1 ≤ options.now.how.workers) × (options.now.how.workers ≤ 64) }
+    requires within { All (IsWithin (length script.now.nodes)) script.now.commands }
+    requires turned { All (TurnsRight script.now.nodes) script.now.commands }
+    requires bound_before { AreBoundBefore script.now.nodes script.now.commands }
+    ensures done { OnOk result ((output : List ℕ) × IsOutput options.now.text script.now.nodes script.now.commands output × Grows (K.written sink.old) (K.written sink.new) output) }
+    ensures quiet { OnOk result (K.faults sink.new ≡ K.faults sink.old) }
+    ensures stopped { IfErr result (λ stop. MatchStop stop (Rose (K.faults sink.old) (K.faults sink.new)) (Unit {0})) }
+    ensures front { IfErr result (λ _. (count : ℕ) × (output : List ℕ) × IsOutput options.now.text script.now.nodes (take count script.now.commands) output × GrowsWithin (K.written sink.old) (K.written sink.new) output) }
+{
+    if options.ahead {
+        work_ahead(rt, alloc, script, &options.how, options.text, sink, gate)
+    } else {
+        work(rt, alloc, script, &options.how, options.text, sink, gate)
+    }
+}
+
 // Runs the script that the options choose: has it checked, and works it.
 fn run_script<R: Threads + Wait + Sync, S: Source, K: Sink, G: Gate + Sync>(
     rt: &R,
@@ -67,7 +96,7 @@ fn run_script<R: Threads + Wait + Sync, S: Source, K: Sink, G: Gate + Sync>(
 ) -> Status
     requires workers { (1 ≤ options.now.how.workers) × (options.now.how.workers ≤ 64) }
     requires stairs { IfSome options.now.stairs (λ n. (1 ≤ n) × (n ≤ most_stairs)) }
-    ensures status { (words : List (List ℕ)) → GiveStairs words options.now.stairs → HasEnded words result (traffic S.rest S.faults K.written K.faults source.old source.new sink.old sink.new) }
+    ensures status { (words : List (List ℕ)) → GiveStairs words options.now.stairs → GiveText words options.now.text → HasEnded words result (traffic S.rest S.faults K.written K.faults source.old source.new sink.old sink.new) }
     ensures unread { (n : ℕ) → options.now.stairs ≡ Some n → IsUnread (traffic S.rest S.faults K.written K.faults source.old source.new sink.old sink.new) }
 {
     let script = match script_for(alloc, options.stairs, source) {
@@ -76,7 +105,7 @@ fn run_script<R: Threads + Wait + Sync, S: Source, K: Sink, G: Gate + Sync>(
         Err(NoScript::Refused { line, kind }) => return refuse(alloc, sink, line, kind),
         Err(NoScript::OutOfMemory) => return Status::OutOfMemory,
     };
-    match work(rt, alloc, &script, &options.how, sink, gate) {
+    match work_script(rt, alloc, options, &script, sink, gate) {
         Ok(()) => Status::Done,
         Err(Stop::WriteFault) => Status::WriteFault,
         Err(Stop::OutOfMemory) => Status::OutOfMemory,
@@ -84,7 +113,8 @@ fn run_script<R: Threads + Wait + Sync, S: Source, K: Sink, G: Gate + Sync>(
 }
 
 /// Runs the program: reads the words and then the script, checks the whole script, and works its
-/// commands in order. What a command answers is handed to the sink when it is worked.
+/// commands in order. What a command answers is handed to the sink when it is worked. With `--ahead` all
+/// bindings are worked first, those whose operands are done beside each other, and then the questions.
 ///
 /// `words` are those after the program's name. Where they give `--stairs N`, the script is the generated
 /// one of N boxes (`stairs` of `nef_script`), which is never refused, and the source isn't looked at;

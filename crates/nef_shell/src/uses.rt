@@ -1,25 +1,14 @@
 //! Which commands look at which nodes.
 
 ghost use Rattle.std.specs.Prelude.{◌≡◌, ◌≤◌, ◌<◌, ◌↔◌, ◌⊎◌, ℕ, Some, IfOk, IfSome, All, length, slice_index, vec_len};
-ghost use Rattle.nef_expr.specs.Nodes.{NamesBelow};
+ghost use Rattle.nef_script.specs.Commands.{LooksAt, Binds};
 ghost use Rattle.nef_script.specs.Meaning.{IsWithin};
-ghost use Rattle.nef_shell.specs.Commands.{IsOperand, LooksAt, AreLastUses, AreUses, Binds};
+ghost use Rattle.nef_shell.specs.Commands.{AreLastUses, AreUses};
 
-use nef_expr::{Node, Nodes};
+use crate::operation::operation_of;
+use nef_expr::Nodes;
 use nef_script::{Command, Script};
 use std::alloc::{AllocError, Global};
-
-// The operands of a node.
-fn operands(node: &Node) -> (Option<usize>, Option<usize>)
-    ensures operands { (k : ℕ) → IsOperand k node.now ↔ ((result.0 ≡ Some k) ⊎ (result.1 ≡ Some k)) }
-    ensures below { (n : ℕ) → NamesBelow n node.now → IfSome result.0 (λ k. k < n) × IfSome result.1 (λ k. k < n) }
-{
-    match *node {
-        Node::Half { .. } | Node::Empty | Node::Full => (None, None),
-        Node::And(i, j) | Node::Or(i, j) | Node::Diff(i, j) | Node::Xor(i, j) => (Some(i), Some(j)),
-        Node::Not(i) | Node::Int(i) | Node::Cl(i) | Node::Bd(i) | Node::Reg(i) => (Some(i), None),
-    }
-}
 
 /// The nodes whose sets the command looks at: the operands of the node that it binds, or those that
 /// it asks about.
@@ -29,7 +18,8 @@ pub(crate) fn looked_at(nodes: &Nodes, command: &Command) -> (Option<usize>, Opt
     ensures within { IfSome result.0 (λ k. k < length nodes.now) × IfSome result.1 (λ k. k < length nodes.now) }
 {
     match command {
-        Command::Bind { node, .. } => operands(nodes.get(*node)),
+        Command::Bind { node, .. } => operation_of(nodes.get(*node)).operands(),
+        Command::Turn { from, .. } => (Some(*from), None),
         Command::Same { left, right, .. } => (Some(*left), Some(*right)),
         Command::Has { node, .. }
         | Command::Joined { node, .. }
@@ -42,9 +32,10 @@ pub(crate) fn looked_at(nodes: &Nodes, command: &Command) -> (Option<usize>, Opt
 /// The node that the command binds.
 pub(crate) fn bound_node(command: &Command) -> Option<usize>
     ensures bound { (k : ℕ) → Binds command.now k ↔ (result ≡ Some k) }
+    ensures within { (n : ℕ) → IsWithin n command.now → IfSome result (λ k. k < n) }
 {
     match command {
-        Command::Bind { node, .. } => Some(*node),
+        Command::Bind { node, .. } | Command::Turn { node, .. } => Some(*node),
         _ => None,
     }
 }

@@ -1,14 +1,14 @@
 //! Works a script's commands in order.
 
-ghost use Rattle.std.specs.Prelude.{◌≡◌, ◌≤◌, ℕ, List, [], ◌∷◌, All, OnOk, IfErr, length, take};
+ghost use Rattle.std.specs.Prelude.{◌≡◌, ◌≤◌, ℕ, List, All, OnOk, IfErr, length, take};
 ghost use Rattle.nef_space.specs.Local.{HasLabel};
 ghost use Rattle.nef_geo.specs.Shapes.{place_of};
 ghost use Rattle.nef_expr.specs.Nodes.{node_set};
 ghost use Rattle.nef_io.specs.Bytes.{Rose, Grows, GrowsWithin};
+ghost use Rattle.nef_script.specs.Commands.{LooksAt, Binds, AreBoundBefore, TurnsRight};
 ghost use Rattle.nef_script.specs.Meaning.{IsWithin};
 ghost use Rattle.nef_shell.specs.Output.{IsPiece, IsOutput};
-ghost use Rattle.nef_shell.specs.Commands.{LooksAt, IsWorkable, AreWorkable, bound_by};
-ghost use Rattle.nef_shell.specs.Operations.{IsKept, IsGrown};
+ghost use Rattle.nef_shell.specs.Operations.{AreShown, IsKept, AreBound};
 ghost use Rattle.nef_shell.specs.Stops.{MatchStop};
 
 use crate::answer::{answer, same_answer};
@@ -17,7 +17,7 @@ use crate::listing::{count_piece, print_piece};
 use crate::ray_end::ray_piece;
 use crate::sets::Sets;
 use crate::stop::Stop;
-use nef_core::How;
+use nef_core::{How, TextVersion};
 use nef_geo::{Label, Point};
 use nef_io::{Gate, Sink, put_all};
 use nef_locate::{locate, place_label};
@@ -39,33 +39,45 @@ fn label_at(sets: &Sets, node: usize, point: &Point) -> Label
     }
 }
 
-// Works one command, and writes its piece.
-fn work_command<R: Threads + Wait + Sync, K: Sink, G: Gate + Sync>(
+/// Works one command, and writes its piece, with a text of this version.
+pub(crate) fn work_command<R: Threads + Wait + Sync, K: Sink, G: Gate + Sync>(
     rt: &R,
     alloc: Global,
     sets: &mut Sets,
     command: &Command,
     how: &How,
+    text: TextVersion,
     sink: &mut K,
     gate: &G,
 ) -> Result<(), Stop>
     requires workers { (1 ≤ how.now.workers) × (how.now.workers ≤ 64) }
     requires within { IsWithin (length sets.old.nodes.now) command.now }
-    requires workable { IsWorkable sets.old.nodes.now (length sets.old.list.items) command.now }
+    requires turned { TurnsRight sets.old.nodes.now command.now }
+    requires shown { AreShown sets.old.nodes.now sets.old.list.items }
     requires kept { (k : ℕ) → LooksAt sets.old.nodes.now command.now k → IsKept sets.old.nodes.now sets.old.list.items k }
-    ensures done { OnOk result ((piece : List ℕ) × IsPiece sets.old.nodes.now command.now piece × Grows (K.written sink.old) (K.written sink.new) piece) }
-    ensures grown { OnOk result (IsGrown sets.old.nodes.now (bound_by (command.now ∷ [])) sets.old.list.items sets.new.list.items) }
+    ensures done { OnOk result ((piece : List ℕ) × IsPiece text sets.old.nodes.now command.now piece × Grows (K.written sink.old) (K.written sink.new) piece) }
+    ensures shown { OnOk result (AreShown sets.new.nodes.now sets.new.list.items) }
+    ensures bound { OnOk result (AreBound sets.old.nodes.now (Binds command.now) sets.old.list.items sets.new.list.items) }
     ensures nodes { sets.new.nodes ≡ sets.old.nodes }
     ensures uses { sets.new.last_uses ≡ sets.old.last_uses }
     ensures stopped { IfErr result (λ stop. MatchStop stop
-        (Rose (K.faults sink.old) (K.faults sink.new) × ((piece : List ℕ) × IsPiece sets.old.nodes.now command.now piece × GrowsWithin (K.written sink.old) (K.written sink.new) piece))
+        (Rose (K.faults sink.old) (K.faults sink.new) × ((piece : List ℕ) × IsPiece text sets.old.nodes.now command.now piece × GrowsWithin (K.written sink.old) (K.written sink.new) piece))
         (K.written sink.new ≡ K.written sink.old)) }
     ensures quiet { OnOk result (K.faults sink.new ≡ K.faults sink.old) }
     ensures count { K.faults sink.old ≤ K.faults sink.new }
 {
     match command {
-        Command::Bind { .. } => {
-            sets.bind(rt, alloc, how, gate)?;
+        Command::Bind { node, .. } => {
+            sets.bind(rt, alloc, *node, how, gate)?;
+            Ok(())
+        }
+        Command::Turn {
+            node,
+            from,
+            turn,
+            ..
+        } => {
+            sets.turn(rt, alloc, *node, *from, *turn, how, gate)?;
             Ok(())
         }
         Command::Has { node, point, .. } => {
@@ -104,33 +116,35 @@ fn work_command<R: Threads + Wait + Sync, K: Sink, G: Gate + Sync>(
             Ok(())
         }
         Command::Print { node, name, .. } => {
-            let piece = print_piece(alloc, name, sets.get(*node))?;
+            let piece = print_piece(alloc, name, sets.get(*node), text)?;
             put_all(sink, &piece)?;
             Ok(())
         }
     }
 }
 
-/// Works the commands in order, and writes the piece of each when it is worked.
+/// Works the commands in order, and writes the piece of each when it is worked. Texts are of this version.
 pub(crate) fn work<R: Threads + Wait + Sync, K: Sink, G: Gate + Sync>(
     rt: &R,
     alloc: Global,
     script: &Script,
     how: &How,
+    text: TextVersion,
     sink: &mut K,
     gate: &G,
 ) -> Result<(), Stop>
     requires workers { (1 ≤ how.now.workers) × (how.now.workers ≤ 64) }
     requires within { All (IsWithin (length script.now.nodes)) script.now.commands }
-    requires workable { AreWorkable script.now.nodes script.now.commands }
-    ensures done { OnOk result ((output : List ℕ) × IsOutput script.now.nodes script.now.commands output × Grows (K.written sink.old) (K.written sink.new) output) }
+    requires turned { All (TurnsRight script.now.nodes) script.now.commands }
+    requires bound_before { AreBoundBefore script.now.nodes script.now.commands }
+    ensures done { OnOk result ((output : List ℕ) × IsOutput text script.now.nodes script.now.commands output × Grows (K.written sink.old) (K.written sink.new) output) }
     ensures quiet { OnOk result (K.faults sink.new ≡ K.faults sink.old) }
     ensures stopped { IfErr result (λ stop. MatchStop stop (Rose (K.faults sink.old) (K.faults sink.new)) (Unit {0})) }
-    ensures front { IfErr result (λ _. (count : ℕ) × (output : List ℕ) × IsOutput script.now.nodes (take count script.now.commands) output × GrowsWithin (K.written sink.old) (K.written sink.new) output) }
+    ensures front { IfErr result (λ _. (count : ℕ) × (output : List ℕ) × IsOutput text script.now.nodes (take count script.now.commands) output × GrowsWithin (K.written sink.old) (K.written sink.new) output) }
 {
     let mut sets = Sets::new(alloc, script)?;
     for (now, command) in script.commands().iter().enumerate() {
-        work_command(rt, alloc, &mut sets, command, how, sink, gate)?;
+        work_command(rt, alloc, &mut sets, command, how, text, sink, gate)?;
         sets.release(command, now);
     }
     Ok(())

@@ -145,3 +145,20 @@ seen-all t n e v = let c : length t.rays.items - n ≡ length t.rays.items = ome
 pub still-needed : (t s : Star) → IsTurned t → IsKept t s → (s ≡ t) ⊎ ((m : ℕ) × (m < length t.rays.items) × IsCountedFrom m t s) → AreNeeded (length t.rays.items) t → AreNeeded (length s.rays.items) s
 still-needed t s T k (inl e) a = subst (λ (r : Star). AreNeeded (length r.rays.items) r) (sym e) a
 still-needed t s T k (inr (m, h, c)) a = counted-needed t s T k.axis k.mark m h c a
+
+-- ---- a star none of whose rays is needless
+pub next-one : (n i j k : ℕ) → IsNext n i k → IsNext n j k → k < n → i ≡ j
+next-one n i j k (inl (x, h)) (inl (y, g)) l = omega (arith, x, y)
+next-one n i j k (inl (x, h)) (inr (y, g)) l = absurd (omega (arith, x, g))
+next-one n i j k (inr (x, h)) (inl (y, g)) l = absurd (omega (arith, y, h))
+next-one n i j k (inr (x, h)) (inr (y, g)) l = omega (arith, x, y)
+
+pub needed-more : (t : Star) (c : ℕ) → AreNeeded c t → (i : ℕ) → IsNext (length t.rays.items) i c → (IsNeedless t i c → ⊥) → AreNeeded (c + 1) t
+needed-more t c a i x last j k l h y z = by (lt-or-le k c)
+  where
+    by : (k < c) ⊎ (c ≤ k) → ⊥
+    by (inl m) = a j k m h y z
+    by (inr m) =
+        let e : k ≡ c = omega (arith, l, m) in
+        let f = next-one (length t.rays.items) j i c (subst (IsNext (length t.rays.items) j) e y) x (subst (λ (n : ℕ). n < length t.rays.items) e h) in
+        last (subst (IsNeedless t i) e (subst (λ (n : ℕ). IsNeedless t n k) f z))

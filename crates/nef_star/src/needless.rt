@@ -2,6 +2,7 @@
 
 ghost use Rattle.std.specs.Prelude.{◌≡◌, ◌≤◌, ◌<◌, ◌+◌, ◌-◌, ◌↔◌, ◌⊎◌, ℕ, length, slice_index_or, IsTrue};
 ghost use Rattle.law_sphere.specs.Stars.{IsSimplified};
+ghost use Rattle.nef_star.specs.Turning.{IsNext};
 ghost use Rattle.nef_star.specs.Stars.{star_of, IsRayBelow, IsTurned, IsStar, IsKept, IsCountedFrom, IsNeedless, AreNeeded, IsPassed};
 
 use crate::star::{Ray, Star};
@@ -112,9 +113,40 @@ fn pass_last(star: &mut Star)
     count_from(star, last);
 }
 
-/// Removes every ray whose mark is the label of both its sectors. Each direction keeps its label, and so does the
-/// axis. It takes no memory.
-pub fn simplify(star: &mut Star)
+// The number of the ray before ray `k`, out of `count`.
+fn before_of(count: usize, k: usize) -> usize
+    requires within { k < count }
+    ensures before { IsNext count result k }
+    ensures within { result < count }
+{
+    if k > 0 { k - 1 } else { count - 1 }
+}
+
+// Whether ray `k`'s mark is the label of both its sectors.
+fn is_needless(star: &Star, k: usize) -> bool
+    requires turned { IsTurned star.now }
+    requires within { k < length star.now.rays.items }
+    ensures needless { (j : ℕ) × IsNext (length star.now.rays.items) j k × (IsTrue result ↔ IsNeedless star.now j k) }
+{
+    let before = before_of(star.rays.len(), k);
+    are_one(star.rays[k].mark, star.sectors[before], star.sectors[k])
+}
+
+// Whether no ray is needless.
+fn is_simple(star: &Star) -> bool
+    requires turned { IsTurned star.now }
+    ensures simple { IsTrue result → AreNeeded (length star.now.rays.items) star.now }
+{
+    for k in 0..star.rays.len() {
+        if is_needless(star, k) {
+            return false;
+        }
+    }
+    true
+}
+
+// Removes every needless ray.
+fn drop_needless(star: &mut Star)
     requires star { IsStar star.old }
     ensures star { IsStar star.new }
     ensures kept { IsKept star.old star.new }
@@ -126,4 +158,19 @@ pub fn simplify(star: &mut Star)
         unseen -= 1;
     }
     begin_with_least(star);
+}
+
+/// Removes every ray whose mark is the label of both its sectors. Each direction keeps its label, and so does the
+/// axis. It takes no memory.
+pub fn simplify(star: &mut Star)
+    requires star { IsStar star.old }
+    ensures star { IsStar star.new }
+    ensures kept { IsKept star.old star.new }
+    ensures simplified { IsSimplified (star_of star.new) }
+{
+    // most stars have no needless ray
+    if is_simple(star) {
+        return;
+    }
+    drop_needless(star);
 }

@@ -75,12 +75,14 @@ pub struct Star {
 }
 
 impl Star {
-    /// The star with these rays and the sectors after them, and the label `mark` on its axis.
+    /// The star with these rays and the sectors after them, and the label `mark` on its axis. It is a star where the rays
+    /// are perpendicular to the axis, stand in counterclockwise order from the least on, and have a sector each.
     pub fn of(axis: Dir, rays: Vec<Ray>, sectors: Vec<Label>, mark: Label) -> Star
         ensures axis { result.axis ≡ axis }
         ensures rays { result.rays.items ≡ rays.items }
         ensures sectors { result.sectors.items ≡ sectors.items }
         ensures mark { result.mark ≡ mark }
+        ensures star { IsStar (record { axis = axis; rays = rays; sectors = sectors; mark = mark }) → IsStar result }
     {
         Star {
             axis,

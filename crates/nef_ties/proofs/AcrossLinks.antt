@@ -14,14 +14,14 @@ use Rattle.law_complex.specs.Shows.{Shows}
 use Rattle.law_complex.specs.Skeleton.{item_plane, RayNames}
 use Rattle.law_complex.proofs.FacetAngles.{through-at}
 use Rattle.law_complex.proofs.FacetNames.{through-level}
-use Rattle.law_complex.proofs.Ways.{same-itself}
+use Rattle.law_complex.proofs.Ways.{same-itself, opposite-same}
 use Rattle.nef_complex.specs.declared.complex.Corner.{Corner as ProgramCorner}
 use Rattle.nef_complex.specs.Complexes.{corner_of}
 use Rattle.nef_classes.specs.declared.table.Cell.{Cell}
 use Rattle.nef_classes.specs.declared.table.Tie.{Tie}
 use Rattle.law_links.specs.Links.{LinkAcross}
 use Rattle.nef_plane.specs.Meets.{HasNoSvertex}
-use Rattle.nef_locate.proofs.SamePlanes.{level-back, scaled-same, first-same, corner-same, opposite-same, on-turned}
+use Rattle.nef_locate.proofs.SamePlanes.{level-back, scaled-same, first-same, corner-same, on-turned}
 use Rattle.nef_ties.specs.Ties.{cell_of, corner_at, IsTieAcross, Adds}
 use Rattle.nef_ties.proofs.Adding.{adds-one}
 use Rattle.nef_ties.proofs.ItemPlane.{dir-same}

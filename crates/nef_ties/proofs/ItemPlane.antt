@@ -7,7 +7,8 @@ use Rattle.nef_space.specs.Limits.{axis_factor}
 use Rattle.nef_space.specs.Vectors.{Vector, blend, IsDirection, SameDirection, plane_dir, beside_x, beside_y, beside_z}
 use Rattle.law_forms.specs.Homogeneous.{SameUpToFactor, of_direction}
 use Rattle.law_forms.proofs.Directions.{same-factor, factor-same}
-use Rattle.nef_locate.proofs.SamePlanes.{opposed, same-test, alike}
+use Rattle.law_complex.proofs.Ways.{opposed}
+use Rattle.nef_locate.proofs.SamePlanes.{same-test, alike}
 
 -- ---- the way inward
 -- u and v are one up to these factors

@@ -29,11 +29,11 @@ use Rattle.law_complex.specs.Skeleton.{IsEdgePoint, PlaneMeet, meets_vertex, mee
 use Rattle.law_complex.proofs.Edges.{edge-points}
 use Rattle.law_complex.proofs.FacetArcs.{source-meets, target-meets}
 use Rattle.law_complex.proofs.FacetEdges.{ahead-back}
-use Rattle.law_complex.proofs.Ways.{between-way, same-itself}
+use Rattle.law_complex.proofs.Ways.{between-way, same-itself, opposite-same}
 use Rattle.nef_complex.proofs.Lines.{on_line}
 use Rattle.nef_edges.proofs.Existing.{one-edge}
 use Rattle.nef_edges.proofs.Rays.{ahead-normal, normals-same, to_opposite}
-use Rattle.nef_locate.proofs.SamePlanes.{level-kept, opposite-same, side-turned}
+use Rattle.nef_locate.proofs.SamePlanes.{level-kept, side-turned}
 
 -- ---- points of a ray
 opposite-back : (d : Vector) → opposite (opposite d) ≡ d

@@ -16,7 +16,7 @@ use Rattle.law_turns.specs.Turned.{turned_place}
 use Rattle.law_turns.specs.Maps.{IsTurnedMap}
 use Rattle.law_turns.specs.Complexes.{AreTurnedVertices}
 use Rattle.law_turns.proofs.Places.{same_place-turned}
-use Rattle.law_turns.proofs.Complexes.{place-through}
+use Rattle.law_complex.proofs.Ways.{same-place_trans}
 use Rattle.nef_turn.specs.Images.{AreImages, AreApart}
 use Rattle.nef_turn.specs.Turning.{IsVertexImage, IsVertexBelow, AreAtOnePlace}
 use Rattle.nef_turn.proofs.Images.{images-all}
@@ -29,7 +29,7 @@ module _ (k : ℕ) (us vs : List Vertex) (I : AreImages (IsVertexImage k) (lengt
       let (w, d, (q, _, _)) = I.each j y b in
       let pu = place_of u.point in
       let pw = place_of w.point in
-      let turned = place-through (turned_place k pu) (place_of x.point) (turned_place k pw) (same-place_sym (place_of x.point) (turned_place k pu) p) (place-through (place_of x.point) (place_of y.point) (turned_place k pw) s q) in
+      let turned = same-place_trans (turned_place k pu) (place_of x.point) (turned_place k pw) (same-place_sym (place_of x.point) (turned_place k pu) p) (same-place_trans (place_of x.point) (place_of y.point) (turned_place k pw) s q) in
       let same = (same_place-turned k pu pw).0 turned in
       number-order i j (λ l. absurd (place_below-apart pu pw (S i j u w l (at-some us i u c) (at-some us j w d)) same)) (λ e. e)
       (λ l. absurd (place_below-apart pw pu (S j i w u l (at-some us j w d) (at-some us i u c)) (same-place_sym pu pw same)))

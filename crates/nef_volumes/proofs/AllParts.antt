@@ -1,5 +1,5 @@
 -- The parts of a complex, put together.
-use Rattle.std.proofs.Common.{◌≡◌, ℕ, List, [], ◌∷◌, map, arith, refl, sym, subst}
+use Rattle.std.proofs.Common.{◌≡◌, ℕ, List, [], ◌∷◌, length, map, arith, refl, sym, subst}
 use Rattle.nef_space.specs.Lists.{IsAt, Chained}
 use Rattle.nef_space.specs.declared.label.Label.{Label}
 use Rattle.nef_geo.specs.declared.plane.Plane.{Plane}
@@ -11,9 +11,12 @@ use Rattle.nef_complex.specs.Complexes.{corner_of}
 use Rattle.nef_complex.specs.declared.complex.Corner.{Corner as ProgramCorner}
 use Rattle.law_links.specs.Links.{VolumeLink}
 use Rattle.nef_parts.specs.Cycles.{IsCycle, Cycles}
-use Rattle.nef_parts.specs.Numbers.{IsFacetOf, IsVolumeOf, VolumeNumbers, pos_of, neg_of, IsFacetAt, cycle_corners, IsFacet, IsParts}
+use Rattle.nef_parts.specs.Numbers.{IsFacetOf, IsVolumeOf, VolumeNumbers, pos_of, neg_of, IsFacetAt, cycle_corners, IsFacet, shell_sides, IsParts}
+use Rattle.nef_parts.specs.Shells.{SfaceNumbers, Shells}
 use Rattle.nef_parts.specs.declared.parts.Cycle.{Cycle}
 use Rattle.nef_parts.specs.declared.parts.Facet.{Facet}
+use Rattle.nef_parts.specs.declared.parts.Parts.{Parts}
+use Rattle.nef_parts.specs.declared.parts.Shell.{Shell}
 use Rattle.nef_facets.specs.Facets.{IsFacetParts}
 use Rattle.nef_volumes.specs.Labels.{AreVolumeLabels}
 use Rattle.nef_ties.specs.Carriers.{HasItem}
@@ -42,14 +45,19 @@ module _ (C : Complex) (planes : List Plane) (marks : List Label) (cycles : List
   pub all-first : (n : ℕ) (xs : List Cycle) → IsAt cycles n xs → HasFirst C xs
   all-first n xs a = let r = first-of n xs a in (r.0, r.1, numbered-item C facet_of F.numbers (corner_of r.0) n r.2)
 
-  module _ (rows : List (List ℕ)) (N : VolumeNumbers C rows) (ls : List Label) (L : AreVolumeLabels C rows ls) (fs : List Facet) (A : AreFacetsOf C rows planes marks cycles fs) where
+  module _ (rows : List (List ℕ)) (N : VolumeNumbers C rows) (ls : List Label) (L : AreVolumeLabels C rows ls) (fs : List Facet) (A : AreFacetsOf C rows planes marks cycles fs)
+      (faces : List (List ℕ)) (S : SfaceNumbers C faces) (shells : List (List Shell)) (many : length shells ≡ length ls)
+      (H : (n : ℕ) (hs : List Shell) → IsAt shells n hs → Shells C (λ x. IsVolumeOf C rows x n) (shell_sides hs)) where
+    abbrev all : Parts
+    all = record { facets = fs; volumes = ls; facet_of = facet_of; volume_of = rows; sface_of = faces; shells = shells }
+
     -- the side of another item of the facet is of the same volume
     same-volume : (x y : VertexSide) (l : Label) (n : ℕ) → IsVolumeOf C rows x n → HasSideLabel C y l → Chained (VolumeLink C) x y → IsVolumeOf C rows y n
     same-volume x y l n X h c =
         let r = numbered-side C rows N y l h in
         subst (λ (m : ℕ). IsVolumeOf C rows y m) (sym ((N.numbered.by_class x y n r.0 X r.1).1 c)) r.1
 
-    facet-corner : (n : ℕ) (f : Facet) → IsAt fs n f → (k : Corner) (v : Vertex) (x : Item) → IsFacetOf facet_of k n → IsCorner C k v x → IsFacetAt C (record { facets = fs; volumes = ls; facet_of = facet_of; volume_of = rows }) f k v x
+    facet-corner : (n : ℕ) (f : Facet) → IsAt fs n f → (k : Corner) (v : Vertex) (x : Item) → IsFacetOf facet_of k n → IsCorner C k v x → IsFacetAt C all f k v x
     facet-corner n f a k v x p K =
         let r = first-of n f.cycles (A.cycles_of n f a) in
         let B = A.beside n f a r.0 r.1 in
@@ -64,7 +72,7 @@ module _ (C : Complex) (planes : List Plane) (marks : List Label) (cycles : List
           neg = same-volume (neg_of (corner_of r.0)) (neg_of k) (item_neg x) f.neg B.1 (v, K.vertex, (x, K.item, refl)) (chain-neg C (corner_of r.0) k c);
         }
 
-    facet-is : (n : ℕ) (f : Facet) → IsAt fs n f → IsFacet C (record { facets = fs; volumes = ls; facet_of = facet_of; volume_of = rows }) n f
+    facet-is : (n : ℕ) (f : Facet) → IsAt fs n f → IsFacet C all n f
     facet-is n f a = record {
       some = F.some n (let l = is-at_within fs n f a in let e = A.as_many in let h = F.as_many_cycles in omega (arith, l, e, h));
       corners = facet-corner n f a;
@@ -72,7 +80,7 @@ module _ (C : Complex) (planes : List Plane) (marks : List Label) (cycles : List
     }
 
     -- ALL PARTS
-    pub parts-are : IsParts C (record { facets = fs; volumes = ls; facet_of = facet_of; volume_of = rows })
+    pub parts-are : IsParts C all
     parts-are = record {
       facet_numbers = F.numbers;
       volume_numbers = N;
@@ -80,6 +88,9 @@ module _ (C : Complex) (planes : List Plane) (marks : List Label) (cycles : List
       all_facets = λ k n p. let l = F.all k n p in let e = A.as_many in let h = F.as_many_cycles in omega (arith, l, e, h);
       volumes = λ n l a. record { some = L.some n l a; labels = λ x m X h. L.labels n l x m a X h };
       all_volumes = λ x n X. L.all x n X;
+      sface_numbers = S;
+      as_many_shells = many;
+      shells = H;
     }
 
 -- there is an item at the first corner

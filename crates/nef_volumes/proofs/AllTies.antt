@@ -13,15 +13,17 @@ use Rattle.law_complex.specs.Rays.{VertexSide, RayDown}
 use Rattle.nef_classes.specs.Tables.{AreTied}
 use Rattle.nef_classes.specs.declared.table.Tie.{Tie}
 use Rattle.law_links.specs.Links.{LinkAlong, LinkAcross, IsSideOf, LinkInSface, AreSidesAlong, pos_arcs, neg_arcs, around_ends, LinkAcrossFacet, LinkDown, LinkOutside, VolumeLink}
+use Rattle.nef_parts.specs.Shells.{ShellLink}
 use Rattle.nef_ties.specs.Ties.{cell_of}
-use Rattle.nef_volumes.specs.Ties.{outside_cell, AreLinks, AreTiedSides, AreTiesOf, AreTiedOutside, AreTiesDown, LinkOfItems, LinkOfEnds, LinkOfFacets, AreTiedCorners, AreItemTies}
+use Rattle.nef_volumes.specs.Ties.{outside_cell, IsCellOf, IsEndOf, AreLinks, AreTiedSides, AreTiesOf, AreTiesWithOutside, AreTiedOutside, AreTiesDown, AreVolumeTies, LinkOfItems, LinkOfEnds, LinkOfFacets, AreTiedCorners, AreItemTies}
 use Rattle.nef_volumes.proofs.SideCells.{tie-chain, more-tied, more-sides, both-links, links-as, one-cell}
 use Rattle.nef_volumes.proofs.BelowTies.{linked, one-below}
 
 -- lists of ties of two links together
 pub either-tied : (C : Complex) (Link Other : VertexSide → VertexSide → Type 0) (ts us : List Tie) → AreTiesOf C Link ts → AreTiesOf C Other us → AreTiesOf C (λ x y. Link x y ⊎ Other x y) (ts ++ us)
 either-tied C Link Other ts us A B = record {
-  only = both-links C (λ x y. Link x y ⊎ Other x y) ts us (links-as C Link (λ x y. Link x y ⊎ Other x y) ts (λ x y l. inl l) A.only) (links-as C Other (λ x y. Link x y ⊎ Other x y) us (λ x y l. inr l) B.only);
+  only = both-links C (IsCellOf C) (λ x y. Link x y ⊎ Other x y) ts us (links-as C (IsCellOf C) (IsCellOf C) Link (λ x y. Link x y ⊎ Other x y) ts (λ x a f. f) (λ x y l. inl l) A.only)
+      (links-as C (IsCellOf C) (IsCellOf C) Other (λ x y. Link x y ⊎ Other x y) us (λ x a f. f) (λ x y l. inr l) B.only);
   all = λ x y l. by x y l;
 }
   where
@@ -30,7 +32,7 @@ either-tied C Link Other ts us A B = record {
     by x y (inr l) = more-sides C us (ts ++ us) (λ t c. Contains-append_right ts us t c) x y (B.all x y l)
 
 pub ties-as : (C : Complex) (Link Other : VertexSide → VertexSide → Type 0) (ts : List Tie) → ((x y : VertexSide) → Link x y → Other x y) → ((x y : VertexSide) → Other x y → Link x y) → AreTiesOf C Link ts → AreTiesOf C Other ts
-ties-as C Link Other ts f g A = record { only = links-as C Link Other ts f A.only; all = λ x y l. A.all x y (g x y l) }
+ties-as C Link Other ts f g A = record { only = links-as C (IsCellOf C) (IsCellOf C) Link Other ts (λ x a h. h) f A.only; all = λ x y l. A.all x y (g x y l) }
 
 -- the links of two kinds of linked items
 pub items-tied_both : (C : Complex) (L M N : Corner → Corner → Type 0) (ts us : List Tie) → ((j k : Corner) → N j k → L j k ⊎ M j k) → ((j k : Corner) → L j k ⊎ M j k → N j k) → AreTiesOf C (LinkOfItems C L) ts → AreTiesOf C (LinkOfItems C M) us → AreTiesOf C (LinkOfItems C N) (ts ++ us)
@@ -52,7 +54,7 @@ module _ (C : Complex) where
   as-side : (x : VertexSide) (i : ℕ) (o p : Side) → o ≡ p → IsSideOf C x i o → IsSideOf C x i p
   as-side x i o p e (l, f, g, h) = (l, f, g ∙ e, h)
 
-  of-items : (x y : VertexSide) → LinkOfItems C (LinkOfFacets C) x y → VolumeLink C x y
+  of-items : (x y : VertexSide) → LinkOfItems C (LinkOfFacets C) x y → ShellLink C x y
   of-items x y (j, k, inl A, inl (f, g)) = inr (inl (record {
     number = A.number;
     edge = A.edge;
@@ -73,9 +75,9 @@ module _ (C : Complex) where
     is_high = at-low y k.vertex A.edge.high (neg_item k.item) A.to_high g;
     along = neg_arcs j.item k.item A.along refl refl;
   }))
-  of-items x y (j, k, inr A, h) = inr (inr (inl (record { here = j; there = k; across = A; sides = h })))
+  of-items x y (j, k, inr A, h) = inr (inr (record { here = j; there = k; across = A; sides = h }))
 
-  of-ends : (x y : VertexSide) → LinkOfEnds C x y → VolumeLink C x y
+  of-ends : (x y : VertexSide) → LinkOfEnds C x y → ShellLink C x y
   of-ends x y (k, e, a, f, g) = inr (inl (record { number = k; edge = e; is_edge = a; low_side = around_svertex e.low_svertex; high_side = around_svertex e.high_svertex; is_low = f; is_high = g; along = around_ends refl refl }))
 
   abbrev ItemsOrEnds : VertexSide → VertexSide → Type 0
@@ -99,72 +101,89 @@ module _ (C : Complex) where
   from-across : (x y : VertexSide) → LinkAcrossFacet C x y → ItemsOrEnds x y
   from-across x y L = inl (L.here, L.there, inr L.across, L.sides)
 
-module _ (s : Set) (C : Complex) (S : Shows s C) (outside sface items ends down : List Tie) (O : AreTiesOf C (LinkOutside C) outside) (F : AreTiesOf C (LinkInSface C) sface) (I : AreItemTies C items)
-    (E : AreTiesOf C (LinkOfEnds C) ends) (D : AreTiesDown C down) where
-  in-down : (t : Tie) → Contains down t → Contains (outside ++ sface ++ items ++ ends ++ down) t
-  in-down t c = Contains-append_right (outside ++ sface ++ items ++ ends) down t c
+module _ (C : Complex) (sface items ends : List Tie) (F : AreTiesOf C (LinkInSface C) sface) (I : AreItemTies C items) (E : AreTiesOf C (LinkOfEnds C) ends) where
+  abbrev OfThree : VertexSide → VertexSide → Type 0
+  OfThree x y = (LinkInSface C x y ⊎ LinkOfItems C (LinkOfFacets C) x y) ⊎ LinkOfEnds C x y
 
-  in-four : (t : Tie) → Contains (outside ++ sface ++ items ++ ends) t → Contains (outside ++ sface ++ items ++ ends ++ down) t
-  in-four t c = Contains-append_left (outside ++ sface ++ items ++ ends) down t c
+  to-shell : (x y : VertexSide) → OfThree x y → ShellLink C x y
+  to-shell x y (inl (inl l)) = inl l
+  to-shell x y (inl (inr l)) = of-items C x y l
+  to-shell x y (inr l) = of-ends C x y l
 
-  in-ends : (t : Tie) → Contains ends t → Contains (outside ++ sface ++ items ++ ends ++ down) t
-  in-ends t c = in-four t (Contains-append_right (outside ++ sface ++ items) ends t c)
+  to-three : (x y : VertexSide) → ItemsOrEnds C x y → OfThree x y
+  to-three x y (inl l) = inl (inr l)
+  to-three x y (inr l) = inr l
 
-  in-items : (t : Tie) → Contains items t → Contains (outside ++ sface ++ items ++ ends ++ down) t
-  in-items t c = in-four t (Contains-append_left (outside ++ sface ++ items) ends t (Contains-append_right (outside ++ sface) items t c))
+  from-shell : (x y : VertexSide) → ShellLink C x y → OfThree x y
+  from-shell x y (inl l) = inl (inl l)
+  from-shell x y (inr (inl L)) = to-three x y (from-along C x y L.number L.edge L.is_edge L.low_side L.high_side L.is_low L.is_high L.along)
+  from-shell x y (inr (inr L)) = to-three x y (from-across C x y L)
 
-  in-sface : (t : Tie) → Contains sface t → Contains (outside ++ sface ++ items ++ ends ++ down) t
-  in-sface t c = in-four t (Contains-append_left (outside ++ sface ++ items) ends t (Contains-append_left (outside ++ sface) items t (Contains-append_right outside sface t c)))
+  -- THE TIES OF SHELLS ARE THOSE OF THEIR LINKS
+  pub shell-tied : AreTiesOf C (ShellLink C) (sface ++ items ++ ends)
+  shell-tied = ties-as C OfThree (ShellLink C) (sface ++ items ++ ends) to-shell from-shell
+      (either-tied C (λ x y. LinkInSface C x y ⊎ LinkOfItems C (LinkOfFacets C) x y) (LinkOfEnds C) (sface ++ items) ends (either-tied C (LinkInSface C) (LinkOfItems C (LinkOfFacets C)) sface items F I) E)
 
-  in-outside : (t : Tie) → Contains outside t → Contains (outside ++ sface ++ items ++ ends ++ down) t
-  in-outside t c = in-four t (Contains-append_left (outside ++ sface ++ items) ends t (Contains-append_left (outside ++ sface) items t (Contains-append_left outside sface t c)))
+-- a link of a shell is one of a volume
+pub shell-volume : (C : Complex) (x y : VertexSide) → ShellLink C x y → VolumeLink C x y
+shell-volume C x y (inl l) = inl l
+shell-volume C x y (inr (inl l)) = inr (inl l)
+shell-volume C x y (inr (inr l)) = inr (inr (inl l))
 
-  links-only : AreLinks C (VolumeLink C) (outside ++ sface ++ items ++ ends ++ down)
-  links-only = both-links C (VolumeLink C) (outside ++ sface ++ items ++ ends) down
-      (both-links C (VolumeLink C) (outside ++ sface ++ items) ends
-      (both-links C (VolumeLink C) (outside ++ sface) items
-      (both-links C (VolumeLink C) outside sface (links-as C (LinkOutside C) (VolumeLink C) outside (λ x y l. inr (inr (inr (inr l)))) O.only) (links-as C (LinkInSface C) (VolumeLink C) sface (λ x y l. inl l) F.only))
-      (links-as C (LinkOfItems C (LinkOfFacets C)) (VolumeLink C) items (of-items C) I.only))
-      (links-as C (LinkOfEnds C) (VolumeLink C) ends (of-ends C) E.only))
-      (links-as C (LinkDown C) (VolumeLink C) down (λ x y l. inr (inr (inr (inl l)))) D.only)
+module _ (s : Set) (C : Complex) (S : Shows s C) (outside down : List Tie) (O : AreTiesWithOutside C (LinkOutside C) outside) (D : AreTiesDown C down) where
+  further-only : AreLinks (IsEndOf C) (VolumeLink C) (outside ++ down)
+  further-only = both-links C (IsEndOf C) (VolumeLink C) outside down
+      (links-as C (IsEndOf C) (IsEndOf C) (LinkOutside C) (VolumeLink C) outside (λ x a f. f) (λ x y l. inr (inr (inr (inr l)))) O.only)
+      (links-as C (IsCellOf C) (IsEndOf C) (LinkDown C) (VolumeLink C) down (λ x a f. inl f) (λ x y l. inr (inr (inr (inl l)))) D.only)
 
-  from-items : (x y : VertexSide) → ItemsOrEnds C x y → AreTiedSides C (outside ++ sface ++ items ++ ends ++ down) x y
-  from-items x y (inl l) = more-sides C items (outside ++ sface ++ items ++ ends ++ down) in-items x y (I.all x y l)
-  from-items x y (inr l) = more-sides C ends (outside ++ sface ++ items ++ ends ++ down) in-ends x y (E.all x y l)
+  module _ (shell : List Tie) (H : AreTiesOf C (ShellLink C) shell) where
+    abbrev whole : List Tie
+    whole = shell ++ (outside ++ down)
 
-  tied-sface : (x y : VertexSide) → LinkInSface C x y → AreTiedSides C (outside ++ sface ++ items ++ ends ++ down) x y
-  tied-sface x y l = more-sides C sface (outside ++ sface ++ items ++ ends ++ down) in-sface x y (F.all x y l)
+    in-shell : (t : Tie) → Contains shell t → Contains whole t
+    in-shell t c = Contains-append_left shell (outside ++ down) t c
 
-  from-down : (x y : VertexSide) → LinkDown C x y → AreTiedSides C (outside ++ sface ++ items ++ ends ++ down) x y
-  from-down x y L =
-      let (t, c, (z, w, e, f, g, M)) = D.all x y L in
-      let v = L.vertex in
-      let one = at-one C.vertices x.vertex M.vertex v (subst (λ (n : ℕ). At C.vertices n M.vertex) e M.is_vertex) L.is_vertex in
-      let sight = subst (λ (r : Vertex). Sees r.map z.side (opposite up)) one M.sees in
-      let h = tied-sface x z (linked s C S x z v L.label M.label L.is_vertex e (v, L.is_vertex, L.has) (M.vertex, M.is_vertex, M.has) (opposite up) L.sees sight) in
-      let i = tied-sface y w (one-below s C S v.point y w L.down (subst (λ (r : Vertex). RayDown C r.point w) one M.down)) in
-      let (a, b, A, B, k) = h in
-      let (p, q, P, Q, l) = i in
-      let ts = outside ++ sface ++ items ++ ends ++ down in
-      let m = tie-chain ts t b q (in-down t c) (one-cell C z t.first b f B) (one-cell C w t.second q g Q) in
-      (a, p, A, P, chain-trans (AreTied ts) a b p k (chain-trans (AreTied ts) b q p m (chain-turned (AreTied ts) p q l)))
+    in-outside : (t : Tie) → Contains outside t → Contains whole t
+    in-outside t c = Contains-append_right shell (outside ++ down) t (Contains-append_left outside down t c)
 
-  links-all : (x y : VertexSide) → VolumeLink C x y → AreTiedSides C (outside ++ sface ++ items ++ ends ++ down) x y
-  links-all x y (inl l) = tied-sface x y l
-  links-all x y (inr (inl L)) = from-items x y (from-along C x y L.number L.edge L.is_edge L.low_side L.high_side L.is_low L.is_high L.along)
-  links-all x y (inr (inr (inl L))) = from-items x y (from-across C x y L)
-  links-all x y (inr (inr (inr (inl L)))) = from-down x y L
-  links-all x y (inr (inr (inr (inr l)))) = more-sides C outside (outside ++ sface ++ items ++ ends ++ down) in-outside x y (O.all x y l)
+    in-down : (t : Tie) → Contains down t → Contains whole t
+    in-down t c = Contains-append_right shell (outside ++ down) t (Contains-append_right outside down t c)
 
-  -- THE TIES ARE THOSE OF ALL LINKS
-  pub all-tied : AreTiesOf C (VolumeLink C) (outside ++ sface ++ items ++ ends ++ down)
-  all-tied = record { only = links-only; all = links-all }
+    tied-shell : (x y : VertexSide) → ShellLink C x y → AreTiedSides C whole x y
+    tied-shell x y l = more-sides C shell whole in-shell x y (H.all x y l)
 
--- the outside stays tied
-pub all-outside : (C : Complex) (outside sface items ends down : List Tie) → AreTiedOutside C outside → AreTiedOutside C (outside ++ sface ++ items ++ ends ++ down)
-all-outside C outside sface items ends down f x h =
-    let r = f x h in
-    (r.0, r.1, more-tied outside (outside ++ sface ++ items ++ ends ++ down) (λ t c. Contains-append_left (outside ++ sface ++ items ++ ends) down t (Contains-append_left (outside ++ sface ++ items) ends t (Contains-append_left (outside ++ sface) items t (Contains-append_left outside sface t c)))) outside_cell r.0 r.2)
+    from-down : (x y : VertexSide) → LinkDown C x y → AreTiedSides C whole x y
+    from-down x y L =
+        let (t, c, (z, w, e, f, g, M)) = D.all x y L in
+        let v = L.vertex in
+        let one = at-one C.vertices x.vertex M.vertex v (subst (λ (n : ℕ). At C.vertices n M.vertex) e M.is_vertex) L.is_vertex in
+        let sight = subst (λ (r : Vertex). Sees r.map z.side (opposite up)) one M.sees in
+        let h = tied-shell x z (inl (linked s C S x z v L.label M.label L.is_vertex e (v, L.is_vertex, L.has) (M.vertex, M.is_vertex, M.has) (opposite up) L.sees sight)) in
+        let i = tied-shell y w (inl (one-below s C S v.point y w L.down (subst (λ (r : Vertex). RayDown C r.point w) one M.down))) in
+        let (a, b, A, B, k) = h in
+        let (p, q, P, Q, l) = i in
+        let m = tie-chain whole t b q (in-down t c) (one-cell C z t.first b f B) (one-cell C w t.second q g Q) in
+        (a, p, A, P, chain-trans (AreTied whole) a b p k (chain-trans (AreTied whole) b q p m (chain-turned (AreTied whole) p q l)))
+
+    links-all : (x y : VertexSide) → VolumeLink C x y → AreTiedSides C whole x y
+    links-all x y (inl l) = tied-shell x y (inl l)
+    links-all x y (inr (inl l)) = tied-shell x y (inr (inl l))
+    links-all x y (inr (inr (inl l))) = tied-shell x y (inr (inr l))
+    links-all x y (inr (inr (inr (inl L)))) = from-down x y L
+    links-all x y (inr (inr (inr (inr l)))) = more-sides C outside whole in-outside x y (O.all x y l)
+
+    all-tied : AreTiesWithOutside C (VolumeLink C) whole
+    all-tied = record { only = both-links C (IsEndOf C) (VolumeLink C) shell (outside ++ down) (links-as C (IsCellOf C) (IsEndOf C) (ShellLink C) (VolumeLink C) shell (λ x a f. inl f) (shell-volume C) H.only) further-only; all = links-all }
+
+  -- the outside stays tied
+  all-outside : AreTiedOutside C outside → (shell : List Tie) → AreTiedOutside C (shell ++ (outside ++ down))
+  all-outside f shell x h =
+      let r = f x h in
+      (r.0, r.1, more-tied outside (shell ++ (outside ++ down)) (λ t c. Contains-append_right shell (outside ++ down) t (Contains-append_left outside down t c)) outside_cell r.0 r.2)
+
+  -- WITH THOSE OF SHELLS, THE TIES ARE THOSE OF ALL LINKS
+  pub volume-tied : AreTiedOutside C outside → AreVolumeTies C (outside ++ down)
+  volume-tied f = record { only = further-only; all = all-tied; outside = all-outside f }
 
 -- the ties of items that are linked along edges, and of those that are linked across facets
 pub items-linked : (C : Complex) (along across ts us : List Tie) → ((j k : Corner) → AreTied along (cell_of j) (cell_of k) ↔ LinkAlong C j k) → ((j k : Corner) → AreTied across (cell_of j) (cell_of k) ↔ LinkAcross C j k)

@@ -19,14 +19,14 @@ use Rattle.law_complex.specs.Complexes.{Vertex, Edge, Complex, Corner}
 use Rattle.law_complex.specs.Shows.{Shows}
 use Rattle.law_complex.specs.Skeleton.{item_plane, IsVertexPoint, IsEdgePoint, Spot, at_vertex, on_edge, in_facet, IsSpot, HasCorner}
 use Rattle.law_complex.specs.Rays.{VertexSide, HasSideLabel, SeesNear, IsAbove, RayDown}
-use Rattle.law_complex.proofs.Ways.{same-itself}
+use Rattle.law_complex.proofs.Ways.{same-itself, opposite-same, same-place_trans}
 use Rattle.law_complex.proofs.FacetPoints.{facet-point}
 use Rattle.law_complex.proofs.FacetAngles.{through-at}
 use Rattle.law_complex.proofs.FacetNames.{through-level, axis-in}
 use Rattle.law_links.specs.Links.{LinkInSface}
 use Rattle.law_links.proofs.Across.{through-same}
-use Rattle.nef_locate.proofs.EqualPoints.{same-place_trans, corner-same as corner-like}
-use Rattle.nef_locate.proofs.SamePlanes.{level-back, first-same, opposite-same, corner-same, axis-same}
+use Rattle.law_complex.proofs.EqualPoints.{corner-same as corner-like}
+use Rattle.nef_locate.proofs.SamePlanes.{level-back, first-same, corner-same, axis-same}
 use Rattle.nef_ties.proofs.OneMeet.{ray-cases, one-vertex, one-edge_through, edge-inside, one-named}
 
 module _ (s : Set) (C : Complex) (S : Shows s C) where

@@ -47,6 +47,6 @@ module _ (C : Complex) where
 -- for all vertices
 pub down-all : (c : ProgramComplex) (n : ℕ) (ts : List Tie) → ((x y : VertexSide) → LinkDown (complex_of c) x y → x.vertex < n) → AreDownTo (complex_of c) n ts → AreTiesDown (complex_of c) ts
 down-all c n ts every D = record {
-  only = λ t i. let (k, (x, y, e, f, g, L)) = D.only t i in (x, y, inl f, inl g, L);
+  only = λ t i. let (k, (x, y, e, f, g, L)) = D.only t i in (x, y, f, g, L);
   all = λ x y L. D.all x y L (every x y L);
 }

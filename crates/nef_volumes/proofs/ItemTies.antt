@@ -17,7 +17,7 @@ use Rattle.law_links.specs.Links.{IsSideOf}
 use Rattle.nef_parts.specs.Numbers.{count_items}
 use Rattle.nef_ties.specs.Ties.{cell_of, corner_at, Adds, Any}
 use Rattle.nef_ties.proofs.Adding.{adds-both}
-use Rattle.nef_volumes.specs.Ties.{side_cell, IsCellOf, IsEndOf, AreTiedSides, AreTiesOf, side_at, IsItemSide, IsSideTie, IsTieOfItems, LinkOfItems, LinkOfEnds, IsAroundCell, IsTieOfEnds}
+use Rattle.nef_volumes.specs.Ties.{side_cell, IsCellOf, AreTiedSides, AreTiesOf, side_at, IsItemSide, IsSideTie, IsTieOfItems, LinkOfItems, LinkOfEnds, IsAroundCell, IsTieOfEnds}
 use Rattle.nef_volumes.proofs.SideCells.{tie-chain, cell-is}
 use Rattle.nef_volumes.proofs.OutsideTies.{only-added}
 
@@ -73,22 +73,22 @@ module _ (C : Complex) (items : List Tie) (W : AreTiedWithin (map count_items C.
   of-sides : (b : Bool) (k : ℕ) (t u : Tie) → IsAt items k t → IsSideTie C b t u
       → ((x y : VertexSide) (j l : Corner) → x ≡ side_of b t.first → y ≡ side_of b t.second → j ≡ corner_at t.first → l ≡ corner_at t.second → (m : Label) × HasSideLabel C x m → (n : Label) × HasSideLabel C y n
       → ((IsSideOf C x j.vertex (pos_item j.item) × IsSideOf C y l.vertex (pos_item l.item)) ⊎ (IsSideOf C x j.vertex (neg_item j.item) × IsSideOf C y l.vertex (neg_item l.item))))
-      → (x : VertexSide) × (y : VertexSide) × IsEndOf C x u.first × IsEndOf C y u.second × LinkOfItems C Link x y
+      → (x : VertexSide) × (y : VertexSide) × IsCellOf C x u.first × IsCellOf C y u.second × LinkOfItems C Link x y
   of-sides b k t u i (f, g) both =
       let w = W k t i in
       let x = side_of b t.first in let y = side_of b t.second in
       let j = corner_at t.first in let l = corner_at t.second in (
         x,
         y,
-        inl (end-there b t.first u.first w.0 f),
-        inl (end-there b t.second u.second w.1 g),
+        end-there b t.first u.first w.0 f,
+        end-there b t.second u.second w.1 g,
         (j, l, (k, t, i, refl, refl), both x y j l refl refl refl refl (side-there b t.first u.first w.0 f) (side-there b t.second u.second w.1 g)),
       )
 
-  only : (u : Tie) → Contains ts u → (x : VertexSide) × (y : VertexSide) × IsEndOf C x u.first × IsEndOf C y u.second × LinkOfItems C Link x y
+  only : (u : Tie) → Contains ts u → (x : VertexSide) × (y : VertexSide) × IsCellOf C x u.first × IsCellOf C y u.second × LinkOfItems C Link x y
   only u c = let (k, (t, i, s)) = only-added (Any (IsTieOfItems C items)) ts A u c in by k t i s
     where
-      by : (k : ℕ) (t : Tie) → IsAt items k t → IsSideTie C true t u ⊎ IsSideTie C false t u → (x : VertexSide) × (y : VertexSide) × IsEndOf C x u.first × IsEndOf C y u.second × LinkOfItems C Link x y
+      by : (k : ℕ) (t : Tie) → IsAt items k t → IsSideTie C true t u ⊎ IsSideTie C false t u → (x : VertexSide) × (y : VertexSide) × IsCellOf C x u.first × IsCellOf C y u.second × LinkOfItems C Link x y
       by k t i (inl s) = of-sides true k t u i s (λ x y j l d e f g (m, h) (n, p). inl (
         (m, ap (λ (z : VertexSide). z.vertex) d ∙ ap (λ (z : Corner). z.vertex) (sym f), ap (λ (z : VertexSide). z.side) d ∙ ap (λ (z : Corner). pos_item z.item) (sym f), h),
         (n, ap (λ (z : VertexSide). z.vertex) e ∙ ap (λ (z : Corner). z.vertex) (sym g), ap (λ (z : VertexSide). z.side) e ∙ ap (λ (z : Corner). pos_item z.item) (sym g), p),
@@ -140,12 +140,12 @@ module _ (C : Complex) (ts : List Tie) (A : Adds (Any (IsTieOfEnds C)) [] ts) wh
   end-round : (i k : ℕ) (a : Cell) → IsAroundCell C i k a → IsCellOf C (around_of i k) a × IsSideOf C (around_of i k) i (around_svertex k)
   end-round i k a (v, u, l, f, g, h, e) = (subst (IsCellOf C (around_of i k)) (sym e) (cell-is C (around_of i k) v l f (u, g, h)), (l, refl, refl, (v, f, (u, g, h))))
 
-  ends-only : (t : Tie) → Contains ts t → (x : VertexSide) × (y : VertexSide) × IsEndOf C x t.first × IsEndOf C y t.second × LinkOfEnds C x y
+  ends-only : (t : Tie) → Contains ts t → (x : VertexSide) × (y : VertexSide) × IsCellOf C x t.first × IsCellOf C y t.second × LinkOfEnds C x y
   ends-only t c =
       let (k, (e, a, f, g)) = only-added (Any (IsTieOfEnds C)) ts A t c in
       let p = end-round e.low e.low_svertex t.first f in
       let q = end-round e.high e.high_svertex t.second g in
-      (around_of e.low e.low_svertex, around_of e.high e.high_svertex, inl p.0, inl q.0, (k, e, a, p.1, q.1))
+      (around_of e.low e.low_svertex, around_of e.high e.high_svertex, p.0, q.0, (k, e, a, p.1, q.1))
 
   round-there : (i k : ℕ) (x : VertexSide) → IsSideOf C x i (around_svertex k) → (a : Cell) × IsCellOf C x a × IsAroundCell C i k a
   round-there i k x (l, f, g, (v, a, h)) =

@@ -9,10 +9,16 @@ pub mod AllTies
 pub mod Downward
 pub mod SideLabels
 pub mod RowNumbers
+pub mod Held
+pub mod Joining
+pub mod Gathering
 pub mod EndsFound
 pub mod DownTies
 pub mod OutsideSide
 pub mod VolumeLabels
+pub mod VolumeShells
+pub mod ShellRows
+pub mod ShellParts
 pub mod FacetSides
 pub mod FacetLists
 pub mod Components

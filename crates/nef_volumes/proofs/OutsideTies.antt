@@ -23,7 +23,7 @@ use Rattle.nef_classes.specs.declared.table.Cell.{Cell}
 use Rattle.nef_classes.specs.declared.table.Tie.{Tie}
 use Rattle.law_links.specs.Links.{LinkOutside}
 use Rattle.nef_ties.specs.Ties.{Adds, Any}
-use Rattle.nef_volumes.specs.Ties.{outside_cell, side_cell, IsCellOf, IsEndOf, AreTiedSides, AreTiesOf, AreTiedOutside, IsTieOutside}
+use Rattle.nef_volumes.specs.Ties.{outside_cell, side_cell, IsCellOf, IsEndOf, AreTiedSides, AreTiesWithOutside, AreTiedOutside, IsTieOutside}
 use Rattle.nef_volumes.proofs.SideCells.{tie-chain, cell-is, cell-numbered}
 
 -- all elements of a list that was empty have P
@@ -61,7 +61,7 @@ module _ (C : Complex) (ts : List Tie) (A : Adds (Any (λ i. Any (IsTieOutside C
       (a.0, b.0, a.1, b.1, chain-trans (AreTied ts) a.0 outside_cell b.0 (chain-turned (AreTied ts) outside_cell a.0 a.2) b.2)
 
   -- THE SIDES OUTSIDE ARE TIED
-  pub outside-tied : AreTiesOf C (LinkOutside C) ts
+  pub outside-tied : AreTiesWithOutside C (LinkOutside C) ts
   outside-tied = record { only = only; all = all }
 
 -- ---- the loop over the sides of a vertex

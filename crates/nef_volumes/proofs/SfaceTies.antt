@@ -1,6 +1,6 @@
 -- The ties between sides of one sface.
 use Rattle.std.proofs.Common.{◌≡◌, ◌≢◌, ℕ, zero, suc, ◌+◌, ◌<◌, ◌==◌, true, false, ◌⊎◌, inl, inr, ⊎_elim, arith, refl, ap, sym, ◌∙◌, subst}
-use Rattle.std.proofs.Common.{List, [], ◌∷◌, ◌++◌, length, take, Some, slice_get}
+use Rattle.std.proofs.Common.{List, [], ◌∷◌, ◌++◌, length, length-append, take, Some}
 use Rattle.std.proofs.lemmas.Bool.{cases_order}
 use Rattle.std.proofs.lemmas.Bool.Decides.{eqb_tells}
 use Rattle.std.proofs.lemmas.List.{length-take}
@@ -10,11 +10,10 @@ use Rattle.nef_space.specs.Vectors.{Vector}
 use Rattle.nef_space.specs.declared.label.Label.{Label}
 use Rattle.law_sphere.specs.Maps.{At, Map, Side, HasSide, Sees, InOneSface, here, link}
 use Rattle.nef_smap.specs.Sides.{LabelledSide, sides_of, IsSide, SideSees, SeeOneWay, AreSfaces}
-use Rattle.nef_smap.specs.Maps.{map_of}
 use Rattle.nef_smap.specs.SideNumbers.{number_of}
 use Rattle.nef_smap.proofs.SideLists.{side-has}
 use Rattle.nef_smap.proofs.SideNumbers.{side-number, number-one}
-use Rattle.nef_classes.proofs.ClassLists.{is-at_one, is-at_within, is-at_some, is-at_take, less-or-last}
+use Rattle.nef_classes.proofs.ClassLists.{Either, earlier, last, is-at_either, is-at_one, is-at_within, is-at_some, is-at_take, less-or-last}
 use Rattle.nef_classes.proofs.Chains.{chain-here, chain-link, chain-trans, chain-turned}
 use Rattle.law_complex.specs.Complexes.{Vertex, Complex}
 use Rattle.law_complex.specs.Rays.{VertexSide}
@@ -24,13 +23,10 @@ use Rattle.nef_classes.specs.declared.table.Cell.{Cell}
 use Rattle.nef_classes.specs.declared.table.Tie.{Tie}
 use Rattle.law_links.specs.Links.{LinkInSface}
 use Rattle.nef_ties.specs.Ties.{Adds, Any}
-use Rattle.nef_volumes.specs.Ties.{side_cell, IsCellOf, IsEndOf, AreTiedSides, AreTiesOf}
+use Rattle.nef_volumes.specs.Ties.{side_cell, IsCellOf, AreTiedSides, AreTiesOf}
 use Rattle.nef_volumes.specs.Ties.{tie_within, IsFirstPlace, IsTieNumbered, AreInOneSface, IsTieInSface, AddsInSfaces}
-use Rattle.nef_complex.specs.Complexes.{vertex_of, complex_of}
-use Rattle.nef_complex.specs.declared.complex.Complex.{Complex as ProgramComplex}
-use Rattle.nef_complex.specs.declared.complex.Vertex.{Vertex as ProgramVertex}
+use Rattle.law_sphere.proofs.Lists.{at-one}
 use Rattle.nef_ties.proofs.Adding.{adds-one, adds-none}
-use Rattle.nef_volumes.proofs.ReadVertex.{vertex-there, vertex-read}
 use Rattle.nef_volumes.proofs.SideCells.{tie-chain, more-tied, cell-is, cell-numbered}
 
 -- ---- chains of numbers and of sides
@@ -85,7 +81,7 @@ below-more C n ts us B A = record {
 }
 
 module _ (C : Complex) (n : ℕ) (ts : List Tie) (B : AreTiedBelow C n ts) (whole : (i : ℕ) (v : Vertex) → At C.vertices i v → i < n) where
-  only : (t : Tie) → Contains ts t → (x : VertexSide) × (y : VertexSide) × IsEndOf C x t.first × IsEndOf C y t.second × LinkInSface C x y
+  only : (t : Tie) → Contains ts t → (x : VertexSide) × (y : VertexSide) × IsCellOf C x t.first × IsCellOf C y t.second × LinkInSface C x y
   only t c =
       let (i, (r, s, (v, a, l, m, ch), e)) = B.only t c in
       let g = is-at_some (sides_of v.map) r l in
@@ -97,8 +93,8 @@ module _ (C : Complex) (n : ℕ) (ts : List Tie) (B : AreTiedBelow C n ts) (whol
       let y : VertexSide = record { vertex = i; side = p } in (
         x,
         y,
-        inl (subst (IsCellOf C x) (sym (ap (λ (u : Tie). u.first) e)) (cell-numbered C i r v o k a ho (number-one v.map r o k g.1))),
-        inl (subst (IsCellOf C y) (sym (ap (λ (u : Tie). u.second) e)) (cell-numbered C i s v p q a hp (number-one v.map s p q h.1))),
+        subst (IsCellOf C x) (sym (ap (λ (u : Tie). u.first) e)) (cell-numbered C i r v o k a ho (number-one v.map r o k g.1)),
+        subst (IsCellOf C y) (sym (ap (λ (u : Tie). u.second) e)) (cell-numbered C i s v p q a hp (number-one v.map s p q h.1)),
         record {
           vertex = v;
           is_vertex = a;
@@ -182,14 +178,14 @@ module _ (i s : ℕ) (ns : List ℕ) (n : ℕ) (at_s : IsAt ns s n) (ts : List T
       none k (take-at s ns k n l (subst (IsAt ns k) (is-at_one ns s m n q at_s) p.0)))
 
 -- ---- the ties of a vertex: equal numbers are those of one sface
-module _ (c : ProgramComplex) (i : ℕ) (u : ProgramVertex) (e : slice_get c.vertices i ≡ Some u) (ns : List ℕ) (F : AreSfaces (map_of u.map) ns)
+module _ (C : Complex) (i : ℕ) (u : Vertex) (e : At C.vertices i u) (ns : List ℕ) (F : AreSfaces u.map ns)
     (xs ys : List Tie) (A : Adds (Any (λ s. Any (IsTieNumbered i ns s))) xs ys) where
-  to-sface : (t : Tie) → Any (λ s. Any (IsTieNumbered i ns s)) t → IsTieInSface (complex_of c) i t
+  to-sface : (t : Tie) → Any (λ s. Any (IsTieNumbered i ns s)) t → IsTieInSface C i t
   to-sface t (s, (r, (l, n, f, h, w))) =
       let m = F.as_many in
       let p = is-at_within ns r n f.0 in
       let q = is-at_within ns s n h in
-      (r, s, (vertex_of u, vertex-there c i u e, omega (arith, m, p), omega (arith, m, q), (F.numbered.by_class r s n n f.0 h).0 refl), w)
+      (r, s, (u, e, omega (arith, m, p), omega (arith, m, q), (F.numbered.by_class r s n n f.0 h).0 refl), w)
 
   to-first : (n f k : ℕ) → IsFirstPlace ns n f → IsAt ns k n → Chained (AreTied ys) (side_cell i f) (side_cell i k)
   to-first n f k p a = by (cases_order f k)
@@ -199,9 +195,9 @@ module _ (c : ProgramComplex) (i : ℕ) (u : ProgramVertex) (e : slice_get c.ver
       by (inr (inl l)) = tie-chain ys (tie_within i f k) (side_cell i f) (side_cell i k) (A.all (tie_within i f k) (k, (f, (l, n, p, a, refl)))) refl refl
       by (inr (inr l)) = absurd (p.1 k l a)
 
-  tied : (r s : ℕ) → AreInOneSface (complex_of c) i r s → Chained (AreTied ys) (side_cell i r) (side_cell i s)
+  tied : (r s : ℕ) → AreInOneSface C i r s → Chained (AreTied ys) (side_cell i r) (side_cell i s)
   tied r s (v, a, l, m, ch) =
-      let one = vertex-read c i u v e a in
+      let one = at-one C.vertices i v u a e in
       let many = F.as_many in
       let l' = subst (λ (x : Vertex). r < length (sides_of x.map)) one l in
       let m' = subst (λ (x : Vertex). s < length (sides_of x.map)) one m in
@@ -213,8 +209,28 @@ module _ (c : ProgramComplex) (i : ℕ) (u : ProgramVertex) (e : slice_get c.ver
       (chain-turned (AreTied ys) (side_cell i f.0) (side_cell i r) (to-first g.0 f.0 r f.1 g.1))
       (to-first g.0 f.0 s f.1 (subst (IsAt ns s) (sym same) h.1))
 
-  pub numbered-sface : AddsInSfaces (complex_of c) i xs ys
+  pub numbered-sface : AddsInSfaces C i xs ys
   numbered-sface = record { kept = A.kept; added = λ t h. ⊎_elim (λ b. inl b) (λ b. inr (to-sface t b)) (A.added t h); tied = tied }
 
 pub numbered-below : (i : ℕ) (ns : List ℕ) (s : ℕ) (t : Tie) → Any (IsTieNumbered i ns s) t → s < length ns
 numbered-below i ns s t (r, (l, n, f, h, w)) = is-at_within ns s n h
+
+-- ---- the numbers of the first n vertices' sides
+pub record AreSfacesTo (C : Complex) (n : ℕ) (rows : List (List ℕ)) : Type 0 where
+  pub as_many : length rows ≡ n
+  pub row : (i : ℕ) (v : Vertex) (ns : List ℕ) → At C.vertices i v → IsAt rows i ns → AreSfaces v.map ns
+
+pub sfaces-none : (C : Complex) → AreSfacesTo C 0 []
+sfaces-none C = record { as_many = refl; row = λ i v ns a b. absurd (let w = is-at_within {X = List ℕ} [] i ns b in omega (arith, w)) }
+
+pub sfaces-more : (C : Complex) (n : ℕ) (rows : List (List ℕ)) (v : Vertex) (ns : List ℕ) → At C.vertices n v → AreSfaces v.map ns → AreSfacesTo C n rows → AreSfacesTo C (n + 1) (rows ++ ns ∷ [])
+sfaces-more C n rows v ns a F S = record {
+  as_many = let e = S.as_many in let f = length-append rows (ns ∷ []) in omega (arith, e, f);
+  row = λ i w ms b c. by i w ms b (is-at_either rows i ms ns c);
+}
+  where
+    by : (i : ℕ) (w : Vertex) (ms : List ℕ) → At C.vertices i w → Either rows i ms ns → AreSfaces w.map ms
+    by i w ms b (earlier c) = S.row i w ms b c
+    by i w ms b (last e f) =
+        subst (λ (ks : List ℕ). AreSfaces w.map ks) (sym f)
+        (subst (λ (u : Vertex). AreSfaces u.map ns) (at-one C.vertices n v w a (subst (λ (k : ℕ). At C.vertices k w) (e ∙ S.as_many) b)) F)

@@ -20,7 +20,8 @@ use Rattle.nef_classes.specs.declared.table.Cell.{Cell}
 use Rattle.nef_classes.specs.declared.table.Tie.{Tie}
 use Rattle.law_links.specs.Links.{VolumeLink}
 use Rattle.nef_parts.specs.Numbers.{count_sides}
-use Rattle.nef_volumes.specs.Ties.{outside_cell, side_cell, row_counts, IsCellOf, IsEndOf, AreLinks, AreTiedSides, AreTiesOf}
+use Rattle.nef_parts.specs.Shells.{ShellLink}
+use Rattle.nef_volumes.specs.Ties.{outside_cell, side_cell, row_counts, IsCellOf, IsEndOf, AreLinks, AreTiedSides, AreTiesTo, AreTiesOf, AreTiesWithOutside}
 use Rattle.nef_volumes.proofs.Agree.{chains-agree}
 
 -- ---- ties of a list
@@ -40,11 +41,12 @@ module _ (C : Complex) where
   pub more-sides : (ts us : List Tie) → ((t : Tie) → Contains ts t → Contains us t) → (x y : VertexSide) → AreTiedSides C ts x y → AreTiedSides C us x y
   more-sides ts us more x y (a, b, f, g, c) = (a, b, f, g, more-tied ts us more a b c)
 
-  pub both-links : (Link : VertexSide → VertexSide → Type 0) (ts us : List Tie) → AreLinks C Link ts → AreLinks C Link us → AreLinks C Link (ts ++ us)
-  both-links Link ts us f g t c = ⊎_elim (λ i. f t i) (λ i. g t i) (Contains-append_cases ts us t c)
+  pub both-links : (End : VertexSide → Cell → Type 0) (Link : VertexSide → VertexSide → Type 0) (ts us : List Tie) → AreLinks End Link ts → AreLinks End Link us → AreLinks End Link (ts ++ us)
+  both-links End Link ts us f g t c = ⊎_elim (λ i. f t i) (λ i. g t i) (Contains-append_cases ts us t c)
 
-  pub links-as : (Link Other : VertexSide → VertexSide → Type 0) (ts : List Tie) → ((x y : VertexSide) → Link x y → Other x y) → AreLinks C Link ts → AreLinks C Other ts
-  links-as Link Other ts f g t c = let r = g t c in (r.0, r.1, r.2, r.3, f r.0 r.1 r.4)
+  pub links-as : (End Last : VertexSide → Cell → Type 0) (Link Other : VertexSide → VertexSide → Type 0) (ts : List Tie) → ((x : VertexSide) (a : Cell) → End x a → Last x a) → ((x y : VertexSide) → Link x y → Other x y)
+      → AreLinks End Link ts → AreLinks Last Other ts
+  links-as End Last Link Other ts e f g t c = let r = g t c in (r.0, r.1, e r.0 t.first r.2, e r.1 t.second r.3, f r.0 r.1 r.4)
 
   -- ---- the element of a side
   pub cell-is : (x : VertexSide) (v : Vertex) (l : Label) → At C.vertices x.vertex v → HasSide v.map x.side l → IsCellOf C x (side_cell x.vertex (number_of v.map x.side))
@@ -76,34 +78,44 @@ module _ (C : Complex) where
   pub not-outside : (x : VertexSide) (a : Cell) → IsCellOf C x a → a ≡ outside_cell → ⊥
   not-outside x a A e = let r : x.vertex + 1 ≡ 0 = ap (λ (s : Cell). s.row) (sym A.is_cell ∙ e) in omega (arith, r)
 
-  -- ---- chains of ties are chains of links
+  -- ---- chains of ties are chains of links, where sides with one end are linked
+  module _ (End : VertexSide → Cell → Type 0) (Link : VertexSide → VertexSide → Type 0) (cell-end : (x : VertexSide) (a : Cell) → IsCellOf C x a → End x a) (end-one : (a : Cell) (x y : VertexSide) → End x a → End y a → Chained Link x y)
+      (ts : List Tie) (T : AreTiesTo C End Link ts) where
+    link-of : (a b : Cell) → AreTied ts a b → (x : VertexSide) × (y : VertexSide) × End x a × End y b × Chained Link x y
+    link-of a b (k, t, i, e, f) =
+        let r = T.only t (contains-at ts k t i) in
+        (r.0, r.1, subst (End r.0) e r.2, subst (End r.1) f r.3, chain-link Link r.0 r.1 r.4)
+
+    pub ends-linked : (a b : Cell) (x y : VertexSide) → Chained (AreTied ts) a b → End x a → End y b → Chained Link x y
+    ends-linked a b x y c f g = chains-agree (AreTied ts) Link (λ s z. End z s) end-one link-of a b x y c f g
+
+    cell-one : (x : VertexSide) (a b : Cell) → IsCellOf C x a → IsCellOf C x b → Chained (AreTied ts) a b
+    cell-one x a b f g = subst (λ (s : Cell). Chained (AreTied ts) a s) (one-cell x a b f g) (chain-here (AreTied ts) a)
+
+    sides-tied : (x y : VertexSide) (a b : Cell) → Chained Link x y → IsCellOf C x a → IsCellOf C y b → Chained (AreTied ts) a b
+    sides-tied x y a b c f g = chains-agree Link (AreTied ts) (IsCellOf C) cell-one T.all x y a b c f g
+
+    -- THE CHAINS OF TIES ARE THE CHAINS OF LINKS
+    pub ties-chains : (x y : VertexSide) (a b : Cell) → IsCellOf C x a → IsCellOf C y b → Chained (AreTied ts) a b ↔ Chained Link x y
+    ties-chains x y a b f g = (λ c. ends-linked a b x y c (cell-end x a f) (cell-end y b g), λ c. sides-tied x y a b c f g)
+
   end-one : (a : Cell) (x y : VertexSide) → IsEndOf C x a → IsEndOf C y a → Chained (VolumeLink C) x y
   end-one a x y (inl f) (inl g) = subst (λ (z : VertexSide). Chained (VolumeLink C) x z) (one-side x y a f g) (chain-here (VolumeLink C) x)
   end-one a x y (inl f) (inr g) = absurd (not-outside x a f g.0)
   end-one a x y (inr f) (inl g) = absurd (not-outside y a g f.0)
   end-one a x y (inr f) (inr g) = chain-link (VolumeLink C) x y (inr (inr (inr (inr (f.1, g.1)))))
 
-  module _ (ts : List Tie) (T : AreTiesOf C (VolumeLink C) ts) where
-    link-of : (a b : Cell) → AreTied ts a b → (x : VertexSide) × (y : VertexSide) × IsEndOf C x a × IsEndOf C y b × Chained (VolumeLink C) x y
-    link-of a b (k, t, i, e, f) =
-        let r = T.only t (contains-at ts k t i) in
-        (r.0, r.1, subst (IsEndOf C r.0) e r.2, subst (IsEndOf C r.1) f r.3, chain-link (VolumeLink C) r.0 r.1 r.4)
+  pub ends-in_volume : (ts : List Tie) → AreTiesWithOutside C (VolumeLink C) ts → (a b : Cell) (x y : VertexSide) → Chained (AreTied ts) a b → IsEndOf C x a → IsEndOf C y b → Chained (VolumeLink C) x y
+  ends-in_volume ts T = ends-linked (IsEndOf C) (VolumeLink C) (λ x a f. inl f) end-one ts T
 
-    pub ends-linked : (a b : Cell) (x y : VertexSide) → Chained (AreTied ts) a b → IsEndOf C x a → IsEndOf C y b → Chained (VolumeLink C) x y
-    ends-linked a b x y c f g = chains-agree (AreTied ts) (VolumeLink C) (λ s z. IsEndOf C z s) end-one link-of a b x y c f g
+  pub volume-chains : (ts : List Tie) → AreTiesWithOutside C (VolumeLink C) ts → (x y : VertexSide) (a b : Cell) → IsCellOf C x a → IsCellOf C y b → Chained (AreTied ts) a b ↔ Chained (VolumeLink C) x y
+  volume-chains ts T = ties-chains (IsEndOf C) (VolumeLink C) (λ x a f. inl f) end-one ts T
 
-    cell-one : (x : VertexSide) (a b : Cell) → IsCellOf C x a → IsCellOf C x b → Chained (AreTied ts) a b
-    cell-one x a b f g = subst (λ (s : Cell). Chained (AreTied ts) a s) (one-cell x a b f g) (chain-here (AreTied ts) a)
-
-    pub sides-tied : (x y : VertexSide) (a b : Cell) → Chained (VolumeLink C) x y → IsCellOf C x a → IsCellOf C y b → Chained (AreTied ts) a b
-    sides-tied x y a b c f g = chains-agree (VolumeLink C) (AreTied ts) (IsCellOf C) cell-one T.all x y a b c f g
-
-    -- THE CHAINS OF TIES ARE THE CHAINS OF LINKS
-    pub ties-chains : (x y : VertexSide) (a b : Cell) → IsCellOf C x a → IsCellOf C y b → Chained (AreTied ts) a b ↔ Chained (VolumeLink C) x y
-    ties-chains x y a b f g = (λ c. ends-linked a b x y c (inl f) (inl g), λ c. sides-tied x y a b c f g)
+  pub shell-chains : (ts : List Tie) → AreTiesOf C (ShellLink C) ts → (x y : VertexSide) (a b : Cell) → IsCellOf C x a → IsCellOf C y b → Chained (AreTied ts) a b ↔ Chained (ShellLink C) x y
+  shell-chains ts T = ties-chains (IsCellOf C) (ShellLink C) (λ x a f. f) (λ a x y f g. subst (λ (z : VertexSide). Chained (ShellLink C) x z) (one-side x y a f g) (chain-here (ShellLink C) x)) ts T
 
   -- ---- ties are within the table
-  end-within : (x : VertexSide) (a : Cell) → IsEndOf C x a → IsCellIn (row_counts C) a
+  pub end-within : (x : VertexSide) (a : Cell) → IsEndOf C x a → IsCellIn (row_counts C) a
   end-within x a (inl f) =
       let i = get-from_at (map count_sides C.vertices) x.vertex (count_sides f.vertex) (map-at count_sides C.vertices x.vertex f.vertex f.is_vertex) in
       let n = side-number f.vertex.map x.side f.label f.has in
@@ -113,5 +125,8 @@ module _ (C : Complex) where
       next k n i = let e : k + 1 ≡ suc k = omega arith in rw e i
   end-within x a (inr f) = subst (IsCellIn (row_counts C)) (sym f.0) (record { count = 1; is_row = refl; within = omega arith })
 
-  pub ties-within : (Link : VertexSide → VertexSide → Type 0) (ts : List Tie) → AreLinks C Link ts → AreTiedWithin (row_counts C) ts
+  pub ties-within : (Link : VertexSide → VertexSide → Type 0) (ts : List Tie) → AreLinks (IsEndOf C) Link ts → AreTiedWithin (row_counts C) ts
   ties-within Link ts f k t i = let r = f t (contains-at ts k t i) in (end-within r.0 t.first r.2, end-within r.1 t.second r.3)
+
+  pub cells-within : (Link : VertexSide → VertexSide → Type 0) (ts : List Tie) → AreLinks (IsCellOf C) Link ts → AreTiedWithin (row_counts C) ts
+  cells-within Link ts f = ties-within Link ts (links-as (IsCellOf C) (IsEndOf C) Link Link ts (λ x a g. inl g) (λ x y l. l) f)

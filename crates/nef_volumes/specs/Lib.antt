@@ -1,4 +1,7 @@
 pub mod Ties
+pub mod Joining
+pub mod Held
+pub mod Shells
 pub mod Labels
 pub mod Parts
 pub mod Joins

@@ -1,11 +1,11 @@
 -- Sides as elements of a table, and which ties join them.
-use Rattle.std.specs.Prelude.{◌≡◌, ℕ, ◌+◌, ◌<◌, List, ◌∷◌, length, map, Bool, true, false, cond, Option, Some, MatchOption, ◌⊎◌}
+use Rattle.std.specs.Prelude.{◌≡◌, ℕ, ◌+◌, ◌<◌, List, ◌∷◌, ◌++◌, length, map, Bool, true, false, cond, Option, Some, MatchOption, ◌⊎◌}
 use Rattle.std.specs.List.{Contains}
 use Rattle.nef_space.specs.Lists.{IsAt, Chained}
 use Rattle.nef_space.specs.declared.label.Label.{Label}
 use Rattle.nef_space.specs.declared.label.Label.TheVariants.{Out}
 use Rattle.law_sphere.specs.Maps.{At, MapVertex, Side, around_svertex, pos_item, neg_item, HasSide}
-use Rattle.nef_smap.specs.Sides.{sides_of, IsSide, SeeOneWay}
+use Rattle.nef_smap.specs.Sides.{sides_of, IsSide, SeeOneWay, AreSfaces}
 use Rattle.nef_smap.specs.SideNumbers.{number_of}
 use Rattle.law_complex.specs.Complexes.{Vertex, Edge, Complex, Corner}
 use Rattle.law_complex.specs.Rays.{VertexSide, HasSideLabel, RayDown}
@@ -13,8 +13,9 @@ use Rattle.nef_classes.specs.Tables.{AreTied}
 use Rattle.nef_ties.specs.Ties.{cell_of}
 use Rattle.nef_classes.specs.declared.table.Cell.{Cell}
 use Rattle.nef_classes.specs.declared.table.Tie.{Tie}
-use Rattle.law_links.specs.Links.{IsSideOf, LinkAlong, LinkAcross, LinkDown}
+use Rattle.law_links.specs.Links.{IsSideOf, LinkAlong, LinkAcross, LinkDown, VolumeLink}
 use Rattle.nef_parts.specs.Numbers.{count_sides}
+use Rattle.nef_parts.specs.Shells.{ShellLink}
 
 -- something with P was found, or nothing has P
 abbrev pub Finds : {X : Type 0} → Option X → (X → Type 0) → Type 0
@@ -44,18 +45,26 @@ pub record IsCellOf (C : Complex) (x : VertexSide) (a : Cell) : Type 0 where
 abbrev pub IsEndOf : Complex → VertexSide → Cell → Type 0
 IsEndOf C x a = IsCellOf C x a ⊎ ((a ≡ outside_cell) × HasSideLabel C x Out)
 
--- each tie joins elements of linked sides
-abbrev pub AreLinks : Complex → (VertexSide → VertexSide → Type 0) → List Tie → Type 0
-AreLinks C Link ts = (t : Tie) → Contains ts t → (x : VertexSide) × (y : VertexSide) × IsEndOf C x t.first × IsEndOf C y t.second × Link x y
+-- each tie joins elements of linked sides; End says which element a side has
+abbrev pub AreLinks : (VertexSide → Cell → Type 0) → (VertexSide → VertexSide → Type 0) → List Tie → Type 0
+AreLinks End Link ts = (t : Tie) → Contains ts t → (x : VertexSide) × (y : VertexSide) × End x t.first × End y t.second × Link x y
 
 -- ties lead from the element of one side to that of the other
 abbrev pub AreTiedSides : Complex → List Tie → VertexSide → VertexSide → Type 0
 AreTiedSides C ts x y = (a : Cell) × (b : Cell) × IsCellOf C x a × IsCellOf C y b × Chained (AreTied ts) a b
 
 -- the ties join elements of linked sides, and lead to each linked side
-pub record AreTiesOf (C : Complex) (Link : VertexSide → VertexSide → Type 0) (ts : List Tie) : Type 0 where
-  pub only : AreLinks C Link ts
+pub record AreTiesTo (C : Complex) (End : VertexSide → Cell → Type 0) (Link : VertexSide → VertexSide → Type 0) (ts : List Tie) : Type 0 where
+  pub only : AreLinks End Link ts
   pub all : (x y : VertexSide) → Link x y → AreTiedSides C ts x y
+
+-- of which each joins two sides
+abbrev pub AreTiesOf : Complex → (VertexSide → VertexSide → Type 0) → List Tie → Type 0
+AreTiesOf C Link ts = AreTiesTo C (IsCellOf C) Link ts
+
+-- of which some join sides with the outside
+abbrev pub AreTiesWithOutside : Complex → (VertexSide → VertexSide → Type 0) → List Tie → Type 0
+AreTiesWithOutside C Link ts = AreTiesTo C (IsEndOf C) Link ts
 
 -- ---- the outside
 -- vertex i has the side with the number s, with the label
@@ -70,6 +79,10 @@ IsTieOutside C i s t = HasNumber C i s Out × (t ≡ record { first = outside_ce
 -- the tie of sides r and s of vertex i
 abbrev pub tie_within : ℕ → ℕ → ℕ → Tie
 tie_within i r s = record { first = side_cell i r; second = side_cell i s }
+
+-- the numbers are those of the sfaces of vertex i's sides
+abbrev pub HasSfaces : Complex → ℕ → List ℕ → Type 0
+HasSfaces C i ns = (v : Vertex) × At C.vertices i v × AreSfaces v.map ns
 
 -- r is the first place of the number
 abbrev pub IsFirstPlace : List ℕ → ℕ → ℕ → Type 0
@@ -152,7 +165,7 @@ HasNoLinkDown C i = (x y : VertexSide) → x.vertex ≡ i → LinkDown C x y →
 
 -- the ties join sides that links down rays join, and there is one for each vertex that has such a link
 pub record AreTiesDown (C : Complex) (ts : List Tie) : Type 0 where
-  pub only : AreLinks C (LinkDown C) ts
+  pub only : AreLinks (IsCellOf C) (LinkDown C) ts
   pub all : (x y : VertexSide) → LinkDown C x y → (t : Tie) × Contains ts t × IsTieDown C x.vertex t
 
 -- the element is that of a side above the point where the ray down from vertex i ends
@@ -170,3 +183,9 @@ AreItemTies C ts = AreTiesOf C (LinkOfItems C (LinkOfFacets C)) ts
 -- ties lead from the outside to each side that has the label Out
 abbrev pub AreTiedOutside : Complex → List Tie → Type 0
 AreTiedOutside C ts = (x : VertexSide) → HasSideLabel C x Out → (a : Cell) × IsCellOf C x a × Chained (AreTied ts) outside_cell a
+
+-- with the ties of shells, the ties join the sides of volumes
+pub record AreVolumeTies (C : Complex) (us : List Tie) : Type 0 where
+  pub only : AreLinks (IsEndOf C) (VolumeLink C) us
+  pub all : (ts : List Tie) → AreTiesOf C (ShellLink C) ts → AreTiesWithOutside C (VolumeLink C) (ts ++ us)
+  pub outside : (ts : List Tie) → AreTiedOutside C (ts ++ us)

@@ -12,7 +12,9 @@ ghost use Rattle.nef_volumes.specs.Parts.{side_beside, HasFirst, IsBeside, AreFa
 
 use crate::OutOfMemory;
 use crate::labels::volume_labels;
-use crate::numbers::volume_numbers;
+use crate::numbers::{shell_rows, volume_numbers};
+use crate::sface::sface_numbers;
+use crate::shells::{gathered, volume_shells};
 use nef_complex::{Complex, Corner};
 use nef_facets::{FacetParts, facets};
 use nef_geo::{Label, List, Plane};
@@ -87,10 +89,10 @@ fn list_facets(
     Ok(facets)
 }
 
-/// The facets and volumes of the complex, with their numbers. Points at items are joined exactly where the items have one
-/// facet number, and points at sides where the sides have one volume number. So there are as many vertices, edges, facets
-/// and volumes as the points with no, one, two and three flat directions have connected components; the outside is one.
-/// `OutOfMemory` says that memory was wanted and not found.
+/// The facets and volumes of the complex, with their numbers, the numbers of sfaces, and the shells of volumes. Points at
+/// items are joined exactly where the items have one facet number, and points at sides where the sides have one volume
+/// number. So there are as many vertices, edges, facets and volumes as the points with no, one, two and three flat
+/// directions have connected components; the outside is one. `OutOfMemory` says that memory was wanted and not found.
 pub fn parts(alloc: Global, c: &Complex) -> Result<Parts, OutOfMemory>
     requires shows { (s : Set) × ShowsSet s c.now }
     ensures parts { IfOk result (λ p. IsParts (complex_of c.now) p) }
@@ -104,13 +106,19 @@ pub fn parts(alloc: Global, c: &Complex) -> Result<Parts, OutOfMemory>
         cycles,
         facet_of,
     } = facets(alloc, c)?;
-    let volume_of = volume_numbers(alloc, c)?;
+    let sface_of = sface_numbers(alloc, c)?;
+    let rows = shell_rows(alloc, c, &sface_of)?;
+    let sides = gathered(alloc, &rows)?;
+    let volume_of = volume_numbers(alloc, c, &rows, sides.len() + 1)?;
     let volumes = volume_labels(alloc, c, &volume_of)?;
     let facets = list_facets(alloc, c, &volume_of, &planes, &marks, cycles)?;
+    let shells = volume_shells(alloc, &volume_of, sides, volumes.len())?;
     Ok(Parts {
         facets,
         volumes,
         facet_of,
         volume_of,
+        sface_of,
+        shells,
     })
 }

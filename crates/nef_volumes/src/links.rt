@@ -2,9 +2,9 @@
 
 ghost use Rattle.std.specs.Prelude.{IfOk};
 ghost use Rattle.nef_space.specs.Sets.{Set};
-ghost use Rattle.law_links.specs.Links.{VolumeLink};
 ghost use Rattle.nef_complex.specs.Complexes.{complex_of, ShowsSet};
-ghost use Rattle.nef_volumes.specs.Ties.{AreTiesOf, AreItemTies, AreTiedOutside};
+ghost use Rattle.nef_parts.specs.Shells.{SfaceNumbers, ShellLink};
+ghost use Rattle.nef_volumes.specs.Ties.{AreTiesOf, AreItemTies, AreVolumeTies};
 
 use crate::OutOfMemory;
 use crate::below::down_ties;
@@ -14,6 +14,7 @@ use crate::outside::outside_ties;
 use crate::sface::sface_ties;
 use nef_classes::Tie;
 use nef_complex::Complex;
+use nef_geo::List;
 use nef_ties::{across_ties, along_ties};
 use std::alloc::Global;
 
@@ -30,20 +31,32 @@ fn linked_items(alloc: Global, c: &Complex) -> Result<Vec<Tie>, OutOfMemory>
     Ok(ties)
 }
 
-/// The ties between elements of the table of sides, whose first row is the outside. Chains of them join the sides of each
-/// volume.
-pub(crate) fn side_ties(alloc: Global, c: &Complex) -> Result<Vec<Tie>, OutOfMemory>
+/// The ties of sides of one sface, of sides along an edge and of sides across a facet. Chains of them join the sides of each
+/// shell. The numbers of the sfaces of the vertices' sides are given.
+pub(crate) fn shell_ties(
+    alloc: Global,
+    c: &Complex,
+    sface_of: &List<List<usize>>,
+) -> Result<Vec<Tie>, OutOfMemory>
     requires shows { (s : Set) × ShowsSet s c.now }
-    ensures ties { IfOk result (λ v. AreTiesOf (complex_of c.now) (VolumeLink (complex_of c.now)) v.items) }
-    ensures outside { IfOk result (λ v. AreTiedOutside (complex_of c.now) v.items) }
+    requires sfaces { SfaceNumbers (complex_of c.now) sface_of.now }
+    ensures ties { IfOk result (λ v. AreTiesOf (complex_of c.now) (ShellLink (complex_of c.now)) v.items) }
 {
-    let mut ties = outside_ties(alloc, c)?;
-    let sface = sface_ties(alloc, c)?;
-    ties.extend_from_slice(sface.as_slice())?;
+    let mut ties = sface_ties(alloc, c, sface_of)?;
     let items = linked_items(alloc, c)?;
     ties.extend_from_slice(items.as_slice())?;
     let ends = ends_ties(alloc, c)?;
     ties.extend_from_slice(ends.as_slice())?;
+    Ok(ties)
+}
+
+/// The ties with the outside, an element of its own, and those down rays. With the ties of shells, chains of them join the
+/// sides of each volume.
+pub(crate) fn volume_ties(alloc: Global, c: &Complex) -> Result<Vec<Tie>, OutOfMemory>
+    requires shows { (s : Set) × ShowsSet s c.now }
+    ensures ties { IfOk result (λ v. AreVolumeTies (complex_of c.now) v.items) }
+{
+    let mut ties = outside_ties(alloc, c)?;
     let down = down_ties(alloc, c)?;
     ties.extend_from_slice(down.as_slice())?;
     Ok(ties)

@@ -8,7 +8,7 @@ ghost use Rattle.nef_smap.specs.Sides.{IsSide, sides_of};
 ghost use Rattle.nef_complex.specs.Complexes.{complex_of};
 ghost use Rattle.law_links.specs.Links.{LinkOutside};
 ghost use Rattle.nef_ties.specs.Ties.{Adds, Any};
-ghost use Rattle.nef_volumes.specs.Ties.{AreTiesOf, AreTiedOutside, IsTieOutside};
+ghost use Rattle.nef_volumes.specs.Ties.{AreTiesWithOutside, AreTiedOutside, IsTieOutside};
 
 use crate::OutOfMemory;
 use crate::cells::{cell, outside};
@@ -46,7 +46,7 @@ fn add_outside_sides(ties: &mut Vec<Tie>, c: &Complex, vertex: usize) -> Result<
 
 /// The ties of the outside with all sides that have the label Out.
 pub(crate) fn outside_ties(alloc: Global, c: &Complex) -> Result<Vec<Tie>, OutOfMemory>
-    ensures ties { IfOk result (λ v. AreTiesOf (complex_of c.now) (LinkOutside (complex_of c.now)) v.items) }
+    ensures ties { IfOk result (λ v. AreTiesWithOutside (complex_of c.now) (LinkOutside (complex_of c.now)) v.items) }
     ensures outside { IfOk result (λ v. AreTiedOutside (complex_of c.now) v.items) }
 {
     let mut ties = Vec::new(alloc);

@@ -39,15 +39,15 @@ pub refuses : (ws : List Text) (e : Error) → HasKind (fault_of usage ws) e →
 unfolding options_of
 refuses ws e h n = elim h [ inl m ↦ absurd (n m) | inr among ↦ no_option (kind_of e) (fault_of usage ws) _ among ]
 
-takes_them : (ws : List Text) → fault_of usage ws ≡ [] → options_of ws ≡ options_of_values (given (codes "workers") ws) (given (codes "board") ws) (given (codes "stairs") ws)
+takes_them : (ws : List Text) → fault_of usage ws ≡ [] → options_of ws ≡ options_of_values (given (codes "workers") ws) (given (codes "board") ws) (given (codes "stairs") ws) (given (codes "text") ws) (given (codes "ahead") ws)
 unfolding options_of
-takes_them ws e = ap (λ (ks : Kinds). if_taken ks (options_of_values (given (codes "workers") ws) (given (codes "board") ws) (given (codes "stairs") ws))) e
+takes_them ws e = ap (λ (ks : Kinds). if_taken ks (options_of_values (given (codes "workers") ws) (given (codes "board") ws) (given (codes "stairs") ws) (given (codes "text") ws) (given (codes "ahead") ws))) e
 
 value_is : (m : ArgMatches) (ws : List Text) (id : Text) → rows_of (found_of m) ≡ matches_of usage ws → first_value (found_of m) id ≡ given id ws
 value_is m ws id e = first_value-rows (found_of m) id ∙ ap (first_of id) e
 
--- words without a fault choose what their three values choose
-pub chosen_is : (m : ArgMatches) (ws : List Text) (a b s : Option Text) (r : Option Options) → (fault_of usage ws ≡ []) × (rows_of (found_of m) ≡ matches_of usage ws) → a ≡ first_value (found_of m) (codes "workers") → b ≡ first_value (found_of m) (codes "board") → s ≡ first_value (found_of m) (codes "stairs") → r ≡ options_of_values a b s → options_of ws ≡ r
-chosen_is m ws a b s r is p q u e =
+-- words without a fault choose what their five values choose
+pub chosen_is : (m : ArgMatches) (ws : List Text) (a b s t h : Option Text) (r : Option Options) → (fault_of usage ws ≡ []) × (rows_of (found_of m) ≡ matches_of usage ws) → a ≡ first_value (found_of m) (codes "workers") → b ≡ first_value (found_of m) (codes "board") → s ≡ first_value (found_of m) (codes "stairs") → t ≡ first_value (found_of m) (codes "text") → h ≡ first_value (found_of m) (codes "ahead") → r ≡ options_of_values a b s t h → options_of ws ≡ r
+chosen_is m ws a b s t h r is p q u v w e =
     takes_them ws is.0
-    ∙ sym (e ∙ rw (p, q, u, value_is m ws (codes "workers") is.1, value_is m ws (codes "board") is.1, value_is m ws (codes "stairs") is.1) refl)
+    ∙ sym (e ∙ rw (p, q, u, v, w, value_is m ws (codes "workers") is.1, value_is m ws (codes "board") is.1, value_is m ws (codes "stairs") is.1, value_is m ws (codes "text") is.1, value_is m ws (codes "ahead") is.1) refl)

@@ -1,11 +1,13 @@
 -- What words choose.
-use Rattle.std.specs.Prelude.{ℕ, ◌&&◌, List, [], ◌∷◌, Some, None, Option, codes, nat_le, if◌then◌else◌, option_and_then, option_map, bytes_eq}
+use Rattle.std.specs.Prelude.{ℕ, Bool, false, ◌&&◌, List, [], ◌∷◌, Some, None, Option, codes, nat_le, if◌then◌else◌, option_and_then, option_map, bytes_eq}
 use Rattle.std.specs.Borrow.{Bor}
 use Rattle.nef_space.specs.Limits.{most_stairs}
 use Rattle.clap.specs.Words.{Text, Kinds, fault_of}
 use Rattle.nef_lex.specs.Numbers.{is_digits, decimal_value}
 use Rattle.nef_core.specs.declared.how.BoardKind.{BoardKind}
 use Rattle.nef_core.specs.declared.how.BoardKind.TheVariants.{Lock, Free}
+use Rattle.nef_core.specs.declared.how.TextVersion.{TextVersion}
+use Rattle.nef_core.specs.declared.how.TextVersion.TheVariants.{One, Two}
 use Rattle.nef_words.specs.declared.options.Options.{Options}
 use Rattle.nef_words.specs.Usage.{usage, given}
 
@@ -42,15 +44,26 @@ abbrev pub stairs_of : Option Text → Option (Option ℕ)
 stairs_of None = Some None
 stairs_of (Some text) = option_map (λ n. Some n) (number_to most_stairs text)
 
--- the options, where the values have their form
-abbrev pub options_from : Option ℕ → Option BoardKind → Option (Option ℕ) → Option Options
-options_from None board stairs = None
-options_from (Some workers) None stairs = None
-options_from (Some workers) (Some board) None = None
-options_from (Some workers) (Some board) (Some stairs) = Some (record { how = record { workers = workers; board = board }; stairs = stairs })
+-- the version of the text that a value names, and the first where none is given
+abbrev pub text_of : Option Text → Option TextVersion
+text_of None = Some One
+text_of (Some text) = if bytes_eq text (codes "1") then Some One else (if bytes_eq text (codes "2") then Some Two else None)
 
-abbrev pub options_of_values : Option Text → Option Text → Option Text → Option Options
-options_of_values workers board stairs = options_from (workers_of workers) (board_of board) (stairs_of stairs)
+-- a flag is given, by its value
+abbrev pub is_given : Option Text → Bool
+is_given None = false
+is_given (Some text) = bytes_eq text (codes "true")
+
+-- the options, where the values have their form
+abbrev pub options_from : Option ℕ → Option BoardKind → Option (Option ℕ) → Option TextVersion → Bool → Option Options
+options_from None board stairs text ahead = None
+options_from (Some workers) None stairs text ahead = None
+options_from (Some workers) (Some board) None text ahead = None
+options_from (Some workers) (Some board) (Some stairs) None ahead = None
+options_from (Some workers) (Some board) (Some stairs) (Some text) ahead = Some (record { how = record { workers = workers; board = board }; stairs = stairs; text = text; ahead = ahead })
+
+abbrev pub options_of_values : Option Text → Option Text → Option Text → Option Text → Option Text → Option Options
+options_of_values workers board stairs text ahead = options_from (workers_of workers) (board_of board) (stairs_of stairs) (text_of text) (is_given ahead)
 
 -- the options, where the words have no fault
 abbrev pub if_taken : Kinds → Option Options → Option Options
@@ -59,7 +72,7 @@ if_taken (k ∷ ks) options = None
 
 -- the options that the words choose: where the command takes the words, and each value has its form
 unfoldable pub options_of : List Text → Option Options
-options_of words = if_taken (fault_of usage words) (options_of_values (given (codes "workers") words) (given (codes "board") words) (given (codes "stairs") words))
+options_of words = if_taken (fault_of usage words) (options_of_values (given (codes "workers") words) (given (codes "board") words) (given (codes "stairs") words) (given (codes "text") words) (given (codes "ahead") words))
 
 -- the text behind an optional reference
 abbrev pub text_in : Option (Bor (List ℕ)) → Option Text

@@ -1,6 +1,6 @@
 //! The words of the command line.
 //!
-//! They are read as one simple command with three options, each of which takes one value. The options
+//! They are read as one simple command with five options, of which four take one value each. The options
 //! are a function of the words.
 #![tactic(auto)]
 

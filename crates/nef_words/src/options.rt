@@ -1,5 +1,5 @@
 //! What the words choose.
-use nef_core::How;
+use nef_core::{How, TextVersion};
 use std::alloc::AllocError;
 
 /// The number of workers where the words don't give one.
@@ -16,6 +16,10 @@ pub struct Options {
     /// The number of boxes of the generated script that is run in place of the input, 1 to
     /// `MOST_STAIRS` of `nef_space`. It is `None` where no word gives it: then the input is run.
     pub stairs: Option<u32>,
+    /// The version of the texts that are printed.
+    pub text: TextVersion,
+    /// Whether statements whose operands are done may run at the same time.
+    pub ahead: bool,
 }
 
 /// Why the words gave no options.

@@ -1,7 +1,7 @@
 ghost use Rattle.std.specs.Prelude.{◌≤◌};
 
 use crate::{Options, WordsFault, line_words, read_words};
-use nef_core::{BoardKind, How};
+use nef_core::{BoardKind, How, TextVersion};
 use std::alloc::{AllocError, Global};
 use std::io::{Error, ErrorKind};
 use std::test::Fail;
@@ -20,6 +20,8 @@ fn options(workers: u32, board: BoardKind) -> Result<Options, WordsFault>
     Ok(Options {
         how: How { workers, board },
         stairs: None,
+        text: TextVersion::One,
+        ahead: false,
     })
 }
 
@@ -30,6 +32,8 @@ fn boxes(count: u32) -> Result<Options, WordsFault> {
     Ok(Options {
         how: How { workers, board },
         stairs: Some(count),
+        text: TextVersion::One,
+        ahead: false,
     })
 }
 
@@ -81,6 +85,8 @@ fn accepted_stairs(rt: HostRuntime) -> Result<(), Fail> {
     let chosen = Options {
         how: How { workers, board },
         stairs: Some(2),
+        text: TextVersion::One,
+        ahead: false,
     };
     assert_eq!(rt; read(alloc, &all)?, Ok(chosen));
     Ok(())
@@ -147,5 +153,50 @@ fn words_of_a_line(rt: HostRuntime) -> Result<(), Fail> {
     assert_eq!(rt; line_words(&unreadable).err(), Some(WordsFault::Refused));
     let unheld = Err(Error::from(ErrorKind::OutOfMemory));
     assert_eq!(rt; line_words(&unheld).err(), Some(WordsFault::OutOfMemory));
+    Ok(())
+}
+
+// The options of one worker, with texts of this version.
+fn texts(text: TextVersion) -> Result<Options, WordsFault> {
+    let workers = 1;
+    let board = BoardKind::Lock;
+    Ok(Options {
+        how: How { workers, board },
+        stairs: None,
+        text,
+        ahead: false,
+    })
+}
+
+#[test]
+fn text_versions(rt: HostRuntime) -> Result<(), Fail> {
+    let alloc = rt.alloc();
+    assert_eq!(rt; read(alloc, &["--text", "1"])?, texts(TextVersion::One));
+    assert_eq!(rt; read(alloc, &["--text=2"])?, texts(TextVersion::Two));
+    for word in ["0", "3", "02", "", "two"] {
+        assert_eq!(rt;
+            read(alloc, &["--text", word])?,
+            Err(WordsFault::Refused),
+            "{word}"
+        );
+    }
+    Ok(())
+}
+
+#[test]
+fn ahead(rt: HostRuntime) -> Result<(), Fail> {
+    let alloc = rt.alloc();
+    let refused = Err(WordsFault::Refused);
+    let (workers, board) = (2, BoardKind::Lock);
+    let chosen = Options {
+        how: How { workers, board },
+        stairs: None,
+        text: TextVersion::One,
+        ahead: true,
+    };
+    assert_eq!(rt; read(alloc, &["--ahead", "--workers", "2"])?, Ok(chosen));
+    assert_eq!(rt; read(alloc, &["--ahead=true"])?, refused);
+    assert_eq!(rt; read(alloc, &["--ahead", "true"])?, refused);
+    assert_eq!(rt; read(alloc, &["--ahead", "--ahead"])?, refused);
     Ok(())
 }

@@ -2,14 +2,14 @@
 ghost use Rattle.std.specs.Prelude.{◌≡◌, ◌≤◌, false, [], Some, None, IfOk, IfErr, IfSome, MatchResult, map, string_bytes};
 ghost use Rattle.nef_space.specs.Limits.{most_stairs};
 ghost use Rattle.clap.specs.Words.{fault_of, found_of, matches_of, rows_of, rule_of, HasKind};
-ghost use Rattle.nef_words.specs.Usage.{usage, option_named};
-ghost use Rattle.nef_words.specs.Chosen.{options_of, options_of_values, text_in};
+ghost use Rattle.nef_words.specs.Usage.{usage, option_named, flag_named};
+ghost use Rattle.nef_words.specs.Chosen.{workers_of, board_of, stairs_of, text_of, is_given, options_of, options_of_values, text_in};
 
 use crate::number::read_number;
 use crate::options::{DEFAULT_WORKERS, MOST_WORKERS, Options, WordsFault};
 use clap::error::ErrorKind;
 use clap::{Arg, ArgAction, ArgMatches, Command, Error};
-use nef_core::{BoardKind, How};
+use nef_core::{BoardKind, How, TextVersion};
 use nef_space::MOST_STAIRS;
 use std::alloc::Global;
 
@@ -21,6 +21,14 @@ fn value_option<'a>(alloc: Global, name: &'a str) -> Arg<'a>
     Arg::new(alloc, name).long(name).action(ArgAction::Set)
 }
 
+// The option of this name, which takes no value.
+fn flag<'a>(alloc: Global, name: &'a str) -> Arg<'a>
+    ensures rule { rule_of result ≡ flag_named name.entry.now }
+    ensures local { result.global ≡ false }
+{
+    Arg::new(alloc, name).long(name).action(ArgAction::SetTrue)
+}
+
 // What the words give each option.
 fn matched<'a>(alloc: Global, words: &'a [String]) -> Result<ArgMatches<'a>, Error>
     ensures ok { IfOk result (λ m. (fault_of usage (map string_bytes words.entry.now) ≡ []) × (rows_of (found_of m) ≡ matches_of usage (map string_bytes words.entry.now))) }
@@ -30,32 +38,88 @@ fn matched<'a>(alloc: Global, words: &'a [String]) -> Result<ArgMatches<'a>, Err
         .no_binary_name(true)
         .arg(value_option(alloc, "workers"))?
         .arg(value_option(alloc, "board"))?
-        .arg(value_option(alloc, "stairs"))?;
+        .arg(value_option(alloc, "stairs"))?
+        .arg(value_option(alloc, "text"))?
+        .arg(flag(alloc, "ahead"))?;
     command.try_get_matches_from(words)
 }
 
-// The options that three values choose, where each has its form.
-fn chosen(workers: Option<&str>, board: Option<&str>, stairs: Option<&str>) -> Option<Options>
-    ensures options { result ≡ options_of_values (text_in workers.entry) (text_in board.entry) (text_in stairs.entry) }
+// The number of workers that a value gives.
+fn workers_of(value: Option<&str>) -> Option<u32>
+    ensures workers { result ≡ workers_of (text_in value.entry) }
+    ensures range { IfSome result (λ n. (1 ≤ n) × (n ≤ 64)) }
+{
+    match value {
+        None => Some(DEFAULT_WORKERS),
+        Some(text) => read_number(text.as_bytes(), MOST_WORKERS),
+    }
+}
+
+// The board that a value names.
+fn board_of(value: Option<&str>) -> Option<BoardKind>
+    ensures board { result ≡ board_of (text_in value.entry) }
+{
+    match value {
+        None | Some("lock") => Some(BoardKind::Lock),
+        Some("free") => Some(BoardKind::Free),
+        Some(_) => None,
+    }
+}
+
+// The number of boxes that a value gives, if there is a value.
+fn stairs_of(value: Option<&str>) -> Option<Option<u32>>
+    ensures stairs { result ≡ stairs_of (text_in value.entry) }
+    ensures range { IfSome result (λ o. IfSome o (λ n. (1 ≤ n) × (n ≤ most_stairs))) }
+{
+    match value {
+        None => Some(None),
+        Some(text) => Some(Some(read_number(text.as_bytes(), MOST_STAIRS)?)),
+    }
+}
+
+// The version of the text that a value names.
+fn text_of(value: Option<&str>) -> Option<TextVersion>
+    ensures text { result ≡ text_of (text_in value.entry) }
+{
+    match value {
+        None | Some("1") => Some(TextVersion::One),
+        Some("2") => Some(TextVersion::Two),
+        Some(_) => None,
+    }
+}
+
+// Whether a flag is given, by its value.
+fn is_given(value: Option<&str>) -> bool
+    ensures given { result ≡ is_given (text_in value.entry) }
+{
+    match value {
+        Some("true") => true,
+        Some(_) | None => false,
+    }
+}
+
+// The options that five values choose, where each has its form.
+fn chosen(
+    workers: Option<&str>,
+    board: Option<&str>,
+    stairs: Option<&str>,
+    text: Option<&str>,
+    ahead: Option<&str>,
+) -> Option<Options>
+    ensures options { result ≡ options_of_values (text_in workers.entry) (text_in board.entry) (text_in stairs.entry) (text_in text.entry) (text_in ahead.entry) }
     ensures workers { IfSome result (λ o. (1 ≤ o.how.workers) × (o.how.workers ≤ 64)) }
     ensures stairs { IfSome result (λ o. IfSome o.stairs (λ n. (1 ≤ n) × (n ≤ most_stairs))) }
 {
-    let workers = match workers {
-        None => DEFAULT_WORKERS,
-        Some(text) => read_number(text.as_bytes(), MOST_WORKERS)?,
-    };
-    let board = match board {
-        None | Some("lock") => BoardKind::Lock,
-        Some("free") => BoardKind::Free,
-        Some(_) => return None,
-    };
-    let stairs = match stairs {
-        None => None,
-        Some(text) => Some(read_number(text.as_bytes(), MOST_STAIRS)?),
-    };
+    let workers = workers_of(workers)?;
+    let board = board_of(board)?;
+    let stairs = stairs_of(stairs)?;
+    let text = text_of(text)?;
+    let ahead = is_given(ahead);
     Some(Options {
         how: How { workers, board },
         stairs,
+        text,
+        ahead,
     })
 }
 
@@ -63,8 +127,9 @@ fn chosen(workers: Option<&str>, board: Option<&str>, stairs: Option<&str>) -> O
 ///
 /// `--workers` takes a number from 1 to [`MOST_WORKERS`], and is [`DEFAULT_WORKERS`] where it isn't
 /// given. `--board` takes `lock` or `free`, and is `lock` where it isn't given. `--stairs` takes a number
-/// from 1 to [`MOST_STAIRS`], and is `None` where it isn't given. A number is one or more digits.
-/// `Refused` comes exactly where the words aren't those of a command with these three options, each given
+/// from 1 to [`MOST_STAIRS`], and is `None` where it isn't given. A number is one or more digits. `--text`
+/// takes `1` or `2`, and is `1` where it isn't given. `--ahead` takes no value.
+/// `Refused` comes exactly where the words aren't those of a command with these five options, each given
 /// once at most, or a value isn't of its form; a word for help or for the version is no such word.
 pub fn read_words(alloc: Global, words: &[String]) -> Result<Options, WordsFault>
     ensures accepted { IfOk result (λ options. options_of (map string_bytes words.now) ≡ Some options) }
@@ -84,7 +149,9 @@ pub fn read_words(alloc: Global, words: &[String]) -> Result<Options, WordsFault
     let workers = matches.get_str("workers");
     let board = matches.get_str("board");
     let stairs = matches.get_str("stairs");
-    match chosen(workers, board, stairs) {
+    let text = matches.get_str("text");
+    let ahead = matches.get_str("ahead");
+    match chosen(workers, board, stairs, text, ahead) {
         Some(options) => Ok(options),
         None => Err(WordsFault::Refused),
     }

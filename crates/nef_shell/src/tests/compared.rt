@@ -1,12 +1,12 @@
 //! Whether two worked sets have one text.
 
 ghost use Rattle.std.specs.Prelude.{◌≡◌, ◌≤◌, ℕ, ◌<◌, length, OnOk};
-ghost use Rattle.nef_shell.specs.Operations.{IsKept};
+ghost use Rattle.nef_shell.specs.Operations.{AreShown, IsKept};
 
 use super::{UNIT_BOX, unfolded};
 use crate::same_text;
 use crate::sets::Sets;
-use nef_core::{BoardKind, How};
+use nef_core::{BoardKind, How, TextVersion};
 use nef_io::OpenGate;
 use nef_script::{Script, parse};
 use nef_volumes::parts;
@@ -39,12 +39,12 @@ fn bind_all<R: Threads + Wait + Sync>(
     sets: &mut Sets,
 ) -> Result<(), AllocError>
     requires nodes { sets.old.nodes.now ≡ script.now.nodes }
-    requires none { length sets.old.list.items ≡ 0 }
+    requires shown { AreShown script.now.nodes sets.old.list.items }
     ensures nodes { OnOk result (sets.new.nodes.now ≡ script.now.nodes) }
     ensures kept { OnOk result ((k : ℕ) → k < length script.now.nodes → IsKept script.now.nodes sets.new.list.items k) }
 {
-    for _ in 0..script.nodes().len() {
-        sets.bind(rt, alloc, &TWO_BY_LOCK, &OpenGate)?;
+    for node in 0..script.nodes().len() {
+        sets.bind(rt, alloc, node, &TWO_BY_LOCK, &OpenGate)?;
     }
     Ok(())
 }
@@ -66,7 +66,7 @@ fn last_two_alike<R: Threads + Wait + Sync>(
     };
     let (a, b) = (sets.get(i), sets.get(j));
     let (p, q) = (parts(alloc, a)?, parts(alloc, b)?);
-    let alike = same_text(alloc, a, &p, b, &q)?;
+    let alike = same_text(alloc, TextVersion::One, a, &p, b, &q)?;
     Ok(alike)
 }
 

@@ -53,6 +53,87 @@ half A 0 0 1 0 closed / half B 0 0 -1 0 closed / half C 0 1 0 0 closed / \
     14 22 11 3 / not / in / polyhedron K / nef3 1 14 22 11 3 => \
     6 v 0 0 0 1 n - / s 1 0 0 n - / a 0 0 0 0 1 i n i";
 
+// Faces and shells: of the empty set, of a cube, of a point, and of an axis, which makes a hole in a facet.
+const FACES_AND_SHELLS: &str = "\
+    empty E / print E => polyhedron E / nef3 2 8 12 6 2 => 0 v -2048 -2048 -2048 1 o - / s 0 0 \
+    1 o - / s 0 1 0 o - / s 1 0 0 o - / a 2 1 0 0 1 o n o / a 0 2 0 1 0 o n o / a 1 0 1 0 0 o n \
+    o / g 0 1 0 1 0 1 => 1 v -2048 -2048 2048 1 o - / s 0 0 -1 o - / s 0 1 0 o - / s 1 0 0 o - \
+    / a 2 1 0 0 1 o o n / a 2 0 0 1 0 o n o / a 0 1 1 0 0 o n o / g 0 1 1 0 1 0 => 0 w o / h 0 \
+    1 0 3 0 5 1 0 1 3 1 5 2 1 2 2 2 5 3 0 3 2 3 5 4 1 4 3 4 4 5 0 5 3 5 4 6 1 6 2 6 4 7 0 7 2 7 \
+    4 => 1 w n / h 0 0 0 2 0 4 1 1 1 2 1 4 2 0 2 3 2 4 3 1 3 3 3 4 4 0 4 2 4 5 5 1 5 2 5 5 6 0 \
+    6 3 6 5 7 1 7 3 7 5 / end
+half Aa -1 0 0 0 closed / half Ab 1 0 0 -1 closed / half Ac 0 -1 0 0 closed / half Ad 0 1 0 \
+    -1 closed / half Ae 0 0 -1 0 closed / half Af 0 0 1 -1 closed / and Ag Aa Ab / and Ah Ag Ac \
+    / and Ai Ah Ad / and Aj Ai Ae / and A Aj Af / print A => polyhedron A / nef3 2 16 24 12 3 \
+    => 0 w o / h 0 1 0 3 0 5 1 0 1 3 1 5 2 1 2 2 2 5 3 0 3 2 3 5 12 1 12 3 12 4 13 0 13 3 13 4 \
+    14 1 14 2 14 4 15 0 15 2 15 4 => 1 w n / h 0 0 0 2 0 4 1 1 1 2 1 4 2 0 2 3 2 4 3 1 3 3 3 4 \
+    12 0 12 2 12 5 13 1 13 2 13 5 14 0 14 3 14 5 15 1 15 3 15 5 / h 4 1 4 3 4 5 5 0 5 3 5 5 6 1 \
+    6 2 6 5 7 0 7 2 7 5 8 1 8 3 8 4 9 0 9 3 9 4 10 1 10 2 10 4 11 0 11 2 11 4 => 2 w i / h 4 0 \
+    4 2 4 4 5 1 5 2 5 4 6 0 6 3 6 4 7 1 7 3 7 4 8 0 8 2 8 5 9 1 9 2 9 5 10 0 10 3 10 5 11 1 11 \
+    3 11 5 / end
+half Pa -1 0 0 0 closed / half Pb 1 0 0 0 closed / half Pc 0 -1 0 0 closed / half Pd 0 1 0 \
+    0 closed / half Pe 0 0 -1 0 closed / half Pf 0 0 1 0 closed / and Pg Pa Pb / and Ph Pg Pc / \
+    and Pi Ph Pd / and Pj Pi Pe / and P Pj Pf / print P => polyhedron P / nef3 2 9 12 6 2 => 4 \
+    v 0 0 0 1 i n / g 0 => 0 w o / h 0 1 0 3 0 5 1 0 1 3 1 5 2 1 2 2 2 5 3 0 3 2 3 5 5 1 5 3 5 \
+    4 6 0 6 3 6 4 7 1 7 2 7 4 8 0 8 2 8 4 => 1 w n / h 0 0 0 2 0 4 1 1 1 2 1 4 2 0 2 3 2 4 3 1 \
+    3 3 3 4 5 0 5 2 5 5 6 1 6 2 6 5 7 0 7 3 7 5 8 1 8 3 8 5 / h 4 0 / end
+half a 1 0 0 0 closed / half b -1 0 0 0 closed / half c 0 1 0 0 closed / half d 0 -1 0 0 \
+    closed / and e a b / and f e c / and Z f d / print Z => polyhedron Z / nef3 2 10 13 6 2 => \
+    4 v 0 0 -2048 1 o - / s 0 0 1 i n / l 0 0 1 o n o / g 0 0 1 => 5 v 0 0 2048 1 o - / s 0 0 \
+    -1 i n / l 0 0 1 o o n / g 0 1 0 => 0 f 0 0 1 2048 o 1 0 / c 0 0 6 0 8 0 2 0 / c 4 0 => 0 w \
+    o / h 0 1 0 3 0 5 1 0 1 3 1 5 2 1 2 2 2 5 3 0 3 2 3 5 4 2 5 1 6 1 6 3 6 4 7 0 7 3 7 4 8 1 8 \
+    2 8 4 9 0 9 2 9 4 => 1 w n / h 0 0 0 2 0 4 1 1 1 2 1 4 2 0 2 3 2 4 3 1 3 3 3 4 4 0 4 1 5 0 \
+    5 2 6 0 6 2 6 5 7 1 7 2 7 5 8 0 8 3 8 5 9 1 9 3 9 5 / end";
+
+// The same of a wall across the frame, of a box with a hollow inside, and of two boxes with a common edge, round
+// which the outside is one face.
+const WALL_HOLLOW_EDGE: &str = "\
+    half A 1 0 0 0 closed / half B -1 0 0 0 closed / and W A B / print W => polyhedron W / nef3 2 \
+    12 20 11 3 => 4 v 0 -2048 -2048 1 o - / s -1 0 0 o - / s 0 0 1 o - / s 0 1 0 o - / s 1 0 0 \
+    o - / a 2 0 0 0 1 o n o / a 3 2 0 0 1 o n o / a 0 1 0 1 0 o n o / a 1 3 0 1 0 o n o / a 2 \
+    1 1 0 0 i n n / g 0 1 2 1 0 1 2 1 2 0 => 7 v 0 2048 2048 1 o - / s -1 0 0 o - / s 0 -1 0 o \
+    - / s 0 0 -1 o - / s 1 0 0 o - / a 0 1 0 0 1 o o n / a 1 3 0 0 1 o o n / a 2 0 0 1 0 o o n \
+    / a 3 2 0 1 0 o o n / a 1 2 1 0 0 i n n / g 0 1 0 2 0 1 0 2 2 1 => 0 w o / h 0 1 0 3 0 5 1 \
+    0 1 3 1 5 2 1 2 2 2 5 3 0 3 2 3 5 4 1 4 3 4 5 4 7 5 0 5 2 5 5 5 7 6 1 6 3 6 4 6 6 7 0 7 2 \
+    7 4 7 6 8 1 8 3 8 4 9 0 9 3 9 4 10 1 10 2 10 4 11 0 11 2 11 4 => 1 w n / h 0 0 0 2 0 4 1 1 \
+    1 2 1 4 2 0 2 3 2 4 3 1 3 3 3 4 4 0 4 4 4 9 5 1 5 4 5 9 6 0 6 5 6 9 7 1 7 5 7 9 => 2 w n / \
+    h 4 2 4 6 4 8 5 3 5 6 5 8 6 2 6 7 6 8 7 3 7 7 7 8 8 0 8 2 8 5 9 1 9 2 9 5 10 0 10 3 10 5 \
+    11 1 11 3 11 5
+half Aa -1 0 0 0 closed / half Ab 1 0 0 -3 closed / half Ac 0 -1 0 0 closed / half Ad 0 1 0 -3 \
+    closed / half Ae 0 0 -1 0 closed / half Af 0 0 1 -3 closed / and Ag Aa Ab / and Ah Ag Ac / \
+    and Ai Ah Ad / and Aj Ai Ae / and A Aj Af / half Ba -1 0 0 1 closed / half Bb 1 0 0 -2 \
+    closed / half Bc 0 -1 0 1 closed / half Bd 0 1 0 -2 closed / half Be 0 0 -1 1 closed / \
+    half Bf 0 0 1 -2 closed / and Bg Ba Bb / and Bh Bg Bc / and Bi Bh Bd / and Bj Bi Be / and \
+    B Bj Bf / diff K A B / print K => polyhedron K / nef3 2 24 36 18 4 => 0 w o / h 0 1 0 3 0 \
+    5 1 0 1 3 1 5 2 1 2 2 2 5 3 0 3 2 3 5 20 1 20 3 20 4 21 0 21 3 21 4 22 1 22 2 22 4 23 0 23 \
+    2 23 4 => 1 w n / h 0 0 0 2 0 4 1 1 1 2 1 4 2 0 2 3 2 4 3 1 3 3 3 4 20 0 20 2 20 5 21 1 21 \
+    2 21 5 22 0 22 3 22 5 23 1 23 3 23 5 / h 4 1 4 3 4 5 5 0 5 3 5 5 6 1 6 2 6 5 7 0 7 2 7 5 \
+    16 1 16 3 16 4 17 0 17 3 17 4 18 1 18 2 18 4 19 0 19 2 19 4 => 2 w i / h 4 0 4 2 4 4 5 1 5 \
+    2 5 4 6 0 6 3 6 4 7 1 7 3 7 4 16 0 16 2 16 5 17 1 17 2 17 5 18 0 18 3 18 5 19 1 19 3 19 5 \
+    / h 8 1 8 3 8 5 9 0 9 3 9 5 10 1 10 2 10 5 11 0 11 2 11 5 12 1 12 3 12 4 13 0 13 3 13 4 14 \
+    1 14 2 14 4 15 0 15 2 15 4 => 3 w n / h 8 0 8 2 8 4 9 1 9 2 9 4 10 0 10 3 10 4 11 1 11 3 \
+    11 4 12 0 12 2 12 5 13 1 13 2 13 5 14 0 14 3 14 5 15 1 15 3 15 5
+half Aa -1 0 0 0 closed / half Ab 1 0 0 -1 closed / half Ac 0 -1 0 0 closed / half Ad 0 1 0 -1 \
+    closed / half Ae 0 0 -1 0 closed / half Af 0 0 1 -1 closed / and Ag Aa Ab / and Ah Ag Ac / \
+    and Ai Ah Ad / and Aj Ai Ae / and A Aj Af / half Ba -1 0 0 1 closed / half Bb 1 0 0 -2 \
+    closed / half Bc 0 -1 0 1 closed / half Bd 0 1 0 -2 closed / half Be 0 0 -1 0 closed / \
+    half Bf 0 0 1 -1 closed / and Bg Ba Bb / and Bh Bg Bc / and Bi Bh Bd / and Bj Bi Be / and \
+    B Bj Bf / or U A B / print U => polyhedron U / nef3 2 22 35 18 4 => 10 v 1 1 0 1 i - / s \
+    -1 0 0 i - / s 0 -1 0 i - / s 0 0 1 i - / s 0 1 0 i - / s 1 0 0 i - / a 0 1 0 0 1 i i n / \
+    a 4 3 0 0 1 i i n / a 0 2 0 1 0 i n i / a 2 4 0 1 0 i i n / a 2 1 1 0 0 i n i / a 3 2 1 0 \
+    0 i i n / g 0 1 2 1 1 0 2 1 1 0 2 1 => 11 v 1 1 1 1 i - / s -1 0 0 i - / s 0 -1 0 i - / s \
+    0 0 -1 i - / s 0 1 0 i - / s 1 0 0 i - / a 0 1 0 0 1 i n i / a 4 3 0 0 1 i n i / a 2 0 0 1 \
+    0 i n i / a 4 2 0 1 0 i i n / a 1 2 1 0 0 i n i / a 2 3 1 0 0 i i n / g 0 1 0 2 0 1 2 0 0 \
+    1 2 0 => 0 w o / h 0 1 0 3 0 5 1 0 1 3 1 5 2 1 2 2 2 5 3 0 3 2 3 5 18 1 18 3 18 4 19 0 19 \
+    3 19 4 20 1 20 2 20 4 21 0 21 2 21 4 => 1 w n / h 0 0 0 2 0 4 1 1 1 2 1 4 2 0 2 3 2 4 3 1 \
+    3 3 3 4 18 0 18 2 18 5 19 1 19 2 19 5 20 0 20 3 20 5 21 1 21 3 21 5 / h 4 1 4 3 4 5 5 0 5 \
+    3 5 5 6 1 6 2 6 5 7 0 7 2 7 5 8 1 8 3 8 4 9 0 9 3 9 4 10 1 10 3 10 4 10 7 10 8 10 11 11 0 \
+    11 2 11 4 11 7 11 8 11 11 12 1 12 2 12 5 13 0 13 2 13 5 14 1 14 3 14 4 15 0 15 3 15 4 16 1 \
+    16 2 16 4 17 0 17 2 17 4 => 2 w i / h 4 0 4 2 4 4 5 1 5 2 5 4 6 0 6 3 6 4 7 1 7 3 7 4 8 0 \
+    8 2 8 5 9 1 9 2 9 5 10 0 10 5 10 9 11 1 11 5 11 9 => 3 w i / h 10 2 10 6 10 10 11 3 11 6 \
+    11 10 12 0 12 3 12 4 13 1 13 3 13 4 14 0 14 2 14 5 15 1 15 2 15 5 16 0 16 3 16 5 17 1 17 3 \
+    17 5";
+
 // A plate with a hexagonal hole, and the first lines of what its script writes.
 const PLATE: &str = "half Pa -1 0 0 -10 closed / half Pb 1 0 0 -10 closed / \
     half Pc 0 -1 0 -10 closed / half Pd 0 1 0 -10 closed / half Pe 0 0 -1 0 closed / \
@@ -150,7 +231,16 @@ fn alike_by<R: Threads + Wait + Sync>(
 fn parts_of_solids(rt: HostRuntime) -> Result<(), Fail> {
     let alloc = rt.alloc();
     assert!(rt; rows_fit(&rt, alloc, &[], SOLIDS)?);
+    assert!(rt; rows_fit(&rt, alloc, &["--text", "1"], SOLIDS)?);
     assert!(rt; rows_fit(&rt, alloc, &["--workers", "2", "--board", "free"], SOLIDS)?);
+    Ok(())
+}
+
+#[test]
+fn faces_and_shells(rt: HostRuntime) -> Result<(), Fail> {
+    let alloc = rt.alloc();
+    assert!(rt; rows_fit(&rt, alloc, &["--text", "2"], FACES_AND_SHELLS)?);
+    assert!(rt; rows_fit(&rt, alloc, &["--text", "2"], WALL_HOLLOW_EDGE)?);
     Ok(())
 }
 
@@ -173,6 +263,10 @@ fn plate_by_any_board(rt: HostRuntime) -> Result<(), Fail> {
     assert!(rt; output.starts_with(opening.as_bytes()));
     assert!(rt; alike_by(&rt, alloc, "lock", script.as_str(), output)?);
     assert!(rt; alike_by(&rt, alloc, "free", script.as_str(), output)?);
+    for board in ["lock", "free"] {
+        let words = ["--ahead", "--workers", "8", "--board", board];
+        assert!(rt; gives(&rt, alloc, &words, script.as_bytes(), 0, output)?);
+    }
     Ok(())
 }
 

@@ -19,7 +19,7 @@ pub first_in_plane-requires-clause-off : goal.first_in_plane-requires-clause-off
 first_in_plane-requires-clause-off c = inr (λ k e l. c.requires.off (meets_edge k) (e, l))
 
 pub first_in_plane-requires-clause-direction : goal.first_in_plane-requires-clause-direction
-first_in_plane-requires-clause-direction c = inl (SameDirection-turned (plane_axis (normal_of (form_of c.args.h.now))) (vector_of c.plane_axis-axis.result) c.plane_axis-axis.ensures.axis)
+first_in_plane-requires-clause-direction c = inl (inl (SameDirection-turned (plane_axis (normal_of (form_of c.args.h.now))) (vector_of c.plane_axis-axis.result) c.plane_axis-axis.ensures.axis))
 
 pub first_in_plane-requires-clause-no_svertex : goal.first_in_plane-requires-clause-no_svertex
 first_in_plane-requires-clause-no_svertex c = λ k j v u a e b w. c.requires.off (meets_vertex k) (v, a, e)

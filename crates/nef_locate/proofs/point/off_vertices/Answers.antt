@@ -3,7 +3,7 @@ use Rattle.nef_geo.specs.Shapes.{place_of, hit_place}
 use Rattle.law_near.proofs.Rays.{same-place_sym}
 use Rattle.nef_complex.specs.Complexes.{complex_of, corner_of}
 use Rattle.nef_complex.proofs.Sorted.{none-there}
-use Rattle.nef_locate.proofs.EqualPoints.{vertex-same, edge-same, corner-same, point-same, closed-same}
+use Rattle.law_complex.proofs.EqualPoints.{vertex-same, edge-same, corner-same, point-same, closed-same}
 use Rattle.nef_locate.proofs.Located.{edge-at, corner-at, off-edges}
 use Rattle.nef_locate.proofs.point.off_vertices.Goals as goal
 

@@ -1,9 +1,9 @@
-use Rattle.std.proofs.Common.{ℕ, ℤ, ◌≤◌, nat_abs, List, [], ◌∷◌, w64, ap, ◌∙◌}
+use Rattle.std.proofs.Common.{ℕ, ℤ, ◌≤◌, nat_abs, List, [], ◌∷◌, w64, ap, ◌∙◌, subst}
 use mir.Syntax.{w128}
 use Rattle.nef_space.specs.Limits.{point_limit, weight_limit}
-use Rattle.law_arithmetic.proofs.Machine.{Code, load, wrap, ◌⊟◌, ◌⊠◌, Limited, exact_of, fits_of}
+use Rattle.law_arithmetic.proofs.Machine.{Code, load, wrap, ◌⊟◌, ◌⊠◌, Limited, exact_of, fits_of, size_of}
 use Rattle.nef_geo.specs.Signs.{sign_of}
-use Rattle.nef_geo.specs.Widths.{upright_limit, upright_weight_limit}
+use Rattle.nef_geo.specs.Widths.{upright_limit, upright_weight_limit, ratio_limit}
 use Rattle.nef_plane.proofs.plane.ratio_sign.Goals as goal
 
 -- the bounds of x, w, y, v
@@ -31,7 +31,13 @@ overflow_mul-y c = let r = c.requires in let a = c.args in fits_of sizes (a.x �
 pub overflow_sub-x : goal.overflow_sub-x
 overflow_sub-x c = let r = c.requires in let a = c.args in fits_of sizes (a.x ∷ a.w ∷ a.y ∷ a.v ∷ []) w128 difference (limits a.x a.w a.y a.v r.x_small r.w_small r.y_small r.v_small) tt
 
-pub returns : goal.returns
-returns c =
+pub returns-clause-sign : goal.returns-clause-sign
+returns-clause-sign c =
     let r = c.requires in let a = c.args in
-    record { sign = c.of.ensures.sign ∙ ap sign_of (exact_of sizes (a.x ∷ a.w ∷ a.y ∷ a.v ∷ []) (wrap w128 difference) (limits a.x a.w a.y a.v r.x_small r.w_small r.y_small r.v_small) tt) }
+    c.of.ensures.sign ∙ ap sign_of (exact_of sizes (a.x ∷ a.w ∷ a.y ∷ a.v ∷ []) (wrap w128 difference) (limits a.x a.w a.y a.v r.x_small r.w_small r.y_small r.v_small) tt)
+
+pub returns-clause-width : goal.returns-clause-width
+returns-clause-width c =
+    let r = c.requires in let a = c.args in
+    let l = limits a.x a.w a.y a.v r.x_small r.w_small r.y_small r.v_small in
+    subst (λ (n : ℤ). nat_abs n ≤ ratio_limit) (exact_of sizes (a.x ∷ a.w ∷ a.y ∷ a.v ∷ []) (wrap w128 difference) l tt) (size_of sizes (a.x ∷ a.w ∷ a.y ∷ a.v ∷ []) ratio_limit (wrap w128 difference) l tt tt)

@@ -6,7 +6,7 @@ use Rattle.nef_space.specs.Sets.{Set}
 use Rattle.nef_complex.specs.Complexes.{ShowsSet}
 use Rattle.nef_ray.specs.declared.ray.RayEnd.{RayEnd}
 use Rattle.nef_ray.specs.Changes.{IsUnchanged}
-use Rattle.nef_locate.proofs.EqualPoints.{closed-same}
+use Rattle.law_complex.proofs.EqualPoints.{closed-same}
 use Rattle.nef_locate.proofs.RayMeets.{taken}
 use Rattle.nef_ray.proofs.Nearest.{crossings-same, unchanged-same, stays, passed}
 use Rattle.nef_ray.proofs.nearer.nearer.Goals as goal

@@ -6,7 +6,7 @@ use Rattle.nef_sched.proofs.ahead.all_of.Goals as goal
 pub unreachable-requires : goal.unreachable-requires
 unreachable-requires g c =
     let y = c.loop-slot.yielded in
-    slot_holds _ c.args.done.list.items y c.next.new.self.rest.items c.in-Some.slot (c.loop-slot.invariant.parted ∙ ap (λ l. y ++ l) c.in-Some.ensures.steps.0) c.requires.sound.0 c.requires.all c.in_default.is
+    slot_holds _ c.args.list.items y c.next.new.self.rest.items c.in-Some.slot (c.loop-slot.invariant.parted ∙ ap (λ l. y ++ l) c.in-Some.ensures.steps.0) c.requires.sound.0 c.requires.all c.in_default.is
 
 pub loop-slot-preserved : goal.loop-slot-preserved
 loop-slot-preserved g c =

@@ -5,5 +5,5 @@ abbrev pub invariant-loop-slot : goal.invariant-loop-slot
 invariant-loop-slot g l = record {
   len : vec_len l.outs ≡ length l.yielded;
   fits : (i : ℕ) (out : _) → slice_get l.outs.items i ≡ Some out → g.T.Stage.fits l.stage i out;
-  parted : l.fn.done.list.items ≡ l.yielded ++ l.slot-iterator.rest.items;
+  parted : l.fn.list.items ≡ l.yielded ++ l.slot-iterator.rest.items;
 }

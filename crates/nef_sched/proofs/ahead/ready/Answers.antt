@@ -1,7 +1,7 @@
 use Rattle.std.proofs.Common.{ℕ, ◌+◌, ◌<◌, arith}
 use Rattle.std.proofs.lemmas.List.Elements.{All-push}
 use Rattle.nef_sched.specs.Results.{IsReady}
-use Rattle.nef_sched.proofs.Outs.{differ_next, kept_next}
+use Rattle.nef_sched.proofs.Outs.{differ_next, all_next}
 use Rattle.nef_sched.proofs.ahead.ready.Goals as goal
 use Rattle.nef_sched.proofs.ahead.ready.Goals.{then-is_due+in_ok-push, else-is_due}
 
@@ -29,6 +29,6 @@ loop-number-preserved g c =
             differ = i.differ;
             below = λ k d low. let h = i.below k d low in omega arith;
             each = i.each;
-            none = λ z. kept_next _ n (i.none z) (c.is_due.ensures.no (i.none z) w.if-is_due.false);
+            none = λ z. all_next _ n (i.none z) (c.is_due.ensures.no (i.none z) w.if-is_due.false);
           })
     ]

@@ -1,6 +1,7 @@
 use Rattle.std.proofs.Common.{◌≡◌, ℕ, ◌<◌, All, vec_len}
 use Rattle.nef_sched.specs.Counts.{Differ}
-use Rattle.nef_sched.specs.Results.{IsKept, IsReady}
+use Rattle.nef_sched.specs.Results.{IsReady}
+use Rattle.nef_sched.specs.Marks.{IsMarked}
 use Rattle.nef_sched.proofs.ahead.ready.Given as goal
 
 abbrev pub invariant-loop-number : goal.invariant-loop-number
@@ -8,5 +9,5 @@ invariant-loop-number g l = record {
   differ : Differ l.numbers.items;
   below : All (λ i. i < l.number) l.numbers.items;
   each : All (λ i. (i < g.T.Stage.size l.stage) × IsReady (g.T.Stage.fits l.stage) (g.T.Stage.first l.stage i) (g.T.Stage.second l.stage i) l.done.list.items) l.numbers.items;
-  none : vec_len l.numbers ≡ 0 → (k : ℕ) → k < l.number → IsKept l.done.list.items k;
+  none : vec_len l.numbers ≡ 0 → (k : ℕ) → k < l.number → IsMarked l.worked k;
 }

@@ -1,4 +1,5 @@
 use Rattle.std.proofs.Common.{◌∙◌, arith}
+use Rattle.std.proofs.lemmas.Result.{IfOk-weaker}
 use Rattle.nef_sched.proofs.Outs.{ready_still, parts_same}
 use Rattle.nef_sched.proofs.ahead.work_round.Goals as goal
 
@@ -14,3 +15,6 @@ work_rest-requires-clause-each g c κs within k d low =
     let t = c.args.stage.now in
     let e = c.requires.each k d low in
     (e.0, ready_still (g.T.Stage.size t) (g.T.Stage.fits t) _ _ c.args.done.list.items c.in_ok-done.done.list.items c.in_ok-done.ensures.sound c.in_ok-done.ensures.still e.1)
+
+pub returns-clause-still : goal.returns-clause-still
+returns-clause-still g c = IfOk-weaker c.work_rest.result _ _ (λ r h k there. h k (c.in_ok-done.ensures.still k there)) c.work_rest.ensures.still

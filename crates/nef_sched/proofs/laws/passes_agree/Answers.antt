@@ -1,4 +1,4 @@
-use Rattle.nef_sched.proofs.Steps.{agree, none_twice, none_taken_is_left, none_lost, ended_is_empty}
+use Rattle.nef_sched.proofs.Steps.{agree, none_twice, none_taken_is_left, none_lost, ended_is_empty, numbers_are_known}
 use Rattle.nef_sched.proofs.laws.passes_agree.Goals as goal
 
 pub returns-clause-known : goal.returns-clause-known
@@ -15,3 +15,6 @@ returns-clause-none_lost c = none_lost
 
 pub returns-clause-ended : goal.returns-clause-ended
 returns-clause-ended c = ended_is_empty
+
+pub returns-clause-listed : goal.returns-clause-listed
+returns-clause-listed c = numbers_are_known

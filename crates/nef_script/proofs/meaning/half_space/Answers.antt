@@ -23,8 +23,8 @@ unreachable-requires c =
     (subst IsInRange (sym same) c.requires.plane.in_range)
     (subst (λ h. IsDirection (normal_of h)) (sym same) c.requires.plane.some)
 
-pub returns-clause-node : goal.returns-clause-node
-returns-clause-node c =
+pub returns : goal.returns
+returns c =
     let words = c.args.args.now in
     let count : length words ≡ 6 = sym (length-pointed words) ∙ c.requires.plane.count in
     let a = passed_number words 1 c.number-a.result (omega arith) c.number-a.type_inv c.number-a.ensures.value in
@@ -34,4 +34,4 @@ returns-clause-node c =
     let same = same_form _ _ _ _ _ _ _ _ a b d e in
     let multiple = subst (λ h. IsPositiveMultiple h (given_form c.in-Ok.oriented)) same c.in-Ok.ensures.multiple in
     let mode = c.eq.ensures ∙ ap (λ w. bytes_eq w (codes "closed")) (sym (pointed-at words 5 (omega arith))) in
-    λ names. IsNode-Half names (pointed words) c.in-Ok.oriented c.eq.result c.requires.plane.count mode multiple
+    record { node = λ names bound. IsNode-Half names bound (pointed words) c.in-Ok.oriented c.eq.result c.requires.plane.count mode multiple }

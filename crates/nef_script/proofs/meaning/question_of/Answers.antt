@@ -29,25 +29,25 @@ pub returns-in-Has-clause-question : goal.returns-in-Has-clause-question
 returns-in-Has-clause-question c =
     let words = pointed c.args.args.now in
     let fits = subst (λ v. Fits c.args.names.now v words) c.in-Has.is c.requires.fits in
-    subst (λ v. IsQuestion c.args.names.now c.args.line v words (Has c.args.line c.first_operand-node.result c.asked_point-point.result)) (sym c.in-Has.is)
-    (IsQuestion-Has c.args.names.now c.args.line words c.first_operand-node.result c.asked_point-point.result fits c.first_operand-node.ensures.place c.asked_point-point.ensures.point)
+    subst (λ v. IsQuestion c.args.names.now c.args.bound.now c.args.line v words (Has c.args.line c.first_operand-node.result c.asked_point-point.result)) (sym c.in-Has.is)
+    (IsQuestion-Has c.args.names.now c.args.bound.now c.args.line words c.first_operand-node.result c.asked_point-point.result fits c.first_operand-node.ensures.named c.asked_point-point.ensures.point)
 
 pub returns-in-Joined-clause-question : goal.returns-in-Joined-clause-question
 returns-in-Joined-clause-question c =
     let words = pointed c.args.args.now in
     let fits = subst (λ v. Fits c.args.names.now v words) c.in-Joined.is c.requires.fits in
-    subst (λ v. IsQuestion c.args.names.now c.args.line v words (Joined c.args.line c.first_operand-node.result c.asked_point-first.result c.asked_point-second.result)) (sym c.in-Joined.is)
-    (IsQuestion-Joined c.args.names.now c.args.line words c.first_operand-node.result c.asked_point-first.result c.asked_point-second.result fits c.first_operand-node.ensures.place c.asked_point-first.ensures.point c.asked_point-second.ensures.point)
+    subst (λ v. IsQuestion c.args.names.now c.args.bound.now c.args.line v words (Joined c.args.line c.first_operand-node.result c.asked_point-first.result c.asked_point-second.result)) (sym c.in-Joined.is)
+    (IsQuestion-Joined c.args.names.now c.args.bound.now c.args.line words c.first_operand-node.result c.asked_point-first.result c.asked_point-second.result fits c.first_operand-node.ensures.named c.asked_point-first.ensures.point c.asked_point-second.ensures.point)
 
 pub returns-in-Ray-clause-question : goal.returns-in-Ray-clause-question
 returns-in-Ray-clause-question c =
     let words = pointed c.args.args.now in
     let fits = subst (λ v. Fits c.args.names.now v words) c.in-Ray.is c.requires.fits in
-    subst (λ v. IsQuestion c.args.names.now c.args.line v words (Ray c.args.line c.first_operand-node.result c.asked_point-point-in-Ray.result c.asked_direction-dir.result)) (sym c.in-Ray.is)
-    (IsQuestion-Ray c.args.names.now c.args.line words c.first_operand-node.result c.asked_point-point-in-Ray.result c.asked_direction-dir.result fits c.first_operand-node.ensures.place c.asked_point-point-in-Ray.ensures.point c.asked_direction-dir.ensures.toward)
+    subst (λ v. IsQuestion c.args.names.now c.args.bound.now c.args.line v words (Ray c.args.line c.first_operand-node.result c.asked_point-point-in-Ray.result c.asked_direction-dir.result)) (sym c.in-Ray.is)
+    (IsQuestion-Ray c.args.names.now c.args.bound.now c.args.line words c.first_operand-node.result c.asked_point-point-in-Ray.result c.asked_direction-dir.result fits c.first_operand-node.ensures.named c.asked_point-point-in-Ray.ensures.point c.asked_direction-dir.ensures.toward)
 
-pub returns-in-Ray-clause-within : goal.returns-in-Ray-clause-within
-returns-in-Ray-clause-within c =
+pub returns-in-Ray-clause-rays : goal.returns-in-Ray-clause-rays
+returns-in-Ray-clause-rays c =
     let words = pointed c.args.args.now in
     let start = HasPoint-of_Ray c.args.names.now words (subst (λ v. Fits c.args.names.now v words) c.in-Ray.is c.requires.fits) in
-    (c.first_operand-node.ensures.within, IsRayWithin-from c.asked_point-point-in-Ray.result c.asked_direction-dir.result words 1 start c.asked_point-point-in-Ray.ensures.point c.asked_direction-dir.ensures.small)
+    IsRayWithin-from c.asked_point-point-in-Ray.result c.asked_direction-dir.result words 1 start c.asked_point-point-in-Ray.ensures.point c.asked_direction-dir.ensures.small

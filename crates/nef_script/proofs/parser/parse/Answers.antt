@@ -1,12 +1,18 @@
-use Rattle.std.proofs.Common.{◌≡◌, Err, sym, ◌∙◌, ap, subst}
+use Rattle.std.proofs.Common.{◌≡◌, ◌≤◌, ◌*◌, ℕ, Err, List, length, sym, ◌∙◌, ap, subst}
 use Rattle.std.proofs.lemmas.Result.{err_from_is_err_and}
+use Rattle.std.specs.List.{All}
+use Rattle.nef_expr.specs.declared.nodes.Node.{Node}
+use Rattle.nef_expr.specs.Table.{AreOrigins}
 use Rattle.nef_lex.specs.Lines.{lines_of}
 use Rattle.nef_script.specs.Refusal.{FirstRefusal}
-use Rattle.nef_script.specs.Meaning.{MeansLines}
+use Rattle.nef_script.specs.Meaning.{IsWithin, Sets, MeansLines, bases_of}
+use Rattle.nef_script.specs.Commands.{AreBoundBefore, TurnsRight}
+use Rattle.nef_script.specs.Reading.{State, state, sets_of}
 use Rattle.nef_script.specs.Progress.{HasRead}
+use Rattle.nef_script.specs.declared.script.Command.{Command}
 use Rattle.nef_script.specs.declared.fault.ScriptFault.TheVariants.{Refused}
 use Rattle.nef_script.specs.declared.fault.ScriptKind.TheVariants.{ScriptTooLong}
-use Rattle.nef_script.proofs.LineByLine.{HasRead-next, HasRead-refused, HasRead-end}
+use Rattle.nef_script.proofs.LineByLine.{first_state, HasRead-start, HasRead-next, HasRead-refused, HasRead-end}
 use Rattle.nef_script.proofs.parser.parse.Goals as goal
 
 pub returns-then-bytes-gt-SCRIPT_LIMIT-clause-refused : goal.returns-then-bytes-gt-SCRIPT_LIMIT-clause-refused
@@ -18,26 +24,56 @@ returns-then-bytes-gt-SCRIPT_LIMIT-clause-refused c = λ line k e.
 pub loop-line-preserved : goal.loop-line-preserved
 loop-line-preserved c =
     let before = c.loop-line.reader in
-    let left = subst (λ l. HasRead (lines_of c.args.bytes.now) l before.names before.nodes before.commands) c.in-Some.ensures.steps c.loop-line.invariant.2 in
-    (tt, tt, HasRead-next _ _ _ _ _ _ _ _ _ _ left c.in_ok-read_line.ensures.adds)
+    let left = subst (λ l. HasRead (lines_of c.args.bytes.now) l (state before.names before.bound.items before.sets before.commands)) c.in-Some.ensures.steps c.loop-line.invariant.2 in
+    (tt, tt, HasRead-next _ _ _ _ _ _ left c.in_ok-read_line.ensures.adds)
 
 pub returns-in_err-read_line-clause-refused : goal.returns-in_err-read_line-clause-refused
 returns-in_err-read_line-clause-refused c = λ line k e.
     let before = c.loop-line.reader in
-    let left = subst (λ l. HasRead (lines_of c.args.bytes.now) l before.names before.nodes before.commands) c.in-Some.ensures.steps c.loop-line.invariant.2 in
+    let left = subst (λ l. HasRead (lines_of c.args.bytes.now) l (state before.names before.bound.items before.sets before.commands)) c.in-Some.ensures.steps c.loop-line.invariant.2 in
     let gave = err_from_is_err_and c.from_residual.result c.from_residual.ensures.1 in
     let returned = sym gave.1 ∙ e in
     let given : gave.0 ≡ Refused line k = cc in
     let fault : c.read_line.result ≡ Err (Refused line k) = c.in_err-read_line.was ∙ ap Err (sym gave.2 ∙ given) in
     let refused = c.read_line.ensures.refused line k fault in
-    subst (λ n. FirstRefusal c.args.bytes.now n k) (sym refused.0) (HasRead-refused c.args.bytes.now _ _ _ _ _ _ k c.if-bytes-gt-SCRIPT_LIMIT.false left refused.1)
+    subst (λ n. FirstRefusal c.args.bytes.now n k) (sym refused.0) (HasRead-refused c.args.bytes.now _ _ _ _ k c.if-bytes-gt-SCRIPT_LIMIT.false left refused.1)
 
 pub returns-clause-script : goal.returns-clause-script
 returns-clause-script c =
     let after = c.loop-line.reader in
-    let read = subst (λ l. HasRead (lines_of c.args.bytes.now) l after.names after.nodes after.commands) c.in-None.ensures.steps.0 c.loop-line.invariant.2 in
-    let ends = HasRead-end _ _ _ _ read in
-    let with_nodes = subst (λ l. MeansLines (lines_of c.args.bytes.now) l after.commands) (sym c.finish.ensures.nodes) ends.1 in (
+    let s = state after.names after.bound.items after.sets after.commands in
+    let read = subst (λ l. HasRead (lines_of c.args.bytes.now) l s) c.in-None.ensures.steps.0 c.loop-line.invariant.2 in
+    let ends = HasRead-end _ s read in
+    let origins = subst (λ (n : ℕ). AreOrigins after.sets.nodes after.sets.origins n) ends.2 (subst (λ (ns : List Node). AreOrigins ns after.sets.origins after.sets.bases) c.finish.ensures.nodes c.finish.ensures.origins) in (
       record { short = c.if-bytes-gt-SCRIPT_LIMIT.false; passes = ends.0 },
-      subst (MeansLines (lines_of c.args.bytes.now) c.finish.result.nodes) (sym c.finish.ensures.commands) with_nodes,
+      (sets_of s, sym c.finish.ensures.nodes, c.finish.ensures.ordered, subst (MeansLines (lines_of c.args.bytes.now) (sets_of s)) (sym c.finish.ensures.commands) ends.1, origins),
     )
+
+pub returns-clause-turned : goal.returns-clause-turned
+returns-clause-turned c =
+    let after = c.loop-line.reader in
+    let s = state after.names after.bound.items after.sets after.commands in
+    let read = subst (λ l. HasRead (lines_of c.args.bytes.now) l s) c.in-None.ensures.steps.0 c.loop-line.invariant.2 in
+    subst (λ (ns : List Node). All (TurnsRight ns) c.finish.result.commands) (sym c.finish.ensures.nodes) (subst (λ (cs : List Command). All (TurnsRight after.sets.nodes) cs) (sym c.finish.ensures.commands) read.turns)
+
+pub returns-clause-in_range : goal.returns-clause-in_range
+returns-clause-in_range c =
+    let after = c.loop-line.reader in
+    let s = state after.names after.bound.items after.sets after.commands in
+    let read = subst (λ l. HasRead (lines_of c.args.bytes.now) l s) c.in-None.ensures.steps.0 c.loop-line.invariant.2 in
+    subst (λ (ns : List Node). All (IsWithin (length ns)) c.finish.result.commands) (sym c.finish.ensures.nodes) (subst (λ (cs : List Command). All (IsWithin (length after.sets.nodes)) cs) (sym c.finish.ensures.commands) read.within)
+
+pub returns-clause-bound_before : goal.returns-clause-bound_before
+returns-clause-bound_before c =
+    let after = c.loop-line.reader in
+    let s = state after.names after.bound.items after.sets after.commands in
+    let read = subst (λ l. HasRead (lines_of c.args.bytes.now) l s) c.in-None.ensures.steps.0 c.loop-line.invariant.2 in
+    subst (λ (ns : List Node). AreBoundBefore ns c.finish.result.commands) (sym c.finish.ensures.nodes) (subst (λ (cs : List Command). AreBoundBefore after.sets.nodes cs) (sym c.finish.ensures.commands) read.before)
+
+pub returns-clause-few : goal.returns-clause-few
+returns-clause-few c =
+    let after = c.loop-line.reader in
+    let s = state after.names after.bound.items after.sets after.commands in
+    let read = subst (λ l. HasRead (lines_of c.args.bytes.now) l s) c.in-None.ensures.steps.0 c.loop-line.invariant.2 in
+    let ends = HasRead-end _ s read in
+    subst (λ (n : ℕ). length c.finish.result.nodes ≤ 48 * n) ends.2 c.finish.ensures.few

@@ -4,7 +4,7 @@ use Rattle.std.proofs.lemmas.Bool.{cases_lt}
 use Rattle.std.proofs.lemmas.Option.{slice_get_read, slice_get_within, get_or_from_slice_get}
 use Rattle.std.proofs.Math.Seq.{take-append_seam}
 use Rattle.nef_script.specs.declared.script.Command.{Command}
-use Rattle.nef_shell.specs.Commands.{LooksAt}
+use Rattle.nef_script.specs.Commands.{LooksAt}
 use Rattle.nef_shell.proofs.uses.last_uses.Goals as goal
 
 pub loop-now-preserved : goal.loop-now-preserved

@@ -1,7 +1,7 @@
 use Rattle.std.proofs.Common.{◌⊎◌, ◌≡◌, ◌≤◌, ◌<◌, ℕ, Some, length}
 use Rattle.std.specs.Prelude.{slice_get, slice_index}
 use Rattle.nef_script.specs.declared.script.Command.{Command}
-use Rattle.nef_shell.specs.Commands.{LooksAt}
+use Rattle.nef_script.specs.Commands.{LooksAt}
 use Rattle.nef_shell.proofs.uses.last_uses.Given as goal
 
 abbrev pub invariant-loop-now : goal.invariant-loop-now

@@ -3,20 +3,20 @@ use Rattle.std.specs.Prelude.{slice_index_or}
 use Rattle.std.proofs.lemmas.Result.{err_from_is_err_and}
 use Rattle.nef_expr.specs.declared.nodes.Node.TheVariants as node
 use Rattle.nef_expr.specs.Nodes.{node_set}
-use Rattle.nef_shell.specs.Commands.{IsOperand}
+use Rattle.nef_expr.specs.Nodes.{IsOperand}
 use Rattle.nef_shell.specs.Output.{answer_of, same_answer}
+use Rattle.nef_shell.proofs.Complexes.{binds-that, turns-that}
 use Rattle.nef_shell.proofs.Outputs.{same-piece}
 use Rattle.nef_shell.proofs.work.work_command.Goals as goal
 
-pub bind-requires-clause-next : goal.bind-requires-clause-next
-bind-requires-clause-next g c scopes within =
-    let next = c.requires.workable.next c.in-Bind.node (rw c.in-Bind.is refl) in
-    omega (arith, next.0, next.1)
-
 pub bind-requires-clause-operands : goal.bind-requires-clause-operands
-bind-requires-clause-operands g c scopes within k is =
-    let next = c.requires.workable.next c.in-Bind.node (rw c.in-Bind.is refl) in
-    c.requires.kept k (rw c.in-Bind.is (subst (λ z. IsOperand k (slice_index_or c.args.sets.now.nodes.now z node.Empty)) (sym next.0) is))
+bind-requires-clause-operands g c scopes within k is = c.requires.kept k (rw c.in-Bind.is is)
+
+pub returns-in_ok-bind-in-Bind-clause-bound : goal.returns-in_ok-bind-in-Bind-clause-bound
+returns-in_ok-bind-in-Bind-clause-bound g c = binds-that c.args.sets.now.nodes.now c.args.command.now _ c.in-Bind.node _ _ c.in-Bind.is c.in_ok-bind-in-Bind.ensures.bound
+
+pub returns-in_ok-turn-in-Turn-clause-bound : goal.returns-in_ok-turn-in-Turn-clause-bound
+returns-in_ok-turn-in-Turn-clause-bound g c = turns-that c.args.sets.now.nodes.now c.args.command.now _ c.in-Turn.node c.in-Turn.from c.in-Turn.turn _ _ c.in-Turn.is c.in_ok-turn-in-Turn.ensures.bound
 
 pub returns-in_err-put_all-in-Has-clause-stopped : goal.returns-in_err-put_all-in-Has-clause-stopped
 returns-in_err-put_all-in-Has-clause-stopped g c =

@@ -4,4 +4,4 @@ use Rattle.nef_volumes.specs.Ties.{IsTieNumbered}
 use Rattle.nef_volumes.proofs.sface.add_sfaces.Given as goal
 
 abbrev pub invariant-loop-side : goal.invariant-loop-side
-invariant-loop-side l = Adds (AnyBelow (λ s. Any (IsTieNumbered l.vertex l.numbers.items s)) l.side) l.initial.ties.items l.ties.items
+invariant-loop-side l = Adds (AnyBelow (λ s. Any (IsTieNumbered l.vertex l.numbers s)) l.side) l.initial.ties.items l.ties.items

@@ -16,7 +16,7 @@ returns-in-Err-clause-refused c refused = elim c.match-kind.branch [
 ]
 
 pub returns-in-Some-clause-accepted : goal.returns-in-Some-clause-accepted
-returns-in-Some-clause-accepted c = chosen_is c.in-Ok.matches _ _ _ _ _ c.in-Ok.ensures.ok c.get_str-workers.ensures c.get_str-board.ensures c.get_str-stairs.ensures c.chosen.ensures.options ∙ c.in-Some.is
+returns-in-Some-clause-accepted c = chosen_is c.in-Ok.matches _ _ _ _ _ _ _ c.in-Ok.ensures.ok c.get_str-workers.ensures c.get_str-board.ensures c.get_str-stairs.ensures c.get_str-text.ensures c.get_str-ahead.ensures c.chosen.ensures.options ∙ c.in-Some.is
 
 pub returns-clause-refused : goal.returns-clause-refused
-returns-clause-refused c refused = chosen_is c.in-Ok.matches _ _ _ _ _ c.in-Ok.ensures.ok c.get_str-workers.ensures c.get_str-board.ensures c.get_str-stairs.ensures c.chosen.ensures.options ∙ c.in-None.is
+returns-clause-refused c refused = chosen_is c.in-Ok.matches _ _ _ _ _ _ _ c.in-Ok.ensures.ok c.get_str-workers.ensures c.get_str-board.ensures c.get_str-stairs.ensures c.get_str-text.ensures c.get_str-ahead.ensures c.chosen.ensures.options ∙ c.in-None.is

@@ -5,7 +5,7 @@ use Rattle.nef_geo.specs.declared.sign.Sign.TheVariants.{Zero}
 use Rattle.law_near.proofs.Rays.{same-place_sym}
 use Rattle.nef_arc.proofs.SignNumbers.{zero_sign}
 use Rattle.nef_complex.specs.Complexes.{complex_of}
-use Rattle.nef_locate.proofs.EqualPoints.{edges-same, closed-same}
+use Rattle.law_complex.proofs.EqualPoints.{edges-same, closed-same}
 use Rattle.tests_places.proofs.questions.beginning.Goals as goal
 
 pub returns-then-is_off_edges-clause-on : goal.returns-then-is_off_edges-clause-on

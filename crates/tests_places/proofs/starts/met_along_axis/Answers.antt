@@ -16,4 +16,4 @@ pub first_in_plane-requires-clause-off : goal.first_in_plane-requires-clause-off
 first_in_plane-requires-clause-off c = inr (λ k x l. c.is_off_edges.ensures.off c.if-is_off_edges.true k x)
 
 pub first_in_plane-requires-clause-direction : goal.first_in_plane-requires-clause-direction
-first_in_plane-requires-clause-direction c = inl (SameDirection-turned (plane_axis (normal_of (form_of c.args.h.now))) (vector_of c.plane_axis-d.result) c.plane_axis-d.ensures.axis)
+first_in_plane-requires-clause-direction c = inl (inl (SameDirection-turned (plane_axis (normal_of (form_of c.args.h.now))) (vector_of c.plane_axis-d.result) c.plane_axis-d.ensures.axis))

@@ -21,4 +21,4 @@ returns-in-Some-command_of-clause-adds c =
     let words : pointed c.deref-2.result.now ≡ words_of c.args.line.text.now = ap pointed c.deref-2.ensures.value ∙ c.in_ok-words.ensures.words in
     let command : command_in (words_of c.args.line.text.now) ≡ Some (c.in-Some-command_of.verb, pointed c.in-Some-command_of.args.now) =
     ap command_in (sym words) ∙ sym c.command_of.ensures.command ∙ ap (option_map (λ p. (p.0, pointed p.1.now))) c.in-Some-command_of.is in
-    AddsLine-words _ _ _ _ _ _ _ _ _ _ passes command c.in_ok-add-in-Some-command_of.ensures.adds
+    AddsLine-words _ _ _ _ _ _ passes command c.in_ok-add-in-Some-command_of.ensures.adds

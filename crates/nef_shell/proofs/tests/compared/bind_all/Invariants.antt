@@ -1,10 +1,10 @@
-use Rattle.std.proofs.Common.{◌≡◌, ℕ, ◌<◌, length}
-use Rattle.nef_shell.specs.Operations.{IsKept}
+use Rattle.std.proofs.Common.{◌≡◌, ℕ, ◌<◌}
+use Rattle.nef_shell.specs.Operations.{AreShown, IsKept}
 use Rattle.nef_shell.proofs.tests.compared.bind_all.Given as goal
 
-abbrev pub invariant-loop : goal.invariant-loop
-invariant-loop g l = record {
+abbrev pub invariant-loop-node : goal.invariant-loop-node
+invariant-loop-node g l = record {
   nodes : l.sets.nodes.now ≡ l.script.nodes;
-  count : length l.sets.list.items ≡ l.counter;
-  kept : (k : ℕ) → k < length l.sets.list.items → IsKept l.script.nodes l.sets.list.items k;
+  kept : (k : ℕ) → k < l.node → IsKept l.script.nodes l.sets.list.items k;
+  shown : AreShown l.script.nodes l.sets.list.items;
 }

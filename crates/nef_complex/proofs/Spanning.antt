@@ -1,0 +1,122 @@
+-- Whole numbers that bound coordinates.
+use Rattle.std.proofs.Common.{◌≡◌, ℕ, suc, ◌+◌, ◌*◌, ◌/◌, ◌<◌, ◌≤◌, ℤ, pos, negsuc, neg_ℤ, ◌+ℤ◌, ◌*ℤ◌, ◌-ℤ◌, ◌<ℤ◌, ◌≤ℤ◌, nat_abs, List, [], ◌∷◌, ◌++◌, length, length-append, arith, refl, ap, sym, ◌∙◌, subst, ⊎_elim}
+use Rattle.std.proofs.Math.Nat.{div-le_self, div-mul-le_self, lt-div-mul-add}
+use Rattle.std.proofs.lemmas.Int.{ints}
+use Rattle.std.specs.Int.{int_div_euclid}
+use Rattle.law_arithmetic.proofs.Order.{mul_nonneg}
+use Rattle.law_arithmetic.proofs.Ring.{ring, at, num, neg, ◌⊕◌, ◌⊖◌, ◌⊗◌}
+use Rattle.nef_space.specs.Lists.{IsAt}
+use Rattle.nef_space.specs.Place.{Place, form_at}
+use Rattle.nef_geo.specs.Shapes.{form_of, place_of}
+use Rattle.nef_geo.specs.declared.plane.Plane.{Plane}
+use Rattle.law_complex.specs.Spans.{Coordinate, coordinate_of, coordinate_x, coordinate_y, coordinate_z, IsWithin}
+use Rattle.nef_classes.proofs.ClassLists.{less-or-last, is-at_one, is-at_some, is-at_within, Either, earlier, last, is-at_either}
+use Rattle.nef_complex.specs.declared.complex.Vertex.{Vertex}
+use Rattle.nef_complex.specs.declared.spans.Bounds.{Bounds}
+use Rattle.nef_complex.specs.declared.spans.Span.{Span}
+use Rattle.nef_complex.specs.Index.{AreWithin, AreNumbersWith, AreCarrierVertices, AreSpans, LiesOn}
+use Rattle.nef_complex.specs.Spans.{IsInSpan, AreInSpan, AreNarrower, IsNarrower}
+
+-- ---- quotients
+-- z/w rounded down, times w, is at most z
+pub euclid-below : (z w : ℤ) → pos 0 <ℤ w → (int_div_euclid z w *ℤ w) ≤ℤ z
+euclid-below z (negsuc b) p = absurd (omega (arith, ints))
+euclid-below (pos a) (pos b) p = let l = div-mul-le_self a b in whole (a / b * b) a l
+  where
+    whole : (k n : ℕ) → k ≤ n → pos k ≤ℤ pos n
+    whole k n l = omega (arith, ints)
+euclid-below (negsuc a) (pos b) p =
+    let l = lt-div-mul-add {a = a} {b = b} (some b p) in
+    let r : neg_ℤ (pos (a / b) +ℤ pos 1) *ℤ pos b ≡ neg_ℤ (pos (a / b * b + b)) = ring (pos (a / b) ∷ pos b ∷ []) (neg (at 0 ⊕ num (pos 1)) ⊗ at 1) (neg (at 0 ⊗ at 1 ⊕ at 1)) tt in
+    let e : negsuc (a / b) ≡ neg_ℤ (pos (a / b) +ℤ pos 1) = turned (a / b) in
+    subst (λ (x : ℤ). (x *ℤ pos b) ≤ℤ negsuc a) (sym e) (subst (λ (x : ℤ). x ≤ℤ negsuc a) (sym r) (below a (a / b * b + b) l))
+  where
+    some : (n : ℕ) → pos 0 <ℤ pos n → 0 < n
+    some n q = omega (arith, ints)
+
+    turned : (q : ℕ) → negsuc q ≡ neg_ℤ (pos q +ℤ pos 1)
+    turned q = omega (arith, ints)
+
+    below : (n k : ℕ) → n < k → neg_ℤ (pos k) ≤ℤ negsuc n
+    below n k l = omega (arith, ints)
+
+pub euclid-small : (z w : ℤ) → pos 0 <ℤ w → nat_abs (int_div_euclid z w) ≤ nat_abs z
+euclid-small z (negsuc b) p = absurd (omega (arith, ints))
+euclid-small (pos a) (pos b) p = div-le_self a b
+euclid-small (negsuc a) (pos b) p = let l = div-le_self a b in omega arith
+
+times-below : (m f w : ℤ) → pos 0 <ℤ w → m ≤ℤ f → (m *ℤ w) ≤ℤ (f *ℤ w)
+times-below m f w p l =
+    let d = mul_nonneg (f -ℤ m) w (omega (arith, ints)) (omega (arith, ints)) in
+    let r : (f -ℤ m) *ℤ w ≡ f *ℤ w -ℤ m *ℤ w = ring (m ∷ f ∷ w ∷ []) ((at 1 ⊖ at 0) ⊗ at 2) (at 1 ⊗ at 2 ⊖ at 0 ⊗ at 2) tt in
+    omega (arith, ints)
+
+pub low-below : (m x w : ℤ) → pos 0 <ℤ w → m ≤ℤ int_div_euclid x w → (m *ℤ w) ≤ℤ x
+low-below m x w p l = let a = times-below m (int_div_euclid x w) w p l in let b = euclid-below x w p in omega (arith, ints)
+
+pub high-above : (m x w : ℤ) → pos 0 <ℤ w → neg_ℤ (int_div_euclid (neg_ℤ x) w) ≤ℤ m → x ≤ℤ (m *ℤ w)
+high-above m x w p l =
+    let q = int_div_euclid (neg_ℤ x) w in
+    let a = times-below (neg_ℤ m) q w p (omega (arith, ints)) in
+    let b = euclid-below (neg_ℤ x) w p in
+    let r : neg_ℤ m *ℤ w ≡ neg_ℤ (m *ℤ w) = ring (m ∷ w ∷ []) (neg (at 0) ⊗ at 1) (neg (at 0 ⊗ at 1)) tt in
+    omega (arith, ints)
+
+-- ---- wider bounds
+weight : (p : Place) → pos 0 <ℤ pos p.w
+weight p = let m = p.proper in omega (arith, ints)
+
+within-wider : (c : Coordinate) (a b : Bounds) (p : Place) → AreNarrower a b → IsWithin c a.low a.high p → IsWithin c b.low b.high p
+within-wider c a b p n w =
+    let l = times-below b.low a.low (pos p.w) (weight p) n.0 in
+    let h = times-below a.high b.high (pos p.w) (weight p) n.1 in
+    let u = w.0 in let v = w.1 in
+    (lower (b.low *ℤ pos p.w) (a.low *ℤ pos p.w) (coordinate_of c p) l u, lower (coordinate_of c p) (a.high *ℤ pos p.w) (b.high *ℤ pos p.w) v h)
+  where
+    lower : (x y z : ℤ) → x ≤ℤ y → y ≤ℤ z → x ≤ℤ z
+    lower x y z k l = omega (arith, ints)
+
+span-wider : (s t : Span) (p : Place) → IsNarrower s t → IsInSpan s p → IsInSpan t p
+span-wider s t p n i = (within-wider coordinate_x s.x t.x p n.0 i.0, within-wider coordinate_y s.y t.y p n.1 i.1, within-wider coordinate_z s.z t.z p n.2 i.2)
+
+-- ---- the span of listed vertices, one after the other
+pub span-more : (vs : List Vertex) (ns : List ℕ) (n k : ℕ) (v : Vertex) (s t : Span) → IsAt ns n k → IsAt vs k v → AreInSpan vs ns n s → IsNarrower s t → IsInSpan t (place_of v.point) → AreInSpan vs ns (n + 1) t
+span-more vs ns n k v s t a b all w here i m u l c d = ⊎_elim
+    (λ o. span-wider s t (place_of u.point) w (all i m u o c d))
+    (λ e.
+    let same : m ≡ k = is-at_one ns n m k (subst (λ (j : ℕ). IsAt ns j m) e c) a in
+    subst (λ (x : Vertex). IsInSpan t (place_of x.point)) (is-at_one vs k v u b (subst (λ (j : ℕ). IsAt vs j u) same d)) here)
+    (less-or-last i n l)
+
+-- ---- a span for each row
+abbrev pub AreSpansOf : List Vertex → List (List ℕ) → List Span → Type 0
+AreSpansOf vs rows ss = (k : ℕ) (row : List ℕ) (s : Span) → IsAt rows k row → IsAt ss k s → AreInSpan vs row (length row) s
+
+pub spans-more : (vs : List Vertex) (rows : List (List ℕ)) (n : ℕ) (ss : List Span) (row : List ℕ) (s : Span) → length ss ≡ n → IsAt rows n row → AreInSpan vs row (length row) s → AreSpansOf vs rows ss → AreSpansOf vs rows (ss ++ s ∷ [])
+spans-more vs rows n ss row s many here p all k r t a b = by (is-at_either ss k t s b)
+  where
+    by : Either ss k t s → AreInSpan vs r (length r) t
+    by (earlier c) = all k r t a c
+    by (last e f) =
+        let same : row ≡ r = is-at_one rows n row r here (subst (λ (i : ℕ). IsAt rows i r) (e ∙ many) a) in
+        subst (λ (x : List ℕ). AreInSpan vs x (length x) t) same (subst (AreInSpan vs row (length row)) (sym f) p)
+
+pub spans-as-many : (ss : List Span) (s : Span) (n : ℕ) → length ss ≡ n → length (ss ++ s ∷ []) ≡ n + 1
+spans-as-many ss s n e = let f = length-append ss (s ∷ []) in omega arith
+
+-- ---- the spans of the carriers
+module _ (hs : List Plane) (vs : List Vertex) (rows : List (List ℕ)) (R : AreCarrierVertices hs vs rows) where
+  pub rows-within : (k : ℕ) (row : List ℕ) → IsAt rows k row → AreWithin vs row
+  rows-within k row a i m b =
+      let h = is-at_some hs k (let l = is-at_within rows k row a in let e = R.as_many in omega arith) in
+      let o = (R.each k h.0 row h.1 a).each i m b in
+      is-at_within vs m o.0 o.1
+
+  pub carrier-spans : (ss : List Span) → length ss ≡ length rows → AreSpansOf vs rows ss → AreSpans hs vs ss
+  carrier-spans ss e all = record {
+    as_many = e ∙ R.as_many;
+    each = λ k h s a b j v c z.
+        let row = is-at_some rows k (let l = is-at_within hs k h a in let f = R.as_many in omega arith) in
+        let o = (R.each k h row.0 a row.1).all j (v, c, z) in
+        all k row.0 s row.1 b o.0 j v (is-at_within row.0 o.0 j o.1) o.1 c;
+  }

@@ -1,0 +1,25 @@
+-- Whole numbers that bound the coordinates of points.
+use Rattle.std.specs.Prelude.{ℕ, ◌<◌, ◌≤ℤ◌, List}
+use Rattle.nef_space.specs.Lists.{IsAt}
+use Rattle.nef_space.specs.Place.{Place}
+use Rattle.nef_geo.specs.Shapes.{place_of}
+use Rattle.law_complex.specs.Spans.{coordinate_x, coordinate_y, coordinate_z, IsWithin}
+use Rattle.nef_complex.specs.declared.complex.Vertex.{Vertex}
+use Rattle.nef_complex.specs.declared.spans.Bounds.{Bounds}
+use Rattle.nef_complex.specs.declared.spans.Span.{Span}
+
+-- the coordinates of the point lie within the bounds
+abbrev pub IsInSpan : Span → Place → Type 0
+IsInSpan s p = IsWithin coordinate_x s.x.low s.x.high p × IsWithin coordinate_y s.y.low s.y.high p × IsWithin coordinate_z s.z.low s.z.high p
+
+-- the points of the vertices with the first n of these numbers lie in the span
+abbrev pub AreInSpan : List Vertex → List ℕ → ℕ → Span → Type 0
+AreInSpan vs ns n s = (i k : ℕ) (v : Vertex) → i < n → IsAt ns i k → IsAt vs k v → IsInSpan s (place_of v.point)
+
+-- what is within the first bounds is within the second
+abbrev pub AreNarrower : Bounds → Bounds → Type 0
+AreNarrower a b = (b.low ≤ℤ a.low) × (a.high ≤ℤ b.high)
+
+-- and the same of spans
+abbrev pub IsNarrower : Span → Span → Type 0
+IsNarrower s t = AreNarrower s.x t.x × AreNarrower s.y t.y × AreNarrower s.z t.z

@@ -1,0 +1,44 @@
+-- Places in a list with one element more.
+use Rattle.std.proofs.Common.{◌≡◌, ℕ, zero, suc, ◌+◌, ◌<◌, ◌⊎◌, List, [], ◌∷◌, ◌++◌, length, Some, refl, ap, sym, ◌∙◌, arith, inl, inr, length-append, Result, Ok, Err, IfOk}
+use Rattle.std.specs.Prelude.{slice_get}
+use Rattle.std.proofs.lemmas.Bool.{cases_lt}
+use Rattle.std.proofs.lemmas.Option.{slice_get_within}
+
+pub slice_get-left : {X : Type 0} (xs ys : List X) (k : ℕ) (x : X) → slice_get xs k ≡ Some x → slice_get (xs ++ ys) k ≡ Some x
+slice_get-left [] ys k x e = cc
+slice_get-left (z ∷ xs) ys zero x e = e
+slice_get-left (z ∷ xs) ys (suc k) x e = slice_get-left xs ys k x e
+
+pub slice_get-seam : {X : Type 0} (xs : List X) (y : X) (ys : List X) → slice_get (xs ++ y ∷ ys) (length xs) ≡ Some y
+slice_get-seam [] y ys = refl
+slice_get-seam (x ∷ xs) y ys = slice_get-seam xs y ys
+
+-- a place below the end is one of the first list
+pub slice_get-below : {X : Type 0} (xs ys : List X) (k : ℕ) → k < length xs → slice_get (xs ++ ys) k ≡ slice_get xs k
+slice_get-below [] ys k below = absurd (omega (arith, below))
+slice_get-below (x ∷ xs) ys zero below = refl
+slice_get-below (x ∷ xs) ys (suc k) below = slice_get-below xs ys k (omega (arith, below))
+
+-- each place is an earlier one or the last
+pub place-push : {X : Type 0} (xs : List X) (y : X) (n : ℕ) (x : X) → slice_get (xs ++ y ∷ []) n ≡ Some x → ((n < length xs) × (slice_get xs n ≡ Some x)) ⊎ ((n ≡ length xs) × (x ≡ y))
+place-push xs y n x at = elim (cases_lt n (length xs)) [
+  | inl below ↦ inl (below, sym (slice_get-below xs (y ∷ []) n below) ∙ at)
+  | inr past ↦ (
+      let within : n < length (xs ++ y ∷ []) = slice_get_within (xs ++ y ∷ []) n x at in
+      let longer = length-append xs (y ∷ []) in
+      let here : n ≡ length xs = omega (arith, past, within, longer) in
+      let found : Some y ≡ Some x = sym (slice_get-seam xs y []) ∙ ap (slice_get (xs ++ y ∷ [])) (sym here) ∙ at in
+      inr (here, cc))
+]
+
+pub one-there : {X : Type 0} (xs : List X) (k : ℕ) (x y : X) → slice_get xs k ≡ Some x → slice_get xs k ≡ Some y → x ≡ y
+one-there xs k x y a b = let e : Some x ≡ Some y = sym a ∙ b in cc
+
+-- two facts of what a call gives
+pub both_ok : {X E : Type 0} (P Q R : X → Type 0) (r : Result X E) → ((x : X) → P x → Q x → R x) → IfOk r P → IfOk r Q → IfOk r R
+both_ok P Q R (Ok x) f p q = f x p q
+both_ok P Q R (Err e) f p q = tt
+
+pub one_ok : {X E : Type 0} (P R : X → Type 0) (r : Result X E) → ((x : X) → P x → R x) → IfOk r P → IfOk r R
+one_ok P R (Ok x) f p = f x p
+one_ok P R (Err e) f p = tt

@@ -1,0 +1,176 @@
+//! Nodes with their bases and turns.
+
+ghost use Rattle.std.specs.Prelude.{◌≡◌, ℕ, ◌+◌, ◌*◌, ◌<◌, ◌≤◌, [], ◌∷◌, ◌++◌, length, slice_get, IfOk, IfSome, OnErr, None, Some};
+ghost use Rattle.nef_expr.specs.Nodes.{NamesBelow, IsOrdered};
+ghost use Rattle.nef_expr.specs.Turns.{TurnOf};
+ghost use Rattle.nef_expr.specs.Table.{most_bases, origin, key_of, HasOrigin, IsOfOrigin, AreOrigins, IsCopyOf};
+ghost use Rattle.nef_expr.specs.Copying.{Stays, OperandsTurned};
+
+use crate::OutOfMemory;
+use crate::copying::{needed_nodes, turned_node};
+use crate::nodes::{Node, Nodes};
+use crate::origin::Origin;
+use nef_case::turn_compose;
+use std::alloc::Global;
+use std::collections::BTreeMap;
+use std::marker::Model;
+
+// How many turns there are.
+const TURNS: usize = 48;
+
+/// The nodes of a script's own lines, which are the bases, and turned copies of them. Each node has a base and a turn,
+/// and no two nodes have both in common. Contracts see the nodes, their origins and how many bases there are.
+#[derive(Drop)]
+pub struct TurnedNodes {
+    nodes: Vec<Node>,
+    origins: Vec<Origin>,
+    bases: usize,
+    places: BTreeMap<usize, usize>,
+}
+
+impl Model for TurnedNodes {
+    ghost use Rattle.nef_expr.specs.Table.{Table, IsTable, table};
+
+    ghost Value = { Table };
+
+    ghost view = { λ t. table t.nodes.items t.origins.items t.bases };
+
+    ghost invariant = { λ t. IsTable t.nodes.items t.origins.items t.bases t.places };
+}
+
+// The key of a base and a turn.
+fn key_of(origin: Origin) -> usize
+    requires base { origin.base < most_bases }
+    requires turn { origin.turn < 48 }
+    ensures key { result ≡ key_of origin }
+{
+    TURNS * origin.base + origin.turn
+}
+
+impl TurnedNodes {
+    /// No nodes. It takes no memory.
+    pub fn new(alloc: Global) -> TurnedNodes
+        ensures nodes { result.nodes ≡ [] }
+        ensures origins { result.origins ≡ [] }
+        ensures bases { result.bases ≡ 0 }
+    {
+        TurnedNodes {
+            nodes: Vec::new(alloc),
+            origins: Vec::new(alloc),
+            bases: 0,
+            places: BTreeMap::new(alloc),
+        }
+    }
+
+    /// The nodes. There are at most 48 for each base.
+    pub fn into_nodes(self) -> Nodes
+        ensures nodes { result ≡ self.nodes }
+        ensures few { length result ≤ 48 * self.bases }
+        ensures ordered { IsOrdered result }
+        ensures origins { AreOrigins result self.origins self.bases }
+    {
+        let TurnedNodes {
+            nodes,
+            origins: _origins,
+            bases: _bases,
+            places: _places,
+        } = self;
+        Nodes::from_list(nodes)
+    }
+
+    /// Adds a node of a line's own, whose operands are earlier nodes, and gives its number. It is the next base, with the
+    /// turn 0. `OutOfMemory` says that memory was wanted and not found; the nodes are then as they were.
+    pub fn push(&mut self, node: Node) -> Result<usize, OutOfMemory>
+        requires operands { NamesBelow (length self.old.nodes) node }
+        requires room { self.old.bases < most_bases }
+        ensures number { IfOk result (λ n. n ≡ length self.old.nodes) }
+        ensures added { IfOk result (λ n. self.new.nodes ≡ self.old.nodes ++ node ∷ []) }
+        ensures with_origin { IfOk result (λ n. self.new.origins ≡ self.old.origins ++ origin self.old.bases 0 ∷ []) }
+        ensures own { IfOk result (λ n. HasOrigin self.new.origins n (origin self.old.bases 0)) }
+        ensures bases { IfOk result (λ n. self.new.bases ≡ self.old.bases + 1) }
+        ensures unchanged { OnErr result (self.new ≡ self.old) }
+    {
+        let base = self.bases;
+        self.add(node, Origin { base, turn: 0 }, base + 1)
+    }
+
+    /// The number of the turned copy of node `k` under the turn `t`, which is below 48. It adds one node for each base and
+    /// turn of the copy that no node has yet, operands first. The work grows with `k`. `OutOfMemory` says that memory was
+    /// wanted and not found.
+    pub fn turn(&mut self, alloc: Global, k: usize, t: usize) -> Result<usize, OutOfMemory>
+        requires existing { k < length self.old.nodes }
+        requires turn { t < 48 }
+        ensures turned { IfOk result (λ n. TurnOf self.new.nodes t k n) }
+        ensures copy { IfOk result (λ n. IsCopyOf self.new.origins t k n) }
+        ensures stay { IfOk result (λ n. Stays self.old self.new) }
+    {
+        let needed = needed_nodes(alloc, &self.nodes, k)?;
+        let mut copies = Vec::new(alloc);
+        for i in 0..k {
+            let copy = if needed[i] {
+                self.copy(i, t, &copies)?
+            } else {
+                0
+            };
+            copies.push(copy)?;
+        }
+        self.copy(k, t, &copies)
+    }
+
+    // The number of the copy of node k under the turn t, where the numbers of its operands' copies are given.
+    fn copy(&mut self, k: usize, t: usize, copies: &[usize]) -> Result<usize, OutOfMemory>
+        requires existing { k < length self.old.nodes }
+        requires turn { t < 48 }
+        requires all { length copies.now ≡ k }
+        requires operands { (n : _) → slice_get self.old.nodes k ≡ Some n → OperandsTurned self.old.nodes t copies.now n }
+        ensures turned { IfOk result (λ n. TurnOf self.new.nodes t k n) }
+        ensures copy { IfOk result (λ n. IsCopyOf self.new.origins t k n) }
+        ensures stay { IfOk result (λ n. Stays self.old self.new) }
+    {
+        let of = self.origins[k];
+        let origin = Origin {
+            base: of.base,
+            turn: turn_compose(t, of.turn),
+        };
+        match self.find(origin) {
+            Some(copy) => Ok(copy),
+            None => {
+                let node = turned_node(&self.nodes[k], t, copies);
+                self.add(node, origin, self.bases)
+            }
+        }
+    }
+
+    // The node with this base and this turn, if there is one.
+    fn find(&self, origin: Origin) -> Option<usize>
+        requires base { origin.base < self.now.bases }
+        requires turn { origin.turn < 48 }
+        ensures found { IfSome result (λ n. HasOrigin self.now.origins n origin) }
+        ensures none { result ≡ None → (n : ℕ) → HasOrigin self.now.origins n origin → ⊥ }
+    {
+        self.places.get(&key_of(origin)).copied()
+    }
+
+    // Adds a node whose base and turn no node has yet. Its base is an earlier one, or the next.
+    fn add(&mut self, node: Node, origin: Origin, bases: usize) -> Result<usize, OutOfMemory>
+        requires operands { NamesBelow (length self.old.nodes) node }
+        requires new { (n : ℕ) → HasOrigin self.old.origins n origin → ⊥ }
+        requires more_bases { self.old.bases ≤ bases }
+        requires few_bases { bases ≤ most_bases }
+        requires image { IsOfOrigin (self.old.nodes ++ node ∷ []) (self.old.origins ++ origin ∷ []) bases (length self.old.nodes) origin }
+        ensures number { IfOk result (λ n. n ≡ length self.old.nodes) }
+        ensures added { IfOk result (λ n. self.new.nodes ≡ self.old.nodes ++ node ∷ []) }
+        ensures with_origin { IfOk result (λ n. self.new.origins ≡ self.old.origins ++ origin ∷ []) }
+        ensures bases { IfOk result (λ n. self.new.bases ≡ bases) }
+        ensures unchanged { OnErr result (self.new ≡ self.old) }
+    {
+        let number = self.nodes.len();
+        self.nodes.reserve(1)?;
+        self.origins.reserve(1)?;
+        self.places.insert(key_of(origin), number)?;
+        self.nodes.push_reserved(node);
+        self.origins.push_reserved(origin);
+        self.bases = bases;
+        Ok(number)
+    }
+}

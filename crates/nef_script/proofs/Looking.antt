@@ -1,0 +1,96 @@
+-- What the commands of lines look at, and what stays with more nodes.
+use Rattle.std.proofs.Common.{◌≡◌, ℕ, zero, suc, ◌+◌, ◌<◌, ◌≤◌, ◌⊎◌, Bool, true, false, List, [], ◌∷◌, ◌++◌, length, get_or, Some, slice_get, refl, sym, ◌∙◌, ap, subst, arith, inl, inr, append-nil, length-append}
+use Rattle.std.specs.Prelude.{slice_index_or}
+use Rattle.std.specs.List.{All}
+use Rattle.std.proofs.Math.ListN.{get_or-append}
+use Rattle.std.proofs.lemmas.List.Elements.{All-head, All-tail}
+use Rattle.std.proofs.lemmas.Option.{slice_get_within, get_or_from_slice_get}
+use Rattle.nef_expr.specs.declared.nodes.Node.{Node}
+use Rattle.nef_expr.specs.declared.nodes.Node.TheVariants as node
+use Rattle.nef_expr.specs.Nodes.{NamesBelow, IsOperand}
+use Rattle.nef_expr.specs.Turns.{TurnOf}
+use Rattle.nef_expr.specs.Copying.{Extends}
+use Rattle.nef_expr.proofs.Operands.{names-from}
+use Rattle.nef_expr.proofs.Tables.{extends-turn, extends-length}
+use Rattle.nef_script.specs.Limits.{KeepsRayLimits}
+use Rattle.nef_script.specs.Meaning.{Names, IsNode, IsQuestion, IsWithin}
+use Rattle.nef_script.specs.Commands.{LooksAt, Binds, TurnsRight}
+use Rattle.nef_script.specs.declared.table.Verb.{Verb}
+use Rattle.nef_script.specs.declared.table.Verb.TheVariants as verb
+use Rattle.nef_script.specs.declared.script.Command.{Command}
+use Rattle.nef_script.specs.declared.script.Command.TheVariants.{Bind, Turn, Has, Joined, Ray, Same, Count, Print}
+
+pub all-at : {X : Type 0} (P : X → Type 0) (xs : List X) (i : ℕ) (x : X) → All P xs → slice_get xs i ≡ Some x → P x
+all-at P [] i x all e = cc
+all-at P (y ∷ xs) zero x all e = let same : y ≡ x = cc in subst P same (All-head P y xs all)
+all-at P (y ∷ xs) (suc i) x all e = all-at P xs i x (All-tail P y xs all) e
+
+-- some name's node
+abbrev pub IsThere : List ℕ → ℕ → Type 0
+IsThere bound k = (i : ℕ) × (slice_get bound i ≡ Some k)
+
+there : (names : List (List ℕ)) (bound : List ℕ) (word : List ℕ) (k : ℕ) → Names names bound word k → IsThere bound k
+there names bound word k (i, at, is) = (i, is)
+
+-- the operands of a line's node are the nodes of names
+pub node-operands : (names : List (List ℕ)) (bound : List ℕ) (v : Verb) (args : List (List ℕ)) (n : Node) → IsNode names bound v args n → (k : ℕ) → IsOperand k n → IsThere bound k
+node-operands names bound verb.Half (name ∷ a ∷ b ∷ c ∷ d ∷ mode ∷ []) n (o, is, given) k operand = absurd (subst (IsOperand k) is operand)
+node-operands names bound verb.Empty args n is k operand = absurd (subst (IsOperand k) is operand)
+node-operands names bound verb.Full args n is k operand = absurd (subst (IsOperand k) is operand)
+node-operands names bound verb.And (name ∷ left ∷ right ∷ []) n (i, j, p, q, is) k operand = elim (subst (IsOperand k) is operand) [ inl e ↦ rw e (there names bound left i p) | inr e ↦ rw e (there names bound right j q) ]
+node-operands names bound verb.Or (name ∷ left ∷ right ∷ []) n (i, j, p, q, is) k operand = elim (subst (IsOperand k) is operand) [ inl e ↦ rw e (there names bound left i p) | inr e ↦ rw e (there names bound right j q) ]
+node-operands names bound verb.Diff (name ∷ left ∷ right ∷ []) n (i, j, p, q, is) k operand = elim (subst (IsOperand k) is operand) [ inl e ↦ rw e (there names bound left i p) | inr e ↦ rw e (there names bound right j q) ]
+node-operands names bound verb.Xor (name ∷ left ∷ right ∷ []) n (i, j, p, q, is) k operand = elim (subst (IsOperand k) is operand) [ inl e ↦ rw e (there names bound left i p) | inr e ↦ rw e (there names bound right j q) ]
+node-operands names bound verb.Not (name ∷ operand ∷ []) n (i, p, is) k h = rw (subst (IsOperand k) is h) (there names bound operand i p)
+node-operands names bound verb.Int (name ∷ operand ∷ []) n (i, p, is) k h = rw (subst (IsOperand k) is h) (there names bound operand i p)
+node-operands names bound verb.Cl (name ∷ operand ∷ []) n (i, p, is) k h = rw (subst (IsOperand k) is h) (there names bound operand i p)
+node-operands names bound verb.Bd (name ∷ operand ∷ []) n (i, p, is) k h = rw (subst (IsOperand k) is h) (there names bound operand i p)
+node-operands names bound verb.Reg (name ∷ operand ∷ []) n (i, p, is) k h = rw (subst (IsOperand k) is h) (there names bound operand i p)
+node-operands names bound v args n h k operand = absurd h
+
+-- what a question says of its command
+pub record Asks (nodes : List Node) (bound : List ℕ) (c : Command) : Type 0 where
+  pub within : (n : ℕ) → ((i k : ℕ) → slice_get bound i ≡ Some k → k < n) → KeepsRayLimits c → IsWithin n c
+  pub turns : TurnsRight nodes c
+  pub looks : (k : ℕ) → LooksAt nodes c k → IsThere bound k
+
+pub question-asks : (names : List (List ℕ)) (bound : List ℕ) (nodes : List Node) (line : ℕ) (v : Verb) (args : List (List ℕ)) (c : Command) → IsQuestion names bound line v args c → Asks nodes bound c
+question-asks names bound nodes line verb.Has (name ∷ x ∷ y ∷ z ∷ w ∷ []) c (k, p, (i, at, is), quotient, e) = rw e (record { within = λ n below rays. below i k is; turns = tt; looks = λ j f. rw f (i, is) })
+question-asks names bound nodes line verb.Joined (name ∷ x ∷ y ∷ z ∷ w ∷ x2 ∷ y2 ∷ z2 ∷ w2 ∷ []) c (k, p, q, (i, at, is), first, second, e) = rw e (record { within = λ n below rays. below i k is; turns = tt; looks = λ j f. rw f (i, is) })
+question-asks names bound nodes line verb.Ray (name ∷ x ∷ y ∷ z ∷ w ∷ dx ∷ dy ∷ dz ∷ []) c (k, p, d, (i, at, is), quotient, toward, e) = rw e (record { within = λ n below rays. (below i k is, rays); turns = tt; looks = λ j f. rw f (i, is) })
+question-asks names bound nodes line verb.Same (left ∷ right ∷ []) c (k, l, (i, at, is), (j, at', is'), e) = rw e (record { within = λ n below rays. (below i k is, below j l is'); turns = tt; looks = λ m s. elim s [ inl f ↦ rw f (i, is) | inr f ↦ rw f (j, is') ] })
+question-asks names bound nodes line verb.Count (name ∷ []) c (k, (i, at, is), e) = rw e (record { within = λ n below rays. below i k is; turns = tt; looks = λ j f. rw f (i, is) })
+question-asks names bound nodes line verb.Print (name ∷ []) c (k, (i, at, is), e) = rw e (record { within = λ n below rays. below i k is; turns = tt; looks = λ j f. rw f (i, is) })
+question-asks names bound nodes line v args c h = absurd h
+
+-- ---- more nodes
+pub within-more : (m n : ℕ) (c : Command) → m ≤ n → IsWithin m c → IsWithin n c
+within-more m n (Bind line k) le below = omega (arith, le, below)
+within-more m n (Turn line k j t) le (first, second, turn) = (omega (arith, le, first), omega (arith, le, second), turn)
+within-more m n (Has line k p) le below = omega (arith, le, below)
+within-more m n (Joined line k p q) le below = omega (arith, le, below)
+within-more m n (Ray line k p d) le (below, small) = (omega (arith, le, below), small)
+within-more m n (Same line i j) le (first, second) = (omega (arith, le, first), omega (arith, le, second))
+within-more m n (Count line k) le below = omega (arith, le, below)
+within-more m n (Print line k name) le below = omega (arith, le, below)
+
+pub turns-more : (ns ms : List Node) (c : Command) → Extends ns ms → TurnsRight ns c → TurnsRight ms c
+turns-more ns ms (Bind line k) more right = tt
+turns-more ns ms (Turn line k j t) more right = extends-turn ns ms t j k more right
+turns-more ns ms (Has line k p) more right = tt
+turns-more ns ms (Joined line k p q) more right = tt
+turns-more ns ms (Ray line k p d) more right = tt
+turns-more ns ms (Same line i j) more right = tt
+turns-more ns ms (Count line k) more right = tt
+turns-more ns ms (Print line k name) more right = tt
+
+-- a command whose node was there looks at what it looked at
+pub looks-before : (ns ms : List Node) (c : Command) → Extends ns ms → IsWithin (length ns) c → (k : ℕ) → LooksAt ms c k → LooksAt ns c k
+looks-before ns ms (Bind line n) (more, e) below k looks = subst (IsOperand k) (ap (λ xs. slice_index_or xs n node.Empty) e ∙ get_or-append ns more node.Empty n below) looks
+looks-before ns ms (Turn line n j t) more below k looks = looks
+looks-before ns ms (Has line n p) more below k looks = looks
+looks-before ns ms (Joined line n p q) more below k looks = looks
+looks-before ns ms (Ray line n p d) more below k looks = looks
+looks-before ns ms (Same line i j) more below k looks = looks
+looks-before ns ms (Count line n) more below k looks = looks
+looks-before ns ms (Print line n name) more below k looks = looks

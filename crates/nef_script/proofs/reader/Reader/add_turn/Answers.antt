@@ -1,0 +1,41 @@
+-- The turned copy of a node, and its name.
+use Rattle.std.proofs.Common.{◌≡◌, ℕ, ◌<◌, List, [], ◌∷◌, ◌++◌, None, get_or, refl, sym, subst}
+use Rattle.std.specs.List.{position}
+use Rattle.std.specs.Str.{bytes_eq}
+use Rattle.nef_expr.specs.Turns.{TurnOf}
+use Rattle.nef_expr.specs.Table.{IsCopyOf}
+use Rattle.nef_script.specs.Names.{pointed}
+use Rattle.nef_script.specs.Meaning.{Names}
+use Rattle.nef_script.specs.Reading.{state}
+use Rattle.nef_script.specs.declared.table.Verb.TheVariants as verb
+use Rattle.nef_script.proofs.Questions.{count_is}
+use Rattle.nef_script.proofs.Shapes.{pointed-at, length-pointed}
+use Rattle.nef_script.proofs.Adding.{new_name, some_word, AddsWords-turn}
+use Rattle.nef_script.proofs.reader.Reader.add_turn.Goals as goal
+
+pub push-requires : goal.push-requires
+push-requires c =
+    let words = c.args.args.now in
+    let names = c.args.self.now.names in
+    let some = subst (λ n. 0 < n) (length-pointed words) (some_word names verb.Turn (pointed words) c.requires.fits refl) in
+    record { new = subst (λ w. position (bytes_eq w) names ≡ None) (pointed-at words 0 some) (new_name names verb.Turn (pointed words) c.requires.fits refl) }
+
+pub returns : goal.returns
+returns c =
+    let words = c.args.args.now in
+    let s = c.args.self.now in
+    let within = subst (λ n. 0 < n) (length-pointed words) (some_word s.names verb.Turn (pointed words) c.requires.fits refl) in
+    let from = c.turn_of-from.result.0 in
+    let t = c.turn_of-from.result.1 in
+    let k = c.in_ok-node.node in
+    let made = c.in_ok-node.ensures in
+    let named = subst (λ (xs : List ℕ). Names s.names xs (get_or (pointed words) 1 []) from) c.deref.ensures.value c.turn_of-from.ensures.named in
+    record {
+      adds = AddsWords-turn c.args.line (pointed words) (state s.names s.bound.items s.sets s.commands) (state c.push.new.self c.push-2.new.self.items c.turn.new.self c.push-3.new.self) from t k c.requires.sound
+          (count_is s.names verb.Turn (pointed words) c.requires.fits) named c.turn_of-from.ensures.number c.turn_of-from.ensures.below
+          (subst (λ (x : ℕ). TurnOf c.turn.new.self.nodes x from k) c.from.ensures made.turned)
+          (subst (λ (x : ℕ). IsCopyOf c.turn.new.self.origins x from k) c.from.ensures made.copy)
+          made.stay
+          (subst (λ w. c.push.new.self ≡ s.names ++ w ∷ []) (sym (pointed-at words 0 within)) c.in_ok-push.ensures.ok)
+          c.in_ok-push-2.ensures.items c.in_ok-push-3.ensures.ok;
+    }

@@ -1,0 +1,154 @@
+-- The complexes of the nodes that questions ask about.
+use Rattle.std.proofs.Common.{◌≡◌, ◌⊎◌, ◌↔◌, ◌∙◌, ℕ, Bool, true, false, zero, suc, ◌+◌, ◌<◌, ◌≤◌, ap, arith, refl, sym, subst, List, [], ◌∷◌, ◌++◌, append-nil, length, Option, Some, None, IfSome, slice_get, inl, inr}
+use Rattle.std.specs.Prelude.{slice_set, is_some}
+use Rattle.std.proofs.lemmas.Bool.{cases_eq, cases_lt}
+use Rattle.std.proofs.lemmas.Option.{slice_get_within}
+use Rattle.nef_complex.specs.declared.complex.Complex.{Complex}
+use Rattle.nef_complex.specs.Complexes.{ShowsSet}
+use Rattle.nef_core.proofs.Places.{get_set_here, get_set_other}
+use Rattle.nef_core.specs.declared.how.TextVersion.{TextVersion}
+use Rattle.nef_expr.specs.declared.nodes.Node.{Node}
+use Rattle.nef_expr.specs.Nodes.{node_set}
+use Rattle.nef_sched.specs.Marks.{IsMarked, IsUnmarked}
+use Rattle.nef_sched.specs.Results.{flat, kept, IsKept as HasResult, AreSound}
+use Rattle.nef_io.specs.Bytes.{Grows}
+use Rattle.nef_script.specs.declared.script.Command.{Command}
+use Rattle.nef_script.specs.declared.script.Command.TheVariants.{Bind, Turn, Has, Joined, Ray, Same, Count, Print}
+use Rattle.nef_script.specs.Commands.{LooksAt, Binds, AreBoundBefore}
+use Rattle.nef_shell.specs.declared.bindings.Binding.{Binding}
+use Rattle.nef_shell.specs.Bindings.{IsBoundAt, IsAskedAbout, AreAllBound, Fits, ArePlaced}
+use Rattle.nef_shell.specs.Operations.{AreShown, IsKept, IsGone}
+use Rattle.nef_shell.specs.Output.{IsPiece}
+use Rattle.nef_shell.proofs.Complexes.{shown-put}
+
+pub none-some : (k : ℕ) → (None ≡ Some k) ⊎ (None ≡ Some k) → ⊥
+none-some k h = elim h [ inl e ↦ (let f : None ≡ Some k = e in cc) | inr e ↦ (let f : None ≡ Some k = e in cc) ]
+
+pub gone-or-there : (list : List (Option Complex)) (k : ℕ) → k < length list → IsGone list k ⊎ ((c : Complex) × (slice_get list k ≡ Some (Some c)))
+gone-or-there [] k within = absurd (omega arith)
+gone-or-there (None ∷ list) zero within = inl refl
+gone-or-there (Some c ∷ list) zero within = inr (c, refl)
+gone-or-there (o ∷ list) (suc k) within = gone-or-there list k (omega arith)
+
+marked-or-not : (marks : List Bool) (k : ℕ) → k < length marks → IsMarked marks k ⊎ IsUnmarked marks k
+marked-or-not [] k within = absurd (omega arith)
+marked-or-not (true ∷ marks) zero within = inl refl
+marked-or-not (false ∷ marks) zero within = inr refl
+marked-or-not (m ∷ marks) (suc k) within = marked-or-not marks k (omega arith)
+
+-- a node that a question asks about is bound by a binding, whose result is wanted and stands at the node's place
+pub asked-kept : (nodes : List Node) (commands : List Command) (bindings : List Binding) (asked wanted : List Bool) (results list : List (Option Complex)) → AreBoundBefore nodes commands → AreAllBound commands bindings
+    → ((k : ℕ) → IsMarked asked k ↔ IsAskedAbout nodes commands k) → ((n : ℕ) (b : Binding) → slice_get bindings n ≡ Some b → slice_get wanted n ≡ slice_get asked b.node)
+    → ((n : ℕ) → IsMarked wanted n → HasResult results n) → ArePlaced nodes bindings results list → (k : ℕ) → IsAskedAbout nodes commands k → IsKept nodes list k
+asked-kept nodes commands bindings asked wanted results list before all marks wants has placed k about =
+    let (i, c, at, asks, looks) = about in
+    let (j, d, low, seen, binds) = before i c at k looks in
+    let (n, (b, here, is)) = all j k d seen binds in
+    let marked : IsMarked asked b.node = subst (IsMarked asked) (sym is) ((marks k).1 about) in
+    placed.there n k (b, here, is) (has n (wants n b here ∙ marked))
+
+-- nothing else stands at any place
+pub only-asked : (nodes : List Node) (commands : List Command) (bindings : List Binding) (asked wanted : List Bool) (results list : List (Option Complex)) → length wanted ≡ length bindings
+    → ((k : ℕ) → IsMarked asked k ↔ IsAskedAbout nodes commands k) → ((n : ℕ) (b : Binding) → slice_get bindings n ≡ Some b → slice_get wanted n ≡ slice_get asked b.node)
+    → ((n : ℕ) → IsUnmarked wanted n → kept results n ≡ None) → ArePlaced nodes bindings results list → (k : ℕ) (c : Complex) → slice_get list k ≡ Some (Some c) → IsAskedAbout nodes commands k
+only-asked nodes commands bindings asked wanted results list count marks wants lean placed k c there =
+    let (n, (b, here, is), (out, has)) = placed.only k c there in
+    elim (marked-or-not wanted n (let below = slice_get_within bindings n b here in omega (arith, count))) [
+      | inl marked ↦ (marks k).0 (subst (IsMarked asked) is (sym (wants n b here) ∙ marked))
+      | inr not ↦ absurd (let f : None ≡ Some out = sym (lean n not) ∙ has in cc)
+    ]
+
+-- a command that binds a node writes nothing
+pub binds-nothing : (version : TextVersion) (nodes : List Node) (c : Command) (k : ℕ) → Binds c k → IsPiece version nodes c []
+binds-nothing version nodes (Bind line n) k is = refl
+binds-nothing version nodes (Turn line n j t) k is = refl
+binds-nothing version nodes (Has line n p) k is = absurd is
+binds-nothing version nodes (Joined line n p q) k is = absurd is
+binds-nothing version nodes (Ray line n p d) k is = absurd is
+binds-nothing version nodes (Same line i j) k is = absurd is
+binds-nothing version nodes (Count line n) k is = absurd is
+binds-nothing version nodes (Print line n name) k is = absurd is
+
+-- a complex that shows a node's set is put at the node's place, in the place of whatever was there
+pub put-shown : (nodes : List Node) (list : List (Option Complex)) (n : ℕ) (o : Option Complex) → is_some o ≡ true → n < length list → IfSome o (λ c. ShowsSet (node_set nodes n) c) → AreShown nodes list → AreShown nodes (slice_set list n o)
+put-shown nodes list n None e within shows shown = absurd (let f : false ≡ true = e in cc)
+put-shown nodes list n (Some x) e within shows shown = shown-put nodes list n x within shown shows
+
+pub put-still : (nodes : List Node) (list : List (Option Complex)) (n : ℕ) (o : Option Complex) → is_some o ≡ true → n < length list → IfSome o (λ c. ShowsSet (node_set nodes n) c) → (k : ℕ) → IsKept nodes list k → IsKept nodes (slice_set list n o) k
+put-still nodes list n None e within shows k kept = absurd (let f : false ≡ true = e in cc)
+put-still nodes list n (Some x) e within shows k (c, at, is) = elim (cases_eq k n) [
+  | inl same ↦ (x, subst (λ z. slice_get (slice_set list n (Some x)) z ≡ Some (Some x)) (sym same) (get_set_here list n (Some x) within), subst (λ z. ShowsSet (node_set nodes z) x) (sym same) shows)
+  | inr other ↦ (c, get_set_other list n k (Some x) other ∙ at, is)
+]
+
+pub put-there : (nodes : List Node) (list : List (Option Complex)) (n : ℕ) (o : Option Complex) → n < length list → IfSome o (λ c. ShowsSet (node_set nodes n) c) → (c : Complex) → o ≡ Some c → IsKept nodes (slice_set list n o) n
+put-there nodes list n None within shows c e = absurd (let f : None ≡ Some c = e in cc)
+put-there nodes list n (Some x) within shows c e = (x, get_set_here list n (Some x) within, shows)
+
+pub put-only : (list : List (Option Complex)) (n : ℕ) (o : Option Complex) → is_some o ≡ true → (k : ℕ) (c : Complex) → slice_get (slice_set list n o) k ≡ Some (Some c) → (slice_get list k ≡ Some (Some c)) ⊎ ((n ≡ k) × (d : Complex) × (o ≡ Some d))
+put-only list n None e k c at = absurd (let f : false ≡ true = e in cc)
+put-only list n (Some x) e k c at = elim (cases_eq k n) [ inl same ↦ inr (sym same, x, refl) | inr other ↦ inl (sym (get_set_other list n k (Some x) other) ∙ at) ]
+
+-- the same of equal lists
+pub placed-as : (nodes nodes2 : List Node) (bindings bindings2 : List Binding) (results results2 list : List (Option Complex)) → nodes ≡ nodes2 → bindings ≡ bindings2 → results ≡ results2 → ArePlaced nodes bindings results list → ArePlaced nodes2 bindings2 results2 list
+placed-as nodes nodes2 bindings bindings2 results results2 list e f g p = subst (λ z. ArePlaced z bindings2 results2 list) e (subst (λ z. ArePlaced nodes z results2 list) f (subst (λ z. ArePlaced nodes bindings z list) g p))
+
+pub grows-none : (a : Option (List ℕ)) → Grows a a []
+grows-none None = tt
+grows-none (Some bs) = sym (append-nil bs)
+
+get-left : {X : Type 0} (xs ys : List X) (k : ℕ) → k < length xs → slice_get (xs ++ ys) k ≡ slice_get xs k
+get-left [] ys k within = absurd (omega arith)
+get-left (x ∷ xs) ys zero within = refl
+get-left (x ∷ xs) ys (suc k) within = get-left xs ys k (omega arith)
+
+get-last : {X : Type 0} (xs : List X) (x : X) → slice_get (xs ++ x ∷ []) (length xs) ≡ Some x
+get-last [] x = refl
+get-last (y ∷ xs) x = get-last xs x
+
+-- one more binding has its node's mark
+pub wanted-more : (bindings : List Binding) (asked marks : List Bool) (i : ℕ) (b : Binding) (m : Bool) → i ≡ length marks → slice_get bindings i ≡ Some b → slice_get asked b.node ≡ Some m
+    → ((n : ℕ) (d : Binding) → n < i → slice_get bindings n ≡ Some d → slice_get marks n ≡ slice_get asked d.node)
+    → (n : ℕ) (d : Binding) → n < i + 1 → slice_get bindings n ≡ Some d → slice_get (marks ++ m ∷ []) n ≡ slice_get asked d.node
+wanted-more bindings asked marks i b m count here marked so_far n d below at = elim (cases_lt n i) [
+  | inl earlier ↦ get-left marks (m ∷ []) n (omega (arith, count)) ∙ so_far n d earlier at
+  | inr past ↦
+      let is : n ≡ i = omega arith in
+      let one : Some b ≡ Some d = sym here ∙ (sym (ap (slice_get bindings) is) ∙ at) in
+      let same : b ≡ d = cc in
+      ap (slice_get (marks ++ m ∷ [])) (is ∙ count) ∙ (get-last marks m ∙ (sym marked ∙ ap (λ (z : Binding). slice_get asked z.node) same))
+]
+
+-- what the result of the n-th binding shows
+pub result-shows : (nodes : List Node) (bindings : List Binding) (results : List (Option Complex)) (n : ℕ) (b : Binding) (o : Option Complex) → AreSound (length bindings) (Fits nodes bindings) results → slice_get bindings n ≡ Some b → slice_get results n ≡ Some o
+    → IfSome o (λ c. ShowsSet (node_set nodes b.node) c)
+result-shows nodes bindings results n b None sound at here = tt
+result-shows nodes bindings results n b (Some c) sound at here = sound.1 n c (ap flat here) b at
+
+-- a result, once it is moved out, stands at the place of its binding's node
+pub there-more : (nodes : List Node) (bindings : List Binding) (results old new : List (Option Complex)) (n : ℕ) (b : Binding) (o : Option Complex) → slice_get bindings n ≡ Some b → slice_get results n ≡ Some o
+    → ((k : ℕ) → IsKept nodes old k → IsKept nodes new k) → ((c : Complex) → o ≡ Some c → IsKept nodes new b.node)
+    → ((m k : ℕ) → m < n → IsBoundAt bindings m k → HasResult results m → IsKept nodes old k)
+    → (m k : ℕ) → m < n + 1 → IsBoundAt bindings m k → HasResult results m → IsKept nodes new k
+there-more nodes bindings results old new n b o at here still there so_far m k below (d, seen, is) (out, has) = elim (cases_lt m n) [
+  | inl earlier ↦ still k (so_far m k earlier (d, seen, is) (out, has))
+  | inr past ↦
+      let now : m ≡ n = omega arith in
+      let one : Some b ≡ Some d = sym at ∙ (sym (ap (slice_get bindings) now) ∙ seen) in
+      let same : b ≡ d = cc in
+      let found : o ≡ Some out = sym (ap flat here) ∙ (sym (ap (kept results) now) ∙ has) in
+      subst (IsKept nodes new) (ap (λ (z : Binding). z.node) same ∙ is) (there out found)
+]
+
+pub only-more : (bindings : List Binding) (results old new : List (Option Complex)) (n : ℕ) (b : Binding) (o : Option Complex) → slice_get bindings n ≡ Some b → slice_get results n ≡ Some o
+    → ((k : ℕ) (c : Complex) → slice_get new k ≡ Some (Some c) → (slice_get old k ≡ Some (Some c)) ⊎ ((b.node ≡ k) × (d : Complex) × (o ≡ Some d)))
+    → ((k : ℕ) (c : Complex) → slice_get old k ≡ Some (Some c) → (m : ℕ) × IsBoundAt bindings m k × HasResult results m)
+    → (k : ℕ) (c : Complex) → slice_get new k ≡ Some (Some c) → (m : ℕ) × IsBoundAt bindings m k × HasResult results m
+only-more bindings results old new n b o at here only so_far k c there = elim (only k c there) [
+  | inl was ↦ so_far k c was
+  | inr (is, d, found) ↦ (n, (b, at, is), (d, ap flat here ∙ found))
+]
+
+-- the results after the n-th stay when it is moved out
+pub rest-more : (results old : List (Option Complex)) (n : ℕ) → ((m : ℕ) → n ≤ m → slice_get old m ≡ slice_get results m) → (m : ℕ) → n + 1 ≤ m → slice_get (slice_set old n None) m ≡ slice_get results m
+rest-more results old n so_far m later = get_set_other old n m None (λ e. let f : ⊥ = omega (arith, e) in f) ∙ so_far m (omega arith)

@@ -1,0 +1,51 @@
+use Rattle.std.proofs.Common.{◌≡◌, ◌∙◌, Some, ap, arith, refl, sym, subst, length, drop, slice_get}
+use Rattle.std.proofs.lemmas.List.{length-set}
+use Rattle.std.proofs.lemmas.Option.{slice_get_read, slice_get_within}
+use Rattle.std.proofs.Math.Seq.{take-append_seam}
+use Rattle.nef_shell.proofs.Asked.{result-shows, there-more, only-more, rest-more}
+use Rattle.nef_shell.proofs.ahead.placed.Goals as goal
+
+pub put-requires-clause-node : goal.put-requires-clause-node
+put-requires-clause-node c =
+    let at = slice_get_read c.args.bindings.now _ c.loop-n.n c.index-bindings-n.result refl (omega arith) c.index-bindings-n.is in
+    let within = (c.requires.are c.loop-n.n _ at).within in
+    let count = c.loop-n.invariant.count in
+    omega arith
+
+pub put-requires-clause-shows : goal.put-requires-clause-shows
+put-requires-clause-shows c =
+    let at = slice_get_read c.args.bindings.now _ c.loop-n.n c.index-bindings-n.result refl (omega arith) c.index-bindings-n.is in
+    let here = sym (c.loop-n.invariant.rest c.loop-n.n (omega arith)) ∙ c.moved_out-complex.ensures.result in
+    result-shows c.args.nodes.now c.args.bindings.now c.args.results.now c.loop-n.n c.index-bindings-n.result c.moved_out-complex.result c.requires.fits at here
+
+pub loop-n-preserved : goal.loop-n-preserved
+loop-n-preserved c =
+    let nodes = c.args.nodes.now in
+    let bindings = c.args.bindings.now in
+    let results = c.args.results.now in
+    let n = c.loop-n.n in
+    let so_far = c.loop-n.invariant in
+    let moved = c.moved_out-complex.ensures in
+    let put = c.put.ensures in
+    let item = c.index-bindings-n.result in
+    let at = slice_get_read bindings _ n item refl (omega arith) c.index-bindings-n.is in
+    let here = sym (so_far.rest n (omega arith)) ∙ moved.result in
+    record {
+      count = put.length ∙ so_far.count;
+      width = ap length moved.rest ∙ (length-set c.loop-n.results n _ ∙ so_far.width);
+      rest = λ m later. subst (λ z. slice_get z m ≡ slice_get results m) (sym moved.rest) (rest-more results c.loop-n.results n so_far.rest m later);
+      shown = put.shown;
+      there = there-more nodes bindings results c.loop-n.list c.put.new.list n item c.moved_out-complex.result at here put.still put.there so_far.there;
+      only = only-more bindings results c.loop-n.list c.put.new.list n item c.moved_out-complex.result at here put.only so_far.only;
+    }
+
+pub returns-clause-placed : goal.returns-clause-placed
+returns-clause-placed c =
+    let list = c.loop-n.list in
+    let so_far = c.loop-n.invariant in
+    let count : c.in_ok-complexes.complexes.len ≡ length list = omega (arith, c.loop-n.auto.list, c.as_mut_slice-list.ensures.len) in
+    rw (count, take-append_seam list (drop (length list) c.in_ok-complexes.complexes.items)) (record {
+      shown = so_far.shown;
+      there = λ m k bound has. so_far.there m k (let within = slice_get_within c.args.bindings.now m bound.0 bound.1 in omega arith) bound has;
+      only = so_far.only;
+    })

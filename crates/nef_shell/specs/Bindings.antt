@@ -1,0 +1,69 @@
+-- The bindings of a script, each the first command that binds its node, and what they need.
+use Rattle.std.specs.Prelude.{◌≡◌, ℕ, ◌<◌, List, [], ◌∷◌, Option, Some, None, length, option_and_then, slice_get}
+use Rattle.nef_complex.specs.declared.complex.Complex.{Complex}
+use Rattle.nef_complex.specs.Complexes.{ShowsSet}
+use Rattle.nef_expr.specs.declared.nodes.Node.{Node}
+use Rattle.nef_expr.specs.Nodes.{node_set, sets_after}
+use Rattle.nef_sched.specs.Results.{kept, IsKept as HasResult}
+use Rattle.nef_script.specs.declared.script.Command.{Command}
+use Rattle.nef_script.specs.Commands.{LooksAt, Binds}
+use Rattle.nef_shell.specs.declared.bindings.Binding.{Binding}
+use Rattle.nef_shell.specs.Operations.{set_by, first_operand, second_operand, HasTurn, AreShown, IsKept}
+
+-- the binding with the number n binds node k
+abbrev pub IsBoundAt : List Binding → ℕ → ℕ → Type 0
+IsBoundAt bindings n k = (b : Binding) × (slice_get bindings n ≡ Some b) × (b.node ≡ k)
+
+-- some binding binds node k
+abbrev pub IsBound : List Binding → ℕ → Type 0
+IsBound bindings k = (n : ℕ) × IsBoundAt bindings n k
+
+-- the operand, if there is one, is bound by the binding that is named, which is among the first n
+abbrev pub IsNeeded : List Binding → ℕ → Option ℕ → Option ℕ → Type 0
+IsNeeded bindings n None need = need ≡ None
+IsNeeded bindings n (Some i) need = (j : ℕ) × (need ≡ Some j) × (j < n) × IsBoundAt bindings j i
+
+-- the n-th binding has the operation that makes its node's set, and names the bindings of its operands
+pub record IsBinding (nodes : List Node) (bindings : List Binding) (n : ℕ) (b : Binding) : Type 0 where
+  pub within : b.node < length nodes
+  pub turn : HasTurn b.operation
+  pub set : node_set nodes b.node ≡ set_by (sets_after [] nodes) b.operation
+  pub first : IsNeeded bindings n (first_operand b.operation) b.needs.first
+  pub second : IsNeeded bindings n (second_operand b.operation) b.needs.second
+
+abbrev pub AreBindings : List Node → List Binding → Type 0
+AreBindings nodes bindings = (n : ℕ) (b : Binding) → slice_get bindings n ≡ Some b → IsBinding nodes bindings n b
+
+-- each node that a command binds is bound by a binding
+abbrev pub AreAllBound : List Command → List Binding → Type 0
+AreAllBound commands bindings = (i k : ℕ) (c : Command) → slice_get commands i ≡ Some c → Binds c k → IsBound bindings k
+
+-- the bindings that the n-th one needs
+abbrev pub first_need : List Binding → ℕ → Option ℕ
+first_need bindings n = option_and_then (λ b. b.needs.first) (slice_get bindings n)
+
+abbrev pub second_need : List Binding → ℕ → Option ℕ
+second_need bindings n = option_and_then (λ b. b.needs.second) (slice_get bindings n)
+
+-- the result of a binding that is needed, if one is
+abbrev pub needed_complex : List (Option Complex) → Option ℕ → Option Complex
+needed_complex list None = None
+needed_complex list (Some n) = kept list n
+
+-- the complex shows the set of the node that the n-th binding binds
+abbrev pub Fits : List Node → List Binding → ℕ → Complex → Type 0
+Fits nodes bindings n c = (b : Binding) → slice_get bindings n ≡ Some b → ShowsSet (node_set nodes b.node) c
+
+-- the command asks a question
+abbrev pub IsQuestion : Command → Type 0
+IsQuestion c = (k : ℕ) → Binds c k → ⊥
+
+-- one of the commands asks about the set of node k
+abbrev pub IsAskedAbout : List Node → List Command → ℕ → Type 0
+IsAskedAbout nodes commands k = (i : ℕ) × (c : Command) × (slice_get commands i ≡ Some c) × IsQuestion c × LooksAt nodes c k
+
+-- a result stands at the place of the node that its binding binds, and nothing else stands anywhere
+pub record ArePlaced (nodes : List Node) (bindings : List Binding) (results list : List (Option Complex)) : Type 0 where
+  pub shown : AreShown nodes list
+  pub there : (n k : ℕ) → IsBoundAt bindings n k → HasResult results n → IsKept nodes list k
+  pub only : (k : ℕ) (c : Complex) → slice_get list k ≡ Some (Some c) → (n : ℕ) × IsBoundAt bindings n k × HasResult results n

@@ -1,0 +1,139 @@
+//! The bindings of a script, in order, and what they need.
+
+ghost use Rattle.std.specs.Prelude.{◌≡◌, ◌<◌, ℕ, Some, None, IfOk, IfSome, OnOk, All, length, []};
+ghost use Rattle.nef_expr.specs.Nodes.{node_set, sets_after};
+ghost use Rattle.nef_script.specs.Commands.{LooksAt, Binds, AreBoundBefore, TurnsRight};
+ghost use Rattle.nef_script.specs.Meaning.{IsWithin};
+ghost use Rattle.nef_shell.specs.Bindings.{IsBoundAt, IsBound, IsNeeded, AreBindings, AreAllBound};
+ghost use Rattle.nef_shell.specs.Operations.{set_by, first_operand, second_operand, HasOperand, HasTurn};
+
+use crate::operation::{Operation, operation_of};
+use nef_expr::Nodes;
+use nef_sched::Needs;
+use nef_script::{Command, Script};
+use std::alloc::{AllocError, Global};
+
+/// The first command that binds a node.
+#[derive(Drop)]
+pub(crate) struct Binding {
+    /// The node's number.
+    pub(crate) node: usize,
+    /// The operation that makes the node's set.
+    pub(crate) operation: Operation,
+    /// The numbers of the bindings of the operation's operands.
+    pub(crate) needs: Needs,
+}
+
+// The number of a binding of the node, if it is bound.
+fn number_of(bindings: &[Binding], node: usize) -> Option<usize>
+    ensures bound { (n : ℕ) → result ≡ Some n → IsBoundAt bindings.now n node }
+    ensures not { result ≡ None → ¬ (IsBound bindings.now node) }
+{
+    bindings.iter().position(|binding| binding.node == node)
+}
+
+// The number of a binding of the operand, if there is one, which is bound then.
+fn need_of(bindings: &[Binding], operand: Option<usize>) -> Option<usize>
+    requires bound { IfSome operand (IsBound bindings.now) }
+    ensures needed { IsNeeded bindings.now (length bindings.now) operand result }
+{
+    match operand {
+        Some(node) => number_of(bindings, node),
+        None => None,
+    }
+}
+
+// The binding of a node behind earlier ones, which bind its operands.
+fn binding_of(earlier: &[Binding], node: usize, operation: Operation) -> Binding
+    requires operands { (k : ℕ) → HasOperand operation k → IsBound earlier.now k }
+    ensures node { result.node ≡ node }
+    ensures operation { result.operation ≡ operation }
+    ensures first { IsNeeded earlier.now (length earlier.now) (first_operand operation) result.needs.first }
+    ensures second { IsNeeded earlier.now (length earlier.now) (second_operand operation) result.needs.second }
+{
+    let (first, second) = operation.operands();
+    let needs = Needs {
+        first: need_of(earlier, first),
+        second: need_of(earlier, second),
+    };
+    Binding {
+        node,
+        operation,
+        needs,
+    }
+}
+
+// Adds the binding of the node by the operation that makes its set, unless it is bound.
+fn add_binding(
+    bindings: &mut Vec<Binding>,
+    nodes: &Nodes,
+    node: usize,
+    operation: Operation,
+) -> Result<(), AllocError>
+    requires node { node < length nodes.now }
+    requires turn { HasTurn operation }
+    requires set { node_set nodes.now node ≡ set_by (sets_after [] nodes.now) operation }
+    requires operands { (k : ℕ) → HasOperand operation k → IsBound bindings.old.items k }
+    requires are { AreBindings nodes.now bindings.old.items }
+    ensures are { OnOk result (AreBindings nodes.now bindings.new.items) }
+    ensures still { OnOk result ((k : ℕ) → IsBound bindings.old.items k → IsBound bindings.new.items k) }
+    ensures bound { OnOk result (IsBound bindings.new.items node) }
+{
+    let _nodes = nodes;
+    if number_of(bindings, node).is_none() {
+        let added = binding_of(bindings, node, operation);
+        bindings.push(added)?;
+    }
+    Ok(())
+}
+
+// Adds the binding of the node that the command binds, if it binds one.
+fn add_command(
+    bindings: &mut Vec<Binding>,
+    nodes: &Nodes,
+    command: &Command,
+) -> Result<(), AllocError>
+    requires within { IsWithin (length nodes.now) command.now }
+    requires turned { TurnsRight nodes.now command.now }
+    requires operands { (k : ℕ) → LooksAt nodes.now command.now k → IsBound bindings.old.items k }
+    requires are { AreBindings nodes.now bindings.old.items }
+    ensures are { OnOk result (AreBindings nodes.now bindings.new.items) }
+    ensures still { OnOk result ((k : ℕ) → IsBound bindings.old.items k → IsBound bindings.new.items k) }
+    ensures bound { OnOk result ((k : ℕ) → Binds command.now k → IsBound bindings.new.items k) }
+{
+    match command {
+        Command::Bind { node, .. } => {
+            let operation = operation_of(nodes.get(*node));
+            add_binding(bindings, nodes, *node, operation)
+        }
+        Command::Turn {
+            node,
+            from,
+            turn,
+            ..
+        } => {
+            // Each node names earlier ones, so the image of a node has the turned set.
+            let _count = nodes.len();
+            let operation = Operation::Turned(usize::from(*turn), *from);
+            add_binding(bindings, nodes, *node, operation)
+        }
+        _ => Ok(()),
+    }
+}
+
+/// The bindings of the script, in order: of each node that a command binds, the first that does.
+/// `AllocError` says that memory was wanted and not found.
+pub(crate) fn bindings_of(alloc: Global, script: &Script) -> Result<Vec<Binding>, AllocError>
+    requires within { All (IsWithin (length script.now.nodes)) script.now.commands }
+    requires turned { All (TurnsRight script.now.nodes) script.now.commands }
+    requires bound_before { AreBoundBefore script.now.nodes script.now.commands }
+    ensures are { IfOk result (λ v. AreBindings script.now.nodes v.items) }
+    ensures all { IfOk result (λ v. AreAllBound script.now.commands v.items) }
+{
+    let nodes = script.nodes();
+    let mut bindings = Vec::new(alloc);
+    for command in script.commands() {
+        add_command(&mut bindings, nodes, command)?;
+    }
+    Ok(bindings)
+}

@@ -1,0 +1,146 @@
+//! The bindings of a script as a stage of rounds.
+
+ghost use Rattle.std.specs.Prelude.{◌≡◌, ◌<◌, ◌≤◌, ℕ, None, IfOk, length};
+ghost use Rattle.std.specs.Option.{option_copied};
+ghost use Rattle.nef_sched.specs.Results.{kept, IsKept as HasResult, IsReady, AreSound};
+ghost use Rattle.nef_sched.specs.Marks.{IsMarked, IsUnmarked};
+ghost use Rattle.nef_shell.specs.Bindings.{AreBindings, first_need, second_need, needed_complex, Fits};
+
+use crate::bindings::Binding;
+use crate::operation::made;
+use nef_complex::Complex;
+use nef_core::How;
+use nef_expr::Nodes;
+use nef_io::Gate;
+use nef_sched::{Needs, Results, Stage, run_lean};
+use std::alloc::{AllocError, Global};
+use std::sync::Wait;
+use std::thread::Threads;
+
+/// The bindings of a script, each of which is worked by a call.
+///
+/// The call is no method, since a method of a stage can't hand the stage's own runtime to a thread.
+#[derive(Drop)]
+struct Bindings<'n, 'b, F> {
+    nodes: &'n Nodes,
+    list: &'b [Binding],
+    work: F,
+}
+
+impl<F: Fn(usize, bool, &Results<Complex>) -> Result<Complex, AllocError> + Sync + Drop> Stage
+    for Bindings<'_, '_, F> {
+    type Out = Complex;
+
+    ghost use Rattle.std.specs.Prelude.{◌<◌, ℕ, IfOk, length};
+    ghost use Rattle.nef_sched.specs.Results.{IsReady};
+    ghost use Rattle.nef_shell.specs.Bindings.{AreBindings, first_need, second_need, Fits};
+
+    ghost size = { λ s. length s.list.now };
+
+    ghost first = { λ s n. first_need s.list.now n };
+
+    ghost second = { λ s n. second_need s.list.now n };
+
+    ghost fits = { λ s n c. Fits s.nodes.now s.list.now n c };
+
+    ghost workable = { λ s. AreBindings s.nodes.now s.list.now × ((n : ℕ) (alone : _) (done : _) → n < length s.list.now → IsReady (Fits s.nodes.now s.list.now) (first_need s.list.now n) (second_need s.list.now n) done.now.list.items → F.pre s.work n alone done × ((r : _) → F.post s.work n alone done r → IfOk r (Fits s.nodes.now s.list.now n))) };
+
+    fn count(&self) -> usize {
+        self.list.len()
+    }
+
+    fn needs(&self, n: usize) -> Needs {
+        self.list[n].needs
+    }
+
+    fn work(
+        &self,
+        _alloc: Global,
+        n: usize,
+        alone: bool,
+        done: &Results<Complex>,
+    ) -> Result<Complex, AllocError> {
+        (self.work)(n, alone, done)
+    }
+}
+
+// The result of a binding that is needed, if one is.
+fn needed(done: &Results<Complex>, need: Option<usize>) -> Option<&Complex>
+    ensures needed { option_copied result ≡ needed_complex done.now.list.items need }
+{
+    match need {
+        Some(n) => done.get(n),
+        None => None,
+    }
+}
+
+// How a binding is worked: by one worker, unless it is alone.
+fn how_for(how: &How, alone: bool) -> How
+    ensures workers { (1 ≤ result.workers) × (result.workers ≤ 64) }
+{
+    if alone {
+        *how
+    } else {
+        How {
+            workers: 1,
+            board: how.board,
+        }
+    }
+}
+
+// Works a binding.
+fn work_binding<R: Threads + Wait + Sync, G: Gate + Sync>(
+    rt: &R,
+    alloc: Global,
+    nodes: &Nodes,
+    bindings: &[Binding],
+    n: usize,
+    alone: bool,
+    done: &Results<Complex>,
+    how: &How,
+    gate: &G,
+) -> Result<Complex, AllocError>
+    requires are { AreBindings nodes.now bindings.now }
+    requires number { n < length bindings.now }
+    requires there { IsReady (Fits nodes.now bindings.now) (first_need bindings.now n) (second_need bindings.now n) done.now.list.items }
+    ensures fits { IfOk result (Fits nodes.now bindings.now n) }
+{
+    let _nodes = nodes;
+    let binding = &bindings[n];
+    let first = needed(done, binding.needs.first);
+    let second = needed(done, binding.needs.second);
+    let how = how_for(how, alone);
+    made(rt, alloc, binding.operation, first, second, &how, gate)
+}
+
+/// Works the bindings in rounds, and gives the complexes of those that are wanted, at their places.
+///
+/// A binding that is alone in its round is worked by as many workers as `how` says, and each other
+/// one by one worker. `AllocError` says that memory was wanted and not found.
+pub(crate) fn work_bindings<R: Threads + Wait + Sync, G: Gate + Sync>(
+    rt: &R,
+    alloc: Global,
+    nodes: &Nodes,
+    bindings: &[Binding],
+    wanted: &[bool],
+    how: &How,
+    gate: &G,
+) -> Result<Vec<Option<Complex>>, AllocError>
+    requires workers { (1 ≤ how.now.workers) × (how.now.workers ≤ 64) }
+    requires are { AreBindings nodes.now bindings.now }
+    requires wanted { length wanted.now ≡ length bindings.now }
+    ensures fits { IfOk result (λ v. AreSound (length bindings.now) (Fits nodes.now bindings.now) v.items) }
+    ensures wanted { IfOk result (λ v. (n : ℕ) → IsMarked wanted.now n → HasResult v.items n) }
+    ensures lean { IfOk result (λ v. (n : ℕ) → IsUnmarked wanted.now n → kept v.items n ≡ None) }
+{
+    let work = |n: usize, alone: bool, done: &Results<Complex>| -> Result<Complex, AllocError>
+        requires { AreBindings nodes.now bindings.now × (n < length bindings.now) × IsReady (Fits nodes.now bindings.now) (first_need bindings.now n) (second_need bindings.now n) done.now.list.items }
+        ensures { IfOk result (Fits nodes.entry.now bindings.entry.now n) }
+    { work_binding(rt, alloc, nodes, bindings, n, alone, done, how, gate) };
+    let stage = Bindings {
+        nodes,
+        list: bindings,
+        work,
+    };
+    run_lean(rt, alloc, &stage, how.workers, wanted)
+}
