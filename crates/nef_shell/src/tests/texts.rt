@@ -98,7 +98,7 @@ const WALL_HOLLOW_EDGE: &str = "\
     7 4 7 6 8 1 8 3 8 4 9 0 9 3 9 4 10 1 10 2 10 4 11 0 11 2 11 4 => 1 w n / h 0 0 0 2 0 4 1 1 \
     1 2 1 4 2 0 2 3 2 4 3 1 3 3 3 4 4 0 4 4 4 9 5 1 5 4 5 9 6 0 6 5 6 9 7 1 7 5 7 9 => 2 w n / \
     h 4 2 4 6 4 8 5 3 5 6 5 8 6 2 6 7 6 8 7 3 7 7 7 8 8 0 8 2 8 5 9 1 9 2 9 5 10 0 10 3 10 5 \
-    11 1 11 3 11 5
+    11 1 11 3 11 5 / end
 half Aa -1 0 0 0 closed / half Ab 1 0 0 -3 closed / half Ac 0 -1 0 0 closed / half Ad 0 1 0 -3 \
     closed / half Ae 0 0 -1 0 closed / half Af 0 0 1 -3 closed / and Ag Aa Ab / and Ah Ag Ac / \
     and Ai Ah Ad / and Aj Ai Ae / and A Aj Af / half Ba -1 0 0 1 closed / half Bb 1 0 0 -2 \
@@ -112,7 +112,7 @@ half Aa -1 0 0 0 closed / half Ab 1 0 0 -3 closed / half Ac 0 -1 0 0 closed / ha
     2 5 4 6 0 6 3 6 4 7 1 7 3 7 4 16 0 16 2 16 5 17 1 17 2 17 5 18 0 18 3 18 5 19 1 19 3 19 5 \
     / h 8 1 8 3 8 5 9 0 9 3 9 5 10 1 10 2 10 5 11 0 11 2 11 5 12 1 12 3 12 4 13 0 13 3 13 4 14 \
     1 14 2 14 4 15 0 15 2 15 4 => 3 w n / h 8 0 8 2 8 4 9 1 9 2 9 4 10 0 10 3 10 4 11 1 11 3 \
-    11 4 12 0 12 2 12 5 13 1 13 2 13 5 14 0 14 3 14 5 15 1 15 3 15 5
+    11 4 12 0 12 2 12 5 13 1 13 2 13 5 14 0 14 3 14 5 15 1 15 3 15 5 / end
 half Aa -1 0 0 0 closed / half Ab 1 0 0 -1 closed / half Ac 0 -1 0 0 closed / half Ad 0 1 0 -1 \
     closed / half Ae 0 0 -1 0 closed / half Af 0 0 1 -1 closed / and Ag Aa Ab / and Ah Ag Ac / \
     and Ai Ah Ad / and Aj Ai Ae / and A Aj Af / half Ba -1 0 0 1 closed / half Bb 1 0 0 -2 \
@@ -132,7 +132,7 @@ half Aa -1 0 0 0 closed / half Ab 1 0 0 -1 closed / half Ac 0 -1 0 0 closed / ha
     16 2 16 4 17 0 17 2 17 4 => 2 w i / h 4 0 4 2 4 4 5 1 5 2 5 4 6 0 6 3 6 4 7 1 7 3 7 4 8 0 \
     8 2 8 5 9 1 9 2 9 5 10 0 10 5 10 9 11 1 11 5 11 9 => 3 w i / h 10 2 10 6 10 10 11 3 11 6 \
     11 10 12 0 12 3 12 4 13 1 13 3 13 4 14 0 14 2 14 5 15 1 15 2 15 5 16 0 16 3 16 5 17 1 17 3 \
-    17 5";
+    17 5 / end";
 
 // A plate with a hexagonal hole, and the first lines of what its script writes.
 const PLATE: &str = "half Pa -1 0 0 -10 closed / half Pb 1 0 0 -10 closed / \
