@@ -1,9 +1,10 @@
 -- Sides of vertices, and the side above the point where the ray down from a point ends.
-use Rattle.std.specs.Prelude.{◌≡◌, ℕ, ◌≤◌}
+use Rattle.std.specs.Prelude.{◌≡◌, ℕ}
 use Rattle.nef_space.specs.Place.{Place, IsAhead, IsBetween}
-use Rattle.nef_space.specs.Vectors.{Vector, blend, opposite, up}
+use Rattle.nef_space.specs.Vectors.{opposite, up}
 use Rattle.nef_space.specs.declared.label.Label.{Label}
-use Rattle.law_sphere.specs.Maps.{At, Map, Side, pos_item, dir_of, HasSide, Sees}
+use Rattle.law_sphere.specs.Maps.{At, Side, pos_item, HasSide, Sees}
+use Rattle.law_sphere.specs.Sectors.{BoundsSector}
 use Rattle.law_complex.specs.Complexes.{Vertex, Edge, Complex, Corner}
 use Rattle.law_complex.specs.Skeleton.{Spot, at_vertex, on_edge, in_facet, IsSpot, IsSkeletonPoint, HasCorner}
 
@@ -16,14 +17,10 @@ pub record VertexSide : Type 0 where
 abbrev pub HasSideLabel : Complex → VertexSide → Label → Type 0
 HasSideLabel C x l = (v : Vertex) × At C.vertices x.vertex v × HasSide v.map x.side l
 
--- the side sees each direction close to d toward e
-abbrev pub SeesNear : Map → Side → Vector → Vector → Type 0
-SeesNear M o d e = (n : ℕ) × ((k : ℕ) → n ≤ k → Sees M o (blend k d 1 e))
-
--- the side lies above the skeleton point y
+-- the side lies above the skeleton point y: at a vertex it sees up, on an edge it bounds the sector of the lower end's svertex in which up lies, in a facet it is the upper side of the point's corner
 abbrev pub IsAbove : Complex → Place → Spot → VertexSide → Type 0
 IsAbove C y (at_vertex k) x = (v : Vertex) × At C.vertices k v × (x.vertex ≡ k) × Sees v.map x.side up
-IsAbove C y (on_edge k) x = (e : Edge) × (v : Vertex) × At C.edges k e × At C.vertices e.low v × (x.vertex ≡ e.low) × SeesNear v.map x.side (dir_of v.map.svertices e.low_svertex) up
+IsAbove C y (on_edge k) x = (e : Edge) × (v : Vertex) × At C.edges k e × At C.vertices e.low v × (x.vertex ≡ e.low) × BoundsSector v.map e.low_svertex up x.side
 IsAbove C y (in_facet j) x = (k : Corner) × HasCorner C y k × (x.vertex ≡ k.vertex) × (x.side ≡ pos_item k.item)
 
 -- the ray down from p ends at a skeleton point, above which the side lies

@@ -16,6 +16,7 @@ use Rattle.law_forms.proofs.Directions.{self-pos, direction-left}
 use Rattle.law_sphere.specs.Maps.{At, item_normal, item_pos, item_mark, item_neg, HasSide, Sees}
 use Rattle.law_sphere.proofs.Vectors.{normal-is}
 use Rattle.law_sphere.proofs.Lists.{at-one}
+use Rattle.law_sphere.proofs.Sectors.{bounds-sees}
 use Rattle.law_sphere.proofs.Shot.{dir-at}
 use Rattle.law_sphere.proofs.Compare.{SameDirection-turned, SameDirection-trans}
 use Rattle.law_complex.specs.Complexes.{Vertex, Edge, Complex, Corner, HasEnds}
@@ -76,13 +77,14 @@ module _ (s : Set) (C : Complex) (S : Shows s C) where
         )
 
     by-edge : (k : ℕ) → IsEdgePoint C k z → IsAbove C z (on_edge k) y → PointTied s C y (ahead s z up)
-    by-edge k (g, u, w, b, G, t) (e, v, a, c, f, sight) =
+    by-edge k (g, u, w, b, G, t) (e, v, a, c, f, bounds) =
         let same = at-one C.edges k g e b a in
         let G' = subst (λ (j : Edge). HasEnds C j u w) same G in
         let one = at-one C.vertices e.low u v G'.low c in
         let H = subst (λ (j : Vertex). HasEnds C e j w) one G' in
         let W = edge-ways s C S k e v w a H in
         let d = W.low.dir in
+        let sight = bounds-sees v.map (S.cones e.low v c).valid.shaped e.low_svertex up y.side bounds in
         let n = sight.0 + steep (carriers s) up in
         let m = subst (λ (i : ℕ). At C.vertices i v) (sym f) c in
         let sees = subst (λ (r : Vector). Sees v.map y.side (blend n r 1 up)) (dir-at v.map.svertices e.low_svertex W.low W.is_low) (sight.1 n (omega arith)) in

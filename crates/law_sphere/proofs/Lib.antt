@@ -37,3 +37,7 @@ pub mod BuiltLeast
 pub mod Simplified
 pub mod StraightStars
 pub mod Turning
+pub mod NearSvertex
+pub mod FarWay
+pub mod SectorSees
+pub mod Sectors

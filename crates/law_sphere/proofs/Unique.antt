@@ -23,7 +23,7 @@ use Rattle.law_sphere.proofs.Turn.{dir-directed}
 use Rattle.law_sphere.proofs.Arcs.{Ends, ends-of, sloop-at, arc-matched, sloop-matched}
 use Rattle.law_sphere.proofs.Lone.{near-same_way, near-lone}
 
-eq-decided : (a b : ℕ) → Decided (a ≡ b)
+pub eq-decided : (a b : ℕ) → Decided (a ≡ b)
 eq-decided a b = ⊎_elim (λ l. inr (λ e. omega arith)) (λ l. ⊎_elim (λ m. inr (λ e. omega arith)) (λ m. inl (omega arith)) (cases_lt b a)) (cases_lt a b)
 
 pub HasArc-decided : (M : Map) (k : ℕ) → Decided (HasArc M k)

@@ -11,6 +11,7 @@ use Rattle.law_near.proofs.Even.{joined-turned, joined-both}
 use Rattle.law_sphere.specs.Maps.{At, Item, item_normal, item_pos, pos_item, OnItem, Side, HasSide, Sees}
 use Rattle.law_sphere.proofs.Forms.{on-level}
 use Rattle.law_sphere.proofs.Lists.{at-one}
+use Rattle.law_sphere.proofs.Sectors.{bounds-sees}
 use Rattle.law_sphere.proofs.Shot.{dir-at}
 use Rattle.law_sphere.proofs.Vectors.{normal-is}
 use Rattle.law_complex.specs.Complexes.{Vertex, Edge, Complex, Corner, HasEnds, IsCorner}
@@ -118,12 +119,13 @@ module _ (s : Set) (C : Complex) (S : Shows s C) where
           seer = record { here = f; label = l; has = seer-at x l v k has a f; sees = subst (λ (r : Vector). Sees v.map x.side r) (sym (no-way n up)) sight };
         },
       )
-  over-of (on_edge k) z x l (g, u, w, b, G, t) (e, v, a, c, f, sight) has =
+  over-of (on_edge k) z x l (g, u, w, b, G, t) (e, v, a, c, f, bounds) has =
       let same = at-one C.edges k g e b a in
       let G' = subst (λ (j : Edge). HasEnds C j u w) same G in
       let one = at-one C.vertices e.low u v G'.low c in
       let H = subst (λ (j : Vertex). HasEnds C e j w) one G' in
       let W = edge-ways s C S k e v w a H in
+      let sight = bounds-sees v.map (S.cones e.low v c).valid.shaped e.low_svertex up x.side bounds in
       let n = sight.0 + bound s v up in
       inr (inl (
         k,

@@ -13,9 +13,6 @@ pub mod Reached
 pub mod OneSface
 pub mod MapLists
 pub mod SideLists
-pub mod NearSvertex
-pub mod FarWay
-pub mod SectorSees
 pub mod FirstMet
 pub mod FirstSees
 pub mod SideNumbers

@@ -11,6 +11,7 @@ use Rattle.law_near.proofs.Meets.{cross-none}
 use Rattle.law_forms.proofs.Directions.{dot-zero, square_pos}
 use Rattle.law_forms.proofs.Far.{nought-or, same-off}
 use Rattle.law_sphere.specs.Maps.{At, MapVertex, Map, Item, items, item_normal, OnItem, IsClear, Shaped}
+use Rattle.law_sphere.specs.Sectors.{ArcRay, ray_left}
 use Rattle.law_sphere.specs.Forms.{Keeps, forms, gather}
 use Rattle.law_sphere.proofs.Vectors.{dot-comb, normal-is, direction-by, same-plus, same-minus}
 use Rattle.law_sphere.proofs.Generic.{amount, far-keeps, far-level}
@@ -20,7 +21,7 @@ use Rattle.law_sphere.proofs.Shot.{product-off}
 use Rattle.law_sphere.proofs.Direct.{slid, slid_form, slid-is, cross-self, miss-between}
 use Rattle.law_sphere.proofs.Around.{free-around}
 use Rattle.law_sphere.proofs.Walk.{between-direction}
-use Rattle.nef_smap.proofs.NearSvertex.{ArcRay, ray_left, near-ray}
+use Rattle.law_sphere.proofs.NearSvertex.{near-ray}
 
 -- a bound of finitely many numbers
 pub bound-of : {A : Type 0} (xs : List A) (g : A → ℕ) → (n : ℕ) × ((k : ℕ) (x : A) → At xs k x → g x ≤ n)

@@ -1,5 +1,5 @@
 -- Close to a svertex: on a ray of an arc that begins or ends there, or free.
-use Rattle.std.proofs.Common.{◌≡◌, ℕ, ◌<◌, ℤ, pos, ◌*ℤ◌, ◌<ℤ◌, arith, refl, sym, ◌⊎◌, inl, inr, ⊎_elim, [], ◌∷◌, subst}
+use Rattle.std.proofs.Common.{◌≡◌, ℕ, ◌<◌, ℤ, pos, ◌*ℤ◌, ◌<ℤ◌, arith, refl, sym, inl, inr, ⊎_elim, [], ◌∷◌, subst}
 use Rattle.std.proofs.lemmas.Int.{ints}
 use Rattle.law_arithmetic.proofs.Ring.{ring, at, num, ◌⊕◌, ◌⊖◌, ◌⊗◌}
 use Rattle.law_arithmetic.proofs.Combination.{follows, given, none}
@@ -10,7 +10,8 @@ use Rattle.law_cyclic.proofs.Directions.{dot-opposite, level-same, same-first}
 use Rattle.law_near.proofs.Decided.{Decided}
 use Rattle.law_near.proofs.FlatDecided.{triple-dot, cross-turned}
 use Rattle.law_forms.proofs.Directions.{dot-comm, self-pos}
-use Rattle.law_sphere.specs.Maps.{At, MapVertex, Arc, Map, Item, arc_item, sloop_item, items, dir_of, OnItem, IsFree, IsClear, Side, pos_item, neg_item, Shaped}
+use Rattle.law_sphere.specs.Maps.{At, MapVertex, Arc, Map, Item, arc_item, sloop_item, items, dir_of, OnItem, IsFree, IsClear, Shaped}
+use Rattle.law_sphere.specs.Sectors.{ArcRay, ray_left, Unrayed}
 use Rattle.law_sphere.specs.Forms.{Keeps, arc_forms, forms}
 use Rattle.law_sphere.proofs.Vectors.{triple-middle, normal-is, same-plus, same-minus}
 use Rattle.law_sphere.proofs.Places.{kept-nought, kept-minus, SameDirection-decided}
@@ -24,29 +25,6 @@ use Rattle.law_sphere.proofs.StepOff.{blend-turned}
 use Rattle.law_sphere.proofs.NearItems.{keeps-between, kept-not_opposite, opposite-turned}
 use Rattle.law_sphere.proofs.Turn.{turn-last}
 use Rattle.law_sphere.proofs.Arcs.{Ends, ends-of}
-
--- ---- rays
--- an arc that begins or ends at svertex k, seen from there
-pub record ArcRay (M : Map) (k : ℕ) : Type 0 where
-  pub number : ℕ
-  pub arc : Arc
-  pub listed : At M.arcs number arc
-  pub end : (arc.source ≡ k) ⊎ (arc.target ≡ k)
-
-abbrev pub end_left : {A B : Type 0} → Arc → A ⊎ B → Vector
-end_left a (inl e) = a.normal
-end_left a (inr e) = opposite a.normal
-
-abbrev pub end_side : {A B : Type 0} → ℕ → A ⊎ B → Side
-end_side i (inl e) = pos_item i
-end_side i (inr e) = neg_item i
-
--- the direction to the left of the ray, and the arc's side there
-abbrev pub ray_left : {M : Map} {k : ℕ} → ArcRay M k → Vector
-ray_left r = end_left r.arc r.end
-
-abbrev pub ray_side : {M : Map} {k : ℕ} → ArcRay M k → Side
-ray_side r = end_side r.number r.end
 
 -- what lies in the plane of n through d, ahead, has n to its left
 pub left-ahead : (n d w : Vector) → dot n d ≡ pos 0 → dot n w ≡ pos 0 → pos 0 <ℤ triple n d w → SameDirection n (cross d w)
@@ -209,10 +187,6 @@ module _ (M : Map) (V : Shaped M) (k : ℕ) (v : MapVertex) (a : At M.svertices 
         off y.parallel;
     off_items = λ i x h o. n (near-ray i x h o);
   }
-
--- no ray of the svertex runs along w
-abbrev pub Unrayed : Map → ℕ → Vector → Vector → Type 0
-Unrayed M k v w = (r : ArcRay M k) → SameDirection (ray_left r) (cross v w) → ⊥
 
 -- v x (i w + j v) = i (v x w)
 pub same-cross : (v w : Vector) (i j : ℕ) → 0 < i → IsDirection (cross v w) → SameDirection (cross v (blend i w j v)) (cross v w)

@@ -11,6 +11,7 @@ use Rattle.law_near.proofs.FlatDecided.{triple-dot, cross-turned}
 use Rattle.law_near.proofs.Meets.{cross-none}
 use Rattle.law_forms.proofs.Directions.{dot-comm, dot-zero, zero-dot, self-pos}
 use Rattle.law_sphere.specs.Maps.{At, MapVertex, Map, arc_item, items, dir_of, OnItem, IsClear, Reaches, Sees, directly, by_way_of, Shaped}
+use Rattle.law_sphere.specs.Sectors.{ArcRay, end_left, end_side, ray_left, ray_side, Unrayed}
 use Rattle.law_sphere.specs.Forms.{forms}
 use Rattle.law_sphere.proofs.Vectors.{dot-comb, normal-is, same-plus}
 use Rattle.law_sphere.proofs.Generic.{amount, far-keeps}
@@ -21,8 +22,8 @@ use Rattle.law_sphere.specs.Vectors.{comb}
 use Rattle.law_sphere.proofs.Arcs.{Ends, ends-of, at-arc}
 use Rattle.law_sphere.proofs.Compare.{SameDirection-turned, dir-self}
 use Rattle.law_sphere.proofs.Turn.{turn-last, turn-same}
-use Rattle.nef_smap.proofs.NearSvertex.{ArcRay, end_left, end_side, ray_left, ray_side, Unrayed, near-clear}
-use Rattle.nef_smap.proofs.FarWay.{far-way}
+use Rattle.law_sphere.proofs.NearSvertex.{near-clear}
+use Rattle.law_sphere.proofs.FarWay.{far-way}
 
 -- ---- products
 -- v.(m x (v x w)) = (v.v) (m.w)
