@@ -1,5 +1,5 @@
 -- From a point of the frame with three flat directions the ray down ends at a skeleton point, above which some side lies.
-use Rattle.std.proofs.Common.{◌≡◌, ℕ, ◌+◌, ◌≤◌, ℤ, pos, ◌+ℤ◌, ◌-ℤ◌, ◌*ℤ◌, ◌<ℤ◌, arith, refl, sym, ◌∙◌, inl, ⊎_elim, [], ◌∷◌, subst}
+use Rattle.std.proofs.Common.{◌≡◌, ℕ, ◌+◌, ◌≤◌, ℤ, pos, ◌+ℤ◌, ◌-ℤ◌, ◌*ℤ◌, ◌<ℤ◌, arith, refl, ◌∙◌, ⊎_elim, [], ◌∷◌, subst}
 use Rattle.std.proofs.lemmas.Int.{ints}
 use Rattle.law_arithmetic.proofs.Ring.{ring, at, num, ◌⊕◌, ◌⊖◌, ◌⊗◌}
 use Rattle.nef_space.specs.Local.{FlatDim}
@@ -15,23 +15,20 @@ use Rattle.law_near.proofs.Decisions.{ahead}
 use Rattle.law_near.proofs.Even.{joined-germs}
 use Rattle.law_near.proofs.NearGerms.{steep}
 use Rattle.law_near.proofs.Rays.{signs-same, same-place_sym}
-use Rattle.law_forms.proofs.Far.{nought-or, same-nought}
 use Rattle.law_sphere.specs.Forms.{forms}
-use Rattle.law_sphere.specs.Maps.{At, MapVertex, Map, Item, arc_item, items, item_normal, item_pos, IsFree, Side, around_svertex, pos_item, HasSide, IsClear, by_way_of, SeenAs, HasArc, Shaped}
+use Rattle.law_sphere.specs.Sectors.{BoundsSector}
+use Rattle.law_sphere.specs.Maps.{At, MapVertex, Arc, Item, arc_item, item_normal, item_pos, IsFree, Side, pos_item, HasSide, SeenAs, Shaped}
 use Rattle.law_sphere.proofs.Arcs.{at-arc}
 use Rattle.law_sphere.proofs.Around.{Beside, same_way, other_way, beside}
-use Rattle.law_sphere.proofs.Direct.{direct}
-use Rattle.law_sphere.proofs.Forms.{item-forms, normal-form, axes-forms, free-by_signs, on-level}
-use Rattle.law_sphere.proofs.Generic.{amount, far-keeps, far-level, far-same}
-use Rattle.law_sphere.proofs.Labels.{same-clear}
-use Rattle.law_sphere.proofs.Lists.{search_list}
+use Rattle.law_sphere.proofs.Forms.{axes-forms, on-level}
+use Rattle.law_sphere.proofs.Generic.{amount, far-keeps}
 use Rattle.law_sphere.proofs.NearItems.{kept-not_opposite}
-use Rattle.law_sphere.proofs.Shot.{dir-at}
+use Rattle.law_sphere.proofs.Sectors.{bounded, unrayed-ahead}
 use Rattle.law_sphere.proofs.Vectors.{normal-is}
 use Rattle.law_complex.specs.Complexes.{Vertex, Complex, Corner, IsCorner}
 use Rattle.law_complex.specs.Shows.{Shows}
 use Rattle.law_complex.specs.Skeleton.{item_plane, IsVertexPoint, IsEdgePoint, IsFacetPoint, Spot, at_vertex, on_edge, in_facet, IsSpot, IsSkeletonPoint, HasCorner}
-use Rattle.law_complex.specs.Rays.{VertexSide, HasSideLabel, SeesNear, IsAbove, RayDown}
+use Rattle.law_complex.specs.Rays.{VertexSide, HasSideLabel, IsAbove, RayDown}
 use Rattle.law_complex.specs.Laws.{IsFlatIn}
 use Rattle.law_complex.proofs.FacetAngles.{through-at}
 use Rattle.law_complex.proofs.FacetEdges.{ahead-back}
@@ -43,7 +40,7 @@ use Rattle.law_links.specs.Components.{IsEvenAfter, IsUpright}
 use Rattle.law_links.proofs.Across.{across}
 use Rattle.law_links.proofs.Down.{facet-at}
 use Rattle.law_links.proofs.EdgeEnds.{edge-ways, tied-low, tied-turn}
-use Rattle.law_links.proofs.SideSight.{seen-free, sees-around}
+use Rattle.law_links.proofs.SideSight.{seen-free}
 use Rattle.law_links.proofs.Ties.{ahead-cells, dim-cell, IsTied, tied-both, tied-ahead, tied-ray}
 use Rattle.nef_conn.proofs.AtSides.{side-toward}
 use Rattle.nef_conn.proofs.FirstMet.{all-flat}
@@ -73,69 +70,33 @@ module _ (s : Set) (C : Complex) (S : Shows s C) where
 
   module _ (upright : IsUpright C) where
     -- ---- above an edge
-    -- where close to a svertex three directions are flat toward up, one side sees all directions close to it toward up
+    -- where a direction close to a svertex toward up is free, up lies in a sector of the svertex, and a side bounds it
     module _ (i : ℕ) (v : Vertex) (a : At C.vertices i v) (j : ℕ) (u : MapVertex) (b : At v.map.svertices j u) where
-      abbrev M : Map
-      M = v.map
-
       V : Shaped v.map
       V = (S.cones i v a).valid.shaped
 
-      abbrev N : ℕ
-      N = amount (forms v.map) up + steep (carriers s) up
+      module _ (N : ℕ) (large : amount (forms v.map) up ≤ N) (F : IsFree v.map (blend N u.dir 1 up)) where
+        abbrev near : Vector
+        near = blend N u.dir 1 up
 
-      abbrev near : ℕ → Vector
-      near k = blend k u.dir 1 up
-
-      module _ (F : IsFree v.map (near N)) where
-        by-item : (k : ℕ) (x : Item) → At (items v.map) k x → (o : Side) × (l : Label) × HasSide v.map o l × SeesNear v.map o u.dir up
-        by-item k x h =
-            let r = direct v.map V (near N) F k x h off in (
-              r.side,
-              r.label,
-              r.has,
-              (N, λ m l. by_way_of (near N) r.point (back m l) r.clear r.reached),
-            )
-          where
-            high : pos 0 <ℤ dot (item_normal x) up
-            high = upright (record { vertex = i; item = k }) v x (record { vertex = a; item = h })
-
-            off : dot (item_normal x) (near N) ≡ pos 0 → ⊥
-            off z = ⊎_elim
-                (λ e. let m = same-nought (dot (item_normal x) (near N)) (dot (item_normal x) up) (sym (far-level (forms v.map) u.dir up N (omega arith) (item_normal x) e)) z in let y = high in omega (arith, ints))
-                (λ n. n (same-nought (dot (item_normal x) (near N)) (dot (item_normal x) u.dir) (sym (far-keeps (forms v.map) u.dir up N (omega arith) (item_normal x) (item-forms v.map k x (item_normal x) h (normal-form v.map x)) n)) z))
-                (nought-or (dot (item_normal x) u.dir))
-
-            back : (m : ℕ) → N ≤ m → IsClear v.map (near m) (near N)
-            back m l = same-clear v.map (near m) (near N) (far-same (forms v.map) u.dir up m N (omega arith) (omega arith))
-                (free-by_signs v.map (near N) (near m) (far-same (forms v.map) u.dir up N m (omega arith) (omega arith)) F)
-
-        -- without items the svertex has a side around it
         apart : IsDirection (cross u.dir up)
-        apart z = by (beside u.dir (near N) (V.svertex_dirs j u b) F.direction (level z))
+        apart z = by (beside u.dir near (V.svertex_dirs j u b) F.direction (level z))
           where
             one : (a b c d : ℤ) → a *ℤ d -ℤ b *ℤ c ≡ pos 0 → a *ℤ (pos N *ℤ b +ℤ pos 1 *ℤ d) -ℤ b *ℤ (pos N *ℤ a +ℤ pos 1 *ℤ c) ≡ pos 0
             one a b c d e = ring (pos N ∷ a ∷ b ∷ c ∷ d ∷ []) (at 1 ⊗ (at 0 ⊗ at 2 ⊕ num (pos 1) ⊗ at 4) ⊖ at 2 ⊗ (at 0 ⊗ at 1 ⊕ num (pos 1) ⊗ at 3)) (at 1 ⊗ at 4 ⊖ at 2 ⊗ at 3) tt ∙ e
 
-            level : IsZero (cross u.dir up) → IsZero (cross u.dir (near N))
+            level : IsZero (cross u.dir up) → IsZero (cross u.dir near)
             level z = (one u.dir.y u.dir.z up.y up.z z.0, one u.dir.z u.dir.x up.z up.x z.1, one u.dir.x u.dir.y up.x up.y z.2)
 
-            by : Beside u.dir (near N) → ⊥
+            by : Beside u.dir near → ⊥
             by (same_way w) = F.off_svertices j u b w
-            by (other_way o) = kept-not_opposite u.dir (near N) (λ g l. far-keeps (forms v.map) u.dir up N (omega arith) g (axes-forms v.map g l)) o
+            by (other_way o) = kept-not_opposite u.dir near (λ g l. far-keeps (forms v.map) u.dir up N large g (axes-forms v.map g l)) o
 
-        bare : ((k : ℕ) (x : Item) → At (items v.map) k x → Unit {0} → ⊥) → (o : Side) × (l : Label) × HasSide v.map o l × SeesNear v.map o u.dir up
-        bare none =
-            let lone : HasArc v.map j → ⊥ = λ h. none h.0 (arc_item h.1) (at-arc v.map.arcs v.map.sloop h.0 h.1 h.2) tt in
-            let r = V.around_lone j u b lone in (
-              around_svertex j,
-              r.0,
-              (u, b, r.1),
-              (N, λ m l. sees-around v.map V j u b lone up m (omega arith) apart),
-            )
+        high : (k : ℕ) (r : Arc) → At v.map.arcs k r → pos 0 <ℤ dot r.normal up
+        high k r h = upright (record { vertex = i; item = k }) v (arc_item r) (record { vertex = a; item = at-arc v.map.arcs v.map.sloop k r h })
 
-        pub seen-near : (o : Side) × (l : Label) × HasSide v.map o l × SeesNear v.map o u.dir up
-        seen-near = ⊎_elim (λ f. by-item f.number f.element f.listed) bare (search_list (items v.map) (λ k x. Unit {0}) (λ k x. inl tt))
+        pub sector-side : (o : Side) × (l : Label) × HasSide v.map o l × BoundsSector v.map j up o
+        sector-side = bounded v.map V j u b up apart (unrayed-ahead v.map V j u b up apart high)
 
     -- ---- above what is met
     abbrev Covers : Place → Spot → Type 0
@@ -159,10 +120,10 @@ module _ (s : Set) (C : Complex) (S : Shows s C) where
           let N = amount (forms v.map) up + steep (carriers s) up in
           let t = tied-both s (ahead s z up) (ahead s (ahead s v.point d) up) (ahead s v.point (blend N d 1 up)) (tied-ahead s z (ahead s v.point d) up (tied-low s C S k e v w a H z b)) (tied-turn s v.point d up N (omega arith)) in
           let g = seen-toward e.low v H.low (blend N d 1 up) (tied-dim s (ahead s z up) (ahead s v.point (blend N d 1 up)) 3 t f) in
-          let r = seen-near e.low v H.low e.low_svertex W.low W.is_low (seen-free v.map g.1.side (blend N d 1 up) g.1.sees) in (
+          let r = sector-side e.low v H.low e.low_svertex W.low W.is_low N (omega arith) (seen-free v.map g.1.side (blend N d 1 up) g.1.sees) in (
             record { vertex = e.low; side = r.0 },
             r.1,
-            (e, v, a, H.low, refl, subst (λ (y : Vector). SeesNear v.map r.0 y up) (sym (dir-at v.map.svertices e.low_svertex W.low W.is_low)) r.3),
+            (e, v, a, H.low, refl, r.3),
             (v, H.low, r.2),
           )
 
