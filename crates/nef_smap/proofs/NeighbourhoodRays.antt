@@ -1,25 +1,25 @@
 -- The labels near a svertex: on a ray, and in the sector after it.
-use Rattle.std.proofs.Common.{◌≡◌, ℕ, ◌+◌, ◌≤◌, List, pos, arith, refl, sym, ap, subst, ◌∙◌, ⊎_elim}
+use Rattle.std.proofs.Common.{◌≡◌, ℕ, ◌+◌, ◌≤◌, List, pos, arith, refl, sym, ap, ◌∙◌, ⊎_elim}
 use Rattle.law_arithmetic.proofs.Order.{sign, sign-scaled}
 use Rattle.nef_space.specs.Vectors.{Vector, IsDirection, cross, dot, SameDirection, blend}
 use Rattle.nef_space.specs.declared.label.Label.{Label}
-use Rattle.law_cyclic.specs.Arcs.{IsOnCircle, IsStrictlyOn}
+use Rattle.law_cyclic.specs.Arcs.{IsOnCircle}
 use Rattle.law_cyclic.proofs.Directions.{level_cross_first, same-first}
 use Rattle.law_forms.proofs.Directions.{self-pos}
 use Rattle.law_forms.proofs.Far.{nought-or}
-use Rattle.law_sphere.specs.Maps.{At, MapVertex, Map, arc_item, HasSide, Sees, IsClear, on_item, seen, NearLabel, Valid}
+use Rattle.law_sphere.specs.Maps.{At, MapVertex, Map, arc_item, HasSide, on_item, seen, NearLabel, Valid}
+use Rattle.law_sphere.specs.Sectors.{ArcRay, ray_left, ray_side, Unrayed, IsLastRay}
 use Rattle.law_sphere.specs.Forms.{SameSigns, forms}
 use Rattle.law_sphere.specs.Stars.{across}
 use Rattle.law_sphere.proofs.Arcs.{at-arc}
-use Rattle.law_sphere.proofs.Compare.{SameDirection-trans, SameDirection-turned, dir-self}
+use Rattle.law_sphere.proofs.Compare.{SameDirection-turned}
 use Rattle.law_sphere.proofs.Generic.{amount, far-keeps, far-level}
 use Rattle.law_sphere.proofs.Labels.{dir-signs, label-by_signs, near-from_far}
+use Rattle.law_sphere.proofs.SectorSees.{left-on, on-end}
+use Rattle.law_sphere.proofs.Sectors.{ray-sees}
 use Rattle.law_sphere.proofs.StarKinds.{across-side}
-use Rattle.law_sphere.proofs.StepOff.{blend-turned}
-use Rattle.law_sphere.proofs.Turn.{dir-directed, IsStrictlyOn-same}
+use Rattle.law_sphere.proofs.Turn.{dir-directed}
 use Rattle.nef_star.proofs.Lefts.{way-same}
-use Rattle.nef_smap.proofs.NearSvertex.{ArcRay, ray_left, ray_side, Unrayed, same-cross, near-clear}
-use Rattle.nef_smap.proofs.SectorSees.{left-on, on-end, sector-sees}
 
 -- close to p, what lies half a plane off p along m x p has the signs of that
 beside-signs : (gs : List Vector) (p m e : Vector) (k : ℕ) → IsDirection p → IsOnCircle p m → SameDirection m (cross p e) → amount gs e ≤ k → amount gs (cross m p) ≤ k
@@ -57,23 +57,7 @@ module _ (M : Map) (V : Valid M) (k : ℕ) (v : MapVertex) (a : At M.svertices k
       (on_item q.number (arc_item q.arc) (at-arc M.arcs M.sloop q.number q.arc q.listed) (o.1 n (omega arith)) refl))
 
   -- in the sector after a ray there is the label of its side
-  pub after-label : (q : ArcRay M k) (e : Vector) (l : Label) → IsDirection (cross p e) → HasSide M (ray_side q) l → Unrayed M k p e → ((r : ArcRay M k) → IsStrictlyOn p (ray_left q) (cross p e) (ray_left r) → ⊥) → NearLabel M p e l
-  after-label q e l off has free none = near-from_far M V p e n (omega arith) l (seen (record { side = ray_side q; has = has; sees = sees }))
-    where
-      n : ℕ
-      n = amount (forms M) e
-
-      w : Vector
-      w = blend n p 1 e
-
-      same : SameDirection (cross p w) (cross p e)
-      same = subst (λ (x : Vector). SameDirection (cross p x) (cross p e)) (blend-turned 1 n e p) (same-cross p e 1 n (omega arith) off)
-
-      way : IsClear M w p
-      way = near-clear M V.shaped k v a w (far-keeps (forms M) p e n (omega arith)) (dir-directed (cross p w) (cross p e) same) (λ r z. free r (SameDirection-trans (ray_left r) (cross p w) (cross p e) z same))
-
-      circle : (r : ArcRay M k) → SameDirection (ray_left r) (ray_left r)
-      circle r = let o = left-on M V.shaped k v a r in dir-self (ray_left r) o.direction
-
-      sees : Sees M (ray_side q) w
-      sees = sector-sees M V.shaped k v a q w way (λ r o. none r (IsStrictlyOn-same p p (ray_left q) (ray_left q) (cross p w) (cross p e) (ray_left r) (ray_left r) (dir-self p hp) (circle q) same (circle r) o))
+  pub after-label : (q : ArcRay M k) (e : Vector) (l : Label) → IsDirection (cross p e) → HasSide M (ray_side q) l → Unrayed M k p e → IsLastRay M k p e q → NearLabel M p e l
+  after-label q e l off has free last =
+      let s = ray-sees M V.shaped k v a e off q free last in
+      (s.0, λ n large. seen (record { side = ray_side q; has = has; sees = s.1 n large }))

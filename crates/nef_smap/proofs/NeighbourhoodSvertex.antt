@@ -12,9 +12,11 @@ use Rattle.nef_geo.specs.Shapes.{vector_of}
 use Rattle.nef_geo.specs.declared.dir.Dir.{Dir}
 use Rattle.law_sphere.specs.Maps.{At, MapVertex, Arc, Map, arc_item, items, OnItem, HasArc, HasSide, at_svertex, NearLabel, Valid}
 use Rattle.law_sphere.specs.Stars.{StarShows}
+use Rattle.law_sphere.specs.Sectors.{ArcRay, end_left, ray_left, ray_side, Unrayed}
 use Rattle.law_sphere.proofs.Arcs.{at-arc}
 use Rattle.law_sphere.proofs.Compare.{dir-self}
 use Rattle.law_sphere.proofs.Lists.{at-one}
+use Rattle.law_sphere.proofs.SectorSees.{left-on, on-end}
 use Rattle.nef_star.specs.Rounds.{End, AreApart, IsRound}
 use Rattle.nef_star.specs.Turning.{IsTurning, IsNext, on_ray as at_ray, in_sector as of_sector, in_only_sector as of_only_sector}
 use Rattle.nef_star.specs.declared.star.Ray.{Ray}
@@ -28,8 +30,6 @@ use Rattle.nef_smap.specs.Maps.{arc_of, map_of, IsSmall}
 use Rattle.nef_smap.specs.Stars.{IsArcEnd, AreArcEnds, IsNeighbourhood}
 use Rattle.nef_smap.proofs.Lists.{map-at, at-map}
 use Rattle.nef_smap.proofs.SideLists.{at-from_get, get-from_at}
-use Rattle.nef_smap.proofs.NearSvertex.{ArcRay, end_left, ray_left, ray_side, Unrayed}
-use Rattle.nef_smap.proofs.SectorSees.{left-on, on-end}
 use Rattle.nef_smap.proofs.NeighbourhoodEnds.{ahead, back}
 use Rattle.nef_smap.proofs.NeighbourhoodRays.{ray-label, after-label}
 use Rattle.nef_smap.proofs.Neighbourhood.{neighbourhood-of, sector-of}
