@@ -16,6 +16,7 @@ use Rattle.law_sphere.proofs.Generic.{amount}
 use Rattle.law_sphere.proofs.Vectors.{nought-if, normal-is}
 use Rattle.law_sphere.proofs.Lists.{at-one}
 use Rattle.law_sphere.proofs.Walk.{cross-direction_right}
+use Rattle.law_sphere.proofs.Lone.{sees-around}
 use Rattle.law_complex.specs.Complexes.{Vertex, Edge, Complex, Corner, HasEnds, IsCorner}
 use Rattle.law_complex.specs.Shows.{Shows}
 use Rattle.law_complex.specs.Rays.{VertexSide}
@@ -24,7 +25,7 @@ use Rattle.law_links.specs.Components.{IsAtSide}
 use Rattle.law_links.proofs.Ties.{ahead-way, IsTied, tied-cell, tied-turned, tied-both, tied-ahead}
 use Rattle.law_links.proofs.EdgeEnds.{edge-ways, ends-tied, tied-turn, AreTiedItems, dot-opposite, along-tied}
 use Rattle.law_links.proofs.Across.{across-tied}
-use Rattle.law_links.proofs.SideSight.{sees-pos, sees-neg, sees-around, lone-of, aside, side-sees}
+use Rattle.law_links.proofs.SideSight.{sees-pos, sees-neg, lone-of, aside, side-sees}
 use Rattle.law_links.proofs.SidePoints.{at-side, level-opposite, one-sface}
 use Rattle.law_links.proofs.Chains.{JoinsPoints}
 

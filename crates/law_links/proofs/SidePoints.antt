@@ -31,6 +31,7 @@ use Rattle.law_sphere.proofs.Labels.{dir-signs}
 use Rattle.law_sphere.proofs.Around.{Beside, same_way, other_way, beside}
 use Rattle.law_sphere.proofs.Walk.{cross-direction_right}
 use Rattle.law_sphere.proofs.Compare.{SameDirection-turned, dir-self}
+use Rattle.law_sphere.proofs.Lone.{free-close}
 use Rattle.law_complex.specs.Complexes.{Vertex, Complex, IsCorner}
 use Rattle.law_complex.specs.Shows.{Shows}
 use Rattle.law_complex.specs.Rays.{VertexSide}
@@ -39,7 +40,7 @@ use Rattle.law_links.specs.Components.{IsEvenAfter, IsAtSide, SidesHavePoints}
 use Rattle.law_links.proofs.Ties.{ahead-toward, ahead-way, ahead-cells, ahead-ahead, dim-cell, even-fan, IsTied, tied-even, tied-cell, tied-turned, tied-both, tied-itself, tied-ahead, tied-ray, even-after}
 use Rattle.law_links.proofs.NearVertex.{free-dim, tied-off, facet-near, item-tied}
 use Rattle.law_links.proofs.EdgeEnds.{tied-turn, corner_of, dot-opposite, opposite-way}
-use Rattle.law_links.proofs.SideSight.{sees-way, seen-free, blend-direction, free-close, lone-of, free-whole, aside, side-sees}
+use Rattle.law_links.proofs.SideSight.{sees-way, seen-free, blend-direction, lone-of, free-whole, aside, side-sees}
 
 -- ---- points at a side
 module _ (s : Set) (C : Complex) (S : Shows s C) where

@@ -1,9 +1,9 @@
--- What sides see: the same way, some direction each, all around a svertex without arcs, everything where there is nothing.
-use Rattle.std.proofs.Common.{◌≡◌, ℕ, ◌+◌, ◌*◌, ◌<◌, ◌≤◌, ℤ, pos, ◌+ℤ◌, ◌*ℤ◌, ◌<ℤ◌, arith, refl, ap, sym, ◌∙◌, inl, inr, ⊎_elim, List, [], ◌∷◌, subst, Some}
+-- What sides see: the same way, some direction each, everything where there is nothing.
+use Rattle.std.proofs.Common.{◌≡◌, ℕ, ◌*◌, ◌<◌, ◌≤◌, pos, ◌*ℤ◌, ◌<ℤ◌, arith, ap, sym, ◌∙◌, ⊎_elim, List, [], ◌∷◌, subst, Some}
 use Rattle.std.proofs.lemmas.Int.{ints}
 use Rattle.std.proofs.Math.Nat.{mul-pos}
 use Rattle.law_arithmetic.specs.Signs.{sign}
-use Rattle.law_arithmetic.proofs.Ring.{ring, at, num, neg, ◌⊕◌, ◌⊗◌}
+use Rattle.law_arithmetic.proofs.Ring.{at, neg, ◌⊕◌, ◌⊗◌}
 use Rattle.law_arithmetic.proofs.Combination.{given, none, follows}
 use Rattle.law_arithmetic.proofs.Order.{sign-scaled, mul_pos}
 use Rattle.nef_space.specs.Vectors.{Vector, vector, opposite, blend, dot, cross, IsDirection, SameDirection, IsOpposite}
@@ -11,24 +11,22 @@ use Rattle.nef_space.specs.declared.label.Label.{Label}
 use Rattle.law_forms.specs.Homogeneous.{SameUpToFactor, of_direction}
 use Rattle.law_forms.proofs.Directions.{self-pos, dot-comm, dot-zero, zero-decided, same-factor, direction-right}
 use Rattle.law_forms.proofs.Far.{same-nought}
-use Rattle.law_near.proofs.Flats.{vector-same}
 use Rattle.law_sphere.specs.Forms.{forms, Keeps}
-use Rattle.law_sphere.specs.Maps.{At, MapVertex, Map, Item, arc_item, sloop_item, items, item_normal, OnItem, dir_of, IsFree, Side, around_svertex, pos_item, neg_item, whole, HasSide, IsClear, Reaches, Sees, directly, by_way_of, HasArc, Shaped}
+use Rattle.law_sphere.specs.Maps.{At, MapVertex, Map, Item, arc_item, sloop_item, items, item_normal, OnItem, IsFree, Side, around_svertex, pos_item, neg_item, whole, HasSide, IsClear, Reaches, Sees, directly, by_way_of, HasArc, Shaped}
 use Rattle.law_sphere.proofs.Vectors.{dot-comb, normal-is, same-plus, same-minus, nought-if}
 use Rattle.law_sphere.proofs.Generic.{amount, far-keeps, far-level}
-use Rattle.law_sphere.proofs.Places.{kept-nought}
-use Rattle.law_sphere.proofs.Forms.{axes-forms, item-forms, free-by_signs, on-direction, on-level}
+use Rattle.law_sphere.proofs.Forms.{axes-forms, free-by_signs, on-direction, on-level}
 use Rattle.law_sphere.proofs.Parallel.{parallel-trans, circle-point}
 use Rattle.law_sphere.proofs.Shot.{arc-at, item-point}
-use Rattle.law_sphere.proofs.Direct.{cross-between, between-off_target}
+use Rattle.law_sphere.proofs.Direct.{between-off_target}
 use Rattle.law_sphere.proofs.StepOff.{blend-turned}
 use Rattle.law_sphere.proofs.Sight.{clear-self}
 use Rattle.law_sphere.proofs.Labels.{dir-signs}
 use Rattle.law_sphere.proofs.NearItems.{keeps-between, kept-not_opposite, opposite-turned}
-use Rattle.law_sphere.proofs.Around.{Beside, same_way, other_way, beside, direction-around, svertex-around, free-beside, IsStrictlyOn-back}
-use Rattle.law_sphere.proofs.Compare.{SameDirection-turned, SameDirection-trans, dir-self}
+use Rattle.law_sphere.proofs.Around.{Beside, same_way, other_way, beside, free-beside}
 use Rattle.law_sphere.proofs.Walk.{between-direction}
 use Rattle.law_sphere.proofs.Arcs.{ends-of, sloop-at}
+use Rattle.law_sphere.proofs.Lone.{sees-around}
 use Rattle.law_links.proofs.EdgeEnds.{dot-opposite}
 
 -- ---- the same way
@@ -119,52 +117,6 @@ module _ (M : Map) (V : Shaped M) (k : ℕ) (x : Item) (a : At (items M) k x) (c
 
   pub sees-neg : dot (item_normal x) f <ℤ pos 0 → Sees M (neg_item k) g
   sees-neg h = directly c clear (x, a, on, same-minus (dot (item_normal x) f) (dot (item_normal x) g) turn h)
-
--- ---- around a svertex without arcs
-module _ (M : Map) (V : Shaped M) (k : ℕ) (u : MapVertex) (a : At M.svertices k u) (lone : HasArc M k → ⊥) where
-  hu : IsDirection u.dir
-  hu = V.svertex_dirs k u a
-
-  pub free-around_lone : (x : Vector) → Keeps (forms M) u.dir x → IsDirection (cross u.dir x) → IsFree M x
-  free-around_lone x keeps apart = record {
-    direction = direction-around M V u.dir x keeps hu;
-    off_svertices = λ i v b w. let o = svertex-around M V u.dir x keeps i v b hu w in apart (let t = SameDirection-trans u.dir v.dir x (SameDirection-turned v.dir u.dir o) w in t.parallel);
-    off_items = off;
-  }
-    where
-      off : (i : ℕ) (y : Item) → At (items M) i y → OnItem M y x → ⊥
-      off i (sloop_item l) b o = V.no_svertex_on_item k i u (sloop_item l) a b (record { direction = hu; level = kept-nought l.normal u.dir x (keeps l.normal (item-forms M i (sloop_item l) l.normal b (inl refl))) o.level })
-      off i (arc_item r) b o =
-          let E = ends-of M V i r (arc-at M.arcs M.sloop i r b) in
-          V.no_svertex_on_item k i u (arc_item r) a b (IsStrictlyOn-back r.normal (dir_of M.svertices r.source) (dir_of M.svertices r.target) u.dir x (normal-is V i (arc_item r) b)
-          E.source_direction E.target_direction E.source_level E.target_level (λ g l. keeps g (item-forms M i (arc_item r) g b l)) hu
-          (λ w. lone (i, r, arc-at M.arcs M.sloop i r b, inl (V.svertices_apart r.source k E.source u E.has_source a (subst (λ (d : Vector). SameDirection d u.dir) E.source_is w))))
-          (λ w. lone (i, r, arc-at M.arcs M.sloop i r b, inr (V.svertices_apart r.target k E.target u E.has_target a (subst (λ (d : Vector). SameDirection d u.dir) E.target_is w)))) o)
-
-  module _ (f : Vector) (K : ℕ) (large : amount (forms M) f ≤ K) (apart : IsDirection (cross u.dir f)) where
-    abbrev round : Vector
-    round = blend K u.dir 1 f
-
-    keeps-round : Keeps (forms M) u.dir round
-    keeps-round = far-keeps (forms M) u.dir f K large
-
-    pub free-close : IsFree M round
-    free-close = free-around_lone round keeps-round (cross-between u.dir f K 1 (omega arith) apart)
-
-    pub sees-around : Sees M (around_svertex k) round
-    sees-around = directly u.dir (record {
-      start = free-close;
-      direction = hu;
-      short = λ q. kept-not_opposite u.dir round (λ h l. keeps-round h (axes-forms M h l)) (opposite-turned round u.dir q);
-      between = λ i j si sj. free-around_lone (blend i round j u.dir) (subst (Keeps (forms M) u.dir) (blend-turned j i u.dir round) (keeps-between (forms M) u.dir round j i sj si keeps-round))
-          (subst (λ (v : Vector). IsDirection (cross u.dir v)) (sym (gathered i j)) (cross-between u.dir f (i * K + j) i si apart));
-    }) (u, a, dir-self u.dir hu)
-      where
-        one : (i j : ℕ) (x y : ℤ) → pos i *ℤ (pos K *ℤ x +ℤ pos 1 *ℤ y) +ℤ pos j *ℤ x ≡ pos (i * K + j) *ℤ x +ℤ pos i *ℤ y
-        one i j x y = ring (pos i ∷ pos j ∷ pos K ∷ x ∷ y ∷ []) (at 0 ⊗ (at 2 ⊗ at 3 ⊕ num (pos 1) ⊗ at 4) ⊕ at 1 ⊗ at 3) ((at 0 ⊗ at 2 ⊕ at 1) ⊗ at 3 ⊕ at 0 ⊗ at 4) tt
-
-        gathered : (i j : ℕ) → blend i round j u.dir ≡ blend (i * K + j) u.dir i f
-        gathered i j = vector-same (blend i round j u.dir) (blend (i * K + j) u.dir i f) (one i j u.dir.x f.x) (one i j u.dir.y f.y) (one i j u.dir.z f.z)
 
 -- a svertex with its own side has no arc
 pub lone-of : (M : Map) → Shaped M → (k : ℕ) (u : MapVertex) (l : Label) → At M.svertices k u → u.around ≡ Some l → HasArc M k → ⊥

@@ -8,7 +8,7 @@ use Rattle.law_cyclic.proofs.Cyclic.{ways_glue}
 use Rattle.law_cyclic.proofs.Directions.{dot-opposite, level-same, level_cross_first, level_cross_second}
 use Rattle.law_near.proofs.Decided.{Decided}
 use Rattle.law_forms.proofs.Directions.{dot-comm}
-use Rattle.law_sphere.specs.Maps.{At, MapVertex, Arc, Map, arc_item, IsClear, Side, around_svertex, HasSide, dir_of, Sees, directly, HasArc, Shaped}
+use Rattle.law_sphere.specs.Maps.{At, MapVertex, Arc, Map, arc_item, IsClear, Side, around_svertex, HasSide, dir_of, Sees, HasArc, Shaped}
 use Rattle.law_sphere.specs.Sectors.{ArcRay, end_left, end_side, ray_left, ray_side, Unrayed, IsLastRay, BoundsSector}
 use Rattle.law_sphere.specs.Forms.{forms}
 use Rattle.law_sphere.proofs.Generic.{amount, far-keeps}
@@ -18,6 +18,7 @@ use Rattle.law_sphere.proofs.StepOff.{blend-turned}
 use Rattle.law_sphere.proofs.Compare.{SameDirection-turned, SameDirection-trans, dir-self}
 use Rattle.law_sphere.proofs.Turn.{dir-directed, IsStrictlyOn-same}
 use Rattle.law_sphere.proofs.Arcs.{at-arc}
+use Rattle.law_sphere.proofs.Lone.{sees-around}
 use Rattle.law_sphere.proofs.Unique.{eq-decided, HasArc-decided}
 use Rattle.law_sphere.proofs.NearSvertex.{same-cross, near-clear}
 use Rattle.law_sphere.proofs.SectorSees.{left-on, sector-sees}
@@ -55,10 +56,6 @@ module _ (M : Map) (V : Shaped M) (k : ℕ) (v : MapVertex) (a : At M.svertices 
     λ n large. sector-sees M V k v a q (blend n p 1 e) (near-way free n large)
         (λ r o. none r (IsStrictlyOn-same p p (ray_left q) (ray_left q) (cross p (blend n p 1 e)) (cross p e) (ray_left r) (ray_left r) (dir-self p hp) (itself q) (same-near n) (itself r) o)),
   )
-
-  -- at a svertex without arcs the side round it does
-  lone-sees : (HasArc M k → ⊥) → SeesNear M (around_svertex k) p e
-  lone-sees none = (amount (forms M) e, λ n large. directly p (near-way (λ r. absurd (none (r.number, r.arc, r.listed, r.end))) n large) (v, a, dir-self p hp))
 
   -- ---- the last ray before the direction
   -- from the second ray none is passed before the direction that isn't from the first
@@ -149,5 +146,5 @@ pub bounds-sees : (M : Map) → Shaped M → (k : ℕ) (e : Vector) (o : Side) �
 bounds-sees M V k e o B = subst (λ (x : Vector). SeesNear M o x e) (sym (dir-at M.svertices k B.svertex B.listed)) (by B.bounds)
   where
     by : ((HasArc M k → ⊥) × (o ≡ around_svertex k)) ⊎ (q : ArcRay M k) × IsLastRay M k B.svertex.dir e q × (o ≡ ray_side q) → SeesNear M o B.svertex.dir e
-    by (inl (none, f)) = subst (λ (x : Side). SeesNear M x B.svertex.dir e) (sym f) (lone-sees M V k B.svertex B.listed e B.aside none)
+    by (inl (none, f)) = subst (λ (x : Side). SeesNear M x B.svertex.dir e) (sym f) (amount (forms M) e, λ n large. sees-around M V k B.svertex B.listed none e n large B.aside)
     by (inr (q, last, f)) = subst (λ (x : Side). SeesNear M x B.svertex.dir e) (sym f) (ray-sees M V k B.svertex B.listed e B.aside q B.unrayed last)

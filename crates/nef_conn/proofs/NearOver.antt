@@ -28,6 +28,7 @@ use Rattle.law_sphere.proofs.Lists.{search_list}
 use Rattle.law_sphere.proofs.Labels.{dir-signs}
 use Rattle.law_sphere.proofs.NearItems.{opposite-turned}
 use Rattle.law_sphere.proofs.Vectors.{dot-comb, normal-is, same-plus}
+use Rattle.law_sphere.proofs.Lone.{sees-around}
 use Rattle.law_complex.specs.Complexes.{Vertex, Edge, Complex, HasEnds, IsCorner}
 use Rattle.law_complex.specs.Shows.{Shows}
 use Rattle.law_complex.specs.Rays.{VertexSide}
@@ -41,7 +42,6 @@ use Rattle.law_links.specs.Components.{IsUpright}
 use Rattle.law_links.proofs.EdgeEnds.{EdgeWays, edge-ways, tied-low, tied-high, end-level, close_way, on-close, tied-close_way, corner_of}
 use Rattle.law_links.proofs.NearVertex.{facet-near}
 use Rattle.law_links.proofs.SidePoints.{level-opposite}
-use Rattle.law_links.proofs.SideSight.{sees-around}
 use Rattle.law_links.proofs.Ties.{ahead-close, ahead-toward, tied-turned, tied-both, tied-ahead}
 use Rattle.nef_conn.specs.Items.{AreLinkedWhereJoined, EndsAt}
 use Rattle.nef_conn.proofs.Onward.{side-of}

@@ -31,6 +31,7 @@ use Rattle.law_sphere.proofs.Compare.{SameDirection-turned, SameDirection-trans,
 use Rattle.law_sphere.proofs.Generic.{amount}
 use Rattle.law_sphere.proofs.KindFlats.{in-span}
 use Rattle.law_sphere.proofs.Parallel.{parallel-trans}
+use Rattle.law_sphere.proofs.Lone.{free-close}
 use Rattle.law_complex.specs.Complexes.{Vertex, Edge, Complex, HasEnds, IsCorner}
 use Rattle.law_complex.specs.Shows.{Shows}
 use Rattle.law_complex.specs.Rays.{VertexSide, RayDown}
@@ -46,7 +47,6 @@ use Rattle.law_links.specs.Components.{IsUpright, IsEvenAfter}
 use Rattle.law_links.proofs.EdgeEnds.{EdgeWays, edge-ways, ends-tied, tied-turn, end-level, corner_of, opposite-way, dot-opposite}
 use Rattle.law_links.proofs.NearVertex.{free-dim}
 use Rattle.law_links.proofs.SideLinks.{both-opposite}
-use Rattle.law_links.proofs.SideSight.{free-close}
 use Rattle.law_links.proofs.Ties.{even-fan, dim-cell, ahead-cells, tied-cell, tied-both, tied-ahead, tied-ray, tied-turned}
 use Rattle.nef_conn.specs.Items.{AreLinkedWhereJoined}
 use Rattle.nef_conn.proofs.Named.{twice}

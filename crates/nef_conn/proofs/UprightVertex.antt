@@ -17,6 +17,7 @@ use Rattle.law_sphere.proofs.Compare.{SameDirection-turned, SameDirection-trans,
 use Rattle.law_sphere.proofs.Generic.{amount}
 use Rattle.law_sphere.proofs.Lists.{at-one}
 use Rattle.law_sphere.proofs.NearItems.{opposite-turned}
+use Rattle.law_sphere.proofs.Lone.{sees-around}
 use Rattle.law_complex.specs.Complexes.{Vertex, Edge, Complex, HasEnds}
 use Rattle.law_complex.specs.Shows.{Shows}
 use Rattle.law_complex.specs.Rays.{VertexSide, RayDown}
@@ -27,7 +28,6 @@ use Rattle.law_links.specs.Links.{VolumeLink, around_ends}
 use Rattle.law_links.specs.Components.{IsUpright, IsEvenAfter}
 use Rattle.law_links.proofs.EdgeEnds.{EdgeWays, edge-ways, opposite-way, dot-opposite}
 use Rattle.law_links.proofs.SideLinks.{both-opposite}
-use Rattle.law_links.proofs.SideSight.{sees-around}
 use Rattle.law_links.proofs.Ties.{tied-ray}
 use Rattle.nef_conn.specs.Items.{AreLinkedWhereJoined}
 use Rattle.nef_conn.proofs.Named.{twice}

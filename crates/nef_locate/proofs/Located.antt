@@ -6,7 +6,8 @@ use Rattle.nef_space.specs.Place.{Place as PlainPlace, InClosedFrame, IsAhead}
 use Rattle.nef_space.specs.Sets.{Set}
 use Rattle.nef_space.specs.Vectors.{Vector, up, opposite, plane_axis}
 use Rattle.nef_space.specs.declared.label.Label.{Label}
-use Rattle.law_sphere.specs.Maps.{At, Item, arc_item, items, item_normal, item_pos, Side, pos_item, dir_of}
+use Rattle.law_sphere.specs.Maps.{At, Item, arc_item, items, item_normal, item_pos, Side, pos_item}
+use Rattle.law_sphere.specs.Sectors.{BoundsSector}
 use Rattle.law_sphere.proofs.Arcs.{at-arc}
 use Rattle.nef_smap.specs.Maps.{map_of}
 use Rattle.nef_smap.specs.SideNumbers.{number_of}
@@ -15,7 +16,7 @@ use Rattle.nef_smap.proofs.SideLists.{side-has}
 use Rattle.nef_smap.proofs.SideNumbers.{side-number}
 use Rattle.law_complex.specs.Complexes.{Complex as PlainComplex}
 use Rattle.law_complex.specs.Skeleton.{at_vertex, on_edge, in_facet, IsVertexPoint, IsEdgePoint, IsOnEdges, IsSkeletonPoint, PlaneMeet, meets_vertex, meets_edge, IsCornerAt, HasCorner, item_plane}
-use Rattle.law_complex.specs.Rays.{SeesNear, RayDown}
+use Rattle.law_complex.specs.Rays.{RayDown}
 use Rattle.law_complex.proofs.Edges.{edge-points}
 use Rattle.law_complex.proofs.FacetNames.{facet-of}
 use Rattle.law_complex.proofs.FacetWays.{dim-same}
@@ -48,7 +49,7 @@ module _ (c : Complex) where
       (k, j, o, l, refl, (vertex_of u, a, i), λ y p. (at_vertex k, p, (vertex_of u, a, refl, sees)))
 
   pub above-edge : (k j : ℕ) (e : Edge) (u : Vertex) → slice_get c.edges k ≡ Some e → slice_get c.vertices e.low ≡ Some u
-      → (o : Side) × (l : Label) × IsSide (map_of u.map) j o l × SeesNear (map_of u.map) o (dir_of (map_of u.map).svertices e.low_svertex) up
+      → (o : Side) × (l : Label) × IsSide (map_of u.map) j o l × BoundsSector (map_of u.map) e.low_svertex up o
       → IsSideAbove (complex_of c) (place.OnEdge k) (place.InVolume e.low j)
   above-edge k j e u q r (o, l, i, near) =
       let b = image-read edge_of c.edges k e q in

@@ -1,4 +1,4 @@
--- The numbers of the sides that see the upward direction, or what is close to a svertex toward it.
+-- The numbers of the sides that see the upward direction, or bound the sector of a svertex in which it lies.
 use Rattle.std.proofs.Common.{◌≡◌, ℕ, zero, suc, ◌<◌, ℤ, pos, negsuc, ◌<ℤ◌, arith, refl, ap, sym, ◌∙◌, length, Bool, true, false, Some, slice_get, subst}
 use Rattle.std.proofs.lemmas.Int.{ints}
 use Rattle.std.proofs.lemmas.List.{length-map}
@@ -12,6 +12,7 @@ use Rattle.nef_space.specs.declared.label.Label.{Label}
 use Rattle.law_near.proofs.FlatDecided.{cross-turned}
 use Rattle.law_forms.proofs.Directions.{dot-comm}
 use Rattle.law_sphere.specs.Maps.{At, MapVertex, Arc, Map, Item, arc_item, items, OnItem, IsFree, item_pos, item_neg, Side, around_svertex, pos_item, neg_item, HasSide, dir_of}
+use Rattle.law_sphere.specs.Sectors.{BoundsSector}
 use Rattle.law_sphere.proofs.Arcs.{at-arc}
 use Rattle.law_sphere.proofs.Forms.{on-level}
 use Rattle.law_sphere.proofs.Lists.{at-one}
@@ -26,10 +27,9 @@ use Rattle.nef_smap.proofs.Lists.{at-within}
 use Rattle.nef_smap.proofs.SideLists.{at-some}
 use Rattle.nef_smap.proofs.SideNumbers.{side-number}
 use Rattle.nef_smap.proofs.Upward.{map-ahead, map-across}
-use Rattle.law_complex.specs.Rays.{SeesNear}
 use Rattle.nef_locate.specs.Ends.{IsLastArc, IsNoArc}
 use Rattle.nef_locate.proofs.Marks.{image-read}
-use Rattle.nef_locate.proofs.NearSides.{begin-sees, end-sees, lone-sees, no-arc}
+use Rattle.nef_locate.proofs.NearSides.{begin-bounds, end-bounds, lone-bounds, no-arc}
 
 -- ---- the upward direction lies in a face
 module _ (m : SphereMap) (S : IsSphereMap m) where
@@ -63,10 +63,7 @@ module _ (m : SphereMap) (S : IsSphereMap m) (k : ℕ) (v : MapVertex) (a : At (
   all j b l = let e = length-map m.arcs arc_of in let h = at-within (map_of m).arcs j b l in omega (arith, e)
 
   abbrev pub IsNearSide : ℕ → Type 0
-  IsNearSide r = (o : Side) × (l : Label) × IsSide (map_of m) r o l × SeesNear (map_of m) o (dir_of (map_of m).svertices k) up
-
-  here : (o : Side) → SeesNear (map_of m) o v.dir up → SeesNear (map_of m) o (dir_of (map_of m).svertices k) up
-  here o = subst (λ (d : Vector). SeesNear (map_of m) o d up) (sym (dir-at (map_of m).svertices k v a))
+  IsNearSide r = (o : Side) × (l : Label) × IsSide (map_of m) r o l × BoundsSector (map_of m) k up o
 
   there : (b : Bool) (i : ℕ) → IsLastArc (map_of m) (dir_of (map_of m).svertices k) k b (length m.arcs) i → IsLastArc (map_of m) v.dir k b (length m.arcs) i
   there b i = subst (λ (d : Vector). IsLastArc (map_of m) d k b (length m.arcs) i) (dir-at (map_of m).svertices k v a)
@@ -79,7 +76,7 @@ module _ (m : SphereMap) (S : IsSphereMap m) (k : ℕ) (v : MapVertex) (a : At (
       let x = arc_item L.arc in
       let h = at-arc (map_of m).arcs (map_of m).sloop i L.arc L.listed in
       let V = S.valid in
-      (pos_item i, item_pos x, numbered (pos_item i) (item_pos x) (x, h, refl) r e, here (pos_item i) (begin-sees (map_of m) V.shaped k v a up off ahead (length m.arcs) all i (there true i L)))
+      (pos_item i, item_pos x, numbered (pos_item i) (item_pos x) (x, h, refl) r e, begin-bounds (map_of m) V.shaped k v a up off ahead (length m.arcs) all i (there true i L))
 
   pub near-end : (i : ℕ) → IsNoArc (map_of m) k true (length m.arcs) → IsLastArc (map_of m) (dir_of (map_of m).svertices k) k false (length m.arcs) i
       → (r : ℕ) → r ≡ number_of (map_of m) (neg_item i) → IsNearSide r
@@ -87,14 +84,14 @@ module _ (m : SphereMap) (S : IsSphereMap m) (k : ℕ) (v : MapVertex) (a : At (
       let x = arc_item L.arc in
       let h = at-arc (map_of m).arcs (map_of m).sloop i L.arc L.listed in
       let V = S.valid in
-      (neg_item i, item_neg x, numbered (neg_item i) (item_neg x) (x, h, refl) r e, here (neg_item i) (end-sees (map_of m) V.shaped k v a up off ahead (length m.arcs) all i N (there false i L)))
+      (neg_item i, item_neg x, numbered (neg_item i) (item_neg x) (x, h, refl) r e, end-bounds (map_of m) V.shaped k v a up off ahead (length m.arcs) all i N (there false i L))
 
   pub near-alone : IsNoArc (map_of m) k true (length m.arcs) → IsNoArc (map_of m) k false (length m.arcs) → (r : ℕ) → r ≡ arounds_before (map_of m).svertices k → IsNearSide r
   near-alone N O r e =
       let V = S.valid in
       let none = no-arc (map_of m) V.shaped k v a up off ahead (length m.arcs) all N O in
       let l = V.shaped.around_lone k v a none in
-      (around_svertex k, l.0, numbered (around_svertex k) l.0 (v, a, l.1) r e, here (around_svertex k) (lone-sees (map_of m) V.shaped k v a up off none))
+      (around_svertex k, l.0, numbered (around_svertex k) l.0 (v, a, l.1) r e, lone-bounds (map_of m) V.shaped k v a up off ahead none)
 
 -- ---- the turn between two arcs at a svertex, as it is read
 module _ (m : SphereMap) where

@@ -17,6 +17,7 @@ use Rattle.law_sphere.specs.Maps.{At, item_normal, item_pos, item_mark, item_neg
 use Rattle.law_sphere.specs.Least.{by_side}
 use Rattle.law_sphere.proofs.Compare.{dir-self}
 use Rattle.law_sphere.proofs.Lists.{at-one}
+use Rattle.law_sphere.proofs.Sectors.{bounds-sees}
 use Rattle.nef_smap.proofs.Lists.{at-map}
 use Rattle.nef_smap.proofs.SideLists.{get-from_at}
 use Rattle.nef_smap.specs.Maps.{IsSmall}
@@ -51,11 +52,12 @@ module _ (s : Set) (c : Complex) (S : ShowsSet s c) where
         let h = subst (λ (w : PlainVertex). HasSide w.map o l) f has in
         spot-toward s (complex_of c) S.shows (facet-at s (complex_of c) S.shows) (facet-of s (complex_of c) S.shows) (at_vertex k) z on up l
         (u, b, seen (record { side = o; has = h; sees = sees }))
-    above z (on_edge k) on (g, u, d, b, e, (n, sees)) =
+    above z (on_edge k) on (g, u, d, b, e, bounds) =
         let f = at-one (complex_of c).vertices g.low v u (subst (λ (j : ℕ). At (complex_of c).vertices j v) e a) b in
         let h = subst (λ (w : PlainVertex). HasSide w.map o l) f has in
+        let near = bounds-sees u.map (S.shows.cones g.low u b).valid.shaped g.low_svertex up o bounds in
         spot-toward s (complex_of c) S.shows (facet-at s (complex_of c) S.shows) (facet-of s (complex_of c) S.shows) (on_edge k) z on up l
-        (g, u, d, b, (n, λ m q. seen (record { side = o; has = h; sees = sees m q })))
+        (g, u, d, b, (near.0, λ m q. seen (record { side = o; has = h; sees = near.1 m q })))
     above z (in_facet j) on (k, H, e, f) =
         let h = subst (λ (p : Side). HasSide v.map p l) f has in
         let b = subst (λ (q : ℕ). At (complex_of c).vertices q v) e a in

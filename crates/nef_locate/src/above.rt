@@ -5,9 +5,9 @@ ghost use Rattle.nef_space.specs.Sets.{Set};
 ghost use Rattle.nef_space.specs.Vectors.{up};
 ghost use Rattle.nef_space.specs.declared.label.Label.{Label};
 ghost use Rattle.law_sphere.specs.Maps.{Side, dir_of};
+ghost use Rattle.law_sphere.specs.Sectors.{BoundsSector};
 ghost use Rattle.nef_smap.specs.Maps.{map_of, arc_of, IsSphereMap};
 ghost use Rattle.nef_smap.specs.Sides.{IsSide};
-ghost use Rattle.law_complex.specs.Rays.{SeesNear};
 ghost use Rattle.nef_complex.specs.Complexes.{complex_of, ShowsSet};
 ghost use Rattle.nef_locate.specs.Places.{IsPlaceIn};
 ghost use Rattle.nef_locate.specs.Ends.{end_of, IsLast};
@@ -72,12 +72,13 @@ fn last_arc(map: &SphereMap, svertex: usize, begins: bool) -> Option<usize>
     last
 }
 
-// The number of the side that sees what is close to the svertex toward the upward direction: the side of the arc at the
-// svertex that comes last before it, or the side round a svertex without arcs.
+// The number of the side that bounds the sector of the svertex in which the upward direction lies: the side of the arc at
+// the svertex that comes last before it, or the side round a svertex without arcs. Arcs that begin here lie less than half
+// a turn before it, and those that end here less than half a turn past it, so the latter count only where none begins.
 fn side_near(map: &SphereMap, svertex: usize) -> usize
     requires map { IsSphereMap map.now }
     requires within { svertex < length map.now.svertices }
-    ensures side { (o : Side) × (l : Label) × IsSide (map_of map.now) result o l × SeesNear (map_of map.now) o (dir_of (map_of map.now).svertices svertex) up }
+    ensures side { (o : Side) × (l : Label) × IsSide (map_of map.now) result o l × BoundsSector (map_of map.now) svertex up o }
 {
     if let Some(arc) = last_arc(map, svertex, true) {
         return map.item_side(arc, true);

@@ -11,14 +11,16 @@ use Rattle.law_cones.proofs.Smooth.{parallel-by}
 use Rattle.law_build.proofs.SideLabels.{normals-same_way}
 use Rattle.law_forms.proofs.Between.{between-same}
 use Rattle.law_sphere.specs.Maps.{At, item_normal, pos_item, Side, dir_of, HasSide, Sees, InOneSface, here, link}
+use Rattle.law_sphere.specs.Sectors.{BoundsSector}
 use Rattle.law_sphere.proofs.Compare.{SameDirection-turned, SameDirection-trans}
 use Rattle.law_sphere.proofs.Forms.{on-level}
 use Rattle.law_sphere.proofs.Vectors.{normal-is}
 use Rattle.law_sphere.proofs.Lists.{at-one}
+use Rattle.law_sphere.proofs.Sectors.{bounds-sees}
 use Rattle.law_complex.specs.Complexes.{Vertex, Edge, Complex, Corner}
 use Rattle.law_complex.specs.Shows.{Shows}
 use Rattle.law_complex.specs.Skeleton.{item_plane, IsVertexPoint, IsEdgePoint, Spot, at_vertex, on_edge, in_facet, IsSpot, HasCorner}
-use Rattle.law_complex.specs.Rays.{VertexSide, HasSideLabel, SeesNear, IsAbove, RayDown}
+use Rattle.law_complex.specs.Rays.{VertexSide, HasSideLabel, IsAbove, RayDown}
 use Rattle.law_complex.proofs.Ways.{same-itself, opposite-same, same-place_trans}
 use Rattle.law_complex.proofs.FacetPoints.{facet-point}
 use Rattle.law_complex.proofs.FacetAngles.{through-at}
@@ -61,13 +63,15 @@ module _ (s : Set) (C : Complex) (S : Shows s C) where
         one_sface = subst (λ (o : Side). InOneSface v.map x.side o) f (here x.side);
       }
 
-  linked-near : (e : Edge) (x y : VertexSide) (v w : Vertex) (l m : Label) → At C.vertices e.low v → At C.vertices e.low w → x.vertex ≡ e.low → y.vertex ≡ e.low → HasSideLabel C x l → HasSideLabel C y m
-      → SeesNear v.map x.side (dir_of v.map.svertices e.low_svertex) up → SeesNear w.map y.side (dir_of w.map.svertices e.low_svertex) up → LinkInSface C x y
-  linked-near e x y v w l m a b f g h i (n, o) (k, p) =
+  linked-sector : (e : Edge) (x y : VertexSide) (v w : Vertex) (l m : Label) → At C.vertices e.low v → At C.vertices e.low w → x.vertex ≡ e.low → y.vertex ≡ e.low → HasSideLabel C x l → HasSideLabel C y m
+      → BoundsSector v.map e.low_svertex up x.side → BoundsSector w.map e.low_svertex up y.side → LinkInSface C x y
+  linked-sector e x y v w l m a b f g h i o p =
       let one = at-one C.vertices e.low w v b a in
-      let d = blend (n + k) (dir_of v.map.svertices e.low_svertex) 1 up in
-      linked x y v l m (subst (λ (r : ℕ). At C.vertices r v) (sym f) a) (g ∙ sym f) h i d (o (n + k) (omega arith))
-      (subst (λ (r : Vertex). Sees r.map y.side (blend (n + k) (dir_of r.map.svertices e.low_svertex) 1 up)) one (p (n + k) (omega arith)))
+      let V = (S.cones e.low v a).valid.shaped in
+      let s = bounds-sees v.map V e.low_svertex up x.side o in
+      let t = bounds-sees v.map V e.low_svertex up y.side (subst (λ (r : Vertex). BoundsSector r.map e.low_svertex up y.side) one p) in
+      let d = blend (s.0 + t.0) (dir_of v.map.svertices e.low_svertex) 1 up in
+      linked x y v l m (subst (λ (r : ℕ). At C.vertices r v) (sym f) a) (g ∙ sym f) h i d (s.1 (s.0 + t.0) (omega arith)) (t.1 (s.0 + t.0) (omega arith))
 
   -- ---- where two rays end
   one-end : (p : Place) (x y : VertexSide) (R : RayDown C p x) (Q : RayDown C p y) → SamePlace Q.place R.place
@@ -168,8 +172,8 @@ module _ (s : Set) (C : Complex) (S : Shows s C) where
     same-above q z o (on_edge k) (at_vertex j) p r a b = absurd (no-vertex_on_edge j k z q (same-place_sym q z o) r p)
     same-above q z o (on_edge k) (on_edge j) p r (e, v, a, b, f, sx) (g, w, c, d, h, sy) =
         let i = edges-one k j q z e g o p r a c in
-        linked-near e x y v w l m b (subst (λ (n : Edge). At C.vertices n.low w) (sym i) d) f (h ∙ ap (λ (n : Edge). n.low) (sym i)) has has_other sx
-        (subst (λ (n : Edge). SeesNear w.map y.side (dir_of w.map.svertices n.low_svertex) up) (sym i) sy)
+        linked-sector e x y v w l m b (subst (λ (n : Edge). At C.vertices n.low w) (sym i) d) f (h ∙ ap (λ (n : Edge). n.low) (sym i)) has has_other sx
+        (subst (λ (n : Edge). BoundsSector w.map n.low_svertex up y.side) (sym i) sy)
     same-above q z o (on_edge k) (in_facet j) p r a (c, H, e, f) = absurd (off z c H k (inr (edge-like q z k o p)))
     same-above q z o (in_facet k) (at_vertex j) p r (c, H, e, f) b = absurd (off q c H j (inl (vertex-like z q j (same-place_sym q z o) r)))
     same-above q z o (in_facet k) (on_edge j) p r (c, H, e, f) b = absurd (off q c H j (inr (edge-like z q j (same-place_sym q z o) r)))
