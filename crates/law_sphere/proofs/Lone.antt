@@ -3,7 +3,7 @@ use Rattle.std.proofs.Common.{◌≡◌, ℕ, ◌≤◌, arith, sym, ◌∙◌, 
 use Rattle.nef_space.specs.Vectors.{Vector, IsDirection, cross, dot, SameDirection, blend}
 use Rattle.nef_space.specs.declared.label.Label.{Label}
 use Rattle.law_sphere.specs.Maps.{At, MapVertex, Map, IsFree, around_svertex, IsClear, Sees, directly, seen, NearLabel, HasArc, Shaped, Valid}
-use Rattle.law_sphere.specs.Forms.{SameSigns, Keeps, forms}
+use Rattle.law_sphere.specs.Forms.{SameSigns, forms}
 use Rattle.law_forms.proofs.Far.{nought-or, same-nought, same-off}
 use Rattle.law_sphere.proofs.Generic.{amount, far-keeps, far-level}
 use Rattle.law_sphere.proofs.Direct.{cross-between}
@@ -26,13 +26,10 @@ near-same_way M V d c e w m a =
 
 -- ---- a svertex without arcs
 module _ (M : Map) (V : Shaped M) (k : ℕ) (v : MapVertex) (a : At M.svertices k v) (lone : HasArc M k → ⊥) where
-  lone-clear : (w : Vector) → Keeps (forms M) v.dir w → IsDirection (cross v.dir w) → IsClear M w v.dir
-  lone-clear w kept off = near-clear M V k v a w kept off (λ r. absurd (lone (r.number, r.arc, r.listed, r.end)))
-
   -- all that is close to it but not along it is free, and seen by the side round it
   module _ (e : Vector) (n : ℕ) (large : amount (forms M) e ≤ n) (off : IsDirection (cross v.dir e)) where
     home : IsClear M (blend n v.dir 1 e) v.dir
-    home = lone-clear (blend n v.dir 1 e) (far-keeps (forms M) v.dir e n large) (cross-between v.dir e n 1 (omega arith) off)
+    home = near-clear M V k v a (blend n v.dir 1 e) (far-keeps (forms M) v.dir e n large) (cross-between v.dir e n 1 (omega arith) off) (λ r. absurd (lone (r.number, r.arc, r.listed, r.end)))
 
     pub free-close : IsFree M (blend n v.dir 1 e)
     free-close = home.start

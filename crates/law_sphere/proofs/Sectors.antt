@@ -9,7 +9,7 @@ use Rattle.law_cyclic.proofs.Directions.{dot-opposite, level-same, level_cross_f
 use Rattle.law_near.proofs.Decided.{Decided}
 use Rattle.law_forms.proofs.Directions.{dot-comm}
 use Rattle.law_sphere.specs.Maps.{At, MapVertex, Arc, Map, arc_item, IsClear, Side, around_svertex, HasSide, dir_of, Sees, HasArc, Shaped}
-use Rattle.law_sphere.specs.Sectors.{ArcRay, end_left, end_side, ray_left, ray_side, Unrayed, IsLastRay, BoundsSector}
+use Rattle.law_sphere.specs.Sectors.{ArcRay, end_left, end_side, ray_left, ray_side, Unrayed, IsLastRay, IsLastSide, BoundsSector}
 use Rattle.law_sphere.specs.Forms.{forms}
 use Rattle.law_sphere.proofs.Generic.{amount, far-keeps}
 use Rattle.law_sphere.proofs.Places.{IsStrictlyOn-decided}
@@ -80,6 +80,9 @@ module _ (M : Map) (V : Shaped M) (k : ℕ) (v : MapVertex) (a : At M.svertices 
       (s.0, s.1, λ y o. s.2 (subst (λ (x : Vector). Passes p (ray_left s.0) x (cross p e)) (sym r.1) o))
   later-end q E left ray (inr n) = (q, (λ x m. m), (λ z. absurd (n z)))
 
+  abbrev ray : (j : ℕ) (b : Arc) → At M.arcs j b → (b.source ≡ k) ⊎ (b.target ≡ k) → ArcRay M k
+  ray j b l t = record { number = j; arc = b; listed = l; end = t }
+
   -- from the ray to the direction no ray of an arc of the list is passed
   abbrev LastAmong : List Arc → ArcRay M k → Type 0
   LastAmong xs q = (i : ℕ) (b : Arc) → At xs i b → (t : (b.source ≡ k) ⊎ (b.target ≡ k)) → Passes p (ray_left q) (end_left b t) (cross p e) → ⊥
@@ -89,28 +92,24 @@ module _ (M : Map) (V : Shaped M) (k : ℕ) (v : MapVertex) (a : At M.svertices 
   last-among (c ∷ cs) listed q =
       let l = listed zero c refl in
       let rest = last-among cs (λ i b h. listed (suc i) b h) q in
-      let one = later-end rest.0 (c.source ≡ k) c.normal (λ z. (record { number = l.0; arc = c; listed = l.1; end = inl z }, refl)) (eq-decided c.source k) in
-      let two = later-end one.0 (c.target ≡ k) (opposite c.normal) (λ z. (record { number = l.0; arc = c; listed = l.1; end = inr z }, refl)) (eq-decided c.target k) in
+      let one = later-end rest.0 (c.source ≡ k) c.normal (λ z. (ray l.0 c l.1 (inl z), refl)) (eq-decided c.source k) in
+      let two = later-end one.0 (c.target ≡ k) (opposite c.normal) (λ z. (ray l.0 c l.1 (inr z), refl)) (eq-decided c.target k) in
       (two.0, among rest.0 rest.1 one.0 one.1 one.2 two.0 two.1 two.2)
     where
       among : (q : ArcRay M k) → LastAmong cs q → (r : ArcRay M k) → KeepsPassed q r → (c.source ≡ k → Passes p (ray_left r) c.normal (cross p e) → ⊥)
           → (s : ArcRay M k) → KeepsPassed r s → (c.target ≡ k → Passes p (ray_left s) (opposite c.normal) (cross p e) → ⊥) → LastAmong (c ∷ cs) s
       among q L r f n s g m zero b h (inl z) =
           let l = listed zero b h in
-          let y = sym h in
-          g (record { number = l.0; arc = b; listed = l.1; end = inl z }) (subst (λ (x : Arc). Passes p (ray_left r) x.normal (cross p e) → ⊥) h (n (subst (λ (x : Arc). x.source ≡ k) y z)))
+          g (ray l.0 b l.1 (inl z)) (subst (λ (x : Arc). Passes p (ray_left r) x.normal (cross p e) → ⊥) h (n (subst (λ (x : Arc). x.source ≡ k) (sym h) z)))
       among q L r f n s g m zero b h (inr z) = subst (λ (x : Arc). Passes p (ray_left s) (opposite x.normal) (cross p e) → ⊥) h (m (subst (λ (x : Arc). x.target ≡ k) (sym h) z))
       among q L r f n s g m (suc i) b h t =
           let l = listed (suc i) b h in
           let x = ray l.0 b l.1 t in
           g x (f x (L i b h t))
-        where
-          ray : (j : ℕ) (b : Arc) → At M.arcs j b → (b.source ≡ k) ⊎ (b.target ≡ k) → ArcRay M k
-          ray j b l t = record { number = j; arc = b; listed = l; end = t }
 
   last-ray : HasArc M k → (q : ArcRay M k) × IsLastRay M k p e q
   last-ray (j, b, l, t) =
-      let r = last-among M.arcs (λ i c h. (i, h)) (record { number = j; arc = b; listed = l; end = t }) in
+      let r = last-among M.arcs (λ i c h. (i, h)) (ray j b l t) in
       (r.0, λ x. r.1 x.number x.arc x.listed x.end)
 
   ray-has : (j : ℕ) (b : Arc) → At M.arcs j b → (t : (b.source ≡ k) ⊎ (b.target ≡ k)) → (l : Label) × HasSide M (end_side j t) l
@@ -120,14 +119,12 @@ module _ (M : Map) (V : Shaped M) (k : ℕ) (v : MapVertex) (a : At M.svertices 
   -- some side of the map bounds the sector
   pub bounded : Unrayed M k p e → (o : Side) × (l : Label) × HasSide M o l × BoundsSector M k e o
   bounded free = ⊎_elim
-      (λ h.
-      let q = last-ray h in
-      let s = ray-has q.0.number q.0.arc q.0.listed q.0.end in
-      (ray_side q.0, s.0, s.1, record { svertex = v; listed = a; aside = off; unrayed = free; bounds = inr (q.0, q.1, refl) }))
-      (λ n.
-      let r = V.around_lone k v a n in
-      (around_svertex k, r.0, (v, a, r.1), record { svertex = v; listed = a; aside = off; unrayed = free; bounds = inl (n, refl) }))
+      (λ h. let q = last-ray h in let s = ray-has q.0.number q.0.arc q.0.listed q.0.end in (ray_side q.0, s.0, s.1, by (ray_side q.0) (inr (q.0, q.1, refl))))
+      (λ n. let r = V.around_lone k v a n in (around_svertex k, r.0, (v, a, r.1), by (around_svertex k) (inl (n, refl))))
       (HasArc-decided M k)
+    where
+      by : (o : Side) → IsLastSide M k p e o → BoundsSector M k e o
+      by o b = record { svertex = v; listed = a; aside = off; unrayed = free; bounds = b }
 
   -- ---- where the direction lies ahead of each arc no ray runs along it
   module _ (ahead : (j : ℕ) (b : Arc) → At M.arcs j b → pos 0 <ℤ dot b.normal e) where
@@ -145,6 +142,6 @@ module _ (M : Map) (V : Shaped M) (k : ℕ) (v : MapVertex) (a : At M.svertices 
 pub bounds-sees : (M : Map) → Shaped M → (k : ℕ) (e : Vector) (o : Side) → BoundsSector M k e o → SeesNear M o (dir_of M.svertices k) e
 bounds-sees M V k e o B = subst (λ (x : Vector). SeesNear M o x e) (sym (dir-at M.svertices k B.svertex B.listed)) (by B.bounds)
   where
-    by : ((HasArc M k → ⊥) × (o ≡ around_svertex k)) ⊎ (q : ArcRay M k) × IsLastRay M k B.svertex.dir e q × (o ≡ ray_side q) → SeesNear M o B.svertex.dir e
+    by : IsLastSide M k B.svertex.dir e o → SeesNear M o B.svertex.dir e
     by (inl (none, f)) = subst (λ (x : Side). SeesNear M x B.svertex.dir e) (sym f) (amount (forms M) e, λ n large. sees-around M V k B.svertex B.listed none e n large B.aside)
     by (inr (q, last, f)) = subst (λ (x : Side). SeesNear M x B.svertex.dir e) (sym f) (ray-sees M V k B.svertex B.listed e B.aside q B.unrayed last)

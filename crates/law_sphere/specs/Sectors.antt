@@ -36,10 +36,14 @@ Unrayed M k v w = (r : ArcRay M k) → SameDirection (ray_left r) (cross v w) �
 abbrev pub IsLastRay : (M : Map) (k : ℕ) → Vector → Vector → ArcRay M k → Type 0
 IsLastRay M k v w q = (r : ArcRay M k) → Passes v (ray_left q) (ray_left r) (cross v w) → ⊥
 
--- the direction w lies in a sector of svertex k, which the side bounds: the side round the svertex where no arc begins or ends there, else that of the last ray before w counterclockwise
+-- counterclockwise round svertex k, in the direction v, the side is that of the last ray before w, or the one round the svertex where no arc begins or ends there
+abbrev pub IsLastSide : Map → ℕ → Vector → Vector → Side → Type 0
+IsLastSide M k v w o = ((HasArc M k → ⊥) × (o ≡ around_svertex k)) ⊎ (q : ArcRay M k) × IsLastRay M k v w q × (o ≡ ray_side q)
+
+-- the direction w lies in a sector of svertex k, and the side bounds that
 pub record BoundsSector (M : Map) (k : ℕ) (w : Vector) (o : Side) : Type 0 where
   pub svertex : MapVertex
   pub listed : At M.svertices k svertex
   pub aside : IsDirection (cross svertex.dir w)
   pub unrayed : Unrayed M k svertex.dir w
-  pub bounds : ((HasArc M k → ⊥) × (o ≡ around_svertex k)) ⊎ (q : ArcRay M k) × IsLastRay M k svertex.dir w q × (o ≡ ray_side q)
+  pub bounds : IsLastSide M k svertex.dir w o

@@ -8,7 +8,7 @@ use Rattle.law_cyclic.specs.Arcs.{IsStrictlyOn}
 use Rattle.law_cyclic.proofs.Directions.{dot-opposite}
 use Rattle.law_forms.proofs.Directions.{dot-comm, self-pos}
 use Rattle.law_sphere.specs.Maps.{At, MapVertex, Arc, Map, Side, around_svertex, pos_item, neg_item, HasArc, Shaped}
-use Rattle.law_sphere.specs.Sectors.{ArcRay, end_left, ray_side, IsLastRay, BoundsSector}
+use Rattle.law_sphere.specs.Sectors.{end_left, IsLastSide, BoundsSector}
 use Rattle.law_sphere.proofs.SectorSees.{left-on, turn-from_left}
 use Rattle.law_sphere.proofs.Sectors.{unrayed-ahead}
 use Rattle.nef_locate.specs.Ends.{IsLastArc, IsNoArc}
@@ -38,7 +38,7 @@ module _ (M : Map) (V : Shaped M) (k : ℕ) (v : MapVertex) (a : At M.svertices 
         let m = mul_neg (dot p p) (dot (opposite b.normal) e) square (omega (arith, ints)) in
         omega (arith, ints)
 
-    bounds-by : (o : Side) → ((HasArc M k → ⊥) × (o ≡ around_svertex k)) ⊎ (q : ArcRay M k) × IsLastRay M k p e q × (o ≡ ray_side q) → BoundsSector M k e o
+    bounds-by : (o : Side) → IsLastSide M k p e o → BoundsSector M k e o
     bounds-by o b = record { svertex = v; listed = a; aside = off; unrayed = unrayed-ahead M V k v a e off ahead; bounds = b }
 
     module _ (n : ℕ) (all : (j : ℕ) (b : Arc) → At M.arcs j b → j < n) where

@@ -89,7 +89,9 @@ fn side_near(map: &SphereMap, svertex: usize) -> usize
     }
 }
 
-/// The side of a vertex above the points of the skeleton that lie at this place: a vertex, an edge or a facet.
+/// The side of a vertex above the points of the skeleton that lie at this place: at a vertex one that sees the upward
+/// direction, on an edge that of the lower end which bounds the sector in which this direction lies, and in a facet the
+/// upper one of its corner's item.
 pub fn side_above(c: &Complex, floor: &Place) -> Place
     requires shows { (s : Set) × ShowsSet s c.now }
     requires place { IsPlaceIn (complex_of c.now) floor.now }
