@@ -1,8 +1,8 @@
 -- What a ray meets of the skeleton, carrier by carrier.
-use Rattle.std.specs.Prelude.{◌≡◌, ℕ, pos, ◌⊎◌, Option, Some, None}
-use Rattle.nef_space.specs.Place.{Place as PlainPlace, Form, plane_through, SamePlace, IsAhead, IsBetween}
+use Rattle.std.specs.Prelude.{◌≡◌, ℕ, ◌⊎◌, Option, Some, None}
+use Rattle.nef_space.specs.Place.{Place as PlainPlace, Form, SamePlace, IsAhead, IsBetween}
 use Rattle.nef_space.specs.Sets.{Set}
-use Rattle.nef_space.specs.Vectors.{Vector, vector}
+use Rattle.nef_space.specs.Vectors.{Vector}
 use Rattle.nef_space.specs.declared.label.Label.{Label}
 use Rattle.nef_geo.specs.Hits.{IsReached}
 use Rattle.nef_geo.specs.Shapes.{hit_place, place_of}
@@ -74,7 +74,3 @@ IsSideAbove C floor a = (i : ℕ) × (j : ℕ) × (o : Side) × (l : Label) × (
 -- the hit is a point before which the first n vertices come, and after which the others do
 abbrev pub PartsVertices : ProgramComplex → Hit → ℕ → Type 0
 PartsVertices c q n = (p : Point) × SamePlace (hit_place q) (place_of p) × AreBelow c.vertices n p × AreAbove c.vertices n p
-
--- the plane through y on which x stays the same
-abbrev pub x_form : PlainPlace → Form
-x_form y = plane_through (vector (pos 1) (pos 0) (pos 0)) y

@@ -2,6 +2,7 @@
 
 ghost use Rattle.std.specs.Prelude.{◌≡◌, ℕ, ◌<◌, ◌≤◌, length, pos, ◌↔◌, IsTrue, IsNone, IfSome};
 ghost use Rattle.std.specs.Option.{MatchOption};
+ghost use Rattle.nef_space.specs.Lists.{IsAt};
 ghost use Rattle.nef_space.specs.Local.{FlatDim};
 ghost use Rattle.nef_space.specs.Place.{InClosedFrame, form_at};
 ghost use Rattle.nef_space.specs.Sets.{Set};
@@ -15,24 +16,31 @@ ghost use Rattle.law_complex.specs.Skeleton.{IsEdgePoint, IsOnEdges, IsSkeletonP
 ghost use Rattle.nef_complex.specs.Complexes.{complex_of, corner_of, ShowsSet, AreBelow, AreAbove};
 ghost use Rattle.nef_locate.specs.Places.{IsPlaceIn, IsPlaceAt, place_dimension};
 ghost use Rattle.nef_locate.specs.Rays.{IsSkeletonAt, PartsVertices};
+ghost use Rattle.nef_locate.specs.Windows.{IsInWindow};
 
 use crate::above::side_above;
 use crate::facet::in_facet;
 use crate::place::Place;
 use crate::ray::first_hit;
-use nef_complex::{Complex, Corner, Edge, find_vertex};
+use crate::window::{Window, may_hold, point_window};
+use nef_complex::{Complex, Corner, Edge, carrier_span, find_vertex};
 use nef_geo::{Hit, Plane, Point, Sign, hit_at, hit_side, up};
 use nef_plane::is_on_edge;
 
-// The corner of a point in a facet of the plane.
-fn corner_in(c: &Complex, h: &Plane, q: &Hit) -> Option<Corner>
+// The corner of a point in a facet of the carrier with this number. The point lies within the window.
+fn corner_in(c: &Complex, number: usize, h: &Plane, q: &Hit, window: &Window) -> Option<Corner>
     requires shows { (s : Set) × ShowsSet s c.now }
+    requires number { IsAt c.now.carriers number h.now }
+    requires window { IsInWindow window.now (hit_place q.now) }
     requires framed { InClosedFrame (hit_place q.now) }
     requires off { IsOnEdges (complex_of c.now) (hit_place q.now) → ⊥ }
     requires numbers { IsPlaceAtMost upright_limit upright_weight_limit (hit_place q.now) }
     ensures corner { IfSome result (λ k. HasCorner (complex_of c.now) (hit_place q.now) (corner_of k)) }
     ensures none { IsNone result → (s : Set) → ShowsSet s c.now → form_at (form_of h.now) (hit_place q.now) ≡ pos 0 → IsFlatIn s (form_of h.now) (hit_place q.now) → ⊥ }
 {
+    if !may_hold(carrier_span(c, number), window) {
+        return None;
+    }
     if hit_side(h, q) == Sign::Zero {
         in_facet(c, h, q)
     } else {
@@ -40,17 +48,18 @@ fn corner_in(c: &Complex, h: &Plane, q: &Hit) -> Option<Corner>
     }
 }
 
-// The corner of a point in a facet.
-fn corner_at(c: &Complex, q: &Hit) -> Option<Corner>
+// The corner of a point in a facet. The point lies within the window.
+fn corner_at(c: &Complex, q: &Hit, window: &Window) -> Option<Corner>
     requires shows { (s : Set) × ShowsSet s c.now }
+    requires window { IsInWindow window.now (hit_place q.now) }
     requires framed { InClosedFrame (hit_place q.now) }
     requires off { IsOnEdges (complex_of c.now) (hit_place q.now) → ⊥ }
     requires numbers { IsPlaceAtMost upright_limit upright_weight_limit (hit_place q.now) }
     ensures corner { IfSome result (λ k. HasCorner (complex_of c.now) (hit_place q.now) (corner_of k)) }
     ensures none { IsNone result → IsSkeletonPoint (complex_of c.now) (hit_place q.now) → ⊥ }
 {
-    for number in 0..c.index.planes.len() {
-        if let Some(corner) = corner_in(c, c.index.planes.at(number), q) {
+    for number in 0..c.carriers.len() {
+        if let Some(corner) = corner_in(c, number, c.carriers.at(number), q, window) {
             return Some(corner);
         }
     }
@@ -102,7 +111,7 @@ fn off_vertices(c: &Complex, p: &Point, before: usize) -> Option<Place>
     if let Some(number) = edge_at(c, before, &hit) {
         return Some(Place::OnEdge(number));
     }
-    match corner_at(c, &hit) {
+    match corner_at(c, &hit, &point_window(p)) {
         Some(corner) => Some(Place::InFacet(corner)),
         None => None,
     }

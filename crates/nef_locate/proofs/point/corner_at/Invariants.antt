@@ -9,4 +9,4 @@ use Rattle.nef_complex.specs.Complexes.{ShowsSet}
 use Rattle.nef_locate.proofs.point.corner_at.Given as goal
 
 abbrev pub invariant-loop-number : goal.invariant-loop-number
-invariant-loop-number l = (k : ℕ) (h : Plane) → k < l.number → At l.c.index.planes k h → (s : Set) → ShowsSet s l.c → form_at (form_of h) (hit_place l.q) ≡ pos 0 → IsFlatIn s (form_of h) (hit_place l.q) → ⊥
+invariant-loop-number l = (k : ℕ) (h : Plane) → k < l.number → At l.c.carriers k h → (s : Set) → ShowsSet s l.c → form_at (form_of h) (hit_place l.q) ≡ pos 0 → IsFlatIn s (form_of h) (hit_place l.q) → ⊥

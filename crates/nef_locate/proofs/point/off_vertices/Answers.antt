@@ -15,6 +15,9 @@ returns-in-Some-clause-at c =
     let C = complex_of c.args.c.now in let p = place_of c.args.p.now in
     edge-at C p c.in-Some.number (edge-same (hit_place c.hit_at-hit.result) p c.hit_at-hit.ensures.same C c.in-Some.number c.in-Some.ensures.edge)
 
+pub corner_at-requires-clause-window : goal.corner_at-requires-clause-window
+corner_at-requires-clause-window c = c.point_window.ensures.point (hit_place c.hit_at-hit.result) c.hit_at-hit.ensures.same
+
 pub corner_at-requires-clause-framed : goal.corner_at-requires-clause-framed
 corner_at-requires-clause-framed c =
     let p = place_of c.args.p.now in let q = hit_place c.hit_at-hit.result in
