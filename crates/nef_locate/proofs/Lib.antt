@@ -19,4 +19,4 @@ pub mod ItemsFound
 pub mod FacetFound
 pub mod EdgeOrder
 pub mod Listed
-pub mod XSpans
+pub mod Windows

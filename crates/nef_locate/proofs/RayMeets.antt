@@ -1,6 +1,8 @@
 -- What a ray along an upright direction meets in one plane, and what it meets first.
-use Rattle.std.proofs.Common.{◌≡◌, ℕ, neg_ℤ, arith, ⊎_elim, Option, Some, None, IfSome, [], ◌∷◌}
+use Rattle.std.proofs.Common.{◌≡◌, ℕ, ◌*◌, ◌<◌, ◌≤◌, nat_abs, neg_ℤ, arith, ⊎_elim, Option, Some, None, IfSome, [], ◌∷◌}
+use Rattle.std.proofs.lemmas.Bool.{cases_lt}
 use Rattle.std.proofs.lemmas.Int.{ints}
+use Rattle.nef_space.specs.Limits.{half_side}
 use Rattle.law_arithmetic.proofs.Ring.{ring, at, neg, ◌⊕◌, ◌⊗◌}
 use Rattle.nef_space.specs.Place.{Place as PlainPlace, SamePlace, InClosedFrame, toward, IsAhead, IsBetween}
 use Rattle.nef_space.specs.Sets.{Set}
@@ -15,12 +17,12 @@ use Rattle.law_near.proofs.Alike.{FlatDim-one}
 use Rattle.law_near.proofs.Between.{between-inner}
 use Rattle.law_near.proofs.Frames.{flat_dim-outside}
 use Rattle.law_sphere.specs.Maps.{At}
-use Rattle.nef_smap.proofs.SideLists.{at-from_get}
 use Rattle.law_sphere.proofs.Compare.{SameDirection-turned, SameDirection-trans}
 use Rattle.law_complex.specs.Complexes.{Complex as PlainComplex}
 use Rattle.law_complex.specs.Laws.{IsFlatIn}
 use Rattle.law_complex.specs.Skeleton.{IsOnEdges, IsSkeletonPoint}
 use Rattle.law_complex.proofs.FacetEdges.{ahead-back}
+use Rattle.law_complex.proofs.FacetWays.{meets-on}
 use Rattle.nef_complex.proofs.Lines.{one-crossing}
 use Rattle.nef_plane.proofs.Found.{not-end}
 use Rattle.nef_plane.proofs.Nearest.{between-ahead}
@@ -31,7 +33,6 @@ use Rattle.nef_locate.specs.Places.{IsFirstHit}
 use Rattle.nef_locate.specs.Rays.{IsMet, IsReachedMet, IsSooner, IsNotBefore, HasNoneBefore}
 use Rattle.nef_locate.proofs.CarrierPoints.{skeleton-carrier, crossed}
 use Rattle.law_complex.proofs.EqualPoints.{ahead-from, flat-same}
-use Rattle.nef_locate.proofs.Listed.{flat-listed}
 
 -- ---- the order along a ray
 pub never-same : (y z : PlainPlace) (d : Vector) → IsAhead y d z → SamePlace y z → ⊥
@@ -53,6 +54,17 @@ reached-of D p d (Some m) M = M.reached
 -- ---- outside the closed frame there is no facet
 pub none-outside : (s : Set) (h : Plane) (y : PlainPlace) → (InClosedFrame y → ⊥) → IsFlatIn s (form_of h) y → ⊥
 none-outside s h y n f = let e = FlatDim-one s y 2 3 f.0 (flat_dim-outside s y n) in omega arith
+
+-- so a facet point lies in it
+pub flat-framed : (s : Set) (h : Plane) (y : PlainPlace) → IsFlatIn s (form_of h) y → InClosedFrame y
+flat-framed s h y f = record {
+  along_x = within (nat_abs y.x) (λ l. none-outside s h y (λ i. let k = i.along_x in omega arith) f);
+  along_y = within (nat_abs y.y) (λ l. none-outside s h y (λ i. let k = i.along_y in omega arith) f);
+  along_z = within (nat_abs y.z) (λ l. none-outside s h y (λ i. let k = i.along_z in omega arith) f);
+}
+  where
+    within : (n : ℕ) → (half_side * y.w < n → ⊥) → n ≤ half_side * y.w
+    within n never = ⊎_elim (λ l. absurd (never l)) (λ l. l) (cases_lt (half_side * y.w) n)
 
 -- ---- one plane
 module _ (p : PlainPlace) (d : Vector) (h : Plane) (hit : Hit) (X : IsCrossing p d (form_of h) (hit_place hit)) where
@@ -87,15 +99,15 @@ module _ (p : PlainPlace) (d : Vector) (h : Plane) (hit : Hit) (X : IsCrossing p
 
 -- ---- all planes
 module _ (s : Set) (c : Complex) (S : ShowsSet s c) (p : PlainPlace) (d : Vector) (u : IsUpright d) where
-  -- of the facets in all planes of the index nothing is met before
+  -- of the facets in all carriers nothing is met before
   abbrev pub AllMet : Option Met → Type 0
-  AllMet best = (k : ℕ) (h : Plane) → At c.index.planes k h → (y : PlainPlace) → IsCrossing p d (form_of h) y → IsFlatIn s (form_of h) y → IsNotBefore p y best
+  AllMet best = (k : ℕ) (h : Plane) → At c.carriers k h → (y : PlainPlace) → IsCrossing p d (form_of h) y → IsFlatIn s (form_of h) y → IsNotBefore p y best
 
   not-before : (best : Option Met) → HasNoneBefore (complex_of c) p d best → AllMet best → (y : PlainPlace) → IsAhead p d y → IsSkeletonPoint (complex_of c) y → IsNotBefore p y best
   not-before best E A y w o =
       let k = skeleton-carrier s c S y o in
-      ⊎_elim (E y w)
-      (λ f. let i = flat-listed s c S k.plane y k.on f in A i.0 k.plane (at-from_get c.index.planes i.0 k.plane i.1) y (crossed s c S p y d u w k) f) k.found
+      ⊎_elim (λ m. E y w (meets-on s (complex_of c) S.shows (form_of k.plane) m.0 y m.1))
+      (λ f. A k.number k.plane k.listed y (crossed s c S p y d u w k) f) k.found
 
   pub first-none : HasNoneBefore (complex_of c) p d None → AllMet None → (y : PlainPlace) → IsAhead p d y → IsSkeletonPoint (complex_of c) y → ⊥
   first-none E A = not-before None E A

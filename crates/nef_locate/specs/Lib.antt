@@ -2,3 +2,4 @@ pub mod Places
 pub mod Rays
 pub mod Ends
 pub mod Facets
+pub mod Windows

@@ -1,8 +1,8 @@
 -- What a ray meets of the skeleton, carrier by carrier.
-use Rattle.std.specs.Prelude.{◌≡◌, ℕ, pos, ◌⊎◌, Option, Some, None}
-use Rattle.nef_space.specs.Place.{Place as PlainPlace, Form, plane_through, SamePlace, IsAhead, IsBetween}
+use Rattle.std.specs.Prelude.{◌≡◌, ℕ, ◌⊎◌, Option, Some, None}
+use Rattle.nef_space.specs.Place.{Place as PlainPlace, Form, SamePlace, IsAhead, IsBetween}
 use Rattle.nef_space.specs.Sets.{Set}
-use Rattle.nef_space.specs.Vectors.{Vector, vector}
+use Rattle.nef_space.specs.Vectors.{Vector}
 use Rattle.nef_space.specs.declared.label.Label.{Label}
 use Rattle.nef_geo.specs.Hits.{IsReached}
 use Rattle.nef_geo.specs.Shapes.{hit_place, place_of}
@@ -12,7 +12,7 @@ use Rattle.law_sphere.specs.Maps.{Side}
 use Rattle.law_complex.specs.Complexes.{Complex}
 use Rattle.law_complex.specs.Laws.{IsFlatIn}
 use Rattle.law_complex.specs.Rays.{IsAbove}
-use Rattle.law_complex.specs.Skeleton.{Spot, IsSpot, IsOnEdges, IsSkeletonPoint}
+use Rattle.law_complex.specs.Skeleton.{Spot, IsSpot, IsOnEdges, IsSkeletonPoint, PlaneMeet as PlainMeet, Meets}
 use Rattle.nef_complex.specs.declared.complex.Complex.{Complex as ProgramComplex}
 use Rattle.nef_complex.specs.declared.complex.PlaneMeet.{PlaneMeet}
 use Rattle.nef_complex.specs.declared.complex.PlaneMeet.TheVariants.{AtVertex, AtEdge}
@@ -28,9 +28,9 @@ pub record IsSkeletonAt (C : Complex) (y : PlainPlace) (a : Place) : Type 0 wher
   pub at : IsPlaceAt C y a
   pub skeleton : IsSkeletonPoint C y
 
--- y is a vertex, lies on an edge, or in a facet of the plane
+-- y is a vertex, or lies on an edge in the plane, or in a facet of the plane
 abbrev pub IsSkeletonIn : Set → Complex → Form → PlainPlace → Type 0
-IsSkeletonIn s C h y = IsOnEdges C y ⊎ IsFlatIn s h y
+IsSkeletonIn s C h y = ((m : PlainMeet) × Meets C h m y) ⊎ IsFlatIn s h y
 
 -- the place at the vertex or on the edge
 abbrev pub place_of_meet : PlaneMeet → Place
@@ -74,7 +74,3 @@ IsSideAbove C floor a = (i : ℕ) × (j : ℕ) × (o : Side) × (l : Label) × (
 -- the hit is a point before which the first n vertices come, and after which the others do
 abbrev pub PartsVertices : ProgramComplex → Hit → ℕ → Type 0
 PartsVertices c q n = (p : Point) × SamePlace (hit_place q) (place_of p) × AreBelow c.vertices n p × AreAbove c.vertices n p
-
--- the plane through y on which x stays the same
-abbrev pub x_form : PlainPlace → Form
-x_form y = plane_through (vector (pos 1) (pos 0) (pos 0)) y

@@ -15,9 +15,9 @@ mod place;
 mod plane;
 mod point;
 mod ray;
-mod span;
 #[cfg(test)]
 mod tests;
+mod window;
 
 pub use above::side_above;
 pub use facet::{corner_toward, in_facet};

@@ -11,13 +11,14 @@ ghost use Rattle.law_complex.specs.Laws.{IsFlatIn};
 ghost use Rattle.law_complex.specs.Skeleton.{IsSkeletonPoint};
 ghost use Rattle.nef_complex.specs.Complexes.{complex_of, ShowsSet};
 ghost use Rattle.nef_locate.specs.Places.{IsPlaceIn, IsFirstHit};
+ghost use Rattle.nef_locate.specs.Windows.{IsInWindow};
 ghost use Rattle.nef_locate.specs.Rays.{IsMet, IsReachedMet, IsSooner, IsNotBefore, HasNoneBefore, place_of_meet};
 
 use crate::facet::in_facet;
 use crate::hit::is_framed;
 use crate::place::Place;
-use crate::span::is_spanned;
-use nef_complex::{Complex, PlaneMeet};
+use crate::window::{Window, may_hold, ray_window};
+use nef_complex::{Complex, PlaneMeet, carrier_span};
 use nef_geo::{Dir, Hit, Plane, Point, hit_order, ray_hit};
 use nef_plane::first_on_edges;
 use std::cmp::Ordering;
@@ -67,18 +68,20 @@ fn met_on_edges(c: &Complex, p: &Point, d: &Dir) -> Option<Met>
     })
 }
 
-// What the ray meets first of what it met before, which is `best`, and of the facets in the plane, which has this number in
-// the index. It meets no vertex and no edge before `best`.
+// What the ray meets first of what it met before, which is `best`, and of the facets in the carrier with this number. It
+// meets no vertex and no edge before `best`. All points of the frame ahead lie within the window.
 fn nearer(
     c: &Complex,
     number: usize,
     h: &Plane,
     p: &Point,
     d: &Dir,
+    window: &Window,
     best: Option<Met>,
 ) -> Option<Met>
     requires shows { (s : Set) × ShowsSet s c.now }
-    requires number { IsAt c.now.index.planes number h.now }
+    requires number { IsAt c.now.carriers number h.now }
+    requires window { (q : PlainPlace) → InClosedFrame q → IsAhead (place_of p.now) (vector_of d.now) q → IsInWindow window.now q }
     requires upright { IsUpright (vector_of d.now) }
     requires best { IfSome best (IsMet (complex_of c.now) (place_of p.now) (vector_of d.now)) }
     requires edges { HasNoneBefore (complex_of c.now) (place_of p.now) (vector_of d.now) best }
@@ -86,12 +89,12 @@ fn nearer(
     ensures kept { (y : PlainPlace) → IsNotBefore (place_of p.now) y best → IsNotBefore (place_of p.now) y result }
     ensures plane { (s : Set) (y : PlainPlace) → ShowsSet s c.now → IsCrossing (place_of p.now) (vector_of d.now) (form_of h.now) y → IsFlatIn s (form_of h.now) y → IsNotBefore (place_of p.now) y result }
 {
+    if !may_hold(carrier_span(c, number), window) {
+        return best;
+    }
     let Some(hit) = ray_hit(p, d, h) else {
         return best;
     };
-    if !is_spanned(c, number, &hit) {
-        return best;
-    }
     if !is_sooner(&hit, &best) {
         return best;
     }
@@ -108,8 +111,8 @@ fn nearer(
 }
 
 /// The first skeleton point that the ray from `p` meets strictly ahead, along the upward direction or the downward one.
-/// `None` comes exactly where the ray meets none. No plane is parallel to these directions, so the ray hits each plane of
-/// an item at one point at most; what it meets off the vertices and edges lies in a facet of such a plane.
+/// `None` comes exactly where the ray meets none. No plane is parallel to these directions, so the ray hits each carrier at
+/// one point at most; what it meets off the vertices and edges lies in a facet of a carrier.
 pub fn first_hit(c: &Complex, p: &Point, d: &Dir) -> Option<Place>
     requires shows { (s : Set) × ShowsSet s c.now }
     requires framed { InClosedFrame (place_of p.now) }
@@ -119,8 +122,9 @@ pub fn first_hit(c: &Complex, p: &Point, d: &Dir) -> Option<Place>
     ensures none { IsNone result → (q : PlainPlace) → IsAhead (place_of p.now) (vector_of d.now) q → IsSkeletonPoint (complex_of c.now) q → ⊥ }
 {
     let mut best = met_on_edges(c, p, d);
-    for number in 0..c.index.planes.len() {
-        best = nearer(c, number, c.index.planes.at(number), p, d, best);
+    let window = ray_window(p);
+    for number in 0..c.carriers.len() {
+        best = nearer(c, number, c.carriers.at(number), p, d, &window, best);
     }
     match best {
         Some(met) => Some(met.place),

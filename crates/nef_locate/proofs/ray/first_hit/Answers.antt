@@ -13,13 +13,16 @@ use Rattle.nef_locate.proofs.RayMeets.{first-some, first-none}
 use Rattle.nef_locate.proofs.Reading.{next-all}
 use Rattle.nef_locate.proofs.ray.first_hit.Goals as goal
 
+pub nearer-best-requires-clause-window : goal.nearer-best-requires-clause-window
+nearer-best-requires-clause-window c = λ q j a. c.ray_window-window.ensures.ahead (vector_of c.args.d.now) q c.requires.upright c.requires.framed j a
+
 pub loop-number-preserved : goal.loop-number-preserved
 loop-number-preserved c =
     let C = c.args.c.now in let p = place_of c.args.p.now in let d = vector_of c.args.d.now in (
       c.nearer-best.ensures.met,
       (λ y w e. c.nearer-best.ensures.kept y (c.loop-number.invariant.1 y w e)),
       next-all (λ (h : Plane). (s : Set) (y : PlainPlace) → ShowsSet s C → IsCrossing p d (form_of h) y → IsFlatIn s (form_of h) y → IsNotBefore p y c.nearer-best.result)
-          C.index.planes c.loop-number.number c.at.result.now c.at.ensures.element
+          C.carriers c.loop-number.number c.at.result.now c.at.ensures.element
           (λ k h l a s y S X I. c.nearer-best.ensures.kept y (c.loop-number.invariant.2 k h l a s y S X I)) c.nearer-best.ensures.plane,
     )
 
@@ -36,7 +39,7 @@ returns-in-Some-clause-some c =
     (subst (λ (o : Option Met). IfSome o (IsMet (complex_of C) p d)) c.in-Some.is c.loop-number.invariant.0)
     (subst (HasNoneBefore (complex_of C) p d) c.in-Some.is c.loop-number.invariant.1)
     (λ k h a y X I.
-    let l = at-within C.index.planes k h a in let t = c.loop-number-test.false in let e = c.len-number-end.ensures.len in
+    let l = at-within C.carriers k h a in let t = c.loop-number-test.false in let e = c.len-number-end.ensures.len in
     subst (IsNotBefore p y) c.in-Some.is (c.loop-number.invariant.2 k h (omega (arith, l, t, e)) a S.0 y S.1 X I))
 
 pub returns-in-None-clause-none : goal.returns-in-None-clause-none
@@ -45,5 +48,5 @@ returns-in-None-clause-none c _ =
     first-none S.0 C S.1 p d c.requires.upright
     (subst (HasNoneBefore (complex_of C) p d) c.in-None.is c.loop-number.invariant.1)
     (λ k h a y X I.
-    let l = at-within C.index.planes k h a in let t = c.loop-number-test.false in let e = c.len-number-end.ensures.len in
+    let l = at-within C.carriers k h a in let t = c.loop-number-test.false in let e = c.len-number-end.ensures.len in
     subst (IsNotBefore p y) c.in-None.is (c.loop-number.invariant.2 k h (omega (arith, l, t, e)) a S.0 y S.1 X I))

@@ -13,5 +13,5 @@ use Rattle.nef_locate.proofs.ray.first_hit.Given as goal
 -- the best is met, no vertex and no edge before it, and no facet in the planes so far
 abbrev pub invariant-loop-number : goal.invariant-loop-number
 invariant-loop-number l = IfSome l.best (IsMet (complex_of l.c) (place_of l.p) (vector_of l.d)) × HasNoneBefore (complex_of l.c) (place_of l.p) (vector_of l.d) l.best
-    × ((k : ℕ) (h : Plane) → k < l.number → At l.c.index.planes k h → (s : Set) (y : PlainPlace) → ShowsSet s l.c → IsCrossing (place_of l.p) (vector_of l.d) (form_of h) y
+    × ((k : ℕ) (h : Plane) → k < l.number → At l.c.carriers k h → (s : Set) (y : PlainPlace) → ShowsSet s l.c → IsCrossing (place_of l.p) (vector_of l.d) (form_of h) y
     → IsFlatIn s (form_of h) y → IsNotBefore (place_of l.p) y l.best)

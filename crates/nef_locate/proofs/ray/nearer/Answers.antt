@@ -1,24 +1,26 @@
-use Rattle.std.proofs.Common.{refl, rules, IsTrue}
+use Rattle.std.proofs.Common.{refl, rules, IsTrue, inr}
 use Rattle.nef_geo.specs.Shapes.{form_of, vector_of, place_of, hit_place}
 use Rattle.nef_complex.specs.Complexes.{complex_of}
 use Rattle.law_complex.proofs.FacetWays.{meets-on}
 use Rattle.nef_classes.proofs.ClassLists.{is-at_within}
 use Rattle.nef_plane.proofs.Spanned.{upright-some}
 use Rattle.nef_locate.proofs.Located.{corner-at}
-use Rattle.nef_locate.proofs.RayMeets.{reached-of, none-outside, stays, taken, passed, found, sooner-off}
+use Rattle.nef_locate.proofs.RayMeets.{reached-of, none-outside, flat-framed, stays, taken, passed, found, sooner-off}
+use Rattle.nef_locate.proofs.Windows.{spanned}
 use Rattle.nef_locate.proofs.ray.nearer.Goals as goal
 
 pub returns-in_default-clause-plane : goal.returns-in_default-clause-plane
 returns-in_default-clause-plane c = λ s y S X I. absurd (c.in_default.ensures.none.0 refl y X)
 
-pub is_spanned-requires-clause-within : goal.is_spanned-requires-clause-within
-is_spanned-requires-clause-within c = is-at_within c.args.c.now.index.planes c.args.number c.args.h.now c.requires.number
+pub carrier_span-requires : goal.carrier_span-requires
+carrier_span-requires c = record { shows = c.requires.shows; within = is-at_within c.args.c.now.carriers c.args.number c.args.h.now c.requires.number }
 
-pub returns-then-not-is_spanned-clause-plane : goal.returns-then-not-is_spanned-clause-plane
-returns-then-not-is_spanned-clause-plane c =
-    let p = place_of c.args.p.now in let d = vector_of c.args.d.now in let hit = c.in-Some.hit in
-    let off : IsTrue c.is_spanned.result → ⊥ = search rules in
-    λ s y S X I. absurd (off (c.is_spanned.ensures.spanned s c.args.h.now S c.requires.number c.in-Some.ensures.crossing.on (found p d c.args.h.now hit c.in-Some.ensures.crossing s y X I)))
+pub returns-then-not-may_hold-clause-plane : goal.returns-then-not-may_hold-clause-plane
+returns-then-not-may_hold-clause-plane c =
+    let off : IsTrue c.may_hold.result → ⊥ = search rules in
+    λ s y S X I. absurd (off (c.may_hold.ensures.holds y
+    (spanned s c.args.c.now S (form_of c.args.h.now) c.carrier_span.result.now (c.carrier_span.ensures.span c.args.h.now c.requires.number) y X.on (inr I))
+    (c.requires.window y (flat-framed s c.args.h.now y I) X.ahead)))
 
 pub returns-then-not-is_sooner-clause-plane : goal.returns-then-not-is_sooner-clause-plane
 returns-then-not-is_sooner-clause-plane c =
