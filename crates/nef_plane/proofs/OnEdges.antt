@@ -24,14 +24,14 @@ use Rattle.nef_complex.specs.Complexes.{vertex_of, edge_of, complex_of, meet_of}
 use Rattle.nef_complex.proofs.Ends.{vertex-same, listed_edge, ends, apart, edge-inside}
 use Rattle.nef_complex.proofs.Lines.{one-crossing}
 use Rattle.nef_plane.specs.Meets.{AreOpposite, reach_of, met_of, IsHitThrough, AllHold, IsWithin, AtVertexNumber, IsNearest, IsNearestMet, IsNearer}
-use Rattle.nef_plane.specs.Upright.{plane_along_x, plane_along_y, InsideEdgeNumber, IsMetAt, IsFirstOnEdges}
+use Rattle.nef_plane.specs.Upright.{plane_along_x, plane_along_z, InsideEdgeNumber, IsMetAt, IsFirstOnEdges}
 use Rattle.nef_plane.specs.declared.along.Met.{Met}
 use Rattle.nef_plane.proofs.Crossed.{edge-along}
 use Rattle.nef_plane.proofs.Found.{not-end}
 use Rattle.nef_plane.proofs.Meeting.{between-opposite}
 use Rattle.nef_plane.proofs.Nearest.{between-ahead}
 use Rattle.nef_plane.proofs.Reached.{through-one, reached-vertex}
-use Rattle.nef_plane.proofs.Spanned.{upright-some, plane-upright, ahead-x, ahead-y}
+use Rattle.nef_plane.proofs.Spanned.{upright-some, plane-upright, ahead-x, ahead-z}
 
 -- where all planes that hold two points would hold an upright direction, none holds both, so they hold each direction
 all-any : (gs : List Plane) (d e : Vector) (a b : Place) → IsUpright d → AllHold gs d a b → AllHold gs e a b
@@ -70,10 +70,10 @@ module _ (s : Set) (c : Complex) (S : Shows s (complex_of c)) (p : Place) (d : V
         t = apart s c S k e v w l i j
 
     -- it isn't met, where some plane that holds the ray doesn't part its ends
-    pub unparted : (AreOpposite (plane_along_x p d) low high × AreOpposite (plane_along_y p d) low high → ⊥) → IsNearest met_of p d (InsideEdgeNumber (complex_of c) k) None
+    pub unparted : (AreOpposite (plane_along_x p d) low high × AreOpposite (plane_along_z p d) low high → ⊥) → IsNearest met_of p d (InsideEdgeNumber (complex_of c) k) None
     unparted n = λ m q h x.
         let b = edge-inside s c S k e v w l i j q x.1 in
-        n (between-opposite (plane_along_x p d) low high q b (ahead-x p d q h), between-opposite (plane_along_y p d) low high q b (ahead-y p d q h))
+        n (between-opposite (plane_along_x p d) low high q b (ahead-x p d q h), between-opposite (plane_along_z p d) low high q b (ahead-z p d q h))
 
     -- nor where no plane through it is crossed
     pub uncrossed : ((q : Place) → IsAhead p d q → IsWithin low high q → AllHold c.carriers d low high) → IsNearest met_of p d (InsideEdgeNumber (complex_of c) k) None

@@ -1,7 +1,7 @@
 -- What a ray along the upward direction or the downward one meets of the vertices and edges.
 use Rattle.std.specs.Prelude.{◌≡◌, ℕ, ◌*◌, ◌^◌}
 use Rattle.nef_space.specs.Place.{Place, Form, plane_through, IsAhead, IsBetween}
-use Rattle.nef_space.specs.Vectors.{Vector, beside_x, beside_y}
+use Rattle.nef_space.specs.Vectors.{Vector, beside_x, beside_z}
 use Rattle.nef_geo.specs.Hits.{IsReached, IsPlaceAtMost}
 use Rattle.nef_geo.specs.Shapes.{hit_place}
 use Rattle.nef_geo.specs.Widths.{upright_limit, upright_weight_limit}
@@ -19,9 +19,9 @@ gap_limit = 9 * 2 ^ 80
 abbrev pub plane_along_x : Place → Vector → Form
 plane_along_x p d = plane_through (beside_x d) p
 
--- the one that holds d and the second axis
-abbrev pub plane_along_y : Place → Vector → Form
-plane_along_y p d = plane_through (beside_y d) p
+-- the one that holds d and the third axis
+abbrev pub plane_along_z : Place → Vector → Form
+plane_along_z p d = plane_through (beside_z d) p
 
 -- what is met is strictly inside the edge with this number
 abbrev pub InsideEdgeNumber : Complex → ℕ → PlaneMeet → Place → Type 0

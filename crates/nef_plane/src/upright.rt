@@ -16,7 +16,7 @@ ghost use Rattle.law_complex.specs.Skeleton.{IsOnEdges};
 ghost use Rattle.nef_complex.specs.Complexes.{complex_of, ShowsSet};
 ghost use Rattle.nef_complex.specs.Index.{AreWithin, AreHolders};
 ghost use Rattle.nef_plane.specs.Meets.{AreOpposite, IsHitThrough, IsWithin, AllHold, AtVertexNumber, IsNearest, met_of, reach_of};
-ghost use Rattle.nef_plane.specs.Upright.{gap_limit, plane_along_x, plane_along_y, InsideEdgeNumber, IsUprightMet, IsFirstOnEdges};
+ghost use Rattle.nef_plane.specs.Upright.{gap_limit, plane_along_x, plane_along_z, InsideEdgeNumber, IsUprightMet, IsFirstOnEdges};
 
 use crate::along::{Met, nearer, plane_across};
 use crate::places::is_on_edge;
@@ -52,14 +52,14 @@ fn side_along_x(p: &Point, d: &Dir, a: &Point) -> Sign
     Sign::of(d.z() as i128 * second - d.y() as i128 * third)
 }
 
-// The side of the plane of the ray and the second axis.
-fn side_along_y(p: &Point, d: &Dir, a: &Point) -> Sign
+// The side of the plane of the ray and the third axis.
+fn side_along_z(p: &Point, d: &Dir, a: &Point) -> Sign
     requires upright { IsUpright (vector_of d.now) }
-    ensures side { result ≡ sign_of (form_at (plane_along_y (place_of p.now) (vector_of d.now)) (place_of a.now)) }
+    ensures side { result ≡ sign_of (form_at (plane_along_z (place_of p.now) (vector_of d.now)) (place_of a.now)) }
 {
-    let third = gap(a.z(), a.w(), p.z(), p.w());
     let first = gap(a.x(), a.w(), p.x(), p.w());
-    Sign::of(d.x() as i128 * third - d.z() as i128 * first)
+    let second = gap(a.y(), a.w(), p.y(), p.w());
+    Sign::of(d.y() as i128 * first - d.x() as i128 * second)
 }
 
 // Whether the point lies on the line of the ray.
@@ -67,7 +67,7 @@ fn is_in_line(p: &Point, d: &Dir, a: &Point) -> bool
     requires upright { IsUpright (vector_of d.now) }
     ensures parallel { IsTrue result ↔ IsParallel (toward (place_of p.now) (place_of a.now)) (vector_of d.now) }
 {
-    side_along_x(p, d, a) == Sign::Zero && side_along_y(p, d, a) == Sign::Zero
+    side_along_x(p, d, a) == Sign::Zero && side_along_z(p, d, a) == Sign::Zero
 }
 
 fn are_parted_along_x(p: &Point, d: &Dir, a: &Point, b: &Point) -> bool
@@ -77,19 +77,19 @@ fn are_parted_along_x(p: &Point, d: &Dir, a: &Point, b: &Point) -> bool
     side_along_x(p, d, a) == side_along_x(p, d, b).opposite()
 }
 
-fn are_parted_along_y(p: &Point, d: &Dir, a: &Point, b: &Point) -> bool
+fn are_parted_along_z(p: &Point, d: &Dir, a: &Point, b: &Point) -> bool
     requires upright { IsUpright (vector_of d.now) }
-    ensures opposite { IsTrue result ↔ AreOpposite (plane_along_y (place_of p.now) (vector_of d.now)) (place_of a.now) (place_of b.now) }
+    ensures opposite { IsTrue result ↔ AreOpposite (plane_along_z (place_of p.now) (vector_of d.now)) (place_of a.now) (place_of b.now) }
 {
-    side_along_y(p, d, a) == side_along_y(p, d, b).opposite()
+    side_along_z(p, d, a) == side_along_z(p, d, b).opposite()
 }
 
 // Whether each of the two planes parts the points or holds both, as it does where the ray passes between them.
 fn are_parted(p: &Point, d: &Dir, a: &Point, b: &Point) -> bool
     requires upright { IsUpright (vector_of d.now) }
-    ensures opposite { IsTrue result ↔ (AreOpposite (plane_along_x (place_of p.now) (vector_of d.now)) (place_of a.now) (place_of b.now) × AreOpposite (plane_along_y (place_of p.now) (vector_of d.now)) (place_of a.now) (place_of b.now)) }
+    ensures opposite { IsTrue result ↔ (AreOpposite (plane_along_x (place_of p.now) (vector_of d.now)) (place_of a.now) (place_of b.now) × AreOpposite (plane_along_z (place_of p.now) (vector_of d.now)) (place_of a.now) (place_of b.now)) }
 {
-    are_parted_along_x(p, d, a, b) && are_parted_along_y(p, d, a, b)
+    are_parted_along_x(p, d, a, b) && are_parted_along_z(p, d, a, b)
 }
 
 // Where the ray crosses one of the carriers with these numbers, which are those that hold two points.
