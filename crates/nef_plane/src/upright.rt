@@ -1,34 +1,26 @@
-//! The first vertex or edge that a ray along the upward direction or the downward one meets.
+//! The first vertex or edge on a carrier that a ray along the upward direction or the downward one meets.
 //!
 //! Two planes that hold the ray tell of most vertices and edges that it doesn't meet them, by numbers of points alone: it
 //! meets a vertex only where both planes hold that, and an edge only where each of them parts its ends or holds both.
 
-ghost use Rattle.std.specs.Prelude.{◌≡◌, ◌⊎◌, ℕ, ◌<◌, ◌≤◌, length, ◌*ℤ◌, ◌-ℤ◌, nat_abs, ◌↔◌, IsTrue, IsNone, IfSome};
+ghost use Rattle.std.specs.Prelude.{◌≡◌, ◌<◌, ◌≤◌, length, ◌*ℤ◌, ◌-ℤ◌, nat_abs, ◌↔◌, IsTrue, IsNone, IfSome};
 ghost use Rattle.nef_space.specs.Limits.{point_limit, weight_limit};
 ghost use Rattle.nef_space.specs.Place.{Place, form_at, toward, IsAhead};
 ghost use Rattle.nef_space.specs.Sets.{Set};
-ghost use Rattle.nef_space.specs.Vectors.{IsParallel, up, opposite};
+ghost use Rattle.nef_space.specs.Vectors.{IsParallel};
 ghost use Rattle.nef_geo.specs.Hits.{IsUpright, IsPlaceAtMost};
 ghost use Rattle.nef_geo.specs.Shapes.{vector_of, place_of, hit_place};
 ghost use Rattle.nef_geo.specs.Signs.{sign_of};
 ghost use Rattle.nef_geo.specs.Widths.{upright_limit, upright_weight_limit};
-ghost use Rattle.law_complex.specs.Skeleton.{IsOnEdges};
 ghost use Rattle.nef_complex.specs.Complexes.{complex_of, ShowsSet};
 ghost use Rattle.nef_complex.specs.Index.{AreWithin, AreHolders};
 ghost use Rattle.nef_plane.specs.Meets.{AreOpposite, IsHitThrough, IsWithin, AllHold, AtVertexNumber, IsNearest, met_of, reach_of};
-ghost use Rattle.nef_plane.specs.Upright.{gap_limit, plane_along_x, plane_along_z, InsideEdgeNumber, IsUprightMet, IsFirstOnEdges};
+ghost use Rattle.nef_plane.specs.Upright.{gap_limit, plane_along_x, plane_along_z, InsideEdgeNumber, IsAtListed, IsAtCarrier, IsUprightMet};
 
 use crate::along::{Met, nearer, plane_across};
 use crate::places::is_on_edge;
-use nef_complex::{Complex, PlaneMeet, edge_holders, vertex_holders};
+use nef_complex::{Complex, PlaneMeet, carrier_items, edge_holders, vertex_holders};
 use nef_geo::{Dir, Hit, Plane, Point, Sign, ray_hit};
-
-/// A vertex or an edge that a ray meets, and the hit there.
-#[derive(Debug, Clone, Copy)]
-pub struct EdgeHit {
-    pub meet: PlaneMeet,
-    pub at: Hit,
-}
 
 // The difference x/w - y/v, times both weights.
 fn gap(x: i64, w: i64, y: i64, v: i64) -> i128
@@ -148,51 +140,48 @@ fn edge_met(c: &Complex, p: &Point, d: &Dir, number: usize) -> Option<Met>
     }
 }
 
-// The first vertex that the ray meets.
-fn nearest_vertex(c: &Complex, p: &Point, d: &Dir) -> Option<Met>
+// The first of the vertices with these numbers that the ray meets.
+fn nearest_vertex(c: &Complex, p: &Point, d: &Dir, numbers: &[usize]) -> Option<Met>
     requires shows { (s : Set) × ShowsSet s c.now }
     requires upright { IsUpright (vector_of d.now) }
-    ensures nearest { IsNearest met_of (place_of p.now) (vector_of d.now) (λ m q. (k : ℕ) × AtVertexNumber (complex_of c.now) k m q) result }
+    requires within { AreWithin c.now.vertices numbers.now }
+    ensures nearest { IsNearest met_of (place_of p.now) (vector_of d.now) (IsAtListed (AtVertexNumber (complex_of c.now)) numbers.now) result }
     ensures bounded { IfSome result IsUprightMet }
 {
     let mut best = None;
-    for number in 0..c.vertices.len() {
-        best = nearer(best, vertex_met(c, p, d, number), p, d);
+    for number in numbers {
+        best = nearer(best, vertex_met(c, p, d, *number), p, d);
     }
     best
 }
 
-// The first edge whose inside the ray meets.
-fn nearest_edge(c: &Complex, p: &Point, d: &Dir) -> Option<Met>
+// The first of the edges with these numbers whose inside the ray meets.
+fn nearest_edge(c: &Complex, p: &Point, d: &Dir, numbers: &[usize]) -> Option<Met>
     requires shows { (s : Set) × ShowsSet s c.now }
     requires upright { IsUpright (vector_of d.now) }
-    ensures nearest { IsNearest met_of (place_of p.now) (vector_of d.now) (λ m q. (k : ℕ) × InsideEdgeNumber (complex_of c.now) k m q) result }
+    requires within { AreWithin c.now.edges numbers.now }
+    ensures nearest { IsNearest met_of (place_of p.now) (vector_of d.now) (IsAtListed (InsideEdgeNumber (complex_of c.now)) numbers.now) result }
     ensures bounded { IfSome result IsUprightMet }
 {
     let mut best = None;
-    for number in 0..c.edges.len() {
-        best = nearer(best, edge_met(c, p, d, number), p, d);
+    for number in numbers {
+        best = nearer(best, edge_met(c, p, d, *number), p, d);
     }
     best
 }
 
-/// The first vertex, or edge, that the ray from `p` along the upward direction or the downward one meets strictly ahead,
-/// with the hit there. The first three numbers of the hit are at most `2^86` in size and its w at most `2^73`. `None`
-/// comes exactly where the ray meets none. No edge lies along such a ray, since no carrier does.
-pub fn first_on_edges(c: &Complex, p: &Point, d: &Dir) -> Option<EdgeHit>
+/// What the ray from `p` along the upward direction or the downward one meets first, strictly ahead, of the vertices on the
+/// carrier with this number and of the edges in it, and the hit there. The first three numbers of the hit are at most
+/// `2^86` in size and its w at most `2^73`. `None` comes exactly where the ray meets none of these.
+pub fn first_on_carrier(c: &Complex, number: usize, p: &Point, d: &Dir) -> Option<Met>
     requires shows { (s : Set) × ShowsSet s c.now }
-    requires upright { (vector_of d.now ≡ up) ⊎ (vector_of d.now ≡ opposite up) }
-    ensures some { IfSome result (IsFirstOnEdges (complex_of c.now) (place_of p.now) (vector_of d.now)) }
-    ensures bounded { IfSome result (λ x. IsPlaceAtMost upright_limit upright_weight_limit (hit_place x.at)) }
-    ensures none { IsNone result → (q : Place) → IsAhead (place_of p.now) (vector_of d.now) q → IsOnEdges (complex_of c.now) q → ⊥ }
+    requires upright { IsUpright (vector_of d.now) }
+    requires within { number < length c.now.carriers }
+    ensures nearest { IsNearest met_of (place_of p.now) (vector_of d.now) (IsAtCarrier c.now number) result }
+    ensures bounded { IfSome result IsUprightMet }
 {
-    let vertex = nearest_vertex(c, p, d);
-    let edge = nearest_edge(c, p, d);
-    match nearer(vertex, edge, p, d) {
-        Some(met) => Some(EdgeHit {
-            meet: met.meet,
-            at: met.at,
-        }),
-        None => None,
-    }
+    let items = carrier_items(c, number);
+    let vertex = nearest_vertex(c, p, d, items.vertices);
+    let edge = nearest_edge(c, p, d, items.edges);
+    nearer(vertex, edge, p, d)
 }
