@@ -15,7 +15,7 @@ use Rattle.nef_smap.proofs.Lists.{at-map}
 use Rattle.nef_smap.proofs.SideLists.{get-from_at}
 use Rattle.law_complex.specs.Complexes.{Vertex as PlainVertex}
 use Rattle.law_complex.specs.Laws.{IsFlatIn}
-use Rattle.law_complex.specs.Spans.{Coordinate, coordinate_x, coordinate_y, coordinate_z, EachVertexOn, IsWithin, IsJustAbove}
+use Rattle.law_complex.specs.Spans.{Coordinate, coordinate_x, coordinate_y, coordinate_z, EachVertexOn, EachPointOn, IsWithin, IsJustAbove}
 use Rattle.law_complex.proofs.Spans.{plane-within, stays-close}
 use Rattle.nef_complex.specs.declared.complex.Complex.{Complex}
 use Rattle.nef_complex.specs.declared.complex.Vertex.{Vertex}
@@ -121,7 +121,7 @@ pub ray-close : (p q : Place) (d : Vector) → IsUpright d → InClosedFrame p �
 ray-close p q d (inl e) i j a = let c = (stays-close p q i j).0 (subst (λ (v : Vector). IsAhead p v q) e a) in (inl c.0, inl c.1)
 ray-close p q d (inr e) i j a = let c = (stays-close p q i j).1 (subst (λ (v : Vector). IsAhead p v q) e a) in (inr c.0, inr c.1)
 
--- ---- facets lie within the span of their plane
+-- ---- vertices, edges and facets lie within the span of their plane
 module _ (s : Set) (c : Complex) (S : ShowsSet s c) (h : Form) (span : Span) (B : IsSpanOn c.vertices h span) where
   each : (d : Coordinate) (low high : ℤ) → ((p : Place) → IsInSpan span p → IsWithin d low high p) → EachVertexOn (complex_of c) h (IsWithin d low high)
   each d low high part k v a e =
@@ -129,9 +129,15 @@ module _ (s : Set) (c : Complex) (S : ShowsSet s c) (h : Form) (span : Span) (B 
       subst (λ (r : PlainVertex). IsWithin d low high r.point) w.2
       (part (place_of w.0.point) (B k w.0 (get-from_at c.vertices k w.0 w.1) (subst (λ (r : PlainVertex). form_at h r.point ≡ pos 0) (sym w.2) e)))
 
+  pub plane-spanned : EachPointOn s (complex_of c) h (IsInSpan span)
+  plane-spanned =
+      let x = plane-within s (complex_of c) S.shows h coordinate_x span.x.low span.x.high (each coordinate_x span.x.low span.x.high (λ p i. i.0)) in
+      let y = plane-within s (complex_of c) S.shows h coordinate_y span.y.low span.y.high (each coordinate_y span.y.low span.y.high (λ p i. i.1)) in
+      let z = plane-within s (complex_of c) S.shows h coordinate_z span.z.low span.z.high (each coordinate_z span.z.low span.z.high (λ p i. i.2)) in (
+        λ k p i on. (x.0 k p i on, y.0 k p i on, z.0 k p i on),
+        λ k p i l. (x.1 k p i l, y.1 k p i l, z.1 k p i l),
+        λ p on f. (x.2 p on f, y.2 p on f, z.2 p on f),
+      )
+
   pub facet-spanned : (y : Place) → form_at h y ≡ pos 0 → IsFlatIn s h y → IsInSpan span y
-  facet-spanned y on f = (
-    (plane-within s (complex_of c) S.shows h coordinate_x span.x.low span.x.high (each coordinate_x span.x.low span.x.high (λ p i. i.0))).2 y on f,
-    (plane-within s (complex_of c) S.shows h coordinate_y span.y.low span.y.high (each coordinate_y span.y.low span.y.high (λ p i. i.1))).2 y on f,
-    (plane-within s (complex_of c) S.shows h coordinate_z span.z.low span.z.high (each coordinate_z span.z.low span.z.high (λ p i. i.2))).2 y on f,
-  )
+  facet-spanned y on f = plane-spanned.2 y on f
