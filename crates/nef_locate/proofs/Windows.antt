@@ -18,8 +18,6 @@ use Rattle.law_complex.specs.Laws.{IsFlatIn}
 use Rattle.law_complex.specs.Spans.{Coordinate, coordinate_x, coordinate_y, coordinate_z, EachVertexOn, EachPointOn, IsWithin, IsJustAbove}
 use Rattle.law_complex.proofs.Spans.{plane-within, stays-close}
 use Rattle.nef_complex.specs.declared.complex.Complex.{Complex}
-use Rattle.nef_complex.specs.declared.complex.Vertex.{Vertex}
-use Rattle.nef_complex.specs.declared.spans.Bounds.{Bounds}
 use Rattle.nef_complex.specs.declared.spans.Span.{Span}
 use Rattle.nef_complex.specs.Complexes.{vertex_of, complex_of, ShowsSet}
 use Rattle.nef_complex.specs.Index.{IsSpanOn}

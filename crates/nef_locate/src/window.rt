@@ -43,27 +43,27 @@ fn is_at_most(a: i64, w: i64, to: i64) -> bool
 fn is_at_least(a: i64, w: i64, from: i64) -> bool
     ensures least { IsTrue result ↔ (from ≤ℤ (a *ℤ w)) }
 {
-    !(product(a, w) < from as i128)
+    product(a, w) >= from as i128
 }
 
-// Whether some number lies within the bounds and the reach, which is one of the window.
-fn overlap(bounds: &Bounds, reach: &Reach, window: &Window) -> bool
-    ensures overlap { ((bounds.now.low *ℤ window.now.w) ≤ℤ reach.now.to) → (reach.now.from ≤ℤ (bounds.now.high *ℤ window.now.w)) → IsTrue result }
+// Whether some number lies within the bounds and the reach, which is one of a window with this w.
+fn overlap(bounds: &Bounds, reach: &Reach, w: i64) -> bool
+    ensures overlap { ((bounds.now.low *ℤ w) ≤ℤ reach.now.to) → (reach.now.from ≤ℤ (bounds.now.high *ℤ w)) → IsTrue result }
 {
-    is_at_most(bounds.low, window.w, reach.to) && is_at_least(bounds.high, window.w, reach.from)
+    is_at_most(bounds.low, w, reach.to) && is_at_least(bounds.high, w, reach.from)
 }
 
 /// Whether the span and the window may have a point in common.
 pub(crate) fn may_hold(span: &Span, window: &Window) -> bool
     ensures holds { (q : Place) → IsInSpan span.now q → IsInWindow window.now q → IsTrue result }
 {
-    if !overlap(&span.z, &window.z, window) {
+    if !overlap(&span.z, &window.z, window.w) {
         return false;
     }
-    if !overlap(&span.y, &window.y, window) {
+    if !overlap(&span.y, &window.y, window.w) {
         return false;
     }
-    overlap(&span.x, &window.x, window)
+    overlap(&span.x, &window.x, window.w)
 }
 
 // The number alone.

@@ -8,7 +8,7 @@ returns-then-not-overlap c = record {
       let s = c.args.span.now in let r = c.args.window.now in
       let b = bounds-reach s.z.low s.z.high r.z.from r.z.to r.w q.z q.w n.0 (weight q) i.2 n.3 in
       let off : IsTrue c.overlap.result → ⊥ = search rules in
-      absurd (off (c.overlap.ensures.overlap b.0 b.1));
+      absurd (off (c.overlap.ensures.overlap (search (rules, b.0)) (search (rules, b.1))));
 }
 
 pub returns-then-not-overlap-2 : goal.returns-then-not-overlap-2
@@ -17,7 +17,7 @@ returns-then-not-overlap-2 c = record {
       let s = c.args.span.now in let r = c.args.window.now in
       let b = bounds-reach s.y.low s.y.high r.y.from r.y.to r.w q.y q.w n.0 (weight q) i.1 n.2 in
       let off : IsTrue c.overlap-2.result → ⊥ = search rules in
-      absurd (off (c.overlap-2.ensures.overlap b.0 b.1));
+      absurd (off (c.overlap-2.ensures.overlap (search (rules, b.0)) (search (rules, b.1))));
 }
 
 pub returns : goal.returns
@@ -25,5 +25,5 @@ returns c = record {
   holds = λ q i n.
       let s = c.args.span.now in let r = c.args.window.now in
       let b = bounds-reach s.x.low s.x.high r.x.from r.x.to r.w q.x q.w n.0 (weight q) i.0 n.1 in
-      c.overlap-3.ensures.overlap b.0 b.1;
+      c.overlap-3.ensures.overlap (search (rules, b.0)) (search (rules, b.1));
 }

@@ -1,4 +1,4 @@
-use Rattle.std.proofs.Common.{◌≡◌, ℤ, pos, ◌<ℤ◌, ◌*ℤ◌, nat_abs, sym, ◌∙◌, subst}
+use Rattle.std.proofs.Common.{ℤ, pos, ◌<ℤ◌, nat_abs, sym, ◌∙◌, subst}
 use Rattle.nef_locate.specs.Windows.{IsReached}
 use Rattle.nef_locate.proofs.Windows.{coordinate-is, weight-is, positive, reached-at}
 use Rattle.nef_locate.proofs.window.point_window.Goals as goal
