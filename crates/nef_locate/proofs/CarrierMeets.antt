@@ -1,11 +1,10 @@
 -- What an upright ray meets on carriers, and first of all vertices and edges.
-use Rattle.std.proofs.Common.{◌≡◌, ℕ, Option, Some, None, pos, arith, inl, inr, ◌⊎◌, ⊎_elim, refl, sym, subst}
+use Rattle.std.proofs.Common.{ℕ, Option, Some, None, arith, inl, inr, ◌⊎◌, ⊎_elim, refl, sym, subst}
 use Rattle.std.specs.Prelude.{IsNone, IfSome}
-use Rattle.nef_space.specs.Place.{Place, Form, form_at, IsAhead, InClosedFrame}
+use Rattle.nef_space.specs.Place.{Place, Form, IsAhead, InClosedFrame}
 use Rattle.nef_space.specs.Sets.{Set}
 use Rattle.nef_space.specs.Vectors.{Vector}
 use Rattle.nef_geo.specs.Shapes.{form_of, place_of, hit_place}
-use Rattle.law_sphere.specs.Maps.{At}
 use Rattle.nef_smap.proofs.SideLists.{get-from_at}
 use Rattle.law_complex.specs.Skeleton.{PlaneMeet as PlainMeet, meets_vertex, meets_edge, at_vertex, IsVertexPoint, IsEdgePoint, IsOnEdges, LiesIn}
 use Rattle.law_complex.proofs.Edges.{edge-points}
@@ -18,7 +17,7 @@ use Rattle.nef_complex.specs.Index.{EdgeLiesIn, IsSpanOn}
 use Rattle.nef_complex.specs.Spans.{IsInSpan}
 use Rattle.nef_complex.proofs.Ends.{vertex-same, listed_edge, ends}
 use Rattle.nef_complex.proofs.Reading.{got-at}
-use Rattle.nef_plane.specs.Meets.{AtVertexNumber, IsNearest, IsNearestMet, met_of}
+use Rattle.nef_plane.specs.Meets.{AtVertexNumber, IsNearest, met_of}
 use Rattle.nef_plane.specs.Upright.{InsideEdgeNumber, IsAtPlane, IsAtCarrier}
 use Rattle.nef_plane.specs.declared.along.Met.{Met}
 use Rattle.nef_plane.proofs.Crossed.{edge-carried}
