@@ -15,7 +15,8 @@ use Rattle.nef_complex.specs.declared.spans.Span.{Span}
 use Rattle.nef_complex.specs.Complexes.{vertex_of, edge_of, complex_of, meet_of, ShowsSet}
 use Rattle.nef_complex.specs.Index.{EdgeLiesIn, IsSpanOn}
 use Rattle.nef_complex.specs.Spans.{IsInSpan}
-use Rattle.nef_complex.proofs.Ends.{vertex-same, listed_edge, ends}
+use Rattle.nef_complex.proofs.Ends.{vertex-same, listed_edge, ends, edge-inside}
+use Rattle.nef_complex.proofs.Parted.{held-between}
 use Rattle.nef_complex.proofs.Reading.{got-at}
 use Rattle.nef_plane.specs.Meets.{AtVertexNumber, IsNearest, met_of}
 use Rattle.nef_plane.specs.Upright.{InsideEdgeNumber, IsAtPlane, IsAtCarrier}
@@ -27,7 +28,7 @@ use Rattle.nef_plane.proofs.Nearest.{nearest-as}
 use Rattle.nef_locate.specs.Upright.{IsMetAt, IsFirstOnEdges}
 use Rattle.nef_locate.proofs.CarrierPoints.{skeleton-carrier}
 use Rattle.nef_locate.proofs.RayMeets.{dim-framed}
-use Rattle.nef_locate.proofs.Windows.{plane-spanned}
+use Rattle.nef_locate.proofs.Windows.{spanned}
 
 -- ---- all vertices and edges
 abbrev pub AnyOf : Complex → PlainMeet → Place → Type 0
@@ -75,8 +76,11 @@ module _ (s : Set) (c : Complex) (S : ShowsSet s c) where
 
   -- and within the carrier's span
   pub at-spanned : (h : Form) (span : Span) → IsSpanOn c.vertices h span → (m : PlainMeet) (q : Place) → IsAtPlane c h m q → IsInSpan span q
-  at-spanned h span B m q (inl (k, (v, a, on), (e, x))) = (plane-spanned s c S h span B).0 k q x (level-same h (place_of v.point) q (vertex-same c k v (got-at c.vertices k v a) q x) on)
-  at-spanned h span B m q (inr (k, l, (e, x))) = (plane-spanned s c S h span B).1 k q x (edge-in h k l)
+  at-spanned h span B m q (inl (k, (v, a, on), (e, x))) = spanned s c S h span B q (level-same h (place_of v.point) q (vertex-same c k v (got-at c.vertices k v a) q x) on) (inl (meets_vertex k, x))
+  at-spanned h span B m q (inr (k, l, (e, x))) =
+      let (f, a, (u, i, y), (v, j, z)) = l in
+      let b = edge-inside s c S.shows k f u v (got-at c.edges k f a) (got-at c.vertices f.low u i) (got-at c.vertices f.high v j) q x in
+      spanned s c S h span B q (held-between h (place_of u.point) (place_of v.point) q b (y, z)) (inl (meets_edge k, (x, edge-in h k l)))
 
   -- ---- each vertex lies on a carrier, and each edge in one
   carried : (m : PlainMeet) (q : Place) → AnyOf c m q → (k : ℕ) × IsAtCarrier c k m q
@@ -85,7 +89,7 @@ module _ (s : Set) (c : Complex) (S : ShowsSet s c) where
       (k.number, (k.plane, get-from_at c.carriers k.number k.plane k.listed, inl (j, lies c (form_of k.plane) j v a k.on, (e, (v, a, t)))))
   carried m q (inr (j, (e, (f, v, w, a, H, b)))) =
       let k = edge-carried s c S.shows j f v w a H (between-ends v.point q w.point b) in
-      (k.0, (k.1, get-from_at c.carriers k.0 k.1 k.2, inr (j, edge-lies c (form_of k.1) j f v w a H k.3, (e, (f, v, w, a, H, b)))))
+      (k.0, (k.1, get-from_at c.carriers k.0 k.1 k.2, inr (j, edge-lies c (form_of k.1) j (f, v, w, a, H, k.3.0, k.3.1), (e, (f, v, w, a, H, b)))))
 
   of-carrier : (m : PlainMeet) (q : Place) → (k : ℕ) × IsAtCarrier c k m q → AnyOf c m q
   of-carrier m q (k, (h, a, inl (j, l, x))) = inl (j, x)

@@ -18,16 +18,18 @@ use Rattle.law_near.proofs.Alike.{flat-germ}
 use Rattle.law_near.proofs.Decided.{InFrame-decided}
 use Rattle.law_near.proofs.Even.{span-3}
 use Rattle.law_near.proofs.Meets.{vertex-meets}
-use Rattle.law_near.proofs.Supports.{edge-support, facet-support}
+use Rattle.law_near.proofs.Supports.{facet-support}
 use Rattle.law_sphere.specs.Maps.{At}
 use Rattle.nef_smap.proofs.Lists.{at-map}
 use Rattle.law_complex.specs.Shows.{SamePlane}
-use Rattle.law_complex.specs.Skeleton.{at_vertex, on_edge, in_facet, IsSkeletonPoint}
+use Rattle.law_complex.specs.Skeleton.{at_vertex, on_edge, in_facet, IsSkeletonPoint, meets_vertex, meets_edge}
 use Rattle.law_complex.proofs.Planes.{plane-turned, plane-point, plane-slope}
 use Rattle.law_complex.proofs.FacetWays.{dim-same}
-use Rattle.law_complex.proofs.Edges.{edge-points}
+use Rattle.law_complex.proofs.Ways.{between-ends}
 use Rattle.nef_complex.specs.declared.complex.Complex.{Complex}
 use Rattle.nef_complex.specs.Complexes.{complex_of, ShowsSet}
+use Rattle.nef_complex.proofs.Parted.{held-between}
+use Rattle.nef_plane.proofs.Crossed.{edge-carried}
 use Rattle.nef_plane.proofs.Spanned.{plane-upright}
 use Rattle.nef_locate.specs.Rays.{IsSkeletonIn}
 use Rattle.nef_locate.proofs.Cones.{facet-at}
@@ -84,7 +86,7 @@ module _ (s : Set) (c : Complex) (S : ShowsSet s c) where
       let same : SamePlane (form_of g.0) f = subst (λ (k : Form). SamePlane k f) (sym g.2) r.3 in
       record { number = r.0; plane = g.0; listed = g.1; same = same; on = plane-point f (form_of g.0) y (plane-turned (form_of g.0) f same) (nought-is (form_at f y) o) }
 
-  -- a carrier on which the skeleton point lies, on an edge or in a facet of the plane
+  -- a carrier on which the skeleton point lies, as a vertex, on an edge in the plane, or in a facet of the plane
   pub record SkeletonCarrier (y : PlainPlace) : Type 0 where
     pub number : ℕ
     pub plane : Plane
@@ -96,11 +98,10 @@ module _ (s : Set) (c : Complex) (S : ShowsSet s c) where
   skeleton-carrier y (at_vertex k, (v, a, e)) =
       let m = vertex-meets s y (dim-same s v.point y 0 e (S.shows.vertices k v a)) in
       let g = carrier-at m.first y m.first_in m.first_at in
-      record { number = g.number; plane = g.plane; listed = g.listed; on = g.on; found = inl (k, inl (v, a, e)) }
+      record { number = g.number; plane = g.plane; listed = g.listed; on = g.on; found = inl (meets_vertex k, (v, a, e)) }
   skeleton-carrier y (on_edge k, (e, v, w, a, H, b)) =
-      let E = edge-support s y (edge-points s (complex_of c) k e v w y S.shows a H b).0 in
-      let g = carrier-at E.first y E.first_listed E.first_passes in
-      record { number = g.number; plane = g.plane; listed = g.listed; on = g.on; found = inl (k, inr (e, v, w, a, H, b)) }
+      let g = edge-carried s c S.shows k e v w a H (between-ends v.point y w.point b) in
+      record { number = g.0; plane = g.1; listed = g.2; on = held-between (form_of g.1) v.point w.point y b g.3; found = inl (meets_edge k, ((e, v, w, a, H, b), (e, v, w, a, H, g.3.0, g.3.1))) }
   skeleton-carrier y (in_facet k, (v, x, a, F)) =
       let dim = (facet-at s (complex_of c) S.shows k v x y a F).0 in
       let E = facet-support s y dim in

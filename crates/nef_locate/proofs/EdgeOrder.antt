@@ -15,13 +15,15 @@ use Rattle.law_sphere.proofs.Compare.{SameDirection-turned}
 use Rattle.nef_smap.proofs.Lists.{map-at}
 use Rattle.nef_smap.proofs.SideLists.{get-from_at}
 use Rattle.law_complex.specs.Shows.{Shows}
-use Rattle.law_complex.specs.Skeleton.{IsEdgePoint}
+use Rattle.law_complex.specs.Skeleton.{IsVertexPoint, IsEdgePoint}
+use Rattle.law_complex.proofs.EqualPoints.{vertex-same}
 use Rattle.law_complex.proofs.Ways.{between-way, same-itself}
 use Rattle.nef_complex.specs.declared.complex.Vertex.{Vertex}
 use Rattle.nef_complex.specs.declared.complex.Edge.{Edge}
 use Rattle.nef_complex.specs.declared.complex.Complex.{Complex}
 use Rattle.nef_complex.specs.Complexes.{edge_of, vertex_of, complex_of}
 use Rattle.nef_complex.proofs.Ends.{edge-inside}
+use Rattle.nef_complex.proofs.Sorted.{none-there}
 use Rattle.nef_edges.proofs.Rays.{toward-normal, normal-kept}
 use Rattle.nef_locate.specs.Rays.{PartsVertices}
 
@@ -72,3 +74,7 @@ module _ (s : Set) (c : Complex) (S : Shows s (complex_of c)) (k : ℕ) (e : Edg
     where
       never : (a b : PlainPlace) → IsPlaceBelow a b → IsPlaceBelow b a → ⊥
       never a b g h = place_below-apart a a (place_below-trans a b a g h) (same-itself a)
+
+-- such a point is no vertex
+pub parts-off : (c : Complex) (q : Hit) (n : ℕ) → PartsVertices c q n → (k : ℕ) → IsVertexPoint (complex_of c) k (hit_place q) → ⊥
+parts-off c q n (p, o, below, above) k v = none-there c.vertices n n p (omega arith) below above k (vertex-same (hit_place q) (place_of p) o (complex_of c) k v)

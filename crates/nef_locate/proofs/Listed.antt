@@ -1,7 +1,7 @@
--- The plane of a facet point is one of the index.
-use Rattle.std.proofs.Common.{◌≡◌, ℕ, pos, sym, subst}
+-- The plane of a facet point is one of the index, and the edges in a plane on which a point lies are listed.
+use Rattle.std.proofs.Common.{◌≡◌, ℕ, List, pos, sym, subst}
 use Rattle.nef_space.specs.Lists.{IsAt}
-use Rattle.nef_space.specs.Place.{Place, form_at, normal_of}
+use Rattle.nef_space.specs.Place.{Place, Form, form_at, normal_of}
 use Rattle.nef_space.specs.Sets.{Set}
 use Rattle.nef_space.specs.Vectors.{Vector, dot, opposite, IsDirection, SameDirection, plane_axis}
 use Rattle.nef_geo.specs.Shapes.{form_of}
@@ -15,13 +15,14 @@ use Rattle.nef_smap.proofs.Lists.{at-map}
 use Rattle.nef_smap.proofs.SideLists.{get-from_at}
 use Rattle.law_complex.specs.Complexes.{Vertex as PlainVertex, Edge as PlainEdge, Complex as PlainComplex, Corner}
 use Rattle.law_complex.specs.Laws.{IsFlatIn}
-use Rattle.law_complex.specs.Skeleton.{PlaneMeet, meets_vertex, meets_edge, Meets, IsCornerAt}
+use Rattle.law_complex.specs.Skeleton.{PlaneMeet, meets_vertex, meets_edge, Meets, IsVertexPoint, IsEdgePoint, IsCornerAt}
 use Rattle.law_complex.proofs.FacetEnds.{facet-behind}
 use Rattle.law_complex.proofs.FacetNames.{axis-in}
 use Rattle.law_complex.proofs.FacetWays.{plane-ahead}
 use Rattle.nef_complex.specs.declared.complex.Complex.{Complex}
 use Rattle.nef_complex.specs.Complexes.{vertex_of, complex_of, ShowsSet}
-use Rattle.nef_complex.specs.Index.{HasItemIn}
+use Rattle.nef_complex.specs.Index.{HasItemIn, EdgeLiesIn, AreNumbersWith}
+use Rattle.nef_plane.proofs.Listed.{edge-lies}
 use Rattle.nef_plane.proofs.Meeting.{level-same}
 
 module _ (s : Set) (c : Complex) (S : ShowsSet s c) (h : Plane) (y : Place) (on : form_at (form_of h) y ≡ pos 0) (F : IsFlatIn s (form_of h) y) where
@@ -59,3 +60,9 @@ module _ (s : Set) (c : Complex) (S : ShowsSet s c) (h : Plane) (y : Place) (on 
 
   pub flat-listed : (i : ℕ) × IsAt c.index.planes i h
   flat-listed = (S.index.planes h).0 flat-item
+
+-- a point that is no vertex and lies on none of the listed edges is none that the plane meets
+pub unmet : (c : Complex) (h : Form) (y : Place) (ns : List ℕ) → AreNumbersWith (EdgeLiesIn c.vertices c.edges h) ns → ((k : ℕ) → IsVertexPoint (complex_of c) k y → ⊥)
+    → ((i k : ℕ) → IsAt ns i k → IsEdgePoint (complex_of c) k y → ⊥) → (m : PlaneMeet) → Meets (complex_of c) h m y → ⊥
+unmet c h y ns N off none (meets_vertex k) x = off k x
+unmet c h y ns N off none (meets_edge k) (x, l) = let i = N.all k (edge-lies c h k l) in none i.0 k i.1 x

@@ -1,8 +1,8 @@
 -- The side above what the ray down first meets is that of the point; each place has its number of flat directions.
-use Rattle.std.proofs.Common.{◌≡◌, ℕ, pos, arith, refl, sym, ap, ⊎_elim, Some, subst, slice_get}
+use Rattle.std.proofs.Common.{◌≡◌, ℕ, pos, arith, refl, sym, ap, Some, subst, slice_get}
 use Rattle.std.proofs.lemmas.Int.{ints}
 use Rattle.nef_space.specs.Local.{FlatDim}
-use Rattle.nef_space.specs.Place.{Place as PlainPlace, InClosedFrame, IsAhead}
+use Rattle.nef_space.specs.Place.{Place as PlainPlace, SamePlace, InClosedFrame, IsAhead}
 use Rattle.nef_space.specs.Sets.{Set}
 use Rattle.nef_space.specs.Vectors.{Vector, up, opposite, plane_axis}
 use Rattle.nef_space.specs.declared.label.Label.{Label}
@@ -14,9 +14,10 @@ use Rattle.nef_smap.specs.Sides.{IsSide, SideSees}
 use Rattle.nef_smap.proofs.SideLists.{side-has}
 use Rattle.nef_smap.proofs.SideNumbers.{side-number}
 use Rattle.law_complex.specs.Complexes.{Complex as PlainComplex}
-use Rattle.law_complex.specs.Skeleton.{at_vertex, on_edge, in_facet, IsVertexPoint, IsEdgePoint, IsOnEdges, IsSkeletonPoint, PlaneMeet, meets_vertex, meets_edge, IsCornerAt, HasCorner, item_plane}
+use Rattle.law_complex.specs.Skeleton.{at_vertex, on_edge, in_facet, IsVertexPoint, IsEdgePoint, IsSkeletonPoint, PlaneMeet, meets_vertex, meets_edge, IsCornerAt, HasCorner, item_plane}
 use Rattle.law_complex.specs.Rays.{SeesNear, RayDown}
 use Rattle.law_complex.proofs.Edges.{edge-points}
+use Rattle.law_complex.proofs.EqualPoints.{vertex-same, edge-same, corner-same}
 use Rattle.law_complex.proofs.FacetNames.{facet-of}
 use Rattle.law_complex.proofs.FacetWays.{dim-same}
 use Rattle.law_complex.proofs.Skeletons.{way-ends}
@@ -128,9 +129,12 @@ pub meet-at : (D : PlainComplex) (y : PlainPlace) (m : PlaneMeetValue) → IsMet
 meet-at D y (AtVertex k) v = vertex-at D y k v
 meet-at D y (AtEdge k) e = edge-at D y k e
 
--- where no vertex and no edge is, only a facet is left
-pub off-edges : (D : PlainComplex) (y : PlainPlace) → ((k : ℕ) → IsVertexPoint D k y → ⊥) → ((k : ℕ) → IsEdgePoint D k y → ⊥) → IsOnEdges D y → ⊥
-off-edges D y n m (k, o) = ⊎_elim (n k) (m k) o
+-- what lies at a place of the skeleton lies there with each equal point
+pub skeleton-same : (D : PlainComplex) (x y : PlainPlace) → SamePlace x y → (a : Place) → IsSkeletonAt D x a → IsSkeletonAt D y a
+skeleton-same D x y e (place.Vertex k) A = vertex-at D y k (vertex-same x y e D k A.at)
+skeleton-same D x y e (place.OnEdge k) A = edge-at D y k (edge-same x y e D k A.at)
+skeleton-same D x y e (place.InFacet k) A = corner-at D y k (corner-same D x y e (corner_of k) A.at)
+skeleton-same D x y e (place.InVolume i j) A = let h = A.at in absurd (h.3.0 A.skeleton)
 
 -- the vertices stand in order
 pub vertices-sorted : (s : Set) (c : Complex) → ShowsSet s c → AreSorted c.vertices

@@ -23,6 +23,7 @@ use Rattle.law_complex.specs.Complexes.{Complex as PlainComplex}
 use Rattle.law_complex.specs.Laws.{IsFlatIn}
 use Rattle.law_complex.specs.Skeleton.{IsOnEdges, IsSkeletonPoint}
 use Rattle.law_complex.proofs.FacetEdges.{ahead-back}
+use Rattle.law_complex.proofs.FacetWays.{meets-on}
 use Rattle.nef_complex.proofs.Lines.{one-crossing}
 use Rattle.nef_plane.proofs.Found.{not-end}
 use Rattle.nef_plane.proofs.Nearest.{between-ahead}
@@ -112,7 +113,7 @@ module _ (s : Set) (c : Complex) (S : ShowsSet s c) (p : PlainPlace) (d : Vector
   not-before : (best : Option Met) → HasNoneBefore (complex_of c) p d best → AllMet best → (y : PlainPlace) → IsAhead p d y → IsSkeletonPoint (complex_of c) y → IsNotBefore p y best
   not-before best E A y w o =
       let k = skeleton-carrier s c S y o in
-      ⊎_elim (E y w)
+      ⊎_elim (λ m. E y w (meets-on s (complex_of c) S.shows (form_of k.plane) m.0 y m.1))
       (λ f. A k.number k.plane k.listed y (crossed s c S p y d u w k) f) k.found
 
   pub first-none : HasNoneBefore (complex_of c) p d None → AllMet None → (y : PlainPlace) → IsAhead p d y → IsSkeletonPoint (complex_of c) y → ⊥

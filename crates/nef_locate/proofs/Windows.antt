@@ -1,4 +1,4 @@
--- Points of the frame ahead of a point lie within its window, and edges and facets of a plane within its span.
+-- Points of the frame ahead of a point lie within its window, and vertices, edges and facets of a plane within its span.
 use Rattle.std.proofs.Common.{◌≡◌, ℕ, ◌+◌, ◌*◌, ◌^◌, ◌<◌, ◌≤◌, ℤ, pos, neg_ℤ, ◌+ℤ◌, ◌-ℤ◌, ◌*ℤ◌, ◌<ℤ◌, ◌≤ℤ◌, nat_abs, w64, to_z, of_z, [], ◌∷◌, arith, ap, sym, ◌∙◌, ◌⊎◌, inl, inr, subst}
 use Rattle.std.proofs.lemmas.Int.{ints, to_z-of_z, fits_signed_from_abs}
 use Rattle.law_arithmetic.proofs.Order.{by_order, mul_pos, mul_nonneg}
@@ -14,14 +14,16 @@ use Rattle.nef_geo.specs.Shapes.{place_of}
 use Rattle.nef_smap.proofs.Lists.{at-map}
 use Rattle.nef_smap.proofs.SideLists.{get-from_at}
 use Rattle.law_complex.specs.Complexes.{Vertex as PlainVertex}
-use Rattle.law_complex.specs.Laws.{IsFlatIn}
+use Rattle.law_complex.specs.Skeleton.{meets_vertex, meets_edge}
 use Rattle.law_complex.specs.Spans.{Coordinate, coordinate_x, coordinate_y, coordinate_z, EachVertexOn, EachPointOn, IsWithin, IsJustAbove}
 use Rattle.law_complex.proofs.Spans.{plane-within, stays-close}
 use Rattle.nef_complex.specs.declared.complex.Complex.{Complex}
+use Rattle.nef_complex.specs.declared.spans.Bounds.{Bounds}
 use Rattle.nef_complex.specs.declared.spans.Span.{Span}
 use Rattle.nef_complex.specs.Complexes.{vertex_of, complex_of, ShowsSet}
 use Rattle.nef_complex.specs.Index.{IsSpanOn}
 use Rattle.nef_complex.specs.Spans.{IsInSpan}
+use Rattle.nef_locate.specs.Rays.{IsSkeletonIn}
 use Rattle.nef_locate.specs.Windows.{IsReached}
 
 -- ---- bounds and reaches that hold a number in common
@@ -119,7 +121,7 @@ pub ray-close : (p q : Place) (d : Vector) → IsUpright d → InClosedFrame p �
 ray-close p q d (inl e) i j a = let c = (stays-close p q i j).0 (subst (λ (v : Vector). IsAhead p v q) e a) in (inl c.0, inl c.1)
 ray-close p q d (inr e) i j a = let c = (stays-close p q i j).1 (subst (λ (v : Vector). IsAhead p v q) e a) in (inr c.0, inr c.1)
 
--- ---- vertices, edges and facets lie within the span of their plane
+-- ---- what a plane holds of the skeleton lies within its span
 module _ (s : Set) (c : Complex) (S : ShowsSet s c) (h : Form) (span : Span) (B : IsSpanOn c.vertices h span) where
   each : (d : Coordinate) (low high : ℤ) → ((p : Place) → IsInSpan span p → IsWithin d low high p) → EachVertexOn (complex_of c) h (IsWithin d low high)
   each d low high part k v a e =
@@ -127,15 +129,13 @@ module _ (s : Set) (c : Complex) (S : ShowsSet s c) (h : Form) (span : Span) (B 
       subst (λ (r : PlainVertex). IsWithin d low high r.point) w.2
       (part (place_of w.0.point) (B k w.0 (get-from_at c.vertices k w.0 w.1) (subst (λ (r : PlainVertex). form_at h r.point ≡ pos 0) (sym w.2) e)))
 
-  pub plane-spanned : EachPointOn s (complex_of c) h (IsInSpan span)
-  plane-spanned =
-      let x = plane-within s (complex_of c) S.shows h coordinate_x span.x.low span.x.high (each coordinate_x span.x.low span.x.high (λ p i. i.0)) in
-      let y = plane-within s (complex_of c) S.shows h coordinate_y span.y.low span.y.high (each coordinate_y span.y.low span.y.high (λ p i. i.1)) in
-      let z = plane-within s (complex_of c) S.shows h coordinate_z span.z.low span.z.high (each coordinate_z span.z.low span.z.high (λ p i. i.2)) in (
-        λ k p i on. (x.0 k p i on, y.0 k p i on, z.0 k p i on),
-        λ k p i l. (x.1 k p i l, y.1 k p i l, z.1 k p i l),
-        λ p on f. (x.2 p on f, y.2 p on f, z.2 p on f),
-      )
+  spanned-along : (d : Coordinate) (b : Bounds) → ((p : Place) → IsInSpan span p → IsWithin d b.low b.high p) → (y : Place) → form_at h y ≡ pos 0 → IsSkeletonIn s (complex_of c) h y → IsWithin d b.low b.high y
+  spanned-along d b part y on = by (plane-within s (complex_of c) S.shows h d b.low b.high (each d b.low b.high part))
+    where
+      by : EachPointOn s (complex_of c) h (IsWithin d b.low b.high) → IsSkeletonIn s (complex_of c) h y → IsWithin d b.low b.high y
+      by w (inl (meets_vertex k, x)) = w.0 k y x on
+      by w (inl (meets_edge k, x)) = w.1 k y x.0 x.1
+      by w (inr f) = w.2 y on f
 
-  pub facet-spanned : (y : Place) → form_at h y ≡ pos 0 → IsFlatIn s h y → IsInSpan span y
-  facet-spanned y on f = plane-spanned.2 y on f
+  pub spanned : (y : Place) → form_at h y ≡ pos 0 → IsSkeletonIn s (complex_of c) h y → IsInSpan span y
+  spanned y on i = (spanned-along coordinate_x span.x (λ p j. j.0) y on i, spanned-along coordinate_y span.y (λ p j. j.1) y on i, spanned-along coordinate_z span.z (λ p j. j.2) y on i)

@@ -12,7 +12,7 @@ use Rattle.law_sphere.specs.Maps.{Side}
 use Rattle.law_complex.specs.Complexes.{Complex}
 use Rattle.law_complex.specs.Laws.{IsFlatIn}
 use Rattle.law_complex.specs.Rays.{IsAbove}
-use Rattle.law_complex.specs.Skeleton.{Spot, IsSpot, IsOnEdges, IsSkeletonPoint}
+use Rattle.law_complex.specs.Skeleton.{Spot, IsSpot, IsOnEdges, IsSkeletonPoint, PlaneMeet as PlainMeet, Meets}
 use Rattle.nef_complex.specs.declared.complex.Complex.{Complex as ProgramComplex}
 use Rattle.nef_complex.specs.declared.complex.PlaneMeet.{PlaneMeet}
 use Rattle.nef_complex.specs.declared.complex.PlaneMeet.TheVariants.{AtVertex, AtEdge}
@@ -28,9 +28,9 @@ pub record IsSkeletonAt (C : Complex) (y : PlainPlace) (a : Place) : Type 0 wher
   pub at : IsPlaceAt C y a
   pub skeleton : IsSkeletonPoint C y
 
--- y is a vertex, lies on an edge, or in a facet of the plane
+-- y is a vertex, or lies on an edge in the plane, or in a facet of the plane
 abbrev pub IsSkeletonIn : Set → Complex → Form → PlainPlace → Type 0
-IsSkeletonIn s C h y = IsOnEdges C y ⊎ IsFlatIn s h y
+IsSkeletonIn s C h y = ((m : PlainMeet) × Meets C h m y) ⊎ IsFlatIn s h y
 
 -- the place at the vertex or on the edge
 abbrev pub place_of_meet : PlaneMeet → Place

@@ -9,13 +9,11 @@ ghost use Rattle.nef_space.specs.Sets.{Set};
 ghost use Rattle.nef_geo.specs.Hits.{IsPlaceAtMost};
 ghost use Rattle.nef_geo.specs.Shapes.{form_of, place_of, hit_place};
 ghost use Rattle.nef_geo.specs.Widths.{upright_limit, upright_weight_limit};
-ghost use Rattle.nef_geo.specs.declared.plane.Plane.{Plane};
-ghost use Rattle.law_sphere.specs.Maps.{At};
-ghost use Rattle.law_complex.specs.Laws.{IsFlatIn};
-ghost use Rattle.law_complex.specs.Skeleton.{IsEdgePoint, IsOnEdges, IsSkeletonPoint, HasCorner};
-ghost use Rattle.nef_complex.specs.Complexes.{complex_of, corner_of, ShowsSet, AreBelow, AreAbove};
+ghost use Rattle.law_complex.specs.Skeleton.{IsEdgePoint, IsSkeletonPoint};
+ghost use Rattle.nef_complex.specs.Complexes.{complex_of, ShowsSet, AreBelow, AreAbove};
+ghost use Rattle.nef_complex.specs.Index.{AreWithin};
 ghost use Rattle.nef_locate.specs.Places.{IsPlaceIn, IsPlaceAt, place_dimension};
-ghost use Rattle.nef_locate.specs.Rays.{IsSkeletonAt, PartsVertices};
+ghost use Rattle.nef_locate.specs.Rays.{IsSkeletonAt, IsSkeletonIn, PartsVertices};
 ghost use Rattle.nef_locate.specs.Windows.{IsInWindow};
 
 use crate::above::side_above;
@@ -23,48 +21,9 @@ use crate::facet::in_facet;
 use crate::place::Place;
 use crate::ray::first_hit;
 use crate::window::{Window, may_hold, point_window};
-use nef_complex::{Complex, Corner, Edge, carrier_span, find_vertex};
+use nef_complex::{Complex, Edge, carrier_items, carrier_span, find_vertex};
 use nef_geo::{Hit, Plane, Point, Sign, hit_at, hit_side, up};
 use nef_plane::is_on_edge;
-
-// The corner of a point in a facet of the carrier with this number. The point lies within the window.
-fn corner_in(c: &Complex, number: usize, h: &Plane, q: &Hit, window: &Window) -> Option<Corner>
-    requires shows { (s : Set) × ShowsSet s c.now }
-    requires number { IsAt c.now.carriers number h.now }
-    requires window { IsInWindow window.now (hit_place q.now) }
-    requires framed { InClosedFrame (hit_place q.now) }
-    requires off { IsOnEdges (complex_of c.now) (hit_place q.now) → ⊥ }
-    requires numbers { IsPlaceAtMost upright_limit upright_weight_limit (hit_place q.now) }
-    ensures corner { IfSome result (λ k. HasCorner (complex_of c.now) (hit_place q.now) (corner_of k)) }
-    ensures none { IsNone result → (s : Set) → ShowsSet s c.now → form_at (form_of h.now) (hit_place q.now) ≡ pos 0 → IsFlatIn s (form_of h.now) (hit_place q.now) → ⊥ }
-{
-    if !may_hold(carrier_span(c, number), window) {
-        return None;
-    }
-    if hit_side(h, q) == Sign::Zero {
-        in_facet(c, h, q)
-    } else {
-        None
-    }
-}
-
-// The corner of a point in a facet. The point lies within the window.
-fn corner_at(c: &Complex, q: &Hit, window: &Window) -> Option<Corner>
-    requires shows { (s : Set) × ShowsSet s c.now }
-    requires window { IsInWindow window.now (hit_place q.now) }
-    requires framed { InClosedFrame (hit_place q.now) }
-    requires off { IsOnEdges (complex_of c.now) (hit_place q.now) → ⊥ }
-    requires numbers { IsPlaceAtMost upright_limit upright_weight_limit (hit_place q.now) }
-    ensures corner { IfSome result (λ k. HasCorner (complex_of c.now) (hit_place q.now) (corner_of k)) }
-    ensures none { IsNone result → IsSkeletonPoint (complex_of c.now) (hit_place q.now) → ⊥ }
-{
-    for number in 0..c.carriers.len() {
-        if let Some(corner) = corner_in(c, number, c.carriers.at(number), q, window) {
-            return Some(corner);
-        }
-    }
-    None
-}
 
 // Whether the first vertices, so many of them, have the lower end of the edge among them and not the upper one.
 fn is_parted(edge: &Edge, before: usize) -> bool
@@ -84,18 +43,68 @@ fn is_on(c: &Complex, number: usize, before: usize, hit: &Hit) -> bool
     is_parted(c.edges.at(number), before) && is_on_edge(c, number, hit)
 }
 
-// The number of the edge on which the hit lies, a point before which so many vertices come.
-fn edge_at(c: &Complex, before: usize, hit: &Hit) -> Option<usize>
+// Of the edges with these numbers that on which the hit lies, a point before which so many vertices come.
+fn edge_among(c: &Complex, numbers: &[usize], before: usize, hit: &Hit) -> Option<usize>
     requires shows { (s : Set) × ShowsSet s c.now }
+    requires within { AreWithin c.now.edges numbers.now }
     requires parts { PartsVertices c.now hit.now before }
-    ensures edge { MatchOption result ((k : ℕ) → IsEdgePoint (complex_of c.now) k (hit_place hit.now) → ⊥) (λ k. IsEdgePoint (complex_of c.now) k (hit_place hit.now)) }
+    ensures edge { MatchOption result ((i k : ℕ) → IsAt numbers.now i k → IsEdgePoint (complex_of c.now) k (hit_place hit.now) → ⊥) (λ k. IsEdgePoint (complex_of c.now) k (hit_place hit.now)) }
 {
-    for number in 0..c.edges.len() {
-        if is_on(c, number, before, hit) {
-            return Some(number);
+    for number in numbers {
+        if is_on(c, *number, before, hit) {
+            return Some(*number);
         }
     }
     None
+}
+
+// The edge or the facet of the carrier with this number on which a point of the carrier lies that is no vertex. So many
+// vertices come before it, and the others after it.
+fn spot_on(c: &Complex, number: usize, h: &Plane, before: usize, q: &Hit) -> Option<Place>
+    requires shows { (s : Set) × ShowsSet s c.now }
+    requires number { IsAt c.now.carriers number h.now }
+    requires on { form_at (form_of h.now) (hit_place q.now) ≡ pos 0 }
+    requires framed { InClosedFrame (hit_place q.now) }
+    requires parts { PartsVertices c.now q.now before }
+    requires numbers { IsPlaceAtMost upright_limit upright_weight_limit (hit_place q.now) }
+    ensures at { IfSome result (IsSkeletonAt (complex_of c.now) (hit_place q.now)) }
+    ensures none { IsNone result → (s : Set) → ShowsSet s c.now → IsSkeletonIn s (complex_of c.now) (form_of h.now) (hit_place q.now) → ⊥ }
+{
+    if let Some(edge) = edge_among(c, carrier_items(c, number).edges, before, q) {
+        return Some(Place::OnEdge(edge));
+    }
+    match in_facet(c, h, q) {
+        Some(corner) => Some(Place::InFacet(corner)),
+        None => None,
+    }
+}
+
+// The same of any point that lies within the window. What the carrier holds of the skeleton lies within the carrier's span.
+fn spot_in(
+    c: &Complex,
+    number: usize,
+    h: &Plane,
+    before: usize,
+    q: &Hit,
+    window: &Window,
+) -> Option<Place>
+    requires shows { (s : Set) × ShowsSet s c.now }
+    requires number { IsAt c.now.carriers number h.now }
+    requires window { IsInWindow window.now (hit_place q.now) }
+    requires framed { InClosedFrame (hit_place q.now) }
+    requires parts { PartsVertices c.now q.now before }
+    requires numbers { IsPlaceAtMost upright_limit upright_weight_limit (hit_place q.now) }
+    ensures at { IfSome result (IsSkeletonAt (complex_of c.now) (hit_place q.now)) }
+    ensures none { IsNone result → (s : Set) → ShowsSet s c.now → form_at (form_of h.now) (hit_place q.now) ≡ pos 0 → IsSkeletonIn s (complex_of c.now) (form_of h.now) (hit_place q.now) → ⊥ }
+{
+    if !may_hold(carrier_span(c, number), window) {
+        return None;
+    }
+    if hit_side(h, q) == Sign::Zero {
+        spot_on(c, number, h, before, q)
+    } else {
+        None
+    }
 }
 
 // Where a point of the skeleton lies that is no vertex. So many vertices come before it, and the others after it.
@@ -108,13 +117,13 @@ fn off_vertices(c: &Complex, p: &Point, before: usize) -> Option<Place>
     ensures none { IsNone result → IsSkeletonPoint (complex_of c.now) (place_of p.now) → ⊥ }
 {
     let hit = hit_at(p);
-    if let Some(number) = edge_at(c, before, &hit) {
-        return Some(Place::OnEdge(number));
+    let window = point_window(p);
+    for number in 0..c.carriers.len() {
+        if let Some(spot) = spot_in(c, number, c.carriers.at(number), before, &hit, &window) {
+            return Some(spot);
+        }
     }
-    match corner_at(c, &hit, &point_window(p)) {
-        Some(corner) => Some(Place::InFacet(corner)),
-        None => None,
-    }
+    None
 }
 
 // Where a point of the skeleton lies.

@@ -9,9 +9,8 @@ use Rattle.law_sphere.specs.Maps.{At}
 use Rattle.nef_classes.proofs.ClassLists.{is-at_one}
 use Rattle.nef_smap.proofs.Lists.{at-map}
 use Rattle.nef_smap.proofs.SideLists.{get-from_at}
-use Rattle.law_complex.specs.Complexes.{HasEnds}
 use Rattle.law_complex.specs.Complexes.{Vertex as PlainVertex, Edge as PlainEdge}
-use Rattle.law_complex.specs.Skeleton.{PlaneMeet}
+use Rattle.law_complex.specs.Skeleton.{PlaneMeet, LiesIn}
 use Rattle.nef_complex.specs.declared.complex.Vertex.{Vertex}
 use Rattle.nef_complex.specs.declared.complex.Edge.{Edge}
 use Rattle.nef_complex.specs.declared.complex.Complex.{Complex}
@@ -32,12 +31,13 @@ held-edge vs es h k e u v a i j (f, l, m, n) =
     let o = is-at_one es k f e l a in
     (held-vertex vs h e.low u i (subst (λ (r : Edge). LiesOn vs h r.low) o m), held-vertex vs h e.high v j (subst (λ (r : Edge). LiesOn vs h r.high) o n))
 
+-- a vertex on the plane is on it as one of the program's, and an edge in it lies there as one
 module _ (c : Complex) (h : Form) where
   pub lies : (k : ℕ) (x : PlainVertex) → At (complex_of c).vertices k x → form_at h x.point ≡ pos 0 → LiesOn c.vertices h k
   lies k x a i = let v = at-map vertex_of c.vertices k x a in (v.0, get-from_at c.vertices k v.0 v.1, subst (λ (r : PlainVertex). form_at h r.point ≡ pos 0) (sym v.2) i)
 
-  pub edge-lies : (k : ℕ) (e : PlainEdge) (v w : PlainVertex) → At (complex_of c).edges k e → HasEnds (complex_of c) e v w → HoldsBoth h v.point w.point → EdgeLiesIn c.vertices c.edges h k
-  edge-lies k e v w a H (i, j) =
+  pub edge-lies : (k : ℕ) → LiesIn (complex_of c) h k → EdgeLiesIn c.vertices c.edges h k
+  edge-lies k (e, v, w, a, H, i, j) =
       let f = at-map edge_of c.edges k e a in (
         f.0,
         get-from_at c.edges k f.0 f.1,
@@ -53,4 +53,4 @@ module _ (c : Complex) (h : Form) (p : Place) (d : Vector) (ns : List ℕ) where
       N.all k (v.0, get-from_at c.vertices k v.0 v.1, level-same h q (place_of v.0.point) s (ahead-level h p d q w some on z))
 
   pub edge-listed : AreNumbersWith (EdgeLiesIn c.vertices c.edges h) ns → (k : ℕ) (m : PlaneMeet) (q : Place) → IsAhead p d q → AtEdgeNumber (complex_of c) h d k m q → (j : ℕ) × IsAt ns j k
-  edge-listed N k m q w (o, e, v, x, a, H, b, i, n) = N.all k (edge-lies c h k e v x a H i)
+  edge-listed N k m q w (o, e, v, x, a, H, b, (i, j), n) = N.all k (edge-lies c h k (e, v, x, a, H, i, j))

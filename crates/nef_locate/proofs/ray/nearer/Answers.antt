@@ -1,4 +1,4 @@
-use Rattle.std.proofs.Common.{refl, rules, IsTrue}
+use Rattle.std.proofs.Common.{refl, rules, IsTrue, inr}
 use Rattle.nef_geo.specs.Shapes.{form_of, vector_of, place_of, hit_place}
 use Rattle.nef_complex.specs.Complexes.{complex_of}
 use Rattle.law_complex.proofs.FacetWays.{meets-on}
@@ -6,7 +6,7 @@ use Rattle.nef_classes.proofs.ClassLists.{is-at_within}
 use Rattle.nef_plane.proofs.Spanned.{upright-some}
 use Rattle.nef_locate.proofs.Located.{corner-at}
 use Rattle.nef_locate.proofs.RayMeets.{reached-of, none-outside, flat-framed, stays, taken, passed, found, sooner-off}
-use Rattle.nef_locate.proofs.Windows.{facet-spanned}
+use Rattle.nef_locate.proofs.Windows.{spanned}
 use Rattle.nef_locate.proofs.ray.nearer.Goals as goal
 
 pub returns-in_default-clause-plane : goal.returns-in_default-clause-plane
@@ -19,7 +19,7 @@ pub returns-then-not-may_hold-clause-plane : goal.returns-then-not-may_hold-clau
 returns-then-not-may_hold-clause-plane c =
     let off : IsTrue c.may_hold.result → ⊥ = search rules in
     λ s y S X I. absurd (off (c.may_hold.ensures.holds y
-    (facet-spanned s c.args.c.now S (form_of c.args.h.now) c.carrier_span.result.now (c.carrier_span.ensures.span c.args.h.now c.requires.number) y X.on I)
+    (spanned s c.args.c.now S (form_of c.args.h.now) c.carrier_span.result.now (c.carrier_span.ensures.span c.args.h.now c.requires.number) y X.on (inr I))
     (c.requires.window y (flat-framed s c.args.h.now y I) X.ahead)))
 
 pub returns-then-not-is_sooner-clause-plane : goal.returns-then-not-is_sooner-clause-plane
