@@ -7,7 +7,7 @@ use Rattle.law_arithmetic.proofs.Ring.{ring, at, num, neg, ◌⊕◌, ◌⊖◌,
 use Rattle.nef_space.specs.Limits.{half_side}
 use Rattle.nef_space.specs.Local.{FlatDim}
 use Rattle.nef_space.specs.declared.label.Label.TheVariants.{Out}
-use Rattle.nef_space.specs.Place.{Place as PlainPlace, Form, form_at, slope, normal_of, toward, InFrame, InClosedFrame, step, IsAhead, IsBetween}
+use Rattle.nef_space.specs.Place.{Place as PlainPlace, Form, form_at, InFrame, InClosedFrame, step, IsAhead}
 use Rattle.nef_space.specs.Sets.{Set}
 use Rattle.nef_space.specs.Vectors.{Vector, vector}
 use Rattle.nef_geo.specs.Hits.{IsUpright, IsCrossing}
@@ -18,20 +18,18 @@ use Rattle.law_near.proofs.Alike.{flat-germ}
 use Rattle.law_near.proofs.Decided.{InFrame-decided}
 use Rattle.law_near.proofs.Even.{span-3}
 use Rattle.law_near.proofs.Meets.{vertex-meets}
-use Rattle.law_near.proofs.Supports.{edge-support, facet-support}
+use Rattle.law_near.proofs.Supports.{facet-support}
 use Rattle.law_sphere.specs.Maps.{At}
-use Rattle.law_sphere.proofs.Compare.{SameDirection-turned}
 use Rattle.nef_smap.proofs.Lists.{at-map}
-use Rattle.law_complex.specs.Complexes.{Vertex, Edge, HasEnds}
 use Rattle.law_complex.specs.Shows.{SamePlane}
-use Rattle.law_complex.specs.Skeleton.{at_vertex, on_edge, in_facet, IsSkeletonPoint, meets_vertex, meets_edge, LiesIn}
+use Rattle.law_complex.specs.Skeleton.{at_vertex, on_edge, in_facet, IsSkeletonPoint, meets_vertex, meets_edge}
 use Rattle.law_complex.proofs.Planes.{plane-turned, plane-point, plane-slope}
-use Rattle.law_complex.proofs.FacetSides.{level-way}
-use Rattle.law_complex.proofs.FacetWays.{dim-same, plane-back, plane-onward}
-use Rattle.law_complex.proofs.Edges.{edge-points, edge-way}
-use Rattle.law_complex.proofs.Ways.{between-way}
+use Rattle.law_complex.proofs.FacetWays.{dim-same}
+use Rattle.law_complex.proofs.Ways.{between-ends}
 use Rattle.nef_complex.specs.declared.complex.Complex.{Complex}
 use Rattle.nef_complex.specs.Complexes.{complex_of, ShowsSet}
+use Rattle.nef_complex.proofs.Parted.{held-between}
+use Rattle.nef_plane.proofs.Crossed.{edge-carried}
 use Rattle.nef_plane.proofs.Spanned.{plane-upright}
 use Rattle.nef_locate.specs.Rays.{IsSkeletonIn}
 use Rattle.nef_locate.proofs.Cones.{facet-at}
@@ -88,14 +86,6 @@ module _ (s : Set) (c : Complex) (S : ShowsSet s c) where
       let same : SamePlane (form_of g.0) f = subst (λ (k : Form). SamePlane k f) (sym g.2) r.3 in
       record { number = r.0; plane = g.0; listed = g.1; same = same; on = plane-point f (form_of g.0) y (plane-turned (form_of g.0) f same) (nought-is (form_at f y) o) }
 
-  -- a plane in which an edge is flat and which passes through one of its points holds both of its ends
-  edge-in : (f : Form) (k : ℕ) (e : Edge) (v w : Vertex) (y : PlainPlace) → At (complex_of c).edges k e → HasEnds (complex_of c) e v w → IsBetween v.point y w.point → slope f (toward v.point w.point) ≡ pos 0 → form_at f y ≡ pos 0
-      → LiesIn (complex_of c) f k
-  edge-in f k e v w y a H b l on =
-      let to-y = level-way (normal_of f) (toward v.point w.point) (toward v.point y) (SameDirection-turned (toward v.point y) (toward v.point w.point) (between-way v.point y w.point b)) l in
-      let low = plane-back f v.point y to-y on in
-      (e, v, w, a, H, low, plane-onward f v.point w.point l low)
-
   -- a carrier on which the skeleton point lies, as a vertex, on an edge in the plane, or in a facet of the plane
   pub record SkeletonCarrier (y : PlainPlace) : Type 0 where
     pub number : ℕ
@@ -110,13 +100,8 @@ module _ (s : Set) (c : Complex) (S : ShowsSet s c) where
       let g = carrier-at m.first y m.first_in m.first_at in
       record { number = g.number; plane = g.plane; listed = g.listed; on = g.on; found = inl (meets_vertex k, (v, a, e)) }
   skeleton-carrier y (on_edge k, (e, v, w, a, H, b)) =
-      let P = edge-points s (complex_of c) k e v w y S.shows a H b in
-      let E = edge-support s y P.0 in
-      let g = carrier-at E.first y E.first_listed E.first_passes in
-      let t = toward v.point w.point in
-      let l = ((E.flat_in t).0 ((P.1 t).1 (edge-way s (complex_of c) k e v w S.shows a H))).0 in
-      let level = plane-slope E.first (form_of g.plane) t (plane-turned (form_of g.plane) E.first g.same) l in
-      record { number = g.number; plane = g.plane; listed = g.listed; on = g.on; found = inl (meets_edge k, ((e, v, w, a, H, b), edge-in (form_of g.plane) k e v w y a H b level g.on)) }
+      let g = edge-carried s c S.shows k e v w a H (between-ends v.point y w.point b) in
+      record { number = g.0; plane = g.1; listed = g.2; on = held-between (form_of g.1) v.point w.point y b g.3; found = inl (meets_edge k, ((e, v, w, a, H, b), (e, v, w, a, H, g.3.0, g.3.1))) }
   skeleton-carrier y (in_facet k, (v, x, a, F)) =
       let dim = (facet-at s (complex_of c) S.shows k v x y a F).0 in
       let E = facet-support s y dim in

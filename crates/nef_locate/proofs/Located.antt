@@ -29,11 +29,11 @@ use Rattle.nef_complex.specs.declared.complex.PlaneMeet.{PlaneMeet as PlaneMeetV
 use Rattle.nef_complex.specs.declared.complex.PlaneMeet.TheVariants.{AtVertex, AtEdge}
 use Rattle.nef_complex.specs.declared.complex.Vertex.{Vertex}
 use Rattle.nef_complex.specs.Complexes.{vertex_of, edge_of, complex_of, corner_of, meet_of, AreSorted, ShowsSet}
-use Rattle.nef_plane.specs.Upright.{IsMetAt}
 use Rattle.nef_locate.specs.declared.place.Place.{Place}
 use Rattle.nef_locate.specs.declared.place.Place.TheVariants as place
 use Rattle.nef_locate.specs.Places.{IsPlaceIn, IsPlaceAt, IsFirstHit, place_dimension}
 use Rattle.nef_locate.specs.Rays.{IsSkeletonAt, IsOfSkeleton, IsSideAbove, place_of_meet}
+use Rattle.nef_locate.specs.Upright.{IsMetAt}
 use Rattle.nef_locate.proofs.CarrierPoints.{closed-inside}
 use Rattle.nef_locate.proofs.Cones.{facet-at}
 use Rattle.nef_locate.proofs.Marks.{image-read}

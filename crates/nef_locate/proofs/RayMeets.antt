@@ -3,6 +3,7 @@ use Rattle.std.proofs.Common.{◌≡◌, ℕ, ◌*◌, ◌<◌, ◌≤◌, nat_a
 use Rattle.std.proofs.lemmas.Bool.{cases_lt}
 use Rattle.std.proofs.lemmas.Int.{ints}
 use Rattle.nef_space.specs.Limits.{half_side}
+use Rattle.nef_space.specs.Local.{FlatDim}
 use Rattle.law_arithmetic.proofs.Ring.{ring, at, neg, ◌⊕◌, ◌⊗◌}
 use Rattle.nef_space.specs.Place.{Place as PlainPlace, SamePlace, InClosedFrame, toward, IsAhead, IsBetween}
 use Rattle.nef_space.specs.Sets.{Set}
@@ -51,20 +52,26 @@ pub reached-of : (D : PlainComplex) (p : PlainPlace) (d : Vector) (best : Option
 reached-of D p d None M = tt
 reached-of D p d (Some m) M = M.reached
 
--- ---- outside the closed frame there is no facet
-pub none-outside : (s : Set) (h : Plane) (y : PlainPlace) → (InClosedFrame y → ⊥) → IsFlatIn s (form_of h) y → ⊥
-none-outside s h y n f = let e = FlatDim-one s y 2 3 f.0 (flat_dim-outside s y n) in omega arith
+-- ---- outside the closed frame there is no skeleton
+dim-outside : (s : Set) (y : PlainPlace) (n : ℕ) → n < 3 → (InClosedFrame y → ⊥) → FlatDim s y n → ⊥
+dim-outside s y n l o f = let e = FlatDim-one s y n 3 f (flat_dim-outside s y o) in omega (arith, l)
 
--- so a facet point lies in it
-pub flat-framed : (s : Set) (h : Plane) (y : PlainPlace) → IsFlatIn s (form_of h) y → InClosedFrame y
-flat-framed s h y f = record {
-  along_x = within (nat_abs y.x) (λ l. none-outside s h y (λ i. let k = i.along_x in omega arith) f);
-  along_y = within (nat_abs y.y) (λ l. none-outside s h y (λ i. let k = i.along_y in omega arith) f);
-  along_z = within (nat_abs y.z) (λ l. none-outside s h y (λ i. let k = i.along_z in omega arith) f);
+-- so a point of the skeleton lies in it
+pub dim-framed : (s : Set) (y : PlainPlace) (n : ℕ) → n < 3 → FlatDim s y n → InClosedFrame y
+dim-framed s y n m f = record {
+  along_x = within (nat_abs y.x) (λ l. dim-outside s y n m (λ i. let k = i.along_x in omega arith) f);
+  along_y = within (nat_abs y.y) (λ l. dim-outside s y n m (λ i. let k = i.along_y in omega arith) f);
+  along_z = within (nat_abs y.z) (λ l. dim-outside s y n m (λ i. let k = i.along_z in omega arith) f);
 }
   where
     within : (n : ℕ) → (half_side * y.w < n → ⊥) → n ≤ half_side * y.w
     within n never = ⊎_elim (λ l. absurd (never l)) (λ l. l) (cases_lt (half_side * y.w) n)
+
+pub none-outside : (s : Set) (h : Plane) (y : PlainPlace) → (InClosedFrame y → ⊥) → IsFlatIn s (form_of h) y → ⊥
+none-outside s h y o f = dim-outside s y 2 (omega arith) o f.0
+
+pub flat-framed : (s : Set) (h : Plane) (y : PlainPlace) → IsFlatIn s (form_of h) y → InClosedFrame y
+flat-framed s h y f = dim-framed s y 2 (omega arith) f.0
 
 -- ---- one plane
 module _ (p : PlainPlace) (d : Vector) (h : Plane) (hit : Hit) (X : IsCrossing p d (form_of h) (hit_place hit)) where

@@ -3,3 +3,4 @@ pub mod Rays
 pub mod Ends
 pub mod Facets
 pub mod Windows
+pub mod Upright

@@ -17,6 +17,7 @@ mod point;
 mod ray;
 #[cfg(test)]
 mod tests;
+mod upright;
 mod window;
 
 pub use above::side_above;

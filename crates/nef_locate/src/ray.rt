@@ -17,10 +17,10 @@ ghost use Rattle.nef_locate.specs.Rays.{IsMet, IsReachedMet, IsSooner, IsNotBefo
 use crate::facet::in_facet;
 use crate::hit::is_framed;
 use crate::place::Place;
+use crate::upright::first_on_edges;
 use crate::window::{Window, may_hold, ray_window};
 use nef_complex::{Complex, PlaneMeet, carrier_span};
 use nef_geo::{Dir, Hit, Plane, Point, hit_order, ray_hit};
-use nef_plane::first_on_edges;
 use std::cmp::Ordering;
 
 // A place that a ray meets, and the hit there.
@@ -54,14 +54,15 @@ fn met_place(meet: PlaneMeet) -> Place
     }
 }
 
-// The vertex or the edge that the ray first meets.
-fn met_on_edges(c: &Complex, p: &Point, d: &Dir) -> Option<Met>
+// The vertex or the edge that the ray first meets. All points of the frame ahead lie within the window.
+fn met_on_edges(c: &Complex, p: &Point, d: &Dir, window: &Window) -> Option<Met>
     requires shows { (s : Set) × ShowsSet s c.now }
+    requires window { (q : PlainPlace) → InClosedFrame q → IsAhead (place_of p.now) (vector_of d.now) q → IsInWindow window.now q }
     requires upright { IsUpright (vector_of d.now) }
     ensures met { IfSome result (IsMet (complex_of c.now) (place_of p.now) (vector_of d.now)) }
     ensures edges { HasNoneBefore (complex_of c.now) (place_of p.now) (vector_of d.now) result }
 {
-    let first = first_on_edges(c, p, d)?;
+    let first = first_on_edges(c, p, d, window)?;
     Some(Met {
         place: met_place(first.meet),
         at: first.at,
@@ -121,8 +122,8 @@ pub fn first_hit(c: &Complex, p: &Point, d: &Dir) -> Option<Place>
     ensures some { IfSome result (λ a. IsFirstHit (complex_of c.now) (place_of p.now) (vector_of d.now) a) }
     ensures none { IsNone result → (q : PlainPlace) → IsAhead (place_of p.now) (vector_of d.now) q → IsSkeletonPoint (complex_of c.now) q → ⊥ }
 {
-    let mut best = met_on_edges(c, p, d);
     let window = ray_window(p);
+    let mut best = met_on_edges(c, p, d, &window);
     for number in 0..c.carriers.len() {
         best = nearer(c, number, c.carriers.at(number), p, d, &window, best);
     }

@@ -167,7 +167,7 @@ module _ (s : Set) (c : Complex) (S : Shows s (complex_of c)) where
     edge-amid A = (edge_of e, vertex_of u, vertex_of v, F, E, SameDirection-trans (toward a y) (toward a b) (toward y b) from_low (SameDirection-turned (toward y b) (toward a b) to_high))
       where
         line : IsZero (cross (toward a b) (toward a y))
-        line = edge-along s c S (toward a y) k (edge_of e) (vertex_of u) (vertex_of v) F E t (both-held a b y A)
+        line = edge-along s c S k (edge_of e) (vertex_of u) (vertex_of v) F E t (toward a y) (both-held a b y A)
 
         from_low : SameDirection (toward a y) (toward a b)
         from_low = vertex-ahead e.low (vertex_of u) b y E.low t A (cross-turned (toward a b) (toward a y) line)

@@ -4,10 +4,8 @@ use Rattle.nef_space.specs.Place.{Place, Form, form_at, slope, normal_of, toward
 use Rattle.nef_space.specs.Sets.{Set}
 use Rattle.nef_space.specs.Vectors.{Vector, cross, IsZero, IsDirection}
 use Rattle.nef_geo.specs.Shapes.{place_of}
-use Rattle.law_forms.specs.Homogeneous.{of_place}
-use Rattle.law_forms.proofs.Between.{place-toward, place-factor, factor-place}
+use Rattle.law_forms.proofs.Between.{place-toward}
 use Rattle.law_forms.proofs.Directions.{direction-right}
-use Rattle.law_forms.proofs.Sums.{same-trans}
 use Rattle.law_near.proofs.Between.{between-inner}
 use Rattle.law_near.proofs.Rays.{same-place_sym}
 use Rattle.law_sphere.specs.Maps.{At}
@@ -85,7 +83,7 @@ module _ (s : Set) (c : Complex) (S : Shows s (complex_of c)) (h : Form) (p : Pl
   pub edge-none : ((q : Place) → IsAhead p d q → IsBetween a q b → HoldsBoth h a b → AllHold c.carriers d a b) → (m : PlainMeet) (q : Place) → IsAhead p d q → AtEdgeNumber (complex_of c) h d k m q → ⊥
   edge-none N m q w x =
       let r = inside m q x in
-      r.2 (edge-along s c S d k (edge_of e) (vertex_of u) (vertex_of v) F E (apart s c S k e u v l i j) (N q w r.0 r.1))
+      r.2 (edge-along s c S k (edge_of e) (vertex_of u) (vertex_of v) F E (apart s c S k e u v l i j) d (N q w r.0 r.1))
 
   module _ (x : Encounter) (g : Form) (G : HoldsBoth g a b) (passes : slope g d ≡ pos 0 → ⊥) (m : IsBetween a x.at.place b) (w : IsAhead p d x.at.place) where
     not-along : IsZero (cross (toward a b) d) → ⊥

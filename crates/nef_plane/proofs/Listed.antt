@@ -31,18 +31,19 @@ held-edge vs es h k e u v a i j (f, l, m, n) =
     let o = is-at_one es k f e l a in
     (held-vertex vs h e.low u i (subst (λ (r : Edge). LiesOn vs h r.low) o m), held-vertex vs h e.high v j (subst (λ (r : Edge). LiesOn vs h r.high) o n))
 
--- an edge in the plane lies in it as one of the program's
-pub edge-lies : (c : Complex) (h : Form) (k : ℕ) → LiesIn (complex_of c) h k → EdgeLiesIn c.vertices c.edges h k
-edge-lies c h k (e, v, w, a, H, i, j) =
-    let f = at-map edge_of c.edges k e a in (
-      f.0,
-      get-from_at c.edges k f.0 f.1,
-      lies f.0.low v (subst (λ (r : PlainEdge). At (complex_of c).vertices r.low v) (sym f.2) H.low) i,
-      lies f.0.high w (subst (λ (r : PlainEdge). At (complex_of c).vertices r.high w) (sym f.2) H.high) j,
-    )
-  where
-    lies : (n : ℕ) (x : PlainVertex) → At (complex_of c).vertices n x → form_at h x.point ≡ pos 0 → LiesOn c.vertices h n
-    lies n x b o = let u = at-map vertex_of c.vertices n x b in (u.0, get-from_at c.vertices n u.0 u.1, subst (λ (r : PlainVertex). form_at h r.point ≡ pos 0) (sym u.2) o)
+-- a vertex on the plane is on it as one of the program's, and an edge in it lies there as one
+module _ (c : Complex) (h : Form) where
+  pub lies : (k : ℕ) (x : PlainVertex) → At (complex_of c).vertices k x → form_at h x.point ≡ pos 0 → LiesOn c.vertices h k
+  lies k x a i = let v = at-map vertex_of c.vertices k x a in (v.0, get-from_at c.vertices k v.0 v.1, subst (λ (r : PlainVertex). form_at h r.point ≡ pos 0) (sym v.2) i)
+
+  pub edge-lies : (k : ℕ) → LiesIn (complex_of c) h k → EdgeLiesIn c.vertices c.edges h k
+  edge-lies k (e, v, w, a, H, i, j) =
+      let f = at-map edge_of c.edges k e a in (
+        f.0,
+        get-from_at c.edges k f.0 f.1,
+        lies f.0.low v (subst (λ (r : PlainEdge). At (complex_of c).vertices r.low v) (sym f.2) H.low) i,
+        lies f.0.high w (subst (λ (r : PlainEdge). At (complex_of c).vertices r.high w) (sym f.2) H.high) j,
+      )
 
 module _ (c : Complex) (h : Form) (p : Place) (d : Vector) (ns : List ℕ) where
   pub vertex-listed : IsDirection d → HoldsRay h p d → AreNumbersWith (LiesOn c.vertices h) ns → (k : ℕ) (m : PlaneMeet) (q : Place) → IsAhead p d q → AtVertexNumber (complex_of c) k m q → (j : ℕ) × IsAt ns j k

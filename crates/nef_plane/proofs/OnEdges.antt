@@ -1,5 +1,5 @@
--- What an upright ray meets at a vertex, inside an edge, and first of all.
-use Rattle.std.proofs.Common.{◌≡◌, ℕ, ◌<◌, List, Option, None, length, pos, arith, inl, inr, ◌⊎◌, ⊎_elim, refl, sym, subst}
+-- What an upright ray meets at a vertex and inside an edge.
+use Rattle.std.proofs.Common.{◌≡◌, ℕ, List, Option, None, pos, arith, inl, ⊎_elim, refl, sym, subst}
 use Rattle.std.proofs.lemmas.Int.{ints}
 use Rattle.std.specs.Prelude.{IfSome}
 use Rattle.nef_space.specs.Place.{Place, toward, IsAhead}
@@ -11,27 +11,27 @@ use Rattle.nef_geo.specs.declared.hit.Hit.{Hit}
 use Rattle.nef_geo.specs.declared.plane.Plane.{Plane}
 use Rattle.law_forms.proofs.Between.{between-same}
 use Rattle.law_sphere.specs.Maps.{At}
-use Rattle.nef_smap.proofs.Lists.{map-at, at-map, at-within}
+use Rattle.nef_smap.proofs.Lists.{map-at}
 use Rattle.law_complex.specs.Shows.{Shows}
-use Rattle.law_complex.specs.Skeleton.{PlaneMeet as PlainMeet, meets_vertex, meets_edge, IsVertexPoint, IsEdgePoint, IsOnEdges}
+use Rattle.law_complex.specs.Skeleton.{IsEdgePoint}
 use Rattle.law_complex.proofs.FacetEdges.{ahead-same}
 use Rattle.law_complex.proofs.Ways.{same-itself}
 use Rattle.nef_complex.specs.declared.complex.Vertex.{Vertex}
 use Rattle.nef_complex.specs.declared.complex.Edge.{Edge}
 use Rattle.nef_complex.specs.declared.complex.Complex.{Complex}
 use Rattle.nef_complex.specs.declared.complex.PlaneMeet.TheVariants.{AtVertex, AtEdge}
-use Rattle.nef_complex.specs.Complexes.{vertex_of, edge_of, complex_of, meet_of}
+use Rattle.nef_complex.specs.Complexes.{vertex_of, edge_of, complex_of}
 use Rattle.nef_complex.proofs.Ends.{vertex-same, listed_edge, ends, apart, edge-inside}
 use Rattle.nef_complex.proofs.Lines.{one-crossing}
 use Rattle.nef_plane.specs.Meets.{AreOpposite, reach_of, met_of, IsHitThrough, AllHold, IsWithin, AtVertexNumber, IsNearest, IsNearestMet, IsNearer}
-use Rattle.nef_plane.specs.Upright.{plane_along_x, plane_along_y, InsideEdgeNumber, IsMetAt, IsFirstOnEdges}
+use Rattle.nef_plane.specs.Upright.{plane_along_x, plane_along_z, InsideEdgeNumber}
 use Rattle.nef_plane.specs.declared.along.Met.{Met}
 use Rattle.nef_plane.proofs.Crossed.{edge-along}
 use Rattle.nef_plane.proofs.Found.{not-end}
 use Rattle.nef_plane.proofs.Meeting.{between-opposite}
 use Rattle.nef_plane.proofs.Nearest.{between-ahead}
 use Rattle.nef_plane.proofs.Reached.{through-one, reached-vertex}
-use Rattle.nef_plane.proofs.Spanned.{upright-some, plane-upright, ahead-x, ahead-y}
+use Rattle.nef_plane.proofs.Spanned.{upright-some, plane-upright, ahead-x, ahead-z}
 
 -- where all planes that hold two points would hold an upright direction, none holds both, so they hold each direction
 all-any : (gs : List Plane) (d e : Vector) (a b : Place) → IsUpright d → AllHold gs d a b → AllHold gs e a b
@@ -62,7 +62,7 @@ module _ (s : Set) (c : Complex) (S : Shows s (complex_of c)) (p : Place) (d : V
     -- some plane that isn't along the ray holds it
     not-all : AllHold c.carriers d low high → ⊥
     not-all N =
-        let along = (λ (f : Vector). edge-along s c S f k (edge_of e) (vertex_of v) (vertex_of w) (listed_edge s c S k e v w l i j) (ends s c S k e v w l i j) t (all-any c.carriers d f low high u N)) in
+        let along = (λ (f : Vector). edge-along s c S k (edge_of e) (vertex_of v) (vertex_of w) (listed_edge s c S k e v w l i j) (ends s c S k e v w l i j) t f (all-any c.carriers d f low high u N)) in
         let first = along (vector (pos 1) (pos 0) (pos 0)) in let second = along (vector (pos 0) (pos 1) (pos 0)) in
         t (omega (arith, ints, second.2), omega (arith, ints, first.2), omega (arith, ints, first.1))
       where
@@ -70,10 +70,10 @@ module _ (s : Set) (c : Complex) (S : Shows s (complex_of c)) (p : Place) (d : V
         t = apart s c S k e v w l i j
 
     -- it isn't met, where some plane that holds the ray doesn't part its ends
-    pub unparted : (AreOpposite (plane_along_x p d) low high × AreOpposite (plane_along_y p d) low high → ⊥) → IsNearest met_of p d (InsideEdgeNumber (complex_of c) k) None
+    pub unparted : (AreOpposite (plane_along_x p d) low high × AreOpposite (plane_along_z p d) low high → ⊥) → IsNearest met_of p d (InsideEdgeNumber (complex_of c) k) None
     unparted n = λ m q h x.
         let b = edge-inside s c S k e v w l i j q x.1 in
-        n (between-opposite (plane_along_x p d) low high q b (ahead-x p d q h), between-opposite (plane_along_y p d) low high q b (ahead-y p d q h))
+        n (between-opposite (plane_along_x p d) low high q b (ahead-x p d q h), between-opposite (plane_along_z p d) low high q b (ahead-z p d q h))
 
     -- nor where no plane through it is crossed
     pub uncrossed : ((q : Place) → IsAhead p d q → IsWithin low high q → AllHold c.carriers d low high) → IsNearest met_of p d (InsideEdgeNumber (complex_of c) k) None
@@ -101,33 +101,6 @@ module _ (s : Set) (c : Complex) (S : Shows s (complex_of c)) (p : Place) (d : V
             (through-one p d low high (reach_of at) T q (between-ahead p q (hit_place at) d t T.crosses.ahead) (inl (edge-inside s c S k e v w l i j q f.1)));
       }
 
--- ---- all
-pub inside-within : (c : Complex) (k : ℕ) (m : PlainMeet) (q : Place) → InsideEdgeNumber (complex_of c) k m q → k < length c.edges
-inside-within c k m q (o, (e, v, w, a, H, b)) = let f = at-map edge_of c.edges k e a in at-within c.edges k f.0 f.1
-
 -- the nearer of two has what both have
 pub nearer-has : (B : Met → Type 0) (d : Vector) (a b r : Option Met) → IsNearer met_of d a b r → IfSome a B → IfSome b B → IfSome r B
 nearer-has B d a b r N i j = ⊎_elim (λ (e : r ≡ a). subst (λ (o : Option Met). IfSome o B) (sym e) i) (λ (e : r ≡ b). subst (λ (o : Option Met). IfSome o B) (sym e) j) N.one
-
-abbrev pub AnyOf : Complex → PlainMeet → Place → Type 0
-AnyOf c m q = ((k : ℕ) × AtVertexNumber (complex_of c) k m q) ⊎ ((k : ℕ) × InsideEdgeNumber (complex_of c) k m q)
-
-any-of : (c : Complex) (q : Place) → IsOnEdges (complex_of c) q → (m : PlainMeet) × AnyOf c m q
-any-of c q (k, x) = ⊎_elim (λ (y : IsVertexPoint (complex_of c) k q). (meets_vertex k, inl (k, (refl, y)))) (λ (y : IsEdgePoint (complex_of c) k q). (meets_edge k, inr (k, (refl, y)))) x
-
-any-met : (c : Complex) (m : PlainMeet) (q : Place) → AnyOf c m q → IsMetAt (complex_of c) m q
-any-met c m q = ⊎_elim
-    (λ ((k, (e, x)) : (k : ℕ) × AtVertexNumber (complex_of c) k m q). subst (λ (n : PlainMeet). IsMetAt (complex_of c) n q) (sym e) x)
-    (λ ((k, (e, x)) : (k : ℕ) × InsideEdgeNumber (complex_of c) k m q). subst (λ (n : PlainMeet). IsMetAt (complex_of c) n q) (sym e) x)
-
-module _ (c : Complex) (p : Place) (d : Vector) where
-  pub first-some : (x : Met) → IsNearestMet p d (AnyOf c) (met_of x) → IsFirstOnEdges (complex_of c) p d (record { meet = x.meet; at = x.at })
-  first-some x N = record {
-    reached = N.reached;
-    ahead = N.ahead;
-    met = any-met c (meet_of x.meet) (hit_place x.at) N.met;
-    first = λ q b o. let m = any-of c q o in N.first m.0 q b m.1;
-  }
-
-  pub first-none : IsNearest met_of p d (AnyOf c) None → (q : Place) → IsAhead p d q → IsOnEdges (complex_of c) q → ⊥
-  first-none N q w o = let m = any-of c q o in N m.0 q w m.1

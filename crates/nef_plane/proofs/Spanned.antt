@@ -1,4 +1,4 @@
--- The planes that an upright ray spans with the first two axes: the sides of a point, and the line in which they meet.
+-- The planes that an upright ray spans with the first axis and the third: the sides of a point, and the line in which they meet.
 use Rattle.std.proofs.Common.{◌≡◌, ℕ, ℤ, pos, neg_ℤ, ◌-ℤ◌, ◌*ℤ◌, ◌<ℤ◌, ◌≤◌, nat_abs, List, [], ◌∷◌, inl, inr, w64, arith, ap, sym, ◌∙◌, subst, lit≤}
 use Rattle.std.proofs.lemmas.Int.{ints}
 use mir.Syntax.{w128}
@@ -8,7 +8,7 @@ use Rattle.law_arithmetic.proofs.Machine.{Code, load, wrap, ◌⊟◌, ◌⊠◌
 use Rattle.law_arithmetic.proofs.Ring.{ring, at, num, neg, ◌⊕◌, ◌⊖◌, ◌⊗◌}
 use Rattle.nef_space.specs.Limits.{up_x, point_limit}
 use Rattle.nef_space.specs.Place.{Place, form_at, slope, normal_of, toward, IsAhead}
-use Rattle.nef_space.specs.Vectors.{Vector, dot, up, opposite, beside_x, beside_y, IsAtMost, IsDirection, IsParallel}
+use Rattle.nef_space.specs.Vectors.{Vector, dot, up, opposite, beside_x, beside_z, IsAtMost, IsDirection, IsParallel}
 use Rattle.nef_geo.specs.Hits.{IsUpright}
 use Rattle.nef_geo.specs.Shapes.{form_of, place_of, vector_of}
 use Rattle.nef_geo.specs.Signs.{sign_of}
@@ -19,7 +19,7 @@ use Rattle.nef_geo.specs.declared.sign.Sign.{Sign}
 use Rattle.nef_geo.proofs.Places.{pos_size}
 use Rattle.nef_smap.proofs.Upward.{normal-ahead}
 use Rattle.law_complex.proofs.FacetAngles.{through-at}
-use Rattle.nef_plane.specs.Upright.{gap_limit, plane_along_x, plane_along_y}
+use Rattle.nef_plane.specs.Upright.{gap_limit, plane_along_x, plane_along_z}
 use Rattle.nef_plane.proofs.Sweep.{exact-of, exact-weight, numbers-same}
 
 -- ---- upright directions
@@ -44,9 +44,9 @@ plane-upright g d (inr e) z =
     let r : dot n (opposite up) ≡ neg_ℤ (dot n up) = ring (n.x ∷ n.y ∷ n.z ∷ up.x ∷ up.y ∷ up.z ∷ []) (at 0 ⊗ neg (at 3) ⊕ at 1 ⊗ neg (at 4) ⊕ at 2 ⊗ neg (at 5)) (neg (at 0 ⊗ at 3 ⊕ at 1 ⊗ at 4 ⊕ at 2 ⊗ at 5)) tt in
     omega (arith, ints)
 
-upright-square : (d : Vector) → IsUpright d → pos 0 <ℤ (d.z *ℤ d.z)
-upright-square d (inl e) = subst (λ (v : Vector). pos 0 <ℤ (v.z *ℤ v.z)) (sym e) (omega (arith, ints))
-upright-square d (inr e) = subst (λ (v : Vector). pos 0 <ℤ (v.z *ℤ v.z)) (sym e) (omega (arith, ints))
+upright-square : (d : Vector) → IsUpright d → pos 0 <ℤ (d.y *ℤ d.y)
+upright-square d (inl e) = subst (λ (v : Vector). pos 0 <ℤ (v.y *ℤ v.y)) (sym e) (omega (arith, ints))
+upright-square d (inr e) = subst (λ (v : Vector). pos 0 <ℤ (v.y *ℤ v.y)) (sym e) (omega (arith, ints))
 
 -- ---- what the sides are computed from
 abbrev pub sizes : List ℕ
@@ -87,9 +87,9 @@ module _ (p a : Point) (d : Dir) (r : Sign) (x g y h : ℤ) (sign : r ≡ sign_o
   side-x i j k l = exact ∙ ap sign_of (products-same x g y h d.z T.y d.y T.z i j k l
       ∙ ring (d.y ∷ d.z ∷ T.x ∷ T.y ∷ T.z ∷ []) (at 1 ⊗ at 3 ⊖ at 0 ⊗ at 4) (num (pos 0) ⊗ at 2 ⊕ at 1 ⊗ at 3 ⊕ neg (at 0) ⊗ at 4) tt ∙ sym (through-at (beside_x (vector_of d)) (place_of p) (place_of a)))
 
-  pub side-y : x ≡ d.x → g ≡ T.z → y ≡ d.z → h ≡ T.x → r ≡ sign_of (form_at (plane_along_y (place_of p) (vector_of d)) (place_of a))
-  side-y i j k l = exact ∙ ap sign_of (products-same x g y h d.x T.z d.z T.x i j k l
-      ∙ ring (d.x ∷ d.z ∷ T.x ∷ T.y ∷ T.z ∷ []) (at 0 ⊗ at 4 ⊖ at 1 ⊗ at 2) (neg (at 1) ⊗ at 2 ⊕ num (pos 0) ⊗ at 3 ⊕ at 0 ⊗ at 4) tt ∙ sym (through-at (beside_y (vector_of d)) (place_of p) (place_of a)))
+  pub side-z : x ≡ d.y → g ≡ T.x → y ≡ d.x → h ≡ T.y → r ≡ sign_of (form_at (plane_along_z (place_of p) (vector_of d)) (place_of a))
+  side-z i j k l = exact ∙ ap sign_of (products-same x g y h d.y T.x d.x T.y i j k l
+      ∙ ring (d.x ∷ d.y ∷ T.x ∷ T.y ∷ T.z ∷ []) (at 1 ⊗ at 2 ⊖ at 0 ⊗ at 3) (at 1 ⊗ at 2 ⊕ neg (at 0) ⊗ at 3 ⊕ num (pos 0) ⊗ at 4) tt ∙ sym (through-at (beside_z (vector_of d)) (place_of p) (place_of a)))
 
 -- ---- the line in which they meet
 module _ (p a : Place) (d : Vector) where
@@ -99,30 +99,30 @@ module _ (p a : Place) (d : Vector) where
   x-level : form_at (plane_along_x p d) a ≡ t.y *ℤ d.z -ℤ t.z *ℤ d.y
   x-level = through-at (beside_x d) p a ∙ ring (d.y ∷ d.z ∷ t.x ∷ t.y ∷ t.z ∷ []) (num (pos 0) ⊗ at 2 ⊕ at 1 ⊗ at 3 ⊕ neg (at 0) ⊗ at 4) (at 3 ⊗ at 1 ⊖ at 4 ⊗ at 0) tt
 
-  y-level : form_at (plane_along_y p d) a ≡ t.z *ℤ d.x -ℤ t.x *ℤ d.z
-  y-level = through-at (beside_y d) p a ∙ ring (d.x ∷ d.z ∷ t.x ∷ t.y ∷ t.z ∷ []) (neg (at 1) ⊗ at 2 ⊕ num (pos 0) ⊗ at 3 ⊕ at 0 ⊗ at 4) (at 4 ⊗ at 0 ⊖ at 2 ⊗ at 1) tt
+  z-level : form_at (plane_along_z p d) a ≡ t.x *ℤ d.y -ℤ t.y *ℤ d.x
+  z-level = through-at (beside_z d) p a ∙ ring (d.x ∷ d.y ∷ t.x ∷ t.y ∷ t.z ∷ []) (at 1 ⊗ at 2 ⊕ neg (at 0) ⊗ at 3 ⊕ num (pos 0) ⊗ at 4) (at 2 ⊗ at 1 ⊖ at 3 ⊗ at 0) tt
 
-  third : IsUpright d → t.y *ℤ d.z -ℤ t.z *ℤ d.y ≡ pos 0 → t.z *ℤ d.x -ℤ t.x *ℤ d.z ≡ pos 0 → t.x *ℤ d.y -ℤ t.y *ℤ d.x ≡ pos 0
-  third u e f =
-      -- z z (t.x y - t.y x) = - z x (t.y z - t.z y) - z y (t.z x - t.x z)
-      follows_times (d.x ∷ d.y ∷ d.z ∷ t.x ∷ t.y ∷ t.z ∷ []) (at 2 ⊗ at 2) (at 3 ⊗ at 1 ⊖ at 4 ⊗ at 0) (num (pos 0))
-      (given (neg (at 2 ⊗ at 0)) (at 4 ⊗ at 2 ⊖ at 5 ⊗ at 1) (num (pos 0)) e
-      (given (neg (at 2 ⊗ at 1)) (at 5 ⊗ at 0 ⊖ at 3 ⊗ at 2) (num (pos 0)) f none)) (upright-square d u) tt
+  middle : IsUpright d → t.y *ℤ d.z -ℤ t.z *ℤ d.y ≡ pos 0 → t.x *ℤ d.y -ℤ t.y *ℤ d.x ≡ pos 0 → t.z *ℤ d.x -ℤ t.x *ℤ d.z ≡ pos 0
+  middle u e f =
+      -- y y (t.z x - t.x z) = - y x (t.y z - t.z y) - y z (t.x y - t.y x)
+      follows_times (d.x ∷ d.y ∷ d.z ∷ t.x ∷ t.y ∷ t.z ∷ []) (at 1 ⊗ at 1) (at 5 ⊗ at 0 ⊖ at 3 ⊗ at 2) (num (pos 0))
+      (given (neg (at 1 ⊗ at 0)) (at 4 ⊗ at 2 ⊖ at 5 ⊗ at 1) (num (pos 0)) e
+      (given (neg (at 1 ⊗ at 2)) (at 3 ⊗ at 1 ⊖ at 4 ⊗ at 0) (num (pos 0)) f none)) (upright-square d u) tt
 
   -- a point is on the line of the ray where both planes hold it
-  pub line-of : IsUpright d → form_at (plane_along_x p d) a ≡ pos 0 → form_at (plane_along_y p d) a ≡ pos 0 → IsParallel t d
-  line-of u e f = let i = sym x-level ∙ e in let j = sym y-level ∙ f in (i, j, third u i j)
+  pub line-of : IsUpright d → form_at (plane_along_x p d) a ≡ pos 0 → form_at (plane_along_z p d) a ≡ pos 0 → IsParallel t d
+  line-of u e f = let i = sym x-level ∙ e in let j = sym z-level ∙ f in (i, middle u i j, j)
 
   pub line-x : IsParallel t d → form_at (plane_along_x p d) a ≡ pos 0
   line-x z = x-level ∙ z.0
 
-  pub line-y : IsParallel t d → form_at (plane_along_y p d) a ≡ pos 0
-  line-y z = y-level ∙ z.1
+  pub line-z : IsParallel t d → form_at (plane_along_z p d) a ≡ pos 0
+  line-z z = z-level ∙ z.2
 
 -- both hold what is ahead
 module _ (p : Place) (d : Vector) (q : Place) (w : IsAhead p d q) where
   pub ahead-x : form_at (plane_along_x p d) q ≡ pos 0
   ahead-x = line-x p q d w.parallel
 
-  pub ahead-y : form_at (plane_along_y p d) q ≡ pos 0
-  ahead-y = line-y p q d w.parallel
+  pub ahead-z : form_at (plane_along_z p d) q ≡ pos 0
+  ahead-z = line-z p q d w.parallel

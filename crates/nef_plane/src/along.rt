@@ -19,11 +19,11 @@ use nef_complex::{
 use nef_geo::{Dir, Hit, Plane, Point, Sign, dir_side, hit_order, ray_hit, side};
 use std::cmp::Ordering;
 
-// What a ray meets, and where.
+/// What a ray meets, and the hit there.
 #[derive(Debug, Clone, Copy)]
-pub(crate) struct Met {
-    pub(crate) meet: PlaneMeet,
-    pub(crate) at: Hit,
+pub struct Met {
+    pub meet: PlaneMeet,
+    pub at: Hit,
 }
 
 fn is_along(g: &Plane, d: &Dir) -> bool
@@ -64,8 +64,9 @@ fn crossed_at(carriers: &[Plane], holders: &[usize], p: &Point, d: &Dir) -> Opti
     ray_hit(p, d, &g)
 }
 
-// What the ray meets first of two.
-pub(crate) fn nearer(one: Option<Met>, other: Option<Met>, p: &Point, d: &Dir) -> Option<Met>
+/// What the ray from `p` along `d` meets first of two, each of which stands at its step along the ray: the first one where
+/// they stand at one point. `None` comes exactly where both are `None`.
+pub fn nearer(one: Option<Met>, other: Option<Met>, p: &Point, d: &Dir) -> Option<Met>
     requires one { IfSome one (λ x. IsReachedMet (place_of p.now) (vector_of d.now) (met_of x)) }
     requires other { IfSome other (λ x. IsReachedMet (place_of p.now) (vector_of d.now) (met_of x)) }
     ensures nearer { IsNearer met_of (vector_of d.now) one other result }

@@ -8,8 +8,8 @@ mod plane;
 mod upright;
 mod within;
 
-pub use along::first_along_dir;
+pub use along::{Met, first_along_dir, nearer};
 pub use places::{is_at_vertex, is_on_edge};
 pub use plane::x_side;
-pub use upright::{EdgeHit, first_on_edges};
+pub use upright::first_on_carrier;
 pub use within::first_in_plane;

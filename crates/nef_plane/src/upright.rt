@@ -1,34 +1,26 @@
-//! The first vertex or edge that a ray along the upward direction or the downward one meets.
+//! The first vertex or edge on a carrier that a ray along the upward direction or the downward one meets.
 //!
 //! Two planes that hold the ray tell of most vertices and edges that it doesn't meet them, by numbers of points alone: it
 //! meets a vertex only where both planes hold that, and an edge only where each of them parts its ends or holds both.
 
-ghost use Rattle.std.specs.Prelude.{◌≡◌, ◌⊎◌, ℕ, ◌<◌, ◌≤◌, length, ◌*ℤ◌, ◌-ℤ◌, nat_abs, ◌↔◌, IsTrue, IsNone, IfSome};
+ghost use Rattle.std.specs.Prelude.{◌≡◌, ◌<◌, ◌≤◌, length, ◌*ℤ◌, ◌-ℤ◌, nat_abs, ◌↔◌, IsTrue, IsNone, IfSome};
 ghost use Rattle.nef_space.specs.Limits.{point_limit, weight_limit};
 ghost use Rattle.nef_space.specs.Place.{Place, form_at, toward, IsAhead};
 ghost use Rattle.nef_space.specs.Sets.{Set};
-ghost use Rattle.nef_space.specs.Vectors.{IsParallel, up, opposite};
+ghost use Rattle.nef_space.specs.Vectors.{IsParallel};
 ghost use Rattle.nef_geo.specs.Hits.{IsUpright, IsPlaceAtMost};
 ghost use Rattle.nef_geo.specs.Shapes.{vector_of, place_of, hit_place};
 ghost use Rattle.nef_geo.specs.Signs.{sign_of};
 ghost use Rattle.nef_geo.specs.Widths.{upright_limit, upright_weight_limit};
-ghost use Rattle.law_complex.specs.Skeleton.{IsOnEdges};
 ghost use Rattle.nef_complex.specs.Complexes.{complex_of, ShowsSet};
 ghost use Rattle.nef_complex.specs.Index.{AreWithin, AreHolders};
 ghost use Rattle.nef_plane.specs.Meets.{AreOpposite, IsHitThrough, IsWithin, AllHold, AtVertexNumber, IsNearest, met_of, reach_of};
-ghost use Rattle.nef_plane.specs.Upright.{gap_limit, plane_along_x, plane_along_y, InsideEdgeNumber, IsUprightMet, IsFirstOnEdges};
+ghost use Rattle.nef_plane.specs.Upright.{gap_limit, plane_along_x, plane_along_z, InsideEdgeNumber, IsAtListed, IsAtCarrier, IsUprightMet};
 
 use crate::along::{Met, nearer, plane_across};
 use crate::places::is_on_edge;
-use nef_complex::{Complex, PlaneMeet, edge_holders, vertex_holders};
+use nef_complex::{Complex, PlaneMeet, carrier_items, edge_holders, vertex_holders};
 use nef_geo::{Dir, Hit, Plane, Point, Sign, ray_hit};
-
-/// A vertex or an edge that a ray meets, and the hit there.
-#[derive(Debug, Clone, Copy)]
-pub struct EdgeHit {
-    pub meet: PlaneMeet,
-    pub at: Hit,
-}
 
 // The difference x/w - y/v, times both weights.
 fn gap(x: i64, w: i64, y: i64, v: i64) -> i128
@@ -52,14 +44,14 @@ fn side_along_x(p: &Point, d: &Dir, a: &Point) -> Sign
     Sign::of(d.z() as i128 * second - d.y() as i128 * third)
 }
 
-// The side of the plane of the ray and the second axis.
-fn side_along_y(p: &Point, d: &Dir, a: &Point) -> Sign
+// The side of the plane of the ray and the third axis.
+fn side_along_z(p: &Point, d: &Dir, a: &Point) -> Sign
     requires upright { IsUpright (vector_of d.now) }
-    ensures side { result ≡ sign_of (form_at (plane_along_y (place_of p.now) (vector_of d.now)) (place_of a.now)) }
+    ensures side { result ≡ sign_of (form_at (plane_along_z (place_of p.now) (vector_of d.now)) (place_of a.now)) }
 {
-    let third = gap(a.z(), a.w(), p.z(), p.w());
     let first = gap(a.x(), a.w(), p.x(), p.w());
-    Sign::of(d.x() as i128 * third - d.z() as i128 * first)
+    let second = gap(a.y(), a.w(), p.y(), p.w());
+    Sign::of(d.y() as i128 * first - d.x() as i128 * second)
 }
 
 // Whether the point lies on the line of the ray.
@@ -67,7 +59,7 @@ fn is_in_line(p: &Point, d: &Dir, a: &Point) -> bool
     requires upright { IsUpright (vector_of d.now) }
     ensures parallel { IsTrue result ↔ IsParallel (toward (place_of p.now) (place_of a.now)) (vector_of d.now) }
 {
-    side_along_x(p, d, a) == Sign::Zero && side_along_y(p, d, a) == Sign::Zero
+    side_along_x(p, d, a) == Sign::Zero && side_along_z(p, d, a) == Sign::Zero
 }
 
 fn are_parted_along_x(p: &Point, d: &Dir, a: &Point, b: &Point) -> bool
@@ -77,19 +69,19 @@ fn are_parted_along_x(p: &Point, d: &Dir, a: &Point, b: &Point) -> bool
     side_along_x(p, d, a) == side_along_x(p, d, b).opposite()
 }
 
-fn are_parted_along_y(p: &Point, d: &Dir, a: &Point, b: &Point) -> bool
+fn are_parted_along_z(p: &Point, d: &Dir, a: &Point, b: &Point) -> bool
     requires upright { IsUpright (vector_of d.now) }
-    ensures opposite { IsTrue result ↔ AreOpposite (plane_along_y (place_of p.now) (vector_of d.now)) (place_of a.now) (place_of b.now) }
+    ensures opposite { IsTrue result ↔ AreOpposite (plane_along_z (place_of p.now) (vector_of d.now)) (place_of a.now) (place_of b.now) }
 {
-    side_along_y(p, d, a) == side_along_y(p, d, b).opposite()
+    side_along_z(p, d, a) == side_along_z(p, d, b).opposite()
 }
 
 // Whether each of the two planes parts the points or holds both, as it does where the ray passes between them.
 fn are_parted(p: &Point, d: &Dir, a: &Point, b: &Point) -> bool
     requires upright { IsUpright (vector_of d.now) }
-    ensures opposite { IsTrue result ↔ (AreOpposite (plane_along_x (place_of p.now) (vector_of d.now)) (place_of a.now) (place_of b.now) × AreOpposite (plane_along_y (place_of p.now) (vector_of d.now)) (place_of a.now) (place_of b.now)) }
+    ensures opposite { IsTrue result ↔ (AreOpposite (plane_along_x (place_of p.now) (vector_of d.now)) (place_of a.now) (place_of b.now) × AreOpposite (plane_along_z (place_of p.now) (vector_of d.now)) (place_of a.now) (place_of b.now)) }
 {
-    are_parted_along_x(p, d, a, b) && are_parted_along_y(p, d, a, b)
+    are_parted_along_x(p, d, a, b) && are_parted_along_z(p, d, a, b)
 }
 
 // Where the ray crosses one of the carriers with these numbers, which are those that hold two points.
@@ -148,51 +140,48 @@ fn edge_met(c: &Complex, p: &Point, d: &Dir, number: usize) -> Option<Met>
     }
 }
 
-// The first vertex that the ray meets.
-fn nearest_vertex(c: &Complex, p: &Point, d: &Dir) -> Option<Met>
+// The first of the vertices with these numbers that the ray meets.
+fn nearest_vertex(c: &Complex, p: &Point, d: &Dir, numbers: &[usize]) -> Option<Met>
     requires shows { (s : Set) × ShowsSet s c.now }
     requires upright { IsUpright (vector_of d.now) }
-    ensures nearest { IsNearest met_of (place_of p.now) (vector_of d.now) (λ m q. (k : ℕ) × AtVertexNumber (complex_of c.now) k m q) result }
+    requires within { AreWithin c.now.vertices numbers.now }
+    ensures nearest { IsNearest met_of (place_of p.now) (vector_of d.now) (IsAtListed (AtVertexNumber (complex_of c.now)) numbers.now) result }
     ensures bounded { IfSome result IsUprightMet }
 {
     let mut best = None;
-    for number in 0..c.vertices.len() {
-        best = nearer(best, vertex_met(c, p, d, number), p, d);
+    for number in numbers {
+        best = nearer(best, vertex_met(c, p, d, *number), p, d);
     }
     best
 }
 
-// The first edge whose inside the ray meets.
-fn nearest_edge(c: &Complex, p: &Point, d: &Dir) -> Option<Met>
+// The first of the edges with these numbers whose inside the ray meets.
+fn nearest_edge(c: &Complex, p: &Point, d: &Dir, numbers: &[usize]) -> Option<Met>
     requires shows { (s : Set) × ShowsSet s c.now }
     requires upright { IsUpright (vector_of d.now) }
-    ensures nearest { IsNearest met_of (place_of p.now) (vector_of d.now) (λ m q. (k : ℕ) × InsideEdgeNumber (complex_of c.now) k m q) result }
+    requires within { AreWithin c.now.edges numbers.now }
+    ensures nearest { IsNearest met_of (place_of p.now) (vector_of d.now) (IsAtListed (InsideEdgeNumber (complex_of c.now)) numbers.now) result }
     ensures bounded { IfSome result IsUprightMet }
 {
     let mut best = None;
-    for number in 0..c.edges.len() {
-        best = nearer(best, edge_met(c, p, d, number), p, d);
+    for number in numbers {
+        best = nearer(best, edge_met(c, p, d, *number), p, d);
     }
     best
 }
 
-/// The first vertex, or edge, that the ray from `p` along the upward direction or the downward one meets strictly ahead,
-/// with the hit there. The first three numbers of the hit are at most `2^86` in size and its w at most `2^73`. `None`
-/// comes exactly where the ray meets none. No edge lies along such a ray, since no carrier does.
-pub fn first_on_edges(c: &Complex, p: &Point, d: &Dir) -> Option<EdgeHit>
+/// What the ray from `p` along the upward direction or the downward one meets first, strictly ahead, of the vertices on the
+/// carrier with this number and of the edges in it, and the hit there. The first three numbers of the hit are at most
+/// `2^86` in size and its w at most `2^73`. `None` comes exactly where the ray meets none of these.
+pub fn first_on_carrier(c: &Complex, number: usize, p: &Point, d: &Dir) -> Option<Met>
     requires shows { (s : Set) × ShowsSet s c.now }
-    requires upright { (vector_of d.now ≡ up) ⊎ (vector_of d.now ≡ opposite up) }
-    ensures some { IfSome result (IsFirstOnEdges (complex_of c.now) (place_of p.now) (vector_of d.now)) }
-    ensures bounded { IfSome result (λ x. IsPlaceAtMost upright_limit upright_weight_limit (hit_place x.at)) }
-    ensures none { IsNone result → (q : Place) → IsAhead (place_of p.now) (vector_of d.now) q → IsOnEdges (complex_of c.now) q → ⊥ }
+    requires upright { IsUpright (vector_of d.now) }
+    requires within { number < length c.now.carriers }
+    ensures nearest { IsNearest met_of (place_of p.now) (vector_of d.now) (IsAtCarrier c.now number) result }
+    ensures bounded { IfSome result IsUprightMet }
 {
-    let vertex = nearest_vertex(c, p, d);
-    let edge = nearest_edge(c, p, d);
-    match nearer(vertex, edge, p, d) {
-        Some(met) => Some(EdgeHit {
-            meet: met.meet,
-            at: met.at,
-        }),
-        None => None,
-    }
+    let items = carrier_items(c, number);
+    let vertex = nearest_vertex(c, p, d, items.vertices);
+    let edge = nearest_edge(c, p, d, items.edges);
+    nearer(vertex, edge, p, d)
 }

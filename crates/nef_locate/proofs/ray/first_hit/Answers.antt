@@ -13,6 +13,9 @@ use Rattle.nef_locate.proofs.RayMeets.{first-some, first-none}
 use Rattle.nef_locate.proofs.Reading.{next-all}
 use Rattle.nef_locate.proofs.ray.first_hit.Goals as goal
 
+pub met_on_edges-best-requires-clause-window : goal.met_on_edges-best-requires-clause-window
+met_on_edges-best-requires-clause-window c = λ q j a. c.ray_window-window.ensures.ahead (vector_of c.args.d.now) q c.requires.upright c.requires.framed j a
+
 pub nearer-best-requires-clause-window : goal.nearer-best-requires-clause-window
 nearer-best-requires-clause-window c = λ q j a. c.ray_window-window.ensures.ahead (vector_of c.args.d.now) q c.requires.upright c.requires.framed j a
 

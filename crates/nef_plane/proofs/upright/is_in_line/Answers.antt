@@ -4,18 +4,18 @@ use Rattle.nef_geo.specs.Shapes.{place_of, vector_of}
 use Rattle.nef_geo.specs.Signs.{sign_of}
 use Rattle.nef_geo.specs.declared.sign.Sign.TheVariants.{Zero}
 use Rattle.nef_arc.proofs.SignNumbers.{zero_sign}
-use Rattle.nef_plane.specs.Upright.{plane_along_x, plane_along_y}
-use Rattle.nef_plane.proofs.Spanned.{line-of, line-x, line-y}
+use Rattle.nef_plane.specs.Upright.{plane_along_x, plane_along_z}
+use Rattle.nef_plane.proofs.Spanned.{line-of, line-x, line-z}
 use Rattle.nef_plane.proofs.upright.is_in_line.Goals as goal
 
 x-zero : (c : goal.After-eq-then-eq) → c.side_along_x.result ≡ Zero
 x-zero c = search rules
 
-y-zero : (c : goal.After-eq-then-eq) → IsTrue c.eq-then-eq.result → c.side_along_y.result ≡ Zero
-y-zero c t = search rules
+z-zero : (c : goal.After-eq-then-eq) → IsTrue c.eq-then-eq.result → c.side_along_z.result ≡ Zero
+z-zero c t = search rules
 
-if-y : (c : goal.After-eq-then-eq) → c.side_along_y.result ≡ Zero → IsTrue c.eq-then-eq.result
-if-y c e = search rules
+if-z : (c : goal.After-eq-then-eq) → c.side_along_z.result ≡ Zero → IsTrue c.eq-then-eq.result
+if-z c e = search rules
 
 pub returns-then-eq : goal.returns-then-eq
 returns-then-eq c =
@@ -23,8 +23,8 @@ returns-then-eq c =
     record {
       parallel = (
         λ t. line-of p a d c.requires.upright (zero_sign (form_at (plane_along_x p d) a) (sym c.side_along_x.ensures.side ∙ x-zero c))
-            (zero_sign (form_at (plane_along_y p d) a) (sym c.side_along_y.ensures.side ∙ y-zero c t)),
-        λ z. if-y c (c.side_along_y.ensures.side ∙ ap sign_of (line-y p a d z)),
+            (zero_sign (form_at (plane_along_z p d) a) (sym c.side_along_z.ensures.side ∙ z-zero c t)),
+        λ z. if-z c (c.side_along_z.ensures.side ∙ ap sign_of (line-z p a d z)),
       );
     }
 

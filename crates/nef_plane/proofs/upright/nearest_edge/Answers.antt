@@ -1,20 +1,25 @@
-use Rattle.std.proofs.Common.{arith}
+use Rattle.std.proofs.Common.{get_or, arith}
 use Rattle.nef_geo.specs.Shapes.{place_of, vector_of}
+use Rattle.nef_classes.proofs.ClassLists.{is-at_get, is-at_within}
 use Rattle.nef_complex.specs.Complexes.{complex_of}
 use Rattle.nef_plane.specs.Meets.{met_of}
 use Rattle.nef_plane.specs.Upright.{InsideEdgeNumber, IsUprightMet}
-use Rattle.nef_plane.proofs.Nearest.{nearest-more, nearest-all}
-use Rattle.nef_plane.proofs.OnEdges.{inside-within, nearer-has}
+use Rattle.nef_plane.proofs.Nearest.{listed-more, nearest-all, Listed}
+use Rattle.nef_plane.proofs.OnEdges.{nearer-has}
 use Rattle.nef_plane.proofs.upright.nearest_edge.Goals as goal
+
+pub edge_met-requires-clause-within : goal.edge_met-requires-clause-within
+edge_met-requires-clause-within c = c.requires.within c.loop-number.number-index (get_or c.args.numbers.now c.loop-number.number-index 0) (is-at_get c.args.numbers.now c.loop-number.number-index 0 c.loop-number-test.true)
 
 pub loop-number-preserved : goal.loop-number-preserved
 loop-number-preserved c = (
-  nearest-more met_of (place_of c.args.p.now) (vector_of c.args.d.now) (InsideEdgeNumber (complex_of c.args.c.now)) c.loop-number.number c.loop-number.best c.edge_met.result c.nearer-best.result
-      c.nearer-best.ensures.nearer c.loop-number.invariant.0 c.edge_met.ensures.nearest,
+  listed-more met_of (place_of c.args.p.now) (vector_of c.args.d.now) c.args.numbers.now (InsideEdgeNumber (complex_of c.args.c.now)) c.loop-number.number-index (get_or c.args.numbers.now c.loop-number.number-index 0) c.loop-number.best c.edge_met.result c.nearer-best.result
+      (is-at_get c.args.numbers.now c.loop-number.number-index 0 c.loop-number-test.true) c.nearer-best.ensures.nearer c.loop-number.invariant.0 c.edge_met.ensures.nearest,
   nearer-has IsUprightMet (vector_of c.args.d.now) c.loop-number.best c.edge_met.result c.nearer-best.result c.nearer-best.ensures.nearer c.loop-number.invariant.1 c.edge_met.ensures.bounded,
 )
 
 pub returns-clause-nearest : goal.returns-clause-nearest
 returns-clause-nearest c =
-    nearest-all met_of (place_of c.args.p.now) (vector_of c.args.d.now) (InsideEdgeNumber (complex_of c.args.c.now)) c.loop-number.number c.loop-number.best
-    (λ k m q x. let l = inside-within c.args.c.now k m q x in let t = c.loop-number-test.false in let e = c.len-number-end.ensures.len in omega (arith, l, t, e)) c.loop-number.invariant.0
+    let p = place_of c.args.p.now in let d = vector_of c.args.d.now in
+    nearest-all met_of p d (Listed met_of p d c.args.numbers.now (InsideEdgeNumber (complex_of c.args.c.now))) c.loop-number.number-index c.loop-number.best
+    (λ i m q x. let l = is-at_within c.args.numbers.now i x.0 x.1 in let t = c.loop-number-test.false in omega (arith, l, t)) c.loop-number.invariant.0

@@ -1,4 +1,5 @@
 use Rattle.std.specs.Prelude.{ℕ, ◌<◌, IfSome}
+use Rattle.nef_space.specs.Lists.{IsAt}
 use Rattle.nef_geo.specs.Shapes.{place_of, vector_of}
 use Rattle.nef_complex.specs.Complexes.{complex_of}
 use Rattle.nef_plane.specs.Meets.{IsNearest, met_of, AtVertexNumber}
@@ -6,4 +7,4 @@ use Rattle.nef_plane.specs.Upright.{IsUprightMet}
 use Rattle.nef_plane.proofs.upright.nearest_vertex.Given as goal
 
 abbrev pub invariant-loop-number : goal.invariant-loop-number
-invariant-loop-number l = IsNearest met_of (place_of l.p) (vector_of l.d) (λ m q. (k : ℕ) × (k < l.number) × AtVertexNumber (complex_of l.c) k m q) l.best × IfSome l.best IsUprightMet
+invariant-loop-number l = IsNearest met_of (place_of l.p) (vector_of l.d) (λ m q. (i : ℕ) × (i < l.number-index) × ((k : ℕ) × IsAt l.numbers i k × AtVertexNumber (complex_of l.c) k m q)) l.best × IfSome l.best IsUprightMet

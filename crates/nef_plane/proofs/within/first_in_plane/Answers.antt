@@ -1,4 +1,4 @@
-use Rattle.std.proofs.Common.{sym, subst}
+use Rattle.std.proofs.Common.{subst}
 use Rattle.std.specs.Prelude.{Option, Some, None, IfSome}
 use Rattle.nef_space.specs.Place.{SamePlace}
 use Rattle.nef_geo.specs.Shapes.{form_of, hit_place, vector_of}
