@@ -13,4 +13,5 @@ pub mod Listed
 pub mod Spanned
 pub mod OnEdges
 pub mod Holding
+pub mod RayPlanes
 mod AxisSizes
