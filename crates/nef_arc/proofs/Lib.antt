@@ -2,3 +2,4 @@ pub mod SignNumbers
 pub mod Ends
 pub mod Candidates
 pub mod Ways
+pub mod OnWays

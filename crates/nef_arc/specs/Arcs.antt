@@ -1,8 +1,11 @@
 -- The directions on an arc, the directions on two, and the order along an arc.
-use Rattle.std.specs.Prelude.{◌⊎◌}
+use Rattle.std.specs.Prelude.{pos, ◌<ℤ◌, ◌⊎◌}
 use Rattle.nef_space.specs.Numbers.{IsBelow}
-use Rattle.nef_space.specs.Vectors.{Vector, SameDirection, triple_of}
+use Rattle.nef_space.specs.Vectors.{Vector, SameDirection, triple, triple_of}
 use Rattle.nef_geo.specs.Shapes.{vector_of}
+use Rattle.nef_geo.specs.Signs.{sign_of}
+use Rattle.nef_geo.specs.declared.sign.Sign.{Sign}
+use Rattle.nef_geo.specs.declared.sign.Sign.TheVariants.{Minus, Zero, Plus}
 use Rattle.law_cyclic.specs.Arcs.{IsStrictlyOn}
 use Rattle.nef_arc.specs.declared.arc.Arc.{Arc}
 use Rattle.nef_arc.specs.declared.common.Crossing.{Crossing}
@@ -20,6 +23,28 @@ target_vector a = vector_of a.target
 -- the direction is strictly on the arc
 abbrev pub IsOn : Arc → Vector → Type 0
 IsOn a d = IsStrictlyOn (normal_vector a) (source_vector a) (target_vector a) d
+
+-- the direction is less than half a circle ahead of the source
+abbrev pub IsPastSource : Arc → Vector → Type 0
+IsPastSource a d = pos 0 <ℤ triple (normal_vector a) (source_vector a) d
+
+-- the target is less than half a circle ahead of the direction
+abbrev pub IsBeforeTarget : Arc → Vector → Type 0
+IsBeforeTarget a d = pos 0 <ℤ triple (normal_vector a) d (target_vector a)
+
+-- by the sign of the turn from the source to the target: what says, of a direction that is neither, that it is passed
+abbrev pub OnWay : Sign → Type 0 → Type 0 → Type 0
+OnWay Plus Past Before = Past × Before
+OnWay Minus Past Before = Past ⊎ Before
+OnWay Zero Past Before = Past
+
+-- the ends are the same, or the turn says that a direction that is neither is passed
+abbrev pub IsPassed : Arc → Vector → Type 0
+IsPassed a d = SameDirection (source_vector a) (target_vector a) ⊎ OnWay (sign_of (triple (normal_vector a) (source_vector a) (target_vector a))) (IsPastSource a d) (IsBeforeTarget a d)
+
+-- the direction is that of an end
+abbrev pub IsEnd : Arc → Vector → Type 0
+IsEnd a d = SameDirection (source_vector a) d ⊎ SameDirection (target_vector a) d
 
 -- strictly on the way along the arc from its source to the direction e
 abbrev pub IsOnBefore : Arc → Vector → Vector → Type 0

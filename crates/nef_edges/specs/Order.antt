@@ -6,10 +6,6 @@ use Rattle.nef_space.specs.Vectors.{Vector, vector, cross}
 use Rattle.nef_geo.specs.Shapes.{vector_of}
 use Rattle.nef_geo.specs.declared.dir.Dir.{Dir}
 use Rattle.nef_edges.specs.declared.half.Half.{Half}
-use Rattle.nef_edges.specs.declared.moment.Moment.{Moment}
-
-abbrev pub moment_vector : Moment → Vector
-moment_vector m = vector m.x m.y m.z
 
 -- w times the product of the half's point (x/w, y/w, z/w) and its direction
 abbrev pub moment_of : Half → Vector

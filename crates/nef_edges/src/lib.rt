@@ -7,7 +7,6 @@
 
 mod arriving;
 mod half;
-mod moment;
 mod order;
 mod pairing;
 #[cfg(test)]

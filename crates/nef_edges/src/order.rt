@@ -1,15 +1,15 @@
 //! The order of halves: by their lines, and on one line by their vertices.
 //!
-//! The line through p along d is told by d and by p x d, divided by p's w: both are the same for all points of the line.
+//! The line through p along d is told by d and by its moment, p x d divided by p's w: both are the same for all points of
+//! the line.
 
 ghost use Rattle.std.specs.Prelude.{◌≡◌, ◌≤◌, ◌-ℤ◌, ◌*ℤ◌, nat_abs};
-ghost use Rattle.std.specs.Ordering.{int_cmp};
+ghost use Rattle.std.specs.Ordering.{int_cmp, ordering_then};
 ghost use Rattle.nef_space.specs.Limits.{direction_limit, point_limit, weight_limit};
 ghost use Rattle.nef_edges.specs.Widths.{moment_limit};
-ghost use Rattle.nef_edges.specs.Order.{moment_of, moment_vector, moment_order, line_order, half_order};
+ghost use Rattle.nef_edges.specs.Order.{moment_of, ratio_order, moment_order, line_order, half_order};
 
 use crate::half::Half;
-use crate::moment::Moment;
 use std::cmp::Ordering;
 
 fn minor(a: i64, b: i64, e: i64, f: i64) -> i128
@@ -23,15 +23,25 @@ fn minor(a: i64, b: i64, e: i64, f: i64) -> i128
     a as i128 * f as i128 - b as i128 * e as i128
 }
 
-fn moment_about(h: &Half) -> Moment
-    ensures moment { moment_vector result ≡ moment_of h.now }
+fn moment_x(h: &Half) -> i128
+    ensures moment { result ≡ (moment_of h.now).x }
+    ensures small { nat_abs result ≤ moment_limit }
 {
-    let (p, d) = (&h.point, &h.dir);
-    Moment {
-        x: minor(p.y(), p.z(), d.y(), d.z()),
-        y: minor(p.z(), p.x(), d.z(), d.x()),
-        z: minor(p.x(), p.y(), d.x(), d.y()),
-    }
+    minor(h.point.y(), h.point.z(), h.dir.y(), h.dir.z())
+}
+
+fn moment_y(h: &Half) -> i128
+    ensures moment { result ≡ (moment_of h.now).y }
+    ensures small { nat_abs result ≤ moment_limit }
+{
+    minor(h.point.z(), h.point.x(), h.dir.z(), h.dir.x())
+}
+
+fn moment_z(h: &Half) -> i128
+    ensures moment { result ≡ (moment_of h.now).z }
+    ensures small { nat_abs result ≤ moment_limit }
+{
+    minor(h.point.x(), h.point.y(), h.dir.x(), h.dir.y())
 }
 
 // Compares n/w with m/v.
@@ -45,14 +55,43 @@ fn ratio_cmp(n: i128, w: i64, m: i128, v: i64) -> Ordering
     (n * v as i128).cmp(&(m * w as i128))
 }
 
+fn x_cmp(a: &Half, b: &Half) -> Ordering
+    ensures order { result ≡ ratio_order (λ h. (moment_of h).x) a.now b.now }
+{
+    ratio_cmp(moment_x(a), a.point.w(), moment_x(b), b.point.w())
+}
+
+fn y_cmp(a: &Half, b: &Half) -> Ordering
+    ensures order { result ≡ ratio_order (λ h. (moment_of h).y) a.now b.now }
+{
+    ratio_cmp(moment_y(a), a.point.w(), moment_y(b), b.point.w())
+}
+
+fn z_cmp(a: &Half, b: &Half) -> Ordering
+    ensures order { result ≡ ratio_order (λ h. (moment_of h).z) a.now b.now }
+{
+    ratio_cmp(moment_z(a), a.point.w(), moment_z(b), b.point.w())
+}
+
+fn later_cmp(a: &Half, b: &Half) -> Ordering
+    ensures order { result ≡ ordering_then (ratio_order (λ h. (moment_of h).y) a.now b.now) (ratio_order (λ h. (moment_of h).z) a.now b.now) }
+{
+    match y_cmp(a, b) {
+        Ordering::Less => Ordering::Less,
+        Ordering::Equal => z_cmp(a, b),
+        Ordering::Greater => Ordering::Greater,
+    }
+}
+
+// Works the second and third numbers out only where the first ones are equal, which most aren't.
 fn moment_cmp(a: &Half, b: &Half) -> Ordering
     ensures order { result ≡ moment_order a.now b.now }
 {
-    let (m, n) = (moment_about(a), moment_about(b));
-    let (w, v) = (a.point.w(), b.point.w());
-    ratio_cmp(m.x, w, n.x, v)
-        .then(ratio_cmp(m.y, w, n.y, v))
-        .then(ratio_cmp(m.z, w, n.z, v))
+    match x_cmp(a, b) {
+        Ordering::Less => Ordering::Less,
+        Ordering::Equal => later_cmp(a, b),
+        Ordering::Greater => Ordering::Greater,
+    }
 }
 
 fn line_cmp(a: &Half, b: &Half) -> Ordering

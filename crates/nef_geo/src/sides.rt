@@ -17,10 +17,7 @@ pub(crate) fn form(h: &Plane, p: &Point) -> i128
     ensures value { result ≡ form_at (form_of h.now) (place_of p.now) }
     ensures width { nat_abs result ≤ point_form_limit }
 {
-    h.a as i128 * p.x as i128
-        + h.b as i128 * p.y as i128
-        + h.c as i128 * p.z as i128
-        + h.d as i128 * p.w as i128
+    (h.a * p.x + h.b * p.y + h.c * p.z + h.d * p.w) as i128
 }
 
 // The plane's form at the hit.

@@ -24,7 +24,7 @@ fn bare(alloc: Global, axis: Dir, mark: Label) -> Result<Star, OutOfMemory>
     ensures mark { IfOk result (λ t. t.mark ≡ mark) }
     ensures none { IfOk result (λ t. length t.rays.items ≡ 0) }
 {
-    let mut sectors = Vec::with_capacity(alloc, 1)?;
+    let mut sectors = Vec::new(alloc);
     sectors.push(mark)?;
     Ok(Star {
         axis,
