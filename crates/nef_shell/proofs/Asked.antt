@@ -14,7 +14,7 @@ use Rattle.nef_sched.specs.Results.{flat, kept, IsKept as HasResult, AreSound}
 use Rattle.nef_io.specs.Bytes.{Grows}
 use Rattle.nef_script.specs.declared.script.Command.{Command}
 use Rattle.nef_script.specs.declared.script.Command.TheVariants.{Bind, Turn, Has, Joined, Ray, Same, Count, Print}
-use Rattle.nef_script.specs.Commands.{LooksAt, Binds, AreBoundBefore}
+use Rattle.nef_script.specs.Commands.{Binds, AreBoundBefore}
 use Rattle.nef_shell.specs.declared.bindings.Binding.{Binding}
 use Rattle.nef_shell.specs.Bindings.{IsBoundAt, IsAskedAbout, AreAllBound, Fits, ArePlaced}
 use Rattle.nef_shell.specs.Operations.{AreShown, IsKept, IsGone}
@@ -23,6 +23,20 @@ use Rattle.nef_shell.proofs.Complexes.{shown-put}
 
 pub none-some : (k : ℕ) → (None ≡ Some k) ⊎ (None ≡ Some k) → ⊥
 none-some k h = elim h [ inl e ↦ (let f : None ≡ Some k = e in cc) | inr e ↦ (let f : None ≡ Some k = e in cc) ]
+
+pub true-or-false : (b : Bool) → (b ≡ true) ⊎ (b ≡ false)
+true-or-false true = inl refl
+true-or-false false = inr refl
+
+pub some-of : (o : Option ℕ) → is_some o ≡ true → (k : ℕ) × (o ≡ Some k)
+some-of None e = absurd (let f : false ≡ true = e in cc)
+some-of (Some k) e = (k, refl)
+
+-- where every place is empty nothing is there
+pub none-there : (list : List (Option Complex)) (n : ℕ) → length list ≡ n → ((k : ℕ) → k < n → IsGone list k) → (k : ℕ) (x : Complex) → slice_get list k ≡ Some (Some x) → ⊥
+none-there list n count gone k x at =
+    let below = slice_get_within list k (Some x) at in
+    let f : Some None ≡ Some (Some x) = sym (gone k (omega (arith, count, below))) ∙ at in cc
 
 pub gone-or-there : (list : List (Option Complex)) (k : ℕ) → k < length list → IsGone list k ⊎ ((c : Complex) × (slice_get list k ≡ Some (Some c)))
 gone-or-there [] k within = absurd (omega arith)

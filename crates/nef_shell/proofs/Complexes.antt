@@ -1,9 +1,8 @@
 -- The complexes of nodes: each is made of those of its operands, and is kept as long as a command looks at it.
-use Rattle.std.proofs.Common.{◌≡◌, ◌⊎◌, ℕ, Bool, true, false, ◌+◌, ◌<◌, ◌≤◌, ap, arith, refl, sym, ◌∙◌, subst, List, [], ◌∷◌, length, Option, Some, None, IfSome, Result, Ok, Err, IfOk, inl, inr}
+use Rattle.std.proofs.Common.{◌≡◌, ℕ, true, false, ◌<◌, ◌≤◌, ap, arith, refl, sym, ◌∙◌, subst, List, [], length, Option, Some, None, IfSome, Result, Ok, Err, IfOk, inl, inr}
 use Rattle.std.specs.Prelude.{slice_get, slice_set, slice_index, is_some}
 use Rattle.std.proofs.lemmas.Bool.{cases_eq}
 use Rattle.std.proofs.lemmas.List.{length-set}
-use Rattle.std.proofs.lemmas.Option.{slice_get_within}
 use Rattle.nef_core.proofs.Places.{get_set_here, get_set_other}
 use Rattle.nef_space.specs.Sets.{Set}
 use Rattle.nef_complex.specs.declared.complex.Complex.{Complex}
@@ -18,10 +17,9 @@ use Rattle.nef_ops.specs.declared.op.UnaryOp.{UnaryOp}
 use Rattle.nef_expr.specs.Nodes.{operand, set_of, sets_after, node_set, NamesBelow, IsOperand}
 use Rattle.nef_expr.proofs.Sets.{each-set}
 use Rattle.nef_script.specs.declared.script.Command.{Command}
-use Rattle.nef_script.specs.declared.script.Command.TheVariants.{Bind, Turn, Has, Joined, Ray, Same, Count, Print}
-use Rattle.nef_script.specs.Meaning.{IsWithin}
+use Rattle.nef_script.specs.declared.script.Command.TheVariants.{Bind, Turn}
 use Rattle.nef_script.specs.Commands.{Binds}
-use Rattle.nef_shell.specs.Operations.{set_by, first_operand, second_operand, HasOperand, IsLent, AreLent, AreShown, IsKept, IsGone, AreBound}
+use Rattle.nef_shell.specs.Operations.{set_by, first_operand, second_operand, IsLent, AreLent, AreShown, IsKept, IsGone, AreBound}
 use Rattle.nef_shell.specs.declared.operation.Operation.{Operation}
 use Rattle.nef_shell.specs.declared.operation.Operation.TheVariants.{Unary, Binary, Turned}
 

@@ -1,5 +1,5 @@
 -- The bindings of a script, each the first command that binds its node, and what they need.
-use Rattle.std.specs.Prelude.{◌≡◌, ℕ, ◌<◌, List, [], ◌∷◌, Option, Some, None, length, option_and_then, slice_get}
+use Rattle.std.specs.Prelude.{◌≡◌, ℕ, ◌<◌, Bool, true, List, [], Option, Some, None, length, option_and_then, slice_get}
 use Rattle.nef_complex.specs.declared.complex.Complex.{Complex}
 use Rattle.nef_complex.specs.Complexes.{ShowsSet}
 use Rattle.nef_expr.specs.declared.nodes.Node.{Node}
@@ -57,6 +57,10 @@ Fits nodes bindings n c = (b : Binding) → slice_get bindings n ≡ Some b → 
 -- the command asks a question
 abbrev pub IsQuestion : Command → Type 0
 IsQuestion c = (k : ℕ) → Binds c k → ⊥
+
+-- the command is worked in its turn: each one is, but only questions where all bindings are worked ahead
+abbrev pub IsWorked : Bool → Command → Type 0
+IsWorked ahead c = ahead ≡ true → IsQuestion c
 
 -- one of the commands asks about the set of node k
 abbrev pub IsAskedAbout : List Node → List Command → ℕ → Type 0

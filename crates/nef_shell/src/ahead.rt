@@ -1,29 +1,25 @@
-//! Works a script whose statements run ahead: first all bindings, in rounds, and then the questions.
+//! Works all bindings of a script ahead of its questions, in rounds.
 
-ghost use Rattle.std.specs.Prelude.{◌≡◌, ◌≤◌, ◌<◌, ◌↔◌, ◌⊎◌, ℕ, List, None, Some, All, IfOk, IfSome, OnOk, IfErr, length, slice_get, slice_set, take, vec_len};
+ghost use Rattle.std.specs.Prelude.{◌≡◌, ◌≤◌, ◌<◌, ◌↔◌, ◌⊎◌, ℕ, None, Some, All, IfOk, IfSome, length, slice_get, slice_set, vec_len};
+ghost use Rattle.nef_space.specs.Sets.{Set};
 ghost use Rattle.nef_complex.specs.declared.complex.Complex.{Complex};
 ghost use Rattle.nef_complex.specs.Complexes.{ShowsSet};
 ghost use Rattle.nef_expr.specs.Nodes.{node_set};
-ghost use Rattle.nef_io.specs.Bytes.{Rose, Grows, GrowsWithin};
 ghost use Rattle.nef_sched.specs.Marks.{IsMarked};
 ghost use Rattle.nef_sched.specs.Results.{AreSound};
 ghost use Rattle.nef_script.specs.Commands.{LooksAt, AreBoundBefore, TurnsRight};
 ghost use Rattle.nef_script.specs.Meaning.{IsWithin};
 ghost use Rattle.nef_shell.specs.Bindings.{AreBindings, Fits, IsQuestion, IsAskedAbout, ArePlaced};
-ghost use Rattle.nef_shell.specs.Operations.{AreShown, IsKept, AreBound};
-ghost use Rattle.nef_shell.specs.Output.{IsPiece, IsOutput};
-ghost use Rattle.nef_shell.specs.Stops.{MatchStop};
+ghost use Rattle.nef_shell.specs.Operations.{AreShown, IsKept};
 
 use crate::bindings::{Binding, bindings_of};
-use crate::sets::{Sets, no_complexes};
+use crate::operation::Means;
+use crate::sets::no_complexes;
 use crate::stage::work_bindings;
-use crate::stop::Stop;
 use crate::uses::{bound_node, looked_at};
-use crate::work::work_command;
 use nef_complex::Complex;
-use nef_core::{How, TextVersion};
 use nef_expr::Nodes;
-use nef_io::{Gate, Sink};
+use nef_io::Gate;
 use nef_script::{Command, Script};
 use std::alloc::{AllocError, Global};
 use std::sync::Wait;
@@ -129,15 +125,17 @@ fn placed(
     Ok(complexes)
 }
 
-// The complexes of all nodes that questions ask about, each at its node's place, and no others.
-fn worked_ahead<R: Threads + Wait + Sync, G: Gate + Sync>(
+/// The complexes of all nodes that questions ask about, each at its node's place, and no others: all bindings are
+/// worked, those whose operands are done beside each other. `AllocError` says that memory was wanted and not found.
+pub(crate) fn worked_ahead<R: Threads + Wait + Sync, G: Gate + Sync>(
     rt: &R,
     alloc: Global,
     script: &Script,
-    how: &How,
+    means: &Means,
     gate: &G,
 ) -> Result<Vec<Option<Complex>>, AllocError>
-    requires workers { (1 ≤ how.now.workers) × (how.now.workers ≤ 64) }
+    requires workers { (1 ≤ means.now.how.workers) × (means.now.how.workers ≤ 64) }
+    requires whole { ShowsSet Set.full means.now.whole.now }
     requires within { All (IsWithin (length script.now.nodes)) script.now.commands }
     requires turned { All (TurnsRight script.now.nodes) script.now.commands }
     requires bound_before { AreBoundBefore script.now.nodes script.now.commands }
@@ -150,95 +148,6 @@ fn worked_ahead<R: Threads + Wait + Sync, G: Gate + Sync>(
     let bindings = bindings_of(alloc, script)?;
     let asked = asked_about(alloc, script)?;
     let wanted = wanted(alloc, &bindings, &asked)?;
-    let mut results = work_bindings(rt, alloc, nodes, &bindings, &wanted, how, gate)?;
+    let mut results = work_bindings(rt, alloc, nodes, &bindings, &wanted, means, gate)?;
     placed(alloc, nodes, &bindings, results.as_mut_slice())
-}
-
-// Works the command if it asks a question, and writes its piece. All nodes are bound already.
-fn answer_command<R: Threads + Wait + Sync, K: Sink, G: Gate + Sync>(
-    rt: &R,
-    alloc: Global,
-    sets: &mut Sets,
-    command: &Command,
-    how: &How,
-    text: TextVersion,
-    sink: &mut K,
-    gate: &G,
-) -> Result<(), Stop>
-    requires workers { (1 ≤ how.now.workers) × (how.now.workers ≤ 64) }
-    requires within { IsWithin (length sets.old.nodes.now) command.now }
-    requires turned { TurnsRight sets.old.nodes.now command.now }
-    requires shown { AreShown sets.old.nodes.now sets.old.list.items }
-    requires kept { IsQuestion command.now → (k : ℕ) → LooksAt sets.old.nodes.now command.now k → IsKept sets.old.nodes.now sets.old.list.items k }
-    ensures done { OnOk result ((piece : List ℕ) × IsPiece text sets.old.nodes.now command.now piece × Grows (K.written sink.old) (K.written sink.new) piece) }
-    ensures shown { OnOk result (AreShown sets.new.nodes.now sets.new.list.items) }
-    ensures still { OnOk result (AreBound sets.old.nodes.now (λ k. ⊥) sets.old.list.items sets.new.list.items) }
-    ensures nodes { sets.new.nodes ≡ sets.old.nodes }
-    ensures uses { sets.new.last_uses ≡ sets.old.last_uses }
-    ensures stopped { IfErr result (λ stop. MatchStop stop
-        (Rose (K.faults sink.old) (K.faults sink.new) × ((piece : List ℕ) × IsPiece text sets.old.nodes.now command.now piece × GrowsWithin (K.written sink.old) (K.written sink.new) piece))
-        (K.written sink.new ≡ K.written sink.old)) }
-    ensures quiet { OnOk result (K.faults sink.new ≡ K.faults sink.old) }
-    ensures count { K.faults sink.old ≤ K.faults sink.new }
-{
-    match bound_node(command) {
-        Some(_) => Ok(()),
-        None => work_command(rt, alloc, sets, command, how, text, sink, gate),
-    }
-}
-
-// Works the questions in order, and writes the piece of each when it is worked.
-fn answer_all<R: Threads + Wait + Sync, K: Sink, G: Gate + Sync>(
-    rt: &R,
-    alloc: Global,
-    script: &Script,
-    list: Vec<Option<Complex>>,
-    how: &How,
-    text: TextVersion,
-    sink: &mut K,
-    gate: &G,
-) -> Result<(), Stop>
-    requires workers { (1 ≤ how.now.workers) × (how.now.workers ≤ 64) }
-    requires within { All (IsWithin (length script.now.nodes)) script.now.commands }
-    requires turned { All (TurnsRight script.now.nodes) script.now.commands }
-    requires bound_before { AreBoundBefore script.now.nodes script.now.commands }
-    requires count { vec_len list ≡ length script.now.nodes }
-    requires shown { AreShown script.now.nodes list.items }
-    requires asked { (k : ℕ) → IsAskedAbout script.now.nodes script.now.commands k → IsKept script.now.nodes list.items k }
-    requires only { (k : ℕ) (c : Complex) → slice_get list.items k ≡ Some (Some c) → IsAskedAbout script.now.nodes script.now.commands k }
-    ensures done { OnOk result ((output : List ℕ) × IsOutput text script.now.nodes script.now.commands output × Grows (K.written sink.old) (K.written sink.new) output) }
-    ensures quiet { OnOk result (K.faults sink.new ≡ K.faults sink.old) }
-    ensures stopped { IfErr result (λ stop. MatchStop stop (Rose (K.faults sink.old) (K.faults sink.new)) (Unit {0})) }
-    ensures front { IfErr result (λ _. (count : ℕ) × (output : List ℕ) × IsOutput text script.now.nodes (take count script.now.commands) output × GrowsWithin (K.written sink.old) (K.written sink.new) output) }
-{
-    let mut sets = Sets::of(alloc, script, list)?;
-    for (now, command) in script.commands().iter().enumerate() {
-        answer_command(rt, alloc, &mut sets, command, how, text, sink, gate)?;
-        sets.release(command, now);
-    }
-    Ok(())
-}
-
-/// Works all bindings first, of which those whose operands are done may run at the same time; then
-/// writes the pieces of the commands in order, with a text of this version, as `work` does.
-pub(crate) fn work_ahead<R: Threads + Wait + Sync, K: Sink, G: Gate + Sync>(
-    rt: &R,
-    alloc: Global,
-    script: &Script,
-    how: &How,
-    text: TextVersion,
-    sink: &mut K,
-    gate: &G,
-) -> Result<(), Stop>
-    requires workers { (1 ≤ how.now.workers) × (how.now.workers ≤ 64) }
-    requires within { All (IsWithin (length script.now.nodes)) script.now.commands }
-    requires turned { All (TurnsRight script.now.nodes) script.now.commands }
-    requires bound_before { AreBoundBefore script.now.nodes script.now.commands }
-    ensures done { OnOk result ((output : List ℕ) × IsOutput text script.now.nodes script.now.commands output × Grows (K.written sink.old) (K.written sink.new) output) }
-    ensures quiet { OnOk result (K.faults sink.new ≡ K.faults sink.old) }
-    ensures stopped { IfErr result (λ stop. MatchStop stop (Rose (K.faults sink.old) (K.faults sink.new)) (Unit {0})) }
-    ensures front { IfErr result (λ _. (count : ℕ) × (output : List ℕ) × IsOutput text script.now.nodes (take count script.now.commands) output × GrowsWithin (K.written sink.old) (K.written sink.new) output) }
-{
-    let list = worked_ahead(rt, alloc, script, how, gate)?;
-    answer_all(rt, alloc, script, list, how, text, sink, gate)
 }

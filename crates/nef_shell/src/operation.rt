@@ -12,12 +12,20 @@ use nef_core::How;
 use nef_expr::Node;
 use nef_geo::Oriented;
 use nef_io::Gate;
-use nef_ops::{UnaryOp, binary, constant, half, unary};
+use nef_ops::{UnaryOp, binary, constant, half_within, unary};
 use nef_star::Op;
 use nef_turn::turn_complex;
 use std::alloc::{AllocError, Global};
 use std::sync::Wait;
 use std::thread::Threads;
+
+/// What operations are worked with: the complex of the whole frame, of which each half is cut, and how
+/// their candidates are worked.
+#[derive(Debug, Clone, Copy)]
+pub(crate) struct Means<'a> {
+    pub(crate) whole: &'a Complex,
+    pub(crate) how: How,
+}
 
 /// An operation on sets, which are named by the numbers of their nodes.
 #[derive(Debug, Clone, Copy)]
@@ -87,20 +95,23 @@ pub(crate) fn made<R: Threads + Wait + Sync, G: Gate + Sync>(
     operation: Operation,
     first: Option<&Complex>,
     second: Option<&Complex>,
-    how: &How,
+    means: &Means,
     gate: &G,
 ) -> Result<Complex, AllocError>
-    requires workers { (1 ≤ how.now.workers) × (how.now.workers ≤ 64) }
+    requires workers { (1 ≤ means.now.how.workers) × (means.now.how.workers ≤ 64) }
+    requires whole { ShowsSet Set.full means.now.whole.now }
     requires turn { HasTurn operation }
     requires operands { (ss : List Set) × AreLent ss operation (option_copied first) (option_copied second) }
     ensures shows { IfOk result (λ c. (ss : List Set) → AreLent ss operation (option_copied first.entry) (option_copied second.entry) → ShowsSet (set_by ss operation) c) }
 {
     match operation {
         Operation::Constant(full) => constant(alloc, full),
-        Operation::Half { oriented, closed } => half(rt, alloc, &oriented, closed, how, gate),
-        Operation::Unary(op, _) => unary(rt, alloc, op, given(first), how, gate),
+        Operation::Half { oriented, closed } => {
+            half_within(rt, alloc, means.whole, &oriented, closed, &means.how, gate)
+        }
+        Operation::Unary(op, _) => unary(rt, alloc, op, given(first), &means.how, gate),
         Operation::Binary(op, _, _) => {
-            binary(rt, alloc, op, given(first), given(second), how, gate)
+            binary(rt, alloc, op, given(first), given(second), &means.how, gate)
         }
         Operation::Turned(turn, _) => turn_complex(alloc, given(first), turn),
     }

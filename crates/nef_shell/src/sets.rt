@@ -3,6 +3,7 @@
 ghost use Rattle.std.specs.Prelude.{◌≡◌, ◌+◌, ◌≤◌, ◌<◌, ◌↔◌, ◌⊎◌, ℕ, Option, Some, IfOk, IfSome, IsTrue, OnOk, All, length, slice_index, slice_index_or, vec_len, []};
 ghost use Rattle.std.specs.Option.{option_copied};
 ghost use Rattle.nef_space.specs.Local.{SameSet};
+ghost use Rattle.nef_space.specs.Sets.{Set};
 ghost use Rattle.nef_complex.specs.Complexes.{ShowsSet};
 ghost use Rattle.nef_expr.specs.Nodes.{node_set, sets_after, IsOperand};
 ghost use Rattle.nef_expr.specs.Turns.{TurnOf};
@@ -12,10 +13,9 @@ ghost use Rattle.nef_script.specs.Meaning.{IsWithin};
 ghost use Rattle.nef_shell.specs.Commands.{AreLastUses, AreUses};
 ghost use Rattle.nef_shell.specs.Operations.{set_by, HasOperand, HasTurn, IsLent, AreShown, IsKept, IsGone, IsLean, AreBound};
 
-use crate::operation::{Operation, made, operation_of};
+use crate::operation::{Means, Operation, made, operation_of};
 use crate::uses::{bound_node, last_uses, looked_at};
 use nef_complex::Complex;
-use nef_core::How;
 use nef_expr::Nodes;
 use nef_io::Gate;
 use nef_ops::same;
@@ -120,10 +120,11 @@ impl<'a> Sets<'a> {
         alloc: Global,
         node: usize,
         operation: Operation,
-        how: &How,
+        means: &Means,
         gate: &G,
     ) -> Result<(), AllocError>
-        requires workers { (1 ≤ how.now.workers) × (how.now.workers ≤ 64) }
+        requires workers { (1 ≤ means.now.how.workers) × (means.now.how.workers ≤ 64) }
+        requires whole { ShowsSet Set.full means.now.whole.now }
         requires node { node < length self.old.nodes.now }
         requires turn { HasTurn operation }
         requires set { node_set self.old.nodes.now node ≡ set_by (sets_after [] self.old.nodes.now) operation }
@@ -139,7 +140,7 @@ impl<'a> Sets<'a> {
         }
         let (first, second) = operation.operands();
         let (a, b) = (self.lent(first), self.lent(second));
-        let complex = made(rt, alloc, operation, a, b, how, gate)?;
+        let complex = made(rt, alloc, operation, a, b, means, gate)?;
         self.list[node] = Some(complex);
         Ok(())
     }
@@ -150,10 +151,11 @@ impl<'a> Sets<'a> {
         rt: &R,
         alloc: Global,
         node: usize,
-        how: &How,
+        means: &Means,
         gate: &G,
     ) -> Result<(), AllocError>
-        requires workers { (1 ≤ how.now.workers) × (how.now.workers ≤ 64) }
+        requires workers { (1 ≤ means.now.how.workers) × (means.now.how.workers ≤ 64) }
+        requires whole { ShowsSet Set.full means.now.whole.now }
         requires node { node < length self.old.nodes.now }
         requires shown { AreShown self.old.nodes.now self.old.list.items }
         requires operands { (k : ℕ) → IsOperand k (slice_index_or self.old.nodes.now node variant.Empty) → IsKept self.old.nodes.now self.old.list.items k }
@@ -163,7 +165,7 @@ impl<'a> Sets<'a> {
         ensures uses { self.new.last_uses ≡ self.old.last_uses }
     {
         let operation = operation_of(self.nodes.get(node));
-        self.put(rt, alloc, node, operation, how, gate)
+        self.put(rt, alloc, node, operation, means, gate)
     }
 
     /// Works the node as the image of the node `from` under the turn, which is below 48. `AllocError`
@@ -175,10 +177,11 @@ impl<'a> Sets<'a> {
         node: usize,
         from: usize,
         turn: u8,
-        how: &How,
+        means: &Means,
         gate: &G,
     ) -> Result<(), AllocError>
-        requires workers { (1 ≤ how.now.workers) × (how.now.workers ≤ 64) }
+        requires workers { (1 ≤ means.now.how.workers) × (means.now.how.workers ≤ 64) }
+        requires whole { ShowsSet Set.full means.now.whole.now }
         requires node { node < length self.old.nodes.now }
         requires turn { turn < 48 }
         requires image { TurnOf self.old.nodes.now turn from node }
@@ -192,7 +195,7 @@ impl<'a> Sets<'a> {
         // Each node names earlier ones, so the image of a node has the turned set.
         let _count = self.nodes.len();
         let operation = Operation::Turned(usize::from(turn), from);
-        self.put(rt, alloc, node, operation, how, gate)
+        self.put(rt, alloc, node, operation, means, gate)
     }
 
     // Lets the complex of the node go, if there is a node and no command after this one looks at it.

@@ -2,12 +2,14 @@
 
 ghost use Rattle.std.specs.Prelude.{◌≡◌, ◌<◌, ◌≤◌, ℕ, None, IfOk, length};
 ghost use Rattle.std.specs.Option.{option_copied};
+ghost use Rattle.nef_space.specs.Sets.{Set};
+ghost use Rattle.nef_complex.specs.Complexes.{ShowsSet};
 ghost use Rattle.nef_sched.specs.Results.{kept, IsKept as HasResult, IsReady, AreSound};
 ghost use Rattle.nef_sched.specs.Marks.{IsMarked, IsUnmarked};
 ghost use Rattle.nef_shell.specs.Bindings.{AreBindings, first_need, second_need, needed_complex, Fits};
 
 use crate::bindings::Binding;
-use crate::operation::made;
+use crate::operation::{Means, made};
 use nef_complex::Complex;
 use nef_core::How;
 use nef_expr::Nodes;
@@ -74,17 +76,19 @@ fn needed(done: &Results<Complex>, need: Option<usize>) -> Option<&Complex>
     }
 }
 
-// How a binding is worked: by one worker, unless it is alone.
-fn how_for(how: &How, alone: bool) -> How
-    ensures workers { (1 ≤ result.workers) × (result.workers ≤ 64) }
+// What a binding is worked with: one worker, unless it is alone.
+fn means_for<'a>(means: &Means<'a>, alone: bool) -> Means<'a>
+    ensures workers { (1 ≤ result.how.workers) × (result.how.workers ≤ 64) }
+    ensures whole { result.whole ≡ means.now.whole }
 {
-    if alone {
-        *how
-    } else {
-        How {
-            workers: 1,
+    let how = means.how;
+    let workers = if alone { how.workers } else { 1 };
+    Means {
+        whole: means.whole,
+        how: How {
+            workers,
             board: how.board,
-        }
+        },
     }
 }
 
@@ -97,9 +101,10 @@ fn work_binding<R: Threads + Wait + Sync, G: Gate + Sync>(
     n: usize,
     alone: bool,
     done: &Results<Complex>,
-    how: &How,
+    means: &Means,
     gate: &G,
 ) -> Result<Complex, AllocError>
+    requires whole { ShowsSet Set.full means.now.whole.now }
     requires are { AreBindings nodes.now bindings.now }
     requires number { n < length bindings.now }
     requires there { IsReady (Fits nodes.now bindings.now) (first_need bindings.now n) (second_need bindings.now n) done.now.list.items }
@@ -109,13 +114,13 @@ fn work_binding<R: Threads + Wait + Sync, G: Gate + Sync>(
     let binding = &bindings[n];
     let first = needed(done, binding.needs.first);
     let second = needed(done, binding.needs.second);
-    let how = how_for(how, alone);
-    made(rt, alloc, binding.operation, first, second, &how, gate)
+    let means = means_for(means, alone);
+    made(rt, alloc, binding.operation, first, second, &means, gate)
 }
 
 /// Works the bindings in rounds, and gives the complexes of those that are wanted, at their places.
 ///
-/// A binding that is alone in its round is worked by as many workers as `how` says, and each other
+/// A binding that is alone in its round is worked by as many workers as `means` says, and each other
 /// one by one worker. `AllocError` says that memory was wanted and not found.
 pub(crate) fn work_bindings<R: Threads + Wait + Sync, G: Gate + Sync>(
     rt: &R,
@@ -123,10 +128,11 @@ pub(crate) fn work_bindings<R: Threads + Wait + Sync, G: Gate + Sync>(
     nodes: &Nodes,
     bindings: &[Binding],
     wanted: &[bool],
-    how: &How,
+    means: &Means,
     gate: &G,
 ) -> Result<Vec<Option<Complex>>, AllocError>
-    requires workers { (1 ≤ how.now.workers) × (how.now.workers ≤ 64) }
+    requires workers { (1 ≤ means.now.how.workers) × (means.now.how.workers ≤ 64) }
+    requires whole { ShowsSet Set.full means.now.whole.now }
     requires are { AreBindings nodes.now bindings.now }
     requires wanted { length wanted.now ≡ length bindings.now }
     ensures fits { IfOk result (λ v. AreSound (length bindings.now) (Fits nodes.now bindings.now) v.items) }
@@ -134,13 +140,13 @@ pub(crate) fn work_bindings<R: Threads + Wait + Sync, G: Gate + Sync>(
     ensures lean { IfOk result (λ v. (n : ℕ) → IsUnmarked wanted.now n → kept v.items n ≡ None) }
 {
     let work = |n: usize, alone: bool, done: &Results<Complex>| -> Result<Complex, AllocError>
-        requires { AreBindings nodes.now bindings.now × (n < length bindings.now) × IsReady (Fits nodes.now bindings.now) (first_need bindings.now n) (second_need bindings.now n) done.now.list.items }
+        requires { ShowsSet Set.full means.now.whole.now × AreBindings nodes.now bindings.now × (n < length bindings.now) × IsReady (Fits nodes.now bindings.now) (first_need bindings.now n) (second_need bindings.now n) done.now.list.items }
         ensures { IfOk result (Fits nodes.entry.now bindings.entry.now n) }
-    { work_binding(rt, alloc, nodes, bindings, n, alone, done, how, gate) };
+    { work_binding(rt, alloc, nodes, bindings, n, alone, done, means, gate) };
     let stage = Bindings {
         nodes,
         list: bindings,
         work,
     };
-    run_lean(rt, alloc, &stage, how.workers, wanted)
+    run_lean(rt, alloc, &stage, means.how.workers, wanted)
 }

@@ -12,14 +12,13 @@ ghost use Rattle.nef_shell.specs.Answers.{GiveStairs, GiveText, HasEnded};
 ghost use Rattle.nef_shell.specs.Ended.{RunEnds};
 ghost use Rattle.nef_shell.specs.Traffic.{traffic, IsUnread};
 
-use crate::ahead::work_ahead;
 use crate::line::refusal_line;
 use crate::script::{NoScript, script_for};
 use crate::status::Status;
 use crate::stop::Stop;
 use crate::work::work;
 use nef_io::{Gate, Sink, Source, put_all};
-use nef_script::{Script, ScriptKind};
+use nef_script::ScriptKind;
 use nef_words::{Options, WordsFault, read_words};
 use std::alloc::Global;
 use std::sync::Wait;
@@ -60,31 +59,6 @@ pub(crate) fn refuse_words<K: Sink>(sink: &mut K) -> Status
     }
 }
 
-// Works the script in the order that the options choose.
-fn work_script<R: Threads + Wait + Sync, K: Sink, G: Gate + Sync>(
-    rt: &R,
-    alloc: Global,
-    options: &Options,
-    script: &Script,
-    sink: &mut K,
-    gate: &G,
-) -> Result<(), Stop>
-    requires workers { (1 ≤ options.now.how.workers) × (options.now.how.workers ≤ 64) }
-    requires within { All (IsWithin (length script.now.nodes)) script.now.commands }
-    requires turned { All (TurnsRight script.now.nodes) script.now.commands }
-    requires bound_before { AreBoundBefore script.now.nodes script.now.commands }
-    ensures done { OnOk result ((output : List ℕ) × IsOutput options.now.text script.now.nodes script.now.commands output × Grows (K.written sink.old) (K.written sink.new) output) }
-    ensures quiet { OnOk result (K.faults sink.new ≡ K.faults sink.old) }
-    ensures stopped { IfErr result (λ stop. MatchStop stop (Rose (K.faults sink.old) (K.faults sink.new)) (Unit {0})) }
-    ensures front { IfErr result (λ _. (count : ℕ) × (output : List ℕ) × IsOutput options.now.text script.now.nodes (take count script.now.commands) output × GrowsWithin (K.written sink.old) (K.written sink.new) output) }
-{
-    if options.ahead {
-        work_ahead(rt, alloc, script, &options.how, options.text, sink, gate)
-    } else {
-        work(rt, alloc, script, &options.how, options.text, sink, gate)
-    }
-}
-
 // Runs the script that the options choose: has it checked, and works it.
 fn run_script<R: Threads + Wait + Sync, S: Source, K: Sink, G: Gate + Sync>(
     rt: &R,
@@ -105,7 +79,7 @@ fn run_script<R: Threads + Wait + Sync, S: Source, K: Sink, G: Gate + Sync>(
         Err(NoScript::Refused { line, kind }) => return refuse(alloc, sink, line, kind),
         Err(NoScript::OutOfMemory) => return Status::OutOfMemory,
     };
-    match work_script(rt, alloc, options, &script, sink, gate) {
+    match work(rt, alloc, options, &script, sink, gate) {
         Ok(()) => Status::Done,
         Err(Stop::WriteFault) => Status::WriteFault,
         Err(Stop::OutOfMemory) => Status::OutOfMemory,

@@ -1,27 +1,37 @@
-//! Works a script's commands in order.
+//! Works a script's commands.
 
-ghost use Rattle.std.specs.Prelude.{◌≡◌, ◌≤◌, ℕ, List, All, OnOk, IfErr, length, take};
+ghost use Rattle.std.specs.Prelude.{◌≡◌, ◌≤◌, ℕ, List, Some, true, false, All, OnOk, IfErr, length, slice_get, take, vec_len};
 ghost use Rattle.nef_space.specs.Local.{HasLabel};
+ghost use Rattle.nef_space.specs.Sets.{Set};
 ghost use Rattle.nef_geo.specs.Shapes.{place_of};
+ghost use Rattle.nef_complex.specs.declared.complex.Complex.{Complex};
+ghost use Rattle.nef_complex.specs.Complexes.{ShowsSet};
 ghost use Rattle.nef_expr.specs.Nodes.{node_set};
 ghost use Rattle.nef_io.specs.Bytes.{Rose, Grows, GrowsWithin};
 ghost use Rattle.nef_script.specs.Commands.{LooksAt, Binds, AreBoundBefore, TurnsRight};
 ghost use Rattle.nef_script.specs.Meaning.{IsWithin};
+ghost use Rattle.nef_shell.specs.Bindings.{IsAskedAbout, IsWorked};
 ghost use Rattle.nef_shell.specs.Output.{IsPiece, IsOutput};
 ghost use Rattle.nef_shell.specs.Operations.{AreShown, IsKept, AreBound};
 ghost use Rattle.nef_shell.specs.Stops.{MatchStop};
 
+use crate::ahead::worked_ahead;
 use crate::answer::{answer, same_answer};
 use crate::joining::joined_piece;
 use crate::listing::{count_piece, print_piece};
+use crate::operation::Means;
 use crate::ray_end::ray_piece;
-use crate::sets::Sets;
+use crate::sets::{Sets, no_complexes};
 use crate::stop::Stop;
-use nef_core::{How, TextVersion};
+use crate::uses::bound_node;
+use nef_complex::Complex;
+use nef_core::TextVersion;
 use nef_geo::{Label, Point};
 use nef_io::{Gate, Sink, put_all};
 use nef_locate::{locate, place_label};
+use nef_ops::constant;
 use nef_script::{Command, Script};
+use nef_words::Options;
 use std::alloc::Global;
 use std::sync::Wait;
 use std::thread::Threads;
@@ -45,12 +55,13 @@ pub(crate) fn work_command<R: Threads + Wait + Sync, K: Sink, G: Gate + Sync>(
     alloc: Global,
     sets: &mut Sets,
     command: &Command,
-    how: &How,
+    means: &Means,
     text: TextVersion,
     sink: &mut K,
     gate: &G,
 ) -> Result<(), Stop>
-    requires workers { (1 ≤ how.now.workers) × (how.now.workers ≤ 64) }
+    requires workers { (1 ≤ means.now.how.workers) × (means.now.how.workers ≤ 64) }
+    requires whole { ShowsSet Set.full means.now.whole.now }
     requires within { IsWithin (length sets.old.nodes.now) command.now }
     requires turned { TurnsRight sets.old.nodes.now command.now }
     requires shown { AreShown sets.old.nodes.now sets.old.list.items }
@@ -68,7 +79,7 @@ pub(crate) fn work_command<R: Threads + Wait + Sync, K: Sink, G: Gate + Sync>(
 {
     match command {
         Command::Bind { node, .. } => {
-            sets.bind(rt, alloc, *node, how, gate)?;
+            sets.bind(rt, alloc, *node, means, gate)?;
             Ok(())
         }
         Command::Turn {
@@ -77,7 +88,7 @@ pub(crate) fn work_command<R: Threads + Wait + Sync, K: Sink, G: Gate + Sync>(
             turn,
             ..
         } => {
-            sets.turn(rt, alloc, *node, *from, *turn, how, gate)?;
+            sets.turn(rt, alloc, *node, *from, *turn, means, gate)?;
             Ok(())
         }
         Command::Has { node, point, .. } => {
@@ -123,29 +134,105 @@ pub(crate) fn work_command<R: Threads + Wait + Sync, K: Sink, G: Gate + Sync>(
     }
 }
 
-/// Works the commands in order, and writes the piece of each when it is worked. Texts are of this version.
-pub(crate) fn work<R: Threads + Wait + Sync, K: Sink, G: Gate + Sync>(
+// Works the command, unless it binds a node and all bindings have been worked ahead.
+fn work_next<R: Threads + Wait + Sync, K: Sink, G: Gate + Sync>(
     rt: &R,
     alloc: Global,
-    script: &Script,
-    how: &How,
+    sets: &mut Sets,
+    command: &Command,
+    ahead: bool,
+    means: &Means,
     text: TextVersion,
     sink: &mut K,
     gate: &G,
 ) -> Result<(), Stop>
-    requires workers { (1 ≤ how.now.workers) × (how.now.workers ≤ 64) }
+    requires workers { (1 ≤ means.now.how.workers) × (means.now.how.workers ≤ 64) }
+    requires whole { ShowsSet Set.full means.now.whole.now }
+    requires within { IsWithin (length sets.old.nodes.now) command.now }
+    requires turned { TurnsRight sets.old.nodes.now command.now }
+    requires shown { AreShown sets.old.nodes.now sets.old.list.items }
+    requires kept { IsWorked ahead command.now → (k : ℕ) → LooksAt sets.old.nodes.now command.now k → IsKept sets.old.nodes.now sets.old.list.items k }
+    ensures done { OnOk result ((piece : List ℕ) × IsPiece text sets.old.nodes.now command.now piece × Grows (K.written sink.old) (K.written sink.new) piece) }
+    ensures shown { OnOk result (AreShown sets.new.nodes.now sets.new.list.items) }
+    ensures bound { OnOk result (AreBound sets.old.nodes.now (λ k. (ahead ≡ false) × Binds command.now k) sets.old.list.items sets.new.list.items) }
+    ensures nodes { sets.new.nodes ≡ sets.old.nodes }
+    ensures uses { sets.new.last_uses ≡ sets.old.last_uses }
+    ensures stopped { IfErr result (λ stop. MatchStop stop
+        (Rose (K.faults sink.old) (K.faults sink.new) × ((piece : List ℕ) × IsPiece text sets.old.nodes.now command.now piece × GrowsWithin (K.written sink.old) (K.written sink.new) piece))
+        (K.written sink.new ≡ K.written sink.old)) }
+    ensures quiet { OnOk result (K.faults sink.new ≡ K.faults sink.old) }
+    ensures count { K.faults sink.old ≤ K.faults sink.new }
+{
+    if ahead && bound_node(command).is_some() {
+        Ok(())
+    } else {
+        work_command(rt, alloc, sets, command, means, text, sink, gate)
+    }
+}
+
+// Works the commands in order, and writes the piece of each when it is worked. Where all bindings have been worked ahead,
+// the list has the complexes that questions ask about, and else none.
+fn work_all<R: Threads + Wait + Sync, K: Sink, G: Gate + Sync>(
+    rt: &R,
+    alloc: Global,
+    script: &Script,
+    list: Vec<Option<Complex>>,
+    ahead: bool,
+    means: &Means,
+    text: TextVersion,
+    sink: &mut K,
+    gate: &G,
+) -> Result<(), Stop>
+    requires workers { (1 ≤ means.now.how.workers) × (means.now.how.workers ≤ 64) }
+    requires whole { ShowsSet Set.full means.now.whole.now }
     requires within { All (IsWithin (length script.now.nodes)) script.now.commands }
     requires turned { All (TurnsRight script.now.nodes) script.now.commands }
     requires bound_before { AreBoundBefore script.now.nodes script.now.commands }
+    requires count { vec_len list ≡ length script.now.nodes }
+    requires shown { AreShown script.now.nodes list.items }
+    requires asked { ahead ≡ true → (k : ℕ) → IsAskedAbout script.now.nodes script.now.commands k → IsKept script.now.nodes list.items k }
+    requires only { (k : ℕ) (c : Complex) → slice_get list.items k ≡ Some (Some c) → IsAskedAbout script.now.nodes script.now.commands k }
     ensures done { OnOk result ((output : List ℕ) × IsOutput text script.now.nodes script.now.commands output × Grows (K.written sink.old) (K.written sink.new) output) }
     ensures quiet { OnOk result (K.faults sink.new ≡ K.faults sink.old) }
     ensures stopped { IfErr result (λ stop. MatchStop stop (Rose (K.faults sink.old) (K.faults sink.new)) (Unit {0})) }
     ensures front { IfErr result (λ _. (count : ℕ) × (output : List ℕ) × IsOutput text script.now.nodes (take count script.now.commands) output × GrowsWithin (K.written sink.old) (K.written sink.new) output) }
 {
-    let mut sets = Sets::new(alloc, script)?;
+    let mut sets = Sets::of(alloc, script, list)?;
     for (now, command) in script.commands().iter().enumerate() {
-        work_command(rt, alloc, &mut sets, command, how, text, sink, gate)?;
+        work_next(rt, alloc, &mut sets, command, ahead, means, text, sink, gate)?;
         sets.release(command, now);
     }
     Ok(())
+}
+
+/// Works the commands, and writes the piece of each in their order. Where the options say so, all bindings are worked
+/// first, of which those whose operands are done may run at the same time; and else each command when it comes.
+pub(crate) fn work<R: Threads + Wait + Sync, K: Sink, G: Gate + Sync>(
+    rt: &R,
+    alloc: Global,
+    options: &Options,
+    script: &Script,
+    sink: &mut K,
+    gate: &G,
+) -> Result<(), Stop>
+    requires workers { (1 ≤ options.now.how.workers) × (options.now.how.workers ≤ 64) }
+    requires within { All (IsWithin (length script.now.nodes)) script.now.commands }
+    requires turned { All (TurnsRight script.now.nodes) script.now.commands }
+    requires bound_before { AreBoundBefore script.now.nodes script.now.commands }
+    ensures done { OnOk result ((output : List ℕ) × IsOutput options.now.text script.now.nodes script.now.commands output × Grows (K.written sink.old) (K.written sink.new) output) }
+    ensures quiet { OnOk result (K.faults sink.new ≡ K.faults sink.old) }
+    ensures stopped { IfErr result (λ stop. MatchStop stop (Rose (K.faults sink.old) (K.faults sink.new)) (Unit {0})) }
+    ensures front { IfErr result (λ _. (count : ℕ) × (output : List ℕ) × IsOutput options.now.text script.now.nodes (take count script.now.commands) output × GrowsWithin (K.written sink.old) (K.written sink.new) output) }
+{
+    let whole = constant(alloc, true)?;
+    let means = Means {
+        whole: &whole,
+        how: options.how,
+    };
+    let list = if options.ahead {
+        worked_ahead(rt, alloc, script, &means, gate)?
+    } else {
+        no_complexes(alloc, script.nodes().len())?
+    };
+    work_all(rt, alloc, script, list, options.ahead, &means, options.text, sink, gate)
 }

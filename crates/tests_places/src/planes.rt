@@ -1,6 +1,6 @@
 //! What rays within the lowest plane across the first axis meet of the empty set's complex.
 
-use crate::starts::{empty, met_along_axis, met_from_vertex};
+use crate::starts::{empty, met_along_axis, met_along_dir, met_from_vertex};
 use nef_complex::PlaneMeet;
 use nef_geo::{Plane, Point, hit_at};
 use std::test::Fail;
@@ -28,6 +28,10 @@ fn ray_from_a_vertex(rt: HostRuntime) -> Result<(), Fail> {
     assert!(rt; c.vertices.len() > 2);
     assert_eq!(rt;
         met_from_vertex(&c, &h, 2),
+        Some(Some(PlaneMeet::AtEdge(3)))
+    );
+    assert_eq!(rt;
+        met_along_dir(&c, &h, 2),
         Some(Some(PlaneMeet::AtEdge(3)))
     );
     Ok(())

@@ -101,3 +101,17 @@ pub(crate) fn met_from_vertex(c: &Complex, h: &Plane, vertex: usize) -> Option<O
         None
     }
 }
+
+// The same of a vertex on the plane, by the call that is given a point and looks the vertex up.
+pub(crate) fn met_along_dir(c: &Complex, h: &Plane, vertex: usize) -> Option<Option<PlaneMeet>>
+    requires shows { (s : Set) × ShowsSet s c.now }
+    requires within { vertex < length c.now.vertices }
+{
+    let d = plane_dir(h);
+    let p = hit_at(&c.vertices.at(vertex).point);
+    if hit_side(h, &p) == Sign::Zero && is_at_vertex(c, vertex, &p) && has_no_svertex(c, &p, &d) {
+        Some(first_in_plane(c, h, &p, &d))
+    } else {
+        None
+    }
+}

@@ -4,10 +4,12 @@ ghost use Rattle.std.specs.Prelude.{◌≡◌, ◌≤◌, ℕ, ◌<◌, length, 
 ghost use Rattle.nef_shell.specs.Operations.{AreShown, IsKept};
 
 use super::{UNIT_BOX, unfolded};
+use crate::operation::Means;
 use crate::same_text;
 use crate::sets::Sets;
 use nef_core::{BoardKind, How, TextVersion};
 use nef_io::OpenGate;
+use nef_ops::constant;
 use nef_script::{Script, parse};
 use nef_volumes::parts;
 use std::alloc::{AllocError, Global};
@@ -43,8 +45,13 @@ fn bind_all<R: Threads + Wait + Sync>(
     ensures nodes { OnOk result (sets.new.nodes.now ≡ script.now.nodes) }
     ensures kept { OnOk result ((k : ℕ) → k < length script.now.nodes → IsKept script.now.nodes sets.new.list.items k) }
 {
+    let whole = constant(alloc, true)?;
+    let means = Means {
+        whole: &whole,
+        how: TWO_BY_LOCK,
+    };
     for node in 0..script.nodes().len() {
-        sets.bind(rt, alloc, node, &TWO_BY_LOCK, &OpenGate)?;
+        sets.bind(rt, alloc, node, &means, &OpenGate)?;
     }
     Ok(())
 }

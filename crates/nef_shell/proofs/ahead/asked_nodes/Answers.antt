@@ -1,4 +1,3 @@
-use Rattle.std.proofs.Common.{◌≡◌, ℕ, Some, None}
 use Rattle.nef_shell.proofs.Asked.{none-some}
 use Rattle.nef_shell.proofs.ahead.asked_nodes.Goals as goal
 

@@ -1,7 +1,7 @@
-use Rattle.std.proofs.Common.{◌≡◌, ◌∙◌, ◌<◌, arith, refl, sym, subst, Some, length, inl, inr}
+use Rattle.std.proofs.Common.{◌≡◌, ◌∙◌, arith, sym, subst, Some, inl, inr}
 use Rattle.std.specs.Prelude.{slice_get}
 use Rattle.std.proofs.lemmas.Bool.{cases_lt}
-use Rattle.std.proofs.lemmas.Option.{slice_get_read, slice_get_within, get_or_from_slice_get}
+use Rattle.std.proofs.lemmas.Option.{slice_get_within, get_or_from_slice_get}
 use Rattle.nef_script.specs.Commands.{Binds}
 use Rattle.nef_shell.specs.Bindings.{AreBindings}
 use Rattle.nef_shell.proofs.bindings.bindings_of.Goals as goal

@@ -19,5 +19,5 @@ returns-in-Err-WriteFault-clause-status g c words given chosen =
 pub returns-clause-status : goal.returns-clause-status
 returns-clause-status g c words given chosen =
     let script = c.in-Ok.ensures.script in
-    let front = c.in-Err-OutOfMemory-work_script.ensures.front in
+    let front = c.in-Err-OutOfMemory-work.ensures.front in
     inr (HasFront.of_output script.0 _ _ front.0 front.1 c.args.options.now.text chosen (c.args.options.now.stairs, given, script.1) script.2 front.2 front.3)

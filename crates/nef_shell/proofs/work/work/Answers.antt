@@ -1,121 +1,27 @@
-use Rattle.std.proofs.Common.{◌≡◌, ◌⊎◌, ◌+◌, ◌<◌, ◌++◌, [], ◌∙◌, ap, sym, refl, subst, arith, length, Some, inl, inr}
-use Rattle.std.specs.Prelude.{slice_get, slice_index}
-use Rattle.std.proofs.lemmas.Bool.{cases_lt}
-use Rattle.std.proofs.lemmas.Option.{slice_get_read}
-use Rattle.std.proofs.lemmas.Result.{err_from_is_err_and}
-use Rattle.nef_script.specs.Commands.{LooksAt, Binds}
-use Rattle.nef_shell.specs.Commands.{AreLastUses, AreUses}
-use Rattle.nef_shell.specs.Operations.{AreShown, IsKept, IsGone, IsLean, AreBound}
-use Rattle.nef_shell.proofs.Complexes.{stays-kept}
-use Rattle.nef_shell.proofs.Outputs.{output-next, grows-more, front-at, stop-rose, grows_within-none}
+use Rattle.std.proofs.Common.{◌≡◌, ◌∙◌, Some, arith, sym, subst, false, true, slice_get}
+use Rattle.nef_shell.specs.Operations.{IsKept}
+use Rattle.nef_shell.proofs.Asked.{none-there}
 use Rattle.nef_shell.proofs.work.work.Goals as goal
+use Rattle.nef_shell.proofs.work.work.Goals.{then-options+in_ok-list, else-options+in_ok-list-2}
 
-pub returns-in_err-sets-clause-front : goal.returns-in_err-sets-clause-front
-returns-in_err-sets-clause-front g c =
-    let p = err_from_is_err_and c.from_residual.result c.from_residual.ensures.1 in
-    rw p.1 (0, [], refl, grows_within-none _)
+pub work_all-requires-clause-shown : goal.work_all-requires-clause-shown
+work_all-requires-clause-shown g c κs within k x at = elim c.if-options.branch [
+  | then-options+in_ok-list w ↦ w.in_ok-list.ensures.shown k x (subst (λ z. slice_get z.items k ≡ Some (Some x)) w.list-is at)
+  | else-options+in_ok-list-2 w ↦
+      let ok = w.in_ok-list-2.list.ok in
+      absurd (none-there w.in_ok-list-2.list.items w.len.result (omega (arith, w.in_ok-list-2.ensures.count, ok)) w.in_ok-list-2.ensures.none k x (subst (λ z. slice_get z.items k ≡ Some (Some x)) w.list-is at))
+]
 
-pub returns-in_err-work_command-clause-stopped : goal.returns-in_err-work_command-clause-stopped
-returns-in_err-work_command-clause-stopped g c =
-    let p = err_from_is_err_and c.from_residual-in_err-work_command.result c.from_residual-in_err-work_command.ensures.1 in
-    rw (p.1, p.2) (stop-rose _ _ _ _ _ _ c.loop-now.invariant.count c.in_err-work_command.ensures.stopped)
+pub work_all-requires-clause-asked : goal.work_all-requires-clause-asked
+work_all-requires-clause-asked g c κs within ahead k about = elim c.if-options.branch [
+  | then-options+in_ok-list w ↦ subst (λ z. IsKept c.args.script.now.nodes z.items k) (sym w.list-is) (w.in_ok-list.ensures.asked k about)
+  | else-options+in_ok-list-2 w ↦ absurd (let f : true ≡ false = sym ahead ∙ w.if-options.false in cc)
+]
 
-pub work_command-requires-clause-shown : goal.work_command-requires-clause-shown
-work_command-requires-clause-shown g c scopes within = subst (λ z. AreShown z c.loop-now.sets.list.items) (sym c.loop-now.invariant.nodes) c.loop-now.invariant.shown
-
-pub work_command-requires-clause-kept : goal.work_command-requires-clause-kept
-work_command-requires-clause-kept g c scopes within k looks =
-    let items = c.commands-command-items.result.now in
-    let item = c.command-item.result in
-    let now = c.loop-now.now in
-    let so_far = c.loop-now.invariant in
-    let all = c.commands-command-items.ensures.commands in
-    let at : slice_get c.args.script.now.commands now ≡ Some item = subst (λ z. slice_get z now ≡ Some item) all (slice_get_read items _ now item refl (omega arith) c.command-item.is) in
-    let here : LooksAt c.args.script.now.nodes item k = subst (λ z. LooksAt z item k) so_far.nodes looks in
-    let was = c.requires.bound_before now item at k here in
-    subst (λ z. IsKept z c.loop-now.sets.list.items k) (sym so_far.nodes) (so_far.kept was.0 k was.1 was.2 was.3 was.4 (so_far.last now k item at here))
-
-pub returns-in_err-work_command-clause-front : goal.returns-in_err-work_command-clause-front
-returns-in_err-work_command-clause-front g c =
-    let p = err_from_is_err_and c.from_residual-in_err-work_command.result c.from_residual-in_err-work_command.ensures.1 in
-    let so_far = c.loop-now.invariant in
-    let items = c.commands-command-items.result.now in
-    let output = so_far.written in
-    let stopped = rw so_far.nodes at c.in_err-work_command.ensures.stopped in
-    let front = front-at c.args.text _ c.args.script.now.nodes items c.loop-now.now c.command-item.result _ _ _ _ _ output.0 (omega arith) c.command-item.is output.1 output.2 stopped in
-    rw p.1 (rw c.commands-command-items.ensures.commands at front)
-
-pub release-requires-clause-used : goal.release-requires-clause-used
-release-requires-clause-used g c k within used =
-    let nodes = c.args.script.now.nodes in
-    let items = c.commands-command-items.result.now in
-    let item = c.command-item.result in
-    let now = c.loop-now.now in
-    let so_far = c.loop-now.invariant in
-    let worked = c.in_ok-work_command.ensures in
-    let all = c.commands-command-items.ensures.commands in
-    let at : slice_get c.args.script.now.commands now ≡ Some item = subst (λ z. slice_get z now ≡ Some item) all (slice_get_read items _ now item refl (omega arith) c.command-item.is) in
-    let old = c.loop-now.sets in
-    let mid = c.work_command.new.sets in
-    let same : mid.nodes.now ≡ nodes = ap (λ z. z.now) worked.nodes ∙ so_far.nodes in
-    let uses : slice_index mid.last_uses.items k ≡ slice_index old.last_uses.items k = ap (λ z. slice_index z.items k) worked.uses in
-    let before : k < length old.list.items = omega (arith, worked.bound.count) in
-    let still : IsGone old.list.items k → IsGone mid.list.items k ⊎ (LooksAt mid.nodes.now item k ⊎ Binds item k) =
-    λ gone. elim (worked.bound.gone k gone) [ inl g ↦ inl g | inr b ↦ inr (inr b) ] in
-    elim (cases_lt (slice_index old.last_uses.items k) now) [
-      | inl earlier ↦ still (so_far.lean k before earlier)
-      | inr here ↦ elim (so_far.used k (omega (arith, mid.counted.1, ap length same))) [
-        | inl zero ↦ still (so_far.none (omega (arith, uses)) k before)
-        | inr (d, seen, looks) ↦
-            let last : slice_index old.last_uses.items k ≡ now = omega (arith, uses) in
-            let found : Some d ≡ Some item = sym seen ∙ ap (slice_get c.args.script.now.commands) last ∙ at in
-            let one : d ≡ item = cc in
-            inr (inl (subst (λ z. LooksAt z item k) (sym same) (subst (λ z. LooksAt nodes z k) one looks)))
-      ]
-    ]
-
-pub loop-now-preserved : goal.loop-now-preserved
-loop-now-preserved g c =
-    let nodes = c.args.script.now.nodes in
-    let items = c.commands-command-items.result.now in
-    let item = c.command-item.result in
-    let now = c.loop-now.now in
-    let so_far = c.loop-now.invariant in
-    let worked = c.in_ok-work_command.ensures in
-    let released = c.release.ensures in
-    let all = c.commands-command-items.ensures.commands in
-    let at : slice_get c.args.script.now.commands now ≡ Some item = subst (λ z. slice_get z now ≡ Some item) all (slice_get_read items _ now item refl (omega arith) c.command-item.is) in
-    let old = c.loop-now.sets in
-    let mid = c.work_command.new.sets in
-    let new = c.release.new.self in
-    let same : mid.nodes.now ≡ nodes = ap (λ z. z.now) worked.nodes ∙ so_far.nodes in
-    let same_after : new.nodes.now ≡ nodes = ap (λ z. z.now) released.nodes ∙ same in
-    let uses : mid.last_uses.items ≡ old.last_uses.items = ap (λ z. z.items) worked.uses in
-    let uses_after : new.last_uses.items ≡ old.last_uses.items = ap (λ z. z.items) released.uses ∙ uses in
-    let done = rw so_far.nodes at worked.done in
-    let bound = subst (λ z. AreBound z (Binds item) old.list.items mid.list.items) so_far.nodes worked.bound in
-    record {
-      count = omega (arith, worked.count);
-      quiet = worked.quiet ∙ so_far.quiet;
-      written = (
-        so_far.written.0 ++ done.0,
-        output-next c.args.text nodes items now item _ _ c.loop-now-test.true c.command-item.is so_far.written.1 done.1,
-        grows-more _ _ _ _ _ so_far.written.2 done.2,
-      );
-      nodes = same_after;
-      last = subst (AreLastUses nodes c.args.script.now.commands) (sym uses_after) so_far.last;
-      used = subst (AreUses nodes c.args.script.now.commands) (sym uses_after) so_far.used;
-      lean = subst (λ z. IsLean z (now + 1) new.list.items) (sym (ap (λ z. z.items) released.uses)) released.lean;
-      none = λ zero. absurd (omega arith);
-      kept = λ i k d before found binds later.
-          let later_mid : now < slice_index mid.last_uses.items k = omega (arith, ap (λ z. slice_index z k) uses, ap (λ z. slice_index z k) uses_after) in
-          subst (λ z. IsKept z new.list.items k) same_after (released.kept k later_mid (subst (λ z. IsKept z mid.list.items k) (sym same) (elim (cases_lt i now) [
-            | inl earlier ↦ stays-kept nodes (Binds item) old.list.items mid.list.items k bound (so_far.kept i k d earlier found binds (omega (arith, ap (λ z. slice_index z k) uses)))
-            | inr past ↦
-                let here : i ≡ now = omega arith in
-                let one : Some d ≡ Some item = sym found ∙ ap (slice_get c.args.script.now.commands) here ∙ at in
-                let is : d ≡ item = cc in
-                bound.bound k (subst (λ z. Binds z k) is binds)
-          ])));
-      shown = subst (λ z. AreShown z new.list.items) same_after (released.shown worked.shown);
-    }
+pub work_all-requires-clause-only : goal.work_all-requires-clause-only
+work_all-requires-clause-only g c κs within k x at = elim c.if-options.branch [
+  | then-options+in_ok-list w ↦ w.in_ok-list.ensures.only k x (subst (λ z. slice_get z.items k ≡ Some (Some x)) w.list-is at)
+  | else-options+in_ok-list-2 w ↦
+      let ok = w.in_ok-list-2.list.ok in
+      absurd (none-there w.in_ok-list-2.list.items w.len.result (omega (arith, w.in_ok-list-2.ensures.count, ok)) w.in_ok-list-2.ensures.none k x (subst (λ z. slice_get z.items k ≡ Some (Some x)) w.list-is at))
+]

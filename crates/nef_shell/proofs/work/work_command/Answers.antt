@@ -1,9 +1,7 @@
-use Rattle.std.proofs.Common.{sym, refl, subst, arith}
-use Rattle.std.specs.Prelude.{slice_index_or}
+use Rattle.std.proofs.Common.{refl}
 use Rattle.std.proofs.lemmas.Result.{err_from_is_err_and}
 use Rattle.nef_expr.specs.declared.nodes.Node.TheVariants as node
 use Rattle.nef_expr.specs.Nodes.{node_set}
-use Rattle.nef_expr.specs.Nodes.{IsOperand}
 use Rattle.nef_shell.specs.Output.{answer_of, same_answer}
 use Rattle.nef_shell.proofs.Complexes.{binds-that, turns-that}
 use Rattle.nef_shell.proofs.Outputs.{same-piece}

@@ -1,6 +1,5 @@
 use Rattle.std.proofs.Common.{◌∙◌, ap, arith, inl, inr}
 use Rattle.std.specs.Prelude.{slice_index}
-use Rattle.nef_shell.proofs.Complexes.{some-then}
 use Rattle.nef_shell.proofs.sets.Sets.release.Goals as goal
 
 pub returns-clause-lean : goal.returns-clause-lean

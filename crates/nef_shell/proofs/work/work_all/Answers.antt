@@ -1,4 +1,4 @@
-use Rattle.std.proofs.Common.{◌≡◌, ◌⊎◌, ◌+◌, ◌<◌, ◌++◌, [], ◌∙◌, ap, sym, refl, subst, arith, length, Some, inl, inr}
+use Rattle.std.proofs.Common.{◌≡◌, ◌⊎◌, ℕ, ◌+◌, ◌<◌, ◌++◌, [], false, ◌∙◌, ap, sym, refl, subst, arith, length, Some, inl, inr}
 use Rattle.std.specs.Prelude.{slice_get, slice_index}
 use Rattle.std.proofs.lemmas.Bool.{cases_lt}
 use Rattle.std.proofs.lemmas.Option.{slice_get_read}
@@ -6,26 +6,26 @@ use Rattle.std.proofs.lemmas.Result.{err_from_is_err_and}
 use Rattle.nef_script.specs.Commands.{LooksAt, Binds}
 use Rattle.nef_shell.specs.Commands.{AreLastUses, AreUses}
 use Rattle.nef_shell.specs.Operations.{AreShown, IsKept, IsGone, IsLean, AreBound}
-use Rattle.nef_shell.proofs.Asked.{gone-or-there, grows-none}
+use Rattle.nef_shell.proofs.Asked.{gone-or-there, grows-none, true-or-false}
 use Rattle.nef_shell.proofs.Complexes.{stays-kept}
 use Rattle.nef_shell.proofs.Outputs.{output-next, grows-more, front-at, stop-rose, grows_within-none}
-use Rattle.nef_shell.proofs.ahead.answer_all.Goals as goal
+use Rattle.nef_shell.proofs.work.work_all.Goals as goal
 
 pub returns-in_err-sets-clause-front : goal.returns-in_err-sets-clause-front
 returns-in_err-sets-clause-front g c =
     let p = err_from_is_err_and c.from_residual.result c.from_residual.ensures.1 in
     rw p.1 (0, [], refl, grows_within-none _)
 
-pub returns-in_err-answer_command-clause-stopped : goal.returns-in_err-answer_command-clause-stopped
-returns-in_err-answer_command-clause-stopped g c =
-    let p = err_from_is_err_and c.from_residual-in_err-answer_command.result c.from_residual-in_err-answer_command.ensures.1 in
-    rw (p.1, p.2) (stop-rose _ _ _ _ _ _ c.loop-now.invariant.count c.in_err-answer_command.ensures.stopped)
+pub returns-in_err-work_next-clause-stopped : goal.returns-in_err-work_next-clause-stopped
+returns-in_err-work_next-clause-stopped g c =
+    let p = err_from_is_err_and c.from_residual-in_err-work_next.result c.from_residual-in_err-work_next.ensures.1 in
+    rw (p.1, p.2) (stop-rose _ _ _ _ _ _ c.loop-now.invariant.count c.in_err-work_next.ensures.stopped)
 
-pub answer_command-requires-clause-shown : goal.answer_command-requires-clause-shown
-answer_command-requires-clause-shown g c scopes within = subst (λ z. AreShown z c.loop-now.sets.list.items) (sym c.loop-now.invariant.nodes) c.loop-now.invariant.shown
+pub work_next-requires-clause-shown : goal.work_next-requires-clause-shown
+work_next-requires-clause-shown g c scopes within = subst (λ z. AreShown z c.loop-now.sets.list.items) (sym c.loop-now.invariant.nodes) c.loop-now.invariant.shown
 
-pub answer_command-requires-clause-kept : goal.answer_command-requires-clause-kept
-answer_command-requires-clause-kept g c scopes within asks k looks =
+pub work_next-requires-clause-kept : goal.work_next-requires-clause-kept
+work_next-requires-clause-kept g c scopes within works k looks =
     let items = c.commands-command-items.result.now in
     let item = c.command-item.result in
     let now = c.loop-now.now in
@@ -33,15 +33,18 @@ answer_command-requires-clause-kept g c scopes within asks k looks =
     let all = c.commands-command-items.ensures.commands in
     let at : slice_get c.args.script.now.commands now ≡ Some item = subst (λ z. slice_get z now ≡ Some item) all (slice_get_read items _ now item refl (omega arith) c.command-item.is) in
     let here : LooksAt c.args.script.now.nodes item k = subst (λ z. LooksAt z item k) so_far.nodes looks in
-    subst (λ z. IsKept z c.loop-now.sets.list.items k) (sym so_far.nodes) (so_far.kept k (now, item, at, asks, here) (so_far.last now k item at here))
+    elim (so_far.kept now k item (omega arith) at works here) [
+      | inl kept ↦ subst (λ z. IsKept z c.loop-now.sets.list.items k) (sym so_far.nodes) kept
+      | inr (e, j, d, low, below, seen, binds) ↦ absurd (omega arith)
+    ]
 
-pub returns-in_err-answer_command-clause-front : goal.returns-in_err-answer_command-clause-front
-returns-in_err-answer_command-clause-front g c =
-    let p = err_from_is_err_and c.from_residual-in_err-answer_command.result c.from_residual-in_err-answer_command.ensures.1 in
+pub returns-in_err-work_next-clause-front : goal.returns-in_err-work_next-clause-front
+returns-in_err-work_next-clause-front g c =
+    let p = err_from_is_err_and c.from_residual-in_err-work_next.result c.from_residual-in_err-work_next.ensures.1 in
     let so_far = c.loop-now.invariant in
     let items = c.commands-command-items.result.now in
     let output = so_far.written in
-    let stopped = rw so_far.nodes at c.in_err-answer_command.ensures.stopped in
+    let stopped = rw so_far.nodes at c.in_err-work_next.ensures.stopped in
     let front = front-at c.args.text _ c.args.script.now.nodes items c.loop-now.now c.command-item.result _ _ _ _ _ output.0 (omega arith) c.command-item.is output.1 output.2 stopped in
     rw p.1 (rw c.commands-command-items.ensures.commands at front)
 
@@ -52,16 +55,16 @@ release-requires-clause-used g c k within used =
     let item = c.command-item.result in
     let now = c.loop-now.now in
     let so_far = c.loop-now.invariant in
-    let worked = c.in_ok-answer_command.ensures in
+    let worked = c.in_ok-work_next.ensures in
     let all = c.commands-command-items.ensures.commands in
     let at : slice_get c.args.script.now.commands now ≡ Some item = subst (λ z. slice_get z now ≡ Some item) all (slice_get_read items _ now item refl (omega arith) c.command-item.is) in
     let old = c.loop-now.sets in
-    let mid = c.answer_command.new.sets in
+    let mid = c.work_next.new.sets in
     let same : mid.nodes.now ≡ nodes = ap (λ z. z.now) worked.nodes ∙ so_far.nodes in
     let uses : slice_index mid.last_uses.items k ≡ slice_index old.last_uses.items k = ap (λ z. slice_index z.items k) worked.uses in
-    let before : k < length old.list.items = omega (arith, worked.still.count) in
+    let before : k < length old.list.items = omega (arith, worked.bound.count) in
     let still : IsGone old.list.items k → IsGone mid.list.items k ⊎ (LooksAt mid.nodes.now item k ⊎ Binds item k) =
-    λ gone. elim (worked.still.gone k gone) [ inl g ↦ inl g | inr b ↦ absurd b ] in
+    λ gone. elim (worked.bound.gone k gone) [ inl g ↦ inl g | inr b ↦ inr (inr b.1) ] in
     elim (cases_lt (slice_index old.last_uses.items k) now) [
       | inl earlier ↦ still (so_far.lean k before earlier)
       | inr here ↦ elim (so_far.used k (omega (arith, mid.counted.1, ap length same))) [
@@ -90,19 +93,20 @@ loop-now-preserved g c =
     let item = c.command-item.result in
     let now = c.loop-now.now in
     let so_far = c.loop-now.invariant in
-    let worked = c.in_ok-answer_command.ensures in
+    let worked = c.in_ok-work_next.ensures in
     let released = c.release.ensures in
     let all = c.commands-command-items.ensures.commands in
     let at : slice_get c.args.script.now.commands now ≡ Some item = subst (λ z. slice_get z now ≡ Some item) all (slice_get_read items _ now item refl (omega arith) c.command-item.is) in
     let old = c.loop-now.sets in
-    let mid = c.answer_command.new.sets in
+    let mid = c.work_next.new.sets in
     let new = c.release.new.self in
     let same : mid.nodes.now ≡ nodes = ap (λ z. z.now) worked.nodes ∙ so_far.nodes in
     let same_after : new.nodes.now ≡ nodes = ap (λ z. z.now) released.nodes ∙ same in
     let uses : mid.last_uses.items ≡ old.last_uses.items = ap (λ z. z.items) worked.uses in
     let uses_after : new.last_uses.items ≡ old.last_uses.items = ap (λ z. z.items) released.uses ∙ uses in
     let done = rw so_far.nodes at worked.done in
-    let bound = subst (λ z. AreBound z (λ j. ⊥) old.list.items mid.list.items) so_far.nodes worked.still in
+    let Due = λ (k : ℕ). (c.args.ahead ≡ false) × Binds item k in
+    let bound = subst (λ z. AreBound z Due old.list.items mid.list.items) so_far.nodes worked.bound in
     record {
       count = omega (arith, worked.count);
       quiet = worked.quiet ∙ so_far.quiet;
@@ -116,10 +120,21 @@ loop-now-preserved g c =
       used = subst (AreUses nodes c.args.script.now.commands) (sym uses_after) so_far.used;
       lean = subst (λ z. IsLean z (now + 1) new.list.items) (sym (ap (λ z. z.items) released.uses)) released.lean;
       only = λ zero. absurd (omega arith);
-      kept = λ k asked later.
-          let later_mid : now < slice_index mid.last_uses.items k = omega (arith, ap (λ z. slice_index z k) uses, ap (λ z. slice_index z k) uses_after) in
-          subst (λ z. IsKept z new.list.items k) same_after (released.kept k later_mid (subst (λ z. IsKept z mid.list.items k) (sym same)
-          (stays-kept nodes (λ j. ⊥) old.list.items mid.list.items k bound (so_far.kept k asked (omega (arith, ap (λ z. slice_index z k) uses))))));
+      kept = λ i k d later found works looks.
+          let last = so_far.last i k d found looks in
+          let later_mid : now < slice_index mid.last_uses.items k = omega (arith, ap (λ z. slice_index z k) uses) in
+          let stay : IsKept nodes mid.list.items k → IsKept nodes new.list.items k = λ kept. subst (λ z. IsKept z new.list.items k) same_after (released.kept k later_mid (subst (λ z. IsKept z mid.list.items k) (sym same) kept)) in
+          elim (so_far.kept i k d (omega arith) found works looks) [
+            | inl kept ↦ inl (stay (stays-kept nodes Due old.list.items mid.list.items k bound kept))
+            | inr (e, j, b, low, below, seen, binds) ↦ elim (cases_lt now j) [
+              | inl after ↦ inr (e, j, b, omega arith, below, seen, binds)
+              | inr past ↦
+                  let here : j ≡ now = omega arith in
+                  let one : Some b ≡ Some item = sym seen ∙ ap (slice_get c.args.script.now.commands) here ∙ at in
+                  let is : b ≡ item = cc in
+                  inl (stay (bound.bound k (e, subst (λ z. Binds z k) is binds)))
+            ]
+          ];
       shown = subst (λ z. AreShown z new.list.items) same_after (released.shown worked.shown);
     }
 
@@ -137,6 +152,9 @@ loop-now-init g c =
       used = made.used;
       lean = λ k within below. absurd (omega arith);
       only = λ zero k x there. c.requires.only k x (subst (λ z. slice_get z k ≡ Some (Some x)) same there);
-      kept = λ k about later. subst (λ z. IsKept nodes z k) (sym same) (c.requires.asked k about);
+      kept = λ i k d later found works looks. elim (true-or-false c.args.ahead) [
+        | inl e ↦ inl (subst (λ z. IsKept nodes z k) (sym same) (c.requires.asked e k (i, d, found, works e, looks)))
+        | inr e ↦ let (j, b, low, seen, binds) = c.requires.bound_before i d found k looks in inr (e, j, b, omega arith, low, seen, binds)
+      ];
       shown = subst (λ z. AreShown nodes z) (sym same) c.requires.shown;
     }

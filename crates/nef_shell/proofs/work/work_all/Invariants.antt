@@ -1,12 +1,14 @@
-use Rattle.std.proofs.Common.{◌≡◌, ℕ, ◌≤◌, take, List, Some}
-use Rattle.std.specs.Prelude.{slice_get, slice_index}
+use Rattle.std.proofs.Common.{◌≡◌, ◌⊎◌, ℕ, ◌<◌, ◌≤◌, take, false, List, Some}
+use Rattle.std.specs.Prelude.{slice_get}
 use Rattle.nef_io.specs.Bytes.{Grows}
 use Rattle.nef_complex.specs.declared.complex.Complex.{Complex}
-use Rattle.nef_shell.specs.Bindings.{IsAskedAbout}
+use Rattle.nef_script.specs.declared.script.Command.{Command}
+use Rattle.nef_script.specs.Commands.{LooksAt, Binds}
+use Rattle.nef_shell.specs.Bindings.{IsAskedAbout, IsWorked}
 use Rattle.nef_shell.specs.Commands.{AreLastUses, AreUses}
 use Rattle.nef_shell.specs.Operations.{AreShown, IsKept, IsLean}
 use Rattle.nef_shell.specs.Output.{IsOutput}
-use Rattle.nef_shell.proofs.ahead.answer_all.Given as goal
+use Rattle.nef_shell.proofs.work.work_all.Given as goal
 
 abbrev pub invariant-loop-now : goal.invariant-loop-now
 invariant-loop-now g l = record {
@@ -18,6 +20,7 @@ invariant-loop-now g l = record {
   used : AreUses l.script.nodes l.script.commands l.sets.last_uses.items;
   lean : IsLean l.sets.last_uses.items l.now l.sets.list.items;
   only : l.now ≡ 0 → (k : ℕ) (c : Complex) → slice_get l.sets.list.items k ≡ Some (Some c) → IsAskedAbout l.script.nodes l.script.commands k;
-  kept : (k : ℕ) → IsAskedAbout l.script.nodes l.script.commands k → l.now ≤ slice_index l.sets.last_uses.items k → IsKept l.script.nodes l.sets.list.items k;
+  kept : (i k : ℕ) (c : Command) → l.now ≤ i → slice_get l.script.commands i ≡ Some c → IsWorked l.ahead c → LooksAt l.script.nodes c k
+      → IsKept l.script.nodes l.sets.list.items k ⊎ ((l.ahead ≡ false) × (j : ℕ) × (d : Command) × (l.now ≤ j) × (j < i) × (slice_get l.script.commands j ≡ Some d) × Binds d k);
   shown : AreShown l.script.nodes l.sets.list.items;
 }
