@@ -19,6 +19,3 @@ pub use origin::Origin;
 pub use plain::plain_has;
 pub use std::alloc::AllocError as OutOfMemory;
 pub use table::TurnedNodes;
-
-#[cfg(test)]
-mod tests;

@@ -9,8 +9,6 @@ mod gate;
 mod memory;
 mod reading;
 mod sure;
-#[cfg(test)]
-mod tests;
 mod traits;
 mod writing;
 

@@ -15,6 +15,3 @@ pub use name::is_name;
 pub use number::{NumberWord, whole_number};
 pub use script::lines;
 pub use word::words;
-
-#[cfg(test)]
-mod tests;

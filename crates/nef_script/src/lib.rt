@@ -19,6 +19,3 @@ pub use parser::parse;
 pub use script::{Command, Name, Script};
 pub use std::alloc::AllocError as OutOfMemory;
 pub use steps::stairs;
-
-#[cfg(test)]
-mod tests;

@@ -7,8 +7,6 @@
 mod line;
 mod number;
 mod options;
-#[cfg(test)]
-mod tests;
 mod words;
 
 pub use line::line_words;

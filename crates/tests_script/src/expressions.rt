@@ -1,4 +1,6 @@
-use crate::{Node, Nodes, plain_has};
+//! A set expression, and its labels.
+
+use nef_expr::{Node, Nodes, plain_has};
 use nef_geo::{Label, Plane, Point};
 use std::test::Fail;
 

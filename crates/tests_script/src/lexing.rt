@@ -1,4 +1,6 @@
-use super::*;
+//! Lines, words, numbers and names.
+
+use nef_lex::{NumberWord, is_name, lines, whole_number, words};
 use std::test::Fail;
 
 #[test]

@@ -1,7 +1,9 @@
+//! Words of the command line that are accepted or refused.
+
 ghost use Rattle.std.specs.Prelude.{◌≤◌};
 
-use crate::{Options, WordsFault, line_words, read_words};
 use nef_core::{BoardKind, How, TextVersion};
+use nef_words::{Options, WordsFault, line_words, read_words};
 use std::alloc::{AllocError, Global};
 use std::io::{Error, ErrorKind};
 use std::test::Fail;

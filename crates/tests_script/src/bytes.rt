@@ -1,4 +1,6 @@
-use crate::{
+//! Bytes from sources and into sinks, and reads and writes that fail.
+
+use nef_io::{
     Failed, FromReader, Gate, INPUT_LIMIT, IntoWriter, MemSink, MemSource, OpenGate, ReadAll,
     SureSink, SureSource, put_all, read_all,
 };
