@@ -10,6 +10,5 @@ mod within;
 
 pub use along::first_along_dir;
 pub use places::{is_at_vertex, is_on_edge};
-pub use plane::x_side;
 pub use upright::{EdgeHit, first_on_edges};
 pub use within::first_in_plane;
