@@ -1,4 +1,4 @@
--- The plane of a facet point is one of the index, and the edges in a plane on which a point lies are listed.
+-- The plane of a facet point is that of an item, and the edges in a plane on which a point lies are listed.
 use Rattle.std.proofs.Common.{◌≡◌, ℕ, List, pos, sym, subst}
 use Rattle.nef_space.specs.Lists.{IsAt}
 use Rattle.nef_space.specs.Place.{Place, Form, form_at, normal_of}
@@ -57,9 +57,6 @@ module _ (s : Set) (c : Complex) (S : ShowsSet s c) (h : Plane) (y : Place) (on 
   flat-item =
       let m = facet-behind s C S.shows (form_of h) y h.normal on d axis.0 axis.1 F in
       at-meet m.0 m.1.place (opposite d) m.1.meets (plane-ahead (form_of h) y m.1.place d m.1.ahead axis.1 on) m.2.0 m.2.1
-
-  pub flat-listed : (i : ℕ) × IsAt c.index.planes i h
-  flat-listed = (S.index.planes h).0 flat-item
 
 -- a point that is no vertex and lies on none of the listed edges is none that the plane meets
 pub unmet : (c : Complex) (h : Form) (y : Place) (ns : List ℕ) → AreNumbersWith (EdgeLiesIn c.vertices c.edges h) ns → ((k : ℕ) → IsVertexPoint (complex_of c) k y → ⊥)

@@ -72,19 +72,3 @@ module _ (h : Plane) (p : Hit) (a : Point) (r : Sign) (x w y v : ℤ)
       by true true f g = absurd (n ((Decides-int_eq h.c (pos 0)).0 f) ((Decides-int_eq h.b (pos 0)).0 g))
       by true false f g = refl
       by false b f g = refl
-
--- the form of the plane through the start on which x stays the same, as the products are read
-module _ (p : Hit) (a : Point) (x w y v : ℤ) (weight_is : w ≡ a.w) (start_is : v ≡ p.w) where
-  abbrev P2 : Place
-  P2 = hit_place p
-
-  abbrev Q2 : Place
-  Q2 = place_of a
-
-  pub x-value : x ≡ a.x → y ≡ p.x → to_z w64 (of_z w64 x) *ℤ to_z w128 (of_z w128 v) -ℤ to_z w128 (of_z w128 y) *ℤ to_z w64 (of_z w64 w) ≡ form_at (plane_through (vector (pos 1) (pos 0) (pos 0)) P2) Q2
-  x-value i j =
-      numbers-same _ _ _ _ a.x (pos (nat_abs p.w)) p.x (pos (nat_abs a.w)) (exact-of x a.x i a.x_small) (exact-hit_weight v p.w start_is p.w_small ∙ sym (pos_size p.w p.proper)) (exact-hit y p.x j p.x_small)
-      (exact-weight w a.w weight_is a.w_small ∙ sym (pos_size a.w a.proper))
-      ∙ ring (Q2.x ∷ Q2.y ∷ Q2.z ∷ pos Q2.w ∷ P2.x ∷ P2.y ∷ P2.z ∷ pos P2.w ∷ []) (at 0 ⊗ at 7 ⊖ at 4 ⊗ at 3)
-      (num (pos 1) ⊗ (at 0 ⊗ at 7 ⊖ at 4 ⊗ at 3) ⊕ num (pos 0) ⊗ (at 1 ⊗ at 7 ⊖ at 5 ⊗ at 3) ⊕ num (pos 0) ⊗ (at 2 ⊗ at 7 ⊖ at 6 ⊗ at 3)) tt
-      ∙ sym (through-at (vector (pos 1) (pos 0) (pos 0)) P2 Q2)

@@ -11,6 +11,5 @@ mod within;
 
 pub use along::{Met, first_along_dir, nearer};
 pub use places::{is_at_vertex, is_on_edge};
-pub use plane::x_side;
 pub use upright::first_on_carrier;
 pub use within::first_in_plane;

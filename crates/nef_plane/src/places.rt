@@ -1,8 +1,7 @@
 //! Whether a point of a ray is a vertex, or lies on an edge.
 //!
-//! The numbers of a general hit are too large to be multiplied with those of a vertex; those of rays up and down have room
-//! for it (`x_side`). The carriers tell instead: at least three of those that hold a vertex meet there alone, and
-//! at least two of those that hold an edge meet in its line.
+//! The numbers of a general hit are too large to be multiplied with those of a vertex. The carriers tell instead: at least
+//! three of those that hold a vertex meet there alone, and at least two of those that hold an edge meet in its line.
 
 ghost use Rattle.std.specs.Prelude.{◌≡◌, ◌<◌, length, ◌↔◌, IsTrue};
 ghost use Rattle.nef_space.specs.Place.{Place, form_at};

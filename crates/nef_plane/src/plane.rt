@@ -3,9 +3,9 @@
 ghost use Rattle.std.specs.Prelude.{◌≡◌, ℕ, ◌<◌, ◌≤◌, length, pos, ◌<ℤ◌, ◌*ℤ◌, ◌-ℤ◌, nat_abs, neg_ℤ, ◌↔◌, IsTrue, IsNone, IfSome, ◌⊎◌};
 ghost use Rattle.std.specs.Option.{MatchOption};
 ghost use Rattle.nef_space.specs.Limits.{normal_limit, point_limit, weight_limit};
-ghost use Rattle.nef_space.specs.Place.{Place, form_at, plane_through, IsAhead};
+ghost use Rattle.nef_space.specs.Place.{Place, form_at, IsAhead};
 ghost use Rattle.nef_space.specs.Sets.{Set};
-ghost use Rattle.nef_space.specs.Vectors.{vector, IsAtMost};
+ghost use Rattle.nef_space.specs.Vectors.{IsAtMost};
 ghost use Rattle.nef_geo.specs.Hits.{IsPlaceAtMost};
 ghost use Rattle.nef_geo.specs.Shapes.{form_of, vector_of, place_of, hit_place, far_place};
 ghost use Rattle.nef_geo.specs.Signs.{sign_of};
@@ -39,16 +39,6 @@ fn ratio_sign(x: i64, w: i64, y: i128, v: i128) -> Sign
     ensures width { nat_abs (x *ℤ v -ℤ y *ℤ w) ≤ ratio_limit }
 {
     Sign::of(x as i128 * v - y * w as i128)
-}
-
-/// The sign of the point's x less that of the hit, whose first three numbers are at most `2^86` in size and its w at most
-/// `2^73`.
-pub fn x_side(p: &Hit, a: &Point) -> Sign
-    requires numbers { IsPlaceAtMost upright_limit upright_weight_limit (hit_place p.now) }
-    ensures side { result ≡ sign_of (form_at (plane_through (vector (pos 1) (pos 0) (pos 0)) (hit_place p.now)) (place_of a.now)) }
-    ensures width { nat_abs (form_at (plane_through (vector (pos 1) (pos 0) (pos 0)) (hit_place p.now)) (place_of a.now)) ≤ ratio_limit }
-{
-    ratio_sign(a.x(), a.w(), p.x(), p.w())
 }
 
 // The side of the ray's line on which a point of the plane lies.
