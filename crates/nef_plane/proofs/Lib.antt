@@ -14,4 +14,5 @@ pub mod Spanned
 pub mod OnEdges
 pub mod Holding
 pub mod Carried
+pub mod RayPlanes
 mod AxisSizes

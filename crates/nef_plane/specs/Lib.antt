@@ -1,3 +1,4 @@
 pub mod Amid
 pub mod Meets
 pub mod Upright
+pub mod Parting

@@ -10,8 +10,10 @@ ghost use Rattle.nef_geo.specs.Widths.{ray_limit};
 ghost use Rattle.law_complex.specs.Skeleton.{PlaneMeet as PlainMeet, Meets, IsFirstInPlane};
 ghost use Rattle.nef_complex.specs.Complexes.{complex_of, meet_of, ShowsSet};
 ghost use Rattle.nef_complex.specs.Index.{LiesOn, EdgeLiesIn, AreNumbersWith, AreWithin, AreHolders};
+ghost use Rattle.nef_plane.specs.Parting.{IsAcrossRay};
 ghost use Rattle.nef_plane.specs.Meets.{HasNoSvertex, FromVertex, HoldsRay, IsHitThrough, AllHold, IsAcross, IsWithin, AtVertexNumber, AtEdgeNumber, AtSomeVertex, AtSomeEdge, AtVertexOrEdge, IsNearest, IsNearer, IsReachedMet, met_of, reach_of};
 
+use crate::parting::{may_pass, normal_beside};
 use crate::places::{is_at_vertex, is_on_edge};
 use nef_complex::{
     Complex, PlaneItems, PlaneMeet, edge_holders, holds_both, plane_items, vertex_holders,
@@ -164,7 +166,29 @@ fn nearest_vertex(c: &Complex, h: &Plane, held: bool, p: &Point, d: &Dir) -> Opt
     best
 }
 
-// The same, where the plane holds the ray and the numbers are those of the vertices on the plane.
+// The vertex with this number, where the ray meets it. The normal is that of a plane along the ray, if one is given.
+fn vertex_met_beside(
+    c: &Complex,
+    p: &Point,
+    d: &Dir,
+    normal: &Option<Dir>,
+    number: usize,
+) -> Option<Met>
+    requires shows { (s : Set) × ShowsSet s c.now }
+    requires small { IsAtMost ray_limit (vector_of d.now) }
+    requires across { IfSome normal.now (IsAcrossRay (vector_of d.now)) }
+    requires within { number < length c.now.vertices }
+    ensures nearest { IsNearest met_of (place_of p.now) (vector_of d.now) (AtVertexNumber (complex_of c.now) number) result }
+{
+    let point = &c.vertices.at(number).point;
+    if may_pass(normal, p, point, point) {
+        carried_vertex_met(c, p, d, number)
+    } else {
+        None
+    }
+}
+
+// The first vertex that the ray meets, where the plane holds the ray and the numbers are those of the vertices on the plane.
 fn nearest_listed_vertex(
     c: &Complex,
     h: &Plane,
@@ -178,9 +202,10 @@ fn nearest_listed_vertex(
     requires listed { AreNumbersWith (LiesOn c.now.vertices (form_of h.now)) numbers.now }
     ensures nearest { IsNearest met_of (place_of p.now) (vector_of d.now) (AtSomeVertex (complex_of c.now)) result }
 {
+    let normal = normal_beside(h, d);
     let mut best = None;
     for number in numbers {
-        best = nearer(best, carried_vertex_met(c, p, d, *number), p, d);
+        best = nearer(best, vertex_met_beside(c, p, d, &normal, *number), p, d);
     }
     best
 }
@@ -199,16 +224,43 @@ fn nearest_edge(c: &Complex, h: &Plane, p: &Point, d: &Dir) -> Option<Met>
     best
 }
 
-// The same, where the numbers are those of the edges in the plane.
+// The edge in the plane with this number, where the ray meets its inside. The normal is that of a plane along the ray, if
+// one is given.
+fn edge_met_beside(
+    c: &Complex,
+    h: &Plane,
+    p: &Point,
+    d: &Dir,
+    normal: &Option<Dir>,
+    number: usize,
+) -> Option<Met>
+    requires shows { (s : Set) × ShowsSet s c.now }
+    requires small { IsAtMost ray_limit (vector_of d.now) }
+    requires across { IfSome normal.now (IsAcrossRay (vector_of d.now)) }
+    requires held { EdgeLiesIn c.now.vertices c.now.edges (form_of h.now) number }
+    ensures nearest { IsNearest met_of (place_of p.now) (vector_of d.now) (AtEdgeNumber (complex_of c.now) (form_of h.now) (vector_of d.now) number) result }
+{
+    let edge = c.edges.at(number);
+    let low = &c.vertices.at(edge.low).point;
+    let high = &c.vertices.at(edge.high).point;
+    if may_pass(normal, p, low, high) {
+        held_edge_met(c, h, p, d, number)
+    } else {
+        None
+    }
+}
+
+// The first edge that the ray meets, where the numbers are those of the edges in the plane.
 fn nearest_listed_edge(c: &Complex, h: &Plane, p: &Point, d: &Dir, numbers: &[usize]) -> Option<Met>
     requires shows { (s : Set) × ShowsSet s c.now }
     requires small { IsAtMost ray_limit (vector_of d.now) }
     requires listed { AreNumbersWith (EdgeLiesIn c.now.vertices c.now.edges (form_of h.now)) numbers.now }
     ensures nearest { IsNearest met_of (place_of p.now) (vector_of d.now) (AtSomeEdge (complex_of c.now) (form_of h.now) (vector_of d.now)) result }
 {
+    let normal = normal_beside(h, d);
     let mut best = None;
     for number in numbers {
-        best = nearer(best, held_edge_met(c, h, p, d, *number), p, d);
+        best = nearer(best, edge_met_beside(c, h, p, d, &normal, *number), p, d);
     }
     best
 }

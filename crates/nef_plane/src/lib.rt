@@ -3,6 +3,7 @@
 #![tactic(auto)]
 
 mod along;
+mod parting;
 mod places;
 mod plane;
 mod upright;

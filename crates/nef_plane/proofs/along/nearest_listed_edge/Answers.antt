@@ -7,13 +7,13 @@ use Rattle.nef_plane.proofs.Listed.{edge-listed}
 use Rattle.nef_plane.proofs.Nearest.{listed-more, listed-all}
 use Rattle.nef_plane.proofs.along.nearest_listed_edge.Goals as goal
 
-pub held_edge_met-requires-clause-held : goal.held_edge_met-requires-clause-held
-held_edge_met-requires-clause-held c = c.requires.listed.each c.loop-number.number-index (get_or c.args.numbers.now c.loop-number.number-index 0) (is-at_get c.args.numbers.now c.loop-number.number-index 0 c.loop-number-test.true)
+pub edge_met_beside-requires-clause-held : goal.edge_met_beside-requires-clause-held
+edge_met_beside-requires-clause-held c = c.requires.listed.each c.loop-number.number-index (get_or c.args.numbers.now c.loop-number.number-index 0) (is-at_get c.args.numbers.now c.loop-number.number-index 0 c.loop-number-test.true)
 
 pub loop-number-preserved : goal.loop-number-preserved
 loop-number-preserved c =
-    listed-more met_of (place_of c.args.p.now) (vector_of c.args.d.now) c.args.numbers.now (AtEdgeNumber (complex_of c.args.c.now) (form_of c.args.h.now) (vector_of c.args.d.now)) c.loop-number.number-index (get_or c.args.numbers.now c.loop-number.number-index 0) c.loop-number.best c.held_edge_met.result c.nearer-best.result
-    (is-at_get c.args.numbers.now c.loop-number.number-index 0 c.loop-number-test.true) c.nearer-best.ensures.nearer c.loop-number.invariant c.held_edge_met.ensures.nearest
+    listed-more met_of (place_of c.args.p.now) (vector_of c.args.d.now) c.args.numbers.now (AtEdgeNumber (complex_of c.args.c.now) (form_of c.args.h.now) (vector_of c.args.d.now)) c.loop-number.number-index (get_or c.args.numbers.now c.loop-number.number-index 0) c.loop-number.best c.edge_met_beside.result c.nearer-best.result
+    (is-at_get c.args.numbers.now c.loop-number.number-index 0 c.loop-number-test.true) c.nearer-best.ensures.nearer c.loop-number.invariant c.edge_met_beside.ensures.nearest
 
 pub returns : goal.returns
 returns c =

@@ -1,0 +1,118 @@
+-- The side of a plane through a ray on which a point lies, and what the ray doesn't meet.
+use Rattle.std.proofs.Common.{◌≡◌, ℕ, ℤ, pos, neg_ℤ, ◌+ℤ◌, ◌-ℤ◌, ◌*ℤ◌, ◌≤◌, nat_abs, w64, Option, Some, None, sym, ap, ◌∙◌, subst, [], ◌∷◌}
+use Rattle.std.specs.Prelude.{IfSome}
+use Rattle.std.specs.Option.{MatchOption}
+use mir.Syntax.{w128}
+use mir.Val.{to_z, of_z}
+use Rattle.law_arithmetic.proofs.Machine.{load, const, wrap, ◌⊟◌, exact_of}
+use Rattle.law_arithmetic.proofs.Ring.{ring, at, num, neg, ◌⊕◌, ◌⊖◌, ◌⊗◌}
+use Rattle.nef_space.specs.Limits.{direction_limit}
+use Rattle.nef_space.specs.Place.{Place, form_at, slope, toward}
+use Rattle.nef_space.specs.Sets.{Set}
+use Rattle.nef_space.specs.Vectors.{Vector, vector, dot, IsDirection, SameDirection}
+use Rattle.nef_geo.specs.Shapes.{form_of, place_of, vector_of}
+use Rattle.nef_geo.specs.Signs.{sign_of}
+use Rattle.nef_geo.specs.declared.dir.Dir.{Dir}
+use Rattle.nef_geo.specs.declared.plane.Plane.{Plane}
+use Rattle.nef_geo.specs.declared.point.Point.{Point}
+use Rattle.nef_geo.specs.declared.sign.Sign.{Sign}
+use Rattle.nef_geo.proofs.Places.{pos_size}
+use Rattle.law_forms.proofs.Between.{place-toward}
+use Rattle.law_forms.proofs.Directions.{dot-zero, dot-comm}
+use Rattle.law_near.proofs.Rays.{same-place_sym}
+use Rattle.law_sphere.specs.Maps.{At}
+use Rattle.law_complex.specs.Shows.{Shows}
+use Rattle.law_complex.proofs.FacetAngles.{through-at, through-slope}
+use Rattle.law_complex.proofs.FacetSides.{level-way}
+use Rattle.law_complex.proofs.Ways.{same-itself}
+use Rattle.nef_complex.specs.declared.complex.Vertex.{Vertex}
+use Rattle.nef_complex.specs.declared.complex.Edge.{Edge}
+use Rattle.nef_complex.specs.declared.complex.Complex.{Complex}
+use Rattle.nef_complex.specs.Complexes.{complex_of}
+use Rattle.nef_plane.specs.Meets.{AreOpposite, HoldsRay, AtVertexNumber, AtEdgeNumber, IsNearest, met_of}
+use Rattle.nef_plane.specs.Parting.{product_limit, ray_form, IsAcrossRay}
+use Rattle.nef_plane.proofs.Found.{vertex-none, edge-none}
+use Rattle.nef_plane.proofs.Meeting.{level-same, level-opposite, ahead-level, between-opposite}
+use Rattle.nef_plane.proofs.Sweep.{exact-weight, numbers-same}
+
+exact-product : (x y : ℤ) → x ≡ y → nat_abs y ≤ product_limit → to_z w128 (of_z w128 x) ≡ y
+exact-product x y e l = exact_of (product_limit ∷ []) (x ∷ []) (wrap w128 (load 0)) (subst (λ r. nat_abs r ≤ product_limit) (sym e) l, tt) tt ∙ e
+
+abbrev product_of : Dir → Point → ℤ
+product_of n a = n.x *ℤ a.x +ℤ n.y *ℤ a.y +ℤ n.z *ℤ a.z
+
+-- the sign of the difference of two such products, each times the other point's weight, is the side
+pub side-is : (n : Dir) (p a : Point) (r : Sign) (m v k w : ℤ) → r ≡ sign_of (to_z w128 (of_z w128 m) *ℤ to_z w64 (of_z w64 v) -ℤ to_z w128 (of_z w128 k) *ℤ to_z w64 (of_z w64 w))
+    → m ≡ product_of n a → nat_abs m ≤ product_limit → v ≡ p.w → k ≡ product_of n p → nat_abs k ≤ product_limit → w ≡ a.w → r ≡ sign_of (form_at (ray_form n p) (place_of a))
+side-is n p a r m v k w e f i g h j l =
+    e ∙ ap sign_of (numbers-same _ _ _ _ (product_of n a) (pos (nat_abs p.w)) (product_of n p) (pos (nat_abs a.w))
+    (exact-product m (product_of n a) f (subst (λ z. nat_abs z ≤ product_limit) f i)) (exact-weight v p.w g p.w_small ∙ sym (pos_size p.w p.proper))
+    (exact-product k (product_of n p) h (subst (λ z. nat_abs z ≤ product_limit) h j)) (exact-weight w a.w l a.w_small ∙ sym (pos_size a.w a.proper))
+    ∙ ring (n.x ∷ n.y ∷ n.z ∷ a.x ∷ a.y ∷ a.z ∷ p.x ∷ p.y ∷ p.z ∷ pos (nat_abs p.w) ∷ pos (nat_abs a.w) ∷ [])
+    ((at 0 ⊗ at 3 ⊕ at 1 ⊗ at 4 ⊕ at 2 ⊗ at 5) ⊗ at 9 ⊖ (at 0 ⊗ at 6 ⊕ at 1 ⊗ at 7 ⊕ at 2 ⊗ at 8) ⊗ at 10)
+    (at 0 ⊗ (at 3 ⊗ at 9 ⊖ at 6 ⊗ at 10) ⊕ at 1 ⊗ (at 4 ⊗ at 9 ⊖ at 7 ⊗ at 10) ⊕ at 2 ⊗ (at 5 ⊗ at 9 ⊖ at 8 ⊗ at 10)) tt
+    ∙ sym (through-at (vector_of n) (place_of p) (place_of a)))
+
+-- ---- normals across the direction
+level-some : (o : Option Dir) (v d : Vector) → dot v d ≡ pos 0 → IfSome o (λ n. SameDirection v (vector_of n)) → IfSome o (IsAcrossRay d)
+level-some None v d e h = tt
+level-some (Some n) v d e h = dot-comm (vector_of n) d ∙ level-way d v (vector_of n) h (dot-comm d v ∙ e)
+
+turned-is : (r y : ℤ) → r ≡ y → nat_abs y ≤ direction_limit → to_z w64 (of_z w64 (pos 0 -ℤ to_z w64 (of_z w64 r))) ≡ pos 0 -ℤ y
+turned-is r y e l = exact_of (direction_limit ∷ []) (r ∷ []) (wrap w64 (const (pos 0) ⊟ wrap w64 (load 0))) (subst (λ z. nat_abs z ≤ direction_limit) (sym e) l, tt) tt ∙ ap (λ z. pos 0 -ℤ z) e
+
+kept-is : (r y : ℤ) → r ≡ y → nat_abs y ≤ direction_limit → to_z w64 (of_z w64 r) ≡ y
+kept-is r y e l = exact_of (direction_limit ∷ []) (r ∷ []) (wrap w64 (load 0)) (subst (λ z. nat_abs z ≤ direction_limit) (sym e) l, tt) tt ∙ e
+
+-- (-y, x, 0), (-z, 0, x) and (0, -z, y), as the machine has them
+module _ (o : Option Dir) (d : Dir) (r q : ℤ) where
+  abbrev back : ℤ
+  back = to_z w64 (of_z w64 (pos 0 -ℤ to_z w64 (of_z w64 r)))
+
+  abbrev on : ℤ
+  on = to_z w64 (of_z w64 q)
+
+  pub across-z : r ≡ d.y → q ≡ d.x → IfSome o (λ n. SameDirection (vector back on (pos 0)) (vector_of n)) → IfSome o (IsAcrossRay (vector_of d))
+  across-z e f = level-some o (vector back on (pos 0)) (vector_of d)
+      (ap (λ z. z *ℤ d.x +ℤ on *ℤ d.y +ℤ pos 0 *ℤ d.z) (turned-is r d.y e d.y_small) ∙ ap (λ z. (pos 0 -ℤ d.y) *ℤ d.x +ℤ z *ℤ d.y +ℤ pos 0 *ℤ d.z) (kept-is q d.x f d.x_small)
+      ∙ ring (d.x ∷ d.y ∷ d.z ∷ []) ((num (pos 0) ⊖ at 1) ⊗ at 0 ⊕ at 0 ⊗ at 1 ⊕ num (pos 0) ⊗ at 2) (num (pos 0)) tt)
+
+  pub across-y : r ≡ d.z → q ≡ d.x → IfSome o (λ n. SameDirection (vector back (pos 0) on) (vector_of n)) → IfSome o (IsAcrossRay (vector_of d))
+  across-y e f = level-some o (vector back (pos 0) on) (vector_of d)
+      (ap (λ z. z *ℤ d.x +ℤ pos 0 *ℤ d.y +ℤ on *ℤ d.z) (turned-is r d.z e d.z_small) ∙ ap (λ z. (pos 0 -ℤ d.z) *ℤ d.x +ℤ pos 0 *ℤ d.y +ℤ z *ℤ d.z) (kept-is q d.x f d.x_small)
+      ∙ ring (d.x ∷ d.y ∷ d.z ∷ []) ((num (pos 0) ⊖ at 2) ⊗ at 0 ⊕ num (pos 0) ⊗ at 1 ⊕ at 0 ⊗ at 2) (num (pos 0)) tt)
+
+  pub across-x : r ≡ d.z → q ≡ d.y → IfSome o (λ n. SameDirection (vector (pos 0) back on) (vector_of n)) → IfSome o (IsAcrossRay (vector_of d))
+  across-x e f = level-some o (vector (pos 0) back on) (vector_of d)
+      (ap (λ z. pos 0 *ℤ d.x +ℤ z *ℤ d.y +ℤ on *ℤ d.z) (turned-is r d.z e d.z_small) ∙ ap (λ z. pos 0 *ℤ d.x +ℤ (pos 0 -ℤ d.z) *ℤ d.y +ℤ z *ℤ d.z) (kept-is q d.y f d.y_small)
+      ∙ ring (d.x ∷ d.y ∷ d.z ∷ []) (num (pos 0) ⊗ at 0 ⊕ (num (pos 0) ⊖ at 2) ⊗ at 1 ⊕ at 1 ⊗ at 2) (num (pos 0)) tt)
+
+-- the plane through the start with such a normal holds the ray
+holds-ray : (n : Dir) (p : Point) (d : Vector) → IsAcrossRay d n → HoldsRay (ray_form n p) (place_of p) d
+holds-ray n p d e = (
+  through-at (vector_of n) (place_of p) (place_of p) ∙ dot-zero (vector_of n) (toward (place_of p) (place_of p)) (place-toward (place_of p) (place_of p) (same-itself (place_of p))),
+  through-slope (vector_of n) (place_of p) d ∙ ap (λ r. pos (nat_abs p.w) *ℤ r) e ∙ ring (pos (nat_abs p.w) ∷ []) (at 0 ⊗ num (pos 0)) (num (pos 0)) tt,
+)
+
+-- ---- what the ray doesn't meet
+module _ (s : Set) (c : Complex) (S : Shows s (complex_of c)) (p : Point) (d : Vector) (some : IsDirection d) (o : Option Dir) where
+  pub beside-vertex : (k : ℕ) (v : Vertex) → At c.vertices k v → IfSome o (IsAcrossRay d) → MatchOption o ⊥ (λ n. AreOpposite (ray_form n p) (place_of v.point) (place_of v.point) → ⊥) → IsNearest met_of (place_of p) d (AtVertexNumber (complex_of c) k) None
+  beside-vertex k v a = by o
+    where
+      by : (o : Option Dir) → IfSome o (IsAcrossRay d) → MatchOption o ⊥ (λ n. AreOpposite (ray_form n p) (place_of v.point) (place_of v.point) → ⊥) → IsNearest met_of (place_of p) d (AtVertexNumber (complex_of c) k) None
+      by None e f = absurd f
+      by (Some n) e f =
+          let h = holds-ray n p d e in
+          vertex-none s c S (place_of p) d some k v a
+          (λ q w m. absurd (f (level-opposite (ray_form n p) (place_of v.point) (level-same (ray_form n p) q (place_of v.point) (same-place_sym (place_of v.point) q m) (ahead-level (ray_form n p) (place_of p) d q w some h.0 h.1)))))
+
+  pub beside-edge : (h : Plane) (k : ℕ) (e : Edge) (u v : Vertex) → At c.edges k e → At c.vertices e.low u → At c.vertices e.high v → IfSome o (IsAcrossRay d)
+      → MatchOption o ⊥ (λ n. AreOpposite (ray_form n p) (place_of u.point) (place_of v.point) → ⊥) → IsNearest met_of (place_of p) d (AtEdgeNumber (complex_of c) (form_of h) d k) None
+  beside-edge h k e u v l i j = by o
+    where
+      by : (o : Option Dir) → IfSome o (IsAcrossRay d) → MatchOption o ⊥ (λ n. AreOpposite (ray_form n p) (place_of u.point) (place_of v.point) → ⊥) → IsNearest met_of (place_of p) d (AtEdgeNumber (complex_of c) (form_of h) d k) None
+      by None a f = absurd f
+      by (Some n) a f =
+          let r = holds-ray n p d a in
+          edge-none s c S (form_of h) (place_of p) d some k e u v l i j
+          (λ q w b H. absurd (f (between-opposite (ray_form n p) (place_of u.point) (place_of v.point) q b (ahead-level (ray_form n p) (place_of p) d q w some r.0 r.1))))

@@ -1,0 +1,19 @@
+-- Planes that hold a ray.
+use Rattle.std.specs.Prelude.{◌≡◌, ℕ, pos, ◌*◌, ◌^◌}
+use Rattle.nef_space.specs.Place.{Form, plane_through}
+use Rattle.nef_space.specs.Vectors.{Vector, dot}
+use Rattle.nef_geo.specs.Shapes.{place_of, vector_of}
+use Rattle.nef_geo.specs.declared.dir.Dir.{Dir}
+use Rattle.nef_geo.specs.declared.point.Point.{Point}
+
+-- the size of the product of a direction with a point's first three numbers
+abbrev pub product_limit : ℕ
+product_limit = 9 * 2 ^ 82
+
+-- the plane through p with this normal
+abbrev pub ray_form : Dir → Point → Form
+ray_form n p = plane_through (vector_of n) (place_of p)
+
+-- a plane with this normal is along the direction
+abbrev pub IsAcrossRay : Vector → Dir → Type 0
+IsAcrossRay d n = dot (vector_of n) d ≡ pos 0
