@@ -1,6 +1,6 @@
 -- What a crossing, a meeting and a comparison answer.
-use Rattle.std.proofs.Common.{◌≡◌, pos, Option, Some, None, List, refl, sym, ◌∙◌, inl, inr, ◌↔◌, subst}
-use Rattle.std.specs.Option.{MatchOption}
+use Rattle.std.proofs.Common.{◌≡◌, pos, false, Option, Some, None, List, refl, sym, ◌∙◌, inl, inr, ◌↔◌, subst}
+use Rattle.std.specs.Option.{MatchOption, is_some}
 use Rattle.std.specs.Prelude.{IsNone, IfSome}
 use Rattle.nef_space.specs.Place.{Place, form_at}
 use Rattle.nef_space.specs.Vectors.{Vector}
@@ -50,3 +50,7 @@ module _ {X : Type 0} (seen : X → Encounter) (d : Vector) (a b : Option X) whe
 
   pub keep-second : a ≡ None → IsNearer seen d a b b
   keep-second e = record { one = inr refl; first = λ z g. absurd (let f : None ≡ Some z = sym e ∙ g in cc); second = λ z g. (z, g, itself z) }
+
+pub not-some : {X : Type 0} (o : Option X) → is_some o ≡ false → o ≡ None
+not-some None e = refl
+not-some (Some x) e = cc

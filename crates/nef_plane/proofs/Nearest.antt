@@ -10,7 +10,8 @@ use Rattle.nef_space.specs.Lists.{IsAt}
 use Rattle.law_sphere.proofs.Compare.{SameDirection-turned, SameDirection-trans}
 use Rattle.law_complex.proofs.Ways.{between-way, same-itself}
 use Rattle.law_complex.specs.Skeleton.{PlaneMeet}
-use Rattle.nef_plane.specs.Meets.{Encounter, IsNearest, IsNearestMet, IsNearer, IsNotPast}
+use Rattle.std.specs.Prelude.{IfSome}
+use Rattle.nef_plane.specs.Meets.{Encounter, IsReachedMet, IsNearest, IsNearestMet, IsNearer, IsNotPast}
 
 -- what lies between a point and one ahead of it is ahead
 pub between-ahead : (p q x : Place) (d : Vector) → IsBetween p q x → IsAhead p d x → IsAhead p d q
@@ -22,6 +23,10 @@ module _ {X : Type 0} (seen : X → Encounter) (p : Place) (d : Vector) where
   inner x y q w n b = ⊎_elim
       (λ s. between-same p q x.at.place p q y.at.place (same-itself p) (same-itself q) s b)
       (λ f. between-inner p x.at.place y.at.place q (SameDirection-trans (toward p x.at.place) d (toward x.at.place y.at.place) w (SameDirection-turned (toward x.at.place y.at.place) d f)) b) n
+
+  pub nearest-reached : (P : PlaneMeet → Place → Type 0) (o : Option X) → IsNearest seen p d P o → IfSome o (λ x. IsReachedMet p d (seen x))
+  nearest-reached P None A = tt
+  nearest-reached P (Some x) A = A.reached
 
   module _ (P Q : PlaneMeet → Place → Type 0) where
     abbrev Either : PlaneMeet → Place → Type 0

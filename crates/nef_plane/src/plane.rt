@@ -274,7 +274,10 @@ fn nearest_listed_vertex(
 {
     let mut best = None;
     for number in numbers {
-        best = nearer(best, held_vertex_met(c, h, p, d, *number), p, d);
+        let met = held_vertex_met(c, h, p, d, *number);
+        if met.is_some() {
+            best = nearer(best, met, p, d);
+        }
     }
     best
 }
@@ -314,7 +317,10 @@ fn nearest_listed_edge(
 {
     let mut best = None;
     for number in numbers {
-        best = nearer(best, held_edge_met(c, h, p, d, *number), p, d);
+        let met = held_edge_met(c, h, p, d, *number);
+        if met.is_some() {
+            best = nearer(best, met, p, d);
+        }
     }
     best
 }

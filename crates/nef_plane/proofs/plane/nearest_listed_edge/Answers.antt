@@ -1,19 +1,29 @@
-use Rattle.std.proofs.Common.{get_or, arith}
+use Rattle.std.proofs.Common.{get_or, arith, sym, ◌∙◌, subst}
 use Rattle.nef_geo.specs.Shapes.{form_of, hit_place, vector_of}
 use Rattle.nef_classes.proofs.ClassLists.{is-at_get}
 use Rattle.nef_complex.specs.Complexes.{complex_of}
-use Rattle.nef_plane.specs.Meets.{AtEdgeNumber, far_met_of}
+use Rattle.nef_plane.specs.Meets.{AtEdgeNumber, IsNearer, far_met_of}
 use Rattle.nef_plane.proofs.Listed.{edge-listed}
-use Rattle.nef_plane.proofs.Nearest.{listed-more, listed-all}
+use Rattle.nef_plane.proofs.Choosing.{keep-first, not-some}
+use Rattle.nef_plane.proofs.Nearest.{nearest-reached, listed-more, listed-all}
+use Rattle.nef_plane.proofs.plane.nearest_listed_edge.Goals.{then-is_some, else-is_some}
 use Rattle.nef_plane.proofs.plane.nearest_listed_edge.Goals as goal
 
-pub held_edge_met-requires-clause-held : goal.held_edge_met-requires-clause-held
-held_edge_met-requires-clause-held c = c.requires.listed.each c.loop-number.number-index (get_or c.args.numbers.now c.loop-number.number-index 0) (is-at_get c.args.numbers.now c.loop-number.number-index 0 c.loop-number-test.true)
+pub held_edge_met-met-requires-clause-held : goal.held_edge_met-met-requires-clause-held
+held_edge_met-met-requires-clause-held c = c.requires.listed.each c.loop-number.number-index (get_or c.args.numbers.now c.loop-number.number-index 0) (is-at_get c.args.numbers.now c.loop-number.number-index 0 c.loop-number-test.true)
+
+pub nearer-best-requires-clause-one : goal.nearer-best-requires-clause-one
+nearer-best-requires-clause-one c = nearest-reached far_met_of (hit_place c.args.p.now) (vector_of c.args.d.now) _ c.loop-number.best c.loop-number.invariant
 
 pub loop-number-preserved : goal.loop-number-preserved
 loop-number-preserved c =
-    listed-more far_met_of (hit_place c.args.p.now) (vector_of c.args.d.now) c.args.numbers.now (AtEdgeNumber (complex_of c.args.c.now) (form_of c.args.h.now) (vector_of c.args.d.now)) c.loop-number.number-index (get_or c.args.numbers.now c.loop-number.number-index 0) c.loop-number.best c.held_edge_met.result c.nearer-best.result
-    (is-at_get c.args.numbers.now c.loop-number.number-index 0 c.loop-number-test.true) c.nearer-best.ensures.nearer c.loop-number.invariant c.held_edge_met.ensures.nearest
+    let d = vector_of c.args.d.now in let a = c.loop-number.best in let b = c.held_edge_met-met.result in
+    let near : IsNearer far_met_of d a b c.if-is_some.best = elim c.if-is_some.branch [
+      | then-is_some w ↦ subst (IsNearer far_met_of d a b) (sym w.best-is) w.nearer-best.ensures.nearer
+      | else-is_some w ↦ subst (IsNearer far_met_of d a b) (sym w.best-is) (keep-first far_met_of d a b (not-some b (sym c.is_some.ensures ∙ w.if-is_some.false)))
+    ] in
+    listed-more far_met_of (hit_place c.args.p.now) d c.args.numbers.now (AtEdgeNumber (complex_of c.args.c.now) (form_of c.args.h.now) d) c.loop-number.number-index (get_or c.args.numbers.now c.loop-number.number-index 0) a b c.if-is_some.best
+    (is-at_get c.args.numbers.now c.loop-number.number-index 0 c.loop-number-test.true) near c.loop-number.invariant c.held_edge_met-met.ensures.nearest
 
 pub returns : goal.returns
 returns c =
