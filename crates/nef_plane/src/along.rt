@@ -205,7 +205,10 @@ fn nearest_listed_vertex(
     let normal = normal_beside(h, d);
     let mut best = None;
     for number in numbers {
-        best = nearer(best, vertex_met_beside(c, p, d, &normal, *number), p, d);
+        let met = vertex_met_beside(c, p, d, &normal, *number);
+        if met.is_some() {
+            best = nearer(best, met, p, d);
+        }
     }
     best
 }
@@ -260,7 +263,10 @@ fn nearest_listed_edge(c: &Complex, h: &Plane, p: &Point, d: &Dir, numbers: &[us
     let normal = normal_beside(h, d);
     let mut best = None;
     for number in numbers {
-        best = nearer(best, edge_met_beside(c, h, p, d, &normal, *number), p, d);
+        let met = edge_met_beside(c, h, p, d, &normal, *number);
+        if met.is_some() {
+            best = nearer(best, met, p, d);
+        }
     }
     best
 }

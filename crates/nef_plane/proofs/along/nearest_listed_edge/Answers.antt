@@ -1,19 +1,29 @@
-use Rattle.std.proofs.Common.{get_or, arith}
+use Rattle.std.proofs.Common.{get_or, arith, sym, ◌∙◌, subst}
 use Rattle.nef_geo.specs.Shapes.{form_of, place_of, vector_of}
 use Rattle.nef_classes.proofs.ClassLists.{is-at_get}
 use Rattle.nef_complex.specs.Complexes.{complex_of}
-use Rattle.nef_plane.specs.Meets.{AtEdgeNumber, met_of}
+use Rattle.nef_plane.specs.Meets.{AtEdgeNumber, IsNearer, met_of}
 use Rattle.nef_plane.proofs.Listed.{edge-listed}
-use Rattle.nef_plane.proofs.Nearest.{listed-more, listed-all}
+use Rattle.nef_plane.proofs.Choosing.{keep-first, not-some}
+use Rattle.nef_plane.proofs.Nearest.{nearest-reached, listed-more, listed-all}
+use Rattle.nef_plane.proofs.along.nearest_listed_edge.Goals.{then-is_some, else-is_some}
 use Rattle.nef_plane.proofs.along.nearest_listed_edge.Goals as goal
 
-pub edge_met_beside-requires-clause-held : goal.edge_met_beside-requires-clause-held
-edge_met_beside-requires-clause-held c = c.requires.listed.each c.loop-number.number-index (get_or c.args.numbers.now c.loop-number.number-index 0) (is-at_get c.args.numbers.now c.loop-number.number-index 0 c.loop-number-test.true)
+pub edge_met_beside-met-requires-clause-held : goal.edge_met_beside-met-requires-clause-held
+edge_met_beside-met-requires-clause-held c = c.requires.listed.each c.loop-number.number-index (get_or c.args.numbers.now c.loop-number.number-index 0) (is-at_get c.args.numbers.now c.loop-number.number-index 0 c.loop-number-test.true)
+
+pub nearer-best-requires-clause-one : goal.nearer-best-requires-clause-one
+nearer-best-requires-clause-one c = nearest-reached met_of (place_of c.args.p.now) (vector_of c.args.d.now) _ c.loop-number.best c.loop-number.invariant
 
 pub loop-number-preserved : goal.loop-number-preserved
 loop-number-preserved c =
-    listed-more met_of (place_of c.args.p.now) (vector_of c.args.d.now) c.args.numbers.now (AtEdgeNumber (complex_of c.args.c.now) (form_of c.args.h.now) (vector_of c.args.d.now)) c.loop-number.number-index (get_or c.args.numbers.now c.loop-number.number-index 0) c.loop-number.best c.edge_met_beside.result c.nearer-best.result
-    (is-at_get c.args.numbers.now c.loop-number.number-index 0 c.loop-number-test.true) c.nearer-best.ensures.nearer c.loop-number.invariant c.edge_met_beside.ensures.nearest
+    let d = vector_of c.args.d.now in let a = c.loop-number.best in let b = c.edge_met_beside-met.result in
+    let near : IsNearer met_of d a b c.if-is_some.best = elim c.if-is_some.branch [
+      | then-is_some w ↦ subst (IsNearer met_of d a b) (sym w.best-is) w.nearer-best.ensures.nearer
+      | else-is_some w ↦ subst (IsNearer met_of d a b) (sym w.best-is) (keep-first met_of d a b (not-some b (sym c.is_some.ensures ∙ w.if-is_some.false)))
+    ] in
+    listed-more met_of (place_of c.args.p.now) d c.args.numbers.now (AtEdgeNumber (complex_of c.args.c.now) (form_of c.args.h.now) d) c.loop-number.number-index (get_or c.args.numbers.now c.loop-number.number-index 0) a b c.if-is_some.best
+    (is-at_get c.args.numbers.now c.loop-number.number-index 0 c.loop-number-test.true) near c.loop-number.invariant c.edge_met_beside-met.ensures.nearest
 
 pub returns : goal.returns
 returns c =

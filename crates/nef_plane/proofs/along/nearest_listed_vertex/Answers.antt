@@ -1,21 +1,31 @@
-use Rattle.std.proofs.Common.{get_or, arith}
+use Rattle.std.proofs.Common.{get_or, arith, sym, ◌∙◌, subst}
 use Rattle.nef_geo.specs.Shapes.{form_of, place_of, vector_of}
 use Rattle.nef_complex.specs.Complexes.{complex_of}
-use Rattle.nef_plane.specs.Meets.{AtVertexNumber, met_of}
+use Rattle.nef_plane.specs.Meets.{AtVertexNumber, IsNearer, met_of}
 use Rattle.nef_plane.proofs.Listed.{vertex-listed}
-use Rattle.nef_plane.proofs.Nearest.{listed-more, listed-all}
+use Rattle.nef_plane.proofs.Choosing.{keep-first, not-some}
+use Rattle.nef_plane.proofs.Nearest.{nearest-reached, listed-more, listed-all}
 use Rattle.nef_classes.proofs.ClassLists.{is-at_get, is-at_within}
+use Rattle.nef_plane.proofs.along.nearest_listed_vertex.Goals.{then-is_some, else-is_some}
 use Rattle.nef_plane.proofs.along.nearest_listed_vertex.Goals as goal
 
-pub vertex_met_beside-requires-clause-within : goal.vertex_met_beside-requires-clause-within
-vertex_met_beside-requires-clause-within c =
+pub vertex_met_beside-met-requires-clause-within : goal.vertex_met_beside-met-requires-clause-within
+vertex_met_beside-met-requires-clause-within c =
     let l = c.requires.listed.each c.loop-number.number-index (get_or c.args.numbers.now c.loop-number.number-index 0) (is-at_get c.args.numbers.now c.loop-number.number-index 0 c.loop-number-test.true) in
     is-at_within c.args.c.now.vertices (get_or c.args.numbers.now c.loop-number.number-index 0) l.0 l.1
 
+pub nearer-best-requires-clause-one : goal.nearer-best-requires-clause-one
+nearer-best-requires-clause-one c = nearest-reached met_of (place_of c.args.p.now) (vector_of c.args.d.now) _ c.loop-number.best c.loop-number.invariant
+
 pub loop-number-preserved : goal.loop-number-preserved
 loop-number-preserved c =
-    listed-more met_of (place_of c.args.p.now) (vector_of c.args.d.now) c.args.numbers.now (AtVertexNumber (complex_of c.args.c.now)) c.loop-number.number-index (get_or c.args.numbers.now c.loop-number.number-index 0) c.loop-number.best c.vertex_met_beside.result c.nearer-best.result
-    (is-at_get c.args.numbers.now c.loop-number.number-index 0 c.loop-number-test.true) c.nearer-best.ensures.nearer c.loop-number.invariant c.vertex_met_beside.ensures.nearest
+    let d = vector_of c.args.d.now in let a = c.loop-number.best in let b = c.vertex_met_beside-met.result in
+    let near : IsNearer met_of d a b c.if-is_some.best = elim c.if-is_some.branch [
+      | then-is_some w ↦ subst (IsNearer met_of d a b) (sym w.best-is) w.nearer-best.ensures.nearer
+      | else-is_some w ↦ subst (IsNearer met_of d a b) (sym w.best-is) (keep-first met_of d a b (not-some b (sym c.is_some.ensures ∙ w.if-is_some.false)))
+    ] in
+    listed-more met_of (place_of c.args.p.now) d c.args.numbers.now (AtVertexNumber (complex_of c.args.c.now)) c.loop-number.number-index (get_or c.args.numbers.now c.loop-number.number-index 0) a b c.if-is_some.best
+    (is-at_get c.args.numbers.now c.loop-number.number-index 0 c.loop-number-test.true) near c.loop-number.invariant c.vertex_met_beside-met.ensures.nearest
 
 pub returns : goal.returns
 returns c =
