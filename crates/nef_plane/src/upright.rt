@@ -150,7 +150,10 @@ fn nearest_vertex(c: &Complex, p: &Point, d: &Dir, numbers: &[usize]) -> Option<
 {
     let mut best = None;
     for number in numbers {
-        best = nearer(best, vertex_met(c, p, d, *number), p, d);
+        let met = vertex_met(c, p, d, *number);
+        if met.is_some() {
+            best = nearer(best, met, p, d);
+        }
     }
     best
 }
@@ -165,7 +168,10 @@ fn nearest_edge(c: &Complex, p: &Point, d: &Dir, numbers: &[usize]) -> Option<Me
 {
     let mut best = None;
     for number in numbers {
-        best = nearer(best, edge_met(c, p, d, *number), p, d);
+        let met = edge_met(c, p, d, *number);
+        if met.is_some() {
+            best = nearer(best, met, p, d);
+        }
     }
     best
 }
