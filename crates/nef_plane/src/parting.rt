@@ -58,7 +58,8 @@ fn are_parted(n: &Dir, p: &Point, a: &Point, b: &Point) -> bool
     side_through(n, p, a) == side_through(n, p, b).opposite()
 }
 
-/// The normal of a plane that is along the direction and along an axis that isn't along the plane h.
+/// The normal of a plane that is along the direction and along an axis that isn't along the plane h. `None` comes where
+/// the direction is along that axis.
 pub(crate) fn normal_beside(h: &Plane, d: &Dir) -> Option<Dir>
     ensures across { IfSome result (IsAcrossRay (vector_of d.now)) }
 {
