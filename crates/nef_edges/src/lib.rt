@@ -10,8 +10,6 @@ mod half;
 mod moment;
 mod order;
 mod pairing;
-#[cfg(test)]
-mod tests;
 
 pub use pairing::pair;
 pub use std::alloc::AllocError as OutOfMemory;

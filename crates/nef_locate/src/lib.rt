@@ -16,8 +16,6 @@ mod plane;
 mod point;
 mod ray;
 mod span;
-#[cfg(test)]
-mod tests;
 
 pub use above::side_above;
 pub use facet::{corner_toward, in_facet};
