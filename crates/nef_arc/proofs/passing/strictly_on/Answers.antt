@@ -4,7 +4,8 @@ use Rattle.nef_geo.specs.Shapes.{vector_of}
 use Rattle.nef_geo.specs.declared.sign.Sign.TheVariants.{Zero}
 use Rattle.law_cyclic.proofs.Directions.{classes_are_arcs}
 use Rattle.nef_arc.specs.Arcs.{normal_vector, source_vector, target_vector}
-use Rattle.nef_arc.proofs.SignNumbers.{read_sign, zero_sign, five_signs, between_read, test_of, true_of}
+use Rattle.nef_geo.proofs.Signs.{zero_sign}
+use Rattle.nef_arc.proofs.SignNumbers.{read_sign, five_signs, between_read, test_of, true_of}
 use Rattle.nef_arc.proofs.Ends.{source_on, target_on, level_on}
 use Rattle.nef_arc.proofs.passing.strictly_on.Goals as goal
 
