@@ -6,14 +6,15 @@ use Rattle.nef_space.specs.Vectors.{Vector}
 use Rattle.nef_space.specs.declared.label.Label.{Label}
 use Rattle.nef_space.specs.declared.label.Label.TheVariants.{In}
 use Rattle.law_sphere.specs.Maps.{Item, Side}
-use Rattle.nef_smap.proofs.Chains.{chain-link, chain-map}
+use Rattle.nef_classes.proofs.Chains.{chain-link, chain-map}
 use Rattle.law_complex.specs.Belongs.{SpotMark, Towards, SeesSpot, Belongs, on_skeleton, off_skeleton}
 use Rattle.law_complex.specs.Complexes.{Vertex, Edge, Complex, Corner, HasEnds, IsCorner}
 use Rattle.law_complex.specs.Skeleton.{IsEdgePoint, IsOnEdges, IsFacetPoint, Spot, at_vertex, on_edge, in_facet, IsSpot, IsSkeletonPoint, PlaneMeet, meets_vertex, meets_edge, LiesIn, Meets, IsFirstInPlane, IsCornerAt, RayNames, HasCorner}
 use Rattle.law_complex.specs.Rays.{VertexSide, IsAbove, RayDown}
 use Rattle.law_links.specs.Links.{AreAlong, LinkAlong, LinkAcross, FacetLink, LinkInSface, AreSidesAlong, pos_arcs, neg_arcs, around_ends, LinkAlongEdge, LinkAcrossFacet, LinkDown, VolumeLink}
 use Rattle.nef_parts.specs.Cycles.{IsNextArc, NextCorner, StepsTo, IsCycle, Cycles}
-use Rattle.nef_parts.specs.Numbers.{HasRows, count_items, count_sides, IsSideNumber, IsVolumeOf, IsSideBelow, FacetNumbers, VolumeNumbers, pos_of, neg_of, IsFacetAt, IsFacet, IsVolume, IsParts, cycle_corners, shell_sides}
+use Rattle.nef_parts.specs.Sides.{IsSideNumber}
+use Rattle.nef_parts.specs.Numbers.{HasRows, count_items, count_sides, IsVolumeOf, IsSideBelow, FacetNumbers, VolumeNumbers, pos_of, neg_of, IsFacetAt, IsFacet, IsVolume, IsParts, cycle_corners, shell_sides}
 use Rattle.nef_parts.specs.Shells.{ShellLink, IsNamed, IsShell, Shells}
 use Rattle.nef_parts.specs.declared.parts.Facet.{Facet}
 use Rattle.nef_parts.specs.declared.parts.Parts.{Parts}

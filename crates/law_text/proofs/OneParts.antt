@@ -10,7 +10,7 @@ use Rattle.nef_geo.specs.Shapes.{form_of}
 use Rattle.nef_geo.specs.declared.plane.Plane.{Plane}
 use Rattle.law_sphere.specs.Maps.{Item, items, item_normal}
 use Rattle.nef_smap.specs.Sides.{sides_of}
-use Rattle.nef_smap.proofs.ClassLists.{is-at_within, is-at_some, is-at_one}
+use Rattle.nef_classes.proofs.ClassLists.{is-at_within, is-at_some, is-at_one}
 use Rattle.nef_smap.proofs.SideLists.{at-from_get, get-from_at, side-has}
 use Rattle.nef_smap.proofs.SideNumbers.{number-one}
 use Rattle.nef_smap.specs.SideNumbers.{number_of}
@@ -21,7 +21,8 @@ use Rattle.nef_complex.specs.declared.complex.Corner.{Corner as CornerValue}
 use Rattle.nef_complex.specs.Complexes.{corner_of}
 use Rattle.law_links.specs.Links.{FacetLink, VolumeLink}
 use Rattle.nef_parts.specs.Cycles.{IsCornerBelow, Cycles}
-use Rattle.nef_parts.specs.Numbers.{count_items, count_sides, IsFacetOf, IsSideNumber, IsVolumeOf, IsSideBelow, pos_of, neg_of, IsFacet, IsParts, cycle_corners, shell_sides}
+use Rattle.nef_parts.specs.Sides.{IsSideNumber}
+use Rattle.nef_parts.specs.Numbers.{count_items, count_sides, IsFacetOf, IsVolumeOf, IsSideBelow, pos_of, neg_of, IsFacet, IsParts, cycle_corners, shell_sides}
 use Rattle.nef_parts.specs.Shells.{Shells}
 use Rattle.nef_parts.specs.declared.parts.Cycle.{Cycle}
 use Rattle.nef_parts.specs.declared.parts.Facet.{Facet}

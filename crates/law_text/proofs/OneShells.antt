@@ -6,10 +6,10 @@ use Rattle.law_sphere.specs.Maps.{At, Map}
 use Rattle.law_sphere.proofs.Equal.{same-lists}
 use Rattle.law_sphere.proofs.Lists.{at-one}
 use Rattle.nef_smap.specs.Sides.{SeeOneWay, AreSfaces}
-use Rattle.nef_smap.proofs.ClassLists.{is-at_within, is-at_some, is-at_one}
+use Rattle.nef_classes.proofs.ClassLists.{is-at_within, is-at_some, is-at_one}
 use Rattle.law_complex.specs.Complexes.{Complex}
 use Rattle.law_complex.specs.Rays.{VertexSide}
-use Rattle.nef_parts.specs.Numbers.{IsSideNumber}
+use Rattle.nef_parts.specs.Sides.{IsSideNumber}
 use Rattle.nef_parts.specs.Shells.{ShellLink, IsNamed, IsNameBelow, IsListed, IsShell, IsShellBelow, Shells}
 use Rattle.nef_parts.specs.declared.parts.Side.{Side}
 use Rattle.law_text.proofs.Numbering.{IsEarlier, numbers-one}

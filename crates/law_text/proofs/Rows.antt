@@ -1,7 +1,7 @@
 -- Lists and tables with the same elements are one.
 use Rattle.std.proofs.Common.{◌≡◌, ℕ, suc, List, [], ◌∷◌, length, arith, refl, sym, ◌∙◌, ap, subst}
 use Rattle.nef_space.specs.Lists.{IsAt, IsInTable}
-use Rattle.nef_smap.proofs.ClassLists.{is-at_within, is-at_some, is-at_one}
+use Rattle.nef_classes.proofs.ClassLists.{is-at_within, is-at_some, is-at_one}
 use Rattle.nef_smap.proofs.SideLists.{at-from_get}
 use Rattle.law_complex.specs.Complexes.{Vertex, Complex}
 use Rattle.nef_parts.specs.Numbers.{HasRows}

@@ -1,5 +1,4 @@
 -- Signs as the machine's numbers, and the five signs of an arc and a direction.
-pub use Rattle.nef_geo.proofs.Signs.{zero_sign}
 use Rattle.std.proofs.Common.{◌≡◌, zero, suc, ◌<◌, ◌^◌, ℤ, pos, negsuc, Bool, true, false, w8, to_z, of_z, [], ◌∷◌, arith, refl, sym, ap, ◌∙◌, subst}
 use Rattle.std.proofs.lemmas.Int.{to_z-of_z}
 use Rattle.std.specs.List.{All}

@@ -7,7 +7,7 @@ use Rattle.nef_space.specs.Place.{Place, form_numbers}
 use Rattle.nef_geo.specs.Shapes.{form_of}
 use Rattle.nef_geo.specs.declared.plane.Plane.{Plane}
 use Rattle.law_sphere.specs.Maps.{At}
-use Rattle.nef_smap.proofs.ClassLists.{is-at_one, is-at_within}
+use Rattle.nef_classes.proofs.ClassLists.{is-at_one, is-at_within}
 use Rattle.nef_smap.proofs.SideLists.{get-from_at}
 use Rattle.nef_complex.specs.Index.{AreHolders, AreInOrder}
 use Rattle.nef_complex.specs.Planes.{HoldsBoth}

@@ -8,8 +8,6 @@ mod link;
 mod numbering;
 mod rows;
 mod table;
-#[cfg(test)]
-mod tests;
 
 pub use forest::class_of_each;
 pub use link::Link;

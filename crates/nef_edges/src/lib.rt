@@ -9,8 +9,6 @@ mod arriving;
 mod half;
 mod order;
 mod pairing;
-#[cfg(test)]
-mod tests;
 
 pub use pairing::pair;
 pub use std::alloc::AllocError as OutOfMemory;

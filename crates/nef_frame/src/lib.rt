@@ -3,8 +3,6 @@
 
 mod corner;
 mod sides;
-#[cfg(test)]
-mod tests;
 mod whole;
 
 pub use std::alloc::AllocError as OutOfMemory;

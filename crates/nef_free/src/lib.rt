@@ -4,8 +4,6 @@
 mod board;
 mod laws;
 mod rule;
-#[cfg(test)]
-mod tests;
 mod view;
 
 pub use board::{FreeBoard, FreePass};

@@ -15,8 +15,6 @@ mod place;
 mod plane;
 mod point;
 mod ray;
-#[cfg(test)]
-mod tests;
 mod upright;
 mod window;
 

@@ -14,7 +14,7 @@ use Rattle.law_complex.specs.Rays.{VertexSide, HasSideLabel}
 use Rattle.nef_complex.specs.Complexes.{corner_of}
 use Rattle.law_links.specs.Links.{FacetLink, VolumeLink}
 use Rattle.nef_parts.specs.Cycles.{IsCornerBelow, Cycles}
-pub use Rattle.nef_parts.specs.Sides.{IsSideNumber}
+use Rattle.nef_parts.specs.Sides.{IsSideNumber}
 use Rattle.nef_parts.specs.Shells.{SfaceNumbers, Shells}
 use Rattle.nef_parts.specs.declared.parts.Cycle.{Cycle}
 use Rattle.nef_parts.specs.declared.parts.Facet.{Facet}

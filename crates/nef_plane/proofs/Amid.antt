@@ -10,8 +10,7 @@ use Rattle.nef_geo.specs.Shapes.{form_of, place_of}
 use Rattle.nef_geo.specs.Signs.{sign_of}
 use Rattle.nef_geo.specs.declared.plane.Plane.{Plane}
 use Rattle.nef_geo.specs.declared.sign.Sign.TheVariants.{Minus, Zero, Plus}
-use Rattle.nef_geo.proofs.Signs.{sign_of-positive, sign_of-negative}
-use Rattle.nef_arc.proofs.SignNumbers.{zero_sign}
+use Rattle.nef_geo.proofs.Signs.{sign_of-positive, sign_of-negative, zero_sign}
 use Rattle.law_forms.specs.Homogeneous.{of_place}
 use Rattle.law_forms.proofs.Between.{toward-place}
 use Rattle.law_forms.proofs.Directions.{zero-decided}

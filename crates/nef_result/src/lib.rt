@@ -4,8 +4,6 @@
 mod assembling;
 mod carriers;
 mod halves;
-#[cfg(test)]
-mod tests;
 
 pub use assembling::assemble;
 pub use carriers::{add_carrier, copy_carriers, merge_carriers};

@@ -16,11 +16,9 @@ pub mod SideLists
 pub mod FirstMet
 pub mod FirstSees
 pub mod SideNumbers
-pub mod Chains
 pub mod Sound
 pub mod SameSface
 pub mod SfaceNumbers
-pub mod ClassLists
 pub mod CloseSigns
 pub mod Passing
 pub mod Upward

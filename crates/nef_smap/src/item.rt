@@ -1,18 +1,17 @@
 //! Arcs and the sloop, which together are the items of a sphere map.
 
 ghost use Rattle.std.specs.Prelude.{◌≡◌, ◌<◌, ◌^◌, ◌↔◌, ℕ, length, cond, IsTrue, MatchOption};
-ghost use Rattle.nef_space.specs.Vectors.{Vector, dot, SameDirection};
+ghost use Rattle.nef_space.specs.Vectors.{Vector, SameDirection};
 ghost use Rattle.law_cyclic.specs.Arcs.{IsOnCircle};
 ghost use Rattle.nef_arc.specs.Arcs.{normal_vector, IsOn};
 ghost use Rattle.law_sphere.specs.Maps.{At, Item as PlainItem, items, item_normal, item_pos, item_mark, item_neg, arc_item, OnItem};
 ghost use Rattle.nef_geo.specs.Shapes.{vector_of};
-ghost use Rattle.nef_geo.specs.Signs.{sign_of};
 ghost use Rattle.nef_smap.specs.Maps.{arc_of, map_of, IsSphereMap};
 ghost use Rattle.nef_smap.specs.Items.{item_of, IsItemThrough};
 
 use crate::map::{SArc, SLoop, SphereMap};
 use nef_arc::{Arc, strictly_on};
-use nef_geo::{Dir, Label, Sign, dot};
+use nef_geo::{Dir, Label};
 
 /// An arc or the sloop.
 #[derive(Debug, Clone, Copy, PartialEq, Eq)]
@@ -52,14 +51,6 @@ impl Item {
             (Item::Loop(circle), true) => circle.pos,
             (Item::Loop(circle), false) => circle.neg,
         }
-    }
-
-    /// The side of its great circle on which the direction lies: `Plus` is the one to which the normal points, and `Zero`
-    /// the circle.
-    pub fn side(&self, d: &Dir) -> Sign
-        ensures side { result ≡ sign_of (dot (item_normal (item_of self.now)) (vector_of d.now)) }
-    {
-        dot(self.normal(), d)
     }
 }
 

@@ -7,7 +7,6 @@ use Rattle.std.proofs.lemmas.List.{take_more, take_all}
 use Rattle.std.proofs.lemmas.Option.{get_or_from_slice_get}
 use Rattle.law_sphere.specs.Maps.{At}
 use Rattle.nef_smap.proofs.Lists.{at-within, at-get}
-pub use Rattle.nef_smap.proofs.Lists.{at-contains, contains-at}
 
 pub read-at : {X : Type 0} (xs : List X) (k : ℕ) (x : X) → k < length xs → x ≡ get_or xs k x → At xs k x
 read-at [] k x l e = absurd (omega arith)

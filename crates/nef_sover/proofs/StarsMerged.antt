@@ -16,12 +16,12 @@ use Rattle.nef_star.specs.declared.star.Star.{Star}
 use Rattle.nef_star.specs.Ops.{op_label}
 use Rattle.nef_star.specs.Stars.{star_of, IsStar, IsCombined}
 use Rattle.nef_star.proofs.Labelled.{each_has_one_label}
-use Rattle.nef_smap.proofs.Lists.{map-at, at-map, at-get}
+use Rattle.nef_smap.proofs.Lists.{map-at, at-map, at-get, at-contains, contains-at}
 use Rattle.nef_smap.proofs.WellFormed.{star-well_formed}
 use Rattle.nef_sover.specs.declared.axes.Axis.{Axis}
 use Rattle.nef_sover.specs.Axes.{AreAxes}
 use Rattle.nef_sover.specs.Merged.{AreStarsAt, IsMergedAt, AreMerged}
-use Rattle.nef_sover.proofs.Places.{at-contains, contains-at, zip-first, zip-second, some-at}
+use Rattle.nef_sover.proofs.Places.{zip-first, zip-second, some-at}
 
 module _ (A B : Map) (op : Op) (d : Dir) (p q t : Star) (M : AreStarsAt A B d p q) (T : IsStar t) (C : IsCombined op p q t) where
   near : (e : Vector) (l : Label) → IsDirection (cross (vector_of d) e) → StarLabel (star_of t) e l → NearByOp A B (op_label op) (vector_of d) e l

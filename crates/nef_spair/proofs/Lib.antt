@@ -10,4 +10,3 @@ pub mod Sorted
 pub mod Built
 pub mod FromPieces
 pub mod Answered
-pub mod Samples

@@ -20,7 +20,7 @@ use nef_smap::{RawStars, SphereMap};
 use std::alloc::Global;
 
 // The map that is made of raw stars, whatever they show.
-pub(crate) fn made_of(alloc: Global, raw: RawStars) -> Result<SphereMap, OutOfMemory>
+fn made_of(alloc: Global, raw: RawStars) -> Result<SphereMap, OutOfMemory>
     requires stars { All IsStar raw.stars }
     ensures made { IfOk result (IsMadeFrom raw) }
 {

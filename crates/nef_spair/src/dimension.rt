@@ -54,7 +54,7 @@ fn edge_direction(map: &SphereMap) -> Option<Dir>
 }
 
 // The kind of a map, whether it is least or not.
-pub(crate) fn kind_of(map: &SphereMap) -> Kind
+fn kind_of(map: &SphereMap) -> Kind
     ensures exactly { (k : Kind) → IsKind (map_of map.now) k ↔ (result ≡ k) }
 {
     if is_in_volume(map) {

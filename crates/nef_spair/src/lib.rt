@@ -10,8 +10,6 @@ mod making;
 mod order;
 mod pieces;
 mod sorting;
-#[cfg(test)]
-mod tests;
 
 pub use answer::Kind;
 pub use building::build;

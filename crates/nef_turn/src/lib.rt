@@ -10,8 +10,6 @@ mod laws;
 mod maps;
 mod moved;
 mod svertices;
-#[cfg(test)]
-mod tests;
 mod turn;
 mod turning;
 mod vectors;

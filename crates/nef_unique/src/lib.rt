@@ -5,8 +5,6 @@
 
 mod comparison;
 mod laws;
-#[cfg(test)]
-mod tests;
 
 pub use comparison::{compare, same_map, same_vertices};
 pub use laws::unique_laws;

@@ -9,7 +9,7 @@ use Rattle.nef_classes.proofs.ClassLists.{is-at_within}
 use Rattle.nef_classes.specs.Tables.{AreTied, IsCellBelow, HasCounts, IsCellNumber}
 use Rattle.nef_classes.specs.declared.table.Cell.{Cell}
 use Rattle.nef_classes.specs.declared.table.Tie.{Tie}
-use Rattle.nef_parts.specs.Numbers.{IsSideNumber}
+use Rattle.nef_parts.specs.Sides.{IsSideNumber}
 use Rattle.nef_parts.specs.Shells.{ShellLink, IsNamed, IsNameBelow}
 use Rattle.nef_parts.specs.declared.parts.Side.{Side}
 use Rattle.nef_volumes.specs.Joining.{AreNumbersBelow}

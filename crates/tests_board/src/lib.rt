@@ -4,6 +4,8 @@
 #[cfg(test)]
 mod counted;
 #[cfg(test)]
+mod free;
+#[cfg(test)]
 mod gates;
 #[cfg(test)]
 mod jobs;

@@ -18,7 +18,7 @@ const NOT: Label = Label::Not;
 const IN: Label = Label::In;
 
 // The half-space on the side of a plane to which the normal doesn't point, at a point of the plane.
-fn below(rt: &impl Abort, alloc: Global, normal: (i8, i8, i8), closed: bool) -> SphereMap
+pub(crate) fn below(rt: &impl Abort, alloc: Global, normal: (i8, i8, i8), closed: bool) -> SphereMap
     ensures map { IsSphereMap result }
 {
     let normal = dir(rt, normal);
@@ -36,7 +36,7 @@ fn below(rt: &impl Abort, alloc: Global, normal: (i8, i8, i8), closed: bool) -> 
 }
 
 // The same on the other side.
-fn above(rt: &impl Abort, alloc: Global, normal: (i8, i8, i8), closed: bool) -> SphereMap
+pub(crate) fn above(rt: &impl Abort, alloc: Global, normal: (i8, i8, i8), closed: bool) -> SphereMap
     ensures map { IsSphereMap result }
 {
     let normal = dir(rt, normal);
@@ -54,7 +54,11 @@ fn above(rt: &impl Abort, alloc: Global, normal: (i8, i8, i8), closed: bool) -> 
 }
 
 // A plane through the point.
-fn plane(rt: &impl Abort, alloc: Global, normal: (i8, i8, i8)) -> Result<SphereMap, OutOfMemory>
+pub(crate) fn plane(
+    rt: &impl Abort,
+    alloc: Global,
+    normal: (i8, i8, i8),
+) -> Result<SphereMap, OutOfMemory>
     ensures map { IfOk result (λ m. IsLeastMap m) }
 {
     let low = below(rt, alloc, normal, true);
@@ -63,7 +67,7 @@ fn plane(rt: &impl Abort, alloc: Global, normal: (i8, i8, i8)) -> Result<SphereM
 }
 
 // A line through the point, in two planes.
-fn line(
+pub(crate) fn line(
     rt: &impl Abort,
     alloc: Global,
     first: (i8, i8, i8),
@@ -76,7 +80,12 @@ fn line(
     combine(alloc, &a, &b, Op::And)
 }
 
-fn svertex(rt: &impl Abort, d: (i8, i8, i8), mark: Label, around: Option<Label>) -> SVertex {
+pub(crate) fn svertex(
+    rt: &impl Abort,
+    d: (i8, i8, i8),
+    mark: Label,
+    around: Option<Label>,
+) -> SVertex {
     SVertex {
         dir: dir(rt, d),
         mark,
@@ -101,7 +110,7 @@ fn arc(
     }
 }
 
-fn level(rt: &impl Abort, mark: Label, pos: Label, neg: Label) -> SLoop {
+pub(crate) fn level(rt: &impl Abort, mark: Label, pos: Label, neg: Label) -> SLoop {
     SLoop {
         normal: dir(rt, (0, 0, 1)),
         mark,

@@ -4,6 +4,8 @@
 #[cfg(test)]
 mod arcs;
 #[cfg(test)]
+mod building;
+#[cfg(test)]
 mod combining;
 #[cfg(test)]
 mod directions;

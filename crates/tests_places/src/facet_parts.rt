@@ -1,23 +1,12 @@
 //! The facets of the frame of the empty set.
 
-ghost use Rattle.std.specs.Prelude.{IfOk};
-ghost use Rattle.nef_space.specs.Sets.{Set};
-ghost use Rattle.nef_complex.specs.Complexes.{ShowsSet};
-
-use nef_complex::{Complex, Corner};
+use crate::starts::empty;
+use nef_complex::Corner;
 use nef_facets::{OutOfMemory, facets};
-use nef_frame::frame;
 use nef_geo::{Label, List, Plane};
 use nef_parts::Cycle;
 use std::alloc::Global;
 use std::test::Fail;
-
-fn empty(alloc: Global) -> Result<Complex, OutOfMemory>
-    ensures shows { IfOk result (λ c. (s : Set) × ShowsSet s c) }
-{
-    let c = frame(alloc, Label::Not)?;
-    Ok(c)
-}
 
 fn add_digit(text: &mut Vec<u8>, number: usize) -> Result<(), OutOfMemory> {
     if number < 8 {

@@ -32,7 +32,7 @@ fn places_in_the_empty_set(rt: HostRuntime) -> Result<(), Fail> {
     assert_answers(&rt, rt.alloc(), &c, EMPTY_ANSWERS)
 }
 
-fn whole(alloc: Global) -> Result<Complex, OutOfMemory>
+pub(crate) fn whole(alloc: Global) -> Result<Complex, OutOfMemory>
     ensures shows { IfOk result (λ c. (s : Set) × ShowsSet s c) }
 {
     let complex = frame(alloc, Label::In)?;

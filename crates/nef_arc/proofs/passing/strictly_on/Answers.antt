@@ -3,7 +3,7 @@ use Rattle.nef_space.specs.Vectors.{dot}
 use Rattle.nef_geo.specs.Shapes.{vector_of}
 use Rattle.nef_geo.specs.declared.sign.Sign.TheVariants.{Zero}
 use Rattle.nef_arc.specs.Arcs.{normal_vector}
-use Rattle.nef_arc.proofs.SignNumbers.{zero_sign}
+use Rattle.nef_geo.proofs.Signs.{zero_sign}
 use Rattle.nef_arc.proofs.Ends.{level_on}
 use Rattle.nef_arc.proofs.OnWays.{passed_is_on}
 use Rattle.nef_arc.proofs.passing.strictly_on.Goals as goal

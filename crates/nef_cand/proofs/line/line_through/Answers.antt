@@ -1,6 +1,6 @@
 use Rattle.std.proofs.Common.{ℕ, ◌<◌, length, get_or, arith}
 use Rattle.nef_geo.specs.Shapes.{place_of}
-use Rattle.nef_smap.proofs.ClassLists.{is-at_get, is-at_some}
+use Rattle.nef_classes.proofs.ClassLists.{is-at_get, is-at_some}
 use Rattle.nef_complex.proofs.Ends.{low-within, high-within}
 use Rattle.nef_complex.proofs.ListedHolders.{holders-within}
 use Rattle.nef_complex.proofs.Reading.{got-at}

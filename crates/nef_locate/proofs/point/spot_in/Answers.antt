@@ -1,5 +1,5 @@
 use Rattle.std.proofs.Common.{◌≡◌, IsTrue, rules, sym, ◌∙◌}
-use Rattle.nef_arc.proofs.SignNumbers.{zero_sign}
+use Rattle.nef_geo.proofs.Signs.{zero_sign}
 use Rattle.nef_space.specs.Place.{form_at}
 use Rattle.nef_geo.specs.Shapes.{form_of, hit_place}
 use Rattle.nef_geo.specs.declared.sign.Sign.TheVariants.{Zero}

@@ -3,7 +3,7 @@ use Rattle.nef_space.specs.Place.{form_at}
 use Rattle.nef_geo.specs.Shapes.{form_of, place_of, hit_place, vector_of}
 use Rattle.nef_geo.specs.Signs.{sign_of}
 use Rattle.nef_geo.specs.declared.sign.Sign.TheVariants.{Zero}
-use Rattle.nef_arc.proofs.SignNumbers.{zero_sign}
+use Rattle.nef_geo.proofs.Signs.{zero_sign}
 use Rattle.nef_complex.proofs.Reading.{got-at}
 use Rattle.nef_plane.proofs.Axes.{axis-some, axis-level}
 use Rattle.nef_plane.proofs.Reached.{off-vertex}

@@ -3,7 +3,7 @@ use Rattle.nef_space.specs.Place.{form_at}
 use Rattle.nef_geo.specs.Shapes.{place_of, vector_of}
 use Rattle.nef_geo.specs.Signs.{sign_of}
 use Rattle.nef_geo.specs.declared.sign.Sign.TheVariants.{Zero}
-use Rattle.nef_arc.proofs.SignNumbers.{zero_sign}
+use Rattle.nef_geo.proofs.Signs.{zero_sign}
 use Rattle.nef_plane.specs.Upright.{plane_along_x, plane_along_z}
 use Rattle.nef_plane.proofs.Spanned.{line-of, line-x, line-z}
 use Rattle.nef_plane.proofs.upright.is_in_line.Goals as goal

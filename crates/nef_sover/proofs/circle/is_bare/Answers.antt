@@ -6,8 +6,8 @@ use Rattle.nef_sover.specs.declared.axes.Axis.{Axis}
 use Rattle.law_sphere.specs.Maps.{At}
 use Rattle.law_sphere.proofs.Lists.{at-one}
 use Rattle.nef_arc.proofs.SignNumbers.{not_true}
-use Rattle.nef_smap.proofs.Lists.{at-within}
-use Rattle.nef_sover.proofs.Places.{read-at, at-contains, contains-at}
+use Rattle.nef_smap.proofs.Lists.{at-within, at-contains, contains-at}
+use Rattle.nef_sover.proofs.Places.{read-at}
 use Rattle.nef_sover.proofs.circle.is_bare.Goals as goal
 
 pub loop-axis-preserved : goal.loop-axis-preserved

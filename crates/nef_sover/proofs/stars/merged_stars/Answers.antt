@@ -4,7 +4,8 @@ use Rattle.nef_star.specs.Ops.{op_label}
 use Rattle.nef_smap.specs.Maps.{map_of}
 use Rattle.nef_sover.specs.declared.axes.Axis.{Axis}
 use Rattle.nef_sover.specs.Merged.{IsMergedAt, AreMerged}
-use Rattle.nef_sover.proofs.Places.{read-at, at-contains, zip-more, zip-all}
+use Rattle.nef_smap.proofs.Lists.{at-contains}
+use Rattle.nef_sover.proofs.Places.{read-at, zip-more, zip-all}
 use Rattle.nef_sover.proofs.stars.merged_stars.Goals as goal
 
 pub merged_star-requires-clause-small : goal.merged_star-requires-clause-small

@@ -5,7 +5,7 @@ use Rattle.nef_space.specs.declared.label.Label.{Label}
 use Rattle.nef_geo.specs.Shapes.{vector_of}
 use Rattle.nef_geo.specs.declared.dir.Dir.{Dir}
 use Rattle.nef_geo.specs.declared.sign.Sign.TheVariants.{Zero}
-use Rattle.nef_arc.proofs.SignNumbers.{zero_sign}
+use Rattle.nef_geo.proofs.Signs.{zero_sign}
 use Rattle.nef_star.specs.declared.star.Ray.{Ray}
 use Rattle.nef_star.specs.Stars.{IsRay}
 use Rattle.nef_star.proofs.Straight.{plane-star-of}

@@ -3,7 +3,7 @@ use Rattle.nef_space.specs.Place.{form_at}
 use Rattle.nef_geo.specs.Shapes.{form_of, place_of, hit_place}
 use Rattle.nef_geo.specs.declared.sign.Sign.TheVariants.{Zero}
 use Rattle.law_near.proofs.Rays.{same-place_sym}
-use Rattle.nef_arc.proofs.SignNumbers.{zero_sign}
+use Rattle.nef_geo.proofs.Signs.{zero_sign}
 use Rattle.nef_complex.specs.Complexes.{complex_of}
 use Rattle.law_complex.proofs.EqualPoints.{edges-same, closed-same}
 use Rattle.tests_places.proofs.questions.beginning.Goals as goal

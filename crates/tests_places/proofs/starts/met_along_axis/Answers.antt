@@ -3,7 +3,7 @@ use Rattle.nef_space.specs.Place.{form_at, normal_of}
 use Rattle.nef_space.specs.Vectors.{plane_axis}
 use Rattle.nef_geo.specs.Shapes.{form_of, hit_place, vector_of}
 use Rattle.nef_geo.specs.declared.sign.Sign.TheVariants.{Zero}
-use Rattle.nef_arc.proofs.SignNumbers.{zero_sign}
+use Rattle.nef_geo.proofs.Signs.{zero_sign}
 use Rattle.law_sphere.proofs.Compare.{SameDirection-turned}
 use Rattle.tests_places.proofs.starts.met_along_axis.Goals as goal
 

@@ -1,6 +1,6 @@
 //! The numbers of classes that links join.
 
-use super::*;
+use nef_classes::{Link, class_numbers, class_of_each};
 use std::test::Fail;
 
 #[test]

@@ -9,7 +9,7 @@ use Rattle.nef_space.specs.declared.label.Label.TheVariants.{Out, Not, In}
 use Rattle.nef_geo.specs.Shapes.{place_of}
 use Rattle.law_near.proofs.Decided.{germ_of}
 use Rattle.law_near.proofs.Frames.{no-germ_out}
-use Rattle.nef_result.proofs.tests.whole_map.Goals as goal
+use Rattle.tests_places.proofs.results.whole_map.Goals as goal
 
 full-label : (p : Place) → InFrame p → HasLabel Set.full p In
 unfolding Holds

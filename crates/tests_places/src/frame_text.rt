@@ -1,16 +1,16 @@
 //! The vertices, edges and planes of the frame against its text.
 
-ghost use Rattle.std.specs.Prelude.{IfOk};
 ghost use Rattle.nef_space.specs.Sets.{Set};
 ghost use Rattle.nef_complex.specs.Complexes.{ShowsSet};
 
-use super::*;
-use nef_complex::{Complex, Vertex, plane_items};
+use crate::starts::empty;
+use nef_complex::{Complex, OutOfMemory, Vertex, plane_items};
+use nef_frame::frame;
 use nef_geo::{Label, Plane};
 use std::alloc::Global;
 use std::test::Fail;
 
-fn letter(label: Label) -> u8 {
+pub(crate) fn letter(label: Label) -> u8 {
     match label {
         Label::Out => b'o',
         Label::Not => b'n',
@@ -114,13 +114,6 @@ fn planes_text(alloc: Global, c: &Complex) -> Result<Vec<u8>, OutOfMemory>
         text.push(b'\n')?;
     }
     Ok(text)
-}
-
-fn empty(alloc: Global) -> Result<Complex, OutOfMemory>
-    ensures shows { IfOk result (λ c. (s : Set) × ShowsSet s c) }
-{
-    let complex = frame(alloc, Label::Not)?;
-    Ok(complex)
 }
 
 #[test]

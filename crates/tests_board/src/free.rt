@@ -1,8 +1,8 @@
-//! Calls that wait for nobody: no test here is given leave to wait.
+//! Calls that wait for nobody: none is given the runtime, which alone gives leave to wait.
 ghost use Rattle.std.specs.Prelude.{◌≡◌, ◌+◌};
 
-use crate::FreeBoard;
 use nef_core::{Board, Claim, Job, OutOfMemory, Receipt};
+use nef_free::FreeBoard;
 use std::alloc::Global;
 use std::test::Fail;
 

@@ -1,16 +1,37 @@
 //! The labels of the places of a complex made by hand.
 
-ghost use Rattle.std.specs.Prelude.{IfOk};
+ghost use Rattle.std.specs.Prelude.{◌≡◌, IfOk};
 ghost use Rattle.nef_complex.specs.Complexes.{complex_of};
 ghost use Rattle.nef_locate.specs.declared.place.Place.TheVariants as place;
 ghost use Rattle.nef_locate.specs.Places.{IsPlaceIn};
 
-use super::*;
-use nef_complex::{Complex, PlaneIndex, Vertex};
-use nef_geo::{Label, List, Point};
+use nef_complex::{Complex, OutOfMemory, PlaneIndex, Vertex};
+use nef_geo::{Label, List, Plane, Point};
+use nef_locate::{Place, place_label};
 use nef_smap::SphereMap;
 use std::alloc::Global;
 use std::test::Fail;
+
+/// A complex with no edges and no index.
+pub(crate) fn bare(alloc: Global, carriers: List<Plane>, vertices: List<Vertex>) -> Complex
+    ensures vertices { result.vertices ≡ vertices }
+{
+    Complex {
+        carriers,
+        vertices,
+        edges: List::new(alloc),
+        index: PlaneIndex {
+            planes: List::new(alloc),
+            edges: List::new(alloc),
+            vertices: List::new(alloc),
+            at_vertex: List::new(alloc),
+            at_edge: List::new(alloc),
+            on_carrier: List::new(alloc),
+            in_carrier: List::new(alloc),
+            spans: List::new(alloc),
+        },
+    }
+}
 
 // One vertex, marked Not, with In all around it.
 fn lone_vertex(alloc: Global) -> Result<Complex, OutOfMemory>
@@ -29,21 +50,7 @@ fn lone_vertex(alloc: Global) -> Result<Complex, OutOfMemory>
         point: Point::of(0, 0, 0, 1),
         map,
     })?;
-    Ok(Complex {
-        carriers: List::new(alloc),
-        vertices,
-        edges: List::new(alloc),
-        index: PlaneIndex {
-            planes: List::new(alloc),
-            edges: List::new(alloc),
-            vertices: List::new(alloc),
-            at_vertex: List::new(alloc),
-            at_edge: List::new(alloc),
-            on_carrier: List::new(alloc),
-            in_carrier: List::new(alloc),
-            spans: List::new(alloc),
-        },
-    })
+    Ok(bare(alloc, List::new(alloc), vertices))
 }
 
 #[test]

@@ -6,9 +6,11 @@ ghost use Rattle.nef_geo.specs.Shapes.{place_of};
 ghost use Rattle.law_sphere.specs.Least.{Cone};
 ghost use Rattle.nef_smap.specs.Maps.{map_of, IsLeastMap};
 
-use super::*;
-use nef_complex::{Complex, PlaneIndex};
+use crate::frame_text::letter;
+use crate::lone::bare;
+use nef_complex::Complex;
 use nef_geo::{Label, List, Plane, Point};
+use nef_result::{OutOfMemory, add_carrier, copy_carriers, half_map, merge_carriers};
 use nef_smap::{SphereMap, face_map};
 use std::alloc::Global;
 use std::process::Abort;
@@ -25,14 +27,6 @@ fn whole_map(alloc: Global, p: &Point) -> Option<SphereMap>
         Some(map)
     } else {
         None
-    }
-}
-
-fn letter(label: Label) -> u8 {
-    match label {
-        Label::Out => b'o',
-        Label::Not => b'n',
-        Label::In => b'i',
     }
 }
 
@@ -85,30 +79,16 @@ fn halves_at_the_origin(rt: HostRuntime) -> Result<(), Fail> {
 }
 
 // A complex that has carriers alone.
-fn bare(alloc: Global, first: Plane, second: Plane) -> Result<Complex, OutOfMemory> {
+fn of_carriers(alloc: Global, first: Plane, second: Plane) -> Result<Complex, OutOfMemory> {
     let carriers = vec![in alloc; first, second]?;
-    Ok(Complex {
-        carriers: List::from_vec(carriers),
-        vertices: List::new(alloc),
-        edges: List::new(alloc),
-        index: PlaneIndex {
-            planes: List::new(alloc),
-            edges: List::new(alloc),
-            vertices: List::new(alloc),
-            at_vertex: List::new(alloc),
-            at_edge: List::new(alloc),
-            on_carrier: List::new(alloc),
-            in_carrier: List::new(alloc),
-            spans: List::new(alloc),
-        },
-    })
+    Ok(bare(alloc, List::from_vec(carriers), List::new(alloc)))
 }
 
 #[test]
 fn carriers_of_two(rt: HostRuntime) -> Result<(), Fail> {
     let (below, above, left) = (Plane::frame(4), Plane::frame(5), Plane::frame(0));
-    let a = bare(rt.alloc(), above, below)?;
-    let b = bare(rt.alloc(), below, left)?;
+    let a = of_carriers(rt.alloc(), above, below)?;
+    let b = of_carriers(rt.alloc(), below, left)?;
     let expected = [above, below, left];
     let merged = merge_carriers(rt.alloc(), &b, &a)?;
     assert!(rt; merged.as_slice() == expected.as_slice());

@@ -1,9 +1,9 @@
 //! The frame's complexes compared.
 
-use crate::{compare, same_vertices};
 use nef_expr::{Node, Nodes};
 use nef_frame::frame;
 use nef_geo::Label;
+use nef_unique::{compare, same_vertices};
 use std::test::Fail;
 
 #[test]
