@@ -199,7 +199,9 @@ fn work_all<R: Threads + Wait + Sync, K: Sink, G: Gate + Sync>(
 {
     let mut sets = Sets::of(alloc, script, list)?;
     for (now, command) in script.commands().iter().enumerate() {
-        work_next(rt, alloc, &mut sets, command, ahead, means, text, sink, gate)?;
+        work_next(
+            rt, alloc, &mut sets, command, ahead, means, text, sink, gate,
+        )?;
         sets.release(command, now);
     }
     Ok(())
@@ -234,5 +236,15 @@ pub(crate) fn work<R: Threads + Wait + Sync, K: Sink, G: Gate + Sync>(
     } else {
         no_complexes(alloc, script.nodes().len())?
     };
-    work_all(rt, alloc, script, list, options.ahead, &means, options.text, sink, gate)
+    work_all(
+        rt,
+        alloc,
+        script,
+        list,
+        options.ahead,
+        &means,
+        options.text,
+        sink,
+        gate,
+    )
 }

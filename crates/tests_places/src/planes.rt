@@ -30,9 +30,6 @@ fn ray_from_a_vertex(rt: HostRuntime) -> Result<(), Fail> {
         met_from_vertex(&c, &h, 2),
         Some(Some(PlaneMeet::AtEdge(3)))
     );
-    assert_eq!(rt;
-        met_along_dir(&c, &h, 2),
-        Some(Some(PlaneMeet::AtEdge(3)))
-    );
+    assert_eq!(rt; met_along_dir(&c, &h, 2), Some(Some(PlaneMeet::AtEdge(3))));
     Ok(())
 }
