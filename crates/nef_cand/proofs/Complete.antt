@@ -1,17 +1,13 @@
 -- What is listed, and that all vertices of a combination are.
 use Rattle.std.proofs.Common.{◌≡◌, ℕ, pos, List, [], map, arith, sym, subst, ◌⊎◌, inl, inr, ⊎_elim, ◌↔◌}
 use Rattle.std.specs.List.{Contains}
-use Rattle.nef_space.specs.Local.{Flat, IsVertex}
+use Rattle.nef_space.specs.Local.{IsVertex}
 use Rattle.nef_space.specs.Place.{Place, Form, form_at, SamePlace, IsBetween}
 use Rattle.nef_space.specs.Sets.{Set}
-use Rattle.nef_space.specs.Vectors.{Vector, IsDirection}
 use Rattle.nef_geo.specs.Shapes.{place_of, form_of}
 use Rattle.nef_geo.specs.declared.plane.Plane.{Plane}
 use Rattle.nef_geo.specs.declared.point.Point.{Point}
 use Rattle.law_forms.proofs.Between.{place-decided}
-use Rattle.law_near.specs.Cones.{label_and, label_or, label_less, label_one_of}
-use Rattle.law_near.proofs.Combine.{and-label, or-label, less-label, one_of-label}
-use Rattle.law_near.proofs.FlatOperations.{flat-of_two}
 use Rattle.law_sphere.specs.Maps.{At}
 use Rattle.law_sphere.proofs.Lists.{search_list, Found}
 use Rattle.nef_smap.proofs.Lists.{at-within, at-get, map-at, at-map}

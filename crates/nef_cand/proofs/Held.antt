@@ -1,5 +1,5 @@
 -- Two carriers hold each edge, and where planes cut edges.
-use Rattle.std.proofs.Common.{◌≡◌, ℕ, ◌<◌, ℤ, pos, ◌-ℤ◌, ◌*ℤ◌, List, length, get_or, slice_get, Some, arith, sym, subst}
+use Rattle.std.proofs.Common.{◌≡◌, ℕ, ℤ, pos, ◌-ℤ◌, ◌*ℤ◌, List, arith, sym, subst}
 use Rattle.std.proofs.lemmas.Int.{ints}
 use Rattle.law_arithmetic.specs.Signs.{Lies}
 use Rattle.law_arithmetic.proofs.Order.{nought-is}
@@ -17,7 +17,7 @@ use Rattle.law_near.proofs.FlatDecided.{parallel-both}
 use Rattle.law_near.proofs.Supports.{edge-support}
 use Rattle.law_sphere.specs.Maps.{At}
 use Rattle.law_sphere.proofs.Lists.{at-one}
-use Rattle.nef_smap.proofs.Lists.{map-at, at-map, get-at}
+use Rattle.nef_smap.proofs.Lists.{map-at, at-map}
 use Rattle.law_complex.specs.Complexes.{HasEnds}
 use Rattle.law_complex.specs.Complexes.{Vertex as PlainVertex, Edge as PlainEdge}
 use Rattle.law_complex.specs.Shows.{SamePlane}
@@ -27,12 +27,12 @@ use Rattle.nef_complex.specs.declared.complex.Vertex.{Vertex}
 use Rattle.nef_complex.specs.declared.complex.Edge.{Edge}
 use Rattle.nef_complex.specs.declared.complex.Complex.{Complex}
 use Rattle.nef_complex.specs.Complexes.{vertex_of, edge_of, complex_of, ShowsSet}
-use Rattle.nef_complex.proofs.Ends.{through-both, low-within, high-within, listed_edge, ends, apart}
+use Rattle.nef_complex.proofs.Ends.{through-both, listed_edge, ends, apart}
 use Rattle.nef_complex.proofs.Reading.{got-at}
-use Rattle.nef_cand.specs.Candidates.{IsVertexOf}
+use Rattle.nef_cand.specs.Candidates.{IsVertexOf, IsCutBy}
 use Rattle.nef_complex.specs.Index.{AreInOrder}
 use Rattle.nef_complex.specs.Planes.{HoldsBoth}
-use Rattle.nef_cand.specs.Points.{IsCrossing, CrossesOne, CutsOne, Adds}
+use Rattle.nef_cand.specs.Points.{IsCrossing, CutsEdge, Adds}
 use Rattle.nef_cand.proofs.Adding.{adds-as, AnyAt}
 use Rattle.nef_cand.proofs.EdgeLines.{AreHeldByTwo}
 
@@ -91,34 +91,30 @@ module _ (s : Set) (c : Complex) (S : ShowsSet s c) (k : ℕ) (e : Edge) (a : At
         )
 
 -- ---- the cuts of an edge
--- one of the planes crosses the edge at y
-abbrev pub CutsEdge : Complex → List Plane → Edge → Place → Type 0
-CutsEdge c hs e y = (u : Vertex) × (v : Vertex) × At c.vertices e.low u × At c.vertices e.high v × CrossesOne hs (place_of u.point) (place_of v.point) y
-
-pub edge-cuts : (c : Complex) (hs : List Plane) (e : Edge) (u v : Vertex) → At c.vertices e.low u → At c.vertices e.high v
-    → (ps qs : List Point) → Adds (CrossesOne hs (place_of u.point) (place_of v.point)) ps qs → Adds (CutsEdge c hs e) ps qs
-edge-cuts c hs e u v a b ps qs = adds-as (CrossesOne hs (place_of u.point) (place_of v.point)) (CutsEdge c hs e) ps qs (λ y x. (u, v, a, b, x)) back
+pub edge-cuts : (c : Complex) (h : Plane) (e : Edge) (u v : Vertex) → At c.vertices e.low u → At c.vertices e.high v
+    → (ps qs : List Point) → Adds (IsCrossing (form_of h) (place_of u.point) (place_of v.point)) ps qs → Adds (CutsEdge c h e) ps qs
+edge-cuts c h e u v a b ps qs = adds-as (IsCrossing (form_of h) (place_of u.point) (place_of v.point)) (CutsEdge c h e) ps qs (λ y x. (u, v, a, b, x)) back
   where
-    back : (y : Place) → CutsEdge c hs e y → CrossesOne hs (place_of u.point) (place_of v.point) y
+    back : (y : Place) → CutsEdge c h e y → IsCrossing (form_of h) (place_of u.point) (place_of v.point) y
     back y (r, t, f, g, x) =
-        subst (λ (w : Vertex). CrossesOne hs (place_of w.point) (place_of v.point) y) (at-one c.vertices e.low r u f a)
-        (subst (λ (w : Vertex). CrossesOne hs (place_of r.point) (place_of w.point) y) (at-one c.vertices e.high t v g b) x)
+        subst (λ (w : Vertex). IsCrossing (form_of h) (place_of w.point) (place_of v.point) y) (at-one c.vertices e.low r u f a)
+        (subst (λ (w : Vertex). IsCrossing (form_of h) (place_of r.point) (place_of w.point) y) (at-one c.vertices e.high t v g b) x)
 
-pub cuts-all : (c : Complex) (hs : List Plane) (ps qs : List Point) → Adds (AnyAt (CutsEdge c hs) c.edges) ps qs → Adds (CutsOne (complex_of c) hs) ps qs
-cuts-all c hs ps qs = adds-as (AnyAt (CutsEdge c hs) c.edges) (CutsOne (complex_of c) hs) ps qs forth back
+pub cuts-all : (c : Complex) (h : Plane) (ps qs : List Point) → Adds (AnyAt (CutsEdge c h) c.edges) ps qs → Adds (IsCutBy (complex_of c) (form_of h)) ps qs
+cuts-all c h ps qs = adds-as (AnyAt (CutsEdge c h) c.edges) (IsCutBy (complex_of c) (form_of h)) ps qs forth back
   where
-    forth : (y : Place) → AnyAt (CutsEdge c hs) c.edges y → CutsOne (complex_of c) hs y
-    forth y (k, e, a, (u, v, f, g, (i, h, b, x))) =
-        (i, h, b, (k, edge_of e, vertex_of u, vertex_of v, map-at edge_of c.edges k e a, record { low = map-at vertex_of c.vertices e.low u f; high = map-at vertex_of c.vertices e.high v g }, x.between, x.on, x.parts))
+    forth : (y : Place) → AnyAt (CutsEdge c h) c.edges y → IsCutBy (complex_of c) (form_of h) y
+    forth y (k, e, a, (u, v, f, g, x)) =
+        (k, edge_of e, vertex_of u, vertex_of v, map-at edge_of c.edges k e a, record { low = map-at vertex_of c.vertices e.low u f; high = map-at vertex_of c.vertices e.high v g }, x.between, x.on, x.parts)
 
-    back : (y : Place) → CutsOne (complex_of c) hs y → AnyAt (CutsEdge c hs) c.edges y
-    back y (i, h, b, (k, e, v, w, a, H, m, o, n)) =
+    back : (y : Place) → IsCutBy (complex_of c) (form_of h) y → AnyAt (CutsEdge c h) c.edges y
+    back y (k, e, v, w, a, H, m, o, n) =
         let d = at-map edge_of c.edges k e a in
-        from y i h b k d.0 d.1 v w (subst (λ (r : PlainEdge). HasEnds (complex_of c) r v w) (sym d.2) H) m o n
+        from y k d.0 d.1 v w (subst (λ (r : PlainEdge). HasEnds (complex_of c) r v w) (sym d.2) H) m o n
       where
-        from : (y : Place) (i : ℕ) (h : Plane) → At hs i h → (k : ℕ) (e : Edge) → At c.edges k e → (v w : PlainVertex) → HasEnds (complex_of c) (edge_of e) v w → IsBetween v.point y w.point
-            → form_at (form_of h) y ≡ pos 0 → (HoldsBoth (form_of h) v.point w.point → ⊥) → AnyAt (CutsEdge c hs) c.edges y
-        from y i h b k e a v w H m o n =
+        from : (y : Place) (k : ℕ) (e : Edge) → At c.edges k e → (v w : PlainVertex) → HasEnds (complex_of c) (edge_of e) v w → IsBetween v.point y w.point
+            → form_at (form_of h) y ≡ pos 0 → (HoldsBoth (form_of h) v.point w.point → ⊥) → AnyAt (CutsEdge c h) c.edges y
+        from y k e a v w H m o n =
             let u = at-map vertex_of c.vertices e.low v H.low in
             let t = at-map vertex_of c.vertices e.high w H.high in (
               k,
@@ -129,13 +125,8 @@ cuts-all c hs ps qs = adds-as (AnyAt (CutsEdge c hs) c.edges) (CutsOne (complex_
                 t.0,
                 u.1,
                 t.1,
-                (
-                  i,
-                  h,
-                  b,
-                  subst (λ (r : PlainVertex). IsCrossing (form_of h) r.point (place_of t.0.point) y) (sym u.2)
-                      (subst (λ (r : PlainVertex). IsCrossing (form_of h) v.point r.point y) (sym t.2) (record { between = m; on = o; parts = n })),
-                ),
+                subst (λ (r : PlainVertex). IsCrossing (form_of h) r.point (place_of t.0.point) y) (sym u.2)
+                    (subst (λ (r : PlainVertex). IsCrossing (form_of h) v.point r.point y) (sym t.2) (record { between = m; on = o; parts = n })),
               ),
             )
 

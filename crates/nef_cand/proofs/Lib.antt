@@ -1,4 +1,3 @@
-pub mod Signs
 pub mod Crossing
 pub mod Adding
 pub mod Planes
@@ -8,3 +7,4 @@ pub mod Order
 pub mod Complete
 pub mod Halves
 pub mod Framed
+pub mod Sides

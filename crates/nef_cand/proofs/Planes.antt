@@ -1,15 +1,12 @@
 -- Planes that are tested for equality, and two that hold one point.
-use Rattle.std.proofs.Common.{◌≡◌, ℤ, pos, ◌-ℤ◌, ◌*ℤ◌, ◌<ℤ◌, Bool, true, false, [], ◌∷◌, arith, refl, ap, sym, subst, ◌∙◌}
-use Rattle.std.proofs.lemmas.Int.{ints}
+use Rattle.std.proofs.Common.{◌≡◌, ℤ, pos, ◌-ℤ◌, ◌*ℤ◌, Bool, true, false, [], ◌∷◌, refl, ap, sym, subst, ◌∙◌}
 use Rattle.std.specs.Bool.{IsTrue}
 use Rattle.std.specs.Ordering.{int_eq}
 use Rattle.std.specs.Prelude.{◌&&◌}
 use Rattle.std.proofs.lemmas.Bool.Decides.{Decides-int_eq}
 use lib.Dec.{T}
-use Rattle.law_arithmetic.proofs.Ring.{ring, Poly, at, num, ◌⊕◌, ◌⊖◌, ◌⊗◌}
-use Rattle.law_arithmetic.proofs.Combination.{given, none, follows_times}
-use Rattle.nef_space.specs.Place.{Place, Form, form_at, normal_of}
-use Rattle.nef_space.specs.Vectors.{cross, IsZero}
+use Rattle.law_arithmetic.proofs.Ring.{ring, at, num, ◌⊖◌, ◌⊗◌}
+use Rattle.nef_space.specs.Place.{Place, Form}
 use Rattle.nef_geo.specs.Meet.{IsSamePlane}
 use Rattle.nef_geo.specs.Shapes.{form_of}
 use Rattle.nef_geo.specs.declared.plane.Plane.{Plane}

@@ -1,13 +1,18 @@
 -- Points added to a list, and where a plane parts an edge.
-use Rattle.std.specs.Prelude.{◌≡◌, ℕ, pos, ◌⊎◌, List}
+use Rattle.std.specs.Prelude.{◌≡◌, ℕ, ◌≤◌, pos, ◌⊎◌, List, length}
 use Rattle.std.specs.List.{Contains}
 use Rattle.nef_space.specs.Place.{Place, Form, form_at, normal_of, SamePlace, IsBetween}
 use Rattle.nef_space.specs.Vectors.{IsDirection, cross}
 use Rattle.nef_geo.specs.Shapes.{place_of, form_of}
 use Rattle.nef_geo.specs.declared.plane.Plane.{Plane}
 use Rattle.nef_geo.specs.declared.point.Point.{Point}
+use Rattle.nef_geo.specs.declared.sign.Sign.{Sign}
+use Rattle.nef_geo.specs.Signs.{sign_of}
 use Rattle.law_sphere.specs.Maps.{At}
-use Rattle.law_complex.specs.Complexes.{Complex}
+use Rattle.law_complex.specs.Complexes.{Complex as PlainComplex}
+use Rattle.nef_complex.specs.declared.complex.Complex.{Complex}
+use Rattle.nef_complex.specs.declared.complex.Edge.{Edge}
+use Rattle.nef_complex.specs.declared.complex.Vertex.{Vertex}
 use Rattle.nef_complex.specs.Planes.{HoldsBoth}
 use Rattle.nef_cand.specs.declared.line.Line.{Line}
 use Rattle.nef_cand.specs.Candidates.{IsListed, IsCutBy}
@@ -34,10 +39,15 @@ pub record IsCrossing (h : Form) (p q y : Place) : Type 0 where
 abbrev pub IsOnlyCrossing : Form → Place → Place → Place → Type 0
 IsOnlyCrossing h p q y = IsCrossing h p q y × ((z : Place) → IsCrossing h p q z → SamePlace y z)
 
--- one of the planes crosses the segment from p to q at y
-abbrev pub CrossesOne : List Plane → Place → Place → Place → Type 0
-CrossesOne hs p q y = (i : ℕ) × (h : Plane) × At hs i h × IsCrossing (form_of h) p q y
+-- the plane crosses the edge at y
+abbrev pub CutsEdge : Complex → Plane → Edge → Place → Type 0
+CutsEdge c h e y = (u : Vertex) × (v : Vertex) × At c.vertices e.low u × At c.vertices e.high v × IsCrossing (form_of h) (place_of u.point) (place_of v.point) y
+
+-- the signs of the form at all points of the vertices
+pub record AreSides (h : Form) (vs : List Vertex) (signs : List Sign) : Type 0 where
+  pub all : length vs ≤ length signs
+  pub each : (k : ℕ) (v : Vertex) (s : Sign) → At vs k v → At signs k s → s ≡ sign_of (form_at h (place_of v.point))
 
 -- one of the planes cuts an edge at y
-abbrev pub CutsOne : Complex → List Plane → Place → Type 0
+abbrev pub CutsOne : PlainComplex → List Plane → Place → Type 0
 CutsOne C hs y = (i : ℕ) × (h : Plane) × At hs i h × IsCutBy C (form_of h) y

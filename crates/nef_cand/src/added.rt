@@ -1,20 +1,23 @@
 //! Points added to a list.
 
-ghost use Rattle.std.specs.Prelude.{◌↔◌, OnOk};
+ghost use Rattle.std.specs.Prelude.{◌<◌, ◌↔◌, length, IfOk, OnOk};
 ghost use Rattle.std.specs.List.{Contains};
+ghost use Rattle.nef_space.specs.Lists.{IsAt};
 ghost use Rattle.nef_space.specs.Place.{IsPlaceBelow};
 ghost use Rattle.nef_space.specs.Sets.{Set};
-ghost use Rattle.nef_geo.specs.Shapes.{place_of};
+ghost use Rattle.nef_geo.specs.Shapes.{place_of, form_of};
 ghost use Rattle.nef_geo.specs.declared.point.Point.{Point as PointValue};
 ghost use Rattle.law_sphere.specs.Least.{InOrder};
+ghost use Rattle.nef_complex.specs.declared.complex.Edge.{Edge};
 ghost use Rattle.nef_complex.specs.Complexes.{complex_of, ShowsSet};
-ghost use Rattle.nef_cand.specs.Candidates.{IsVertexOf};
-ghost use Rattle.nef_cand.specs.Points.{Adds, IsLineThrough, CrossesOne, CutsOne};
+ghost use Rattle.nef_cand.specs.Candidates.{IsVertexOf, IsCutBy};
+ghost use Rattle.nef_cand.specs.Points.{Adds, AreSides, CutsEdge, CutsOne};
 
 use crate::OutOfMemory;
-use crate::line::{Line, crossing, line_through};
-use nef_complex::Complex;
-use nef_geo::{Plane, Point, lex_cmp};
+use crate::line::{are_opposite, crossing, line_through};
+use nef_complex::{Complex, Vertex};
+use nef_geo::{Plane, Point, Sign, lex_cmp, side};
+use std::alloc::Global;
 
 /// Adds the vertices of the complex.
 pub(crate) fn add_vertices(points: &mut Vec<Point>, c: &Complex) -> Result<(), OutOfMemory>
@@ -26,20 +29,54 @@ pub(crate) fn add_vertices(points: &mut Vec<Point>, c: &Complex) -> Result<(), O
     Ok(())
 }
 
-// Adds the points strictly between p and q, on their line, where one of the planes crosses it.
-fn add_crossings(
+// Adds the point strictly inside the edge with this number that lies on the plane, if the plane crosses the edge.
+fn add_cut(
     points: &mut Vec<Point>,
-    line: &Line,
-    p: &Point,
-    q: &Point,
-    planes: &[Plane],
+    c: &Complex,
+    number: usize,
+    h: &Plane,
 ) -> Result<(), OutOfMemory>
-    requires line { IsLineThrough line.now (place_of p.now) (place_of q.now) }
-    ensures added { OnOk result (Adds (CrossesOne planes.now (place_of p.now) (place_of q.now)) points.old.items points.new.items) }
+    requires shows { (s : Set) × ShowsSet s c.now }
+    requires within { number < length c.now.edges }
+    ensures added { OnOk result ((e : Edge) → IsAt c.now.edges number e → Adds (CutsEdge c.now h.now e) points.old.items points.new.items) }
 {
-    for h in planes {
-        if let Some(point) = crossing(line, p, q, h) {
-            points.push(point)?;
+    let edge = c.edges.at(number);
+    let low = &c.vertices.at(edge.low).point;
+    let high = &c.vertices.at(edge.high).point;
+    let line = line_through(c, number);
+    if let Some(point) = crossing(&line, low, high, h) {
+        points.push(point)?;
+    }
+    Ok(())
+}
+
+// The signs of the plane's form at all vertices.
+fn sides(alloc: Global, vertices: &[Vertex], h: &Plane) -> Result<Vec<Sign>, OutOfMemory>
+    ensures sides { IfOk result (λ v. AreSides (form_of h.now) vertices.now v.items) }
+{
+    let mut signs = Vec::new(alloc);
+    for vertex in vertices {
+        signs.push(side(h, &vertex.point))?;
+    }
+    Ok(signs)
+}
+
+// Adds the points strictly inside an edge of the complex that lie on the plane, which doesn't hold the edge. Many edges
+// meet in one vertex, so each vertex is asked once, before all edges.
+fn add_plane_cuts(
+    alloc: Global,
+    points: &mut Vec<Point>,
+    c: &Complex,
+    h: &Plane,
+) -> Result<(), OutOfMemory>
+    requires shows { (s : Set) × ShowsSet s c.now }
+    ensures added { OnOk result (Adds (IsCutBy (complex_of c.now) (form_of h.now)) points.old.items points.new.items) }
+{
+    let signs = sides(alloc, c.vertices.as_slice(), h)?;
+    for number in 0..c.edges.len() {
+        let edge = c.edges.at(number);
+        if are_opposite(signs[edge.low], signs[edge.high]) {
+            add_cut(points, c, number, h)?;
         }
     }
     Ok(())
@@ -47,6 +84,7 @@ fn add_crossings(
 
 /// Adds the points strictly inside an edge of the complex that lie on one of the planes, which doesn't hold the edge.
 pub(crate) fn add_cuts(
+    alloc: Global,
     points: &mut Vec<Point>,
     c: &Complex,
     planes: &[Plane],
@@ -54,12 +92,8 @@ pub(crate) fn add_cuts(
     requires shows { (s : Set) × ShowsSet s c.now }
     ensures added { OnOk result (Adds (CutsOne (complex_of c.now) planes.now) points.old.items points.new.items) }
 {
-    for number in 0..c.edges.len() {
-        let edge = c.edges.at(number);
-        let low = &c.vertices.at(edge.low).point;
-        let high = &c.vertices.at(edge.high).point;
-        let line = line_through(c, number);
-        add_crossings(points, &line, low, high, planes)?;
+    for h in planes {
+        add_plane_cuts(alloc, points, c, h)?;
     }
     Ok(())
 }

@@ -1,11 +1,12 @@
 //! The line of an edge, and where a plane crosses the edge.
 
-ghost use Rattle.std.specs.Prelude.{◌<◌, length, ◌↔◌, IsTrue};
+ghost use Rattle.std.specs.Prelude.{◌≡◌, ◌<◌, ℤ, length, ◌↔◌, IsTrue};
 ghost use Rattle.std.specs.Option.{MatchOption};
 ghost use Rattle.nef_space.specs.Lists.{IsAt};
-ghost use Rattle.nef_space.specs.Place.{Place, form_at};
+ghost use Rattle.nef_space.specs.Place.{Place};
 ghost use Rattle.nef_space.specs.Sets.{Set};
 ghost use Rattle.nef_geo.specs.Shapes.{place_of, form_of};
+ghost use Rattle.nef_geo.specs.Signs.{sign_of};
 ghost use Rattle.nef_geo.specs.Steps.{HasOppositeSigns};
 ghost use Rattle.nef_complex.specs.declared.complex.Vertex.{Vertex};
 ghost use Rattle.nef_complex.specs.declared.complex.Edge.{Edge};
@@ -35,14 +36,14 @@ pub(crate) fn line_through(c: &Complex, number: usize) -> Line
     }
 }
 
-// Whether the points lie strictly on different sides of the plane.
-fn parts(h: &Plane, p: &Point, q: &Point) -> bool
-    ensures parts { IsTrue result ↔ HasOppositeSigns (form_at (form_of h.now) (place_of p.now)) (form_at (form_of h.now) (place_of q.now)) }
+/// Whether the signs are those of two numbers strictly on different sides of nought.
+pub(crate) fn are_opposite(a: Sign, b: Sign) -> bool
+    ensures opposite { (m n : ℤ) → a ≡ sign_of m → b ≡ sign_of n → IsTrue result ↔ HasOppositeSigns m n }
 {
-    match side(h, p) {
-        Sign::Minus => side(h, q) == Sign::Plus,
+    match a {
+        Sign::Minus => b == Sign::Plus,
         Sign::Zero => false,
-        Sign::Plus => side(h, q) == Sign::Minus,
+        Sign::Plus => b == Sign::Minus,
     }
 }
 
@@ -52,7 +53,7 @@ pub(crate) fn crossing(line: &Line, p: &Point, q: &Point, h: &Plane) -> Option<P
     requires line { IsLineThrough line.now (place_of p.now) (place_of q.now) }
     ensures crossing { MatchOption result ((y : Place) → IsCrossing (form_of h.now) (place_of p.now) (place_of q.now) y → ⊥) (λ m. IsOnlyCrossing (form_of h.now) (place_of p.now) (place_of q.now) (place_of m)) }
 {
-    if parts(h, p, q) {
+    if are_opposite(side(h, p), side(h, q)) {
         meet(&line.first, &line.second, h)
     } else {
         None

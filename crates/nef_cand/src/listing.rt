@@ -31,8 +31,8 @@ pub fn candidates(alloc: Global, a: &Complex, b: &Complex) -> Result<Vec<Point>,
     let mut points = Vec::new(alloc);
     add_vertices(&mut points, a)?;
     add_vertices(&mut points, b)?;
-    add_cuts(&mut points, a, b.carriers.as_slice())?;
-    add_cuts(&mut points, b, a.carriers.as_slice())?;
+    add_cuts(alloc, &mut points, a, b.carriers.as_slice())?;
+    add_cuts(alloc, &mut points, b, a.carriers.as_slice())?;
     sort_once(&mut points);
     Ok(points)
 }
@@ -48,7 +48,7 @@ pub fn cut_candidates(alloc: Global, c: &Complex, h: &Plane) -> Result<Vec<Point
 {
     let mut points = Vec::new(alloc);
     add_vertices(&mut points, c)?;
-    add_cuts(&mut points, c, slice::from_ref(h))?;
+    add_cuts(alloc, &mut points, c, slice::from_ref(h))?;
     sort_once(&mut points);
     Ok(points)
 }

@@ -38,4 +38,4 @@ mod turns;
 pub use labels::{arc_closure, arc_interior, op_and, op_diff, op_or, op_xor};
 pub use passing::between;
 pub use table::CaseTable;
-pub use turns::{turn_compose, turn_inverse, turn_row};
+pub use turns::{turn_compose, turn_inverse, turn_row, turned_coordinates};

@@ -2,7 +2,7 @@
 //! coordinates. The number of a turn is 8 times that of its order, and 1, 2 and 4 more where it negates the new x, y
 //! and z. Of (x, y, z) the orders 0 to 5 make (x, y, z), (x, z, y), (y, x, z), (y, z, x), (z, x, y) and (z, y, x).
 
-ghost use Rattle.std.specs.Prelude.{◌≡◌, ℕ, ◌<◌, All};
+ghost use Rattle.std.specs.Prelude.{◌≡◌, ℕ, ◌<◌, ◌^◌, All, nat_abs};
 ghost use Rattle.nef_case.specs.Turns.{IsEntry, IsRowOf, Undoes, IsComposition, IsTurnRow, triple_of, named_by, made_by, numbered, turned};
 
 // The rows of the turns whose orders these are, from the old coordinates that become the new x, y and z.
@@ -39,6 +39,39 @@ pub fn turn_row(k: usize) -> [i8; 3]
         3 2 1
     ];
     rows[k]
+}
+
+/// The coordinate that the entry of a row names, with the entry's sign.
+fn coordinate(entry: i8, x: i64, y: i64, z: i64) -> i64
+    requires entry { IsEntry entry }
+    requires x_small { nat_abs x < 2 ^ 63 }
+    requires y_small { nat_abs y < 2 ^ 63 }
+    requires z_small { nat_abs z < 2 ^ 63 }
+    ensures named { result ≡ named_by entry (x, y, z) }
+{
+    match entry {
+        1 => x,
+        -1 => -x,
+        2 => y,
+        -2 => -y,
+        3 => z,
+        _ => -z,
+    }
+}
+
+/// What the turn with this row makes of three coordinates, each less than `2^63` in size.
+pub fn turned_coordinates(row: &[i8; 3], x: i64, y: i64, z: i64) -> (i64, i64, i64)
+    requires entries { All IsEntry row.now }
+    requires x_small { nat_abs x < 2 ^ 63 }
+    requires y_small { nat_abs y < 2 ^ 63 }
+    requires z_small { nat_abs z < 2 ^ 63 }
+    ensures made { result ≡ made_by row.now (x, y, z) }
+{
+    (
+        coordinate(row[0], x, y, z),
+        coordinate(row[1], x, y, z),
+        coordinate(row[2], x, y, z),
+    )
 }
 
 /// The number of the turn that undoes the turn `k`, which is below 48: each after the other gives back every triple.

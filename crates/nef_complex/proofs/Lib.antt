@@ -11,3 +11,4 @@ pub mod Carried
 pub mod ListedHolders
 pub mod Turned
 pub mod Spanning
+pub mod Grouped

@@ -1,20 +1,20 @@
 -- Whole numbers that bound coordinates.
-use Rattle.std.proofs.Common.{◌≡◌, ℕ, suc, ◌+◌, ◌*◌, ◌/◌, ◌<◌, ◌≤◌, ℤ, pos, negsuc, neg_ℤ, ◌+ℤ◌, ◌*ℤ◌, ◌-ℤ◌, ◌<ℤ◌, ◌≤ℤ◌, nat_abs, List, [], ◌∷◌, ◌++◌, length, length-append, arith, refl, ap, sym, ◌∙◌, subst, ⊎_elim}
+use Rattle.std.proofs.Common.{◌≡◌, ℕ, zero, suc, ◌⊎◌, inl, inr, ◌+◌, ◌*◌, ◌/◌, ◌<◌, ◌≤◌, ℤ, pos, negsuc, neg_ℤ, ◌+ℤ◌, ◌*ℤ◌, ◌-ℤ◌, ◌<ℤ◌, ◌≤ℤ◌, nat_abs, List, [], ◌∷◌, ◌++◌, length, length-append, arith, sym, ◌∙◌, subst, ⊎_elim}
 use Rattle.std.proofs.Math.Nat.{div-le_self, div-mul-le_self, lt-div-mul-add}
 use Rattle.std.proofs.lemmas.Int.{ints}
 use Rattle.std.specs.Int.{int_div_euclid}
 use Rattle.law_arithmetic.proofs.Order.{mul_nonneg}
 use Rattle.law_arithmetic.proofs.Ring.{ring, at, num, neg, ◌⊕◌, ◌⊖◌, ◌⊗◌}
 use Rattle.nef_space.specs.Lists.{IsAt}
-use Rattle.nef_space.specs.Place.{Place, form_at}
-use Rattle.nef_geo.specs.Shapes.{form_of, place_of}
+use Rattle.nef_space.specs.Place.{Place}
+use Rattle.nef_geo.specs.Shapes.{place_of}
 use Rattle.nef_geo.specs.declared.plane.Plane.{Plane}
 use Rattle.law_complex.specs.Spans.{Coordinate, coordinate_of, coordinate_x, coordinate_y, coordinate_z, IsWithin}
 use Rattle.nef_classes.proofs.ClassLists.{less-or-last, is-at_one, is-at_some, is-at_within, Either, earlier, last, is-at_either}
 use Rattle.nef_complex.specs.declared.complex.Vertex.{Vertex}
 use Rattle.nef_complex.specs.declared.spans.Bounds.{Bounds}
 use Rattle.nef_complex.specs.declared.spans.Span.{Span}
-use Rattle.nef_complex.specs.Index.{AreWithin, AreNumbersWith, AreCarrierVertices, AreSpans, LiesOn}
+use Rattle.nef_complex.specs.Index.{AreWithin, AreCarrierVertices, AreSpans}
 use Rattle.nef_complex.specs.Spans.{IsInSpan, AreInSpan, AreNarrower, IsNarrower}
 
 -- ---- quotients
@@ -45,22 +45,69 @@ euclid-small z (negsuc b) p = absurd (omega (arith, ints))
 euclid-small (pos a) (pos b) p = div-le_self a b
 euclid-small (negsuc a) (pos b) p = let l = div-le_self a b in omega arith
 
-times-below : (m f w : ℤ) → pos 0 <ℤ w → m ≤ℤ f → (m *ℤ w) ≤ℤ (f *ℤ w)
+-- the next number, times w, is more than z
+pub euclid-above : (z w : ℤ) → pos 0 <ℤ w → z <ℤ ((int_div_euclid z w +ℤ pos 1) *ℤ w)
+euclid-above z (negsuc b) p = absurd (omega (arith, ints))
+euclid-above (pos a) (pos b) p =
+    let l = lt-div-mul-add {a = a} {b = b} (let h : pos 0 <ℤ pos b = p in omega (arith, ints)) in
+    let r : (pos (a / b) +ℤ pos 1) *ℤ pos b ≡ pos (a / b * b + b) = ring (pos (a / b) ∷ pos b ∷ []) ((at 0 ⊕ num (pos 1)) ⊗ at 1) (at 0 ⊗ at 1 ⊕ at 1) tt in
+    subst (λ (x : ℤ). pos a <ℤ x) (sym r) (whole a (a / b * b + b) l)
+  where
+    whole : (k n : ℕ) → k < n → pos k <ℤ pos n
+    whole k n l = omega (arith, ints)
+euclid-above (negsuc a) (pos b) p =
+    let l = div-mul-le_self a b in
+    let r : neg_ℤ (pos (a / b)) *ℤ pos b ≡ neg_ℤ (pos (a / b * b)) = ring (pos (a / b) ∷ pos b ∷ []) (neg (at 0) ⊗ at 1) (neg (at 0 ⊗ at 1)) tt in
+    subst (λ (x : ℤ). negsuc a <ℤ (x *ℤ pos b)) (sym (next (a / b))) (subst (λ (x : ℤ). negsuc a <ℤ x) (sym r) (above a (a / b * b) l))
+  where
+    next : (q : ℕ) → negsuc q +ℤ pos 1 ≡ neg_ℤ (pos q)
+    next q = omega (arith, ints)
+
+    above : (n k : ℕ) → k ≤ n → negsuc n <ℤ neg_ℤ (pos k)
+    above n k l = omega (arith, ints)
+
+-- a larger number, times w, is larger
+pub times-below : (m f w : ℤ) → pos 0 <ℤ w → m ≤ℤ f → (m *ℤ w) ≤ℤ (f *ℤ w)
 times-below m f w p l =
     let d = mul_nonneg (f -ℤ m) w (omega (arith, ints)) (omega (arith, ints)) in
     let r : (f -ℤ m) *ℤ w ≡ f *ℤ w -ℤ m *ℤ w = ring (m ∷ f ∷ w ∷ []) ((at 1 ⊖ at 0) ⊗ at 2) (at 1 ⊗ at 2 ⊖ at 0 ⊗ at 2) tt in
     omega (arith, ints)
 
-pub low-below : (m x w : ℤ) → pos 0 <ℤ w → m ≤ℤ int_div_euclid x w → (m *ℤ w) ≤ℤ x
-low-below m x w p l = let a = times-below m (int_div_euclid x w) w p l in let b = euclid-below x w p in omega (arith, ints)
+-- the quotient times w is as small as w or twice z
+pub euclid-times : (z w : ℤ) (n : ℕ) → pos 0 <ℤ w → 2 * nat_abs z ≤ n → nat_abs w ≤ n → nat_abs (int_div_euclid z w *ℤ w) ≤ n
+euclid-times z w n p h k =
+    let q = int_div_euclid z w in
+    let r : (q +ℤ pos 1) *ℤ w ≡ q *ℤ w +ℤ w = ring (q ∷ w ∷ []) ((at 0 ⊕ num (pos 1)) ⊗ at 1) (at 0 ⊗ at 1 ⊕ at 1) tt in
+    ⊎_elim
+    (λ l. far (q *ℤ w) (euclid-below z w p) (subst (λ (x : ℤ). z <ℤ x) r (euclid-above z w p)) (times-below q (negsuc 1) w p l))
+    (λ l. near (q *ℤ w) (euclid-below z w p) (times-below (negsuc 0) q w p l))
+    (least q)
+  where
+    least : (q : ℤ) → (q ≤ℤ negsuc 1) ⊎ (negsuc 0 ≤ℤ q)
+    least (pos m) = inr (omega (arith, ints))
+    least (negsuc zero) = inr (omega (arith, ints))
+    least (negsuc (suc m)) = inl (omega (arith, ints))
 
-pub high-above : (m x w : ℤ) → pos 0 <ℤ w → neg_ℤ (int_div_euclid (neg_ℤ x) w) ≤ℤ m → x ≤ℤ (m *ℤ w)
-high-above m x w p l =
-    let q = int_div_euclid (neg_ℤ x) w in
-    let a = times-below (neg_ℤ m) q w p (omega (arith, ints)) in
-    let b = euclid-below (neg_ℤ x) w p in
-    let r : neg_ℤ m *ℤ w ≡ neg_ℤ (m *ℤ w) = ring (m ∷ w ∷ []) (neg (at 0) ⊗ at 1) (neg (at 0 ⊗ at 1)) tt in
-    omega (arith, ints)
+    far : (x : ℤ) → x ≤ℤ z → z <ℤ (x +ℤ w) → x ≤ℤ (negsuc 1 *ℤ w) → nat_abs x ≤ n
+    far x b a l = omega (arith, ints)
+
+    near : (x : ℤ) → x ≤ℤ z → (negsuc 0 *ℤ w) ≤ℤ x → nat_abs x ≤ n
+    near x b l = omega (arith, ints)
+
+-- rounded up it is as small as z
+pub euclid-next : (z w : ℤ) → pos 0 <ℤ w → (int_div_euclid z w *ℤ w ≡ z → ⊥) → nat_abs (int_div_euclid z w +ℤ pos 1) ≤ nat_abs z
+euclid-next z w p off = by (int_div_euclid z w) (euclid-small z w p) (euclid-below z w p) off
+  where
+    less : (x : ℤ) → x ≤ℤ z → (x ≡ z → ⊥) → x <ℤ z
+    less x l o = omega (arith, ints)
+
+    by : (q : ℤ) → nat_abs q ≤ nat_abs z → (q *ℤ w) ≤ℤ z → (q *ℤ w ≡ z → ⊥) → nat_abs (q +ℤ pos 1) ≤ nat_abs z
+    by (negsuc n) s b o = omega (arith, ints)
+    by (pos n) s b o =
+        let m = mul_nonneg (pos n) (w -ℤ pos 1) (omega (arith, ints)) (omega (arith, ints)) in
+        let r : pos n *ℤ (w -ℤ pos 1) ≡ pos n *ℤ w -ℤ pos n = ring (pos n ∷ w ∷ []) (at 0 ⊗ (at 1 ⊖ num (pos 1))) (at 0 ⊗ at 1 ⊖ at 0) tt in
+        let l = less (pos n *ℤ w) b o in
+        omega (arith, ints)
 
 -- ---- wider bounds
 weight : (p : Place) → pos 0 <ℤ pos p.w
@@ -76,7 +123,7 @@ within-wider c a b p n w =
     lower : (x y z : ℤ) → x ≤ℤ y → y ≤ℤ z → x ≤ℤ z
     lower x y z k l = omega (arith, ints)
 
-span-wider : (s t : Span) (p : Place) → IsNarrower s t → IsInSpan s p → IsInSpan t p
+pub span-wider : (s t : Span) (p : Place) → IsNarrower s t → IsInSpan s p → IsInSpan t p
 span-wider s t p n i = (within-wider coordinate_x s.x t.x p n.0 i.0, within-wider coordinate_y s.y t.y p n.1 i.1, within-wider coordinate_z s.z t.z p n.2 i.2)
 
 -- ---- the span of listed vertices, one after the other

@@ -12,6 +12,7 @@ use Rattle.nef_complex.specs.declared.complex.Vertex.{Vertex}
 use Rattle.nef_complex.specs.declared.complex.Edge.{Edge}
 use Rattle.nef_complex.specs.declared.index.PlaneIndex.{PlaneIndex}
 use Rattle.nef_complex.specs.declared.spans.Span.{Span}
+use Rattle.nef_complex.specs.declared.groups.Group.{Group}
 use Rattle.nef_complex.specs.Spans.{IsInSpan}
 use Rattle.nef_complex.specs.Planes.{HoldsBoth}
 
@@ -91,13 +92,24 @@ pub record AreSpans (hs : List Plane) (vs : List Vertex) (spans : List Span) : T
   pub as_many : length spans ≡ length hs
   pub each : (k : ℕ) (h : Plane) (s : Span) → IsAt hs k h → IsAt spans k s → IsSpanOn vs (form_of h) s
 
--- the index names the carriers that hold each vertex and each edge, and what each carrier holds and where that lies
+-- the number stands in some group
+abbrev pub StandsIn : List Group → ℕ → Type 0
+StandsIn groups k = (i : ℕ) × (g : Group) × (j : ℕ) × IsAt groups i g × IsAt g.carriers j k
+
+-- each carrier stands in some group, and the span of a group holds the vertices on each of its carriers
+pub record AreGroups (hs : List Plane) (vs : List Vertex) (groups : List Group) : Type 0 where
+  pub within : (i : ℕ) (g : Group) → IsAt groups i g → AreWithin hs g.carriers
+  pub each : (i j k : ℕ) (g : Group) (h : Plane) → IsAt groups i g → IsAt g.carriers j k → IsAt hs k h → IsSpanOn vs (form_of h) g.span
+  pub all : (k : ℕ) → k < length hs → StandsIn groups k
+
+-- the index names the carriers that hold each vertex and each edge, and what each carrier holds and where that lies; and it has the carriers in groups
 pub record HasHolders (hs : List Plane) (vs : List Vertex) (es : List Edge) (x : PlaneIndex) : Type 0 where
   pub at_vertex : AreVertexHolders hs vs x.at_vertex
   pub at_edge : AreEdgeHolders hs vs es x.at_edge
   pub on_carrier : AreCarrierVertices hs vs x.on_carrier
   pub in_carrier : AreCarrierEdges hs vs es x.in_carrier
   pub spans : AreSpans hs vs x.spans
+  pub groups : AreGroups hs vs x.groups
 
 -- the carriers hold each item: some carrier has its normal and holds its vertex
 abbrev pub AreHeld : List Plane → List Vertex → Type 0

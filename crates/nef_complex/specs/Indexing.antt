@@ -1,7 +1,6 @@
 -- What the steps of an index's making give.
 use Rattle.std.specs.Prelude.{◌≡◌, ℕ, ◌<◌, ◌⊎◌, List, [], ◌∷◌, ◌++◌, length}
 use Rattle.nef_space.specs.Lists.{IsAt}
-use Rattle.nef_space.specs.Place.{Form}
 use Rattle.nef_space.specs.Vectors.{Vector, SameDirection}
 use Rattle.nef_geo.specs.Shapes.{form_of}
 use Rattle.nef_geo.specs.declared.plane.Plane.{Plane}
@@ -9,7 +8,10 @@ use Rattle.law_sphere.specs.Maps.{At, Map, Item, items, item_normal}
 use Rattle.nef_complex.specs.declared.complex.Vertex.{Vertex}
 use Rattle.nef_complex.specs.declared.complex.Edge.{Edge}
 use Rattle.nef_complex.specs.declared.index.PlaneIndex.{PlaneIndex}
+use Rattle.nef_complex.specs.declared.spans.Span.{Span}
+use Rattle.nef_complex.specs.declared.groups.Group.{Group}
 use Rattle.nef_complex.specs.Index.{HasItemIn, LiesOn, EdgeLiesIn, AreNumbersWith}
+use Rattle.nef_complex.specs.Spans.{IsNarrower}
 
 -- some item of the map has the normal
 abbrev pub HasNormal : Map → Vector → Type 0
@@ -47,3 +49,12 @@ pub record HasOneMore (vs : List Vertex) (es : List Edge) (h : Plane) (old new :
   pub planes_are : new.planes ≡ old.planes ++ h ∷ []
   pub edges_are : new.edges ≡ old.edges ++ edges ∷ []
   pub vertices_are : new.vertices ≡ old.vertices ++ vertices ∷ []
+
+-- the numbers below n stand in the pairs, each with a key, and no others do
+pub record AreKeyed (n : ℕ) (pairs : List (ℕ × ℕ)) : Type 0 where
+  pub within : (i : ℕ) (e : ℕ × ℕ) → IsAt pairs i e → e.1 < n
+  pub all : (k : ℕ) → k < n → (i : ℕ) × (e : ℕ × ℕ) × IsAt pairs i e × (e.1 ≡ k)
+
+-- the span of the group is at least as wide as those with its numbers
+abbrev pub IsWide : List Span → Group → Type 0
+IsWide spans g = (j k : ℕ) (s : Span) → IsAt g.carriers j k → IsAt spans k s → IsNarrower s g.span

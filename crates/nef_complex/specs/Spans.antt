@@ -1,5 +1,6 @@
 -- Whole numbers that bound the coordinates of points.
-use Rattle.std.specs.Prelude.{ℕ, ◌<◌, ◌≤ℤ◌, List}
+use Rattle.std.specs.Prelude.{ℕ, ◌<◌, ◌≤◌, ◌≤ℤ◌, nat_abs, List}
+use Rattle.nef_space.specs.Limits.{point_limit}
 use Rattle.nef_space.specs.Lists.{IsAt}
 use Rattle.nef_space.specs.Place.{Place}
 use Rattle.nef_geo.specs.Shapes.{place_of}
@@ -23,3 +24,7 @@ AreNarrower a b = (b.low ≤ℤ a.low) × (a.high ≤ℤ b.high)
 -- and the same of spans
 abbrev pub IsNarrower : Span → Span → Type 0
 IsNarrower s t = AreNarrower s.x t.x × AreNarrower s.y t.y × AreNarrower s.z t.z
+
+-- the bounds are at most as large as a point's coordinates
+abbrev pub AreSmall : Bounds → Type 0
+AreSmall b = (nat_abs b.low ≤ point_limit) × (nat_abs b.high ≤ point_limit)

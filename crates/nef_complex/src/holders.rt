@@ -16,8 +16,10 @@ fn holders(alloc: Global, carriers: &[Plane], point: &Point) -> Result<Vec<usize
     ensures holders { IfOk result (λ v. AreHolders carriers.now (place_of point.now) (place_of point.now) v.items) }
 {
     let mut numbers = Vec::new(alloc);
+    // A copy: the loop then reads the point's numbers once.
+    let point = *point;
     for (number, h) in carriers.iter().enumerate() {
-        if holds(h, point) {
+        if holds(h, &point) {
             numbers.push(number)?;
         }
     }

@@ -8,10 +8,11 @@ ghost use Rattle.nef_geo.specs.Shapes.{form_of, place_of};
 ghost use Rattle.nef_complex.specs.declared.complex.Edge.{Edge};
 ghost use Rattle.nef_complex.specs.declared.complex.Vertex.{Vertex};
 ghost use Rattle.nef_complex.specs.Complexes.{ShowsSet};
-ghost use Rattle.nef_complex.specs.Index.{AreInOrder, HasItemIn, LiesOn, EdgeLiesIn, AreNumbersWith, AreHolders, AreHoldersAlong, IsSpanOn};
+ghost use Rattle.nef_complex.specs.Index.{AreInOrder, HasItemIn, LiesOn, EdgeLiesIn, AreNumbersWith, AreHolders, AreHoldersAlong, AreSpans, AreGroups};
 ghost use Rattle.nef_geo.specs.declared.plane.Plane.{Plane};
 
 use crate::complex::Complex;
+use crate::groups::Group;
 use crate::spans::Span;
 use nef_geo::{List, Plane, plane_cmp};
 use std::cmp::Ordering;
@@ -19,7 +20,8 @@ use std::cmp::Ordering;
 /// The planes of the items of all vertices, in order of their four numbers, once each; and for each of them the numbers
 /// of the edges that lie in it and those of the vertices on it, in increasing order. Besides, for each vertex the numbers
 /// of the carriers that hold it, and for each edge those of the carriers that hold both of its ends, in increasing order;
-/// and for each carrier the numbers of the vertices on it, those of the edges in it, and a span of these vertices.
+/// and for each carrier the numbers of the vertices on it, those of the edges in it, and a span of these vertices; and the
+/// carriers in groups of such as lie close to one another.
 #[derive(Debug, Drop)]
 pub struct PlaneIndex {
     pub planes: List<Plane>,
@@ -30,6 +32,7 @@ pub struct PlaneIndex {
     pub on_carrier: List<List<usize>>,
     pub in_carrier: List<List<usize>>,
     pub spans: List<Span>,
+    pub groups: List<Group>,
 }
 
 /// The numbers of the edges that lie in a plane, and of the vertices on it, in increasing order.
@@ -104,11 +107,18 @@ pub fn carrier_items<'a>(c: &'a Complex, number: usize) -> PlaneItems<'a>
     }
 }
 
-/// A span of the vertices on the carrier with this number.
-pub fn carrier_span(c: &Complex, number: usize) -> &Span
+/// For each carrier a span of the vertices on it.
+pub fn carrier_spans(c: &Complex) -> &[Span]
     requires shows { (s : Set) × ShowsSet s c.now }
-    requires within { number < length c.now.carriers }
-    ensures span { (h : Plane) → IsAt c.now.carriers number h → IsSpanOn c.now.vertices (form_of h) result.now }
+    ensures spans { AreSpans c.now.carriers c.now.vertices result.now }
 {
-    c.index.spans.at(number)
+    c.index.spans.as_slice()
+}
+
+/// The carriers in groups, each with a span of the vertices on its carriers. Each carrier stands in some group.
+pub fn carrier_groups(c: &Complex) -> &[Group]
+    requires shows { (s : Set) × ShowsSet s c.now }
+    ensures groups { AreGroups c.now.carriers c.now.vertices result.now }
+{
+    c.index.groups.as_slice()
 }

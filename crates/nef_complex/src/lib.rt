@@ -5,6 +5,7 @@
 #![tactic(auto)]
 
 mod complex;
+mod groups;
 mod holders;
 mod holding;
 mod index;
@@ -14,9 +15,11 @@ mod turning;
 mod vertices;
 
 pub use complex::{Complex, Corner, Edge, PlaneMeet, Vertex};
+pub use groups::Group;
 pub use holding::{holds, holds_both, plane_normal};
 pub use index::{
-    PlaneIndex, PlaneItems, carrier_items, carrier_span, edge_holders, plane_items, vertex_holders,
+    PlaneIndex, PlaneItems, carrier_groups, carrier_items, carrier_spans, edge_holders,
+    plane_items, vertex_holders,
 };
 pub use spans::{Bounds, Span};
 pub use std::alloc::AllocError as OutOfMemory;

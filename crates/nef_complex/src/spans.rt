@@ -6,7 +6,7 @@ ghost use Rattle.nef_space.specs.Lists.{IsAt};
 ghost use Rattle.nef_geo.specs.Shapes.{place_of};
 ghost use Rattle.nef_complex.specs.declared.complex.Vertex.{Vertex};
 ghost use Rattle.nef_complex.specs.Index.{AreWithin};
-ghost use Rattle.nef_complex.specs.Spans.{IsInSpan, AreInSpan, IsNarrower};
+ghost use Rattle.nef_complex.specs.Spans.{IsInSpan, AreInSpan, AreNarrower, IsNarrower, AreSmall};
 
 use crate::OutOfMemory;
 use crate::complex::Vertex;
@@ -37,31 +37,62 @@ impl Bounds {
         }
     }
 
-    // As wide as needed for x/w to lie within them too.
-    fn with(&self, x: i64, w: i64) -> Bounds
+    // Those of x/w alone, the whole numbers next to it.
+    fn of(x: i64, w: i64) -> Bounds
         requires small { nat_abs x ≤ point_limit }
         requires positive { pos 0 <ℤ w }
         ensures low { (result.low *ℤ w) ≤ℤ x }
         ensures high { x ≤ℤ (result.high *ℤ w) }
-        ensures lower { result.low ≤ℤ self.now.low }
-        ensures higher { self.now.high ≤ℤ result.high }
+        ensures small { AreSmall result }
     {
-        let floor = x.div_euclid(w);
-        let ceiling = -(-x).div_euclid(w);
+        let low = x.div_euclid(w);
+        let high = if low * w == x { low } else { low + 1 };
+        Bounds { low, high }
+    }
+
+    // As wide as needed for what is within the others too.
+    fn with(&self, other: &Bounds) -> Bounds
+        ensures wider { AreNarrower self.now result }
+        ensures other { AreNarrower other.now result }
+    {
         Bounds {
-            low: self.low.min(floor),
-            high: self.high.max(ceiling),
+            low: self.low.min(other.low),
+            high: self.high.max(other.high),
         }
     }
 }
 
 impl Span {
     // The span of no point.
-    fn none() -> Span {
+    pub(crate) fn none() -> Span {
         Span {
             x: Bounds::none(),
             y: Bounds::none(),
             z: Bounds::none(),
+        }
+    }
+
+    /// The span of the point alone: the whole numbers next to its coordinates.
+    pub fn of(point: &Point) -> Span
+        ensures point { IsInSpan result (place_of point.now) }
+        ensures small { AreSmall result.x × AreSmall result.y × AreSmall result.z }
+    {
+        Span {
+            x: Bounds::of(point.x(), point.w()),
+            y: Bounds::of(point.y(), point.w()),
+            z: Bounds::of(point.z(), point.w()),
+        }
+    }
+
+    // As wide as needed for what is within the other too.
+    pub(crate) fn with_span(&self, other: &Span) -> Span
+        ensures wider { IsNarrower self.now result }
+        ensures other { IsNarrower other.now result }
+    {
+        Span {
+            x: self.x.with(&other.x),
+            y: self.y.with(&other.y),
+            z: self.z.with(&other.z),
         }
     }
 
@@ -70,11 +101,8 @@ impl Span {
         ensures point { IsInSpan result (place_of point.now) }
         ensures wider { IsNarrower self.now result }
     {
-        Span {
-            x: self.x.with(point.x(), point.w()),
-            y: self.y.with(point.y(), point.w()),
-            z: self.z.with(point.z(), point.w()),
-        }
+        let alone = Span::of(point);
+        self.with_span(&alone)
     }
 }
 

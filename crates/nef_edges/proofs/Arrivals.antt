@@ -72,6 +72,10 @@ module _ (vs : List Vertex) where
               let u = at-one v.map.svertices k t s (subst (λ (x : Vertex). At x.map.svertices k t) f (subst (λ n. At w.map.svertices n t) h e)) c in
               n (subst (λ (x : SVertex). IsNormal (opposite (vector_of x.dir))) u up)
 
+  -- svertex k of vertex i as a half that arrives
+  pub arriving-half : (i k : ℕ) (v : Vertex) (s : SVertex) (h : Half) → At vs i v → At v.map.svertices k s → h.point ≡ v.point → vector_of h.dir ≡ opposite (vector_of s.dir) → h.vertex ≡ i → h.svertex ≡ k → IsArriving vs h
+  arriving-half i k v s h a b p d e f = record { vertex = v; svertex = s; has_vertex = subst (λ m. At vs m v) (sym e) a; has_svertex = subst (λ m. At v.map.svertices m s) (sym f) b; point = p; back = d }
+
   -- one that it arrives along
   pub arriving-add : (i k : ℕ) (hs : List Half) (h : Half) → AreArriving vs (IsBefore i k) hs → IsArriving vs h → h.vertex ≡ i → h.svertex ≡ k → AreArriving vs (IsBefore i (k + 1)) (hs ++ h ∷ [])
   arriving-add i k hs h a is e f = record { each = each; all = all }

@@ -1,6 +1,7 @@
 pub mod Rays
 pub mod Existing
 pub mod Products
+pub mod Wholes
 pub mod Lines
 pub mod Places
 pub mod Arrivals

@@ -19,7 +19,10 @@ use Rattle.nef_geo.specs.declared.point.Point.{Point}
 use Rattle.nef_geo.proofs.Orders.{dir-ordered}
 use Rattle.nef_geo.proofs.Places.{pos_size}
 use Rattle.nef_edges.specs.declared.half.Half.{Half}
-use Rattle.nef_edges.specs.Order.{moment_of, ratio_order, moment_order, dir_order, line_order, half_order}
+use Rattle.nef_edges.specs.declared.moment.Cell.{Cell}
+use Rattle.nef_edges.specs.Moments.{clamped, whole_of}
+use Rattle.nef_edges.specs.Order.{moment_of, ratio_order, moment_order, dir_order, cell_order, line_order, half_order}
+use Rattle.nef_edges.proofs.Wholes.{wholes-alike}
 
 -- ---- answers of comparisons
 cmp-is : (x y : ℤ) (o : Ordering) → int_cmp x y ≡ o → MatchOrdering o (x <ℤ y) (x ≡ y) (y <ℤ x)
@@ -68,8 +71,11 @@ dir_total = then_total (on_total (λ (d : Dir). d.x) int_cmp_total) (then_total 
 moment_total : IsTotalOrder moment_order
 moment_total = then_total (then_total (ratio_total (λ h. (moment_of h).x)) (ratio_total (λ h. (moment_of h).y))) (ratio_total (λ h. (moment_of h).z))
 
+cell_total : IsTotalOrder cell_order
+cell_total = then_total (on_total (λ (c : Cell). c.x) int_cmp_total) (then_total (on_total (λ (c : Cell). c.y) int_cmp_total) (on_total (λ (c : Cell). c.z) int_cmp_total))
+
 pub line_total : IsTotalOrder line_order
-line_total = then_total (on_total (λ (h : Half). h.dir) dir_total) moment_total
+line_total = then_total (on_total (λ (h : Half). h.dir) dir_total) (then_total (on_total (λ (h : Half). h.cell) cell_total) moment_total)
 
 pub half_total : IsTotalOrder half_order
 half_total = then_total line_total (on_total (λ (h : Half). h.vertex) nat_cmp_total)
@@ -111,8 +117,9 @@ pub record OnOneLine (a b : Half) : Type 0 where
 
 pub tied-line : (a b : Half) → line_order a b ≡ Equal → OnOneLine a b
 tied-line a b h =
-    let s = then-equal (dir_order a.dir b.dir) (moment_order a b) h in
-    let t = then-equal (ordering_then (ratio_order (λ h. (moment_of h).x) a b) (ratio_order (λ h. (moment_of h).y) a b)) (ratio_order (λ h. (moment_of h).z) a b) s.1 in
+    let s = then-equal (dir_order a.dir b.dir) (ordering_then (cell_order a.cell b.cell) (moment_order a b)) h in
+    let m = then-equal (cell_order a.cell b.cell) (moment_order a b) s.1 in
+    let t = then-equal (ordering_then (ratio_order (λ h. (moment_of h).x) a b) (ratio_order (λ h. (moment_of h).y) a b)) (ratio_order (λ h. (moment_of h).z) a b) m.1 in
     let u = then-equal (ratio_order (λ h. (moment_of h).x) a b) (ratio_order (λ h. (moment_of h).y) a b) t.0 in
     let e = dir-tied a.dir b.dir s.0 in
     let p = a.point in let q = b.point in let d = vector_of a.dir in
@@ -126,18 +133,39 @@ tied-line a b h =
       );
     }
 
+-- equal moments lie in one cell
+same-cell : (a b : Half) → (moment_of a).x *ℤ b.point.w ≡ (moment_of b).x *ℤ a.point.w → (moment_of a).y *ℤ b.point.w ≡ (moment_of b).y *ℤ a.point.w → (moment_of a).z *ℤ b.point.w ≡ (moment_of b).z *ℤ a.point.w → a.cell ≡ b.cell
+same-cell a b x y z =
+    a.in_cell ∙ ap (λ i. numbers i (whole_of (moment_of a).y v) (whole_of (moment_of a).z v)) (part (moment_of a).x (moment_of b).x x)
+    ∙ ap (λ i. numbers (whole_of (moment_of b).x w) i (whole_of (moment_of a).z v)) (part (moment_of a).y (moment_of b).y y)
+    ∙ ap (numbers (whole_of (moment_of b).x w) (whole_of (moment_of b).y w)) (part (moment_of a).z (moment_of b).z z) ∙ sym b.in_cell
+  where
+    v : ℤ
+    v = a.point.w
+
+    w : ℤ
+    w = b.point.w
+
+    numbers : ℤ → ℤ → ℤ → Cell
+    numbers x y z = record { x = x; y = y; z = z }
+
+    part : (n m : ℤ) → n *ℤ b.point.w ≡ m *ℤ a.point.w → whole_of n a.point.w ≡ whole_of m b.point.w
+    part n m e = ap clamped (wholes-alike n a.point.w m b.point.w a.point.proper b.point.proper e)
+
 pub line-tied : (a b : Half) → OnOneLine a b → line_order a b ≡ Equal
 line-tied a b l =
     let p = a.point in let q = b.point in let d = vector_of a.dir in let e = l.same_dir in
     let z = from-level p q d l.level in
-    let x = cmp-equal ((moment_of a).x *ℤ q.w) ((moment_of b).x *ℤ p.w) (from-zero p.y p.z q.y q.z d.y d.z p.w q.w z.0 ∙ ap (λ (f : Dir). (q.y *ℤ f.z -ℤ q.z *ℤ f.y) *ℤ p.w) e) in
-    let y = cmp-equal ((moment_of a).y *ℤ q.w) ((moment_of b).y *ℤ p.w) (from-zero p.z p.x q.z q.x d.z d.x p.w q.w z.1 ∙ ap (λ (f : Dir). (q.z *ℤ f.x -ℤ q.x *ℤ f.z) *ℤ p.w) e) in
-    let w = cmp-equal ((moment_of a).z *ℤ q.w) ((moment_of b).z *ℤ p.w) (from-zero p.x p.y q.x q.y d.x d.y p.w q.w z.2 ∙ ap (λ (f : Dir). (q.x *ℤ f.y -ℤ q.y *ℤ f.x) *ℤ p.w) e) in
+    let x = from-zero p.y p.z q.y q.z d.y d.z p.w q.w z.0 ∙ ap (λ (f : Dir). (q.y *ℤ f.z -ℤ q.z *ℤ f.y) *ℤ p.w) e in
+    let y = from-zero p.z p.x q.z q.x d.z d.x p.w q.w z.1 ∙ ap (λ (f : Dir). (q.z *ℤ f.x -ℤ q.x *ℤ f.z) *ℤ p.w) e in
+    let w = from-zero p.x p.y q.x q.y d.x d.y p.w q.w z.2 ∙ ap (λ (f : Dir). (q.x *ℤ f.y -ℤ q.y *ℤ f.x) *ℤ p.w) e in
     let s : dir_order a.dir b.dir ≡ Equal = ap (dir_order a.dir) (sym e) ∙ tied_itself dir_total a.dir in
-    all (dir_order a.dir b.dir) (ratio_order (λ h. (moment_of h).x) a b) (ratio_order (λ h. (moment_of h).y) a b) (ratio_order (λ h. (moment_of h).z) a b) s x y w
+    let c : cell_order a.cell b.cell ≡ Equal = ap (cell_order a.cell) (sym (same-cell a b x y w)) ∙ tied_itself cell_total a.cell in
+    all (dir_order a.dir b.dir) (cell_order a.cell b.cell) (ratio_order (λ h. (moment_of h).x) a b) (ratio_order (λ h. (moment_of h).y) a b) (ratio_order (λ h. (moment_of h).z) a b) s c
+    (cmp-equal ((moment_of a).x *ℤ q.w) ((moment_of b).x *ℤ p.w) x) (cmp-equal ((moment_of a).y *ℤ q.w) ((moment_of b).y *ℤ p.w) y) (cmp-equal ((moment_of a).z *ℤ q.w) ((moment_of b).z *ℤ p.w) w)
   where
-    all : (o x y z : Ordering) → o ≡ Equal → x ≡ Equal → y ≡ Equal → z ≡ Equal → ordering_then o (ordering_then (ordering_then x y) z) ≡ Equal
-    all o x y z h i j k = rw (h, i, j, k) refl
+    all : (o c x y z : Ordering) → o ≡ Equal → c ≡ Equal → x ≡ Equal → y ≡ Equal → z ≡ Equal → ordering_then o (ordering_then c (ordering_then (ordering_then x y) z)) ≡ Equal
+    all o c x y z h k i j l = rw (h, k, i, j, l) refl
 
 -- ---- a half that stands between two of one line
 pub record StandsBetween (f h g : Half) : Type 0 where

@@ -63,6 +63,18 @@ pub record IsLeading (vs : List Vertex) (h : Half) : Type 0 where
   pub dir : h.dir ≡ svertex.dir
   pub up : IsNormal (vector_of h.dir)
 
+-- svertex k of vertex i as a half
+pub leading : (vs : List Vertex) (i k : ℕ) (v : Vertex) (s : SVertex) (h : Half) → At vs i v → At v.map.svertices k s → h.point ≡ v.point → h.dir ≡ s.dir → h.vertex ≡ i → h.svertex ≡ k → IsNormal (vector_of s.dir) → IsLeading vs h
+leading vs i k v s h a b p d e f n = record {
+  vertex = v;
+  svertex = s;
+  has_vertex = subst (λ m. At vs m v) (sym e) a;
+  has_svertex = subst (λ m. At v.map.svertices m s) (sym f) b;
+  point = p;
+  dir = d;
+  up = subst (λ (x : Dir). IsNormal (vector_of x)) (sym d) n;
+}
+
 -- the edge from the half f to the half h
 pub record IsPair (vs : List Vertex) (f h : Half) : Type 0 where
   pub edge : PlainEdge

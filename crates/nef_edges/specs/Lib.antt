@@ -1,4 +1,5 @@
 pub mod Widths
+pub mod Moments
 pub mod Order
 pub mod Halves
 pub mod Pairs

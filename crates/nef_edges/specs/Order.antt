@@ -2,16 +2,17 @@
 use Rattle.std.specs.Prelude.{ℤ, ◌*ℤ◌, Bool}
 use Rattle.std.specs.declared.cmp.Ordering.{Ordering}
 use Rattle.std.specs.Ordering.{int_cmp, nat_cmp, ordering_then, on, then_cmp, is_lt}
-use Rattle.nef_space.specs.Vectors.{Vector, vector, cross}
-use Rattle.nef_geo.specs.Shapes.{vector_of}
+use Rattle.nef_space.specs.Vectors.{Vector}
 use Rattle.nef_geo.specs.declared.dir.Dir.{Dir}
 use Rattle.nef_edges.specs.declared.half.Half.{Half}
+use Rattle.nef_edges.specs.declared.moment.Cell.{Cell}
+use Rattle.nef_edges.specs.Moments.{product_of}
 
--- w times the product of the half's point (x/w, y/w, z/w) and its direction
+-- w times the moment of the half's line, for its point (x/w, y/w, z/w)
 abbrev pub moment_of : Half → Vector
-moment_of h = cross (vector h.point.x h.point.y h.point.z) (vector_of h.dir)
+moment_of h = product_of h.point h.dir
 
--- the order of the products' first numbers, and so on
+-- the order of the moments' first numbers, and so on
 abbrev pub ratio_order : (Half → ℤ) → Half → Half → Ordering
 ratio_order part a b = int_cmp (part a *ℤ b.point.w) (part b *ℤ a.point.w)
 
@@ -21,9 +22,12 @@ moment_order = then_cmp (then_cmp (ratio_order (λ h. (moment_of h).x)) (ratio_o
 abbrev pub dir_order : Dir → Dir → Ordering
 dir_order a b = ordering_then (int_cmp a.x b.x) (ordering_then (int_cmp a.y b.y) (int_cmp a.z b.z))
 
--- the order of the halves' lines
+abbrev pub cell_order : Cell → Cell → Ordering
+cell_order a b = ordering_then (int_cmp a.x b.x) (ordering_then (int_cmp a.y b.y) (int_cmp a.z b.z))
+
+-- the order of the halves' lines: by direction, by the cells of their moments, then by these moments
 abbrev pub line_order : Half → Half → Ordering
-line_order = then_cmp (on (λ h. h.dir) dir_order) moment_order
+line_order = then_cmp (on (λ h. h.dir) dir_order) (then_cmp (on (λ h. h.cell) cell_order) moment_order)
 
 -- by the line, then by the vertex
 abbrev pub half_order : Half → Half → Ordering

@@ -23,12 +23,7 @@ fn add_arriving(halves: &mut Vec<Half>, vertices: &[Vertex], i: usize) -> Result
     for (k, svertex) in vertex.map.svertices.as_slice().iter().enumerate() {
         let dir = svertex.dir.back();
         if leads_on(&dir) {
-            halves.push(Half {
-                point: vertex.point,
-                dir,
-                vertex: i,
-                svertex: k,
-            })?;
+            halves.push(Half::of(vertex.point, dir, i, k))?;
         }
     }
     Ok(())

@@ -1,19 +1,42 @@
 //! Halves of edges.
 
-ghost use Rattle.std.specs.Prelude.{◌↔◌, IsTrue};
+ghost use Rattle.std.specs.Prelude.{◌≡◌, ◌↔◌, IsTrue};
 ghost use Rattle.nef_geo.specs.Shapes.{vector_of};
 ghost use Rattle.nef_space.specs.Vectors.{IsNormal};
+ghost use Rattle.nef_edges.specs.Moments.{cell_of};
 
+use crate::moment::Cell;
 use nef_geo::{Dir, Point};
 
 /// Half of an edge: a svertex of a vertex. The direction leads along the edge toward the later of its ends, so it is
-/// that of the svertex where the edge leads on from the vertex, and the opposite one where it arrives there.
+/// that of the svertex where the edge leads on from the vertex, and the opposite one where it arrives there. The cell is
+/// kept because each half is compared many times.
 #[derive(Debug, Clone, Copy, PartialEq, Eq)]
 pub(crate) struct Half {
     pub(crate) point: Point,
     pub(crate) dir: Dir,
+    pub(crate) cell: Cell,
     pub(crate) vertex: usize,
     pub(crate) svertex: usize,
+    pub(crate) ghost in_cell: { cell ≡ cell_of point dir },
+}
+
+impl Half {
+    /// The half of these, in the cell of its line's moment.
+    pub(crate) fn of(point: Point, dir: Dir, vertex: usize, svertex: usize) -> Half
+        ensures point { result.point ≡ point }
+        ensures dir { result.dir ≡ dir }
+        ensures vertex { result.vertex ≡ vertex }
+        ensures svertex { result.svertex ≡ svertex }
+    {
+        Half {
+            point,
+            dir,
+            cell: Cell::of(&point, &dir),
+            vertex,
+            svertex,
+        }
+    }
 }
 
 /// Whether the direction leads to later points.

@@ -7,6 +7,7 @@
 
 mod arriving;
 mod half;
+mod moment;
 mod order;
 mod pairing;
 

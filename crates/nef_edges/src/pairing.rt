@@ -33,12 +33,7 @@ fn add_edges(
     let vertex = &vertices[i];
     for (k, svertex) in vertex.map.svertices.as_slice().iter().enumerate() {
         if leads_on(&svertex.dir) {
-            let from = Half {
-                point: vertex.point,
-                dir: svertex.dir,
-                vertex: i,
-                svertex: k,
-            };
+            let from = Half::of(vertex.point, svertex.dir, i, k);
             let next = next_after(arriving, &from);
             edges.push(Edge {
                 low: i,

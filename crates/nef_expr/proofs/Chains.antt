@@ -1,11 +1,10 @@
 -- Turned images of turned images: nodes that are added leave them, and the turns compose.
-use Rattle.std.proofs.Common.{◌≡◌, ℕ, zero, suc, ◌<◌, List, [], ◌∷◌, ◌++◌, length, get_or, Some, refl, ap, sym, ◌∙◌, subst, arith}
+use Rattle.std.proofs.Common.{◌≡◌, ℕ, zero, suc, ◌<◌, List, ◌++◌, get_or, Some, refl, ap, sym, ◌∙◌, subst, arith}
 use Rattle.std.proofs.lemmas.Option.{slice_get_within, slice_get-get_or}
-use Rattle.std.specs.Prelude.{slice_get}
 use Rattle.nef_space.specs.Place.{Form, form}
 use Rattle.nef_geo.specs.declared.plane.Oriented.{Oriented}
 use Rattle.nef_geo.specs.Shapes.{given_form}
-use Rattle.nef_case.specs.Turns.{Triple, turned, IsComposition}
+use Rattle.nef_case.specs.Turns.{Triple, IsComposition}
 use Rattle.law_turns.specs.Turned.{turned_plane}
 use Rattle.nef_expr.specs.declared.nodes.Node.{Node}
 use Rattle.nef_expr.specs.declared.nodes.Node.TheVariants as node

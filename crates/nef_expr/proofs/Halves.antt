@@ -1,5 +1,5 @@
 -- A turned plane is read as it is given.
-use Rattle.std.proofs.Common.{◌≡◌, ℕ, ◌≤◌, ℤ, pos, ◌-ℤ◌, ◌*ℤ◌, ◌<ℤ◌, neg_ℤ, nat_abs, Bool, true, false, cond, [], ◌∷◌, arith, ap, sym, refl, Result, Err, ◌↔◌, ◌∙◌, subst, w64, to_z, of_z}
+use Rattle.std.proofs.Common.{◌≡◌, ℕ, ◌≤◌, ℤ, pos, ◌-ℤ◌, ◌*ℤ◌, neg_ℤ, nat_abs, Bool, true, false, cond, [], ◌∷◌, arith, ap, sym, Result, Err, ◌↔◌, ◌∙◌, subst, w64, to_z, of_z}
 use Rattle.std.proofs.lemmas.Int.{ints, unsigned_abs-mul}
 use Rattle.std.proofs.Math.Nat.{dvd-mul_right}
 use Rattle.std.specs.Int.{◌∣◌}

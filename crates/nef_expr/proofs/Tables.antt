@@ -17,12 +17,12 @@ use Rattle.nef_case.specs.Turns.{IsComposition}
 use Rattle.nef_expr.specs.declared.nodes.Node.{Node}
 use Rattle.nef_expr.specs.declared.nodes.Node.TheVariants as node
 use Rattle.nef_expr.specs.declared.origin.Origin.{Origin}
-use Rattle.nef_expr.specs.Nodes.{NamesBelow, IsOrdered, IsOperand}
+use Rattle.nef_expr.specs.Nodes.{NamesBelow, IsOrdered}
 use Rattle.nef_expr.specs.Turns.{IsNode, TurnOf}
-use Rattle.nef_expr.specs.Table.{most_bases, origin, key_of, HasOrigin, IsOfOrigin, AreOrigins, Table, table, IsCopyOf, HavePlaces, IsTable}
+use Rattle.nef_expr.specs.Table.{most_bases, origin, key_of, HasOrigin, IsOfOrigin, AreOrigins, Table, IsCopyOf, HavePlaces, IsTable}
 use Rattle.nef_expr.specs.Copying.{Extends, Stays, IsTurnedNode, OperandsTurned, IsMarked, AreNeeded, AreCopies}
 use Rattle.nef_expr.proofs.Operands.{operand-below}
-use Rattle.nef_expr.proofs.Places.{slice_get-left, slice_get-seam, slice_get-below, place-push, one-there}
+use Rattle.nef_expr.proofs.Places.{slice_get-left, slice_get-seam, slice_get-below, place-push}
 use Rattle.nef_expr.proofs.Chains.{turn_of-more, Image, image-turn, pair-of, turn-twice, turn-between, own-image}
 
 -- ---- the copy of one node

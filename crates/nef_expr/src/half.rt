@@ -7,42 +7,8 @@ ghost use Rattle.nef_geo.specs.Shapes.{given_form};
 ghost use Rattle.nef_case.specs.Turns.{IsEntry, named_by, turned};
 ghost use Rattle.law_turns.specs.Turned.{turned_plane};
 
-use nef_case::turn_row;
+use nef_case::{turn_row, turned_coordinates};
 use nef_geo::{Oriented, Plane};
-
-// The old number that the entry of a row names, with the entry's sign.
-fn named(entry: i8, x: i64, y: i64, z: i64) -> i64
-    requires entry { IsEntry entry }
-    requires x_small { nat_abs x ≤ normal_limit }
-    requires y_small { nat_abs y ≤ normal_limit }
-    requires z_small { nat_abs z ≤ normal_limit }
-    ensures named { result ≡ named_by entry (x, y, z) }
-{
-    match entry {
-        1 => x,
-        -1 => -x,
-        2 => y,
-        -2 => -y,
-        3 => z,
-        _ => -z,
-    }
-}
-
-// What the turn makes of three numbers.
-fn turned(t: usize, x: i64, y: i64, z: i64) -> (i64, i64, i64)
-    requires turn { t < 48 }
-    requires x_small { nat_abs x ≤ normal_limit }
-    requires y_small { nat_abs y ≤ normal_limit }
-    requires z_small { nat_abs z ≤ normal_limit }
-    ensures turned { result ≡ turned t (x, y, z) }
-{
-    let row = turn_row(t);
-    (
-        named(row[0], x, y, z),
-        named(row[1], x, y, z),
-        named(row[2], x, y, z),
-    )
-}
 
 // The numbers of the plane as it was given, up to a positive factor.
 fn given(oriented: &Oriented) -> (i64, i64, i64, i64)
@@ -62,7 +28,8 @@ pub(crate) fn turned_half(oriented: &Oriented, t: usize) -> Oriented
     ensures turned { given_form result ≡ turned_plane t (given_form oriented.now) }
 {
     let (a, b, c, d) = given(oriented);
-    let (x, y, z) = turned(t, a, b, c);
+    let row = turn_row(t);
+    let (x, y, z) = turned_coordinates(&row, a, b, c);
     match Plane::read(x, y, z, d) {
         Ok(image) => image,
         Err(_) => unreachable!(),

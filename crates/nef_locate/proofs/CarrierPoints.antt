@@ -30,9 +30,9 @@ use Rattle.nef_complex.specs.declared.complex.Complex.{Complex}
 use Rattle.nef_complex.specs.Complexes.{complex_of, ShowsSet}
 use Rattle.nef_complex.proofs.Parted.{held-between}
 use Rattle.nef_plane.proofs.Crossed.{edge-carried}
-use Rattle.nef_plane.proofs.Spanned.{plane-upright}
 use Rattle.nef_locate.specs.Rays.{IsSkeletonIn}
 use Rattle.nef_locate.proofs.Cones.{facet-at}
+use Rattle.nef_locate.proofs.Upward.{plane-upright}
 
 -- ---- the frame
 -- a short step from a point of the closed frame toward the middle leads into the frame

@@ -5,9 +5,7 @@ use Rattle.law_arithmetic.proofs.Order.{by_order}
 use Rattle.nef_space.specs.Local.{HasLabel}
 use Rattle.nef_space.specs.Place.{Place, toward, IsAhead, IsBetween}
 use Rattle.nef_space.specs.Sets.{Set}
-use Rattle.nef_space.specs.Vectors.{Vector, IsDirection, IsNormal, IsOpposite, SameDirection, opposite}
-use Rattle.law_near.proofs.Between.{between-turned}
-use Rattle.law_near.proofs.Flats.{vector-same}
+use Rattle.nef_space.specs.Vectors.{Vector, IsDirection, IsNormal, IsOpposite, opposite}
 use Rattle.law_forms.proofs.Directions.{direction-left}
 use Rattle.law_cones.proofs.Cones.{point-map}
 use Rattle.law_sphere.specs.Vectors.{VectorBelow}
@@ -15,7 +13,6 @@ use Rattle.law_sphere.specs.Maps.{At, MapVertex, Map, MapLabel, Valid}
 use Rattle.law_sphere.specs.Kinds.{FlatMap}
 use Rattle.law_sphere.specs.Least.{Cone}
 use Rattle.law_sphere.specs.Stars.{Star, StarShows}
-use Rattle.law_sphere.proofs.Compare.{SameDirection-turned}
 use Rattle.law_sphere.proofs.Lists.{at-one}
 use Rattle.law_sphere.proofs.NearItems.{opposite-turned}
 use Rattle.law_build.specs.Raw.{RawMap, IsWellFormed, IsRawOf}
@@ -23,8 +20,9 @@ use Rattle.law_complex.specs.Complexes.{Vertex, Edge, Complex, IsEdge}
 use Rattle.law_complex.specs.Shows.{Shows}
 use Rattle.law_complex.proofs.Cones.{label-germ}
 use Rattle.law_complex.proofs.Edges.{IsAlongSvertex, along-svertex, near_point, near-between}
-use Rattle.nef_edges.proofs.Rays.{to_opposite, from_opposite, opposites-same, normal-kept, ahead-normal}
-use Rattle.nef_locate.proofs.TwoStars.{two-raw, labels_of, label-is}
+use Rattle.nef_star.specs.Mirrors.{IsMirrorOf}
+use Rattle.nef_edges.proofs.Rays.{to_opposite, normal-kept, ahead-normal}
+use Rattle.nef_locate.proofs.TwoStars.{two-raw, mirror-shows, self-opposite, labels_of, label-is}
 use Rattle.nef_locate.proofs.EdgeEnds.{end-shows, flat-end}
 
 -- the opposite of a normal is the lesser one
@@ -42,74 +40,50 @@ opposite-below d e N O = by (normal-kept d (opposite e) (to_opposite d e O) N)
         (λ l. absurd (let g = N.second dx in let h = K.second ex in omega (arith, ints))))
         (λ l. absurd (let g = N.first in let h = K.first in omega (arith, ints)))
 
--- the svertices at both ends of an edge between these vertices
+-- the lower end of an edge between these vertices
 pub record Ends (C : Complex) (e : Edge) (v w : Vertex) : Type 0 where
   pub low_end : MapVertex
-  pub high_end : MapVertex
   pub is_low : At C.vertices e.low v
   pub is_high : At C.vertices e.high w
   pub leaves : At v.map.svertices e.low_svertex low_end
-  pub arrives : At w.map.svertices e.high_svertex high_end
   pub ahead : IsAhead v.point low_end.dir w.point
   pub first : (k : ℕ) (x : Vertex) → At C.vertices k x → IsBetween v.point x.point w.point → ⊥
-  pub back : IsOpposite low_end.dir high_end.dir
   pub mark : e.mark ≡ low_end.mark
   pub normal : IsNormal low_end.dir
 
-pub ends-of : (s : Set) (C : Complex) → Shows s C → (e : Edge) → IsEdge C.vertices e → (v w : Vertex) → At C.vertices e.low v → At C.vertices e.high w → Ends C e v w
-ends-of s C S e E v w a b =
-    subst (λ (x : Vertex). Ends C e x w) (at-one C.vertices e.low E.low_vertex v E.is_low a) (subst (Ends C e E.low_vertex) (at-one C.vertices e.high E.high_vertex w E.is_high b) (record {
+pub ends-of : (s : Set) (C : Complex) → Shows s C → (e : Edge) → (E : IsEdge C.vertices e) → (v : Vertex) → At C.vertices e.low v → Ends C e v E.high_vertex
+ends-of s C S e E v a =
+    subst (λ (x : Vertex). Ends C e x E.high_vertex) (at-one C.vertices e.low E.low_vertex v E.is_low a) (record {
       low_end = E.low_end;
-      high_end = E.high_end;
       is_low = E.is_low;
       is_high = E.is_high;
       leaves = E.leaves;
-      arrives = E.arrives;
       ahead = E.ahead;
       first = E.first;
-      back = E.back;
       mark = E.mark;
       normal = ahead-normal E.low_vertex.point E.high_vertex.point E.low_end.dir (S.ordered e.low e.high E.low_vertex E.high_vertex E.upward E.is_low E.is_high) E.ahead;
-    }))
+    })
 
 module _ (s : Set) (C : Complex) (S : Shows s C) (e : Edge) (v w : Vertex) (D : Ends C e v w) where
   low-along : (y : Place) → IsBetween v.point y w.point → IsAlongSvertex s v D.low_end D.low_end.mark y
   low-along y b = along-svertex s C S e.low e.low_svertex v D.low_end D.is_low D.leaves w.point y D.ahead b D.first
 
-  -- from the higher end the edge runs the other way
-  back-ahead : SameDirection (toward w.point v.point) D.high_end.dir
-  back-ahead =
-      let p = w.point in let q = v.point in
-      let turned : opposite (toward p q) ≡ toward q p = vector-same (opposite (toward p q)) (toward q p) (omega (arith, ints)) (omega (arith, ints)) (omega (arith, ints)) in
-      opposites-same D.low_end.dir (toward p q) D.high_end.dir
-      (from_opposite D.low_end.dir (toward p q) (subst (SameDirection D.low_end.dir) (sym turned) (SameDirection-turned (toward q p) D.low_end.dir D.ahead))) D.back
-
-  high-along : (y : Place) → IsBetween v.point y w.point → IsAlongSvertex s w D.high_end D.high_end.mark y
-  high-along y b = along-svertex s C S e.high e.high_svertex w D.high_end D.is_high D.arrives v.point y back-ahead (between-turned v.point w.point y b)
-      (λ k x a z. D.first k x a (between-turned w.point v.point x.point z))
-
-  module _ (t h : Star) (T : IsWellFormed t) (H : IsWellFormed h) (low : t.axis ≡ D.low_end.dir) (high : h.axis ≡ D.high_end.dir) (A : StarShows t v.map) (B : StarShows h w.map) where
+  module _ (t h : Star) (T : IsWellFormed t) (H : IsWellFormed h) (low : t.axis ≡ D.low_end.dir) (A : StarShows t v.map) (M : IsMirrorOf t h) where
     abbrev raw : RawMap
     raw = record { mark = e.mark; stars = h ∷ t ∷ []; sloop = None; ground = None }
 
-    below : VectorBelow h.axis t.axis
-    below = subst (λ (d : Vector). VectorBelow d t.axis) (sym high) (subst (VectorBelow D.high_end.dir) (sym low) (opposite-below D.low_end.dir D.high_end.dir D.normal D.back))
-
-    against : IsOpposite h.axis t.axis
-    against = subst (λ (d : Vector). IsOpposite d t.axis) (sym high) (subst (IsOpposite D.high_end.dir) (sym low) (opposite-turned D.low_end.dir D.high_end.dir D.back))
+    back : IsOpposite t.axis h.axis
+    back = subst (IsOpposite t.axis) (sym M.axis) (self-opposite t.axis T.axis)
 
     pub ends-raw : (y : Place) → IsBetween v.point y w.point → (N : Map) (K : Cone N s y) → IsRawOf raw (labels_of N K.valid)
     ends-raw y b N K =
         let V = (S.cones e.low v D.is_low).valid in
-        let W = (S.cones e.high w D.is_high).valid in
         let l = low-along y b in
-        let k = high-along y b in
-        two-raw N K.valid e.mark h t H T
-        (end-shows s y N K w W e.high_svertex D.high_end D.arrives k h high B)
-        (end-shows s y N K v V e.low_svertex D.low_end D.leaves l t low A)
-        (subst (FlatMap N) (sym high) (flat-end s y N K w W e.high_svertex D.high_end D.arrives k))
-        (subst (FlatMap N) (sym low) (flat-end s y N K v V e.low_svertex D.low_end D.leaves l))
-        below against
+        let shows = end-shows s y N K v V e.low_svertex D.low_end D.leaves l t low A in
+        let flat = subst (FlatMap N) (sym low) (flat-end s y N K v V e.low_svertex D.low_end D.leaves l) in
+        let other = mirror-shows N K.valid t h T H M flat shows in
+        two-raw N K.valid e.mark h t H T other.0 shows other.1 flat
+        (opposite-below t.axis h.axis (subst IsNormal (sym low) D.normal) back) (opposite-turned t.axis h.axis back)
 
     -- what has the labels of the stars is a map of each point of the edge
     pub ends-cone : (y : Place) → IsBetween v.point y w.point → (M : Map) → Valid M → M.mark ≡ e.mark

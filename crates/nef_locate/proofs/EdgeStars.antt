@@ -1,4 +1,4 @@
--- The program's stars at both ends of an edge, and what is built of them.
+-- The program's star at the lower end of an edge, its mirror, and what is built of them.
 use Rattle.std.proofs.Common.{◌≡◌, ℕ, ◌<◌, List, [], ◌∷◌, length, sym, ap, subst, ◌∙◌, slice_get, Some, None, Result, Ok, Err, IfOk}
 use Rattle.nef_space.specs.Place.{Place as PlainPlace, IsBetween}
 use Rattle.nef_space.specs.Sets.{Set}
@@ -14,13 +14,14 @@ use Rattle.law_build.specs.Raw.{RawMap, IsLabelling, IsRawOf}
 use Rattle.law_cones.proofs.Cones.{point-map}
 use Rattle.nef_star.specs.declared.star.Star.{Star}
 use Rattle.nef_star.specs.Stars.{star_of, IsStar}
+use Rattle.nef_star.specs.Mirrors.{IsMirrorOf}
 use Rattle.nef_smap.specs.declared.map.SVertex.{SVertex}
 use Rattle.nef_smap.specs.declared.map.SphereMap.{SphereMap}
 use Rattle.nef_smap.specs.declared.map.RawStars.{RawStars}
 use Rattle.nef_smap.specs.Maps.{map_of, svertex_of, raw_of, IsLeastMap}
 use Rattle.nef_smap.specs.Stars.{IsNeighbourhood}
 use Rattle.nef_smap.proofs.WellFormed.{star-well_formed}
-use Rattle.law_complex.specs.Complexes.{Vertex as PlainVertex, Edge as PlainEdge}
+use Rattle.law_complex.specs.Complexes.{Vertex as PlainVertex, Edge as PlainEdge, IsEdge}
 use Rattle.nef_complex.specs.declared.complex.Vertex.{Vertex}
 use Rattle.nef_complex.specs.declared.complex.Edge.{Edge}
 use Rattle.nef_complex.specs.declared.complex.Complex.{Complex}
@@ -46,25 +47,18 @@ module _ (s : Set) (c : Complex) (S : ShowsSet s c) (number : ℕ) (e : Edge) (r
   pub low-within : e.low < length c.vertices
   low-within = let E = S.shows.edges.edges number (edge_of e) (image-read edge_of c.edges number e read) in image-within vertex_of c.vertices e.low E.low_vertex E.is_low
 
-  pub high-within : e.high < length c.vertices
-  high-within = let E = S.shows.edges.edges number (edge_of e) (image-read edge_of c.edges number e read) in image-within vertex_of c.vertices e.high E.high_vertex E.is_high
-
   pub low-svertex : (v : Vertex) → slice_get c.vertices e.low ≡ Some v → e.low_svertex < length v.map.svertices
   low-svertex v a =
       let E = S.shows.edges.edges number (edge_of e) (image-read edge_of c.edges number e read) in
       let f = at-one (complex_of c).vertices e.low E.low_vertex (vertex_of v) E.is_low (image-read vertex_of c.vertices e.low v a) in
       image-within svertex_of v.map.svertices e.low_svertex E.low_end (subst (λ (x : PlainVertex). At x.map.svertices e.low_svertex E.low_end) f E.leaves)
 
-  pub high-svertex : (w : Vertex) → slice_get c.vertices e.high ≡ Some w → e.high_svertex < length w.map.svertices
-  high-svertex w a =
-      let E = S.shows.edges.edges number (edge_of e) (image-read edge_of c.edges number e read) in
-      let f = at-one (complex_of c).vertices e.high E.high_vertex (vertex_of w) E.is_high (image-read vertex_of c.vertices e.high w a) in
-      image-within svertex_of w.map.svertices e.high_svertex E.high_end (subst (λ (x : PlainVertex). At x.map.svertices e.high_svertex E.high_end) f E.arrives)
+  module _ (v : Vertex) (low : slice_get c.vertices e.low ≡ Some v) (t h : Star) (T : IsEndStar v.map e.low_svertex t) (H : IsStar h) (M : IsMirrorOf (star_of t) (star_of h)) where
+    edge : IsEdge (complex_of c).vertices (edge_of e)
+    edge = S.shows.edges.edges number (edge_of e) (image-read edge_of c.edges number e read)
 
-  module _ (v w : Vertex) (low : slice_get c.vertices e.low ≡ Some v) (high : slice_get c.vertices e.high ≡ Some w) (t h : Star) (T : IsEndStar v.map e.low_svertex t) (H : IsEndStar w.map e.high_svertex h) where
-    ends : Ends (complex_of c) (edge_of e) (vertex_of v) (vertex_of w)
-    ends = ends-of s (complex_of c) S.shows (edge_of e) (S.shows.edges.edges number (edge_of e) (image-read edge_of c.edges number e read)) (vertex_of v) (vertex_of w)
-        (image-read vertex_of c.vertices e.low v low) (image-read vertex_of c.vertices e.high w high)
+    ends : Ends (complex_of c) (edge_of e) (vertex_of v) edge.high_vertex
+    ends = ends-of s (complex_of c) S.shows (edge_of e) edge (vertex_of v) (image-read vertex_of c.vertices e.low v low)
 
     abbrev raw : RawMap
     raw = record { mark = e.mark; stars = star_of h ∷ star_of t ∷ []; sloop = None; ground = None }
@@ -72,41 +66,41 @@ module _ (s : Set) (c : Complex) (S : ShowsSet s c) (number : ℕ) (e : Edge) (r
     -- the stars show labels
     pub edge-labels : (gs : List Vector) × (L : Vector → Label) × IsLabelling gs L × IsRawOf raw L
     edge-labels =
-        let y = inner s (complex_of c) S.shows (edge_of e) (vertex_of v) (vertex_of w) ends in
+        let y = inner s (complex_of c) S.shows (edge_of e) (vertex_of v) edge.high_vertex ends in
         let P = point-map s y in (
           forms P.0,
           labels_of P.0 P.1.valid,
           are-labelling P.0 P.1.valid,
-          ends-raw s (complex_of c) S.shows (edge_of e) (vertex_of v) (vertex_of w) ends (star_of t) (star_of h) (star-well_formed t T.star) (star-well_formed h H.star)
-              (T.axis ends.low_end ends.leaves) (H.axis ends.high_end ends.arrives) T.shows H.shows
-              y (inner-between s (complex_of c) S.shows (edge_of e) (vertex_of v) (vertex_of w) ends) P.0 P.1,
+          ends-raw s (complex_of c) S.shows (edge_of e) (vertex_of v) edge.high_vertex ends (star_of t) (star_of h) (star-well_formed t T.star) (star-well_formed h H)
+              (T.axis ends.low_end ends.leaves) T.shows M
+              y (inner-between s (complex_of c) S.shows (edge_of e) (vertex_of v) edge.high_vertex ends) P.0 P.1,
         )
 
     -- what has them is a map of each point of the edge
     pub edge-cone : (y : PlainPlace) → IsEdgePoint (complex_of c) number y → (m : SphereMap) → IsLeastMap m → m.mark ≡ e.mark
         → ((gs : List Vector) (L : Vector → Label) → IsLabelling gs L → IsRawOf raw L → (d : Vector) → IsDirection d → MapLabel (map_of m) d (L d)) → Cone (map_of m) s y
-    edge-cone y (f, x, z, a, K, b) m M mark built =
+    edge-cone y (f, x, z, a, K, b) m least mark built =
         let C = complex_of c in
         let g = at-one C.edges number f (edge_of e) a (image-read edge_of c.edges number e read) in
         let i = at-one C.vertices e.low x (vertex_of v) (subst (λ (r : PlainEdge). At C.vertices r.low x) g K.low) ends.is_low in
-        let j = at-one C.vertices e.high z (vertex_of w) (subst (λ (r : PlainEdge). At C.vertices r.high z) g K.high) ends.is_high in
-        ends-cone s C S.shows (edge_of e) (vertex_of v) (vertex_of w) ends (star_of t) (star_of h) (star-well_formed t T.star) (star-well_formed h H.star)
-        (T.axis ends.low_end ends.leaves) (H.axis ends.high_end ends.arrives) T.shows H.shows y
-        (subst (λ (r : PlainVertex). IsBetween r.point y (vertex_of w).point) i (subst (λ (r : PlainVertex). IsBetween x.point y r.point) j b))
-        (map_of m) M.sphere_map.valid mark (λ N V R d h. built (forms N) (labels_of N V) (are-labelling N V) R d h)
+        let j = at-one C.vertices e.high z edge.high_vertex (subst (λ (r : PlainEdge). At C.vertices r.high z) g K.high) ends.is_high in
+        ends-cone s C S.shows (edge_of e) (vertex_of v) edge.high_vertex ends (star_of t) (star_of h) (star-well_formed t T.star) (star-well_formed h H)
+        (T.axis ends.low_end ends.leaves) T.shows M y
+        (subst (λ (r : PlainVertex). IsBetween r.point y edge.high_vertex.point) i (subst (λ (r : PlainVertex). IsBetween x.point y r.point) j b))
+        (map_of m) least.sphere_map.valid mark (λ N V R d h. built (forms N) (labels_of N V) (are-labelling N V) R d h)
 
 -- ---- raw stars
 abbrev pub raws : Label → List Star → RawStars
 raws mark ts = record { mark = mark; stars = ts; sloop = None; ground = None }
 
-module _ (c : Complex) (number : ℕ) (e : Edge) (read : slice_get c.edges number ≡ Some e) (v w : Vertex) (low : slice_get c.vertices e.low ≡ Some v) (high : slice_get c.vertices e.high ≡ Some w)
-    (t h : Star) (T : IsEndStar v.map e.low_svertex t) (H : IsEndStar w.map e.high_svertex h) (ts : List Star) (same : ts ≡ h ∷ t ∷ []) where
+module _ (c : Complex) (number : ℕ) (e : Edge) (read : slice_get c.edges number ≡ Some e) (v : Vertex) (low : slice_get c.vertices e.low ≡ Some v)
+    (t h : Star) (T : IsEndStar v.map e.low_svertex t) (H : IsStar h) (M : IsMirrorOf (star_of t) (star_of h)) (ts : List Star) (same : ts ≡ h ∷ t ∷ []) where
   pub raw-labels : (s : Set) → ShowsSet s c → (gs : List Vector) × (L : Vector → Label) × IsLabelling gs L × IsRawOf (raw_of (raws e.mark ts)) L
-  raw-labels s S = subst (λ (us : List Star). (gs : List Vector) × (L : Vector → Label) × IsLabelling gs L × IsRawOf (raw_of (raws e.mark us)) L) (sym same) (edge-labels s c S number e read v w low high t h T H)
+  raw-labels s S = subst (λ (us : List Star). (gs : List Vector) × (L : Vector → Label) × IsLabelling gs L × IsRawOf (raw_of (raws e.mark us)) L) (sym same) (edge-labels s c S number e read v low t h T H M)
 
   pub built-cone : {E : Type 0} (r : Result SphereMap E) → IfOk r (λ m. IsLeastMap m) → IfOk r (λ m. m.mark ≡ e.mark)
       → IfOk r (λ m. (gs : List Vector) (L : Vector → Label) → IsLabelling gs L → IsRawOf (raw_of (raws e.mark ts)) L → (d : Vector) → IsDirection d → MapLabel (map_of m) d (L d))
       → IfOk r (λ m. (s : Set) (y : PlainPlace) → ShowsSet s c → IsEdgePoint (complex_of c) number y → Cone (map_of m) s y)
-  built-cone (Ok m) M mark built = λ s y S p.
-      edge-cone s c S number e read v w low high t h T H y p m M mark (λ gs L I R d i. built gs L I (subst (λ (us : List Star). IsRawOf (raw_of (raws e.mark us)) L) (sym same) R) d i)
-  built-cone (Err x) M mark built = tt
+  built-cone (Ok m) least mark built = λ s y S p.
+      edge-cone s c S number e read v low t h T H M y p m least mark (λ gs L I R d i. built gs L I (subst (λ (us : List Star). IsRawOf (raw_of (raws e.mark us)) L) (sym same) R) d i)
+  built-cone (Err x) least mark built = tt

@@ -20,4 +20,3 @@ pub mod FacetFound
 pub mod EdgeOrder
 pub mod Listed
 pub mod Windows
-pub mod CarrierMeets

@@ -1,4 +1,4 @@
--- The plane of a facet point is that of an item, and the edges in a plane on which a point lies are listed.
+-- The plane of a facet point is that of an item, and the vertices and edges of a plane on which a point lies are listed.
 use Rattle.std.proofs.Common.{◌≡◌, ℕ, List, pos, sym, subst}
 use Rattle.nef_space.specs.Lists.{IsAt}
 use Rattle.nef_space.specs.Place.{Place, Form, form_at, normal_of}
@@ -21,8 +21,8 @@ use Rattle.law_complex.proofs.FacetNames.{axis-in}
 use Rattle.law_complex.proofs.FacetWays.{plane-ahead}
 use Rattle.nef_complex.specs.declared.complex.Complex.{Complex}
 use Rattle.nef_complex.specs.Complexes.{vertex_of, complex_of, ShowsSet}
-use Rattle.nef_complex.specs.Index.{HasItemIn, EdgeLiesIn, AreNumbersWith}
-use Rattle.nef_plane.proofs.Listed.{edge-lies}
+use Rattle.nef_complex.specs.Index.{HasItemIn, LiesOn, EdgeLiesIn, AreNumbersWith}
+use Rattle.nef_plane.proofs.Listed.{lies, edge-lies}
 use Rattle.nef_plane.proofs.Meeting.{level-same}
 
 module _ (s : Set) (c : Complex) (S : ShowsSet s c) (h : Plane) (y : Place) (on : form_at (form_of h) y ≡ pos 0) (F : IsFlatIn s (form_of h) y) where
@@ -57,6 +57,11 @@ module _ (s : Set) (c : Complex) (S : ShowsSet s c) (h : Plane) (y : Place) (on 
   flat-item =
       let m = facet-behind s C S.shows (form_of h) y h.normal on d axis.0 axis.1 F in
       at-meet m.0 m.1.place (opposite d) m.1.meets (plane-ahead (form_of h) y m.1.place d m.1.ahead axis.1 on) m.2.0 m.2.1
+
+-- a point of the plane that is none of the listed vertices is none
+pub unlisted : (c : Complex) (h : Form) (y : Place) (ns : List ℕ) → AreNumbersWith (LiesOn c.vertices h) ns → form_at h y ≡ pos 0
+    → ((i k : ℕ) → IsAt ns i k → IsVertexPoint (complex_of c) k y → ⊥) → (k : ℕ) → IsVertexPoint (complex_of c) k y → ⊥
+unlisted c h y ns N on none k (v, a, e) = let i = N.all k (lies c h k v a (level-same h y v.point (same-place_sym v.point y e) on)) in none i.0 k i.1 (v, a, e)
 
 -- a point that is no vertex and lies on none of the listed edges is none that the plane meets
 pub unmet : (c : Complex) (h : Form) (y : Place) (ns : List ℕ) → AreNumbersWith (EdgeLiesIn c.vertices c.edges h) ns → ((k : ℕ) → IsVertexPoint (complex_of c) k y → ⊥)

@@ -25,15 +25,12 @@ use Rattle.law_complex.proofs.Skeletons.{way-ends}
 use Rattle.nef_complex.specs.declared.complex.Complex.{Complex}
 use Rattle.nef_complex.specs.declared.complex.Corner.{Corner}
 use Rattle.nef_complex.specs.declared.complex.Edge.{Edge}
-use Rattle.nef_complex.specs.declared.complex.PlaneMeet.{PlaneMeet as PlaneMeetValue}
-use Rattle.nef_complex.specs.declared.complex.PlaneMeet.TheVariants.{AtVertex, AtEdge}
 use Rattle.nef_complex.specs.declared.complex.Vertex.{Vertex}
-use Rattle.nef_complex.specs.Complexes.{vertex_of, edge_of, complex_of, corner_of, meet_of, AreSorted, ShowsSet}
+use Rattle.nef_complex.specs.Complexes.{vertex_of, edge_of, complex_of, corner_of, AreSorted, ShowsSet}
 use Rattle.nef_locate.specs.declared.place.Place.{Place}
 use Rattle.nef_locate.specs.declared.place.Place.TheVariants as place
 use Rattle.nef_locate.specs.Places.{IsPlaceIn, IsPlaceAt, IsFirstHit, place_dimension}
-use Rattle.nef_locate.specs.Rays.{IsSkeletonAt, IsOfSkeleton, IsSideAbove, place_of_meet}
-use Rattle.nef_locate.specs.Upright.{IsMetAt}
+use Rattle.nef_locate.specs.Rays.{IsSkeletonAt, IsOfSkeleton, IsSideAbove}
 use Rattle.nef_locate.proofs.CarrierPoints.{closed-inside}
 use Rattle.nef_locate.proofs.Cones.{facet-at}
 use Rattle.nef_locate.proofs.Marks.{image-read}
@@ -125,10 +122,6 @@ vertex-at D y k (v, a, e) = record { has = (v, a); at = (v, a, e); skeleton = (a
 
 pub edge-at : (D : PlainComplex) (y : PlainPlace) (k : ℕ) → IsEdgePoint D k y → IsSkeletonAt D y (place.OnEdge k)
 edge-at D y k (e, v, w, a, H, b) = record { has = (e, a); at = (e, v, w, a, H, b); skeleton = (on_edge k, (e, v, w, a, H, b)) }
-
-pub meet-at : (D : PlainComplex) (y : PlainPlace) (m : PlaneMeetValue) → IsMetAt D (meet_of m) y → IsSkeletonAt D y (place_of_meet m)
-meet-at D y (AtVertex k) v = vertex-at D y k v
-meet-at D y (AtEdge k) e = edge-at D y k e
 
 -- what lies at a place of the skeleton lies there with each equal point
 pub skeleton-same : (D : PlainComplex) (x y : PlainPlace) → SamePlace x y → (a : Place) → IsSkeletonAt D x a → IsSkeletonAt D y a

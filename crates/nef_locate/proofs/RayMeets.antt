@@ -1,11 +1,11 @@
 -- What a ray along an upright direction meets in one plane, and what it meets first.
-use Rattle.std.proofs.Common.{◌≡◌, ℕ, ◌*◌, ◌<◌, ◌≤◌, nat_abs, neg_ℤ, arith, ⊎_elim, Option, Some, None, IfSome, [], ◌∷◌}
+use Rattle.std.proofs.Common.{◌≡◌, ℕ, ◌*◌, ◌<◌, ◌≤◌, List, length, nat_abs, neg_ℤ, arith, inl, inr, ⊎_elim, Option, Some, None, IfSome, [], ◌∷◌}
 use Rattle.std.proofs.lemmas.Bool.{cases_lt}
 use Rattle.std.proofs.lemmas.Int.{ints}
 use Rattle.nef_space.specs.Limits.{half_side}
 use Rattle.nef_space.specs.Local.{FlatDim}
 use Rattle.law_arithmetic.proofs.Ring.{ring, at, neg, ◌⊕◌, ◌⊗◌}
-use Rattle.nef_space.specs.Place.{Place as PlainPlace, SamePlace, InClosedFrame, toward, IsAhead, IsBetween}
+use Rattle.nef_space.specs.Place.{Place as PlainPlace, Form, SamePlace, InClosedFrame, toward, IsAhead, IsBetween}
 use Rattle.nef_space.specs.Sets.{Set}
 use Rattle.nef_space.specs.Vectors.{Vector, dot, opposite}
 use Rattle.nef_geo.specs.Hits.{IsUpright, IsCrossing}
@@ -20,20 +20,38 @@ use Rattle.law_near.proofs.Frames.{flat_dim-outside}
 use Rattle.law_sphere.specs.Maps.{At}
 use Rattle.law_sphere.proofs.Compare.{SameDirection-turned, SameDirection-trans}
 use Rattle.law_complex.specs.Complexes.{Complex as PlainComplex}
-use Rattle.law_complex.specs.Laws.{IsFlatIn}
-use Rattle.law_complex.specs.Skeleton.{IsOnEdges, IsSkeletonPoint}
+use Rattle.law_complex.specs.Skeleton.{IsSkeletonPoint, meets_vertex, meets_edge}
 use Rattle.law_complex.proofs.FacetEdges.{ahead-back}
-use Rattle.law_complex.proofs.FacetWays.{meets-on}
+use Rattle.law_complex.proofs.Edges.{edge-points}
+use Rattle.law_complex.proofs.FacetWays.{dim-same}
 use Rattle.nef_complex.proofs.Lines.{one-crossing}
 use Rattle.nef_plane.proofs.Found.{not-end}
 use Rattle.nef_plane.proofs.Nearest.{between-ahead}
 use Rattle.nef_complex.specs.declared.complex.Complex.{Complex}
+use Rattle.nef_complex.specs.declared.groups.Group.{Group}
+use Rattle.nef_space.specs.Lists.{IsAt}
 use Rattle.nef_complex.specs.Complexes.{complex_of, ShowsSet}
+use Rattle.nef_complex.specs.Index.{AreGroups}
+use Rattle.nef_classes.proofs.ClassLists.{is-at_within}
+use Rattle.nef_smap.proofs.Lists.{at-within}
+use Rattle.nef_smap.proofs.SideLists.{at-from_get, get-from_at}
 use Rattle.nef_locate.specs.declared.ray.Met.{Met}
 use Rattle.nef_locate.specs.Places.{IsFirstHit}
-use Rattle.nef_locate.specs.Rays.{IsMet, IsReachedMet, IsSooner, IsNotBefore, HasNoneBefore}
+use Rattle.nef_locate.specs.Rays.{IsMet, IsReachedMet, IsSooner, IsNotBefore, IsSkeletonIn, HasNoneOn, HasNoneOnCarrier}
 use Rattle.nef_locate.proofs.CarrierPoints.{skeleton-carrier, crossed}
-use Rattle.law_complex.proofs.EqualPoints.{ahead-from, flat-same}
+use Rattle.law_complex.proofs.EqualPoints.{ahead-from, vertex-same, edge-same, flat-same}
+
+-- nothing that the carriers with the first n numbers hold of the skeleton lies before what is met
+abbrev pub HaveNoneOn : Complex → PlainPlace → Vector → List ℕ → ℕ → Option Met → Type 0
+HaveNoneOn c p d ns n best = (j k : ℕ) → j < n → At ns j k → HasNoneOnCarrier c p d best k
+
+-- nor what those in the group hold
+abbrev pub HasNoneIn : Complex → PlainPlace → Vector → Option Met → Group → Type 0
+HasNoneIn c p d best g = (j k : ℕ) → IsAt g.carriers j k → HasNoneOnCarrier c p d best k
+
+-- nor what those in the first n groups hold
+abbrev pub HaveNoneIn : Complex → PlainPlace → Vector → List Group → ℕ → Option Met → Type 0
+HaveNoneIn c p d gs n best = (i : ℕ) (g : Group) → i < n → At gs i g → HasNoneIn c p d best g
 
 -- ---- the order along a ray
 pub never-same : (y z : PlainPlace) (d : Vector) → IsAhead y d z → SamePlace y z → ⊥
@@ -57,7 +75,7 @@ dim-outside : (s : Set) (y : PlainPlace) (n : ℕ) → n < 3 → (InClosedFrame 
 dim-outside s y n l o f = let e = FlatDim-one s y n 3 f (flat_dim-outside s y o) in omega (arith, l)
 
 -- so a point of the skeleton lies in it
-pub dim-framed : (s : Set) (y : PlainPlace) (n : ℕ) → n < 3 → FlatDim s y n → InClosedFrame y
+dim-framed : (s : Set) (y : PlainPlace) (n : ℕ) → n < 3 → FlatDim s y n → InClosedFrame y
 dim-framed s y n m f = record {
   along_x = within (nat_abs y.x) (λ l. dim-outside s y n m (λ i. let k = i.along_x in omega arith) f);
   along_y = within (nat_abs y.y) (λ l. dim-outside s y n m (λ i. let k = i.along_y in omega arith) f);
@@ -67,11 +85,10 @@ dim-framed s y n m f = record {
     within : (n : ℕ) → (half_side * y.w < n → ⊥) → n ≤ half_side * y.w
     within n never = ⊎_elim (λ l. absurd (never l)) (λ l. l) (cases_lt (half_side * y.w) n)
 
-pub none-outside : (s : Set) (h : Plane) (y : PlainPlace) → (InClosedFrame y → ⊥) → IsFlatIn s (form_of h) y → ⊥
-none-outside s h y o f = dim-outside s y 2 (omega arith) o f.0
-
-pub flat-framed : (s : Set) (h : Plane) (y : PlainPlace) → IsFlatIn s (form_of h) y → InClosedFrame y
-flat-framed s h y f = dim-framed s y 2 (omega arith) f.0
+pub skeleton-framed : (s : Set) (c : Complex) → ShowsSet s c → (h : Form) (y : PlainPlace) → IsSkeletonIn s (complex_of c) h y → InClosedFrame y
+skeleton-framed s c S h y (inl (meets_vertex k, (v, a, e))) = dim-framed s y 0 (omega arith) (dim-same s v.point y 0 e (S.shows.vertices k v a))
+skeleton-framed s c S h y (inl (meets_edge k, ((e, v, w, a, H, b), l))) = dim-framed s y 1 (omega arith) (edge-points s (complex_of c) k e v w y S.shows a H b).0
+skeleton-framed s c S h y (inr f) = dim-framed s y 2 (omega arith) f.0
 
 -- ---- one plane
 module _ (p : PlainPlace) (d : Vector) (h : Plane) (hit : Hit) (X : IsCrossing p d (form_of h) (hit_place hit)) where
@@ -95,35 +112,36 @@ module _ (p : PlainPlace) (d : Vector) (h : Plane) (hit : Hit) (X : IsCrossing p
   passed None w y n b = n
   passed (Some m) w y n b = n (between-inner p x (hit_place m.at) y (SameDirection-trans (toward p x) d (toward x (hit_place m.at)) X.ahead (SameDirection-turned (toward x (hit_place m.at)) d w)) b)
 
-  -- a facet at a crossing is one at the hit
-  pub found : (s : Set) (y : PlainPlace) → IsCrossing p d (form_of h) y → IsFlatIn s (form_of h) y → IsFlatIn s (form_of h) x
-  found s y Y = flat-same s y x (at-hit y Y) (form_of h)
-
-  -- a hit before what is met lies on no edge
-  pub sooner-off : (D : PlainComplex) (best : Option Met) → IsSooner d hit best → HasNoneBefore D p d best → IsOnEdges D x → ⊥
-  sooner-off D None w E e = E x X.ahead e
-  sooner-off D (Some m) w E e = E x X.ahead e (SameDirection-trans (toward p x) d (toward x (hit_place m.at)) X.ahead (SameDirection-turned (toward x (hit_place m.at)) d w))
+  -- what the plane holds of the skeleton at a crossing it holds at the hit
+  pub found : (s : Set) (D : PlainComplex) (y : PlainPlace) → IsCrossing p d (form_of h) y → IsSkeletonIn s D (form_of h) y → IsSkeletonIn s D (form_of h) x
+  found s D y Y (inl (meets_vertex k, v)) = inl (meets_vertex k, vertex-same y x (at-hit y Y) D k v)
+  found s D y Y (inl (meets_edge k, (e, l))) = inl (meets_edge k, (edge-same y x (at-hit y Y) D k e, l))
+  found s D y Y (inr f) = inr (flat-same s y x (at-hit y Y) (form_of h) f)
 
 -- ---- all planes
 module _ (s : Set) (c : Complex) (S : ShowsSet s c) (p : PlainPlace) (d : Vector) (u : IsUpright d) where
-  -- of the facets in all carriers nothing is met before
-  abbrev pub AllMet : Option Met → Type 0
-  AllMet best = (k : ℕ) (h : Plane) → At c.carriers k h → (y : PlainPlace) → IsCrossing p d (form_of h) y → IsFlatIn s (form_of h) y → IsNotBefore p y best
+  -- nothing that the carriers hold of the skeleton lies before what is met
+  abbrev AllMet : Option Met → Type 0
+  AllMet best = (k : ℕ) (h : Plane) → At c.carriers k h → HasNoneOn c p d best h
 
-  not-before : (best : Option Met) → HasNoneBefore (complex_of c) p d best → AllMet best → (y : PlainPlace) → IsAhead p d y → IsSkeletonPoint (complex_of c) y → IsNotBefore p y best
-  not-before best E A y w o =
-      let k = skeleton-carrier s c S y o in
-      ⊎_elim (λ m. E y w (meets-on s (complex_of c) S.shows (form_of k.plane) m.0 y m.1))
-      (λ f. A k.number k.plane k.listed y (crossed s c S p y d u w k) f) k.found
+  -- since each carrier stands in some group
+  pub all-met : (groups : List Group) → AreGroups c.carriers c.vertices groups → (n : ℕ) → length groups ≤ n → (best : Option Met) → HaveNoneIn c p d groups n best → AllMet best
+  all-met groups A n l best f k h a =
+      let i = A.all k (at-within c.carriers k h a) in
+      let m = is-at_within groups i.0 i.1 i.3 in
+      f i.0 i.1 (omega (arith, l, m)) (at-from_get groups i.0 i.1 i.3) i.2 k i.4 h (get-from_at c.carriers k h a)
 
-  pub first-none : HasNoneBefore (complex_of c) p d None → AllMet None → (y : PlainPlace) → IsAhead p d y → IsSkeletonPoint (complex_of c) y → ⊥
-  first-none E A = not-before None E A
+  not-before : (best : Option Met) → AllMet best → (y : PlainPlace) → IsAhead p d y → IsSkeletonPoint (complex_of c) y → IsNotBefore p y best
+  not-before best A y w o = let k = skeleton-carrier s c S y o in A k.number k.plane k.listed s y S (crossed s c S p y d u w k) k.found
 
-  pub first-some : (m : Met) → IsMet (complex_of c) p d m → HasNoneBefore (complex_of c) p d (Some m) → AllMet (Some m) → IsFirstHit (complex_of c) p d m.place
-  first-some m M E A = record {
+  pub first-none : AllMet None → (y : PlainPlace) → IsAhead p d y → IsSkeletonPoint (complex_of c) y → ⊥
+  first-none A = not-before None A
+
+  pub first-some : (m : Met) → IsMet (complex_of c) p d m → AllMet (Some m) → IsFirstHit (complex_of c) p d m.place
+  first-some m M A = record {
     place = hit_place m.at;
     ahead = M.ahead;
     skeleton = M.on.skeleton;
     at = M.on.at;
-    first = λ q b o. not-before (Some m) E A q (between-ahead p q (hit_place m.at) d b M.ahead) o b;
+    first = λ q b o. not-before (Some m) A q (between-ahead p q (hit_place m.at) d b M.ahead) o b;
   }

@@ -16,14 +16,20 @@ use Rattle.law_sphere.specs.Least.{by_side, InOrder}
 use Rattle.law_sphere.specs.Labelling.{Near, StraightAt, IsSmooth, straight}
 use Rattle.law_sphere.specs.Stars.{Star, StarLabel}
 use Rattle.law_sphere.proofs.Around.{opposites}
-use Rattle.law_sphere.proofs.FlatMaps.{flat-onward, flat-straight}
+use Rattle.law_cyclic.proofs.Directions.{direction-opposite}
+use Rattle.law_sphere.proofs.Compare.{dir-self}
+use Rattle.law_sphere.proofs.Kind.{flat-parallel}
+use Rattle.law_sphere.proofs.FlatMaps.{flat-onward, flat-back, flat-straight}
 use Rattle.law_sphere.proofs.Labels.{label-direction, label-unique, dir-signs}
 use Rattle.law_sphere.proofs.Vectors.{dot-comb, direction-by, nought-if}
-use Rattle.law_sphere.proofs.Walk.{cross-direction_left, between-direction}
+use Rattle.law_sphere.proofs.Walk.{cross-direction_left, cross-direction_right, between-direction}
 use Rattle.law_build.specs.Raw.{Of, IsLabelling, IsWellFormed, ShowsLabels, IsRawOf}
 use Rattle.law_build.proofs.BuiltLabels.{straight-from}
 use Rattle.law_build.proofs.Chosen.{chosen, chosen-is, chosen-labelling, map-labels}
-use Rattle.nef_edges.proofs.Rays.{to_opposite}
+use Rattle.nef_star.specs.Mirrors.{IsMirrorOf}
+use Rattle.nef_star.proofs.OtherEnds.{twice}
+use Rattle.nef_star.proofs.MirrorStars.{cross-opposite}
+use Rattle.nef_edges.proofs.Rays.{to_opposite, from_opposite}
 
 -- the star has the map's labels on its axis and near it
 abbrev pub ShowsMap : Map → Star → Type 0
@@ -42,19 +48,29 @@ both-sides a m b (negsuc i) (negsuc j) e off h k = let q : minus ≡ plus = e in
 dot-back : (n u : Vector) → dot n (opposite u) ≡ neg_ℤ (dot n u)
 dot-back n u = ring (n.x ∷ n.y ∷ n.z ∷ u.x ∷ u.y ∷ u.z ∷ []) (at 0 ⊗ neg (at 3) ⊕ at 1 ⊗ neg (at 4) ⊕ at 2 ⊗ neg (at 5)) (neg (at 0 ⊗ at 3 ⊕ at 1 ⊗ at 4 ⊕ at 2 ⊗ at 5)) tt
 
+blend-comb : (w e : Vector) (k : ℕ) → comb (pos 1) e (pos k) w ≡ blend k w 1 e
+blend-comb w e k = vector-same (comb (pos 1) e (pos k) w) (blend k w 1 e) (one e.x w.x) (one e.y w.y) (one e.z w.z)
+  where
+    one : (x z : ℤ) → pos 1 *ℤ x +ℤ pos k *ℤ z ≡ pos k *ℤ z +ℤ pos 1 *ℤ x
+    one x z = ring (pos k ∷ x ∷ z ∷ []) (num (pos 1) ⊗ at 1 ⊕ at 0 ⊗ at 2) (at 0 ⊗ at 2 ⊕ num (pos 1) ⊗ at 1) tt
+
 -- where the labels don't change along w, the label of e is the one near w toward e
 pub near-along : (N : Map) (w : Vector) → FlatMap N w → (e : Vector) (l : Label) → IsDirection (cross w e) → MapLabel N e l → NearLabel N w e l
 near-along N w F e l f a = (
   0,
-  λ k h. subst (λ (d : Vector). MapLabel N d l) (turned k)
-      (flat-onward N w F e 1 (pos k) (omega arith) l (subst IsDirection (sym (turned k)) (between-direction w e k 1 (omega arith) f)) a),
+  λ k h. subst (λ (d : Vector). MapLabel N d l) (blend-comb w e k)
+      (flat-onward N w F e 1 (pos k) (omega arith) l (subst IsDirection (sym (blend-comb w e k)) (between-direction w e k 1 (omega arith) f)) a),
 )
-  where
-    turned : (k : ℕ) → comb (pos 1) e (pos k) w ≡ blend k w 1 e
-    turned k = vector-same (comb (pos 1) e (pos k) w) (blend k w 1 e) (one e.x w.x) (one e.y w.y) (one e.z w.z)
-      where
-        one : (x z : ℤ) → pos 1 *ℤ x +ℤ pos k *ℤ z ≡ pos k *ℤ z +ℤ pos 1 *ℤ x
-        one x z = ring (pos k ∷ x ∷ z ∷ []) (num (pos 1) ⊗ at 1 ⊕ at 0 ⊗ at 2) (at 0 ⊗ at 2 ⊕ num (pos 1) ⊗ at 1) tt
+
+-- and the other way round
+along-near : (N : Map) (w : Vector) → FlatMap N w → (e : Vector) (l : Label) → IsDirection (cross w e) → NearLabel N w e l → MapLabel N e l
+along-near N w F e l f (n, a) = flat-back N w F e 1 (pos n) (omega arith) l (cross-direction_right w e f) (subst (λ (d : Vector). MapLabel N d l) (sym (blend-comb w e n)) (a n (omega arith)))
+
+pub self-opposite : (d : Vector) → IsDirection d → IsOpposite d (opposite d)
+self-opposite d h = from_opposite d (opposite d) (subst (SameDirection d) (sym (twice d)) (dir-self d h))
+
+off-axis : (w e : Vector) → IsDirection (cross (opposite w) e) → IsDirection (cross w e)
+off-axis w e f = subst IsDirection (ap opposite (cross-opposite w e) ∙ twice (cross w e)) (direction-opposite (cross (opposite w) e) f)
 
 module _ (N : Map) (V : Valid N) where
   abbrev pub labels_of : Vector → Label
@@ -139,3 +155,32 @@ module _ (N : Map) (V : Valid N) where
               (λ l. absurd (off 1 u refl (opposites t.axis u.axis d T.axis O (record { parallel = z; backward = l }))))
               (λ e. absurd (h (nought-if t.axis d T.axis z e)))
               (λ l. absurd (off 0 t refl (record { parallel = z; forward = l })))
+
+  -- what shows the map along a direction in which it is flat shows it from the other end
+  pub mirror-shows : (t h : Star) → IsWellFormed t → IsWellFormed h → IsMirrorOf t h → FlatMap N t.axis → ShowsMap N t → ShowsMap N h × FlatMap N h.axis
+  mirror-shows t h T H M F S = ((mark, labels), flat)
+    where
+      w : Vector
+      w = t.axis
+
+      flat : FlatMap N h.axis
+      flat = subst (FlatMap N) (sym M.axis) (flat-parallel N V w (opposite w) T.axis (self-opposite w T.axis).parallel F)
+
+      through : comb (pos 1) w (negsuc 1) w ≡ opposite w
+      through = vector-same (comb (pos 1) w (negsuc 1) w) (opposite w) (one w.x) (one w.y) (one w.z)
+        where
+          one : (x : ℤ) → pos 1 *ℤ x +ℤ negsuc 1 *ℤ x ≡ neg_ℤ x
+          one x = ring (x ∷ []) (num (pos 1) ⊗ at 0 ⊕ num (negsuc 1) ⊗ at 0) (neg (at 0)) tt
+
+      mark : MapLabel N h.axis h.mark
+      mark =
+          let e = direction-opposite w T.axis in
+          let a = flat-onward N w F w 1 (negsuc 1) (omega arith) t.mark (subst IsDirection (sym through) e) S.0 in
+          rw (M.axis, M.mark, ← through) a
+
+      labels : (e : Vector) (l : Label) → IsDirection (cross h.axis e) → StarLabel h e l → NearLabel N h.axis e l
+      labels e l f x =
+          let off = off-axis w e (subst (λ (d : Vector). IsDirection (cross d e)) M.axis f) in
+          let m = T.each e off in
+          let same = H.one e m.0 l f (M.labels e m.0 off m.1) x in
+          near-along N h.axis flat e l f (subst (MapLabel N e) same (along-near N w F e m.0 off (S.1 e m.0 off m.1)))

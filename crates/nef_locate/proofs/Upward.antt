@@ -1,8 +1,13 @@
--- The upward direction lies above every plane within the limit.
-use Rattle.std.proofs.Common.{zero, suc, ◌≤◌, ℤ, pos, negsuc, ◌<ℤ◌, ◌≤ℤ◌, nat_abs, arith, refl}
+-- The upward direction lies above every plane within the limit, so no plane is along an upright one.
+use Rattle.std.proofs.Common.{◌≡◌, zero, suc, ◌≤◌, ℤ, pos, negsuc, neg_ℤ, ◌<ℤ◌, ◌≤ℤ◌, nat_abs, [], ◌∷◌, inl, inr, arith, refl, subst}
 use Rattle.std.proofs.lemmas.Int.{ints}
+use Rattle.law_arithmetic.proofs.Ring.{ring, at, neg, ◌⊕◌, ◌⊗◌}
 use Rattle.nef_space.specs.Limits.{normal_limit}
-use Rattle.nef_space.specs.Vectors.{Vector, vector, dot, IsAtMost, IsNormal, up}
+use Rattle.nef_space.specs.Place.{slope, normal_of}
+use Rattle.nef_space.specs.Vectors.{Vector, vector, dot, IsAtMost, IsNormal, IsDirection, up, opposite}
+use Rattle.nef_geo.specs.Hits.{IsUpright}
+use Rattle.nef_geo.specs.Shapes.{form_of}
+use Rattle.nef_geo.specs.declared.plane.Plane.{Plane}
 
 pub up-above : (n : Vector) → IsNormal n → IsAtMost normal_limit n → pos 0 <ℤ dot n up
 up-above n h k = leads n.x n.y n.z h k.of_y k.of_z
@@ -13,3 +18,20 @@ up-above n h k = leads n.x n.y n.z h k.of_y k.of_z
     leads (pos zero) (negsuc n) c h sb sc = absurd (let f : pos 0 ≤ℤ negsuc n = h.second refl in omega (arith, ints))
     leads (pos zero) (pos (suc n)) c h sb sc = omega (arith, ints)
     leads (pos zero) (pos zero) c h sb sc = let f : pos 0 <ℤ c = h.third refl refl in omega (arith, ints)
+
+-- ---- upright directions
+pub upright-some : (d : Vector) → IsUpright d → IsDirection d
+upright-some d (inl e) z = let f = subst (λ (v : Vector). v.z ≡ pos 0) e z.2 in omega (arith, ints)
+upright-some d (inr e) z = let f = subst (λ (v : Vector). v.z ≡ pos 0) e z.2 in omega (arith, ints)
+
+-- no plane of the program is along one
+pub plane-upright : (g : Plane) (d : Vector) → IsUpright d → slope (form_of g) d ≡ pos 0 → ⊥
+plane-upright g d u z = not-along (up-above (normal_of (form_of g)) g.normal (record { of_x = g.a_small; of_y = g.b_small; of_z = g.c_small })) u
+  where
+    not-along : pos 0 <ℤ slope (form_of g) up → IsUpright d → ⊥
+    not-along u (inl e) = let f = subst (λ (v : Vector). slope (form_of g) v ≡ pos 0) e z in omega (arith, ints)
+    not-along u (inr e) =
+        let f = subst (λ (v : Vector). slope (form_of g) v ≡ pos 0) e z in
+        let n = normal_of (form_of g) in
+        let r : dot n (opposite up) ≡ neg_ℤ (dot n up) = ring (n.x ∷ n.y ∷ n.z ∷ up.x ∷ up.y ∷ up.z ∷ []) (at 0 ⊗ neg (at 3) ⊕ at 1 ⊗ neg (at 4) ⊕ at 2 ⊗ neg (at 5)) (neg (at 0 ⊗ at 3 ⊕ at 1 ⊗ at 4 ⊕ at 2 ⊗ at 5)) tt in
+        omega (arith, ints)

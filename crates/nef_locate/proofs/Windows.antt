@@ -1,68 +1,83 @@
 -- Points of the frame ahead of a point lie within its window, and vertices, edges and facets of a plane within its span.
-use Rattle.std.proofs.Common.{◌≡◌, ℕ, ◌+◌, ◌*◌, ◌^◌, ◌<◌, ◌≤◌, ℤ, pos, neg_ℤ, ◌+ℤ◌, ◌-ℤ◌, ◌*ℤ◌, ◌<ℤ◌, ◌≤ℤ◌, nat_abs, w64, to_z, of_z, [], ◌∷◌, arith, ap, sym, ◌∙◌, ◌⊎◌, inl, inr, subst}
-use Rattle.std.proofs.lemmas.Int.{ints, to_z-of_z, fits_signed_from_abs}
-use Rattle.law_arithmetic.proofs.Order.{by_order, mul_pos, mul_nonneg}
-use Rattle.law_arithmetic.proofs.Ring.{ring, at, num, neg, ◌⊕◌, ◌⊖◌, ◌⊗◌}
-use Rattle.nef_space.specs.Limits.{half_side, point_limit}
-use Rattle.nef_space.specs.Place.{Place, Form, form_at, InClosedFrame, IsAhead}
-use Rattle.nef_space.specs.Vectors.{Vector}
+use Rattle.std.proofs.Common.{◌≡◌, ℕ, ◌+◌, ◌*◌, ◌≤◌, ℤ, pos, neg_ℤ, ◌+ℤ◌, ◌-ℤ◌, ◌*ℤ◌, ◌<ℤ◌, ◌≤ℤ◌, nat_abs, List, [], ◌∷◌, arith, ap, sym, inl, inr, subst}
+use Rattle.std.proofs.lemmas.Int.{ints}
+use Rattle.law_arithmetic.proofs.Order.{mul_nonneg, mul_le_right, cancel_le}
+use Rattle.law_arithmetic.proofs.Ring.{ring, at, num, ◌⊕◌, ◌⊖◌, ◌⊗◌}
+use Rattle.nef_space.specs.Limits.{half_side}
+use Rattle.nef_space.specs.Lists.{IsAt}
+use Rattle.nef_space.specs.Place.{Place, Form, form_at, SamePlace, InClosedFrame, IsAhead}
+use Rattle.nef_space.specs.Vectors.{Vector, opposite, up}
 use Rattle.nef_geo.specs.Hits.{IsUpright}
-use Rattle.nef_geo.specs.declared.point.Point.{Point}
-use Rattle.nef_geo.proofs.Places.{pos_size}
 use Rattle.nef_space.specs.Sets.{Set}
-use Rattle.nef_geo.specs.Shapes.{place_of}
+use Rattle.nef_geo.specs.Shapes.{form_of, place_of}
+use Rattle.nef_geo.specs.declared.plane.Plane.{Plane}
+use Rattle.law_sphere.specs.Maps.{At}
 use Rattle.nef_smap.proofs.Lists.{at-map}
 use Rattle.nef_smap.proofs.SideLists.{get-from_at}
 use Rattle.law_complex.specs.Complexes.{Vertex as PlainVertex}
 use Rattle.law_complex.specs.Skeleton.{meets_vertex, meets_edge}
-use Rattle.law_complex.specs.Spans.{Coordinate, coordinate_x, coordinate_y, coordinate_z, EachVertexOn, EachPointOn, IsWithin, IsJustAbove}
+use Rattle.law_complex.specs.Spans.{Coordinate, coordinate_of, coordinate_x, coordinate_y, coordinate_z, EachVertexOn, EachPointOn, IsWithin, IsJustAbove, IsCloseAbove}
+use Rattle.law_complex.proofs.FacetEdges.{ahead-back}
 use Rattle.law_complex.proofs.Spans.{plane-within, stays-close}
 use Rattle.nef_complex.specs.declared.complex.Complex.{Complex}
 use Rattle.nef_complex.specs.declared.spans.Bounds.{Bounds}
 use Rattle.nef_complex.specs.declared.spans.Span.{Span}
+use Rattle.nef_complex.specs.declared.groups.Group.{Group}
 use Rattle.nef_complex.specs.Complexes.{vertex_of, complex_of, ShowsSet}
-use Rattle.nef_complex.specs.Index.{IsSpanOn}
+use Rattle.nef_complex.specs.Index.{IsSpanOn, AreSpans}
 use Rattle.nef_complex.specs.Spans.{IsInSpan}
-use Rattle.nef_locate.specs.Rays.{IsSkeletonIn}
-use Rattle.nef_locate.specs.Windows.{IsReached}
+use Rattle.nef_locate.specs.Rays.{IsSkeletonIn, HasNotAtCarrier}
 
--- ---- bounds and reaches that hold a number in common
-pub weight : (p : Place) → pos 0 <ℤ pos p.w
+weight : (p : Place) → pos 0 <ℤ pos p.w
 weight p = let m = p.proper in omega (arith, ints)
 
--- a k <= b k gives a <= b
-without-factor : (a b k : ℤ) → pos 0 <ℤ k → (a *ℤ k) ≤ℤ (b *ℤ k) → a ≤ℤ b
-without-factor a b k p l = by_order a b (λ m. omega (arith, ints)) (λ e. omega (arith, ints)) (λ m.
-    let d = mul_pos (a -ℤ b) k (omega (arith, ints)) p in
-    let r : (a -ℤ b) *ℤ k ≡ a *ℤ k -ℤ b *ℤ k = ring (a ∷ b ∷ k ∷ []) ((at 0 ⊖ at 1) ⊗ at 2) (at 0 ⊗ at 2 ⊖ at 1 ⊗ at 2) tt in
-    absurd (omega (arith, ints)))
+-- ---- bounds that hold a coordinate in common
+pub within-both : (c : Coordinate) (a b : Bounds) (q : Place) → IsWithin c a.low a.high q → IsWithin c b.low b.high q → (a.low ≤ℤ b.high) × (b.low ≤ℤ a.high)
+within-both c a b q i j = (below a.low b.high i.0 j.1, below b.low a.high j.0 i.1)
+  where
+    below : (l h : ℤ) → (l *ℤ pos q.w) ≤ℤ coordinate_of c q → coordinate_of c q ≤ℤ (h *ℤ pos q.w) → l ≤ℤ h
+    below l h u v = cancel_le l h (pos q.w) (weight q) (omega (arith, ints))
 
--- low v <= x, so low w v <= x w
-times : (a b k : ℤ) → pos 0 <ℤ k → a ≤ℤ b → (a *ℤ k) ≤ℤ (b *ℤ k)
-times a b k p l =
-    let d = mul_nonneg (b -ℤ a) k (omega (arith, ints)) (omega (arith, ints)) in
-    let r : (b -ℤ a) *ℤ k ≡ b *ℤ k -ℤ a *ℤ k = ring (a ∷ b ∷ k ∷ []) ((at 1 ⊖ at 0) ⊗ at 2) (at 1 ⊗ at 2 ⊖ at 0 ⊗ at 2) tt in
-    omega (arith, ints)
+-- what is read of a list of spans where it ends
+abbrev pub no_span : Span
+no_span = record { x = record { low = pos 0; high = pos 0 }; y = record { low = pos 0; high = pos 0 }; z = record { low = pos 0; high = pos 0 } }
 
+-- ---- of equal points, and of one point above another
 exchange : (a v w : ℤ) → a *ℤ v *ℤ w ≡ a *ℤ w *ℤ v
 exchange a v w = ring (a ∷ v ∷ w ∷ []) (at 0 ⊗ at 1 ⊗ at 2) (at 0 ⊗ at 2 ⊗ at 1) tt
 
-pub bounds-reach : (low high from to w x : ℤ) (v : ℕ) → pos 0 <ℤ w → pos 0 <ℤ pos v → ((low *ℤ pos v) ≤ℤ x) × (x ≤ℤ (high *ℤ pos v)) → IsReached from to w x v → ((low *ℤ w) ≤ℤ to) × (from ≤ℤ (high *ℤ w))
-bounds-reach low high from to w x v p q (a, b) (c, d) = (
-  without-factor (low *ℤ w) to (pos v) q (let l = times (low *ℤ pos v) x w p a in let e = exchange low (pos v) w in omega (arith, ints)),
-  without-factor from (high *ℤ w) (pos v) q (let l = times x (high *ℤ pos v) w p b in let e = exchange high (pos v) w in omega (arith, ints)),
-)
+some : (p : Place) → pos 0 ≤ℤ pos p.w
+some p = omega (arith, ints)
 
--- ---- reaches
-pub reached-at : (f t w y z : ℤ) (v : ℕ) → f ≡ y → t ≡ y → z *ℤ w ≡ y *ℤ pos v → IsReached f t w z v
-reached-at f t w y z v e g s = (subst (λ (r : ℤ). (r *ℤ pos v) ≤ℤ (z *ℤ w)) (sym e) (omega (arith, ints, s)), subst (λ (r : ℤ). (z *ℤ w) ≤ℤ (r *ℤ pos v)) (sym g) (omega (arith, ints, s)))
+low-rises : (c : Coordinate) (low : ℤ) (p q : Place) → (coordinate_of c p *ℤ pos q.w) ≤ℤ (coordinate_of c q *ℤ pos p.w) → (low *ℤ pos p.w) ≤ℤ coordinate_of c p → (low *ℤ pos q.w) ≤ℤ coordinate_of c q
+low-rises c low p q e l =
+    let m = mul_le_right (low *ℤ pos p.w) (coordinate_of c p) (pos q.w) (some q) l in
+    let f = exchange low (pos p.w) (pos q.w) in
+    cancel_le (low *ℤ pos q.w) (coordinate_of c q) (pos p.w) (weight p) (omega (arith, ints, e))
 
-sum-times : (y w k : ℤ) → (y +ℤ w) *ℤ k ≡ y *ℤ k +ℤ w *ℤ k
-sum-times y w k = ring (y ∷ w ∷ k ∷ []) ((at 0 ⊕ at 1) ⊗ at 2) (at 0 ⊗ at 2 ⊕ at 1 ⊗ at 2) tt
+high-falls : (c : Coordinate) (high : ℤ) (p q : Place) → (coordinate_of c q *ℤ pos p.w) ≤ℤ (coordinate_of c p *ℤ pos q.w) → coordinate_of c p ≤ℤ (high *ℤ pos p.w) → coordinate_of c q ≤ℤ (high *ℤ pos q.w)
+high-falls c high p q e l =
+    let m = mul_le_right (coordinate_of c p) (high *ℤ pos p.w) (pos q.w) (some q) l in
+    let f = exchange high (pos p.w) (pos q.w) in
+    cancel_le (coordinate_of c q) (high *ℤ pos q.w) (pos p.w) (weight p) (omega (arith, ints, e))
 
-difference-times : (y w k : ℤ) → (y -ℤ w) *ℤ k ≡ y *ℤ k -ℤ w *ℤ k
-difference-times y w k = ring (y ∷ w ∷ k ∷ []) ((at 0 ⊖ at 1) ⊗ at 2) (at 0 ⊗ at 2 ⊖ at 1 ⊗ at 2) tt
+at-most-same : (a b : ℤ) → a ≡ b → a ≤ℤ b
+at-most-same a b e = omega (arith, ints, e)
 
+within-same : (c : Coordinate) (b : Bounds) (p q : Place) → coordinate_of c q *ℤ pos p.w ≡ coordinate_of c p *ℤ pos q.w → IsWithin c b.low b.high p → IsWithin c b.low b.high q
+within-same c b p q e i = (low-rises c b.low p q (at-most-same _ _ (sym e)) i.0, high-falls c b.high p q (at-most-same _ _ e) i.1)
+
+pub span-same : (s : Span) (p q : Place) → SamePlace q p → IsInSpan s p → IsInSpan s q
+span-same s p q e i = (within-same coordinate_x s.x p q e.along_x i.0, within-same coordinate_y s.y p q e.along_y i.1, within-same coordinate_z s.z p q e.along_z i.2)
+
+-- ---- of points of the frame
+at-most-side : (c : Coordinate) (high : ℤ) (q : Place) → high ≡ pos half_side → nat_abs (coordinate_of c q) ≤ half_side * q.w → coordinate_of c q ≤ℤ (high *ℤ pos q.w)
+at-most-side c high q e l = subst (λ (r : ℤ). coordinate_of c q ≤ℤ (r *ℤ pos q.w)) (sym e) (omega (arith, ints, l))
+
+at-least-side : (c : Coordinate) (low : ℤ) (q : Place) → low ≡ neg_ℤ (pos half_side) → nat_abs (coordinate_of c q) ≤ half_side * q.w → (low *ℤ pos q.w) ≤ℤ coordinate_of c q
+at-least-side c low q e l = subst (λ (r : ℤ). (r *ℤ pos q.w) ≤ℤ coordinate_of c q) (sym e) (omega (arith, ints, l))
+
+-- ---- of points of which one lies just above the other
 -- 0 < d and (n + 1) d <= m give d <= m
 at-most : (n : ℕ) (d m : ℤ) → pos 0 <ℤ d → (pos (n + 1) *ℤ d) ≤ℤ m → d ≤ℤ m
 at-most n d m p l =
@@ -70,56 +85,65 @@ at-most n d m p l =
     let r : pos (n + 1) *ℤ d ≡ pos n *ℤ d +ℤ d = ring (pos n ∷ d ∷ []) ((at 0 ⊕ num (pos 1)) ⊗ at 1) (at 0 ⊗ at 1 ⊕ at 1) tt in
     omega (arith, ints)
 
--- z/v is just above y/w, or just below it
-pub reached-around : (n : ℕ) (f t : ℤ) (w v : ℕ) (y z : ℤ) → f ≡ y -ℤ pos w → t ≡ y +ℤ pos w → IsJustAbove (n + 1) y w z v ⊎ IsJustAbove (n + 1) z v y w → IsReached f t (pos w) z v
-reached-around n f t w v y z e g j = (
-  subst (λ (r : ℤ). (r *ℤ pos v) ≤ℤ (z *ℤ pos w)) (sym e) (subst (λ (r : ℤ). r ≤ℤ (z *ℤ pos w)) (sym (difference-times y (pos w) (pos v))) both.0),
-  subst (λ (r : ℤ). (z *ℤ pos w) ≤ℤ (r *ℤ pos v)) (sym g) (subst (λ (r : ℤ). (z *ℤ pos w) ≤ℤ r) (sym (sum-times y (pos w) (pos v))) both.1),
-)
-  where
-    close : (a b m : ℤ) → a <ℤ b → (b -ℤ a) ≤ℤ m → ((a -ℤ m) ≤ℤ b) × (b ≤ℤ (a +ℤ m)) × ((b -ℤ m) ≤ℤ a) × (a ≤ℤ (b +ℤ m))
-    close a b m l k = (omega (arith, ints), omega (arith, ints), omega (arith, ints), omega (arith, ints))
+-- so they are at most one apart
+apart : (n : ℕ) (y : ℤ) (w : ℕ) (z : ℤ) (v : ℕ) → IsJustAbove (n + 1) y w z v → (z *ℤ pos w) ≤ℤ (y *ℤ pos v +ℤ pos w *ℤ pos v)
+apart n y w z v j = let l = at-most n (z *ℤ pos w -ℤ y *ℤ pos v) (pos w *ℤ pos v) (let a = j.0 in omega (arith, ints)) j.1 in omega (arith, ints)
 
-    by : IsJustAbove (n + 1) y w z v ⊎ IsJustAbove (n + 1) z v y w → ((y *ℤ pos v -ℤ pos w *ℤ pos v) ≤ℤ (z *ℤ pos w)) × ((z *ℤ pos w) ≤ℤ (y *ℤ pos v +ℤ pos w *ℤ pos v))
-    by (inl (a, b)) = let c = close (y *ℤ pos v) (z *ℤ pos w) (pos w *ℤ pos v) a (at-most n (z *ℤ pos w -ℤ y *ℤ pos v) (pos w *ℤ pos v) (omega (arith, ints)) b) in (c.0, c.1)
-    by (inr (a, b)) =
-        let m : pos v *ℤ pos w ≡ pos w *ℤ pos v = ring (pos v ∷ pos w ∷ []) (at 0 ⊗ at 1) (at 1 ⊗ at 0) tt in
-        let l = at-most n (y *ℤ pos v -ℤ z *ℤ pos w) (pos v *ℤ pos w) (omega (arith, ints)) b in
-        let c = close (z *ℤ pos w) (y *ℤ pos v) (pos w *ℤ pos v) a (subst (λ (r : ℤ). (y *ℤ pos v -ℤ z *ℤ pos w) ≤ℤ r) m l) in (c.2, c.3)
-
-    both : ((y *ℤ pos v -ℤ pos w *ℤ pos v) ≤ℤ (z *ℤ pos w)) × ((z *ℤ pos w) ≤ℤ (y *ℤ pos v +ℤ pos w *ℤ pos v))
-    both = by j
-
--- a coordinate of a point of the frame
-pub reached-frame : (f t : ℤ) (w v : ℕ) (x : ℤ) → f ≡ neg_ℤ (pos half_side *ℤ pos w) → t ≡ pos half_side *ℤ pos w → nat_abs x ≤ half_side * v → IsReached f t (pos w) x v
-reached-frame f t w v x e g l =
-    let a = mul_nonneg (pos (half_side * v) -ℤ x) (pos w) (omega (arith, ints)) (omega (arith, ints)) in
-    let b = mul_nonneg (pos (half_side * v) +ℤ x) (pos w) (omega (arith, ints)) (omega (arith, ints)) in
-    let r : (pos (half_side * v) -ℤ x) *ℤ pos w ≡ pos half_side *ℤ pos w *ℤ pos v -ℤ x *ℤ pos w = ring (x ∷ pos v ∷ pos w ∷ []) ((num (pos half_side) ⊗ at 1 ⊖ at 0) ⊗ at 2) (num (pos half_side) ⊗ at 2 ⊗ at 1 ⊖ at 0 ⊗ at 2) tt in
-    let s : (pos (half_side * v) +ℤ x) *ℤ pos w ≡ pos half_side *ℤ pos w *ℤ pos v +ℤ x *ℤ pos w = ring (x ∷ pos v ∷ pos w ∷ []) ((num (pos half_side) ⊗ at 1 ⊕ at 0) ⊗ at 2) (num (pos half_side) ⊗ at 2 ⊗ at 1 ⊕ at 0 ⊗ at 2) tt in
-    let n : neg_ℤ (pos half_side *ℤ pos w) *ℤ pos v ≡ neg_ℤ (pos half_side *ℤ pos w *ℤ pos v) = ring (pos v ∷ pos w ∷ []) (neg (num (pos half_side) ⊗ at 1) ⊗ at 0) (neg (num (pos half_side) ⊗ at 1 ⊗ at 0)) tt in (
-      subst (λ (r : ℤ). (r *ℤ pos v) ≤ℤ (x *ℤ pos w)) (sym e) (subst (λ (r : ℤ). r ≤ℤ (x *ℤ pos w)) (sym n) (omega (arith, ints, s, b))),
-      subst (λ (r : ℤ). (x *ℤ pos w) ≤ℤ (r *ℤ pos v)) (sym g) (omega (arith, ints, r, a)),
+within-above : (n : ℕ) (c : Coordinate) (b r : Bounds) (p q : Place) → r.low ≡ b.low → r.high ≡ b.high +ℤ pos 1 → IsJustAbove (n + 1) (coordinate_of c p) p.w (coordinate_of c q) q.w → IsWithin c b.low b.high p → IsWithin c r.low r.high q
+within-above n c b r p q e f j i =
+    let k = apart n (coordinate_of c p) p.w (coordinate_of c q) q.w j in
+    let h = mul_le_right (coordinate_of c p) (b.high *ℤ pos p.w) (pos q.w) (some q) i.1 in
+    let s : (b.high +ℤ pos 1) *ℤ pos q.w *ℤ pos p.w ≡ b.high *ℤ pos p.w *ℤ pos q.w +ℤ pos p.w *ℤ pos q.w = ring (b.high ∷ pos p.w ∷ pos q.w ∷ []) ((at 0 ⊕ num (pos 1)) ⊗ at 2 ⊗ at 1) (at 0 ⊗ at 1 ⊗ at 2 ⊕ at 1 ⊗ at 2) tt in (
+      subst (λ (r : ℤ). (r *ℤ pos q.w) ≤ℤ coordinate_of c q) (sym e) (low-rises c b.low p q (let a = j.0 in omega (arith, ints)) i.0),
+      subst (λ (r : ℤ). coordinate_of c q ≤ℤ (r *ℤ pos q.w)) (sym f) (cancel_le (coordinate_of c q) ((b.high +ℤ pos 1) *ℤ pos q.w) (pos p.w) (weight p) (omega (arith, ints))),
     )
 
--- ---- the numbers of the program's points
-number : (r y : ℤ) → r ≡ y → nat_abs y < 2 ^ 63 → to_z w64 (of_z w64 r) ≡ y
-number r y e l = ap (λ (z : ℤ). to_z w64 (of_z w64 z)) e ∙ to_z-of_z w64 y (fits_signed_from_abs w64 y l)
-
-pub coordinate-is : (r y : ℤ) → r ≡ y → nat_abs y ≤ point_limit → to_z w64 (of_z w64 r) ≡ y
-coordinate-is r y e l = number r y e (omega (arith, l))
-
-pub weight-is : (p : Point) (r : ℤ) → r ≡ p.w → to_z w64 (of_z w64 r) ≡ pos (nat_abs p.w)
-weight-is p r e = number r p.w e (let l = p.w_small in omega (arith, l)) ∙ sym (pos_size p.w p.proper)
-
-pub positive : (p : Point) → pos 0 <ℤ pos (nat_abs p.w)
-positive p = subst (λ (r : ℤ). pos 0 <ℤ r) (sym (pos_size p.w p.proper)) p.proper
+within-below : (n : ℕ) (c : Coordinate) (b r : Bounds) (p q : Place) → r.low ≡ b.low -ℤ pos 1 → r.high ≡ b.high → IsJustAbove (n + 1) (coordinate_of c q) q.w (coordinate_of c p) p.w → IsWithin c b.low b.high p → IsWithin c r.low r.high q
+within-below n c b r p q e f j i =
+    let k = apart n (coordinate_of c q) q.w (coordinate_of c p) p.w j in
+    let l = mul_le_right (b.low *ℤ pos p.w) (coordinate_of c p) (pos q.w) (some q) i.0 in
+    let m : pos q.w *ℤ pos p.w ≡ pos p.w *ℤ pos q.w = ring (pos p.w ∷ pos q.w ∷ []) (at 1 ⊗ at 0) (at 0 ⊗ at 1) tt in
+    let s : (b.low -ℤ pos 1) *ℤ pos q.w *ℤ pos p.w ≡ b.low *ℤ pos p.w *ℤ pos q.w -ℤ pos p.w *ℤ pos q.w = ring (b.low ∷ pos p.w ∷ pos q.w ∷ []) ((at 0 ⊖ num (pos 1)) ⊗ at 2 ⊗ at 1) (at 0 ⊗ at 1 ⊗ at 2 ⊖ at 1 ⊗ at 2) tt in (
+      subst (λ (r : ℤ). (r *ℤ pos q.w) ≤ℤ coordinate_of c q) (sym e) (cancel_le ((b.low -ℤ pos 1) *ℤ pos q.w) (coordinate_of c q) (pos p.w) (weight p) (omega (arith, ints))),
+      subst (λ (r : ℤ). coordinate_of c q ≤ℤ (r *ℤ pos q.w)) (sym f) (high-falls c b.high p q (let a = j.0 in omega (arith, ints)) i.1),
+    )
 
 -- ---- along upright directions
-pub ray-close : (p q : Place) (d : Vector) → IsUpright d → InClosedFrame p → InClosedFrame q → IsAhead p d q
-    → (IsJustAbove 2 p.y p.w q.y q.w ⊎ IsJustAbove 2 q.y q.w p.y p.w) × (IsJustAbove (2 ^ 14) p.z p.w q.z q.w ⊎ IsJustAbove (2 ^ 14) q.z q.w p.z p.w)
-ray-close p q d (inl e) i j a = let c = (stays-close p q i j).0 (subst (λ (v : Vector). IsAhead p v q) e a) in (inl c.0, inl c.1)
-ray-close p q d (inr e) i j a = let c = (stays-close p q i j).1 (subst (λ (v : Vector). IsAhead p v q) e a) in (inr c.0, inr c.1)
+-- x rises 2^26 times as much as z
+x-rises : (p q : Place) → IsAhead p up q → IsCloseAbove p q → (p.x *ℤ pos q.w) ≤ℤ (q.x *ℤ pos p.w)
+x-rises p q a k = let z = k.1.0 in by (q.x *ℤ pos p.w) (p.x *ℤ pos q.w) (q.z *ℤ pos p.w) (p.z *ℤ pos q.w) a.parallel.1 z
+  where
+    by : (x u z t : ℤ) → (z -ℤ t) *ℤ pos 67108864 -ℤ (x -ℤ u) *ℤ pos 1 ≡ pos 0 → t <ℤ z → u ≤ℤ x
+    by x u z t e l = omega (arith, ints)
+
+pub in-window_up : (s t : Span) (p q : Place) → t.x.low ≡ s.x.low → t.x.high ≡ pos half_side → t.y.low ≡ s.y.low → t.y.high ≡ s.y.high +ℤ pos 1 → t.z.low ≡ s.z.low → t.z.high ≡ s.z.high +ℤ pos 1
+    → InClosedFrame p → InClosedFrame q → IsAhead p up q → IsInSpan s p → IsInSpan t q
+in-window_up s t p q a b c d e f i j w n =
+    let k = (stays-close p q i j).0 w in (
+      (subst (λ (r : ℤ). (r *ℤ pos q.w) ≤ℤ q.x) (sym a) (low-rises coordinate_x s.x.low p q (x-rises p q w k) n.0.0), at-most-side coordinate_x t.x.high q b j.along_x),
+      within-above 1 coordinate_y s.y t.y p q c d k.0 n.1,
+      within-above 16383 coordinate_z s.z t.z p q e f k.1 n.2,
+    )
+
+pub in-window_down : (s t : Span) (p q : Place) → t.x.low ≡ neg_ℤ (pos half_side) → t.x.high ≡ s.x.high → t.y.low ≡ s.y.low -ℤ pos 1 → t.y.high ≡ s.y.high → t.z.low ≡ s.z.low -ℤ pos 1 → t.z.high ≡ s.z.high
+    → InClosedFrame p → InClosedFrame q → IsAhead p (opposite up) q → IsInSpan s p → IsInSpan t q
+in-window_down s t p q a b c d e f i j w n =
+    let k = (stays-close p q i j).1 w in (
+      (at-least-side coordinate_x t.x.low q a j.along_x, subst (λ (r : ℤ). q.x ≤ℤ (r *ℤ pos q.w)) (sym b) (high-falls coordinate_x s.x.high p q (x-rises q p (ahead-back p q (opposite up) w) k) n.0.1)),
+      within-below 1 coordinate_y s.y t.y p q c d k.0 n.1,
+      within-below 16383 coordinate_z s.z t.z p q e f k.1 n.2,
+    )
+
+pub points-up : (d : Vector) → IsUpright d → pos 0 <ℤ d.x → d ≡ up
+points-up d (inl e) l = e
+points-up d (inr e) l = let f : d.x ≡ neg_ℤ (pos 67108864) = ap (λ (v : Vector). v.x) e in absurd (omega (arith, ints))
+
+pub up-positive : (d : Vector) → d ≡ up → pos 0 <ℤ d.x
+up-positive d e = let f : d.x ≡ pos 67108864 = ap (λ (v : Vector). v.x) e in omega (arith, ints)
+
+pub points-down : (d : Vector) → IsUpright d → (d ≡ up → ⊥) → d ≡ opposite up
+points-down d (inl e) n = absurd (n e)
+points-down d (inr e) n = e
 
 -- ---- what a plane holds of the skeleton lies within its span
 module _ (s : Set) (c : Complex) (S : ShowsSet s c) (h : Form) (span : Span) (B : IsSpanOn c.vertices h span) where
@@ -139,3 +163,12 @@ module _ (s : Set) (c : Complex) (S : ShowsSet s c) (h : Form) (span : Span) (B 
 
   pub spanned : (y : Place) → form_at h y ≡ pos 0 → IsSkeletonIn s (complex_of c) h y → IsInSpan span y
   spanned y on i = (spanned-along coordinate_x span.x (λ p j. j.0) y on i, spanned-along coordinate_y span.y (λ p j. j.1) y on i, spanned-along coordinate_z span.z (λ p j. j.2) y on i)
+
+-- and what a carrier holds of it within the carrier's span
+pub carrier-spanned : (s : Set) (c : Complex) → ShowsSet s c → (spans : List Span) → AreSpans c.carriers c.vertices spans → (k : ℕ) (h : Plane) (span : Span) → At c.carriers k h → IsAt spans k span
+    → (y : Place) → form_at (form_of h) y ≡ pos 0 → IsSkeletonIn s (complex_of c) (form_of h) y → IsInSpan span y
+carrier-spanned s c S spans A k h span a b = spanned s c S (form_of h) span (A.each k h span (get-from_at c.carriers k h a) b)
+
+-- the point is none of what the carriers in the group hold of the skeleton
+abbrev pub HasNotIn : Complex → Place → Group → Type 0
+HasNotIn c y g = (j k : ℕ) → IsAt g.carriers j k → HasNotAtCarrier c y k

@@ -2,5 +2,3 @@ pub mod Places
 pub mod Rays
 pub mod Ends
 pub mod Facets
-pub mod Windows
-pub mod Upright

@@ -1,22 +1,22 @@
 -- What a ray meets of the skeleton, carrier by carrier.
-use Rattle.std.specs.Prelude.{◌≡◌, ℕ, ◌⊎◌, Option, Some, None}
-use Rattle.nef_space.specs.Place.{Place as PlainPlace, Form, SamePlace, IsAhead, IsBetween}
+use Rattle.std.specs.Prelude.{◌≡◌, ℕ, pos, ◌⊎◌, Option, Some, None}
+use Rattle.nef_space.specs.Lists.{IsAt}
+use Rattle.nef_space.specs.Place.{Place as PlainPlace, Form, form_at, SamePlace, IsAhead, IsBetween}
 use Rattle.nef_space.specs.Sets.{Set}
 use Rattle.nef_space.specs.Vectors.{Vector}
 use Rattle.nef_space.specs.declared.label.Label.{Label}
-use Rattle.nef_geo.specs.Hits.{IsReached}
-use Rattle.nef_geo.specs.Shapes.{hit_place, place_of}
+use Rattle.nef_geo.specs.Hits.{IsReached, IsCrossing}
+use Rattle.nef_geo.specs.Shapes.{form_of, hit_place, place_of}
 use Rattle.nef_geo.specs.declared.hit.Hit.{Hit}
+use Rattle.nef_geo.specs.declared.plane.Plane.{Plane}
 use Rattle.nef_geo.specs.declared.point.Point.{Point}
 use Rattle.law_sphere.specs.Maps.{Side}
 use Rattle.law_complex.specs.Complexes.{Complex}
 use Rattle.law_complex.specs.Laws.{IsFlatIn}
 use Rattle.law_complex.specs.Rays.{IsAbove}
-use Rattle.law_complex.specs.Skeleton.{Spot, IsSpot, IsOnEdges, IsSkeletonPoint, PlaneMeet as PlainMeet, Meets}
+use Rattle.law_complex.specs.Skeleton.{Spot, IsSpot, IsSkeletonPoint, PlaneMeet, Meets}
 use Rattle.nef_complex.specs.declared.complex.Complex.{Complex as ProgramComplex}
-use Rattle.nef_complex.specs.declared.complex.PlaneMeet.{PlaneMeet}
-use Rattle.nef_complex.specs.declared.complex.PlaneMeet.TheVariants.{AtVertex, AtEdge}
-use Rattle.nef_complex.specs.Complexes.{AreBelow, AreAbove}
+use Rattle.nef_complex.specs.Complexes.{complex_of, ShowsSet, AreBelow, AreAbove}
 use Rattle.nef_locate.specs.declared.place.Place.{Place}
 use Rattle.nef_locate.specs.declared.place.Place.TheVariants as place
 use Rattle.nef_locate.specs.declared.ray.Met.{Met}
@@ -30,12 +30,7 @@ pub record IsSkeletonAt (C : Complex) (y : PlainPlace) (a : Place) : Type 0 wher
 
 -- y is a vertex, or lies on an edge in the plane, or in a facet of the plane
 abbrev pub IsSkeletonIn : Set → Complex → Form → PlainPlace → Type 0
-IsSkeletonIn s C h y = ((m : PlainMeet) × Meets C h m y) ⊎ IsFlatIn s h y
-
--- the place at the vertex or on the edge
-abbrev pub place_of_meet : PlaneMeet → Place
-place_of_meet (AtVertex k) = place.Vertex k
-place_of_meet (AtEdge k) = place.OnEdge k
+IsSkeletonIn s C h y = ((m : PlaneMeet) × Meets C h m y) ⊎ IsFlatIn s h y
 
 -- the hit stands at its step along the ray
 abbrev pub IsReachedMet : PlainPlace → Vector → Met → Type 0
@@ -52,9 +47,21 @@ abbrev pub IsNotBefore : PlainPlace → PlainPlace → Option Met → Type 0
 IsNotBefore p y None = ⊥
 IsNotBefore p y (Some m) = IsBetween p y (hit_place m.at) → ⊥
 
--- no vertex and no edge lies before what is met; where nothing is met, none lies ahead
-abbrev pub HasNoneBefore : Complex → PlainPlace → Vector → Option Met → Type 0
-HasNoneBefore C p d best = (y : PlainPlace) → IsAhead p d y → IsOnEdges C y → IsNotBefore p y best
+-- nothing that the plane holds of the skeleton lies before what is met
+abbrev pub HasNoneOn : ProgramComplex → PlainPlace → Vector → Option Met → Plane → Type 0
+HasNoneOn c p d best h = (s : Set) (y : PlainPlace) → ShowsSet s c → IsCrossing p d (form_of h) y → IsSkeletonIn s (complex_of c) (form_of h) y → IsNotBefore p y best
+
+-- nor what the carrier with this number holds
+abbrev pub HasNoneOnCarrier : ProgramComplex → PlainPlace → Vector → Option Met → ℕ → Type 0
+HasNoneOnCarrier c p d best k = (h : Plane) → IsAt c.carriers k h → HasNoneOn c p d best h
+
+-- the point isn't one of the plane's, or is none of the skeleton there
+abbrev pub HasNotAt : ProgramComplex → PlainPlace → Plane → Type 0
+HasNotAt c y h = (s : Set) → ShowsSet s c → form_at (form_of h) y ≡ pos 0 → IsSkeletonIn s (complex_of c) (form_of h) y → ⊥
+
+-- the same of the carrier with this number
+abbrev pub HasNotAtCarrier : ProgramComplex → PlainPlace → ℕ → Type 0
+HasNotAtCarrier c y k = (h : Plane) → IsAt c.carriers k h → HasNotAt c y h
 
 -- the hit lies before what is met, if something is
 abbrev pub IsSooner : Vector → Hit → Option Met → Type 0

@@ -12,9 +12,9 @@ ghost use Rattle.nef_locate.specs.Places.{IsPlaceIn, IsPlaceAt, IsEndStar};
 use crate::OutOfMemory;
 use nef_complex::Complex;
 use nef_geo::List;
-use nef_smap::{RawStars, SphereMap, star_at};
+use nef_smap::{RawStars, SPlace, SphereMap, star_in};
 use nef_spair::build;
-use nef_star::Star;
+use nef_star::{Star, mirrored};
 use std::alloc::Global;
 
 // The star of a svertex of a map.
@@ -23,7 +23,8 @@ fn end_star(alloc: Global, map: &SphereMap, svertex: usize) -> Result<Star, OutO
     requires within { svertex < length map.now.svertices }
     ensures star { IfOk result (λ t. IsEndStar map.now svertex t) }
 {
-    star_at(alloc, map, &map.svertices.at(svertex).dir)
+    let axis = &map.svertices.at(svertex).dir;
+    star_in(alloc, map, axis, SPlace::SVertex(svertex))
 }
 
 // The least map of the set at the points strictly inside the edge with this number.
@@ -35,7 +36,8 @@ pub(crate) fn edge_map(alloc: Global, c: &Complex, number: usize) -> Result<Sphe
 {
     let edge = *c.edges.at(number);
     let low = end_star(alloc, &c.vertices.at(edge.low).map, edge.low_svertex)?;
-    let high = end_star(alloc, &c.vertices.at(edge.high).map, edge.high_svertex)?;
+    // the labels don't change along the edge, so its other direction has the same half great circles
+    let high = mirrored(alloc, &low)?;
     let mut stars = Vec::with_capacity(alloc, 2)?;
     stars.push(high)?;
     stars.push(low)?;

@@ -15,7 +15,7 @@ mod place;
 mod plane;
 mod point;
 mod ray;
-mod upright;
+mod spot;
 mod window;
 
 pub use above::side_above;

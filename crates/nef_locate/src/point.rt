@@ -12,18 +12,20 @@ ghost use Rattle.nef_geo.specs.Widths.{upright_limit, upright_weight_limit};
 ghost use Rattle.law_complex.specs.Skeleton.{IsEdgePoint, IsSkeletonPoint};
 ghost use Rattle.nef_complex.specs.Complexes.{complex_of, ShowsSet, AreBelow, AreAbove};
 ghost use Rattle.nef_complex.specs.Index.{AreWithin};
+ghost use Rattle.nef_complex.specs.Spans.{IsInSpan};
 ghost use Rattle.nef_locate.specs.Places.{IsPlaceIn, IsPlaceAt, place_dimension};
-ghost use Rattle.nef_locate.specs.Rays.{IsSkeletonAt, IsSkeletonIn, PartsVertices};
-ghost use Rattle.nef_locate.specs.Windows.{IsInWindow};
+ghost use Rattle.nef_locate.specs.Rays.{IsSkeletonAt, IsSkeletonIn, HasNotAtCarrier, PartsVertices};
 
 use crate::above::side_above;
-use crate::facet::in_facet;
 use crate::place::Place;
 use crate::ray::first_hit;
-use crate::window::{Window, may_hold, point_window};
-use nef_complex::{Complex, Edge, carrier_items, carrier_span, find_vertex};
+use crate::spot::facet_spot;
+use crate::window::may_hold;
+use nef_complex::{
+    Complex, Edge, Group, Span, carrier_groups, carrier_items, carrier_spans, find_vertex,
+};
 use nef_geo::{Hit, Plane, Point, Sign, hit_at, hit_side, up};
-use nef_plane::is_on_edge;
+use nef_plane::is_in_line;
 
 // Whether the first vertices, so many of them, have the lower end of the edge among them and not the upper one.
 fn is_parted(edge: &Edge, before: usize) -> bool
@@ -32,15 +34,15 @@ fn is_parted(edge: &Edge, before: usize) -> bool
     edge.low < before && before <= edge.high
 }
 
-// Whether the hit, a point before which so many vertices come, lies on the edge with this number. It lies on none but
-// between whose ends it comes in the order of vertices, which their numbers tell.
+// Whether the hit, a point before which so many vertices come, lies on the edge with this number: it lies on the edge's
+// line, and comes between the ends in the order of vertices, which their numbers tell.
 fn is_on(c: &Complex, number: usize, before: usize, hit: &Hit) -> bool
     requires shows { (s : Set) × ShowsSet s c.now }
     requires within { number < length c.now.edges }
     requires parts { PartsVertices c.now hit.now before }
     ensures on { IsTrue result ↔ IsEdgePoint (complex_of c.now) number (hit_place hit.now) }
 {
-    is_parted(c.edges.at(number), before) && is_on_edge(c, number, hit)
+    is_parted(c.edges.at(number), before) && is_in_line(c, number, hit)
 }
 
 // Of the edges with these numbers that on which the hit lies, a point before which so many vertices come.
@@ -73,38 +75,68 @@ fn spot_on(c: &Complex, number: usize, h: &Plane, before: usize, q: &Hit) -> Opt
     if let Some(edge) = edge_among(c, carrier_items(c, number).edges, before, q) {
         return Some(Place::OnEdge(edge));
     }
-    match in_facet(c, h, q) {
-        Some(corner) => Some(Place::InFacet(corner)),
-        None => None,
-    }
+    facet_spot(c, h, q)
 }
 
-// The same of any point that lies within the window. What the carrier holds of the skeleton lies within the carrier's span.
-fn spot_in(
-    c: &Complex,
-    number: usize,
-    h: &Plane,
-    before: usize,
-    q: &Hit,
-    window: &Window,
-) -> Option<Place>
+// The same of any point.
+fn spot_in(c: &Complex, number: usize, h: &Plane, before: usize, q: &Hit) -> Option<Place>
     requires shows { (s : Set) × ShowsSet s c.now }
     requires number { IsAt c.now.carriers number h.now }
-    requires window { IsInWindow window.now (hit_place q.now) }
     requires framed { InClosedFrame (hit_place q.now) }
     requires parts { PartsVertices c.now q.now before }
     requires numbers { IsPlaceAtMost upright_limit upright_weight_limit (hit_place q.now) }
     ensures at { IfSome result (IsSkeletonAt (complex_of c.now) (hit_place q.now)) }
     ensures none { IsNone result → (s : Set) → ShowsSet s c.now → form_at (form_of h.now) (hit_place q.now) ≡ pos 0 → IsSkeletonIn s (complex_of c.now) (form_of h.now) (hit_place q.now) → ⊥ }
 {
-    if !may_hold(carrier_span(c, number), window) {
-        return None;
-    }
     if hit_side(h, q) == Sign::Zero {
         spot_on(c, number, h, before, q)
     } else {
         None
     }
+}
+
+// The same of any point within the window. What a carrier holds of the skeleton lies within the carrier's span.
+fn spot_in_window(
+    c: &Complex,
+    number: usize,
+    before: usize,
+    q: &Hit,
+    window: &Span,
+) -> Option<Place>
+    requires shows { (s : Set) × ShowsSet s c.now }
+    requires number { number < length c.now.carriers }
+    requires framed { InClosedFrame (hit_place q.now) }
+    requires parts { PartsVertices c.now q.now before }
+    requires numbers { IsPlaceAtMost upright_limit upright_weight_limit (hit_place q.now) }
+    requires window { IsInSpan window.now (hit_place q.now) }
+    ensures at { IfSome result (IsSkeletonAt (complex_of c.now) (hit_place q.now)) }
+    ensures none { IsNone result → HasNotAtCarrier c.now (hit_place q.now) number }
+{
+    let span = &carrier_spans(c)[number];
+    if may_hold(span, window) {
+        spot_in(c, number, c.carriers.at(number), before, q)
+    } else {
+        None
+    }
+}
+
+// The same of all carriers in the group.
+fn spot_in_group(c: &Complex, group: &Group, before: usize, q: &Hit, window: &Span) -> Option<Place>
+    requires shows { (s : Set) × ShowsSet s c.now }
+    requires within { AreWithin c.now.carriers group.now.carriers }
+    requires framed { InClosedFrame (hit_place q.now) }
+    requires parts { PartsVertices c.now q.now before }
+    requires numbers { IsPlaceAtMost upright_limit upright_weight_limit (hit_place q.now) }
+    requires window { IsInSpan window.now (hit_place q.now) }
+    ensures at { IfSome result (IsSkeletonAt (complex_of c.now) (hit_place q.now)) }
+    ensures none { IsNone result → (j k : ℕ) → IsAt group.now.carriers j k → HasNotAtCarrier c.now (hit_place q.now) k }
+{
+    for number in group.carriers.as_slice() {
+        if let Some(spot) = spot_in_window(c, *number, before, q, window) {
+            return Some(spot);
+        }
+    }
+    None
 }
 
 // Where a point of the skeleton lies that is no vertex. So many vertices come before it, and the others after it.
@@ -117,9 +149,12 @@ fn off_vertices(c: &Complex, p: &Point, before: usize) -> Option<Place>
     ensures none { IsNone result → IsSkeletonPoint (complex_of c.now) (place_of p.now) → ⊥ }
 {
     let hit = hit_at(p);
-    let window = point_window(p);
-    for number in 0..c.carriers.len() {
-        if let Some(spot) = spot_in(c, number, c.carriers.at(number), before, &hit, &window) {
+    let window = Span::of(p);
+    let groups = carrier_groups(c);
+    for group in groups {
+        if may_hold(&group.span, &window)
+            && let Some(spot) = spot_in_group(c, group, before, &hit, &window)
+        {
             return Some(spot);
         }
     }

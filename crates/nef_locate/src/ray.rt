@@ -1,25 +1,23 @@
 //! What a ray up or down first meets.
 
-ghost use Rattle.std.specs.Prelude.{◌≡◌, ◌⊎◌, ◌↔◌, IsTrue, IsNone, IfSome};
+ghost use Rattle.std.specs.Prelude.{◌≡◌, ℕ, ◌<◌, length, ◌⊎◌, ◌↔◌, IsTrue, IsNone, IfSome};
 ghost use Rattle.nef_space.specs.Lists.{IsAt};
 ghost use Rattle.nef_space.specs.Place.{Place as PlainPlace, InClosedFrame, IsAhead};
 ghost use Rattle.nef_space.specs.Sets.{Set};
 ghost use Rattle.nef_space.specs.Vectors.{Vector, IsDirection, opposite, up};
-ghost use Rattle.nef_geo.specs.Hits.{IsUpright, IsCrossing, IsReached};
+ghost use Rattle.nef_geo.specs.Hits.{IsUpright, IsReached};
 ghost use Rattle.nef_geo.specs.Shapes.{form_of, vector_of, place_of, hit_place};
-ghost use Rattle.law_complex.specs.Laws.{IsFlatIn};
 ghost use Rattle.law_complex.specs.Skeleton.{IsSkeletonPoint};
 ghost use Rattle.nef_complex.specs.Complexes.{complex_of, ShowsSet};
+ghost use Rattle.nef_complex.specs.Index.{AreWithin, IsSpanOn};
+ghost use Rattle.nef_complex.specs.Spans.{IsInSpan};
 ghost use Rattle.nef_locate.specs.Places.{IsPlaceIn, IsFirstHit};
-ghost use Rattle.nef_locate.specs.Windows.{IsInWindow};
-ghost use Rattle.nef_locate.specs.Rays.{IsMet, IsReachedMet, IsSooner, IsNotBefore, HasNoneBefore, place_of_meet};
+ghost use Rattle.nef_locate.specs.Rays.{IsMet, IsReachedMet, IsSooner, IsNotBefore, HasNoneOn, HasNoneOnCarrier};
 
-use crate::facet::in_facet;
-use crate::hit::is_framed;
 use crate::place::Place;
-use crate::upright::first_on_edges;
-use crate::window::{Window, may_hold, ray_window};
-use nef_complex::{Complex, PlaneMeet, carrier_span};
+use crate::spot::spot_within;
+use crate::window::{may_hold, ray_window};
+use nef_complex::{Complex, Group, Span, carrier_groups, carrier_spans};
 use nef_geo::{Dir, Hit, Plane, Point, hit_order, ray_hit};
 use std::cmp::Ordering;
 
@@ -44,76 +42,92 @@ fn is_sooner(hit: &Hit, best: &Option<Met>) -> bool
     }
 }
 
-// The place at the vertex or on the edge.
-fn met_place(meet: PlaneMeet) -> Place
-    ensures place { result ≡ place_of_meet meet }
-{
-    match meet {
-        PlaneMeet::AtVertex(number) => Place::Vertex(number),
-        PlaneMeet::AtEdge(number) => Place::OnEdge(number),
-    }
-}
-
-// The vertex or the edge that the ray first meets. All points of the frame ahead lie within the window.
-fn met_on_edges(c: &Complex, p: &Point, d: &Dir, window: &Window) -> Option<Met>
-    requires shows { (s : Set) × ShowsSet s c.now }
-    requires window { (q : PlainPlace) → InClosedFrame q → IsAhead (place_of p.now) (vector_of d.now) q → IsInWindow window.now q }
-    requires upright { IsUpright (vector_of d.now) }
-    ensures met { IfSome result (IsMet (complex_of c.now) (place_of p.now) (vector_of d.now)) }
-    ensures edges { HasNoneBefore (complex_of c.now) (place_of p.now) (vector_of d.now) result }
-{
-    let first = first_on_edges(c, p, d, window)?;
-    Some(Met {
-        place: met_place(first.meet),
-        at: first.at,
-    })
-}
-
-// What the ray meets first of what it met before, which is `best`, and of the facets in the carrier with this number. It
-// meets no vertex and no edge before `best`. All points of the frame ahead lie within the window.
+// What the ray meets first of what it met before, which is `best`, and of what the carrier with this number holds of the
+// skeleton. The vertices on the carrier lie within the span.
 fn nearer(
     c: &Complex,
     number: usize,
     h: &Plane,
+    span: &Span,
     p: &Point,
     d: &Dir,
-    window: &Window,
     best: Option<Met>,
 ) -> Option<Met>
     requires shows { (s : Set) × ShowsSet s c.now }
     requires number { IsAt c.now.carriers number h.now }
-    requires window { (q : PlainPlace) → InClosedFrame q → IsAhead (place_of p.now) (vector_of d.now) q → IsInWindow window.now q }
+    requires span { IsSpanOn c.now.vertices (form_of h.now) span.now }
     requires upright { IsUpright (vector_of d.now) }
     requires best { IfSome best (IsMet (complex_of c.now) (place_of p.now) (vector_of d.now)) }
-    requires edges { HasNoneBefore (complex_of c.now) (place_of p.now) (vector_of d.now) best }
     ensures met { IfSome result (IsMet (complex_of c.now) (place_of p.now) (vector_of d.now)) }
     ensures kept { (y : PlainPlace) → IsNotBefore (place_of p.now) y best → IsNotBefore (place_of p.now) y result }
-    ensures plane { (s : Set) (y : PlainPlace) → ShowsSet s c.now → IsCrossing (place_of p.now) (vector_of d.now) (form_of h.now) y → IsFlatIn s (form_of h.now) y → IsNotBefore (place_of p.now) y result }
+    ensures plane { HasNoneOn c.now (place_of p.now) (vector_of d.now) result h.now }
 {
-    if !may_hold(carrier_span(c, number), window) {
-        return best;
-    }
     let Some(hit) = ray_hit(p, d, h) else {
         return best;
     };
     if !is_sooner(&hit, &best) {
         return best;
     }
-    if !is_framed(&hit) {
-        return best;
-    }
-    match in_facet(c, h, &hit) {
-        Some(corner) => Some(Met {
-            place: Place::InFacet(corner),
-            at: hit,
-        }),
+    match spot_within(c, number, h, span, &hit) {
+        Some(place) => Some(Met { place, at: hit }),
         None => best,
     }
 }
 
+// The same, where all points of the frame ahead lie within the window.
+fn nearer_within(
+    c: &Complex,
+    number: usize,
+    p: &Point,
+    d: &Dir,
+    window: &Span,
+    best: Option<Met>,
+) -> Option<Met>
+    requires shows { (s : Set) × ShowsSet s c.now }
+    requires number { number < length c.now.carriers }
+    requires upright { IsUpright (vector_of d.now) }
+    requires window { (q : PlainPlace) → InClosedFrame q → IsAhead (place_of p.now) (vector_of d.now) q → IsInSpan window.now q }
+    requires best { IfSome best (IsMet (complex_of c.now) (place_of p.now) (vector_of d.now)) }
+    ensures met { IfSome result (IsMet (complex_of c.now) (place_of p.now) (vector_of d.now)) }
+    ensures kept { (y : PlainPlace) → IsNotBefore (place_of p.now) y best → IsNotBefore (place_of p.now) y result }
+    ensures carrier { HasNoneOnCarrier c.now (place_of p.now) (vector_of d.now) result number }
+{
+    let span = &carrier_spans(c)[number];
+    if may_hold(span, window) {
+        nearer(c, number, c.carriers.at(number), span, p, d, best)
+    } else {
+        best
+    }
+}
+
+// What the ray meets first of what it met before and of what the carriers of the group hold of the skeleton.
+fn nearer_in_group(
+    c: &Complex,
+    group: &Group,
+    p: &Point,
+    d: &Dir,
+    window: &Span,
+    before: Option<Met>,
+) -> Option<Met>
+    requires shows { (s : Set) × ShowsSet s c.now }
+    requires within { AreWithin c.now.carriers group.now.carriers }
+    requires upright { IsUpright (vector_of d.now) }
+    requires window { (q : PlainPlace) → InClosedFrame q → IsAhead (place_of p.now) (vector_of d.now) q → IsInSpan window.now q }
+    requires before { IfSome before (IsMet (complex_of c.now) (place_of p.now) (vector_of d.now)) }
+    ensures met { IfSome result (IsMet (complex_of c.now) (place_of p.now) (vector_of d.now)) }
+    ensures kept { (y : PlainPlace) → IsNotBefore (place_of p.now) y before → IsNotBefore (place_of p.now) y result }
+    ensures carriers { (j k : ℕ) → IsAt group.now.carriers j k → HasNoneOnCarrier c.now (place_of p.now) (vector_of d.now) result k }
+{
+    let mut best = before;
+    for number in group.carriers.as_slice() {
+        best = nearer_within(c, *number, p, d, window, best);
+    }
+    best
+}
+
 /// The first skeleton point that the ray from `p` meets strictly ahead, along the upward direction or the downward one.
 /// `None` comes exactly where the ray meets none. No plane is parallel to these directions, so the ray hits each carrier at
-/// one point at most; what it meets off the vertices and edges lies in a facet of a carrier.
+/// one point at most; and each skeleton point lies on a carrier, as a vertex, in an edge in it, or in a facet of it.
 pub fn first_hit(c: &Complex, p: &Point, d: &Dir) -> Option<Place>
     requires shows { (s : Set) × ShowsSet s c.now }
     requires framed { InClosedFrame (place_of p.now) }
@@ -122,10 +136,13 @@ pub fn first_hit(c: &Complex, p: &Point, d: &Dir) -> Option<Place>
     ensures some { IfSome result (λ a. IsFirstHit (complex_of c.now) (place_of p.now) (vector_of d.now) a) }
     ensures none { IsNone result → (q : PlainPlace) → IsAhead (place_of p.now) (vector_of d.now) q → IsSkeletonPoint (complex_of c.now) q → ⊥ }
 {
-    let window = ray_window(p);
-    let mut best = met_on_edges(c, p, d, &window);
-    for number in 0..c.carriers.len() {
-        best = nearer(c, number, c.carriers.at(number), p, d, &window, best);
+    let window = ray_window(p, d);
+    let groups = carrier_groups(c);
+    let mut best = None;
+    for group in groups {
+        if may_hold(&group.span, &window) {
+            best = nearer_in_group(c, group, p, d, &window, best);
+        }
     }
     match best {
         Some(met) => Some(met.place),

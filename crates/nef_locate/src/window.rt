@@ -1,124 +1,125 @@
-//! Where a point lies, and where a ray up or down can lead within the frame; what lies elsewhere is passed over.
+//! Where a ray up or down can lead within the frame; what lies elsewhere is passed over.
 
-ghost use Rattle.std.specs.Prelude.{◌≡◌, ◌≤◌, pos, neg_ℤ, ◌+ℤ◌, ◌-ℤ◌, ◌*ℤ◌, ◌<ℤ◌, ◌≤ℤ◌, nat_abs, ◌↔◌, IsTrue};
-ghost use Rattle.nef_space.specs.Limits.{half_side, point_limit, weight_limit};
-ghost use Rattle.nef_space.specs.Place.{Place, SamePlace, InClosedFrame, IsAhead};
+ghost use Rattle.std.specs.Prelude.{◌≡◌, pos, neg_ℤ, ◌+ℤ◌, ◌-ℤ◌, ◌≤ℤ◌, ◌↔◌, IsTrue};
+ghost use Rattle.nef_space.specs.Limits.{half_side};
+ghost use Rattle.nef_space.specs.Place.{Place, InClosedFrame, IsAhead};
 ghost use Rattle.nef_geo.specs.Hits.{IsUpright};
-ghost use Rattle.nef_geo.specs.Shapes.{place_of};
-ghost use Rattle.nef_space.specs.Vectors.{Vector};
-ghost use Rattle.nef_complex.specs.Spans.{IsInSpan};
-ghost use Rattle.nef_locate.specs.Windows.{IsInWindow};
+ghost use Rattle.nef_geo.specs.Shapes.{place_of, vector_of};
+ghost use Rattle.nef_space.specs.Vectors.{up, opposite};
+ghost use Rattle.nef_complex.specs.Spans.{IsInSpan, AreSmall};
 
 use nef_complex::{Bounds, Span};
-use nef_geo::{HALF_SIDE, Point};
+use nef_geo::{Dir, HALF_SIDE, Point};
 
-// Bounds of a coordinate, times the window's w.
-#[derive(Debug, Clone, Copy)]
-pub(crate) struct Reach {
-    from: i64,
-    to: i64,
-}
-
-// Bounds of the coordinates of points, all times w.
-#[derive(Debug, Clone, Copy)]
-pub(crate) struct Window {
-    w: i64,
-    x: Reach,
-    y: Reach,
-    z: Reach,
-}
-
-fn product(a: i64, w: i64) -> i128
-    ensures product { result ≡ a *ℤ w }
+// Whether some number lies within both.
+fn overlap(bounds: &Bounds, others: &Bounds) -> bool
+    ensures overlap { IsTrue result ↔ ((bounds.now.low ≤ℤ others.now.high) × (others.now.low ≤ℤ bounds.now.high)) }
 {
-    a as i128 * w as i128
-}
-
-fn is_at_most(a: i64, w: i64, to: i64) -> bool
-    ensures most { IsTrue result ↔ ((a *ℤ w) ≤ℤ to) }
-{
-    product(a, w) <= to as i128
-}
-
-fn is_at_least(a: i64, w: i64, from: i64) -> bool
-    ensures least { IsTrue result ↔ (from ≤ℤ (a *ℤ w)) }
-{
-    product(a, w) >= from as i128
-}
-
-// Whether some number lies within the bounds and the reach, which is one of a window with this w.
-fn overlap(bounds: &Bounds, reach: &Reach, w: i64) -> bool
-    ensures overlap { ((bounds.now.low *ℤ w) ≤ℤ reach.now.to) → (reach.now.from ≤ℤ (bounds.now.high *ℤ w)) → IsTrue result }
-{
-    is_at_most(bounds.low, w, reach.to) && is_at_least(bounds.high, w, reach.from)
+    bounds.low <= others.high && others.low <= bounds.high
 }
 
 /// Whether the span and the window may have a point in common.
-pub(crate) fn may_hold(span: &Span, window: &Window) -> bool
-    ensures holds { (q : Place) → IsInSpan span.now q → IsInWindow window.now q → IsTrue result }
+pub(crate) fn may_hold(span: &Span, window: &Span) -> bool
+    ensures holds { (q : Place) → IsInSpan span.now q → IsInSpan window.now q → IsTrue result }
 {
-    if !overlap(&span.z, &window.z, window.w) {
+    if !overlap(&span.z, &window.z) {
         return false;
     }
-    if !overlap(&span.y, &window.y, window.w) {
+    if !overlap(&span.y, &window.y) {
         return false;
     }
-    overlap(&span.x, &window.x, window.w)
+    overlap(&span.x, &window.x)
 }
 
-// The number alone.
-fn reach_at(y: i64) -> Reach
-    ensures from { result.from ≡ y }
-    ensures to { result.to ≡ y }
+// The bounds of what lies at most one above the numbers within these.
+fn above(bounds: &Bounds) -> Bounds
+    requires small { AreSmall bounds.now }
+    ensures low { result.low ≡ bounds.now.low }
+    ensures high { result.high ≡ bounds.now.high +ℤ pos 1 }
 {
-    Reach { from: y, to: y }
-}
-
-// The numbers from y/w less one to y/w and one.
-fn reach_around(y: i64, w: i64) -> Reach
-    requires small { nat_abs y ≤ point_limit }
-    requires weight { nat_abs w ≤ weight_limit }
-    ensures from { result.from ≡ y -ℤ w }
-    ensures to { result.to ≡ y +ℤ w }
-{
-    Reach {
-        from: y - w,
-        to: y + w,
+    Bounds {
+        low: bounds.low,
+        high: bounds.high + 1,
     }
 }
 
-// The numbers of the frame.
-fn reach_of_frame(w: i64) -> Reach
-    requires weight { nat_abs w ≤ weight_limit }
-    ensures from { result.from ≡ neg_ℤ (pos half_side *ℤ w) }
-    ensures to { result.to ≡ pos half_side *ℤ w }
+// And of what lies at most one below them.
+fn below(bounds: &Bounds) -> Bounds
+    requires small { AreSmall bounds.now }
+    ensures low { result.low ≡ bounds.now.low -ℤ pos 1 }
+    ensures high { result.high ≡ bounds.now.high }
 {
-    let to = HALF_SIDE * w;
-    Reach { from: -to, to }
-}
-
-/// The window of the point alone.
-pub(crate) fn point_window(p: &Point) -> Window
-    ensures point { (q : Place) → SamePlace q (place_of p.now) → IsInWindow result q }
-{
-    Window {
-        w: p.w(),
-        x: reach_at(p.x()),
-        y: reach_at(p.y()),
-        z: reach_at(p.z()),
+    Bounds {
+        low: bounds.low - 1,
+        high: bounds.high,
     }
 }
 
-/// A window of all points of the frame that a ray up or down from the point leads to: from point to point of the frame it
-/// changes y and z by less than one.
-pub(crate) fn ray_window(p: &Point) -> Window
-    ensures ahead { (d : Vector) (q : Place) → IsUpright d → InClosedFrame (place_of p.now) → InClosedFrame q → IsAhead (place_of p.now) d q → IsInWindow result q }
+// The bounds of all numbers of the frame that are above one within these.
+fn rising(bounds: &Bounds) -> Bounds
+    ensures low { result.low ≡ bounds.now.low }
+    ensures high { result.high ≡ pos half_side }
 {
-    let w = p.w();
-    Window {
-        w,
-        x: reach_of_frame(w),
-        y: reach_around(p.y(), w),
-        z: reach_around(p.z(), w),
+    Bounds {
+        low: bounds.low,
+        high: HALF_SIDE,
+    }
+}
+
+// And of all that are below one.
+fn falling(bounds: &Bounds) -> Bounds
+    ensures low { result.low ≡ neg_ℤ (pos half_side) }
+    ensures high { result.high ≡ bounds.now.high }
+{
+    Bounds {
+        low: -HALF_SIDE,
+        high: bounds.high,
+    }
+}
+
+// A span of all points of the frame that a ray up leads to from a point of this span.
+fn window_up(here: &Span) -> Span
+    requires small { AreSmall here.now.y × AreSmall here.now.z }
+    ensures ahead { (p q : Place) → IsInSpan here.now p → InClosedFrame p → InClosedFrame q → IsAhead p up q → IsInSpan result q }
+{
+    Span {
+        x: rising(&here.x),
+        y: above(&here.y),
+        z: above(&here.z),
+    }
+}
+
+// And one of all points of the frame that a ray down leads to.
+fn window_down(here: &Span) -> Span
+    requires small { AreSmall here.now.y × AreSmall here.now.z }
+    ensures ahead { (p q : Place) → IsInSpan here.now p → InClosedFrame p → InClosedFrame q → IsAhead p (opposite up) q → IsInSpan result q }
+{
+    Span {
+        x: falling(&here.x),
+        y: below(&here.y),
+        z: below(&here.z),
+    }
+}
+
+// Whether the direction is the upward one.
+fn is_up(d: &Dir) -> bool
+    requires upright { IsUpright (vector_of d.now) }
+    ensures upward { IsTrue result ↔ (vector_of d.now ≡ up) }
+{
+    d.x() > 0
+}
+
+/// A span of all points of the frame that the ray from the point leads to along the upward direction or the downward one.
+/// From point to point of the frame y and z change by less than one, and all three coordinates rise along the upward
+/// direction.
+pub(crate) fn ray_window(p: &Point, d: &Dir) -> Span
+    requires upright { IsUpright (vector_of d.now) }
+    ensures ahead { (q : Place) → InClosedFrame (place_of p.now) → InClosedFrame q → IsAhead (place_of p.now) (vector_of d.now) q → IsInSpan result q }
+{
+    let here = Span::of(p);
+    if is_up(d) {
+        window_up(&here)
+    } else {
+        window_down(&here)
     }
 }

@@ -1,6 +1,6 @@
 //! All jobs of an operation, worked over the board that was chosen.
 
-ghost use Rattle.std.specs.Prelude.{◌≡◌, ℕ, ◌≤◌, ◌/◌, min, max, IfOk, Some, slice_get, vec_len};
+ghost use Rattle.std.specs.Prelude.{◌≡◌, ℕ, ◌≤◌, ◌<◌, ◌/◌, min, max, IfOk, Some, slice_get, vec_len};
 
 use crate::OutOfMemory;
 use nef_board::LockBoard;
@@ -13,21 +13,25 @@ use std::sync::Wait;
 use std::thread::Threads;
 
 // How many jobs pay for one more worker: starting a thread costs as much as some dozens of jobs.
-const JOBS_FOR_A_WORKER: u64 = 32;
+const JOBS_FOR_A_WORKER: u64 = 64;
 
-// Two workers run beside each other however few jobs there are.
-const FEWEST_WORKERS: u64 = 2;
+// So many workers run beside each other where no more were asked for, however few jobs there are.
+const WORKERS_AS_ASKED: u32 = 2;
 
-// How many of the workers work so many jobs.
+// How many of the workers work so many jobs. Of more than two no more start than the jobs pay for.
 fn crew(workers: u32, jobs: u64) -> u32
-    ensures crew { result ≡ min workers (max 2 (jobs / 32)) }
+    ensures few { workers ≤ 2 → result ≡ workers }
+    ensures paid { 2 < workers → result ≡ min workers (max 1 (jobs / 64)) }
 {
-    let paid = (jobs / JOBS_FOR_A_WORKER).max(FEWEST_WORKERS);
+    if workers <= WORKERS_AS_ASKED {
+        return workers;
+    }
+    let paid = (jobs / JOBS_FOR_A_WORKER).max(1);
     u64::from(workers).min(paid) as u32
 }
 
-/// One right result for each job, in the order of the jobs, over the board that `how` names, worked by as many workers as
-/// it names where there are many jobs, and by fewer where there are few.
+/// One right result for each job, in the order of the jobs, over the board that `how` names. One worker or two work as
+/// asked; of more, as many as the jobs pay for.
 pub(crate) fn finished<R: Threads + Wait + Sync, J: Job, G: Gate + Sync>(
     rt: &R,
     alloc: Global,

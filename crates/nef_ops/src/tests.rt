@@ -15,6 +15,8 @@ use std::sync::Wait;
 use std::test::Fail;
 use std::thread::Threads;
 
+mod crew;
+
 const ONE_BY_LOCK: How = How {
     workers: 1,
     board: BoardKind::Lock,

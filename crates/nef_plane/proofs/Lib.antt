@@ -10,9 +10,9 @@ pub mod Choosing
 pub mod Amid
 pub mod Reached
 pub mod Listed
-pub mod Spanned
-pub mod OnEdges
 pub mod Holding
-pub mod Carried
 pub mod RayPlanes
+pub mod Ordered
+pub mod Passed
+pub mod Leveled
 mod AxisSizes

@@ -62,7 +62,7 @@ module _ {X : Type 0} (seen : X → Encounter) (p : Place) (d : Vector) where
         some-is r y e = cc
 
     -- the same of what is the same ahead
-    pub nearest-as : (o : Option X) → ((m : PlaneMeet) (q : Place) → P m q → Q m q) → ((m : PlaneMeet) (q : Place) → IsAhead p d q → Q m q → P m q) → IsNearest seen p d P o → IsNearest seen p d Q o
+    nearest-as : (o : Option X) → ((m : PlaneMeet) (q : Place) → P m q → Q m q) → ((m : PlaneMeet) (q : Place) → IsAhead p d q → Q m q → P m q) → IsNearest seen p d P o → IsNearest seen p d Q o
     nearest-as None f g A = λ n q w x. A n q w (g n q w x)
     nearest-as (Some x) f g A = record { reached = A.reached; ahead = A.ahead; met = f (seen x).meet (seen x).at.place A.met; first = λ n q b y. A.first n q b (g n q (between-ahead p q (seen x).at.place d b A.ahead) y) }
 

@@ -1,13 +1,13 @@
 -- The side of a plane through a ray on which a point lies, and what the ray doesn't meet.
-use Rattle.std.proofs.Common.{◌≡◌, ℕ, ℤ, pos, neg_ℤ, ◌+ℤ◌, ◌-ℤ◌, ◌*ℤ◌, ◌≤◌, nat_abs, w64, Option, Some, None, sym, ap, ◌∙◌, subst, [], ◌∷◌}
+use Rattle.std.proofs.Common.{◌≡◌, ℕ, ℤ, pos, ◌+ℤ◌, ◌-ℤ◌, ◌*ℤ◌, ◌≤◌, nat_abs, w64, Option, Some, None, sym, ap, ◌∙◌, subst, [], ◌∷◌}
 use Rattle.std.specs.Prelude.{IfSome}
 use Rattle.std.specs.Option.{MatchOption}
 use mir.Syntax.{w128}
 use mir.Val.{to_z, of_z}
 use Rattle.law_arithmetic.proofs.Machine.{load, const, wrap, ◌⊟◌, exact_of}
-use Rattle.law_arithmetic.proofs.Ring.{ring, at, num, neg, ◌⊕◌, ◌⊖◌, ◌⊗◌}
+use Rattle.law_arithmetic.proofs.Ring.{ring, at, num, ◌⊕◌, ◌⊖◌, ◌⊗◌}
 use Rattle.nef_space.specs.Limits.{direction_limit}
-use Rattle.nef_space.specs.Place.{Place, form_at, slope, toward}
+use Rattle.nef_space.specs.Place.{form_at, toward}
 use Rattle.nef_space.specs.Sets.{Set}
 use Rattle.nef_space.specs.Vectors.{Vector, vector, dot, IsDirection, SameDirection}
 use Rattle.nef_geo.specs.Shapes.{form_of, place_of, vector_of}

@@ -50,7 +50,7 @@ module _ (o : Option Hit) (p : Place) (d : Vector) (g : Plane) (a b : Place) (A 
   across-none n e y w m = n.0 e y (record { on = within-level g a b y A.0 m; ahead = w; passes = A.1 })
 
 -- where a plane through both points is crossed, all that the ray meets within them is there
-pub through-one : (p : Place) (d : Vector) (a b : Place) (q : Reach) → IsHitThrough p d a b q → (y : Place) → IsAhead p d y → IsWithin a b y → SamePlace y q.place
+through-one : (p : Place) (d : Vector) (a b : Place) (q : Reach) → IsHitThrough p d a b q → (y : Place) → IsAhead p d y → IsWithin a b y → SamePlace y q.place
 through-one p d a b q T y w m = one-crossing (form_of T.plane) d p y q.place w.parallel T.crosses.ahead.parallel (within-level T.plane a b y T.holds m, T.crosses.on) T.crosses.passes
 
 module _ (s : Set) (c : Complex) (S : Shows s (complex_of c)) (p : Place) (d : Vector) (some : IsDirection d) where

@@ -6,19 +6,20 @@ use mir.Syntax.{w128}
 use mir.Val.{to_z, of_z}
 use Rattle.law_arithmetic.proofs.Machine.{load, wrap, exact_of}
 use Rattle.law_arithmetic.proofs.Ring.{ring, at, num, ◌⊕◌, ◌⊖◌, ◌⊗◌}
-use Rattle.nef_space.specs.Limits.{point_limit, weight_limit}
+use Rattle.nef_space.specs.Limits.{direction_limit, point_limit, weight_limit}
 use Rattle.nef_space.specs.Place.{Place, form_at, plane_through, toward}
 use Rattle.nef_space.specs.Vectors.{Vector, vector, dot}
-use Rattle.nef_geo.specs.Shapes.{form_of, place_of, hit_place}
+use Rattle.nef_geo.specs.Shapes.{form_of, vector_of, place_of, hit_place}
 use Rattle.nef_geo.specs.Signs.{sign_of}
 use Rattle.nef_geo.specs.Widths.{hit_limit, hit_weight_limit}
 use Rattle.nef_geo.specs.declared.sign.Sign.{Sign}
+use Rattle.nef_geo.specs.declared.dir.Dir.{Dir}
 use Rattle.nef_geo.specs.declared.hit.Hit.{Hit}
 use Rattle.nef_geo.specs.declared.plane.Plane.{Plane}
 use Rattle.nef_geo.specs.declared.point.Point.{Point}
 use Rattle.nef_geo.proofs.Places.{pos_size}
 use Rattle.law_complex.proofs.FacetAngles.{through-at}
-use Rattle.nef_plane.specs.Meets.{sweep_form}
+use Rattle.nef_plane.specs.Meets.{sweep_axis, sweep_form}
 
 -- ---- numbers within their bounds
 pub exact-of : (x y : ℤ) → x ≡ y → nat_abs y ≤ point_limit → to_z w64 (of_z w64 x) ≡ y
@@ -35,6 +36,15 @@ exact-hit_weight x y e l = exact_of (hit_weight_limit ∷ []) (x ∷ []) (wrap w
 
 pub numbers-same : (x v y w : ℤ) (x' v' y' w' : ℤ) → x ≡ x' → v ≡ v' → y ≡ y' → w ≡ w' → x *ℤ v -ℤ y *ℤ w ≡ x' *ℤ v' -ℤ y' *ℤ w'
 numbers-same x v y w x' v' y' w' a b c d = ap (λ r. r *ℤ v -ℤ y *ℤ w) a ∙ ap (λ r. x' *ℤ r -ℤ y *ℤ w) b ∙ ap (λ r. x' *ℤ v' -ℤ r *ℤ w) c ∙ ap (λ r. x' *ℤ v' -ℤ y' *ℤ r) d
+
+-- a plane that doesn't keep the first coordinate is swept along it
+first-swept : (h : Plane) → (h.c ≡ pos 0 → h.b ≡ pos 0 → ⊥) → false ≡ (int_eq h.c (pos 0) && int_eq h.b (pos 0))
+first-swept h n = by (int_eq h.c (pos 0)) (int_eq h.b (pos 0)) refl refl
+  where
+    by : (c b : Bool) → int_eq h.c (pos 0) ≡ c → int_eq h.b (pos 0) ≡ b → false ≡ (c && b)
+    by true true f g = absurd (n ((Decides-int_eq h.c (pos 0)).0 f) ((Decides-int_eq h.b (pos 0)).0 g))
+    by true false f g = refl
+    by false b f g = refl
 
 module _ (h : Plane) (p : Hit) (a : Point) (r : Sign) (x w y v : ℤ)
     (sign : r ≡ sign_of (to_z w64 (of_z w64 x) *ℤ to_z w128 (of_z w128 v) -ℤ to_z w128 (of_z w128 y) *ℤ to_z w64 (of_z w64 w))) (weight_is : w ≡ a.w) (start_is : v ≡ p.w) where
@@ -63,12 +73,14 @@ module _ (h : Plane) (p : Hit) (a : Point) (r : Sign) (x w y v : ℤ)
       (num (pos 0) ⊗ (at 0 ⊗ at 7 ⊖ at 4 ⊗ at 3) ⊕ num (pos 1) ⊗ (at 1 ⊗ at 7 ⊖ at 5 ⊗ at 3) ⊕ num (pos 0) ⊗ (at 2 ⊗ at 7 ⊖ at 6 ⊗ at 3)) tt)
 
   pub first-sign : x ≡ a.x → y ≡ p.x → (h.c ≡ pos 0 → h.b ≡ pos 0 → ⊥) → r ≡ sign_of (form_at (sweep_form (form_of h) P) Q)
-  first-sign i j n = value false (by (int_eq h.c (pos 0)) (int_eq h.b (pos 0)) refl refl)
+  first-sign i j n = value false (first-swept h n)
       (numbers-same _ _ _ _ a.x (pos (nat_abs p.w)) p.x (pos (nat_abs a.w)) (exact-of x a.x i a.x_small) (start ∙ sym (pos_size p.w p.proper)) (exact-hit y p.x j p.x_small) (weight ∙ sym (pos_size a.w a.proper))
       ∙ ring (Q.x ∷ Q.y ∷ Q.z ∷ pos Q.w ∷ P.x ∷ P.y ∷ P.z ∷ pos P.w ∷ []) (at 0 ⊗ at 7 ⊖ at 4 ⊗ at 3)
       (num (pos 1) ⊗ (at 0 ⊗ at 7 ⊖ at 4 ⊗ at 3) ⊕ num (pos 0) ⊗ (at 1 ⊗ at 7 ⊖ at 5 ⊗ at 3) ⊕ num (pos 0) ⊗ (at 2 ⊗ at 7 ⊖ at 6 ⊗ at 3)) tt)
-    where
-      by : (c b : Bool) → int_eq h.c (pos 0) ≡ c → int_eq h.b (pos 0) ≡ b → false ≡ (c && b)
-      by true true f g = absurd (n ((Decides-int_eq h.c (pos 0)).0 f) ((Decides-int_eq h.b (pos 0)).0 g))
-      by true false f g = refl
-      by false b f g = refl
+
+-- the sign of the direction's first number is that of its way along the sweep coordinate
+pub way-sign : (h : Plane) (d : Dir) (r : Sign) (x : ℤ) → r ≡ sign_of (to_z w128 (of_z w128 (to_z w64 (of_z w64 x)))) → x ≡ d.x → (h.c ≡ pos 0 → h.b ≡ pos 0 → ⊥) → r ≡ sign_of (dot (sweep_axis (form_of h)) (vector_of d))
+way-sign h d r x e f n =
+    e ∙ ap sign_of (exact_of (direction_limit ∷ []) (x ∷ []) (wrap w128 (wrap w64 (load 0))) (subst (λ z. nat_abs z ≤ direction_limit) (sym f) d.x_small, tt) tt ∙ f
+    ∙ ring (d.x ∷ d.y ∷ d.z ∷ []) (at 0) (num (pos 1) ⊗ at 0 ⊕ num (pos 0) ⊗ at 1 ⊕ num (pos 0) ⊗ at 2) tt
+    ∙ ap (λ b. dot (cond b (vector (pos 0) (pos 1) (pos 0)) (vector (pos 1) (pos 0) (pos 0))) (vector_of d)) (first-swept h n))

@@ -5,6 +5,7 @@ use Rattle.nef_geo.specs.Shapes.{form_of}
 use Rattle.nef_geo.specs.Signs.{sign_of}
 use Rattle.nef_geo.specs.declared.plane.Plane.{Plane}
 use Rattle.law_sphere.specs.Maps.{At}
+use Rattle.nef_complex.specs.Planes.{HoldsBoth}
 
 -- where the plane holds a, y lies on the side of b
 abbrev pub SidesWith : Form → Place → Place → Place → Type 0
@@ -20,3 +21,7 @@ AllSideWith hs a b y = (k : ℕ) (h : Plane) → At hs k h → SidesWith (form_o
 
 abbrev pub AreAmid : List Plane → Place → Place → Place → Type 0
 AreAmid hs a b y = (k : ℕ) (h : Plane) → At hs k h → IsAmid (form_of h) a b y
+
+-- each of the planes that hold both points holds y
+abbrev pub AllThrough : List Plane → Place → Place → Place → Type 0
+AllThrough hs a b y = (k : ℕ) (h : Plane) → At hs k h → HoldsBoth (form_of h) a b → form_at (form_of h) y ≡ pos 0

@@ -1,4 +1,5 @@
 pub mod Amid
 pub mod Meets
-pub mod Upright
 pub mod Parting
+pub mod Courses
+pub mod Levels

@@ -2,7 +2,7 @@
 
 ghost use Rattle.std.specs.Prelude.{◌≡◌, ℕ, ◌<◌, length, pos, ◌↔◌, IsTrue, IsNone, IfSome};
 ghost use Rattle.std.specs.Option.{MatchOption};
-ghost use Rattle.nef_space.specs.Place.{Place, slope, IsAhead};
+ghost use Rattle.nef_space.specs.Place.{Place, form_at, slope, IsAhead};
 ghost use Rattle.nef_space.specs.Sets.{Set};
 ghost use Rattle.nef_space.specs.Vectors.{IsAtMost};
 ghost use Rattle.nef_geo.specs.Shapes.{form_of, vector_of, place_of};
@@ -10,10 +10,11 @@ ghost use Rattle.nef_geo.specs.Widths.{ray_limit};
 ghost use Rattle.law_complex.specs.Skeleton.{PlaneMeet as PlainMeet, Meets, IsFirstInPlane};
 ghost use Rattle.nef_complex.specs.Complexes.{complex_of, meet_of, ShowsSet};
 ghost use Rattle.nef_complex.specs.Index.{LiesOn, EdgeLiesIn, AreNumbersWith, AreWithin, AreHolders};
-ghost use Rattle.nef_plane.specs.Parting.{IsAcrossRay};
+ghost use Rattle.nef_plane.specs.Courses.{StartsAt, IsCourse};
 ghost use Rattle.nef_plane.specs.Meets.{HasNoSvertex, FromVertex, HoldsRay, IsHitThrough, AllHold, IsAcross, IsWithin, AtVertexNumber, AtEdgeNumber, AtSomeVertex, AtSomeEdge, AtVertexOrEdge, IsNearest, IsNearer, IsReachedMet, met_of, reach_of};
 
-use crate::parting::{may_pass, normal_beside};
+use crate::course::Course;
+use crate::parting::may_pass;
 use crate::places::{is_at_vertex, is_on_edge};
 use nef_complex::{
     Complex, PlaneItems, PlaneMeet, edge_holders, holds_both, plane_items, vertex_holders,
@@ -21,11 +22,11 @@ use nef_complex::{
 use nef_geo::{Dir, Hit, Plane, Point, Sign, dir_side, hit_order, ray_hit, side};
 use std::cmp::Ordering;
 
-/// What a ray meets, and the hit there.
+// What a ray meets, and the hit there.
 #[derive(Debug, Clone, Copy)]
-pub struct Met {
-    pub meet: PlaneMeet,
-    pub at: Hit,
+struct Met {
+    meet: PlaneMeet,
+    at: Hit,
 }
 
 fn is_along(g: &Plane, d: &Dir) -> bool
@@ -42,7 +43,7 @@ fn holds_ray(h: &Plane, p: &Point, d: &Dir) -> bool
 }
 
 // The first of the carriers with these numbers that isn't along the direction. They are those that hold two points.
-pub(crate) fn plane_across(carriers: &[Plane], holders: &[usize], d: &Dir) -> Option<Plane>
+fn plane_across(carriers: &[Plane], holders: &[usize], d: &Dir) -> Option<Plane>
     requires within { AreWithin carriers.now holders.now }
     ensures across { (a b : Place) → AreHolders carriers.now a b holders.now → MatchOption result (AllHold carriers.now (vector_of d.now) a b) (IsAcross (vector_of d.now) a b) }
 {
@@ -66,9 +67,9 @@ fn crossed_at(carriers: &[Plane], holders: &[usize], p: &Point, d: &Dir) -> Opti
     ray_hit(p, d, &g)
 }
 
-/// What the ray from `p` along `d` meets first of two, each of which stands at its step along the ray: the first one where
-/// they stand at one point. `None` comes exactly where both are `None`.
-pub fn nearer(one: Option<Met>, other: Option<Met>, p: &Point, d: &Dir) -> Option<Met>
+// What the ray from `p` along `d` meets first of two, each of which stands at its step along the ray: the first one where
+// they stand at one point. `None` comes exactly where both are `None`.
+fn nearer(one: Option<Met>, other: Option<Met>, p: &Point, d: &Dir) -> Option<Met>
     requires one { IfSome one (λ x. IsReachedMet (place_of p.now) (vector_of d.now) (met_of x)) }
     requires other { IfSome other (λ x. IsReachedMet (place_of p.now) (vector_of d.now) (met_of x)) }
     ensures nearer { IsNearer met_of (vector_of d.now) one other result }
@@ -166,22 +167,28 @@ fn nearest_vertex(c: &Complex, h: &Plane, held: bool, p: &Point, d: &Dir) -> Opt
     best
 }
 
-// The vertex with this number, where the ray meets it. The normal is that of a plane along the ray, if one is given.
+// The vertex of the plane with this number, where the ray meets it. The course tells without a carrier of most vertices
+// that the ray doesn't meet them.
 fn vertex_met_beside(
     c: &Complex,
+    h: &Plane,
     p: &Point,
     d: &Dir,
-    normal: &Option<Dir>,
+    course: &Course,
     number: usize,
 ) -> Option<Met>
     requires shows { (s : Set) × ShowsSet s c.now }
     requires small { IsAtMost ray_limit (vector_of d.now) }
-    requires across { IfSome normal.now (IsAcrossRay (vector_of d.now)) }
-    requires within { number < length c.now.vertices }
+    requires on { form_at (form_of h.now) (place_of p.now) ≡ pos 0 }
+    requires course { IsCourse c.now.vertices (form_of h.now) p.now (vector_of d.now) course.now }
+    requires held { LiesOn c.now.vertices (form_of h.now) number }
     ensures nearest { IsNearest met_of (place_of p.now) (vector_of d.now) (AtVertexNumber (complex_of c.now) number) result }
 {
+    if !course.may_reach(number, number) {
+        return None;
+    }
     let point = &c.vertices.at(number).point;
-    if may_pass(normal, p, point, point) {
+    if may_pass(&course.normal, p, point, point) {
         carried_vertex_met(c, p, d, number)
     } else {
         None
@@ -194,18 +201,19 @@ fn nearest_listed_vertex(
     h: &Plane,
     p: &Point,
     d: &Dir,
+    course: &Course,
     numbers: &[usize],
 ) -> Option<Met>
     requires shows { (s : Set) × ShowsSet s c.now }
     requires holds { HoldsRay (form_of h.now) (place_of p.now) (vector_of d.now) }
     requires small { IsAtMost ray_limit (vector_of d.now) }
+    requires course { IsCourse c.now.vertices (form_of h.now) p.now (vector_of d.now) course.now }
     requires listed { AreNumbersWith (LiesOn c.now.vertices (form_of h.now)) numbers.now }
     ensures nearest { IsNearest met_of (place_of p.now) (vector_of d.now) (AtSomeVertex (complex_of c.now)) result }
 {
-    let normal = normal_beside(h, d);
     let mut best = None;
     for number in numbers {
-        let met = vertex_met_beside(c, p, d, &normal, *number);
+        let met = vertex_met_beside(c, h, p, d, course, *number);
         if met.is_some() {
             best = nearer(best, met, p, d);
         }
@@ -227,26 +235,30 @@ fn nearest_edge(c: &Complex, h: &Plane, p: &Point, d: &Dir) -> Option<Met>
     best
 }
 
-// The edge in the plane with this number, where the ray meets its inside. The normal is that of a plane along the ray, if
-// one is given.
+// The edge in the plane with this number, where the ray meets its inside. The course tells without a carrier of most
+// edges that the ray doesn't meet them.
 fn edge_met_beside(
     c: &Complex,
     h: &Plane,
     p: &Point,
     d: &Dir,
-    normal: &Option<Dir>,
+    course: &Course,
     number: usize,
 ) -> Option<Met>
     requires shows { (s : Set) × ShowsSet s c.now }
     requires small { IsAtMost ray_limit (vector_of d.now) }
-    requires across { IfSome normal.now (IsAcrossRay (vector_of d.now)) }
+    requires on { form_at (form_of h.now) (place_of p.now) ≡ pos 0 }
+    requires course { IsCourse c.now.vertices (form_of h.now) p.now (vector_of d.now) course.now }
     requires held { EdgeLiesIn c.now.vertices c.now.edges (form_of h.now) number }
     ensures nearest { IsNearest met_of (place_of p.now) (vector_of d.now) (AtEdgeNumber (complex_of c.now) (form_of h.now) (vector_of d.now) number) result }
 {
     let edge = c.edges.at(number);
+    if !course.may_reach(edge.low, edge.high) {
+        return None;
+    }
     let low = &c.vertices.at(edge.low).point;
     let high = &c.vertices.at(edge.high).point;
-    if may_pass(normal, p, low, high) {
+    if may_pass(&course.normal, p, low, high) {
         held_edge_met(c, h, p, d, number)
     } else {
         None
@@ -254,16 +266,24 @@ fn edge_met_beside(
 }
 
 // The first edge that the ray meets, where the numbers are those of the edges in the plane.
-fn nearest_listed_edge(c: &Complex, h: &Plane, p: &Point, d: &Dir, numbers: &[usize]) -> Option<Met>
+fn nearest_listed_edge(
+    c: &Complex,
+    h: &Plane,
+    p: &Point,
+    d: &Dir,
+    course: &Course,
+    numbers: &[usize],
+) -> Option<Met>
     requires shows { (s : Set) × ShowsSet s c.now }
     requires small { IsAtMost ray_limit (vector_of d.now) }
+    requires on { form_at (form_of h.now) (place_of p.now) ≡ pos 0 }
+    requires course { IsCourse c.now.vertices (form_of h.now) p.now (vector_of d.now) course.now }
     requires listed { AreNumbersWith (EdgeLiesIn c.now.vertices c.now.edges (form_of h.now)) numbers.now }
     ensures nearest { IsNearest met_of (place_of p.now) (vector_of d.now) (AtSomeEdge (complex_of c.now) (form_of h.now) (vector_of d.now)) result }
 {
-    let normal = normal_beside(h, d);
     let mut best = None;
     for number in numbers {
-        let met = edge_met_beside(c, h, p, d, &normal, *number);
+        let met = edge_met_beside(c, h, p, d, course, *number);
         if met.is_some() {
             best = nearer(best, met, p, d);
         }
@@ -283,23 +303,35 @@ fn nearest_met(c: &Complex, h: &Plane, held: bool, p: &Point, d: &Dir) -> Option
     nearer(vertex, edge, p, d)
 }
 
-// The same, where the plane holds the ray and these are the numbers of what lies in the plane.
-fn nearest_listed_met(c: &Complex, h: &Plane, p: &Point, d: &Dir, items: PlaneItems) -> Option<Met>
+// The same, where the plane holds the ray, which starts at the vertex with this number, and these are the numbers of what
+// lies in the plane.
+fn nearest_listed_met(
+    c: &Complex,
+    h: &Plane,
+    start: usize,
+    p: &Point,
+    d: &Dir,
+    items: PlaneItems,
+) -> Option<Met>
     requires shows { (s : Set) × ShowsSet s c.now }
+    requires start { StartsAt c.now.vertices start p.now }
     requires holds { HoldsRay (form_of h.now) (place_of p.now) (vector_of d.now) }
     requires small { IsAtMost ray_limit (vector_of d.now) }
     requires vertices { AreNumbersWith (LiesOn c.now.vertices (form_of h.now)) items.vertices.now }
     requires edges { AreNumbersWith (EdgeLiesIn c.now.vertices c.now.edges (form_of h.now)) items.edges.now }
     ensures nearest { IsNearest met_of (place_of p.now) (vector_of d.now) (AtVertexOrEdge (complex_of c.now) (form_of h.now) (vector_of d.now)) result }
 {
-    let listed_vertex = nearest_listed_vertex(c, h, p, d, items.vertices);
-    let listed_edge = nearest_listed_edge(c, h, p, d, items.edges);
+    let course = Course::of(h, start, d);
+    let listed_vertex = nearest_listed_vertex(c, h, p, d, &course, items.vertices);
+    let listed_edge = nearest_listed_edge(c, h, p, d, &course, items.edges);
     nearer(listed_vertex, listed_edge, p, d)
 }
 
-// What the ray meets first. Where the plane holds the ray, and the index has the plane, only what its lists name is asked.
-fn first_met(c: &Complex, h: &Plane, p: &Point, d: &Dir) -> Option<Met>
+// What the ray from the vertex with this number meets first. Where the plane holds the ray, and the index has the plane,
+// only what its lists name is asked.
+fn first_met(c: &Complex, h: &Plane, start: usize, p: &Point, d: &Dir) -> Option<Met>
     requires shows { (s : Set) × ShowsSet s c.now }
+    requires start { StartsAt c.now.vertices start p.now }
     requires small { IsAtMost ray_limit (vector_of d.now) }
     ensures nearest { IsNearest met_of (place_of p.now) (vector_of d.now) (AtVertexOrEdge (complex_of c.now) (form_of h.now) (vector_of d.now)) result }
 {
@@ -307,7 +339,7 @@ fn first_met(c: &Complex, h: &Plane, p: &Point, d: &Dir) -> Option<Met>
         return nearest_met(c, h, false, p, d);
     }
     match plane_items(c, h) {
-        Some(items) => nearest_listed_met(c, h, p, d, items),
+        Some(items) => nearest_listed_met(c, h, start, p, d, items),
         None => nearest_met(c, h, true, p, d),
     }
 }
@@ -324,7 +356,7 @@ pub fn first_along_dir(c: &Complex, h: &Plane, vertex: usize, d: &Dir) -> Option
     ensures none { IsNone result → FromVertex (complex_of c.now) vertex (λ p. (m : PlainMeet) (q : Place) → IsAhead p (vector_of d.now) q → Meets (complex_of c.now) (form_of h.now) m q → ⊥) }
 {
     let p = &c.vertices.at(vertex).point;
-    match first_met(c, h, p, d) {
+    match first_met(c, h, vertex, p, d) {
         Some(met) => Some(met.meet),
         None => None,
     }

@@ -1,15 +1,14 @@
-//! What a ray within a plane or along an upright direction first meets of a complex, and whether a point of a ray is a
-//! vertex or lies on an edge.
+//! What a ray within a plane first meets of a complex, and whether a point of a ray is a vertex or lies on an edge.
 #![tactic(auto)]
 
 mod along;
+mod course;
+mod level;
 mod parting;
 mod places;
 mod plane;
-mod upright;
 mod within;
 
-pub use along::{Met, first_along_dir, nearer};
-pub use places::{is_at_vertex, is_on_edge};
-pub use upright::first_on_carrier;
+pub use along::first_along_dir;
+pub use places::{is_at_vertex, is_in_line, is_on_edge};
 pub use within::first_in_plane;

@@ -44,18 +44,21 @@ fn difference_sign(m: i128, v: i64, k: i128, w: i64) -> Sign
     Sign::of(m * v as i128 - k * w as i128)
 }
 
-// The side of the plane through p with this normal on which the point lies.
-fn side_through(n: &Dir, p: &Point, a: &Point) -> Sign
+// The side of the plane through p with this normal on which the point lies. The base is the product of the normal with p.
+fn side_through(n: &Dir, p: &Point, base: i128, a: &Point) -> Sign
+    requires base { base ≡ n.now.x *ℤ p.now.x +ℤ n.now.y *ℤ p.now.y +ℤ n.now.z *ℤ p.now.z }
+    requires small { nat_abs base ≤ product_limit }
     ensures side { result ≡ sign_of (form_at (ray_form n.now p.now) (place_of a.now)) }
 {
-    difference_sign(product_with(n, a), p.w(), product_with(n, p), a.w())
+    difference_sign(product_with(n, a), p.w(), base, a.w())
 }
 
 // Whether the plane through p with this normal parts the points or holds both.
 fn are_parted(n: &Dir, p: &Point, a: &Point, b: &Point) -> bool
     ensures opposite { IsTrue result ↔ AreOpposite (ray_form n.now p.now) (place_of a.now) (place_of b.now) }
 {
-    side_through(n, p, a) == side_through(n, p, b).opposite()
+    let base = product_with(n, p);
+    side_through(n, p, base, a) == side_through(n, p, base, b).opposite()
 }
 
 /// The normal of a plane that is along the direction and along an axis that isn't along the plane h. `None` comes where

@@ -4,17 +4,20 @@
 //! three of those that hold a vertex meet there alone, and at least two of those that hold an edge meet in its line.
 
 ghost use Rattle.std.specs.Prelude.{◌≡◌, ◌<◌, length, ◌↔◌, IsTrue};
+ghost use Rattle.nef_space.specs.Lists.{IsAt};
 ghost use Rattle.nef_space.specs.Place.{Place, form_at};
 ghost use Rattle.nef_space.specs.Sets.{Set};
 ghost use Rattle.nef_geo.specs.Shapes.{form_of, place_of, hit_place};
 ghost use Rattle.nef_geo.specs.Signs.{sign_of};
 ghost use Rattle.law_complex.specs.Skeleton.{IsVertexPoint, IsEdgePoint};
 ghost use Rattle.nef_complex.specs.Complexes.{complex_of, ShowsSet};
+ghost use Rattle.nef_complex.specs.declared.complex.Edge.{Edge};
+ghost use Rattle.nef_complex.specs.declared.complex.Vertex.{Vertex};
 ghost use Rattle.nef_complex.specs.Index.{AreWithin, AreHolders};
-ghost use Rattle.nef_plane.specs.Amid.{AllSideWith};
+ghost use Rattle.nef_plane.specs.Amid.{AllSideWith, AllThrough};
 
-use nef_complex::{Complex, vertex_holders};
-use nef_geo::{Hit, Plane, Point, hit_side, side};
+use nef_complex::{Complex, edge_holders, vertex_holders};
+use nef_geo::{Hit, Plane, Point, Sign, hit_side, side};
 
 // Whether q lies on the side of b, or on the plane where b does.
 fn is_beside(h: &Plane, b: &Point, q: &Hit) -> bool
@@ -36,6 +39,28 @@ fn sides_with(carriers: &[Plane], holders: &[usize], b: &Point, q: &Hit) -> bool
     true
 }
 
+// Whether each of the carriers with these numbers, which are those that hold two points, holds the hit too.
+fn are_through(carriers: &[Plane], holders: &[usize], q: &Hit) -> bool
+    requires within { AreWithin carriers.now holders.now }
+    ensures through { (a b : Place) → AreHolders carriers.now a b holders.now → (IsTrue result ↔ AllThrough carriers.now a b (hit_place q.now)) }
+{
+    for number in holders {
+        if hit_side(&carriers[*number], q) != Sign::Zero {
+            return false;
+        }
+    }
+    true
+}
+
+/// Whether the hit lies on the line of the edge with this number, as each carrier that holds both of its ends tells.
+pub fn is_in_line(c: &Complex, number: usize, q: &Hit) -> bool
+    requires shows { (s : Set) × ShowsSet s c.now }
+    requires within { number < length c.now.edges }
+    ensures line { (e : Edge) (u v : Vertex) → IsAt c.now.edges number e → IsAt c.now.vertices e.low u → IsAt c.now.vertices e.high v → (IsTrue result ↔ AllThrough c.now.carriers (place_of u.point) (place_of v.point) (hit_place q.now)) }
+{
+    are_through(c.carriers.as_slice(), edge_holders(c, number), q)
+}
+
 /// Whether the hit is the vertex with this number. It is, exactly where each carrier that holds the vertex holds it.
 pub fn is_at_vertex(c: &Complex, number: usize, q: &Hit) -> bool
     requires shows { (s : Set) × ShowsSet s c.now }
@@ -46,13 +71,17 @@ pub fn is_at_vertex(c: &Complex, number: usize, q: &Hit) -> bool
     sides_with(c.carriers.as_slice(), vertex_holders(c, number), point, q)
 }
 
-/// Whether the hit lies strictly between the ends of the edge with this number. It does, exactly where each carrier that
-/// holds both ends holds it, and lies on the other end's side of each carrier that holds one.
+/// Whether the hit lies strictly between the ends of the edge with this number. It does, exactly where it lies on the other
+/// end's side of each carrier that holds one, or on the carrier where that holds both. Those that hold both are asked
+/// first, since they pass over most edges.
 pub fn is_on_edge(c: &Complex, number: usize, q: &Hit) -> bool
     requires shows { (s : Set) × ShowsSet s c.now }
     requires within { number < length c.now.edges }
     ensures on { IsTrue result ↔ IsEdgePoint (complex_of c.now) number (hit_place q.now) }
 {
+    if !is_in_line(c, number, q) {
+        return false;
+    }
     let edge = c.edges.at(number);
     let low = &c.vertices.at(edge.low).point;
     let high = &c.vertices.at(edge.high).point;

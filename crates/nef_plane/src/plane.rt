@@ -14,8 +14,10 @@ ghost use Rattle.law_complex.specs.Skeleton.{PlaneMeet as PlainMeet, Meets, IsFi
 ghost use Rattle.nef_complex.specs.Complexes.{complex_of, meet_of, ShowsSet};
 ghost use Rattle.nef_complex.specs.Index.{LiesOn, EdgeLiesIn, AreNumbersWith, AreWithin, AreHolders};
 ghost use Rattle.nef_complex.specs.Planes.{HoldsBoth};
+ghost use Rattle.nef_plane.specs.Levels.{IsLevel};
 ghost use Rattle.nef_plane.specs.Meets.{IsAlongAxis, HasNoSvertex, IsOffEdges, sweep_form, AreOpposite, IsHitThrough, NoneCrosses, IsMet, AllHold, AtVertexNumber, AtEdgeNumber, AtSomeVertex, AtSomeEdge, AtVertexOrEdge, IsNearest, IsNearer, IsReachedMet, far_met_of, far_reach_of};
 
+use crate::level::Level;
 use nef_complex::{
     Complex, PlaneItems, PlaneMeet, edge_holders, holds_both, plane_items, vertex_holders,
 };
@@ -42,7 +44,7 @@ fn ratio_sign(x: i64, w: i64, y: i128, v: i128) -> Sign
 }
 
 // The side of the ray's line on which a point of the plane lies.
-fn across(h: &Plane, p: &Hit, a: &Point) -> Sign
+pub(crate) fn across(h: &Plane, p: &Hit, a: &Point) -> Sign
     requires numbers { IsPlaceAtMost upright_limit upright_weight_limit (hit_place p.now) }
     ensures across { result ≡ sign_of (form_at (sweep_form (form_of h.now) (hit_place p.now)) (place_of a.now)) }
 {
@@ -230,6 +232,59 @@ fn edge_met(c: &Complex, h: &Plane, p: &Hit, d: &Dir, number: usize) -> Option<F
     }
 }
 
+// The vertex of the plane with this number, where the ray meets it. The level tells of most vertices, by their numbers, that
+// the ray doesn't meet them.
+fn vertex_met_level(
+    c: &Complex,
+    h: &Plane,
+    p: &Hit,
+    d: &Dir,
+    level: &Level,
+    number: usize,
+) -> Option<FarMet>
+    requires shows { (s : Set) × ShowsSet s c.now }
+    requires on { form_at (form_of h.now) (hit_place p.now) ≡ pos 0 }
+    requires numbers { IsPlaceAtMost upright_limit upright_weight_limit (hit_place p.now) }
+    requires axis { IsAlongAxis (form_of h.now) (vector_of d.now) }
+    requires small { IsAtMost normal_limit (vector_of d.now) }
+    requires level { IsLevel c.now.vertices (form_of h.now) (hit_place p.now) level.now }
+    requires held { LiesOn c.now.vertices (form_of h.now) number }
+    ensures nearest { IsNearest far_met_of (hit_place p.now) (vector_of d.now) (AtVertexNumber (complex_of c.now) number) result }
+{
+    if level.may_hold(number) {
+        held_vertex_met(c, h, p, d, number)
+    } else {
+        None
+    }
+}
+
+// The edge in the plane with this number, where the ray meets its inside. The level tells of most edges, by the numbers of
+// their ends, that the ray doesn't meet them.
+fn edge_met_level(
+    c: &Complex,
+    h: &Plane,
+    p: &Hit,
+    d: &Dir,
+    level: &Level,
+    number: usize,
+) -> Option<FarMet>
+    requires shows { (s : Set) × ShowsSet s c.now }
+    requires on { form_at (form_of h.now) (hit_place p.now) ≡ pos 0 }
+    requires numbers { IsPlaceAtMost upright_limit upright_weight_limit (hit_place p.now) }
+    requires axis { IsAlongAxis (form_of h.now) (vector_of d.now) }
+    requires small { IsAtMost normal_limit (vector_of d.now) }
+    requires level { IsLevel c.now.vertices (form_of h.now) (hit_place p.now) level.now }
+    requires held { EdgeLiesIn c.now.vertices c.now.edges (form_of h.now) number }
+    ensures nearest { IsNearest far_met_of (hit_place p.now) (vector_of d.now) (AtEdgeNumber (complex_of c.now) (form_of h.now) (vector_of d.now) number) result }
+{
+    let edge = c.edges.at(number);
+    if level.may_part(edge.low, edge.high) {
+        held_edge_met(c, h, p, d, number)
+    } else {
+        None
+    }
+}
+
 // The first vertex that the ray meets.
 fn nearest_vertex(c: &Complex, h: &Plane, p: &Hit, d: &Dir) -> Option<FarMet>
     requires shows { (s : Set) × ShowsSet s c.now }
@@ -252,6 +307,7 @@ fn nearest_listed_vertex(
     h: &Plane,
     p: &Hit,
     d: &Dir,
+    level: &Level,
     numbers: &[usize],
 ) -> Option<FarMet>
     requires shows { (s : Set) × ShowsSet s c.now }
@@ -259,12 +315,13 @@ fn nearest_listed_vertex(
     requires numbers { IsPlaceAtMost upright_limit upright_weight_limit (hit_place p.now) }
     requires axis { IsAlongAxis (form_of h.now) (vector_of d.now) }
     requires small { IsAtMost normal_limit (vector_of d.now) }
+    requires level { IsLevel c.now.vertices (form_of h.now) (hit_place p.now) level.now }
     requires listed { AreNumbersWith (LiesOn c.now.vertices (form_of h.now)) numbers.now }
     ensures nearest { IsNearest far_met_of (hit_place p.now) (vector_of d.now) (AtSomeVertex (complex_of c.now)) result }
 {
     let mut best = None;
     for number in numbers {
-        let met = held_vertex_met(c, h, p, d, *number);
+        let met = vertex_met_level(c, h, p, d, level, *number);
         if met.is_some() {
             best = nearer(best, met, p, d);
         }
@@ -295,6 +352,7 @@ fn nearest_listed_edge(
     h: &Plane,
     p: &Hit,
     d: &Dir,
+    level: &Level,
     numbers: &[usize],
 ) -> Option<FarMet>
     requires shows { (s : Set) × ShowsSet s c.now }
@@ -302,12 +360,13 @@ fn nearest_listed_edge(
     requires numbers { IsPlaceAtMost upright_limit upright_weight_limit (hit_place p.now) }
     requires axis { IsAlongAxis (form_of h.now) (vector_of d.now) }
     requires small { IsAtMost normal_limit (vector_of d.now) }
+    requires level { IsLevel c.now.vertices (form_of h.now) (hit_place p.now) level.now }
     requires listed { AreNumbersWith (EdgeLiesIn c.now.vertices c.now.edges (form_of h.now)) numbers.now }
     ensures nearest { IsNearest far_met_of (hit_place p.now) (vector_of d.now) (AtSomeEdge (complex_of c.now) (form_of h.now) (vector_of d.now)) result }
 {
     let mut best = None;
     for number in numbers {
-        let met = held_edge_met(c, h, p, d, *number);
+        let met = edge_met_level(c, h, p, d, level, *number);
         if met.is_some() {
             best = nearer(best, met, p, d);
         }
@@ -340,8 +399,9 @@ fn nearest_listed_met(c: &Complex, h: &Plane, p: &Hit, d: &Dir, items: PlaneItem
     requires edges { AreNumbersWith (EdgeLiesIn c.now.vertices c.now.edges (form_of h.now)) items.edges.now }
     ensures nearest { IsNearest far_met_of (hit_place p.now) (vector_of d.now) (AtVertexOrEdge (complex_of c.now) (form_of h.now) (vector_of d.now)) result }
 {
-    let listed_vertex = nearest_listed_vertex(c, h, p, d, items.vertices);
-    let listed_edge = nearest_listed_edge(c, h, p, d, items.edges);
+    let level = Level::of(c, h, p, items.vertices);
+    let listed_vertex = nearest_listed_vertex(c, h, p, d, &level, items.vertices);
+    let listed_edge = nearest_listed_edge(c, h, p, d, &level, items.edges);
     nearer(listed_vertex, listed_edge, p, d)
 }
 

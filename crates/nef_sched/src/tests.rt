@@ -172,27 +172,27 @@ fn wanted_results_stay(rt: HostRuntime) -> Result<(), Fail> {
 // More turns than another thread needs to begin a number.
 const TURNS: u64 = 20_000_000;
 
-// Two numbers that need nothing, each of which is worked until the other began, for so many turns
-// at most.
+// How many numbers there are, and how many threads work them.
+const CROWD: usize = 4;
+
+// Numbers that need nothing, each of which is worked until all began, for so many turns at most.
 #[derive(Drop)]
 struct Waiting {
-    first: AtomicBool,
-    second: AtomicBool,
+    began: AtomicU64,
     limit_reached: AtomicBool,
 }
 
 impl Waiting {
     fn new() -> Waiting {
         Waiting {
-            first: AtomicBool::new(false),
-            second: AtomicBool::new(false),
+            began: AtomicU64::new(0),
             limit_reached: AtomicBool::new(false),
         }
     }
 
-    fn wait_for(&self, began: &AtomicBool) {
+    fn wait_for_all(&self) {
         for _ in 0..TURNS {
-            if began.load(Ordering::SeqCst) {
+            if self.began.load(Ordering::SeqCst) >= CROWD as u64 {
                 return;
             }
             thread::yield_now();
@@ -206,7 +206,7 @@ impl Stage for Waiting {
 
     ghost use Rattle.std.specs.Prelude.{◌≡◌, None};
 
-    ghost size = { λ s. 2 };
+    ghost size = { λ s. 4 };
 
     ghost first = { λ s i. None };
 
@@ -215,7 +215,7 @@ impl Stage for Waiting {
     ghost fits = { λ s i out. out ≡ i };
 
     fn count(&self) -> usize {
-        2
+        CROWD
     }
 
     fn needs(&self, _i: usize) -> Needs {
@@ -232,13 +232,8 @@ impl Stage for Waiting {
         _alone: bool,
         _done: &Results<usize>,
     ) -> Result<usize, OutOfMemory> {
-        if i == 0 {
-            self.first.store(true, Ordering::SeqCst);
-            self.wait_for(&self.second);
-        } else {
-            self.second.store(true, Ordering::SeqCst);
-            self.wait_for(&self.first);
-        }
+        self.began.fetch_add(1, Ordering::SeqCst);
+        self.wait_for_all();
         Ok(i)
     }
 }
@@ -246,8 +241,8 @@ impl Stage for Waiting {
 #[test]
 fn numbers_of_a_round_run_side_by_side(rt: HostRuntime) -> Result<(), Fail> {
     let stage = Waiting::new();
-    let results = run_ahead(&rt, rt.alloc(), &stage, 2)?;
-    assert_eq!(rt; results.as_slice(), [0, 1].as_slice());
+    let results = run_ahead(&rt, rt.alloc(), &stage, 4)?;
+    assert_eq!(rt; results.as_slice(), [0, 1, 2, 3].as_slice());
     assert!(rt; !stage.limit_reached.load(Ordering::SeqCst));
     Ok(())
 }

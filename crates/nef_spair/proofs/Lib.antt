@@ -3,6 +3,7 @@ pub mod Places
 pub mod Simple
 pub mod Parting
 pub mod Firsts
+pub mod TwoEnds
 pub mod Leaving
 pub mod ArcOrder
 pub mod Circles

@@ -13,7 +13,7 @@ use Rattle.nef_star.specs.declared.star.Star.{Star}
 use Rattle.nef_star.specs.Stars.{ray_of, star_of}
 use Rattle.nef_smap.specs.declared.map.SLoop.{SLoop}
 use Rattle.nef_smap.specs.Maps.{sloop_of}
-use Rattle.nef_spair.specs.Pieces.{IsDropped, IsCircleOf, AreCircles}
+use Rattle.nef_spair.specs.Pieces.{IsDropped, AreAllKept, IsCircleOf, AreCircles}
 use Rattle.nef_spair.proofs.Places.{at-before, at-last, at-more, all-at, at-all}
 
 -- ---- the circle of a straight star
@@ -38,8 +38,15 @@ pub not-dropped : (t : Star) → (IsPlain (star_of t) → ⊥) → (IsStraight (
 not-dropped t n m (inl p) = n p
 not-dropped t n m (inr s) = m s
 
--- ---- the circles of more stars
+-- ---- the circles of stars that are all kept
+pub no-circles : (ts : List Star) → AreAllKept ts → AreCircles ts []
+no-circles ts n = record {
+  from = λ k c h. absurd h;
+  all = λ j t h s. absurd (n j t h (inr s));
+  small = at-all (λ (c : SLoop). IsAtMost normal_limit (vector_of c.normal)) [] (λ k c h. absurd h);
+}
 
+-- ---- the circles of more stars
 module _ (ts : List Star) (cs : List SLoop) (t : Star) (w : AreCircles ts cs) where
   pub circles-more : (c : SLoop) → IsCircleOf (star_of t) (sloop_of c) → IsAtMost normal_limit (vector_of c.normal) → AreCircles (ts ++ t ∷ []) (cs ++ c ∷ [])
   circles-more c i small = record {

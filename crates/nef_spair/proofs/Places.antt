@@ -49,6 +49,10 @@ module _ {A : Type 0} where
     others-leave (z ∷ xs) ys x (inl (m, zs, e, r)) p = inl (m, zs, e, others-leave xs zs x r p)
     others-leave (z ∷ xs) ys x (inr (q, r)) p = inr (q, others-leave xs ys x r p)
 
+    pub others-same : (xs : List A) → ((k : ℕ) (x : A) → At xs k x → P x → ⊥) → AreOthers P xs xs
+    others-same [] n = refl
+    others-same (z ∷ xs) n = inl (n 0 z refl, xs, refl, others-same xs (λ k x a. n (suc k) x a))
+
     pub others-from : (xs ys : List A) → AreOthers P xs ys → (k : ℕ) (y : A) → At ys k y → (j : ℕ) × At xs j y × (P y → ⊥)
     others-from [] ys e k y h = absurd (subst (λ (l : List A). At l k y) e h)
     others-from (x ∷ xs) ys (inl (n, zs, e, r)) zero y h = let i : x ≡ y = subst (λ (l : List A). At l 0 y) e h in (0, i, λ p. n (subst P (sym i) p))

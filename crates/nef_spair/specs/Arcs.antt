@@ -1,7 +1,7 @@
 -- The arcs of stars, star by star and ray by ray, and their order.
-use Rattle.std.specs.Prelude.{◌≡◌, ℕ, ◌<◌, List, map, true, ◌⊎◌}
+use Rattle.std.specs.Prelude.{◌≡◌, ℕ, ◌<◌, List, [], ◌∷◌, map, true, ◌⊎◌}
 use Rattle.nef_space.specs.Limits.{normal_limit}
-use Rattle.nef_space.specs.Vectors.{IsAtMost}
+use Rattle.nef_space.specs.Vectors.{opposite, IsAtMost}
 use Rattle.nef_geo.specs.Shapes.{vector_of}
 use Rattle.law_sphere.specs.Maps.{At}
 use Rattle.law_sphere.specs.Least.{ArcBelow}
@@ -11,6 +11,13 @@ use Rattle.nef_star.specs.declared.star.Star.{Star}
 use Rattle.nef_star.specs.Stars.{star_of}
 use Rattle.nef_smap.specs.declared.map.SArc.{SArc}
 use Rattle.nef_smap.specs.Maps.{arc_of}
+
+-- two stars, of opposite axes
+pub record AreTwoEnds (kept : List Star) : Type 0 where
+  pub first : Star
+  pub second : Star
+  pub two : kept ≡ first ∷ second ∷ []
+  pub opposite : vector_of second.axis ≡ opposite (vector_of first.axis)
 
 -- a ray of star j is one of the first stars', of star i one of the first n
 abbrev pub IsEarlier : ℕ → ℕ → ℕ → ℕ → Type 0

@@ -31,6 +31,9 @@ pub record AreSimple (ts us : List Star) : Type 0 where
 abbrev pub IsDropped : Star → Type 0
 IsDropped t = IsPlain (star_of t) ⊎ IsStraight (star_of t)
 
+abbrev pub AreAllKept : List Star → Type 0
+AreAllKept ts = (k : ℕ) (t : Star) → At ts k t → IsDropped t → ⊥
+
 -- ys has those of xs that P doesn't hold of, in their order
 abbrev pub AreOthers : {A : Type 0} → (A → Type 0) → List A → List A → Type 0
 AreOthers P [] ys = ys ≡ []

@@ -1,6 +1,6 @@
 //! The arcs that leave stars.
 
-ghost use Rattle.std.specs.Prelude.{◌≡◌, ◌<◌, ◌+◌, ◌⊎◌, length, map, pos, true, IfOk, OnOk};
+ghost use Rattle.std.specs.Prelude.{◌≡◌, ◌<◌, ◌+◌, ◌⊎◌, length, map, pos, true, IsTrue, IfOk, OnOk};
 ghost use Rattle.std.specs.List.{All};
 ghost use Rattle.nef_space.specs.Vectors.{dot};
 ghost use Rattle.nef_geo.specs.Shapes.{vector_of};
@@ -8,7 +8,7 @@ ghost use Rattle.law_sphere.specs.Maps.{At};
 ghost use Rattle.law_build.specs.From.{IsFirstAfter, IsArcFrom};
 ghost use Rattle.nef_star.specs.Stars.{star_of, IsStar};
 ghost use Rattle.nef_smap.specs.Maps.{arc_of};
-ghost use Rattle.nef_spair.specs.Arcs.{IsAlong, AreArcs};
+ghost use Rattle.nef_spair.specs.Arcs.{AreTwoEnds, IsAlong, AreArcs};
 
 use crate::OutOfMemory;
 use nef_arc::{Arc, strictly_on};
@@ -22,7 +22,6 @@ use std::alloc::Global;
 fn first_after(kept: &[Star], from: usize, normal: &Dir) -> usize
     requires within { from < length kept.now }
     requires level { (t : Star) → At kept.now from t → dot (vector_of normal.now) (vector_of t.axis) ≡ pos 0 }
-    ensures within { result < length kept.now }
     ensures first { (t : Star) → At kept.now from t → IsFirstAfter (map star_of kept.now) (vector_of normal.now) (star_of t) result }
 {
     let source = *kept[from].axis();
@@ -34,6 +33,26 @@ fn first_after(kept: &[Star], from: usize, normal: &Dir) -> usize
         }
     }
     first
+}
+
+// Whether there are just two stars, of opposite axes.
+fn are_two_ends(kept: &[Star]) -> bool
+    ensures ends { IsTrue result → AreTwoEnds kept.now }
+{
+    kept.len() == 2 && kept[0].axis().back().is_same(kept[1].axis())
+}
+
+// The number of the star that an arc with this normal leads to from star number `from`.
+fn target_of(kept: &[Star], from: usize, normal: &Dir) -> usize
+    requires within { from < length kept.now }
+    requires level { (t : Star) → At kept.now from t → dot (vector_of normal.now) (vector_of t.axis) ≡ pos 0 }
+    ensures first { (t : Star) → At kept.now from t → IsFirstAfter (map star_of kept.now) (vector_of normal.now) (star_of t) result }
+{
+    // each half circle from one of two ends leads to the other
+    if are_two_ends(kept) {
+        return 1 - from;
+    }
+    first_after(kept, from, normal)
 }
 
 // The number before `number` of `count` that stand round in a circle.
@@ -59,7 +78,7 @@ fn arc_along(kept: &[Star], from: usize, number: usize, ray: &Ray) -> SArc
     let before = number_before(number, sectors.len());
     SArc {
         source: from,
-        target: first_after(kept, from, ray.normal()),
+        target: target_of(kept, from, ray.normal()),
         normal: *ray.normal(),
         mark: ray.mark(),
         pos: sectors[number],

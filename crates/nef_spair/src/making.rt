@@ -44,7 +44,7 @@ fn svertices_of(alloc: Global, kept: &[Star]) -> Result<Vec<SVertex>, OutOfMemor
     requires stars { All IsStar kept.now }
     ensures svertices { IfOk result (λ v. map svertex_of v.items ≡ map svertex_at (map star_of kept.now)) }
 {
-    let mut svertices = Vec::new(alloc);
+    let mut svertices = Vec::with_capacity(alloc, kept.len())?;
     for star in kept {
         svertices.push(svertex(star))?;
     }

@@ -9,7 +9,7 @@ ghost use Rattle.nef_space.specs.Vectors.{IsAtMost};
 ghost use Rattle.nef_geo.specs.Shapes.{vector_of};
 ghost use Rattle.nef_star.specs.Stars.{star_of, IsStar};
 ghost use Rattle.nef_smap.specs.Maps.{sloop_of, raw_of, IsRawStars};
-ghost use Rattle.nef_spair.specs.Pieces.{IsDropped, AreOthers, IsCircleOf, AreCircles, AreSimple, IsGroundOf, ArePiecesOf};
+ghost use Rattle.nef_spair.specs.Pieces.{IsDropped, AreAllKept, AreOthers, IsCircleOf, AreCircles, AreSimple, IsGroundOf, ArePiecesOf};
 
 use crate::OutOfMemory;
 use crate::pieces::Pieces;
@@ -58,12 +58,29 @@ fn some_label(raw: &RawStars) -> Option<Label>
     Some(raw.stars.at(0).mark())
 }
 
+// Whether no star is plain or straight.
+fn are_all_kept(stars: &[Star]) -> bool
+    requires stars { All IsStar stars.now }
+    ensures kept { IsTrue result → AreAllKept stars.now }
+{
+    for star in stars {
+        if is_straight(star) || is_plain(star) {
+            return false;
+        }
+    }
+    true
+}
+
 // The stars that are needed, and the circles of the straight ones.
 fn parted(alloc: Global, stars: List<Star>) -> Result<(Vec<Star>, Vec<SLoop>), OutOfMemory>
     requires stars { All IsStar stars }
     ensures kept { IfOk result (λ p. AreOthers IsDropped stars p.0.items) }
     ensures circles { IfOk result (λ p. AreCircles stars p.1.items) }
 {
+    // most lists of stars stay as they are
+    if are_all_kept(stars.as_slice()) {
+        return Ok((stars.into_vec(), Vec::new(alloc)));
+    }
     let mut kept = Vec::new(alloc);
     let mut circles = Vec::new(alloc);
     for star in stars.into_vec() {

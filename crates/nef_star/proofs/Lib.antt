@@ -16,3 +16,5 @@ pub mod Cuts
 pub mod Combined
 pub mod Joined
 pub mod RoundStars
+pub mod OtherEnds
+pub mod MirrorStars

@@ -3,3 +3,4 @@ pub mod Turning
 pub mod Stars
 pub mod Laws
 pub mod Rounds
+pub mod Mirrors

@@ -4,6 +4,7 @@
 mod combining;
 mod cut;
 mod laws;
+mod mirror;
 mod needless;
 mod op;
 mod rounds;
@@ -11,6 +12,7 @@ mod star;
 
 pub use combining::merge;
 pub use laws::star_laws;
+pub use mirror::mirrored;
 pub use needless::simplify;
 pub use op::Op;
 pub use rounds::round;

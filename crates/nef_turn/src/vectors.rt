@@ -9,25 +9,8 @@ ghost use Rattle.nef_case.specs.Turns.{IsEntry, named_by, turned};
 ghost use Rattle.law_turns.specs.Turned.{turned_vector, turned_place, signed};
 
 use crate::turn::Turn;
+use nef_case::turned_coordinates;
 use nef_geo::{Dir, Point};
-
-// The old coordinate that the entry of a row names, with the entry's sign.
-fn named(entry: i8, x: i64, y: i64, z: i64) -> i64
-    requires entry { IsEntry entry }
-    requires x_small { nat_abs x ≤ point_limit }
-    requires y_small { nat_abs y ≤ point_limit }
-    requires z_small { nat_abs z ≤ point_limit }
-    ensures named { result ≡ named_by entry (x, y, z) }
-{
-    match entry {
-        1 => x,
-        -1 => -x,
-        2 => y,
-        -2 => -y,
-        3 => z,
-        _ => -z,
-    }
-}
 
 /// What the turn makes of three coordinates.
 pub(crate) fn turned(turn: &Turn, x: i64, y: i64, z: i64) -> (i64, i64, i64)
@@ -36,11 +19,7 @@ pub(crate) fn turned(turn: &Turn, x: i64, y: i64, z: i64) -> (i64, i64, i64)
     requires z_small { nat_abs z ≤ point_limit }
     ensures turned { result ≡ turned turn.now.number (x, y, z) }
 {
-    (
-        named(turn.row[0], x, y, z),
-        named(turn.row[1], x, y, z),
-        named(turn.row[2], x, y, z),
-    )
+    turned_coordinates(&turn.row, x, y, z)
 }
 
 /// The point with the turned coordinates.

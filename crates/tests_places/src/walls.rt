@@ -82,6 +82,10 @@ rising 0 7 0 1 => facet 1 0 0 at 9 out # past the square, on x = 2048 along z th
 falling 0 5 0 1 => edge 6 7 in # exactly through a side
 falling 0 -5 -5 1 => vertex 4 in # exactly through a corner
 falling 0 7 0 1 => facet 1 0 0 at 1 out # past the square, on x = -2048 along z the edge from 1 to 3 is met
+up -67108864 319488 327679 65536 => vertex 7 in # from x = -1024 exactly to a corner
+up -67108864 319489 327679 65536 => facet 1 0 0 at 9 out # past that corner by 2^-16 in y
+down 67108864 -319488 -327679 65536 => vertex 4 in # from x = 1024 exactly to a corner
+down 67108864 -319489 -327679 65536 => facet 1 0 0 at 1 out # past that corner by 2^-16 in y
 facet 1 0 0 0 0 0 0 1 => facet 1 0 0 at 5 # along z the edge from 5 to 7 is met
 facet 1 0 0 0 0 7 0 1 => none # outside, along z nothing is met
 facet 1 0 0 0 0 0 -7 1 => none # outside, along z the edge from 4 to 6 is met

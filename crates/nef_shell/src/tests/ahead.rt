@@ -2,7 +2,7 @@
 
 use super::{ANSWERS, CORNER, COUNTS, FREE_CALLS, LOCKED_CALLS, fits, told};
 use crate::Status;
-use crate::gates::{Counting, Pairing};
+use crate::gates::{Counting, Holding, Pairing};
 use std::alloc::Global;
 use std::sync::Wait;
 use std::test::Fail;
@@ -35,6 +35,17 @@ fn ahead_two_statements(rt: HostRuntime) -> Result<(), Fail> {
     let gate = Pairing::new();
     let words = ["--ahead", "--workers", "2"];
     let status = told(&rt, rt.alloc(), &words, TWO, &gate)?;
+    assert_eq!(rt; status, Status::Done);
+    assert!(rt; !gate.limit_reached());
+    Ok(())
+}
+
+// What runs beside no other statement has all the workers.
+#[test]
+fn ahead_one_statement(rt: HostRuntime) -> Result<(), Fail> {
+    let gate = Holding::new();
+    let words = ["--ahead", "--workers", "2"];
+    let status = told(&rt, rt.alloc(), &words, "half A 1 0 0 0 closed", &gate)?;
     assert_eq!(rt; status, Status::Done);
     assert!(rt; !gate.limit_reached());
     Ok(())

@@ -1,7 +1,11 @@
+use Rattle.nef_space.specs.Place.{Place}
+use Rattle.nef_geo.specs.Shapes.{form_of}
+use Rattle.nef_geo.specs.declared.plane.Plane.{Plane}
+use Rattle.nef_complex.specs.Complexes.{complex_of}
+use Rattle.nef_cand.specs.Candidates.{IsCutBy}
 use Rattle.nef_cand.specs.Points.{Adds}
 use Rattle.nef_cand.proofs.Adding.{AnyFirst}
-use Rattle.nef_cand.proofs.Held.{CutsEdge}
 use Rattle.nef_cand.proofs.added.add_cuts.Given as goal
 
-abbrev pub invariant-loop-number : goal.invariant-loop-number
-invariant-loop-number l = record { added : Adds (AnyFirst (CutsEdge l.c l.planes) l.c.edges l.number) l.fn.points.items l.points.items }
+abbrev pub invariant-loop-h : goal.invariant-loop-h
+invariant-loop-h l = record { added : Adds (AnyFirst (λ (h : Plane) (y : Place). IsCutBy (complex_of l.c) (form_of h) y) l.planes l.h-index) l.fn.points.items l.points.items }

@@ -1,4 +1,4 @@
-use Rattle.std.proofs.Common.{ℕ, ◌<◌, length, get_or, arith}
+use Rattle.std.proofs.Common.{get_or, arith}
 use Rattle.nef_geo.specs.Shapes.{place_of}
 use Rattle.nef_classes.proofs.ClassLists.{is-at_get, is-at_some}
 use Rattle.nef_complex.proofs.Ends.{low-within, high-within}

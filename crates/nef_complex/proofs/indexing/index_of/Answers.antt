@@ -1,4 +1,4 @@
-use Rattle.std.proofs.Common.{ℕ, List, length, arith, refl, sym, subst, ⊎_elim}
+use Rattle.std.proofs.Common.{length, arith, refl, sym, subst, ⊎_elim}
 use Rattle.std.proofs.lemmas.Option.{slice_get_read}
 use Rattle.nef_geo.specs.Shapes.{form_of}
 use Rattle.nef_complex.specs.Index.{AreNumbersWith, EdgeLiesIn}

@@ -1,10 +1,10 @@
-use Rattle.std.proofs.Common.{◌≡◌, ◌+◌, ◌<◌, ◌≤◌, length, List, refl, sym, ap, subst, ◌∙◌, get_or, Vec, Global}
+use Rattle.std.proofs.Common.{◌≡◌, ◌+◌, ◌<◌, ◌≤◌, length, List, sym, ap, subst, ◌∙◌, get_or, Vec, Global}
 use Rattle.nef_space.specs.Vectors.{opposite, IsNormal}
 use Rattle.nef_geo.specs.Shapes.{vector_of}
 use Rattle.nef_smap.specs.declared.map.SVertex.{SVertex}
 use Rattle.nef_edges.specs.declared.half.Half.{Half}
 use Rattle.nef_edges.specs.Halves.{AreArriving, IsBefore}
-use Rattle.nef_edges.proofs.Arrivals.{before-row, arriving-weaken, arriving-pass, arriving-add, IsTrue-false}
+use Rattle.nef_edges.proofs.Arrivals.{before-row, arriving-weaken, arriving-pass, arriving-half, arriving-add, IsTrue-false}
 use Rattle.nef_edges.proofs.Places.{read-at}
 use Rattle.nef_edges.proofs.arriving.add_arriving.Goals.{then-leads_on+in_ok-push, else-leads_on}
 use Rattle.nef_edges.proofs.arriving.add_arriving.Goals as goal
@@ -22,9 +22,9 @@ loop-k-preserved c =
     record {
       added = elim c.if-leads_on.branch [
         | then-leads_on+in_ok-push w ↦
-            let h : Half = record { point = v.point; dir = c.back-dir.result; vertex = i; svertex = k } in
+            let h = w.of.result in let o = w.of.ensures in
             subst (AreArriving vs (IsBefore i (k + 1))) (sym w.in_ok-push.ensures.items ∙ ap (λ (x : Vec Half Global). x.items) (sym w.halves-is))
-            (arriving-add vs i k c.loop-k.halves.items h c.loop-k.invariant.added (record { vertex = v; svertex = s; has_vertex = a; has_svertex = b; point = refl; back = c.back-dir.ensures.back }) refl refl)
+            (arriving-add vs i k c.loop-k.halves.items h c.loop-k.invariant.added (arriving-half vs i k v s h a b o.point (ap vector_of o.dir ∙ c.back-dir.ensures.back) o.vertex o.svertex) o.vertex o.svertex)
         | else-leads_on w ↦
             let none = λ (n : IsNormal (opposite (vector_of s.dir))). IsTrue-false c.leads_on.result (c.leads_on.ensures.leads_on.1 (subst IsNormal (sym c.back-dir.ensures.back) n)) w.if-leads_on.false in
             subst (λ (x : Vec Half Global). AreArriving vs (IsBefore i (k + 1)) x.items) (sym w.halves-is) (arriving-pass vs i k c.loop-k.halves.items v s c.loop-k.invariant.added a b none)

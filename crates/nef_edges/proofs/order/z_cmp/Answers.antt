@@ -4,6 +4,6 @@ use Rattle.nef_edges.proofs.order.z_cmp.Goals as goal
 
 pub returns : goal.returns
 returns c = record {
-  order = ratio-is c.args.a.now c.args.b.now (λ h. (moment_of h).z) c.moment_z.result c.w.result c.moment_z-2.result c.w-2.result c.ratio_cmp.result
-      c.moment_z.ensures.moment c.moment_z-2.ensures.moment c.w.ensures.w c.w-2.ensures.w c.moment_z.ensures.small c.moment_z-2.ensures.small c.ratio_cmp.ensures.order;
+  order = ratio-is c.args.a.now c.args.b.now (λ h. (moment_of h).z) c.product_z.result c.w.result c.product_z-2.result c.w-2.result c.ratio_cmp.result
+      c.product_z.ensures.product c.product_z-2.ensures.product c.w.ensures.w c.w-2.ensures.w c.product_z.ensures.small c.product_z-2.ensures.small c.ratio_cmp.ensures.order;
 }

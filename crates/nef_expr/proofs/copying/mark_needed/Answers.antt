@@ -1,8 +1,7 @@
-use Rattle.std.proofs.Common.{◌≡◌, ◌+◌, ◌-◌, ◌<◌, ◌≤◌, length, arith, sym, subst, Some, refl}
+use Rattle.std.proofs.Common.{◌≡◌, ◌+◌, ◌-◌, length, arith, sym, subst, Some, refl}
 use Rattle.std.specs.Prelude.{slice_get}
 use Rattle.std.proofs.lemmas.Option.{slice_get_read, slice_get-get_or}
 use Rattle.nef_expr.specs.declared.nodes.Node.TheVariants as node
-use Rattle.nef_expr.specs.Copying.{MarksOperands}
 use Rattle.nef_expr.proofs.Operands.{names-wider}
 use Rattle.nef_expr.proofs.Marks.{MarksFrom, marks-start, marks-more, marks-passed, marks-end}
 use Rattle.nef_expr.proofs.copying.mark_needed.Goals as goal

@@ -1,4 +1,4 @@
-use Rattle.std.proofs.Common.{◌≡◌, ◌+◌, ◌≤◌, [], ◌∷◌, ◌++◌, length, true, false, arith, ap, sym, subst, ◌∙◌, length-append}
+use Rattle.std.proofs.Common.{◌≡◌, [], ◌∷◌, length, true, false, arith, ap, sym, subst, ◌∙◌, length-append}
 use Rattle.nef_expr.specs.Copying.{IsMarked}
 use Rattle.nef_expr.proofs.Marks.{marked-last}
 use Rattle.nef_expr.proofs.copying.needed_nodes.Goals as goal

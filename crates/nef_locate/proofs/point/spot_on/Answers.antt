@@ -1,10 +1,10 @@
-use Rattle.std.proofs.Common.{refl, ⊎_elim}
+use Rattle.std.proofs.Common.{⊎_elim}
 use Rattle.nef_geo.specs.Shapes.{form_of, hit_place}
 use Rattle.nef_classes.proofs.ClassLists.{is-at_within}
 use Rattle.nef_complex.specs.Complexes.{complex_of}
 use Rattle.nef_locate.proofs.EdgeOrder.{parts-off}
 use Rattle.nef_locate.proofs.Listed.{unmet}
-use Rattle.nef_locate.proofs.Located.{edge-at, corner-at}
+use Rattle.nef_locate.proofs.Located.{edge-at}
 use Rattle.nef_locate.proofs.point.spot_on.Goals as goal
 
 pub carrier_items-requires : goal.carrier_items-requires
@@ -18,17 +18,14 @@ edge_among-requires-clause-within c = λ i k a.
 pub returns-in-Some-clause-at : goal.returns-in-Some-clause-at
 returns-in-Some-clause-at c = edge-at (complex_of c.args.c.now) (hit_place c.args.q.now) c.in-Some.edge c.in-Some.ensures.edge
 
-pub in_facet-requires-clause-off : goal.in_facet-requires-clause-off
-in_facet-requires-clause-off c =
+pub facet_spot-requires-clause-off : goal.facet_spot-requires-clause-off
+facet_spot-requires-clause-off c =
     unmet c.args.c.now (form_of c.args.h.now) (hit_place c.args.q.now) c.carrier_items.result.edges.now (c.carrier_items.ensures.edges c.args.h.now c.requires.number)
     (parts-off c.args.c.now c.args.q.now c.args.before c.requires.parts) c.in_default.ensures.edge
 
-pub returns-in-Some-in_facet-clause-at : goal.returns-in-Some-in_facet-clause-at
-returns-in-Some-in_facet-clause-at c = corner-at (complex_of c.args.c.now) (hit_place c.args.q.now) c.in-Some-in_facet.corner c.in-Some-in_facet.ensures.corner
-
-pub returns-in-None-clause-none : goal.returns-in-None-clause-none
-returns-in-None-clause-none c = λ e s S i.
+pub returns-clause-none : goal.returns-clause-none
+returns-clause-none c = λ e s S.
     ⊎_elim
     (λ m. unmet c.args.c.now (form_of c.args.h.now) (hit_place c.args.q.now) c.carrier_items.result.edges.now (c.carrier_items.ensures.edges c.args.h.now c.requires.number)
     (parts-off c.args.c.now c.args.q.now c.args.before c.requires.parts) c.in_default.ensures.edge m.0 m.1)
-    (λ f. c.in-None.ensures.none refl s S f) i
+    (c.facet_spot.ensures.none e s S)

@@ -1,37 +1,45 @@
-use Rattle.std.proofs.Common.{arith, subst, Option, IfSome}
-use Rattle.nef_space.specs.Place.{Place as PlainPlace}
-use Rattle.nef_space.specs.Sets.{Set}
-use Rattle.nef_geo.specs.Hits.{IsCrossing}
+use Rattle.std.proofs.Common.{length, refl, ◌+◌, List, sym, ◌∙◌, subst, Option, IfSome}
+use Rattle.std.proofs.lemmas.Option.{slice_get_read}
 use Rattle.nef_geo.specs.Shapes.{form_of, vector_of, place_of}
-use Rattle.nef_geo.specs.declared.plane.Plane.{Plane}
-use Rattle.nef_smap.proofs.Lists.{at-within}
-use Rattle.nef_complex.specs.Complexes.{complex_of, ShowsSet}
+use Rattle.nef_complex.specs.Complexes.{complex_of}
+use Rattle.nef_complex.specs.declared.groups.Group.{Group}
 use Rattle.nef_locate.specs.declared.ray.Met.{Met}
-use Rattle.law_complex.specs.Laws.{IsFlatIn}
-use Rattle.nef_locate.specs.Rays.{IsMet, IsNotBefore, HasNoneBefore}
-use Rattle.nef_locate.proofs.RayMeets.{first-some, first-none}
+use Rattle.nef_locate.specs.Rays.{IsMet, IsNotBefore}
+use Rattle.nef_arc.proofs.SignNumbers.{not_true}
+use Rattle.nef_locate.proofs.RayMeets.{first-some, first-none, skeleton-framed, all-met, HasNoneIn, HaveNoneIn}
 use Rattle.nef_locate.proofs.Reading.{next-all}
+use Rattle.nef_locate.proofs.Windows.{spanned}
+use Rattle.nef_locate.proofs.ray.first_hit.Goals.{then-may_hold, else-may_hold}
 use Rattle.nef_locate.proofs.ray.first_hit.Goals as goal
 
-pub met_on_edges-best-requires-clause-window : goal.met_on_edges-best-requires-clause-window
-met_on_edges-best-requires-clause-window c = λ q j a. c.ray_window-window.ensures.ahead (vector_of c.args.d.now) q c.requires.upright c.requires.framed j a
-
-pub nearer-best-requires-clause-window : goal.nearer-best-requires-clause-window
-nearer-best-requires-clause-window c = λ q j a. c.ray_window-window.ensures.ahead (vector_of c.args.d.now) q c.requires.upright c.requires.framed j a
-
-pub loop-number-preserved : goal.loop-number-preserved
-loop-number-preserved c =
-    let C = c.args.c.now in let p = place_of c.args.p.now in let d = vector_of c.args.d.now in (
-      c.nearer-best.ensures.met,
-      (λ y w e. c.nearer-best.ensures.kept y (c.loop-number.invariant.1 y w e)),
-      next-all (λ (h : Plane). (s : Set) (y : PlainPlace) → ShowsSet s C → IsCrossing p d (form_of h) y → IsFlatIn s (form_of h) y → IsNotBefore p y c.nearer-best.result)
-          C.carriers c.loop-number.number c.at.result.now c.at.ensures.element
-          (λ k h l a s y S X I. c.nearer-best.ensures.kept y (c.loop-number.invariant.2 k h l a s y S X I)) c.nearer-best.ensures.plane,
-    )
+pub loop-group-preserved : goal.loop-group-preserved
+loop-group-preserved c =
+    let C = c.args.c.now in let p = place_of c.args.p.now in let d = vector_of c.args.d.now in
+    let n = c.loop-group.group-index in
+    let A = c.carrier_groups-groups.ensures.groups in
+    let groups : List Group = c.carrier_groups-groups.result.now in
+    let g = c.group-item.result in
+    let here = slice_get_read groups (length groups) n g refl c.loop-group-test.true c.group-item.is in
+    elim c.if-may_hold.branch [
+      | then-may_hold w ↦ (
+        subst (λ (o : Option Met). IfSome o (IsMet (complex_of C) p d)) (sym w.best-is) w.nearer_in_group-best.ensures.met,
+        subst (HaveNoneIn C p d groups (n + 1)) (sym w.best-is)
+            (next-all (HasNoneIn C p d w.nearer_in_group-best.result) groups n g here
+            (λ i r l a j k b h e s y S X I. w.nearer_in_group-best.ensures.kept y (c.loop-group.invariant.1 i r l a j k b h e s y S X I)) w.nearer_in_group-best.ensures.carriers),
+      )
+      | else-may_hold w ↦ (
+        subst (λ (o : Option Met). IfSome o (IsMet (complex_of C) p d)) (sym w.best-is) c.loop-group.invariant.0,
+        subst (HaveNoneIn C p d groups (n + 1)) (sym w.best-is)
+            (next-all (HasNoneIn C p d c.loop-group.best) groups n g here c.loop-group.invariant.1
+            (λ j k b h e s y S X I. absurd (not_true (sym w.if-may_hold.false ∙ c.may_hold.ensures.holds y
+            (spanned s C S (form_of h) g.span (A.each n j k g h here b e) y X.on I)
+            (c.ray_window-window.ensures.ahead y c.requires.framed (skeleton-framed s C S (form_of h) y I) X.ahead))))),
+      )
+    ]
 
 pub returns-in-Some-clause-place : goal.returns-in-Some-clause-place
 returns-in-Some-clause-place c =
-    let M = subst (λ (o : Option Met). IfSome o (IsMet (complex_of c.args.c.now) (place_of c.args.p.now) (vector_of c.args.d.now))) c.in-Some.is c.loop-number.invariant.0 in
+    let M = subst (λ (o : Option Met). IfSome o (IsMet (complex_of c.args.c.now) (place_of c.args.p.now) (vector_of c.args.d.now))) c.in-Some.is c.loop-group.invariant.0 in
     let on = M.on in
     on.has
 
@@ -39,17 +47,13 @@ pub returns-in-Some-clause-some : goal.returns-in-Some-clause-some
 returns-in-Some-clause-some c =
     let C = c.args.c.now in let p = place_of c.args.p.now in let d = vector_of c.args.d.now in let S = c.requires.shows in
     first-some S.0 C S.1 p d c.requires.upright c.in-Some.met
-    (subst (λ (o : Option Met). IfSome o (IsMet (complex_of C) p d)) c.in-Some.is c.loop-number.invariant.0)
-    (subst (HasNoneBefore (complex_of C) p d) c.in-Some.is c.loop-number.invariant.1)
-    (λ k h a y X I.
-    let l = at-within C.carriers k h a in let t = c.loop-number-test.false in let e = c.len-number-end.ensures.len in
-    subst (IsNotBefore p y) c.in-Some.is (c.loop-number.invariant.2 k h (omega (arith, l, t, e)) a S.0 y S.1 X I))
+    (subst (λ (o : Option Met). IfSome o (IsMet (complex_of C) p d)) c.in-Some.is c.loop-group.invariant.0)
+    (λ k h a s y S X I. subst (IsNotBefore p y) c.in-Some.is
+    (all-met s C S p d c.requires.upright c.carrier_groups-groups.result.now c.carrier_groups-groups.ensures.groups c.loop-group.group-index c.loop-group-test.false c.loop-group.best c.loop-group.invariant.1 k h a s y S X I))
 
 pub returns-in-None-clause-none : goal.returns-in-None-clause-none
 returns-in-None-clause-none c _ =
     let C = c.args.c.now in let p = place_of c.args.p.now in let d = vector_of c.args.d.now in let S = c.requires.shows in
     first-none S.0 C S.1 p d c.requires.upright
-    (subst (HasNoneBefore (complex_of C) p d) c.in-None.is c.loop-number.invariant.1)
-    (λ k h a y X I.
-    let l = at-within C.carriers k h a in let t = c.loop-number-test.false in let e = c.len-number-end.ensures.len in
-    subst (IsNotBefore p y) c.in-None.is (c.loop-number.invariant.2 k h (omega (arith, l, t, e)) a S.0 y S.1 X I))
+    (λ k h a s y S X I. subst (IsNotBefore p y) c.in-None.is
+    (all-met s C S p d c.requires.upright c.carrier_groups-groups.result.now c.carrier_groups-groups.ensures.groups c.loop-group.group-index c.loop-group-test.false c.loop-group.best c.loop-group.invariant.1 k h a s y S X I))

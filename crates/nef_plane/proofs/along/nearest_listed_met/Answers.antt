@@ -11,3 +11,9 @@ returns c =
       nearest = nearest-either met_of p d (AtSomeVertex C) (AtSomeEdge C (form_of c.args.h.now) d) c.nearest_listed_vertex-listed_vertex.result c.nearest_listed_edge-listed_edge.result c.nearer.result
           c.nearer.ensures.nearer c.nearest_listed_vertex-listed_vertex.ensures.nearest c.nearest_listed_edge-listed_edge.ensures.nearest;
     }
+
+pub nearest_listed_vertex-listed_vertex-requires-clause-course : goal.nearest_listed_vertex-listed_vertex-requires-clause-course
+nearest_listed_vertex-listed_vertex-requires-clause-course c = c.of-course.ensures.course c.args.c.now.vertices c.args.p.now c.requires.start
+
+pub nearest_listed_edge-listed_edge-requires-clause-course : goal.nearest_listed_edge-listed_edge-requires-clause-course
+nearest_listed_edge-listed_edge-requires-clause-course c = c.of-course.ensures.course c.args.c.now.vertices c.args.p.now c.requires.start

@@ -5,14 +5,12 @@ use Rattle.nef_plane.specs.Meets.{AtVertexNumber, IsNearer, met_of}
 use Rattle.nef_plane.proofs.Listed.{vertex-listed}
 use Rattle.nef_plane.proofs.Choosing.{keep-first, not-some}
 use Rattle.nef_plane.proofs.Nearest.{nearest-reached, listed-more, listed-all}
-use Rattle.nef_classes.proofs.ClassLists.{is-at_get, is-at_within}
+use Rattle.nef_classes.proofs.ClassLists.{is-at_get}
 use Rattle.nef_plane.proofs.along.nearest_listed_vertex.Goals.{then-is_some, else-is_some}
 use Rattle.nef_plane.proofs.along.nearest_listed_vertex.Goals as goal
 
-pub vertex_met_beside-met-requires-clause-within : goal.vertex_met_beside-met-requires-clause-within
-vertex_met_beside-met-requires-clause-within c =
-    let l = c.requires.listed.each c.loop-number.number-index (get_or c.args.numbers.now c.loop-number.number-index 0) (is-at_get c.args.numbers.now c.loop-number.number-index 0 c.loop-number-test.true) in
-    is-at_within c.args.c.now.vertices (get_or c.args.numbers.now c.loop-number.number-index 0) l.0 l.1
+pub vertex_met_beside-met-requires-clause-held : goal.vertex_met_beside-met-requires-clause-held
+vertex_met_beside-met-requires-clause-held c = c.requires.listed.each c.loop-number.number-index (get_or c.args.numbers.now c.loop-number.number-index 0) (is-at_get c.args.numbers.now c.loop-number.number-index 0 c.loop-number-test.true)
 
 pub nearer-best-requires-clause-one : goal.nearer-best-requires-clause-one
 nearer-best-requires-clause-one c = nearest-reached met_of (place_of c.args.p.now) (vector_of c.args.d.now) _ c.loop-number.best c.loop-number.invariant

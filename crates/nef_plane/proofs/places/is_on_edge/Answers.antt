@@ -1,7 +1,9 @@
 use Rattle.std.proofs.Common.{sym, ◌∙◌, rules}
 use Rattle.nef_arc.proofs.SignNumbers.{not_true}
-use Rattle.nef_geo.specs.Shapes.{place_of, hit_place}
-use Rattle.nef_complex.proofs.Ends.{low-within, high-within}
+use Rattle.nef_geo.specs.Shapes.{form_of, place_of, hit_place}
+use Rattle.nef_classes.proofs.ClassLists.{is-at_some}
+use Rattle.nef_complex.proofs.Ends.{low-within, high-within, edge-inside}
+use Rattle.nef_complex.proofs.Parted.{held-between}
 use Rattle.nef_complex.proofs.Reading.{got-at}
 use Rattle.nef_complex.proofs.ListedHolders.{holders-within}
 use Rattle.nef_plane.proofs.Amid.{sides-edge, edge-low, edge-high}
@@ -19,6 +21,20 @@ vertex_holders-at_low-requires-clause-within c = let S = c.requires.shows in low
 
 pub vertex_holders-at_high-requires-clause-within : goal.vertex_holders-at_high-requires-clause-within
 vertex_holders-at_high-requires-clause-within c = let S = c.requires.shows in high-within S.0 c.args.c.now S.1.shows c.args.number c.at-edge.result.now (got-at c.args.c.now.edges c.args.number c.at-edge.result.now c.at-edge.ensures.element)
+
+pub returns-then-not-is_in_line : goal.returns-then-not-is_in_line
+returns-then-not-is_in_line c =
+    let S = c.requires.shows in let C = c.args.c.now in let k = c.args.number in
+    let E = is-at_some C.edges k c.requires.within in let e = E.0 in let l = got-at C.edges k e E.1 in
+    let U = is-at_some C.vertices e.low (low-within S.0 C S.1.shows k e l) in let u = U.0 in let i = got-at C.vertices e.low u U.1 in
+    let V = is-at_some C.vertices e.high (high-within S.0 C S.1.shows k e l) in let v = V.0 in let j = got-at C.vertices e.high v V.1 in
+    let a = place_of u.point in let b = place_of v.point in let y = hit_place c.args.q.now in
+    record {
+      on = (
+        λ t. absurd (not_true t),
+        λ x. absurd (search (rules, (c.is_in_line.ensures.line e u v E.1 U.1 V.1).1 (λ m h o H. held-between (form_of h) a b y (edge-inside S.0 C S.1.shows k e u v l i j y x) H), c.if-not-is_in_line.true)),
+      );
+    }
 
 pub sides_with-requires : goal.sides_with-requires
 sides_with-requires c =

@@ -19,8 +19,8 @@ number_before-before-requires c =
     let m = as-many-sectors t T.turned n c.args.ray.now b in let w = at-within t.rays.items n c.args.ray.now b in
     record { within = omega (arith, m, w, ap length c.sectors-sectors.ensures.sectors) }
 
-pub first_after-requires-clause-level : goal.first_after-requires-clause-level
-first_after-requires-clause-level c =
+pub target_of-requires-clause-level : goal.target_of-requires-clause-level
+target_of-requires-clause-level c =
     let kept = c.args.kept.now in
     λ t a.
     let T = all-at IsStar kept c.requires.stars c.args.from t a in let l = ray-leaves t T.turned c.args.number c.args.ray.now (c.requires.ray t a) in
@@ -43,7 +43,7 @@ returns-clause-arc c =
     arc-from kept _ t c.args.ray.now n c.number_before-before.result T.turned a b c.requires.ahead (ap vector_of normal) c.mark.ensures.mark
     (ap (λ (l : List Label). get_or l n Out) e) (ap (λ (l : List Label). get_or l c.number_before-before.result Out) e)
     (subst (λ (l : List Label). (c.number_before-before.result + 1 ≡ n) ⊎ ((c.number_before-before.result + 1 ≡ length l) × (n ≡ 0))) e c.number_before-before.ensures.before)
-    (subst (λ (d : Dir). IsFirstAfter (map star_of kept) (vector_of d) (star_of t) c.first_after.result) (c.normal.ensures.normal ∙ sym normal) (c.first_after.ensures.first t a))
+    (subst (λ (d : Dir). IsFirstAfter (map star_of kept) (vector_of d) (star_of t) c.target_of.result) (c.normal.ensures.normal ∙ sym normal) (c.target_of.ensures.first t a))
 
 pub returns-clause-along : goal.returns-clause-along
 returns-clause-along c =

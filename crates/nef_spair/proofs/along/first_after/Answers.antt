@@ -40,9 +40,12 @@ loop-k-preserved c =
           (λ o. true_or_false (sym (c.strictly_on.ensures.on.1 (on-named way.normal way.source way.target c.axis-in-loop-k.result.now n s t.axis u.axis (sym ew.normal) (sym ew.source) (sym et) (sym ed) o)) ∙ r.if-strictly_on.false)))
     ]
 
-pub returns-clause-first : goal.returns-clause-first
-returns-clause-first c =
+pub returns : goal.returns
+returns c =
     let kept = c.args.kept.now in let w = c.loop-k.invariant in let v = c.index-kept-from.result in
-    λ t a. let f = get-at kept c.loop-k.first v w.within in
-    let e = at-one kept c.args.from t v a (index-at kept c.args.from v c.requires.within c.index-kept-from.is) in
-    first-all kept c.args.normal.now c.axis-source.result.now c.loop-k.k c.loop-k.first _ c.loop-k-test.false w f t (ap (λ (x : Star). x.axis) e ∙ sym c.axis-source.ensures.axis)
+    record {
+      first = λ t a.
+          let f = get-at kept c.loop-k.first v w.within in
+          let e = at-one kept c.args.from t v a (index-at kept c.args.from v c.requires.within c.index-kept-from.is) in
+          first-all kept c.args.normal.now c.axis-source.result.now c.loop-k.k c.loop-k.first _ c.loop-k-test.false w f t (ap (λ (x : Star). x.axis) e ∙ sym c.axis-source.ensures.axis);
+    }

@@ -2,10 +2,18 @@ use Rattle.std.proofs.Common.{List, [], ◌∷◌, ◌++◌, sym, subst, ◌∙�
 use Rattle.nef_star.specs.declared.star.Star.{Star}
 use Rattle.nef_star.proofs.Needed.{true_or_false}
 use Rattle.nef_smap.specs.declared.map.SLoop.{SLoop}
-use Rattle.nef_spair.specs.Pieces.{IsDropped, AreOthers, AreCircles}
-use Rattle.nef_spair.proofs.Places.{others-keep, others-leave}
-use Rattle.nef_spair.proofs.Parting.{circles-more, circles-same, not-dropped}
+use Rattle.nef_spair.specs.Pieces.{IsDropped, AreAllKept, AreOthers, AreCircles}
+use Rattle.nef_spair.proofs.Places.{others-same, others-keep, others-leave}
+use Rattle.nef_spair.proofs.Parting.{no-circles, circles-more, circles-same, not-dropped}
 use Rattle.nef_spair.proofs.sorting.parted.Goals as goal
+
+pub returns-then-are_all_kept : goal.returns-then-are_all_kept
+returns-then-are_all_kept c =
+    let ts = c.args.stars in let all = subst AreAllKept c.as_slice.ensures.all (c.are_all_kept.ensures.kept c.if-are_all_kept.true) in
+    record {
+      kept = subst (AreOthers IsDropped ts) (sym {A = List Star} c.into_vec.ensures.all) (others-same IsDropped ts all);
+      circles = subst (AreCircles ts) (sym {A = List SLoop} c.new.ensures.items) (no-circles ts all);
+    }
 
 pub loop-star-preserved-then-is_straight : goal.loop-star-preserved-then-is_straight
 loop-star-preserved-then-is_straight c =

@@ -1,5 +1,4 @@
-use Rattle.std.proofs.Common.{length, arith, subst, sym, ◌∙◌, ◌≡◌}
-use Rattle.nef_star.specs.Stars.{AreNeeded}
+use Rattle.std.proofs.Common.{arith, sym, ◌∙◌}
 use Rattle.nef_star.proofs.Needed.{needed-more, true_or_false}
 use Rattle.nef_star.proofs.needless.is_simple.Goals as goal
 

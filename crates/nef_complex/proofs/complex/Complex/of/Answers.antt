@@ -1,11 +1,13 @@
-use Rattle.std.proofs.Common.{◌≡◌, ℕ, List, [], length, sym, ◌∙◌, subst}
+use Rattle.std.proofs.Common.{◌≡◌, ℕ, ◌<◌, List, [], length, sym, ◌∙◌, subst}
 use Rattle.nef_space.specs.Lists.{IsAt}
 use Rattle.nef_geo.specs.declared.plane.Plane.{Plane}
 use Rattle.nef_complex.specs.declared.complex.Edge.{Edge}
 use Rattle.nef_complex.specs.declared.complex.Vertex.{Vertex}
 use Rattle.nef_complex.specs.declared.spans.Span.{Span}
-use Rattle.nef_complex.specs.Index.{AreHeld, AreNumbersWith, AreWithin, AreVertexHolders, AreEdgeHolders, AreCarrierVertices, AreCarrierEdges, IsIndexOf}
-use Rattle.nef_complex.specs.Indexing.{AreRowsOfOnce, HasNumber}
+use Rattle.nef_complex.specs.declared.groups.Group.{Group}
+use Rattle.nef_complex.specs.Index.{AreHeld, AreSpans, StandsIn, AreGroups, AreNumbersWith, AreWithin, AreVertexHolders, AreEdgeHolders, AreCarrierVertices, AreCarrierEdges, IsIndexOf}
+use Rattle.nef_complex.specs.Indexing.{AreRowsOfOnce, HasNumber, IsWide}
+use Rattle.nef_complex.proofs.Grouped.{carrier-groups}
 use Rattle.nef_complex.proofs.Spanning.{AreSpansOf, rows-within, carrier-spans}
 use Rattle.nef_complex.proofs.Turned.{vertices-once, edges-once, carrier-vertices, carrier-edges}
 use Rattle.nef_complex.proofs.complex.Complex.of.Goals as goal
@@ -29,6 +31,9 @@ module _ (gs : List Plane) (us : List Vertex) (rows read : List (List ℕ)) (n :
 
   on-carriers : AreVertexHolders gs us rows → length table ≡ n → ((k : ℕ) (row : List ℕ) → IsAt table k row → AreNumbersWith (HasNumber read k) row) → AreCarrierVertices gs us table
   on-carriers V m t = carrier-vertices gs us rows V table (m ∙ f) (numbers t)
+
+in-groups : (gs : List Plane) (us : List Vertex) (read spans : List Span) (groups : List Group) → read ≡ spans → AreSpans gs us spans → ((i : ℕ) (g : Group) → IsAt groups i g → AreWithin read g.carriers) → ((i : ℕ) (g : Group) → IsAt groups i g → IsWide read g) → ((k : ℕ) → k < length read → StandsIn groups k) → AreGroups gs us groups
+in-groups gs us read spans groups e S = carrier-groups gs us read groups (subst (AreSpans gs us) (sym e) S)
 
 pub turned-requires : goal.turned-requires
 turned-requires c =
@@ -83,4 +88,5 @@ returns-clause-holders c =
     let ss = c.in_ok-spans.spans in
     let many = subst (λ (xs : List (List ℕ)). length ss ≡ length xs) c.as_slice-9.ensures.all c.in_ok-spans.ensures.as_many in
     let all = of-two (λ (xs : List (List ℕ)) (us : List Vertex). AreSpansOf us xs ss) c.as_slice-9.result.now table c.as_slice-8.result.now vs c.as_slice-9.ensures.all c.as_slice-8.ensures.all c.in_ok-spans.ensures.spanned in
-    record { at_vertex = V; at_edge = E; on_carrier = O; in_carrier = W; spans = carrier-spans hs vs table O ss many all }
+    let S = carrier-spans hs vs table O ss many all in
+    record { at_vertex = V; at_edge = E; on_carrier = O; in_carrier = W; spans = S; groups = in-groups hs vs c.as_slice-12.result.now ss c.in_ok-groups.groups c.as_slice-12.ensures.all S c.in_ok-groups.ensures.within c.in_ok-groups.ensures.wide c.in_ok-groups.ensures.all }

@@ -3,8 +3,7 @@ use Rattle.std.proofs.Common.{arith, ◌≡◌, ◌++◌, [], ◌∷◌, Some, l
 use Rattle.std.proofs.lemmas.Grind.{common_steps}
 use Rattle.std.specs.Ordering.{nat_cmp}
 use Rattle.std.specs.BTreeMap.{Updates}
-use Rattle.nef_expr.specs.Table.{Table, IsTable, IsOfOrigin, HasOrigin, key_of}
-use Rattle.nef_expr.specs.Nodes.{NamesBelow}
+use Rattle.nef_expr.specs.Table.{Table, IsTable}
 use Rattle.nef_expr.proofs.Tables.{table-push}
 use Rattle.nef_expr.proofs.table.TurnedNodes.add.Goals as goal
 

@@ -6,7 +6,7 @@ use Rattle.nef_expr.specs.declared.nodes.Node.{Node}
 use Rattle.nef_expr.specs.declared.origin.Origin.{Origin}
 use Rattle.nef_expr.specs.Nodes.{NamesBelow}
 use Rattle.nef_expr.specs.Turns.{TurnOf}
-use Rattle.nef_expr.specs.Table.{Table, IsTable, IsOfOrigin, HasOrigin, AreOrigins, IsCopyOf, origin}
+use Rattle.nef_expr.specs.Table.{Table, IsTable, IsOfOrigin, HasOrigin, IsCopyOf, origin}
 use Rattle.nef_expr.proofs.Places.{slice_get-left, slice_get-seam, both_ok}
 use Rattle.nef_expr.proofs.Tables.{new-names, new-image, copy-there, copy-is, copy-image}
 use Rattle.nef_expr.proofs.table.TurnedNodes.copy.Goals as goal

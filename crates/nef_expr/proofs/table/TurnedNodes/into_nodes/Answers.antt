@@ -1,5 +1,5 @@
 -- At most 48 nodes for each base.
-use Rattle.std.proofs.Common.{◌≤◌, ◌*◌, ◌∙◌, ℕ, List, length, ap, sym, subst}
+use Rattle.std.proofs.Common.{◌≤◌, ◌*◌, ◌∙◌, List, length, ap, sym, subst}
 use Rattle.nef_expr.specs.declared.nodes.Node.{Node}
 use Rattle.nef_expr.specs.Table.{Table, IsTable}
 use Rattle.nef_expr.proofs.Tables.{few-nodes}

@@ -1,0 +1,43 @@
+-- The signs of a form at vertices, collected vertex by vertex, and the edges whose ends they part.
+use Rattle.std.proofs.Common.{◌≡◌, ℕ, zero, suc, ◌<◌, List, [], ◌∷◌, ◌++◌, length, get_or, refl, sym, ap, subst, ◌∙◌, inl, inr, ◌⊎◌}
+use Rattle.nef_space.specs.Place.{Form, form_at}
+use Rattle.nef_geo.specs.Shapes.{place_of, form_of}
+use Rattle.nef_geo.specs.Signs.{sign_of}
+use Rattle.nef_geo.specs.Steps.{HasOppositeSigns}
+use Rattle.nef_geo.specs.declared.plane.Plane.{Plane}
+use Rattle.nef_geo.specs.declared.point.Point.{Point}
+use Rattle.nef_geo.specs.declared.sign.Sign.{Sign}
+use Rattle.law_sphere.specs.Maps.{At}
+use Rattle.law_sphere.proofs.Lists.{at-one}
+use Rattle.nef_complex.specs.declared.complex.Complex.{Complex}
+use Rattle.nef_complex.specs.declared.complex.Edge.{Edge}
+use Rattle.nef_complex.specs.declared.complex.Vertex.{Vertex}
+use Rattle.nef_complex.proofs.Reading.{read-at}
+use Rattle.nef_cand.specs.Points.{Adds, AreSides, CutsEdge}
+use Rattle.nef_cand.proofs.Adding.{adds-none}
+use Rattle.nef_cand.proofs.Crossing.{never-crosses}
+
+at-more : {A : Type 0} (xs : List A) (y : A) (k : ℕ) (x : A) → At (xs ++ y ∷ []) k x → At xs k x ⊎ ((k ≡ length xs) × (y ≡ x))
+at-more [] y zero x h = inr (refl, h)
+at-more [] y (suc k) x h = absurd h
+at-more (z ∷ zs) y zero x h = inl h
+at-more (z ∷ zs) y (suc k) x h = elim (at-more zs y k x h) as (λ u. At zs k x ⊎ ((suc k ≡ length (z ∷ zs)) × (y ≡ x))) [ inl i ↦ inl i | inr i ↦ inr (ap suc i.0, i.1) ]
+
+-- each of these signs is that at the vertex of its number
+abbrev pub HasSides : Form → List Vertex → List Sign → Type 0
+HasSides h vs signs = (k : ℕ) (v : Vertex) (s : Sign) → At vs k v → At signs k s → s ≡ sign_of (form_at h (place_of v.point))
+
+pub sides-more : (h : Form) (vs : List Vertex) (signs : List Sign) (v : Vertex) (s : Sign) → length signs < length vs → v ≡ get_or vs (length signs) v → s ≡ sign_of (form_at h (place_of v.point)) → HasSides h vs signs → HasSides h vs (signs ++ s ∷ [])
+sides-more h vs signs v s l is e H k w t a b = by (at-more signs s k t b)
+  where
+    by : At signs k t ⊎ ((k ≡ length signs) × (s ≡ t)) → t ≡ sign_of (form_at h (place_of w.point))
+    by (inl c) = H k w t a c
+    by (inr c) =
+        let f = at-one vs (length signs) v w (read-at vs (length signs) v l is) (subst (λ n. At vs n w) c.0 a) in
+        sym c.1 ∙ e ∙ ap (λ (x : Vertex). sign_of (form_at h (place_of x.point))) f
+
+-- an edge that the plane doesn't cross has no point to add
+pub no-cut : (c : Complex) (h : Plane) (e : Edge) (signs : List Sign) (a b : Sign) (ps : List Point) → AreSides (form_of h) c.vertices signs → At signs e.low a → At signs e.high b
+    → ((m n : _) → a ≡ sign_of m → b ≡ sign_of n → HasOppositeSigns m n → ⊥) → Adds (CutsEdge c h e) ps ps
+no-cut c h e signs a b ps S i k never = adds-none (CutsEdge c h e) ps (λ y (u, v, f, g, x).
+    never-crosses (form_of h) (place_of u.point) (place_of v.point) (never (form_at (form_of h) (place_of u.point)) (form_at (form_of h) (place_of v.point)) (S.each e.low u a f i) (S.each e.high v b g k)) y x)

@@ -1,0 +1,85 @@
+//! Carriers in groups of such as lie close to one another.
+
+ghost use Rattle.std.specs.Prelude.{ℕ, ◌<◌, length, IfOk};
+ghost use Rattle.nef_space.specs.Lists.{IsAt};
+ghost use Rattle.nef_complex.specs.declared.groups.Group.{Group as GroupValue};
+ghost use Rattle.nef_complex.specs.Index.{AreWithin, StandsIn};
+ghost use Rattle.nef_complex.specs.Indexing.{AreKeyed, IsWide};
+
+use crate::OutOfMemory;
+use crate::spans::{Bounds, Span};
+use nef_geo::{HALF_SIDE, List};
+use std::alloc::Global;
+
+/// Some carriers, by their numbers, with a span of all vertices on them.
+#[derive(Debug, Drop)]
+pub struct Group {
+    pub span: Span,
+    pub carriers: List<usize>,
+}
+
+// So many carriers make a group; the last one may have fewer.
+const MOST_IN_GROUP: usize = 8;
+
+// The low 16 bits of the number, with a bit left free above each of them.
+fn spread(number: u32) -> u32 {
+    let bytes = (number & 0xFFFF | (number & 0xFFFF) << 8) & 0x00FF_00FF;
+    let nibbles = (bytes | bytes << 4) & 0x0F0F_0F0F;
+    let pairs = (nibbles | nibbles << 2) & 0x3333_3333;
+    (pairs | pairs << 1) & 0x5555_5555
+}
+
+// Twice the middle of the bounds, counted from the frame's low side. What lies beyond the frame counts as its side.
+fn middle(bounds: &Bounds) -> u32 {
+    let low = bounds.low.clamp(-HALF_SIDE, HALF_SIDE);
+    let high = bounds.high.clamp(-HALF_SIDE, HALF_SIDE);
+    (low + high + 2 * HALF_SIDE) as u32
+}
+
+// Spans with keys close to one another mostly lie close to one another as seen along x: the bits of the middles in y and
+// z take turns.
+fn place_key(span: &Span) -> u32 {
+    spread(middle(&span.y)) << 1 | spread(middle(&span.z))
+}
+
+// The numbers of the spans with their keys, by these.
+fn in_order(alloc: Global, spans: &[Span]) -> Result<Vec<(u32, usize)>, OutOfMemory>
+    ensures keyed { IfOk result (λ v. AreKeyed (length spans.now) v.items) }
+{
+    let mut keyed = Vec::with_capacity(alloc, spans.len())?;
+    for (number, span) in spans.iter().enumerate() {
+        keyed.push((place_key(span), number))?;
+    }
+    keyed.sort_unstable();
+    Ok(keyed)
+}
+
+// The group of the spans with these numbers.
+fn group_of(alloc: Global, spans: &[Span], keyed: &[(u32, usize)]) -> Result<Group, OutOfMemory>
+    requires within { (i : ℕ) (e : ℕ × ℕ) → IsAt keyed.now i e → e.1 < length spans.now }
+    ensures within { IfOk result (λ g. AreWithin spans.now g.carriers) }
+    ensures wide { IfOk result (λ g. IsWide spans.now g) }
+    ensures all { IfOk result (λ g. (i : ℕ) (e : ℕ × ℕ) → IsAt keyed.now i e → (j : ℕ) × IsAt g.carriers j e.1) }
+{
+    let mut span = Span::none();
+    let mut carriers = List::new(alloc);
+    for (_key, number) in keyed {
+        span = span.with_span(&spans[*number]);
+        carriers.push(*number)?;
+    }
+    Ok(Group { span, carriers })
+}
+
+/// The carriers with these spans in groups. Each carrier stands in some group.
+pub(crate) fn groups_of(alloc: Global, spans: &[Span]) -> Result<List<Group>, OutOfMemory>
+    ensures within { IfOk result (λ v. (i : ℕ) (g : GroupValue) → IsAt v i g → AreWithin spans.now g.carriers) }
+    ensures wide { IfOk result (λ v. (i : ℕ) (g : GroupValue) → IsAt v i g → IsWide spans.now g) }
+    ensures all { IfOk result (λ v. (k : ℕ) → k < length spans.now → StandsIn v k) }
+{
+    let keyed = in_order(alloc, spans)?;
+    let mut groups = List::new(alloc);
+    for next in keyed.chunks(MOST_IN_GROUP) {
+        groups.push(group_of(alloc, spans, next)?)?;
+    }
+    Ok(groups)
+}

@@ -1,0 +1,77 @@
+//! Moments of lines.
+//!
+//! The line through p along d is told by d and by its moment, p x d divided by p's w: both are the same for all points of
+//! the line.
+
+ghost use Rattle.std.specs.Prelude.{◌≡◌, ◌≤◌, ◌-ℤ◌, ◌*ℤ◌, ◌<ℤ◌, pos, nat_abs};
+ghost use Rattle.nef_space.specs.Limits.{direction_limit, point_limit};
+ghost use Rattle.nef_edges.specs.Widths.{moment_limit};
+ghost use Rattle.nef_edges.specs.Moments.{product_of, whole_of, cell_of};
+
+use nef_geo::{Dir, Point};
+
+/// The cell of a grid of unit cubes that a moment lies in: each of its three numbers rounded down. They fit 64 bits where
+/// the line passes the frame; others become the nearest number that does.
+#[derive(Debug, Clone, Copy, PartialEq, Eq, PartialOrd, Ord)]
+pub(crate) struct Cell {
+    x: i64,
+    y: i64,
+    z: i64,
+}
+
+fn minor(a: i64, b: i64, e: i64, f: i64) -> i128
+    requires a_small { nat_abs a ≤ point_limit }
+    requires b_small { nat_abs b ≤ point_limit }
+    requires e_small { nat_abs e ≤ direction_limit }
+    requires f_small { nat_abs f ≤ direction_limit }
+    ensures minor { result ≡ a *ℤ f -ℤ b *ℤ e }
+    ensures small { nat_abs result ≤ moment_limit }
+{
+    a as i128 * f as i128 - b as i128 * e as i128
+}
+
+/// The first number of p x d.
+pub(crate) fn product_x(point: &Point, dir: &Dir) -> i128
+    ensures product { result ≡ (product_of point.now dir.now).x }
+    ensures small { nat_abs result ≤ moment_limit }
+{
+    minor(point.y(), point.z(), dir.y(), dir.z())
+}
+
+/// The second number of p x d.
+pub(crate) fn product_y(point: &Point, dir: &Dir) -> i128
+    ensures product { result ≡ (product_of point.now dir.now).y }
+    ensures small { nat_abs result ≤ moment_limit }
+{
+    minor(point.z(), point.x(), dir.z(), dir.x())
+}
+
+/// The third number of p x d.
+pub(crate) fn product_z(point: &Point, dir: &Dir) -> i128
+    ensures product { result ≡ (product_of point.now dir.now).z }
+    ensures small { nat_abs result ≤ moment_limit }
+{
+    minor(point.x(), point.y(), dir.x(), dir.y())
+}
+
+// n/w rounded down, or the nearest number of 64 bits.
+fn whole(n: i128, w: i64) -> i64
+    requires positive { pos 0 <ℤ w }
+    ensures whole { result ≡ whole_of n w }
+{
+    let floor = n.div_euclid(w as i128);
+    floor.clamp(i64::MIN as i128, i64::MAX as i128) as i64
+}
+
+impl Cell {
+    /// That of the line through the point along the direction.
+    pub(crate) fn of(point: &Point, dir: &Dir) -> Cell
+        ensures cell { result ≡ cell_of point.now dir.now }
+    {
+        Cell {
+            x: whole(product_x(point, dir), point.w()),
+            y: whole(product_y(point, dir), point.w()),
+            z: whole(product_z(point, dir), point.w()),
+        }
+    }
+}

@@ -1,0 +1,25 @@
+use Rattle.std.proofs.Common.{◌≡◌, ℤ, pos, ◌+ℤ◌, ◌*ℤ◌, ◌<ℤ◌, ◌≤ℤ◌, ◌↔◌, FitsSigned, rules, arith, sym, subst}
+use Rattle.std.proofs.lemmas.Int.{ints, to_z-of_z}
+use Rattle.std.specs.Int.{int_div_euclid}
+use mir.Syntax.{w128}
+use Rattle.law_arithmetic.proofs.Order.{mul_le_right, cancel_lt}
+use Rattle.nef_complex.proofs.Spanning.{euclid-below, euclid-above}
+use Rattle.nef_locate.proofs.hit.is_at_least.Goals as goal
+
+-- a whole number is at most a quotient where it is so rounded down
+rounded : (k z w : ℤ) → pos 0 <ℤ w → (k ≤ℤ int_div_euclid z w) ↔ ((k *ℤ w) ≤ℤ z)
+rounded k z w p =
+    let q = int_div_euclid z w in
+    let below = euclid-below z w p in
+    let above = euclid-above z w p in (
+      λ l. let m = mul_le_right k q w (omega (arith, ints)) l in omega (arith, ints),
+      λ l. let m = cancel_lt k (q +ℤ pos 1) w p (omega (arith, ints)) in omega (arith, ints),
+    )
+
+pub returns : goal.returns
+returns c =
+    let n = c.args.n in let w = c.args.w in
+    let q : c.div_euclid.result ≡ int_div_euclid n w = rw (to_z-of_z w128 n c.ranges.n, to_z-of_z w128 w c.ranges.w) at c.div_euclid.ensures in
+    let f : FitsSigned w128 c.div_euclid.result = search rules in
+    let r = subst (λ (x : ℤ). (c.args.low ≤ℤ x) ↔ ((c.args.low *ℤ w) ≤ℤ n)) (sym q) (rounded c.args.low n w c.requires.positive) in
+    rw (to_z-of_z w128 c.args.low c.ranges.low, to_z-of_z w128 c.div_euclid.result f) (record { least = (λ t. r.0 (search (rules, t)), λ l. let k = r.1 l in search (rules, k)) })

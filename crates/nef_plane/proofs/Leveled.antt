@@ -1,0 +1,126 @@
+-- The vertices of a plane beside a line along its axis, and what the line doesn't meet of the plane.
+use Rattle.std.proofs.Common.{◌≡◌, ℕ, zero, suc, ◌+◌, ◌≤◌, length, ℤ, pos, negsuc, Bool, true, false, ◌↔◌, IsTrue, List, None, arith, inl, inr, ⊎_elim, refl, subst}
+use Rattle.std.proofs.Math.Nat.{eq-or-lt_of_le}
+use Rattle.std.proofs.lemmas.Bool.{cases_lt}
+use Rattle.std.proofs.lemmas.Int.{ints}
+use Rattle.law_arithmetic.proofs.Order.{by_order}
+use Rattle.nef_space.specs.Lists.{IsAt}
+use Rattle.nef_space.specs.Place.{Place, Form, form_at, IsAhead, IsBetween}
+use Rattle.nef_space.specs.Sets.{Set}
+use Rattle.nef_space.specs.Vectors.{Vector}
+use Rattle.nef_geo.specs.Shapes.{form_of, place_of}
+use Rattle.nef_geo.specs.Signs.{sign_of}
+use Rattle.nef_geo.specs.declared.plane.Plane.{Plane}
+use Rattle.nef_geo.specs.declared.sign.Sign.TheVariants.{Minus, Zero, Plus}
+use Rattle.law_near.proofs.Between.{between-turned}
+use Rattle.law_near.proofs.Rays.{same-place_sym}
+use Rattle.law_sphere.specs.Maps.{At}
+use Rattle.law_sphere.proofs.Lists.{at-one}
+use Rattle.law_complex.specs.Shows.{Shows}
+use Rattle.law_complex.proofs.FacetAngles.{between-level, between-level_minus}
+use Rattle.nef_classes.proofs.ClassLists.{is-at_one, is-at_within}
+use Rattle.nef_complex.specs.declared.complex.Vertex.{Vertex}
+use Rattle.nef_complex.specs.declared.complex.Edge.{Edge}
+use Rattle.nef_complex.specs.declared.complex.Complex.{Complex}
+use Rattle.nef_complex.specs.Complexes.{complex_of}
+use Rattle.nef_complex.specs.Index.{LiesOn, EdgeLiesIn, AreNumbersWith}
+use Rattle.nef_complex.proofs.Reading.{got-at}
+use Rattle.nef_plane.specs.Levels.{IsShort, AreShort, AreFar, AreShortBelow, AreFarFrom, IsLevel, IsOffLevel, IsUnparted}
+use Rattle.nef_plane.specs.Meets.{IsAlongAxis, AtVertexNumber, AtEdgeNumber, IsNearest, far_met_of, sweep_form}
+use Rattle.nef_plane.specs.declared.level.Level.{Level}
+use Rattle.nef_plane.proofs.Axes.{axis-some}
+use Rattle.nef_plane.proofs.Found.{vertex-none, edge-none}
+use Rattle.nef_plane.proofs.Listed.{held-vertex}
+use Rattle.nef_plane.proofs.Meeting.{ahead-kept, level-same}
+use Rattle.nef_plane.proofs.Ordered.{later-past, later-from}
+
+-- ---- the sides
+pub minus-short : (b : Bool) (z : ℤ) → Minus ≡ sign_of z → IsTrue true ↔ IsShort b z
+minus-short true (negsuc n) e = (λ t. omega (arith, ints), λ t. refl)
+minus-short false (negsuc n) e = (λ t. omega (arith, ints), λ t. refl)
+minus-short b (pos zero) e = cc
+minus-short b (pos (suc n)) e = cc
+
+pub zero-short : (b : Bool) (z : ℤ) → Zero ≡ sign_of z → IsTrue b ↔ IsShort b z
+zero-short true (pos zero) e = (λ t. omega (arith, ints), λ t. refl)
+zero-short false (pos zero) e = (λ t. absurd cc, λ t. absurd (omega (arith, ints)))
+zero-short b (pos (suc n)) e = cc
+zero-short b (negsuc n) e = cc
+
+pub plus-short : (b : Bool) (z : ℤ) → Plus ≡ sign_of z → IsTrue false ↔ IsShort b z
+plus-short true (pos (suc n)) e = (λ t. absurd cc, λ t. absurd (omega (arith, ints)))
+plus-short false (pos (suc n)) e = (λ t. absurd cc, λ t. absurd (omega (arith, ints)))
+plus-short b (pos zero) e = cc
+plus-short b (negsuc n) e = cc
+
+-- ---- the vertices of the plane, in order
+module _ (s : Set) (c : Complex) (S : Shows s (complex_of c)) (h : Plane) (p : Place) (ns : List ℕ) (N : AreNumbersWith (LiesOn c.vertices (form_of h)) ns) (b : Bool) where
+  abbrev k : Form
+  k = sweep_form (form_of h) p
+
+  earlier-short : (t : Bool) (i j : ℕ) (u v : Vertex) → IsAt c.vertices i u → IsAt c.vertices j v → form_at (form_of h) (place_of u.point) ≡ pos 0 → form_at (form_of h) (place_of v.point) ≡ pos 0 → i ≤ j
+      → IsShort t (form_at k (place_of v.point)) → IsShort t (form_at k (place_of u.point))
+  earlier-short true i j u v a e o r l m = by_order (form_at k (place_of u.point)) (pos 0) (λ x. omega (arith, ints)) (λ x. omega (arith, ints))
+      (λ x. absurd (let y = later-past s c S h p i j u v (got-at c.vertices i u a) (got-at c.vertices j v e) o r l x in omega (arith, ints)))
+  earlier-short false i j u v a e o r l m = by_order (form_at k (place_of u.point)) (pos 0) (λ x. x)
+      (λ x. absurd (let y = later-from s c S h p i j u v (got-at c.vertices i u a) (got-at c.vertices j v e) o r l (omega (arith, ints)) in omega (arith, ints)))
+      (λ x. absurd (let y = later-from s c S h p i j u v (got-at c.vertices i u a) (got-at c.vertices j v e) o r l (omega (arith, ints)) in omega (arith, ints)))
+
+  in-order : (i m n j : ℕ) → i ≤ m → IsAt ns i n → IsAt ns m j → n ≤ j
+  in-order i m n j l a e = ⊎_elim
+      (λ o. let f : n ≡ j = is-at_one ns m n j (subst (λ x. IsAt ns x n) o a) e in omega (arith, f))
+      (λ o. let f = N.ordered i m n j o a e in omega (arith, f)) (eq-or-lt_of_le {n = i} {m = m} l)
+
+  on : (i n : ℕ) (u : Vertex) → IsAt ns i n → IsAt c.vertices n u → form_at (form_of h) (place_of u.point) ≡ pos 0
+  on i n u a e = held-vertex c.vertices (form_of h) n u e (N.each i n a)
+
+  pub short-up_to : (m j : ℕ) (v : Vertex) → IsAt ns m j → IsAt c.vertices j v → IsShort b (form_at k (place_of v.point)) → AreShort c.vertices ns k b (m + 1)
+  short-up_to m j v a e short i n u l f g = earlier-short b n j u v g e (on i n u f g) (on m j v a e) (in-order i m n j (omega (arith, l)) f a) short
+
+  pub far-from : (m j : ℕ) (v : Vertex) → IsAt ns m j → IsAt c.vertices j v → (IsShort b (form_at k (place_of v.point)) → ⊥) → AreFar c.vertices ns k b m
+  far-from m j v a e far i n u l f g short = far (earlier-short b j n v u e g (on m j v a e) (on i n u f g) (in-order m i j n l a f) short)
+
+  pub short-below : (m r : ℕ) → IsAt ns m r → AreShort c.vertices ns k b m → AreShortBelow c.vertices (form_of h) k b r
+  short-below m r a A j v l e o =
+      let (i, f) = N.all j (v, e, o) in
+      ⊎_elim (λ t. A i j v t f e) (λ t. absurd (let x = in-order m i r j t a f in omega (arith, l, x))) (cases_lt i m)
+
+  pub far-above : (m r : ℕ) → IsAt ns m r → AreFar c.vertices ns k b m → AreFarFrom c.vertices (form_of h) k b r
+  far-above m r a A j v l e o =
+      let (i, f) = N.all j (v, e, o) in
+      ⊎_elim (λ t. absurd (let x = N.ordered i m j r t f a in omega (arith, l, x))) (λ t. A i j v t f e) (cases_lt i m)
+
+  pub all-short : (m : ℕ) → length ns ≤ m → AreShort c.vertices ns k b m → AreShortBelow c.vertices (form_of h) k b (length c.vertices)
+  all-short m n A j v l e o =
+      let (i, f) = N.all j (v, e, o) in
+      A i j v (let x = is-at_within ns i j f in omega (arith, n, x)) f e
+
+  pub none-far : AreFarFrom c.vertices (form_of h) k b (length c.vertices)
+  none-far j v l e o x = let y = is-at_within c.vertices j v e in omega (arith, l, y)
+
+-- ---- what a ray along the axis doesn't meet
+module _ (s : Set) (c : Complex) (S : Shows s (complex_of c)) (h : Plane) (p : Place) (d : Vector) (A : IsAlongAxis (form_of h) d) (on : form_at (form_of h) p ≡ pos 0) (x : Level) (L : IsLevel c.vertices (form_of h) p x) where
+  abbrev line : Form
+  line = sweep_form (form_of h) p
+
+  pub off-vertex : (n : ℕ) → LiesOn c.vertices (form_of h) n → IsOffLevel x n → IsNearest far_met_of p d (AtVertexNumber (complex_of c) n) None
+  off-vertex n (v, l, o) f = vertex-none s c S p d (axis-some h d A) n v (got-at c.vertices n v l)
+      (λ q w e. absurd (let z = level-same line q (place_of v.point) (same-place_sym (place_of v.point) q e) (ahead-kept h p d A on q w) in
+      ⊎_elim (λ m. let y = L.before n v m l o in omega (arith, ints)) (λ m. L.past n v m l o (omega (arith, ints))) f))
+
+  module _ (n : ℕ) (e : Edge) (l : At c.edges n e) (u v : Vertex) (i : IsAt c.vertices e.low u) (j : IsAt c.vertices e.high v) (on_u : form_at (form_of h) (place_of u.point) ≡ pos 0) (on_v : form_at (form_of h) (place_of v.point) ≡ pos 0) where
+    never : (q : Place) → IsAhead p d q → IsBetween (place_of u.point) q (place_of v.point) → IsUnparted x e.low e.high → ⊥
+    never q w m (inl (f, g)) =
+        let y = between-level line (place_of u.point) q (place_of v.point) m (ahead-kept h p d A on q w) (L.before e.low u f i on_u) in
+        let z = L.not_past e.high v g j on_v in omega (arith, ints)
+    never q w m (inr (f, g)) = by_order (form_at line (place_of v.point)) (pos 0)
+        (λ y. L.past e.high v g j on_v (omega (arith, ints))) (λ y. L.past e.high v g j on_v (omega (arith, ints)))
+        (λ y. L.not_before e.low u f i on_u (between-level_minus line (place_of v.point) q (place_of u.point) (between-turned (place_of u.point) (place_of v.point) q m) (ahead-kept h p d A on q w) y))
+
+    none-met : IsUnparted x e.low e.high → IsNearest far_met_of p d (AtEdgeNumber (complex_of c) (form_of h) d n) None
+    none-met f = edge-none s c S (form_of h) p d (axis-some h d A) n e u v l (got-at c.vertices e.low u i) (got-at c.vertices e.high v j) (λ q w m o. absurd (never q w m f))
+
+  pub unparted-edge : (n : ℕ) (e : Edge) → At c.edges n e → EdgeLiesIn c.vertices c.edges (form_of h) n → IsUnparted x e.low e.high → IsNearest far_met_of p d (AtEdgeNumber (complex_of c) (form_of h) d n) None
+  unparted-edge n e l (f, a, (u, i, o), (v, j, r)) =
+      let g = at-one c.edges n f e (got-at c.edges n f a) l in
+      none-met n e l u v (subst (λ (r : Edge). IsAt c.vertices r.low u) g i) (subst (λ (r : Edge). IsAt c.vertices r.high v) g j) o r

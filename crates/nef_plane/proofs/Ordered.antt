@@ -1,0 +1,162 @@
+-- The vertices of a plane stand in order of the coordinate that the plane's axis keeps, and a ray from one of them meets what lies on one side of it.
+use Rattle.std.proofs.Common.{◌≡◌, ℕ, ◌≤◌, pos, ◌-ℤ◌, ◌*ℤ◌, ◌<ℤ◌, ◌≤ℤ◌, arith, Bool, true, false, ◌&&◌, inl, inr, ⊎_elim, refl, sym, ap, ◌∙◌, subst, cond, [], ◌∷◌}
+use Rattle.std.proofs.Math.Nat.{eq-or-lt_of_le}
+use Rattle.std.specs.Ordering.{int_eq}
+use Rattle.std.proofs.lemmas.Bool.Decides.{Decides-int_eq}
+use Rattle.std.proofs.lemmas.Int.{ints}
+use Rattle.law_arithmetic.specs.Signs.{sign}
+use Rattle.law_arithmetic.proofs.Order.{by_order, mul_pos, mul_neg, mul_nonneg, sign-plus, sign-minus, plus-is, minus-is}
+use Rattle.law_arithmetic.proofs.Ring.{ring, at, num, ◌⊖◌, ◌⊗◌}
+use Rattle.nef_space.specs.Place.{Place, Form, form_at, slope, toward, SamePlace, IsAhead, IsBetween, IsPlaceBelow}
+use Rattle.nef_space.specs.Sets.{Set}
+use Rattle.nef_space.specs.Vectors.{Vector, vector, dot}
+use Rattle.nef_geo.specs.Shapes.{form_of, place_of}
+use Rattle.nef_geo.specs.declared.plane.Plane.{Plane}
+use Rattle.law_forms.proofs.Near.{slope-toward}
+use Rattle.law_forms.proofs.Between.{place-toward}
+use Rattle.law_forms.proofs.Directions.{dot-zero}
+use Rattle.law_near.proofs.Rays.{slope-same}
+use Rattle.law_sphere.specs.Maps.{At}
+use Rattle.law_sphere.proofs.Lists.{at-one}
+use Rattle.nef_smap.proofs.Lists.{map-at}
+use Rattle.law_complex.specs.Shows.{Shows}
+use Rattle.law_complex.proofs.FacetAngles.{through-at, through-slope}
+use Rattle.law_complex.proofs.Planes.{plane-way}
+use Rattle.law_complex.proofs.Ways.{same-itself}
+use Rattle.nef_complex.specs.declared.complex.Vertex.{Vertex}
+use Rattle.nef_complex.specs.declared.complex.Complex.{Complex}
+use Rattle.nef_complex.specs.Complexes.{vertex_of, complex_of}
+use Rattle.nef_complex.proofs.Parted.{times-pos, times-nought}
+use Rattle.nef_plane.specs.Meets.{sweep_axis, sweep_form}
+
+weight : (r : Place) → pos 0 <ℤ pos r.w
+weight r = let m = r.proper in omega (arith, ints)
+
+-- ---- points strictly between two others
+module _ (k : Form) (a q b : Place) (w : IsBetween a q b) where
+  -- aren't past both
+  pub between-at_most : form_at k a ≤ℤ pos 0 → form_at k b ≤ℤ pos 0 → form_at k q ≤ℤ pos 0
+  between-at_most i j = by_order (form_at k q) (pos 0) (λ l. omega (arith, ints)) (λ l. omega (arith, ints))
+      (λ l. absurd (
+      let x = mul_pos (pos a.w) (form_at k q) (weight a) l in
+      let y = mul_nonneg (pos q.w) (pos 0 -ℤ form_at k a) (omega (arith, ints)) (omega (arith, ints)) in
+      let z = mul_nonneg (pos q.w) (pos 0 -ℤ form_at k b) (omega (arith, ints)) (omega (arith, ints)) in
+      let t = mul_pos (pos b.w) (form_at k q) (weight b) l in
+      let y' = ring (pos q.w ∷ form_at k a ∷ []) (at 0 ⊗ (num (pos 0) ⊖ at 1)) (num (pos 0) ⊖ at 0 ⊗ at 1) tt in
+      let z' = ring (pos q.w ∷ form_at k b ∷ []) (at 0 ⊗ (num (pos 0) ⊖ at 1)) (num (pos 0) ⊖ at 0 ⊗ at 1) tt in
+      let e = slope-toward k a q in
+      let f = slope-toward k q b in
+      let m = plus-is (slope k (toward q b)) (sym (slope-same k (toward a q) (toward q b) w) ∙ sign-plus (slope k (toward a q)) (omega (arith, ints))) in
+      omega (arith, ints)))
+
+  -- nor before both
+  pub between-at_least : pos 0 ≤ℤ form_at k a → pos 0 ≤ℤ form_at k b → pos 0 ≤ℤ form_at k q
+  between-at_least i j = by_order (form_at k q) (pos 0)
+      (λ l. absurd (
+      let x = mul_neg (pos a.w) (form_at k q) (weight a) l in
+      let y = mul_nonneg (pos q.w) (form_at k a) (omega (arith, ints)) i in
+      let z = mul_nonneg (pos q.w) (form_at k b) (omega (arith, ints)) j in
+      let t = mul_neg (pos b.w) (form_at k q) (weight b) l in
+      let e = slope-toward k a q in
+      let f = slope-toward k q b in
+      let m = minus-is (slope k (toward q b)) (sym (slope-same k (toward a q) (toward q b) w) ∙ sign-minus (slope k (toward a q)) (omega (arith, ints))) in
+      omega (arith, ints)))
+      (λ l. omega (arith, ints)) (λ l. omega (arith, ints))
+
+-- ---- the sweep coordinate
+module _ (h : Plane) (p : Place) where
+  abbrev e : Vector
+  e = sweep_axis (form_of h)
+
+  abbrev k : Form
+  k = sweep_form (form_of h) p
+
+  pub start-level : form_at k p ≡ pos 0
+  start-level = through-at e p p ∙ dot-zero e (toward p p) (place-toward p p (same-itself p))
+
+  module _ (d : Vector) (q : Place) (w : IsAhead p d q) where
+    way : sign (slope k (toward p q)) ≡ sign (slope k d)
+    way = slope-same k (toward p q) d w
+
+    -- what is ahead is past the start, where the ray goes on in the coordinate
+    pub ahead-past : pos 0 <ℤ dot e d → pos 0 <ℤ form_at k q
+    ahead-past l =
+        let m = mul_pos (pos p.w) (dot e d) (weight p) l in
+        let i = plus-is (slope k (toward p q)) (way ∙ sign-plus (slope k d) (subst (λ z. pos 0 <ℤ z) (sym (through-slope e p d)) m)) in
+        let r = slope-toward k p q in
+        let n = ap (λ z. pos q.w *ℤ z) start-level in
+        let o = ring (pos q.w ∷ []) (at 0 ⊗ num (pos 0)) (num (pos 0)) tt in
+        times-pos (pos p.w) (form_at k q) (weight p) (omega (arith, ints))
+
+    -- and before it, where the ray goes back
+    pub ahead-before : dot e d <ℤ pos 0 → form_at k q <ℤ pos 0
+    ahead-before l =
+        let m = mul_neg (pos p.w) (dot e d) (weight p) l in
+        let i = minus-is (slope k (toward p q)) (way ∙ sign-minus (slope k d) (subst (λ z. z <ℤ pos 0) (sym (through-slope e p d)) m)) in
+        let r = slope-toward k p q in
+        let n = ap (λ z. pos q.w *ℤ z) start-level in
+        let o = ring (pos q.w ∷ []) (at 0 ⊗ num (pos 0)) (num (pos 0)) tt in
+        by_order (form_at k q) (pos 0) (λ x. x)
+        (λ x. absurd (let y = ap (λ z. pos p.w *ℤ z) x in let u = ring (pos p.w ∷ []) (at 0 ⊗ num (pos 0)) (num (pos 0)) tt in omega (arith, ints)))
+        (λ x. absurd (let y = mul_pos (pos p.w) (form_at k q) (weight p) x in omega (arith, ints)))
+
+-- ---- vertices of a plane
+module _ (s : Set) (c : Complex) (S : Shows s (complex_of c)) (h : Plane) (p : Place) (i j : ℕ) (u v : Vertex) (a : At c.vertices i u) (b : At c.vertices j v)
+    (on_u : form_at (form_of h) (place_of u.point) ≡ pos 0) (on_v : form_at (form_of h) (place_of v.point) ≡ pos 0) (l : i ≤ j) where
+  abbrev U : Place
+  U = place_of u.point
+
+  abbrev V : Place
+  V = place_of v.point
+
+  abbrev t : Vector
+  t = toward U V
+
+  below-x : IsPlaceBelow U V → pos 0 ≤ℤ t.x
+  below-x (inl m) = omega (arith, ints)
+  below-x (inr (m, n)) = omega (arith, ints)
+
+  below-y : IsPlaceBelow U V → t.x ≡ pos 0 → pos 0 ≤ℤ t.y
+  below-y (inl m) z = absurd (omega (arith, ints))
+  below-y (inr (m, inl n)) z = omega (arith, ints)
+  below-y (inr (m, inr (n, o))) z = omega (arith, ints)
+
+  -- a plane that keeps the first coordinate
+  upright : h.c ≡ pos 0 → h.b ≡ pos 0 → t.x ≡ pos 0
+  upright f g =
+      let n = h.normal in
+      let r : slope (form_of h) t ≡ pos 0 = plane-way (form_of h) U V on_u on_v in
+      let x = ap (λ z. z *ℤ t.y) g in
+      let y = ap (λ z. z *ℤ t.z) f in
+      let some : pos 0 <ℤ h.a = by_order h.a (pos 0) (λ m. absurd (let o = n.first in omega (arith, ints))) (λ m. absurd (let o = n.third m g in omega (arith, ints))) (λ m. m) in
+      times-nought h.a t.x some (omega (arith, ints))
+
+  in-order : IsPlaceBelow U V → (x y : Bool) → int_eq h.c (pos 0) ≡ x → int_eq h.b (pos 0) ≡ y → pos 0 ≤ℤ dot (cond (x && y) (vector (pos 0) (pos 1) (pos 0)) (vector (pos 1) (pos 0) (pos 0))) t
+  in-order m true true f g = let z = below-y m (upright ((Decides-int_eq h.c (pos 0)).0 f) ((Decides-int_eq h.b (pos 0)).0 g)) in omega (arith, ints)
+  in-order m true false f g = let z = below-x m in omega (arith, ints)
+  in-order m false y f g = let z = below-x m in omega (arith, ints)
+
+  same-zero : u ≡ v → pos 0 ≤ℤ dot (sweep_axis (form_of h)) t
+  same-zero o = let z = dot-zero (sweep_axis (form_of h)) t (place-toward U V (subst (λ (r : Vertex). SamePlace U (place_of r.point)) o (same-itself U))) in omega (arith, ints)
+
+  pub sweep-order : pos 0 ≤ℤ dot (sweep_axis (form_of h)) t
+  sweep-order = ⊎_elim
+      (λ o. same-zero (at-one c.vertices j u v (subst (λ n. At c.vertices n u) o a) b))
+      (λ o. in-order (S.ordered i j (vertex_of u) (vertex_of v) o (map-at vertex_of c.vertices i u a) (map-at vertex_of c.vertices j v b)) (int_eq h.c (pos 0)) (int_eq h.b (pos 0)) refl refl)
+      (eq-or-lt_of_le {n = i} {m = j} l)
+
+  step : (pos V.w *ℤ form_at (sweep_form (form_of h) p) U) ≤ℤ (pos U.w *ℤ form_at (sweep_form (form_of h) p) V)
+  step =
+      let r = slope-toward (sweep_form (form_of h) p) U V in
+      let o = through-slope (sweep_axis (form_of h)) p t in
+      let m = mul_nonneg (pos p.w) (dot (sweep_axis (form_of h)) t) (let x = weight p in omega (arith, ints)) sweep-order in
+      omega (arith, ints)
+
+  -- what comes after a vertex past the start is past it too
+  pub later-past : pos 0 <ℤ form_at (sweep_form (form_of h) p) U → pos 0 <ℤ form_at (sweep_form (form_of h) p) V
+  later-past m = let x = mul_pos (pos V.w) (form_at (sweep_form (form_of h) p) U) (weight V) m in let y = step in times-pos (pos U.w) (form_at (sweep_form (form_of h) p) V) (weight U) (omega (arith, ints))
+
+  pub later-from : pos 0 ≤ℤ form_at (sweep_form (form_of h) p) U → pos 0 ≤ℤ form_at (sweep_form (form_of h) p) V
+  later-from m = by_order (form_at (sweep_form (form_of h) p) V) (pos 0)
+      (λ o. absurd (let x = mul_nonneg (pos V.w) (form_at (sweep_form (form_of h) p) U) (let w = weight V in omega (arith, ints)) m in let y = step in let z = mul_neg (pos U.w) (form_at (sweep_form (form_of h) p) V) (weight U) o in omega (arith, ints)))
+      (λ o. omega (arith, ints)) (λ o. omega (arith, ints))

@@ -1,0 +1,9 @@
+use Rattle.std.specs.Prelude.{◌≡◌, pos}
+use Rattle.nef_space.specs.Place.{form_at}
+use Rattle.nef_geo.specs.Shapes.{hit_place, form_of}
+use Rattle.nef_geo.specs.declared.plane.Plane.{Plane}
+use Rattle.nef_complex.proofs.ListedHolders.{AllListed}
+use Rattle.nef_plane.proofs.places.are_through.Given as goal
+
+abbrev pub invariant-loop-number : goal.invariant-loop-number
+invariant-loop-number l = AllListed l.carriers l.holders l.number-index (λ (h : Plane). form_at (form_of h) (hit_place l.q) ≡ pos 0)

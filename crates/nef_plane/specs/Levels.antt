@@ -1,0 +1,44 @@
+-- The vertices of a plane beside a line along its axis.
+use Rattle.std.specs.Prelude.{◌≡◌, ℕ, ◌<◌, ◌≤◌, ℤ, pos, ◌<ℤ◌, ◌≤ℤ◌, Bool, true, false, List, ◌⊎◌}
+use Rattle.nef_space.specs.Lists.{IsAt}
+use Rattle.nef_space.specs.Place.{Place, Form, form_at}
+use Rattle.nef_geo.specs.Shapes.{place_of}
+use Rattle.nef_complex.specs.declared.complex.Vertex.{Vertex}
+use Rattle.nef_plane.specs.declared.level.Level.{Level}
+use Rattle.nef_plane.specs.Meets.{sweep_form}
+
+-- a point at which a form has this value lies before the plane, or on it where that counts
+abbrev pub IsShort : Bool → ℤ → Type 0
+IsShort true z = z ≤ℤ pos 0
+IsShort false z = z <ℤ pos 0
+
+-- the vertices with the first n of the numbers are short of the plane
+abbrev pub AreShort : List Vertex → List ℕ → Form → Bool → ℕ → Type 0
+AreShort vs ns k b n = (i j : ℕ) (v : Vertex) → i < n → IsAt ns i j → IsAt vs j v → IsShort b (form_at k (place_of v.point))
+
+-- those with the other numbers aren't
+abbrev pub AreFar : List Vertex → List ℕ → Form → Bool → ℕ → Type 0
+AreFar vs ns k b n = (i j : ℕ) (v : Vertex) → n ≤ i → IsAt ns i j → IsAt vs j v → IsShort b (form_at k (place_of v.point)) → ⊥
+
+-- the vertices on h with numbers below n are short of the plane k
+abbrev pub AreShortBelow : List Vertex → Form → Form → Bool → ℕ → Type 0
+AreShortBelow vs h k b n = (j : ℕ) (v : Vertex) → j < n → IsAt vs j v → form_at h (place_of v.point) ≡ pos 0 → IsShort b (form_at k (place_of v.point))
+
+-- those from n on aren't
+abbrev pub AreFarFrom : List Vertex → Form → Form → Bool → ℕ → Type 0
+AreFarFrom vs h k b n = (j : ℕ) (v : Vertex) → n ≤ j → IsAt vs j v → form_at h (place_of v.point) ≡ pos 0 → IsShort b (form_at k (place_of v.point)) → ⊥
+
+-- the vertices on h lie before the line through p up to the one number, and past it from the other on
+pub record IsLevel (vs : List Vertex) (h : Form) (p : Place) (x : Level) : Type 0 where
+  pub before : AreShortBelow vs h (sweep_form h p) false x.first
+  pub not_before : AreFarFrom vs h (sweep_form h p) false x.first
+  pub not_past : AreShortBelow vs h (sweep_form h p) true x.past
+  pub past : AreFarFrom vs h (sweep_form h p) true x.past
+
+-- the number is one of those before the line, or past it
+abbrev pub IsOffLevel : Level → ℕ → Type 0
+IsOffLevel x n = (n < x.first) ⊎ (x.past ≤ n)
+
+-- the one number is before the line and the other not past it, or the one not before it and the other past it
+abbrev pub IsUnparted : Level → ℕ → ℕ → Type 0
+IsUnparted x low high = ((low < x.first) × (high < x.past)) ⊎ ((x.first ≤ low) × (x.past ≤ high))

@@ -1,0 +1,68 @@
+-- Of two stars of opposite axes each is the first after the other.
+use Rattle.std.proofs.Common.{◌≡◌, ℕ, zero, suc, ◌-◌, pos, List, [], ◌∷◌, length, map, get_or, arith, refl, sym, subst, ◌∙◌}
+use Rattle.nef_space.specs.Vectors.{Vector, opposite, dot, SameDirection}
+use Rattle.nef_geo.specs.Shapes.{vector_of}
+use Rattle.law_cyclic.specs.Arcs.{IsStrictlyOn}
+use Rattle.law_cyclic.proofs.Planar.{dot_comm}
+use Rattle.law_cyclic.proofs.Directions.{level-of_opposite, level-opposite-back}
+use Rattle.law_sphere.specs.Maps.{At}
+use Rattle.law_sphere.specs.Stars.{Star as PlainStar}
+use Rattle.law_build.specs.From.{IsFirstAfter}
+use Rattle.nef_star.specs.declared.star.Star.{Star}
+use Rattle.nef_star.specs.Stars.{star_of}
+use Rattle.nef_star.proofs.Turns.{self-same}
+use Rattle.nef_spair.specs.Arcs.{AreTwoEnds}
+
+-- two elements of a list of two
+pub two-of : (kept : List Star) (a b : Star) → length kept ≡ 2 → a ≡ get_or kept 0 a → b ≡ get_or kept 1 b → kept ≡ a ∷ b ∷ []
+two-of [] a b n d e = absurd (omega (arith, n))
+two-of (x ∷ []) a b n d e = absurd (omega (arith, n))
+two-of (x ∷ y ∷ []) a b n d e = let i : a ≡ x = d in let j : b ≡ y = e in cc
+two-of (x ∷ y ∷ z ∷ r) a b n d e = absurd (omega (arith, n))
+
+-- neither end of a way is strictly on it
+module _ (n : Vector) (s t : Star) (u : PlainStar) (o : IsStrictlyOn n (vector_of s.axis) (vector_of t.axis) u.axis) where
+  source-off : star_of s ≡ u → ⊥
+  source-off e = o.not_source (subst (λ (x : PlainStar). SameDirection (vector_of s.axis) x.axis) e (self-same (vector_of s.axis) s.axis.some))
+
+  target-off : star_of t ≡ u → ⊥
+  target-off e = o.not_target (subst (λ (x : PlainStar). SameDirection (vector_of t.axis) x.axis) e (self-same (vector_of t.axis) t.axis.some))
+
+module _ (n : Vector) (a b : Star) (opp : vector_of b.axis ≡ opposite (vector_of a.axis)) where
+  second-level : dot n (vector_of a.axis) ≡ pos 0 → dot n (vector_of b.axis) ≡ pos 0
+  second-level h = subst (λ (v : Vector). dot n v ≡ pos 0) (sym opp) (level-of_opposite n (vector_of a.axis) h)
+
+  first-level : dot n (vector_of b.axis) ≡ pos 0 → dot n (vector_of a.axis) ≡ pos 0
+  first-level h =
+      let e : dot n (opposite (vector_of a.axis)) ≡ pos 0 = subst (λ (v : Vector). dot n v ≡ pos 0) opp h in
+      dot_comm n (vector_of a.axis) ∙ level-opposite-back (vector_of a.axis) n (dot_comm (opposite (vector_of a.axis)) n ∙ e)
+
+  after-first : dot n (vector_of a.axis) ≡ pos 0 → IsFirstAfter (star_of a ∷ star_of b ∷ []) n (star_of a) 1
+  after-first h = record { first = star_of b; listed = refl; level = second-level h; none_before = off }
+    where
+      off : (k : ℕ) (u : PlainStar) → At (star_of a ∷ star_of b ∷ []) k u → IsStrictlyOn n (vector_of a.axis) (vector_of b.axis) u.axis → ⊥
+      off zero u e o = source-off n a b u o e
+      off (suc zero) u e o = target-off n a b u o e
+      off (suc (suc k)) u e o = absurd e
+
+  after-second : dot n (vector_of b.axis) ≡ pos 0 → IsFirstAfter (star_of a ∷ star_of b ∷ []) n (star_of b) 0
+  after-second h = record { first = star_of a; listed = refl; level = first-level h; none_before = off }
+    where
+      off : (k : ℕ) (u : PlainStar) → At (star_of a ∷ star_of b ∷ []) k u → IsStrictlyOn n (vector_of b.axis) (vector_of a.axis) u.axis → ⊥
+      off zero u e o = target-off n b a u o e
+      off (suc zero) u e o = source-off n b a u o e
+      off (suc (suc k)) u e o = absurd e
+
+  first-of_pair : (from : ℕ) (t : Star) → At (a ∷ b ∷ []) from t → dot n (vector_of t.axis) ≡ pos 0 → IsFirstAfter (star_of a ∷ star_of b ∷ []) n (star_of t) (1 - from)
+  first-of_pair zero t e h =
+      subst (λ (x : Star). IsFirstAfter (star_of a ∷ star_of b ∷ []) n (star_of x) 1) e (after-first (subst (λ (x : Star). dot n (vector_of x.axis) ≡ pos 0) (sym e) h))
+  first-of_pair (suc zero) t e h =
+      subst (λ (x : Star). IsFirstAfter (star_of a ∷ star_of b ∷ []) n (star_of x) 0) e (after-second (subst (λ (x : Star). dot n (vector_of x.axis) ≡ pos 0) (sym e) h))
+  first-of_pair (suc (suc k)) t e h = absurd e
+
+-- the other of two ends comes first
+pub first-other : (kept : List Star) (n : Vector) (from : ℕ) (t : Star) → AreTwoEnds kept → At kept from t → dot n (vector_of t.axis) ≡ pos 0
+    → IsFirstAfter (map star_of kept) n (star_of t) (1 - from)
+first-other kept n from t w a h =
+    subst (λ (l : List Star). IsFirstAfter (map star_of l) n (star_of t) (1 - from)) (sym w.two)
+    (first-of_pair n w.first w.second w.opposite from t (subst (λ (l : List Star). At l from t) w.two a) h)
