@@ -10,15 +10,16 @@ use Rattle.nef_space.specs.Numbers.{DividesAll, IsLowest}
 use Rattle.law_arithmetic.proofs.Ring.{at, neg, ◌⊗◌, ring}
 use Rattle.nef_geo.specs.Numbers.{IsAtMostFour, IsSomeOfFour, IsGcdOfFour, IsReduced}
 
-pub divides_all : (x y z w : ℤ) (f g h : ℕ) → IsGcd (nat_abs x) (nat_abs y) f → IsGcd f (nat_abs z) g → IsGcd g (nat_abs w) h → DividesAll h (x ∷ y ∷ z ∷ w ∷ [])
+-- the last number is taken first: it is mostly the least
+pub divides_all : (x y z w : ℤ) (f g h : ℕ) → IsGcd (nat_abs w) (nat_abs x) f → IsGcd f (nat_abs y) g → IsGcd g (nat_abs z) h → DividesAll h (x ∷ y ∷ z ∷ w ∷ [])
 divides_all x y z w f g h p q r =
-    let to_f = dvd_trans h r.0 q.0 in (dvd_trans h to_f p.0, (dvd_trans h to_f p.1, (dvd_trans h r.0 q.1, (r.1, tt))))
+    let to_f = dvd_trans h r.0 q.0 in (dvd_trans h to_f p.1, (dvd_trans h r.0 q.1, (r.1, (dvd_trans h to_f p.0, tt))))
 
-pub IsGcdOfFour-from_steps : (x y z w : ℤ) (f g h : ℕ) → IsGcd (nat_abs x) (nat_abs y) f → IsGcd f (nat_abs z) g → IsGcd g (nat_abs w) h → 0 < h → IsGcdOfFour x y z w (pos h)
+pub IsGcdOfFour-from_steps : (x y z w : ℤ) (f g h : ℕ) → IsGcd (nat_abs w) (nat_abs x) f → IsGcd f (nat_abs y) g → IsGcd g (nat_abs z) h → 0 < h → IsGcdOfFour x y z w (pos h)
 IsGcdOfFour-from_steps x y z w f g h p q r positive = record {
   positive = omega (arith, ints);
   divides = divides_all x y z w f g h p q r;
-  greatest = λ k d. r.2 k (q.2 k (p.2 k d.0 d.1.0) d.1.1.0) d.1.1.1.0;
+  greatest = λ k d. r.2 k (q.2 k (p.2 k d.1.1.1.0 d.0) d.1.0) d.1.1.0;
 }
 
 -- ---- a divisor of numbers that aren't all zero is at most as large as they are

@@ -33,9 +33,10 @@ fn gcd_of_four(x: i64, y: i64, z: i64, w: i64) -> i64
     requires some { IsSomeOfFour x y z w }
     ensures gcd { IsGcdOfFour x y z w result }
 {
-    let of_two = gcd(x.unsigned_abs(), y.unsigned_abs());
-    let of_three = gcd(of_two, z.unsigned_abs());
-    gcd(of_three, w.unsigned_abs()) as i64
+    // the weight of a point is mostly the least of the four, so that few steps are left
+    let of_two = gcd(w.unsigned_abs(), x.unsigned_abs());
+    let of_three = gcd(of_two, y.unsigned_abs());
+    gcd(of_three, z.unsigned_abs()) as i64
 }
 
 // The quotient by a number that divides x.
@@ -44,6 +45,10 @@ fn part(x: i64, divisor: i64) -> i64
     requires divides { nat_abs divisor ∣ nat_abs x }
     ensures whole { x ≡ divisor *ℤ result }
 {
+    // most numbers are in lowest terms already
+    if divisor == 1 {
+        return x;
+    }
     x / divisor
 }
 
