@@ -7,6 +7,7 @@ pub mod Numbered
 pub mod SamePlanes
 pub mod IndexSteps
 pub mod PlaneSearch
+pub mod Parallel
 pub mod Carried
 pub mod ListedHolders
 pub mod Turned

@@ -1,5 +1,6 @@
 -- Lists of the numbers that have a property, in increasing order.
 use Rattle.std.proofs.Common.{◌≡◌, ℕ, ◌+◌, ◌<◌, ◌≤◌, List, [], ◌∷◌, ◌++◌, length, length-append, ◌↔◌, arith, refl, sym, ◌∙◌, subst, ⊎_elim}
+use Rattle.std.proofs.lemmas.Bool.{cases_lt}
 use Rattle.nef_space.specs.Lists.{IsAt}
 use Rattle.nef_classes.proofs.ClassLists.{less-or-last, is-at_one, is-at_within, is-at_left, is-at_last, Either, earlier, last, is-at_either}
 use Rattle.nef_complex.specs.Index.{AreNumbersWith}
@@ -11,34 +12,42 @@ Before P n k = (k < n) × P k
 pub numbers-none : (P : ℕ → Type 0) → AreNumbersWith (Before P 0) []
 numbers-none P = record { each = λ i k a. cc; all = λ k (l, p). absurd (omega arith); ordered = λ i j k l h a b. cc }
 
--- the next number has P, and is added
-pub numbers-more : (P : ℕ → Type 0) (n : ℕ) (ns : List ℕ) → AreNumbersWith (Before P n) ns → P n → AreNumbersWith (Before P (n + 1)) (ns ++ n ∷ [])
-numbers-more P n ns N p = record {
-  each = λ i k a. each i k (is-at_either ns i k n a);
-  all = λ k (l, q). ⊎_elim
-      (λ b. let o = N.all k (b, q) in (o.0, is-at_left ns (n ∷ []) o.0 k o.1))
-      (λ e. (length ns, subst (λ (m : ℕ). IsAt (ns ++ n ∷ []) (length ns) m) (sym e) (is-at_last ns n)))
-      (less-or-last k n l);
-  ordered = λ i j k l h a b. ordered i j k l h (is-at_either ns i k n a) (is-at_either ns j l n b);
+-- of the numbers from n to before `next` only k has P, and is added
+pub numbers-in : (P : ℕ → Type 0) (n k next : ℕ) (ns : List ℕ) → AreNumbersWith (Before P n) ns → n ≤ k → k < next → P k → ((i : ℕ) → n ≤ i → i < next → P i → i ≡ k) → AreNumbersWith (Before P next) (ns ++ k ∷ [])
+numbers-in P n k next ns N from to p only = record {
+  each = λ i m a. each i m (is-at_either ns i m k a);
+  all = λ m (l, q). ⊎_elim
+      (λ b. let o = N.all m (b, q) in (o.0, is-at_left ns (k ∷ []) o.0 m o.1))
+      (λ b. (length ns, subst (λ (j : ℕ). IsAt (ns ++ k ∷ []) (length ns) j) (sym (only m b l q)) (is-at_last ns k)))
+      (cases_lt m n);
+  ordered = λ i j a b l p q. ordered i j a b l (is-at_either ns i a k p) (is-at_either ns j b k q);
 }
   where
-    each : (i k : ℕ) → Either ns i k n → Before P (n + 1) k
-    each i k (earlier a) = let o = N.each i k a in (omega arith, o.1)
-    each i k (last e f) = (omega arith, subst P (sym f) p)
+    each : (i m : ℕ) → Either ns i m k → Before P next m
+    each i m (earlier a) = let o = N.each i m a in (omega arith, o.1)
+    each i m (last e f) = (omega arith, subst P (sym f) p)
 
-    ordered : (i j k l : ℕ) → i < j → Either ns i k n → Either ns j l n → k < l
-    ordered i j k l h (earlier a) (earlier b) = N.ordered i j k l h a b
-    ordered i j k l h (earlier a) (last e f) = let o = N.each i k a in omega arith
-    ordered i j k l h (last e f) (earlier b) = let o = is-at_within ns j l b in absurd (omega arith)
-    ordered i j k l h (last e f) (last g m) = absurd (omega arith)
+    ordered : (i j a b : ℕ) → i < j → Either ns i a k → Either ns j b k → a < b
+    ordered i j a b l (earlier p) (earlier q) = N.ordered i j a b l p q
+    ordered i j a b l (earlier p) (last e f) = let o = N.each i a p in omega arith
+    ordered i j a b l (last e f) (earlier q) = let o = is-at_within ns j b q in absurd (omega arith)
+    ordered i j a b l (last e f) (last g m) = absurd (omega arith)
+
+-- none of them has
+pub numbers-past : (P : ℕ → Type 0) (n next : ℕ) (ns : List ℕ) → AreNumbersWith (Before P n) ns → n ≤ next → ((i : ℕ) → n ≤ i → i < next → P i → ⊥) → AreNumbersWith (Before P next) ns
+numbers-past P n next ns N le off = record {
+  each = λ i k a. let o = N.each i k a in (omega arith, o.1);
+  all = λ k (l, q). ⊎_elim (λ b. N.all k (b, q)) (λ b. absurd (off k b l q)) (cases_lt k n);
+  ordered = N.ordered;
+}
+
+-- the next number has P, and is added
+pub numbers-more : (P : ℕ → Type 0) (n : ℕ) (ns : List ℕ) → AreNumbersWith (Before P n) ns → P n → AreNumbersWith (Before P (n + 1)) (ns ++ n ∷ [])
+numbers-more P n ns N p = numbers-in P n n (n + 1) ns N (omega arith) (omega arith) p (λ i l m q. omega arith)
 
 -- it hasn't
 pub numbers-skip : (P : ℕ → Type 0) (n : ℕ) (ns : List ℕ) → AreNumbersWith (Before P n) ns → (P n → ⊥) → AreNumbersWith (Before P (n + 1)) ns
-numbers-skip P n ns N off = record {
-  each = λ i k a. let o = N.each i k a in (omega arith, o.1);
-  all = λ k (l, q). ⊎_elim (λ b. N.all k (b, q)) (λ e. absurd (off (subst P e q))) (less-or-last k n l);
-  ordered = N.ordered;
-}
+numbers-skip P n ns N off = numbers-past P n (n + 1) ns N (omega arith) (λ i l m q. off (let e : i ≡ n = omega arith in subst P e q))
 
 -- no number from n on has P
 pub numbers-all : (P : ℕ → Type 0) (n : ℕ) (ns : List ℕ) → AreNumbersWith (Before P n) ns → ((k : ℕ) → P k → k < n) → AreNumbersWith P ns

@@ -3,3 +3,4 @@ pub mod Planes
 pub mod Spans
 pub mod Index
 pub mod Indexing
+pub mod Runs

@@ -3,25 +3,34 @@
 ghost use Rattle.std.specs.Prelude.{◌<◌, length, IfOk};
 ghost use Rattle.nef_space.specs.Place.{Place};
 ghost use Rattle.nef_geo.specs.Shapes.{place_of};
-ghost use Rattle.nef_complex.specs.Index.{AreWithin, AreHolders, AreVertexHolders, AreHoldersAlong, AreEdgeHolders, HaveEnds};
+ghost use Rattle.nef_complex.specs.Index.{AreInOrder, AreWithin, AreHolders, AreVertexHolders, AreHoldersAlong, AreEdgeHolders, HaveEnds};
+ghost use Rattle.nef_complex.specs.Runs.{AreRuns};
 
 use crate::OutOfMemory;
 use crate::complex::{Edge, Vertex};
 use crate::holding::holds;
+use crate::runs::{holder_in, run_ends};
 use nef_geo::{List, Plane, Point};
 use std::alloc::Global;
 
-// The numbers of the carriers that hold the point.
-fn holders(alloc: Global, carriers: &[Plane], point: &Point) -> Result<Vec<usize>, OutOfMemory>
+// The numbers of the carriers that hold the point; each of the runs of parallel carriers has at most one of them.
+fn holders(
+    alloc: Global,
+    carriers: &[Plane],
+    ends: &[usize],
+    point: &Point,
+) -> Result<Vec<usize>, OutOfMemory>
+    requires ordered { AreInOrder carriers.now }
+    requires runs { AreRuns carriers.now ends.now }
     ensures holders { IfOk result (λ v. AreHolders carriers.now (place_of point.now) (place_of point.now) v.items) }
 {
     let mut numbers = Vec::new(alloc);
-    // A copy: the loop then reads the point's numbers once.
-    let point = *point;
-    for (number, h) in carriers.iter().enumerate() {
-        if holds(h, &point) {
+    let mut first = 0;
+    for past in ends {
+        if let Some(number) = holder_in(carriers, first, *past, point) {
             numbers.push(number)?;
         }
+        first = *past;
     }
     Ok(numbers)
 }
@@ -51,11 +60,13 @@ pub(crate) fn vertex_rows(
     carriers: &[Plane],
     vertices: &[Vertex],
 ) -> Result<List<List<usize>>, OutOfMemory>
+    requires ordered { AreInOrder carriers.now }
     ensures rows { IfOk result (λ rows. AreVertexHolders carriers.now vertices.now rows) }
 {
+    let ends = run_ends(alloc, carriers)?;
     let mut rows = List::new(alloc);
     for vertex in vertices {
-        let numbers = holders(alloc, carriers, &vertex.point)?;
+        let numbers = holders(alloc, carriers, ends.as_slice(), &vertex.point)?;
         rows.push(List::from_vec(numbers))?;
     }
     Ok(rows)

@@ -10,6 +10,7 @@ mod holders;
 mod holding;
 mod index;
 mod indexing;
+mod runs;
 mod spans;
 mod turning;
 mod vertices;

@@ -1,38 +1,57 @@
-use Rattle.std.proofs.Common.{ℕ, ◌+◌, length, arith, refl, sym, ap, subst, ◌∙◌, Vec, Global}
-use Rattle.std.proofs.lemmas.Option.{slice_get_read}
-use Rattle.nef_arc.proofs.SignNumbers.{not_true}
-use Rattle.nef_geo.specs.Shapes.{form_of, place_of}
+use Rattle.std.proofs.Common.{ℕ, ◌+◌, List, length, get_or, drop, arith, refl, sym, ap, subst, ◌∙◌, Vec, Global}
+use Rattle.nef_geo.specs.Shapes.{place_of}
 use Rattle.nef_geo.specs.declared.plane.Plane.{Plane}
-use Rattle.nef_classes.proofs.ClassLists.{is-at_one, is-at_within}
+use Rattle.nef_classes.proofs.ClassLists.{is-at_within}
 use Rattle.nef_complex.specs.Index.{IsHolder, AreNumbersWith}
-use Rattle.nef_complex.specs.Planes.{HoldsBoth}
-use Rattle.nef_complex.proofs.Numbered.{Before, numbers-more, numbers-skip, numbers-all}
-use Rattle.nef_complex.proofs.holders.holders.Goals.{then-holds+in_ok-push, else-holds}
+use Rattle.nef_complex.specs.Runs.{AreRunsTo}
+use Rattle.nef_complex.proofs.Numbered.{Before, numbers-none, numbers-in, numbers-past, numbers-all}
+use Rattle.nef_complex.proofs.Parallel.{runs-next, runs-all}
+use Rattle.nef_complex.proofs.holders.holders.Goals.{in-Some+in_ok-push, in_default}
 use Rattle.nef_complex.proofs.holders.holders.Goals as goal
 
-pub loop-number-preserved : goal.loop-number-preserved
-loop-number-preserved c =
-    let hs = c.args.carriers.now in
+pub loop-past-init : goal.loop-past-init
+loop-past-init c =
     let p = place_of c.args.point.now in
-    let n = c.loop-number.number in
-    let h = c.index-carriers-number.result in
-    let here = slice_get_read hs (length hs) n h refl c.loop-number-test.true c.index-carriers-number.is in
+    let P : ℕ → Type 0 = IsHolder c.args.carriers.now p p in
+    record { runs = c.requires.runs; numbers = subst (AreNumbersWith (Before P 0)) (sym c.new-numbers.ensures.items) (numbers-none P) }
+
+pub holder_in-requires-clause-run : goal.holder_in-requires-clause-run
+holder_in-requires-clause-run c =
+    let hs : List Plane = c.args.carriers.now in
+    (runs-next hs c.args.ends.now c.loop-past.past-index c.loop-past.first (length hs) c.loop-past-test.true c.loop-past.invariant.runs).0
+
+pub loop-past-preserved : goal.loop-past-preserved
+loop-past-preserved c =
+    let hs : List Plane = c.args.carriers.now in
+    let p = place_of c.args.point.now in
     let P : ℕ → Type 0 = IsHolder hs p p in
-    elim c.if-holds.branch [
-      | then-holds+in_ok-push w ↦
-          let z = c.holds.ensures.holds.0 w.if-holds.true in
-          subst (AreNumbersWith (Before P (n + 1))) (sym w.in_ok-push.ensures.items ∙ ap (λ (x : Vec ℕ Global). x.items) (sym w.numbers-is))
-          (numbers-more P n c.loop-number.numbers.items c.loop-number.invariant (h, here, (z, z)))
-      | else-holds w ↦
-          subst (λ (x : Vec ℕ Global). AreNumbersWith (Before P (n + 1)) x.items) (sym w.numbers-is)
-          (numbers-skip P n c.loop-number.numbers.items c.loop-number.invariant
-          (λ (g, a, b). not_true (sym w.if-holds.false ∙ c.holds.ensures.holds.1 (subst (λ (r : Plane). HoldsBoth (form_of r) p p) (is-at_one hs n g h a here) b).0)))
+    let first = c.loop-past.first in
+    let past : ℕ = get_or c.args.ends.now c.loop-past.past-index 0 in
+    let N = c.loop-past.invariant.numbers in
+    let next = runs-next hs c.args.ends.now c.loop-past.past-index first (length hs) c.loop-past-test.true c.loop-past.invariant.runs in
+    let rest : List ℕ = drop (c.loop-past.past-index + 1) c.args.ends.now in
+    elim c.match-holder_in.branch [
+      | in-Some+in_ok-push w ↦
+          let o = w.in-Some.ensures.holder in
+          record {
+            runs = subst (λ (k : ℕ). AreRunsTo hs k rest (length hs)) (sym w.first-is) next.1;
+            numbers = subst (λ (k : ℕ). AreNumbersWith (Before P k) c.match-holder_in.numbers.items) (sym w.first-is)
+                (subst (AreNumbersWith (Before P past)) (sym (ap (λ (v : Vec ℕ Global). v.items) w.numbers-is ∙ w.in_ok-push.ensures.items))
+                (numbers-in P first w.in-Some.number past c.loop-past.numbers.items N o.holder.0 o.holder.1 o.holder.2 (λ i l m q. o.only i (l, m, q))));
+          }
+      | in_default w ↦ record {
+        runs = subst (λ (k : ℕ). AreRunsTo hs k rest (length hs)) (sym w.first-is) next.1;
+        numbers = subst (λ (k : ℕ). AreNumbersWith (Before P k) c.match-holder_in.numbers.items) (sym w.first-is)
+            (subst (λ (v : Vec ℕ Global). AreNumbersWith (Before P past) v.items) (sym w.numbers-is)
+            (numbers-past P first past c.loop-past.numbers.items N next.0.ordered (λ i l m q. w.in_default.ensures.none refl i (l, m, q))));
+      }
     ]
 
 pub returns : goal.returns
 returns c =
-    let hs = c.args.carriers.now in
+    let hs : List Plane = c.args.carriers.now in
     let p = place_of c.args.point.now in
+    let all = runs-all hs c.args.ends.now c.loop-past.past-index c.loop-past.first (length hs) (let f = c.loop-past-test.false in omega arith) c.loop-past.invariant.runs in
     record {
-      holders = numbers-all (IsHolder hs p p) c.loop-number.number c.loop-number.numbers.items c.loop-number.invariant (λ k q. let l = is-at_within hs k q.0 q.1 in let f = c.loop-number-test.false in omega arith);
+      holders = numbers-all (IsHolder hs p p) c.loop-past.first c.loop-past.numbers.items c.loop-past.invariant.numbers (λ k q. let l = is-at_within hs k q.0 q.1 in omega arith);
     }

@@ -1,7 +1,12 @@
+use Rattle.std.specs.Prelude.{length, drop}
 use Rattle.nef_geo.specs.Shapes.{place_of}
 use Rattle.nef_complex.specs.Index.{IsHolder, AreNumbersWith}
+use Rattle.nef_complex.specs.Runs.{AreRunsTo}
 use Rattle.nef_complex.proofs.Numbered.{Before}
 use Rattle.nef_complex.proofs.holders.holders.Given as goal
 
-abbrev pub invariant-loop-number : goal.invariant-loop-number
-invariant-loop-number l = AreNumbersWith (Before (IsHolder l.carriers (place_of l.point) (place_of l.point)) l.number) l.numbers.items
+abbrev pub invariant-loop-past : goal.invariant-loop-past
+invariant-loop-past l = record {
+  runs : AreRunsTo l.carriers l.first (drop l.past-index l.ends) (length l.carriers);
+  numbers : AreNumbersWith (Before (IsHolder l.carriers (place_of l.point) (place_of l.point)) l.first) l.numbers.items;
+}

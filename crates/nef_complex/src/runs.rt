@@ -1,0 +1,68 @@
+//! Runs of parallel carriers: those with one normal stand side by side, so that of each run at most one holds a point.
+
+ghost use Rattle.std.specs.Prelude.{◌≡◌, ℕ, ◌<◌, length, ◌↔◌, IsTrue, IsNone, IfSome, IfOk};
+ghost use Rattle.nef_space.specs.Place.{normal_of};
+ghost use Rattle.nef_geo.specs.Shapes.{form_of, place_of};
+ghost use Rattle.nef_complex.specs.Index.{AreInOrder};
+ghost use Rattle.nef_complex.specs.Runs.{IsRun, AreRuns, GoesOn, IsHolderIn, IsOnlyHolder};
+
+use crate::OutOfMemory;
+use nef_geo::{Plane, Point, Sign, side};
+use std::alloc::Global;
+
+// Whether the forms of the planes have one normal.
+fn same_normal(g: &Plane, h: &Plane) -> bool
+    ensures same { IsTrue result → normal_of (form_of g.now) ≡ normal_of (form_of h.now) }
+{
+    g.a() == h.a() && g.b() == h.b() && g.c() == h.c()
+}
+
+// Whether the run of this carrier goes on after it.
+fn goes_on(carriers: &[Plane], number: usize) -> bool
+    requires within { number < length carriers.now }
+    ensures on { IsTrue result → GoesOn carriers.now number }
+{
+    match carriers.get(number + 1) {
+        Some(next) => same_normal(&carriers[number], next),
+        None => false,
+    }
+}
+
+/// For each run of carriers the number at which it ends, which is the first of the next run.
+pub(crate) fn run_ends(alloc: Global, carriers: &[Plane]) -> Result<Vec<usize>, OutOfMemory>
+    ensures runs { IfOk result (λ v. AreRuns carriers.now v.items) }
+{
+    let mut ends = Vec::new(alloc);
+    for number in 0..carriers.len() {
+        if !goes_on(carriers, number) {
+            ends.push(number + 1)?;
+        }
+    }
+    Ok(ends)
+}
+
+/// The number of the carrier that holds the point, of the run from number `first` to before number `past`, by halving:
+/// at the point the forms of parallel carriers rise with their last numbers.
+pub(crate) fn holder_in(
+    carriers: &[Plane],
+    first: usize,
+    past: usize,
+    point: &Point,
+) -> Option<usize>
+    requires ordered { AreInOrder carriers.now }
+    requires run { IsRun carriers.now first past }
+    ensures holder { IfSome result (λ k. IsOnlyHolder carriers.now first past (place_of point.now) k) }
+    ensures none { IsNone result → (k : ℕ) → IsHolderIn carriers.now first past (place_of point.now) k → ⊥ }
+{
+    let mut low = first;
+    let mut high = past;
+    while low < high {
+        let middle = low + (high - low) / 2;
+        match side(&carriers[middle], point) {
+            Sign::Minus => low = middle + 1,
+            Sign::Zero => return Some(middle),
+            Sign::Plus => high = middle,
+        }
+    }
+    None
+}
