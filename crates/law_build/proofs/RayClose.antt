@@ -18,7 +18,7 @@ use Rattle.law_sphere.proofs.Parallel.{parallel-in_plane}
 use Rattle.law_sphere.proofs.Direct.{cross-self}
 use Rattle.law_sphere.proofs.Kind.{away}
 use Rattle.law_sphere.proofs.Flips.{dot-away, away-direction, reversed}
-use Rattle.law_sphere.proofs.ArcLabels.{on-ahead}
+use Rattle.law_sphere.proofs.ArcWays.{on-ahead}
 use Rattle.law_sphere.proofs.StarKinds.{across-side}
 use Rattle.law_sphere.proofs.Simplified.{ray-level, away-twice, last-of, before, next-ray}
 use Rattle.law_build.specs.Raw.{IsWellFormed}

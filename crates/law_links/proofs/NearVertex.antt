@@ -25,7 +25,8 @@ use Rattle.law_complex.proofs.Cones.{near-germ}
 use Rattle.law_complex.proofs.FacetSides.{IsSided, one-label-flat}
 use Rattle.law_complex.proofs.FacetPoints.{IsInFacetOf, in-facet}
 use Rattle.law_links.proofs.Ties.{even-fan, ahead-way, IsTied, tied-even, tied-cell, tied-both, tied-turned, tied-itself}
-use Rattle.law_links.proofs.ItemWays.{circle-all, arc-all}
+use Rattle.law_sphere.proofs.ArcWays.{arc-all}
+use Rattle.law_links.proofs.ItemWays.{circle-all}
 
 -- where all germs are one, all directions are flat
 pub one-label-dim : (s : Set) (q : Place) (m : Label) → ((e : Vector) → Germ s q e m) → FlatDim s q 3
@@ -108,8 +109,8 @@ module _ (s : Set) (C : Complex) (S : Shows s C) (k : Corner) (v : Vertex) where
         let V = (S.cones k.vertex v c.vertex).valid.shaped in
         let E = ends-of v.map V k.item r (arc-at v.map.arcs v.map.sloop k.item r c.item) in
         arc-all n u w (normal-is V k.item (arc_item r) c.item) E.source_direction E.target_direction E.source_level E.target_level (λ g. Reached y g)
-        (λ g h z t. onward y g h (same-way g h z) t)
-        (λ g h i j all t. onward y g h (item-fan s C S k v (arc_item r) c g h i j all) t)
+        (λ g h i j z t. onward y g h (same-way g h z) t)
+        (λ g h i j apart all t. onward y g h (item-fan s C S k v (arc_item r) c g h i j all) t)
         (amount (cross w n ∷ []) (cross n u)) (omega arith) (tied-itself s (ahead s v.point y)) f o
 
     arc-tied : (d e : Vector) → OnItem v.map (arc_item r) d → OnItem v.map (arc_item r) e → Reached d e

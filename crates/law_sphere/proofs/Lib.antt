@@ -28,6 +28,7 @@ pub mod Labellings
 pub mod StarKinds
 pub mod Smooth
 pub mod Along
+pub mod ArcWays
 pub mod ArcLabels
 pub mod Simple
 pub mod Firsts

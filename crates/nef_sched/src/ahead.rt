@@ -3,9 +3,9 @@ ghost use Rattle.std.specs.Prelude.{◌≡◌, ℕ, false, ◌<◌, ◌≤◌, �
 ghost use Rattle.nef_sched.specs.declared.pass.RoundPass.{RoundPass};
 ghost use Rattle.nef_sched.specs.declared.worked.Worked.{Worked};
 ghost use Rattle.nef_sched.specs.Counts.{Differ};
-ghost use Rattle.nef_sched.specs.Marks.{IsMarked, IsUnmarked, IsAwaited, NeedsOf};
+ghost use Rattle.nef_sched.specs.Marks.{IsMarked, IsUnmarked, NeedsOf};
 ghost use Rattle.nef_sched.specs.Rounds.{Belongs, parts, known, total_parts};
-ghost use Rattle.nef_sched.specs.Results.{kept, IsKept, IsReady, AreSound, AreFitting};
+ghost use Rattle.nef_sched.specs.Results.{kept, IsKept, IsReady, HasNeeds, AreHeld, AreSound, AreFitting};
 ghost use Rattle.nef_sched.specs.Workers.{total_worked};
 
 use crate::OutOfMemory;
@@ -118,7 +118,7 @@ fn is_due<T: Stage>(stage: &T, done: &Results<T::Out>, worked: &[bool], number: 
     requires workable { T.workable stage.now }
     requires sound { AreSound (T.size stage.now) (T.fits stage.now) done.now.list.items }
     requires worked { length worked.now ≡ T.size stage.now }
-    requires awaited { (k : ℕ) → IsMarked worked.now k → IsAwaited (T.first stage.now) (T.second stage.now) worked.now k → IsKept done.now.list.items k }
+    requires awaited { AreHeld (T.first stage.now) (T.second stage.now) worked.now done.now.list.items }
     ensures yes { IsTrue result → IsReady (T.fits stage.now) (T.first stage.now number) (T.second stage.now number) done.now.list.items }
     ensures no { ((k : ℕ) → k < number → IsMarked worked.now k) → result ≡ false → IsMarked worked.now number }
 {
@@ -135,9 +135,9 @@ fn ready<T: Stage>(
     requires workable { T.workable stage.now }
     requires sound { AreSound (T.size stage.now) (T.fits stage.now) done.now.list.items }
     requires worked { length worked.now ≡ T.size stage.now }
-    requires awaited { (k : ℕ) → IsMarked worked.now k → IsAwaited (T.first stage.now) (T.second stage.now) worked.now k → IsKept done.now.list.items k }
+    requires awaited { AreHeld (T.first stage.now) (T.second stage.now) worked.now done.now.list.items }
     ensures differ { IfOk result (λ v. Differ v.items) }
-    ensures each { IfOk result (λ v. All (λ i. (i < T.size stage.now) × IsReady (T.fits stage.now) (T.first stage.now i) (T.second stage.now i) done.now.list.items) v.items) }
+    ensures each { IfOk result (λ v. All (HasNeeds (T.size stage.now) (T.fits stage.now) (T.first stage.now) (T.second stage.now) done.now.list.items) v.items) }
     ensures none { IfOk result (λ v. vec_len v ≡ 0 → (k : ℕ) → k < T.size stage.now → IsMarked worked.now k) }
 {
     let mut numbers = Vec::new(alloc);
@@ -147,27 +147,6 @@ fn ready<T: Stage>(
         }
     }
     Ok(numbers)
-}
-
-// Works a number, and keeps its result.
-fn work_one<T: Stage>(
-    alloc: Global,
-    stage: &T,
-    number: usize,
-    alone: bool,
-    mut done: Results<T::Out>,
-) -> Result<Results<T::Out>, OutOfMemory>
-    requires workable { T.workable stage.now }
-    requires sound { AreSound (T.size stage.now) (T.fits stage.now) done.list.items }
-    requires number { number < T.size stage.now }
-    requires there { IsReady (T.fits stage.now) (T.first stage.now number) (T.second stage.now number) done.list.items }
-    ensures sound { IfOk result (λ r. AreSound (T.size stage.now) (T.fits stage.now) r.list.items) }
-    ensures still { IfOk result (λ r. (k : ℕ) → IsKept done.list.items k → IsKept r.list.items k) }
-    ensures there { IfOk result (λ r. IsKept r.list.items number) }
-{
-    let out = stage.work(alloc, number, alone, &done)?;
-    done.list[number] = Some(out);
-    Ok(done)
 }
 
 // What one thread does: it takes numbers until none is left or memory runs out.
@@ -181,7 +160,7 @@ fn work_all<R: Wait, T: Stage>(
 ) -> Worked<T::Out>
     requires workable { T.workable stage.now }
     requires of { Belongs round.now pass }
-    requires each { All (λ i. (i < T.size stage.now) × IsReady (T.fits stage.now) (T.first stage.now i) (T.second stage.now i) done.now.list.items) (known pass) }
+    requires each { All (HasNeeds (T.size stage.now) (T.fits stage.now) (T.first stage.now) (T.second stage.now) done.now.list.items) (known pass) }
     ensures of { Belongs round.now result.pass }
     ensures parts { parts result.pass ≡ parts pass }
     ensures outs { AreFitting (T.size stage.now) (T.fits stage.now) result.outs.items }
@@ -214,7 +193,7 @@ fn work_apart<R: Threads + Wait + Sync, T: Stage>(
 ) -> Result<Vec<Worked<T::Out>>, OutOfMemory>
     requires workable { T.workable stage.now }
     requires of { All (λ p. Belongs round.now p) passes.items }
-    requires each { All (λ p. All (λ i. (i < T.size stage.now) × IsReady (T.fits stage.now) (T.first stage.now i) (T.second stage.now i) done.now.list.items) (known p)) passes.items }
+    requires each { All (λ p. All (HasNeeds (T.size stage.now) (T.fits stage.now) (T.first stage.now) (T.second stage.now) done.now.list.items) (known p)) passes.items }
     ensures of { IfOk result (λ v. All (λ w. Belongs round.now w.pass) v.items) }
     ensures len { IfOk result (λ v. vec_len v ≡ vec_len passes) }
     ensures parts { IfOk result (λ v. (i : ℕ) (d : Worked T.Out) (e : RoundPass) → i < length passes.items → parts (slice_index_or v.items i d).pass ≡ parts (slice_index_or passes.items i e)) }
@@ -224,7 +203,7 @@ fn work_apart<R: Threads + Wait + Sync, T: Stage>(
         rt,
         passes,
         &|mine: RoundPass| -> Worked<T::Out>
-            requires { T.workable stage.now × Belongs round.now mine × All (λ i. (i < T.size stage.now) × IsReady (T.fits stage.now) (T.first stage.now i) (T.second stage.now i) done.now.list.items) (known mine) }
+            requires { T.workable stage.now × Belongs round.now mine × All (HasNeeds (T.size stage.now) (T.fits stage.now) (T.first stage.now) (T.second stage.now) done.now.list.items) (known mine) }
             ensures { Belongs round.entry.now result.pass × (parts result.pass ≡ parts mine) × AreFitting (T.size stage.entry.now) (T.fits stage.entry.now) result.outs.items }
         { work_all(rt, alloc, stage, done, round, mine) },
     )
@@ -272,17 +251,17 @@ fn gathered<T: Stage>(
     Ok((done, passes))
 }
 
-// Works a number where it has no result.
-fn work_left<T: Stage>(
+// Works a number where it has no result, and keeps its result.
+fn work_one<T: Stage>(
     alloc: Global,
     stage: &T,
     number: usize,
-    done: Results<T::Out>,
+    alone: bool,
+    mut done: Results<T::Out>,
 ) -> Result<Results<T::Out>, OutOfMemory>
     requires workable { T.workable stage.now }
     requires sound { AreSound (T.size stage.now) (T.fits stage.now) done.list.items }
-    requires number { number < T.size stage.now }
-    requires there { IsReady (T.fits stage.now) (T.first stage.now number) (T.second stage.now number) done.list.items }
+    requires needs { HasNeeds (T.size stage.now) (T.fits stage.now) (T.first stage.now) (T.second stage.now) done.list.items number }
     ensures sound { IfOk result (λ r. AreSound (T.size stage.now) (T.fits stage.now) r.list.items) }
     ensures still { IfOk result (λ r. (k : ℕ) → IsKept done.list.items k → IsKept r.list.items k) }
     ensures there { IfOk result (λ r. IsKept r.list.items number) }
@@ -290,7 +269,9 @@ fn work_left<T: Stage>(
     if done.get(number).is_some() {
         return Ok(done);
     }
-    work_one(alloc, stage, number, false, done)
+    let out = stage.work(alloc, number, alone, &done)?;
+    done.list[number] = Some(out);
+    Ok(done)
 }
 
 // Works each of the numbers that has no result.
@@ -302,44 +283,19 @@ fn work_rest<T: Stage>(
 ) -> Result<Results<T::Out>, OutOfMemory>
     requires workable { T.workable stage.now }
     requires sound { AreSound (T.size stage.now) (T.fits stage.now) done.list.items }
-    requires each { All (λ i. (i < T.size stage.now) × IsReady (T.fits stage.now) (T.first stage.now i) (T.second stage.now i) done.list.items) numbers.now }
+    requires each { All (HasNeeds (T.size stage.now) (T.fits stage.now) (T.first stage.now) (T.second stage.now) done.list.items) numbers.now }
     ensures sound { IfOk result (λ r. AreSound (T.size stage.now) (T.fits stage.now) r.list.items) }
     ensures still { IfOk result (λ r. (k : ℕ) → IsKept done.list.items k → IsKept r.list.items k) }
     ensures there { IfOk result (λ r. All (IsKept r.list.items) numbers.now) }
 {
     for number in numbers {
-        done = work_left(alloc, stage, *number, done)?;
+        done = work_one(alloc, stage, *number, false, done)?;
     }
     Ok(done)
 }
 
-// Works the numbers of a round by workers, and then those that they left.
-fn work_round<R: Threads + Wait + Sync, T: Stage>(
-    rt: &R,
-    alloc: Global,
-    stage: &T,
-    workers: u32,
-    numbers: &[usize],
-    done: Results<T::Out>,
-) -> Result<Results<T::Out>, OutOfMemory>
-    requires workers { 1 ≤ workers }
-    requires workable { T.workable stage.now }
-    requires sound { AreSound (T.size stage.now) (T.fits stage.now) done.list.items }
-    requires some { 0 < length numbers.now }
-    requires differ { Differ numbers.now }
-    requires each { All (λ i. (i < T.size stage.now) × IsReady (T.fits stage.now) (T.first stage.now i) (T.second stage.now i) done.list.items) numbers.now }
-    ensures sound { IfOk result (λ r. AreSound (T.size stage.now) (T.fits stage.now) r.list.items) }
-    ensures still { IfOk result (λ r. (k : ℕ) → IsKept done.list.items k → IsKept r.list.items k) }
-    ensures there { IfOk result (λ r. All (IsKept r.list.items) numbers.now) }
-{
-    let (round, passes) = Round::new(rt, alloc, numbers, workers)?;
-    let worked = work_apart(rt, alloc, stage, &done, &round, passes)?;
-    let (done, passes) = gathered(alloc, stage, &round, done, worked)?;
-    let _ = round.close(rt, passes);
-    work_rest(alloc, stage, numbers, done)
-}
-
-// Works the numbers of a round: a single one by the caller.
+// Works the numbers of a round: a single one by the caller, and more of them by workers, after which
+// the caller works those that they left.
 fn work_ready<R: Threads + Wait + Sync, T: Stage>(
     rt: &R,
     alloc: Global,
@@ -353,16 +309,19 @@ fn work_ready<R: Threads + Wait + Sync, T: Stage>(
     requires sound { AreSound (T.size stage.now) (T.fits stage.now) done.list.items }
     requires some { 0 < length numbers.now }
     requires differ { Differ numbers.now }
-    requires each { All (λ i. (i < T.size stage.now) × IsReady (T.fits stage.now) (T.first stage.now i) (T.second stage.now i) done.list.items) numbers.now }
+    requires each { All (HasNeeds (T.size stage.now) (T.fits stage.now) (T.first stage.now) (T.second stage.now) done.list.items) numbers.now }
     ensures sound { IfOk result (λ r. AreSound (T.size stage.now) (T.fits stage.now) r.list.items) }
     ensures still { IfOk result (λ r. (k : ℕ) → IsKept done.list.items k → IsKept r.list.items k) }
     ensures there { IfOk result (λ r. All (IsKept r.list.items) numbers.now) }
 {
     if numbers.len() == 1 {
-        work_one(alloc, stage, numbers[0], true, done)
-    } else {
-        work_round(rt, alloc, stage, workers, numbers, done)
+        return work_one(alloc, stage, numbers[0], true, done);
     }
+    let (round, passes) = Round::new(rt, alloc, numbers, workers)?;
+    let worked = work_apart(rt, alloc, stage, &done, &round, passes)?;
+    let (done, passes) = gathered(alloc, stage, &round, done, worked)?;
+    let _ = round.close(rt, passes);
+    work_rest(alloc, stage, numbers, done)
 }
 
 // Every number has its result: the results alone.

@@ -1,4 +1,3 @@
-use Rattle.std.proofs.Common.{ap, ◌∙◌}
 use Rattle.nef_sched.proofs.Outs.{none_none, sound_none}
 use Rattle.nef_sched.proofs.ahead.no_results.Goals as goal
 

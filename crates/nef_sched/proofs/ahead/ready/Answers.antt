@@ -1,6 +1,6 @@
 use Rattle.std.proofs.Common.{ℕ, ◌+◌, ◌<◌, arith}
 use Rattle.std.proofs.lemmas.List.Elements.{All-push}
-use Rattle.nef_sched.specs.Results.{IsReady}
+use Rattle.nef_sched.specs.Results.{HasNeeds}
 use Rattle.nef_sched.proofs.Outs.{differ_next, all_next}
 use Rattle.nef_sched.proofs.ahead.ready.Goals as goal
 use Rattle.nef_sched.proofs.ahead.ready.Goals.{then-is_due+in_ok-push, else-is_due}
@@ -21,7 +21,7 @@ loop-number-preserved g c =
           rw w.numbers-is (record {
             differ = rw grown (differ_next _ n i.differ i.below);
             below = rw grown (All-push (λ (k : ℕ). k < n + 1) _ _ (λ k d low. let h = i.below k d low in omega arith) (omega arith));
-            each = rw grown (All-push (λ (k : ℕ). (k < s.size t) × IsReady (s.fits t) (s.first t k) (s.second t k) c.args.done.now.list.items) _ n i.each (inside, c.is_due.ensures.yes w.if-is_due.true));
+            each = rw grown (All-push (HasNeeds (s.size t) (s.fits t) (s.first t) (s.second t) c.args.done.now.list.items) _ n i.each (inside, c.is_due.ensures.yes w.if-is_due.true));
             none = λ z. absurd (omega arith);
           })
       | else-is_due w ↦

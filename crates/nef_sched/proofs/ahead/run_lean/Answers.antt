@@ -1,4 +1,4 @@
-use Rattle.std.proofs.Common.{◌≡◌, ℕ, ◌<◌, arith, inl, inr, subst, ◌∙◌, sym, rules, vec_len, true, false}
+use Rattle.std.proofs.Common.{ℕ, ◌<◌, arith, inl, inr, subst, ◌∙◌, sym, rules, true, false}
 use Rattle.std.specs.Prelude.{IsSome}
 use Rattle.std.proofs.lemmas.Option.{slice_get_within}
 use Rattle.nef_sched.specs.Marks.{IsMarked}

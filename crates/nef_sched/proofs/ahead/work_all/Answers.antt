@@ -1,7 +1,7 @@
 use Rattle.std.proofs.Common.{ℕ, ◌<◌, ap, sym, ◌∙◌}
 use Rattle.std.proofs.lemmas.List.Elements.{All-push}
 use Rattle.nef_sched.specs.Counts.{times}
-use Rattle.nef_sched.specs.Results.{IsReady}
+use Rattle.nef_sched.specs.Results.{HasNeeds}
 use Rattle.nef_sched.proofs.Outs.{all_in}
 use Rattle.nef_sched.proofs.ahead.work_all.Goals as goal
 
@@ -9,13 +9,13 @@ pub work-requires-clause-number : goal.work-requires-clause-number
 work-requires-clause-number g c =
     let t = c.args.stage.now in
     let s = g.T.Stage in
-    (all_in (λ (i : ℕ). (i < s.size t) × IsReady (s.fits t) (s.first t i) (s.second t i) c.args.done.now.list.items) _ _ (ap (times c.in-Some-take.number) (sym c.loop.invariant.knows) ∙ c.in-Some-take.ensures.number.1) c.requires.each).0
+    (all_in (HasNeeds (s.size t) (s.fits t) (s.first t) (s.second t) c.args.done.now.list.items) _ _ (ap (times c.in-Some-take.number) (sym c.loop.invariant.knows) ∙ c.in-Some-take.ensures.number.1) c.requires.each).0
 
 pub work-requires-clause-there : goal.work-requires-clause-there
 work-requires-clause-there g c =
     let t = c.args.stage.now in
     let s = g.T.Stage in
-    (all_in (λ (i : ℕ). (i < s.size t) × IsReady (s.fits t) (s.first t i) (s.second t i) c.args.done.now.list.items) _ _ (ap (times c.in-Some-take.number) (sym c.loop.invariant.knows) ∙ c.in-Some-take.ensures.number.1) c.requires.each).1
+    (all_in (HasNeeds (s.size t) (s.fits t) (s.first t) (s.second t) c.args.done.now.list.items) _ _ (ap (times c.in-Some-take.number) (sym c.loop.invariant.knows) ∙ c.in-Some-take.ensures.number.1) c.requires.each).1
 
 pub loop-preserved : goal.loop-preserved
 loop-preserved g c =
@@ -23,7 +23,7 @@ loop-preserved g c =
     let s = g.T.Stage in
     let i = c.loop.invariant in
     let n = c.in-Some-take.number in
-    let due = all_in (λ (i : ℕ). (i < s.size t) × IsReady (s.fits t) (s.first t i) (s.second t i) c.args.done.now.list.items) _ _ (ap (times n) (sym i.knows) ∙ c.in-Some-take.ensures.number.1) c.requires.each in
+    let due = all_in (HasNeeds (s.size t) (s.fits t) (s.first t) (s.second t) c.args.done.now.list.items) _ _ (ap (times n) (sym i.knows) ∙ c.in-Some-take.ensures.number.1) c.requires.each in
     record {
       of = c.take.ensures.of;
       parts = c.take.ensures.same.0 ∙ i.parts;

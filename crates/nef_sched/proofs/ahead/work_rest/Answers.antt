@@ -3,8 +3,11 @@ use Rattle.nef_sched.specs.Results.{IsKept}
 use Rattle.nef_sched.proofs.Outs.{ready_still, all_next, any_default}
 use Rattle.nef_sched.proofs.ahead.work_rest.Goals as goal
 
-pub work_left-requires-clause-there : goal.work_left-requires-clause-there
-work_left-requires-clause-there g c κs within = let i = c.loop-number.invariant in ready_still _ _ _ _ _ _ i.sound i.still (c.requires.each c.loop-number.number-index 0 c.loop-number-test.true).1
+pub work_one-requires-clause-needs : goal.work_one-requires-clause-needs
+work_one-requires-clause-needs g c κs within =
+    let i = c.loop-number.invariant in
+    let e = c.requires.each c.loop-number.number-index 0 c.loop-number-test.true in
+    (e.0, ready_still _ _ _ _ _ _ i.sound i.still e.1)
 
 pub loop-number-preserved : goal.loop-number-preserved
 loop-number-preserved g c =

@@ -1,7 +1,7 @@
 use Rattle.std.proofs.Common.{◌∙◌, arith}
 use Rattle.std.proofs.lemmas.Result.{IfOk-weaker}
 use Rattle.nef_sched.proofs.Outs.{ready_still, parts_same}
-use Rattle.nef_sched.proofs.ahead.work_round.Goals as goal
+use Rattle.nef_sched.proofs.ahead.work_ready.Goals as goal
 
 pub close-requires-clause-every : goal.close-requires-clause-every
 close-requires-clause-every g c =
