@@ -8,6 +8,7 @@ pub mod SamePlanes
 pub mod IndexSteps
 pub mod PlaneSearch
 pub mod Parallel
+pub mod Rows
 pub mod Carried
 pub mod ListedHolders
 pub mod Turned

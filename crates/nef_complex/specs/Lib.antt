@@ -4,3 +4,4 @@ pub mod Spans
 pub mod Index
 pub mod Indexing
 pub mod Runs
+pub mod Tables

@@ -1,6 +1,6 @@
 //! The carriers that hold each vertex and each edge, by their numbers.
 
-ghost use Rattle.std.specs.Prelude.{◌<◌, length, IfOk};
+ghost use Rattle.std.specs.Prelude.{◌<◌, length, IfOk, OnOk};
 ghost use Rattle.nef_space.specs.Place.{Place};
 ghost use Rattle.nef_geo.specs.Shapes.{place_of};
 ghost use Rattle.nef_complex.specs.Index.{AreInOrder, AreWithin, AreHolders, AreVertexHolders, AreHoldersAlong, AreEdgeHolders, HaveEnds};
@@ -10,21 +10,23 @@ use crate::OutOfMemory;
 use crate::complex::{Edge, Vertex};
 use crate::holding::holds;
 use crate::runs::{holder_in, run_ends};
-use nef_geo::{List, Plane, Point};
+use crate::table::Table;
+use nef_geo::{Plane, Point};
 use std::alloc::Global;
 
-// The numbers of the carriers that hold the point; each of the runs of parallel carriers has at most one of them.
+// Puts the numbers of the carriers that hold the point into the list, in place of what it had; each of the runs of
+// parallel carriers has at most one of them.
 fn holders(
-    alloc: Global,
     carriers: &[Plane],
     ends: &[usize],
     point: &Point,
-) -> Result<Vec<usize>, OutOfMemory>
+    numbers: &mut Vec<usize>,
+) -> Result<(), OutOfMemory>
     requires ordered { AreInOrder carriers.now }
     requires runs { AreRuns carriers.now ends.now }
-    ensures holders { IfOk result (λ v. AreHolders carriers.now (place_of point.now) (place_of point.now) v.items) }
+    ensures holders { OnOk result (AreHolders carriers.now (place_of point.now) (place_of point.now) numbers.new.items) }
 {
-    let mut numbers = Vec::new(alloc);
+    numbers.clear();
     let mut first = 0;
     for past in ends {
         if let Some(number) = holder_in(carriers, first, *past, point) {
@@ -32,26 +34,26 @@ fn holders(
         }
         first = *past;
     }
-    Ok(numbers)
+    Ok(())
 }
 
-// Those of the numbers whose carriers hold the point too.
+// Puts those of the listed numbers whose carriers hold the point too into the list, in place of what it had.
 fn common_holders(
-    alloc: Global,
     carriers: &[Plane],
     listed: &[usize],
     point: &Point,
-) -> Result<Vec<usize>, OutOfMemory>
+    numbers: &mut Vec<usize>,
+) -> Result<(), OutOfMemory>
     requires within { AreWithin carriers.now listed.now }
-    ensures common { IfOk result (λ v. (a : Place) → AreHolders carriers.now a a listed.now → AreHolders carriers.now a (place_of point.now) v.items) }
+    ensures common { OnOk result ((a : Place) → AreHolders carriers.now a a listed.now → AreHolders carriers.now a (place_of point.now) numbers.new.items) }
 {
-    let mut numbers = Vec::new(alloc);
+    numbers.clear();
     for number in listed {
         if holds(&carriers[*number], point) {
             numbers.push(*number)?;
         }
     }
-    Ok(numbers)
+    Ok(())
 }
 
 /// For each vertex the numbers of the carriers that hold it.
@@ -59,34 +61,36 @@ pub(crate) fn vertex_rows(
     alloc: Global,
     carriers: &[Plane],
     vertices: &[Vertex],
-) -> Result<List<List<usize>>, OutOfMemory>
+) -> Result<Table, OutOfMemory>
     requires ordered { AreInOrder carriers.now }
     ensures rows { IfOk result (λ rows. AreVertexHolders carriers.now vertices.now rows) }
 {
     let ends = run_ends(alloc, carriers)?;
-    let mut rows = List::new(alloc);
+    let mut rows = Table::with_rows(alloc, vertices.len())?;
+    let mut numbers = Vec::new(alloc);
     for vertex in vertices {
-        let numbers = holders(alloc, carriers, ends.as_slice(), &vertex.point)?;
-        rows.push(List::from_vec(numbers))?;
+        holders(carriers, ends.as_slice(), &vertex.point, &mut numbers)?;
+        rows.push(numbers.as_slice())?;
     }
     Ok(rows)
 }
 
-// The numbers of the carriers that hold both ends of the edge: those of the lower end whose carriers hold the upper one.
+// Puts the numbers of the carriers that hold both ends of the edge into the list, in place of what it had: those of the
+// lower end whose carriers hold the upper one.
 fn edge_row(
-    alloc: Global,
     carriers: &[Plane],
     vertices: &[Vertex],
     edge: &Edge,
-    at_vertex: &List<List<usize>>,
-) -> Result<Vec<usize>, OutOfMemory>
+    at_vertex: &Table,
+    numbers: &mut Vec<usize>,
+) -> Result<(), OutOfMemory>
     requires at_vertex { AreVertexHolders carriers.now vertices.now at_vertex.now }
     requires low { edge.now.low < length vertices.now }
     requires high { edge.now.high < length vertices.now }
-    ensures row { IfOk result (λ v. AreHoldersAlong carriers.now vertices.now edge.now v.items) }
+    ensures row { OnOk result (AreHoldersAlong carriers.now vertices.now edge.now numbers.new.items) }
 {
-    let at_low = at_vertex.at(edge.low).as_slice();
-    common_holders(alloc, carriers, at_low, &vertices[edge.high].point)
+    let at_low = at_vertex.row(edge.low);
+    common_holders(carriers, at_low, &vertices[edge.high].point, numbers)
 }
 
 /// For each edge the numbers of the carriers that hold both of its ends.
@@ -95,16 +99,17 @@ pub(crate) fn edge_rows(
     carriers: &[Plane],
     vertices: &[Vertex],
     edges: &[Edge],
-    at_vertex: &List<List<usize>>,
-) -> Result<List<List<usize>>, OutOfMemory>
+    at_vertex: &Table,
+) -> Result<Table, OutOfMemory>
     requires at_vertex { AreVertexHolders carriers.now vertices.now at_vertex.now }
     requires ends { HaveEnds vertices.now edges.now }
     ensures rows { IfOk result (λ rows. AreEdgeHolders carriers.now vertices.now edges.now rows) }
 {
-    let mut rows = List::new(alloc);
+    let mut rows = Table::with_rows(alloc, edges.len())?;
+    let mut numbers = Vec::new(alloc);
     for edge in edges {
-        let numbers = edge_row(alloc, carriers, vertices, edge, at_vertex)?;
-        rows.push(List::from_vec(numbers))?;
+        edge_row(carriers, vertices, edge, at_vertex, &mut numbers)?;
+        rows.push(numbers.as_slice())?;
     }
     Ok(rows)
 }

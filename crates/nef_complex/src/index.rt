@@ -14,6 +14,7 @@ ghost use Rattle.nef_geo.specs.declared.plane.Plane.{Plane};
 use crate::complex::Complex;
 use crate::groups::Group;
 use crate::spans::Span;
+use crate::table::Table;
 use nef_geo::{List, Plane, plane_cmp};
 use std::cmp::Ordering;
 
@@ -25,10 +26,10 @@ use std::cmp::Ordering;
 #[derive(Debug, Drop)]
 pub struct PlaneIndex {
     pub planes: List<Plane>,
-    pub edges: List<List<usize>>,
-    pub vertices: List<List<usize>>,
-    pub at_vertex: List<List<usize>>,
-    pub at_edge: List<List<usize>>,
+    pub edges: Table,
+    pub vertices: Table,
+    pub at_vertex: Table,
+    pub at_edge: Table,
     pub on_carrier: List<List<usize>>,
     pub in_carrier: List<List<usize>>,
     pub spans: List<Span>,
@@ -71,8 +72,8 @@ pub fn plane_items<'a>(c: &'a Complex, h: &Plane) -> Option<PlaneItems<'a>>
 {
     let number = plane_at(c.index.planes.as_slice(), h)?;
     Some(PlaneItems {
-        edges: c.index.edges.at(number).as_slice(),
-        vertices: c.index.vertices.at(number).as_slice(),
+        edges: c.index.edges.row(number),
+        vertices: c.index.vertices.row(number),
     })
 }
 
@@ -82,7 +83,7 @@ pub fn vertex_holders(c: &Complex, number: usize) -> &[usize]
     requires within { number < length c.now.vertices }
     ensures holders { (v : Vertex) → IsAt c.now.vertices number v → AreHolders c.now.carriers (place_of v.point) (place_of v.point) result.now }
 {
-    c.index.at_vertex.at(number).as_slice()
+    c.index.at_vertex.row(number)
 }
 
 /// The numbers of the carriers that hold both ends of the edge with this number, in increasing order.
@@ -91,7 +92,7 @@ pub fn edge_holders(c: &Complex, number: usize) -> &[usize]
     requires within { number < length c.now.edges }
     ensures holders { (e : Edge) → IsAt c.now.edges number e → AreHoldersAlong c.now.carriers c.now.vertices e result.now }
 {
-    c.index.at_edge.at(number).as_slice()
+    c.index.at_edge.row(number)
 }
 
 /// The edges that lie in the carrier with this number, and the vertices on it.

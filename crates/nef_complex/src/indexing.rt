@@ -13,6 +13,7 @@ use crate::holders::{edge_rows, vertex_rows};
 use crate::holding::plane_normal;
 use crate::index::PlaneIndex;
 use crate::spans::spans_of;
+use crate::table::Table;
 use crate::turning::turned;
 use nef_geo::{List, Plane};
 use std::alloc::Global;
@@ -31,16 +32,8 @@ fn has_item(h: &Plane, vertices: &[Vertex], on: &[usize]) -> bool
     false
 }
 
-// A list with the same numbers.
-fn copied(alloc: Global, numbers: &[usize]) -> Result<List<usize>, OutOfMemory>
-    ensures same { IfOk result (λ v. v ≡ numbers.now) }
-{
-    Ok(List::from_vec(Vec::from_slice(alloc, numbers)?))
-}
-
 // Adds the plane with the vertices on it and the edges in it, where a vertex has an item in it.
 fn add_plane(
-    alloc: Global,
     index: &mut PlaneIndex,
     h: &Plane,
     vertices: &[Vertex],
@@ -54,8 +47,8 @@ fn add_plane(
         return Ok(());
     }
     index.planes.push(*h)?;
-    index.edges.push(copied(alloc, within)?)?;
-    index.vertices.push(copied(alloc, on)?)?;
+    index.edges.push(within)?;
+    index.vertices.push(on)?;
     Ok(())
 }
 
@@ -75,10 +68,10 @@ fn index_of(
 {
     let mut index = PlaneIndex {
         planes: List::new(alloc),
-        edges: List::new(alloc),
-        vertices: List::new(alloc),
-        at_vertex: List::new(alloc),
-        at_edge: List::new(alloc),
+        edges: Table::new(alloc),
+        vertices: Table::new(alloc),
+        at_vertex: Table::new(alloc),
+        at_edge: Table::new(alloc),
         on_carrier: List::new(alloc),
         in_carrier: List::new(alloc),
         spans: List::new(alloc),
@@ -87,7 +80,7 @@ fn index_of(
     for (number, h) in carriers.iter().enumerate() {
         let on = on_carrier.at(number).as_slice();
         let within = in_carrier.at(number).as_slice();
-        add_plane(alloc, &mut index, h, vertices, on, within)?;
+        add_plane(&mut index, h, vertices, on, within)?;
     }
     Ok(index)
 }
@@ -116,8 +109,8 @@ impl Complex {
             edges.as_slice(),
             &at_vertex,
         )?;
-        let on_carrier = turned(alloc, at_vertex.as_slice(), carriers.len())?;
-        let in_carrier = turned(alloc, at_edge.as_slice(), carriers.len())?;
+        let on_carrier = turned(alloc, &at_vertex, carriers.len())?;
+        let in_carrier = turned(alloc, &at_edge, carriers.len())?;
         let spans = spans_of(alloc, vertices.as_slice(), on_carrier.as_slice())?;
         let mut index = index_of(
             alloc,

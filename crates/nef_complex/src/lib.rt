@@ -12,6 +12,7 @@ mod index;
 mod indexing;
 mod runs;
 mod spans;
+mod table;
 mod turning;
 mod vertices;
 
@@ -24,4 +25,5 @@ pub use index::{
 };
 pub use spans::{Bounds, Span};
 pub use std::alloc::AllocError as OutOfMemory;
+pub use table::Table;
 pub use vertices::{find_vertex, vertex_at};

@@ -6,6 +6,7 @@ ghost use Rattle.nef_complex.specs.Index.{AreNumbersWith};
 ghost use Rattle.nef_complex.specs.Indexing.{AreOnce, AreRowsOfOnce, HaveOneMore, HasNumber};
 
 use crate::OutOfMemory;
+use crate::table::Table;
 use nef_geo::List;
 use std::alloc::Global;
 
@@ -35,7 +36,7 @@ fn add_to_rows(rows: &mut [List<usize>], listed: &[usize], number: usize) -> Res
 /// The table turned round: for each number below `count` the numbers of the rows that have it, in increasing order.
 pub(crate) fn turned(
     alloc: Global,
-    rows: &[List<usize>],
+    rows: &Table,
     count: usize,
 ) -> Result<List<List<usize>>, OutOfMemory>
     requires once { AreRowsOfOnce count rows.now }
@@ -43,8 +44,8 @@ pub(crate) fn turned(
     ensures turned { IfOk result (λ v. (k : ℕ) (row : Sequence ℕ) → IsAt v k row → AreNumbersWith (HasNumber rows.now k) row) }
 {
     let mut table = empty_rows(alloc, count)?;
-    for (number, row) in rows.iter().enumerate() {
-        add_to_rows(table.as_mut_slice(), row.as_slice(), number)?;
+    for number in 0..rows.len() {
+        add_to_rows(table.as_mut_slice(), rows.row(number), number)?;
     }
     Ok(List::from_vec(table))
 }

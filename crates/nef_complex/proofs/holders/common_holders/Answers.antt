@@ -11,7 +11,7 @@ use Rattle.nef_complex.proofs.holders.common_holders.Goals.{then-holds+in_ok-pus
 use Rattle.nef_complex.proofs.holders.common_holders.Goals as goal
 
 pub loop-number-init : goal.loop-number-init
-loop-number-init c a H = subst (AreThinned c.args.listed.now (IsHolder c.args.carriers.now a (place_of c.args.point.now)) 0) (sym c.new-numbers.ensures.items) (thinned-none c.args.listed.now (IsHolder c.args.carriers.now a (place_of c.args.point.now)))
+loop-number-init c a H = subst (AreThinned c.args.listed.now (IsHolder c.args.carriers.now a (place_of c.args.point.now)) 0) (sym c.clear.ensures.items) (thinned-none c.args.listed.now (IsHolder c.args.carriers.now a (place_of c.args.point.now)))
 
 pub loop-number-preserved : goal.loop-number-preserved
 loop-number-preserved c a H =

@@ -12,7 +12,7 @@ none = record { low = 0; low_svertex = 0; high = 0; high_svertex = 0; mark = Out
 pub loop-edge-init : goal.loop-edge-init
 loop-edge-init c =
     let P = AreHoldersAlong c.args.carriers.now c.args.vertices.now in
-    subst (AreRowsTo P c.args.edges.now 0) (sym c.new-rows.ensures.empty) (rows-none P c.args.edges.now)
+    subst (AreRowsTo P c.args.edges.now 0) (sym c.in_ok-rows.ensures.empty) (rows-none P c.args.edges.now)
 
 pub edge_row-requires-clause-low : goal.edge_row-requires-clause-low
 edge_row-requires-clause-low c = let es = c.args.edges.now in let n = c.loop-edge.edge-index in (c.requires.ends n (get_or es n none) (is-at_get es n none c.loop-edge-test.true)).0
@@ -27,8 +27,8 @@ loop-edge-preserved c =
     let e : Edge = get_or es n none in
     let P = AreHoldersAlong c.args.carriers.now c.args.vertices.now in
     subst (AreRowsTo P es (n + 1)) (sym c.in_ok-push.ensures.ok)
-    (rows-more P es n c.loop-edge.rows e c.from_vec.result (is-at_get es n none c.loop-edge-test.true)
-    (subst (P e) (sym c.from_vec.ensures.all) c.in_ok-numbers.ensures.row) c.loop-edge.invariant)
+    (rows-more P es n c.loop-edge.rows e c.as_slice.result.now (is-at_get es n none c.loop-edge-test.true)
+    (subst (P e) (sym c.as_slice.ensures.value) c.in_ok-edge_row.ensures.row) c.loop-edge.invariant)
 
 pub returns : goal.returns
 returns c = record {

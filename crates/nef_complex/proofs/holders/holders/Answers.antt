@@ -13,7 +13,7 @@ pub loop-past-init : goal.loop-past-init
 loop-past-init c =
     let p = place_of c.args.point.now in
     let P : ℕ → Type 0 = IsHolder c.args.carriers.now p p in
-    record { runs = c.requires.runs; numbers = subst (AreNumbersWith (Before P 0)) (sym c.new-numbers.ensures.items) (numbers-none P) }
+    record { runs = c.requires.runs; numbers = subst (AreNumbersWith (Before P 0)) (sym c.clear.ensures.items) (numbers-none P) }
 
 pub holder_in-requires-clause-run : goal.holder_in-requires-clause-run
 holder_in-requires-clause-run c =

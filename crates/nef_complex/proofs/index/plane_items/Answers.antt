@@ -10,8 +10,8 @@ returns-in_err-number-clause-none c _ h =
     let i = (x.planes c.args.h.now).0 h in
     c.in_err-number.ensures.none refl (i.0) (subst (λ (hs : List Plane). IsAt hs (i.0) c.args.h.now) (sym c.as_slice.ensures.all) i.1)
 
-pub at-requires : goal.at-requires
-at-requires c =
+pub row-requires : goal.row-requires
+row-requires c =
     let x = c.requires.shows.1.index in
     let n = c.in_ok-number.number in
     let a = subst (λ (hs : List Plane). IsAt hs n c.args.h.now) c.as_slice.ensures.all c.in_ok-number.ensures.found in
@@ -19,8 +19,8 @@ at-requires c =
     let e = x.as_many_edges in
     record { within = omega arith }
 
-pub at-requires-2 : goal.at-requires-2
-at-requires-2 c =
+pub row-requires-2 : goal.row-requires-2
+row-requires-2 c =
     let x = c.requires.shows.1.index in
     let n = c.in_ok-number.number in
     let a = subst (λ (hs : List Plane). IsAt hs n c.args.h.now) c.as_slice.ensures.all c.in_ok-number.ensures.found in
