@@ -35,4 +35,4 @@ pub use ray::{far_hit, hit_at, ray_hit};
 pub use reading::PlaneFault;
 pub use sides::{far_side, hit_side, side};
 pub use sign::Sign;
-pub use ways::{plane_axis, plane_dir, up};
+pub use ways::{axis_x, axis_y, axis_z, plane_axis, plane_dir, up};

@@ -1,9 +1,9 @@
-//! The stated directions: upward, and two in each plane.
+//! The stated directions: upward, along the coordinate axes, and two in each plane.
 
 ghost use Rattle.std.specs.Prelude.{◌≡◌, ℕ, ◌≤◌, pos, ◌<ℤ◌};
 ghost use Rattle.nef_space.specs.Limits.{normal_limit};
 ghost use Rattle.nef_space.specs.Place.{normal_of, slope};
-ghost use Rattle.nef_space.specs.Vectors.{up, plane_axis, plane_dir, IsAtMost, IsDirection, IsParallel, SameDirection};
+ghost use Rattle.nef_space.specs.Vectors.{vector, up, plane_axis, plane_dir, IsAtMost, IsDirection, IsParallel, SameDirection};
 ghost use Rattle.nef_geo.specs.Hits.{IsPlaneDirSized};
 ghost use Rattle.nef_geo.specs.Shapes.{form_of, vector_of};
 ghost use Rattle.nef_geo.specs.Triples.{triple_vector};
@@ -26,6 +26,30 @@ pub fn up() -> Dir
         y: UP_Y,
         z: 1,
     }
+}
+
+/// The direction along the first coordinate axis.
+pub fn axis_x() -> Dir
+    ensures same { SameDirection (vector (pos 1) (pos 0) (pos 0)) (vector_of result) }
+    ensures small { IsAtMost 1 (vector_of result) }
+{
+    Dir { x: 1, y: 0, z: 0 }
+}
+
+/// The direction along the second coordinate axis.
+pub fn axis_y() -> Dir
+    ensures same { SameDirection (vector (pos 0) (pos 1) (pos 0)) (vector_of result) }
+    ensures small { IsAtMost 1 (vector_of result) }
+{
+    Dir { x: 0, y: 1, z: 0 }
+}
+
+/// The direction along the third coordinate axis.
+pub fn axis_z() -> Dir
+    ensures same { SameDirection (vector (pos 0) (pos 0) (pos 1)) (vector_of result) }
+    ensures small { IsAtMost 1 (vector_of result) }
+{
+    Dir { x: 0, y: 0, z: 1 }
 }
 
 // The axis of the plane before it is divided.

@@ -2,7 +2,7 @@
 
 ghost use Rattle.std.specs.Prelude.{◌≡◌, ◌<◌, ◌<ℤ◌, ℕ, pos, length, IfSome, MatchOption, Option, Some, cond};
 ghost use Rattle.nef_space.specs.Limits.{normal_limit, svertex_limit};
-ghost use Rattle.nef_space.specs.Vectors.{vector, dot, cross, up, opposite, IsAtMost, IsDirection, SameDirection};
+ghost use Rattle.nef_space.specs.Vectors.{dot, cross, up, opposite, IsAtMost, IsDirection};
 ghost use Rattle.nef_geo.specs.Shapes.{vector_of};
 ghost use Rattle.nef_space.specs.declared.label.Label.{Label};
 ghost use Rattle.law_sphere.specs.Maps.{At, MapVertex as PlainSvertex, items, around_svertex, pos_item, neg_item};
@@ -16,38 +16,7 @@ use crate::above::{Close, Lean, above};
 use crate::map::{SLoop, SphereMap};
 use crate::side::sides;
 use nef_classes::Link;
-use nef_geo::{Dir, Sign, cross, dot, triple, up};
-
-// The directions along the coordinate axes.
-fn axis_x() -> Dir
-    ensures same { SameDirection (vector (pos 1) (pos 0) (pos 0)) (vector_of result) }
-    ensures small { IsAtMost 1 (vector_of result) }
-{
-    match Dir::of(1, 0, 0) {
-        Some(d) => d,
-        None => unreachable!(),
-    }
-}
-
-fn axis_y() -> Dir
-    ensures same { SameDirection (vector (pos 0) (pos 1) (pos 0)) (vector_of result) }
-    ensures small { IsAtMost 1 (vector_of result) }
-{
-    match Dir::of(0, 1, 0) {
-        Some(d) => d,
-        None => unreachable!(),
-    }
-}
-
-fn axis_z() -> Dir
-    ensures same { SameDirection (vector (pos 0) (pos 0) (pos 1)) (vector_of result) }
-    ensures small { IsAtMost 1 (vector_of result) }
-{
-    match Dir::of(0, 0, 1) {
-        Some(d) => d,
-        None => unreachable!(),
-    }
-}
+use nef_geo::{Dir, Sign, axis_x, axis_y, axis_z, cross, dot, triple, up};
 
 // The axis or its opposite, whichever has a positive product with d; none where the product is zero.
 fn turned_along(axis: Dir, d: &Dir) -> Option<Dir>
