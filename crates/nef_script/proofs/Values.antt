@@ -1,5 +1,5 @@
 -- The values of a line's words, as the calls take them.
-use Rattle.std.proofs.Common.{◌≡◌, ℕ, ◌<◌, ◌^◌, ℤ, pos, ◌<ℤ◌, List, length, get_or, Result, Err, ◌↔◌, refl, sym, ◌∙◌, ap, subst, w64, to_z, of_z}
+use Rattle.std.proofs.Common.{◌≡◌, ℕ, ◌<◌, ◌≤◌, ◌^◌, ℤ, pos, ◌<ℤ◌, List, length, get_or, nat_abs, Result, Err, ◌↔◌, refl, sym, ◌∙◌, ap, subst, w64, to_z, of_z}
 use Rattle.std.proofs.lemmas.Int.{to_z-of_z}
 use Rattle.std.specs.Int.Signed.{mag}
 use Rattle.nef_space.specs.Place.{Form, form, SamePlace, normal_of}
@@ -21,6 +21,13 @@ use Rattle.nef_script.proofs.Shapes.{pointed-at}
 -- a number that was read from the word at a place and is passed on
 pub passed_number : (words : List (Bor (List ℕ))) (i : ℕ) (r : ℤ) → i < length words → mag r < 2 ^ 63 → r ≡ number_or_zero (get_or words i no_word).now → to_z w64 (of_z w64 r) ≡ number_at (pointed words) i
 passed_number words i r within small read = to_z-of_z w64 r (record { sfits = small }) ∙ read ∙ ap number_or_zero (sym (pointed-at words i within))
+
+-- a number that is read and passed on is as small as the words' statement says it is
+pub read_small : (words : List (Bor (List ℕ))) (i n : ℕ) → i < length words → nat_abs (number_at (pointed words) i) ≤ n → nat_abs (number_or_zero (get_or words i no_word).now) ≤ n
+read_small words i n within small = subst (λ w. nat_abs (number_or_zero w) ≤ n) (pointed-at words i within) small
+
+pub passed_small : (words : List (Bor (List ℕ))) (i n : ℕ) (r : ℤ) → to_z w64 (of_z w64 r) ≡ number_at (pointed words) i → nat_abs (number_at (pointed words) i) ≤ n → nat_abs (to_z w64 (of_z w64 r)) ≤ n
+passed_small words i n r same small = subst (λ z. nat_abs z ≤ n) (sym same) small
 
 pub quotient : (p : Point) (x y z w x' y' z' w' : ℤ) → x' ≡ x → y' ≡ y → z' ≡ z → w' ≡ w → pos 0 <ℤ w → ((positive : pos 0 <ℤ w') → SamePlace (place_at x' y' z' w' positive) (place_of p)) → IsQuotient p x y z w
 quotient p x y z w x' y' z' w' is_x is_y is_z is_w positive same =

@@ -1,9 +1,11 @@
 -- The lines of a script written one after the other.
 use Rattle.std.proofs.Common.{◌≡◌, ℕ, zero, suc, ◌+◌, ◌-◌, ◌*◌, ℤ, pos, neg_ℤ, List, [], ◌∷◌, ◌++◌, codes, refl, sym, ◌∙◌, ap, subst, arith, append-nil, append_assoc}
+use Rattle.std.specs.Prelude.{if◌then◌else◌}
+use Rattle.std.proofs.lemmas.Bool.{ne_eqb}
 use Rattle.std.specs.List.{flat_map, range_with_len}
 use Rattle.std.specs.Fmt.{digits, decimal, signed_decimal}
 use Rattle.nef_script.specs.Laws.{script_of}
-use Rattle.nef_script.specs.Stairs.{joined_words, half_lines, and_lines, and_line, step_box, step_lines, count_line, stairs_text, box_name, whole_name}
+use Rattle.nef_script.specs.Stairs.{joined_words, half_lines, and_lines, and_line, or_line, join_lines, step_box, step_lines, count_line, stairs_text, box_name, whole_name}
 
 -- ---- bytes after bytes
 
@@ -61,6 +63,27 @@ and-written o t1 t2 t3 t4 t5 t6 t7 t8 t9 t10 name letter left right e1 e2 e3 e4 
     let f9 = piece-next o t8 t9 _ _ f8 e9 in
     let f10 = piece-next o t9 t10 _ (10 ∷ []) f9 e10 in
     f10 ∙ ap (λ r. o ++ r) (simp append_assoc)
+
+pub or-written : (o t1 t2 t3 t4 t5 t6 t7 name left right : List ℕ)
+    → t1 ≡ o ++ codes "or " → t2 ≡ t1 ++ name → t3 ≡ t2 ++ 32 ∷ [] → t4 ≡ t3 ++ left → t5 ≡ t4 ++ 32 ∷ [] → t6 ≡ t5 ++ right → t7 ≡ t6 ++ 10 ∷ []
+    → t7 ≡ o ++ (or_line name left right ++ 10 ∷ [])
+or-written o t1 t2 t3 t4 t5 t6 t7 name left right e1 e2 e3 e4 e5 e6 e7 =
+    let f2 = piece-next o t1 t2 _ _ e1 e2 in
+    let f3 = piece-next o t2 t3 _ (32 ∷ []) f2 e3 in
+    let f4 = piece-next o t3 t4 _ _ f3 e4 in
+    let f5 = piece-next o t4 t5 _ (32 ∷ []) f4 e5 in
+    let f6 = piece-next o t5 t6 _ _ f5 e6 in
+    let f7 = piece-next o t6 t7 _ (10 ∷ []) f6 e7 in
+    f7 ∙ ap (λ r. o ++ r) (simp append_assoc)
+
+-- the line that joins a box to those before it
+pub join-written : (o t whole before name : List ℕ) (i : ℕ) → (i ≡ 0 → ⊥) → whole ≡ whole_name i → before ≡ whole_name (i - 1) → name ≡ box_name i
+    → t ≡ o ++ (or_line whole before name ++ 10 ∷ []) → t ≡ o ++ script_of (join_lines i)
+join-written o t whole before name i some is_whole is_before is_name e =
+    e ∙ ap (λ w. o ++ (or_line w before name ++ 10 ∷ [])) is_whole
+    ∙ ap (λ w. o ++ (or_line (whole_name i) w name ++ 10 ∷ [])) is_before
+    ∙ ap (λ w. o ++ (or_line (whole_name i) (whole_name (i - 1)) w ++ 10 ∷ [])) is_name
+    ∙ ap (λ none. o ++ script_of (if none then [] else or_line (whole_name i) (whole_name (i - 1)) (box_name i) ∷ [])) (sym (ne_eqb i 0 some))
 
 -- ---- the half-spaces of a box, with their offsets as words
 

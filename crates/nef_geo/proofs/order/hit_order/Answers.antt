@@ -1,13 +1,22 @@
-use Rattle.std.proofs.Common.{◌≡◌, ◌≤◌, ℤ, ◌*ℤ◌, nat_abs, [], ◌∷◌, ap, ◌∙◌, to_z, of_z, ◌<ℤ◌, Ordering}
+use Rattle.std.proofs.Common.{◌≡◌, ◌≤◌, ℤ, ◌*ℤ◌, nat_abs, [], ◌∷◌, ap, ◌∙◌, to_z, of_z, ◌<ℤ◌, Ordering, FitsSigned}
 use mir.Syntax.{w128}
 use Rattle.std.specs.Ordering.{MatchOrdering, int_cmp}
 use Rattle.std.proofs.lemmas.Cmp.{int_ranked}
-use Rattle.law_arithmetic.proofs.Machine.{load, wrap, ◌⊠◌, exact_of}
+use Rattle.law_arithmetic.proofs.Machine.{load, wrap, ◌⊠◌, exact_of, fits_of}
 use Rattle.nef_geo.specs.Widths.{point_form_limit, ray_slope_limit}
 use Rattle.nef_geo.specs.Shapes.{hit_place}
 use Rattle.nef_geo.specs.declared.hit.Hit.{Hit}
 use Rattle.nef_geo.proofs.Along.{along-ray}
 use Rattle.nef_geo.proofs.order.hit_order.Goals as goal
+
+product_fits : (m k : ℤ) → nat_abs m ≤ point_form_limit → nat_abs k ≤ ray_slope_limit → FitsSigned w128 (to_z w128 (of_z w128 m) *ℤ to_z w128 (of_z w128 k))
+product_fits m k s t = fits_of (point_form_limit ∷ ray_slope_limit ∷ []) (m ∷ k ∷ []) w128 (wrap w128 (load 0) ⊠ wrap w128 (load 1)) (s, (t, tt)) tt
+
+pub overflow_mul-p : goal.overflow_mul-p
+overflow_mul-p c = let p = c.args.p.now in let q = c.args.q.now in product_fits p.num q.den p.num_small q.den_small
+
+pub overflow_mul-q : goal.overflow_mul-q
+overflow_mul-q c = let p = c.args.p.now in let q = c.args.q.now in product_fits q.num p.den q.num_small p.den_small
 
 -- the product that the machine computes
 product_is : (m k : ℤ) → nat_abs m ≤ point_form_limit → nat_abs k ≤ ray_slope_limit → to_z w128 (of_z w128 (to_z w128 (of_z w128 m) *ℤ to_z w128 (of_z w128 k))) ≡ m *ℤ k

@@ -1,5 +1,6 @@
 use Rattle.std.proofs.Common.{◌≡◌, length, arith, sym, subst, ◌∙◌, ap, codes}
 use Rattle.std.specs.Str.{bytes_eq}
+use Rattle.nef_space.specs.Limits.{normal_limit, offset_limit}
 use Rattle.nef_space.specs.Place.{normal_of}
 use Rattle.nef_space.specs.Vectors.{IsDirection}
 use Rattle.nef_geo.specs.Reading.{IsInRange, IsPositiveMultiple}
@@ -7,8 +8,47 @@ use Rattle.nef_geo.specs.Shapes.{given_form}
 use Rattle.nef_script.specs.Names.{pointed}
 use Rattle.nef_script.proofs.Shapes.{pointed-at, length-pointed}
 use Rattle.nef_script.proofs.Nodes.{IsNode-Half}
-use Rattle.nef_script.proofs.Values.{passed_number, same_form, read_succeeds}
+use Rattle.nef_script.proofs.Values.{passed_number, read_small, same_form, read_succeeds}
 use Rattle.nef_script.proofs.meaning.half_space.Goals as goal
+
+pub number-a-requires : goal.number-a-requires
+number-a-requires c =
+    let e = length-pointed c.args.args.now in let n = c.requires.plane.count in
+    let small = read_small c.args.args.now 1 normal_limit (omega (arith, e, n)) c.requires.plane.in_range.a_small in
+    omega (arith, small)
+
+pub number-b-requires : goal.number-b-requires
+number-b-requires c =
+    let e = length-pointed c.args.args.now in let n = c.requires.plane.count in
+    let small = read_small c.args.args.now 2 normal_limit (omega (arith, e, n)) c.requires.plane.in_range.b_small in
+    omega (arith, small)
+
+pub number-c-requires : goal.number-c-requires
+number-c-requires c =
+    let e = length-pointed c.args.args.now in let n = c.requires.plane.count in
+    let small = read_small c.args.args.now 3 normal_limit (omega (arith, e, n)) c.requires.plane.in_range.c_small in
+    omega (arith, small)
+
+pub number-requires : goal.number-requires
+number-requires c =
+    let e = length-pointed c.args.args.now in let n = c.requires.plane.count in
+    let small = read_small c.args.args.now 4 offset_limit (omega (arith, e, n)) c.requires.plane.in_range.d_small in
+    omega (arith, small)
+
+pub bounds-args-1 : goal.bounds-args-1
+bounds-args-1 c = let e = length-pointed c.args.args.now in let n = c.requires.plane.count in omega (arith, e, n)
+
+pub bounds-args-2 : goal.bounds-args-2
+bounds-args-2 c = let e = length-pointed c.args.args.now in let n = c.requires.plane.count in omega (arith, e, n)
+
+pub bounds-args-3 : goal.bounds-args-3
+bounds-args-3 c = let e = length-pointed c.args.args.now in let n = c.requires.plane.count in omega (arith, e, n)
+
+pub bounds-args-4 : goal.bounds-args-4
+bounds-args-4 c = let e = length-pointed c.args.args.now in let n = c.requires.plane.count in omega (arith, e, n)
+
+pub bounds-args-5 : goal.bounds-args-5
+bounds-args-5 c = let e = length-pointed c.args.args.now in let n = c.requires.plane.count in omega (arith, e, n)
 
 pub unreachable-requires : goal.unreachable-requires
 unreachable-requires c =

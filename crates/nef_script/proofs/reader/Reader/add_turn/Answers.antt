@@ -8,10 +8,24 @@ use Rattle.nef_script.specs.Names.{pointed}
 use Rattle.nef_script.specs.Meaning.{Names}
 use Rattle.nef_script.specs.Reading.{state}
 use Rattle.nef_script.specs.declared.table.Verb.TheVariants as verb
-use Rattle.nef_script.proofs.Questions.{count_is}
+use Rattle.nef_script.proofs.Questions.{count_is, HasTurn-from}
 use Rattle.nef_script.proofs.Shapes.{pointed-at, length-pointed}
 use Rattle.nef_script.proofs.Adding.{new_name, some_word, AddsWords-turn}
 use Rattle.nef_script.proofs.reader.Reader.add_turn.Goals as goal
+
+pub turn_of-from-requires-clause-turn : goal.turn_of-from-requires-clause-turn
+turn_of-from-requires-clause-turn c = HasTurn-from c.args.self.now.names (pointed c.args.args.now) c.requires.fits
+
+pub turn-requires-clause-existing : goal.turn-requires-clause-existing
+turn-requires-clause-existing c =
+    let names = c.args.self.now.names in let from = c.turn_of-from.result.0 in
+    let named = subst (λ (xs : List ℕ). Names names xs (get_or (pointed c.args.args.now) 1 []) from) c.deref.ensures.value c.turn_of-from.ensures.named in
+    c.requires.sound.within named.0 from named.2
+
+pub bounds-args-0 : goal.bounds-args-0
+bounds-args-0 c =
+    let words = c.args.args.now in
+    subst (λ n. 0 < n) (length-pointed words) (some_word c.args.self.now.names verb.Turn (pointed words) c.requires.fits refl)
 
 pub push-requires : goal.push-requires
 push-requires c =
