@@ -62,7 +62,8 @@ fn group_of(alloc: Global, spans: &[Span], keyed: &[(u32, usize)]) -> Result<Gro
     ensures all { IfOk result (λ g. (i : ℕ) (e : ℕ × ℕ) → IsAt keyed.now i e → (j : ℕ) × IsAt g.carriers j e.1) }
 {
     let mut span = Span::none();
-    let mut carriers = List::new(alloc);
+    let room = Vec::with_capacity(alloc, keyed.len())?;
+    let mut carriers = List::from_vec(room);
     for (_key, number) in keyed {
         span = span.with_span(&spans[*number]);
         carriers.push(*number)?;

@@ -128,7 +128,8 @@ pub(crate) fn spans_of(
     ensures as_many { IfOk result (λ v. length v ≡ length rows.now) }
     ensures spanned { IfOk result (λ v. (k : ℕ) (row : Sequence ℕ) (span : Span) → IsAt rows.now k row → IsAt v k span → AreInSpan vertices.now row (length row) span) }
 {
-    let mut spans = List::new(alloc);
+    let room = Vec::with_capacity(alloc, rows.len())?;
+    let mut spans = List::from_vec(room);
     for row in rows {
         spans.push(span_of(vertices, row.as_slice()))?;
     }

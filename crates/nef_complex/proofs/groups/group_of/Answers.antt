@@ -1,4 +1,4 @@
-use Rattle.std.proofs.Common.{ℕ, pos, ◌+◌, List, get_or, arith, sym, subst}
+use Rattle.std.proofs.Common.{ℕ, pos, ◌+◌, List, get_or, arith, sym, ◌∙◌, subst}
 use Rattle.nef_classes.proofs.ClassLists.{is-at_get, is-at_within}
 use Rattle.nef_complex.specs.declared.spans.Bounds.{Bounds}
 use Rattle.nef_complex.specs.declared.spans.Span.{Span}
@@ -11,7 +11,7 @@ none = let b : Bounds = record { low = pos 0; high = pos 0 } in record { x = b; 
 pub loop-key-init : goal.loop-key-init
 loop-key-init c =
     let ss : List Span = c.args.spans.now in let ps : List (ℕ × ℕ) = c.args.keyed.now in let s : Span = c.none-span.result in
-    record { group = subst (λ (ks : List ℕ). IsGroupTo ss ps 0 (record { span = s; carriers = ks })) (sym c.new-carriers.ensures.empty) (group-none ss ps s) }
+    record { group = subst (λ (ks : List ℕ). IsGroupTo ss ps 0 (record { span = s; carriers = ks })) (sym (c.from_vec-carriers.ensures.all ∙ c.in_ok-room.ensures.items)) (group-none ss ps s) }
 
 pub loop-key-preserved : goal.loop-key-preserved
 loop-key-preserved c =
