@@ -22,14 +22,14 @@ returns-in-First-clause-cone c s t p K L =
     let x = c.args in
     let f = c.share_of in
     let g = c.share_of-2 in
-    shown-first x.op f.result g.result (map_of x.first) (map_of x.second) s t p f.ensures.share g.ensures.share K L c.in-First.ensures.leads
+    shown-first x.op f.result g.result (map_of x.first) s t p (f.ensures.share s p K) (g.ensures.share t p L) K c.in-First.ensures.leads
 
 pub returns-in-Second-clause-cone : goal.returns-in-Second-clause-cone
 returns-in-Second-clause-cone c s t p K L =
     let x = c.args in
     let f = c.share_of in
     let g = c.share_of-2 in
-    shown-second x.op f.result g.result (map_of x.first) (map_of x.second) s t p f.ensures.share g.ensures.share K L c.in-Second.ensures.leads
+    shown-second x.op f.result g.result (map_of x.second) s t p (f.ensures.share s p K) (g.ensures.share t p L) L c.in-Second.ensures.leads
 
 pub returns-in-NotFirst-clause-cone : goal.returns-in-NotFirst-clause-cone
 returns-in-NotFirst-clause-cone c =
@@ -38,8 +38,7 @@ returns-in-NotFirst-clause-cone c =
     let g = c.share_of-2 in
     if-ok (ShowsOther x.first) IsLeastMap (ShowsBoth x.op x.first x.second) c.complement.result
     (λ m shows least s t p K L.
-    shown-not_first x.op f.result g.result (map_of x.first) (map_of x.second) s t p f.ensures.share g.ensures.share K L
-    (map_of m) (shows s p K) c.in-NotFirst.ensures.leads)
+    shown-not_first x.op f.result g.result (map_of m) s t p (f.ensures.share s p K) (g.ensures.share t p L) (shows s p K) c.in-NotFirst.ensures.leads)
     c.complement.ensures.cone c.complement.ensures.least
 
 pub returns-in-NotSecond-clause-cone : goal.returns-in-NotSecond-clause-cone
@@ -49,6 +48,5 @@ returns-in-NotSecond-clause-cone c =
     let g = c.share_of-2 in
     if-ok (ShowsOther x.second) IsLeastMap (ShowsBoth x.op x.first x.second) c.complement-in-NotSecond.result
     (λ m shows least s t p K L.
-    shown-not_second x.op f.result g.result (map_of x.first) (map_of x.second) s t p f.ensures.share g.ensures.share K L
-    (map_of m) (shows t p L) c.in-NotSecond.ensures.leads)
+    shown-not_second x.op f.result g.result (map_of m) s t p (f.ensures.share s p K) (g.ensures.share t p L) (shows t p L) c.in-NotSecond.ensures.leads)
     c.complement-in-NotSecond.ensures.cone c.complement-in-NotSecond.ensures.least
