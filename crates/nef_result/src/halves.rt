@@ -15,7 +15,7 @@ use nef_combine::combine;
 use nef_geo::{Dir, Label, Oriented, Plane, Point, Sign};
 use nef_smap::{SLoop, SphereMap, plane_map};
 use nef_star::Op;
-use nef_stopo::complement;
+use nef_stopo::exchanged;
 use std::alloc::Global;
 
 // The label of points of the frame that a set holds at, or doesn't.
@@ -55,7 +55,7 @@ fn map_of_plane(alloc: Global, oriented: &Oriented, closed: bool) -> SphereMap
 
 /// The least map of a half at `p`, from the whole frame's map there: the half has the points of the frame where the
 /// given `a x + b y + c z + d w` is negative, and those where it is zero if it is closed. `OutOfMemory` says that memory
-/// was wanted and not found; where the number is negative none is wanted.
+/// was wanted and not found; off the half's plane none is wanted.
 pub fn half_map(
     alloc: Global,
     whole: SphereMap,
@@ -75,9 +75,6 @@ pub fn half_map(
             let map = combine(alloc, &whole, &half, Op::And)?;
             Ok(map)
         }
-        Sign::Plus => {
-            let map = complement(alloc, &whole)?;
-            Ok(map)
-        }
+        Sign::Plus => Ok(exchanged(whole)),
     }
 }

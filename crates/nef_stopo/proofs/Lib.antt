@@ -1,3 +1,5 @@
+pub mod Written
+pub mod Others
 pub mod Labels
 pub mod Marking
 pub mod Remarked

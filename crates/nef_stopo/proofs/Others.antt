@@ -1,0 +1,58 @@
+-- A least map with In and Not exchanged everywhere is the least map of the complement.
+use Rattle.std.proofs.Common.{◌≡◌, ℕ, List, Option, map, ap, sym, subst, ◌∙◌}
+use Rattle.std.specs.Prelude.{option_map}
+use Rattle.nef_space.specs.Limits.{normal_limit, svertex_limit}
+use Rattle.nef_space.specs.Place.{Place}
+use Rattle.nef_space.specs.Sets.{Set}
+use Rattle.nef_space.specs.Vectors.{IsAtMost}
+use Rattle.nef_space.specs.declared.label.Label.{Label}
+use Rattle.law_sphere.specs.Maps.{MapVertex, Arc, MapSloop, Item, Map, item_normal, Valid}
+use Rattle.law_sphere.specs.Least.{Least, Ordered, Cone}
+use Rattle.law_border.specs.Topology.{complement, IsTopologyMap}
+use Rattle.law_border.specs.Marks.{exchanged, exchanged_svertex, exchanged_arc, exchanged_sloop, exchanged_map}
+use Rattle.law_border.proofs.Cones.{topology-cone}
+use Rattle.law_border.proofs.Exchanged.{item-same, svertex-was, item-was}
+use Rattle.law_border.proofs.ExchangedLabels.{exchanged-laws}
+use Rattle.nef_smap.specs.declared.map.SphereMap.{SphereMap}
+use Rattle.nef_smap.specs.Maps.{svertex_of, arc_of, sloop_of, map_of, IsSmall, IsLeastMap}
+
+-- n has the parts of m with In and Not exchanged
+pub record IsOther (m n : SphereMap) : Type 0 where
+  pub mark : n.mark ≡ exchanged m.mark
+  pub svertices : map svertex_of n.svertices ≡ map exchanged_svertex (map svertex_of m.svertices)
+  pub arcs : map arc_of n.arcs ≡ map exchanged_arc (map arc_of m.arcs)
+  pub sloop : option_map sloop_of n.sloop ≡ option_map exchanged_sloop (option_map sloop_of m.sloop)
+  pub ground : n.ground ≡ option_map exchanged m.ground
+
+other-map : (m n : SphereMap) → IsOther m n → map_of n ≡ exchanged_map (map_of m)
+other-map m n O =
+    let N = exchanged_map (map_of m) in
+    ap (λ (l : Label). record { mark = l; svertices = map svertex_of n.svertices; arcs = map arc_of n.arcs; sloop = option_map sloop_of n.sloop; ground = n.ground }) O.mark
+    ∙ ap (λ (vs : List MapVertex). record { mark = N.mark; svertices = vs; arcs = map arc_of n.arcs; sloop = option_map sloop_of n.sloop; ground = n.ground }) O.svertices
+    ∙ ap (λ (rs : List Arc). record { mark = N.mark; svertices = N.svertices; arcs = rs; sloop = option_map sloop_of n.sloop; ground = n.ground }) O.arcs
+    ∙ ap (λ (o : Option MapSloop). record { mark = N.mark; svertices = N.svertices; arcs = N.arcs; sloop = o; ground = n.ground }) O.sloop
+    ∙ ap (λ (o : Option Label). record { mark = N.mark; svertices = N.svertices; arcs = N.arcs; sloop = N.sloop; ground = o }) O.ground
+
+other-small : (M : Map) → IsSmall M → IsSmall (exchanged_map M)
+other-small M S = record {
+  svertices = λ k v a. let x = svertex-was M k v a in subst (λ (w : MapVertex). IsAtMost svertex_limit w.dir) x.2 (S.svertices k x.0 x.1);
+  normals = λ k y a. let x = item-was M k y a in subst (λ (z : Item). IsAtMost normal_limit (item_normal z)) x.2 (subst (IsAtMost normal_limit) (sym (item-same x.0).0) (S.normals k x.0 x.1));
+}
+
+pub other-least : (m n : SphereMap) → IsLeastMap m → IsOther m n → IsLeastMap n
+other-least m n L O =
+    let e = sym (other-map m n O) in
+    let laws = exchanged-laws (map_of m) L.sphere_map.valid in
+    record {
+      sphere_map = record {
+        valid = subst Valid e laws.0;
+        ordered = subst Ordered e (laws.1 L.sphere_map.ordered);
+        small = subst IsSmall e (other-small (map_of m) L.sphere_map.small);
+      };
+      least = subst Least e (laws.2 L.least);
+    }
+
+pub other-cone : (m n : SphereMap) → IsLeastMap m → IsOther m n → (s : Set) (p : Place) → Cone (map_of m) s p → Cone (map_of n) (Set.other s) p
+other-cone m n L O s p K =
+    let laws = exchanged-laws (map_of m) L.sphere_map.valid in
+    subst (λ (M : Map). Cone M (Set.other s) p) (sym (other-map m n O)) (topology-cone complement (map_of m) (exchanged_map (map_of m)) s p K laws.0 laws.3)
