@@ -18,7 +18,7 @@ use nef_geo::Point;
 use nef_locate::{locate, place_map};
 use nef_smap::SphereMap;
 use nef_star::Op;
-use nef_stopo::complement;
+use nef_stopo::exchanged;
 use std::alloc::Global;
 
 /// The least map of the combination of the sets of two complexes at a point. Where the places of the point say that one set
@@ -43,11 +43,11 @@ pub(crate) fn combined_map(
         Choice::Second => place_map(alloc, b, &second),
         Choice::NotFirst => {
             let map = place_map(alloc, a, &first)?;
-            complement(alloc, &map)
+            Ok(exchanged(map))
         }
         Choice::NotSecond => {
             let map = place_map(alloc, b, &second)?;
-            complement(alloc, &map)
+            Ok(exchanged(map))
         }
         Choice::Both => {
             let map = place_map(alloc, a, &first)?;

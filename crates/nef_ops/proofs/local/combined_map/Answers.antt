@@ -21,20 +21,18 @@ returns-in-Second-clause-cone c =
     (shows t p T c.locate-second.ensures.at) c.in-Second.ensures.leads) c.place_map-in-Second.ensures.cone
 
 pub returns-in_ok-map-in-NotFirst-clause-cone : goal.returns-in_ok-map-in-NotFirst-clause-cone
-returns-in_ok-map-in-NotFirst-clause-cone c =
+returns-in_ok-map-in-NotFirst-clause-cone c s t S T =
     let p = place_of c.args.p.now in
-    IfOk-weaker c.complement.result _ _ (λ m shows s t S T.
-    shown-not_first c.args.op c.share_at.result c.share_at-2.result (map_of m) s t p
+    shown-not_first c.args.op c.share_at.result c.share_at-2.result (map_of c.exchanged.result) s t p
     (c.share_at.ensures.share s p S c.locate-first.ensures.at) (c.share_at-2.ensures.share t p T c.locate-second.ensures.at)
-    (shows s p (c.in_ok-map-in-NotFirst.ensures.cone s p S c.locate-first.ensures.at)) c.in-NotFirst.ensures.leads) c.complement.ensures.cone
+    (c.exchanged.ensures.cone s p (c.in_ok-map-in-NotFirst.ensures.cone s p S c.locate-first.ensures.at)) c.in-NotFirst.ensures.leads
 
 pub returns-in_ok-map-in-NotSecond-clause-cone : goal.returns-in_ok-map-in-NotSecond-clause-cone
-returns-in_ok-map-in-NotSecond-clause-cone c =
+returns-in_ok-map-in-NotSecond-clause-cone c s t S T =
     let p = place_of c.args.p.now in
-    IfOk-weaker c.complement-in-NotSecond.result _ _ (λ m shows s t S T.
-    shown-not_second c.args.op c.share_at.result c.share_at-2.result (map_of m) s t p
+    shown-not_second c.args.op c.share_at.result c.share_at-2.result (map_of c.exchanged-in-NotSecond.result) s t p
     (c.share_at.ensures.share s p S c.locate-first.ensures.at) (c.share_at-2.ensures.share t p T c.locate-second.ensures.at)
-    (shows t p (c.in_ok-map-in-NotSecond.ensures.cone t p T c.locate-second.ensures.at)) c.in-NotSecond.ensures.leads) c.complement-in-NotSecond.ensures.cone
+    (c.exchanged-in-NotSecond.ensures.cone t p (c.in_ok-map-in-NotSecond.ensures.cone t p T c.locate-second.ensures.at)) c.in-NotSecond.ensures.leads
 
 pub returns-in_ok-other-in-Both-clause-cone : goal.returns-in_ok-other-in-Both-clause-cone
 returns-in_ok-other-in-Both-clause-cone c =
