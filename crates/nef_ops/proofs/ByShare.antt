@@ -8,6 +8,7 @@ use Rattle.nef_space.specs.Local.{HasLabel, Germ}
 use Rattle.nef_space.specs.declared.label.Label.{Label}
 use Rattle.nef_space.specs.declared.label.Label.TheVariants.{Out, Not, In}
 use Rattle.law_near.specs.Cones.{label_not}
+use Rattle.law_near.proofs.Decided.{label_of, germ_of}
 use Rattle.law_near.proofs.Germs.{label-one, Germ-unique}
 use Rattle.law_near.proofs.Combine.{not-label, germ-not}
 use Rattle.law_sphere.specs.Maps.{Map}
@@ -39,9 +40,8 @@ alike-germs s t p d k l (n, some, f) (n', some', g) =
     alike-labels s t (step p r d) k l (f r (omega (arith, ints), omega (arith, ints))) (g r (omega (arith, ints), omega (arith, ints)))
 
 -- ---- maps
--- of sets with these shares that A and B show at p, a map of a set whose label is the operation's at each point and direction
-module _ (op : Op) (f g : Share) (A B M : Map) (r s t : Set) (p : Place)
-    (F : HasShare f A) (G : HasShare g B) (K : Cone A s p) (L : Cone B t p) (C : Cone M r p) where
+-- of sets with these shares at p, M a map of a set there whose label is the operation's at each point and direction
+module _ (op : Op) (f g : Share) (M : Map) (r s t : Set) (p : Place) (F : HasShare f s p) (G : HasShare g t p) (C : Cone M r p) where
   pub shown-by : (of : Label → Label → Label)
       → ((k l : Label) → AreAlike k l → InShare f k → InShare g l → op_label op k l ≡ of k l)
       → ((q : Place) (k l m : Label) → HasLabel s q k → HasLabel t q l → HasLabel r q m → of k l ≡ m)
@@ -49,36 +49,38 @@ module _ (op : Op) (f g : Share) (A B M : Map) (r s t : Set) (p : Place)
       → Cone M (op_set op s t) p
   shown-by of table mark germ = record {
     valid = C.valid;
-    mark = subst (HasLabel (op_set op s t) p)
-        (table A.mark B.mark (alike-labels s t p A.mark B.mark K.mark L.mark) F.mark G.mark ∙ mark p A.mark B.mark M.mark K.mark L.mark C.mark)
-        (label-by_op op s t p A.mark B.mark K.mark L.mark);
-    labels = λ d h.
-        let a = K.labels d h in
-        let b = L.labels d h in
-        let c = C.labels d h in (
+    mark =
+        let a = label_of s p in
+        let b = label_of t p in
+        subst (HasLabel (op_set op s t) p)
+        (table a.0 b.0 (alike-labels s t p a.0 b.0 a.1 b.1) (F.mark a.0 a.1) (G.mark b.0 b.1) ∙ mark p a.0 b.0 M.mark a.1 b.1 C.mark)
+        (label-by_op op s t p a.0 b.0 a.1 b.1);
+    labels = λ d i.
+        let a = germ_of s p d in
+        let b = germ_of t p d in
+        let c = C.labels d i in (
           c.0,
           c.1,
           subst (Germ (op_set op s t) p d)
-              (table a.0 b.0 (alike-germs s t p d a.0 b.0 a.2 b.2) (F.directions d a.0 a.1) (G.directions d b.0 b.1) ∙ germ d a.0 b.0 c.0 a.2 b.2 c.2)
-              (germ-by_op op s t p d a.0 b.0 a.2 b.2),
+              (table a.0 b.0 (alike-germs s t p d a.0 b.0 a.1 b.1) (F.germs d a.0 i a.1) (G.germs d b.0 i b.1) ∙ germ d a.0 b.0 c.0 a.1 b.1 c.2)
+              (germ-by_op op s t p d a.0 b.0 a.1 b.1),
         );
   }
 
-module _ (op : Op) (f g : Share) (A B : Map) (s t : Set) (p : Place)
-    (F : HasShare f A) (G : HasShare g B) (K : Cone A s p) (L : Cone B t p) where
-  pub shown-first : Leads First op f g → Cone A (op_set op s t) p
-  shown-first w = shown-by op f g A B A s s t p F G K L K (λ k l. k) w (λ q k l m h i j. label-one s q k m h j) (λ d k l m h i j. Germ-unique s p d k m h j)
+module _ (op : Op) (f g : Share) (M : Map) (s t : Set) (p : Place) (F : HasShare f s p) (G : HasShare g t p) where
+  pub shown-first : Cone M s p → Leads First op f g → Cone M (op_set op s t) p
+  shown-first C w = shown-by op f g M s s t p F G C (λ k l. k) w (λ q k l m h i j. label-one s q k m h j) (λ d k l m h i j. Germ-unique s p d k m h j)
 
-  pub shown-second : Leads Second op f g → Cone B (op_set op s t) p
-  shown-second w = shown-by op f g A B B t s t p F G K L L (λ k l. l) w (λ q k l m h i j. label-one t q l m i j) (λ d k l m h i j. Germ-unique t p d l m i j)
+  pub shown-second : Cone M t p → Leads Second op f g → Cone M (op_set op s t) p
+  shown-second C w = shown-by op f g M t s t p F G C (λ k l. l) w (λ q k l m h i j. label-one t q l m i j) (λ d k l m h i j. Germ-unique t p d l m i j)
 
-  pub shown-not_first : (M : Map) → Cone M (Set.other s) p → Leads NotFirst op f g → Cone M (op_set op s t) p
-  shown-not_first M C w = shown-by op f g A B M (Set.other s) s t p F G K L C (λ k l. label_not k) w
+  pub shown-not_first : Cone M (Set.other s) p → Leads NotFirst op f g → Cone M (op_set op s t) p
+  shown-not_first C w = shown-by op f g M (Set.other s) s t p F G C (λ k l. label_not k) w
       (λ q k l m h i j. label-one (Set.other s) q (label_not k) m (not-label s q k h) j)
       (λ d k l m h i j. Germ-unique (Set.other s) p d (label_not k) m (germ-not s p d k h) j)
 
-  pub shown-not_second : (M : Map) → Cone M (Set.other t) p → Leads NotSecond op f g → Cone M (op_set op s t) p
-  shown-not_second M C w = shown-by op f g A B M (Set.other t) s t p F G K L C (λ k l. label_not l) w
+  pub shown-not_second : Cone M (Set.other t) p → Leads NotSecond op f g → Cone M (op_set op s t) p
+  shown-not_second C w = shown-by op f g M (Set.other t) s t p F G C (λ k l. label_not l) w
       (λ q k l m h i j. label-one (Set.other t) q (label_not l) m (not-label t q l i) j)
       (λ d k l m h i j. Germ-unique (Set.other t) p d (label_not l) m (germ-not t p d l i) j)
 

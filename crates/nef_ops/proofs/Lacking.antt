@@ -1,6 +1,8 @@
 -- Labels that a map doesn't have, from what its lists and its sloop don't have.
 use Rattle.std.proofs.Common.{◌≡◌, ℕ, ◌+◌, ◌<◌, List, get_or, ap, ◌∙◌, subst, Some}
 use borrow.Author.Count.{below_more}
+use Rattle.nef_space.specs.Place.{Place}
+use Rattle.nef_space.specs.Sets.{Set}
 use Rattle.nef_space.specs.Vectors.{Vector}
 use Rattle.nef_space.specs.declared.label.Label.{Label}
 use Rattle.nef_space.specs.declared.label.Label.TheVariants.{Not, In}
@@ -10,13 +12,17 @@ use Rattle.nef_smap.specs.declared.map.SLoop.{SLoop}
 use Rattle.nef_smap.specs.declared.map.SphereMap.{SphereMap}
 use Rattle.nef_smap.specs.Maps.{svertex_of, arc_of, sloop_of, map_of}
 use Rattle.nef_smap.proofs.Lists.{at-map, at-get}
-use Rattle.law_sphere.specs.Maps.{At, MapVertex, Arc, MapSloop, Item, arc_item, sloop_item, items, item_pos, item_mark, item_neg}
+use Rattle.law_sphere.specs.Maps.{At, Map, MapVertex, Arc, MapSloop, Item, arc_item, sloop_item, items, item_pos, item_mark, item_neg}
 use Rattle.law_sphere.specs.Maps.{Side, around_svertex, pos_item, neg_item, whole, HasSide, MapLabel, at_svertex, on_item, seen}
 use Rattle.law_sphere.proofs.Shot.{arc-at}
 use Rattle.law_sphere.proofs.Arcs.{sloop-at}
+use Rattle.law_sphere.specs.Least.{Cone}
+use Rattle.law_near.proofs.Germs.{label-one}
 use Rattle.law_border.proofs.Listed.{option-was}
+use Rattle.law_complex.proofs.Cones.{germ-label}
+use Rattle.nef_ops.specs.declared.share.Share.{Share}
 use Rattle.nef_ops.specs.declared.share.Share.TheVariants.{Nothing, Everything}
-use Rattle.nef_ops.specs.Shares.{Lacks, SvertexLacks, ArcLacks, SloopLacks, HasShare}
+use Rattle.nef_ops.specs.Shares.{Lacks, SvertexLacks, ArcLacks, SloopLacks, InShare, HasShare}
 
 -- what holds of the elements so far, and of one more
 pub all-more : {A : Type 0} (P : A → Type 0) (xs : List A) (i : ℕ) (x : A) → x ≡ get_or xs i x → P x
@@ -61,8 +67,15 @@ module _ (l : Label) (m : SphereMap)
       by d (seen s) = side s.side s.has
 
 -- ---- shares
-pub nothing-share : (m : SphereMap) → Lacks In (map_of m) → HasShare Nothing (map_of m)
-nothing-share m L = record { mark = L.mark; directions = λ d l h e. L.directions d (subst (MapLabel (map_of m) d) e h) }
+-- the labels of the map are those close to the point
+share-by_map : (f : Share) (M : Map) (s : Set) (p : Place) → InShare f M.mark → ((d : Vector) (l : Label) → MapLabel M d l → InShare f l) → Cone M s p → HasShare f s p
+share-by_map f M s p mark directions K = record {
+  mark = λ l h. subst (InShare f) (label-one s p M.mark l K.mark h) mark;
+  germs = λ d l i g. directions d l (germ-label M s p K d l i g);
+}
 
-pub everything-share : (m : SphereMap) → Lacks Not (map_of m) → HasShare Everything (map_of m)
-everything-share m L = record { mark = L.mark; directions = λ d l h e. L.directions d (subst (MapLabel (map_of m) d) e h) }
+pub nothing-share : (M : Map) → Lacks In M → (s : Set) (p : Place) → Cone M s p → HasShare Nothing s p
+nothing-share M L s p K = share-by_map Nothing M s p L.mark (λ d l h e. L.directions d (subst (MapLabel M d) e h)) K
+
+pub everything-share : (M : Map) → Lacks Not M → (s : Set) (p : Place) → Cone M s p → HasShare Everything s p
+everything-share M L s p K = share-by_map Everything M s p L.mark (λ d l h e. L.directions d (subst (MapLabel M d) e h)) K

@@ -1,13 +1,16 @@
 -- What of the frame close to a point a set holds, and which map is that of a combination there.
 use Rattle.std.specs.Prelude.{◌≡◌, Some}
-use Rattle.nef_space.specs.Vectors.{Vector}
+use Rattle.nef_space.specs.Local.{HasLabel, Germ}
+use Rattle.nef_space.specs.Place.{Place}
+use Rattle.nef_space.specs.Sets.{Set}
+use Rattle.nef_space.specs.Vectors.{Vector, IsDirection}
 use Rattle.nef_space.specs.declared.label.Label.{Label}
 use Rattle.nef_space.specs.declared.label.Label.TheVariants.{Out, Not, In}
 use Rattle.law_near.specs.Cones.{label_not}
 use Rattle.nef_smap.specs.declared.map.SVertex.{SVertex}
 use Rattle.nef_smap.specs.declared.map.SArc.{SArc}
 use Rattle.nef_smap.specs.declared.map.SLoop.{SLoop}
-use Rattle.law_sphere.specs.Maps.{Map, MapLabel}
+use Rattle.law_sphere.specs.Maps.{Map, MapLabel, Item, item_pos, item_mark, item_neg}
 use Rattle.nef_star.specs.declared.op.Op.{Op}
 use Rattle.nef_star.specs.Ops.{op_label}
 use Rattle.nef_ops.specs.declared.share.Share.{Share}
@@ -35,6 +38,12 @@ pub record SloopLacks (l : Label) (c : SLoop) : Type 0 where
   pub pos : c.pos ≡ l → ⊥
   pub neg : c.neg ≡ l → ⊥
 
+-- neither the item nor a face beside it has the label
+pub record ItemLacks (l : Label) (x : Item) : Type 0 where
+  pub pos : item_pos x ≡ l → ⊥
+  pub mark : item_mark x ≡ l → ⊥
+  pub neg : item_neg x ≡ l → ⊥
+
 -- ---- shares
 -- the label may be that of a point or a direction close to which the set has this share of the frame
 abbrev pub InShare : Share → Label → Type 0
@@ -42,9 +51,10 @@ InShare Nothing l = l ≡ In → ⊥
 InShare Everything l = l ≡ Not → ⊥
 InShare Part l = Unit {0}
 
-pub record HasShare (f : Share) (M : Map) : Type 0 where
-  pub mark : InShare f M.mark
-  pub directions : (d : Vector) (l : Label) → MapLabel M d l → InShare f l
+-- the set has this share of the frame close to p, by the labels of the point and of all directions
+pub record HasShare (f : Share) (s : Set) (p : Place) : Type 0 where
+  pub mark : (l : Label) → HasLabel s p l → InShare f l
+  pub germs : (d : Vector) (l : Label) → IsDirection d → Germ s p d l → InShare f l
 
 -- labels of two sets at one point, which are Out both or neither
 abbrev pub AreAlike : Label → Label → Type 0

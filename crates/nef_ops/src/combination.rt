@@ -7,13 +7,12 @@ ghost use Rattle.nef_complex.specs.Complexes.{ShowsSet};
 
 use crate::OutOfMemory;
 use crate::finished::finished;
-use crate::merged::merged;
+use crate::local::combined_map;
 use nef_cand::candidates;
 use nef_complex::Complex;
 use nef_core::{How, Job};
 use nef_geo::Point;
 use nef_io::Gate;
-use nef_locate::local_map;
 use nef_result::{assemble, merge_carriers};
 use nef_smap::SphereMap;
 use nef_star::Op;
@@ -49,9 +48,7 @@ impl<'a> Job for BinaryJob<'a> {
 
     fn work(&self, alloc: Global, job: u64) -> Result<SphereMap, OutOfMemory> {
         let point = &self.points[job as usize];
-        let first = local_map(alloc, self.first, point)?;
-        let second = local_map(alloc, self.second, point)?;
-        let map = merged(alloc, first, second, self.op)?;
+        let map = combined_map(alloc, self.op, self.first, self.second, point)?;
         Ok(map)
     }
 }

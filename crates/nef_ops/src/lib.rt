@@ -11,8 +11,10 @@ mod combination;
 mod comparison;
 mod finished;
 mod half_space;
+mod local;
 mod merged;
 mod op;
+mod place_share;
 mod share;
 #[cfg(test)]
 mod tests;

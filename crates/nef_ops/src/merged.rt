@@ -15,7 +15,7 @@ use crate::share::share_of;
 use nef_combine::combine;
 use nef_smap::SphereMap;
 use nef_star::Op;
-use nef_stopo::complement;
+use nef_stopo::exchanged;
 use nef_unique::same_map;
 use std::alloc::Global;
 
@@ -64,8 +64,8 @@ pub(crate) fn merged(
     match choice_of(op, share_of(&first), share_of(&second)) {
         Choice::First => Ok(first),
         Choice::Second => Ok(second),
-        Choice::NotFirst => complement(alloc, &first),
-        Choice::NotSecond => complement(alloc, &second),
+        Choice::NotFirst => Ok(exchanged(first)),
+        Choice::NotSecond => Ok(exchanged(second)),
         Choice::Both => joined(alloc, first, second, op),
     }
 }

@@ -1,7 +1,10 @@
 //! What a set holds of the frame close to a point, by its map there.
 
 ghost use Rattle.std.specs.Prelude.{◌≡◌, ℕ, Some, IsTrue};
+ghost use Rattle.nef_space.specs.Place.{Place};
+ghost use Rattle.nef_space.specs.Sets.{Set};
 ghost use Rattle.law_sphere.specs.Maps.{At};
+ghost use Rattle.law_sphere.specs.Least.{Cone};
 ghost use Rattle.nef_smap.specs.Maps.{map_of};
 ghost use Rattle.nef_smap.specs.declared.map.SVertex.{SVertex as PlainSVertex};
 ghost use Rattle.nef_smap.specs.declared.map.SArc.{SArc as PlainSArc};
@@ -69,9 +72,9 @@ fn lacks(map: &SphereMap, label: Label) -> bool
     arcs_lack(map.arcs.as_slice(), label)
 }
 
-/// What the set of the map holds of the frame close to the map's point.
+/// What a set holds of the frame close to a point, by its map there.
 pub(crate) fn share_of(map: &SphereMap) -> Share
-    ensures share { HasShare result (map_of map.now) }
+    ensures share { (s : Set) (p : Place) → Cone (map_of map.now) s p → HasShare result s p }
 {
     if lacks(map, Label::In) {
         Share::Nothing

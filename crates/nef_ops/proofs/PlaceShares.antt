@@ -1,0 +1,68 @@
+-- What a set has of the frame close to the points of an edge, of a facet and of a volume.
+use Rattle.std.proofs.Common.{◌≡◌, ℕ, arith, refl, subst}
+use Rattle.law_arithmetic.specs.Signs.{Sign, minus, nought, plus, sign}
+use Rattle.nef_space.specs.Local.{HasLabel, Germ, FlatDim}
+use Rattle.nef_space.specs.Place.{Place, IsBetween}
+use Rattle.nef_space.specs.Sets.{Set}
+use Rattle.nef_space.specs.Vectors.{Vector, zero_vector, blend, dot}
+use Rattle.nef_space.specs.declared.label.Label.{Label}
+use Rattle.nef_space.specs.declared.label.Label.TheVariants.{Not, In}
+use Rattle.law_near.proofs.Alike.{flat-germ}
+use Rattle.law_near.proofs.Even.{span-3}
+use Rattle.law_near.proofs.Germs.{label-one, Germ-unique}
+use Rattle.law_near.proofs.Rays.{Germ-zero}
+use Rattle.law_sphere.specs.Least.{by_side}
+use Rattle.law_sphere.specs.Maps.{At, Item, item_normal, item_pos, item_mark, item_neg, dir_of}
+use Rattle.law_sphere.proofs.Labels.{label-direction}
+use Rattle.law_complex.specs.Complexes.{Vertex, Edge, Complex, Corner, HasEnds, IsCorner}
+use Rattle.law_complex.specs.Shows.{Shows}
+use Rattle.law_complex.specs.Skeleton.{HasCorner}
+use Rattle.law_complex.proofs.Cones.{label-germ}
+use Rattle.law_complex.proofs.Edges.{edge-points}
+use Rattle.nef_locate.proofs.Cones.{corner-labels}
+use Rattle.nef_ops.specs.declared.share.Share.{Share}
+use Rattle.nef_ops.specs.declared.share.Share.TheVariants.{Nothing, Everything}
+use Rattle.nef_ops.specs.Shares.{InShare, HasShare, ItemLacks}
+
+-- the labels close to a point of an edge are labels close to its lower end
+pub edge-share : (f : Share) (s : Set) (C : Complex) → Shows s C → (k : ℕ) (e : Edge) (v w : Vertex) (y : Place) → At C.edges k e → HasEnds C e v w → IsBetween v.point y w.point
+    → HasShare f s v.point → HasShare f s y
+edge-share f s C S k e v w y a H b F = record { mark = λ l h. along zero_vector l ((Germ-zero s y zero_vector l (refl, refl, refl)).1 h); germs = λ d l _ g. along d l g }
+  where
+    along : (d : Vector) (l : Label) → Germ s y d l → InShare f l
+    along d l g =
+        let n = ((edge-points s C k e v w y S a H b).3 d l).0 g in
+        let x = blend n.0 (dir_of v.map.svertices e.low_svertex) 1 d in
+        let h = n.1 n.0 (omega arith) in
+        F.germs x l (label-direction v.map x l h) (label-germ v.map s v.point (S.cones e.low v H.low) x l h)
+
+-- close to a point of a facet are the labels of its item alone
+corner-share : (f : Share) (s : Set) (C : Complex) → Shows s C → (y : Place) (k : Corner) (v : Vertex) (x : Item) → HasCorner C y k → IsCorner C k v x
+    → InShare f (item_pos x) → InShare f (item_mark x) → InShare f (item_neg x) → HasShare f s y
+corner-share f s C S y k v x H c above on below =
+    let g = corner-labels s C S y k v x H c in
+    record {
+      mark = λ l h. subst (InShare f) (label-one s y (item_mark x) l g.0 h) on;
+      germs = λ d l _ h. let r = sign (dot (item_normal x) d) in subst (InShare f) (Germ-unique s y d (by_side (item_pos x) (item_mark x) (item_neg x) r) l (g.1 d) h) (by r);
+    }
+  where
+    by : (r : Sign) → InShare f (by_side (item_pos x) (item_mark x) (item_neg x) r)
+    by plus = above
+    by nought = on
+    by minus = below
+
+module _ (s : Set) (C : Complex) (S : Shows s C) (y : Place) (k : Corner) (v : Vertex) (x : Item) (H : HasCorner C y k) (c : IsCorner C k v x) where
+  pub corner-nothing : ItemLacks In x → HasShare Nothing s y
+  corner-nothing L = corner-share Nothing s C S y k v x H c L.pos L.mark L.neg
+
+  pub corner-everything : ItemLacks Not x → HasShare Everything s y
+  corner-everything L = corner-share Everything s C S y k v x H c L.pos L.mark L.neg
+
+-- where all directions are flat there is one label
+pub flat-share : (f : Share) (s : Set) (y : Place) (l : Label) → HasLabel s y l → FlatDim s y 3 → InShare f l → HasShare f s y
+flat-share f s y l h flat i = record {
+  mark = λ k g. subst (InShare f) (label-one s y l k h g) i;
+  germs = λ d k _ g.
+      let e = flat.0 in
+      subst (InShare f) (Germ-unique s y d l k (flat-germ s y d l (span-3 s y e.0 e.1 e.2 d e.3 e.4 e.5 e.6) h) g) i;
+}
