@@ -1,5 +1,6 @@
 -- The signs of a form at vertices, collected vertex by vertex, and the edges whose ends they part.
-use Rattle.std.proofs.Common.{◌≡◌, ℕ, zero, suc, ◌<◌, List, [], ◌∷◌, ◌++◌, length, get_or, refl, sym, ap, subst, ◌∙◌, inl, inr, ◌⊎◌}
+use Rattle.std.proofs.Common.{◌≡◌, ℕ, zero, suc, ◌<◌, ◌≤◌, List, [], ◌∷◌, ◌++◌, length, map, get_or, refl, sym, ap, subst, ◌∙◌, inl, inr, ◌⊎◌}
+use Rattle.std.proofs.lemmas.List.{length-map}
 use Rattle.nef_space.specs.Place.{Form, form_at}
 use Rattle.nef_geo.specs.Shapes.{place_of, form_of}
 use Rattle.nef_geo.specs.Signs.{sign_of}
@@ -12,8 +13,9 @@ use Rattle.law_sphere.proofs.Lists.{at-one}
 use Rattle.nef_complex.specs.declared.complex.Complex.{Complex}
 use Rattle.nef_complex.specs.declared.complex.Edge.{Edge}
 use Rattle.nef_complex.specs.declared.complex.Vertex.{Vertex}
+use Rattle.nef_smap.proofs.Lists.{map-at}
 use Rattle.nef_complex.proofs.Reading.{read-at}
-use Rattle.nef_cand.specs.Points.{Adds, AreSides, CutsEdge}
+use Rattle.nef_cand.specs.Points.{Adds, point_of, AreSides, CutsEdge}
 use Rattle.nef_cand.proofs.Adding.{adds-none}
 use Rattle.nef_cand.proofs.Crossing.{never-crosses}
 
@@ -23,18 +25,25 @@ at-more [] y (suc k) x h = absurd h
 at-more (z ∷ zs) y zero x h = inl h
 at-more (z ∷ zs) y (suc k) x h = elim (at-more zs y k x h) as (λ u. At zs k x ⊎ ((suc k ≡ length (z ∷ zs)) × (y ≡ x))) [ inl i ↦ inl i | inr i ↦ inr (ap suc i.0, i.1) ]
 
--- each of these signs is that at the vertex of its number
-abbrev pub HasSides : Form → List Vertex → List Sign → Type 0
-HasSides h vs signs = (k : ℕ) (v : Vertex) (s : Sign) → At vs k v → At signs k s → s ≡ sign_of (form_at h (place_of v.point))
+-- each of these signs is that at the point of its number
+abbrev pub HasSides : Form → List Point → List Sign → Type 0
+HasSides h ps signs = (k : ℕ) (p : Point) (s : Sign) → At ps k p → At signs k s → s ≡ sign_of (form_at h (place_of p))
 
-pub sides-more : (h : Form) (vs : List Vertex) (signs : List Sign) (v : Vertex) (s : Sign) → length signs < length vs → v ≡ get_or vs (length signs) v → s ≡ sign_of (form_at h (place_of v.point)) → HasSides h vs signs → HasSides h vs (signs ++ s ∷ [])
-sides-more h vs signs v s l is e H k w t a b = by (at-more signs s k t b)
+pub sides-more : (h : Form) (ps : List Point) (signs : List Sign) (p : Point) (s : Sign) → length signs < length ps → p ≡ get_or ps (length signs) p → s ≡ sign_of (form_at h (place_of p)) → HasSides h ps signs → HasSides h ps (signs ++ s ∷ [])
+sides-more h ps signs p s l is e H k q t a b = by (at-more signs s k t b)
   where
-    by : At signs k t ⊎ ((k ≡ length signs) × (s ≡ t)) → t ≡ sign_of (form_at h (place_of w.point))
-    by (inl c) = H k w t a c
+    by : At signs k t ⊎ ((k ≡ length signs) × (s ≡ t)) → t ≡ sign_of (form_at h (place_of q))
+    by (inl c) = H k q t a c
     by (inr c) =
-        let f = at-one vs (length signs) v w (read-at vs (length signs) v l is) (subst (λ n. At vs n w) c.0 a) in
-        sym c.1 ∙ e ∙ ap (λ (x : Vertex). sign_of (form_at h (place_of x.point))) f
+        let f = at-one ps (length signs) p q (read-at ps (length signs) p l is) (subst (λ n. At ps n q) c.0 a) in
+        sym c.1 ∙ e ∙ ap (λ (x : Point). sign_of (form_at h (place_of x))) f
+
+-- the points are those of the vertices
+pub sides-of : (h : Form) (ps : List Point) (signs : List Sign) → length ps ≤ length signs → HasSides h ps signs → (vs : List Vertex) → ps ≡ map point_of vs → AreSides h vs signs
+sides-of h ps signs l H vs e = record {
+  all = subst (λ n. n ≤ length signs) (ap length e ∙ length-map vs point_of) l;
+  each = λ k v s a b. H k v.point s (subst (λ (qs : List Point). At qs k v.point) (sym e) (map-at point_of vs k v a)) b;
+}
 
 -- an edge that the plane doesn't cross has no point to add
 pub no-cut : (c : Complex) (h : Plane) (e : Edge) (signs : List Sign) (a b : Sign) (ps : List Point) → AreSides (form_of h) c.vertices signs → At signs e.low a → At signs e.high b

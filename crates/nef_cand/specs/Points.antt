@@ -1,5 +1,5 @@
 -- Points added to a list, and where a plane parts an edge.
-use Rattle.std.specs.Prelude.{◌≡◌, ℕ, ◌≤◌, pos, ◌⊎◌, List, length}
+use Rattle.std.specs.Prelude.{◌≡◌, ℕ, ◌≤◌, pos, ◌⊎◌, List, length, map}
 use Rattle.std.specs.List.{Contains}
 use Rattle.nef_space.specs.Place.{Place, Form, form_at, normal_of, SamePlace, IsBetween}
 use Rattle.nef_space.specs.Vectors.{IsDirection, cross}
@@ -42,6 +42,13 @@ IsOnlyCrossing h p q y = IsCrossing h p q y × ((z : Place) → IsCrossing h p q
 -- the plane crosses the edge at y
 abbrev pub CutsEdge : Complex → Plane → Edge → Place → Type 0
 CutsEdge c h e y = (u : Vertex) × (v : Vertex) × At c.vertices e.low u × At c.vertices e.high v × IsCrossing (form_of h) (place_of u.point) (place_of v.point) y
+
+abbrev pub point_of : Vertex → Point
+point_of v = v.point
+
+-- the points of the vertices, in their order
+abbrev pub points_of : Complex → List Point
+points_of c = map point_of c.vertices
 
 -- the signs of the form at all points of the vertices
 pub record AreSides (h : Form) (vs : List Vertex) (signs : List Sign) : Type 0 where

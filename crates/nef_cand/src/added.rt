@@ -1,6 +1,6 @@
 //! Points added to a list.
 
-ghost use Rattle.std.specs.Prelude.{◌<◌, ◌↔◌, length, IfOk, OnOk};
+ghost use Rattle.std.specs.Prelude.{◌≡◌, ◌<◌, ◌↔◌, List as Sequence, length, map, IfOk, OnOk};
 ghost use Rattle.std.specs.List.{Contains};
 ghost use Rattle.nef_space.specs.Lists.{IsAt};
 ghost use Rattle.nef_space.specs.Place.{IsPlaceBelow};
@@ -9,13 +9,15 @@ ghost use Rattle.nef_geo.specs.Shapes.{place_of, form_of};
 ghost use Rattle.nef_geo.specs.declared.point.Point.{Point as PointValue};
 ghost use Rattle.law_sphere.specs.Least.{InOrder};
 ghost use Rattle.nef_complex.specs.declared.complex.Edge.{Edge};
+ghost use Rattle.nef_complex.specs.declared.complex.Vertex.{Vertex as VertexValue};
 ghost use Rattle.nef_complex.specs.Complexes.{complex_of, ShowsSet};
 ghost use Rattle.nef_cand.specs.Candidates.{IsVertexOf, IsCutBy};
-ghost use Rattle.nef_cand.specs.Points.{Adds, AreSides, CutsEdge, CutsOne};
+ghost use Rattle.nef_cand.specs.Points.{Adds, point_of, points_of, AreSides, CutsEdge, CutsOne};
 
 use crate::OutOfMemory;
 use crate::line::{are_opposite, crossing, line_through};
-use nef_complex::{Complex, Vertex};
+use crate::points::vertex_points;
+use nef_complex::Complex;
 use nef_geo::{Plane, Point, Sign, lex_cmp, side};
 use std::alloc::Global;
 
@@ -50,29 +52,31 @@ fn add_cut(
     Ok(())
 }
 
-// The signs of the plane's form at all vertices.
-fn sides(alloc: Global, vertices: &[Vertex], h: &Plane) -> Result<Vec<Sign>, OutOfMemory>
-    ensures sides { IfOk result (λ v. AreSides (form_of h.now) vertices.now v.items) }
+// The signs of the plane's form at all of the points, which are those of vertices.
+fn sides(alloc: Global, points: &[Point], h: &Plane) -> Result<Vec<Sign>, OutOfMemory>
+    ensures sides { IfOk result (λ v. (vs : Sequence VertexValue) → points.now ≡ map point_of vs → AreSides (form_of h.now) vs v.items) }
 {
-    let mut signs = Vec::new(alloc);
-    for vertex in vertices {
-        signs.push(side(h, &vertex.point))?;
+    let mut signs = Vec::with_capacity(alloc, points.len())?;
+    for point in points {
+        signs.push(side(h, point))?;
     }
     Ok(signs)
 }
 
-// Adds the points strictly inside an edge of the complex that lie on the plane, which doesn't hold the edge. Many edges
-// meet in one vertex, so each vertex is asked once, before all edges.
+// Adds the points strictly inside an edge of the complex that lie on the plane, which doesn't hold the edge. The ends are
+// the points of the vertices: many edges meet in one vertex, so each is asked once, before all edges.
 fn add_plane_cuts(
     alloc: Global,
     points: &mut Vec<Point>,
     c: &Complex,
+    ends: &[Point],
     h: &Plane,
 ) -> Result<(), OutOfMemory>
     requires shows { (s : Set) × ShowsSet s c.now }
+    requires ends { ends.now ≡ points_of c.now }
     ensures added { OnOk result (Adds (IsCutBy (complex_of c.now) (form_of h.now)) points.old.items points.new.items) }
 {
-    let signs = sides(alloc, c.vertices.as_slice(), h)?;
+    let signs = sides(alloc, ends, h)?;
     for number in 0..c.edges.len() {
         let edge = c.edges.at(number);
         if are_opposite(signs[edge.low], signs[edge.high]) {
@@ -92,8 +96,9 @@ pub(crate) fn add_cuts(
     requires shows { (s : Set) × ShowsSet s c.now }
     ensures added { OnOk result (Adds (CutsOne (complex_of c.now) planes.now) points.old.items points.new.items) }
 {
+    let ends = vertex_points(alloc, c)?;
     for h in planes {
-        add_plane_cuts(alloc, points, c, h)?;
+        add_plane_cuts(alloc, points, c, ends.as_slice(), h)?;
     }
     Ok(())
 }

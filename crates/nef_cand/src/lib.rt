@@ -7,6 +7,8 @@
 mod added;
 mod line;
 mod listing;
+mod points;
 
 pub use listing::{candidates, cut_candidates};
 pub use nef_complex::OutOfMemory;
+pub use points::vertex_points;

@@ -1,9 +1,7 @@
-use Rattle.std.proofs.Common.{List, rules, arith, ap, sym, subst}
-use Rattle.nef_geo.specs.Shapes.{form_of}
-use Rattle.nef_complex.specs.declared.complex.Vertex.{Vertex}
+use Rattle.std.proofs.Common.{rules, arith, ap, sym, subst}
 use Rattle.nef_complex.proofs.Ends.{low-within, high-within}
 use Rattle.nef_complex.proofs.Reading.{got-at, read-at}
-use Rattle.nef_cand.specs.Points.{Adds, AreSides, CutsEdge}
+use Rattle.nef_cand.specs.Points.{Adds, CutsEdge}
 use Rattle.nef_cand.proofs.Adding.{any-next, any-all}
 use Rattle.nef_cand.proofs.Held.{cuts-all}
 use Rattle.nef_cand.proofs.Sides.{no-cut}
@@ -14,7 +12,7 @@ pub index-requires : goal.index-requires
 index-requires c =
     let S = c.requires.shows in let e = c.at-edge.result.now in
     let l = low-within S.0 c.args.c.now S.1.shows c.loop-number.number e (got-at c.args.c.now.edges c.loop-number.number e c.at-edge.ensures.element) in
-    let sides = subst (λ (vs : List Vertex). AreSides (form_of c.args.h.now) vs c.in_ok-signs.signs.items) c.as_slice.ensures.all c.in_ok-signs.ensures.sides in
+    let sides = c.in_ok-signs.ensures.sides c.args.c.now.vertices c.requires.ends in
     let m = sides.all in let k = c.in_ok-signs.signs.ok.0 in
     omega (arith, l, m, k)
 
@@ -22,7 +20,7 @@ pub index-requires-in-loop-number : goal.index-requires-in-loop-number
 index-requires-in-loop-number c =
     let S = c.requires.shows in let e = c.at-edge.result.now in
     let l = high-within S.0 c.args.c.now S.1.shows c.loop-number.number e (got-at c.args.c.now.edges c.loop-number.number e c.at-edge.ensures.element) in
-    let sides = subst (λ (vs : List Vertex). AreSides (form_of c.args.h.now) vs c.in_ok-signs.signs.items) c.as_slice.ensures.all c.in_ok-signs.ensures.sides in
+    let sides = c.in_ok-signs.ensures.sides c.args.c.now.vertices c.requires.ends in
     let m = sides.all in let k = c.in_ok-signs.signs.ok.0 in
     omega (arith, l, m, k)
 
@@ -32,7 +30,7 @@ loop-number-preserved c =
     let C = c.args.c.now in let h = c.args.h.now in let i = c.loop-number.number in let e = c.at-edge.result.now in
     let old = c.loop-number.points.items in let signs = c.in_ok-signs.signs.items in
     let a = got-at C.edges i e c.at-edge.ensures.element in
-    let sides = subst (λ (vs : List Vertex). AreSides (form_of h) vs signs) c.as_slice.ensures.all c.in_ok-signs.ensures.sides in
+    let sides = c.in_ok-signs.ensures.sides C.vertices c.requires.ends in
     let m = sides.all in let l = low-within S.0 C S.1.shows i e a in let k = high-within S.0 C S.1.shows i e a in
     let low = read-at signs e.low c.index.result.now (omega (arith, l, m)) c.index.ensures in
     let high = read-at signs e.high c.index-in-loop-number.result.now (omega (arith, k, m)) c.index-in-loop-number.ensures in
