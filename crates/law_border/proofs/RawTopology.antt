@@ -19,14 +19,13 @@ use Rattle.law_sphere.proofs.Forms.{axes-forms, on-direction, on-level, PlaceOf,
 use Rattle.law_sphere.proofs.Labels.{label-exists}
 use Rattle.law_sphere.proofs.Around.{free-around, item-stays, free-beside}
 use Rattle.law_sphere.proofs.NearItems.{label-beside, label-around}
-use Rattle.law_sphere.proofs.Compare.{dir-self, SameDirection-turned}
+use Rattle.law_sphere.proofs.Compare.{dir-self, SameDirection-turned, normals-same}
 use Rattle.law_sphere.proofs.Arcs.{at-sloop, level-same}
 use Rattle.law_sphere.proofs.Along.{not-even}
 use Rattle.law_sphere.proofs.Flips.{directed-by, far_directed-by, planes-parallel}
 use Rattle.law_build.specs.Raw.{RawMap, Of, IsLabelling, ShowsLabels, IsBare, IsRawOf}
 use Rattle.law_build.specs.Overlays.{OnSvertex}
 use Rattle.law_build.proofs.Chosen.{chosen, chosen-is, chosen-labelling}
-use Rattle.law_build.proofs.SideLabels.{normals-same_way}
 use Rattle.law_build.proofs.LoneSloops.{item-sloop, sloop-normal}
 use Rattle.law_build.proofs.RawGround.{none-at, no-item, only-ground}
 use Rattle.law_border.specs.Topology.{Topology, TopologyLabel}
@@ -176,7 +175,7 @@ module _ (K : Topology) (M : Map) (V : Valid M) (L : Vector → Label) (top : (d
           by (free_place F) = let q = label-exists M V y o.direction in absurd (plain-not_proper n y a m b (face_label K q.0) h o.direction p (free-plain y F q.0 q.1) proper)
           by (item_place i x q c) =
               let z = planes-parallel (forms M) (Of L) of-labels (axes-forms M) n a m b proper h (item_normal x) (face_label K (item_pos x)) (item_label K x) (face_label K (item_neg x)) y o.direction p (item-straight i x q y c) in
-              let r = item-sloop M V.shaped n (bare-off n h bare) i x q (normals-same_way n (item_normal x) hn (V.shaped.normals i x q) z) in
+              let r = item-sloop M V.shaped n (bare-off n h bare) i x q (normals-same n (item_normal x) hn (V.shaped.normals i x q) z) in
               (sloop_by K r.0, T.sloop ∙ ap (option_map (sloop_by K)) r.1, r.2)
 
       -- ---- the face

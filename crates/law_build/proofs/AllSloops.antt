@@ -13,13 +13,13 @@ use Rattle.law_sphere.specs.Labelling.{Labelling, StraightAt, ByOp}
 use Rattle.law_sphere.specs.Builds.{Proper}
 use Rattle.law_sphere.proofs.Vectors.{normal-direction}
 use Rattle.law_sphere.proofs.Forms.{PlaceOf, svertex_place, item_place, free_place, place_of, axes-forms, on-level}
-use Rattle.law_sphere.proofs.Compare.{dir-self, SameDirection-turned, SameDirection-trans}
+use Rattle.law_sphere.proofs.Compare.{dir-self, SameDirection-turned, SameDirection-trans, normals-same}
 use Rattle.law_sphere.proofs.Arcs.{at-sloop, level-same}
 use Rattle.law_sphere.proofs.Labellings.{op-labelling}
 use Rattle.law_sphere.proofs.Flips.{planes-parallel}
 use Rattle.law_build.specs.Raw.{RawMap, Of, IsBare}
 use Rattle.law_build.specs.Overlays.{IsAxis, IsLoneSloop, Raw}
-use Rattle.law_build.proofs.SideLabels.{normals-same_way, SidesAt, free-sides, item-sides, sides-at, joined-sides, free-joined}
+use Rattle.law_build.proofs.SideLabels.{SidesAt, free-sides, item-sides, sides-at, joined-sides, free-joined}
 use Rattle.law_build.proofs.Merged.{is-of, straight-of, straight-two, off-second, one-plane, bare-off_axes}
 use Rattle.law_build.proofs.LoneSloops.{item-sloop, merged-sloop, no-sloop, lone-normal}
 
@@ -65,7 +65,7 @@ module _ (A B : Map) (op : Label → Label → Label) (R : RawMap) (L : Vector �
       by (inr e) (inl f) = cross-turned c.normal l.normal (lone-across c l q f e)
 
   lone-same_way : (l c : MapSloop) → IsLoneSloop A B l → IsLoneSloop A B c → SameDirection l.normal c.normal
-  lone-same_way l c p q = normals-same_way l.normal c.normal (lone-normal A B op R L V W raw labels l p) (lone-normal A B op R L V W raw labels c q) (lone-parallel l c p q)
+  lone-same_way l c p q = normals-same l.normal c.normal (lone-normal A B op R L V W raw labels l p) (lone-normal A B op R L V W raw labels c q) (lone-parallel l c p q)
 
   of-labels : Labelling (forms A ++ forms B) (Of L)
   of-labels = let N = op-labelling A B op V W in record {
@@ -81,7 +81,7 @@ module _ (A B : Map) (op : Label → Label → Label) (R : RawMap) (L : Vector �
 
     -- the plane of an item that meets the circle is the circle's
     parallel : (u : Vector) → IsNormal u → dot u y ≡ pos 0 → SidesAt A u y → SidesAt B u y → SameDirection n u
-    parallel u hu z s t = normals-same_way n u hn hu
+    parallel u hu z s t = normals-same n u hn hu
         (planes-parallel (forms A ++ forms B) (Of L) of-labels (λ g l. lies-left (forms A) (forms B) g (axes-forms A g l)) n a m b proper (normal-direction n hn) u
         (op s.pos t.pos) (op s.label t.label) (op s.neg t.neg) y o.direction p
         (straight-of A B op R L V W raw labels u (op s.pos t.pos) (op s.label t.label) (op s.neg t.neg) y (joined-sides A B op u y z s t)))

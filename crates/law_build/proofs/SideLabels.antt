@@ -9,23 +9,13 @@ use Rattle.law_sphere.specs.Maps.{At, MapVertex, MapSloop, Map, Item, sloop_item
 use Rattle.law_sphere.specs.Least.{by_side}
 use Rattle.law_sphere.specs.Labelling.{Near, StraightAt, ByOp}
 use Rattle.std.specs.Prelude.{Some}
-use Rattle.law_sphere.proofs.Vectors.{normal-direction}
 use Rattle.law_sphere.proofs.Lists.{at-one}
 use Rattle.law_sphere.proofs.Forms.{PlaceOf, svertex_place, item_place, free_place, place_of}
 use Rattle.law_sphere.proofs.Labels.{label-exists, dir-signs}
-use Rattle.law_sphere.proofs.Around.{Beside, same_way, other_way, beside}
 use Rattle.law_sphere.proofs.NearItems.{near-free, near-item}
-use Rattle.law_sphere.proofs.Compare.{normals-not_opposite}
+use Rattle.law_sphere.proofs.Compare.{normals-same}
 use Rattle.law_sphere.proofs.Turn.{dir-directed}
 use Rattle.law_sphere.proofs.Arcs.{at-sloop}
-
--- parallel normals go the same way
-pub normals-same_way : (n m : Vector) → IsNormal n → IsNormal m → IsZero (cross n m) → SameDirection n m
-normals-same_way n m h k z = by (beside n m (normal-direction n h) (normal-direction m k) z)
-  where
-    by : Beside n m → SameDirection n m
-    by (same_way w) = w
-    by (other_way w) = absurd (normals-not_opposite n m h k w)
 
 pub side-same_way : (n m e : Vector) → SameDirection n m → sign (dot m e) ≡ sign (dot n e)
 side-same_way n m e w = ap sign (dot-comm m e) ∙ dir-signs n m e (dir-directed n m w) w ∙ ap sign (dot-comm e n)
@@ -74,7 +64,7 @@ module _ (M : Map) (V : Valid M) (n d : Vector) where
     where
       by : PlaceOf M d → SidesAt M n d
       by (svertex_place k v a w) = absurd (off k v a w)
-      by (item_place i x a o) = item-sides i x a o (normals-same_way n (item_normal x) hn (V.shaped.normals i x a) (flat i x a o))
+      by (item_place i x a o) = item-sides i x a o (normals-same n (item_normal x) hn (V.shaped.normals i x a) (flat i x a o))
       by (free_place F) = free-sides F
 
 -- an item that the sloop's circle meets is the sloop

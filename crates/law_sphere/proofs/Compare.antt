@@ -68,6 +68,14 @@ normals-not_opposite n m h k o =
     zero-by : (a b x y : ℤ) → pos 0 <ℤ a → a *ℤ x ≡ b *ℤ y → y ≡ pos 0 → x ≡ pos 0
     zero-by a b x y h e z = ⊎_elim (λ r. r) (λ f. absurd (product-off a x h f (e ∙ ap (λ r. b *ℤ r) z ∙ ring (b ∷ []) (at 0 ⊗ num (pos 0)) (num (pos 0)) tt))) (nought-or x)
 
+-- parallel normals go the same way
+pub normals-same : (n m : Vector) → IsNormal n → IsNormal m → IsZero (cross n m) → SameDirection n m
+normals-same n m h k z = by (beside n m (normal-direction n h) (normal-direction m k) z)
+  where
+    by : Beside n m → SameDirection n m
+    by (same_way w) = w
+    by (other_way w) = absurd (normals-not_opposite n m h k w)
+
 -- ---- labels
 pub labels-turned : (M N : Map) → Valid M → Valid N → SameLabels M N → SameLabels N M
 labels-turned M N V W s d m a =

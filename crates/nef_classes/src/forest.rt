@@ -10,16 +10,16 @@ use crate::OutOfMemory;
 use crate::link::Link;
 use std::alloc::Global;
 
-// Each number is its own parent.
-fn each_alone(alloc: Global, count: usize) -> Result<Vec<usize>, OutOfMemory>
+/// The numbers below `count`, each in its own place. `OutOfMemory` says that memory was wanted and not found.
+pub fn own_numbers(alloc: Global, count: usize) -> Result<Vec<usize>, OutOfMemory>
     ensures as_many { IfOk result (λ v. length v.items ≡ count) }
-    ensures alone { IfOk result (λ v. (k p : ℕ) → IsAt v.items k p → p ≡ k) }
+    ensures own { IfOk result (λ v. (i n : ℕ) → IsAt v.items i n → n ≡ i) }
 {
-    let mut parents = Vec::new(alloc);
+    let mut numbers = Vec::new(alloc);
     for number in 0..count {
-        parents.push(number)?;
+        numbers.push(number)?;
     }
-    Ok(parents)
+    Ok(numbers)
 }
 
 // Makes the parent of the number's parent the number's parent, and returns it.
@@ -82,7 +82,7 @@ pub fn class_of_each(alloc: Global, count: usize, links: &[Link]) -> Result<Vec<
     ensures classes { IfOk result (λ v. AreClasses count links.now v.items) }
     ensures roots { IfOk result (λ v. AreRoots v.items) }
 {
-    let mut parents = each_alone(alloc, count)?;
+    let mut parents = own_numbers(alloc, count)?;
     for link in links {
         join(parents.as_mut_slice(), link);
     }

@@ -1,12 +1,25 @@
-//! A row of numbers cut into the rows of a table.
+//! Rows of tables: empty ones, and those that a row of numbers is cut into.
 
-ghost use Rattle.std.specs.Prelude.{◌≡◌, ◌≤◌, ◌+◌, take, drop, length, IfOk};
+ghost use Rattle.std.specs.Prelude.{◌≡◌, ◌≤◌, ◌+◌, ℕ, [], take, drop, length, IfOk, List as Sequence};
+ghost use Rattle.nef_space.specs.Lists.{IsAt};
 ghost use Rattle.nef_classes.specs.Tables.{total, HasCounts};
 ghost use Rattle.nef_classes.specs.Flat.{AreCut};
 
 use crate::OutOfMemory;
 use nef_geo::List;
 use std::alloc::Global;
+
+/// So many rows with nothing in them. `OutOfMemory` says that memory was wanted and not found.
+pub fn empty_rows<T: Drop>(alloc: Global, count: usize) -> Result<Vec<List<T>>, OutOfMemory>
+    ensures as_many { IfOk result (λ v. length v.items ≡ count) }
+    ensures empty { IfOk result (λ v. (k : ℕ) (row : Sequence T) → IsAt v.items k row → row ≡ []) }
+{
+    let mut rows = Vec::new(alloc);
+    for _number in 0..count {
+        rows.push(List::new(alloc))?;
+    }
+    Ok(rows)
+}
 
 // The numbers from `start` on, of which there are `count`.
 fn row_of(

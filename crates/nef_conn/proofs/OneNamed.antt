@@ -2,16 +2,13 @@
 use Rattle.std.proofs.Common.{◌≡◌, ℕ, ◌<◌, pos, ◌<ℤ◌, ◌+ℤ◌, ◌*ℤ◌, arith, ap, sym, ◌∙◌, inl, inr, ◌⊎◌, ⊎_elim, [], ◌∷◌, subst}
 use Rattle.std.proofs.lemmas.Bool.{cases_order}
 use Rattle.std.proofs.lemmas.Int.{ints}
-use Rattle.law_arithmetic.proofs.Order.{by_order}
 use Rattle.law_arithmetic.proofs.Ring.{ring, at, num, ◌⊕◌, ◌⊗◌}
 use Rattle.nef_space.specs.Numbers.{IsBelow}
 use Rattle.nef_space.specs.Place.{Place, Form, normal_of, slope, toward, SamePlace, IsBetween}
 use Rattle.nef_space.specs.Sets.{Set}
 use Rattle.nef_space.specs.Vectors.{Vector, dot, cross, opposite, blend, triple, IsDirection, IsZero, IsNormal, SameDirection}
 use Rattle.nef_space.specs.declared.label.Label.{Label}
-use Rattle.law_forms.specs.Homogeneous.{of_place}
-use Rattle.law_forms.proofs.Between.{between-same, place-factor, factor-place}
-use Rattle.law_forms.proofs.Sums.{same-trans}
+use Rattle.law_forms.proofs.Between.{between-same}
 use Rattle.law_forms.proofs.Directions.{direction-right}
 use Rattle.law_near.proofs.Between.{between-turned, between-inner}
 use Rattle.law_near.proofs.PlaceOrder.{place_below-apart}
@@ -19,12 +16,12 @@ use Rattle.law_near.proofs.Rays.{same-place_sym}
 use Rattle.law_sphere.specs.Forms.{forms}
 use Rattle.law_sphere.specs.Maps.{At, MapVertex, Arc, arc_item, items, OnItem, Map, dir_of, Shaped}
 use Rattle.law_sphere.proofs.Arcs.{at-arc, Ends, ends-of}
-use Rattle.law_sphere.proofs.Compare.{SameDirection-turned, SameDirection-trans, dir-self, normals-not_opposite}
+use Rattle.law_sphere.proofs.Compare.{SameDirection-turned, SameDirection-trans, dir-self, normals-same}
 use Rattle.law_sphere.proofs.Generic.{amount}
 use Rattle.law_sphere.proofs.Lists.{at-one}
 use Rattle.law_sphere.proofs.Parallel.{parallel-trans}
 use Rattle.law_sphere.proofs.Shot.{dir-at}
-use Rattle.law_sphere.proofs.Vectors.{dot-comb, nought-if, normal-direction}
+use Rattle.law_sphere.proofs.Vectors.{dot-comb}
 use Rattle.law_complex.specs.Complexes.{Vertex, Edge, Complex, Corner, HasEnds, IsEdge, IsEdgeBelow}
 use Rattle.law_complex.specs.Shows.{Shows}
 use Rattle.law_complex.specs.Skeleton.{IsEdgePoint, PlaneMeet, meets_vertex, meets_edge, Meets, IsFirstInPlane, IsArcOnSide, IsCornerAt, RayNames}
@@ -37,12 +34,6 @@ use Rattle.nef_conn.proofs.Onward.{level-kept}
 use Rattle.nef_conn.proofs.WayInward.{side-turned}
 use Rattle.nef_conn.proofs.SameRay.{on-ray}
 use Rattle.nef_conn.proofs.Reached.{toward-normal}
-
-normals-same : (a b : Vector) → IsNormal a → IsNormal b → IsZero (cross a b) → SameDirection a b
-normals-same a b h k z = by_order (dot a b) (pos 0)
-    (λ l. absurd (normals-not_opposite a b h k (record { parallel = z; backward = l })))
-    (λ e. absurd (normal-direction b k (nought-if a b (normal-direction a h) z e)))
-    (λ l. record { parallel = z; forward = l })
 
 edge-same : (e f : Edge) → e.low ≡ f.low → e.low_svertex ≡ f.low_svertex → e.high ≡ f.high → e.high_svertex ≡ f.high_svertex → e.mark ≡ f.mark → e ≡ f
 edge-same e f h i j k l =
@@ -187,7 +178,7 @@ module _ (s : Set) (C : Complex) (S : Shows s C) where
         (SameDirection-trans way_f (toward low_f z) (toward z high_f) (SameDirection-turned (toward low_f z) way_f to-f) d)))))
 
     -- they are one
-    one-edge_through : e ≡ f
+    pub one-edge_through : e ≡ f
     one-edge_through =
         let g = one-vertex e.low f.low E.low_vertex F.low_vertex E.is_low F.is_low lows in
         let h = one-vertex e.high f.high E.high_vertex F.high_vertex E.is_high F.is_high highs in
@@ -203,7 +194,7 @@ module _ (s : Set) (C : Complex) (S : Shows s C) where
         edge-same e f g m h n (E.mark ∙ ap (λ (x : MapVertex). x.mark) start ∙ sym F.mark)
 
   -- the point of an edge is between the ends that the edge has
-  edge-inside : (k : ℕ) (z : Place) → IsEdgePoint C k z → (e : Edge) × (E : IsEdge C.vertices e) × At C.edges k e × IsBetween E.low_vertex.point z E.high_vertex.point
+  pub edge-inside : (k : ℕ) (z : Place) → IsEdgePoint C k z → (e : Edge) × (E : IsEdge C.vertices e) × At C.edges k e × IsBetween E.low_vertex.point z E.high_vertex.point
   edge-inside k z (e, v, w, a, H, b) =
       let E = S.edges.edges k e a in
       let f = at-one C.vertices e.low v E.low_vertex H.low E.is_low in

@@ -1,55 +1,25 @@
 -- Edges seen from either of their ends.
-use Rattle.std.proofs.Common.{◌≡◌, ℕ, pos, ◌<ℤ◌, ◌-ℤ◌, arith, sym, ◌⊎◌, inl, inr, ⊎_elim, subst, [], ◌∷◌}
+use Rattle.std.proofs.Common.{◌≡◌, ℕ, sym, ◌⊎◌, inl, inr, ⊎_elim, subst}
 use Rattle.std.proofs.lemmas.Bool.{cases_order}
-use Rattle.std.proofs.lemmas.Int.{ints}
-use Rattle.law_arithmetic.proofs.Ring.{ring, at, num, ◌⊕◌, ◌⊖◌, ◌⊗◌}
-use Rattle.law_arithmetic.proofs.Order.{by_order}
-use Rattle.nef_space.specs.Place.{Place, SamePlace, toward, IsBetween}
+use Rattle.nef_space.specs.Place.{SamePlace, toward, IsBetween}
 use Rattle.nef_space.specs.Sets.{Set}
-use Rattle.nef_space.specs.Vectors.{Vector, opposite, dot, cross, IsZero, IsDirection, SameDirection, IsOpposite}
+use Rattle.nef_space.specs.Vectors.{opposite, SameDirection, IsOpposite}
 use Rattle.law_near.proofs.Decisions.{ahead}
 use Rattle.law_near.proofs.Between.{between-turned}
 use Rattle.law_near.proofs.PlaceOrder.{place_below-apart}
 use Rattle.law_near.proofs.Rays.{same-place_sym}
-use Rattle.law_forms.proofs.Between.{toward-place}
-use Rattle.law_forms.proofs.Directions.{direction-left}
 use Rattle.law_sphere.specs.Maps.{At, MapVertex}
-use Rattle.law_sphere.proofs.Vectors.{nought-if}
 use Rattle.law_sphere.proofs.Lists.{at-one}
 use Rattle.law_sphere.proofs.NearItems.{opposite-turned}
 use Rattle.law_sphere.proofs.Compare.{SameDirection-turned, SameDirection-trans}
 use Rattle.law_complex.specs.Complexes.{Vertex, Edge, Complex, HasEnds}
 use Rattle.law_complex.specs.Shows.{Shows}
-use Rattle.law_complex.proofs.FacetAngles.{aligned, cross-back}
 use Rattle.law_complex.proofs.FacetEdges.{ahead-back}
 use Rattle.nef_edges.proofs.Rays.{opposites-same}
 use Rattle.law_links.proofs.Ties.{IsTied, tied-turned}
 use Rattle.law_links.proofs.EdgeEnds.{EdgeWays, edge-ways, ends-tied, opposite-way}
+use Rattle.nef_conn.proofs.SameRay.{on-ray}
 use Rattle.nef_parts.specs.Cycles.{Leads}
-
--- of two points ahead on one ray one lies before the other, or they are one
-on-ray : (v p q : Place) → SameDirection (toward v p) (toward v q) → IsBetween v p q ⊎ (SamePlace p q ⊎ IsBetween v q p)
-on-ray v p q w = by_order (dot (toward v p) (toward p q)) (pos 0)
-    (λ h. inr (inr (SameDirection-trans (toward v q) (toward v p) (toward q p) (SameDirection-turned (toward v p) (toward v q) w) (record { parallel = back; forward = turned h }))))
-    (λ e. inr (inl (toward-place p q (nought-if (toward v p) (toward p q) some along e))))
-    (λ h. inl (record { parallel = along; forward = h }))
-  where
-    some : IsDirection (toward v p)
-    some = direction-left (toward v p) (toward v q) w
-
-    back : IsZero (cross (toward v p) (toward q p))
-    back = aligned v p q w.parallel
-
-    along : IsZero (cross (toward v p) (toward p q))
-    along = cross-back (toward v p) q p back
-
-    turned : dot (toward v p) (toward p q) <ℤ pos 0 → pos 0 <ℤ dot (toward v p) (toward q p)
-    turned h = let e = turned-dot (toward v p) in omega (arith, ints)
-      where
-        turned-dot : (d : Vector) → dot d (toward q p) ≡ pos 0 -ℤ dot d (toward p q)
-        turned-dot d = ring (d.x ∷ d.y ∷ d.z ∷ p.x ∷ p.y ∷ p.z ∷ pos p.w ∷ q.x ∷ q.y ∷ q.z ∷ pos q.w ∷ [])
-            (at 0 ⊗ (at 3 ⊗ at 10 ⊖ at 7 ⊗ at 6) ⊕ at 1 ⊗ (at 4 ⊗ at 10 ⊖ at 8 ⊗ at 6) ⊕ at 2 ⊗ (at 5 ⊗ at 10 ⊖ at 9 ⊗ at 6))
-            (num (pos 0) ⊖ (at 0 ⊗ (at 7 ⊗ at 6 ⊖ at 3 ⊗ at 10) ⊕ at 1 ⊗ (at 8 ⊗ at 6 ⊖ at 4 ⊗ at 10) ⊕ at 2 ⊗ (at 9 ⊗ at 6 ⊖ at 5 ⊗ at 10))) tt
 
 -- an edge from svertex a of vertex i to svertex b of vertex j
 pub record EdgeFrom (s : Set) (C : Complex) (i a j b : ℕ) : Type 0 where

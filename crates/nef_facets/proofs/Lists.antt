@@ -39,18 +39,3 @@ each-more {A} {B} P n xs ys x y E b p = record {
     by i u v d (last e f) =
         let same : n ≡ i = sym (e ∙ E.as_many) in
         subst (λ (w : A). P w v) (sym f) (subst (λ (w : B). P x w) (is-at_one ys n y v b (subst (λ (j : ℕ). IsAt ys j v) (sym same) d)) p)
-
-pub own-more : (xs : List ℕ) (n : ℕ) → length xs ≡ n → ((i m : ℕ) → IsAt xs i m → m ≡ i) → (i m : ℕ) → IsAt (xs ++ n ∷ []) i m → m ≡ i
-own-more xs n e own i m a = by (is-at_either xs i m n a)
-  where
-    by : Either xs i m n → m ≡ i
-    by (earlier b) = own i m b
-    by (last f g) = g ∙ sym e ∙ sym f
-
--- one more element, which is like all before
-pub none-more : {X : Type 0} (xs : List X) (v : X) → ((i : ℕ) (x : X) → IsAt xs i x → x ≡ v) → (i : ℕ) (x : X) → IsAt (xs ++ v ∷ []) i x → x ≡ v
-none-more {X} xs v all i x a = by (is-at_either xs i x v a)
-  where
-    by : Either xs i x v → x ≡ v
-    by (earlier b) = all i x b
-    by (last e f) = f

@@ -1,6 +1,6 @@
 //! The cycles of each facet.
 
-ghost use Rattle.std.specs.Prelude.{◌≡◌, ◌<◌, ℕ, [], length, IfOk, List as Sequence};
+ghost use Rattle.std.specs.Prelude.{◌≡◌, ◌<◌, ℕ, length, IfOk};
 ghost use Rattle.nef_space.specs.Lists.{IsAt};
 ghost use Rattle.nef_space.specs.Sets.{Set};
 ghost use Rattle.nef_complex.specs.Complexes.{complex_of, corner_of, ShowsSet};
@@ -13,6 +13,7 @@ use crate::OutOfMemory;
 use crate::firsts::number_of;
 use crate::next::next_corners;
 use crate::orbits::orbits;
+use nef_classes::empty_rows;
 use nef_complex::{Complex, Corner};
 use nef_geo::List;
 use nef_parts::Cycle;
@@ -30,18 +31,6 @@ fn cycle_of(alloc: Global, corners: &[Corner], orbit: &[usize]) -> Result<Cycle,
     Ok(Cycle { corners: cycle })
 }
 
-// No cycle for any facet.
-fn no_cycles(alloc: Global, count: usize) -> Result<Vec<List<Cycle>>, OutOfMemory>
-    ensures as_many { IfOk result (λ v. length v.items ≡ count) }
-    ensures none { IfOk result (λ v. (n : ℕ) (row : Sequence Cycle) → IsAt v.items n row → row ≡ []) }
-{
-    let mut cycles = Vec::new(alloc);
-    for _number in 0..count {
-        cycles.push(List::new(alloc))?;
-    }
-    Ok(cycles)
-}
-
 // The cycles of the orbits, each in the row of its first corner's number.
 fn grouped(
     alloc: Global,
@@ -54,7 +43,7 @@ fn grouped(
     ensures as_many { IfOk result (λ ys. length ys ≡ count) }
     ensures grouped { IfOk result (λ ys. AreGrouped rows.now corners.now orbits.now (length orbits.now) ys) }
 {
-    let mut cycles = no_cycles(alloc, count)?;
+    let mut cycles = empty_rows(alloc, count)?;
     for orbit in orbits {
         let cycle = cycle_of(alloc, corners, orbit.as_slice())?;
         let number = number_of(rows, &corners[*orbit.at(0)]);

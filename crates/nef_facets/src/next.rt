@@ -15,6 +15,7 @@ ghost use Rattle.nef_facets.specs.Next.{IsArcInto, HaveNextFrom, KeepsNext, AreN
 
 use crate::OutOfMemory;
 use crate::position::position;
+use nef_classes::own_numbers;
 use nef_complex::{Complex, Corner};
 use nef_geo::Dir;
 use nef_smap::{SArc, SphereMap};
@@ -45,18 +46,6 @@ fn arc_into(map: &SphereMap, svertex: usize, normal: &Dir) -> usize
         }
     }
     unreachable!()
-}
-
-// Each number in its own place.
-fn own_numbers(alloc: Global, count: usize) -> Result<Vec<usize>, OutOfMemory>
-    ensures as_many { IfOk result (λ v. length v.items ≡ count) }
-    ensures own { IfOk result (λ v. (i n : ℕ) → IsAt v.items i n → n ≡ i) }
-{
-    let mut numbers = Vec::new(alloc);
-    for number in 0..count {
-        numbers.push(number)?;
-    }
-    Ok(numbers)
 }
 
 // Notes that corner k follows corner j.

@@ -1,6 +1,6 @@
 -- Links across facets, by what the ray inward in a carrier names.
 use Rattle.std.proofs.Common.{◌≡◌, ℕ, pos, List, [], ◌∷◌, ◌++◌, refl, ap, sym, ◌∙◌, subst}
-use Rattle.nef_space.specs.Place.{Place, Form, form_at, normal_of, toward}
+use Rattle.nef_space.specs.Place.{Form, form_at, normal_of, toward}
 use Rattle.nef_space.specs.Sets.{Set}
 use Rattle.nef_space.specs.Vectors.{Vector, opposite, SameDirection, plane_dir}
 use Rattle.law_forms.proofs.Between.{place-toward}
@@ -20,18 +20,13 @@ use Rattle.nef_complex.specs.Complexes.{corner_of}
 use Rattle.nef_classes.specs.declared.table.Cell.{Cell}
 use Rattle.nef_classes.specs.declared.table.Tie.{Tie}
 use Rattle.law_links.specs.Links.{LinkAcross}
+use Rattle.nef_conn.proofs.OneNamed.{one-vertex, one-named}
+use Rattle.nef_conn.proofs.WayInward.{names-same, dir-same}
 use Rattle.nef_plane.specs.Meets.{HasNoSvertex}
-use Rattle.nef_locate.proofs.SamePlanes.{level-back, scaled-same, first-same, corner-same, on-turned}
+use Rattle.nef_locate.proofs.SamePlanes.{level-back, scaled-same, on-turned}
 use Rattle.nef_ties.specs.Ties.{cell_of, corner_at, IsTieAcross, Adds}
 use Rattle.nef_ties.proofs.Adding.{adds-one}
-use Rattle.nef_ties.proofs.ItemPlane.{dir-same}
-use Rattle.nef_ties.proofs.OneMeet.{one-vertex, one-named}
 use Rattle.nef_ties.proofs.TiedLinks.{tie-same}
-
--- the same ray names the same corners in each form of a plane
-names-same : (C : Complex) (g h : Form) (y : Place) → form_at g y ≡ pos 0 → form_at h y ≡ pos 0 → SameDirection (normal_of g) (normal_of h) → (d f : Vector) → SameDirection d f
-    → (k : Corner) → RayNames C g y d k → RayNames C h y f k
-names-same C g h y on_g on_h w d f u k (m, I, c) = (m, first-same C g h y on_g on_h w d f u m I, corner-same C g h w (opposite d) (opposite f) (opposite-same d f u) m k c)
 
 abbrev inward_of : Item → Vector
 inward_of x = opposite (plane_dir (item_normal x))
@@ -55,7 +50,7 @@ module _ (C : Complex) (j : Corner) (v : Vertex) (x : Item) (b : IsCorner C j v 
 
     pub inward-same : SameDirection d (inward_of x)
     inward-same =
-        let a = dir-same (normal_of h) n w (direction-left (plane_dir (normal_of h)) f dir) in
+        let a = dir-same (normal_of h) n w in
         let o = opposite-same f (plane_dir n) (SameDirection-trans f (plane_dir (normal_of h)) (plane_dir n) (SameDirection-turned (plane_dir (normal_of h)) f dir) a) in
         subst (λ (r : Vector). SameDirection r (inward_of x)) (sym back) o
 

@@ -27,13 +27,13 @@ use Rattle.nef_locate.proofs.Marks.{image-within}
 use Rattle.nef_locate.proofs.SamePlanes.{level-back}
 use Rattle.nef_ties.specs.Carriers.{IsPlaneAt, IsPlaneThrough}
 use Rattle.nef_ties.specs.Ties.{IsNamedFrom, IsLinkedFrom, corner_at, IsTieAcross, Any}
-use Rattle.nef_ties.proofs.OneMeet.{one-met}
+use Rattle.nef_conn.proofs.OneNamed.{one-met}
 use Rattle.nef_ties.proofs.AcrossLinks.{linked, unlinked, no-svertex}
 
 -- ---- the corner at what is first met
 module _ (s : Set) (C : Complex) (S : Shows s C) (h : Form) (y : Place) (d b : Vector) (back : b ≡ opposite d) (m : PlaneMeet) (I : IsFirstInPlane C h y d m) where
   pub named-met : (o : Option ProgramCorner) → MatchOption o ((k : Corner) → IsCornerAt C h b m k → ⊥) (λ k. IsCornerAt C h b m (corner_of k)) → IsNamedFrom C h y d o
-  named-met None f = λ k (n, J, c). f k (subst (λ (v : Vector). IsCornerAt C h v m k) (sym back) (one-met s C S h y d (opposite d) k m n I J c))
+  named-met None f = λ k (n, J, c). f k (subst (λ (v : Vector). IsCornerAt C h v m k) (sym back) (one-met s C S h (opposite d) k y d m n I J c))
   named-met (Some k) c = (m, I, subst (λ (v : Vector). IsCornerAt C h v m (corner_of k)) back c)
 
 pub vertex-some : (vs : List ProgramVertex) (k : ℕ) → k < length vs → (v : Vertex) × At (map vertex_of vs) k v

@@ -8,11 +8,10 @@ use Rattle.nef_space.specs.Vectors.{Vector, IsDirection, SameDirection, dot, cro
 use Rattle.nef_space.specs.declared.label.Label.{Label}
 use Rattle.law_near.proofs.Rays.{same-place_sym}
 use Rattle.law_cones.proofs.Smooth.{parallel-by}
-use Rattle.law_build.proofs.SideLabels.{normals-same_way}
 use Rattle.law_forms.proofs.Between.{between-same}
 use Rattle.law_sphere.specs.Maps.{At, item_normal, pos_item, Side, dir_of, HasSide, Sees, InOneSface, here, link}
 use Rattle.law_sphere.specs.Sectors.{BoundsSector}
-use Rattle.law_sphere.proofs.Compare.{SameDirection-turned, SameDirection-trans}
+use Rattle.law_sphere.proofs.Compare.{SameDirection-turned, SameDirection-trans, normals-same}
 use Rattle.law_sphere.proofs.Forms.{on-level}
 use Rattle.law_sphere.proofs.Vectors.{normal-is}
 use Rattle.law_sphere.proofs.Lists.{at-one}
@@ -29,7 +28,8 @@ use Rattle.law_links.specs.Links.{LinkInSface}
 use Rattle.law_links.proofs.Across.{through-same}
 use Rattle.law_complex.proofs.EqualPoints.{corner-same as corner-like}
 use Rattle.nef_locate.proofs.SamePlanes.{level-back, first-same, corner-same, axis-same}
-use Rattle.nef_ties.proofs.OneMeet.{ray-cases, one-vertex, one-edge_through, edge-inside, one-named}
+use Rattle.nef_conn.proofs.OneNamed.{one-vertex, one-edge_through, edge-inside, one-named}
+use Rattle.nef_conn.proofs.SameRay.{on-ray}
 
 module _ (s : Set) (C : Complex) (S : Shows s C) where
   -- ---- links in one sface
@@ -75,7 +75,7 @@ module _ (s : Set) (C : Complex) (S : Shows s C) where
 
   -- ---- where two rays end
   one-end : (p : Place) (x y : VertexSide) (R : RayDown C p x) (Q : RayDown C p y) → SamePlace Q.place R.place
-  one-end p x y R Q = by (ray-cases p Q.place R.place (opposite up) Q.ahead R.ahead)
+  one-end p x y R Q = by (on-ray p Q.place R.place (SameDirection-trans (toward p Q.place) (opposite up) (toward p R.place) Q.ahead (SameDirection-turned (toward p R.place) (opposite up) R.ahead)))
     where
       by : IsBetween p Q.place R.place ⊎ SamePlace Q.place R.place ⊎ IsBetween p R.place Q.place → SamePlace Q.place R.place
       by (inl b) = absurd (R.first Q.place b (Q.spot, Q.is_spot))
@@ -112,7 +112,7 @@ module _ (s : Set) (C : Complex) (S : Shows s C) where
     ways =
         let axis = axis-in (item_normal H.item) some-n in
         let d = plane_axis (item_normal H.item) in
-        normals-same_way (item_normal H.item) (item_normal K.item) ((S.cones H.beside.vertex H.vertex H.is_beside.vertex).valid.shaped.normals H.beside.item H.item H.is_beside.item)
+        normals-same (item_normal H.item) (item_normal K.item) ((S.cones H.beside.vertex H.vertex H.is_beside.vertex).valid.shaped.normals H.beside.item H.item H.is_beside.item)
         ((S.cones K.beside.vertex K.vertex K.is_beside.vertex).valid.shaped.normals K.beside.item K.item K.is_beside.item)
         (parallel-by (item_normal H.item) d (item_normal K.item) axis.0 axis.1 (level-too d axis.1) (level-too (cross (item_normal H.item) d) (across (item_normal H.item) d)))
       where

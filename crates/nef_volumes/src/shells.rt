@@ -1,12 +1,12 @@
 //! The shells of volumes.
 
-ghost use Rattle.std.specs.Prelude.{◌≡◌, ◌<◌, ◌+◌, ◌≤◌, ℕ, [], length, IfOk, OnOk, List as Sequence};
-ghost use Rattle.nef_space.specs.Lists.{IsAt, IsInTable};
-ghost use Rattle.nef_parts.specs.declared.parts.Shell.{Shell as PlainShell};
+ghost use Rattle.std.specs.Prelude.{◌≡◌, ◌<◌, ◌+◌, ◌≤◌, ℕ, length, IfOk, OnOk};
+ghost use Rattle.nef_space.specs.Lists.{IsInTable};
 ghost use Rattle.nef_parts.specs.declared.parts.Side.{Side as PlainSide};
 ghost use Rattle.nef_volumes.specs.Shells.{AreNumberedNames, AreGathered, AreShellsOf, HaveVolumes, IsPut};
 
 use crate::OutOfMemory;
+use nef_classes::empty_rows;
 use nef_geo::List;
 use nef_parts::{Shell, Side};
 use std::alloc::Global;
@@ -67,18 +67,6 @@ pub(crate) fn gathered(
     Ok(lists)
 }
 
-// No shell for any volume.
-fn no_shells(alloc: Global, count: usize) -> Result<Vec<List<Shell>>, OutOfMemory>
-    ensures as_many { IfOk result (λ v. length v.items ≡ count) }
-    ensures none { IfOk result (λ v. (n : ℕ) (row : Sequence PlainShell) → IsAt v.items n row → row ≡ []) }
-{
-    let mut shells = Vec::new(alloc);
-    for _number in 0..count {
-        shells.push(List::new(alloc))?;
-    }
-    Ok(shells)
-}
-
 // The number of the volume of the side.
 fn volume_of_side(volume_of: &List<List<usize>>, side: &Side) -> usize
     requires some { (n : ℕ) × IsInTable volume_of.now side.now.vertex side.now.side n }
@@ -98,7 +86,7 @@ pub(crate) fn volume_shells(
     ensures as_many { IfOk result (λ rows. length rows ≡ count) }
     ensures shells { IfOk result (λ rows. AreShellsOf volume_of.now lists.items rows) }
 {
-    let mut shells = no_shells(alloc, count)?;
+    let mut shells = empty_rows(alloc, count)?;
     for sides in lists {
         let number = volume_of_side(volume_of, sides.at(0));
         shells[number].push(Shell { sides })?;

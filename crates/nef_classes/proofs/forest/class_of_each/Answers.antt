@@ -8,7 +8,7 @@ use Rattle.nef_classes.proofs.Trees.{AreTrees, trees-alone, trees-more, trees-cl
 use Rattle.nef_classes.proofs.forest.class_of_each.Goals as goal
 
 pub loop-link-init : goal.loop-link-init
-loop-link-init c = let e = c.in_ok-parents.ensures in trees-alone c.args.count c.in_ok-parents.parents.items e.as_many e.alone
+loop-link-init c = let e = c.in_ok-parents.ensures in trees-alone c.args.count c.in_ok-parents.parents.items e.as_many e.own
 
 pub join-requires-clause-first : goal.join-requires-clause-first
 join-requires-clause-first c =
