@@ -12,7 +12,7 @@ use Rattle.law_near.proofs.FlatDecided.{cross-turned}
 use Rattle.law_near.proofs.Flats.{vector-same}
 use Rattle.law_sphere.proofs.KindFlats.{in-span}
 use Rattle.law_sphere.proofs.Parallel.{parallel-trans}
-use Rattle.nef_plane.specs.Meets.{IsAlongAxis, sweep_axis}
+use Rattle.nef_plane.specs.Meets.{IsAlongAxis, IsParallelToAxis, sweep_axis}
 use Rattle.nef_complex.proofs.Parted.{along-cross}
 
 opposite-parallel : (d a : Vector) → IsZero (cross d (opposite a)) → IsZero (cross a d)
@@ -31,7 +31,12 @@ axis-cross n false = vector-same (cross n (vector (pos 1) (pos 0) (pos 0))) (bes
     (ring (n.x ∷ n.z ∷ []) (at 1 ⊗ num (pos 1) ⊖ at 0 ⊗ num (pos 0)) (at 1) tt)
     (ring (n.x ∷ n.y ∷ []) (at 0 ⊗ num (pos 0) ⊖ at 1 ⊗ num (pos 1)) (neg (at 1)) tt)
 
-module _ (h : Plane) (d : Vector) (A : IsAlongAxis (form_of h) d) where
+-- a direction along the axis is parallel to it
+pub along-parallel : (h : Plane) (d : Vector) → IsAlongAxis (form_of h) d → IsParallelToAxis (form_of h) d
+along-parallel h d = let a = plane_axis (normal_of (form_of h)) in
+    ⊎_elim (λ (w : SameDirection d a). (direction-left d a w, cross-turned d a w.parallel)) (λ (w : SameDirection d (opposite a)). (direction-left d (opposite a) w, opposite-parallel d a w.parallel))
+
+module _ (h : Plane) (d : Vector) (A : IsParallelToAxis (form_of h) d) where
   abbrev n : Vector
   n = normal_of (form_of h)
 
@@ -44,19 +49,16 @@ module _ (h : Plane) (d : Vector) (A : IsAlongAxis (form_of h) d) where
   is-cross : cross n e ≡ a
   is-cross = axis-cross n (int_eq n.z (pos 0) && int_eq n.y (pos 0))
 
-  parallel : IsZero (cross a d)
-  parallel = ⊎_elim (λ (w : SameDirection d a). cross-turned d a w.parallel) (λ (w : SameDirection d (opposite a)). opposite-parallel d a w.parallel) A
-
   pub axis-some : IsDirection d
-  axis-some = ⊎_elim (λ (w : SameDirection d a). direction-left d a w) (λ (w : SameDirection d (opposite a)). direction-left d (opposite a) w) A
+  axis-some = A.0
 
   pub axis-level : dot n d ≡ pos 0
-  axis-level = in-span n a d (axis-direction h) parallel (axis-in_plane h)
+  axis-level = in-span n a d (axis-direction h) A.1 (axis-in_plane h)
 
   pub axis-keeps : dot e d ≡ pos 0
-  axis-keeps = in-span e a d (axis-direction h) parallel (subst (λ (v : Vector). dot e v ≡ pos 0) is-cross (ring (n.x ∷ n.y ∷ n.z ∷ e.x ∷ e.y ∷ e.z ∷ [])
+  axis-keeps = in-span e a d (axis-direction h) A.1 (subst (λ (v : Vector). dot e v ≡ pos 0) is-cross (ring (n.x ∷ n.y ∷ n.z ∷ e.x ∷ e.y ∷ e.z ∷ [])
       (at 3 ⊗ (at 1 ⊗ at 5 ⊖ at 2 ⊗ at 4) ⊕ at 4 ⊗ (at 2 ⊗ at 3 ⊖ at 0 ⊗ at 5) ⊕ at 5 ⊗ (at 0 ⊗ at 4 ⊖ at 1 ⊗ at 3)) (num (pos 0)) tt))
 
   -- what lies in the plane and keeps the coordinate is parallel to the axis
   pub axis-parallel : (t : Vector) → dot n t ≡ pos 0 → dot e t ≡ pos 0 → IsZero (cross t d)
-  axis-parallel t i j = parallel-trans t a d (axis-direction h) (subst (λ (v : Vector). IsZero (cross t v)) is-cross (along-cross n e t i j)) parallel
+  axis-parallel t i j = parallel-trans t a d (axis-direction h) (subst (λ (v : Vector). IsZero (cross t v)) is-cross (along-cross n e t i j)) A.1

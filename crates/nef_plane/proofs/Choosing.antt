@@ -1,30 +1,23 @@
--- What a crossing, a meeting and a comparison answer.
-use Rattle.std.proofs.Common.{◌≡◌, pos, false, Option, Some, None, List, refl, sym, ◌∙◌, inl, inr, ◌↔◌, subst}
-use Rattle.std.specs.Option.{MatchOption, is_some}
+-- What a meeting and a comparison answer.
+use Rattle.std.proofs.Common.{◌≡◌, pos, Option, Some, None, List, refl, sym, ◌∙◌, inl, inr, subst}
+use Rattle.std.specs.Option.{MatchOption}
 use Rattle.std.specs.Prelude.{IsNone, IfSome}
 use Rattle.nef_space.specs.Place.{Place, form_at}
 use Rattle.nef_space.specs.Vectors.{Vector}
-use Rattle.nef_geo.specs.Hits.{IsCrossing, IsReached}
 use Rattle.nef_geo.specs.Shapes.{form_of, far_place}
 use Rattle.nef_geo.specs.declared.hit.FarHit.{FarHit}
 use Rattle.nef_geo.specs.declared.plane.Plane.{Plane}
 use Rattle.law_complex.proofs.Ways.{same-itself}
 use Rattle.nef_complex.specs.Planes.{HoldsBoth}
-use Rattle.nef_plane.specs.Meets.{Encounter, far_reach_of, IsAlongAxis, sweep_form, AreOpposite, IsHitThrough, NoneCrosses, IsMet, AllHold, IsNearer, IsNotPast}
+use Rattle.nef_plane.specs.Meets.{Encounter, far_reach_of, IsParallelToAxis, sweep_form, AreOpposite, IsHitThrough, NoneCrosses, IsMet, AllHold, IsNearer, IsNotPast}
 use Rattle.nef_plane.proofs.Meeting.{met-some, met-all}
 
-pub hit-answers : (o : Option FarHit) (p : Place) (d : Vector) (g : Plane) (a b : Place) → HoldsBoth (form_of g) a b → (IsNone o ↔ ((q : Place) → ¬ IsCrossing p d (form_of g) q))
-    → IfSome o (λ q. IsCrossing p d (form_of g) (far_place q)) → IfSome o (λ q. IsReached p d q.num q.den q.den_sign (far_place q))
-    → MatchOption o (HoldsBoth (form_of g) a b → (q : Place) → IsCrossing p d (form_of g) q → ⊥) (λ q. IsHitThrough p d a b (far_reach_of q))
-hit-answers None p d g a b H n c r = λ i. n.0 refl
-hit-answers (Some q) p d g a b H n c r = record { plane = g; holds = H; crosses = c; reached = r }
-
-pub met-answers : (o : Option FarHit) (gs : List Plane) (h : Plane) (p : Place) (d : Vector) → IsAlongAxis (form_of h) d → form_at (form_of h) p ≡ pos 0 → (a b : Place) → HoldsBoth (form_of h) a b
+pub met-answers : (o : Option FarHit) (gs : List Plane) (h : Plane) (p : Place) (d : Vector) → IsParallelToAxis (form_of h) d → form_at (form_of h) p ≡ pos 0 → (a b : Place) → HoldsBoth (form_of h) a b
     → AreOpposite (sweep_form (form_of h) p) a b → MatchOption o (NoneCrosses gs p d a b) (λ q. IsHitThrough p d a b (far_reach_of q)) → IfSome o (λ q. IsMet (form_of h) p d a b (far_place q))
 met-answers None gs h p d A on a b H s m = tt
 met-answers (Some q) gs h p d A on a b H s m = met-some h p d A on a b (form_of m.plane) (far_place q) H s m.holds m.crosses
 
-pub none-answers : (o : Option FarHit) (gs : List Plane) (h : Plane) (p : Place) (d : Vector) → IsAlongAxis (form_of h) d → form_at (form_of h) p ≡ pos 0 → (a b : Place)
+pub none-answers : (o : Option FarHit) (gs : List Plane) (h : Plane) (p : Place) (d : Vector) → IsParallelToAxis (form_of h) d → form_at (form_of h) p ≡ pos 0 → (a b : Place)
     → MatchOption o (NoneCrosses gs p d a b) (λ q. IsHitThrough p d a b (far_reach_of q)) → IsNone o → (y : Place) → IsMet (form_of h) p d a b y → AllHold gs d a b
 none-answers None gs h p d A on a b m n y M = met-all h p d A on a b gs y M m
 none-answers (Some q) gs h p d A on a b m n y M = cc
@@ -45,12 +38,8 @@ module _ {X : Type 0} (seen : X → Encounter) (d : Vector) (a b : Option X) whe
   pub take-second : (x y : X) → a ≡ Some x → b ≡ Some y → IsNotPast d (seen y) (seen x) → IsNearer seen d a b (Some y)
   take-second x y e f n = record { one = inr (sym f); first = λ z g. (y, refl, carried x z y (sym e ∙ g) n); second = λ z g. (y, refl, carried y z y (sym f ∙ g) (itself y)) }
 
-  pub keep-first : b ≡ None → IsNearer seen d a b a
-  keep-first e = record { one = inl refl; first = λ z g. (z, g, itself z); second = λ z g. absurd (let f : None ≡ Some z = sym e ∙ g in cc) }
+  pub keep-first : (r : Option X) → r ≡ a → b ≡ None → IsNearer seen d a b r
+  keep-first r f e = record { one = inl f; first = λ z g. (z, f ∙ g, itself z); second = λ z g. absurd (let h : None ≡ Some z = sym e ∙ g in cc) }
 
   pub keep-second : a ≡ None → IsNearer seen d a b b
   keep-second e = record { one = inr refl; first = λ z g. absurd (let f : None ≡ Some z = sym e ∙ g in cc); second = λ z g. (z, g, itself z) }
-
-pub not-some : {X : Type 0} (o : Option X) → is_some o ≡ false → o ≡ None
-not-some None e = refl
-not-some (Some x) e = cc

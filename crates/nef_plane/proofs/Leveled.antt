@@ -1,5 +1,5 @@
 -- The vertices of a plane beside a line along its axis, and what the line doesn't meet of the plane.
-use Rattle.std.proofs.Common.{◌≡◌, ℕ, zero, suc, ◌+◌, ◌≤◌, length, ℤ, pos, negsuc, Bool, true, false, ◌↔◌, IsTrue, List, None, arith, inl, inr, ⊎_elim, refl, subst}
+use Rattle.std.proofs.Common.{◌≡◌, ℕ, zero, suc, ◌+◌, ◌≤◌, length, ℤ, pos, negsuc, Bool, true, false, ◌↔◌, IsTrue, List, arith, inl, inr, ⊎_elim, refl, subst}
 use Rattle.std.proofs.Math.Nat.{eq-or-lt_of_le}
 use Rattle.std.proofs.lemmas.Bool.{cases_lt}
 use Rattle.std.proofs.lemmas.Int.{ints}
@@ -26,7 +26,7 @@ use Rattle.nef_complex.specs.Complexes.{complex_of}
 use Rattle.nef_complex.specs.Index.{LiesOn, EdgeLiesIn, AreNumbersWith}
 use Rattle.nef_complex.proofs.Reading.{got-at}
 use Rattle.nef_plane.specs.Levels.{IsShort, AreShort, AreFar, AreShortBelow, AreFarFrom, IsLevel, IsOffLevel, IsUnparted}
-use Rattle.nef_plane.specs.Meets.{IsAlongAxis, AtVertexNumber, AtEdgeNumber, IsNearest, far_met_of, sweep_form}
+use Rattle.nef_plane.specs.Meets.{IsParallelToAxis, AtVertexNumber, AtEdgeNumber, sweep_form, IsMissed}
 use Rattle.nef_plane.specs.declared.level.Level.{Level}
 use Rattle.nef_plane.proofs.Axes.{axis-some}
 use Rattle.nef_plane.proofs.Found.{vertex-none, edge-none}
@@ -99,11 +99,11 @@ module _ (s : Set) (c : Complex) (S : Shows s (complex_of c)) (h : Plane) (p : P
   none-far j v l e o x = let y = is-at_within c.vertices j v e in omega (arith, l, y)
 
 -- ---- what a ray along the axis doesn't meet
-module _ (s : Set) (c : Complex) (S : Shows s (complex_of c)) (h : Plane) (p : Place) (d : Vector) (A : IsAlongAxis (form_of h) d) (on : form_at (form_of h) p ≡ pos 0) (x : Level) (L : IsLevel c.vertices (form_of h) p x) where
+module _ (s : Set) (c : Complex) (S : Shows s (complex_of c)) (h : Plane) (p : Place) (d : Vector) (A : IsParallelToAxis (form_of h) d) (on : form_at (form_of h) p ≡ pos 0) (x : Level) (L : IsLevel c.vertices (form_of h) p x) where
   abbrev line : Form
   line = sweep_form (form_of h) p
 
-  pub off-vertex : (n : ℕ) → LiesOn c.vertices (form_of h) n → IsOffLevel x n → IsNearest far_met_of p d (AtVertexNumber (complex_of c) n) None
+  pub off-vertex : (n : ℕ) → LiesOn c.vertices (form_of h) n → IsOffLevel x n → IsMissed p d (AtVertexNumber (complex_of c) n)
   off-vertex n (v, l, o) f = vertex-none s c S p d (axis-some h d A) n v (got-at c.vertices n v l)
       (λ q w e. absurd (let z = level-same line q (place_of v.point) (same-place_sym (place_of v.point) q e) (ahead-kept h p d A on q w) in
       ⊎_elim (λ m. let y = L.before n v m l o in omega (arith, ints)) (λ m. L.past n v m l o (omega (arith, ints))) f))
@@ -117,10 +117,10 @@ module _ (s : Set) (c : Complex) (S : Shows s (complex_of c)) (h : Plane) (p : P
         (λ y. L.past e.high v g j on_v (omega (arith, ints))) (λ y. L.past e.high v g j on_v (omega (arith, ints)))
         (λ y. L.not_before e.low u f i on_u (between-level_minus line (place_of v.point) q (place_of u.point) (between-turned (place_of u.point) (place_of v.point) q m) (ahead-kept h p d A on q w) y))
 
-    none-met : IsUnparted x e.low e.high → IsNearest far_met_of p d (AtEdgeNumber (complex_of c) (form_of h) d n) None
+    none-met : IsUnparted x e.low e.high → IsMissed p d (AtEdgeNumber (complex_of c) (form_of h) d n)
     none-met f = edge-none s c S (form_of h) p d (axis-some h d A) n e u v l (got-at c.vertices e.low u i) (got-at c.vertices e.high v j) (λ q w m o. absurd (never q w m f))
 
-  pub unparted-edge : (n : ℕ) (e : Edge) → At c.edges n e → EdgeLiesIn c.vertices c.edges (form_of h) n → IsUnparted x e.low e.high → IsNearest far_met_of p d (AtEdgeNumber (complex_of c) (form_of h) d n) None
+  pub unparted-edge : (n : ℕ) (e : Edge) → At c.edges n e → EdgeLiesIn c.vertices c.edges (form_of h) n → IsUnparted x e.low e.high → IsMissed p d (AtEdgeNumber (complex_of c) (form_of h) d n)
   unparted-edge n e l (f, a, (u, i, o), (v, j, r)) =
       let g = at-one c.edges n f e (got-at c.edges n f a) l in
       none-met n e l u v (subst (λ (r : Edge). IsAt c.vertices r.low u) g i) (subst (λ (r : Edge). IsAt c.vertices r.high v) g j) o r

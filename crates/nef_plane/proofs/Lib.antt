@@ -1,5 +1,6 @@
 pub mod Axes
 pub mod Meeting
+pub mod Asking
 pub mod Nearest
 pub mod Crossed
 pub mod Beside

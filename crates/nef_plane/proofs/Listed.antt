@@ -1,12 +1,12 @@
--- What a ray meets in a plane that holds it is listed among what lies there.
-use Rattle.std.proofs.Common.{◌≡◌, ℕ, List, pos, sym, subst}
+-- What a ray meets in a plane that holds it lies there.
+use Rattle.std.proofs.Common.{◌≡◌, ℕ, ◌<◌, length, List, pos, sym, subst}
 use Rattle.nef_space.specs.Lists.{IsAt}
 use Rattle.nef_space.specs.Place.{Place, Form, form_at, IsAhead}
 use Rattle.nef_space.specs.Vectors.{Vector, IsDirection}
 use Rattle.nef_geo.specs.Shapes.{place_of}
 use Rattle.law_near.proofs.Rays.{same-place_sym}
 use Rattle.law_sphere.specs.Maps.{At}
-use Rattle.nef_classes.proofs.ClassLists.{is-at_one}
+use Rattle.nef_classes.proofs.ClassLists.{is-at_one, is-at_within}
 use Rattle.nef_smap.proofs.Lists.{at-map}
 use Rattle.nef_smap.proofs.SideLists.{get-from_at}
 use Rattle.law_complex.specs.Complexes.{Vertex as PlainVertex, Edge as PlainEdge}
@@ -15,7 +15,7 @@ use Rattle.nef_complex.specs.declared.complex.Vertex.{Vertex}
 use Rattle.nef_complex.specs.declared.complex.Edge.{Edge}
 use Rattle.nef_complex.specs.declared.complex.Complex.{Complex}
 use Rattle.nef_complex.specs.Complexes.{vertex_of, edge_of, complex_of}
-use Rattle.nef_complex.specs.Index.{LiesOn, EdgeLiesIn, AreNumbersWith}
+use Rattle.nef_complex.specs.Index.{LiesOn, EdgeLiesIn}
 use Rattle.nef_complex.specs.Planes.{HoldsBoth}
 use Rattle.nef_complex.proofs.Ends.{vertex-same}
 use Rattle.nef_plane.specs.Meets.{HoldsRay, AtVertexNumber, AtEdgeNumber}
@@ -25,11 +25,16 @@ use Rattle.nef_plane.proofs.Meeting.{level-same, ahead-level}
 pub held-vertex : (vs : List Vertex) (h : Form) (k : ℕ) (v : Vertex) → IsAt vs k v → LiesOn vs h k → form_at h (place_of v.point) ≡ pos 0
 held-vertex vs h k v a (x, l, o) = subst (λ (r : Vertex). form_at h (place_of r.point) ≡ pos 0) (is-at_one vs k x v l a) o
 
--- the ends of the edge with a number that lies in the plane are on it
-pub held-edge : (vs : List Vertex) (es : List Edge) (h : Form) (k : ℕ) (e : Edge) (u v : Vertex) → IsAt es k e → IsAt vs e.low u → IsAt vs e.high v → EdgeLiesIn vs es h k → HoldsBoth h (place_of u.point) (place_of v.point)
-held-edge vs es h k e u v a i j (f, l, m, n) =
+-- the ends of the edge with a number that lies in the plane lie on it
+pub lying-ends : (vs : List Vertex) (es : List Edge) (h : Form) (k : ℕ) (e : Edge) → IsAt es k e → EdgeLiesIn vs es h k → LiesOn vs h e.low × LiesOn vs h e.high
+lying-ends vs es h k e a (f, l, m, n) =
     let o = is-at_one es k f e l a in
-    (held-vertex vs h e.low u i (subst (λ (r : Edge). LiesOn vs h r.low) o m), held-vertex vs h e.high v j (subst (λ (r : Edge). LiesOn vs h r.high) o n))
+    (subst (λ (r : Edge). LiesOn vs h r.low) o m, subst (λ (r : Edge). LiesOn vs h r.high) o n)
+
+pub held-edge : (vs : List Vertex) (es : List Edge) (h : Form) (k : ℕ) (e : Edge) (u v : Vertex) → IsAt es k e → IsAt vs e.low u → IsAt vs e.high v → EdgeLiesIn vs es h k → HoldsBoth h (place_of u.point) (place_of v.point)
+held-edge vs es h k e u v a i j l =
+    let E = lying-ends vs es h k e a l in
+    (held-vertex vs h e.low u i E.0, held-vertex vs h e.high v j E.1)
 
 -- a vertex on the plane is on it as one of the program's, and an edge in it lies there as one
 module _ (c : Complex) (h : Form) where
@@ -45,12 +50,19 @@ module _ (c : Complex) (h : Form) where
         lies f.0.high w (subst (λ (r : PlainEdge). At (complex_of c).vertices r.high w) (sym f.2) H.high) j,
       )
 
-module _ (c : Complex) (h : Form) (p : Place) (d : Vector) (ns : List ℕ) where
-  pub vertex-listed : IsDirection d → HoldsRay h p d → AreNumbersWith (LiesOn c.vertices h) ns → (k : ℕ) (m : PlaneMeet) (q : Place) → IsAhead p d q → AtVertexNumber (complex_of c) k m q → (j : ℕ) × IsAt ns j k
-  vertex-listed some (on, z) N k m q w (e, (x, l, o)) =
+  pub lies-within : (k : ℕ) → LiesOn c.vertices h k → k < length c.vertices
+  lies-within k (v, l, o) = is-at_within c.vertices k v l
+
+  pub edge_lies-within : (k : ℕ) → EdgeLiesIn c.vertices c.edges h k → k < length c.edges
+  edge_lies-within k (e, l, i, j) = is-at_within c.edges k e l
+
+-- what a ray meets in a plane that holds it lies there
+module _ (c : Complex) (h : Form) (d : Vector) (k : ℕ) (m : PlaneMeet) (q : Place) where
+  pub met-lies : (p : Place) → IsDirection d → HoldsRay h p d → IsAhead p d q → AtVertexNumber (complex_of c) k m q → LiesOn c.vertices h k
+  met-lies p some (on, z) w (e, (x, l, o)) =
       let v = at-map vertex_of c.vertices k x l in
       let s = same-place_sym (place_of v.0.point) q (vertex-same c k v.0 v.1 q (x, l, o)) in
-      N.all k (v.0, get-from_at c.vertices k v.0 v.1, level-same h q (place_of v.0.point) s (ahead-level h p d q w some on z))
+      (v.0, get-from_at c.vertices k v.0 v.1, level-same h q (place_of v.0.point) s (ahead-level h p d q w some on z))
 
-  pub edge-listed : AreNumbersWith (EdgeLiesIn c.vertices c.edges h) ns → (k : ℕ) (m : PlaneMeet) (q : Place) → IsAhead p d q → AtEdgeNumber (complex_of c) h d k m q → (j : ℕ) × IsAt ns j k
-  edge-listed N k m q w (o, e, v, x, a, H, b, (i, j), n) = N.all k (edge-lies c h k (e, v, x, a, H, i, j))
+  pub met-edge_lies : AtEdgeNumber (complex_of c) h d k m q → EdgeLiesIn c.vertices c.edges h k
+  met-edge_lies (o, e, v, x, a, H, b, (i, j), n) = edge-lies c h k (e, v, x, a, H, i, j)

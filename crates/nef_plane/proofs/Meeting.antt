@@ -24,7 +24,7 @@ use Rattle.law_complex.proofs.FacetAngles.{through-at, through-slope}
 use Rattle.law_complex.proofs.Planes.{plane-way}
 use Rattle.law_complex.proofs.Ways.{same-itself}
 use Rattle.nef_complex.specs.Planes.{HoldsBoth}
-use Rattle.nef_plane.specs.Meets.{IsAlongAxis, sweep_axis, sweep_form, AreOpposite, NoneCrosses, IsMet, AllHold}
+use Rattle.nef_plane.specs.Meets.{IsParallelToAxis, sweep_axis, sweep_form, AreOpposite, NoneCrosses, IsMet, AllHold}
 use Rattle.nef_plane.proofs.Axes.{axis-some, axis-level, axis-keeps, axis-parallel}
 use Rattle.nef_complex.proofs.Parted.{times-nought, parted-cut, held-between, crossed-parted}
 
@@ -47,14 +47,9 @@ opposite-by x y (inr (m, n)) = sign_of-positive x m ∙ sym (sign_of-positive (n
 opposite-noughts : (x y : ℤ) → x ≡ pos 0 → y ≡ pos 0 → sign_of x ≡ sign_of (neg_ℤ y)
 opposite-noughts x y e f = ap sign_of e ∙ sym (ap (λ z. sign_of (neg_ℤ z)) f)
 
--- a point lies on another side than itself, or on the plane, exactly where it lies on it
+-- a point on the plane lies on no side
 pub level-opposite : (k : Form) (a : Place) → form_at k a ≡ pos 0 → AreOpposite k a a
 level-opposite k a e = opposite-noughts (form_at k a) (form_at k a) e e
-
-pub opposite-level : (k : Form) (a : Place) → AreOpposite k a a → form_at k a ≡ pos 0
-opposite-level k a o = ⊎_elim
-    (λ s. absurd (⊎_elim (λ (m : (form_at k a <ℤ pos 0) × (pos 0 <ℤ form_at k a)). let x = m.0 in let y = m.1 in omega (arith, ints)) (λ (m : (pos 0 <ℤ form_at k a) × (form_at k a <ℤ pos 0)). let x = m.0 in let y = m.1 in omega (arith, ints)) s))
-    (λ z. z.0) (opposite-cases (form_at k a) (form_at k a) o)
 
 -- ---- planes through points
 weight : (r : Place) → pos 0 <ℤ pos r.w
@@ -77,7 +72,7 @@ between-opposite k a b y w e = ⊎_elim
     (λ i. ⊎_elim (λ j. opposite-noughts (form_at k a) (form_at k b) i j) (λ n. opposite-by (form_at k a) (form_at k b) (crossed-parted k a b y w e (λ z. n z.1))) (nought-or (form_at k b)))
     (λ n. opposite-by (form_at k a) (form_at k b) (crossed-parted k a b y w e (λ z. n z.0))) (nought-or (form_at k a))
 
-module _ (h : Plane) (p : Place) (d : Vector) (A : IsAlongAxis (form_of h) d) (on : form_at (form_of h) p ≡ pos 0) where
+module _ (h : Plane) (p : Place) (d : Vector) (A : IsParallelToAxis (form_of h) d) (on : form_at (form_of h) p ≡ pos 0) where
   abbrev e : Vector
   e = sweep_axis (form_of h)
 

@@ -1,17 +1,19 @@
 -- The nearest of what a ray meets.
-use Rattle.std.proofs.Common.{◌≡◌, ℕ, ◌<◌, ◌≤◌, ◌+◌, List, length, Option, Some, None, arith, refl, sym, ◌⊎◌, inl, inr, ⊎_elim, subst}
+use Rattle.std.proofs.Common.{◌≡◌, ℕ, ◌<◌, ◌≤◌, ◌+◌, Option, Some, None, arith, refl, sym, ◌⊎◌, inl, inr, ⊎_elim, subst}
 use Rattle.std.proofs.Math.Nat.{eq-or-lt_of_le}
 use Rattle.nef_space.specs.Place.{Place, toward, IsAhead, IsBetween}
 use Rattle.nef_space.specs.Vectors.{Vector}
 use Rattle.law_forms.proofs.Between.{between-same}
 use Rattle.law_near.proofs.Between.{between-inner}
-use Rattle.nef_classes.proofs.ClassLists.{is-at_one, is-at_within}
-use Rattle.nef_space.specs.Lists.{IsAt}
 use Rattle.law_sphere.proofs.Compare.{SameDirection-turned, SameDirection-trans}
 use Rattle.law_complex.proofs.Ways.{between-way, same-itself}
 use Rattle.law_complex.specs.Skeleton.{PlaneMeet}
 use Rattle.std.specs.Prelude.{IfSome}
-use Rattle.nef_plane.specs.Meets.{Encounter, IsReachedMet, IsNearest, IsNearestMet, IsNearer, IsNotPast}
+use Rattle.nef_plane.specs.Asked.{count_of, IsNth}
+use Rattle.nef_plane.specs.Meets.{Encounter, IsReachedMet, IsMissed, IsNearest, IsNearestMet, IsNearer, IsNotPast}
+use Rattle.nef_plane.specs.declared.numbers.Numbers.{Numbers}
+use Rattle.nef_plane.proofs.Asking.{nth-one, nth-within}
+use Rattle.nef_plane.proofs.Choosing.{keep-first}
 
 -- what lies between a point and one ahead of it is ahead
 pub between-ahead : (p q x : Place) (d : Vector) → IsBetween p q x → IsAhead p d x → IsAhead p d q
@@ -24,9 +26,13 @@ module _ {X : Type 0} (seen : X → Encounter) (p : Place) (d : Vector) where
       (λ s. between-same p q x.at.place p q y.at.place (same-itself p) (same-itself q) s b)
       (λ f. between-inner p x.at.place y.at.place q (SameDirection-trans (toward p x.at.place) d (toward x.at.place y.at.place) w (SameDirection-turned (toward x.at.place y.at.place) d f)) b) n
 
-  pub nearest-reached : (P : PlaneMeet → Place → Type 0) (o : Option X) → IsNearest seen p d P o → IfSome o (λ x. IsReachedMet p d (seen x))
+  nearest-reached : (P : PlaneMeet → Place → Type 0) (o : Option X) → IsNearest seen p d P o → IfSome o (λ x. IsReachedMet p d (seen x))
   nearest-reached P None A = tt
   nearest-reached P (Some x) A = A.reached
+
+  -- r is the nearer of two that stand at their steps
+  abbrev pub NearerOf : Option X → Option X → Option X → Type 0
+  NearerOf a b r = IfSome a (λ x. IsReachedMet p d (seen x)) → IfSome b (λ x. IsReachedMet p d (seen x)) → IsNearer seen d a b r
 
   module _ (P Q : PlaneMeet → Place → Type 0) where
     abbrev Either : PlaneMeet → Place → Type 0
@@ -38,21 +44,21 @@ module _ {X : Type 0} (seen : X → Encounter) (p : Place) (d : Vector) where
     right : (x r : X) → r ≡ x → IsNearestMet p d Q (seen x) → ((n : PlaneMeet) (q : Place) → IsBetween p q (seen r).at.place → P n q → ⊥) → IsNearestMet p d Either (seen r)
     right x r e A f = let B : IsNearestMet p d Q (seen r) = subst (λ (y : X). IsNearestMet p d Q (seen y)) (sym e) A in record { reached = B.reached; ahead = B.ahead; met = inr B.met; first = λ n q b. ⊎_elim (f n q b) (B.first n q b) }
 
-    pub nearest-either : (a b r : Option X) → IsNearer seen d a b r → IsNearest seen p d P a → IsNearest seen p d Q b → IsNearest seen p d Either r
-    nearest-either None None None N A B = λ n q w. ⊎_elim (A n q w) (B n q w)
-    nearest-either None None (Some r) N A B = absurd (⊎_elim (λ (e : Some r ≡ None). cc) (λ (e : Some r ≡ None). cc) N.one)
-    nearest-either (Some x) None None N A B = let y = N.first x refl in let e : None ≡ Some y.0 = y.1 in cc
-    nearest-either None (Some x) None N A B = let y = N.second x refl in let e : None ≡ Some y.0 = y.1 in cc
-    nearest-either (Some x) (Some z) None N A B = let y = N.first x refl in let e : None ≡ Some y.0 = y.1 in cc
-    nearest-either (Some x) None (Some r) N A B = ⊎_elim
+    either : (a b r : Option X) → IsNearer seen d a b r → IsNearest seen p d P a → IsNearest seen p d Q b → IsNearest seen p d Either r
+    either None None None N A B = λ n q w. ⊎_elim (A n q w) (B n q w)
+    either None None (Some r) N A B = absurd (⊎_elim (λ (e : Some r ≡ None). cc) (λ (e : Some r ≡ None). cc) N.one)
+    either (Some x) None None N A B = let y = N.first x refl in let e : None ≡ Some y.0 = y.1 in cc
+    either None (Some x) None N A B = let y = N.second x refl in let e : None ≡ Some y.0 = y.1 in cc
+    either (Some x) (Some z) None N A B = let y = N.first x refl in let e : None ≡ Some y.0 = y.1 in cc
+    either (Some x) None (Some r) N A B = ⊎_elim
         (λ (e : Some r ≡ Some x). let f : r ≡ x = cc in
         left x r f A (λ n q b. B n q (between-ahead p q (seen r).at.place d b (subst (λ (v : X). IsAhead p d (seen v).at.place) (sym f) A.ahead))))
         (λ (e : Some r ≡ None). absurd cc) N.one
-    nearest-either None (Some x) (Some r) N A B = ⊎_elim
+    either None (Some x) (Some r) N A B = ⊎_elim
         (λ (e : Some r ≡ None). absurd cc)
         (λ (e : Some r ≡ Some x). let f : r ≡ x = cc in
         right x r f B (λ n q b. A n q (between-ahead p q (seen r).at.place d b (subst (λ (v : X). IsAhead p d (seen v).at.place) (sym f) B.ahead)))) N.one
-    nearest-either (Some x) (Some z) (Some r) N A B = ⊎_elim
+    either (Some x) (Some z) (Some r) N A B = ⊎_elim
         (λ (e : Some r ≡ Some x). let f : r ≡ x = cc in let y = N.second z refl in let g : r ≡ y.0 = some-is r y.0 y.1 in
         left x r f A (λ n q b. B.first n q (inner (seen r) (seen z) q (subst (λ (v : X). IsAhead p d (seen v).at.place) (sym f) A.ahead) (subst (λ (v : X). IsNotPast d (seen v) (seen z)) (sym g) y.2) b)))
         (λ (e : Some r ≡ Some z). let f : r ≡ z = cc in let y = N.first x refl in let g : r ≡ y.0 = some-is r y.0 y.1 in
@@ -60,6 +66,9 @@ module _ {X : Type 0} (seen : X → Encounter) (p : Place) (d : Vector) where
       where
         some-is : (r y : X) → Some r ≡ Some y → r ≡ y
         some-is r y e = cc
+
+    pub nearest-either : (a b r : Option X) → NearerOf a b r → IsNearest seen p d P a → IsNearest seen p d Q b → IsNearest seen p d Either r
+    nearest-either a b r N A B = either a b r (N (nearest-reached P a A) (nearest-reached Q b B)) A B
 
     -- the same of what is the same ahead
     nearest-as : (o : Option X) → ((m : PlaneMeet) (q : Place) → P m q → Q m q) → ((m : PlaneMeet) (q : Place) → IsAhead p d q → Q m q → P m q) → IsNearest seen p d P o → IsNearest seen p d Q o
@@ -74,25 +83,26 @@ module _ {X : Type 0} (seen : X → Encounter) (p : Place) (d : Vector) where
     abbrev pub Any : PlaneMeet → Place → Type 0
     Any m q = (k : ℕ) × R k m q
 
-    pub nearest-more : (i : ℕ) (a b r : Option X) → IsNearer seen d a b r → IsNearest seen p d (First i) a → IsNearest seen p d (R i) b → IsNearest seen p d (First (i + 1)) r
+    nearest-more : (i : ℕ) (a b r : Option X) → NearerOf a b r → IsNearest seen p d (First i) a → IsNearest seen p d (R i) b → IsNearest seen p d (First (i + 1)) r
     nearest-more i a b r N A B = nearest-as (λ m q. First i m q ⊎ R i m q) (First (i + 1)) r
         (λ m q. ⊎_elim (λ (x : First i m q). let l = x.1 in (x.0, omega (arith, l), x.2)) (λ (x : R i m q). (i, omega arith, x)))
         (λ m q w (k, l, x). ⊎_elim (λ o. inr (subst (λ j. R j m q) o x)) (λ o. inl (k, o, x)) (eq-or-lt_of_le {n = k} {m = i} (omega (arith, l))))
         (nearest-either (First i) (R i) a b r N A B)
 
-    pub nearest-all : (i : ℕ) (o : Option X) → ((k : ℕ) (m : PlaneMeet) (q : Place) → R k m q → k < i) → IsNearest seen p d (First i) o → IsNearest seen p d Any o
-    nearest-all i o f A = nearest-as (First i) Any o (λ m q x. (x.0, x.2)) (λ m q w x. (x.0, f x.0 m q x.1, x.1)) A
+  -- ---- of those that are asked
+  module _ (N : Numbers) (R : ℕ → PlaneMeet → Place → Type 0) where
+    abbrev pub InPlace : ℕ → PlaneMeet → Place → Type 0
+    InPlace i m q = (k : ℕ) × IsNth N i k × R k m q
 
-  -- ---- of those with listed numbers
-  module _ (ns : List ℕ) (R : ℕ → PlaneMeet → Place → Type 0) where
-    abbrev pub Listed : ℕ → PlaneMeet → Place → Type 0
-    Listed i m q = (k : ℕ) × IsAt ns i k × R k m q
+    pub asked-more : (i k : ℕ) (a b r o : Option X) → o ≡ r → IsNth N i k → NearerOf a b r → IsNearest seen p d (First InPlace i) a → IsNearest seen p d (R k) b → IsNearest seen p d (First InPlace (i + 1)) o
+    asked-more i k a b r o e l M A B = subst (IsNearest seen p d (First InPlace (i + 1))) (sym e) (nearest-more InPlace i a b r M A
+        (nearest-as (R k) (InPlace i) b (λ m q x. (k, l, x)) (λ m q w (j, t, x). subst (λ (n : ℕ). R n m q) (nth-one N i j k t l) x) B))
 
-    pub listed-more : (i k : ℕ) (a b r : Option X) → IsAt ns i k → IsNearer seen d a b r → IsNearest seen p d (First Listed i) a → IsNearest seen p d (R k) b → IsNearest seen p d (First Listed (i + 1)) r
-    listed-more i k a b r l N A B = nearest-more Listed i a b r N A
-        (nearest-as (R k) (Listed i) b (λ m q x. (k, l, x)) (λ m q w (j, t, x). subst (λ (n : ℕ). R n m q) (is-at_one ns i j k t l) x) B)
+    -- one that isn't met is passed over
+    pub asked-past : (i k : ℕ) (a o : Option X) → o ≡ a → IsNth N i k → IsNearest seen p d (First InPlace i) a → IsMissed p d (R k) → IsNearest seen p d (First InPlace (i + 1)) o
+    asked-past i k a o e l A B = asked-more i k a None a o e l (λ x y. keep-first seen d a None a refl refl) A B
 
-    -- where each that is met ahead is listed, the nearest of those listed is the nearest of all
-    pub listed-all : (i : ℕ) (o : Option X) → length ns ≤ i → ((k : ℕ) (m : PlaneMeet) (q : Place) → IsAhead p d q → R k m q → (j : ℕ) × IsAt ns j k) → IsNearest seen p d (First Listed i) o → IsNearest seen p d (Any R) o
-    listed-all i o l f A = nearest-as (First Listed i) (Any R) o (λ m q (j, t, y). (y.0, y.2))
-        (λ m q w (k, x). let a = f k m q w x in let t = is-at_within ns a.0 k a.1 in (a.0, omega (arith, l, t), (k, a.1, x))) A
+    -- where each that is met ahead is asked, the nearest of those asked is the nearest of all
+    pub asked-all : (i : ℕ) (o : Option X) → count_of N ≤ i → ((k : ℕ) (m : PlaneMeet) (q : Place) → IsAhead p d q → R k m q → (j : ℕ) × IsNth N j k) → IsNearest seen p d (First InPlace i) o → IsNearest seen p d (Any R) o
+    asked-all i o l f A = nearest-as (First InPlace i) (Any R) o (λ m q (j, t, y). (y.0, y.2))
+        (λ m q w (k, x). let a = f k m q w x in let t = nth-within N a.0 k a.1 in (a.0, omega (arith, l, t), (k, a.1, x))) A

@@ -1,7 +1,8 @@
 -- What the course of a ray within a plane passes over, the ray doesn't meet.
-use Rattle.std.proofs.Common.{◌≡◌, ℕ, zero, suc, ◌≤◌, ℤ, pos, negsuc, ◌<ℤ◌, ◌≤ℤ◌, None, arith, inl, inr, sym, ◌∙◌, subst}
+use Rattle.std.proofs.Common.{◌≡◌, ℕ, zero, suc, ◌≤◌, ℤ, pos, negsuc, ◌<ℤ◌, ◌≤ℤ◌, arith, inl, inr, ⊎_elim, sym, ◌∙◌, subst}
 use Rattle.std.proofs.lemmas.Int.{ints}
 use Rattle.law_arithmetic.proofs.Order.{by_order, sign-plus, sign-minus, plus-is, minus-is}
+use Rattle.nef_space.specs.Lists.{IsAt}
 use Rattle.nef_space.specs.Place.{Place, Form, form_at, SamePlace, IsAhead, IsBetween}
 use Rattle.nef_space.specs.Sets.{Set}
 use Rattle.nef_space.specs.Vectors.{Vector, dot, IsDirection}
@@ -18,14 +19,15 @@ use Rattle.nef_complex.specs.declared.complex.Vertex.{Vertex}
 use Rattle.nef_complex.specs.declared.complex.Edge.{Edge}
 use Rattle.nef_complex.specs.declared.complex.Complex.{Complex}
 use Rattle.nef_complex.specs.Complexes.{edge_of, complex_of}
-use Rattle.nef_complex.specs.Index.{EdgeLiesIn}
+use Rattle.nef_complex.specs.Index.{LiesOn, EdgeLiesIn}
 use Rattle.nef_complex.proofs.Ends.{listed_edge}
 use Rattle.nef_complex.proofs.Reading.{got-at}
-use Rattle.nef_plane.specs.Courses.{IsCourse, IsPassed}
-use Rattle.nef_plane.specs.Meets.{AtVertexNumber, AtEdgeNumber, IsNearest, met_of, sweep_axis, sweep_form}
+use Rattle.nef_plane.specs.Courses.{IsOffCourse, IsCourse, IsPassed}
+use Rattle.nef_plane.specs.Meets.{AtVertexNumber, AtEdgeNumber, sweep_axis, sweep_form, IsMissed}
 use Rattle.nef_plane.specs.declared.course.Course.{Course}
 use Rattle.nef_plane.proofs.Found.{vertex-none, edge-none}
 use Rattle.nef_plane.proofs.Ordered.{start-level, ahead-past, ahead-before, between-at_most, between-at_least, later-past, later-from}
+use Rattle.nef_plane.proofs.RayPlanes.{beside-vertex, beside-edge}
 
 plus_sign : (z : ℤ) → sign_of z ≡ Plus → pos 0 <ℤ z
 plus_sign (pos zero) e = cc
@@ -37,7 +39,7 @@ minus_sign (pos zero) e = cc
 minus_sign (pos (suc n)) e = cc
 minus_sign (negsuc n) e = omega (arith, ints)
 
-module _ (s : Set) (c : Complex) (S : Shows s (complex_of c)) (h : Plane) (P : Point) (d : Vector) (some : IsDirection d) (x : Course) (K : IsCourse c.vertices (form_of h) P d x) (on : form_at (form_of h) (place_of P) ≡ pos 0) where
+module _ (s : Set) (c : Complex) (S : Shows s (complex_of c)) (h : Plane) (P : Point) (d : Vector) (some : IsDirection d) (x : Course) (K : IsCourse c.vertices (form_of h) P d x) where
   abbrev p : Place
   p = place_of P
 
@@ -51,7 +53,7 @@ module _ (s : Set) (c : Complex) (S : Shows s (complex_of c)) (h : Plane) (P : P
   at-start = got-at c.vertices x.start w K.start.1
 
   start-on : form_at (form_of h) (place_of w.point) ≡ pos 0
-  start-on = subst (λ (r : Point). form_at (form_of h) (place_of r) ≡ pos 0) (sym K.start.2) on
+  start-on = subst (λ (r : Point). form_at (form_of h) (place_of r) ≡ pos 0) (sym K.start.2) K.holds.0
 
   start-nought : form_at k (place_of w.point) ≡ pos 0
   start-nought = subst (λ (r : Point). form_at k (place_of r) ≡ pos 0) (sym K.start.2) (start-level h p)
@@ -70,7 +72,7 @@ module _ (s : Set) (c : Complex) (S : Shows s (complex_of c)) (h : Plane) (P : P
   back : x.sweep ≡ Minus → (q : Place) → IsAhead p d q → form_at k q <ℤ pos 0
   back e q m = ahead-before h p d q m (minus_sign (dot (sweep_axis (form_of h)) d) (sym K.sweep ∙ e))
 
-  pub passed-vertex : (n : ℕ) (v : Vertex) → At c.vertices n v → form_at (form_of h) (place_of v.point) ≡ pos 0 → IsPassed x n n → IsNearest met_of p d (AtVertexNumber (complex_of c) n) None
+  passed-vertex : (n : ℕ) (v : Vertex) → At c.vertices n v → form_at (form_of h) (place_of v.point) ≡ pos 0 → IsPassed x n n → IsMissed p d (AtVertexNumber (complex_of c) n)
   passed-vertex n v a o f = vertex-none s c S p d some n v a (λ q m e. absurd (never q m e f))
     where
       never : (q : Place) → IsAhead p d q → SamePlace (place_of v.point) q → IsPassed x n n → ⊥
@@ -97,10 +99,21 @@ module _ (s : Set) (c : Complex) (S : Shows s (complex_of c)) (h : Plane) (P : P
         let z = between-at_least k (place_of u.point) q (place_of v.point) b (not-before e.low u i on_u o) (not-before e.high v j on_v (omega (arith, o, t))) in
         omega (arith, ints)
 
-    none-met : IsPassed x e.low e.high → IsNearest met_of p d (AtEdgeNumber (complex_of c) (form_of h) d n) None
+    none-met : IsPassed x e.low e.high → IsMissed p d (AtEdgeNumber (complex_of c) (form_of h) d n)
     none-met f = edge-none s c S (form_of h) p d some n e u v l i j (λ q m b o. absurd (never q m b f))
 
-  pub passed-edge : (n : ℕ) (e : Edge) → At c.edges n e → EdgeLiesIn c.vertices c.edges (form_of h) n → IsPassed x e.low e.high → IsNearest met_of p d (AtEdgeNumber (complex_of c) (form_of h) d n) None
+  passed-edge : (n : ℕ) (e : Edge) → At c.edges n e → EdgeLiesIn c.vertices c.edges (form_of h) n → IsPassed x e.low e.high → IsMissed p d (AtEdgeNumber (complex_of c) (form_of h) d n)
   passed-edge n e l (f, a, (u, i, o), (v, j, r)) =
       let g = at-one c.edges n f e (got-at c.edges n f a) l in
       none-met n e l u v (subst (λ (r : Edge). At c.vertices r.low u) g (got-at c.vertices f.low u i)) (subst (λ (r : Edge). At c.vertices r.high v) g (got-at c.vertices f.high v j)) o r
+
+  -- nor does it meet what a plane through it with the course's normal has on one side
+  pub off-vertex : (n : ℕ) → LiesOn c.vertices (form_of h) n → IsOffCourse c.vertices P x n n → IsMissed p d (AtVertexNumber (complex_of c) n)
+  off-vertex n (v, l, o) = let a = got-at c.vertices n v l in ⊎_elim (passed-vertex n v a o) (λ f. beside-vertex s c S P d some x.normal n v a K.across (f v v l l))
+
+  pub off-edge : (n : ℕ) (e : Edge) → At c.edges n e → EdgeLiesIn c.vertices c.edges (form_of h) n → IsOffCourse c.vertices P x e.low e.high → IsMissed p d (AtEdgeNumber (complex_of c) (form_of h) d n)
+  off-edge n e l (f, a, (u, i, o), (v, j, r)) =
+      let g = at-one c.edges n f e (got-at c.edges n f a) l in
+      let i' = subst (λ (r : Edge). IsAt c.vertices r.low u) g i in let j' = subst (λ (r : Edge). IsAt c.vertices r.high v) g j in
+      ⊎_elim (passed-edge n e l (f, a, (u, i, o), (v, j, r)))
+      (λ t. beside-edge s c S P d some x.normal h n e u v l (got-at c.vertices e.low u i') (got-at c.vertices e.high v j') K.across (t u v i' j'))

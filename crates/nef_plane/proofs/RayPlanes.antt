@@ -29,7 +29,7 @@ use Rattle.nef_complex.specs.declared.complex.Vertex.{Vertex}
 use Rattle.nef_complex.specs.declared.complex.Edge.{Edge}
 use Rattle.nef_complex.specs.declared.complex.Complex.{Complex}
 use Rattle.nef_complex.specs.Complexes.{complex_of}
-use Rattle.nef_plane.specs.Meets.{AreOpposite, HoldsRay, AtVertexNumber, AtEdgeNumber, IsNearest, met_of}
+use Rattle.nef_plane.specs.Meets.{AreOpposite, HoldsRay, AtVertexNumber, AtEdgeNumber, IsMissed}
 use Rattle.nef_plane.specs.Parting.{product_limit, ray_form, IsAcrossRay}
 use Rattle.nef_plane.proofs.Found.{vertex-none, edge-none}
 use Rattle.nef_plane.proofs.Meeting.{level-same, level-opposite, ahead-level, between-opposite}
@@ -96,10 +96,10 @@ holds-ray n p d e = (
 
 -- ---- what the ray doesn't meet
 module _ (s : Set) (c : Complex) (S : Shows s (complex_of c)) (p : Point) (d : Vector) (some : IsDirection d) (o : Option Dir) where
-  pub beside-vertex : (k : ℕ) (v : Vertex) → At c.vertices k v → IfSome o (IsAcrossRay d) → MatchOption o ⊥ (λ n. AreOpposite (ray_form n p) (place_of v.point) (place_of v.point) → ⊥) → IsNearest met_of (place_of p) d (AtVertexNumber (complex_of c) k) None
+  pub beside-vertex : (k : ℕ) (v : Vertex) → At c.vertices k v → IfSome o (IsAcrossRay d) → MatchOption o ⊥ (λ n. AreOpposite (ray_form n p) (place_of v.point) (place_of v.point) → ⊥) → IsMissed (place_of p) d (AtVertexNumber (complex_of c) k)
   beside-vertex k v a = by o
     where
-      by : (o : Option Dir) → IfSome o (IsAcrossRay d) → MatchOption o ⊥ (λ n. AreOpposite (ray_form n p) (place_of v.point) (place_of v.point) → ⊥) → IsNearest met_of (place_of p) d (AtVertexNumber (complex_of c) k) None
+      by : (o : Option Dir) → IfSome o (IsAcrossRay d) → MatchOption o ⊥ (λ n. AreOpposite (ray_form n p) (place_of v.point) (place_of v.point) → ⊥) → IsMissed (place_of p) d (AtVertexNumber (complex_of c) k)
       by None e f = absurd f
       by (Some n) e f =
           let h = holds-ray n p d e in
@@ -107,10 +107,10 @@ module _ (s : Set) (c : Complex) (S : Shows s (complex_of c)) (p : Point) (d : V
           (λ q w m. absurd (f (level-opposite (ray_form n p) (place_of v.point) (level-same (ray_form n p) q (place_of v.point) (same-place_sym (place_of v.point) q m) (ahead-level (ray_form n p) (place_of p) d q w some h.0 h.1)))))
 
   pub beside-edge : (h : Plane) (k : ℕ) (e : Edge) (u v : Vertex) → At c.edges k e → At c.vertices e.low u → At c.vertices e.high v → IfSome o (IsAcrossRay d)
-      → MatchOption o ⊥ (λ n. AreOpposite (ray_form n p) (place_of u.point) (place_of v.point) → ⊥) → IsNearest met_of (place_of p) d (AtEdgeNumber (complex_of c) (form_of h) d k) None
+      → MatchOption o ⊥ (λ n. AreOpposite (ray_form n p) (place_of u.point) (place_of v.point) → ⊥) → IsMissed (place_of p) d (AtEdgeNumber (complex_of c) (form_of h) d k)
   beside-edge h k e u v l i j = by o
     where
-      by : (o : Option Dir) → IfSome o (IsAcrossRay d) → MatchOption o ⊥ (λ n. AreOpposite (ray_form n p) (place_of u.point) (place_of v.point) → ⊥) → IsNearest met_of (place_of p) d (AtEdgeNumber (complex_of c) (form_of h) d k) None
+      by : (o : Option Dir) → IfSome o (IsAcrossRay d) → MatchOption o ⊥ (λ n. AreOpposite (ray_form n p) (place_of u.point) (place_of v.point) → ⊥) → IsMissed (place_of p) d (AtEdgeNumber (complex_of c) (form_of h) d k)
       by None a f = absurd f
       by (Some n) a f =
           let r = holds-ray n p d a in

@@ -1,7 +1,7 @@
 -- What a ray crosses of the planes that hold a vertex or an edge.
-use Rattle.std.proofs.Common.{◌≡◌, ℕ, pos, ⊎_elim, inl, inr, Option, Some, None, List, refl, ◌↔◌}
+use Rattle.std.proofs.Common.{◌≡◌, ℕ, pos, ⊎_elim, inl, inr, Option, Some, None, refl, ◌↔◌}
 use Rattle.std.specs.Prelude.{IsNone, IfSome}
-use Rattle.nef_space.specs.Place.{Place, slope, SamePlace, IsAhead, IsBetween, form_at}
+use Rattle.nef_space.specs.Place.{Place, SamePlace, IsAhead, IsBetween, form_at}
 use Rattle.nef_space.specs.Sets.{Set}
 use Rattle.nef_space.specs.Vectors.{Vector, IsDirection}
 use Rattle.nef_geo.specs.Hits.{IsCrossing, IsReached}
@@ -10,7 +10,6 @@ use Rattle.nef_geo.specs.declared.hit.Hit.{Hit}
 use Rattle.nef_geo.specs.declared.plane.Plane.{Plane}
 use Rattle.law_sphere.specs.Maps.{At}
 use Rattle.law_forms.proofs.Between.{between-same}
-use Rattle.law_forms.proofs.Far.{nought-or}
 use Rattle.law_near.proofs.Rays.{same-place_sym}
 use Rattle.nef_smap.proofs.Lists.{map-at}
 use Rattle.law_complex.specs.Shows.{Shows}
@@ -25,17 +24,13 @@ use Rattle.nef_complex.specs.Planes.{HoldsBoth}
 use Rattle.nef_complex.proofs.Ends.{vertex-same, listed_edge, ends, edge-inside}
 use Rattle.nef_complex.proofs.Lines.{one-crossing}
 use Rattle.nef_complex.proofs.Parted.{held-between}
-use Rattle.nef_plane.specs.Meets.{Reach, reach_of, met_of, HoldsRay, IsHitThrough, AllHold, IsAcross, IsWithin, AtVertexNumber, AtEdgeNumber, IsNearest, IsNearestMet}
+use Rattle.nef_plane.specs.Meets.{Reach, reach_of, near_met_of, IsHitThrough, AllHold, IsAcross, IsWithin, AtVertexNumber, AtEdgeNumber, IsNearestMet, IsMissed}
 use Rattle.nef_plane.proofs.Found.{both-same, vertex-some, vertex-none, edge-some, edge-none}
-use Rattle.nef_plane.proofs.Meeting.{level-same, ahead-level}
+use Rattle.nef_plane.proofs.Meeting.{level-same}
 
 -- a plane that holds both points holds what is within
 pub within-level : (g : Plane) (a b y : Place) → HoldsBoth (form_of g) a b → IsWithin a b y → form_at (form_of g) y ≡ pos 0
 within-level g a b y H = ⊎_elim (λ (w : IsBetween a y b). held-between (form_of g) a b y w H) (λ (s : SamePlace a y × SamePlace b y). level-same (form_of g) a y s.0 H.0)
-
--- where none is across the ray, all that hold both points are along it
-pub all-along : (gs : List Plane) (d : Vector) (a b : Place) → ((k : ℕ) (g : Plane) → At gs k g → IsAcross d a b g → ⊥) → AllHold gs d a b
-all-along gs d a b N k g l H = ⊎_elim (λ e. e) (λ f. absurd (N k g l (H, f))) (nought-or (slope (form_of g) d))
 
 module _ (o : Option Hit) (p : Place) (d : Vector) (g : Plane) (a b : Place) (A : IsAcross d a b g) where
   pub across-through : IfSome o (λ q. IsCrossing p d (form_of g) (hit_place q)) → IfSome o (λ q. IsReached p d q.num q.den q.den_sign (hit_place q)) → IfSome o (λ q. IsHitThrough p d a b (reach_of q))
@@ -60,21 +55,17 @@ module _ (s : Set) (c : Complex) (S : Shows s (complex_of c)) (p : Place) (d : V
     y = place_of v.point
 
     -- it isn't met, where no plane through it is crossed
-    pub uncrossed-vertex : ((q : Place) → IsAhead p d q → IsWithin y y q → AllHold c.carriers d y y) → IsNearest met_of p d (AtVertexNumber (complex_of c) k) None
+    pub uncrossed-vertex : ((q : Place) → IsAhead p d q → IsWithin y y q → AllHold c.carriers d y y) → IsMissed p d (AtVertexNumber (complex_of c) k)
     uncrossed-vertex N = vertex-none s c S p d some k v a (λ q w o. N q w (inr (o, o)))
-
-    -- nor where a plane holds the ray but not the vertex
-    pub off-vertex : (h : Plane) → HoldsRay (form_of h) p d → (form_at (form_of h) y ≡ pos 0 → ⊥) → IsNearest met_of p d (AtVertexNumber (complex_of c) k) None
-    off-vertex h (e, z) n = vertex-none s c S p d some k v a (λ q w o. absurd (n (level-same (form_of h) q y (same-place_sym y q o) (ahead-level (form_of h) p d q w some e z))))
 
     module _ (at : Hit) (T : IsHitThrough p d y y (reach_of at)) where
       -- nor where one is crossed elsewhere
-      pub missed-vertex : (IsVertexPoint (complex_of c) k (hit_place at) → ⊥) → IsNearest met_of p d (AtVertexNumber (complex_of c) k) None
+      pub missed-vertex : (IsVertexPoint (complex_of c) k (hit_place at) → ⊥) → IsMissed p d (AtVertexNumber (complex_of c) k)
       missed-vertex n = vertex-none s c S p d some k v a
           (λ q w o. absurd (n (vertex_of v, map-at vertex_of c.vertices k v a, both-same y (hit_place at) q o (same-place_sym q (hit_place at) (through-one p d y y (reach_of at) T q w (inr (o, o)))))))
 
-      pub reached-vertex : IsVertexPoint (complex_of c) k (hit_place at) → IsNearestMet p d (AtVertexNumber (complex_of c) k) (met_of (record { meet = AtVertex k; at = at }))
-      reached-vertex x = vertex-some s c S p d some k v a (met_of (record { meet = AtVertex k; at = at })) refl (vertex-same c k v a (hit_place at) x) T.crosses.ahead T.reached
+      pub reached-vertex : IsVertexPoint (complex_of c) k (hit_place at) → IsNearestMet p d (AtVertexNumber (complex_of c) k) (near_met_of (record { meet = AtVertex k; at = at }))
+      reached-vertex x = vertex-some s c S p d some k v a (near_met_of (record { meet = AtVertex k; at = at })) refl (vertex-same c k v a (hit_place at) x) T.crosses.ahead T.reached
 
   -- ---- an edge
   module _ (h : Plane) (k : ℕ) (e : Edge) (u v : Vertex) (l : At c.edges k e) (i : At c.vertices e.low u) (j : At c.vertices e.high v) where
@@ -84,17 +75,13 @@ module _ (s : Set) (c : Complex) (S : Shows s (complex_of c)) (p : Place) (d : V
     abbrev high : Place
     high = place_of v.point
 
-    -- it isn't met, where it doesn't lie in the plane
-    pub outside-edge : (HoldsBoth (form_of h) low high → ⊥) → IsNearest met_of p d (AtEdgeNumber (complex_of c) (form_of h) d k) None
-    outside-edge n = edge-none s c S (form_of h) p d some k e u v l i j (λ q w b H. absurd (n H))
-
-    -- nor where no plane through it is crossed
-    pub uncrossed-edge : ((q : Place) → IsAhead p d q → IsWithin low high q → AllHold c.carriers d low high) → IsNearest met_of p d (AtEdgeNumber (complex_of c) (form_of h) d k) None
+    -- it isn't met, where no plane through it is crossed
+    pub uncrossed-edge : ((q : Place) → IsAhead p d q → IsWithin low high q → AllHold c.carriers d low high) → IsMissed p d (AtEdgeNumber (complex_of c) (form_of h) d k)
     uncrossed-edge N = edge-none s c S (form_of h) p d some k e u v l i j (λ q w b H. N q w (inl b))
 
     module _ (at : Hit) (T : IsHitThrough p d low high (reach_of at)) where
       -- nor where one is crossed elsewhere
-      pub missed-edge : (IsEdgePoint (complex_of c) k (hit_place at) → ⊥) → IsNearest met_of p d (AtEdgeNumber (complex_of c) (form_of h) d k) None
+      pub missed-edge : (IsEdgePoint (complex_of c) k (hit_place at) → ⊥) → IsMissed p d (AtEdgeNumber (complex_of c) (form_of h) d k)
       missed-edge n = edge-none s c S (form_of h) p d some k e u v l i j
           (λ q w b H. absurd (n (
             edge_of e,
@@ -105,6 +92,6 @@ module _ (s : Set) (c : Complex) (S : Shows s (complex_of c)) (p : Place) (d : V
             between-same low q high low (hit_place at) high (same-itself low) (through-one p d low high (reach_of at) T q w (inl b)) (same-itself high) b,
           )))
 
-      pub reached-edge : HoldsBoth (form_of h) low high → IsEdgePoint (complex_of c) k (hit_place at) → IsNearestMet p d (AtEdgeNumber (complex_of c) (form_of h) d k) (met_of (record { meet = AtEdge k; at = at }))
-      reached-edge H x = edge-some s c S (form_of h) p d some k e u v l i j (met_of (record { meet = AtEdge k; at = at })) (form_of T.plane) T.holds T.crosses.passes
+      pub reached-edge : HoldsBoth (form_of h) low high → IsEdgePoint (complex_of c) k (hit_place at) → IsNearestMet p d (AtEdgeNumber (complex_of c) (form_of h) d k) (near_met_of (record { meet = AtEdge k; at = at }))
+      reached-edge H x = edge-some s c S (form_of h) p d some k e u v l i j (near_met_of (record { meet = AtEdge k; at = at })) (form_of T.plane) T.holds T.crosses.passes
           (edge-inside s c S k e u v l i j (hit_place at) x) T.crosses.ahead refl H T.reached

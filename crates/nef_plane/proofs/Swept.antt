@@ -1,5 +1,5 @@
 -- What a ray along the axis of a plane meets at a vertex and inside an edge.
-use Rattle.std.proofs.Common.{◌≡◌, ℕ, None, pos, inl, inr, ⊎_elim, refl}
+use Rattle.std.proofs.Common.{◌≡◌, ℕ, pos, inl, inr, ⊎_elim, refl}
 use Rattle.nef_space.specs.Place.{Place, form_at, SamePlace, IsBetween}
 use Rattle.nef_space.specs.Sets.{Set}
 use Rattle.nef_space.specs.Vectors.{Vector}
@@ -17,17 +17,17 @@ use Rattle.nef_complex.specs.declared.complex.Complex.{Complex}
 use Rattle.nef_complex.specs.declared.complex.PlaneMeet.TheVariants.{AtVertex, AtEdge}
 use Rattle.nef_complex.specs.Complexes.{complex_of}
 use Rattle.nef_complex.proofs.Ends.{apart}
-use Rattle.nef_plane.specs.Meets.{IsAlongAxis, IsHitThrough, IsMet, AllHold, AtVertexNumber, AtEdgeNumber, IsNearest, IsNearestMet, far_met_of, far_reach_of}
+use Rattle.nef_plane.specs.Meets.{IsParallelToAxis, IsHitThrough, IsMet, AllHold, AtVertexNumber, AtEdgeNumber, IsNearestMet, far_met_of, far_reach_of, IsMissed}
 use Rattle.nef_plane.proofs.Axes.{axis-some}
 use Rattle.nef_plane.proofs.Found.{both-same, vertex-some, vertex-none, edge-some, edge-none}
 use Rattle.nef_plane.proofs.Meeting.{level-same, ahead-on}
 
-module _ (s : Set) (c : Complex) (S : Shows s (complex_of c)) (h : Plane) (p : Place) (d : Vector) (A : IsAlongAxis (form_of h) d) (on : form_at (form_of h) p ≡ pos 0) where
+module _ (s : Set) (c : Complex) (S : Shows s (complex_of c)) (h : Plane) (p : Place) (d : Vector) (A : IsParallelToAxis (form_of h) d) (on : form_at (form_of h) p ≡ pos 0) where
   module _ (k : ℕ) (v : Vertex) (a : At c.vertices k v) where
     abbrev y : Place
     y = place_of v.point
 
-    pub swept-no_vertex : ((q : Place) → IsMet (form_of h) p d y y q → AllHold c.carriers d y y) → IsNearest far_met_of p d (AtVertexNumber (complex_of c) k) None
+    pub swept-no_vertex : ((q : Place) → IsMet (form_of h) p d y y q → AllHold c.carriers d y y) → IsMissed p d (AtVertexNumber (complex_of c) k)
     swept-no_vertex N = vertex-none s c S p d (axis-some h d A) k v a
         (λ q w o. let z = level-same (form_of h) q y (same-place_sym y q o) (ahead-on h p d A on q w) in N q (record { holds = (z, z); ahead = w; on = inr (o, o) }))
 
@@ -45,7 +45,7 @@ module _ (s : Set) (c : Complex) (S : Shows s (complex_of c)) (h : Plane) (p : P
     abbrev high : Place
     high = place_of v.point
 
-    pub swept-no_edge : ((q : Place) → IsMet (form_of h) p d low high q → AllHold c.carriers d low high) → IsNearest far_met_of p d (AtEdgeNumber (complex_of c) (form_of h) d k) None
+    pub swept-no_edge : ((q : Place) → IsMet (form_of h) p d low high q → AllHold c.carriers d low high) → IsMissed p d (AtEdgeNumber (complex_of c) (form_of h) d k)
     swept-no_edge N = edge-none s c S (form_of h) p d (axis-some h d A) k e u v l i j (λ q w b H. N q (record { holds = H; ahead = w; on = inl b }))
 
     module _ (at : FarHit) (M : IsMet (form_of h) p d low high (far_place at)) (T : IsHitThrough p d low high (far_reach_of at)) where

@@ -3,3 +3,4 @@ pub mod Meets
 pub mod Parting
 pub mod Courses
 pub mod Levels
+pub mod Asked

@@ -3,7 +3,7 @@ use Rattle.std.specs.Prelude.{◌≡◌, ℕ, ℤ, pos, ◌<ℤ◌, neg_ℤ, con
 use Rattle.std.specs.Option.{MatchOption}
 use Rattle.std.specs.Ordering.{int_eq}
 use Rattle.nef_space.specs.Place.{Place, Form, form_at, slope, normal_of, plane_through, toward, SamePlace, IsAhead, IsBetween}
-use Rattle.nef_space.specs.Vectors.{Vector, vector, cross, opposite, plane_axis, plane_dir, IsZero, SameDirection}
+use Rattle.nef_space.specs.Vectors.{Vector, vector, cross, opposite, plane_axis, plane_dir, IsZero, IsDirection, SameDirection}
 use Rattle.nef_geo.specs.Hits.{IsCrossing, IsReached}
 use Rattle.nef_geo.specs.Shapes.{form_of, hit_place, far_place}
 use Rattle.nef_geo.specs.Signs.{sign_of}
@@ -15,12 +15,15 @@ use Rattle.law_complex.specs.Complexes.{Vertex, Edge, Complex, HasEnds}
 use Rattle.law_complex.specs.Skeleton.{PlaneMeet, meets_vertex, meets_edge, IsVertexPoint, IsEdgePoint, LiesIn}
 use Rattle.nef_complex.specs.Complexes.{meet_of}
 use Rattle.nef_complex.specs.Planes.{HoldsBoth}
-use Rattle.nef_plane.specs.declared.along.Met.{Met}
-use Rattle.nef_plane.specs.declared.plane.FarMet.{FarMet}
+use Rattle.nef_plane.specs.declared.met.Met.{Met}
 
 -- the direction is that of the plane's axis, or its opposite
 abbrev pub IsAlongAxis : Form → Vector → Type 0
 IsAlongAxis h d = SameDirection d (plane_axis (normal_of h)) ⊎ SameDirection d (opposite (plane_axis (normal_of h)))
+
+-- the direction is parallel to the plane's axis
+abbrev pub IsParallelToAxis : Form → Vector → Type 0
+IsParallelToAxis h d = IsDirection d × IsZero (cross (plane_axis (normal_of h)) d)
 
 -- the direction is the second one of the plane, or its opposite
 abbrev pub IsAlongDir : Form → Vector → Type 0
@@ -63,12 +66,16 @@ reach_of q = record { place = hit_place q; num = q.num; den = q.den; den_sign = 
 abbrev pub far_reach_of : FarHit → Reach
 far_reach_of q = record { place = far_place q; num = q.num; den = q.den; den_sign = q.den_sign }
 
+-- it stands at its step along the ray
+abbrev pub IsReachedAt : Place → Vector → Reach → Type 0
+IsReachedAt p d q = IsReached p d q.num q.den q.den_sign q.place
+
 -- the ray crosses the plane, which holds both points, there
 pub record IsHitThrough (p : Place) (d : Vector) (a b : Place) (q : Reach) : Type 0 where
   pub plane : Plane
   pub holds : HoldsBoth (form_of plane) a b
   pub crosses : IsCrossing p d (form_of plane) q.place
-  pub reached : IsReached p d q.num q.den q.den_sign q.place
+  pub reached : IsReachedAt p d q
 
 -- none of the planes that hold both points crosses the ray
 abbrev pub NoneCrosses : List Plane → Place → Vector → Place → Place → Type 0
@@ -121,15 +128,18 @@ pub record Encounter : Type 0 where
   pub meet : PlaneMeet
   pub at : Reach
 
-abbrev pub met_of : Met → Encounter
-met_of x = record { meet = meet_of x.meet; at = reach_of x.at }
+abbrev pub met_of : {H : Type 0} → (H → Reach) → Met H → Encounter
+met_of reach x = record { meet = meet_of x.meet; at = reach x.at }
 
-abbrev pub far_met_of : FarMet → Encounter
-far_met_of x = record { meet = meet_of x.meet; at = far_reach_of x.at }
+abbrev pub near_met_of : Met Hit → Encounter
+near_met_of = met_of reach_of
+
+abbrev pub far_met_of : Met FarHit → Encounter
+far_met_of = met_of far_reach_of
 
 -- what is met stands at its step along the ray
 abbrev pub IsReachedMet : Place → Vector → Encounter → Type 0
-IsReachedMet p d x = IsReached p d x.at.num x.at.den x.at.den_sign x.at.place
+IsReachedMet p d x = IsReachedAt p d x.at
 
 -- of what has P the ray meets this first
 pub record IsNearestMet (p : Place) (d : Vector) (P : PlaneMeet → Place → Type 0) (x : Encounter) : Type 0 where
@@ -138,9 +148,13 @@ pub record IsNearestMet (p : Place) (d : Vector) (P : PlaneMeet → Place → Ty
   pub met : P x.meet x.at.place
   pub first : (n : PlaneMeet) (q : Place) → IsBetween p q x.at.place → P n q → ⊥
 
+-- the ray meets nothing that has P
+abbrev pub IsMissed : Place → Vector → (PlaneMeet → Place → Type 0) → Type 0
+IsMissed p d P = (n : PlaneMeet) (q : Place) → IsAhead p d q → P n q → ⊥
+
 -- the first of what has P, or none where the ray meets nothing that has it
 abbrev pub IsNearest : {X : Type 0} → (X → Encounter) → Place → Vector → (PlaneMeet → Place → Type 0) → Option X → Type 0
-IsNearest met p d P o = MatchOption o ((n : PlaneMeet) (q : Place) → IsAhead p d q → P n q → ⊥) (λ x. IsNearestMet p d P (met x))
+IsNearest met p d P o = MatchOption o (IsMissed p d P) (λ x. IsNearestMet p d P (met x))
 
 -- the one isn't past the other
 abbrev pub IsNotPast : Vector → Encounter → Encounter → Type 0

@@ -3,12 +3,12 @@
 
 ghost use Rattle.std.specs.Prelude.{◌≡◌, List as Sequence, IsTrue};
 ghost use Rattle.nef_space.specs.Vectors.{dot};
-ghost use Rattle.nef_geo.specs.Shapes.{form_of, vector_of};
+ghost use Rattle.nef_geo.specs.Shapes.{form_of, vector_of, place_of};
 ghost use Rattle.nef_geo.specs.Signs.{sign_of};
 ghost use Rattle.nef_geo.specs.declared.point.Point.{Point as PlainPoint};
 ghost use Rattle.nef_complex.specs.declared.complex.Vertex.{Vertex};
 ghost use Rattle.nef_plane.specs.Courses.{StartsAt, IsCourse, IsPassed};
-ghost use Rattle.nef_plane.specs.Meets.{sweep_axis};
+ghost use Rattle.nef_plane.specs.Meets.{sweep_axis, HoldsRay};
 
 use crate::parting::normal_beside;
 use nef_geo::{Dir, Plane, Sign};
@@ -36,7 +36,7 @@ fn sweep_sign(h: &Plane, d: &Dir) -> Sign
 impl Course {
     // The course within the plane along the direction from the vertex with this number.
     pub(crate) fn of(h: &Plane, start: usize, d: &Dir) -> Course
-        ensures course { (vs : Sequence Vertex) (p : PlainPoint) → StartsAt vs start p → IsCourse vs (form_of h.now) p (vector_of d.now) result }
+        ensures course { (vs : Sequence Vertex) (p : PlainPoint) → StartsAt vs start p → HoldsRay (form_of h.now) (place_of p) (vector_of d.now) → IsCourse vs (form_of h.now) p (vector_of d.now) result }
     {
         Course {
             start,

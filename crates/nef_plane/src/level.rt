@@ -4,17 +4,15 @@
 ghost use Rattle.std.specs.Prelude.{◌≡◌, ℕ, ◌<◌, ◌≤◌, length, pos, ◌↔◌, IsTrue};
 ghost use Rattle.nef_space.specs.Place.{form_at};
 ghost use Rattle.nef_space.specs.Sets.{Set};
-ghost use Rattle.nef_geo.specs.Hits.{IsPlaceAtMost};
 ghost use Rattle.nef_geo.specs.Shapes.{form_of, place_of, hit_place};
-ghost use Rattle.nef_geo.specs.Widths.{upright_limit, upright_weight_limit};
 ghost use Rattle.nef_complex.specs.Complexes.{ShowsSet};
 ghost use Rattle.nef_complex.specs.Index.{LiesOn, AreNumbersWith};
 ghost use Rattle.nef_plane.specs.Levels.{IsShort, AreShort, AreFar, AreShortBelow, AreFarFrom, IsLevel, IsUnparted, IsOffLevel};
 ghost use Rattle.nef_plane.specs.Meets.{sweep_form};
 
-use crate::plane::across;
+use crate::ray::AxisRay;
 use nef_complex::Complex;
-use nef_geo::{Hit, Plane, Point, Sign};
+use nef_geo::{Point, Sign};
 
 // The vertices of the plane with numbers below the first lie before the line, those from the second number on past it,
 // and those between on it.
@@ -24,12 +22,11 @@ pub(crate) struct Level {
     pub(crate) past: usize,
 }
 
-// Whether a point of the plane lies before the line through p or, if they count, on it.
-fn is_short(h: &Plane, p: &Hit, on_counts: bool, a: &Point) -> bool
-    requires numbers { IsPlaceAtMost upright_limit upright_weight_limit (hit_place p.now) }
-    ensures short { IsTrue result ↔ IsShort on_counts (form_at (sweep_form (form_of h.now) (hit_place p.now)) (place_of a.now)) }
+// Whether a point of the plane lies before the ray's line or, if that counts, on it.
+fn is_short(ray: &AxisRay, on_counts: bool, a: &Point) -> bool
+    ensures short { IsTrue result ↔ IsShort on_counts (form_at (sweep_form (form_of ray.now.plane.now) (hit_place ray.now.start.now)) (place_of a.now)) }
 {
-    match across(h, p, a) {
+    match ray.across(a) {
         Sign::Minus => true,
         Sign::Zero => on_counts,
         Sign::Plus => false,
@@ -37,18 +34,17 @@ fn is_short(h: &Plane, p: &Hit, on_counts: bool, a: &Point) -> bool
 }
 
 // How many of the vertices of the plane are short, by halving.
-fn count_short(c: &Complex, h: &Plane, p: &Hit, on_counts: bool, numbers: &[usize]) -> usize
+fn count_short(c: &Complex, ray: &AxisRay, on_counts: bool, numbers: &[usize]) -> usize
     requires shows { (s : Set) × ShowsSet s c.now }
-    requires numbers { IsPlaceAtMost upright_limit upright_weight_limit (hit_place p.now) }
-    requires listed { AreNumbersWith (LiesOn c.now.vertices (form_of h.now)) numbers.now }
-    ensures short { AreShort c.now.vertices numbers.now (sweep_form (form_of h.now) (hit_place p.now)) on_counts result }
-    ensures far { AreFar c.now.vertices numbers.now (sweep_form (form_of h.now) (hit_place p.now)) on_counts result }
+    requires listed { AreNumbersWith (LiesOn c.now.vertices (form_of ray.now.plane.now)) numbers.now }
+    ensures short { AreShort c.now.vertices numbers.now (sweep_form (form_of ray.now.plane.now) (hit_place ray.now.start.now)) on_counts result }
+    ensures far { AreFar c.now.vertices numbers.now (sweep_form (form_of ray.now.plane.now) (hit_place ray.now.start.now)) on_counts result }
 {
     let mut low = 0;
     let mut high = numbers.len();
     while low < high {
         let middle = low + (high - low) / 2;
-        if is_short(h, p, on_counts, &c.vertices.at(numbers[middle]).point) {
+        if is_short(ray, on_counts, &c.vertices.at(numbers[middle]).point) {
             low = middle + 1;
         } else {
             high = middle;
@@ -58,14 +54,13 @@ fn count_short(c: &Complex, h: &Plane, p: &Hit, on_counts: bool, numbers: &[usiz
 }
 
 // The number of the first vertex of the plane that isn't short, or the number of all vertices if all of them are.
-fn first_far(c: &Complex, h: &Plane, p: &Hit, on_counts: bool, numbers: &[usize]) -> usize
+fn first_far(c: &Complex, ray: &AxisRay, on_counts: bool, numbers: &[usize]) -> usize
     requires shows { (s : Set) × ShowsSet s c.now }
-    requires numbers { IsPlaceAtMost upright_limit upright_weight_limit (hit_place p.now) }
-    requires listed { AreNumbersWith (LiesOn c.now.vertices (form_of h.now)) numbers.now }
-    ensures short { AreShortBelow c.now.vertices (form_of h.now) (sweep_form (form_of h.now) (hit_place p.now)) on_counts result }
-    ensures far { AreFarFrom c.now.vertices (form_of h.now) (sweep_form (form_of h.now) (hit_place p.now)) on_counts result }
+    requires listed { AreNumbersWith (LiesOn c.now.vertices (form_of ray.now.plane.now)) numbers.now }
+    ensures short { AreShortBelow c.now.vertices (form_of ray.now.plane.now) (sweep_form (form_of ray.now.plane.now) (hit_place ray.now.start.now)) on_counts result }
+    ensures far { AreFarFrom c.now.vertices (form_of ray.now.plane.now) (sweep_form (form_of ray.now.plane.now) (hit_place ray.now.start.now)) on_counts result }
 {
-    let count = count_short(c, h, p, on_counts, numbers);
+    let count = count_short(c, ray, on_counts, numbers);
     if count < numbers.len() {
         numbers[count]
     } else {
@@ -74,16 +69,15 @@ fn first_far(c: &Complex, h: &Plane, p: &Hit, on_counts: bool, numbers: &[usize]
 }
 
 impl Level {
-    // Where the vertices of the plane, which have these numbers, lie beside the line through p.
-    pub(crate) fn of(c: &Complex, h: &Plane, p: &Hit, numbers: &[usize]) -> Level
+    // Where the vertices of the plane, which have these numbers, lie beside the ray's line.
+    pub(crate) fn of(c: &Complex, ray: &AxisRay, numbers: &[usize]) -> Level
         requires shows { (s : Set) × ShowsSet s c.now }
-        requires numbers { IsPlaceAtMost upright_limit upright_weight_limit (hit_place p.now) }
-        requires listed { AreNumbersWith (LiesOn c.now.vertices (form_of h.now)) numbers.now }
-        ensures level { IsLevel c.now.vertices (form_of h.now) (hit_place p.now) result }
+        requires listed { AreNumbersWith (LiesOn c.now.vertices (form_of ray.now.plane.now)) numbers.now }
+        ensures level { IsLevel c.now.vertices (form_of ray.now.plane.now) (hit_place ray.now.start.now) result }
     {
         Level {
-            first: first_far(c, h, p, false, numbers),
-            past: first_far(c, h, p, true, numbers),
+            first: first_far(c, ray, false, numbers),
+            past: first_far(c, ray, true, numbers),
         }
     }
 

@@ -4,9 +4,13 @@
 mod along;
 mod course;
 mod level;
+mod lying;
+mod met;
+mod numbers;
 mod parting;
 mod places;
 mod plane;
+mod ray;
 mod within;
 
 pub use along::first_along_dir;

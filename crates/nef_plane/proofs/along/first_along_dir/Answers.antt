@@ -6,7 +6,7 @@ use Rattle.law_complex.specs.Skeleton.{PlaneMeet as PlainMeet, Meets, IsFirstInP
 use Rattle.law_complex.proofs.Ways.{same-itself}
 use Rattle.nef_complex.specs.Complexes.{complex_of, meet_of, vertex_of}
 use Rattle.nef_complex.proofs.Reading.{got-at}
-use Rattle.nef_plane.specs.Meets.{IsNearest, met_of}
+use Rattle.nef_plane.specs.Meets.{IsNearest, near_met_of}
 use Rattle.nef_plane.proofs.Found.{Any, from-vertex, first-some, first-none}
 use Rattle.nef_plane.proofs.along.first_along_dir.Goals as goal
 
@@ -15,8 +15,8 @@ returns-in-Some-clause-some c =
     let S = c.requires.shows in let v = c.at.result.now in let p = place_of v.point in let d = vector_of c.args.d.now in let C = c.args.c.now in let h = c.args.h.now in
     let a = got-at C.vertices c.args.vertex v c.at.ensures.element in let listed = map-at vertex_of C.vertices c.args.vertex v a in
     from-vertex C c.args.vertex v a (λ q. IsFirstInPlane (complex_of C) (form_of h) q d (meet_of c.in-Some.met.meet))
-    (first-some S.0 C S.1.shows (form_of h) p d c.args.d.now.some (inl (c.args.vertex, (vertex_of v, listed, same-itself p))) (c.requires.no_svertex (vertex_of v) listed) (met_of c.in-Some.met)
-    (subst (IsNearest met_of p d (Any C (form_of h) d)) c.in-Some.is c.first_met.ensures.nearest))
+    (first-some S.0 C S.1.shows (form_of h) p d c.args.d.now.some (inl (c.args.vertex, (vertex_of v, listed, same-itself p))) (c.requires.no_svertex (vertex_of v) listed) (near_met_of c.in-Some.met)
+    (subst (IsNearest near_met_of p d (Any C (form_of h) d)) c.in-Some.is c.first_met.ensures.nearest))
 
 pub returns-in-None-clause-none : goal.returns-in-None-clause-none
 returns-in-None-clause-none c _ =
@@ -24,4 +24,4 @@ returns-in-None-clause-none c _ =
     let a = got-at C.vertices c.args.vertex v c.at.ensures.element in let listed = map-at vertex_of C.vertices c.args.vertex v a in
     from-vertex C c.args.vertex v a (λ r. (m : PlainMeet) (q : Place) → IsAhead r d q → Meets (complex_of C) (form_of h) m q → ⊥)
     (first-none S.0 C S.1.shows (form_of h) p d c.args.d.now.some (inl (c.args.vertex, (vertex_of v, listed, same-itself p))) (c.requires.no_svertex (vertex_of v) listed)
-    (subst (IsNearest met_of p d (Any C (form_of h) d)) c.in-None.is c.first_met.ensures.nearest))
+    (subst (IsNearest near_met_of p d (Any C (form_of h) d)) c.in-None.is c.first_met.ensures.nearest))

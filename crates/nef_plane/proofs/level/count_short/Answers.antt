@@ -15,7 +15,7 @@ loop-low-preserved-then-is_short c =
     let i : m < length ns = omega arith in (
       omega arith,
       w.1,
-      short-up_to S.0 c.args.c.now S.1.shows c.args.h.now (hit_place c.args.p.now) ns c.requires.listed c.args.on_counts m (get_or ns m 0) c.at.result.now (is-at_get ns m 0 i) c.at.ensures.element (c.is_short.ensures.short.0 c.if-is_short.true),
+      short-up_to S.0 c.args.c.now S.1.shows c.args.ray.now.plane.now (hit_place c.args.ray.now.start.now) ns c.requires.listed c.args.on_counts m (get_or ns m 0) c.at.result.now (is-at_get ns m 0 i) c.at.ensures.element (c.is_short.ensures.short.0 c.if-is_short.true),
       w.3,
     )
 
@@ -31,6 +31,6 @@ loop-low-preserved c =
       omega arith,
       omega arith,
       w.2,
-      far-from S.0 c.args.c.now S.1.shows c.args.h.now (hit_place c.args.p.now) ns c.requires.listed c.args.on_counts m (get_or ns m 0) c.at.result.now (is-at_get ns m 0 i) c.at.ensures.element
+      far-from S.0 c.args.c.now S.1.shows c.args.ray.now.plane.now (hit_place c.args.ray.now.start.now) ns c.requires.listed c.args.on_counts m (get_or ns m 0) c.at.result.now (is-at_get ns m 0 i) c.at.ensures.element
           (λ x. absurd (search (rules, c.is_short.ensures.short.1 x, c.if-is_short.false))),
     )

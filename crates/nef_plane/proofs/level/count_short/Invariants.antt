@@ -5,7 +5,7 @@ use Rattle.nef_plane.specs.Meets.{sweep_form}
 use Rattle.nef_plane.proofs.level.count_short.Given as goal
 
 abbrev pub invariant-loop-low : goal.invariant-loop-low
-invariant-loop-low l = (l.low ≤ l.high) × (l.high ≤ length l.numbers) × AreShort l.c.vertices l.numbers (sweep_form (form_of l.h) (hit_place l.p)) l.on_counts l.low × AreFar l.c.vertices l.numbers (sweep_form (form_of l.h) (hit_place l.p)) l.on_counts l.high
+invariant-loop-low l = (l.low ≤ l.high) × (l.high ≤ length l.numbers) × AreShort l.c.vertices l.numbers (sweep_form (form_of l.ray.plane.now) (hit_place l.ray.start.now)) l.on_counts l.low × AreFar l.c.vertices l.numbers (sweep_form (form_of l.ray.plane.now) (hit_place l.ray.start.now)) l.on_counts l.high
 
 -- proposed from the loop's first test
 abbrev pub decreases-loop-low : goal.decreases-loop-low

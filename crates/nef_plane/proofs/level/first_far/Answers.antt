@@ -9,21 +9,21 @@ use Rattle.nef_plane.proofs.level.first_far.Goals as goal
 pub returns-then-count-numbers-clause-short : goal.returns-then-count-numbers-clause-short
 returns-then-count-numbers-clause-short c =
     let S = c.requires.shows in let ns = c.args.numbers.now in let n = c.count_short-count.result in
-    short-below S.0 c.args.c.now S.1.shows c.args.h.now (hit_place c.args.p.now) ns c.requires.listed c.args.on_counts n (get_or ns n 0) (is-at_get ns n 0 c.if-count-numbers.true) c.count_short-count.ensures.short
+    short-below S.0 c.args.c.now S.1.shows c.args.ray.now.plane.now (hit_place c.args.ray.now.start.now) ns c.requires.listed c.args.on_counts n (get_or ns n 0) (is-at_get ns n 0 c.if-count-numbers.true) c.count_short-count.ensures.short
 
 pub returns-then-count-numbers-clause-far : goal.returns-then-count-numbers-clause-far
 returns-then-count-numbers-clause-far c =
     let S = c.requires.shows in let ns = c.args.numbers.now in let n = c.count_short-count.result in
-    far-above S.0 c.args.c.now S.1.shows c.args.h.now (hit_place c.args.p.now) ns c.requires.listed c.args.on_counts n (get_or ns n 0) (is-at_get ns n 0 c.if-count-numbers.true) c.count_short-count.ensures.far
+    far-above S.0 c.args.c.now S.1.shows c.args.ray.now.plane.now (hit_place c.args.ray.now.start.now) ns c.requires.listed c.args.on_counts n (get_or ns n 0) (is-at_get ns n 0 c.if-count-numbers.true) c.count_short-count.ensures.far
 
 pub returns-else-count-numbers-clause-short : goal.returns-else-count-numbers-clause-short
 returns-else-count-numbers-clause-short c =
-    let S = c.requires.shows in let C = c.args.c.now in let h = c.args.h.now in let p = hit_place c.args.p.now in
+    let S = c.requires.shows in let C = c.args.c.now in let h = c.args.ray.now.plane.now in let p = hit_place c.args.ray.now.start.now in
     subst (λ (n : ℕ). AreShortBelow C.vertices (form_of h) (sweep_form (form_of h) p) c.args.on_counts n) (sym c.len.ensures.len)
     (all-short S.0 C S.1.shows h p c.args.numbers.now c.requires.listed c.args.on_counts c.count_short-count.result (let t = c.if-count-numbers.false in omega arith) c.count_short-count.ensures.short)
 
 pub returns-else-count-numbers-clause-far : goal.returns-else-count-numbers-clause-far
 returns-else-count-numbers-clause-far c =
-    let S = c.requires.shows in let C = c.args.c.now in let h = c.args.h.now in let p = hit_place c.args.p.now in
+    let S = c.requires.shows in let C = c.args.c.now in let h = c.args.ray.now.plane.now in let p = hit_place c.args.ray.now.start.now in
     subst (λ (n : ℕ). AreFarFrom C.vertices (form_of h) (sweep_form (form_of h) p) c.args.on_counts n) (sym c.len.ensures.len)
     (none-far S.0 C S.1.shows h p c.args.numbers.now c.requires.listed c.args.on_counts)

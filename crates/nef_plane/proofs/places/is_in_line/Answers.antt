@@ -1,4 +1,4 @@
-use Rattle.std.proofs.Common.{◌≡◌, List, subst, sym}
+use Rattle.std.proofs.Common.{List, subst, sym}
 use Rattle.nef_geo.specs.Shapes.{place_of, hit_place}
 use Rattle.nef_geo.specs.declared.plane.Plane.{Plane}
 use Rattle.nef_classes.proofs.ClassLists.{is-at_some}

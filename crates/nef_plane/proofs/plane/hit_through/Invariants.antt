@@ -6,4 +6,4 @@ use Rattle.nef_complex.proofs.ListedHolders.{AllListed}
 use Rattle.nef_plane.proofs.plane.hit_through.Given as goal
 
 abbrev pub invariant-loop-number : goal.invariant-loop-number
-invariant-loop-number l = AllListed l.carriers l.holders l.number-index (λ (g : Plane). (q : Place) → IsCrossing (hit_place l.p) (vector_of l.d) (form_of g) q → ⊥)
+invariant-loop-number l = AllListed l.carriers l.holders l.number-index (λ (g : Plane). (q : Place) → IsCrossing (hit_place l.ray.start.now) (vector_of l.ray.direction.now) (form_of g) q → ⊥)

@@ -1,17 +1,39 @@
-use Rattle.std.proofs.Common.{arith}
+use Rattle.std.proofs.Common.{arith, length, rules}
 use Rattle.nef_geo.specs.Shapes.{form_of, hit_place, vector_of}
 use Rattle.nef_complex.specs.Complexes.{complex_of}
+use Rattle.nef_complex.specs.Index.{EdgeLiesIn}
+use Rattle.nef_plane.specs.Levels.{IsLevel}
 use Rattle.nef_plane.specs.Meets.{AtEdgeNumber, far_met_of}
+use Rattle.nef_plane.proofs.Asking.{asked-held, asked-within, is-asked}
 use Rattle.nef_plane.proofs.Found.{edge-within}
-use Rattle.nef_plane.proofs.Nearest.{nearest-more, nearest-all}
+use Rattle.nef_plane.proofs.Listed.{edge_lies-within, met-edge_lies}
+use Rattle.nef_plane.proofs.Nearest.{asked-more, asked-past, asked-all}
+use Rattle.nef_plane.proofs.plane.nearest_edge.Goals.{then-may_meet_edge, else-may_meet_edge}
 use Rattle.nef_plane.proofs.plane.nearest_edge.Goals as goal
 
-pub loop-number-preserved : goal.loop-number-preserved
-loop-number-preserved c = nearest-more far_met_of (hit_place c.args.p.now) (vector_of c.args.d.now) (AtEdgeNumber (complex_of c.args.c.now) (form_of c.args.h.now) (vector_of c.args.d.now)) c.loop-number.number c.loop-number.best c.edge_met.result c.nearer-best.result
-    c.nearer-best.ensures.nearer c.loop-number.invariant c.edge_met.ensures.nearest
+pub may_meet_edge-requires-clause-within : goal.may_meet_edge-requires-clause-within
+may_meet_edge-requires-clause-within c =
+    let C = c.args.c.now in let ray = c.args.ray.now in let h = form_of ray.plane.now in
+    asked-within (EdgeLiesIn C.vertices C.edges h) (length C.edges) c.args.level.now c.args.asked.now c.requires.asked (edge_lies-within C h) c.loop-place.place c.at-number.result c.at-number.ensures.at
+
+pub may_meet_edge-requires-clause-held : goal.may_meet_edge-requires-clause-held
+may_meet_edge-requires-clause-held c =
+    let C = c.args.c.now in let ray = c.args.ray.now in let h = form_of ray.plane.now in
+    asked-held (EdgeLiesIn C.vertices C.edges h) (length C.edges) c.args.level.now c.args.asked.now c.requires.asked c.loop-place.place c.at-number.result c.at-number.ensures.at
+
+pub loop-place-preserved : goal.loop-place-preserved
+loop-place-preserved c =
+    let C = c.args.c.now in let ray = c.args.ray.now in let h = form_of ray.plane.now in let p = hit_place ray.start.now in let d = vector_of ray.direction.now in
+    let N = c.args.asked.now in let i = c.loop-place.place in let k = c.at-number.result in let l = c.at-number.ensures.at in let a = c.loop-place.best in let A = c.loop-place.invariant in
+    elim c.if-may_meet_edge.branch [
+      | then-may_meet_edge w ↦ asked-more far_met_of p d N (AtEdgeNumber (complex_of C) h d) i k a w.edge_met.result w.nearer-best.result c.if-may_meet_edge.best w.best-is l (w.nearer-best.ensures.nearer p d ray.axis.0) A w.edge_met.ensures.nearest
+      | else-may_meet_edge w ↦ asked-past far_met_of p d N (AtEdgeNumber (complex_of C) h d) i k a c.if-may_meet_edge.best w.best-is l A (c.may_meet_edge.ensures.off (λ t. absurd (search (rules, t, w.if-may_meet_edge.false))))
+    ]
 
 pub returns : goal.returns
-returns c = record {
-  nearest = nearest-all far_met_of (hit_place c.args.p.now) (vector_of c.args.d.now) (AtEdgeNumber (complex_of c.args.c.now) (form_of c.args.h.now) (vector_of c.args.d.now)) c.loop-number.number c.loop-number.best
-      (λ k m q x. let l = edge-within c.args.c.now (form_of c.args.h.now) (vector_of c.args.d.now) k m q x in let t = c.loop-number-test.false in let e = c.len-number-end.ensures.len in omega (arith, l, t, e)) c.loop-number.invariant;
-}
+returns c =
+    let C = c.args.c.now in let ray = c.args.ray.now in let h = form_of ray.plane.now in let p = hit_place ray.start.now in let d = vector_of ray.direction.now in
+    record {
+      nearest = asked-all far_met_of p d c.args.asked.now (AtEdgeNumber (complex_of C) h d) c.loop-place.place c.loop-place.best (let t = c.loop-place-test.false in let e = c.len-place-end.ensures.len in omega (arith, t, e))
+          (λ k m q w x. is-asked (EdgeLiesIn C.vertices C.edges h) (length C.edges) (IsLevel C.vertices h p) c.args.level.now c.args.asked.now c.requires.level c.requires.asked k (edge-within C h d k m q x) (λ y Y. met-edge_lies C h d k m q x)) c.loop-place.invariant;
+    }

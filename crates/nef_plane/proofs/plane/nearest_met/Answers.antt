@@ -6,8 +6,8 @@ use Rattle.nef_plane.proofs.plane.nearest_met.Goals as goal
 
 pub returns : goal.returns
 returns c =
-    let p = hit_place c.args.p.now in let d = vector_of c.args.d.now in let C = complex_of c.args.c.now in
+    let p = hit_place c.args.ray.now.start.now in let d = vector_of c.args.ray.now.direction.now in let C = complex_of c.args.c.now in
     record {
-      nearest = nearest-either far_met_of p d (AtSomeVertex C) (AtSomeEdge C (form_of c.args.h.now) d) c.nearest_vertex-vertex.result c.nearest_edge-edge.result c.nearer.result
-          c.nearer.ensures.nearer c.nearest_vertex-vertex.ensures.nearest c.nearest_edge-edge.ensures.nearest;
+      nearest = nearest-either far_met_of p d (AtSomeVertex C) (AtSomeEdge C (form_of c.args.ray.now.plane.now) d) c.nearest_vertex-vertex.result c.nearest_edge-edge.result c.nearer.result
+          (c.nearer.ensures.nearer p d c.args.ray.now.axis.0) c.nearest_vertex-vertex.ensures.nearest c.nearest_edge-edge.ensures.nearest;
     }

@@ -1,17 +1,43 @@
-use Rattle.std.proofs.Common.{arith}
-use Rattle.nef_geo.specs.Shapes.{hit_place, vector_of}
+use Rattle.std.proofs.Common.{arith, length, rules}
+use Rattle.nef_geo.specs.Shapes.{form_of, hit_place, vector_of}
 use Rattle.nef_complex.specs.Complexes.{complex_of}
+use Rattle.nef_complex.specs.Index.{LiesOn}
+use Rattle.nef_plane.specs.Levels.{IsLevel}
 use Rattle.nef_plane.specs.Meets.{AtVertexNumber, far_met_of}
+use Rattle.nef_plane.proofs.Asking.{asked-held, asked-within, is-asked}
+use Rattle.nef_plane.proofs.Axes.{axis-level}
 use Rattle.nef_plane.proofs.Found.{vertex-within}
-use Rattle.nef_plane.proofs.Nearest.{nearest-more, nearest-all}
+use Rattle.nef_plane.proofs.Listed.{lies-within, met-lies}
+use Rattle.nef_plane.proofs.Nearest.{asked-more, asked-past, asked-all}
+use Rattle.nef_plane.proofs.plane.nearest_vertex.Goals.{then-may_meet_vertex, else-may_meet_vertex}
 use Rattle.nef_plane.proofs.plane.nearest_vertex.Goals as goal
 
-pub loop-number-preserved : goal.loop-number-preserved
-loop-number-preserved c = nearest-more far_met_of (hit_place c.args.p.now) (vector_of c.args.d.now) (AtVertexNumber (complex_of c.args.c.now)) c.loop-number.number c.loop-number.best c.vertex_met.result c.nearer-best.result
-    c.nearer-best.ensures.nearer c.loop-number.invariant c.vertex_met.ensures.nearest
+pub may_meet_vertex-requires-clause-within : goal.may_meet_vertex-requires-clause-within
+may_meet_vertex-requires-clause-within c =
+    let C = c.args.c.now in let ray = c.args.ray.now in let h = form_of ray.plane.now in
+    asked-within (LiesOn C.vertices h) (length C.vertices) c.args.level.now c.args.asked.now c.requires.asked (lies-within C h) c.loop-place.place c.at-number.result c.at-number.ensures.at
+
+pub may_meet_vertex-requires-clause-held : goal.may_meet_vertex-requires-clause-held
+may_meet_vertex-requires-clause-held c =
+    let C = c.args.c.now in let ray = c.args.ray.now in let h = form_of ray.plane.now in
+    asked-held (LiesOn C.vertices h) (length C.vertices) c.args.level.now c.args.asked.now c.requires.asked c.loop-place.place c.at-number.result c.at-number.ensures.at
+
+pub vertex_met-requires-clause-held : goal.vertex_met-requires-clause-held
+vertex_met-requires-clause-held c = c.may_meet_vertex.ensures.held c.if-may_meet_vertex.true
+
+pub loop-place-preserved : goal.loop-place-preserved
+loop-place-preserved c =
+    let C = c.args.c.now in let ray = c.args.ray.now in let h = form_of ray.plane.now in let p = hit_place ray.start.now in let d = vector_of ray.direction.now in
+    let N = c.args.asked.now in let i = c.loop-place.place in let k = c.at-number.result in let l = c.at-number.ensures.at in let a = c.loop-place.best in let A = c.loop-place.invariant in
+    elim c.if-may_meet_vertex.branch [
+      | then-may_meet_vertex w ↦ asked-more far_met_of p d N (AtVertexNumber (complex_of C)) i k a w.vertex_met.result w.nearer-best.result c.if-may_meet_vertex.best w.best-is l (w.nearer-best.ensures.nearer p d ray.axis.0) A w.vertex_met.ensures.nearest
+      | else-may_meet_vertex w ↦ asked-past far_met_of p d N (AtVertexNumber (complex_of C)) i k a c.if-may_meet_vertex.best w.best-is l A (c.may_meet_vertex.ensures.off (λ t. absurd (search (rules, t, w.if-may_meet_vertex.false))))
+    ]
 
 pub returns : goal.returns
-returns c = record {
-  nearest = nearest-all far_met_of (hit_place c.args.p.now) (vector_of c.args.d.now) (AtVertexNumber (complex_of c.args.c.now)) c.loop-number.number c.loop-number.best
-      (λ k m q x. let l = vertex-within c.args.c.now k m q x in let t = c.loop-number-test.false in let e = c.len-number-end.ensures.len in omega (arith, l, t, e)) c.loop-number.invariant;
-}
+returns c =
+    let C = c.args.c.now in let ray = c.args.ray.now in let h = form_of ray.plane.now in let p = hit_place ray.start.now in let d = vector_of ray.direction.now in
+    record {
+      nearest = asked-all far_met_of p d c.args.asked.now (AtVertexNumber (complex_of C)) c.loop-place.place c.loop-place.best (let t = c.loop-place-test.false in let e = c.len-place-end.ensures.len in omega (arith, t, e))
+          (λ k m q w x. is-asked (LiesOn C.vertices h) (length C.vertices) (IsLevel C.vertices h p) c.args.level.now c.args.asked.now c.requires.level c.requires.asked k (vertex-within C k m q x) (λ y Y. met-lies C h d k m q p ray.axis.0 (ray.on, axis-level ray.plane.now d ray.axis) w x)) c.loop-place.invariant;
+    }

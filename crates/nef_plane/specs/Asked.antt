@@ -1,0 +1,23 @@
+-- The numbers of the vertices, or of the edges, that are asked whether a ray meets them.
+use Rattle.std.specs.Prelude.{◌≡◌, ℕ, ◌<◌, length, Option, Some, None}
+use Rattle.nef_space.specs.Lists.{IsAt}
+use Rattle.nef_complex.specs.Index.{AreNumbersWith}
+use Rattle.nef_plane.specs.declared.numbers.Numbers.{Numbers}
+use Rattle.nef_plane.specs.declared.numbers.Numbers.TheVariants.{Listed, All}
+
+-- how many they are
+abbrev pub count_of : Numbers → ℕ
+count_of (Listed ns) = length ns.now
+count_of (All n) = n
+
+-- the number in place i is k
+abbrev pub IsNth : Numbers → ℕ → ℕ → Type 0
+IsNth (Listed ns) i k = IsAt ns.now i k
+IsNth (All n) i k = (i ≡ k) × (k < n)
+
+-- where there is a guide, they are listed, as those that have P; or else they are all below n
+abbrev pub AreAsked : {X : Type 0} → (ℕ → Type 0) → ℕ → Option X → Numbers → Type 0
+AreAsked P n (Some x) (Listed ns) = AreNumbersWith P ns.now
+AreAsked P n (Some x) (All m) = ⊥
+AreAsked P n None (Listed ns) = ⊥
+AreAsked P n None (All m) = m ≡ n
