@@ -1,4 +1,4 @@
--- Sorting and grouping keep all numbers: each carrier stands in a group, whose span holds the vertices on it.
+-- Sorting and grouping keep all numbers: each carrier stands in a group of a cluster, and the spans of both hold the vertices on it.
 use Rattle.std.proofs.Common.{◌≡◌, ℕ, zero, suc, ◌+◌, ◌<◌, ℤ, ◌≤ℤ◌, ◌⊎◌, inl, inr, ⊎_elim, List, [], ◌∷◌, ◌++◌, length, arith, sym, subst}
 use Rattle.std.specs.List.Sorted.{IsPermutation}
 use Rattle.std.proofs.lemmas.Int.{ints}
@@ -10,8 +10,9 @@ use Rattle.nef_classes.proofs.ClassLists.{less-or-last, is-at_one, is-at_some, i
 use Rattle.nef_complex.specs.declared.complex.Vertex.{Vertex}
 use Rattle.nef_complex.specs.declared.spans.Bounds.{Bounds}
 use Rattle.nef_complex.specs.declared.spans.Span.{Span}
+use Rattle.nef_complex.specs.declared.groups.Cluster.{Cluster}
 use Rattle.nef_complex.specs.declared.groups.Group.{Group}
-use Rattle.nef_complex.specs.Index.{AreWithin, AreSpans, StandsIn, AreGroups}
+use Rattle.nef_complex.specs.Index.{AreSpans, StandsIn, IsInGroup, IsInCluster, AreSpanned, AreClusters}
 use Rattle.nef_complex.specs.Indexing.{AreKeyed, IsWide}
 use Rattle.nef_complex.specs.Spans.{AreNarrower, IsNarrower}
 use Rattle.nef_complex.proofs.Spanning.{span-wider}
@@ -47,12 +48,17 @@ keyed-moved n ps qs m K = record {
 -- ---- one group
 -- the group has the numbers of the first n pairs
 pub record IsGroupTo (spans : List Span) (pairs : List (ℕ × ℕ)) (n : ℕ) (g : Group) : Type 0 where
-  pub within : AreWithin spans g.carriers
-  pub wide : IsWide spans g
-  pub all : (i : ℕ) (e : ℕ × ℕ) → i < n → IsAt pairs i e → (j : ℕ) × IsAt g.carriers j e.1
+  pub wide : IsWide spans (IsInGroup g) g.span
+  pub all : (i : ℕ) (e : ℕ × ℕ) → i < n → IsAt pairs i e → IsInGroup g e.1
 
 pub group-none : (spans : List Span) (pairs : List (ℕ × ℕ)) (s : Span) → IsGroupTo spans pairs 0 (record { span = s; carriers = [] })
-group-none spans pairs s = record { within = λ i k a. cc; wide = λ j k t a b. cc; all = λ i e l a. absurd (omega arith) }
+group-none spans pairs s = record {
+  wide = record { within = λ k o. none k (k < length spans) o.0 o.1; wide = λ k t o b. none k (IsNarrower t s) o.0 o.1 };
+  all = λ i e l a. absurd (omega arith);
+}
+  where
+    none : (k : ℕ) (P : Type 0) (j : ℕ) → IsAt {X = ℕ} [] j k → P
+    none k P j a = cc
 
 narrower : (a b c : Bounds) → AreNarrower a b → AreNarrower b c → AreNarrower a c
 narrower a b c n m = (below c.low b.low a.low m.0 n.0, below a.high b.high c.high n.1 m.1)
@@ -65,8 +71,10 @@ narrower-still s t u n m = (narrower s.x t.x u.x n.0 m.0, narrower s.y t.y u.y n
 
 pub group-more : (spans : List Span) (pairs : List (ℕ × ℕ)) (n : ℕ) (s t u : Span) (ks : List ℕ) (e : ℕ × ℕ) → IsAt pairs n e → IsAt spans e.1 u → IsNarrower s t → IsNarrower u t → IsGroupTo spans pairs n (record { span = s; carriers = ks }) → IsGroupTo spans pairs (n + 1) (record { span = t; carriers = ks ++ e.1 ∷ [] })
 group-more spans pairs n s t u ks e here at w o G = record {
-  within = λ i k a. within i k (is-at_either ks i k e.1 a);
-  wide = λ j k v a b. wide j k v b (is-at_either ks j k e.1 a);
+  wide = record {
+    within = λ k a. within a.0 k (is-at_either ks a.0 k e.1 a.1);
+    wide = λ k v a b. wide a.0 k v b (is-at_either ks a.0 k e.1 a.1);
+  };
   all = λ i f l a. ⊎_elim
       (λ b. let r = G.all i f b a in (r.0, is-at_left ks (e.1 ∷ []) r.0 f.1 r.1))
       (λ z. (length ks, subst (λ (x : ℕ × ℕ). IsAt (ks ++ e.1 ∷ []) (length ks) x.1) (is-at_one pairs n e f here (subst (λ (x : ℕ). IsAt pairs x f) z a)) (is-at_last ks e.1)))
@@ -74,14 +82,14 @@ group-more spans pairs n s t u ks e here at w o G = record {
 }
   where
     within : (i k : ℕ) → Either ks i k e.1 → k < length spans
-    within i k (earlier b) = G.within i k b
+    within i k (earlier b) = G.wide.within k (i, b)
     within i k (last f g) = subst (λ (x : ℕ). x < length spans) (sym g) (is-at_within spans e.1 u at)
 
     wide : (j k : ℕ) (v : Span) → IsAt spans k v → Either ks j k e.1 → IsNarrower v t
-    wide j k v b (earlier a) = narrower-still v s t (G.wide j k v a b) w
+    wide j k v b (earlier a) = narrower-still v s t (G.wide.wide k v (j, a) b) w
     wide j k v b (last f g) = subst (λ (x : Span). IsNarrower x t) (is-at_one spans e.1 u v at (subst (λ (x : ℕ). IsAt spans x v) g b)) o
 
--- ---- groups, one after the other
+-- ---- groups or clusters, one after the other
 behind : {X : Type 0} (xs ys : List X) (i : ℕ) (x : X) → IsAt ys i x → (j : ℕ) × IsAt (xs ++ ys) j x
 behind [] ys i x a = (i, a)
 behind (y ∷ xs) ys i x a = let o = behind xs ys i x a in (suc o.0, o.1)
@@ -91,46 +99,73 @@ parted [] ys i x a = inr (i, a)
 parted (y ∷ xs) ys zero x a = inl a
 parted (y ∷ xs) ys (suc i) x a = parted xs ys i x a
 
--- each number stands in some group, or in a pair that is left
-pub record AreGroupedTo (spans : List Span) (rest : List (ℕ × ℕ)) (groups : List Group) : Type 0 where
-  pub left : (i : ℕ) (e : ℕ × ℕ) → IsAt rest i e → e.1 < length spans
-  pub within : (i : ℕ) (g : Group) → IsAt groups i g → AreWithin spans g.carriers
-  pub wide : (i : ℕ) (g : Group) → IsAt groups i g → IsWide spans g
-  pub all : (k : ℕ) → k < length spans → StandsIn groups k ⊎ ((i : ℕ) × (e : ℕ × ℕ) × IsAt rest i e × (e.1 ≡ k))
+-- each element has P, and the number of each pair stands in some element, but for the pairs that are left
+pub record AreTaken {X : Type 0} (has : X → ℕ → Type 0) (P : X → Type 0) (pairs rest : List (ℕ × ℕ)) (xs : List X) : Type 0 where
+  pub left : (i : ℕ) (e : ℕ × ℕ) → IsAt rest i e → (j : ℕ) × IsAt pairs j e
+  pub each : (i : ℕ) (x : X) → IsAt xs i x → P x
+  pub all : (i : ℕ) (e : ℕ × ℕ) → IsAt pairs i e → StandsIn has xs e.1 ⊎ ((j : ℕ) × IsAt rest j e)
 
-pub grouped-none : (spans : List Span) (pairs : List (ℕ × ℕ)) → AreKeyed (length spans) pairs → AreGroupedTo spans pairs []
-grouped-none spans pairs K = record { left = K.within; within = λ i g a. cc; wide = λ i g a. cc; all = λ k l. inr (K.all k l) }
+module _ {X : Type 0} (has : X → ℕ → Type 0) where
+  pub taken-none : (P : X → Type 0) (pairs : List (ℕ × ℕ)) → AreTaken has P pairs pairs []
+  taken-none P pairs = record { left = λ i e a. (i, a); each = λ i x a. none x i a; all = λ i e a. inr (i, a) }
+    where
+      none : (x : X) (i : ℕ) → IsAt {X = X} [] i x → P x
+      none x i a = cc
 
-pub grouped-more : (spans : List Span) (next rest : List (ℕ × ℕ)) (groups : List Group) (g : Group) → AreGroupedTo spans (next ++ rest) groups → AreWithin spans g.carriers → IsWide spans g → ((i : ℕ) (e : ℕ × ℕ) → IsAt next i e → (j : ℕ) × IsAt g.carriers j e.1) → AreGroupedTo spans rest (groups ++ g ∷ [])
-grouped-more spans next rest groups g G w v has = record {
-  left = λ i e a. let o = behind next rest i e a in G.left o.0 e o.1;
-  within = λ i f a. each (λ (x : Group). AreWithin spans x.carriers) G.within w i f (is-at_either groups i f g a);
-  wide = λ i f a. each (IsWide spans) G.wide v i f (is-at_either groups i f g a);
-  all = λ k l. ⊎_elim
-      (λ s. inl (s.0, s.1, s.2, is-at_left groups (g ∷ []) s.0 s.1 s.3, s.4))
-      (λ o. ⊎_elim
-      (λ a. let r = has o.0 o.1 a in inl (length groups, g, r.0, is-at_last groups g, subst (IsAt g.carriers r.0) o.3 r.1))
-      (λ a. inr (a.0, o.1, a.1, o.3))
-      (parted next rest o.0 o.1 o.2))
-      (G.all k l);
+  pub taken-more : (P Q : X → Type 0) (pairs next rest : List (ℕ × ℕ)) (xs : List X) (x : X) → ((y : X) → P y → Q y) → Q x → ((i : ℕ) (e : ℕ × ℕ) → IsAt next i e → has x e.1) → AreTaken has P pairs (next ++ rest) xs → AreTaken has Q pairs rest (xs ++ x ∷ [])
+  taken-more P Q pairs next rest xs x still here taken T = record {
+    left = λ i e a. let o = behind next rest i e a in T.left o.0 e o.1;
+    each = λ i y a. each i y (is-at_either xs i y x a);
+    all = λ i e a. ⊎_elim
+        (λ s. inl (s.0, s.1, is-at_left xs (x ∷ []) s.0 s.1 s.2, s.3))
+        (λ o. ⊎_elim
+        (λ b. inl (length xs, x, is-at_last xs x, taken o.0 e b))
+        inr
+        (parted next rest o.0 e o.1))
+        (T.all i e a);
+  }
+    where
+      each : (i : ℕ) (y : X) → Either xs i y x → Q y
+      each i y (earlier a) = still y (T.each i y a)
+      each i y (last e z) = subst Q (sym z) here
+
+  pub taken-all : (P : X → Type 0) (pairs : List (ℕ × ℕ)) (xs : List X) → AreTaken has P pairs [] xs → (i : ℕ) (e : ℕ × ℕ) → IsAt pairs i e → StandsIn has xs e.1
+  taken-all P pairs xs T i e a = ⊎_elim (λ s. s) (λ o. none o.0 o.1) (T.all i e a)
+    where
+      none : (j : ℕ) → IsAt {X = ℕ × ℕ} [] j e → StandsIn has xs e.1
+      none j b = cc
+
+-- ---- one cluster
+-- the span is as wide as the group's, which is wide enough
+abbrev pub IsGroupWithin : List Span → Span → Group → Type 0
+IsGroupWithin spans s g = IsWide spans (IsInGroup g) g.span × IsNarrower g.span s
+
+pub group-within : (spans : List Span) (s t : Span) → IsNarrower s t → (g : Group) → IsGroupWithin spans s g → IsGroupWithin spans t g
+group-within spans s t w g G = (G.0, narrower-still g.span s t G.1 w)
+
+pub cluster-wide : (spans : List Span) (q : Cluster) → ((i : ℕ) (g : Group) → IsAt q.groups i g → IsGroupWithin spans q.span g) → IsWide spans (IsInCluster q) q.span
+cluster-wide spans q each = record {
+  within = λ k o. let G = (each o.0 o.1 o.2).0 in G.within k o.3;
+  wide = λ k t o a. let r = each o.0 o.1 o.2 in let G = r.0 in narrower-still t o.1.span q.span (G.wide k t o.3 a) r.1;
 }
-  where
-    each : (P : Group → Type 0) → ((i : ℕ) (f : Group) → IsAt groups i f → P f) → P g → (i : ℕ) (f : Group) → Either groups i f g → P f
-    each P all p i f (earlier a) = all i f a
-    each P all p i f (last e z) = subst P (sym z) p
 
-pub grouped-all : (spans : List Span) (groups : List Group) → AreGroupedTo spans [] groups → (k : ℕ) → k < length spans → StandsIn groups k
-grouped-all spans groups G k l = ⊎_elim (λ s. s) (λ o. none o.0 o.1 o.2) (G.all k l)
-  where
-    none : (i : ℕ) (e : ℕ × ℕ) → IsAt {X = ℕ × ℕ} [] i e → StandsIn groups k
-    none i e a = cc
+-- the cluster and its groups are as wide as needed
+abbrev pub AreWide : List Span → Cluster → Type 0
+AreWide spans q = IsWide spans (IsInCluster q) q.span × ((i : ℕ) (g : Group) → IsAt q.groups i g → IsWide spans (IsInGroup g) g.span)
 
--- ---- the groups of the carriers
-pub carrier-groups : (hs : List Plane) (vs : List Vertex) (spans : List Span) (groups : List Group) → AreSpans hs vs spans → ((i : ℕ) (g : Group) → IsAt groups i g → AreWithin spans g.carriers) → ((i : ℕ) (g : Group) → IsAt groups i g → IsWide spans g) → ((k : ℕ) → k < length spans → StandsIn groups k) → AreGroups hs vs groups
-carrier-groups hs vs spans groups S within wide all = record {
-  within = λ i g a j k b. let l = within i g a j k b in let e = S.as_many in omega arith;
-  each = λ i j k g h a b d m v c z.
-      let s = is-at_some spans k (within i g a j k b) in
-      span-wider s.0 g.span (place_of v.point) (wide i g a j k s.0 b s.1) (S.each k h s.0 d s.1 m v c z);
+-- ---- the clusters of the carriers
+spanned : (hs : List Plane) (vs : List Vertex) (spans : List Span) (has : ℕ → Type 0) (span : Span) → AreSpans hs vs spans → IsWide spans has span → AreSpanned hs vs has span
+spanned hs vs spans has span S W = record {
+  within = λ k o. let l = W.within k o in let e = S.as_many in omega arith;
+  each = λ k h o d m v c z.
+      let s = is-at_some spans k (W.within k o) in
+      span-wider s.0 span (place_of v.point) (W.wide k s.0 o s.1) (S.each k h s.0 d s.1 m v c z);
+}
+
+pub carrier-clusters : (hs : List Plane) (vs : List Vertex) (spans : List Span) (clusters : List Cluster) → AreSpans hs vs spans → ((i : ℕ) (q : Cluster) → IsAt clusters i q → IsWide spans (IsInCluster q) q.span)
+    → ((i j : ℕ) (q : Cluster) (g : Group) → IsAt clusters i q → IsAt q.groups j g → IsWide spans (IsInGroup g) g.span) → ((k : ℕ) → k < length spans → StandsIn IsInCluster clusters k) → AreClusters hs vs clusters
+carrier-clusters hs vs spans clusters S wide groups all = record {
+  each = λ i q a. spanned hs vs spans (IsInCluster q) q.span S (wide i q a);
+  groups = λ i j q g a b. spanned hs vs spans (IsInGroup g) g.span S (groups i j q g a b);
   all = λ k l. all k (let e = S.as_many in omega arith);
 }

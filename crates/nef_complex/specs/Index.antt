@@ -12,6 +12,7 @@ use Rattle.nef_complex.specs.declared.complex.Vertex.{Vertex}
 use Rattle.nef_complex.specs.declared.complex.Edge.{Edge}
 use Rattle.nef_complex.specs.declared.index.PlaneIndex.{PlaneIndex}
 use Rattle.nef_complex.specs.declared.spans.Span.{Span}
+use Rattle.nef_complex.specs.declared.groups.Cluster.{Cluster}
 use Rattle.nef_complex.specs.declared.groups.Group.{Group}
 use Rattle.nef_complex.specs.Spans.{IsInSpan}
 use Rattle.nef_complex.specs.Planes.{HoldsBoth}
@@ -92,24 +93,37 @@ pub record AreSpans (hs : List Plane) (vs : List Vertex) (spans : List Span) : T
   pub as_many : length spans ≡ length hs
   pub each : (k : ℕ) (h : Plane) (s : Span) → IsAt hs k h → IsAt spans k s → IsSpanOn vs (form_of h) s
 
--- the number stands in some group
-abbrev pub StandsIn : List Group → ℕ → Type 0
-StandsIn groups k = (i : ℕ) × (g : Group) × (j : ℕ) × IsAt groups i g × IsAt g.carriers j k
+-- the number is one of some element, each of which has numbers
+abbrev pub StandsIn : {X : Type 0} → (X → ℕ → Type 0) → List X → ℕ → Type 0
+StandsIn {X} has xs k = (i : ℕ) × (x : X) × IsAt xs i x × has x k
 
--- each carrier stands in some group, and the span of a group holds the vertices on each of its carriers
-pub record AreGroups (hs : List Plane) (vs : List Vertex) (groups : List Group) : Type 0 where
-  pub within : (i : ℕ) (g : Group) → IsAt groups i g → AreWithin hs g.carriers
-  pub each : (i j k : ℕ) (g : Group) (h : Plane) → IsAt groups i g → IsAt g.carriers j k → IsAt hs k h → IsSpanOn vs (form_of h) g.span
-  pub all : (k : ℕ) → k < length hs → StandsIn groups k
+-- the number is one of the group
+abbrev pub IsInGroup : Group → ℕ → Type 0
+IsInGroup g k = (j : ℕ) × IsAt g.carriers j k
 
--- the index names the carriers that hold each vertex and each edge, and what each carrier holds and where that lies; and it has the carriers in groups
+-- the number is one of some group of the cluster
+abbrev pub IsInCluster : Cluster → ℕ → Type 0
+IsInCluster q = StandsIn IsInGroup q.groups
+
+-- the numbers are numbers of carriers, and the span holds the vertices on each of these
+pub record AreSpanned (hs : List Plane) (vs : List Vertex) (has : ℕ → Type 0) (s : Span) : Type 0 where
+  pub within : (k : ℕ) → has k → k < length hs
+  pub each : (k : ℕ) (h : Plane) → has k → IsAt hs k h → IsSpanOn vs (form_of h) s
+
+-- each carrier stands in some group of some cluster, and the spans of a group and of a cluster hold the vertices on each of its carriers
+pub record AreClusters (hs : List Plane) (vs : List Vertex) (clusters : List Cluster) : Type 0 where
+  pub each : (i : ℕ) (q : Cluster) → IsAt clusters i q → AreSpanned hs vs (IsInCluster q) q.span
+  pub groups : (i j : ℕ) (q : Cluster) (g : Group) → IsAt clusters i q → IsAt q.groups j g → AreSpanned hs vs (IsInGroup g) g.span
+  pub all : (k : ℕ) → k < length hs → StandsIn IsInCluster clusters k
+
+-- the index names the carriers that hold each vertex and each edge, and what each carrier holds and where that lies; and it has the carriers in clusters
 pub record HasHolders (hs : List Plane) (vs : List Vertex) (es : List Edge) (x : PlaneIndex) : Type 0 where
   pub at_vertex : AreVertexHolders hs vs x.at_vertex
   pub at_edge : AreEdgeHolders hs vs es x.at_edge
   pub on_carrier : AreCarrierVertices hs vs x.on_carrier
   pub in_carrier : AreCarrierEdges hs vs es x.in_carrier
   pub spans : AreSpans hs vs x.spans
-  pub groups : AreGroups hs vs x.groups
+  pub clusters : AreClusters hs vs x.clusters
 
 -- the carriers hold each item: some carrier has its normal and holds its vertex
 abbrev pub AreHeld : List Plane → List Vertex → Type 0

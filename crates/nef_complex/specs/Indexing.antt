@@ -9,7 +9,6 @@ use Rattle.nef_complex.specs.declared.complex.Vertex.{Vertex}
 use Rattle.nef_complex.specs.declared.complex.Edge.{Edge}
 use Rattle.nef_complex.specs.declared.index.PlaneIndex.{PlaneIndex}
 use Rattle.nef_complex.specs.declared.spans.Span.{Span}
-use Rattle.nef_complex.specs.declared.groups.Group.{Group}
 use Rattle.nef_complex.specs.Index.{HasItemIn, LiesOn, EdgeLiesIn, AreNumbersWith}
 use Rattle.nef_complex.specs.Spans.{IsNarrower}
 
@@ -55,6 +54,7 @@ pub record AreKeyed (n : ℕ) (pairs : List (ℕ × ℕ)) : Type 0 where
   pub within : (i : ℕ) (e : ℕ × ℕ) → IsAt pairs i e → e.1 < n
   pub all : (k : ℕ) → k < n → (i : ℕ) × (e : ℕ × ℕ) × IsAt pairs i e × (e.1 ≡ k)
 
--- the span of the group is at least as wide as those with its numbers
-abbrev pub IsWide : List Span → Group → Type 0
-IsWide spans g = (j k : ℕ) (s : Span) → IsAt g.carriers j k → IsAt spans k s → IsNarrower s g.span
+-- the numbers are numbers of spans, and the span is at least as wide as these
+pub record IsWide (spans : List Span) (has : ℕ → Type 0) (s : Span) : Type 0 where
+  pub within : (k : ℕ) → has k → k < length spans
+  pub wide : (k : ℕ) (t : Span) → has k → IsAt spans k t → IsNarrower t s

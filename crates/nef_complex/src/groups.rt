@@ -1,9 +1,10 @@
-//! Carriers in groups of such as lie close to one another.
+//! Carriers in groups of such as lie close to one another, and these groups in clusters.
 
 ghost use Rattle.std.specs.Prelude.{ℕ, ◌<◌, length, IfOk};
 ghost use Rattle.nef_space.specs.Lists.{IsAt};
+ghost use Rattle.nef_complex.specs.declared.groups.Cluster.{Cluster as ClusterValue};
 ghost use Rattle.nef_complex.specs.declared.groups.Group.{Group as GroupValue};
-ghost use Rattle.nef_complex.specs.Index.{AreWithin, StandsIn};
+ghost use Rattle.nef_complex.specs.Index.{StandsIn, IsInGroup, IsInCluster};
 ghost use Rattle.nef_complex.specs.Indexing.{AreKeyed, IsWide};
 
 use crate::OutOfMemory;
@@ -18,8 +19,17 @@ pub struct Group {
     pub carriers: List<usize>,
 }
 
-// So many carriers make a group; the last one may have fewer.
+/// Some groups, with a span of all vertices on their carriers.
+#[derive(Debug, Drop)]
+pub struct Cluster {
+    pub span: Span,
+    pub groups: List<Group>,
+}
+
+// So many carriers make a group, and so many a cluster; the last one may have fewer.
 const MOST_IN_GROUP: usize = 8;
+
+const MOST_IN_CLUSTER: usize = 8 * MOST_IN_GROUP;
 
 // The low 16 bits of the number, with a bit left free above each of them.
 fn spread(number: u32) -> u32 {
@@ -57,9 +67,8 @@ fn in_order(alloc: Global, spans: &[Span]) -> Result<Vec<(u32, usize)>, OutOfMem
 // The group of the spans with these numbers.
 fn group_of(alloc: Global, spans: &[Span], keyed: &[(u32, usize)]) -> Result<Group, OutOfMemory>
     requires within { (i : ℕ) (e : ℕ × ℕ) → IsAt keyed.now i e → e.1 < length spans.now }
-    ensures within { IfOk result (λ g. AreWithin spans.now g.carriers) }
-    ensures wide { IfOk result (λ g. IsWide spans.now g) }
-    ensures all { IfOk result (λ g. (i : ℕ) (e : ℕ × ℕ) → IsAt keyed.now i e → (j : ℕ) × IsAt g.carriers j e.1) }
+    ensures wide { IfOk result (λ g. IsWide spans.now (IsInGroup g) g.span) }
+    ensures all { IfOk result (λ g. (i : ℕ) (e : ℕ × ℕ) → IsAt keyed.now i e → IsInGroup g e.1) }
 {
     let mut span = Span::none();
     let room = Vec::with_capacity(alloc, keyed.len())?;
@@ -71,16 +80,33 @@ fn group_of(alloc: Global, spans: &[Span], keyed: &[(u32, usize)]) -> Result<Gro
     Ok(Group { span, carriers })
 }
 
-/// The carriers with these spans in groups. Each carrier stands in some group.
-pub(crate) fn groups_of(alloc: Global, spans: &[Span]) -> Result<List<Group>, OutOfMemory>
-    ensures within { IfOk result (λ v. (i : ℕ) (g : GroupValue) → IsAt v i g → AreWithin spans.now g.carriers) }
-    ensures wide { IfOk result (λ v. (i : ℕ) (g : GroupValue) → IsAt v i g → IsWide spans.now g) }
-    ensures all { IfOk result (λ v. (k : ℕ) → k < length spans.now → StandsIn v k) }
+// The cluster of the spans with these numbers.
+fn cluster_of(alloc: Global, spans: &[Span], keyed: &[(u32, usize)]) -> Result<Cluster, OutOfMemory>
+    requires within { (i : ℕ) (e : ℕ × ℕ) → IsAt keyed.now i e → e.1 < length spans.now }
+    ensures wide { IfOk result (λ q. IsWide spans.now (IsInCluster q) q.span) }
+    ensures groups { IfOk result (λ q. (i : ℕ) (g : GroupValue) → IsAt q.groups i g → IsWide spans.now (IsInGroup g) g.span) }
+    ensures all { IfOk result (λ q. (i : ℕ) (e : ℕ × ℕ) → IsAt keyed.now i e → IsInCluster q e.1) }
 {
-    let keyed = in_order(alloc, spans)?;
+    let mut span = Span::none();
     let mut groups = List::new(alloc);
     for next in keyed.chunks(MOST_IN_GROUP) {
-        groups.push(group_of(alloc, spans, next)?)?;
+        let group = group_of(alloc, spans, next)?;
+        span = span.with_span(&group.span);
+        groups.push(group)?;
     }
-    Ok(groups)
+    Ok(Cluster { span, groups })
+}
+
+/// The carriers with these spans in clusters of groups. Each carrier stands in some group of some cluster.
+pub(crate) fn clusters_of(alloc: Global, spans: &[Span]) -> Result<List<Cluster>, OutOfMemory>
+    ensures wide { IfOk result (λ v. (i : ℕ) (q : ClusterValue) → IsAt v i q → IsWide spans.now (IsInCluster q) q.span) }
+    ensures groups { IfOk result (λ v. (i j : ℕ) (q : ClusterValue) (g : GroupValue) → IsAt v i q → IsAt q.groups j g → IsWide spans.now (IsInGroup g) g.span) }
+    ensures all { IfOk result (λ v. (k : ℕ) → k < length spans.now → StandsIn IsInCluster v k) }
+{
+    let keyed = in_order(alloc, spans)?;
+    let mut clusters = List::new(alloc);
+    for next in keyed.chunks(MOST_IN_CLUSTER) {
+        clusters.push(cluster_of(alloc, spans, next)?)?;
+    }
+    Ok(clusters)
 }

@@ -8,11 +8,11 @@ ghost use Rattle.nef_geo.specs.Shapes.{form_of, place_of};
 ghost use Rattle.nef_complex.specs.declared.complex.Edge.{Edge};
 ghost use Rattle.nef_complex.specs.declared.complex.Vertex.{Vertex};
 ghost use Rattle.nef_complex.specs.Complexes.{ShowsSet};
-ghost use Rattle.nef_complex.specs.Index.{AreInOrder, HasItemIn, LiesOn, EdgeLiesIn, AreNumbersWith, AreHolders, AreHoldersAlong, AreSpans, AreGroups};
+ghost use Rattle.nef_complex.specs.Index.{AreInOrder, HasItemIn, LiesOn, EdgeLiesIn, AreNumbersWith, AreHolders, AreHoldersAlong, AreSpans, AreClusters};
 ghost use Rattle.nef_geo.specs.declared.plane.Plane.{Plane};
 
 use crate::complex::Complex;
-use crate::groups::Group;
+use crate::groups::Cluster;
 use crate::spans::Span;
 use crate::table::Table;
 use nef_geo::{List, Plane, plane_cmp};
@@ -22,7 +22,7 @@ use std::cmp::Ordering;
 /// of the edges that lie in it and those of the vertices on it, in increasing order. Besides, for each vertex the numbers
 /// of the carriers that hold it, and for each edge those of the carriers that hold both of its ends, in increasing order;
 /// and for each carrier the numbers of the vertices on it, those of the edges in it, and a span of these vertices; and the
-/// carriers in groups of such as lie close to one another.
+/// carriers in clusters of groups of such as lie close to one another.
 #[derive(Debug, Drop)]
 pub struct PlaneIndex {
     pub planes: List<Plane>,
@@ -33,7 +33,7 @@ pub struct PlaneIndex {
     pub on_carrier: List<List<usize>>,
     pub in_carrier: List<List<usize>>,
     pub spans: List<Span>,
-    pub groups: List<Group>,
+    pub clusters: List<Cluster>,
 }
 
 /// The numbers of the edges that lie in a plane, and of the vertices on it, in increasing order.
@@ -116,10 +116,11 @@ pub fn carrier_spans(c: &Complex) -> &[Span]
     c.index.spans.as_slice()
 }
 
-/// The carriers in groups, each with a span of the vertices on its carriers. Each carrier stands in some group.
-pub fn carrier_groups(c: &Complex) -> &[Group]
+/// The carriers in groups, and these in clusters; each group and each cluster has a span of the vertices on its carriers.
+/// Each carrier stands in some group of some cluster.
+pub fn carrier_clusters(c: &Complex) -> &[Cluster]
     requires shows { (s : Set) × ShowsSet s c.now }
-    ensures groups { AreGroups c.now.carriers c.now.vertices result.now }
+    ensures clusters { AreClusters c.now.carriers c.now.vertices result.now }
 {
-    c.index.groups.as_slice()
+    c.index.clusters.as_slice()
 }

@@ -8,7 +8,7 @@ ghost use Rattle.nef_complex.specs.Indexing.{HasOneMore};
 
 use crate::OutOfMemory;
 use crate::complex::{Complex, Edge, Vertex};
-use crate::groups::groups_of;
+use crate::groups::clusters_of;
 use crate::holders::{edge_rows, vertex_rows};
 use crate::holding::plane_normal;
 use crate::index::PlaneIndex;
@@ -75,7 +75,7 @@ fn index_of(
         on_carrier: List::new(alloc),
         in_carrier: List::new(alloc),
         spans: List::new(alloc),
-        groups: List::new(alloc),
+        clusters: List::new(alloc),
     };
     for (number, h) in carriers.iter().enumerate() {
         let on = on_carrier.at(number).as_slice();
@@ -119,13 +119,13 @@ impl Complex {
             &on_carrier,
             &in_carrier,
         )?;
-        let groups = groups_of(alloc, spans.as_slice())?;
+        let clusters = clusters_of(alloc, spans.as_slice())?;
         index.at_vertex = at_vertex;
         index.at_edge = at_edge;
         index.on_carrier = on_carrier;
         index.in_carrier = in_carrier;
         index.spans = spans;
-        index.groups = groups;
+        index.clusters = clusters;
         Ok(Complex {
             carriers,
             vertices,

@@ -17,10 +17,10 @@ mod turning;
 mod vertices;
 
 pub use complex::{Complex, Corner, Edge, PlaneMeet, Vertex};
-pub use groups::Group;
+pub use groups::{Cluster, Group};
 pub use holding::{holds, holds_both, plane_normal};
 pub use index::{
-    PlaneIndex, PlaneItems, carrier_groups, carrier_items, carrier_spans, edge_holders,
+    PlaneIndex, PlaneItems, carrier_clusters, carrier_items, carrier_spans, edge_holders,
     plane_items, vertex_holders,
 };
 pub use spans::{Bounds, Span};

@@ -28,30 +28,25 @@ use Rattle.nef_complex.proofs.Lines.{one-crossing}
 use Rattle.nef_plane.proofs.Found.{not-end}
 use Rattle.nef_plane.proofs.Nearest.{between-ahead}
 use Rattle.nef_complex.specs.declared.complex.Complex.{Complex}
-use Rattle.nef_complex.specs.declared.groups.Group.{Group}
+use Rattle.nef_complex.specs.declared.groups.Cluster.{Cluster}
+use Rattle.nef_complex.specs.declared.spans.Span.{Span}
 use Rattle.nef_space.specs.Lists.{IsAt}
 use Rattle.nef_complex.specs.Complexes.{complex_of, ShowsSet}
-use Rattle.nef_complex.specs.Index.{AreGroups}
-use Rattle.nef_classes.proofs.ClassLists.{is-at_within}
+use Rattle.nef_complex.specs.Index.{IsInCluster, AreSpanned, AreClusters}
+use Rattle.nef_complex.specs.Spans.{IsInSpan}
 use Rattle.nef_smap.proofs.Lists.{at-within}
-use Rattle.nef_smap.proofs.SideLists.{at-from_get, get-from_at}
+use Rattle.nef_smap.proofs.SideLists.{get-from_at}
 use Rattle.nef_locate.specs.declared.ray.Met.{Met}
 use Rattle.nef_locate.specs.Places.{IsFirstHit}
 use Rattle.nef_locate.specs.Rays.{IsMet, IsReachedMet, IsSooner, IsNotBefore, IsSkeletonIn, HasNoneOn, HasNoneOnCarrier}
 use Rattle.nef_locate.proofs.CarrierPoints.{skeleton-carrier, crossed}
+use Rattle.nef_locate.proofs.Reading.{HaveAll, all-numbers}
+use Rattle.nef_locate.proofs.Windows.{none-within}
 use Rattle.law_complex.proofs.EqualPoints.{ahead-from, vertex-same, edge-same, flat-same}
 
 -- nothing that the carriers with the first n numbers hold of the skeleton lies before what is met
 abbrev pub HaveNoneOn : Complex → PlainPlace → Vector → List ℕ → ℕ → Option Met → Type 0
 HaveNoneOn c p d ns n best = (j k : ℕ) → j < n → At ns j k → HasNoneOnCarrier c p d best k
-
--- nor what those in the group hold
-abbrev pub HasNoneIn : Complex → PlainPlace → Vector → Option Met → Group → Type 0
-HasNoneIn c p d best g = (j k : ℕ) → IsAt g.carriers j k → HasNoneOnCarrier c p d best k
-
--- nor what those in the first n groups hold
-abbrev pub HaveNoneIn : Complex → PlainPlace → Vector → List Group → ℕ → Option Met → Type 0
-HaveNoneIn c p d gs n best = (i : ℕ) (g : Group) → i < n → At gs i g → HasNoneIn c p d best g
 
 -- ---- the order along a ray
 pub never-same : (y z : PlainPlace) (d : Vector) → IsAhead y d z → SamePlace y z → ⊥
@@ -90,6 +85,11 @@ skeleton-framed s c S h y (inl (meets_vertex k, (v, a, e))) = dim-framed s y 0 (
 skeleton-framed s c S h y (inl (meets_edge k, ((e, v, w, a, H, b), l))) = dim-framed s y 1 (omega arith) (edge-points s (complex_of c) k e v w y S.shows a H b).0
 skeleton-framed s c S h y (inr f) = dim-framed s y 2 (omega arith) f.0
 
+-- ---- carriers whose span doesn't meet the window, within which all points ahead lie
+pub none-ahead : (c : Complex) (has : ℕ → Type 0) (span window : Span) → AreSpanned c.carriers c.vertices has span → ((y : PlainPlace) → IsInSpan span y → IsInSpan window y → ⊥) → (p : PlainPlace) (d : Vector)
+    → ((y : PlainPlace) → InClosedFrame y → IsAhead p d y → IsInSpan window y) → (best : Option Met) (k : ℕ) → has k → HasNoneOnCarrier c p d best k
+none-ahead c has span window A off p d ahead best k o h e s y S X I = absurd (none-within c has span window A off k o h e s y S (ahead y (skeleton-framed s c S (form_of h) y I) X.ahead) X.on I)
+
 -- ---- one plane
 module _ (p : PlainPlace) (d : Vector) (h : Plane) (hit : Hit) (X : IsCrossing p d (form_of h) (hit_place hit)) where
   abbrev x : PlainPlace
@@ -124,12 +124,9 @@ module _ (s : Set) (c : Complex) (S : ShowsSet s c) (p : PlainPlace) (d : Vector
   abbrev AllMet : Option Met → Type 0
   AllMet best = (k : ℕ) (h : Plane) → At c.carriers k h → HasNoneOn c p d best h
 
-  -- since each carrier stands in some group
-  pub all-met : (groups : List Group) → AreGroups c.carriers c.vertices groups → (n : ℕ) → length groups ≤ n → (best : Option Met) → HaveNoneIn c p d groups n best → AllMet best
-  all-met groups A n l best f k h a =
-      let i = A.all k (at-within c.carriers k h a) in
-      let m = is-at_within groups i.0 i.1 i.3 in
-      f i.0 i.1 (omega (arith, l, m)) (at-from_get groups i.0 i.1 i.3) i.2 k i.4 h (get-from_at c.carriers k h a)
+  -- since each carrier stands in some group of some cluster
+  pub all-met : (clusters : List Cluster) → AreClusters c.carriers c.vertices clusters → (n : ℕ) → length clusters ≤ n → (best : Option Met) → HaveAll IsInCluster (HasNoneOnCarrier c p d best) clusters n → AllMet best
+  all-met clusters A n l best f k h a = all-numbers IsInCluster (HasNoneOnCarrier c p d best) clusters n l f k (A.all k (at-within c.carriers k h a)) h (get-from_at c.carriers k h a)
 
   not-before : (best : Option Met) → AllMet best → (y : PlainPlace) → IsAhead p d y → IsSkeletonPoint (complex_of c) y → IsNotBefore p y best
   not-before best A y w o = let k = skeleton-carrier s c S y o in A k.number k.plane k.listed s y S (crossed s c S p y d u w k) k.found

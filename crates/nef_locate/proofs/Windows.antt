@@ -22,9 +22,8 @@ use Rattle.law_complex.proofs.Spans.{plane-within, stays-close}
 use Rattle.nef_complex.specs.declared.complex.Complex.{Complex}
 use Rattle.nef_complex.specs.declared.spans.Bounds.{Bounds}
 use Rattle.nef_complex.specs.declared.spans.Span.{Span}
-use Rattle.nef_complex.specs.declared.groups.Group.{Group}
 use Rattle.nef_complex.specs.Complexes.{vertex_of, complex_of, ShowsSet}
-use Rattle.nef_complex.specs.Index.{IsSpanOn, AreSpans}
+use Rattle.nef_complex.specs.Index.{IsSpanOn, AreSpans, AreSpanned}
 use Rattle.nef_complex.specs.Spans.{IsInSpan}
 use Rattle.nef_locate.specs.Rays.{IsSkeletonIn, HasNotAtCarrier}
 
@@ -169,6 +168,11 @@ pub carrier-spanned : (s : Set) (c : Complex) → ShowsSet s c → (spans : List
     → (y : Place) → form_at (form_of h) y ≡ pos 0 → IsSkeletonIn s (complex_of c) (form_of h) y → IsInSpan span y
 carrier-spanned s c S spans A k h span a b = spanned s c S (form_of h) span (A.each k h span (get-from_at c.carriers k h a) b)
 
--- the point is none of what the carriers in the group hold of the skeleton
-abbrev pub HasNotIn : Complex → Place → Group → Type 0
-HasNotIn c y g = (j k : ℕ) → IsAt g.carriers j k → HasNotAtCarrier c y k
+-- ---- some carriers whose span doesn't meet the window
+module _ (c : Complex) (has : ℕ → Type 0) (span window : Span) (A : AreSpanned c.carriers c.vertices has span) (off : (y : Place) → IsInSpan span y → IsInSpan window y → ⊥) where
+  -- hold nothing of the skeleton within the window
+  pub none-within : (k : ℕ) → has k → (h : Plane) → IsAt c.carriers k h → (s : Set) (y : Place) → ShowsSet s c → IsInSpan window y → form_at (form_of h) y ≡ pos 0 → IsSkeletonIn s (complex_of c) (form_of h) y → ⊥
+  none-within k o h e s y S w on i = off y (spanned s c S (form_of h) span (A.each k h o e) y on i) w
+
+  pub none-at : (y : Place) → IsInSpan window y → (k : ℕ) → has k → HasNotAtCarrier c y k
+  none-at y w k o h e s S on i = none-within k o h e s y S w on i

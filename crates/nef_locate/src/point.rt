@@ -10,8 +10,9 @@ ghost use Rattle.nef_geo.specs.Hits.{IsPlaceAtMost};
 ghost use Rattle.nef_geo.specs.Shapes.{form_of, place_of, hit_place};
 ghost use Rattle.nef_geo.specs.Widths.{upright_limit, upright_weight_limit};
 ghost use Rattle.law_complex.specs.Skeleton.{IsEdgePoint, IsSkeletonPoint};
+ghost use Rattle.nef_complex.specs.declared.groups.Group.{Group as GroupValue};
 ghost use Rattle.nef_complex.specs.Complexes.{complex_of, ShowsSet, AreBelow, AreAbove};
-ghost use Rattle.nef_complex.specs.Index.{AreWithin};
+ghost use Rattle.nef_complex.specs.Index.{AreWithin, IsInGroup, IsInCluster, AreSpanned};
 ghost use Rattle.nef_complex.specs.Spans.{IsInSpan};
 ghost use Rattle.nef_locate.specs.Places.{IsPlaceIn, IsPlaceAt, place_dimension};
 ghost use Rattle.nef_locate.specs.Rays.{IsSkeletonAt, IsSkeletonIn, HasNotAtCarrier, PartsVertices};
@@ -22,7 +23,8 @@ use crate::ray::first_hit;
 use crate::spot::facet_spot;
 use crate::window::may_hold;
 use nef_complex::{
-    Complex, Edge, Group, Span, carrier_groups, carrier_items, carrier_spans, find_vertex,
+    Cluster, Complex, Edge, Group, Span, carrier_clusters, carrier_items, carrier_spans,
+    find_vertex,
 };
 use nef_geo::{Hit, Plane, Point, Sign, hit_at, hit_side, up};
 use nef_plane::is_in_line;
@@ -129,10 +131,37 @@ fn spot_in_group(c: &Complex, group: &Group, before: usize, q: &Hit, window: &Sp
     requires numbers { IsPlaceAtMost upright_limit upright_weight_limit (hit_place q.now) }
     requires window { IsInSpan window.now (hit_place q.now) }
     ensures at { IfSome result (IsSkeletonAt (complex_of c.now) (hit_place q.now)) }
-    ensures none { IsNone result → (j k : ℕ) → IsAt group.now.carriers j k → HasNotAtCarrier c.now (hit_place q.now) k }
+    ensures none { IsNone result → (k : ℕ) → IsInGroup group.now k → HasNotAtCarrier c.now (hit_place q.now) k }
 {
     for number in group.carriers.as_slice() {
         if let Some(spot) = spot_in_window(c, *number, before, q, window) {
+            return Some(spot);
+        }
+    }
+    None
+}
+
+// The same of all carriers in the cluster's groups.
+fn spot_in_cluster(
+    c: &Complex,
+    cluster: &Cluster,
+    before: usize,
+    q: &Hit,
+    window: &Span,
+) -> Option<Place>
+    requires shows { (s : Set) × ShowsSet s c.now }
+    requires groups { (i : ℕ) (g : GroupValue) → IsAt cluster.now.groups i g → AreSpanned c.now.carriers c.now.vertices (IsInGroup g) g.span }
+    requires framed { InClosedFrame (hit_place q.now) }
+    requires parts { PartsVertices c.now q.now before }
+    requires numbers { IsPlaceAtMost upright_limit upright_weight_limit (hit_place q.now) }
+    requires window { IsInSpan window.now (hit_place q.now) }
+    ensures at { IfSome result (IsSkeletonAt (complex_of c.now) (hit_place q.now)) }
+    ensures none { IsNone result → (k : ℕ) → IsInCluster cluster.now k → HasNotAtCarrier c.now (hit_place q.now) k }
+{
+    for group in cluster.groups.as_slice() {
+        if may_hold(&group.span, window)
+            && let Some(spot) = spot_in_group(c, group, before, q, window)
+        {
             return Some(spot);
         }
     }
@@ -150,10 +179,10 @@ fn off_vertices(c: &Complex, p: &Point, before: usize) -> Option<Place>
 {
     let hit = hit_at(p);
     let window = Span::of(p);
-    let groups = carrier_groups(c);
-    for group in groups {
-        if may_hold(&group.span, &window)
-            && let Some(spot) = spot_in_group(c, group, before, &hit, &window)
+    let clusters = carrier_clusters(c);
+    for cluster in clusters {
+        if may_hold(&cluster.span, &window)
+            && let Some(spot) = spot_in_cluster(c, cluster, before, &hit, &window)
         {
             return Some(spot);
         }

@@ -8,8 +8,9 @@ ghost use Rattle.nef_space.specs.Vectors.{Vector, IsDirection, opposite, up};
 ghost use Rattle.nef_geo.specs.Hits.{IsUpright, IsReached};
 ghost use Rattle.nef_geo.specs.Shapes.{form_of, vector_of, place_of, hit_place};
 ghost use Rattle.law_complex.specs.Skeleton.{IsSkeletonPoint};
+ghost use Rattle.nef_complex.specs.declared.groups.Group.{Group as GroupValue};
 ghost use Rattle.nef_complex.specs.Complexes.{complex_of, ShowsSet};
-ghost use Rattle.nef_complex.specs.Index.{AreWithin, IsSpanOn};
+ghost use Rattle.nef_complex.specs.Index.{AreWithin, IsSpanOn, IsInGroup, IsInCluster, AreSpanned};
 ghost use Rattle.nef_complex.specs.Spans.{IsInSpan};
 ghost use Rattle.nef_locate.specs.Places.{IsPlaceIn, IsFirstHit};
 ghost use Rattle.nef_locate.specs.Rays.{IsMet, IsReachedMet, IsSooner, IsNotBefore, HasNoneOn, HasNoneOnCarrier};
@@ -17,7 +18,7 @@ ghost use Rattle.nef_locate.specs.Rays.{IsMet, IsReachedMet, IsSooner, IsNotBefo
 use crate::place::Place;
 use crate::spot::spot_within;
 use crate::window::{may_hold, ray_window};
-use nef_complex::{Complex, Group, Span, carrier_groups, carrier_spans};
+use nef_complex::{Cluster, Complex, Group, Span, carrier_clusters, carrier_spans};
 use nef_geo::{Dir, Hit, Plane, Point, hit_order, ray_hit};
 use std::cmp::Ordering;
 
@@ -116,11 +117,38 @@ fn nearer_in_group(
     requires before { IfSome before (IsMet (complex_of c.now) (place_of p.now) (vector_of d.now)) }
     ensures met { IfSome result (IsMet (complex_of c.now) (place_of p.now) (vector_of d.now)) }
     ensures kept { (y : PlainPlace) → IsNotBefore (place_of p.now) y before → IsNotBefore (place_of p.now) y result }
-    ensures carriers { (j k : ℕ) → IsAt group.now.carriers j k → HasNoneOnCarrier c.now (place_of p.now) (vector_of d.now) result k }
+    ensures carriers { (k : ℕ) → IsInGroup group.now k → HasNoneOnCarrier c.now (place_of p.now) (vector_of d.now) result k }
 {
     let mut best = before;
     for number in group.carriers.as_slice() {
         best = nearer_within(c, *number, p, d, window, best);
+    }
+    best
+}
+
+// The same of the carriers of the cluster's groups.
+fn nearer_in_cluster(
+    c: &Complex,
+    cluster: &Cluster,
+    p: &Point,
+    d: &Dir,
+    window: &Span,
+    before: Option<Met>,
+) -> Option<Met>
+    requires shows { (s : Set) × ShowsSet s c.now }
+    requires groups { (i : ℕ) (g : GroupValue) → IsAt cluster.now.groups i g → AreSpanned c.now.carriers c.now.vertices (IsInGroup g) g.span }
+    requires upright { IsUpright (vector_of d.now) }
+    requires window { (q : PlainPlace) → InClosedFrame q → IsAhead (place_of p.now) (vector_of d.now) q → IsInSpan window.now q }
+    requires before { IfSome before (IsMet (complex_of c.now) (place_of p.now) (vector_of d.now)) }
+    ensures met { IfSome result (IsMet (complex_of c.now) (place_of p.now) (vector_of d.now)) }
+    ensures kept { (y : PlainPlace) → IsNotBefore (place_of p.now) y before → IsNotBefore (place_of p.now) y result }
+    ensures carriers { (k : ℕ) → IsInCluster cluster.now k → HasNoneOnCarrier c.now (place_of p.now) (vector_of d.now) result k }
+{
+    let mut best = before;
+    for group in cluster.groups.as_slice() {
+        if may_hold(&group.span, window) {
+            best = nearer_in_group(c, group, p, d, window, best);
+        }
     }
     best
 }
@@ -137,11 +165,11 @@ pub fn first_hit(c: &Complex, p: &Point, d: &Dir) -> Option<Place>
     ensures none { IsNone result → (q : PlainPlace) → IsAhead (place_of p.now) (vector_of d.now) q → IsSkeletonPoint (complex_of c.now) q → ⊥ }
 {
     let window = ray_window(p, d);
-    let groups = carrier_groups(c);
+    let clusters = carrier_clusters(c);
     let mut best = None;
-    for group in groups {
-        if may_hold(&group.span, &window) {
-            best = nearer_in_group(c, group, p, d, &window, best);
+    for cluster in clusters {
+        if may_hold(&cluster.span, &window) {
+            best = nearer_in_cluster(c, cluster, p, d, &window, best);
         }
     }
     match best {

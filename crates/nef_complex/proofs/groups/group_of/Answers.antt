@@ -26,9 +26,6 @@ loop-key-preserved c =
           (group-more ss ps n c.loop-key.span t u c.loop-key.carriers e here at c.with_span-span.ensures.wider c.with_span-span.ensures.other c.loop-key.invariant.group);
     }
 
-pub returns-clause-within : goal.returns-clause-within
-returns-clause-within c = c.loop-key.invariant.group.within
-
 pub returns-clause-wide : goal.returns-clause-wide
 returns-clause-wide c = c.loop-key.invariant.group.wide
 

@@ -1,9 +1,8 @@
-use Rattle.std.proofs.Common.{ℕ, ◌<◌}
 use Rattle.nef_geo.specs.Shapes.{hit_place}
-use Rattle.law_sphere.specs.Maps.{At}
-use Rattle.nef_complex.specs.declared.groups.Group.{Group}
-use Rattle.nef_locate.proofs.Windows.{HasNotIn}
+use Rattle.nef_complex.specs.Index.{IsInCluster}
+use Rattle.nef_locate.specs.Rays.{HasNotAtCarrier}
+use Rattle.nef_locate.proofs.Reading.{HaveAll}
 use Rattle.nef_locate.proofs.point.off_vertices.Given as goal
 
-abbrev pub invariant-loop-group : goal.invariant-loop-group
-invariant-loop-group l = (i : ℕ) (g : Group) → i < l.group-index → At l.groups i g → HasNotIn l.c (hit_place l.hit) g
+abbrev pub invariant-loop-cluster : goal.invariant-loop-cluster
+invariant-loop-cluster l = HaveAll IsInCluster (HasNotAtCarrier l.c (hit_place l.hit)) l.clusters l.cluster-index

@@ -20,7 +20,7 @@ loop-number-preserved c =
     (let e : IsNone c.spot_in_window.result = search rules in c.spot_in_window.ensures.none e)
 
 pub returns-clause-none : goal.returns-clause-none
-returns-clause-none c = λ e j k a.
+returns-clause-none c = λ e k (j, a).
     let ns : List ℕ = c.as_slice-number-items.result.now in
     let b = subst (λ (xs : List ℕ). IsAt xs j k) (sym c.as_slice-number-items.ensures.all) a in
     c.loop-number.invariant j k (let l = is-at_within ns j k b in let t = c.loop-number-test.false in omega (arith, l, t)) (at-from_get ns j k b)

@@ -25,7 +25,7 @@ loop-number-preserved c =
     )
 
 pub returns-clause-carriers : goal.returns-clause-carriers
-returns-clause-carriers c = λ j k a.
+returns-clause-carriers c = λ k (j, a).
     let ns : List ℕ = c.as_slice-number-items.result.now in
     let b = subst (λ (xs : List ℕ). IsAt xs j k) (sym c.as_slice-number-items.ensures.all) a in
     c.loop-number.invariant.2 j k (let l = is-at_within ns j k b in let t = c.loop-number-test.false in omega (arith, l, t)) (at-from_get ns j k b)

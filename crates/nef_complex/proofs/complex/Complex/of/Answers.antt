@@ -4,10 +4,11 @@ use Rattle.nef_geo.specs.declared.plane.Plane.{Plane}
 use Rattle.nef_complex.specs.declared.complex.Edge.{Edge}
 use Rattle.nef_complex.specs.declared.complex.Vertex.{Vertex}
 use Rattle.nef_complex.specs.declared.spans.Span.{Span}
+use Rattle.nef_complex.specs.declared.groups.Cluster.{Cluster}
 use Rattle.nef_complex.specs.declared.groups.Group.{Group}
-use Rattle.nef_complex.specs.Index.{AreHeld, AreSpans, StandsIn, AreGroups, AreNumbersWith, AreWithin, AreVertexHolders, AreEdgeHolders, AreCarrierVertices, AreCarrierEdges, IsIndexOf}
+use Rattle.nef_complex.specs.Index.{AreHeld, AreSpans, StandsIn, IsInGroup, IsInCluster, AreClusters, AreNumbersWith, AreWithin, AreVertexHolders, AreEdgeHolders, AreCarrierVertices, AreCarrierEdges, IsIndexOf}
 use Rattle.nef_complex.specs.Indexing.{AreRowsOfOnce, HasNumber, IsWide}
-use Rattle.nef_complex.proofs.Grouped.{carrier-groups}
+use Rattle.nef_complex.proofs.Grouped.{carrier-clusters}
 use Rattle.nef_complex.proofs.Spanning.{AreSpansOf, rows-within, carrier-spans}
 use Rattle.nef_complex.proofs.Turned.{vertices-once, edges-once, carrier-vertices, carrier-edges}
 use Rattle.nef_complex.proofs.complex.Complex.of.Goals as goal
@@ -29,8 +30,9 @@ module _ (gs : List Plane) (us : List Vertex) (rows : List (List ℕ)) (n : ℕ)
   on-carriers : AreVertexHolders gs us rows → length table ≡ n → ((k : ℕ) (row : List ℕ) → IsAt table k row → AreNumbersWith (HasNumber rows k) row) → AreCarrierVertices gs us table
   on-carriers V m t = carrier-vertices gs us rows V table (m ∙ f) t
 
-in-groups : (gs : List Plane) (us : List Vertex) (read spans : List Span) (groups : List Group) → read ≡ spans → AreSpans gs us spans → ((i : ℕ) (g : Group) → IsAt groups i g → AreWithin read g.carriers) → ((i : ℕ) (g : Group) → IsAt groups i g → IsWide read g) → ((k : ℕ) → k < length read → StandsIn groups k) → AreGroups gs us groups
-in-groups gs us read spans groups e S = carrier-groups gs us read groups (subst (AreSpans gs us) (sym e) S)
+in-clusters : (gs : List Plane) (us : List Vertex) (read spans : List Span) (clusters : List Cluster) → read ≡ spans → AreSpans gs us spans → ((i : ℕ) (q : Cluster) → IsAt clusters i q → IsWide read (IsInCluster q) q.span)
+    → ((i j : ℕ) (q : Cluster) (g : Group) → IsAt clusters i q → IsAt q.groups j g → IsWide read (IsInGroup g) g.span) → ((k : ℕ) → k < length read → StandsIn IsInCluster clusters k) → AreClusters gs us clusters
+in-clusters gs us read spans clusters e S = carrier-clusters gs us read clusters (subst (AreSpans gs us) (sym e) S)
 
 pub turned-requires : goal.turned-requires
 turned-requires c =
@@ -86,4 +88,4 @@ returns-clause-holders c =
     let many = subst (λ (xs : List (List ℕ)). length ss ≡ length xs) c.as_slice-7.ensures.all c.in_ok-spans.ensures.as_many in
     let all = of-two (λ (xs : List (List ℕ)) (us : List Vertex). AreSpansOf us xs ss) c.as_slice-7.result.now table c.as_slice-6.result.now vs c.as_slice-7.ensures.all c.as_slice-6.ensures.all c.in_ok-spans.ensures.spanned in
     let S = carrier-spans hs vs table O ss many all in
-    record { at_vertex = V; at_edge = E; on_carrier = O; in_carrier = W; spans = S; groups = in-groups hs vs c.as_slice-10.result.now ss c.in_ok-groups.groups c.as_slice-10.ensures.all S c.in_ok-groups.ensures.within c.in_ok-groups.ensures.wide c.in_ok-groups.ensures.all }
+    record { at_vertex = V; at_edge = E; on_carrier = O; in_carrier = W; spans = S; clusters = in-clusters hs vs c.as_slice-10.result.now ss c.in_ok-clusters.clusters c.as_slice-10.ensures.all S c.in_ok-clusters.ensures.wide c.in_ok-clusters.ensures.groups c.in_ok-clusters.ensures.all }

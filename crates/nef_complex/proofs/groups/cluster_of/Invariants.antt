@@ -1,0 +1,7 @@
+use Rattle.std.specs.Slice.Iter.{chunks_rest}
+use Rattle.nef_complex.specs.Index.{IsInGroup}
+use Rattle.nef_complex.proofs.Grouped.{AreTaken, IsGroupWithin}
+use Rattle.nef_complex.proofs.groups.cluster_of.Given as goal
+
+abbrev pub invariant-loop-next : goal.invariant-loop-next
+invariant-loop-next l = record { taken : AreTaken IsInGroup (IsGroupWithin l.spans l.span) l.keyed (chunks_rest l.next-iterator) l.groups }
