@@ -29,7 +29,7 @@ pub(crate) fn bare(alloc: Global, carriers: List<Plane>, vertices: List<Vertex>)
             on_carrier: List::new(alloc),
             in_carrier: List::new(alloc),
             spans: List::new(alloc),
-            groups: List::new(alloc),
+            clusters: List::new(alloc),
         },
     }
 }
