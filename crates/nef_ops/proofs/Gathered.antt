@@ -1,7 +1,7 @@
 -- What an operation gathers: its candidates, the right map at each, and its carriers.
-use Rattle.std.proofs.Common.{◌≡◌, Bool, ℕ, zero, suc, ◌+◌, ◌<◌, ◌≤◌, List, [], ◌∷◌, ◌++◌, map, take, length, get_or, slice_get, Some, ap, sym, subst, ◌∙◌, inl, inr}
+use Rattle.std.proofs.Common.{◌≡◌, Bool, ℕ, zero, suc, ◌+◌, ◌<◌, ◌≤◌, List, [], ◌∷◌, map, length, get_or, slice_get, Some, ap, sym, subst, ◌∙◌, inl, inr}
 use Rattle.std.specs.List.{Contains}
-use Rattle.std.proofs.lemmas.List.{map_more, take_all, length-map}
+use Rattle.std.proofs.lemmas.List.{length-map}
 use Rattle.nef_space.specs.Local.{IsVertex}
 use Rattle.nef_space.specs.Place.{Place, Form, SamePlace, IsPlaceBelow}
 use Rattle.nef_space.specs.Sets.{Set}
@@ -24,10 +24,11 @@ use Rattle.nef_complex.specs.declared.complex.Complex.{Complex}
 use Rattle.nef_complex.specs.Complexes.{vertex_of, ShowsSet}
 use Rattle.law_complex.specs.Laws.{IsVertexOfBoth}
 use Rattle.nef_cand.specs.Candidates.{IsListed}
+use Rattle.nef_cand.specs.Points.{points_of}
 use Rattle.nef_result.specs.Results.{AreMapsOf}
 use Rattle.nef_ops.specs.declared.op.UnaryOp.{UnaryOp}
 use Rattle.nef_ops.specs.Nodes.{unary_set}
-use Rattle.nef_ops.specs.Rights.{IsRight, points_of}
+use Rattle.nef_ops.specs.Rights.{IsRight}
 use Rattle.nef_ops.proofs.OneSet.{unary-carriers, unary-vertex}
 
 -- ---- elements by their places
@@ -107,17 +108,6 @@ module _ (s : Set) (c : Complex) (S : ShowsSet s c) where
     cone = λ p a. subst (λ (r : Point). Cone (map_of m) (unary_set op s) (place_of r)) (at-one (points_of c) k v.point p (map-at (λ (w : Vertex). w.point) c.vertices k v h) a)
         (f (S.shows.cones k (vertex_of v) (map-at vertex_of c.vertices k v h)));
   }
-
--- ---- the points of the vertices, one after another
-pub points-more : (vs us : List Vertex) → us ≡ vs → (i : ℕ) (v : Vertex) (ps qs : List Point) → i < length us → v ≡ get_or us i v → ps ≡ map (λ (w : Vertex). w.point) (take i vs)
-    → qs ≡ ps ++ v.point ∷ [] → qs ≡ map (λ (w : Vertex). w.point) (take (i + 1) vs)
-points-more vs us same i v ps qs l is so added =
-    let within = subst (λ (ws : List Vertex). i < length ws) same l in
-    let own = is ∙ ap (λ (ws : List Vertex). get_or ws i v) same in
-    added ∙ ap (λ (rs : List Point). rs ++ v.point ∷ []) so ∙ ap (λ (w : Vertex). map (λ (x : Vertex). x.point) (take i vs) ++ w.point ∷ []) own ∙ sym (map_more (λ (w : Vertex). w.point) vs i v within)
-
-pub points-all : (vs us : List Vertex) → us ≡ vs → (i : ℕ) (ps : List Point) → length us ≤ i → ps ≡ map (λ (w : Vertex). w.point) (take i vs) → ps ≡ map (λ (w : Vertex). w.point) vs
-points-all vs us same i ps l so = so ∙ ap (map (λ (w : Vertex). w.point)) (take_all i vs (subst (λ (ws : List Vertex). length ws ≤ i) same l))
 
 -- of an operation on one set
 pub one-maps : (op : UnaryOp) (a : Complex) (hs : List Plane) (vs ps : List Point) (ms : List SphereMap) → ps ≡ vs → vs ≡ points_of a → hs ≡ a.carriers → length ms ≡ length a.vertices

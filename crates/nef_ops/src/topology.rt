@@ -1,20 +1,20 @@
 //! Complement, interior, closure, boundary and regularisation of a set.
 
-ghost use Rattle.std.specs.Prelude.{◌≡◌, ◌≤◌, map, IfOk};
+ghost use Rattle.std.specs.Prelude.{◌≤◌, IfOk};
 ghost use Rattle.nef_space.specs.Place.{Place};
 ghost use Rattle.nef_space.specs.Sets.{Set};
 ghost use Rattle.law_sphere.specs.Least.{Cone};
 ghost use Rattle.nef_smap.specs.Maps.{map_of, IsSphereMap, IsLeastMap};
 ghost use Rattle.nef_complex.specs.Complexes.{ShowsSet};
+ghost use Rattle.nef_cand.specs.Points.{points_of};
 ghost use Rattle.nef_ops.specs.Nodes.{unary_set};
-ghost use Rattle.nef_ops.specs.Rights.{points_of};
 
 use crate::OutOfMemory;
 use crate::finished::finished;
 use crate::op::UnaryOp;
+use nef_cand::vertex_points;
 use nef_complex::Complex;
 use nef_core::{How, Job};
-use nef_geo::Point;
 use nef_io::Gate;
 use nef_result::{assemble, copy_carriers};
 use nef_smap::SphereMap;
@@ -70,17 +70,6 @@ impl<'a> Job for UnaryJob<'a> {
         let map = changed(alloc, &vertex.map, self.op)?;
         Ok(map)
     }
-}
-
-// The points of the vertices, in their order.
-fn vertex_points(alloc: Global, c: &Complex) -> Result<Vec<Point>, OutOfMemory>
-    ensures points { IfOk result (λ v. v.items ≡ points_of c.now) }
-{
-    let mut points = Vec::new(alloc);
-    for vertex in c.vertices.as_slice() {
-        points.push(vertex.point)?;
-    }
-    Ok(points)
 }
 
 /// The complex of what the operation makes of the set of a complex. Its vertices are among those of the set. One job for
