@@ -9,11 +9,7 @@ mod ahead;
 mod answer;
 mod bindings;
 mod comparison;
-#[cfg(test)]
-mod empty_text;
 mod entry;
-#[cfg(test)]
-mod gates;
 mod joining;
 mod laws;
 mod line;
@@ -34,6 +30,3 @@ pub use entry::program;
 pub use laws::written_laws;
 pub use status::{Status, code};
 pub use top::run;
-
-#[cfg(test)]
-mod tests;

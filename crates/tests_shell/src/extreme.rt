@@ -1,7 +1,7 @@
-//! Sets whose planes touch the frame, come close to each other, or all pass through one point; long chains; and the most
-//! names.
+//! Sets whose planes touch the frame, come close to each other, or all pass through one point; and long chains.
 
-use super::{fits, gives};
+use crate::runs::{fits, gives};
+use std::alloc::Global;
 use std::test::Fail;
 
 // Planes that meet the frame in a corner alone, pass through its corners and edges, or have the greatest numbers; a thin
@@ -19,16 +19,8 @@ half Pa -1 0 0 0 closed / half Pb 1 0 0 0 closed / half Pc 0 -1 0 0 closed / \
     and Ph Pg Pc / and Pi Ph Pd / and Pj Pi Pe / and P Pj Pf / full U / diff K U P / count K / \
     cl C K / same C U => 9 12 6 2 / same";
 
-#[test]
-fn planes(rt: HostRuntime) -> Result<(), Fail> {
-    assert!(rt; fits(&rt, rt.alloc(), &[], PLANES, 0)?);
-    Ok(())
-}
-
 // The points that lie on or above all of 49 planes through one point, which the four steepest ones bound.
-#[test]
-fn planes_through_a_point(rt: HostRuntime) -> Result<(), Fail> {
-    let alloc = rt.alloc();
+fn planes_through_a_point(alloc: Global) -> Result<String, Fail> {
     let mut script = String::from_str(alloc, "full a0\n")?;
     for plane in 0..49i32 {
         let (x, y, next) = (plane / 7 - 3, plane % 7 - 3, plane + 1);
@@ -36,15 +28,11 @@ fn planes_through_a_point(rt: HostRuntime) -> Result<(), Fail> {
         script.push_str(format!(in alloc; "and a{next} a{plane} h{plane}\n")?.as_str())?;
     }
     script.push_str("and b h0 h6\nand c b h42\nand D c h48\nsame a49 D\ncount a49\n")?;
-    let output = b"same\n13 20 11 3\n";
-    assert!(rt; gives(&rt, alloc, &[], script.as_bytes(), 0, output)?);
-    Ok(())
+    Ok(script)
 }
 
 // The complement and the closure in turn, fifty times: a closed half-space comes back after every fourth step.
-#[test]
-fn closures_of_complements(rt: HostRuntime) -> Result<(), Fail> {
-    let alloc = rt.alloc();
+fn closures_of_complements(alloc: Global) -> Result<String, Fail> {
     let mut script = String::from_str(alloc, "half A 1 0 0 0 closed\nnot n1 A\n")?;
     for step in 2..=100u32 {
         let before = step - 1;
@@ -52,19 +40,16 @@ fn closures_of_complements(rt: HostRuntime) -> Result<(), Fail> {
         script.push_str(format!(in alloc; "{word} n{step} n{before}\n")?.as_str())?;
     }
     script.push_str("same n100 A\nsame n98 A\n")?;
-    let output = b"same\ndiffers\n";
-    assert!(rt; gives(&rt, alloc, &[], script.as_bytes(), 0, output)?);
-    Ok(())
+    Ok(script)
 }
 
 #[test]
-fn all_names(rt: HostRuntime) -> Result<(), Fail> {
+fn planes_and_chains(rt: HostRuntime) -> Result<(), Fail> {
     let alloc = rt.alloc();
-    let mut script = String::new(alloc);
-    for number in 1..=4096u32 {
-        script.push_str(format!(in alloc; "full n{number}\n")?.as_str())?;
-    }
-    script.push_str("has n4096 0 0 0 1\n")?;
-    assert!(rt; gives(&rt, alloc, &[], script.as_bytes(), 0, b"in\n")?);
+    assert!(rt; fits(&rt, alloc, "", PLANES, 0)?);
+    let script = planes_through_a_point(alloc)?;
+    assert!(rt; gives(&rt, alloc, "", script.as_str(), 0, "same\n13 20 11 3\n")?);
+    let script = closures_of_complements(alloc)?;
+    assert!(rt; gives(&rt, alloc, "", script.as_str(), 0, "same\ndiffers\n")?);
     Ok(())
 }

@@ -1,9 +1,8 @@
 //! What is printed of worked sets.
 
-use super::{WORKERS, gives, unfolded, worked};
-use crate::empty_text::EMPTY_TEXT;
+use crate::runs::{gives, unfolded, worked};
+use crate::tables::{UNIT_BOX, WORKERS};
 use std::alloc::Global;
-use std::str;
 use std::sync::Wait;
 use std::test::Fail;
 use std::thread::Threads;
@@ -145,8 +144,19 @@ const PLATE: &str = "half Pa -1 0 0 -10 closed / half Pb 1 0 0 -10 closed / \
 
 const PLATE_OPENING: &str = "28 42 18 3 / not / in / in / polyhedron K / nef3 1 28 42 18 3";
 
+// A box, and two boxes with a common wall that make it up.
+const BOXES: &str = "half La -1 0 0 0 closed / half Lb 1 0 0 -2 closed / half Lc 0 -1 0 0 closed / \
+    half Ld 0 1 0 -1 closed / half Le 0 0 -1 0 closed / half Lf 0 0 1 -1 closed / and Lg La Lb / \
+    and Lh Lg Lc / and Li Lh Ld / and Lj Li Le / half Aa -1 0 0 0 closed / \
+    half Ab 1 0 0 -1 closed / half Ac 0 -1 0 0 closed / half Ad 0 1 0 -1 closed / \
+    half Ae 0 0 -1 0 closed / half Af 0 0 1 -1 closed / and Ag Aa Ab / and Ah Ag Ac / \
+    and Ai Ah Ad / and Aj Ai Ae / and A Aj Af / half Ba -1 0 0 1 closed / \
+    half Bb 1 0 0 -2 closed / half Bc 0 -1 0 0 closed / half Bd 0 1 0 -1 closed / \
+    half Be 0 0 -1 0 closed / half Bf 0 0 1 -1 closed / and Bg Ba Bb / and Bh Bg Bc / \
+    and Bi Bh Bd / and Bj Bi Be / and B Bj Bf / and L Lj Lf / or U A B";
+
 // Whether the part with the number that stands before it is this one.
-pub fn has_part(alloc: Global, text: &str, part: &str) -> Result<bool, Fail> {
+pub(crate) fn has_part(alloc: Global, text: &str, part: &str) -> Result<bool, Fail> {
     let Some((number, lines)) = part.split_once(' ') else {
         return Ok(false);
     };
@@ -180,26 +190,21 @@ fn has_parts(alloc: Global, text: &str, parts: &str) -> Result<bool, Fail> {
 fn row_fits<R: Threads + Wait + Sync>(
     rt: &R,
     alloc: Global,
-    words: &[&str],
+    words: &str,
     row: &str,
 ) -> Result<bool, Fail> {
-    let Some((script, rest)) = row.split_once(" => ") else {
-        return Ok(false);
-    };
-    let Some((opening, parts)) = rest.split_once(" => ") else {
-        return Ok(false);
-    };
-    let script = unfolded(alloc, script)?;
-    let opening = unfolded(alloc, opening)?;
-    let (status, written) = worked(rt, alloc, words, script.as_bytes())?;
-    let text = str::from_utf8(written.as_slice())?;
+    let (script, rest) = row.split_once(" => ").ok_or("a script")?;
+    let (opening, parts) = rest.split_once(" => ").ok_or("the first lines")?;
+    let (script, opening) = (unfolded(alloc, script)?, unfolded(alloc, opening)?);
+    let (status, text) = worked(rt, alloc, words, script.as_str())?;
+    let text = text.as_str();
     Ok(status == 0 && text.starts_with(opening.as_str()) && has_parts(alloc, text, parts)?)
 }
 
 fn rows_fit<R: Threads + Wait + Sync>(
     rt: &R,
     alloc: Global,
-    words: &[&str],
+    words: &str,
     table: &str,
 ) -> Result<bool, Fail> {
     for row in table.split('\n') {
@@ -210,73 +215,73 @@ fn rows_fit<R: Threads + Wait + Sync>(
     Ok(true)
 }
 
-// Whether the script writes this by this board, whatever the number of workers.
+// Whether the script writes this by this board, whatever the number of workers, and with `--ahead` by eight.
 fn alike_by<R: Threads + Wait + Sync>(
     rt: &R,
     alloc: Global,
     board: &str,
     script: &str,
-    output: &[u8],
+    output: &str,
 ) -> Result<bool, Fail> {
     for workers in WORKERS.split(' ') {
-        let words = ["--workers", workers, "--board", board];
-        if !gives(rt, alloc, &words, script.as_bytes(), 0, output)? {
+        let words = format!(in alloc; "--workers {workers} --board {board}")?;
+        if !gives(rt, alloc, words.as_str(), script, 0, output)? {
             return Ok(false);
         }
     }
-    Ok(true)
+    let words = format!(in alloc; "--ahead --workers 8 --board {board}")?;
+    gives(rt, alloc, words.as_str(), script, 0, output)
+}
+
+// Whether the texts of two sets with these names, which the script binds, are equal.
+fn are_alike<R: Threads + Wait + Sync>(
+    rt: &R,
+    alloc: Global,
+    script: &str,
+    first: &str,
+    second: &str,
+) -> Result<bool, Fail> {
+    let script = format!(in alloc; "{script} / print {first} / print {second}")?;
+    let script = unfolded(alloc, script.as_str())?;
+    let words = "--text 1 --workers 2 --board lock";
+    let (status, text) = worked(rt, alloc, words, script.as_str())?;
+    let (_, text) = text.split_once("polyhedron ").ok_or("a text")?;
+    let (left, right) = text.split_once("polyhedron ").ok_or("two texts")?;
+    let (_, left) = left.split_once('\n').ok_or("a text")?;
+    let (_, right) = right.split_once('\n').ok_or("a text")?;
+    Ok(status == 0 && left == right)
 }
 
 #[test]
-fn parts_of_solids(rt: HostRuntime) -> Result<(), Fail> {
+fn parts_of_texts(rt: HostRuntime) -> Result<(), Fail> {
     let alloc = rt.alloc();
-    assert!(rt; rows_fit(&rt, alloc, &[], SOLIDS)?);
-    assert!(rt; rows_fit(&rt, alloc, &["--text", "1"], SOLIDS)?);
-    assert!(rt; rows_fit(&rt, alloc, &["--workers", "2", "--board", "free"], SOLIDS)?);
-    Ok(())
-}
-
-#[test]
-fn faces_and_shells(rt: HostRuntime) -> Result<(), Fail> {
-    let alloc = rt.alloc();
-    assert!(rt; rows_fit(&rt, alloc, &["--text", "2"], FACES_AND_SHELLS)?);
-    assert!(rt; rows_fit(&rt, alloc, &["--text", "2"], WALL_HOLLOW_EDGE)?);
-    Ok(())
-}
-
-#[test]
-fn parts_of_lines(rt: HostRuntime) -> Result<(), Fail> {
-    let alloc = rt.alloc();
-    assert!(rt; rows_fit(&rt, alloc, &[], LINES)?);
-    assert!(rt; rows_fit(&rt, alloc, &["--workers", "2", "--board", "free"], LINES)?);
+    assert!(rt; rows_fit(&rt, alloc, "", SOLIDS)?);
+    assert!(rt; rows_fit(&rt, alloc, "--text 1", SOLIDS)?);
+    assert!(rt; rows_fit(&rt, alloc, "--workers 2 --board free", SOLIDS)?);
+    assert!(rt; rows_fit(&rt, alloc, "--text 2", FACES_AND_SHELLS)?);
+    assert!(rt; rows_fit(&rt, alloc, "--text 2", WALL_HOLLOW_EDGE)?);
+    assert!(rt; rows_fit(&rt, alloc, "", LINES)?);
+    assert!(rt; rows_fit(&rt, alloc, "--workers 2 --board free", LINES)?);
     Ok(())
 }
 
 #[test]
 fn plate_by_any_board(rt: HostRuntime) -> Result<(), Fail> {
     let alloc = rt.alloc();
-    let script = unfolded(alloc, PLATE)?;
-    let opening = unfolded(alloc, PLATE_OPENING)?;
-    let (status, written) = worked(&rt, alloc, &[], script.as_bytes())?;
-    let output = written.as_slice();
+    let (script, opening) = (unfolded(alloc, PLATE)?, unfolded(alloc, PLATE_OPENING)?);
+    let (status, output) = worked(&rt, alloc, "", script.as_str())?;
     assert_eq!(rt; status, 0);
-    assert!(rt; output.starts_with(opening.as_bytes()));
-    assert!(rt; alike_by(&rt, alloc, "lock", script.as_str(), output)?);
-    assert!(rt; alike_by(&rt, alloc, "free", script.as_str(), output)?);
-    for board in ["lock", "free"] {
-        let words = ["--ahead", "--workers", "8", "--board", board];
-        assert!(rt; gives(&rt, alloc, &words, script.as_bytes(), 0, output)?);
-    }
+    assert!(rt; output.starts_with(opening.as_str()));
+    assert!(rt; alike_by(&rt, alloc, "lock", script.as_str(), output.as_str())?);
+    assert!(rt; alike_by(&rt, alloc, "free", script.as_str(), output.as_str())?);
     Ok(())
 }
 
-// The same as of the empty set, with the other label inside.
+// A box and two boxes with a common wall that make it up; a cube and its boundary.
 #[test]
-fn text_of_the_whole_frame(rt: HostRuntime) -> Result<(), Fail> {
-    let alloc = rt.alloc();
-    let text = EMPTY_TEXT.replace(alloc, " n", " i")?;
-    let output = format!(in alloc; "8 12 6 2\npolyhedron U\n{text}end\n")?;
-    let script = b"full U\ncount U\nprint U\n";
-    assert!(rt; gives(&rt, alloc, &[], script, 0, output.as_bytes())?);
+fn alike(rt: HostRuntime) -> Result<(), Fail> {
+    assert!(rt; are_alike(&rt, rt.alloc(), BOXES, "U", "L")?);
+    let script = format!(in rt.alloc(); "{UNIT_BOX} / bd D A")?;
+    assert!(rt; !are_alike(&rt, rt.alloc(), script.as_str(), "D", "A")?);
     Ok(())
 }

@@ -1,8 +1,7 @@
 //! Turned sets.
 
-use super::{fits, unfolded, worked};
+use crate::runs::{fits, unfolded, worked};
 use std::alloc::Global;
-use std::str;
 use std::sync::Wait;
 use std::test::Fail;
 use std::thread::Threads;
@@ -112,8 +111,7 @@ fn turns<R: Threads + Wait + Sync>(
     back: &str,
 ) -> Result<bool, Fail> {
     let script = turned_script(alloc, order, turn, back)?;
-    let (status, written) = worked(rt, alloc, &[], script.as_bytes())?;
-    let text = str::from_utf8(written.as_slice())?;
+    let (status, text) = worked(rt, alloc, "", script.as_str())?;
     let Some(texts) = text.strip_prefix("same\nsame\npolyhedron A\n") else {
         return Ok(false);
     };
@@ -137,8 +135,8 @@ fn each_turn(rt: HostRuntime) -> Result<(), Fail> {
 
 #[test]
 fn rows_of_turns(rt: HostRuntime) -> Result<(), Fail> {
-    assert!(rt; fits(&rt, rt.alloc(), &["--workers", "2"], ROWS, 0)?);
+    assert!(rt; fits(&rt, rt.alloc(), "--workers 2", ROWS, 0)?);
     let refused = "empty A / turn B A 48 => line 2: coefficient out of range";
-    assert!(rt; fits(&rt, rt.alloc(), &[], refused, 1)?);
+    assert!(rt; fits(&rt, rt.alloc(), "", refused, 1)?);
     Ok(())
 }

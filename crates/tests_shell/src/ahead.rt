@@ -1,0 +1,30 @@
+//! Tables of scripts with `--ahead`.
+
+use crate::runs::fits;
+use crate::tables::{ANSWERS, COUNTS};
+use std::alloc::Global;
+use std::sync::Wait;
+use std::test::Fail;
+use std::thread::Threads;
+
+// The numbers of workers: one, a few, and the most.
+const WORKERS: &str = "1 2 8 64";
+
+// Whether the rows come out by this board, whatever the number of workers.
+fn fits_ahead<R: Threads + Wait + Sync>(rt: &R, alloc: Global, board: &str) -> Result<bool, Fail> {
+    for workers in WORKERS.split(' ') {
+        let words = format!(in alloc; "--ahead --workers {workers} --board {board}")?;
+        let words = words.as_str();
+        if !(fits(rt, alloc, words, ANSWERS, 0)? && fits(rt, alloc, words, COUNTS, 0)?) {
+            return Ok(false);
+        }
+    }
+    Ok(true)
+}
+
+#[test]
+fn rows_ahead(rt: HostRuntime) -> Result<(), Fail> {
+    assert!(rt; fits_ahead(&rt, rt.alloc(), "lock")?);
+    assert!(rt; fits_ahead(&rt, rt.alloc(), "free")?);
+    Ok(())
+}
