@@ -2,18 +2,10 @@
 //! what its commands answer to standard output. The words after the program's name are options.
 #![tactic(auto)]
 
-use nef_io::{FromReader, IntoWriter, OpenGate};
-use nef_shell::program;
+use nef_shell::program_over;
 use std::env;
 use std::process::ExitCode;
 
 fn main(rt: HostRuntime) -> ExitCode {
-    program(
-        &rt,
-        rt.alloc(),
-        env::args(&rt),
-        &mut FromReader::new(rt.stdin()),
-        &mut IntoWriter::new(rt.stdout()),
-        &OpenGate,
-    )
+    program_over(&rt, rt.alloc(), env::args(&rt), rt.stdin(), rt.stdout())
 }

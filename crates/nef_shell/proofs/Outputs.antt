@@ -12,6 +12,7 @@ use Rattle.nef_expr.specs.declared.nodes.Node.{Node}
 use Rattle.nef_script.specs.declared.script.Command.{Command}
 use Rattle.nef_shell.specs.declared.stop.Stop.{Stop}
 use Rattle.nef_shell.specs.declared.stop.Stop.TheVariants.{WriteFault, OutOfMemory}
+use Rattle.nef_shell.specs.Working.{FrontOf}
 use Rattle.nef_shell.specs.Stops.{MatchStop}
 use Rattle.nef_shell.specs.Output.{same_answer, joined_answer, IsSameAnswer, IsJoinedAnswer, IsPiece, IsOutput}
 
@@ -41,10 +42,6 @@ pub output-next : (version : TextVersion) (nodes : List Node) (cs : List Command
 output-next version nodes cs i c output piece within at so_far is =
     let next : take (i + 1) cs ≡ take i cs ++ c ∷ [] = take_more cs i c within ∙ ap (λ z. take i cs ++ z ∷ []) (sym at) in
     subst (λ z. IsOutput version nodes z (output ++ piece)) (sym next) (output-more version nodes (take i cs) c output piece so_far is)
-
--- a front of the output of some number of the first commands
-abbrev pub FrontOf : TextVersion → List Node → List Command → Option (List ℕ) → Option (List ℕ) → Type 0
-FrontOf version nodes cs before after = (count : ℕ) × (output : List ℕ) × IsOutput version nodes (take count cs) output × GrowsWithin before after output
 
 -- what was written where the work stopped at a command
 pub front-at : (version : TextVersion) (stop : Stop) (nodes : List Node) (cs : List Command) (i : ℕ) (c : Command) (first before after : Option (List ℕ)) (g g' : ℕ) (output : List ℕ) → i < length cs → c ≡ get_or cs i c → IsOutput version nodes (take i cs) output → Grows first before output

@@ -9,5 +9,6 @@ pub mod Program
 pub mod Commands
 pub mod Operations
 pub mod Stops
+pub mod Working
 pub mod NoScripts
 pub mod Bindings

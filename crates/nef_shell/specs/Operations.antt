@@ -1,5 +1,5 @@
 -- The sets of operations, and the sets that are kept.
-use Rattle.std.specs.Prelude.{◌≡◌, ◌⊎◌, ℕ, ◌<◌, List, Option, Some, None, slice_get, slice_index, length}
+use Rattle.std.specs.Prelude.{◌≡◌, ◌⊎◌, ℕ, ◌<◌, ◌≤◌, List, Option, Some, None, slice_get, slice_index, length}
 use Rattle.nef_space.specs.Sets.{Set}
 use Rattle.nef_geo.specs.Shapes.{given_form}
 use Rattle.law_turns.specs.Turned.{turned_set}
@@ -9,8 +9,15 @@ use Rattle.nef_complex.specs.Complexes.{ShowsSet}
 use Rattle.nef_expr.specs.declared.nodes.Node.{Node}
 use Rattle.nef_expr.specs.Nodes.{operand, node_set}
 use Rattle.nef_ops.specs.Nodes.{constant_set, unary_set}
+use Rattle.nef_shell.specs.declared.operation.Means.{Means}
 use Rattle.nef_shell.specs.declared.operation.Operation.{Operation}
 use Rattle.nef_shell.specs.declared.operation.Operation.TheVariants.{Constant, Half, Unary, Binary, Turned}
+
+-- what operations are worked with: 1 to 64 workers, and a complex of the whole frame
+pub record AreMeans (means : Means) : Type 0 where
+  pub some_worker : 1 ≤ means.how.workers
+  pub few_workers : means.how.workers ≤ 64
+  pub whole : ShowsSet Set.full means.whole.now
 
 -- what the operation makes of the sets of the first nodes
 abbrev pub set_by : List Set → Operation → Set

@@ -1,7 +1,6 @@
 //! Works all bindings of a script ahead of its questions, in rounds.
 
-ghost use Rattle.std.specs.Prelude.{◌≡◌, ◌≤◌, ◌<◌, ◌↔◌, ◌⊎◌, ℕ, None, Some, All, IfOk, IfSome, length, slice_get, slice_set, vec_len};
-ghost use Rattle.nef_space.specs.Sets.{Set};
+ghost use Rattle.std.specs.Prelude.{◌≡◌, ◌<◌, ◌↔◌, ◌⊎◌, ℕ, None, Some, All, IfOk, IfSome, length, slice_get, slice_set, vec_len};
 ghost use Rattle.nef_complex.specs.declared.complex.Complex.{Complex};
 ghost use Rattle.nef_complex.specs.Complexes.{ShowsSet};
 ghost use Rattle.nef_expr.specs.Nodes.{node_set};
@@ -10,7 +9,7 @@ ghost use Rattle.nef_sched.specs.Results.{AreSound};
 ghost use Rattle.nef_script.specs.Commands.{LooksAt, AreBoundBefore, TurnsRight};
 ghost use Rattle.nef_script.specs.Meaning.{IsWithin};
 ghost use Rattle.nef_shell.specs.Bindings.{AreBindings, Fits, IsQuestion, IsAskedAbout, ArePlaced};
-ghost use Rattle.nef_shell.specs.Operations.{AreShown, IsKept};
+ghost use Rattle.nef_shell.specs.Operations.{AreMeans, AreShown, IsKept};
 
 use crate::bindings::{Binding, bindings_of};
 use crate::operation::Means;
@@ -134,8 +133,7 @@ pub(crate) fn worked_ahead<R: Threads + Wait + Sync, G: Gate + Sync>(
     means: &Means,
     gate: &G,
 ) -> Result<Vec<Option<Complex>>, AllocError>
-    requires workers { (1 ≤ means.now.how.workers) × (means.now.how.workers ≤ 64) }
-    requires whole { ShowsSet Set.full means.now.whole.now }
+    requires means { AreMeans means.now }
     requires within { All (IsWithin (length script.now.nodes)) script.now.commands }
     requires turned { All (TurnsRight script.now.nodes) script.now.commands }
     requires bound_before { AreBoundBefore script.now.nodes script.now.commands }

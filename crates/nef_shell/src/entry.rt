@@ -2,16 +2,16 @@
 
 ghost use Rattle.std.specs.Prelude.{◌≡◌, IfOk};
 ghost use Rattle.std.specs.Process.{exit_status};
-ghost use Rattle.nef_shell.specs.Traffic.{traffic};
+ghost use Rattle.nef_shell.specs.Traffic.{Traffic, traffic};
 ghost use Rattle.nef_shell.specs.Program.{IsCollected, ProgramEnds};
 
 use crate::status::{Status, code};
 use crate::top::{refuse_words, run};
-use nef_io::{Gate, Sink, Source};
+use nef_io::{FromReader, Gate, IntoWriter, OpenGate, Sink, Source};
 use nef_words::{WordsFault, line_words};
 use std::alloc::{AllocError, Global};
 use std::env::Args;
-use std::io;
+use std::io::{self, Read, Write};
 use std::process::ExitCode;
 use std::sync::Wait;
 use std::thread::Threads;
@@ -49,4 +49,25 @@ pub fn program<R: Threads + Wait + Sync, S: Source, K: Sink, G: Gate + Sync>(
         Err(WordsFault::OutOfMemory) => Status::OutOfMemory,
     };
     ExitCode::from(code(&status))
+}
+
+/// [`program`] over a reader and a writer of std, of which no read or write has failed so far. No job is
+/// held back.
+pub fn program_over<R: Threads + Wait + Sync, I: Read + Drop, O: Write + Drop>(
+    rt: &R,
+    alloc: Global,
+    line: io::Result<Args>,
+    input: I,
+    output: O,
+) -> ExitCode
+    ensures ends { (io : Traffic) × (io.before.rest ≡ I.remaining input) × (io.before.read_faults ≡ 0) × (io.before.write_faults ≡ 0) × ProgramEnds line (exit_status result) io }
+{
+    program(
+        rt,
+        alloc,
+        line,
+        &mut FromReader::new(input),
+        &mut IntoWriter::new(output),
+        &OpenGate,
+    )
 }

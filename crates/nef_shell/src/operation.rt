@@ -1,11 +1,11 @@
 //! The operation that makes a node's set.
 
-ghost use Rattle.std.specs.Prelude.{◌≡◌, ◌↔◌, ◌≤◌, ℕ, List, Some, IfOk, IsSome};
+ghost use Rattle.std.specs.Prelude.{◌≡◌, ◌↔◌, ℕ, List, Some, IfOk, IsSome};
 ghost use Rattle.std.specs.Option.{option_copied};
 ghost use Rattle.nef_space.specs.Sets.{Set};
 ghost use Rattle.nef_complex.specs.Complexes.{ShowsSet};
 ghost use Rattle.nef_expr.specs.Nodes.{set_of, IsOperand};
-ghost use Rattle.nef_shell.specs.Operations.{set_by, first_operand, second_operand, HasOperand, HasTurn, AreLent};
+ghost use Rattle.nef_shell.specs.Operations.{set_by, first_operand, second_operand, HasOperand, HasTurn, AreLent, AreMeans};
 
 use nef_complex::Complex;
 use nef_core::How;
@@ -98,8 +98,7 @@ pub(crate) fn made<R: Threads + Wait + Sync, G: Gate + Sync>(
     means: &Means,
     gate: &G,
 ) -> Result<Complex, AllocError>
-    requires workers { (1 ≤ means.now.how.workers) × (means.now.how.workers ≤ 64) }
-    requires whole { ShowsSet Set.full means.now.whole.now }
+    requires means { AreMeans means.now }
     requires turn { HasTurn operation }
     requires operands { (ss : List Set) × AreLent ss operation (option_copied first) (option_copied second) }
     ensures shows { IfOk result (λ c. (ss : List Set) → AreLent ss operation (option_copied first.entry) (option_copied second.entry) → ShowsSet (set_by ss operation) c) }

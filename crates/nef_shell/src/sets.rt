@@ -3,7 +3,6 @@
 ghost use Rattle.std.specs.Prelude.{◌≡◌, ◌+◌, ◌≤◌, ◌<◌, ◌↔◌, ◌⊎◌, ℕ, Option, Some, IfOk, IfSome, IsTrue, OnOk, All, length, slice_index, slice_index_or, vec_len, []};
 ghost use Rattle.std.specs.Option.{option_copied};
 ghost use Rattle.nef_space.specs.Local.{SameSet};
-ghost use Rattle.nef_space.specs.Sets.{Set};
 ghost use Rattle.nef_complex.specs.Complexes.{ShowsSet};
 ghost use Rattle.nef_expr.specs.Nodes.{node_set, sets_after, IsOperand};
 ghost use Rattle.nef_expr.specs.Turns.{TurnOf};
@@ -11,7 +10,7 @@ ghost use Rattle.nef_expr.specs.declared.nodes.Node.TheVariants as variant;
 ghost use Rattle.nef_script.specs.Commands.{LooksAt, Binds};
 ghost use Rattle.nef_script.specs.Meaning.{IsWithin};
 ghost use Rattle.nef_shell.specs.Commands.{AreLastUses, AreUses};
-ghost use Rattle.nef_shell.specs.Operations.{set_by, HasOperand, HasTurn, IsLent, AreShown, IsKept, IsGone, IsLean, AreBound};
+ghost use Rattle.nef_shell.specs.Operations.{set_by, HasOperand, HasTurn, AreMeans, IsLent, AreShown, IsKept, IsGone, IsLean, AreBound};
 
 use crate::operation::{Means, Operation, made, operation_of};
 use crate::uses::{bound_node, last_uses, looked_at};
@@ -123,8 +122,7 @@ impl<'a> Sets<'a> {
         means: &Means,
         gate: &G,
     ) -> Result<(), AllocError>
-        requires workers { (1 ≤ means.now.how.workers) × (means.now.how.workers ≤ 64) }
-        requires whole { ShowsSet Set.full means.now.whole.now }
+        requires means { AreMeans means.now }
         requires node { node < length self.old.nodes.now }
         requires turn { HasTurn operation }
         requires set { node_set self.old.nodes.now node ≡ set_by (sets_after [] self.old.nodes.now) operation }
@@ -154,8 +152,7 @@ impl<'a> Sets<'a> {
         means: &Means,
         gate: &G,
     ) -> Result<(), AllocError>
-        requires workers { (1 ≤ means.now.how.workers) × (means.now.how.workers ≤ 64) }
-        requires whole { ShowsSet Set.full means.now.whole.now }
+        requires means { AreMeans means.now }
         requires node { node < length self.old.nodes.now }
         requires shown { AreShown self.old.nodes.now self.old.list.items }
         requires operands { (k : ℕ) → IsOperand k (slice_index_or self.old.nodes.now node variant.Empty) → IsKept self.old.nodes.now self.old.list.items k }
@@ -180,8 +177,7 @@ impl<'a> Sets<'a> {
         means: &Means,
         gate: &G,
     ) -> Result<(), AllocError>
-        requires workers { (1 ≤ means.now.how.workers) × (means.now.how.workers ≤ 64) }
-        requires whole { ShowsSet Set.full means.now.whole.now }
+        requires means { AreMeans means.now }
         requires node { node < length self.old.nodes.now }
         requires turn { turn < 48 }
         requires image { TurnOf self.old.nodes.now turn from node }

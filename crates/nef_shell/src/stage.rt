@@ -7,6 +7,7 @@ ghost use Rattle.nef_complex.specs.Complexes.{ShowsSet};
 ghost use Rattle.nef_sched.specs.Results.{kept, IsKept as HasResult, IsReady, AreSound};
 ghost use Rattle.nef_sched.specs.Marks.{IsMarked, IsUnmarked};
 ghost use Rattle.nef_shell.specs.Bindings.{AreBindings, first_need, second_need, needed_complex, Fits};
+ghost use Rattle.nef_shell.specs.Operations.{AreMeans};
 
 use crate::bindings::Binding;
 use crate::operation::{Means, made};
@@ -131,8 +132,7 @@ pub(crate) fn work_bindings<R: Threads + Wait + Sync, G: Gate + Sync>(
     means: &Means,
     gate: &G,
 ) -> Result<Vec<Option<Complex>>, AllocError>
-    requires workers { (1 ≤ means.now.how.workers) × (means.now.how.workers ≤ 64) }
-    requires whole { ShowsSet Set.full means.now.whole.now }
+    requires means { AreMeans means.now }
     requires are { AreBindings nodes.now bindings.now }
     requires wanted { length wanted.now ≡ length bindings.now }
     ensures fits { IfOk result (λ v. AreSound (length bindings.now) (Fits nodes.now bindings.now) v.items) }

@@ -1,19 +1,17 @@
 //! Works a script's commands.
 
-ghost use Rattle.std.specs.Prelude.{◌≡◌, ◌≤◌, ℕ, List, Some, true, false, All, OnOk, IfErr, length, slice_get, take, vec_len};
+ghost use Rattle.std.specs.Prelude.{◌≡◌, ◌≤◌, ℕ, Some, true, false, All, OnOk, IfErr, length, slice_get, vec_len};
 ghost use Rattle.nef_space.specs.Local.{HasLabel};
-ghost use Rattle.nef_space.specs.Sets.{Set};
 ghost use Rattle.nef_geo.specs.Shapes.{place_of};
 ghost use Rattle.nef_complex.specs.declared.complex.Complex.{Complex};
-ghost use Rattle.nef_complex.specs.Complexes.{ShowsSet};
 ghost use Rattle.nef_expr.specs.Nodes.{node_set};
-ghost use Rattle.nef_io.specs.Bytes.{Rose, Grows, GrowsWithin};
+ghost use Rattle.nef_io.specs.Bytes.{Rose};
 ghost use Rattle.nef_script.specs.Commands.{LooksAt, Binds, AreBoundBefore, TurnsRight};
 ghost use Rattle.nef_script.specs.Meaning.{IsWithin};
 ghost use Rattle.nef_shell.specs.Bindings.{IsAskedAbout, IsWorked};
-ghost use Rattle.nef_shell.specs.Output.{IsPiece, IsOutput};
-ghost use Rattle.nef_shell.specs.Operations.{AreShown, IsKept, AreBound};
+ghost use Rattle.nef_shell.specs.Operations.{AreMeans, AreShown, IsKept, AreBound};
 ghost use Rattle.nef_shell.specs.Stops.{MatchStop};
+ghost use Rattle.nef_shell.specs.Working.{HasWritten, HasStopped, HasWrittenAll, FrontOf};
 
 use crate::ahead::worked_ahead;
 use crate::answer::{answer, same_answer};
@@ -60,20 +58,17 @@ pub(crate) fn work_command<R: Threads + Wait + Sync, K: Sink, G: Gate + Sync>(
     sink: &mut K,
     gate: &G,
 ) -> Result<(), Stop>
-    requires workers { (1 ≤ means.now.how.workers) × (means.now.how.workers ≤ 64) }
-    requires whole { ShowsSet Set.full means.now.whole.now }
+    requires means { AreMeans means.now }
     requires within { IsWithin (length sets.old.nodes.now) command.now }
     requires turned { TurnsRight sets.old.nodes.now command.now }
     requires shown { AreShown sets.old.nodes.now sets.old.list.items }
     requires kept { (k : ℕ) → LooksAt sets.old.nodes.now command.now k → IsKept sets.old.nodes.now sets.old.list.items k }
-    ensures done { OnOk result ((piece : List ℕ) × IsPiece text sets.old.nodes.now command.now piece × Grows (K.written sink.old) (K.written sink.new) piece) }
+    ensures done { OnOk result (HasWritten text sets.old.nodes.now command.now (K.written sink.old) (K.written sink.new)) }
     ensures shown { OnOk result (AreShown sets.new.nodes.now sets.new.list.items) }
     ensures bound { OnOk result (AreBound sets.old.nodes.now (Binds command.now) sets.old.list.items sets.new.list.items) }
     ensures nodes { sets.new.nodes ≡ sets.old.nodes }
     ensures uses { sets.new.last_uses ≡ sets.old.last_uses }
-    ensures stopped { IfErr result (λ stop. MatchStop stop
-        (Rose (K.faults sink.old) (K.faults sink.new) × ((piece : List ℕ) × IsPiece text sets.old.nodes.now command.now piece × GrowsWithin (K.written sink.old) (K.written sink.new) piece))
-        (K.written sink.new ≡ K.written sink.old)) }
+    ensures stopped { IfErr result (HasStopped text sets.old.nodes.now command.now (K.written sink.old) (K.written sink.new) (K.faults sink.old) (K.faults sink.new)) }
     ensures quiet { OnOk result (K.faults sink.new ≡ K.faults sink.old) }
     ensures count { K.faults sink.old ≤ K.faults sink.new }
 {
@@ -146,20 +141,17 @@ fn work_next<R: Threads + Wait + Sync, K: Sink, G: Gate + Sync>(
     sink: &mut K,
     gate: &G,
 ) -> Result<(), Stop>
-    requires workers { (1 ≤ means.now.how.workers) × (means.now.how.workers ≤ 64) }
-    requires whole { ShowsSet Set.full means.now.whole.now }
+    requires means { AreMeans means.now }
     requires within { IsWithin (length sets.old.nodes.now) command.now }
     requires turned { TurnsRight sets.old.nodes.now command.now }
     requires shown { AreShown sets.old.nodes.now sets.old.list.items }
     requires kept { IsWorked ahead command.now → (k : ℕ) → LooksAt sets.old.nodes.now command.now k → IsKept sets.old.nodes.now sets.old.list.items k }
-    ensures done { OnOk result ((piece : List ℕ) × IsPiece text sets.old.nodes.now command.now piece × Grows (K.written sink.old) (K.written sink.new) piece) }
+    ensures done { OnOk result (HasWritten text sets.old.nodes.now command.now (K.written sink.old) (K.written sink.new)) }
     ensures shown { OnOk result (AreShown sets.new.nodes.now sets.new.list.items) }
     ensures bound { OnOk result (AreBound sets.old.nodes.now (λ k. (ahead ≡ false) × Binds command.now k) sets.old.list.items sets.new.list.items) }
     ensures nodes { sets.new.nodes ≡ sets.old.nodes }
     ensures uses { sets.new.last_uses ≡ sets.old.last_uses }
-    ensures stopped { IfErr result (λ stop. MatchStop stop
-        (Rose (K.faults sink.old) (K.faults sink.new) × ((piece : List ℕ) × IsPiece text sets.old.nodes.now command.now piece × GrowsWithin (K.written sink.old) (K.written sink.new) piece))
-        (K.written sink.new ≡ K.written sink.old)) }
+    ensures stopped { IfErr result (HasStopped text sets.old.nodes.now command.now (K.written sink.old) (K.written sink.new) (K.faults sink.old) (K.faults sink.new)) }
     ensures quiet { OnOk result (K.faults sink.new ≡ K.faults sink.old) }
     ensures count { K.faults sink.old ≤ K.faults sink.new }
 {
@@ -183,8 +175,7 @@ fn work_all<R: Threads + Wait + Sync, K: Sink, G: Gate + Sync>(
     sink: &mut K,
     gate: &G,
 ) -> Result<(), Stop>
-    requires workers { (1 ≤ means.now.how.workers) × (means.now.how.workers ≤ 64) }
-    requires whole { ShowsSet Set.full means.now.whole.now }
+    requires means { AreMeans means.now }
     requires within { All (IsWithin (length script.now.nodes)) script.now.commands }
     requires turned { All (TurnsRight script.now.nodes) script.now.commands }
     requires bound_before { AreBoundBefore script.now.nodes script.now.commands }
@@ -192,10 +183,10 @@ fn work_all<R: Threads + Wait + Sync, K: Sink, G: Gate + Sync>(
     requires shown { AreShown script.now.nodes list.items }
     requires asked { ahead ≡ true → (k : ℕ) → IsAskedAbout script.now.nodes script.now.commands k → IsKept script.now.nodes list.items k }
     requires only { (k : ℕ) (c : Complex) → slice_get list.items k ≡ Some (Some c) → IsAskedAbout script.now.nodes script.now.commands k }
-    ensures done { OnOk result ((output : List ℕ) × IsOutput text script.now.nodes script.now.commands output × Grows (K.written sink.old) (K.written sink.new) output) }
+    ensures done { OnOk result (HasWrittenAll text script.now.nodes script.now.commands (K.written sink.old) (K.written sink.new)) }
     ensures quiet { OnOk result (K.faults sink.new ≡ K.faults sink.old) }
     ensures stopped { IfErr result (λ stop. MatchStop stop (Rose (K.faults sink.old) (K.faults sink.new)) (Unit {0})) }
-    ensures front { IfErr result (λ _. (count : ℕ) × (output : List ℕ) × IsOutput text script.now.nodes (take count script.now.commands) output × GrowsWithin (K.written sink.old) (K.written sink.new) output) }
+    ensures front { IfErr result (λ _. FrontOf text script.now.nodes script.now.commands (K.written sink.old) (K.written sink.new)) }
 {
     let mut sets = Sets::of(alloc, script, list)?;
     for (now, command) in script.commands().iter().enumerate() {
@@ -221,10 +212,10 @@ pub(crate) fn work<R: Threads + Wait + Sync, K: Sink, G: Gate + Sync>(
     requires within { All (IsWithin (length script.now.nodes)) script.now.commands }
     requires turned { All (TurnsRight script.now.nodes) script.now.commands }
     requires bound_before { AreBoundBefore script.now.nodes script.now.commands }
-    ensures done { OnOk result ((output : List ℕ) × IsOutput options.now.text script.now.nodes script.now.commands output × Grows (K.written sink.old) (K.written sink.new) output) }
+    ensures done { OnOk result (HasWrittenAll options.now.text script.now.nodes script.now.commands (K.written sink.old) (K.written sink.new)) }
     ensures quiet { OnOk result (K.faults sink.new ≡ K.faults sink.old) }
     ensures stopped { IfErr result (λ stop. MatchStop stop (Rose (K.faults sink.old) (K.faults sink.new)) (Unit {0})) }
-    ensures front { IfErr result (λ _. (count : ℕ) × (output : List ℕ) × IsOutput options.now.text script.now.nodes (take count script.now.commands) output × GrowsWithin (K.written sink.old) (K.written sink.new) output) }
+    ensures front { IfErr result (λ _. FrontOf options.now.text script.now.nodes script.now.commands (K.written sink.old) (K.written sink.new)) }
 {
     let whole = constant(alloc, true)?;
     let means = Means {

@@ -1,0 +1,27 @@
+-- What is written while commands are worked.
+use Rattle.std.specs.Prelude.{◌≡◌, ℕ, List, Option, take}
+use Rattle.nef_core.specs.declared.how.TextVersion.{TextVersion}
+use Rattle.nef_expr.specs.declared.nodes.Node.{Node}
+use Rattle.nef_io.specs.Bytes.{Rose, Grows, GrowsWithin}
+use Rattle.nef_script.specs.declared.script.Command.{Command}
+use Rattle.nef_shell.specs.declared.stop.Stop.{Stop}
+use Rattle.nef_shell.specs.Output.{IsPiece, IsOutput}
+use Rattle.nef_shell.specs.Stops.{MatchStop}
+
+-- the command's piece was written
+abbrev pub HasWritten : TextVersion → List Node → Command → Option (List ℕ) → Option (List ℕ) → Type 0
+HasWritten version nodes c before after = (piece : List ℕ) × IsPiece version nodes c piece × Grows before after piece
+
+-- the work stopped at the command: where a write failed, some front of its piece was written, and where memory was wanted nothing
+abbrev pub HasStopped : TextVersion → List Node → Command → Option (List ℕ) → Option (List ℕ) → ℕ → ℕ → Stop → Type 0
+HasStopped version nodes c before after faults faults' stop = MatchStop stop
+    (Rose faults faults' × ((piece : List ℕ) × IsPiece version nodes c piece × GrowsWithin before after piece))
+    (after ≡ before)
+
+-- the output of all commands was written
+abbrev pub HasWrittenAll : TextVersion → List Node → List Command → Option (List ℕ) → Option (List ℕ) → Type 0
+HasWrittenAll version nodes cs before after = (output : List ℕ) × IsOutput version nodes cs output × Grows before after output
+
+-- a front of the output of some number of the first commands was
+abbrev pub FrontOf : TextVersion → List Node → List Command → Option (List ℕ) → Option (List ℕ) → Type 0
+FrontOf version nodes cs before after = (count : ℕ) × (output : List ℕ) × IsOutput version nodes (take count cs) output × GrowsWithin before after output
