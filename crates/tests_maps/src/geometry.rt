@@ -1,257 +1,254 @@
-//! What no clause says, and each call once.
+//! What no clause says of planes, points and directions, and each call once.
 
-ghost use Rattle.std.specs.Prelude.{◌↔◌, IsTrue};
-ghost use Rattle.nef_space.specs.Vectors.{IsAtMost, vector};
-ghost use Rattle.nef_geo.specs.Hits.{IsPlaceAtMost};
-ghost use Rattle.nef_geo.specs.Shapes.{vector_of, hit_place};
-ghost use Rattle.nef_geo.specs.Widths.{upright_limit, upright_weight_limit};
+ghost use Rattle.std.specs.Prelude.{◌↔◌, ◌≤◌, nat_abs, IsTrue};
 
+use crate::words::{direction, is_at_most, numbers, way, way_text};
 use nef_geo::{
-    Dir, FarHit, Hit, List, Plane, PlaneFault, Point, Sign, cross, dir_cmp, dir_side, dot, far_hit,
-    far_order, far_side, hit_at, hit_order, hit_side, lex_cmp, meet, plane_axis, plane_cmp,
-    plane_dir, quad, ray_hit, side, triple, up,
+    Dir, List, Plane, Point, Sign, cross, dir_cmp, dir_side, dot, hit_at, hit_side, lex_cmp, meet,
+    plane_axis, plane_cmp, plane_dir, quad, side, triple,
 };
-use std::cmp::Ordering;
+use std::alloc::Global;
+use std::process::Abort;
 use std::test::Fail;
 
-fn plane(a: i64, b: i64, c: i64, d: i64) -> Result<Plane, PlaneFault> {
-    Ok(Plane::read(a, b, c, d)?.plane())
-}
+// Questions about planes, points and directions, and their answers. A plane that is read is told with its numbers, and
+// whether they are turned round.
+const ROWS: &str = "read -2 0 0 4 => 1 0 0 -2 flipped
+read 0 0 0 4194305 => OutOfRange
+read 2049 0 0 0 => OutOfRange
+read 0 0 0 4194304 => ZeroNormal
+read -2048 2048 -2048 -4194303 => 2048 -2048 2048 4194303 flipped
+read 0 -6 4 10 => 0 3 -2 -5 flipped
+frame 0 => 1 0 0 2048
+frame 5 => 0 0 1 -2048
+point 2 -4 6 8 => 1 -2 3 4 inside
+point 2048 0 0 1 => 2048 0 0 1 outside
+point -2047 0 2047 1 => -2047 0 2047 1 inside
+point 105553116266496 -105553116266495 0 51539607552 => 105553116266496 -105553116266495 0 51539607552 outside
+given_side -1 0 0 0, 3 0 0 2 => -1
+side -1 0 0 0, 3 0 0 2 => Plus
+side 2048 2048 2048 4194303, -105553116266496 -105553116266495 -105553116266496 51539607551 => Minus
+hit_side 2048 2048 2048 4194303, -105553116266496 -105553116266495 -105553116266496 51539607551 => Minus
+direction 0 0 0 => none
+direction -4 6 8 => -2 3 4
+back -4 6 8 => 2 -3 -4
+direction 137438953472 -137438953471 0 => 137438953472 -137438953471 0
+way_order -4 6 8, 137438953472 -137438953471 0 => Less
+order -4 6 8, -2 3 4 => Equal
+dot 1 0 0, 0 1 0 => Zero
+triple 1 0 0, 0 1 0, 0 0 1 => Plus
+triple 0 1 0, 1 0 0, 0 0 1 => Minus
+way_side 0 -1 0 7, 0 1 0 => Plus
+triple 137438953472 -137438953471 137438953471, 137438953471 137438953472 -137438953469, \
+-137438953467 137438953471 137438953472 => Plus
+cross 2048 2047 -2048, -2047 2048 2045 => 8380419 4096 8384513
+cross 2048 2047 -2048, 2048 2047 -2048 => none
+quad 137438953472 -137438953471 137438953471, 8388607 8388608 -8388605, -8388603 8388607 8388608, \
+8388608 -8388607 8388607 => Plus
+quad 137438953472 -137438953471 137438953471, 8388607 8388608 -8388605, 8388608 -8388607 8388607, \
+-8388603 8388607 8388608 => Minus
+meet 1 0 0 0, 1 0 0 -1, 0 1 0 0 => none
+plane_order 1 0 0 0, 1 0 0 -1 => Greater
+meet 2041 2048 2045 -4194301, 2048 -2048 -2048 -4194303, 2048 2048 -2041 4194304 => \
+70248451602432 -70197142609871 70368718997504 34217232384
+point_order 70248451602432 -70197142609871 70368718997504 34217232384, 2053 0 0 1 => Greater
+point_order 70248451602432 -70197142609871 70368718997504 34217232384, 70248451602432 0 0 34217232384 => Less
+direction up => 67108864 8192 1
+axis 2 4 6 1 => 0 3 -2
+across 2 4 6 1 => -3 50331648 -33554431
+axis 3 2 0 0 => 0 0 -1
+across 3 2 0 0 => 2 -3 -33554432
+axis 1 0 0 0 => 0 0 1
+across 1 0 0 0 => 0 -1 16777216";
 
-fn numbers(h: &Plane) -> (i64, i64, i64, i64) {
-    (h.a(), h.b(), h.c(), h.d())
-}
-
-fn entries(d: &Dir) -> (i64, i64, i64) {
-    (d.x(), d.y(), d.z())
-}
-
-fn is_at_most(d: &Dir, limit: u64) -> bool
-    ensures small { IsTrue result ↔ IsAtMost limit (vector_of d.now) }
+fn is_within(n: i64, limit: u64) -> bool
+    ensures within { IsTrue result ↔ (nat_abs n ≤ limit) }
 {
-    d.x().unsigned_abs() <= limit && d.y().unsigned_abs() <= limit && d.z().unsigned_abs() <= limit
+    n.unsigned_abs() <= limit
 }
 
-fn are_at_most(x: i128, y: i128, z: i128) -> bool
-    ensures small { IsTrue result ↔ IsAtMost upright_limit (vector x y z) }
-{
-    x.unsigned_abs() <= 1 << 86 && y.unsigned_abs() <= 1 << 86 && z.unsigned_abs() <= 1 << 86
-}
-
-fn is_upright(p: &Hit) -> bool
-    ensures small { IsTrue result → IsPlaceAtMost upright_limit upright_weight_limit (hit_place p.now) }
-{
-    are_at_most(p.x(), p.y(), p.z()) && p.w().unsigned_abs() <= 1 << 73
-}
-
-// The calls where their conditions hold.
-fn hit(p: &Point, d: &Dir, h: &Plane) -> Option<Hit> {
-    if is_at_most(d, 1 << 36) {
-        ray_hit(p, d, h)
+pub(crate) fn point(alloc: Global, text: &str) -> Result<Point, Fail> {
+    let numbers = numbers(alloc, text)?;
+    let [x, y, z, w] = numbers.as_slice() else {
+        return Err("four numbers of a point".into());
+    };
+    let (x, y, z, w) = (*x, *y, *z, *w);
+    let near = is_within(x, 3 << 45) && is_within(y, 3 << 45) && is_within(z, 3 << 45);
+    if near && is_within(w, 3 << 34) && w > 0 {
+        Ok(Point::of(x, y, z, w))
     } else {
-        None
+        Err("the numbers of a point".into())
     }
 }
 
-fn far(p: &Hit, d: &Dir, h: &Plane) -> Option<FarHit> {
-    if is_upright(p) && is_at_most(d, 1 << 11) {
-        far_hit(p, d, h)
-    } else {
-        None
+pub(crate) fn plane(alloc: Global, text: &str) -> Result<Plane, Fail> {
+    let numbers = numbers(alloc, text)?;
+    match numbers.as_slice() {
+        [a, b, c, d] => Ok(Plane::read(*a, *b, *c, *d)?.plane()),
+        _ => Err("four numbers of a plane".into()),
     }
 }
 
-#[test]
-fn planes_are_read(rt: HostRuntime) -> Result<(), Fail> {
-    let o = Plane::read(-2, 0, 0, 4)?;
-    assert_eq!(rt; numbers(&o.plane()), (1, 0, 0, -2));
-    assert!(rt; o.flipped());
-    assert_eq!(rt; Plane::read(0, 0, 0, 4194305), Err(PlaneFault::OutOfRange));
-    assert_eq!(rt; Plane::read(2049, 0, 0, 0), Err(PlaneFault::OutOfRange));
-    assert_eq!(rt; Plane::read(0, 0, 0, 4194304), Err(PlaneFault::ZeroNormal));
-    let largest = Plane::read(-2048, 2048, -2048, -4194303)?;
-    assert_eq!(rt; numbers(&largest.plane()), (2048, -2048, 2048, 4194303));
-    assert_eq!(rt; numbers(&plane(0, -6, 4, 10)?), (0, 3, -2, -5));
-    assert_eq!(rt; numbers(&Plane::frame(0)), (1, 0, 0, 2048));
-    assert_eq!(rt; numbers(&Plane::frame(5)), (0, 0, 1, -2048));
-    Ok(())
+fn plane_text(alloc: Global, h: &Plane) -> Result<String, Fail> {
+    Ok(format!(in alloc; "{} {} {} {}", h.a(), h.b(), h.c(), h.d())?)
 }
 
-#[test]
-fn points_are_reduced(rt: HostRuntime) -> Result<(), Fail> {
-    let p = Point::of(2, -4, 6, 8);
-    assert_eq!(rt; (p.x(), p.y(), p.z(), p.w()), (1, -2, 3, 4));
-    assert!(rt; p.in_frame());
-    assert!(rt; !Point::of(2048, 0, 0, 1).in_frame());
-    assert!(rt; Point::of(-2047, 0, 2047, 1).in_frame());
-    let largest = Point::of(105553116266496, -105553116266495, 0, 51539607552);
-    assert_eq!(rt; (largest.x(), largest.w()), (105553116266496, 51539607552));
-    Ok(())
+fn point_text(alloc: Global, p: &Point) -> Result<String, Fail> {
+    Ok(format!(in alloc; "{} {} {} {}", p.x(), p.y(), p.z(), p.w())?)
 }
 
-#[test]
-fn sides_have_the_given_sign(rt: HostRuntime) -> Result<(), Fail> {
-    let o = Plane::read(-1, 0, 0, 0)?;
-    let p = Point::of(3, 0, 0, 2);
-    assert_eq!(rt; o.side(&p), Sign::Minus);
-    assert_eq!(rt; side(&o.plane(), &p), Sign::Plus);
-    assert_eq!(rt; Sign::Minus.number(), -1);
-    let largest = plane(2048, 2048, 2048, 4194303)?;
-    let far_out = Point::of(
-        -105553116266496,
-        -105553116266495,
-        -105553116266496,
-        51539607551,
-    );
-    assert_eq!(rt; side(&largest, &far_out), Sign::Minus);
-    assert_eq!(rt; hit_side(&largest, &hit_at(&far_out)), Sign::Minus);
-    Ok(())
+fn maybe_way_text(alloc: Global, d: Option<Dir>) -> Result<String, Fail> {
+    match d {
+        Some(d) => way_text(alloc, &d),
+        None => Ok(String::from_str(alloc, "none")?),
+    }
 }
 
-#[test]
-fn directions_are_reduced(rt: HostRuntime) -> Result<(), Fail> {
-    assert_eq!(rt; Dir::of(0, 0, 0), None);
-    let d = Dir::of(-4, 6, 8).ok_or("zero")?;
-    assert_eq!(rt; entries(&d), (-2, 3, 4));
-    assert_eq!(rt; entries(&d.back()), (2, -3, -4));
-    let largest = Dir::of(137438953472, -137438953471, 0).ok_or("zero")?;
-    assert_eq!(rt; entries(&largest), (137438953472, -137438953471, 0));
-    assert_eq!(rt; dir_cmp(&d, &largest), Ordering::Less);
-    assert_eq!(rt; d.cmp(&d), Ordering::Equal);
-    Ok(())
+fn reading(alloc: Global, text: &str) -> Result<String, Fail> {
+    let numbers = numbers(alloc, text)?;
+    let [a, b, c, d] = numbers.as_slice() else {
+        return Err("four numbers of a plane".into());
+    };
+    match Plane::read(*a, *b, *c, *d) {
+        Ok(given) => {
+            let mut text = plane_text(alloc, &given.plane())?;
+            text.push_str(if given.flipped() { " flipped" } else { "" })?;
+            Ok(text)
+        }
+        Err(fault) => Ok(format!(in alloc; "{fault:?}")?),
+    }
 }
 
-#[test]
-fn products_have_their_signs(rt: HostRuntime) -> Result<(), Fail> {
-    let x = Dir::of(1, 0, 0).ok_or("zero")?;
-    let y = Dir::of(0, 1, 0).ok_or("zero")?;
-    let z = Dir::of(0, 0, 1).ok_or("zero")?;
-    assert_eq!(rt; dot(&x, &y), Sign::Zero);
-    assert_eq!(rt; triple(&x, &y, &z), Sign::Plus);
-    assert_eq!(rt; triple(&y, &x, &z), Sign::Minus);
-    assert_eq!(rt; dir_side(&plane(0, -1, 0, 7)?, &y), Sign::Plus);
-    let a = Dir::of(137438953472, -137438953471, 137438953471).ok_or("zero")?;
-    let b = Dir::of(137438953471, 137438953472, -137438953469).ok_or("zero")?;
-    let c = Dir::of(-137438953467, 137438953471, 137438953472).ok_or("zero")?;
-    assert_eq!(rt; triple(&a, &b, &c), Sign::Plus);
-    Ok(())
+fn frame(alloc: Global, text: &str) -> Result<String, Fail> {
+    let number: usize = text.parse()?;
+    if number < 6 {
+        plane_text(alloc, &Plane::frame(number))
+    } else {
+        Err("a side of the frame".into())
+    }
 }
 
-#[test]
-fn cross_products(rt: HostRuntime) -> Result<(), Fail> {
-    let a = Dir::of(2048, 2047, -2048).ok_or("zero")?;
-    let b = Dir::of(-2047, 2048, 2045).ok_or("zero")?;
-    assert!(rt; is_at_most(&a, 2048) && is_at_most(&b, 2048));
-    let d = cross(&a, &b).ok_or("parallel")?;
-    assert_eq!(rt; entries(&d), (8380419, 4096, 8384513));
-    assert_eq!(rt; cross(&a, &a), None);
-    Ok(())
+fn placed(alloc: Global, text: &str) -> Result<String, Fail> {
+    let p = point(alloc, text)?;
+    let mut text = point_text(alloc, &p)?;
+    text.push_str(if p.in_frame() { " inside" } else { " outside" })?;
+    Ok(text)
 }
 
-#[test]
-fn quads_have_their_signs(rt: HostRuntime) -> Result<(), Fail> {
-    let a = Dir::of(137438953472, -137438953471, 137438953471).ok_or("zero")?;
-    let b = Dir::of(8388607, 8388608, -8388605).ok_or("zero")?;
-    let c = Dir::of(-8388603, 8388607, 8388608).ok_or("zero")?;
-    let d = Dir::of(8388608, -8388607, 8388607).ok_or("zero")?;
+// The answer to a question about one thing.
+fn of_one(alloc: Global, verb: &str, a: &str) -> Result<String, Fail> {
+    match verb {
+        "read" => reading(alloc, a),
+        "frame" => frame(alloc, a),
+        "point" => placed(alloc, a),
+        "direction" => maybe_way_text(alloc, direction(alloc, a)?),
+        "back" => way_text(alloc, &way(alloc, a)?.back()),
+        "axis" => way_text(alloc, &plane_axis(&plane(alloc, a)?)),
+        "across" => way_text(alloc, &plane_dir(&plane(alloc, a)?)),
+        _ => Err("a question about one thing".into()),
+    }
+}
+
+fn given_side(alloc: Global, h: &str, p: &Point) -> Result<String, Fail> {
+    let numbers = numbers(alloc, h)?;
+    let [a, b, c, d] = numbers.as_slice() else {
+        return Err("four numbers of a plane".into());
+    };
+    let side = Plane::read(*a, *b, *c, *d)?.side(p);
+    Ok(format!(in alloc; "{}", side.number())?)
+}
+
+fn crossed(alloc: Global, a: &str, b: &str) -> Result<String, Fail> {
+    let (a, b) = (way(alloc, a)?, way(alloc, b)?);
+    if is_at_most(&a, 1 << 11) && is_at_most(&b, 1 << 11) {
+        maybe_way_text(alloc, cross(&a, &b))
+    } else {
+        Err("normals".into())
+    }
+}
+
+// The sign that two things have together.
+fn sign_of_two(alloc: Global, verb: &str, a: &str, b: &str) -> Result<Sign, Fail> {
+    match verb {
+        "side" => Ok(side(&plane(alloc, a)?, &point(alloc, b)?)),
+        "hit_side" => Ok(hit_side(&plane(alloc, a)?, &hit_at(&point(alloc, b)?))),
+        "dot" => Ok(dot(&way(alloc, a)?, &way(alloc, b)?)),
+        "way_side" => Ok(dir_side(&plane(alloc, a)?, &way(alloc, b)?)),
+        _ => Err("a question about two things".into()),
+    }
+}
+
+// The answer to a question about two things.
+fn of_two(alloc: Global, verb: &str, a: &str, b: &str) -> Result<String, Fail> {
+    let order = match verb {
+        "cross" => return crossed(alloc, a, b),
+        "given_side" => return given_side(alloc, a, &point(alloc, b)?),
+        "order" => way(alloc, a)?.cmp(&way(alloc, b)?),
+        "way_order" => dir_cmp(&way(alloc, a)?, &way(alloc, b)?),
+        "plane_order" => plane_cmp(&plane(alloc, a)?, &plane(alloc, b)?),
+        "point_order" => lex_cmp(&point(alloc, a)?, &point(alloc, b)?),
+        _ => {
+            let sign = sign_of_two(alloc, verb, a, b)?;
+            return Ok(format!(in alloc; "{sign:?}")?);
+        }
+    };
+    Ok(format!(in alloc; "{order:?}")?)
+}
+
+fn met(alloc: Global, a: &str, b: &str, c: &str) -> Result<String, Fail> {
+    match meet(&plane(alloc, a)?, &plane(alloc, b)?, &plane(alloc, c)?) {
+        Some(p) => point_text(alloc, &p),
+        None => Ok(String::from_str(alloc, "none")?),
+    }
+}
+
+// The answer to a question about three things.
+fn of_three(alloc: Global, verb: &str, a: &str, b: &str, c: &str) -> Result<String, Fail> {
+    match verb {
+        "meet" => met(alloc, a, b, c),
+        "triple" => {
+            let sign = triple(&way(alloc, a)?, &way(alloc, b)?, &way(alloc, c)?);
+            Ok(format!(in alloc; "{sign:?}")?)
+        }
+        _ => Err("a question about three things".into()),
+    }
+}
+
+fn quad_of(alloc: Global, a: &str, b: &str, c: &str, d: &str) -> Result<String, Fail> {
+    let (b, c, d) = (way(alloc, b)?, way(alloc, c)?, way(alloc, d)?);
     let small = 1 << 23;
-    assert!(rt; is_at_most(&b, small) && is_at_most(&c, small) && is_at_most(&d, small));
-    assert_eq!(rt; quad(&a, &b, &c, &d), Sign::Plus);
-    assert_eq!(rt; quad(&a, &b, &d, &c), Sign::Minus);
+    if is_at_most(&b, small) && is_at_most(&c, small) && is_at_most(&d, small) {
+        let sign = quad(&way(alloc, a)?, &b, &c, &d);
+        Ok(format!(in alloc; "{sign:?}")?)
+    } else {
+        Err("directions of svertices".into())
+    }
+}
+
+fn answer(alloc: Global, question: &str) -> Result<String, Fail> {
+    let (verb, things) = question.split_once(' ').ok_or("a question")?;
+    let things: Vec<&str> = things.split(", ").collect(alloc)?;
+    match things.as_slice() {
+        [a] => of_one(alloc, verb, a),
+        [a, b] => of_two(alloc, verb, a, b),
+        [a, b, c] => of_three(alloc, verb, a, b, c),
+        [a, b, c, d] => quad_of(alloc, a, b, c, d),
+        _ => Err("a question about at most four things".into()),
+    }
+}
+
+fn check_rows(rt: &impl Abort, alloc: Global) -> Result<(), Fail> {
+    for row in ROWS.split('\n') {
+        let (question, wanted) = row.split_once(" => ").ok_or("a row")?;
+        let given = answer(alloc, question)?;
+        assert_eq!(rt; given.as_str(), wanted, "{question}");
+    }
     Ok(())
 }
 
 #[test]
-fn planes_meet(rt: HostRuntime) -> Result<(), Fail> {
-    let (p, q, r) = (plane(1, 0, 0, 0)?, plane(1, 0, 0, -1)?, plane(0, 1, 0, 0)?);
-    assert_eq!(rt; meet(&p, &q, &r), None);
-    assert_eq!(rt; plane_cmp(&p, &q), Ordering::Greater);
-    let p = plane(2041, 2048, 2045, -4194301)?;
-    let q = plane(2048, -2048, -2048, -4194303)?;
-    let r = plane(2048, 2048, -2041, 4194304)?;
-    let m = meet(&p, &q, &r).ok_or("dependent")?;
-    assert_eq!(rt; (m.x(), m.y()), (70248451602432, -70197142609871));
-    assert_eq!(rt; (m.z(), m.w()), (70368718997504, 34217232384));
-    assert_eq!(rt; lex_cmp(&m, &Point::of(2053, 0, 0, 1)), Ordering::Greater);
-    assert_eq!(rt;
-        lex_cmp(&m, &Point::of(70248451602432, 0, 0, 34217232384)),
-        Ordering::Less
-    );
-    Ok(())
-}
-
-#[test]
-fn stated_directions(rt: HostRuntime) -> Result<(), Fail> {
-    assert_eq!(rt; entries(&up()), (67108864, 8192, 1));
-    let h = plane(2, 4, 6, 1)?;
-    assert_eq!(rt; entries(&plane_axis(&h)), (0, 3, -2));
-    assert_eq!(rt; entries(&plane_dir(&h)), (-3, 50331648, -33554431));
-    let h = plane(3, 2, 0, 0)?;
-    assert_eq!(rt; entries(&plane_axis(&h)), (0, 0, -1));
-    assert_eq!(rt; entries(&plane_dir(&h)), (2, -3, -33554432));
-    let h = plane(1, 0, 0, 0)?;
-    assert_eq!(rt; entries(&plane_axis(&h)), (0, 0, 1));
-    assert_eq!(rt; entries(&plane_dir(&h)), (0, -1, 16777216));
-    Ok(())
-}
-
-#[test]
-fn rays_cross_planes(rt: HostRuntime) -> Result<(), Fail> {
-    let origin = Point::of(0, 0, 0, 1);
-    let down = up().back();
-    let q = hit(&origin, &down, &plane(1, 0, 0, 1)?).ok_or("none")?;
-    assert_eq!(rt;
-        (q.x(), q.y(), q.z(), q.w()),
-        (-67108864, -8192, -1, 67108864)
-    );
-    assert!(rt; hit(&origin, &down, &plane(1, 0, 0, -1)?).is_none());
-    assert!(rt; hit(&origin, &down, &plane(1, 0, 0, 0)?).is_none());
-    let next = hit(&origin, &down, &plane(1, 0, 0, 2)?).ok_or("none")?;
-    assert_eq!(rt; hit_order(&q, &next), Ordering::Less);
-    assert_eq!(rt; hit_order(&q, &hit_at(&origin)), Ordering::Greater);
-    assert_eq!(rt; hit_order(&next, &next), Ordering::Equal);
-    let flat = plane(0, 1, 0, 0)?;
-    let axis = Dir::of(1, 0, 0).ok_or("zero")?;
-    assert!(rt; hit(&origin, &axis, &flat).is_none(), "a ray in the plane");
-    Ok(())
-}
-
-// The numbers give, among all signs of the largest ones, the largest form at a far hit.
-#[test]
-fn far_hits_are_exact(rt: HostRuntime) -> Result<(), Fail> {
-    let p = Point::of(
-        105553116266496,
-        -105553116266496,
-        -105553116266496,
-        51539607551,
-    );
-    let first = plane(2048, 2048, 2048, -4194303)?;
-    let q = hit(&p, &up(), &first).ok_or("none")?;
-    assert_eq!(rt;
-        q.num().checked_mul(137455732736),
-        q.den().checked_mul(432345512683765761)
-    );
-    assert_eq!(rt; hit_side(&first, &q), Sign::Zero);
-    let second = plane(2048, -2048, -2048, 4194303)?;
-    let d = Dir::of(-2048, -2048, 2047).ok_or("zero")?;
-    assert!(rt; far(&q, &d, &second).is_some() != far(&q, &d.back(), &second).is_some());
-    let d = Dir::of(2048, 2048, 2047).ok_or("zero")?;
-    let r = far(&q, &d, &second).ok_or("none")?;
-    assert_eq!(rt;
-        r.num().checked_mul(4192256),
-        r.den().checked_mul(178270605929203793059916021760)
-    );
-    assert_eq!(rt; far_side(&second, &r), Sign::Zero);
-    assert_eq!(rt;
-        far_side(&plane(2048, 2048, 2048, 4194303)?, &r),
-        Sign::Plus
-    );
-    assert_eq!(rt; far_side(&first, &r), Sign::Plus);
-    assert!(rt; r.x() > 0 && r.y() > 0 && r.z() > 0 && r.w() > 0);
-    let third = far(&q, &d, &plane(2048, -2048, -2048, 4194301)?).ok_or("none")?;
-    assert_eq!(rt; far_order(&third, &r), Ordering::Less);
-    assert_eq!(rt; far_order(&r, &r), Ordering::Equal);
-    Ok(())
+fn rows(rt: HostRuntime) -> Result<(), Fail> {
+    check_rows(&rt, rt.alloc())
 }
 
 #[test]

@@ -1,23 +1,27 @@
 //! Tests of exact geometry, tables, arcs, stars, sphere maps, their overlays and combinations, and what becomes of them.
+//!
+//! Most are rows of a table: a question in words, and the answer, which stands there from hand.
 #![tactic(auto)]
 
 #[cfg(test)]
 mod arcs;
 #[cfg(test)]
-mod building;
-#[cfg(test)]
-mod combining;
-#[cfg(test)]
-mod directions;
+mod by_hand;
 #[cfg(test)]
 mod geometry;
 #[cfg(test)]
-mod maps;
+mod hits;
 #[cfg(test)]
-mod overlays;
+mod lattice;
+#[cfg(test)]
+mod made;
+#[cfg(test)]
+mod maps;
 #[cfg(test)]
 mod stars;
 #[cfg(test)]
 mod tables;
 #[cfg(test)]
-mod topology;
+mod texts;
+#[cfg(test)]
+mod words;

@@ -1,0 +1,5 @@
+use Rattle.nef_smap.specs.Maps.{IsLeastMap}
+use Rattle.tests_maps.proofs.made.made.Given as goal
+
+abbrev pub invariant-loop-step : goal.invariant-loop-step
+invariant-loop-step l = record { least : IsLeastMap l.map }
