@@ -11,7 +11,7 @@ use nef_combine::combine;
 use nef_geo::Label;
 use nef_smap::{SLoop, SphereMap, face_map, plane_map};
 use nef_star::Op;
-use nef_stopo::{boundary, closure, complement, interior};
+use nef_stopo::{boundary, closure, complement, exchanged, interior};
 use std::alloc::Global;
 use std::test::Fail;
 
@@ -127,22 +127,23 @@ fn named(alloc: Global, name: &str, words: &str) -> Result<SphereMap, Fail>
     }
 }
 
-fn changed(alloc: Global, map: &SphereMap, word: &str) -> Result<SphereMap, Fail>
-    requires map { IsLeastMap map.now }
+fn changed(alloc: Global, map: SphereMap, word: &str) -> Result<SphereMap, Fail>
+    requires map { IsLeastMap map }
     ensures least { IfOk result IsLeastMap }
 {
     match word {
-        "interior" => Ok(interior(alloc, map)?),
-        "closure" => Ok(closure(alloc, map)?),
-        "boundary" => Ok(boundary(alloc, map)?),
-        "complement" => Ok(complement(alloc, map)?),
+        "interior" => Ok(interior(alloc, &map)?),
+        "closure" => Ok(closure(alloc, &map)?),
+        "boundary" => Ok(boundary(alloc, &map)?),
+        "complement" => Ok(complement(alloc, &map)?),
+        "exchanged" => Ok(exchanged(map)),
         _ => Err("a change".into()),
     }
 }
 
 // The map after a step: a named one, the map combined with that, or what becomes of it.
-fn after(alloc: Global, map: &SphereMap, step: &str) -> Result<SphereMap, Fail>
-    requires map { IsLeastMap map.now }
+fn after(alloc: Global, map: SphereMap, step: &str) -> Result<SphereMap, Fail>
+    requires map { IsLeastMap map }
     ensures least { IfOk result IsLeastMap }
 {
     let Some((words, rest)) = step.split_once(": ") else {
@@ -153,7 +154,7 @@ fn after(alloc: Global, map: &SphereMap, step: &str) -> Result<SphereMap, Fail>
     };
     let op = op(how).ok_or("an operation")?;
     let other = named(alloc, name, rest)?;
-    combined(alloc, map, &other, op)
+    combined(alloc, &map, &other, op)
 }
 
 /// The map that the steps make.
@@ -162,7 +163,7 @@ pub(crate) fn made(alloc: Global, steps: &str) -> Result<SphereMap, Fail>
 {
     let mut map = face_map(alloc, Label::Not, Label::Not);
     for step in steps.split(" / ") {
-        map = after(alloc, &map, step)?;
+        map = after(alloc, map, step)?;
     }
     Ok(map)
 }

@@ -64,12 +64,17 @@ const OVERLAID: &str = "below: 1 0 0 || below: 0 1 0 => \
 raw and = i / t 0 0 -1 / t 0 0 1 ; first and = i 4 rays n n n i
 below: 0 0 1 || below: 0 0 1 => raw xor = n / l 0 0 1 n n n";
 
-// A closed half-space; what touches the frame, which keeps its inside and its `Out`; x <= 0 and y <= 0, whose interior
-// has the same items with no mark in it; a part of the plane x = 0 that ends at y = 0, without its end.
+// A closed half-space; labels exchanged in place, of a plane with `Out` below it, which stays, of a line, and of x <= 0
+// and y <= 0; what touches the frame, which keeps its inside and its `Out`; x <= 0 and y <= 0, whose interior has the
+// same items with no mark in it; a part of the plane x = 0 that ends at y = 0, without its end.
 const TOPOLOGY: &str = "below: 1 0 0 / interior => map = n / l 1 0 0 n n i / facet 1 0 0
 below: 1 0 0 / interior / closure => map = i / l 1 0 0 i n i / facet 1 0 0
 below: 1 0 0 / boundary => map = i / l 1 0 0 i n n / facet 1 0 0
 below: 1 0 0 / complement => map = n / l 1 0 0 n i n / facet 1 0 0
+plane: 0 0 1; n i o / exchanged => map = i / l 0 0 1 i n o / facet 0 0 1
+line: 1 0 0, 0 1 0 / exchanged => map = n / s 0 0 -1 n i / s 0 0 1 n i / edge 0 0 1
+below: 1 0 0 / and below: 0 1 0 / exchanged => \
+map = n / s 0 0 -1 n - / s 0 0 1 n - / a 0 1 0 1 0 n i n / a 1 0 1 0 0 n i n / edge 0 0 1
 plane: 0 0 1; o o i / interior => map = o / l 0 0 1 o o i / facet 0 0 1
 plane: 0 0 1; o o i / closure => map = o / l 0 0 1 o o i / facet 0 0 1
 below: 1 0 0 / and below: 0 1 0 / interior => \
