@@ -13,6 +13,7 @@ use crate::view::View;
 use atomic_table::{Seat, Shared, Table, TableRule};
 use nef_core::{Board, Claim, Job, OutOfMemory, Receipt};
 use std::alloc::Global;
+use std::hint;
 use std::sync::Wait;
 use std::thread;
 
@@ -66,6 +67,20 @@ impl<'a, R: Wait + Sync, J: Job> LockBoard<'a, R, J> {
     }
 }
 
+// How often a pass asks for the turn before it lets others run: each pass has the turn for a short time only.
+const TRIES: u32 = 64;
+
+// Waits a little, or lets others run where the turn was asked for often. How often it was asked for since.
+fn wait(asked: u32) -> u32 {
+    if asked < TRIES {
+        hint::spin_loop();
+        asked + 1
+    } else {
+        thread::yield_now();
+        0
+    }
+}
+
 // Takes the turn, and the state out of its slot.
 fn take_turn<R: Wait, T, K, P: TableRule<Option<BoardState<T>>, View<T>, K>>(
     rt: &R,
@@ -79,6 +94,7 @@ fn take_turn<R: Wait, T, K, P: TableRule<Option<BoardState<T>>, View<T>, K>>(
     ensures of { (seat.new.table_id ≡ seat.old.table_id) × (seat.new.id ≡ seat.old.id) }
     ensures found { Found seat.old.me.0 result × (seat.new.me ≡ (seeing seat.old.me.0 result, (0, None) ∷ [])) }
 {
+    let mut asked = 0;
     for _ in rt.forever() {
         if shared.compare_exchange::<Takes>(seat, 0, 0, 1) == 0 {
             let Some(state) = shared.exchange(seat, 0, None) else {
@@ -86,7 +102,7 @@ fn take_turn<R: Wait, T, K, P: TableRule<Option<BoardState<T>>, View<T>, K>>(
             };
             return state;
         }
-        thread::yield_now();
+        asked = wait(asked);
     }
     unreachable!()
 }

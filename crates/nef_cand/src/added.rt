@@ -103,11 +103,13 @@ pub(crate) fn add_cuts(
     Ok(())
 }
 
-/// Sorts the points and leaves each once.
-pub(crate) fn sort_once(points: &mut Vec<Point>)
-    ensures in_order { InOrder (λ (p q : PointValue). IsPlaceBelow (place_of p) (place_of q)) points.new.items }
-    ensures same { (p : PointValue) → Contains points.old.items p ↔ Contains points.new.items p }
+/// Sorts the points and leaves each once. The vertices of both sets stand in order already, and long runs that do are
+/// merged, not sorted.
+pub(crate) fn sort_once(points: &mut Vec<Point>) -> Result<(), OutOfMemory>
+    ensures in_order { OnOk result (InOrder (λ (p q : PointValue). IsPlaceBelow (place_of p) (place_of q)) points.new.items) }
+    ensures same { OnOk result ((p : PointValue) → Contains points.old.items p ↔ Contains points.new.items p) }
 {
-    points.sort_unstable_by(|p, q| lex_cmp(p, q));
+    points.sort_by(|p, q| lex_cmp(p, q))?;
     points.dedup();
+    Ok(())
 }

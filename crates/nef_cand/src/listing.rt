@@ -33,7 +33,7 @@ pub fn candidates(alloc: Global, a: &Complex, b: &Complex) -> Result<Vec<Point>,
     add_vertices(&mut points, b)?;
     add_cuts(alloc, &mut points, a, b.carriers.as_slice())?;
     add_cuts(alloc, &mut points, b, a.carriers.as_slice())?;
-    sort_once(&mut points);
+    sort_once(&mut points)?;
     Ok(points)
 }
 
@@ -49,6 +49,6 @@ pub fn cut_candidates(alloc: Global, c: &Complex, h: &Plane) -> Result<Vec<Point
     let mut points = Vec::new(alloc);
     add_vertices(&mut points, c)?;
     add_cuts(alloc, &mut points, c, slice::from_ref(h))?;
-    sort_once(&mut points);
+    sort_once(&mut points)?;
     Ok(points)
 }

@@ -9,8 +9,6 @@ mod pass;
 mod round;
 mod rule;
 mod stage;
-#[cfg(test)]
-mod tests;
 mod view;
 mod worked;
 

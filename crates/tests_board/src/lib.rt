@@ -1,4 +1,4 @@
-//! Tests of the machine, both boards and the pool together.
+//! Tests of the machine, both boards and the pool together, and of rounds of numbers.
 #![tactic(auto)]
 
 #[cfg(test)]
@@ -11,6 +11,8 @@ mod gates;
 mod jobs;
 #[cfg(test)]
 mod pools;
+#[cfg(test)]
+mod rounds;
 #[cfg(test)]
 mod tests;
 #[cfg(test)]

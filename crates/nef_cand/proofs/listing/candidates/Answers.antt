@@ -13,7 +13,7 @@ returns-clause-exactly c =
     listed-all a b (c.as_slice.result.now) (c.as_slice-2.result.now) c.as_slice.ensures.all c.as_slice-2.ensures.all
     c.add_vertices.new.points.items c.add_vertices-2.new.points.items c.add_cuts.new.points.items c.add_cuts-2.new.points.items c.sort_once.new.points.items
     (subst (λ (ps : List Point). Adds (IsVertexOf (complex_of a)) ps c.add_vertices.new.points.items) c.new-points.ensures.items c.in_ok-add_vertices.ensures.added)
-    c.in_ok-add_vertices-2.ensures.added c.in_ok-add_cuts.ensures.added c.in_ok-add_cuts-2.ensures.added c.sort_once.ensures.in_order c.sort_once.ensures.same
+    c.in_ok-add_vertices-2.ensures.added c.in_ok-add_cuts.ensures.added c.in_ok-add_cuts-2.ensures.added c.in_ok-sort_once.ensures.in_order c.in_ok-sort_once.ensures.same
 
 pub returns-clause-complete : goal.returns-clause-complete
 returns-clause-complete c = λ s t y S T v. vertices-listed s t (complex_of c.args.a.now) (complex_of c.args.b.now) c.sort_once.new.points.items y (returns-clause-exactly c) S.shows T.shows v

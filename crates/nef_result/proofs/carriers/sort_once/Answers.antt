@@ -9,12 +9,12 @@ use Rattle.nef_result.proofs.carriers.sort_once.Goals as goal
 
 pub returns-clause-in_order : goal.returns-clause-in_order
 returns-clause-in_order c =
-    let is = dedup_is plane_test c.sort_unstable.new.self.items c.dedup.new.self.items c.dedup.ensures.filtered in
-    subst ArePlanesInOrder (sym is) (once-in_order c.sort_unstable.new.self.items c.sort_unstable.ensures.sorted)
+    let is = dedup_is plane_test c.sort.new.self.items c.dedup.new.self.items c.dedup.ensures.filtered in
+    subst ArePlanesInOrder (sym is) (once-in_order c.sort.new.self.items c.in_ok-sort.ensures.sorted)
 
 pub returns-clause-same : goal.returns-clause-same
 returns-clause-same c = λ h.
-    let is = dedup_is plane_test c.sort_unstable.new.self.items c.dedup.new.self.items c.dedup.ensures.filtered in (
-      λ i. subst (λ (hs : List Plane). Contains hs h) (sym is) (once-kept c.args.planes.now.items c.sort_unstable.new.self.items h c.sort_unstable.ensures.permutation i),
-      λ i. once-only c.args.planes.now.items c.sort_unstable.new.self.items h c.sort_unstable.ensures.permutation (subst (λ (hs : List Plane). Contains hs h) is i),
+    let is = dedup_is plane_test c.sort.new.self.items c.dedup.new.self.items c.dedup.ensures.filtered in (
+      λ i. subst (λ (hs : List Plane). Contains hs h) (sym is) (once-kept c.args.planes.now.items c.sort.new.self.items h c.sort.ensures.permutation i),
+      λ i. once-only c.args.planes.now.items c.sort.new.self.items h c.sort.ensures.permutation (subst (λ (hs : List Plane). Contains hs h) is i),
     )

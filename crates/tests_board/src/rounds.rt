@@ -1,7 +1,7 @@
 //! A round of the numbers 4 and 7, and a stage of five numbers.
 ghost use Rattle.std.specs.Prelude.{◌≡◌, ◌==◌, if◌then◌else◌, nat_lt, Some, None};
 
-use crate::{Needs, OutOfMemory, Results, Round, Stage, Taken, run_ahead, run_lean};
+use nef_sched::{Needs, OutOfMemory, Results, Round, Stage, Taken, run_ahead, run_lean};
 use std::alloc::Global;
 use std::sync::atomic::{AtomicBool, AtomicU64, Ordering};
 use std::test::Fail;
