@@ -1,5 +1,6 @@
 -- Each item lies in a carrier, and the items of the program's vertices.
-use Rattle.std.proofs.Common.{◌≡◌, ℕ, ◌<◌, pos, map, length, ap, sym, ◌∙◌, subst}
+use Rattle.std.proofs.Common.{◌≡◌, ℕ, ◌<◌, pos, List, map, length, ap, sym, ◌∙◌, subst}
+use Rattle.nef_space.specs.Lists.{IsAt}
 use Rattle.nef_space.specs.Place.{Place, Form, form_at, normal_of}
 use Rattle.nef_space.specs.Sets.{Set}
 use Rattle.nef_space.specs.Vectors.{Vector, IsNormal, SameDirection}
@@ -8,9 +9,11 @@ use Rattle.law_complex.specs.Complexes.{Vertex as PlainVertex, Corner as PlainCo
 use Rattle.nef_complex.specs.declared.complex.Vertex.{Vertex}
 use Rattle.nef_complex.specs.declared.complex.Complex.{Complex}
 use Rattle.nef_complex.specs.Complexes.{vertex_of, complex_of}
+use Rattle.nef_complex.specs.Index.{AreHolders}
 use Rattle.nef_complex.proofs.Carried.{carried}
-use Rattle.nef_edges.proofs.Places.{at-map, map-at, at-within}
+use Rattle.nef_edges.proofs.Places.{at-map, map-at, at-within, some-at, at-some as got-some}
 use Rattle.nef_geo.specs.Shapes.{form_of, place_of}
+use Rattle.nef_geo.specs.declared.plane.Plane.{Plane}
 use Rattle.nef_smap.specs.Maps.{map_of}
 use Rattle.law_sphere.proofs.Lists.{at-one}
 use Rattle.nef_smap.proofs.SideLists.{at-some}
@@ -29,6 +32,20 @@ none-carried s c k u x n S h a b e none =
     let g = map-at form_of c.carriers K.number K.plane K.listed in
     let normal : IsNormal (normal_of K.plane) = subst (λ (f : Form). IsNormal (normal_of f)) g.2 g.0.normal in
     none K.number K.plane K.listed (K.through, subst (λ (m : Vector). SameDirection (normal_of K.plane) m) e (K.normal normal))
+
+-- the carrier with this number holds the point and has the normal
+abbrev pub CarriesWith : Complex → Place → Vector → ℕ → Type 0
+CarriesWith c p n k = (h : Plane) × IsAt c.carriers k h × HoldsWith (form_of h) p n
+
+-- where none of the carriers that hold the point has the normal, none of all does
+pub none-held : (c : Complex) (p : Place) (n : Vector) (ns : List ℕ) → AreHolders c.carriers p p ns → ((j k : ℕ) → At ns j k → CarriesWith c p n k → ⊥)
+    → (i : ℕ) (f : Form) → At (map form_of c.carriers) i f → HoldsWith f p n → ⊥
+none-held c p n ns H none i f a q =
+    let g = map-at form_of c.carriers i f a in
+    let w = subst (λ (h : Form). HoldsWith h p n) (sym g.2) q in
+    let here = got-some c.carriers i g.0 g.1 in
+    let r = H.all i (g.0, here, (w.0, w.0)) in
+    none r.0 i (some-at ns r.0 i r.1) (g.0, here, w)
 
 -- ---- the program's vertices and items
 module _ (c : Complex) (k : PlainCorner) (h : HasItem (complex_of c) k) where

@@ -6,7 +6,7 @@ ghost use Rattle.nef_geo.specs.Shapes.{place_of, vector_of};
 ghost use Rattle.nef_complex.specs.Complexes.{complex_of, corner_of, ShowsSet};
 ghost use Rattle.nef_ties.specs.Carriers.{HasItem, IsPlaneAt, IsPlaneThrough};
 
-use nef_complex::{Complex, Corner, holds, plane_normal};
+use nef_complex::{Complex, Corner, holds, plane_normal, vertex_holders};
 use nef_geo::{Dir, Plane, Point};
 
 // Whether the plane holds the point and has the normal.
@@ -16,7 +16,7 @@ fn is_plane_of(h: &Plane, point: &Point, normal: &Dir) -> bool
     holds(h, point) && plane_normal(h).is_same(normal)
 }
 
-/// The plane of the corner's item: a carrier holds each item.
+/// The plane of the corner's item: one of the carriers that hold the vertex holds each of its items.
 pub fn plane_of(c: &Complex, k: &Corner) -> Plane
     requires shows { (s : Set) × ShowsSet s c.now }
     requires corner { HasItem (complex_of c.now) (corner_of k.now) }
@@ -25,7 +25,9 @@ pub fn plane_of(c: &Complex, k: &Corner) -> Plane
     let vertex = c.vertices.at(k.vertex);
     let item = vertex.map.item_at(k.item);
     let normal = item.normal();
-    for h in c.carriers.as_slice() {
+    let holders = vertex_holders(c, k.vertex);
+    for number in holders {
+        let h = c.carriers.at(*number);
         if is_plane_of(h, &vertex.point, normal) {
             return *h;
         }

@@ -1,9 +1,8 @@
-use Rattle.std.proofs.Common.{ℕ, ◌<◌, map}
-use Rattle.nef_space.specs.Place.{Form}
-use Rattle.nef_geo.specs.Shapes.{form_of, place_of, vector_of}
+use Rattle.std.proofs.Common.{ℕ, ◌<◌}
+use Rattle.nef_geo.specs.Shapes.{place_of, vector_of}
 use Rattle.law_sphere.specs.Maps.{At}
-use Rattle.nef_ties.proofs.ItemCarriers.{HoldsWith}
+use Rattle.nef_ties.proofs.ItemCarriers.{CarriesWith}
 use Rattle.nef_ties.proofs.carriers.plane_of.Given as goal
 
-abbrev pub invariant-loop-h : goal.invariant-loop-h
-invariant-loop-h l = (k : ℕ) → k < l.h-index → (f : Form) → At (map form_of l.c.carriers) k f → HoldsWith f (place_of l.vertex.point) (vector_of l.normal) → ⊥
+abbrev pub invariant-loop-number : goal.invariant-loop-number
+invariant-loop-number l = (j k : ℕ) → j < l.number-index → At l.holders j k → CarriesWith l.c (place_of l.vertex.point) (vector_of l.normal) k → ⊥
