@@ -30,15 +30,16 @@ use Rattle.nef_plane.proofs.Nearest.{between-ahead}
 use Rattle.nef_complex.specs.declared.complex.Complex.{Complex}
 use Rattle.nef_complex.specs.declared.groups.Cluster.{Cluster}
 use Rattle.nef_complex.specs.declared.spans.Span.{Span}
-use Rattle.nef_space.specs.Lists.{IsAt}
 use Rattle.nef_complex.specs.Complexes.{complex_of, ShowsSet}
 use Rattle.nef_complex.specs.Index.{IsInCluster, AreSpanned, AreClusters}
 use Rattle.nef_complex.specs.Spans.{IsInSpan}
 use Rattle.nef_smap.proofs.Lists.{at-within}
 use Rattle.nef_smap.proofs.SideLists.{get-from_at}
 use Rattle.nef_locate.specs.declared.ray.Met.{Met}
-use Rattle.nef_locate.specs.Places.{IsFirstHit}
+use Rattle.nef_locate.specs.declared.ray.Beam.{Beam}
+use Rattle.nef_locate.specs.Places.{spot_place, IsFirstHit}
 use Rattle.nef_locate.specs.Rays.{IsMet, IsReachedMet, IsSooner, IsNotBefore, IsSkeletonIn, HasNoneOn, HasNoneOnCarrier}
+use Rattle.nef_locate.specs.Beams.{MeetsSooner}
 use Rattle.nef_locate.proofs.CarrierPoints.{skeleton-carrier, crossed}
 use Rattle.nef_locate.proofs.Reading.{HaveAll, all-numbers}
 use Rattle.nef_locate.proofs.Windows.{none-within}
@@ -64,6 +65,10 @@ never-both y z d v w =
 pub reached-of : (D : PlainComplex) (p : PlainPlace) (d : Vector) (best : Option Met) → IfSome best (IsMet D p d) → IfSome best (IsReachedMet p d)
 reached-of D p d None M = tt
 reached-of D p d (Some m) M = M.reached
+
+-- what is met sooner than what was met sooner
+pub sooner-next : (b : Beam) (old best new : Option Met) → MeetsSooner b old best → MeetsSooner b best new → MeetsSooner b old new
+sooner-next b old best new F G = record { met = G.met; kept = λ y n. G.kept y (F.kept y n) }
 
 -- ---- outside the closed frame there is no skeleton
 dim-outside : (s : Set) (y : PlainPlace) (n : ℕ) → n < 3 → (InClosedFrame y → ⊥) → FlatDim s y n → ⊥
@@ -134,7 +139,7 @@ module _ (s : Set) (c : Complex) (S : ShowsSet s c) (p : PlainPlace) (d : Vector
   pub first-none : AllMet None → (y : PlainPlace) → IsAhead p d y → IsSkeletonPoint (complex_of c) y → ⊥
   first-none A = not-before None A
 
-  pub first-some : (m : Met) → IsMet (complex_of c) p d m → AllMet (Some m) → IsFirstHit (complex_of c) p d m.place
+  pub first-some : (m : Met) → IsMet (complex_of c) p d m → AllMet (Some m) → IsFirstHit (complex_of c) p d (spot_place m.spot)
   first-some m M A = record {
     place = hit_place m.at;
     ahead = M.ahead;

@@ -1,7 +1,6 @@
 -- What doesn't hold of the first numbers, nor of the next, holds of none of these; and what holds of the first elements, and of the next, holds of all these.
 use Rattle.std.proofs.Common.{◌≡◌, ℕ, ◌<◌, ◌+◌, ◌≤◌, List, length, slice_get, Some, arith, subst, ⊎_elim}
 use Rattle.std.proofs.Math.Nat.{eq-or-lt_of_le}
-use Rattle.nef_space.specs.Lists.{IsAt}
 use Rattle.nef_classes.proofs.ClassLists.{is-at_within}
 use Rattle.nef_complex.specs.Index.{StandsIn}
 use Rattle.law_sphere.specs.Maps.{At}

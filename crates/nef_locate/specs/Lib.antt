@@ -2,3 +2,5 @@ pub mod Places
 pub mod Rays
 pub mod Ends
 pub mod Facets
+pub mod Beams
+pub mod Probes

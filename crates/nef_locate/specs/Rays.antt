@@ -14,18 +14,17 @@ use Rattle.law_sphere.specs.Maps.{Side}
 use Rattle.law_complex.specs.Complexes.{Complex}
 use Rattle.law_complex.specs.Laws.{IsFlatIn}
 use Rattle.law_complex.specs.Rays.{IsAbove}
-use Rattle.law_complex.specs.Skeleton.{Spot, IsSpot, IsSkeletonPoint, PlaneMeet, Meets}
+use Rattle.law_complex.specs.Skeleton.{Spot as PlainSpot, IsSpot, IsSkeletonPoint, PlaneMeet, Meets}
 use Rattle.nef_complex.specs.declared.complex.Complex.{Complex as ProgramComplex}
 use Rattle.nef_complex.specs.Complexes.{complex_of, ShowsSet, AreBelow, AreAbove}
-use Rattle.nef_locate.specs.declared.place.Place.{Place}
-use Rattle.nef_locate.specs.declared.place.Place.TheVariants as place
+use Rattle.nef_locate.specs.declared.place.Spot.{Spot}
 use Rattle.nef_locate.specs.declared.ray.Met.{Met}
-use Rattle.nef_locate.specs.Places.{IsPlaceIn, IsPlaceAt, IsSideOf}
+use Rattle.nef_locate.specs.Places.{spot_place, IsPlaceIn, IsPlaceAt, IsSideOf}
 
 -- y is a skeleton point, and lies there
-pub record IsSkeletonAt (C : Complex) (y : PlainPlace) (a : Place) : Type 0 where
-  pub has : IsPlaceIn C a
-  pub at : IsPlaceAt C y a
+pub record IsSkeletonAt (C : Complex) (y : PlainPlace) (a : Spot) : Type 0 where
+  pub has : IsPlaceIn C (spot_place a)
+  pub at : IsPlaceAt C y (spot_place a)
   pub skeleton : IsSkeletonPoint C y
 
 -- y is a vertex, or lies on an edge in the plane, or in a facet of the plane
@@ -40,7 +39,7 @@ IsReachedMet p d m = IsReached p d m.at.num m.at.den m.at.den_sign (hit_place m.
 pub record IsMet (C : Complex) (p : PlainPlace) (d : Vector) (m : Met) : Type 0 where
   pub reached : IsReachedMet p d m
   pub ahead : IsAhead p d (hit_place m.at)
-  pub on : IsSkeletonAt C (hit_place m.at) m.place
+  pub on : IsSkeletonAt C (hit_place m.at) m.spot
 
 -- something is met, and y doesn't lie before it
 abbrev pub IsNotBefore : PlainPlace → PlainPlace → Option Met → Type 0
@@ -68,15 +67,9 @@ abbrev pub IsSooner : Vector → Hit → Option Met → Type 0
 IsSooner d q None = Unit {0}
 IsSooner d q (Some m) = IsAhead (hit_place q) d (hit_place m.at)
 
--- a vertex, an edge or a facet
-abbrev pub IsOfSkeleton : Place → Type 0
-IsOfSkeleton (place.InVolume i j) = ⊥
-IsOfSkeleton _ = Unit {0}
-
--- the place is a side, which lies above each skeleton point at the floor
-abbrev pub IsSideAbove : Complex → Place → Place → Type 0
-IsSideAbove C floor a = (i : ℕ) × (j : ℕ) × (o : Side) × (l : Label) × (a ≡ place.InVolume i j) × IsSideOf C i j o l
-    × ((y : PlainPlace) → IsPlaceAt C y floor → (t : Spot) × IsSpot C t y × IsAbove C y t (record { vertex = i; side = o }))
+-- side number j of vertex i lies above each skeleton point at the floor
+abbrev pub IsSideAbove : Complex → Spot → ℕ → ℕ → Type 0
+IsSideAbove C floor i j = (o : Side) × (l : Label) × IsSideOf C i j o l × ((y : PlainPlace) → IsPlaceAt C y (spot_place floor) → (t : PlainSpot) × IsSpot C t y × IsAbove C y t (record { vertex = i; side = o }))
 
 -- the hit is a point before which the first n vertices come, and after which the others do
 abbrev pub PartsVertices : ProgramComplex → Hit → ℕ → Type 0

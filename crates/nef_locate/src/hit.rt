@@ -29,18 +29,24 @@ pub(crate) fn is_framed(q: &Hit) -> bool
     is_within(q.x(), q.w()) && is_within(q.y(), q.w()) && is_within(q.z(), q.w())
 }
 
-// Whether n/w is at least the whole number, which it is where it is so rounded down.
+// Whether n/w is at least the whole number. A number of the frame takes a product, which is cheaper than the quotient.
 fn is_at_least(n: i128, w: i128, low: i128) -> bool
     requires small { nat_abs n ≤ upright_limit }
+    requires w_small { nat_abs w ≤ upright_weight_limit }
     requires positive { pos 0 <ℤ w }
     ensures least { IsTrue result ↔ ((low *ℤ w) ≤ℤ n) }
 {
-    low <= n.div_euclid(w)
+    if is_within(low, 1) {
+        low * w <= n
+    } else {
+        low <= n.div_euclid(w)
+    }
 }
 
 // Whether n/w lies within the bounds.
 fn lies_between(n: i128, w: i128, bounds: &Bounds) -> bool
     requires small { nat_abs n ≤ upright_limit }
+    requires w_small { nat_abs w ≤ upright_weight_limit }
     requires positive { pos 0 <ℤ w }
     ensures between { IsTrue result ↔ (((bounds.now.low *ℤ w) ≤ℤ n) × (n ≤ℤ (bounds.now.high *ℤ w))) }
 {

@@ -5,28 +5,38 @@ ghost use Rattle.nef_space.specs.Lists.{IsAt};
 ghost use Rattle.nef_space.specs.Place.{Place as PlainPlace, InClosedFrame, IsAhead};
 ghost use Rattle.nef_space.specs.Sets.{Set};
 ghost use Rattle.nef_space.specs.Vectors.{Vector, IsDirection, opposite, up};
-ghost use Rattle.nef_geo.specs.Hits.{IsUpright, IsReached};
+ghost use Rattle.nef_geo.specs.Hits.{IsReached};
 ghost use Rattle.nef_geo.specs.Shapes.{form_of, vector_of, place_of, hit_place};
 ghost use Rattle.law_complex.specs.Skeleton.{IsSkeletonPoint};
 ghost use Rattle.nef_complex.specs.declared.groups.Group.{Group as GroupValue};
 ghost use Rattle.nef_complex.specs.Complexes.{complex_of, ShowsSet};
 ghost use Rattle.nef_complex.specs.Index.{AreWithin, IsSpanOn, IsInGroup, IsInCluster, AreSpanned};
-ghost use Rattle.nef_complex.specs.Spans.{IsInSpan};
-ghost use Rattle.nef_locate.specs.Places.{IsPlaceIn, IsFirstHit};
-ghost use Rattle.nef_locate.specs.Rays.{IsMet, IsReachedMet, IsSooner, IsNotBefore, HasNoneOn, HasNoneOnCarrier};
+ghost use Rattle.nef_locate.specs.Places.{IsPlaceIn, IsFirstHit, spot_place};
+ghost use Rattle.nef_locate.specs.Rays.{IsReachedMet, IsSooner, HasNoneOn};
+ghost use Rattle.nef_locate.specs.Beams.{IsBeam, MeetsAt, MeetsSooner, HasPassed};
 
-use crate::place::Place;
+use crate::place::{Place, Spot};
 use crate::spot::spot_within;
 use crate::window::{may_hold, ray_window};
 use nef_complex::{Cluster, Complex, Group, Span, carrier_clusters, carrier_spans};
 use nef_geo::{Dir, Hit, Plane, Point, hit_order, ray_hit};
 use std::cmp::Ordering;
 
-// A place that a ray meets, and the hit there.
+// A spot that a ray meets, and the hit there.
 #[derive(Debug, Clone, Copy)]
 struct Met {
-    place: Place,
+    spot: Spot,
     at: Hit,
+}
+
+// A ray up or down that is asked what it meets first of a complex, and a window within which all points of the frame
+// ahead lie.
+#[derive(Clone, Copy)]
+struct Beam<'a> {
+    complex: &'a Complex,
+    start: &'a Point,
+    direction: &'a Dir,
+    window: Span,
 }
 
 // Whether the hit lies before what was met, which it does where nothing was.
@@ -43,119 +53,105 @@ fn is_sooner(hit: &Hit, best: &Option<Met>) -> bool
     }
 }
 
-// What the ray meets first of what it met before, which is `best`, and of what the carrier with this number holds of the
-// skeleton. The vertices on the carrier lie within the span.
-fn nearer(
-    c: &Complex,
-    number: usize,
-    h: &Plane,
-    span: &Span,
-    p: &Point,
-    d: &Dir,
-    best: Option<Met>,
-) -> Option<Met>
-    requires shows { (s : Set) × ShowsSet s c.now }
-    requires number { IsAt c.now.carriers number h.now }
-    requires span { IsSpanOn c.now.vertices (form_of h.now) span.now }
-    requires upright { IsUpright (vector_of d.now) }
-    requires best { IfSome best (IsMet (complex_of c.now) (place_of p.now) (vector_of d.now)) }
-    ensures met { IfSome result (IsMet (complex_of c.now) (place_of p.now) (vector_of d.now)) }
-    ensures kept { (y : PlainPlace) → IsNotBefore (place_of p.now) y best → IsNotBefore (place_of p.now) y result }
-    ensures plane { HasNoneOn c.now (place_of p.now) (vector_of d.now) result h.now }
-{
-    let Some(hit) = ray_hit(p, d, h) else {
-        return best;
-    };
-    if !is_sooner(&hit, &best) {
-        return best;
-    }
-    match spot_within(c, number, h, span, &hit) {
-        Some(place) => Some(Met { place, at: hit }),
-        None => best,
-    }
-}
-
-// The same, where all points of the frame ahead lie within the window.
-fn nearer_within(
-    c: &Complex,
-    number: usize,
-    p: &Point,
-    d: &Dir,
-    window: &Span,
-    best: Option<Met>,
-) -> Option<Met>
-    requires shows { (s : Set) × ShowsSet s c.now }
-    requires number { number < length c.now.carriers }
-    requires upright { IsUpright (vector_of d.now) }
-    requires window { (q : PlainPlace) → InClosedFrame q → IsAhead (place_of p.now) (vector_of d.now) q → IsInSpan window.now q }
-    requires best { IfSome best (IsMet (complex_of c.now) (place_of p.now) (vector_of d.now)) }
-    ensures met { IfSome result (IsMet (complex_of c.now) (place_of p.now) (vector_of d.now)) }
-    ensures kept { (y : PlainPlace) → IsNotBefore (place_of p.now) y best → IsNotBefore (place_of p.now) y result }
-    ensures carrier { HasNoneOnCarrier c.now (place_of p.now) (vector_of d.now) result number }
-{
-    let span = &carrier_spans(c)[number];
-    if may_hold(span, window) {
-        nearer(c, number, c.carriers.at(number), span, p, d, best)
-    } else {
-        best
-    }
-}
-
-// What the ray meets first of what it met before and of what the carriers of the group hold of the skeleton.
-fn nearer_in_group(
-    c: &Complex,
-    group: &Group,
-    p: &Point,
-    d: &Dir,
-    window: &Span,
-    before: Option<Met>,
-) -> Option<Met>
-    requires shows { (s : Set) × ShowsSet s c.now }
-    requires within { AreWithin c.now.carriers group.now.carriers }
-    requires upright { IsUpright (vector_of d.now) }
-    requires window { (q : PlainPlace) → InClosedFrame q → IsAhead (place_of p.now) (vector_of d.now) q → IsInSpan window.now q }
-    requires before { IfSome before (IsMet (complex_of c.now) (place_of p.now) (vector_of d.now)) }
-    ensures met { IfSome result (IsMet (complex_of c.now) (place_of p.now) (vector_of d.now)) }
-    ensures kept { (y : PlainPlace) → IsNotBefore (place_of p.now) y before → IsNotBefore (place_of p.now) y result }
-    ensures carriers { (k : ℕ) → IsInGroup group.now k → HasNoneOnCarrier c.now (place_of p.now) (vector_of d.now) result k }
-{
-    let mut best = before;
-    for number in group.carriers.as_slice() {
-        best = nearer_within(c, *number, p, d, window, best);
-    }
-    best
-}
-
-// The same of the carriers of the cluster's groups.
-fn nearer_in_cluster(
-    c: &Complex,
-    cluster: &Cluster,
-    p: &Point,
-    d: &Dir,
-    window: &Span,
-    before: Option<Met>,
-) -> Option<Met>
-    requires shows { (s : Set) × ShowsSet s c.now }
-    requires groups { (i : ℕ) (g : GroupValue) → IsAt cluster.now.groups i g → AreSpanned c.now.carriers c.now.vertices (IsInGroup g) g.span }
-    requires upright { IsUpright (vector_of d.now) }
-    requires window { (q : PlainPlace) → InClosedFrame q → IsAhead (place_of p.now) (vector_of d.now) q → IsInSpan window.now q }
-    requires before { IfSome before (IsMet (complex_of c.now) (place_of p.now) (vector_of d.now)) }
-    ensures met { IfSome result (IsMet (complex_of c.now) (place_of p.now) (vector_of d.now)) }
-    ensures kept { (y : PlainPlace) → IsNotBefore (place_of p.now) y before → IsNotBefore (place_of p.now) y result }
-    ensures carriers { (k : ℕ) → IsInCluster cluster.now k → HasNoneOnCarrier c.now (place_of p.now) (vector_of d.now) result k }
-{
-    let mut best = before;
-    for group in cluster.groups.as_slice() {
-        if may_hold(&group.span, window) {
-            best = nearer_in_group(c, group, p, d, window, best);
+impl Beam<'_> {
+    // Looks for what the carrier with this number holds of the skeleton. It takes the place of what was met before if it
+    // lies before that. The vertices on the carrier lie within the span.
+    fn meet_plane(&self, number: usize, h: &Plane, span: &Span, best: &mut Option<Met>)
+        requires beam { IsBeam self.now }
+        requires number { IsAt self.now.complex.now.carriers number h.now }
+        requires span { IsSpanOn self.now.complex.now.vertices (form_of h.now) span.now }
+        requires met { MeetsAt self.now best.old }
+        ensures sooner { MeetsSooner self.now best.old best.new }
+        ensures passed { HasNoneOn self.now.complex.now (place_of self.now.start.now) (vector_of self.now.direction.now) best.new h.now }
+    {
+        let Some(hit) = ray_hit(self.start, self.direction, h) else {
+            return;
+        };
+        if !is_sooner(&hit, best) {
+            return;
+        }
+        if let Some(spot) = spot_within(self.complex, number, h, span, &hit) {
+            *best = Some(Met { spot, at: hit });
         }
     }
-    best
+
+    // The same, unless the carrier's span tells that it holds nothing within the window.
+    fn meet_carrier(&self, number: usize, best: &mut Option<Met>)
+        requires beam { IsBeam self.now }
+        requires number { number < length self.now.complex.now.carriers }
+        requires met { MeetsAt self.now best.old }
+        ensures sooner { MeetsSooner self.now best.old best.new }
+        ensures passed { HasPassed self.now best.new number }
+    {
+        let span = &carrier_spans(self.complex)[number];
+        if may_hold(span, &self.window) {
+            self.meet_plane(number, self.complex.carriers.at(number), span, best);
+        }
+    }
+
+    // The same of the carriers of the group.
+    fn meet_group(&self, group: &Group, best: &mut Option<Met>)
+        requires beam { IsBeam self.now }
+        requires within { AreWithin self.now.complex.now.carriers group.now.carriers }
+        requires met { MeetsAt self.now best.old }
+        ensures sooner { MeetsSooner self.now best.old best.new }
+        ensures passed { (k : ℕ) → IsInGroup group.now k → HasPassed self.now best.new k }
+    {
+        for number in group.carriers.as_slice() {
+            self.meet_carrier(*number, best);
+        }
+    }
+
+    // The same of the carriers of the cluster's groups.
+    fn meet_cluster(&self, cluster: &Cluster, best: &mut Option<Met>)
+        requires beam { IsBeam self.now }
+        requires groups { (i : ℕ) (g : GroupValue) → IsAt cluster.now.groups i g → AreSpanned self.now.complex.now.carriers self.now.complex.now.vertices (IsInGroup g) g.span }
+        requires met { MeetsAt self.now best.old }
+        ensures sooner { MeetsSooner self.now best.old best.new }
+        ensures passed { (k : ℕ) → IsInCluster cluster.now k → HasPassed self.now best.new k }
+    {
+        for group in cluster.groups.as_slice() {
+            if may_hold(&group.span, &self.window) {
+                self.meet_group(group, best);
+            }
+        }
+    }
 }
 
-/// The first skeleton point that the ray from `p` meets strictly ahead, along the upward direction or the downward one.
-/// `None` comes exactly where the ray meets none. No plane is parallel to these directions, so the ray hits each carrier at
-/// one point at most; and each skeleton point lies on a carrier, as a vertex, in an edge in it, or in a facet of it.
+/// The first spot of the skeleton that the ray from `p` meets strictly ahead, along the upward direction or the downward
+/// one. `None` comes exactly where the ray meets none. No plane is parallel to these directions, so the ray hits each
+/// carrier at one point at most; and each skeleton point lies on a carrier, as a vertex, in an edge in it, or in a facet of
+/// it.
+pub fn first_spot(c: &Complex, p: &Point, d: &Dir) -> Option<Spot>
+    requires shows { (s : Set) × ShowsSet s c.now }
+    requires framed { InClosedFrame (place_of p.now) }
+    requires upright { (vector_of d.now ≡ up) ⊎ (vector_of d.now ≡ opposite up) }
+    ensures place { IfSome result (λ t. IsPlaceIn (complex_of c.now) (spot_place t)) }
+    ensures some { IfSome result (λ t. IsFirstHit (complex_of c.now) (place_of p.now) (vector_of d.now) (spot_place t)) }
+    ensures none { IsNone result → (q : PlainPlace) → IsAhead (place_of p.now) (vector_of d.now) q → IsSkeletonPoint (complex_of c.now) q → ⊥ }
+{
+    let window = ray_window(p, d);
+    let beam = Beam {
+        complex: c,
+        start: p,
+        direction: d,
+        window,
+    };
+    let clusters = carrier_clusters(c);
+    let mut best = None;
+    for cluster in clusters {
+        if may_hold(&cluster.span, &window) {
+            beam.meet_cluster(cluster, &mut best);
+        }
+    }
+    match best {
+        Some(met) => Some(met.spot),
+        None => None,
+    }
+}
+
+/// The place of the first skeleton point that the ray from `p` meets strictly ahead, along the upward direction or the
+/// downward one. `None` comes exactly where the ray meets none.
 pub fn first_hit(c: &Complex, p: &Point, d: &Dir) -> Option<Place>
     requires shows { (s : Set) × ShowsSet s c.now }
     requires framed { InClosedFrame (place_of p.now) }
@@ -164,16 +160,8 @@ pub fn first_hit(c: &Complex, p: &Point, d: &Dir) -> Option<Place>
     ensures some { IfSome result (λ a. IsFirstHit (complex_of c.now) (place_of p.now) (vector_of d.now) a) }
     ensures none { IsNone result → (q : PlainPlace) → IsAhead (place_of p.now) (vector_of d.now) q → IsSkeletonPoint (complex_of c.now) q → ⊥ }
 {
-    let window = ray_window(p, d);
-    let clusters = carrier_clusters(c);
-    let mut best = None;
-    for cluster in clusters {
-        if may_hold(&cluster.span, &window) {
-            best = nearer_in_cluster(c, cluster, p, d, &window, best);
-        }
-    }
-    match best {
-        Some(met) => Some(met.place),
+    match first_spot(c, p, d) {
+        Some(spot) => Some(spot.place()),
         None => None,
     }
 }

@@ -16,7 +16,7 @@ ghost use Rattle.nef_locate.specs.Rays.{IsSkeletonAt, IsSkeletonIn};
 
 use crate::facet::in_facet;
 use crate::hit::{is_framed, is_in_span};
-use crate::place::Place;
+use crate::place::Spot;
 use nef_complex::{Complex, Span, carrier_items};
 use nef_geo::{Hit, Plane};
 use nef_plane::{is_at_vertex, is_on_edge};
@@ -50,7 +50,7 @@ fn edge_among(c: &Complex, numbers: &[usize], q: &Hit) -> Option<usize>
 }
 
 // The facet of the plane in which a point of the plane lies that is no vertex and lies on no edge in the plane.
-pub(crate) fn facet_spot(c: &Complex, h: &Plane, q: &Hit) -> Option<Place>
+pub(crate) fn facet_spot(c: &Complex, h: &Plane, q: &Hit) -> Option<Spot>
     requires shows { (s : Set) × ShowsSet s c.now }
     requires framed { InClosedFrame (hit_place q.now) }
     requires on { form_at (form_of h.now) (hit_place q.now) ≡ pos 0 }
@@ -60,13 +60,13 @@ pub(crate) fn facet_spot(c: &Complex, h: &Plane, q: &Hit) -> Option<Place>
     ensures none { IsNone result → (s : Set) → ShowsSet s c.now → IsFlatIn s (form_of h.now) (hit_place q.now) → ⊥ }
 {
     match in_facet(c, h, q) {
-        Some(corner) => Some(Place::InFacet(corner)),
+        Some(corner) => Some(Spot::InFacet(corner)),
         None => None,
     }
 }
 
 // The vertex, the edge or the facet of the carrier with this number at a point of the carrier.
-fn carrier_spot(c: &Complex, number: usize, h: &Plane, q: &Hit) -> Option<Place>
+fn carrier_spot(c: &Complex, number: usize, h: &Plane, q: &Hit) -> Option<Spot>
     requires shows { (s : Set) × ShowsSet s c.now }
     requires number { IsAt c.now.carriers number h.now }
     requires framed { InClosedFrame (hit_place q.now) }
@@ -77,10 +77,10 @@ fn carrier_spot(c: &Complex, number: usize, h: &Plane, q: &Hit) -> Option<Place>
 {
     let items = carrier_items(c, number);
     if let Some(vertex) = vertex_among(c, items.vertices, q) {
-        return Some(Place::Vertex(vertex));
+        return Some(Spot::Vertex(vertex));
     }
     if let Some(edge) = edge_among(c, items.edges, q) {
-        return Some(Place::OnEdge(edge));
+        return Some(Spot::OnEdge(edge));
     }
     facet_spot(c, h, q)
 }
@@ -93,7 +93,7 @@ pub(crate) fn spot_within(
     h: &Plane,
     span: &Span,
     q: &Hit,
-) -> Option<Place>
+) -> Option<Spot>
     requires shows { (s : Set) × ShowsSet s c.now }
     requires number { IsAt c.now.carriers number h.now }
     requires span { IsSpanOn c.now.vertices (form_of h.now) span.now }

@@ -1,5 +1,5 @@
 -- Rays down from vertices, and the sides that see downward.
-use Rattle.std.proofs.Common.{◌≡◌, ℕ, ◌*◌, ◌<◌, ◌≤◌, pos, ◌<ℤ◌, nat_abs, ⊎_elim, [], ◌∷◌, length, Some, slice_get, arith, refl, ap, sym, ◌∙◌, subst}
+use Rattle.std.proofs.Common.{◌≡◌, ℕ, ◌*◌, ◌<◌, ◌≤◌, pos, neg_ℤ, nat_abs, ⊎_elim, [], ◌∷◌, length, Some, slice_get, arith, refl, ap, sym, ◌∙◌, subst}
 use Rattle.std.proofs.lemmas.Bool.{cases_lt}
 use Rattle.std.proofs.lemmas.Int.{ints}
 use Rattle.law_arithmetic.proofs.Ring.{ring, at, neg, ◌⊖◌, ◌⊗◌}
@@ -7,21 +7,18 @@ use Rattle.nef_space.specs.Limits.{half_side}
 use Rattle.nef_space.specs.Local.{FlatDim}
 use Rattle.nef_space.specs.Place.{Place, InClosedFrame, IsAhead}
 use Rattle.nef_space.specs.Sets.{Set}
-use Rattle.nef_space.specs.Vectors.{Vector, IsZero, cross, dot, opposite, up}
+use Rattle.nef_space.specs.Vectors.{Vector, IsZero, SameDirection, cross, opposite, up}
 use Rattle.nef_space.specs.declared.label.Label.{Label}
 use Rattle.nef_space.specs.declared.label.Label.TheVariants.{Out}
 use Rattle.nef_geo.specs.Shapes.{place_of}
 use Rattle.law_near.proofs.Alike.{FlatDim-one}
 use Rattle.law_near.proofs.Frames.{flat_dim-outside}
-use Rattle.law_sphere.specs.Maps.{At, arc_item, sloop_item, Side, HasSide, Sees, here, link}
-use Rattle.law_sphere.proofs.Arcs.{at-arc}
+use Rattle.law_sphere.specs.Maps.{At, MapVertex, Item, items, item_normal, OnItem, IsFree, Side, HasSide, Sees, here, link}
 use Rattle.law_sphere.proofs.Forms.{on-level}
 use Rattle.nef_smap.specs.declared.map.SphereMap.{SphereMap}
-use Rattle.nef_smap.specs.declared.map.SPlace.TheVariants as place
 use Rattle.nef_smap.specs.Maps.{map_of, IsSphereMap}
-use Rattle.nef_smap.specs.Sides.{LabelledSide, sides_of, IsSide, SideSees, IsPlaceOf}
+use Rattle.nef_smap.specs.Sides.{LabelledSide, sides_of, IsSide, SideSees}
 use Rattle.nef_classes.proofs.ClassLists.{is-at_one}
-use Rattle.nef_smap.proofs.MapLists.{sloop-listed}
 use Rattle.nef_smap.proofs.SideLists.{side-has}
 use Rattle.nef_smap.proofs.SideNumbers.{number-one}
 use Rattle.nef_smap.proofs.Upward.{map-ahead, map-across}
@@ -34,15 +31,14 @@ use Rattle.nef_complex.specs.declared.complex.Vertex.{Vertex as ProgramVertex}
 use Rattle.nef_classes.specs.declared.table.Cell.{Cell}
 use Rattle.law_links.specs.Links.{LinkDown}
 use Rattle.law_links.proofs.EdgeEnds.{dot-opposite}
-use Rattle.nef_locate.specs.declared.place.Place.{Place as ComplexPlace}
-use Rattle.nef_locate.specs.declared.place.Place.TheVariants as position
-use Rattle.nef_locate.specs.Places.{IsPlaceAt, IsFirstHit}
+use Rattle.nef_locate.specs.declared.place.Spot.{Spot}
+use Rattle.nef_locate.specs.Places.{IsPlaceAt, IsFirstHit, spot_place}
 use Rattle.nef_locate.specs.Rays.{IsSideAbove}
 use Rattle.nef_volumes.specs.Ties.{side_cell, IsCellOf, IsBelow, IsFloorCell, IsTieDown}
 use Rattle.nef_volumes.proofs.SideCells.{cell-numbered}
 use Rattle.nef_volumes.proofs.ReadVertex.{vertex-there, vertex-read, vertex-within}
 
--- ---- the downward direction lies in a face
+-- ---- the downward direction is free
 turned : (u v : Vector) → IsZero (cross v (opposite u)) → IsZero (cross u v)
 turned u v z = (
   ring (u.x ∷ u.y ∷ u.z ∷ v.x ∷ v.y ∷ v.z ∷ []) (at 1 ⊗ at 5 ⊖ at 2 ⊗ at 4) (at 4 ⊗ neg (at 2) ⊖ at 5 ⊗ neg (at 1)) tt ∙ z.0,
@@ -51,17 +47,16 @@ turned u v z = (
 )
 
 module _ (m : SphereMap) (S : IsSphereMap m) where
-  pub no-svertex : (k : ℕ) → IsPlaceOf (map_of m) (opposite up) (place.SVertex k) → ⊥
-  no-svertex k (v, a, w) = map-across m S k v a (turned up v.dir w.parallel)
+  no-svertex : (k : ℕ) (v : MapVertex) → At (map_of m).svertices k v → SameDirection v.dir (opposite up) → ⊥
+  no-svertex k v a w = map-across m S k v a (turned up v.dir w.parallel)
 
-  never-level : (n : Vector) → pos 0 <ℤ dot n up → dot n (opposite up) ≡ pos 0 → ⊥
-  never-level n p z = let e = dot-opposite n up in let f = sym e ∙ z in omega (arith, ints, p, f)
+  no-item : (k : ℕ) (x : Item) → At (items (map_of m)) k x → OnItem (map_of m) x (opposite up) → ⊥
+  no-item k x a o =
+      let p = map-ahead m S k x a in let f = sym (dot-opposite (item_normal x) up) ∙ on-level (map_of m) x (opposite up) o in
+      omega (arith, ints, p, f)
 
-  pub not-on_arc : (k : ℕ) → IsPlaceOf (map_of m) (opposite up) (place.Arc k) → ⊥
-  not-on_arc k (a, h, o) = never-level a.normal (map-ahead m S k (arc_item a) (at-arc (map_of m).arcs (map_of m).sloop k a h)) (on-level (map_of m) (arc_item a) (opposite up) o)
-
-  pub not-on_sloop : IsPlaceOf (map_of m) (opposite up) place.Loop → ⊥
-  not-on_sloop (l, e, o) = never-level l.normal (map-ahead m S (length m.arcs) (sloop_item l) (sloop-listed m.arcs m.sloop l e)) (on-level (map_of m) (sloop_item l) (opposite up) o)
+  pub down-free : IsFree (map_of m) (opposite up)
+  down-free = record { direction = λ z. (let e : neg_ℤ (pos 1) ≡ pos 0 = z.2 in omega (arith, ints, e)); off_svertices = no-svertex; off_items = no-item }
 
 -- ---- vertices lie in the closed frame
 framed : (s : Set) (y : Place) → FlatDim s y 0 → InClosedFrame y
@@ -85,23 +80,20 @@ module _ (s : Set) (c : Complex) (S : ShowsSet s c) (i : ℕ) (u : ProgramVertex
   vertex-framed = framed s (place_of u.point) (S.shows.vertices i (vertex_of u) (vertex-there c i u e))
 
   -- ---- the side above the point where the ray ends
-  module _ (floor : ComplexPlace) (F : IsFirstHit (complex_of c) (place_of u.point) (opposite up) floor) where
-    ray-of : (x : VertexSide) (l : Label) → HasSideLabel (complex_of c) x l → ((y : Place) → IsPlaceAt (complex_of c) y floor → (t : SkeletonSpot) × IsSpot (complex_of c) t y × IsAbove (complex_of c) y t x) → RayDown (complex_of c) (place_of u.point) x
+  module _ (floor : Spot) (F : IsFirstHit (complex_of c) (place_of u.point) (opposite up) (spot_place floor)) where
+    ray-of : (x : VertexSide) (l : Label) → HasSideLabel (complex_of c) x l → ((y : Place) → IsPlaceAt (complex_of c) y (spot_place floor) → (t : SkeletonSpot) × IsSpot (complex_of c) t y × IsAbove (complex_of c) y t x) → RayDown (complex_of c) (place_of u.point) x
     ray-of x l h f =
         let r = f F.place F.at in
         record { place = F.place; spot = r.0; ahead = F.ahead; is_spot = r.1; first = F.first; above = r.2; label = l; has = h }
 
-    pub above-within : (j k : ℕ) → IsSideAbove (complex_of c) floor (position.InVolume j k) → j < length c.vertices
-    above-within j k (m, n, o, l, is, (v, a, g), f) = let w = vertex-within c m v a in let q : j ≡ m = cc in omega (arith, w, q)
+    pub above-within : (j k : ℕ) → IsSideAbove (complex_of c) floor j k → j < length c.vertices
+    above-within j k (o, l, (v, a, g), f) = vertex-within c j v a
 
-    pub cell-above : (j k : ℕ) → IsSideAbove (complex_of c) floor (position.InVolume j k) → (a : Cell) → a ≡ side_cell j k → IsFloorCell (complex_of c) i a
-    cell-above j k (m, n, o, l, is, (v, b, g), f) a h =
-        let x : VertexSide = record { vertex = m; side = o } in
-        let p : j ≡ m = cc in
-        let q : k ≡ n = cc in
-        let r : side_cell m n ≡ a = sym (h ∙ ap (λ (t : ℕ). side_cell t k) p ∙ ap (λ (t : ℕ). side_cell m t) q) in
-        let y = side-has v.map n o l g in
-        (x, subst (IsCellOf (complex_of c) x) r (cell-numbered (complex_of c) m n v o l b y (number-one v.map n o l g)), (vertex_of u, vertex-there c i u e, ray-of x l (v, b, y) f))
+    pub cell-above : (j k : ℕ) → IsSideAbove (complex_of c) floor j k → (a : Cell) → a ≡ side_cell j k → IsFloorCell (complex_of c) i a
+    cell-above j k (o, l, (v, b, g), f) a h =
+        let x : VertexSide = record { vertex = j; side = o } in
+        let y = side-has v.map k o l g in
+        (x, subst (IsCellOf (complex_of c) x) (sym h) (cell-numbered (complex_of c) j k v o l b y (number-one v.map k o l g)), (vertex_of u, vertex-there c i u e, ray-of x l (v, b, y) f))
 
   -- the ray ends nowhere
   pub none-below : ((q : Place) → IsAhead (place_of u.point) (opposite up) q → IsSkeletonPoint (complex_of c) q → ⊥) → (x : VertexSide) → IsBelow (complex_of c) i x → ⊥

@@ -16,8 +16,8 @@ use crate::outside::is_outside;
 use nef_classes::{Cell, Tie};
 use nef_complex::Complex;
 use nef_geo::up;
-use nef_locate::{Place, first_hit, side_above};
-use nef_smap::{SPlace, SphereMap, at};
+use nef_locate::{first_spot, side_above};
+use nef_smap::SphereMap;
 use std::alloc::Global;
 
 // The number of the side that sees the downward direction.
@@ -25,12 +25,7 @@ fn side_downward(map: &SphereMap) -> usize
     requires map { IsSphereMap map.now }
     ensures side { SideSees (map_of map.now) result (opposite up) }
 {
-    match at(map, &up().back()) {
-        SPlace::Face(side) => side,
-        SPlace::SVertex(_) => unreachable!(),
-        SPlace::Arc(_) => unreachable!(),
-        SPlace::Loop => unreachable!(),
-    }
+    map.face_toward(&up().back())
 }
 
 // The element of the side above what the ray down from the vertex first meets.
@@ -39,13 +34,9 @@ fn floor_cell(c: &Complex, vertex: usize) -> Option<Cell>
     requires within { vertex < length c.now.vertices }
     ensures below { MatchOption result ((x : VertexSide) → IsBelow (complex_of c.now) vertex x → ⊥) (IsFloorCell (complex_of c.now) vertex) }
 {
-    let floor = first_hit(c, &c.vertices.at(vertex).point, &up().back())?;
-    match side_above(c, &floor) {
-        Place::InVolume { vertex, side } => Some(cell(c, vertex, side)),
-        Place::Vertex(_) => unreachable!(),
-        Place::OnEdge(_) => unreachable!(),
-        Place::InFacet(_) => unreachable!(),
-    }
+    let floor = first_spot(c, &c.vertices.at(vertex).point, &up().back())?;
+    let above = side_above(c, &floor);
+    Some(cell(c, above.vertex, above.side))
 }
 
 // The tie down the ray from the vertex. There is none where the label below the vertex is Out, or nothing is met.

@@ -1,23 +1,26 @@
 use Rattle.std.proofs.Common.{refl, inr, ap, ◌∙◌, sym, subst}
 use Rattle.nef_space.specs.Place.{IsAhead}
 use Rattle.nef_space.specs.Vectors.{Vector, opposite}
-use Rattle.nef_geo.specs.Shapes.{vector_of, place_of}
+use Rattle.nef_geo.specs.Shapes.{place_of}
 use Rattle.nef_complex.specs.Complexes.{complex_of}
-use Rattle.nef_locate.specs.Places.{IsFirstHit}
-use Rattle.nef_locate.proofs.Located.{met-of_skeleton, volume-at, some-below}
+use Rattle.nef_locate.specs.Places.{spot_place, IsFirstHit}
+use Rattle.nef_locate.proofs.Located.{volume-in, volume-at, some-below}
 use Rattle.nef_locate.proofs.point.in_volume.Goals as goal
 
-pub first_hit-requires-clause-upright : goal.first_hit-requires-clause-upright
-first_hit-requires-clause-upright c = inr (c.back.ensures.back ∙ ap opposite c.up.ensures.up)
+pub first_spot-requires-clause-upright : goal.first_spot-requires-clause-upright
+first_spot-requires-clause-upright c = inr (c.back.ensures.back ∙ ap opposite c.up.ensures.up)
 
-pub side_above-requires-clause-skeleton : goal.side_above-requires-clause-skeleton
-side_above-requires-clause-skeleton c = met-of_skeleton (complex_of c.args.c.now) (place_of c.args.p.now) (vector_of c.back.result) c.in-Some.floor c.in-Some.ensures.some
+pub returns-clause-place : goal.returns-clause-place
+returns-clause-place c =
+    let C = complex_of c.args.c.now in let p = place_of c.args.p.now in let a = c.side_above-above.result in
+    let F = subst (λ (d : Vector). IsFirstHit C p d (spot_place c.in-Some.floor)) (c.back.ensures.back ∙ ap opposite c.up.ensures.up) c.in-Some.ensures.some in
+    volume-in C p c.requires.off c.in-Some.floor F a.vertex a.side c.side_above-above.ensures.above
 
 pub returns-clause-at : goal.returns-clause-at
 returns-clause-at c =
-    let C = complex_of c.args.c.now in let p = place_of c.args.p.now in
-    let F = subst (λ (d : Vector). IsFirstHit C p d c.in-Some.floor) (c.back.ensures.back ∙ ap opposite c.up.ensures.up) c.in-Some.ensures.some in
-    volume-at C p c.requires.off c.in-Some.floor F c.side_above.result c.side_above.ensures.above
+    let C = complex_of c.args.c.now in let p = place_of c.args.p.now in let a = c.side_above-above.result in
+    let F = subst (λ (d : Vector). IsFirstHit C p d (spot_place c.in-Some.floor)) (c.back.ensures.back ∙ ap opposite c.up.ensures.up) c.in-Some.ensures.some in
+    volume-at C p c.requires.off c.in-Some.floor F a.vertex a.side c.side_above-above.ensures.above
 
 pub unreachable-requires : goal.unreachable-requires
 unreachable-requires c =

@@ -23,16 +23,16 @@ spot_in_cluster-requires-clause-groups c = λ i g a.
     let clusters : List Cluster = c.carrier_clusters-clusters.result.now in let n = c.loop-cluster.cluster-index in let x = c.cluster-item.result in
     A.groups n i x g (slice_get_read clusters (length clusters) n x refl c.loop-cluster-test.true c.cluster-item.is) a
 
-pub spot_in_cluster-requires-clause-framed : goal.spot_in_cluster-requires-clause-framed
-spot_in_cluster-requires-clause-framed c =
+pub spot_in_cluster-requires-clause-probe : goal.spot_in_cluster-requires-clause-probe
+spot_in_cluster-requires-clause-probe c =
     let p = place_of c.args.p.now in let q = hit_place c.hit_at-hit.result in
-    closed-same p q (same-place_sym q p c.hit_at-hit.ensures.same) c.requires.framed
-
-pub spot_in_cluster-requires-clause-parts : goal.spot_in_cluster-requires-clause-parts
-spot_in_cluster-requires-clause-parts c = (c.args.p.now, c.hit_at-hit.ensures.same, c.requires.before, c.requires.after)
-
-pub spot_in_cluster-requires-clause-window : goal.spot_in_cluster-requires-clause-window
-spot_in_cluster-requires-clause-window c = span-same c.of-window.result (place_of c.args.p.now) (hit_place c.hit_at-hit.result) c.hit_at-hit.ensures.same c.of-window.ensures.point
+    record {
+      shows = c.requires.shows;
+      framed = closed-same p q (same-place_sym q p c.hit_at-hit.ensures.same) c.requires.framed;
+      numbers = c.hit_at-hit.ensures.upright_width;
+      within = span-same c.of-window.result p q c.hit_at-hit.ensures.same c.of-window.ensures.point;
+      parts = (c.args.p.now, c.hit_at-hit.ensures.same, c.requires.before, c.requires.after);
+    }
 
 pub loop-cluster-preserved : goal.loop-cluster-preserved
 loop-cluster-preserved c =

@@ -5,4 +5,4 @@ use Rattle.nef_locate.proofs.Reading.{HaveAll}
 use Rattle.nef_locate.proofs.point.off_vertices.Given as goal
 
 abbrev pub invariant-loop-cluster : goal.invariant-loop-cluster
-invariant-loop-cluster l = HaveAll IsInCluster (HasNotAtCarrier l.c (hit_place l.hit)) l.clusters l.cluster-index
+invariant-loop-cluster l = HaveAll IsInCluster (HasNotAtCarrier l.c (hit_place l.probe.at)) l.clusters l.cluster-index

@@ -6,18 +6,18 @@ use Rattle.nef_smap.proofs.SideLists.{at-from_get}
 use Rattle.nef_complex.specs.Index.{AreWithin}
 use Rattle.nef_locate.specs.Rays.{HasNotAtCarrier}
 use Rattle.nef_locate.proofs.Reading.{next-all}
-use Rattle.nef_locate.proofs.point.spot_in_group.Goals as goal
+use Rattle.nef_locate.proofs.point.Probe.spot_in_group.Goals as goal
 
-pub spot_in_window-requires-clause-number : goal.spot_in_window-requires-clause-number
-spot_in_window-requires-clause-number c =
+pub spot_in_carrier-requires-clause-number : goal.spot_in_carrier-requires-clause-number
+spot_in_carrier-requires-clause-number c =
     let ns : List ℕ = c.as_slice-number-items.result.now in let n = c.loop-number.number-index in
-    subst (AreWithin c.args.c.now.carriers) (sym c.as_slice-number-items.ensures.all) c.requires.within n (get_or ns n 0) (is-at_get ns n 0 c.loop-number-test.true)
+    subst (AreWithin c.args.self.now.complex.now.carriers) (sym c.as_slice-number-items.ensures.all) c.requires.within n (get_or ns n 0) (is-at_get ns n 0 c.loop-number-test.true)
 
 pub loop-number-preserved : goal.loop-number-preserved
 loop-number-preserved c =
     let ns : List ℕ = c.as_slice-number-items.result.now in let n = c.loop-number.number-index in
-    next-all (HasNotAtCarrier c.args.c.now (hit_place c.args.q.now)) ns n (get_or ns n 0) (is-at_get ns n 0 c.loop-number-test.true) c.loop-number.invariant
-    (let e : IsNone c.spot_in_window.result = search rules in c.spot_in_window.ensures.none e)
+    next-all (HasNotAtCarrier c.args.self.now.complex.now (hit_place c.args.self.now.at)) ns n (get_or ns n 0) (is-at_get ns n 0 c.loop-number-test.true) c.loop-number.invariant
+    (let e : IsNone c.spot_in_carrier.result = search rules in c.spot_in_carrier.ensures.none e)
 
 pub returns-clause-none : goal.returns-clause-none
 returns-clause-none c = λ e k (j, a).
