@@ -16,8 +16,6 @@ mod merged;
 mod op;
 mod place_share;
 mod share;
-#[cfg(test)]
-mod tests;
 mod topology;
 mod whole;
 

@@ -3,14 +3,12 @@
 //! Their vertices are the corners of the frame: 0 is (-, -, -), 1 (-, -, +), 2 (-, +, -), 3 (-, +, +), 4 (+, -, -),
 //! 5 (+, -, +), 6 (+, +, -) and 7 (+, +, +), where + stands for 2048 and - for -2048.
 
-use crate::questions::assert_answers;
-use crate::sets::intersection;
+use crate::tables::check_table;
 use std::test::Fail;
 
 // The plane x + y = 0 passes through two edges of the frame.
-const DIAGONAL: [[i64; 4]; 1] = [[1, 1, 0, 0]];
-
-const DIAGONAL_ANSWERS: &str = "\
+const DIAGONAL: &str = "\
+1 1 0 0
 counts => 8 14 # the frame's, and the edges from 2 to 4 and from 3 to 5
 vertex -2048 2048 -2048 1 => 2 # a corner on the plane
 vertex -2048 2048 0 1 => none # inside an edge of the frame
@@ -39,16 +37,9 @@ back 1 1 0 0 0 0 0 1 => edge 3 5 # along z
 ray 0 1 -1 0 2048 0 0 1 => vertex 4 # along (0, -1, -1), exactly
 back 0 1 -1 0 -2048 0 0 1 => vertex 3 # along (0, 1, 1), exactly";
 
-#[test]
-fn plane_through_edges(rt: HostRuntime) -> Result<(), Fail> {
-    let c = intersection(&rt, rt.alloc(), DIAGONAL.as_slice())?;
-    assert_answers(&rt, rt.alloc(), &c, DIAGONAL_ANSWERS)
-}
-
 // The plane x + y + z = 2048 passes through three corners of the frame.
-const SLANTED: [[i64; 4]; 1] = [[1, 1, 1, -2048]];
-
-const SLANTED_ANSWERS: &str = "\
+const SLANTED: &str = "\
+1 1 1 -2048
 counts => 8 15 # the frame's, and the three sides of the triangle with the vertices 3, 5 and 6
 vertex 2048 2048 -2048 1 => 6 # a corner on the plane
 vertex 2048 0 0 1 => none # inside a side of the triangle
@@ -74,16 +65,9 @@ ray 1 1 1 -2048 1024 512 512 1 => edge 3 6 # along (0, 1, -1)
 back 1 1 1 -2048 1024 512 512 1 => edge 3 5 # along (0, -1, 1)
 back 0 1 -1 0 -2048 0 0 1 => vertex 3 # along (0, 1, 1), exactly";
 
-#[test]
-fn plane_through_corners(rt: HostRuntime) -> Result<(), Fail> {
-    let c = intersection(&rt, rt.alloc(), SLANTED.as_slice())?;
-    assert_answers(&rt, rt.alloc(), &c, SLANTED_ANSWERS)
-}
-
 // The plane x + y = 4096 touches an edge of the frame, and x + y + z = 6144 a corner. All of the frame is below both.
-const TOUCHING: [[i64; 4]; 2] = [[1, 1, 0, -4096], [1, 1, 1, -6144]];
-
-const TOUCHING_ANSWERS: &str = "\
+const TOUCHING: &str = "\
+1 1 0 -4096, 1 1 1 -6144
 counts => 8 12 # the frame's alone
 vertex 2048 2048 2048 1 => 7 # the corner that is touched
 vertex 2048 2048 0 1 => none # inside the edge that is touched
@@ -106,7 +90,8 @@ back 0 1 -1 0 0 0 0 1 => edge 3 7 # along (0, 1, 1)
 ray 1 -1 0 0 0 0 0 1 => none # along z, between the edges from 0 to 1 and from 6 to 7";
 
 #[test]
-fn planes_that_touch(rt: HostRuntime) -> Result<(), Fail> {
-    let c = intersection(&rt, rt.alloc(), TOUCHING.as_slice())?;
-    assert_answers(&rt, rt.alloc(), &c, TOUCHING_ANSWERS)
+fn half_spaces(rt: HostRuntime) -> Result<(), Fail> {
+    check_table(&rt, rt.alloc(), DIAGONAL)?;
+    check_table(&rt, rt.alloc(), SLANTED)?;
+    check_table(&rt, rt.alloc(), TOUCHING)
 }

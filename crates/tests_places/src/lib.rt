@@ -7,36 +7,40 @@ mod classes;
 #[cfg(test)]
 mod comparing;
 #[cfg(test)]
-mod components;
-#[cfg(test)]
-mod facet_parts;
+mod ends;
 #[cfg(test)]
 mod frame;
 #[cfg(test)]
-mod frame_text;
-#[cfg(test)]
 mod half_spaces;
+#[cfg(test)]
+mod items;
+#[cfg(test)]
+mod joins;
 #[cfg(test)]
 mod lines;
 #[cfg(test)]
 mod lone;
 #[cfg(test)]
-mod planes;
+mod made;
+#[cfg(test)]
+mod parts;
+#[cfg(test)]
+mod places;
 #[cfg(test)]
 mod prisms;
-#[cfg(test)]
-mod questions;
 #[cfg(test)]
 mod rays;
 #[cfg(test)]
 mod results;
 #[cfg(test)]
+mod rows;
+#[cfg(test)]
 mod sets;
 #[cfg(test)]
-mod starts;
-#[cfg(test)]
-mod ties;
+mod tables;
 #[cfg(test)]
 mod turns;
 #[cfg(test)]
 mod walls;
+#[cfg(test)]
+mod words;

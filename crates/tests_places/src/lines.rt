@@ -2,22 +2,12 @@
 //!
 //! Vertices are numbered in the order of their x, then y, then z. Below + stands for 2048 and - for -2048.
 
-use crate::questions::assert_answers;
-use crate::sets::{combination, intersection};
-use nef_star::Op;
+use crate::tables::check_table;
 use std::test::Fail;
 
-const POINT: [[i64; 4]; 6] = [
-    [-1, 0, 0, 0],
-    [1, 0, 0, 0],
-    [0, -1, 0, 0],
-    [0, 1, 0, 0],
-    [0, 0, -1, 0],
-    [0, 0, 1, 0],
-];
-
 // The vertices 0 to 3 are corners with x = -2048; 4 is the origin; 5 is (+, -, -), 6 (+, -, +), 7 (+, +, -), 8 (+, +, +).
-const POINT_ANSWERS: &str = "\
+const POINT: &str = "\
+-1 0 0 0, 1 0 0 0, 0 -1 0 0, 0 1 0 0, 0 0 -1 0, 0 0 1 0
 counts => 9 12 # the frame's and the point
 vertex 0 0 0 1 => 4 # the point
 vertex 1 0 0 67108864 => none # beside it
@@ -52,17 +42,10 @@ ray 1 0 0 0 0 0 -5 1 => vertex 4 # along z, exactly
 ray 1 1 1 0 0 -5 5 1 => vertex 4 # along (0, 1, -1), exactly
 ray 1 0 0 -2048 2048 0 0 1 => edge 6 8 # along z on the border";
 
-#[test]
-fn places_of_a_point(rt: HostRuntime) -> Result<(), Fail> {
-    let c = intersection(&rt, rt.alloc(), POINT.as_slice())?;
-    assert_answers(&rt, rt.alloc(), &c, POINT_ANSWERS)
-}
-
-const Z_AXIS: [[i64; 4]; 4] = [[1, 0, 0, 0], [-1, 0, 0, 0], [0, 1, 0, 0], [0, -1, 0, 0]];
-
 // The vertices 0 to 3 are corners with x = -2048, 3 is (-, +, +); 4 is (0, 0, -), 5 (0, 0, +); 6 is (+, -, -), 7 (+, -, +),
 // 8 (+, +, -), 9 (+, +, +).
-const Z_AXIS_ANSWERS: &str = "\
+const Z_AXIS: &str = "\
+1 0 0 0, -1 0 0 0, 0 1 0 0, 0 -1 0 0
 counts => 10 13 # the frame's, and the axis with its ends
 vertex 0 0 2048 1 => 5 # the upper end
 vertex 0 0 0 1 => none # inside the axis
@@ -91,19 +74,12 @@ ray 0 0 1 -5 0 -7 5 1 => none # along y, the axis crosses this plane and doesn't
 items 1 0 0 0 => none # the axis lies in this plane, but no facet
 items 0 0 1 -2048 => edges 3 4 7 11 vertices 1 3 5 7 9 # a side, on which the axis ends";
 
-#[test]
-fn places_of_an_axis(rt: HostRuntime) -> Result<(), Fail> {
-    let c = intersection(&rt, rt.alloc(), Z_AXIS.as_slice())?;
-    assert_answers(&rt, rt.alloc(), &c, Z_AXIS_ANSWERS)
-}
-
-const X_AXIS: [[i64; 4]; 4] = [[0, 1, 0, 0], [0, -1, 0, 0], [0, 0, 1, 0], [0, 0, -1, 0]];
-
-const Y_AXIS: [[i64; 4]; 4] = [[1, 0, 0, 0], [-1, 0, 0, 0], [0, 0, 1, 0], [0, 0, -1, 0]];
-
+// The x axis and the y axis.
+//
 // The vertices: 0 is (-, -, -), 1 (-, -, +), 2 (-, 0, 0), 3 (-, +, -), 4 (-, +, +), 5 (0, -, 0), 6 the origin, 7 (0, +, 0),
 // 8 (+, -, -), 9 (+, -, +), 10 (+, 0, 0), 11 (+, +, -), 12 (+, +, +).
-const CROSSING_ANSWERS: &str = "\
+const CROSSING: &str = "\
+0 1 0 0, 0 -1 0 0, 0 0 1 0, 0 0 -1 0; or 1 0 0 0, -1 0 0 0, 0 0 1 0, 0 0 -1 0
 counts => 13 16 # the frame's, and four halves of axes with their ends
 vertex 0 0 0 1 => 6 # where the axes cross
 vertex 1 0 0 67108864 => none # inside an axis
@@ -138,27 +114,12 @@ ray 1 0 0 0 0 5 7 1 => none # along z, the y axis lies behind
 ray 0 1 0 0 5 0 7 1 => edge 6 10 # along -z
 back 0 1 0 0 5 0 7 1 => none # along z, the x axis lies behind";
 
-#[test]
-fn places_of_crossing_axes(rt: HostRuntime) -> Result<(), Fail> {
-    let (x, y) = (X_AXIS.as_slice(), Y_AXIS.as_slice());
-    let c = combination(&rt, rt.alloc(), Op::Or, x, y)?;
-    assert_answers(&rt, rt.alloc(), &c, CROSSING_ANSWERS)
-}
-
-const LOWER: [[i64; 4]; 1] = [[0, 0, 1, 0]];
-
-// The half of the x axis from the origin on.
-const RAY: [[i64; 4]; 5] = [
-    [0, 0, 1, 0],
-    [0, 0, -1, 0],
-    [0, 1, 0, 0],
-    [0, -1, 0, 0],
-    [-1, 0, 0, 0],
-];
-
+// The half z <= 0 without the half of the x axis from the origin on.
+//
 // The vertices: 0 is (-, -, -), 1 (-, -, 0), 2 (-, -, +), 3 (-, +, -), 4 (-, +, 0), 5 (-, +, +), 6 the origin, 7 (+, -, -),
 // 8 (+, -, 0), 9 (+, -, +), 10 (+, 0, 0), 11 (+, +, -), 12 (+, +, 0), 13 (+, +, +).
-const SLIT_ANSWERS: &str = "\
+const SLIT: &str = "\
+0 0 1 0; diff 0 0 1 0, 0 0 -1 0, 0 1 0 0, 0 -1 0 0, -1 0 0 0
 counts => 14 22 # the half-space has 12 and 20, one edge of which the slit's end cuts, and the slit is an edge
 vertex 0 0 0 1 => 6 # where the slit begins
 vertex 1 0 0 67108864 => none # inside the slit
@@ -197,8 +158,9 @@ ray 0 0 1 0 0 -7 0 1 => vertex 6 # along y, exactly
 ray 0 0 1 0 -5 -7 0 1 => edge 4 12 # along y, past the slit";
 
 #[test]
-fn places_of_a_slit(rt: HostRuntime) -> Result<(), Fail> {
-    let (lower, ray) = (LOWER.as_slice(), RAY.as_slice());
-    let c = combination(&rt, rt.alloc(), Op::Diff, lower, ray)?;
-    assert_answers(&rt, rt.alloc(), &c, SLIT_ANSWERS)
+fn lines(rt: HostRuntime) -> Result<(), Fail> {
+    check_table(&rt, rt.alloc(), POINT)?;
+    check_table(&rt, rt.alloc(), Z_AXIS)?;
+    check_table(&rt, rt.alloc(), CROSSING)?;
+    check_table(&rt, rt.alloc(), SLIT)
 }

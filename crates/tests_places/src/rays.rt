@@ -1,160 +1,228 @@
-//! Where rays end. A row is the point, by the numbers x, y, z and w of (x/w, y/w, z/w), the direction, and the end: whether the
-//! label changes at the point or just after it, the point, and the label there or just after it.
+//! Questions about a plane, by its four numbers, and a point or a vertex.
+//!
+//! - `facet PLANE POINT`: the facet of the plane in which the point lies.
+//! - `ray PLANE POINT`, `back PLANE POINT`: what the ray from the point along the plane's axis, or back along it, meets first
+//!   in the plane.
+//! - `along PLANE NUMBER`: what the ray from the vertex along the plane's second direction meets first in it, by the call
+//!   that is given a point and looks the vertex up.
+//! - `from PLANE NUMBER`: the same by the call that is given the vertex, which need not lie on the plane.
 
-ghost use Rattle.std.specs.Prelude.{◌≤◌, nat_abs, IsTrue};
-ghost use Rattle.nef_space.specs.Limits.{ray_direction_limit, ray_point_limit, ray_weight_limit};
+ghost use Rattle.std.specs.Prelude.{◌≡◌, ℕ, ◌<◌, pos, length, false, IsTrue, IfSome};
+ghost use Rattle.nef_space.specs.Limits.{normal_limit};
+ghost use Rattle.nef_space.specs.Place.{InClosedFrame, form_at};
 ghost use Rattle.nef_space.specs.Sets.{Set};
 ghost use Rattle.nef_space.specs.Vectors.{IsAtMost};
 ghost use Rattle.nef_geo.specs.Hits.{IsPlaceAtMost};
-ghost use Rattle.nef_geo.specs.Shapes.{vector_of, place_of};
-ghost use Rattle.nef_complex.specs.Complexes.{ShowsSet};
+ghost use Rattle.nef_geo.specs.Shapes.{form_of, vector_of, place_of, hit_place};
+ghost use Rattle.nef_geo.specs.Widths.{upright_limit, upright_weight_limit};
+ghost use Rattle.nef_smap.specs.declared.map.SVertex.{SVertex};
+ghost use Rattle.law_sphere.specs.Maps.{At};
+ghost use Rattle.law_complex.specs.Skeleton.{IsOnEdges, IsEdgePoint};
+ghost use Rattle.nef_complex.specs.Complexes.{complex_of, ShowsSet};
+ghost use Rattle.nef_plane.specs.Meets.{HasNoSvertex, IsAlongAxis};
+ghost use Rattle.tests_places.specs.Clear.{IsClearVertex};
 
-use crate::questions::numbers;
-use crate::sets::{combination, intersection};
-use nef_complex::Complex;
-use nef_geo::{Dir, Label, Point};
-use nef_ray::ray_end;
-use nef_star::Op;
+use crate::places::{edge_text, facet_text};
+use crate::words::{framed_point, plane};
+use nef_complex::{Complex, PlaneMeet};
+use nef_geo::{Dir, Hit, Plane, Point, Sign, hit_at, hit_side, plane_axis, plane_dir};
+use nef_locate::{Place, in_facet, locate};
+use nef_plane::{first_along_dir, first_in_plane, is_at_vertex, is_on_edge};
+use nef_smap::SphereMap;
 use std::alloc::Global;
-use std::process::Abort;
 use std::test::Fail;
 
-// The greatest size of a number of a ray's start, the greatest weight, and the greatest size of a number of its direction.
-const GREATEST_NUMBER: u64 = 1 << 21;
-
-const GREATEST_WEIGHT: u64 = 1 << 10;
-
-const GREATEST_WAY: u64 = 1 << 10;
-
-fn is_within(number: i64, limit: u64) -> bool
-    ensures within { IsTrue result → nat_abs number ≤ limit }
-{
-    number.unsigned_abs() <= limit
-}
-
-fn is_start(p: &Point) -> bool
-    ensures small { IsTrue result → IsPlaceAtMost ray_point_limit ray_weight_limit (place_of p.now) }
-{
-    is_within(p.x(), GREATEST_NUMBER)
-        && is_within(p.y(), GREATEST_NUMBER)
-        && is_within(p.z(), GREATEST_NUMBER)
-        && is_within(p.w(), GREATEST_WEIGHT)
-}
-
-fn is_way(d: &Dir) -> bool
-    ensures small { IsTrue result → IsAtMost ray_direction_limit (vector_of d.now) }
-{
-    is_within(d.x(), GREATEST_WAY)
-        && is_within(d.y(), GREATEST_WAY)
-        && is_within(d.z(), GREATEST_WAY)
-}
-
-fn label_word(label: Label) -> &'static str {
-    match label {
-        Label::Out => "frame",
-        Label::Not => "not",
-        Label::In => "in",
-    }
-}
-
-fn end_text(alloc: Global, c: &Complex, p: &Point, d: &Dir) -> Result<String, Fail>
+// Whether the point lies strictly inside no edge.
+fn is_off_edges(c: &Complex, p: &Hit) -> bool
     requires shows { (s : Set) × ShowsSet s c.now }
+    ensures off { IsTrue result → (k : ℕ) → IsEdgePoint (complex_of c.now) k (hit_place p.now) → ⊥ }
 {
-    if !p.in_frame() {
-        return Ok(String::from_str(alloc, "frame")?);
+    for number in 0..c.edges.len() {
+        if is_on_edge(c, number, p) {
+            return false;
+        }
     }
-    if !is_start(p) || !is_way(d) {
-        return Ok(String::from_str(alloc, "too large")?);
-    }
-    let end = ray_end(alloc, c, p, d)?;
-    let word = if end.after { "after" } else { "at" };
-    let (x, y, z) = (end.point.x(), end.point.y(), end.point.z());
-    let text = format!(in alloc;
-        "{word} {x} {y} {z} {} {}",
-        end.point.w(),
-        label_word(end.label)
-    )?;
-    Ok(text)
+    true
 }
 
-fn answer(alloc: Global, c: &Complex, words: &str) -> Result<String, Fail>
-    requires shows { (s : Set) × ShowsSet s c.now }
+fn is_same(a: &Dir, d: &Dir) -> bool
+    ensures other { result ≡ false → a.now ≡ d.now → ⊥ }
 {
-    let list = numbers(alloc, words)?;
-    let [x, y, z, w, dx, dy, dz] = list.as_slice() else {
-        return Ok(String::from_str(alloc, "no such ray")?);
+    *a == *d
+}
+
+fn has_svertex(map: &SphereMap, d: &Dir) -> bool
+    ensures none { result ≡ false → (j : ℕ) (u : SVertex) → At map.now.svertices j u → u.dir ≡ d.now → ⊥ }
+{
+    for svertex in map.svertices.as_slice() {
+        if is_same(&svertex.dir, d) {
+            return true;
+        }
+    }
+    false
+}
+
+fn is_clear_vertex(c: &Complex, number: usize, p: &Hit, d: &Dir) -> bool
+    requires shows { (s : Set) × ShowsSet s c.now }
+    requires within { number < length c.now.vertices }
+    ensures clear { IsTrue result → IsClearVertex c.now (hit_place p.now) d.now number }
+{
+    !is_at_vertex(c, number, p) || !has_svertex(&c.vertices.at(number).map, d)
+}
+
+fn has_no_svertex(c: &Complex, p: &Hit, d: &Dir) -> bool
+    requires shows { (s : Set) × ShowsSet s c.now }
+    ensures none { IsTrue result → HasNoSvertex (complex_of c.now) (hit_place p.now) (vector_of d.now) }
+{
+    for number in 0..c.vertices.len() {
+        if !is_clear_vertex(c, number, p, d) {
+            return false;
+        }
+    }
+    true
+}
+
+// The direction of the plane's axis, or the opposite one.
+fn axis(h: &Plane, back: bool) -> Dir
+    ensures axis { IsAlongAxis (form_of h.now) (vector_of result) }
+    ensures small { IsAtMost normal_limit (vector_of result) }
+{
+    if back {
+        plane_axis(h).back()
+    } else {
+        plane_axis(h)
+    }
+}
+
+// What the ray along the plane's axis, or back along it, meets first, if it may be asked.
+fn met_along_axis(c: &Complex, h: &Plane, p: &Hit, back: bool) -> Option<Option<PlaneMeet>>
+    requires shows { (s : Set) × ShowsSet s c.now }
+    requires numbers { IsPlaceAtMost upright_limit upright_weight_limit (hit_place p.now) }
+{
+    let d = axis(h, back);
+    if hit_side(h, p) == Sign::Zero && is_off_edges(c, p) && has_no_svertex(c, p, &d) {
+        Some(first_in_plane(c, h, p, &d))
+    } else {
+        None
+    }
+}
+
+// What the ray from a vertex along the plane's second direction meets first, if it may be asked. Where the vertex is looked
+// up, it lies on the plane.
+fn met_from_vertex(
+    c: &Complex,
+    h: &Plane,
+    vertex: usize,
+    looked_up: bool,
+) -> Option<Option<PlaneMeet>>
+    requires shows { (s : Set) × ShowsSet s c.now }
+    requires within { vertex < length c.now.vertices }
+{
+    let d = plane_dir(h);
+    let p = hit_at(&c.vertices.at(vertex).point);
+    if !has_no_svertex(c, &p, &d) {
+        return None;
+    }
+    if !looked_up {
+        return Some(first_along_dir(c, h, vertex, &d));
+    }
+    if hit_side(h, &p) == Sign::Zero && is_at_vertex(c, vertex, &p) {
+        Some(first_in_plane(c, h, &p, &d))
+    } else {
+        None
+    }
+}
+
+// Whether the point is no vertex and lies on no edge.
+fn is_off_skeleton(c: &Complex, p: &Point) -> bool
+    requires shows { (s : Set) × ShowsSet s c.now }
+    requires framed { InClosedFrame (place_of p.now) }
+    ensures off { IsTrue result → IsOnEdges (complex_of c.now) (place_of p.now) → ⊥ }
+{
+    match locate(c, p) {
+        Place::Vertex(_) => false,
+        Place::OnEdge(_) => false,
+        Place::InFacet(_) => true,
+        Place::InVolume { .. } => true,
+    }
+}
+
+// The point, if it may lie in a facet of the plane: it lies on the plane, is no vertex and lies on no edge.
+fn inside(c: &Complex, h: &Plane, p: &Point) -> Option<Hit>
+    requires shows { (s : Set) × ShowsSet s c.now }
+    requires framed { InClosedFrame (place_of p.now) }
+    ensures on { IfSome result (λ q. form_at (form_of h.now) (hit_place q) ≡ pos 0) }
+    ensures framed { IfSome result (λ q. InClosedFrame (hit_place q)) }
+    ensures off { IfSome result (λ q. IsOnEdges (complex_of c.now) (hit_place q) → ⊥) }
+    ensures numbers { IfSome result (λ q. IsPlaceAtMost upright_limit upright_weight_limit (hit_place q)) }
+{
+    let q = hit_at(p);
+    if hit_side(h, &q) == Sign::Zero && is_off_skeleton(c, p) {
+        Some(q)
+    } else {
+        None
+    }
+}
+
+// The facet of the plane in which the point lies.
+fn corner_text(alloc: Global, c: &Complex, h: &Plane, p: &Point) -> Result<String, Fail>
+    requires shows { (s : Set) × ShowsSet s c.now }
+    requires framed { InClosedFrame (place_of p.now) }
+{
+    let Some(q) = inside(c, h, p) else {
+        return Err("a point inside a facet".into());
     };
-    if !is_within(*x, 1 << 21) || !is_within(*y, 1 << 21) || !is_within(*z, 1 << 21) {
-        return Ok(String::from_str(alloc, "too large")?);
+    match in_facet(c, h, &q) {
+        Some(corner) => facet_text(alloc, c, &corner),
+        None => Ok(String::from_str(alloc, "none")?),
     }
-    if *w < 1
-        || *w > 1024
-        || !is_within(*dx, 1024)
-        || !is_within(*dy, 1024)
-        || !is_within(*dz, 1024)
-    {
-        return Ok(String::from_str(alloc, "too large")?);
-    }
-    let d = Dir::of(*dx, *dy, *dz).ok_or("no direction")?;
-    end_text(alloc, c, &Point::of(*x, *y, *z, *w), &d)
 }
 
-// Asserts that each ray of the table ends as it says.
-fn assert_ends(rt: &impl Abort, alloc: Global, c: &Complex, table: &str) -> Result<(), Fail>
+// What is met first, where a ray may begin.
+fn meet_text(alloc: Global, c: &Complex, met: Option<Option<PlaneMeet>>) -> Result<String, Fail> {
+    match met.ok_or("where a ray may begin")? {
+        Some(PlaneMeet::AtVertex(number)) => Ok(format!(in alloc; "vertex {number}")?),
+        Some(PlaneMeet::AtEdge(number)) => edge_text(alloc, c, number),
+        None => Ok(String::from_str(alloc, "none")?),
+    }
+}
+
+/// The answer to a question about a plane and a point.
+pub(crate) fn answer_in(
+    alloc: Global,
+    c: &Complex,
+    verb: &str,
+    h: &Plane,
+    at: &[i64; 4],
+) -> Result<String, Fail>
     requires shows { (s : Set) × ShowsSet s c.now }
 {
-    for row in table.split('\n') {
-        let (ray, wanted) = row.split_once(" => ").ok_or("no end")?;
-        let given = answer(alloc, c, ray)?;
-        assert_eq!(rt; given.as_str(), wanted, "{row}");
+    let [x, y, z, w] = *at;
+    let p = framed_point(x, y, z, w)?;
+    match verb {
+        "facet" => corner_text(alloc, c, h, &p),
+        "ray" => meet_text(alloc, c, met_along_axis(c, h, &hit_at(&p), false)),
+        "back" => meet_text(alloc, c, met_along_axis(c, h, &hit_at(&p), true)),
+        _ => Err("a question about a plane and a point".into()),
     }
-    Ok(())
 }
 
-// The half x <= 0: the plane still belongs to it, so the label changes just after it.
-const CLOSED_HALF: [[i64; 4]; 1] = [[1, 0, 0, 0]];
-
-const CLOSED_HALF_ENDS: &str = "\
--1 0 0 1 1 0 0 => after 0 0 0 1 not
-1 0 0 2 1 0 0 => at 2048 0 0 1 frame";
-
-#[test]
-fn ends_in_a_closed_half(rt: HostRuntime) -> Result<(), Fail> {
-    let c = intersection(&rt, rt.alloc(), CLOSED_HALF.as_slice())?;
-    assert_ends(&rt, rt.alloc(), &c, CLOSED_HALF_ENDS)
-}
-
-// What x >= 0 lacks is x < 0: the plane doesn't belong to it, so the label changes there.
-const OPPOSITE_HALF: [[i64; 4]; 1] = [[-1, 0, 0, 0]];
-
-const OPEN_HALF_ENDS: &str = "\
--1 0 0 1 1 0 0 => at 0 0 0 1 not";
-
-#[test]
-fn ends_in_an_open_half(rt: HostRuntime) -> Result<(), Fail> {
-    let c = combination(&rt, rt.alloc(), Op::Diff, &[], OPPOSITE_HALF.as_slice())?;
-    assert_ends(&rt, rt.alloc(), &c, OPEN_HALF_ENDS)
-}
-
-// The closed unit box.
-const BOX: [[i64; 4]; 6] = [
-    [-1, 0, 0, 0],
-    [1, 0, 0, -1],
-    [0, -1, 0, 0],
-    [0, 1, 0, -1],
-    [0, 0, -1, 0],
-    [0, 0, 1, -1],
-];
-
-const BOX_ENDS: &str = "\
--1 1 1 2 1 0 0 => at 0 1 1 2 in
-1 1 1 2 1 0 0 => after 2 1 1 2 not
--1 -1 -1 1 1 1 1 => at 0 0 0 1 in
-0 0 0 1 -1 0 0 => at -2048 0 0 1 frame
-2048 0 0 1 1 0 0 => frame";
-
-#[test]
-fn ends_in_a_box(rt: HostRuntime) -> Result<(), Fail> {
-    let c = intersection(&rt, rt.alloc(), BOX.as_slice())?;
-    assert_ends(&rt, rt.alloc(), &c, BOX_ENDS)
+/// The answer to a question about a plane and a vertex.
+pub(crate) fn answer_from(
+    alloc: Global,
+    c: &Complex,
+    verb: &str,
+    h: &Plane,
+    number: usize,
+) -> Result<String, Fail>
+    requires shows { (s : Set) × ShowsSet s c.now }
+{
+    if number >= c.vertices.len() {
+        return Err("the number of a vertex".into());
+    }
+    match verb {
+        "along" => meet_text(alloc, c, met_from_vertex(c, h, number, true)),
+        "from" => meet_text(alloc, c, met_from_vertex(c, h, number, false)),
+        _ => Err("a question about a plane and a vertex".into()),
+    }
 }

@@ -1,13 +1,14 @@
 //! The maps of halves at the origin, and carriers put together.
 
-ghost use Rattle.std.specs.Prelude.{IfSome};
+ghost use Rattle.std.specs.Prelude.{◌<◌, IfSome};
 ghost use Rattle.nef_space.specs.Sets.{Set};
 ghost use Rattle.nef_geo.specs.Shapes.{place_of};
 ghost use Rattle.law_sphere.specs.Least.{Cone};
 ghost use Rattle.nef_smap.specs.Maps.{map_of, IsLeastMap};
 
-use crate::frame_text::letter;
+use crate::items::{letter, planes_digits};
 use crate::lone::bare;
+use crate::rows::{case_of, check_row};
 use nef_complex::Complex;
 use nef_geo::{Label, List, Plane, Point};
 use nef_result::{OutOfMemory, add_carrier, copy_carriers, half_map, merge_carriers};
@@ -15,6 +16,15 @@ use nef_smap::{SphereMap, face_map};
 use std::alloc::Global;
 use std::process::Abort;
 use std::test::Fail;
+
+// The half where a x + d is negative, and which is closed or not; and its map at the origin: the mark and the one label, or
+// the mark and the three labels of the sloop.
+const HALVES: &str = "\
+1 0 closed => iini # the border belongs to it, and holds below
+1 0 open => nnni # the border doesn't
+-1 0 open => nnin # and holds above
+1 -5 open => ii # the origin lies inside
+1 5 closed => nn # the origin lies outside";
 
 // The whole frame's map at a point of the frame.
 fn whole_map(alloc: Global, p: &Point) -> Option<SphereMap>
@@ -30,71 +40,71 @@ fn whole_map(alloc: Global, p: &Point) -> Option<SphereMap>
     }
 }
 
-// The mark and the one label, or the mark and the three labels of the sloop.
-fn add_map(text: &mut Vec<u8>, map: &SphereMap) -> Result<(), OutOfMemory> {
-    text.push(letter(map.mark))?;
+fn map_letters(alloc: Global, map: &SphereMap) -> Result<String, Fail> {
+    let mut text = String::from_str(alloc, letter(map.mark))?;
     if let Some(label) = map.ground {
-        text.push(letter(label))?;
+        text.push_str(letter(label))?;
     }
     if let Some(circle) = map.sloop {
-        for label in [circle.mark, circle.pos, circle.neg] {
-            text.push(letter(label))?;
-        }
+        text.push_str(letter(circle.mark))?;
+        text.push_str(letter(circle.pos))?;
+        text.push_str(letter(circle.neg))?;
     }
-    text.push(b'\n')?;
-    Ok(())
+    Ok(text)
 }
 
-// Adds the map at the origin of the half where a x + d is negative.
-fn add_half(
-    rt: &impl Abort,
-    text: &mut Vec<u8>,
-    alloc: Global,
-    a: i64,
-    d: i64,
-    closed: bool,
-) -> Result<(), Fail> {
+fn half_letters(alloc: Global, a: i64, d: i64, closed: bool) -> Result<String, Fail> {
     let origin = Point::of(0, 0, 0, 1);
     let oriented = Plane::read(a, 0, 0, d)?;
-    match whole_map(alloc, &origin) {
-        Some(whole) => {
-            let map = half_map(alloc, whole, &oriented, closed, &origin)?;
-            add_map(text, &map)?;
-            Ok(())
-        }
-        None => panic!(rt; "the origin lies in the frame"),
+    let Some(whole) = whole_map(alloc, &origin) else {
+        return Err("the origin lies in the frame".into());
+    };
+    let map = half_map(alloc, whole, &oriented, closed, &origin)?;
+    map_letters(alloc, &map)
+}
+
+fn answer(alloc: Global, half: &str) -> Result<String, Fail> {
+    let (a, rest) = half.split_once(' ').ok_or("a number")?;
+    let (d, border) = rest.split_once(' ').ok_or("a number and a word")?;
+    half_letters(alloc, a.parse()?, d.parse()?, border == "closed")
+}
+
+fn check_halves(rt: &impl Abort, alloc: Global) -> Result<(), Fail> {
+    for row in HALVES.split('\n') {
+        let (question, wanted) = case_of(row)?;
+        let given = answer(alloc, question);
+        check_row(rt, "halves", row, wanted, given)?;
     }
+    Ok(())
 }
 
 #[test]
 fn halves_at_the_origin(rt: HostRuntime) -> Result<(), Fail> {
-    let mut text = Vec::new(rt.alloc());
-    add_half(&rt, &mut text, rt.alloc(), 1, 0, true)?;
-    add_half(&rt, &mut text, rt.alloc(), 1, 0, false)?;
-    add_half(&rt, &mut text, rt.alloc(), -1, 0, false)?;
-    add_half(&rt, &mut text, rt.alloc(), 1, -5, false)?;
-    add_half(&rt, &mut text, rt.alloc(), 1, 5, true)?;
-    assert!(rt; text.as_slice() == b"iini\nnnni\nnnin\nii\nnn\n".as_slice());
-    Ok(())
+    check_halves(&rt, rt.alloc())
 }
 
-// A complex that has carriers alone.
-fn of_carriers(alloc: Global, first: Plane, second: Plane) -> Result<Complex, OutOfMemory> {
-    let carriers = vec![in alloc; first, second]?;
-    Ok(bare(alloc, List::from_vec(carriers), List::new(alloc)))
+// A complex that has carriers alone, two sides of the frame.
+fn of_carriers(alloc: Global, first: usize, second: usize) -> Result<Complex, OutOfMemory>
+    requires first { first < 6 }
+    requires second { second < 6 }
+{
+    let mut carriers = List::new(alloc);
+    carriers.push(Plane::frame(first))?;
+    carriers.push(Plane::frame(second))?;
+    Ok(bare(alloc, carriers, List::new(alloc)))
 }
 
+// The sides z = 2048 and z = -2048, and z = -2048 and x = -2048.
 #[test]
 fn carriers_of_two(rt: HostRuntime) -> Result<(), Fail> {
-    let (below, above, left) = (Plane::frame(4), Plane::frame(5), Plane::frame(0));
-    let a = of_carriers(rt.alloc(), above, below)?;
-    let b = of_carriers(rt.alloc(), below, left)?;
-    let expected = [above, below, left];
-    let merged = merge_carriers(rt.alloc(), &b, &a)?;
-    assert!(rt; merged.as_slice() == expected.as_slice());
-    let added = add_carrier(rt.alloc(), &a, &left)?;
-    assert!(rt; added.as_slice() == expected.as_slice());
-    let copied = copy_carriers(rt.alloc(), &b)?;
-    assert!(rt; copied.as_slice() == [below, left].as_slice());
+    let alloc = rt.alloc();
+    let a = of_carriers(alloc, 5, 4)?;
+    let b = of_carriers(alloc, 4, 0)?;
+    let merged = planes_digits(alloc, merge_carriers(alloc, &b, &a)?.as_slice())?;
+    assert_eq!(rt; merged.as_str(), " 001- 001+ 100+");
+    let added = planes_digits(alloc, add_carrier(alloc, &a, &Plane::frame(0))?.as_slice())?;
+    assert_eq!(rt; added.as_str(), " 001- 001+ 100+");
+    let copied = planes_digits(alloc, copy_carriers(alloc, &b)?.as_slice())?;
+    assert_eq!(rt; copied.as_str(), " 001+ 100+");
     Ok(())
 }

@@ -1,11 +1,13 @@
-//! The corner of a turned octant, and the frame, which every turn keeps.
+//! Turned complexes.
+//!
+//! - `turned POINT NUMBER`: whether the complex has a vertex at the point after the turn with this number.
+//! - `changed`: the numbers of the turns that don't keep the carriers, vertices and edges, if there are any.
 
 ghost use Rattle.std.specs.Prelude.{◌<◌};
 ghost use Rattle.nef_space.specs.Sets.{Set};
 ghost use Rattle.nef_complex.specs.Complexes.{ShowsSet};
 
-use crate::frame::whole;
-use crate::sets::intersection;
+use crate::words::{add_number, framed_point};
 use nef_complex::{Complex, OutOfMemory};
 use nef_geo::Point;
 use nef_turn::turn_complex;
@@ -13,8 +15,7 @@ use nef_unique::same_vertices;
 use std::alloc::Global;
 use std::test::Fail;
 
-// The octant 4 x <= 1, 4 y <= 2, 4 z <= 3.
-const OCTANT: [[i64; 4]; 3] = [[4, 0, 0, -1], [0, 4, 0, -2], [0, 0, 4, -3]];
+const TURNS: usize = 48;
 
 // Whether the turned complex has a vertex at the point.
 fn turns_to(alloc: Global, c: &Complex, k: usize, p: &Point) -> Result<bool, OutOfMemory>
@@ -30,27 +31,47 @@ fn turns_to(alloc: Global, c: &Complex, k: usize, p: &Point) -> Result<bool, Out
     Ok(false)
 }
 
-#[test]
-fn points_are_turned(rt: HostRuntime) -> Result<(), Fail> {
-    let alloc = rt.alloc();
-    let c = intersection(&rt, alloc, OCTANT.as_slice())?;
-    assert!(rt; turns_to(alloc, &c, 0, &Point::of(1, 2, 3, 4))?);
-    assert!(rt; turns_to(alloc, &c, 1, &Point::of(-1, 2, 3, 4))?);
-    assert!(rt; turns_to(alloc, &c, 16, &Point::of(2, 1, 3, 4))?);
-    assert!(rt; turns_to(alloc, &c, 25, &Point::of(-2, 3, 1, 4))?);
-    assert!(rt; turns_to(alloc, &c, 47, &Point::of(-3, -2, -1, 4))?);
-    assert!(rt; !turns_to(alloc, &c, 47, &Point::of(1, 2, 3, 4))?);
-    Ok(())
+/// The answer about a turn and a point.
+pub(crate) fn turned_text(
+    alloc: Global,
+    c: &Complex,
+    number: usize,
+    at: &[i64; 4],
+) -> Result<String, Fail>
+    requires shows { (s : Set) × ShowsSet s c.now }
+{
+    let [x, y, z, w] = *at;
+    let p = framed_point(x, y, z, w)?;
+    if number >= TURNS {
+        return Err("the number of a turn".into());
+    }
+    Ok(turns_to(alloc, c, number, &p)?.to_string(alloc)?)
 }
 
-#[test]
-fn every_turn_keeps_the_frame(rt: HostRuntime) -> Result<(), Fail> {
-    let c = whole(rt.alloc())?;
-    for k in 0..48 {
-        let turned = turn_complex(rt.alloc(), &c, k)?;
-        assert!(rt; same_vertices(&c, &turned));
-        assert!(rt; turned.carriers.as_slice() == c.carriers.as_slice());
-        assert!(rt; turned.edges.as_slice() == c.edges.as_slice());
+fn is_kept(alloc: Global, c: &Complex, k: usize) -> Result<bool, OutOfMemory>
+    requires turn { k < 48 }
+    requires shows { (s : Set) × ShowsSet s c.now }
+{
+    let turned = turn_complex(alloc, c, k)?;
+    Ok(
+        same_vertices(c, &turned)
+            && turned.carriers.as_slice() == c.carriers.as_slice()
+            && turned.edges.as_slice() == c.edges.as_slice(),
+    )
+}
+
+/// The numbers of the turns that change the complex, or that there are none.
+pub(crate) fn changed_text(alloc: Global, c: &Complex) -> Result<String, Fail>
+    requires shows { (s : Set) × ShowsSet s c.now }
+{
+    let mut text = String::new(alloc);
+    for k in 0..TURNS {
+        if !is_kept(alloc, c, k)? {
+            add_number(alloc, &mut text, k)?;
+        }
     }
-    Ok(())
+    if text.is_empty() {
+        text.push_str("none")?;
+    }
+    Ok(text)
 }

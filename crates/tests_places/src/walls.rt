@@ -2,16 +2,13 @@
 //!
 //! Vertices are numbered in the order of their x, then y, then z. Below + stands for 2048 and - for -2048.
 
-use crate::questions::assert_answers;
-use crate::sets::{combination, intersection};
-use nef_star::Op;
+use crate::tables::check_table;
 use std::test::Fail;
-
-const WALL: [[i64; 4]; 2] = [[1, 0, 0, 0], [-1, 0, 0, 0]];
 
 // The vertices 0 to 3 are corners with x = -2048; 4 is (0, -, -), 5 (0, -, +), 6 (0, +, -), 7 (0, +, +); 8 to 11 are the
 // other corners, in the same order.
-const WALL_ANSWERS: &str = "\
+const WALL: &str = "\
+1 0 0 0, -1 0 0 0
 counts => 12 20 # four edges of the frame are cut in two, and the wall has four
 vertex 0 2048 2048 1 => 7 # where the wall meets an edge of the frame
 vertex 0 0 0 1 => none # inside the wall
@@ -44,24 +41,10 @@ ray 0 1 0 0 5 0 0 1 => none # no edge lies in y = 0
 items 1 0 0 0 => edges 8 9 11 13 vertices 4 5 6 7 # the wall
 items 0 1 0 0 => none # it has no facet in y = 0";
 
-#[test]
-fn places_of_a_wall(rt: HostRuntime) -> Result<(), Fail> {
-    let c = intersection(&rt, rt.alloc(), WALL.as_slice())?;
-    assert_answers(&rt, rt.alloc(), &c, WALL_ANSWERS)
-}
-
-const SQUARE: [[i64; 4]; 6] = [
-    [1, 0, 0, 0],
-    [-1, 0, 0, 0],
-    [0, 1, 0, -5],
-    [0, -1, 0, -5],
-    [0, 0, 1, -5],
-    [0, 0, -1, -5],
-];
-
 // The vertices 0 to 3 are corners with x = -2048; 4 is (0, -5, -5), 5 (0, -5, 5), 6 (0, 5, -5), 7 (0, 5, 5); 8 to 11 are
 // the other corners, 8 (+, -, -), 9 (+, -, +), 10 (+, +, -) and 11 (+, +, +).
-const SQUARE_ANSWERS: &str = "\
+const SQUARE: &str = "\
+1 0 0 0, -1 0 0 0, 0 1 0 -5, 0 -1 0 -5, 0 0 1 -5, 0 0 -1 -5
 counts => 12 16 # the frame's and the square's
 vertex 0 5 5 1 => 7 # a corner of the square
 vertex 0 5 6 1 => none # past it
@@ -97,26 +80,10 @@ ray 1 0 0 0 0 5 -7 1 => vertex 6 # along z, exactly
 back 1 0 0 0 0 -5 7 1 => vertex 5 # along -z, exactly
 ray 1 0 0 0 0 7 0 1 => none # along z, past the square";
 
-#[test]
-fn places_of_a_square(rt: HostRuntime) -> Result<(), Fail> {
-    let c = intersection(&rt, rt.alloc(), SQUARE.as_slice())?;
-    assert_answers(&rt, rt.alloc(), &c, SQUARE_ANSWERS)
-}
-
-const LEFT: [[i64; 4]; 1] = [[1, 0, 0, 0]];
-
-const POINT: [[i64; 4]; 6] = [
-    [-1, 0, 0, 0],
-    [1, 0, 0, 0],
-    [0, -1, 0, 0],
-    [0, 1, 0, 0],
-    [0, 0, -1, 0],
-    [0, 0, 1, 0],
-];
-
 // The vertices 0 to 3 are corners with x = -2048; 4 is (0, -, -), 5 (0, -, +), 6 the origin, 7 (0, +, -), 8 (0, +, +); 9
 // to 12 are the other corners, 9 (+, -, -), 10 (+, -, +), 11 (+, +, -) and 12 (+, +, +).
-const PIERCED_ANSWERS: &str = "\
+const PIERCED: &str = "\
+1 0 0 0; diff -1 0 0 0, 1 0 0 0, 0 -1 0 0, 0 1 0 0, 0 0 -1 0, 0 0 1 0
 counts => 13 20 # those of the half-space, and the origin
 vertex 0 0 0 1 => 6 # the point that is taken out
 vertex 0 0 1 67108864 => none # beside it in the plane
@@ -146,8 +113,8 @@ ray 0 0 1 0 0 -5 0 1 => vertex 6 # along y, exactly
 ray 0 0 1 0 1 -5 0 1 => none # along y, past the origin";
 
 #[test]
-fn places_of_a_half_without_a_point(rt: HostRuntime) -> Result<(), Fail> {
-    let (half, point) = (LEFT.as_slice(), POINT.as_slice());
-    let c = combination(&rt, rt.alloc(), Op::Diff, half, point)?;
-    assert_answers(&rt, rt.alloc(), &c, PIERCED_ANSWERS)
+fn walls(rt: HostRuntime) -> Result<(), Fail> {
+    check_table(&rt, rt.alloc(), WALL)?;
+    check_table(&rt, rt.alloc(), SQUARE)?;
+    check_table(&rt, rt.alloc(), PIERCED)
 }

@@ -1,5 +1,0 @@
-use Rattle.nef_combine.specs.Sets.{op_set}
-use Rattle.nef_ops.proofs.tests.combined.Goals as goal
-
-pub returns : goal.returns
-returns g c = let S = c.requires.first in let T = c.requires.second in record { shows = (op_set c.args.op S.0 T.0, c.in_ok-complex.ensures.shows S.0 T.0 S.1 T.1) }

@@ -1,6 +1,0 @@
-use Rattle.nef_space.specs.Sets.{Set}
-use Rattle.nef_complex.specs.Complexes.{ShowsSet}
-use Rattle.nef_ops.proofs.tests.intersection.Given as goal
-
-abbrev pub invariant-loop-numbers : goal.invariant-loop-numbers
-invariant-loop-numbers g l = (s : Set) × ShowsSet s l.complex

@@ -1,0 +1,14 @@
+use Rattle.std.proofs.Common.{rules, subst}
+use Rattle.law_sphere.specs.Maps.{At}
+use Rattle.law_sphere.proofs.Lists.{at-one}
+use Rattle.nef_complex.specs.declared.complex.Vertex.{Vertex}
+use Rattle.nef_complex.proofs.Reading.{got-at}
+use Rattle.tests_places.proofs.rays.is_clear_vertex.Goals as goal
+
+pub returns-else-not-is_at_vertex : goal.returns-else-not-is_at_vertex
+returns-else-not-is_at_vertex c = record {
+  clear = λ h v a x j u b e.
+      let C = c.args.c.now in let w = c.at.result.now in
+      let o = at-one C.vertices c.args.number v w a (got-at C.vertices c.args.number w c.at.ensures.element) in
+      c.has_svertex.ensures.none (search (rules, h)) j u (subst (λ (r : Vertex). At r.map.svertices j u) o b) e;
+}

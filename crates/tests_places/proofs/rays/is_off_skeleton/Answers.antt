@@ -1,0 +1,13 @@
+use Rattle.std.proofs.Common.{⊎_elim}
+use Rattle.nef_geo.specs.Shapes.{place_of}
+use Rattle.law_complex.specs.Complexes.{Complex}
+use Rattle.law_complex.specs.Skeleton.{IsOnEdges, IsSkeletonPoint, at_vertex, on_edge}
+use Rattle.nef_space.specs.Place.{Place}
+use Rattle.nef_complex.specs.Complexes.{complex_of}
+use Rattle.tests_places.proofs.rays.is_off_skeleton.Goals as goal
+
+of-skeleton : (C : Complex) (y : Place) → IsOnEdges C y → IsSkeletonPoint C y
+of-skeleton C y (k, o) = ⊎_elim (λ v. (at_vertex k, v)) (λ e. (on_edge k, e)) o
+
+pub returns-in-InVolume : goal.returns-in-InVolume
+returns-in-InVolume c = record { off = λ t o. c.in-InVolume.ensures.at.3.0 (of-skeleton (complex_of c.args.c.now) (place_of c.args.p.now) o) }

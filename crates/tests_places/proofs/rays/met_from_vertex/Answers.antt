@@ -1,0 +1,27 @@
+use Rattle.std.proofs.Common.{◌≡◌, rules, sym, ◌∙◌, inl, inr}
+use Rattle.nef_space.specs.Place.{form_at, normal_of}
+use Rattle.nef_space.specs.Vectors.{plane_dir}
+use Rattle.nef_geo.specs.Shapes.{form_of, hit_place, vector_of}
+use Rattle.nef_geo.specs.declared.sign.Sign.TheVariants.{Zero}
+use Rattle.nef_geo.proofs.Signs.{zero_sign}
+use Rattle.nef_complex.proofs.Reading.{got-at}
+use Rattle.law_sphere.proofs.Compare.{SameDirection-turned}
+use Rattle.tests_places.proofs.Directions.{no-svertex_at}
+use Rattle.tests_places.proofs.rays.met_from_vertex.Goals as goal
+
+pub first_along_dir-requires-clause-no_svertex : goal.first_along_dir-requires-clause-no_svertex
+first_along_dir-requires-clause-no_svertex c =
+    let C = c.args.c.now in let v = c.at.result.now in
+    no-svertex_at C c.args.vertex v (got-at C.vertices c.args.vertex v c.at.ensures.element) (hit_place c.hit_at-p.result) c.plane_dir-d.result c.hit_at-p.ensures.same (c.has_no_svertex.ensures.none (search (rules, c.if-not-has_no_svertex.false)))
+
+pub first_in_plane-requires-clause-on : goal.first_in_plane-requires-clause-on
+first_in_plane-requires-clause-on c =
+    let z : c.hit_side.result ≡ Zero = search (rules, c.if-eq.true) in
+    zero_sign (form_at (form_of c.args.h.now) (hit_place c.hit_at-p.result)) (sym c.hit_side.ensures.side ∙ z)
+
+pub first_in_plane-requires-clause-off : goal.first_in_plane-requires-clause-off
+first_in_plane-requires-clause-off c = inl (c.args.vertex, c.is_at_vertex.ensures.at.0 c.if-is_at_vertex.true)
+
+pub first_in_plane-requires-clause-direction : goal.first_in_plane-requires-clause-direction
+first_in_plane-requires-clause-direction c =
+    inr ((c.args.vertex, c.is_at_vertex.ensures.at.0 c.if-is_at_vertex.true), inl (SameDirection-turned (plane_dir (normal_of (form_of c.args.h.now))) (vector_of c.plane_dir-d.result) c.plane_dir-d.ensures.dir))

@@ -1,7 +1,0 @@
-use Rattle.std.specs.Prelude.{◌≡◌, ℕ, ◌<◌}
-use Rattle.nef_smap.specs.declared.map.SVertex.{SVertex}
-use Rattle.law_sphere.specs.Maps.{At}
-use Rattle.tests_places.proofs.starts.has_svertex.Given as goal
-
-abbrev pub invariant-loop-svertex : goal.invariant-loop-svertex
-invariant-loop-svertex l = (j : ℕ) (u : SVertex) → j < l.svertex-index → At l.map.svertices j u → u.dir ≡ l.d → ⊥

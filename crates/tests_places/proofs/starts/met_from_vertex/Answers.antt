@@ -1,9 +1,0 @@
-use Rattle.nef_geo.specs.Shapes.{hit_place}
-use Rattle.nef_complex.proofs.Reading.{got-at}
-use Rattle.tests_places.proofs.Directions.{no-svertex_at}
-use Rattle.tests_places.proofs.starts.met_from_vertex.Goals as goal
-
-pub first_along_dir-requires-clause-no_svertex : goal.first_along_dir-requires-clause-no_svertex
-first_along_dir-requires-clause-no_svertex c =
-    let C = c.args.c.now in let v = c.at.result.now in
-    no-svertex_at C c.args.vertex v (got-at C.vertices c.args.vertex v c.at.ensures.element) (hit_place c.hit_at-p.result) c.plane_dir-d.result c.hit_at-p.ensures.same (c.has_no_svertex.ensures.none c.if-has_no_svertex.true)

@@ -1,0 +1,113 @@
+//! Where rays end: `end POINT DIRECTION`. The answer is whether the label changes at the point or just after it, the point,
+//! and the label there or just after it; or `frame`, where the ray begins on the border of the frame.
+
+ghost use Rattle.std.specs.Prelude.{◌≤◌, IsTrue, IfOk};
+ghost use Rattle.nef_space.specs.Limits.{ray_direction_limit, ray_point_limit, ray_weight_limit};
+ghost use Rattle.nef_space.specs.Sets.{Set};
+ghost use Rattle.nef_space.specs.Vectors.{IsAtMost};
+ghost use Rattle.nef_geo.specs.Hits.{IsPlaceAtMost};
+ghost use Rattle.nef_geo.specs.Shapes.{vector_of, place_of};
+ghost use Rattle.nef_complex.specs.Complexes.{ShowsSet};
+
+use crate::tables::check_table;
+use crate::words::{framed_point, is_within, label_word};
+use nef_complex::Complex;
+use nef_geo::{Dir, Point};
+use nef_ray::ray_end;
+use std::alloc::Global;
+use std::test::Fail;
+
+// The greatest size of a number of a ray's start, the greatest weight, and the greatest size of a number of its direction.
+const GREATEST_NUMBER: u64 = 1 << 21;
+
+const GREATEST_WEIGHT: u64 = 1 << 10;
+
+const GREATEST_WAY: u64 = 1 << 10;
+
+fn is_start(p: &Point) -> bool
+    ensures small { IsTrue result → IsPlaceAtMost ray_point_limit ray_weight_limit (place_of p.now) }
+{
+    is_within(p.x(), GREATEST_NUMBER)
+        && is_within(p.y(), GREATEST_NUMBER)
+        && is_within(p.z(), GREATEST_NUMBER)
+        && is_within(p.w(), GREATEST_WEIGHT)
+}
+
+fn is_way(d: &Dir) -> bool
+    ensures small { IsTrue result → IsAtMost ray_direction_limit (vector_of d.now) }
+{
+    is_within(d.x(), GREATEST_WAY)
+        && is_within(d.y(), GREATEST_WAY)
+        && is_within(d.z(), GREATEST_WAY)
+}
+
+fn way(x: i64, y: i64, z: i64) -> Result<Dir, &'static str>
+    ensures small { IfOk result (λ d. IsAtMost ray_direction_limit (vector_of d)) }
+{
+    if !is_within(x, GREATEST_WAY) || !is_within(y, GREATEST_WAY) || !is_within(z, GREATEST_WAY) {
+        return Err("a direction too large");
+    }
+    let d = Dir::of(x, y, z).ok_or("no direction")?;
+    if is_way(&d) {
+        Ok(d)
+    } else {
+        Err("a direction too large")
+    }
+}
+
+fn end_text(alloc: Global, c: &Complex, p: &Point, d: &Dir) -> Result<String, Fail>
+    requires shows { (s : Set) × ShowsSet s c.now }
+    requires small { IsAtMost ray_direction_limit (vector_of d.now) }
+{
+    if !p.in_frame() {
+        return Ok(String::from_str(alloc, "frame")?);
+    }
+    if !is_start(p) {
+        return Err("a start too far away".into());
+    }
+    let end = ray_end(alloc, c, p, d)?;
+    let word = if end.after { "after" } else { "at" };
+    let (x, y, z, w) = (end.point.x(), end.point.y(), end.point.z(), end.point.w());
+    let label = label_word(end.label);
+    Ok(format!(in alloc; "{word} {x} {y} {z} {w} {label}")?)
+}
+
+/// Where the ray ends that begins at the point (x/w, y/w, z/w).
+pub(crate) fn answer_end(
+    alloc: Global,
+    c: &Complex,
+    at: &[i64; 4],
+    to: &[i64; 3],
+) -> Result<String, Fail>
+    requires shows { (s : Set) × ShowsSet s c.now }
+{
+    let ([x, y, z, w], [u, v, t]) = (*at, *to);
+    end_text(alloc, c, &framed_point(x, y, z, w)?, &way(u, v, t)?)
+}
+
+// The half x <= 0: the plane still belongs to it, so the label changes just after it.
+const CLOSED_HALF: &str = "\
+1 0 0 0
+end -1 0 0 1 1 0 0 => after 0 0 0 1 not # through the plane
+end 1 0 0 2 1 0 0 => at 2048 0 0 1 out # to the border of the frame";
+
+// What x >= 0 lacks is x < 0: the plane doesn't belong to it, so the label changes there.
+const OPEN_HALF: &str = "\
+full; diff -1 0 0 0
+end -1 0 0 1 1 0 0 => at 0 0 0 1 not # to the plane";
+
+// The closed unit box.
+const BOX: &str = "\
+-1 0 0 0, 1 0 0 -1, 0 -1 0 0, 0 1 0 -1, 0 0 -1 0, 0 0 1 -1
+end -1 1 1 2 1 0 0 => at 0 1 1 2 in # from outside to a side
+end 1 1 1 2 1 0 0 => after 2 1 1 2 not # from inside through a side
+end -1 -1 -1 1 1 1 1 => at 0 0 0 1 in # from outside to a corner
+end 0 0 0 1 -1 0 0 => at -2048 0 0 1 out # from a corner away to the border of the frame
+end 2048 0 0 1 1 0 0 => frame # from the border of the frame";
+
+#[test]
+fn ends_of_rays(rt: HostRuntime) -> Result<(), Fail> {
+    check_table(&rt, rt.alloc(), CLOSED_HALF)?;
+    check_table(&rt, rt.alloc(), OPEN_HALF)?;
+    check_table(&rt, rt.alloc(), BOX)
+}
