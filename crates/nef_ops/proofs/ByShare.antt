@@ -1,5 +1,5 @@
 -- The map of a combination where one set alone says which it is.
-use Rattle.std.proofs.Common.{◌≡◌, ◌+◌, pos, arith, ap, ◌∙◌, subst}
+use Rattle.std.proofs.Common.{◌≡◌, ◌+◌, pos, arith, ap, ◌∙◌, subst, Result, Ok, Err, IfOk}
 use Rattle.std.proofs.lemmas.Int.{ints}
 use Rattle.nef_space.specs.Place.{Place, Ratio, step}
 use Rattle.nef_space.specs.Sets.{Set}
@@ -14,12 +14,15 @@ use Rattle.law_near.proofs.Combine.{not-label, germ-not}
 use Rattle.law_sphere.specs.Maps.{Map}
 use Rattle.law_sphere.specs.Least.{Cone}
 use Rattle.law_sphere.proofs.Labels.{label-unique}
+use Rattle.nef_smap.specs.declared.map.SphereMap.{SphereMap}
+use Rattle.nef_smap.specs.Maps.{map_of, IsLeastMap}
 use Rattle.nef_star.specs.declared.op.Op.{Op}
 use Rattle.nef_star.specs.Ops.{op_label}
 use Rattle.nef_combine.specs.Sets.{op_set}
 use Rattle.nef_combine.proofs.Cones.{label-by_op, germ-by_op}
 use Rattle.nef_ops.specs.declared.share.Share.{Share}
 use Rattle.nef_ops.specs.declared.choice.Choice.TheVariants.{First, Second, NotFirst, NotSecond}
+use Rattle.nef_ops.specs.Combined.{IsCombined}
 use Rattle.nef_ops.specs.Shares.{AreAlike, InShare, HasShare, Leads}
 
 -- ---- labels at one point
@@ -95,3 +98,9 @@ shown-same op A s t p keeps K L = record {
       let e : op_label op a.0 b.0 ≡ a.0 = ap (op_label op a.0) (label-unique A K.valid d b.0 a.0 b.1 a.1) ∙ keeps a.0 in
       (a.0, a.1, subst (Germ (op_set op s t) p d) e (germ-by_op op s t p d a.0 b.0 a.2 b.2));
 }
+
+-- where there is a map, by what combining says of it
+pub combined-if_ok : {E : Type 0} (op : Op) (first second : SphereMap) (o : Result SphereMap E) → IfOk o IsLeastMap
+    → IfOk o (λ m. (s t : Set) (p : Place) → Cone (map_of first) s p → Cone (map_of second) t p → Cone (map_of m) (op_set op s t) p) → IfOk o (IsCombined op first second)
+combined-if_ok op first second (Ok m) N C = record { least = N; cone = C }
+combined-if_ok op first second (Err e) N C = tt

@@ -1,5 +1,5 @@
 -- The operations on one set keep its carriers, and make no vertices; regularisation is the closure of the interior.
-use Rattle.std.proofs.Common.{List}
+use Rattle.std.proofs.Common.{List, Result, Ok, Err, IfOk}
 use Rattle.nef_space.specs.Place.{Place, Form, step}
 use Rattle.nef_space.specs.Sets.{Set}
 use Rattle.nef_space.specs.Vectors.{Vector}
@@ -8,7 +8,11 @@ use Rattle.law_near.proofs.FlatOperations.{flat-of, flat-not, flat-inside, flat-
 use Rattle.law_near.proofs.Topology.{regular-label}
 use Rattle.law_sphere.specs.Least.{Cone}
 use Rattle.law_sphere.specs.Maps.{Map}
+use Rattle.law_border.specs.Topology.{Topology}
 use Rattle.law_complex.specs.Shows.{Carriers}
+use Rattle.nef_smap.specs.declared.map.SphereMap.{SphereMap}
+use Rattle.nef_smap.specs.Maps.{map_of, IsLeastMap}
+use Rattle.nef_stopo.specs.Made.{IsMadeBy}
 use Rattle.nef_ops.specs.declared.op.UnaryOp.{UnaryOp}
 use Rattle.nef_ops.specs.declared.op.UnaryOp.TheVariants.{Not, Int, Cl, Bd, Reg}
 use Rattle.nef_ops.specs.Nodes.{unary_set}
@@ -37,3 +41,13 @@ regular-cone M s p C = record {
   mark = (regular-label s p M.mark).1 C.mark;
   labels = λ d i. let l = C.labels d i in let g = l.2 in (l.0, l.1, (g.0, g.1, λ t h. (regular-label s (step p t d) l.0).1 (g.2 t h)));
 }
+
+-- what is known of the map that is made of another one
+module _ {E : Type 0} (k : Topology) (made : Set → Set) (m : SphereMap) where
+  pub made-least : (o : Result SphereMap E) → IfOk o (IsMadeBy k made m) → IfOk o IsLeastMap
+  made-least (Ok n) M = M.least
+  made-least (Err e) M = tt
+
+  pub made-cone : (o : Result SphereMap E) → IfOk o (IsMadeBy k made m) → IfOk o (λ n. (s : Set) (p : Place) → Cone (map_of m) s p → Cone (map_of n) (made s) p)
+  made-cone (Ok n) M = M.cone
+  made-cone (Err e) M = tt

@@ -3,11 +3,8 @@
 ghost use Rattle.std.specs.Prelude.{◌≡◌, IfOk, IsTrue};
 ghost use Rattle.nef_space.specs.declared.label.Label.{Label as PlainLabel};
 ghost use Rattle.nef_star.specs.Ops.{op_label};
-ghost use Rattle.nef_space.specs.Place.{Place};
-ghost use Rattle.nef_space.specs.Sets.{Set};
-ghost use Rattle.law_sphere.specs.Least.{Cone};
-ghost use Rattle.nef_smap.specs.Maps.{map_of, IsLeastMap};
-ghost use Rattle.nef_combine.specs.Sets.{op_set};
+ghost use Rattle.nef_smap.specs.Maps.{IsLeastMap};
+ghost use Rattle.nef_ops.specs.Combined.{IsCombined};
 
 use crate::OutOfMemory;
 use crate::choice::{Choice, choice_of};
@@ -38,8 +35,7 @@ fn joined(
 ) -> Result<SphereMap, OutOfMemory>
     requires first { IsLeastMap first }
     requires second { IsLeastMap second }
-    ensures least { IfOk result IsLeastMap }
-    ensures cone { IfOk result (λ m. (s t : Set) (p : Place) → Cone (map_of first) s p → Cone (map_of second) t p → Cone (map_of m) (op_set op s t) p) }
+    ensures combined { IfOk result (IsCombined op first second) }
 {
     if keeps_equals(op) && same_map(&first, &second) {
         Ok(first)
@@ -58,8 +54,7 @@ pub(crate) fn merged(
 ) -> Result<SphereMap, OutOfMemory>
     requires first { IsLeastMap first }
     requires second { IsLeastMap second }
-    ensures least { IfOk result IsLeastMap }
-    ensures cone { IfOk result (λ m. (s t : Set) (p : Place) → Cone (map_of first) s p → Cone (map_of second) t p → Cone (map_of m) (op_set op s t) p) }
+    ensures combined { IfOk result (IsCombined op first second) }
 {
     match choice_of(op, share_of(&first), share_of(&second)) {
         Choice::First => Ok(first),

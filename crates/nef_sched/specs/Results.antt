@@ -23,8 +23,8 @@ abbrev pub HasNeeds : {X : Type 0} → ℕ → (ℕ → X → Type 0) → (ℕ �
 HasNeeds size fits first second list i = (i < size) × IsReady fits (first i) (second i) list
 
 -- a result is kept for each worked number that a number which isn't worked yet needs
-abbrev pub AreHeld : {X : Type 0} → (ℕ → Option ℕ) → (ℕ → Option ℕ) → List Bool → List (Option X) → Type 0
-AreHeld first second worked list = (k : ℕ) → IsMarked worked k → IsAwaited first second worked k → IsKept list k
+abbrev pub AreAwaitedKept : {X : Type 0} → (ℕ → Option ℕ) → (ℕ → Option ℕ) → List Bool → List (Option X) → Type 0
+AreAwaitedKept first second worked list = (k : ℕ) → IsMarked worked k → IsAwaited first second worked k → IsKept list k
 
 -- there is room for this many results, and each that is kept fits
 abbrev pub AreSound : {X : Type 0} → ℕ → (ℕ → X → Type 0) → List (Option X) → Type 0

@@ -5,7 +5,7 @@ ghost use Rattle.nef_sched.specs.declared.worked.Worked.{Worked};
 ghost use Rattle.nef_sched.specs.Counts.{Differ};
 ghost use Rattle.nef_sched.specs.Marks.{IsMarked, IsUnmarked, NeedsOf};
 ghost use Rattle.nef_sched.specs.Rounds.{Belongs, parts, known, total_parts};
-ghost use Rattle.nef_sched.specs.Results.{kept, IsKept, IsReady, HasNeeds, AreHeld, AreSound, AreFitting};
+ghost use Rattle.nef_sched.specs.Results.{kept, IsKept, IsReady, HasNeeds, AreAwaitedKept, AreSound, AreFitting};
 ghost use Rattle.nef_sched.specs.Workers.{total_worked};
 
 use crate::OutOfMemory;
@@ -118,7 +118,7 @@ fn is_due<T: Stage>(stage: &T, done: &Results<T::Out>, worked: &[bool], number: 
     requires workable { T.workable stage.now }
     requires sound { AreSound (T.size stage.now) (T.fits stage.now) done.now.list.items }
     requires worked { length worked.now ≡ T.size stage.now }
-    requires awaited { AreHeld (T.first stage.now) (T.second stage.now) worked.now done.now.list.items }
+    requires awaited { AreAwaitedKept (T.first stage.now) (T.second stage.now) worked.now done.now.list.items }
     ensures yes { IsTrue result → IsReady (T.fits stage.now) (T.first stage.now number) (T.second stage.now number) done.now.list.items }
     ensures no { ((k : ℕ) → k < number → IsMarked worked.now k) → result ≡ false → IsMarked worked.now number }
 {
@@ -135,7 +135,7 @@ fn ready<T: Stage>(
     requires workable { T.workable stage.now }
     requires sound { AreSound (T.size stage.now) (T.fits stage.now) done.now.list.items }
     requires worked { length worked.now ≡ T.size stage.now }
-    requires awaited { AreHeld (T.first stage.now) (T.second stage.now) worked.now done.now.list.items }
+    requires awaited { AreAwaitedKept (T.first stage.now) (T.second stage.now) worked.now done.now.list.items }
     ensures differ { IfOk result (λ v. Differ v.items) }
     ensures each { IfOk result (λ v. All (HasNeeds (T.size stage.now) (T.fits stage.now) (T.first stage.now) (T.second stage.now) done.now.list.items) v.items) }
     ensures none { IfOk result (λ v. vec_len v ≡ 0 → (k : ℕ) → k < T.size stage.now → IsMarked worked.now k) }

@@ -16,8 +16,8 @@ use Rattle.nef_script.specs.declared.script.Command.{Command}
 use Rattle.nef_script.specs.declared.script.Command.TheVariants.{Bind, Turn, Has, Joined, Ray, Same, Count, Print}
 use Rattle.nef_script.specs.Commands.{Binds, AreBoundBefore}
 use Rattle.nef_shell.specs.declared.bindings.Binding.{Binding}
-use Rattle.nef_shell.specs.Bindings.{IsBoundAt, IsAskedAbout, AreAllBound, Fits, ArePlaced}
-use Rattle.nef_shell.specs.Operations.{AreShown, IsKept, IsGone}
+use Rattle.nef_shell.specs.Bindings.{IsBoundAt, IsWorked, IsAskedAbout, AreAllBound, Fits, ArePlaced}
+use Rattle.nef_shell.specs.Operations.{AreShown, IsKept, IsGone, AreBound}
 use Rattle.nef_shell.specs.Output.{IsPiece}
 use Rattle.nef_shell.proofs.Complexes.{shown-put}
 
@@ -27,10 +27,6 @@ none-some k h = elim h [ inl e ↦ (let f : None ≡ Some k = e in cc) | inr e �
 pub true-or-false : (b : Bool) → (b ≡ true) ⊎ (b ≡ false)
 true-or-false true = inl refl
 true-or-false false = inr refl
-
-pub some-of : (o : Option ℕ) → is_some o ≡ true → (k : ℕ) × (o ≡ Some k)
-some-of None e = absurd (let f : false ≡ true = e in cc)
-some-of (Some k) e = (k, refl)
 
 -- where every place is empty nothing is there
 pub none-there : (list : List (Option Complex)) (n : ℕ) → length list ≡ n → ((k : ℕ) → k < n → IsGone list k) → (k : ℕ) (x : Complex) → slice_get list k ≡ Some (Some x) → ⊥
@@ -72,16 +68,25 @@ only-asked nodes commands bindings asked wanted results list count marks wants l
       | inr not ↦ absurd (let f : None ≡ Some out = sym (lean n not) ∙ has in cc)
     ]
 
--- a command that binds a node writes nothing
-pub binds-nothing : (version : TextVersion) (nodes : List Node) (c : Command) (k : ℕ) → Binds c k → IsPiece version nodes c []
-binds-nothing version nodes (Bind line n) k is = refl
-binds-nothing version nodes (Turn line n j t) k is = refl
-binds-nothing version nodes (Has line n p) k is = absurd is
-binds-nothing version nodes (Joined line n p q) k is = absurd is
-binds-nothing version nodes (Ray line n p d) k is = absurd is
-binds-nothing version nodes (Same line i j) k is = absurd is
-binds-nothing version nodes (Count line n) k is = absurd is
-binds-nothing version nodes (Print line n name) k is = absurd is
+-- a command that isn't worked in its turn binds a node, and writes nothing
+pub unworked-nothing : (version : TextVersion) (nodes : List Node) (ahead : Bool) (c : Command) → (IsWorked ahead c → ⊥) → IsPiece version nodes c []
+unworked-nothing version nodes ahead (Bind line n) not = refl
+unworked-nothing version nodes ahead (Turn line n j t) not = refl
+unworked-nothing version nodes ahead (Has line n p) not = absurd (not (λ e k binds. binds))
+unworked-nothing version nodes ahead (Joined line n p q) not = absurd (not (λ e k binds. binds))
+unworked-nothing version nodes ahead (Ray line n p d) not = absurd (not (λ e k binds. binds))
+unworked-nothing version nodes ahead (Same line i j) not = absurd (not (λ e k binds. binds))
+unworked-nothing version nodes ahead (Count line n) not = absurd (not (λ e k binds. binds))
+unworked-nothing version nodes ahead (Print line n name) not = absurd (not (λ e k binds. binds))
+
+-- and binds none then, since all bindings have been worked
+pub unworked-bound : (nodes : List Node) (ahead : Bool) (c : Command) (list : List (Option Complex)) → (IsWorked ahead c → ⊥) → AreBound nodes (λ k. (ahead ≡ false) × Binds c k) list list
+unworked-bound nodes ahead c list not = record {
+  count = refl;
+  stays = λ k d at. at;
+  gone = λ k g. inl g;
+  bound = λ k h. absurd (not (λ e. absurd (let f : true ≡ false = sym e ∙ h.0 in cc)));
+}
 
 -- a complex that shows a node's set is put at the node's place, in the place of whatever was there
 pub put-shown : (nodes : List Node) (list : List (Option Complex)) (n : ℕ) (o : Option Complex) → is_some o ≡ true → n < length list → IfSome o (λ c. ShowsSet (node_set nodes n) c) → AreShown nodes list → AreShown nodes (slice_set list n o)

@@ -1,5 +1,5 @@
 -- The complexes of nodes: each is made of those of its operands, and is kept as long as a command looks at it.
-use Rattle.std.proofs.Common.{◌≡◌, ℕ, true, false, ◌<◌, ◌≤◌, ap, arith, refl, sym, ◌∙◌, subst, List, [], length, Option, Some, None, IfSome, Result, Ok, Err, IfOk, inl, inr}
+use Rattle.std.proofs.Common.{◌≡◌, ◌↔◌, ℕ, Bool, true, false, ◌<◌, ◌≤◌, ap, arith, refl, sym, ◌∙◌, subst, List, [], length, Option, Some, None, IfSome, Result, Ok, Err, IfOk, inl, inr}
 use Rattle.std.specs.Prelude.{slice_get, slice_set, slice_index, is_some}
 use Rattle.std.proofs.lemmas.Bool.{cases_eq}
 use Rattle.std.proofs.lemmas.List.{length-set}
@@ -17,9 +17,9 @@ use Rattle.nef_ops.specs.declared.op.UnaryOp.{UnaryOp}
 use Rattle.nef_expr.specs.Nodes.{operand, set_of, sets_after, node_set, NamesBelow, IsOperand}
 use Rattle.nef_expr.proofs.Sets.{each-set}
 use Rattle.nef_script.specs.declared.script.Command.{Command}
-use Rattle.nef_script.specs.declared.script.Command.TheVariants.{Bind, Turn}
 use Rattle.nef_script.specs.Commands.{Binds}
-use Rattle.nef_shell.specs.Operations.{set_by, first_operand, second_operand, IsLent, AreLent, AreShown, IsKept, IsGone, AreBound}
+use Rattle.nef_shell.specs.Bindings.{IsWorked}
+use Rattle.nef_shell.specs.Operations.{set_by, first_operand, second_operand, HasOperand, IsLent, AreLent, AreShown, IsKept, IsGone, AreBound}
 use Rattle.nef_shell.specs.declared.operation.Operation.{Operation}
 use Rattle.nef_shell.specs.declared.operation.Operation.TheVariants.{Unary, Binary, Turned}
 
@@ -83,12 +83,20 @@ shown-less nodes list n within shown k d at = elim (cases_eq k n) [
   | inr other ↦ shown k d (sym (get_set_other list n k None other) ∙ at)
 ]
 
--- a command that binds a node has it bound
-pub binds-that : (nodes : List Node) (c : Command) (line n : ℕ) (old new : List (Option Complex)) → c ≡ Bind line n → AreBound nodes (λ k. k ≡ n) old new → AreBound nodes (Binds c) old new
-binds-that nodes c line n old new e b = rw e (record { count = b.count; stays = b.stays; gone = b.gone; bound = b.bound })
+-- a command that is worked in its turn and binds a node isn't worked ahead
+in-turn : (ahead : Bool) (c : Command) (n : ℕ) → IsWorked ahead c → Binds c n → ahead ≡ false
+in-turn true c n worked binds = absurd (worked refl n binds)
+in-turn false c n worked binds = refl
 
-pub turns-that : (nodes : List Node) (c : Command) (line n i t : ℕ) (old new : List (Option Complex)) → c ≡ Turn line n i t → AreBound nodes (λ k. k ≡ n) old new → AreBound nodes (Binds c) old new
-turns-that nodes c line n i t old new e b = rw e (record { count = b.count; stays = b.stays; gone = b.gone; bound = b.bound })
+-- a command that binds a node has it bound
+pub binds-that : (nodes : List Node) (ahead : Bool) (c : Command) (n : ℕ) (old new : List (Option Complex)) → ((k : ℕ) → Binds c k ↔ (k ≡ n)) → IsWorked ahead c → AreBound nodes (λ k. k ≡ n) old new
+    → AreBound nodes (λ k. (ahead ≡ false) × Binds c k) old new
+binds-that nodes ahead c n old new binds worked b = record {
+  count = b.count;
+  stays = b.stays;
+  gone = λ k g. elim (b.gone k g) [ inl h ↦ inl h | inr is ↦ inr (in-turn ahead c n worked ((binds n).1 refl), (binds k).1 is) ];
+  bound = λ k h. b.bound k ((binds k).0 h.1);
+}
 
 -- a complex that stays is kept
 pub stays-kept : (nodes : List Node) (InQuestion : ℕ → Type 0) (old new : List (Option Complex)) (k : ℕ) → AreBound nodes InQuestion old new → IsKept nodes old k → IsKept nodes new k
@@ -142,3 +150,7 @@ turned-made r _ t i first second a e f shows = rw e (ok-then r _ _ (λ c h ss le
 -- the complexes of both operands are lent
 pub both-lent : (ss : List Set) (op : Operation) (first second : Option ℕ) (a b : Option Complex) → first ≡ first_operand op → second ≡ second_operand op → IsLent ss first a → IsLent ss second b → AreLent ss op a b
 both-lent ss op first second a b e f p q = (subst (λ z. IsLent ss z a) e p, subst (λ z. IsLent ss z b) f q)
+
+-- a turn has one operand
+pub turned-operand : (t i k : ℕ) → HasOperand (Turned t i) k ↔ (k ≡ i)
+turned-operand t i k = (λ h. elim h [ inl e ↦ (let f : Some i ≡ Some k = e in cc) | inr e ↦ (let f : None ≡ Some k = e in cc) ], λ e. inl (ap Some (sym e)))

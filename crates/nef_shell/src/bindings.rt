@@ -7,7 +7,7 @@ ghost use Rattle.nef_script.specs.Meaning.{IsWithin};
 ghost use Rattle.nef_shell.specs.Bindings.{IsBoundAt, IsBound, IsNeeded, AreBindings, AreAllBound};
 ghost use Rattle.nef_shell.specs.Operations.{set_by, first_operand, second_operand, HasOperand, HasTurn};
 
-use crate::operation::{Operation, operation_of};
+use crate::operation::{Operation, bound_operation, turned_operation};
 use nef_expr::Nodes;
 use nef_sched::Needs;
 use nef_script::{Command, Script};
@@ -103,7 +103,7 @@ fn add_command(
 {
     match command {
         Command::Bind { node, .. } => {
-            let operation = operation_of(nodes.get(*node));
+            let operation = bound_operation(nodes, *node);
             add_binding(bindings, nodes, *node, operation)
         }
         Command::Turn {
@@ -112,9 +112,7 @@ fn add_command(
             turn,
             ..
         } => {
-            // Each node names earlier ones, so the image of a node has the turned set.
-            let _count = nodes.len();
-            let operation = Operation::Turned(usize::from(*turn), *from);
+            let operation = turned_operation(nodes, *from, *turn);
             add_binding(bindings, nodes, *node, operation)
         }
         _ => Ok(()),

@@ -1,18 +1,16 @@
 //! The complexes of the nodes.
 
-ghost use Rattle.std.specs.Prelude.{◌≡◌, ◌+◌, ◌≤◌, ◌<◌, ◌↔◌, ◌⊎◌, ℕ, Option, Some, IfOk, IfSome, IsTrue, OnOk, All, length, slice_index, slice_index_or, vec_len, []};
+ghost use Rattle.std.specs.Prelude.{◌≡◌, ◌+◌, ◌≤◌, ◌<◌, ◌↔◌, ◌⊎◌, ℕ, Option, Some, IfOk, IfSome, IsTrue, OnOk, All, length, slice_index, vec_len, []};
 ghost use Rattle.std.specs.Option.{option_copied};
 ghost use Rattle.nef_space.specs.Local.{SameSet};
 ghost use Rattle.nef_complex.specs.Complexes.{ShowsSet};
-ghost use Rattle.nef_expr.specs.Nodes.{node_set, sets_after, IsOperand};
-ghost use Rattle.nef_expr.specs.Turns.{TurnOf};
-ghost use Rattle.nef_expr.specs.declared.nodes.Node.TheVariants as variant;
+ghost use Rattle.nef_expr.specs.Nodes.{node_set, sets_after};
 ghost use Rattle.nef_script.specs.Commands.{LooksAt, Binds};
 ghost use Rattle.nef_script.specs.Meaning.{IsWithin};
 ghost use Rattle.nef_shell.specs.Commands.{AreLastUses, AreUses};
 ghost use Rattle.nef_shell.specs.Operations.{set_by, HasOperand, HasTurn, AreMeans, IsLent, AreShown, IsKept, IsGone, IsLean, AreBound};
 
-use crate::operation::{Means, Operation, made, operation_of};
+use crate::operation::{Means, Operation, made};
 use crate::uses::{bound_node, last_uses, looked_at};
 use nef_complex::Complex;
 use nef_expr::Nodes;
@@ -27,7 +25,7 @@ use std::thread::Threads;
 /// one that looks at it.
 #[derive(Drop)]
 pub(crate) struct Sets<'a> {
-    nodes: &'a Nodes,
+    pub(crate) nodes: &'a Nodes,
     last_uses: Vec<usize>,
     // A place for each node, in their order.
     list: Vec<Option<Complex>>,
@@ -112,8 +110,9 @@ impl<'a> Sets<'a> {
         same(self.nodes, left, a, self.nodes, right, b)
     }
 
-    // Works the node by the operation that makes its set, unless its complex is there.
-    fn put<R: Threads + Wait + Sync, G: Gate + Sync>(
+    /// Works the node by the operation that makes its set, unless its complex is there. `AllocError` says that
+    /// memory was wanted and not found.
+    pub(crate) fn bind<R: Threads + Wait + Sync, G: Gate + Sync>(
         &mut self,
         rt: &R,
         alloc: Global,
@@ -141,57 +140,6 @@ impl<'a> Sets<'a> {
         let complex = made(rt, alloc, operation, a, b, means, gate)?;
         self.list[node] = Some(complex);
         Ok(())
-    }
-
-    /// Works the node. `AllocError` says that memory was wanted and not found.
-    pub(crate) fn bind<R: Threads + Wait + Sync, G: Gate + Sync>(
-        &mut self,
-        rt: &R,
-        alloc: Global,
-        node: usize,
-        means: &Means,
-        gate: &G,
-    ) -> Result<(), AllocError>
-        requires means { AreMeans means.now }
-        requires node { node < length self.old.nodes.now }
-        requires shown { AreShown self.old.nodes.now self.old.list.items }
-        requires operands { (k : ℕ) → IsOperand k (slice_index_or self.old.nodes.now node variant.Empty) → IsKept self.old.nodes.now self.old.list.items k }
-        ensures shown { OnOk result (AreShown self.new.nodes.now self.new.list.items) }
-        ensures bound { OnOk result (AreBound self.old.nodes.now (λ k. k ≡ node) self.old.list.items self.new.list.items) }
-        ensures nodes { self.new.nodes ≡ self.old.nodes }
-        ensures uses { self.new.last_uses ≡ self.old.last_uses }
-    {
-        let operation = operation_of(self.nodes.get(node));
-        self.put(rt, alloc, node, operation, means, gate)
-    }
-
-    /// Works the node as the image of the node `from` under the turn, which is below 48. `AllocError`
-    /// says that memory was wanted and not found.
-    pub(crate) fn turn<R: Threads + Wait + Sync, G: Gate + Sync>(
-        &mut self,
-        rt: &R,
-        alloc: Global,
-        node: usize,
-        from: usize,
-        turn: u8,
-        means: &Means,
-        gate: &G,
-    ) -> Result<(), AllocError>
-        requires means { AreMeans means.now }
-        requires node { node < length self.old.nodes.now }
-        requires turn { turn < 48 }
-        requires image { TurnOf self.old.nodes.now turn from node }
-        requires shown { AreShown self.old.nodes.now self.old.list.items }
-        requires kept { IsKept self.old.nodes.now self.old.list.items from }
-        ensures shown { OnOk result (AreShown self.new.nodes.now self.new.list.items) }
-        ensures bound { OnOk result (AreBound self.old.nodes.now (λ k. k ≡ node) self.old.list.items self.new.list.items) }
-        ensures nodes { self.new.nodes ≡ self.old.nodes }
-        ensures uses { self.new.last_uses ≡ self.old.last_uses }
-    {
-        // Each node names earlier ones, so the image of a node has the turned set.
-        let _count = self.nodes.len();
-        let operation = Operation::Turned(usize::from(turn), from);
-        self.put(rt, alloc, node, operation, means, gate)
     }
 
     // Lets the complex of the node go, if there is a node and no command after this one looks at it.

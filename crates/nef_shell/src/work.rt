@@ -1,6 +1,6 @@
 //! Works a script's commands.
 
-ghost use Rattle.std.specs.Prelude.{◌≡◌, ◌≤◌, ℕ, Some, true, false, All, OnOk, IfErr, length, slice_get, vec_len};
+ghost use Rattle.std.specs.Prelude.{◌≡◌, ◌≤◌, ◌↔◌, ℕ, Some, true, false, All, IsTrue, OnOk, IfErr, length, slice_get, vec_len};
 ghost use Rattle.nef_space.specs.Local.{HasLabel};
 ghost use Rattle.nef_geo.specs.Shapes.{place_of};
 ghost use Rattle.nef_complex.specs.declared.complex.Complex.{Complex};
@@ -17,7 +17,7 @@ use crate::ahead::worked_ahead;
 use crate::answer::{answer, same_answer};
 use crate::joining::joined_piece;
 use crate::listing::{count_piece, print_piece};
-use crate::operation::Means;
+use crate::operation::{Means, bound_operation, turned_operation};
 use crate::ray_end::ray_piece;
 use crate::sets::{Sets, no_complexes};
 use crate::stop::Stop;
@@ -47,12 +47,22 @@ fn label_at(sets: &Sets, node: usize, point: &Point) -> Label
     }
 }
 
-/// Works one command, and writes its piece, with a text of this version.
-pub(crate) fn work_command<R: Threads + Wait + Sync, K: Sink, G: Gate + Sync>(
+// Whether the command is worked when it comes: each one is, but only questions where all bindings have been worked
+// ahead.
+fn is_worked(command: &Command, ahead: bool) -> bool
+    ensures worked { IsTrue result ↔ IsWorked ahead command.now }
+{
+    !ahead || bound_node(command).is_none()
+}
+
+// Works the command, unless it binds a node and all bindings have been worked ahead, and writes its piece, with a text
+// of this version.
+fn work_command<R: Threads + Wait + Sync, K: Sink, G: Gate + Sync>(
     rt: &R,
     alloc: Global,
     sets: &mut Sets,
     command: &Command,
+    ahead: bool,
     means: &Means,
     text: TextVersion,
     sink: &mut K,
@@ -62,19 +72,23 @@ pub(crate) fn work_command<R: Threads + Wait + Sync, K: Sink, G: Gate + Sync>(
     requires within { IsWithin (length sets.old.nodes.now) command.now }
     requires turned { TurnsRight sets.old.nodes.now command.now }
     requires shown { AreShown sets.old.nodes.now sets.old.list.items }
-    requires kept { (k : ℕ) → LooksAt sets.old.nodes.now command.now k → IsKept sets.old.nodes.now sets.old.list.items k }
+    requires kept { IsWorked ahead command.now → (k : ℕ) → LooksAt sets.old.nodes.now command.now k → IsKept sets.old.nodes.now sets.old.list.items k }
     ensures done { OnOk result (HasWritten text sets.old.nodes.now command.now (K.written sink.old) (K.written sink.new)) }
     ensures shown { OnOk result (AreShown sets.new.nodes.now sets.new.list.items) }
-    ensures bound { OnOk result (AreBound sets.old.nodes.now (Binds command.now) sets.old.list.items sets.new.list.items) }
+    ensures bound { OnOk result (AreBound sets.old.nodes.now (λ k. (ahead ≡ false) × Binds command.now k) sets.old.list.items sets.new.list.items) }
     ensures nodes { sets.new.nodes ≡ sets.old.nodes }
     ensures uses { sets.new.last_uses ≡ sets.old.last_uses }
     ensures stopped { IfErr result (HasStopped text sets.old.nodes.now command.now (K.written sink.old) (K.written sink.new) (K.faults sink.old) (K.faults sink.new)) }
     ensures quiet { OnOk result (K.faults sink.new ≡ K.faults sink.old) }
     ensures count { K.faults sink.old ≤ K.faults sink.new }
 {
+    if !is_worked(command, ahead) {
+        return Ok(());
+    }
     match command {
         Command::Bind { node, .. } => {
-            sets.bind(rt, alloc, *node, means, gate)?;
+            let operation = bound_operation(sets.nodes, *node);
+            sets.bind(rt, alloc, *node, operation, means, gate)?;
             Ok(())
         }
         Command::Turn {
@@ -83,7 +97,8 @@ pub(crate) fn work_command<R: Threads + Wait + Sync, K: Sink, G: Gate + Sync>(
             turn,
             ..
         } => {
-            sets.turn(rt, alloc, *node, *from, *turn, means, gate)?;
+            let operation = turned_operation(sets.nodes, *from, *turn);
+            sets.bind(rt, alloc, *node, operation, means, gate)?;
             Ok(())
         }
         Command::Has { node, point, .. } => {
@@ -129,39 +144,6 @@ pub(crate) fn work_command<R: Threads + Wait + Sync, K: Sink, G: Gate + Sync>(
     }
 }
 
-// Works the command, unless it binds a node and all bindings have been worked ahead.
-fn work_next<R: Threads + Wait + Sync, K: Sink, G: Gate + Sync>(
-    rt: &R,
-    alloc: Global,
-    sets: &mut Sets,
-    command: &Command,
-    ahead: bool,
-    means: &Means,
-    text: TextVersion,
-    sink: &mut K,
-    gate: &G,
-) -> Result<(), Stop>
-    requires means { AreMeans means.now }
-    requires within { IsWithin (length sets.old.nodes.now) command.now }
-    requires turned { TurnsRight sets.old.nodes.now command.now }
-    requires shown { AreShown sets.old.nodes.now sets.old.list.items }
-    requires kept { IsWorked ahead command.now → (k : ℕ) → LooksAt sets.old.nodes.now command.now k → IsKept sets.old.nodes.now sets.old.list.items k }
-    ensures done { OnOk result (HasWritten text sets.old.nodes.now command.now (K.written sink.old) (K.written sink.new)) }
-    ensures shown { OnOk result (AreShown sets.new.nodes.now sets.new.list.items) }
-    ensures bound { OnOk result (AreBound sets.old.nodes.now (λ k. (ahead ≡ false) × Binds command.now k) sets.old.list.items sets.new.list.items) }
-    ensures nodes { sets.new.nodes ≡ sets.old.nodes }
-    ensures uses { sets.new.last_uses ≡ sets.old.last_uses }
-    ensures stopped { IfErr result (HasStopped text sets.old.nodes.now command.now (K.written sink.old) (K.written sink.new) (K.faults sink.old) (K.faults sink.new)) }
-    ensures quiet { OnOk result (K.faults sink.new ≡ K.faults sink.old) }
-    ensures count { K.faults sink.old ≤ K.faults sink.new }
-{
-    if ahead && bound_node(command).is_some() {
-        Ok(())
-    } else {
-        work_command(rt, alloc, sets, command, means, text, sink, gate)
-    }
-}
-
 // Works the commands in order, and writes the piece of each when it is worked. Where all bindings have been worked ahead,
 // the list has the complexes that questions ask about, and else none.
 fn work_all<R: Threads + Wait + Sync, K: Sink, G: Gate + Sync>(
@@ -190,7 +172,7 @@ fn work_all<R: Threads + Wait + Sync, K: Sink, G: Gate + Sync>(
 {
     let mut sets = Sets::of(alloc, script, list)?;
     for (now, command) in script.commands().iter().enumerate() {
-        work_next(
+        work_command(
             rt, alloc, &mut sets, command, ahead, means, text, sink, gate,
         )?;
         sets.release(command, now);

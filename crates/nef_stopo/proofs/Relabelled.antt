@@ -28,6 +28,7 @@ use Rattle.nef_smap.specs.declared.map.RawStars.{RawStars}
 use Rattle.nef_smap.specs.Maps.{svertex_of, sloop_of, map_of, raw_of, IsSphereMap, IsLeastMap, IsRawStars}
 use Rattle.nef_smap.proofs.Lists.{at-map}
 use Rattle.nef_spair.proofs.Places.{at-all}
+use Rattle.nef_stopo.specs.Made.{IsMadeBy}
 use Rattle.nef_stopo.specs.Stars.{AreRemarked}
 
 -- a circle was one with the same normal
@@ -78,7 +79,7 @@ is-labelled k m r S T = let t = topology-stars k (map_of m) (raw_of r) S.valid S
 abbrev pub HasLabels : RawStars → SphereMap → Type 0
 HasLabels r n = (gs : List Vector) (L : Vector → Label) → IsLabelling gs L → IsRawOf (raw_of r) L → (d : Vector) → IsDirection d → MapLabel (map_of n) d (L d)
 
-pub topology-map : (k : Topology) (m : SphereMap) (r : RawStars) (n : SphereMap) → IsSphereMap m → IsTopologyRaw k (map_of m) (raw_of r) → n.mark ≡ r.mark → HasLabels r n → IsTopologyMap k (map_of m) (map_of n)
+topology-map : (k : Topology) (m : SphereMap) (r : RawStars) (n : SphereMap) → IsSphereMap m → IsTopologyRaw k (map_of m) (raw_of r) → n.mark ≡ r.mark → HasLabels r n → IsTopologyMap k (map_of m) (map_of n)
 topology-map k m r n S T e h =
     let t = topology-stars k (map_of m) (raw_of r) S.valid S.ordered T in
     record {
@@ -86,16 +87,11 @@ topology-map k m r n S T e h =
       labels = λ d f. (t.0 d, h (forms (map_of m)) t.0 t.1 t.2 d f, t.3 d f);
     }
 
-pub topology-set : (k : Topology) (m n : SphereMap) → IsLeastMap n → IsTopologyMap k (map_of m) (map_of n) → (s : Set) (p : Place) → Cone (map_of m) s p → Cone (map_of n) (set_by k s) p
+topology-set : (k : Topology) (m n : SphereMap) → IsLeastMap n → IsTopologyMap k (map_of m) (map_of n) → (s : Set) (p : Place) → Cone (map_of m) s p → Cone (map_of n) (set_by k s) p
 topology-set k m n N T s p C = topology-cone k (map_of m) (map_of n) s p C N.sphere_map.valid T
 
 -- where there is a map, by what building says of it
-pub map-if_ok : {E : Type 0} (k : Topology) (m : SphereMap) (r : RawStars) (o : Result SphereMap E) → IsSphereMap m → IsTopologyRaw k (map_of m) (raw_of r) → IfOk o (λ n. n.mark ≡ r.mark) → IfOk o (HasLabels r)
-    → IfOk o (λ n. IsTopologyMap k (map_of m) (map_of n))
-map-if_ok k m r (Ok n) S T e h = topology-map k m r n S T e h
-map-if_ok k m r (Err e) S T f h = tt
-
-pub set-if_ok : {E : Type 0} (k : Topology) (m : SphereMap) (o : Result SphereMap E) → IfOk o IsLeastMap → IfOk o (λ n. IsTopologyMap k (map_of m) (map_of n))
-    → IfOk o (λ n. (s : Set) (p : Place) → Cone (map_of m) s p → Cone (map_of n) (set_by k s) p)
-set-if_ok k m (Ok n) N T = topology-set k m n N T
-set-if_ok k m (Err e) N T = tt
+pub made-if_ok : {E : Type 0} (k : Topology) (m : SphereMap) (r : RawStars) (o : Result SphereMap E) → IsSphereMap m → IsTopologyRaw k (map_of m) (raw_of r) → IfOk o IsLeastMap → IfOk o (λ n. n.mark ≡ r.mark) → IfOk o (HasLabels r)
+    → IfOk o (IsMadeBy k (set_by k) m)
+made-if_ok k m r (Ok n) S T N e h = let labels = topology-map k m r n S T e h in record { least = N; cone = topology-set k m n N labels; labels = labels }
+made-if_ok k m r (Err e) S T N f h = tt

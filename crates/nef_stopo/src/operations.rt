@@ -1,14 +1,13 @@
 //! The operations of topology on sphere maps.
 
 ghost use Rattle.std.specs.Prelude.{IfOk};
-ghost use Rattle.nef_space.specs.Place.{Place};
 ghost use Rattle.nef_space.specs.Sets.{Set};
-ghost use Rattle.law_sphere.specs.Least.{Cone};
-ghost use Rattle.law_border.specs.Topology.{set_by, IsTopologyMap};
+ghost use Rattle.law_border.specs.Topology.{set_by};
 ghost use Rattle.law_border.specs.Topology.{interior as made_interior, closure as made_closure, boundary as made_boundary, complement as made_complement};
 ghost use Rattle.law_border.specs.Marks.{IsTopologyRaw};
-ghost use Rattle.nef_smap.specs.Maps.{map_of, raw_of, IsSphereMap, IsLeastMap, IsRawStars};
+ghost use Rattle.nef_smap.specs.Maps.{map_of, raw_of, IsSphereMap, IsRawStars};
 ghost use Rattle.nef_stopo.specs.Labels.{topology_of};
+ghost use Rattle.nef_stopo.specs.Made.{IsMadeBy};
 
 use crate::OutOfMemory;
 use crate::nearby::near_map;
@@ -34,9 +33,7 @@ fn relabelled(alloc: Global, map: &SphereMap, topology: Topology) -> Result<RawS
 
 fn made(alloc: Global, map: &SphereMap, topology: Topology) -> Result<SphereMap, OutOfMemory>
     requires map { IsSphereMap map.now }
-    ensures least { IfOk result IsLeastMap }
-    ensures cone { IfOk result (λ m. (s : Set) (p : Place) → Cone (map_of map.now) s p → Cone (map_of m) (set_by (topology_of topology) s) p) }
-    ensures labels { IfOk result (λ m. IsTopologyMap (topology_of topology) (map_of map.now) (map_of m)) }
+    ensures made { IfOk result (IsMadeBy (topology_of topology) (set_by (topology_of topology)) map.now) }
 {
     build(alloc, relabelled(alloc, map, topology)?)
 }
@@ -46,9 +43,7 @@ fn made(alloc: Global, map: &SphereMap, topology: Topology) -> Result<SphereMap,
 /// no memory is left.
 pub fn interior(alloc: Global, map: &SphereMap) -> Result<SphereMap, OutOfMemory>
     requires map { IsSphereMap map.now }
-    ensures least { IfOk result IsLeastMap }
-    ensures cone { IfOk result (λ m. (s : Set) (p : Place) → Cone (map_of map.now) s p → Cone (map_of m) (Set.inside s) p) }
-    ensures labels { IfOk result (λ m. IsTopologyMap made_interior (map_of map.now) (map_of m)) }
+    ensures made { IfOk result (IsMadeBy made_interior Set.inside map.now) }
 {
     made(alloc, map, Topology::Interior)
 }
@@ -58,9 +53,7 @@ pub fn interior(alloc: Global, map: &SphereMap) -> Result<SphereMap, OutOfMemory
 /// memory is left.
 pub fn closure(alloc: Global, map: &SphereMap) -> Result<SphereMap, OutOfMemory>
     requires map { IsSphereMap map.now }
-    ensures least { IfOk result IsLeastMap }
-    ensures cone { IfOk result (λ m. (s : Set) (p : Place) → Cone (map_of map.now) s p → Cone (map_of m) (Set.closed s) p) }
-    ensures labels { IfOk result (λ m. IsTopologyMap made_closure (map_of map.now) (map_of m)) }
+    ensures made { IfOk result (IsMadeBy made_closure Set.closed map.now) }
 {
     made(alloc, map, Topology::Closure)
 }
@@ -69,9 +62,7 @@ pub fn closure(alloc: Global, map: &SphereMap) -> Result<SphereMap, OutOfMemory>
 /// memory is left.
 pub fn boundary(alloc: Global, map: &SphereMap) -> Result<SphereMap, OutOfMemory>
     requires map { IsSphereMap map.now }
-    ensures least { IfOk result IsLeastMap }
-    ensures cone { IfOk result (λ m. (s : Set) (p : Place) → Cone (map_of map.now) s p → Cone (map_of m) (Set.border s) p) }
-    ensures labels { IfOk result (λ m. IsTopologyMap made_boundary (map_of map.now) (map_of m)) }
+    ensures made { IfOk result (IsMadeBy made_boundary Set.border map.now) }
 {
     made(alloc, map, Topology::Boundary)
 }
@@ -79,9 +70,7 @@ pub fn boundary(alloc: Global, map: &SphereMap) -> Result<SphereMap, OutOfMemory
 /// The least map of the complement: In and `Not` exchanged; `Out` stays `Out`. It fails only where no memory is left.
 pub fn complement(alloc: Global, map: &SphereMap) -> Result<SphereMap, OutOfMemory>
     requires map { IsSphereMap map.now }
-    ensures least { IfOk result IsLeastMap }
-    ensures cone { IfOk result (λ m. (s : Set) (p : Place) → Cone (map_of map.now) s p → Cone (map_of m) (Set.other s) p) }
-    ensures labels { IfOk result (λ m. IsTopologyMap made_complement (map_of map.now) (map_of m)) }
+    ensures made { IfOk result (IsMadeBy made_complement Set.other map.now) }
 {
     made(alloc, map, Topology::Complement)
 }

@@ -1,10 +1,10 @@
-//! Gates that count, and one that holds a job back.
+//! Gates that count, and one that holds a job back; they serve other crates of tests too.
 use nef_io::Gate;
 use std::sync::atomic::{AtomicBool, AtomicU64, Ordering};
 use std::thread;
 
-// More turns than any other thread needs to begin a job.
-const TURNS: u64 = 20_000_000;
+/// More turns than any other thread needs to begin a job.
+pub const TURNS: u64 = 20_000_000;
 
 /// Counts the jobs that it was told of, for each kind of board.
 #[derive(Drop)]
@@ -36,7 +36,7 @@ impl Gate for Counting {
 #[derive(Drop)]
 pub struct Holding {
     began: AtomicBool,
-    pub limit_reached: AtomicBool,
+    limit_reached: AtomicBool,
 }
 
 impl Holding {
@@ -45,6 +45,11 @@ impl Holding {
             began: AtomicBool::new(false),
             limit_reached: AtomicBool::new(false),
         }
+    }
+
+    /// Whether some job was held for all the turns.
+    pub fn limit_reached(&self) -> bool {
+        self.limit_reached.load(Ordering::SeqCst)
     }
 }
 

@@ -1,12 +1,12 @@
-//! Tests of the machine, both boards and the pool together, and of rounds of numbers.
+//! Tests of the machine, both boards and the pool together, and of rounds of numbers; and the gates of these and of other
+//! tests.
 #![tactic(auto)]
 
 #[cfg(test)]
 mod counted;
 #[cfg(test)]
 mod free;
-#[cfg(test)]
-mod gates;
+pub mod gates;
 #[cfg(test)]
 mod jobs;
 #[cfg(test)]

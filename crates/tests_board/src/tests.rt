@@ -164,12 +164,12 @@ fn side_by_side(rt: HostRuntime) -> Result<(), Fail> {
     let (board, pass) = LockBoard::new(&rt, rt.alloc(), &job, 3)?;
     let squares = finish(&rt, rt.alloc(), board, pass, &job, 2, &gate)?;
     assert_eq!(rt; squares.as_slice(), [0, 1, 4].as_slice());
-    assert!(rt; !gate.limit_reached.load(Ordering::SeqCst));
+    assert!(rt; !gate.limit_reached());
 
     let gate = Holding::new();
     let (board, pass) = FreeBoard::new(rt.alloc(), &job, 3)?;
     let squares = finish(&rt, rt.alloc(), board, pass, &job, 2, &gate)?;
     assert_eq!(rt; squares.as_slice(), [0, 1, 4].as_slice());
-    assert!(rt; !gate.limit_reached.load(Ordering::SeqCst));
+    assert!(rt; !gate.limit_reached());
     Ok(())
 }

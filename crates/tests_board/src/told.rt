@@ -1,14 +1,12 @@
 //! Jobs that know whether the gate was told of them, and a gate that waits for others.
 ghost use Rattle.std.specs.Prelude.{◌≡◌, ◌*◌};
 
+use crate::gates::TURNS;
 use nef_core::{Job, OutOfMemory};
 use nef_io::Gate;
 use std::alloc::Global;
 use std::sync::atomic::{AtomicU64, Ordering};
 use std::thread;
-
-// More turns than any other thread needs to begin a job.
-const TURNS: u64 = 20_000_000;
 
 // The bit of a job.
 fn bit_of(job: u64) -> u64 {

@@ -1,12 +1,10 @@
-//! A gate that counts its calls, and one that holds a job back.
+//! A gate that counts its calls, and one that holds a command back.
 
 use nef_io::Gate;
 use std::alloc::{AllocError, Global};
 use std::sync::atomic::{AtomicBool, AtomicU64, Ordering};
 use std::thread;
-
-// More turns than any other thread needs to begin a job.
-const TURNS: u64 = 20_000_000;
+use tests_board::gates::TURNS;
 
 /// Counts the calls for each job up to some number, those for later jobs, and those from the board
 /// without a lock.
@@ -51,45 +49,6 @@ impl Gate for Counting {
         if free {
             self.free.fetch_add(1, Ordering::SeqCst);
         }
-    }
-}
-
-/// Holds job 1 until job 2 began, for so many turns at most.
-#[derive(Drop)]
-pub struct Holding {
-    began: AtomicBool,
-    limit_reached: AtomicBool,
-}
-
-impl Holding {
-    pub fn new() -> Holding {
-        Holding {
-            began: AtomicBool::new(false),
-            limit_reached: AtomicBool::new(false),
-        }
-    }
-
-    /// Whether some job was held for all the turns.
-    pub fn limit_reached(&self) -> bool {
-        self.limit_reached.load(Ordering::SeqCst)
-    }
-}
-
-impl Gate for Holding {
-    fn before(&self, job: u64, _free: bool) {
-        if job == 2 {
-            self.began.store(true, Ordering::SeqCst);
-        }
-        if job != 1 {
-            return;
-        }
-        for _ in 0..TURNS {
-            if self.began.load(Ordering::SeqCst) {
-                return;
-            }
-            thread::yield_now();
-        }
-        self.limit_reached.store(true, Ordering::SeqCst);
     }
 }
 

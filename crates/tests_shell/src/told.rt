@@ -1,6 +1,6 @@
 //! What the gate is told, of each job that a worker begins.
 
-use crate::gates::{Counting, Holding, Pairing};
+use crate::gates::{Counting, Pairing};
 use crate::runs::{ended, unfolded};
 use crate::tables::UNIT_BOX;
 use nef_io::{Gate, MemSink, SureSource};
@@ -9,6 +9,7 @@ use std::process::Abort;
 use std::sync::Wait;
 use std::test::Fail;
 use std::thread::Threads;
+use tests_board::gates::Holding;
 
 // Words, a script, how it ends, and the calls for each of the jobs 0 to 17, for later ones, and from the board without a
 // lock: two half-spaces, with twelve candidates each, and their intersection, with eighteen; statements of each kind, of

@@ -37,5 +37,8 @@ returns-in_ok-map-in-NotSecond-clause-cone c s t S T =
 pub returns-in_ok-other-in-Both-clause-cone : goal.returns-in_ok-other-in-Both-clause-cone
 returns-in_ok-other-in-Both-clause-cone c =
     let p = place_of c.args.p.now in
-    IfOk-weaker c.merged.result _ _ (λ m shows s t S T.
-    shows s t p (c.in_ok-map-in-Both.ensures.cone s p S c.locate-first.ensures.at) (c.in_ok-other-in-Both.ensures.cone t p T c.locate-second.ensures.at)) c.merged.ensures.cone
+    IfOk-weaker c.merged.result _ _ (λ m made s t S T.
+    made.cone s t p (c.in_ok-map-in-Both.ensures.cone s p S c.locate-first.ensures.at) (c.in_ok-other-in-Both.ensures.cone t p T c.locate-second.ensures.at)) c.merged.ensures.combined
+
+pub returns-in_ok-other-in-Both-clause-least : goal.returns-in_ok-other-in-Both-clause-least
+returns-in_ok-other-in-Both-clause-least c = IfOk-weaker c.merged.result _ _ (λ m made. made.least) c.merged.ensures.combined

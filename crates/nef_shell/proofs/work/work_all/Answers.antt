@@ -16,16 +16,16 @@ returns-in_err-sets-clause-front g c =
     let p = err_from_is_err_and c.from_residual.result c.from_residual.ensures.1 in
     rw p.1 (0, [], refl, grows_within-none _)
 
-pub returns-in_err-work_next-clause-stopped : goal.returns-in_err-work_next-clause-stopped
-returns-in_err-work_next-clause-stopped g c =
-    let p = err_from_is_err_and c.from_residual-in_err-work_next.result c.from_residual-in_err-work_next.ensures.1 in
-    rw (p.1, p.2) (stop-rose _ _ _ _ _ _ c.loop-now.invariant.count c.in_err-work_next.ensures.stopped)
+pub returns-in_err-work_command-clause-stopped : goal.returns-in_err-work_command-clause-stopped
+returns-in_err-work_command-clause-stopped g c =
+    let p = err_from_is_err_and c.from_residual-in_err-work_command.result c.from_residual-in_err-work_command.ensures.1 in
+    rw (p.1, p.2) (stop-rose _ _ _ _ _ _ c.loop-now.invariant.count c.in_err-work_command.ensures.stopped)
 
-pub work_next-requires-clause-shown : goal.work_next-requires-clause-shown
-work_next-requires-clause-shown g c scopes within = subst (λ z. AreShown z c.loop-now.sets.list.items) (sym c.loop-now.invariant.nodes) c.loop-now.invariant.shown
+pub work_command-requires-clause-shown : goal.work_command-requires-clause-shown
+work_command-requires-clause-shown g c scopes within = subst (λ z. AreShown z c.loop-now.sets.list.items) (sym c.loop-now.invariant.nodes) c.loop-now.invariant.shown
 
-pub work_next-requires-clause-kept : goal.work_next-requires-clause-kept
-work_next-requires-clause-kept g c scopes within works k looks =
+pub work_command-requires-clause-kept : goal.work_command-requires-clause-kept
+work_command-requires-clause-kept g c scopes within works k looks =
     let items = c.commands-command-items.result.now in
     let item = c.command-item.result in
     let now = c.loop-now.now in
@@ -38,13 +38,13 @@ work_next-requires-clause-kept g c scopes within works k looks =
       | inr (e, j, d, low, below, seen, binds) ↦ absurd (omega arith)
     ]
 
-pub returns-in_err-work_next-clause-front : goal.returns-in_err-work_next-clause-front
-returns-in_err-work_next-clause-front g c =
-    let p = err_from_is_err_and c.from_residual-in_err-work_next.result c.from_residual-in_err-work_next.ensures.1 in
+pub returns-in_err-work_command-clause-front : goal.returns-in_err-work_command-clause-front
+returns-in_err-work_command-clause-front g c =
+    let p = err_from_is_err_and c.from_residual-in_err-work_command.result c.from_residual-in_err-work_command.ensures.1 in
     let so_far = c.loop-now.invariant in
     let items = c.commands-command-items.result.now in
     let output = so_far.written in
-    let stopped = rw so_far.nodes at c.in_err-work_next.ensures.stopped in
+    let stopped = rw so_far.nodes at c.in_err-work_command.ensures.stopped in
     let front = front-at c.args.text _ c.args.script.now.nodes items c.loop-now.now c.command-item.result _ _ _ _ _ output.0 (omega arith) c.command-item.is output.1 output.2 stopped in
     rw p.1 (rw c.commands-command-items.ensures.commands at front)
 
@@ -55,11 +55,11 @@ release-requires-clause-used g c k within used =
     let item = c.command-item.result in
     let now = c.loop-now.now in
     let so_far = c.loop-now.invariant in
-    let worked = c.in_ok-work_next.ensures in
+    let worked = c.in_ok-work_command.ensures in
     let all = c.commands-command-items.ensures.commands in
     let at : slice_get c.args.script.now.commands now ≡ Some item = subst (λ z. slice_get z now ≡ Some item) all (slice_get_read items _ now item refl (omega arith) c.command-item.is) in
     let old = c.loop-now.sets in
-    let mid = c.work_next.new.sets in
+    let mid = c.work_command.new.sets in
     let same : mid.nodes.now ≡ nodes = ap (λ z. z.now) worked.nodes ∙ so_far.nodes in
     let uses : slice_index mid.last_uses.items k ≡ slice_index old.last_uses.items k = ap (λ z. slice_index z.items k) worked.uses in
     let before : k < length old.list.items = omega (arith, worked.bound.count) in
@@ -93,12 +93,12 @@ loop-now-preserved g c =
     let item = c.command-item.result in
     let now = c.loop-now.now in
     let so_far = c.loop-now.invariant in
-    let worked = c.in_ok-work_next.ensures in
+    let worked = c.in_ok-work_command.ensures in
     let released = c.release.ensures in
     let all = c.commands-command-items.ensures.commands in
     let at : slice_get c.args.script.now.commands now ≡ Some item = subst (λ z. slice_get z now ≡ Some item) all (slice_get_read items _ now item refl (omega arith) c.command-item.is) in
     let old = c.loop-now.sets in
-    let mid = c.work_next.new.sets in
+    let mid = c.work_command.new.sets in
     let new = c.release.new.self in
     let same : mid.nodes.now ≡ nodes = ap (λ z. z.now) worked.nodes ∙ so_far.nodes in
     let same_after : new.nodes.now ≡ nodes = ap (λ z. z.now) released.nodes ∙ same in

@@ -1,20 +1,43 @@
-use Rattle.std.proofs.Common.{refl}
+use Rattle.std.proofs.Common.{◌≡◌, ◌∙◌, [], true, false, refl, sym}
 use Rattle.std.proofs.lemmas.Result.{err_from_is_err_and}
-use Rattle.nef_expr.specs.declared.nodes.Node.TheVariants as node
 use Rattle.nef_expr.specs.Nodes.{node_set}
+use Rattle.nef_shell.specs.Bindings.{IsWorked}
 use Rattle.nef_shell.specs.Output.{answer_of, same_answer}
-use Rattle.nef_shell.proofs.Complexes.{binds-that, turns-that}
+use Rattle.nef_shell.proofs.Asked.{grows-none, unworked-nothing, unworked-bound}
+use Rattle.nef_shell.proofs.Complexes.{binds-that}
 use Rattle.nef_shell.proofs.Outputs.{same-piece}
 use Rattle.nef_shell.proofs.work.work_command.Goals as goal
 
+pub returns-then-not-is_worked-clause-done : goal.returns-then-not-is_worked-clause-done
+returns-then-not-is_worked-clause-done g c =
+    let unworked : IsWorked c.args.ahead c.args.command.now → ⊥ = λ w. (let f : true ≡ false = sym (c.is_worked.ensures.worked.1 w) ∙ c.if-not-is_worked.true in cc) in
+    ([], unworked-nothing c.args.text c.args.sets.now.nodes.now c.args.ahead c.args.command.now unworked, grows-none _)
+
+pub returns-then-not-is_worked-clause-bound : goal.returns-then-not-is_worked-clause-bound
+returns-then-not-is_worked-clause-bound g c =
+    let unworked : IsWorked c.args.ahead c.args.command.now → ⊥ = λ w. (let f : true ≡ false = sym (c.is_worked.ensures.worked.1 w) ∙ c.if-not-is_worked.true in cc) in
+    unworked-bound c.args.sets.now.nodes.now c.args.ahead c.args.command.now c.args.sets.now.list.items unworked
+
 pub bind-requires-clause-operands : goal.bind-requires-clause-operands
-bind-requires-clause-operands g c scopes within k is = c.requires.kept k (rw c.in-Bind.is is)
+bind-requires-clause-operands g c scopes framed k has =
+    c.requires.kept (c.is_worked.ensures.worked.0 c.if-not-is_worked.false) k (rw c.in-Bind.is ((c.bound_operation-operation.ensures.operands k).0 has))
+
+pub bind-requires-in-Turn-clause-set : goal.bind-requires-in-Turn-clause-set
+bind-requires-in-Turn-clause-set g c scopes framed =
+    let turned = rw c.in-Turn.is at c.requires.turned in
+    c.turned_operation-operation.ensures.set c.in-Turn.node turned
+
+pub bind-requires-in-Turn-clause-operands : goal.bind-requires-in-Turn-clause-operands
+bind-requires-in-Turn-clause-operands g c scopes framed k has =
+    c.requires.kept (c.is_worked.ensures.worked.0 c.if-not-is_worked.false) k (rw c.in-Turn.is ((c.turned_operation-operation.ensures.operands k).0 has))
 
 pub returns-in_ok-bind-in-Bind-clause-bound : goal.returns-in_ok-bind-in-Bind-clause-bound
-returns-in_ok-bind-in-Bind-clause-bound g c = binds-that c.args.sets.now.nodes.now c.args.command.now _ c.in-Bind.node _ _ c.in-Bind.is c.in_ok-bind-in-Bind.ensures.bound
+returns-in_ok-bind-in-Bind-clause-bound g c =
+    binds-that c.args.sets.now.nodes.now c.args.ahead c.args.command.now c.in-Bind.node _ _ (rw c.in-Bind.is (λ k. (λ h. h, λ h. h))) (c.is_worked.ensures.worked.0 c.if-not-is_worked.false) c.in_ok-bind-in-Bind.ensures.bound
 
-pub returns-in_ok-turn-in-Turn-clause-bound : goal.returns-in_ok-turn-in-Turn-clause-bound
-returns-in_ok-turn-in-Turn-clause-bound g c = turns-that c.args.sets.now.nodes.now c.args.command.now _ c.in-Turn.node c.in-Turn.from c.in-Turn.turn _ _ c.in-Turn.is c.in_ok-turn-in-Turn.ensures.bound
+pub returns-in_ok-bind-in-Turn-clause-bound : goal.returns-in_ok-bind-in-Turn-clause-bound
+returns-in_ok-bind-in-Turn-clause-bound g c =
+    binds-that c.args.sets.now.nodes.now c.args.ahead c.args.command.now c.in-Turn.node _ _ (rw c.in-Turn.is (λ k. (λ h. h, λ h. h))) (c.is_worked.ensures.worked.0 c.if-not-is_worked.false) c.in_ok-bind-in-Turn.ensures.bound
 
 pub returns-in_err-put_all-in-Has-clause-stopped : goal.returns-in_err-put_all-in-Has-clause-stopped
 returns-in_err-put_all-in-Has-clause-stopped g c =

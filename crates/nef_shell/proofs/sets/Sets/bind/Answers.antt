@@ -1,15 +1,33 @@
-use Rattle.std.proofs.Common.{◌≡◌, sym, subst}
-use Rattle.std.specs.Prelude.{slice_index_or}
-use Rattle.std.proofs.lemmas.Option.{get_or_from_slice_get}
-use Rattle.nef_expr.specs.declared.nodes.Node.TheVariants as node
-use Rattle.nef_expr.specs.Nodes.{IsOperand}
-use Rattle.nef_shell.proofs.Complexes.{node-by}
+use Rattle.std.proofs.Common.{◌∙◌, [], arith, refl, sym, subst}
+use Rattle.std.proofs.lemmas.Option.{slice_get_read}
+use Rattle.nef_complex.specs.Complexes.{ShowsSet}
+use Rattle.nef_expr.specs.Nodes.{node_set, sets_after}
+use Rattle.nef_shell.proofs.Complexes.{both-lent, bound-put, bound-there, none-of, shown-put, there-of}
 use Rattle.nef_shell.proofs.sets.Sets.bind.Goals as goal
 
-pub put-requires-clause-set : goal.put-requires-clause-set
-put-requires-clause-set g c scopes framed = node-by c.args.self.now.nodes.now c.args.node c.get.result.now c.operation_of-operation.result c.get.ensures.node c.get.ensures.operands c.operation_of-operation.ensures.set
+pub returns-then-is_some-clause-bound : goal.returns-then-is_some-clause-bound
+returns-then-is_some-clause-bound g c =
+    let list = c.args.self.now.list.items in
+    let counted = c.args.self.now.counted in
+    let there = there-of _ c.index.result.now (slice_get_read list _ c.args.node c.index.result.now refl (omega arith) c.index.ensures) (sym c.is_some.ensures ∙ c.if-is_some.true) in
+    bound-there c.args.self.now.nodes.now list c.args.node there.0 there.1 c.requires.shown
 
-pub put-requires-clause-operands : goal.put-requires-clause-operands
-put-requires-clause-operands g c scopes framed k is =
-    let read : slice_index_or c.args.self.now.nodes.now c.args.node node.Empty ≡ c.get.result.now = get_or_from_slice_get c.args.self.now.nodes.now c.args.node c.get.result.now node.Empty c.get.ensures.node in
-    c.requires.operands k (subst (IsOperand k) (sym read) ((c.operation_of-operation.ensures.operands k).1 is))
+pub returns-clause-shown : goal.returns-clause-shown
+returns-clause-shown g c =
+    let nodes = c.args.self.now.nodes.now in
+    let ss = sets_after [] nodes in
+    let counted = c.args.self.now.counted in
+    let lent = both-lent ss c.args.operation _ _ _ _ c.operands-first.ensures.first c.operands-first.ensures.second c.lent-a.ensures.lent c.lent-b.ensures.lent in
+    let shows : ShowsSet (node_set nodes c.args.node) c.in_ok-complex.complex = subst (λ s. ShowsSet s c.in_ok-complex.complex) (sym c.requires.set) (c.in_ok-complex.ensures.shows ss lent) in
+    shown-put nodes c.args.self.now.list.items c.args.node c.in_ok-complex.complex (omega arith) c.requires.shown shows
+
+pub returns-clause-bound : goal.returns-clause-bound
+returns-clause-bound g c =
+    let nodes = c.args.self.now.nodes.now in
+    let list = c.args.self.now.list.items in
+    let ss = sets_after [] nodes in
+    let counted = c.args.self.now.counted in
+    let lent = both-lent ss c.args.operation _ _ _ _ c.operands-first.ensures.first c.operands-first.ensures.second c.lent-a.ensures.lent c.lent-b.ensures.lent in
+    let shows : ShowsSet (node_set nodes c.args.node) c.in_ok-complex.complex = subst (λ s. ShowsSet s c.in_ok-complex.complex) (sym c.requires.set) (c.in_ok-complex.ensures.shows ss lent) in
+    let none = none-of _ c.index.result.now (slice_get_read list _ c.args.node c.index.result.now refl (omega arith) c.index.ensures) (sym c.is_some.ensures ∙ c.if-is_some.false) in
+    bound-put nodes list c.args.node c.in_ok-complex.complex (omega arith) none shows
