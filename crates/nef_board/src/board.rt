@@ -13,9 +13,8 @@ use crate::view::View;
 use atomic_table::{Seat, Shared, Table, TableRule};
 use nef_core::{Board, Claim, Job, OutOfMemory, Receipt};
 use std::alloc::Global;
-use std::hint;
 use std::sync::Wait;
-use std::thread;
+use std::{hint, thread};
 
 /// A board whose passes take turns.
 ///

@@ -57,7 +57,7 @@ loop-number-preserved c =
     let h = c.at-h.result.now in
     none-more (CarriesWith c.args.c.now p n) ns i g c.loop-number-test.true (sym (at-read ns i g g (get-at ns i 0 c.loop-number-test.true))) c.loop-number.invariant
     (λ w. not_true (sym c.if-is_plane_of.false ∙ c.is_plane_of.ensures.plane.1
-        (subst (λ (k : Plane). HoldsWith (form_of k) p n) (at-one hs g w.0 h (some-at hs g w.0 w.1) (some-at hs g h c.at-h.ensures.element)) w.2)))
+    (subst (λ (k : Plane). HoldsWith (form_of k) p n) (at-one hs g w.0 h (some-at hs g w.0 w.1) (some-at hs g h c.at-h.ensures.element)) w.2)))
 
 pub unreachable-requires : goal.unreachable-requires
 unreachable-requires c =
