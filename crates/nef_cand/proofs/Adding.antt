@@ -13,7 +13,7 @@ use Rattle.nef_complex.proofs.Reading.{read-at}
 use Rattle.nef_cand.specs.Candidates.{IsListed}
 use Rattle.nef_cand.specs.Points.{Adds}
 
-listed-more : (ps qs : List Point) → ((p : Point) → Contains ps p → Contains qs p) → (y : Place) → IsListed ps y → IsListed qs y
+pub listed-more : (ps qs : List Point) → ((p : Point) → Contains ps p → Contains qs p) → (y : Place) → IsListed ps y → IsListed qs y
 listed-more ps qs f y (p, h, s) = (p, f p h, s)
 
 -- nothing has P

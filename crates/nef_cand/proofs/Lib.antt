@@ -8,3 +8,4 @@ pub mod Complete
 pub mod Halves
 pub mod Framed
 pub mod Sides
+pub mod Apart

@@ -15,7 +15,10 @@ use Rattle.nef_complex.specs.declared.complex.Edge.{Edge}
 use Rattle.nef_complex.specs.declared.complex.Vertex.{Vertex}
 use Rattle.nef_complex.specs.Planes.{HoldsBoth}
 use Rattle.nef_cand.specs.declared.line.Line.{Line}
-use Rattle.nef_cand.specs.Candidates.{IsListed, IsCutBy}
+use Rattle.nef_space.specs.Sets.{Set}
+use Rattle.law_complex.specs.Laws.{IsVertexOfBoth}
+use Rattle.nef_complex.specs.Complexes.{complex_of, ShowsSet}
+use Rattle.nef_cand.specs.Candidates.{IsListed, IsCutBy, AreCandidates, AreFramed}
 
 -- qs are the points of ps and those with P
 pub record Adds (P : Place → Type 0) (ps qs : List Point) : Type 0 where
@@ -58,3 +61,9 @@ pub record AreSides (h : Form) (vs : List Vertex) (signs : List Sign) : Type 0 w
 -- one of the planes cuts an edge at y
 abbrev pub CutsOne : PlainComplex → List Plane → Place → Type 0
 CutsOne C hs y = (i : ℕ) × (h : Plane) × At hs i h × IsCutBy C (form_of h) y
+
+-- the points are the candidates of the two complexes; they lie in the closed frame, and all vertices of combinations of the sets are among them
+pub record ListsCandidates (a b : Complex) (ps : List Point) : Type 0 where
+  pub exactly : AreCandidates (complex_of a) (complex_of b) ps
+  pub framed : AreFramed ps
+  pub complete : (s t : Set) (y : Place) → ShowsSet s a → ShowsSet t b → IsVertexOfBoth s t y → IsListed ps y

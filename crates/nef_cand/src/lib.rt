@@ -5,10 +5,12 @@
 #![tactic(auto)]
 
 mod added;
+mod beside;
 mod line;
 mod listing;
 mod points;
 
+pub use beside::candidates_beside;
 pub use listing::{candidates, cut_candidates};
 pub use nef_complex::OutOfMemory;
 pub use points::vertex_points;

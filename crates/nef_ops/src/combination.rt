@@ -8,7 +8,7 @@ ghost use Rattle.nef_complex.specs.Complexes.{ShowsSet};
 use crate::OutOfMemory;
 use crate::finished::finished;
 use crate::local::combined_map;
-use nef_cand::candidates;
+use nef_cand::candidates_beside;
 use nef_complex::Complex;
 use nef_core::{How, Job};
 use nef_geo::Point;
@@ -70,7 +70,7 @@ pub fn binary<R: Threads + Wait + Sync, G: Gate + Sync>(
     requires second { (t : Set) × ShowsSet t b.now }
     ensures shows { IfOk result (λ c. (s t : Set) → ShowsSet s a.now → ShowsSet t b.now → ShowsSet (op_set op s t) c) }
 {
-    let listed = candidates(alloc, a, b)?;
+    let listed = candidates_beside(rt, alloc, a, b, how.workers)?;
     let points = listed.as_slice();
     let job = BinaryJob {
         op,

@@ -5,7 +5,7 @@ use Rattle.nef_ops.proofs.Gathered.{both-maps}
 use Rattle.nef_ops.proofs.combination.binary.Goals as goal
 
 pub finished-requires-clause-workable : goal.finished-requires-clause-workable
-finished-requires-clause-workable g c = λ κs within. (c.requires.first, c.requires.second, subst AreFramed (sym c.as_slice-points.ensures.value) c.in_ok-listed.ensures.framed)
+finished-requires-clause-workable g c = λ κs within. (c.requires.first, c.requires.second, subst AreFramed (sym c.as_slice-points.ensures.value) c.in_ok-listed.ensures.lists.framed)
 
 pub assemble-requires : goal.assemble-requires
 assemble-requires g c =
@@ -16,7 +16,7 @@ assemble-requires g c =
       maps = (
         op_set op S.0 T.0,
         both-maps op c.args.a.now c.args.b.now c.in_ok-carriers.carriers c.in_ok-listed.listed.items c.as_slice-points.result.now c.in_ok-maps.maps.items
-            c.as_slice-points.ensures.value c.in_ok-listed.ensures.exactly.ordered c.in_ok-listed.ensures.complete c.in_ok-carriers.ensures.carriers alike c.in_ok-maps.ensures.right S.0 T.0 S.1 T.1,
+            c.as_slice-points.ensures.value c.in_ok-listed.ensures.lists.exactly.ordered c.in_ok-listed.ensures.lists.complete c.in_ok-carriers.ensures.carriers alike c.in_ok-maps.ensures.right S.0 T.0 S.1 T.1,
       );
     }
 
@@ -28,5 +28,5 @@ returns g c =
     record {
       shows = λ s t S T. c.in_ok-complex.ensures.shows (op_set op s t)
           (both-maps op c.args.a.now c.args.b.now c.in_ok-carriers.carriers c.in_ok-listed.listed.items c.as_slice-points.result.now c.in_ok-maps.maps.items
-          c.as_slice-points.ensures.value c.in_ok-listed.ensures.exactly.ordered c.in_ok-listed.ensures.complete c.in_ok-carriers.ensures.carriers alike c.in_ok-maps.ensures.right s t S T);
+          c.as_slice-points.ensures.value c.in_ok-listed.ensures.lists.exactly.ordered c.in_ok-listed.ensures.lists.complete c.in_ok-carriers.ensures.carriers alike c.in_ok-maps.ensures.right s t S T);
     }
