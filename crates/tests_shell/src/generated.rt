@@ -66,6 +66,19 @@ fn check_unread<R: Threads + Wait + Abort + Sync>(
     Ok(())
 }
 
+// A half by the name `{name}122`, as what 123 halves with this normal have in common, of which it is the least.
+fn nested(alloc: Global, name: &str, normal: &str) -> Result<String, Fail> {
+    let mut script = format!(in alloc; "half {name}0 {normal} 0 closed\n")?;
+    for number in 1..=122u32 {
+        let before = number - 1;
+        let lines = format!(in alloc;
+            "half {name}h{number} {normal} -{number} closed\nand {name}{number} {name}{before} {name}h{number}\n"
+        )?;
+        script.push_str(lines.as_str())?;
+    }
+    Ok(script)
+}
+
 // The source's first read fails, and comes only when a script is read.
 fn read_that_fails<R: Threads + Wait + Sync>(rt: &R, alloc: Global) -> Result<String, Fail> {
     let mut source = MemSource::new(alloc, b"full U\n", 10, &[1])?;
@@ -100,5 +113,18 @@ fn arc_of_three_quarters(rt: HostRuntime) -> Result<(), Fail> {
     assert_eq!(rt; status, 0);
     assert!(rt; text.starts_with("28 42 18 3\npolyhedron u1\n"));
     assert!(rt; has_part(alloc, text.as_str(), VERTEX)?);
+    Ok(())
+}
+
+// Each of the two sets has the 6 carriers of the frame and 123 of its own.
+#[test]
+fn sets_with_many_carriers(rt: HostRuntime) -> Result<(), Fail> {
+    let alloc = rt.alloc();
+    let (first, second) = (nested(alloc, "p", "1 0 0")?, nested(alloc, "q", "0 1 0")?);
+    let script = format!(in alloc;
+        "{first}{second}and many p122 q122\nhalf p 1 0 0 0 closed\nhalf q 0 1 0 0 closed\nand few p q\nsame many few\n"
+    )?;
+    let (status, text) = worked(&rt, alloc, "--workers 4", script.as_str())?;
+    assert_eq!(rt; (status, text.as_str()), (0, "same\n"));
     Ok(())
 }
