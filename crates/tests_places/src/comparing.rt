@@ -1,31 +1,94 @@
-//! The frame's complexes compared.
+//! The frame's complexes compared. Each function makes one of them: what one that makes several lets go costs minutes of
+//! proving.
 
+ghost use Rattle.std.specs.Prelude.{◌≡◌, ◌∷◌, [], IfOk};
+ghost use Rattle.nef_space.specs.Sets.{Set};
+ghost use Rattle.nef_complex.specs.Complexes.{ShowsSet};
+ghost use Rattle.nef_expr.specs.declared.nodes.Node.TheVariants as variant;
+
+use nef_complex::{Complex, OutOfMemory};
 use nef_expr::{Node, Nodes};
 use nef_frame::frame;
 use nef_geo::Label;
 use nef_unique::{compare, same_vertices};
+use std::alloc::Global;
+use std::process::Abort;
 use std::test::Fail;
+
+// Whether the complex has the vertices of the empty set's.
+fn has_bare_frame(alloc: Global, c: &Complex) -> Result<bool, OutOfMemory> {
+    let other = frame(alloc, Label::Not)?;
+    Ok(same_vertices(c, &other))
+}
 
 #[test]
 fn the_empty_set_twice(rt: HostRuntime) -> Result<(), Fail> {
     let first = frame(rt.alloc(), Label::Not)?;
-    let second = frame(rt.alloc(), Label::Not)?;
-    assert!(rt; same_vertices(&first, &second));
+    assert!(rt; has_bare_frame(rt.alloc(), &first)?);
+    Ok(())
+}
+
+// The empty set alone.
+fn left_nodes(alloc: Global) -> Result<Nodes, OutOfMemory>
+    ensures nodes { IfOk result (λ t. t ≡ variant.Empty ∷ []) }
+{
+    let mut nodes = Nodes::new(alloc);
+    nodes.push(Node::Empty)?;
+    Ok(nodes)
+}
+
+// The whole frame, and the empty set.
+fn right_nodes(alloc: Global) -> Result<Nodes, OutOfMemory>
+    ensures nodes { IfOk result (λ t. t ≡ variant.Full ∷ variant.Empty ∷ []) }
+{
+    let mut nodes = Nodes::new(alloc);
+    nodes.push(Node::Full)?;
+    nodes.push(Node::Empty)?;
+    Ok(nodes)
+}
+
+fn is_whole(
+    alloc: Global,
+    left: &Nodes,
+    first: &Complex,
+    right: &Nodes,
+) -> Result<bool, OutOfMemory>
+    requires left { left.now ≡ variant.Empty ∷ [] }
+    requires first { ShowsSet Set.empty first.now }
+    requires right { right.now ≡ variant.Full ∷ variant.Empty ∷ [] }
+{
+    let whole = frame(alloc, Label::In)?;
+    Ok(compare(left, 0, first, right, 0, &whole))
+}
+
+fn is_empty(
+    alloc: Global,
+    left: &Nodes,
+    first: &Complex,
+    right: &Nodes,
+) -> Result<bool, OutOfMemory>
+    requires left { left.now ≡ variant.Empty ∷ [] }
+    requires first { ShowsSet Set.empty first.now }
+    requires right { right.now ≡ variant.Full ∷ variant.Empty ∷ [] }
+{
+    let second = frame(alloc, Label::Not)?;
+    Ok(compare(left, 0, first, right, 1, &second))
+}
+
+fn check_nodes(rt: &impl Abort, alloc: Global, left: &Nodes, right: &Nodes) -> Result<(), Fail>
+    requires left { left.now ≡ variant.Empty ∷ [] }
+    requires right { right.now ≡ variant.Full ∷ variant.Empty ∷ [] }
+{
+    let first = frame(alloc, Label::Not)?;
+    assert!(rt; !is_whole(alloc, left, &first, right)?);
+    assert!(rt; is_empty(alloc, left, &first, right)?);
     Ok(())
 }
 
 // The empty set of one list against both nodes of another.
 #[test]
 fn the_empty_set_and_the_whole_frame(rt: HostRuntime) -> Result<(), Fail> {
-    let mut left = Nodes::new(rt.alloc());
-    left.push(Node::Empty)?;
-    let mut right = Nodes::new(rt.alloc());
-    right.push(Node::Full)?;
-    right.push(Node::Empty)?;
-    let first = frame(rt.alloc(), Label::Not)?;
-    let whole = frame(rt.alloc(), Label::In)?;
-    let second = frame(rt.alloc(), Label::Not)?;
-    assert!(rt; !compare(&left, 0, &first, &right, 0, &whole));
-    assert!(rt; compare(&left, 0, &first, &right, 1, &second));
-    Ok(())
+    let left = left_nodes(rt.alloc())?;
+    let right = right_nodes(rt.alloc())?;
+    check_nodes(&rt, rt.alloc(), &left, &right)
 }
