@@ -14,4 +14,5 @@ mod sorting;
 pub use answer::Kind;
 pub use building::build;
 pub use dimension::kind;
+pub use order::sort_arcs;
 pub use std::alloc::AllocError as OutOfMemory;

@@ -20,8 +20,9 @@ fn arc_cmp(a: &SArc, b: &SArc) -> Ordering
     }
 }
 
-// Puts arcs in order.
-pub(crate) fn sort_arcs(arcs: &mut Vec<SArc>)
+/// Puts arcs in the order of their normals, and of their sources where they have one normal. No two of them have both in
+/// common.
+pub fn sort_arcs(arcs: &mut Vec<SArc>)
     requires apart { AreApart arcs.old.items }
     ensures permutation { IsPermutation arcs.old.items arcs.new.items }
     ensures ordered { InOrder IsArcBelow arcs.new.items }

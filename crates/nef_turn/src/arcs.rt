@@ -1,14 +1,10 @@
 //! Turned arcs and sloops.
 
 ghost use Rattle.std.specs.Prelude.{◌≡◌, length, cond, option_map, IfOk, IfSome};
-ghost use Rattle.std.specs.List.Sorted.{IsPermutation};
-ghost use Rattle.std.specs.Ordering.{MatchOrdering};
 ghost use Rattle.nef_space.specs.Vectors.{IsNormal};
 ghost use Rattle.nef_geo.specs.Shapes.{vector_of};
-ghost use Rattle.law_sphere.specs.Least.{InOrder};
 ghost use Rattle.law_sphere.specs.Maps.{Shaped};
 ghost use Rattle.nef_smap.specs.Maps.{sloop_of, map_of};
-ghost use Rattle.nef_spair.specs.Arcs.{IsArcBelow, IsTwin, AreApart};
 ghost use Rattle.law_turns.specs.Maps.{IsTurnedOption};
 ghost use Rattle.nef_turn.specs.Images.{AreImages};
 ghost use Rattle.nef_turn.specs.Turning.{HasEnds, HaveEnds, IsArcImage, IsSloopImage, Renumbers, AreTurnedArcs};
@@ -16,10 +12,9 @@ ghost use Rattle.nef_turn.specs.Turning.{HasEnds, HaveEnds, IsArcImage, IsSloopI
 use crate::OutOfMemory;
 use crate::turn::Turn;
 use crate::vectors::turned_normal;
-use nef_geo::dir_cmp;
 use nef_smap::{SArc, SLoop, SphereMap};
+use nef_spair::sort_arcs;
 use std::alloc::Global;
-use std::cmp::Ordering;
 
 // Two values, in the other order where they are to be exchanged.
 fn exchanged_if<T: Copy>(exchange: bool, first: T, second: T) -> (T, T)
@@ -71,26 +66,6 @@ fn each_turned(
         images.push(turned_arc(turn, numbers, arc))?;
     }
     Ok(images)
-}
-
-// Compares the normals, and then the sources.
-fn arc_cmp(a: &SArc, b: &SArc) -> Ordering
-    ensures order { MatchOrdering result (IsArcBelow a.now b.now) (IsTwin a.now b.now) (IsArcBelow b.now a.now) }
-{
-    match dir_cmp(&a.normal, &b.normal) {
-        Ordering::Less => Ordering::Less,
-        Ordering::Equal => a.source.cmp(&b.source),
-        Ordering::Greater => Ordering::Greater,
-    }
-}
-
-// Puts arcs in the order of their normals and then of their sources.
-fn sort_arcs(arcs: &mut Vec<SArc>)
-    requires apart { AreApart arcs.old.items }
-    ensures permutation { IsPermutation arcs.old.items arcs.new.items }
-    ensures ordered { InOrder IsArcBelow arcs.new.items }
-{
-    arcs.sort_unstable_by(arc_cmp);
 }
 
 /// The turned arcs of the map, in order. `numbers` gives the new number of each svertex.
