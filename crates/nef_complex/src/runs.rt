@@ -3,10 +3,11 @@
 ghost use Rattle.std.specs.Prelude.{◌≡◌, ℕ, ◌<◌, length, ◌↔◌, IsTrue, IsNone, IfSome, IfOk};
 ghost use Rattle.nef_space.specs.Place.{normal_of};
 ghost use Rattle.nef_geo.specs.Shapes.{form_of, place_of};
-ghost use Rattle.nef_complex.specs.Index.{AreInOrder};
+ghost use Rattle.nef_complex.specs.Index.{AreInOrder, IsHolder};
 ghost use Rattle.nef_complex.specs.Runs.{IsRun, AreRuns, GoesOn, IsHolderIn, IsOnlyHolder};
 
 use crate::OutOfMemory;
+use crate::holding::holds;
 use nef_geo::{Plane, Point, Sign, side};
 use std::alloc::Global;
 
@@ -41,8 +42,21 @@ pub(crate) fn run_ends(alloc: Global, carriers: &[Plane]) -> Result<Vec<usize>, 
     Ok(ends)
 }
 
+// The number of the carrier, where it holds the point.
+fn holder_alone(carriers: &[Plane], number: usize, point: &Point) -> Option<usize>
+    requires within { number < length carriers.now }
+    ensures holder { IfSome result (λ k. (k ≡ number) × IsHolder carriers.now (place_of point.now) (place_of point.now) k) }
+    ensures none { IsNone result → IsHolder carriers.now (place_of point.now) (place_of point.now) number → ⊥ }
+{
+    if holds(&carriers[number], point) {
+        Some(number)
+    } else {
+        None
+    }
+}
+
 /// The number of the carrier that holds the point, of the run from number `first` to before number `past`, by halving:
-/// at the point the forms of parallel carriers rise with their last numbers.
+/// at the point the forms of parallel carriers rise with their last numbers. Most runs have one carrier alone.
 pub(crate) fn holder_in(
     carriers: &[Plane],
     first: usize,
@@ -54,6 +68,9 @@ pub(crate) fn holder_in(
     ensures holder { IfSome result (λ k. IsOnlyHolder carriers.now first past (place_of point.now) k) }
     ensures none { IsNone result → (k : ℕ) → IsHolderIn carriers.now first past (place_of point.now) k → ⊥ }
 {
+    if past - first == 1 {
+        return holder_alone(carriers, first, point);
+    }
     let mut low = first;
     let mut high = past;
     while low < high {

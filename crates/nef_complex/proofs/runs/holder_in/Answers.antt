@@ -1,4 +1,4 @@
-use Rattle.std.proofs.Common.{◌+◌, ◌-◌, ◌/◌, ℕ, length, List, arith, refl, sym}
+use Rattle.std.proofs.Common.{◌≡◌, ◌+◌, ◌-◌, ◌/◌, ℕ, length, List, arith, refl, sym, subst}
 use Rattle.std.proofs.lemmas.Option.{slice_get_read}
 use Rattle.nef_space.specs.Place.{form_at}
 use Rattle.nef_geo.specs.Shapes.{form_of, place_of}
@@ -6,8 +6,17 @@ use Rattle.nef_geo.specs.declared.plane.Plane.{Plane}
 use Rattle.nef_geo.specs.declared.sign.Sign.TheVariants.{Minus, Plus}
 use Rattle.nef_geo.proofs.Signs.{zero_sign}
 use Rattle.nef_smap.proofs.Axes.{plus-of, minus-of}
+use Rattle.nef_complex.specs.Index.{IsHolder}
 use Rattle.nef_complex.proofs.Parallel.{negative-more, positive-more, found-holder, no-holder}
 use Rattle.nef_complex.proofs.runs.holder_in.Goals as goal
+
+pub returns-then-past-first-eq1-clause-none : goal.returns-then-past-first-eq1-clause-none
+returns-then-past-first-eq1-clause-none c z k (from, to, holds) =
+    let p = place_of c.args.point.now in
+    let one = c.if-past-first-eq1.true in
+    let o = c.requires.run.ordered in
+    let e : k ≡ c.args.first = omega arith in
+    c.holder_alone.ensures.none z (subst (IsHolder c.args.carriers.now p p) e holds)
 
 pub loop-low-init : goal.loop-low-init
 loop-low-init c = record {
