@@ -1,5 +1,5 @@
 -- The board when it is made.
-use Rattle.std.proofs.Common.{◌≡◌, ℕ, zero, suc, ◌*◌, ◌<◌, ◌≤◌, List, [], ◌∷◌, length, refl, ap, sym, ◌∙◌, Option, Some, None, slice_get, arith, subst, replicate, true, false}
+use Rattle.std.proofs.Common.{◌≡◌, ℕ, zero, suc, ◌*◌, ◌<◌, ◌≤◌, List, [], ◌∷◌, length, refl, ap, sym, ◌∙◌, Option, Some, None, slice_get, arith, subst, replicate}
 use Rattle.std.proofs.lemmas.List.{length-replicate}
 use Rattle.std.proofs.lemmas.Option.{slice_get_within}
 use Rattle.atomic_table.specs.Table.{opening}
@@ -12,10 +12,12 @@ use Rattle.nef_core.proofs.Places.{get_replicate, only_one}
 use Rattle.nef_core.proofs.Deposits.{open_not_held, same_slot}
 use Rattle.nef_core.specs.Results.{HasResult}
 use Rattle.nef_board.specs.declared.state.BoardState.{BoardState}
-use Rattle.nef_board.specs.declared.view.View.{View}
+use Rattle.nef_board.specs.declared.view.LockView.{LockView}
 use Rattle.nef_board.specs.Sound.{owed, Sound, IsSound}
 use Rattle.nef_board.specs.Views.{first_view}
-use Rattle.nef_board.specs.Rule.{Fits, SawIs, Kept}
+use Rattle.nef_core.specs.Passes.{Fits}
+use Rattle.nef_core.proofs.Passes.{fits_first}
+use Rattle.nef_board.specs.Rule.{SawIs, Kept}
 
 owed_start : (n : ℕ) → owed 0 (replicate n Open) ≡ 2 * n
 owed_start zero = refl
@@ -23,9 +25,6 @@ owed_start (suc n) = let k = owed_start n in omega arith
 
 none_not_out : {Out : Type 0} (out : Out) → Some None ≡ Some (Some out) → ⊥
 none_not_out out e = cc
-
-false_not_true : false ≡ true → ⊥
-false_not_true e = cc
 
 all_open : (n job : ℕ) (x : Slot) → slice_get (replicate n Open) job ≡ Some x → x ≡ Open
 all_open n job x e = same_slot x Open (sym e ∙ get_replicate n job Open (let k = slice_get_within (replicate n Open) job x e in let l = length-replicate n Open in omega arith))
@@ -77,18 +76,8 @@ module _ {Out : Type 0} where
               absurd (open_not_held n (ap Some (sym (all_open jobs job (InHand n) e'))));
           views = λ place u h alive.
               let o = only_one place (first_view jobs seats) u h in
-              subst (λ (z : View Out). Fits jobs seats b.machine 1 place z × SawIs None b place z) o.1 (
-                record {
-                  number = sym o.0;
-                  jobs_are = refl;
-                  hand = tt;
-                  deposits = tt;
-                  ended = λ e. absurd (false_not_true e);
-                  only_first = λ n. absurd (n o.0);
-                  room = λ q. (refl, omega arith);
-                },
-                refl,
-              );
+              let P : ℕ → LockView Out → Type 0 = λ p z. Fits jobs seats b.machine 1 p z.known × SawIs None b p z in
+              subst (λ (z : LockView Out). P place z) o.1 (subst (λ (p : ℕ). P p (first_view jobs seats)) (sym o.0) (fits_first jobs seats b.machine some_seat, refl));
           there = tt;
           few = some_seat;
         },

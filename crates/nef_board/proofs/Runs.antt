@@ -1,5 +1,5 @@
 -- The board shows the replay of the history that it keeps.
-use Rattle.std.proofs.Common.{◌≡◌, ℕ, ap, sym, ◌∙◌, Option, Some, None, slice_get, slice_set, arith, subst, IfSome}
+use Rattle.std.proofs.Common.{◌≡◌, ℕ, length, ap, sym, ◌∙◌, Option, Some, None, slice_get, slice_set, arith, subst, IfSome}
 use Rattle.std.proofs.lemmas.List.{set-get_or}
 use mathlib.Core.Option.{some, none, some-injective, some-ne-none}
 use lib.ListN.{get_elem?}
@@ -13,8 +13,9 @@ use Rattle.nef_core.specs.declared.machine.Slot.TheVariants.{InHand}
 use Rattle.nef_core.specs.declared.machine.Event.TheVariants.{Claim, Deposit, GiveBack}
 use Rattle.nef_core.proofs.Schedules.{claim_answers, past_answers, past_is_same}
 use Rattle.nef_core.proofs.Accounts.{accounted}
+use Rattle.nef_core.proofs.Passes.{held_in}
 use Rattle.nef_board.specs.declared.state.BoardState.{BoardState}
-use Rattle.nef_board.specs.declared.view.View.{View}
+use Rattle.nef_board.specs.declared.view.LockView.{LockView}
 use Rattle.nef_board.specs.Rule.{IsPlaced, Shows}
 use Rattle.nef_board.specs.Views.{seeing, taken_in}
 use Rattle.nef_board.specs.Laws.{IsSeat, SplitIsNothing, JoinIsNothing, TakingIsNothing, FailingIsNothing, TurnIsAway, FreeingIsClaim, FreeingIsNone, FreeingIsDeposit, FreeingIsGiveBack, BoardRuns}
@@ -24,7 +25,7 @@ same_state : {Out : Type 0} (a b : BoardState Out) → Some a ≡ Some b → a �
 same_state a b e = cc
 
 -- a state that is home is the board's
-home_is : {Out : Type 0} (turn : Option ℕ) (a b : BoardState Out) (s : State (Option (BoardState Out)) (View Out)) → IsPlaced turn a s → get_elem? s.homes 0 ≡ some (some (Some b)) → a ≡ b
+home_is : {Out : Type 0} (turn : Option ℕ) (a b : BoardState Out) (s : State (Option (BoardState Out)) (LockView Out)) → IsPlaced turn a s → get_elem? s.homes 0 ≡ some (some (Some b)) → a ≡ b
 home_is None a b s p home = same_state a b (some-injective (Some a) (Some b) (some-injective (some (Some a)) (some (Some b)) (sym p.1 ∙ home)))
 home_is (Some k) a b s p home = absurd (some-ne-none (Some b) (sym (some-injective none (some (Some b)) (sym p.1 ∙ home))))
 
@@ -49,11 +50,11 @@ module _ {Out : Type 0} (right : ℕ → Out → Type 0) where
   pub turn_is_away : TurnIsAway right
   turn_is_away jobs seats k b s sh = sh.placed.1
 
-  number_is : (jobs seats : ℕ) (turn : Option ℕ) (b : BoardState Out) (s : State (Option (BoardState Out)) (View Out)) (k : ℕ) (v : View Out) → Shows right jobs seats turn b s → IsSeat s k (seeing v b) → k ≡ v.number
+  number_is : (jobs seats : ℕ) (turn : Option ℕ) (b : BoardState Out) (s : State (Option (BoardState Out)) (LockView Out)) (k : ℕ) (v : LockView Out) → Shows right jobs seats turn b s → IsSeat s k (seeing v b) → k ≡ v.known.number
   number_is jobs seats turn b s k v sh seat = sym (sh.views k (seeing v b) seat.0 seat.1).0.number
 
-  in_hand : (jobs seats : ℕ) (turn : Option ℕ) (b : BoardState Out) (s : State (Option (BoardState Out)) (View Out)) (k : ℕ) (v : View Out) (job : ℕ) → Shows right jobs seats turn b s → IsSeat s k (seeing v b) → v.hand ≡ Some job → slice_get b.machine.slots job ≡ Some (InHand k)
-  in_hand jobs seats turn b s k v job sh seat hand = subst (λ (h : Option ℕ). IfSome h (λ i. slice_get b.machine.slots i ≡ Some (InHand k))) hand (sh.views k (seeing v b) seat.0 seat.1).0.hand
+  in_hand : (jobs seats : ℕ) (turn : Option ℕ) (b : BoardState Out) (s : State (Option (BoardState Out)) (LockView Out)) (k : ℕ) (v : LockView Out) (job : ℕ) → Shows right jobs seats turn b s → IsSeat s k (seeing v b) → v.known.hand ≡ Some job → slice_get b.machine.slots job ≡ Some (InHand k)
+  in_hand jobs seats turn b s k v job sh seat hand = held_in jobs seats b.machine (length s.views) k v.known job hand (sh.views k (seeing v b) seat.0 seat.1).0
 
   pub freeing_is_claim : FreeingIsClaim right
   freeing_is_claim jobs seats turn b b' s k v sh seat hand sound machine results free = (
@@ -84,10 +85,10 @@ module _ {Out : Type 0} (right : ℕ → Out → Type 0) where
   )
 
   -- the same for the state that the rule has
-  runs_at : (jobs seats : ℕ) (turn : Option ℕ) (b : BoardState Out) (s : State (Option (BoardState Out)) (View Out)) → Shows right jobs seats turn b s
+  runs_at : (jobs seats : ℕ) (turn : Option ℕ) (b : BoardState Out) (s : State (Option (BoardState Out)) (LockView Out)) → Shows right jobs seats turn b s
       → (b.machine ≡ replay (start jobs) b.history.items) × IsLegal (start jobs) b.history.items × ResultsFit b.machine.slots b.results.items
       × ((job : ℕ) (out : Out) → slice_get b.results.items job ≡ Some (Some out) → right job out)
-      × ((w : ℕ) (v : View Out) → IsSeat s w v → IsAccounted jobs b.history.items w v.hand v.ended v.deposits)
+      × ((w : ℕ) (v : LockView Out) → IsSeat s w v → IsAccounted jobs b.history.items w v.known.hand v.known.ended v.known.deposits)
   runs_at jobs seats turn b s sh =
       let replayed : b.machine ≡ replay (start jobs) b.history.items = sh.sound.replayed ∙ ap (λ (n : ℕ). replay (start n) b.history.items) sh.jobs_are in
       let legal : IsLegal (start jobs) b.history.items = subst (λ (n : ℕ). IsLegal (start n) b.history.items) sh.jobs_are sh.sound.legal in (
@@ -97,14 +98,14 @@ module _ {Out : Type 0} (right : ℕ → Out → Type 0) where
         sh.fit,
         (λ w v seat.
             let fv = (sh.views w v seat.0 seat.1).0 in
-            let P : Machine → Type 0 = λ m. IfSome v.hand (λ job. slice_get m.slots job ≡ Some (InHand w)) in
-            accounted jobs b.history.items w v.hand v.ended v.deposits legal
+            let P : Machine → Type 0 = λ m. IfSome v.known.hand (λ job. slice_get m.slots job ≡ Some (InHand w)) in
+            accounted jobs b.history.items w v.known.hand v.known.ended v.known.deposits legal
             (subst P replayed fv.hand)
             (λ job held.
             let o = sh.held job w (ap (λ (m : Machine). slice_get m.slots job) replayed ∙ held) in
             let same : v ≡ o.0 = some-injective v o.0 (sym seat.0 ∙ o.1) in
-            ap (λ (z : View Out). z.hand) same ∙ o.3)
-            (subst (λ (m : Machine). AllDone m.slots v.deposits) replayed fv.deposits)
+            ap (λ (z : LockView Out). z.known.hand) same ∙ o.3)
+            (subst (λ (m : Machine). AllDone m.slots v.known.deposits) replayed fv.deposits)
             (λ e. sym (ap (λ (m : Machine). m.next) replayed) ∙ fv.ended e)),
       )
 

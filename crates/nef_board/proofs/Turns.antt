@@ -15,13 +15,16 @@ use Rattle.nef_core.specs.declared.machine.Slot.{Slot}
 use Rattle.nef_core.specs.declared.machine.Slot.TheVariants.{Open, InHand, Done}
 use Rattle.nef_core.specs.declared.machine.Event.TheVariants.{Claim, Deposit, GiveBack}
 use Rattle.nef_core.proofs.Places.{get_set_here, get_set_other, same_or_not, within, at_length, below_last}
-use Rattle.nef_core.proofs.Deposits.{open_not_held, open_not_done, held_not_done, done_not_held, held_by, done_moved, done_append, not_among, among, keeps_done, hand_moved}
+use Rattle.nef_core.proofs.Deposits.{open_not_held, open_not_done, held_not_done, done_not_held, held_by, not_among, among}
 use Rattle.nef_core.proofs.Schedules.{claimed, past_is_same}
 use Rattle.nef_board.specs.declared.state.BoardState.{BoardState}
-use Rattle.nef_board.specs.declared.view.View.{View}
+use Rattle.nef_core.specs.declared.view.View.{View}
+use Rattle.nef_core.specs.Passes.{deposited, Fits}
+use Rattle.nef_core.proofs.Passes.{fits_cut, fits_new, fits_beside, fits_taken_in, fits_at_end, fits_holding, fits_deposited, fits_gave_back, fits_moved, held_in}
+use Rattle.nef_board.specs.declared.view.LockView.{LockView}
 use Rattle.nef_board.specs.Sound.{IsSound}
 use Rattle.nef_board.specs.Views.{seeing, claimed_view, ended_view, deposited_view, back_view, job_in, cut, new_view, taken_in, spent}
-use Rattle.nef_board.specs.Rule.{Fits, IsPlaced, IsThere, SawIs, Shows, Kept, Found, Took, Claimed, Ended, Deposited, GaveBack}
+use Rattle.nef_board.specs.Rule.{IsPlaced, IsThere, SawIs, Shows, Kept, Found, Took, Claimed, Ended, Deposited, GaveBack}
 use Rattle.nef_board.proofs.Sounds.{is_fresh}
 use Rattle.nef_core.specs.Results.{AllDone, ResultsFit, IsClosedWith}
 use Rattle.nef_core.specs.Views.{has_job}
@@ -49,24 +52,23 @@ pub not_among_next : (m : Machine) (ds : List (ℕ × ℕ)) → slice_get m.slot
 not_among_next m ds at h = not_among m.slots m.next Open ds at open_not_done h
 
 module _ {Out : Type 0} (right : ℕ → Out → Type 0) (jobs seats : ℕ) where
-  not_seen : (v : View Out) (b : BoardState Out) → v.saw ≡ None → v.saw ≡ Some b → ⊥
+  not_seen : (v : LockView Out) (b : BoardState Out) → v.saw ≡ None → v.saw ≡ Some b → ⊥
   not_seen v b p q = cc
 
   -- a fact of each live pass but one, and of that one afterwards
-  each_view : (P : ℕ → View Out → Type 0) (views : List (View Out)) (k : ℕ) (w : View Out) → P k w → ((place : ℕ) (u : View Out) → place ≢ k → get_elem? views place ≡ some u → u.live ≡ true → P place u)
-      → (place : ℕ) (u : View Out) → get_elem? (set views k w) place ≡ some u → u.live ≡ true → P place u
+  each_view : (P : ℕ → LockView Out → Type 0) (views : List (LockView Out)) (k : ℕ) (w : LockView Out) → P k w → ((place : ℕ) (u : LockView Out) → place ≢ k → get_elem? views place ≡ some u → u.known.live ≡ true → P place u)
+      → (place : ℕ) (u : LockView Out) → get_elem? (set views k w) place ≡ some u → u.known.live ≡ true → P place u
   each_view P views k w mine others place u h live =
       elim (at_set views k place w u h) [
-        | inl q ↦ subst (λ (z : View Out). P place z) q.1 (subst (λ (p : ℕ). P p w) (sym q.0) mine)
+        | inl q ↦ subst (λ (z : LockView Out). P place z) q.1 (subst (λ (p : ℕ). P p w) (sym q.0) mine)
         | inr q ↦ others place u q.0 q.1 live
       ]
 
   -- the turn is taken
-  pub takes_turn : (s : State (Option (BoardState Out)) (View Out)) (k : ℕ) (v : View Out) (b : BoardState Out) → Shows right jobs seats None b s → get_elem? s.views k ≡ some v → v.live ≡ true → Shows right jobs seats (Some k) b (stepped s 0 1 k [] (seeing v b) (takes 0 (Some b)))
+  pub takes_turn : (s : State (Option (BoardState Out)) (LockView Out)) (k : ℕ) (v : LockView Out) (b : BoardState Out) → Shows right jobs seats None b s → get_elem? s.views k ≡ some v → v.known.live ≡ true → Shows right jobs seats (Some k) b (stepped s 0 1 k [] (seeing v b) (takes 0 (Some b)))
   takes_turn s k v b sh at live =
       let fv = sh.views k v at live in
       let len : length (set s.views k (seeing v b)) ≡ length s.views = length-set s.views k (seeing v b) in
-      let f = fv.0 in
       record {
         words = length-set s.words 0 1 ∙ sh.words;
         homes = length-set s.homes 0 none ∙ sh.homes;
@@ -79,11 +81,11 @@ module _ {Out : Type 0} (right : ℕ → Out → Type 0) (jobs seats : ℕ) wher
             elim (same_or_not n k) [
               | inl e ↦
                   let same : v ≡ o.0 = some-injective v o.0 (sym at ∙ (ap (get_elem? s.views) (sym e) ∙ o.1)) in
-                  (seeing v b, ap (get_elem? (set s.views k (seeing v b))) e ∙ set_here s.views k (seeing v b) (within s.views k v at), live, ap (λ (z : View Out). z.hand) same ∙ o.3)
+                  (seeing v b, ap (get_elem? (set s.views k (seeing v b))) e ∙ set_here s.views k (seeing v b) (within s.views k v at), live, ap (λ (z : LockView Out). z.known.hand) same ∙ o.3)
               | inr ne ↦ (o.0, set_else s.views k n (seeing v b) ne ∙ o.1, o.2, o.3)
             ];
-        views = λ place u h alive. rw len (each_view (λ p z. Fits jobs seats b.machine (length s.views) p z × SawIs (Some k) b p z) s.views k (seeing v b)
-            (record { number = f.number; jobs_are = f.jobs_are; hand = f.hand; deposits = f.deposits; ended = f.ended; only_first = f.only_first; room = f.room }, ((λ e. refl), (λ n. absurd (n refl))))
+        views = λ place u h alive. rw len (each_view (λ p z. Fits jobs seats b.machine (length s.views) p z.known × SawIs (Some k) b p z) s.views k (seeing v b)
+            (fv.0, ((λ e. refl), (λ n. absurd (n refl))))
             (λ p z n there up. let o = sh.views p z there up in (o.0, ((λ e. absurd (n e)), (λ m. o.1))))
             place u h alive);
         there = rw len (within s.views k v at);
@@ -91,8 +93,8 @@ module _ {Out : Type 0} (right : ℕ → Out → Type 0) (jobs seats : ℕ) wher
       }
 
   -- a try at the turn, by what the word is
-  tries : (s : State (Option (BoardState Out)) (View Out)) (k : ℕ) (v : View Out) (turn : Option ℕ) (b : BoardState Out) → Shows right jobs seats turn b s → get_elem? s.views k ≡ some v → v.live ≡ true
-      → (w : View Out) × (a : Act (Option (BoardState Out))) × Valid s.homes [] a × Kept jobs seats right (stepped s 0 (either (slice_index s.words 0 == 0) 1 (slice_index s.words 0)) k [] w a) × MatchBool (slice_index s.words 0 == 0) ((c : BoardState Out) × (w ≡ seeing v c) × (carried_after [] a ≡ (0, Some c) ∷ []) × Found v c) ((w ≡ v) × (carried_after [] a ≡ []))
+  tries : (s : State (Option (BoardState Out)) (LockView Out)) (k : ℕ) (v : LockView Out) (turn : Option ℕ) (b : BoardState Out) → Shows right jobs seats turn b s → get_elem? s.views k ≡ some v → v.known.live ≡ true
+      → (w : LockView Out) × (a : Act (Option (BoardState Out))) × Valid s.homes [] a × Kept jobs seats right (stepped s 0 (either (slice_index s.words 0 == 0) 1 (slice_index s.words 0)) k [] w a) × MatchBool (slice_index s.words 0 == 0) ((c : BoardState Out) × (w ≡ seeing v c) × (carried_after [] a ≡ (0, Some c) ∷ []) × Found v.known c) ((w ≡ v) × (carried_after [] a ≡ []))
   tries s k v None b sh at live =
       let is : (slice_index s.words 0 == 0) ≡ true = let z = sh.placed.0 in grind (arith, nat_tests) in
       let f = (sh.views k v at live).0 in (
@@ -107,7 +109,7 @@ module _ {Out : Type 0} (right : ℕ → Out → Type 0) (jobs seats : ℕ) wher
           record {
             sound = sh.sound;
             jobs_are = sh.jobs_are ∙ sym f.jobs_are;
-            hand = subst (λ (n : ℕ). IfSome v.hand (λ job. slice_get b.machine.slots job ≡ Some (InHand n))) (sym f.number) f.hand;
+            hand = subst (λ (n : ℕ). IfSome v.known.hand (λ job. slice_get b.machine.slots job ≡ Some (InHand n))) (sym f.number) f.hand;
             deposits = f.deposits;
           },
         ),
@@ -118,7 +120,7 @@ module _ {Out : Type 0} (right : ℕ → Out → Type 0) (jobs seats : ℕ) wher
       let same_views : slice_set s.views k v ≡ s.views = set_again s.views k v at in
       (v, keeps, tt, rw (is, same_words, same_views) (Some other, b, sh), rw is (refl, refl))
 
-  pub takes_at : (slots k : ℕ) (v : View Out) (l : List (ℕ × Option (BoardState Out))) → l ≡ [] → v.live ≡ true → Allows (Kept jobs seats right) slots k (v, l) 0 (λ n. either (n == 0) 1 n) (Took (step slots 0 0 1 none) (v, l))
+  pub takes_at : (slots k : ℕ) (v : LockView Out) (l : List (ℕ × Option (BoardState Out))) → l ≡ [] → v.known.live ≡ true → Allows (Kept jobs seats right) slots k (v, l) 0 (λ n. either (n == 0) 1 n) (Took (step slots 0 0 1 none) (v, l))
   takes_at slots k v l e live = subst (λ c. Allows (Kept jobs seats right) slots k (v, c) 0 (λ n. either (n == 0) 1 n) (Took (step slots 0 0 1 none) (v, c))) (sym e) (λ s kept len at small. tries s k v kept.0 kept.1 kept.2 at live)
 
   none_not_this : (b c : BoardState Out) (o : Option (BoardState Out)) → o ≡ None → o ≡ Some c → ⊥
@@ -128,7 +130,7 @@ module _ {Out : Type 0} (right : ℕ → Out → Type 0) (jobs seats : ℕ) wher
   this_state b c o p q = cc
 
   -- who has seen a state has the turn, and it is the state of the board
-  mine_is : (turn : Option ℕ) (b c : BoardState Out) (k : ℕ) (v : View Out) → SawIs turn b k v → v.saw ≡ Some c → (b ≡ c) × ((place : ℕ) (u : View Out) → place ≢ k → SawIs turn b place u → u.saw ≡ None)
+  mine_is : (turn : Option ℕ) (b c : BoardState Out) (k : ℕ) (v : LockView Out) → SawIs turn b k v → v.saw ≡ Some c → (b ≡ c) × ((place : ℕ) (u : LockView Out) → place ≢ k → SawIs turn b place u → u.saw ≡ None)
   mine_is None b c k v is saw = absurd (none_not_this b c v.saw is saw)
   mine_is (Some n) b c k v is saw =
       elim (same_or_not k n) [
@@ -137,12 +139,12 @@ module _ {Out : Type 0} (right : ℕ → Out → Type 0) (jobs seats : ℕ) wher
       ]
 
   -- the turn is freed, with another state
-  frees_turn : (s : State (Option (BoardState Out)) (View Out)) (turn : Option ℕ) (k : ℕ) (v w : View Out) (b b' : BoardState Out) → Shows right jobs seats turn b s → get_elem? s.views k ≡ some v → v.live ≡ true → v.saw ≡ Some b
-      → w.live ≡ true → w.saw ≡ None → IsSound b' → length b'.machine.slots ≡ jobs
+  frees_turn : (s : State (Option (BoardState Out)) (LockView Out)) (turn : Option ℕ) (k : ℕ) (v w : LockView Out) (b b' : BoardState Out) → Shows right jobs seats turn b s → get_elem? s.views k ≡ some v → v.known.live ≡ true → v.saw ≡ Some b
+      → w.known.live ≡ true → w.saw ≡ None → IsSound b' → length b'.machine.slots ≡ jobs
       → ((job : ℕ) (out : Out) → slice_get b'.results.items job ≡ Some (Some out) → right job out)
-      → Fits jobs seats b'.machine (length s.views) k w
-      → ((place : ℕ) (u : View Out) → place ≢ k → Fits jobs seats b.machine (length s.views) place u → Fits jobs seats b'.machine (length s.views) place u)
-      → ((job n : ℕ) → slice_get b'.machine.slots job ≡ Some (InHand n) → ((n ≡ k) × (w.hand ≡ Some job)) ⊎ ((slice_get b.machine.slots job ≡ Some (InHand n)) × (v.hand ≡ Some job → w.hand ≡ Some job)))
+      → Fits jobs seats b'.machine (length s.views) k w.known
+      → ((place : ℕ) (u : LockView Out) → place ≢ k → Fits jobs seats b.machine (length s.views) place u.known → Fits jobs seats b'.machine (length s.views) place u.known)
+      → ((job n : ℕ) → slice_get b'.machine.slots job ≡ Some (InHand n) → ((n ≡ k) × (w.known.hand ≡ Some job)) ⊎ ((slice_get b.machine.slots job ≡ Some (InHand n)) × (v.known.hand ≡ Some job → w.known.hand ≡ Some job)))
       → Shows right jobs seats None b' (stepped s 0 0 k ((0, Some b') ∷ []) w gives)
   frees_turn s turn k v w b b' sh at live saw alive away sound count fit mine others held =
       let fv = sh.views k v at live in
@@ -162,11 +164,11 @@ module _ {Out : Type 0} (right : ℕ → Out → Type 0) (jobs seats : ℕ) wher
               elim (same_or_not n k) [
                 | inl e ↦
                     let same : v ≡ o.0 = some-injective v o.0 (sym at ∙ (ap (get_elem? s.views) (sym e) ∙ o.1)) in
-                    (w, ap (get_elem? (set s.views k w)) e ∙ set_here s.views k w (within s.views k v at), alive, q.1 (ap (λ (z : View Out). z.hand) same ∙ o.3))
+                    (w, ap (get_elem? (set s.views k w)) e ∙ set_here s.views k w (within s.views k v at), alive, q.1 (ap (λ (z : LockView Out). z.known.hand) same ∙ o.3))
                 | inr ne ↦ (o.0, set_else s.views k n w ne ∙ o.1, o.2, o.3)
               ]
         ];
-        views = λ place u h up. rw len (each_view (λ p z. Fits jobs seats b'.machine (length s.views) p z × (z.saw ≡ None)) s.views k w
+        views = λ place u h up. rw len (each_view (λ p z. Fits jobs seats b'.machine (length s.views) p z.known × (z.saw ≡ None)) s.views k w
             (mine, away)
             (λ p z n there z_up. let o = sh.views p z there z_up in (others p z n o.0, alone p z n o.1))
             place u h up);
@@ -174,50 +176,30 @@ module _ {Out : Type 0} (right : ℕ → Out → Type 0) (jobs seats : ℕ) wher
         few = rw len sh.few;
       }
 
-  fits_moved : (m : Machine) (next i : ℕ) (x y : Slot) (count place : ℕ) (u : View Out) → slice_get m.slots i ≡ Some y → (Some y ≡ Some (InHand place) → ⊥) → ((w : ℕ) → Some y ≡ Some (Done w) → ⊥) → (m.next ≡ jobs → next ≡ jobs)
-      → Fits jobs seats m count place u → Fits jobs seats (record { next = next; slots = slice_set m.slots i x }) count place u
-  fits_moved m next i x y count place u at n d end f = record {
-    number = f.number;
-    jobs_are = f.jobs_are;
-    hand = hand_moved m.slots i place x y u.hand at n f.hand;
-    deposits = done_moved m.slots (slice_set m.slots i x) u.deposits (keeps_done m.slots i x y at d) f.deposits;
-    ended = λ e. end (f.ended e);
-    only_first = f.only_first;
-    room = f.room;
-  }
-
   -- the turn is freed after a claim that got a job
-  pub claim_freed : (s : State (Option (BoardState Out)) (View Out)) (turn : Option ℕ) (k : ℕ) (v : View Out) (b b' : BoardState Out) → Shows right jobs seats turn b s → get_elem? s.views k ≡ some (seeing v b) → v.live ≡ true → v.hand ≡ None
-      → IsSound b' → b'.machine ≡ after b.machine (Claim v.number) → b'.results.items ≡ b.results.items → b.machine.next < length b.machine.slots
+  pub claim_freed : (s : State (Option (BoardState Out)) (LockView Out)) (turn : Option ℕ) (k : ℕ) (v : LockView Out) (b b' : BoardState Out) → Shows right jobs seats turn b s → get_elem? s.views k ≡ some (seeing v b) → v.known.live ≡ true → v.known.hand ≡ None
+      → IsSound b' → b'.machine ≡ after b.machine (Claim v.known.number) → b'.results.items ≡ b.results.items → b.machine.next < length b.machine.slots
       → Shows right jobs seats None b' (stepped s 0 0 k ((0, Some b') ∷ []) (claimed_view (seeing v b)) gives)
   claim_freed s turn k v b b' sh at live hand sound machine results free =
       let m : Machine = b.machine in
       let f = (sh.views k (seeing v b) at live).0 in
       let is : b'.machine ≡ record { next = m.next + 1; slots = slice_set m.slots m.next (InHand k) } = machine ∙ (ap (λ (n : ℕ). after m (Claim n)) f.number ∙ claimed m k free) in
       let open_there : slice_get m.slots m.next ≡ Some Open = is_fresh m b.history.items sh.sound.replayed sh.sound.legal m.next (omega arith) free in
-      let P : Machine → Type 0 = λ z. Fits jobs seats z (length s.views) k (claimed_view (seeing v b)) in
+      let P : Machine → Type 0 = λ z. Fits jobs seats z (length s.views) k (claimed_view (seeing v b)).known in
       let low : (m.next ≡ jobs → m.next + 1 ≡ jobs) = λ e. let c = sh.jobs_are in absurd (omega arith) in
       frees_turn s turn k (seeing v b) (claimed_view (seeing v b)) b b' sh at live refl live refl sound
       (ap (λ (z : Machine). length z.slots) is ∙ (length-set m.slots m.next (InHand k) ∙ sh.jobs_are))
       (λ job out e. sh.fit job out (ap (λ (z : List (Option Out)). slice_get z job) (sym results) ∙ e))
-      (subst P (sym is) (record {
-        number = f.number;
-        jobs_are = f.jobs_are;
-        hand = get_set_here m.slots m.next (InHand k) free;
-        deposits = done_moved m.slots (slice_set m.slots m.next (InHand k)) v.deposits (keeps_done m.slots m.next (InHand k) Open open_there open_not_done) f.deposits;
-        ended = λ e. low (f.ended e);
-        only_first = f.only_first;
-        room = f.room;
-      }))
-      (λ place u apart o. subst (λ (z : Machine). Fits jobs seats z (length s.views) place u) (sym is) (fits_moved m (m.next + 1) m.next (InHand k) Open (length s.views) place u open_there (open_not_held place) open_not_done low o))
+      (subst P (sym is) (fits_holding jobs seats m (length s.views) k v.known sh.jobs_are open_there f))
+      (λ place u apart o. subst (λ (z : Machine). Fits jobs seats z (length s.views) place u.known) (sym is) (fits_moved jobs seats m (m.next + 1) m.next (InHand k) Open (length s.views) place u.known open_there (open_not_held place) open_not_done low o))
       (λ job n e.
       let e' : slice_get (slice_set m.slots m.next (InHand k)) job ≡ Some (InHand n) = ap (λ (z : Machine). slice_get z.slots job) (sym is) ∙ e in
       elim (same_or_not job m.next) [
         | inl q ↦ inl (held_by n k (sym e' ∙ (ap (slice_get (slice_set m.slots m.next (InHand k))) q ∙ get_set_here m.slots m.next (InHand k) free)), ap Some (sym q))
-        | inr q ↦ inr (sym (get_set_other m.slots m.next job (InHand k) q) ∙ e', (λ h. absurd (no_hand v.hand job hand h)))
+        | inr q ↦ inr (sym (get_set_other m.slots m.next job (InHand k) q) ∙ e', (λ h. absurd (no_hand v.known.hand job hand h)))
       ])
 
-  pub claims_at : (slots k : ℕ) (v : View Out) (b b' : BoardState Out) → v.live ≡ true → v.hand ≡ None → IsSound b' → b'.machine ≡ after b.machine (Claim v.number) → b'.results.items ≡ b.results.items → b.machine.next < length b.machine.slots
+  pub claims_at : (slots k : ℕ) (v : LockView Out) (b b' : BoardState Out) → v.known.live ≡ true → v.known.hand ≡ None → IsSound b' → b'.machine ≡ after b.machine (Claim v.known.number) → b'.results.items ≡ b.results.items → b.machine.next < length b.machine.slots
       → Allows (Kept jobs seats right) slots k (seeing v b, (0, Some b') ∷ []) 0 (λ n. 0) (λ n. Claimed (step slots 0 0 0 none) (seeing v b, (0, Some b') ∷ []) 0)
   claims_at slots k v b b' live hand sound machine results free s kept len at small =
       let saw = (kept.2.views k (seeing v b) at live).1 in
@@ -226,14 +208,14 @@ module _ {Out : Type 0} (right : ℕ → Out → Type 0) (jobs seats : ℕ) wher
       (claimed_view (seeing v b), gives, tt, (None, b', claim_freed s kept.0 k v b b' sh at live hand sound machine results free), (refl, refl))
 
   -- the same, with what the code knows as equations
-  pub claims_of : (slots k : ℕ) (u : View Out) (l : List (ℕ × Option (BoardState Out))) (v : View Out) (b b' : BoardState Out) → u ≡ seeing v b → l ≡ (0, Some b') ∷ [] → v.live ≡ true → v.hand ≡ None → IsSound b' → b'.machine ≡ after b.machine (Claim v.number) → b'.results.items ≡ b.results.items → b.machine.next < length b.machine.slots
+  pub claims_of : (slots k : ℕ) (u : LockView Out) (l : List (ℕ × Option (BoardState Out))) (v : LockView Out) (b b' : BoardState Out) → u ≡ seeing v b → l ≡ (0, Some b') ∷ [] → v.known.live ≡ true → v.known.hand ≡ None → IsSound b' → b'.machine ≡ after b.machine (Claim v.known.number) → b'.results.items ≡ b.results.items → b.machine.next < length b.machine.slots
       → Allows (Kept jobs seats right) slots k (u, l) 0 (λ n. 0) (λ n. Claimed (step slots 0 0 0 none) (u, l) 0)
   claims_of slots k u l v b b' e q live hand sound machine results free =
-      let P : View Out → List (ℕ × Option (BoardState Out)) → Type 0 = λ z c. Allows (Kept jobs seats right) slots k (z, c) 0 (λ n. 0) (λ n. Claimed (step slots 0 0 0 none) (z, c) 0) in
+      let P : LockView Out → List (ℕ × Option (BoardState Out)) → Type 0 = λ z c. Allows (Kept jobs seats right) slots k (z, c) 0 (λ n. 0) (λ n. Claimed (step slots 0 0 0 none) (z, c) 0) in
       subst (λ z. P z l) (sym e) (subst (λ c. P (seeing v b) c) (sym q) (claims_at slots k v b b' live hand sound machine results free))
 
   -- the turn is freed after a claim that got none
-  pub end_freed : (s : State (Option (BoardState Out)) (View Out)) (turn : Option ℕ) (k : ℕ) (v : View Out) (b b' : BoardState Out) → Shows right jobs seats turn b s → get_elem? s.views k ≡ some (seeing v b) → v.live ≡ true
+  pub end_freed : (s : State (Option (BoardState Out)) (LockView Out)) (turn : Option ℕ) (k : ℕ) (v : LockView Out) (b b' : BoardState Out) → Shows right jobs seats turn b s → get_elem? s.views k ≡ some (seeing v b) → v.known.live ≡ true
       → IsSound b' → b'.machine ≡ b.machine → b'.results.items ≡ b.results.items → length b.machine.slots ≤ b.machine.next
       → Shows right jobs seats None b' (stepped s 0 0 k ((0, Some b') ∷ []) (ended_view (seeing v b)) gives)
   end_freed s turn k v b b' sh at live sound same results past =
@@ -241,33 +223,25 @@ module _ {Out : Type 0} (right : ℕ → Out → Type 0) (jobs seats : ℕ) wher
       frees_turn s turn k (seeing v b) (ended_view (seeing v b)) b b' sh at live refl live refl sound
       (ap (λ (z : Machine). length z.slots) same ∙ sh.jobs_are)
       (λ job out e. sh.fit job out (ap (λ (z : List (Option Out)). slice_get z job) (sym results) ∙ e))
-      (subst (λ (z : Machine). Fits jobs seats z (length s.views) k (ended_view (seeing v b))) (sym same) (record {
-        number = f.number;
-        jobs_are = f.jobs_are;
-        hand = f.hand;
-        deposits = f.deposits;
-        ended = λ e. (let a = sh.jobs_are in let c = sh.sound.low in omega arith);
-        only_first = f.only_first;
-        room = f.room;
-      }))
-      (λ place u apart o. subst (λ (z : Machine). Fits jobs seats z (length s.views) place u) (sym same) o)
+      (subst (λ (z : Machine). Fits jobs seats z (length s.views) k (ended_view (seeing v b)).known) (sym same) (fits_at_end jobs seats b.machine (length s.views) k v.known (let a = sh.jobs_are in let c = sh.sound.low in omega arith) f))
+      (λ place u apart o. subst (λ (z : Machine). Fits jobs seats z (length s.views) place u.known) (sym same) o)
       (λ job n e. inr (ap (λ (z : Machine). slice_get z.slots job) (sym same) ∙ e, (λ h. h)))
 
   -- the turn is freed after a job in hand became x
-  settle_freed : (s : State (Option (BoardState Out)) (View Out)) (turn : Option ℕ) (k : ℕ) (v w : View Out) (b b' : BoardState Out) (job : ℕ) (x : Slot) → Shows right jobs seats turn b s → get_elem? s.views k ≡ some (seeing v b) → v.live ≡ true → v.hand ≡ Some job
-      → w.live ≡ true → w.saw ≡ None → IsSound b' → b'.machine ≡ record { next = b.machine.next; slots = slice_set b.machine.slots job x } → ((n : ℕ) → Some x ≡ Some (InHand n) → ⊥)
+  settle_freed : (s : State (Option (BoardState Out)) (LockView Out)) (turn : Option ℕ) (k : ℕ) (v w : LockView Out) (b b' : BoardState Out) (job : ℕ) (x : Slot) → Shows right jobs seats turn b s → get_elem? s.views k ≡ some (seeing v b) → v.known.live ≡ true → v.known.hand ≡ Some job
+      → w.known.live ≡ true → w.saw ≡ None → IsSound b' → b'.machine ≡ record { next = b.machine.next; slots = slice_set b.machine.slots job x } → ((n : ℕ) → Some x ≡ Some (InHand n) → ⊥)
       → ((i : ℕ) (out : Out) → slice_get b'.results.items i ≡ Some (Some out) → right i out)
-      → Fits jobs seats (record { next = b.machine.next; slots = slice_set b.machine.slots job x }) (length s.views) k w
+      → Fits jobs seats (record { next = b.machine.next; slots = slice_set b.machine.slots job x }) (length s.views) k w.known
       → Shows right jobs seats None b' (stepped s 0 0 k ((0, Some b') ∷ []) w gives)
   settle_freed s turn k v w b b' job x sh at live hand alive away sound is not_held fit mine =
       let m : Machine = b.machine in
       let f = (sh.views k (seeing v b) at live).0 in
-      let held : slice_get m.slots job ≡ Some (InHand k) = subst (λ (h : Option ℕ). IfSome h (λ i. slice_get m.slots i ≡ Some (InHand k))) hand f.hand in
+      let held : slice_get m.slots job ≡ Some (InHand k) = held_in jobs seats m (length s.views) k v.known job hand f in
       frees_turn s turn k (seeing v b) w b b' sh at live refl alive away sound
       (ap (λ (z : Machine). length z.slots) is ∙ (length-set m.slots job x ∙ sh.jobs_are))
       fit
-      (subst (λ (z : Machine). Fits jobs seats z (length s.views) k w) (sym is) mine)
-      (λ place u apart o. subst (λ (z : Machine). Fits jobs seats z (length s.views) place u) (sym is) (fits_moved m m.next job x (InHand k) (length s.views) place u held (λ z. apart (sym (held_by k place z))) (held_not_done k) (λ z. z) o))
+      (subst (λ (z : Machine). Fits jobs seats z (length s.views) k w.known) (sym is) mine)
+      (λ place u apart o. subst (λ (z : Machine). Fits jobs seats z (length s.views) place u.known) (sym is) (fits_moved jobs seats m m.next job x (InHand k) (length s.views) place u.known held (λ z. apart (sym (held_by k place z))) (held_not_done k) (λ z. z) o))
       (λ i n e.
       let e' : slice_get (slice_set m.slots job x) i ≡ Some (InHand n) = ap (λ (z : Machine). slice_get z.slots i) (sym is) ∙ e in
       elim (same_or_not i job) [
@@ -278,16 +252,15 @@ module _ {Out : Type 0} (right : ℕ → Out → Type 0) (jobs seats : ℕ) wher
   some_out : (a c : Out) → Some (Some a) ≡ Some (Some c) → a ≡ c
   some_out a c e = cc
 
-  pub deposit_freed : (s : State (Option (BoardState Out)) (View Out)) (turn : Option ℕ) (k : ℕ) (v : View Out) (b b' : BoardState Out) (job : ℕ) (out : Out) → Shows right jobs seats turn b s → get_elem? s.views k ≡ some (seeing v b) → v.live ≡ true → v.hand ≡ Some job → right job out
-      → IsSound b' → b'.machine ≡ after b.machine (Deposit v.number job) → b'.results.items ≡ slice_set b.results.items job (Some out)
+  pub deposit_freed : (s : State (Option (BoardState Out)) (LockView Out)) (turn : Option ℕ) (k : ℕ) (v : LockView Out) (b b' : BoardState Out) (job : ℕ) (out : Out) → Shows right jobs seats turn b s → get_elem? s.views k ≡ some (seeing v b) → v.known.live ≡ true → v.known.hand ≡ Some job → right job out
+      → IsSound b' → b'.machine ≡ after b.machine (Deposit v.known.number job) → b'.results.items ≡ slice_set b.results.items job (Some out)
       → Shows right jobs seats None b' (stepped s 0 0 k ((0, Some b') ∷ []) (deposited_view (seeing v b)) gives)
   deposit_freed s turn k v b b' job out sh at live hand fits sound machine results =
       let m : Machine = b.machine in
       let f = (sh.views k (seeing v b) at live).0 in
-      let held : slice_get m.slots job ≡ Some (InHand k) = subst (λ (h : Option ℕ). IfSome h (λ i. slice_get m.slots i ≡ Some (InHand k))) hand f.hand in
+      let held : slice_get m.slots job ≡ Some (InHand k) = held_in jobs seats m (length s.views) k v.known job hand f in
       let low : job < length m.slots = slice_get_within m.slots job (InHand k) held in
       let is : b'.machine ≡ record { next = m.next; slots = slice_set m.slots job (Done k) } = machine ∙ ap (λ (n : ℕ). after m (Deposit n job)) f.number in
-      let now : slice_get (slice_set m.slots job (Done k)) job ≡ Some (Done k) = get_set_here m.slots job (Done k) low in
       settle_freed s turn k v (deposited_view (seeing v b)) b b' job (Done k) sh at live hand live refl sound is (done_not_held k)
       (λ i o e.
       let e' : slice_get (slice_set b.results.items job (Some out)) i ≡ Some (Some o) = ap (λ (z : List (Option Out)). slice_get z i) (sym results) ∙ e in
@@ -297,67 +270,48 @@ module _ {Out : Type 0} (right : ℕ → Out → Type 0) (jobs seats : ℕ) wher
             subst (λ (z : Out). right i z) same (subst (λ (j : ℕ). right j out) (sym q) fits)
         | inr q ↦ sh.fit i o (sym (get_set_other b.results.items job i (Some out) q) ∙ e')
       ])
-      (record {
-        number = f.number;
-        jobs_are = f.jobs_are;
-        hand = tt;
-        deposits = done_append (slice_set m.slots job (Done k)) v.deposits ((job_in v.hand, v.number) ∷ [])
-            (done_moved m.slots (slice_set m.slots job (Done k)) v.deposits (keeps_done m.slots job (Done k) (InHand k) held (held_not_done k)) f.deposits)
-            (ap (slice_get (slice_set m.slots job (Done k))) (job_is v.hand job hand) ∙ (now ∙ ap (λ (z : ℕ). Some (Done z)) (sym f.number)), tt);
-        ended = f.ended;
-        only_first = f.only_first;
-        room = f.room;
-      })
+      (subst (λ (n : ℕ). Fits jobs seats (record { next = m.next; slots = slice_set m.slots job (Done k) }) (length s.views) k (deposited v.known n)) (sym (job_is v.known.hand job hand)) (fits_deposited jobs seats m (length s.views) k v.known job hand f))
 
-  pub back_freed : (s : State (Option (BoardState Out)) (View Out)) (turn : Option ℕ) (k : ℕ) (v : View Out) (b b' : BoardState Out) (job : ℕ) → Shows right jobs seats turn b s → get_elem? s.views k ≡ some (seeing v b) → v.live ≡ true → v.hand ≡ Some job
-      → IsSound b' → b'.machine ≡ after b.machine (GiveBack v.number job) → b'.results.items ≡ b.results.items
+  pub back_freed : (s : State (Option (BoardState Out)) (LockView Out)) (turn : Option ℕ) (k : ℕ) (v : LockView Out) (b b' : BoardState Out) (job : ℕ) → Shows right jobs seats turn b s → get_elem? s.views k ≡ some (seeing v b) → v.known.live ≡ true → v.known.hand ≡ Some job
+      → IsSound b' → b'.machine ≡ after b.machine (GiveBack v.known.number job) → b'.results.items ≡ b.results.items
       → Shows right jobs seats None b' (stepped s 0 0 k ((0, Some b') ∷ []) (back_view (seeing v b)) gives)
   back_freed s turn k v b b' job sh at live hand sound machine results =
       let m : Machine = b.machine in
       let f = (sh.views k (seeing v b) at live).0 in
-      let held : slice_get m.slots job ≡ Some (InHand k) = subst (λ (h : Option ℕ). IfSome h (λ i. slice_get m.slots i ≡ Some (InHand k))) hand f.hand in
       settle_freed s turn k v (back_view (seeing v b)) b b' job Open sh at live hand live refl sound machine open_not_held
       (λ i o e. sh.fit i o (ap (λ (z : List (Option Out)). slice_get z i) (sym results) ∙ e))
-      (record {
-        number = f.number;
-        jobs_are = f.jobs_are;
-        hand = tt;
-        deposits = done_moved m.slots (slice_set m.slots job Open) v.deposits (keeps_done m.slots job Open (InHand k) held (held_not_done k)) f.deposits;
-        ended = f.ended;
-        only_first = f.only_first;
-        room = f.room;
-      })
+      (fits_gave_back jobs seats m (length s.views) k v.known job hand f)
 
   -- a store that frees the turn, from what holds of the state that was seen
-  frees_at : (Done' : View Out → View Out) (slots k : ℕ) (u : View Out) (l : List (ℕ × Option (BoardState Out))) (v : View Out) (b b' : BoardState Out) → u ≡ seeing v b → l ≡ (0, Some b') ∷ [] → v.live ≡ true
-      → ((s : State (Option (BoardState Out)) (View Out)) (turn : Option ℕ) → Shows right jobs seats turn b s → get_elem? s.views k ≡ some (seeing v b) → Shows right jobs seats None b' (stepped s 0 0 k ((0, Some b') ∷ []) (Done' (seeing v b)) gives))
+  frees_at : (Done' : LockView Out → LockView Out) (slots k : ℕ) (u : LockView Out) (l : List (ℕ × Option (BoardState Out))) (v : LockView Out) (b b' : BoardState Out) → u ≡ seeing v b → l ≡ (0, Some b') ∷ [] → v.known.live ≡ true
+      → ((s : State (Option (BoardState Out)) (LockView Out)) (turn : Option ℕ) → Shows right jobs seats turn b s → get_elem? s.views k ≡ some (seeing v b) → Shows right jobs seats None b' (stepped s 0 0 k ((0, Some b') ∷ []) (Done' (seeing v b)) gives))
       → Allows (Kept jobs seats right) slots k (u, l) 0 (λ n. 0) (λ n w. (w.0 ≡ Done' u) × (w.1 ≡ []))
   frees_at Done' slots k u l v b b' e q live shows =
-      let P : View Out → List (ℕ × Option (BoardState Out)) → Type 0 = λ z c. Allows (Kept jobs seats right) slots k (z, c) 0 (λ n. 0) (λ n w. (w.0 ≡ Done' z) × (w.1 ≡ [])) in
+      let P : LockView Out → List (ℕ × Option (BoardState Out)) → Type 0 = λ z c. Allows (Kept jobs seats right) slots k (z, c) 0 (λ n. 0) (λ n w. (w.0 ≡ Done' z) × (w.1 ≡ [])) in
       subst (λ z. P z l) (sym e) (subst (λ c. P (seeing v b) c) (sym q) (λ s kept len at small.
       let saw = (kept.2.views k (seeing v b) at live).1 in
       let same : kept.1 ≡ b = (mine_is kept.0 kept.1 b k (seeing v b) saw refl).0 in
       let sh : Shows right jobs seats kept.0 b s = subst (λ (z : BoardState Out). Shows right jobs seats kept.0 z s) same kept.2 in
       (Done' (seeing v b), gives, tt, (None, b', shows s kept.0 sh at), (refl, refl))))
 
-  pub ends_of : (slots k : ℕ) (u : View Out) (l : List (ℕ × Option (BoardState Out))) (v : View Out) (b b' : BoardState Out) → u ≡ seeing v b → l ≡ (0, Some b') ∷ [] → v.live ≡ true → IsSound b' → b'.machine ≡ after b.machine (Claim v.number) → b'.results.items ≡ b.results.items → length b.machine.slots ≤ b.machine.next
+  pub ends_of : (slots k : ℕ) (u : LockView Out) (l : List (ℕ × Option (BoardState Out))) (v : LockView Out) (b b' : BoardState Out) → u ≡ seeing v b → l ≡ (0, Some b') ∷ [] → v.known.live ≡ true → IsSound b' → b'.machine ≡ after b.machine (Claim v.known.number) → b'.results.items ≡ b.results.items → length b.machine.slots ≤ b.machine.next
       → Allows (Kept jobs seats right) slots k (u, l) 0 (λ n. 0) (λ n. Ended (step slots 0 0 0 none) (u, l) 0)
-  ends_of slots k u l v b b' e q live sound machine results past = frees_at ended_view slots k u l v b b' e q live (λ s turn sh at. end_freed s turn k v b b' sh at live sound (machine ∙ past_is_same b.machine v.number past) results past)
+  ends_of slots k u l v b b' e q live sound machine results past = frees_at ended_view slots k u l v b b' e q live (λ s turn sh at. end_freed s turn k v b b' sh at live sound (machine ∙ past_is_same b.machine v.known.number past) results past)
 
-  pub deposits_of : (slots k : ℕ) (u : View Out) (l : List (ℕ × Option (BoardState Out))) (v : View Out) (b b' : BoardState Out) (job : ℕ) (out : Out) → u ≡ seeing v b → l ≡ (0, Some b') ∷ [] → v.live ≡ true → v.hand ≡ Some job → right job out → IsSound b' → b'.machine ≡ after b.machine (Deposit v.number job) → b'.results.items ≡ slice_set b.results.items job (Some out)
+  pub deposits_of : (slots k : ℕ) (u : LockView Out) (l : List (ℕ × Option (BoardState Out))) (v : LockView Out) (b b' : BoardState Out) (job : ℕ) (out : Out) → u ≡ seeing v b → l ≡ (0, Some b') ∷ [] → v.known.live ≡ true → v.known.hand ≡ Some job → right job out → IsSound b' → b'.machine ≡ after b.machine (Deposit v.known.number job) → b'.results.items ≡ slice_set b.results.items job (Some out)
       → Allows (Kept jobs seats right) slots k (u, l) 0 (λ n. 0) (λ n. Deposited (step slots 0 0 0 none) (u, l) 0)
   deposits_of slots k u l v b b' job out e q live hand fits sound machine results = frees_at deposited_view slots k u l v b b' e q live (λ s turn sh at. deposit_freed s turn k v b b' job out sh at live hand fits sound machine results)
 
-  pub backs_of : (slots k : ℕ) (u : View Out) (l : List (ℕ × Option (BoardState Out))) (v : View Out) (b b' : BoardState Out) (job : ℕ) → u ≡ seeing v b → l ≡ (0, Some b') ∷ [] → v.live ≡ true → v.hand ≡ Some job → IsSound b' → b'.machine ≡ after b.machine (GiveBack v.number job) → b'.results.items ≡ b.results.items
+  pub backs_of : (slots k : ℕ) (u : LockView Out) (l : List (ℕ × Option (BoardState Out))) (v : LockView Out) (b b' : BoardState Out) (job : ℕ) → u ≡ seeing v b → l ≡ (0, Some b') ∷ [] → v.known.live ≡ true → v.known.hand ≡ Some job → IsSound b' → b'.machine ≡ after b.machine (GiveBack v.known.number job) → b'.results.items ≡ b.results.items
       → Allows (Kept jobs seats right) slots k (u, l) 0 (λ n. 0) (λ n. GaveBack (step slots 0 0 0 none) (u, l) 0)
   backs_of slots k u l v b b' job e q live hand sound machine results = frees_at back_view slots k u l v b b' e q live (λ s turn sh at. back_freed s turn k v b b' job sh at live hand sound machine results)
 
-  saw_moved : (turn : Option ℕ) (b : BoardState Out) (place : ℕ) (v w : View Out) → w.saw ≡ v.saw → SawIs turn b place v → SawIs turn b place w
+  saw_moved : (turn : Option ℕ) (b : BoardState Out) (place : ℕ) (v w : LockView Out) → w.saw ≡ v.saw → SawIs turn b place v → SawIs turn b place w
   saw_moved None b place v w e h = e ∙ h
   saw_moved (Some k) b place v w e h = ((λ q. e ∙ h.0 q), (λ n. e ∙ h.1 n))
 
   -- a new pass, at the place behind all others
-  saw_new : (turn : Option ℕ) (b : BoardState Out) (count : ℕ) (w : View Out) → w.saw ≡ None → IsThere turn count → SawIs turn b count w
+  saw_new : (turn : Option ℕ) (b : BoardState Out) (count : ℕ) (w : LockView Out) → w.saw ≡ None → IsThere turn count → SawIs turn b count w
   saw_new None b count w e n = e
   saw_new (Some k) b count w e n = ((λ q. absurd (omega arith)), (λ m. e))
 
@@ -365,36 +319,35 @@ module _ {Out : Type 0} (right : ℕ → Out → Type 0) (jobs seats : ℕ) wher
   there_more None count h = tt
   there_more (Some k) count h = omega arith
 
-  placed_same : (turn : Option ℕ) (b : BoardState Out) (s t : State (Option (BoardState Out)) (View Out)) → t.words ≡ s.words → t.homes ≡ s.homes → IsPlaced turn b s → IsPlaced turn b t
+  placed_same : (turn : Option ℕ) (b : BoardState Out) (s t : State (Option (BoardState Out)) (LockView Out)) → t.words ≡ s.words → t.homes ≡ s.homes → IsPlaced turn b s → IsPlaced turn b t
   placed_same None b s t e h p = (ap (λ (l : List ℕ). slice_index l 0) e ∙ p.0, ap (λ l. get_elem? l 0) h ∙ p.1)
   placed_same (Some k) b s t e h p = (ap (λ (l : List ℕ). slice_index l 0) e ∙ p.0, ap (λ l. get_elem? l 0) h ∙ p.1)
 
   -- a hand that was there is there
-  still : (views : List (View Out)) (k : ℕ) (v w : View Out) (job : ℕ) → get_elem? views k ≡ some v → (v.hand ≡ Some job → (w.live ≡ true) × (w.hand ≡ Some job))
-      → (place : ℕ) (u : View Out) → get_elem? views place ≡ some u → u.live ≡ true → u.hand ≡ Some job
-      → (t : View Out) × (get_elem? (set views k w) place ≡ some t) × (t.live ≡ true) × (t.hand ≡ Some job)
+  still : (views : List (LockView Out)) (k : ℕ) (v w : LockView Out) (job : ℕ) → get_elem? views k ≡ some v → (v.known.hand ≡ Some job → (w.known.live ≡ true) × (w.known.hand ≡ Some job))
+      → (place : ℕ) (u : LockView Out) → get_elem? views place ≡ some u → u.known.live ≡ true → u.known.hand ≡ Some job
+      → (t : LockView Out) × (get_elem? (set views k w) place ≡ some t) × (t.known.live ≡ true) × (t.known.hand ≡ Some job)
   still views k v w job at keep place u h live hand =
       elim (same_or_not place k) [
         | inl e ↦
             let same : v ≡ u = some-injective v u (sym at ∙ (ap (get_elem? views) (sym e) ∙ h)) in
-            let r = keep (ap (λ (z : View Out). z.hand) same ∙ hand) in
+            let r = keep (ap (λ (z : LockView Out). z.known.hand) same ∙ hand) in
             (w, ap (get_elem? (set views k w)) e ∙ set_here views k w (within views k v at), r.0, r.1)
         | inr n ↦ (u, set_else views k place w n ∙ h, live, hand)
       ]
 
-  pub split_shown : (turn : Option ℕ) (b : BoardState Out) (s : State (Option (BoardState Out)) (View Out)) (k : ℕ) (v : View Out) → Shows right jobs seats turn b s → get_elem? s.views k ≡ some v → v.live ≡ true → 0 < v.spare
+  pub split_shown : (turn : Option ℕ) (b : BoardState Out) (s : State (Option (BoardState Out)) (LockView Out)) (k : ℕ) (v : LockView Out) → Shows right jobs seats turn b s → get_elem? s.views k ≡ some v → v.known.live ≡ true → 0 < v.known.spare
       → Shows right jobs seats turn b (record { words = s.words; homes = s.homes; views = slice_set s.views k (cut v) ++ new_view v ∷ [] })
   split_shown turn b s k v sh at live left =
       let m : Machine = b.machine in
       let fv = sh.views k v at live in
       let f = fv.0 in
       let room = f.room left in
-      let cutviews : List (View Out) = slice_set s.views k (cut v) in
-      let all : List (View Out) = cutviews ++ new_view v ∷ [] in
+      let cutviews : List (LockView Out) = slice_set s.views k (cut v) in
+      let all : List (LockView Out) = cutviews ++ new_view v ∷ [] in
       let len : length cutviews ≡ length s.views = length-set s.views k (cut v) in
       let longer : length all ≡ length s.views + 1 = length-append cutviews (new_view v ∷ []) ∙ omega arith in
-      let first : (k ≢ 0 → ⊥) = λ n. let z = f.only_first n in absurd (omega arith) in
-      let P : ℕ → View Out → Type 0 = λ p z. Fits jobs seats m (length s.views + 1) p z × SawIs turn b p z in
+      let P : ℕ → LockView Out → Type 0 = λ p z. Fits jobs seats m (length s.views + 1) p z.known × SawIs turn b p z in
       record {
         words = sh.words;
         homes = sh.homes;
@@ -409,56 +362,32 @@ module _ {Out : Type 0} (right : ℕ → Out → Type 0) (jobs seats : ℕ) wher
         views = λ place u h alive. rw longer (elim (same_or_not place (length s.views)) [
           | inl e ↦
               let last : new_view v ≡ u = some-injective (new_view v) u (sym (at_length cutviews (new_view v)) ∙ (ap (get_elem? all) (len ∙ sym e) ∙ h)) in
-              subst (λ (z : View Out). P place z) last (subst (λ (p : ℕ). P p (new_view v)) (sym e) (
-                record {
-                  number = room.0;
-                  jobs_are = f.jobs_are;
-                  hand = tt;
-                  deposits = tt;
-                  ended = λ q. absurd (true_not_false false q refl);
-                  only_first = λ n. refl;
-                  room = λ q. absurd (omega arith);
-                },
-                saw_new turn b (length s.views) (new_view v) refl sh.there,
-              ))
+              subst (λ (z : LockView Out). P place z) last (subst (λ (p : ℕ). P p (new_view v)) (sym e) (fits_new jobs seats m (length s.views) k v.known left f, saw_new turn b (length s.views) (new_view v) refl sh.there))
           | inr n ↦
               let there : get_elem? cutviews place ≡ some u = below_last cutviews (new_view v) place u (λ q. n (q ∙ len)) h in
               each_view P s.views k (cut v)
-              (record { number = f.number; jobs_are = f.jobs_are; hand = f.hand; deposits = f.deposits; ended = f.ended; only_first = λ q. absurd (first q); room = λ q. (omega arith, omega arith) }, saw_moved turn b k v (cut v) refl fv.1)
-              (λ p z apart found z_up.
-              let o = sh.views p z found z_up in
-              let g = o.0 in (
-                record {
-                  number = g.number;
-                  jobs_are = g.jobs_are;
-                  hand = g.hand;
-                  deposits = g.deposits;
-                  ended = g.ended;
-                  only_first = g.only_first;
-                  room = λ q. absurd (first (λ zero_k. let z0 = g.only_first (λ p0. apart (p0 ∙ sym zero_k)) in absurd (omega arith)));
-                },
-                o.1,
-              ))
+              (fits_cut jobs seats m (length s.views) k v.known left f, saw_moved turn b k v (cut v) refl fv.1)
+              (λ p z apart found z_up. let o = sh.views p z found z_up in (fits_beside jobs seats m (length s.views) k v.known p z.known left f apart o.0, o.1))
               place u there alive
         ]);
         there = rw longer (there_more turn (length s.views) sh.there);
         few = omega arith;
       }
 
-  pub splits : (k : ℕ) (v : View Out) → v.live ≡ true → 0 < v.spare → Splits (Kept jobs seats right) k v (cut v) (new_view v)
+  pub splits : (k : ℕ) (v : LockView Out) → v.known.live ≡ true → 0 < v.known.spare → Splits (Kept jobs seats right) k v (cut v) (new_view v)
   splits k v live left s kept at = (kept.0, kept.1, split_shown kept.0 kept.1 s k v kept.2 at live left)
 
-  pub join_shown : (turn : Option ℕ) (b : BoardState Out) (s : State (Option (BoardState Out)) (View Out)) (k : ℕ) (v : View Out) (other : ℕ) (w : View Out) → Shows right jobs seats turn b s → get_elem? s.views k ≡ some v → v.live ≡ true → other ≢ k → get_elem? (slice_set s.views k (taken_in v w)) other ≡ some w → w.live ≡ true → w.hand ≡ None
+  pub join_shown : (turn : Option ℕ) (b : BoardState Out) (s : State (Option (BoardState Out)) (LockView Out)) (k : ℕ) (v : LockView Out) (other : ℕ) (w : LockView Out) → Shows right jobs seats turn b s → get_elem? s.views k ≡ some v → v.known.live ≡ true → other ≢ k → get_elem? (slice_set s.views k (taken_in v w)) other ≡ some w → w.known.live ≡ true → w.known.hand ≡ None
       → Shows right jobs seats turn b (record { words = s.words; homes = s.homes; views = slice_set (slice_set s.views k (taken_in v w)) other spent })
   join_shown turn b s k v other w sh at live apart there awake empty =
       let m : Machine = b.machine in
       let fv = sh.views k v at live in
       let f = fv.0 in
-      let one : List (View Out) = slice_set s.views k (taken_in v w) in
+      let one : List (LockView Out) = slice_set s.views k (taken_in v w) in
       let before : get_elem? s.views other ≡ some w = sym (set_else s.views k other (taken_in v w) apart) ∙ there in
       let fw = (sh.views other w before awake).0 in
       let len : length (set one other spent) ≡ length s.views = length-set one other spent ∙ length-set s.views k (taken_in v w) in
-      let P : ℕ → View Out → Type 0 = λ p z. Fits jobs seats m (length s.views) p z × SawIs turn b p z in
+      let P : ℕ → LockView Out → Type 0 = λ p z. Fits jobs seats m (length s.views) p z.known × SawIs turn b p z in
       record {
         words = sh.words;
         homes = sh.homes;
@@ -469,11 +398,11 @@ module _ {Out : Type 0} (right : ℕ → Out → Type 0) (jobs seats : ℕ) wher
         held = λ job n e.
             let o = sh.held job n e in
             let r = still s.views k v (taken_in v w) job at (λ q. (live, q)) n o.0 o.1 o.2 o.3 in
-            still one other w spent job there (λ q. absurd (no_hand w.hand job empty q)) n r.0 r.1 r.2 r.3;
+            still one other w spent job there (λ q. absurd (no_hand w.known.hand job empty q)) n r.0 r.1 r.2 r.3;
         views = λ place u h alive. rw len (elim (at_set one other place spent u h) [
-          | inl q ↦ absurd (true_not_false u.live alive (ap (λ (z : View Out). z.live) (sym q.1)))
+          | inl q ↦ absurd (true_not_false u.known.live alive (ap (λ (z : LockView Out). z.known.live) (sym q.1)))
           | inr q ↦ each_view P s.views k (taken_in v w)
-              (record { number = f.number; jobs_are = f.jobs_are; hand = f.hand; deposits = done_append m.slots v.deposits w.deposits f.deposits fw.deposits; ended = f.ended; only_first = f.only_first; room = f.room }, saw_moved turn b k v (taken_in v w) refl fv.1)
+              (fits_taken_in jobs seats m (length s.views) k v.known other w.known f fw, saw_moved turn b k v (taken_in v w) refl fv.1)
               (λ p z n found z_up. sh.views p z found z_up)
               place u q.1 alive
         ]);
@@ -481,11 +410,11 @@ module _ {Out : Type 0} (right : ℕ → Out → Type 0) (jobs seats : ℕ) wher
         few = rw len sh.few;
       }
 
-  pub joins : (k : ℕ) (v : View Out) (other : ℕ) (w : View Out) → v.live ≡ true → w.live ≡ true → w.hand ≡ None → Joins (Kept jobs seats right) k v other w (taken_in v w) spent
+  pub joins : (k : ℕ) (v : LockView Out) (other : ℕ) (w : LockView Out) → v.known.live ≡ true → w.known.live ≡ true → w.known.hand ≡ None → Joins (Kept jobs seats right) k v other w (taken_in v w) spent
   joins k v other w live awake empty s kept at apart there = (kept.0, kept.1, join_shown kept.0 kept.1 s k v other w kept.2 at live apart there awake empty)
 
   -- when the table is closed, what was seen under the turn is the board's own state
-  pub closed_right : (id : ℕ) (u v : View Out) (b : BoardState Out) (ws : List ℕ) (xs : List (Option (BoardState Out))) → Final (Seen (Kept jobs seats right) id u) ws xs → u ≡ seeing v b → v.live ≡ true
+  pub closed_right : (id : ℕ) (u v : LockView Out) (b : BoardState Out) (ws : List ℕ) (xs : List (Option (BoardState Out))) → Final (Seen (Kept jobs seats right) id u) ws xs → u ≡ seeing v b → v.known.live ≡ true
       → (job : ℕ) (out : Out) → slice_get b.results.items job ≡ Some (Some out) → right job out
   closed_right id u v b ws xs final e live =
       let kept = final.1.0 in
@@ -494,14 +423,14 @@ module _ {Out : Type 0} (right : ℕ → Out → Type 0) (jobs seats : ℕ) wher
       let same : kept.1 ≡ b = (mine_is kept.0 kept.1 b id (seeing v b) saw refl).0 in
       subst (λ (z : BoardState Out). (job : ℕ) (out : Out) → slice_get z.results.items job ≡ Some (Some out) → right job out) same kept.2.fit
 
-pub closed_done : {Out : Type 0} (v : View Out) (b : BoardState Out) → Found v b → (job : ℕ) → has_job job v.deposits ≡ true → (out : Out) × (slice_get b.results.items job ≡ Some (Some out))
+pub closed_done : {Out : Type 0} (v : View) (b : BoardState Out) → Found v b → (job : ℕ) → has_job job v.deposits ≡ true → (out : Out) × (slice_get b.results.items job ≡ Some (Some out))
 closed_done v b f job h =
     let d = among b.machine.slots job v.deposits h f.deposits in
     let o = f.sound.fits job (Done d.0) d.1 in
     (o.2.0, o.1 ∙ ap Some o.2.1)
 
 -- the history that was seen under the turn accounts for the results
-pub closed_with : {Out : Type 0} (jobs : ℕ) (v : View Out) (b : BoardState Out) → Found v b → v.jobs ≡ jobs → IsClosedWith jobs v.deposits b.results.items
+pub closed_with : {Out : Type 0} (jobs : ℕ) (v : View) (b : BoardState Out) → Found v b → v.jobs ≡ jobs → IsClosedWith jobs v.deposits b.results.items
 closed_with jobs v b f count =
     let all : length b.machine.slots ≡ jobs = f.jobs_are ∙ count in
     subst (λ (n : ℕ). IsClosedWith n v.deposits b.results.items) all (

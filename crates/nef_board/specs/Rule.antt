@@ -1,13 +1,14 @@
 -- What holds between any two steps of the board, and what each kind of step tells.
-use Rattle.std.specs.Prelude.{◌≡◌, ◌≢◌, ℕ, true, ◌+◌, ◌<◌, ◌≤◌, [], ◌∷◌, length, Option, Some, None, slice_get, slice_index, MatchBool, IfSome, ◌==◌}
+use Rattle.std.specs.Prelude.{◌≡◌, ◌≢◌, ℕ, true, ◌<◌, ◌≤◌, [], ◌∷◌, length, Option, Some, None, slice_get, slice_index, MatchBool, IfSome, ◌==◌}
 use mathlib.Core.Option.{none, some}
 use lib.ListN.{get_elem?}
 use Rattle.atomic_table.specs.Table.{State, Me, Step}
-use Rattle.nef_core.specs.State.{State as Machine}
 use Rattle.nef_core.specs.declared.machine.Slot.TheVariants.{InHand}
 use Rattle.nef_core.specs.Results.{AllDone}
 use Rattle.nef_board.specs.declared.state.BoardState.{BoardState}
-use Rattle.nef_board.specs.declared.view.View.{View}
+use Rattle.nef_core.specs.declared.view.View.{View}
+use Rattle.nef_core.specs.Passes.{Fits}
+use Rattle.nef_board.specs.declared.view.LockView.{LockView}
 use Rattle.nef_board.specs.Sound.{IsSound}
 use Rattle.nef_board.specs.Views.{seeing, claimed_view, ended_view, deposited_view, back_view}
 
@@ -17,59 +18,49 @@ IsThere None count = Unit {0}
 IsThere (Some k) count = k < count
 
 module _ {Out : Type 0} where
-  -- what a pass knows fits the machine. Its number is its place among the views
-  pub record Fits (jobs seats : ℕ) (m : Machine) (count place : ℕ) (v : View Out) : Type 0 where
-    pub number : v.number ≡ place
-    pub jobs_are : v.jobs ≡ jobs
-    pub hand : IfSome v.hand (λ job. slice_get m.slots job ≡ Some (InHand place))
-    pub deposits : AllDone m.slots v.deposits
-    pub ended : v.ended ≡ true → m.next ≡ jobs
-    pub only_first : place ≢ 0 → v.spare ≡ 0
-    pub room : 0 < v.spare → (v.made ≡ count) × (v.made + v.spare ≤ seats)
-
   -- where the state is: at home, or out with the pass that has the turn
-  abbrev pub IsPlaced : Option ℕ → BoardState Out → State (Option (BoardState Out)) (View Out) → Type 0
+  abbrev pub IsPlaced : Option ℕ → BoardState Out → State (Option (BoardState Out)) (LockView Out) → Type 0
   IsPlaced None b s = (slice_index s.words 0 ≡ 0) × (get_elem? s.homes 0 ≡ some (some (Some b)))
   IsPlaced (Some k) b s = (slice_index s.words 0 ≡ 1) × (get_elem? s.homes 0 ≡ some none)
 
   -- who has the turn knows the state that it found
-  abbrev pub SawIs : Option ℕ → BoardState Out → ℕ → View Out → Type 0
+  abbrev pub SawIs : Option ℕ → BoardState Out → ℕ → LockView Out → Type 0
   SawIs None b place v = v.saw ≡ None
   SawIs (Some k) b place v = (place ≡ k → v.saw ≡ Some b) × (place ≢ k → v.saw ≡ None)
 
-  pub record Shows (right : ℕ → Out → Type 0) (jobs seats : ℕ) (turn : Option ℕ) (b : BoardState Out) (s : State (Option (BoardState Out)) (View Out)) : Type 0 where
+  pub record Shows (right : ℕ → Out → Type 0) (jobs seats : ℕ) (turn : Option ℕ) (b : BoardState Out) (s : State (Option (BoardState Out)) (LockView Out)) : Type 0 where
     pub words : length s.words ≡ 1
     pub homes : length s.homes ≡ 1
     pub placed : IsPlaced turn b s
     pub sound : IsSound b
     pub jobs_are : length b.machine.slots ≡ jobs
     pub fit : (job : ℕ) (out : Out) → slice_get b.results.items job ≡ Some (Some out) → right job out
-    pub held : (job w : ℕ) → slice_get b.machine.slots job ≡ Some (InHand w) → (v : View Out) × (get_elem? s.views w ≡ some v) × (v.live ≡ true) × (v.hand ≡ Some job)
-    pub views : (place : ℕ) (v : View Out) → get_elem? s.views place ≡ some v → v.live ≡ true → Fits jobs seats b.machine (length s.views) place v × SawIs turn b place v
+    pub held : (job w : ℕ) → slice_get b.machine.slots job ≡ Some (InHand w) → (v : LockView Out) × (get_elem? s.views w ≡ some v) × (v.known.live ≡ true) × (v.known.hand ≡ Some job)
+    pub views : (place : ℕ) (v : LockView Out) → get_elem? s.views place ≡ some v → v.known.live ≡ true → Fits jobs seats b.machine (length s.views) place v.known × SawIs turn b place v
     pub there : IsThere turn (length s.views)
     pub few : length s.views ≤ seats
 
-  abbrev pub Kept : ℕ → ℕ → (ℕ → Out → Type 0) → State (Option (BoardState Out)) (View Out) → Type 0
+  abbrev pub Kept : ℕ → ℕ → (ℕ → Out → Type 0) → State (Option (BoardState Out)) (LockView Out) → Type 0
   Kept jobs seats right s = (turn : Option ℕ) × (b : BoardState Out) × Shows right jobs seats turn b s
 
   -- what is told to a pass that took the turn
-  pub record Found (v : View Out) (b : BoardState Out) : Type 0 where
+  pub record Found (v : View) (b : BoardState Out) : Type 0 where
     pub sound : IsSound b
     pub jobs_are : length b.machine.slots ≡ v.jobs
     pub hand : IfSome v.hand (λ job. slice_get b.machine.slots job ≡ Some (InHand v.number))
     pub deposits : AllDone b.machine.slots v.deposits
 
-  abbrev pub Took : Step (Option (BoardState Out)) → Me (Option (BoardState Out)) (View Out) → ℕ → Me (Option (BoardState Out)) (View Out) → Type 0
-  Took st v found w = MatchBool (found == 0) ((b : BoardState Out) × (w.0 ≡ seeing v.0 b) × (w.1 ≡ (0, Some b) ∷ []) × Found v.0 b) ((w.0 ≡ v.0) × (w.1 ≡ v.1))
+  abbrev pub Took : Step (Option (BoardState Out)) → Me (Option (BoardState Out)) (LockView Out) → ℕ → Me (Option (BoardState Out)) (LockView Out) → Type 0
+  Took st v found w = MatchBool (found == 0) ((b : BoardState Out) × (w.0 ≡ seeing v.0 b) × (w.1 ≡ (0, Some b) ∷ []) × Found v.0.known b) ((w.0 ≡ v.0) × (w.1 ≡ v.1))
 
-  abbrev pub Claimed : Step (Option (BoardState Out)) → Me (Option (BoardState Out)) (View Out) → ℕ → Me (Option (BoardState Out)) (View Out) → Type 0
+  abbrev pub Claimed : Step (Option (BoardState Out)) → Me (Option (BoardState Out)) (LockView Out) → ℕ → Me (Option (BoardState Out)) (LockView Out) → Type 0
   Claimed st v found w = (w.0 ≡ claimed_view v.0) × (w.1 ≡ [])
 
-  abbrev pub Ended : Step (Option (BoardState Out)) → Me (Option (BoardState Out)) (View Out) → ℕ → Me (Option (BoardState Out)) (View Out) → Type 0
+  abbrev pub Ended : Step (Option (BoardState Out)) → Me (Option (BoardState Out)) (LockView Out) → ℕ → Me (Option (BoardState Out)) (LockView Out) → Type 0
   Ended st v found w = (w.0 ≡ ended_view v.0) × (w.1 ≡ [])
 
-  abbrev pub Deposited : Step (Option (BoardState Out)) → Me (Option (BoardState Out)) (View Out) → ℕ → Me (Option (BoardState Out)) (View Out) → Type 0
+  abbrev pub Deposited : Step (Option (BoardState Out)) → Me (Option (BoardState Out)) (LockView Out) → ℕ → Me (Option (BoardState Out)) (LockView Out) → Type 0
   Deposited st v found w = (w.0 ≡ deposited_view v.0) × (w.1 ≡ [])
 
-  abbrev pub GaveBack : Step (Option (BoardState Out)) → Me (Option (BoardState Out)) (View Out) → ℕ → Me (Option (BoardState Out)) (View Out) → Type 0
+  abbrev pub GaveBack : Step (Option (BoardState Out)) → Me (Option (BoardState Out)) (LockView Out) → ℕ → Me (Option (BoardState Out)) (LockView Out) → Type 0
   GaveBack st v found w = (w.0 ≡ back_view v.0) × (w.1 ≡ [])

@@ -7,11 +7,11 @@ ghost use prog.Atomic.{either};
 ghost use Rattle.nef_board.specs.Views.{seeing};
 
 use crate::pass::LockPass;
-use crate::rule::{Claims, Cut, Deposits, Ends, GivesBack, LockRule, Order, Takes};
+use crate::rule::{Claims, Cut, Deposits, Ends, GivesBack, LockRule, Takes};
 use crate::state::BoardState;
-use crate::view::View;
+use crate::view::LockView;
 use atomic_table::{Seat, Shared, Table, TableRule};
-use nef_core::{Board, Claim, Job, OutOfMemory, Receipt};
+use nef_core::{Board, Claim, Job, Order, OutOfMemory, Receipt};
 use std::alloc::Global;
 use std::sync::Wait;
 use std::{hint, thread};
@@ -23,7 +23,7 @@ use std::{hint, thread};
 #[derive(Drop)]
 pub struct LockBoard<'a, R, J: Job> {
     rt: &'a R,
-    table: Table<Option<BoardState<J::Out>>, View<J::Out>, Order<'a, J>, LockRule, Global>,
+    table: Table<Option<BoardState<J::Out>>, LockView<J::Out>, Order<'a, J>, LockRule, Global>,
     ghost word_count: { table.shared.table_id.words ≡ 1 },
     ghost slot_count: { table.shared.table_id.slots ≡ 1 },
 }
@@ -81,17 +81,17 @@ fn wait(asked: u32) -> u32 {
 }
 
 // Takes the turn, and the state out of its slot.
-fn take_turn<R: Wait, T, K, P: TableRule<Option<BoardState<T>>, View<T>, K>>(
+fn take_turn<R: Wait, T, K, P: TableRule<Option<BoardState<T>>, LockView<T>, K>>(
     rt: &R,
-    shared: &Shared<Option<BoardState<T>>, View<T>, K, P>,
-    seat: &mut Seat<Option<BoardState<T>>, View<T>>,
+    shared: &Shared<Option<BoardState<T>>, LockView<T>, K, P>,
+    seat: &mut Seat<Option<BoardState<T>>, LockView<T>>,
 ) -> BoardState<T>
     requires of { seat.old.table_id ≡ shared.now.table_id }
     requires word { 0 < shared.now.table_id.words }
     requires free { seat.old.me.1 ≡ [] }
     requires rule { Allows (P.holds shared.now.key) shared.now.table_id.slots seat.old.id seat.old.me 0 (λ n. either (n == 0) 1 n) (Took (step shared.now.table_id.slots 0 0 1 none) seat.old.me) }
     ensures of { (seat.new.table_id ≡ seat.old.table_id) × (seat.new.id ≡ seat.old.id) }
-    ensures found { Found seat.old.me.0 result × (seat.new.me ≡ (seeing seat.old.me.0 result, (0, None) ∷ [])) }
+    ensures found { Found seat.old.me.0.known result × (seat.new.me ≡ (seeing seat.old.me.0 result, (0, None) ∷ [])) }
 {
     let mut asked = 0;
     for _ in rt.forever() {
@@ -113,17 +113,17 @@ impl<'a, R: Wait + Sync, J: Job> Board<J> for LockBoard<'a, R, J> {
 
     ghost made_for = { λ b. b.table.shared.key.job.now };
 
-    ghost belongs = { λ b p. (p.seat.table_id ≡ b.table.shared.table_id) × (p.seat.me.0.jobs ≡ b.table.shared.key.jobs) × (b.table.shared.key.jobs ≡ J.count b.table.shared.key.job.now) };
+    ghost belongs = { λ b p. (p.seat.table_id ≡ b.table.shared.table_id) × (p.seat.me.0.known.jobs ≡ b.table.shared.key.jobs) × (b.table.shared.key.jobs ≡ J.count b.table.shared.key.job.now) };
 
-    ghost number = { λ p. p.seat.me.0.number };
+    ghost number = { λ p. p.seat.me.0.known.number };
 
-    ghost spare = { λ p. p.seat.me.0.spare };
+    ghost spare = { λ p. p.seat.me.0.known.spare };
 
-    ghost hand = { λ p. p.seat.me.0.hand };
+    ghost hand = { λ p. p.seat.me.0.known.hand };
 
-    ghost ended = { λ p. p.seat.me.0.ended };
+    ghost ended = { λ p. p.seat.me.0.known.ended };
 
-    ghost deposits = { λ p. p.seat.me.0.deposits };
+    ghost deposits = { λ p. p.seat.me.0.known.deposits };
 
     fn split(&self, pass: &mut LockPass<J>) -> LockPass<J> {
         let number = pass.made;

@@ -1,22 +1,14 @@
 //! What holds between any two steps, and what each kind of step tells.
 use crate::state::BoardState;
-use crate::view::View;
+use crate::view::LockView;
 use atomic_table::{Join, Play, Split, TableRule};
-use nef_core::Job;
-
-/// What the table is told once: the job value, how many jobs it has, and how many passes there
-/// may be.
-#[derive(Drop)]
-pub struct Order<'a, J: Job> {
-    pub job: &'a J,
-    pub jobs: u64,
-    pub seats: u32,
-}
+use nef_core::{Job, Order};
 
 /// The state at home, or seen by the pass that has the turn, is sound and fits all views.
 pub struct LockRule;
 
-impl<'a, J: Job> TableRule<Option<BoardState<J::Out>>, View<J::Out>, Order<'a, J>> for LockRule {
+impl<'a, J: Job> TableRule<Option<BoardState<J::Out>>, LockView<J::Out>, Order<'a, J>>
+    for LockRule {
     ghost use Rattle.nef_board.specs.Rule.{Kept};
     ghost use Rattle.nef_board.specs.Views.{first_view};
 
@@ -28,7 +20,7 @@ impl<'a, J: Job> TableRule<Option<BoardState<J::Out>>, View<J::Out>, Order<'a, J
 /// Tries to take the turn.
 pub struct Takes;
 
-impl<T> Play<Option<BoardState<T>>, View<T>> for Takes {
+impl<T> Play<Option<BoardState<T>>, LockView<T>> for Takes {
     ghost use Rattle.nef_board.specs.Rule.{Took};
 
     ghost then = { Took };
@@ -37,7 +29,7 @@ impl<T> Play<Option<BoardState<T>>, View<T>> for Takes {
 /// Frees the turn after a claim that got a job.
 pub struct Claims;
 
-impl<T> Play<Option<BoardState<T>>, View<T>> for Claims {
+impl<T> Play<Option<BoardState<T>>, LockView<T>> for Claims {
     ghost use Rattle.nef_board.specs.Rule.{Claimed};
 
     ghost then = { Claimed };
@@ -46,7 +38,7 @@ impl<T> Play<Option<BoardState<T>>, View<T>> for Claims {
 /// Frees the turn after a claim that got none.
 pub struct Ends;
 
-impl<T> Play<Option<BoardState<T>>, View<T>> for Ends {
+impl<T> Play<Option<BoardState<T>>, LockView<T>> for Ends {
     ghost use Rattle.nef_board.specs.Rule.{Ended};
 
     ghost then = { Ended };
@@ -55,7 +47,7 @@ impl<T> Play<Option<BoardState<T>>, View<T>> for Ends {
 /// Frees the turn after a deposit.
 pub struct Deposits;
 
-impl<T> Play<Option<BoardState<T>>, View<T>> for Deposits {
+impl<T> Play<Option<BoardState<T>>, LockView<T>> for Deposits {
     ghost use Rattle.nef_board.specs.Rule.{Deposited};
 
     ghost then = { Deposited };
@@ -64,7 +56,7 @@ impl<T> Play<Option<BoardState<T>>, View<T>> for Deposits {
 /// Frees the turn after a giving back.
 pub struct GivesBack;
 
-impl<T> Play<Option<BoardState<T>>, View<T>> for GivesBack {
+impl<T> Play<Option<BoardState<T>>, LockView<T>> for GivesBack {
     ghost use Rattle.nef_board.specs.Rule.{GaveBack};
 
     ghost then = { GaveBack };
@@ -73,7 +65,7 @@ impl<T> Play<Option<BoardState<T>>, View<T>> for GivesBack {
 /// Cuts a pass in two, and takes one in.
 pub struct Cut;
 
-impl<T> Split<View<T>> for Cut {
+impl<T> Split<LockView<T>> for Cut {
     ghost use Rattle.nef_board.specs.Views.{cut, new_view};
 
     ghost left = { cut };
@@ -81,7 +73,7 @@ impl<T> Split<View<T>> for Cut {
     ghost right = { new_view };
 }
 
-impl<T> Join<View<T>> for Cut {
+impl<T> Join<LockView<T>> for Cut {
     ghost use Rattle.nef_board.specs.Views.{taken_in, spent};
 
     ghost both = { taken_in };

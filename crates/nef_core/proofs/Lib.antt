@@ -3,3 +3,4 @@ pub mod Schedules
 pub mod Counting
 pub mod Deposits
 pub mod Accounts
+pub mod Passes

@@ -7,3 +7,4 @@ pub mod Laws
 pub mod Results
 pub mod Accounts
 pub mod Choice
+pub mod Passes

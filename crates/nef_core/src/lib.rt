@@ -6,10 +6,14 @@ mod how;
 mod job;
 mod laws;
 mod machine;
+mod order;
+mod view;
 
 pub use board::{Board, Claim, Receipt};
 pub use how::{BoardKind, How, TextVersion};
 pub use job::Job;
 pub use laws::{every_claim_is_accounted_for, every_schedule};
 pub use machine::{Event, Machine, Slot};
+pub use order::Order;
 pub use std::alloc::AllocError as OutOfMemory;
+pub use view::View;

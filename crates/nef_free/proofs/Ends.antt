@@ -1,5 +1,5 @@
 -- The board when it is made and when it is closed.
-use Rattle.std.proofs.Common.{◌≡◌, ℕ, zero, suc, ◌+◌, ◌^◌, ◌<◌, List, [], ◌∷◌, map, length, refl, ap, sym, ◌∙◌, Option, Some, None, slice_get, slice_index, arith, ◌⊎◌, inl, inr, true, false, subst, replicate, if◌then◌else◌, ◌==◌}
+use Rattle.std.proofs.Common.{◌≡◌, ℕ, zero, suc, ◌+◌, ◌^◌, ◌<◌, List, [], ◌∷◌, map, length, refl, ap, sym, ◌∙◌, Option, Some, None, slice_get, slice_index, arith, ◌⊎◌, inl, inr, true, subst, replicate, if◌then◌else◌, ◌==◌}
 use Rattle.std.proofs.lemmas.List.{get_or-replicate, length-replicate}
 use Rattle.std.proofs.lemmas.Option.{slice_get_within}
 use mathlib.Core.Option.{some}
@@ -13,12 +13,10 @@ use Rattle.nef_core.specs.declared.machine.Slot.{Slot}
 use Rattle.nef_core.specs.declared.machine.Slot.TheVariants.{Open, InHand, Done}
 use Rattle.nef_core.proofs.Places.{get_replicate, only_one}
 use Rattle.nef_core.proofs.Deposits.{among, same_slot}
-use Rattle.nef_free.specs.declared.view.View.{View}
-use Rattle.nef_free.specs.Views.{first_view}
-use Rattle.nef_free.specs.Rule.{Fits, SlotIs, Shows, Kept}
-
-false_not_true : false ≡ true → ⊥
-false_not_true e = cc
+use Rattle.nef_core.specs.declared.view.View.{View}
+use Rattle.nef_core.specs.Passes.{first_view, Fits}
+use Rattle.nef_core.proofs.Passes.{fits_first}
+use Rattle.nef_free.specs.Rule.{SlotIs, Shows, Kept}
 
 some_none : {X : Type 0} (x : X) → Some (Some x) ≡ Some None → ⊥
 some_none x e = cc
@@ -61,15 +59,7 @@ module _ {Out : Type 0} (right : ℕ → Out → Type 0) (jobs seats : ℕ) wher
           each = λ job h. (Open, get_replicate jobs job Open h, (home_empty jobs job None h, inr (word (job + 1) (omega arith), omega arith)));
           views = λ place u h alive.
               let o = only_one place (first_view jobs seats) u h in
-              subst (λ (z : View). Fits jobs seats (start jobs) 1 place z) o.1 (record {
-                number = sym o.0;
-                jobs_are = refl;
-                hand = tt;
-                deposits = tt;
-                ended = λ e. absurd (false_not_true e);
-                only_first = λ n. absurd (n o.0);
-                room = λ q. (refl, omega arith);
-              });
+              subst (λ (z : View). Fits jobs seats (start jobs) 1 place z) o.1 (subst (λ (p : ℕ). Fits jobs seats (start jobs) 1 p (first_view jobs seats)) (sym o.0) (fits_first jobs seats (start jobs) some_seat));
           few = some_seat;
           drawn = omega arith;
         },

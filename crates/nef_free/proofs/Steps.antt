@@ -1,5 +1,5 @@
 -- Each kind of step keeps the rule.
-use Rattle.std.proofs.Common.{◌≡◌, ℕ, ◌+◌, ◌^◌, ◌%◌, ◌<◌, ◌≤◌, ◌≢◌, List, [], ◌∷◌, ◌++◌, length, refl, ap, sym, ◌∙◌, Option, Some, None, slice_get, slice_set, slice_index, arith, inl, inr, Bool, true, false, subst, set, IfSome, nat_lt, MatchBool}
+use Rattle.std.proofs.Common.{◌≡◌, ℕ, ◌+◌, ◌^◌, ◌%◌, ◌<◌, ◌≤◌, ◌≢◌, List, [], ◌∷◌, ◌++◌, length, refl, ap, sym, ◌∙◌, Option, Some, None, slice_get, slice_set, slice_index, arith, inl, inr, Bool, true, false, subst, set, nat_lt, MatchBool}
 use Rattle.std.proofs.Math.ListN.{length-set}
 use Rattle.std.proofs.lemmas.List.{get_or-set_same, get_or-set_other}
 use Rattle.std.proofs.lemmas.Bool.Decides.{nat_tests}
@@ -18,15 +18,17 @@ use Rattle.nef_core.specs.declared.machine.Slot.TheVariants.{Open, InHand, Done}
 use Rattle.nef_core.specs.declared.machine.Event.{Event}
 use Rattle.nef_core.specs.declared.machine.Event.TheVariants.{Claim, Deposit, GiveBack}
 use Rattle.nef_core.proofs.Places.{get_set_here, get_set_other, same_or_not, within, at_length, below_last}
-use Rattle.nef_core.proofs.Deposits.{open_not_held, open_not_done, held_not_done, held_by, same_slot, done_moved, done_append, not_among, keeps_done}
+use Rattle.nef_core.proofs.Deposits.{open_not_held, open_not_done, held_not_done, held_by, same_slot, not_among}
 use Rattle.nef_core.proofs.Schedules.{claimed, replay_append, legal_more}
-use Rattle.nef_free.specs.declared.view.View.{View}
+use Rattle.nef_core.specs.declared.view.View.{View}
 use Rattle.nef_core.specs.Accounts.{IsAccounted}
 use Rattle.nef_core.proofs.Accounts.{accounted}
 use Rattle.nef_free.specs.Laws.{IsSeat}
-use Rattle.nef_free.specs.Views.{holding, at_end, deposited, gave_back, cut, new_view, taken_in, spent, is_below}
-use Rattle.nef_free.specs.Rule.{Fits, over, SlotIs, Shows, Kept, Claimed, Deposited, GaveBack}
-use Rattle.nef_free.proofs.Views.{over_small, overs_set, overs_length, overs_snoc, fits_moved, still, moved, undrawn}
+use Rattle.nef_core.specs.Passes.{holding, at_end, deposited, gave_back, cut, new_view, taken_in, spent, Fits}
+use Rattle.nef_core.proofs.Passes.{fits_cut, fits_new, fits_beside, fits_taken_in, fits_at_end, fits_holding, fits_deposited, fits_gave_back, fits_moved, held_in}
+use Rattle.nef_free.specs.Views.{is_below}
+use Rattle.nef_free.specs.Rule.{over, SlotIs, Shows, Kept, Claimed, Deposited, GaveBack}
+use Rattle.nef_free.proofs.Views.{over_small, overs_set, overs_length, overs_snoc, still, moved, undrawn}
 
 true_not_false : (b : Bool) → b ≡ true → b ≡ false → ⊥
 true_not_false b p q = cc
@@ -60,15 +62,7 @@ module _ {Out : Type 0} (right : ℕ → Out → Type 0) (jobs seats : ℕ) wher
       let len : length (set s.views k (holding v f)) ≡ length s.views = length-set s.views k (holding v f) in
       let m' : Machine = record { next = f + 1; slots = slice_set m.slots f (InHand k) } in
       let held : slice_get m'.slots f ≡ Some (InHand k) = get_set_here m.slots f (InHand k) (let n = sh.slots in omega arith) in
-      let mine : Fits jobs seats m' (length s.views) k (holding v f) = record {
-        number = fv.number;
-        jobs_are = fv.jobs_are;
-        hand = held;
-        deposits = done_moved m.slots m'.slots v.deposits (keeps_done m.slots f (InHand k) Open opens open_not_done) fv.deposits;
-        ended = λ e. absurd (true_not_false v.ended e going);
-        only_first = fv.only_first;
-        room = fv.room;
-      } in (
+      let mine : Fits jobs seats m' (length s.views) k (holding v f) = rw next at (fits_holding jobs seats m (length s.views) k v sh.slots (ap (slice_get m.slots) next ∙ opens) fv) in (
         free,
         u.2,
         not_among m.slots f Open v.deposits opens open_not_done fv.deposits,
@@ -120,15 +114,7 @@ module _ {Out : Type 0} (right : ℕ → Out → Type 0) (jobs seats : ℕ) wher
       let behind : over (at_end v) ≡ 1 = rw live refl in
       let total = overs_set s.views k v (at_end v) at in
       let most = overs_length (set s.views k (at_end v)) in
-      let mine : Fits jobs seats m (length s.views) k (at_end v) = record {
-        number = fv.number;
-        jobs_are = fv.jobs_are;
-        hand = fv.hand;
-        deposits = fv.deposits;
-        ended = λ e. next;
-        only_first = fv.only_first;
-        room = fv.room;
-      } in
+      let mine : Fits jobs seats m (length s.views) k (at_end v) = fits_at_end jobs seats m (length s.views) k v next fv in
       let drawn = sh.drawn in let few = sh.few in let small = sh.small in (
         omega arith,
         record {
@@ -161,7 +147,7 @@ module _ {Out : Type 0} (right : ℕ → Out → Type 0) (jobs seats : ℕ) wher
       → Shows right jobs seats (record { next = m.next; slots = slice_set m.slots job x }) (stepped s (job + 1) c k ((job, y) ∷ []) w gives)
   settled m s k v w job c x y sh at live hand alive ended free weight mine shows =
       let fv = sh.views k v at live in
-      let held : slice_get m.slots job ≡ Some (InHand k) = subst (λ (h : Option ℕ). IfSome h (λ i. slice_get m.slots i ≡ Some (InHand k))) hand fv.hand in
+      let held : slice_get m.slots job ≡ Some (InHand k) = held_in jobs seats m (length s.views) k v job hand fv in
       let low : job < jobs = let n = sh.slots in let i = slice_get_within m.slots job (InHand k) held in omega arith in
       let e = sh.each job low in
       let is : e.0 ≡ InHand k = same_slot e.0 (InHand k) (sym e.1 ∙ held) in
@@ -205,21 +191,10 @@ module _ {Out : Type 0} (right : ℕ → Out → Type 0) (jobs seats : ℕ) wher
       → (slice_get m.slots job ≡ Some (InHand k)) × Shows right jobs seats (after m (Deposit k job)) (stepped s (job + 1) 1 k ((job, Some out) ∷ []) (deposited v job) gives)
   stored_is_deposit m s k v job out sh at live hand fits =
       let fv = sh.views k v at live in
-      let held : slice_get m.slots job ≡ Some (InHand k) = subst (λ (h : Option ℕ). IfSome h (λ i. slice_get m.slots i ≡ Some (InHand k))) hand fv.hand in
-      let now : slice_get (slice_set m.slots job (Done k)) job ≡ Some (Done k) = get_set_here m.slots job (Done k) (slice_get_within m.slots job (InHand k) held) in (
+      let held : slice_get m.slots job ≡ Some (InHand k) = held_in jobs seats m (length s.views) k v job hand fv in (
         held,
         settled m s k v (deposited v job) job 1 (Done k) (Some out) sh at live hand live refl refl refl
-            (record {
-              number = fv.number;
-              jobs_are = fv.jobs_are;
-              hand = tt;
-              deposits = done_append (slice_set m.slots job (Done k)) v.deposits ((job, v.number) ∷ [])
-                  (done_moved m.slots (slice_set m.slots job (Done k)) v.deposits (keeps_done m.slots job (Done k) (InHand k) held (held_not_done k)) fv.deposits)
-                  (now ∙ ap (λ (z : ℕ). Some (Done z)) (sym fv.number), tt);
-              ended = fv.ended;
-              only_first = fv.only_first;
-              room = fv.room;
-            })
+            (fits_deposited jobs seats m (length s.views) k v job hand fv)
             (λ t word low home. (word, low, (out, home, fits))),
       )
 
@@ -228,18 +203,10 @@ module _ {Out : Type 0} (right : ℕ → Out → Type 0) (jobs seats : ℕ) wher
       → (slice_get m.slots job ≡ Some (InHand k)) × Shows right jobs seats (after m (GiveBack k job)) (stepped s (job + 1) 2 k ((job, None) ∷ []) (gave_back v) gives)
   stored_is_giving_back m s k v job sh at live hand =
       let fv = sh.views k v at live in
-      let held : slice_get m.slots job ≡ Some (InHand k) = subst (λ (h : Option ℕ). IfSome h (λ i. slice_get m.slots i ≡ Some (InHand k))) hand fv.hand in (
+      let held : slice_get m.slots job ≡ Some (InHand k) = held_in jobs seats m (length s.views) k v job hand fv in (
         held,
         settled m s k v (gave_back v) job 2 Open None sh at live hand live refl refl refl
-            (record {
-              number = fv.number;
-              jobs_are = fv.jobs_are;
-              hand = tt;
-              deposits = done_moved m.slots (slice_set m.slots job Open) v.deposits (keeps_done m.slots job Open (InHand k) held (held_not_done k)) fv.deposits;
-              ended = fv.ended;
-              only_first = fv.only_first;
-              room = fv.room;
-            })
+            (fits_gave_back jobs seats m (length s.views) k v job hand fv)
             (λ t word low home. (home, inl (word, low))),
       )
 
@@ -256,16 +223,7 @@ module _ {Out : Type 0} (right : ℕ → Out → Type 0) (jobs seats : ℕ) wher
       let longer : length all ≡ length s.views + 1 = length-append cutviews (new_view v ∷ []) ∙ omega arith in
       let total = overs_set s.views k v (cut v) at in
       let more = overs_snoc cutviews (new_view v) in
-      let first : (k ≢ 0 → ⊥) = λ n. let z = fv.only_first n in absurd (omega arith) in
-      let mine : Fits jobs seats m (length s.views + 1) k (cut v) = record {
-        number = fv.number;
-        jobs_are = fv.jobs_are;
-        hand = fv.hand;
-        deposits = fv.deposits;
-        ended = fv.ended;
-        only_first = λ n. absurd (first n);
-        room = λ h. (omega arith, omega arith);
-      } in
+      let mine : Fits jobs seats m (length s.views + 1) k (cut v) = fits_cut jobs seats m (length s.views) k v some_left fv in
       record {
         words = sh.words;
         homes = sh.homes;
@@ -285,30 +243,12 @@ module _ {Out : Type 0} (right : ℕ → Out → Type 0) (jobs seats : ℕ) wher
         views = λ place u h alive. rw longer (elim (same_or_not place (length s.views)) [
           | inl e ↦
               let last : new_view v ≡ u = some-injective (new_view v) u (sym (at_length cutviews (new_view v)) ∙ (ap (get_elem? all) (len ∙ sym e) ∙ h)) in
-              subst (λ (z : View). Fits jobs seats m (length s.views + 1) place z) last (record {
-                number = room.0 ∙ sym e;
-                jobs_are = fv.jobs_are;
-                hand = tt;
-                deposits = tt;
-                ended = λ q. absurd (true_not_false false q refl);
-                only_first = λ n. refl;
-                room = λ q. absurd (omega arith);
-              })
+              subst (λ (z : View). Fits jobs seats m (length s.views + 1) place z) last (subst (λ (p : ℕ). Fits jobs seats m (length s.views + 1) p (new_view v)) (sym e) (fits_new jobs seats m (length s.views) k v some_left fv))
           | inr n ↦
               let there : get_elem? cutviews place ≡ some u = below_last cutviews (new_view v) place u (λ q. n (q ∙ len)) h in
               elim (at_set s.views k place (cut v) u there) [
                 | inl q ↦ subst (λ (z : View). Fits jobs seats m (length s.views + 1) place z) q.1 (subst (λ (p : ℕ). Fits jobs seats m (length s.views + 1) p (cut v)) (sym q.0) mine)
-                | inr q ↦
-                    let f = sh.views place u q.1 alive in
-                    record {
-                      number = f.number;
-                      jobs_are = f.jobs_are;
-                      hand = f.hand;
-                      deposits = f.deposits;
-                      ended = f.ended;
-                      only_first = f.only_first;
-                      room = λ left. absurd (first (λ zero_k. let z = f.only_first (λ p. q.0 (p ∙ sym zero_k)) in absurd (omega arith)));
-                    }
+                | inr q ↦ fits_beside jobs seats m (length s.views) k v place u some_left fv q.0 (sh.views place u q.1 alive)
               ]
         ]);
         few = omega arith;
@@ -329,15 +269,7 @@ module _ {Out : Type 0} (right : ℕ → Out → Type 0) (jobs seats : ℕ) wher
       let one = overs_set s.views k v (taken_in v w) at in
       let two = overs_set first other w spent there in
       let most = over_small w in
-      let mine : Fits jobs seats m (length s.views) k (taken_in v w) = record {
-        number = fv.number;
-        jobs_are = fv.jobs_are;
-        hand = fv.hand;
-        deposits = done_append m.slots v.deposits w.deposits fv.deposits fw.deposits;
-        ended = fv.ended;
-        only_first = fv.only_first;
-        room = fv.room;
-      } in
+      let mine : Fits jobs seats m (length s.views) k (taken_in v w) = fits_taken_in jobs seats m (length s.views) k v other w fv fw in
       record {
         words = sh.words;
         homes = sh.homes;
@@ -442,7 +374,7 @@ module _ {Out : Type 0} (right : ℕ → Out → Type 0) (jobs seats : ℕ) wher
       → (get_elem? s.homes job ≡ some none) × (slice_get m.slots job ≡ Some (InHand k))
   held_is_away m s k v job sh at live hand =
       let fv = sh.views k v at live in
-      let held : slice_get m.slots job ≡ Some (InHand k) = subst (λ (h : Option ℕ). IfSome h (λ i. slice_get m.slots i ≡ Some (InHand k))) hand fv.hand in
+      let held : slice_get m.slots job ≡ Some (InHand k) = held_in jobs seats m (length s.views) k v job hand fv in
       let e = sh.each job (let n = sh.slots in let i = slice_get_within m.slots job (InHand k) held in omega arith) in
       let is : e.0 ≡ InHand k = same_slot e.0 (InHand k) (sym e.1 ∙ held) in
       let mine : SlotIs right s job (InHand k) = subst (λ (z : Slot). SlotIs right s job z) is e.2 in

@@ -1,16 +1,14 @@
 -- Lists of views, and what a step leaves as it was.
-use Rattle.std.proofs.Common.{◌≡◌, ℕ, zero, suc, ◌+◌, ◌<◌, ◌≤◌, List, [], ◌∷◌, ◌++◌, length, refl, ap, sym, ◌∙◌, Option, Some, None, slice_get, slice_set, slice_index, arith, inl, inr, true, false, set, cond, not, ◌&&◌}
+use Rattle.std.proofs.Common.{◌≡◌, ℕ, zero, suc, ◌+◌, ◌<◌, ◌≤◌, List, [], ◌∷◌, ◌++◌, length, refl, ap, sym, ◌∙◌, Option, Some, None, slice_index, arith, inl, inr, true, false, set, cond, not, ◌&&◌}
 use mathlib.Core.Option.{some, some-injective, some-ne-none}
 use lib.ListN.{get_elem?}
 use Rattle.atomic_table.specs.Table.{State}
 use Rattle.atomic_table.proofs.Lists.{set_here, set_else}
-use Rattle.nef_core.specs.State.{State as Machine}
 use Rattle.nef_core.specs.declared.machine.Slot.{Slot}
 use Rattle.nef_core.specs.declared.machine.Slot.TheVariants.{Open, InHand, Done}
 use Rattle.nef_core.proofs.Places.{same_or_not, within}
-use Rattle.nef_core.proofs.Deposits.{done_moved, keeps_done, hand_moved}
-use Rattle.nef_free.specs.declared.view.View.{View}
-use Rattle.nef_free.specs.Rule.{Fits, over, overs, SlotIs}
+use Rattle.nef_core.specs.declared.view.View.{View}
+use Rattle.nef_free.specs.Rule.{over, overs, SlotIs}
 
 pub overs_set : (views : List View) (k : ℕ) (v w : View) → get_elem? views k ≡ some v → overs (set views k w) + over v ≡ overs views + over w
 overs_set [] k v w e = absurd (some-ne-none v (sym e))
@@ -27,19 +25,6 @@ overs_length (x ∷ xs) = let a = over_small x in let b = overs_length xs in ome
 pub overs_snoc : (views : List View) (w : View) → overs (views ++ w ∷ []) ≡ overs views + over w
 overs_snoc [] w = omega arith
 overs_snoc (x ∷ xs) w = let h = overs_snoc xs w in omega arith
-
--- a pass that takes no part
-pub fits_moved : (jobs seats : ℕ) (m : Machine) (next i : ℕ) (x y : Slot) (count place : ℕ) (u : View) → slice_get m.slots i ≡ Some y → (Some y ≡ Some (InHand place) → ⊥) → ((w : ℕ) → Some y ≡ Some (Done w) → ⊥) → (m.next ≡ jobs → next ≡ jobs)
-    → Fits jobs seats m count place u → Fits jobs seats (record { next = next; slots = slice_set m.slots i x }) count place u
-fits_moved jobs seats m next i x y count place u at n d end f = record {
-  number = f.number;
-  jobs_are = f.jobs_are;
-  hand = hand_moved m.slots i place x y u.hand at n f.hand;
-  deposits = done_moved m.slots (slice_set m.slots i x) u.deposits (keeps_done m.slots i x y at d) f.deposits;
-  ended = λ e. end (f.ended e);
-  only_first = f.only_first;
-  room = f.room;
-}
 
 -- a hand that was there is there
 pub still : (views : List View) (k : ℕ) (v w : View) (job : ℕ) → get_elem? views k ≡ some v → (v.hand ≡ Some job → (w.live ≡ true) × (w.hand ≡ Some job))

@@ -10,9 +10,9 @@ use Rattle.nef_core.specs.declared.machine.Slot.TheVariants.{InHand}
 use Rattle.nef_core.specs.declared.machine.Event.{Event}
 use Rattle.nef_core.specs.declared.machine.Event.TheVariants.{Claim, Deposit, GiveBack}
 use Rattle.nef_core.specs.declared.board.Claim.TheVariants.{Got, NoneLeft}
-use Rattle.nef_free.specs.declared.view.View.{View}
+use Rattle.nef_core.specs.declared.view.View.{View}
 use Rattle.nef_free.specs.Rule.{Shows, Kept}
-use Rattle.nef_free.specs.Views.{holding, at_end, deposited, gave_back, cut, new_view, taken_in, spent}
+use Rattle.nef_core.specs.Passes.{holding, at_end, deposited, gave_back, cut, new_view, taken_in, spent}
 
 -- the seat k has this view, of a pass that wasn't taken in
 abbrev pub IsSeat : {S : Type 0} → State S View → ℕ → View → Type 0

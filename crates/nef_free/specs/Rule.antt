@@ -1,27 +1,16 @@
 -- What holds between any two steps of the board, and what each kind of step tells.
-use Rattle.std.specs.Prelude.{◌≡◌, ◌≢◌, ℕ, true, false, ◌+◌, ◌-◌, ◌^◌, ◌<◌, ◌≤◌, List, [], ◌∷◌, length, Option, Some, None, nat_lt, slice_get, slice_index, min, MatchBool, IfSome, ◌⊎◌, cond, not, ◌&&◌}
+use Rattle.std.specs.Prelude.{◌≡◌, ℕ, true, false, ◌+◌, ◌-◌, ◌^◌, ◌<◌, ◌≤◌, List, [], ◌∷◌, length, Option, Some, None, nat_lt, slice_get, slice_index, min, MatchBool, ◌⊎◌, cond, not, ◌&&◌}
 use mathlib.Core.Option.{none, some}
 use lib.ListN.{get_elem?}
 use Rattle.atomic_table.specs.Table.{State, Me, Step}
 use Rattle.nef_core.specs.State.{State as Machine}
-use Rattle.nef_core.specs.Results.{AllDone}
 use Rattle.nef_core.specs.Views.{has_job}
 use Rattle.nef_core.specs.Machine.{start, replay, IsLegal}
 use Rattle.nef_core.specs.declared.machine.Slot.{Slot}
 use Rattle.nef_core.specs.declared.machine.Slot.TheVariants.{Open, InHand, Done}
 use Rattle.nef_core.specs.declared.machine.Event.{Event}
-use Rattle.nef_free.specs.declared.view.View.{View}
-use Rattle.nef_free.specs.Views.{holding, at_end, deposited, gave_back}
-
--- what a pass knows fits the machine. Its number is its place among the views
-pub record Fits (jobs seats : ℕ) (m : Machine) (count place : ℕ) (v : View) : Type 0 where
-  pub number : v.number ≡ place
-  pub jobs_are : v.jobs ≡ jobs
-  pub hand : IfSome v.hand (λ job. slice_get m.slots job ≡ Some (InHand place))
-  pub deposits : AllDone m.slots v.deposits
-  pub ended : v.ended ≡ true → m.next ≡ jobs
-  pub only_first : place ≢ 0 → v.spare ≡ 0
-  pub room : 0 < v.spare → (v.made ≡ count) × (v.made + v.spare ≤ seats)
+use Rattle.nef_core.specs.declared.view.View.{View}
+use Rattle.nef_core.specs.Passes.{holding, at_end, deposited, gave_back, Fits}
 
 -- a view that may have drawn a number past the last one
 abbrev pub over : View → ℕ

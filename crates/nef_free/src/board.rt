@@ -5,10 +5,9 @@ ghost use mathlib.Core.Option.{some};
 ghost use lib.ListN.{get_elem?};
 ghost use Rattle.nef_free.specs.Views.{carried, is_below};
 
-use crate::rule::{Claims, Cut, Deposits, FreeRule, GivesBack, Order};
-use crate::view::View;
+use crate::rule::{Claims, Cut, Deposits, FreeRule, GivesBack};
 use atomic_table::{Closed, Seat, Table};
-use nef_core::{Board, Claim, Job, OutOfMemory, Receipt};
+use nef_core::{Board, Claim, Job, Order, OutOfMemory, Receipt, View};
 use std::alloc::Global;
 
 /// A board whose passes wait for nobody.

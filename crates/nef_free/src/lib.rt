@@ -4,7 +4,6 @@
 mod board;
 mod laws;
 mod rule;
-mod view;
 
 pub use board::{FreeBoard, FreePass};
 pub use laws::{board_runs, steps_are_events};

@@ -1,22 +1,13 @@
 //! What holds between any two steps, and what each kind of step tells.
-use crate::view::View;
 use atomic_table::{Join, Play, Split, TableRule};
-use nef_core::Job;
-
-/// What the table is told once: the job value, how many jobs it has, and how many passes there may be.
-#[derive(Drop)]
-pub struct Order<'a, J: Job> {
-    pub job: &'a J,
-    pub jobs: u64,
-    pub seats: u32,
-}
+use nef_core::{Job, Order, View};
 
 /// The words, homes and views show the machine after some legal history.
 pub struct FreeRule;
 
 impl<'a, J: Job> TableRule<Option<J::Out>, View, Order<'a, J>> for FreeRule {
     ghost use Rattle.nef_free.specs.Rule.{Kept};
-    ghost use Rattle.nef_free.specs.Views.{first_view};
+    ghost use Rattle.nef_core.specs.Passes.{first_view};
 
     ghost holds = { λ order s. Kept order.jobs order.seats (J.right order.job.now) s };
 
@@ -54,7 +45,7 @@ impl<T> Play<Option<T>, View> for GivesBack {
 pub struct Cut;
 
 impl Split<View> for Cut {
-    ghost use Rattle.nef_free.specs.Views.{cut, new_view};
+    ghost use Rattle.nef_core.specs.Passes.{cut, new_view};
 
     ghost left = { cut };
 
@@ -62,7 +53,7 @@ impl Split<View> for Cut {
 }
 
 impl Join<View> for Cut {
-    ghost use Rattle.nef_free.specs.Views.{taken_in, spent};
+    ghost use Rattle.nef_core.specs.Passes.{taken_in, spent};
 
     ghost both = { taken_in };
 

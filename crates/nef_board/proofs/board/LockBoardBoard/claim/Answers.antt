@@ -50,7 +50,7 @@ returns-in-Got-clause-claim g c =
     let seen = ap (λ q. q.0) x.3 ∙ ap (λ q. q.0) took.found.1 in
     let told = c.store.ensures.2.0 in (
       (let a = found.jobs_are in let b = c.requires.of.1 in let d = c.requires.of.2 in omega arith),
-      rw next (not_among_next m p.seat.me.0.deposits (is_fresh m c.take_turn-state.result.history.items found.sound.replayed found.sound.legal m.next (omega arith) free) found.deposits),
-      ap (λ z. z.hand) told ∙ (ap (λ z. Some (seen_next z.saw)) seen ∙ ap Some (sym next)),
-      ap (λ z. z.ended) told ∙ (ap (λ z. z.ended) seen ∙ (p.same_end ∙ c.if-pass.false)),
+      rw next (not_among_next m p.seat.me.0.known.deposits (is_fresh m c.take_turn-state.result.history.items found.sound.replayed found.sound.legal m.next (omega arith) free) found.deposits),
+      ap (λ z. z.known.hand) told ∙ (ap (λ z. Some (seen_next z.saw)) seen ∙ ap Some (sym next)),
+      ap (λ z. z.known.ended) told ∙ (ap (λ z. z.known.ended) seen ∙ (p.same_end ∙ c.if-pass.false)),
     )

@@ -9,7 +9,7 @@ pub returns-clause-right : goal.returns-clause-right
 returns-clause-right g c = closed_right _ _ _ _ _ c.args.pass.seat.me.0 c.take_turn-state.result _ _ c.close_with-closed.ensures.values.2 (ap (λ m. m.0) c.take_turn-state.ensures.found.1) c.args.pass.live
 
 pub returns-clause-done : goal.returns-clause-done
-returns-clause-done g c = closed_done c.args.pass.seat.me.0 c.take_turn-state.result c.take_turn-state.ensures.found.0
+returns-clause-done g c = closed_done c.args.pass.seat.me.0.known c.take_turn-state.result c.take_turn-state.ensures.found.0
 
 pub returns-clause-closed : goal.returns-clause-closed
-returns-clause-closed g c = closed_with _ c.args.pass.seat.me.0 c.take_turn-state.result c.take_turn-state.ensures.found.0 (c.requires.of.1 ∙ c.requires.of.2)
+returns-clause-closed g c = closed_with _ c.args.pass.seat.me.0.known c.take_turn-state.result c.take_turn-state.ensures.found.0 (c.requires.of.1 ∙ c.requires.of.2)
