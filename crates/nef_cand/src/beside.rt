@@ -1,31 +1,19 @@
 //! The candidates of a combination, listed by several threads.
 
-ghost use Rattle.std.specs.Prelude.{◌≡◌, IfOk, []};
+ghost use Rattle.std.specs.Prelude.{IfOk, []};
 ghost use Rattle.nef_space.specs.Sets.{Set};
 ghost use Rattle.nef_complex.specs.Complexes.{complex_of, ShowsSet};
 ghost use Rattle.nef_cand.specs.Points.{Adds, CutsOne, ListsCandidates};
 
 use crate::OutOfMemory;
-use crate::added::{add_cuts, add_vertices, sort_once};
-use crate::listing::candidates;
+use crate::listing::{candidates, cuts, gathered};
 use nef_complex::Complex;
-use nef_geo::{Plane, Point, lex_cmp};
+use nef_geo::{Plane, Point};
 use std::alloc::Global;
 use std::thread;
 use std::thread::Threads;
 
-// The points strictly inside an edge of the complex that lie on one of the planes, which doesn't hold the edge, in order.
-fn cuts(alloc: Global, c: &Complex, planes: &[Plane]) -> Result<Vec<Point>, OutOfMemory>
-    requires shows { (s : Set) × ShowsSet s c.now }
-    ensures cuts { IfOk result (λ v. Adds (CutsOne (complex_of c.now) planes.now) [] v.items) }
-{
-    let mut points = Vec::new(alloc);
-    add_cuts(alloc, &mut points, c, planes)?;
-    points.sort_by(|p, q| lex_cmp(p, q))?;
-    Ok(points)
-}
-
-// The same by two threads, of which each asks half of the planes. The points of each stand in order.
+// As `cuts`, by two threads, of which each asks half of the planes. The points of each stand in order.
 fn cuts_by_two<R: Threads + Sync>(
     rt: &R,
     alloc: Global,
@@ -90,11 +78,7 @@ pub fn candidates_beside<R: Threads + Sync>(
             ensures { IfOk result (λ v. Adds (CutsOne (complex_of b.entry.now) a.entry.now.carriers) [] v.items) }
         { cuts_by_two(rt, alloc, b, a.carriers.as_slice()) },
     );
-    let mut points = Vec::new(alloc);
-    add_vertices(&mut points, a)?;
-    add_vertices(&mut points, b)?;
-    points.extend_from_slice(first?.as_slice())?;
-    points.extend_from_slice(second?.as_slice())?;
-    sort_once(&mut points)?;
-    Ok(points)
+    let inside_a = first?;
+    let inside_b = second?;
+    gathered(alloc, a, b, inside_a.as_slice(), inside_b.as_slice())
 }

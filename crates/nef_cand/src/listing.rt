@@ -1,6 +1,6 @@
 //! The candidates of a combination of two sets, and of a half.
 
-ghost use Rattle.std.specs.Prelude.{IfOk, Bool};
+ghost use Rattle.std.specs.Prelude.{IfOk, Bool, []};
 ghost use Rattle.nef_space.specs.Place.{Place, Form};
 ghost use Rattle.nef_space.specs.Sets.{Set};
 ghost use Rattle.nef_space.specs.Local.{IsVertex};
@@ -9,13 +9,49 @@ ghost use Rattle.law_complex.specs.Shows.{SamePlane};
 ghost use Rattle.law_complex.specs.Laws.{IsVertexOfBoth};
 ghost use Rattle.nef_complex.specs.Complexes.{complex_of, ShowsSet};
 ghost use Rattle.nef_cand.specs.Candidates.{IsListed, AreCandidates, AreCutCandidates, AreFramed};
+ghost use Rattle.nef_cand.specs.Points.{Adds, CutsOne, ListsCandidates};
 
 use crate::OutOfMemory;
 use crate::added::{add_cuts, add_vertices, sort_once};
 use nef_complex::Complex;
-use nef_geo::{Plane, Point};
+use nef_geo::{Plane, Point, lex_cmp};
 use std::alloc::Global;
 use std::slice;
+
+/// The points strictly inside an edge of the complex that lie on one of the planes, which doesn't hold the edge, in order.
+pub(crate) fn cuts(alloc: Global, c: &Complex, planes: &[Plane]) -> Result<Vec<Point>, OutOfMemory>
+    requires shows { (s : Set) × ShowsSet s c.now }
+    ensures cuts { IfOk result (λ v. Adds (CutsOne (complex_of c.now) planes.now) [] v.items) }
+{
+    let mut points = Vec::new(alloc);
+    add_cuts(alloc, &mut points, c, planes)?;
+    points.sort_by(|p, q| lex_cmp(p, q))?;
+    Ok(points)
+}
+
+/// The candidates: the vertices of both complexes, and the points strictly inside an edge of the one that lie on a carrier
+/// of the other, which are given for each.
+pub(crate) fn gathered(
+    alloc: Global,
+    a: &Complex,
+    b: &Complex,
+    inside_a: &[Point],
+    inside_b: &[Point],
+) -> Result<Vec<Point>, OutOfMemory>
+    requires first { (s : Set) × ShowsSet s a.now }
+    requires second { (t : Set) × ShowsSet t b.now }
+    requires inside_first { Adds (CutsOne (complex_of a.now) b.now.carriers) [] inside_a.now }
+    requires inside_second { Adds (CutsOne (complex_of b.now) a.now.carriers) [] inside_b.now }
+    ensures lists { IfOk result (λ v. ListsCandidates a.now b.now v.items) }
+{
+    let mut points = Vec::new(alloc);
+    add_vertices(&mut points, a)?;
+    add_vertices(&mut points, b)?;
+    points.extend_from_slice(inside_a)?;
+    points.extend_from_slice(inside_b)?;
+    sort_once(&mut points)?;
+    Ok(points)
+}
 
 /// The vertices of both complexes, and the points strictly inside an edge of the one that lie on a carrier of the other
 /// which doesn't hold the edge, in increasing order, once each. All lie in the closed frame. All vertices of the
@@ -28,13 +64,9 @@ pub fn candidates(alloc: Global, a: &Complex, b: &Complex) -> Result<Vec<Point>,
     ensures framed { IfOk result (λ v. AreFramed v.items) }
     ensures complete { IfOk result (λ v. (s t : Set) (y : Place) → ShowsSet s a.now → ShowsSet t b.now → IsVertexOfBoth s t y → IsListed v.items y) }
 {
-    let mut points = Vec::new(alloc);
-    add_vertices(&mut points, a)?;
-    add_vertices(&mut points, b)?;
-    add_cuts(alloc, &mut points, a, b.carriers.as_slice())?;
-    add_cuts(alloc, &mut points, b, a.carriers.as_slice())?;
-    sort_once(&mut points)?;
-    Ok(points)
+    let inside_a = cuts(alloc, a, b.carriers.as_slice())?;
+    let inside_b = cuts(alloc, b, a.carriers.as_slice())?;
+    gathered(alloc, a, b, inside_a.as_slice(), inside_b.as_slice())
 }
 
 /// The vertices of the complex, and the points strictly inside an edge of it that lie on the plane, which doesn't hold

@@ -4,6 +4,7 @@ use mir.Syntax.{w128}
 use Rattle.std.specs.Ordering.{int_cmp}
 use Rattle.nef_space.specs.Limits.{direction_limit, point_limit, weight_limit}
 use Rattle.law_arithmetic.proofs.Machine.{Code, load, wrap, run, ◌⊟◌, ◌⊠◌, Limited, fits_of, exact_of, size_of}
+use Rattle.nef_geo.specs.declared.point.Point.{Point}
 use Rattle.nef_edges.specs.declared.half.Half.{Half}
 use Rattle.nef_edges.specs.Widths.{moment_limit}
 use Rattle.nef_edges.specs.Order.{ratio_order}
@@ -45,15 +46,17 @@ pub cmp-exact : (n w m v : ℤ) (o : Ordering) → nat_abs n ≤ moment_limit �
     → o ≡ int_cmp (run (n ∷ v ∷ []) scaled) (run (m ∷ w ∷ []) scaled) → o ≡ int_cmp (n *ℤ v) (m *ℤ w)
 cmp-exact n w m v o hn hm hw hv e = e ∙ ap (λ x. int_cmp x (run (m ∷ w ∷ []) scaled)) (scaled-exact n v hn hv) ∙ ap (λ x. int_cmp (n *ℤ v) x) (scaled-exact m w hm hw)
 
--- ---- numbers that pass through their types
-kept : (n v : ℤ) → nat_abs n ≤ moment_limit → nat_abs v ≤ weight_limit → to_z w128 (of_z w128 n) *ℤ to_z w64 (of_z w64 v) ≡ n *ℤ v
-kept n v h k = exact_of (moment_limit ∷ weight_limit ∷ []) (n ∷ v ∷ []) (wrap w128 (load 0) ⊠ wrap w64 (load 1)) (h, (k, tt)) tt
+pub weight-small : (p : Point) (w : ℤ) → w ≡ p.w → nat_abs w ≤ weight_limit
+weight-small p w e = rw e p.w_small
 
-pub ratio-is : (a b : Half) (part : Half → ℤ) (x w y v : ℤ) (o : Ordering) → x ≡ part a → y ≡ part b → w ≡ a.point.w → v ≡ b.point.w → nat_abs x ≤ moment_limit → nat_abs y ≤ moment_limit
-    → o ≡ int_cmp (to_z w128 (of_z w128 x) *ℤ to_z w64 (of_z w64 v)) (to_z w128 (of_z w128 y) *ℤ to_z w64 (of_z w64 w)) → o ≡ ratio_order part a b
-ratio-is a b part x w y v o ex ey ew ev hx hy e =
-    e ∙ ap (λ z. int_cmp z (to_z w128 (of_z w128 y) *ℤ to_z w64 (of_z w64 w))) (kept x v hx (small v b.point.w ev b.point.w_small)) ∙ ap (int_cmp (x *ℤ v)) (kept y w hy (small w a.point.w ew a.point.w_small))
-    ∙ ap (λ z. int_cmp (z *ℤ v) (y *ℤ w)) ex ∙ ap (λ z. int_cmp (part a *ℤ z) (y *ℤ w)) ev ∙ ap (λ z. int_cmp (part a *ℤ b.point.w) (z *ℤ w)) ey ∙ ap (λ z. int_cmp (part a *ℤ b.point.w) (part b *ℤ z)) ew
-  where
-    small : (n m : ℤ) → n ≡ m → nat_abs m ≤ weight_limit → nat_abs n ≤ weight_limit
-    small n m e h = rw e h
+pub scaled-fits : (n v : ℤ) → nat_abs n ≤ moment_limit → nat_abs v ≤ weight_limit → FitsSigned w128 (run (n ∷ v ∷ []) (wrap w128 (load 0) ⊠ wrap w128 (wrap w64 (load 1))))
+scaled-fits n v h k = fits_of (moment_limit ∷ weight_limit ∷ []) (n ∷ v ∷ []) w128 (wrap w128 (load 0) ⊠ wrap w128 (wrap w64 (load 1))) (h, (k, tt)) tt
+
+-- ---- numbers that pass through their type
+kept : (n : ℤ) → nat_abs n ≤ moment_limit → to_z w128 (of_z w128 n) ≡ n
+kept n h = exact_of (moment_limit ∷ []) (n ∷ []) (wrap w128 (load 0)) (h, tt) tt
+
+pub ratio-is : (a b : Half) (part : Half → ℤ) (x y : ℤ) (o : Ordering) → x ≡ part a → y ≡ part b → nat_abs x ≤ moment_limit → nat_abs y ≤ moment_limit
+    → o ≡ int_cmp (to_z w128 (of_z w128 x) *ℤ b.point.w) (to_z w128 (of_z w128 y) *ℤ a.point.w) → o ≡ ratio_order part a b
+ratio-is a b part x y o ex ey hx hy e =
+    e ∙ ap (λ z. int_cmp (z *ℤ b.point.w) (to_z w128 (of_z w128 y) *ℤ a.point.w)) (kept x hx ∙ ex) ∙ ap (λ z. int_cmp (part a *ℤ b.point.w) (z *ℤ a.point.w)) (kept y hy ∙ ey)

@@ -2,7 +2,6 @@
 
 ghost use Rattle.std.specs.Prelude.{◌≡◌, ◌≤◌, ◌*ℤ◌, nat_abs};
 ghost use Rattle.std.specs.Ordering.{int_cmp, ordering_then};
-ghost use Rattle.nef_space.specs.Limits.{weight_limit};
 ghost use Rattle.nef_edges.specs.Widths.{moment_limit};
 ghost use Rattle.nef_edges.specs.Order.{moment_of, ratio_order, moment_order, cell_order, line_order, half_order};
 
@@ -10,48 +9,35 @@ use crate::half::Half;
 use crate::moment::{product_x, product_y, product_z};
 use std::cmp::Ordering;
 
-// Compares n/w with m/v.
-fn ratio_cmp(n: i128, w: i64, m: i128, v: i64) -> Ordering
+// Compares n over the w of the one half's point with m over that of the other's.
+fn ratio_cmp(n: i128, a: &Half, m: i128, b: &Half) -> Ordering
     requires n_small { nat_abs n ≤ moment_limit }
     requires m_small { nat_abs m ≤ moment_limit }
-    requires w_small { nat_abs w ≤ weight_limit }
-    requires v_small { nat_abs v ≤ weight_limit }
-    ensures order { result ≡ int_cmp (n *ℤ v) (m *ℤ w) }
+    ensures order { result ≡ int_cmp (n *ℤ b.now.point.w) (m *ℤ a.now.point.w) }
 {
+    let (w, v) = (a.point.w(), b.point.w());
     (n * v as i128).cmp(&(m * w as i128))
 }
 
 fn x_cmp(a: &Half, b: &Half) -> Ordering
     ensures order { result ≡ ratio_order (λ h. (moment_of h).x) a.now b.now }
 {
-    ratio_cmp(
-        product_x(&a.point, &a.dir),
-        a.point.w(),
-        product_x(&b.point, &b.dir),
-        b.point.w(),
-    )
+    let (n, m) = (product_x(&a.point, &a.dir), product_x(&b.point, &b.dir));
+    ratio_cmp(n, a, m, b)
 }
 
 fn y_cmp(a: &Half, b: &Half) -> Ordering
     ensures order { result ≡ ratio_order (λ h. (moment_of h).y) a.now b.now }
 {
-    ratio_cmp(
-        product_y(&a.point, &a.dir),
-        a.point.w(),
-        product_y(&b.point, &b.dir),
-        b.point.w(),
-    )
+    let (n, m) = (product_y(&a.point, &a.dir), product_y(&b.point, &b.dir));
+    ratio_cmp(n, a, m, b)
 }
 
 fn z_cmp(a: &Half, b: &Half) -> Ordering
     ensures order { result ≡ ratio_order (λ h. (moment_of h).z) a.now b.now }
 {
-    ratio_cmp(
-        product_z(&a.point, &a.dir),
-        a.point.w(),
-        product_z(&b.point, &b.dir),
-        b.point.w(),
-    )
+    let (n, m) = (product_z(&a.point, &a.dir), product_z(&b.point, &b.dir));
+    ratio_cmp(n, a, m, b)
 }
 
 fn later_cmp(a: &Half, b: &Half) -> Ordering

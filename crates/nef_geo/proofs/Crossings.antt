@@ -6,19 +6,13 @@ use Rattle.nef_space.specs.Vectors.{Vector, dot, IsDirection}
 use Rattle.law_arithmetic.proofs.Combination.{none, given, follows}
 use Rattle.law_arithmetic.proofs.Order.{mul_pos, mul_neg, by_order}
 use Rattle.law_arithmetic.proofs.Ring.{Poly, at, num, neg, ◌⊕◌, ◌⊖◌, ◌⊗◌, ring}
+pub use Rattle.nef_geo.specs.Hits.{IsReachedBy}
 use Rattle.nef_geo.specs.Hits.{IsCrossing, IsReached}
 use Rattle.nef_geo.specs.Meet.{IsStretched}
 use Rattle.nef_geo.specs.Shapes.{place_at}
 use Rattle.nef_geo.specs.Steps.{HasOppositeSigns}
 use Rattle.nef_geo.proofs.Directions.{SameDirection-stretched, dot-itself}
 use Rattle.nef_geo.proofs.Places.{pos_size}
-
--- the numbers of the point at the step n/m from s along d
-pub record IsReachedBy (s : Place) (d : Vector) (n m x y z w : ℤ) : Type 0 where
-  pub x_is : x ≡ s.x *ℤ m +ℤ n *ℤ d.x
-  pub y_is : y ≡ s.y *ℤ m +ℤ n *ℤ d.y
-  pub z_is : z ≡ s.z *ℤ m +ℤ n *ℤ d.z
-  pub w_is : w ≡ pos s.w *ℤ m
 
 -- variables: 0 to 3 the form, 4 to 7 the start, 8 to 10 the direction, 11 and 12 the step, 13 to 16 the point
 abbrev all : Form → Place → Vector → (n m x y z w : ℤ) → List ℤ

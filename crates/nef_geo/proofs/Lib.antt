@@ -9,6 +9,8 @@ pub mod Euclid
 pub mod Unique
 pub mod Orders
 pub mod Sizes
+pub mod WideForms
+pub mod Reach
 pub mod Crossings
 pub mod InPlane
 pub mod Rays

@@ -49,6 +49,12 @@ kept n h = exact_of (point_limit ∷ []) (n ∷ []) (wrap w64 (load 0)) (h, tt) 
 pub kept_wide : (n : ℤ) → nat_abs n ≤ 2 ^ 126 → to_z w128 (of_z w128 n) ≡ n
 kept_wide n h = exact_of (2 ^ 126 ∷ []) (n ∷ []) (wrap w128 (load 0)) (h, tt) tt
 
+pub wide_enough : (v : ℤ) (k : ℕ) → nat_abs v ≤ k → k ≤ 2 ^ 126 → nat_abs v ≤ 2 ^ 126
+wide_enough v k s l = omega (arith, s)
+
+pub kept_small : (v : ℤ) (k : ℕ) → nat_abs v ≤ k → k ≤ 2 ^ 126 → nat_abs (to_z w128 (of_z w128 v)) ≤ k
+kept_small v k s l = rw (kept_wide v (wide_enough v k s l)) s
+
 -- ---- sizes
 pub IsAtMost-weaken : (k l : ℕ) (v : Vector) → k ≤ l → IsAtMost k v → IsAtMost l v
 IsAtMost-weaken k l v h s = record { of_x = omega (arith, s.of_x); of_y = omega (arith, s.of_y); of_z = omega (arith, s.of_z) }

@@ -6,30 +6,25 @@ use Rattle.nef_space.specs.Limits.{normal_limit, point_limit, weight_limit}
 use Rattle.nef_space.specs.Place.{Place, form_at, slope}
 use Rattle.nef_space.specs.Vectors.{Vector, vector, IsAtMost}
 use Rattle.law_arithmetic.proofs.Order.{abs_plus, abs_times}
-use Rattle.nef_geo.specs.Hits.{IsUpright, IsPlaneDirSized, IsPlaceAtMost}
-use Rattle.nef_geo.specs.Shapes.{form_of, place_at, place_of, hit_place}
+use Rattle.nef_geo.specs.Hits.{IsReachedBy, IsUpright, IsPlaneDirSized, IsPlaceAtMost}
+use Rattle.nef_geo.specs.Shapes.{form_of, place_at, place_of}
 use Rattle.nef_geo.specs.Steps.{IsZeroStep}
 use Rattle.nef_geo.specs.Widths.{point_form_limit, upright_limit, upright_weight_limit, plane_dir_limit, plane_dir_sum_limit, plane_dir_hit_limit, plane_dir_form_limit}
-use Rattle.nef_geo.specs.declared.hit.Hit.{Hit}
 use Rattle.nef_geo.specs.declared.plane.Plane.{Plane}
 use Rattle.nef_geo.specs.declared.point.Point.{Point}
-use Rattle.nef_geo.proofs.Crossings.{IsReachedBy, form_at-reached}
+use Rattle.nef_geo.proofs.Crossings.{form_at-reached}
 use Rattle.nef_geo.proofs.Places.{pos_size}
 use Rattle.nef_geo.proofs.Products.{kept_wide}
-use Rattle.nef_geo.proofs.Sizes.{slope_size, reach_size, point_form_size, point_within, upright_sum, upright_sized}
+use Rattle.nef_geo.proofs.Sizes.{weaken_place, slope_size, reach_size, point_form_size, point_within, upright_sum, upright_sized}
 
 -- the step for numbers that passed through the machine's type
 pub step_meant : (v g v' g' n m n' m' : ℤ) → nat_abs v ≤ 2 ^ 126 → nat_abs g ≤ 2 ^ 126 → v ≡ v' → g ≡ g' → n' ≡ n → m' ≡ m → IsZeroStep (to_z w128 (of_z w128 v)) (to_z w128 (of_z w128 g)) n m → IsZeroStep v' g' n' m'
 step_meant v g v' g' n m n' m' sv sg ev eg en em h = rw (en, em) (rw (kept_wide v sv ∙ ev, kept_wide g sg ∙ eg) at h)
 
--- the numbers of a hit from a point, and from a hit
-pub reached_from_point : (p : Point) (d : Vector) (n m n' m' x y z w : ℤ) → n' ≡ n → m' ≡ m
-    → x ≡ p.x *ℤ m +ℤ n *ℤ d.x → y ≡ p.y *ℤ m +ℤ n *ℤ d.y → z ≡ p.z *ℤ m +ℤ n *ℤ d.z → w ≡ p.w *ℤ m → IsReachedBy (place_of p) d n' m' x y z w
-reached_from_point p d n m n' m' x y z w en em ex ey ez ew = rw (en, em) (record { x_is = ex; y_is = ey; z_is = ez; w_is = ew ∙ ap (λ (k : ℤ). k *ℤ m) (sym (pos_size p.w p.proper)) })
-
-pub reached_from_hit : (p : Hit) (d : Vector) (n m n' m' x y z w : ℤ) → n' ≡ n → m' ≡ m
-    → x ≡ p.x *ℤ m +ℤ n *ℤ d.x → y ≡ p.y *ℤ m +ℤ n *ℤ d.y → z ≡ p.z *ℤ m +ℤ n *ℤ d.z → w ≡ p.w *ℤ m → IsReachedBy (hit_place p) d n' m' x y z w
-reached_from_hit p d n m n' m' x y z w en em ex ey ez ew = rw (en, em) (record { x_is = ex; y_is = ey; z_is = ez; w_is = ew ∙ ap (λ (k : ℤ). k *ℤ m) (sym (pos_size p.w p.proper)) })
+-- the numbers of a hit, by the step that it keeps
+pub reached_by : (sx sy sz sw : ℤ) (positive : pos 0 <ℤ sw) (d : Vector) (n m n' m' x y z w : ℤ) → n' ≡ n → m' ≡ m
+    → x ≡ sx *ℤ m +ℤ n *ℤ d.x → y ≡ sy *ℤ m +ℤ n *ℤ d.y → z ≡ sz *ℤ m +ℤ n *ℤ d.z → w ≡ sw *ℤ m → IsReachedBy (place_at sx sy sz sw positive) d n' m' x y z w
+reached_by sx sy sz sw positive d n m n' m' x y z w en em ex ey ez ew = rw (en, em) (record { x_is = ex; y_is = ey; z_is = ez; w_is = ew ∙ ap (λ (k : ℤ). k *ℤ m) (sym (pos_size sw positive)) })
 
 -- a growth whose size is that of a positive number isn't zero
 pub growth_some : (g m : ℤ) → nat_abs m ≡ nat_abs g → pos 0 <ℤ m → g ≢ pos 0
@@ -44,12 +39,6 @@ reached_within s d n m x y z w positive p u k l r h i sm sn sd = record {
     of_z = subst (λ (a : ℤ). nat_abs a ≤ p * k + l * r) (sym h.z_is) (reach_size s.z m n d.z p k l r i.numbers.of_z sm sn sd.of_z);
   };
   weight = subst (λ (a : ℤ). nat_abs a ≤ u * k) (sym h.w_is) (abs_times (pos s.w) m u k i.weight sm);
-}
-
-weaken_place : (m n m' n' : ℕ) (q : Place) → m ≤ m' → n ≤ n' → IsPlaceAtMost m n q → IsPlaceAtMost m' n' q
-weaken_place m n m' n' q hm hn i = record {
-  numbers = record { of_x = omega (arith, i.numbers.of_x); of_y = omega (arith, i.numbers.of_y); of_z = omega (arith, i.numbers.of_z) };
-  weight = omega (arith, i.weight);
 }
 
 -- a hit from a point, where the step is that of a plane

@@ -31,6 +31,16 @@ hit_within q = record { numbers = record { of_x = q.x_small; of_y = q.y_small; o
 pub far_within : (q : FarHit) → IsPlaceAtMost far_limit far_weight_limit (far_place q)
 far_within q = record { numbers = record { of_x = q.x_small; of_y = q.y_small; of_z = q.z_small }; weight = q.w_small }
 
+pub weaken_place : (m n m' n' : ℕ) (q : Place) → m ≤ m' → n ≤ n' → IsPlaceAtMost m n q → IsPlaceAtMost m' n' q
+weaken_place m n m' n' q hm hn i = record {
+  numbers = record { of_x = omega (arith, i.numbers.of_x); of_y = omega (arith, i.numbers.of_y); of_z = omega (arith, i.numbers.of_z) };
+  weight = omega (arith, i.weight);
+}
+
+-- a hit's numbers are as small as a far hit's
+pub hit_far : (q : Hit) → IsPlaceAtMost far_limit far_weight_limit (hit_place q)
+hit_far q = weaken_place hit_limit hit_weight_limit far_limit far_weight_limit (hit_place q) (lit≤ tt) (lit≤ tt) (hit_within q)
+
 pub point_form_size : (h : Plane) (p : Point) → nat_abs (form_at (form_of h) (place_of p)) ≤ point_form_limit
 point_form_size h p = let s = form_size h point_limit weight_limit (place_of p) (point_within p) in omega (arith, s)
 

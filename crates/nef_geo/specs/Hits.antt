@@ -1,5 +1,5 @@
 -- Where rays cross planes, and at which step.
-use Rattle.std.specs.Prelude.{◌≡◌, ℕ, ◌+◌, ◌*◌, ◌≤◌, ℤ, pos, ◌<ℤ◌, nat_abs, ◌⊎◌}
+use Rattle.std.specs.Prelude.{◌≡◌, ℕ, ◌+◌, ◌*◌, ◌≤◌, ℤ, pos, ◌+ℤ◌, ◌*ℤ◌, ◌<ℤ◌, nat_abs, ◌⊎◌}
 use Rattle.std.proofs.Math.Nat.{mul-pos}
 use Rattle.nef_space.specs.Vectors.{Vector, vector, opposite, up, IsAtMost}
 use Rattle.nef_space.specs.Place.{Place, Form, form_at, slope, Ratio, step, SamePlace, IsAhead}
@@ -19,6 +19,13 @@ step_ratio num den positive p = record { a = num; b = nat_abs den * p.w; proper 
 -- q is the start's first three numbers plus num/den times d, over the start's w
 abbrev pub IsReached : Place → Vector → (num den : ℤ) → pos 0 <ℤ den → Place → Type 0
 IsReached p d num den positive q = SamePlace q (step p (step_ratio num den positive p) d)
+
+-- x, y, z and w are the numbers of the point at the step n/m from s along d
+pub record IsReachedBy (s : Place) (d : Vector) (n m x y z w : ℤ) : Type 0 where
+  pub x_is : x ≡ s.x *ℤ m +ℤ n *ℤ d.x
+  pub y_is : y ≡ s.y *ℤ m +ℤ n *ℤ d.y
+  pub z_is : z ≡ s.z *ℤ m +ℤ n *ℤ d.z
+  pub w_is : w ≡ pos s.w *ℤ m
 
 -- the upward direction or the downward one
 abbrev pub IsUpright : Vector → Type 0

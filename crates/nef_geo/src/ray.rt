@@ -1,10 +1,10 @@
 //! Where rays cross planes.
 
-ghost use Rattle.std.specs.Prelude.{◌≡◌, ◌≢◌, ◌↔◌, ◌≤◌, pos, ◌+ℤ◌, ◌*ℤ◌, ◌<ℤ◌, nat_abs, IsNone, IfSome};
+ghost use Rattle.std.specs.Prelude.{◌≡◌, ◌↔◌, ◌≤◌, pos, ◌<ℤ◌, nat_abs, IsNone, IfSome};
 ghost use Rattle.nef_space.specs.Limits.{normal_limit};
 ghost use Rattle.nef_space.specs.Place.{Place, form_at, slope, SamePlace};
 ghost use Rattle.nef_space.specs.Vectors.{Vector, vector, IsAtMost};
-ghost use Rattle.nef_geo.specs.Hits.{IsCrossing, IsReached, IsUpright, IsPlaneDirSized, IsPlaceAtMost};
+ghost use Rattle.nef_geo.specs.Hits.{IsCrossing, IsReached, IsReachedBy, IsUpright, IsPlaneDirSized, IsPlaceAtMost};
 ghost use Rattle.nef_geo.specs.Shapes.{form_of, vector_of, place_of, hit_place, far_place};
 ghost use Rattle.nef_geo.specs.declared.plane.Plane.{Plane};
 ghost use Rattle.nef_geo.specs.Widths.{point_form_limit, ray_limit, ray_slope_limit, upright_limit, upright_weight_limit, plane_dir_hit_limit, plane_dir_form_limit, far_limit, far_weight_limit, far_num_limit, far_den_limit};
@@ -24,10 +24,7 @@ fn reached(p: &Point, d: &Dir, num: i128, den: i128) -> Hit
     requires den_small { nat_abs den ≤ ray_slope_limit }
     requires num_positive { pos 0 <ℤ num }
     requires den_positive { pos 0 <ℤ den }
-    ensures x { result.x ≡ p.now.x *ℤ den +ℤ num *ℤ d.now.x }
-    ensures y { result.y ≡ p.now.y *ℤ den +ℤ num *ℤ d.now.y }
-    ensures z { result.z ≡ p.now.z *ℤ den +ℤ num *ℤ d.now.z }
-    ensures w { result.w ≡ p.now.w *ℤ den }
+    ensures at { IsReachedBy (place_of p.now) (vector_of d.now) result.num result.den result.x result.y result.z result.w }
     ensures num { result.num ≡ num }
     ensures den { result.den ≡ den }
 {
@@ -49,10 +46,7 @@ fn reached_far(p: &Hit, d: &Dir, num: i128, den: i128) -> FarHit
     requires den_small { nat_abs den ≤ far_den_limit }
     requires num_positive { pos 0 <ℤ num }
     requires den_positive { pos 0 <ℤ den }
-    ensures x { result.x ≡ p.now.x *ℤ den +ℤ num *ℤ d.now.x }
-    ensures y { result.y ≡ p.now.y *ℤ den +ℤ num *ℤ d.now.y }
-    ensures z { result.z ≡ p.now.z *ℤ den +ℤ num *ℤ d.now.z }
-    ensures w { result.w ≡ p.now.w *ℤ den }
+    ensures at { IsReachedBy (hit_place p.now) (vector_of d.now) result.num result.den result.x result.y result.z result.w }
     ensures num { result.num ≡ num }
     ensures den { result.den ≡ den }
 {

@@ -84,3 +84,11 @@ way-sign h d r x e f n =
     e ∙ ap sign_of (exact_of (direction_limit ∷ []) (x ∷ []) (wrap w128 (wrap w64 (load 0))) (subst (λ z. nat_abs z ≤ direction_limit) (sym f) d.x_small, tt) tt ∙ f
     ∙ ring (d.x ∷ d.y ∷ d.z ∷ []) (at 0) (num (pos 1) ⊗ at 0 ⊕ num (pos 0) ⊗ at 1 ⊕ num (pos 0) ⊗ at 2) tt
     ∙ ap (λ b. dot (cond b (vector (pos 0) (pos 1) (pos 0)) (vector (pos 1) (pos 0) (pos 0))) (vector_of d)) (first-swept h n))
+
+-- and so is that of its second number, where the plane keeps the first coordinate
+pub way-second : (h : Plane) (d : Dir) (r : Sign) (y : ℤ) → r ≡ sign_of (to_z w128 (of_z w128 (to_z w64 (of_z w64 y)))) → y ≡ d.y → h.c ≡ pos 0 → h.b ≡ pos 0 → r ≡ sign_of (dot (sweep_axis (form_of h)) (vector_of d))
+way-second h d r y e f c b =
+    let t : true ≡ int_eq h.c (pos 0) && int_eq h.b (pos 0) = sym (rw ((Decides-int_eq h.c (pos 0)).1 c, (Decides-int_eq h.b (pos 0)).1 b) refl) in
+    e ∙ ap sign_of (exact_of (direction_limit ∷ []) (y ∷ []) (wrap w128 (wrap w64 (load 0))) (subst (λ z. nat_abs z ≤ direction_limit) (sym f) d.y_small, tt) tt ∙ f
+    ∙ ring (d.x ∷ d.y ∷ d.z ∷ []) (at 1) (num (pos 0) ⊗ at 0 ⊕ num (pos 1) ⊗ at 1 ⊕ num (pos 0) ⊗ at 2) tt
+    ∙ ap (λ i. dot (cond i (vector (pos 0) (pos 1) (pos 0)) (vector (pos 1) (pos 0) (pos 0))) (vector_of d)) t)

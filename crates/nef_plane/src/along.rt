@@ -1,8 +1,8 @@
 //! The first vertex, or edge in a plane, that a ray from a vertex meets.
 
-ghost use Rattle.std.specs.Prelude.{◌≡◌, ℕ, ◌<◌, length, pos, ◌↔◌, IsTrue, IsNone, IfSome};
+ghost use Rattle.std.specs.Prelude.{◌≡◌, ◌<◌, length, pos, ◌↔◌, IsTrue, IsNone, IfSome};
 ghost use Rattle.std.specs.Option.{MatchOption};
-ghost use Rattle.nef_space.specs.Place.{Place, form_at, slope, IsAhead};
+ghost use Rattle.nef_space.specs.Place.{Place, slope, IsAhead};
 ghost use Rattle.nef_space.specs.Sets.{Set};
 ghost use Rattle.nef_space.specs.Vectors.{IsAtMost};
 ghost use Rattle.nef_geo.specs.Shapes.{form_of, vector_of, place_of};
@@ -10,13 +10,13 @@ ghost use Rattle.nef_geo.specs.Widths.{ray_limit};
 ghost use Rattle.law_complex.specs.Skeleton.{PlaneMeet as PlainMeet, Meets, IsFirstInPlane};
 ghost use Rattle.nef_complex.specs.Complexes.{complex_of, meet_of, ShowsSet};
 ghost use Rattle.nef_complex.specs.Index.{LiesOn, EdgeLiesIn, AreNumbersWith, AreWithin, AreHolders};
-ghost use Rattle.nef_plane.specs.Asked.{AreAsked};
 ghost use Rattle.nef_plane.specs.Courses.{StartsAt, IsCourse, IsOffCourse};
-ghost use Rattle.nef_plane.specs.Meets.{HasNoSvertex, FromVertex, HoldsRay, IsHitThrough, AllHold, IsAcross, IsWithin, AtVertexNumber, AtEdgeNumber, AtSomeVertex, AtSomeEdge, AtVertexOrEdge, IsMissed, IsNearest, near_met_of, reach_of};
+ghost use Rattle.nef_plane.specs.Meets.{HasNoSvertex, FromVertex, HoldsRay, IsHitThrough, AllHold, IsAcross, IsWithin, AtVertexOrEdge, IsNearest, near_met_of, reach_of};
 
 use crate::course::Course;
+use crate::first::{PlaneRay, nearest_met};
 use crate::lying::edge_lies_in;
-use crate::met::{Met, nearer};
+use crate::met::Met;
 use crate::numbers::Numbers;
 use crate::parting::may_pass;
 use crate::places::{is_at_vertex, is_on_edge};
@@ -61,40 +61,6 @@ fn crossed_at(carriers: &[Plane], holders: &[usize], ray: &VertexRay) -> Option<
     ray_hit(ray.start, ray.direction, &g)
 }
 
-// The vertex with this number, where the ray meets it.
-fn vertex_met(c: &Complex, ray: &VertexRay, number: usize) -> Option<Met<Hit>>
-    requires shows { (s : Set) × ShowsSet s c.now }
-    requires within { number < length c.now.vertices }
-    ensures nearest { IsNearest near_met_of (place_of ray.now.start.now) (vector_of ray.now.direction.now) (AtVertexNumber (complex_of c.now) number) result }
-{
-    let at = crossed_at(c.carriers.as_slice(), vertex_holders(c, number), ray)?;
-    if is_at_vertex(c, number, &at) {
-        Some(Met {
-            meet: PlaneMeet::AtVertex(number),
-            at,
-        })
-    } else {
-        None
-    }
-}
-
-// The edge in the plane with this number, where the ray meets its inside.
-fn edge_met(c: &Complex, ray: &VertexRay, number: usize) -> Option<Met<Hit>>
-    requires shows { (s : Set) × ShowsSet s c.now }
-    requires held { EdgeLiesIn c.now.vertices c.now.edges (form_of ray.now.plane.now) number }
-    ensures nearest { IsNearest near_met_of (place_of ray.now.start.now) (vector_of ray.now.direction.now) (AtEdgeNumber (complex_of c.now) (form_of ray.now.plane.now) (vector_of ray.now.direction.now) number) result }
-{
-    let at = crossed_at(c.carriers.as_slice(), edge_holders(c, number), ray)?;
-    if is_on_edge(c, number, &at) {
-        Some(Met {
-            meet: PlaneMeet::AtEdge(number),
-            at,
-        })
-    } else {
-        None
-    }
-}
-
 // Whether the ray may meet something between the vertices with these numbers. The course tells so without a carrier of
 // most vertices and edges of the plane.
 fn may_meet(c: &Complex, ray: &VertexRay, course: &Course, low: usize, high: usize) -> bool
@@ -110,100 +76,65 @@ fn may_meet(c: &Complex, ray: &VertexRay, course: &Course, low: usize, high: usi
     may_pass(&course.normal, ray.start, a, b)
 }
 
-// Whether the ray may meet the vertex with this number, which lies in the plane if there is a course.
-fn may_meet_vertex(c: &Complex, ray: &VertexRay, course: &Option<Course>, number: usize) -> bool
-    requires shows { (s : Set) × ShowsSet s c.now }
-    requires course { IfSome course.now (IsCourse c.now.vertices (form_of ray.now.plane.now) ray.now.start.now (vector_of ray.now.direction.now)) }
-    requires within { number < length c.now.vertices }
-    requires held { IfSome course.now (λ x. LiesOn c.now.vertices (form_of ray.now.plane.now) number) }
-    ensures off { (IsTrue result → ⊥) → IsMissed (place_of ray.now.start.now) (vector_of ray.now.direction.now) (AtVertexNumber (complex_of c.now) number) }
-{
-    match course {
-        Some(course) => may_meet(c, ray, course, number, number),
-        None => true,
-    }
-}
+impl PlaneRay for VertexRay<'_> {
+    type At = Hit;
 
-// Whether the ray may meet the edge with this number, and it lies in the plane, as it does if there is a course.
-fn may_meet_edge(c: &Complex, ray: &VertexRay, course: &Option<Course>, number: usize) -> bool
-    requires shows { (s : Set) × ShowsSet s c.now }
-    requires course { IfSome course.now (IsCourse c.now.vertices (form_of ray.now.plane.now) ray.now.start.now (vector_of ray.now.direction.now)) }
-    requires within { number < length c.now.edges }
-    requires held { IfSome course.now (λ x. EdgeLiesIn c.now.vertices c.now.edges (form_of ray.now.plane.now) number) }
-    ensures held { IsTrue result → EdgeLiesIn c.now.vertices c.now.edges (form_of ray.now.plane.now) number }
-    ensures off { (IsTrue result → ⊥) → IsMissed (place_of ray.now.start.now) (vector_of ray.now.direction.now) (AtEdgeNumber (complex_of c.now) (form_of ray.now.plane.now) (vector_of ray.now.direction.now) number) }
-{
-    match course {
-        Some(course) => {
-            let edge = c.edges.at(number);
-            may_meet(c, ray, course, edge.low, edge.high)
-        }
-        None => edge_lies_in(c, ray.plane, number),
-    }
-}
+    type Guide = Course;
 
-// The first that the ray meets of the vertices that are asked.
-fn nearest_vertex(
-    c: &Complex,
-    ray: &VertexRay,
-    course: &Option<Course>,
-    asked: &Numbers,
-) -> Option<Met<Hit>>
-    requires shows { (s : Set) × ShowsSet s c.now }
-    requires course { IfSome course.now (IsCourse c.now.vertices (form_of ray.now.plane.now) ray.now.start.now (vector_of ray.now.direction.now)) }
-    requires asked { AreAsked (LiesOn c.now.vertices (form_of ray.now.plane.now)) (length c.now.vertices) course.now asked.now }
-    ensures nearest { IsNearest near_met_of (place_of ray.now.start.now) (vector_of ray.now.direction.now) (AtSomeVertex (complex_of c.now)) result }
-{
-    let mut best = None;
-    for place in 0..asked.len() {
-        let number = asked.at(place);
-        if may_meet_vertex(c, ray, course, number) {
-            best = nearer(best, vertex_met(c, ray, number));
+    ghost plane = { λ r. form_of r.plane.now };
+
+    ghost start = { λ r. place_of r.start.now };
+
+    ghost way = { λ r. vector_of r.direction.now };
+
+    ghost guided = { λ r c x. IsCourse c.vertices (form_of r.plane.now) r.start.now (vector_of r.direction.now) x };
+
+    ghost tells = { λ r c k. k < length c.vertices };
+
+    fn vertex_met(&self, c: &Complex, number: usize) -> Option<Met<Hit>> {
+        let at = crossed_at(c.carriers.as_slice(), vertex_holders(c, number), self)?;
+        if is_at_vertex(c, number, &at) {
+            Some(Met {
+                meet: PlaneMeet::AtVertex(number),
+                at,
+            })
+        } else {
+            None
         }
     }
-    best
-}
 
-// The first that the ray meets of the edges that are asked, if they lie in the plane and not along the ray. Where the ray
-// meets an edge along it, it meets an end of that edge sooner.
-fn nearest_edge(
-    c: &Complex,
-    ray: &VertexRay,
-    course: &Option<Course>,
-    asked: &Numbers,
-) -> Option<Met<Hit>>
-    requires shows { (s : Set) × ShowsSet s c.now }
-    requires course { IfSome course.now (IsCourse c.now.vertices (form_of ray.now.plane.now) ray.now.start.now (vector_of ray.now.direction.now)) }
-    requires asked { AreAsked (EdgeLiesIn c.now.vertices c.now.edges (form_of ray.now.plane.now)) (length c.now.edges) course.now asked.now }
-    ensures nearest { IsNearest near_met_of (place_of ray.now.start.now) (vector_of ray.now.direction.now) (AtSomeEdge (complex_of c.now) (form_of ray.now.plane.now) (vector_of ray.now.direction.now)) result }
-{
-    let mut best = None;
-    for place in 0..asked.len() {
-        let number = asked.at(place);
-        if may_meet_edge(c, ray, course, number) {
-            best = nearer(best, edge_met(c, ray, number));
+    fn edge_met(&self, c: &Complex, number: usize) -> Option<Met<Hit>> {
+        let at = crossed_at(c.carriers.as_slice(), edge_holders(c, number), self)?;
+        if is_on_edge(c, number, &at) {
+            Some(Met {
+                meet: PlaneMeet::AtEdge(number),
+                at,
+            })
+        } else {
+            None
         }
     }
-    best
-}
 
-// The first that the ray meets of the vertices and edges that are asked.
-fn nearest_met(
-    c: &Complex,
-    ray: &VertexRay,
-    course: &Option<Course>,
-    vertices: &Numbers,
-    edges: &Numbers,
-) -> Option<Met<Hit>>
-    requires shows { (s : Set) × ShowsSet s c.now }
-    requires course { IfSome course.now (IsCourse c.now.vertices (form_of ray.now.plane.now) ray.now.start.now (vector_of ray.now.direction.now)) }
-    requires vertices { AreAsked (LiesOn c.now.vertices (form_of ray.now.plane.now)) (length c.now.vertices) course.now vertices.now }
-    requires edges { AreAsked (EdgeLiesIn c.now.vertices c.now.edges (form_of ray.now.plane.now)) (length c.now.edges) course.now edges.now }
-    ensures nearest { IsNearest near_met_of (place_of ray.now.start.now) (vector_of ray.now.direction.now) (AtVertexOrEdge (complex_of c.now) (form_of ray.now.plane.now) (vector_of ray.now.direction.now)) result }
-{
-    let vertex = nearest_vertex(c, ray, course, vertices);
-    let edge = nearest_edge(c, ray, course, edges);
-    nearer(vertex, edge)
+    fn may_meet_vertex(&self, c: &Complex, course: &Option<Course>, number: usize) -> bool {
+        match course {
+            Some(course) => may_meet(c, self, course, number, number),
+            None => true,
+        }
+    }
+
+    fn may_meet_edge(&self, c: &Complex, course: &Option<Course>, number: usize) -> bool {
+        match course {
+            Some(course) => {
+                let edge = c.edges.at(number);
+                may_meet(c, self, course, edge.low, edge.high)
+            }
+            None => edge_lies_in(c, self.plane, number),
+        }
+    }
+
+    ghost leads = { λ r. r.direction.now.some };
+
+    ghost holds = { λ r c x y. y.holds };
 }
 
 // What lies in the plane, where that holds the ray and the index has it.
@@ -231,11 +162,11 @@ fn first_met(c: &Complex, ray: &VertexRay, start: usize) -> Option<Met<Hit>>
         Some(items) => {
             let course = Some(Course::of(ray.plane, start, ray.direction));
             let vertices = Numbers::Listed(items.vertices);
-            nearest_met(c, ray, &course, &vertices, &Numbers::Listed(items.edges))
+            nearest_met(ray, c, &course, &vertices, &Numbers::Listed(items.edges))
         }
         None => {
             let vertices = Numbers::All(c.vertices.len());
-            nearest_met(c, ray, &None, &vertices, &Numbers::All(c.edges.len()))
+            nearest_met(ray, c, &None, &vertices, &Numbers::All(c.edges.len()))
         }
     }
 }

@@ -3,6 +3,7 @@
 
 mod along;
 mod course;
+mod first;
 mod level;
 mod lying;
 mod met;

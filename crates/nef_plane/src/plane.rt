@@ -1,6 +1,6 @@
 //! The first vertex or edge in a plane that a ray along the plane's axis meets.
 
-ghost use Rattle.std.specs.Prelude.{◌≡◌, ℕ, ◌<◌, length, pos, IsTrue, IsNone, IfSome};
+ghost use Rattle.std.specs.Prelude.{◌≡◌, ◌<◌, pos, IsNone, IfSome};
 ghost use Rattle.std.specs.Option.{MatchOption};
 ghost use Rattle.nef_space.specs.Place.{Place, form_at, IsAhead};
 ghost use Rattle.nef_space.specs.Sets.{Set};
@@ -9,15 +9,15 @@ ghost use Rattle.nef_geo.specs.Shapes.{form_of, vector_of, place_of, hit_place, 
 ghost use Rattle.nef_geo.specs.Widths.{upright_limit, upright_weight_limit};
 ghost use Rattle.law_complex.specs.Skeleton.{PlaneMeet as PlainMeet, Meets, IsFirstInPlane};
 ghost use Rattle.nef_complex.specs.Complexes.{complex_of, meet_of, ShowsSet};
-ghost use Rattle.nef_complex.specs.Index.{LiesOn, EdgeLiesIn, AreWithin, AreHolders};
+ghost use Rattle.nef_complex.specs.Index.{LiesOn, AreWithin, AreHolders};
 ghost use Rattle.nef_complex.specs.Planes.{HoldsBoth};
-ghost use Rattle.nef_plane.specs.Asked.{AreAsked};
 ghost use Rattle.nef_plane.specs.Levels.{IsLevel};
-ghost use Rattle.nef_plane.specs.Meets.{IsAlongAxis, HasNoSvertex, IsOffEdges, IsHitThrough, NoneCrosses, IsMet, AllHold, AtVertexNumber, AtEdgeNumber, AtSomeVertex, AtSomeEdge, AtVertexOrEdge, IsMissed, IsNearest, far_met_of, far_reach_of};
+ghost use Rattle.nef_plane.specs.Meets.{IsAlongAxis, HoldsRay, HasNoSvertex, IsOffEdges, IsHitThrough, NoneCrosses, IsMet, AllHold, AtVertexOrEdge, IsNearest, far_met_of, far_reach_of};
 
+use crate::first::{PlaneRay, nearest_met};
 use crate::level::Level;
 use crate::lying::{edge_lies_in, vertex_lies_on};
-use crate::met::{Met, nearer};
+use crate::met::Met;
 use crate::numbers::Numbers;
 use crate::ray::AxisRay;
 use nef_complex::{Complex, PlaneMeet, edge_holders, plane_items, vertex_holders};
@@ -59,139 +59,70 @@ fn met_at(
     }
 }
 
-// The vertex of the plane with this number, where the ray meets it: there some carrier through it crosses the ray.
-fn vertex_met(c: &Complex, ray: &AxisRay, number: usize) -> Option<Met<FarHit>>
-    requires shows { (s : Set) × ShowsSet s c.now }
-    requires held { LiesOn c.now.vertices (form_of ray.now.plane.now) number }
-    ensures nearest { IsNearest far_met_of (hit_place ray.now.start.now) (vector_of ray.now.direction.now) (AtVertexNumber (complex_of c.now) number) result }
-{
-    let point = &c.vertices.at(number).point;
-    let holders = vertex_holders(c, number);
-    match met_at(c.carriers.as_slice(), holders, ray, point, point) {
-        Some(at) => Some(Met {
-            meet: PlaneMeet::AtVertex(number),
-            at,
-        }),
-        None => None,
-    }
-}
+impl PlaneRay for AxisRay<'_> {
+    type At = FarHit;
 
-// The edge in the plane with this number, where the ray meets its inside.
-fn edge_met(c: &Complex, ray: &AxisRay, number: usize) -> Option<Met<FarHit>>
-    requires shows { (s : Set) × ShowsSet s c.now }
-    requires held { EdgeLiesIn c.now.vertices c.now.edges (form_of ray.now.plane.now) number }
-    ensures nearest { IsNearest far_met_of (hit_place ray.now.start.now) (vector_of ray.now.direction.now) (AtEdgeNumber (complex_of c.now) (form_of ray.now.plane.now) (vector_of ray.now.direction.now) number) result }
-{
-    let edge = c.edges.at(number);
-    let low = &c.vertices.at(edge.low).point;
-    let high = &c.vertices.at(edge.high).point;
-    let holders = edge_holders(c, number);
-    match met_at(c.carriers.as_slice(), holders, ray, low, high) {
-        Some(at) => Some(Met {
-            meet: PlaneMeet::AtEdge(number),
-            at,
-        }),
-        None => None,
-    }
-}
+    type Guide = Level;
 
-// Whether the ray may meet the vertex with this number, and it lies in the plane, as it does if there is a level. The level
-// tells of most vertices, by their numbers.
-fn may_meet_vertex(c: &Complex, ray: &AxisRay, level: &Option<Level>, number: usize) -> bool
-    requires shows { (s : Set) × ShowsSet s c.now }
-    requires level { IfSome level.now (IsLevel c.now.vertices (form_of ray.now.plane.now) (hit_place ray.now.start.now)) }
-    requires within { number < length c.now.vertices }
-    requires held { IfSome level.now (λ x. LiesOn c.now.vertices (form_of ray.now.plane.now) number) }
-    ensures held { IsTrue result → LiesOn c.now.vertices (form_of ray.now.plane.now) number }
-    ensures off { (IsTrue result → ⊥) → IsMissed (hit_place ray.now.start.now) (vector_of ray.now.direction.now) (AtVertexNumber (complex_of c.now) number) }
-{
-    match level {
-        Some(level) => level.may_hold(number),
-        None => vertex_lies_on(c, ray.plane, number),
-    }
-}
+    ghost plane = { λ r. form_of r.plane.now };
 
-// Whether the ray may meet the edge with this number, and it lies in the plane, as it does if there is a level. The level
-// tells of most edges, by the numbers of their ends.
-fn may_meet_edge(c: &Complex, ray: &AxisRay, level: &Option<Level>, number: usize) -> bool
-    requires shows { (s : Set) × ShowsSet s c.now }
-    requires level { IfSome level.now (IsLevel c.now.vertices (form_of ray.now.plane.now) (hit_place ray.now.start.now)) }
-    requires within { number < length c.now.edges }
-    requires held { IfSome level.now (λ x. EdgeLiesIn c.now.vertices c.now.edges (form_of ray.now.plane.now) number) }
-    ensures held { IsTrue result → EdgeLiesIn c.now.vertices c.now.edges (form_of ray.now.plane.now) number }
-    ensures off { (IsTrue result → ⊥) → IsMissed (hit_place ray.now.start.now) (vector_of ray.now.direction.now) (AtEdgeNumber (complex_of c.now) (form_of ray.now.plane.now) (vector_of ray.now.direction.now) number) }
-{
-    match level {
-        Some(level) => {
-            let edge = c.edges.at(number);
-            level.may_part(edge.low, edge.high)
-        }
-        None => edge_lies_in(c, ray.plane, number),
-    }
-}
+    ghost start = { λ r. hit_place r.start.now };
 
-// The first that the ray meets of the vertices that are asked.
-fn nearest_vertex(
-    c: &Complex,
-    ray: &AxisRay,
-    level: &Option<Level>,
-    asked: &Numbers,
-) -> Option<Met<FarHit>>
-    requires shows { (s : Set) × ShowsSet s c.now }
-    requires level { IfSome level.now (IsLevel c.now.vertices (form_of ray.now.plane.now) (hit_place ray.now.start.now)) }
-    requires asked { AreAsked (LiesOn c.now.vertices (form_of ray.now.plane.now)) (length c.now.vertices) level.now asked.now }
-    ensures nearest { IsNearest far_met_of (hit_place ray.now.start.now) (vector_of ray.now.direction.now) (AtSomeVertex (complex_of c.now)) result }
-{
-    let mut best = None;
-    for place in 0..asked.len() {
-        let number = asked.at(place);
-        if may_meet_vertex(c, ray, level, number) {
-            best = nearer(best, vertex_met(c, ray, number));
+    ghost way = { λ r. vector_of r.direction.now };
+
+    ghost guided = { λ r c x. IsLevel c.vertices (form_of r.plane.now) (hit_place r.start.now) x × HoldsRay (form_of r.plane.now) (hit_place r.start.now) (vector_of r.direction.now) };
+
+    ghost tells = { λ r c k. LiesOn c.vertices (form_of r.plane.now) k };
+
+    // Where the ray meets the vertex some carrier through it crosses the ray.
+    fn vertex_met(&self, c: &Complex, number: usize) -> Option<Met<FarHit>> {
+        let point = &c.vertices.at(number).point;
+        let holders = vertex_holders(c, number);
+        match met_at(c.carriers.as_slice(), holders, self, point, point) {
+            Some(at) => Some(Met {
+                meet: PlaneMeet::AtVertex(number),
+                at,
+            }),
+            None => None,
         }
     }
-    best
-}
 
-// The first that the ray meets of the edges that are asked, if they lie in the plane and not along the ray. Where the ray
-// meets an edge along it, it meets an end of that edge sooner.
-fn nearest_edge(
-    c: &Complex,
-    ray: &AxisRay,
-    level: &Option<Level>,
-    asked: &Numbers,
-) -> Option<Met<FarHit>>
-    requires shows { (s : Set) × ShowsSet s c.now }
-    requires level { IfSome level.now (IsLevel c.now.vertices (form_of ray.now.plane.now) (hit_place ray.now.start.now)) }
-    requires asked { AreAsked (EdgeLiesIn c.now.vertices c.now.edges (form_of ray.now.plane.now)) (length c.now.edges) level.now asked.now }
-    ensures nearest { IsNearest far_met_of (hit_place ray.now.start.now) (vector_of ray.now.direction.now) (AtSomeEdge (complex_of c.now) (form_of ray.now.plane.now) (vector_of ray.now.direction.now)) result }
-{
-    let mut best = None;
-    for place in 0..asked.len() {
-        let number = asked.at(place);
-        if may_meet_edge(c, ray, level, number) {
-            best = nearer(best, edge_met(c, ray, number));
+    fn edge_met(&self, c: &Complex, number: usize) -> Option<Met<FarHit>> {
+        let edge = c.edges.at(number);
+        let low = &c.vertices.at(edge.low).point;
+        let high = &c.vertices.at(edge.high).point;
+        let holders = edge_holders(c, number);
+        match met_at(c.carriers.as_slice(), holders, self, low, high) {
+            Some(at) => Some(Met {
+                meet: PlaneMeet::AtEdge(number),
+                at,
+            }),
+            None => None,
         }
     }
-    best
-}
 
-// The first that the ray meets of the vertices and edges that are asked.
-fn nearest_met(
-    c: &Complex,
-    ray: &AxisRay,
-    level: &Option<Level>,
-    vertices: &Numbers,
-    edges: &Numbers,
-) -> Option<Met<FarHit>>
-    requires shows { (s : Set) × ShowsSet s c.now }
-    requires level { IfSome level.now (IsLevel c.now.vertices (form_of ray.now.plane.now) (hit_place ray.now.start.now)) }
-    requires vertices { AreAsked (LiesOn c.now.vertices (form_of ray.now.plane.now)) (length c.now.vertices) level.now vertices.now }
-    requires edges { AreAsked (EdgeLiesIn c.now.vertices c.now.edges (form_of ray.now.plane.now)) (length c.now.edges) level.now edges.now }
-    ensures nearest { IsNearest far_met_of (hit_place ray.now.start.now) (vector_of ray.now.direction.now) (AtVertexOrEdge (complex_of c.now) (form_of ray.now.plane.now) (vector_of ray.now.direction.now)) result }
-{
-    let vertex = nearest_vertex(c, ray, level, vertices);
-    let edge = nearest_edge(c, ray, level, edges);
-    nearer(vertex, edge)
+    // The level tells of most vertices, by their numbers.
+    fn may_meet_vertex(&self, c: &Complex, level: &Option<Level>, number: usize) -> bool {
+        match level {
+            Some(level) => level.may_hold(number),
+            None => vertex_lies_on(c, self.plane, number),
+        }
+    }
+
+    // The level tells of most edges, by the numbers of their ends.
+    fn may_meet_edge(&self, c: &Complex, level: &Option<Level>, number: usize) -> bool {
+        match level {
+            Some(level) => {
+                let edge = c.edges.at(number);
+                level.may_part(edge.low, edge.high)
+            }
+            None => edge_lies_in(c, self.plane, number),
+        }
+    }
+
+    ghost leads = { λ r. r.axis.0 };
+
+    ghost holds = { λ r c x y. y.1 };
 }
 
 // What the ray meets first, by the lists of the plane where the index has it. Where no vertex has an item in the plane,
@@ -204,11 +135,11 @@ fn first_met(c: &Complex, ray: &AxisRay) -> Option<Met<FarHit>>
         Some(items) => {
             let level = Some(Level::of(c, ray, items.vertices));
             let vertices = Numbers::Listed(items.vertices);
-            nearest_met(c, ray, &level, &vertices, &Numbers::Listed(items.edges))
+            nearest_met(ray, c, &level, &vertices, &Numbers::Listed(items.edges))
         }
         None => {
             let vertices = Numbers::All(c.vertices.len());
-            nearest_met(c, ray, &None, &vertices, &Numbers::All(c.edges.len()))
+            nearest_met(ray, c, &None, &vertices, &Numbers::All(c.edges.len()))
         }
     }
 }

@@ -4,6 +4,6 @@ use Rattle.nef_edges.proofs.order.x_cmp.Goals as goal
 
 pub returns : goal.returns
 returns c = record {
-  order = ratio-is c.args.a.now c.args.b.now (λ h. (moment_of h).x) c.product_x.result c.w.result c.product_x-2.result c.w-2.result c.ratio_cmp.result
-      c.product_x.ensures.product c.product_x-2.ensures.product c.w.ensures.w c.w-2.ensures.w c.product_x.ensures.small c.product_x-2.ensures.small c.ratio_cmp.ensures.order;
+  order = ratio-is c.args.a.now c.args.b.now (λ h. (moment_of h).x) c.product_x-n.result c.product_x-m.result c.ratio_cmp.result
+      c.product_x-n.ensures.product c.product_x-m.ensures.product c.product_x-n.ensures.small c.product_x-m.ensures.small c.ratio_cmp.ensures.order;
 }

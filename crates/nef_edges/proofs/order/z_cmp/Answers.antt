@@ -4,6 +4,6 @@ use Rattle.nef_edges.proofs.order.z_cmp.Goals as goal
 
 pub returns : goal.returns
 returns c = record {
-  order = ratio-is c.args.a.now c.args.b.now (λ h. (moment_of h).z) c.product_z.result c.w.result c.product_z-2.result c.w-2.result c.ratio_cmp.result
-      c.product_z.ensures.product c.product_z-2.ensures.product c.w.ensures.w c.w-2.ensures.w c.product_z.ensures.small c.product_z-2.ensures.small c.ratio_cmp.ensures.order;
+  order = ratio-is c.args.a.now c.args.b.now (λ h. (moment_of h).z) c.product_z-n.result c.product_z-m.result c.ratio_cmp.result
+      c.product_z-n.ensures.product c.product_z-m.ensures.product c.product_z-n.ensures.small c.product_z-m.ensures.small c.ratio_cmp.ensures.order;
 }

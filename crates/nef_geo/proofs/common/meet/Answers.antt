@@ -1,7 +1,7 @@
-use Rattle.std.proofs.Common.{rules, ◌≡◌, ◌≢◌, ◌≤◌, ℤ, pos, nat_abs, to_z, of_z, w64, arith, sym, ap, subst, ◌∙◌, lit≤}
+use Rattle.std.proofs.Common.{rules, ◌≡◌, ◌≢◌, ℕ, ◌≤◌, ℤ, pos, nat_abs, to_z, of_z, w64, arith, refl, sym, ap, subst, ◌∙◌, lit≤}
 use Rattle.nef_space.specs.Limits.{normal_limit, offset_limit, svertex_limit, point_limit, weight_limit}
-use Rattle.nef_space.specs.Place.{normal_of}
-use Rattle.nef_space.specs.Vectors.{Vector, vector, dot, IsAtMost}
+use Rattle.nef_space.specs.Place.{Form, normal_of}
+use Rattle.nef_space.specs.Vectors.{Vector, vector, dot, cross, IsAtMost}
 use Rattle.nef_geo.specs.Shapes.{form_of}
 use Rattle.nef_geo.specs.Triples.{triple_vector}
 use Rattle.nef_geo.specs.declared.plane.Plane.{Plane}
@@ -23,6 +23,54 @@ size n a b h k e = subst (λ (m : ℤ). nat_abs m ≤ point_limit) (sym e) (let 
 
 kept_size : (n : ℤ) → nat_abs n ≤ point_limit → nat_abs (to_z w64 (of_z w64 n)) ≤ point_limit
 kept_size n h = rw (kept n h) h
+
+-- numbers of a vector that passed through the machine's type
+passed_within : (k : ℕ) (v : Vector) → k ≤ point_limit → IsAtMost k v → IsAtMost k (vector (to_z w64 (of_z w64 v.x)) (to_z w64 (of_z w64 v.y)) (to_z w64 (of_z w64 v.z)))
+passed_within k v l s = record {
+  of_x = rw (kept v.x (omega (arith, s.of_x, l))) s.of_x;
+  of_y = rw (kept v.y (omega (arith, s.of_y, l))) s.of_y;
+  of_z = rw (kept v.z (omega (arith, s.of_z, l))) s.of_z;
+}
+
+-- the first dot product is the triple product of the normals
+triple_is : (p q r : Form) (np nq nr k : Vector) (w : ℤ) → np ≡ normal_of p → nq ≡ normal_of q → nr ≡ normal_of r → k ≡ cross nq nr → w ≡ dot np k → w ≡ meet_w p q r
+triple_is p q r np nq nr k w ep eq er ek e = e ∙ ap (λ (v : Vector). dot v k) ep ∙ ap (dot (normal_of p)) (cross_is (normal_of q) (normal_of r) _ _ _ eq er ek)
+
+pub dot_narrow-w-requires : goal.dot_narrow-w-requires
+dot_narrow-w-requires c = record {
+  left = IsAtMost-weaken normal_limit offset_limit (triple_vector c.normal-np.result) (lit≤ tt) c.normal-np.ensures.small;
+  right = c.cross_narrow.ensures.small;
+}
+
+pub returns-then-w-eq0-clause-none : goal.returns-then-w-eq0-clause-none
+returns-then-w-eq0-clause-none c =
+    let e = triple_is (form_of c.args.p.now) (form_of c.args.q.now) (form_of c.args.r.now) _ _ _ _ _ c.normal-np.ensures.normal c.normal-nq.ensures.normal c.normal-nr.ensures.normal c.cross_narrow.ensures.cross c.dot_narrow-w.ensures.dot in
+    let zero : c.dot_narrow-w.result ≡ pos 0 = search rules in
+    (λ none. sym e ∙ zero, λ h. refl)
+
+pub dot_narrow-x-requires : goal.dot_narrow-x-requires
+dot_narrow-x-requires c =
+    let i = c.cross_narrow-rq.ensures.small in let j = c.cross_narrow-pr.ensures.small in let k = c.cross_narrow-qp.ensures.small in
+    record {
+      left = passed_within offset_limit (constants (form_of c.args.p.now) (form_of c.args.q.now) (form_of c.args.r.now)) (lit≤ tt) (constants_within c.args.p.now c.args.q.now c.args.r.now);
+      right = passed_within svertex_limit (vector c.cross_narrow-rq.result.x c.cross_narrow-pr.result.x c.cross_narrow-qp.result.x) (lit≤ tt) (record { of_x = i.of_x; of_y = j.of_x; of_z = k.of_x });
+    }
+
+pub dot_narrow-y-requires : goal.dot_narrow-y-requires
+dot_narrow-y-requires c =
+    let i = c.cross_narrow-rq.ensures.small in let j = c.cross_narrow-pr.ensures.small in let k = c.cross_narrow-qp.ensures.small in
+    record {
+      left = passed_within offset_limit (constants (form_of c.args.p.now) (form_of c.args.q.now) (form_of c.args.r.now)) (lit≤ tt) (constants_within c.args.p.now c.args.q.now c.args.r.now);
+      right = passed_within svertex_limit (vector c.cross_narrow-rq.result.y c.cross_narrow-pr.result.y c.cross_narrow-qp.result.y) (lit≤ tt) (record { of_x = i.of_y; of_y = j.of_y; of_z = k.of_y });
+    }
+
+pub dot_narrow-z-requires : goal.dot_narrow-z-requires
+dot_narrow-z-requires c =
+    let i = c.cross_narrow-rq.ensures.small in let j = c.cross_narrow-pr.ensures.small in let k = c.cross_narrow-qp.ensures.small in
+    record {
+      left = passed_within offset_limit (constants (form_of c.args.p.now) (form_of c.args.q.now) (form_of c.args.r.now)) (lit≤ tt) (constants_within c.args.p.now c.args.q.now c.args.r.now);
+      right = passed_within svertex_limit (vector c.cross_narrow-rq.result.z c.cross_narrow-pr.result.z c.cross_narrow-qp.result.z) (lit≤ tt) (record { of_x = i.of_z; of_y = j.of_z; of_z = k.of_z });
+    }
 
 pub turned-requires-clause-small : goal.turned-requires-clause-small
 turned-requires-clause-small c =
@@ -67,9 +115,7 @@ returns-clause-met c =
     let ey : c.dot_narrow-y.result ≡ dot d (vector rq.y pr.y qp.y) = plain c.dot_narrow-y.result d (vector rq.y pr.y qp.y) h ky c.dot_narrow-y.ensures.dot in
     let ez : c.dot_narrow-z.result ≡ dot d (vector rq.z pr.z qp.z) = plain c.dot_narrow-z.result d (vector rq.z pr.z qp.z) h kz c.dot_narrow-z.ensures.dot in
     let sw : nat_abs c.dot_narrow-w.result ≤ weight_limit = w_size c.dot_narrow-w.result (triple_vector c.normal-np.result) (triple_vector c.cross_narrow.result) c.normal-np.ensures.small c.cross_narrow.ensures.small c.dot_narrow-w.ensures.dot in
-    let w_is : c.dot_narrow-w.result ≡ meet_w p q r = c.dot_narrow-w.ensures.dot
-    ∙ ap (λ (v : Vector). dot v (triple_vector c.cross_narrow.result)) np
-    ∙ ap (dot (normal_of p)) (cross_is (normal_of q) (normal_of r) _ _ _ nq nr c.cross_narrow.ensures.cross) in
+    let w_is : c.dot_narrow-w.result ≡ meet_w p q r = triple_is p q r _ _ _ _ _ np nq nr c.cross_narrow.ensures.cross c.dot_narrow-w.ensures.dot in
     let some : meet_w p q r ≢ pos 0 = subst (λ (n : ℤ). n ≢ pos 0) w_is (search rules) in
     IsOnlyCommon-from_ratios p q r c.turned.result.x c.turned.result.y c.turned.result.z c.turned.result.w c.turned.result.proper some
     (rw (
@@ -78,3 +124,9 @@ returns-clause-met c =
       kept c.dot_narrow-z.result (size c.dot_narrow-z.result d _ h kz ez) ∙ ez ∙ steps_z p q r _ _ _ steps,
       kept c.dot_narrow-w.result (omega (arith, sw)) ∙ w_is,
     ) at c.turned.ensures.same)
+
+pub returns-clause-none : goal.returns-clause-none
+returns-clause-none c =
+    let e = triple_is (form_of c.args.p.now) (form_of c.args.q.now) (form_of c.args.r.now) _ _ _ _ _ c.normal-np.ensures.normal c.normal-nq.ensures.normal c.normal-nr.ensures.normal c.cross_narrow.ensures.cross c.dot_narrow-w.ensures.dot in
+    let some : c.dot_narrow-w.result ≢ pos 0 = search rules in
+    (λ none. absurd (cc), λ h. absurd (some (e ∙ h)))

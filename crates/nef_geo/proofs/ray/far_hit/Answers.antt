@@ -1,18 +1,17 @@
-use Rattle.std.proofs.Common.{rules, ◌≡◌, ℕ, ◌^◌, ◌≤◌, ℤ, nat_abs, lit≤, refl, arith, sym, ◌∙◌, subst, to_z, of_z}
-use mir.Syntax.{w128}
+use Rattle.std.proofs.Common.{rules, ◌≡◌, ℕ, ◌≤◌, ℤ, nat_abs, lit≤, refl, arith, sym, ◌∙◌, subst}
 use Rattle.nef_space.specs.Limits.{normal_limit}
 use Rattle.nef_space.specs.Place.{normal_of, form_at, slope}
 use Rattle.nef_space.specs.Vectors.{IsAtMost}
-use Rattle.nef_geo.specs.Hits.{IsPlaceAtMost}
+use Rattle.nef_geo.specs.Hits.{IsPlaceAtMost, IsReachedBy}
 use Rattle.nef_geo.specs.Shapes.{form_of, vector_of, hit_place, far_place}
 use Rattle.nef_geo.specs.Steps.{HasOppositeSigns, IsZeroStep}
 use Rattle.nef_geo.specs.Widths.{upright_limit, upright_weight_limit, far_num_limit, far_den_limit}
 use Rattle.nef_geo.specs.declared.plane.Plane.{Plane}
 use Rattle.nef_geo.specs.declared.dir.Dir.{Dir}
 use Rattle.nef_geo.specs.declared.hit.Hit.{Hit}
-use Rattle.nef_geo.proofs.Crossings.{IsReachedBy, IsCrossing-reached, IsReached-by, opposite-crossing}
-use Rattle.nef_geo.proofs.Products.{kept_wide, dot_size, normal_within}
-use Rattle.nef_geo.proofs.Rays.{step_meant, reached_from_hit, growth_some}
+use Rattle.nef_geo.proofs.Crossings.{IsCrossing-reached, IsReached-by, opposite-crossing}
+use Rattle.nef_geo.proofs.Products.{kept_wide, kept_small, wide_enough, dot_size, normal_within}
+use Rattle.nef_geo.proofs.Rays.{step_meant, growth_some}
 use Rattle.nef_geo.proofs.Sizes.{form_size, far_within}
 use Rattle.nef_geo.proofs.ray.far_hit.Goals as goal
 
@@ -22,12 +21,6 @@ form_small h p v e s = subst (λ (i : ℤ). nat_abs i ≤ far_num_limit) (sym e)
 
 slope_small : (h : Plane) (d : Dir) (g : ℤ) → g ≡ slope (form_of h) (vector_of d) → IsAtMost normal_limit (vector_of d) → nat_abs g ≤ far_den_limit
 slope_small h d g e s = subst (λ (i : ℤ). nat_abs i ≤ far_den_limit) (sym e) (let t = dot_size normal_limit normal_limit (normal_of (form_of h)) (vector_of d) (normal_within h) s in omega (arith, t))
-
-wide_enough : (v : ℤ) (k : ℕ) → nat_abs v ≤ k → k ≤ 2 ^ 126 → nat_abs v ≤ 2 ^ 126
-wide_enough v k s l = omega (arith, s)
-
-kept_small : (v : ℤ) (k : ℕ) → nat_abs v ≤ k → k ≤ 2 ^ 126 → nat_abs (to_z w128 (of_z w128 v)) ≤ k
-kept_small v k s l = rw (kept_wide v (wide_enough v k s l)) s
 
 pub zero_step-requires-clause-value_small : goal.zero_step-requires-clause-value_small
 zero_step-requires-clause-value_small c =
@@ -58,38 +51,19 @@ reached_far-requires-clause-den_small c =
     let z : IsZeroStep (form_at h s) (slope h d) c.in_ok-step.step.num c.in_ok-step.step.den = step_meant c.hit_form.result c.slope.result (form_at h s) (slope h d) c.in_ok-step.step.num c.in_ok-step.step.den c.in_ok-step.step.num c.in_ok-step.step.den (wide_enough c.hit_form.result far_num_limit (form_small c.args.h.now c.args.p.now c.hit_form.result c.hit_form.ensures.value c.requires.p_small) (lit≤ tt)) (wide_enough c.slope.result far_den_limit (slope_small c.args.h.now c.args.d.now c.slope.result c.slope.ensures.value c.requires.d_small) (lit≤ tt)) c.hit_form.ensures.value c.slope.ensures.value refl refl c.in_ok-step.ensures.some in
     kept_small c.in_ok-step.step.den far_den_limit (subst (λ (i : ℕ). i ≤ far_den_limit) (sym z.den_size) (slope_small c.args.h.now c.args.d.now (slope h d) refl c.requires.d_small)) (lit≤ tt)
 
-pub returns-clause-none : goal.returns-clause-none
-returns-clause-none c =
+pub returns : goal.returns
+returns c =
     let h = form_of c.args.h.now in let s = hit_place c.args.p.now in let d = vector_of c.args.d.now in
     let r = c.reached_far.result in
     let z : IsZeroStep (form_at h s) (slope h d) c.in_ok-step.step.num c.in_ok-step.step.den = step_meant c.hit_form.result c.slope.result (form_at h s) (slope h d) c.in_ok-step.step.num c.in_ok-step.step.den c.in_ok-step.step.num c.in_ok-step.step.den (wide_enough c.hit_form.result far_num_limit (form_small c.args.h.now c.args.p.now c.hit_form.result c.hit_form.ensures.value c.requires.p_small) (lit≤ tt)) (wide_enough c.slope.result far_den_limit (slope_small c.args.h.now c.args.d.now c.slope.result c.slope.ensures.value c.requires.d_small) (lit≤ tt)) c.hit_form.ensures.value c.slope.ensures.value refl refl c.in_ok-step.ensures.some in
     let en : r.num ≡ c.in_ok-step.step.num = c.reached_far.ensures.num ∙ kept_wide c.in_ok-step.step.num (wide_enough c.in_ok-step.step.num far_num_limit (subst (λ (i : ℕ). i ≤ far_num_limit) (sym z.num_size) (form_small c.args.h.now c.args.p.now (form_at h s) refl c.requires.p_small)) (lit≤ tt)) in
     let em : r.den ≡ c.in_ok-step.step.den = c.reached_far.ensures.den ∙ kept_wide c.in_ok-step.step.den (wide_enough c.in_ok-step.step.den far_den_limit (subst (λ (i : ℕ). i ≤ far_den_limit) (sym z.den_size) (slope_small c.args.h.now c.args.d.now (slope h d) refl c.requires.d_small)) (lit≤ tt)) in
     let step : IsZeroStep (form_at h s) (slope h d) r.num r.den = rw (en, em) z in
-    let by : IsReachedBy s d r.num r.den r.x r.y r.z r.w = reached_from_hit c.args.p.now d _ _ r.num r.den r.x r.y r.z r.w c.reached_far.ensures.num c.reached_far.ensures.den c.reached_far.ensures.x c.reached_far.ensures.y c.reached_far.ensures.z c.reached_far.ensures.w in
-    (λ e. absurd (cc), λ f. absurd (f (far_place r) (IsCrossing-reached h s d r.num r.den r.x r.y r.z r.w r.proper c.args.d.now.some step.num_positive by step.balance (growth_some (slope h d) r.den step.den_size step.den_positive))))
-
-pub returns-clause-crossing : goal.returns-clause-crossing
-returns-clause-crossing c =
-    let h = form_of c.args.h.now in let s = hit_place c.args.p.now in let d = vector_of c.args.d.now in
-    let r = c.reached_far.result in
-    let z : IsZeroStep (form_at h s) (slope h d) c.in_ok-step.step.num c.in_ok-step.step.den = step_meant c.hit_form.result c.slope.result (form_at h s) (slope h d) c.in_ok-step.step.num c.in_ok-step.step.den c.in_ok-step.step.num c.in_ok-step.step.den (wide_enough c.hit_form.result far_num_limit (form_small c.args.h.now c.args.p.now c.hit_form.result c.hit_form.ensures.value c.requires.p_small) (lit≤ tt)) (wide_enough c.slope.result far_den_limit (slope_small c.args.h.now c.args.d.now c.slope.result c.slope.ensures.value c.requires.d_small) (lit≤ tt)) c.hit_form.ensures.value c.slope.ensures.value refl refl c.in_ok-step.ensures.some in
-    let en : r.num ≡ c.in_ok-step.step.num = c.reached_far.ensures.num ∙ kept_wide c.in_ok-step.step.num (wide_enough c.in_ok-step.step.num far_num_limit (subst (λ (i : ℕ). i ≤ far_num_limit) (sym z.num_size) (form_small c.args.h.now c.args.p.now (form_at h s) refl c.requires.p_small)) (lit≤ tt)) in
-    let em : r.den ≡ c.in_ok-step.step.den = c.reached_far.ensures.den ∙ kept_wide c.in_ok-step.step.den (wide_enough c.in_ok-step.step.den far_den_limit (subst (λ (i : ℕ). i ≤ far_den_limit) (sym z.den_size) (slope_small c.args.h.now c.args.d.now (slope h d) refl c.requires.d_small)) (lit≤ tt)) in
-    let step : IsZeroStep (form_at h s) (slope h d) r.num r.den = rw (en, em) z in
-    let by : IsReachedBy s d r.num r.den r.x r.y r.z r.w = reached_from_hit c.args.p.now d _ _ r.num r.den r.x r.y r.z r.w c.reached_far.ensures.num c.reached_far.ensures.den c.reached_far.ensures.x c.reached_far.ensures.y c.reached_far.ensures.z c.reached_far.ensures.w in
-    IsCrossing-reached h s d r.num r.den r.x r.y r.z r.w r.proper c.args.d.now.some step.num_positive by step.balance (growth_some (slope h d) r.den step.den_size step.den_positive)
-
-pub returns-clause-step : goal.returns-clause-step
-returns-clause-step c =
-    let h = form_of c.args.h.now in let s = hit_place c.args.p.now in let d = vector_of c.args.d.now in
-    let r = c.reached_far.result in
-    let z : IsZeroStep (form_at h s) (slope h d) c.in_ok-step.step.num c.in_ok-step.step.den = step_meant c.hit_form.result c.slope.result (form_at h s) (slope h d) c.in_ok-step.step.num c.in_ok-step.step.den c.in_ok-step.step.num c.in_ok-step.step.den (wide_enough c.hit_form.result far_num_limit (form_small c.args.h.now c.args.p.now c.hit_form.result c.hit_form.ensures.value c.requires.p_small) (lit≤ tt)) (wide_enough c.slope.result far_den_limit (slope_small c.args.h.now c.args.d.now c.slope.result c.slope.ensures.value c.requires.d_small) (lit≤ tt)) c.hit_form.ensures.value c.slope.ensures.value refl refl c.in_ok-step.ensures.some in
-    let en : r.num ≡ c.in_ok-step.step.num = c.reached_far.ensures.num ∙ kept_wide c.in_ok-step.step.num (wide_enough c.in_ok-step.step.num far_num_limit (subst (λ (i : ℕ). i ≤ far_num_limit) (sym z.num_size) (form_small c.args.h.now c.args.p.now (form_at h s) refl c.requires.p_small)) (lit≤ tt)) in
-    let em : r.den ≡ c.in_ok-step.step.den = c.reached_far.ensures.den ∙ kept_wide c.in_ok-step.step.den (wide_enough c.in_ok-step.step.den far_den_limit (subst (λ (i : ℕ). i ≤ far_den_limit) (sym z.den_size) (slope_small c.args.h.now c.args.d.now (slope h d) refl c.requires.d_small)) (lit≤ tt)) in
-    let step : IsZeroStep (form_at h s) (slope h d) r.num r.den = rw (en, em) z in
-    let by : IsReachedBy s d r.num r.den r.x r.y r.z r.w = reached_from_hit c.args.p.now d _ _ r.num r.den r.x r.y r.z r.w c.reached_far.ensures.num c.reached_far.ensures.den c.reached_far.ensures.x c.reached_far.ensures.y c.reached_far.ensures.z c.reached_far.ensures.w in
-    IsReached-by s d r.num r.den r.x r.y r.z r.w r.proper r.den_sign by
-
-pub returns-clause-width : goal.returns-clause-width
-returns-clause-width c = far_within c.reached_far.result
+    let by : IsReachedBy s d r.num r.den r.x r.y r.z r.w = c.reached_far.ensures.at in
+    let crossing = IsCrossing-reached h s d r.num r.den r.x r.y r.z r.w r.proper c.args.d.now.some step.num_positive by step.balance (growth_some (slope h d) r.den step.den_size step.den_positive) in
+    record {
+      none = (λ e. absurd (cc), λ f. absurd (f (far_place r) crossing));
+      crossing = crossing;
+      step = IsReached-by s d r.num r.den r.x r.y r.z r.w r.proper r.den_sign by;
+      width = far_within r;
+    }

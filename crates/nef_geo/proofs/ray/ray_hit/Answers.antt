@@ -1,27 +1,21 @@
-use Rattle.std.proofs.Common.{rules, ◌≡◌, ℕ, ◌^◌, ◌≤◌, ℤ, nat_abs, lit≤, refl, arith, sym, ◌∙◌, subst, to_z, of_z}
-use mir.Syntax.{w128}
+use Rattle.std.proofs.Common.{rules, ◌≡◌, ℕ, ◌≤◌, ℤ, nat_abs, lit≤, refl, arith, sym, ◌∙◌, subst}
 use Rattle.nef_space.specs.Limits.{normal_limit}
 use Rattle.nef_space.specs.Place.{normal_of, form_at, slope}
 use Rattle.nef_space.specs.Vectors.{IsAtMost}
+use Rattle.nef_geo.specs.Hits.{IsReachedBy}
 use Rattle.nef_geo.specs.Shapes.{form_of, vector_of, place_of, hit_place}
 use Rattle.nef_geo.specs.Steps.{HasOppositeSigns, IsZeroStep}
 use Rattle.nef_geo.specs.Widths.{point_form_limit, ray_limit, ray_slope_limit}
 use Rattle.nef_geo.specs.declared.plane.Plane.{Plane}
 use Rattle.nef_geo.specs.declared.dir.Dir.{Dir}
-use Rattle.nef_geo.proofs.Crossings.{IsReachedBy, IsCrossing-reached, IsReached-by, opposite-crossing}
-use Rattle.nef_geo.proofs.Products.{kept_wide, dot_size, normal_within}
-use Rattle.nef_geo.proofs.Rays.{step_meant, reached_from_point, growth_some, upright-within, plane_dir-within, plane_dir-form}
+use Rattle.nef_geo.proofs.Crossings.{IsCrossing-reached, IsReached-by, opposite-crossing}
+use Rattle.nef_geo.proofs.Products.{kept_wide, kept_small, wide_enough, dot_size, normal_within}
+use Rattle.nef_geo.proofs.Rays.{step_meant, growth_some, upright-within, plane_dir-within, plane_dir-form}
 use Rattle.nef_geo.proofs.Sizes.{point_form_size}
 use Rattle.nef_geo.proofs.ray.ray_hit.Goals as goal
 
 slope_small : (h : Plane) (d : Dir) (g : ℤ) → g ≡ slope (form_of h) (vector_of d) → IsAtMost ray_limit (vector_of d) → nat_abs g ≤ ray_slope_limit
 slope_small h d g e s = subst (λ (i : ℤ). nat_abs i ≤ ray_slope_limit) (sym e) (let t = dot_size normal_limit ray_limit (normal_of (form_of h)) (vector_of d) (normal_within h) s in omega (arith, t))
-
-wide_enough : (v : ℤ) (k : ℕ) → nat_abs v ≤ k → k ≤ 2 ^ 126 → nat_abs v ≤ 2 ^ 126
-wide_enough v k s l = omega (arith, s)
-
-kept_small : (v : ℤ) (k : ℕ) → nat_abs v ≤ k → k ≤ 2 ^ 126 → nat_abs (to_z w128 (of_z w128 v)) ≤ k
-kept_small v k s l = rw (kept_wide v (wide_enough v k s l)) s
 
 pub zero_step-requires-clause-growth_small : goal.zero_step-requires-clause-growth_small
 zero_step-requires-clause-growth_small c =
@@ -41,68 +35,22 @@ reached-requires-clause-den_small c =
     let z : IsZeroStep (form_at h s) (slope h d) c.in_ok-step.step.num c.in_ok-step.step.den = step_meant c.form.result c.slope.result (form_at h s) (slope h d) c.in_ok-step.step.num c.in_ok-step.step.den c.in_ok-step.step.num c.in_ok-step.step.den (wide_enough c.form.result point_form_limit c.form.ensures.width (lit≤ tt)) (wide_enough c.slope.result ray_slope_limit (slope_small c.args.h.now c.args.d.now c.slope.result c.slope.ensures.value c.requires.d_small) (lit≤ tt)) c.form.ensures.value c.slope.ensures.value refl refl c.in_ok-step.ensures.some in
     kept_small c.in_ok-step.step.den ray_slope_limit (subst (λ (i : ℕ). i ≤ ray_slope_limit) (sym z.den_size) (slope_small c.args.h.now c.args.d.now (slope h d) refl c.requires.d_small)) (lit≤ tt)
 
-pub returns-clause-none : goal.returns-clause-none
-returns-clause-none c =
+pub returns : goal.returns
+returns c =
     let h = form_of c.args.h.now in let s = place_of c.args.p.now in let d = vector_of c.args.d.now in
     let r = c.reached.result in
     let z : IsZeroStep (form_at h s) (slope h d) c.in_ok-step.step.num c.in_ok-step.step.den = step_meant c.form.result c.slope.result (form_at h s) (slope h d) c.in_ok-step.step.num c.in_ok-step.step.den c.in_ok-step.step.num c.in_ok-step.step.den (wide_enough c.form.result point_form_limit c.form.ensures.width (lit≤ tt)) (wide_enough c.slope.result ray_slope_limit (slope_small c.args.h.now c.args.d.now c.slope.result c.slope.ensures.value c.requires.d_small) (lit≤ tt)) c.form.ensures.value c.slope.ensures.value refl refl c.in_ok-step.ensures.some in
     let en : r.num ≡ c.in_ok-step.step.num = c.reached.ensures.num ∙ kept_wide c.in_ok-step.step.num (wide_enough c.in_ok-step.step.num point_form_limit (subst (λ (i : ℕ). i ≤ point_form_limit) (sym z.num_size) (point_form_size c.args.h.now c.args.p.now)) (lit≤ tt)) in
     let em : r.den ≡ c.in_ok-step.step.den = c.reached.ensures.den ∙ kept_wide c.in_ok-step.step.den (wide_enough c.in_ok-step.step.den ray_slope_limit (subst (λ (i : ℕ). i ≤ ray_slope_limit) (sym z.den_size) (slope_small c.args.h.now c.args.d.now (slope h d) refl c.requires.d_small)) (lit≤ tt)) in
     let step : IsZeroStep (form_at h s) (slope h d) r.num r.den = rw (en, em) z in
-    let by : IsReachedBy s d r.num r.den r.x r.y r.z r.w = reached_from_point c.args.p.now d _ _ r.num r.den r.x r.y r.z r.w c.reached.ensures.num c.reached.ensures.den c.reached.ensures.x c.reached.ensures.y c.reached.ensures.z c.reached.ensures.w in
-    (λ e. absurd (cc), λ f. absurd (f (hit_place r) (IsCrossing-reached h s d r.num r.den r.x r.y r.z r.w r.proper c.args.d.now.some step.num_positive by step.balance (growth_some (slope h d) r.den step.den_size step.den_positive))))
-
-pub returns-clause-crossing : goal.returns-clause-crossing
-returns-clause-crossing c =
-    let h = form_of c.args.h.now in let s = place_of c.args.p.now in let d = vector_of c.args.d.now in
-    let r = c.reached.result in
-    let z : IsZeroStep (form_at h s) (slope h d) c.in_ok-step.step.num c.in_ok-step.step.den = step_meant c.form.result c.slope.result (form_at h s) (slope h d) c.in_ok-step.step.num c.in_ok-step.step.den c.in_ok-step.step.num c.in_ok-step.step.den (wide_enough c.form.result point_form_limit c.form.ensures.width (lit≤ tt)) (wide_enough c.slope.result ray_slope_limit (slope_small c.args.h.now c.args.d.now c.slope.result c.slope.ensures.value c.requires.d_small) (lit≤ tt)) c.form.ensures.value c.slope.ensures.value refl refl c.in_ok-step.ensures.some in
-    let en : r.num ≡ c.in_ok-step.step.num = c.reached.ensures.num ∙ kept_wide c.in_ok-step.step.num (wide_enough c.in_ok-step.step.num point_form_limit (subst (λ (i : ℕ). i ≤ point_form_limit) (sym z.num_size) (point_form_size c.args.h.now c.args.p.now)) (lit≤ tt)) in
-    let em : r.den ≡ c.in_ok-step.step.den = c.reached.ensures.den ∙ kept_wide c.in_ok-step.step.den (wide_enough c.in_ok-step.step.den ray_slope_limit (subst (λ (i : ℕ). i ≤ ray_slope_limit) (sym z.den_size) (slope_small c.args.h.now c.args.d.now (slope h d) refl c.requires.d_small)) (lit≤ tt)) in
-    let step : IsZeroStep (form_at h s) (slope h d) r.num r.den = rw (en, em) z in
-    let by : IsReachedBy s d r.num r.den r.x r.y r.z r.w = reached_from_point c.args.p.now d _ _ r.num r.den r.x r.y r.z r.w c.reached.ensures.num c.reached.ensures.den c.reached.ensures.x c.reached.ensures.y c.reached.ensures.z c.reached.ensures.w in
-    IsCrossing-reached h s d r.num r.den r.x r.y r.z r.w r.proper c.args.d.now.some step.num_positive by step.balance (growth_some (slope h d) r.den step.den_size step.den_positive)
-
-pub returns-clause-step : goal.returns-clause-step
-returns-clause-step c =
-    let h = form_of c.args.h.now in let s = place_of c.args.p.now in let d = vector_of c.args.d.now in
-    let r = c.reached.result in
-    let z : IsZeroStep (form_at h s) (slope h d) c.in_ok-step.step.num c.in_ok-step.step.den = step_meant c.form.result c.slope.result (form_at h s) (slope h d) c.in_ok-step.step.num c.in_ok-step.step.den c.in_ok-step.step.num c.in_ok-step.step.den (wide_enough c.form.result point_form_limit c.form.ensures.width (lit≤ tt)) (wide_enough c.slope.result ray_slope_limit (slope_small c.args.h.now c.args.d.now c.slope.result c.slope.ensures.value c.requires.d_small) (lit≤ tt)) c.form.ensures.value c.slope.ensures.value refl refl c.in_ok-step.ensures.some in
-    let en : r.num ≡ c.in_ok-step.step.num = c.reached.ensures.num ∙ kept_wide c.in_ok-step.step.num (wide_enough c.in_ok-step.step.num point_form_limit (subst (λ (i : ℕ). i ≤ point_form_limit) (sym z.num_size) (point_form_size c.args.h.now c.args.p.now)) (lit≤ tt)) in
-    let em : r.den ≡ c.in_ok-step.step.den = c.reached.ensures.den ∙ kept_wide c.in_ok-step.step.den (wide_enough c.in_ok-step.step.den ray_slope_limit (subst (λ (i : ℕ). i ≤ ray_slope_limit) (sym z.den_size) (slope_small c.args.h.now c.args.d.now (slope h d) refl c.requires.d_small)) (lit≤ tt)) in
-    let step : IsZeroStep (form_at h s) (slope h d) r.num r.den = rw (en, em) z in
-    let by : IsReachedBy s d r.num r.den r.x r.y r.z r.w = reached_from_point c.args.p.now d _ _ r.num r.den r.x r.y r.z r.w c.reached.ensures.num c.reached.ensures.den c.reached.ensures.x c.reached.ensures.y c.reached.ensures.z c.reached.ensures.w in
-    IsReached-by s d r.num r.den r.x r.y r.z r.w r.proper r.den_sign by
-
-pub returns-clause-upright_width : goal.returns-clause-upright_width
-returns-clause-upright_width c u =
-    let h = form_of c.args.h.now in let s = place_of c.args.p.now in let d = vector_of c.args.d.now in
-    let r = c.reached.result in
-    let z : IsZeroStep (form_at h s) (slope h d) c.in_ok-step.step.num c.in_ok-step.step.den = step_meant c.form.result c.slope.result (form_at h s) (slope h d) c.in_ok-step.step.num c.in_ok-step.step.den c.in_ok-step.step.num c.in_ok-step.step.den (wide_enough c.form.result point_form_limit c.form.ensures.width (lit≤ tt)) (wide_enough c.slope.result ray_slope_limit (slope_small c.args.h.now c.args.d.now c.slope.result c.slope.ensures.value c.requires.d_small) (lit≤ tt)) c.form.ensures.value c.slope.ensures.value refl refl c.in_ok-step.ensures.some in
-    let en : r.num ≡ c.in_ok-step.step.num = c.reached.ensures.num ∙ kept_wide c.in_ok-step.step.num (wide_enough c.in_ok-step.step.num point_form_limit (subst (λ (i : ℕ). i ≤ point_form_limit) (sym z.num_size) (point_form_size c.args.h.now c.args.p.now)) (lit≤ tt)) in
-    let em : r.den ≡ c.in_ok-step.step.den = c.reached.ensures.den ∙ kept_wide c.in_ok-step.step.den (wide_enough c.in_ok-step.step.den ray_slope_limit (subst (λ (i : ℕ). i ≤ ray_slope_limit) (sym z.den_size) (slope_small c.args.h.now c.args.d.now (slope h d) refl c.requires.d_small)) (lit≤ tt)) in
-    let step : IsZeroStep (form_at h s) (slope h d) r.num r.den = rw (en, em) z in
-    let by : IsReachedBy s d r.num r.den r.x r.y r.z r.w = reached_from_point c.args.p.now d _ _ r.num r.den r.x r.y r.z r.w c.reached.ensures.num c.reached.ensures.den c.reached.ensures.x c.reached.ensures.y c.reached.ensures.z c.reached.ensures.w in
-    upright-within c.args.h.now c.args.p.now d r.num r.den r.x r.y r.z r.w r.proper by step u
-
-pub returns-clause-plane_dir_width : goal.returns-clause-plane_dir_width
-returns-clause-plane_dir_width c u =
-    let h = form_of c.args.h.now in let s = place_of c.args.p.now in let d = vector_of c.args.d.now in
-    let r = c.reached.result in
-    let z : IsZeroStep (form_at h s) (slope h d) c.in_ok-step.step.num c.in_ok-step.step.den = step_meant c.form.result c.slope.result (form_at h s) (slope h d) c.in_ok-step.step.num c.in_ok-step.step.den c.in_ok-step.step.num c.in_ok-step.step.den (wide_enough c.form.result point_form_limit c.form.ensures.width (lit≤ tt)) (wide_enough c.slope.result ray_slope_limit (slope_small c.args.h.now c.args.d.now c.slope.result c.slope.ensures.value c.requires.d_small) (lit≤ tt)) c.form.ensures.value c.slope.ensures.value refl refl c.in_ok-step.ensures.some in
-    let en : r.num ≡ c.in_ok-step.step.num = c.reached.ensures.num ∙ kept_wide c.in_ok-step.step.num (wide_enough c.in_ok-step.step.num point_form_limit (subst (λ (i : ℕ). i ≤ point_form_limit) (sym z.num_size) (point_form_size c.args.h.now c.args.p.now)) (lit≤ tt)) in
-    let em : r.den ≡ c.in_ok-step.step.den = c.reached.ensures.den ∙ kept_wide c.in_ok-step.step.den (wide_enough c.in_ok-step.step.den ray_slope_limit (subst (λ (i : ℕ). i ≤ ray_slope_limit) (sym z.den_size) (slope_small c.args.h.now c.args.d.now (slope h d) refl c.requires.d_small)) (lit≤ tt)) in
-    let step : IsZeroStep (form_at h s) (slope h d) r.num r.den = rw (en, em) z in
-    let by : IsReachedBy s d r.num r.den r.x r.y r.z r.w = reached_from_point c.args.p.now d _ _ r.num r.den r.x r.y r.z r.w c.reached.ensures.num c.reached.ensures.den c.reached.ensures.x c.reached.ensures.y c.reached.ensures.z c.reached.ensures.w in
-    plane_dir-within c.args.h.now c.args.p.now d r.num r.den r.x r.y r.z r.w r.proper by step u
-
-pub returns-clause-plane_dir_form_width : goal.returns-clause-plane_dir_form_width
-returns-clause-plane_dir_form_width c u g =
-    let h = form_of c.args.h.now in let s = place_of c.args.p.now in let d = vector_of c.args.d.now in
-    let r = c.reached.result in
-    let z : IsZeroStep (form_at h s) (slope h d) c.in_ok-step.step.num c.in_ok-step.step.den = step_meant c.form.result c.slope.result (form_at h s) (slope h d) c.in_ok-step.step.num c.in_ok-step.step.den c.in_ok-step.step.num c.in_ok-step.step.den (wide_enough c.form.result point_form_limit c.form.ensures.width (lit≤ tt)) (wide_enough c.slope.result ray_slope_limit (slope_small c.args.h.now c.args.d.now c.slope.result c.slope.ensures.value c.requires.d_small) (lit≤ tt)) c.form.ensures.value c.slope.ensures.value refl refl c.in_ok-step.ensures.some in
-    let en : r.num ≡ c.in_ok-step.step.num = c.reached.ensures.num ∙ kept_wide c.in_ok-step.step.num (wide_enough c.in_ok-step.step.num point_form_limit (subst (λ (i : ℕ). i ≤ point_form_limit) (sym z.num_size) (point_form_size c.args.h.now c.args.p.now)) (lit≤ tt)) in
-    let em : r.den ≡ c.in_ok-step.step.den = c.reached.ensures.den ∙ kept_wide c.in_ok-step.step.den (wide_enough c.in_ok-step.step.den ray_slope_limit (subst (λ (i : ℕ). i ≤ ray_slope_limit) (sym z.den_size) (slope_small c.args.h.now c.args.d.now (slope h d) refl c.requires.d_small)) (lit≤ tt)) in
-    let step : IsZeroStep (form_at h s) (slope h d) r.num r.den = rw (en, em) z in
-    let by : IsReachedBy s d r.num r.den r.x r.y r.z r.w = reached_from_point c.args.p.now d _ _ r.num r.den r.x r.y r.z r.w c.reached.ensures.num c.reached.ensures.den c.reached.ensures.x c.reached.ensures.y c.reached.ensures.z c.reached.ensures.w in
-    plane_dir-form g c.args.h.now c.args.p.now d r.num r.den r.x r.y r.z r.w r.proper by step u
+    let by : IsReachedBy s d r.num r.den r.x r.y r.z r.w = c.reached.ensures.at in
+    let crossing = IsCrossing-reached h s d r.num r.den r.x r.y r.z r.w r.proper c.args.d.now.some step.num_positive by step.balance (growth_some (slope h d) r.den step.den_size step.den_positive) in
+    record {
+      none = (λ e. absurd (cc), λ f. absurd (f (hit_place r) crossing));
+      crossing = crossing;
+      step = IsReached-by s d r.num r.den r.x r.y r.z r.w r.proper r.den_sign by;
+      ahead = step.num_positive;
+      upright_width = λ u. upright-within c.args.h.now c.args.p.now d r.num r.den r.x r.y r.z r.w r.proper by step u;
+      plane_dir_width = λ u. plane_dir-within c.args.h.now c.args.p.now d r.num r.den r.x r.y r.z r.w r.proper by step u;
+      plane_dir_form_width = λ u g. plane_dir-form g c.args.h.now c.args.p.now d r.num r.den r.x r.y r.z r.w r.proper by step u;
+    }

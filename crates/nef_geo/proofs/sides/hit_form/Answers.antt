@@ -1,64 +1,22 @@
-use Rattle.std.proofs.Common.{ℕ, ℤ, ◌+ℤ◌, ◌*ℤ◌, List, [], ◌∷◌, w64, sym, ap, ◌∙◌}
+use Rattle.std.proofs.Common.{rules, ◌∙◌, FitsSigned}
+use Rattle.std.proofs.lemmas.Int.{to_z-of_z}
 use mir.Syntax.{w128}
-use Rattle.nef_space.specs.Limits.{normal_limit, offset_limit}
-use Rattle.law_arithmetic.proofs.Machine.{Code, load, wrap, ◌⊞◌, ◌⊠◌, Limited, exact_of, fits_of}
-use Rattle.nef_geo.specs.Widths.{hit_limit, hit_weight_limit}
-use Rattle.nef_geo.specs.declared.hit.Hit.{Hit}
-use Rattle.nef_geo.specs.declared.plane.Plane.{Plane}
-use Rattle.nef_geo.proofs.Places.{pos_size}
+use Rattle.nef_geo.proofs.Sizes.{hit_far}
+use Rattle.nef_geo.proofs.WideForms.{passed_x, passed_y, passed_z, passed_w, form_at-passed}
 use Rattle.nef_geo.proofs.sides.hit_form.Goals as goal
 
--- the bounds of a, b, c, d, x, y, z, w
-abbrev sizes : List ℕ
-sizes = normal_limit ∷ normal_limit ∷ normal_limit ∷ offset_limit ∷ hit_limit ∷ hit_limit ∷ hit_limit ∷ hit_weight_limit ∷ []
-
-abbrev numbers : Plane → Hit → List ℤ
-numbers h p = h.a ∷ h.b ∷ h.c ∷ h.d ∷ p.x ∷ p.y ∷ p.z ∷ p.w ∷ []
-
-limits : (h : Plane) (p : Hit) → Limited sizes (numbers h p)
-limits h p = (h.a_small, (h.b_small, (h.c_small, (h.d_small, (p.x_small, (p.y_small, (p.z_small, (p.w_small, tt))))))))
-
--- the product of a plane's number, cast to `i128`, and the hit's
-abbrev factor : ℕ → ℕ → Code
-factor i j = wrap w128 (wrap w64 (load i)) ⊠ wrap w128 (load j)
-
-abbrev product : ℕ → ℕ → Code
-product i j = wrap w128 (factor i j)
-
-abbrev two : Code
-two = product 0 4 ⊞ product 1 5
-
-abbrev three : Code
-three = wrap w128 two ⊞ product 2 6
-
-abbrev four : Code
-four = wrap w128 three ⊞ product 3 7
-
-pub overflow_mul-result : goal.overflow_mul-result
-overflow_mul-result c = fits_of sizes (numbers c.args.h.now c.args.p.now) w128 (factor 0 4) (limits c.args.h.now c.args.p.now) tt
-
-pub overflow_mul-result-2 : goal.overflow_mul-result-2
-overflow_mul-result-2 c = fits_of sizes (numbers c.args.h.now c.args.p.now) w128 (factor 1 5) (limits c.args.h.now c.args.p.now) tt
-
-pub overflow_add-result : goal.overflow_add-result
-overflow_add-result c = fits_of sizes (numbers c.args.h.now c.args.p.now) w128 (two) (limits c.args.h.now c.args.p.now) tt
-
-pub overflow_mul-result-3 : goal.overflow_mul-result-3
-overflow_mul-result-3 c = fits_of sizes (numbers c.args.h.now c.args.p.now) w128 (factor 2 6) (limits c.args.h.now c.args.p.now) tt
-
-pub overflow_add-result-2 : goal.overflow_add-result-2
-overflow_add-result-2 c = fits_of sizes (numbers c.args.h.now c.args.p.now) w128 (three) (limits c.args.h.now c.args.p.now) tt
-
-pub overflow_mul-result-4 : goal.overflow_mul-result-4
-overflow_mul-result-4 c = fits_of sizes (numbers c.args.h.now c.args.p.now) w128 (factor 3 7) (limits c.args.h.now c.args.p.now) tt
-
-pub overflow_add-result-3 : goal.overflow_add-result-3
-overflow_add-result-3 c = fits_of sizes (numbers c.args.h.now c.args.p.now) w128 (four) (limits c.args.h.now c.args.p.now) tt
+pub wide_form-requires : goal.wide_form-requires
+wide_form-requires c =
+    let p = c.args.p.now in let s = hit_far p in
+    record {
+      x_small = passed_x p.x p.y p.z p.w p.proper s;
+      y_small = passed_y p.x p.y p.z p.w p.proper s;
+      z_small = passed_z p.x p.y p.z p.w p.proper s;
+      w_small = passed_w p.x p.y p.z p.w p.proper s;
+    }
 
 pub returns : goal.returns
 returns c =
-    let h = c.args.h.now in let p = c.args.p.now in
-    record {
-      value = exact_of sizes (numbers h p) (wrap w128 four) (limits h p) tt
-          ∙ ap (λ (n : ℤ). h.a *ℤ p.x +ℤ h.b *ℤ p.y +ℤ h.c *ℤ p.z +ℤ h.d *ℤ n) (sym (pos_size p.w p.proper));
-    }
+    let p = c.args.p.now in
+    let fits : FitsSigned w128 c.wide_form.result = search rules in
+    record { value = to_z-of_z w128 c.wide_form.result fits ∙ c.wide_form.ensures.value ∙ form_at-passed p.x p.y p.z p.w p.proper (hit_far p) c.args.h.now }

@@ -39,12 +39,24 @@ made h e f ee ef =
 sum_fits : (e f : ℤ) → nat_abs e ≤ normal_limit → nat_abs f ≤ normal_limit → FitsSigned w64 (to_z w64 (of_z w64 (pos axis_factor *ℤ to_z w64 (of_z w64 e))) +ℤ to_z w64 (of_z w64 f))
 sum_fits e f s t = fits_of (normal_limit ∷ normal_limit ∷ []) (e ∷ f ∷ []) w64 (wrap w64 (const (pos axis_factor) ⊠ wrap w64 (load 0)) ⊞ wrap w64 (load 1)) (s, (t, tt)) tt
 
+product_fits : (e : ℤ) → nat_abs e ≤ normal_limit → FitsSigned w64 (pos axis_factor *ℤ to_z w64 (of_z w64 e))
+product_fits e s = fits_of (normal_limit ∷ []) (e ∷ []) w64 (const (pos axis_factor) ⊠ wrap w64 (load 0)) (s, tt) tt
+
 -- the numbers of the two directions are small
 first_small : (h : Plane) (e : Vector) → e ≡ plane_axis (normal_of (form_of h)) → IsAtMost normal_limit e
 first_small h e ee = subst (IsAtMost normal_limit) (sym ee) (pair_small h).axis
 
 second_small : (h : Plane) (f : Vector) → f ≡ second_beside (normal_of (form_of h)) → IsAtMost normal_limit f
 second_small h f ef = subst (IsAtMost normal_limit) (sym ef) (pair_small h).beside
+
+pub overflow_mul-first : goal.overflow_mul-first
+overflow_mul-first c = let e = triple_vector c.axis-first.result in product_fits e.x (first_small c.args.h.now e c.axis-first.ensures.axis).of_x
+
+pub overflow_mul-first-2 : goal.overflow_mul-first-2
+overflow_mul-first-2 c = let e = triple_vector c.axis-first.result in product_fits e.y (first_small c.args.h.now e c.axis-first.ensures.axis).of_y
+
+pub overflow_mul-first-3 : goal.overflow_mul-first-3
+overflow_mul-first-3 c = let e = triple_vector c.axis-first.result in product_fits e.z (first_small c.args.h.now e c.axis-first.ensures.axis).of_z
 
 pub overflow_add-first : goal.overflow_add-first
 overflow_add-first c =

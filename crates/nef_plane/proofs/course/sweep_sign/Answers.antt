@@ -1,7 +1,12 @@
 use Rattle.std.proofs.Common.{rules}
-use Rattle.nef_plane.proofs.Sweep.{way-sign}
+use Rattle.nef_plane.proofs.Sweep.{way-sign, way-second}
 use Rattle.nef_plane.proofs.course.sweep_sign.Goals as goal
 use Rattle.nef_plane.proofs.course.sweep_sign.Goals.{else-c-eq0-via-then-c-eq0+else-b-eq0, else-c-eq0-via-else-c-eq0}
+
+pub returns-then-b-eq0 : goal.returns-then-b-eq0
+returns-then-b-eq0 c = record {
+  sweep = way-second c.args.h.now c.args.d.now c.of.result c.y.result c.of.ensures.sign c.y.ensures.y (search (rules, c.c.ensures.c, c.if-c-eq0.true)) (search (rules, c.b.ensures.b, c.if-b-eq0.true));
+}
 
 pub returns-else-c-eq0 : goal.returns-else-c-eq0
 returns-else-c-eq0 c = record {

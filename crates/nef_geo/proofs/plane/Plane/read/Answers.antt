@@ -1,4 +1,4 @@
-use Rattle.std.proofs.Common.{rules, ◌≡◌, true, w64}
+use Rattle.std.proofs.Common.{rules, ◌≡◌, true, w64, of_z, ap, ⊎_elim}
 use Rattle.std.proofs.lemmas.Int.{to_z-of_z}
 use Rattle.nef_space.specs.Place.{form}
 use Rattle.nef_geo.specs.Reading.{IsInRange}
@@ -11,6 +11,20 @@ returns-clause-out_of_range c =
     let yes : c.is_in_range.result ≡ true = search rules in
     let i : IsInRange (form c.args.a c.args.b c.args.c c.args.d) = rw (to_z-of_z w64 c.args.a c.ranges.a, to_z-of_z w64 c.args.b c.ranges.b, to_z-of_z w64 c.args.c c.ranges.c, to_z-of_z w64 c.args.d c.ranges.d) at (c.is_in_range.ensures.in_range.0 yes) in
     (λ e. absurd (cc), λ not. absurd (not i))
+
+pub oriented-requires-clause-in_range : goal.oriented-requires-clause-in_range
+oriented-requires-clause-in_range c = c.is_in_range.ensures.in_range.0 c.if-not-is_in_range.false
+
+pub returns-clause-zero_normal : goal.returns-clause-zero_normal
+returns-clause-zero_normal c = (
+  λ e. absurd (cc),
+  λ z. absurd (⊎_elim
+      (λ x. x.2 (ap (of_z w64) z.1.2))
+      (λ y. ⊎_elim (λ x. x.1 (ap (of_z w64) z.1.1)) (λ x. x (ap (of_z w64) z.1.0)) y) c.else-a-eq0.either),
+)
+
+pub returns-clause-multiple : goal.returns-clause-multiple
+returns-clause-multiple c = rw (to_z-of_z w64 c.args.a c.ranges.a, to_z-of_z w64 c.args.b c.ranges.b, to_z-of_z w64 c.args.c c.ranges.c, to_z-of_z w64 c.args.d c.ranges.d) at c.oriented.ensures.multiple
 
 pub returns-clause-flipped : goal.returns-clause-flipped
 returns-clause-flipped c = rw (to_z-of_z w64 c.args.a c.ranges.a, to_z-of_z w64 c.args.b c.ranges.b, to_z-of_z w64 c.args.c c.ranges.c) at c.oriented.ensures.flipped
