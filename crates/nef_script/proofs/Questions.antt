@@ -1,5 +1,5 @@
 -- Questions about points and rays.
-use Rattle.std.proofs.Common.{◌≡◌, ℕ, zero, suc, ◌+◌, ◌<◌, ◌≤◌, ℤ, pos, negsuc, ◌<ℤ◌, nat_abs, Bool, true, false, not, ◌&&◌, ◌||◌, nat_le, List, [], ◌∷◌, length, get_or, refl, sym, subst, arith}
+use Rattle.std.proofs.Common.{◌≡◌, ℕ, zero, suc, ◌+◌, ◌<◌, ◌≤◌, ℤ, pos, negsuc, ◌<ℤ◌, nat_abs, Bool, true, false, not, ◌&&◌, ◌||◌, nat_le, List, [], ◌∷◌, length, get_or, refl, sym, ap, ◌∙◌, subst, arith}
 use Rattle.std.specs.List.{list_any, zip}
 use Rattle.std.proofs.lemmas.Bool.{ltb-false, leb-true, eqb-true}
 use Rattle.std.proofs.lemmas.Int.{ints}
@@ -11,11 +11,11 @@ use Rattle.nef_script.specs.Table.{roles}
 use Rattle.nef_script.specs.Tests.{is_from_one_to, is_from_zero_to, is_zero, is_past_limit, is_bad_weight, has_zero_direction}
 use Rattle.nef_script.specs.Meaning.{Names, IsQuestion, IsQuotient, IsToward}
 use Rattle.nef_script.specs.Checks.{word_test}
-use Rattle.nef_script.specs.Reading.{Fits, HasPointAt, HasDirectionAt, HasTurn, number_at}
+use Rattle.nef_script.specs.Reading.{Fits, HasPointAt, HasDirectionAt, HasTurn, HasOperand, HasTwoOperands, number_at}
 use Rattle.nef_script.specs.declared.table.Verb.{Verb}
 use Rattle.nef_script.specs.declared.table.Verb.TheVariants as verb
 use Rattle.nef_script.specs.declared.table.Role.{Role}
-use Rattle.nef_script.specs.declared.table.Role.TheVariants.{NewName, Coefficient, Weight}
+use Rattle.nef_script.specs.declared.table.Role.TheVariants.{NewName, Operand, Coefficient, Weight}
 use Rattle.nef_script.specs.declared.script.Command.TheVariants.{Has, Joined, Ray}
 use Rattle.nef_script.specs.declared.fault.ScriptKind.TheVariants as kind
 use Rattle.nef_script.proofs.Shapes.{five_words, eight_words, nine_words}
@@ -71,6 +71,20 @@ HasTurn-from names ws fits =
     let passes = word_passes (word_test kind.OutOfRange names) (roles verb.Turn) ws 2 fits.within (omega arith) (omega arith) in
     let bound = word_passes (word_test kind.UnknownName names) (roles verb.Turn) ws 1 fits.known (omega arith) (omega arith) in
     record { count = count; known = true_from_not _ bound; number = true_from_not _ passes }
+
+-- and its operands
+pub HasOperand-from : (names : List (List ℕ)) (v : Verb) (ws : List (List ℕ)) (r : Role) → roles v ≡ r ∷ Operand ∷ [] → Fits names v ws → HasOperand names ws
+HasOperand-from names v ws r e fits =
+    let count : length ws ≡ 2 = count_is names v ws fits ∙ ap length e in
+    let known = subst (λ (rs : List Role). list_any (word_test kind.UnknownName names) (zip rs ws) ≡ false) e fits.known in
+    record { count = count; known = true_from_not _ (word_passes (word_test kind.UnknownName names) (r ∷ Operand ∷ []) ws 1 known (omega arith) (omega arith)) }
+
+pub HasTwoOperands-from : (names : List (List ℕ)) (v : Verb) (ws : List (List ℕ)) → roles v ≡ NewName ∷ Operand ∷ Operand ∷ [] → Fits names v ws → HasTwoOperands names ws
+HasTwoOperands-from names v ws e fits =
+    let count : length ws ≡ 3 = count_is names v ws fits ∙ ap length e in
+    let known = subst (λ (rs : List Role). list_any (word_test kind.UnknownName names) (zip rs ws) ≡ false) e fits.known in
+    let passes = word_passes (word_test kind.UnknownName names) (NewName ∷ Operand ∷ Operand ∷ []) ws in
+    record { count = count; second_known = true_from_not _ (passes 1 known (omega arith) (omega arith)); third_known = true_from_not _ (passes 2 known (omega arith) (omega arith)) }
 
 pub from_zero : (most : ℕ) (z : ℤ) → is_from_zero_to most z ≡ true → (n : ℕ) × (z ≡ pos n) × (n ≤ most)
 from_zero most (pos n) e = (n, refl, leb-true n most e)

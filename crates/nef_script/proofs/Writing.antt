@@ -1,9 +1,12 @@
 -- The lines of a script written one after the other.
-use Rattle.std.proofs.Common.{◌≡◌, ℕ, zero, suc, ◌+◌, ◌-◌, ◌*◌, ℤ, pos, neg_ℤ, List, [], ◌∷◌, ◌++◌, codes, refl, sym, ◌∙◌, ap, subst, arith, append-nil, append_assoc}
+use Rattle.std.proofs.Common.{◌≡◌, ℕ, zero, suc, ◌<◌, ◌≤◌, get_or, drop, length, ◌+◌, ◌-◌, ◌*◌, ℤ, pos, neg_ℤ, List, [], ◌∷◌, ◌++◌, codes, refl, sym, ◌∙◌, ap, subst, arith, append-nil, append_assoc}
 use Rattle.std.specs.Prelude.{if◌then◌else◌}
+use Rattle.std.proofs.Math.Seq.{drop-cons}
 use Rattle.std.proofs.lemmas.Bool.{ne_eqb}
-use Rattle.std.specs.List.{flat_map, range_with_len}
+use Rattle.std.specs.List.{concat, flat_map, range_with_len}
 use Rattle.std.specs.Fmt.{digits, decimal, signed_decimal}
+use denote.Ref.{Bor}
+use Rattle.nef_script.specs.Names.{pointed}
 use Rattle.nef_script.specs.Laws.{script_of}
 use Rattle.nef_script.specs.Stairs.{joined_words, half_lines, and_lines, and_line, or_line, join_lines, step_box, step_lines, count_line, stairs_text, box_name, whole_name}
 
@@ -36,45 +39,37 @@ five-lines o a b c d e u v w x y ea eb ec ed ee =
 abbrev pub half_put : List ℕ → List ℕ → List ℕ → List ℕ
 half_put name normal offset = joined_words (codes "half" ∷ name ∷ normal ∷ offset ∷ codes "closed" ∷ [])
 
-pub half-written : (o t1 t2 t3 t4 t5 t6 t7 t8 name letter normal offset : List ℕ)
-    → t1 ≡ o ++ codes "half " → t2 ≡ t1 ++ name → t3 ≡ t2 ++ letter → t4 ≡ t3 ++ 32 ∷ [] → t5 ≡ t4 ++ normal → t6 ≡ t5 ++ 32 ∷ []
-    → t7 ≡ t6 ++ offset → t8 ≡ t7 ++ codes " closed\n" → t8 ≡ o ++ (half_put (name ++ letter) normal offset ++ 10 ∷ [])
-half-written o t1 t2 t3 t4 t5 t6 t7 t8 name letter normal offset e1 e2 e3 e4 e5 e6 e7 e8 =
-    let f2 = piece-next o t1 t2 _ _ e1 e2 in
-    let f3 = piece-next o t2 t3 _ _ f2 e3 in
-    let f4 = piece-next o t3 t4 _ (32 ∷ []) f3 e4 in
-    let f5 = piece-next o t4 t5 _ _ f4 e5 in
-    let f6 = piece-next o t5 t6 _ (32 ∷ []) f5 e6 in
-    let f7 = piece-next o t6 t7 _ _ f6 e7 in
-    let f8 = piece-next o t7 t8 _ _ f7 e8 in
-    f8 ∙ ap (λ r. o ++ r) (simp append_assoc)
+pub half-written : (o t name letter normal offset : List ℕ)
+    → t ≡ o ++ concat (codes "half " ∷ name ∷ letter ∷ codes " " ∷ normal ∷ codes " " ∷ offset ∷ codes " closed\n" ∷ []) → t ≡ o ++ (half_put (name ++ letter) normal offset ++ 10 ∷ [])
+half-written o t name letter normal offset e = e ∙ ap (λ r. o ++ r) (simp append_assoc)
 
-pub and-written : (o t1 t2 t3 t4 t5 t6 t7 t8 t9 t10 name letter left right : List ℕ)
-    → t1 ≡ o ++ codes "and " → t2 ≡ t1 ++ name → t3 ≡ t2 ++ letter → t4 ≡ t3 ++ 32 ∷ [] → t5 ≡ t4 ++ name → t6 ≡ t5 ++ left → t7 ≡ t6 ++ 32 ∷ []
-    → t8 ≡ t7 ++ name → t9 ≡ t8 ++ right → t10 ≡ t9 ++ 10 ∷ [] → t10 ≡ o ++ (and_line (name ++ letter) (name ++ left) (name ++ right) ++ 10 ∷ [])
-and-written o t1 t2 t3 t4 t5 t6 t7 t8 t9 t10 name letter left right e1 e2 e3 e4 e5 e6 e7 e8 e9 e10 =
-    let f2 = piece-next o t1 t2 _ _ e1 e2 in
-    let f3 = piece-next o t2 t3 _ _ f2 e3 in
-    let f4 = piece-next o t3 t4 _ (32 ∷ []) f3 e4 in
-    let f5 = piece-next o t4 t5 _ _ f4 e5 in
-    let f6 = piece-next o t5 t6 _ _ f5 e6 in
-    let f7 = piece-next o t6 t7 _ (32 ∷ []) f6 e7 in
-    let f8 = piece-next o t7 t8 _ _ f7 e8 in
-    let f9 = piece-next o t8 t9 _ _ f8 e9 in
-    let f10 = piece-next o t9 t10 _ (10 ∷ []) f9 e10 in
-    f10 ∙ ap (λ r. o ++ r) (simp append_assoc)
+pub and-written : (o t name letter left right : List ℕ)
+    → t ≡ o ++ concat (codes "and " ∷ name ∷ letter ∷ codes " " ∷ name ∷ left ∷ codes " " ∷ name ∷ right ∷ codes "\n" ∷ []) → t ≡ o ++ (and_line (name ++ letter) (name ++ left) (name ++ right) ++ 10 ∷ [])
+and-written o t name letter left right e = e ∙ ap (λ r. o ++ r) (simp append_assoc)
 
-pub or-written : (o t1 t2 t3 t4 t5 t6 t7 name left right : List ℕ)
-    → t1 ≡ o ++ codes "or " → t2 ≡ t1 ++ name → t3 ≡ t2 ++ 32 ∷ [] → t4 ≡ t3 ++ left → t5 ≡ t4 ++ 32 ∷ [] → t6 ≡ t5 ++ right → t7 ≡ t6 ++ 10 ∷ []
-    → t7 ≡ o ++ (or_line name left right ++ 10 ∷ [])
-or-written o t1 t2 t3 t4 t5 t6 t7 name left right e1 e2 e3 e4 e5 e6 e7 =
-    let f2 = piece-next o t1 t2 _ _ e1 e2 in
-    let f3 = piece-next o t2 t3 _ (32 ∷ []) f2 e3 in
-    let f4 = piece-next o t3 t4 _ _ f3 e4 in
-    let f5 = piece-next o t4 t5 _ (32 ∷ []) f4 e5 in
-    let f6 = piece-next o t5 t6 _ _ f5 e6 in
-    let f7 = piece-next o t6 t7 _ (10 ∷ []) f6 e7 in
-    f7 ∙ ap (λ r. o ++ r) (simp append_assoc)
+pub or-written : (o t name left right : List ℕ) → t ≡ o ++ concat (codes "or " ∷ name ∷ codes " " ∷ left ∷ codes " " ∷ right ∷ codes "\n" ∷ []) → t ≡ o ++ (or_line name left right ++ 10 ∷ [])
+or-written o t name left right e = e ∙ ap (λ r. o ++ r) (simp append_assoc)
+
+pub count-written : (o t whole : List ℕ) (i : ℕ) → whole ≡ whole_name i → t ≡ o ++ concat (codes "count " ∷ whole ∷ codes "\n" ∷ []) → t ≡ o ++ (count_line (whole_name i) ++ 10 ∷ [])
+count-written o t whole i is_whole e = e ∙ ap (λ r. o ++ r) (simp append_assoc) ∙ ap (λ w. o ++ (count_line w ++ 10 ∷ [])) is_whole
+
+-- the pieces that are still to come, after one more
+pub pieces-next : (o t s : List ℕ) (pieces : List (Bor (List ℕ))) (i : ℕ) (d : Bor (List ℕ)) → i < length pieces → s ≡ t ++ (get_or pieces i d).now
+    → t ++ concat (pointed (drop i pieces)) ≡ o ++ concat (pointed pieces) → s ++ concat (pointed (drop (i + 1) pieces)) ≡ o ++ concat (pointed pieces)
+pieces-next o t s pieces i d within e f =
+    let more : suc i ≡ i + 1 = omega arith in
+    let here = drop-cons pieces i d within ∙ ap (λ (k : ℕ). get_or pieces i d ∷ drop k pieces) more in
+    ap (λ (r : List ℕ). r ++ concat (pointed (drop (i + 1) pieces))) e ∙ append_assoc t (get_or pieces i d).now (concat (pointed (drop (i + 1) pieces)))
+    ∙ ap (λ (ps : List (Bor (List ℕ))). t ++ concat (pointed ps)) (sym here) ∙ f
+
+pub pieces-end : (all t : List ℕ) (pieces : List (Bor (List ℕ))) (i : ℕ) → length pieces ≤ i → t ++ concat (pointed (drop i pieces)) ≡ all → t ≡ all
+pieces-end all t pieces i past e = sym (append-nil t) ∙ ap (λ (ps : List (Bor (List ℕ))). t ++ concat (pointed ps)) (sym (none pieces i past)) ∙ e
+  where
+    none : (ps : List (Bor (List ℕ))) (i : ℕ) → length ps ≤ i → drop i ps ≡ []
+    none [] zero h = refl
+    none [] (suc i) h = refl
+    none (p ∷ ps) zero h = absurd (omega arith)
+    none (p ∷ ps) (suc i) h = none ps i (omega arith)
 
 -- the line that joins a box to those before it
 pub join-written : (o t whole before name : List ℕ) (i : ℕ) → (i ≡ 0 → ⊥) → whole ≡ whole_name i → before ≡ whole_name (i - 1) → name ≡ box_name i

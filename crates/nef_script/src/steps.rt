@@ -1,7 +1,9 @@
 //! The script of boxes that stand as stairs.
 
 ghost use Rattle.std.specs.Prelude.{◌≡◌, ℕ, ◌+◌, ◌*◌, ◌<◌, ◌≤◌, pos, [], ◌∷◌, ◌++◌, codes, decimal, IfOk, OnOk};
+ghost use Rattle.std.specs.List.{concat};
 ghost use Rattle.nef_space.specs.Limits.{most_stairs};
+ghost use Rattle.nef_script.specs.Names.{pointed};
 ghost use Rattle.nef_script.specs.Laws.{script_of};
 ghost use Rattle.nef_script.specs.Refusal.{IsAccepted};
 ghost use Rattle.nef_script.specs.Stairs.{joined_words, and_line, count_line, half_lines, and_lines, whole_name, step_box, join_lines, step_lines, stairs_text};
@@ -9,6 +11,16 @@ ghost use Rattle.nef_script.specs.Stairs.{joined_words, and_line, count_line, ha
 use crate::OutOfMemory;
 use itoa::Buffer;
 use std::alloc::Global;
+
+// Adds the pieces, one after the other.
+fn add_pieces(text: &mut Vec<u8>, pieces: &[&[u8]]) -> Result<(), OutOfMemory>
+    ensures added { OnOk result (text.new.items ≡ text.old.items ++ concat (pointed pieces.now)) }
+{
+    for piece in pieces {
+        text.extend_from_slice(piece)?;
+    }
+    Ok(())
+}
 
 // The bytes in front, and the number after them.
 fn numbered(alloc: Global, front: &[u8], number: u32) -> Result<Vec<u8>, OutOfMemory>
@@ -42,15 +54,19 @@ fn add_half(
 ) -> Result<(), OutOfMemory>
     ensures added { OnOk result (text.new.items ≡ text.old.items ++ script_of (joined_words (codes "half" ∷ (name.now ++ letter.now) ∷ normal.now ∷ offset.now ∷ codes "closed" ∷ []) ∷ [])) }
 {
-    text.extend_from_slice(b"half ")?;
-    text.extend_from_slice(name)?;
-    text.extend_from_slice(letter)?;
-    text.push(b' ')?;
-    text.extend_from_slice(normal)?;
-    text.push(b' ')?;
-    text.extend_from_slice(offset)?;
-    text.extend_from_slice(b" closed\n")?;
-    Ok(())
+    add_pieces(
+        text,
+        &[
+            b"half ",
+            name,
+            letter,
+            b" ",
+            normal,
+            b" ",
+            offset,
+            b" closed\n",
+        ],
+    )
 }
 
 // Adds the line of an intersection: the box's name with a letter or nothing after it, and the same
@@ -64,17 +80,12 @@ fn add_and(
 ) -> Result<(), OutOfMemory>
     ensures added { OnOk result (text.new.items ≡ text.old.items ++ script_of (and_line (name.now ++ letter.now) (name.now ++ left.now) (name.now ++ right.now) ∷ [])) }
 {
-    text.extend_from_slice(b"and ")?;
-    text.extend_from_slice(name)?;
-    text.extend_from_slice(letter)?;
-    text.push(b' ')?;
-    text.extend_from_slice(name)?;
-    text.extend_from_slice(left)?;
-    text.push(b' ')?;
-    text.extend_from_slice(name)?;
-    text.extend_from_slice(right)?;
-    text.push(b'\n')?;
-    Ok(())
+    add_pieces(
+        text,
+        &[
+            b"and ", name, letter, b" ", name, left, b" ", name, right, b"\n",
+        ],
+    )
 }
 
 // Adds the six half-spaces of the box i, under this name.
@@ -126,14 +137,7 @@ fn add_join(alloc: Global, text: &mut Vec<u8>, i: u32) -> Result<(), OutOfMemory
     let whole = whole_name(alloc, i)?;
     let before = whole_name(alloc, i - 1)?;
     let name = numbered(alloc, b"b", i)?;
-    text.extend_from_slice(b"or ")?;
-    text.extend_from_slice(&whole)?;
-    text.push(b' ')?;
-    text.extend_from_slice(&before)?;
-    text.push(b' ')?;
-    text.extend_from_slice(&name)?;
-    text.push(b'\n')?;
-    Ok(())
+    add_pieces(text, &[b"or ", &whole, b" ", &before, b" ", &name, b"\n"])
 }
 
 // Adds the box i, and after it the line that joins it to those before it.
@@ -151,10 +155,7 @@ fn add_count(alloc: Global, text: &mut Vec<u8>, i: u32) -> Result<(), OutOfMemor
     ensures added { OnOk result (text.new.items ≡ text.old.items ++ script_of (count_line (whole_name i) ∷ [])) }
 {
     let whole = whole_name(alloc, i)?;
-    text.extend_from_slice(b"count ")?;
-    text.extend_from_slice(&whole)?;
-    text.push(b'\n')?;
-    Ok(())
+    add_pieces(text, &[b"count ", &whole, b"\n"])
 }
 
 // The script of n boxes.

@@ -10,7 +10,7 @@ use Rattle.nef_geo.specs.Signs.{sign_of}
 use Rattle.nef_geo.specs.declared.sign.Sign.{Sign as Answer}
 use Rattle.nef_geo.specs.declared.sign.Sign.TheVariants.{Minus, Zero, Plus}
 use Rattle.law_forms.proofs.Far.{nought-or, same-nought, same-off, sign-large, sign-level}
-use Rattle.nef_smap.specs.Linear.{leading_of, turn_value, IsLarge}
+use Rattle.nef_smap.specs.Linear.{leading_of, turn_value, AreAtMost, IsLarge}
 use Rattle.nef_smap.specs.declared.linear.Values.{Values}
 
 -- ---- the program's signs
@@ -113,6 +113,21 @@ pub record Fitting (v : Values) : Type 0 where
   pub start_rest : FitsSigned w128 v.start.rest
   pub end_factor : FitsSigned w128 v.end.factor
   pub end_rest : FitsSigned w128 v.end.rest
+
+small-fits : (m : ℕ) (x : ℤ) → m ≤ 2 ^ 74 → nat_abs x ≤ m → FitsSigned w128 x
+small-fits m (pos n) few h = record { sfits = omega arith }
+small-fits m (negsuc n) few h = record { sfits = omega arith }
+
+pub fitting : (m : ℕ) (v : Values) → m ≤ 2 ^ 74 → AreAtMost m v → Fitting v
+fitting m v few a = record {
+  start_factor = small-fits m v.start.factor few a.start_factor;
+  start_rest = small-fits m v.start.rest few a.start_rest;
+  end_factor = small-fits m v.end.factor few a.end_factor;
+  end_rest = small-fits m v.end.rest few a.end_rest;
+}
+
+pub passed-small : (m : ℕ) (x : ℤ) → FitsSigned w128 x → nat_abs x ≤ m → nat_abs (to_z w128 (of_z w128 x)) ≤ m
+passed-small m x f h = subst (λ (y : ℤ). nat_abs y ≤ m) (sym (kept x f)) h
 
 pub turn-read : (n g : Values) → Fitting n → Fitting g → (s : Answer) (l both one m1 m2 m3 m4 : ℤ) → FitsSigned w128 l → FitsSigned w128 both → FitsSigned w128 one
     → FitsSigned w128 m1 → FitsSigned w128 m2 → FitsSigned w128 m3 → FitsSigned w128 m4

@@ -154,7 +154,8 @@ labelled-has p None s o l a = absurd a
 labelled-has p (Some m) zero o l a = (sym (ap (λ (y : LabelledSide). y.0) a), ap (λ (y : LabelledSide). Some y.1) a)
 labelled-has p (Some m) (suc s) o l a = absurd a
 
-either-at : {X : Type 0} (xs ys : List X) (k : ℕ) (x : X) → At (xs ++ ys) k x → At xs k x ⊎ ((j : ℕ) × At ys j x)
+-- an element of two lists put together is one of the first, or one of the second
+pub either-at : {X : Type 0} (xs ys : List X) (k : ℕ) (x : X) → At (xs ++ ys) k x → At xs k x ⊎ ((j : ℕ) × At ys j x)
 either-at [] ys k x a = inr (k, a)
 either-at (z ∷ zs) ys zero x a = inl a
 either-at (z ∷ zs) ys (suc k) x a = either-at zs ys k x a

@@ -11,8 +11,7 @@ use std::alloc::Global;
 fn copy_list<T: Copy + Drop>(alloc: Global, list: &List<T>) -> Result<List<T>, OutOfMemory>
     ensures same { IfOk result (λ l. l ≡ list.now) }
 {
-    let items = list.as_slice().iter().copied().collect(alloc)?;
-    Ok(List::from_vec(items))
+    Ok(List::from_vec(Vec::from_slice(alloc, list.as_slice())?))
 }
 
 /// A copy of the map.

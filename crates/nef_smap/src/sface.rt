@@ -1,6 +1,6 @@
 //! The sfaces of a sphere map.
 
-ghost use Rattle.std.specs.Prelude.{◌<◌, length, IfOk};
+ghost use Rattle.std.specs.Prelude.{◌≡◌, ◌<◌, ◌++◌, length, IfOk, OnOk};
 ghost use Rattle.nef_space.specs.Vectors.{up};
 ghost use Rattle.nef_smap.specs.Maps.{map_of, IsSphereMap};
 ghost use Rattle.nef_smap.specs.Sides.{AreSfaces};
@@ -60,12 +60,10 @@ fn sloop_links(alloc: Global, map: &SphereMap) -> Result<Vec<Link>, OutOfMemory>
     requires map { IsSphereMap map.now }
     ensures links { IfOk result (λ v. AreSloops (map_of map.now) v.items) }
 {
-    let mut links = Vec::new(alloc);
-    let Some(circle) = &map.sloop else {
-        return Ok(links);
-    };
-    links.push(join_sloop(map, circle))?;
-    Ok(links)
+    match &map.sloop {
+        Some(circle) => Vec::from_slice(alloc, &[join_sloop(map, circle)]),
+        None => Ok(Vec::new(alloc)),
+    }
 }
 
 // A link for the side of a map without items.
@@ -73,16 +71,22 @@ fn ground_links(alloc: Global, map: &SphereMap) -> Result<Vec<Link>, OutOfMemory
     requires map { IsSphereMap map.now }
     ensures links { IfOk result (λ v. AreGrounds (map_of map.now) v.items) }
 {
-    let mut links = Vec::new(alloc);
     if map.ground.is_none() {
-        return Ok(links);
+        return Ok(Vec::new(alloc));
     }
     let count = sides(map);
-    links.push(Link {
+    let link = Link {
         first: count - 1,
         second: count,
-    })?;
-    Ok(links)
+    };
+    Vec::from_slice(alloc, &[link])
+}
+
+// Adds more links at the end.
+fn append(links: &mut Vec<Link>, more: Vec<Link>) -> Result<(), OutOfMemory>
+    ensures added { OnOk result (links.new.items ≡ links.old.items ++ more.items) }
+{
+    links.extend_from_slice(more.as_slice())
 }
 
 // All links. The upward direction has the number after those of the sides.
@@ -91,14 +95,10 @@ fn links(alloc: Global, map: &SphereMap) -> Result<Vec<Link>, OutOfMemory>
     ensures joins { IfOk result (λ v. AreJoins (map_of map.now) up (AreLinked v.items)) }
 {
     let mut links = below_links(alloc, map)?;
-    let around = around_links(alloc, map)?;
-    links.extend_from_slice(around.as_slice())?;
-    let arcs = arc_links(alloc, map)?;
-    links.extend_from_slice(arcs.as_slice())?;
-    let sloops = sloop_links(alloc, map)?;
-    links.extend_from_slice(sloops.as_slice())?;
-    let grounds = ground_links(alloc, map)?;
-    links.extend_from_slice(grounds.as_slice())?;
+    append(&mut links, around_links(alloc, map)?)?;
+    append(&mut links, arc_links(alloc, map)?)?;
+    append(&mut links, sloop_links(alloc, map)?)?;
+    append(&mut links, ground_links(alloc, map)?)?;
     Ok(links)
 }
 

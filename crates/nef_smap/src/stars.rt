@@ -34,8 +34,7 @@ fn star_without_rays(
     ensures sectors { IfOk result (λ t. t.sectors.items ≡ around ∷ []) }
     ensures mark { IfOk result (λ t. t.mark ≡ mark) }
 {
-    let mut sectors = Vec::new(alloc);
-    sectors.push(around)?;
+    let sectors = Vec::from_slice(alloc, &[around])?;
     Ok(Star::of(axis, Vec::new(alloc), sectors, mark))
 }
 
@@ -50,12 +49,10 @@ fn star_along(alloc: Global, axis: Dir, item: &Item) -> Result<Star, OutOfMemory
     ensures along { IfOk result (λ t. IsStarAlong (item_of item.now) (star_of t)) }
 {
     let (normal, mark) = (*item.normal(), item.mark());
-    let mut rays = Vec::with_capacity(alloc, 2)?;
-    rays.push(Ray::of(normal, true, mark))?;
-    rays.push(Ray::of(normal, false, mark))?;
-    let mut sectors = Vec::with_capacity(alloc, 2)?;
-    sectors.push(item.label(true))?;
-    sectors.push(item.label(false))?;
+    let (ahead, back) = (Ray::of(normal, true, mark), Ray::of(normal, false, mark));
+    let rays = Vec::from_slice(alloc, &[ahead, back])?;
+    let (above, below) = (item.label(true), item.label(false));
+    let sectors = Vec::from_slice(alloc, &[above, below])?;
     Ok(Star::of(axis, rays, sectors, mark))
 }
 

@@ -5,7 +5,10 @@ ghost use Rattle.nef_space.specs.Lists.{IsAt};
 ghost use Rattle.nef_space.specs.Sets.{Set};
 ghost use Rattle.nef_complex.specs.Complexes.{complex_of, corner_of, ShowsSet};
 ghost use Rattle.nef_parts.specs.declared.parts.Cycle.{Cycle as PlainCycle};
-ghost use Rattle.nef_parts.specs.Numbers.{IsVolumeOf, VolumeNumbers, IsParts};
+ghost use Rattle.nef_parts.specs.declared.parts.Shell.{Shell as PlainShell};
+ghost use Rattle.nef_parts.specs.Numbers.{IsVolumeOf, VolumeNumbers, IsParts, shell_sides};
+ghost use Rattle.nef_parts.specs.Shells.{SfaceNumbers, Shells};
+ghost use Rattle.nef_volumes.specs.Labels.{AreVolumeLabels};
 ghost use Rattle.nef_volumes.specs.Joins.{FacetsAreComponents, VolumesAreComponents, AreCounted};
 ghost use Rattle.nef_ties.specs.Carriers.{HasItem};
 ghost use Rattle.nef_volumes.specs.Parts.{side_beside, HasFirst, IsBeside, AreFacetsOf};
@@ -18,7 +21,7 @@ use crate::shells::{gathered, volume_shells};
 use nef_complex::{Complex, Corner};
 use nef_facets::{FacetParts, facets};
 use nef_geo::{Label, List, Plane};
-use nef_parts::{Cycle, Facet, Parts};
+use nef_parts::{Cycle, Facet, Parts, Shell};
 use std::alloc::Global;
 
 // The number of the volume at a side of the item: at that to which its normal points, or at the other.
@@ -89,6 +92,41 @@ fn list_facets(
     Ok(facets)
 }
 
+// The volumes of a complex, and their numbers.
+struct Volumes {
+    // The label of each volume.
+    labels: List<Label>,
+    // For each vertex the numbers of the volumes of its sides.
+    volume_of: List<List<usize>>,
+    // The shells of each volume.
+    shells: List<List<Shell>>,
+}
+
+// The volumes of the complex, whose sfaces have these numbers.
+fn volumes_of(
+    alloc: Global,
+    c: &Complex,
+    sface_of: &List<List<usize>>,
+) -> Result<Volumes, OutOfMemory>
+    requires shows { (s : Set) × ShowsSet s c.now }
+    requires sfaces { SfaceNumbers (complex_of c.now) sface_of.now }
+    ensures numbers { IfOk result (λ v. VolumeNumbers (complex_of c.now) v.volume_of) }
+    ensures labels { IfOk result (λ v. AreVolumeLabels (complex_of c.now) v.volume_of v.labels) }
+    ensures as_many { IfOk result (λ v. length v.shells ≡ length v.labels) }
+    ensures shells { IfOk result (λ v. (n : ℕ) (hs : Sequence PlainShell) → IsAt v.shells n hs → Shells (complex_of c.now) (λ x. IsVolumeOf (complex_of c.now) v.volume_of x n) (shell_sides hs)) }
+{
+    let rows = shell_rows(alloc, c, sface_of)?;
+    let sides = gathered(alloc, &rows)?;
+    let volume_of = volume_numbers(alloc, c, &rows, sides.len() + 1)?;
+    let labels = volume_labels(alloc, c, &volume_of)?;
+    let shells = volume_shells(alloc, &volume_of, sides, labels.len())?;
+    Ok(Volumes {
+        labels,
+        volume_of,
+        shells,
+    })
+}
+
 /// The facets and volumes of the complex, with their numbers, the numbers of sfaces, and the shells of volumes. Points at
 /// items are joined exactly where the items have one facet number, and points at sides where the sides have one volume
 /// number. So there are as many vertices, edges, facets and volumes as the points with no, one, two and three flat
@@ -107,15 +145,15 @@ pub fn parts(alloc: Global, c: &Complex) -> Result<Parts, OutOfMemory>
         facet_of,
     } = facets(alloc, c)?;
     let sface_of = sface_numbers(alloc, c)?;
-    let rows = shell_rows(alloc, c, &sface_of)?;
-    let sides = gathered(alloc, &rows)?;
-    let volume_of = volume_numbers(alloc, c, &rows, sides.len() + 1)?;
-    let volumes = volume_labels(alloc, c, &volume_of)?;
+    let Volumes {
+        labels,
+        volume_of,
+        shells,
+    } = volumes_of(alloc, c, &sface_of)?;
     let facets = list_facets(alloc, c, &volume_of, &planes, &marks, cycles)?;
-    let shells = volume_shells(alloc, &volume_of, sides, volumes.len())?;
     Ok(Parts {
         facets,
-        volumes,
+        volumes: labels,
         facet_of,
         volume_of,
         sface_of,

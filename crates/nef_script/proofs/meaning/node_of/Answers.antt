@@ -1,15 +1,45 @@
-use Rattle.std.proofs.Common.{◌≡◌, ℕ, List, sym, subst}
+use Rattle.std.proofs.Common.{◌≡◌, ℕ, List, sym, ap, subst}
 use Rattle.nef_script.specs.Names.{pointed}
+use Rattle.nef_script.specs.Table.{roles}
 use Rattle.nef_script.specs.Meaning.{IsNode}
 use Rattle.nef_expr.specs.declared.nodes.Node.{Node}
 use Rattle.nef_expr.specs.declared.nodes.Node.TheVariants as node
 use Rattle.nef_script.specs.declared.table.Verb.{Verb}
+use Rattle.nef_script.specs.declared.table.Role.TheVariants.{NewName}
+use Rattle.nef_script.proofs.Questions.{HasOperand-from, HasTwoOperands-from}
 use Rattle.nef_script.proofs.Nodes.{IsNode-And, IsNode-Or, IsNode-Diff, IsNode-Xor, IsNode-Not, IsNode-Int, IsNode-Cl, IsNode-Bd, IsNode-Reg}
 use Rattle.nef_script.proofs.meaning.node_of.Goals as goal
 
 -- the node of a command, as that of the verb that the command is
 of_verb : (names : List (List ℕ)) (bound : List ℕ) (ws : List (List ℕ)) (n : Node) (v w : Verb) → v ≡ w → IsNode names bound w ws n → IsNode names bound v ws n
 of_verb names bound ws n v w same is = subst (λ u. IsNode names bound u ws n) (sym same) is
+
+pub last_two_operands-left-requires-clause-operands : goal.last_two_operands-left-requires-clause-operands
+last_two_operands-left-requires-clause-operands c = HasTwoOperands-from c.args.names.now c.args.verb (pointed c.args.args.now) (ap roles c.in-And.is) c.requires.fits
+
+pub last_two_operands-left-requires-in-Or-clause-operands : goal.last_two_operands-left-requires-in-Or-clause-operands
+last_two_operands-left-requires-in-Or-clause-operands c = HasTwoOperands-from c.args.names.now c.args.verb (pointed c.args.args.now) (ap roles c.in-Or.is) c.requires.fits
+
+pub last_two_operands-left-requires-in-Diff-clause-operands : goal.last_two_operands-left-requires-in-Diff-clause-operands
+last_two_operands-left-requires-in-Diff-clause-operands c = HasTwoOperands-from c.args.names.now c.args.verb (pointed c.args.args.now) (ap roles c.in-Diff.is) c.requires.fits
+
+pub last_two_operands-left-requires-in-Xor-clause-operands : goal.last_two_operands-left-requires-in-Xor-clause-operands
+last_two_operands-left-requires-in-Xor-clause-operands c = HasTwoOperands-from c.args.names.now c.args.verb (pointed c.args.args.now) (ap roles c.in-Xor.is) c.requires.fits
+
+pub second_operand-requires-clause-operand : goal.second_operand-requires-clause-operand
+second_operand-requires-clause-operand c = HasOperand-from c.args.names.now c.args.verb (pointed c.args.args.now) NewName (ap roles c.in-Not.is) c.requires.fits
+
+pub second_operand-requires-in-Int-clause-operand : goal.second_operand-requires-in-Int-clause-operand
+second_operand-requires-in-Int-clause-operand c = HasOperand-from c.args.names.now c.args.verb (pointed c.args.args.now) NewName (ap roles c.in-Int.is) c.requires.fits
+
+pub second_operand-requires-in-Cl-clause-operand : goal.second_operand-requires-in-Cl-clause-operand
+second_operand-requires-in-Cl-clause-operand c = HasOperand-from c.args.names.now c.args.verb (pointed c.args.args.now) NewName (ap roles c.in-Cl.is) c.requires.fits
+
+pub second_operand-requires-in-Bd-clause-operand : goal.second_operand-requires-in-Bd-clause-operand
+second_operand-requires-in-Bd-clause-operand c = HasOperand-from c.args.names.now c.args.verb (pointed c.args.args.now) NewName (ap roles c.in-Bd.is) c.requires.fits
+
+pub second_operand-requires-in-Reg-clause-operand : goal.second_operand-requires-in-Reg-clause-operand
+second_operand-requires-in-Reg-clause-operand c = HasOperand-from c.args.names.now c.args.verb (pointed c.args.args.now) NewName (ap roles c.in-Reg.is) c.requires.fits
 
 pub returns-in-Half : goal.returns-in-Half
 returns-in-Half c = record { node = subst (λ v. IsNode c.args.names.now c.args.bound.now v (pointed c.args.args.now) c.half_space.result) (sym c.in-Half.is) (c.half_space.ensures.node c.args.names.now c.args.bound.now) }

@@ -1,10 +1,8 @@
+use Rattle.std.proofs.lemmas.Result.{on_ok_weaker}
 use Rattle.nef_script.proofs.Writing.{and-written}
 use Rattle.nef_script.proofs.steps.add_and.Goals as goal
 
 pub returns : goal.returns
 returns c = record {
-  added = and-written c.args.text.now.items _ _ _ _ _ _ _ _ _ _ c.args.name.now c.args.letter.now c.args.left.now c.args.right.now
-      c.in_ok-extend_from_slice.ensures.items c.in_ok-extend_from_slice-2.ensures.items c.in_ok-extend_from_slice-3.ensures.items c.in_ok-push.ensures.items
-      c.in_ok-extend_from_slice-4.ensures.items c.in_ok-extend_from_slice-5.ensures.items c.in_ok-push-2.ensures.items c.in_ok-extend_from_slice-6.ensures.items
-      c.in_ok-extend_from_slice-7.ensures.items c.in_ok-push-3.ensures.items;
+  added = on_ok_weaker c.add_pieces.result (and-written c.args.text.now.items c.add_pieces.new.text.items c.args.name.now c.args.letter.now c.args.left.now c.args.right.now) c.add_pieces.ensures.added;
 }

@@ -1,9 +1,8 @@
+use Rattle.std.proofs.lemmas.Result.{on_ok_weaker}
 use Rattle.nef_script.proofs.Writing.{half-written}
 use Rattle.nef_script.proofs.steps.add_half.Goals as goal
 
 pub returns : goal.returns
 returns c = record {
-  added = half-written c.args.text.now.items _ _ _ _ _ _ _ _ c.args.name.now c.args.letter.now c.args.normal.now c.args.offset.now
-      c.in_ok-extend_from_slice.ensures.items c.in_ok-extend_from_slice-2.ensures.items c.in_ok-extend_from_slice-3.ensures.items c.in_ok-push.ensures.items
-      c.in_ok-extend_from_slice-4.ensures.items c.in_ok-push-2.ensures.items c.in_ok-extend_from_slice-5.ensures.items c.in_ok-extend_from_slice-6.ensures.items;
+  added = on_ok_weaker c.add_pieces.result (half-written c.args.text.now.items c.add_pieces.new.text.items c.args.name.now c.args.letter.now c.args.normal.now c.args.offset.now) c.add_pieces.ensures.added;
 }

@@ -1,12 +1,19 @@
 use Rattle.std.proofs.Common.{◌∙◌}
+use Rattle.std.proofs.lemmas.Result.{on_ok_weaker}
 use Rattle.nef_script.proofs.Writing.{or-written, join-written}
 use Rattle.nef_script.proofs.steps.add_join.Goals as goal
 
 pub returns : goal.returns
-returns c = record {
-  added = join-written c.args.text.now.items _ c.deref.result.now c.deref-2.result.now c.deref-3.result.now c.args.i c.if-i-eq0.false
-      (c.deref.ensures.value ∙ c.in_ok-whole.ensures.name) (c.deref-2.ensures.value ∙ c.in_ok-before.ensures.name) (c.deref-3.ensures.value ∙ c.in_ok-name.ensures.bytes)
-      (or-written c.args.text.now.items _ _ _ _ _ _ _ c.deref.result.now c.deref-2.result.now c.deref-3.result.now
-      c.in_ok-extend_from_slice.ensures.items c.in_ok-extend_from_slice-2.ensures.items c.in_ok-push.ensures.items c.in_ok-extend_from_slice-3.ensures.items
-      c.in_ok-push-2.ensures.items c.in_ok-extend_from_slice-4.ensures.items c.in_ok-push-3.ensures.items);
-}
+returns c =
+    let o = c.args.text.now.items in
+    let t = c.add_pieces.new.text.items in
+    let whole = c.deref.result.now in
+    let before = c.deref-2.result.now in
+    let name = c.deref-3.result.now in
+    record {
+      added = on_ok_weaker c.add_pieces.result
+          (λ e. join-written o t whole before name c.args.i c.if-i-eq0.false
+          (c.deref.ensures.value ∙ c.in_ok-whole.ensures.name) (c.deref-2.ensures.value ∙ c.in_ok-before.ensures.name) (c.deref-3.ensures.value ∙ c.in_ok-name.ensures.bytes)
+          (or-written o t whole before name e))
+          c.add_pieces.ensures.added;
+    }

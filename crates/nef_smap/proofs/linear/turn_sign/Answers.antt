@@ -1,23 +1,55 @@
-use Rattle.std.proofs.Common.{rules, FitsSigned}
+use Rattle.std.proofs.Common.{◌^◌, FitsSigned, arith}
 use mir.Syntax.{w128}
-use Rattle.nef_smap.proofs.LargeNumbers.{Fitting, turn-read}
+use Rattle.nef_smap.proofs.LargeNumbers.{Fitting, fitting, passed-small, turn-read}
 use Rattle.nef_smap.proofs.linear.turn_sign.Goals as goal
 
 pub returns : goal.returns
 returns c =
     let n = c.args.n.now in
     let g = c.args.g.now in
-    let nf : Fitting n = record { start_factor = search rules; start_rest = search rules; end_factor = search rules; end_rest = search rules } in
-    let gf : Fitting g = record { start_factor = search rules; start_rest = search rules; end_factor = search rules; end_rest = search rules } in
-    let fl : FitsSigned w128 c.leading.result = search rules in
-    let fb : FitsSigned w128 c.leading-with_end.result = search rules in
-    let fo : FitsSigned w128 c.leading-without.result = search rules in
-    let f1 : FitsSigned w128 c.minor.result = search rules in
-    let f2 : FitsSigned w128 c.minor-2.result = search rules in
-    let f3 : FitsSigned w128 c.minor-3.result = search rules in
-    let f4 : FitsSigned w128 c.minor-4.result = search rules in
+    let nf : Fitting n = fitting (2 ^ 50) n (omega arith) c.requires.n_small in
+    let gf : Fitting g = fitting (2 ^ 74) g (omega arith) c.requires.g_small in
+    let fl : FitsSigned w128 c.leading.result = record { sfits = c.leading.type_inv } in
+    let fb : FitsSigned w128 c.leading-with_end.result = record { sfits = c.leading-with_end.type_inv } in
+    let fo : FitsSigned w128 c.leading-without.result = record { sfits = c.leading-without.type_inv } in
+    let f1 : FitsSigned w128 c.minor.result = record { sfits = c.minor.type_inv } in
+    let f2 : FitsSigned w128 c.minor-2.result = record { sfits = c.minor-2.type_inv } in
+    let f3 : FitsSigned w128 c.minor-3.result = record { sfits = c.minor-3.type_inv } in
+    let f4 : FitsSigned w128 c.minor-4.result = record { sfits = c.minor-4.type_inv } in
     record {
       sign = turn-read n g nf gf c.of.result c.leading.result c.leading-with_end.result c.leading-without.result c.minor.result c.minor-2.result c.minor-3.result c.minor-4.result fl fb fo f1 f2 f3 f4
           c.of.ensures.sign c.leading.ensures.leading c.leading-with_end.ensures.leading c.leading-without.ensures.leading
           c.minor.ensures.minor c.minor-2.ensures.minor c.minor-3.ensures.minor c.minor-4.ensures.minor;
     }
+
+pub minor-requires : goal.minor-requires
+minor-requires c =
+    let n = c.requires.n_small in
+    let g = c.requires.g_small in
+    let nf = fitting (2 ^ 50) c.args.n.now (omega arith) n in
+    let gf = fitting (2 ^ 74) c.args.g.now (omega arith) g in
+    record { a_small = passed-small (2 ^ 50) _ nf.start_factor n.start_factor; b_small = passed-small (2 ^ 74) _ gf.end_factor g.end_factor; c_small = passed-small (2 ^ 50) _ nf.end_factor n.end_factor; d_small = passed-small (2 ^ 74) _ gf.start_factor g.start_factor }
+
+pub minor-requires-2 : goal.minor-requires-2
+minor-requires-2 c =
+    let n = c.requires.n_small in
+    let g = c.requires.g_small in
+    let nf = fitting (2 ^ 50) c.args.n.now (omega arith) n in
+    let gf = fitting (2 ^ 74) c.args.g.now (omega arith) g in
+    record { a_small = passed-small (2 ^ 50) _ nf.start_rest n.start_rest; b_small = passed-small (2 ^ 74) _ gf.end_factor g.end_factor; c_small = passed-small (2 ^ 50) _ nf.end_factor n.end_factor; d_small = passed-small (2 ^ 74) _ gf.start_rest g.start_rest }
+
+pub minor-requires-3 : goal.minor-requires-3
+minor-requires-3 c =
+    let n = c.requires.n_small in
+    let g = c.requires.g_small in
+    let nf = fitting (2 ^ 50) c.args.n.now (omega arith) n in
+    let gf = fitting (2 ^ 74) c.args.g.now (omega arith) g in
+    record { a_small = passed-small (2 ^ 50) _ nf.start_factor n.start_factor; b_small = passed-small (2 ^ 74) _ gf.end_rest g.end_rest; c_small = passed-small (2 ^ 50) _ nf.end_rest n.end_rest; d_small = passed-small (2 ^ 74) _ gf.start_factor g.start_factor }
+
+pub minor-requires-4 : goal.minor-requires-4
+minor-requires-4 c =
+    let n = c.requires.n_small in
+    let g = c.requires.g_small in
+    let nf = fitting (2 ^ 50) c.args.n.now (omega arith) n in
+    let gf = fitting (2 ^ 74) c.args.g.now (omega arith) g in
+    record { a_small = passed-small (2 ^ 50) _ nf.start_rest n.start_rest; b_small = passed-small (2 ^ 74) _ gf.end_rest g.end_rest; c_small = passed-small (2 ^ 50) _ nf.end_rest n.end_rest; d_small = passed-small (2 ^ 74) _ gf.start_rest g.start_rest }

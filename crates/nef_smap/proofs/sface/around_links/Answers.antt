@@ -20,7 +20,7 @@ none-of (Some m) e = absurd cc
 pub loop-number-init : goal.loop-number-init
 loop-number-init c =
     let M = map_of c.args.map.now in
-    record { all_links = subst (λ (ls : List Link). AreArounds M 0 ls) (sym c.new-links.ensures.items) (arounds-none M); side_number = sym (arounds-start M.svertices); few_sides = omega arith }
+    record { all_links = subst (λ (ls : List Link). AreArounds M 0 ls) (sym {A = List Link} c.new-links.ensures.items) (arounds-none M); side_number = sym (arounds-start M.svertices); few_sides = omega arith }
 
 pub join_around-requires-clause-around : goal.join_around-requires-clause-around
 join_around-requires-clause-around c =
@@ -28,6 +28,12 @@ join_around-requires-clause-around c =
     let some : is_some v.around ≡ true = search rules in
     let m = some-of v.around some in
     (svertex_of v, m.0, svertex-listed c.args.map.now.svertices c.loop-number.number v c.at.ensures.element, m.1)
+
+pub overflow_add-side : goal.overflow_add-side
+overflow_add-side c = omega (arith, c.loop-number.invariant.few_sides, c.loop-number-test.true, c.len-number-end.type_inv)
+
+pub at-requires : goal.at-requires
+at-requires c = record { within = omega (arith, c.loop-number-test.true, c.len-number-end.ensures.len) }
 
 pub loop-number-preserved : goal.loop-number-preserved
 loop-number-preserved c =
@@ -45,7 +51,7 @@ loop-number-preserved c =
           let one : one_if v.around ≡ 1 = ap one_if m.1 in
           let items = ap (λ (x : Vec Link Global). x.items) w.links-is ∙ w.in_ok-push.ensures.items in
           record {
-            all_links = subst (λ (ls : List Link). AreArounds M (n + 1) ls) (sym items) (arounds-more M n c.loop-number.links.items w.join_around.result w.join_around.ensures.joins c.loop-number.invariant.all_links);
+            all_links = subst (λ (ls : List Link). AreArounds M (n + 1) ls) (sym {A = List Link} items) (arounds-more M n c.loop-number.links.items w.join_around.result w.join_around.ensures.joins c.loop-number.invariant.all_links);
             side_number = omega (arith, w.side-is, next, one, side);
             few_sides = omega (arith, w.side-is, few);
           }
@@ -55,7 +61,7 @@ loop-number-preserved c =
           let zero_one : one_if v.around ≡ 0 = ap one_if m in
           let items = ap (λ (x : Vec Link Global). x.items) w.links-is in
           record {
-            all_links = subst (λ (ls : List Link). AreArounds M (n + 1) ls) (sym items) (arounds-pass M n c.loop-number.links.items (svertex_of v) a m c.loop-number.invariant.all_links);
+            all_links = subst (λ (ls : List Link). AreArounds M (n + 1) ls) (sym {A = List Link} items) (arounds-pass M n c.loop-number.links.items (svertex_of v) a m c.loop-number.invariant.all_links);
             side_number = omega (arith, w.side-is, next, zero_one, side);
             few_sides = omega (arith, w.side-is, few);
           }

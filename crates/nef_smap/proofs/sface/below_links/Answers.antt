@@ -9,4 +9,4 @@ pub loop-number-preserved : goal.loop-number-preserved
 loop-number-preserved c =
     let M = map_of c.args.map.now in
     let n = c.loop-number.number in
-    subst (λ (ls : List Link). AreEach (JoinsBelow M) (n + 1) ls) (sym c.in_ok-push.ensures.items) (each-more (JoinsBelow M) n c.loop-number.links.items c.join_below.result c.join_below.ensures.joins c.loop-number.invariant)
+    subst (λ (ls : List Link). AreEach (JoinsBelow M) (n + 1) ls) (sym {A = List Link} c.in_ok-push.ensures.items) (each-more (JoinsBelow M) n c.loop-number.links.items c.join_below.result c.join_below.ensures.joins c.loop-number.invariant)
