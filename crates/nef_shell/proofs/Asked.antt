@@ -1,5 +1,5 @@
 -- The complexes of the nodes that questions ask about.
-use Rattle.std.proofs.Common.{◌≡◌, ◌⊎◌, ◌↔◌, ◌∙◌, ℕ, Bool, true, false, zero, suc, ◌+◌, ◌<◌, ◌≤◌, ap, arith, refl, sym, subst, List, [], ◌∷◌, ◌++◌, append-nil, length, Option, Some, None, IfSome, slice_get, inl, inr}
+use Rattle.std.proofs.Common.{◌≡◌, ◌⊎◌, ◌∙◌, ℕ, Bool, true, false, zero, suc, ◌+◌, ◌<◌, ◌≤◌, ap, arith, refl, sym, subst, List, [], ◌∷◌, ◌++◌, append-nil, length, Option, Some, None, IfSome, slice_get, inl, inr}
 use Rattle.std.specs.Prelude.{slice_set, is_some}
 use Rattle.std.proofs.lemmas.Bool.{cases_eq, cases_lt}
 use Rattle.std.proofs.lemmas.Option.{slice_get_within}
@@ -16,7 +16,7 @@ use Rattle.nef_script.specs.declared.script.Command.{Command}
 use Rattle.nef_script.specs.declared.script.Command.TheVariants.{Bind, Turn, Has, Joined, Ray, Same, Count, Print}
 use Rattle.nef_script.specs.Commands.{Binds, AreBoundBefore}
 use Rattle.nef_shell.specs.declared.bindings.Binding.{Binding}
-use Rattle.nef_shell.specs.Bindings.{IsBoundAt, IsWorked, IsAskedAbout, AreAllBound, Fits, ArePlaced}
+use Rattle.nef_shell.specs.Bindings.{IsBoundAt, IsAskedAbout, AreMarkedAsked, AreAllBound, Fits, ArePlaced, AreThoseMarked}
 use Rattle.nef_shell.specs.Operations.{AreShown, IsKept, IsGone, AreBound}
 use Rattle.nef_shell.specs.Output.{IsPiece}
 use Rattle.nef_shell.proofs.Complexes.{shown-put}
@@ -46,46 +46,54 @@ marked-or-not (true ∷ marks) zero within = inl refl
 marked-or-not (false ∷ marks) zero within = inr refl
 marked-or-not (m ∷ marks) (suc k) within = marked-or-not marks k (omega arith)
 
+-- the results that are wanted are those that are placed
+pub those-marked : (nodes : List Node) (bindings : List Binding) (wanted : List Bool) (results list : List (Option Complex)) → length wanted ≡ length bindings → ((n : ℕ) → IsMarked wanted n → HasResult results n)
+    → ((n : ℕ) → IsUnmarked wanted n → kept results n ≡ None) → ArePlaced nodes bindings results list → AreThoseMarked nodes bindings wanted list
+those-marked nodes bindings wanted results list count has lean placed = record {
+  shown = placed.shown;
+  there = λ n k bound marked. placed.there n k bound (has n marked);
+  only = λ k c at.
+      let (n, (b, here, is), (out, result)) = placed.only k c at in
+      elim (marked-or-not wanted n (let below = slice_get_within bindings n b here in omega (arith, count))) [
+        | inl marked ↦ (n, (b, here, is), marked)
+        | inr not ↦ absurd (let f : None ≡ Some out = sym (lean n not) ∙ result in cc)
+      ];
+}
+
 -- a node that a question asks about is bound by a binding, whose result is wanted and stands at the node's place
-pub asked-kept : (nodes : List Node) (commands : List Command) (bindings : List Binding) (asked wanted : List Bool) (results list : List (Option Complex)) → AreBoundBefore nodes commands → AreAllBound commands bindings
-    → ((k : ℕ) → IsMarked asked k ↔ IsAskedAbout nodes commands k) → ((n : ℕ) (b : Binding) → slice_get bindings n ≡ Some b → slice_get wanted n ≡ slice_get asked b.node)
-    → ((n : ℕ) → IsMarked wanted n → HasResult results n) → ArePlaced nodes bindings results list → (k : ℕ) → IsAskedAbout nodes commands k → IsKept nodes list k
-asked-kept nodes commands bindings asked wanted results list before all marks wants has placed k about =
+pub asked-kept : (nodes : List Node) (commands : List Command) (bindings : List Binding) (wanted : List Bool) (list : List (Option Complex)) → AreBoundBefore nodes commands → AreAllBound commands bindings
+    → AreMarkedAsked nodes commands bindings wanted → AreThoseMarked nodes bindings wanted list → (k : ℕ) → IsAskedAbout nodes commands k → IsKept nodes list k
+asked-kept nodes commands bindings wanted list before all marks placed k about =
     let (i, c, at, asks, looks) = about in
     let (j, d, low, seen, binds) = before i c at k looks in
     let (n, (b, here, is)) = all j k d seen binds in
-    let marked : IsMarked asked b.node = subst (IsMarked asked) (sym is) ((marks k).1 about) in
-    placed.there n k (b, here, is) (has n (wants n b here ∙ marked))
+    placed.there n k (b, here, is) ((marks n b here).1 (subst (IsAskedAbout nodes commands) (sym is) about))
 
 -- nothing else stands at any place
-pub only-asked : (nodes : List Node) (commands : List Command) (bindings : List Binding) (asked wanted : List Bool) (results list : List (Option Complex)) → length wanted ≡ length bindings
-    → ((k : ℕ) → IsMarked asked k ↔ IsAskedAbout nodes commands k) → ((n : ℕ) (b : Binding) → slice_get bindings n ≡ Some b → slice_get wanted n ≡ slice_get asked b.node)
-    → ((n : ℕ) → IsUnmarked wanted n → kept results n ≡ None) → ArePlaced nodes bindings results list → (k : ℕ) (c : Complex) → slice_get list k ≡ Some (Some c) → IsAskedAbout nodes commands k
-only-asked nodes commands bindings asked wanted results list count marks wants lean placed k c there =
-    let (n, (b, here, is), (out, has)) = placed.only k c there in
-    elim (marked-or-not wanted n (let below = slice_get_within bindings n b here in omega (arith, count))) [
-      | inl marked ↦ (marks k).0 (subst (IsMarked asked) is (sym (wants n b here) ∙ marked))
-      | inr not ↦ absurd (let f : None ≡ Some out = sym (lean n not) ∙ has in cc)
-    ]
+pub only-asked : (nodes : List Node) (commands : List Command) (bindings : List Binding) (wanted : List Bool) (list : List (Option Complex)) → AreMarkedAsked nodes commands bindings wanted → AreThoseMarked nodes bindings wanted list
+    → (k : ℕ) (c : Complex) → slice_get list k ≡ Some (Some c) → IsAskedAbout nodes commands k
+only-asked nodes commands bindings wanted list marks placed k c there =
+    let (n, (b, here, is), marked) = placed.only k c there in
+    subst (IsAskedAbout nodes commands) is ((marks n b here).0 marked)
 
--- a command that isn't worked in its turn binds a node, and writes nothing
-pub unworked-nothing : (version : TextVersion) (nodes : List Node) (ahead : Bool) (c : Command) → (IsWorked ahead c → ⊥) → IsPiece version nodes c []
-unworked-nothing version nodes ahead (Bind line n) not = refl
-unworked-nothing version nodes ahead (Turn line n j t) not = refl
-unworked-nothing version nodes ahead (Has line n p) not = absurd (not (λ e k binds. binds))
-unworked-nothing version nodes ahead (Joined line n p q) not = absurd (not (λ e k binds. binds))
-unworked-nothing version nodes ahead (Ray line n p d) not = absurd (not (λ e k binds. binds))
-unworked-nothing version nodes ahead (Same line i j) not = absurd (not (λ e k binds. binds))
-unworked-nothing version nodes ahead (Count line n) not = absurd (not (λ e k binds. binds))
-unworked-nothing version nodes ahead (Print line n name) not = absurd (not (λ e k binds. binds))
+-- a command that binds a node writes nothing
+pub bound-nothing : (version : TextVersion) (nodes : List Node) (c : Command) (k : ℕ) → Binds c k → IsPiece version nodes c []
+bound-nothing version nodes (Bind line n) k binds = refl
+bound-nothing version nodes (Turn line n j t) k binds = refl
+bound-nothing version nodes (Has line n p) k binds = absurd binds
+bound-nothing version nodes (Joined line n p q) k binds = absurd binds
+bound-nothing version nodes (Ray line n p d) k binds = absurd binds
+bound-nothing version nodes (Same line i j) k binds = absurd binds
+bound-nothing version nodes (Count line n) k binds = absurd binds
+bound-nothing version nodes (Print line n name) k binds = absurd binds
 
--- and binds none then, since all bindings have been worked
-pub unworked-bound : (nodes : List Node) (ahead : Bool) (c : Command) (list : List (Option Complex)) → (IsWorked ahead c → ⊥) → AreBound nodes (λ k. (ahead ≡ false) × Binds c k) list list
-unworked-bound nodes ahead c list not = record {
+-- where no node is in question nothing changes
+pub unbound : (nodes : List Node) (InQuestion : ℕ → Type 0) (list : List (Option Complex)) → ((k : ℕ) → InQuestion k → ⊥) → AreBound nodes InQuestion list list
+unbound nodes InQuestion list none = record {
   count = refl;
   stays = λ k d at. at;
   gone = λ k g. inl g;
-  bound = λ k h. absurd (not (λ e. absurd (let f : true ≡ false = sym e ∙ h.0 in cc)));
+  bound = λ k h. absurd (none k h);
 }
 
 -- a complex that shows a node's set is put at the node's place, in the place of whatever was there
@@ -168,6 +176,6 @@ only-more bindings results old new n b o at here only so_far k c there = elim (o
   | inr (is, d, found) ↦ (n, (b, at, is), (d, ap flat here ∙ found))
 ]
 
--- the results after the n-th stay when it is moved out
-pub rest-more : (results old : List (Option Complex)) (n : ℕ) → ((m : ℕ) → n ≤ m → slice_get old m ≡ slice_get results m) → (m : ℕ) → n + 1 ≤ m → slice_get (slice_set old n None) m ≡ slice_get results m
-rest-more results old n so_far m later = get_set_other old n m None (λ e. let f : ⊥ = omega (arith, e) in f) ∙ so_far m (omega arith)
+-- the results after the n-th stay when another comes in its place
+pub rest-more : (results old : List (Option Complex)) (n : ℕ) (o : Option Complex) → ((m : ℕ) → n ≤ m → slice_get old m ≡ slice_get results m) → (m : ℕ) → n + 1 ≤ m → slice_get (slice_set old n o) m ≡ slice_get results m
+rest-more results old n o so_far m later = get_set_other old n m o (λ e. let f : ⊥ = omega (arith, e) in f) ∙ so_far m (omega arith)

@@ -18,7 +18,6 @@ use Rattle.nef_expr.specs.Nodes.{operand, set_of, sets_after, node_set, NamesBel
 use Rattle.nef_expr.proofs.Sets.{each-set}
 use Rattle.nef_script.specs.declared.script.Command.{Command}
 use Rattle.nef_script.specs.Commands.{Binds}
-use Rattle.nef_shell.specs.Bindings.{IsWorked}
 use Rattle.nef_shell.specs.Operations.{set_by, first_operand, second_operand, HasOperand, IsLent, AreLent, AreShown, IsKept, IsGone, AreBound}
 use Rattle.nef_shell.specs.declared.operation.Operation.{Operation}
 use Rattle.nef_shell.specs.declared.operation.Operation.TheVariants.{Unary, Binary, Turned}
@@ -83,18 +82,13 @@ shown-less nodes list n within shown k d at = elim (cases_eq k n) [
   | inr other ↦ shown k d (sym (get_set_other list n k None other) ∙ at)
 ]
 
--- a command that is worked in its turn and binds a node isn't worked ahead
-in-turn : (ahead : Bool) (c : Command) (n : ℕ) → IsWorked ahead c → Binds c n → ahead ≡ false
-in-turn true c n worked binds = absurd (worked refl n binds)
-in-turn false c n worked binds = refl
-
 -- a command that binds a node has it bound
-pub binds-that : (nodes : List Node) (ahead : Bool) (c : Command) (n : ℕ) (old new : List (Option Complex)) → ((k : ℕ) → Binds c k ↔ (k ≡ n)) → IsWorked ahead c → AreBound nodes (λ k. k ≡ n) old new
+pub binds-that : (nodes : List Node) (ahead : Bool) (c : Command) (n : ℕ) (old new : List (Option Complex)) → ((k : ℕ) → Binds c k ↔ (k ≡ n)) → ahead ≡ false → AreBound nodes (λ k. k ≡ n) old new
     → AreBound nodes (λ k. (ahead ≡ false) × Binds c k) old new
-binds-that nodes ahead c n old new binds worked b = record {
+binds-that nodes ahead c n old new binds off b = record {
   count = b.count;
   stays = b.stays;
-  gone = λ k g. elim (b.gone k g) [ inl h ↦ inl h | inr is ↦ inr (in-turn ahead c n worked ((binds n).1 refl), (binds k).1 is) ];
+  gone = λ k g. elim (b.gone k g) [ inl h ↦ inl h | inr is ↦ inr (off, (binds k).1 is) ];
   bound = λ k h. b.bound k ((binds k).0 h.1);
 }
 

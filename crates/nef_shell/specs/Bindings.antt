@@ -1,14 +1,16 @@
 -- The bindings of a script, each the first command that binds its node, and what they need.
-use Rattle.std.specs.Prelude.{◌≡◌, ℕ, ◌<◌, Bool, true, List, [], Option, Some, None, length, option_and_then, slice_get}
+use Rattle.std.specs.Prelude.{◌≡◌, ◌↔◌, ℕ, ◌<◌, Bool, true, List, [], Option, Some, None, length, option_and_then, slice_get}
 use Rattle.nef_complex.specs.declared.complex.Complex.{Complex}
 use Rattle.nef_complex.specs.Complexes.{ShowsSet}
 use Rattle.nef_expr.specs.declared.nodes.Node.{Node}
 use Rattle.nef_expr.specs.Nodes.{node_set, sets_after}
+use Rattle.nef_sched.specs.Marks.{IsMarked}
 use Rattle.nef_sched.specs.Results.{kept, IsKept as HasResult}
 use Rattle.nef_script.specs.declared.script.Command.{Command}
 use Rattle.nef_script.specs.Commands.{LooksAt, Binds}
 use Rattle.nef_shell.specs.declared.bindings.Binding.{Binding}
-use Rattle.nef_shell.specs.Operations.{set_by, first_operand, second_operand, HasTurn, AreShown, IsKept}
+use Rattle.nef_shell.specs.declared.operation.Operation.{Operation}
+use Rattle.nef_shell.specs.Operations.{set_by, first_operand, second_operand, HasOperand, HasTurn, AreShown, IsKept}
 
 -- the binding with the number n binds node k
 abbrev pub IsBoundAt : List Binding → ℕ → ℕ → Type 0
@@ -54,6 +56,14 @@ needed_complex list (Some n) = kept list n
 abbrev pub Fits : List Node → List Binding → ℕ → Complex → Type 0
 Fits nodes bindings n c = (b : Binding) → slice_get bindings n ≡ Some b → ShowsSet (node_set nodes b.node) c
 
+-- the command binds the node, whose set the operation makes of those that the command looks at
+pub record IsBoundBy (nodes : List Node) (c : Command) (node : ℕ) (operation : Operation) : Type 0 where
+  pub binds : (k : ℕ) → Binds c k ↔ (k ≡ node)
+  pub within : node < length nodes
+  pub turn : HasTurn operation
+  pub set : node_set nodes node ≡ set_by (sets_after [] nodes) operation
+  pub operands : (k : ℕ) → HasOperand operation k → LooksAt nodes c k
+
 -- the command asks a question
 abbrev pub IsQuestion : Command → Type 0
 IsQuestion c = (k : ℕ) → Binds c k → ⊥
@@ -71,3 +81,13 @@ pub record ArePlaced (nodes : List Node) (bindings : List Binding) (results list
   pub shown : AreShown nodes list
   pub there : (n k : ℕ) → IsBoundAt bindings n k → HasResult results n → IsKept nodes list k
   pub only : (k : ℕ) (c : Complex) → slice_get list k ≡ Some (Some c) → (n : ℕ) × IsBoundAt bindings n k × HasResult results n
+
+-- a binding is marked exactly where a question asks about its node
+abbrev pub AreMarkedAsked : List Node → List Command → List Binding → List Bool → Type 0
+AreMarkedAsked nodes commands bindings marks = (n : ℕ) (b : Binding) → slice_get bindings n ≡ Some b → IsMarked marks n ↔ IsAskedAbout nodes commands b.node
+
+-- a complex stands at the place of each node that a marked binding binds, and nothing else stands anywhere
+pub record AreThoseMarked (nodes : List Node) (bindings : List Binding) (marks : List Bool) (list : List (Option Complex)) : Type 0 where
+  pub shown : AreShown nodes list
+  pub there : (n k : ℕ) → IsBoundAt bindings n k → IsMarked marks n → IsKept nodes list k
+  pub only : (k : ℕ) (c : Complex) → slice_get list k ≡ Some (Some c) → (n : ℕ) × IsBoundAt bindings n k × IsMarked marks n

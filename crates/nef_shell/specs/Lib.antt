@@ -1,6 +1,7 @@
 pub mod Status
 pub mod Traffic
 pub mod Output
+pub mod Pieces
 pub mod Answers
 pub mod Written
 pub mod Prints

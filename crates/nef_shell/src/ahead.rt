@@ -1,6 +1,6 @@
 //! Works all bindings of a script ahead of its questions, in rounds.
 
-ghost use Rattle.std.specs.Prelude.{◌≡◌, ◌<◌, ◌↔◌, ◌⊎◌, ℕ, None, Some, All, IfOk, IfSome, length, slice_get, slice_set, vec_len};
+ghost use Rattle.std.specs.Prelude.{◌≡◌, ◌<◌, ◌↔◌, ◌⊎◌, ℕ, Some, All, IfOk, IfSome, length, slice_get, vec_len};
 ghost use Rattle.nef_complex.specs.declared.complex.Complex.{Complex};
 ghost use Rattle.nef_complex.specs.Complexes.{ShowsSet};
 ghost use Rattle.nef_expr.specs.Nodes.{node_set};
@@ -8,7 +8,7 @@ ghost use Rattle.nef_sched.specs.Marks.{IsMarked};
 ghost use Rattle.nef_sched.specs.Results.{AreSound};
 ghost use Rattle.nef_script.specs.Commands.{LooksAt, AreBoundBefore, TurnsRight};
 ghost use Rattle.nef_script.specs.Meaning.{IsWithin};
-ghost use Rattle.nef_shell.specs.Bindings.{AreBindings, Fits, IsQuestion, IsAskedAbout, ArePlaced};
+ghost use Rattle.nef_shell.specs.Bindings.{AreBindings, Fits, IsQuestion, IsAskedAbout, AreMarkedAsked, ArePlaced, AreThoseMarked};
 ghost use Rattle.nef_shell.specs.Operations.{AreMeans, AreShown, IsKept};
 
 use crate::bindings::{Binding, bindings_of};
@@ -21,6 +21,7 @@ use nef_expr::Nodes;
 use nef_io::Gate;
 use nef_script::{Command, Script};
 use std::alloc::{AllocError, Global};
+use std::mem;
 use std::sync::Wait;
 use std::thread::Threads;
 
@@ -77,29 +78,32 @@ fn wanted(alloc: Global, bindings: &[Binding], asked: &[bool]) -> Result<Vec<boo
     Ok(marks)
 }
 
-// Takes the result with this number, if it is there.
-fn moved_out(results: &mut [Option<Complex>], n: usize) -> Option<Complex>
-    requires number { n < length results.old }
-    ensures result { slice_get results.old n ≡ Some result }
-    ensures rest { results.new ≡ slice_set results.old n None }
+// Marks on the bindings whose nodes questions ask about.
+fn wanted_for(alloc: Global, script: &Script, bindings: &[Binding]) -> Result<Vec<bool>, AllocError>
+    requires within { All (IsWithin (length script.now.nodes)) script.now.commands }
+    requires are { AreBindings script.now.nodes bindings.now }
+    ensures count { IfOk result (λ v. vec_len v ≡ length bindings.now) }
+    ensures marks { IfOk result (λ v. AreMarkedAsked script.now.nodes script.now.commands bindings.now v.items) }
 {
-    results[n].take()
+    let asked = asked_about(alloc, script)?;
+    wanted(alloc, bindings, &asked)
 }
 
-// Puts the complex, if there is one, at the place of the node that the binding binds.
-fn put(nodes: &Nodes, list: &mut [Option<Complex>], binding: &Binding, complex: Option<Complex>)
+// Puts the result, if there is one, to the place of the node that the binding binds. It is exchanged where it stands:
+// what a function that holds a complex lets go costs half a minute of proving.
+fn put(nodes: &Nodes, list: &mut [Option<Complex>], binding: &Binding, worked: &mut Option<Complex>)
     requires node { binding.now.node < length list.old }
-    requires shows { IfSome complex (λ c. ShowsSet (node_set nodes.now binding.now.node) c) }
+    requires shows { IfSome worked.old (λ c. ShowsSet (node_set nodes.now binding.now.node) c) }
     requires shown { AreShown nodes.now list.old }
     ensures length { length list.new ≡ length list.old }
     ensures shown { AreShown nodes.now list.new }
     ensures still { (k : ℕ) → IsKept nodes.now list.old k → IsKept nodes.now list.new k }
-    ensures there { (c : Complex) → complex ≡ Some c → IsKept nodes.now list.new binding.now.node }
-    ensures only { (k : ℕ) (c : Complex) → slice_get list.new k ≡ Some (Some c) → (slice_get list.old k ≡ Some (Some c)) ⊎ ((binding.now.node ≡ k) × (d : Complex) × (complex ≡ Some d)) }
+    ensures there { (c : Complex) → worked.old ≡ Some c → IsKept nodes.now list.new binding.now.node }
+    ensures only { (k : ℕ) (c : Complex) → slice_get list.new k ≡ Some (Some c) → (slice_get list.old k ≡ Some (Some c)) ⊎ ((binding.now.node ≡ k) × (d : Complex) × (worked.old ≡ Some d)) }
 {
     let _nodes = nodes;
-    if complex.is_some() {
-        list[binding.node] = complex;
+    if worked.is_some() {
+        mem::swap(&mut list[binding.node], worked);
     }
 }
 
@@ -118,10 +122,29 @@ fn placed(
     let mut complexes = no_complexes(alloc, nodes.len())?;
     let list = complexes.as_mut_slice();
     for (n, binding) in bindings.iter().enumerate() {
-        let complex = moved_out(results, n);
-        put(nodes, list, binding, complex);
+        put(nodes, list, binding, &mut results[n]);
     }
     Ok(complexes)
+}
+
+// Works the bindings, and puts the complexes of those that are marked to the places of their nodes.
+fn worked<R: Threads + Wait + Sync, G: Gate + Sync>(
+    rt: &R,
+    alloc: Global,
+    nodes: &Nodes,
+    bindings: &[Binding],
+    wanted: &[bool],
+    means: &Means,
+    gate: &G,
+) -> Result<Vec<Option<Complex>>, AllocError>
+    requires means { AreMeans means.now }
+    requires are { AreBindings nodes.now bindings.now }
+    requires wanted { length wanted.now ≡ length bindings.now }
+    ensures count { IfOk result (λ v. vec_len v ≡ length nodes.now) }
+    ensures placed { IfOk result (λ v. AreThoseMarked nodes.now bindings.now wanted.now v.items) }
+{
+    let mut results = work_bindings(rt, alloc, nodes, bindings, wanted, means, gate)?;
+    placed(alloc, nodes, bindings, results.as_mut_slice())
 }
 
 /// The complexes of all nodes that questions ask about, each at its node's place, and no others: all bindings are
@@ -142,10 +165,7 @@ pub(crate) fn worked_ahead<R: Threads + Wait + Sync, G: Gate + Sync>(
     ensures asked { IfOk result (λ v. (k : ℕ) → IsAskedAbout script.now.nodes script.now.commands k → IsKept script.now.nodes v.items k) }
     ensures only { IfOk result (λ v. (k : ℕ) (c : Complex) → slice_get v.items k ≡ Some (Some c) → IsAskedAbout script.now.nodes script.now.commands k) }
 {
-    let nodes = script.nodes();
     let bindings = bindings_of(alloc, script)?;
-    let asked = asked_about(alloc, script)?;
-    let wanted = wanted(alloc, &bindings, &asked)?;
-    let mut results = work_bindings(rt, alloc, nodes, &bindings, &wanted, means, gate)?;
-    placed(alloc, nodes, &bindings, results.as_mut_slice())
+    let wanted = wanted_for(alloc, script, &bindings)?;
+    worked(rt, alloc, script.nodes(), &bindings, &wanted, means, gate)
 }

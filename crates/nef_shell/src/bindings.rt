@@ -7,7 +7,8 @@ ghost use Rattle.nef_script.specs.Meaning.{IsWithin};
 ghost use Rattle.nef_shell.specs.Bindings.{IsBoundAt, IsBound, IsNeeded, AreBindings, AreAllBound};
 ghost use Rattle.nef_shell.specs.Operations.{set_by, first_operand, second_operand, HasOperand, HasTurn};
 
-use crate::operation::{Operation, bound_operation, turned_operation};
+use crate::operation::Operation;
+use crate::uses::bound;
 use nef_expr::Nodes;
 use nef_sched::Needs;
 use nef_script::{Command, Script};
@@ -101,21 +102,9 @@ fn add_command(
     ensures still { OnOk result ((k : ℕ) → IsBound bindings.old.items k → IsBound bindings.new.items k) }
     ensures bound { OnOk result ((k : ℕ) → Binds command.now k → IsBound bindings.new.items k) }
 {
-    match command {
-        Command::Bind { node, .. } => {
-            let operation = bound_operation(nodes, *node);
-            add_binding(bindings, nodes, *node, operation)
-        }
-        Command::Turn {
-            node,
-            from,
-            turn,
-            ..
-        } => {
-            let operation = turned_operation(nodes, *from, *turn);
-            add_binding(bindings, nodes, *node, operation)
-        }
-        _ => Ok(()),
+    match bound(nodes, command) {
+        Some((node, operation)) => add_binding(bindings, nodes, node, operation),
+        None => Ok(()),
     }
 }
 

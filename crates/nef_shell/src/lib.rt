@@ -15,6 +15,7 @@ mod laws;
 mod line;
 mod listing;
 mod operation;
+mod piece;
 mod ray_end;
 mod script;
 mod sets;

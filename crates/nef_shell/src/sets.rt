@@ -1,8 +1,9 @@
 //! The complexes of the nodes.
 
-ghost use Rattle.std.specs.Prelude.{◌≡◌, ◌+◌, ◌≤◌, ◌<◌, ◌↔◌, ◌⊎◌, ℕ, Option, Some, IfOk, IfSome, IsTrue, OnOk, All, length, slice_index, vec_len, []};
+ghost use Rattle.std.specs.Prelude.{◌≡◌, ◌+◌, ◌≤◌, ◌<◌, ◌↔◌, ◌⊎◌, ℕ, Option, None, Some, IfOk, IfSome, IsTrue, OnOk, All, length, slice_get, slice_index, vec_len, []};
 ghost use Rattle.std.specs.Option.{option_copied};
 ghost use Rattle.nef_space.specs.Local.{SameSet};
+ghost use Rattle.nef_complex.specs.declared.complex.Complex.{Complex};
 ghost use Rattle.nef_complex.specs.Complexes.{ShowsSet};
 ghost use Rattle.nef_expr.specs.Nodes.{node_set, sets_after};
 ghost use Rattle.nef_script.specs.Commands.{LooksAt, Binds};
@@ -36,12 +37,20 @@ pub(crate) struct Sets<'a> {
 pub(crate) fn no_complexes(alloc: Global, count: usize) -> Result<Vec<Option<Complex>>, AllocError>
     ensures count { IfOk result (λ v. vec_len v ≡ count) }
     ensures none { IfOk result (λ v. (k : ℕ) → k < count → IsGone v.items k) }
+    ensures empty { IfOk result (λ v. (k : ℕ) (c : Complex) → slice_get v.items k ≡ Some (Some c) → ⊥) }
 {
     let mut list = Vec::with_capacity(alloc, count)?;
     for _ in 0..count {
         list.push(None)?;
     }
     Ok(list)
+}
+
+// Lets the complex at the place go, if there is one.
+fn let_go(place: &mut Option<Complex>)
+    ensures gone { place.new ≡ None }
+{
+    *place = None;
 }
 
 impl<'a> Sets<'a> {
@@ -64,18 +73,6 @@ impl<'a> Sets<'a> {
             last_uses: last_uses(alloc, script)?,
             list,
         })
-    }
-
-    /// No complex so far. `AllocError` says that memory was wanted and not found.
-    pub(crate) fn new(alloc: Global, script: &'a Script) -> Result<Sets<'a>, AllocError>
-        requires within { All (IsWithin (length script.now.nodes)) script.now.commands }
-        ensures nodes { IfOk result (λ t. t.nodes.now ≡ script.entry.now.nodes) }
-        ensures none { IfOk result (λ t. (k : ℕ) → k < length t.list.items → IsGone t.list.items k) }
-        ensures last { IfOk result (λ t. AreLastUses script.entry.now.nodes script.entry.now.commands t.last_uses.items) }
-        ensures used { IfOk result (λ t. AreUses script.entry.now.nodes script.entry.now.commands t.last_uses.items) }
-    {
-        let list = no_complexes(alloc, script.nodes().len())?;
-        Sets::of(alloc, script, list)
     }
 
     /// The complex of the node.
@@ -110,6 +107,25 @@ impl<'a> Sets<'a> {
         same(self.nodes, left, a, self.nodes, right, b)
     }
 
+    // The complex that the operation makes of those of its operands.
+    fn made_by<R: Threads + Wait + Sync, G: Gate + Sync>(
+        &self,
+        rt: &R,
+        alloc: Global,
+        operation: Operation,
+        means: &Means,
+        gate: &G,
+    ) -> Result<Complex, AllocError>
+        requires means { AreMeans means.now }
+        requires turn { HasTurn operation }
+        requires operands { (k : ℕ) → HasOperand operation k → IsKept self.now.nodes.now self.now.list.items k }
+        ensures shows { IfOk result (λ c. ShowsSet (set_by (sets_after [] self.now.nodes.now) operation) c) }
+    {
+        let (first, second) = operation.operands();
+        let (a, b) = (self.lent(first), self.lent(second));
+        made(rt, alloc, operation, a, b, means, gate)
+    }
+
     /// Works the node by the operation that makes its set, unless its complex is there. `AllocError` says that
     /// memory was wanted and not found.
     pub(crate) fn bind<R: Threads + Wait + Sync, G: Gate + Sync>(
@@ -135,9 +151,7 @@ impl<'a> Sets<'a> {
         if self.list[node].is_some() {
             return Ok(());
         }
-        let (first, second) = operation.operands();
-        let (a, b) = (self.lent(first), self.lent(second));
-        let complex = made(rt, alloc, operation, a, b, means, gate)?;
+        let complex = self.made_by(rt, alloc, operation, means, gate)?;
         self.list[node] = Some(complex);
         Ok(())
     }
@@ -156,7 +170,7 @@ impl<'a> Sets<'a> {
         if let Some(k) = node
             && self.last_uses[k] <= now
         {
-            self.list[k] = None;
+            let_go(&mut self.list[k]);
         }
     }
 

@@ -1,11 +1,12 @@
 //! Which commands look at which nodes.
 
-ghost use Rattle.std.specs.Prelude.{◌≡◌, ◌≤◌, ◌<◌, ◌↔◌, ◌⊎◌, ℕ, Some, IfOk, IfSome, All, length, slice_index, vec_len};
-ghost use Rattle.nef_script.specs.Commands.{LooksAt, Binds};
+ghost use Rattle.std.specs.Prelude.{◌≡◌, ◌≤◌, ◌<◌, ◌↔◌, ◌⊎◌, ℕ, None, Some, IfOk, IfSome, All, length, slice_index, vec_len};
+ghost use Rattle.nef_script.specs.Commands.{LooksAt, Binds, TurnsRight};
 ghost use Rattle.nef_script.specs.Meaning.{IsWithin};
+ghost use Rattle.nef_shell.specs.Bindings.{IsQuestion, IsBoundBy};
 ghost use Rattle.nef_shell.specs.Commands.{AreLastUses, AreUses};
 
-use crate::operation::operation_of;
+use crate::operation::{Operation, bound_operation, operation_of, turned_operation};
 use nef_expr::Nodes;
 use nef_script::{Command, Script};
 use std::alloc::{AllocError, Global};
@@ -36,6 +37,31 @@ pub(crate) fn bound_node(command: &Command) -> Option<usize>
 {
     match command {
         Command::Bind { node, .. } | Command::Turn { node, .. } => Some(*node),
+        _ => None,
+    }
+}
+
+/// The node that the command binds, if it binds one, and the operation that makes the node's set.
+pub(crate) fn bound(nodes: &Nodes, command: &Command) -> Option<(usize, Operation)>
+    requires within { IsWithin (length nodes.now) command.now }
+    requires turned { TurnsRight nodes.now command.now }
+    ensures question { result ≡ None → IsQuestion command.now }
+    ensures bound { IfSome result (λ b. IsBoundBy nodes.now command.now b.0 b.1) }
+{
+    match command {
+        Command::Bind { node, .. } => {
+            let operation = bound_operation(nodes, *node);
+            Some((*node, operation))
+        }
+        Command::Turn {
+            node,
+            from,
+            turn,
+            ..
+        } => {
+            let operation = turned_operation(nodes, *from, *turn);
+            Some((*node, operation))
+        }
         _ => None,
     }
 }

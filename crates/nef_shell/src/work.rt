@@ -1,10 +1,7 @@
 //! Works a script's commands.
 
-ghost use Rattle.std.specs.Prelude.{◌≡◌, ◌≤◌, ◌↔◌, ℕ, Some, true, false, All, IsTrue, OnOk, IfErr, length, slice_get, vec_len};
-ghost use Rattle.nef_space.specs.Local.{HasLabel};
-ghost use Rattle.nef_geo.specs.Shapes.{place_of};
+ghost use Rattle.std.specs.Prelude.{◌≡◌, ◌≤◌, ℕ, Some, true, false, All, IfOk, OnOk, IfErr, length, slice_get, vec_len};
 ghost use Rattle.nef_complex.specs.declared.complex.Complex.{Complex};
-ghost use Rattle.nef_expr.specs.Nodes.{node_set};
 ghost use Rattle.nef_io.specs.Bytes.{Rose};
 ghost use Rattle.nef_script.specs.Commands.{LooksAt, Binds, AreBoundBefore, TurnsRight};
 ghost use Rattle.nef_script.specs.Meaning.{IsWithin};
@@ -14,45 +11,39 @@ ghost use Rattle.nef_shell.specs.Stops.{MatchStop};
 ghost use Rattle.nef_shell.specs.Working.{HasWritten, HasStopped, HasWrittenAll, FrontOf};
 
 use crate::ahead::worked_ahead;
-use crate::answer::{answer, same_answer};
-use crate::joining::joined_piece;
-use crate::listing::{count_piece, print_piece};
-use crate::operation::{Means, bound_operation, turned_operation};
-use crate::ray_end::ray_piece;
+use crate::operation::Means;
+use crate::piece::piece_of;
 use crate::sets::{Sets, no_complexes};
 use crate::stop::Stop;
-use crate::uses::bound_node;
+use crate::uses::bound;
 use nef_complex::Complex;
 use nef_core::TextVersion;
-use nef_geo::{Label, Point};
 use nef_io::{Gate, Sink, put_all};
-use nef_locate::{locate, place_label};
 use nef_ops::constant;
 use nef_script::{Command, Script};
 use nef_words::Options;
-use std::alloc::Global;
+use std::alloc::{AllocError, Global};
 use std::sync::Wait;
 use std::thread::Threads;
 
-// The label of the point for the node.
-fn label_at(sets: &Sets, node: usize, point: &Point) -> Label
-    requires kept { IsKept sets.now.nodes.now sets.now.list.items node }
-    ensures label { HasLabel (node_set sets.now.nodes.now node) (place_of point.now) result }
+// Writes the command's piece, with a text of this version.
+fn write_piece<K: Sink>(
+    alloc: Global,
+    sets: &Sets,
+    command: &Command,
+    text: TextVersion,
+    sink: &mut K,
+) -> Result<(), Stop>
+    requires within { IsWithin (length sets.now.nodes.now) command.now }
+    requires kept { (k : ℕ) → LooksAt sets.now.nodes.now command.now k → IsKept sets.now.nodes.now sets.now.list.items k }
+    ensures done { OnOk result (HasWritten text sets.now.nodes.now command.now (K.written sink.old) (K.written sink.new)) }
+    ensures stopped { IfErr result (HasStopped text sets.now.nodes.now command.now (K.written sink.old) (K.written sink.new) (K.faults sink.old) (K.faults sink.new)) }
+    ensures quiet { OnOk result (K.faults sink.new ≡ K.faults sink.old) }
+    ensures count { K.faults sink.old ≤ K.faults sink.new }
 {
-    let complex = sets.get(node);
-    if point.in_frame() {
-        place_label(complex, &locate(complex, point))
-    } else {
-        Label::Out
-    }
-}
-
-// Whether the command is worked when it comes: each one is, but only questions where all bindings have been worked
-// ahead.
-fn is_worked(command: &Command, ahead: bool) -> bool
-    ensures worked { IsTrue result ↔ IsWorked ahead command.now }
-{
-    !ahead || bound_node(command).is_none()
+    let piece = piece_of(alloc, sets, command, text)?;
+    put_all(sink, piece.as_bytes())?;
+    Ok(())
 }
 
 // Works the command, unless it binds a node and all bindings have been worked ahead, and writes its piece, with a text
@@ -82,75 +73,49 @@ fn work_command<R: Threads + Wait + Sync, K: Sink, G: Gate + Sync>(
     ensures quiet { OnOk result (K.faults sink.new ≡ K.faults sink.old) }
     ensures count { K.faults sink.old ≤ K.faults sink.new }
 {
-    if !is_worked(command, ahead) {
-        return Ok(());
-    }
-    match command {
-        Command::Bind { node, .. } => {
-            let operation = bound_operation(sets.nodes, *node);
-            sets.bind(rt, alloc, *node, operation, means, gate)?;
-            Ok(())
-        }
-        Command::Turn {
-            node,
-            from,
-            turn,
-            ..
-        } => {
-            let operation = turned_operation(sets.nodes, *from, *turn);
-            sets.bind(rt, alloc, *node, operation, means, gate)?;
-            Ok(())
-        }
-        Command::Has { node, point, .. } => {
-            let label = label_at(sets, *node, point);
-            put_all(sink, answer(label))?;
-            Ok(())
-        }
-        Command::Joined {
-            node,
-            first,
-            second,
-            ..
-        } => {
-            let piece = joined_piece(alloc, sets.get(*node), first, second)?;
-            put_all(sink, piece)?;
-            Ok(())
-        }
-        Command::Ray {
-            node,
-            point,
-            dir,
-            ..
-        } => {
-            let piece = ray_piece(alloc, sets.get(*node), point, dir)?;
-            put_all(sink, &piece)?;
-            Ok(())
-        }
-        Command::Same { left, right, .. } => {
-            let same = sets.same(*left, *right);
-            put_all(sink, same_answer(same))?;
-            Ok(())
-        }
-        Command::Count { node, .. } => {
-            let piece = count_piece(alloc, sets.get(*node))?;
-            put_all(sink, &piece)?;
-            Ok(())
-        }
-        Command::Print { node, name, .. } => {
-            let piece = print_piece(alloc, name, sets.get(*node), text)?;
-            put_all(sink, &piece)?;
+    match bound(sets.nodes, command) {
+        None => write_piece(alloc, sets, command, text, sink),
+        Some((node, operation)) => {
+            if ahead {
+                return Ok(());
+            }
+            sets.bind(rt, alloc, node, operation, means, gate)?;
             Ok(())
         }
     }
 }
 
-// Works the commands in order, and writes the piece of each when it is worked. Where all bindings have been worked ahead,
-// the list has the complexes that questions ask about, and else none.
+// The complexes that the work begins with, each at its node's place: where all bindings are worked ahead, those that
+// questions ask about, and else none.
+fn first_complexes<R: Threads + Wait + Sync, G: Gate + Sync>(
+    rt: &R,
+    alloc: Global,
+    script: &Script,
+    ahead: bool,
+    means: &Means,
+    gate: &G,
+) -> Result<Vec<Option<Complex>>, AllocError>
+    requires means { AreMeans means.now }
+    requires within { All (IsWithin (length script.now.nodes)) script.now.commands }
+    requires turned { All (TurnsRight script.now.nodes) script.now.commands }
+    requires bound_before { AreBoundBefore script.now.nodes script.now.commands }
+    ensures count { IfOk result (λ v. vec_len v ≡ length script.now.nodes) }
+    ensures shown { IfOk result (λ v. AreShown script.now.nodes v.items) }
+    ensures asked { IfOk result (λ v. ahead ≡ true → (k : ℕ) → IsAskedAbout script.now.nodes script.now.commands k → IsKept script.now.nodes v.items k) }
+    ensures only { IfOk result (λ v. (k : ℕ) (c : Complex) → slice_get v.items k ≡ Some (Some c) → IsAskedAbout script.now.nodes script.now.commands k) }
+{
+    if ahead {
+        worked_ahead(rt, alloc, script, means, gate)
+    } else {
+        no_complexes(alloc, script.nodes().len())
+    }
+}
+
+// Works the commands in order, and writes the piece of each when it is worked.
 fn work_all<R: Threads + Wait + Sync, K: Sink, G: Gate + Sync>(
     rt: &R,
     alloc: Global,
     script: &Script,
-    list: Vec<Option<Complex>>,
     ahead: bool,
     means: &Means,
     text: TextVersion,
@@ -161,15 +126,12 @@ fn work_all<R: Threads + Wait + Sync, K: Sink, G: Gate + Sync>(
     requires within { All (IsWithin (length script.now.nodes)) script.now.commands }
     requires turned { All (TurnsRight script.now.nodes) script.now.commands }
     requires bound_before { AreBoundBefore script.now.nodes script.now.commands }
-    requires count { vec_len list ≡ length script.now.nodes }
-    requires shown { AreShown script.now.nodes list.items }
-    requires asked { ahead ≡ true → (k : ℕ) → IsAskedAbout script.now.nodes script.now.commands k → IsKept script.now.nodes list.items k }
-    requires only { (k : ℕ) (c : Complex) → slice_get list.items k ≡ Some (Some c) → IsAskedAbout script.now.nodes script.now.commands k }
     ensures done { OnOk result (HasWrittenAll text script.now.nodes script.now.commands (K.written sink.old) (K.written sink.new)) }
     ensures quiet { OnOk result (K.faults sink.new ≡ K.faults sink.old) }
     ensures stopped { IfErr result (λ stop. MatchStop stop (Rose (K.faults sink.old) (K.faults sink.new)) (Unit {0})) }
     ensures front { IfErr result (λ _. FrontOf text script.now.nodes script.now.commands (K.written sink.old) (K.written sink.new)) }
 {
+    let list = first_complexes(rt, alloc, script, ahead, means, gate)?;
     let mut sets = Sets::of(alloc, script, list)?;
     for (now, command) in script.commands().iter().enumerate() {
         work_command(
@@ -204,16 +166,10 @@ pub(crate) fn work<R: Threads + Wait + Sync, K: Sink, G: Gate + Sync>(
         whole: &whole,
         how: options.how,
     };
-    let list = if options.ahead {
-        worked_ahead(rt, alloc, script, &means, gate)?
-    } else {
-        no_complexes(alloc, script.nodes().len())?
-    };
     work_all(
         rt,
         alloc,
         script,
-        list,
         options.ahead,
         &means,
         options.text,

@@ -1,4 +1,4 @@
-use Rattle.std.proofs.Common.{◌≡◌, ◌∙◌, ap, arith, refl, sym, subst, length, drop, slice_get}
+use Rattle.std.proofs.Common.{◌≡◌, ◌∙◌, ap, arith, refl, sym, get_or, Some, length, drop}
 use Rattle.std.proofs.lemmas.List.{length-set}
 use Rattle.std.proofs.lemmas.Option.{slice_get_read, slice_get_within}
 use Rattle.std.proofs.Math.Seq.{take-append_seam}
@@ -15,8 +15,9 @@ put-requires-clause-node c =
 pub put-requires-clause-shows : goal.put-requires-clause-shows
 put-requires-clause-shows c =
     let at = slice_get_read c.args.bindings.now _ c.loop-n.n c.index-bindings-n.result refl (omega arith) c.index-bindings-n.is in
-    let here = sym (c.loop-n.invariant.rest c.loop-n.n (omega arith)) ∙ c.moved_out-complex.ensures.result in
-    result-shows c.args.nodes.now c.args.bindings.now c.args.results.now c.loop-n.n c.index-bindings-n.result c.moved_out-complex.result c.requires.fits at here
+    let seen = slice_get_read c.loop-n.results _ c.loop-n.n c.index-results-n.result refl (let width = c.loop-n.invariant.width in omega arith) c.index-results-n.is ∙ ap Some c.index-results-n.is in
+    let here = sym (c.loop-n.invariant.rest c.loop-n.n (omega arith)) ∙ seen in
+    result-shows c.args.nodes.now c.args.bindings.now c.args.results.now c.loop-n.n c.index-bindings-n.result (get_or c.loop-n.results c.loop-n.n c.index-results-n.result) c.requires.fits at here
 
 pub loop-n-preserved : goal.loop-n-preserved
 loop-n-preserved c =
@@ -25,18 +26,19 @@ loop-n-preserved c =
     let results = c.args.results.now in
     let n = c.loop-n.n in
     let so_far = c.loop-n.invariant in
-    let moved = c.moved_out-complex.ensures in
     let put = c.put.ensures in
     let item = c.index-bindings-n.result in
     let at = slice_get_read bindings _ n item refl (omega arith) c.index-bindings-n.is in
-    let here = sym (so_far.rest n (omega arith)) ∙ moved.result in
+    let outcome = get_or c.loop-n.results n c.index-results-n.result in
+    let seen = slice_get_read c.loop-n.results _ n c.index-results-n.result refl (let width = so_far.width in omega arith) c.index-results-n.is ∙ ap Some c.index-results-n.is in
+    let here = sym (so_far.rest n (omega arith)) ∙ seen in
     record {
       count = put.length ∙ so_far.count;
-      width = ap length moved.rest ∙ (length-set c.loop-n.results n _ ∙ so_far.width);
-      rest = λ m later. subst (λ z. slice_get z m ≡ slice_get results m) (sym moved.rest) (rest-more results c.loop-n.results n so_far.rest m later);
+      width = length-set c.loop-n.results n _ ∙ so_far.width;
+      rest = λ m later. rest-more results c.loop-n.results n _ so_far.rest m later;
       shown = put.shown;
-      there = there-more nodes bindings results c.loop-n.list c.put.new.list n item c.moved_out-complex.result at here put.still put.there so_far.there;
-      only = only-more bindings results c.loop-n.list c.put.new.list n item c.moved_out-complex.result at here put.only so_far.only;
+      there = there-more nodes bindings results c.loop-n.list c.put.new.list n item outcome at here put.still put.there so_far.there;
+      only = only-more bindings results c.loop-n.list c.put.new.list n item outcome at here put.only so_far.only;
     }
 
 pub returns-clause-placed : goal.returns-clause-placed

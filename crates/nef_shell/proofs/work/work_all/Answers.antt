@@ -11,9 +11,14 @@ use Rattle.nef_shell.proofs.Complexes.{stays-kept}
 use Rattle.nef_shell.proofs.Outputs.{output-next, grows-more, front-at, stop-rose, grows_within-none}
 use Rattle.nef_shell.proofs.work.work_all.Goals as goal
 
+pub returns-in_err-list-clause-front : goal.returns-in_err-list-clause-front
+returns-in_err-list-clause-front g c =
+    let p = err_from_is_err_and c.from_residual.result c.from_residual.ensures.1 in
+    rw p.1 (0, [], refl, grows_within-none _)
+
 pub returns-in_err-sets-clause-front : goal.returns-in_err-sets-clause-front
 returns-in_err-sets-clause-front g c =
-    let p = err_from_is_err_and c.from_residual.result c.from_residual.ensures.1 in
+    let p = err_from_is_err_and c.from_residual-in_err-sets.result c.from_residual-in_err-sets.ensures.1 in
     rw p.1 (0, [], refl, grows_within-none _)
 
 pub returns-in_err-work_command-clause-stopped : goal.returns-in_err-work_command-clause-stopped
@@ -151,10 +156,10 @@ loop-now-init g c =
       last = made.last;
       used = made.used;
       lean = λ k within below. absurd (omega arith);
-      only = λ zero k x there. c.requires.only k x (subst (λ z. slice_get z k ≡ Some (Some x)) same there);
+      only = λ zero k x there. c.in_ok-list.ensures.only k x (subst (λ z. slice_get z k ≡ Some (Some x)) same there);
       kept = λ i k d later found works looks. elim (true-or-false c.args.ahead) [
-        | inl e ↦ inl (subst (λ z. IsKept nodes z k) (sym same) (c.requires.asked e k (i, d, found, works e, looks)))
+        | inl e ↦ inl (subst (λ z. IsKept nodes z k) (sym same) (c.in_ok-list.ensures.asked e k (i, d, found, works e, looks)))
         | inr e ↦ let (j, b, low, seen, binds) = c.requires.bound_before i d found k looks in inr (e, j, b, omega arith, low, seen, binds)
       ];
-      shown = subst (λ z. AreShown nodes z) (sym same) c.requires.shown;
+      shown = subst (λ z. AreShown nodes z) (sym same) c.in_ok-list.ensures.shown;
     }
