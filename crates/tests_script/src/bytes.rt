@@ -1,110 +1,153 @@
 //! Bytes from sources and into sinks, and reads and writes that fail.
 
+use crate::same::{check, check_bytes};
 use nef_io::{
-    Failed, FromReader, Gate, INPUT_LIMIT, IntoWriter, MemSink, MemSource, OpenGate, ReadAll,
-    SureSink, SureSource, put_all, read_all,
+    Failed, FromReader, Gate, INPUT_LIMIT, IntoWriter, MemSink, MemSource, OpenGate, OutOfMemory,
+    ReadAll, Sink, Source, SureSink, SureSource, put_all, read_all,
 };
+use std::alloc::Global;
+use std::process::Abort;
 use std::test::Fail;
 
 // Two half-spaces and a question to each.
 const SCRIPT: &str = "half A 1 0 0 0 closed\nhas A 0 0 0 1\nhalf B 1 0 0 0 open\nhas B 0 0 0 1\n";
 
-#[test]
-fn sure_bytes(rt: HostRuntime) -> Result<(), Fail> {
-    let mut source = SureSource::new(rt.alloc(), SCRIPT.as_bytes())?;
-    let bytes = read_all(rt.alloc(), &mut source).expect(&rt, "the source never fails");
-    assert_eq!(rt; bytes.as_slice(), SCRIPT.as_bytes());
+// Stops the test where the source does not give the script.
+fn check_script<S: Source>(rt: &impl Abort, alloc: Global, source: &mut S) {
+    let bytes = read_all(alloc, source).expect(rt, "no read fails");
+    check_bytes(rt, bytes.as_slice(), SCRIPT.as_bytes(), "the script");
+}
 
+#[test]
+fn sure_source(rt: HostRuntime) -> Result<(), Fail> {
+    let mut source = SureSource::new(rt.alloc(), SCRIPT.as_bytes())?;
+    check_script(&rt, rt.alloc(), &mut source);
+    Ok(())
+}
+
+// Stops the test where the sink does not take the piece.
+fn check_put<K: Sink>(rt: &impl Abort, sink: &mut K, piece: &str) {
+    check(rt, &put_all(sink, piece.as_bytes()), &Ok(()), piece);
+}
+
+// Stops the test where the sink takes the whole piece.
+fn check_refused<K: Sink>(rt: &impl Abort, sink: &mut K, piece: &str) {
+    check(rt, &put_all(sink, piece.as_bytes()), &Err(Failed), piece);
+}
+
+// The second of the three pieces does not fit.
+#[test]
+fn sure_sink(rt: HostRuntime) {
     let mut room = [0u8; 8];
     let mut sink = SureSink::new(&mut room);
-    assert_eq!(rt; put_all(&mut sink, b"in\n"), Ok(()));
-    assert_eq!(rt;
-        put_all(&mut sink, b"not in\n"),
-        Ok(()),
-        "a piece that does not fit"
-    );
-    assert_eq!(rt; put_all(&mut sink, b"not\n"), Ok(()));
-    assert_eq!(rt; sink.kept(), b"in\nnot\n".as_slice());
+    check_put(&rt, &mut sink, "in\n");
+    check_put(&rt, &mut sink, "not in\n");
+    check_put(&rt, &mut sink, "not\n");
+    check_bytes(&rt, sink.kept(), b"in\nnot\n", "what fits");
     OpenGate.before(0, true);
-    Ok(())
+}
+
+// How many bytes the source gives.
+fn length_read<S: Source>(alloc: Global, source: &mut S) -> Result<usize, ReadAll> {
+    let bytes = read_all(alloc, source)?;
+    Ok(bytes.len())
+}
+
+// How many line feeds are read where there are so many.
+fn feeds_read(alloc: Global, count: usize) -> Result<Result<usize, ReadAll>, OutOfMemory> {
+    let feeds = vec![in alloc; b'\n'; count]?;
+    let mut source = SureSource::new(alloc, &feeds)?;
+    Ok(length_read(alloc, &mut source))
 }
 
 #[test]
 fn longest_input(rt: HostRuntime) -> Result<(), Fail> {
-    let longest = vec![in rt.alloc(); b'\n'; INPUT_LIMIT]?;
-    let mut source = SureSource::new(rt.alloc(), &longest)?;
-    let bytes = read_all(rt.alloc(), &mut source).expect(&rt, "it has the greatest length");
-    assert_eq!(rt; bytes.len(), 1_048_576);
-
-    let longer = vec![in rt.alloc(); b'\n'; INPUT_LIMIT + 1]?;
-    let mut source = SureSource::new(rt.alloc(), &longer)?;
-    assert!(rt; matches!(read_all(rt.alloc(), &mut source), Err(ReadAll::TooLong)));
+    let longest = feeds_read(rt.alloc(), INPUT_LIMIT)?;
+    check(&rt, &longest, &Ok(1_048_576), "the longest input");
+    let longer = feeds_read(rt.alloc(), INPUT_LIMIT + 1)?;
+    check(&rt, &longer, &Err(ReadAll::TooLong), "a longer one");
     Ok(())
 }
 
 #[test]
-fn from_reader(rt: HostRuntime) -> Result<(), Fail> {
+fn from_reader(rt: HostRuntime) {
     let mut source = FromReader::new(SCRIPT.as_bytes());
-    let bytes = read_all(rt.alloc(), &mut source).expect(&rt, "the bytes are there");
-    assert_eq!(rt; bytes.as_slice(), SCRIPT.as_bytes());
-    Ok(())
+    check_script(&rt, rt.alloc(), &mut source);
+}
+
+fn written(alloc: Global) -> Result<Vec<u8>, Failed> {
+    let mut bytes = Vec::new(alloc);
+    let mut sink = IntoWriter::new(&mut bytes);
+    put_all(&mut sink, b"in\n")?;
+    put_all(&mut sink, b"not\n")?;
+    drop(sink);
+    Ok(bytes)
 }
 
 #[test]
 fn into_writer(rt: HostRuntime) -> Result<(), Fail> {
-    let mut bytes = Vec::new(rt.alloc());
-    let mut sink = IntoWriter::new(&mut bytes);
-    assert_eq!(rt; put_all(&mut sink, b"in\n"), Ok(()));
-    assert_eq!(rt; put_all(&mut sink, b"not\n"), Ok(()));
-    drop(sink);
-    assert_eq!(rt; bytes.as_slice(), b"in\nnot\n".as_slice());
+    let bytes = written(rt.alloc())?;
+    check_bytes(&rt, bytes.as_slice(), b"in\nnot\n", "two pieces");
+    Ok(())
+}
 
+#[test]
+fn into_full_writer(rt: HostRuntime) {
     let mut full = [0u8; 0];
     let mut sink = IntoWriter::new(full.as_mut_slice());
-    assert_eq!(rt;
-        put_all(&mut sink, b"in\n"),
-        Err(Failed),
-        "a writer that takes nothing"
-    );
+    check_refused(&rt, &mut sink, "in\n");
+}
+
+// The script read ten bytes at a time, where the read of this number fails.
+fn failing_at(alloc: Global, number: u64) -> Result<MemSource, OutOfMemory> {
+    MemSource::new(alloc, SCRIPT.as_bytes(), 10, &[number])
+}
+
+fn check_failing(rt: &impl Abort, alloc: Global, number: u64) -> Result<(), OutOfMemory> {
+    let mut source = failing_at(alloc, number)?;
+    let read = length_read(alloc, &mut source);
+    check(rt, &read, &Err(ReadAll::ReadFault), "a read that fails");
     Ok(())
 }
 
 // The script has 70 bytes, so that seven reads of ten give it, and the eighth finds the end.
 #[test]
 fn failing_reads(rt: HostRuntime) -> Result<(), Fail> {
-    for number in 1..=9u64 {
-        let mut source = MemSource::new(rt.alloc(), SCRIPT.as_bytes(), 10, &[number])?;
-        let read = read_all(rt.alloc(), &mut source);
-        if number <= 8 {
-            assert!(rt; matches!(read, Err(ReadAll::ReadFault)), "read {number}");
-        } else {
-            let bytes = read.expect(&rt, "no read fails");
-            assert_eq!(rt; bytes.as_slice(), SCRIPT.as_bytes());
-        }
+    for number in 1..=8u64 {
+        check_failing(&rt, rt.alloc(), number)?;
     }
     Ok(())
 }
 
 #[test]
-fn failing_writes(rt: HostRuntime) -> Result<(), Fail> {
+fn reads_before_the_failing_one(rt: HostRuntime) -> Result<(), Fail> {
+    let mut source = failing_at(rt.alloc(), 9)?;
+    check_script(&rt, rt.alloc(), &mut source);
+    Ok(())
+}
+
+// Five bytes are written at a time, and the second write fails.
+#[test]
+fn failing_write(rt: HostRuntime) -> Result<(), Fail> {
     let mut sink = MemSink::new(rt.alloc(), 64, 5, &[2])?;
-    assert_eq!(rt;
-        put_all(&mut sink, b"line 1: unknown command\n"),
-        Err(Failed)
-    );
-    assert_eq!(rt; sink.taken(), b"line ".as_slice());
+    check_refused(&rt, &mut sink, "line 1: unknown command\n");
+    check_bytes(&rt, sink.taken(), b"line ", "before the failing write");
+    Ok(())
+}
 
+#[test]
+fn no_room_left(rt: HostRuntime) -> Result<(), Fail> {
     let mut sink = MemSink::new(rt.alloc(), 3, 64, &[])?;
-    assert_eq!(rt; put_all(&mut sink, b"in\n"), Ok(()));
-    assert_eq!(rt;
-        put_all(&mut sink, b"not\n"),
-        Err(Failed),
-        "no room is left"
-    );
-    assert_eq!(rt; sink.taken(), b"in\n".as_slice());
+    check_put(&rt, &mut sink, "in\n");
+    check_refused(&rt, &mut sink, "not\n");
+    check_bytes(&rt, sink.taken(), b"in\n", "what there is room for");
+    Ok(())
+}
 
+#[test]
+fn writes_before_the_failing_one(rt: HostRuntime) -> Result<(), Fail> {
     let mut sink = MemSink::new(rt.alloc(), 64, 1, &[8])?;
-    assert_eq!(rt; put_all(&mut sink, b"in\nnot\n"), Ok(()));
-    assert_eq!(rt; sink.taken(), b"in\nnot\n".as_slice());
+    check_put(&rt, &mut sink, "in\nnot\n");
+    check_bytes(&rt, sink.taken(), b"in\nnot\n", "seven writes");
     Ok(())
 }

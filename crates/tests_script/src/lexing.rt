@@ -1,110 +1,125 @@
 //! Lines, words, numbers and names.
 
-use nef_lex::{NumberWord, is_name, lines, whole_number, words};
+use crate::same::{check, check_bytes, check_text};
+use nef_lex::{Line, is_name, lines, whole_number, words};
+use std::alloc::{AllocError, Global};
+use std::process::Abort;
 use std::test::Fail;
 
-#[test]
-fn lines_of_scripts(rt: HostRuntime) {
-    let scripts: [(&[u8], &[&[u8]]); 9] = [
-        (b"", &[]),
-        (b"\n", &[b""]),
-        (b"a", &[b"a"]),
-        (b"a\nb\n", &[b"a", b"b"]),
-        (b"a\n\nb", &[b"a", b"", b"b"]),
-        (b"a # b\r\n# c\r", &[b"a # b", b"# c"]),
-        (b"a\r\r\n", &[b"a\r"]),
-        (b"a\rb\n\r", &[b"a\rb", b""]),
-        (b"\n\n", &[b"", b""]),
-    ];
-    for (script, want) in scripts {
-        let mut left = lines(script);
-        for (i, text) in want.iter().enumerate() {
-            let line = left.next();
-            assert!(rt; line.is_some(), "line {i} of {script:?}");
-            if let Some(line) = line {
-                assert_eq!(rt; line.text, *text);
-                assert_eq!(rt; line.number, i as u64 + 1);
-            }
-        }
-        assert!(rt; left.next().is_none(), "no more lines of {script:?}");
+// Scripts, and the lines of each: their texts, with a bar after each.
+const LINES: &str = " => ;\
+\n => |;\
+a => a|;\
+a\nb\n => a|b|;\
+a\n\nb => a||b|;\
+a # b\r\n# c\r => a # b|# c|;\
+a\r\r\n => a\r|;\
+a\rb\n\r => a\rb||;\
+\n\n => ||";
+
+// Lines, and the words of each, with a bar after each.
+const WORDS: &str = " => ;\
+\x20\t  => ;\
+# and a b => ;\
+has A 0 0 0 1 => has|A|0|0|0|1|;\
+\tand  C\tA B  => and|C|A|B|;\
+not N A#B # C => not|N|A|";
+
+const NUMBERS: &str = "0 => Value(0)
+-0 => Value(0)
+007 => Value(7)
+-12 => Value(-12)
+4611686018427387904 => Value(4611686018427387904)
+-4611686018427387904 => Value(-4611686018427387904)
+0000000000000000000000000000000000000001 => Value(1)
+4611686018427387905 => Beyond
+-99999999999999999999999999999999999999 => Beyond
+ => NotOne
+- => NotOne
+--1 => NotOne
++1 => NotOne
+1a => NotOne
+99999999999999999999999999999999999999x => NotOne";
+
+const NAMES: &str = "A
+_
+half
+b1_Z
+abcdefghijklmnopqrstuvwxyz_01234";
+
+const OTHER_WORDS: &str = "abcdefghijklmnopqrstuvwxyz_012345
+
+1b
+a-b
+\u{e9}";
+
+fn numbered(line: Option<Line<'_>>) -> Option<(u64, &[u8])> {
+    let line = line?;
+    Some((line.number, line.text))
+}
+
+fn check_line(rt: &impl Abort, line: Option<Line<'_>>, number: u64, text: &str) {
+    let wanted = Some((number, text.as_bytes()));
+    check(rt, &numbered(line), &wanted, text);
+}
+
+fn check_lines(rt: &impl Abort, script: &str, texts: &str) {
+    let mut left = lines(script.as_bytes());
+    for (i, text) in texts.split_terminator('|').enumerate() {
+        check_line(rt, left.next(), i as u64 + 1, text);
     }
+    check(rt, &left.next().is_some(), &false, script);
+}
+
+#[test]
+fn lines_of_scripts(rt: HostRuntime) -> Result<(), Fail> {
+    for row in LINES.split(';') {
+        let (script, texts) = row.split_once(" => ").ok_or("a row")?;
+        check_lines(&rt, script, texts);
+    }
+    Ok(())
+}
+
+// The words, with a bar after each.
+fn joined_words(alloc: Global, line: &str) -> Result<Vec<u8>, AllocError> {
+    let mut joined = Vec::new(alloc);
+    for word in words(alloc, line.as_bytes())? {
+        joined.extend_from_slice(word)?;
+        joined.push(b'|')?;
+    }
+    Ok(joined)
 }
 
 #[test]
 fn words_of_lines(rt: HostRuntime) -> Result<(), Fail> {
-    let texts: [(&[u8], &[u8]); 6] = [
-        (b"", b""),
-        (b" \t ", b""),
-        (b"# and a b", b""),
-        (b"has A 0 0 0 1", b"has|A|0|0|0|1|"),
-        (b"\tand  C\tA B ", b"and|C|A|B|"),
-        (b"not N A#B # C", b"not|N|A|"),
-    ];
-    for (line, want) in texts {
-        let mut joined = Vec::new(rt.alloc());
-        for word in words(rt.alloc(), line)? {
-            joined.extend_from_slice(word)?;
-            joined.push(b'|')?;
-        }
-        assert_eq!(rt; joined.as_slice(), want);
+    for row in WORDS.split(';') {
+        let (line, wanted) = row.split_once(" => ").ok_or("a row")?;
+        let joined = joined_words(rt.alloc(), line)?;
+        check_bytes(&rt, joined.as_slice(), wanted.as_bytes(), line);
+    }
+    Ok(())
+}
+
+fn number_text(alloc: Global, word: &str) -> Result<String, AllocError> {
+    format!(in alloc; "{:?}", whole_number(word.as_bytes()))
+}
+
+#[test]
+fn numbers(rt: HostRuntime) -> Result<(), Fail> {
+    for row in NUMBERS.split('\n') {
+        let (word, wanted) = row.split_once(" => ").ok_or("a row")?;
+        let number = number_text(rt.alloc(), word)?;
+        check_text(&rt, number.as_str(), wanted, word);
     }
     Ok(())
 }
 
 #[test]
-fn numbers(rt: HostRuntime) {
-    let words: [(&[u8], NumberWord); 15] = [
-        (b"0", NumberWord::Value(0)),
-        (b"-0", NumberWord::Value(0)),
-        (b"007", NumberWord::Value(7)),
-        (b"-12", NumberWord::Value(-12)),
-        (
-            b"4611686018427387904",
-            NumberWord::Value(4611686018427387904),
-        ),
-        (
-            b"-4611686018427387904",
-            NumberWord::Value(-4611686018427387904),
-        ),
-        (
-            b"0000000000000000000000000000000000000001",
-            NumberWord::Value(1),
-        ),
-        (b"4611686018427387905", NumberWord::Beyond),
-        (
-            b"-99999999999999999999999999999999999999",
-            NumberWord::Beyond,
-        ),
-        (b"", NumberWord::NotOne),
-        (b"-", NumberWord::NotOne),
-        (b"--1", NumberWord::NotOne),
-        (b"+1", NumberWord::NotOne),
-        (b"1a", NumberWord::NotOne),
-        (
-            b"99999999999999999999999999999999999999x",
-            NumberWord::NotOne,
-        ),
-    ];
-    for (word, want) in words {
-        assert_eq!(rt; whole_number(word), want, "at {word:?}");
-    }
-}
-
-#[test]
 fn names(rt: HostRuntime) {
-    let words: [(&[u8], bool); 10] = [
-        (b"A", true),
-        (b"_", true),
-        (b"half", true),
-        (b"b1_Z", true),
-        (b"abcdefghijklmnopqrstuvwxyz_01234", true),
-        (b"abcdefghijklmnopqrstuvwxyz_012345", false),
-        (b"", false),
-        (b"1b", false),
-        (b"a-b", false),
-        (b"\xc3\xa9", false),
-    ];
-    for (word, want) in words {
-        assert_eq!(rt; is_name(word), want, "at {word:?}");
+    for word in NAMES.split('\n') {
+        check(&rt, &is_name(word.as_bytes()), &true, word);
+    }
+    for word in OTHER_WORDS.split('\n') {
+        check(&rt, &is_name(word.as_bytes()), &false, word);
     }
 }

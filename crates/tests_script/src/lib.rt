@@ -13,4 +13,6 @@ mod lexing;
 #[cfg(test)]
 mod options;
 #[cfg(test)]
+mod same;
+#[cfg(test)]
 mod scripts;

@@ -1,204 +1,151 @@
 //! Words of the command line that are accepted or refused.
 
-ghost use Rattle.std.specs.Prelude.{◌≤◌};
-
-use nef_core::{BoardKind, How, TextVersion};
+use crate::same::{check, check_text};
 use nef_words::{Options, WordsFault, line_words, read_words};
 use std::alloc::{AllocError, Global};
 use std::io::{Error, ErrorKind};
+use std::process::Abort;
 use std::test::Fail;
 
-fn read(alloc: Global, words: &[&str]) -> Result<Result<Options, WordsFault>, AllocError> {
+// Words, with a bar after each, and what they choose: how many workers over which board, how many boxes of the generated
+// script, the version of the texts, and whether statements may run ahead.
+const ACCEPTED: &str = " => 1 Lock None One false
+--workers|2| => 2 Lock None One false
+--workers=2| => 2 Lock None One false
+--workers|1| => 1 Lock None One false
+--workers|64| => 64 Lock None One false
+--workers|007| => 7 Lock None One false
+--board|lock| => 1 Lock None One false
+--board|free| => 1 Free None One false
+--board=free|--workers|3| => 3 Free None One false
+--stairs|1| => 1 Lock Some(1) One false
+--stairs|32| => 1 Lock Some(32) One false
+--stairs|007| => 1 Lock Some(7) One false
+--stairs=5| => 1 Lock Some(5) One false
+--stairs=2|--board|free|--workers|3| => 3 Free Some(2) One false
+--text|1| => 1 Lock None One false
+--text=2| => 1 Lock None Two false
+--ahead|--workers|2| => 2 Lock None One true";
+
+const REFUSED_NUMBERS: &str = "--workers|0|
+--workers|000|
+--workers|65|
+--workers|340282366920938463463374607431768211457|
+--workers|two|
+--workers||
+--workers|-1|
+--workers|+1|
+--workers|1.0|
+--workers| 1|
+--workers|0x1|
+--stairs|0|
+--stairs|33|
+--stairs|340282366920938463463374607431768211457|
+--stairs||
+--stairs|x|
+--stairs|-1|
+--text|0|
+--text|3|
+--text|02|
+--text||
+--text|two|";
+
+const REFUSED_WORDS: &str = "--help|
+-h|
+--version|
+-V|
+--workers=|
+--board=|
+--workers|
+x|
+-w|
+--stairs|
+--stairs=|
+--stair=2|
+--stairs|2|--stairs|2|
+--stairs|--workers|2|
+--board|both|
+--board|Lock|
+--colour|red|
+--workers|2|--workers|3|
+--workers|2|x|
+--ahead=true|
+--ahead|true|
+--ahead|--ahead|";
+
+fn owned_words(alloc: Global, words: &str) -> Result<Vec<String>, AllocError> {
     let mut owned = Vec::new(alloc);
-    for word in words {
+    for word in words.split_terminator('|') {
         owned.push(String::from_str(alloc, word)?)?;
     }
+    Ok(owned)
+}
+
+fn read(alloc: Global, words: &str) -> Result<Result<Options, WordsFault>, AllocError> {
+    let owned = owned_words(alloc, words)?;
     Ok(read_words(alloc, owned.as_slice()))
 }
 
-fn options(workers: u32, board: BoardKind) -> Result<Options, WordsFault>
-    requires { (1 ≤ workers) × (workers ≤ 64) }
-{
-    Ok(Options {
-        how: How { workers, board },
-        stairs: None,
-        text: TextVersion::One,
-        ahead: false,
-    })
+fn options_text(alloc: Global, options: &Options) -> Result<String, AllocError> {
+    let (workers, board) = (options.how.workers, options.how.board);
+    let (stairs, text, ahead) = (options.stairs, options.text, options.ahead);
+    format!(in alloc; "{workers} {board:?} {stairs:?} {text:?} {ahead}")
 }
 
-// The options of one worker, with so many boxes of the generated script.
-fn boxes(count: u32) -> Result<Options, WordsFault> {
-    let workers = 1;
-    let board = BoardKind::Lock;
-    Ok(Options {
-        how: How { workers, board },
-        stairs: Some(count),
-        text: TextVersion::One,
-        ahead: false,
-    })
+// The options, or the fault.
+fn answer(alloc: Global, read: &Result<Options, WordsFault>) -> Result<String, AllocError> {
+    match read {
+        Ok(options) => options_text(alloc, options),
+        Err(fault) => format!(in alloc; "{fault:?}"),
+    }
 }
 
 #[test]
 fn accepted_words(rt: HostRuntime) -> Result<(), Fail> {
-    let alloc = rt.alloc();
-    let lock = BoardKind::Lock;
-    assert_eq!(rt; read(alloc, &[])?, options(1, lock));
-    assert_eq!(rt; read(alloc, &["--workers", "2"])?, options(2, lock));
-    assert_eq!(rt; read(alloc, &["--workers=2"])?, options(2, lock));
-    assert_eq!(rt; read(alloc, &["--workers", "1"])?, options(1, lock));
-    assert_eq!(rt; read(alloc, &["--workers", "64"])?, options(64, lock));
-    assert_eq!(rt; read(alloc, &["--workers", "007"])?, options(7, lock));
-    assert_eq!(rt; read(alloc, &["--board", "lock"])?, options(1, lock));
-    assert_eq!(rt;
-        read(alloc, &["--board", "free"])?,
-        options(1, BoardKind::Free)
-    );
-    let both = ["--board=free", "--workers", "3"];
-    assert_eq!(rt; read(alloc, &both)?, options(3, BoardKind::Free));
-    Ok(())
-}
-
-#[test]
-fn refused_numbers(rt: HostRuntime) -> Result<(), Fail> {
-    let huge = "340282366920938463463374607431768211457";
-    for number in [
-        "0", "000", "65", huge, "two", "", "-1", "+1", "1.0", " 1", "0x1",
-    ] {
-        let words = ["--workers", number];
-        assert_eq!(rt;
-            read(rt.alloc(), &words)?,
-            Err(WordsFault::Refused),
-            "{number}"
-        );
+    for row in ACCEPTED.split('\n') {
+        let (words, wanted) = row.split_once(" => ").ok_or("a row")?;
+        let found = answer(rt.alloc(), &read(rt.alloc(), words)?)?;
+        check_text(&rt, found.as_str(), wanted, words);
     }
     Ok(())
 }
 
-#[test]
-fn accepted_stairs(rt: HostRuntime) -> Result<(), Fail> {
-    let alloc = rt.alloc();
-    assert_eq!(rt; read(alloc, &["--stairs", "1"])?, boxes(1));
-    assert_eq!(rt; read(alloc, &["--stairs", "32"])?, boxes(32));
-    assert_eq!(rt; read(alloc, &["--stairs", "007"])?, boxes(7));
-    assert_eq!(rt; read(alloc, &["--stairs=5"])?, boxes(5));
-    let all = ["--stairs=2", "--board", "free", "--workers", "3"];
-    let (workers, board) = (3, BoardKind::Free);
-    let chosen = Options {
-        how: How { workers, board },
-        stairs: Some(2),
-        text: TextVersion::One,
-        ahead: false,
-    };
-    assert_eq!(rt; read(alloc, &all)?, Ok(chosen));
-    Ok(())
-}
-
-#[test]
-fn refused_stairs(rt: HostRuntime) -> Result<(), Fail> {
-    let alloc = rt.alloc();
-    let refused = Err(WordsFault::Refused);
-    let huge = "340282366920938463463374607431768211457";
-    for number in ["0", "33", huge, "", "x", "-1"] {
-        let words = ["--stairs", number];
-        assert_eq!(rt; read(alloc, &words)?, refused, "{number}");
+fn check_refused(rt: &impl Abort, alloc: Global, table: &str) -> Result<(), Fail> {
+    for words in table.split('\n') {
+        check(rt, &read(alloc, words)?, &Err(WordsFault::Refused), words);
     }
-    for word in ["--stairs", "--stairs=", "--stair=2"] {
-        assert_eq!(rt; read(alloc, &[word])?, refused, "{word}");
-    }
-    let twice = ["--stairs", "2", "--stairs", "2"];
-    assert_eq!(rt; read(alloc, &twice)?, refused);
-    assert_eq!(rt; read(alloc, &["--stairs", "--workers", "2"])?, refused);
     Ok(())
 }
 
 #[test]
 fn refused_words(rt: HostRuntime) -> Result<(), Fail> {
-    let alloc = rt.alloc();
-    let refused = Err(WordsFault::Refused);
-    for word in [
-        "--help",
-        "-h",
-        "--version",
-        "-V",
-        "--workers=",
-        "--board=",
-        "--workers",
-        "x",
-        "-w",
-    ] {
-        assert_eq!(rt; read(alloc, &[word])?, refused, "{word}");
+    check_refused(&rt, rt.alloc(), REFUSED_NUMBERS)?;
+    check_refused(&rt, rt.alloc(), REFUSED_WORDS)
+}
+
+// What the words of a line say, with a bar after each.
+fn read_line(alloc: Global, words: &str) -> Result<String, AllocError> {
+    let line = Ok(owned_words(alloc, words)?);
+    match line_words(&line) {
+        Ok(words) => answer(alloc, &read_words(alloc, words)),
+        Err(fault) => format!(in alloc; "{fault:?}"),
     }
-    assert_eq!(rt; read(alloc, &["--board", "both"])?, refused);
-    assert_eq!(rt; read(alloc, &["--board", "Lock"])?, refused);
-    assert_eq!(rt; read(alloc, &["--colour", "red"])?, refused);
-    assert_eq!(rt;
-        read(alloc, &["--workers", "2", "--workers", "3"])?,
-        refused
-    );
-    assert_eq!(rt; read(alloc, &["--workers", "2", "x"])?, refused);
-    Ok(())
+}
+
+// The fault of a line that could not be read.
+fn line_fault(kind: ErrorKind) -> Option<WordsFault> {
+    let line = Err(Error::from(kind));
+    line_words(&line).err()
 }
 
 #[test]
 fn words_of_a_line(rt: HostRuntime) -> Result<(), Fail> {
-    let mut line = Vec::new(rt.alloc());
-    for word in ["nef", "--stairs", "3"] {
-        line.push(String::from_str(rt.alloc(), word)?)?;
-    }
-    let given = Ok(line);
-    match line_words(&given) {
-        Ok(words) => assert_eq!(rt; read_words(rt.alloc(), words), boxes(3)),
-        Err(_) => panic!(rt; "the words are text"),
-    }
-    let unreadable = Err(Error::from(ErrorKind::InvalidData));
-    assert_eq!(rt; line_words(&unreadable).err(), Some(WordsFault::Refused));
-    let unheld = Err(Error::from(ErrorKind::OutOfMemory));
-    assert_eq!(rt; line_words(&unheld).err(), Some(WordsFault::OutOfMemory));
-    Ok(())
-}
-
-// The options of one worker, with texts of this version.
-fn texts(text: TextVersion) -> Result<Options, WordsFault> {
-    let workers = 1;
-    let board = BoardKind::Lock;
-    Ok(Options {
-        how: How { workers, board },
-        stairs: None,
-        text,
-        ahead: false,
-    })
-}
-
-#[test]
-fn text_versions(rt: HostRuntime) -> Result<(), Fail> {
-    let alloc = rt.alloc();
-    assert_eq!(rt; read(alloc, &["--text", "1"])?, texts(TextVersion::One));
-    assert_eq!(rt; read(alloc, &["--text=2"])?, texts(TextVersion::Two));
-    for word in ["0", "3", "02", "", "two"] {
-        assert_eq!(rt;
-            read(alloc, &["--text", word])?,
-            Err(WordsFault::Refused),
-            "{word}"
-        );
-    }
-    Ok(())
-}
-
-#[test]
-fn ahead(rt: HostRuntime) -> Result<(), Fail> {
-    let alloc = rt.alloc();
-    let refused = Err(WordsFault::Refused);
-    let (workers, board) = (2, BoardKind::Lock);
-    let chosen = Options {
-        how: How { workers, board },
-        stairs: None,
-        text: TextVersion::One,
-        ahead: true,
-    };
-    assert_eq!(rt; read(alloc, &["--ahead", "--workers", "2"])?, Ok(chosen));
-    assert_eq!(rt; read(alloc, &["--ahead=true"])?, refused);
-    assert_eq!(rt; read(alloc, &["--ahead", "true"])?, refused);
-    assert_eq!(rt; read(alloc, &["--ahead", "--ahead"])?, refused);
+    let words = "nef|--stairs|3|";
+    let found = read_line(rt.alloc(), words)?;
+    check_text(&rt, found.as_str(), "1 Lock Some(3) One false", words);
+    let unreadable = line_fault(ErrorKind::InvalidData);
+    check(&rt, &unreadable, &Some(WordsFault::Refused), "no text");
+    let unheld = line_fault(ErrorKind::OutOfMemory);
+    check(&rt, &unheld, &Some(WordsFault::OutOfMemory), "no memory");
     Ok(())
 }
