@@ -1,7 +1,7 @@
 //! The frame's complexes compared. Each function makes one of them: what one that makes several lets go costs minutes of
 //! proving.
 
-ghost use Rattle.std.specs.Prelude.{◌≡◌, ◌∷◌, [], IfOk};
+ghost use Rattle.std.specs.Prelude.{◌≡◌, ◌<◌, ◌∷◌, [], IfOk};
 ghost use Rattle.nef_space.specs.Sets.{Set};
 ghost use Rattle.nef_complex.specs.Complexes.{ShowsSet};
 ghost use Rattle.nef_expr.specs.declared.nodes.Node.TheVariants as variant;
@@ -21,11 +21,15 @@ fn has_bare_frame(alloc: Global, c: &Complex) -> Result<bool, OutOfMemory> {
     Ok(same_vertices(c, &other))
 }
 
+fn check_bare(rt: &impl Abort, alloc: Global, c: &Complex) -> Result<(), Fail> {
+    assert!(rt; has_bare_frame(alloc, c)?);
+    Ok(())
+}
+
 #[test]
 fn the_empty_set_twice(rt: HostRuntime) -> Result<(), Fail> {
     let first = frame(rt.alloc(), Label::Not)?;
-    assert!(rt; has_bare_frame(rt.alloc(), &first)?);
-    Ok(())
+    check_bare(&rt, rt.alloc(), &first)
 }
 
 // The empty set alone.
@@ -47,32 +51,38 @@ fn right_nodes(alloc: Global) -> Result<Nodes, OutOfMemory>
     Ok(nodes)
 }
 
-fn is_whole(
+// Whether the empty set of the one list is the set with this number of the other.
+fn is_same(
     alloc: Global,
     left: &Nodes,
     first: &Complex,
     right: &Nodes,
+    number: usize,
 ) -> Result<bool, OutOfMemory>
     requires left { left.now ≡ variant.Empty ∷ [] }
     requires first { ShowsSet Set.empty first.now }
     requires right { right.now ≡ variant.Full ∷ variant.Empty ∷ [] }
+    requires within { number < 2 }
 {
-    let whole = frame(alloc, Label::In)?;
-    Ok(compare(left, 0, first, right, 0, &whole))
+    let label = if number == 0 { Label::In } else { Label::Not };
+    let second = frame(alloc, label)?;
+    Ok(compare(left, 0, first, right, number, &second))
 }
 
-fn is_empty(
+fn check_first(
+    rt: &impl Abort,
     alloc: Global,
     left: &Nodes,
     first: &Complex,
     right: &Nodes,
-) -> Result<bool, OutOfMemory>
+) -> Result<(), Fail>
     requires left { left.now ≡ variant.Empty ∷ [] }
     requires first { ShowsSet Set.empty first.now }
     requires right { right.now ≡ variant.Full ∷ variant.Empty ∷ [] }
 {
-    let second = frame(alloc, Label::Not)?;
-    Ok(compare(left, 0, first, right, 1, &second))
+    assert!(rt; !is_same(alloc, left, first, right, 0)?);
+    assert!(rt; is_same(alloc, left, first, right, 1)?);
+    Ok(())
 }
 
 fn check_nodes(rt: &impl Abort, alloc: Global, left: &Nodes, right: &Nodes) -> Result<(), Fail>
@@ -80,9 +90,7 @@ fn check_nodes(rt: &impl Abort, alloc: Global, left: &Nodes, right: &Nodes) -> R
     requires right { right.now ≡ variant.Full ∷ variant.Empty ∷ [] }
 {
     let first = frame(alloc, Label::Not)?;
-    assert!(rt; !is_whole(alloc, left, &first, right)?);
-    assert!(rt; is_empty(alloc, left, &first, right)?);
-    Ok(())
+    check_first(rt, alloc, left, &first, right)
 }
 
 // The empty set of one list against both nodes of another.

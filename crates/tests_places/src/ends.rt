@@ -10,7 +10,7 @@ ghost use Rattle.nef_geo.specs.Shapes.{vector_of, place_of};
 ghost use Rattle.nef_complex.specs.Complexes.{ShowsSet};
 
 use crate::tables::check_table;
-use crate::words::{framed_point, is_within, label_word};
+use crate::words::{is_within, label_word};
 use nef_complex::Complex;
 use nef_geo::{Dir, Point};
 use nef_ray::ray_end;
@@ -41,9 +41,11 @@ fn is_way(d: &Dir) -> bool
         && is_within(d.z(), GREATEST_WAY)
 }
 
-fn way(x: i64, y: i64, z: i64) -> Result<Dir, &'static str>
+/// The direction, if its numbers are small enough.
+pub(crate) fn way(along: &[i64; 3]) -> Result<Dir, &'static str>
     ensures small { IfOk result (λ d. IsAtMost ray_direction_limit (vector_of d)) }
 {
+    let [x, y, z] = *along;
     if !is_within(x, GREATEST_WAY) || !is_within(y, GREATEST_WAY) || !is_within(z, GREATEST_WAY) {
         return Err("a direction too large");
     }
@@ -55,7 +57,8 @@ fn way(x: i64, y: i64, z: i64) -> Result<Dir, &'static str>
     }
 }
 
-fn end_text(alloc: Global, c: &Complex, p: &Point, d: &Dir) -> Result<String, Fail>
+/// Where the ray from the point along the direction ends.
+pub(crate) fn end_text(alloc: Global, c: &Complex, p: &Point, d: &Dir) -> Result<String, Fail>
     requires shows { (s : Set) × ShowsSet s c.now }
     requires small { IsAtMost ray_direction_limit (vector_of d.now) }
 {
@@ -70,19 +73,6 @@ fn end_text(alloc: Global, c: &Complex, p: &Point, d: &Dir) -> Result<String, Fa
     let (x, y, z, w) = (end.point.x(), end.point.y(), end.point.z(), end.point.w());
     let label = label_word(end.label);
     Ok(format!(in alloc; "{word} {x} {y} {z} {w} {label}")?)
-}
-
-/// Where the ray ends that begins at the point (x/w, y/w, z/w).
-pub(crate) fn answer_end(
-    alloc: Global,
-    c: &Complex,
-    at: &[i64; 4],
-    to: &[i64; 3],
-) -> Result<String, Fail>
-    requires shows { (s : Set) × ShowsSet s c.now }
-{
-    let ([x, y, z, w], [u, v, t]) = (*at, *to);
-    end_text(alloc, c, &framed_point(x, y, z, w)?, &way(u, v, t)?)
 }
 
 // The half x <= 0: the plane still belongs to it, so the label changes just after it.

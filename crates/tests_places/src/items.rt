@@ -17,7 +17,7 @@ ghost use Rattle.nef_complex.specs.Complexes.{ShowsSet};
 
 use crate::words::add_number;
 use nef_cand::{candidates, cut_candidates};
-use nef_complex::{Complex, Edge, Vertex, plane_items};
+use nef_complex::{Complex, Edge, OutOfMemory, Vertex, plane_items};
 use nef_geo::{Dir, Label, Plane};
 use nef_smap::{SArc, SVertex};
 use std::alloc::Global;
@@ -42,28 +42,28 @@ fn digit(number: i64) -> &'static str {
     }
 }
 
-fn dir_digits(alloc: Global, d: &Dir) -> Result<String, Fail> {
+fn dir_digits(alloc: Global, d: &Dir) -> Result<String, OutOfMemory> {
     let (x, y, z) = (digit(d.x()), digit(d.y()), digit(d.z()));
-    Ok(format!(in alloc; "{x}{y}{z}")?)
+    format!(in alloc; "{x}{y}{z}")
 }
 
-fn point_digits(alloc: Global, v: &Vertex) -> Result<String, Fail> {
+fn point_digits(alloc: Global, v: &Vertex) -> Result<String, OutOfMemory> {
     let (x, y, z) = (digit(v.point.x()), digit(v.point.y()), digit(v.point.z()));
     let (w, mark) = (digit(v.point.w()), letter(v.map.mark));
-    Ok(format!(in alloc; "{x}{y}{z}{w}{mark}")?)
+    format!(in alloc; "{x}{y}{z}{w}{mark}")
 }
 
 // An svertex that ends no arc has a label around it.
-fn svertex_digits(alloc: Global, v: &SVertex) -> Result<String, Fail> {
+fn svertex_digits(alloc: Global, v: &SVertex) -> Result<String, OutOfMemory> {
     let (d, mark) = (dir_digits(alloc, &v.dir)?, letter(v.mark));
     let around = if v.around == None { "-" } else { "?" };
-    Ok(format!(in alloc; " {d}{mark}{around}")?)
+    format!(in alloc; " {d}{mark}{around}")
 }
 
-fn arc_digits(alloc: Global, a: &SArc) -> Result<String, Fail> {
+fn arc_digits(alloc: Global, a: &SArc) -> Result<String, OutOfMemory> {
     let (normal, mark) = (dir_digits(alloc, &a.normal)?, letter(a.mark));
     let (pos, neg) = (letter(a.pos), letter(a.neg));
-    Ok(format!(in alloc; " {}{}{normal}{mark}{pos}{neg}", a.source, a.target)?)
+    format!(in alloc; " {}{}{normal}{mark}{pos}{neg}", a.source, a.target)
 }
 
 fn add_svertices(alloc: Global, text: &mut String, svertices: &[SVertex]) -> Result<(), Fail> {
@@ -81,7 +81,8 @@ fn add_arcs(alloc: Global, text: &mut String, arcs: &[SArc]) -> Result<(), Fail>
 }
 
 /// The vertex with this number.
-pub(crate) fn corner_digits(alloc: Global, c: &Complex, number: usize) -> Result<String, Fail> {
+pub(crate) fn corner_digits(alloc: Global, c: &Complex, number: i64) -> Result<String, Fail> {
+    let number = usize::try_from(number)?;
     let vertex = c.vertices.as_slice().get(number).ok_or("a vertex")?;
     let mut text = point_digits(alloc, vertex)?;
     add_svertices(alloc, &mut text, vertex.map.svertices.as_slice())?;
@@ -89,10 +90,10 @@ pub(crate) fn corner_digits(alloc: Global, c: &Complex, number: usize) -> Result
     Ok(text)
 }
 
-fn edge_digits(alloc: Global, edge: &Edge) -> Result<String, Fail> {
+fn edge_digits(alloc: Global, edge: &Edge) -> Result<String, OutOfMemory> {
     let (low, high, mark) = (edge.low, edge.high, letter(edge.mark));
     let (low_svertex, high_svertex) = (edge.low_svertex, edge.high_svertex);
-    Ok(format!(in alloc; " {low}{low_svertex}{high}{high_svertex}{mark}")?)
+    format!(in alloc; " {low}{low_svertex}{high}{high_svertex}{mark}")
 }
 
 fn edges_digits(alloc: Global, edges: &[Edge]) -> Result<String, Fail> {
@@ -103,9 +104,9 @@ fn edges_digits(alloc: Global, edges: &[Edge]) -> Result<String, Fail> {
     Ok(text)
 }
 
-fn plane_digits(alloc: Global, h: &Plane) -> Result<String, Fail> {
+fn plane_digits(alloc: Global, h: &Plane) -> Result<String, OutOfMemory> {
     let (a, b, c, d) = (digit(h.a()), digit(h.b()), digit(h.c()), digit(h.d()));
-    Ok(format!(in alloc; " {a}{b}{c}{d}")?)
+    format!(in alloc; " {a}{b}{c}{d}")
 }
 
 /// The planes, each after a blank.

@@ -10,6 +10,7 @@ use nef_geo::{Label, List, Plane, Point};
 use nef_locate::{Place, place_label};
 use nef_smap::SphereMap;
 use std::alloc::Global;
+use std::process::Abort;
 use std::test::Fail;
 
 /// A complex with no edges and no index.
@@ -54,11 +55,18 @@ fn lone_vertex(alloc: Global) -> Result<Complex, OutOfMemory>
     Ok(bare(alloc, List::new(alloc), vertices))
 }
 
+fn check_labels(rt: &impl Abort, c: &Complex)
+    requires vertex { IsPlaceIn (complex_of c.now) (place.Vertex 0) }
+    requires side { IsPlaceIn (complex_of c.now) (place.InVolume 0 0) }
+{
+    assert_eq!(rt; place_label(c, &Place::Vertex(0)), Label::Not);
+    let side = Place::InVolume { vertex: 0, side: 0 };
+    assert_eq!(rt; place_label(c, &side), Label::In);
+}
+
 #[test]
 fn labels_of_places(rt: HostRuntime) -> Result<(), Fail> {
     let c = lone_vertex(rt.alloc())?;
-    assert_eq!(rt; place_label(&c, &Place::Vertex(0)), Label::Not);
-    let side = Place::InVolume { vertex: 0, side: 0 };
-    assert_eq!(rt; place_label(&c, &side), Label::In);
+    check_labels(&rt, &c);
     Ok(())
 }

@@ -2,7 +2,8 @@
 
 use crate::items::counts_text;
 use crate::rows::{case_of, check_row};
-use crate::sets::{made, way_of};
+use crate::sets::Maker;
+use nef_core::BoardKind;
 use std::alloc::Global;
 use std::process::Abort;
 use std::sync::Wait;
@@ -30,16 +31,27 @@ free -1 0 0 0, 1 0 0 -1, 0 -1 0 0, 0 1 0 -1, 0 0 -1 0, 0 0 1 -1; bd; cl => 16 24
 lock -1 0 0 0, 1 0 0 -1, 0 -1 0 0, 0 1 0 -1, 0 0 -1 0, 0 0 1 -1; bd; int => 8 12 # nothing is inside the shell
 free -1 0 0 0, 1 0 0 -1, 0 -1 0 0, 0 1 0 -1, 0 0 -1 0, 0 0 1 -1; reg; not => 16 24 # what lies outside a cube";
 
-fn counts<R: Threads + Wait + Sync>(rt: &R, alloc: Global, set: &str) -> Result<String, Fail> {
-    let (board, steps) = set.split_once(' ').ok_or("a board")?;
-    let complex = made(rt, alloc, &way_of(board == "free"), steps)?;
-    counts_text(alloc, &complex)
+fn board_of(word: &str) -> BoardKind {
+    match word {
+        "free" => BoardKind::Free,
+        _ => BoardKind::Lock,
+    }
+}
+
+fn counts<R: Threads + Wait + Sync>(maker: &Maker<R>, steps: &str) -> Result<String, Fail> {
+    let complex = maker.made(steps)?;
+    counts_text(maker.alloc, &complex)
+}
+
+fn answer<R: Threads + Wait + Sync>(rt: &R, alloc: Global, set: &str) -> Result<String, Fail> {
+    let (word, steps) = set.split_once(' ').ok_or("a board")?;
+    counts(&Maker::new(rt, alloc, board_of(word)), steps)
 }
 
 fn check_counts<R: Threads + Wait + Sync + Abort>(rt: &R, alloc: Global) -> Result<(), Fail> {
     for row in COUNTS.split('\n') {
         let (question, wanted) = case_of(row)?;
-        let given = counts(rt, alloc, question);
+        let given = answer(rt, alloc, question);
         check_row(rt, "counts", row, wanted, given)?;
     }
     Ok(())

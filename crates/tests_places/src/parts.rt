@@ -9,15 +9,16 @@
 //! - `tie_along CORNER CORNER`, `tie_across CORNER CORNER`: whether one leads from the first corner, by its vertex and its
 //!   item, to the second.
 
+ghost use Rattle.nef_space.specs.Place.{InFrame};
 ghost use Rattle.nef_space.specs.Sets.{Set};
+ghost use Rattle.nef_geo.specs.Shapes.{place_of};
 ghost use Rattle.nef_complex.specs.Complexes.{ShowsSet};
 
 use crate::items::{letter, planes_digits};
-use crate::words::inner_point;
 use nef_classes::{Cell, Tie};
-use nef_complex::{Complex, Corner};
+use nef_complex::{Complex, Corner, OutOfMemory};
 use nef_facets::facets;
-use nef_geo::{Label, List};
+use nef_geo::{Label, List, Point};
 use nef_parts::{Cycle, Facet};
 use nef_ties::{across_ties, along_ties};
 use nef_volumes::{joined, parts};
@@ -113,8 +114,8 @@ fn ties(alloc: Global, c: &Complex, along: bool) -> Result<Vec<Tie>, Fail>
 fn count_ties(alloc: Global, c: &Complex, along: bool) -> Result<String, Fail>
     requires shows { (s : Set) × ShowsSet s c.now }
 {
-    let ties = ties(alloc, c, along)?;
-    Ok(ties.len().to_string(alloc)?)
+    let count = ties(alloc, c, along)?.len();
+    Ok(count.to_string(alloc)?)
 }
 
 fn cell(row: i64, column: i64) -> Result<Cell, Fail> {
@@ -127,8 +128,8 @@ fn cell(row: i64, column: i64) -> Result<Cell, Fail> {
 fn has_tie(alloc: Global, c: &Complex, along: bool, tie: &Tie) -> Result<String, Fail>
     requires shows { (s : Set) × ShowsSet s c.now }
 {
-    let ties = ties(alloc, c, along)?;
-    Ok(ties.contains(tie).to_string(alloc)?)
+    let is_tie = ties(alloc, c, along)?.contains(tie);
+    Ok(is_tie.to_string(alloc)?)
 }
 
 /// The answer to a question about all parts of a complex.
@@ -164,19 +165,22 @@ pub(crate) fn answer_ties(
     has_tie(alloc, c, verb == "tie_along", &tie)
 }
 
-/// Whether the two points are joined, in one word.
-pub(crate) fn joined_text(
-    alloc: Global,
-    c: &Complex,
-    first: &[i64; 4],
-    second: &[i64; 4],
-) -> Result<String, Fail>
+fn are_joined(alloc: Global, c: &Complex, p: &Point, q: &Point) -> Result<bool, OutOfMemory>
     requires shows { (s : Set) × ShowsSet s c.now }
+    requires first { InFrame (place_of p.now) }
+    requires second { InFrame (place_of q.now) }
 {
-    let ([x, y, z, w], [u, v, t, k]) = (*first, *second);
-    let (p, q) = (inner_point(x, y, z, w)?, inner_point(u, v, t, k)?);
     let all = parts(alloc, c)?;
-    let word = if joined(c, &all, &p, &q) {
+    Ok(joined(c, &all, p, q))
+}
+
+/// Whether the two points are joined, in one word.
+pub(crate) fn joined_text(alloc: Global, c: &Complex, p: &Point, q: &Point) -> Result<String, Fail>
+    requires shows { (s : Set) × ShowsSet s c.now }
+    requires first { InFrame (place_of p.now) }
+    requires second { InFrame (place_of q.now) }
+{
+    let word = if are_joined(alloc, c, p, q)? {
         "joined"
     } else {
         "apart"

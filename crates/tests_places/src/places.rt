@@ -16,7 +16,7 @@ ghost use Rattle.nef_complex.specs.Complexes.{complex_of, ShowsSet};
 ghost use Rattle.nef_locate.specs.Places.{IsPlaceIn};
 
 use crate::words::{dir_text, framed_point, label_word};
-use nef_complex::{Complex, Corner, vertex_at};
+use nef_complex::{Complex, Corner, OutOfMemory, vertex_at};
 use nef_geo::{Dir, Point, up};
 use nef_locate::{Place, first_hit, local_map, locate, place_label};
 use nef_spair::{Kind, kind};
@@ -31,18 +31,19 @@ fn moved(x: i64, w: i64, number: i64) -> Option<i64> {
     x.checked_mul(PART.checked_div(w)?)?.checked_add(number)
 }
 
-// The point (x/w, y/w, z/w) less d/PART, from which the ray along d comes to it exactly. The weight divides PART.
-fn start(d: &Dir, x: i64, y: i64, z: i64, w: i64) -> Result<Point, &'static str>
-    ensures framed { IfOk result (λ p. InClosedFrame (place_of p)) }
+// The point less d/PART, from which the ray along d comes to it exactly. Its weight divides PART.
+fn start(d: &Dir, p: &Point) -> Result<Point, &'static str>
+    ensures framed { IfOk result (λ q. InClosedFrame (place_of q)) }
 {
+    let w = p.w();
     if w < 1 || PART % w != 0 {
         return Err("no weight");
     }
     let back = d.back();
-    let x = moved(x, w, back.x()).ok_or("too large")?;
-    let y = moved(y, w, back.y()).ok_or("too large")?;
-    let z = moved(z, w, back.z()).ok_or("too large")?;
-    framed_point(x, y, z, PART)
+    let x = moved(p.x(), w, back.x()).ok_or("too large")?;
+    let y = moved(p.y(), w, back.y()).ok_or("too large")?;
+    let z = moved(p.z(), w, back.z()).ok_or("too large")?;
+    framed_point(&[x, y, z, PART])
 }
 
 /// The vertices at the ends of the edge.
@@ -108,38 +109,46 @@ fn hit_text(alloc: Global, c: &Complex, p: &Point, d: &Dir) -> Result<String, Fa
     }
 }
 
-fn kind_text(alloc: Global, c: &Complex, p: &Point) -> Result<String, Fail>
+// What the least map at the point is.
+fn kind_at(alloc: Global, c: &Complex, p: &Point) -> Result<Kind, OutOfMemory>
     requires shows { (s : Set) × ShowsSet s c.now }
     requires framed { InClosedFrame (place_of p.now) }
 {
     let map = local_map(alloc, c, p)?;
-    match kind(&map) {
+    Ok(kind(&map))
+}
+
+fn kind_text(alloc: Global, found: &Kind) -> Result<String, Fail> {
+    match found {
         Kind::Vertex => Ok(String::from_str(alloc, "vertex")?),
-        Kind::OnEdge(d) => Ok(format!(in alloc; "edge {}", dir_text(alloc, &d)?)?),
-        Kind::InFacet(n) => Ok(format!(in alloc; "facet {}", dir_text(alloc, &n)?)?),
+        Kind::OnEdge(d) => Ok(format!(in alloc; "edge {}", dir_text(alloc, d)?)?),
+        Kind::InFacet(n) => Ok(format!(in alloc; "facet {}", dir_text(alloc, n)?)?),
         Kind::InVolume => Ok(String::from_str(alloc, "volume")?),
     }
 }
 
-/// The answer to a question about a point.
-pub(crate) fn answer_at(
-    alloc: Global,
-    c: &Complex,
-    verb: &str,
-    at: &[i64; 4],
-) -> Result<String, Fail>
+// What the ray that comes to the point exactly meets first.
+fn exact_text(alloc: Global, c: &Complex, p: &Point, d: &Dir) -> Result<String, Fail>
     requires shows { (s : Set) × ShowsSet s c.now }
+    requires upright { (vector_of d.now ≡ up) ⊎ (vector_of d.now ≡ opposite up) }
 {
-    let [x, y, z, w] = *at;
-    let p = framed_point(x, y, z, w)?;
+    let q = start(d, p)?;
+    hit_text(alloc, c, &q, d)
+}
+
+/// The answer to a question about a point.
+pub(crate) fn answer_at(alloc: Global, c: &Complex, verb: &str, p: &Point) -> Result<String, Fail>
+    requires shows { (s : Set) × ShowsSet s c.now }
+    requires framed { InClosedFrame (place_of p.now) }
+{
     match verb {
-        "vertex" => vertex_text(alloc, c, &p),
-        "place" => labelled_text(alloc, c, &locate(c, &p)),
-        "kind" => kind_text(alloc, c, &p),
-        "up" => hit_text(alloc, c, &p, &up()),
-        "down" => hit_text(alloc, c, &p, &up().back()),
-        "rising" => hit_text(alloc, c, &start(&up(), x, y, z, w)?, &up()),
-        "falling" => hit_text(alloc, c, &start(&up().back(), x, y, z, w)?, &up().back()),
+        "vertex" => vertex_text(alloc, c, p),
+        "place" => labelled_text(alloc, c, &locate(c, p)),
+        "kind" => kind_text(alloc, &kind_at(alloc, c, p)?),
+        "up" => hit_text(alloc, c, p, &up()),
+        "down" => hit_text(alloc, c, p, &up().back()),
+        "rising" => exact_text(alloc, c, p, &up()),
+        "falling" => exact_text(alloc, c, p, &up().back()),
         _ => Err("a question about a point".into()),
     }
 }

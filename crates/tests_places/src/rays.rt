@@ -23,7 +23,6 @@ ghost use Rattle.nef_plane.specs.Meets.{HasNoSvertex, IsAlongAxis};
 ghost use Rattle.tests_places.specs.Clear.{IsClearVertex};
 
 use crate::places::{edge_text, facet_text};
-use crate::words::{framed_point, plane};
 use nef_complex::{Complex, PlaneMeet};
 use nef_geo::{Dir, Hit, Plane, Point, Sign, hit_at, hit_side, plane_axis, plane_dir};
 use nef_locate::{Place, in_facet, locate};
@@ -193,16 +192,15 @@ pub(crate) fn answer_in(
     c: &Complex,
     verb: &str,
     h: &Plane,
-    at: &[i64; 4],
+    p: &Point,
 ) -> Result<String, Fail>
     requires shows { (s : Set) × ShowsSet s c.now }
+    requires framed { InClosedFrame (place_of p.now) }
 {
-    let [x, y, z, w] = *at;
-    let p = framed_point(x, y, z, w)?;
     match verb {
-        "facet" => corner_text(alloc, c, h, &p),
-        "ray" => meet_text(alloc, c, met_along_axis(c, h, &hit_at(&p), false)),
-        "back" => meet_text(alloc, c, met_along_axis(c, h, &hit_at(&p), true)),
+        "facet" => corner_text(alloc, c, h, p),
+        "ray" => meet_text(alloc, c, met_along_axis(c, h, &hit_at(p), false)),
+        "back" => meet_text(alloc, c, met_along_axis(c, h, &hit_at(p), true)),
         _ => Err("a question about a plane and a point".into()),
     }
 }

@@ -94,17 +94,44 @@ fn of_carriers(alloc: Global, first: usize, second: usize) -> Result<Complex, Ou
     Ok(bare(alloc, carriers, List::new(alloc)))
 }
 
+fn merged_digits(alloc: Global, a: &Complex, b: &Complex) -> Result<String, Fail> {
+    let planes = merge_carriers(alloc, a, b)?;
+    planes_digits(alloc, planes.as_slice())
+}
+
+fn added_digits(alloc: Global, c: &Complex, h: &Plane) -> Result<String, Fail> {
+    let planes = add_carrier(alloc, c, h)?;
+    planes_digits(alloc, planes.as_slice())
+}
+
+fn copied_digits(alloc: Global, c: &Complex) -> Result<String, Fail> {
+    let planes = copy_carriers(alloc, c)?;
+    planes_digits(alloc, planes.as_slice())
+}
+
+fn check_planes(rt: &impl Abort, given: Result<String, Fail>, wanted: &str) -> Result<(), Fail> {
+    assert_eq!(rt; given?.as_str(), wanted);
+    Ok(())
+}
+
+fn check_carriers(rt: &impl Abort, alloc: Global, a: &Complex, b: &Complex) -> Result<(), Fail> {
+    check_planes(rt, merged_digits(alloc, b, a), " 001- 001+ 100+")?;
+    check_planes(
+        rt,
+        added_digits(alloc, a, &Plane::frame(0)),
+        " 001- 001+ 100+",
+    )?;
+    check_planes(rt, copied_digits(alloc, b), " 001+ 100+")
+}
+
+fn check_beside(rt: &impl Abort, alloc: Global, a: &Complex) -> Result<(), Fail> {
+    let b = of_carriers(alloc, 4, 0)?;
+    check_carriers(rt, alloc, a, &b)
+}
+
 // The sides z = 2048 and z = -2048, and z = -2048 and x = -2048.
 #[test]
 fn carriers_of_two(rt: HostRuntime) -> Result<(), Fail> {
-    let alloc = rt.alloc();
-    let a = of_carriers(alloc, 5, 4)?;
-    let b = of_carriers(alloc, 4, 0)?;
-    let merged = planes_digits(alloc, merge_carriers(alloc, &b, &a)?.as_slice())?;
-    assert_eq!(rt; merged.as_str(), " 001- 001+ 100+");
-    let added = planes_digits(alloc, add_carrier(alloc, &a, &Plane::frame(0))?.as_slice())?;
-    assert_eq!(rt; added.as_str(), " 001- 001+ 100+");
-    let copied = planes_digits(alloc, copy_carriers(alloc, &b)?.as_slice())?;
-    assert_eq!(rt; copied.as_str(), " 001+ 100+");
-    Ok(())
+    let a = of_carriers(rt.alloc(), 5, 4)?;
+    check_beside(&rt, rt.alloc(), &a)
 }

@@ -23,20 +23,13 @@ use std::sync::Wait;
 use std::test::Fail;
 use std::thread::Threads;
 
-/// By one worker over the board with a lock, or by two over the other.
-pub(crate) fn way_of(two: bool) -> How
+// By one worker over the board with a lock, or by two over the free one.
+fn way_of(board: BoardKind) -> How
     ensures workers { (1 ≤ result.workers) × (result.workers ≤ 64) }
 {
-    if two {
-        How {
-            workers: 2,
-            board: BoardKind::Free,
-        }
-    } else {
-        How {
-            workers: 1,
-            board: BoardKind::Lock,
-        }
+    match board {
+        BoardKind::Lock => How { workers: 1, board },
+        BoardKind::Free => How { workers: 2, board },
     }
 }
 
@@ -46,71 +39,6 @@ fn oriented(alloc: Global, words: &str) -> Result<Oriented, Fail> {
         [a, b, c, d] => Ok(Plane::read(*a, *b, *c, *d)?),
         _ => Err("four numbers of a half".into()),
     }
-}
-
-fn half_of<R: Threads + Wait + Sync>(
-    rt: &R,
-    alloc: Global,
-    how: &How,
-    words: &str,
-    closed: bool,
-) -> Result<Complex, Fail>
-    requires workers { (1 ≤ how.now.workers) × (how.now.workers ≤ 64) }
-    ensures shows { IfOk result (λ c. (s : Set) × ShowsSet s c) }
-{
-    let oriented = oriented(alloc, words)?;
-    let complex = half(rt, alloc, &oriented, closed, how, &OpenGate)?;
-    Ok(complex)
-}
-
-fn combined<R: Threads + Wait + Sync>(
-    rt: &R,
-    alloc: Global,
-    how: &How,
-    op: Op,
-    a: &Complex,
-    b: &Complex,
-) -> Result<Complex, Fail>
-    requires workers { (1 ≤ how.now.workers) × (how.now.workers ≤ 64) }
-    requires first { (s : Set) × ShowsSet s a.now }
-    requires second { (s : Set) × ShowsSet s b.now }
-    ensures shows { IfOk result (λ c. (s : Set) × ShowsSet s c) }
-{
-    let complex = binary(rt, alloc, op, a, b, how, &OpenGate)?;
-    Ok(complex)
-}
-
-fn changed<R: Threads + Wait + Sync>(
-    rt: &R,
-    alloc: Global,
-    how: &How,
-    op: UnaryOp,
-    a: &Complex,
-) -> Result<Complex, Fail>
-    requires workers { (1 ≤ how.now.workers) × (how.now.workers ≤ 64) }
-    requires shows { (s : Set) × ShowsSet s a.now }
-    ensures shows { IfOk result (λ c. (s : Set) × ShowsSet s c) }
-{
-    let complex = unary(rt, alloc, op, a, how, &OpenGate)?;
-    Ok(complex)
-}
-
-fn intersection<R: Threads + Wait + Sync>(
-    rt: &R,
-    alloc: Global,
-    how: &How,
-    halves: &str,
-    closed: bool,
-) -> Result<Complex, Fail>
-    requires workers { (1 ≤ how.now.workers) × (how.now.workers ≤ 64) }
-    ensures shows { IfOk result (λ c. (s : Set) × ShowsSet s c) }
-{
-    let mut complex = constant(alloc, true)?;
-    for words in halves.split(", ") {
-        let next = half_of(rt, alloc, how, words, closed)?;
-        complex = combined(rt, alloc, how, Op::And, &complex, &next)?;
-    }
-    Ok(complex)
 }
 
 fn constant_of(alloc: Global, full: bool) -> Result<Complex, Fail>
@@ -134,28 +62,6 @@ fn whole_frame(alloc: Global) -> Result<Complex, Fail>
     Ok(complex)
 }
 
-fn part<R: Threads + Wait + Sync>(
-    rt: &R,
-    alloc: Global,
-    how: &How,
-    words: &str,
-) -> Result<Complex, Fail>
-    requires workers { (1 ≤ how.now.workers) × (how.now.workers ≤ 64) }
-    ensures shows { IfOk result (λ c. (s : Set) × ShowsSet s c) }
-{
-    match words {
-        "empty" => return constant_of(alloc, false),
-        "full" => return constant_of(alloc, true),
-        "frame not" => return empty_frame(alloc),
-        "frame in" => return whole_frame(alloc),
-        _ => {}
-    }
-    match words.strip_prefix("open ") {
-        Some(halves) => intersection(rt, alloc, how, halves, false),
-        None => intersection(rt, alloc, how, words, true),
-    }
-}
-
 fn op(word: &str) -> Option<Op> {
     match word {
         "and" => Some(Op::And),
@@ -176,42 +82,124 @@ fn unary_op(word: &str) -> Option<UnaryOp> {
     }
 }
 
-// The set after a step.
-fn after<R: Threads + Wait + Sync>(
-    rt: &R,
-    alloc: Global,
-    how: &How,
-    c: &Complex,
-    step: &str,
-) -> Result<Complex, Fail>
-    requires workers { (1 ≤ how.now.workers) × (how.now.workers ≤ 64) }
-    requires shows { (s : Set) × ShowsSet s c.now }
-    ensures shows { IfOk result (λ d. (s : Set) × ShowsSet s d) }
-{
-    if let Some(op) = unary_op(step) {
-        return changed(rt, alloc, how, op, c);
-    }
-    let (word, words) = step.split_once(' ').unwrap_or((step, ""));
-    let Some(op) = op(word) else {
-        return part(rt, alloc, how, step);
-    };
-    let other = part(rt, alloc, how, words)?;
-    combined(rt, alloc, how, op, c, &other)
+/// What makes sets: threads, memory, and the board that hands out the jobs.
+#[derive(Drop)]
+pub(crate) struct Maker<'a, R> {
+    pub(crate) rt: &'a R,
+    pub(crate) alloc: Global,
+    board: BoardKind,
 }
 
-/// The set that the steps make.
-pub(crate) fn made<R: Threads + Wait + Sync>(
-    rt: &R,
-    alloc: Global,
-    how: &How,
-    steps: &str,
-) -> Result<Complex, Fail>
-    requires workers { (1 ≤ how.now.workers) × (how.now.workers ≤ 64) }
-    ensures shows { IfOk result (λ c. (s : Set) × ShowsSet s c) }
-{
-    let mut complex = constant(alloc, false)?;
-    for step in steps.split("; ") {
-        complex = after(rt, alloc, how, &complex, step)?;
+impl<'a, R: Threads + Wait + Sync> Maker<'a, R> {
+    /// A maker that works by one worker over the board with a lock, or by two over the free one.
+    pub(crate) fn new(rt: &'a R, alloc: Global, board: BoardKind) -> Maker<'a, R> {
+        Maker { rt, alloc, board }
     }
-    Ok(complex)
+
+    fn half_of(&self, words: &str, closed: bool) -> Result<Complex, Fail>
+        ensures shows { IfOk result (λ c. (s : Set) × ShowsSet s c) }
+    {
+        let oriented = oriented(self.alloc, words)?;
+        let how = way_of(self.board);
+        let complex = half(self.rt, self.alloc, &oriented, closed, &how, &OpenGate)?;
+        Ok(complex)
+    }
+
+    fn combined(&self, op: Op, a: &Complex, b: &Complex) -> Result<Complex, Fail>
+        requires first { (s : Set) × ShowsSet s a.now }
+        requires second { (s : Set) × ShowsSet s b.now }
+        ensures shows { IfOk result (λ c. (s : Set) × ShowsSet s c) }
+    {
+        let how = way_of(self.board);
+        let complex = binary(self.rt, self.alloc, op, a, b, &how, &OpenGate)?;
+        Ok(complex)
+    }
+
+    // The set combined with another, if that could be made.
+    fn with(&self, op: Op, c: &Complex, made: Result<Complex, Fail>) -> Result<Complex, Fail>
+        requires shows { (s : Set) × ShowsSet s c.now }
+        requires made { IfOk made (λ d. (s : Set) × ShowsSet s d) }
+        ensures shows { IfOk result (λ d. (s : Set) × ShowsSet s d) }
+    {
+        let other = made?;
+        self.combined(op, c, &other)
+    }
+
+    fn changed(&self, op: UnaryOp, a: &Complex) -> Result<Complex, Fail>
+        requires shows { (s : Set) × ShowsSet s a.now }
+        ensures shows { IfOk result (λ c. (s : Set) × ShowsSet s c) }
+    {
+        let how = way_of(self.board);
+        let complex = unary(self.rt, self.alloc, op, a, &how, &OpenGate)?;
+        Ok(complex)
+    }
+
+    // What the set has in common with the half. The set is let go here, so that a loop over halves owns none where it
+    // returns early.
+    fn cut(&self, c: Complex, half: &str, closed: bool) -> Result<Complex, Fail>
+        requires shows { (s : Set) × ShowsSet s c }
+        ensures shows { IfOk result (λ d. (s : Set) × ShowsSet s d) }
+    {
+        self.with(Op::And, &c, self.half_of(half, closed))
+    }
+
+    fn intersection(&self, halves: &str, closed: bool) -> Result<Complex, Fail>
+        ensures shows { IfOk result (λ c. (s : Set) × ShowsSet s c) }
+    {
+        let mut complex = constant_of(self.alloc, true)?;
+        for half in halves.split(", ") {
+            complex = self.cut(complex, half, closed)?;
+        }
+        Ok(complex)
+    }
+
+    fn part(&self, words: &str) -> Result<Complex, Fail>
+        ensures shows { IfOk result (λ c. (s : Set) × ShowsSet s c) }
+    {
+        match words {
+            "empty" => return constant_of(self.alloc, false),
+            "full" => return constant_of(self.alloc, true),
+            "frame not" => return empty_frame(self.alloc),
+            "frame in" => return whole_frame(self.alloc),
+            _ => {}
+        }
+        match words.strip_prefix("open ") {
+            Some(halves) => self.intersection(halves, false),
+            None => self.intersection(words, true),
+        }
+    }
+
+    // The set after a step.
+    fn after(&self, c: &Complex, step: &str) -> Result<Complex, Fail>
+        requires shows { (s : Set) × ShowsSet s c.now }
+        ensures shows { IfOk result (λ d. (s : Set) × ShowsSet s d) }
+    {
+        if let Some(op) = unary_op(step) {
+            return self.changed(op, c);
+        }
+        let (word, words) = step.split_once(' ').unwrap_or((step, ""));
+        match op(word) {
+            Some(op) => self.with(op, c, self.part(words)),
+            None => self.part(step),
+        }
+    }
+
+    // The same of a set that is let go, so that a loop over steps owns none where it returns early.
+    fn stepped(&self, c: Complex, step: &str) -> Result<Complex, Fail>
+        requires shows { (s : Set) × ShowsSet s c }
+        ensures shows { IfOk result (λ d. (s : Set) × ShowsSet s d) }
+    {
+        self.after(&c, step)
+    }
+
+    /// The set that the steps make.
+    pub(crate) fn made(&self, steps: &str) -> Result<Complex, Fail>
+        ensures shows { IfOk result (λ c. (s : Set) × ShowsSet s c) }
+    {
+        let mut complex = constant_of(self.alloc, false)?;
+        for step in steps.split("; ") {
+            complex = self.stepped(complex, step)?;
+        }
+        Ok(complex)
+    }
 }

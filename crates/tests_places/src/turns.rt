@@ -7,7 +7,7 @@ ghost use Rattle.std.specs.Prelude.{◌<◌};
 ghost use Rattle.nef_space.specs.Sets.{Set};
 ghost use Rattle.nef_complex.specs.Complexes.{ShowsSet};
 
-use crate::words::{add_number, framed_point};
+use crate::words::add_number;
 use nef_complex::{Complex, OutOfMemory};
 use nef_geo::Point;
 use nef_turn::turn_complex;
@@ -17,18 +17,22 @@ use std::test::Fail;
 
 const TURNS: usize = 48;
 
+fn has_vertex_at(c: &Complex, p: &Point) -> bool {
+    for vertex in c.vertices.as_slice() {
+        if vertex.point == *p {
+            return true;
+        }
+    }
+    false
+}
+
 // Whether the turned complex has a vertex at the point.
 fn turns_to(alloc: Global, c: &Complex, k: usize, p: &Point) -> Result<bool, OutOfMemory>
     requires turn { k < 48 }
     requires shows { (s : Set) × ShowsSet s c.now }
 {
     let turned = turn_complex(alloc, c, k)?;
-    for vertex in turned.vertices.as_slice() {
-        if vertex.point == *p {
-            return Ok(true);
-        }
-    }
-    Ok(false)
+    Ok(has_vertex_at(&turned, p))
 }
 
 /// The answer about a turn and a point.
@@ -36,28 +40,30 @@ pub(crate) fn turned_text(
     alloc: Global,
     c: &Complex,
     number: usize,
-    at: &[i64; 4],
+    p: &Point,
 ) -> Result<String, Fail>
     requires shows { (s : Set) × ShowsSet s c.now }
 {
-    let [x, y, z, w] = *at;
-    let p = framed_point(x, y, z, w)?;
     if number >= TURNS {
         return Err("the number of a turn".into());
     }
-    Ok(turns_to(alloc, c, number, &p)?.to_string(alloc)?)
+    Ok(turns_to(alloc, c, number, p)?.to_string(alloc)?)
 }
 
+// Whether the complexes have the same carriers, vertices and edges.
+fn are_alike(c: &Complex, d: &Complex) -> bool {
+    same_vertices(c, d)
+        && d.carriers.as_slice() == c.carriers.as_slice()
+        && d.edges.as_slice() == c.edges.as_slice()
+}
+
+// Whether the turn keeps the carriers, vertices and edges.
 fn is_kept(alloc: Global, c: &Complex, k: usize) -> Result<bool, OutOfMemory>
     requires turn { k < 48 }
     requires shows { (s : Set) × ShowsSet s c.now }
 {
     let turned = turn_complex(alloc, c, k)?;
-    Ok(
-        same_vertices(c, &turned)
-            && turned.carriers.as_slice() == c.carriers.as_slice()
-            && turned.edges.as_slice() == c.edges.as_slice(),
-    )
+    Ok(are_alike(c, &turned))
 }
 
 /// The numbers of the turns that change the complex, or that there are none.

@@ -5,7 +5,7 @@ ghost use Rattle.nef_space.specs.Place.{InClosedFrame, InFrame};
 ghost use Rattle.nef_geo.specs.Shapes.{place_of};
 
 use nef_geo::{Dir, HALF_SIDE, Label, Plane, Point};
-use std::alloc::Global;
+use std::alloc::{AllocError, Global};
 use std::test::Fail;
 
 // The greatest weight of a point, and the greatest of its other numbers.
@@ -36,10 +36,11 @@ fn is_framed(p: &Point) -> bool
     is_within(p.x(), limit) && is_within(p.y(), limit) && is_within(p.z(), limit)
 }
 
-/// The point (x/w, y/w, z/w), if it lies in the closed frame.
-pub(crate) fn framed_point(x: i64, y: i64, z: i64, w: i64) -> Result<Point, &'static str>
+/// The point (x/w, y/w, z/w) of the numbers x, y, z and w, if it lies in the closed frame.
+pub(crate) fn framed_point(at: &[i64; 4]) -> Result<Point, &'static str>
     ensures framed { IfOk result (λ p. InClosedFrame (place_of p)) }
 {
+    let [x, y, z, w] = *at;
     let (is_x, is_y) = (is_within(x, GREATEST_NUMBER), is_within(y, GREATEST_NUMBER));
     if !is_x || !is_y || !is_within(z, GREATEST_NUMBER) || w < 1 || w > GREATEST_WEIGHT {
         return Err("a number out of range");
@@ -53,10 +54,10 @@ pub(crate) fn framed_point(x: i64, y: i64, z: i64, w: i64) -> Result<Point, &'st
 }
 
 /// The same, if it doesn't lie on the border of the frame.
-pub(crate) fn inner_point(x: i64, y: i64, z: i64, w: i64) -> Result<Point, &'static str>
+pub(crate) fn inner_point(at: &[i64; 4]) -> Result<Point, &'static str>
     ensures framed { IfOk result (λ p. InFrame (place_of p)) }
 {
-    let p = framed_point(x, y, z, w)?;
+    let p = framed_point(at)?;
     if p.in_frame() {
         Ok(p)
     } else {
@@ -64,7 +65,9 @@ pub(crate) fn inner_point(x: i64, y: i64, z: i64, w: i64) -> Result<Point, &'sta
     }
 }
 
-pub(crate) fn plane(a: i64, b: i64, c: i64, d: i64) -> Result<Plane, Fail> {
+/// The plane of these four numbers.
+pub(crate) fn plane(numbers: &[i64; 4]) -> Result<Plane, Fail> {
+    let [a, b, c, d] = *numbers;
     let oriented = Plane::read(a, b, c, d)?;
     Ok(oriented.plane())
 }
@@ -77,9 +80,8 @@ pub(crate) fn label_word(label: Label) -> &'static str {
     }
 }
 
-pub(crate) fn dir_text(alloc: Global, d: &Dir) -> Result<String, Fail> {
-    let text = format!(in alloc; "{} {} {}", d.x(), d.y(), d.z())?;
-    Ok(text)
+pub(crate) fn dir_text(alloc: Global, d: &Dir) -> Result<String, AllocError> {
+    format!(in alloc; "{} {} {}", d.x(), d.y(), d.z())
 }
 
 /// Adds the number, and a blank before it where some text stands already.

@@ -1,6 +1,6 @@
 use Rattle.nef_space.specs.Sets.{Set}
 use Rattle.nef_complex.specs.Complexes.{ShowsSet}
-use Rattle.tests_places.proofs.sets.made.Given as goal
+use Rattle.tests_places.proofs.sets.Maker.made.Given as goal
 
 abbrev pub invariant-loop-step : goal.invariant-loop-step
 invariant-loop-step g l = (s : Set) × ShowsSet s l.complex

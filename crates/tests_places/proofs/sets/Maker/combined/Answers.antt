@@ -1,5 +1,5 @@
 use Rattle.nef_combine.specs.Sets.{op_set}
-use Rattle.tests_places.proofs.sets.combined.Goals as goal
+use Rattle.tests_places.proofs.sets.Maker.combined.Goals as goal
 
 pub returns : goal.returns
 returns g c =
