@@ -1,19 +1,21 @@
 //! The carriers in which items lie.
 
 ghost use Rattle.std.specs.Prelude.{◌↔◌, IsTrue};
+ghost use Rattle.nef_space.specs.Place.{normal_of};
 ghost use Rattle.nef_space.specs.Sets.{Set};
-ghost use Rattle.nef_geo.specs.Shapes.{place_of, vector_of};
+ghost use Rattle.nef_space.specs.Vectors.{SameDirection};
+ghost use Rattle.nef_geo.specs.Shapes.{form_of, vector_of};
 ghost use Rattle.nef_complex.specs.Complexes.{complex_of, corner_of, ShowsSet};
-ghost use Rattle.nef_ties.specs.Carriers.{HasItem, IsPlaneAt, IsPlaneThrough};
+ghost use Rattle.nef_ties.specs.Carriers.{HasItem, IsPlaneAt};
 
-use nef_complex::{Complex, Corner, holds, plane_normal, vertex_holders};
-use nef_geo::{Dir, Plane, Point};
+use nef_complex::{Complex, Corner, plane_normal, vertex_holders};
+use nef_geo::{Dir, Plane};
 
-// Whether the plane holds the point and has the normal.
-fn is_plane_of(h: &Plane, point: &Point, normal: &Dir) -> bool
-    ensures plane { IsTrue result ↔ IsPlaneThrough h.now (place_of point.now) (vector_of normal.now) }
+// Whether the plane has the normal.
+fn has_normal(h: &Plane, normal: &Dir) -> bool
+    ensures normal { IsTrue result ↔ SameDirection (normal_of (form_of h.now)) (vector_of normal.now) }
 {
-    holds(h, point) && plane_normal(h).is_same(normal)
+    plane_normal(h).is_same(normal)
 }
 
 /// The plane of the corner's item: one of the carriers that hold the vertex holds each of its items.
@@ -28,7 +30,7 @@ pub fn plane_of(c: &Complex, k: &Corner) -> Plane
     let holders = vertex_holders(c, k.vertex);
     for number in holders {
         let h = c.carriers.at(*number);
-        if is_plane_of(h, &vertex.point, normal) {
+        if has_normal(h, normal) {
             return *h;
         }
     }
