@@ -63,6 +63,7 @@ pub(crate) trait PlaneRay {
         ensures held { IsTrue result → EdgeLiesIn c.now.vertices c.now.edges (plane self.now) number }
         ensures off { (IsTrue result → ⊥) → IsMissed (start self.now) (way self.now) (AtEdgeNumber (complex_of c.now) (plane self.now) (way self.now) number) };
 
+    // The way of a ray isn't zero, so the ray leads somewhere.
     ghost leads: { (r : Self) → IsDirection (way r) };
 
     // Where there is a guide, the plane holds the ray.
