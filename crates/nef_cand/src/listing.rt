@@ -18,13 +18,14 @@ use nef_geo::{Plane, Point, lex_cmp};
 use std::alloc::Global;
 use std::slice;
 
-/// The points strictly inside an edge of the complex that lie on one of the planes, which doesn't hold the edge, in order.
+/// The points strictly inside an edge of the complex that lie on one of the planes, which doesn't hold the edge.
 pub(crate) fn cuts(alloc: Global, c: &Complex, planes: &[Plane]) -> Result<Vec<Point>, OutOfMemory>
     requires shows { (s : Set) × ShowsSet s c.now }
     ensures cuts { IfOk result (λ v. Adds (CutsOne (complex_of c.now) planes.now) [] v.items) }
 {
     let mut points = Vec::new(alloc);
     add_cuts(alloc, &mut points, c, planes)?;
+    // Only speed needs the order: the sort of all candidates merges what is sorted, which is cheap.
     points.sort_by(|p, q| lex_cmp(p, q))?;
     Ok(points)
 }
