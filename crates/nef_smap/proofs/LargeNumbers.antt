@@ -126,9 +126,6 @@ fitting m v few a = record {
   end_rest = small-fits m v.end.rest few a.end_rest;
 }
 
-pub passed-small : (m : ℕ) (x : ℤ) → FitsSigned w128 x → nat_abs x ≤ m → nat_abs (to_z w128 (of_z w128 x)) ≤ m
-passed-small m x f h = subst (λ (y : ℤ). nat_abs y ≤ m) (sym (kept x f)) h
-
 pub turn-read : (n g : Values) → Fitting n → Fitting g → (s : Answer) (l both one m1 m2 m3 m4 : ℤ) → FitsSigned w128 l → FitsSigned w128 both → FitsSigned w128 one
     → FitsSigned w128 m1 → FitsSigned w128 m2 → FitsSigned w128 m3 → FitsSigned w128 m4
     → s ≡ sign_of (passed l) → l ≡ leading_of (passed both) (passed one) → both ≡ leading_of (passed m1) (passed m2) → one ≡ leading_of (passed m3) (passed m4)

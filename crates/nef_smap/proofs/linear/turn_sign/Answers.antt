@@ -1,6 +1,7 @@
-use Rattle.std.proofs.Common.{◌^◌, FitsSigned, arith}
+use Rattle.std.proofs.Common.{◌^◌, FitsSigned, lit≤, arith}
 use mir.Syntax.{w128}
-use Rattle.nef_smap.proofs.LargeNumbers.{Fitting, fitting, passed-small, turn-read}
+use Rattle.nef_geo.proofs.Products.{kept_small}
+use Rattle.nef_smap.proofs.LargeNumbers.{Fitting, fitting, turn-read}
 use Rattle.nef_smap.proofs.linear.turn_sign.Goals as goal
 
 pub returns : goal.returns
@@ -24,32 +25,32 @@ returns c =
 
 pub minor-requires : goal.minor-requires
 minor-requires c =
-    let n = c.requires.n_small in
-    let g = c.requires.g_small in
-    let nf = fitting (2 ^ 50) c.args.n.now (omega arith) n in
-    let gf = fitting (2 ^ 74) c.args.g.now (omega arith) g in
-    record { a_small = passed-small (2 ^ 50) _ nf.start_factor n.start_factor; b_small = passed-small (2 ^ 74) _ gf.end_factor g.end_factor; c_small = passed-small (2 ^ 50) _ nf.end_factor n.end_factor; d_small = passed-small (2 ^ 74) _ gf.start_factor g.start_factor }
+    let n = c.args.n.now in
+    let g = c.args.g.now in
+    let few_n = c.requires.n_small in
+    let few_g = c.requires.g_small in
+    record { a_small = kept_small n.start.factor (2 ^ 50) few_n.start_factor (lit≤ tt); b_small = kept_small g.end.factor (2 ^ 74) few_g.end_factor (lit≤ tt); c_small = kept_small n.end.factor (2 ^ 50) few_n.end_factor (lit≤ tt); d_small = kept_small g.start.factor (2 ^ 74) few_g.start_factor (lit≤ tt) }
 
 pub minor-requires-2 : goal.minor-requires-2
 minor-requires-2 c =
-    let n = c.requires.n_small in
-    let g = c.requires.g_small in
-    let nf = fitting (2 ^ 50) c.args.n.now (omega arith) n in
-    let gf = fitting (2 ^ 74) c.args.g.now (omega arith) g in
-    record { a_small = passed-small (2 ^ 50) _ nf.start_rest n.start_rest; b_small = passed-small (2 ^ 74) _ gf.end_factor g.end_factor; c_small = passed-small (2 ^ 50) _ nf.end_factor n.end_factor; d_small = passed-small (2 ^ 74) _ gf.start_rest g.start_rest }
+    let n = c.args.n.now in
+    let g = c.args.g.now in
+    let few_n = c.requires.n_small in
+    let few_g = c.requires.g_small in
+    record { a_small = kept_small n.start.rest (2 ^ 50) few_n.start_rest (lit≤ tt); b_small = kept_small g.end.factor (2 ^ 74) few_g.end_factor (lit≤ tt); c_small = kept_small n.end.factor (2 ^ 50) few_n.end_factor (lit≤ tt); d_small = kept_small g.start.rest (2 ^ 74) few_g.start_rest (lit≤ tt) }
 
 pub minor-requires-3 : goal.minor-requires-3
 minor-requires-3 c =
-    let n = c.requires.n_small in
-    let g = c.requires.g_small in
-    let nf = fitting (2 ^ 50) c.args.n.now (omega arith) n in
-    let gf = fitting (2 ^ 74) c.args.g.now (omega arith) g in
-    record { a_small = passed-small (2 ^ 50) _ nf.start_factor n.start_factor; b_small = passed-small (2 ^ 74) _ gf.end_rest g.end_rest; c_small = passed-small (2 ^ 50) _ nf.end_rest n.end_rest; d_small = passed-small (2 ^ 74) _ gf.start_factor g.start_factor }
+    let n = c.args.n.now in
+    let g = c.args.g.now in
+    let few_n = c.requires.n_small in
+    let few_g = c.requires.g_small in
+    record { a_small = kept_small n.start.factor (2 ^ 50) few_n.start_factor (lit≤ tt); b_small = kept_small g.end.rest (2 ^ 74) few_g.end_rest (lit≤ tt); c_small = kept_small n.end.rest (2 ^ 50) few_n.end_rest (lit≤ tt); d_small = kept_small g.start.factor (2 ^ 74) few_g.start_factor (lit≤ tt) }
 
 pub minor-requires-4 : goal.minor-requires-4
 minor-requires-4 c =
-    let n = c.requires.n_small in
-    let g = c.requires.g_small in
-    let nf = fitting (2 ^ 50) c.args.n.now (omega arith) n in
-    let gf = fitting (2 ^ 74) c.args.g.now (omega arith) g in
-    record { a_small = passed-small (2 ^ 50) _ nf.start_rest n.start_rest; b_small = passed-small (2 ^ 74) _ gf.end_rest g.end_rest; c_small = passed-small (2 ^ 50) _ nf.end_rest n.end_rest; d_small = passed-small (2 ^ 74) _ gf.start_rest g.start_rest }
+    let n = c.args.n.now in
+    let g = c.args.g.now in
+    let few_n = c.requires.n_small in
+    let few_g = c.requires.g_small in
+    record { a_small = kept_small n.start.rest (2 ^ 50) few_n.start_rest (lit≤ tt); b_small = kept_small g.end.rest (2 ^ 74) few_g.end_rest (lit≤ tt); c_small = kept_small n.end.rest (2 ^ 50) few_n.end_rest (lit≤ tt); d_small = kept_small g.start.rest (2 ^ 74) few_g.start_rest (lit≤ tt) }
