@@ -1,6 +1,6 @@
 -- Deposits and hands beside the slots of a machine.
 use Rattle.std.proofs.Common.{◌≡◌, ◌≢◌, ℕ, List, [], ◌∷◌, ◌++◌, refl, ap, sym, ◌∙◌, Option, Some, None, slice_get, slice_set, inl, inr, true, false, IfSome}
-use Rattle.std.proofs.lemmas.Bool.{ne_eqb}
+use Rattle.std.proofs.lemmas.Bool.{ne_eqb, false≢true}
 use Rattle.nef_core.specs.Results.{AllDone}
 use Rattle.nef_core.specs.Views.{has_job}
 use Rattle.nef_core.specs.declared.machine.Slot.{Slot}
@@ -26,9 +26,6 @@ held_by v w e = cc
 pub same_slot : (x y : Slot) → Some x ≡ Some y → x ≡ y
 same_slot x y e = cc
 
-false_not_true : false ≡ true → ⊥
-false_not_true e = cc
-
 -- a list of deposits under slots that keep what is done
 pub done_moved : (old new : List Slot) (ds : List (ℕ × ℕ)) → ((job w : ℕ) → slice_get old job ≡ Some (Done w) → slice_get new job ≡ Some (Done w)) → AllDone old ds → AllDone new ds
 done_moved old new [] keep h = tt
@@ -47,7 +44,7 @@ not_among slots job y (d ∷ ds) at n h =
 
 -- and one that is among them is done
 pub among : (slots : List Slot) (job : ℕ) (ds : List (ℕ × ℕ)) → has_job job ds ≡ true → AllDone slots ds → (w : ℕ) × (slice_get slots job ≡ Some (Done w))
-among slots job [] h a = absurd (false_not_true h)
+among slots job [] h a = absurd (false≢true h)
 among slots job (d ∷ ds) h a = elim (same_or_not d.0 job) [
   | inl e ↦ (d.1, ap (slice_get slots) (sym e) ∙ a.0)
   | inr n ↦ among slots job ds (rw (ne_eqb d.0 job n) at h) a.1

@@ -1,5 +1,6 @@
 -- What a pass knows still fits the machine after each kind of step.
-use Rattle.std.proofs.Common.{◌≡◌, ◌≢◌, ℕ, ◌+◌, ◌<◌, [], ◌∷◌, length, refl, ap, sym, ◌∙◌, Option, Some, slice_get, slice_set, inl, inr, true, false, subst, IfSome, arith}
+use Rattle.std.proofs.Common.{◌≡◌, ◌≢◌, ℕ, ◌+◌, ◌<◌, [], ◌∷◌, length, refl, ap, sym, ◌∙◌, Option, Some, slice_get, slice_set, inl, inr, subst, IfSome, arith}
+use Rattle.std.proofs.lemmas.Bool.{false≢true}
 use Rattle.std.proofs.lemmas.Option.{slice_get_within}
 use Rattle.nef_core.specs.State.{State as Machine}
 use Rattle.nef_core.specs.Passes.{first_view, cut, new_view, taken_in, holding, at_end, deposited, gave_back, Fits}
@@ -9,9 +10,6 @@ use Rattle.nef_core.specs.declared.view.View.{View}
 use Rattle.nef_core.proofs.Places.{get_set_here, same_or_not}
 use Rattle.nef_core.proofs.Deposits.{open_not_done, held_not_done, done_moved, done_append, keeps_done, hand_moved}
 
-false_not_true : false ≡ true → ⊥
-false_not_true e = cc
-
 module _ (jobs seats : ℕ) (m : Machine) where
   pub fits_first : 0 < seats → Fits jobs seats m 1 0 (first_view jobs seats)
   fits_first some_seat = record {
@@ -19,7 +17,7 @@ module _ (jobs seats : ℕ) (m : Machine) where
     jobs_are = refl;
     hand = tt;
     deposits = tt;
-    ended = λ e. absurd (false_not_true e);
+    ended = λ e. absurd (false≢true e);
     only_first = λ n. absurd (n refl);
     room = λ q. (refl, omega arith);
   }
@@ -45,7 +43,7 @@ module _ (jobs seats : ℕ) (m : Machine) where
     jobs_are = f.jobs_are;
     hand = tt;
     deposits = tt;
-    ended = λ e. absurd (false_not_true e);
+    ended = λ e. absurd (false≢true e);
     only_first = λ n. refl;
     room = λ q. absurd (omega arith);
   }
