@@ -6,8 +6,7 @@ use Rattle.nef_space.specs.Vectors.{Vector, dot, IsDirection}
 use Rattle.law_arithmetic.proofs.Combination.{none, given, follows}
 use Rattle.law_arithmetic.proofs.Order.{mul_pos, mul_neg, by_order}
 use Rattle.law_arithmetic.proofs.Ring.{Poly, at, num, neg, ◌⊕◌, ◌⊖◌, ◌⊗◌, ring}
-pub use Rattle.nef_geo.specs.Hits.{IsReachedBy}
-use Rattle.nef_geo.specs.Hits.{IsCrossing, IsReached}
+use Rattle.nef_geo.specs.Hits.{IsCrossing, IsReached, IsReachedBy}
 use Rattle.nef_geo.specs.Meet.{IsStretched}
 use Rattle.nef_geo.specs.Shapes.{place_at}
 use Rattle.nef_geo.specs.Steps.{HasOppositeSigns}

@@ -8,13 +8,13 @@ use Rattle.law_arithmetic.proofs.Ring.{ring, at, num, neg, ◌⊕◌, ◌⊗◌}
 use Rattle.nef_space.specs.Limits.{normal_limit, offset_limit, ray_direction_limit, ray_point_limit, ray_weight_limit}
 use Rattle.nef_space.specs.Place.{Place, Form, form_at, slope, SamePlace}
 use Rattle.nef_space.specs.Vectors.{Vector, IsAtMost}
-use Rattle.nef_geo.specs.Hits.{IsCrossing, IsPlaceAtMost}
+use Rattle.nef_geo.specs.Hits.{IsCrossing, IsPlaceAtMost, IsReachedBy}
 use Rattle.nef_geo.specs.Shapes.{form_of, vector_of, place_at, place_of}
 use Rattle.nef_geo.specs.Steps.{HasOppositeSigns}
 use Rattle.nef_geo.specs.declared.dir.Dir.{Dir}
 use Rattle.nef_geo.specs.declared.plane.Plane.{Plane}
 use Rattle.nef_geo.specs.declared.point.Point.{Point}
-use Rattle.nef_geo.proofs.Crossings.{IsReachedBy, IsCrossing-reached, opposite-crossing}
+use Rattle.nef_geo.proofs.Crossings.{IsCrossing-reached, opposite-crossing}
 use Rattle.nef_geo.proofs.Places.{form_at-place_of, pos_size}
 use Rattle.law_near.proofs.Rays.{sign-same, same-place_sym}
 use Rattle.law_complex.proofs.FacetEdges.{ahead-same}
