@@ -45,7 +45,9 @@ pub(crate) fn gathered(
     requires inside_second { Adds (CutsOne (complex_of b.now) a.now.carriers) [] inside_b.now }
     ensures lists { IfOk result (λ v. ListsCandidates a.now b.now v.items) }
 {
-    let mut points = Vec::new(alloc);
+    let vertices = a.vertices.len().saturating_add(b.vertices.len());
+    let inside = inside_a.len().saturating_add(inside_b.len());
+    let mut points = Vec::with_capacity(alloc, vertices.saturating_add(inside))?;
     add_vertices(&mut points, a)?;
     add_vertices(&mut points, b)?;
     points.extend_from_slice(inside_a)?;

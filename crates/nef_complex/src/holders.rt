@@ -3,39 +3,15 @@
 ghost use Rattle.std.specs.Prelude.{◌<◌, length, IfOk, OnOk};
 ghost use Rattle.nef_space.specs.Place.{Place};
 ghost use Rattle.nef_geo.specs.Shapes.{place_of};
-ghost use Rattle.nef_complex.specs.Index.{AreInOrder, AreWithin, AreHolders, AreVertexHolders, AreHoldersAlong, AreEdgeHolders, HaveEnds};
-ghost use Rattle.nef_complex.specs.Runs.{AreRuns};
+ghost use Rattle.nef_complex.specs.Index.{AreWithin, AreHolders, AreVertexHolders, AreHoldersAlong, AreEdgeHolders, HaveEnds};
 
 use crate::OutOfMemory;
 use crate::complex::{Edge, Vertex};
 use crate::holding::holds;
-use crate::runs::{holder_in, run_ends};
+use crate::sorted_carriers::SortedCarriers;
 use crate::table::Table;
 use nef_geo::{Plane, Point};
 use std::alloc::Global;
-
-// Puts the numbers of the carriers that hold the point into the list, in place of what it had; each of the runs of
-// parallel carriers has at most one of them.
-fn holders(
-    carriers: &[Plane],
-    ends: &[usize],
-    point: &Point,
-    numbers: &mut Vec<usize>,
-) -> Result<(), OutOfMemory>
-    requires ordered { AreInOrder carriers.now }
-    requires runs { AreRuns carriers.now ends.now }
-    ensures holders { OnOk result (AreHolders carriers.now (place_of point.now) (place_of point.now) numbers.new.items) }
-{
-    numbers.clear();
-    let mut first = 0;
-    for past in ends {
-        if let Some(number) = holder_in(carriers, first, *past, point) {
-            numbers.push(number)?;
-        }
-        first = *past;
-    }
-    Ok(())
-}
 
 // Puts those of the listed numbers whose carriers hold the point too into the list, in place of what it had.
 fn common_holders(
@@ -56,20 +32,23 @@ fn common_holders(
     Ok(())
 }
 
-/// For each vertex the numbers of the carriers that hold it.
-pub(crate) fn vertex_rows(
+// Few vertices and edges lie on more carriers.
+const CARRIERS_AT_VERTEX: usize = 3;
+
+const CARRIERS_AT_EDGE: usize = 2;
+
+/// For each vertex the numbers of the carriers that hold it. `OutOfMemory` says that memory was wanted and not found.
+pub fn vertex_rows(
     alloc: Global,
-    carriers: &[Plane],
+    carriers: &SortedCarriers,
     vertices: &[Vertex],
 ) -> Result<Table, OutOfMemory>
-    requires ordered { AreInOrder carriers.now }
     ensures rows { IfOk result (λ rows. AreVertexHolders carriers.now vertices.now rows) }
 {
-    let ends = run_ends(alloc, carriers)?;
-    let mut rows = Table::with_rows(alloc, vertices.len())?;
+    let mut rows = Table::with_rows(alloc, vertices.len(), CARRIERS_AT_VERTEX)?;
     let mut numbers = Vec::new(alloc);
     for vertex in vertices {
-        holders(carriers, ends.as_slice(), &vertex.point, &mut numbers)?;
+        carriers.holders(&vertex.point, &mut numbers)?;
         rows.push(numbers.as_slice())?;
     }
     Ok(rows)
@@ -105,7 +84,7 @@ pub(crate) fn edge_rows(
     requires ends { HaveEnds vertices.now edges.now }
     ensures rows { IfOk result (λ rows. AreEdgeHolders carriers.now vertices.now edges.now rows) }
 {
-    let mut rows = Table::with_rows(alloc, edges.len())?;
+    let mut rows = Table::with_rows(alloc, edges.len(), CARRIERS_AT_EDGE)?;
     let mut numbers = Vec::new(alloc);
     for edge in edges {
         edge_row(carriers, vertices, edge, at_vertex, &mut numbers)?;

@@ -3,13 +3,13 @@
 ghost use Rattle.std.specs.Prelude.{◌≡◌, ◌⊎◌, List as Sequence, length, ◌↔◌, IsTrue, IfOk, OnOk};
 ghost use Rattle.nef_geo.specs.Shapes.{form_of};
 ghost use Rattle.nef_complex.specs.declared.complex.Edge.{Edge};
-ghost use Rattle.nef_complex.specs.Index.{HasItemIn, LiesOn, EdgeLiesIn, AreNumbersWith, IsIndexOf, HasHolders, AreHeld, AreInOrder, HaveEnds, AreCarrierVertices, AreCarrierEdges};
+ghost use Rattle.nef_complex.specs.Index.{HasItemIn, LiesOn, EdgeLiesIn, AreNumbersWith, IsIndexOf, HasHolders, AreHeld, AreInOrder, HaveEnds, AreVertexHolders, AreCarrierVertices, AreCarrierEdges};
 ghost use Rattle.nef_complex.specs.Indexing.{HasOneMore};
 
 use crate::OutOfMemory;
 use crate::complex::{Complex, Edge, Vertex};
 use crate::groups::clusters_of;
-use crate::holders::{edge_rows, vertex_rows};
+use crate::holders::edge_rows;
 use crate::holding::plane_normal;
 use crate::index::PlaneIndex;
 use crate::spans::spans_of;
@@ -87,21 +87,23 @@ fn index_of(
 
 impl Complex {
     /// The complex with these carriers, vertices and edges, and with the index of its planes and of the carriers that hold
-    /// each vertex and edge. The carriers stand in order, and some of them holds each item. `OutOfMemory` says that memory was wanted and not found.
+    /// each vertex and edge; those that hold each vertex are given. The carriers stand in order, and some of them holds
+    /// each item. `OutOfMemory` says that memory was wanted and not found.
     pub fn of(
         alloc: Global,
         carriers: List<Plane>,
         vertices: List<Vertex>,
         edges: List<Edge>,
+        at_vertex: Table,
     ) -> Result<Complex, OutOfMemory>
         requires ordered { AreInOrder carriers }
         requires held { AreHeld carriers vertices }
+        requires rows { AreVertexHolders carriers vertices at_vertex }
         requires ends { HaveEnds vertices edges }
         ensures kept { IfOk result (λ c. (c.carriers ≡ carriers) × (c.vertices ≡ vertices) × (c.edges ≡ edges)) }
         ensures index { IfOk result (λ c. IsIndexOf c.vertices c.edges c.index) }
         ensures holders { IfOk result (λ c. HasHolders c.carriers c.vertices c.edges c.index) }
     {
-        let at_vertex = vertex_rows(alloc, carriers.as_slice(), vertices.as_slice())?;
         let at_edge = edge_rows(
             alloc,
             carriers.as_slice(),

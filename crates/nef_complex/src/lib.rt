@@ -11,6 +11,7 @@ mod holding;
 mod index;
 mod indexing;
 mod runs;
+mod sorted_carriers;
 mod spans;
 mod table;
 mod turning;
@@ -18,11 +19,13 @@ mod vertices;
 
 pub use complex::{Complex, Corner, Edge, PlaneMeet, Vertex};
 pub use groups::{Cluster, Group};
+pub use holders::vertex_rows;
 pub use holding::{holds, holds_both, plane_normal};
 pub use index::{
     PlaneIndex, PlaneItems, carrier_clusters, carrier_items, carrier_spans, edge_holders,
     plane_items, vertex_holders,
 };
+pub use sorted_carriers::SortedCarriers;
 pub use spans::{Bounds, Span};
 pub use std::alloc::AllocError as OutOfMemory;
 pub use table::Table;

@@ -40,13 +40,16 @@ module _ (s : Set) (carriers : List Plane) (vertices : List Vertex) (V : AreVert
       let es = edges-exist (map vertex_of vertices) ordered shaped in
       record { ordered = ordered; shaped = shaped; joined = partner s (record { carriers = map form_of carriers; vertices = map vertex_of vertices; edges = es.0 }) (V.shown es.0 es.1) }
 
+  pub carriers-ordered : AreInOrder carriers
+  carriers-ordered i j g h l a b =
+      let es = edges-exist (map vertex_of vertices) ordered shaped in
+      let shown = V.shown es.0 es.1 in
+      shown.carriers.ordered i j (form_of g) (form_of h) l (at-map form_of carriers i g (some-at carriers i g a)) (at-map form_of carriers j h (some-at carriers j h b))
+
   -- what a complex is put together from
   module _ (es : List Edge) (E : Edges (map vertex_of vertices) (map edge_of es)) where
     shown : Shows s (record { carriers = map form_of carriers; vertices = map vertex_of vertices; edges = map edge_of es })
     shown = V.shown (map edge_of es) E
-
-    pub carriers-ordered : AreInOrder carriers
-    carriers-ordered i j g h l a b = shown.carriers.ordered i j (form_of g) (form_of h) l (at-map form_of carriers i g (some-at carriers i g a)) (at-map form_of carriers j h (some-at carriers j h b))
 
     pub all-held : AreHeld carriers vertices
     all-held = items-held s carriers vertices (map edge_of es) shown

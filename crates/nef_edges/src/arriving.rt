@@ -29,11 +29,14 @@ fn add_arriving(halves: &mut Vec<Half>, vertices: &[Vertex], i: usize) -> Result
     Ok(())
 }
 
+// Most vertices have three or four edges, of which about half arrive.
+const HALVES_AT_VERTEX: usize = 2;
+
 // The halves that arrive at any vertex.
 fn all_arriving(alloc: Global, vertices: &[Vertex]) -> Result<Vec<Half>, OutOfMemory>
     ensures all { IfOk result (λ v. AreArriving vertices.now (IsBefore (length vertices.now) 0) v.items) }
 {
-    let mut halves = Vec::new(alloc);
+    let mut halves = Vec::with_capacity(alloc, vertices.len().saturating_mul(HALVES_AT_VERTEX))?;
     for i in 0..vertices.len() {
         add_arriving(&mut halves, vertices, i)?;
     }

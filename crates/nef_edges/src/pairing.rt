@@ -5,6 +5,7 @@ ghost use Rattle.std.specs.List.Sorted.{IsSortedBy};
 ghost use Rattle.nef_space.specs.Sets.{Set};
 ghost use Rattle.law_complex.specs.Complexes.{Edges};
 ghost use Rattle.nef_complex.specs.Complexes.{vertex_of, edge_of, AreVerticesOf, ShowsSet};
+ghost use Rattle.nef_complex.specs.Index.{AreVertexHolders};
 ghost use Rattle.nef_edges.specs.Order.{half_lt};
 ghost use Rattle.nef_edges.specs.Halves.{IsBefore, AreArriving};
 ghost use Rattle.nef_edges.specs.Pairs.{AreJoined, AreEdges};
@@ -12,7 +13,7 @@ ghost use Rattle.nef_edges.specs.Pairs.{AreJoined, AreEdges};
 use crate::OutOfMemory;
 use crate::arriving::{next_after, sorted_arriving};
 use crate::half::{Half, leads_on};
-use nef_complex::{Complex, Edge, Vertex};
+use nef_complex::{Complex, Edge, SortedCarriers, Table, Vertex, vertex_rows};
 use nef_geo::{List, Plane};
 use std::alloc::Global;
 
@@ -53,7 +54,7 @@ fn edges_of(alloc: Global, vertices: &[Vertex]) -> Result<Vec<Edge>, OutOfMemory
     ensures edges { IfOk result (λ v. Edges (map vertex_of vertices.now) (map edge_of v.items)) }
 {
     let arriving = sorted_arriving(alloc, vertices)?;
-    let mut edges = Vec::new(alloc);
+    let mut edges = Vec::with_capacity(alloc, arriving.len())?;
     for i in 0..vertices.len() {
         add_edges(&mut edges, vertices, i, arriving.as_slice())?;
     }
@@ -61,7 +62,25 @@ fn edges_of(alloc: Global, vertices: &[Vertex]) -> Result<Vec<Edge>, OutOfMemory
 }
 
 /// The complex with these carriers and vertices, and with all edges between the vertices. Some set has exactly these
-/// carriers and exactly these vertices with their least maps, all in order.
+/// carriers and exactly these vertices with their least maps, all in order. For each vertex the numbers of the carriers
+/// that hold it are given. `OutOfMemory` says that memory was wanted and not found.
+pub fn pair_held(
+    alloc: Global,
+    carriers: List<Plane>,
+    vertices: List<Vertex>,
+    at_vertex: Table,
+) -> Result<Complex, OutOfMemory>
+    requires vertices { (s : Set) × AreVerticesOf s carriers vertices }
+    requires holders { AreVertexHolders carriers vertices at_vertex }
+    ensures kept { IfOk result (λ c. (c.carriers ≡ carriers) × (c.vertices ≡ vertices)) }
+    ensures edges { IfOk result (λ c. Edges (map vertex_of c.vertices) (map edge_of c.edges)) }
+    ensures shows { IfOk result (λ c. (s : Set) → AreVerticesOf s carriers vertices → ShowsSet s c) }
+{
+    let edges = List::from_vec(edges_of(alloc, vertices.as_slice())?);
+    Complex::of(alloc, carriers, vertices, edges, at_vertex)
+}
+
+/// As `pair_held`, where the carriers that hold each vertex are yet to be found.
 pub fn pair(
     alloc: Global,
     carriers: List<Plane>,
@@ -72,6 +91,7 @@ pub fn pair(
     ensures edges { IfOk result (λ c. Edges (map vertex_of c.vertices) (map edge_of c.edges)) }
     ensures shows { IfOk result (λ c. (s : Set) → AreVerticesOf s carriers vertices → ShowsSet s c) }
 {
-    let edges = List::from_vec(edges_of(alloc, vertices.as_slice())?);
-    Complex::of(alloc, carriers, vertices, edges)
+    let carriers = SortedCarriers::of(alloc, carriers)?;
+    let rows = vertex_rows(alloc, &carriers, vertices.as_slice())?;
+    pair_held(alloc, carriers.into_planes(), vertices, rows)
 }

@@ -17,7 +17,7 @@ returns c =
     let us = c.sort_once.new.points.items in
     let all = listed-all a b b.carriers a.carriers refl refl
     c.add_vertices.new.points.items ps qs c.extend_from_slice-2.new.self.items us
-    (subst (λ (rs : List Point). Adds (IsVertexOf (complex_of a)) rs c.add_vertices.new.points.items) c.new-points.ensures.items c.in_ok-add_vertices.ensures.added)
+    (subst (λ (rs : List Point). Adds (IsVertexOf (complex_of a)) rs c.add_vertices.new.points.items) c.in_ok-points.ensures.items c.in_ok-add_vertices.ensures.added)
     c.in_ok-add_vertices-2.ensures.added
     (subst (λ (rs : List Point). Adds P ps rs) (sym c.in_ok-extend_from_slice.ensures.items) (adds-after P ps xs c.requires.inside_first))
     (subst (λ (rs : List Point). Adds Q qs rs) (sym c.in_ok-extend_from_slice-2.ensures.items) (adds-after Q qs ys c.requires.inside_second))

@@ -18,8 +18,8 @@ loop-vertex-preserved c =
     let v = c.vertex-item.result in
     let P : Vertex → List ℕ → Type 0 = λ v ns. AreHolders c.args.carriers.now (place_of v.point) (place_of v.point) ns in
     subst (AreRowsTo P vs (n + 1)) (sym c.in_ok-push.ensures.ok)
-    (rows-more P vs n c.loop-vertex.rows v c.as_slice-in-loop-vertex.result.now (slice_get_read vs (length vs) n v refl c.loop-vertex-test.true c.vertex-item.is)
-    (subst (P v) (sym c.as_slice-in-loop-vertex.ensures.value) c.in_ok-holders.ensures.holders) c.loop-vertex.invariant)
+    (rows-more P vs n c.loop-vertex.rows v c.as_slice.result.now (slice_get_read vs (length vs) n v refl c.loop-vertex-test.true c.vertex-item.is)
+    (subst (P v) (sym c.as_slice.ensures.value) c.in_ok-holders.ensures.holders) c.loop-vertex.invariant)
 
 pub returns : goal.returns
 returns c = record {

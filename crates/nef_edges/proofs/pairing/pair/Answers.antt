@@ -1,38 +1,27 @@
-use Rattle.std.proofs.Common.{List, map, Result, Ok, Err, IfOk, sym, subst}
-use Rattle.nef_complex.specs.Complexes.{vertex_of}
+use Rattle.std.proofs.Common.{List, IfOk, sym, subst, ◌∙◌}
+use Rattle.nef_space.specs.Sets.{Set}
+use Rattle.nef_geo.specs.declared.plane.Plane.{Plane}
+use Rattle.nef_complex.specs.Complexes.{AreVerticesOf, ShowsSet}
+use Rattle.nef_complex.specs.Index.{AreVertexHolders}
+use Rattle.nef_complex.specs.declared.complex.Complex.{Complex}
 use Rattle.nef_complex.specs.declared.complex.Vertex.{Vertex}
-use Rattle.nef_edges.specs.Pairs.{AreJoined}
-use Rattle.nef_edges.proofs.Joined.{are-joined, paired-edges, carriers-ordered, all-held, have-ends, shows-set}
+use Rattle.nef_edges.proofs.Joined.{carriers-ordered}
 use Rattle.nef_edges.proofs.pairing.pair.Goals as goal
 
-pub edges_of-requires : goal.edges_of-requires
-edges_of-requires c = record {
-  joined = subst (λ (vs : List Vertex). AreJoined (map vertex_of vs)) (sym c.as_slice.ensures.all) (are-joined c.requires.vertices.0 c.args.carriers c.args.vertices c.requires.vertices.1);
-}
+pub of-requires : goal.of-requires
+of-requires c = record { ordered = let V = c.requires.vertices in carriers-ordered V.0 c.args.carriers c.args.vertices V.1 }
 
-pub of-requires-clause-ordered : goal.of-requires-clause-ordered
-of-requires-clause-ordered c =
+pub pair_held-requires-clause-vertices : goal.pair_held-requires-clause-vertices
+pair_held-requires-clause-vertices c =
     let V = c.requires.vertices in
-    carriers-ordered V.0 c.args.carriers c.args.vertices V.1 c.from_vec-edges.result
-    (paired-edges c.args.vertices c.as_slice.result.now c.in_ok-edges_of.field-0.items c.from_vec-edges.result c.as_slice.ensures.all c.from_vec-edges.ensures.all c.in_ok-edges_of.ensures.edges)
+    (V.0, subst (λ (hs : List Plane). AreVerticesOf V.0 hs c.args.vertices) (sym (c.into_planes.ensures.planes ∙ c.in_ok-carriers.ensures.kept)) V.1)
 
-pub of-requires-clause-held : goal.of-requires-clause-held
-of-requires-clause-held c =
-    let V = c.requires.vertices in
-    all-held V.0 c.args.carriers c.args.vertices V.1 c.from_vec-edges.result
-    (paired-edges c.args.vertices c.as_slice.result.now c.in_ok-edges_of.field-0.items c.from_vec-edges.result c.as_slice.ensures.all c.from_vec-edges.ensures.all c.in_ok-edges_of.ensures.edges)
-
-pub of-requires-clause-ends : goal.of-requires-clause-ends
-of-requires-clause-ends c =
-    let V = c.requires.vertices in
-    have-ends V.0 c.args.carriers c.args.vertices V.1 c.from_vec-edges.result
-    (paired-edges c.args.vertices c.as_slice.result.now c.in_ok-edges_of.field-0.items c.from_vec-edges.result c.as_slice.ensures.all c.from_vec-edges.ensures.all c.in_ok-edges_of.ensures.edges)
-
-if-all : {A D : Type 0} (P Q R T : A → Type 0) → ((x : A) → P x → Q x → R x → T x) → (r : Result A D) → IfOk r P → IfOk r Q → IfOk r R → IfOk r T
-if-all P Q R T f (Ok x) p q r = f x p q r
-if-all P Q R T f (Err e) p q r = tt
+pub pair_held-requires-clause-holders : goal.pair_held-requires-clause-holders
+pair_held-requires-clause-holders c =
+    subst (λ (hs : List Plane). AreVertexHolders hs c.args.vertices c.in_ok-rows.rows) (sym c.into_planes.ensures.planes)
+    (subst (λ (vs : List Vertex). AreVertexHolders c.in_ok-carriers.carriers vs c.in_ok-rows.rows) c.as_slice.ensures.all c.in_ok-rows.ensures.rows)
 
 pub returns-clause-shows : goal.returns-clause-shows
 returns-clause-shows c =
-    let E = paired-edges c.args.vertices c.as_slice.result.now c.in_ok-edges_of.field-0.items c.from_vec-edges.result c.as_slice.ensures.all c.from_vec-edges.ensures.all c.in_ok-edges_of.ensures.edges in
-    if-all _ _ _ _ (λ d k i h s V. shows-set s c.args.carriers c.args.vertices V c.from_vec-edges.result E d k.0 k.1 k.2 i h) c.of.result c.of.ensures.kept c.of.ensures.index c.of.ensures.holders
+    subst (λ (hs : List Plane). IfOk c.pair_held.result (λ (d : Complex). (s : Set) → AreVerticesOf s hs c.args.vertices → ShowsSet s d)) (c.into_planes.ensures.planes ∙ c.in_ok-carriers.ensures.kept)
+    c.pair_held.ensures.shows

@@ -17,9 +17,6 @@ use Rattle.nef_complex.proofs.complex.Complex.of.Goals as goal
 of-two : {A B : Type 0} (P : A → B → Type 0) (a c : A) (b d : B) → a ≡ c → b ≡ d → P a b → P c d
 of-two P a c b d e f p = subst (P c) f (subst (λ x. P x b) e p)
 
-at-vertices : (hs gs : List Plane) (vs us : List Vertex) (rows : List (List ℕ)) → hs ≡ gs → vs ≡ us → AreVertexHolders hs vs rows → AreVertexHolders gs us rows
-at-vertices hs gs vs us rows e f = of-two (λ g u. AreVertexHolders g u rows) hs gs vs us e f
-
 at-edges : (hs gs : List Plane) (vs us : List Vertex) (es ds : List Edge) (rows : List (List ℕ)) → hs ≡ gs → vs ≡ us → es ≡ ds → AreEdgeHolders hs vs es rows → AreEdgeHolders gs us ds rows
 at-edges hs gs vs us es ds rows e f g p = subst (λ (x : List Edge). AreEdgeHolders gs us x rows) g (of-two (λ g u. AreEdgeHolders g u es rows) hs gs vs us e f p)
 
@@ -36,56 +33,55 @@ in-clusters gs us read spans clusters e S = carrier-clusters gs us read clusters
 
 pub turned-requires : goal.turned-requires
 turned-requires c =
-    let V = at-vertices _ c.args.carriers _ c.args.vertices c.in_ok-at_vertex.at_vertex c.as_slice.ensures.all c.as_slice-2.ensures.all c.in_ok-at_vertex.ensures.rows in
-    record { once = once c.args.carriers c.args.vertices c.in_ok-at_vertex.at_vertex c.len.result [] c.len.ensures.len (vertices-once c.args.carriers c.args.vertices c.in_ok-at_vertex.at_vertex V) }
+    record { once = once c.args.carriers c.args.vertices c.args.at_vertex c.len.result [] c.len.ensures.len (vertices-once c.args.carriers c.args.vertices c.args.at_vertex c.requires.rows) }
 
 pub turned-requires-2 : goal.turned-requires-2
 turned-requires-2 c =
-    let E = at-edges _ c.args.carriers _ c.args.vertices _ c.args.edges c.in_ok-at_edge.at_edge c.as_slice-3.ensures.all c.as_slice-4.ensures.all c.as_slice-5.ensures.all c.in_ok-at_edge.ensures.rows in
+    let E = at-edges _ c.args.carriers _ c.args.vertices _ c.args.edges c.in_ok-at_edge.at_edge c.as_slice.ensures.all c.as_slice-2.ensures.all c.as_slice-3.ensures.all c.in_ok-at_edge.ensures.rows in
     record { once = once c.args.carriers c.args.vertices c.in_ok-at_edge.at_edge c.len-2.result [] c.len-2.ensures.len (edges-once c.args.carriers c.args.vertices c.args.edges c.requires.ends c.in_ok-at_edge.at_edge E) }
 
 pub spans_of-requires : goal.spans_of-requires
 spans_of-requires c =
-    let hs = c.args.carriers in let vs = c.args.vertices in let rows = c.in_ok-at_vertex.at_vertex in let table = c.in_ok-on_carrier.on_carrier in
-    let V = at-vertices _ hs _ vs rows c.as_slice.ensures.all c.as_slice-2.ensures.all c.in_ok-at_vertex.ensures.rows in
+    let hs = c.args.carriers in let vs = c.args.vertices in let rows = c.args.at_vertex in let table = c.in_ok-on_carrier.on_carrier in
+    let V = c.requires.rows in
     let O = on-carriers hs vs rows c.len.result table c.len.ensures.len V c.in_ok-on_carrier.ensures.as_many c.in_ok-on_carrier.ensures.turned in
     record {
-      within = of-two (λ (xs : List (List ℕ)) (us : List Vertex). (k : ℕ) (row : List ℕ) → IsAt xs k row → AreWithin us row) table c.as_slice-7.result.now vs c.as_slice-6.result.now
-          (sym c.as_slice-7.ensures.all) (sym c.as_slice-6.ensures.all) (rows-within hs vs table O);
+      within = of-two (λ (xs : List (List ℕ)) (us : List Vertex). (k : ℕ) (row : List ℕ) → IsAt xs k row → AreWithin us row) table c.as_slice-5.result.now vs c.as_slice-4.result.now
+          (sym c.as_slice-5.ensures.all) (sym c.as_slice-4.ensures.all) (rows-within hs vs table O);
     }
 
 pub index_of-requires-clause-held : goal.index_of-requires-clause-held
-index_of-requires-clause-held c = of-two AreHeld c.args.carriers c.as_slice-8.result.now c.args.vertices c.as_slice-9.result.now (sym c.as_slice-8.ensures.all) (sym c.as_slice-9.ensures.all) c.requires.held
+index_of-requires-clause-held c = of-two AreHeld c.args.carriers c.as_slice-6.result.now c.args.vertices c.as_slice-7.result.now (sym c.as_slice-6.ensures.all) (sym c.as_slice-7.ensures.all) c.requires.held
 
 pub index_of-requires-clause-on : goal.index_of-requires-clause-on
 index_of-requires-clause-on c =
-    let hs = c.args.carriers in let vs = c.args.vertices in let rows = c.in_ok-at_vertex.at_vertex in let table = c.in_ok-on_carrier.on_carrier in
-    let V = at-vertices _ hs _ vs rows c.as_slice.ensures.all c.as_slice-2.ensures.all c.in_ok-at_vertex.ensures.rows in
+    let hs = c.args.carriers in let vs = c.args.vertices in let rows = c.args.at_vertex in let table = c.in_ok-on_carrier.on_carrier in
+    let V = c.requires.rows in
     let O = on-carriers hs vs rows c.len.result table c.len.ensures.len V c.in_ok-on_carrier.ensures.as_many c.in_ok-on_carrier.ensures.turned in
-    of-two (λ g u. AreCarrierVertices g u table) hs c.as_slice-8.result.now vs c.as_slice-9.result.now (sym c.as_slice-8.ensures.all) (sym c.as_slice-9.ensures.all) O
+    of-two (λ g u. AreCarrierVertices g u table) hs c.as_slice-6.result.now vs c.as_slice-7.result.now (sym c.as_slice-6.ensures.all) (sym c.as_slice-7.ensures.all) O
 
 -- what is set besides changes nothing of the planes' lists
 pub returns-clause-index : goal.returns-clause-index
 returns-clause-index c =
     let hs = c.args.carriers in let vs = c.args.vertices in let es = c.args.edges in let rows = c.in_ok-at_edge.at_edge in let table = c.in_ok-in_carrier.in_carrier in
     let x = c.in_ok-index.index in
-    let E = at-edges _ hs _ vs _ es rows c.as_slice-3.ensures.all c.as_slice-4.ensures.all c.as_slice-5.ensures.all c.in_ok-at_edge.ensures.rows in
+    let E = at-edges _ hs _ vs _ es rows c.as_slice.ensures.all c.as_slice-2.ensures.all c.as_slice-3.ensures.all c.in_ok-at_edge.ensures.rows in
     let W = carrier-edges hs vs es c.requires.ends rows E table (c.in_ok-in_carrier.ensures.as_many ∙ c.len-2.ensures.len) c.in_ok-in_carrier.ensures.turned in
-    let I = subst (λ (us : List Vertex). IsIndexOf us es x) c.as_slice-9.ensures.all
-    (c.in_ok-index.ensures.index es (of-two (λ g u. AreCarrierEdges g u es table) hs c.as_slice-8.result.now vs c.as_slice-9.result.now (sym c.as_slice-8.ensures.all) (sym c.as_slice-9.ensures.all) W)) in
+    let I = subst (λ (us : List Vertex). IsIndexOf us es x) c.as_slice-7.ensures.all
+    (c.in_ok-index.ensures.index es (of-two (λ g u. AreCarrierEdges g u es table) hs c.as_slice-6.result.now vs c.as_slice-7.result.now (sym c.as_slice-6.ensures.all) (sym c.as_slice-7.ensures.all) W)) in
     record { planes = I.planes; ordered = I.ordered; as_many_edges = I.as_many_edges; as_many_vertices = I.as_many_vertices; edges = I.edges; vertices = I.vertices }
 
 pub returns-clause-holders : goal.returns-clause-holders
 returns-clause-holders c =
     let hs = c.args.carriers in let vs = c.args.vertices in let es = c.args.edges in
-    let rows = c.in_ok-at_vertex.at_vertex in let table = c.in_ok-on_carrier.on_carrier in
+    let rows = c.args.at_vertex in let table = c.in_ok-on_carrier.on_carrier in
     let erows = c.in_ok-at_edge.at_edge in let etable = c.in_ok-in_carrier.in_carrier in
-    let V = at-vertices _ hs _ vs rows c.as_slice.ensures.all c.as_slice-2.ensures.all c.in_ok-at_vertex.ensures.rows in
+    let V = c.requires.rows in
     let O = on-carriers hs vs rows c.len.result table c.len.ensures.len V c.in_ok-on_carrier.ensures.as_many c.in_ok-on_carrier.ensures.turned in
-    let E = at-edges _ hs _ vs _ es erows c.as_slice-3.ensures.all c.as_slice-4.ensures.all c.as_slice-5.ensures.all c.in_ok-at_edge.ensures.rows in
+    let E = at-edges _ hs _ vs _ es erows c.as_slice.ensures.all c.as_slice-2.ensures.all c.as_slice-3.ensures.all c.in_ok-at_edge.ensures.rows in
     let W = carrier-edges hs vs es c.requires.ends erows E etable (c.in_ok-in_carrier.ensures.as_many ∙ c.len-2.ensures.len) c.in_ok-in_carrier.ensures.turned in
     let ss = c.in_ok-spans.spans in
-    let many = subst (λ (xs : List (List ℕ)). length ss ≡ length xs) c.as_slice-7.ensures.all c.in_ok-spans.ensures.as_many in
-    let all = of-two (λ (xs : List (List ℕ)) (us : List Vertex). AreSpansOf us xs ss) c.as_slice-7.result.now table c.as_slice-6.result.now vs c.as_slice-7.ensures.all c.as_slice-6.ensures.all c.in_ok-spans.ensures.spanned in
+    let many = subst (λ (xs : List (List ℕ)). length ss ≡ length xs) c.as_slice-5.ensures.all c.in_ok-spans.ensures.as_many in
+    let all = of-two (λ (xs : List (List ℕ)) (us : List Vertex). AreSpansOf us xs ss) c.as_slice-5.result.now table c.as_slice-4.result.now vs c.as_slice-5.ensures.all c.as_slice-4.ensures.all c.in_ok-spans.ensures.spanned in
     let S = carrier-spans hs vs table O ss many all in
-    record { at_vertex = V; at_edge = E; on_carrier = O; in_carrier = W; spans = S; clusters = in-clusters hs vs c.as_slice-10.result.now ss c.in_ok-clusters.clusters c.as_slice-10.ensures.all S c.in_ok-clusters.ensures.wide c.in_ok-clusters.ensures.groups c.in_ok-clusters.ensures.all }
+    record { at_vertex = V; at_edge = E; on_carrier = O; in_carrier = W; spans = S; clusters = in-clusters hs vs c.as_slice-8.result.now ss c.in_ok-clusters.clusters c.as_slice-8.ensures.all S c.in_ok-clusters.ensures.wide c.in_ok-clusters.ensures.groups c.in_ok-clusters.ensures.all }
