@@ -2,9 +2,6 @@
 use Rattle.std.proofs.Common.{◌≡◌, ◌∙◌, ℕ, ◌+◌, List, [], ◌∷◌, ◌++◌, length, refl, ap, arith, Option, Some, None, Bool, true, false, ◌||◌, ◌⊎◌, inl, inr}
 use Rattle.nef_sched.specs.Line.{numbers_in, ends_in, EndsLast}
 
-pub false_not_true : false ≡ true → ⊥
-false_not_true e = cc
-
 pub not_true : (b : Bool) → (b ≡ true → ⊥) → b ≡ false
 not_true true n = absurd (n refl)
 not_true false n = refl

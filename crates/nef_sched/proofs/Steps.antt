@@ -1,5 +1,6 @@
 -- Each kind of step keeps the queue's rule, and what a pass learns from it.
 use Rattle.std.proofs.Common.{◌≡◌, ◌≢◌, ℕ, zero, suc, ◌+◌, ◌^◌, ◌<◌, ◌≤◌, List, [], ◌∷◌, ◌++◌, length, set, refl, ap, sym, ◌∙◌, arith, ◌⊎◌, inl, inr, ⊎_elim, subst, take, drop, slice_index_or, slice_get, Option, Some, None, Bool, true, false, ◌||◌}
+use Rattle.std.proofs.lemmas.Bool.{false≢true}
 use Rattle.std.proofs.lemmas.List.{length-append, length-take-le}
 use Rattle.std.proofs.lemmas.Option.{slice_get_within}
 use mathlib.Core.Option.{some, some-injective, some-ne-none}
@@ -15,7 +16,7 @@ use Rattle.nef_sched.specs.Laws.{NumbersAreKnown, PassesAgree, NoneTwice, NoneTa
 use Rattle.nef_sched.specs.declared.pass.RoundPass.{RoundPass}
 use Rattle.nef_sched.specs.Rounds.{parts, known, taken, ended, any_ended, total_parts, times_taken, numbers_of}
 use Rattle.nef_sched.proofs.Totals.{weigh_append, weigh_one, counts, counts_itself, total_set, total_snoc, at_most, two_at_most, all_of_one}
-use Rattle.nef_sched.proofs.Lines.{false_not_true, not_true, one_of, cons_not_nil, numbers_more, numbers_end, ends_more, ends_end, last_more, last_end, last_none, length_in}
+use Rattle.nef_sched.proofs.Lines.{not_true, one_of, cons_not_nil, numbers_more, numbers_end, ends_more, ends_end, last_more, last_end, last_none, length_in}
 
 abbrev Each : (View → Type 0) → List View → Type 0
 Each F views = (place : ℕ) (v : View) → get_elem? views place ≡ some v → F v
@@ -65,7 +66,7 @@ puts room place v x all none going new items views _ kept at =
     let mine : Fits (numbers ++ x ∷ []) left' w = record {
       knows = λ _. ap (λ l. l ++ x ∷ []) knows;
       none = λ z. absurd (omega arith);
-      ended = λ e. absurd (false_not_true (sym going ∙ e));
+      ended = λ e. absurd (false≢true (sym going ∙ e));
     } in (
       w,
       (
@@ -86,7 +87,7 @@ puts room place v x all none going new items views _ kept at =
               let p = s.parts in
               let no_part : u.parts ≡ 0 = omega arith in
               let f = (s.fits j u e).none no_part in
-              record { knows = λ some_part. absurd (omega arith); none = λ _. f; ended = λ q. absurd (false_not_true (sym f.3 ∙ q)) });
+              record { knows = λ some_part. absurd (omega arith); none = λ _. f; ended = λ q. absurd (false≢true (sym f.3 ∙ q)) });
         },
       ),
       refl,
@@ -148,7 +149,7 @@ takes place v some_part may (Some x) items views kept at =
     let len = s.each (λ y. 1) in
     let longest = at_most (λ u. weigh (λ y. 1) u.taken) views place v at in
     let k' : length v.known ≡ length numbers = ap length knows in
-    let mine : Fits numbers left w = record { knows = λ _. knows; none = λ z. absurd (omega arith); ended = λ q. absurd (false_not_true (sym going ∙ q)) } in (
+    let mine : Fits numbers left w = record { knows = λ _. knows; none = λ z. absurd (omega arith); ended = λ q. absurd (false≢true (sym going ∙ q)) } in (
       w,
       (
         numbers,
@@ -200,7 +201,7 @@ forks place v two owes items views kept at =
     let knows : v.known ≡ numbers = own.knows (omega arith) in
     let cutted : List View = set views place (cut v) in
     let mine : Fits numbers left (cut v) = record { knows = λ _. knows; none = λ z. absurd (omega arith); ended = own.ended } in
-    let made : Fits numbers left (share v) = record { knows = λ _. knows; none = λ z. absurd (omega arith); ended = λ q. absurd (false_not_true q) } in (
+    let made : Fits numbers left (share v) = record { knows = λ _. knows; none = λ z. absurd (omega arith); ended = λ q. absurd (false≢true q) } in (
       numbers,
       record {
         parts = (let t = total_set (λ u. u.parts) views place v (cut v) at in let p = s.parts in omega (arith, total_snoc (λ u. u.parts) cutted (share v)));
@@ -230,7 +231,7 @@ merges place v other w mine theirs items views kept at apart at' =
       none = λ z. absurd (omega arith);
       ended = λ q. elim (one_of v.ended w.ended q) [ inl a ↦ own.ended a | inr b ↦ theirs'.ended b ];
     } in
-    let nothing : Fits numbers left spent = record { knows = λ z. absurd (omega arith); none = λ _. (refl, refl, refl, refl); ended = λ q. absurd (false_not_true q) } in (
+    let nothing : Fits numbers left spent = record { knows = λ z. absurd (omega arith); none = λ _. (refl, refl, refl, refl); ended = λ q. absurd (false≢true q) } in (
       numbers,
       record {
         parts = (let t = total_set (λ u. u.parts) views place v (both v w) at in let t' = total_set (λ u. u.parts) joint other w spent at' in let p = s.parts in omega arith);
@@ -294,7 +295,7 @@ ended_took v items end seen all = took_each seen.3.0 items seen.0 seen.1 v seen.
 
 -- a pass that took another one in may still take an end where neither has ended
 pub joined_owes : (a b : Bool) (u w v : View) → (a ≡ false → 0 < u.due) → v ≡ both u w → (a || b) ≡ false → 0 < v.due
-joined_owes true b u w v p e q = absurd (false_not_true (sym q))
+joined_owes true b u w v p e q = absurd (false≢true (sym q))
 joined_owes false b u w v p e q =
     let d : v.due ≡ u.due + w.due = ap (λ (z : View). z.due) e in
     let x = p refl in

@@ -1,9 +1,9 @@
 use Rattle.std.proofs.Common.{ℕ, ◌<◌, arith, inl, inr, subst, ◌∙◌, sym, rules, true, false}
 use Rattle.std.specs.Prelude.{IsSome}
+use Rattle.std.proofs.lemmas.Bool.{false≢true}
 use Rattle.std.proofs.lemmas.Option.{slice_get_within}
 use Rattle.nef_sched.specs.Marks.{IsMarked}
 use Rattle.nef_sched.specs.Results.{IsKept}
-use Rattle.nef_sched.proofs.Lines.{false_not_true}
 use Rattle.nef_sched.proofs.Marking.{all_at, asked_before, off_not_on}
 use Rattle.nef_sched.proofs.ahead.run_lean.Goals as goal
 use Rattle.nef_sched.proofs.ahead.run_lean.Goals.{in-None, in-Some+in_ok-numbers+then-is_empty}
@@ -31,7 +31,7 @@ returns-clause-wanted g c n wanted =
     let within = slice_get_within c.args.wanted.now n true wanted in
     let len = c.requires.wanted in
     let all : (k : ℕ) → k < g.T.Stage.size c.args.stage.now → IsMarked c.loop.worked k = elim c.match-next.branch [
-      | in-None w ↦ absurd (false_not_true (subst IsSome w.in-None.is c.next.ensures.steps))
+      | in-None w ↦ absurd (false≢true (subst IsSome w.in-None.is c.next.ensures.steps))
       | in-Some+in_ok-numbers+then-is_empty w ↦ w.in_ok-numbers.ensures.none (search rules)
     ] in
     c.loop.invariant.there n (all n (omega arith)) (inl wanted)
@@ -40,7 +40,7 @@ pub returns-clause-lean : goal.returns-clause-lean
 returns-clause-lean g c n away =
     let len = c.loop.invariant.len in
     let all : (k : ℕ) → k < g.T.Stage.size c.args.stage.now → IsMarked c.loop.worked k = elim c.match-next.branch [
-      | in-None w ↦ absurd (false_not_true (subst IsSome w.in-None.is c.next.ensures.steps))
+      | in-None w ↦ absurd (false≢true (subst IsSome w.in-None.is c.next.ensures.steps))
       | in-Some+in_ok-numbers+then-is_empty w ↦ w.in_ok-numbers.ensures.none (search rules)
     ] in
     c.loop.invariant.gone n away (λ a. let low = slice_get_within c.loop.worked a.0 false a.1 in off_not_on c.loop.worked a.0 (all a.0 (omega arith)) a.1)
