@@ -52,6 +52,9 @@ fn add_plane(
     Ok(())
 }
 
+// Most carriers of a small set have no more vertices or edges.
+const ON_CARRIER: usize = 8;
+
 // The index of the planes of all items, each of which is a carrier. The vertices and edges of each carrier are given.
 fn index_of(
     alloc: Global,
@@ -68,8 +71,8 @@ fn index_of(
 {
     let mut index = PlaneIndex {
         planes: List::new(alloc),
-        edges: Table::new(alloc),
-        vertices: Table::new(alloc),
+        edges: Table::with_rows(alloc, carriers.len(), ON_CARRIER)?,
+        vertices: Table::with_rows(alloc, carriers.len(), ON_CARRIER)?,
         at_vertex: Table::new(alloc),
         at_edge: Table::new(alloc),
         on_carrier: List::new(alloc),

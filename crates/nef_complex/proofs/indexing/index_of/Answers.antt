@@ -1,9 +1,20 @@
 use Rattle.std.proofs.Common.{length, arith, refl, sym, subst, ⊎_elim}
 use Rattle.std.proofs.lemmas.Option.{slice_get_read}
 use Rattle.nef_geo.specs.Shapes.{form_of}
-use Rattle.nef_complex.specs.Index.{AreNumbersWith, EdgeLiesIn}
-use Rattle.nef_complex.proofs.IndexSteps.{index-more, index-skip, index-all}
+use Rattle.nef_complex.specs.Index.{AreNumbersWith, EdgeLiesIn, LiesOn}
+use Rattle.nef_complex.proofs.IndexSteps.{index-none, index-more, index-skip, index-all}
 use Rattle.nef_complex.proofs.indexing.index_of.Goals as goal
+
+pub loop-number-init : goal.loop-number-init
+loop-number-init c es W = index-none c.args.carriers.now c.args.vertices.now es _ c.new.ensures.empty c.in_ok-with_rows.ensures.empty c.in_ok-with_rows-2.ensures.empty
+
+pub add_plane-requires : goal.add_plane-requires
+add_plane-requires c =
+    let hs = c.args.carriers.now in
+    let n = c.loop-number.number in
+    let h = c.index-carriers-number.result in
+    let here = slice_get_read hs (length hs) n h refl c.loop-number-test.true c.index-carriers-number.is in
+    record { on = subst (AreNumbersWith (LiesOn c.args.vertices.now (form_of h))) (sym c.as_slice-on.ensures.all) (c.requires.on.each n h c.at.result.now here c.at.ensures.element) }
 
 pub loop-number-preserved : goal.loop-number-preserved
 loop-number-preserved c es W =
