@@ -20,3 +20,4 @@ pub mod FacetFound
 pub mod EdgeOrder
 pub mod Listed
 pub mod Windows
+pub mod NumbersFound

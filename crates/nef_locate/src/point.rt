@@ -62,12 +62,13 @@ impl Probe<'_> {
         requires within { AreWithin self.now.complex.now.edges numbers.now }
         ensures edge { MatchOption result ((i k : ℕ) → IsAt numbers.now i k → IsEdgePoint (complex_of self.now.complex.now) k (hit_place self.now.at) → ⊥) (λ k. IsEdgePoint (complex_of self.now.complex.now) k (hit_place self.now.at)) }
     {
-        for number in numbers {
-            if self.is_on(*number) {
-                return Some(*number);
-            }
-        }
-        None
+        numbers.iter().copied().find(
+            |number|
+                requires probe { IsProbe self.now }
+                requires within { number.now < length self.now.complex.now.edges }
+                ensures on { IsTrue result ↔ IsEdgePoint (complex_of self.entry.now.complex.now) number.now (hit_place self.entry.now.at) }
+            { self.is_on(*number) },
+        )
     }
 
     // The edge or the facet of the carrier with this number on which the point lies, one of the carrier's.

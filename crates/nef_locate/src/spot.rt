@@ -1,6 +1,6 @@
 //! What of the skeleton stands at a point of a carrier.
 
-ghost use Rattle.std.specs.Prelude.{◌≡◌, ℕ, pos, IsNone, IfSome};
+ghost use Rattle.std.specs.Prelude.{◌≡◌, ℕ, ◌<◌, length, pos, ◌↔◌, IsTrue, IsNone, IfSome};
 ghost use Rattle.std.specs.Option.{MatchOption};
 ghost use Rattle.nef_space.specs.Lists.{IsAt};
 ghost use Rattle.nef_space.specs.Place.{InClosedFrame, form_at};
@@ -27,12 +27,13 @@ fn vertex_among(c: &Complex, numbers: &[usize], q: &Hit) -> Option<usize>
     requires within { AreWithin c.now.vertices numbers.now }
     ensures vertex { MatchOption result ((i k : ℕ) → IsAt numbers.now i k → IsVertexPoint (complex_of c.now) k (hit_place q.now) → ⊥) (λ k. IsVertexPoint (complex_of c.now) k (hit_place q.now)) }
 {
-    for number in numbers {
-        if is_at_vertex(c, *number, q) {
-            return Some(*number);
-        }
-    }
-    None
+    numbers.iter().copied().find(
+        |number|
+            requires shows { (s : Set) × ShowsSet s c.now }
+            requires within { number.now < length c.now.vertices }
+            ensures at { IsTrue result ↔ IsVertexPoint (complex_of c.entry.now) number.now (hit_place q.entry.now) }
+        { is_at_vertex(c, *number, q) },
+    )
 }
 
 // Of the edges with these numbers that on which the hit lies.
@@ -41,12 +42,13 @@ fn edge_among(c: &Complex, numbers: &[usize], q: &Hit) -> Option<usize>
     requires within { AreWithin c.now.edges numbers.now }
     ensures edge { MatchOption result ((i k : ℕ) → IsAt numbers.now i k → IsEdgePoint (complex_of c.now) k (hit_place q.now) → ⊥) (λ k. IsEdgePoint (complex_of c.now) k (hit_place q.now)) }
 {
-    for number in numbers {
-        if is_on_edge(c, *number, q) {
-            return Some(*number);
-        }
-    }
-    None
+    numbers.iter().copied().find(
+        |number|
+            requires shows { (s : Set) × ShowsSet s c.now }
+            requires within { number.now < length c.now.edges }
+            ensures on { IsTrue result ↔ IsEdgePoint (complex_of c.entry.now) number.now (hit_place q.entry.now) }
+        { is_on_edge(c, *number, q) },
+    )
 }
 
 // The facet of the plane in which a point of the plane lies that is no vertex and lies on no edge in the plane.
