@@ -1,5 +1,5 @@
 -- The complexes of the nodes that questions ask about.
-use Rattle.std.proofs.Common.{◌≡◌, ◌⊎◌, ◌∙◌, ℕ, Bool, true, false, zero, suc, ◌+◌, ◌<◌, ◌≤◌, ap, arith, refl, sym, subst, List, [], ◌∷◌, ◌++◌, append-nil, length, Option, Some, None, IfSome, slice_get, inl, inr}
+use Rattle.std.proofs.Common.{◌≡◌, ◌⊎◌, ◌∙◌, ℕ, Bool, true, false, zero, suc, ◌+◌, ◌<◌, ◌≤◌, ap, arith, refl, sym, subst, List, [], ◌∷◌, append-nil, length, Option, Some, None, IfSome, slice_get, inl, inr}
 use Rattle.std.specs.Prelude.{slice_set, is_some}
 use Rattle.std.proofs.lemmas.Bool.{cases_eq, cases_lt}
 use Rattle.std.proofs.lemmas.Option.{slice_get_within}
@@ -16,7 +16,7 @@ use Rattle.nef_script.specs.declared.script.Command.{Command}
 use Rattle.nef_script.specs.declared.script.Command.TheVariants.{Bind, Turn, Has, Joined, Ray, Same, Count, Print}
 use Rattle.nef_script.specs.Commands.{Binds, AreBoundBefore}
 use Rattle.nef_shell.specs.declared.bindings.Binding.{Binding}
-use Rattle.nef_shell.specs.Bindings.{IsBoundAt, IsAskedAbout, AreMarkedAsked, AreAllBound, Fits, ArePlaced, AreThoseMarked}
+use Rattle.nef_shell.specs.Bindings.{IsBoundAt, IsAskedAbout, AreMarkedAsked, AreAllBound, Fits, ArePlaced, AreFirst}
 use Rattle.nef_shell.specs.Operations.{AreShown, IsKept, IsGone, AreBound}
 use Rattle.nef_shell.specs.Output.{IsPiece}
 use Rattle.nef_shell.proofs.Complexes.{shown-put}
@@ -48,7 +48,7 @@ marked-or-not (m ∷ marks) (suc k) within = marked-or-not marks k (omega arith)
 
 -- the results that are wanted are those that are placed
 pub those-marked : (nodes : List Node) (bindings : List Binding) (wanted : List Bool) (results list : List (Option Complex)) → length wanted ≡ length bindings → ((n : ℕ) → IsMarked wanted n → HasResult results n)
-    → ((n : ℕ) → IsUnmarked wanted n → kept results n ≡ None) → ArePlaced nodes bindings results list → AreThoseMarked nodes bindings wanted list
+    → ((n : ℕ) → IsUnmarked wanted n → kept results n ≡ None) → ArePlaced nodes bindings (HasResult results) list → ArePlaced nodes bindings (IsMarked wanted) list
 those-marked nodes bindings wanted results list count has lean placed = record {
   shown = placed.shown;
   there = λ n k bound marked. placed.there n k bound (has n marked);
@@ -60,21 +60,24 @@ those-marked nodes bindings wanted results list count has lean placed = record {
       ];
 }
 
--- a node that a question asks about is bound by a binding, whose result is wanted and stands at the node's place
-pub asked-kept : (nodes : List Node) (commands : List Command) (bindings : List Binding) (wanted : List Bool) (list : List (Option Complex)) → AreBoundBefore nodes commands → AreAllBound commands bindings
-    → AreMarkedAsked nodes commands bindings wanted → AreThoseMarked nodes bindings wanted list → (k : ℕ) → IsAskedAbout nodes commands k → IsKept nodes list k
-asked-kept nodes commands bindings wanted list before all marks placed k about =
-    let (i, c, at, asks, looks) = about in
-    let (j, d, low, seen, binds) = before i c at k looks in
-    let (n, (b, here, is)) = all j k d seen binds in
-    placed.there n k (b, here, is) ((marks n b here).1 (subst (IsAskedAbout nodes commands) (sym is) about))
+-- no complex is there before the first command, unless all bindings are worked ahead
+pub none-first : (nodes : List Node) (commands : List Command) (list : List (Option Complex)) → ((k : ℕ) (c : Complex) → slice_get list k ≡ Some (Some c) → ⊥) → AreFirst nodes commands false list
+none-first nodes commands list none = record { shown = λ k c at. absurd (none k c at); asked = λ on. absurd (let f : false ≡ true = on in cc); only = λ k c at. absurd (none k c at) }
 
--- nothing else stands at any place
-pub only-asked : (nodes : List Node) (commands : List Command) (bindings : List Binding) (wanted : List Bool) (list : List (Option Complex)) → AreMarkedAsked nodes commands bindings wanted → AreThoseMarked nodes bindings wanted list
-    → (k : ℕ) (c : Complex) → slice_get list k ≡ Some (Some c) → IsAskedAbout nodes commands k
-only-asked nodes commands bindings wanted list marks placed k c there =
-    let (n, (b, here, is), marked) = placed.only k c there in
-    subst (IsAskedAbout nodes commands) is ((marks n b here).0 marked)
+-- a node that a question asks about is bound by a binding, which is marked, so that the node's complex stands at its place; and nothing else stands at any place
+pub marked-first : (nodes : List Node) (commands : List Command) (bindings : List Binding) (wanted : List Bool) (list : List (Option Complex)) → AreBoundBefore nodes commands → AreAllBound commands bindings
+    → AreMarkedAsked nodes commands bindings wanted → ArePlaced nodes bindings (IsMarked wanted) list → AreFirst nodes commands true list
+marked-first nodes commands bindings wanted list before all marks placed = record {
+  shown = placed.shown;
+  asked = λ on k about.
+      let (i, c, at, asks, looks) = about in
+      let (j, d, low, seen, binds) = before i c at k looks in
+      let (n, (b, here, is)) = all j k d seen binds in
+      placed.there n k (b, here, is) ((marks n b here).1 (subst (IsAskedAbout nodes commands) (sym is) about));
+  only = λ k c there.
+      let (n, (b, here, is), marked) = placed.only k c there in
+      subst (IsAskedAbout nodes commands) is ((marks n b here).0 marked);
+}
 
 -- a command that binds a node writes nothing
 pub bound-nothing : (version : TextVersion) (nodes : List Node) (c : Command) (k : ℕ) → Binds c k → IsPiece version nodes c []
@@ -116,35 +119,9 @@ pub put-only : (list : List (Option Complex)) (n : ℕ) (o : Option Complex) →
 put-only list n None e k c at = absurd (let f : false ≡ true = e in cc)
 put-only list n (Some x) e k c at = elim (cases_eq k n) [ inl same ↦ inr (sym same, x, refl) | inr other ↦ inl (sym (get_set_other list n k (Some x) other) ∙ at) ]
 
--- the same of equal lists
-pub placed-as : (nodes nodes2 : List Node) (bindings bindings2 : List Binding) (results results2 list : List (Option Complex)) → nodes ≡ nodes2 → bindings ≡ bindings2 → results ≡ results2 → ArePlaced nodes bindings results list → ArePlaced nodes2 bindings2 results2 list
-placed-as nodes nodes2 bindings bindings2 results results2 list e f g p = subst (λ z. ArePlaced z bindings2 results2 list) e (subst (λ z. ArePlaced nodes z results2 list) f (subst (λ z. ArePlaced nodes bindings z list) g p))
-
 pub grows-none : (a : Option (List ℕ)) → Grows a a []
 grows-none None = tt
 grows-none (Some bs) = sym (append-nil bs)
-
-get-left : {X : Type 0} (xs ys : List X) (k : ℕ) → k < length xs → slice_get (xs ++ ys) k ≡ slice_get xs k
-get-left [] ys k within = absurd (omega arith)
-get-left (x ∷ xs) ys zero within = refl
-get-left (x ∷ xs) ys (suc k) within = get-left xs ys k (omega arith)
-
-get-last : {X : Type 0} (xs : List X) (x : X) → slice_get (xs ++ x ∷ []) (length xs) ≡ Some x
-get-last [] x = refl
-get-last (y ∷ xs) x = get-last xs x
-
--- one more binding has its node's mark
-pub wanted-more : (bindings : List Binding) (asked marks : List Bool) (i : ℕ) (b : Binding) (m : Bool) → i ≡ length marks → slice_get bindings i ≡ Some b → slice_get asked b.node ≡ Some m
-    → ((n : ℕ) (d : Binding) → n < i → slice_get bindings n ≡ Some d → slice_get marks n ≡ slice_get asked d.node)
-    → (n : ℕ) (d : Binding) → n < i + 1 → slice_get bindings n ≡ Some d → slice_get (marks ++ m ∷ []) n ≡ slice_get asked d.node
-wanted-more bindings asked marks i b m count here marked so_far n d below at = elim (cases_lt n i) [
-  | inl earlier ↦ get-left marks (m ∷ []) n (omega (arith, count)) ∙ so_far n d earlier at
-  | inr past ↦
-      let is : n ≡ i = omega arith in
-      let one : Some b ≡ Some d = sym here ∙ (sym (ap (slice_get bindings) is) ∙ at) in
-      let same : b ≡ d = cc in
-      ap (slice_get (marks ++ m ∷ [])) (is ∙ count) ∙ (get-last marks m ∙ (sym marked ∙ ap (λ (z : Binding). slice_get asked z.node) same))
-]
 
 -- what the result of the n-th binding shows
 pub result-shows : (nodes : List Node) (bindings : List Binding) (results : List (Option Complex)) (n : ℕ) (b : Binding) (o : Option Complex) → AreSound (length bindings) (Fits nodes bindings) results → slice_get bindings n ≡ Some b → slice_get results n ≡ Some o

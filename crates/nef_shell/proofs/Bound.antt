@@ -1,7 +1,6 @@
 -- Bindings, and what they need.
 use Rattle.std.proofs.Common.{◌≡◌, ◌⊎◌, ◌∙◌, ℕ, zero, suc, ◌<◌, ap, refl, sym, subst, List, [], ◌∷◌, ◌++◌, length, Option, Some, None, IfSome, IsSomeAnd, slice_get, inl, inr}
 use Rattle.std.specs.Prelude.{option_and_then}
-use Rattle.std.proofs.lemmas.Option.{slice_get_within}
 use Rattle.nef_complex.specs.declared.complex.Complex.{Complex}
 use Rattle.nef_complex.specs.Complexes.{ShowsSet}
 use Rattle.nef_expr.specs.declared.nodes.Node.{Node}
@@ -9,7 +8,7 @@ use Rattle.nef_expr.specs.Nodes.{node_set, sets_after}
 use Rattle.nef_sched.specs.Results.{kept, IsReady}
 use Rattle.nef_shell.specs.declared.bindings.Binding.{Binding}
 use Rattle.nef_shell.specs.declared.operation.Operation.{Operation}
-use Rattle.nef_shell.specs.Bindings.{IsBoundAt, IsBound, IsNeeded, IsBinding, AreBindings, first_need, second_need, needed_complex, Fits}
+use Rattle.nef_shell.specs.Bindings.{IsBound, IsNeeded, IsBinding, AreBindings, first_need, second_need, needed_complex, Fits}
 use Rattle.nef_shell.specs.Operations.{set_by, first_operand, second_operand, HasTurn, IsLent, AreLent}
 
 kept-left : {X : Type 0} (xs ys : List X) (k : ℕ) (x : X) → slice_get xs k ≡ Some x → slice_get (xs ++ ys) k ≡ Some x
@@ -57,11 +56,6 @@ binding-by nodes bindings k op b within turn set here by first second = record {
 
 pub bound-last : (old : List Binding) (b : Binding) (k : ℕ) → b.node ≡ k → IsBound (old ++ b ∷ []) k
 bound-last old b k is = (length old, (b, at-last old b, is))
-
--- a node that is bound in the list is bound at a number below its length
-pub need-of : (bindings : List Binding) (i : ℕ) (need : Option ℕ) → IsBound bindings i → ((n : ℕ) → need ≡ Some n → IsBoundAt bindings n i) → (need ≡ None → IsBound bindings i → ⊥) → IsNeeded bindings (length bindings) (Some i) need
-need-of bindings i None bound found not = absurd (not refl bound)
-need-of bindings i (Some j) bound found not = let at = found j refl in (j, refl, slice_get_within bindings j at.0 at.1, at)
 
 -- what is needed is lent to the operation
 pub lent-of : (nodes : List Node) (bindings : List Binding) (n : ℕ) (list : List (Option Complex)) (operand need : Option ℕ) → IsNeeded bindings n operand need → IfSome need (λ k. IsSomeAnd (kept list k) (Fits nodes bindings k)) → IsLent (sets_after [] nodes) operand (needed_complex list need)

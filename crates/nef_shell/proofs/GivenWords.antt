@@ -1,39 +1,31 @@
 -- The words behind the program's name, from what the environment gave.
-use Rattle.std.proofs.Common.{◌≡◌, ℕ, refl, sym, ap, map, string_bytes, subst, ◌∙◌, IfOk, List, Option, Result, Ok, Err}
-use Rattle.std.specs.Prelude.{drop, IsOkAnd}
+use Rattle.std.proofs.Common.{◌≡◌, ℕ, refl, sym, ap, subst, ◌∙◌, List, Option, Result, Ok, Err}
+use Rattle.std.specs.Prelude.{drop, IsOkAnd, IsErrAnd}
 use Rattle.std.specs.Vec.Iter.{into_iter_items}
+use Rattle.std.specs.IoError.{error_kind}
 use Rattle.std.specs.declared.io.Error.{Error}
+use Rattle.std.specs.declared.io.ErrorKind.TheVariants.{InvalidData}
 use Rattle.std.specs.declared.string.String.{String}
 use Rattle.std.specs.declared.vec.IntoIter.{IntoIter}
 use Rattle.std.specs.declared.vec.Vec.{Vec}
 use Rattle.nef_shell.specs.declared.status.Status.{Status}
 use Rattle.nef_shell.specs.Traffic.{Traffic}
 use Rattle.nef_shell.specs.Ended.{RunEnds}
-use Rattle.nef_shell.specs.Program.{IsCollected, LineEnds, ProgramEnds}
-use Rattle.nef_shell.specs.Status.{status_code}
-
-words-of : {X Y Z : Type 0} (given : Result (IntoIter X Y) Error) (words : Vec X Z) → IsCollected given (Ok words) → (it : IntoIter X Y) × (given ≡ Ok it) × (words.items ≡ into_iter_items it)
-words-of (Ok it) words same = (it, refl, same)
-words-of (Err e) words same = absurd same
-
-error-of : {X Y : Type 0} (Z : Type 0) (given : Result (IntoIter X Y) Error) (error : Error) → IsCollected {X = X} {Y = Y} {Z = Z} given (Err error) → given ≡ Err error
-error-of Z (Ok it) error same = absurd same
-error-of Z (Err e) error same = ap (λ z. Err z) (sym same)
-
--- how a run with the words ends, as the program's exit status says it
-pub program-ends : {E W Y Z : Type 0} (given : Result (IntoIter (String Y) W) Error) (line : Result (Result (Vec (String Y) Z) Error) E) (status : Status) (code : ℕ) (io : Traffic) → IfOk line (λ all. IsCollected given all) → LineEnds line status io → code ≡ status_code status
-    → ProgramEnds given code io
-program-ends {Z = Z} given line status code io collected (LineEnds.ran words is ends) e =
-    let (it, was, same) = words-of given words (subst (λ z. IfOk z (λ all. IsCollected given all)) is collected) in
-    ProgramEnds.ran it status was (subst (λ z. RunEnds (map string_bytes (drop 1 z)) status io) same ends) e
-program-ends {Z = Z} given line status code io collected (LineEnds.no_text error is kind unread refuses) e =
-    ProgramEnds.no_text error status (error-of Z given error (subst (λ z. IfOk z (λ all. IsCollected given all)) is collected)) kind unread refuses e
-program-ends {Z = Z} given line status code io collected (LineEnds.no_memory unread quiet is) e = ProgramEnds.no_memory unread quiet (e ∙ ap status_code is)
+use Rattle.nef_shell.specs.Program.{IsCollected, ProgramEnds}
 
 -- the words but the first
-pub words-given : {X Z : Type 0} (all : Result (Vec X Z) Error) (words : List X) → IsOkAnd all (λ v. words ≡ drop 1 v.items) → (v : Vec X Z) × (all ≡ Ok v) × (words ≡ drop 1 v.items)
-words-given (Ok v) words is = (v, refl, is)
-words-given (Err e) words is = absurd is
+pub words-given : {X Y Z : Type 0} (line : Result (IntoIter X Y) Error) (all : Result (Vec X Z) Error) (words : List X) → IsCollected line all → IsOkAnd all (λ v. words ≡ drop 1 v.items) → (it : IntoIter X Y) × (line ≡ Ok it) × (words ≡ drop 1 (into_iter_items it))
+words-given (Ok it) (Ok all) words same is = (it, refl, is ∙ ap (λ z. drop 1 z) same)
+words-given (Ok it) (Err e) words same is = absurd same
+words-given (Err e) (Ok all) words same is = absurd same
+words-given (Err e) (Err f) words same is = absurd is
+
+-- words that aren't text
+pub no-text : {X Y Z : Type 0} (line : Result (IntoIter X Y) Error) (all : Result (Vec X Z) Error) → IsCollected line all → IsErrAnd all (λ e. error_kind e ≡ InvalidData) → (error : Error) × (line ≡ Err error) × (error_kind error ≡ InvalidData)
+no-text (Ok it) (Ok all) same is = absurd is
+no-text (Ok it) (Err e) same is = absurd same
+no-text (Err e) (Ok all) same is = absurd same
+no-text (Err e) (Err f) same is = (e, refl, ap error_kind (sym same) ∙ is)
 
 -- what is said of a run with the same words
 pub ends-with : (words same : List (List ℕ)) (s : Status) (io : Traffic) → words ≡ same → RunEnds words s io → RunEnds same s io

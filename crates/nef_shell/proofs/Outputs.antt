@@ -1,5 +1,5 @@
 -- Output that grows by one piece after another.
-use Rattle.std.proofs.Common.{◌≡◌, ◌↔◌, ℕ, ◌+◌, ◌<◌, ◌≤◌, Bool, true, false, refl, sym, ap, ◌∙◌, List, [], ◌∷◌, ◌++◌, length, take, Option, Some, None, append_assoc, append-nil, subst, get_or, arith, inl, inr}
+use Rattle.std.proofs.Common.{◌≡◌, ◌↔◌, ℕ, ◌+◌, ◌<◌, ◌≤◌, Bool, true, false, refl, sym, ap, ◌∙◌, List, [], ◌∷◌, ◌++◌, length, take, Option, Some, None, Result, Err, append_assoc, append-nil, subst, get_or, arith, inl, inr}
 use Rattle.std.proofs.lemmas.List.{take_more}
 use Rattle.std.proofs.Math.Seq.{take-append-add, take-length}
 use Rattle.std.specs.Prelude.{IsTrue}
@@ -12,7 +12,7 @@ use Rattle.nef_expr.specs.declared.nodes.Node.{Node}
 use Rattle.nef_script.specs.declared.script.Command.{Command}
 use Rattle.nef_shell.specs.declared.stop.Stop.{Stop}
 use Rattle.nef_shell.specs.declared.stop.Stop.TheVariants.{WriteFault, OutOfMemory}
-use Rattle.nef_shell.specs.Working.{FrontOf}
+use Rattle.nef_shell.specs.Working.{FrontOf, WorkEnds}
 use Rattle.nef_shell.specs.Stops.{MatchStop}
 use Rattle.nef_shell.specs.Output.{same_answer, joined_answer, IsSameAnswer, IsJoinedAnswer, IsPiece, IsOutput}
 
@@ -63,6 +63,10 @@ stop-rose OutOfMemory first old new P Q le same = tt
 pub grows_within-none : (a : Option (List ℕ)) → GrowsWithin a a []
 grows_within-none None = (0, tt)
 grows_within-none (Some bs) = (0, sym (append-nil bs))
+
+-- the work ended before its first command, for want of memory
+pub ends-before : {A : Type 0} (version : TextVersion) (nodes : List Node) (cs : List Command) (before : Option (List ℕ)) (faults : ℕ) (r : Result A Stop) → r ≡ Err OutOfMemory → WorkEnds version nodes cs before before faults faults r
+ends-before version nodes cs before faults r is = rw is (record { done = tt; quiet = tt; stopped = tt; front = (0, [], refl, grows_within-none before) })
 
 -- the answer says whether the two sets are one
 pub same-piece : (s t : Set) (same : Bool) → IsTrue same ↔ SameSet s t → IsSameAnswer s t (same_answer same)

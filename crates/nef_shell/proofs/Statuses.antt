@@ -1,6 +1,6 @@
 -- What each status says, from what the calls below say.
 use Rattle.std.proofs.Common.{◌≡◌, ℕ, ◌+◌, ◌<◌, ◌≤◌, arith, refl, ap, sym, ◌∙◌, subst, List, ◌++◌, length, Option, Some, None, ◌⊎◌, inl, inr, append-nil, length-append}
-use Rattle.std.specs.Prelude.{option_map, is_some, IsSome}
+use Rattle.std.specs.Prelude.{option_map, is_some}
 use Rattle.std.specs.Io.KnownBytes.{Consumes, IsAtEnd}
 use Rattle.nef_io.specs.Bytes.{Rose, Grows, GrowsWithin}
 use Rattle.nef_script.specs.declared.fault.ScriptKind.{ScriptKind}
@@ -33,14 +33,6 @@ stairs-one words s t is also = (let same = sym is ∙ also in cc)
 -- words that give it a value don't leave it out
 stairs-both : (words : List (List ℕ)) (n : ℕ) → GiveStairs words None → GiveStairs words (Some n) → ⊥
 stairs-both words n none some = (let same = stairs-one words None (Some n) none some in cc)
-
--- words that give it a value, or none, are accepted
-stairs-accepted : (words : List (List ℕ)) (s : Option ℕ) → GiveStairs words s → AreAccepted words
-stairs-accepted words s given = accepted (options_of words) given
-  where
-    accepted : (o : Option Options) → option_map (λ options. options.stairs) o ≡ Some s → IsSome o
-    accepted None e = (let f = e in cc)
-    accepted (Some o) e = refl
 
 -- the statuses of a refused script
 pub refused-status : (words : List (List ℕ)) (s : Status) (io : Traffic) (bytes : List ℕ) (line : ℕ) (kind : ScriptKind) → GiveStairs words None → IsRead io.before.rest io.after.rest bytes → FirstRefusal bytes line kind → io.after.read_faults ≡ io.before.read_faults
@@ -230,66 +222,3 @@ run-ends words s io o is ended unread =
     quiet ReadFault facts own = absurd own
     quiet WriteFault facts own = absurd own
     quiet OutOfMemory facts own = absurd own
-
--- what each status says of a run with refused words, which doesn't look at the source
-pub words-end : (words : List (List ℕ)) (s : Status) (io : Traffic) → (AreAccepted words → ⊥) → IsUnread io
-    → MatchStatus s ⊥ (λ l k. ⊥) (Grows io.before.written io.after.written words_line × (io.after.write_faults ≡ io.before.write_faults)) ⊥ (Rose io.before.write_faults io.after.write_faults × GrowsWithin io.before.written io.after.written words_line) ⊥
-    → RunEnds words s io
-words-end words Done io out unread facts = absurd facts
-words-end words (Refused l k) io out unread facts = absurd facts
-words-end words Words io out unread (grown, writes) =
-    record {
-      done = tt;
-      refused = tt;
-      refused_words = (out, grown);
-      read_fault = tt;
-      write_fault = tt;
-      out_of_memory = tt;
-      compared = tt;
-      meant = tt;
-      unread = λ none. unread;
-      quiet = λ own. record { reads = unread.faults; writes = writes };
-      finishes = λ given. absurd (out (stairs-accepted words None given));
-      finishes_stairs = λ n given. absurd (out (stairs-accepted words (Some n) given));
-      refuses = λ given. absurd (out (stairs-accepted words None given));
-      refuses_words = λ refused silent. tt;
-    }
-words-end words ReadFault io out unread facts = absurd facts
-words-end words WriteFault io out unread (rose, part) =
-    record {
-      done = tt;
-      refused = tt;
-      refused_words = tt;
-      read_fault = tt;
-      write_fault = (rose, HasDefinedFront.of_words out part);
-      out_of_memory = tt;
-      compared = tt;
-      meant = tt;
-      unread = λ none. unread;
-      quiet = λ own. absurd own;
-      finishes = λ given. absurd (out (stairs-accepted words None given));
-      finishes_stairs = λ n given. absurd (out (stairs-accepted words (Some n) given));
-      refuses = λ given. absurd (out (stairs-accepted words None given));
-      refuses_words = λ refused silent. absurd (silent rose);
-    }
-words-end words OutOfMemory io out unread facts = absurd facts
-
--- what is said of a run that found no memory for its words
-pub no-memory-ends : (words : List (List ℕ)) (io : Traffic) → IsUnread io → io.after.written ≡ io.before.written → RunEnds words OutOfMemory io
-no-memory-ends words io unread same =
-    record {
-      done = tt;
-      refused = tt;
-      refused_words = tt;
-      read_fault = tt;
-      write_fault = tt;
-      out_of_memory = inl same;
-      compared = tt;
-      meant = tt;
-      unread = λ none. unread;
-      quiet = λ own. absurd own;
-      finishes = λ given bytes is accepted reads writes. tt;
-      finishes_stairs = λ n given silent. tt;
-      refuses = λ given bytes line kind is refused reads writes. tt;
-      refuses_words = λ refused silent. tt;
-    }

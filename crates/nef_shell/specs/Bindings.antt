@@ -5,7 +5,7 @@ use Rattle.nef_complex.specs.Complexes.{ShowsSet}
 use Rattle.nef_expr.specs.declared.nodes.Node.{Node}
 use Rattle.nef_expr.specs.Nodes.{node_set, sets_after}
 use Rattle.nef_sched.specs.Marks.{IsMarked}
-use Rattle.nef_sched.specs.Results.{kept, IsKept as HasResult}
+use Rattle.nef_sched.specs.Results.{kept}
 use Rattle.nef_script.specs.declared.script.Command.{Command}
 use Rattle.nef_script.specs.Commands.{LooksAt, Binds}
 use Rattle.nef_shell.specs.declared.bindings.Binding.{Binding}
@@ -76,18 +76,19 @@ IsWorked ahead c = ahead ≡ true → IsQuestion c
 abbrev pub IsAskedAbout : List Node → List Command → ℕ → Type 0
 IsAskedAbout nodes commands k = (i : ℕ) × (c : Command) × (slice_get commands i ≡ Some c) × IsQuestion c × LooksAt nodes c k
 
--- a result stands at the place of the node that its binding binds, and nothing else stands anywhere
-pub record ArePlaced (nodes : List Node) (bindings : List Binding) (results list : List (Option Complex)) : Type 0 where
+-- a complex stands at the place of each node that a binding binds whose number is in question, and nothing else stands anywhere
+pub record ArePlaced (nodes : List Node) (bindings : List Binding) (InQuestion : ℕ → Type 0) (list : List (Option Complex)) : Type 0 where
   pub shown : AreShown nodes list
-  pub there : (n k : ℕ) → IsBoundAt bindings n k → HasResult results n → IsKept nodes list k
-  pub only : (k : ℕ) (c : Complex) → slice_get list k ≡ Some (Some c) → (n : ℕ) × IsBoundAt bindings n k × HasResult results n
+  pub there : (n k : ℕ) → IsBoundAt bindings n k → InQuestion n → IsKept nodes list k
+  pub only : (k : ℕ) (c : Complex) → slice_get list k ≡ Some (Some c) → (n : ℕ) × IsBoundAt bindings n k × InQuestion n
 
 -- a binding is marked exactly where a question asks about its node
 abbrev pub AreMarkedAsked : List Node → List Command → List Binding → List Bool → Type 0
 AreMarkedAsked nodes commands bindings marks = (n : ℕ) (b : Binding) → slice_get bindings n ≡ Some b → IsMarked marks n ↔ IsAskedAbout nodes commands b.node
 
--- a complex stands at the place of each node that a marked binding binds, and nothing else stands anywhere
-pub record AreThoseMarked (nodes : List Node) (bindings : List Binding) (marks : List Bool) (list : List (Option Complex)) : Type 0 where
+-- the complexes that the work of the commands begins with: each shows its node's set, and stands at the place of a node that a question asks about; and where all bindings are
+-- worked ahead, those of all such nodes are there
+pub record AreFirst (nodes : List Node) (commands : List Command) (ahead : Bool) (list : List (Option Complex)) : Type 0 where
   pub shown : AreShown nodes list
-  pub there : (n k : ℕ) → IsBoundAt bindings n k → IsMarked marks n → IsKept nodes list k
-  pub only : (k : ℕ) (c : Complex) → slice_get list k ≡ Some (Some c) → (n : ℕ) × IsBoundAt bindings n k × IsMarked marks n
+  pub asked : ahead ≡ true → (k : ℕ) → IsAskedAbout nodes commands k → IsKept nodes list k
+  pub only : (k : ℕ) (c : Complex) → slice_get list k ≡ Some (Some c) → IsAskedAbout nodes commands k

@@ -21,12 +21,6 @@ IsCollected (Err error) (Err same) = same ≡ error
 IsCollected (Ok words) (Err same) = ⊥
 IsCollected (Err error) (Ok all) = ⊥
 
--- how a run ends with the words behind the first of the line; or with refused words, where one of the line isn't text; or for want of memory for the words
-pub data LineEnds {E Y Z : Type 0} (line : Result (Result (Vec (String Y) Z) Error) E) (status : Status) (io : Traffic) : Type 0 where
-  ran : (words : Vec (String Y) Z) → line ≡ Ok (Ok words) → RunEnds (map string_bytes (drop 1 words.items)) status io → LineEnds line status io
-  no_text : (error : Error) → line ≡ Ok (Err error) → error_kind error ≡ InvalidData → IsUnread io → RefusesWords status io → LineEnds line status io
-  no_memory : IsUnread io → io.after.written ≡ io.before.written → status ≡ OutOfMemory → LineEnds line status io
-
 -- how the program ends, by its exit status: as a run with the words behind the program's name; or with refused words, where one of them isn't text; or for want of
 -- memory for the words, so that nothing was read and nothing written
 pub data ProgramEnds {Y Z : Type 0} (line : Result (IntoIter (String Y) Z) Error) (code : ℕ) (io : Traffic) : Type 0 where

@@ -1,5 +1,5 @@
 -- What is written while commands are worked.
-use Rattle.std.specs.Prelude.{◌≡◌, ℕ, List, Option, take}
+use Rattle.std.specs.Prelude.{◌≡◌, ℕ, List, Option, Result, OnOk, IfErr, take}
 use Rattle.nef_core.specs.declared.how.TextVersion.{TextVersion}
 use Rattle.nef_expr.specs.declared.nodes.Node.{Node}
 use Rattle.nef_io.specs.Bytes.{Rose, Grows, GrowsWithin}
@@ -25,3 +25,10 @@ HasWrittenAll version nodes cs before after = (output : List ℕ) × IsOutput ve
 -- a front of the output of some number of the first commands was
 abbrev pub FrontOf : TextVersion → List Node → List Command → Option (List ℕ) → Option (List ℕ) → Type 0
 FrontOf version nodes cs before after = (count : ℕ) × (output : List ℕ) × IsOutput version nodes (take count cs) output × GrowsWithin before after output
+
+-- how the work of all commands ends: their output was written, and no count of faults rose; or a front of it was, where a write failed or memory was wanted
+pub record WorkEnds {A : Type 0} (version : TextVersion) (nodes : List Node) (commands : List Command) (before after : Option (List ℕ)) (faults faults' : ℕ) (result : Result A Stop) : Type 0 where
+  pub done : OnOk result (HasWrittenAll version nodes commands before after)
+  pub quiet : OnOk result (faults' ≡ faults)
+  pub stopped : IfErr result (λ stop. MatchStop stop (Rose faults faults') (Unit {0}))
+  pub front : IfErr result (λ _. FrontOf version nodes commands before after)

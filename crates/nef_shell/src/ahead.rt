@@ -1,14 +1,14 @@
 //! Works all bindings of a script ahead of its questions, in rounds.
 
-ghost use Rattle.std.specs.Prelude.{◌≡◌, ◌<◌, ◌↔◌, ◌⊎◌, ℕ, Some, All, IfOk, IfSome, length, slice_get, vec_len};
+ghost use Rattle.std.specs.Prelude.{◌≡◌, ◌<◌, ◌↔◌, ◌⊎◌, ℕ, Some, true, All, IfOk, IfSome, length, slice_get, vec_len};
 ghost use Rattle.nef_complex.specs.declared.complex.Complex.{Complex};
 ghost use Rattle.nef_complex.specs.Complexes.{ShowsSet};
 ghost use Rattle.nef_expr.specs.Nodes.{node_set};
 ghost use Rattle.nef_sched.specs.Marks.{IsMarked};
-ghost use Rattle.nef_sched.specs.Results.{AreSound};
+ghost use Rattle.nef_sched.specs.Results.{AreSound, IsKept as HasResult};
 ghost use Rattle.nef_script.specs.Commands.{LooksAt, AreBoundBefore, TurnsRight};
 ghost use Rattle.nef_script.specs.Meaning.{IsWithin};
-ghost use Rattle.nef_shell.specs.Bindings.{AreBindings, Fits, IsQuestion, IsAskedAbout, AreMarkedAsked, ArePlaced, AreThoseMarked};
+ghost use Rattle.nef_shell.specs.Bindings.{AreBindings, Fits, IsQuestion, IsAskedAbout, AreMarkedAsked, ArePlaced, AreFirst};
 ghost use Rattle.nef_shell.specs.Operations.{AreMeans, AreShown, IsKept};
 
 use crate::bindings::{Binding, bindings_of};
@@ -117,7 +117,7 @@ fn placed(
     requires are { AreBindings nodes.now bindings.now }
     requires fits { AreSound (length bindings.now) (Fits nodes.now bindings.now) results.old }
     ensures count { IfOk result (λ v. vec_len v ≡ length nodes.now) }
-    ensures placed { IfOk result (λ v. ArePlaced nodes.now bindings.now results.old v.items) }
+    ensures placed { IfOk result (λ v. ArePlaced nodes.now bindings.now (HasResult results.old) v.items) }
 {
     let mut complexes = no_complexes(alloc, nodes.len())?;
     let list = complexes.as_mut_slice();
@@ -141,7 +141,7 @@ fn worked<R: Threads + Wait + Sync, G: Gate + Sync>(
     requires are { AreBindings nodes.now bindings.now }
     requires wanted { length wanted.now ≡ length bindings.now }
     ensures count { IfOk result (λ v. vec_len v ≡ length nodes.now) }
-    ensures placed { IfOk result (λ v. AreThoseMarked nodes.now bindings.now wanted.now v.items) }
+    ensures placed { IfOk result (λ v. ArePlaced nodes.now bindings.now (IsMarked wanted.now) v.items) }
 {
     let mut results = work_bindings(rt, alloc, nodes, bindings, wanted, means, gate)?;
     placed(alloc, nodes, bindings, results.as_mut_slice())
@@ -161,9 +161,7 @@ pub(crate) fn worked_ahead<R: Threads + Wait + Sync, G: Gate + Sync>(
     requires turned { All (TurnsRight script.now.nodes) script.now.commands }
     requires bound_before { AreBoundBefore script.now.nodes script.now.commands }
     ensures count { IfOk result (λ v. vec_len v ≡ length script.now.nodes) }
-    ensures shown { IfOk result (λ v. AreShown script.now.nodes v.items) }
-    ensures asked { IfOk result (λ v. (k : ℕ) → IsAskedAbout script.now.nodes script.now.commands k → IsKept script.now.nodes v.items k) }
-    ensures only { IfOk result (λ v. (k : ℕ) (c : Complex) → slice_get v.items k ≡ Some (Some c) → IsAskedAbout script.now.nodes script.now.commands k) }
+    ensures first { IfOk result (λ v. AreFirst script.now.nodes script.now.commands true v.items) }
 {
     let bindings = bindings_of(alloc, script)?;
     let wanted = wanted_for(alloc, script, &bindings)?;

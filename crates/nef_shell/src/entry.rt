@@ -3,7 +3,7 @@
 ghost use Rattle.std.specs.Prelude.{◌≡◌, IfOk};
 ghost use Rattle.std.specs.Process.{exit_status};
 ghost use Rattle.nef_shell.specs.Traffic.{Traffic, traffic};
-ghost use Rattle.nef_shell.specs.Program.{IsCollected, LineEnds, ProgramEnds};
+ghost use Rattle.nef_shell.specs.Program.{IsCollected, ProgramEnds};
 
 use crate::status::{Status, code};
 use crate::top::{refuse_words, run};
@@ -26,27 +26,6 @@ fn collected(alloc: Global, line: io::Result<Args>) -> Result<io::Result<Vec<Str
     }
 }
 
-// Runs with the words behind the program's name, of all words of the command line, where they could be had.
-fn run_line<R: Threads + Wait + Sync, S: Source, K: Sink, G: Gate + Sync>(
-    rt: &R,
-    alloc: Global,
-    line: &Result<io::Result<Vec<String>>, AllocError>,
-    source: &mut S,
-    sink: &mut K,
-    gate: &G,
-) -> Status
-    ensures ends { LineEnds line.now result (traffic S.rest S.faults K.written K.faults source.old source.new sink.old sink.new) }
-{
-    let Ok(line) = line else {
-        return Status::OutOfMemory;
-    };
-    match line_words(line) {
-        Ok(words) => run(rt, alloc, words, source, sink, gate),
-        Err(WordsFault::Refused) => refuse_words(sink),
-        Err(WordsFault::OutOfMemory) => Status::OutOfMemory,
-    }
-}
-
 /// The whole program: [`run`] with the words behind the program's name, of those that `std::env::args`
 /// gave, and the exit status of its answer, which is 0 to 5 in the order of [`Status`]. Where a word
 /// isn't text, the words are refused. Where they can't be had for another reason, memory is wanted for
@@ -61,8 +40,14 @@ pub fn program<R: Threads + Wait + Sync, S: Source, K: Sink, G: Gate + Sync>(
 ) -> ExitCode
     ensures ends { ProgramEnds line (exit_status result) (traffic S.rest S.faults K.written K.faults source.old source.new sink.old sink.new) }
 {
-    let line = collected(alloc, line);
-    let status = run_line(rt, alloc, &line, source, sink, gate);
+    let Ok(line) = collected(alloc, line) else {
+        return ExitCode::from(code(&Status::OutOfMemory));
+    };
+    let status = match line_words(&line) {
+        Ok(words) => run(rt, alloc, words, source, sink, gate),
+        Err(WordsFault::Refused) => refuse_words(sink),
+        Err(WordsFault::OutOfMemory) => Status::OutOfMemory,
+    };
     ExitCode::from(code(&status))
 }
 

@@ -1,6 +1,6 @@
 //! The complexes of the nodes.
 
-ghost use Rattle.std.specs.Prelude.{◌≡◌, ◌+◌, ◌≤◌, ◌<◌, ◌↔◌, ◌⊎◌, ℕ, Option, None, Some, IfOk, IfSome, IsTrue, OnOk, All, length, slice_get, slice_index, vec_len, []};
+ghost use Rattle.std.specs.Prelude.{◌≡◌, ◌+◌, ◌≤◌, ◌<◌, ◌↔◌, ◌⊎◌, ℕ, Some, IfOk, IfSome, IsTrue, OnOk, All, length, slice_get, slice_index, vec_len, []};
 ghost use Rattle.std.specs.Option.{option_copied};
 ghost use Rattle.nef_space.specs.Local.{SameSet};
 ghost use Rattle.nef_complex.specs.declared.complex.Complex.{Complex};
@@ -36,7 +36,6 @@ pub(crate) struct Sets<'a> {
 /// So many places without a complex. `AllocError` says that memory was wanted and not found.
 pub(crate) fn no_complexes(alloc: Global, count: usize) -> Result<Vec<Option<Complex>>, AllocError>
     ensures count { IfOk result (λ v. vec_len v ≡ count) }
-    ensures none { IfOk result (λ v. (k : ℕ) → k < count → IsGone v.items k) }
     ensures empty { IfOk result (λ v. (k : ℕ) (c : Complex) → slice_get v.items k ≡ Some (Some c) → ⊥) }
 {
     let mut list = Vec::with_capacity(alloc, count)?;
@@ -44,13 +43,6 @@ pub(crate) fn no_complexes(alloc: Global, count: usize) -> Result<Vec<Option<Com
         list.push(None)?;
     }
     Ok(list)
-}
-
-// Lets the complex at the place go, if there is one.
-fn let_go(place: &mut Option<Complex>)
-    ensures gone { place.new ≡ None }
-{
-    *place = None;
 }
 
 impl<'a> Sets<'a> {
@@ -170,7 +162,7 @@ impl<'a> Sets<'a> {
         if let Some(k) = node
             && self.last_uses[k] <= now
         {
-            let_go(&mut self.list[k]);
+            self.list[k] = None;
         }
     }
 

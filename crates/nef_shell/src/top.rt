@@ -1,13 +1,10 @@
 //! The top call.
 
-ghost use Rattle.std.specs.Prelude.{◌≡◌, ◌≤◌, ℕ, List, None, Some, IfSome, map, string_bytes, All, OnOk, IfErr, length, take};
+ghost use Rattle.std.specs.Prelude.{◌≡◌, ◌≤◌, ℕ, List, Some, IfSome, map, string_bytes};
 ghost use Rattle.nef_space.specs.Limits.{most_stairs};
 ghost use Rattle.nef_io.specs.Bytes.{Rose, Grows, GrowsWithin};
-ghost use Rattle.nef_script.specs.Commands.{AreBoundBefore, TurnsRight};
-ghost use Rattle.nef_script.specs.Meaning.{IsWithin};
 ghost use Rattle.nef_shell.specs.Status.{MatchStatus};
-ghost use Rattle.nef_shell.specs.Stops.{MatchStop};
-ghost use Rattle.nef_shell.specs.Output.{IsOutput, refusal_line, words_line};
+ghost use Rattle.nef_shell.specs.Output.{refusal_line, words_line};
 ghost use Rattle.nef_shell.specs.Answers.{GiveStairs, GiveText, HasEnded};
 ghost use Rattle.nef_shell.specs.Ended.{RunEnds};
 ghost use Rattle.nef_shell.specs.Traffic.{traffic, IsUnread};

@@ -1,14 +1,11 @@
 //! Works a script's commands.
 
-ghost use Rattle.std.specs.Prelude.{◌≡◌, ◌≤◌, ℕ, Some, true, false, All, IfOk, OnOk, IfErr, length, slice_get, vec_len};
-ghost use Rattle.nef_complex.specs.declared.complex.Complex.{Complex};
-ghost use Rattle.nef_io.specs.Bytes.{Rose};
+ghost use Rattle.std.specs.Prelude.{◌≡◌, ◌≤◌, ℕ, false, All, IfOk, OnOk, IfErr, length, vec_len};
 ghost use Rattle.nef_script.specs.Commands.{LooksAt, Binds, AreBoundBefore, TurnsRight};
 ghost use Rattle.nef_script.specs.Meaning.{IsWithin};
-ghost use Rattle.nef_shell.specs.Bindings.{IsAskedAbout, IsWorked};
+ghost use Rattle.nef_shell.specs.Bindings.{IsWorked, AreFirst};
 ghost use Rattle.nef_shell.specs.Operations.{AreMeans, AreShown, IsKept, AreBound};
-ghost use Rattle.nef_shell.specs.Stops.{MatchStop};
-ghost use Rattle.nef_shell.specs.Working.{HasWritten, HasStopped, HasWrittenAll, FrontOf};
+ghost use Rattle.nef_shell.specs.Working.{HasWritten, HasStopped, WorkEnds};
 
 use crate::ahead::worked_ahead;
 use crate::operation::Means;
@@ -100,9 +97,7 @@ fn first_complexes<R: Threads + Wait + Sync, G: Gate + Sync>(
     requires turned { All (TurnsRight script.now.nodes) script.now.commands }
     requires bound_before { AreBoundBefore script.now.nodes script.now.commands }
     ensures count { IfOk result (λ v. vec_len v ≡ length script.now.nodes) }
-    ensures shown { IfOk result (λ v. AreShown script.now.nodes v.items) }
-    ensures asked { IfOk result (λ v. ahead ≡ true → (k : ℕ) → IsAskedAbout script.now.nodes script.now.commands k → IsKept script.now.nodes v.items k) }
-    ensures only { IfOk result (λ v. (k : ℕ) (c : Complex) → slice_get v.items k ≡ Some (Some c) → IsAskedAbout script.now.nodes script.now.commands k) }
+    ensures first { IfOk result (λ v. AreFirst script.now.nodes script.now.commands ahead v.items) }
 {
     if ahead {
         worked_ahead(rt, alloc, script, means, gate)
@@ -126,10 +121,7 @@ fn work_all<R: Threads + Wait + Sync, K: Sink, G: Gate + Sync>(
     requires within { All (IsWithin (length script.now.nodes)) script.now.commands }
     requires turned { All (TurnsRight script.now.nodes) script.now.commands }
     requires bound_before { AreBoundBefore script.now.nodes script.now.commands }
-    ensures done { OnOk result (HasWrittenAll text script.now.nodes script.now.commands (K.written sink.old) (K.written sink.new)) }
-    ensures quiet { OnOk result (K.faults sink.new ≡ K.faults sink.old) }
-    ensures stopped { IfErr result (λ stop. MatchStop stop (Rose (K.faults sink.old) (K.faults sink.new)) (Unit {0})) }
-    ensures front { IfErr result (λ _. FrontOf text script.now.nodes script.now.commands (K.written sink.old) (K.written sink.new)) }
+    ensures ends { WorkEnds text script.now.nodes script.now.commands (K.written sink.old) (K.written sink.new) (K.faults sink.old) (K.faults sink.new) result }
 {
     let list = first_complexes(rt, alloc, script, ahead, means, gate)?;
     let mut sets = Sets::of(alloc, script, list)?;
@@ -156,10 +148,7 @@ pub(crate) fn work<R: Threads + Wait + Sync, K: Sink, G: Gate + Sync>(
     requires within { All (IsWithin (length script.now.nodes)) script.now.commands }
     requires turned { All (TurnsRight script.now.nodes) script.now.commands }
     requires bound_before { AreBoundBefore script.now.nodes script.now.commands }
-    ensures done { OnOk result (HasWrittenAll options.now.text script.now.nodes script.now.commands (K.written sink.old) (K.written sink.new)) }
-    ensures quiet { OnOk result (K.faults sink.new ≡ K.faults sink.old) }
-    ensures stopped { IfErr result (λ stop. MatchStop stop (Rose (K.faults sink.old) (K.faults sink.new)) (Unit {0})) }
-    ensures front { IfErr result (λ _. FrontOf options.now.text script.now.nodes script.now.commands (K.written sink.old) (K.written sink.new)) }
+    ensures ends { WorkEnds options.now.text script.now.nodes script.now.commands (K.written sink.old) (K.written sink.new) (K.faults sink.old) (K.faults sink.new) result }
 {
     let whole = constant(alloc, true)?;
     let means = Means {

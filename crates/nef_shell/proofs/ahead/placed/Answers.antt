@@ -5,6 +5,18 @@ use Rattle.std.proofs.Math.Seq.{take-append_seam}
 use Rattle.nef_shell.proofs.Asked.{result-shows, there-more, only-more, rest-more}
 use Rattle.nef_shell.proofs.ahead.placed.Goals as goal
 
+pub loop-n-init : goal.loop-n-init
+loop-n-init c =
+    let none = rw (← c.as_mut_slice-list.ensures.value) at c.in_ok-complexes.ensures.empty in
+    record {
+      count = omega (arith, c.as_mut_slice-list.ensures.len, c.in_ok-complexes.ensures.count, c.len.ensures.count);
+      width = refl;
+      rest = λ m later. refl;
+      shown = λ k x at. absurd (none k x at);
+      there = λ m k below. absurd (omega arith);
+      only = λ k x at. absurd (none k x at);
+    }
+
 pub put-requires-clause-node : goal.put-requires-clause-node
 put-requires-clause-node c =
     let at = slice_get_read c.args.bindings.now _ c.loop-n.n c.index-bindings-n.result refl (omega arith) c.index-bindings-n.is in

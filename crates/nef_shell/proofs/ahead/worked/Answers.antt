@@ -1,6 +1,6 @@
 use Rattle.std.proofs.Common.{length, subst, sym}
 use Rattle.std.proofs.lemmas.Result.{IfOk-weaker}
-use Rattle.nef_sched.specs.Results.{AreSound}
+use Rattle.nef_sched.specs.Results.{AreSound, IsKept as HasResult}
 use Rattle.nef_shell.specs.Bindings.{Fits, ArePlaced}
 use Rattle.nef_shell.proofs.Asked.{those-marked}
 use Rattle.nef_shell.proofs.ahead.worked.Goals as goal
@@ -17,4 +17,4 @@ returns-clause-placed g c =
     let bindings = c.args.bindings.now in
     IfOk-weaker c.placed.result _ _ (λ v p.
     those-marked nodes bindings c.args.wanted.now c.in_ok-results.results.items v.items c.requires.wanted c.in_ok-results.ensures.wanted c.in_ok-results.ensures.lean
-    (subst (λ z. ArePlaced nodes bindings z v.items) c.as_mut_slice.ensures.value p)) c.placed.ensures.placed
+    (subst (λ z. ArePlaced nodes bindings (HasResult z) v.items) c.as_mut_slice.ensures.value p)) c.placed.ensures.placed

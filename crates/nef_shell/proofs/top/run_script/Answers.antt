@@ -11,13 +11,13 @@ returns-in-Err-Refused-clause-status g c words given chosen =
 pub returns-in-Err-WriteFault-clause-status : goal.returns-in-Err-WriteFault-clause-status
 returns-in-Err-WriteFault-clause-status g c words given chosen =
     let script = c.in-Ok.ensures.script in
-    let front = c.in-Err-WriteFault.ensures.front in (
-      rw c.in-Err-WriteFault.field-0-is at c.in-Err-WriteFault.ensures.stopped,
+    let front = c.in-Err-WriteFault.ensures.ends.front in (
+      rw c.in-Err-WriteFault.field-0-is at c.in-Err-WriteFault.ensures.ends.stopped,
       HasFront.of_output script.0 _ _ front.0 front.1 c.args.options.now.text chosen (c.args.options.now.stairs, given, script.1) script.2 front.2 front.3,
     )
 
 pub returns-clause-status : goal.returns-clause-status
 returns-clause-status g c words given chosen =
     let script = c.in-Ok.ensures.script in
-    let front = c.in-Err-OutOfMemory-work.ensures.front in
+    let front = c.in-Err-OutOfMemory-work.ensures.ends.front in
     inr (HasFront.of_output script.0 _ _ front.0 front.1 c.args.options.now.text chosen (c.args.options.now.stairs, given, script.1) script.2 front.2 front.3)

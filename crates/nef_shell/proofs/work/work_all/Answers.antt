@@ -1,4 +1,4 @@
-use Rattle.std.proofs.Common.{◌≡◌, ◌⊎◌, ℕ, ◌+◌, ◌<◌, ◌++◌, [], false, ◌∙◌, ap, sym, refl, subst, arith, length, Some, inl, inr}
+use Rattle.std.proofs.Common.{◌≡◌, ◌⊎◌, ℕ, ◌+◌, ◌<◌, ◌++◌, [], false, ◌∙◌, ap, sym, refl, subst, arith, length, Some, Err, inl, inr}
 use Rattle.std.specs.Prelude.{slice_get, slice_index}
 use Rattle.std.proofs.lemmas.Bool.{cases_lt}
 use Rattle.std.proofs.lemmas.Option.{slice_get_read}
@@ -8,23 +8,18 @@ use Rattle.nef_shell.specs.Commands.{AreLastUses, AreUses}
 use Rattle.nef_shell.specs.Operations.{AreShown, IsKept, IsGone, IsLean, AreBound}
 use Rattle.nef_shell.proofs.Asked.{gone-or-there, grows-none, true-or-false}
 use Rattle.nef_shell.proofs.Complexes.{stays-kept}
-use Rattle.nef_shell.proofs.Outputs.{output-next, grows-more, front-at, stop-rose, grows_within-none}
+use Rattle.nef_shell.proofs.Outputs.{output-next, grows-more, front-at, stop-rose, ends-before}
 use Rattle.nef_shell.proofs.work.work_all.Goals as goal
 
-pub returns-in_err-list-clause-front : goal.returns-in_err-list-clause-front
-returns-in_err-list-clause-front g c =
+pub returns-in_err-list : goal.returns-in_err-list
+returns-in_err-list g c =
     let p = err_from_is_err_and c.from_residual.result c.from_residual.ensures.1 in
-    rw p.1 (0, [], refl, grows_within-none _)
+    record { ends = ends-before _ _ _ _ _ c.from_residual.result (p.1 ∙ ap (λ z. Err z) p.2) }
 
-pub returns-in_err-sets-clause-front : goal.returns-in_err-sets-clause-front
-returns-in_err-sets-clause-front g c =
+pub returns-in_err-sets : goal.returns-in_err-sets
+returns-in_err-sets g c =
     let p = err_from_is_err_and c.from_residual-in_err-sets.result c.from_residual-in_err-sets.ensures.1 in
-    rw p.1 (0, [], refl, grows_within-none _)
-
-pub returns-in_err-work_command-clause-stopped : goal.returns-in_err-work_command-clause-stopped
-returns-in_err-work_command-clause-stopped g c =
-    let p = err_from_is_err_and c.from_residual-in_err-work_command.result c.from_residual-in_err-work_command.ensures.1 in
-    rw (p.1, p.2) (stop-rose _ _ _ _ _ _ c.loop-now.invariant.count c.in_err-work_command.ensures.stopped)
+    record { ends = ends-before _ _ _ _ _ c.from_residual-in_err-sets.result (p.1 ∙ ap (λ z. Err z) p.2) }
 
 pub work_command-requires-clause-shown : goal.work_command-requires-clause-shown
 work_command-requires-clause-shown g c scopes within = subst (λ z. AreShown z c.loop-now.sets.list.items) (sym c.loop-now.invariant.nodes) c.loop-now.invariant.shown
@@ -43,15 +38,22 @@ work_command-requires-clause-kept g c scopes within works k looks =
       | inr (e, j, d, low, below, seen, binds) ↦ absurd (omega arith)
     ]
 
-pub returns-in_err-work_command-clause-front : goal.returns-in_err-work_command-clause-front
-returns-in_err-work_command-clause-front g c =
+pub returns-in_err-work_command : goal.returns-in_err-work_command
+returns-in_err-work_command g c =
     let p = err_from_is_err_and c.from_residual-in_err-work_command.result c.from_residual-in_err-work_command.ensures.1 in
     let so_far = c.loop-now.invariant in
     let items = c.commands-command-items.result.now in
     let output = so_far.written in
     let stopped = rw so_far.nodes at c.in_err-work_command.ensures.stopped in
     let front = front-at c.args.text _ c.args.script.now.nodes items c.loop-now.now c.command-item.result _ _ _ _ _ output.0 (omega arith) c.command-item.is output.1 output.2 stopped in
-    rw p.1 (rw c.commands-command-items.ensures.commands at front)
+    record {
+      ends = rw p.1 (record {
+        done = tt;
+        quiet = tt;
+        stopped = rw p.2 (stop-rose _ _ _ _ _ _ so_far.count stopped);
+        front = rw c.commands-command-items.ensures.commands at front;
+      });
+    }
 
 pub release-requires-clause-used : goal.release-requires-clause-used
 release-requires-clause-used g c k within used =
@@ -156,10 +158,10 @@ loop-now-init g c =
       last = made.last;
       used = made.used;
       lean = λ k within below. absurd (omega arith);
-      only = λ zero k x there. c.in_ok-list.ensures.only k x (subst (λ z. slice_get z k ≡ Some (Some x)) same there);
+      only = λ zero k x there. c.in_ok-list.ensures.first.only k x (subst (λ z. slice_get z k ≡ Some (Some x)) same there);
       kept = λ i k d later found works looks. elim (true-or-false c.args.ahead) [
-        | inl e ↦ inl (subst (λ z. IsKept nodes z k) (sym same) (c.in_ok-list.ensures.asked e k (i, d, found, works e, looks)))
+        | inl e ↦ inl (subst (λ z. IsKept nodes z k) (sym same) (c.in_ok-list.ensures.first.asked e k (i, d, found, works e, looks)))
         | inr e ↦ let (j, b, low, seen, binds) = c.requires.bound_before i d found k looks in inr (e, j, b, omega arith, low, seen, binds)
       ];
-      shown = subst (λ z. AreShown nodes z) (sym same) c.in_ok-list.ensures.shown;
+      shown = subst (λ z. AreShown nodes z) (sym same) c.in_ok-list.ensures.first.shown;
     }

@@ -7,7 +7,7 @@ pub returns-then-index-now-clause-shown : goal.returns-then-index-now-clause-sho
 returns-then-index-now-clause-shown c shown =
     let counted = c.args.self.now.counted in
     let named = rw c.in-Some.is at c.requires.within in
-    rw c.let_go.ensures.gone (shown-less c.args.self.now.nodes.now c.args.self.now.list.items c.in-Some.k (omega arith) shown)
+    shown-less c.args.self.now.nodes.now c.args.self.now.list.items c.in-Some.k (omega arith) shown
 
 pub returns-then-index-now-clause-kept : goal.returns-then-index-now-clause-kept
 returns-then-index-now-clause-kept c k later kept =
@@ -15,16 +15,16 @@ returns-then-index-now-clause-kept c k later kept =
     let named = rw c.in-Some.is at c.requires.within in
     let uses = c.args.self.now.last_uses.items in
     let read = get_or_from_slice_get uses c.in-Some.k c.index.result.now 0 (slice_get_read uses _ c.in-Some.k c.index.result.now refl (omega arith) c.index.ensures) in
-    rw c.let_go.ensures.gone (kept-less c.args.self.now.nodes.now c.args.self.now.list.items uses c.in-Some.k k c.args.now (omega (arith, read, c.if-index-now.true)) later kept)
+    kept-less c.args.self.now.nodes.now c.args.self.now.list.items uses c.in-Some.k k c.args.now (omega (arith, read, c.if-index-now.true)) later kept
 
 pub returns-then-index-now-clause-gone : goal.returns-then-index-now-clause-gone
 returns-then-index-now-clause-gone c k is last =
     let counted = c.args.self.now.counted in
     let named = rw c.in-Some.is at c.requires.within in
-    rw c.let_go.ensures.gone (gone-here c.args.self.now.list.items c.in-Some.k k (omega arith) (sym c.in-Some.is ∙ is))
+    gone-here c.args.self.now.list.items c.in-Some.k k (omega arith) (sym c.in-Some.is ∙ is)
 
 pub returns-then-index-now-clause-stays : goal.returns-then-index-now-clause-stays
 returns-then-index-now-clause-stays c k gone =
     let counted = c.args.self.now.counted in
     let named = rw c.in-Some.is at c.requires.within in
-    rw c.let_go.ensures.gone (gone-stays c.args.self.now.list.items c.in-Some.k k (omega arith) gone)
+    gone-stays c.args.self.now.list.items c.in-Some.k k (omega arith) gone
