@@ -3,3 +3,5 @@ pub mod Merging
 pub mod Vertices
 pub mod HalfCones
 pub mod Zipped
+pub mod Together
+pub mod Sent

@@ -3,7 +3,7 @@ use Rattle.std.proofs.Common.{◌≡◌, ℕ, ◌<◌, List, [], ◌∷◌, ◌+
 use Rattle.nef_space.specs.Local.{FlatDim, IsVertex}
 use Rattle.nef_space.specs.Place.{Place, IsPlaceBelow, SamePlace}
 use Rattle.nef_space.specs.Sets.{Set}
-use Rattle.nef_geo.specs.Shapes.{place_of}
+use Rattle.nef_geo.specs.Shapes.{place_of, form_of}
 use Rattle.nef_geo.specs.declared.dir.Dir.{Dir}
 use Rattle.nef_geo.specs.declared.plane.Plane.{Plane}
 use Rattle.nef_geo.specs.declared.point.Point.{Point}
@@ -23,7 +23,9 @@ use Rattle.nef_smap.proofs.Lists.{contains-at}
 use Rattle.nef_sover.proofs.Places.{some-at as element-at}
 use Rattle.nef_edges.proofs.Places.{at-within, some-at, map-at, at-map, at-before, at-last, at-more}
 use Rattle.law_complex.specs.Complexes.{Vertex as PlainVertex}
+use Rattle.law_complex.specs.Shows.{Carriers}
 use Rattle.nef_complex.specs.Complexes.{vertex_of, AreVerticesOf}
+use Rattle.nef_complex.specs.Index.{AreInOrder}
 use Rattle.nef_complex.specs.declared.complex.Vertex.{Vertex}
 use Rattle.nef_result.specs.Results.{ArePointsInOrder, AreMapsOf, AreVerticesAmong}
 
@@ -97,6 +99,10 @@ module _ (M : Map) (s : Set) (p : Place) (L : Least M) (C : Cone M s p) where
     where
       differ : (k : ℕ) → FlatDim s p k → 0 < k → ⊥
       differ k g l = let e = FlatDim-one s p 0 k f g in omega (arith, l, e)
+
+-- ---- the carriers of the set
+pub carriers-in-order : (s : Set) (hs : List Plane) → Carriers s (map form_of hs) → AreInOrder hs
+carriers-in-order s hs C i j g h l a b = C.ordered i j (form_of g) (form_of h) l (at-map form_of hs i g (some-at hs i g a)) (at-map form_of hs j h (some-at hs j h b))
 
 -- ---- the vertices of the set
 vertex-same : (s : Set) (p q : Place) → SamePlace p q → IsVertex s p → IsVertex s q
