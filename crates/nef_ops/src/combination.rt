@@ -80,6 +80,6 @@ pub fn binary<R: Threads + Wait + Sync, G: Gate + Sync>(
     };
     let maps = finished(rt, alloc, &job, how, gate)?;
     let carriers = merge_carriers(alloc, a, b)?;
-    let complex = assemble(alloc, carriers, points, maps)?;
+    let complex = assemble(rt, alloc, carriers, points, maps, how.workers)?;
     Ok(complex)
 }

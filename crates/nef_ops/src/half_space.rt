@@ -80,7 +80,7 @@ pub fn half_within<R: Threads + Wait + Sync, G: Gate + Sync>(
     };
     let maps = finished(rt, alloc, &job, how, gate)?;
     let carriers = add_carrier(alloc, whole, &plane)?;
-    let complex = assemble(alloc, carriers, points, maps)?;
+    let complex = assemble(rt, alloc, carriers, points, maps, how.workers)?;
     Ok(complex)
 }
 

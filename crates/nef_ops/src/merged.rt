@@ -26,24 +26,6 @@ fn keeps_equals(op: Op) -> bool
     }
 }
 
-// The least map of the combination of two sets that both hold a part of the frame.
-fn joined(
-    alloc: Global,
-    first: SphereMap,
-    second: SphereMap,
-    op: Op,
-) -> Result<SphereMap, OutOfMemory>
-    requires first { IsLeastMap first }
-    requires second { IsLeastMap second }
-    ensures combined { IfOk result (IsCombined op first second) }
-{
-    if keeps_equals(op) && same_map(&first, &second) {
-        Ok(first)
-    } else {
-        combine(alloc, &first, &second, op)
-    }
-}
-
 /// The least map of the combination of two sets at a point, from their least maps there. Where one set holds all of the
 /// frame close to the point, or nothing, it is the other's map, that of its complement, or the set's own.
 pub(crate) fn merged(
@@ -61,6 +43,12 @@ pub(crate) fn merged(
         Choice::Second => Ok(second),
         Choice::NotFirst => Ok(exchanged(first)),
         Choice::NotSecond => Ok(exchanged(second)),
-        Choice::Both => joined(alloc, first, second, op),
+        Choice::Both => {
+            if keeps_equals(op) && same_map(&first, &second) {
+                Ok(first)
+            } else {
+                combine(alloc, &first, &second, op)
+            }
+        }
     }
 }

@@ -91,6 +91,6 @@ pub fn unary<R: Threads + Wait + Sync, G: Gate + Sync>(
     let job = UnaryJob { op, complex: a };
     let maps = finished(rt, alloc, &job, how, gate)?;
     let carriers = copy_carriers(alloc, a)?;
-    let complex = assemble(alloc, carriers, points.as_slice(), maps)?;
+    let complex = assemble(rt, alloc, carriers, points.as_slice(), maps, how.workers)?;
     Ok(complex)
 }

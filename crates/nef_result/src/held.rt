@@ -35,6 +35,12 @@ fn is_vertex(map: &SphereMap) -> bool
     }
 }
 
+// Few points are mostly vertices, so there is room for so many at once; of many points most are none.
+const FIRST_ROOM: usize = 64;
+
+// Few vertices lie on more carriers.
+const CARRIERS_AT_VERTEX: usize = 3;
+
 // The points where no direction is flat, with their maps and the numbers of the carriers that hold them.
 fn held_vertices(
     alloc: Global,
@@ -45,8 +51,9 @@ fn held_vertices(
     requires maps { AreLeastAt points.now maps.items }
     ensures held { IfOk result (λ h. AreHeldAmong carriers.now points.now maps.items h.vertices.items h.holders) }
 {
-    let mut vertices = Vec::new(alloc);
-    let mut holders = Table::new(alloc);
+    let room = points.len().min(FIRST_ROOM);
+    let mut vertices = Vec::with_capacity(alloc, room)?;
+    let mut holders = Table::with_rows(alloc, room, CARRIERS_AT_VERTEX)?;
     let mut numbers = Vec::new(alloc);
     for (point, map) in points.iter().zip(maps) {
         if is_vertex(&map) {

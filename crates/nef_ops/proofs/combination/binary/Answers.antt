@@ -11,14 +11,14 @@ pub assemble-requires : goal.assemble-requires
 assemble-requires g c =
     let S = c.requires.first in let T = c.requires.second in let op = c.args.op in
     let n = c.in_ok-maps.ensures.len in let o = c.in_ok-maps.maps.ok in
-    let alike : length c.in_ok-maps.maps.items ≡ length c.as_slice-points.result.now = omega arith in
-    record {
-      maps = (
+    let alike : length c.in_ok-maps.maps.items ≡ length c.as_slice-points.result.now = omega arith in (
+      c.type_bounds.sync-R,
+      (
         op_set op S.0 T.0,
         both-maps op c.args.a.now c.args.b.now c.in_ok-carriers.carriers c.in_ok-listed.listed.items c.as_slice-points.result.now c.in_ok-maps.maps.items
             c.as_slice-points.ensures.value c.in_ok-listed.ensures.lists.exactly.ordered c.in_ok-listed.ensures.lists.complete c.in_ok-carriers.ensures.carriers alike c.in_ok-maps.ensures.right S.0 T.0 S.1 T.1,
-      );
-    }
+      ),
+    )
 
 pub returns : goal.returns
 returns g c =

@@ -13,15 +13,15 @@ pub assemble-requires : goal.assemble-requires
 assemble-requires g c =
     let h = c.plane-plane.result in let f = given_form c.args.oriented.now in
     let n = c.in_ok-maps.ensures.len in let o = c.in_ok-maps.maps.ok in
-    let alike : length c.in_ok-maps.maps.items ≡ length c.as_slice-points.result.now = omega arith in
-    record {
-      maps = (
+    let alike : length c.in_ok-maps.maps.items ≡ length c.as_slice-points.result.now = omega arith in (
+      c.type_bounds.sync-R,
+      (
         Set.half f c.args.closed,
         half-maps f c.args.closed h c.args.whole.now c.in_ok-carriers.carriers c.in_ok-listed.listed.items c.as_slice-points.result.now c.in_ok-maps.maps.items c.requires.whole
             (given-plane c.args.oriented.now h c.plane-plane.ensures.plane) c.as_slice-points.ensures.value c.in_ok-listed.ensures.exactly.ordered c.in_ok-listed.ensures.frame
             c.in_ok-carriers.ensures.carriers alike c.in_ok-maps.ensures.right,
-      );
-    }
+      ),
+    )
 
 pub returns : goal.returns
 returns g c =

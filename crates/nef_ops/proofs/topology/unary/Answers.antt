@@ -10,14 +10,14 @@ pub assemble-requires : goal.assemble-requires
 assemble-requires g c =
     let S = c.requires.shows in let op = c.args.op in
     let n = c.in_ok-maps.ensures.len in let o = c.in_ok-maps.maps.ok in
-    let alike : length c.in_ok-maps.maps.items ≡ length c.args.a.now.vertices = omega arith in
-    record {
-      maps = (
+    let alike : length c.in_ok-maps.maps.items ≡ length c.args.a.now.vertices = omega arith in (
+      c.type_bounds.sync-R,
+      (
         unary_set op S.0,
         one-maps op c.args.a.now c.in_ok-carriers.carriers c.in_ok-points.points.items c.as_slice.result.now c.in_ok-maps.maps.items
             c.as_slice.ensures.value c.in_ok-points.ensures.points c.in_ok-carriers.ensures.same alike c.in_ok-maps.ensures.right S.0 S.1,
-      );
-    }
+      ),
+    )
 
 pub returns : goal.returns
 returns g c =

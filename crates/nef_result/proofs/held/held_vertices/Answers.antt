@@ -23,12 +23,12 @@ pub loop-point-init : goal.loop-point-init
 loop-point-init c =
     let hs = c.args.carriers.now in let ps = c.args.points.now in
     record {
-      held = subst (λ (vs : List Vertex). AreHeldAmong hs ps [] vs c.new-holders.result) (sym c.new-vertices.ensures.items)
-          (subst (AreHeldAmong hs ps [] []) (sym c.new-holders.ensures.empty) (held-none hs ps));
+      held = subst (λ (vs : List Vertex). AreHeldAmong hs ps [] vs c.in_ok-holders.holders) (sym c.in_ok-vertices.ensures.items)
+          (subst (AreHeldAmong hs ps [] []) (sym c.in_ok-holders.ensures.empty) (held-none hs ps));
     }
 
-pub loop-point-preserved-in-Continue-branch-3 : goal.loop-point-preserved-in-Continue-branch-3
-loop-point-preserved-in-Continue-branch-3 c =
+pub loop-point-preserved-in-Continue-branch-5 : goal.loop-point-preserved-in-Continue-branch-5
+loop-point-preserved-in-Continue-branch-5 c =
     let ps = c.args.points.now in let ms = c.args.maps.items in let xs = c.loop-point.yielded in let second = c.zip-point-items.ensures.second in
     let road = YieldsList-at c.into_iter-point-iterator.ensures.into_iter_gives
     (YieldsList-from_zip (YieldsList-at c.zip-point-items.ensures.first (YieldsList-from_slice ps c.iter.ensures.rest)) (YieldsList-from_vec ms second.0 (second.1 ∙ c.args.maps.ok.0))) in
@@ -41,7 +41,7 @@ loop-point-preserved-in-Continue-branch-3 c =
     let ns : List ℕ = c.as_slice.result.now in
     record {
       held = held-more hs ps (map (λ p. p.1) (xs ++ (c.in-Some.point, c.in-Some.map) ∷ [])) vs ws c.loop-point.holders c.push.new.self v ns H.holders
-          (subst (AreHolders hs (place_of v.point) (place_of v.point)) (sym c.as_slice.ensures.value) c.in_ok-holders.ensures.holders) c.in_ok-push-2.ensures.items c.in_ok-push.ensures.ok
+          (subst (AreHolders hs (place_of v.point) (place_of v.point)) (sym c.as_slice.ensures.value) c.in_ok-holders-2.ensures.holders) c.in_ok-push-2.ensures.items c.in_ok-push.ensures.ok
           (pair-kept ps ms xs (c.in-Some.point, c.in-Some.map) turn.0 turn.1 vs ws c.requires.maps.ordered H.vertices
           (c.is_vertex.ensures.vertex.0 c.if-is_vertex.true) c.in_ok-push-2.ensures.items);
     }
