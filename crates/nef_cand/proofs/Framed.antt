@@ -20,7 +20,7 @@ use Rattle.nef_complex.specs.Complexes.{vertex_of, complex_of}
 use Rattle.nef_cand.specs.Candidates.{IsVertexOf, AreCandidates, AreCutCandidates, AreFramed}
 
 -- a point with fewer than three flat directions lies in the closed frame
-framed : (s : Set) (y : Place) (k : ℕ) → k < 3 → FlatDim s y k → InClosedFrame y
+pub framed : (s : Set) (y : Place) (k : ℕ) → k < 3 → FlatDim s y k → InClosedFrame y
 framed s y k l f = record {
   along_x = least (nat_abs y.x) (half_side * y.w) (λ m. outside (λ (i : InClosedFrame y). over (nat_abs y.x) (half_side * y.w) m i.along_x));
   along_y = least (nat_abs y.y) (half_side * y.w) (λ m. outside (λ (i : InClosedFrame y). over (nat_abs y.y) (half_side * y.w) m i.along_y));

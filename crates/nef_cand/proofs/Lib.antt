@@ -3,6 +3,7 @@ pub mod Adding
 pub mod Planes
 pub mod EdgeLines
 pub mod Held
+pub mod Missing
 pub mod Order
 pub mod Complete
 pub mod Halves

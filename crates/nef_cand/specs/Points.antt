@@ -1,13 +1,14 @@
 -- Points added to a list, and where a plane parts an edge.
 use Rattle.std.specs.Prelude.{◌≡◌, ℕ, ◌≤◌, pos, ◌⊎◌, List, length, map}
 use Rattle.std.specs.List.{Contains}
-use Rattle.nef_space.specs.Place.{Place, Form, form_at, normal_of, SamePlace, IsBetween}
+use Rattle.nef_space.specs.Place.{Place, Form, form_at, normal_of, InClosedFrame, SamePlace, IsBetween}
 use Rattle.nef_space.specs.Vectors.{IsDirection, cross}
 use Rattle.nef_geo.specs.Shapes.{place_of, form_of}
 use Rattle.nef_geo.specs.declared.plane.Plane.{Plane}
 use Rattle.nef_geo.specs.declared.point.Point.{Point}
 use Rattle.nef_geo.specs.declared.sign.Sign.{Sign}
 use Rattle.nef_geo.specs.Signs.{sign_of}
+use Rattle.nef_geo.specs.Steps.{HasOppositeSigns}
 use Rattle.law_sphere.specs.Maps.{At}
 use Rattle.law_complex.specs.Complexes.{Complex as PlainComplex}
 use Rattle.nef_complex.specs.declared.complex.Complex.{Complex}
@@ -67,3 +68,7 @@ pub record ListsCandidates (a b : Complex) (ps : List Point) : Type 0 where
   pub exactly : AreCandidates (complex_of a) (complex_of b) ps
   pub framed : AreFramed ps
   pub complete : (s t : Set) (y : Place) → ShowsSet s a → ShowsSet t b → IsVertexOfBoth s t y → IsListed ps y
+
+-- at no two points of the closed frame has the form opposite signs
+abbrev pub MissesFrame : Form → Type 0
+MissesFrame h = (p q : Place) → InClosedFrame p → InClosedFrame q → HasOppositeSigns (form_at h p) (form_at h q) → ⊥

@@ -1,6 +1,6 @@
 //! Points added to a list.
 
-ghost use Rattle.std.specs.Prelude.{◌≡◌, ◌<◌, ◌↔◌, List as Sequence, length, map, IfOk, OnOk};
+ghost use Rattle.std.specs.Prelude.{◌≡◌, ◌<◌, ◌↔◌, List as Sequence, length, map, IsTrue, IfOk, OnOk};
 ghost use Rattle.std.specs.List.{Contains};
 ghost use Rattle.nef_space.specs.Lists.{IsAt};
 ghost use Rattle.nef_space.specs.Place.{IsPlaceBelow};
@@ -12,13 +12,13 @@ ghost use Rattle.nef_complex.specs.declared.complex.Edge.{Edge};
 ghost use Rattle.nef_complex.specs.declared.complex.Vertex.{Vertex as VertexValue};
 ghost use Rattle.nef_complex.specs.Complexes.{complex_of, ShowsSet};
 ghost use Rattle.nef_cand.specs.Candidates.{IsVertexOf, IsCutBy};
-ghost use Rattle.nef_cand.specs.Points.{Adds, point_of, points_of, AreSides, CutsEdge, CutsOne};
+ghost use Rattle.nef_cand.specs.Points.{Adds, point_of, points_of, AreSides, CutsEdge, CutsOne, MissesFrame};
 
 use crate::OutOfMemory;
 use crate::line::{are_opposite, crossing, line_through};
 use crate::points::vertex_points;
 use nef_complex::Complex;
-use nef_geo::{Plane, Point, Sign, lex_cmp, side};
+use nef_geo::{HALF_SIDE, Plane, Point, Sign, lex_cmp, side};
 use std::alloc::Global;
 
 /// Adds the vertices of the complex.
@@ -86,6 +86,15 @@ fn add_plane_cuts(
     Ok(())
 }
 
+// Whether the plane leaves the whole open frame on one side, as those of the frame's own sides do. It crosses no edge
+// then, since edges lie in the closed frame.
+fn misses_frame(h: &Plane) -> bool
+    ensures misses { IsTrue result → MissesFrame (form_of h.now) }
+{
+    let normal = h.a().unsigned_abs() + h.b().unsigned_abs() + h.c().unsigned_abs();
+    HALF_SIDE.unsigned_abs() * normal <= h.d().unsigned_abs()
+}
+
 /// Adds the points strictly inside an edge of the complex that lie on one of the planes, which doesn't hold the edge.
 pub(crate) fn add_cuts(
     alloc: Global,
@@ -98,7 +107,9 @@ pub(crate) fn add_cuts(
 {
     let ends = vertex_points(alloc, c)?;
     for h in planes {
-        add_plane_cuts(alloc, points, c, ends.as_slice(), h)?;
+        if !misses_frame(h) {
+            add_plane_cuts(alloc, points, c, ends.as_slice(), h)?;
+        }
     }
     Ok(())
 }

@@ -18,12 +18,15 @@ use nef_geo::{Plane, Point, lex_cmp};
 use std::alloc::Global;
 use std::slice;
 
+// Room for the cuts of a small set.
+const FIRST_ROOM: usize = 24;
+
 /// The points strictly inside an edge of the complex that lie on one of the planes, which doesn't hold the edge.
 pub(crate) fn cuts(alloc: Global, c: &Complex, planes: &[Plane]) -> Result<Vec<Point>, OutOfMemory>
     requires shows { (s : Set) × ShowsSet s c.now }
     ensures cuts { IfOk result (λ v. Adds (CutsOne (complex_of c.now) planes.now) [] v.items) }
 {
-    let mut points = Vec::new(alloc);
+    let mut points = Vec::with_capacity(alloc, FIRST_ROOM)?;
     add_cuts(alloc, &mut points, c, planes)?;
     // Only speed needs the order: the sort of all candidates merges what is sorted, which is cheap.
     points.sort_by(|p, q| lex_cmp(p, q))?;
@@ -81,7 +84,7 @@ pub fn cut_candidates(alloc: Global, c: &Complex, h: &Plane) -> Result<Vec<Point
     ensures framed { IfOk result (λ v. AreFramed v.items) }
     ensures frame { IfOk result (λ v. (f : Form) (closed : Bool) (y : Place) → SamePlane (form_of h.now) f → ShowsSet Set.full c.now → IsVertex (Set.half f closed) y → IsListed v.items y) }
 {
-    let mut points = Vec::new(alloc);
+    let mut points = Vec::with_capacity(alloc, c.vertices.len().saturating_mul(2))?;
     add_vertices(&mut points, c)?;
     add_cuts(alloc, &mut points, c, slice::from_ref(h))?;
     sort_once(&mut points)?;

@@ -12,7 +12,7 @@ pub returns-clause-exactly : goal.returns-clause-exactly
 returns-clause-exactly c =
     let a = c.args.c.now in
     cut-all (complex_of a) c.args.h.now c.from_ref.result.now c.from_ref.ensures.value c.add_vertices.new.points.items c.add_cuts.new.points.items c.sort_once.new.points.items
-    (subst (λ (ps : List Point). Adds (IsVertexOf (complex_of a)) ps c.add_vertices.new.points.items) c.new-points.ensures.items c.in_ok-add_vertices.ensures.added)
+    (subst (λ (ps : List Point). Adds (IsVertexOf (complex_of a)) ps c.add_vertices.new.points.items) c.in_ok-points.ensures.items c.in_ok-add_vertices.ensures.added)
     c.in_ok-add_cuts.ensures.added c.in_ok-sort_once.ensures.in_order c.in_ok-sort_once.ensures.same
 
 pub returns-clause-frame : goal.returns-clause-frame

@@ -14,5 +14,5 @@ returns c =
     let m = c.sort_by.ensures.permutation in
     record {
       cuts = adds-ordered P [] ps qs (λ p h. Contains-permutation ps qs p m h) (λ p h. Contains-permutation qs ps p (IsPermutation-sym ps qs m) h)
-          (subst (λ (rs : List Point). Adds P rs ps) c.new-points.ensures.items c.in_ok-add_cuts.ensures.added);
+          (subst (λ (rs : List Point). Adds P rs ps) c.in_ok-points.ensures.items c.in_ok-add_cuts.ensures.added);
     }
