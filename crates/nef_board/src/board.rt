@@ -69,10 +69,21 @@ impl<'a, R: Wait + Sync, J: Job> LockBoard<'a, R, J> {
 // How often a pass asks for the turn before it lets others run: each pass has the turn for a short time only.
 const TRIES: u32 = 64;
 
+// How long a pass waits before it asks again. Each request takes the turn's memory from the pass that has the turn, and
+// one that has just given it back, and asks for it again at once, works on without waiting.
+const PAUSES: u32 = 16;
+
+// Waits for a short time.
+fn pause() {
+    for _ in 0..PAUSES {
+        hint::spin_loop();
+    }
+}
+
 // Waits a little, or lets others run where the turn was asked for often. How often it was asked for since.
 fn wait(asked: u32) -> u32 {
     if asked < TRIES {
-        hint::spin_loop();
+        pause();
         asked + 1
     } else {
         thread::yield_now();

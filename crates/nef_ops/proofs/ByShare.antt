@@ -21,6 +21,7 @@ use Rattle.nef_star.specs.Ops.{op_label}
 use Rattle.nef_combine.specs.Sets.{op_set}
 use Rattle.nef_combine.proofs.Cones.{label-by_op, germ-by_op}
 use Rattle.nef_ops.specs.declared.share.Share.{Share}
+use Rattle.nef_ops.specs.declared.share.Share.TheVariants.{Part}
 use Rattle.nef_ops.specs.declared.choice.Choice.TheVariants.{First, Second, NotFirst, NotSecond}
 use Rattle.nef_ops.specs.Combined.{IsCombined}
 use Rattle.nef_ops.specs.Shares.{AreAlike, InShare, HasShare, Leads}
@@ -41,6 +42,11 @@ pub alike-germs : (s t : Set) (p : Place) (d : Vector) (k l : Label) → Germ s 
 alike-germs s t p d k l (n, some, f) (n', some', g) =
     let r : Ratio = record { a = pos 1; b = n + n' + 1; proper = omega arith } in
     alike-labels s t (step p r d) k l (f r (omega (arith, ints), omega (arith, ints))) (g r (omega (arith, ints), omega (arith, ints)))
+
+-- ---- shares
+-- of any set some part may be close to any point
+pub share-part : (s : Set) (p : Place) → HasShare Part s p
+share-part s p = record { mark = λ l h. tt; germs = λ d l h g. tt }
 
 -- ---- maps
 -- of sets with these shares at p, M a map of a set there whose label is the operation's at each point and direction

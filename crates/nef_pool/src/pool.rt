@@ -60,15 +60,44 @@ fn passes_of<J: Job, B: Board<J>>(
     Ok(passes)
 }
 
-// Takes the workers' passes in.
-fn join_all<J: Job, B: Board<J>>(board: &B, pass: &mut B::Pass, mut others: Vec<B::Pass>)
-    requires of { B.belongs board.now pass.old × (B.hand pass.old ≡ None) }
+// Works the jobs by the other passes, each in a thread of its own where one can be made, and takes them in. The last of
+// them works in this thread, which starts all others itself: one that another new thread starts often waits for its turn
+// on the processor of that one, while a processor is free.
+#[cycle(beside)]
+fn work_beside<R: Threads + Sync, J: Job, B: Board<J>, G: Gate + Sync>(
+    rt: &R,
+    alloc: Global,
+    board: &B,
+    mut pass: B::Pass,
+    mut others: Vec<B::Pass>,
+    job: &J,
+    gate: &G,
+) -> B::Pass
+    requires job { B.made_for board.now ≡ job.now }
+    requires workable { J.workable job.now }
+    requires pass { B.belongs board.now pass × (B.hand pass ≡ None) }
     requires each { All (λ p. B.belongs board.now p × (B.hand p ≡ None)) others.items }
-    ensures of { B.belongs board.now pass.new × (B.hand pass.new ≡ None) }
+    ensures pass { B.belongs board.now result × (B.hand result ≡ None) }
 {
-    while let Some(other) = others.pop() {
-        board.join(pass, other);
+    let Some(other) = others.pop() else {
+        return pass;
+    };
+    if others.is_empty() {
+        let done = work_all(alloc, board, other, job, gate);
+        board.join(&mut pass, done);
+        return pass;
     }
+    let works = move || -> B::Pass
+        requires { (B.made_for board.now ≡ job.now) × J.workable job.now × B.belongs board.now other × (B.hand other ≡ None) }
+        ensures { B.belongs board.entry.now result × (B.hand result ≡ None) }
+    { work_all(alloc, board, other, job, gate) };
+    let goes_on = move || -> B::Pass
+        requires { (B.made_for board.now ≡ job.now) × J.workable job.now × B.belongs board.now pass × (B.hand pass ≡ None) × All (λ p. B.belongs board.now p × (B.hand p ≡ None)) others.items }
+        ensures { B.belongs board.entry.now result × (B.hand result ≡ None) }
+    { work_beside(rt, alloc, board, pass, others, job, gate) };
+    let (done, mut pass) = thread::join(rt, works, goes_on);
+    board.join(&mut pass, done);
+    pass
 }
 
 // The result that is there, or else that of the job, worked now.
@@ -136,16 +165,7 @@ pub fn finish<R: Threads + Sync, J: Job, B: Board<J>, G: Gate + Sync>(
     ensures right { IfOk result (λ v. (i : ℕ) (out : _) → slice_get v.items i ≡ Some out → J.right job.now i out) }
 {
     let passes = passes_of(alloc, &board, &mut pass, workers)?;
-    let shared = &board;
-    let done = thread::map_vec(
-        rt,
-        passes,
-        &|mine: B::Pass| -> B::Pass
-            requires { (B.made_for shared.now ≡ job.now) × J.workable job.now × B.belongs shared.now mine × (B.hand mine ≡ None) }
-            ensures { B.belongs shared.entry.now result × (B.hand result ≡ None) }
-        { work_all(alloc, shared, mine, job, gate) },
-    )?;
-    join_all(&board, &mut pass, done);
+    let pass = work_beside(rt, alloc, &board, pass, passes, job, gate);
     let slots = board.close(alloc, pass)?;
     filled(alloc, job, slots)
 }

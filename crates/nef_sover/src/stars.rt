@@ -51,7 +51,7 @@ fn merged_star(
     ensures merged { IfOk result (IsMergedAt (map_of a.now) (map_of b.now) (op_label op) axis.now.dir) }
 {
     let (first, second) = both_stars(alloc, a, b, axis)?;
-    merge(alloc, &first, &second, op)
+    merge(first, &second, op)
 }
 
 /// The stars of both maps at each axis, merged.

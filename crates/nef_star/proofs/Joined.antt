@@ -124,11 +124,6 @@ combined-kept op a b c s t h k m = record {
       m.labels v (op_label op x y) off'' (k.labels v x y off' (h.labels v x off p) q);
 }
 
-pub copied-kept : (t s : Star) → s.axis ≡ t.axis → s.rays.items ≡ t.rays.items → s.sectors.items ≡ t.sectors.items → s.mark ≡ t.mark → IsTurned t → IsTurned s × IsKept t s
-copied-kept t s e r m f T =
-    let turned = turned-by t s T e f (subst (All (IsRay (vector_of t.axis))) (sym r) T.rays) (length t.rays.items) (ap length r) (subst (λ (l : List Ray). IsTurning (vector_of t.axis) (length t.rays.items) (left_at l)) (sym r) T.counterclockwise) (ap length m ∙ T.sectors ∙ ap sector_count (sym r)) in
-    (turned, record { axis = e; mark = f; labels = λ v l off q. rw (e, r, m, f) q })
-
 pub none-too : (t b : Star) → ((k : ℕ) → k < length b.rays.items → HasLeft t (left_at b.rays.items k)) → length t.rays.items ≡ 0 → length b.rays.items ≡ 0
 none-too t b all none = elim (first_or_later (length b.rays.items)) [ inl e ↦ e | inr h ↦ let w = all 0 h in let x = w.1 in absurd (omega (arith, x, none)) ]
 

@@ -11,7 +11,6 @@ use crate::needless::begin_with_least;
 use crate::op::Op;
 use crate::star::Star;
 use nef_geo::{Dir, Label};
-use std::alloc::Global;
 
 // The labels that the star gives a ray with this direction to its left, and just after it.
 fn labels_at(star: &Star, left: &Dir) -> (Label, Label)
@@ -88,34 +87,17 @@ fn combine(star: &mut Star, other: &Star, op: Op)
     combine_rays(star, other, op);
 }
 
-fn copy(alloc: Global, star: &Star) -> Result<Star, OutOfMemory>
-    ensures axis { IfOk result (λ t. t.axis ≡ star.now.axis) }
-    ensures rays { IfOk result (λ t. t.rays.items ≡ star.now.rays.items) }
-    ensures sectors { IfOk result (λ t. t.sectors.items ≡ star.now.sectors.items) }
-    ensures mark { IfOk result (λ t. t.mark ≡ star.now.mark) }
-{
-    let mut rays = Vec::with_capacity(alloc, star.rays.len())?;
-    let mut sectors = Vec::with_capacity(alloc, star.sectors.len())?;
-    rays.extend_from_slice(star.rays.as_slice())?;
-    sectors.extend_from_slice(star.sectors.as_slice())?;
-    Ok(Star {
-        axis: star.axis,
-        rays,
-        sectors,
-        mark: star.mark,
-    })
-}
-
 /// Combines two stars with one axis: the axis and each direction that isn't parallel to it have the label of the
-/// operation on their labels in the two stars. `OutOfMemory` says that memory was wanted and not found.
-pub fn merge(alloc: Global, a: &Star, b: &Star, op: Op) -> Result<Star, OutOfMemory>
-    requires star_a { IsStar a.now }
+/// operation on their labels in the two stars. The first star becomes the result. `OutOfMemory` says that memory was wanted
+/// and not found.
+pub fn merge(a: Star, b: &Star, op: Op) -> Result<Star, OutOfMemory>
+    requires star_a { IsStar a }
     requires star_b { IsStar b.now }
-    requires one_axis { a.now.axis ≡ b.now.axis }
+    requires one_axis { a.axis ≡ b.now.axis }
     ensures star { IfOk result (λ t. IsStar t) }
-    ensures combined { IfOk result (λ t. IsCombined op a.now b.now t) }
+    ensures combined { IfOk result (λ t. IsCombined op a b.now t) }
 {
-    let mut star = copy(alloc, a)?;
+    let mut star = a;
     cut_by(&mut star, b.rays.as_slice())?;
     combine(&mut star, b, op);
     begin_with_least(&mut star);

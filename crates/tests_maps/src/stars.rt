@@ -79,7 +79,7 @@ fn combined(rt: &impl Abort, alloc: Global, planes: (&str, &str), how: &str) -> 
     }
     let second = star_of(rt, alloc, axis, planes.1)?;
     let op = op(how).ok_or("an operation")?;
-    let star = merge(alloc, &first, &second, op)?;
+    let star = merge(first, &second, op)?;
     Ok(star)
 }
 
