@@ -8,7 +8,7 @@ ghost use Rattle.nef_complex.specs.Complexes.{complex_of, corner_of, ShowsSet};
 ghost use Rattle.nef_complex.specs.declared.complex.Corner.{Corner as CornerValue};
 ghost use Rattle.nef_facets.specs.Corners.{AreListed};
 ghost use Rattle.nef_ties.specs.Carriers.{HasItem};
-ghost use Rattle.nef_facets.specs.Facets.{IsMarkAt, AreMadeAt, ArePlanesAt, AreMarksAt};
+ghost use Rattle.nef_facets.specs.Facets.{IsPlaneAt, IsMarkAt, AreMadeAt, ArePlanesAt, AreMarksAt};
 
 use crate::OutOfMemory;
 use nef_complex::{Complex, Corner};
@@ -34,6 +34,15 @@ fn made_of_each<T: Drop, F: Fn(&Complex, &Corner) -> T>(
     Ok(made)
 }
 
+// The plane of the corner's item. It stands here since no function of another crate can be handed on by its name.
+fn plane_at(c: &Complex, k: &Corner) -> Plane
+    requires shows { (s : Set) × ShowsSet s c.now }
+    requires corner { HasItem (complex_of c.now) (corner_of k.now) }
+    ensures plane { IsPlaneAt (complex_of c.now) result (corner_of k.now) }
+{
+    plane_of(c, k)
+}
+
 /// The planes of the corners' items.
 pub(crate) fn planes(
     alloc: Global,
@@ -45,7 +54,7 @@ pub(crate) fn planes(
     ensures as_many { IfOk result (λ hs. length hs ≡ length corners.now) }
     ensures planes { IfOk result (λ hs. ArePlanesAt (complex_of c.now) corners.now hs) }
 {
-    made_of_each(alloc, c, corners, plane_of)
+    made_of_each(alloc, c, corners, plane_at)
 }
 
 // The mark of the corner's item.
