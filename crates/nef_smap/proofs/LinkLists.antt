@@ -1,5 +1,6 @@
 -- Lists of links, link by link.
-use Rattle.std.proofs.Common.{◌≡◌, ℕ, zero, suc, ◌+◌, ◌<◌, arith, length-append, refl, ap, sym, ◌∙◌, ◌⊎◌, inl, inr, ⊎_elim, List, [], ◌∷◌, ◌++◌, length, subst, Option, Some, None}
+use Rattle.std.proofs.Common.{◌≡◌, ℕ, zero, suc, ◌+◌, ◌<◌, arith, length-append, refl, ap, sym, ◌∙◌, ◌⊎◌, inl, inr, ⊎_elim, List, [], ◌∷◌, ◌++◌, length, subst, Option, Some, None, Result, IfOk, Bor}
+use Rattle.std.proofs.lemmas.Result.{IfOk-weaker}
 use Rattle.nef_space.specs.Lists.{IsAt}
 use Rattle.nef_space.specs.Vectors.{up}
 use Rattle.nef_space.specs.declared.label.Label.{Label}
@@ -8,10 +9,11 @@ use Rattle.law_sphere.proofs.Lists.{at-one}
 use Rattle.nef_classes.specs.declared.link.Link.{Link}
 use Rattle.nef_smap.specs.Sides.{labelled, svertex_sides, item_sides, sides_of}
 use Rattle.nef_classes.specs.Classes.{AreLinked}
+use Rattle.nef_smap.specs.declared.map.SphereMap.{SphereMap}
 use Rattle.nef_smap.specs.Joined.{BelowFirsts, BelowFirst, ArcFirst, SloopFirst}
 use Rattle.nef_smap.specs.Links.{met_number, IsJoin, join_below, join_around, join_arc, join_sloop, join_ground, AreJoins}
 use Rattle.nef_smap.specs.SideNumbers.{one_if, arounds_before, number_of}
-use Rattle.nef_smap.specs.JoinLinks.{JoinsBelow, JoinsAround, JoinsArc, JoinsSloop, JoinsGround, HasLink, AreEach, AreArounds, AreSloops, AreGrounds}
+use Rattle.nef_smap.specs.JoinLinks.{JoinsBelow, JoinsAround, JoinsArc, JoinsSloop, JoinsGround, HasLink, ComesOf, AreEach, AreArounds, AreSloops, AreGrounds}
 use Rattle.nef_smap.proofs.MapLists.{at-within}
 use Rattle.nef_smap.proofs.SideLists.{length-item_sides}
 use Rattle.nef_classes.proofs.ClassLists.{less-or-last, Either, earlier, last, is-at_either, is-at_left, is-at_last, is-at_some}
@@ -23,6 +25,12 @@ each-more P n ls l p E = record { as_many = let a = length-append ls (l ∷ []) 
     by : (k : ℕ) (x : Link) → Either ls k x l → P k x
     by k x (earlier a) = E.each k x a
     by k x (last e f) = subst (λ (i : ℕ). P i x) (sym (e ∙ E.as_many)) (subst (P n) (sym f) p)
+
+-- the links of calls, where each call does what is wanted
+pub each-joined : {V E : Type 0} (joins : Bor SphereMap → ℕ → Link → Type 0) (P : SphereMap → ℕ → Link → Type 0) (m : SphereMap) (n count : ℕ) (items : V → List Link) (r : Result V E)
+    → ((at : Bor SphereMap) (k : ℕ) (l : Link) → joins at k l → P at.now k l) → n ≡ count → IfOk r (λ v. AreEach (ComesOf joins m) n (items v)) → IfOk r (λ v. AreEach (P m) count (items v))
+each-joined joins P m n count items r f e = IfOk-weaker r (λ v. AreEach (ComesOf joins m) n (items v)) (λ v. AreEach (P m) count (items v))
+    (λ v E. record { as_many = E.as_many ∙ e; each = λ k l a. let q = E.each k l a in subst (λ (x : SphereMap). P x k l) q.1 (f q.0 k l q.2) })
 
 pub each-has : (P : ℕ → Link → Type 0) (n : ℕ) (ls : List Link) → AreEach P n ls → (k : ℕ) → k < n → HasLink ls (P k)
 each-has P n ls E k h = let e = E.as_many in let r = is-at_some ls k (omega arith) in (k, r.0, r.1, E.each k r.0 r.1)

@@ -1,10 +1,12 @@
 -- What each link of the program joins.
 use Rattle.std.specs.Prelude.{◌≡◌, ℕ, ◌<◌, List, length, Some}
+use Rattle.std.specs.Borrow.{Bor}
 use Rattle.nef_space.specs.Lists.{IsAt}
 use Rattle.nef_space.specs.Vectors.{up}
 use Rattle.nef_space.specs.declared.label.Label.{Label}
 use Rattle.law_sphere.specs.Maps.{At, MapVertex, Arc, MapSloop, Map, sloop_item, items, around_svertex, pos_item, whole}
 use Rattle.nef_classes.specs.declared.link.Link.{Link}
+use Rattle.nef_smap.specs.declared.map.SphereMap.{SphereMap}
 use Rattle.nef_smap.specs.Sides.{sides_of}
 use Rattle.nef_smap.specs.SideNumbers.{number_of}
 use Rattle.nef_smap.specs.Joined.{BelowFirsts, BelowFirst, ArcFirst, SloopFirst}
@@ -26,6 +28,10 @@ JoinsArc M k l = (a : Arc) × At M.arcs k a × ((j : ArcFirst M up a) × (l.firs
 -- and that of the sloop
 abbrev pub JoinsSloop : Map → ℕ → Link → Type 0
 JoinsSloop M k l = (c : MapSloop) × At (items M) k (sloop_item c) × ((j : SloopFirst M up c) × (l.first ≡ number_of M (pos_item k)) × (l.second ≡ met_number M j.first))
+
+-- the link comes of a call at a reference to the map, and at the number
+abbrev pub ComesOf : (Bor SphereMap → ℕ → Link → Type 0) → SphereMap → ℕ → Link → Type 0
+ComesOf joins m k l = (at : Bor SphereMap) × (at.now ≡ m) × joins at k l
 
 -- link k of the list does what P says, for each k below n
 pub record AreEach (P : ℕ → Link → Type 0) (n : ℕ) (ls : List Link) : Type 0 where

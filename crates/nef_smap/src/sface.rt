@@ -1,11 +1,11 @@
 //! The sfaces of a sphere map.
 
-ghost use Rattle.std.specs.Prelude.{◌≡◌, ◌<◌, ◌++◌, length, IfOk, OnOk};
+ghost use Rattle.std.specs.Prelude.{◌≡◌, ℕ, ◌<◌, ◌++◌, length, IfOk, OnOk};
 ghost use Rattle.nef_space.specs.Vectors.{up};
 ghost use Rattle.nef_smap.specs.Maps.{map_of, IsSphereMap};
 ghost use Rattle.nef_smap.specs.Sides.{AreSfaces};
 ghost use Rattle.nef_classes.specs.Classes.{AreLinked};
-ghost use Rattle.nef_smap.specs.JoinLinks.{JoinsBelow, JoinsArc, AreEach, AreArounds, AreSloops, AreGrounds};
+ghost use Rattle.nef_smap.specs.JoinLinks.{JoinsBelow, JoinsArc, ComesOf, AreEach, AreArounds, AreSloops, AreGrounds};
 ghost use Rattle.nef_smap.specs.Links.{AreJoins};
 
 use crate::OutOfMemory;
@@ -15,16 +15,29 @@ use crate::side::sides;
 use nef_classes::{Link, class_numbers, class_of_each};
 use std::alloc::Global;
 
+// The links that `join` makes of the numbers below the count.
+fn each_link<F: Fn(&SphereMap, usize) -> Link>(
+    alloc: Global,
+    map: &SphereMap,
+    count: usize,
+    join: F,
+) -> Result<Vec<Link>, OutOfMemory>
+    requires numbers { (number : ℕ) → number < count → F.pre join map number }
+    ensures links { IfOk result (λ v. AreEach (ComesOf (F.post join) map.now) count v.items) }
+{
+    let mut links = Vec::new(alloc);
+    for number in 0..count {
+        links.push(join(map, number))?;
+    }
+    Ok(links)
+}
+
 // A link for each svertex.
 fn below_links(alloc: Global, map: &SphereMap) -> Result<Vec<Link>, OutOfMemory>
     requires map { IsSphereMap map.now }
     ensures links { IfOk result (λ v. AreEach (JoinsBelow (map_of map.now)) (length map.now.svertices) v.items) }
 {
-    let mut links = Vec::new(alloc);
-    for number in 0..map.svertices.len() {
-        links.push(join_below(map, number))?;
-    }
-    Ok(links)
+    each_link(alloc, map, map.svertices.len(), join_below)
 }
 
 // A link for each arc.
@@ -32,11 +45,7 @@ fn arc_links(alloc: Global, map: &SphereMap) -> Result<Vec<Link>, OutOfMemory>
     requires map { IsSphereMap map.now }
     ensures links { IfOk result (λ v. AreEach (JoinsArc (map_of map.now)) (length map.now.arcs) v.items) }
 {
-    let mut links = Vec::new(alloc);
-    for number in 0..map.arcs.len() {
-        links.push(join_arc(map, number))?;
-    }
-    Ok(links)
+    each_link(alloc, map, map.arcs.len(), join_arc)
 }
 
 // A link for each svertex that has a side.

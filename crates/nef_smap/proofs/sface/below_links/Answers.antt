@@ -1,12 +1,7 @@
-use Rattle.std.proofs.Common.{◌+◌, List, sym, subst}
-use Rattle.nef_classes.specs.declared.link.Link.{Link}
 use Rattle.nef_smap.specs.Maps.{map_of}
-use Rattle.nef_smap.specs.JoinLinks.{JoinsBelow, AreEach}
-use Rattle.nef_smap.proofs.LinkLists.{each-more}
+use Rattle.nef_smap.specs.JoinLinks.{JoinsBelow}
+use Rattle.nef_smap.proofs.LinkLists.{each-joined}
 use Rattle.nef_smap.proofs.sface.below_links.Goals as goal
 
-pub loop-number-preserved : goal.loop-number-preserved
-loop-number-preserved c =
-    let M = map_of c.args.map.now in
-    let n = c.loop-number.number in
-    subst (λ (ls : List Link). AreEach (JoinsBelow M) (n + 1) ls) (sym {A = List Link} c.in_ok-push.ensures.items) (each-more (JoinsBelow M) n c.loop-number.links.items c.join_below.result c.join_below.ensures.joins c.loop-number.invariant)
+pub returns : goal.returns
+returns c = record { links = each-joined _ (λ m. JoinsBelow (map_of m)) c.args.map.now c.len.result _ (λ v. v.items) c.each_link.result (λ at k l j. j) c.len.ensures.len c.each_link.ensures.links }

@@ -1,6 +1,0 @@
-use Rattle.nef_smap.specs.Maps.{map_of}
-use Rattle.nef_smap.specs.JoinLinks.{JoinsBelow, AreEach}
-use Rattle.nef_smap.proofs.sface.below_links.Given as goal
-
-abbrev pub invariant-loop-number : goal.invariant-loop-number
-invariant-loop-number l = AreEach (JoinsBelow (map_of l.map)) l.number l.links.items
