@@ -1,15 +1,13 @@
 -- Elements of lists by their places.
-use Rattle.std.proofs.Common.{◌≡◌, ℕ, zero, suc, ◌+◌, List, [], ◌∷◌, ◌++◌, length, ◌≤◌, map, arith, refl, sym, ◌∙◌, subst, inl, inr, ◌⊎◌, length-append}
+use Rattle.std.proofs.Common.{◌≡◌, ℕ, zero, suc, ◌+◌, List, [], ◌∷◌, ◌++◌, length, ◌≤◌, map, arith, refl, sym, ◌∙◌, subst, inl, inr, ◌⊎◌, ⊎_elim, length-append}
 use Rattle.nef_space.specs.Lists.{IsAt}
 use Rattle.nef_classes.proofs.ClassLists.{Either, earlier, last, is-at_either, is-at_one, is-at_within}
+use Rattle.nef_smap.proofs.SideLists.{at-parts}
 use Rattle.nef_edges.proofs.Places.{some-at, at-some, at-map}
 
 -- an element of two lists one after the other is one of the first, or of the second
 pub is-at_parts : {X : Type 0} (xs ys : List X) (k : ℕ) (x : X) → IsAt (xs ++ ys) k x → IsAt xs k x ⊎ ((j : ℕ) × (k ≡ length xs + j) × IsAt ys j x)
-is-at_parts [] ys k x a = inr (k, omega arith, a)
-is-at_parts (z ∷ xs) ys zero x a = inl a
-is-at_parts (z ∷ xs) ys (suc k) x a =
-    elim (is-at_parts xs ys k x a) as (λ u. IsAt (z ∷ xs) (suc k) x ⊎ ((j : ℕ) × (suc k ≡ length (z ∷ xs) + j) × IsAt ys j x)) [ inl i ↦ inl i | inr i ↦ inr (i.0, (let e = i.1 in omega arith), i.2) ]
+is-at_parts xs ys k x a = ⊎_elim (λ b. inl (at-some xs k x b)) (λ r. inr (r.0, r.1, at-some ys r.0 x r.2)) (at-parts xs ys k x (some-at (xs ++ ys) k x a))
 
 pub is-at_second : {X : Type 0} (xs ys : List X) (j : ℕ) (x : X) → IsAt ys j x → IsAt (xs ++ ys) (length xs + j) x
 is-at_second {X} [] ys j x a = subst (λ (n : ℕ). IsAt {X = X} ys n x) {x = j} {y = zero + j} (omega arith) a

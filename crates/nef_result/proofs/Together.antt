@@ -7,7 +7,7 @@ use Rattle.nef_geo.specs.Shapes.{place_of}
 use Rattle.nef_geo.specs.declared.plane.Plane.{Plane}
 use Rattle.nef_geo.specs.declared.point.Point.{Point}
 use Rattle.law_sphere.specs.Maps.{At}
-use Rattle.nef_smap.proofs.SideLists.{at-right}
+use Rattle.nef_smap.proofs.SideLists.{at-right, InSecond, at-parts}
 use Rattle.nef_smap.specs.Maps.{map_of, IsLeastMap}
 use Rattle.nef_smap.specs.declared.map.SphereMap.{SphereMap}
 use Rattle.nef_spair.specs.Kinds.{IsVertex as IsVertexMap}
@@ -17,19 +17,6 @@ use Rattle.nef_complex.specs.Index.{AreHolders, AreVertexHolders}
 use Rattle.nef_complex.specs.declared.complex.Vertex.{Vertex}
 use Rattle.nef_result.specs.Results.{ArePointsInOrder, AreMapsOf, AreLeastAt, AreVerticesAmong, AreHeldAmong}
 use Rattle.nef_result.proofs.Vertices.{vertices-none, are-vertices}
-
--- an element of two lists is one of the first, or of the second
-abbrev InSecond : {A : Type 0} → List A → List A → ℕ → A → Type 0
-InSecond xs ys k x = (j : ℕ) × (k ≡ length xs + j) × At ys j x
-
-at-parts : {A : Type 0} (xs ys : List A) (k : ℕ) (x : A) → At (xs ++ ys) k x → At xs k x ⊎ InSecond xs ys k x
-at-parts [] ys k x a = inr (k, omega arith, a)
-at-parts (y ∷ xs) ys zero x a = inl a
-at-parts (y ∷ xs) ys (suc k) x a = by (at-parts xs ys k x a)
-  where
-    by : At xs k x ⊎ InSecond xs ys k x → At xs k x ⊎ InSecond (y ∷ xs) ys (suc k) x
-    by (inl b) = inl b
-    by (inr b) = inr (b.0, (let e = b.1 in omega (arith, e)), b.2)
 
 -- ---- the carriers that hold them
 module _ (hs : List Plane) where

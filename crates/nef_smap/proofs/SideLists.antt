@@ -32,6 +32,16 @@ at-right [] ys k n x e a = subst (λ (r : ℕ). At ys r x) (let d : k ≡ n = om
 at-right (z ∷ zs) ys k zero x e a = absurd (omega arith)
 at-right (z ∷ zs) ys k (suc n) x e a = at-right zs ys k n x (omega arith) a
 
+-- an element of the second of two lists put together, by its place in both
+abbrev pub InSecond : {X : Type 0} → List X → List X → ℕ → X → Type 0
+InSecond xs ys k x = (j : ℕ) × (k ≡ length xs + j) × At ys j x
+
+-- an element of both is one of the first, or of the second
+pub at-parts : {X : Type 0} (xs ys : List X) (k : ℕ) (x : X) → At (xs ++ ys) k x → At xs k x ⊎ InSecond xs ys k x
+at-parts [] ys k x a = inr (k, sym (zero-add k), a)
+at-parts (z ∷ zs) ys zero x a = inl a
+at-parts (z ∷ zs) ys (suc k) x a = ⊎_elim (λ b. inl b) (λ r. inr (r.0, (let e = r.1 in let h : suc k ≡ suc (length zs) + r.0 = omega arith in h), r.2)) (at-parts zs ys k x a)
+
 pub at-some : {X : Type 0} (xs : List X) (k : ℕ) → k < length xs → (x : X) × At xs k x
 at-some [] k h = absurd (omega arith)
 at-some (x ∷ xs) zero h = (x, refl)

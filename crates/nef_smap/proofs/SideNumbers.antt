@@ -4,7 +4,7 @@ use Rattle.nef_space.specs.declared.label.Label.{Label}
 use Rattle.law_sphere.specs.Maps.{At, MapVertex, Item, Map, items, Side, around_svertex, pos_item, neg_item, whole, HasSide}
 use Rattle.nef_smap.specs.Sides.{LabelledSide, labelled, svertex_sides, item_sides, sides_of, IsSide}
 use Rattle.nef_smap.specs.SideNumbers.{one_if, arounds_before, number_of}
-use Rattle.nef_smap.proofs.SideLists.{at-from_get, get-from_at, at-left, at-right, length-item_sides, item-side}
+use Rattle.nef_smap.proofs.SideLists.{at-from_get, get-from_at, at-left, at-right, InSecond, at-parts, length-item_sides, item-side}
 
 -- ---- where each side stands
 svertex-at : (n : ℕ) (vs : List MapVertex) (k : ℕ) (v : MapVertex) (l : Label) → At vs k v → v.around ≡ Some l → At (svertex_sides n vs) (arounds_before vs k) (around_svertex (n + k), l)
@@ -81,14 +81,8 @@ items-number n (x ∷ xs) (suc (suc s)) o l a =
     let e : suc n + r.0 ≡ n + suc r.0 = omega arith in
     (suc r.0, ⊎_elim (λ q. inl (q.0 ∙ ap pos_item e, (let i = q.1 in let h : suc (suc s) ≡ 2 * suc r.0 = omega arith in h))) (λ q. inr (q.0 ∙ ap neg_item e, (let i = q.1 in let h : suc (suc s) ≡ 2 * suc r.0 + 1 = omega arith in h))) r.1)
 
--- an element of two lists, with its place in the second
-either-of : {X : Type 0} (xs ys : List X) (k : ℕ) (x : X) → At (xs ++ ys) k x → At xs k x ⊎ ((j : ℕ) × At ys j x × (k ≡ length xs + j))
-either-of [] ys k x a = inr (k, a, sym (zero-add k))
-either-of (z ∷ zs) ys zero x a = inl a
-either-of (z ∷ zs) ys (suc k) x a = ⊎_elim (λ b. inl b) (λ r. inr (r.0, r.1, let e = r.2 in let h : suc k ≡ suc (length zs) + r.0 = omega arith in h)) (either-of zs ys k x a)
-
 pub number-one : (M : Map) (s : ℕ) (o : Side) (l : Label) → IsSide M s o l → s ≡ number_of M o
-number-one M s o l g = by (either-of (around M ++ of_items M) (labelled whole M.ground) s (o, l) (at-from_get (sides_of M) s (o, l) g))
+number-one M s o l g = by (at-parts (around M ++ of_items M) (labelled whole M.ground) s (o, l) (at-from_get (sides_of M) s (o, l) g))
   where
     is : (p : Side) → o ≡ p → s ≡ number_of M p → s ≡ number_of M o
     is p e q = q ∙ ap (number_of M) (sym e)
@@ -97,18 +91,18 @@ number-one M s o l g = by (either-of (around M ++ of_items M) (labelled whole M.
     of_item j e i (inl q) = is (pos_item i) (q.0 ∙ ap pos_item (zero-add i)) (e ∙ ap (λ r. length (around M) + r) q.1)
     of_item j e i (inr q) = is (neg_item i) (q.0 ∙ ap neg_item (zero-add i)) (e ∙ ap (λ r. length (around M) + r) q.1)
 
-    part : At (around M) s (o, l) ⊎ ((j : ℕ) × At (of_items M) j (o, l) × (s ≡ length (around M) + j)) → s ≡ number_of M o
+    part : At (around M) s (o, l) ⊎ InSecond (around M) (of_items M) s (o, l) → s ≡ number_of M o
     part (inl a) = let r = svertices-number 0 M.svertices s o l a in is (around_svertex r.0) (r.1 ∙ ap around_svertex (zero-add r.0)) r.2
-    part (inr (j, a, e)) = let r = items-number 0 (items M) j o l a in of_item j e r.0 r.1
+    part (inr (j, e, a)) = let r = items-number 0 (items M) j o l a in of_item j e r.0 r.1
 
     last : (f : Option Label) (j : ℕ) → At (labelled whole f) j (o, l) → (o ≡ whole) × (j ≡ 0)
     last None j a = absurd a
     last (Some m) zero a = (sym (ap (λ (y : LabelledSide). y.0) a), refl)
     last (Some m) (suc j) a = absurd a
 
-    by : At (around M ++ of_items M) s (o, l) ⊎ ((j : ℕ) × At (labelled whole M.ground) j (o, l) × (s ≡ length (around M ++ of_items M) + j)) → s ≡ number_of M o
-    by (inl a) = part (either-of (around M) (of_items M) s (o, l) a)
-    by (inr (j, a, e)) =
+    by : At (around M ++ of_items M) s (o, l) ⊎ InSecond (around M ++ of_items M) (labelled whole M.ground) s (o, l) → s ≡ number_of M o
+    by (inl a) = part (at-parts (around M) (of_items M) s (o, l) a)
+    by (inr (j, e, a)) =
         let r = last M.ground j a in
         let h = length-item_sides 0 (items M) in
         let i = length-append (around M) (of_items M) in
