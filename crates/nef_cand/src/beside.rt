@@ -40,8 +40,8 @@ fn cuts_by_two<R: Threads + Sync>(
     Ok(points)
 }
 
-// So many threads list candidates together.
-const THREADS: u32 = 4;
+/// So many threads work on one operation together.
+pub const THREADS: u32 = 4;
 
 // A set with fewer carriers is small: its edges are cut sooner than threads start.
 const MANY_CARRIERS: usize = 128;

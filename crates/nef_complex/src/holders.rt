@@ -32,9 +32,10 @@ fn common_holders(
     Ok(())
 }
 
-// Few vertices and edges lie on more carriers.
-const CARRIERS_AT_VERTEX: usize = 3;
+/// Few vertices lie on more carriers.
+pub const CARRIERS_AT_VERTEX: usize = 3;
 
+// Few edges lie on more carriers.
 const CARRIERS_AT_EDGE: usize = 2;
 
 /// For each vertex the numbers of the carriers that hold it. `OutOfMemory` says that memory was wanted and not found.

@@ -7,7 +7,7 @@ ghost use Rattle.nef_spair.specs.Kinds.{IsVertex};
 ghost use Rattle.nef_result.specs.Results.{AreLeastAt, AreHeldAmong};
 
 use crate::OutOfMemory;
-use nef_complex::{SortedCarriers, Table, Vertex};
+use nef_complex::{CARRIERS_AT_VERTEX, SortedCarriers, Table, Vertex};
 use nef_geo::Point;
 use nef_smap::SphereMap;
 use nef_spair::{Kind, kind};
@@ -37,9 +37,6 @@ fn is_vertex(map: &SphereMap) -> bool
 
 // Few points are mostly vertices, so there is room for so many at once; of many points most are none.
 const FIRST_ROOM: usize = 64;
-
-// Few vertices lie on more carriers.
-const CARRIERS_AT_VERTEX: usize = 3;
 
 // The points where no direction is flat, with their maps and the numbers of the carriers that hold them.
 fn held_vertices(
