@@ -50,9 +50,7 @@ pub right-maps : (s : Set) (hs : List Plane) (ps : List Point) (ms : List Sphere
     → ((y : Place) → IsVertex s y → IsListed ps y) → AreMapsOf s hs ps ms
 right-maps s hs ps ms C alike order right all = record {
   carriers = C;
-  alike = alike;
-  ordered = order;
-  least = λ k m h. let r = right k m (at-got ms k m h) in r.least;
+  least_at = record { alike = alike; ordered = order; least = λ k m h. let r = right k m (at-got ms k m h) in r.least };
   cones = λ k p m a h. let r = right k m (at-got ms k m h) in r.cone p a;
   complete = all;
 }

@@ -113,7 +113,7 @@ point-same y p q e = subst (λ (r : Point). SamePlace (place_of r) y) (sym e)
 
 module _ (s : Set) (hs : List Plane) (ps : List Point) (ms : List SphereMap) (vs : List Vertex) (A : AreMapsOf s hs ps ms) (V : AreVerticesAmong ps ms vs) where
   least : (i : ℕ) (v : Vertex) → At vs i v → IsLeastMap v.map
-  least i v a = let e = V.each i v a in A.least e.0 v.map e.2
+  least i v a = let e = V.each i v a in A.least_at.least e.0 v.map e.2
 
   cone : (i : ℕ) (v : Vertex) → At vs i v → Cone (map_of v.map) s (place_of v.point)
   cone i v a = let e = V.each i v a in A.cones e.0 v.point v.map e.1 e.2
@@ -128,9 +128,9 @@ module _ (s : Set) (hs : List Plane) (ps : List Point) (ms : List SphereMap) (vs
       let p = q.0 in
       let k = contains-at ps p q.1 in
       let within = at-within ps k.0 p k.1 in
-      let alike = A.alike in
+      let alike = A.least_at.alike in
       let m = element-at ms k.0 (omega (arith, within, alike)) in
-      let l = A.least k.0 m.0 m.1 in
+      let l = A.least_at.least k.0 m.0 m.1 in
       let there = vertex-same s y (place_of p) (same-place_sym (place_of p) y q.2) f in
       let e = V.all k.0 p m.0 k.1 m.1 (flat-vertex (map_of m.0) s (place_of p) l.least (A.cones k.0 p m.0 k.1 m.1) there) in
       (e.0, vertex_of e.1, at-map vertex_of vs e.0 e.1 e.2, point-same y p e.1.point e.3 q.2)
