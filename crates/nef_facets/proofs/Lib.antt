@@ -11,3 +11,4 @@ pub mod Nexts
 pub mod Grouping
 pub mod CyclesOf
 pub mod PartsOf
+pub mod Made
