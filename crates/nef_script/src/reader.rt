@@ -1,6 +1,8 @@
 //! Reads a script line by line.
 
-ghost use Rattle.std.specs.Prelude.{◌≡◌, ℕ, ◌*◌, ◌≤◌, length, IfOk, Some, [], true, false};
+ghost use Rattle.std.specs.Prelude.{◌≡◌, ℕ, ◌*◌, ◌≤◌, ◌∷◌, ◌++◌, length, IfOk, OnOk, Some, None, [], true, false};
+ghost use Rattle.std.specs.List.{position};
+ghost use Rattle.std.specs.Str.{bytes_eq};
 ghost use Rattle.nef_expr.specs.Nodes.{IsOrdered};
 ghost use Rattle.nef_expr.specs.Table.{AreOrigins};
 ghost use Rattle.nef_script.specs.Table.{binds, is_own};
@@ -108,6 +110,20 @@ impl<'a> Reader<'a> {
         }
     }
 
+    // Binds a new name to a node, and adds the command that made it.
+    fn bind(&mut self, name: &'a [u8], node: usize, command: Command) -> Result<(), AllocError>
+        requires new { position (bytes_eq name.now) self.old.names ≡ None }
+        ensures names { OnOk result (self.new.names ≡ self.old.names ++ name.now ∷ []) }
+        ensures bound { OnOk result (self.new.bound.items ≡ self.old.bound.items ++ node ∷ []) }
+        ensures sets { self.new.sets ≡ self.old.sets }
+        ensures commands { OnOk result (self.new.commands ≡ self.old.commands ++ command ∷ []) }
+    {
+        self.names.push(name)?;
+        self.bound.push(node)?;
+        self.commands.push(command)?;
+        Ok(())
+    }
+
     // Adds the node of a line, and binds its name to it.
     fn add_node(&mut self, line: u64, verb: Verb, args: &[&'a [u8]]) -> Result<(), AllocError>
         requires sound { IsSound (state self.old.names self.old.bound.items self.old.sets self.old.commands) }
@@ -118,9 +134,7 @@ impl<'a> Reader<'a> {
         let node = self
             .sets
             .push(node_of(&self.names, &self.bound, verb, args))?;
-        self.names.push(args[0])?;
-        self.bound.push(node)?;
-        self.commands.push(Command::Bind { line, node })?;
+        self.bind(args[0], node, Command::Bind { line, node })?;
         Ok(())
     }
 
@@ -132,14 +146,13 @@ impl<'a> Reader<'a> {
     {
         let (from, turn) = turn_of(&self.names, &self.bound, args);
         let node = self.sets.turn(alloc, from, usize::from(turn))?;
-        self.names.push(args[0])?;
-        self.bound.push(node)?;
-        self.commands.push(Command::Turn {
+        let command = Command::Turn {
             line,
             node,
             from,
             turn,
-        })?;
+        };
+        self.bind(args[0], node, command)?;
         Ok(())
     }
 

@@ -5,7 +5,7 @@ use Rattle.std.specs.Str.{bytes_eq}
 use Rattle.nef_expr.proofs.Operands.{names-from}
 use Rattle.nef_script.specs.Names.{pointed}
 use Rattle.nef_script.specs.Meaning.{IsNode}
-use Rattle.nef_script.specs.Reading.{state}
+use Rattle.nef_script.specs.Reading.{state, AddsWords}
 use Rattle.nef_script.proofs.Shapes.{pointed-at, length-pointed}
 use Rattle.nef_script.proofs.Adding.{new_name, some_word, AddsWords-node}
 use Rattle.nef_script.proofs.Looking.{node-operands}
@@ -21,8 +21,8 @@ push-requires-clause-operands c =
     let found = node-operands s.names s.bound.items c.args.verb (pointed c.args.args.now) c.node_of.result is k operand in
     sound.within found.0 k found.1))
 
-pub push-requires-2 : goal.push-requires-2
-push-requires-2 c =
+pub bind-requires : goal.bind-requires
+bind-requires c =
     let words = c.args.args.now in
     let names = c.args.self.now.names in
     let binds = own-binds c.args.verb c.requires.own in
@@ -38,8 +38,10 @@ returns c =
     let within = subst (λ n. 0 < n) (length-pointed words) some in
     let is = subst (λ (xs : List ℕ). IsNode s.names xs c.args.verb (pointed words) c.node_of.result) c.deref.ensures.value c.node_of.ensures.node in
     let made = c.in_ok-node.ensures in
+    let new = c.bind.new.self in
     record {
-      adds = AddsWords-node c.args.line c.args.verb (pointed words) (state s.names s.bound.items s.sets s.commands) (state c.push-2.new.self c.push-3.new.self.items c.push.new.self c.push-4.new.self) c.requires.sound some
-          (subst (λ w. c.push-2.new.self ≡ s.names ++ w ∷ []) (sym (pointed-at words 0 within)) c.in_ok-push.ensures.ok)
-          c.node_of.result c.in_ok-node.node c.requires.own made.number is c.in_ok-push-2.ensures.items made.added made.with_origin made.own made.bases c.in_ok-push-3.ensures.ok;
+      adds = subst (λ z. AddsWords c.args.line c.args.verb (pointed words) (state s.names s.bound.items s.sets s.commands) (state new.names new.bound.items z new.commands)) (sym c.bind.ensures.sets)
+          (AddsWords-node c.args.line c.args.verb (pointed words) (state s.names s.bound.items s.sets s.commands) (state new.names new.bound.items c.push.new.self new.commands) c.requires.sound some
+          (subst (λ w. new.names ≡ s.names ++ w ∷ []) (sym (pointed-at words 0 within)) c.in_ok-bind.ensures.names)
+          c.node_of.result c.in_ok-node.node c.requires.own made.number is c.in_ok-bind.ensures.bound made.added made.with_origin made.own made.bases c.in_ok-bind.ensures.commands);
     }

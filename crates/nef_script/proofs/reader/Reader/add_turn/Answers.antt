@@ -6,7 +6,7 @@ use Rattle.nef_expr.specs.Turns.{TurnOf}
 use Rattle.nef_expr.specs.Table.{IsCopyOf}
 use Rattle.nef_script.specs.Names.{pointed}
 use Rattle.nef_script.specs.Meaning.{Names}
-use Rattle.nef_script.specs.Reading.{state}
+use Rattle.nef_script.specs.Reading.{state, AddsWords}
 use Rattle.nef_script.specs.declared.table.Verb.TheVariants as verb
 use Rattle.nef_script.proofs.Questions.{count_is, HasTurn-from}
 use Rattle.nef_script.proofs.Shapes.{pointed-at, length-pointed}
@@ -27,8 +27,8 @@ bounds-args-0 c =
     let words = c.args.args.now in
     subst (λ n. 0 < n) (length-pointed words) (some_word c.args.self.now.names verb.Turn (pointed words) c.requires.fits refl)
 
-pub push-requires : goal.push-requires
-push-requires c =
+pub bind-requires : goal.bind-requires
+bind-requires c =
     let words = c.args.args.now in
     let names = c.args.self.now.names in
     let some = subst (λ n. 0 < n) (length-pointed words) (some_word names verb.Turn (pointed words) c.requires.fits refl) in
@@ -43,13 +43,15 @@ returns c =
     let t = c.turn_of-from.result.1 in
     let k = c.in_ok-node.node in
     let made = c.in_ok-node.ensures in
+    let new = c.bind.new.self in
     let named = subst (λ (xs : List ℕ). Names s.names xs (get_or (pointed words) 1 []) from) c.deref.ensures.value c.turn_of-from.ensures.named in
     record {
-      adds = AddsWords-turn c.args.line (pointed words) (state s.names s.bound.items s.sets s.commands) (state c.push.new.self c.push-2.new.self.items c.turn.new.self c.push-3.new.self) from t k c.requires.sound
+      adds = subst (λ z. AddsWords c.args.line verb.Turn (pointed words) (state s.names s.bound.items s.sets s.commands) (state new.names new.bound.items z new.commands)) (sym c.bind.ensures.sets)
+          (AddsWords-turn c.args.line (pointed words) (state s.names s.bound.items s.sets s.commands) (state new.names new.bound.items c.turn.new.self new.commands) from t k c.requires.sound
           (count_is s.names verb.Turn (pointed words) c.requires.fits) named c.turn_of-from.ensures.number c.turn_of-from.ensures.below
           (subst (λ (x : ℕ). TurnOf c.turn.new.self.nodes x from k) c.from.ensures made.turned)
           (subst (λ (x : ℕ). IsCopyOf c.turn.new.self.origins x from k) c.from.ensures made.copy)
           made.stay
-          (subst (λ w. c.push.new.self ≡ s.names ++ w ∷ []) (sym (pointed-at words 0 within)) c.in_ok-push.ensures.ok)
-          c.in_ok-push-2.ensures.items c.in_ok-push-3.ensures.ok;
+          (subst (λ w. new.names ≡ s.names ++ w ∷ []) (sym (pointed-at words 0 within)) c.in_ok-bind.ensures.names)
+          c.in_ok-bind.ensures.bound c.in_ok-bind.ensures.commands);
     }
