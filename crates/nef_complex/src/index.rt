@@ -1,7 +1,7 @@
 //! The planes of the items of a complex, with the edges and the vertices of each; and the carriers that hold a vertex or an
 //! edge.
 
-ghost use Rattle.std.specs.Prelude.{ℕ, ◌<◌, length, IsNone, IfSome};
+ghost use Rattle.std.specs.Prelude.{◌≡◌, ℕ, ◌<◌, [], length, IsNone, IfSome};
 ghost use Rattle.nef_space.specs.Lists.{IsAt};
 ghost use Rattle.nef_space.specs.Sets.{Set};
 ghost use Rattle.nef_geo.specs.Shapes.{form_of, place_of};
@@ -16,6 +16,7 @@ use crate::groups::Cluster;
 use crate::spans::Span;
 use crate::table::Table;
 use nef_geo::{List, Plane, plane_cmp};
+use std::alloc::Global;
 use std::cmp::Ordering;
 
 /// The planes of the items of all vertices, in order of their four numbers, once each; and for each of them the numbers
@@ -34,6 +35,33 @@ pub struct PlaneIndex {
     pub in_carrier: List<List<usize>>,
     pub spans: List<Span>,
     pub clusters: List<Cluster>,
+}
+
+impl PlaneIndex {
+    /// An index with nothing in it. It takes no memory yet.
+    pub fn empty(alloc: Global) -> PlaneIndex
+        ensures planes { result.planes ≡ [] }
+        ensures edges { result.edges ≡ [] }
+        ensures vertices { result.vertices ≡ [] }
+        ensures at_vertex { result.at_vertex ≡ [] }
+        ensures at_edge { result.at_edge ≡ [] }
+        ensures on_carrier { result.on_carrier ≡ [] }
+        ensures in_carrier { result.in_carrier ≡ [] }
+        ensures spans { result.spans ≡ [] }
+        ensures clusters { result.clusters ≡ [] }
+    {
+        PlaneIndex {
+            planes: List::new(alloc),
+            edges: Table::new(alloc),
+            vertices: Table::new(alloc),
+            at_vertex: Table::new(alloc),
+            at_edge: Table::new(alloc),
+            on_carrier: List::new(alloc),
+            in_carrier: List::new(alloc),
+            spans: List::new(alloc),
+            clusters: List::new(alloc),
+        }
+    }
 }
 
 /// The numbers of the edges that lie in a plane, and of the vertices on it, in increasing order.

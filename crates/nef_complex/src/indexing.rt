@@ -69,17 +69,9 @@ fn index_of(
     requires within { length in_carrier.now ≡ length carriers.now }
     ensures index { IfOk result (λ x. (es : Sequence Edge) → AreCarrierEdges carriers.now vertices.now es in_carrier.now → IsIndexOf vertices.now es x) }
 {
-    let mut index = PlaneIndex {
-        planes: List::new(alloc),
-        edges: Table::with_rows(alloc, carriers.len(), ON_CARRIER)?,
-        vertices: Table::with_rows(alloc, carriers.len(), ON_CARRIER)?,
-        at_vertex: Table::new(alloc),
-        at_edge: Table::new(alloc),
-        on_carrier: List::new(alloc),
-        in_carrier: List::new(alloc),
-        spans: List::new(alloc),
-        clusters: List::new(alloc),
-    };
+    let mut index = PlaneIndex::empty(alloc);
+    index.edges = Table::with_rows(alloc, carriers.len(), ON_CARRIER)?;
+    index.vertices = Table::with_rows(alloc, carriers.len(), ON_CARRIER)?;
     for (number, h) in carriers.iter().enumerate() {
         let on = on_carrier.at(number).as_slice();
         let within = in_carrier.at(number).as_slice();

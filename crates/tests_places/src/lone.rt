@@ -5,7 +5,7 @@ ghost use Rattle.nef_complex.specs.Complexes.{complex_of};
 ghost use Rattle.nef_locate.specs.declared.place.Place.TheVariants as place;
 ghost use Rattle.nef_locate.specs.Places.{IsPlaceIn};
 
-use nef_complex::{Complex, OutOfMemory, PlaneIndex, Table, Vertex};
+use nef_complex::{Complex, OutOfMemory, PlaneIndex, Vertex};
 use nef_geo::{Label, List, Plane, Point};
 use nef_locate::{Place, place_label};
 use nef_smap::SphereMap;
@@ -21,17 +21,7 @@ pub(crate) fn bare(alloc: Global, carriers: List<Plane>, vertices: List<Vertex>)
         carriers,
         vertices,
         edges: List::new(alloc),
-        index: PlaneIndex {
-            planes: List::new(alloc),
-            edges: Table::new(alloc),
-            vertices: Table::new(alloc),
-            at_vertex: Table::new(alloc),
-            at_edge: Table::new(alloc),
-            on_carrier: List::new(alloc),
-            in_carrier: List::new(alloc),
-            spans: List::new(alloc),
-            clusters: List::new(alloc),
-        },
+        index: PlaneIndex::empty(alloc),
     }
 }
 

@@ -6,7 +6,7 @@ use Rattle.nef_complex.proofs.IndexSteps.{index-none, index-more, index-skip, in
 use Rattle.nef_complex.proofs.indexing.index_of.Goals as goal
 
 pub loop-number-init : goal.loop-number-init
-loop-number-init c es W = index-none c.args.carriers.now c.args.vertices.now es _ c.new.ensures.empty c.in_ok-with_rows.ensures.empty c.in_ok-with_rows-2.ensures.empty
+loop-number-init c es W = index-none c.args.carriers.now c.args.vertices.now es _ c.empty-index.ensures.planes c.in_ok-index.ensures.empty c.in_ok-index-2.ensures.empty
 
 pub add_plane-requires : goal.add_plane-requires
 add_plane-requires c =
