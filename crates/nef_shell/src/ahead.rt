@@ -6,9 +6,10 @@ ghost use Rattle.nef_complex.specs.Complexes.{ShowsSet};
 ghost use Rattle.nef_expr.specs.Nodes.{node_set};
 ghost use Rattle.nef_sched.specs.Marks.{IsMarked};
 ghost use Rattle.nef_sched.specs.Results.{AreSound, IsKept as HasResult};
-ghost use Rattle.nef_script.specs.Commands.{LooksAt, AreBoundBefore, TurnsRight};
+ghost use Rattle.nef_script.specs.Commands.{LooksAt};
 ghost use Rattle.nef_script.specs.Meaning.{IsWithin};
 ghost use Rattle.nef_shell.specs.Bindings.{AreBindings, Fits, IsQuestion, IsAskedAbout, AreMarkedAsked, ArePlaced, AreFirst};
+ghost use Rattle.nef_shell.specs.Commands.{AreWorkable};
 ghost use Rattle.nef_shell.specs.Operations.{AreMeans, AreShown, IsKept};
 
 use crate::bindings::{Binding, bindings_of};
@@ -157,9 +158,7 @@ pub(crate) fn worked_ahead<R: Threads + Wait + Sync, G: Gate + Sync>(
     gate: &G,
 ) -> Result<Vec<Option<Complex>>, AllocError>
     requires means { AreMeans means.now }
-    requires within { All (IsWithin (length script.now.nodes)) script.now.commands }
-    requires turned { All (TurnsRight script.now.nodes) script.now.commands }
-    requires bound_before { AreBoundBefore script.now.nodes script.now.commands }
+    requires workable { AreWorkable script.now.nodes script.now.commands }
     ensures count { IfOk result (λ v. vec_len v ≡ length script.now.nodes) }
     ensures first { IfOk result (λ v. AreFirst script.now.nodes script.now.commands true v.items) }
 {

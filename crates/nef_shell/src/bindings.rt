@@ -1,10 +1,11 @@
 //! The bindings of a script, in order, and what they need.
 
-ghost use Rattle.std.specs.Prelude.{◌≡◌, ◌<◌, ℕ, Some, None, IfOk, IfSome, OnOk, All, length, []};
+ghost use Rattle.std.specs.Prelude.{◌≡◌, ◌<◌, ℕ, Some, None, IfOk, IfSome, OnOk, length, []};
 ghost use Rattle.nef_expr.specs.Nodes.{node_set, sets_after};
-ghost use Rattle.nef_script.specs.Commands.{LooksAt, Binds, AreBoundBefore, TurnsRight};
+ghost use Rattle.nef_script.specs.Commands.{LooksAt, Binds, TurnsRight};
 ghost use Rattle.nef_script.specs.Meaning.{IsWithin};
 ghost use Rattle.nef_shell.specs.Bindings.{IsBoundAt, IsBound, IsNeeded, AreBindings, AreAllBound};
+ghost use Rattle.nef_shell.specs.Commands.{AreWorkable};
 ghost use Rattle.nef_shell.specs.Operations.{set_by, first_operand, second_operand, HasOperand, HasTurn};
 
 use crate::operation::Operation;
@@ -111,9 +112,7 @@ fn add_command(
 /// The bindings of the script, in order: of each node that a command binds, the first that does.
 /// `AllocError` says that memory was wanted and not found.
 pub(crate) fn bindings_of(alloc: Global, script: &Script) -> Result<Vec<Binding>, AllocError>
-    requires within { All (IsWithin (length script.now.nodes)) script.now.commands }
-    requires turned { All (TurnsRight script.now.nodes) script.now.commands }
-    requires bound_before { AreBoundBefore script.now.nodes script.now.commands }
+    requires workable { AreWorkable script.now.nodes script.now.commands }
     ensures are { IfOk result (λ v. AreBindings script.now.nodes v.items) }
     ensures all { IfOk result (λ v. AreAllBound script.now.commands v.items) }
 {

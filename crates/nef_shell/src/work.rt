@@ -1,9 +1,10 @@
 //! Works a script's commands.
 
-ghost use Rattle.std.specs.Prelude.{◌≡◌, ◌≤◌, ℕ, false, All, IfOk, OnOk, IfErr, length, vec_len};
-ghost use Rattle.nef_script.specs.Commands.{LooksAt, Binds, AreBoundBefore, TurnsRight};
+ghost use Rattle.std.specs.Prelude.{◌≡◌, ◌≤◌, ℕ, false, IfOk, OnOk, IfErr, length, vec_len};
+ghost use Rattle.nef_script.specs.Commands.{LooksAt, Binds, TurnsRight};
 ghost use Rattle.nef_script.specs.Meaning.{IsWithin};
 ghost use Rattle.nef_shell.specs.Bindings.{IsWorked, AreFirst};
+ghost use Rattle.nef_shell.specs.Commands.{AreWorkable};
 ghost use Rattle.nef_shell.specs.Operations.{AreMeans, AreShown, IsKept, AreBound};
 ghost use Rattle.nef_shell.specs.Working.{HasWritten, HasStopped, WorkEnds};
 
@@ -93,9 +94,7 @@ fn first_complexes<R: Threads + Wait + Sync, G: Gate + Sync>(
     gate: &G,
 ) -> Result<Vec<Option<Complex>>, AllocError>
     requires means { AreMeans means.now }
-    requires within { All (IsWithin (length script.now.nodes)) script.now.commands }
-    requires turned { All (TurnsRight script.now.nodes) script.now.commands }
-    requires bound_before { AreBoundBefore script.now.nodes script.now.commands }
+    requires workable { AreWorkable script.now.nodes script.now.commands }
     ensures count { IfOk result (λ v. vec_len v ≡ length script.now.nodes) }
     ensures first { IfOk result (λ v. AreFirst script.now.nodes script.now.commands ahead v.items) }
 {
@@ -118,9 +117,7 @@ fn work_all<R: Threads + Wait + Sync, K: Sink, G: Gate + Sync>(
     gate: &G,
 ) -> Result<(), Stop>
     requires means { AreMeans means.now }
-    requires within { All (IsWithin (length script.now.nodes)) script.now.commands }
-    requires turned { All (TurnsRight script.now.nodes) script.now.commands }
-    requires bound_before { AreBoundBefore script.now.nodes script.now.commands }
+    requires workable { AreWorkable script.now.nodes script.now.commands }
     ensures ends { WorkEnds text script.now.nodes script.now.commands (K.written sink.old) (K.written sink.new) (K.faults sink.old) (K.faults sink.new) result }
 {
     let list = first_complexes(rt, alloc, script, ahead, means, gate)?;
@@ -145,9 +142,7 @@ pub(crate) fn work<R: Threads + Wait + Sync, K: Sink, G: Gate + Sync>(
     gate: &G,
 ) -> Result<(), Stop>
     requires workers { (1 ≤ options.now.how.workers) × (options.now.how.workers ≤ 64) }
-    requires within { All (IsWithin (length script.now.nodes)) script.now.commands }
-    requires turned { All (TurnsRight script.now.nodes) script.now.commands }
-    requires bound_before { AreBoundBefore script.now.nodes script.now.commands }
+    requires workable { AreWorkable script.now.nodes script.now.commands }
     ensures ends { WorkEnds options.now.text script.now.nodes script.now.commands (K.written sink.old) (K.written sink.new) (K.faults sink.old) (K.faults sink.new) result }
 {
     let whole = constant(alloc, true)?;

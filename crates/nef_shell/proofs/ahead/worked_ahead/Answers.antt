@@ -15,4 +15,4 @@ returns-clause-first g c =
     let marks = rw c.deref.ensures.value at c.in_ok-wanted.ensures.marks in
     IfOk-weaker c.worked.result _ _ (λ v p.
     let those = rw (c.nodes.ensures.nodes, c.deref-2.ensures.value, c.deref-3.ensures.value) at p in
-    marked-first c.args.script.now.nodes c.args.script.now.commands _ _ v.items c.requires.bound_before c.in_ok-bindings.ensures.all marks those) c.worked.ensures.placed
+    marked-first c.args.script.now.nodes c.args.script.now.commands _ _ v.items c.requires.workable.bound_before c.in_ok-bindings.ensures.all marks those) c.worked.ensures.placed

@@ -161,7 +161,7 @@ loop-now-init g c =
       only = λ zero k x there. c.in_ok-list.ensures.first.only k x (subst (λ z. slice_get z k ≡ Some (Some x)) same there);
       kept = λ i k d later found works looks. elim (true-or-false c.args.ahead) [
         | inl e ↦ inl (subst (λ z. IsKept nodes z k) (sym same) (c.in_ok-list.ensures.first.asked e k (i, d, found, works e, looks)))
-        | inr e ↦ let (j, b, low, seen, binds) = c.requires.bound_before i d found k looks in inr (e, j, b, omega arith, low, seen, binds)
+        | inr e ↦ let (j, b, low, seen, binds) = c.requires.workable.bound_before i d found k looks in inr (e, j, b, omega arith, low, seen, binds)
       ];
       shown = subst (λ z. AreShown nodes z) (sym same) c.in_ok-list.ensures.first.shown;
     }
