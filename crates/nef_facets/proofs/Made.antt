@@ -1,5 +1,5 @@
 -- Values made of corners by calls.
-use Rattle.std.proofs.Common.{◌≡◌, ℕ, List, Bor, Result, IfOk, subst}
+use Rattle.std.proofs.Common.{ℕ, List, Bor, Result, IfOk, subst}
 use Rattle.std.proofs.lemmas.Result.{IfOk-weaker}
 use Rattle.nef_space.specs.Lists.{IsAt}
 use Rattle.law_complex.specs.Complexes.{Complex as PlainComplex, Corner as PlainCorner}
