@@ -1,13 +1,12 @@
 -- A plane that leaves the open frame on one side crosses no edge.
-use Rattle.std.proofs.Common.{◌≡◌, ℕ, ℤ, pos, ◌+◌, ◌*◌, ◌≤◌, ◌<◌, ◌+ℤ◌, ◌*ℤ◌, ◌≤ℤ◌, ◌<ℤ◌, nat_abs, arith, ap, subst, ⊎_elim, List}
+use Rattle.std.proofs.Common.{◌≡◌, ℕ, ℤ, pos, ◌+◌, ◌*◌, ◌≤◌, ◌+ℤ◌, ◌*ℤ◌, ◌≤ℤ◌, ◌<ℤ◌, nat_abs, arith, ap, subst, ⊎_elim, List}
 use Rattle.std.proofs.lemmas.Int.{ints, by_lt_z, unsigned_abs-mul}
 use Rattle.std.proofs.Math.Nat.{mul-le-mul_right}
 use lib.IntN.{zero-*ℤ}
 use Rattle.law_arithmetic.proofs.Order.{abs_plus, abs_times, mul_nonneg, mul_le_right}
 use Rattle.nef_space.specs.Limits.{half_side, point_limit}
-use Rattle.nef_space.specs.Place.{Place, Form, form_at, InClosedFrame}
+use Rattle.nef_space.specs.Place.{Place, Form, InClosedFrame}
 use Rattle.nef_space.specs.Sets.{Set}
-use Rattle.nef_geo.specs.Steps.{HasOppositeSigns}
 use Rattle.nef_geo.specs.declared.point.Point.{Point}
 use Rattle.law_complex.specs.Shows.{Shows}
 use Rattle.law_complex.specs.Complexes.{Complex}

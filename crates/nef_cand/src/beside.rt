@@ -1,6 +1,6 @@
 //! The candidates of a combination, listed by several threads.
 
-ghost use Rattle.std.specs.Prelude.{IfOk, []};
+ghost use Rattle.std.specs.Prelude.{◌≡◌, ◌++◌, IfOk, []};
 ghost use Rattle.nef_space.specs.Sets.{Set};
 ghost use Rattle.nef_complex.specs.Complexes.{complex_of, ShowsSet};
 ghost use Rattle.nef_cand.specs.Points.{Adds, CutsOne, ListsCandidates};
@@ -12,6 +12,14 @@ use nef_geo::{Plane, Point};
 use std::alloc::Global;
 use std::thread;
 use std::thread::Threads;
+
+// The points of both, those of the second after those of the first.
+fn appended(mut first: Vec<Point>, second: Vec<Point>) -> Result<Vec<Point>, OutOfMemory>
+    ensures items { IfOk result (λ v. v.items ≡ first.items ++ second.items) }
+{
+    first.extend_from_slice(second.as_slice())?;
+    Ok(first)
+}
 
 // As `cuts`, by two threads, of which each asks half of the planes. The points of each stand in order.
 fn cuts_by_two<R: Threads + Sync>(
@@ -35,13 +43,40 @@ fn cuts_by_two<R: Threads + Sync>(
             ensures { IfOk result (λ v. Adds (CutsOne (complex_of c.entry.now) back.entry.now) [] v.items) }
         { cuts(alloc, c, back) },
     );
-    let mut points = first?;
-    points.extend_from_slice(second?.as_slice())?;
-    Ok(points)
+    appended(first?, second?)
 }
 
-/// So many threads work on one operation together.
-pub const THREADS: u32 = 4;
+// As `cuts` of `a` and these planes, by one thread, and of `b` and the carriers of `a`, by two.
+fn cuts_by_three<R: Threads + Sync>(
+    rt: &R,
+    alloc: Global,
+    a: &Complex,
+    planes: &[Plane],
+    b: &Complex,
+) -> (
+    Result<Vec<Point>, OutOfMemory>,
+    Result<Vec<Point>, OutOfMemory>,
+)
+    requires first { (s : Set) × ShowsSet s a.now }
+    requires second { (t : Set) × ShowsSet t b.now }
+    ensures inside_a { IfOk result.0 (λ v. Adds (CutsOne (complex_of a.now) planes.now) [] v.items) }
+    ensures inside_b { IfOk result.1 (λ v. Adds (CutsOne (complex_of b.now) a.now.carriers) [] v.items) }
+{
+    thread::join(
+        rt,
+        || -> Result<Vec<Point>, OutOfMemory>
+            requires { (s : Set) × ShowsSet s a.now }
+            ensures { IfOk result (λ v. Adds (CutsOne (complex_of a.entry.now) planes.entry.now) [] v.items) }
+        { cuts(alloc, a, planes) },
+        || -> Result<Vec<Point>, OutOfMemory>
+            requires { (t : Set) × ShowsSet t b.now }
+            ensures { IfOk result (λ v. Adds (CutsOne (complex_of b.entry.now) a.entry.now.carriers) [] v.items) }
+        { cuts_by_two(rt, alloc, b, a.carriers.as_slice()) },
+    )
+}
+
+// So many threads list candidates together.
+const THREADS: u32 = 4;
 
 // A set with fewer carriers is small: its edges are cut sooner than threads start.
 const MANY_CARRIERS: usize = 128;
@@ -67,18 +102,24 @@ pub fn candidates_beside<R: Threads + Sync>(
     if workers < THREADS || is_small(a) || is_small(b) {
         return candidates(alloc, a, b);
     }
-    let (first, second) = thread::join(
+    let (front, back) = b.carriers.as_slice().split_at(b.carriers.len() / 2);
+    // The calling thread starts all others, since one that a new thread starts begins on the processor of its maker.
+    let (first, (second, inside_b)) = thread::join(
         rt,
         || -> Result<Vec<Point>, OutOfMemory>
             requires { (s : Set) × ShowsSet s a.now }
-            ensures { IfOk result (λ v. Adds (CutsOne (complex_of a.entry.now) b.entry.now.carriers) [] v.items) }
-        { cuts_by_two(rt, alloc, a, b.carriers.as_slice()) },
-        || -> Result<Vec<Point>, OutOfMemory>
-            requires { (t : Set) × ShowsSet t b.now }
-            ensures { IfOk result (λ v. Adds (CutsOne (complex_of b.entry.now) a.entry.now.carriers) [] v.items) }
-        { cuts_by_two(rt, alloc, b, a.carriers.as_slice()) },
+            ensures { IfOk result (λ v. Adds (CutsOne (complex_of a.entry.now) front.entry.now) [] v.items) }
+        { cuts(alloc, a, front) },
+        || -> (
+            Result<Vec<Point>, OutOfMemory>,
+            Result<Vec<Point>, OutOfMemory>,
+        )
+            requires first { (s : Set) × ShowsSet s a.now }
+            requires second { (t : Set) × ShowsSet t b.now }
+            ensures inside_a { IfOk result.0 (λ v. Adds (CutsOne (complex_of a.entry.now) back.entry.now) [] v.items) }
+            ensures inside_b { IfOk result.1 (λ v. Adds (CutsOne (complex_of b.entry.now) a.entry.now.carriers) [] v.items) }
+        { cuts_by_three(rt, alloc, a, back, b) },
     );
-    let inside_a = first?;
-    let inside_b = second?;
-    gathered(alloc, a, b, inside_a.as_slice(), inside_b.as_slice())
+    let inside_a = appended(first?, second?)?;
+    gathered(alloc, a, b, inside_a.as_slice(), inside_b?.as_slice())
 }

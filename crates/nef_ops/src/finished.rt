@@ -13,7 +13,7 @@ use std::sync::Wait;
 use std::thread::Threads;
 
 // How many jobs pay for one more worker: starting a thread costs as much as some dozens of jobs.
-const JOBS_FOR_A_WORKER: u64 = 64;
+const JOBS_FOR_A_WORKER: u64 = 128;
 
 // So many workers run beside each other where no more were asked for, however few jobs there are.
 const WORKERS_AS_ASKED: u32 = 2;
@@ -21,7 +21,7 @@ const WORKERS_AS_ASKED: u32 = 2;
 // How many of the workers work so many jobs. Of more than two no more start than the jobs pay for.
 fn crew(workers: u32, jobs: u64) -> u32
     ensures few { workers ≤ 2 → result ≡ workers }
-    ensures paid { 2 < workers → result ≡ min workers (max 1 (jobs / 64)) }
+    ensures paid { 2 < workers → result ≡ min workers (max 1 (jobs / 128)) }
 {
     if workers <= WORKERS_AS_ASKED {
         return workers;

@@ -4,4 +4,3 @@ pub mod Vertices
 pub mod HalfCones
 pub mod Zipped
 pub mod Together
-pub mod Sent

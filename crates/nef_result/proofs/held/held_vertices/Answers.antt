@@ -27,8 +27,8 @@ loop-point-init c =
           (subst (AreHeldAmong hs ps [] []) (sym c.in_ok-holders.ensures.empty) (held-none hs ps));
     }
 
-pub loop-point-preserved-in-Continue-branch-5 : goal.loop-point-preserved-in-Continue-branch-5
-loop-point-preserved-in-Continue-branch-5 c =
+pub loop-point-preserved-in-Continue-branch-6 : goal.loop-point-preserved-in-Continue-branch-6
+loop-point-preserved-in-Continue-branch-6 c =
     let ps = c.args.points.now in let ms = c.args.maps.items in let xs = c.loop-point.yielded in let second = c.zip-point-items.ensures.second in
     let road = YieldsList-at c.into_iter-point-iterator.ensures.into_iter_gives
     (YieldsList-from_zip (YieldsList-at c.zip-point-items.ensures.first (YieldsList-from_slice ps c.iter.ensures.rest)) (YieldsList-from_vec ms second.0 (second.1 ∙ c.args.maps.ok.0))) in
