@@ -32,8 +32,8 @@ fn common_holders(
     Ok(())
 }
 
-/// Few vertices lie on more carriers.
-pub const CARRIERS_AT_VERTEX: usize = 3;
+// Few vertices lie on more carriers.
+const CARRIERS_AT_VERTEX: usize = 3;
 
 // Few edges lie on more carriers.
 const CARRIERS_AT_EDGE: usize = 2;

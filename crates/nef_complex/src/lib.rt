@@ -19,7 +19,7 @@ mod vertices;
 
 pub use complex::{Complex, Corner, Edge, PlaneMeet, Vertex};
 pub use groups::{Cluster, Group};
-pub use holders::{CARRIERS_AT_VERTEX, vertex_rows};
+pub use holders::vertex_rows;
 pub use holding::{holds, holds_both, plane_normal};
 pub use index::{
     PlaneIndex, PlaneItems, carrier_clusters, carrier_items, carrier_spans, edge_holders,

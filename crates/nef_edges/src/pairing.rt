@@ -61,10 +61,8 @@ fn edges_of(alloc: Global, vertices: &[Vertex]) -> Result<Vec<Edge>, OutOfMemory
     Ok(edges)
 }
 
-/// The complex with these carriers and vertices, and with all edges between the vertices. Some set has exactly these
-/// carriers and exactly these vertices with their least maps, all in order. For each vertex the numbers of the carriers
-/// that hold it are given. `OutOfMemory` says that memory was wanted and not found.
-pub fn pair_held(
+// As `pair`, where for each vertex the numbers of the carriers that hold it are given.
+fn pair_held(
     alloc: Global,
     carriers: List<Plane>,
     vertices: List<Vertex>,
@@ -80,7 +78,9 @@ pub fn pair_held(
     Complex::of(alloc, carriers, vertices, edges, at_vertex)
 }
 
-/// As `pair_held`, where the carriers that hold each vertex are yet to be found.
+/// The complex with these carriers and vertices, and with all edges between the vertices. Some set has exactly these
+/// carriers and exactly these vertices with their least maps, all in order. `OutOfMemory` says that memory was wanted and
+/// not found.
 pub fn pair(
     alloc: Global,
     carriers: List<Plane>,

@@ -3,4 +3,3 @@ pub mod Merging
 pub mod Vertices
 pub mod HalfCones
 pub mod Zipped
-pub mod Together

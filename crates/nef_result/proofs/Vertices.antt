@@ -159,3 +159,7 @@ module _ (s : Set) (hs : List Plane) (ps : List Point) (ms : List SphereMap) (vs
       carriers = A.carriers;
     };
   }
+
+-- the same list as it is handed on
+pub handed-on : (s : Set) (hs : List Plane) (ps : List Point) (ms : List SphereMap) (vs us : List Vertex) → us ≡ vs → AreVerticesAmong ps ms vs → AreMapsOf s hs ps ms → AreVerticesOf s hs us
+handed-on s hs ps ms vs us e V A = subst (AreVerticesOf s hs) (sym e) (are-vertices s hs ps ms vs A V)

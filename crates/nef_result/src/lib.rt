@@ -4,7 +4,7 @@
 mod assembling;
 mod carriers;
 mod halves;
-mod held;
+mod parting;
 
 pub use assembling::assemble;
 pub use carriers::{add_carrier, copy_carriers, merge_carriers};

@@ -1,23 +1,21 @@
-//! The vertices among points, with the carriers that hold each.
+//! The vertices among points.
 
 ghost use Rattle.std.specs.Prelude.{◌↔◌, IsTrue, IfOk};
 ghost use Rattle.nef_smap.specs.Maps.{map_of, IsLeastMap};
 ghost use Rattle.nef_spair.specs.Kinds.{IsVertex};
-ghost use Rattle.nef_result.specs.Results.{AreLeastAt, AreHeldAmong};
+ghost use Rattle.nef_result.specs.Results.{AreLeastAt, AreVerticesAmong};
 
 use crate::OutOfMemory;
-use nef_complex::{CARRIERS_AT_VERTEX, SortedCarriers, Table, Vertex};
+use nef_complex::Vertex;
 use nef_geo::Point;
 use nef_smap::SphereMap;
 use nef_spair::{Kind, kind};
 use std::alloc::Global;
 
-// Vertices, and for each the numbers of the carriers that hold it.
+// The vertices among points, and the maps of the other points, to be let go of.
 #[derive(Drop)]
-pub(crate) struct HeldVertices {
+pub(crate) struct Parted {
     pub(crate) vertices: Vec<Vertex>,
-    pub(crate) holders: Table,
-    // The maps of the other points, to be let go of.
     pub(crate) others: Vec<SphereMap>,
 }
 
@@ -37,34 +35,24 @@ fn is_vertex(map: &SphereMap) -> bool
 // Few points are mostly vertices, so there is room for so many at once; of many points most are none.
 const FIRST_ROOM: usize = 64;
 
-/// The points where no direction is flat, with their maps and the numbers of the carriers that hold them. The maps of the
-/// other points are kept, so that another thread may let go of them.
-pub(crate) fn held_vertices(
+/// The points where no direction is flat, with their maps. The maps of the other points are kept, so that another thread
+/// may let go of them.
+pub(crate) fn parted(
     alloc: Global,
-    carriers: &SortedCarriers,
     points: &[Point],
     maps: Vec<SphereMap>,
-) -> Result<HeldVertices, OutOfMemory>
+) -> Result<Parted, OutOfMemory>
     requires maps { AreLeastAt points.now maps.items }
-    ensures held { IfOk result (λ h. AreHeldAmong carriers.now points.now maps.items h.vertices.items h.holders) }
+    ensures vertices { IfOk result (λ p. AreVerticesAmong points.now maps.items p.vertices.items) }
 {
-    let room = points.len().min(FIRST_ROOM);
-    let mut vertices = Vec::with_capacity(alloc, room)?;
-    let mut holders = Table::with_rows(alloc, room, CARRIERS_AT_VERTEX)?;
+    let mut vertices = Vec::with_capacity(alloc, points.len().min(FIRST_ROOM))?;
     let mut others = Vec::with_capacity(alloc, points.len())?;
-    let mut numbers = Vec::new(alloc);
     for (point, map) in points.iter().zip(maps) {
         if is_vertex(&map) {
-            carriers.holders(point, &mut numbers)?;
-            holders.push(numbers.as_slice())?;
             vertices.push(Vertex { point: *point, map })?;
         } else {
             others.push(map)?;
         }
     }
-    Ok(HeldVertices {
-        vertices,
-        holders,
-        others,
-    })
+    Ok(Parted { vertices, others })
 }
