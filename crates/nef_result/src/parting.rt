@@ -14,7 +14,7 @@ use std::alloc::Global;
 
 // The vertices among points, and the maps of the other points, to be let go of.
 #[derive(Drop)]
-pub(crate) struct Parted {
+pub(crate) struct PartedPoints {
     pub(crate) vertices: Vec<Vertex>,
     pub(crate) others: Vec<SphereMap>,
 }
@@ -41,7 +41,7 @@ pub(crate) fn parted(
     alloc: Global,
     points: &[Point],
     maps: Vec<SphereMap>,
-) -> Result<Parted, OutOfMemory>
+) -> Result<PartedPoints, OutOfMemory>
     requires maps { AreLeastAt points.now maps.items }
     ensures vertices { IfOk result (λ p. AreVerticesAmong points.now maps.items p.vertices.items) }
 {
@@ -54,5 +54,5 @@ pub(crate) fn parted(
             others.push(map)?;
         }
     }
-    Ok(Parted { vertices, others })
+    Ok(PartedPoints { vertices, others })
 }
