@@ -25,7 +25,6 @@ use Rattle.nef_edges.proofs.Places.{at-within, some-at, map-at, at-map, at-befor
 use Rattle.law_complex.specs.Complexes.{Vertex as PlainVertex}
 use Rattle.law_complex.specs.Shows.{Carriers}
 use Rattle.nef_complex.specs.Complexes.{vertex_of, AreVerticesOf}
-use Rattle.nef_complex.specs.Index.{AreInOrder}
 use Rattle.nef_complex.specs.declared.complex.Vertex.{Vertex}
 use Rattle.nef_result.specs.Results.{ArePointsInOrder, AreMapsOf, AreVerticesAmong}
 
@@ -99,10 +98,6 @@ module _ (M : Map) (s : Set) (p : Place) (L : Least M) (C : Cone M s p) where
     where
       differ : (k : ℕ) → FlatDim s p k → 0 < k → ⊥
       differ k g l = let e = FlatDim-one s p 0 k f g in omega (arith, l, e)
-
--- ---- the carriers of the set
-pub carriers-in-order : (s : Set) (hs : List Plane) → Carriers s (map form_of hs) → AreInOrder hs
-carriers-in-order s hs C i j g h l a b = C.ordered i j (form_of g) (form_of h) l (at-map form_of hs i g (some-at hs i g a)) (at-map form_of hs j h (some-at hs j h b))
 
 -- ---- the vertices of the set
 vertex-same : (s : Set) (p q : Place) → SamePlace p q → IsVertex s p → IsVertex s q
