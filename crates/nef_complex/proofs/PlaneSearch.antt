@@ -1,13 +1,19 @@
 -- Searching the planes of an index by halving.
-use Rattle.std.proofs.Common.{◌≡◌, ℕ, ◌+◌, ◌≤◌, ℤ, arith, ap, sym, ◌∙◌, inl, inr, ⊎_elim, List, [], ◌∷◌, slice_get, Some, subst}
+use Rattle.std.proofs.Common.{◌≡◌, ℕ, ◌<◌, ◌≤◌, ℤ, length, arith, refl, sym, ap, subst, ◌∙◌, inl, inr, ⊎_elim, List, [], ◌∷◌, get_or}
+use Rattle.std.specs.Ordering.{MatchOrdering, ordering_index}
+use Rattle.std.specs.List.Sorted.{IsNonDecreasingBy, IsPartitionPoint}
+use Rattle.std.specs.declared.cmp.Ordering.{Ordering}
+use Rattle.std.specs.declared.cmp.Ordering.TheVariants.{Less, Equal, Greater}
 use Rattle.std.proofs.lemmas.Bool.{cases_lt}
 use Rattle.std.proofs.lemmas.Int.{ints}
+use Rattle.std.proofs.lemmas.Option.{slice_get-get_or, slice_get_within, get_or_from_slice_get}
 use Rattle.nef_space.specs.Lists.{IsAt}
 use Rattle.nef_space.specs.Numbers.{IsBelow}
 use Rattle.nef_space.specs.Place.{form_numbers}
 use Rattle.nef_geo.specs.Shapes.{form_of}
 use Rattle.nef_geo.specs.declared.plane.Plane.{Plane}
-use Rattle.nef_complex.specs.Index.{AreInOrder, ArePlanesBelow, ArePlanesAbove}
+use Rattle.nef_geo.proofs.Orders.{plane_order, plane-ordered}
+use Rattle.nef_complex.specs.Index.{AreInOrder}
 
 below-trans : (xs ys zs : List ℤ) → IsBelow xs ys → IsBelow ys zs → IsBelow xs zs
 below-trans [] ys zs h k = absurd h
@@ -23,26 +29,52 @@ never-below [] h = h
 never-below (x ∷ xs) (inl h) = omega (arith, ints)
 never-below (x ∷ xs) (inr (e, h)) = never-below xs h
 
-one-there : (hs : List Plane) (i k : ℕ) (g h : Plane) → i ≡ k → IsAt hs i g → IsAt hs k h → h ≡ g
-one-there hs i k g h e a b = let f : Some h ≡ Some g = sym b ∙ ap (slice_get hs) (sym e) ∙ a in cc
+-- the plane g comes before h
+abbrev IsPlaneBelow : Plane → Plane → Type 0
+IsPlaneBelow g h = IsBelow (form_numbers (form_of g)) (form_numbers (form_of h))
 
--- what stands before a plane below h is below h
-pub planes-below : (hs : List Plane) (k : ℕ) (g h : Plane) → AreInOrder hs → IsAt hs k g → IsBelow (form_numbers (form_of g)) (form_numbers (form_of h)) → ArePlanesBelow hs (k + 1) h
-planes-below hs k g h order a b i f l c = ⊎_elim
-    (λ m. below-trans (form_numbers (form_of f)) (form_numbers (form_of g)) (form_numbers (form_of h)) (order i k f g m c a) b)
-    (λ m. let e : i ≡ k = omega arith in subst (λ (x : Plane). IsBelow (form_numbers (form_of x)) (form_numbers (form_of h))) (one-there hs i k f g e c a) b)
-    (cases_lt i k)
+abbrev IsOrder : Ordering → Plane → Plane → Type 0
+IsOrder o g h = MatchOrdering o (IsPlaneBelow g h) (g ≡ h) (IsPlaneBelow h g)
 
--- what stands from a plane above h on is above h
-pub planes-above : (hs : List Plane) (k : ℕ) (g h : Plane) → AreInOrder hs → IsAt hs k g → IsBelow (form_numbers (form_of h)) (form_numbers (form_of g)) → ArePlanesAbove hs k h
-planes-above hs k g h order a b i f l c = ⊎_elim
-    (λ m. below-trans (form_numbers (form_of h)) (form_numbers (form_of g)) (form_numbers (form_of f)) b (order k i g f m a c))
-    (λ m. let e : i ≡ k = omega arith in subst (λ (x : Plane). IsBelow (form_numbers (form_of h)) (form_numbers (form_of x))) (one-there hs i k f g e c a) b)
-    (cases_lt k i)
+planes-trans : (f g h : Plane) → IsPlaneBelow f g → IsPlaneBelow g h → IsPlaneBelow f h
+planes-trans f g h = below-trans (form_numbers (form_of f)) (form_numbers (form_of g)) (form_numbers (form_of h))
 
--- h itself would be neither below nor above
-pub no-plane : (hs : List Plane) (k l : ℕ) (h : Plane) → l ≤ k → ArePlanesBelow hs k h → ArePlanesAbove hs l h → (i : ℕ) → IsAt hs i h → ⊥
-no-plane hs k l h le below above i a = ⊎_elim
-    (λ m. never-below (form_numbers (form_of h)) (below i h m a))
-    (λ m. never-below (form_numbers (form_of h)) (above i h (omega arith) a))
-    (cases_lt i k)
+never : (h : Plane) → IsPlaneBelow h h → ⊥
+never h = never-below (form_numbers (form_of h))
+
+-- of two planes in order the later is no less as seen from h
+rises : (o p : Ordering) (f g h : Plane) → IsOrder o f h → IsOrder p g h → IsPlaneBelow f g → ordering_index o ≤ ordering_index p
+rises Less p f g h a b l = omega arith
+rises Equal Less f g h a b l = absurd (never g (planes-trans g f g (subst (IsPlaneBelow g) (sym a) b) l))
+rises Equal Equal f g h a b l = omega arith
+rises Equal Greater f g h a b l = omega arith
+rises Greater Less f g h a b l = absurd (never h (planes-trans h g h (planes-trans h f g a l) b))
+rises Greater Equal f g h a b l = absurd (never h (planes-trans h f h a (subst (IsPlaneBelow f) b l)))
+rises Greater Greater f g h a b l = omega arith
+
+module _ (hs : List Plane) (h : Plane) where
+  abbrev seen : Plane → Ordering
+  seen g = plane_order g h
+
+  ordered : (g : Plane) → IsOrder (seen g) g h
+  ordered g = plane-ordered g h (seen g) refl
+
+  pub planes-rise : AreInOrder hs → IsNonDecreasingBy (λ g. ordering_index (plane_order g h)) hs
+  planes-rise order i j d l m = ⊎_elim
+      (λ k. rises (seen (get_or hs i d)) (seen (get_or hs j d)) (get_or hs i d) (get_or hs j d) h (ordered (get_or hs i d)) (ordered (get_or hs j d))
+      (order i j (get_or hs i d) (get_or hs j d) k (slice_get-get_or hs i d (omega arith)) (slice_get-get_or hs j d m)))
+      (λ k. let e : i ≡ j = omega arith in subst (λ (n : ℕ). ordering_index (seen (get_or hs i d)) ≤ ordering_index (seen (get_or hs n d))) e (omega arith))
+      (cases_lt i j)
+
+  -- a plane that is found is h
+  pub plane-there : (i : ℕ) → i < length hs → plane_order (get_or hs i h) h ≡ Equal → IsAt hs i h
+  plane-there i l e = subst (IsAt hs i) (plane-ordered (get_or hs i h) h Equal (sym e)) (slice_get-get_or hs i h l)
+
+  -- h itself would be neither below nor above
+  pub no-plane : (n : ℕ) → IsPartitionPoint (λ g. plane_order g h ≡ Less) (λ g. plane_order g h ≡ Greater) hs n → (i : ℕ) → IsAt hs i h → ⊥
+  no-plane n P i a =
+      let e = get_or_from_slice_get hs i h h a in
+      ⊎_elim
+      (λ l. never h (subst (λ (g : Plane). IsPlaneBelow g h) e (plane-ordered (get_or hs i h) h Less (sym (P.0 i h (omega arith) l)))))
+      (λ l. never h (subst (λ (g : Plane). IsPlaneBelow h g) e (plane-ordered (get_or hs i h) h Greater (sym (P.1 i h l (slice_get_within hs i h a))))))
+      (cases_lt i n)

@@ -132,11 +132,3 @@ AreHeld hs vs = (k j : ℕ) (v : Vertex) (x : Item) → IsAt vs k v → At (item
 -- the ends of the edges are numbers of vertices
 abbrev pub HaveEnds : List Vertex → List Edge → Type 0
 HaveEnds vs es = (k : ℕ) (e : Edge) → IsAt es k e → (e.low < length vs) × (e.high < length vs)
-
--- the planes before number k are below the plane
-abbrev pub ArePlanesBelow : List Plane → ℕ → Plane → Type 0
-ArePlanesBelow hs k h = (i : ℕ) (g : Plane) → i < k → IsAt hs i g → IsBelow (form_numbers (form_of g)) (form_numbers (form_of h))
-
--- those from number k on are above it
-abbrev pub ArePlanesAbove : List Plane → ℕ → Plane → Type 0
-ArePlanesAbove hs k h = (i : ℕ) (g : Plane) → k ≤ i → IsAt hs i g → IsBelow (form_numbers (form_of h)) (form_numbers (form_of g))

@@ -15,9 +15,8 @@ use crate::complex::Complex;
 use crate::groups::Cluster;
 use crate::spans::Span;
 use crate::table::Table;
-use nef_geo::{List, Plane, plane_cmp};
+use nef_geo::{List, Plane};
 use std::alloc::Global;
-use std::cmp::Ordering;
 
 /// The planes of the items of all vertices, in order of their four numbers, once each; and for each of them the numbers
 /// of the edges that lie in it and those of the vertices on it, in increasing order. Besides, for each vertex the numbers
@@ -77,17 +76,10 @@ fn plane_at(planes: &[Plane], h: &Plane) -> Option<usize>
     ensures found { IfSome result (λ i. IsAt planes.now i h.now) }
     ensures none { IsNone result → (i : ℕ) → IsAt planes.now i h.now → ⊥ }
 {
-    let mut low = 0;
-    let mut high = planes.len();
-    while low < high {
-        let middle = low + (high - low) / 2;
-        match plane_cmp(&planes[middle], h) {
-            Ordering::Less => low = middle + 1,
-            Ordering::Equal => return Some(middle),
-            Ordering::Greater => high = middle,
-        }
+    match planes.binary_search(h) {
+        Ok(number) => Some(number),
+        Err(_place) => None,
     }
-    None
 }
 
 /// The edges and vertices of the plane, by halving. `None` comes exactly where no vertex has an item in the plane.
