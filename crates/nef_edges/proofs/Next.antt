@@ -1,8 +1,8 @@
 -- The place where the sorted halves pass a half.
-use Rattle.std.proofs.Common.{◌≡◌, ℕ, ◌+◌, ◌<◌, ◌≤◌, List, length, get_or, true, false, Ordering, Less, Equal, Greater, arith, refl, sym, ap, ◌∙◌, ⊎_elim}
+use Rattle.std.proofs.Common.{◌≡◌, ℕ, ◌<◌, ◌≤◌, List, length, get_or, true, false, Ordering, Less, Equal, Greater, arith, refl, sym, ap, ◌∙◌, ⊎_elim}
 use Rattle.std.specs.Cmp.{IsStrictWeakOrder, upto}
-use Rattle.std.specs.List.Sorted.{IsSortedBy, IsPermutation}
-use Rattle.std.specs.Ordering.{ordering_reverse, is_lt, is_gt}
+use Rattle.std.specs.List.Sorted.{IsSortedBy, IsPermutation, IsPartitionedBy, IsPartitionPoint}
+use Rattle.std.specs.Ordering.{ordering_reverse, is_lt, is_le, is_gt}
 use Rattle.std.proofs.lemmas.Bool.{false≢true, cases_lt}
 use Rattle.std.proofs.lemmas.List.Sorted.{ranks_by, sorted_far, Contains-permutation, IsPermutation-sym}
 use Rattle.law_sphere.specs.Maps.{At}
@@ -21,6 +21,21 @@ turned Less e = refl
 turned Equal e = refl
 turned Greater e = e
 
+le-no-gt : (o : Ordering) → is_le o ≡ true → is_gt o ≡ false
+le-no-gt Less e = refl
+le-no-gt Equal e = refl
+le-no-gt Greater e = sym e
+
+no-gt-le : (o : Ordering) → is_gt o ≡ false → is_le o ≡ true
+no-gt-le Less e = refl
+no-gt-le Equal e = refl
+no-gt-le Greater e = sym e
+
+no-le-greater : (o : Ordering) → is_le o ≡ false → o ≡ Greater
+no-le-greater Less e = absurd (false≢true (sym e))
+no-le-greater Equal e = absurd (false≢true (sym e))
+no-le-greater Greater e = refl
+
 module _ (hs : List Half) (sorted : IsSortedBy half_lt hs) where
   -- of two sorted halves the later isn't less
   pub not-less : (i k : ℕ) (g h : Half) → At hs i g → At hs k h → i ≤ k → half_lt h g ≡ false
@@ -28,31 +43,20 @@ module _ (hs : List Half) (sorted : IsSortedBy half_lt hs) where
       let far = sorted_far half_lt weak hs sorted i k g l (at-within hs k h b) in
       ap (λ r. half_lt r g) (sym (at-read hs k g h b)) ∙ ap (half_lt (get_or hs k g)) (sym (at-read hs i g g a)) ∙ far
 
-  rising : (i k : ℕ) (g h : Half) → At hs i g → At hs k h → i ≤ k → is_gt (half_order g h) ≡ false
-  rising i k g h a b l = turned (half_order g h) (ap is_lt (sym (half_total.antisymm h g)) ∙ not-less i k g h a b l)
-
   module _ (f : Half) where
-    -- one that stands after f, and all later ones do
-    pub later-after : (i k : ℕ) (g h : Half) → At hs i g → At hs k h → i ≤ k → is_gt (half_order g f) ≡ true → IsAfter f h
-    later-after i k g h a b l e = by (half_order h f) refl
-      where
-        no : is_gt (half_order h f) ≡ false → ⊥
-        no n = false≢true (sym (upto half_total g h f (rising i k g h a b l) n) ∙ e)
+    -- those that don't stand after f come first
+    pub parted : IsPartitionedBy (λ (h : Half). is_le (half_order h f)) hs
+    parted i j d l m e =
+        let g = get_or hs i d in let h = get_or hs j d in
+        let r = turned (half_order g h) (ap is_lt (sym (half_total.antisymm h g)) ∙ sorted_far half_lt weak hs sorted i j d l m) in
+        no-gt-le (half_order g f) (upto half_total g h f r (le-no-gt (half_order h f) e))
 
-        by : (o : Ordering) → half_order h f ≡ o → half_order h f ≡ Greater
-        by Less q = absurd (no (ap is_gt q))
-        by Equal q = absurd (no (ap is_gt q))
-        by Greater q = q
+    module _ (p : ℕ) (point : IsPartitionPoint (λ (h : Half). is_le (half_order h f) ≡ true) (λ (h : Half). is_le (half_order h f) ≡ false) hs p) where
+      pub none-before : NoneAfter hs f p
+      none-before k h a l t = false≢true (sym (ap is_le t) ∙ sym (ap (λ (g : Half). is_le (half_order g f)) (at-read hs k h h a)) ∙ point.0 k h (omega arith) l)
 
-    -- one that doesn't, and no earlier one does
-    pub earlier-not : (i k : ℕ) (g h : Half) → At hs i g → At hs k h → i ≤ k → is_gt (half_order h f) ≡ false → IsAfter f g → ⊥
-    earlier-not i k g h a b l e q = false≢true (sym (upto half_total g h f (rising i k g h a b l) e) ∙ ap is_gt q)
-
-    pub after-from : (m : ℕ) (h : Half) → At hs m h → is_gt (half_order h f) ≡ true → AllAfter hs f m
-    after-from m h a e k g b l = later-after m k h g a b l e
-
-    pub none-to : (m : ℕ) (h : Half) → At hs m h → is_gt (half_order h f) ≡ false → NoneAfter hs f (m + 1)
-    none-to m h a e k g b l = earlier-not k m g h b a (omega arith) e
+      pub all-from : AllAfter hs f p
+      all-from k h a l = no-le-greater (half_order h f) (sym (ap (λ (g : Half). is_le (half_order g f)) (at-read hs k h h a)) ∙ point.1 k h l (at-within hs k h a))
 
     module _ (p : ℕ) (none : NoneAfter hs f p) (all : AllAfter hs f p) where
       pub next-within : (k : ℕ) (g : Half) → At hs k g → IsAfter f g → p < length hs

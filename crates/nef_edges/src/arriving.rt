@@ -53,23 +53,13 @@ pub(crate) fn sorted_arriving(alloc: Global, vertices: &[Vertex]) -> Result<Vec<
     Ok(halves)
 }
 
-// How many of the sorted halves don't stand after `from`, by halving.
+// How many of the sorted halves don't stand after `from`.
 fn count_up_to(halves: &[Half], from: &Half) -> usize
     requires sorted { IsSortedBy half_lt halves.now }
     ensures before { NoneAfter halves.now from.now result }
     ensures after { AllAfter halves.now from.now result }
 {
-    let mut low = 0;
-    let mut high = halves.len();
-    while low < high {
-        let middle = low + (high - low) / 2;
-        if half_cmp(&halves[middle], from).is_gt() {
-            high = middle;
-        } else {
-            low = middle + 1;
-        }
-    }
-    low
+    halves.partition_point(|half| half_cmp(half, from).is_le())
 }
 
 /// The first of the sorted halves that stands after `from`.
