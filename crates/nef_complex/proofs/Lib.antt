@@ -1,3 +1,4 @@
+pub mod Order
 pub mod Sorted
 pub mod Lines
 pub mod Parted

@@ -1,41 +1,67 @@
--- Searching sorted vertices by halving.
-use Rattle.std.proofs.Common.{◌≡◌, ℕ, zero, suc, ◌+◌, ◌≤◌, arith, refl, ap, sym, ◌∙◌, ⊎_elim, List, [], ◌∷◌, map, slice_get, Some, None, subst}
+-- Searching sorted vertices.
+use Rattle.std.proofs.Common.{◌≡◌, ℕ, zero, suc, ◌<◌, ◌≤◌, arith, refl, sym, subst, ⊎_elim, List, [], ◌∷◌, length, map, slice_index_or, Ok, Err, Result, IfOk, IfErr, HoldsAt}
 use Rattle.std.proofs.lemmas.Bool.{cases_lt}
+use Rattle.std.proofs.lemmas.Option.{slice_get-get_or, get_or_from_slice_get, slice_get_within}
+use Rattle.std.specs.Ordering.{ordering_index}
+use Rattle.std.specs.List.Sorted.{IsBinarySearchResult, IsNonDecreasingBy, IsSearchInRange}
+use Rattle.std.specs.declared.cmp.Ordering.{Ordering}
+use Rattle.std.specs.declared.cmp.Ordering.TheVariants.{Less, Equal, Greater}
 use Rattle.nef_space.specs.Lists.{IsAt}
-use Rattle.nef_space.specs.Place.{SamePlace, IsPlaceBelow}
+use Rattle.nef_space.specs.Place.{Place, SamePlace, IsPlaceBelow}
 use Rattle.nef_geo.specs.Shapes.{place_of}
 use Rattle.nef_geo.specs.declared.point.Point.{Point}
 use Rattle.law_near.proofs.Rays.{same-place_sym}
-use Rattle.law_near.proofs.PlaceOrder.{place_below-trans, place_below-apart}
+use Rattle.law_near.proofs.PlaceOrder.{place_below-trans, place_below-same, place_below-apart}
 use Rattle.law_sphere.specs.Maps.{At}
 use Rattle.law_complex.specs.Complexes.{Vertex as PlainVertex}
 use Rattle.nef_complex.specs.declared.complex.Vertex.{Vertex}
 use Rattle.nef_complex.specs.Complexes.{vertex_of, AreSorted, AreBelow, AreAbove}
+use Rattle.nef_complex.proofs.Order.{IsOrder, one-way, place_order, place-ordered, as-ordered}
 
--- what stands before a vertex below the point is below it
-pub all-below : (vs : List Vertex) (k : ℕ) (v : Vertex) (p : Point) → AreSorted vs → IsAt vs k v → IsPlaceBelow (place_of v.point) (place_of p) → AreBelow vs (k + 1) p
-all-below vs k v p sorted a b i u l c = ⊎_elim
-    (λ m. place_below-trans (place_of u.point) (place_of v.point) (place_of p) (sorted i k u v m c a) b)
-    (λ m. let e : i ≡ k = omega arith in subst (λ (x : Vertex). IsPlaceBelow (place_of x.point) (place_of p)) (one i k u v e c a) b)
-    (cases_lt i k)
-  where
-    one : (i k : ℕ) (u v : Vertex) → i ≡ k → IsAt vs i u → IsAt vs k v → v ≡ u
-    one i k u v e c a = let f : Some v ≡ Some u = sym a ∙ ap (slice_get vs) (sym e) ∙ c in cc
+-- how a vertex stands to the point
+abbrev pub order_to : Point → Vertex → Ordering
+order_to p v = place_order (place_of v.point) (place_of p)
 
--- what stands after one above it is above it
-pub all-above : (vs : List Vertex) (k : ℕ) (v : Vertex) (p : Point) → AreSorted vs → IsAt vs k v → IsPlaceBelow (place_of p) (place_of v.point) → AreAbove vs k p
-all-above vs k v p sorted a b i u l c = ⊎_elim
-    (λ m. place_below-trans (place_of p) (place_of v.point) (place_of u.point) b (sorted k i v u m a c))
-    (λ m. let e : i ≡ k = omega arith in subst (λ (x : Vertex). IsPlaceBelow (place_of p) (place_of x.point)) (one i k u v e c a) b)
-    (cases_lt k i)
-  where
-    one : (i k : ℕ) (u v : Vertex) → i ≡ k → IsAt vs i u → IsAt vs k v → v ≡ u
-    one i k u v e c a = let f : Some v ≡ Some u = sym a ∙ ap (slice_get vs) (sym e) ∙ c in cc
+-- it rises along sorted vertices
+rises : (u v p : Place) (k l : Ordering) → IsPlaceBelow u v → IsOrder u p k → IsOrder v p l → ordering_index k ≤ ordering_index l
+rises u v p Less l b h g = omega arith
+rises u v p Equal Less b h g = absurd (place_below-apart u p (place_below-trans u v p b g) h)
+rises u v p Equal Equal b h g = omega arith
+rises u v p Equal Greater b h g = omega arith
+rises u v p Greater Less b h g = absurd (one-way u p (place_below-trans u v p b g) h)
+rises u v p Greater Equal b h g = absurd (one-way u p (place_below-same u v p b g) h)
+rises u v p Greater Greater b h g = omega arith
 
-pub at-point : (vs : List Vertex) (k : ℕ) (v : Vertex) (p : Point) → IsAt vs k v → SamePlace (place_of v.point) (place_of p) → (x : PlainVertex) × At (map vertex_of vs) k x × SamePlace x.point (place_of p)
-at-point [] k u p a s = let e : None ≡ Some u = a in cc
-at-point (v ∷ vs) zero u p a s = (vertex_of u, (let e : Some v ≡ Some u = a in (let f : v ≡ u = cc in ap vertex_of f)), s)
-at-point (v ∷ vs) (suc k) u p a s = at-point vs k u p a s
+rising : (vs : List Vertex) (p : Point) → AreSorted vs → IsNonDecreasingBy (λ v. ordering_index (order_to p v)) vs
+rising vs p sorted i j d le lt =
+    let u = slice_index_or vs i d in
+    let v = slice_index_or vs j d in
+    ⊎_elim
+    (λ l. rises (place_of u.point) (place_of v.point) (place_of p) (order_to p u) (order_to p v)
+    (sorted i j u v l (slice_get-get_or vs i d (omega arith)) (slice_get-get_or vs j d lt))
+    (place-ordered (place_of u.point) (place_of p)) (place-ordered (place_of v.point) (place_of p)))
+    (λ l. let e : i ≡ j = omega arith in subst (λ (k : ℕ). ordering_index (order_to p u) ≤ ordering_index (order_to p (slice_index_or vs k d))) e (omega arith))
+    (cases_lt i j)
+
+at-point : (vs : List Vertex) (k : ℕ) (p : Point) → k < length vs → HoldsAt (λ v. order_to p v ≡ Equal) vs k → (x : PlainVertex) × At (map vertex_of vs) k x × SamePlace x.point (place_of p)
+at-point [] k p l h = absurd (omega arith)
+at-point (v ∷ vs) zero p l h = (vertex_of v, refl, as-ordered (place_of v.point) (place_of p) Equal (h v))
+at-point (v ∷ vs) (suc k) p l h = at-point vs k p (omega arith) h
+
+-- what a search by that order answers
+module _ (vs : List Vertex) (p : Point) where
+  pub found-at : (r : Result ℕ ℕ) → IsSearchInRange r (length vs) → IsBinarySearchResult (order_to p) vs r → IfOk r (λ k. (x : PlainVertex) × At (map vertex_of vs) k x × SamePlace x.point (place_of p))
+  found-at (Ok k) l h = at-point vs k p l h
+  found-at (Err n) l h = tt
+
+  module _ (sorted : AreSorted vs) where
+    pub found-before : (r : Result ℕ ℕ) → IsBinarySearchResult (order_to p) vs r → IfErr r (λ n. AreBelow vs n p)
+    found-before (Ok k) h = tt
+    found-before (Err n) h = λ i v l a. as-ordered (place_of v.point) (place_of p) Less (subst (λ (u : Vertex). order_to p u ≡ Less) (get_or_from_slice_get vs i v v a) ((h (rising vs p sorted)).0 i v (omega arith) l))
+
+    pub found-after : (r : Result ℕ ℕ) → IsBinarySearchResult (order_to p) vs r → IfErr r (λ n. AreAbove vs n p)
+    found-after (Ok k) h = tt
+    found-after (Err n) h = λ i v l a. as-ordered (place_of v.point) (place_of p) Greater (subst (λ (u : Vertex). order_to p u ≡ Greater) (get_or_from_slice_get vs i v v a) ((h (rising vs p sorted)).1 i v l (slice_get_within vs i v a)))
 
 -- a vertex at the point would be neither below nor above it
 pub none-there : (vs : List Vertex) (k l : ℕ) (p : Point) → l ≤ k → AreBelow vs k p → AreAbove vs l p → (i : ℕ) → (x : PlainVertex) × At (map vertex_of vs) i x × SamePlace x.point (place_of p) → ⊥

@@ -5,9 +5,8 @@ ghost use Rattle.nef_geo.specs.Shapes.{place_of};
 ghost use Rattle.law_complex.specs.Skeleton.{IsVertexPoint};
 ghost use Rattle.nef_complex.specs.Complexes.{complex_of, AreSorted, AreBelow, AreAbove};
 
-use crate::complex::{Complex, Vertex};
+use crate::complex::Complex;
 use nef_geo::{Point, lex_cmp};
-use std::cmp::Ordering;
 
 /// The number of the vertex at `p`, by halving. Where `p` is no vertex, `Err` says how many vertices come before it; all
 /// others come after it.
@@ -17,18 +16,9 @@ pub fn find_vertex(c: &Complex, p: &Point) -> Result<usize, usize>
     ensures before { IfErr result (λ n. AreBelow c.now.vertices n p.now) }
     ensures after { IfErr result (λ n. AreAbove c.now.vertices n p.now) }
 {
-    let vertices = c.vertices.as_slice();
-    let mut low = 0;
-    let mut high = vertices.len();
-    while low < high {
-        let middle = low + (high - low) / 2;
-        match lex_cmp(&vertices[middle].point, p) {
-            Ordering::Less => low = middle + 1,
-            Ordering::Equal => return Ok(middle),
-            Ordering::Greater => high = middle,
-        }
-    }
-    Err(low)
+    c.vertices
+        .as_slice()
+        .binary_search_by(|v| lex_cmp(&v.point, p))
 }
 
 /// The number of the vertex at `p`. `None` comes exactly where `p` is no vertex.
