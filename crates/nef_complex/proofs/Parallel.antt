@@ -1,9 +1,12 @@
 -- Runs of parallel planes, and the one of a run that holds a point.
-use Rattle.std.proofs.Common.{◌≡◌, ℕ, ◌+◌, ◌<◌, ◌≤◌, ℤ, pos, ◌+ℤ◌, ◌-ℤ◌, ◌*ℤ◌, ◌<ℤ◌, List, [], ◌∷◌, ◌++◌, length, get_or, drop, arith, refl, ap, sym, ◌∙◌, ◌⊎◌, inl, inr, ⊎_elim, subst}
+use Rattle.std.proofs.Common.{◌≡◌, ℕ, zero, suc, ◌+◌, ◌-◌, ◌<◌, ◌≤◌, ℤ, pos, negsuc, ◌+ℤ◌, ◌-ℤ◌, ◌*ℤ◌, ◌<ℤ◌, List, [], ◌∷◌, ◌++◌, length, get_or, take, drop, arith, refl, ap, sym, ◌∙◌, ◌⊎◌, inl, inr, ⊎_elim, subst, false, Result, Ok, Err, Ordering, Less, Equal, Greater}
+use Rattle.std.specs.List.Sorted.{IsNonDecreasingBy, IsSearchInRange, IsBinarySearchResult}
+use Rattle.std.specs.Ordering.{int_cmp, ordering_index}
+use Rattle.std.specs.Result.{IfOk, is_ok}
 use Rattle.std.proofs.Math.ListN.{drop_of_length-le}
 use Rattle.std.proofs.lemmas.Bool.{cases_lt, cases_order}
 use Rattle.std.proofs.lemmas.Int.{ints}
-use Rattle.std.proofs.lemmas.List.{drop_more}
+use Rattle.std.proofs.lemmas.List.{drop_more, length-take, length-drop, get_or-take, get_or-drop}
 use Rattle.law_arithmetic.proofs.Order.{lt_by, mul_pos, sub_pos}
 use Rattle.law_arithmetic.proofs.Ring.{at, ◌⊕◌, ◌⊖◌, ◌⊗◌}
 use Rattle.nef_space.specs.Lists.{IsAt}
@@ -12,7 +15,8 @@ use Rattle.nef_space.specs.Place.{Place, Form, form_at, form_numbers, normal_of}
 use Rattle.nef_space.specs.Vectors.{Vector}
 use Rattle.nef_geo.specs.Shapes.{form_of}
 use Rattle.nef_geo.specs.declared.plane.Plane.{Plane}
-use Rattle.nef_classes.proofs.ClassLists.{less-or-last, is-at_one, is-at_some, is-at_within}
+use Rattle.nef_geo.specs.Signs.{sign_number, sign_of}
+use Rattle.nef_classes.proofs.ClassLists.{less-or-last, is-at_one, is-at_some, is-at_within, is-at_get, is-at_is}
 use Rattle.nef_complex.specs.Index.{AreInOrder}
 use Rattle.nef_complex.specs.Runs.{IsRun, AreRunsTo, AreRuns, GoesOn, IsHolderIn, IsOnlyHolder}
 
@@ -103,14 +107,39 @@ last-below f g same below = first (ap (λ (n : Vector). n.x) same) (ap (λ (n : 
     first a b c (inr (_, inr (_, inr (_, inl l)))) = l
     first a b c (inr (_, inr (_, inr (_, inr (_, never))))) = absurd never
 
--- ---- halving a run
--- the planes of the run before number k are negative at the point
-abbrev pub AreNegative : List Plane → ℕ → ℕ → Place → Type 0
-AreNegative hs first k p = (i : ℕ) (g : Plane) → first ≤ i → i < k → IsAt hs i g → form_at (form_of g) p <ℤ pos 0
+-- ---- searching a run
+abbrev pub run_of : List Plane → ℕ → ℕ → List Plane
+run_of hs first past = take (past - first) (drop first hs)
 
--- those from number k on are positive
-abbrev pub ArePositive : List Plane → ℕ → ℕ → Place → Type 0
-ArePositive hs k past p = (i : ℕ) (g : Plane) → k ≤ i → i < past → IsAt hs i g → pos 0 <ℤ form_at (form_of g) p
+-- how the closure of the search answers at a form's number
+abbrev number_order : ℤ → Ordering
+number_order z = int_cmp (sign_number (sign_of z)) (pos 0)
+
+abbrev pub side_order : Place → Plane → Ordering
+side_order p h = number_order (form_at (form_of h) p)
+
+is-negative : (z : ℤ) → number_order z ≡ Less → z <ℤ pos 0
+is-negative (pos zero) e = let i : ◌≡◌ {A = ℕ} 1 0 = ap ordering_index e in absurd (omega arith)
+is-negative (pos (suc n)) e = let i : ◌≡◌ {A = ℕ} 2 0 = ap ordering_index e in absurd (omega arith)
+is-negative (negsuc n) e = omega (arith, ints)
+
+is-nought : (z : ℤ) → number_order z ≡ Equal → z ≡ pos 0
+is-nought (pos zero) e = refl
+is-nought (pos (suc n)) e = let i : ◌≡◌ {A = ℕ} 2 1 = ap ordering_index e in absurd (omega arith)
+is-nought (negsuc n) e = let i : ◌≡◌ {A = ℕ} 0 1 = ap ordering_index e in absurd (omega arith)
+
+is-positive : (z : ℤ) → number_order z ≡ Greater → pos 0 <ℤ z
+is-positive (pos zero) e = let i : ◌≡◌ {A = ℕ} 1 2 = ap ordering_index e in absurd (omega arith)
+is-positive (pos (suc n)) e = omega (arith, ints)
+is-positive (negsuc n) e = let i : ◌≡◌ {A = ℕ} 0 2 = ap ordering_index e in absurd (omega arith)
+
+order-rises : (y z : ℤ) → y <ℤ z → ordering_index (number_order y) ≤ ordering_index (number_order z)
+order-rises (negsuc n) z l = omega arith
+order-rises (pos zero) (pos zero) l = omega arith
+order-rises (pos zero) (pos (suc m)) l = omega arith
+order-rises (pos (suc n)) (pos (suc m)) l = omega arith
+order-rises (pos (suc n)) (pos zero) l = absurd (omega (arith, ints))
+order-rises (pos n) (negsuc m) l = absurd (omega (arith, ints))
 
 module _ (hs : List Plane) (first past : ℕ) (p : Place) (order : AreInOrder hs) (R : IsRun hs first past) where
   rises : (i j : ℕ) (g h : Plane) → first ≤ i → i < j → j < past → IsAt hs i g → IsAt hs j h → form_at (form_of g) p <ℤ form_at (form_of h) p
@@ -118,19 +147,7 @@ module _ (hs : List Plane) (first past : ℕ) (p : Place) (order : AreInOrder hs
       let same = R.parallel i g l (omega arith) a ∙ sym (R.parallel j h (omega arith) n b) in
       rise (form_of g) (form_of h) p same (last-below (form_of g) (form_of h) same (order i j g h m a b))
 
-  pub negative-more : (k : ℕ) (h : Plane) → first ≤ k → k < past → IsAt hs k h → form_at (form_of h) p <ℤ pos 0 → AreNegative hs first (k + 1) p
-  negative-more k h l m b z i g u v a = ⊎_elim
-      (λ o. let r = rises i k g h u o m a b in omega (arith, ints))
-      (λ e. subst (λ (x : Plane). form_at (form_of x) p <ℤ pos 0) (is-at_one hs k h g b (subst (λ (j : ℕ). IsAt hs j g) e a)) z)
-      (less-or-last i k v)
-
-  pub positive-more : (k : ℕ) (h : Plane) → first ≤ k → k < past → IsAt hs k h → pos 0 <ℤ form_at (form_of h) p → ArePositive hs k past p
-  positive-more k h l m b z i g u v a = ⊎_elim
-      (λ o. let r = rises k i h g l o v b a in omega (arith, ints))
-      (λ o. let e : i ≡ k = omega arith in subst (λ (x : Plane). pos 0 <ℤ form_at (form_of x) p) (is-at_one hs k h g b (subst (λ (j : ℕ). IsAt hs j g) e a)) z)
-      (cases_lt k i)
-
-  pub found-holder : (k : ℕ) (h : Plane) → first ≤ k → k < past → IsAt hs k h → form_at (form_of h) p ≡ pos 0 → IsOnlyHolder hs first past p k
+  found-holder : (k : ℕ) (h : Plane) → first ≤ k → k < past → IsAt hs k h → form_at (form_of h) p ≡ pos 0 → IsOnlyHolder hs first past p k
   found-holder k h l m b z = record { holder = (l, m, (h, b, (z, z))); only = λ i (u, v, (g, a, (y, _))). one i g u v a y (cases_order i k) }
     where
       one : (i : ℕ) (g : Plane) → first ≤ i → i < past → IsAt hs i g → form_at (form_of g) p ≡ pos 0 → (i ≡ k) ⊎ (i < k) ⊎ (k < i) → i ≡ k
@@ -138,8 +155,46 @@ module _ (hs : List Plane) (first past : ℕ) (p : Place) (order : AreInOrder hs
       one i g u v a y (inl e) = e
       one i g u v a y (inr (inr o)) = let r = rises k i h g l o v b a in absurd (omega (arith, ints))
 
-pub no-holder : (hs : List Plane) (first past low high : ℕ) (p : Place) → high ≤ low → AreNegative hs first low p → ArePositive hs high past p → (k : ℕ) → IsHolderIn hs first past p k → ⊥
-no-holder hs first past low high p le below above k (l, m, (h, a, (z, _))) = ⊎_elim
-    (λ o. let n = below k h l o a in omega (arith, ints))
-    (λ o. let n = above k h (omega arith) m a in omega (arith, ints))
-    (cases_lt k low)
+  read-run : (i : ℕ) (d : Plane) → i < past - first → get_or (run_of hs first past) i d ≡ get_or hs (first + i) d
+  read-run i d l = get_or-take (past - first) (drop first hs) i d l ∙ get_or-drop first hs i d
+
+  run-at : (i : ℕ) (d : Plane) → i < past - first → IsAt hs (first + i) (get_or (run_of hs first past) i d)
+  run-at i d l = subst (IsAt hs (first + i)) (sym (read-run i d l)) (is-at_get hs (first + i) d (let w = R.within in omega arith))
+
+  length-run : length (run_of hs first past) ≡ past - first
+  length-run = let a = length-take (past - first) (drop first hs) in let b = length-drop first hs in let w = R.within in omega (arith, a, b)
+
+  run-rises : IsNonDecreasingBy (λ (h : Plane). ordering_index (side_order p h)) (run_of hs first past)
+  run-rises i j d le lt =
+      let e = length-run in
+      let l : j < past - first = omega (arith, e) in
+      let n = run_of hs first past in
+      ⊎_elim
+      (λ o. order-rises (form_at (form_of (get_or n i d)) p) (form_at (form_of (get_or n j d)) p)
+      (rises (first + i) (first + j) (get_or n i d) (get_or n j d) (omega arith) (omega arith) (omega arith) (run-at i d (omega arith)) (run-at j d l)))
+      (λ o. let same : i ≡ j = omega arith in omega (arith, ap (λ (k : ℕ). ordering_index (side_order p (get_or n k d))) same))
+      (cases_lt i j)
+
+  pub found-in-run : (r : Result ℕ ℕ) → IsSearchInRange r (length (run_of hs first past)) → IsBinarySearchResult (side_order p) (run_of hs first past) r → IfOk r (λ i. IsOnlyHolder hs first past p (first + i))
+  found-in-run (Ok i) l f =
+      let e = length-run in
+      let m : i < past - first = omega (arith, e) in
+      let d : Plane = (is-at_some hs (first + i) (let w = R.within in omega arith)).0 in
+      let h : Plane = get_or (run_of hs first past) i d in
+      found-holder (first + i) h (omega arith) (omega arith) (run-at i d m) (is-nought (form_at (form_of h) p) (f d))
+  found-in-run (Err i) l f = tt
+
+  pub missed-in-run : (r : Result ℕ ℕ) → IsSearchInRange r (length (run_of hs first past)) → IsBinarySearchResult (side_order p) (run_of hs first past) r → is_ok r ≡ false → (k : ℕ) → IsHolderIn hs first past p k → ⊥
+  missed-in-run (Ok i) l f failed k h = cc
+  missed-in-run (Err i) l f failed k (u, v, (h, a, (z, _))) =
+      let e = length-run in
+      let m : k - first < past - first = omega arith in
+      let n : Plane = get_or (run_of hs first past) (k - first) h in
+      let back : first + (k - first) ≡ k = omega arith in
+      let same : n ≡ h = read-run (k - first) h m ∙ ap (λ (j : ℕ). get_or hs j h) back ∙ is-at_is hs k h h a in
+      let y : form_at (form_of n) p ≡ pos 0 = ap (λ (g : Plane). form_at (form_of g) p) same ∙ z in
+      let sides = f run-rises in
+      ⊎_elim
+      (λ o. let b = is-negative (form_at (form_of n) p) (sides.0 (k - first) h (omega arith) o) in omega (arith, ints))
+      (λ o. let b = is-positive (form_at (form_of n) p) (sides.1 (k - first) h o (omega (arith, e))) in omega (arith, ints))
+      (cases_lt (k - first) i)

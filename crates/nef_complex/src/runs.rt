@@ -8,7 +8,7 @@ ghost use Rattle.nef_complex.specs.Runs.{IsRun, AreRuns, GoesOn, IsHolderIn, IsO
 
 use crate::OutOfMemory;
 use crate::holding::holds;
-use nef_geo::{Plane, Point, Sign, side};
+use nef_geo::{Plane, Point, side};
 use std::alloc::Global;
 
 // Whether the forms of the planes have one normal.
@@ -55,8 +55,8 @@ fn holder_alone(carriers: &[Plane], number: usize, point: &Point) -> Option<usiz
     }
 }
 
-/// The number of the carrier that holds the point, of the run from number `first` to before number `past`, by halving:
-/// at the point the forms of parallel carriers rise with their last numbers. Most runs have one carrier alone.
+/// The number of the carrier that holds the point, of the run from number `first` to before number `past`, by a binary
+/// search: at the point the forms of parallel carriers rise with their last numbers. Most runs have one carrier alone.
 pub(crate) fn holder_in(
     carriers: &[Plane],
     first: usize,
@@ -71,15 +71,8 @@ pub(crate) fn holder_in(
     if past - first == 1 {
         return holder_alone(carriers, first, point);
     }
-    let mut low = first;
-    let mut high = past;
-    while low < high {
-        let middle = low + (high - low) / 2;
-        match side(&carriers[middle], point) {
-            Sign::Minus => low = middle + 1,
-            Sign::Zero => return Some(middle),
-            Sign::Plus => high = middle,
-        }
-    }
-    None
+    carriers[first..past]
+        .binary_search_by(|h| side(h, point).number().cmp(&0))
+        .ok()
+        .map(|number| first + number)
 }
