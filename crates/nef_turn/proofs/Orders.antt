@@ -14,7 +14,8 @@ use Rattle.nef_geo.proofs.Orders.{plane_order, plane-ordered, dir_order, dir-ord
 use Rattle.law_sphere.specs.Vectors.{VectorBelow}
 use Rattle.law_sphere.specs.Least.{InOrder}
 use Rattle.nef_complex.specs.declared.complex.Vertex.{Vertex}
-use Rattle.nef_cand.proofs.Order.{point_order, point-ordered, point_total, one-order}
+use Rattle.nef_complex.proofs.Order.{one-order}
+use Rattle.nef_cand.proofs.Order.{point_order, point-ordered, point_total}
 use Rattle.nef_turn.specs.declared.moved.Moved.{Moved}
 use Rattle.nef_turn.specs.Images.{AreApart}
 use Rattle.nef_turn.specs.Turning.{IsMovedBelow, HaveSameWay, IsVertexBelow, AreAtOnePlace}

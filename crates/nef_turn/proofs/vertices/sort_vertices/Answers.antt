@@ -4,7 +4,8 @@ use Rattle.std.proofs.lemmas.List.Sorted.{ranks_by, answers_always}
 use Rattle.std.specs.Ordering.{is_lt}
 use Rattle.nef_geo.specs.Shapes.{place_of}
 use Rattle.nef_complex.specs.declared.complex.Vertex.{Vertex}
-use Rattle.nef_cand.proofs.Order.{IsOrder, answers-less}
+use Rattle.nef_complex.proofs.Order.{IsOrder}
+use Rattle.nef_cand.proofs.Order.{answers-less}
 use Rattle.nef_turn.proofs.Orders.{vertex_order, vertex_total, vertices-in_order}
 use Rattle.nef_turn.proofs.vertices.sort_vertices.Goals as goal
 
