@@ -11,4 +11,3 @@ pub mod Nexts
 pub mod Grouping
 pub mod CyclesOf
 pub mod PartsOf
-pub mod Made

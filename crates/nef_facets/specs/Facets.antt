@@ -1,6 +1,5 @@
 -- The facets of a complex.
 use Rattle.std.specs.Prelude.{◌≡◌, ℕ, ◌<◌, pos, List, length}
-use Rattle.std.specs.Borrow.{Bor}
 use Rattle.nef_space.specs.Lists.{IsAt}
 use Rattle.nef_space.specs.Place.{form_at, normal_of}
 use Rattle.nef_space.specs.Vectors.{SameDirection}
@@ -9,7 +8,6 @@ use Rattle.nef_geo.specs.Shapes.{form_of}
 use Rattle.nef_geo.specs.declared.plane.Plane.{Plane}
 use Rattle.law_sphere.specs.Maps.{Item, item_normal, item_mark}
 use Rattle.law_complex.specs.Complexes.{Vertex, Complex, Corner, IsCorner}
-use Rattle.nef_complex.specs.declared.complex.Complex.{Complex as ComplexValue}
 use Rattle.nef_complex.specs.declared.complex.Corner.{Corner as CornerValue}
 use Rattle.nef_complex.specs.Complexes.{corner_of}
 use Rattle.nef_parts.specs.Cycles.{Cycles}
@@ -21,14 +19,6 @@ use Rattle.nef_facets.specs.declared.parts.FacetParts.{FacetParts}
 -- the label is the item's mark
 abbrev pub IsMarkAt : Complex → Label → Corner → Type 0
 IsMarkAt C l k = (v : Vertex) (x : Item) → IsCorner C k v x → l ≡ item_mark x
-
--- the value comes of a call at references to the complex and to the corner
-abbrev pub ComesOf : {T : Type 0} → (Bor ComplexValue → Bor CornerValue → T → Type 0) → ComplexValue → T → CornerValue → Type 0
-ComesOf makes c x k = (whole : Bor ComplexValue) × (corner : Bor CornerValue) × (whole.now ≡ c) × (corner.now ≡ k) × makes whole corner x
-
--- each of the values comes of a call at its corner
-abbrev pub AreMadeAt : {T : Type 0} → (Bor ComplexValue → Bor CornerValue → T → Type 0) → ComplexValue → List CornerValue → List T → Type 0
-AreMadeAt makes c ks xs = (n : ℕ) (x : _) (k : CornerValue) → IsAt xs n x → IsAt ks n k → ComesOf makes c x k
 
 -- the planes, and the labels, are those of the corners' items
 abbrev pub ArePlanesAt : Complex → List CornerValue → List Plane → Type 0

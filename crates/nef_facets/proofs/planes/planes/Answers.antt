@@ -1,6 +1,22 @@
+use Rattle.std.proofs.Common.{List, ◌+◌, get_or, sym, subst}
+use Rattle.nef_classes.proofs.ClassLists.{is-at_get}
+use Rattle.nef_geo.specs.declared.plane.Plane.{Plane}
+use Rattle.nef_complex.specs.declared.complex.Corner.{Corner}
+use Rattle.nef_complex.specs.Complexes.{complex_of, corner_of}
 use Rattle.nef_facets.specs.Facets.{IsPlaneAt}
-use Rattle.nef_facets.proofs.Made.{made-at}
+use Rattle.nef_facets.proofs.Lists.{AreEach, each-more}
 use Rattle.nef_facets.proofs.planes.planes.Goals as goal
 
-pub returns-clause-planes : goal.returns-clause-planes
-returns-clause-planes c = made-at _ (λ C x k. IsPlaneAt C x k) c.args.c.now c.args.corners.now c.made_of_each.result (λ whole corner x p. p) c.made_of_each.ensures.made
+pub plane_of-requires-clause-corner : goal.plane_of-requires-clause-corner
+plane_of-requires-clause-corner c = c.requires.corners c.loop-corner.corner-index _ (is-at_get c.args.corners.now c.loop-corner.corner-index _ c.loop-corner-test.true)
+
+pub loop-corner-preserved : goal.loop-corner-preserved
+loop-corner-preserved c =
+    let P : Plane → Corner → Type 0 = λ h k. IsPlaneAt (complex_of c.args.c.now) h (corner_of k) in
+    let ks : List Corner = c.args.corners.now in
+    let d : Corner = record { vertex = 0; item = 0 } in
+    let i = c.loop-corner.corner-index in
+    let hs : List Plane = c.loop-corner.planes in
+    let h : Plane = c.plane_of.result in
+    subst (λ (r : List Plane). AreEach P (i + 1) r ks) (sym c.in_ok-push.ensures.ok)
+    (each-more P i hs ks h (get_or ks i d) c.loop-corner.invariant (is-at_get ks i d c.loop-corner-test.true) c.plane_of.ensures.plane)
