@@ -1,13 +1,12 @@
 -- A vertex of a combination of two sets is a vertex of one of them, or a cut of the one's edges by the other's carriers: elsewhere some direction is flat for both.
-use Rattle.std.proofs.Common.{◌≡◌, ℕ, zero, suc, ◌+◌, ◌<◌, ℤ, pos, ◌+ℤ◌, ◌-ℤ◌, ◌*ℤ◌, arith, refl, ap, sym, ◌∙◌, ◌⊎◌, inl, inr, ⊎_elim, ◌↔◌, [], ◌∷◌, subst}
-use Rattle.std.proofs.lemmas.Int.{ints}
-use Rattle.law_arithmetic.specs.Signs.{nought, sign, Lies}
+use Rattle.std.proofs.Common.{◌≡◌, ℕ, zero, suc, ◌+◌, ℤ, pos, ◌-ℤ◌, ◌*ℤ◌, arith, ap, ◌∙◌, ◌⊎◌, inl, inr, ⊎_elim, [], ◌∷◌, subst}
+use Rattle.law_arithmetic.specs.Signs.{nought, Lies}
 use Rattle.law_arithmetic.proofs.Ring.{ring, at, num, ◌⊕◌, ◌⊖◌, ◌⊗◌}
 use Rattle.law_arithmetic.proofs.Order.{nought-is}
 use Rattle.nef_space.specs.Local.{Flat, HasFlat, FlatDim, IsVertex}
-use Rattle.nef_space.specs.Place.{Place, Form, form_at, slope, normal_of, toward, IsBetween}
+use Rattle.nef_space.specs.Place.{Place, Form, form_at, slope, toward}
 use Rattle.nef_space.specs.Sets.{Set}
-use Rattle.nef_space.specs.Vectors.{Vector, dot, cross, IsZero, IsDirection, SameDirection}
+use Rattle.nef_space.specs.Vectors.{Vector, dot, cross, IsZero, IsDirection}
 use Rattle.law_near.specs.Cells.{sign_at, carriers}
 use Rattle.law_near.specs.Cones.{label_and, label_or, label_less, label_one_of}
 use Rattle.law_near.proofs.Decided.{Decided, decided-both, decided-not}
@@ -15,17 +14,17 @@ use Rattle.law_near.proofs.Combine.{and-label, or-label, less-label, one_of-labe
 use Rattle.law_near.proofs.FlatOperations.{flat-of_two}
 use Rattle.law_near.proofs.Flats.{Flat-from_cone, FlatCone-from_carriers}
 use Rattle.law_near.proofs.Alike.{HasFlat-fewer}
-use Rattle.law_near.proofs.FlatDecided.{flat_dim-of, cross-turned}
+use Rattle.law_near.proofs.FlatDecided.{flat_dim-of}
 use Rattle.law_near.proofs.Supports.{flat-plane, square-cross}
 use Rattle.law_near.proofs.Even.{span-3}
 use Rattle.law_forms.proofs.Far.{nought-or}
 use Rattle.law_forms.proofs.Directions.{zero-decided}
-use Rattle.law_sphere.specs.Maps.{At, dir_of}
+use Rattle.law_sphere.specs.Maps.{At}
 use Rattle.law_sphere.proofs.Lists.{search_list}
 use Rattle.law_sphere.proofs.Parallel.{circle-point}
 use Rattle.law_sphere.proofs.KindFlats.{in-span}
-use Rattle.law_complex.specs.Complexes.{Vertex, Edge, Complex, HasEnds}
-use Rattle.law_complex.specs.Shows.{Shows, SamePlane}
+use Rattle.law_complex.specs.Complexes.{Complex}
+use Rattle.law_complex.specs.Shows.{Shows}
 use Rattle.law_complex.specs.Skeleton.{IsEdgePoint}
 use Rattle.law_complex.specs.Laws.{HoldsEdge, IsCut, IsVertexOfBoth}
 use Rattle.law_complex.proofs.Planes.{plane-turned, plane-point, plane-slope, plane-way}

@@ -1,39 +1,37 @@
 -- The points of a set with one flat direction are those strictly between the ends of edges.
-use Rattle.std.proofs.Common.{◌≡◌, ℕ, zero, suc, ◌+◌, ◌<◌, ◌≤◌, ℤ, pos, ◌+ℤ◌, ◌*ℤ◌, arith, refl, ap, sym, ◌∙◌, ◌⊎◌, inl, inr, ⊎_elim, ◌↔◌, [], ◌∷◌, subst}
-use Rattle.std.proofs.lemmas.Int.{ints}
+use Rattle.std.proofs.Common.{◌≡◌, ℕ, zero, suc, pos, arith, refl, sym, inl, inr, ⊎_elim, ◌↔◌, subst}
 use Rattle.law_arithmetic.specs.Signs.{sign}
 use Rattle.nef_space.specs.Local.{HasLabel, Germ, Flat, FlatDim, IsVertex, IsEven}
-use Rattle.nef_space.specs.Place.{Place, Within, SamePlace, toward, IsAhead, IsBetween}
+use Rattle.nef_space.specs.Place.{Place, toward, IsBetween}
 use Rattle.nef_space.specs.Sets.{Set}
-use Rattle.nef_space.specs.Vectors.{Vector, zero_vector, opposite, blend, dot, cross, IsZero, IsDirection, SameDirection}
+use Rattle.nef_space.specs.Vectors.{Vector, zero_vector, opposite, dot, cross, IsZero, IsDirection, SameDirection}
 use Rattle.nef_space.specs.declared.label.Label.{Label}
 use Rattle.law_near.specs.Cells.{carriers}
 use Rattle.law_near.specs.Cones.{NearGerm, IsOnSegment}
-use Rattle.law_near.specs.Laws.{SameGerms, Drop, IsFlatBelow}
+use Rattle.law_near.specs.Laws.{Drop}
 use Rattle.law_near.proofs.Decided.{label_of, germ_of}
 use Rattle.law_near.proofs.Topology.{near-germ_zero}
 use Rattle.law_near.proofs.Flats.{Flat-from_cone, FlatCone-from_flat}
 use Rattle.law_near.proofs.Rays.{Germ-zero, signs-same, same-place_sym, slope-same}
-use Rattle.law_near.proofs.Alike.{germs-by_cell, Flat-by_germs, FlatDim-by_germs, FlatDim-one, flat-germ}
+use Rattle.law_near.proofs.Alike.{germs-by_cell, Flat-by_germs, FlatDim-by_germs, flat-germ}
 use Rattle.law_near.proofs.Supports.{flat-plane, flat-line}
 use Rattle.law_near.proofs.Even.{germ-nearby, flat-toward, even-germs, labels-by_germs, span-1, span-3}
 use Rattle.law_near.proofs.FlatDecided.{flat_dim-of, near-by_signs, flat-by_signs, parallel-both, cross-turned}
-use Rattle.law_near.proofs.Between.{between-turned, between-inner}
+use Rattle.law_near.proofs.Between.{between-inner}
 use Rattle.law_near.proofs.Edges.{start, start-close, start-between, start-toward, even-until}
 use Rattle.law_forms.proofs.Near.{reach_all}
-use Rattle.law_forms.proofs.Directions.{direction-left, direction-right}
-use Rattle.law_forms.proofs.Between.{between-same, place-toward, toward-place}
-use Rattle.law_complex.proofs.Ways.{between-way, between-rest, between-outer, between-start, between-ends, same-itself}
+use Rattle.law_forms.proofs.Directions.{direction-left}
+use Rattle.law_forms.proofs.Between.{between-same}
+use Rattle.law_complex.proofs.Ways.{between-way, between-rest, between-outer, same-itself}
 use Rattle.law_sphere.proofs.Compare.{SameDirection-turned, SameDirection-trans, dir-self}
 use Rattle.law_sphere.proofs.Lists.{at-one}
 use Rattle.law_sphere.proofs.Shot.{dir-at}
 use Rattle.law_sphere.proofs.Labels.{label-unique}
-use Rattle.law_sphere.specs.Least.{by_side, NearPlain, NearStraight, Least, Cone}
+use Rattle.law_sphere.specs.Least.{by_side, NearPlain, NearStraight, Cone}
 use Rattle.law_sphere.specs.Maps.{At, Map, MapVertex, MapLabel, at_svertex, NearLabel, dir_of}
 use Rattle.law_complex.specs.Complexes.{Vertex, Edge, Complex, HasEnds, IsEdge}
 use Rattle.law_complex.specs.Shows.{Shows}
-use Rattle.law_complex.specs.Skeleton.{IsEdgePoint}
-use Rattle.law_complex.proofs.Cones.{label-germ, germ-label, near-germ, near-label, FlatAre, plane-sides}
+use Rattle.law_complex.proofs.Cones.{germ-label, near-germ, near-label, FlatAre, plane-sides}
 
 -- ---- at points close to p toward d, where the germs are those near d
 module _ (M : Map) (s : Set) (p : Place) (K : Cone M s p) (d : Vector) (some : IsDirection d) (q : Place) (near : (e : Vector) (l : Label) → Germ s q e l ↔ NearGerm s p d e l) where

@@ -1,11 +1,11 @@
 -- Two vertices between which one direction is flat are the ends of an edge; so each point with one flat direction lies on an edge, and each svertex is an end of one.
-use Rattle.std.proofs.Common.{◌≡◌, ℕ, zero, suc, ◌<◌, ℤ, pos, ◌-ℤ◌, ◌*ℤ◌, ◌+ℤ◌, neg_ℤ, arith, refl, ap, sym, ◌∙◌, ◌⊎◌, inl, inr, ⊎_elim, ◌↔◌, [], ◌∷◌, subst}
+use Rattle.std.proofs.Common.{◌≡◌, ℕ, ◌<◌, ℤ, pos, ◌-ℤ◌, ◌*ℤ◌, neg_ℤ, arith, refl, ap, sym, ◌∙◌, ◌⊎◌, inl, inr, ⊎_elim, [], ◌∷◌, subst}
 use Rattle.std.proofs.lemmas.Int.{ints}
 use Rattle.std.proofs.lemmas.Bool.{cases_order}
 use Rattle.law_arithmetic.specs.Signs.{Sign, minus, nought, plus, sign}
 use Rattle.law_arithmetic.proofs.Ring.{ring, at, num, neg, ◌⊕◌, ◌⊖◌, ◌⊗◌}
-use Rattle.nef_space.specs.Local.{HasLabel, Germ, Flat, FlatDim, IsVertex}
-use Rattle.nef_space.specs.Place.{Place, SamePlace, toward, IsAhead, IsBetween}
+use Rattle.nef_space.specs.Local.{Germ, FlatDim, IsVertex}
+use Rattle.nef_space.specs.Place.{Place, SamePlace, toward, IsBetween}
 use Rattle.nef_space.specs.Sets.{Set}
 use Rattle.nef_space.specs.Vectors.{Vector, dot, cross, opposite, IsZero, IsDirection, SameDirection, IsOpposite}
 use Rattle.nef_space.specs.declared.label.Label.{Label}
@@ -15,25 +15,24 @@ use Rattle.law_near.proofs.Even.{span-1}
 use Rattle.law_near.proofs.Between.{between-turned, ray-cell}
 use Rattle.law_near.specs.Cells.{carriers}
 use Rattle.law_forms.proofs.Near.{reach_all}
-use Rattle.law_forms.proofs.Directions.{direction-left, direction-right, zero-decided, self-pos}
+use Rattle.law_forms.proofs.Directions.{direction-right, zero-decided, self-pos}
 use Rattle.law_forms.proofs.Between.{between-same, toward-place, place-toward}
 use Rattle.law_near.proofs.Rays.{same-place_sym, signs-same}
 use Rattle.law_near.proofs.Edges.{start-close, flat_way-end, edge-around}
-use Rattle.law_near.specs.Laws.{EdgeAround, WayEnd}
+use Rattle.law_near.specs.Laws.{WayEnd}
 use Rattle.law_sphere.specs.Least.{by_side, NearPlain, NearStraight, Least, Cone}
-use Rattle.law_sphere.specs.Maps.{At, Map, MapVertex, MapLabel, dir_of}
+use Rattle.law_sphere.specs.Maps.{At, Map, MapVertex, MapLabel}
 use Rattle.law_sphere.proofs.Compare.{SameDirection-turned, SameDirection-trans, dir-self, Matched}
 use Rattle.law_sphere.proofs.Unique.{neither-svertex}
 use Rattle.law_sphere.proofs.Labels.{label-unique}
 use Rattle.law_sphere.proofs.Lists.{at-one}
-use Rattle.law_sphere.proofs.Shot.{dir-at}
 use Rattle.law_sphere.proofs.Parallel.{circle-point}
 use Rattle.law_sphere.proofs.KindFlats.{in-span}
-use Rattle.law_complex.specs.Complexes.{Vertex, Edge, Complex, HasEnds, IsEdge}
+use Rattle.law_complex.specs.Complexes.{Vertex, Edge, Complex, IsEdge}
 use Rattle.law_complex.specs.Shows.{Shows}
 use Rattle.law_complex.specs.Skeleton.{IsEdgePoint}
 use Rattle.law_complex.proofs.Cones.{near-germ, sided-two}
-use Rattle.law_complex.proofs.Ways.{between-way, between-rest, between-outer, between-start, between-ends, between-cases, same-itself, onward, onward-way}
+use Rattle.law_complex.proofs.Ways.{between-way, between-ends, between-cases, same-itself, onward, onward-way}
 use Rattle.law_complex.proofs.Edges.{near_point, near-between, near-germs, near-flat, way-near, near-one, label-near}
 
 -- ---- a direction of a map is a svertex where close to p one direction is flat

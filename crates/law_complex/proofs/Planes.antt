@@ -1,9 +1,9 @@
 -- Forms of one plane are nought at the same points and along the same directions.
-use Rattle.std.proofs.Common.{◌≡◌, ℤ, pos, ◌+ℤ◌, ◌*ℤ◌, refl, sym, ◌∙◌, ◌⊎◌, inl, inr, ⊎_elim, [], ◌∷◌}
+use Rattle.std.proofs.Common.{◌≡◌, ℤ, pos, ◌+ℤ◌, ◌*ℤ◌, sym, ◌∙◌, ⊎_elim, [], ◌∷◌}
 use Rattle.law_arithmetic.proofs.Ring.{ring, at, num, ◌⊕◌, ◌⊖◌, ◌⊗◌}
 use Rattle.law_arithmetic.proofs.Combination.{given, none, follows}
-use Rattle.nef_space.specs.Place.{Place, Form, form_at, slope, normal_of, toward}
-use Rattle.nef_space.specs.Vectors.{Vector, IsDirection}
+use Rattle.nef_space.specs.Place.{Place, Form, form_at, slope, toward}
+use Rattle.nef_space.specs.Vectors.{Vector}
 use Rattle.law_forms.proofs.Far.{nought-or}
 use Rattle.law_forms.proofs.Directions.{square_pos}
 use Rattle.law_sphere.proofs.Shot.{product-off}

@@ -1,45 +1,42 @@
 -- The skeleton points of a complex that shows a set are those where not all directions are flat; the labels between them are theirs.
-use Rattle.std.proofs.Common.{◌≡◌, ℕ, zero, suc, ◌+◌, ◌<◌, ◌≤◌, ℤ, pos, ◌+ℤ◌, ◌*ℤ◌, ◌<ℤ◌, neg_ℤ, arith, refl, ap, sym, ◌∙◌, ◌⊎◌, inl, inr, ⊎_elim, ◌↔◌, List, [], ◌∷◌, subst}
+use Rattle.std.proofs.Common.{◌≡◌, ℕ, zero, suc, ◌<◌, ℤ, pos, ◌+ℤ◌, ◌*ℤ◌, arith, refl, ap, sym, ◌∙◌, ◌⊎◌, inl, inr, ⊎_elim, ◌↔◌, List, [], ◌∷◌, subst}
 use Rattle.std.proofs.lemmas.Int.{ints}
-use Rattle.std.proofs.Math.Nat.{mul-pos}
 use Rattle.law_arithmetic.specs.Signs.{Sign, minus, nought, plus, sign}
-use Rattle.law_arithmetic.proofs.Order.{nought-is, sign-plus, sign-minus, by_order}
+use Rattle.law_arithmetic.proofs.Order.{sign-plus, sign-minus, by_order}
 use Rattle.law_arithmetic.proofs.Ring.{ring, at, num, ◌⊕◌, ◌⊗◌}
-use Rattle.nef_space.specs.Local.{HasLabel, Germ, Flat, FlatDim, IsVertex, IsEven}
-use Rattle.nef_space.specs.Place.{Place, Form, form_at, slope, normal_of, SamePlace, InFrame, InClosedFrame, toward, IsAhead, IsBetween}
+use Rattle.nef_space.specs.Local.{HasLabel, Germ, Flat, FlatDim, IsEven}
+use Rattle.nef_space.specs.Place.{Place, SamePlace, InFrame, InClosedFrame, toward, IsAhead, IsBetween}
 use Rattle.nef_space.specs.Sets.{Set, Holds}
-use Rattle.nef_space.specs.Vectors.{Vector, vector, dot, cross, IsZero, IsDirection, IsNormal, SameDirection}
+use Rattle.nef_space.specs.Vectors.{Vector, vector, dot, IsDirection, SameDirection}
 use Rattle.nef_space.specs.declared.label.Label.{Label}
-use Rattle.nef_space.specs.declared.label.Label.TheVariants.{Out, Not, In}
+use Rattle.nef_space.specs.declared.label.Label.TheVariants.{Out, In}
 use Rattle.law_near.specs.Cells.{carriers}
-use Rattle.law_near.specs.Cones.{IsOnSegment, combination}
-use Rattle.law_near.specs.Laws.{IsFlatBelow, Drop, WayEnd, SameGerms}
-use Rattle.law_near.proofs.Decided.{label_of, germ_of, InFrame-decided}
+use Rattle.law_near.specs.Cones.{IsOnSegment}
+use Rattle.law_near.specs.Laws.{IsFlatBelow, Drop, SameGerms}
+use Rattle.law_near.proofs.Decided.{label_of, InFrame-decided}
 use Rattle.law_near.proofs.Germs.{Germ-unique, label-one, Label-cells}
 use Rattle.law_near.proofs.Flats.{germ-toward}
-use Rattle.law_near.proofs.Rays.{Germ-same, signs-same, same-place_sym}
+use Rattle.law_near.proofs.Rays.{signs-same, same-place_sym}
 use Rattle.law_near.proofs.Alike.{germs-by_cell, FlatDim-by_germs, FlatDim-one}
 use Rattle.law_near.proofs.Even.{even-germs, labels-by_germs, span-3}
 use Rattle.law_near.proofs.FlatDecided.{flat_dim-of}
 use Rattle.law_near.proofs.Between.{between-turned, between-inner}
 use Rattle.law_near.proofs.Edges.{start-close, start-toward, even-until, beyond, halfway, halfway-between, halfway-outside, leads, leads-somewhere, way_factor, way_factor-some}
-use Rattle.law_forms.specs.Homogeneous.{SameUpToFactor, of_direction}
 use Rattle.law_forms.proofs.Near.{reach_all}
 use Rattle.law_forms.proofs.Between.{toward-place, place-toward}
-use Rattle.law_forms.proofs.Directions.{factor-same, direction-left, direction-right}
-use Rattle.law_sphere.specs.Least.{by_side, Cone}
+use Rattle.law_forms.proofs.Directions.{factor-same, direction-left}
+use Rattle.law_sphere.specs.Least.{by_side}
 use Rattle.law_sphere.specs.Maps.{At, MapVertex, Item, items, item_normal, item_pos, item_mark, item_neg, dir_of, MapLabel, NearLabel}
 use Rattle.law_sphere.proofs.Labels.{label-exists, near-exists}
 use Rattle.law_sphere.proofs.Lists.{at-one}
 use Rattle.law_sphere.proofs.Shot.{dir-at}
-use Rattle.law_sphere.proofs.Compare.{SameDirection-turned, SameDirection-trans, dir-self}
-use Rattle.law_complex.specs.Complexes.{Vertex, Edge, Complex, Corner, HasEnds, IsCorner}
+use Rattle.law_sphere.proofs.Compare.{SameDirection-trans}
+use Rattle.law_complex.specs.Complexes.{Vertex, Edge, Complex, Corner, IsCorner}
 use Rattle.law_complex.specs.Shows.{Shows}
-use Rattle.law_complex.specs.Skeleton.{IsVertexPoint, IsEdgePoint, IsOnEdges, IsFacetPoint, Spot, at_vertex, on_edge, in_facet, IsSpot, IsSkeletonPoint, HasCorner}
-use Rattle.law_complex.specs.Belongs.{SpotMark, ItemLabel, Towards, SeesSpot, Belongs, on_skeleton, off_skeleton}
-use Rattle.law_complex.specs.Laws.{IsFlatIn}
-use Rattle.law_complex.proofs.Cones.{label-germ, near-germ}
-use Rattle.law_complex.proofs.Ways.{between-way, between-start, between-ends, same-itself}
+use Rattle.law_complex.specs.Skeleton.{IsFacetPoint, Spot, at_vertex, on_edge, in_facet, IsSpot, IsSkeletonPoint}
+use Rattle.law_complex.specs.Belongs.{SpotMark, ItemLabel, Towards, Belongs, on_skeleton, off_skeleton}
+use Rattle.law_complex.proofs.Cones.{label-germ}
+use Rattle.law_complex.proofs.Ways.{between-way}
 use Rattle.law_complex.proofs.Edges.{near_point, near-between, edge-points}
 use Rattle.law_complex.proofs.Joining.{edges-complete}
 

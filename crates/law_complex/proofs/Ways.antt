@@ -11,7 +11,6 @@ use Rattle.law_forms.proofs.Between.{from-start, place-factor, factor-place}
 use Rattle.law_forms.proofs.Sums.{same-trans, past-mixed, before-at-after}
 use Rattle.law_forms.proofs.Directions.{same-factor, factor-same, direction-left, direction-right}
 use Rattle.law_near.proofs.Between.{mixed-of, between-of, between-turned, between-inner}
-use Rattle.law_near.proofs.Rays.{same-place_sym}
 use Rattle.law_sphere.proofs.Compare.{SameDirection-turned, SameDirection-trans}
 
 -- from p the point u between p and q lies in the direction of q

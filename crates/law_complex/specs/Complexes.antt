@@ -1,5 +1,5 @@
 -- Complexes: vertices with their sphere maps, edges, and the planes that the set was made of.
-use Rattle.std.specs.Prelude.{◌≡◌, ℕ, ◌<◌, pos, List, [], ◌∷◌, ◌⊎◌}
+use Rattle.std.specs.Prelude.{◌≡◌, ℕ, ◌<◌, pos, List, [], ◌∷◌}
 use Rattle.nef_space.specs.Numbers.{IsBelow}
 use Rattle.nef_space.specs.Place.{Place, Form, IsAhead, IsBetween}
 use Rattle.nef_space.specs.Vectors.{IsOpposite}

@@ -1,17 +1,17 @@
 -- What is proved of complexes that show a set, each as one statement that a function's contract cites.
 use Rattle.std.specs.Prelude.{◌≡◌, ℕ, pos, ◌⊎◌, ◌↔◌}
-use Rattle.law_arithmetic.specs.Signs.{sign, Lies}
-use Rattle.nef_space.specs.Place.{Place, Form, form_at, normal_of, slope, SamePlace, InFrame, InClosedFrame, toward, IsBetween}
-use Rattle.nef_space.specs.Vectors.{Vector, IsDirection, IsNormal, IsZero, cross, dot, opposite, SameDirection, IsOpposite, plane_axis}
+use Rattle.law_arithmetic.specs.Signs.{sign}
+use Rattle.nef_space.specs.Place.{Place, Form, form_at, normal_of, slope, SamePlace, InFrame, toward, IsBetween}
+use Rattle.nef_space.specs.Vectors.{Vector, IsDirection, IsNormal, IsZero, cross, dot, opposite}
 use Rattle.nef_space.specs.Sets.{Set, Holds}
 use Rattle.nef_space.specs.declared.label.Label.{Label}
 use Rattle.nef_space.specs.Local.{HasLabel, Germ, Flat, FlatDim, IsVertex}
-use Rattle.law_sphere.specs.Maps.{At, Item, item_normal, item_pos, item_mark, item_neg, dir_of, MapLabel, NearLabel}
+use Rattle.law_sphere.specs.Maps.{At, Item, item_normal, item_pos, item_mark, item_neg, dir_of, NearLabel}
 use Rattle.law_sphere.specs.Least.{by_side}
 use Rattle.law_complex.specs.Complexes.{Vertex, Edge, Complex, Corner, HasEnds, IsCorner}
 use Rattle.law_complex.specs.Shows.{Shows}
-use Rattle.law_complex.specs.Skeleton.{IsVertexPoint, IsEdgePoint, IsFacetPoint, Spot, IsSpot, IsSkeletonPoint, PlaneMeet, Meets, IsFirstInPlane, IsCornerAt, HasCorner}
-use Rattle.law_complex.specs.Belongs.{SpotMark, Towards, SeesSpot, Belongs}
+use Rattle.law_complex.specs.Skeleton.{IsEdgePoint, IsFacetPoint, Spot, IsSpot, IsSkeletonPoint, PlaneMeet, Meets, IsFirstInPlane, IsCornerAt, HasCorner}
+use Rattle.law_complex.specs.Belongs.{SpotMark, Towards, Belongs}
 
 -- ---- edges
 -- on an edge one direction is flat, that of the edge; the label is the edge's mark, and the germs are those near the svertex of its lower end

@@ -2,7 +2,7 @@
 use Rattle.std.specs.Prelude.{◌≡◌, ℕ, pos, ◌<ℤ◌, ◌⊎◌}
 use Rattle.nef_space.specs.Place.{Place, Form, form_at, normal_of, plane_through, SamePlace, toward, IsAhead, IsBetween}
 use Rattle.nef_space.specs.Vectors.{Vector, opposite, triple, SameDirection, plane_axis}
-use Rattle.law_sphere.specs.Maps.{At, Arc, Item, items, item_normal, OnItem, dir_of}
+use Rattle.law_sphere.specs.Maps.{At, Arc, Item, item_normal, OnItem, dir_of}
 use Rattle.law_complex.specs.Complexes.{Vertex, Edge, Complex, Corner, HasEnds, IsCorner}
 
 -- the form of the plane of an item

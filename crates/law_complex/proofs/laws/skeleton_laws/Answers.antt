@@ -1,4 +1,3 @@
-use Rattle.std.proofs.Common.{ℕ}
 use Rattle.nef_space.specs.Sets.{Set}
 use Rattle.law_complex.specs.Complexes.{Complex}
 use Rattle.law_complex.specs.Shows.{Shows}
