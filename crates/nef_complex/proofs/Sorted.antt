@@ -1,47 +1,34 @@
 -- Searching sorted vertices.
-use Rattle.std.proofs.Common.{◌≡◌, ℕ, zero, suc, ◌<◌, ◌≤◌, arith, refl, sym, subst, ⊎_elim, List, [], ◌∷◌, length, map, slice_index_or, Ok, Err, Result, IfOk, IfErr, HoldsAt}
+use Rattle.std.proofs.Common.{◌≡◌, ℕ, zero, suc, ◌<◌, ◌≤◌, arith, refl, sym, subst, ⊎_elim, List, [], ◌∷◌, length, map, Ok, Err, Result, IfOk, IfErr, HoldsAt}
 use Rattle.std.proofs.lemmas.Bool.{cases_lt}
-use Rattle.std.proofs.lemmas.Option.{slice_get-get_or, get_or_from_slice_get, slice_get_within}
+use Rattle.std.proofs.lemmas.List.Sorted.{searchable_from_sorted}
+use Rattle.std.proofs.lemmas.Option.{get_or_from_slice_get, slice_get_within}
 use Rattle.std.specs.Ordering.{ordering_index}
 use Rattle.std.specs.List.Sorted.{IsBinarySearchResult, IsNonDecreasingBy, IsSearchInRange}
 use Rattle.std.specs.declared.cmp.Ordering.{Ordering}
 use Rattle.std.specs.declared.cmp.Ordering.TheVariants.{Less, Equal, Greater}
 use Rattle.nef_space.specs.Lists.{IsAt}
-use Rattle.nef_space.specs.Place.{Place, SamePlace, IsPlaceBelow}
+use Rattle.nef_space.specs.Place.{SamePlace, IsPlaceBelow}
 use Rattle.nef_geo.specs.Shapes.{place_of}
 use Rattle.nef_geo.specs.declared.point.Point.{Point}
 use Rattle.law_near.proofs.Rays.{same-place_sym}
-use Rattle.law_near.proofs.PlaceOrder.{place_below-trans, place_below-same, place_below-apart}
+use Rattle.law_near.proofs.PlaceOrder.{place_below-apart}
 use Rattle.law_sphere.specs.Maps.{At}
 use Rattle.law_complex.specs.Complexes.{Vertex as PlainVertex}
+use Rattle.nef_smap.proofs.SortedOnce.{sorted-from_order}
 use Rattle.nef_complex.specs.declared.complex.Vertex.{Vertex}
 use Rattle.nef_complex.specs.Complexes.{vertex_of, AreSorted, AreBelow, AreAbove}
-use Rattle.nef_complex.proofs.Order.{IsOrder, one-way, place_order, place-ordered, as-ordered}
+use Rattle.nef_complex.proofs.Order.{one-order, place_order, as-ordered, point_order, point-ordered, point_total}
 
 -- how a vertex stands to the point
 abbrev pub order_to : Point → Vertex → Ordering
 order_to p v = place_order (place_of v.point) (place_of p)
 
 -- it rises along sorted vertices
-rises : (u v p : Place) (k l : Ordering) → IsPlaceBelow u v → IsOrder u p k → IsOrder v p l → ordering_index k ≤ ordering_index l
-rises u v p Less l b h g = omega arith
-rises u v p Equal Less b h g = absurd (place_below-apart u p (place_below-trans u v p b g) h)
-rises u v p Equal Equal b h g = omega arith
-rises u v p Equal Greater b h g = omega arith
-rises u v p Greater Less b h g = absurd (one-way u p (place_below-trans u v p b g) h)
-rises u v p Greater Equal b h g = absurd (one-way u p (place_below-same u v p b g) h)
-rises u v p Greater Greater b h g = omega arith
-
 rising : (vs : List Vertex) (p : Point) → AreSorted vs → IsNonDecreasingBy (λ v. ordering_index (order_to p v)) vs
-rising vs p sorted i j d le lt =
-    let u = slice_index_or vs i d in
-    let v = slice_index_or vs j d in
-    ⊎_elim
-    (λ l. rises (place_of u.point) (place_of v.point) (place_of p) (order_to p u) (order_to p v)
-    (sorted i j u v l (slice_get-get_or vs i d (omega arith)) (slice_get-get_or vs j d lt))
-    (place-ordered (place_of u.point) (place_of p)) (place-ordered (place_of v.point) (place_of p)))
-    (λ l. let e : i ≡ j = omega arith in subst (λ (k : ℕ). ordering_index (order_to p u) ≤ ordering_index (order_to p (slice_index_or vs k d))) e (omega arith))
-    (cases_lt i j)
+rising vs p sorted = searchable_from_sorted point_total (λ (v : Vertex). v.point) vs p
+    (sorted-from_order (λ u v. point_order u.point v.point) (λ u v. IsPlaceBelow (place_of u.point) (place_of v.point))
+    (λ u v b. one-order (place_of v.point) (place_of u.point) (point_order v.point u.point) Greater (point-ordered v.point u.point) b) vs sorted)
 
 at-point : (vs : List Vertex) (k : ℕ) (p : Point) → k < length vs → HoldsAt (λ v. order_to p v ≡ Equal) vs k → (x : PlainVertex) × At (map vertex_of vs) k x × SamePlace x.point (place_of p)
 at-point [] k p l h = absurd (omega arith)

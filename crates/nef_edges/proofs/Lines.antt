@@ -16,7 +16,7 @@ use Rattle.nef_space.specs.Numbers.{IsBelow}
 use Rattle.nef_geo.specs.Shapes.{place_of, vector_of}
 use Rattle.nef_geo.specs.declared.dir.Dir.{Dir}
 use Rattle.nef_geo.specs.declared.point.Point.{Point}
-use Rattle.nef_geo.proofs.Orders.{dir-ordered}
+use Rattle.nef_geo.proofs.Orders.{dir_total, dir-ordered}
 use Rattle.nef_geo.proofs.Places.{pos_size}
 use Rattle.nef_edges.specs.declared.half.Half.{Half}
 use Rattle.nef_edges.specs.declared.moment.Cell.{Cell}
@@ -64,9 +64,6 @@ module _ (part : Half → ℤ) where
     congr = λ a b c p. cmp-by_sign (part a *ℤ c.point.w) (part c *ℤ a.point.w) (part b *ℤ c.point.w) (part c *ℤ b.point.w)
         (fraction-alike (part a) a.point.w (part c) c.point.w (part b) b.point.w a.point.proper b.point.proper (cmp-is (part a *ℤ b.point.w) (part b *ℤ a.point.w) Equal p));
   }
-
-dir_total : IsTotalOrder dir_order
-dir_total = then_total (on_total (λ (d : Dir). d.x) int_cmp_total) (then_total (on_total (λ (d : Dir). d.y) int_cmp_total) (on_total (λ (d : Dir). d.z) int_cmp_total))
 
 moment_total : IsTotalOrder moment_order
 moment_total = then_total (then_total (ratio_total (λ h. (moment_of h).x)) (ratio_total (λ h. (moment_of h).y))) (ratio_total (λ h. (moment_of h).z))

@@ -1,9 +1,9 @@
--- The order of points, coordinate by coordinate.
+-- The orders of points, directions and planes, number by number; the last two are total.
 use Rattle.std.proofs.Common.{◌≡◌, ◌≤◌, ℤ, pos, ◌*ℤ◌, ◌<ℤ◌, nat_abs, List, [], ◌∷◌, inl, inr, arith, ap, sym, subst, ◌∙◌, w64, to_z, of_z}
 use Rattle.std.proofs.Common.{Ordering, Less, Equal, Greater}
-use Rattle.std.specs.Cmp.{int_ranks}
+use Rattle.std.specs.Cmp.{IsTotalOrder, int_ranks}
 use Rattle.std.specs.Ordering.{MatchOrdering, int_cmp, ordering_then}
-use Rattle.std.proofs.lemmas.Cmp.{int_ranked}
+use Rattle.std.proofs.lemmas.Cmp.{int_ranked, int_cmp_total, on_total, then_total}
 use Rattle.nef_space.specs.Limits.{point_limit, weight_limit}
 use Rattle.nef_space.specs.Numbers.{IsBelow}
 use Rattle.nef_space.specs.Place.{Place, form_numbers, SamePlace, IsPlaceBelow}
@@ -73,6 +73,9 @@ dir-equal a b e =
 abbrev pub dir_order : Dir → Dir → Ordering
 dir_order a b = ordering_then (int_cmp a.x b.x) (ordering_then (int_cmp a.y b.y) (int_cmp a.z b.z))
 
+pub dir_total : IsTotalOrder dir_order
+dir_total = then_total (on_total (λ (d : Dir). d.x) int_cmp_total) (then_total (on_total (λ (d : Dir). d.y) int_cmp_total) (on_total (λ (d : Dir). d.z) int_cmp_total))
+
 pub dir-ordered : (a b : Dir) (o : Ordering) → o ≡ dir_order a b → MatchOrdering o (IsBelow (triple_of (vector_of a)) (triple_of (vector_of b))) (a ≡ b) (IsBelow (triple_of (vector_of b)) (triple_of (vector_of a)))
 dir-ordered a b o e =
     order-map (a ≡ b) o (triple_of (vector_of a)) (triple_of (vector_of b)) (dir-equal a b)
@@ -86,7 +89,14 @@ plane-equal g h e =
 abbrev pub plane_order : Plane → Plane → Ordering
 plane_order g h = ordering_then (int_cmp g.a h.a) (ordering_then (int_cmp g.b h.b) (ordering_then (int_cmp g.c h.c) (int_cmp g.d h.d)))
 
-pub plane-ordered : (g h : Plane) (o : Ordering) → o ≡ plane_order g h → MatchOrdering o (IsBelow (form_numbers (form_of g)) (form_numbers (form_of h))) (g ≡ h) (IsBelow (form_numbers (form_of h)) (form_numbers (form_of g)))
+pub plane_total : IsTotalOrder plane_order
+plane_total = then_total (on_total (λ (h : Plane). h.a) int_cmp_total) (then_total (on_total (λ (h : Plane). h.b) int_cmp_total) (then_total (on_total (λ (h : Plane). h.c) int_cmp_total) (on_total (λ (h : Plane). h.d) int_cmp_total)))
+
+-- the plane g comes before h
+abbrev pub IsPlaneBelow : Plane → Plane → Type 0
+IsPlaneBelow g h = IsBelow (form_numbers (form_of g)) (form_numbers (form_of h))
+
+pub plane-ordered : (g h : Plane) (o : Ordering) → o ≡ plane_order g h → MatchOrdering o (IsPlaneBelow g h) (g ≡ h) (IsPlaneBelow h g)
 plane-ordered g h o e =
     order-map (g ≡ h) o (form_numbers (form_of g)) (form_numbers (form_of h)) (plane-equal g h)
     (subst (λ (k : Ordering). IsListOrder k (form_numbers (form_of g)) (form_numbers (form_of h))) (sym e)

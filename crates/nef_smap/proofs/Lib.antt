@@ -28,6 +28,7 @@ pub mod Joining
 pub mod LinkLists
 pub mod LargeNumbers
 pub mod Lists
+pub mod SortedOnce
 pub mod Primitive
 pub mod WellFormed
 pub mod SimpleMaps

@@ -3,31 +3,22 @@ use Rattle.std.proofs.Common.{◌≡◌, List, Ordering, Less, Equal, Greater, i
 use Rattle.std.specs.Ordering.{MatchOrdering}
 use Rattle.std.specs.Cmp.{IsTotalOrder}
 use Rattle.std.specs.List.Sorted.{IsPermutation, IsSorted}
-use Rattle.std.proofs.lemmas.Cmp.{int_cmp_total, on_total, then_total, tied_itself}
+use Rattle.std.proofs.lemmas.Cmp.{on_total, tied_itself}
 use Rattle.nef_space.specs.Numbers.{IsBelow}
-use Rattle.nef_space.specs.Place.{form_numbers}
 use Rattle.nef_space.specs.Vectors.{Vector, triple_of}
-use Rattle.nef_geo.specs.Shapes.{form_of, place_of, vector_of}
-use Rattle.nef_geo.specs.declared.dir.Dir.{Dir}
+use Rattle.nef_geo.specs.Shapes.{place_of, vector_of}
 use Rattle.nef_geo.specs.declared.plane.Plane.{Plane}
-use Rattle.nef_geo.proofs.Orders.{plane_order, plane-ordered, dir_order, dir-ordered}
+use Rattle.nef_geo.proofs.Orders.{plane_order, plane_total, plane-ordered, IsPlaneBelow, dir_order, dir_total, dir-ordered}
 use Rattle.law_sphere.specs.Vectors.{VectorBelow}
 use Rattle.law_sphere.specs.Least.{InOrder}
 use Rattle.nef_complex.specs.declared.complex.Vertex.{Vertex}
-use Rattle.nef_complex.proofs.Order.{one-order}
-use Rattle.nef_cand.proofs.Order.{point_order, point-ordered, point_total}
+use Rattle.nef_complex.proofs.Order.{one-order, point_order, point-ordered, point_total}
 use Rattle.nef_turn.specs.declared.moved.Moved.{Moved}
 use Rattle.nef_turn.specs.Images.{AreApart}
 use Rattle.nef_turn.specs.Turning.{IsMovedBelow, HaveSameWay, IsVertexBelow, AreAtOnePlace}
 use Rattle.nef_turn.proofs.Sorting.{sorted-in_order, still-apart}
 
 -- ---- planes
-plane_total : IsTotalOrder plane_order
-plane_total = then_total (on_total (λ (h : Plane). h.a) int_cmp_total) (then_total (on_total (λ (h : Plane). h.b) int_cmp_total) (then_total (on_total (λ (h : Plane). h.c) int_cmp_total) (on_total (λ (h : Plane). h.d) int_cmp_total)))
-
-abbrev pub IsPlaneBelow : Plane → Plane → Type 0
-IsPlaneBelow g h = IsBelow (form_numbers (form_of g)) (form_numbers (form_of h))
-
 abbrev pub IsOnePlane : Plane → Plane → Type 0
 IsOnePlane g h = g ≡ h
 
@@ -38,9 +29,6 @@ planes-in_order = sorted-in_order plane_order plane_total IsPlaneBelow IsOnePlan
 -- ---- directions
 abbrev pub moved_order : Moved → Moved → Ordering
 moved_order u w = dir_order u.svertex.dir w.svertex.dir
-
-dir_total : IsTotalOrder dir_order
-dir_total = then_total (on_total (λ (d : Dir). d.x) int_cmp_total) (then_total (on_total (λ (d : Dir). d.y) int_cmp_total) (on_total (λ (d : Dir). d.z) int_cmp_total))
 
 moved_total : IsTotalOrder moved_order
 moved_total = on_total (λ (u : Moved). u.svertex.dir) dir_total

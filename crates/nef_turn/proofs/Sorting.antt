@@ -1,15 +1,16 @@
 -- What is apart in an order stands in order once it is sorted.
-use Rattle.std.proofs.Common.{◌≡◌, ℕ, zero, suc, List, [], ◌∷◌, get_or, Bool, false, Ordering, Less, Equal, Greater, arith, refl, sym, ap, subst, ◌∙◌}
-use Rattle.std.specs.List.{IsDistinct, AllByRecursion}
+use Rattle.std.proofs.Common.{◌≡◌, ℕ, ◌<◌, ⊎_elim, List, get_or, Bool, false, Ordering, Less, Equal, Greater, arith, refl, sym, ap, subst, ◌∙◌}
+use Rattle.std.specs.List.{IsDistinct}
 use Rattle.std.specs.List.Sorted.{IsPermutation, IsSorted}
 use Rattle.std.specs.Ordering.{MatchOrdering, ordering_reverse, is_lt, is_eq}
 use Rattle.std.specs.Cmp.{IsTotalOrder}
-use Rattle.std.proofs.lemmas.Bool.{false≢true}
+use Rattle.std.proofs.lemmas.Bool.{cases_order, false≢true}
 use Rattle.std.proofs.lemmas.List.Sorted.{ranks_by, sorted_far, Contains-permutation, IsPermutation-sym}
-use Rattle.std.proofs.lemmas.Map.Keys.{IsDistinct-head, IsDistinct-tail, IsDistinct-cons, IsDistinct-IsPermutation}
+use Rattle.std.proofs.lemmas.Map.Keys.{IsDistinct-from_apart, IsDistinct-IsPermutation, apart_from_distinct}
 use Rattle.law_sphere.specs.Maps.{At}
 use Rattle.law_sphere.specs.Least.{InOrder}
 use Rattle.nef_smap.proofs.Lists.{at-within, at-get, get-at}
+use Rattle.nef_smap.proofs.SortedOnce.{both-at}
 use Rattle.nef_turn.specs.Images.{AreApart}
 
 -- ---- what is moved stays listed
@@ -19,19 +20,6 @@ module _ {A : Type 0} (xs ys : List A) (moved : IsPermutation xs ys) where
 
   pub still-listed : (j : ℕ) (x : A) → At xs j x → (k : ℕ) × At ys k x
   still-listed j x a = let c = Contains-permutation xs ys x moved (j, at-within xs j x a, at-get xs j x x a) in (c.0, subst (At ys c.0) c.2 (get-at ys c.0 x c.1))
-
-all-listed : {A : Type 0} (P : A → Type 0) (xs : List A) → ((k : ℕ) (x : A) → At xs k x → P x) → AllByRecursion P xs
-all-listed P [] h = tt
-all-listed P (x ∷ xs) h = (h 0 x refl, all-listed P xs (λ k y a. h (suc k) y a))
-
-listed-all : {A : Type 0} (P : A → Type 0) (xs : List A) → AllByRecursion P xs → (k : ℕ) (x : A) → At xs k x → P x
-listed-all P [] h k x a = absurd a
-listed-all P (y ∷ xs) h zero x a = subst P a h.0
-listed-all P (y ∷ xs) h (suc k) x a = listed-all P xs h.1 k x a
-
-none : {A : Type 0} (e : A → A → Bool) → IsDistinct e []
-unfolding IsDistinct
-none e = tt
 
 module _ {A : Type 0} (order : A → A → Ordering) (total : IsTotalOrder order) (Below Same : A → A → Type 0) (ranks : (a b : A) → MatchOrdering (order a b) (Below a b) (Same a b) (Below b a)) (equal : (a b : A) → Same a b → order a b ≡ Equal) where
   abbrev eq : A → A → Bool
@@ -68,17 +56,14 @@ module _ {A : Type 0} (order : A → A → Ordering) (total : IsTotalOrder order
       by Greater f m = let e : Greater ≡ Equal = sym f ∙ is in cc
 
   distinct : (xs : List A) → AreApart Same xs → IsDistinct eq xs
-  distinct [] h = none eq
-  distinct (x ∷ xs) h =
-      IsDistinct-cons eq x xs (all-listed (λ y. eq x y ≡ false) xs (λ k y a. not-equal x y (λ t. let e : 0 ≡ suc k = h 0 (suc k) x y refl a t in omega (arith, e))))
-      (distinct xs (λ j k a b l r t. let e : suc j ≡ suc k = h (suc j) (suc k) a b l r t in omega (arith, e)))
+  distinct xs h = IsDistinct-from_apart eq xs (λ j k d l m. not-equal (get_or xs j d) (get_or xs k d)
+      (λ t. let e : j ≡ k = h j k (get_or xs j d) (get_or xs k d) (get-at xs j d (omega arith)) (get-at xs k d m) t in omega (arith, e, l)))
 
   apart : (xs : List A) → IsDistinct eq xs → AreApart Same xs
-  apart [] h j k a b l r t = absurd l
-  apart (x ∷ xs) h zero zero a b l r t = refl
-  apart (x ∷ xs) h zero (suc k) a b l r t = absurd (same-tests x b (subst (λ y. Same y b) (sym l) t) (listed-all (λ y. eq x y ≡ false) xs (IsDistinct-head eq x xs h) k b r))
-  apart (x ∷ xs) h (suc j) zero a b l r t = absurd (same-tests x a (turned-same a x (subst (λ y. Same a y) (sym r) t)) (listed-all (λ y. eq x y ≡ false) xs (IsDistinct-head eq x xs h) j a l))
-  apart (x ∷ xs) h (suc j) (suc k) a b l r t = ap suc (apart xs (IsDistinct-tail eq x xs h) j k a b l r t)
+  apart xs h j k a b l r t = ⊎_elim (λ e. e) (λ d. absurd (⊎_elim (λ m. differ j k a b m l r t) (λ m. differ k j b a m r l (turned-same a b t)) d)) (cases_order j k)
+    where
+      differ : (j k : ℕ) (a b : A) → j < k → At xs j a → At xs k b → Same a b → ⊥
+      differ j k a b m l r t = same-tests a b t (both-at (λ v w. eq v w ≡ false) xs j k a b l r (λ d. apart_from_distinct eq xs j k d h m (at-within xs k b r)))
 
   pub still-apart : (xs ys : List A) → IsPermutation xs ys → AreApart Same xs → AreApart Same ys
   still-apart xs ys moved h = apart ys (IsDistinct-IsPermutation eq flips xs ys moved (distinct xs h))
@@ -86,11 +71,9 @@ module _ {A : Type 0} (order : A → A → Ordering) (total : IsTotalOrder order
   pub sorted-in_order : (xs ys : List A) → IsPermutation xs ys → AreApart Same xs → IsSorted order ys → InOrder Below ys
   sorted-in_order xs ys moved h s i k x y l a b = by (order y x) (ranks y x) test
     where
-      far : is_lt (order (get_or ys k x) (get_or ys i x)) ≡ false
-      far = sorted_far (λ a b. is_lt (order a b)) (ranks_by total (λ (a : A). a)) ys s i k x (omega (arith, l)) (at-within ys k y b)
-
       test : is_lt (order y x) ≡ false
-      test = ap (λ z. is_lt (order z x)) (sym (at-get ys k y x b)) ∙ ap (λ z. is_lt (order (get_or ys k x) z)) (sym (at-get ys i x x a)) ∙ far
+      test = both-at (λ v w. is_lt (order w v) ≡ false) ys i k x y a b
+          (λ d. sorted_far (λ a b. is_lt (order a b)) (ranks_by total (λ (a : A). a)) ys s i k d (omega (arith, l)) (at-within ys k y b))
 
       by : (o : Ordering) → MatchOrdering o (Below y x) (Same y x) (Below x y) → is_lt o ≡ false → Below x y
       by Less m t = absurd (false≢true (sym t))

@@ -1,0 +1,57 @@
+-- What is sorted by a total order and kept once stands in order, and what stands in order is sorted.
+use Rattle.std.proofs.Common.{◌≡◌, ℕ, ◌<◌, ◌+◌, List, get_or, Bool, true, false, Ordering, Less, Equal, Greater, arith, refl, sym, ap, subst}
+use Rattle.std.specs.Cmp.{IsTotalOrder, IsEquivalence}
+use Rattle.std.specs.List.{Contains, dedup}
+use Rattle.std.specs.List.Sorted.{IsSorted, IsPermutation}
+use Rattle.std.specs.Ordering.{eq_by_cmp, is_eq, is_lt}
+use Rattle.std.proofs.lemmas.Cmp.{tied_itself}
+use Rattle.std.proofs.lemmas.List.Kept.{Contains-dedup, Contains-from_dedup, IsStrictlySortedBy-dedup}
+use Rattle.std.proofs.lemmas.List.Sorted.{Contains-permutation, IsPermutation-sym}
+use Rattle.std.proofs.lemmas.Map.Keys.{Less-from_sorted}
+use Rattle.std.proofs.lemmas.Option.{slice_get-get_or}
+use Rattle.nef_space.specs.Lists.{IsAt}
+use Rattle.law_sphere.specs.Least.{InOrder}
+use Rattle.law_sphere.specs.Maps.{At}
+use Rattle.nef_smap.proofs.Lists.{at-within, at-get}
+
+-- what holds of the elements that are read at two places holds of those that stand there
+pub both-at : {A : Type 0} (P : A → A → Type 0) (xs : List A) (i k : ℕ) (x y : A) → At xs i x → At xs k y → ((d : A) → P (get_or xs i d) (get_or xs k d)) → P x y
+both-at P xs i k x y a b h = subst (P x) (at-get xs k y x b) (subst (λ z. P z (get_or xs k x)) (at-get xs i x x a) (h x))
+
+-- ---- a test for equality
+one_test : (b c : Bool) → (b ≡ true → c ≡ true) → (c ≡ true → b ≡ true) → b ≡ c
+one_test true c f g = sym (f refl)
+one_test false true f g = g refl
+one_test false false f g = refl
+
+is_equal : (o : Ordering) → is_eq o ≡ true → o ≡ Equal
+is_equal Less h = cc
+is_equal Equal h = refl
+is_equal Greater h = cc
+
+-- where both the test and the order tell one element from another, the test passes just what ties
+pub ties-from : {A : Type 0} {order : A → A → Ordering} (total : IsTotalOrder order) {test : A → A → Bool} (equivalence : IsEquivalence test)
+    → ((x y : A) → test x y ≡ true → x ≡ y) → ((x y : A) → order x y ≡ Equal → x ≡ y) → (x y : A) → test x y ≡ eq_by_cmp order x y
+ties-from {order = order} total {test = test} equivalence tested tied x y = one_test (test x y) (eq_by_cmp order x y)
+    (λ h. ap is_eq (subst (λ z. order x z ≡ Equal) (tested x y h) (tied_itself total x)))
+    (λ h. subst (λ z. test x z ≡ true) (tied x y (is_equal (order x y) h)) (equivalence.refl x))
+
+-- ---- sorted, each once
+pub once-in_order : {A : Type 0} {order : A → A → Ordering} (total : IsTotalOrder order) {test : A → A → Bool} (ties : (x y : A) → test x y ≡ eq_by_cmp order x y)
+    (Below : A → A → Type 0) → ((x y : A) → order x y ≡ Less → Below x y) → (xs : List A) → IsSorted order xs → InOrder Below (dedup test xs)
+once-in_order {order = order} total {test = test} ties Below less xs sorted i k x y l a b =
+    let once = dedup test xs in
+    less x y (both-at (λ v w. order v w ≡ Less) once i k x y a b (λ d. Less-from_sorted order once i k d (IsStrictlySortedBy-dedup total ties xs sorted) l (at-within once k y b)))
+
+pub once-kept : {A : Type 0} {test : A → A → Bool} (equivalence : IsEquivalence test) → ((x y : A) → test x y ≡ true → x ≡ y)
+    → (xs ys : List A) (x : A) → IsPermutation xs ys → Contains xs x → Contains (dedup test ys) x
+once-kept equivalence tested xs ys x moved h = Contains-dedup equivalence tested ys x (Contains-permutation xs ys x moved h)
+
+pub once-only : {A : Type 0} (test : A → A → Bool) (xs ys : List A) (x : A) → IsPermutation xs ys → Contains (dedup test ys) x → Contains xs x
+once-only test xs ys x moved h = Contains-permutation ys xs x (IsPermutation-sym xs ys moved) (Contains-from_dedup test ys x h)
+
+-- ---- the way back
+pub sorted-from_order : {A : Type 0} (order : A → A → Ordering) (Below : A → A → Type 0) → ((x y : A) → Below x y → order y x ≡ Greater)
+    → (xs : List A) → ((i k : ℕ) (x y : A) → i < k → IsAt xs i x → IsAt xs k y → Below x y) → IsSorted order xs
+sorted-from_order order Below later xs ordered k d _ l =
+    ap is_lt (later (get_or xs k d) (get_or xs (k + 1) d) (ordered k (k + 1) (get_or xs k d) (get_or xs (k + 1) d) (omega arith) (slice_get-get_or xs k d (omega arith)) (slice_get-get_or xs (k + 1) d l)))
