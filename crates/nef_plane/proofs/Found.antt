@@ -138,6 +138,3 @@ module _ (s : Set) (c : Complex) (S : Shows s (complex_of c)) (h : Form) (p : Pl
 -- ---- numbers of what is met
 pub vertex-within : (c : Complex) (k : ℕ) (m : PlainMeet) (q : Place) → AtVertexNumber (complex_of c) k m q → k < length c.vertices
 vertex-within c k m q (e, (x, l, o)) = let v = at-map vertex_of c.vertices k x l in at-within c.vertices k v.0 v.1
-
-pub edge-within : (c : Complex) (h : Form) (d : Vector) (k : ℕ) (m : PlainMeet) (q : Place) → AtEdgeNumber (complex_of c) h d k m q → k < length c.edges
-edge-within c h d k m q (o, e, v, w, a, H, b, i, n) = let f = at-map edge_of c.edges k e a in at-within c.edges k f.0 f.1

@@ -22,13 +22,16 @@ use Rattle.nef_classes.proofs.ClassLists.{is-at_one, is-at_within}
 use Rattle.nef_complex.specs.declared.complex.Vertex.{Vertex}
 use Rattle.nef_complex.specs.declared.complex.Edge.{Edge}
 use Rattle.nef_complex.specs.declared.complex.Complex.{Complex}
+use Rattle.nef_complex.specs.declared.complex.PlaneMeet.{PlaneMeet}
 use Rattle.nef_complex.specs.Complexes.{complex_of}
 use Rattle.nef_complex.specs.Index.{LiesOn, EdgeLiesIn, AreNumbersWith}
 use Rattle.nef_complex.proofs.Reading.{got-at}
-use Rattle.nef_plane.specs.Levels.{IsShort, AreShort, AreFar, AreShortBelow, AreFarFrom, IsLevel, IsOffLevel, IsUnparted}
-use Rattle.nef_plane.specs.Meets.{IsParallelToAxis, AtVertexNumber, AtEdgeNumber, sweep_form, IsMissed}
+use Rattle.nef_plane.specs.Levels.{IsShort, AreShort, AreFar, AreShortBelow, AreFarFrom, IsLevel, IsUnparted}
+use Rattle.nef_plane.specs.Ends.{MeetLiesIn, AreEnds}
+use Rattle.nef_plane.specs.Meets.{IsParallelToAxis, AtVertexNumber, AtEdgeNumber, AtMeet, sweep_form, IsMissed}
 use Rattle.nef_plane.specs.declared.level.Level.{Level}
 use Rattle.nef_plane.proofs.Axes.{axis-some}
+use Rattle.nef_plane.proofs.Either.{by-numbers}
 use Rattle.nef_plane.proofs.Found.{vertex-none, edge-none}
 use Rattle.nef_plane.proofs.Listed.{held-vertex}
 use Rattle.nef_plane.proofs.Meeting.{ahead-kept, level-same}
@@ -103,10 +106,10 @@ module _ (s : Set) (c : Complex) (S : Shows s (complex_of c)) (h : Plane) (p : P
   abbrev line : Form
   line = sweep_form (form_of h) p
 
-  pub off-vertex : (n : ℕ) → LiesOn c.vertices (form_of h) n → IsOffLevel x n → IsMissed p d (AtVertexNumber (complex_of c) n)
-  off-vertex n (v, l, o) f = vertex-none s c S p d (axis-some h d A) n v (got-at c.vertices n v l)
+  unparted-vertex : (n : ℕ) → LiesOn c.vertices (form_of h) n → IsUnparted x n n → IsMissed p d (AtVertexNumber (complex_of c) n)
+  unparted-vertex n (v, l, o) f = vertex-none s c S p d (axis-some h d A) n v (got-at c.vertices n v l)
       (λ q w e. absurd (let z = level-same line q (place_of v.point) (same-place_sym (place_of v.point) q e) (ahead-kept h p d A on q w) in
-      ⊎_elim (λ m. let y = L.before n v m l o in omega (arith, ints)) (λ m. L.past n v m l o (omega (arith, ints))) f))
+      ⊎_elim (λ (m, t). let y = L.before n v m l o in omega (arith, ints)) (λ (t, m). L.past n v m l o (omega (arith, ints))) f))
 
   module _ (n : ℕ) (e : Edge) (l : At c.edges n e) (u v : Vertex) (i : IsAt c.vertices e.low u) (j : IsAt c.vertices e.high v) (on_u : form_at (form_of h) (place_of u.point) ≡ pos 0) (on_v : form_at (form_of h) (place_of v.point) ≡ pos 0) where
     never : (q : Place) → IsAhead p d q → IsBetween (place_of u.point) q (place_of v.point) → IsUnparted x e.low e.high → ⊥
@@ -120,7 +123,14 @@ module _ (s : Set) (c : Complex) (S : Shows s (complex_of c)) (h : Plane) (p : P
     none-met : IsUnparted x e.low e.high → IsMissed p d (AtEdgeNumber (complex_of c) (form_of h) d n)
     none-met f = edge-none s c S (form_of h) p d (axis-some h d A) n e u v l (got-at c.vertices e.low u i) (got-at c.vertices e.high v j) (λ q w m o. absurd (never q w m f))
 
-  pub unparted-edge : (n : ℕ) (e : Edge) → At c.edges n e → EdgeLiesIn c.vertices c.edges (form_of h) n → IsUnparted x e.low e.high → IsMissed p d (AtEdgeNumber (complex_of c) (form_of h) d n)
+  unparted-edge : (n : ℕ) (e : Edge) → At c.edges n e → EdgeLiesIn c.vertices c.edges (form_of h) n → IsUnparted x e.low e.high → IsMissed p d (AtEdgeNumber (complex_of c) (form_of h) d n)
   unparted-edge n e l (f, a, (u, i, o), (v, j, r)) =
       let g = at-one c.edges n f e (got-at c.edges n f a) l in
       none-met n e l u v (subst (λ (r : Edge). IsAt c.vertices r.low u) g i) (subst (λ (r : Edge). IsAt c.vertices r.high v) g j) o r
+
+  -- so it meets neither a vertex nor an edge that the level tells off
+  abbrev pub IsOff : PlaneMeet → ℕ → ℕ → Type 0
+  IsOff m i j = MeetLiesIn c (form_of h) m → IsUnparted x i j → IsMissed p d (AtMeet (complex_of c) (form_of h) d m)
+
+  pub unparted : (m : PlaneMeet) (i j : ℕ) → AreEnds c m i j → IsOff m i j
+  unparted = by-numbers c IsOff unparted-vertex (λ k e l. unparted-edge k e (got-at c.edges k e l))

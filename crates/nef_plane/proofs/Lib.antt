@@ -12,6 +12,7 @@ pub mod Amid
 pub mod Reached
 pub mod Listed
 pub mod Holding
+pub mod Either
 pub mod RayPlanes
 pub mod Ordered
 pub mod Passed

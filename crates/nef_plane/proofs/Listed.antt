@@ -1,5 +1,6 @@
 -- What a ray meets in a plane that holds it lies there.
-use Rattle.std.proofs.Common.{◌≡◌, ℕ, ◌<◌, length, List, pos, sym, subst}
+use Rattle.std.proofs.Common.{◌≡◌, ℕ, ◌<◌, Option, List, pos, sym, subst}
+use Rattle.std.specs.Prelude.{IfSome}
 use Rattle.nef_space.specs.Lists.{IsAt}
 use Rattle.nef_space.specs.Place.{Place, Form, form_at, IsAhead}
 use Rattle.nef_space.specs.Vectors.{Vector, IsDirection}
@@ -7,18 +8,26 @@ use Rattle.nef_geo.specs.Shapes.{place_of}
 use Rattle.law_near.proofs.Rays.{same-place_sym}
 use Rattle.law_sphere.specs.Maps.{At}
 use Rattle.nef_classes.proofs.ClassLists.{is-at_one, is-at_within}
-use Rattle.nef_smap.proofs.Lists.{at-map}
+use Rattle.nef_smap.proofs.Lists.{at-map, at-within}
 use Rattle.nef_smap.proofs.SideLists.{get-from_at}
 use Rattle.law_complex.specs.Complexes.{Vertex as PlainVertex, Edge as PlainEdge}
 use Rattle.law_complex.specs.Skeleton.{PlaneMeet, LiesIn}
 use Rattle.nef_complex.specs.declared.complex.Vertex.{Vertex}
 use Rattle.nef_complex.specs.declared.complex.Edge.{Edge}
 use Rattle.nef_complex.specs.declared.complex.Complex.{Complex}
+use Rattle.nef_complex.specs.declared.complex.PlaneMeet.{PlaneMeet as ProgramMeet}
+use Rattle.nef_complex.specs.declared.complex.PlaneMeet.TheVariants.{AtVertex, AtEdge}
 use Rattle.nef_complex.specs.Complexes.{vertex_of, edge_of, complex_of}
 use Rattle.nef_complex.specs.Index.{LiesOn, EdgeLiesIn}
 use Rattle.nef_complex.specs.Planes.{HoldsBoth}
 use Rattle.nef_complex.proofs.Ends.{vertex-same}
-use Rattle.nef_plane.specs.Meets.{HoldsRay, AtVertexNumber, AtEdgeNumber}
+use Rattle.nef_plane.specs.Asked.{IsNth, meet_at, count_in, AreAskedIn}
+use Rattle.nef_plane.specs.Ends.{HasMeet, MeetLiesIn, IsVertexOrLies}
+use Rattle.nef_plane.specs.Meets.{HoldsRay, AtMeet}
+use Rattle.nef_plane.specs.declared.numbers.Kind.{Kind}
+use Rattle.nef_plane.specs.declared.numbers.Kind.TheVariants.{Vertex as KindVertex, Edge as KindEdge}
+use Rattle.nef_plane.specs.declared.numbers.Numbers.{Numbers}
+use Rattle.nef_plane.proofs.Asking.{asked-held, asked-within}
 use Rattle.nef_plane.proofs.Meeting.{level-same, ahead-level}
 
 -- the vertex with a number that lies on the plane is on it
@@ -50,19 +59,41 @@ module _ (c : Complex) (h : Form) where
         lies f.0.high w (subst (λ (r : PlainEdge). At (complex_of c).vertices r.high w) (sym f.2) H.high) j,
       )
 
-  pub lies-within : (k : ℕ) → LiesOn c.vertices h k → k < length c.vertices
-  lies-within k (v, l, o) = is-at_within c.vertices k v l
+module _ (c : Complex) (h : Form) where
+  pub lies-serves : (m : ProgramMeet) → MeetLiesIn c h m → IsVertexOrLies c h m
+  lies-serves (AtVertex k) (v, l, o) = is-at_within c.vertices k v l
+  lies-serves (AtEdge k) l = l
 
-  pub edge_lies-within : (k : ℕ) → EdgeLiesIn c.vertices c.edges h k → k < length c.edges
-  edge_lies-within k (e, l, i, j) = is-at_within c.edges k e l
+  pub serves-has : (m : ProgramMeet) → IsVertexOrLies c h m → HasMeet c m
+  serves-has (AtVertex k) l = l
+  serves-has (AtEdge k) (e, l, i, j) = is-at_within c.edges k e l
 
--- what a ray meets in a plane that holds it lies there
-module _ (c : Complex) (h : Form) (d : Vector) (k : ℕ) (m : PlaneMeet) (q : Place) where
-  pub met-lies : (p : Place) → IsDirection d → HoldsRay h p d → IsAhead p d q → AtVertexNumber (complex_of c) k m q → LiesOn c.vertices h k
-  met-lies p some (on, z) w (e, (x, l, o)) =
-      let v = at-map vertex_of c.vertices k x l in
-      let s = same-place_sym (place_of v.0.point) q (vertex-same c k v.0 v.1 q (x, l, o)) in
-      (v.0, get-from_at c.vertices k v.0 v.1, level-same h q (place_of v.0.point) s (ahead-level h p d q w some on z))
+  -- what a ray meets in a plane that holds it lies there
+  module _ (d : Vector) (n : PlaneMeet) (q : Place) where
+    pub met-serves : (m : ProgramMeet) → AtMeet (complex_of c) h d m n q → IsVertexOrLies c h m
+    met-serves (AtVertex k) (e, (x, l, o)) = let v = at-map vertex_of c.vertices k x l in at-within c.vertices k v.0 v.1
+    met-serves (AtEdge k) (o, e, v, x, a, H, b, (i, j), n) = edge-lies c h k (e, v, x, a, H, i, j)
 
-  pub met-edge_lies : AtEdgeNumber (complex_of c) h d k m q → EdgeLiesIn c.vertices c.edges h k
-  met-edge_lies (o, e, v, x, a, H, b, (i, j), n) = edge-lies c h k (e, v, x, a, H, i, j)
+    pub met-lies : (p : Place) → IsDirection d → HoldsRay h p d → IsAhead p d q → (m : ProgramMeet) → AtMeet (complex_of c) h d m n q → MeetLiesIn c h m
+    met-lies p some (on, z) w (AtVertex k) (e, (x, l, o)) =
+        let v = at-map vertex_of c.vertices k x l in
+        let s = same-place_sym (place_of v.0.point) q (vertex-same c k v.0 v.1 q (x, l, o)) in
+        (v.0, get-from_at c.vertices k v.0 v.1, level-same h q (place_of v.0.point) s (ahead-level h p d q w some on z))
+    met-lies p some H w (AtEdge k) x = met-serves (AtEdge k) x
+
+-- the complex has as many of a kind as there are numbers of such
+pub has-count : (c : Complex) (t : Kind) (k : ℕ) → HasMeet c (meet_at t k) → k < count_in c t
+has-count c KindVertex k l = l
+has-count c KindEdge k l = l
+
+count-has : (c : Complex) (t : Kind) (k : ℕ) → k < count_in c t → HasMeet c (meet_at t k)
+count-has c KindVertex k l = l
+count-has c KindEdge k l = l
+
+-- what is asked is there, and what a guide leads to lies in the plane
+module _ {X : Type 0} (c : Complex) (h : Form) (t : Kind) (g : Option X) (N : Numbers) (A : AreAskedIn c h g t N) (i k : ℕ) (l : IsNth N i k) (m : ProgramMeet) (e : m ≡ meet_at t k) where
+  pub asked-has : HasMeet c m
+  asked-has = subst (HasMeet c) (sym e) (count-has c t k (asked-within (λ k. MeetLiesIn c h (meet_at t k)) (count_in c t) g N A (λ k l. has-count c t k (serves-has c h (meet_at t k) (lies-serves c h (meet_at t k) l))) i k l))
+
+  pub asked-lies : IfSome g (λ x. MeetLiesIn c h m)
+  asked-lies = subst (λ (m : ProgramMeet). IfSome g (λ x. MeetLiesIn c h m)) (sym e) (asked-held (λ k. MeetLiesIn c h (meet_at t k)) (count_in c t) g N A i k l)

@@ -18,13 +18,16 @@ use Rattle.law_complex.specs.Shows.{Shows}
 use Rattle.nef_complex.specs.declared.complex.Vertex.{Vertex}
 use Rattle.nef_complex.specs.declared.complex.Edge.{Edge}
 use Rattle.nef_complex.specs.declared.complex.Complex.{Complex}
+use Rattle.nef_complex.specs.declared.complex.PlaneMeet.{PlaneMeet}
 use Rattle.nef_complex.specs.Complexes.{edge_of, complex_of}
 use Rattle.nef_complex.specs.Index.{LiesOn, EdgeLiesIn}
 use Rattle.nef_complex.proofs.Ends.{listed_edge}
 use Rattle.nef_complex.proofs.Reading.{got-at}
 use Rattle.nef_plane.specs.Courses.{IsOffCourse, IsCourse, IsPassed}
-use Rattle.nef_plane.specs.Meets.{AtVertexNumber, AtEdgeNumber, sweep_axis, sweep_form, IsMissed}
+use Rattle.nef_plane.specs.Ends.{MeetLiesIn, AreEnds}
+use Rattle.nef_plane.specs.Meets.{AtVertexNumber, AtEdgeNumber, AtMeet, sweep_axis, sweep_form, IsMissed}
 use Rattle.nef_plane.specs.declared.course.Course.{Course}
+use Rattle.nef_plane.proofs.Either.{by-numbers}
 use Rattle.nef_plane.proofs.Found.{vertex-none, edge-none}
 use Rattle.nef_plane.proofs.Ordered.{start-level, ahead-past, ahead-before, between-at_most, between-at_least, later-past, later-from}
 use Rattle.nef_plane.proofs.RayPlanes.{beside-vertex, beside-edge}
@@ -108,12 +111,19 @@ module _ (s : Set) (c : Complex) (S : Shows s (complex_of c)) (h : Plane) (P : P
       none-met n e l u v (subst (λ (r : Edge). At c.vertices r.low u) g (got-at c.vertices f.low u i)) (subst (λ (r : Edge). At c.vertices r.high v) g (got-at c.vertices f.high v j)) o r
 
   -- nor does it meet what a plane through it with the course's normal has on one side
-  pub off-vertex : (n : ℕ) → LiesOn c.vertices (form_of h) n → IsOffCourse c.vertices P x n n → IsMissed p d (AtVertexNumber (complex_of c) n)
+  off-vertex : (n : ℕ) → LiesOn c.vertices (form_of h) n → IsOffCourse c.vertices P x n n → IsMissed p d (AtVertexNumber (complex_of c) n)
   off-vertex n (v, l, o) = let a = got-at c.vertices n v l in ⊎_elim (passed-vertex n v a o) (λ f. beside-vertex s c S P d some x.normal n v a K.across (f v v l l))
 
-  pub off-edge : (n : ℕ) (e : Edge) → At c.edges n e → EdgeLiesIn c.vertices c.edges (form_of h) n → IsOffCourse c.vertices P x e.low e.high → IsMissed p d (AtEdgeNumber (complex_of c) (form_of h) d n)
+  off-edge : (n : ℕ) (e : Edge) → At c.edges n e → EdgeLiesIn c.vertices c.edges (form_of h) n → IsOffCourse c.vertices P x e.low e.high → IsMissed p d (AtEdgeNumber (complex_of c) (form_of h) d n)
   off-edge n e l (f, a, (u, i, o), (v, j, r)) =
       let g = at-one c.edges n f e (got-at c.edges n f a) l in
       let i' = subst (λ (r : Edge). IsAt c.vertices r.low u) g i in let j' = subst (λ (r : Edge). IsAt c.vertices r.high v) g j in
       ⊎_elim (passed-edge n e l (f, a, (u, i, o), (v, j, r)))
       (λ t. beside-edge s c S P d some x.normal h n e u v l (got-at c.vertices e.low u i') (got-at c.vertices e.high v j') K.across (t u v i' j'))
+
+  -- so it meets neither a vertex nor an edge that is off the course
+  abbrev pub IsOff : PlaneMeet → ℕ → ℕ → Type 0
+  IsOff m i j = MeetLiesIn c (form_of h) m → IsOffCourse c.vertices P x i j → IsMissed p d (AtMeet (complex_of c) (form_of h) d m)
+
+  pub off-course : (m : PlaneMeet) (i j : ℕ) → AreEnds c m i j → IsOff m i j
+  off-course = by-numbers c IsOff off-vertex (λ k e l. off-edge k e (got-at c.edges k e l))

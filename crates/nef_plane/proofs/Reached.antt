@@ -13,19 +13,24 @@ use Rattle.law_forms.proofs.Between.{between-same}
 use Rattle.law_near.proofs.Rays.{same-place_sym}
 use Rattle.nef_smap.proofs.Lists.{map-at}
 use Rattle.law_complex.specs.Shows.{Shows}
-use Rattle.law_complex.specs.Skeleton.{IsVertexPoint, IsEdgePoint}
+use Rattle.law_complex.specs.Skeleton.{PlaneMeet as PlainMeet, IsVertexPoint, IsEdgePoint}
 use Rattle.law_complex.proofs.Ways.{same-itself}
 use Rattle.nef_complex.specs.declared.complex.Vertex.{Vertex}
 use Rattle.nef_complex.specs.declared.complex.Edge.{Edge}
 use Rattle.nef_complex.specs.declared.complex.Complex.{Complex}
+use Rattle.nef_complex.specs.declared.complex.PlaneMeet.{PlaneMeet}
 use Rattle.nef_complex.specs.declared.complex.PlaneMeet.TheVariants.{AtVertex, AtEdge}
 use Rattle.nef_complex.specs.Complexes.{vertex_of, edge_of, complex_of}
 use Rattle.nef_complex.specs.Planes.{HoldsBoth}
 use Rattle.nef_complex.proofs.Ends.{vertex-same, listed_edge, ends, edge-inside}
 use Rattle.nef_complex.proofs.Lines.{one-crossing}
 use Rattle.nef_complex.proofs.Parted.{held-between}
-use Rattle.nef_plane.specs.Meets.{Reach, reach_of, near_met_of, IsHitThrough, AllHold, IsAcross, IsWithin, AtVertexNumber, AtEdgeNumber, IsNearestMet, IsMissed}
+use Rattle.nef_complex.proofs.Reading.{got-at}
+use Rattle.nef_plane.specs.Ends.{IsVertexOrLies, HasEndsAt}
+use Rattle.nef_plane.specs.Meets.{Reach, reach_of, near_met_of, IsHitThrough, AllHold, IsAcross, IsWithin, AtVertexNumber, AtEdgeNumber, AtMeet, IsMeetPoint, IsNearestMet, IsMissed}
+use Rattle.nef_plane.proofs.Either.{by-ends}
 use Rattle.nef_plane.proofs.Found.{both-same, vertex-some, vertex-none, edge-some, edge-none}
+use Rattle.nef_plane.proofs.Listed.{held-edge}
 use Rattle.nef_plane.proofs.Meeting.{level-same}
 
 -- a plane that holds both points holds what is within
@@ -55,16 +60,16 @@ module _ (s : Set) (c : Complex) (S : Shows s (complex_of c)) (p : Place) (d : V
     y = place_of v.point
 
     -- it isn't met, where no plane through it is crossed
-    pub uncrossed-vertex : ((q : Place) → IsAhead p d q → IsWithin y y q → AllHold c.carriers d y y) → IsMissed p d (AtVertexNumber (complex_of c) k)
+    uncrossed-vertex : ((q : Place) → IsAhead p d q → IsWithin y y q → AllHold c.carriers d y y) → IsMissed p d (AtVertexNumber (complex_of c) k)
     uncrossed-vertex N = vertex-none s c S p d some k v a (λ q w o. N q w (inr (o, o)))
 
     module _ (at : Hit) (T : IsHitThrough p d y y (reach_of at)) where
       -- nor where one is crossed elsewhere
-      pub missed-vertex : (IsVertexPoint (complex_of c) k (hit_place at) → ⊥) → IsMissed p d (AtVertexNumber (complex_of c) k)
+      missed-vertex : (IsVertexPoint (complex_of c) k (hit_place at) → ⊥) → IsMissed p d (AtVertexNumber (complex_of c) k)
       missed-vertex n = vertex-none s c S p d some k v a
           (λ q w o. absurd (n (vertex_of v, map-at vertex_of c.vertices k v a, both-same y (hit_place at) q o (same-place_sym q (hit_place at) (through-one p d y y (reach_of at) T q w (inr (o, o)))))))
 
-      pub reached-vertex : IsVertexPoint (complex_of c) k (hit_place at) → IsNearestMet p d (AtVertexNumber (complex_of c) k) (near_met_of (record { meet = AtVertex k; at = at }))
+      reached-vertex : IsVertexPoint (complex_of c) k (hit_place at) → IsNearestMet p d (AtVertexNumber (complex_of c) k) (near_met_of (record { meet = AtVertex k; at = at }))
       reached-vertex x = vertex-some s c S p d some k v a (near_met_of (record { meet = AtVertex k; at = at })) refl (vertex-same c k v a (hit_place at) x) T.crosses.ahead T.reached
 
   -- ---- an edge
@@ -76,12 +81,12 @@ module _ (s : Set) (c : Complex) (S : Shows s (complex_of c)) (p : Place) (d : V
     high = place_of v.point
 
     -- it isn't met, where no plane through it is crossed
-    pub uncrossed-edge : ((q : Place) → IsAhead p d q → IsWithin low high q → AllHold c.carriers d low high) → IsMissed p d (AtEdgeNumber (complex_of c) (form_of h) d k)
+    uncrossed-edge : ((q : Place) → IsAhead p d q → IsWithin low high q → AllHold c.carriers d low high) → IsMissed p d (AtEdgeNumber (complex_of c) (form_of h) d k)
     uncrossed-edge N = edge-none s c S (form_of h) p d some k e u v l i j (λ q w b H. N q w (inl b))
 
     module _ (at : Hit) (T : IsHitThrough p d low high (reach_of at)) where
       -- nor where one is crossed elsewhere
-      pub missed-edge : (IsEdgePoint (complex_of c) k (hit_place at) → ⊥) → IsMissed p d (AtEdgeNumber (complex_of c) (form_of h) d k)
+      missed-edge : (IsEdgePoint (complex_of c) k (hit_place at) → ⊥) → IsMissed p d (AtEdgeNumber (complex_of c) (form_of h) d k)
       missed-edge n = edge-none s c S (form_of h) p d some k e u v l i j
           (λ q w b H. absurd (n (
             edge_of e,
@@ -92,6 +97,31 @@ module _ (s : Set) (c : Complex) (S : Shows s (complex_of c)) (p : Place) (d : V
             between-same low q high low (hit_place at) high (same-itself low) (through-one p d low high (reach_of at) T q w (inl b)) (same-itself high) b,
           )))
 
-      pub reached-edge : HoldsBoth (form_of h) low high → IsEdgePoint (complex_of c) k (hit_place at) → IsNearestMet p d (AtEdgeNumber (complex_of c) (form_of h) d k) (near_met_of (record { meet = AtEdge k; at = at }))
+      reached-edge : HoldsBoth (form_of h) low high → IsEdgePoint (complex_of c) k (hit_place at) → IsNearestMet p d (AtEdgeNumber (complex_of c) (form_of h) d k) (near_met_of (record { meet = AtEdge k; at = at }))
       reached-edge H x = edge-some s c S (form_of h) p d some k e u v l i j (near_met_of (record { meet = AtEdge k; at = at })) (form_of T.plane) T.holds T.crosses.passes
           (edge-inside s c S k e u v l i j (hit_place at) x) T.crosses.ahead refl H T.reached
+
+  -- ---- either: it isn't met where no plane through its ends is crossed, nor where one is crossed elsewhere
+  module _ (h : Plane) where
+    abbrev AtIt : PlaneMeet → PlainMeet → Place → Type 0
+    AtIt = AtMeet (complex_of c) (form_of h) d
+
+    abbrev pub Uncrossed : PlaneMeet → Vertex → Vertex → Type 0
+    Uncrossed m u v = ((q : Place) → IsAhead p d q → IsWithin (place_of u.point) (place_of v.point) q → AllHold c.carriers d (place_of u.point) (place_of v.point)) → IsMissed p d (AtIt m)
+
+    pub uncrossed : (m : PlaneMeet) (u v : Vertex) → HasEndsAt c m u v → Uncrossed m u v
+    uncrossed = by-ends c Uncrossed (λ k v l. uncrossed-vertex k v (got-at c.vertices k v l)) (λ k e u v l i j. uncrossed-edge h k e u v (got-at c.edges k e l) (got-at c.vertices e.low u i) (got-at c.vertices e.high v j))
+
+    module _ (at : Hit) where
+      abbrev pub Missed : PlaneMeet → Vertex → Vertex → Type 0
+      Missed m u v = IsHitThrough p d (place_of u.point) (place_of v.point) (reach_of at) → (IsMeetPoint (complex_of c) m (hit_place at) → ⊥) → IsMissed p d (AtIt m)
+
+      pub missed : (m : PlaneMeet) (u v : Vertex) → HasEndsAt c m u v → Missed m u v
+      missed = by-ends c Missed (λ k v l. missed-vertex k v (got-at c.vertices k v l) at) (λ k e u v l i j. missed-edge h k e u v (got-at c.edges k e l) (got-at c.vertices e.low u i) (got-at c.vertices e.high v j) at)
+
+      abbrev pub Reached : PlaneMeet → Vertex → Vertex → Type 0
+      Reached m u v = IsHitThrough p d (place_of u.point) (place_of v.point) (reach_of at) → IsVertexOrLies c (form_of h) m → IsMeetPoint (complex_of c) m (hit_place at) → IsNearestMet p d (AtIt m) (near_met_of (record { meet = m; at = at }))
+
+      pub reached : (m : PlaneMeet) (u v : Vertex) → HasEndsAt c m u v → Reached m u v
+      reached = by-ends c Reached (λ k v l T y. reached-vertex k v (got-at c.vertices k v l) at T)
+          (λ k e u v l i j T y. reached-edge h k e u v (got-at c.edges k e l) (got-at c.vertices e.low u i) (got-at c.vertices e.high v j) at T (held-edge c.vertices c.edges (form_of h) k e u v l i j y))

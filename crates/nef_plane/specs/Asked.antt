@@ -1,7 +1,14 @@
 -- The numbers of the vertices, or of the edges, that are asked whether a ray meets them.
 use Rattle.std.specs.Prelude.{◌≡◌, ℕ, ◌<◌, length, Option, Some, None}
 use Rattle.nef_space.specs.Lists.{IsAt}
+use Rattle.nef_space.specs.Place.{Form}
+use Rattle.nef_complex.specs.declared.complex.Complex.{Complex}
+use Rattle.nef_complex.specs.declared.complex.PlaneMeet.{PlaneMeet}
+use Rattle.nef_complex.specs.declared.complex.PlaneMeet.TheVariants.{AtVertex, AtEdge}
 use Rattle.nef_complex.specs.Index.{AreNumbersWith}
+use Rattle.nef_plane.specs.Ends.{MeetLiesIn}
+use Rattle.nef_plane.specs.declared.numbers.Kind.{Kind}
+use Rattle.nef_plane.specs.declared.numbers.Kind.TheVariants.{Vertex, Edge}
 use Rattle.nef_plane.specs.declared.numbers.Numbers.{Numbers}
 use Rattle.nef_plane.specs.declared.numbers.Numbers.TheVariants.{Listed, All}
 
@@ -21,3 +28,17 @@ AreAsked P n (Some x) (Listed ns) = AreNumbersWith P ns.now
 AreAsked P n (Some x) (All m) = ⊥
 AreAsked P n None (Listed ns) = ⊥
 AreAsked P n None (All m) = m ≡ n
+
+-- the vertex or the edge with number k
+abbrev pub meet_at : Kind → ℕ → PlaneMeet
+meet_at Vertex k = AtVertex k
+meet_at Edge k = AtEdge k
+
+-- how many of the kind the complex has
+abbrev pub count_in : Complex → Kind → ℕ
+count_in c Vertex = length c.vertices
+count_in c Edge = length c.edges
+
+-- where there is a guide, they are those of the kind in the plane; or else they are all
+abbrev pub AreAskedIn : {X : Type 0} → Complex → Form → Option X → Kind → Numbers → Type 0
+AreAskedIn c h g t N = AreAsked (λ k. MeetLiesIn c h (meet_at t k)) (count_in c t) g N

@@ -35,10 +35,6 @@ pub record IsLevel (vs : List Vertex) (h : Form) (p : Place) (x : Level) : Type 
   pub not_past : AreShortBelow vs h (sweep_form h p) true x.past
   pub past : AreFarFrom vs h (sweep_form h p) true x.past
 
--- the number is one of those before the line, or past it
-abbrev pub IsOffLevel : Level → ℕ → Type 0
-IsOffLevel x n = (n < x.first) ⊎ (x.past ≤ n)
-
 -- the one number is before the line and the other not past it, or the one not before it and the other past it
 abbrev pub IsUnparted : Level → ℕ → ℕ → Type 0
 IsUnparted x low high = ((low < x.first) × (high < x.past)) ⊎ ((x.first ≤ low) × (x.past ≤ high))

@@ -4,3 +4,4 @@ pub mod Parting
 pub mod Courses
 pub mod Levels
 pub mod Asked
+pub mod Ends

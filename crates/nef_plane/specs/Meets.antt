@@ -13,9 +13,13 @@ use Rattle.nef_geo.specs.declared.plane.Plane.{Plane}
 use Rattle.law_sphere.specs.Maps.{At, MapVertex}
 use Rattle.law_complex.specs.Complexes.{Vertex, Edge, Complex, HasEnds}
 use Rattle.law_complex.specs.Skeleton.{PlaneMeet, meets_vertex, meets_edge, IsVertexPoint, IsEdgePoint, LiesIn}
+use Rattle.nef_complex.specs.declared.complex.PlaneMeet.{PlaneMeet as ProgramMeet}
+use Rattle.nef_complex.specs.declared.complex.PlaneMeet.TheVariants.{AtVertex, AtEdge}
 use Rattle.nef_complex.specs.Complexes.{meet_of}
 use Rattle.nef_complex.specs.Planes.{HoldsBoth}
+use Rattle.nef_plane.specs.Asked.{meet_at}
 use Rattle.nef_plane.specs.declared.met.Met.{Met}
+use Rattle.nef_plane.specs.declared.numbers.Kind.{Kind}
 
 -- the direction is that of the plane's axis, or its opposite
 abbrev pub IsAlongAxis : Form → Vector → Type 0
@@ -112,6 +116,16 @@ abbrev pub AtEdgeNumber : Complex → Form → Vector → ℕ → PlaneMeet → 
 AtEdgeNumber C h d k m q = (m ≡ meets_edge k) × (e : Edge) × (v : Vertex) × (w : Vertex) × At C.edges k e × HasEnds C e v w × IsBetween v.point q w.point
     × HoldsBoth h v.point w.point × (IsZero (cross (toward v.point w.point) d) → ⊥)
 
+-- what the ray meets is at this vertex, or strictly inside this edge
+abbrev pub AtMeet : Complex → Form → Vector → ProgramMeet → PlaneMeet → Place → Type 0
+AtMeet C h d (AtVertex k) m q = AtVertexNumber C k m q
+AtMeet C h d (AtEdge k) m q = AtEdgeNumber C h d k m q
+
+-- the point is this vertex, or lies strictly inside this edge
+abbrev pub IsMeetPoint : Complex → ProgramMeet → Place → Type 0
+IsMeetPoint C (AtVertex k) q = IsVertexPoint C k q
+IsMeetPoint C (AtEdge k) q = IsEdgePoint C k q
+
 -- what is met at some vertex
 abbrev pub AtSomeVertex : Complex → PlaneMeet → Place → Type 0
 AtSomeVertex C m q = (k : ℕ) × AtVertexNumber C k m q
@@ -119,6 +133,10 @@ AtSomeVertex C m q = (k : ℕ) × AtVertexNumber C k m q
 -- or strictly inside some edge in the plane that isn't along the ray
 abbrev pub AtSomeEdge : Complex → Form → Vector → PlaneMeet → Place → Type 0
 AtSomeEdge C h d m q = (k : ℕ) × AtEdgeNumber C h d k m q
+
+-- what is met at some of the kind
+abbrev pub AtSome : Complex → Form → Vector → Kind → PlaneMeet → Place → Type 0
+AtSome C h d t m q = (k : ℕ) × AtMeet C h d (meet_at t k) m q
 
 abbrev pub AtVertexOrEdge : Complex → Form → Vector → PlaneMeet → Place → Type 0
 AtVertexOrEdge C h d m q = AtSomeVertex C m q ⊎ AtSomeEdge C h d m q

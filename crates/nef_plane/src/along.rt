@@ -11,17 +11,19 @@ ghost use Rattle.law_complex.specs.Skeleton.{PlaneMeet as PlainMeet, Meets, IsFi
 ghost use Rattle.nef_complex.specs.Complexes.{complex_of, meet_of, ShowsSet};
 ghost use Rattle.nef_complex.specs.Index.{LiesOn, EdgeLiesIn, AreNumbersWith, AreWithin, AreHolders};
 ghost use Rattle.nef_plane.specs.Courses.{StartsAt, IsCourse, IsOffCourse};
+ghost use Rattle.nef_plane.specs.Ends.{IsVertexOrLies};
 ghost use Rattle.nef_plane.specs.Meets.{HasNoSvertex, FromVertex, HoldsRay, IsHitThrough, AllHold, IsAcross, IsWithin, AtVertexOrEdge, IsNearest, near_met_of, reach_of};
 
 use crate::course::Course;
+use crate::ends::{ends_of, holders_of};
 use crate::first::{PlaneRay, nearest_met};
-use crate::lying::edge_lies_in;
+use crate::lying::is_vertex_or_lies_in;
 use crate::met::Met;
 use crate::numbers::Numbers;
 use crate::parting::may_pass;
-use crate::places::{is_at_vertex, is_on_edge};
+use crate::places::is_at;
 use crate::ray::VertexRay;
-use nef_complex::{Complex, PlaneItems, PlaneMeet, edge_holders, plane_items, vertex_holders};
+use nef_complex::{Complex, PlaneItems, PlaneMeet, plane_items};
 use nef_geo::{Dir, Hit, Plane, Sign, dir_side, ray_hit, side};
 
 fn is_along(g: &Plane, d: &Dir) -> bool
@@ -63,7 +65,7 @@ fn crossed_at(carriers: &[Plane], holders: &[usize], ray: &VertexRay) -> Option<
 
 // Whether the ray may meet something between the vertices with these numbers. The course tells so without a carrier of
 // most vertices and edges of the plane.
-fn may_meet(c: &Complex, ray: &VertexRay, course: &Course, low: usize, high: usize) -> bool
+fn may_meet_between(c: &Complex, ray: &VertexRay, course: &Course, low: usize, high: usize) -> bool
     requires low { low < length c.now.vertices }
     requires high { high < length c.now.vertices }
     ensures off { (IsTrue result → ⊥) → IsOffCourse c.now.vertices ray.now.start.now course.now low high }
@@ -89,46 +91,24 @@ impl PlaneRay for VertexRay<'_> {
 
     ghost guided = { λ r c x. IsCourse c.vertices (form_of r.plane.now) r.start.now (vector_of r.direction.now) x };
 
-    ghost tells = { λ r c k. k < length c.vertices };
+    ghost tells = { λ r c m. IsVertexOrLies c (form_of r.plane.now) m };
 
-    fn vertex_met(&self, c: &Complex, number: usize) -> Option<Met<Hit>> {
-        let at = crossed_at(c.carriers.as_slice(), vertex_holders(c, number), self)?;
-        if is_at_vertex(c, number, &at) {
-            Some(Met {
-                meet: PlaneMeet::AtVertex(number),
-                at,
-            })
+    fn met(&self, c: &Complex, meet: PlaneMeet) -> Option<Met<Hit>> {
+        let at = crossed_at(c.carriers.as_slice(), holders_of(c, meet), self)?;
+        if is_at(c, meet, &at) {
+            Some(Met { meet, at })
         } else {
             None
         }
     }
 
-    fn edge_met(&self, c: &Complex, number: usize) -> Option<Met<Hit>> {
-        let at = crossed_at(c.carriers.as_slice(), edge_holders(c, number), self)?;
-        if is_on_edge(c, number, &at) {
-            Some(Met {
-                meet: PlaneMeet::AtEdge(number),
-                at,
-            })
-        } else {
-            None
-        }
-    }
-
-    fn may_meet_vertex(&self, c: &Complex, course: &Option<Course>, number: usize) -> bool {
-        match course {
-            Some(course) => may_meet(c, self, course, number, number),
-            None => true,
-        }
-    }
-
-    fn may_meet_edge(&self, c: &Complex, course: &Option<Course>, number: usize) -> bool {
+    fn may_meet(&self, c: &Complex, course: &Option<Course>, meet: PlaneMeet) -> bool {
         match course {
             Some(course) => {
-                let edge = c.edges.at(number);
-                may_meet(c, self, course, edge.low, edge.high)
+                let (low, high) = ends_of(c, meet);
+                may_meet_between(c, self, course, low, high)
             }
-            None => edge_lies_in(c, self.plane, number),
+            None => is_vertex_or_lies_in(c, self.plane, meet),
         }
     }
 

@@ -7,7 +7,7 @@ ghost use Rattle.nef_space.specs.Sets.{Set};
 ghost use Rattle.nef_geo.specs.Shapes.{form_of, place_of, hit_place};
 ghost use Rattle.nef_complex.specs.Complexes.{ShowsSet};
 ghost use Rattle.nef_complex.specs.Index.{LiesOn, AreNumbersWith};
-ghost use Rattle.nef_plane.specs.Levels.{IsShort, AreShort, AreFar, AreShortBelow, AreFarFrom, IsLevel, IsUnparted, IsOffLevel};
+ghost use Rattle.nef_plane.specs.Levels.{IsShort, AreShort, AreFar, AreShortBelow, AreFarFrom, IsLevel, IsUnparted};
 ghost use Rattle.nef_plane.specs.Meets.{sweep_form};
 
 use crate::ray::AxisRay;
@@ -81,15 +81,8 @@ impl Level {
         }
     }
 
-    // Whether the vertex of the plane with this number may lie on the line.
-    pub(crate) fn may_hold(&self, number: usize) -> bool
-        ensures off { (IsTrue result → ⊥) → IsOffLevel self.now number }
-    {
-        self.first <= number && number < self.past
-    }
-
-    // Whether the vertices of the plane with these numbers, of which the first is less, may lie on different sides of the
-    // line, or both on it.
+    // Whether the vertices of the plane with these numbers, of which the first is no greater, may lie on different sides
+    // of the line, or both on it.
     pub(crate) fn may_part(&self, low: usize, high: usize) -> bool
         ensures unparted { (IsTrue result → ⊥) → IsUnparted self.now low high }
     {

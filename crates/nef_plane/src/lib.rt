@@ -3,6 +3,7 @@
 
 mod along;
 mod course;
+mod ends;
 mod first;
 mod level;
 mod lying;

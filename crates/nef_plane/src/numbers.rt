@@ -3,6 +3,8 @@
 ghost use Rattle.std.specs.Prelude.{◌<◌, length};
 ghost use Rattle.nef_space.specs.Lists.{IsAt};
 
+use nef_complex::PlaneMeet;
+
 // Those that a list of a plane names, or all below a number.
 #[derive(Debug, Clone, Copy)]
 pub(crate) enum Numbers<'a> {
@@ -39,6 +41,28 @@ impl Numbers<'_> {
         match self {
             Numbers::Listed(numbers) => listed_at(numbers, place),
             Numbers::All(_) => place,
+        }
+    }
+}
+
+// Whether the numbers are those of vertices or of edges.
+#[derive(Debug, Clone, Copy)]
+pub(crate) enum Kind {
+    Vertex,
+    Edge,
+}
+
+impl Kind {
+    ghost use Rattle.std.specs.Prelude.{◌≡◌};
+    ghost use Rattle.nef_plane.specs.Asked.{meet_at};
+
+    // The one with this number.
+    pub(crate) fn at(self, number: usize) -> PlaneMeet
+        ensures at { result ≡ meet_at self number }
+    {
+        match self {
+            Kind::Vertex => PlaneMeet::AtVertex(number),
+            Kind::Edge => PlaneMeet::AtEdge(number),
         }
     }
 }

@@ -15,8 +15,10 @@ ghost use Rattle.nef_complex.specs.declared.complex.Edge.{Edge};
 ghost use Rattle.nef_complex.specs.declared.complex.Vertex.{Vertex};
 ghost use Rattle.nef_complex.specs.Index.{AreWithin, AreHolders};
 ghost use Rattle.nef_plane.specs.Amid.{AllSideWith, AllThrough};
+ghost use Rattle.nef_plane.specs.Ends.{HasMeet};
+ghost use Rattle.nef_plane.specs.Meets.{IsMeetPoint};
 
-use nef_complex::{Complex, edge_holders, vertex_holders};
+use nef_complex::{Complex, PlaneMeet, edge_holders, vertex_holders};
 use nef_geo::{Hit, Plane, Point, Sign, hit_side, side};
 
 // Whether q lies on the side of b, or on the plane where b does.
@@ -89,4 +91,16 @@ pub fn is_on_edge(c: &Complex, number: usize, q: &Hit) -> bool
     let at_low = vertex_holders(c, edge.low);
     let at_high = vertex_holders(c, edge.high);
     sides_with(carriers, at_low, high, q) && sides_with(carriers, at_high, low, q)
+}
+
+// Whether the hit is this vertex, or lies strictly inside this edge.
+pub(crate) fn is_at(c: &Complex, meet: PlaneMeet, q: &Hit) -> bool
+    requires shows { (s : Set) × ShowsSet s c.now }
+    requires within { HasMeet c.now meet }
+    ensures at { IsTrue result ↔ IsMeetPoint (complex_of c.now) meet (hit_place q.now) }
+{
+    match meet {
+        PlaneMeet::AtVertex(number) => is_at_vertex(c, number, q),
+        PlaneMeet::AtEdge(number) => is_on_edge(c, number, q),
+    }
 }

@@ -9,18 +9,20 @@ ghost use Rattle.nef_geo.specs.Shapes.{form_of, vector_of, place_of, hit_place, 
 ghost use Rattle.nef_geo.specs.Widths.{upright_limit, upright_weight_limit};
 ghost use Rattle.law_complex.specs.Skeleton.{PlaneMeet as PlainMeet, Meets, IsFirstInPlane};
 ghost use Rattle.nef_complex.specs.Complexes.{complex_of, meet_of, ShowsSet};
-ghost use Rattle.nef_complex.specs.Index.{LiesOn, AreWithin, AreHolders};
+ghost use Rattle.nef_complex.specs.Index.{AreWithin, AreHolders};
 ghost use Rattle.nef_complex.specs.Planes.{HoldsBoth};
+ghost use Rattle.nef_plane.specs.Ends.{MeetLiesIn};
 ghost use Rattle.nef_plane.specs.Levels.{IsLevel};
 ghost use Rattle.nef_plane.specs.Meets.{IsAlongAxis, HoldsRay, HasNoSvertex, IsOffEdges, IsHitThrough, NoneCrosses, IsMet, AllHold, AtVertexOrEdge, IsNearest, far_met_of, far_reach_of};
 
+use crate::ends::{ends_of, holders_of};
 use crate::first::{PlaneRay, nearest_met};
 use crate::level::Level;
-use crate::lying::{edge_lies_in, vertex_lies_on};
+use crate::lying::lies_in;
 use crate::met::Met;
 use crate::numbers::Numbers;
 use crate::ray::AxisRay;
-use nef_complex::{Complex, PlaneMeet, edge_holders, plane_items, vertex_holders};
+use nef_complex::{Complex, PlaneMeet, plane_items};
 use nef_geo::{Dir, FarHit, Hit, Plane, Point, far_hit};
 
 // Where the ray crosses the first of the carriers with these numbers that it crosses at all. They are those that hold two
@@ -72,51 +74,27 @@ impl PlaneRay for AxisRay<'_> {
 
     ghost guided = { λ r c x. IsLevel c.vertices (form_of r.plane.now) (hit_place r.start.now) x × HoldsRay (form_of r.plane.now) (hit_place r.start.now) (vector_of r.direction.now) };
 
-    ghost tells = { λ r c k. LiesOn c.vertices (form_of r.plane.now) k };
+    ghost tells = { λ r c m. MeetLiesIn c (form_of r.plane.now) m };
 
-    // Where the ray meets the vertex some carrier through it crosses the ray.
-    fn vertex_met(&self, c: &Complex, number: usize) -> Option<Met<FarHit>> {
-        let point = &c.vertices.at(number).point;
-        let holders = vertex_holders(c, number);
-        match met_at(c.carriers.as_slice(), holders, self, point, point) {
-            Some(at) => Some(Met {
-                meet: PlaneMeet::AtVertex(number),
-                at,
-            }),
+    // Where the ray meets the vertex or edge some carrier that holds its ends crosses the ray.
+    fn met(&self, c: &Complex, meet: PlaneMeet) -> Option<Met<FarHit>> {
+        let (low, high) = ends_of(c, meet);
+        let a = &c.vertices.at(low).point;
+        let b = &c.vertices.at(high).point;
+        match met_at(c.carriers.as_slice(), holders_of(c, meet), self, a, b) {
+            Some(at) => Some(Met { meet, at }),
             None => None,
         }
     }
 
-    fn edge_met(&self, c: &Complex, number: usize) -> Option<Met<FarHit>> {
-        let edge = c.edges.at(number);
-        let low = &c.vertices.at(edge.low).point;
-        let high = &c.vertices.at(edge.high).point;
-        let holders = edge_holders(c, number);
-        match met_at(c.carriers.as_slice(), holders, self, low, high) {
-            Some(at) => Some(Met {
-                meet: PlaneMeet::AtEdge(number),
-                at,
-            }),
-            None => None,
-        }
-    }
-
-    // The level tells of most vertices, by their numbers.
-    fn may_meet_vertex(&self, c: &Complex, level: &Option<Level>, number: usize) -> bool {
-        match level {
-            Some(level) => level.may_hold(number),
-            None => vertex_lies_on(c, self.plane, number),
-        }
-    }
-
-    // The level tells of most edges, by the numbers of their ends.
-    fn may_meet_edge(&self, c: &Complex, level: &Option<Level>, number: usize) -> bool {
+    // The level tells of most vertices and edges, by the numbers of their ends.
+    fn may_meet(&self, c: &Complex, level: &Option<Level>, meet: PlaneMeet) -> bool {
         match level {
             Some(level) => {
-                let edge = c.edges.at(number);
-                level.may_part(edge.low, edge.high)
+                let (low, high) = ends_of(c, meet);
+                level.may_part(low, high)
             }
-            None => edge_lies_in(c, self.plane, number),
+            None => lies_in(c, self.plane, meet),
         }
     }
 

@@ -5,7 +5,7 @@ use Rattle.nef_classes.proofs.ClassLists.{is-at_one}
 use Rattle.nef_complex.specs.declared.complex.Vertex.{Vertex}
 use Rattle.nef_plane.specs.Meets.{AreOpposite}
 use Rattle.nef_plane.specs.Parting.{ray_form}
-use Rattle.nef_plane.proofs.along.may_meet.Goals as goal
+use Rattle.nef_plane.proofs.along.may_meet_between.Goals as goal
 
 pub returns-then-not-may_reach : goal.returns-then-not-may_reach
 returns-then-not-may_reach c = record { off = λ f. inl (c.may_reach.ensures.passed (λ x. absurd (search (rules, x, c.if-not-may_reach.true)))) }

@@ -1,8 +1,0 @@
-use Rattle.std.specs.Prelude.{ℕ, ◌<◌}
-use Rattle.nef_complex.specs.Complexes.{complex_of}
-use Rattle.nef_plane.specs.Asked.{IsNth}
-use Rattle.nef_plane.specs.Meets.{IsNearest, met_of, AtEdgeNumber}
-use Rattle.nef_plane.proofs.first.nearest_edge.Given as goal
-
-abbrev pub invariant-loop-place : goal.invariant-loop-place
-invariant-loop-place g l = IsNearest (met_of g.R.At.Stepped.reach) (g.R.PlaneRay.start l.ray) (g.R.PlaneRay.way l.ray) (λ m q. (i : ℕ) × (i < l.place) × ((k : ℕ) × IsNth l.asked i k × AtEdgeNumber (complex_of l.c) (g.R.PlaneRay.plane l.ray) (g.R.PlaneRay.way l.ray) k m q)) l.best
