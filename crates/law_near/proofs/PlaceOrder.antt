@@ -1,5 +1,5 @@
 -- The order of points by their coordinates: it goes on, no point is below an equal one, and equal points stand in the same order.
-use Rattle.std.proofs.Common.{◌≡◌, ℤ, pos, ◌*ℤ◌, ◌<ℤ◌, arith, ap, sym, ◌∙◌, ◌⊎◌, inl, inr, [], ◌∷◌}
+use Rattle.std.proofs.Common.{◌≡◌, ℤ, pos, ◌*ℤ◌, ◌<ℤ◌, arith, ap, ◌∙◌, inl, inr, [], ◌∷◌}
 use Rattle.std.proofs.lemmas.Int.{ints}
 use Rattle.law_arithmetic.proofs.Fractions.{fraction-trans, fraction-eq-trans}
 use Rattle.law_arithmetic.proofs.Order.{cancel_lt, mul_lt_right}

@@ -1,6 +1,6 @@
 -- Sphere maps: their places, sides, sight, labels, and which maps are valid.
 use Rattle.std.specs.Prelude.{◌≡◌, ℕ, zero, suc, ◌<◌, ◌≤◌, pos, ◌<ℤ◌, List, [], ◌∷◌, ◌⊎◌, Option, Some, None}
-use Rattle.nef_space.specs.Vectors.{Vector, IsDirection, triple, vector, dot, SameDirection, IsOpposite, IsNormal, blend}
+use Rattle.nef_space.specs.Vectors.{Vector, IsDirection, vector, dot, SameDirection, IsOpposite, IsNormal, blend}
 use Rattle.nef_space.specs.declared.label.Label.{Label}
 use Rattle.law_cyclic.specs.Arcs.{IsOnCircle, IsStrictlyOn}
 

@@ -3,9 +3,6 @@ use Rattle.std.proofs.Common.{ℕ, List}
 use Rattle.nef_space.specs.Place.{Place, SamePlace}
 use Rattle.nef_space.specs.Sets.{Set}
 use Rattle.nef_space.specs.Local.{IsVertex}
-use Rattle.law_forms.specs.Homogeneous.{of_place}
-use Rattle.law_forms.proofs.Sums.{same-trans}
-use Rattle.law_forms.proofs.Between.{place-factor, factor-place}
 use Rattle.law_near.specs.Cells.{carriers}
 use Rattle.law_near.proofs.Germs.{Label-cells}
 use Rattle.law_near.proofs.Rays.{signs-same, same-place_sym}

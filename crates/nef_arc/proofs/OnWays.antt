@@ -1,13 +1,12 @@
 -- What the turn from an arc's source to its target says of the directions on it.
-use Rattle.std.proofs.Common.{◌≡◌, zero, suc, ℤ, pos, negsuc, ◌<ℤ◌, ◌⊎◌, inl, inr, arith, refl, sym, ap, ◌∙◌, ◌↔◌}
+use Rattle.std.proofs.Common.{◌≡◌, zero, suc, ℤ, pos, negsuc, ◌<ℤ◌, ◌⊎◌, inl, inr, arith, refl, ◌↔◌}
 use Rattle.std.proofs.lemmas.Int.{ints}
-use Rattle.nef_space.specs.Vectors.{Vector, dot, triple, SameDirection}
+use Rattle.nef_space.specs.Vectors.{Vector, dot, triple}
 use Rattle.nef_geo.specs.Signs.{sign_of}
-use Rattle.law_cyclic.specs.Arcs.{IsOnCircle, IsStrictlyOn}
+use Rattle.law_cyclic.specs.Arcs.{IsOnCircle}
 use Rattle.law_cyclic.proofs.Planar.{self_positive, parallel_from_turn, turn_from_parallel, turn_or_dot}
 use Rattle.nef_arc.specs.declared.arc.Arc.{Arc}
 use Rattle.nef_arc.specs.Arcs.{normal_vector, source_vector, target_vector, IsOn, IsEnd, OnWay, IsPastSource, IsBeforeTarget, IsPassed}
-use Rattle.nef_arc.proofs.Ends.{source_on, target_on}
 
 by_sign : {R : Type 0} (z : ℤ) → (z <ℤ pos 0 → R) → (z ≡ pos 0 → R) → (pos 0 <ℤ z → R) → R
 by_sign (pos zero) f g h = g refl

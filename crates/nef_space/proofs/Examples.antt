@@ -1,11 +1,10 @@
 -- The small facts on the definitions.
-use Rattle.std.proofs.Common.{◌≡◌, ℕ, ◌+◌, ◌*◌, ◌<◌, ◌≤◌, ℤ, pos, negsuc, ◌+ℤ◌, ◌-ℤ◌, ◌*ℤ◌, ◌≤ℤ◌, ◌<ℤ◌, nat_abs, arith, refl, ap, Bool, true, false, List, [], ◌∷◌}
+use Rattle.std.proofs.Common.{◌≡◌, ℕ, ◌+◌, ◌*◌, ◌<◌, pos, negsuc, ◌+ℤ◌, ◌-ℤ◌, ◌*ℤ◌, nat_abs, arith, ap}
 use Rattle.std.proofs.lemmas.Int.{ints}
 use Rattle.nef_space.specs.Limits.{half_side}
-use Rattle.nef_space.specs.Place.{Place, Form, form_at, Within, InFrame, Ratio, step}
-use Rattle.nef_space.specs.Sets.{Set, Holds}
-use Rattle.nef_space.specs.Local.{IsShort, HasLabel, Germ}
-use Rattle.nef_space.specs.Laws.{left, origin, side_middle, backward, InteriorOfWhole, OpenHalfAtBoundary, ClosureAtBoundary, MissingPoint, FrameIsOpen, GermBesideHalf}
+use Rattle.nef_space.specs.Place.{Place}
+use Rattle.nef_space.specs.Sets.{Holds}
+use Rattle.nef_space.specs.Laws.{InteriorOfWhole, OpenHalfAtBoundary, ClosureAtBoundary, MissingPoint, GermBesideHalf}
 
 pub inside-full : InteriorOfWhole
 unfolding Holds

@@ -1,8 +1,8 @@
 -- Small facts that show the definitions mean what they should.
-use Rattle.std.specs.Prelude.{◌≡◌, ℕ, ◌+◌, ℤ, pos, negsuc, false, true}
+use Rattle.std.specs.Prelude.{pos, negsuc, false, true}
 use Rattle.std.proofs.Common.{lit<}
 use Rattle.nef_space.specs.Vectors.{Vector, vector}
-use Rattle.nef_space.specs.Place.{Place, Form, form, InFrame, InClosedFrame}
+use Rattle.nef_space.specs.Place.{Place, Form, form, InClosedFrame}
 use Rattle.nef_space.specs.Sets.{Set, Holds}
 use Rattle.nef_space.specs.Local.{Germ, HasLabel}
 use Rattle.nef_space.specs.Limits.{half_side}

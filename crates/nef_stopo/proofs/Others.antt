@@ -1,5 +1,5 @@
 -- A least map with In and Not exchanged everywhere is the least map of the complement.
-use Rattle.std.proofs.Common.{◌≡◌, ℕ, List, Option, map, ap, sym, subst, ◌∙◌}
+use Rattle.std.proofs.Common.{◌≡◌, List, Option, map, ap, sym, subst, ◌∙◌}
 use Rattle.std.specs.Prelude.{option_map}
 use Rattle.nef_space.specs.Limits.{normal_limit, svertex_limit}
 use Rattle.nef_space.specs.Place.{Place}
@@ -8,7 +8,7 @@ use Rattle.nef_space.specs.Vectors.{IsAtMost}
 use Rattle.nef_space.specs.declared.label.Label.{Label}
 use Rattle.law_sphere.specs.Maps.{MapVertex, Arc, MapSloop, Item, Map, item_normal, Valid}
 use Rattle.law_sphere.specs.Least.{Least, Ordered, Cone}
-use Rattle.law_border.specs.Topology.{complement, IsTopologyMap}
+use Rattle.law_border.specs.Topology.{complement}
 use Rattle.law_border.specs.Marks.{exchanged, exchanged_svertex, exchanged_arc, exchanged_sloop, exchanged_map}
 use Rattle.law_border.proofs.Cones.{topology-cone}
 use Rattle.law_border.proofs.Exchanged.{item-same, svertex-was, item-was}

@@ -1,4 +1,4 @@
-use Rattle.nef_stopo.proofs.Others.{IsOther, other-least, other-cone}
+use Rattle.nef_stopo.proofs.Others.{other-least, other-cone}
 use Rattle.nef_stopo.proofs.exchange.exchanged.Goals as goal
 
 pub returns-clause-least : goal.returns-clause-least
