@@ -1,22 +1,18 @@
 -- The order of arcs: arcs that are apart are in order once they are sorted.
-use Rattle.std.proofs.Common.{◌≡◌, ℕ, zero, suc, ◌<◌, ℤ, ◌<ℤ◌, List, [], ◌∷◌, get_or, Bool, false, Ordering, Less, Equal, Greater, arith, refl, sym, ap, subst, ◌∙◌, inl, inr}
-use Rattle.std.specs.List.{IsDistinct, AllByRecursion}
+use Rattle.std.proofs.Common.{◌≡◌, ℕ, ◌<◌, ℤ, ◌<ℤ◌, List, Bool, Ordering, Less, Equal, Greater, arith, refl, sym, ap, ◌∙◌, inl, inr}
 use Rattle.std.specs.List.Sorted.{IsPermutation, IsSortedBy}
-use Rattle.std.specs.Ordering.{MatchOrdering, int_cmp, nat_cmp, ordering_then, ordering_reverse, on, then_cmp, is_lt, is_eq}
+use Rattle.std.specs.Ordering.{MatchOrdering, int_cmp, nat_cmp, ordering_then, ordering_reverse, on, then_cmp, is_lt}
 use Rattle.std.specs.Cmp.{IsTotalOrder, IsStrictWeakOrder, int_ranks}
-use Rattle.std.proofs.lemmas.Bool.{false≢true}
-use Rattle.std.proofs.lemmas.Cmp.{int_cmp_total, nat_cmp_total, on_total, then_total, ranked, by_ranked}
+use Rattle.std.proofs.lemmas.Cmp.{int_cmp_total, nat_cmp_total, on_total, then_total, ranked}
 use Rattle.std.proofs.lemmas.Int.{ints}
-use Rattle.std.proofs.lemmas.List.Sorted.{ranks_by, sorted_far, Contains-permutation, IsPermutation-sym}
-use Rattle.std.proofs.lemmas.Map.Keys.{IsDistinct-head, IsDistinct-tail, IsDistinct-cons, IsDistinct-IsPermutation}
+use Rattle.std.proofs.lemmas.List.Sorted.{ranks_by}
 use Rattle.law_near.proofs.Flats.{vector-same}
 use Rattle.nef_geo.specs.Shapes.{vector_of}
-use Rattle.law_sphere.specs.Maps.{At}
 use Rattle.law_sphere.specs.Least.{InOrder}
 use Rattle.nef_smap.specs.declared.map.SArc.{SArc}
-use Rattle.nef_smap.proofs.Lists.{at-within, at-get, get-at}
 use Rattle.nef_smap.proofs.WellFormed.{dir-equal}
 use Rattle.nef_spair.specs.Arcs.{IsArcBelow, IsTwin, AreApart}
+use Rattle.nef_spair.proofs.Apart.{still-apart as stand-apart, sorted-in_order}
 
 -- ---- the order as a function
 abbrev pub arc_order : SArc → SArc → Ordering
@@ -107,71 +103,9 @@ arc_lt a b = is_lt (arc_order a b)
 pub weak : IsStrictWeakOrder arc_lt
 weak = ranks_by total (λ (a : SArc). a)
 
--- ---- arcs that are apart
-abbrev arc_eq : SArc → SArc → Bool
-arc_eq a b = is_eq (arc_order a b)
-
-flips : (a b : SArc) → arc_eq a b ≡ arc_eq b a
-flips a b = ap is_eq (total.antisymm a b) ∙ turned (arc_order b a)
-  where
-    turned : (o : Ordering) → is_eq (ordering_reverse o) ≡ is_eq o
-    turned Less = refl
-    turned Equal = refl
-    turned Greater = refl
-
-not-equal : (a b : SArc) → (IsTwin a b → ⊥) → arc_eq a b ≡ false
-not-equal a b n = by (arc_order a b) (ranks a b)
-  where
-    by : (o : Ordering) → MatchOrdering o (IsArcBelow a b) (IsTwin a b) (IsArcBelow b a) → is_eq o ≡ false
-    by Less m = refl
-    by Equal m = absurd (n m)
-    by Greater m = refl
-
-twin-tests : (a b : SArc) → IsTwin a b → arc_eq a b ≡ false → ⊥
-twin-tests a b t e = false≢true (sym e ∙ ap is_eq (twin-equal a b t))
-
-all-listed : (P : SArc → Type 0) (xs : List SArc) → ((k : ℕ) (x : SArc) → At xs k x → P x) → AllByRecursion P xs
-all-listed P [] h = tt
-all-listed P (x ∷ xs) h = (h 0 x refl, all-listed P xs (λ k y a. h (suc k) y a))
-
-listed-all : (P : SArc → Type 0) (xs : List SArc) → AllByRecursion P xs → (k : ℕ) (x : SArc) → At xs k x → P x
-listed-all P [] h k x a = absurd a
-listed-all P (y ∷ xs) h zero x a = subst P a h.0
-listed-all P (y ∷ xs) h (suc k) x a = listed-all P xs h.1 k x a
-
-none : IsDistinct arc_eq []
-unfolding IsDistinct
-none = tt
-
-distinct : (xs : List SArc) → AreApart xs → IsDistinct arc_eq xs
-distinct [] h = none
-distinct (x ∷ xs) h =
-    IsDistinct-cons arc_eq x xs (all-listed (λ y. arc_eq x y ≡ false) xs (λ k y a. not-equal x y (λ t. let e : 0 ≡ suc k = h 0 (suc k) x y refl a t in omega (arith, e))))
-    (distinct xs (λ j k a b l r t. let e : suc j ≡ suc k = h (suc j) (suc k) a b l r t in omega (arith, e)))
-
-apart : (xs : List SArc) → IsDistinct arc_eq xs → AreApart xs
-apart [] h j k a b l r t = absurd l
-apart (x ∷ xs) h zero zero a b l r t = refl
-apart (x ∷ xs) h zero (suc k) a b l r t = absurd (twin-tests x b (subst (λ y. IsTwin y b) (sym l) t) (listed-all (λ y. arc_eq x y ≡ false) xs (IsDistinct-head arc_eq x xs h) k b r))
-apart (x ∷ xs) h (suc j) zero a b l r t = absurd (twin-tests x a (subst (λ y. IsTwin y a) (sym r) (sym t.0, sym t.1)) (listed-all (λ y. arc_eq x y ≡ false) xs (IsDistinct-head arc_eq x xs h) j a l))
-apart (x ∷ xs) h (suc j) (suc k) a b l r t = ap suc (apart xs (IsDistinct-tail arc_eq x xs h) j k a b l r t)
-
 -- ---- sorted arcs
-module _ (xs ys : List SArc) (moved : IsPermutation xs ys) where
-  pub still-apart : AreApart xs → AreApart ys
-  still-apart h = apart ys (IsDistinct-IsPermutation arc_eq flips xs ys moved (distinct xs h))
+pub still-apart : (xs ys : List SArc) → IsPermutation xs ys → AreApart xs → AreApart ys
+still-apart = stand-apart arc_order total IsArcBelow IsTwin ranks twin-equal
 
-  pub was-listed : (k : ℕ) (y : SArc) → At ys k y → (j : ℕ) × At xs j y
-  was-listed k y a = let c = Contains-permutation ys xs y (IsPermutation-sym xs ys moved) (k, at-within ys k y a, at-get ys k y y a) in (c.0, subst (At xs c.0) c.2 (get-at xs c.0 y c.1))
-
-  pub still-listed : (j : ℕ) (x : SArc) → At xs j x → (k : ℕ) × At ys k x
-  still-listed j x a = let c = Contains-permutation xs ys x moved (j, at-within xs j x a, at-get xs j x x a) in (c.0, subst (At ys c.0) c.2 (get-at ys c.0 x c.1))
-
-  pub ordered : AreApart xs → IsSortedBy arc_lt ys → InOrder IsArcBelow ys
-  ordered h s i k x y l a b =
-      let far = sorted_far arc_lt weak ys s i k x (omega (arith, l)) (at-within ys k y b) in
-      let test : arc_lt y x ≡ false = ap (λ z. arc_lt z x) (sym (at-get ys k y x b)) ∙ ap (λ z. arc_lt (get_or ys k x) z) (sym (at-get ys i x x a)) ∙ far in
-      by_ranked (IsArcBelow x y) (IsTwin x y) (IsArcBelow y x) (arc_order x y) (ranks x y)
-      (λ e p. p)
-      (λ e t. let same : i ≡ k = still-apart h i k x y a b t in absurd (omega (arith, same, l)))
-      (λ e p. absurd (false≢true (sym test ∙ ap is_lt (below-less y x p))))
+pub ordered : (xs ys : List SArc) → IsPermutation xs ys → AreApart xs → IsSortedBy arc_lt ys → InOrder IsArcBelow ys
+ordered = sorted-in_order arc_order total IsArcBelow IsTwin ranks twin-equal

@@ -5,6 +5,7 @@ pub mod Parting
 pub mod Firsts
 pub mod TwoEnds
 pub mod Leaving
+pub mod Apart
 pub mod ArcOrder
 pub mod Circles
 pub mod Sorted

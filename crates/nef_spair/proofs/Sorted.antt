@@ -4,7 +4,8 @@ use Rattle.std.specs.List.Sorted.{IsPermutation}
 use Rattle.nef_star.specs.declared.star.Star.{Star}
 use Rattle.nef_smap.specs.declared.map.SArc.{SArc}
 use Rattle.nef_spair.specs.Arcs.{AreArcs}
-use Rattle.nef_spair.proofs.ArcOrder.{still-apart, was-listed, still-listed}
+use Rattle.nef_spair.proofs.Apart.{was-listed, still-listed}
+use Rattle.nef_spair.proofs.ArcOrder.{still-apart}
 
 pub sorted-arcs : (kept : List Star) (i n : ℕ) (xs ys : List SArc) → IsPermutation xs ys → AreArcs kept i n xs → AreArcs kept i n ys
 sorted-arcs kept i n xs ys moved w = record {

@@ -36,8 +36,12 @@ pub record IsAlong (kept : List Star) (a : SArc) (m : ℕ) : Type 0 where
 abbrev pub IsTwin : SArc → SArc → Type 0
 IsTwin a b = (a.normal ≡ b.normal) × (a.source ≡ b.source)
 
+-- elements that are the same in this respect stand at one place
+abbrev pub StandApart : {A : Type 0} → (A → A → Type 0) → List A → Type 0
+StandApart {A} Same xs = (i j : ℕ) (x y : A) → At xs i x → At xs j y → Same x y → i ≡ j
+
 abbrev pub AreApart : List SArc → Type 0
-AreApart arcs = (j k : ℕ) (a b : SArc) → At arcs j a → At arcs k b → IsTwin a b → j ≡ k
+AreApart arcs = StandApart IsTwin arcs
 
 -- the arcs of the stars before number i, and of the first n rays of star i
 pub record AreArcs (kept : List Star) (i n : ℕ) (arcs : List SArc) : Type 0 where

@@ -1,5 +1,4 @@
 pub mod Images
-pub mod Sorting
 pub mod Orders
 pub mod Exact
 pub mod TurnedCarriers

@@ -16,6 +16,7 @@ use Rattle.nef_smap.specs.declared.map.SphereMap.{SphereMap}
 use Rattle.nef_smap.proofs.Lists.{at-within, at-get}
 use Rattle.nef_smap.proofs.WellFormed.{dir-equal}
 use Rattle.nef_edges.proofs.Places.{read-at}
+use Rattle.nef_spair.proofs.Apart.{was-listed, still-listed}
 use Rattle.law_turns.specs.Turned.{turned_vector}
 use Rattle.law_turns.specs.Maps.{turned_svertex}
 use Rattle.law_turns.proofs.Exists.{image-number}
@@ -23,7 +24,6 @@ use Rattle.nef_turn.specs.declared.moved.Moved.{Moved}
 use Rattle.nef_turn.specs.Images.{AreImages, AreApart}
 use Rattle.nef_turn.specs.Turning.{IsMoved, IsMovedBelow, HaveSameWay, HaveSameNumber, AreMoved, AreWithin, AreNumbers, IsOfMoved, Renumbers, number_in}
 use Rattle.nef_turn.proofs.Images.{images-all}
-use Rattle.nef_turn.proofs.Sorting.{was-listed, still-listed}
 use Rattle.nef_turn.proofs.Orders.{moved-apart}
 
 way-of : (k : ℕ) (u : Moved) (v : SVertex) → svertex_of u.svertex ≡ turned_svertex k (svertex_of v) → vector_of u.svertex.dir ≡ turned_vector k (vector_of v.dir)

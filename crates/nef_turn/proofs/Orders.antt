@@ -1,22 +1,22 @@
 -- The orders of planes, directions and points by which turned items are sorted.
-use Rattle.std.proofs.Common.{◌≡◌, List, Ordering, Less, Equal, Greater, inl, inr, refl, sym, ap, ◌∙◌}
+use Rattle.std.proofs.Common.{◌≡◌, List, Ordering, Less, Equal, Greater, refl, sym, ap, ◌∙◌}
 use Rattle.std.specs.Ordering.{MatchOrdering}
 use Rattle.std.specs.Cmp.{IsTotalOrder}
 use Rattle.std.specs.List.Sorted.{IsPermutation, IsSorted}
 use Rattle.std.proofs.lemmas.Cmp.{on_total, tied_itself}
 use Rattle.nef_space.specs.Numbers.{IsBelow}
-use Rattle.nef_space.specs.Vectors.{Vector, triple_of}
+use Rattle.nef_space.specs.Vectors.{triple_of}
 use Rattle.nef_geo.specs.Shapes.{place_of, vector_of}
 use Rattle.nef_geo.specs.declared.plane.Plane.{Plane}
 use Rattle.nef_geo.proofs.Orders.{plane_order, plane_total, plane-ordered, IsPlaneBelow, dir_order, dir_total, dir-ordered}
-use Rattle.law_sphere.specs.Vectors.{VectorBelow}
 use Rattle.law_sphere.specs.Least.{InOrder}
+use Rattle.nef_smap.proofs.WellFormed.{below-vectors}
 use Rattle.nef_complex.specs.declared.complex.Vertex.{Vertex}
 use Rattle.nef_complex.proofs.Order.{one-order, point_order, point-ordered, point_total}
+use Rattle.nef_spair.proofs.Apart.{sorted-in_order, still-apart}
 use Rattle.nef_turn.specs.declared.moved.Moved.{Moved}
 use Rattle.nef_turn.specs.Images.{AreApart}
 use Rattle.nef_turn.specs.Turning.{IsMovedBelow, HaveSameWay, IsVertexBelow, AreAtOnePlace}
-use Rattle.nef_turn.proofs.Sorting.{sorted-in_order, still-apart}
 
 -- ---- planes
 abbrev pub IsOnePlane : Plane → Plane → Type 0
@@ -33,21 +33,14 @@ moved_order u w = dir_order u.svertex.dir w.svertex.dir
 moved_total : IsTotalOrder moved_order
 moved_total = on_total (λ (u : Moved). u.svertex.dir) dir_total
 
--- the order of the numbers is that of the vectors
-below-vector : (u v : Vector) → IsBelow (triple_of u) (triple_of v) → VectorBelow u v
-below-vector u v (inl h) = inl h
-below-vector u v (inr (e, inl h)) = inr (inl (e, h))
-below-vector u v (inr (e, inr (f, inl h))) = inr (inr (e, f, h))
-below-vector u v (inr (e, inr (f, inr h))) = absurd h.1
-
 moved-ranks : (u w : Moved) → MatchOrdering (moved_order u w) (IsMovedBelow u w) (HaveSameWay u w) (IsMovedBelow w u)
 moved-ranks u w = by (moved_order u w) (dir-ordered u.svertex.dir w.svertex.dir (moved_order u w) refl)
   where
     by : (o : Ordering) → MatchOrdering o (IsBelow (triple_of (vector_of u.svertex.dir)) (triple_of (vector_of w.svertex.dir))) (HaveSameWay u w) (IsBelow (triple_of (vector_of w.svertex.dir)) (triple_of (vector_of u.svertex.dir)))
         → MatchOrdering o (IsMovedBelow u w) (HaveSameWay u w) (IsMovedBelow w u)
-    by Less h = below-vector (vector_of u.svertex.dir) (vector_of w.svertex.dir) h
+    by Less h = below-vectors (vector_of u.svertex.dir) (vector_of w.svertex.dir) h
     by Equal h = h
-    by Greater h = below-vector (vector_of w.svertex.dir) (vector_of u.svertex.dir) h
+    by Greater h = below-vectors (vector_of w.svertex.dir) (vector_of u.svertex.dir) h
 
 moved-equal : (u w : Moved) → HaveSameWay u w → moved_order u w ≡ Equal
 moved-equal u w e = ap (dir_order u.svertex.dir) (sym e) ∙ tied_itself dir_total u.svertex.dir

@@ -12,12 +12,12 @@ use Rattle.nef_smap.specs.declared.map.SphereMap.{SphereMap}
 use Rattle.nef_smap.proofs.Lists.{at-within}
 use Rattle.nef_smap.proofs.Primitive.{dir-primitive}
 use Rattle.nef_spair.specs.Arcs.{IsArcBelow, AreApart}
+use Rattle.nef_spair.proofs.Apart.{was-listed, still-listed}
 use Rattle.law_turns.specs.Maps.{turned_svertex}
 use Rattle.law_turns.proofs.Exists.{IsArcImage as IsPlainImage, one-arc}
 use Rattle.nef_turn.specs.Images.{AreImages}
 use Rattle.nef_turn.specs.Turning.{HaveEnds, IsArcImage, Renumbers, AreTurnedArcs, number_in}
 use Rattle.nef_turn.proofs.Images.{images-all}
-use Rattle.nef_turn.proofs.Sorting.{was-listed, still-listed}
 
 module _ (k : ℕ) (m : SphereMap) (V : Shaped (map_of m)) (ns : List ℕ) (R : Renumbers k m.svertices ns) where
   pub ends-within : HaveEnds (length ns) m.arcs

@@ -11,13 +11,13 @@ use Rattle.law_sphere.specs.Maps.{At}
 use Rattle.law_build.proofs.BuiltAxes.{at-map, map-at, number-order}
 use Rattle.nef_complex.specs.Index.{AreInOrder}
 use Rattle.nef_edges.proofs.Places.{at-some}
+use Rattle.nef_spair.proofs.Apart.{was-listed, still-listed}
 use Rattle.law_turns.specs.Turned.{turned_plane}
 use Rattle.law_turns.specs.Complexes.{signed_form, AreTurnedPlanes}
 use Rattle.law_turns.proofs.Exists.{one-plane}
 use Rattle.nef_turn.specs.Images.{AreImages, AreApart}
 use Rattle.nef_turn.specs.Turning.{IsTurnedCarrier}
 use Rattle.nef_turn.proofs.Images.{images-all}
-use Rattle.nef_turn.proofs.Sorting.{was-listed, still-listed}
 use Rattle.nef_turn.proofs.Orders.{IsOnePlane, planes-in_order}
 
 never-below : (xs : List ℤ) → IsBelow xs xs → ⊥

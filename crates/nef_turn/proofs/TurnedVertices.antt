@@ -12,6 +12,7 @@ use Rattle.law_complex.specs.Complexes.{Vertex as PlainVertex}
 use Rattle.nef_complex.specs.Complexes.{vertex_of, AreSorted}
 use Rattle.nef_complex.specs.declared.complex.Vertex.{Vertex}
 use Rattle.nef_edges.proofs.Places.{at-some}
+use Rattle.nef_spair.proofs.Apart.{was-listed, still-listed}
 use Rattle.law_turns.specs.Turned.{turned_place}
 use Rattle.law_turns.specs.Maps.{IsTurnedMap}
 use Rattle.law_turns.specs.Complexes.{AreTurnedVertices}
@@ -20,7 +21,6 @@ use Rattle.law_complex.proofs.Ways.{same-place_trans}
 use Rattle.nef_turn.specs.Images.{AreImages, AreApart}
 use Rattle.nef_turn.specs.Turning.{IsVertexImage, IsVertexBelow, AreAtOnePlace}
 use Rattle.nef_turn.proofs.Images.{images-all}
-use Rattle.nef_turn.proofs.Sorting.{was-listed, still-listed}
 
 module _ (k : ℕ) (us vs : List Vertex) (I : AreImages (IsVertexImage k) (length us) us vs) where
   pub vertices-apart : AreSorted us → AreApart AreAtOnePlace vs
