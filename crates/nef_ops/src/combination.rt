@@ -34,11 +34,11 @@ impl<'a> Job for BinaryJob<'a> {
     ghost use Rattle.nef_cand.specs.Candidates.{AreFramed};
     ghost use Rattle.nef_ops.specs.Rights.{IsRight};
 
-    type Out = SphereMap;
+    type Out = Box<SphereMap>;
 
     ghost count = { λ j. length j.points.now };
 
-    ghost right = { λ j i m. (s t : Set) → ShowsSet s j.first.now → ShowsSet t j.second.now → IsRight (op_set j.op s t) j.points.now i m };
+    ghost right = { λ j i b. (s t : Set) → ShowsSet s j.first.now → ShowsSet t j.second.now → IsRight (op_set j.op s t) j.points.now i b.value };
 
     ghost workable = { λ j. ((s : Set) × ShowsSet s j.first.now) × ((t : Set) × ShowsSet t j.second.now) × AreFramed j.points.now };
 
@@ -46,10 +46,10 @@ impl<'a> Job for BinaryJob<'a> {
         self.points.len() as u64
     }
 
-    fn work(&self, alloc: Global, job: u64) -> Result<SphereMap, OutOfMemory> {
+    fn work(&self, alloc: Global, job: u64) -> Result<Box<SphereMap>, OutOfMemory> {
         let point = &self.points[job as usize];
         let map = combined_map(alloc, self.op, self.first, self.second, point)?;
-        Ok(map)
+        Ok(Box::new(alloc, map)?)
     }
 }
 

@@ -34,11 +34,11 @@ impl<'a> Job for HalfJob<'a> {
     ghost use Rattle.nef_cand.specs.Candidates.{AreFramed};
     ghost use Rattle.nef_ops.specs.Rights.{IsRight};
 
-    type Out = SphereMap;
+    type Out = Box<SphereMap>;
 
     ghost count = { λ j. length j.points.now };
 
-    ghost right = { λ j i m. IsRight (Set.half (given_form j.oriented.now) j.closed) j.points.now i m };
+    ghost right = { λ j i b. IsRight (Set.half (given_form j.oriented.now) j.closed) j.points.now i b.value };
 
     ghost workable = { λ j. ShowsSet Set.full j.whole.now × AreFramed j.points.now };
 
@@ -46,11 +46,11 @@ impl<'a> Job for HalfJob<'a> {
         self.points.len() as u64
     }
 
-    fn work(&self, alloc: Global, job: u64) -> Result<SphereMap, OutOfMemory> {
+    fn work(&self, alloc: Global, job: u64) -> Result<Box<SphereMap>, OutOfMemory> {
         let point = &self.points[job as usize];
         let whole = local_map(alloc, self.whole, point)?;
         let map = half_map(alloc, whole, self.oriented, self.closed, point)?;
-        Ok(map)
+        Ok(Box::new(alloc, map)?)
     }
 }
 

@@ -53,11 +53,11 @@ impl<'a> Job for UnaryJob<'a> {
     ghost use Rattle.std.specs.Prelude.{length};
     ghost use Rattle.nef_ops.specs.Rights.{IsRight};
 
-    type Out = SphereMap;
+    type Out = Box<SphereMap>;
 
     ghost count = { λ j. length j.complex.now.vertices };
 
-    ghost right = { λ j i m. (s : Set) → ShowsSet s j.complex.now → IsRight (unary_set j.op s) (points_of j.complex.now) i m };
+    ghost right = { λ j i b. (s : Set) → ShowsSet s j.complex.now → IsRight (unary_set j.op s) (points_of j.complex.now) i b.value };
 
     ghost workable = { λ j. (s : Set) × ShowsSet s j.complex.now };
 
@@ -65,10 +65,10 @@ impl<'a> Job for UnaryJob<'a> {
         self.complex.vertices.len() as u64
     }
 
-    fn work(&self, alloc: Global, job: u64) -> Result<SphereMap, OutOfMemory> {
+    fn work(&self, alloc: Global, job: u64) -> Result<Box<SphereMap>, OutOfMemory> {
         let vertex = self.complex.vertices.at(job as usize);
         let map = changed(alloc, &vertex.map, self.op)?;
-        Ok(map)
+        Ok(Box::new(alloc, map)?)
     }
 }
 

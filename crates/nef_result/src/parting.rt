@@ -3,7 +3,7 @@
 ghost use Rattle.std.specs.Prelude.{◌↔◌, IsTrue, IfOk};
 ghost use Rattle.nef_smap.specs.Maps.{map_of, IsLeastMap};
 ghost use Rattle.nef_spair.specs.Kinds.{IsVertex};
-ghost use Rattle.nef_result.specs.Results.{AreLeastAt, AreVerticesAmong};
+ghost use Rattle.nef_result.specs.Results.{AreLeastAt, AreVerticesAmong, unboxed};
 
 use crate::OutOfMemory;
 use nef_complex::Vertex;
@@ -16,7 +16,7 @@ use std::alloc::Global;
 #[derive(Drop)]
 pub(crate) struct PartedPoints {
     pub(crate) vertices: Vec<Vertex>,
-    pub(crate) others: Vec<SphereMap>,
+    pub(crate) others: Vec<Box<SphereMap>>,
 }
 
 // Whether no direction is flat at the point of the map.
@@ -40,16 +40,19 @@ const FIRST_ROOM: usize = 64;
 pub(crate) fn parted(
     alloc: Global,
     points: &[Point],
-    maps: Vec<SphereMap>,
+    maps: Vec<Box<SphereMap>>,
 ) -> Result<PartedPoints, OutOfMemory>
-    requires maps { AreLeastAt points.now maps.items }
-    ensures vertices { IfOk result (λ p. AreVerticesAmong points.now maps.items p.vertices.items) }
+    requires maps { AreLeastAt points.now (unboxed maps.items) }
+    ensures vertices { IfOk result (λ p. AreVerticesAmong points.now (unboxed maps.items) p.vertices.items) }
 {
     let mut vertices = Vec::with_capacity(alloc, points.len().min(FIRST_ROOM))?;
     let mut others = Vec::with_capacity(alloc, points.len())?;
     for (point, map) in points.iter().zip(maps) {
         if is_vertex(&map) {
-            vertices.push(Vertex { point: *point, map })?;
+            vertices.push(Vertex {
+                point: *point,
+                map: Box::into_inner(map),
+            })?;
         } else {
             others.push(map)?;
         }
