@@ -1,7 +1,8 @@
 -- What an operation gathers: its candidates, the right map at each, and its carriers.
-use Rattle.std.proofs.Common.{◌≡◌, Bool, ℕ, zero, suc, ◌<◌, List, [], ◌∷◌, map, length, get_or, slice_get, Some, ap, sym, subst, ◌∙◌, inl, inr}
+use Rattle.std.proofs.Common.{◌≡◌, Bool, ℕ, zero, suc, ◌<◌, List, [], ◌∷◌, map, length, get_or, slice_get, Option, Some, None, option_map, refl, ap, sym, subst, ◌∙◌, inl, inr}
 use Rattle.std.specs.List.{Contains}
 use Rattle.std.proofs.lemmas.List.{length-map}
+use Rattle.std.proofs.lemmas.Option.{slice_get-map}
 use Rattle.nef_space.specs.Local.{IsVertex}
 use Rattle.nef_space.specs.Place.{Place, Form, SamePlace, IsPlaceBelow}
 use Rattle.nef_space.specs.Sets.{Set}
@@ -25,7 +26,8 @@ use Rattle.nef_complex.specs.Complexes.{vertex_of, ShowsSet}
 use Rattle.law_complex.specs.Laws.{IsVertexOfBoth}
 use Rattle.nef_cand.specs.Candidates.{IsListed}
 use Rattle.nef_cand.specs.Points.{points_of}
-use Rattle.nef_result.specs.Results.{AreMapsOf}
+use Rattle.nef_result.specs.declared.candidate_map.CandidateMap.{CandidateMap}
+use Rattle.nef_result.specs.Results.{AreMapsOf, maps_at}
 use Rattle.nef_ops.specs.declared.op.UnaryOp.{UnaryOp}
 use Rattle.nef_ops.specs.Nodes.{unary_set}
 use Rattle.nef_ops.specs.Rights.{IsRight}
@@ -39,6 +41,17 @@ at-got (y ∷ ys) (suc k) x h = at-got ys k x h
 
 pub at-listed : {X : Type 0} (xs : List X) (k : ℕ) (x : X) → At xs k x → Contains xs x
 at-listed xs k x h = (k, at-within xs k x h, at-get xs k x x h)
+
+-- ---- the maps at candidates
+pub each-map : (P : ℕ → SphereMap → Type 0) (cs : List CandidateMap) → ((i : ℕ) (c : CandidateMap) → slice_get cs i ≡ Some c → P i c.map.value) → (i : ℕ) (m : SphereMap) → slice_get (maps_at cs) i ≡ Some m → P i m
+each-map P cs f i m e = by (slice_get cs i) refl (sym (slice_get-map (λ (c : CandidateMap). c.map.value) cs i) ∙ e)
+  where
+    by : (o : Option CandidateMap) → slice_get cs i ≡ o → option_map (λ (c : CandidateMap). c.map.value) o ≡ Some m → P i m
+    by None h g = let g : None ≡ Some m = g in absurd (cc)
+    by (Some c) h g = let g : c.map.value ≡ m = cc in subst (P i) g (f i c h)
+
+pub maps-alike : (cs : List CandidateMap) (n : ℕ) → length cs ≡ n → length (maps_at cs) ≡ n
+maps-alike cs n e = length-map cs (λ (c : CandidateMap). c.map.value) ∙ e
 
 -- ---- a right map
 pub right-at : (s : Set) (ps : List Point) (i : ℕ) (q : Point) (m : SphereMap) → i < length ps → IsLeastMap m → Cone (map_of m) s (place_of (get_or ps i q)) → IsRight s ps i m

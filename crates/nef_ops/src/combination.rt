@@ -13,8 +13,7 @@ use nef_complex::Complex;
 use nef_core::{How, Job};
 use nef_geo::Point;
 use nef_io::Gate;
-use nef_result::{assemble, merge_carriers};
-use nef_smap::SphereMap;
+use nef_result::{CandidateMap, assemble, merge_carriers};
 use nef_star::Op;
 use std::alloc::Global;
 use std::sync::Wait;
@@ -34,11 +33,11 @@ impl<'a> Job for BinaryJob<'a> {
     ghost use Rattle.nef_cand.specs.Candidates.{AreFramed};
     ghost use Rattle.nef_ops.specs.Rights.{IsRight};
 
-    type Out = SphereMap;
+    type Out = CandidateMap;
 
     ghost count = { λ j. length j.points.now };
 
-    ghost right = { λ j i m. (s t : Set) → ShowsSet s j.first.now → ShowsSet t j.second.now → IsRight (op_set j.op s t) j.points.now i m };
+    ghost right = { λ j i m. (s t : Set) → ShowsSet s j.first.now → ShowsSet t j.second.now → IsRight (op_set j.op s t) j.points.now i m.map.value };
 
     ghost workable = { λ j. ((s : Set) × ShowsSet s j.first.now) × ((t : Set) × ShowsSet t j.second.now) × AreFramed j.points.now };
 
@@ -46,10 +45,11 @@ impl<'a> Job for BinaryJob<'a> {
         self.points.len() as u64
     }
 
-    fn work(&self, alloc: Global, job: u64) -> Result<SphereMap, OutOfMemory> {
+    fn work(&self, alloc: Global, job: u64) -> Result<CandidateMap, OutOfMemory> {
         let point = &self.points[job as usize];
         let map = combined_map(alloc, self.op, self.first, self.second, point)?;
-        Ok(map)
+        let found = CandidateMap::new(alloc, map)?;
+        Ok(found)
     }
 }
 

@@ -14,8 +14,7 @@ use nef_frame::frame;
 use nef_geo::{Label, Oriented, Point};
 use nef_io::Gate;
 use nef_locate::local_map;
-use nef_result::{add_carrier, assemble, half_map};
-use nef_smap::SphereMap;
+use nef_result::{CandidateMap, add_carrier, assemble, half_map};
 use std::alloc::Global;
 use std::sync::Wait;
 use std::thread::Threads;
@@ -34,11 +33,11 @@ impl<'a> Job for HalfJob<'a> {
     ghost use Rattle.nef_cand.specs.Candidates.{AreFramed};
     ghost use Rattle.nef_ops.specs.Rights.{IsRight};
 
-    type Out = SphereMap;
+    type Out = CandidateMap;
 
     ghost count = { λ j. length j.points.now };
 
-    ghost right = { λ j i m. IsRight (Set.half (given_form j.oriented.now) j.closed) j.points.now i m };
+    ghost right = { λ j i m. IsRight (Set.half (given_form j.oriented.now) j.closed) j.points.now i m.map.value };
 
     ghost workable = { λ j. ShowsSet Set.full j.whole.now × AreFramed j.points.now };
 
@@ -46,11 +45,12 @@ impl<'a> Job for HalfJob<'a> {
         self.points.len() as u64
     }
 
-    fn work(&self, alloc: Global, job: u64) -> Result<SphereMap, OutOfMemory> {
+    fn work(&self, alloc: Global, job: u64) -> Result<CandidateMap, OutOfMemory> {
         let point = &self.points[job as usize];
         let whole = local_map(alloc, self.whole, point)?;
         let map = half_map(alloc, whole, self.oriented, self.closed, point)?;
-        Ok(map)
+        let found = CandidateMap::new(alloc, map)?;
+        Ok(found)
     }
 }
 

@@ -16,7 +16,7 @@ use nef_cand::vertex_points;
 use nef_complex::Complex;
 use nef_core::{How, Job};
 use nef_io::Gate;
-use nef_result::{assemble, copy_carriers};
+use nef_result::{CandidateMap, assemble, copy_carriers};
 use nef_smap::SphereMap;
 use nef_stopo::{boundary, closure, complement, interior};
 use std::alloc::Global;
@@ -53,11 +53,11 @@ impl<'a> Job for UnaryJob<'a> {
     ghost use Rattle.std.specs.Prelude.{length};
     ghost use Rattle.nef_ops.specs.Rights.{IsRight};
 
-    type Out = SphereMap;
+    type Out = CandidateMap;
 
     ghost count = { λ j. length j.complex.now.vertices };
 
-    ghost right = { λ j i m. (s : Set) → ShowsSet s j.complex.now → IsRight (unary_set j.op s) (points_of j.complex.now) i m };
+    ghost right = { λ j i m. (s : Set) → ShowsSet s j.complex.now → IsRight (unary_set j.op s) (points_of j.complex.now) i m.map.value };
 
     ghost workable = { λ j. (s : Set) × ShowsSet s j.complex.now };
 
@@ -65,10 +65,11 @@ impl<'a> Job for UnaryJob<'a> {
         self.complex.vertices.len() as u64
     }
 
-    fn work(&self, alloc: Global, job: u64) -> Result<SphereMap, OutOfMemory> {
+    fn work(&self, alloc: Global, job: u64) -> Result<CandidateMap, OutOfMemory> {
         let vertex = self.complex.vertices.at(job as usize);
         let map = changed(alloc, &vertex.map, self.op)?;
-        Ok(map)
+        let found = CandidateMap::new(alloc, map)?;
+        Ok(found)
     }
 }
 

@@ -1,35 +1,22 @@
 //! The vertices among points.
 
-ghost use Rattle.std.specs.Prelude.{◌↔◌, IsTrue, IfOk};
+ghost use Rattle.std.specs.Prelude.{IfOk};
 ghost use Rattle.nef_smap.specs.Maps.{map_of, IsLeastMap};
 ghost use Rattle.nef_spair.specs.Kinds.{IsVertex};
-ghost use Rattle.nef_result.specs.Results.{AreLeastAt, AreVerticesAmong};
+ghost use Rattle.nef_result.specs.Results.{AreLeastAt, AreVerticesAmong, maps_at};
 
 use crate::OutOfMemory;
+use crate::candidate_map::CandidateMap;
 use nef_complex::Vertex;
 use nef_geo::Point;
 use nef_smap::SphereMap;
-use nef_spair::{Kind, kind};
 use std::alloc::Global;
 
 // The vertices among points, and the maps of the other points, to be let go of.
 #[derive(Drop)]
 pub(crate) struct PartedPoints {
     pub(crate) vertices: Vec<Vertex>,
-    pub(crate) others: Vec<SphereMap>,
-}
-
-// Whether no direction is flat at the point of the map.
-fn is_vertex(map: &SphereMap) -> bool
-    requires least { IsLeastMap map.now }
-    ensures vertex { IsTrue result ↔ IsVertex (map_of map.now) }
-{
-    match kind(map) {
-        Kind::Vertex => true,
-        Kind::OnEdge(_) => false,
-        Kind::InFacet(_) => false,
-        Kind::InVolume => false,
-    }
+    pub(crate) others: Vec<Box<SphereMap>>,
 }
 
 // Few points are mostly vertices, so there is room for so many at once; of many points most are none.
@@ -40,18 +27,21 @@ const FIRST_ROOM: usize = 64;
 pub(crate) fn parted(
     alloc: Global,
     points: &[Point],
-    maps: Vec<SphereMap>,
+    maps: Vec<CandidateMap>,
 ) -> Result<PartedPoints, OutOfMemory>
-    requires maps { AreLeastAt points.now maps.items }
-    ensures vertices { IfOk result (λ p. AreVerticesAmong points.now maps.items p.vertices.items) }
+    requires maps { AreLeastAt points.now (maps_at maps.items) }
+    ensures vertices { IfOk result (λ p. AreVerticesAmong points.now (maps_at maps.items) p.vertices.items) }
 {
     let mut vertices = Vec::with_capacity(alloc, points.len().min(FIRST_ROOM))?;
     let mut others = Vec::with_capacity(alloc, points.len())?;
-    for (point, map) in points.iter().zip(maps) {
-        if is_vertex(&map) {
-            vertices.push(Vertex { point: *point, map })?;
+    for (point, found) in points.iter().zip(maps) {
+        if found.is_vertex {
+            vertices.push(Vertex {
+                point: *point,
+                map: Box::into_inner(found.map),
+            })?;
         } else {
-            others.push(map)?;
+            others.push(found.map)?;
         }
     }
     Ok(PartedPoints { vertices, others })

@@ -3,7 +3,8 @@ use Rattle.nef_space.specs.Sets.{Set}
 use Rattle.nef_geo.specs.Shapes.{given_form}
 use Rattle.nef_cand.specs.Candidates.{AreFramed}
 use Rattle.nef_ops.proofs.Given.{given-plane}
-use Rattle.nef_ops.proofs.Gathered.{half-maps}
+use Rattle.nef_result.specs.Results.{maps_at}
+use Rattle.nef_ops.proofs.Gathered.{each-map, maps-alike, half-maps}
 use Rattle.nef_ops.proofs.half_space.half_within.Goals as goal
 
 pub finished-requires-clause-workable : goal.finished-requires-clause-workable
@@ -17,9 +18,9 @@ assemble-requires g c =
       c.type_bounds.sync-R,
       (
         Set.half f c.args.closed,
-        half-maps f c.args.closed h c.args.whole.now c.in_ok-carriers.carriers c.in_ok-listed.listed.items c.as_slice-points.result.now c.in_ok-maps.maps.items c.requires.whole
+        half-maps f c.args.closed h c.args.whole.now c.in_ok-carriers.carriers c.in_ok-listed.listed.items c.as_slice-points.result.now (maps_at c.in_ok-maps.maps.items) c.requires.whole
             (given-plane c.args.oriented.now h c.plane-plane.ensures.plane) c.as_slice-points.ensures.value c.in_ok-listed.ensures.exactly.ordered c.in_ok-listed.ensures.frame
-            c.in_ok-carriers.ensures.carriers alike c.in_ok-maps.ensures.right,
+            c.in_ok-carriers.ensures.carriers (maps-alike c.in_ok-maps.maps.items _ alike) (each-map _ c.in_ok-maps.maps.items c.in_ok-maps.ensures.right),
       ),
     )
 
@@ -30,7 +31,7 @@ returns g c =
     let alike : length c.in_ok-maps.maps.items ≡ length c.as_slice-points.result.now = omega arith in
     record {
       shows = c.in_ok-complex.ensures.shows (Set.half f c.args.closed)
-          (half-maps f c.args.closed h c.args.whole.now c.in_ok-carriers.carriers c.in_ok-listed.listed.items c.as_slice-points.result.now c.in_ok-maps.maps.items c.requires.whole
+          (half-maps f c.args.closed h c.args.whole.now c.in_ok-carriers.carriers c.in_ok-listed.listed.items c.as_slice-points.result.now (maps_at c.in_ok-maps.maps.items) c.requires.whole
           (given-plane c.args.oriented.now h c.plane-plane.ensures.plane) c.as_slice-points.ensures.value c.in_ok-listed.ensures.exactly.ordered c.in_ok-listed.ensures.frame
-          c.in_ok-carriers.ensures.carriers alike c.in_ok-maps.ensures.right);
+          c.in_ok-carriers.ensures.carriers (maps-alike c.in_ok-maps.maps.items _ alike) (each-map _ c.in_ok-maps.maps.items c.in_ok-maps.ensures.right));
     }

@@ -1,6 +1,7 @@
 use Rattle.std.proofs.Common.{◌≡◌, length, arith}
 use Rattle.nef_ops.specs.Nodes.{unary_set}
-use Rattle.nef_ops.proofs.Gathered.{one-maps}
+use Rattle.nef_result.specs.Results.{maps_at}
+use Rattle.nef_ops.proofs.Gathered.{each-map, maps-alike, one-maps}
 use Rattle.nef_ops.proofs.topology.unary.Goals as goal
 
 pub finished-requires-clause-workable : goal.finished-requires-clause-workable
@@ -14,8 +15,8 @@ assemble-requires g c =
       c.type_bounds.sync-R,
       (
         unary_set op S.0,
-        one-maps op c.args.a.now c.in_ok-carriers.carriers c.in_ok-points.points.items c.as_slice.result.now c.in_ok-maps.maps.items
-            c.as_slice.ensures.value c.in_ok-points.ensures.points c.in_ok-carriers.ensures.same alike c.in_ok-maps.ensures.right S.0 S.1,
+        one-maps op c.args.a.now c.in_ok-carriers.carriers c.in_ok-points.points.items c.as_slice.result.now (maps_at c.in_ok-maps.maps.items)
+            c.as_slice.ensures.value c.in_ok-points.ensures.points c.in_ok-carriers.ensures.same (maps-alike c.in_ok-maps.maps.items _ alike) (each-map _ c.in_ok-maps.maps.items c.in_ok-maps.ensures.right) S.0 S.1,
       ),
     )
 
@@ -26,6 +27,6 @@ returns g c =
     let alike : length c.in_ok-maps.maps.items ≡ length c.args.a.now.vertices = omega arith in
     record {
       shows = λ s S. c.in_ok-complex.ensures.shows (unary_set op s)
-          (one-maps op c.args.a.now c.in_ok-carriers.carriers c.in_ok-points.points.items c.as_slice.result.now c.in_ok-maps.maps.items
-          c.as_slice.ensures.value c.in_ok-points.ensures.points c.in_ok-carriers.ensures.same alike c.in_ok-maps.ensures.right s S);
+          (one-maps op c.args.a.now c.in_ok-carriers.carriers c.in_ok-points.points.items c.as_slice.result.now (maps_at c.in_ok-maps.maps.items)
+          c.as_slice.ensures.value c.in_ok-points.ensures.points c.in_ok-carriers.ensures.same (maps-alike c.in_ok-maps.maps.items _ alike) (each-map _ c.in_ok-maps.maps.items c.in_ok-maps.ensures.right) s S);
     }
