@@ -1,5 +1,5 @@
 -- Edges seen from either of their ends.
-use Rattle.std.proofs.Common.{◌≡◌, ℕ, sym, ◌⊎◌, inl, inr, ⊎_elim, subst}
+use Rattle.std.proofs.Common.{◌≡◌, ℕ, sym, inl, inr, ⊎_elim, subst}
 use Rattle.std.proofs.lemmas.Bool.{cases_order}
 use Rattle.nef_space.specs.Place.{SamePlace, toward, IsBetween}
 use Rattle.nef_space.specs.Sets.{Set}
