@@ -3,7 +3,7 @@ use Rattle.std.proofs.Common.{◌≡◌, ℕ, ◌<◌, List, [], ◌∷◌, ◌+
 use Rattle.nef_space.specs.Local.{FlatDim, IsVertex}
 use Rattle.nef_space.specs.Place.{Place, IsPlaceBelow, SamePlace}
 use Rattle.nef_space.specs.Sets.{Set}
-use Rattle.nef_geo.specs.Shapes.{place_of, form_of}
+use Rattle.nef_geo.specs.Shapes.{place_of}
 use Rattle.nef_geo.specs.declared.dir.Dir.{Dir}
 use Rattle.nef_geo.specs.declared.plane.Plane.{Plane}
 use Rattle.nef_geo.specs.declared.point.Point.{Point}
@@ -23,7 +23,6 @@ use Rattle.nef_smap.proofs.Lists.{contains-at}
 use Rattle.nef_sover.proofs.Places.{some-at as element-at}
 use Rattle.nef_edges.proofs.Places.{at-within, some-at, map-at, at-map, at-before, at-last, at-more}
 use Rattle.law_complex.specs.Complexes.{Vertex as PlainVertex}
-use Rattle.law_complex.specs.Shows.{Carriers}
 use Rattle.nef_complex.specs.Complexes.{vertex_of, AreVerticesOf}
 use Rattle.nef_complex.specs.declared.complex.Vertex.{Vertex}
 use Rattle.nef_result.specs.Results.{ArePointsInOrder, AreMapsOf, AreVerticesAmong}
