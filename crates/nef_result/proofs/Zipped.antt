@@ -5,8 +5,7 @@ use Rattle.std.proofs.lemmas.List.{map-append, length-map}
 use Rattle.std.proofs.lemmas.Slice.Zip.{seconds-zip}
 use Rattle.nef_geo.specs.declared.point.Point.{Point}
 use Rattle.law_sphere.specs.Maps.{At}
-use Rattle.nef_smap.specs.Maps.{map_of, IsLeastMap}
-use Rattle.nef_smap.proofs.Lists.{map-at}
+use Rattle.nef_smap.specs.Maps.{map_of}
 use Rattle.nef_smap.specs.declared.map.SphereMap.{SphereMap}
 use Rattle.nef_spair.specs.Kinds.{IsVertex as IsVertexMap}
 use Rattle.nef_complex.specs.declared.complex.Vertex.{Vertex}
@@ -24,27 +23,24 @@ shown p = (p.0.now, p.1)
 abbrev pub maps_of : List Pair → List SphereMap
 maps_of xs = map (λ (p : Pair). p.1.map.value) xs
 
-at-zip : (ps : List Point) (bs : List CandidateMap) (n : ℕ) (q : Point × CandidateMap) → n < length (zip ps bs) → q ≡ get_or (zip ps bs) n q → At ps n q.0 × At bs n q.1
-at-zip [] bs n q l e = absurd (omega (arith, l))
+at-zip : (ps : List Point) (cs : List CandidateMap) (n : ℕ) (q : Point × CandidateMap) → n < length (zip ps cs) → q ≡ get_or (zip ps cs) n q → At ps n q.0 × At cs n q.1
+at-zip [] cs n q l e = absurd (omega (arith, l))
 at-zip (p ∷ ps) [] n q l e = absurd (omega (arith, l))
-at-zip (p ∷ ps) (b ∷ bs) zero q l e = (ap (λ (r : Point × CandidateMap). r.0) (sym e), ap (λ (r : Point × CandidateMap). r.1) (sym e))
-at-zip (p ∷ ps) (b ∷ bs) (suc n) q l e = at-zip ps bs n q (omega (arith, l)) e
+at-zip (p ∷ ps) (c ∷ cs) zero q l e = (ap (λ (r : Point × CandidateMap). r.0) (sym e), ap (λ (r : Point × CandidateMap). r.1) (sym e))
+at-zip (p ∷ ps) (c ∷ cs) (suc n) q l e = at-zip ps cs n q (omega (arith, l)) e
 
 seconds : (xs : List Pair) → maps_at (map (λ (q : Point × CandidateMap). q.1) (map shown xs)) ≡ maps_of xs
 seconds [] = refl
 seconds (x ∷ xs) = ap (λ ms. x.1.map.value ∷ ms) (seconds xs)
 
 -- at the end all maps were yielded
-pub all-yielded : (ps : List Point) (bs : List CandidateMap) (xs : List Pair) (vs : List Vertex) → length bs ≡ length ps → map shown xs ≡ zip ps bs → AreVerticesAmong ps (maps_of xs) vs → AreVerticesAmong ps (maps_at bs) vs
-all-yielded ps bs xs vs alike e V =
-    subst (λ (ls : List SphereMap). AreVerticesAmong ps ls vs) (sym (seconds xs) ∙ ap (λ (qs : List (Point × CandidateMap)). maps_at (map (λ (q : Point × CandidateMap). q.1) qs)) e ∙ ap maps_at (seconds-zip ps bs alike)) V
+pub all-yielded : (ps : List Point) (cs : List CandidateMap) (xs : List Pair) (vs : List Vertex) → length cs ≡ length ps → map shown xs ≡ zip ps cs → AreVerticesAmong ps (maps_of xs) vs → AreVerticesAmong ps (maps_at cs) vs
+all-yielded ps cs xs vs alike e V =
+    subst (λ (ls : List SphereMap). AreVerticesAmong ps ls vs) (sym (seconds xs) ∙ ap (λ (qs : List (Point × CandidateMap)). maps_at (map (λ (q : Point × CandidateMap). q.1) qs)) e ∙ ap maps_at (seconds-zip ps cs alike)) V
 
-module _ (ps : List Point) (bs : List CandidateMap) (xs : List Pair) (x : Pair) (within : length xs < length (zip ps bs)) (is : shown x ≡ get_or (zip ps bs) (length xs) (shown x)) where
-  here : At ps (length xs) x.0.now × At bs (length xs) x.1
-  here = at-zip ps bs (length xs) (shown x) within is
-
-  pub least-here : ((k : ℕ) (m : SphereMap) → At (maps_at bs) k m → IsLeastMap m) → IsLeastMap x.1.map.value
-  least-here f = f (length xs) x.1.map.value (map-at (λ (c : CandidateMap). c.map.value) bs (length xs) x.1 here.1)
+module _ (ps : List Point) (cs : List CandidateMap) (xs : List Pair) (x : Pair) (within : length xs < length (zip ps cs)) (is : shown x ≡ get_or (zip ps cs) (length xs) (shown x)) where
+  here : At ps (length xs) x.0.now × At cs (length xs) x.1
+  here = at-zip ps cs (length xs) (shown x) within is
 
   pub pair-kept : (vs ws : List Vertex) → ArePointsInOrder ps → AreVerticesAmong ps (maps_of xs) vs → IsVertexMap (map_of x.1.map.value) → ws ≡ vs ++ record { point = x.0.now; map = x.1.map.value } ∷ [] → AreVerticesAmong ps (maps_of (xs ++ x ∷ [])) ws
   pair-kept vs ws o V i e =

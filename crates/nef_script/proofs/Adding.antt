@@ -1,5 +1,5 @@
 -- What one line adds.
-use Rattle.std.proofs.Common.{◌≡◌, ℕ, ◌+◌, ◌<◌, ◌≤◌, ◌⊎◌, ℤ, pos, inl, inr, Bool, true, false, not, cond, nat_eq, List, [], ◌∷◌, ◌++◌, length, take, get_or, Option, Some, None, is_some, slice_get, if◌then◌else◌, refl, sym, ◌∙◌, ap, subst, arith, append-nil, length-append}
+use Rattle.std.proofs.Common.{◌≡◌, ℕ, ◌+◌, ◌<◌, ◌≤◌, ◌⊎◌, pos, inl, inr, Bool, true, false, not, cond, nat_eq, List, [], ◌∷◌, ◌++◌, length, take, get_or, Option, Some, None, is_some, slice_get, if◌then◌else◌, refl, sym, ◌∙◌, ap, subst, arith, append-nil, length-append}
 use Rattle.std.specs.List.{list_any, zip, position}
 use Rattle.std.specs.Option.{option_map}
 use Rattle.std.specs.Str.{bytes_eq}
@@ -21,7 +21,7 @@ use Rattle.nef_script.specs.Tests.{is_refused_for, is_unknown_command, is_among,
 use Rattle.nef_script.specs.Refusal.{line_refusal, bound_name}
 use Rattle.nef_script.specs.Meaning.{Names, IsNode, IsQuestion, IsTurn, MeansCommand, MeansWords, has_words, adds_base}
 use Rattle.nef_script.specs.Checks.{command_test, command_in}
-use Rattle.nef_script.specs.Reading.{Fits, State, sets_of, IsSound, Step, AddsWords, AddsLine, AddsCommand, number_at}
+use Rattle.nef_script.specs.Reading.{Fits, State, sets_of, IsSound, AddsWords, AddsLine, AddsCommand, number_at}
 use Rattle.nef_script.specs.declared.table.Verb.{Verb}
 use Rattle.nef_script.specs.declared.table.Verb.TheVariants as verb
 use Rattle.nef_script.specs.declared.table.Role.{Role}

@@ -1,20 +1,17 @@
 -- What the commands of lines look at, and what stays with more nodes.
-use Rattle.std.proofs.Common.{◌≡◌, ℕ, zero, suc, ◌+◌, ◌<◌, ◌≤◌, ◌⊎◌, Bool, true, false, List, [], ◌∷◌, ◌++◌, length, get_or, Some, slice_get, refl, sym, ◌∙◌, ap, subst, arith, inl, inr, append-nil, length-append}
+use Rattle.std.proofs.Common.{◌≡◌, ℕ, zero, suc, ◌<◌, ◌≤◌, List, [], ◌∷◌, length, Some, slice_get, ◌∙◌, ap, subst, arith, inl, inr}
 use Rattle.std.specs.Prelude.{slice_index_or}
 use Rattle.std.specs.List.{All}
 use Rattle.std.proofs.Math.ListN.{get_or-append}
 use Rattle.std.proofs.lemmas.List.Elements.{All-head, All-tail}
-use Rattle.std.proofs.lemmas.Option.{slice_get_within, get_or_from_slice_get}
 use Rattle.nef_expr.specs.declared.nodes.Node.{Node}
 use Rattle.nef_expr.specs.declared.nodes.Node.TheVariants as node
-use Rattle.nef_expr.specs.Nodes.{NamesBelow, IsOperand}
-use Rattle.nef_expr.specs.Turns.{TurnOf}
+use Rattle.nef_expr.specs.Nodes.{IsOperand}
 use Rattle.nef_expr.specs.Copying.{Extends}
-use Rattle.nef_expr.proofs.Operands.{names-from}
-use Rattle.nef_expr.proofs.Tables.{extends-turn, extends-length}
+use Rattle.nef_expr.proofs.Tables.{extends-turn}
 use Rattle.nef_script.specs.Limits.{KeepsRayLimits}
 use Rattle.nef_script.specs.Meaning.{Names, IsNode, IsQuestion, IsWithin}
-use Rattle.nef_script.specs.Commands.{LooksAt, Binds, TurnsRight}
+use Rattle.nef_script.specs.Commands.{LooksAt, TurnsRight}
 use Rattle.nef_script.specs.declared.table.Verb.{Verb}
 use Rattle.nef_script.specs.declared.table.Verb.TheVariants as verb
 use Rattle.nef_script.specs.declared.script.Command.{Command}

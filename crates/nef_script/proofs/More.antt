@@ -1,8 +1,7 @@
 -- What a line means stays with more names' nodes and more sets.
-use Rattle.std.proofs.Common.{◌≡◌, ℕ, Bool, true, false, List, [], ◌∷◌, ◌++◌, Some, slice_get, refl, sym, subst}
+use Rattle.std.proofs.Common.{◌≡◌, ℕ, Bool, true, false, List, [], ◌∷◌, Some, slice_get, refl, sym, subst}
 use Rattle.nef_expr.specs.declared.nodes.Node.{Node}
-use Rattle.nef_expr.specs.declared.origin.Origin.{Origin}
-use Rattle.nef_expr.specs.Table.{HasOrigin, IsCopyOf}
+use Rattle.nef_expr.specs.Table.{IsCopyOf}
 use Rattle.nef_expr.specs.Copying.{Extends}
 use Rattle.nef_expr.proofs.Places.{slice_get-left}
 use Rattle.nef_expr.proofs.Tables.{extends-turn}

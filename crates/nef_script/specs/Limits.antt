@@ -1,5 +1,4 @@
 -- The limits of the numbers of rays.
-use Rattle.std.specs.Prelude.{ℕ, ◌^◌}
 use Rattle.nef_space.specs.Limits.{ray_direction_limit, ray_point_limit, ray_weight_limit}
 use Rattle.nef_space.specs.Vectors.{IsAtMost}
 use Rattle.nef_geo.specs.Hits.{IsPlaceAtMost}

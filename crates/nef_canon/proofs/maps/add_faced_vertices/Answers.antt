@@ -1,5 +1,4 @@
-use Rattle.std.proofs.Common.{◌≡◌, List, ℕ, ◌++◌, arith, ap, sym, ◌∙◌, append_assoc}
-use Rattle.std.specs.List.{flat_map}
+use Rattle.std.proofs.Common.{List, ℕ, ◌++◌, arith, ap, ◌∙◌, append_assoc}
 use Rattle.nef_parts.specs.Text.{faced_text, vertex_text, sface_line}
 use Rattle.nef_canon.proofs.Lines.{row-more, rows-all}
 use Rattle.nef_canon.proofs.maps.add_faced_vertices.Goals as goal

@@ -1,4 +1,4 @@
-use Rattle.std.proofs.Common.{List, ℕ, [], ◌++◌, codes}
+use Rattle.std.proofs.Common.{List, ℕ, [], codes}
 use Rattle.nef_parts.specs.Text.{numbers}
 use Rattle.nef_canon.proofs.Lines.{line-begun, more-words, line-ended}
 use Rattle.nef_canon.proofs.maps.add_faces.Goals as goal

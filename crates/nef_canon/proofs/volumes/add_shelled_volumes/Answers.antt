@@ -1,4 +1,4 @@
-use Rattle.std.proofs.Common.{◌≡◌, List, ℕ, ◌++◌, arith, ap, sym, ◌∙◌, append_assoc}
+use Rattle.std.proofs.Common.{List, ℕ, ◌++◌, arith, ap, ◌∙◌, append_assoc}
 use Rattle.std.specs.List.{flat_map}
 use Rattle.nef_parts.specs.declared.parts.Shell.{Shell}
 use Rattle.nef_parts.specs.Text.{shelled_text, volume_line, shell_line}

@@ -5,14 +5,14 @@ use Rattle.nef_expr.specs.declared.nodes.Node.{Node}
 use Rattle.nef_expr.specs.Table.{AreOrigins}
 use Rattle.nef_lex.specs.Lines.{lines_of}
 use Rattle.nef_script.specs.Refusal.{FirstRefusal}
-use Rattle.nef_script.specs.Meaning.{IsWithin, Sets, MeansLines, bases_of}
+use Rattle.nef_script.specs.Meaning.{IsWithin, MeansLines}
 use Rattle.nef_script.specs.Commands.{AreBoundBefore, TurnsRight}
-use Rattle.nef_script.specs.Reading.{State, state, sets_of}
+use Rattle.nef_script.specs.Reading.{state, sets_of}
 use Rattle.nef_script.specs.Progress.{HasRead}
 use Rattle.nef_script.specs.declared.script.Command.{Command}
 use Rattle.nef_script.specs.declared.fault.ScriptFault.TheVariants.{Refused}
 use Rattle.nef_script.specs.declared.fault.ScriptKind.TheVariants.{ScriptTooLong}
-use Rattle.nef_script.proofs.LineByLine.{first_state, HasRead-start, HasRead-next, HasRead-refused, HasRead-end}
+use Rattle.nef_script.proofs.LineByLine.{HasRead-next, HasRead-refused, HasRead-end}
 use Rattle.nef_script.proofs.parser.parse.Goals as goal
 
 pub returns-then-bytes-gt-SCRIPT_LIMIT-clause-refused : goal.returns-then-bytes-gt-SCRIPT_LIMIT-clause-refused
