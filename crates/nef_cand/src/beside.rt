@@ -79,7 +79,7 @@ fn cuts_by_three<R: Threads + Sync>(
 const THREADS: u32 = 4;
 
 // A set with fewer carriers is small: its edges are cut sooner than threads start.
-const MANY_CARRIERS: usize = 128;
+const MANY_CARRIERS: usize = 48;
 
 // Whether the set has few carriers.
 fn is_small(c: &Complex) -> bool {
