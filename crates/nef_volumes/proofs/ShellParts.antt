@@ -1,16 +1,16 @@
 -- The gathered lists are the shells, and the rows those of each volume.
-use Rattle.std.proofs.Common.{◌≡◌, ℕ, zero, suc, ◌+◌, ◌<◌, pos, ◌⊎◌, inl, inr, ⊎_elim, List, [], ◌∷◌, length, map, arith, refl, ap, sym, ◌∙◌, subst, ◌↔◌}
+use Rattle.std.proofs.Common.{◌≡◌, ℕ, zero, suc, ◌+◌, ◌<◌, inl, inr, List, length, arith, refl, ap, sym, ◌∙◌, subst}
 use Rattle.std.proofs.lemmas.Int.{ints}
 use Rattle.nef_space.specs.Lists.{IsAt, Chained, IsInTable}
 use Rattle.nef_space.specs.declared.label.Label.{Label}
 use Rattle.law_sphere.specs.Least.{InOrder}
 use Rattle.law_sphere.specs.Maps.{At}
 use Rattle.law_complex.specs.Complexes.{Complex}
-use Rattle.law_complex.specs.Rays.{VertexSide, HasSideLabel}
+use Rattle.law_complex.specs.Rays.{VertexSide}
 use Rattle.law_links.specs.Links.{VolumeLink}
 use Rattle.nef_smap.proofs.SideLists.{side-has, at-from_get, get-from_at}
 use Rattle.nef_smap.proofs.Lists.{at-map, map-at}
-use Rattle.nef_classes.proofs.Chains.{chain-link, chain-map, chain-turned}
+use Rattle.nef_classes.proofs.Chains.{chain-link, chain-map}
 use Rattle.nef_classes.proofs.ClassLists.{is-at_one, is-at_within}
 use Rattle.nef_parts.specs.Sides.{IsSideNumber}
 use Rattle.nef_parts.specs.Numbers.{IsVolumeOf, VolumeNumbers, shell_sides}
@@ -19,8 +19,7 @@ use Rattle.nef_parts.specs.declared.parts.Shell.{Shell}
 use Rattle.nef_parts.specs.declared.parts.Side.{Side}
 use Rattle.nef_volumes.specs.Labels.{AreVolumeLabels}
 use Rattle.nef_volumes.specs.Ties.{side_cell}
-use Rattle.nef_volumes.specs.Shells.{AreShellRows, IsShellOf, AreGathered, IsOfVolume, IsOneOf, StandsBefore, AreShellsOf, HaveVolumes}
-use Rattle.nef_volumes.specs.Held.{AreHeld}
+use Rattle.nef_volumes.specs.Shells.{AreShellRows, IsShellOf, AreGathered, AreShellsOf, HaveVolumes}
 use Rattle.nef_volumes.proofs.AllTies.{shell-volume}
 use Rattle.nef_volumes.proofs.RowNumbers.{number-cell}
 use Rattle.nef_volumes.proofs.ShellRows.{rows-named, shell-side, shell-number, shell-chain}

@@ -1,5 +1,5 @@
 use Rattle.std.proofs.Common.{ℕ, List, sym, ◌∙◌, subst}
-use Rattle.nef_classes.specs.Tables.{AreTiedWithin, HasCounts, AreNumbers}
+use Rattle.nef_classes.specs.Tables.{AreTiedWithin}
 use Rattle.nef_classes.specs.declared.table.Tie.{Tie}
 use Rattle.nef_complex.specs.Complexes.{complex_of}
 use Rattle.nef_parts.specs.Shells.{ShellLink}

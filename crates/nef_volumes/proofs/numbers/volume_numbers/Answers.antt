@@ -1,5 +1,5 @@
 use Rattle.std.proofs.Common.{arith, ℕ, ◌+◌, List, ◌++◌, length, take, drop, ap, sym, ◌∙◌, subst}
-use Rattle.nef_classes.specs.Tables.{HasCounts, AreNumbers}
+use Rattle.nef_classes.specs.Tables.{AreNumbers}
 use Rattle.nef_classes.specs.declared.table.Tie.{Tie}
 use Rattle.nef_complex.specs.Complexes.{complex_of}
 use Rattle.law_links.specs.Links.{VolumeLink}

@@ -1,6 +1,5 @@
 use Rattle.std.proofs.Common.{List, ℕ, arith, sym, subst}
 use Rattle.std.proofs.lemmas.List.{length-map}
-use Rattle.law_sphere.proofs.Lists.{at-one}
 use Rattle.nef_smap.proofs.SideLists.{at-some}
 use Rattle.nef_complex.specs.Complexes.{vertex_of, complex_of}
 use Rattle.nef_volumes.specs.Ties.{HasSfaces}
