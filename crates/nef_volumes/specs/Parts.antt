@@ -1,4 +1,4 @@
--- Facets with the numbers of the volumes beside them.
+-- Facets with the numbers of the volumes beside them, and volumes.
 use Rattle.std.specs.Prelude.{◌≡◌, ℕ, List, length, Bool}
 use Rattle.nef_space.specs.Lists.{IsAt}
 use Rattle.nef_space.specs.declared.label.Label.{Label}
@@ -7,11 +7,14 @@ use Rattle.law_complex.specs.Complexes.{Complex, Corner}
 use Rattle.law_complex.specs.Rays.{VertexSide}
 use Rattle.nef_complex.specs.Complexes.{corner_of}
 use Rattle.nef_complex.specs.declared.complex.Corner.{Corner as ProgramCorner}
-use Rattle.nef_parts.specs.Numbers.{IsVolumeOf, pos_of, neg_of}
+use Rattle.nef_parts.specs.Numbers.{IsVolumeOf, VolumeNumbers, shell_sides, pos_of, neg_of}
+use Rattle.nef_parts.specs.Shells.{SfaceNumbers, Shells}
 use Rattle.nef_parts.specs.declared.parts.Cycle.{Cycle}
 use Rattle.nef_parts.specs.declared.parts.Facet.{Facet}
+use Rattle.nef_parts.specs.declared.parts.Shell.{Shell}
 use Rattle.nef_ties.specs.Carriers.{HasItem}
 use Rattle.nef_volumes.specs.Ties.{side_at}
+use Rattle.nef_volumes.specs.Labels.{AreVolumeLabels}
 
 -- the upper or the lower side of the item at the corner
 abbrev pub side_beside : Bool → Corner → VertexSide
@@ -36,3 +39,11 @@ pub record AreFacetsOf (C : Complex) (rows : List (List ℕ)) (planes : List Pla
   pub mark : (n : ℕ) (f : Facet) → IsAt fs n f → IsAt marks n f.mark
   pub cycles_of : (n : ℕ) (f : Facet) → IsAt fs n f → IsAt cycles n f.cycles
   pub beside : (n : ℕ) (f : Facet) → IsAt fs n f → IsBeside C rows f
+
+-- the numbers of the sfaces and of the volumes of the sides, and the labels and the shells of the volumes
+pub record AreVolumesOf (C : Complex) (faces rows : List (List ℕ)) (ls : List Label) (hss : List (List Shell)) : Type 0 where
+  pub sfaces : SfaceNumbers C faces
+  pub numbers : VolumeNumbers C rows
+  pub labels : AreVolumeLabels C rows ls
+  pub as_many : length hss ≡ length ls
+  pub shells : (n : ℕ) (hs : List Shell) → IsAt hss n hs → Shells C (λ x. IsVolumeOf C rows x n) (shell_sides hs)

@@ -5,13 +5,11 @@ ghost use Rattle.nef_space.specs.Lists.{IsAt};
 ghost use Rattle.nef_space.specs.Sets.{Set};
 ghost use Rattle.nef_complex.specs.Complexes.{complex_of, corner_of, ShowsSet};
 ghost use Rattle.nef_parts.specs.declared.parts.Cycle.{Cycle as PlainCycle};
-ghost use Rattle.nef_parts.specs.declared.parts.Shell.{Shell as PlainShell};
-ghost use Rattle.nef_parts.specs.Numbers.{IsVolumeOf, VolumeNumbers, IsParts, shell_sides};
-ghost use Rattle.nef_parts.specs.Shells.{SfaceNumbers, Shells};
-ghost use Rattle.nef_volumes.specs.Labels.{AreVolumeLabels};
+ghost use Rattle.nef_parts.specs.Numbers.{IsVolumeOf, VolumeNumbers, IsParts};
+ghost use Rattle.nef_facets.specs.Facets.{IsFacetParts};
 ghost use Rattle.nef_volumes.specs.Joins.{FacetsAreComponents, VolumesAreComponents, AreCounted};
 ghost use Rattle.nef_ties.specs.Carriers.{HasItem};
-ghost use Rattle.nef_volumes.specs.Parts.{side_beside, HasFirst, IsBeside, AreFacetsOf};
+ghost use Rattle.nef_volumes.specs.Parts.{side_beside, HasFirst, IsBeside, AreFacetsOf, AreVolumesOf};
 
 use crate::OutOfMemory;
 use crate::labels::volume_labels;
@@ -23,6 +21,8 @@ use nef_facets::{FacetParts, facets};
 use nef_geo::{Label, List, Plane};
 use nef_parts::{Cycle, Facet, Parts, Shell};
 use std::alloc::Global;
+use std::thread;
+use std::thread::Threads;
 
 // The number of the volume at a side of the item: at that to which its normal points, or at the other.
 fn volume_at(c: &Complex, volume_of: &List<List<usize>>, corner: &Corner, above: bool) -> usize
@@ -92,37 +92,72 @@ fn list_facets(
     Ok(facets)
 }
 
-// The volumes of a complex, and their numbers.
+// The volumes of a complex, and the numbers of its sides.
+#[derive(Drop)]
 struct Volumes {
-    // The label of each volume.
-    labels: List<Label>,
+    // For each vertex the numbers of the sfaces of its sides.
+    sface_of: List<List<usize>>,
     // For each vertex the numbers of the volumes of its sides.
     volume_of: List<List<usize>>,
+    // The label of each volume.
+    labels: List<Label>,
     // The shells of each volume.
     shells: List<List<Shell>>,
 }
 
-// The volumes of the complex, whose sfaces have these numbers.
-fn volumes_of(
-    alloc: Global,
-    c: &Complex,
-    sface_of: &List<List<usize>>,
-) -> Result<Volumes, OutOfMemory>
+// The volumes of the complex.
+fn volumes_of(alloc: Global, c: &Complex) -> Result<Volumes, OutOfMemory>
     requires shows { (s : Set) × ShowsSet s c.now }
-    requires sfaces { SfaceNumbers (complex_of c.now) sface_of.now }
-    ensures numbers { IfOk result (λ v. VolumeNumbers (complex_of c.now) v.volume_of) }
-    ensures labels { IfOk result (λ v. AreVolumeLabels (complex_of c.now) v.volume_of v.labels) }
-    ensures as_many { IfOk result (λ v. length v.shells ≡ length v.labels) }
-    ensures shells { IfOk result (λ v. (n : ℕ) (hs : Sequence PlainShell) → IsAt v.shells n hs → Shells (complex_of c.now) (λ x. IsVolumeOf (complex_of c.now) v.volume_of x n) (shell_sides hs)) }
+    ensures volumes { IfOk result (λ v. AreVolumesOf (complex_of c.now) v.sface_of v.volume_of v.labels v.shells) }
 {
-    let rows = shell_rows(alloc, c, sface_of)?;
+    let sface_of = sface_numbers(alloc, c)?;
+    let rows = shell_rows(alloc, c, &sface_of)?;
     let sides = gathered(alloc, &rows)?;
     let volume_of = volume_numbers(alloc, c, &rows, sides.len() + 1)?;
     let labels = volume_labels(alloc, c, &volume_of)?;
     let shells = volume_shells(alloc, &volume_of, sides, labels.len())?;
     Ok(Volumes {
-        labels,
+        sface_of,
         volume_of,
+        labels,
+        shells,
+    })
+}
+
+// The parts of the complex, of which these are the facets and the volumes.
+fn parts_of(
+    alloc: Global,
+    c: &Complex,
+    facet_parts: FacetParts,
+    volumes: Volumes,
+) -> Result<Parts, OutOfMemory>
+    requires shows { (s : Set) × ShowsSet s c.now }
+    requires facets { IsFacetParts (complex_of c.now) facet_parts }
+    requires volumes { AreVolumesOf (complex_of c.now) volumes.sface_of volumes.volume_of volumes.labels volumes.shells }
+    ensures parts { IfOk result (λ p. IsParts (complex_of c.now) p) }
+    ensures items_joined { IfOk result (λ p. FacetsAreComponents c.now p) }
+    ensures sides_joined { IfOk result (λ p. VolumesAreComponents c.now p) }
+    ensures counted { IfOk result (λ p. AreCounted c.now p) }
+{
+    let FacetParts {
+        planes,
+        marks,
+        cycles,
+        facet_of,
+    } = facet_parts;
+    let Volumes {
+        sface_of,
+        volume_of,
+        labels,
+        shells,
+    } = volumes;
+    let facets = list_facets(alloc, c, &volume_of, &planes, &marks, cycles)?;
+    Ok(Parts {
+        facets,
+        volumes: labels,
+        facet_of,
+        volume_of,
+        sface_of,
         shells,
     })
 }
@@ -138,25 +173,47 @@ pub fn parts(alloc: Global, c: &Complex) -> Result<Parts, OutOfMemory>
     ensures sides_joined { IfOk result (λ p. VolumesAreComponents c.now p) }
     ensures counted { IfOk result (λ p. AreCounted c.now p) }
 {
-    let FacetParts {
-        planes,
-        marks,
-        cycles,
-        facet_of,
-    } = facets(alloc, c)?;
-    let sface_of = sface_numbers(alloc, c)?;
-    let Volumes {
-        labels,
-        volume_of,
-        shells,
-    } = volumes_of(alloc, c, &sface_of)?;
-    let facets = list_facets(alloc, c, &volume_of, &planes, &marks, cycles)?;
-    Ok(Parts {
-        facets,
-        volumes: labels,
-        facet_of,
-        volume_of,
-        sface_of,
-        shells,
-    })
+    let facet_parts = facets(alloc, c)?;
+    let volumes = volumes_of(alloc, c)?;
+    parts_of(alloc, c, facet_parts, volumes)
+}
+
+// A thread costs as much as the parts of a few hundred vertices: those of fewer are made by one.
+const MANY_VERTICES: usize = 512;
+
+// Whether one thread makes all parts.
+fn is_for_one_thread(workers: u32, c: &Complex) -> bool {
+    workers < 2 || c.vertices.len() < MANY_VERTICES
+}
+
+/// As `parts`, with the same answer. Where there are two workers at least, and many vertices, another thread makes the
+/// facets while the calling one makes the volumes; where a thread can't be made the calling one makes both. `OutOfMemory`
+/// says that memory was wanted and not found, by whichever of them.
+pub fn parts_beside<R: Threads + Sync>(
+    rt: &R,
+    alloc: Global,
+    c: &Complex,
+    workers: u32,
+) -> Result<Parts, OutOfMemory>
+    requires shows { (s : Set) × ShowsSet s c.now }
+    ensures parts { IfOk result (λ p. IsParts (complex_of c.now) p) }
+    ensures items_joined { IfOk result (λ p. FacetsAreComponents c.now p) }
+    ensures sides_joined { IfOk result (λ p. VolumesAreComponents c.now p) }
+    ensures counted { IfOk result (λ p. AreCounted c.now p) }
+{
+    if is_for_one_thread(workers, c) {
+        return parts(alloc, c);
+    }
+    let (facet_parts, volumes) = thread::join(
+        rt,
+        || -> Result<FacetParts, OutOfMemory>
+            requires { (s : Set) × ShowsSet s c.now }
+            ensures { IfOk result (λ p. IsFacetParts (complex_of c.entry.now) p) }
+        { facets(alloc, c) },
+        || -> Result<Volumes, OutOfMemory>
+            requires { (s : Set) × ShowsSet s c.now }
+            ensures { IfOk result (λ v. AreVolumesOf (complex_of c.entry.now) v.sface_of v.volume_of v.labels v.shells) }
+        { volumes_of(alloc, c) },
+    );
+    parts_of(alloc, c, facet_parts?, volumes?)
 }

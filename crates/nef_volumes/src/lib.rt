@@ -20,6 +20,6 @@ mod outside;
 mod sface;
 mod shells;
 
-pub use all::parts;
+pub use all::{parts, parts_beside};
 pub use connected::joined;
 pub use std::alloc::AllocError as OutOfMemory;

@@ -25,9 +25,14 @@ volume_shells-requires c =
           (have-volumes C c.in_ok-rows.rows c.in_ok-rows.ensures.rows c.in_ok-sides.sides.items c.in_ok-sides.ensures.gathered c.in_ok-volume_of.volume_of c.in_ok-volume_of.ensures.numbers c.in_ok-labels.labels c.in_ok-labels.ensures.labels);
     }
 
-pub returns-clause-as_many : goal.returns-clause-as_many
-returns-clause-as_many c = c.in_ok-shells.ensures.as_many ∙ c.len-2.ensures.len
-
-pub returns-clause-shells : goal.returns-clause-shells
-returns-clause-shells c = λ n hs a.
-    row-shells (complex_of c.args.c.now) c.in_ok-rows.rows c.in_ok-rows.ensures.rows c.in_ok-sides.sides.items c.in_ok-sides.ensures.gathered c.in_ok-volume_of.volume_of c.in_ok-volume_of.ensures.numbers c.in_ok-shells.shells c.in_ok-shells.ensures.shells n hs a
+pub returns : goal.returns
+returns c = record {
+  volumes = record {
+    sfaces = c.in_ok-sface_of.ensures.numbers;
+    numbers = c.in_ok-volume_of.ensures.numbers;
+    labels = c.in_ok-labels.ensures.labels;
+    as_many = c.in_ok-shells.ensures.as_many ∙ c.len-2.ensures.len;
+    shells = row-shells (complex_of c.args.c.now) c.in_ok-rows.rows c.in_ok-rows.ensures.rows c.in_ok-sides.sides.items c.in_ok-sides.ensures.gathered c.in_ok-volume_of.volume_of c.in_ok-volume_of.ensures.numbers
+        c.in_ok-shells.shells c.in_ok-shells.ensures.shells;
+  };
+}
