@@ -186,9 +186,9 @@ fn is_for_one_thread(workers: u32, c: &Complex) -> bool {
     workers < 2 || c.vertices.len() < MANY_VERTICES
 }
 
-/// As `parts`, with the same answer. Where there are two workers at least, and many vertices, another thread makes the
-/// facets while the calling one makes the volumes; where a thread can't be made the calling one makes both. `OutOfMemory`
-/// says that memory was wanted and not found, by whichever of them.
+/// As `parts`. Where there are two workers at least, and many vertices, another thread makes the facets while the calling
+/// one makes the volumes; where a thread can't be made the calling one makes both. `OutOfMemory` says that memory was
+/// wanted and not found, by whichever of them.
 pub fn parts_beside<R: Threads + Sync>(
     rt: &R,
     alloc: Global,
