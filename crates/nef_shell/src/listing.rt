@@ -12,8 +12,9 @@ use nef_complex::Complex;
 use nef_core::TextVersion;
 use nef_parts::Parts;
 use nef_script::Name;
-use nef_volumes::parts;
+use nef_volumes::parts_beside;
 use std::alloc::{AllocError, Global};
+use std::thread::Threads;
 
 // The numbers of vertices, edges, facets and volumes, in one line.
 fn count_line(alloc: Global, complex: &Complex, parts: &Parts) -> Result<Vec<u8>, AllocError>
@@ -53,25 +54,32 @@ fn printed(
 
 /// The numbers of vertices, edges, facets and volumes of the set that the complex shows, in one line. `AllocError` says
 /// that memory was wanted and not found.
-pub(crate) fn count_piece(alloc: Global, complex: &Complex) -> Result<Vec<u8>, AllocError>
+pub(crate) fn count_piece<R: Threads + Sync>(
+    rt: &R,
+    alloc: Global,
+    complex: &Complex,
+    workers: u32,
+) -> Result<Vec<u8>, AllocError>
     requires shows { (s : Set) × ShowsSet s complex.now }
     ensures piece { IfOk result (λ v. (s : Set) → ShowsSet s complex.now → IsWrittenOf s count_line v.items) }
 {
-    let parts = parts(alloc, complex)?;
+    let parts = parts_beside(rt, alloc, complex, workers)?;
     count_line(alloc, complex, &parts)
 }
 
 /// The text of the set that the complex shows, in this version, under its name. `AllocError` says that memory was wanted
 /// and not found.
-pub(crate) fn print_piece(
+pub(crate) fn print_piece<R: Threads + Sync>(
+    rt: &R,
     alloc: Global,
     name: &Name,
     complex: &Complex,
     version: TextVersion,
+    workers: u32,
 ) -> Result<Vec<u8>, AllocError>
     requires shows { (s : Set) × ShowsSet s complex.now }
     ensures piece { IfOk result (λ v. (s : Set) → ShowsSet s complex.now → IsWrittenOf s (printed version name.now) v.items) }
 {
-    let parts = parts(alloc, complex)?;
+    let parts = parts_beside(rt, alloc, complex, workers)?;
     printed(alloc, name, complex, &parts, version)
 }

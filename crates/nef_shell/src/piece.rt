@@ -20,6 +20,7 @@ use nef_geo::{Label, Point};
 use nef_locate::{locate, place_label};
 use nef_script::Command;
 use std::alloc::{AllocError, Global};
+use std::thread::Threads;
 
 /// What is written of a command.
 #[derive(Drop)]
@@ -57,11 +58,13 @@ fn label_at(sets: &Sets, node: usize, point: &Point) -> Label
 
 /// What is written of the command, with a text of this version: nothing, where it binds a name. `AllocError` says that
 /// memory was wanted and not found.
-pub(crate) fn piece_of(
+pub(crate) fn piece_of<R: Threads + Sync>(
+    rt: &R,
     alloc: Global,
     sets: &Sets,
     command: &Command,
     text: TextVersion,
+    workers: u32,
 ) -> Result<Piece, AllocError>
     requires within { IsWithin (length sets.now.nodes.now) command.now }
     requires kept { (k : ℕ) → LooksAt sets.now.nodes.now command.now k → IsKept sets.now.nodes.now sets.now.list.items k }
@@ -77,7 +80,7 @@ pub(crate) fn piece_of(
             second,
             ..
         } => {
-            let line = joined_piece(alloc, sets.get(*node), first, second)?;
+            let line = joined_piece(rt, alloc, sets.get(*node), first, second, workers)?;
             Ok(Piece::Line(line))
         }
         Command::Ray {
@@ -93,11 +96,11 @@ pub(crate) fn piece_of(
             Ok(Piece::Line(same_answer(sets.same(*left, *right))))
         }
         Command::Count { node, .. } => {
-            let text = count_piece(alloc, sets.get(*node))?;
+            let text = count_piece(rt, alloc, sets.get(*node), workers)?;
             Ok(Piece::Text(text))
         }
         Command::Print { node, name, .. } => {
-            let text = print_piece(alloc, name, sets.get(*node), text)?;
+            let text = print_piece(rt, alloc, name, sets.get(*node), text, workers)?;
             Ok(Piece::Text(text))
         }
     }

@@ -25,11 +25,13 @@ use std::sync::Wait;
 use std::thread::Threads;
 
 // Writes the command's piece, with a text of this version.
-fn write_piece<K: Sink>(
+fn write_piece<R: Threads + Sync, K: Sink>(
+    rt: &R,
     alloc: Global,
     sets: &Sets,
     command: &Command,
     text: TextVersion,
+    workers: u32,
     sink: &mut K,
 ) -> Result<(), Stop>
     requires within { IsWithin (length sets.now.nodes.now) command.now }
@@ -39,7 +41,7 @@ fn write_piece<K: Sink>(
     ensures quiet { OnOk result (K.faults sink.new ≡ K.faults sink.old) }
     ensures count { K.faults sink.old ≤ K.faults sink.new }
 {
-    let piece = piece_of(alloc, sets, command, text)?;
+    let piece = piece_of(rt, alloc, sets, command, text, workers)?;
     put_all(sink, piece.as_bytes())?;
     Ok(())
 }
@@ -72,7 +74,7 @@ fn work_command<R: Threads + Wait + Sync, K: Sink, G: Gate + Sync>(
     ensures count { K.faults sink.old ≤ K.faults sink.new }
 {
     match bound(sets.nodes, command) {
-        None => write_piece(alloc, sets, command, text, sink),
+        None => write_piece(rt, alloc, sets, command, text, means.how.workers, sink),
         Some((node, operation)) => {
             if ahead {
                 return Ok(());

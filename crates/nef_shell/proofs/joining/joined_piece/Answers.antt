@@ -5,7 +5,7 @@ use Rattle.nef_shell.proofs.Outputs.{joined-piece}
 use Rattle.nef_shell.proofs.joining.joined_piece.Goals as goal
 
 pub returns : goal.returns
-returns c =
+returns g c =
     let p = place_of c.args.first.now in
     let q = place_of c.args.second.now in
     let first = c.in_frame.ensures.in_frame.0 c.if-not-in_frame.false in

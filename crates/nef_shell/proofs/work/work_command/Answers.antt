@@ -6,7 +6,7 @@ use Rattle.nef_shell.proofs.Complexes.{binds-that}
 use Rattle.nef_shell.proofs.work.work_command.Goals as goal
 
 pub write_piece-requires-clause-kept : goal.write_piece-requires-clause-kept
-write_piece-requires-clause-kept g c k looks = c.requires.kept (λ on. c.bound.ensures.question c.in-None.is) k looks
+write_piece-requires-clause-kept g c κs within k looks = c.requires.kept (λ on. c.bound.ensures.question c.in-None.is) k looks
 
 pub returns-in-None-clause-bound : goal.returns-in-None-clause-bound
 returns-in-None-clause-bound g c =
