@@ -16,8 +16,6 @@ use crate::half::{Half, leads_on};
 use nef_complex::{Complex, Edge, SortedCarriers, Table, Vertex, vertex_rows};
 use nef_geo::{List, Plane};
 use std::alloc::Global;
-use std::thread;
-use std::thread::Threads;
 
 // Adds the edges that lead on from vertex number i.
 fn add_edges(
@@ -63,23 +61,21 @@ fn edges_of(alloc: Global, vertices: &[Vertex]) -> Result<Vec<Edge>, OutOfMemory
     Ok(edges)
 }
 
-// The complex with these carriers and vertices, where for each vertex the numbers of the carriers that hold it are given,
-// and all edges between the vertices.
+// As `pair`, where for each vertex the numbers of the carriers that hold it are given.
 fn pair_held(
     alloc: Global,
     carriers: List<Plane>,
     vertices: List<Vertex>,
     at_vertex: Table,
-    edges: Vec<Edge>,
 ) -> Result<Complex, OutOfMemory>
     requires vertices { (s : Set) × AreVerticesOf s carriers vertices }
     requires holders { AreVertexHolders carriers vertices at_vertex }
-    requires edges { Edges (map vertex_of vertices) (map edge_of edges.items) }
     ensures kept { IfOk result (λ c. (c.carriers ≡ carriers) × (c.vertices ≡ vertices)) }
     ensures edges { IfOk result (λ c. Edges (map vertex_of c.vertices) (map edge_of c.edges)) }
     ensures shows { IfOk result (λ c. (s : Set) → AreVerticesOf s carriers vertices → ShowsSet s c) }
 {
-    Complex::of(alloc, carriers, vertices, List::from_vec(edges), at_vertex)
+    let edges = List::from_vec(edges_of(alloc, vertices.as_slice())?);
+    Complex::of(alloc, carriers, vertices, edges, at_vertex)
 }
 
 /// The complex with these carriers and vertices, and with all edges between the vertices. Some set has exactly these
@@ -97,48 +93,5 @@ pub fn pair(
 {
     let carriers = SortedCarriers::of(alloc, carriers)?;
     let rows = vertex_rows(alloc, &carriers, vertices.as_slice())?;
-    let edges = edges_of(alloc, vertices.as_slice())?;
-    pair_held(alloc, carriers.into_planes(), vertices, rows, edges)
-}
-
-// The numbers of the carriers that hold each vertex, by another thread, and all edges of the vertices.
-fn rows_beside_edges<R: Threads + Sync>(
-    rt: &R,
-    alloc: Global,
-    carriers: &SortedCarriers,
-    vertices: &List<Vertex>,
-) -> (Result<Table, OutOfMemory>, Result<Vec<Edge>, OutOfMemory>)
-    requires joined { AreJoined (map vertex_of vertices.now) }
-    ensures rows { IfOk result.0 (λ rows. AreVertexHolders carriers.now vertices.now rows) }
-    ensures edges { IfOk result.1 (λ v. Edges (map vertex_of vertices.now) (map edge_of v.items)) }
-{
-    thread::join(
-        rt,
-        || -> Result<Table, OutOfMemory>
-            ensures { IfOk result (λ rows. AreVertexHolders carriers.entry.now vertices.entry.now rows) }
-        { vertex_rows(alloc, carriers, vertices.as_slice()) },
-        || -> Result<Vec<Edge>, OutOfMemory>
-            requires { AreJoined (map vertex_of vertices.now) }
-            ensures { IfOk result (λ v. Edges (map vertex_of vertices.entry.now) (map edge_of v.items)) }
-        { edges_of(alloc, vertices.as_slice()) },
-    )
-}
-
-/// As `pair`, while another thread looks for the carriers that hold each vertex.
-pub fn pair_beside<R: Threads + Sync>(
-    rt: &R,
-    alloc: Global,
-    carriers: List<Plane>,
-    vertices: List<Vertex>,
-) -> Result<Complex, OutOfMemory>
-    requires vertices { (s : Set) × AreVerticesOf s carriers vertices }
-    ensures kept { IfOk result (λ c. (c.carriers ≡ carriers) × (c.vertices ≡ vertices)) }
-    ensures edges { IfOk result (λ c. Edges (map vertex_of c.vertices) (map edge_of c.edges)) }
-    ensures shows { IfOk result (λ c. (s : Set) → AreVerticesOf s carriers vertices → ShowsSet s c) }
-{
-    let carriers = SortedCarriers::of(alloc, carriers)?;
-    let (rows, edges) = rows_beside_edges(rt, alloc, &carriers, &vertices);
-    let rows = rows?;
-    let edges = edges?;
-    pair_held(alloc, carriers.into_planes(), vertices, rows, edges)
+    pair_held(alloc, carriers.into_planes(), vertices, rows)
 }

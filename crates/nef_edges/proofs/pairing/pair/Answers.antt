@@ -1,22 +1,15 @@
-use Rattle.std.proofs.Common.{List, map, IfOk, sym, subst, ◌∙◌}
+use Rattle.std.proofs.Common.{List, IfOk, sym, subst, ◌∙◌}
 use Rattle.nef_space.specs.Sets.{Set}
 use Rattle.nef_geo.specs.declared.plane.Plane.{Plane}
-use Rattle.nef_complex.specs.Complexes.{AreVerticesOf, ShowsSet, vertex_of, edge_of}
+use Rattle.nef_complex.specs.Complexes.{AreVerticesOf, ShowsSet}
 use Rattle.nef_complex.specs.Index.{AreVertexHolders}
 use Rattle.nef_complex.specs.declared.complex.Complex.{Complex}
 use Rattle.nef_complex.specs.declared.complex.Vertex.{Vertex}
-use Rattle.nef_edges.specs.Pairs.{AreJoined}
-use Rattle.law_complex.specs.Complexes.{Edges}
-use Rattle.nef_edges.proofs.Joined.{are-joined, carriers-ordered}
+use Rattle.nef_edges.proofs.Joined.{carriers-ordered}
 use Rattle.nef_edges.proofs.pairing.pair.Goals as goal
 
 pub of-requires : goal.of-requires
 of-requires c = record { ordered = let V = c.requires.vertices in carriers-ordered V.0 c.args.carriers c.args.vertices V.1 }
-
-pub edges_of-requires : goal.edges_of-requires
-edges_of-requires c = record {
-  joined = subst (λ (vs : List Vertex). AreJoined (map vertex_of vs)) (sym c.as_slice-2.ensures.all) (are-joined c.requires.vertices.0 c.args.carriers c.args.vertices c.requires.vertices.1);
-}
 
 pub pair_held-requires-clause-vertices : goal.pair_held-requires-clause-vertices
 pair_held-requires-clause-vertices c =
@@ -27,9 +20,6 @@ pub pair_held-requires-clause-holders : goal.pair_held-requires-clause-holders
 pair_held-requires-clause-holders c =
     subst (λ (hs : List Plane). AreVertexHolders hs c.args.vertices c.in_ok-rows.rows) (sym c.into_planes.ensures.planes)
     (subst (λ (vs : List Vertex). AreVertexHolders c.in_ok-carriers.carriers vs c.in_ok-rows.rows) c.as_slice.ensures.all c.in_ok-rows.ensures.rows)
-
-pub pair_held-requires-clause-edges : goal.pair_held-requires-clause-edges
-pair_held-requires-clause-edges c = subst (λ (vs : List Vertex). Edges (map vertex_of vs) (map edge_of c.in_ok-edges.edges.items)) c.as_slice-2.ensures.all c.in_ok-edges.ensures.edges
 
 pub returns-clause-shows : goal.returns-clause-shows
 returns-clause-shows c =
