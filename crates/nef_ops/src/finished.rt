@@ -12,21 +12,31 @@ use std::alloc::Global;
 use std::sync::Wait;
 use std::thread::Threads;
 
-// How many jobs pay for one more worker: starting a thread costs as much as some dozens of jobs.
-const JOBS_FOR_A_WORKER: u64 = 128;
+// So many jobs pay for one more worker. Starting a thread costs as much as some dozens of them. On the lock board each
+// job takes two turns besides, which the passes have one after another: where a job takes no longer than its turns, as
+// most do when a small set is joined to a large one, four workers are no faster than one.
+fn jobs_for_a_worker(board: BoardKind) -> u64
+    ensures some { 0 < result }
+{
+    match board {
+        BoardKind::Lock => 2048,
+        BoardKind::Free => 512,
+    }
+}
 
 // So many workers run beside each other where no more were asked for, however few jobs there are.
 const WORKERS_AS_ASKED: u32 = 2;
 
 // How many of the workers work so many jobs. Of more than two no more start than the jobs pay for.
-fn crew(workers: u32, jobs: u64) -> u32
+fn crew(workers: u32, jobs: u64, paying: u64) -> u32
+    requires some { 0 < paying }
     ensures few { workers ≤ 2 → result ≡ workers }
-    ensures paid { 2 < workers → result ≡ min workers (max 1 (jobs / 128)) }
+    ensures paid { 2 < workers → result ≡ min workers (max 1 (jobs / paying)) }
 {
     if workers <= WORKERS_AS_ASKED {
         return workers;
     }
-    let paid = (jobs / JOBS_FOR_A_WORKER).max(1);
+    let paid = (jobs / paying).max(1);
     u64::from(workers).min(paid) as u32
 }
 
@@ -44,7 +54,7 @@ pub(crate) fn finished<R: Threads + Wait + Sync, J: Job, G: Gate + Sync>(
     ensures len { IfOk result (λ v. vec_len v ≡ J.count job.now) }
     ensures right { IfOk result (λ v. (i : ℕ) (out : _) → slice_get v.items i ≡ Some out → J.right job.now i out) }
 {
-    let workers = crew(how.workers, job.jobs());
+    let workers = crew(how.workers, job.jobs(), jobs_for_a_worker(how.board));
     let seats = workers + 1;
     match how.board {
         BoardKind::Lock => {
