@@ -1,6 +1,6 @@
 //! The candidates of a combination, listed by several threads.
 
-ghost use Rattle.std.specs.Prelude.{◌≡◌, ◌++◌, IfOk, []};
+ghost use Rattle.std.specs.Prelude.{◌≡◌, ◌≤◌, ◌++◌, ◌↔◌, length, IfOk, IsTrue, []};
 ghost use Rattle.nef_space.specs.Sets.{Set};
 ghost use Rattle.nef_complex.specs.Complexes.{complex_of, ShowsSet};
 ghost use Rattle.nef_cand.specs.Points.{Adds, CutsOne, ListsCandidates};
@@ -81,12 +81,14 @@ const THREADS: u32 = 4;
 // A set with fewer carriers is small: its edges are cut sooner than threads start.
 const MANY_CARRIERS: usize = 48;
 
-// Whether the set has few carriers.
-fn is_small(c: &Complex) -> bool {
-    c.carriers.len() < MANY_CARRIERS
+/// Whether each of the two sets has so many carriers that work on their candidates is worth several threads.
+pub fn are_large(a: &Complex, b: &Complex) -> bool
+    ensures large { IsTrue result ↔ ((48 ≤ length a.now.carriers) × (48 ≤ length b.now.carriers)) }
+{
+    a.carriers.len() >= MANY_CARRIERS && b.carriers.len() >= MANY_CARRIERS
 }
 
-/// As `candidates`. Where there are four workers at least, and neither set is small, four threads list the points strictly
+/// As `candidates`. Where there are four workers at least, and both sets are large, four threads list the points strictly
 /// inside edges, each those on half of the carriers of one set; where a thread can't be made another does its part.
 pub fn candidates_beside<R: Threads + Sync>(
     rt: &R,
@@ -99,7 +101,7 @@ pub fn candidates_beside<R: Threads + Sync>(
     requires second { (t : Set) × ShowsSet t b.now }
     ensures lists { IfOk result (λ v. ListsCandidates a.now b.now v.items) }
 {
-    if workers < THREADS || is_small(a) || is_small(b) {
+    if workers < THREADS || !are_large(a, b) {
         return candidates(alloc, a, b);
     }
     let (front, back) = b.carriers.as_slice().split_at(b.carriers.len() / 2);

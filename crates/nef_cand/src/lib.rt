@@ -10,7 +10,7 @@ mod line;
 mod listing;
 mod points;
 
-pub use beside::candidates_beside;
+pub use beside::{are_large, candidates_beside};
 pub use listing::{candidates, cut_candidates};
 pub use nef_complex::OutOfMemory;
 pub use points::vertex_points;

@@ -6,9 +6,9 @@ ghost use Rattle.nef_combine.specs.Sets.{op_set};
 ghost use Rattle.nef_complex.specs.Complexes.{ShowsSet};
 
 use crate::OutOfMemory;
-use crate::finished::finished;
+use crate::finished::{Load, finished};
 use crate::local::combined_map;
-use nef_cand::candidates_beside;
+use nef_cand::{are_large, candidates_beside};
 use nef_complex::Complex;
 use nef_core::{How, Job};
 use nef_geo::Point;
@@ -53,6 +53,16 @@ impl<'a> Job for BinaryJob<'a> {
     }
 }
 
+// Most candidates of two large sets are looked for in both. Where one set is small most lie far from it, so that one look
+// tells their maps.
+fn load_of(a: &Complex, b: &Complex) -> Load {
+    if are_large(a, b) {
+        Load::Heavy
+    } else {
+        Load::Light
+    }
+}
+
 /// The complex of the combination of the sets of two complexes. One job for each candidate, in their order, is worked by
 /// `how.workers` workers, from 1 to 64, over the board that `how` names; the gate is told of each before it begins.
 /// `OutOfMemory` says that memory was wanted and not found.
@@ -78,7 +88,7 @@ pub fn binary<R: Threads + Wait + Sync, G: Gate + Sync>(
         second: b,
         points,
     };
-    let maps = finished(rt, alloc, &job, how, gate)?;
+    let maps = finished(rt, alloc, &job, load_of(a, b), how, gate)?;
     let carriers = merge_carriers(alloc, a, b)?;
     let complex = assemble(rt, alloc, carriers, points, maps, how.workers)?;
     Ok(complex)

@@ -12,15 +12,25 @@ use std::alloc::Global;
 use std::sync::Wait;
 use std::thread::Threads;
 
-// So many jobs pay for one more worker. Starting a thread costs as much as some dozens of them. On the lock board each
-// job takes two turns besides, which the passes have one after another: where a job takes no longer than its turns, as
-// most do when a small set is joined to a large one, four workers are no faster than one.
-fn jobs_for_a_worker(board: BoardKind) -> u64
+/// How long a job takes, as far as its operation can tell beforehand.
+#[derive(Debug, Clone, Copy, PartialEq, Eq)]
+pub(crate) enum Load {
+    /// Mostly no longer than its two turns on the lock board.
+    Light,
+    /// Several times as long.
+    Heavy,
+}
+
+// So many jobs pay for one more worker. Starting a thread and waiting for its end costs as much as a hundred of them. On
+// the lock board each job takes two turns besides, which the passes have one after another: where a job takes no longer
+// than its turns, four workers are no faster than one.
+fn jobs_for_a_worker(board: BoardKind, load: Load) -> u64
     ensures some { 0 < result }
 {
-    match board {
-        BoardKind::Lock => 2048,
-        BoardKind::Free => 512,
+    match (board, load) {
+        (_, Load::Heavy) => 256,
+        (BoardKind::Free, Load::Light) => 512,
+        (BoardKind::Lock, Load::Light) => 8192,
     }
 }
 
@@ -46,6 +56,7 @@ pub(crate) fn finished<R: Threads + Wait + Sync, J: Job, G: Gate + Sync>(
     rt: &R,
     alloc: Global,
     job: &J,
+    load: Load,
     how: &How,
     gate: &G,
 ) -> Result<Vec<J::Out>, OutOfMemory>
@@ -54,7 +65,7 @@ pub(crate) fn finished<R: Threads + Wait + Sync, J: Job, G: Gate + Sync>(
     ensures len { IfOk result (λ v. vec_len v ≡ J.count job.now) }
     ensures right { IfOk result (λ v. (i : ℕ) (out : _) → slice_get v.items i ≡ Some out → J.right job.now i out) }
 {
-    let workers = crew(how.workers, job.jobs(), jobs_for_a_worker(how.board));
+    let workers = crew(how.workers, job.jobs(), jobs_for_a_worker(how.board, load));
     let seats = workers + 1;
     match how.board {
         BoardKind::Lock => {
