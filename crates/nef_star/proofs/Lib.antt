@@ -15,6 +15,8 @@ pub mod Pushed
 pub mod Cuts
 pub mod Combined
 pub mod Joined
+pub mod Alternating
 pub mod RoundStars
+pub mod TwoWays
 pub mod OtherEnds
 pub mod MirrorStars

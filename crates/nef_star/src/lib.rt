@@ -2,6 +2,7 @@
 #![tactic(auto)]
 
 mod combining;
+mod crossing;
 mod cut;
 mod laws;
 mod mirror;
