@@ -16,6 +16,7 @@ pub mod Cuts
 pub mod Combined
 pub mod Joined
 pub mod Alternating
+pub mod Crossings
 pub mod RoundStars
 pub mod TwoWays
 pub mod OtherEnds

@@ -5,6 +5,7 @@ mod combining;
 mod crossing;
 mod cut;
 mod laws;
+mod line;
 mod mirror;
 mod needless;
 mod op;
@@ -13,6 +14,7 @@ mod star;
 
 pub use combining::merge;
 pub use laws::star_laws;
+pub use line::{Line, crossed};
 pub use mirror::mirrored;
 pub use needless::simplify;
 pub use op::Op;
