@@ -1,4 +1,3 @@
-pub mod Labels
 pub mod Turns
 pub mod Lefts
 pub mod Labelled
