@@ -8,7 +8,7 @@ use Rattle.law_sphere.specs.Maps.{Map, items, item_normal}
 use Rattle.law_build.specs.Overlays.{IsCrossing, IsAxis}
 use Rattle.nef_sover.specs.declared.axes.Axis.{Axis}
 use Rattle.nef_sover.specs.declared.tracks.Track.{Track}
-use Rattle.nef_sover.specs.Tracks.{normal_of, place_of, IsTrackOf, AreTracks}
+use Rattle.nef_sover.specs.Tracks.{normal_of, number_of, IsTrackOf, AreTracks}
 use Rattle.nef_sover.specs.Axes.{Crossed, Adds, HasDirection, HasEachOf, AreInOrder, AreAxes, IsOnSvertex, IsPlaced, MeetsSome}
 use Rattle.nef_sover.proofs.Places.{zip-first, zip-second}
 use Rattle.nef_sover.proofs.Adding.{IsNew, adds-both}
@@ -30,20 +30,28 @@ module _ (A B : Map) (xs ys : List Track) (I : AreTracks A xs) (J : AreTracks B 
         on_y = (q.2.on d).0 o.1;
       }
 
-  -- it lies at the places of both items
+  -- the items that are named cross there
   meet-placed : (c : Crossed) (d : Vector) → MeetsSome xs ys c d → IsPlaced A B c d
   meet-placed c d (i, x, a, m) =
       let p = zip-second (IsTrackOf A) xs (items A) i x I a in
       let q = zip-second (IsTrackOf B) ys (items B) m.0 m.1 J m.2 in
       let b = m.3 in let o = b.0 in
-      subst (λ (e : Crossed). IsPlaced A B e d) (sym b.2) (p.2.place d ((p.2.on d).0 o.0), q.2.place d ((q.2.on d).0 o.1))
+      subst (λ (e : Crossed). IsPlaced A B e d) (sym b.2) (record {
+        x = p.0;
+        y = q.0;
+        of_a = p.2.number;
+        of_b = q.2.number;
+        apart = subst (λ (v : Vector). IsDirection (cross (item_normal p.0) v)) q.2.normal (subst (λ (v : Vector). IsDirection (cross v (normal_of m.1))) p.2.normal b.1);
+        on_x = (p.2.on d).0 o.0;
+        on_y = (q.2.on d).0 o.1;
+      })
 
   crossing-meet : (d : Vector) → IsCrossing A B d → (c : Crossed) × MeetsSome xs ys c d
   crossing-meet d c =
       let p = zip-first (IsTrackOf A) xs (items A) c.i c.x I c.of_a in
       let q = zip-first (IsTrackOf B) ys (items B) c.k c.y J c.of_b in
       let apart = subst (λ (v : Vector). IsDirection (cross (normal_of p.0) v)) (sym q.2.normal) (subst (λ (v : Vector). IsDirection (cross v (item_normal c.y))) (sym p.2.normal) c.apart) in
-      (Some (place_of p.0, place_of q.0), (c.i, p.0, p.1, (c.k, q.0, q.1, (((p.2.on d).1 c.on_x, (q.2.on d).1 c.on_y), apart, refl))))
+      (Some (number_of p.0, number_of q.0), (c.i, p.0, p.1, (c.k, q.0, q.1, (((p.2.on d).1 c.on_x, (q.2.on d).1 c.on_y), apart, refl))))
 
   -- a svertex, or a direction in which two items meet, which are named
   abbrev pub IsFound : Crossed → Vector → Type 0

@@ -9,3 +9,4 @@ pub mod Lone
 pub mod StarsMerged
 pub mod Sloops
 pub mod SloopMaps
+pub mod CrossedStars

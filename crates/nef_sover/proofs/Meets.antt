@@ -9,14 +9,13 @@ use Rattle.law_cyclic.specs.Arcs.{IsOnCircle}
 use Rattle.law_cyclic.proofs.StrictlyOn.{same-sym}
 use Rattle.law_cyclic.proofs.Directions.{same-refl, same-second, level-same, arcs_are_of_directions, two_meets_at}
 use Rattle.nef_arc.proofs.Ends.{source_on, target_on}
-use Rattle.nef_smap.specs.declared.map.SPlace.{SPlace}
 use Rattle.nef_smap.specs.declared.map.SVertex.{SVertex}
 use Rattle.nef_smap.specs.declared.map.SphereMap.{SphereMap}
 use Rattle.nef_smap.proofs.Lists.{map-at, at-map}
 use Rattle.nef_smap.specs.Maps.{svertex_of, map_of, IsSphereMap}
 use Rattle.nef_sover.specs.declared.tracks.Track.{Track}
 use Rattle.nef_sover.specs.declared.tracks.Track.TheVariants.{Arc, Sloop}
-use Rattle.nef_sover.specs.Tracks.{normal_of, place_of, LiesOn}
+use Rattle.nef_sover.specs.Tracks.{normal_of, number_of, LiesOn}
 use Rattle.nef_sover.specs.declared.axes.Axis.{Axis}
 use Rattle.nef_sover.specs.Axes.{Crossed, Adds, AreNamed, IsCommon, IsMeetAlong, IsMeet, IsOnSvertex}
 use Rattle.nef_sover.proofs.Places.{read-at}
@@ -24,14 +23,14 @@ use Rattle.nef_sover.proofs.Adding.{adds-none, adds-one, adds-both, adds-as, Any
 
 on-same : (x : Track) (d e : Vector) → SameDirection d e → LiesOn x d → LiesOn x e
 on-same (Arc k a) d e s o = arcs_are_of_directions (vector_of a.normal) (vector_of a.source) (vector_of a.target) d e a.normal.some (source_on a) (target_on a) s o
-on-same (Sloop l) d e s o = record { direction = same-second d e s; level = level-same (vector_of l.normal) d e s o.level }
+on-same (Sloop k l) d e s o = record { direction = same-second d e s; level = level-same (vector_of l.normal) d e s o.level }
 
 on-circle : (x : Track) (d : Vector) → LiesOn x d → IsOnCircle (normal_of x) d
 on-circle (Arc k a) d o = o.on_circle
-on-circle (Sloop l) d o = o
+on-circle (Sloop k l) d o = o
 
 module _ (x y : Track) where
-  pub common-adds : (xs : List Axis) (d : Dir) (p q : SPlace) → IsAtMost svertex_limit (vector_of d) → IsCommon x y (vector_of d) → p ≡ place_of x → q ≡ place_of y
+  pub common-adds : (xs : List Axis) (d : Dir) (p q : ℕ) → IsAtMost svertex_limit (vector_of d) → IsCommon x y (vector_of d) → p ≡ number_of x → q ≡ number_of y
       → Adds (IsMeetAlong x y (vector_of d)) xs (xs ++ record { dir = d; crossed = Some (p, q) } ∷ [])
   common-adds xs d p q s b e f = adds-one (IsMeetAlong x y (vector_of d)) xs (record { dir = d; crossed = Some (p, q) }) ((b, same-refl (vector_of d) d.some, (λ i. Some (e i, f i))), s) (λ k v w. w.1)
 

@@ -1,5 +1,5 @@
 -- Two stars of one direction, merged.
-use Rattle.std.proofs.Common.{ℕ, List, map, sym, subst, ◌∙◌}
+use Rattle.std.proofs.Common.{◌≡◌, ℕ, List, map, sym, subst, ◌∙◌}
 use Rattle.std.specs.List.{All}
 use Rattle.nef_space.specs.Vectors.{Vector, IsDirection, cross, SameDirection}
 use Rattle.nef_space.specs.declared.label.Label.{Label}
@@ -16,12 +16,22 @@ use Rattle.nef_star.specs.declared.star.Star.{Star}
 use Rattle.nef_star.specs.Ops.{op_label}
 use Rattle.nef_star.specs.Stars.{star_of, IsStar, IsCombined}
 use Rattle.nef_star.proofs.Labelled.{each_has_one_label}
+use Rattle.nef_smap.specs.Stars.{IsNeighbourhood}
 use Rattle.nef_smap.proofs.Lists.{map-at, at-map, at-get, at-contains, contains-at}
 use Rattle.nef_smap.proofs.WellFormed.{star-well_formed}
 use Rattle.nef_sover.specs.declared.axes.Axis.{Axis}
 use Rattle.nef_sover.specs.Axes.{AreAxes}
-use Rattle.nef_sover.specs.Merged.{AreStarsAt, IsMergedAt, AreMerged}
+use Rattle.nef_sover.specs.Merged.{IsMergedAt, AreMerged}
 use Rattle.nef_sover.proofs.Places.{zip-first, zip-second, some-at}
+
+-- p and q are the stars of A and B at d
+pub record AreStarsAt (A B : Map) (d : Dir) (p q : Star) : Type 0 where
+  pub first : IsStar p
+  pub second : IsStar q
+  pub first_axis : p.axis ≡ d
+  pub second_axis : q.axis ≡ d
+  pub shows_first : IsNeighbourhood (star_of p) A (vector_of d)
+  pub shows_second : IsNeighbourhood (star_of q) B (vector_of d)
 
 module _ (A B : Map) (op : Op) (d : Dir) (p q t : Star) (M : AreStarsAt A B d p q) (T : IsStar t) (C : IsCombined op p q t) where
   near : (e : Vector) (l : Label) → IsDirection (cross (vector_of d) e) → StarLabel (star_of t) e l → NearByOp A B (op_label op) (vector_of d) e l

@@ -5,18 +5,16 @@ use Rattle.nef_space.specs.Limits.{svertex_limit}
 use Rattle.nef_space.specs.Vectors.{Vector, IsAtMost, IsDirection, cross, SameDirection}
 use Rattle.nef_geo.specs.Shapes.{vector_of}
 use Rattle.law_sphere.specs.Vectors.{VectorBelow}
-use Rattle.law_sphere.specs.Maps.{At, Map}
+use Rattle.law_sphere.specs.Maps.{At, Item, Map, items, item_normal, OnItem}
 use Rattle.law_sphere.specs.Least.{InOrder}
 use Rattle.law_build.specs.Overlays.{OnSvertex, IsAxis}
-use Rattle.nef_smap.specs.Sides.{IsPlaceOf}
-use Rattle.nef_smap.specs.declared.map.SPlace.{SPlace}
 use Rattle.nef_sover.specs.declared.axes.Axis.{Axis}
 use Rattle.nef_sover.specs.declared.tracks.Track.{Track}
-use Rattle.nef_sover.specs.Tracks.{normal_of, place_of, LiesOn}
+use Rattle.nef_sover.specs.Tracks.{normal_of, number_of, LiesOn}
 
--- the places on both maps of a direction in which items of theirs cross
+-- the numbers of the items of both maps that cross in a direction
 abbrev pub Crossed : Type 0
-Crossed = Option (SPlace × SPlace)
+Crossed = Option (ℕ × ℕ)
 
 -- one of xs has the direction of d
 abbrev pub HasDirection : List Axis → Vector → Type 0
@@ -36,9 +34,9 @@ IsOnSvertex M c d = OnSvertex M d × (c ≡ None)
 abbrev pub IsCommon : Track → Track → Vector → Type 0
 IsCommon x y d = LiesOn x d × LiesOn y d
 
--- c has the places of both items
+-- c has the numbers of both items
 abbrev pub AreNamed : Track → Track → Crossed → Type 0
-AreNamed x y c = c ≡ Some (place_of x, place_of y)
+AreNamed x y c = c ≡ Some (number_of x, number_of y)
 
 -- both items, which c names, hold d, which is the direction of e
 abbrev pub IsMeetAlong : Track → Track → Vector → Crossed → Vector → Type 0
@@ -65,10 +63,20 @@ pub record HasEachOf (xs ys : List Axis) : Type 0 where
   pub among : (y : Axis) → Contains ys y → Contains xs y
   pub each : (x : Axis) → Contains xs x → (y : Axis) × Contains ys y × (y.dir ≡ x.dir)
 
--- d lies at the places that are named
+-- item i of A and item k of B, with another normal, meet at d
+pub record IsCrossedAt (A B : Map) (i k : ℕ) (d : Vector) : Type 0 where
+  pub x : Item
+  pub y : Item
+  pub of_a : At (items A) i x
+  pub of_b : At (items B) k y
+  pub apart : IsDirection (cross (item_normal x) (item_normal y))
+  pub on_x : OnItem A x d
+  pub on_y : OnItem B y d
+
+-- the items that are named cross at d
 abbrev pub IsPlaced : Map → Map → Crossed → Vector → Type 0
 IsPlaced A B None d = Unit {0}
-IsPlaced A B (Some p) d = IsPlaceOf A d p.0 × IsPlaceOf B d p.1
+IsPlaced A B (Some p) d = IsCrossedAt A B p.0 p.1 d
 
 -- xs are the axes of the overlay of A and B, in order
 pub record AreAxes (A B : Map) (xs : List Axis) : Type 0 where

@@ -5,23 +5,21 @@ use Rattle.nef_space.specs.Vectors.{Vector, IsDirection, cross}
 use Rattle.nef_space.specs.declared.label.Label.{Label}
 use Rattle.nef_geo.specs.Shapes.{vector_of}
 use Rattle.nef_geo.specs.declared.dir.Dir.{Dir}
-use Rattle.law_sphere.specs.Maps.{Map}
+use Rattle.law_sphere.specs.Maps.{Map, Item, item_normal, item_mark, item_pos, item_neg}
 use Rattle.law_sphere.specs.Stars.{StarLabel}
 use Rattle.law_sphere.specs.Labelling.{ByOp}
 use Rattle.law_build.specs.Overlays.{NearByOp}
+use Rattle.nef_star.specs.declared.line.Line.{Line}
 use Rattle.nef_star.specs.declared.star.Star.{Star}
 use Rattle.nef_star.specs.Stars.{star_of, IsStar}
-use Rattle.nef_smap.specs.Stars.{IsNeighbourhood}
 use Rattle.nef_sover.specs.declared.axes.Axis.{Axis}
 
--- p and q are the stars of A and B at d
-pub record AreStarsAt (A B : Map) (d : Dir) (p q : Star) : Type 0 where
-  pub first : IsStar p
-  pub second : IsStar q
-  pub first_axis : p.axis ≡ d
-  pub second_axis : q.axis ≡ d
-  pub shows_first : IsNeighbourhood (star_of p) A (vector_of d)
-  pub shows_second : IsNeighbourhood (star_of q) B (vector_of d)
+-- l is the item x near a direction on it
+pub record IsLineOf (x : Item) (l : Line) : Type 0 where
+  pub normal : vector_of l.normal ≡ item_normal x
+  pub mark : l.mark ≡ item_mark x
+  pub pos : l.pos ≡ item_pos x
+  pub neg : l.neg ≡ item_neg x
 
 -- t has the axis d, and op of both maps' labels on it and near it
 pub record IsMergedAt (A B : Map) (op : Label → Label → Label) (d : Dir) (t : Star) : Type 0 where

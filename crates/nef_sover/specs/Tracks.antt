@@ -7,31 +7,28 @@ use Rattle.law_cyclic.specs.Arcs.{IsOnCircle}
 use Rattle.nef_geo.specs.Shapes.{vector_of}
 use Rattle.nef_arc.specs.Arcs.{normal_vector, IsOn}
 use Rattle.law_sphere.specs.Maps.{At, Map, Item as PlainItem, items, item_normal, OnItem}
-use Rattle.nef_smap.specs.Sides.{IsPlaceOf}
-use Rattle.nef_smap.specs.declared.map.SPlace.{SPlace}
-use Rattle.nef_smap.specs.declared.map.SPlace.TheVariants as place
 use Rattle.nef_sover.specs.declared.tracks.Track.{Track}
 use Rattle.nef_sover.specs.declared.tracks.Track.TheVariants.{Arc, Sloop}
 
 abbrev pub normal_of : Track → Vector
 normal_of (Arc k a) = normal_vector a
-normal_of (Sloop l) = vector_of l.normal
+normal_of (Sloop k l) = vector_of l.normal
 
 -- the direction is strictly on the arc, or on the sloop
 abbrev pub LiesOn : Track → Vector → Type 0
 LiesOn (Arc k a) d = IsOn a d
-LiesOn (Sloop l) d = IsOnCircle (vector_of l.normal) d
+LiesOn (Sloop k l) d = IsOnCircle (vector_of l.normal) d
 
--- the place on its map of the directions that the item holds
-abbrev pub place_of : Track → SPlace
-place_of (Arc k a) = place.Arc k
-place_of (Sloop l) = place.Loop
+-- the number of the item
+abbrev pub number_of : Track → ℕ
+number_of (Arc k a) = k
+number_of (Sloop k l) = k
 
--- i has the normal, the directions and the place of the item x of the map
+-- i has the normal, the directions and the number of the item x of the map
 pub record IsTrackOf (M : Map) (i : Track) (x : PlainItem) : Type 0 where
   pub normal : normal_of i ≡ item_normal x
   pub on : (d : Vector) → LiesOn i d ↔ OnItem M x d
-  pub place : (d : Vector) → OnItem M x d → IsPlaceOf M d (place_of i)
+  pub number : At (items M) (number_of i) x
 
 -- they are those of the items of the map by their numbers
 abbrev pub AreTracks : Map → List Track → Type 0

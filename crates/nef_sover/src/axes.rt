@@ -11,15 +11,15 @@ ghost use Rattle.nef_sover.specs.Axes.{Adds, AreInOrder, AreAxes, HasEachOf, IsO
 use crate::OutOfMemory;
 use crate::tracks::{Track, tracks_of};
 use nef_geo::{Dir, cross};
-use nef_smap::{SPlace, SphereMap};
+use nef_smap::SphereMap;
 use std::alloc::Global;
 
-/// A direction of an overlay. Where an item of the one map crosses one of the other there, `crossed` tells their places,
+/// A direction of an overlay. Where an item of the one map crosses one of the other there, `crossed` tells their numbers,
 /// so that no map needs to be searched for the direction.
 #[derive(Debug, Clone, Copy, PartialEq, Eq)]
 pub(crate) struct Axis {
     pub(crate) dir: Dir,
-    pub(crate) crossed: Option<(SPlace, SPlace)>,
+    pub(crate) crossed: Option<(usize, usize)>,
 }
 
 // Adds the directions of the svertices.
@@ -50,7 +50,7 @@ fn add_common(axes: &mut Vec<Axis>, x: &Track, y: &Track, d: Dir) -> Result<(), 
     if both_hold(x, y, &d) {
         axes.push(Axis {
             dir: d,
-            crossed: Some((x.place(), y.place())),
+            crossed: Some((x.number(), y.number())),
         })?;
     }
     Ok(())
@@ -104,7 +104,7 @@ fn sort_once(axes: &mut Vec<Axis>)
 }
 
 /// The directions of the svertices of both maps and those in which an item of the first meets an item of the second
-/// with another normal, in increasing order, once each. Where two items meet, their places on the maps come along.
+/// with another normal, in increasing order, once each. Where two items meet, their numbers come along.
 pub(crate) fn axes_of(alloc: Global, a: &SphereMap, b: &SphereMap) -> Result<Vec<Axis>, OutOfMemory>
     requires first { IsSphereMap a.now }
     requires second { IsSphereMap b.now }

@@ -4,20 +4,20 @@ ghost use Rattle.std.specs.Prelude.{◌≡◌, ◌↔◌, ◌<◌, length, IsTru
 ghost use Rattle.law_sphere.specs.Maps.{At, Item as PlainItem, items};
 ghost use Rattle.nef_geo.specs.Shapes.{vector_of};
 ghost use Rattle.nef_smap.specs.Maps.{map_of, IsSphereMap};
-ghost use Rattle.nef_sover.specs.Tracks.{normal_of, place_of, LiesOn, IsTrackOf, AreTracks, AreSmall};
+ghost use Rattle.nef_sover.specs.Tracks.{normal_of, number_of, LiesOn, IsTrackOf, AreTracks, AreSmall};
 
 use crate::OutOfMemory;
 use nef_arc::{Arc, strictly_on};
 use nef_geo::Dir;
-use nef_smap::{Item, SLoop, SPlace, SphereMap};
+use nef_smap::{Item, SLoop, SphereMap};
 use std::alloc::Global;
 
-/// The directions of an item: an arc with the directions of its ends, which are looked up once, and its number, or a
+/// The directions of an item, with its number: an arc with the directions of its ends, which are looked up once, or a
 /// sloop.
 #[derive(Debug, Clone, Copy, PartialEq, Eq)]
 pub(crate) enum Track {
     Arc(usize, Arc),
-    Sloop(SLoop),
+    Sloop(usize, SLoop),
 }
 
 impl Track {
@@ -27,7 +27,7 @@ impl Track {
     {
         match self {
             Track::Arc(_, arc) => arc.normal(),
-            Track::Sloop(circle) => &circle.normal,
+            Track::Sloop(_, circle) => &circle.normal,
         }
     }
 
@@ -37,17 +37,16 @@ impl Track {
     {
         match self {
             Track::Arc(_, arc) => strictly_on(arc, d),
-            Track::Sloop(circle) => circle.holds(d),
+            Track::Sloop(_, circle) => circle.holds(d),
         }
     }
 
-    /// The place on its map of the directions that the item holds.
-    pub(crate) fn place(&self) -> SPlace
-        ensures place { result ≡ place_of self.now }
+    /// The number of the item.
+    pub(crate) fn number(&self) -> usize
+        ensures number { result ≡ number_of self.now }
     {
         match self {
-            Track::Arc(number, _) => SPlace::Arc(*number),
-            Track::Sloop(_) => SPlace::Loop,
+            Track::Arc(number, _) | Track::Sloop(number, _) => *number,
         }
     }
 }
@@ -60,7 +59,7 @@ fn track_at(map: &SphereMap, number: usize) -> Track
 {
     match map.item_at(number) {
         Item::Arc(arc) => Track::Arc(number, map.great_arc(&arc)),
-        Item::Loop(circle) => Track::Sloop(circle),
+        Item::Loop(circle) => Track::Sloop(number, circle),
     }
 }
 
@@ -70,7 +69,7 @@ pub(crate) fn tracks_of(alloc: Global, map: &SphereMap) -> Result<Vec<Track>, Ou
     ensures tracks { IfOk result (λ v. AreTracks (map_of map.now) v.items) }
     ensures small { IfOk result (λ v. AreSmall v.items) }
 {
-    let mut tracks = Vec::new(alloc);
+    let mut tracks = Vec::with_capacity(alloc, map.item_count())?;
     for number in 0..map.item_count() {
         tracks.push(track_at(map, number))?;
     }

@@ -1,4 +1,3 @@
-pub mod Labels
 pub mod Turns
 pub mod Lefts
 pub mod Labelled
@@ -15,6 +14,9 @@ pub mod Pushed
 pub mod Cuts
 pub mod Combined
 pub mod Joined
+pub mod Alternating
+pub mod Crossings
 pub mod RoundStars
+pub mod TwoWays
 pub mod OtherEnds
 pub mod MirrorStars

@@ -3,4 +3,5 @@ pub mod Turning
 pub mod Stars
 pub mod Laws
 pub mod Rounds
+pub mod Lines
 pub mod Mirrors

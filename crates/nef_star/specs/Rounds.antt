@@ -1,7 +1,7 @@
 -- Stars put together from their rays, each with the label of the sector after it.
 use Rattle.std.specs.Prelude.{◌≡◌, ℕ, ◌<◌, List, length}
 use Rattle.nef_space.specs.Lists.{IsAt}
-use Rattle.nef_space.specs.Vectors.{Vector}
+use Rattle.nef_space.specs.Vectors.{Vector, SameDirection}
 use Rattle.nef_space.specs.declared.label.Label.{Label}
 use Rattle.nef_star.specs.declared.star.Ray.{Ray}
 use Rattle.nef_star.specs.declared.star.Star.{Star}
@@ -43,3 +43,12 @@ pub record IsEnded (ends : List End) (n : ℕ) (t s : Star) : Type 0 where
   pub count : length s.rays.items ≡ length t.rays.items
   pub lefts : (i : ℕ) → left_at s.rays.items i ≡ left_at t.rays.items i
   pub ends_at : (k : ℕ) → k < n → IsEndAt ends s k
+
+-- s has exactly the ways of the ends, and each ray is one of them
+abbrev pub IsWhole : List End → Star → Type 0
+IsWhole ends s = (t : Star) × HasWays ends (length ends) t × IsEnded ends (length t.rays.items) t s
+
+-- there are two ends, which go different ways
+pub record AreTwoWays (ends : List End) : Type 0 where
+  pub two : length ends ≡ 2
+  pub apart : (e f : End) → IsAt ends 0 e → IsAt ends 1 f → SameDirection (left_of e.0) (left_of f.0) → ⊥

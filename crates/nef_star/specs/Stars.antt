@@ -1,5 +1,5 @@
 -- The program's stars as stars of any size, and what holds of each.
-use Rattle.std.specs.Prelude.{◌≡◌, ℕ, ◌+◌, ◌<◌, pos, List, [], ◌∷◌, length, map, take, drop, ◌++◌, slice_index_or, true, false, cond, ◌⊎◌}
+use Rattle.std.specs.Prelude.{◌≡◌, ℕ, ◌+◌, ◌-◌, ◌<◌, pos, List, [], ◌∷◌, length, map, take, drop, ◌++◌, slice_index_or, true, false, cond, ◌⊎◌}
 use Rattle.std.specs.List.{All}
 use Rattle.nef_space.specs.Limits.{normal_limit, svertex_limit}
 use Rattle.nef_space.specs.Numbers.{IsBelow}
@@ -103,6 +103,13 @@ pub record IsCut (d : Vector) (t s : Star) : Type 0 where
   pub has : HasLeft s d
   pub still : (v : Vector) → HasLeft t v → HasLeft s v
   pub only : (v : Vector) → HasLeft s v → HasLeft t v ⊎ (v ≡ d)
+
+-- two stars have two rays each; ray i of s comes between the first ray of t and its second, and the other one between the second and the first
+pub record AreAlternate (t s : Star) (i : ℕ) : Type 0 where
+  pub two : length t.rays.items ≡ 2
+  pub other_two : length s.rays.items ≡ 2
+  pub past : LeftPast t (left_at s.rays.items i) 0
+  pub past_second : LeftPast t (left_at s.rays.items (1 - i)) 1
 
 -- t with the rays and sectors counted from number m on
 pub record IsCountedFrom (m : ℕ) (t s : Star) : Type 0 where

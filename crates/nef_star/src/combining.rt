@@ -6,6 +6,7 @@ ghost use Rattle.nef_geo.specs.Shapes.{vector_of};
 ghost use Rattle.nef_star.specs.Stars.{left_at, IsTurned, IsStar, LeftGives, LeftAfter, HasLeft, IsCombined, IsLeftCombined, IsCombinedAt};
 
 use crate::OutOfMemory;
+use crate::crossing::{alternate, cross};
 use crate::cut::{cut_by, left_of_ray, place_of, with_mark};
 use crate::needless::begin_with_least;
 use crate::op::Op;
@@ -87,6 +88,25 @@ fn combine(star: &mut Star, other: &Star, op: Op)
     combine_rays(star, other, op);
 }
 
+// Combines the star with any other.
+fn mix(star: &mut Star, other: &Star, op: Op) -> Result<(), OutOfMemory>
+    requires turned { IsTurned star.old }
+    requires other { IsTurned other.now }
+    requires one_axis { other.now.axis ≡ star.old.axis }
+    ensures turned { OnOk result (IsTurned star.new) }
+    ensures combined { OnOk result (IsCombined op star.old other.now star.new) }
+{
+    if alternate(star, other, 0) {
+        return cross(star, other, 0, op);
+    }
+    if alternate(star, other, 1) {
+        return cross(star, other, 1, op);
+    }
+    cut_by(star, other.rays.as_slice())?;
+    combine(star, other, op);
+    Ok(())
+}
+
 /// Combines two stars with one axis: the axis and each direction that isn't parallel to it have the label of the
 /// operation on their labels in the two stars. The first star becomes the result. `OutOfMemory` says that memory was wanted
 /// and not found.
@@ -98,8 +118,7 @@ pub fn merge(a: Star, b: &Star, op: Op) -> Result<Star, OutOfMemory>
     ensures combined { IfOk result (λ t. IsCombined op a b.now t) }
 {
     let mut star = a;
-    cut_by(&mut star, b.rays.as_slice())?;
-    combine(&mut star, b, op);
+    mix(&mut star, b, op)?;
     begin_with_least(&mut star);
     Ok(star)
 }

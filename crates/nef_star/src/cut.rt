@@ -31,7 +31,7 @@ fn next_of(count: usize, k: usize) -> usize
 }
 
 // Whether a ray with this direction to its left is after ray `k` and before the next.
-fn is_past(star: &Star, k: usize, left: &Dir) -> bool
+pub(crate) fn is_past(star: &Star, k: usize, left: &Dir) -> bool
     requires turned { IsTurned star.now }
     requires within { k < length star.now.rays.items }
     ensures past { IsTrue result ↔ LeftPast star.now (vector_of left.now) k }

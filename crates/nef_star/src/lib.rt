@@ -2,8 +2,10 @@
 #![tactic(auto)]
 
 mod combining;
+mod crossing;
 mod cut;
 mod laws;
+mod line;
 mod mirror;
 mod needless;
 mod op;
@@ -12,6 +14,7 @@ mod star;
 
 pub use combining::merge;
 pub use laws::star_laws;
+pub use line::{Line, crossed};
 pub use mirror::mirrored;
 pub use needless::simplify;
 pub use op::Op;

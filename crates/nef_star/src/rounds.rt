@@ -1,11 +1,11 @@
 //! Stars put together from their rays.
 
-ghost use Rattle.std.specs.Prelude.{◌≡◌, ◌<◌, ◌+◌, ℕ, length, IfOk, OnOk};
+ghost use Rattle.std.specs.Prelude.{◌≡◌, ◌<◌, ◌+◌, ℕ, length, IsTrue, IfOk, OnOk};
 ghost use Rattle.nef_space.specs.Limits.{svertex_limit};
 ghost use Rattle.nef_space.specs.Lists.{IsAt};
 ghost use Rattle.nef_space.specs.Vectors.{IsAtMost};
 ghost use Rattle.nef_geo.specs.Shapes.{vector_of};
-ghost use Rattle.nef_star.specs.Rounds.{End, AreApart, IsRound, HasWays, IsEnded};
+ghost use Rattle.nef_star.specs.Rounds.{End, AreApart, IsRound, HasWays, IsEnded, IsWhole, AreTwoWays};
 ghost use Rattle.nef_star.specs.Stars.{left_of, IsRay, IsTurned, IsStar};
 ghost use Rattle.nef_star.specs.declared.star.Star.{Star};
 
@@ -85,6 +85,57 @@ fn end_rays(star: &mut Star, ends: &[(Ray, Label)])
     }
 }
 
+// The star with all of the rays.
+fn all_ways(
+    alloc: Global,
+    axis: Dir,
+    mark: Label,
+    ends: &[(Ray, Label)],
+) -> Result<Star, OutOfMemory>
+    requires small { IsAtMost svertex_limit (vector_of axis) }
+    requires rays { (k : ℕ) (e : End) → IsAt ends.now k e → IsRay (vector_of axis) e.0 }
+    ensures whole { IfOk result (IsWhole ends.now) }
+    ensures axis { IfOk result (λ t. t.axis ≡ axis) }
+    ensures mark { IfOk result (λ t. t.mark ≡ mark) }
+{
+    let mut star = bare(alloc, axis, mark)?;
+    cut_ways(&mut star, ends)?;
+    end_rays(&mut star, ends);
+    Ok(star)
+}
+
+// Whether there are just two rays, which go different ways.
+fn are_two_ways(ends: &[(Ray, Label)]) -> bool
+    ensures two { IsTrue result → AreTwoWays ends.now }
+{
+    ends.len() == 2 && !ends[0].0.left().is_same(&ends[1].0.left())
+}
+
+// The star with two rays that go different ways. Either may be the first.
+fn two_ways(
+    alloc: Global,
+    axis: Dir,
+    mark: Label,
+    ends: &[(Ray, Label)],
+) -> Result<Star, OutOfMemory>
+    requires small { IsAtMost svertex_limit (vector_of axis) }
+    requires rays { (k : ℕ) (e : End) → IsAt ends.now k e → IsRay (vector_of axis) e.0 }
+    requires two { AreTwoWays ends.now }
+    ensures whole { IfOk result (IsWhole ends.now) }
+    ensures axis { IfOk result (λ t. t.axis ≡ axis) }
+    ensures mark { IfOk result (λ t. t.mark ≡ mark) }
+{
+    let (first, second) = (ends[0], ends[1]);
+    let rays = Vec::from_slice(alloc, &[first.0, second.0])?;
+    let sectors = Vec::from_slice(alloc, &[first.1, second.1])?;
+    Ok(Star {
+        axis,
+        rays,
+        sectors,
+        mark,
+    })
+}
+
 /// The star with this axis and these rays, in whatever order they are given, each with the label of the sector after
 /// it, counterclockwise. `OutOfMemory` says that memory was wanted and not found.
 pub fn round(
@@ -102,9 +153,11 @@ pub fn round(
     ensures mark { IfOk result (λ t. t.mark ≡ mark) }
     ensures round { IfOk result (λ t. IsRound ends.now t) }
 {
-    let mut star = bare(alloc, axis, mark)?;
-    cut_ways(&mut star, ends)?;
-    end_rays(&mut star, ends);
+    let mut star = if are_two_ways(ends) {
+        two_ways(alloc, axis, mark, ends)?
+    } else {
+        all_ways(alloc, axis, mark, ends)?
+    };
     begin_with_least(&mut star);
     Ok(star)
 }

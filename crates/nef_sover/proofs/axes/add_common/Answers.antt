@@ -7,7 +7,7 @@ use Rattle.nef_sover.proofs.axes.add_common.Goals as goal
 pub returns-in_ok-push : goal.returns-in_ok-push
 returns-in_ok-push c = record {
   added = let x = c.args.x.now in let y = c.args.y.now in subst (Adds (IsMeetAlong x y (vector_of c.args.d)) c.args.axes.now.items) (sym c.in_ok-push.ensures.items)
-      (common-adds x y c.args.axes.now.items c.args.d c.place.result c.place-then-both_hold.result c.requires.small (c.both_hold.ensures.both.0 c.if-both_hold.true) c.place.ensures.place c.place-then-both_hold.ensures.place);
+      (common-adds x y c.args.axes.now.items c.args.d c.number.result c.number-then-both_hold.result c.requires.small (c.both_hold.ensures.both.0 c.if-both_hold.true) c.number.ensures.number c.number-then-both_hold.ensures.number);
 }
 
 pub returns-else-both_hold : goal.returns-else-both_hold

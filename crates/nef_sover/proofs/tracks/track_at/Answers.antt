@@ -1,6 +1,5 @@
 use Rattle.std.proofs.Common.{refl}
 use Rattle.law_sphere.specs.Maps.{arc_item, sloop_item}
-use Rattle.law_sphere.proofs.Arcs.{sloop-at}
 use Rattle.law_sphere.proofs.Shot.{arc-at}
 use Rattle.nef_smap.specs.Maps.{map_of, arc_of, sloop_of}
 use Rattle.nef_sover.proofs.tracks.track_at.Goals as goal
@@ -18,7 +17,7 @@ returns-in-Arc c =
       track = (
         arc_item a,
         c.in-Arc.ensures.item,
-        record { normal = c.great_arc.ensures.normal; on = c.great_arc.ensures.on; place = λ d o. (a, arc-at M.arcs M.sloop c.args.number a c.in-Arc.ensures.item, o) },
+        record { normal = c.great_arc.ensures.normal; on = c.great_arc.ensures.on; number = c.in-Arc.ensures.item },
       );
     }
 
@@ -30,6 +29,6 @@ returns-in-Loop c =
       track = (
         sloop_item l,
         c.in-Loop.ensures.item,
-        record { normal = refl; on = λ d. (λ o. o, λ o. o); place = λ d o. (l, sloop-at M.arcs M.sloop c.args.number l c.in-Loop.ensures.item, o) },
+        record { normal = refl; on = λ d. (λ o. o, λ o. o); number = c.in-Loop.ensures.item },
       );
     }

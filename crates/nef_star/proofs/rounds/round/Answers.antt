@@ -1,15 +1,14 @@
-use Rattle.std.proofs.Common.{sym, ◌∙◌, subst}
-use Rattle.nef_geo.specs.Shapes.{vector_of}
-use Rattle.nef_geo.specs.declared.dir.Dir.{Dir}
-use Rattle.nef_star.specs.Stars.{IsRay}
-use Rattle.nef_star.proofs.RoundStars.{finished}
+use Rattle.std.proofs.Common.{sym, ap, subst, ◌∙◌}
+use Rattle.nef_star.specs.Rounds.{IsWhole}
+use Rattle.nef_star.specs.declared.star.Star.{Star}
+use Rattle.nef_star.proofs.TwoWays.{whole-round}
 use Rattle.nef_star.proofs.rounds.round.Goals as goal
-
-pub cut_ways-requires-clause-rays : goal.cut_ways-requires-clause-rays
-cut_ways-requires-clause-rays c k e a = subst (λ (d : Dir). IsRay (vector_of d) e.0) (sym c.in_ok-star.ensures.axis) (c.requires.rays k e a)
+use Rattle.nef_star.proofs.rounds.round.Goals.{then-are_two_ways+in_ok-star, else-are_two_ways+in_ok-star-2}
 
 pub returns-clause-round : goal.returns-clause-round
 returns-clause-round c =
-    finished c.args.ends.now c.cut_ways.new.star c.end_rays.new.star c.begin_with_least.new.star c.in_ok-cut_ways.ensures.ways c.end_rays.ensures.ended c.begin_with_least.ensures.star.turned c.begin_with_least.ensures.kept
-    c.begin_with_least.ensures.counted c.requires.some
-    (λ k e a. subst (λ (d : Dir). IsRay (vector_of d) e.0) (sym (c.in_ok-cut_ways.ensures.axis ∙ c.in_ok-star.ensures.axis)) (c.requires.rays k e a)) c.requires.apart
+    let s = c.if-are_two_ways.star in let u = c.begin_with_least.new.star in let b = c.begin_with_least.ensures in let ends = c.args.ends.now in
+    elim c.if-are_two_ways.branch [
+      | then-are_two_ways+in_ok-star w ↦ whole-round ends c.args.axis s u (subst (IsWhole ends) (sym w.star-is) w.in_ok-star.ensures.whole) (ap (λ (t : Star). t.axis) w.star-is ∙ w.in_ok-star.ensures.axis) b.star.turned b.kept b.counted c.requires.some c.requires.rays c.requires.apart
+      | else-are_two_ways+in_ok-star-2 w ↦ whole-round ends c.args.axis s u (subst (IsWhole ends) (sym w.star-is) w.in_ok-star-2.ensures.whole) (ap (λ (t : Star). t.axis) w.star-is ∙ w.in_ok-star-2.ensures.axis) b.star.turned b.kept b.counted c.requires.some c.requires.rays c.requires.apart
+    ]

@@ -1,0 +1,14 @@
+use Rattle.nef_star.proofs.Crossings.{to-side, four-turned, four-crossed}
+use Rattle.nef_star.proofs.line.crossed.Goals as goal
+
+pub begin_with_least-requires : goal.begin_with_least-requires
+begin_with_least-requires c =
+    let x = c.args.x.now in let y = c.args.y.now in let X = c.requires.first in let Y = c.requires.second in let s = c.in_ok-star.star in let b = c.is_turned_left-left.result in
+    let p = to-side c.args.op c.args.axis c.requires.small x y X Y s b c.is_turned_left-left.ensures.left c.requires.apart in
+    record { turned = four-turned c.args.op c.args.axis c.requires.small x y X Y s b p c.in_ok-star.ensures.rays }
+
+pub returns-clause-labels : goal.returns-clause-labels
+returns-clause-labels c =
+    let x = c.args.x.now in let y = c.args.y.now in let X = c.requires.first in let Y = c.requires.second in let s = c.in_ok-star.star in let b = c.is_turned_left-left.result in
+    let p = to-side c.args.op c.args.axis c.requires.small x y X Y s b c.is_turned_left-left.ensures.left c.requires.apart in
+    four-crossed c.args.op c.args.axis c.requires.small x y X Y s b p c.in_ok-star.ensures.rays c.begin_with_least.new.star c.begin_with_least.ensures.star.turned c.begin_with_least.ensures.kept

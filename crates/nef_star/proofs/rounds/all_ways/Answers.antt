@@ -1,0 +1,11 @@
+use Rattle.std.proofs.Common.{sym, subst}
+use Rattle.nef_geo.specs.Shapes.{vector_of}
+use Rattle.nef_geo.specs.declared.dir.Dir.{Dir}
+use Rattle.nef_star.specs.Stars.{IsRay}
+use Rattle.nef_star.proofs.rounds.all_ways.Goals as goal
+
+pub cut_ways-requires-clause-rays : goal.cut_ways-requires-clause-rays
+cut_ways-requires-clause-rays c k e a = subst (λ (d : Dir). IsRay (vector_of d) e.0) (sym c.in_ok-star.ensures.axis) (c.requires.rays k e a)
+
+pub returns-clause-whole : goal.returns-clause-whole
+returns-clause-whole c = (c.cut_ways.new.star, c.in_ok-cut_ways.ensures.ways, c.end_rays.ensures.ended)

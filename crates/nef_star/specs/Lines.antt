@@ -1,0 +1,44 @@
+-- Great circles that cross in a direction, and the star there.
+use Rattle.std.specs.Prelude.{◌≡◌, pos, Bool, true, false, not, cond, [], ◌∷◌}
+use Rattle.law_arithmetic.specs.Signs.{sign}
+use Rattle.nef_space.specs.Limits.{normal_limit}
+use Rattle.nef_space.specs.Vectors.{Vector, dot, cross, IsDirection, IsAtMost, IsNormal}
+use Rattle.nef_space.specs.declared.label.Label.{Label}
+use Rattle.nef_geo.specs.Shapes.{vector_of}
+use Rattle.nef_geo.specs.declared.dir.Dir.{Dir}
+use Rattle.law_sphere.specs.Least.{by_side}
+use Rattle.law_sphere.specs.Stars.{StarLabel}
+use Rattle.nef_star.specs.declared.line.Line.{Line}
+use Rattle.nef_star.specs.declared.op.Op.{Op}
+use Rattle.nef_star.specs.declared.star.Star.{Star}
+use Rattle.nef_star.specs.Ops.{op_label}
+use Rattle.nef_star.specs.Stars.{star_of}
+
+-- the line runs through the axis, and its normal is in normal form
+pub record IsLine (axis : Vector) (x : Line) : Type 0 where
+  pub level : dot (vector_of x.normal) axis ≡ pos 0
+  pub small : IsAtMost normal_limit (vector_of x.normal)
+  pub normal : IsNormal (vector_of x.normal)
+
+-- the line's label at e: on it or on one of its sides
+abbrev pub side_of : Line → Vector → Label
+side_of x e = by_side x.pos x.mark x.neg (sign (dot (vector_of x.normal) e))
+
+-- t gives each direction the label of the operation on those of both lines
+abbrev pub IsCrossed : Op → Dir → Line → Line → Star → Type 0
+IsCrossed op axis x y t = (e : Vector) (l : Label) → IsDirection (cross (vector_of axis) e) → StarLabel (star_of t) e l → l ≡ op_label op (side_of x e) (side_of y e)
+
+-- the label past the line's next ray, which goes ahead if b, and the one before it
+abbrev pub past_of : Bool → Line → Label
+past_of b y = cond b y.pos y.neg
+
+abbrev pub before_of : Bool → Line → Label
+before_of b y = cond b y.neg y.pos
+
+-- t has the rays of both lines in turn, and the operation's labels on theirs
+pub record IsFourRays (op : Op) (a : Dir) (x y : Line) (b : Bool) (t : Star) : Type 0 where
+  pub axis : t.axis ≡ a
+  pub mark : t.mark ≡ op_label op x.mark y.mark
+  pub rays : t.rays.items ≡ record { normal = x.normal; ahead = true; mark = op_label op x.mark (before_of b y) } ∷ record { normal = y.normal; ahead = b; mark = op_label op x.pos y.mark }
+      ∷ record { normal = x.normal; ahead = false; mark = op_label op x.mark (past_of b y) } ∷ record { normal = y.normal; ahead = not b; mark = op_label op x.neg y.mark } ∷ []
+  pub sectors : t.sectors.items ≡ op_label op x.pos (before_of b y) ∷ op_label op x.pos (past_of b y) ∷ op_label op x.neg (past_of b y) ∷ op_label op x.neg (before_of b y) ∷ []
