@@ -30,7 +30,7 @@ pub(crate) fn cuts(alloc: Global, c: &Complex, planes: &[Plane]) -> Result<Vec<P
     let mut points = Vec::with_capacity(alloc, planes.len().saturating_mul(CUTS_OF_PLANE))?;
     add_cuts(alloc, &mut points, c, planes)?;
     // Only speed needs the order: what is sorted is merged with the other candidates, which is cheap.
-    points.sort_by(|p, q| lex_cmp(p, q))?;
+    points.sort_unstable_by(|p, q| lex_cmp(p, q));
     Ok(points)
 }
 
