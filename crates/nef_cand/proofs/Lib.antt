@@ -10,3 +10,4 @@ pub mod Halves
 pub mod Framed
 pub mod Sides
 pub mod Apart
+pub mod Both

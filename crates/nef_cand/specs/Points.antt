@@ -27,6 +27,11 @@ pub record Adds (P : Place → Type 0) (ps qs : List Point) : Type 0 where
   pub added : (p : Point) → Contains qs p → Contains ps p ⊎ P (place_of p)
   pub all : (y : Place) → P y → IsListed qs y
 
+-- rs are the points of ps and those of qs
+pub record HasBoth (ps qs rs : List Point) : Type 0 where
+  pub kept : (p : Point) → Contains ps p ⊎ Contains qs p → Contains rs p
+  pub only : (p : Point) → Contains rs p → Contains ps p ⊎ Contains qs p
+
 -- the planes of the line hold both points, and their normals aren't parallel
 pub record IsLineThrough (l : Line) (p q : Place) : Type 0 where
   pub first : HoldsBoth (form_of l.first) p q

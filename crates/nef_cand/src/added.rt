@@ -114,8 +114,7 @@ pub(crate) fn add_cuts(
     Ok(())
 }
 
-/// Sorts the points and leaves each once. The vertices of both sets stand in order already, and long runs that do are
-/// merged, not sorted.
+/// Sorts the points and leaves each once. Those that were merged stand in order already, which one pass tells.
 pub(crate) fn sort_once(points: &mut Vec<Point>) -> Result<(), OutOfMemory>
     ensures in_order { OnOk result (InOrder (λ (p q : PointValue). IsPlaceBelow (place_of p) (place_of q)) points.new.items) }
     ensures same { OnOk result ((p : PointValue) → Contains points.old.items p ↔ Contains points.new.items p) }

@@ -8,6 +8,7 @@ mod added;
 mod beside;
 mod line;
 mod listing;
+mod merging;
 mod points;
 
 pub use beside::{are_large, candidates_beside};

@@ -8,28 +8,38 @@ ghost use Rattle.nef_geo.specs.Shapes.{form_of};
 ghost use Rattle.law_complex.specs.Shows.{SamePlane};
 ghost use Rattle.law_complex.specs.Laws.{IsVertexOfBoth};
 ghost use Rattle.nef_complex.specs.Complexes.{complex_of, ShowsSet};
-ghost use Rattle.nef_cand.specs.Candidates.{IsListed, AreCandidates, AreCutCandidates, AreFramed};
+ghost use Rattle.nef_cand.specs.Candidates.{IsVertexOf, IsListed, AreCandidates, AreCutCandidates, AreFramed};
 ghost use Rattle.nef_cand.specs.Points.{Adds, CutsOne, ListsCandidates};
 
 use crate::OutOfMemory;
 use crate::added::{add_cuts, add_vertices, sort_once};
+use crate::merging::merged;
 use nef_complex::Complex;
 use nef_geo::{Plane, Point, lex_cmp};
 use std::alloc::Global;
 use std::slice;
 
-// Room for the cuts of a small set.
-const FIRST_ROOM: usize = 24;
+// Few planes of a small set cross more edges.
+const CUTS_OF_PLANE: usize = 4;
 
 /// The points strictly inside an edge of the complex that lie on one of the planes, which doesn't hold the edge.
 pub(crate) fn cuts(alloc: Global, c: &Complex, planes: &[Plane]) -> Result<Vec<Point>, OutOfMemory>
     requires shows { (s : Set) × ShowsSet s c.now }
     ensures cuts { IfOk result (λ v. Adds (CutsOne (complex_of c.now) planes.now) [] v.items) }
 {
-    let mut points = Vec::with_capacity(alloc, FIRST_ROOM)?;
+    let mut points = Vec::with_capacity(alloc, planes.len().saturating_mul(CUTS_OF_PLANE))?;
     add_cuts(alloc, &mut points, c, planes)?;
-    // Only speed needs the order: the sort of all candidates merges what is sorted, which is cheap.
-    points.sort_by(|p, q| lex_cmp(p, q))?;
+    // Only speed needs the order: what is sorted is merged with the other candidates, which is cheap.
+    points.sort_unstable_by(|p, q| lex_cmp(p, q));
+    Ok(points)
+}
+
+// The vertices of the complex.
+fn vertices_of(alloc: Global, c: &Complex) -> Result<Vec<Point>, OutOfMemory>
+    ensures vertices { IfOk result (λ v. Adds (IsVertexOf (complex_of c.now)) [] v.items) }
+{
+    let mut points = Vec::with_capacity(alloc, c.vertices.len())?;
+    add_vertices(&mut points, c)?;
     Ok(points)
 }
 
@@ -48,13 +58,11 @@ pub(crate) fn gathered(
     requires inside_second { Adds (CutsOne (complex_of b.now) a.now.carriers) [] inside_b.now }
     ensures lists { IfOk result (λ v. ListsCandidates a.now b.now v.items) }
 {
-    let vertices = a.vertices.len().saturating_add(b.vertices.len());
-    let inside = inside_a.len().saturating_add(inside_b.len());
-    let mut points = Vec::with_capacity(alloc, vertices.saturating_add(inside))?;
-    add_vertices(&mut points, a)?;
-    add_vertices(&mut points, b)?;
-    points.extend_from_slice(inside_a)?;
-    points.extend_from_slice(inside_b)?;
+    let of_a = vertices_of(alloc, a)?;
+    let of_b = vertices_of(alloc, b)?;
+    let vertices = merged(alloc, of_a.as_slice(), of_b.as_slice())?;
+    let inside = merged(alloc, inside_a, inside_b)?;
+    let mut points = merged(alloc, vertices.as_slice(), inside.as_slice())?;
     sort_once(&mut points)?;
     Ok(points)
 }

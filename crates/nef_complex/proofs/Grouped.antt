@@ -1,21 +1,19 @@
 -- Sorting and grouping keep all numbers: each carrier stands in a group of a cluster, and the spans of both hold the vertices on it.
-use Rattle.std.proofs.Common.{ℕ, zero, suc, ◌+◌, ◌<◌, ℤ, ◌≤ℤ◌, ◌⊎◌, inl, inr, ⊎_elim, List, [], ◌∷◌, ◌++◌, length, arith, sym, subst}
+use Rattle.std.proofs.Common.{ℕ, zero, suc, ◌+◌, ◌<◌, ◌⊎◌, inl, inr, ⊎_elim, List, [], ◌∷◌, ◌++◌, length, arith, sym, subst}
 use Rattle.std.specs.List.Sorted.{IsPermutation}
-use Rattle.std.proofs.lemmas.Int.{ints}
 use Rattle.std.proofs.lemmas.List.Sorted.{Contains-permutation, IsPermutation-sym}
 use Rattle.nef_space.specs.Lists.{IsAt}
 use Rattle.nef_geo.specs.Shapes.{place_of}
 use Rattle.nef_geo.specs.declared.plane.Plane.{Plane}
 use Rattle.nef_classes.proofs.ClassLists.{less-or-last, is-at_one, is-at_some, is-at_within, is-at_get, is-at_is, is-at_left, is-at_last, Either, earlier, last, is-at_either}
 use Rattle.nef_complex.specs.declared.complex.Vertex.{Vertex}
-use Rattle.nef_complex.specs.declared.spans.Bounds.{Bounds}
 use Rattle.nef_complex.specs.declared.spans.Span.{Span}
 use Rattle.nef_complex.specs.declared.groups.Cluster.{Cluster}
 use Rattle.nef_complex.specs.declared.groups.Group.{Group}
 use Rattle.nef_complex.specs.Index.{AreSpans, StandsIn, IsInGroup, IsInCluster, AreSpanned, AreClusters}
 use Rattle.nef_complex.specs.Indexing.{AreKeyed, IsWide}
-use Rattle.nef_complex.specs.Spans.{AreNarrower, IsNarrower}
-use Rattle.nef_complex.proofs.Spanning.{span-wider}
+use Rattle.nef_complex.specs.Spans.{IsNarrower}
+use Rattle.nef_complex.proofs.Spanning.{span-wider, narrower-still}
 
 -- ---- numbers with keys
 pub keyed-none : AreKeyed 0 []
@@ -59,15 +57,6 @@ group-none spans pairs s = record {
   where
     none : (k : ℕ) (P : Type 0) (j : ℕ) → IsAt {X = ℕ} [] j k → P
     none k P j a = cc
-
-narrower : (a b c : Bounds) → AreNarrower a b → AreNarrower b c → AreNarrower a c
-narrower a b c n m = (below c.low b.low a.low m.0 n.0, below a.high b.high c.high n.1 m.1)
-  where
-    below : (x y z : ℤ) → x ≤ℤ y → y ≤ℤ z → x ≤ℤ z
-    below x y z k l = omega (arith, ints)
-
-narrower-still : (s t u : Span) → IsNarrower s t → IsNarrower t u → IsNarrower s u
-narrower-still s t u n m = (narrower s.x t.x u.x n.0 m.0, narrower s.y t.y u.y n.1 m.1, narrower s.z t.z u.z n.2 m.2)
 
 pub group-more : (spans : List Span) (pairs : List (ℕ × ℕ)) (n : ℕ) (s t u : Span) (ks : List ℕ) (e : ℕ × ℕ) → IsAt pairs n e → IsAt spans e.1 u → IsNarrower s t → IsNarrower u t → IsGroupTo spans pairs n (record { span = s; carriers = ks }) → IsGroupTo spans pairs (n + 1) (record { span = t; carriers = ks ++ e.1 ∷ [] })
 group-more spans pairs n s t u ks e here at w o G = record {

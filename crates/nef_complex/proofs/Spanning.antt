@@ -15,6 +15,7 @@ use Rattle.nef_complex.specs.declared.complex.Vertex.{Vertex}
 use Rattle.nef_complex.specs.declared.spans.Bounds.{Bounds}
 use Rattle.nef_complex.specs.declared.spans.Span.{Span}
 use Rattle.nef_complex.specs.Index.{AreWithin, AreCarrierVertices, AreSpans}
+use Rattle.nef_complex.specs.Indexing.{AreAlone, AreNarrowerListed}
 use Rattle.nef_complex.specs.Spans.{IsInSpan, AreInSpan, AreNarrower, IsNarrower}
 
 -- ---- quotients
@@ -126,14 +127,46 @@ within-wider c a b p n w =
 pub span-wider : (s t : Span) (p : Place) → IsNarrower s t → IsInSpan s p → IsInSpan t p
 span-wider s t p n i = (within-wider coordinate_x s.x t.x p n.0 i.0, within-wider coordinate_y s.y t.y p n.1 i.1, within-wider coordinate_z s.z t.z p n.2 i.2)
 
--- ---- the span of listed vertices, one after the other
-pub span-more : (vs : List Vertex) (ns : List ℕ) (n k : ℕ) (v : Vertex) (s t : Span) → IsAt ns n k → IsAt vs k v → AreInSpan vs ns n s → IsNarrower s t → IsInSpan t (place_of v.point) → AreInSpan vs ns (n + 1) t
-span-more vs ns n k v s t a b all w here i m u l c d = ⊎_elim
-    (λ o. span-wider s t (place_of u.point) w (all i m u o c d))
+narrower : (a b c : Bounds) → AreNarrower a b → AreNarrower b c → AreNarrower a c
+narrower a b c n m = (below c.low b.low a.low m.0 n.0, below a.high b.high c.high n.1 m.1)
+  where
+    below : (x y z : ℤ) → x ≤ℤ y → y ≤ℤ z → x ≤ℤ z
+    below x y z k l = omega (arith, ints)
+
+pub narrower-still : (s t u : Span) → IsNarrower s t → IsNarrower t u → IsNarrower s u
+narrower-still s t u n m = (narrower s.x t.x u.x n.0 m.0, narrower s.y t.y u.y n.1 m.1, narrower s.z t.z u.z n.2 m.2)
+
+-- ---- the spans of single vertices
+-- the span of each vertex that has one holds it
+abbrev pub AreEachAlone : List Vertex → List Span → Type 0
+AreEachAlone vs ss = (k : ℕ) (v : Vertex) (s : Span) → IsAt vs k v → IsAt ss k s → IsInSpan s (place_of v.point)
+
+pub alone-more : (vs : List Vertex) (n : ℕ) (ss : List Span) (v : Vertex) (s : Span) → length ss ≡ n → IsAt vs n v → IsInSpan s (place_of v.point) → AreEachAlone vs ss → AreEachAlone vs (ss ++ s ∷ [])
+alone-more vs n ss v s many here p all k u t a b = by (is-at_either ss k t s b)
+  where
+    by : Either ss k t s → IsInSpan t (place_of u.point)
+    by (earlier c) = all k u t a c
+    by (last e f) =
+        let same : v ≡ u = is-at_one vs n v u here (subst (λ (i : ℕ). IsAt vs i u) (e ∙ many) a) in
+        subst (λ (x : Vertex). IsInSpan t (place_of x.point)) same (subst (λ (x : Span). IsInSpan x (place_of v.point)) (sym f) p)
+
+pub within-alone : (vs : List Vertex) (ss : List Span) (row : List ℕ) → AreAlone vs ss → AreWithin vs row → AreWithin ss row
+within-alone vs ss row A within i k a = let l = within i k a in let e = A.as_many in omega arith
+
+-- ---- a span as wide as those listed, one after the other
+pub narrower-more : (ss : List Span) (ns : List ℕ) (n k : ℕ) (t s u : Span) → IsAt ns n k → IsAt ss k t → AreNarrowerListed ss ns n s → IsNarrower s u → IsNarrower t u → AreNarrowerListed ss ns (n + 1) u
+narrower-more ss ns n k t s u a b all w here i m r l c d = ⊎_elim
+    (λ o. narrower-still r s u (all i m r o c d) w)
     (λ e.
     let same : m ≡ k = is-at_one ns n m k (subst (λ (j : ℕ). IsAt ns j m) e c) a in
-    subst (λ (x : Vertex). IsInSpan t (place_of x.point)) (is-at_one vs k v u b (subst (λ (j : ℕ). IsAt vs j u) same d)) here)
+    subst (λ (x : Span). IsNarrower x u) (is-at_one ss k t r b (subst (λ (j : ℕ). IsAt ss j r) same d)) here)
     (less-or-last i n l)
+
+-- it holds the vertices with these numbers
+pub narrower-in : (vs : List Vertex) (ss : List Span) (row : List ℕ) (s : Span) → AreAlone vs ss → AreNarrowerListed ss row (length row) s → AreInSpan vs row (length row) s
+narrower-in vs ss row s A wide i k v l a b =
+    let t = is-at_some ss k (let m = is-at_within vs k v b in let e = A.as_many in omega arith) in
+    span-wider t.0 s (place_of v.point) (wide i k t.0 l a t.1) (A.each k v t.0 b t.1)
 
 -- ---- a span for each row
 abbrev pub AreSpansOf : List Vertex → List (List ℕ) → List Span → Type 0

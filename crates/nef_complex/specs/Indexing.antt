@@ -2,7 +2,7 @@
 use Rattle.std.specs.Prelude.{◌≡◌, ℕ, ◌<◌, ◌⊎◌, List, [], ◌∷◌, ◌++◌, length}
 use Rattle.nef_space.specs.Lists.{IsAt}
 use Rattle.nef_space.specs.Vectors.{Vector, SameDirection}
-use Rattle.nef_geo.specs.Shapes.{form_of}
+use Rattle.nef_geo.specs.Shapes.{form_of, place_of}
 use Rattle.nef_geo.specs.declared.plane.Plane.{Plane}
 use Rattle.law_sphere.specs.Maps.{At, Map, Item, items, item_normal}
 use Rattle.nef_complex.specs.declared.complex.Vertex.{Vertex}
@@ -10,7 +10,7 @@ use Rattle.nef_complex.specs.declared.complex.Edge.{Edge}
 use Rattle.nef_complex.specs.declared.index.PlaneIndex.{PlaneIndex}
 use Rattle.nef_complex.specs.declared.spans.Span.{Span}
 use Rattle.nef_complex.specs.Index.{HasItemIn, LiesOn, EdgeLiesIn, AreNumbersWith}
-use Rattle.nef_complex.specs.Spans.{IsNarrower}
+use Rattle.nef_complex.specs.Spans.{IsInSpan, IsNarrower}
 
 -- some item of the map has the normal
 abbrev pub HasNormal : Map → Vector → Type 0
@@ -58,3 +58,12 @@ pub record AreKeyed (n : ℕ) (pairs : List (ℕ × ℕ)) : Type 0 where
 pub record IsWide (spans : List Span) (has : ℕ → Type 0) (s : Span) : Type 0 where
   pub within : (k : ℕ) → has k → k < length spans
   pub wide : (k : ℕ) (t : Span) → has k → IsAt spans k t → IsNarrower t s
+
+-- for each vertex there is a span that holds it
+pub record AreAlone (vs : List Vertex) (spans : List Span) : Type 0 where
+  pub as_many : length spans ≡ length vs
+  pub each : (k : ℕ) (v : Vertex) (s : Span) → IsAt vs k v → IsAt spans k s → IsInSpan s (place_of v.point)
+
+-- the spans with the first n of these numbers are at most as wide as the span
+abbrev pub AreNarrowerListed : List Span → List ℕ → ℕ → Span → Type 0
+AreNarrowerListed spans ns n s = (i k : ℕ) (t : Span) → i < n → IsAt ns i k → IsAt spans k t → IsNarrower t s

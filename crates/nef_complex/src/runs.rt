@@ -33,7 +33,7 @@ fn goes_on(carriers: &[Plane], number: usize) -> bool
 pub(crate) fn run_ends(alloc: Global, carriers: &[Plane]) -> Result<Vec<usize>, OutOfMemory>
     ensures runs { IfOk result (λ v. AreRuns carriers.now v.items) }
 {
-    let mut ends = Vec::new(alloc);
+    let mut ends = Vec::with_capacity(alloc, carriers.len())?;
     for number in 0..carriers.len() {
         if !goes_on(carriers, number) {
             ends.push(number + 1)?;

@@ -7,6 +7,7 @@ ghost use Rattle.nef_geo.specs.Shapes.{place_of};
 ghost use Rattle.nef_complex.specs.declared.complex.Vertex.{Vertex};
 ghost use Rattle.nef_complex.specs.Index.{AreWithin};
 ghost use Rattle.nef_complex.specs.Spans.{IsInSpan, AreInSpan, AreNarrower, IsNarrower, AreSmall};
+ghost use Rattle.nef_complex.specs.Indexing.{AreAlone, AreNarrowerListed};
 
 use crate::OutOfMemory;
 use crate::complex::Vertex;
@@ -95,30 +96,33 @@ impl Span {
             z: self.z.with(&other.z),
         }
     }
-
-    // As wide as needed for the point too.
-    fn with(&self, point: &Point) -> Span
-        ensures point { IsInSpan result (place_of point.now) }
-        ensures wider { IsNarrower self.now result }
-    {
-        let alone = Span::of(point);
-        self.with_span(&alone)
-    }
 }
 
-// The span of the vertices with these numbers.
-fn span_of(vertices: &[Vertex], listed: &[usize]) -> Span
-    requires within { AreWithin vertices.now listed.now }
-    ensures spanned { AreInSpan vertices.now listed.now (length listed.now) result }
+// For each vertex the span of its point alone.
+fn alone_spans(alloc: Global, vertices: &[Vertex]) -> Result<Vec<Span>, OutOfMemory>
+    ensures alone { IfOk result (λ v. AreAlone vertices.now v.items) }
+{
+    let mut spans = Vec::with_capacity(alloc, vertices.len())?;
+    for vertex in vertices {
+        spans.push(Span::of(&vertex.point))?;
+    }
+    Ok(spans)
+}
+
+// A span as wide as those with these numbers.
+fn span_of(alone: &[Span], listed: &[usize]) -> Span
+    requires within { AreWithin alone.now listed.now }
+    ensures wide { AreNarrowerListed alone.now listed.now (length listed.now) result }
 {
     let mut span = Span::none();
     for number in listed {
-        span = span.with(&vertices[*number].point);
+        span = span.with_span(&alone[*number]);
     }
     span
 }
 
-/// For each row of numbers the span of the vertices with these numbers.
+/// For each row of numbers the span of the vertices with these numbers. A vertex lies in several rows, so the span of each
+/// is worked out once, before all rows.
 pub(crate) fn spans_of(
     alloc: Global,
     vertices: &[Vertex],
@@ -128,10 +132,11 @@ pub(crate) fn spans_of(
     ensures as_many { IfOk result (λ v. length v ≡ length rows.now) }
     ensures spanned { IfOk result (λ v. (k : ℕ) (row : Sequence ℕ) (span : Span) → IsAt rows.now k row → IsAt v k span → AreInSpan vertices.now row (length row) span) }
 {
+    let alone = alone_spans(alloc, vertices)?;
     let room = Vec::with_capacity(alloc, rows.len())?;
     let mut spans = List::from_vec(room);
     for row in rows {
-        spans.push(span_of(vertices, row.as_slice()))?;
+        spans.push(span_of(alone.as_slice(), row.as_slice()))?;
     }
     Ok(spans)
 }

@@ -10,37 +10,17 @@ use crate::table::Table;
 use nef_geo::List;
 use std::alloc::Global;
 
-// Counts each of the listed numbers once more. A count that doesn't fit stays at the greatest number: it only says how
-// much memory is wanted.
-fn count_listed(counts: &mut [usize], listed: &[usize])
-    requires once { AreOnce (length counts.old) listed.now }
-    ensures as_many { length counts.new ≡ length counts.old }
-{
-    for number in listed {
-        counts[*number] = counts[*number].saturating_add(1);
-    }
-}
+// Most carriers of a small set have no more vertices or edges.
+const ON_CARRIER: usize = 8;
 
-// How many of the rows have each of the numbers below `count`.
-fn counts_of(alloc: Global, rows: &Table, count: usize) -> Result<Vec<usize>, OutOfMemory>
-    requires once { AreRowsOfOnce count rows.now }
+// So many rows without a number, with room for some.
+fn empty_rows(alloc: Global, count: usize) -> Result<Vec<List<usize>>, OutOfMemory>
     ensures as_many { IfOk result (λ v. length v.items ≡ count) }
-{
-    let mut counts = vec![in alloc; 0; count]?;
-    for number in 0..rows.len() {
-        count_listed(counts.as_mut_slice(), rows.row(number));
-    }
-    Ok(counts)
-}
-
-// For each of the counts a row without a number, which has room for so many.
-fn empty_rows(alloc: Global, counts: &[usize]) -> Result<Vec<List<usize>>, OutOfMemory>
-    ensures as_many { IfOk result (λ v. length v.items ≡ length counts.now) }
     ensures empty { IfOk result (λ v. (k : ℕ) (row : Sequence ℕ) → IsAt v.items k row → row ≡ []) }
 {
-    let mut rows = Vec::with_capacity(alloc, counts.len())?;
-    for count in counts {
-        rows.push(List::from_vec(Vec::with_capacity(alloc, *count)?))?;
+    let mut rows = Vec::with_capacity(alloc, count)?;
+    for _number in 0..count {
+        rows.push(List::from_vec(Vec::with_capacity(alloc, ON_CARRIER)?))?;
     }
     Ok(rows)
 }
@@ -66,8 +46,7 @@ pub(crate) fn turned(
     ensures as_many { IfOk result (λ v. length v ≡ count) }
     ensures turned { IfOk result (λ v. (k : ℕ) (row : Sequence ℕ) → IsAt v k row → AreNumbersWith (HasNumber rows.now k) row) }
 {
-    let counts = counts_of(alloc, rows, count)?;
-    let mut table = empty_rows(alloc, counts.as_slice())?;
+    let mut table = empty_rows(alloc, count)?;
     for number in 0..rows.len() {
         add_to_rows(table.as_mut_slice(), rows.row(number), number)?;
     }

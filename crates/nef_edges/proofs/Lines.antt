@@ -1,5 +1,5 @@
 -- The order of halves is total, and halves tie by their lines where they lie on one line.
-use Rattle.std.proofs.Common.{◌≡◌, ℕ, ◌<◌, ◌≤◌, ℤ, pos, ◌-ℤ◌, ◌*ℤ◌, ◌<ℤ◌, nat_abs, [], ◌∷◌, false, Ordering, Less, Equal, Greater, arith, refl, ap, sym, subst, ◌∙◌}
+use Rattle.std.proofs.Common.{◌≡◌, ℕ, ◌<◌, ◌≤◌, ℤ, pos, ◌+ℤ◌, ◌-ℤ◌, ◌*ℤ◌, ◌<ℤ◌, nat_abs, [], ◌∷◌, false, Ordering, Less, Equal, Greater, arith, refl, ap, sym, subst, ◌∙◌}
 use Rattle.std.specs.Cmp.{IsTotalOrder, int_ranks}
 use Rattle.std.specs.Ordering.{MatchOrdering, int_cmp, nat_cmp, ordering_then, ordering_reverse, is_lt}
 use Rattle.std.proofs.lemmas.Bool.{false≢true}
@@ -8,7 +8,7 @@ use Rattle.std.proofs.lemmas.Int.{ints}
 use Rattle.law_arithmetic.proofs.Combination.{follows, given, none}
 use Rattle.law_arithmetic.proofs.Fractions.{fraction-trans, fraction-alike}
 use Rattle.law_arithmetic.proofs.Order.{by_order, sign-plus, sign-minus, plus-is, minus-is, nought-is}
-use Rattle.law_arithmetic.proofs.Ring.{at, num, ◌⊖◌, ◌⊗◌}
+use Rattle.law_arithmetic.proofs.Ring.{at, num, ◌⊕◌, ◌⊖◌, ◌⊗◌}
 use Rattle.law_arithmetic.specs.Signs.{sign}
 use Rattle.nef_space.specs.Place.{toward}
 use Rattle.nef_space.specs.Vectors.{Vector, cross, IsZero, triple_of}
@@ -19,16 +19,15 @@ use Rattle.nef_geo.specs.declared.point.Point.{Point}
 use Rattle.nef_geo.proofs.Orders.{dir_total, dir-ordered}
 use Rattle.nef_geo.proofs.Places.{pos_size}
 use Rattle.nef_edges.specs.declared.half.Half.{Half}
-use Rattle.nef_edges.specs.declared.moment.Cell.{Cell}
-use Rattle.nef_edges.specs.Moments.{clamped, whole_of}
-use Rattle.nef_edges.specs.Order.{moment_of, ratio_order, moment_order, dir_order, cell_order, line_order, half_order}
+use Rattle.nef_edges.specs.Moments.{sum_of, clamped}
+use Rattle.nef_edges.specs.Order.{moment_of, ratio_order, moment_order, dir_order, line_order, half_order}
 use Rattle.nef_edges.proofs.Wholes.{wholes-alike}
 
 -- ---- answers of comparisons
-cmp-is : (x y : ℤ) (o : Ordering) → int_cmp x y ≡ o → MatchOrdering o (x <ℤ y) (x ≡ y) (y <ℤ x)
+pub cmp-is : (x y : ℤ) (o : Ordering) → int_cmp x y ≡ o → MatchOrdering o (x <ℤ y) (x ≡ y) (y <ℤ x)
 cmp-is x y o e = subst (λ (r : Ordering). MatchOrdering r (x <ℤ y) (x ≡ y) (y <ℤ x)) e (int_ranks x y)
 
-cmp-less : (x y : ℤ) → x <ℤ y → int_cmp x y ≡ Less
+pub cmp-less : (x y : ℤ) → x <ℤ y → int_cmp x y ≡ Less
 cmp-less x y h = by (int_cmp x y) (int_ranks x y)
   where
     by : (o : Ordering) → MatchOrdering o (x <ℤ y) (x ≡ y) (y <ℤ x) → o ≡ Less
@@ -68,11 +67,8 @@ module _ (part : Half → ℤ) where
 moment_total : IsTotalOrder moment_order
 moment_total = then_total (then_total (ratio_total (λ h. (moment_of h).x)) (ratio_total (λ h. (moment_of h).y))) (ratio_total (λ h. (moment_of h).z))
 
-cell_total : IsTotalOrder cell_order
-cell_total = then_total (on_total (λ (c : Cell). c.x) int_cmp_total) (then_total (on_total (λ (c : Cell). c.y) int_cmp_total) (on_total (λ (c : Cell). c.z) int_cmp_total))
-
 pub line_total : IsTotalOrder line_order
-line_total = then_total (on_total (λ (h : Half). h.dir) dir_total) (then_total (on_total (λ (h : Half). h.cell) cell_total) moment_total)
+line_total = then_total (on_total (λ (h : Half). h.key) int_cmp_total) (then_total (on_total (λ (h : Half). h.dir) dir_total) moment_total)
 
 pub half_total : IsTotalOrder half_order
 half_total = then_total line_total (on_total (λ (h : Half). h.vertex) nat_cmp_total)
@@ -114,11 +110,11 @@ pub record OnOneLine (a b : Half) : Type 0 where
 
 pub tied-line : (a b : Half) → line_order a b ≡ Equal → OnOneLine a b
 tied-line a b h =
-    let s = then-equal (dir_order a.dir b.dir) (ordering_then (cell_order a.cell b.cell) (moment_order a b)) h in
-    let m = then-equal (cell_order a.cell b.cell) (moment_order a b) s.1 in
+    let s = then-equal (int_cmp a.key b.key) (ordering_then (dir_order a.dir b.dir) (moment_order a b)) h in
+    let m = then-equal (dir_order a.dir b.dir) (moment_order a b) s.1 in
     let t = then-equal (ordering_then (ratio_order (λ h. (moment_of h).x) a b) (ratio_order (λ h. (moment_of h).y) a b)) (ratio_order (λ h. (moment_of h).z) a b) m.1 in
     let u = then-equal (ratio_order (λ h. (moment_of h).x) a b) (ratio_order (λ h. (moment_of h).y) a b) t.0 in
-    let e = dir-tied a.dir b.dir s.0 in
+    let e = dir-tied a.dir b.dir m.0 in
     let p = a.point in let q = b.point in let d = vector_of a.dir in
     let equal = λ (part : Half → ℤ) (i : ratio_order part a b ≡ Equal). cmp-is (part a *ℤ q.w) (part b *ℤ p.w) Equal i in
     record {
@@ -130,24 +126,15 @@ tied-line a b h =
       );
     }
 
--- equal moments lie in one cell
-same-cell : (a b : Half) → (moment_of a).x *ℤ b.point.w ≡ (moment_of b).x *ℤ a.point.w → (moment_of a).y *ℤ b.point.w ≡ (moment_of b).y *ℤ a.point.w → (moment_of a).z *ℤ b.point.w ≡ (moment_of b).z *ℤ a.point.w → a.cell ≡ b.cell
-same-cell a b x y z =
-    a.in_cell ∙ ap (λ i. numbers i (whole_of (moment_of a).y v) (whole_of (moment_of a).z v)) (part (moment_of a).x (moment_of b).x x)
-    ∙ ap (λ i. numbers (whole_of (moment_of b).x w) i (whole_of (moment_of a).z v)) (part (moment_of a).y (moment_of b).y y)
-    ∙ ap (numbers (whole_of (moment_of b).x w) (whole_of (moment_of b).y w)) (part (moment_of a).z (moment_of b).z z) ∙ sym b.in_cell
-  where
-    v : ℤ
-    v = a.point.w
+-- equal moments have equal sums, and so one key
+sums-alike : (x y z x' y' z' w v : ℤ) → x *ℤ v ≡ x' *ℤ w → y *ℤ v ≡ y' *ℤ w → z *ℤ v ≡ z' *ℤ w → (x +ℤ pos 61 *ℤ y +ℤ pos 3721 *ℤ z) *ℤ v ≡ (x' +ℤ pos 61 *ℤ y' +ℤ pos 3721 *ℤ z') *ℤ w
+sums-alike x y z x' y' z' w v h i j = follows (x ∷ y ∷ z ∷ x' ∷ y' ∷ z' ∷ w ∷ v ∷ []) ((at 0 ⊕ num (pos 61) ⊗ at 1 ⊕ num (pos 3721) ⊗ at 2) ⊗ at 7) ((at 3 ⊕ num (pos 61) ⊗ at 4 ⊕ num (pos 3721) ⊗ at 5) ⊗ at 6)
+    (given (num (pos 1)) (at 0 ⊗ at 7) (at 3 ⊗ at 6) h (given (num (pos 61)) (at 1 ⊗ at 7) (at 4 ⊗ at 6) i (given (num (pos 3721)) (at 2 ⊗ at 7) (at 5 ⊗ at 6) j none))) tt
 
-    w : ℤ
-    w = b.point.w
-
-    numbers : ℤ → ℤ → ℤ → Cell
-    numbers x y z = record { x = x; y = y; z = z }
-
-    part : (n m : ℤ) → n *ℤ b.point.w ≡ m *ℤ a.point.w → whole_of n a.point.w ≡ whole_of m b.point.w
-    part n m e = ap clamped (wholes-alike n a.point.w m b.point.w a.point.proper b.point.proper e)
+same-key : (a b : Half) → (moment_of a).x *ℤ b.point.w ≡ (moment_of b).x *ℤ a.point.w → (moment_of a).y *ℤ b.point.w ≡ (moment_of b).y *ℤ a.point.w → (moment_of a).z *ℤ b.point.w ≡ (moment_of b).z *ℤ a.point.w → a.key ≡ b.key
+same-key a b x y z =
+    let e = sums-alike (moment_of a).x (moment_of a).y (moment_of a).z (moment_of b).x (moment_of b).y (moment_of b).z a.point.w b.point.w x y z in
+    a.is_key ∙ ap clamped (wholes-alike (sum_of a.point a.dir) a.point.w (sum_of b.point b.dir) b.point.w a.point.proper b.point.proper e) ∙ sym b.is_key
 
 pub line-tied : (a b : Half) → OnOneLine a b → line_order a b ≡ Equal
 line-tied a b l =
@@ -157,12 +144,12 @@ line-tied a b l =
     let y = from-zero p.z p.x q.z q.x d.z d.x p.w q.w z.1 ∙ ap (λ (f : Dir). (q.z *ℤ f.x -ℤ q.x *ℤ f.z) *ℤ p.w) e in
     let w = from-zero p.x p.y q.x q.y d.x d.y p.w q.w z.2 ∙ ap (λ (f : Dir). (q.x *ℤ f.y -ℤ q.y *ℤ f.x) *ℤ p.w) e in
     let s : dir_order a.dir b.dir ≡ Equal = ap (dir_order a.dir) (sym e) ∙ tied_itself dir_total a.dir in
-    let c : cell_order a.cell b.cell ≡ Equal = ap (cell_order a.cell) (sym (same-cell a b x y w)) ∙ tied_itself cell_total a.cell in
-    all (dir_order a.dir b.dir) (cell_order a.cell b.cell) (ratio_order (λ h. (moment_of h).x) a b) (ratio_order (λ h. (moment_of h).y) a b) (ratio_order (λ h. (moment_of h).z) a b) s c
+    let k = cmp-equal a.key b.key (same-key a b x y w) in
+    all (int_cmp a.key b.key) (dir_order a.dir b.dir) (ratio_order (λ h. (moment_of h).x) a b) (ratio_order (λ h. (moment_of h).y) a b) (ratio_order (λ h. (moment_of h).z) a b) k s
     (cmp-equal ((moment_of a).x *ℤ q.w) ((moment_of b).x *ℤ p.w) x) (cmp-equal ((moment_of a).y *ℤ q.w) ((moment_of b).y *ℤ p.w) y) (cmp-equal ((moment_of a).z *ℤ q.w) ((moment_of b).z *ℤ p.w) w)
   where
-    all : (o c x y z : Ordering) → o ≡ Equal → c ≡ Equal → x ≡ Equal → y ≡ Equal → z ≡ Equal → ordering_then o (ordering_then c (ordering_then (ordering_then x y) z)) ≡ Equal
-    all o c x y z h k i j l = rw (h, k, i, j, l) refl
+    all : (k o x y z : Ordering) → k ≡ Equal → o ≡ Equal → x ≡ Equal → y ≡ Equal → z ≡ Equal → ordering_then k (ordering_then o (ordering_then (ordering_then x y) z)) ≡ Equal
+    all k o x y z g h i j l = rw (g, h, i, j, l) refl
 
 -- ---- a half that stands between two of one line
 pub record StandsBetween (f h g : Half) : Type 0 where

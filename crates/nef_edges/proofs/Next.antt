@@ -1,16 +1,17 @@
 -- The place where the sorted halves pass a half.
-use Rattle.std.proofs.Common.{◌≡◌, ℕ, ◌<◌, ◌≤◌, List, length, get_or, true, false, Ordering, Less, Equal, Greater, arith, refl, sym, ap, ◌∙◌, ⊎_elim}
+use Rattle.std.proofs.Common.{◌≡◌, ℕ, ◌<◌, ◌≤◌, ℤ, ◌<ℤ◌, ◌≤ℤ◌, List, length, get_or, true, false, Ordering, Less, Equal, Greater, arith, refl, sym, ap, ◌∙◌, ⊎_elim}
 use Rattle.std.specs.Cmp.{IsStrictWeakOrder, upto}
 use Rattle.std.specs.List.Sorted.{IsSortedBy, IsPermutation, IsPartitionedBy, IsPartitionPoint}
-use Rattle.std.specs.Ordering.{ordering_reverse, is_lt, is_le, is_gt}
+use Rattle.std.specs.Ordering.{int_cmp, nat_cmp, ordering_then, ordering_reverse, is_lt, is_le, is_gt}
 use Rattle.std.proofs.lemmas.Bool.{false≢true, cases_lt}
+use Rattle.std.proofs.lemmas.Int.{ints}
 use Rattle.std.proofs.lemmas.List.Sorted.{ranks_by, sorted_far, Contains-permutation, IsPermutation-sym}
 use Rattle.law_sphere.specs.Maps.{At}
 use Rattle.nef_complex.specs.declared.complex.Vertex.{Vertex}
 use Rattle.nef_edges.specs.declared.half.Half.{Half}
-use Rattle.nef_edges.specs.Order.{half_order, half_lt}
+use Rattle.nef_edges.specs.Order.{dir_order, moment_order, half_order, half_lt}
 use Rattle.nef_edges.specs.Halves.{AreArriving, IsAfter, NoneAfter, AllAfter, IsNext}
-use Rattle.nef_edges.proofs.Lines.{half_total}
+use Rattle.nef_edges.proofs.Lines.{cmp-is, cmp-less, half_total}
 use Rattle.nef_edges.proofs.Places.{at-within, at-read, read-at}
 
 pub weak : IsStrictWeakOrder half_lt
@@ -36,6 +37,41 @@ no-le-greater Less e = absurd (false≢true (sym e))
 no-le-greater Equal e = absurd (false≢true (sym e))
 no-le-greater Greater e = refl
 
+pub gt-greater : (o : Ordering) → is_gt o ≡ true → o ≡ Greater
+gt-greater Less e = absurd (false≢true e)
+gt-greater Equal e = absurd (false≢true e)
+gt-greater Greater e = refl
+
+-- ---- keys
+lt-is : (x y : ℤ) → is_lt (int_cmp x y) ≡ true → x <ℤ y
+lt-is x y = by (int_cmp x y) refl
+  where
+    by : (o : Ordering) → int_cmp x y ≡ o → is_lt o ≡ true → x <ℤ y
+    by Less e h = cmp-is x y Less e
+    by Equal e h = absurd (false≢true h)
+    by Greater e h = absurd (false≢true h)
+
+not-lt : (x y : ℤ) → is_lt (int_cmp x y) ≡ false → y ≤ℤ x
+not-lt x y = by (int_cmp x y) refl
+  where
+    by : (o : Ordering) → int_cmp x y ≡ o → is_lt o ≡ false → y ≤ℤ x
+    by Less e h = absurd (false≢true (sym h))
+    by Equal e h = let m : x ≡ y = cmp-is x y Equal e in omega (arith, ints)
+    by Greater e h = let m : y <ℤ x = cmp-is x y Greater e in omega (arith, ints)
+
+below-too : (x y z : ℤ) → is_lt (int_cmp y x) ≡ false → is_lt (int_cmp y z) ≡ true → is_lt (int_cmp x z) ≡ true
+below-too x y z n l = let h = not-lt y x n in let m = lt-is y z l in ap is_lt (cmp-less x z (omega (arith, ints)))
+
+first-no-lt : (o p q : Ordering) → is_lt (ordering_then (ordering_then o p) q) ≡ false → is_lt o ≡ false
+first-no-lt Less p q e = e
+first-no-lt Equal p q e = refl
+first-no-lt Greater p q e = refl
+
+first-lt : (o p q : Ordering) → is_lt o ≡ true → ordering_then (ordering_then o p) q ≡ Greater → ⊥
+first-lt Less p q e t = let i : Less ≡ Greater = t in cc
+first-lt Equal p q e t = false≢true e
+first-lt Greater p q e t = false≢true e
+
 module _ (hs : List Half) (sorted : IsSortedBy half_lt hs) where
   -- of two sorted halves the later isn't less
   pub not-less : (i k : ℕ) (g h : Half) → At hs i g → At hs k h → i ≤ k → half_lt h g ≡ false
@@ -44,6 +80,26 @@ module _ (hs : List Half) (sorted : IsSortedBy half_lt hs) where
       ap (λ r. half_lt r g) (sym (at-read hs k g h b)) ∙ ap (half_lt (get_or hs k g)) (sym (at-read hs i g g a)) ∙ far
 
   module _ (f : Half) where
+    -- those with a lesser key than f come first, and don't stand after it
+    pub keys-parted : IsPartitionedBy (λ (h : Half). is_lt (int_cmp h.key f.key)) hs
+    keys-parted i j d l m e =
+        let g = get_or hs i d in let h = get_or hs j d in
+        below-too g.key h.key f.key (first-no-lt (int_cmp h.key g.key) (ordering_then (dir_order h.dir g.dir) (moment_order h g)) (nat_cmp h.vertex g.vertex) (sorted_far half_lt weak hs sorted i j d l m)) e
+
+    pub none-below : (p : ℕ) → IsPartitionPoint (λ (h : Half). is_lt (int_cmp h.key f.key) ≡ true) (λ (h : Half). is_lt (int_cmp h.key f.key) ≡ false) hs p → NoneAfter hs f p
+    none-below p point k h a l t =
+        first-lt (int_cmp h.key f.key) (ordering_then (dir_order h.dir f.dir) (moment_order h f)) (nat_cmp h.vertex f.vertex)
+        (sym (ap (λ (g : Half). is_lt (int_cmp g.key f.key)) (at-read hs k h h a)) ∙ point.0 k h (omega arith) l) t
+
+    -- all from one on that stands after f do
+    pub all-after : (p : ℕ) (h : Half) → At hs p h → IsAfter f h → AllAfter hs f p
+    all-after p h a t k g b l = by (half_order g h) refl
+      where
+        by : (o : Ordering) → half_order g h ≡ o → half_order g f ≡ Greater
+        by Less e = absurd (false≢true (sym (not-less p k h g a b l) ∙ ap is_lt e))
+        by Equal e = half_total.congr g h f e ∙ t
+        by Greater e = half_total.antisymm g f ∙ ap ordering_reverse (half_total.trans f h g (half_total.antisymm f h ∙ ap ordering_reverse t) (half_total.antisymm h g ∙ ap ordering_reverse e))
+
     -- those that don't stand after f come first
     pub parted : IsPartitionedBy (λ (h : Half). is_le (half_order h f)) hs
     parted i j d l m e =

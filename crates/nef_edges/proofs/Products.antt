@@ -1,9 +1,9 @@
 -- The machine's products are the exact ones.
-use Rattle.std.proofs.Common.{◌≡◌, ℕ, ◌≤◌, ℤ, ◌-ℤ◌, ◌*ℤ◌, nat_abs, List, [], ◌∷◌, w64, to_z, of_z, FitsSigned, ap, ◌∙◌, Ordering}
+use Rattle.std.proofs.Common.{◌≡◌, ℕ, ◌≤◌, ℤ, pos, ◌+ℤ◌, ◌-ℤ◌, ◌*ℤ◌, nat_abs, List, [], ◌∷◌, w64, to_z, of_z, FitsSigned, ap, ◌∙◌, Ordering}
 use mir.Syntax.{w128}
 use Rattle.std.specs.Ordering.{int_cmp}
 use Rattle.nef_space.specs.Limits.{direction_limit, point_limit, weight_limit}
-use Rattle.law_arithmetic.proofs.Machine.{Code, load, wrap, run, ◌⊟◌, ◌⊠◌, Limited, fits_of, exact_of, size_of}
+use Rattle.law_arithmetic.proofs.Machine.{Code, load, const, wrap, run, ◌⊞◌, ◌⊟◌, ◌⊠◌, Limited, fits_of, exact_of, size_of}
 use Rattle.nef_geo.specs.declared.point.Point.{Point}
 use Rattle.nef_edges.specs.declared.half.Half.{Half}
 use Rattle.nef_edges.specs.Widths.{moment_limit}
@@ -34,6 +34,13 @@ module _ (a b e f : ℤ) (ha : nat_abs a ≤ point_limit) (hb : nat_abs b ≤ po
 
   pub difference-small : nat_abs (run four (wrap w128 difference)) ≤ moment_limit
   difference-small = size_of sizes (a ∷ b ∷ e ∷ f ∷ []) moment_limit (wrap w128 difference) limited tt tt
+
+-- ---- `x + 61 * y + 3721 * z`
+abbrev pub weighed : Code
+weighed = wrap w128 (wrap w128 (wrap w128 (load 0) ⊞ wrap w128 (const (pos 61) ⊠ wrap w128 (load 1))) ⊞ wrap w128 (const (pos 3721) ⊠ wrap w128 (load 2)))
+
+pub weighed-exact : (x y z : ℤ) → nat_abs x ≤ moment_limit → nat_abs y ≤ moment_limit → nat_abs z ≤ moment_limit → run (x ∷ y ∷ z ∷ []) weighed ≡ x +ℤ pos 61 *ℤ y +ℤ pos 3721 *ℤ z
+weighed-exact x y z a b c = exact_of (moment_limit ∷ moment_limit ∷ moment_limit ∷ []) (x ∷ y ∷ z ∷ []) weighed (a, (b, (c, tt))) tt
 
 -- ---- `n * v as i128`
 abbrev pub scaled : Code

@@ -1,11 +1,10 @@
--- Moments of lines, and the cells that they lie in.
-use Rattle.std.specs.Prelude.{ℤ, pos, neg_ℤ, ◌^◌, ◌-◌}
+-- Moments of lines, and whole numbers by which lines are told apart.
+use Rattle.std.specs.Prelude.{ℤ, pos, neg_ℤ, ◌+ℤ◌, ◌*ℤ◌, ◌^◌, ◌-◌}
 use Rattle.std.specs.Int.{int_div_euclid, int_max, int_min}
 use Rattle.nef_space.specs.Vectors.{Vector, vector, cross}
 use Rattle.nef_geo.specs.Shapes.{vector_of}
 use Rattle.nef_geo.specs.declared.dir.Dir.{Dir}
 use Rattle.nef_geo.specs.declared.point.Point.{Point}
-use Rattle.nef_edges.specs.declared.moment.Cell.{Cell}
 
 -- w times the product of the point (x/w, y/w, z/w) and the direction
 abbrev pub product_of : Point → Dir → Vector
@@ -19,6 +18,10 @@ clamped n = int_max (neg_ℤ (pos (2 ^ 63))) (int_min n (pos (2 ^ 63 - 1)))
 abbrev pub whole_of : ℤ → ℤ → ℤ
 whole_of n w = clamped (int_div_euclid n w)
 
--- the cell of the moment of the line through the point along the direction
-abbrev pub cell_of : Point → Dir → Cell
-cell_of p d = record { x = whole_of (product_of p d).x p.w; y = whole_of (product_of p d).y p.w; z = whole_of (product_of p d).z p.w }
+-- the sum of the numbers of p x d, with the weights 1, 61 and 3721
+abbrev pub sum_of : Point → Dir → ℤ
+sum_of p d = (product_of p d).x +ℤ pos 61 *ℤ (product_of p d).y +ℤ pos 3721 *ℤ (product_of p d).z
+
+-- the key of the line through the point along the direction: the same sum of its moment's numbers, rounded down
+abbrev pub key_of : Point → Dir → ℤ
+key_of p d = whole_of (sum_of p d) p.w

@@ -5,7 +5,6 @@ use Rattle.std.specs.Ordering.{int_cmp, nat_cmp, ordering_then, on, then_cmp, is
 use Rattle.nef_space.specs.Vectors.{Vector}
 use Rattle.nef_geo.specs.declared.dir.Dir.{Dir}
 use Rattle.nef_edges.specs.declared.half.Half.{Half}
-use Rattle.nef_edges.specs.declared.moment.Cell.{Cell}
 use Rattle.nef_edges.specs.Moments.{product_of}
 
 -- w times the moment of the half's line, for its point (x/w, y/w, z/w)
@@ -22,12 +21,9 @@ moment_order = then_cmp (then_cmp (ratio_order (λ h. (moment_of h).x)) (ratio_o
 abbrev pub dir_order : Dir → Dir → Ordering
 dir_order a b = ordering_then (int_cmp a.x b.x) (ordering_then (int_cmp a.y b.y) (int_cmp a.z b.z))
 
-abbrev pub cell_order : Cell → Cell → Ordering
-cell_order a b = ordering_then (int_cmp a.x b.x) (ordering_then (int_cmp a.y b.y) (int_cmp a.z b.z))
-
--- the order of the halves' lines: by direction, by the cells of their moments, then by these moments
+-- the order of the halves' lines: by their keys, by direction, then by their moments
 abbrev pub line_order : Half → Half → Ordering
-line_order = then_cmp (on (λ h. h.dir) dir_order) (then_cmp (on (λ h. h.cell) cell_order) moment_order)
+line_order = then_cmp (on (λ h. h.key) int_cmp) (then_cmp (on (λ h. h.dir) dir_order) moment_order)
 
 -- by the line, then by the vertex
 abbrev pub half_order : Half → Half → Ordering

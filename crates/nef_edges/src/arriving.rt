@@ -1,6 +1,6 @@
 //! The halves that arrive at vertices, in order.
 
-ghost use Rattle.std.specs.Prelude.{◌<◌, ◌+◌, ℕ, length, IfOk, OnOk};
+ghost use Rattle.std.specs.Prelude.{◌<◌, ◌+◌, ℕ, length, IsTrue, IfOk, OnOk};
 ghost use Rattle.std.specs.List.Sorted.{IsSortedBy};
 ghost use Rattle.law_sphere.specs.Maps.{At};
 ghost use Rattle.nef_edges.specs.declared.half.Half.{Half};
@@ -9,7 +9,7 @@ ghost use Rattle.nef_edges.specs.Halves.{IsBefore, AreArriving, IsAfter, NoneAft
 
 use crate::OutOfMemory;
 use crate::half::{Half, leads_on};
-use crate::order::half_cmp;
+use crate::order::{half_cmp, key_cmp};
 use nef_complex::Vertex;
 use std::alloc::Global;
 
@@ -53,12 +53,35 @@ pub(crate) fn sorted_arriving(alloc: Global, vertices: &[Vertex]) -> Result<Vec<
     Ok(halves)
 }
 
-// How many of the sorted halves don't stand after `from`.
+// Whether the half with this number stands after `from`.
+fn is_after(halves: &[Half], number: usize, from: &Half) -> bool
+    ensures after { IsTrue result → (h : Half) × At halves.now number h × IsAfter from.now h }
+{
+    match halves.get(number) {
+        Some(half) => half_cmp(half, from).is_gt(),
+        None => false,
+    }
+}
+
+// How many of the sorted halves have a lesser key than `from`.
+fn count_below(halves: &[Half], from: &Half) -> usize
+    requires sorted { IsSortedBy half_lt halves.now }
+    ensures before { NoneAfter halves.now from.now result }
+{
+    halves.partition_point(|half| key_cmp(half, from).is_lt())
+}
+
+// How many of the sorted halves don't stand after `from`. Where one edge alone lies on the line these are those with a
+// lesser key, which is told sooner.
 fn count_up_to(halves: &[Half], from: &Half) -> usize
     requires sorted { IsSortedBy half_lt halves.now }
     ensures before { NoneAfter halves.now from.now result }
     ensures after { AllAfter halves.now from.now result }
 {
+    let below = count_below(halves, from);
+    if is_after(halves, below, from) {
+        return below;
+    }
     halves.partition_point(|half| half_cmp(half, from).is_le())
 }
 

@@ -3,21 +3,12 @@
 //! The line through p along d is told by d and by its moment, p x d divided by p's w: both are the same for all points of
 //! the line.
 
-ghost use Rattle.std.specs.Prelude.{◌≡◌, ◌≤◌, ◌-ℤ◌, ◌*ℤ◌, ◌<ℤ◌, pos, nat_abs};
+ghost use Rattle.std.specs.Prelude.{◌≡◌, ◌≤◌, ◌+ℤ◌, ◌-ℤ◌, ◌*ℤ◌, ◌<ℤ◌, pos, nat_abs};
 ghost use Rattle.nef_space.specs.Limits.{direction_limit, point_limit};
 ghost use Rattle.nef_edges.specs.Widths.{moment_limit};
-ghost use Rattle.nef_edges.specs.Moments.{product_of, whole_of, cell_of};
+ghost use Rattle.nef_edges.specs.Moments.{product_of, sum_of, whole_of, key_of};
 
 use nef_geo::{Dir, Point};
-
-/// The cell of a grid of unit cubes that a moment lies in: each of its three numbers rounded down. They fit 64 bits where
-/// the line passes the frame; others become the nearest number that does.
-#[derive(Debug, Clone, Copy, PartialEq, Eq, PartialOrd, Ord)]
-pub(crate) struct Cell {
-    x: i64,
-    y: i64,
-    z: i64,
-}
 
 fn minor(a: i64, b: i64, e: i64, f: i64) -> i128
     requires a_small { nat_abs a ≤ point_limit }
@@ -63,15 +54,32 @@ fn whole(n: i128, w: i64) -> i64
     floor.clamp(i64::MIN as i128, i64::MAX as i128) as i64
 }
 
-impl Cell {
-    /// That of the line through the point along the direction.
-    pub(crate) fn of(point: &Point, dir: &Dir) -> Cell
-        ensures cell { result ≡ cell_of point.now dir.now }
-    {
-        Cell {
-            x: whole(product_x(point, dir), point.w()),
-            y: whole(product_y(point, dir), point.w()),
-            z: whole(product_z(point, dir), point.w()),
-        }
-    }
+// A sum that few triples of numbers have in common. The numbers of moments of lines through the frame are at most 2^49 in
+// size, so their sums fit 64 bits.
+fn weighed(x: i128, y: i128, z: i128) -> i128
+    requires x_small { nat_abs x ≤ moment_limit }
+    requires y_small { nat_abs y ≤ moment_limit }
+    requires z_small { nat_abs z ≤ moment_limit }
+    ensures sum { result ≡ x +ℤ pos 61 *ℤ y +ℤ pos 3721 *ℤ z }
+{
+    x + 61 * y + 3721 * z
+}
+
+// The sum of the numbers of p x d.
+fn product_sum(point: &Point, dir: &Dir) -> i128
+    ensures sum { result ≡ sum_of point.now dir.now }
+{
+    weighed(
+        product_x(point, dir),
+        product_y(point, dir),
+        product_z(point, dir),
+    )
+}
+
+/// The key of the line through the point along the direction: a whole number that is the same for all points of the
+/// line, and that few others have. It is a sum of the numbers of the moment, rounded down.
+pub(crate) fn line_key(point: &Point, dir: &Dir) -> i64
+    ensures key { result ≡ key_of point.now dir.now }
+{
+    whole(product_sum(point, dir), point.w())
 }

@@ -1,9 +1,9 @@
 //! The order of halves: by their lines, and on one line by their vertices.
 
 ghost use Rattle.std.specs.Prelude.{◌≡◌, ◌≤◌, ◌*ℤ◌, nat_abs};
-ghost use Rattle.std.specs.Ordering.{int_cmp, ordering_then};
+ghost use Rattle.std.specs.Ordering.{int_cmp, nat_cmp, ordering_then};
 ghost use Rattle.nef_edges.specs.Widths.{moment_limit};
-ghost use Rattle.nef_edges.specs.Order.{moment_of, ratio_order, moment_order, cell_order, line_order, half_order};
+ghost use Rattle.nef_edges.specs.Order.{moment_of, ratio_order, moment_order, dir_order, half_order};
 
 use crate::half::Half;
 use crate::moment::{product_x, product_y, product_z};
@@ -61,30 +61,39 @@ fn moment_cmp(a: &Half, b: &Half) -> Ordering
     }
 }
 
-// Asks for the moments only in one cell. Most lines lie in two, and whole numbers of 64 bits tell them apart.
-fn cell_cmp(a: &Half, b: &Half) -> Ordering
-    ensures order { result ≡ ordering_then (cell_order a.now.cell b.now.cell) (moment_order a.now b.now) }
+// Compares two lines with one key.
+fn line_cmp(a: &Half, b: &Half) -> Ordering
+    ensures order { result ≡ ordering_then (dir_order a.now.dir b.now.dir) (moment_order a.now b.now) }
 {
-    match a.cell.cmp(&b.cell) {
+    match a.dir.cmp(&b.dir) {
         Ordering::Less => Ordering::Less,
         Ordering::Equal => moment_cmp(a, b),
         Ordering::Greater => Ordering::Greater,
     }
 }
 
-fn line_cmp(a: &Half, b: &Half) -> Ordering
-    ensures order { result ≡ line_order a.now b.now }
+// Compares two halves whose lines have one key. Most lines have different ones, so this isn't made part of `half_cmp`.
+#[inline(never)]
+fn tied_cmp(a: &Half, b: &Half) -> Ordering
+    ensures order { result ≡ ordering_then (ordering_then (dir_order a.now.dir b.now.dir) (moment_order a.now b.now)) (nat_cmp a.now.vertex b.now.vertex) }
 {
-    match a.dir.cmp(&b.dir) {
-        Ordering::Less => Ordering::Less,
-        Ordering::Equal => cell_cmp(a, b),
-        Ordering::Greater => Ordering::Greater,
-    }
+    line_cmp(a, b).then(a.vertex.cmp(&b.vertex))
+}
+
+/// Compares the keys of two halves' lines.
+pub(crate) fn key_cmp(a: &Half, b: &Half) -> Ordering
+    ensures order { result ≡ int_cmp a.now.key b.now.key }
+{
+    a.key.cmp(&b.key)
 }
 
 /// Compares the lines of two halves, and then the numbers of their vertices.
 pub(crate) fn half_cmp(a: &Half, b: &Half) -> Ordering
     ensures order { result ≡ half_order a.now b.now }
 {
-    line_cmp(a, b).then(a.vertex.cmp(&b.vertex))
+    match key_cmp(a, b) {
+        Ordering::Less => Ordering::Less,
+        Ordering::Equal => tied_cmp(a, b),
+        Ordering::Greater => Ordering::Greater,
+    }
 }

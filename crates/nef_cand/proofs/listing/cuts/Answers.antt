@@ -10,8 +10,8 @@ pub returns : goal.returns
 returns c =
     let P = CutsOne (complex_of c.args.c.now) c.args.planes.now in
     let ps = c.add_cuts.new.points.items in
-    let qs = c.sort_by.new.self.items in
-    let m = c.sort_by.ensures.permutation in
+    let qs = c.sort_unstable_by.new.self.items in
+    let m = c.sort_unstable_by.ensures.permutation in
     record {
       cuts = adds-ordered P [] ps qs (λ p h. Contains-permutation ps qs p m h) (λ p h. Contains-permutation qs ps p (IsPermutation-sym ps qs m) h)
           (subst (λ (rs : List Point). Adds P rs ps) c.in_ok-points.ensures.items c.in_ok-add_cuts.ensures.added);

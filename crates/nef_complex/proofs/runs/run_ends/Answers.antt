@@ -5,7 +5,7 @@ use Rattle.nef_complex.proofs.runs.run_ends.Goals.{then-not-goes_on+in_ok-push, 
 use Rattle.nef_complex.proofs.runs.run_ends.Goals as goal
 
 pub loop-number-init : goal.loop-number-init
-loop-number-init c = let hs : List Plane = c.args.carriers.now in record { runs = subst (λ (ks : List ℕ). IsInRun hs ks 0) (sym c.new-ends.ensures.items) (in-run_none hs) }
+loop-number-init c = let hs : List Plane = c.args.carriers.now in record { runs = subst (λ (ks : List ℕ). IsInRun hs ks 0) (sym c.in_ok-ends.ensures.items) (in-run_none hs) }
 
 pub loop-number-preserved : goal.loop-number-preserved
 loop-number-preserved c =

@@ -1,16 +1,23 @@
-use Rattle.std.proofs.Common.{ℕ, List, get_or}
+use Rattle.std.proofs.Common.{ℕ, pos, List, get_or, arith}
 use Rattle.nef_classes.proofs.ClassLists.{is-at_get}
-use Rattle.nef_complex.specs.declared.complex.Vertex.{Vertex}
-use Rattle.nef_complex.proofs.Spanning.{span-more}
+use Rattle.nef_complex.specs.declared.spans.Bounds.{Bounds}
+use Rattle.nef_complex.specs.declared.spans.Span.{Span}
+use Rattle.nef_complex.proofs.Spanning.{narrower-more}
 use Rattle.nef_complex.proofs.spans.span_of.Goals as goal
+
+abbrev none : Span
+none = let b : Bounds = record { low = pos 0; high = pos 0 } in record { x = b; y = b; z = b }
 
 pub loop-number-preserved : goal.loop-number-preserved
 loop-number-preserved c =
-    let vs : List Vertex = c.args.vertices.now in
+    let ss : List Span = c.args.alone.now in
     let ns : List ℕ = c.args.listed.now in
     let n = c.loop-number.number-index in
     let k = get_or ns n 0 in
     let here = is-at_get ns n 0 c.loop-number-test.true in
-    let v : Vertex = get_or vs k c.index-vertices-number.result in
-    let at = is-at_get vs k c.index-vertices-number.result (c.requires.within n k here) in
-    span-more vs ns n k v c.loop-number.span c.with-span.result here at c.loop-number.invariant c.with-span.ensures.wider c.with-span.ensures.point
+    let t : Span = get_or ss k none in
+    let at = is-at_get ss k none (c.requires.within n k here) in
+    narrower-more ss ns n k t c.loop-number.span c.with_span-span.result here at c.loop-number.invariant c.with_span-span.ensures.wider c.with_span-span.ensures.other
+
+pub returns : goal.returns
+returns c = record { wide = λ i k t l a b. let f = c.loop-number-test.false in c.loop-number.invariant i k t (omega arith) a b }

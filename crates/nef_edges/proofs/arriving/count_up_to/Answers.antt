@@ -3,8 +3,13 @@ use Rattle.std.specs.Ordering.{is_le}
 use Rattle.std.proofs.lemmas.List.Sorted.{IsPartitionPoint-from_clause}
 use Rattle.nef_edges.specs.declared.half.Half.{Half}
 use Rattle.nef_edges.specs.Order.{half_order}
-use Rattle.nef_edges.proofs.Next.{parted, none-before, all-from}
+use Rattle.nef_edges.proofs.Next.{parted, none-before, all-from, all-after}
 use Rattle.nef_edges.proofs.arriving.count_up_to.Goals as goal
+
+pub returns-then-is_after-clause-after : goal.returns-then-is_after-clause-after
+returns-then-is_after-clause-after c =
+    let h = c.is_after.ensures.after c.if-is_after.true in
+    all-after c.args.halves.now c.requires.sorted c.args.from.now c.count_below-below.result h.0 h.1 h.2
 
 pub returns : goal.returns
 returns c =

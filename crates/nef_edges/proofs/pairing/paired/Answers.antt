@@ -1,0 +1,20 @@
+use Rattle.std.proofs.Common.{Result, Ok, Err, IfOk}
+use Rattle.nef_edges.proofs.Joined.{carriers-ordered, all-held, have-ends, shows-set}
+use Rattle.nef_edges.proofs.pairing.paired.Goals as goal
+
+pub of-requires-clause-ordered : goal.of-requires-clause-ordered
+of-requires-clause-ordered c = let V = c.requires.vertices in carriers-ordered V.0 c.args.carriers c.args.vertices V.1
+
+pub of-requires-clause-held : goal.of-requires-clause-held
+of-requires-clause-held c = let V = c.requires.vertices in all-held V.0 c.args.carriers c.args.vertices V.1 c.args.edges c.requires.edges
+
+pub of-requires-clause-ends : goal.of-requires-clause-ends
+of-requires-clause-ends c = let V = c.requires.vertices in have-ends V.0 c.args.carriers c.args.vertices V.1 c.args.edges c.requires.edges
+
+if-all : {A D : Type 0} (P Q R T : A → Type 0) → ((x : A) → P x → Q x → R x → T x) → (r : Result A D) → IfOk r P → IfOk r Q → IfOk r R → IfOk r T
+if-all P Q R T f (Ok x) p q r = f x p q r
+if-all P Q R T f (Err e) p q r = tt
+
+pub returns-clause-shows : goal.returns-clause-shows
+returns-clause-shows c =
+    if-all _ _ _ _ (λ d k i h s V. shows-set s c.args.carriers c.args.vertices V c.args.edges c.requires.edges d k.0 k.1 k.2 i h) c.of.result c.of.ensures.kept c.of.ensures.index c.of.ensures.holders
