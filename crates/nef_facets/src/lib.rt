@@ -11,5 +11,6 @@ mod parts;
 mod planes;
 mod position;
 
-pub use parts::{FacetParts, facets};
+pub use numbers::facet_ties;
+pub use parts::{FacetParts, facets, facets_of_ties};
 pub use std::alloc::AllocError as OutOfMemory;

@@ -27,8 +27,9 @@ fn item_counts(alloc: Global, c: &Complex) -> Result<Vec<usize>, OutOfMemory>
     Ok(counts)
 }
 
-// The links along edges and those across facets.
-fn facet_ties(alloc: Global, c: &Complex) -> Result<Vec<Tie>, OutOfMemory>
+/// The ties between corners that are linked along an edge or across a facet. A corner is an element of the table that has a
+/// row for each vertex and an element for each of its items. `OutOfMemory` says that memory was wanted and not found.
+pub fn facet_ties(alloc: Global, c: &Complex) -> Result<Vec<Tie>, OutOfMemory>
     requires shows { (s : Set) × ShowsSet s c.now }
     ensures within { IfOk result (λ v. AreTiedWithin (map count_items (complex_of c.now).vertices) v.items) }
     ensures links { IfOk result (λ v. (j k : PlainCorner) → AreTied v.items (cell_of j) (cell_of k) ↔ FacetLink (complex_of c.now) j k) }
@@ -39,12 +40,17 @@ fn facet_ties(alloc: Global, c: &Complex) -> Result<Vec<Tie>, OutOfMemory>
     Ok(ties)
 }
 
-/// For each vertex the numbers of the facets of its items. Facets are numbered from 0 by first appearance.
-pub(crate) fn facet_numbers(alloc: Global, c: &Complex) -> Result<List<List<usize>>, OutOfMemory>
-    requires shows { (s : Set) × ShowsSet s c.now }
+/// For each vertex the numbers of the facets of its items, of which these are the ties. Facets are numbered from 0 by first
+/// appearance.
+pub(crate) fn facet_numbers(
+    alloc: Global,
+    c: &Complex,
+    ties: &[Tie],
+) -> Result<List<List<usize>>, OutOfMemory>
+    requires within { AreTiedWithin (map count_items (complex_of c.now).vertices) ties.now }
+    requires links { (j k : PlainCorner) → AreTied ties.now (cell_of j) (cell_of k) ↔ FacetLink (complex_of c.now) j k }
     ensures numbers { IfOk result (λ rows. FacetNumbers (complex_of c.now) rows) }
 {
     let counts = item_counts(alloc, c)?;
-    let ties = facet_ties(alloc, c)?;
-    number_rows(alloc, &counts, &ties)
+    number_rows(alloc, &counts, ties)
 }

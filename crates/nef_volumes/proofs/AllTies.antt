@@ -12,7 +12,7 @@ use Rattle.law_complex.specs.Shows.{Shows}
 use Rattle.law_complex.specs.Rays.{VertexSide, RayDown}
 use Rattle.nef_classes.specs.Tables.{AreTied}
 use Rattle.nef_classes.specs.declared.table.Tie.{Tie}
-use Rattle.law_links.specs.Links.{LinkAlong, LinkAcross, IsSideOf, LinkInSface, AreSidesAlong, pos_arcs, neg_arcs, around_ends, LinkAcrossFacet, LinkDown, LinkOutside, VolumeLink}
+use Rattle.law_links.specs.Links.{FacetLink, IsSideOf, LinkInSface, AreSidesAlong, pos_arcs, neg_arcs, around_ends, LinkAcrossFacet, LinkDown, LinkOutside, VolumeLink}
 use Rattle.nef_parts.specs.Shells.{ShellLink}
 use Rattle.nef_ties.specs.Ties.{cell_of}
 use Rattle.nef_volumes.specs.Ties.{outside_cell, IsCellOf, IsEndOf, AreLinks, AreTiedSides, AreTiesOf, AreTiesWithOutside, AreTiedOutside, AreTiesDown, AreVolumeTies, LinkOfItems, LinkOfEnds, LinkOfFacets, AreTiedCorners, AreItemTies}
@@ -33,18 +33,6 @@ either-tied C Link Other ts us A B = record {
 
 pub ties-as : (C : Complex) (Link Other : VertexSide → VertexSide → Type 0) (ts : List Tie) → ((x y : VertexSide) → Link x y → Other x y) → ((x y : VertexSide) → Other x y → Link x y) → AreTiesOf C Link ts → AreTiesOf C Other ts
 ties-as C Link Other ts f g A = record { only = links-as C (IsCellOf C) (IsCellOf C) Link Other ts (λ x a h. h) f A.only; all = λ x y l. A.all x y (g x y l) }
-
--- the links of two kinds of linked items
-pub items-tied_both : (C : Complex) (L M N : Corner → Corner → Type 0) (ts us : List Tie) → ((j k : Corner) → N j k → L j k ⊎ M j k) → ((j k : Corner) → L j k ⊎ M j k → N j k) → AreTiesOf C (LinkOfItems C L) ts → AreTiesOf C (LinkOfItems C M) us → AreTiesOf C (LinkOfItems C N) (ts ++ us)
-items-tied_both C L M N ts us f g A B = ties-as C (λ x y. LinkOfItems C L x y ⊎ LinkOfItems C M x y) (LinkOfItems C N) (ts ++ us) (λ x y l. forth x y l) (λ x y (j, k, n, h). back x y j k (f j k n) h) (either-tied C (LinkOfItems C L) (LinkOfItems C M) ts us A B)
-  where
-    forth : (x y : VertexSide) → LinkOfItems C L x y ⊎ LinkOfItems C M x y → LinkOfItems C N x y
-    forth x y (inl (j, k, l, h)) = (j, k, g j k (inl l), h)
-    forth x y (inr (j, k, l, h)) = (j, k, g j k (inr l), h)
-
-    back : (x y : VertexSide) (j k : Corner) → L j k ⊎ M j k → (IsSideOf C x j.vertex (pos_item j.item) × IsSideOf C y k.vertex (pos_item k.item)) ⊎ (IsSideOf C x j.vertex (neg_item j.item) × IsSideOf C y k.vertex (neg_item k.item)) → LinkOfItems C L x y ⊎ LinkOfItems C M x y
-    back x y j k (inl l) h = inl (j, k, l, h)
-    back x y j k (inr l) h = inr (j, k, l, h)
 
 module _ (C : Complex) where
   -- ---- links of items and of ends are links along edges and across facets
@@ -185,16 +173,6 @@ module _ (s : Set) (C : Complex) (S : Shows s C) (outside down : List Tie) (O : 
   pub volume-tied : AreTiedOutside C outside → AreVolumeTies C (outside ++ down)
   volume-tied f = record { only = further-only; all = all-tied; outside = all-outside f }
 
--- the ties of items that are linked along edges, and of those that are linked across facets
-pub items-linked : (C : Complex) (along across ts us : List Tie) → ((j k : Corner) → AreTied along (cell_of j) (cell_of k) ↔ LinkAlong C j k) → ((j k : Corner) → AreTied across (cell_of j) (cell_of k) ↔ LinkAcross C j k)
-    → AreTiesOf C (LinkOfItems C (AreTiedCorners along)) ts → AreTiesOf C (LinkOfItems C (AreTiedCorners across)) us → AreItemTies C (ts ++ us)
-items-linked C along across ts us f g A B =
-    items-tied_both C (AreTiedCorners along) (AreTiedCorners across) (LinkOfFacets C) ts us back forth A B
-  where
-    back : (j k : Corner) → LinkAlong C j k ⊎ LinkAcross C j k → AreTied along (cell_of j) (cell_of k) ⊎ AreTied across (cell_of j) (cell_of k)
-    back j k (inl l) = inl ((f j k).1 l)
-    back j k (inr l) = inr ((g j k).1 l)
-
-    forth : (j k : Corner) → AreTied along (cell_of j) (cell_of k) ⊎ AreTied across (cell_of j) (cell_of k) → LinkAlong C j k ⊎ LinkAcross C j k
-    forth j k (inl l) = inl ((f j k).0 l)
-    forth j k (inr l) = inr ((g j k).0 l)
+-- the ties of items that are linked
+pub items-linked : (C : Complex) (items ts : List Tie) → ((j k : Corner) → AreTied items (cell_of j) (cell_of k) ↔ FacetLink C j k) → AreTiesOf C (LinkOfItems C (AreTiedCorners items)) ts → AreItemTies C ts
+items-linked C items ts f A = ties-as C (LinkOfItems C (AreTiedCorners items)) (LinkOfItems C (LinkOfFacets C)) ts (λ x y (j, k, l, h). (j, k, (f j k).0 l, h)) (λ x y (j, k, l, h). (j, k, (f j k).1 l, h)) A

@@ -1,5 +1,5 @@
 -- Sides as elements of a table, and which ties join them.
-use Rattle.std.specs.Prelude.{◌≡◌, ℕ, ◌+◌, ◌<◌, List, ◌∷◌, ◌++◌, length, map, Bool, true, false, cond, Option, Some, MatchOption, ◌⊎◌}
+use Rattle.std.specs.Prelude.{◌≡◌, ℕ, ◌+◌, ◌<◌, ◌≤◌, List, ◌∷◌, ◌++◌, length, map, Bool, true, false, cond, Option, Some, MatchOption, ◌⊎◌}
 use Rattle.std.specs.List.{Contains}
 use Rattle.nef_space.specs.Lists.{IsAt, Chained}
 use Rattle.nef_space.specs.declared.label.Label.{Label}
@@ -167,6 +167,11 @@ HasNoLinkDown C i = (x y : VertexSide) → x.vertex ≡ i → LinkDown C x y →
 pub record AreTiesDown (C : Complex) (ts : List Tie) : Type 0 where
   pub only : AreLinks (IsCellOf C) (LinkDown C) ts
   pub all : (x y : VertexSide) → LinkDown C x y → (t : Tie) × Contains ts t × IsTieDown C x.vertex t
+
+-- the same of the vertices from start to before end alone
+pub record AreDownBetween (C : Complex) (start end : ℕ) (ts : List Tie) : Type 0 where
+  pub only : AreLinks (IsCellOf C) (LinkDown C) ts
+  pub all : (x y : VertexSide) → LinkDown C x y → start ≤ x.vertex → x.vertex < end → (t : Tie) × Contains ts t × IsTieDown C x.vertex t
 
 -- the element is that of a side above the point where the ray down from vertex i ends
 abbrev pub IsFloorCell : Complex → ℕ → Cell → Type 0

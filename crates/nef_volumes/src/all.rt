@@ -8,21 +8,22 @@ ghost use Rattle.nef_parts.specs.declared.parts.Cycle.{Cycle as PlainCycle};
 ghost use Rattle.nef_parts.specs.Numbers.{IsVolumeOf, VolumeNumbers, IsParts};
 ghost use Rattle.nef_facets.specs.Facets.{IsFacetParts};
 ghost use Rattle.nef_volumes.specs.Joins.{FacetsAreComponents, VolumesAreComponents, AreCounted};
+ghost use Rattle.nef_parts.specs.Shells.{SfaceNumbers};
 ghost use Rattle.nef_ties.specs.Carriers.{HasItem};
-ghost use Rattle.nef_volumes.specs.Parts.{side_beside, HasFirst, IsBeside, AreFacetsOf, AreVolumesOf};
+ghost use Rattle.nef_volumes.specs.Ties.{AreItemTies, AreTiesDown};
+ghost use Rattle.nef_volumes.specs.Parts.{side_beside, HasFirst, IsBeside, AreFacetsOf, AreVolumesOf, ArePieces};
 
 use crate::OutOfMemory;
 use crate::labels::volume_labels;
 use crate::numbers::{shell_rows, volume_numbers};
-use crate::sface::sface_numbers;
+use crate::pieces::{FacetPieces, Pieces, all_pieces};
 use crate::shells::{gathered, volume_shells};
+use nef_classes::Tie;
 use nef_complex::{Complex, Corner};
-use nef_facets::{FacetParts, facets};
+use nef_facets::FacetParts;
 use nef_geo::{Label, List, Plane};
 use nef_parts::{Cycle, Facet, Parts, Shell};
 use std::alloc::Global;
-use std::thread;
-use std::thread::Threads;
 
 // The number of the volume at a side of the item: at that to which its normal points, or at the other.
 fn volume_at(c: &Complex, volume_of: &List<List<usize>>, corner: &Corner, above: bool) -> usize
@@ -105,15 +106,24 @@ struct Volumes {
     shells: List<List<Shell>>,
 }
 
-// The volumes of the complex.
-fn volumes_of(alloc: Global, c: &Complex) -> Result<Volumes, OutOfMemory>
+// The volumes of the complex. The numbers of the sfaces of sides are given, and the ties of the sides of linked items and
+// those down rays.
+fn volumes_of(
+    alloc: Global,
+    c: &Complex,
+    sface_of: List<List<usize>>,
+    items: &[Tie],
+    down: &[Tie],
+) -> Result<Volumes, OutOfMemory>
     requires shows { (s : Set) × ShowsSet s c.now }
+    requires sfaces { SfaceNumbers (complex_of c.now) sface_of }
+    requires items { AreItemTies (complex_of c.now) items.now }
+    requires down { AreTiesDown (complex_of c.now) down.now }
     ensures volumes { IfOk result (λ v. AreVolumesOf (complex_of c.now) v.sface_of v.volume_of v.labels v.shells) }
 {
-    let sface_of = sface_numbers(alloc, c)?;
-    let rows = shell_rows(alloc, c, &sface_of)?;
+    let rows = shell_rows(alloc, c, &sface_of, items)?;
     let sides = gathered(alloc, &rows)?;
-    let volume_of = volume_numbers(alloc, c, &rows, sides.len() + 1)?;
+    let volume_of = volume_numbers(alloc, c, &rows, sides.len() + 1, down)?;
     let labels = volume_labels(alloc, c, &volume_of)?;
     let shells = volume_shells(alloc, &volume_of, sides, labels.len())?;
     Ok(Volumes {
@@ -162,6 +172,29 @@ fn parts_of(
     })
 }
 
+/// The parts of the complex, which has these pieces.
+pub(crate) fn parts_of_pieces(
+    alloc: Global,
+    c: &Complex,
+    pieces: Pieces,
+) -> Result<Parts, OutOfMemory>
+    requires shows { (s : Set) × ShowsSet s c.now }
+    requires pieces { ArePieces (complex_of c.now) pieces.facets.parts pieces.facets.items.items pieces.sface_of pieces.down.items }
+    ensures parts { IfOk result (λ p. IsParts (complex_of c.now) p) }
+    ensures items_joined { IfOk result (λ p. FacetsAreComponents c.now p) }
+    ensures sides_joined { IfOk result (λ p. VolumesAreComponents c.now p) }
+    ensures counted { IfOk result (λ p. AreCounted c.now p) }
+{
+    let Pieces {
+        facets,
+        sface_of,
+        down,
+    } = pieces;
+    let FacetPieces { parts, items } = facets;
+    let volumes = volumes_of(alloc, c, sface_of, items.as_slice(), down.as_slice())?;
+    parts_of(alloc, c, parts, volumes)
+}
+
 /// The facets and volumes of the complex, with their numbers, the numbers of sfaces, and the shells of volumes. Points at
 /// items are joined exactly where the items have one facet number, and points at sides where the sides have one volume
 /// number. So there are as many vertices, edges, facets and volumes as the points with no, one, two and three flat
@@ -173,47 +206,6 @@ pub fn parts(alloc: Global, c: &Complex) -> Result<Parts, OutOfMemory>
     ensures sides_joined { IfOk result (λ p. VolumesAreComponents c.now p) }
     ensures counted { IfOk result (λ p. AreCounted c.now p) }
 {
-    let facet_parts = facets(alloc, c)?;
-    let volumes = volumes_of(alloc, c)?;
-    parts_of(alloc, c, facet_parts, volumes)
-}
-
-// A thread costs as much as the parts of a few hundred vertices: those of fewer are made by one.
-const MANY_VERTICES: usize = 512;
-
-// Whether one thread makes all parts.
-fn is_for_one_thread(workers: u32, c: &Complex) -> bool {
-    workers < 2 || c.vertices.len() < MANY_VERTICES
-}
-
-/// As `parts`. Where there are two workers at least, and many vertices, another thread makes the facets while the calling
-/// one makes the volumes; where a thread can't be made the calling one makes both. `OutOfMemory` says that memory was
-/// wanted and not found, by whichever of them.
-pub fn parts_beside<R: Threads + Sync>(
-    rt: &R,
-    alloc: Global,
-    c: &Complex,
-    workers: u32,
-) -> Result<Parts, OutOfMemory>
-    requires shows { (s : Set) × ShowsSet s c.now }
-    ensures parts { IfOk result (λ p. IsParts (complex_of c.now) p) }
-    ensures items_joined { IfOk result (λ p. FacetsAreComponents c.now p) }
-    ensures sides_joined { IfOk result (λ p. VolumesAreComponents c.now p) }
-    ensures counted { IfOk result (λ p. AreCounted c.now p) }
-{
-    if is_for_one_thread(workers, c) {
-        return parts(alloc, c);
-    }
-    let (facet_parts, volumes) = thread::join(
-        rt,
-        || -> Result<FacetParts, OutOfMemory>
-            requires { (s : Set) × ShowsSet s c.now }
-            ensures { IfOk result (λ p. IsFacetParts (complex_of c.entry.now) p) }
-        { facets(alloc, c) },
-        || -> Result<Volumes, OutOfMemory>
-            requires { (s : Set) × ShowsSet s c.now }
-            ensures { IfOk result (λ v. AreVolumesOf (complex_of c.entry.now) v.sface_of v.volume_of v.labels v.shells) }
-        { volumes_of(alloc, c) },
-    );
-    parts_of(alloc, c, facet_parts?, volumes?)
+    let pieces = all_pieces(alloc, c)?;
+    parts_of_pieces(alloc, c, pieces)
 }

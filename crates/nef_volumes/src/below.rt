@@ -1,6 +1,6 @@
 //! The ties down the rays from vertices.
 
-ghost use Rattle.std.specs.Prelude.{◌≡◌, ◌<◌, length, IfOk};
+ghost use Rattle.std.specs.Prelude.{◌≡◌, ◌<◌, ◌≤◌, length, IfOk};
 ghost use Rattle.std.specs.Option.{MatchOption};
 ghost use Rattle.nef_space.specs.Sets.{Set};
 ghost use Rattle.nef_space.specs.Vectors.{opposite, up};
@@ -8,7 +8,7 @@ ghost use Rattle.nef_smap.specs.Maps.{map_of, IsSphereMap};
 ghost use Rattle.nef_smap.specs.Sides.{SideSees};
 ghost use Rattle.law_complex.specs.Rays.{VertexSide};
 ghost use Rattle.nef_complex.specs.Complexes.{complex_of, ShowsSet};
-ghost use Rattle.nef_volumes.specs.Ties.{IsBelow, IsFloorCell, HasNoLinkDown, IsTieDown, AreTiesDown};
+ghost use Rattle.nef_volumes.specs.Ties.{IsBelow, IsFloorCell, HasNoLinkDown, IsTieDown, AreDownBetween};
 
 use crate::OutOfMemory;
 use crate::cells::cell;
@@ -55,15 +55,20 @@ fn down_tie(c: &Complex, vertex: usize) -> Option<Tie>
     Some(Tie { first, second })
 }
 
-/// The ties down the rays from vertices: of a side that sees downward, unless it is outside, with the side above what the
-/// ray first meets.
-pub(crate) fn down_ties(alloc: Global, c: &Complex) -> Result<Vec<Tie>, OutOfMemory>
+/// The ties down the rays from the vertices with numbers from `start` to before `end`: of a side that sees downward, unless
+/// it is outside, with the side above what the ray first meets.
+pub(crate) fn down_ties(
+    alloc: Global,
+    c: &Complex,
+    start: usize,
+    end: usize,
+) -> Result<Vec<Tie>, OutOfMemory>
     requires shows { (s : Set) × ShowsSet s c.now }
-    ensures ties { IfOk result (λ v. AreTiesDown (complex_of c.now) v.items) }
+    requires within { end ≤ length c.now.vertices }
+    ensures ties { IfOk result (λ v. AreDownBetween (complex_of c.now) start end v.items) }
 {
     let mut ties = Vec::new(alloc);
-    let count = c.vertices.len();
-    for vertex in 0..count {
+    for vertex in start..end {
         if let Some(tie) = down_tie(c, vertex) {
             ties.push(tie)?;
         }

@@ -1,11 +1,14 @@
 //! The ties of the sides of tied items.
 
-ghost use Rattle.std.specs.Prelude.{map, IfOk};
+ghost use Rattle.std.specs.Prelude.{map, ◌↔◌, IfOk};
 ghost use Rattle.nef_space.specs.Sets.{Set};
+ghost use Rattle.law_complex.specs.Complexes.{Corner};
 ghost use Rattle.nef_complex.specs.Complexes.{complex_of, ShowsSet};
+ghost use Rattle.law_links.specs.Links.{FacetLink};
 ghost use Rattle.nef_parts.specs.Numbers.{count_items};
-ghost use Rattle.nef_classes.specs.Tables.{IsCellIn, AreTiedWithin};
-ghost use Rattle.nef_volumes.specs.Ties.{AreTiesOf, AreTiedCorners, IsItemSide, IsSideTie, LinkOfItems};
+ghost use Rattle.nef_classes.specs.Tables.{IsCellIn, AreTied, AreTiedWithin};
+ghost use Rattle.nef_ties.specs.Ties.{cell_of};
+ghost use Rattle.nef_volumes.specs.Ties.{IsItemSide, IsSideTie, AreItemTies};
 
 use crate::OutOfMemory;
 use crate::cells::cell;
@@ -36,13 +39,14 @@ fn side_tie(c: &Complex, tie: &Tie, above: bool) -> Tie
     }
 }
 
-/// The ties of the upper sides and of the lower sides of tied items.
+/// The ties of the upper sides and of the lower sides of linked items, which these ties join.
 pub(crate) fn item_ties(alloc: Global, c: &Complex, items: &[Tie]) -> Result<Vec<Tie>, OutOfMemory>
     requires shows { (s : Set) × ShowsSet s c.now }
     requires within { AreTiedWithin (map count_items (complex_of c.now).vertices) items.now }
-    ensures ties { IfOk result (λ v. AreTiesOf (complex_of c.now) (LinkOfItems (complex_of c.now) (AreTiedCorners items.now)) v.items) }
+    requires links { (j k : Corner) → AreTied items.now (cell_of j) (cell_of k) ↔ FacetLink (complex_of c.now) j k }
+    ensures ties { IfOk result (λ v. AreItemTies (complex_of c.now) v.items) }
 {
-    let mut ties = Vec::new(alloc);
+    let mut ties = Vec::with_capacity(alloc, items.len().saturating_mul(2))?;
     for tie in items {
         ties.push(side_tie(c, tie, true))?;
         ties.push(side_tie(c, tie, false))?;

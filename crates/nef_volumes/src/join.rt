@@ -28,7 +28,7 @@ fn number_links(
     requires numbered { HaveNumbers rows.now ties.now }
     ensures links { IfOk result (λ v. AreNumberLinks rows.now ties.now v.items) }
 {
-    let mut links = Vec::new(alloc);
+    let mut links = Vec::with_capacity(alloc, ties.len())?;
     for tie in ties {
         links.push(Link {
             first: number_at(rows, &tie.first),
@@ -47,7 +47,7 @@ fn renumbered_row(
     requires below { (k n : ℕ) → IsAt row.now k n → n < length numbers.now }
     ensures row { IfOk result (λ new. IsRenumbered numbers.now new row.now) }
 {
-    let mut renumbered = List::new(alloc);
+    let mut renumbered = List::from_vec(Vec::with_capacity(alloc, row.len())?);
     for number in row {
         renumbered.push(numbers[*number])?;
     }
@@ -63,7 +63,7 @@ fn renumbered(
     requires below { AreNumbersBelow rows.now (length numbers.now) }
     ensures rows { IfOk result (λ new. AreRenumbered numbers.now new rows.now) }
 {
-    let mut renumbered = List::new(alloc);
+    let mut renumbered = List::from_vec(Vec::with_capacity(alloc, rows.len())?);
     for row in rows {
         renumbered.push(renumbered_row(alloc, row.as_slice(), numbers)?)?;
     }

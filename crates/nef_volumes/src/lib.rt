@@ -8,6 +8,7 @@
 
 mod all;
 mod below;
+mod beside;
 mod cells;
 mod connected;
 mod edges;
@@ -17,9 +18,11 @@ mod labels;
 mod links;
 mod numbers;
 mod outside;
+mod pieces;
 mod sface;
 mod shells;
 
-pub use all::{parts, parts_beside};
+pub use all::parts;
+pub use beside::parts_beside;
 pub use connected::joined;
 pub use std::alloc::AllocError as OutOfMemory;

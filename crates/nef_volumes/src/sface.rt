@@ -85,8 +85,8 @@ pub(crate) fn sface_numbers(alloc: Global, c: &Complex) -> Result<List<List<usiz
     requires shows { (s : Set) × ShowsSet s c.now }
     ensures numbers { IfOk result (λ rows. SfaceNumbers (complex_of c.now) rows) }
 {
-    let mut rows = List::new(alloc);
     let count = c.vertices.len();
+    let mut rows = List::from_vec(Vec::with_capacity(alloc, count)?);
     for vertex in 0..count {
         let numbers = sfaces(alloc, &c.vertices.at(vertex).map)?;
         rows.push(List::from_vec(numbers))?;

@@ -1,36 +1,16 @@
-use Rattle.std.proofs.Common.{◌≡◌, ℕ, List, length, arith, sym, ap, ◌∙◌, subst}
-use Rattle.nef_space.specs.Lists.{IsAt}
-use Rattle.nef_complex.specs.declared.complex.Corner.{Corner}
+use Rattle.std.proofs.Common.{List, map, sym, subst, ◌↔◌}
+use Rattle.law_complex.specs.Complexes.{Corner}
 use Rattle.nef_complex.specs.Complexes.{complex_of}
-use Rattle.nef_facets.specs.Facets.{AreFirsts}
-use Rattle.nef_facets.proofs.PartsOf.{facet-parts}
+use Rattle.law_links.specs.Links.{FacetLink}
+use Rattle.nef_parts.specs.Numbers.{count_items}
+use Rattle.nef_classes.specs.declared.table.Tie.{Tie}
+use Rattle.nef_classes.specs.Tables.{AreTied, AreTiedWithin}
+use Rattle.nef_ties.specs.Ties.{cell_of}
 use Rattle.nef_facets.proofs.parts.facets.Goals as goal
 
-pub facet_cycles-requires-clause-count : goal.facet_cycles-requires-clause-count
-facet_cycles-requires-clause-count c =
-    let rows : List (List ℕ) = c.in_ok-facet_of.facet_of in
-    let js : List Corner = c.in_ok-firsts.firsts.items in
-    let F : AreFirsts rows c.in_ok-corners.corners.items js = subst (λ (ks : List Corner). AreFirsts rows ks js) c.deref.ensures.value c.in_ok-firsts.ensures.firsts in
-    λ i k n a f.
-    let b = F.all i n k (subst (λ (ks : List Corner). IsAt ks i k) c.deref-4.ensures.value a) f in
-    let e = c.len.ensures in let o = c.in_ok-firsts.firsts.ok in
-    omega arith
+pub facets_of_ties-requires-clause-within : goal.facets_of_ties-requires-clause-within
+facets_of_ties-requires-clause-within c = subst (λ (ts : List Tie). AreTiedWithin (map count_items (complex_of c.args.c.now).vertices) ts) (sym c.as_slice.ensures.value) c.in_ok-ties.ensures.within
 
-pub returns : goal.returns
-returns c =
-    let S = c.requires.shows in
-    let rows : List (List ℕ) = c.in_ok-facet_of.facet_of in
-    let js : List Corner = c.in_ok-firsts.firsts.items in
-    let F : AreFirsts rows c.in_ok-corners.corners.items js = subst (λ (ks : List Corner). AreFirsts rows ks js) c.deref.ensures.value c.in_ok-firsts.ensures.firsts in
-    let e = c.len.ensures in let o = c.in_ok-firsts.firsts.ok in
-    let many : c.len.result ≡ length js = omega arith in
-    record {
-      parts = facet-parts S.0 (complex_of c.args.c.now) (record { planes = c.in_ok-planes.planes; marks = c.in_ok-marks.marks; cycles = c.in_ok-cycles.cycles; facet_of = rows }) c.in_ok-corners.corners.items js S.1.shows
-          c.in_ok-facet_of.ensures.numbers c.in_ok-corners.ensures.all F
-          (c.in_ok-planes.ensures.as_many ∙ ap (λ (ks : List Corner). length ks) c.deref-2.ensures.value)
-          (c.in_ok-marks.ensures.as_many ∙ ap (λ (ks : List Corner). length ks) c.deref-3.ensures.value)
-          (c.in_ok-cycles.ensures.as_many ∙ many)
-          (λ n h k a b. c.in_ok-planes.ensures.planes n h k a (subst (λ (ks : List Corner). IsAt ks n k) (sym c.deref-2.ensures.value) b))
-          (λ n l k a b. c.in_ok-marks.ensures.marks n l k a (subst (λ (ks : List Corner). IsAt ks n k) (sym c.deref-3.ensures.value) b))
-          c.in_ok-cycles.ensures.cycles;
-    }
+pub facets_of_ties-requires-clause-links : goal.facets_of_ties-requires-clause-links
+facets_of_ties-requires-clause-links c =
+    subst (λ (ts : List Tie). (j k : Corner) → AreTied ts (cell_of j) (cell_of k) ↔ FacetLink (complex_of c.args.c.now) j k) (sym c.as_slice.ensures.value) c.in_ok-ties.ensures.links

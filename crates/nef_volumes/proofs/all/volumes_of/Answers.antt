@@ -28,7 +28,7 @@ volume_shells-requires c =
 pub returns : goal.returns
 returns c = record {
   volumes = record {
-    sfaces = c.in_ok-sface_of.ensures.numbers;
+    sfaces = c.requires.sfaces;
     numbers = c.in_ok-volume_of.ensures.numbers;
     labels = c.in_ok-labels.ensures.labels;
     as_many = c.in_ok-shells.ensures.as_many ∙ c.len-2.ensures.len;

@@ -5,6 +5,7 @@ use Rattle.nef_complex.specs.Complexes.{complex_of}
 use Rattle.nef_ties.specs.Ties.{Adds}
 use Rattle.nef_ties.proofs.Adding.{AnyBelow, any-start, any-next, any-all, adds-one}
 use Rattle.nef_volumes.specs.Ties.{IsSideTie, IsTieOfItems}
+use Rattle.nef_volumes.proofs.AllTies.{items-linked}
 use Rattle.nef_volumes.proofs.ItemTies.{side_tie-one, both-added, items-tied}
 use Rattle.nef_volumes.proofs.items.item_ties.Goals as goal
 
@@ -23,7 +24,7 @@ side_tie-requires-in-loop-tie-clause-second c = (c.requires.within c.loop-tie.ti
 pub loop-tie-init : goal.loop-tie-init
 loop-tie-init c =
     let C = complex_of c.args.c.now in
-    subst (λ (ts : List Tie). Adds (AnyBelow (IsTieOfItems C c.args.items.now) 0) [] ts) (sym c.new-ties.ensures.items) (any-start (IsTieOfItems C c.args.items.now) [])
+    subst (λ (ts : List Tie). Adds (AnyBelow (IsTieOfItems C c.args.items.now) 0) [] ts) (sym c.in_ok-ties.ensures.items) (any-start (IsTieOfItems C c.args.items.now) [])
 
 pub loop-tie-preserved : goal.loop-tie-preserved
 loop-tie-preserved c =
@@ -48,6 +49,6 @@ returns c =
     let C = complex_of c.args.c.now in
     let is = c.args.items.now in
     record {
-      ties = items-tied C is c.requires.within c.loop-tie.ties.items (any-all (IsTieOfItems C is) c.loop-tie.tie-index [] c.loop-tie.ties.items
-          (λ k t p. let l = is-at_within is k p.0 p.1 in omega (arith, l, c.loop-tie-test.false)) c.loop-tie.invariant);
+      ties = items-linked C is c.loop-tie.ties.items c.requires.links (items-tied C is c.requires.within c.loop-tie.ties.items (any-all (IsTieOfItems C is) c.loop-tie.tie-index [] c.loop-tie.ties.items
+          (λ k t p. let l = is-at_within is k p.0 p.1 in omega (arith, l, c.loop-tie-test.false)) c.loop-tie.invariant));
     }

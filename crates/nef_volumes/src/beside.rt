@@ -1,0 +1,223 @@
+//! All parts of a complex, made by several threads.
+
+ghost use Rattle.std.specs.Prelude.{◌≡◌, ◌≤◌, ◌++◌, length, IfOk};
+ghost use Rattle.nef_space.specs.Sets.{Set};
+ghost use Rattle.nef_complex.specs.Complexes.{complex_of, ShowsSet};
+ghost use Rattle.nef_facets.specs.Facets.{IsFacetParts};
+ghost use Rattle.nef_parts.specs.Numbers.{IsParts};
+ghost use Rattle.nef_parts.specs.Shells.{SfaceNumbers};
+ghost use Rattle.nef_volumes.specs.Joins.{FacetsAreComponents, VolumesAreComponents, AreCounted};
+ghost use Rattle.nef_volumes.specs.Parts.{ArePieces};
+ghost use Rattle.nef_volumes.specs.Ties.{AreItemTies, AreDownBetween};
+
+use crate::OutOfMemory;
+use crate::all::{parts, parts_of_pieces};
+use crate::below::down_ties;
+use crate::pieces::{FacetPieces, Pieces, facet_pieces};
+use crate::sface::sface_numbers;
+use nef_classes::Tie;
+use nef_complex::Complex;
+use nef_geo::List;
+use nef_parts::Parts;
+use std::alloc::Global;
+use std::thread;
+use std::thread::Threads;
+
+// The pieces, made by two threads: one follows the rays down.
+fn pieces_by_two<R: Threads + Sync>(
+    rt: &R,
+    alloc: Global,
+    c: &Complex,
+) -> Result<Pieces, OutOfMemory>
+    requires shows { (s : Set) × ShowsSet s c.now }
+    ensures pieces { IfOk result (λ p. ArePieces (complex_of c.now) p.facets.parts p.facets.items.items p.sface_of p.down.items) }
+{
+    let count = c.vertices.len();
+    let (down, (sface_of, facets)) = thread::join(
+        rt,
+        || -> Result<Vec<Tie>, OutOfMemory>
+            requires shows { (s : Set) × ShowsSet s c.now }
+            requires within { count ≤ length c.now.vertices }
+            ensures { IfOk result (λ v. AreDownBetween (complex_of c.entry.now) 0 count v.items) }
+        { down_ties(alloc, c, 0, count) },
+        || -> (
+            Result<List<List<usize>>, OutOfMemory>,
+            Result<FacetPieces, OutOfMemory>,
+        )
+            requires { (s : Set) × ShowsSet s c.now }
+            ensures sfaces { IfOk result.0 (λ rows. SfaceNumbers (complex_of c.entry.now) rows) }
+            ensures facets { IfOk result.1 (λ p. IsFacetParts (complex_of c.entry.now) p.parts) }
+            ensures items { IfOk result.1 (λ p. AreItemTies (complex_of c.entry.now) p.items.items) }
+        { (sface_numbers(alloc, c), facet_pieces(alloc, c)) },
+    );
+    Ok(Pieces {
+        facets: facets?,
+        sface_of: sface_of?,
+        down: down?,
+    })
+}
+
+// The ties down the rays from the vertices from `start` on, made by another thread, and the facets with the ties of the
+// sides of items.
+fn facets_by_two<R: Threads + Sync>(
+    rt: &R,
+    alloc: Global,
+    c: &Complex,
+    start: usize,
+) -> (
+    Result<Vec<Tie>, OutOfMemory>,
+    Result<FacetPieces, OutOfMemory>,
+)
+    requires shows { (s : Set) × ShowsSet s c.now }
+    ensures down { IfOk result.0 (λ v. AreDownBetween (complex_of c.now) start (length c.now.vertices) v.items) }
+    ensures facets { IfOk result.1 (λ p. IsFacetParts (complex_of c.now) p.parts) }
+    ensures items { IfOk result.1 (λ p. AreItemTies (complex_of c.now) p.items.items) }
+{
+    thread::join(
+        rt,
+        || -> Result<Vec<Tie>, OutOfMemory>
+            requires { (s : Set) × ShowsSet s c.now }
+            ensures { IfOk result (λ v. AreDownBetween (complex_of c.entry.now) start (length c.entry.now.vertices) v.items) }
+        { down_ties(alloc, c, start, c.vertices.len()) },
+        || -> Result<FacetPieces, OutOfMemory>
+            requires { (s : Set) × ShowsSet s c.now }
+            ensures facets { IfOk result (λ p. IsFacetParts (complex_of c.entry.now) p.parts) }
+            ensures items { IfOk result (λ p. AreItemTies (complex_of c.entry.now) p.items.items) }
+        { facet_pieces(alloc, c) },
+    )
+}
+
+// As `facets_by_two`, while a third thread follows the rays down from the vertices before `start`.
+fn facets_by_three<R: Threads + Sync>(
+    rt: &R,
+    alloc: Global,
+    c: &Complex,
+    start: usize,
+) -> (
+    Result<Vec<Tie>, OutOfMemory>,
+    Result<Vec<Tie>, OutOfMemory>,
+    Result<FacetPieces, OutOfMemory>,
+)
+    requires shows { (s : Set) × ShowsSet s c.now }
+    requires within { start ≤ length c.now.vertices }
+    ensures front { IfOk result.0 (λ v. AreDownBetween (complex_of c.now) 0 start v.items) }
+    ensures back { IfOk result.1 (λ v. AreDownBetween (complex_of c.now) start (length c.now.vertices) v.items) }
+    ensures facets { IfOk result.2 (λ p. IsFacetParts (complex_of c.now) p.parts) }
+    ensures items { IfOk result.2 (λ p. AreItemTies (complex_of c.now) p.items.items) }
+{
+    let (front, (back, facets)) = thread::join(
+        rt,
+        || -> Result<Vec<Tie>, OutOfMemory>
+            requires shows { (s : Set) × ShowsSet s c.now }
+            requires within { start ≤ length c.now.vertices }
+            ensures { IfOk result (λ v. AreDownBetween (complex_of c.entry.now) 0 start v.items) }
+        { down_ties(alloc, c, 0, start) },
+        || -> (
+            Result<Vec<Tie>, OutOfMemory>,
+            Result<FacetPieces, OutOfMemory>,
+        )
+            requires { (s : Set) × ShowsSet s c.now }
+            ensures down { IfOk result.0 (λ v. AreDownBetween (complex_of c.entry.now) start (length c.entry.now.vertices) v.items) }
+            ensures facets { IfOk result.1 (λ p. IsFacetParts (complex_of c.entry.now) p.parts) }
+            ensures items { IfOk result.1 (λ p. AreItemTies (complex_of c.entry.now) p.items.items) }
+        { facets_by_two(rt, alloc, c, start) },
+    );
+    (front, back, facets)
+}
+
+// The ties of both, those of the second after those of the first.
+fn appended(mut first: Vec<Tie>, second: Vec<Tie>) -> Result<Vec<Tie>, OutOfMemory>
+    ensures items { IfOk result (λ v. v.items ≡ first.items ++ second.items) }
+{
+    first.extend_from_slice(second.as_slice())?;
+    Ok(first)
+}
+
+// The pieces, made by four threads: one numbers the sfaces, and two follow the rays down, each those from half of the
+// vertices.
+fn pieces_by_four<R: Threads + Sync>(
+    rt: &R,
+    alloc: Global,
+    c: &Complex,
+) -> Result<Pieces, OutOfMemory>
+    requires shows { (s : Set) × ShowsSet s c.now }
+    ensures pieces { IfOk result (λ p. ArePieces (complex_of c.now) p.facets.parts p.facets.items.items p.sface_of p.down.items) }
+{
+    let half = c.vertices.len() / 2;
+    // The calling thread starts all others, since one that a new thread starts begins on the processor of its maker.
+    let (sface_of, (front, back, facets)) = thread::join(
+        rt,
+        || -> Result<List<List<usize>>, OutOfMemory>
+            requires { (s : Set) × ShowsSet s c.now }
+            ensures { IfOk result (λ rows. SfaceNumbers (complex_of c.entry.now) rows) }
+        { sface_numbers(alloc, c) },
+        || -> (
+            Result<Vec<Tie>, OutOfMemory>,
+            Result<Vec<Tie>, OutOfMemory>,
+            Result<FacetPieces, OutOfMemory>,
+        )
+            requires shows { (s : Set) × ShowsSet s c.now }
+            requires within { half ≤ length c.now.vertices }
+            ensures front { IfOk result.0 (λ v. AreDownBetween (complex_of c.entry.now) 0 half v.items) }
+            ensures back { IfOk result.1 (λ v. AreDownBetween (complex_of c.entry.now) half (length c.entry.now.vertices) v.items) }
+            ensures facets { IfOk result.2 (λ p. IsFacetParts (complex_of c.entry.now) p.parts) }
+            ensures items { IfOk result.2 (λ p. AreItemTies (complex_of c.entry.now) p.items.items) }
+        { facets_by_three(rt, alloc, c, half) },
+    );
+    Ok(Pieces {
+        facets: facets?,
+        sface_of: sface_of?,
+        down: appended(front?, back?)?,
+    })
+}
+
+// Three threads take as long to start as the parts of some thirty vertices to be made. Of fewer than this many vertices one
+// thread makes all, since the others would save it less than half a millisecond.
+const MANY_VERTICES: usize = 128;
+
+// Whether one thread makes all parts.
+fn is_for_one_thread(workers: u32, c: &Complex) -> bool {
+    workers < 2 || c.vertices.len() < MANY_VERTICES
+}
+
+// So many threads make parts together.
+const THREADS: u32 = 4;
+
+// The pieces, made by four threads where there are as many workers, and else by two.
+fn pieces_beside<R: Threads + Sync>(
+    rt: &R,
+    alloc: Global,
+    c: &Complex,
+    workers: u32,
+) -> Result<Pieces, OutOfMemory>
+    requires shows { (s : Set) × ShowsSet s c.now }
+    ensures pieces { IfOk result (λ p. ArePieces (complex_of c.now) p.facets.parts p.facets.items.items p.sface_of p.down.items) }
+{
+    if workers < THREADS {
+        return pieces_by_two(rt, alloc, c);
+    }
+    pieces_by_four(rt, alloc, c)
+}
+
+/// As `parts`. Where there are two workers at least, and many vertices, another thread follows the rays down from the
+/// vertices while the calling one numbers the sfaces and makes the facets; where there are four, two others follow the rays,
+/// and one numbers the sfaces. Where a thread can't be made another does its part. `OutOfMemory` says that memory was
+/// wanted and not found, by whichever of them.
+pub fn parts_beside<R: Threads + Sync>(
+    rt: &R,
+    alloc: Global,
+    c: &Complex,
+    workers: u32,
+) -> Result<Parts, OutOfMemory>
+    requires shows { (s : Set) × ShowsSet s c.now }
+    ensures parts { IfOk result (λ p. IsParts (complex_of c.now) p) }
+    ensures items_joined { IfOk result (λ p. FacetsAreComponents c.now p) }
+    ensures sides_joined { IfOk result (λ p. VolumesAreComponents c.now p) }
+    ensures counted { IfOk result (λ p. AreCounted c.now p) }
+{
+    if is_for_one_thread(workers, c) {
+        return parts(alloc, c);
+    }
+    let pieces = pieces_beside(rt, alloc, c, workers)?;
+    parts_of_pieces(alloc, c, pieces)
+}
