@@ -2,10 +2,11 @@ pub mod Upward
 pub mod Cones
 pub mod VolumeLabels
 pub mod Marks
-pub mod TwoStars
-pub mod EdgeEnds
-pub mod EdgeCones
-pub mod EdgeStars
+pub mod FlatLabels
+pub mod EdgeLabels
+pub mod EdgeMaps
+pub mod EdgeHalves
+pub mod EdgeFound
 pub mod CarrierPoints
 pub mod RayMeets
 pub mod LastArcs

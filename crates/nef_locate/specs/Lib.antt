@@ -1,6 +1,7 @@
 pub mod Places
 pub mod Rays
 pub mod Ends
+pub mod Halves
 pub mod Facets
 pub mod Beams
 pub mod Probes

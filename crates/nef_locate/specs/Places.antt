@@ -3,13 +3,7 @@ use Rattle.std.specs.Prelude.{◌≡◌, ℕ}
 use Rattle.nef_space.specs.Place.{Place as PlainPlace, IsAhead, IsBetween}
 use Rattle.nef_space.specs.Vectors.{Vector}
 use Rattle.nef_space.specs.declared.label.Label.{Label}
-use Rattle.law_sphere.specs.Maps.{At, MapVertex, MapSloop, Item, item_normal, item_pos, item_mark, item_neg, Side}
-use Rattle.nef_geo.specs.Shapes.{vector_of}
-use Rattle.law_sphere.specs.Stars.{StarShows}
-use Rattle.nef_star.specs.declared.star.Star.{Star}
-use Rattle.nef_star.specs.Stars.{star_of, IsStar}
-use Rattle.nef_smap.specs.declared.map.SphereMap.{SphereMap}
-use Rattle.nef_smap.specs.Maps.{map_of}
+use Rattle.law_sphere.specs.Maps.{At, MapSloop, Item, item_normal, item_pos, item_mark, item_neg, Side}
 use Rattle.nef_smap.specs.Sides.{IsSide}
 use Rattle.law_complex.specs.Complexes.{Vertex, Edge, Complex, IsCorner}
 use Rattle.law_complex.specs.Skeleton.{IsVertexPoint, IsEdgePoint, at_vertex, on_edge, in_facet, HasCorner, IsSkeletonPoint}
@@ -58,12 +52,6 @@ pub record IsPlaneOf (x : Item) (l : MapSloop) : Type 0 where
   pub pos : item_pos x ≡ l.pos
   pub mark : item_mark x ≡ l.mark
   pub neg : item_neg x ≡ l.neg
-
--- the star of the svertex with this number, which shows the map
-pub record IsEndStar (m : SphereMap) (k : ℕ) (t : Star) : Type 0 where
-  pub star : IsStar t
-  pub axis : (u : MapVertex) → At (map_of m).svertices k u → vector_of t.axis ≡ u.dir
-  pub shows : StarShows (star_of t) (map_of m)
 
 -- the number of flat directions there
 abbrev pub place_dimension : Place → ℕ

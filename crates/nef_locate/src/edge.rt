@@ -1,30 +1,78 @@
 //! The least map of the set at the points of an edge.
 
-ghost use Rattle.std.specs.Prelude.{◌<◌, length, IfOk};
+ghost use Rattle.std.specs.Prelude.{◌≡◌, ◌<◌, ◌*◌, length, map, IfOk, OnOk};
 ghost use Rattle.nef_space.specs.Place.{Place as PlainPlace};
 ghost use Rattle.nef_space.specs.Sets.{Set};
+ghost use Rattle.law_sphere.specs.Maps.{At, MapVertex};
 ghost use Rattle.law_sphere.specs.Least.{Cone};
-ghost use Rattle.nef_smap.specs.Maps.{map_of, IsSphereMap, IsLeastMap};
+ghost use Rattle.nef_smap.specs.Maps.{svertex_of, map_of, IsSphereMap, IsLeastMap};
 ghost use Rattle.nef_complex.specs.Complexes.{complex_of, ShowsSet};
 ghost use Rattle.nef_locate.specs.declared.place.Place.TheVariants as place;
-ghost use Rattle.nef_locate.specs.Places.{IsPlaceIn, IsPlaceAt, IsEndStar};
+ghost use Rattle.nef_locate.specs.Places.{IsPlaceIn, IsPlaceAt};
+ghost use Rattle.nef_locate.specs.Halves.{two_ends, IsHalf, IsPushedIf, AreHalves};
 
 use crate::OutOfMemory;
 use nef_complex::Complex;
 use nef_geo::List;
-use nef_smap::{RawStars, SPlace, SphereMap, star_in};
-use nef_spair::build;
-use nef_star::{Star, mirrored};
+use nef_smap::{SArc, SVertex, SphereMap};
+use nef_spair::sort_arcs;
 use std::alloc::Global;
 
-// The star of a svertex of a map.
-fn end_star(alloc: Global, map: &SphereMap, svertex: usize) -> Result<Star, OutOfMemory>
-    requires map { IsSphereMap map.now }
-    requires within { svertex < length map.now.svertices }
-    ensures star { IfOk result (λ t. IsEndStar map.now svertex t) }
+// The svertices at the points of an edge that leaves a vertex at this svertex: the opposite direction is the lesser one.
+fn ends_of(alloc: Global, end: &SVertex) -> Result<Vec<SVertex>, OutOfMemory>
+    ensures ends { IfOk result (λ v. map svertex_of v.items ≡ two_ends (svertex_of end.now)) }
 {
-    let axis = &map.svertices.at(svertex).dir;
-    star_in(alloc, map, axis, SPlace::SVertex(svertex))
+    let opposite = SVertex {
+        dir: end.dir.back(),
+        mark: end.mark,
+        around: end.around,
+    };
+    Vec::from_slice(alloc, &[opposite, *end])
+}
+
+// The half of the arc's circle from svertex number `source` of two opposite ones to the other.
+fn half_circle(arc: &SArc, source: usize) -> SArc
+    requires source { source < 2 }
+    ensures half { IsHalf arc.now source result }
+{
+    SArc {
+        source,
+        target: 1 - source,
+        normal: arc.normal,
+        mark: arc.mark,
+        pos: arc.pos,
+        neg: arc.neg,
+    }
+}
+
+// Adds the half circle, if the arc has an end at the svertex.
+fn push_if(
+    halves: &mut Vec<SArc>,
+    is_end: bool,
+    arc: &SArc,
+    source: usize,
+) -> Result<(), OutOfMemory>
+    requires source { source < 2 }
+    ensures pushed { OnOk result (IsPushedIf is_end arc.now source halves.old.items halves.new.items) }
+{
+    if is_end {
+        halves.push(half_circle(arc, source))?;
+    }
+    Ok(())
+}
+
+// The half circles along the arcs that begin or end at the svertex: a whole circle gives both.
+fn half_circles(alloc: Global, map: &SphereMap, svertex: usize) -> Result<Vec<SArc>, OutOfMemory>
+    requires map { IsSphereMap map.now }
+    requires svertex { (u : MapVertex) × At (map_of map.now).svertices svertex u }
+    ensures halves { IfOk result (λ v. AreHalves map.now.arcs svertex (2 * length map.now.arcs) v.items) }
+{
+    let mut halves = Vec::with_capacity(alloc, map.arcs.len())?;
+    for arc in map.arcs.as_slice() {
+        push_if(&mut halves, arc.target == svertex, arc, 0)?;
+        push_if(&mut halves, arc.source == svertex, arc, 1)?;
+    }
+    Ok(halves)
 }
 
 // The least map of the set at the points strictly inside the edge with this number.
@@ -35,17 +83,16 @@ pub(crate) fn edge_map(alloc: Global, c: &Complex, number: usize) -> Result<Sphe
     ensures cone { IfOk result (λ m. (s : Set) (y : PlainPlace) → ShowsSet s c.now → IsPlaceAt (complex_of c.now) y (place.OnEdge number) → Cone (map_of m) s y) }
 {
     let edge = *c.edges.at(number);
-    let low = end_star(alloc, &c.vertices.at(edge.low).map, edge.low_svertex)?;
-    // the labels don't change along the edge, so its other direction has the same half great circles
-    let high = mirrored(alloc, &low)?;
-    let mut stars = Vec::with_capacity(alloc, 2)?;
-    stars.push(high)?;
-    stars.push(low)?;
-    let raw = RawStars {
+    let low = &c.vertices.at(edge.low).map;
+    let svertices = ends_of(alloc, low.svertices.at(edge.low_svertex))?;
+    // the labels don't change along the edge, so each arc there gives half a great circle
+    let mut arcs = half_circles(alloc, low, edge.low_svertex)?;
+    sort_arcs(&mut arcs);
+    Ok(SphereMap {
         mark: edge.mark,
-        stars: List::from_vec(stars),
+        svertices: List::from_vec(svertices),
+        arcs: List::from_vec(arcs),
         sloop: None,
         ground: None,
-    };
-    build(alloc, raw)
+    })
 }

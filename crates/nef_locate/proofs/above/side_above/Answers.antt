@@ -9,7 +9,7 @@ use Rattle.nef_complex.specs.Complexes.{vertex_of, edge_of, complex_of, corner_o
 use Rattle.nef_locate.specs.declared.place.Spot.{Spot}
 use Rattle.nef_locate.specs.Places.{IsPlaceIn, spot_place}
 use Rattle.nef_locate.specs.Rays.{IsSideAbove}
-use Rattle.nef_locate.proofs.EdgeStars.{low-within, low-svertex}
+use Rattle.nef_locate.proofs.EdgeFound.{low-within, low-svertex}
 use Rattle.nef_locate.proofs.Located.{above-vertex, above-edge, above-facet}
 use Rattle.nef_locate.proofs.Marks.{image-within, corner-read}
 use Rattle.nef_locate.proofs.above.side_above.Goals as goal

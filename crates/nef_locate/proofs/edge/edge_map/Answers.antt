@@ -1,8 +1,8 @@
-use Rattle.std.proofs.Common.{◌≡◌, List, [], ◌∷◌, ◌++◌, ap, ◌∙◌}
-use Rattle.nef_star.specs.declared.star.Star.{Star}
+use Rattle.std.proofs.Common.{◌*◌, length, refl}
+use Rattle.nef_smap.specs.Maps.{svertex_of}
 use Rattle.nef_complex.specs.Complexes.{edge_of}
-use Rattle.nef_locate.proofs.Marks.{image-within}
-use Rattle.nef_locate.proofs.EdgeStars.{low-within, low-svertex, raw-labels, built-cone}
+use Rattle.nef_locate.proofs.Marks.{image-read, image-within}
+use Rattle.nef_locate.proofs.EdgeFound.{low-within, low-map, low-svertex, edge-least, edge-cone}
 use Rattle.nef_locate.proofs.edge.edge_map.Goals as goal
 
 pub at-edge-requires : goal.at-edge-requires
@@ -11,24 +11,29 @@ at-edge-requires c = record { within = image-within edge_of c.args.c.now.edges c
 pub at-requires : goal.at-requires
 at-requires c = record { within = low-within c.requires.shows.0 c.args.c.now c.requires.shows.1 c.args.number c.at-edge.result.now c.at-edge.ensures.element }
 
-pub end_star-requires-clause-map : goal.end_star-requires-clause-map
-end_star-requires-clause-map c = (c.requires.shows.1.maps c.at-edge.result.now.low c.at.result.now c.at.ensures.element).sphere_map
+pub at-requires-2 : goal.at-requires-2
+at-requires-2 c = record { within = low-svertex c.requires.shows.0 c.args.c.now c.requires.shows.1 c.args.number c.at-edge.result.now c.at-edge.ensures.element c.at.result.now c.at.ensures.element }
 
-pub end_star-requires-clause-within : goal.end_star-requires-clause-within
-end_star-requires-clause-within c = low-svertex c.requires.shows.0 c.args.c.now c.requires.shows.1 c.args.number c.at-edge.result.now c.at-edge.ensures.element c.at.result.now c.at.ensures.element
+pub half_circles-requires-clause-map : goal.half_circles-requires-clause-map
+half_circles-requires-clause-map c =
+    let l = low-map c.requires.shows.0 c.args.c.now c.requires.shows.1 c.args.number c.at-edge.result.now c.at-edge.ensures.element c.at.result.now c.at.ensures.element in
+    l.sphere_map
 
-pub build-requires-clause-labels : goal.build-requires-clause-labels
-build-requires-clause-labels c =
-    let low = c.in_ok-low.low in let high = c.in_ok-high.high in
-    let same : c.from_vec.result ≡ high ∷ low ∷ [] =
-    c.from_vec.ensures.all ∙ c.in_ok-push-2.ensures.items ∙ ap (λ (ts : List Star). ts ++ low ∷ []) (c.in_ok-push.ensures.items ∙ ap (λ (ts : List Star). ts ++ high ∷ []) c.in_ok-stars.ensures.items) in
-    raw-labels c.args.c.now c.args.number c.at-edge.result.now c.at-edge.ensures.element c.at.result.now c.at.ensures.element
-    low high c.in_ok-low.ensures.star c.in_ok-high.ensures.star c.in_ok-high.ensures.mirror c.from_vec.result same c.requires.shows.0 c.requires.shows.1
+pub half_circles-requires-clause-svertex : goal.half_circles-requires-clause-svertex
+half_circles-requires-clause-svertex c =
+    let x = c.at-2.result.now in
+    (svertex_of x, image-read svertex_of c.at.result.now.map.svertices c.at-edge.result.now.low_svertex x c.at-2.ensures.element)
+
+pub returns-clause-least : goal.returns-clause-least
+returns-clause-least c =
+    let v = c.at.result.now in
+    rw (c.from_vec.ensures.all, c.from_vec-2.ensures.all)
+    (edge-least c.requires.shows.0 c.args.c.now c.requires.shows.1 c.args.number c.at-edge.result.now c.at-edge.ensures.element v c.at.ensures.element c.at-2.result.now c.at-2.ensures.element
+    c.in_ok-svertices.svertices.items c.in_ok-svertices.ensures.ends (2 * length v.map.arcs) c.in_ok-arcs.arcs.items c.sort_arcs.new.arcs.items c.in_ok-arcs.ensures.halves refl c.sort_arcs.ensures.permutation c.sort_arcs.ensures.ordered)
 
 pub returns-clause-cone : goal.returns-clause-cone
-returns-clause-cone c =
-    let low = c.in_ok-low.low in let high = c.in_ok-high.high in
-    let same : c.from_vec.result ≡ high ∷ low ∷ [] =
-    c.from_vec.ensures.all ∙ c.in_ok-push-2.ensures.items ∙ ap (λ (ts : List Star). ts ++ low ∷ []) (c.in_ok-push.ensures.items ∙ ap (λ (ts : List Star). ts ++ high ∷ []) c.in_ok-stars.ensures.items) in
-    built-cone c.args.c.now c.args.number c.at-edge.result.now c.at-edge.ensures.element c.at.result.now c.at.ensures.element
-    low high c.in_ok-low.ensures.star c.in_ok-high.ensures.star c.in_ok-high.ensures.mirror c.from_vec.result same c.build.result c.build.ensures.least c.build.ensures.mark c.build.ensures.labels
+returns-clause-cone c s y S p =
+    let v = c.at.result.now in
+    rw (c.from_vec.ensures.all, c.from_vec-2.ensures.all)
+    (edge-cone s c.args.c.now S c.args.number c.at-edge.result.now c.at-edge.ensures.element v c.at.ensures.element c.at-2.result.now c.at-2.ensures.element
+    c.in_ok-svertices.svertices.items c.in_ok-svertices.ensures.ends (2 * length v.map.arcs) c.in_ok-arcs.arcs.items c.sort_arcs.new.arcs.items c.in_ok-arcs.ensures.halves refl c.sort_arcs.ensures.permutation c.sort_arcs.ensures.ordered y p)

@@ -1,0 +1,39 @@
+-- The half great circles between the directions of an edge.
+use Rattle.std.specs.Prelude.{◌≡◌, ℕ, zero, suc, ◌<◌, ◌+◌, ◌*◌, List, [], ◌∷◌, ◌++◌, Bool, true, false}
+use Rattle.nef_space.specs.Vectors.{opposite}
+use Rattle.law_sphere.specs.Maps.{At, MapVertex}
+use Rattle.nef_smap.specs.declared.map.SArc.{SArc}
+use Rattle.nef_spair.specs.Arcs.{AreApart}
+
+-- the svertices at the points of an edge that leaves a vertex at svertex u
+abbrev pub two_ends : MapVertex → List MapVertex
+two_ends u = record { dir = opposite u.dir; mark = u.mark; around = u.around } ∷ u ∷ []
+
+-- h leads from svertex number `source` of the two to the other, on the circle of a and with its labels
+pub record IsHalf (a : SArc) (source : ℕ) (h : SArc) : Type 0 where
+  pub normal : h.normal ≡ a.normal
+  pub source_is : h.source ≡ source
+  pub target : h.target + source ≡ 1
+  pub mark : h.mark ≡ a.mark
+  pub pos : h.pos ≡ a.pos
+  pub neg : h.neg ≡ a.neg
+
+-- the half circle from the first direction is of an arc that ends at svertex k, the one from the second of an arc that begins there
+abbrev pub IsEndAt : ℕ → SArc → ℕ → Type 0
+IsEndAt k a zero = a.target ≡ k
+IsEndAt k a (suc source) = a.source ≡ k
+
+-- the half circle is added to the list, if there is one
+abbrev pub IsPushedIf : Bool → SArc → ℕ → List SArc → List SArc → Type 0
+IsPushedIf false a source hs gs = gs ≡ hs
+IsPushedIf true a source hs gs = (h : SArc) × (gs ≡ hs ++ h ∷ []) × IsHalf a source h
+
+-- number j's half circle from this direction is one of the first n
+abbrev pub IsBefore : ℕ → ℕ → ℕ → Type 0
+IsBefore j source n = (source < 2) × (2 * j + source < n)
+
+-- the half circles of the arcs at svertex k, with the first n of two for each arc looked at
+pub record AreHalves (as' : List SArc) (k n : ℕ) (hs : List SArc) : Type 0 where
+  pub each : (i : ℕ) (h : SArc) → At hs i h → (j : ℕ) × (source : ℕ) × (a : SArc) × IsBefore j source n × At as' j a × IsEndAt k a source × IsHalf a source h
+  pub all : (j source : ℕ) (a : SArc) → IsBefore j source n → At as' j a → IsEndAt k a source → (i : ℕ) × (h : SArc) × At hs i h × IsHalf a source h
+  pub apart : AreApart hs
