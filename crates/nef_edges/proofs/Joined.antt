@@ -20,6 +20,11 @@ use Rattle.nef_edges.proofs.Existing.{edges-exist}
 use Rattle.nef_edges.proofs.Partners.{partner}
 use Rattle.nef_edges.proofs.Places.{at-some, some-at, at-map, map-at, at-within}
 
+-- the list of the edges as it is read
+pub paired-edges : (vertices read : List Vertex) (pushed edges : List Edge) → read ≡ vertices → edges ≡ pushed → Edges (map vertex_of read) (map edge_of pushed) → Edges (map vertex_of vertices) (map edge_of edges)
+paired-edges vertices read pushed edges e f E =
+    subst (λ (es : List Edge). Edges (map vertex_of vertices) (map edge_of es)) (sym f) (subst (λ (vs : List Vertex). Edges (map vertex_of vs) (map edge_of pushed)) e E)
+
 module _ (s : Set) (carriers : List Plane) (vertices : List Vertex) (V : AreVerticesOf s carriers vertices) where
   ordered : InOrder (λ u v. IsPlaceBelow u.point v.point) (map vertex_of vertices)
   ordered i k x y l a b =

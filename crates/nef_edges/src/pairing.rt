@@ -16,8 +16,6 @@ use crate::half::{Half, leads_on};
 use nef_complex::{Complex, Edge, SortedCarriers, Table, Vertex, vertex_rows};
 use nef_geo::{List, Plane};
 use std::alloc::Global;
-use std::thread;
-use std::thread::Threads;
 
 // Adds the edges that lead on from vertex number i.
 fn add_edges(
@@ -63,45 +61,21 @@ fn edges_of(alloc: Global, vertices: &[Vertex]) -> Result<Vec<Edge>, OutOfMemory
     Ok(edges)
 }
 
-// As `pair`, where the edges are given, and for each vertex the numbers of the carriers that hold it.
-fn paired(
+// As `pair`, where for each vertex the numbers of the carriers that hold it are given.
+fn pair_held(
     alloc: Global,
     carriers: List<Plane>,
     vertices: List<Vertex>,
     at_vertex: Table,
-    edges: List<Edge>,
 ) -> Result<Complex, OutOfMemory>
     requires vertices { (s : Set) × AreVerticesOf s carriers vertices }
     requires holders { AreVertexHolders carriers vertices at_vertex }
-    requires edges { Edges (map vertex_of vertices) (map edge_of edges) }
     ensures kept { IfOk result (λ c. (c.carriers ≡ carriers) × (c.vertices ≡ vertices)) }
     ensures edges { IfOk result (λ c. Edges (map vertex_of c.vertices) (map edge_of c.edges)) }
     ensures shows { IfOk result (λ c. (s : Set) → AreVerticesOf s carriers vertices → ShowsSet s c) }
 {
+    let edges = List::from_vec(edges_of(alloc, vertices.as_slice())?);
     Complex::of(alloc, carriers, vertices, edges, at_vertex)
-}
-
-// For each vertex the numbers of the carriers that hold it, which another thread looks for, and all edges, in order.
-fn rows_and_edges<R: Threads + Sync>(
-    rt: &R,
-    alloc: Global,
-    carriers: &SortedCarriers,
-    vertices: &[Vertex],
-) -> (Result<Table, OutOfMemory>, Result<Vec<Edge>, OutOfMemory>)
-    requires joined { AreJoined (map vertex_of vertices.now) }
-    ensures rows { IfOk result.0 (λ rows. AreVertexHolders carriers.now vertices.now rows) }
-    ensures edges { IfOk result.1 (λ v. Edges (map vertex_of vertices.now) (map edge_of v.items)) }
-{
-    thread::join(
-        rt,
-        || -> Result<Table, OutOfMemory>
-            ensures { IfOk result (λ rows. AreVertexHolders carriers.entry.now vertices.entry.now rows) }
-        { vertex_rows(alloc, carriers, vertices) },
-        || -> Result<Vec<Edge>, OutOfMemory>
-            requires { AreJoined (map vertex_of vertices.now) }
-            ensures { IfOk result (λ v. Edges (map vertex_of vertices.entry.now) (map edge_of v.items)) }
-        { edges_of(alloc, vertices) },
-    )
 }
 
 /// The complex with these carriers and vertices, and with all edges between the vertices. Some set has exactly these
@@ -119,26 +93,5 @@ pub fn pair(
 {
     let carriers = SortedCarriers::of(alloc, carriers)?;
     let rows = vertex_rows(alloc, &carriers, vertices.as_slice())?;
-    let edges = List::from_vec(edges_of(alloc, vertices.as_slice())?);
-    paired(alloc, carriers.into_planes(), vertices, rows, edges)
-}
-
-/// As `pair`, where another thread looks for the carriers that hold each vertex while the calling one finds the edges;
-/// where no thread can be made the calling one does both.
-pub fn pair_beside<R: Threads + Sync>(
-    rt: &R,
-    alloc: Global,
-    carriers: List<Plane>,
-    vertices: List<Vertex>,
-) -> Result<Complex, OutOfMemory>
-    requires vertices { (s : Set) × AreVerticesOf s carriers vertices }
-    ensures kept { IfOk result (λ c. (c.carriers ≡ carriers) × (c.vertices ≡ vertices)) }
-    ensures edges { IfOk result (λ c. Edges (map vertex_of c.vertices) (map edge_of c.edges)) }
-    ensures shows { IfOk result (λ c. (s : Set) → AreVerticesOf s carriers vertices → ShowsSet s c) }
-{
-    let carriers = SortedCarriers::of(alloc, carriers)?;
-    let (rows, edges) = rows_and_edges(rt, alloc, &carriers, vertices.as_slice());
-    let rows = rows?;
-    let edges = List::from_vec(edges?);
-    paired(alloc, carriers.into_planes(), vertices, rows, edges)
+    pair_held(alloc, carriers.into_planes(), vertices, rows)
 }
