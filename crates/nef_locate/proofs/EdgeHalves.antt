@@ -1,5 +1,5 @@
 -- The half circles that are collected arc by arc, and what is left of them when they are sorted.
-use Rattle.std.proofs.Common.{◌≡◌, ℕ, zero, suc, ◌+◌, ◌*◌, ◌<◌, List, [], ◌∷◌, ◌++◌, length, map, Bool, true, false, arith, refl, ap, sym, ◌∙◌, ◌⊎◌, inl, inr, ⊎_elim, subst}
+use Rattle.std.proofs.Common.{◌≡◌, ℕ, zero, suc, ◌+◌, ◌*◌, ◌<◌, List, [], ◌∷◌, ◌++◌, length, map, arith, refl, ap, sym, ◌∙◌, ◌⊎◌, inl, inr, ⊎_elim, subst}
 use Rattle.std.proofs.Math.Nat.{eq-or-lt_of_le}
 use Rattle.std.specs.List.Sorted.{IsPermutation}
 use Rattle.nef_space.specs.Vectors.{Vector, opposite}
@@ -16,7 +16,7 @@ use Rattle.nef_smap.proofs.Lists.{map-at, at-map, at-within}
 use Rattle.nef_spair.specs.Arcs.{IsTwin, AreApart, IsArcBelow}
 use Rattle.nef_spair.proofs.Apart.{was-listed, still-listed}
 use Rattle.nef_spair.proofs.Places.{at-before, at-last, at-more}
-use Rattle.nef_locate.specs.Halves.{IsHalf, IsEndAt, IsPushedIf, IsBefore, AreHalves}
+use Rattle.nef_locate.specs.Halves.{IsHalf, IsEndAt, IsBefore, AreHalves}
 use Rattle.nef_locate.proofs.EdgeLabels.{one-arc}
 use Rattle.nef_locate.proofs.EdgeMaps.{HalfEnds, IsHalfOf, AreHalfArcs}
 
@@ -63,7 +63,7 @@ module _ (m : SphereMap) (W : Valid (map_of m)) (k : ℕ) (u : MapVertex) (here 
     same-arc : (j : ℕ) (b : SArc) → j ≡ i → At m.arcs j b → b ≡ a
     same-arc j b e h = at-one m.arcs i b a (subst (λ x. At m.arcs x b) e h) listed
 
-    halves-past : (IsEndAt k a s → ⊥) → AreHalves m.arcs k (n + 1) hs
+    pub halves-past : (IsEndAt k a s → ⊥) → AreHalves m.arcs k (n + 1) hs
     halves-past none = record {
       each = λ x h l. let r = H.each x h l in (r.0, r.1, r.2, more r.0 r.1 r.3, r.4, r.5, r.6);
       all = λ j t b before h e. ⊎_elim (λ o. H.all j t b o h e) (λ o. absurd (none (subst (IsEndAt k a) o.1 (subst (λ (y : SArc). IsEndAt k y t) (same-arc j b o.0 h) e)))) (last j t before);
@@ -91,7 +91,7 @@ module _ (m : SphereMap) (W : Valid (map_of m)) (k : ℕ) (u : MapVertex) (here 
             ]
           ]
 
-      halves-more : AreHalves m.arcs k (n + 1) (hs ++ c ∷ [])
+      pub halves-more : AreHalves m.arcs k (n + 1) (hs ++ c ∷ [])
       halves-more = record {
         each = λ x h l.
             elim (old-or-new x h l) [
@@ -105,10 +105,6 @@ module _ (m : SphereMap) (W : Valid (map_of m)) (k : ℕ) (u : MapVertex) (here 
             ];
         apart = apart;
       }
-
-    pub halves-next : (b : Bool) (gs : List SArc) → (b ≡ true → IsEndAt k a s) → (IsEndAt k a s → b ≡ true) → IsPushedIf b a s hs gs → AreHalves m.arcs k (n + 1) gs
-    halves-next true gs to from (h, e, I) = subst (AreHalves m.arcs k (n + 1)) (sym e) (halves-more h (to refl) I)
-    halves-next false gs to from e = subst (AreHalves m.arcs k (n + 1)) (sym e) (halves-past (λ x. let z : false ≡ true = from x in cc))
 
   -- ---- sorted half circles
   module _ (n : ℕ) (hs ys : List SArc) (H : AreHalves m.arcs k n hs) (all : n ≡ 2 * length m.arcs) (moved : IsPermutation hs ys) (ordered : InOrder IsArcBelow ys) where

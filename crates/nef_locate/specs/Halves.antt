@@ -1,5 +1,5 @@
 -- The half great circles between the directions of an edge.
-use Rattle.std.specs.Prelude.{◌≡◌, ℕ, zero, suc, ◌<◌, ◌+◌, ◌*◌, List, [], ◌∷◌, ◌++◌, Bool, true, false}
+use Rattle.std.specs.Prelude.{◌≡◌, ℕ, zero, suc, ◌<◌, ◌+◌, ◌*◌, List, [], ◌∷◌}
 use Rattle.nef_space.specs.Vectors.{opposite}
 use Rattle.law_sphere.specs.Maps.{At, MapVertex}
 use Rattle.nef_smap.specs.declared.map.SArc.{SArc}
@@ -22,11 +22,6 @@ pub record IsHalf (a : SArc) (source : ℕ) (h : SArc) : Type 0 where
 abbrev pub IsEndAt : ℕ → SArc → ℕ → Type 0
 IsEndAt k a zero = a.target ≡ k
 IsEndAt k a (suc source) = a.source ≡ k
-
--- the half circle is added to the list, if there is one
-abbrev pub IsPushedIf : Bool → SArc → ℕ → List SArc → List SArc → Type 0
-IsPushedIf false a source hs gs = gs ≡ hs
-IsPushedIf true a source hs gs = (h : SArc) × (gs ≡ hs ++ h ∷ []) × IsHalf a source h
 
 -- number j's half circle from this direction is one of the first n
 abbrev pub IsBefore : ℕ → ℕ → ℕ → Type 0

@@ -1,6 +1,6 @@
 //! The least map of the set at the points of an edge.
 
-ghost use Rattle.std.specs.Prelude.{◌≡◌, ◌<◌, ◌*◌, length, map, IfOk, OnOk};
+ghost use Rattle.std.specs.Prelude.{◌≡◌, ◌<◌, ◌*◌, length, map, IfOk};
 ghost use Rattle.nef_space.specs.Place.{Place as PlainPlace};
 ghost use Rattle.nef_space.specs.Sets.{Set};
 ghost use Rattle.law_sphere.specs.Maps.{At, MapVertex};
@@ -9,7 +9,7 @@ ghost use Rattle.nef_smap.specs.Maps.{svertex_of, map_of, IsSphereMap, IsLeastMa
 ghost use Rattle.nef_complex.specs.Complexes.{complex_of, ShowsSet};
 ghost use Rattle.nef_locate.specs.declared.place.Place.TheVariants as place;
 ghost use Rattle.nef_locate.specs.Places.{IsPlaceIn, IsPlaceAt};
-ghost use Rattle.nef_locate.specs.Halves.{two_ends, IsHalf, IsPushedIf, AreHalves};
+ghost use Rattle.nef_locate.specs.Halves.{two_ends, IsHalf, AreHalves};
 
 use crate::OutOfMemory;
 use nef_complex::Complex;
@@ -45,22 +45,6 @@ fn half_circle(arc: &SArc, source: usize) -> SArc
     }
 }
 
-// Adds the half circle, if the arc has an end at the svertex.
-fn push_if(
-    halves: &mut Vec<SArc>,
-    is_end: bool,
-    arc: &SArc,
-    source: usize,
-) -> Result<(), OutOfMemory>
-    requires source { source < 2 }
-    ensures pushed { OnOk result (IsPushedIf is_end arc.now source halves.old.items halves.new.items) }
-{
-    if is_end {
-        halves.push(half_circle(arc, source))?;
-    }
-    Ok(())
-}
-
 // The half circles along the arcs that begin or end at the svertex: a whole circle gives both.
 fn half_circles(alloc: Global, map: &SphereMap, svertex: usize) -> Result<Vec<SArc>, OutOfMemory>
     requires map { IsSphereMap map.now }
@@ -69,8 +53,12 @@ fn half_circles(alloc: Global, map: &SphereMap, svertex: usize) -> Result<Vec<SA
 {
     let mut halves = Vec::with_capacity(alloc, map.arcs.len())?;
     for arc in map.arcs.as_slice() {
-        push_if(&mut halves, arc.target == svertex, arc, 0)?;
-        push_if(&mut halves, arc.source == svertex, arc, 1)?;
+        if arc.target == svertex {
+            halves.push(half_circle(arc, 0))?;
+        }
+        if arc.source == svertex {
+            halves.push(half_circle(arc, 1))?;
+        }
     }
     Ok(halves)
 }
