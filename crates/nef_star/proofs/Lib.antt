@@ -1,3 +1,4 @@
+pub mod Labels
 pub mod Turns
 pub mod Lefts
 pub mod Labelled
