@@ -6,7 +6,7 @@ ghost use Rattle.nef_combine.specs.Sets.{op_set};
 ghost use Rattle.nef_complex.specs.Complexes.{ShowsSet};
 
 use crate::OutOfMemory;
-use crate::finished::{Load, finished};
+use crate::finished::{Load, crew, finished};
 use crate::local::combined_map;
 use nef_cand::{are_large, candidates_beside};
 use nef_complex::Complex;
@@ -88,8 +88,9 @@ pub fn binary<R: Threads + Wait + Sync, G: Gate + Sync>(
         second: b,
         points,
     };
-    let maps = finished(rt, alloc, &job, load_of(a, b), how, gate)?;
+    let workers = crew(how, job.jobs(), load_of(a, b));
+    let maps = finished(rt, alloc, &job, how.board, workers, gate)?;
     let carriers = merge_carriers(alloc, a, b)?;
-    let complex = assemble(rt, alloc, carriers, points, maps, how.workers)?;
+    let complex = assemble(rt, alloc, carriers, points, maps, workers)?;
     Ok(complex)
 }

@@ -38,7 +38,7 @@ fn jobs_for_a_worker(board: BoardKind, load: Load) -> u64
 const WORKERS_AS_ASKED: u32 = 2;
 
 // How many of the workers work so many jobs. Of more than two no more start than the jobs pay for.
-fn crew(workers: u32, jobs: u64, paying: u64) -> u32
+fn paid_workers(workers: u32, jobs: u64, paying: u64) -> u32
     requires some { 0 < paying }
     ensures few { workers ≤ 2 → result ≡ workers }
     ensures paid { 2 < workers → result ≡ min workers (max 1 (jobs / paying)) }
@@ -50,24 +50,30 @@ fn crew(workers: u32, jobs: u64, paying: u64) -> u32
     u64::from(workers).min(paid) as u32
 }
 
-/// One right result for each job, in the order of the jobs, over the board that `how` names. One worker or two work as
-/// asked; of more, as many as the jobs pay for.
+/// How many workers work so many jobs of this load: one worker or two as asked; of more, as many as the jobs pay for.
+pub(crate) fn crew(how: &How, jobs: u64, load: Load) -> u32
+    requires workers { how.now.workers ≤ 64 }
+    ensures workers { result ≤ 64 }
+{
+    paid_workers(how.workers, jobs, jobs_for_a_worker(how.board, load))
+}
+
+/// One right result for each job, in the order of the jobs, worked by so many workers over a board of this kind.
 pub(crate) fn finished<R: Threads + Wait + Sync, J: Job, G: Gate + Sync>(
     rt: &R,
     alloc: Global,
     job: &J,
-    load: Load,
-    how: &How,
+    board: BoardKind,
+    workers: u32,
     gate: &G,
 ) -> Result<Vec<J::Out>, OutOfMemory>
     requires workable { J.workable job.now }
-    requires workers { how.now.workers ≤ 64 }
+    requires workers { workers ≤ 64 }
     ensures len { IfOk result (λ v. vec_len v ≡ J.count job.now) }
     ensures right { IfOk result (λ v. (i : ℕ) (out : _) → slice_get v.items i ≡ Some out → J.right job.now i out) }
 {
-    let workers = crew(how.workers, job.jobs(), jobs_for_a_worker(how.board, load));
     let seats = workers + 1;
-    match how.board {
+    match board {
         BoardKind::Lock => {
             let (board, pass) = LockBoard::new(rt, alloc, job, seats)?;
             finish(rt, alloc, board, pass, job, workers, gate)

@@ -6,7 +6,7 @@ ghost use Rattle.nef_geo.specs.Shapes.{given_form};
 ghost use Rattle.nef_complex.specs.Complexes.{ShowsSet};
 
 use crate::OutOfMemory;
-use crate::finished::{Load, finished};
+use crate::finished::{Load, crew, finished};
 use nef_cand::cut_candidates;
 use nef_complex::Complex;
 use nef_core::{How, Job};
@@ -78,9 +78,10 @@ pub fn half_within<R: Threads + Wait + Sync, G: Gate + Sync>(
         oriented,
         closed,
     };
-    let maps = finished(rt, alloc, &job, Load::Light, how, gate)?;
+    let workers = crew(how, job.jobs(), Load::Light);
+    let maps = finished(rt, alloc, &job, how.board, workers, gate)?;
     let carriers = add_carrier(alloc, whole, &plane)?;
-    let complex = assemble(rt, alloc, carriers, points, maps, how.workers)?;
+    let complex = assemble(rt, alloc, carriers, points, maps, workers)?;
     Ok(complex)
 }
 

@@ -10,7 +10,7 @@ ghost use Rattle.nef_cand.specs.Points.{points_of};
 ghost use Rattle.nef_ops.specs.Nodes.{unary_set};
 
 use crate::OutOfMemory;
-use crate::finished::{Load, finished};
+use crate::finished::{Load, crew, finished};
 use crate::op::UnaryOp;
 use nef_cand::vertex_points;
 use nef_complex::Complex;
@@ -90,8 +90,9 @@ pub fn unary<R: Threads + Wait + Sync, G: Gate + Sync>(
 {
     let points = vertex_points(alloc, a)?;
     let job = UnaryJob { op, complex: a };
-    let maps = finished(rt, alloc, &job, Load::Heavy, how, gate)?;
+    let workers = crew(how, job.jobs(), Load::Heavy);
+    let maps = finished(rt, alloc, &job, how.board, workers, gate)?;
     let carriers = copy_carriers(alloc, a)?;
-    let complex = assemble(rt, alloc, carriers, points.as_slice(), maps, how.workers)?;
+    let complex = assemble(rt, alloc, carriers, points.as_slice(), maps, workers)?;
     Ok(complex)
 }
