@@ -1,27 +1,20 @@
 //! The candidates of a combination, listed by several threads.
 
-ghost use Rattle.std.specs.Prelude.{◌≡◌, ◌≤◌, ◌++◌, ◌↔◌, length, IfOk, IsTrue, []};
+ghost use Rattle.std.specs.Prelude.{◌≤◌, ◌↔◌, length, IfOk, IsTrue, []};
 ghost use Rattle.nef_space.specs.Sets.{Set};
 ghost use Rattle.nef_complex.specs.Complexes.{complex_of, ShowsSet};
 ghost use Rattle.nef_cand.specs.Points.{Adds, CutsOne, ListsCandidates};
 
 use crate::OutOfMemory;
 use crate::listing::{candidates, cuts, gathered};
+use crate::merging::merged;
 use nef_complex::Complex;
 use nef_geo::{Plane, Point};
 use std::alloc::Global;
 use std::thread;
 use std::thread::Threads;
 
-// The points of both, those of the second after those of the first.
-fn appended(mut first: Vec<Point>, second: Vec<Point>) -> Result<Vec<Point>, OutOfMemory>
-    ensures items { IfOk result (λ v. v.items ≡ first.items ++ second.items) }
-{
-    first.extend_from_slice(second.as_slice())?;
-    Ok(first)
-}
-
-// As `cuts`, by two threads, of which each asks half of the planes. The points of each stand in order.
+// As `cuts`, by two threads, of which each asks half of the planes. What each finds stands in order, and so do all.
 fn cuts_by_two<R: Threads + Sync>(
     rt: &R,
     alloc: Global,
@@ -43,7 +36,9 @@ fn cuts_by_two<R: Threads + Sync>(
             ensures { IfOk result (λ v. Adds (CutsOne (complex_of c.entry.now) back.entry.now) [] v.items) }
         { cuts(alloc, c, back) },
     );
-    appended(first?, second?)
+    let inside_front = first?;
+    let inside_back = second?;
+    merged(alloc, inside_front.as_slice(), inside_back.as_slice())
 }
 
 // As `cuts` of `a` and these planes, by one thread, and of `b` and the carriers of `a`, by two.
@@ -122,6 +117,8 @@ pub fn candidates_beside<R: Threads + Sync>(
             ensures inside_b { IfOk result.1 (λ v. Adds (CutsOne (complex_of b.entry.now) a.entry.now.carriers) [] v.items) }
         { cuts_by_three(rt, alloc, a, back, b) },
     );
-    let inside_a = appended(first?, second?)?;
+    let inside_front = first?;
+    let inside_back = second?;
+    let inside_a = merged(alloc, inside_front.as_slice(), inside_back.as_slice())?;
     gathered(alloc, a, b, inside_a.as_slice(), inside_b?.as_slice())
 }
