@@ -22,15 +22,15 @@ pub(crate) enum Load {
 }
 
 // So many jobs pay for one more worker. Starting a thread and waiting for its end costs as much as a hundred of them. On
-// the lock board each job takes two turns besides, which the passes have one after another: where a job takes no longer
-// than its turns, four workers are no faster than one.
+// the lock board each job takes two turns besides, which the passes have one after another: where a job takes little
+// longer than its turns, more of them are wanted.
 fn jobs_for_a_worker(board: BoardKind, load: Load) -> u64
     ensures some { 0 < result }
 {
     match (board, load) {
         (_, Load::Heavy) => 256,
         (BoardKind::Free, Load::Light) => 512,
-        (BoardKind::Lock, Load::Light) => 8192,
+        (BoardKind::Lock, Load::Light) => 1024,
     }
 }
 
