@@ -8,7 +8,7 @@ ghost use Rattle.nef_complex.specs.Complexes.{ShowsSet};
 use crate::OutOfMemory;
 use crate::finished::{Load, crew, finished};
 use crate::local::combined_map;
-use nef_cand::{are_large, candidates_beside};
+use nef_cand::candidates_beside;
 use nef_complex::Complex;
 use nef_core::{How, Job};
 use nef_geo::Point;
@@ -53,13 +53,16 @@ impl<'a> Job for BinaryJob<'a> {
     }
 }
 
-// Most candidates of two large sets are looked for in both. Where one set is small most lie far from it, so that one look
-// tells their maps.
+// A set with fewer carriers is small.
+const MANY_CARRIERS: usize = 24;
+
+// Most candidates of two sets are looked for in both. Where one set is small most lie far from it, so that one look tells
+// their maps.
 fn load_of(a: &Complex, b: &Complex) -> Load {
-    if are_large(a, b) {
-        Load::Heavy
-    } else {
+    if a.carriers.len().min(b.carriers.len()) < MANY_CARRIERS {
         Load::Light
+    } else {
+        Load::Heavy
     }
 }
 

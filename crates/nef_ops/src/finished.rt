@@ -28,7 +28,7 @@ fn jobs_for_a_worker(board: BoardKind, load: Load) -> u64
     ensures some { 0 < result }
 {
     match (board, load) {
-        (_, Load::Heavy) => 256,
+        (_, Load::Heavy) => 128,
         (BoardKind::Free, Load::Light) => 512,
         (BoardKind::Lock, Load::Light) => 1024,
     }
