@@ -1,9 +1,10 @@
-//! Std's readers and writers as a source and a sink. What standard input gave and what standard
-//! output took is told by nobody, so these few lines are trusted for it.
-ghost use Rattle.std.specs.Prelude.{◌≡◌, ◌<◌, ◌≤◌, IfOk, OnOk, OnErr, length, take};
+//! Std's readers and writers as a source and a sink. What standard input gave is told by nobody, and
+//! what standard output took by its own answers alone, so these few lines are trusted for it.
+ghost use Rattle.std.specs.Prelude.{◌≡◌, ◌<◌, ◌≤◌, [], Some, IfOk, OnOk, OnErr, length, take};
 ghost use Rattle.std.specs.Io.KnownBytes.{Appends, Keeps};
 ghost use Rattle.nef_io.specs.Bytes.{Rose};
 
+use crate::taken::Taken;
 use crate::traits::{Failed, Sink, Source};
 use std::io::{Read, Write};
 
@@ -40,29 +41,33 @@ impl<R: Read> Source for FromReader<R> {
     }
 }
 
-/// A writer as a sink. It counts each error, and each write that took nothing of a piece that isn't
-/// empty. It doesn't tell what was written.
+/// A writer as a sink. It tells the bytes that the writer answered to have taken since the sink was
+/// made. It counts each error, and each write that took nothing of a piece that isn't empty.
 #[derive(Drop)]
 pub struct IntoWriter<W> {
     writer: W,
+    taken: Taken,
     faults: u64,
 }
 
 impl<W: Write> IntoWriter<W> {
-    /// A sink over `writer`, with no fault so far.
+    /// A sink over `writer`, which has taken nothing and has no fault so far.
     pub fn new(writer: W) -> IntoWriter<W>
+        ensures written { ⟦<IntoWriter<W> as Sink>⟧.written result ≡ Some [] }
         ensures faults { ⟦<IntoWriter<W> as Sink>⟧.faults result ≡ 0 }
     {
-        IntoWriter { writer, faults: 0 }
+        IntoWriter {
+            writer,
+            taken: Taken::new(),
+            faults: 0,
+        }
     }
 }
 
 impl<W: Write> Sink for IntoWriter<W> {
-    ghost use Rattle.std.specs.Prelude.{None};
+    ghost use Rattle.std.specs.Prelude.{Some};
 
-    // Where std's writer tells before a write it tells after it, and a sink that tells after a call
-    // told before it. So a writer that began to tell would be no sink.
-    ghost written = { λ s. None };
+    ghost written = { λ s. Some s.taken.bytes };
 
     ghost faults = { λ s. s.faults };
 
@@ -76,7 +81,10 @@ impl<W: Write> Sink for IntoWriter<W> {
         ensures count { self.old.faults ≤ self.new.faults }
     {
         match self.writer.write(piece) {
-            Ok(taken) if taken > 0 => Ok(taken),
+            Ok(count) if count > 0 => {
+                self.taken.note(&piece[..count]);
+                Ok(count)
+            }
             _ => {
                 self.faults = self.faults.saturating_add(1);
                 Err(Failed)
