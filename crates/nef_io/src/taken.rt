@@ -15,8 +15,10 @@ impl Model for Taken {
 }
 
 impl Taken {
-    pub(crate) fn new() -> Taken
-        ensures { result.bytes ≡ [] }
+    // These bytes to begin with. What they are may be told of the writer.
+    pub(crate) fn new<W>(_writer: &W) -> Taken
+        ghost bytes: { List ℕ }
+        ensures { result.bytes ≡ bytes }
     {
         Taken {}
     }
