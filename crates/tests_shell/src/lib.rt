@@ -19,6 +19,8 @@ mod limits;
 #[cfg(test)]
 mod runs;
 #[cfg(test)]
+mod shipped;
+#[cfg(test)]
 mod tables;
 #[cfg(test)]
 mod texts;
