@@ -25,6 +25,8 @@ mod limits;
 #[cfg(test)]
 mod runs;
 #[cfg(test)]
+mod shipped;
+#[cfg(test)]
 mod tables;
 #[cfg(test)]
 mod texts;

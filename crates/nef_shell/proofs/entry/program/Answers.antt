@@ -2,7 +2,7 @@ use Rattle.std.proofs.Common.{◌≡◌, ◌∙◌, refl, ap, map, string_bytes,
 use Rattle.std.specs.Process.{exit_status}
 use Rattle.nef_shell.specs.Status.{status_code}
 use Rattle.nef_shell.specs.Program.{ProgramEnds}
-use Rattle.nef_shell.proofs.GivenWords.{words-given, no-text, ends-with}
+use Rattle.nef_shell.proofs.GivenWords.{words-given, no-text, still-no-text, refused-alone, ends-with}
 use Rattle.nef_shell.proofs.entry.program.Goals as goal
 use Rattle.nef_shell.proofs.entry.program.Goals.{in-Ok-line_words, in-Err-Refused, in-Err-OutOfMemory}
 
@@ -19,6 +19,7 @@ returns g c =
             let none = no-text c.args.line c.in-Ok.line c.in-Ok.ensures.words (c.line_words.ensures.refused.0 (w.in-Err-Refused.is ∙ ap Err w.in-Err-Refused.field-0-is)) in
             rw (w.source-is, w.sink-is) (ProgramEnds.no_text none.0 w.refuse_words-status.result none.1 none.2 (record { rest = refl; faults = refl }) w.refuse_words-status.ensures.status (code ∙ ap status_code w.status-is))
         | in-Err-OutOfMemory w ↦
-            rw (w.source-is, w.sink-is) (ProgramEnds.no_memory (record { rest = refl; faults = refl }) refl (code ∙ ap status_code w.status-is))
+            let other = λ error is none. refused-alone _ (c.line_words.ensures.refused.1 (still-no-text c.args.line c.in-Ok.line c.in-Ok.ensures.words error is none)) (w.in-Err-OutOfMemory.is ∙ ap Err w.in-Err-OutOfMemory.field-0-is) in
+            rw (w.source-is, w.sink-is) (ProgramEnds.no_memory other (record { rest = refl; faults = refl }) refl (code ∙ ap status_code w.status-is))
       ];
     }
