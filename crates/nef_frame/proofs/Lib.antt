@@ -4,3 +4,4 @@ mod CornerCones
 mod CornerMaps
 mod InOrder
 mod Shown
+pub mod EachCorner
