@@ -27,7 +27,7 @@ coordinate on_x p = p.x
 coordinate on_y p = p.y
 coordinate on_z p = p.z
 
-abbrev inward : Bool → ℤ
+abbrev pub inward : Bool → ℤ
 inward true = negsuc 0
 inward false = pos 1
 
@@ -57,7 +57,7 @@ coordinate-from on_z true p e = omega (arith, ints)
 coordinate-from on_z false p e = omega (arith, ints)
 
 -- an inward vector
-abbrev inward_way : Ends → Vector
+abbrev pub inward_way : Ends → Vector
 inward_way k = vector (inward k.x) (inward k.y) (inward k.z)
 
 inward-slope : (k : Ends) (a : Axis) (b : Bool) → b ≡ end_of k a → slope (wall a b) (inward_way k) ≡ negsuc 0

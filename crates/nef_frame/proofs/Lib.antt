@@ -5,3 +5,6 @@ mod CornerMaps
 mod InOrder
 mod Shown
 pub mod EachCorner
+pub mod Octants
+pub mod OctantShapes
+pub mod OctantCones

@@ -1,3 +1,4 @@
+use Rattle.nef_frame.proofs.OctantCones.{octant-least}
 use Rattle.nef_frame.proofs.EachCorner.{corners-vertices, corners-shown}
 use Rattle.nef_frame.proofs.laws.corner_laws.Goals as goal
 
