@@ -19,7 +19,8 @@ returns g c =
             let none = no-text c.args.line c.in-Ok.line c.in-Ok.ensures.words (c.line_words.ensures.refused.0 (w.in-Err-Refused.is ∙ ap Err w.in-Err-Refused.field-0-is)) in
             rw (w.source-is, w.sink-is) (ProgramEnds.no_text none.0 w.refuse_words-status.result none.1 none.2 (record { rest = refl; faults = refl }) w.refuse_words-status.ensures.status (code ∙ ap status_code w.status-is))
         | in-Err-OutOfMemory w ↦
-            let other = λ error is none. refused-alone _ (c.line_words.ensures.refused.1 (still-no-text c.args.line c.in-Ok.line c.in-Ok.ensures.words error is none)) (w.in-Err-OutOfMemory.is ∙ ap Err w.in-Err-OutOfMemory.field-0-is) in
-            rw (w.source-is, w.sink-is) (ProgramEnds.no_memory other (record { rest = refl; faults = refl }) refl (code ∙ ap status_code w.status-is))
+            rw (w.source-is, w.sink-is) (ProgramEnds.no_memory
+            (λ error is none. refused-alone _ (c.line_words.ensures.refused.1 (still-no-text c.args.line c.in-Ok.line c.in-Ok.ensures.words error is none)) (w.in-Err-OutOfMemory.is ∙ ap Err w.in-Err-OutOfMemory.field-0-is))
+            (record { rest = refl; faults = refl }) refl (code ∙ ap status_code w.status-is))
       ];
     }
