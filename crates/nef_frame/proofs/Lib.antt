@@ -8,3 +8,4 @@ pub mod EachCorner
 pub mod Octants
 pub mod OctantShapes
 pub mod OctantCones
+pub mod Listed
