@@ -9,3 +9,4 @@ pub mod Octants
 pub mod OctantShapes
 pub mod OctantCones
 pub mod Listed
+pub mod FrameEdges

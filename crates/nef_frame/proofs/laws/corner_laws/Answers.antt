@@ -1,4 +1,4 @@
-use Rattle.nef_frame.proofs.Listed.{vertices-listed}
+use Rattle.nef_frame.proofs.FrameEdges.{frame-edges}
 use Rattle.nef_frame.proofs.EachCorner.{corners-vertices, corners-shown}
 use Rattle.nef_frame.proofs.laws.corner_laws.Goals as goal
 
