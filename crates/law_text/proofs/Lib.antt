@@ -11,3 +11,4 @@ mod OneNext
 mod OneShells
 mod OneParts
 pub mod SameText
+mod FrameLinks

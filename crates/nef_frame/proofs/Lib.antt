@@ -1,6 +1,6 @@
-mod Walls
-mod CornerVertices
-mod CornerCones
+pub mod Walls
+pub mod CornerVertices
+pub mod CornerCones
 mod CornerMaps
 mod InOrder
 mod Shown

@@ -41,13 +41,13 @@ leads-minus u v e h = sign-minus u (omega (arith, ints))
 minus-leads : (u v : ℤ) → u ≡ neg_ℤ v → sign u ≡ minus → pos 0 <ℤ v
 minus-leads u v e h = let m = minus-is u h in omega (arith, ints)
 
-deep-blend : (a : Axis) (b : Bool) (i : ℕ) (d e : Vector) → depth a b (blend i d 1 e) ≡ pos i *ℤ depth a b d +ℤ pos 1 *ℤ depth a b e
-deep-blend on_x true i d e = ring (pos i ∷ d.x ∷ e.x ∷ []) (neg (at 0 ⊗ at 1 ⊕ num (pos 1) ⊗ at 2)) (at 0 ⊗ neg (at 1) ⊕ num (pos 1) ⊗ neg (at 2)) tt
-deep-blend on_x false i d e = refl
-deep-blend on_y true i d e = ring (pos i ∷ d.y ∷ e.y ∷ []) (neg (at 0 ⊗ at 1 ⊕ num (pos 1) ⊗ at 2)) (at 0 ⊗ neg (at 1) ⊕ num (pos 1) ⊗ neg (at 2)) tt
-deep-blend on_y false i d e = refl
-deep-blend on_z true i d e = ring (pos i ∷ d.z ∷ e.z ∷ []) (neg (at 0 ⊗ at 1 ⊕ num (pos 1) ⊗ at 2)) (at 0 ⊗ neg (at 1) ⊕ num (pos 1) ⊗ neg (at 2)) tt
-deep-blend on_z false i d e = refl
+pub deep-blend : (a : Axis) (b : Bool) (i j : ℕ) (d e : Vector) → depth a b (blend i d j e) ≡ pos i *ℤ depth a b d +ℤ pos j *ℤ depth a b e
+deep-blend on_x true i j d e = ring (pos i ∷ d.x ∷ e.x ∷ pos j ∷ []) (neg (at 0 ⊗ at 1 ⊕ at 3 ⊗ at 2)) (at 0 ⊗ neg (at 1) ⊕ at 3 ⊗ neg (at 2)) tt
+deep-blend on_x false i j d e = refl
+deep-blend on_y true i j d e = ring (pos i ∷ d.y ∷ e.y ∷ pos j ∷ []) (neg (at 0 ⊗ at 1 ⊕ at 3 ⊗ at 2)) (at 0 ⊗ neg (at 1) ⊕ at 3 ⊗ neg (at 2)) tt
+deep-blend on_y false i j d e = refl
+deep-blend on_z true i j d e = ring (pos i ∷ d.z ∷ e.z ∷ pos j ∷ []) (neg (at 0 ⊗ at 1 ⊕ at 3 ⊗ at 2)) (at 0 ⊗ neg (at 1) ⊕ at 3 ⊗ neg (at 2)) tt
+deep-blend on_z false i j d e = refl
 
 abbrev size : Vector → ℕ
 size e = nat_abs e.x + nat_abs e.y + nat_abs e.z + 1
@@ -91,7 +91,7 @@ far-shallow i u v h (inl g) f =
 far-shallow i u v h (inr (e, g)) f = let z = none-times i u e in let o = one-more v in g (omega (arith, ints, z, o, f))
 
 -- the three axes
-around : (P : Axis → Type 0) (a : Axis) → P a → P (next a) → P (after a) → (o : Axis) → P o
+pub around : (P : Axis → Type 0) (a : Axis) → P a → P (next a) → P (after a) → (o : Axis) → P o
 around P on_x f g h on_x = f
 around P on_x f g h on_y = g
 around P on_x f g h on_z = h
@@ -139,7 +139,7 @@ inward-across on_x k z = product k.x k.y (first-of_two (inward k.x *ℤ inward k
 inward-across on_y k z = product k.y k.z (first-of_two (inward k.y *ℤ inward k.z) (inward k.y) z.0)
 inward-across on_z k z = product k.z k.x (first-of_two (inward k.z *ℤ inward k.x) (inward k.z) z.1)
 
-inward-deep : (a : Axis) (x y z : Bool) → depth a (end_of (ends x y z) a) (inward_way (ends x y z)) ≡ pos 1
+pub inward-deep : (a : Axis) (x y z : Bool) → depth a (end_of (ends x y z) a) (inward_way (ends x y z)) ≡ pos 1
 inward-deep on_x true y z = refl
 inward-deep on_x false y z = refl
 inward-deep on_y x true z = refl
@@ -244,13 +244,13 @@ module _ (s : Set) (l : Label) (W : IsWhole s l) (k : Ends) (p : Place) (c : IsC
   near-in : (d e : Vector) → ((a : Axis) → Deep (deep a d) (deep a e)) → Near F d e l
   near-in d e f = (
     size e,
-    λ i h. germ-in (blend i d 1 e) (λ a. subst (λ u. pos 0 <ℤ u) (sym (deep-blend a (end_of k a) i d e)) (far-deep i (deep a d) (deep a e) (let b = depth-size a (end_of k a) e in omega (arith, b, h)) (f a))),
+    λ i h. germ-in (blend i d 1 e) (λ a. subst (λ u. pos 0 <ℤ u) (sym (deep-blend a (end_of k a) i 1 d e)) (far-deep i (deep a d) (deep a e) (let b = depth-size a (end_of k a) e in omega (arith, b, h)) (f a))),
   )
 
   near-off : (d e : Vector) (a : Axis) → Shallow (deep a d) (deep a e) → Near F d e Out
   near-off d e a f = (
     size e,
-    λ i h. germ-off (blend i d 1 e) a (λ q. far-shallow i (deep a d) (deep a e) (let b = depth-size a (end_of k a) e in omega (arith, b, h)) f (subst (λ u. pos 0 <ℤ u) (deep-blend a (end_of k a) i d e) q)),
+    λ i h. germ-off (blend i d 1 e) a (λ q. far-shallow i (deep a d) (deep a e) (let b = depth-size a (end_of k a) e in omega (arith, b, h)) f (subst (λ u. pos 0 <ℤ u) (deep-blend a (end_of k a) i 1 d e) q)),
   )
 
   none : (u : ℤ) → u ≡ pos 0 → pos 0 <ℤ u → ⊥

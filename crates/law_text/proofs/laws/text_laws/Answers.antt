@@ -1,3 +1,4 @@
+use Rattle.law_text.proofs.FrameLinks.{volume-chain}
 -- The laws of texts, from the lemmas.
 use Rattle.law_text.proofs.Whole.{vertices-read, counts-read}
 use Rattle.law_text.proofs.laws.text_laws.Goals as goal
