@@ -37,7 +37,7 @@ inner false n = pos_item n
 abbrev pub inner_side : Ends → Axis → VertexSide
 inner_side k a = record { vertex = number k; side = inner (end_of k a) (slot a) }
 
-axis-some : (a : Axis) → IsDirection (axis_of a)
+pub axis-some : (a : Axis) → IsDirection (axis_of a)
 axis-some on_x z = let e = z.0 in omega (arith, ints)
 axis-some on_y z = let e = z.1 in omega (arith, ints)
 axis-some on_z z = let e = z.2 in omega (arith, ints)

@@ -12,3 +12,4 @@ mod OneShells
 mod OneParts
 pub mod SameText
 mod FrameLinks
+mod FrameParts

@@ -1,4 +1,4 @@
-use Rattle.law_text.proofs.FrameLinks.{volume-chain}
+use Rattle.law_text.proofs.FrameParts.{face-small}
 -- The laws of texts, from the lemmas.
 use Rattle.law_text.proofs.Whole.{vertices-read, counts-read}
 use Rattle.law_text.proofs.laws.text_laws.Goals as goal
