@@ -1,5 +1,5 @@
 -- The parts of the complexes of the whole frame and of the empty set: six facets of one cycle each, and two volumes.
-use Rattle.std.proofs.Common.{◌≡◌, ℕ, zero, suc, ◌+◌, ◌<◌, ◌≤◌, ℤ, pos, negsuc, neg_ℤ, nat_abs, ◌+ℤ◌, ◌*ℤ◌, ◌<ℤ◌, arith, refl, sym, ◌∙◌, ap, ◌⊎◌, inl, inr, ⊎_elim, ◌↔◌, Bool, true, false, List, [], ◌∷◌, ◌++◌, length, map, subst, Some, None, cond}
+use Rattle.std.proofs.Common.{◌≡◌, ℕ, zero, suc, ◌+◌, ◌<◌, ◌≤◌, ℤ, pos, negsuc, neg_ℤ, nat_abs, ◌+ℤ◌, ◌*ℤ◌, ◌<ℤ◌, arith, refl, sym, ◌∙◌, ap, ◌⊎◌, inl, inr, ⊎_elim, ◌↔◌, Bool, true, false, List, [], ◌∷◌, ◌++◌, length, map, subst, Option, Some, None}
 use Rattle.std.proofs.lemmas.Int.{ints}
 use Rattle.std.proofs.Math.Nat.{eq-one_of_dvd-one}
 use Rattle.std.specs.List.{All}
@@ -17,7 +17,9 @@ use Rattle.law_sphere.specs.Maps.{At, Item, arc_item, items, item_normal, item_m
 use Rattle.law_sphere.proofs.Compare.{dir-self}
 use Rattle.nef_classes.proofs.ClassLists.{is-at_within, is-at_some, is-at_one}
 use Rattle.nef_smap.proofs.SideLists.{at-from_get, get-from_at, side-has}
-use Rattle.nef_smap.specs.Sides.{IsSide}
+use Rattle.nef_smap.proofs.SideNumbers.{side-number}
+use Rattle.nef_smap.specs.SideNumbers.{number_of}
+use Rattle.nef_smap.specs.Sides.{sides_of}
 use Rattle.law_complex.specs.Complexes.{Vertex, Complex, Corner, IsCorner}
 use Rattle.law_complex.specs.Rays.{VertexSide, HasSideLabel}
 use Rattle.law_links.specs.Links.{FacetLink, VolumeLink}
@@ -294,6 +296,24 @@ rises on_y false = (omega arith, omega arith, omega arith)
 rises on_z true = (omega arith, omega arith, omega arith)
 rises on_z false = (omega arith, omega arith, omega arith)
 
+-- ---- facets
+-- the numbers of the volumes above and beneath a side of the frame
+abbrev pub above_number : Bool → ℕ
+above_number true = 0
+above_number false = 1
+
+abbrev pub beneath_number : Bool → ℕ
+beneath_number true = 1
+beneath_number false = 0
+
+-- the facet in a side of the frame
+pub record IsWallFacet (a : Axis) (e : Bool) (f : Facet) : Type 0 where
+  pub plane : f.plane ≡ wall_plane a e
+  pub mark : f.mark ≡ Out
+  pub pos : f.pos ≡ above_number e
+  pub neg : f.neg ≡ beneath_number e
+  pub cycles : cycle_corners f.cycles ≡ wall_cycle a e ∷ []
+
 module _ (l : Label) (hs : List Form) where
   abbrev C : Complex
   C = frame_complex l hs
@@ -531,10 +551,90 @@ module _ (l : Label) (hs : List Form) where
     outer-number : (x : VertexSide) (n : ℕ) → IsOf x n → HasSideLabel C x Out → n ≡ 0
     outer-number x n h s = (P.volume_numbers.outside x n Out h s).1 refl
 
-    abbrev pub above_number : Bool → ℕ
-    above_number true = 0
-    above_number false = 1
+    above-is : (k : Ends) (a : Axis) (b : Bool) (n : ℕ) → b ≡ end_of k a → IsOf (record { vertex = number k; side = pos_item (slot a) }) n → n ≡ above_number b
+    above-is k a true n e h = outer-number (record { vertex = number k; side = pos_item (slot a) }) n h (vertex_at l k, frame-vertex l k, (arc_item (arc l k a), item-at l k a, ap (λ b. upper b l) (sym e)))
+    above-is k a false n e h = inner-number k a n (subst (λ b. IsOf (record { vertex = number k; side = inner b (slot a) }) n) e h)
 
-    abbrev pub beneath_number : Bool → ℕ
-    beneath_number true = 1
-    beneath_number false = 0
+    beneath-is : (k : Ends) (a : Axis) (b : Bool) (n : ℕ) → b ≡ end_of k a → IsOf (record { vertex = number k; side = neg_item (slot a) }) n → n ≡ beneath_number b
+    beneath-is k a false n e h = outer-number (record { vertex = number k; side = neg_item (slot a) }) n h (vertex_at l k, frame-vertex l k, (arc_item (arc l k a), item-at l k a, ap (λ b. lower b l) (sym e)))
+    beneath-is k a true n e h = inner-number k a n (subst (λ b. IsOf (record { vertex = number k; side = inner b (slot a) }) n) e h)
+
+    -- ---- the facets
+    pub facet-is : (a : Axis) (e : Bool) (f : Facet) → IsFacet C p (face a e) f → IsWallFacet a e f
+    facet-is a e f F =
+        let k = corner_by a e false false in
+        let h = wall-of a e false false in
+        let A = facet-at (face a e) f k a F h in
+        record {
+          plane = plane-is (face a e) f k a F h ∙ ap (wall_plane a) (own-end a e false false);
+          mark = A.mark;
+          pos = above-is k a e f.pos (sym (own-end a e false false)) A.pos;
+          neg = beneath-is k a e f.neg (sym (own-end a e false false)) A.neg;
+          cycles = cycles-one C one (λ j. Numbered j (face a e)) (cycle_corners f.cycles) (wall_cycle a e ∷ []) F.cycles (wall-cycles a e);
+        }
+
+    pub six-facets : length p.facets ≡ 6
+    six-facets = as-many (length p.facets) 6
+        (λ n h.
+        let f = is-at_some p.facets n h in
+        let s = (P.facets n f.0 f.1).some in
+        let k = find s.0 n s.1 in
+        let e = facet-number k.0 k.1 n (subst (λ (z : Corner). Numbered z n) (sym k.2) s.1) in
+        let g = face-small k.1 (end_of k.0 k.1) in
+        omega (arith, e, g))
+        (λ n h. let w = find-face n h in P.all_facets (corner (corner_by w.0 w.1 false false) w.0) n (subst (Numbered (corner (corner_by w.0 w.1 false false) w.0)) w.2 (wall-of w.0 w.1 false false)))
+
+    -- ---- the volumes
+    -- each side has a number
+    side-there : (k : Ends) (o : Side) (m : Label) → HasSide (octant l k) o m → (n : ℕ) × IsOf (record { vertex = number k; side = o }) n
+    side-there k o m h =
+        let S = P.volume_numbers.shape in
+        let i = side-number (octant l k) o m h in
+        let many : length p.volume_of ≡ 8 = S.as_many in
+        let g = number-small k.x k.y k.z in
+        let row = is-at_some p.volume_of (number k) (omega (arith, many, g)) in
+        let e = S.row (number k) (vertex_at l k) row.0 (frame-vertex l k) row.1 in
+        let w = is-at_within (sides_of (octant l k)) (number_of (octant l k) o) (o, m) i in
+        let n = is-at_some row.0 (number_of (octant l k) o) (omega (arith, e, w)) in
+        (n.0, (number_of (octant l k) o, record { vertex = vertex_at l k; is_vertex = frame-vertex l k; label = m; is_side = i }, (row.0, row.1, n.1)))
+
+    few-numbers : (x : VertexSide) (n : ℕ) → IsOf x n → n < 2
+    few-numbers x n h = ⊎_elim (λ e. omega (arith, e)) (λ o. ⊎_elim (λ e. omega (arith, e))
+        (λ g. let s = looks-inward x n h (λ e. omega (arith, e, g)) in let e = inner-number s.0 s.1 n (subst (λ (z : VertexSide). IsOf z n) (sym s.2) h) in omega (arith, e)) o)
+        (three-ways n)
+
+    abbrev first : Ends
+    first = ends false false false
+
+    outer-there : IsOf (record { vertex = number first; side = neg_item (slot on_z) }) 0
+    outer-there =
+        let h : HasSide (octant l first) (neg_item (slot on_z)) Out = (arc_item (arc l first on_z), item-at l first on_z, refl) in
+        let s = side-there first (neg_item (slot on_z)) Out h in
+        subst (IsOf (record { vertex = number first; side = neg_item (slot on_z) })) (outer-number (record { vertex = number first; side = neg_item (slot on_z) }) s.0 s.1 (vertex_at l first, frame-vertex l first, h)) s.1
+
+    inner-there : IsOf (inner_side first on_z) 1
+    inner-there = let s = side-there first (inner (end_of first on_z) (slot on_z)) l (has-inner l first on_z) in subst (IsOf (inner_side first on_z)) (inner-number first on_z s.0 s.1) s.1
+
+    two-volumes : length p.volumes ≡ 2
+    two-volumes = as-many (length p.volumes) 2
+        (λ n h. let m = is-at_some p.volumes n h in let s = (P.volumes n m.0 m.1).some in few-numbers s.0 n s.1)
+        small
+      where
+        small : (n : ℕ) → n < 2 → n < length p.volumes
+        small zero h = P.all_volumes (record { vertex = number first; side = neg_item (slot on_z) }) 0 outer-there
+        small (suc zero) h = P.all_volumes (inner_side first on_z) 1 inner-there
+        small (suc (suc n)) h = absurd (omega (arith, h))
+
+    pub volumes-are : p.volumes ≡ Out ∷ l ∷ []
+    volumes-are = list-one p.volumes (Out ∷ l ∷ []) two-volumes by
+      where
+        by : (n : ℕ) (m o : Label) → IsAt p.volumes n m → IsAt (Out ∷ l ∷ []) n o → m ≡ o
+        by zero m o h g =
+            let e : ◌≡◌ {A = Option Label} (Some Out) (Some o) = g in
+            let f : Out ≡ o = cc in
+            (P.volumes 0 m h).labels (record { vertex = number first; side = neg_item (slot on_z) }) Out outer-there (vertex_at l first, frame-vertex l first, (arc_item (arc l first on_z), item-at l first on_z, refl)) ∙ f
+        by (suc zero) m o h g =
+            let e : ◌≡◌ {A = Option Label} (Some l) (Some o) = g in
+            let f : l ≡ o = cc in
+            (P.volumes 1 m h).labels (inner_side first on_z) l inner-there (inner-label l hs first on_z) ∙ f
+        by (suc (suc n)) m o h g = let e : ◌≡◌ {A = Option Label} None (Some o) = g in absurd cc
