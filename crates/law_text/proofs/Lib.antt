@@ -13,3 +13,4 @@ mod OneParts
 pub mod SameText
 mod FrameLinks
 mod FrameParts
+mod FrameText

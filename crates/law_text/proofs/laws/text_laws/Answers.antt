@@ -1,4 +1,3 @@
-use Rattle.law_text.proofs.FrameParts.{face-small}
 -- The laws of texts, from the lemmas.
 use Rattle.law_text.proofs.Whole.{vertices-read, counts-read}
 use Rattle.law_text.proofs.laws.text_laws.Goals as goal
