@@ -95,7 +95,7 @@ empty_text = concat (
     ∷ codes "c 4 2 6 2 7 2 5 2\n"
     ∷ codes "w o\n"
     ∷ codes "w n\n" ∷ []
-)
+    )
 
 -- In for Not: the letter i for each letter n but that of the first word
 abbrev pub with_in : List ℕ → List ℕ

@@ -1,8 +1,8 @@
 -- The edges of a set that holds all of the frame or nothing of it, written out.
-use Rattle.std.proofs.Common.{◌≡◌, ℕ, zero, suc, ◌<◌, ℤ, pos, ◌+ℤ◌, ◌-ℤ◌, ◌*ℤ◌, ◌<ℤ◌, ◌≤ℤ◌, arith, refl, sym, ◌∙◌, ap, ◌⊎◌, inl, inr, Bool, true, false, not, List, [], ◌∷◌, subst}
+use Rattle.std.proofs.Common.{◌≡◌, ℕ, zero, suc, ◌<◌, ℤ, pos, ◌+ℤ◌, ◌-ℤ◌, ◌*ℤ◌, ◌<ℤ◌, ◌≤ℤ◌, arith, refl, sym, ◌∙◌, inl, inr, Bool, true, false, not, List, [], ◌∷◌, subst}
 use Rattle.std.proofs.lemmas.Int.{ints}
 use Rattle.nef_space.specs.Place.{IsBetween, IsAhead, toward}
-use Rattle.nef_space.specs.Vectors.{Vector, IsOpposite, SameDirection}
+use Rattle.nef_space.specs.Vectors.{IsOpposite, SameDirection}
 use Rattle.nef_space.specs.declared.label.Label.{Label}
 use Rattle.nef_space.specs.declared.label.Label.TheVariants.{Out}
 use Rattle.nef_geo.specs.Shapes.{place_of}
@@ -12,7 +12,7 @@ use Rattle.law_complex.specs.Complexes.{Vertex, Edge, IsEdge, Edges, IsEdgeBelow
 use Rattle.nef_frame.specs.Ends.{end_at, Ends, ends}
 use Rattle.nef_frame.proofs.Walls.{Axis, on_x, on_y, on_z}
 use Rattle.nef_frame.proofs.CornerVertices.{end_of, inward}
-use Rattle.nef_frame.proofs.Octants.{way, next, after, place, svertex, octant, each-svertex, svertex-at}
+use Rattle.nef_frame.proofs.Octants.{way, place, svertex, each-svertex, svertex-at}
 use Rattle.nef_frame.proofs.Listed.{corner_point, vertex_at, number, frame_vertices, frame-vertex, each-vertex}
 
 -- ---- the edges by their axes

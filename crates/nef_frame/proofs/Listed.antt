@@ -1,30 +1,28 @@
 -- The vertices of a set that holds all of the frame or nothing of it, and their edges, written out.
-use Rattle.std.proofs.Common.{◌≡◌, ℕ, zero, suc, ◌<◌, ◌≤◌, ℤ, pos, nat_abs, ◌+ℤ◌, ◌-ℤ◌, ◌*ℤ◌, ◌<ℤ◌, ◌≤ℤ◌, arith, refl, sym, ◌∙◌, ap, ◌⊎◌, inl, inr, ⊎_elim, Bool, true, false, not, List, [], ◌∷◌, map, subst}
+use Rattle.std.proofs.Common.{◌≡◌, ℕ, zero, suc, ◌≤◌, ℤ, pos, nat_abs, ◌*ℤ◌, arith, refl, sym, ◌∙◌, ap, Bool, true, false, List, map, subst}
 use Rattle.std.proofs.lemmas.Int.{ints}
 use Rattle.std.proofs.Math.Nat.{eq-one_of_dvd-one}
-use Rattle.nef_space.specs.Limits.{point_limit, weight_limit}
+use Rattle.nef_space.specs.Limits.{point_limit}
 use Rattle.nef_space.specs.Local.{IsVertex}
-use Rattle.nef_space.specs.Place.{Place, SamePlace, IsPlaceBelow, IsBetween, toward}
+use Rattle.nef_space.specs.Place.{Place, SamePlace, IsPlaceBelow}
 use Rattle.nef_space.specs.Sets.{Set}
-use Rattle.nef_space.specs.Vectors.{Vector, IsOpposite, SameDirection}
 use Rattle.nef_space.specs.declared.label.Label.{Label}
-use Rattle.nef_space.specs.declared.label.Label.TheVariants.{Out}
 use Rattle.law_near.proofs.PlaceOrder.{place_below-trans, place_below-apart}
 use Rattle.nef_geo.proofs.Unique.{same_places_equal}
 use Rattle.nef_geo.specs.Shapes.{place_of}
 use Rattle.nef_geo.specs.declared.point.Point.{Point}
 use Rattle.law_sphere.specs.Least.{InOrder, Least, Ordered, Cone}
-use Rattle.law_sphere.specs.Maps.{At, MapVertex, Map}
+use Rattle.law_sphere.specs.Maps.{At, Map}
 use Rattle.law_sphere.proofs.Equal.{same-lists, cone-unique}
-use Rattle.law_complex.specs.Complexes.{Vertex as PlainVertex, Edge, IsEdge, Edges, IsEdgeBelow}
+use Rattle.law_complex.specs.Complexes.{Vertex as PlainVertex}
 use Rattle.nef_edges.proofs.Places.{map-at, at-map}
 use Rattle.nef_complex.specs.Complexes.{vertex_of}
 use Rattle.nef_complex.specs.declared.complex.Vertex.{Vertex}
 use Rattle.nef_frame.specs.Ends.{end_at, Ends, ends, all_ends, IsCornerPlace}
-use Rattle.nef_frame.proofs.Walls.{Axis, on_x, on_y, on_z, IsWhole}
-use Rattle.nef_frame.proofs.CornerVertices.{end_of, inward, corner-vertex, vertex-corner}
+use Rattle.nef_frame.proofs.Walls.{IsWhole}
+use Rattle.nef_frame.proofs.CornerVertices.{corner-vertex, vertex-corner}
 use Rattle.nef_frame.proofs.InOrder.{same-corner, corner-below, ends-order}
-use Rattle.nef_frame.proofs.Octants.{way, next, after, place, svertex, octant, each-svertex, svertex-at}
+use Rattle.nef_frame.proofs.Octants.{octant}
 use Rattle.nef_frame.proofs.OctantShapes.{octant-ordered}
 use Rattle.nef_frame.proofs.OctantCones.{octant-cone, octant-least}
 

@@ -1,7 +1,7 @@
 -- The maps written out are the least maps at the corners of a set that holds all of the frame or nothing of it.
 use Rattle.std.proofs.Common.{◌≡◌, ℕ, ◌+◌, ◌<◌, ℤ, pos, neg_ℤ, nat_abs, ◌+ℤ◌, ◌-ℤ◌, ◌*ℤ◌, ◌<ℤ◌, arith, refl, sym, ◌∙◌, ap, ◌⊎◌, inl, inr, ⊎_elim, Bool, true, false, [], ◌∷◌, Some, None, subst}
 use Rattle.std.proofs.lemmas.Int.{ints}
-use Rattle.law_arithmetic.specs.Signs.{Sign, minus, nought, plus, sign}
+use Rattle.law_arithmetic.specs.Signs.{Sign, minus, nought, sign}
 use Rattle.law_arithmetic.proofs.Ring.{ring, at, num, neg, ◌⊕◌, ◌⊖◌, ◌⊗◌}
 use Rattle.law_arithmetic.proofs.Order.{mul_nonneg, minus-is, sign-minus, sign-plus, by_order}
 use Rattle.nef_space.specs.Local.{HasLabel, Germ}
@@ -16,7 +16,7 @@ use Rattle.law_near.proofs.Frames.{frame-minus}
 use Rattle.law_near.proofs.Germs.{Germ-unique}
 use Rattle.law_sphere.specs.Labelling.{Near, Agrees}
 use Rattle.law_sphere.specs.Least.{by_side, NearPlain, NearStraight, Least, Cone}
-use Rattle.law_sphere.specs.Maps.{At, MapVertex, Map, Item, arc_item, items, item_normal, item_pos, item_mark, item_neg, OnItem, IsFree, MapLabel, NearLabel}
+use Rattle.law_sphere.specs.Maps.{MapVertex, Map, Item, arc_item, item_normal, item_pos, item_mark, item_neg, OnItem, IsFree, MapLabel, NearLabel}
 use Rattle.law_sphere.proofs.Built.{agrees-label}
 use Rattle.law_sphere.proofs.Labellings.{normals_of, germ-labelling, cone-from_agrees}
 use Rattle.nef_frame.specs.Ends.{Ends, ends, IsCornerPlace, at_wall}

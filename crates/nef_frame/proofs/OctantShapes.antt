@@ -1,15 +1,14 @@
 -- The maps at the corners are well shaped, and in order.
-use Rattle.std.proofs.Common.{◌≡◌, ℕ, zero, suc, ◌<◌, pos, negsuc, neg_ℤ, ℤ, ◌*ℤ◌, ◌<ℤ◌, arith, refl, sym, ◌∙◌, ap, ◌⊎◌, inl, inr, ⊎_elim, Bool, true, false, List, [], ◌∷◌, Some, None, subst}
+use Rattle.std.proofs.Common.{◌≡◌, ℕ, zero, suc, ◌<◌, pos, ℤ, ◌<ℤ◌, arith, refl, ap, ◌⊎◌, inl, inr, ⊎_elim, Bool, true, false, [], ◌∷◌, Some, None, subst}
 use Rattle.std.proofs.lemmas.Int.{ints}
-use Rattle.nef_space.specs.Vectors.{Vector, vector, dot, IsDirection, SameDirection, IsNormal}
+use Rattle.nef_space.specs.Vectors.{Vector, dot, IsDirection, SameDirection, IsNormal}
 use Rattle.nef_space.specs.declared.label.Label.{Label}
-use Rattle.nef_space.specs.declared.label.Label.TheVariants.{Out}
 use Rattle.law_sphere.specs.Vectors.{IsPrimitive, VectorBelow}
-use Rattle.law_sphere.specs.Maps.{At, MapVertex, Arc, Map, Item, arc_item, items, item_normal, OnItem, HasArc, ArcBetween, Shaped}
+use Rattle.law_sphere.specs.Maps.{At, MapVertex, Map, Item, item_normal, OnItem, HasArc, ArcBetween, Shaped}
 use Rattle.law_sphere.specs.Least.{InOrder, ArcBelow, Ordered}
 use Rattle.nef_frame.specs.Ends.{Ends, ends}
 use Rattle.nef_frame.proofs.Walls.{Axis, on_x, on_y, on_z}
-use Rattle.nef_frame.proofs.CornerVertices.{end_of, inward}
+use Rattle.nef_frame.proofs.CornerVertices.{end_of}
 use Rattle.nef_frame.proofs.CornerCones.{axis_of}
 use Rattle.nef_frame.proofs.Octants.{depth, way, next, after, place, slot, svertex, svertices_by, source_axis, target_axis, source_of, target_of, arc, octant, each-svertex, each-arc, each-item, svertex-at, arc-at, OnQuarter, on-quarter}
 
