@@ -1,12 +1,12 @@
 -- The links of the complexes of the whole frame and of the empty set: items in one side of the frame are linked, and so are all sides inward.
-use Rattle.std.proofs.Common.{◌≡◌, ℕ, ◌<◌, ℤ, pos, negsuc, ◌+ℤ◌, ◌*ℤ◌, ◌<ℤ◌, arith, refl, sym, ◌∙◌, ap, ◌⊎◌, inl, inr, Bool, true, false, List, [], ◌∷◌, subst}
+use Rattle.std.proofs.Common.{◌≡◌, ℕ, ◌<◌, ℤ, pos, ◌+ℤ◌, ◌*ℤ◌, ◌<ℤ◌, arith, refl, sym, ◌⊎◌, inl, inr, Bool, true, false, List, [], ◌∷◌, subst}
 use Rattle.std.proofs.lemmas.Int.{ints}
 use Rattle.law_arithmetic.proofs.Ring.{ring, at, num, ◌⊕◌, ◌⊗◌}
 use Rattle.nef_space.specs.Lists.{Chained}
 use Rattle.nef_space.specs.Place.{Form}
 use Rattle.nef_space.specs.Vectors.{Vector, vector, dot, blend, IsZero, IsDirection, IsOpposite, SameDirection}
 use Rattle.nef_space.specs.declared.label.Label.{Label}
-use Rattle.law_sphere.specs.Maps.{At, MapVertex, Map, Item, arc_item, items, item_normal, item_pos, item_neg, OnItem, IsFree, Side, pos_item, neg_item, HasSide, IsClear, Reaches, Sees, directly, InOneSface, here, link}
+use Rattle.law_sphere.specs.Maps.{At, MapVertex, Map, Item, arc_item, items, item_normal, item_pos, item_neg, OnItem, IsFree, Side, pos_item, neg_item, HasSide, Reaches, Sees, directly, here, link}
 use Rattle.law_sphere.proofs.Compare.{dir-self}
 use Rattle.nef_classes.proofs.Chains.{chain-here, chain-link, chain-trans, chain-turned}
 use Rattle.law_complex.specs.Complexes.{Complex, Corner, Edge}
@@ -16,8 +16,8 @@ use Rattle.nef_frame.specs.Ends.{Ends, ends}
 use Rattle.nef_frame.proofs.Walls.{Axis, on_x, on_y, on_z}
 use Rattle.nef_frame.proofs.CornerVertices.{end_of, inward, inward_way}
 use Rattle.nef_frame.proofs.CornerCones.{axis_of}
-use Rattle.nef_frame.proofs.Octants.{depth, way, next, after, place, slot, upper, lower, svertex, arc, octant, each-svertex, each-item, arc-at, item-at, on-quarter, quarter-on}
-use Rattle.nef_frame.proofs.OctantShapes.{level-depth, depth-level}
+use Rattle.nef_frame.proofs.Octants.{depth, way, next, after, place, slot, upper, lower, arc, octant, each-svertex, each-item, arc-at, item-at, on-quarter, quarter-on}
+use Rattle.nef_frame.proofs.OctantShapes.{level-depth, depth-level, none-deep, one-deep}
 use Rattle.nef_frame.proofs.OctantCones.{around, deep-blend, inward-deep}
 use Rattle.nef_frame.proofs.Listed.{vertex_at, number, frame_vertices, frame-vertex}
 use Rattle.nef_frame.proofs.FrameEdges.{corner_by, edge_of, edge_slot, frame_edges, edge-there}
@@ -92,12 +92,6 @@ along-level on_y false d w = let e = w.parallel.0 in omega (arith, ints)
 along-level on_z true d w = let e = w.parallel.1 in omega (arith, ints)
 along-level on_z false d w = let e = w.parallel.1 in omega (arith, ints)
 
-none : (u : ℤ) → u ≡ pos 0 → pos 0 <ℤ u → ⊥
-none u e h = omega (arith, ints)
-
-positive : (u : ℤ) → u ≡ pos 1 → pos 0 <ℤ u
-positive u e = omega (arith, ints)
-
 -- ---- a direction of the item
 flank : Ends → Axis → Vector
 flank k on_x = vector (pos 0) (inward k.y) (inward k.z)
@@ -165,19 +159,19 @@ module _ (l : Label) where
 
   deep-free : (k : Ends) (d : Vector) → ((a : Axis) → pos 0 <ℤ depth a (end_of k a) d) → IsFree (octant l k) d
   deep-free k d f = record {
-    direction = λ z. none (depth on_x k.x d) (depth-zero on_x k.x d z) (f on_x);
-    off_svertices = λ n v h w. each-svertex l k (λ j (u : MapVertex). SameDirection u.dir d → ⊥) (λ a w. none (depth (next a) (end_of k (next a)) d) (level-depth (next a) (end_of k (next a)) d (along-level a (end_of k a) d w)) (f (next a))) n v h w;
-    off_items = λ n x h o. each-item l k (λ j (y : Item). OnItem (octant l k) y d → ⊥) (λ a o. none (depth a (end_of k a) d) (level-depth a (end_of k a) d (on-quarter l k a d o).0) (f a)) n x h o;
+    direction = λ z. none-deep (depth on_x k.x d) (depth-zero on_x k.x d z) (f on_x);
+    off_svertices = λ n v h w. each-svertex l k (λ j (u : MapVertex). SameDirection u.dir d → ⊥) (λ a w. none-deep (depth (next a) (end_of k (next a)) d) (level-depth (next a) (end_of k (next a)) d (along-level a (end_of k a) d w)) (f (next a))) n v h w;
+    off_items = λ n x h o. each-item l k (λ j (y : Item). OnItem (octant l k) y d → ⊥) (λ a o. none-deep (depth a (end_of k a) d) (level-depth a (end_of k a) d (on-quarter l k a d o).0) (f a)) n x h o;
   }
 
   on-flank : (k : Ends) (a : Axis) → OnItem (octant l k) (arc_item (arc l k a)) (flank k a)
-  on-flank k a = quarter-on l k a (flank k a) (depth-level a (end_of k a) (flank k a) (flank-own a k.x k.y k.z), positive _ (flank-next a k.x k.y k.z), positive _ (flank-after a k.x k.y k.z))
+  on-flank k a = quarter-on l k a (flank k a) (depth-level a (end_of k a) (flank k a) (flank-own a k.x k.y k.z), one-deep _ (flank-next a k.x k.y k.z), one-deep _ (flank-after a k.x k.y k.z))
 
   sees : (k : Ends) (a : Axis) → Sees (octant l k) (inner (end_of k a) (slot a)) (inward_way k)
   sees k a = directly (flank k a)
       (record {
-        start = deep-free k (inward_way k) (λ o. positive (depth o (end_of k o) (inward_way k)) (inward-deep o k.x k.y k.z));
-        direction = λ z. none (depth (next a) (end_of k (next a)) (flank k a)) (depth-zero (next a) (end_of k (next a)) (flank k a) z) (positive _ (flank-next a k.x k.y k.z));
+        start = deep-free k (inward_way k) (λ o. one-deep (depth o (end_of k o) (inward_way k)) (inward-deep o k.x k.y k.z));
+        direction = λ z. none-deep (depth (next a) (end_of k (next a)) (flank k a)) (depth-zero (next a) (end_of k (next a)) (flank k a) z) (one-deep _ (flank-next a k.x k.y k.z));
         short = not-opposed a k;
         between = λ i j g h. deep-free k (blend i (inward_way k) j (flank k a)) (λ o.
             subst (λ u. pos 0 <ℤ u) (sym (deep-blend o (end_of k o) i j (inward_way k) (flank k a)))

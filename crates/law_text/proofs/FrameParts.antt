@@ -1,40 +1,38 @@
 -- The parts of the complexes of the whole frame and of the empty set: six facets of one cycle each, and two volumes.
-use Rattle.std.proofs.Common.{◌≡◌, ℕ, zero, suc, ◌+◌, ◌<◌, ◌≤◌, ℤ, pos, negsuc, neg_ℤ, nat_abs, ◌+ℤ◌, ◌*ℤ◌, ◌<ℤ◌, arith, refl, sym, ◌∙◌, ap, ◌⊎◌, inl, inr, ⊎_elim, ◌↔◌, Bool, true, false, List, [], ◌∷◌, ◌++◌, length, map, subst, Option, Some, None}
+use Rattle.std.proofs.Common.{◌≡◌, ℕ, zero, suc, ◌+◌, ◌<◌, ◌≤◌, ℤ, pos, negsuc, neg_ℤ, nat_abs, arith, refl, sym, ◌∙◌, ap, ◌⊎◌, inl, inr, ⊎_elim, Bool, true, false, List, [], ◌∷◌, length, subst, Option, Some, None}
 use Rattle.std.proofs.lemmas.Int.{ints}
 use Rattle.std.proofs.Math.Nat.{eq-one_of_dvd-one}
 use Rattle.std.specs.List.{All}
-use Rattle.nef_space.specs.Limits.{normal_limit, offset_limit}
-use Rattle.nef_space.specs.Lists.{IsAt, Chained, NumbersClasses, IsInTable}
+use Rattle.nef_space.specs.Limits.{offset_limit}
+use Rattle.nef_space.specs.Lists.{IsAt, Chained, NumbersClasses}
 use Rattle.nef_space.specs.Numbers.{IsBelow}
 use Rattle.nef_space.specs.Place.{Form, form_at, normal_of}
-use Rattle.nef_space.specs.Vectors.{IsNormal, vector, cross, IsZero}
+use Rattle.nef_space.specs.Vectors.{cross, IsZero}
 use Rattle.nef_space.specs.declared.label.Label.{Label}
 use Rattle.nef_space.specs.declared.label.Label.TheVariants.{Out}
 use Rattle.nef_geo.specs.Shapes.{place_of, form_of}
 use Rattle.nef_geo.specs.declared.plane.Plane.{Plane}
 use Rattle.law_sphere.specs.Least.{InOrder}
-use Rattle.law_sphere.specs.Maps.{At, Item, arc_item, items, item_normal, item_mark, item_pos, item_neg, Side, around_svertex, pos_item, neg_item, whole, HasSide, MapVertex}
+use Rattle.law_sphere.specs.Maps.{At, Item, arc_item, item_pos, item_neg, Side, around_svertex, pos_item, neg_item, whole, HasSide, MapVertex}
 use Rattle.law_sphere.proofs.Compare.{dir-self}
-use Rattle.nef_classes.proofs.ClassLists.{is-at_within, is-at_some, is-at_one}
-use Rattle.nef_smap.proofs.SideLists.{at-from_get, get-from_at, side-has}
+use Rattle.nef_classes.proofs.ClassLists.{is-at_within, is-at_some}
 use Rattle.nef_smap.proofs.SideNumbers.{side-number}
 use Rattle.nef_smap.specs.SideNumbers.{number_of}
 use Rattle.nef_smap.specs.Sides.{sides_of}
-use Rattle.law_complex.specs.Complexes.{Vertex, Complex, Corner, IsCorner}
+use Rattle.law_complex.specs.Complexes.{Vertex, Complex, Corner}
 use Rattle.law_complex.specs.Rays.{VertexSide, HasSideLabel}
 use Rattle.law_links.specs.Links.{FacetLink, VolumeLink}
 use Rattle.nef_parts.specs.Cycles.{NextCorner, IsCornerBelow, IsCycle, IsCycleBelow, Cycles}
-use Rattle.nef_parts.specs.Sides.{IsSideNumber}
-use Rattle.nef_parts.specs.Numbers.{count_items, IsFacetOf, IsVolumeOf, IsSideBelow, pos_of, neg_of, IsFacetAt, IsFacet, IsVolume, IsParts, cycle_corners}
+use Rattle.nef_parts.specs.Numbers.{IsFacetOf, IsVolumeOf, IsFacetAt, IsFacet, IsParts, cycle_corners}
 use Rattle.nef_parts.specs.declared.parts.Facet.{Facet}
 use Rattle.nef_parts.specs.declared.parts.Parts.{Parts}
 use Rattle.nef_frame.specs.Ends.{end_at, Ends, ends}
 use Rattle.nef_frame.proofs.Walls.{Axis, on_x, on_y, on_z}
 use Rattle.nef_frame.proofs.CornerVertices.{end_of}
 use Rattle.nef_frame.proofs.CornerCones.{axis_of}
-use Rattle.nef_frame.proofs.Octants.{next, after, place, slot, upper, lower, svertex, arc, octant, each-svertex, each-item, arc-at, item-at}
-use Rattle.nef_frame.proofs.Listed.{corner_point, vertex_at, number, frame_vertices, frame-vertex, each-vertex}
-use Rattle.nef_frame.proofs.FrameEdges.{corner_by, edge_of, edge_slot, frame_edges, edge-there}
+use Rattle.nef_frame.proofs.Octants.{place, slot, upper, lower, arc, octant, each-svertex, each-item, arc-at, item-at}
+use Rattle.nef_frame.proofs.Listed.{corner_point, vertex_at, number, frame-vertex, each-vertex}
+use Rattle.nef_frame.proofs.FrameEdges.{corner_by, edge_of, edge_slot, edge-there}
 use Rattle.law_text.proofs.FrameLinks.{frame_complex, corner, inner, inner_side, has-inner, facet-chain, inner-label, volume-chain, axis-some}
 use Rattle.law_text.proofs.Numbering.{IsEarlier, numbers-one}
 use Rattle.law_text.proofs.OneCycles.{HasOneNext, cycles-one}

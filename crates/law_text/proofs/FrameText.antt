@@ -1,5 +1,5 @@
 -- The texts of the empty set and of the whole frame.
-use Rattle.std.proofs.Common.{◌≡◌, ℕ, zero, suc, ◌<◌, ℤ, pos, nat_abs, ◌<ℤ◌, arith, refl, sym, ◌∙◌, ap, Bool, true, false, List, [], ◌∷◌, ◌++◌, length, map, subst, Option, Some, None, codes, option_map, option_to_list}
+use Rattle.std.proofs.Common.{◌≡◌, ℕ, zero, suc, ℤ, pos, nat_abs, ◌<ℤ◌, arith, refl, sym, ◌∙◌, ap, Bool, true, false, List, [], ◌∷◌, ◌++◌, length, map, subst, Option, Some, None, codes, option_map, option_to_list}
 use Rattle.std.proofs.lemmas.Int.{ints}
 use Rattle.std.proofs.lemmas.List.{length-map}
 use Rattle.std.specs.Fmt.{digits}
@@ -14,14 +14,12 @@ use Rattle.nef_space.specs.declared.label.Label.TheVariants.{Out, Not, In}
 use Rattle.law_near.proofs.Alike.{cones-of_same, FlatDim-by_cone}
 use Rattle.nef_geo.specs.Shapes.{form_of}
 use Rattle.nef_geo.specs.declared.plane.Plane.{Plane}
-use Rattle.nef_geo.specs.declared.point.Point.{Point}
 use Rattle.law_sphere.specs.Maps.{At, MapVertex, Arc, MapSloop}
 use Rattle.nef_smap.proofs.SideLists.{at-from_get}
 use Rattle.nef_smap.specs.Maps.{svertex_of, arc_of, sloop_of}
 use Rattle.nef_smap.specs.declared.map.SLoop.{SLoop}
 use Rattle.law_complex.specs.Complexes.{Vertex as PlainVertex, Edge as PlainEdge, Complex as PlainComplex, Corner as PlainCorner, Edges}
 use Rattle.nef_complex.specs.declared.complex.Complex.{Complex}
-use Rattle.nef_complex.specs.declared.complex.Corner.{Corner}
 use Rattle.nef_complex.specs.declared.complex.Vertex.{Vertex}
 use Rattle.nef_complex.specs.Complexes.{vertex_of, edge_of, corner_of, complex_of, ShowsSet}
 use Rattle.nef_unique.proofs.Vertices.{cone-carried, edges-one}
@@ -36,7 +34,7 @@ use Rattle.nef_frame.proofs.Listed.{frame_vertices, AreOf, vertices-listed}
 use Rattle.nef_frame.proofs.FrameEdges.{frame_edges, frame-edges}
 use Rattle.law_text.specs.Frame.{empty_text, with_in, EmptyText, FullText}
 use Rattle.law_text.proofs.FrameLinks.{frame_complex}
-use Rattle.law_text.proofs.FrameParts.{face, face-small, find-face, wall_plane, wall_cycle, above_number, beneath_number, IsWallFacet, facet-is, six-facets, volumes-are}
+use Rattle.law_text.proofs.FrameParts.{face, wall_plane, wall_cycle, above_number, beneath_number, IsWallFacet, facet-is, six-facets, volumes-are}
 use Rattle.law_text.proofs.OneCycles.{HasOneNext}
 use Rattle.law_text.proofs.OneNext.{one-next}
 

@@ -46,11 +46,14 @@ corner_point k = record {
   lowest = λ n h. eq-one_of_dvd-one h.1.1.1.0;
 }
 
+times-one : (x : ℤ) → x ≡ x *ℤ pos 1
+times-one x = omega (arith, ints)
+
 pub corner-is : (k : Ends) → IsCornerPlace k (place_of (corner_point k))
 corner-is k = record { along_x = times-one (end_at k.x); along_y = times-one (end_at k.y); along_z = times-one (end_at k.z) }
-  where
-    times-one : (x : ℤ) → x ≡ x *ℤ pos 1
-    times-one x = omega (arith, ints)
+
+pub corner-same : (k : Ends) (p : Place) → SamePlace p (place_of (corner_point k)) → IsCornerPlace k p
+corner-same k p e = record { along_x = times-one p.x ∙ e.along_x; along_y = times-one p.y ∙ e.along_y; along_z = times-one p.z ∙ e.along_z }
 
 abbrev pub vertex_at : Label → Ends → PlainVertex
 vertex_at l k = record { point = place_of (corner_point k); map = octant l k }
@@ -141,9 +144,3 @@ module _ (s : Set) (l : Label) (W : IsWhole s l) (vs : List Vertex) (A : AreOf s
       let i = at-map vertex_of vs f.0 u.0 u.1 in
       let same = subst (λ (w : PlainVertex). SamePlace w.point (place_of (corner_point k))) (sym u.2) f.3 in
       (f.0, subst (λ (w : PlainVertex). At (map vertex_of vs) f.0 w) (at-corner f.0 u.0 k i (corner-same k (place_of u.0.point) same)) i)))
-    where
-      corner-same : (k : Ends) (p : Place) → SamePlace p (place_of (corner_point k)) → IsCornerPlace k p
-      corner-same k p e = record { along_x = times-one p.x ∙ e.along_x; along_y = times-one p.y ∙ e.along_y; along_z = times-one p.z ∙ e.along_z }
-        where
-          times-one : (x : ℤ) → x ≡ x *ℤ pos 1
-          times-one x = omega (arith, ints)

@@ -24,7 +24,7 @@ use Rattle.nef_frame.proofs.Walls.{Axis, on_x, on_y, on_z, wall, wall-listed, Is
 use Rattle.nef_frame.proofs.CornerVertices.{end_of, inward, inward_way, through, leads-in}
 use Rattle.nef_frame.proofs.CornerCones.{axis_of, at-side}
 use Rattle.nef_frame.proofs.Octants.{depth, way, next, after, place, slot, upper, lower, svertex, arc, octant, each-svertex, each-item, svertex-at, item-at, OnQuarter, on-quarter, quarter-on}
-use Rattle.nef_frame.proofs.OctantShapes.{next-depth, after-depth, own-depth, level-depth, depth-level, octant-shaped}
+use Rattle.nef_frame.proofs.OctantShapes.{next-depth, after-depth, own-depth, none-deep, one-deep, level-depth, depth-level, octant-shaped}
 
 -- ---- depths
 depth-slope : (a : Axis) (b : Bool) (d : Vector) → slope (wall a b) d ≡ neg_ℤ (depth a b d)
@@ -253,17 +253,11 @@ module _ (s : Set) (l : Label) (W : IsWhole s l) (k : Ends) (p : Place) (c : IsC
     λ i h. germ-off (blend i d 1 e) a (λ q. far-shallow i (deep a d) (deep a e) (let b = depth-size a (end_of k a) e in omega (arith, b, h)) f (subst (λ u. pos 0 <ℤ u) (deep-blend a (end_of k a) i 1 d e) q)),
   )
 
-  none : (u : ℤ) → u ≡ pos 0 → pos 0 <ℤ u → ⊥
-  none u e h = omega (arith, ints)
-
   below : (u : ℤ) → u <ℤ pos 0 → pos 0 <ℤ u → ⊥
   below u g h = omega (arith, ints)
 
-  positive : (u : ℤ) → u ≡ pos 1 → pos 0 <ℤ u
-  positive u e = omega (arith, ints)
-
   way-out : (a : Axis) → F (way a (end_of k a)) Out
-  way-out a = germ-off (way a (end_of k a)) (next a) (none _ (next-depth a (end_of k a) (end_of k (next a))))
+  way-out a = germ-off (way a (end_of k a)) (next a) (none-deep _ (next-depth a (end_of k a) (end_of k (next a))))
 
   beside : (a : Axis) (d e : Vector) → OnQuarter k a d → Near F d e (by_side (upper (end_of k a) l) Out (lower (end_of k a) l) (sign (dot (axis_of a) e)))
   beside a d e (level, h, i) = ⊎_elim
@@ -276,7 +270,7 @@ module _ (s : Set) (l : Label) (W : IsWhole s l) (k : Ends) (p : Place) (c : IsC
   agrees : Agrees M F
   agrees = record {
     svertices = each-svertex l k (λ n v. F v.dir v.mark) way-out;
-    marks = λ n x d h o. each-item l k (λ j (y : Item). OnItem M y d → F d (item_mark y)) (λ a o. germ-off d a (none _ (level-depth a (end_of k a) d (on-quarter l k a d o).0))) n x h o;
+    marks = λ n x d h o. each-item l k (λ j (y : Item). OnItem M y d → F d (item_mark y)) (λ a o. germ-off d a (none-deep _ (level-depth a (end_of k a) d (on-quarter l k a d o).0))) n x h o;
     beside = λ n x d e h o i.
         each-item l k (λ j (y : Item). OnItem M y d → Near F d e (by_side (item_pos y) (item_mark y) (item_neg y) (sign (dot (item_normal y) e)))) (λ a o. beside a d e (on-quarter l k a d o)) n x h o;
     lone = λ n v m e h q i. each-svertex l k (λ j (u : MapVertex). u.around ≡ Some m → Near F v.dir e m) (λ a (r : None ≡ Some m). absurd cc) n v h q;
@@ -305,14 +299,14 @@ module _ (s : Set) (l : Label) (W : IsWhole s l) (k : Ends) (p : Place) (c : IsC
 
   inward-near : (a : Axis) → Near F (way a (end_of k a)) (inward_way k) l
   inward-near a = near-in (way a (end_of k a)) (inward_way k) (around (λ o. Deep (deep o (way a (end_of k a))) (deep o (inward_way k))) a
-      (inl (positive _ (own-depth a (end_of k a))))
-      (inr (next-depth a (end_of k a) (end_of k (next a)), positive _ (inward-deep (next a) k.x k.y k.z)))
-      (inr (after-depth a (end_of k a) (end_of k (after a)), positive _ (inward-deep (after a) k.x k.y k.z))))
+      (inl (one-deep _ (own-depth a (end_of k a))))
+      (inr (next-depth a (end_of k a) (end_of k (next a)), one-deep _ (inward-deep (next a) k.x k.y k.z)))
+      (inr (after-depth a (end_of k a) (end_of k (after a)), one-deep _ (inward-deep (after a) k.x k.y k.z))))
 
   -- toward the next way it is Out, and toward the one after
   next-near : (a : Axis) → Near F (way a (end_of k a)) (way (next a) (end_of k (next a))) Out
   next-near a = near-off (way a (end_of k a)) (way (next a) (end_of k (next a))) (after a)
-      (inr (after-depth a (end_of k a) (end_of k (after a)), none _ (beside-next a (end_of k (next a)) (end_of k (after a)))))
+      (inr (after-depth a (end_of k a) (end_of k (after a)), none-deep _ (beside-next a (end_of k (next a)) (end_of k (after a)))))
     where
       beside-next : (a : Axis) (b c : Bool) → depth (after a) c (way (next a) b) ≡ pos 0
       beside-next on_x = next-depth on_y
@@ -321,7 +315,7 @@ module _ (s : Set) (l : Label) (W : IsWhole s l) (k : Ends) (p : Place) (c : IsC
 
   after-near : (a : Axis) → Near F (way a (end_of k a)) (way (after a) (end_of k (after a))) Out
   after-near a = near-off (way a (end_of k a)) (way (after a) (end_of k (after a))) (next a)
-      (inr (next-depth a (end_of k a) (end_of k (next a)), none _ (beside-after a (end_of k (after a)) (end_of k (next a)))))
+      (inr (next-depth a (end_of k a) (end_of k (next a)), none-deep _ (beside-after a (end_of k (after a)) (end_of k (next a)))))
     where
       beside-after : (a : Axis) (b c : Bool) → depth (next a) c (way (after a) b) ≡ pos 0
       beside-after on_x = after-depth on_z

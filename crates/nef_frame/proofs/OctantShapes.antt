@@ -63,8 +63,11 @@ depth-level on_y false d e = omega (arith, ints)
 depth-level on_z true d e = omega (arith, ints)
 depth-level on_z false d e = omega (arith, ints)
 
-none-deep : (x : ℤ) → x ≡ pos 0 → pos 0 <ℤ x → ⊥
-none-deep x e h = omega (arith, ints)
+pub none-deep : (u : ℤ) → u ≡ pos 0 → pos 0 <ℤ u → ⊥
+none-deep u e h = omega (arith, ints)
+
+pub one-deep : (u : ℤ) → u ≡ pos 1 → pos 0 <ℤ u
+one-deep u e = omega (arith, ints)
 
 -- ---- the shape
 ways-apart : (a o : Axis) (b c : Bool) → SameDirection (way a b) (way o c) → a ≡ o
