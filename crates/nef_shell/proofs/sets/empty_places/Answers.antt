@@ -1,6 +1,6 @@
 use Rattle.std.proofs.Common.{arith}
 use Rattle.nef_shell.proofs.Asked.{none-there}
-use Rattle.nef_shell.proofs.sets.no_complexes.Goals as goal
+use Rattle.nef_shell.proofs.sets.empty_places.Goals as goal
 
 pub returns-clause-empty : goal.returns-clause-empty
 returns-clause-empty c =
