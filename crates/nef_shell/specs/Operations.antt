@@ -12,8 +12,9 @@ use Rattle.nef_expr.specs.Nodes.{operand, node_set}
 use Rattle.nef_ops.specs.Nodes.{constant_set, unary_set}
 use Rattle.nef_parts.specs.declared.parts.Parts.{Parts}
 use Rattle.nef_parts.specs.Numbers.{IsParts}
-use Rattle.nef_parts.specs.Text.{Text}
+use Rattle.nef_parts.specs.Text.{text, Text}
 use Rattle.std.specs.declared.vec.Vec.{Vec}
+use Rattle.nef_shell.specs.Output.{IsWrittenOf}
 use Rattle.nef_shell.specs.declared.operation.Means.{Means}
 use Rattle.nef_shell.specs.declared.operation.Operation.{Operation}
 use Rattle.nef_shell.specs.declared.operation.Operation.TheVariants.{Constant, Half, Unary, Binary, Turned}
@@ -99,6 +100,14 @@ AreTextsOf {Z} version list texts = AreMadeOf (λ c (x : Vec ℕ Z). Text versio
 -- something is there for node k
 abbrev pub IsThere : {X : Type 0} → List (Option X) → ℕ → Type 0
 IsThere {X} things k = (x : X) × (slice_get things k ≡ Some (Some x))
+
+-- the complex of node k is there with its parts, and shows the node's set
+abbrev pub HasParts : List Node → List (Option Complex) → List (Option Parts) → ℕ → Type 0
+HasParts nodes list parts k = (c : Complex) × (p : Parts) × (slice_get list k ≡ Some (Some c)) × (slice_get parts k ≡ Some (Some p)) × ShowsSet (node_set nodes k) c × IsParts (complex_of c) p
+
+-- a text of the set of node k is there
+abbrev pub HasText : {Z : Type 0} → TextVersion → List Node → List (Option (Vec ℕ Z)) → ℕ → Type 0
+HasText {Z} version nodes texts k = (x : Vec ℕ Z) × (slice_get texts k ≡ Some (Some x)) × IsWrittenOf (node_set nodes k) (text version) x.items
 
 -- each complex that is there shows the set of its node, and the parts and texts that are there are of complexes that are: so none is kept longer than its complex
 pub record AreHeld {Z : Type 0} (version : TextVersion) (nodes : List Node) (list : List (Option Complex)) (parts : List (Option Parts)) (texts : List (Option (Vec ℕ Z))) : Type 0 where

@@ -12,7 +12,7 @@ ghost use Rattle.nef_parts.specs.Text.{text};
 ghost use Rattle.nef_script.specs.Commands.{LooksAt, Binds};
 ghost use Rattle.nef_script.specs.Meaning.{IsWithin};
 ghost use Rattle.nef_shell.specs.Commands.{AreLastUses, AreUses};
-ghost use Rattle.nef_shell.specs.Operations.{set_by, HasOperand, HasTurn, AreMeans, IsLent, AreShown, IsKept, IsGone, IsLean, AreBound, ArePartsOf, AreTextsOf, IsThere, AreHeld};
+ghost use Rattle.nef_shell.specs.Operations.{set_by, HasOperand, HasTurn, AreMeans, IsLent, AreShown, IsKept, IsGone, IsLean, AreBound, ArePartsOf, AreTextsOf, IsThere, HasParts, HasText, AreHeld};
 ghost use Rattle.nef_shell.specs.Output.{IsWrittenOf};
 
 use crate::operation::{Means, Operation, made};
@@ -192,7 +192,7 @@ impl<'a> Sets<'a> {
     ) -> Result<(), AllocError>
         requires kept { IsKept self.old.nodes.now self.old.list.items node }
         requires parts { ArePartsOf self.old.list.items self.old.parts.items }
-        ensures there { OnOk result (IsThere self.new.parts.items node) }
+        ensures has { OnOk result (HasParts self.new.nodes.now self.new.list.items self.new.parts.items node) }
         ensures parts { OnOk result (ArePartsOf self.old.list.items self.new.parts.items) }
         ensures list { self.new.list ≡ self.old.list }
         ensures texts { self.new.texts ≡ self.old.texts }
@@ -209,14 +209,12 @@ impl<'a> Sets<'a> {
 
     /// The complex of the node, and its parts, which were worked.
     pub(crate) fn get_with_parts(&self, node: usize) -> (&Complex, &Parts)
-        requires kept { IsKept self.now.nodes.now self.now.list.items node }
-        requires parts { ArePartsOf self.now.list.items self.now.parts.items }
-        requires there { IsThere self.now.parts.items node }
-        ensures shows { ShowsSet (node_set self.now.nodes.now node) result.0.now }
+        requires has { HasParts self.now.nodes.now self.now.list.items self.now.parts.items node }
         ensures at { slice_get self.now.list.items node ≡ Some (Some result.0.now) }
+        ensures shows { ShowsSet (node_set self.now.nodes.now node) result.0.now }
         ensures parts { IsParts (complex_of result.0.now) result.1.now }
     {
-        (self.get(node), thing_at(&self.parts, node))
+        (thing_at(&self.list, node), thing_at(&self.parts, node))
     }
 
     /// Works the text of the node's complex, in this version, unless it is there. `AllocError` says that memory
@@ -231,7 +229,7 @@ impl<'a> Sets<'a> {
     ) -> Result<(), AllocError>
         requires kept { IsKept self.old.nodes.now self.old.list.items node }
         requires held { AreHeld version self.old.nodes.now self.old.list.items self.old.parts.items self.old.texts.items }
-        ensures there { OnOk result (IsThere self.new.texts.items node) }
+        ensures has { OnOk result (HasText version self.new.nodes.now self.new.texts.items node) }
         ensures held { OnOk result (AreHeld version self.old.nodes.now self.old.list.items self.new.parts.items self.new.texts.items) }
         ensures list { self.new.list ≡ self.old.list }
         ensures nodes { self.new.nodes ≡ self.old.nodes }
@@ -249,8 +247,8 @@ impl<'a> Sets<'a> {
 
     /// The text of the node's complex, which was worked.
     pub(crate) fn text(&self, node: usize) -> &[u8]
-        requires there { IsThere self.now.texts.items node }
-        ensures written { (version : TextVersion) → AreHeld version self.now.nodes.now self.now.list.items self.now.parts.items self.now.texts.items → IsWrittenOf (node_set self.now.nodes.now node) (text version) result.now }
+        requires has { (version : TextVersion) × HasText version self.now.nodes.now self.now.texts.items node }
+        ensures written { (version : TextVersion) → HasText version self.now.nodes.now self.now.texts.items node → IsWrittenOf (node_set self.now.nodes.now node) (text version) result.now }
     {
         thing_at(&self.texts, node)
     }
@@ -260,7 +258,7 @@ impl<'a> Sets<'a> {
     fn release_one(&mut self, node: Option<usize>, now: usize)
         requires within { IfSome node (λ k. k < length self.old.nodes.now) }
         ensures count { length self.new.list.items ≡ length self.old.list.items }
-        ensures held { (version : TextVersion) → AreHeld version self.old.nodes.now self.old.list.items self.old.parts.items self.old.texts.items → AreHeld version self.old.nodes.now self.new.list.items self.new.parts.items self.new.texts.items }
+        ensures held { (version : TextVersion) → AreHeld version self.old.nodes.now self.old.list.items self.old.parts.items self.old.texts.items → AreHeld version self.new.nodes.now self.new.list.items self.new.parts.items self.new.texts.items }
         ensures kept { (k : ℕ) → now < slice_index self.old.last_uses.items k → IsKept self.old.nodes.now self.old.list.items k → IsKept self.new.nodes.now self.new.list.items k }
         ensures gone { (k : ℕ) → node ≡ Some k → slice_index self.old.last_uses.items k ≤ now → IsGone self.new.list.items k }
         ensures stays { (k : ℕ) → IsGone self.old.list.items k → IsGone self.new.list.items k }
@@ -282,7 +280,7 @@ impl<'a> Sets<'a> {
         requires within { IsWithin (length self.old.nodes.now) command.now }
         requires used { (k : ℕ) → k < length self.old.list.items → slice_index self.old.last_uses.items k < now + 1 → IsGone self.old.list.items k ⊎ (LooksAt self.old.nodes.now command.now k ⊎ Binds command.now k) }
         ensures count { length self.new.list.items ≡ length self.old.list.items }
-        ensures held { (version : TextVersion) → AreHeld version self.old.nodes.now self.old.list.items self.old.parts.items self.old.texts.items → AreHeld version self.old.nodes.now self.new.list.items self.new.parts.items self.new.texts.items }
+        ensures held { (version : TextVersion) → AreHeld version self.old.nodes.now self.old.list.items self.old.parts.items self.old.texts.items → AreHeld version self.new.nodes.now self.new.list.items self.new.parts.items self.new.texts.items }
         ensures kept { (k : ℕ) → now < slice_index self.old.last_uses.items k → IsKept self.old.nodes.now self.old.list.items k → IsKept self.new.nodes.now self.new.list.items k }
         ensures lean { IsLean self.old.last_uses.items (now + 1) self.new.list.items }
         ensures nodes { self.new.nodes ≡ self.old.nodes }

@@ -15,6 +15,8 @@ mod gates;
 #[cfg(test)]
 mod generated;
 #[cfg(test)]
+mod kept_parts;
+#[cfg(test)]
 mod limits;
 #[cfg(test)]
 mod runs;
