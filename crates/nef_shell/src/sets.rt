@@ -274,8 +274,8 @@ impl<'a> Sets<'a> {
         }
     }
 
-    /// Lets the complexes go, with their parts and texts, that no command after this one looks at. `now` is the number of the
-    /// command, counted from 0.
+    /// Lets the complexes go, with their parts and texts, that no command after this one looks at. `now` is the number
+    /// of the command, counted from 0.
     pub(crate) fn release(&mut self, command: &Command, now: usize)
         requires within { IsWithin (length self.old.nodes.now) command.now }
         requires used { (k : ℕ) → k < length self.old.list.items → slice_index self.old.last_uses.items k < now + 1 → IsGone self.old.list.items k ⊎ (LooksAt self.old.nodes.now command.now k ⊎ Binds command.now k) }

@@ -197,9 +197,7 @@ fn work_all<R: Threads + Wait + Sync, K: Sink, G: Gate + Sync>(
 {
     let list = first_complexes(rt, alloc, script, ahead, means, gate)?;
     let mut sets = Sets::of(alloc, script, list)?;
-    work_commands(
-        rt, alloc, &mut sets, script, ahead, means, text, sink, gate,
-    )
+    work_commands(rt, alloc, &mut sets, script, ahead, means, text, sink, gate)
 }
 
 /// Works the commands, and writes the piece of each in their order. Where the options say so, all bindings are worked

@@ -42,9 +42,9 @@ step-requires-clause-used g c scopes within k below here =
     let counted = old.counted in
     let seen_at : (d : _) → slice_get c.args.script.now.commands now ≡ Some d → LooksAt nodes d k → LooksAt old.nodes.now item k =
     λ d seen looks. (
-        let found : Some d ≡ Some item = sym seen ∙ at in
-        let one : d ≡ item = cc in
-        subst (λ z. LooksAt z item k) (sym so_far.nodes) (subst (λ z. LooksAt nodes z k) one looks)
+    let found : Some d ≡ Some item = sym seen ∙ at in
+    let one : d ≡ item = cc in
+    subst (λ z. LooksAt z item k) (sym so_far.nodes) (subst (λ z. LooksAt nodes z k) one looks)
     ) in
     elim (so_far.used k (omega (arith, counted.1, ap length so_far.nodes))) [
       | inl zero ↦ elim (gone-or-there old.list.items k below) [
