@@ -6,3 +6,4 @@ pub mod Causes
 pub mod GivenWords
 pub mod Bound
 pub mod Asked
+pub mod Held

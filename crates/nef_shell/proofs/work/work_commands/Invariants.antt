@@ -6,9 +6,9 @@ use Rattle.nef_script.specs.declared.script.Command.{Command}
 use Rattle.nef_script.specs.Commands.{LooksAt, Binds}
 use Rattle.nef_shell.specs.Bindings.{IsAskedAbout, IsWorked}
 use Rattle.nef_shell.specs.Commands.{AreLastUses, AreUses}
-use Rattle.nef_shell.specs.Operations.{AreShown, IsKept, IsLean}
+use Rattle.nef_shell.specs.Operations.{IsKept, IsLean, AreHeld}
 use Rattle.nef_shell.specs.Output.{IsOutput}
-use Rattle.nef_shell.proofs.work.work_all.Given as goal
+use Rattle.nef_shell.proofs.work.work_commands.Given as goal
 
 abbrev pub invariant-loop-now : goal.invariant-loop-now
 invariant-loop-now g l = record {
@@ -22,5 +22,5 @@ invariant-loop-now g l = record {
   only : l.now ≡ 0 → (k : ℕ) (c : Complex) → slice_get l.sets.list.items k ≡ Some (Some c) → IsAskedAbout l.script.nodes l.script.commands k;
   kept : (i k : ℕ) (c : Command) → l.now ≤ i → slice_get l.script.commands i ≡ Some c → IsWorked l.ahead c → LooksAt l.script.nodes c k
       → IsKept l.script.nodes l.sets.list.items k ⊎ ((l.ahead ≡ false) × (j : ℕ) × (d : Command) × (l.now ≤ j) × (j < i) × (slice_get l.script.commands j ≡ Some d) × Binds d k);
-  shown : AreShown l.script.nodes l.sets.list.items;
+  held : AreHeld l.text l.script.nodes l.sets.list.items l.sets.parts.items l.sets.texts.items;
 }
