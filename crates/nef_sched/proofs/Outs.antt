@@ -9,7 +9,6 @@ use Rattle.nef_sched.specs.Results.{kept, IsKept, IsReady, AreSound}
 use Rattle.nef_sched.specs.Rounds.{parts, total_parts}
 use Rattle.nef_sched.specs.Workers.{total_worked}
 use Rattle.nef_sched.proofs.Totals.{counts, counts_itself, same_or_not}
-use Rattle.nef_sched.proofs.Steps.{differ_more}
 
 none_differs : {X : Type 0} (x : X) → None ≡ Some x → ⊥
 none_differs x e = cc
@@ -126,18 +125,6 @@ all_in P (y ∷ ys) x e h = elim (counts y x) [
   | inl q ↦ subst P q.0 (h 0 y (omega arith))
   | inr q ↦ all_in P ys x (omega arith) (λ k d low. h (suc k) d (omega arith))
 ]
-
-times_above : (xs : List ℕ) (n : ℕ) → All (λ i. i < n) xs → times n xs ≡ 0
-times_above [] n h = refl
-times_above (x ∷ xs) n h =
-    let low : x < n = h 0 x (omega arith) in
-    let a : one n x ≡ 0 = ap (λ (b : Bool). cond b 1 0) (ne_eqb x n (λ e. omega arith)) in
-    let b = times_above xs n (λ k d s. h (suc k) d (omega arith)) in
-    omega arith
-
--- a number above all of them is new
-pub differ_next : (xs : List ℕ) (n : ℕ) → Differ xs → All (λ i. i < n) xs → Differ (xs ++ n ∷ [])
-differ_next xs n d h = differ_more xs n d (times_above xs n h)
 
 -- what holds below n and at n holds below its successor
 pub all_next : (P : ℕ → Type 0) (n : ℕ) → ((k : ℕ) → k < n → P k) → P n → (k : ℕ) → k < n + 1 → P k

@@ -82,9 +82,6 @@ last_low size first second rounds lasts k a l low = elim (l.reached k low) [
 ]
 
 -- groups of numbers by their rounds
-pub group_none : (rounds : List ℕ) (r : ℕ) → IsGroup 0 rounds r []
-group_none rounds r = ((λ k low e. absurd (omega arith)), λ k h. absurd (omega arith))
-
 pub group_here : (n : ℕ) (rounds : List ℕ) (r : ℕ) (xs : List ℕ) → slice_index rounds n ≡ r → IsGroup n rounds r xs → IsGroup (n + 1) rounds r (xs ++ n ∷ [])
 group_here n rounds r xs e g = (every, only)
   where
