@@ -19,8 +19,8 @@ use std::sync::Wait;
 use std::thread;
 use std::thread::Threads;
 
-// The microseconds of work for which it pays to start a worker.
-const PAYING: u64 = 200;
+// So many microseconds of work pay for a worker: several times what it takes to start a thread and to wait for its end.
+const PAYING: u64 = 500;
 
 /// Works every number of the stage, and returns one fitting result for each, in order.
 ///

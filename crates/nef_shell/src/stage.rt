@@ -97,15 +97,15 @@ fn vertices(complex: Option<&Complex>) -> u64 {
     }
 }
 
-// How many microseconds an operation on sets with so many vertices takes at least, and for each of them.
-const LEAST: u64 = 40;
+// How many microseconds an operation takes on sets of few vertices.
+const LEAST: u64 = 30;
 
+// How many microseconds the operation may take on sets with so many vertices.
 fn load_of(operation: &Operation, vertices: u64) -> u64 {
     let each = match *operation {
         Operation::Constant(_) | Operation::Half { .. } => 0,
-        Operation::Turned(..) => 2,
-        Operation::Unary(..) => 4,
-        Operation::Binary(..) => 8,
+        Operation::Unary(..) | Operation::Turned(..) => 1,
+        Operation::Binary(..) => 3,
     };
     vertices.saturating_mul(each).saturating_add(LEAST)
 }

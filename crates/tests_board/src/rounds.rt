@@ -289,7 +289,7 @@ fn run_side_by_side<R: Threads + Wait + Sync>(
     Ok(are_all && began == count as u64 && most == crowd && !waited)
 }
 
-// By as many workers as were asked for, as there are numbers, or as the load pays for: one for each 200.
+// By as many workers as were asked for, as there are numbers, or as the load pays for: one for each 500.
 #[test]
 fn numbers_of_a_round_run_side_by_side(rt: HostRuntime) -> Result<(), Fail> {
     for (workers, count, load, crowd) in [
@@ -297,8 +297,8 @@ fn numbers_of_a_round_run_side_by_side(rt: HostRuntime) -> Result<(), Fail> {
         (3, 10, HEAVY, 3),
         (64, 2, HEAVY, 2),
         (64, 100, HEAVY, 64),
-        (4, 4, 100, 2),
-        (4, 4, 99, 1),
+        (4, 4, 250, 2),
+        (4, 4, 249, 1),
         (1, 4, HEAVY, 1),
     ] {
         assert!(rt; run_side_by_side(&rt, rt.alloc(), workers, count, load, crowd)?);
