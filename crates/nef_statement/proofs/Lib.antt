@@ -1,0 +1,10 @@
+pub mod Alike
+pub mod Bound
+pub mod Counts
+pub mod Lines
+pub mod Told
+pub mod Texts
+pub mod Moved
+pub mod Walk
+pub mod One
+pub mod Stated
