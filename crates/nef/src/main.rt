@@ -2,7 +2,7 @@
 //! what its commands answer to standard output. The words after the program's name are options.
 #![tactic(auto)]
 
-use nef_statement::program_over;
+use nef_shell::program_over;
 use std::env;
 use std::process::ExitCode;
 

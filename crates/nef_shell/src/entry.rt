@@ -2,7 +2,7 @@
 
 ghost use Rattle.std.specs.Prelude.{◌≡◌, IfOk};
 ghost use Rattle.std.specs.Process.{exit_status};
-ghost use Rattle.nef_shell.specs.Traffic.{Traffic, traffic};
+ghost use Rattle.nef_statement.specs.Traffic.{Traffic, traffic};
 ghost use Rattle.nef_shell.specs.Program.{IsCollected, ProgramEnds};
 
 use crate::status::{Status, code};

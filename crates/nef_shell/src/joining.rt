@@ -4,7 +4,7 @@ ghost use Rattle.std.specs.Prelude.{IfOk};
 ghost use Rattle.nef_space.specs.Sets.{Set};
 ghost use Rattle.nef_geo.specs.Shapes.{place_of};
 ghost use Rattle.nef_complex.specs.Complexes.{ShowsSet};
-ghost use Rattle.nef_shell.specs.Output.{IsJoinedAnswer};
+ghost use Rattle.nef_statement.specs.Output.{IsJoinedAnswer};
 
 use crate::answer::{answer, joined_answer};
 use nef_complex::Complex;

@@ -4,7 +4,8 @@ ghost use Rattle.std.specs.Prelude.{◌≡◌, IfOk};
 ghost use Rattle.nef_space.specs.Sets.{Set};
 ghost use Rattle.nef_complex.specs.Complexes.{ShowsSet, complex_of};
 ghost use Rattle.nef_parts.specs.Numbers.{IsParts};
-ghost use Rattle.nef_shell.specs.Output.{count_line, printed, IsWrittenOf};
+ghost use Rattle.nef_shell.specs.Output.{printed};
+ghost use Rattle.nef_statement.specs.Texts.{count_line, IsWrittenOf};
 
 use itoa::Buffer;
 use nef_canon::write_text;

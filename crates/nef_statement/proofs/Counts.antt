@@ -6,7 +6,7 @@ use Rattle.law_near.proofs.Alike.{Joined-same, cones-of_same, FlatDim-by_cone}
 use Rattle.nef_conn.specs.Components.{HasComponents}
 use Rattle.nef_conn.proofs.OneCount.{one-count}
 use Rattle.nef_parts.specs.Text.{line, numbers}
-use Rattle.nef_shell.specs.Written.{CountTells}
+use Rattle.nef_statement.specs.Written.{CountTells}
 use Rattle.nef_statement.proofs.Alike.{same-turned}
 
 components-same : (a s : Set) (k n : ℕ) → SameSet a s → HasComponents s k n → HasComponents a k n

@@ -1,5 +1,5 @@
 -- A set has one text, and the text tells it.
-use Rattle.std.proofs.Common.{◌≡◌, ◌↔◌, ℕ, refl, ap, sym, ◌∙◌, subst, List, [], ◌++◌, map, append_assoc}
+use Rattle.std.proofs.Common.{◌≡◌, ◌↔◌, ℕ, refl, ap, sym, ◌∙◌, subst, List, [], ◌++◌, length, map, append_assoc}
 use Rattle.nef_space.specs.Local.{SameSet}
 use Rattle.nef_space.specs.Place.{Place, InFrame}
 use Rattle.nef_space.specs.Sets.{Set, Holds}
@@ -11,21 +11,42 @@ use Rattle.nef_complex.specs.Complexes.{complex_of, vertex_of, edge_of, ShowsSet
 use Rattle.nef_core.specs.declared.how.TextVersion.{TextVersion}
 use Rattle.nef_locate.proofs.Cones.{facet-at}
 use Rattle.nef_unique.proofs.Vertices.{edges-one}
-use Rattle.law_text.proofs.SameText.{same-parts, spelled-holds}
+use Rattle.law_text.proofs.SameText.{same-parts, same-set_text, text-set, spelled-holds}
 use Rattle.nef_parts.specs.Numbers.{IsParts}
 use Rattle.nef_parts.specs.Text.{version_word, first_line, vertices_text, edge_line, facet_text, volumes_text, text}
 use Rattle.std.specs.Prelude.{codes}
 use Rattle.std.specs.List.{flat_map}
-use Rattle.nef_shell.specs.Output.{count_line}
 use Rattle.nef_statement.proofs.Counts.{count-same}
 use Rattle.nef_parts.specs.declared.parts.Parts.{Parts}
 use Rattle.nef_complex.specs.declared.complex.Complex.{Complex}
 use Rattle.nef_core.specs.declared.how.TextVersion.TheVariants.{One, Two}
-use Rattle.nef_shell.proofs.Pieces.{same-texts, count-tells}
-use Rattle.nef_statement.specs.Reader.{vertices_told, with_edges, TextSays}
-use Rattle.nef_statement.specs.Texts.{IsText}
+use Rattle.nef_volumes.proofs.Components.{are-counted}
+use Rattle.nef_statement.specs.Reader.{rows_of, vertices_told, with_edges, TextSays}
+use Rattle.nef_statement.specs.Texts.{count_line, IsWrittenOf, IsText}
+use Rattle.nef_statement.specs.Written.{CountTells}
 use Rattle.nef_statement.proofs.Alike.{same-alike, same-turned, same-trans}
-use Rattle.nef_statement.proofs.Told.{vertices-told}
+use Rattle.nef_statement.proofs.Told.{HasWeights, vertices-told, weights-told}
+
+-- the texts of two sets are equal exactly where the sets are one
+pub same-texts : (version : TextVersion) (s t : Set) (x y : List ℕ) → IsWrittenOf s (text version) x → IsWrittenOf t (text version) y → (x ≡ y) ↔ SameSet s t
+same-texts version s t x y (c, p, S, P, e) (d, q, T, Q, f) =
+    (λ g. text-set version s t c d p q S T (sym e ∙ g ∙ f), λ h. e ∙ (same-set_text version s t c d p q S T h P Q).1 ∙ sym f)
+
+-- the counted numbers are those of components
+pub count-tells : (s : Set) (x : List ℕ) → IsWrittenOf s count_line x → CountTells s x
+count-tells s x (c, p, S, P, e) =
+    let counted = are-counted c p P s S in
+    record {
+      vertices = length c.vertices;
+      edges = length c.edges;
+      facets = length p.facets;
+      volumes = length p.volumes;
+      is = e;
+      no_direction = counted.0;
+      one_direction = counted.1;
+      two_directions = counted.2;
+      three_directions = counted.3;
+    }
 
 text-same : (version : TextVersion) (c : Complex) (p : Parts) → text version c p ≡ text version (record { carriers = []; vertices = c.vertices; edges = c.edges; index = c.index }) p
 text-same One c p = refl
@@ -56,6 +77,7 @@ pub text-says : (version : TextVersion) (s : Set) (x : List ℕ) → IsText vers
 text-says version s x (t, same, (c, p, S, P, e)) =
     record {
       first = (count_line c p, after-first version c p, count-same s t (count_line c p) same (count-tells t (count_line c p) (c, p, S, P, refl)), e ∙ text-begins version c p);
+      weights = subst (λ z. HasWeights (rows_of z)) (sym e) (weights-told version c p);
       edges = (map edge_of c.edges, subst (λ (vs : List Vertex). Edges vs (map edge_of c.edges)) (sym vertices) S.shows.edges);
       holds = λ es y E inside.
           let w = edges-one (map vertex_of c.vertices) (map edge_of c.edges) es S.shows.edges (subst (λ (vs : List Vertex). Edges vs es) vertices E) in

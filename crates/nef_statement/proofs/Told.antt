@@ -1,5 +1,5 @@
 -- A reader of a text is told the vertices of the complex.
-use Rattle.std.proofs.Common.{◌≡◌, ℕ, suc, ◌-◌, ◌^◌, ◌<◌, ◌≤◌, nat_abs, ℤ, List, [], ◌∷◌, ◌++◌, map, Option, Some, None, option_to_list, option_map, refl, sym, ap, ◌∙◌, subst, arith, append-nil, append_assoc, if◌then◌else◌}
+use Rattle.std.proofs.Common.{◌≡◌, ℕ, zero, suc, ◌-◌, ◌^◌, ◌<◌, ◌≤◌, nat_abs, ℤ, pos, ◌<ℤ◌, Bool, true, false, List, [], ◌∷◌, ◌++◌, map, Option, Some, None, option_to_list, option_map, slice_get, refl, sym, ap, ◌∙◌, subst, arith, append-nil, append_assoc, if◌then◌else◌}
 use Rattle.std.specs.Prelude.{codes}
 use Rattle.std.proofs.Props.{props}
 use Rattle.std.specs.Str.{bytes_eq}
@@ -34,7 +34,7 @@ use Rattle.nef_parts.specs.declared.parts.Side.{Side}
 use Rattle.nef_parts.specs.Text.{Word, line, label_word, option_word, numbers, signed, svertex_line, arc_line, sloop_line, vertex_line, vertex_text, edge_line, corner_words, cycle_line, facet_line, facet_text, volume_line, sface_line, side_words, shell_line, faced_text, shelled_text, with_rows, counts, version_word, first_line, vertices_text, volumes_text, text}
 use Rattle.law_text.proofs.Vertices.{with-rows_firsts}
 use Rattle.nef_script.specs.Tests.{number_or_zero}
-use Rattle.nef_statement.specs.Reader.{Row, rows_of, Told, told, with_row, told_by, vertices_told, positive}
+use Rattle.nef_statement.specs.Reader.{Row, rows_of, word_at, number_at, Told, told, with_row, told_by, vertices_told, positive}
 use Rattle.nef_statement.proofs.Lines.{Each, Each-append, IsGood, AreGood, rows-read, signed-read, decimal-read, decimal-good, signed-good}
 
 -- ---- words
@@ -81,11 +81,16 @@ onto-all : (rows : List Row) → onto rows (told [] [] None []) ≡ told_by rows
 onto-all [] = refl
 onto-all (row ∷ rows) = ap (with_row row) (onto-all rows)
 
+-- where a row tells a vertex, its w is positive
+abbrev IsWeighed : Row → Type 0
+IsWeighed row = word_at row 0 ≡ codes "v" → pos 0 <ℤ number_at row 4
+
 -- the bytes are rows that tell so much
 record Tells (x : List ℕ) (f : Told → Told) : Type 0 where
   rows : List Row
   is : x ≡ flat_map line rows
   good : Each AreGood rows
+  weighed : Each IsWeighed rows
   tells : (t : Told) → onto rows t ≡ f t
 
 lines-append : (rows more : List Row) → flat_map line (rows ++ more) ≡ flat_map line rows ++ flat_map line more
@@ -98,14 +103,20 @@ tells-both x y f g h k =
       rows = h.rows ++ k.rows;
       is = ap (λ z. z ++ y) h.is ∙ ap (λ z. flat_map line h.rows ++ z) k.is ∙ sym (lines-append h.rows k.rows);
       good = Each-append AreGood h.rows k.rows h.good k.good;
+      weighed = Each-append IsWeighed h.rows k.rows h.weighed k.weighed;
       tells = λ t. onto-append h.rows k.rows t ∙ ap (onto h.rows) (k.tells t) ∙ h.tells (g t);
     }
 
 nothing : Tells [] (λ t. t)
-nothing = record { rows = []; is = refl; good = tt; tells = λ t. refl }
+nothing = record { rows = []; is = refl; good = tt; weighed = tt; tells = λ t. refl }
 
-one-row : (row : Row) (f : Told → Told) → AreGood row → ((t : Told) → with_row row t ≡ f t) → Tells (line row) f
-one-row row f good e = record { rows = row ∷ []; is = sym (append-nil (line row)); good = (good, tt); tells = e }
+vertex-row : (row : Row) (f : Told → Told) → AreGood row → IsWeighed row → ((t : Told) → with_row row t ≡ f t) → Tells (line row) f
+vertex-row row f good weighed e = record { rows = row ∷ []; is = sym (append-nil (line row)); good = (good, tt); weighed = (weighed, tt); tells = e }
+
+-- a row that begins otherwise
+one-row : (row : Row) → bytes_eq (word_at row 0) (codes "v") ≡ false → (f : Told → Told) → AreGood row → ((t : Told) → with_row row t ≡ f t) → Tells (line row) f
+one-row row other f good e =
+    vertex-row row f good (λ first. (let odd : true ≡ false = ap (λ w. bytes_eq w (codes "v")) (sym first) ∙ other in cc)) e
 
 -- lines that tell nothing
 silent : {X : Type 0} (spelled : X → List ℕ) → ((x : X) → Tells (spelled x) (λ t. t)) → (xs : List X) → Tells (flat_map spelled xs) (λ t. t)
@@ -165,7 +176,7 @@ svertex-good : (v : SVertex) → AreGood (svertex_words v)
 svertex-good v = ((omega arith, (omega arith, tt)), (signed-good v.dir.x, (signed-good v.dir.y, (signed-good v.dir.z, (label-good v.mark, (option-good v.around, tt))))))
 
 svertex-tells : (v : SVertex) → Tells (svertex_line v) (more_svertices (v ∷ []))
-svertex-tells v = one-row (svertex_words v) (more_svertices (v ∷ [])) (svertex-good v) (λ t.
+svertex-tells v = one-row (svertex_words v) refl (more_svertices (v ∷ [])) (svertex-good v) (λ t.
     let make = λ (d : Vector) (l : Label) (o : Option Label). told (record { dir = d; mark = l; around = o } ∷ t.svertices) t.arcs t.sloop t.vertices in
     ap (λ d. make d (read_label (label_word v.mark)) (read_option (option_word v.around))) (dir-read v.dir)
     ∙ ap (λ l. make (vector_of v.dir) l (read_option (option_word v.around))) (label-read v.mark)
@@ -188,7 +199,7 @@ arc-good a =
     ((omega arith, (omega arith, tt)), (decimal-good a.source, (decimal-good a.target, (signed-good a.normal.x, (signed-good a.normal.y, (signed-good a.normal.z, labels))))))
 
 arc-tells : (a : SArc) → Tells (arc_line a) (more_arcs (a ∷ []))
-arc-tells a = one-row (arc_words a) (more_arcs (a ∷ [])) (arc-good a) (λ t.
+arc-tells a = one-row (arc_words a) refl (more_arcs (a ∷ [])) (arc-good a) (λ t.
     let make = λ (d : Vector) (i j : ℕ) (p m n : Label). told t.svertices (record { normal = d; source = i; target = j; pos = p; mark = m; neg = n } ∷ t.arcs) t.sloop t.vertices in
     ap (λ d. make d (nat_abs (number_or_zero (decimal a.source))) (nat_abs (number_or_zero (decimal a.target))) (read_label (label_word a.pos)) (read_label (label_word a.mark)) (read_label (label_word a.neg))) (dir-read a.normal)
     ∙ ap (λ i. make (vector_of a.normal) i (nat_abs (number_or_zero (decimal a.target))) (read_label (label_word a.pos)) (read_label (label_word a.mark)) (read_label (label_word a.neg))) (decimal-read a.source a.source_small)
@@ -215,7 +226,7 @@ sloop-good l =
     ((omega arith, (omega arith, tt)), (signed-good l.normal.x, (signed-good l.normal.y, (signed-good l.normal.z, labels))))
 
 sloop-tells : (l : SLoop) → Tells (sloop_line l) (with_sloop (Some l))
-sloop-tells l = one-row (sloop_words l) (with_sloop (Some l)) (sloop-good l) (λ t.
+sloop-tells l = one-row (sloop_words l) refl (with_sloop (Some l)) (sloop-good l) (λ t.
     let make = λ (d : Vector) (p m n : Label). told t.svertices t.arcs (Some (record { normal = d; pos = p; mark = m; neg = n })) t.vertices in
     ap (λ d. make d (read_label (label_word l.pos)) (read_label (label_word l.mark)) (read_label (label_word l.neg))) (dir-read l.normal)
     ∙ ap (λ k. make (vector_of l.normal) k (read_label (label_word l.mark)) (read_label (label_word l.neg))) (label-read l.pos)
@@ -239,7 +250,7 @@ vertex-good v =
     ((omega arith, (omega arith, tt)), (signed-good p.x, (signed-good p.y, (signed-good p.z, (signed-good p.w, (label-good v.map.mark, (option-good v.map.ground, tt)))))))
 
 line-tells : (v : Vertex) → Tells (vertex_line v) (with_vertex v)
-line-tells v = one-row (vertex_words v) (with_vertex v) (vertex-good v) (λ t.
+line-tells v = vertex-row (vertex_words v) (with_vertex v) (vertex-good v) (λ first. subst (λ z. pos 0 <ℤ z) (sym (weight-read v.point.w v.point.w_small)) v.point.proper) (λ t.
     let make = λ (p : Place) (m : Label) (o : Option Label). told [] [] None (record { point = p; map = record { mark = m; svertices = t.svertices; arcs = t.arcs; sloop = t.sloop; ground = o } } ∷ t.vertices) in
     ap (λ p. make p (read_label (label_word v.map.mark)) (read_option (option_word v.map.ground))) (point-place v.point (positive _))
     ∙ ap (λ m. make (place_of v.point) m (read_option (option_word v.map.ground))) (label-read v.map.mark)
@@ -291,11 +302,11 @@ vertices-tell (v ∷ vs) = tells-both (vertex_text v) (flat_map vertex_text vs) 
 
 -- ---- rows that tell nothing
 face-tells : (ns : List ℕ) → Tells (sface_line ns) (λ t. t)
-face-tells ns = one-row (codes "g" ∷ [] ++ numbers ns) (λ t. t) ((omega arith, (omega arith, tt)), numbers-good ns) (λ t. refl)
+face-tells ns = one-row (codes "g" ∷ [] ++ numbers ns) refl (λ t. t) ((omega arith, (omega arith, tt)), numbers-good ns) (λ t. refl)
 
 edge-tells : (e : Edge) → Tells (edge_line e) (λ t. t)
 edge-tells e =
-    one-row (codes "e" ∷ [] ++ numbers (e.low ∷ e.low_svertex ∷ e.high ∷ e.high_svertex ∷ []) ++ label_word e.mark ∷ []) (λ t. t)
+    one-row (codes "e" ∷ [] ++ numbers (e.low ∷ e.low_svertex ∷ e.high ∷ e.high_svertex ∷ []) ++ label_word e.mark ∷ []) refl (λ t. t)
     ((omega arith, (omega arith, tt)), (decimal-good e.low, (decimal-good e.low_svertex, (decimal-good e.high, (decimal-good e.high_svertex, (label-good e.mark, tt)))))) (λ t. refl)
 
 corners-good : (ks : List Corner) → AreGood (flat_map corner_words ks)
@@ -303,26 +314,26 @@ corners-good [] = tt
 corners-good (k ∷ ks) = Each-append IsGood (corner_words k) (flat_map corner_words ks) (numbers-good (k.vertex ∷ k.item ∷ [])) (corners-good ks)
 
 cycle-tells : (o : Cycle) → Tells (cycle_line o) (λ t. t)
-cycle-tells o = one-row (codes "c" ∷ [] ++ flat_map corner_words o.corners) (λ t. t) ((omega arith, (omega arith, tt)), corners-good o.corners) (λ t. refl)
+cycle-tells o = one-row (codes "c" ∷ [] ++ flat_map corner_words o.corners) refl (λ t. t) ((omega arith, (omega arith, tt)), corners-good o.corners) (λ t. refl)
 
 facet-tells : (f : Facet) → Tells (facet_text f) (λ t. t)
 facet-tells f =
     let h = f.plane in
     let last : AreGood (label_word f.mark ∷ decimal f.pos ∷ decimal f.neg ∷ []) = (label-good f.mark, (decimal-good f.pos, (decimal-good f.neg, tt))) in
     tells-both (facet_line f) (flat_map cycle_line f.cycles) (λ t. t) (λ t. t)
-    (one-row (codes "f" ∷ [] ++ signed (h.a ∷ h.b ∷ h.c ∷ h.d ∷ []) ++ label_word f.mark ∷ [] ++ numbers (f.pos ∷ f.neg ∷ [])) (λ t. t)
+    (one-row (codes "f" ∷ [] ++ signed (h.a ∷ h.b ∷ h.c ∷ h.d ∷ []) ++ label_word f.mark ∷ [] ++ numbers (f.pos ∷ f.neg ∷ [])) refl (λ t. t)
     ((omega arith, (omega arith, tt)), (signed-good h.a, (signed-good h.b, (signed-good h.c, (signed-good h.d, last))))) (λ t. refl))
     (silent cycle_line cycle-tells f.cycles)
 
 volume-tells : (l : Label) → Tells (volume_line l) (λ t. t)
-volume-tells l = one-row (codes "w" ∷ label_word l ∷ []) (λ t. t) ((omega arith, (omega arith, tt)), (label-good l, tt)) (λ t. refl)
+volume-tells l = one-row (codes "w" ∷ label_word l ∷ []) refl (λ t. t) ((omega arith, (omega arith, tt)), (label-good l, tt)) (λ t. refl)
 
 sides-good : (ss : List Side) → AreGood (flat_map side_words ss)
 sides-good [] = tt
 sides-good (s ∷ ss) = Each-append IsGood (side_words s) (flat_map side_words ss) (numbers-good (s.vertex ∷ s.side ∷ [])) (sides-good ss)
 
 shell-tells : (h : Shell) → Tells (shell_line h) (λ t. t)
-shell-tells h = one-row (codes "h" ∷ [] ++ flat_map side_words h.sides) (λ t. t) ((omega arith, (omega arith, tt)), sides-good h.sides) (λ t. refl)
+shell-tells h = one-row (codes "h" ∷ [] ++ flat_map side_words h.sides) refl (λ t. t) ((omega arith, (omega arith, tt)), sides-good h.sides) (λ t. refl)
 
 shelled-tells : (w : Label × List Shell) → Tells (shelled_text w) (λ t. t)
 shelled-tells w = tells-both (volume_line w.0) (flat_map shell_line w.1) (λ t. t) (λ t. t) (volume-tells w.0) (silent shell_line shell-tells w.1)
@@ -333,7 +344,7 @@ version-good Two = (omega arith, (omega arith, tt))
 
 first-tells : (version : TextVersion) (c : Complex) (p : Parts) → Tells (first_line version c p) (λ t. t)
 first-tells version c p =
-    one-row (codes "nef3" ∷ version_word version ∷ [] ++ numbers (counts c p)) (λ t. t)
+    one-row (codes "nef3" ∷ version_word version ∷ [] ++ numbers (counts c p)) refl (λ t. t)
     ((omega arith, (omega arith, (omega arith, (omega arith, (omega arith, tt))))), (version-good version, numbers-good (counts c p))) (λ t. refl)
 
 -- ---- the whole text
@@ -369,3 +380,17 @@ vertices-told version c p =
     let h = text-tells version c p in
     ap (λ (t : Told). t.vertices)
     (ap (λ x. told_by (rows_of x)) h.is ∙ ap told_by (rows-read h.rows h.good) ∙ sym (onto-all h.rows) ∙ h.tells (only []) ∙ all-added c.vertices)
+
+-- and each row that tells a vertex has a positive w
+abbrev pub HasWeights : List Row → Type 0
+HasWeights rows = (n : ℕ) (row : Row) → slice_get rows n ≡ Some row → word_at row 0 ≡ codes "v" → pos 0 <ℤ number_at row 4
+
+each-weighed : (rows : List Row) → Each IsWeighed rows → HasWeights rows
+each-weighed [] h n row at first = let f : None ≡ Some row = at in cc
+each-weighed (r ∷ rows) h zero row at first = let f : r ≡ row = (let e : Some r ≡ Some row = at in cc) in subst IsWeighed f h.0 first
+each-weighed (r ∷ rows) h (suc n) row at first = each-weighed rows h.1 n row at first
+
+pub weights-told : (version : TextVersion) (c : Complex) (p : Parts) → HasWeights (rows_of (text version c p))
+weights-told version c p =
+    let h = text-tells version c p in
+    subst HasWeights (sym (ap rows_of h.is ∙ rows-read h.rows h.good)) (each-weighed h.rows h.weighed)

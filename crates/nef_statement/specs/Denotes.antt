@@ -1,11 +1,11 @@
 -- The sets that the names of a script stand for.
-use Rattle.std.specs.Prelude.{ℕ, List, [], ◌∷◌, ◌++◌, Option, Some, None, codes, nat_abs, if◌then◌else◌}
+use Rattle.std.specs.Prelude.{ℕ, List, [], ◌∷◌, ◌++◌, Option, Some, None, option_map, codes, nat_abs, if◌then◌else◌}
 use Rattle.std.specs.Str.{bytes_eq}
 use Rattle.nef_space.specs.Place.{form}
 use Rattle.nef_space.specs.Sets.{Set}
 use Rattle.law_turns.specs.Turned.{turned_set}
 use Rattle.nef_lex.specs.Words.{words_of}
-use Rattle.nef_script.specs.Table.{verb_of, binds}
+use Rattle.nef_script.specs.Table.{verb_of}
 use Rattle.nef_script.specs.Tests.{number_or_zero}
 use Rattle.nef_script.specs.declared.table.Verb.{Verb}
 use Rattle.nef_script.specs.declared.table.Verb.TheVariants as verb
@@ -14,37 +14,42 @@ use Rattle.nef_script.specs.declared.table.Verb.TheVariants as verb
 abbrev pub Bindings : Type 0
 Bindings = List (List ℕ × Set)
 
--- the set of a name. An accepted script asks for none that isn't bound
-abbrev pub set_named : Bindings → List ℕ → Set
-set_named [] name = Set.empty
-set_named (b ∷ bs) name = if bytes_eq name b.0 then b.1 else set_named bs name
+-- the set of a name, if it is bound
+abbrev pub set_named : Bindings → List ℕ → Option Set
+set_named [] name = None
+set_named (b ∷ bs) name = if bytes_eq name b.0 then Some b.1 else set_named bs name
 
--- the set to which a command binds its name, by the words after it
-abbrev pub bound_set : Bindings → Verb → List (List ℕ) → Set
-bound_set sets verb.Half (name ∷ a ∷ b ∷ c ∷ d ∷ mode ∷ []) = Set.half (form (number_or_zero a) (number_or_zero b) (number_or_zero c) (number_or_zero d)) (bytes_eq mode (codes "closed"))
-bound_set sets verb.Full args = Set.full
-bound_set sets verb.And (name ∷ left ∷ right ∷ []) = Set.both (set_named sets left) (set_named sets right)
-bound_set sets verb.Or (name ∷ left ∷ right ∷ []) = Set.either (set_named sets left) (set_named sets right)
-bound_set sets verb.Diff (name ∷ left ∷ right ∷ []) = Set.less (set_named sets left) (set_named sets right)
-bound_set sets verb.Xor (name ∷ left ∷ right ∷ []) = Set.one_of (set_named sets left) (set_named sets right)
-bound_set sets verb.Not (name ∷ operand ∷ []) = Set.other (set_named sets operand)
-bound_set sets verb.Int (name ∷ operand ∷ []) = Set.inside (set_named sets operand)
-bound_set sets verb.Cl (name ∷ operand ∷ []) = Set.closed (set_named sets operand)
-bound_set sets verb.Bd (name ∷ operand ∷ []) = Set.border (set_named sets operand)
-bound_set sets verb.Reg (name ∷ operand ∷ []) = Set.regular (set_named sets operand)
-bound_set sets verb.Turn (name ∷ operand ∷ number ∷ []) = turned_set (nat_abs (number_or_zero number)) (set_named sets operand)
-bound_set sets v args = Set.empty
+-- the set that is made of the sets of two names
+abbrev pub made_of : (Set → Set → Set) → Option Set → Option Set → Option Set
+made_of make (Some s) (Some t) = Some (make s t)
+made_of make s t = None
 
--- the bindings after a line, by its command and the words after it
-abbrev pub bound_by : Bindings → Option Verb → List (List ℕ) → Bindings
-bound_by sets None args = sets
-bound_by sets (Some v) [] = sets
-bound_by sets (Some v) (name ∷ args) = if binds v then sets ++ (name, bound_set sets v (name ∷ args)) ∷ [] else sets
+-- the set to which a command binds its name, by the words after it: none where their number isn't right, or an operand isn't bound
+abbrev pub bound_set : Bindings → Option Verb → List (List ℕ) → Option Set
+bound_set sets (Some verb.Half) (name ∷ a ∷ b ∷ c ∷ d ∷ mode ∷ []) = Some (Set.half (form (number_or_zero a) (number_or_zero b) (number_or_zero c) (number_or_zero d)) (bytes_eq mode (codes "closed")))
+bound_set sets (Some verb.Empty) (name ∷ []) = Some Set.empty
+bound_set sets (Some verb.Full) (name ∷ []) = Some Set.full
+bound_set sets (Some verb.And) (name ∷ left ∷ right ∷ []) = made_of Set.both (set_named sets left) (set_named sets right)
+bound_set sets (Some verb.Or) (name ∷ left ∷ right ∷ []) = made_of Set.either (set_named sets left) (set_named sets right)
+bound_set sets (Some verb.Diff) (name ∷ left ∷ right ∷ []) = made_of Set.less (set_named sets left) (set_named sets right)
+bound_set sets (Some verb.Xor) (name ∷ left ∷ right ∷ []) = made_of Set.one_of (set_named sets left) (set_named sets right)
+bound_set sets (Some verb.Not) (name ∷ operand ∷ []) = option_map Set.other (set_named sets operand)
+bound_set sets (Some verb.Int) (name ∷ operand ∷ []) = option_map Set.inside (set_named sets operand)
+bound_set sets (Some verb.Cl) (name ∷ operand ∷ []) = option_map Set.closed (set_named sets operand)
+bound_set sets (Some verb.Bd) (name ∷ operand ∷ []) = option_map Set.border (set_named sets operand)
+bound_set sets (Some verb.Reg) (name ∷ operand ∷ []) = option_map Set.regular (set_named sets operand)
+bound_set sets (Some verb.Turn) (name ∷ operand ∷ number ∷ []) = option_map (turned_set (nat_abs (number_or_zero number))) (set_named sets operand)
+bound_set sets command args = None
 
--- and by all its words
+-- the bindings with one more, if there is a set for it
+abbrev pub and_bound : Bindings → List ℕ → Option Set → Bindings
+and_bound sets name None = sets
+and_bound sets name (Some s) = sets ++ (name, s) ∷ []
+
+-- the bindings after a line, by its words
 abbrev pub bound_after : Bindings → List (List ℕ) → Bindings
-bound_after sets [] = sets
-bound_after sets (word ∷ args) = bound_by sets (verb_of word) args
+bound_after sets (word ∷ name ∷ args) = and_bound sets name (bound_set sets (verb_of word) (name ∷ args))
+bound_after sets words = sets
 
 -- and by all lines of a script
 abbrev pub denoted : Bindings → List (List ℕ) → Bindings

@@ -1,5 +1,5 @@
 -- What a reader makes of a text: its rows of words, the vertices that they tell, and the points that belong to them.
-use Rattle.std.specs.Prelude.{◌≡◌, ℕ, suc, ◌+◌, ◌-◌, ◌<◌, ℤ, nat_abs, List, [], ◌∷◌, ◌++◌, Option, Some, None, codes, get_or, map, if◌then◌else◌, ◌↔◌}
+use Rattle.std.specs.Prelude.{◌≡◌, ℕ, suc, ◌+◌, ◌-◌, ◌<◌, ℤ, pos, ◌<ℤ◌, nat_abs, List, [], ◌∷◌, ◌++◌, Option, Some, None, codes, get_or, slice_get, map, if◌then◌else◌, ◌↔◌}
 use Rattle.std.specs.Str.{bytes_eq}
 use Rattle.std.proofs.Common.{arith}
 use Rattle.nef_space.specs.Place.{Place, InFrame}
@@ -15,7 +15,7 @@ use Rattle.nef_lex.specs.Words.{words_of}
 use Rattle.nef_core.specs.declared.how.TextVersion.{TextVersion}
 use Rattle.nef_parts.specs.Text.{version_word}
 use Rattle.nef_script.specs.Tests.{number_or_zero}
-use Rattle.nef_shell.specs.Written.{CountTells}
+use Rattle.nef_statement.specs.Written.{CountTells}
 
 abbrev pub Row : Type 0
 Row = List (List ℕ)
@@ -40,7 +40,7 @@ label_at row n = if bytes_eq (word_at row n) (codes "i") then In else (if bytes_
 abbrev pub option_at : Row → ℕ → Option Label
 option_at row n = if bytes_eq (word_at row n) (codes "-") then None else Some (label_at row n)
 
--- three and four words as a direction and as a point (x/w, y/w, z/w); a w of 0, which no text has, counts as 1
+-- three and four words as a direction and as a point (x/w, y/w, z/w), whose w is positive in each text (`weights` below)
 abbrev pub vector_at : Row → ℕ → Vector
 vector_at row n = vector (number_at row n) (number_at row (n + 1)) (number_at row (n + 2))
 
@@ -92,9 +92,10 @@ vertices_told x = (told_by (rows_of x)).vertices
 abbrev pub with_edges : List Vertex → List Edge → Complex
 with_edges vertices edges = record { carriers = []; vertices = vertices; edges = edges }
 
--- the text begins with its format, its version and the numbers that are counted of the set. The vertices that it tells have edges, and with these a point of the frame
--- belongs to them exactly where the set holds
+-- the text begins with its format, its version and the numbers that are counted of the set; its vertices have positive w. They have edges, and with these a point of the
+-- frame belongs to them exactly where the set holds
 pub record TextSays (version : TextVersion) (s : Set) (x : List ℕ) : Type 0 where
   pub first : (counted : List ℕ) × (rest : List ℕ) × CountTells s counted × (x ≡ codes "nef3 " ++ version_word version ++ codes " " ++ counted ++ rest)
+  pub weights : (n : ℕ) (row : Row) → slice_get (rows_of x) n ≡ Some row → word_at row 0 ≡ codes "v" → pos 0 <ℤ number_at row 4
   pub edges : (es : List Edge) × Edges (vertices_told x) es
   pub holds : (es : List Edge) (p : Place) → Edges (vertices_told x) es → InFrame p → Belongs (with_edges (vertices_told x) es) p ↔ Holds s p

@@ -11,9 +11,9 @@ use Rattle.nef_script.specs.Table.{verb_of}
 use Rattle.nef_script.specs.Tests.{number_or_zero}
 use Rattle.nef_script.specs.declared.table.Verb.{Verb}
 use Rattle.nef_script.specs.declared.table.Verb.TheVariants as verb
-use Rattle.nef_shell.specs.Output.{answer_of, framed, IsSameAnswer, IsJoinedAnswer, IsRayAnswer}
-use Rattle.nef_shell.specs.Written.{CountTells}
-use Rattle.nef_statement.specs.Denotes.{Bindings, set_named, bound_after}
+use Rattle.nef_statement.specs.Output.{answer_of, framed, IsSameAnswer, IsJoinedAnswer, IsRayAnswer}
+use Rattle.nef_statement.specs.Written.{CountTells}
+use Rattle.nef_statement.specs.Denotes.{Bindings, set_named, bound_set, bound_after}
 
 -- P is so of the point (x/w, y/w, z/w), whose w is positive
 abbrev pub AtPoint : List ℕ → List ℕ → List ℕ → List ℕ → (Place → Type 0) → Type 0
@@ -23,17 +23,22 @@ AtPoint x y z w P = (proper : pos 0 <ℤ number_or_zero w) × P (place_at (numbe
 abbrev pub IsLabelAnswer : Set → Place → List ℕ → Type 0
 IsLabelAnswer s p said = (l : Label) × HasLabel s p l × (said ≡ answer_of l)
 
--- what a command says, by the words after it: the answer to what it asks, and nothing where it binds a name
-abbrev pub IsSaid : (Set → List ℕ → Type 0) → Bindings → Option Verb → List (List ℕ) → List ℕ → Type 0
-IsSaid Text sets (Some verb.Has) (name ∷ x ∷ y ∷ z ∷ w ∷ []) said = AtPoint x y z w (λ p. IsLabelAnswer (set_named sets name) p said)
-IsSaid Text sets (Some verb.Joined) (name ∷ x ∷ y ∷ z ∷ w ∷ x2 ∷ y2 ∷ z2 ∷ w2 ∷ []) said = AtPoint x y z w (λ p. AtPoint x2 y2 z2 w2 (λ q. IsJoinedAnswer (set_named sets name) p q said))
-IsSaid Text sets (Some verb.Ray) (name ∷ x ∷ y ∷ z ∷ w ∷ dx ∷ dy ∷ dz ∷ []) said = AtPoint x y z w (λ p. IsRayAnswer (set_named sets name) p (vector (number_or_zero dx) (number_or_zero dy) (number_or_zero dz)) said)
-IsSaid Text sets (Some verb.Same) (left ∷ right ∷ []) said = IsSameAnswer (set_named sets left) (set_named sets right) said
-IsSaid Text sets (Some verb.Count) (name ∷ []) said = CountTells (set_named sets name) said
-IsSaid Text sets (Some verb.Print) (name ∷ []) said = (x : List ℕ) × Text (set_named sets name) x × (said ≡ framed name x)
-IsSaid Text sets command args said = said ≡ []
+-- P is so of the set of the name, which is bound
+abbrev pub OfName : Bindings → List ℕ → (Set → Type 0) → Type 0
+OfName sets name P = (s : Set) × (set_named sets name ≡ Some s) × P s
 
--- what a line says, by its words
+-- what a command says, by the words after it: the answer to what it asks, and nothing where it binds a name to a set. It says so of the right number of words alone,
+-- whose operands are bound and whose points have a positive w
+abbrev pub IsSaid : (Set → List ℕ → Type 0) → Bindings → Option Verb → List (List ℕ) → List ℕ → Type 0
+IsSaid Text sets (Some verb.Has) (name ∷ x ∷ y ∷ z ∷ w ∷ []) said = OfName sets name (λ s. AtPoint x y z w (λ p. IsLabelAnswer s p said))
+IsSaid Text sets (Some verb.Joined) (name ∷ x ∷ y ∷ z ∷ w ∷ x2 ∷ y2 ∷ z2 ∷ w2 ∷ []) said = OfName sets name (λ s. AtPoint x y z w (λ p. AtPoint x2 y2 z2 w2 (λ q. IsJoinedAnswer s p q said)))
+IsSaid Text sets (Some verb.Ray) (name ∷ x ∷ y ∷ z ∷ w ∷ dx ∷ dy ∷ dz ∷ []) said = OfName sets name (λ s. AtPoint x y z w (λ p. IsRayAnswer s p (vector (number_or_zero dx) (number_or_zero dy) (number_or_zero dz)) said))
+IsSaid Text sets (Some verb.Same) (left ∷ right ∷ []) said = OfName sets left (λ s. OfName sets right (λ t. IsSameAnswer s t said))
+IsSaid Text sets (Some verb.Count) (name ∷ []) said = OfName sets name (λ s. CountTells s said)
+IsSaid Text sets (Some verb.Print) (name ∷ []) said = OfName sets name (λ s. (x : List ℕ) × Text s x × (said ≡ framed name x))
+IsSaid Text sets command args said = (s : Set) × (bound_set sets command args ≡ Some s) × (said ≡ [])
+
+-- what a line says, by its words: a line without words says nothing
 abbrev pub IsSaidBy : (Set → List ℕ → Type 0) → Bindings → List (List ℕ) → List ℕ → Type 0
 IsSaidBy Text sets [] said = said ≡ []
 IsSaidBy Text sets (word ∷ args) said = IsSaid Text sets (verb_of word) args said

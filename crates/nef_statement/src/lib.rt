@@ -2,8 +2,8 @@
 //! output. `Statement` in specs/ is to be read first, then `Said`, `Denotes` and `Reader`.
 #![tactic(auto)]
 
-mod calls;
 mod laws;
+mod status;
 
-pub use calls::{program_over, run};
 pub use laws::{statement_examples, statement_laws};
+pub use status::Status;

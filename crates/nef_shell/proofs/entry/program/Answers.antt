@@ -1,8 +1,8 @@
 use Rattle.std.proofs.Common.{◌≡◌, ◌∙◌, refl, ap, map, string_bytes, Err}
 use Rattle.std.specs.Process.{exit_status}
-use Rattle.nef_shell.specs.Status.{status_code}
-use Rattle.nef_shell.specs.Program.{ProgramEnds}
-use Rattle.nef_shell.proofs.GivenWords.{words-given, no-text, ends-with}
+use Rattle.nef_statement.specs.Status.{status_code}
+use Rattle.nef_shell.proofs.GivenWords.{words-given, no-text, ended-run, ended-refused, ended-wanting}
+use Rattle.nef_shell.proofs.Statuses.{line-refuses}
 use Rattle.nef_shell.proofs.entry.program.Goals as goal
 use Rattle.nef_shell.proofs.entry.program.Goals.{in-Ok-line_words, in-Err-Refused, in-Err-OutOfMemory}
 
@@ -13,12 +13,11 @@ returns g c =
       ends = elim c.match-line_words.branch [
         | in-Ok-line_words w ↦
             let given = words-given c.args.line c.in-Ok.line w.in-Ok-line_words.words.now c.in-Ok.ensures.words w.in-Ok-line_words.ensures.words in
-            let ran = ends-with _ _ _ _ (ap (λ z. map string_bytes z) given.2) w.run-status.ensures.ends in
-            rw (w.source-is, w.sink-is) (ProgramEnds.ran given.0 w.run-status.result given.1 ran (code ∙ ap status_code w.status-is))
+            rw (w.source-is, w.sink-is) (ended-run _ _ _ given.0 _ w.run-status.result given.1 (ap (λ z. map string_bytes z) given.2) w.run-status.ensures.says w.run-status.ensures.ends (code ∙ ap status_code w.status-is))
         | in-Err-Refused w ↦
             let none = no-text c.args.line c.in-Ok.line c.in-Ok.ensures.words (c.line_words.ensures.refused.0 (w.in-Err-Refused.is ∙ ap Err w.in-Err-Refused.field-0-is)) in
-            rw (w.source-is, w.sink-is) (ProgramEnds.no_text none.0 w.refuse_words-status.result none.1 none.2 (record { rest = refl; faults = refl }) w.refuse_words-status.ensures.status (code ∙ ap status_code w.status-is))
+            rw (w.source-is, w.sink-is) (ended-refused _ _ _ none.0 w.refuse_words-status.result none.1 none.2 (record { rest = refl; faults = refl }) (line-refuses _ _ w.refuse_words-status.ensures.status) (code ∙ ap status_code w.status-is))
         | in-Err-OutOfMemory w ↦
-            rw (w.source-is, w.sink-is) (ProgramEnds.no_memory (record { rest = refl; faults = refl }) refl (code ∙ ap status_code w.status-is))
+            rw (w.source-is, w.sink-is) (ended-wanting _ _ _ (record { rest = refl; faults = refl }) refl (code ∙ ap status_code w.status-is))
       ];
     }
