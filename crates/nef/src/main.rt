@@ -1,11 +1,22 @@
 //! The program `nef`: works a script, from standard input where no option says otherwise, and writes
 //! what its commands answer to standard output. The words after the program's name are options.
+//!
+//! Its stored run is one that is refused, over a script whose third line has a coefficient out of range,
+//! so that a program that always exits 0 fails it.
 #![tactic(auto)]
 
-use nef_shell::program_over;
+use nef_io::{FromReader, IntoWriter, OpenGate};
+use nef_shell::program;
 use std::env;
 use std::process::ExitCode;
 
 fn main(rt: HostRuntime) -> ExitCode {
-    program_over(&rt, rt.alloc(), env::args(&rt), rt.stdin(), rt.stdout())
+    program(
+        &rt,
+        rt.alloc(),
+        env::args(&rt),
+        &mut FromReader::new(rt.stdin()),
+        &mut IntoWriter::new(rt.stdout()),
+        &OpenGate,
+    )
 }

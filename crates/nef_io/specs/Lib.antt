@@ -1,3 +1,4 @@
 pub mod Bytes
 pub mod Kept
 pub mod Memory
+pub mod Telling

@@ -1,9 +1,12 @@
-//! Std's readers and writers as a source and a sink. What standard input gave and what standard
-//! output took is told by nobody, so these few lines are trusted for it.
-ghost use Rattle.std.specs.Prelude.{◌≡◌, ◌<◌, ◌≤◌, IfOk, OnOk, OnErr, length, take};
+//! Std's readers and writers as a source and a sink. What standard input gave is told by nobody, and
+//! what standard output took by its own answers alone, so these few lines are trusted for it.
+ghost use Rattle.std.specs.Prelude.{◌≡◌, ◌<◌, ◌≤◌, ◌++◌, Some, IfOk, OnOk, OnErr, length, take};
 ghost use Rattle.std.specs.Io.KnownBytes.{Appends, Keeps};
+ghost use Rattle.std.proofs.Props.{props};
 ghost use Rattle.nef_io.specs.Bytes.{Rose};
+ghost use Rattle.nef_io.specs.Telling.{AlwaysTells, told_bytes};
 
+use crate::taken::Taken;
 use crate::traits::{Failed, Sink, Source};
 use std::io::{Read, Write};
 
@@ -40,35 +43,52 @@ impl<R: Read> Source for FromReader<R> {
     }
 }
 
-/// A writer as a sink. It counts each error, and each write that took nothing of a piece that isn't
-/// empty. It doesn't tell what was written.
+/// A writer as a sink. It tells the bytes that the writer held and told when the sink was made, and
+/// behind them those that the writer has answered to have taken since. So of a writer that always tells
+/// what it holds it tells that. It counts each error, and each write that took nothing of a piece that
+/// isn't empty.
 #[derive(Drop)]
-pub struct IntoWriter<W> {
+pub struct IntoWriter<W: Write> {
     writer: W,
+    taken: Taken,
     faults: u64,
+    ghost held: { AlwaysTells W.contents → W.contents writer ≡ Some taken.bytes } by { Prim.hlevel props },
 }
 
 impl<W: Write> IntoWriter<W> {
     /// A sink over `writer`, with no fault so far.
     pub fn new(writer: W) -> IntoWriter<W>
+        ensures written { ⟦<IntoWriter<W> as Sink>⟧.written result ≡ Some (told_bytes (W.contents writer)) }
         ensures faults { ⟦<IntoWriter<W> as Sink>⟧.faults result ≡ 0 }
     {
-        IntoWriter { writer, faults: 0 }
+        let taken = Taken::new(&writer);
+        IntoWriter {
+            writer,
+            taken,
+            faults: 0,
+        }
+    }
+
+    /// The writer. If it is of a kind that always tells what it holds, it holds what the sink tells.
+    pub fn into_inner(self) -> W
+        ensures held { AlwaysTells W.contents → W.contents result ≡ ⟦<IntoWriter<W> as Sink>⟧.written self }
+    {
+        self.writer
     }
 }
 
 impl<W: Write> Sink for IntoWriter<W> {
-    ghost use Rattle.std.specs.Prelude.{None};
+    ghost use Rattle.std.specs.Prelude.{Some};
 
-    // Where std's writer tells before a write it tells after it, and a sink that tells after a call
-    // told before it. So a writer that began to tell would be no sink.
-    ghost written = { λ s. None };
+    ghost written = { λ s. Some s.taken.bytes };
 
     ghost faults = { λ s. s.faults };
 
     /// Where the writer tells what it holds, that grows by what was taken.
     fn write(&mut self, piece: &[u8]) -> Result<usize, Failed>
         ensures within { IfOk result (λ n. (0 < n) × (n ≤ length piece.now)) }
+        ensures taken { IfOk result (λ n. self.new.taken.bytes ≡ self.old.taken.bytes ++ take n piece.now) }
+        ensures untaken { OnErr result (self.new.taken.bytes ≡ self.old.taken.bytes) }
         ensures holds { IfOk result (λ n. Appends (W.contents self.old.writer) (W.contents self.new.writer) (take n piece.now)) }
         ensures keeps { OnErr result (Keeps (W.contents self.old.writer) (W.contents self.new.writer)) }
         ensures failed { OnErr result (Rose self.old.faults self.new.faults) }
@@ -76,7 +96,10 @@ impl<W: Write> Sink for IntoWriter<W> {
         ensures count { self.old.faults ≤ self.new.faults }
     {
         match self.writer.write(piece) {
-            Ok(taken) if taken > 0 => Ok(taken),
+            Ok(count) if count > 0 => {
+                self.taken.note(&piece[..count]);
+                Ok(count)
+            }
             _ => {
                 self.faults = self.faults.saturating_add(1);
                 Err(Failed)

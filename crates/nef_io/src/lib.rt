@@ -9,6 +9,7 @@ mod gate;
 mod memory;
 mod reading;
 mod sure;
+mod taken;
 mod traits;
 mod writing;
 

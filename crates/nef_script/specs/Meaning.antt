@@ -19,7 +19,8 @@ use Rattle.nef_lex.specs.Lines.{lines_of}
 use Rattle.nef_lex.specs.Words.{words_of}
 use Rattle.nef_script.specs.Limits.{IsRayWithin}
 use Rattle.nef_script.specs.Table.{verb_of, binds, is_own}
-use Rattle.nef_script.specs.Tests.{number_or_zero, on_command}
+use Rattle.nef_script.specs.Tests.{number_or_zero}
+use Rattle.nef_script.specs.Checks.{on_command}
 use Rattle.nef_script.specs.Refusal.{names_of}
 use Rattle.nef_script.specs.declared.table.Verb.{Verb}
 use Rattle.nef_script.specs.declared.table.Verb.TheVariants as verb

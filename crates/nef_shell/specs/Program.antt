@@ -19,7 +19,6 @@ IsCollected (Err error) (Err same) = same ≡ error
 IsCollected (Ok words) (Err same) = ⊥
 IsCollected (Err error) (Ok all) = ⊥
 
--- how the program ends, by its exit status: as the statement says; and at exit status 0 as a run that is done, with the words behind the program's name
-pub record ProgramEnds {Y Z : Type 0} (line : Result (IntoIter (String Y) Z) Error) (code : ℕ) (io : Traffic) : Type 0 where
-  pub says : ProgramSays IsText line code io
-  pub ends : (words : IntoIter (String Y) Z) → line ≡ Ok words → code ≡ status_code Done → RunEnds (map string_bytes (drop 1 (into_iter_items words))) Done io
+-- how the program ends at exit status 0: as a run that is done, with the words behind the program's name
+abbrev pub ProgramEnds : {Y Z : Type 0} → Result (IntoIter (String Y) Z) Error → ℕ → Traffic → Type 0
+ProgramEnds {Y} {Z} line code io = (words : IntoIter (String Y) Z) → line ≡ Ok words → code ≡ status_code Done → RunEnds (map string_bytes (drop 1 (into_iter_items words))) Done io

@@ -27,7 +27,7 @@ mod uses;
 mod work;
 
 pub use comparison::same_text;
-pub use entry::{program, program_over};
+pub use entry::program;
 pub use laws::written_laws;
 pub use status::{Status, code};
 pub use top::run;

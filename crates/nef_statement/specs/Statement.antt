@@ -82,8 +82,8 @@ pub record Statement (Text : TextVersion → Set → List ℕ → Type 0) : Type
   pub same_status : (words words' : List (List ℕ)) (status status' : Status) (io io' : Traffic) → RunSays Text words status io → RunSays Text words' status' io' → AskTheSame words words' io io' → EndsByItself status → EndsByItself status' → status ≡ status'
 
 -- how the program ends, by its exit status: as a run with the words behind the program's name; or with refused words, where one of them isn't text; or for want of
--- memory for the words, so that nothing was read and nothing written
+-- memory for the words, which isn't said of a line with a word that isn't text, so that nothing was read and nothing written
 pub data ProgramSays {Y Z : Type 0} (Text : TextVersion → Set → List ℕ → Type 0) (line : Result (IntoIter (String Y) Z) Error) (code : ℕ) (io : Traffic) : Type 0 where
   ran : (words : IntoIter (String Y) Z) (status : Status) → line ≡ Ok words → RunSays Text (map string_bytes (drop 1 (into_iter_items words))) status io → code ≡ status_code status → ProgramSays Text line code io
   no_text : (error : Error) (status : Status) → line ≡ Err error → error_kind error ≡ InvalidData → IsUnread io → RefusesWords status io → code ≡ status_code status → ProgramSays Text line code io
-  no_memory : IsUnread io → io.after.written ≡ io.before.written → code ≡ status_code OutOfMemory → ProgramSays Text line code io
+  no_memory : ((error : Error) → line ≡ Err error → error_kind error ≡ InvalidData → ⊥) → IsUnread io → io.after.written ≡ io.before.written → code ≡ status_code OutOfMemory → ProgramSays Text line code io

@@ -76,12 +76,10 @@ fn from_reader(rt: HostRuntime) {
 }
 
 fn written(alloc: Global) -> Result<Vec<u8>, Failed> {
-    let mut bytes = Vec::new(alloc);
-    let mut sink = IntoWriter::new(&mut bytes);
+    let mut sink = IntoWriter::new(Vec::new(alloc));
     put_all(&mut sink, b"in\n")?;
     put_all(&mut sink, b"not\n")?;
-    drop(sink);
-    Ok(bytes)
+    Ok(sink.into_inner())
 }
 
 #[test]

@@ -71,7 +71,9 @@ x|
 --workers|2|x|
 --ahead=true|
 --ahead|true|
---ahead|--ahead|";
+--ahead|--ahead|
+a|b|c|d|e|f|g|h|i|j|k|l|m|n|o|p|q|
+--workers|2|--board|lock|--stairs|2|--text|1|--ahead|a|b|c|d|e|f|g|h|";
 
 fn owned_words(alloc: Global, words: &str) -> Result<Vec<String>, AllocError> {
     let mut owned = Vec::new(alloc);
@@ -121,6 +123,31 @@ fn check_refused(rt: &impl Abort, alloc: Global, table: &str) -> Result<(), Fail
 fn refused_words(rt: HostRuntime) -> Result<(), Fail> {
     check_refused(&rt, rt.alloc(), REFUSED_NUMBERS)?;
     check_refused(&rt, rt.alloc(), REFUSED_WORDS)
+}
+
+// The word so many times, with a bar after each.
+fn repeated(alloc: Global, word: &str, count: u32) -> Result<String, AllocError> {
+    let mut words = String::new(alloc);
+    for _ in 0..count {
+        words.push_str(word)?;
+        words.push('|')?;
+    }
+    Ok(words)
+}
+
+// Words beyond sixteen, and beyond what two bytes count, are refused and are no want of memory.
+#[test]
+fn many_words(rt: HostRuntime) -> Result<(), Fail> {
+    for count in [16, 17, 33, 257, 65_537] {
+        let words = repeated(rt.alloc(), "--ahead", count)?;
+        check(
+            &rt,
+            &read(rt.alloc(), words.as_str())?,
+            &Err(WordsFault::Refused),
+            "many words",
+        );
+    }
+    Ok(())
 }
 
 // What the words of a line say, with a bar after each.

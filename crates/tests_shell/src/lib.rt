@@ -5,6 +5,8 @@
 #[cfg(test)]
 mod ahead;
 #[cfg(test)]
+mod crews;
+#[cfg(test)]
 mod empty_text;
 #[cfg(test)]
 mod extreme;
@@ -15,9 +17,15 @@ mod gates;
 #[cfg(test)]
 mod generated;
 #[cfg(test)]
+mod grids;
+#[cfg(test)]
+mod large;
+#[cfg(test)]
 mod limits;
 #[cfg(test)]
 mod runs;
+#[cfg(test)]
+mod shipped;
 #[cfg(test)]
 mod tables;
 #[cfg(test)]

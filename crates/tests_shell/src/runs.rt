@@ -17,8 +17,8 @@ pub(crate) fn unfolded(alloc: Global, text: &str) -> Result<String, AllocError> 
     Ok(lines)
 }
 
-// The words between the blanks, of which there may be none.
-fn owned(alloc: Global, words: &str) -> Result<Vec<String>, AllocError> {
+/// The words between the blanks, of which there may be none.
+pub(crate) fn owned(alloc: Global, words: &str) -> Result<Vec<String>, AllocError> {
     let mut owned = Vec::new(alloc);
     if words.is_empty() {
         return Ok(owned);

@@ -1,0 +1,227 @@
+//! The program as it is shipped, over a reader and a writer of std of which some call fails.
+
+ghost use Rattle.std.specs.Prelude.{Some};
+
+use crate::runs::{owned, unfolded};
+use crate::tables::UNIT_BOX;
+use nef_io::{FromReader, IntoWriter, OpenGate};
+use nef_shell::program;
+use std::alloc::{AllocError, Global};
+use std::env::Args;
+use std::io::{self, Error, ErrorKind, Read, Write};
+use std::process::{Abort, ExitCode};
+use std::str;
+use std::sync::Wait;
+use std::test::Fail;
+use std::thread::Threads;
+
+// A script of 70 bytes, which writes 7 in two pieces.
+const SCRIPT: &str = "half A 1 0 0 0 closed / has A 0 0 0 1 / half B 1 0 0 0 open / has B 0 0 0 1";
+
+// Which read fails of those of ten bytes each; how many bytes the writer takes at most in one write, which write fails,
+// and which takes nothing; the exit status of this script, and what the writer took, with `/` for line ends. One of the
+// eight reads fails, or none does; then one of the writes, the last one too.
+const FAULTS: &str = "1 9 0 0 => 3:
+2 9 0 0 => 3:
+3 9 0 0 => 3:
+4 9 0 0 => 3:
+5 9 0 0 => 3:
+6 9 0 0 => 3:
+7 9 0 0 => 3:
+8 9 0 0 => 3:
+9 9 0 0 => 0:in/not/
+0 9 1 0 => 4:
+0 9 2 0 => 4:in/
+0 9 3 0 => 0:in/not/
+0 9 0 1 => 4:
+0 9 0 2 => 4:in/
+0 1 1 0 => 4:
+0 1 2 0 => 4:i
+0 1 3 0 => 4:in
+0 1 4 0 => 4:in/
+0 1 5 0 => 4:in/n
+0 1 6 0 => 4:in/no
+0 1 7 0 => 4:in/not
+0 1 0 7 => 4:in/not
+0 1 8 0 => 0:in/not/";
+
+// The same with a command line and a script: one that is refused, refused words, of which there are more than sixteen
+// twice, and a script that isn't read.
+const LINES: &str = "0 99 0 0;nef; half A 2048 0 0 0 closed / has A 0 0 0 1 / half B 2049 0 0 0 closed => \
+1:line 3: coefficient out of range/
+0 5 2 0;nef; ball A => 4:line 
+1 5 2 0;nef; ball A => 3:
+1 99 0 0;nef --workers 0; full U => 2:words refused/
+1 5 1 0;nef --workers 0; full U => 4:
+1 5 0 3;nef --workers 0; full U => 4:words refu
+1 99 0 0;nef a b c d e f g h i j k l m n o p q; full U => 2:words refused/
+1 99 0 0;nef --workers 2 --board free --stairs 1 --text 1 --ahead a b c d e f g h; full U => 2:words refused/
+1 99 0 0;nef --stairs 1; full U => 0:16 24 12 3/
+1 9 2 0;nef --stairs 1 --workers 2; full U => 4:16 24 12 ";
+
+// Gives at most ten bytes a read, and the read of one number fails.
+#[derive(Drop)]
+struct Giving<'a> {
+    rest: &'a [u8],
+    reads: u64,
+    fails: u64,
+}
+
+impl Read for Giving<'_> {
+    fn read(&mut self, buf: &mut [u8]) -> io::Result<usize> {
+        self.reads = self.reads.saturating_add(1);
+        if self.reads == self.fails {
+            return Err(Error::from(ErrorKind::Other));
+        }
+        let end = buf.len().min(10);
+        self.rest.read(&mut buf[..end])
+    }
+}
+
+// Takes at most so many bytes a write. The write of one number fails, and that of another takes nothing.
+#[derive(Drop)]
+struct Taking {
+    bytes: Vec<u8>,
+    most: usize,
+    writes: u64,
+    fails: u64,
+    idles: u64,
+}
+
+impl Write for Taking {
+    ghost contents = { λ w. Some w.bytes.items };
+
+    fn write(&mut self, buf: &[u8]) -> io::Result<usize> {
+        self.writes = self.writes.saturating_add(1);
+        if self.writes == self.fails {
+            return Err(Error::from(ErrorKind::Other));
+        }
+        if self.writes == self.idles {
+            return Ok(0);
+        }
+        let end = buf.len().min(self.most);
+        self.bytes.write(&buf[..end])
+    }
+
+    fn flush(&mut self) -> io::Result<()> {
+        Ok(())
+    }
+}
+
+// The read that fails, and the writer, of four numbers.
+fn ends_of(alloc: Global, numbers: &str) -> Result<(u64, Taking), Fail> {
+    let (read, rest) = numbers.split_once(' ').ok_or("four numbers")?;
+    let (most, rest) = rest.split_once(' ').ok_or("four numbers")?;
+    let (fails, idles) = rest.split_once(' ').ok_or("four numbers")?;
+    let writer = Taking {
+        bytes: Vec::new(alloc),
+        most: most.parse()?,
+        writes: 0,
+        fails: fails.parse()?,
+        idles: idles.parse()?,
+    };
+    Ok((read.parse()?, writer))
+}
+
+// The words of a command line.
+fn line_of(alloc: Global, words: &str) -> Result<Args, AllocError> {
+    let words = owned(alloc, words)?;
+    Ok(words.into_iter())
+}
+
+// The exit status, and what the writer took, with `/` for line ends.
+fn shipped<R: Threads + Wait + Sync>(
+    rt: &R,
+    alloc: Global,
+    line: io::Result<Args>,
+    numbers: &str,
+    script: &str,
+) -> Result<(ExitCode, String), Fail> {
+    let (fails, writer) = ends_of(alloc, numbers)?;
+    let script = unfolded(alloc, script)?;
+    let reader = Giving {
+        rest: script.as_bytes(),
+        reads: 0,
+        fails,
+    };
+    let mut source = FromReader::new(reader);
+    let mut sink = IntoWriter::new(writer);
+    let code = program(rt, alloc, line, &mut source, &mut sink, &OpenGate);
+    let taken = sink.into_inner().bytes;
+    let text = str::from_utf8(&taken)?.replace(alloc, "\n", "/")?;
+    Ok((code, text))
+}
+
+// Stops the test where the exit status and the bytes are not those that are wanted.
+fn check(rt: &impl Abort, given: &(ExitCode, String), wanted: &str, of: &str) -> Result<(), Fail> {
+    let (status, bytes) = wanted.split_once(':').ok_or("a status")?;
+    let status: u8 = status.parse()?;
+    assert_eq!(rt; given.0, ExitCode::from(status), "{of}");
+    assert_eq!(rt; given.1.as_str(), bytes, "{of}");
+    Ok(())
+}
+
+fn check_faults<R: Threads + Wait + Abort + Sync>(rt: &R, alloc: Global) -> Result<(), Fail> {
+    for row in FAULTS.split('\n') {
+        let (numbers, wanted) = row.split_once(" => ").ok_or("a row")?;
+        let line = line_of(alloc, "nef")?;
+        let given = shipped(rt, alloc, Ok(line), numbers, SCRIPT)?;
+        check(rt, &given, wanted, row)?;
+    }
+    Ok(())
+}
+
+fn check_lines<R: Threads + Wait + Abort + Sync>(
+    rt: &R,
+    alloc: Global,
+    table: &str,
+) -> Result<(), Fail> {
+    for row in table.split('\n') {
+        let (numbers, rest) = row.split_once(';').ok_or("numbers")?;
+        let (words, rest) = rest.split_once("; ").ok_or("words")?;
+        let (script, wanted) = rest.split_once(" => ").ok_or("a row")?;
+        let line = line_of(alloc, words)?;
+        let given = shipped(rt, alloc, Ok(line), numbers, script)?;
+        check(rt, &given, wanted, row)?;
+    }
+    Ok(())
+}
+
+// Stops the test where a line without words, for a fault of this kind, doesn't end so.
+fn check_no_words<R: Threads + Wait + Abort + Sync>(
+    rt: &R,
+    alloc: Global,
+    kind: ErrorKind,
+    numbers: &str,
+    wanted: &str,
+) -> Result<(), Fail> {
+    let line = Err(Error::from(kind));
+    let given = shipped(rt, alloc, line, numbers, SCRIPT)?;
+    check(rt, &given, wanted, numbers)
+}
+
+#[test]
+fn failing_calls(rt: HostRuntime) -> Result<(), Fail> {
+    check_faults(&rt, rt.alloc())
+}
+
+#[test]
+fn command_lines(rt: HostRuntime) -> Result<(), Fail> {
+    let alloc = rt.alloc();
+    check_lines(&rt, alloc, LINES)?;
+    // The third write fails in a text, each of at most 16 bytes.
+    let text = format!(in alloc;
+        "0 16 3 0;nef; {UNIT_BOX} / print A => 4:polyhedron A/nef3 1 16 24 12 3/v"
+    )?;
+    check_lines(&rt, alloc, text.as_str())
+}
+
+// A word that isn't text is a refused word, and not want of memory.
+#[test]
+fn lines_without_words(rt: HostRuntime) -> Result<(), Fail> {
+    let alloc = rt.alloc();
+    check_no_words(&rt, alloc, ErrorKind::InvalidData, "1 99 0 0", "2:words refused/")?;
+    check_no_words(&rt, alloc, ErrorKind::InvalidData, "1 5 3 0", "4:words refu")?;
+    check_no_words(&rt, alloc, ErrorKind::OutOfMemory, "1 99 1 0", "5:")?;
+    check_no_words(&rt, alloc, ErrorKind::Other, "1 99 1 0", "5:")
+}
