@@ -1,6 +1,6 @@
 -- The words behind the program's name, from what the environment gave.
 use Rattle.std.proofs.Common.{◌≡◌, ℕ, refl, sym, ap, subst, ◌∙◌, arith, List, map, Result, Ok, Err, string_bytes}
-use Rattle.std.specs.Prelude.{drop, IsOk, IsOkAnd, IsErrAnd}
+use Rattle.std.specs.Prelude.{drop, IsOkAnd, IsErrAnd}
 use Rattle.std.specs.Vec.Iter.{into_iter_items}
 use Rattle.std.specs.IoError.{error_kind}
 use Rattle.std.specs.declared.io.Error.{Error}
@@ -50,10 +50,6 @@ still-no-text line all same error is none = kept line all same (subst (λ z. IsE
 -- one fault isn't the other
 pub refused-alone : {X : Type 0} (words : Result X WordsFault) → words ≡ Err fault.Refused → words ≡ Err fault.OutOfMemory → ⊥
 refused-alone words refused wanted = subst IsRefused (sym refused ∙ wanted) tt
-
--- a line whose words can be had has no fault
-pub no-fault : {X Y : Type 0} (line : Result (IntoIter X Y) Error) → IsOk line → (error : Error) → line ≡ Err error → ⊥
-no-fault line had error is = subst (λ z. IsOk z) is had
 
 -- the exit status 0 is that of a run that is done
 done-alone : (s : Status) → status_code s ≡ 0 → s ≡ Done
