@@ -4,7 +4,7 @@ use Rattle.std.specs.List.{range_with_len}
 use Rattle.std.specs.Fmt.{decimal}
 use Rattle.nef_script.specs.Laws.{script_of}
 
--- the box from the point (low, low, low) to (high, high, high), which are written out: its six half-spaces, and the intersection of the first two, of the first three, and so on
+-- the lines of the closed box from (low, low, low) to (high, high, high), two numbers that are written out: its six half-spaces, and the intersection of the first two of them, of the first three, and so on
 abbrev pub box_lines : List ℕ → List ℕ → List ℕ → List (List ℕ)
 box_lines name low high =
     (codes "half " ++ name ++ codes "a -1 0 0 " ++ low ++ codes " closed")
@@ -31,6 +31,6 @@ whole_name i = if nat_eq i 0 then box_name i else codes "u" ++ decimal i
 abbrev pub step_lines : ℕ → List (List ℕ)
 step_lines i = box_lines (box_name i) (decimal (8 * i)) (decimal (8 * i + 12)) ++ (if nat_eq i 0 then [] else (codes "or " ++ whole_name i ++ codes " " ++ whole_name (i - 1) ++ codes " " ++ box_name i) ∷ [])
 
--- the bytes of the script of n boxes in order, and the count of the whole
+-- the bytes of the script of n boxes, which stand in order, with the count of the whole as its last line
 abbrev pub stairs_text : ℕ → List ℕ
 stairs_text n = script_of (flat_map step_lines (range_with_len 0 n) ++ (codes "count " ++ whole_name (n - 1)) ∷ [])

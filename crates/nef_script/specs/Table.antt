@@ -32,14 +32,14 @@ shape verb.Print = (codes "print", Operand ∷ [])
 abbrev pub roles : Verb → List Role
 roles v = (shape v).1
 
--- the command that a word is
+-- all commands, and the one that a word is
 abbrev pub verbs : List Verb
 verbs = verb.Half ∷ verb.Empty ∷ verb.Full ∷ verb.And ∷ verb.Or ∷ verb.Diff ∷ verb.Xor ∷ verb.Not ∷ verb.Int ∷ verb.Cl ∷ verb.Bd ∷ verb.Reg ∷ verb.Turn ∷ verb.Has ∷ verb.Joined ∷ verb.Ray ∷ verb.Same ∷ verb.Count ∷ verb.Print ∷ []
 
 abbrev pub verb_of : List ℕ → Option Verb
 verb_of word = find (λ v. bytes_eq word (shape v).0) verbs
 
--- the command's first word is a new name, which it binds
+-- the first word after the command is a new name, which it binds
 abbrev pub begins_new : List Role → Bool
 begins_new (NewName ∷ roles) = true
 begins_new roles = false

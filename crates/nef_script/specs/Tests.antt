@@ -24,7 +24,7 @@ name_count_limit = 4096
 abbrev pub is_bad_byte : ℕ → Bool
 is_bad_byte b = not (nat_eq b 9 || (nat_le 32 b && nat_le b 126))
 
--- the whole number that a word spells, or 0
+-- the whole number that a word spells, or 0, and tests of numbers
 abbrev pub number_or_zero : List ℕ → ℤ
 number_or_zero word = unwrap_or (number_of word) (pos 0)
 
@@ -39,7 +39,7 @@ abbrev pub on_verb : (Verb → Bool) → Option Verb → Bool
 on_verb test None = false
 on_verb test (Some v) = test v
 
--- a kind of refusal holds for a word, by what the word is to be
+-- a kind of refusal holds for a word, by what the word is to be and by the names that are bound
 abbrev pub word_test : ScriptKind → List (List ℕ) → Role × List ℕ → Bool
 word_test kind.BadName names (NewName, word) = not (is_name word)
 word_test kind.BadName names (Operand, word) = not (is_name word)
@@ -64,7 +64,7 @@ abbrev pub has_zero_direction : Verb → List (List ℕ) → Bool
 has_zero_direction verb.Ray (name ∷ x ∷ y ∷ z ∷ w ∷ dx ∷ dy ∷ dz ∷ rest) = is_zero (number_or_zero dx) && is_zero (number_or_zero dy) && is_zero (number_or_zero dz)
 has_zero_direction v args = false
 
--- the tests of a line with this first word and these words after it, each with the kind of refusal that holds where the test does
+-- the tests of a line that begins with this command, or with a word that is none, and goes on with these words, in their order: each with the kind of refusal that it is for
 abbrev pub command_tests : List (List ℕ) → Option Verb → List (List ℕ) → List (ScriptKind × Bool)
 command_tests names None args = (kind.UnknownCommand, true) ∷ []
 command_tests names (Some v) args =
