@@ -12,7 +12,9 @@ use Rattle.nef_expr.specs.Nodes.{node_set}
 use Rattle.nef_parts.specs.declared.parts.Parts.{Parts}
 use Rattle.nef_parts.specs.Text.{text}
 use Rattle.nef_shell.specs.Operations.{AreShown, AreBound, AreMadeOf, ArePartsOf, AreHeld}
-use Rattle.nef_shell.specs.Output.{framed, printed, IsWrittenOf}
+use Rattle.nef_shell.specs.Output.{printed}
+use Rattle.nef_statement.specs.Output.{framed}
+use Rattle.nef_statement.specs.Texts.{IsWrittenOf}
 use Rattle.nef_shell.proofs.Complexes.{shown-less}
 
 -- nothing was worked

@@ -1,7 +1,8 @@
 pub mod Complexes
 pub mod Outputs
-pub mod Statuses
+pub mod Walk
 pub mod Pieces
+pub mod Statuses
 pub mod Causes
 pub mod GivenWords
 pub mod Bound

@@ -14,7 +14,7 @@ use Rattle.nef_parts.specs.declared.parts.Parts.{Parts}
 use Rattle.nef_parts.specs.Numbers.{IsParts}
 use Rattle.nef_parts.specs.Text.{text, Text}
 use Rattle.std.specs.declared.vec.Vec.{Vec}
-use Rattle.nef_shell.specs.Output.{IsWrittenOf}
+use Rattle.nef_statement.specs.Texts.{IsWrittenOf}
 use Rattle.nef_shell.specs.declared.operation.Means.{Means}
 use Rattle.nef_shell.specs.declared.operation.Operation.{Operation}
 use Rattle.nef_shell.specs.declared.operation.Operation.TheVariants.{Constant, Half, Unary, Binary, Turned}

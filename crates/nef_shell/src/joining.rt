@@ -4,7 +4,7 @@ ghost use Rattle.std.specs.Prelude.{◌≡◌, IfOk, OnOk};
 ghost use Rattle.nef_geo.specs.Shapes.{place_of};
 ghost use Rattle.nef_expr.specs.Nodes.{node_set};
 ghost use Rattle.nef_shell.specs.Operations.{IsKept, ArePartsOf};
-ghost use Rattle.nef_shell.specs.Output.{IsJoinedAnswer};
+ghost use Rattle.nef_statement.specs.Output.{IsJoinedAnswer};
 
 use crate::answer::{answer, joined_answer};
 use crate::sets::Sets;

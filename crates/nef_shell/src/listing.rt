@@ -3,7 +3,9 @@
 ghost use Rattle.std.specs.Prelude.{◌≡◌, IfOk, OnOk};
 ghost use Rattle.nef_expr.specs.Nodes.{node_set};
 ghost use Rattle.nef_shell.specs.Operations.{IsKept, ArePartsOf, AreHeld};
-ghost use Rattle.nef_shell.specs.Output.{count_line, framed, printed, IsWrittenOf};
+ghost use Rattle.nef_shell.specs.Output.{printed};
+ghost use Rattle.nef_statement.specs.Output.{framed};
+ghost use Rattle.nef_statement.specs.Texts.{count_line, IsWrittenOf};
 
 use crate::sets::Sets;
 use itoa::Buffer;

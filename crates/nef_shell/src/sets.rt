@@ -13,7 +13,7 @@ ghost use Rattle.nef_script.specs.Commands.{LooksAt, Binds};
 ghost use Rattle.nef_script.specs.Meaning.{IsWithin};
 ghost use Rattle.nef_shell.specs.Commands.{AreLastUses, AreUses};
 ghost use Rattle.nef_shell.specs.Operations.{set_by, HasOperand, HasTurn, AreMeans, IsLent, AreShown, IsKept, IsGone, IsLean, AreBound, ArePartsOf, AreTextsOf, IsThere, HasParts, HasText, AreHeld};
-ghost use Rattle.nef_shell.specs.Output.{IsWrittenOf};
+ghost use Rattle.nef_statement.specs.Texts.{IsWrittenOf};
 
 use crate::operation::{Means, Operation, made};
 use crate::uses::{bound_node, last_uses, looked_at};

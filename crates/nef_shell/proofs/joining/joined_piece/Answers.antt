@@ -2,7 +2,7 @@ use Rattle.std.proofs.Common.{sym, subst}
 use Rattle.nef_geo.specs.Shapes.{place_of}
 use Rattle.nef_complex.specs.Complexes.{ShowsSet}
 use Rattle.nef_expr.specs.Nodes.{node_set}
-use Rattle.nef_shell.specs.Output.{IsJoinedAnswer}
+use Rattle.nef_statement.specs.Output.{IsJoinedAnswer}
 use Rattle.nef_shell.proofs.Outputs.{joined-piece}
 use Rattle.nef_shell.proofs.joining.joined_piece.Goals as goal
 

@@ -2,7 +2,7 @@ use Rattle.std.proofs.Common.{subst}
 use Rattle.std.proofs.lemmas.Result.{IfOk-weaker}
 use Rattle.nef_expr.specs.Nodes.{node_set}
 use Rattle.nef_parts.specs.Text.{text}
-use Rattle.nef_shell.specs.Output.{IsWrittenOf}
+use Rattle.nef_statement.specs.Texts.{IsWrittenOf}
 use Rattle.nef_shell.proofs.Held.{text-printed}
 use Rattle.nef_shell.proofs.listing.print_piece.Goals as goal
 
