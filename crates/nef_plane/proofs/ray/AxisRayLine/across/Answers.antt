@@ -1,7 +1,7 @@
 use Rattle.std.proofs.Common.{rules}
 use Rattle.nef_plane.proofs.Sweep.{second-sign, first-sign}
-use Rattle.nef_plane.proofs.ray.AxisRay.across.Goals as goal
-use Rattle.nef_plane.proofs.ray.AxisRay.across.Goals.{else-c-eq0-via-then-c-eq0+else-b-eq0, else-c-eq0-via-else-c-eq0}
+use Rattle.nef_plane.proofs.ray.AxisRayLine.across.Goals as goal
+use Rattle.nef_plane.proofs.ray.AxisRayLine.across.Goals.{else-c-eq0-via-then-c-eq0+else-b-eq0, else-c-eq0-via-else-c-eq0}
 
 pub returns-then-b-eq0 : goal.returns-then-b-eq0
 returns-then-b-eq0 c = record {
