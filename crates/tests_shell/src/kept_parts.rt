@@ -57,7 +57,16 @@ fn printed_again(rt: HostRuntime) -> Result<(), Fail> {
     let printed = format!(in alloc; "polyhedron E\n{EMPTY_TEXT}end\n")?;
     let output = format!(in alloc; "{printed}8 12 6 2\n8 12 6 2\n{printed}{printed}")?;
     assert!(rt; gives(&rt, alloc, "", script, 0, output.as_str())?);
-    assert!(rt; gives(&rt, alloc, "--ahead --workers 4", script, 0, output.as_str())?);
+    assert!(rt;
+        gives(
+            &rt,
+            alloc,
+            "--ahead --workers 4",
+            script,
+            0,
+            output.as_str()
+        )?
+    );
     Ok(())
 }
 
@@ -81,7 +90,12 @@ fn prints_alike<R: Threads + Wait + Sync>(
     let Some((second, third)) = rest.split_once("apart\npolyhedron B\n") else {
         return Ok(false);
     };
-    Ok(status == 0 && first.starts_with("nef3 2 12 20 11 3\n") && first == second && second == third)
+    Ok(
+        status == 0
+            && first.starts_with("nef3 2 12 20 11 3\n")
+            && first == second
+            && second == third,
+    )
 }
 
 #[test]
@@ -102,6 +116,15 @@ fn asked_often(rt: HostRuntime) -> Result<(), Fail> {
         output.push_str("joined\n12 20 11 3\n")?;
     }
     assert!(rt; gives(&rt, alloc, "", script.as_str(), 0, output.as_str())?);
-    assert!(rt; gives(&rt, alloc, "--ahead --workers 4", script.as_str(), 0, output.as_str())?);
+    assert!(rt;
+        gives(
+            &rt,
+            alloc,
+            "--ahead --workers 4",
+            script.as_str(),
+            0,
+            output.as_str()
+        )?
+    );
     Ok(())
 }

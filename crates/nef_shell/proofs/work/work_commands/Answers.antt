@@ -1,11 +1,11 @@
-use Rattle.std.proofs.Common.{◌≡◌, ◌⊎◌, ℕ, ◌+◌, ◌<◌, ◌++◌, [], false, ◌∙◌, ap, sym, refl, subst, arith, length, Some, inl, inr}
+use Rattle.std.proofs.Common.{◌≡◌, ◌+◌, ◌<◌, ◌++◌, [], ◌∙◌, ap, sym, refl, subst, arith, length, Some, inl, inr}
 use Rattle.std.specs.Prelude.{slice_get, slice_index}
 use Rattle.std.proofs.lemmas.Bool.{cases_lt}
 use Rattle.std.proofs.lemmas.Option.{slice_get_read}
 use Rattle.std.proofs.lemmas.Result.{err_from_is_err_and}
 use Rattle.nef_script.specs.Commands.{LooksAt, Binds}
 use Rattle.nef_shell.specs.Commands.{AreLastUses, AreUses}
-use Rattle.nef_shell.specs.Operations.{IsKept, IsGone, IsLean, AreHeld}
+use Rattle.nef_shell.specs.Operations.{IsKept, IsLean, AreHeld}
 use Rattle.nef_shell.proofs.Asked.{gone-or-there, grows-none, true-or-false}
 use Rattle.nef_shell.proofs.Outputs.{output-next, grows-more, front-at, stop-rose}
 use Rattle.nef_shell.proofs.work.work_commands.Goals as goal
