@@ -1,6 +1,6 @@
-mod Walls
-mod CornerVertices
-mod CornerCones
+pub mod Walls
+pub mod CornerVertices
+pub mod CornerCones
 mod CornerMaps
 mod InOrder
 mod Shown
@@ -8,3 +8,5 @@ pub mod EachCorner
 pub mod Octants
 pub mod OctantShapes
 pub mod OctantCones
+pub mod Listed
+pub mod FrameEdges

@@ -1,7 +1,7 @@
 -- The maps written out are the least maps at the corners of a set that holds all of the frame or nothing of it.
 use Rattle.std.proofs.Common.{◌≡◌, ℕ, ◌+◌, ◌<◌, ℤ, pos, neg_ℤ, nat_abs, ◌+ℤ◌, ◌-ℤ◌, ◌*ℤ◌, ◌<ℤ◌, arith, refl, sym, ◌∙◌, ap, ◌⊎◌, inl, inr, ⊎_elim, Bool, true, false, [], ◌∷◌, Some, None, subst}
 use Rattle.std.proofs.lemmas.Int.{ints}
-use Rattle.law_arithmetic.specs.Signs.{Sign, minus, nought, plus, sign}
+use Rattle.law_arithmetic.specs.Signs.{Sign, minus, nought, sign}
 use Rattle.law_arithmetic.proofs.Ring.{ring, at, num, neg, ◌⊕◌, ◌⊖◌, ◌⊗◌}
 use Rattle.law_arithmetic.proofs.Order.{mul_nonneg, minus-is, sign-minus, sign-plus, by_order}
 use Rattle.nef_space.specs.Local.{HasLabel, Germ}
@@ -16,7 +16,7 @@ use Rattle.law_near.proofs.Frames.{frame-minus}
 use Rattle.law_near.proofs.Germs.{Germ-unique}
 use Rattle.law_sphere.specs.Labelling.{Near, Agrees}
 use Rattle.law_sphere.specs.Least.{by_side, NearPlain, NearStraight, Least, Cone}
-use Rattle.law_sphere.specs.Maps.{At, MapVertex, Map, Item, arc_item, items, item_normal, item_pos, item_mark, item_neg, OnItem, IsFree, MapLabel, NearLabel}
+use Rattle.law_sphere.specs.Maps.{MapVertex, Map, Item, arc_item, item_normal, item_pos, item_mark, item_neg, OnItem, IsFree, MapLabel, NearLabel}
 use Rattle.law_sphere.proofs.Built.{agrees-label}
 use Rattle.law_sphere.proofs.Labellings.{normals_of, germ-labelling, cone-from_agrees}
 use Rattle.nef_frame.specs.Ends.{Ends, ends, IsCornerPlace, at_wall}
@@ -24,7 +24,7 @@ use Rattle.nef_frame.proofs.Walls.{Axis, on_x, on_y, on_z, wall, wall-listed, Is
 use Rattle.nef_frame.proofs.CornerVertices.{end_of, inward, inward_way, through, leads-in}
 use Rattle.nef_frame.proofs.CornerCones.{axis_of, at-side}
 use Rattle.nef_frame.proofs.Octants.{depth, way, next, after, place, slot, upper, lower, svertex, arc, octant, each-svertex, each-item, svertex-at, item-at, OnQuarter, on-quarter, quarter-on}
-use Rattle.nef_frame.proofs.OctantShapes.{next-depth, after-depth, own-depth, level-depth, depth-level, octant-shaped}
+use Rattle.nef_frame.proofs.OctantShapes.{next-depth, after-depth, own-depth, none-deep, one-deep, level-depth, depth-level, octant-shaped}
 
 -- ---- depths
 depth-slope : (a : Axis) (b : Bool) (d : Vector) → slope (wall a b) d ≡ neg_ℤ (depth a b d)
@@ -41,13 +41,13 @@ leads-minus u v e h = sign-minus u (omega (arith, ints))
 minus-leads : (u v : ℤ) → u ≡ neg_ℤ v → sign u ≡ minus → pos 0 <ℤ v
 minus-leads u v e h = let m = minus-is u h in omega (arith, ints)
 
-deep-blend : (a : Axis) (b : Bool) (i : ℕ) (d e : Vector) → depth a b (blend i d 1 e) ≡ pos i *ℤ depth a b d +ℤ pos 1 *ℤ depth a b e
-deep-blend on_x true i d e = ring (pos i ∷ d.x ∷ e.x ∷ []) (neg (at 0 ⊗ at 1 ⊕ num (pos 1) ⊗ at 2)) (at 0 ⊗ neg (at 1) ⊕ num (pos 1) ⊗ neg (at 2)) tt
-deep-blend on_x false i d e = refl
-deep-blend on_y true i d e = ring (pos i ∷ d.y ∷ e.y ∷ []) (neg (at 0 ⊗ at 1 ⊕ num (pos 1) ⊗ at 2)) (at 0 ⊗ neg (at 1) ⊕ num (pos 1) ⊗ neg (at 2)) tt
-deep-blend on_y false i d e = refl
-deep-blend on_z true i d e = ring (pos i ∷ d.z ∷ e.z ∷ []) (neg (at 0 ⊗ at 1 ⊕ num (pos 1) ⊗ at 2)) (at 0 ⊗ neg (at 1) ⊕ num (pos 1) ⊗ neg (at 2)) tt
-deep-blend on_z false i d e = refl
+pub deep-blend : (a : Axis) (b : Bool) (i j : ℕ) (d e : Vector) → depth a b (blend i d j e) ≡ pos i *ℤ depth a b d +ℤ pos j *ℤ depth a b e
+deep-blend on_x true i j d e = ring (pos i ∷ d.x ∷ e.x ∷ pos j ∷ []) (neg (at 0 ⊗ at 1 ⊕ at 3 ⊗ at 2)) (at 0 ⊗ neg (at 1) ⊕ at 3 ⊗ neg (at 2)) tt
+deep-blend on_x false i j d e = refl
+deep-blend on_y true i j d e = ring (pos i ∷ d.y ∷ e.y ∷ pos j ∷ []) (neg (at 0 ⊗ at 1 ⊕ at 3 ⊗ at 2)) (at 0 ⊗ neg (at 1) ⊕ at 3 ⊗ neg (at 2)) tt
+deep-blend on_y false i j d e = refl
+deep-blend on_z true i j d e = ring (pos i ∷ d.z ∷ e.z ∷ pos j ∷ []) (neg (at 0 ⊗ at 1 ⊕ at 3 ⊗ at 2)) (at 0 ⊗ neg (at 1) ⊕ at 3 ⊗ neg (at 2)) tt
+deep-blend on_z false i j d e = refl
 
 abbrev size : Vector → ℕ
 size e = nat_abs e.x + nat_abs e.y + nat_abs e.z + 1
@@ -91,7 +91,7 @@ far-shallow i u v h (inl g) f =
 far-shallow i u v h (inr (e, g)) f = let z = none-times i u e in let o = one-more v in g (omega (arith, ints, z, o, f))
 
 -- the three axes
-around : (P : Axis → Type 0) (a : Axis) → P a → P (next a) → P (after a) → (o : Axis) → P o
+pub around : (P : Axis → Type 0) (a : Axis) → P a → P (next a) → P (after a) → (o : Axis) → P o
 around P on_x f g h on_x = f
 around P on_x f g h on_y = g
 around P on_x f g h on_z = h
@@ -139,7 +139,7 @@ inward-across on_x k z = product k.x k.y (first-of_two (inward k.x *ℤ inward k
 inward-across on_y k z = product k.y k.z (first-of_two (inward k.y *ℤ inward k.z) (inward k.y) z.0)
 inward-across on_z k z = product k.z k.x (first-of_two (inward k.z *ℤ inward k.x) (inward k.z) z.1)
 
-inward-deep : (a : Axis) (x y z : Bool) → depth a (end_of (ends x y z) a) (inward_way (ends x y z)) ≡ pos 1
+pub inward-deep : (a : Axis) (x y z : Bool) → depth a (end_of (ends x y z) a) (inward_way (ends x y z)) ≡ pos 1
 inward-deep on_x true y z = refl
 inward-deep on_x false y z = refl
 inward-deep on_y x true z = refl
@@ -244,26 +244,20 @@ module _ (s : Set) (l : Label) (W : IsWhole s l) (k : Ends) (p : Place) (c : IsC
   near-in : (d e : Vector) → ((a : Axis) → Deep (deep a d) (deep a e)) → Near F d e l
   near-in d e f = (
     size e,
-    λ i h. germ-in (blend i d 1 e) (λ a. subst (λ u. pos 0 <ℤ u) (sym (deep-blend a (end_of k a) i d e)) (far-deep i (deep a d) (deep a e) (let b = depth-size a (end_of k a) e in omega (arith, b, h)) (f a))),
+    λ i h. germ-in (blend i d 1 e) (λ a. subst (λ u. pos 0 <ℤ u) (sym (deep-blend a (end_of k a) i 1 d e)) (far-deep i (deep a d) (deep a e) (let b = depth-size a (end_of k a) e in omega (arith, b, h)) (f a))),
   )
 
   near-off : (d e : Vector) (a : Axis) → Shallow (deep a d) (deep a e) → Near F d e Out
   near-off d e a f = (
     size e,
-    λ i h. germ-off (blend i d 1 e) a (λ q. far-shallow i (deep a d) (deep a e) (let b = depth-size a (end_of k a) e in omega (arith, b, h)) f (subst (λ u. pos 0 <ℤ u) (deep-blend a (end_of k a) i d e) q)),
+    λ i h. germ-off (blend i d 1 e) a (λ q. far-shallow i (deep a d) (deep a e) (let b = depth-size a (end_of k a) e in omega (arith, b, h)) f (subst (λ u. pos 0 <ℤ u) (deep-blend a (end_of k a) i 1 d e) q)),
   )
-
-  none : (u : ℤ) → u ≡ pos 0 → pos 0 <ℤ u → ⊥
-  none u e h = omega (arith, ints)
 
   below : (u : ℤ) → u <ℤ pos 0 → pos 0 <ℤ u → ⊥
   below u g h = omega (arith, ints)
 
-  positive : (u : ℤ) → u ≡ pos 1 → pos 0 <ℤ u
-  positive u e = omega (arith, ints)
-
   way-out : (a : Axis) → F (way a (end_of k a)) Out
-  way-out a = germ-off (way a (end_of k a)) (next a) (none _ (next-depth a (end_of k a) (end_of k (next a))))
+  way-out a = germ-off (way a (end_of k a)) (next a) (none-deep _ (next-depth a (end_of k a) (end_of k (next a))))
 
   beside : (a : Axis) (d e : Vector) → OnQuarter k a d → Near F d e (by_side (upper (end_of k a) l) Out (lower (end_of k a) l) (sign (dot (axis_of a) e)))
   beside a d e (level, h, i) = ⊎_elim
@@ -276,7 +270,7 @@ module _ (s : Set) (l : Label) (W : IsWhole s l) (k : Ends) (p : Place) (c : IsC
   agrees : Agrees M F
   agrees = record {
     svertices = each-svertex l k (λ n v. F v.dir v.mark) way-out;
-    marks = λ n x d h o. each-item l k (λ j (y : Item). OnItem M y d → F d (item_mark y)) (λ a o. germ-off d a (none _ (level-depth a (end_of k a) d (on-quarter l k a d o).0))) n x h o;
+    marks = λ n x d h o. each-item l k (λ j (y : Item). OnItem M y d → F d (item_mark y)) (λ a o. germ-off d a (none-deep _ (level-depth a (end_of k a) d (on-quarter l k a d o).0))) n x h o;
     beside = λ n x d e h o i.
         each-item l k (λ j (y : Item). OnItem M y d → Near F d e (by_side (item_pos y) (item_mark y) (item_neg y) (sign (dot (item_normal y) e)))) (λ a o. beside a d e (on-quarter l k a d o)) n x h o;
     lone = λ n v m e h q i. each-svertex l k (λ j (u : MapVertex). u.around ≡ Some m → Near F v.dir e m) (λ a (r : None ≡ Some m). absurd cc) n v h q;
@@ -305,14 +299,14 @@ module _ (s : Set) (l : Label) (W : IsWhole s l) (k : Ends) (p : Place) (c : IsC
 
   inward-near : (a : Axis) → Near F (way a (end_of k a)) (inward_way k) l
   inward-near a = near-in (way a (end_of k a)) (inward_way k) (around (λ o. Deep (deep o (way a (end_of k a))) (deep o (inward_way k))) a
-      (inl (positive _ (own-depth a (end_of k a))))
-      (inr (next-depth a (end_of k a) (end_of k (next a)), positive _ (inward-deep (next a) k.x k.y k.z)))
-      (inr (after-depth a (end_of k a) (end_of k (after a)), positive _ (inward-deep (after a) k.x k.y k.z))))
+      (inl (one-deep _ (own-depth a (end_of k a))))
+      (inr (next-depth a (end_of k a) (end_of k (next a)), one-deep _ (inward-deep (next a) k.x k.y k.z)))
+      (inr (after-depth a (end_of k a) (end_of k (after a)), one-deep _ (inward-deep (after a) k.x k.y k.z))))
 
   -- toward the next way it is Out, and toward the one after
   next-near : (a : Axis) → Near F (way a (end_of k a)) (way (next a) (end_of k (next a))) Out
   next-near a = near-off (way a (end_of k a)) (way (next a) (end_of k (next a))) (after a)
-      (inr (after-depth a (end_of k a) (end_of k (after a)), none _ (beside-next a (end_of k (next a)) (end_of k (after a)))))
+      (inr (after-depth a (end_of k a) (end_of k (after a)), none-deep _ (beside-next a (end_of k (next a)) (end_of k (after a)))))
     where
       beside-next : (a : Axis) (b c : Bool) → depth (after a) c (way (next a) b) ≡ pos 0
       beside-next on_x = next-depth on_y
@@ -321,7 +315,7 @@ module _ (s : Set) (l : Label) (W : IsWhole s l) (k : Ends) (p : Place) (c : IsC
 
   after-near : (a : Axis) → Near F (way a (end_of k a)) (way (after a) (end_of k (after a))) Out
   after-near a = near-off (way a (end_of k a)) (way (after a) (end_of k (after a))) (next a)
-      (inr (next-depth a (end_of k a) (end_of k (next a)), none _ (beside-after a (end_of k (after a)) (end_of k (next a)))))
+      (inr (next-depth a (end_of k a) (end_of k (next a)), none-deep _ (beside-after a (end_of k (after a)) (end_of k (next a)))))
     where
       beside-after : (a : Axis) (b c : Bool) → depth (next a) c (way (after a) b) ≡ pos 0
       beside-after on_x = after-depth on_z

@@ -1,15 +1,14 @@
 -- The maps at the corners are well shaped, and in order.
-use Rattle.std.proofs.Common.{◌≡◌, ℕ, zero, suc, ◌<◌, pos, negsuc, neg_ℤ, ℤ, ◌*ℤ◌, ◌<ℤ◌, arith, refl, sym, ◌∙◌, ap, ◌⊎◌, inl, inr, ⊎_elim, Bool, true, false, List, [], ◌∷◌, Some, None, subst}
+use Rattle.std.proofs.Common.{◌≡◌, ℕ, zero, suc, ◌<◌, pos, ℤ, ◌<ℤ◌, arith, refl, ap, ◌⊎◌, inl, inr, ⊎_elim, Bool, true, false, [], ◌∷◌, Some, None, subst}
 use Rattle.std.proofs.lemmas.Int.{ints}
-use Rattle.nef_space.specs.Vectors.{Vector, vector, dot, IsDirection, SameDirection, IsNormal}
+use Rattle.nef_space.specs.Vectors.{Vector, dot, IsDirection, SameDirection, IsNormal}
 use Rattle.nef_space.specs.declared.label.Label.{Label}
-use Rattle.nef_space.specs.declared.label.Label.TheVariants.{Out}
 use Rattle.law_sphere.specs.Vectors.{IsPrimitive, VectorBelow}
-use Rattle.law_sphere.specs.Maps.{At, MapVertex, Arc, Map, Item, arc_item, items, item_normal, OnItem, HasArc, ArcBetween, Shaped}
+use Rattle.law_sphere.specs.Maps.{At, MapVertex, Map, Item, item_normal, OnItem, HasArc, ArcBetween, Shaped}
 use Rattle.law_sphere.specs.Least.{InOrder, ArcBelow, Ordered}
 use Rattle.nef_frame.specs.Ends.{Ends, ends}
 use Rattle.nef_frame.proofs.Walls.{Axis, on_x, on_y, on_z}
-use Rattle.nef_frame.proofs.CornerVertices.{end_of, inward}
+use Rattle.nef_frame.proofs.CornerVertices.{end_of}
 use Rattle.nef_frame.proofs.CornerCones.{axis_of}
 use Rattle.nef_frame.proofs.Octants.{depth, way, next, after, place, slot, svertex, svertices_by, source_axis, target_axis, source_of, target_of, arc, octant, each-svertex, each-arc, each-item, svertex-at, arc-at, OnQuarter, on-quarter}
 
@@ -64,8 +63,11 @@ depth-level on_y false d e = omega (arith, ints)
 depth-level on_z true d e = omega (arith, ints)
 depth-level on_z false d e = omega (arith, ints)
 
-none-deep : (x : ℤ) → x ≡ pos 0 → pos 0 <ℤ x → ⊥
-none-deep x e h = omega (arith, ints)
+pub none-deep : (u : ℤ) → u ≡ pos 0 → pos 0 <ℤ u → ⊥
+none-deep u e h = omega (arith, ints)
+
+pub one-deep : (u : ℤ) → u ≡ pos 1 → pos 0 <ℤ u
+one-deep u e = omega (arith, ints)
 
 -- ---- the shape
 ways-apart : (a o : Axis) (b c : Bool) → SameDirection (way a b) (way o c) → a ≡ o

@@ -1,15 +1,13 @@
 -- The maps at the corners of the frame, written out: three svertices and three arcs, by the axes.
-use Rattle.std.proofs.Common.{◌≡◌, ℕ, zero, suc, ◌<◌, pos, negsuc, neg_ℤ, ℤ, ◌-ℤ◌, ◌*ℤ◌, ◌<ℤ◌, arith, refl, sym, ◌∙◌, ap, ◌⊎◌, inl, inr, ⊎_elim, Bool, true, false, List, [], ◌∷◌, Some, None, subst}
+use Rattle.std.proofs.Common.{◌≡◌, ℕ, zero, suc, pos, neg_ℤ, ℤ, ◌-ℤ◌, ◌*ℤ◌, ◌<ℤ◌, arith, refl, sym, ap, ◌⊎◌, inl, inr, ⊎_elim, Bool, true, false, List, [], ◌∷◌, None, subst}
 use Rattle.std.proofs.lemmas.Int.{ints}
-use Rattle.nef_space.specs.Vectors.{Vector, vector, dot, cross, triple, IsDirection, SameDirection, IsOpposite, IsNormal}
+use Rattle.nef_space.specs.Vectors.{Vector, vector, dot, cross, triple}
 use Rattle.nef_space.specs.declared.label.Label.{Label}
 use Rattle.nef_space.specs.declared.label.Label.TheVariants.{Out}
-use Rattle.law_cyclic.specs.Arcs.{IsOnCircle, IsStrictlyOn}
+use Rattle.law_cyclic.specs.Arcs.{IsStrictlyOn}
 use Rattle.law_forms.proofs.Directions.{dot-zero}
 use Rattle.law_arithmetic.proofs.Ring.{ring, at, num, neg, ◌⊕◌, ◌⊖◌, ◌⊗◌}
-use Rattle.law_sphere.specs.Vectors.{IsPrimitive, VectorBelow}
-use Rattle.law_sphere.specs.Maps.{At, MapVertex, Arc, Map, Item, arc_item, items, item_normal, dir_of, OnItem, HasArc, ArcBetween, Shaped}
-use Rattle.law_sphere.specs.Least.{InOrder, ArcBelow, Ordered}
+use Rattle.law_sphere.specs.Maps.{At, MapVertex, Arc, Map, Item, arc_item, items, dir_of, OnItem}
 use Rattle.nef_frame.specs.Ends.{Ends, ends}
 use Rattle.nef_frame.proofs.Walls.{Axis, on_x, on_y, on_z}
 use Rattle.nef_frame.proofs.CornerVertices.{end_of, inward}

@@ -1,9 +1,9 @@
 -- A ray from a point of the frame has an end, since the label is another where the ray has left the frame.
-use Rattle.std.proofs.Common.{ap, ◌⊎◌, inl, inr, ⊎_elim, Bool, true, false, subst}
+use Rattle.std.proofs.Common.{◌⊎◌, inl, inr, ⊎_elim, Bool, true, false, subst}
 use Rattle.nef_space.specs.Local.{HasLabel, Germ}
-use Rattle.nef_space.specs.Place.{Place, InFrame, SamePlace, toward, IsAhead, IsBetween}
+use Rattle.nef_space.specs.Place.{Place, InFrame, toward, IsAhead, IsBetween}
 use Rattle.nef_space.specs.Sets.{Set}
-use Rattle.nef_space.specs.Vectors.{Vector, IsDirection, SameDirection}
+use Rattle.nef_space.specs.Vectors.{Vector, IsDirection}
 use Rattle.nef_space.specs.declared.label.Label.{Label}
 use Rattle.law_forms.proofs.Between.{between-same}
 use Rattle.law_forms.proofs.Near.{reach_all}

@@ -7,3 +7,4 @@ pub mod Causes
 pub mod GivenWords
 pub mod Bound
 pub mod Asked
+pub mod Held

@@ -13,13 +13,13 @@ use std::thread::Threads;
 // More bytes than the large set's text.
 const ROOM: usize = 4_194_304;
 
-// What is asked of 512 boxes, and the answers: of the complement, which has the same parts; of both together, which are the
+// What is asked of 343 boxes, and the answers: of the complement, which has the same parts; of both together, which are the
 // frame; and of the boxes with y and z exchanged, which are the same.
 const QUESTIONS: &str =
     "count G\nnot N G\ncount N\nor U G N\nfull F\nsame U F\nturn T G 8\nsame T G\n\
     joined G 3 3 3 2 7 3 3 2\njoined G 0 0 0 1 0 0 1 2\nray G 3 3 3 2 1 0 0\nprint G\n";
 
-const ANSWERS: &str = "4104 6156 3078 514\n4104 6156 3078 514\nsame\nsame\napart\njoined\n\
+const ANSWERS: &str = "2752 4128 2064 345\n2752 4128 2064 345\nsame\nsame\napart\njoined\n\
     after 4 3 3 2 not\npolyhedron G\n";
 
 // How many lines of the text begin so.
@@ -27,19 +27,19 @@ fn lines_with(text: &str, start: &str) -> usize {
     text.lines().filter(|line| line.starts_with(start)).count()
 }
 
-// Whether it is the text of 512 boxes: each has 8 vertices, 12 edges, 6 facets and the volume within, beside those of the
+// Whether it is the text of 343 boxes: each has 8 vertices, 12 edges, 6 facets and the volume within, beside those of the
 // frame, its border and what is around the boxes.
 fn is_of_boxes(text: &str) -> bool {
     text.ends_with("end\n")
-        && lines_with(text, "v ") == 8 + 8 * 512
-        && lines_with(text, "e ") == 12 + 12 * 512
-        && lines_with(text, "f ") == 6 + 6 * 512
-        && lines_with(text, "w ") == 2 + 512
+        && lines_with(text, "v ") == 8 + 8 * 343
+        && lines_with(text, "e ") == 12 + 12 * 343
+        && lines_with(text, "f ") == 6 + 6 * 343
+        && lines_with(text, "w ") == 2 + 343
 }
 
 // Whether a run with these words gives the answers and prints the boxes.
 fn is_worked<R: Threads + Wait + Sync>(rt: &R, alloc: Global, words: &str) -> Result<bool, Fail> {
-    let boxes = grid(alloc, 16)?;
+    let boxes = grid(alloc, 14)?;
     let script = format!(in alloc; "{boxes}{QUESTIONS}")?;
     let mut source = SureSource::new(alloc, script.as_bytes())?;
     let mut sink = MemSink::new(alloc, ROOM, ROOM, &[])?;

@@ -19,6 +19,8 @@ mod generated;
 #[cfg(test)]
 mod grids;
 #[cfg(test)]
+mod kept_parts;
+#[cfg(test)]
 mod large;
 #[cfg(test)]
 mod limits;

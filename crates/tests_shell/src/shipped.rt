@@ -47,7 +47,8 @@ const FAULTS: &str = "1 9 0 0 => 3:
 
 // The same with a command line and a script: one that is refused, refused words, of which there are more than sixteen
 // twice, and a script that isn't read.
-const LINES: &str = "0 99 0 0;nef; half A 2048 0 0 0 closed / has A 0 0 0 1 / half B 2049 0 0 0 closed => \
+const LINES: &str =
+    "0 99 0 0;nef; half A 2048 0 0 0 closed / has A 0 0 0 1 / half B 2049 0 0 0 closed => \
 1:line 3: coefficient out of range/
 0 5 2 0;nef; ball A => 4:line 
 1 5 2 0;nef; ball A => 3:
@@ -220,8 +221,20 @@ fn command_lines(rt: HostRuntime) -> Result<(), Fail> {
 #[test]
 fn lines_without_words(rt: HostRuntime) -> Result<(), Fail> {
     let alloc = rt.alloc();
-    check_no_words(&rt, alloc, ErrorKind::InvalidData, "1 99 0 0", "2:words refused/")?;
-    check_no_words(&rt, alloc, ErrorKind::InvalidData, "1 5 3 0", "4:words refu")?;
+    check_no_words(
+        &rt,
+        alloc,
+        ErrorKind::InvalidData,
+        "1 99 0 0",
+        "2:words refused/",
+    )?;
+    check_no_words(
+        &rt,
+        alloc,
+        ErrorKind::InvalidData,
+        "1 5 3 0",
+        "4:words refu",
+    )?;
     check_no_words(&rt, alloc, ErrorKind::OutOfMemory, "1 99 1 0", "5:")?;
     check_no_words(&rt, alloc, ErrorKind::Other, "1 99 1 0", "5:")
 }

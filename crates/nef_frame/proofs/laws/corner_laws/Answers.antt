@@ -1,4 +1,3 @@
-use Rattle.nef_frame.proofs.OctantCones.{octant-least}
 use Rattle.nef_frame.proofs.EachCorner.{corners-vertices, corners-shown}
 use Rattle.nef_frame.proofs.laws.corner_laws.Goals as goal
 
