@@ -1,8 +1,10 @@
 //! The top call of the program: reads the words and the script, checks them, works the commands in
 //! order and writes their answers.
 //!
-//! The definitions stand in specs/: `Output` says what each command writes, `Answers` what each
-//! status says.
+//! What a run and the program say stands in the specs of `nef_statement`, where `Statement` is to be
+//! read first. The definitions in specs/ here are for the proofs, and for those who take apart what
+//! the texts tell of facets and shells: `Output` says what each command writes, `Ended` what a run
+//! that is done has written.
 #![tactic(auto)]
 
 mod ahead;

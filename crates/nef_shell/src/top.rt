@@ -97,9 +97,10 @@ fn run_script<R: Threads + Wait + Sync, S: Source, K: Sink, G: Gate + Sync>(
 /// is written doesn't depend on board, workers and gate.
 /// Sets mean what the CGAL manual, "3D Boolean Operations on Nef Polyhedra", says, within the frame.
 ///
-/// * `Done`: the sink took the output of the script and nothing else; the source is at its end, or, with
-///   `--stairs`, as it was. Of any two texts that are printed: they are equal exactly where their sets
-///   are the same. A point of the frame belongs to what a printed text spells exactly where the set holds.
+/// * `Done`: the sink took what the lines of the script say and nothing else; the source is at its end,
+///   or, with `--stairs`, as it was. Of any two texts that are printed: they are equal exactly where
+///   their sets are the same. A point of the frame belongs to what a printed text spells exactly where
+///   the set holds.
 /// * `Refused`: the words give no `--stairs`, the script is refused, and nothing was worked; the sink
 ///   took exactly `line L: TEXT` and LF.
 /// * `Words`: the words are refused, and the sink took exactly `words refused` and LF. The source
@@ -110,6 +111,8 @@ fn run_script<R: Threads + Wait + Sync, S: Source, K: Sink, G: Gate + Sync>(
 ///   front of what the words and the script define.
 /// * `OutOfMemory`: memory was wanted and not found; the sink took some front of it.
 ///
+/// Runs that are asked for the same write fronts of one output, however they end
+/// ([`nef_statement::statement_laws`]).
 /// At `Done`, `Refused` and `Words` no count of faults rose. Where no count rises, each status comes where
 /// its cause holds, unless memory is wanted.
 pub fn run<R: Threads + Wait + Sync, S: Source, K: Sink, G: Gate + Sync>(

@@ -11,6 +11,7 @@ use Rattle.nef_lex.specs.Lines.{is_line_feed, pieces_of, without_return}
 use Rattle.nef_lex.specs.Words.{words_of, is_gap}
 use Rattle.nef_lex.specs.Laws.{LacksFeed, ended, is_word_byte, IsWord, IsGap, IsRest, BeginsApart, IsParted, spaced}
 use Rattle.nef_lex.specs.Numbers.{is_digits, decimal_value, number_of}
+use Rattle.nef_lex.proofs.Signs.{number_of_parts}
 use Rattle.nef_lex.proofs.Decimal.{decimal_value-push}
 use Rattle.nef_lex.proofs.LineLaws.{pieces_of_ended}
 use Rattle.nef_lex.proofs.WordLaws.{words_of_spaced}
@@ -180,11 +181,12 @@ plain-read [] some h = absurd (omega arith)
 plain-read (b ∷ ds) some h =
     let l = h.0.0 in
     let other : (b == 45) ≡ false = ne_eqb b 45 (λ e. omega (arith, e, l)) in
-    ap (λ t. cond (is_digits (cond t ds (b ∷ ds))) (Some (cond t (neg_ℤ (pos (decimal_value (cond t ds (b ∷ ds))))) (pos (decimal_value (cond t ds (b ∷ ds)))))) None) other
+    number_of_parts (b ∷ ds)
+    ∙ ap (λ t. cond (is_digits (cond t ds (b ∷ ds))) (Some (cond t (neg_ℤ (pos (decimal_value (cond t ds (b ∷ ds))))) (pos (decimal_value (cond t ds (b ∷ ds)))))) None) other
     ∙ ap (λ t. cond t (Some (pos (decimal_value (b ∷ ds)))) None) (digits-are (b ∷ ds) some h)
 
 minus-read : (ds : List ℕ) → 0 < length ds → Each IsDigit ds → number_of (45 ∷ ds) ≡ Some (neg_ℤ (pos (decimal_value ds)))
-minus-read ds some h = ap (λ t. cond t (Some (neg_ℤ (pos (decimal_value ds)))) None) (digits-are ds some h)
+minus-read ds some h = number_of_parts (45 ∷ ds) ∙ ap (λ t. cond t (Some (neg_ℤ (pos (decimal_value ds)))) None) (digits-are ds some h)
 
 pub signed-read : (z : ℤ) → nat_abs z < 2 ^ 63 → number_or_zero (signed_decimal z) ≡ z
 signed-read (pos n) small =

@@ -27,8 +27,8 @@ IsLabelAnswer s p said = (l : Label) × HasLabel s p l × (said ≡ answer_of l)
 abbrev pub OfName : Bindings → List ℕ → (Set → Type 0) → Type 0
 OfName sets name P = (s : Set) × (set_named sets name ≡ Some s) × P s
 
--- what a command says, by the words after it: the answer to what it asks, and nothing where it binds a name to a set. It says so of the right number of words alone,
--- whose operands are bound and whose points have a positive w
+-- what a command says, by the words after it: the answer to what it asks, and nothing where it binds a name to a set. Of a wrong number of words, an operand that isn't
+-- bound and a w that isn't positive nothing can be said, not even this: no script of which all is said has such a line
 abbrev pub IsSaid : (Set → List ℕ → Type 0) → Bindings → Option Verb → List (List ℕ) → List ℕ → Type 0
 IsSaid Text sets (Some verb.Has) (name ∷ x ∷ y ∷ z ∷ w ∷ []) said = OfName sets name (λ s. AtPoint x y z w (λ p. IsLabelAnswer s p said))
 IsSaid Text sets (Some verb.Joined) (name ∷ x ∷ y ∷ z ∷ w ∷ x2 ∷ y2 ∷ z2 ∷ w2 ∷ []) said = OfName sets name (λ s. AtPoint x y z w (λ p. AtPoint x2 y2 z2 w2 (λ q. IsJoinedAnswer s p q said)))

@@ -5,8 +5,9 @@ ghost use Rattle.nef_statement.specs.Meanings.{NodesDenote};
 ghost use Rattle.nef_statement.specs.Statement.{Statement};
 ghost use Rattle.nef_statement.specs.Texts.{IsText};
 
-/// Lines say one output, so that all runs of one script that are done write the same; a text tells its set. The nodes of
-/// a script's meaning have the sets that its lines give the names.
+/// Lines say one output. So runs that are asked for the same write fronts of one output, however they end, and those that
+/// come to an end of their own write all of it. Two texts are equal exactly where their sets are one, and a text tells its
+/// set. The nodes of a script's meaning have the sets that its lines give the names.
 pub fn statement_laws()
     ensures states { Statement IsText }
     ensures denotes { NodesDenote }

@@ -10,7 +10,7 @@ use Rattle.nef_shell.proofs.entry.program.Goals.{in-Ok-line_words, in-Err-Refuse
 pub returns : goal.returns
 returns g c =
     let code : exit_status c.from-2.result ≡ status_code c.match-line_words.status = c.from-2.ensures ∙ c.code-2.ensures.code in
-    let both : HasSaid c.args.line (exit_status c.from-2.result) (traffic g.S.Source.rest g.S.Source.faults g.K.Sink.written g.K.Sink.faults c.args.source.now c.match-line_words.source.now c.args.sink.now c.match-line_words.sink.now) =
+    let both : HasSaid c.args.line (exit_status c.from-2.result) (traffic g.S.Source.rest g.S.Source.faults g.K.Sink.written g.K.Sink.faults c.args.source.now c.match-line_words.source c.args.sink.now c.match-line_words.sink) =
     elim c.match-line_words.branch [
       | in-Ok-line_words w ↦
           let given = words-given c.args.line c.in-Ok.line w.in-Ok-line_words.words.now c.in-Ok.ensures.words w.in-Ok-line_words.ensures.words in
@@ -19,7 +19,6 @@ returns g c =
           let none = no-text c.args.line c.in-Ok.line c.in-Ok.ensures.words (c.line_words.ensures.refused.0 (w.in-Err-Refused.is ∙ ap Err w.in-Err-Refused.field-0-is)) in
           rw (w.source-is, w.sink-is) (ended-refused _ _ _ none.0 w.refuse_words-status.result none.1 none.2 (record { rest = refl; faults = refl }) (line-refuses _ _ w.refuse_words-status.ensures.status) (code ∙ ap status_code w.status-is))
       | in-Err-OutOfMemory w ↦
-          let other = λ error is none. refused-alone _ (c.line_words.ensures.refused.1 (still-no-text c.args.line c.in-Ok.line c.in-Ok.ensures.words error is none)) (w.in-Err-OutOfMemory.is ∙ ap Err w.in-Err-OutOfMemory.field-0-is) in
-          rw (w.source-is, w.sink-is) (ended-wanting _ _ _ other (record { rest = refl; faults = refl }) refl (code ∙ ap status_code w.status-is))
+          rw (w.source-is, w.sink-is) (ended-wanting c.args.line (exit_status c.from-2.result) _ (λ error is none. refused-alone _ (c.line_words.ensures.refused.1 (still-no-text c.args.line c.in-Ok.line c.in-Ok.ensures.words error is none)) (w.in-Err-OutOfMemory.is ∙ ap Err w.in-Err-OutOfMemory.field-0-is)) (record { rest = refl; faults = refl }) refl (code ∙ ap status_code w.status-is))
     ] in
     record { says = both.0; ends = both.1 }
