@@ -259,13 +259,13 @@ fn total_load<T: Stage>(stage: &T, numbers: &[usize], done: &Results<T::Out>) ->
 
 // How many workers a round of so many numbers pays for: one for each `PAYING` microseconds.
 fn crew(workers: u32, numbers: usize, load: u64) -> u32
-    ensures { result ≡ min workers (min numbers (load / PAYING)) }
+    ensures { result ≡ min workers (min numbers (load / 500)) }
 {
     let paid = (numbers as u64).min(load / PAYING);
     u64::from(workers).min(paid) as u32
 }
 
-// Works the numbers of a round by the caller, where a single one is told so.
+// Works the numbers of a round by the caller. A single one is told that it is alone.
 fn work_few<T: Stage>(
     alloc: Global,
     stage: &T,

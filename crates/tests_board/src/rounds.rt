@@ -186,8 +186,8 @@ fn wanted_results_stay(rt: HostRuntime) -> Result<(), Fail> {
 // More turns than another thread needs to begin a number.
 const TURNS: u64 = 20_000_000;
 
-// So many numbers of this load that need nothing, of which each is worked until so many began, for so many turns at most. It
-// keeps how many began, and how many were being worked at one time at most.
+// So many numbers of this load that need nothing, of which each is worked until so many began, for so many turns at most.
+// It keeps how many began, and how many were being worked at one time at most.
 #[derive(Drop)]
 struct Waiting {
     count: usize,
