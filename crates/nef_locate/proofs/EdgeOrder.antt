@@ -1,5 +1,5 @@
 -- A point of an edge comes between the edge's ends in the order of vertices, and what comes between on its line lies on it.
-use Rattle.std.proofs.Common.{◌≡◌, ℕ, ◌<◌, ◌≤◌, pos, Bool, IsTrue, ◌↔◌, List, arith, ap, inl, inr, ⊎_elim, subst}
+use Rattle.std.proofs.Common.{◌≡◌, ℕ, ◌<◌, ◌≤◌, pos, Bool, IsTrue, ◌↔◌, List, arith, inl, inr, ⊎_elim, subst}
 use Rattle.std.proofs.Math.Nat.{eq-or-lt_of_le}
 use Rattle.std.proofs.lemmas.Bool.{cases_lt}
 use Rattle.std.proofs.lemmas.Int.{ints}
@@ -18,7 +18,6 @@ use Rattle.law_sphere.proofs.Compare.{SameDirection-turned}
 use Rattle.nef_smap.proofs.Lists.{map-at}
 use Rattle.nef_smap.proofs.SideLists.{get-from_at, at-from_get}
 use Rattle.nef_classes.proofs.ClassLists.{is-at_one}
-use Rattle.law_complex.specs.Complexes.{IsEdgeBelow}
 use Rattle.law_complex.specs.Shows.{Shows}
 use Rattle.law_complex.specs.Skeleton.{IsVertexPoint, IsEdgePoint}
 use Rattle.law_complex.proofs.FacetAngles.{aligned, cross-back}
@@ -36,6 +35,7 @@ use Rattle.nef_plane.specs.Amid.{AllThrough}
 use Rattle.nef_plane.proofs.Crossed.{edge-along}
 use Rattle.nef_plane.proofs.Listed.{lies, lying-ends}
 use Rattle.nef_plane.proofs.Meeting.{level-same}
+use Rattle.nef_plane.proofs.Rising.{low-rises}
 use Rattle.nef_locate.specs.Orders.{PartsOn}
 
 -- where q - p begins with a positive number, q is a later point
@@ -143,23 +143,12 @@ module _ (s : Set) (c : Complex) (S : Shows s (complex_of c)) (h : Form) (y : Pl
         λ x. T.1 (λ g f o H. held-between (form_of f) (place_of u.point) (place_of v.point) y (edge-inside s c S k e u v l i j y x) H),
       )
 
-  -- the lower ends of edges rise
-  low-rises : (i k : ℕ) (e f : Edge) → i ≤ k → IsAt c.edges i e → IsAt c.edges k f → e.low ≤ f.low
-  low-rises i k e f l a b = ⊎_elim
-      (λ o. let r : e ≡ f = is-at_one c.edges k e f (subst (λ x. IsAt c.edges x e) o a) b in let t = ap (λ (x : Edge). x.low) r in omega (arith, t))
-      (λ o. by (S.edges.ordered i k (edge_of e) (edge_of f) o (map-at edge_of c.edges i e (at-from_get c.edges i e a)) (map-at edge_of c.edges k f (at-from_get c.edges k f b))))
-      (eq-or-lt_of_le {n = i} {m = k} l)
-    where
-      by : IsEdgeBelow (edge_of e) (edge_of f) → e.low ≤ f.low
-      by (inl m) = omega (arith, ints)
-      by (inr m) = let t = m.0 in omega (arith, ints)
-
   module _ (ns : List ℕ) (N : AreNumbersWith (EdgeLiesIn c.vertices c.edges h) ns) (m r : ℕ) (e : Edge) (a : IsAt ns m r) (b : IsAt c.edges r e) (past : n ≤ e.low) (none : (j k : ℕ) → j < m → At ns j k → IsEdgePoint (complex_of c) k y → ⊥) where
     later : (i k : ℕ) → m ≤ i → IsAt ns i k → IsEdgePoint (complex_of c) k y → ⊥
     later i k l o x =
         let L = N.each i k o in
         let f = L.0 in
-        let t = low-rises r k e f (⊎_elim (λ q. let w : r ≡ k = is-at_one ns i r k (subst (λ z. IsAt ns z r) q a) o in omega (arith, w)) (λ q. let w = N.ordered m i r k q a o in omega (arith, w)) (eq-or-lt_of_le {n = m} {m = i} l)) b L.1 in
+        let t = low-rises s c S r k e f (⊎_elim (λ q. let w : r ≡ k = is-at_one ns i r k (subst (λ z. IsAt ns z r) q a) o in omega (arith, w)) (λ q. let w = N.ordered m i r k q a o in omega (arith, w)) (eq-or-lt_of_le {n = m} {m = i} l)) b L.1 in
         let z = number-parted k f L.1 L x in
         let w = z.0 in
         omega (arith, w, t, past)

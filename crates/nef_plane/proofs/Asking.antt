@@ -33,3 +33,10 @@ module _ {X : Type 0} (P : ℕ → Type 0) (n : ℕ) where
   is-asked Q (Some x) (All m) F A k l h = absurd A
   is-asked Q None (Listed ns) F A k l h = absurd A
   is-asked Q None (All m) F A k l h = (k, (refl, omega (arith, A, l)))
+
+  -- they rise
+  pub asked-ordered : (g : Option X) (N : Numbers) → AreAsked P n g N → (i j k l : ℕ) → i < j → IsNth N i k → IsNth N j l → k < l
+  asked-ordered (Some x) (Listed ns) A i j k l o a b = A.ordered i j k l o a b
+  asked-ordered (Some x) (All m) A i j k l o a b = absurd A
+  asked-ordered None (Listed ns) A i j k l o a b = absurd A
+  asked-ordered None (All m) A i j k l o a b = let e = a.0 in let f = b.0 in omega (arith, o, e, f)

@@ -23,9 +23,10 @@ use Rattle.nef_complex.specs.declared.complex.Vertex.{Vertex}
 use Rattle.nef_complex.specs.declared.complex.Edge.{Edge}
 use Rattle.nef_complex.specs.declared.complex.Complex.{Complex}
 use Rattle.nef_complex.specs.declared.complex.PlaneMeet.{PlaneMeet}
-use Rattle.nef_complex.specs.Complexes.{complex_of}
+use Rattle.nef_complex.specs.Complexes.{edge_of, complex_of}
 use Rattle.nef_complex.specs.Index.{LiesOn, EdgeLiesIn, AreNumbersWith}
 use Rattle.nef_complex.proofs.Reading.{got-at}
+use Rattle.nef_smap.proofs.Lists.{map-at}
 use Rattle.nef_plane.specs.Levels.{IsShort, AreShort, AreFar, AreShortBelow, AreFarFrom, IsLevel, IsUnparted, IsSwept}
 use Rattle.nef_plane.specs.Ends.{MeetLiesIn, AreEnds}
 use Rattle.nef_plane.specs.Meets.{IsParallelToAxis, AtVertexNumber, AtEdgeNumber, AtMeet, sweep_form, IsMissed}
@@ -33,7 +34,7 @@ use Rattle.nef_plane.specs.declared.level.Level.{Level}
 use Rattle.nef_plane.proofs.Axes.{axis-some}
 use Rattle.nef_plane.proofs.Either.{by-numbers}
 use Rattle.nef_plane.proofs.Found.{vertex-none, edge-none}
-use Rattle.nef_plane.proofs.Listed.{held-vertex}
+use Rattle.nef_plane.proofs.Listed.{held-vertex, lying-ends}
 use Rattle.nef_plane.proofs.Meeting.{ahead-kept, level-same}
 use Rattle.nef_plane.proofs.Ordered.{later-past, later-from}
 
@@ -131,3 +132,20 @@ module _ (s : Set) (c : Complex) (S : Shows s (complex_of c)) (h : Plane) (p : P
 
   pub unparted : (m : PlaneMeet) (i j : ℕ) → AreEnds c m i j → IsOff m i j
   unparted = by-numbers c IsOff unparted-vertex (λ k e l. unparted-edge k e (got-at c.edges k e l))
+
+  -- nor one whose first end has the level's second number, or a greater one
+  from-first : (n : ℕ) (v : Vertex) → IsAt c.vertices n v → form_at (form_of h) (place_of v.point) ≡ pos 0 → x.past ≤ n → x.first ≤ n
+  from-first n v l o g = ⊎_elim (λ t. absurd (let y = L.before n v t l o in L.past n v g l o (omega (arith, ints)))) (λ t. t) (cases_lt n x.first)
+
+  abbrev pub IsPast : PlaneMeet → ℕ → ℕ → Type 0
+  IsPast m i j = MeetLiesIn c (form_of h) m → x.past ≤ i → IsMissed p d (AtMeet (complex_of c) (form_of h) d m)
+
+  past-edge : (n : ℕ) (e : Edge) → IsAt c.edges n e → EdgeLiesIn c.vertices c.edges (form_of h) n → x.past ≤ e.low → IsMissed p d (AtEdgeNumber (complex_of c) (form_of h) d n)
+  past-edge n e l M g =
+      let a = got-at c.edges n e l in
+      let (u, i, o) = (lying-ends c.vertices c.edges (form_of h) n e l M).0 in
+      let E = S.edges.edges n (edge_of e) (map-at edge_of c.edges n e a) in let m = E.upward in
+      unparted-edge n e a M (inr (from-first e.low u i o g, omega (arith, g, m)))
+
+  pub past-missed : (m : PlaneMeet) (i j : ℕ) → AreEnds c m i j → IsPast m i j
+  past-missed = by-numbers c IsPast (λ n (v, l, o) g. unparted-vertex n (v, l, o) (inr (from-first n v l o g, g))) past-edge

@@ -21,3 +21,4 @@ mod AxisSizes
 pub mod Framed
 pub mod Close
 pub mod Shifting
+pub mod Rising

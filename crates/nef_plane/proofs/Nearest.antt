@@ -1,6 +1,7 @@
 -- The nearest of what a ray meets.
 use Rattle.std.proofs.Common.{◌≡◌, ℕ, ◌<◌, ◌≤◌, ◌+◌, Option, Some, None, arith, refl, sym, ◌⊎◌, inl, inr, ⊎_elim, subst}
 use Rattle.std.proofs.Math.Nat.{eq-or-lt_of_le}
+use Rattle.std.proofs.lemmas.Bool.{cases_lt}
 use Rattle.nef_space.specs.Place.{Place, toward, IsAhead, IsBetween}
 use Rattle.nef_space.specs.Vectors.{Vector}
 use Rattle.law_forms.proofs.Between.{between-same}
@@ -9,10 +10,10 @@ use Rattle.law_sphere.proofs.Compare.{SameDirection-turned, SameDirection-trans}
 use Rattle.law_complex.proofs.Ways.{between-way, same-itself}
 use Rattle.law_complex.specs.Skeleton.{PlaneMeet}
 use Rattle.std.specs.Prelude.{IfSome}
-use Rattle.nef_plane.specs.Asked.{count_of, IsNth}
+use Rattle.nef_plane.specs.Asked.{IsNth}
 use Rattle.nef_plane.specs.Meets.{Encounter, IsReachedMet, IsMissed, IsNearest, IsNearestMet, IsNearer, IsNotPast}
 use Rattle.nef_plane.specs.declared.numbers.Numbers.{Numbers}
-use Rattle.nef_plane.proofs.Asking.{nth-one, nth-within}
+use Rattle.nef_plane.proofs.Asking.{nth-one}
 use Rattle.nef_plane.proofs.Choosing.{keep-first}
 
 -- what lies between a point and one ahead of it is ahead
@@ -102,7 +103,10 @@ module _ {X : Type 0} (seen : X → Encounter) (p : Place) (d : Vector) where
     pub asked-past : (i k : ℕ) (a o : Option X) → o ≡ a → IsNth N i k → IsNearest seen p d (First InPlace i) a → IsMissed p d (R k) → IsNearest seen p d (First InPlace (i + 1)) o
     asked-past i k a o e l A B = asked-more i k a None a o e l (λ x y. keep-first seen d a None a refl refl) A B
 
-    -- where each that is met ahead is asked, the nearest of those asked is the nearest of all
-    pub asked-all : (i : ℕ) (o : Option X) → count_of N ≤ i → ((k : ℕ) (m : PlaneMeet) (q : Place) → IsAhead p d q → R k m q → (j : ℕ) × IsNth N j k) → IsNearest seen p d (First InPlace i) o → IsNearest seen p d (Any R) o
-    asked-all i o l f A = nearest-as (First InPlace i) (Any R) o (λ m q (j, t, y). (y.0, y.2))
-        (λ m q w (k, x). let a = f k m q w x in let t = nth-within N a.0 k a.1 in (a.0, omega (arith, l, t), (k, a.1, x))) A
+    -- where each that is met ahead is asked, and none is met from a place on, the nearest of those before it is the nearest of all
+    pub asked-all : (n i : ℕ) (o : Option X) → n ≤ i → ((j k : ℕ) → n ≤ j → IsNth N j k → IsMissed p d (R k)) → ((k : ℕ) (m : PlaneMeet) (q : Place) → IsAhead p d q → R k m q → (j : ℕ) × IsNth N j k)
+        → IsNearest seen p d (First InPlace i) o → IsNearest seen p d (Any R) o
+    asked-all n i o l missed f A = nearest-as (First InPlace i) (Any R) o (λ m q (j, t, y). (y.0, y.2))
+        (λ m q w (k, x).
+        let a = f k m q w x in
+        ⊎_elim (λ t. (a.0, t, (k, a.1, x))) (λ t. absurd (missed a.0 k (omega (arith, l, t)) a.1 m q w x)) (cases_lt a.0 i)) A

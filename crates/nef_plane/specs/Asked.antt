@@ -1,12 +1,12 @@
 -- The numbers of the vertices, or of the edges, that are asked whether a ray meets them.
-use Rattle.std.specs.Prelude.{◌≡◌, ℕ, ◌<◌, length, Option, Some, None}
+use Rattle.std.specs.Prelude.{◌≡◌, ℕ, ◌<◌, ◌≤◌, length, Option, Some, None}
 use Rattle.nef_space.specs.Lists.{IsAt}
 use Rattle.nef_space.specs.Place.{Form}
 use Rattle.nef_complex.specs.declared.complex.Complex.{Complex}
 use Rattle.nef_complex.specs.declared.complex.PlaneMeet.{PlaneMeet}
 use Rattle.nef_complex.specs.declared.complex.PlaneMeet.TheVariants.{AtVertex, AtEdge}
 use Rattle.nef_complex.specs.Index.{AreNumbersWith}
-use Rattle.nef_plane.specs.Ends.{MeetLiesIn}
+use Rattle.nef_plane.specs.Ends.{MeetLiesIn, AreEnds}
 use Rattle.nef_plane.specs.declared.numbers.Kind.{Kind}
 use Rattle.nef_plane.specs.declared.numbers.Kind.TheVariants.{Vertex, Edge}
 use Rattle.nef_plane.specs.declared.numbers.Numbers.{Numbers}
@@ -42,3 +42,7 @@ count_in c Edge = length c.edges
 -- where there is a guide, they are those of the kind in the plane; or else they are all
 abbrev pub AreAskedIn : {X : Type 0} → Complex → Form → Option X → Kind → Numbers → Type 0
 AreAskedIn c h g t N = AreAsked (λ k. MeetLiesIn c h (meet_at t k)) (count_in c t) g N
+
+-- the first end of each from place n on is at the limit or beyond
+abbrev pub IsBeyond : Complex → Kind → Numbers → ℕ → ℕ → Type 0
+IsBeyond c t N limit n = (i k u v : ℕ) → n ≤ i → IsNth N i k → AreEnds c (meet_at t k) u v → limit ≤ u

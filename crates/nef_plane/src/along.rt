@@ -112,6 +112,10 @@ impl PlaneRay for VertexRay<'_> {
         }
     }
 
+    fn past(&self, _c: &Complex, course: &Course) -> usize {
+        course.past
+    }
+
     ghost leads = { λ r. r.direction.now.some };
 
     ghost holds = { λ r c x y. y.holds };

@@ -1,6 +1,6 @@
 //! What a ray meets first of the vertices and edges that it is asked about.
 
-ghost use Rattle.std.specs.Prelude.{length, IsTrue, IfSome};
+ghost use Rattle.std.specs.Prelude.{ℕ, ◌<◌, ◌≤◌, length, IsTrue, IfSome};
 ghost use Rattle.nef_space.specs.Place.{Place, Form};
 ghost use Rattle.nef_space.specs.Sets.{Set};
 ghost use Rattle.nef_space.specs.Vectors.{Vector, IsDirection};
@@ -8,10 +8,11 @@ ghost use Rattle.nef_complex.specs.declared.complex.Complex.{Complex as ComplexV
 ghost use Rattle.nef_complex.specs.declared.complex.PlaneMeet.{PlaneMeet as PlaneMeetValue};
 ghost use Rattle.nef_complex.specs.Complexes.{complex_of, ShowsSet};
 ghost use Rattle.nef_complex.specs.Index.{LiesOn, EdgeLiesIn};
-ghost use Rattle.nef_plane.specs.Asked.{AreAsked, AreAskedIn};
-ghost use Rattle.nef_plane.specs.Ends.{HasMeet, MeetLiesIn};
+ghost use Rattle.nef_plane.specs.Asked.{count_of, IsNth, meet_at, AreAsked, AreAskedIn, IsBeyond};
+ghost use Rattle.nef_plane.specs.Ends.{HasMeet, MeetLiesIn, AreEnds};
 ghost use Rattle.nef_plane.specs.Meets.{HoldsRay, AtMeet, AtSome, AtVertexOrEdge, IsMissed, IsNearest, met_of};
 
+use crate::ends::ends_of;
 use crate::met::{Met, Stepped, nearer};
 use crate::numbers::{Kind, Numbers};
 use nef_complex::{Complex, PlaneMeet};
@@ -51,11 +52,59 @@ pub(crate) trait PlaneRay {
         ensures told { IsTrue result → tells self.now c.now meet }
         ensures off { (IsTrue result → ⊥) → IsMissed (start self.now) (way self.now) (AtMeet (complex_of c.now) (plane self.now) (way self.now) meet) };
 
+    // A number of a vertex: the ray meets nothing of the plane between vertices of which none has a smaller one.
+    fn past(&self, c: &Complex, guide: &Self::Guide) -> usize
+        requires shows { (s : Set) × ShowsSet s c.now }
+        requires guide { guided self.now c.now guide.now }
+        ensures missed { (m : PlaneMeetValue) (i j : ℕ) → AreEnds c.now m i j → MeetLiesIn c.now (plane self.now) m → result ≤ i → IsMissed (start self.now) (way self.now) (AtMeet (complex_of c.now) (plane self.now) (way self.now) m) };
+
     // The way of a ray isn't zero, so the ray leads somewhere.
     ghost leads: { (r : Self) → IsDirection (way r) };
 
     // Where there is a guide, the plane holds the ray.
     ghost holds: { (r : Self) (c : ComplexValue) (x : Self.Guide) → guided r c x → HoldsRay (plane r) (start r) (way r) };
+}
+
+// How many of those that are asked have their first end below the limit, by halving. They stand in order of it.
+fn count_before(c: &Complex, kind: Kind, asked: &Numbers, limit: usize) -> usize
+    requires shows { (s : Set) × ShowsSet s c.now }
+    requires has { (i k : ℕ) → IsNth asked.now i k → HasMeet c.now (meet_at kind k) }
+    requires ordered { (i j k l : ℕ) → i < j → IsNth asked.now i k → IsNth asked.now j l → k < l }
+    ensures within { result ≤ count_of asked.now }
+    ensures beyond { IsBeyond c.now kind asked.now limit result }
+{
+    let mut low = 0;
+    let mut high = asked.len();
+    while low < high {
+        let middle = low + (high - low) / 2;
+        let (end, _) = ends_of(c, kind.at(asked.at(middle)));
+        if end < limit {
+            low = middle + 1;
+        } else {
+            high = middle;
+        }
+    }
+    high
+}
+
+// How many of those that are asked the ray may meet. It meets none of the later ones.
+fn reach<R: PlaneRay>(
+    ray: &R,
+    c: &Complex,
+    guide: &Option<R::Guide>,
+    kind: Kind,
+    asked: &Numbers,
+) -> usize
+    requires shows { (s : Set) × ShowsSet s c.now }
+    requires guide { IfSome guide.now (R.guided ray.now c.now) }
+    requires asked { AreAskedIn c.now (R.plane ray.now) guide.now kind asked.now }
+    ensures within { result ≤ count_of asked.now }
+    ensures missed { (i k : ℕ) → result ≤ i → IsNth asked.now i k → IsMissed (R.start ray.now) (R.way ray.now) (AtMeet (complex_of c.now) (R.plane ray.now) (R.way ray.now) (meet_at kind k)) }
+{
+    match guide {
+        Some(found) => count_before(c, kind, asked, ray.past(c, found)),
+        None => asked.len(),
+    }
 }
 
 // The first that the ray meets of the vertices that are asked, or of the edges that are asked, if they lie in the plane
@@ -73,7 +122,7 @@ fn nearest<R: PlaneRay>(
     ensures nearest { IsNearest (met_of R.At.reach) (R.start ray.now) (R.way ray.now) (AtSome (complex_of c.now) (R.plane ray.now) (R.way ray.now) kind) result }
 {
     let mut best = None;
-    for place in 0..asked.len() {
+    for place in 0..reach(ray, c, guide, kind, asked) {
         let meet = kind.at(asked.at(place));
         if ray.may_meet(c, guide, meet) {
             best = nearer(best, ray.met(c, meet));

@@ -98,6 +98,10 @@ impl PlaneRay for AxisRay<'_> {
         }
     }
 
+    fn past(&self, _c: &Complex, level: &Level) -> usize {
+        level.past
+    }
+
     ghost leads = { λ r. r.axis.0 };
 
     ghost holds = { λ r c x y. y.1 };

@@ -13,6 +13,8 @@ mod frame;
 #[cfg(test)]
 mod half_spaces;
 #[cfg(test)]
+mod hits_by_number;
+#[cfg(test)]
 mod items;
 #[cfg(test)]
 mod joins;

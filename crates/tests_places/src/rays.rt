@@ -6,6 +6,7 @@
 //! - `along PLANE NUMBER`: what the ray from the vertex along the plane's second direction meets first in it, by the call
 //!   that is given a point and looks the vertex up.
 //! - `from PLANE NUMBER`: the same by the call that is given the vertex, which need not lie on the plane.
+//! - `against PLANE NUMBER`: the same, against the plane's second direction.
 
 ghost use Rattle.std.specs.Prelude.{◌≡◌, ℕ, ◌<◌, pos, length, false, IsTrue, IfSome};
 ghost use Rattle.nef_space.specs.Limits.{normal_limit};
@@ -132,6 +133,21 @@ fn met_from_vertex(
     }
 }
 
+// What the ray from a vertex against the plane's second direction meets first, if it may be asked.
+fn met_against(c: &Complex, h: &Plane, vertex: usize) -> Option<Option<PlaneMeet>>
+    requires shows { (s : Set) × ShowsSet s c.now }
+    requires within { vertex < length c.now.vertices }
+{
+    let d = plane_dir(h);
+    let e = d.back();
+    let p = hit_at(&c.vertices.at(vertex).point);
+    if has_no_svertex(c, &p, &e) {
+        Some(first_along_dir(c, h, vertex, &e))
+    } else {
+        None
+    }
+}
+
 // Whether the point is no vertex and lies on no edge.
 fn is_off_skeleton(c: &Complex, p: &Point) -> bool
     requires shows { (s : Set) × ShowsSet s c.now }
@@ -221,6 +237,7 @@ pub(crate) fn answer_from(
     match verb {
         "along" => meet_text(alloc, c, met_from_vertex(c, h, number, true)),
         "from" => meet_text(alloc, c, met_from_vertex(c, h, number, false)),
+        "against" => meet_text(alloc, c, met_against(c, h, number)),
         _ => Err("a question about a plane and a vertex".into()),
     }
 }

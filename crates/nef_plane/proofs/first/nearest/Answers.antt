@@ -36,7 +36,7 @@ returns g c =
     let C = c.args.c.now in let ray = c.args.ray.now in let h = g.R.PlaneRay.plane ray in let p = g.R.PlaneRay.start ray in let d = g.R.PlaneRay.way ray in let seen = met_of g.R.At.Stepped.reach in
     let t = c.args.kind in
     record {
-      nearest = asked-all seen p d c.args.asked.now (λ k. AtMeet (complex_of C) h d (meet_at t k)) c.loop-place.place c.loop-place.best (let f = c.loop-place-test.false in let e = c.len-place-end.ensures.len in omega (arith, f, e))
+      nearest = asked-all seen p d c.args.asked.now (λ k. AtMeet (complex_of C) h d (meet_at t k)) c.reach-place-end.result c.loop-place.place c.loop-place.best (let f = c.loop-place-test.false in omega (arith, f)) c.reach-place-end.ensures.missed
           (λ k m q w x. is-asked (λ k. MeetLiesIn C h (meet_at t k)) (count_in C t) (g.R.PlaneRay.guided ray C) c.args.guide.now c.args.asked.now c.requires.guide c.requires.asked k
           (has-count C t k (serves-has C h (meet_at t k) (met-serves C h d m q (meet_at t k) x))) (λ y Y. met-lies C h d m q p (g.met.R.PlaneRay.leads ray) (g.met.R.PlaneRay.holds ray C y Y) w (meet_at t k) x)) c.loop-place.invariant;
     }

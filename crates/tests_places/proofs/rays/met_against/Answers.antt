@@ -1,0 +1,14 @@
+use Rattle.std.proofs.Common.{rules}
+use Rattle.nef_geo.specs.Shapes.{vector_of, hit_place}
+use Rattle.nef_complex.proofs.Reading.{got-at}
+use Rattle.nef_ties.proofs.WayInward.{small-back}
+use Rattle.tests_places.proofs.Directions.{no-svertex_at}
+use Rattle.tests_places.proofs.rays.met_against.Goals as goal
+
+pub first_along_dir-requires-clause-small : goal.first_along_dir-requires-clause-small
+first_along_dir-requires-clause-small c = small-back (vector_of c.plane_dir-d.result) (vector_of c.back-e.result) c.back-e.ensures.back c.plane_dir-d.ensures.small.each
+
+pub first_along_dir-requires-clause-no_svertex : goal.first_along_dir-requires-clause-no_svertex
+first_along_dir-requires-clause-no_svertex c =
+    let C = c.args.c.now in let v = c.at.result.now in
+    no-svertex_at C c.args.vertex v (got-at C.vertices c.args.vertex v c.at.ensures.element) (hit_place c.hit_at-p.result) c.back-e.result c.hit_at-p.ensures.same (c.has_no_svertex.ensures.none c.if-has_no_svertex.true)
